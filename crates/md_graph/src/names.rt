@@ -1,0 +1,265 @@
+//! Sets of names.
+ghost use Rattle.std.specs.Prelude.{◌≡◌, ℕ, ◌+◌, ◌*◌, ◌/◌, ◌%◌, ◌^◌, ◌<◌, ◌≤◌, ◌↔◌, IsTrue, IsNone, IfSome, IfNone, ◌==◌};
+ghost use Rattle.std.specs.Int.{bit_at};
+ghost use Rattle.std.specs.FinSet as set;
+ghost use Rattle.md_graph.specs.NameSet.{Member, IsLeastFrom, NoneFrom, AllBelow, ascending, ascending_from, block};
+
+use std::marker::Model;
+
+use crate::{NAMES, WORDS};
+
+/// A set of names below `NAMES`, kept in place as one bit a name. No call on it takes memory.
+///
+/// The first `used` words hold all members: the words behind them are 0, and no call passes over them.
+#[derive(Drop)]
+pub struct Names {
+    words: [u64; WORDS],
+    used: usize,
+}
+
+impl Model for Names {
+    ghost use Rattle.std.specs.Prelude.{ℕ, ◌≡◌, ◌≤◌, get_or};
+    ghost use Rattle.std.specs.Ordering.{nat_cmp};
+    ghost use Rattle.std.specs.FinSet as set;
+    ghost use Rattle.std.specs.Coded.{coded_ℕ};
+
+    ghost Value = { set.FinSet nat_cmp };
+
+    ghost coded = { set.code coded_ℕ };
+
+    ghost use Rattle.md_graph.specs.Words.{names_below};
+    ghost use Rattle.md_graph.specs.declared.TheConstants.{NAMES, WORDS};
+
+    ghost view = { λ s. names_below s.words NAMES };
+
+    ghost invariant = { λ s. (s.used ≤ WORDS) × ((k : ℕ) → s.used ≤ k → get_or s.words k 0 ≡ 0) };
+}
+
+impl Names {
+    /// The empty set.
+    pub fn none() -> Names
+        ensures { result ≡ set.empty }
+    {
+        Names {
+            words: [0; WORDS],
+            used: 0,
+        }
+    }
+
+    /// An equal set.
+    pub fn copy(&self) -> Names
+        ensures { result ≡ self.now }
+    {
+        Names {
+            words: self.words,
+            used: self.used,
+        }
+    }
+
+    /// Takes `v` in. Condition: it is a name.
+    pub fn insert(&mut self, v: u32)
+        requires { v < NAMES }
+        ensures { self.new ≡ set.insert self.old v }
+    {
+        let word = v as usize / 64;
+        self.words[word] |= 1 << (v % 64);
+        if self.used <= word {
+            self.used = word + 1;
+        }
+    }
+
+    /// Leaves `v` out. Condition: it is a name.
+    pub fn remove(&mut self, v: u32)
+        requires { v < NAMES }
+        ensures { self.new ≡ set.remove self.old v }
+    {
+        self.words[v as usize / 64] &= !(1 << (v % 64));
+    }
+
+    /// All members go. It passes over the words in use.
+    pub fn clear(&mut self)
+        ensures { self.new ≡ set.empty }
+    {
+        for word in &mut self.words[..self.used] {
+            *word = 0;
+        }
+        self.used = 0;
+    }
+
+    /// Takes in the members of `other`. It passes over the words that `other` uses.
+    pub fn take_in(&mut self, other: &Names)
+        ensures { self.new ≡ set.union self.old other.now }
+    {
+        for i in 0..other.used {
+            self.words[i] |= other.words[i];
+        }
+        if self.used < other.used {
+            self.used = other.used;
+        }
+    }
+
+    /// Whether `v`, any number, is a member.
+    pub fn has(&self, v: u32) -> bool
+        ensures { result ≡ set.contains self.now v }
+    {
+        v < NAMES && (self.words[v as usize / 64] >> (v % 64)) & 1 == 1
+    }
+
+    /// The members of both.
+    pub fn and(&self, other: &Names) -> Names
+        ensures { result ≡ set.intersection self.now other.now }
+    {
+        let mut both = Names::none();
+        both.used = self.used.min(other.used);
+        for i in 0..both.used {
+            both.words[i] = self.words[i] & other.words[i];
+        }
+        both
+    }
+
+    /// The members of either.
+    pub fn or(&self, other: &Names) -> Names
+        ensures { result ≡ set.union self.now other.now }
+    {
+        let mut either = Names::none();
+        either.used = self.used.max(other.used);
+        for i in 0..either.used {
+            either.words[i] = self.words[i] | other.words[i];
+        }
+        either
+    }
+
+    /// The members that `other` doesn't have.
+    pub fn minus(&self, other: &Names) -> Names
+        ensures { result ≡ set.difference self.now other.now }
+    {
+        let mut rest = Names::none();
+        rest.used = self.used;
+        for i in 0..rest.used {
+            rest.words[i] = self.words[i] & !other.words[i];
+        }
+        rest
+    }
+
+    /// The least member at or above `v`, any number; `None` exactly where there is none.
+    pub fn first_from(&self, v: u32) -> Option<u32>
+        ensures found { IfSome result (IsLeastFrom self.now v) }
+        ensures none { IfNone result (NoneFrom self.now v) }
+        ensures name { IfSome result (λ least. least < NAMES) }
+    {
+        self.members_from(v).next()
+    }
+
+    /// The number of members.
+    pub fn count(&self) -> u32
+        ensures { result ≡ set.len self.now }
+    {
+        let mut count = 0;
+        for word in &self.words[..self.used] {
+            count += word.count_ones();
+        }
+        count
+    }
+
+    /// Whether no name is a member.
+    pub fn is_empty(&self) -> bool
+        ensures { IsTrue result ↔ (self.now ≡ set.empty) }
+    {
+        self.words[..self.used].iter().all(|word| *word == 0)
+    }
+
+    /// The members, ascending.
+    pub fn members(&self) -> Members<'_>
+        ensures list { result ≡ ascending self.now }
+        ensures names { AllBelow self.now NAMES }
+    {
+        self.members_from(0)
+    }
+
+    /// The members at or above `v`, any number, ascending.
+    pub fn members_from(&self, v: u32) -> Members<'_>
+        ensures list { result ≡ ascending_from self.now v }
+        ensures names { AllBelow self.now NAMES }
+    {
+        let at = v as usize / 64;
+        let mut left = 0;
+        if at < self.used {
+            left = self.words[at] >> (v % 64) << (v % 64);
+        }
+        Members {
+            words: &self.words,
+            used: self.used,
+            at,
+            left,
+        }
+    }
+
+    /// Takes in each name `first + k` for which bit k of `bits` is 1: 64 names at once, for readers.
+    /// Condition: `first` is a name and a multiple of 64.
+    pub fn insert_block(&mut self, first: u32, bits: u64)
+        requires name { first < NAMES }
+        requires aligned { first % 64 ≡ 0 }
+        ensures { self.new ≡ set.union self.old (block first bits) }
+    {
+        let word = first as usize / 64;
+        self.words[word] |= bits;
+        if self.used <= word {
+            self.used = word + 1;
+        }
+    }
+
+    /// Which of the names `first + k`, k below 64, are members: bit k of the answer is 1 exactly for these.
+    /// For writers. Condition: `first` is a name and a multiple of 64.
+    pub fn block(&self, first: u32) -> u64
+        requires name { first < NAMES }
+        requires aligned { first % 64 ≡ 0 }
+        ensures { (k : ℕ) → k < 64 → set.contains self.now (first + k) ≡ (bit_at result k == 1) }
+    {
+        self.words[first as usize / 64]
+    }
+}
+
+/// The members of a set that are still to come, ascending: word by word, and in a word from bit to bit.
+#[derive(Drop)]
+pub struct Members<'a> {
+    words: &'a [u64; WORDS],
+    used: usize,
+    at: usize,
+    left: u64,
+}
+
+impl<'a> Model for Members<'a> {
+    ghost use Rattle.std.specs.Prelude.{ℕ, List, ◌≤◌};
+    ghost use Rattle.md_graph.specs.declared.TheConstants.{WORDS};
+
+    ghost Value = { List ℕ };
+
+    ghost use Rattle.md_graph.specs.Words.{members_left};
+
+    ghost view = { λ m. members_left m.words.now m.used m.at m.left };
+
+    ghost invariant = { λ m. m.used ≤ WORDS };
+}
+
+impl<'a> Iterator for Members<'a> {
+    type Item = u32;
+
+    ghost use Rattle.std.specs.Iterator.{YieldsFirst, item_count};
+
+    ghost next_gives = { YieldsFirst (λ s. s) };
+
+    ghost remaining = { item_count (λ s. s) };
+
+    fn next(&mut self) -> Option<u32> {
+        while self.left == 0 {
+            if self.used <= self.at + 1 {
+                return None;
+            }
+            self.at += 1;
+            self.left = self.words[self.at];
+        }
+        let k = self.left.trailing_zeros();
+        self.left &= self.left - 1;
+        Some(64 * self.at as u32 + k)
+    }
+}
