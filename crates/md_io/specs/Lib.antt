@@ -1,0 +1,3 @@
+pub mod Told
+pub mod Count
+pub mod Front
