@@ -1,0 +1,73 @@
+-- How a run ends, and the line that it writes for that.
+use Rattle.std.specs.Prelude.{◌≡◌, ℕ, List, [], ◌∷◌, ◌++◌, codes, Result, Ok, Err}
+use Rattle.md_text.specs.Numbers.{decimal}
+use Rattle.md_graph6.specs.declared.fault.G6Kind.{G6Kind}
+use Rattle.md_graph6.specs.declared.fault.G6Kind.TheVariants as g6
+use Rattle.md_dimacs.specs.declared.fault.DimacsKind.{DimacsKind}
+use Rattle.md_dimacs.specs.declared.fault.DimacsKind.TheVariants as dimacs
+use Rattle.md_top.specs.declared.stop.Fault.{Fault}
+use Rattle.md_top.specs.declared.stop.Fault.TheVariants.{Graph6, Dimacs}
+use Rattle.md_top.specs.declared.stop.Stop.{Stop}
+use Rattle.md_top.specs.declared.stop.Stop.TheVariants as stops
+use Rattle.md_top.specs.declared.stop.Verdict.{Verdict}
+use Rattle.md_top.specs.declared.stop.Verdict.TheVariants as verdicts
+use Rattle.md_top.specs.declared.stop.Status.{Status}
+use Rattle.md_top.specs.declared.stop.Status.TheVariants.{Done, Usage, BadInput, ReadFault, WriteFault, Memory, TooLong}
+
+-- the status of what stops a run
+abbrev pub status_of_stop : Stop → Status
+status_of_stop stops.Usage = Usage
+status_of_stop (stops.BadInput fault) = BadInput
+status_of_stop stops.ReadFault = ReadFault
+status_of_stop stops.WriteFault = WriteFault
+status_of_stop stops.Memory = Memory
+status_of_stop stops.TooLong = TooLong
+
+-- the status of an ending
+abbrev pub status_of : Result Verdict Stop → Status
+status_of (Ok verdicts.Done) = Done
+status_of (Err stop) = status_of_stop stop
+
+-- a kind of fault by its name
+abbrev pub g6_name : G6Kind → List ℕ
+g6_name g6.BadByte = codes "BadByte"
+g6_name g6.BadSize = codes "BadSize"
+g6_name g6.TooManyVertices = codes "TooManyVertices"
+g6_name g6.Truncated = codes "Truncated"
+g6_name g6.TrailingBytes = codes "TrailingBytes"
+g6_name g6.BadPadding = codes "BadPadding"
+g6_name g6.OtherFormat = codes "OtherFormat"
+
+abbrev pub dimacs_name : DimacsKind → List ℕ
+dimacs_name dimacs.NoProblemLine = codes "NoProblemLine"
+dimacs_name dimacs.SecondProblemLine = codes "SecondProblemLine"
+dimacs_name dimacs.EdgeBeforeProblem = codes "EdgeBeforeProblem"
+dimacs_name dimacs.BadNumber = codes "BadNumber"
+dimacs_name dimacs.VertexOutOfRange = codes "VertexOutOfRange"
+dimacs_name dimacs.Loop = codes "Loop"
+dimacs_name dimacs.UnknownLine = codes "UnknownLine"
+dimacs_name dimacs.TooManyVertices = codes "TooManyVertices"
+dimacs_name dimacs.FieldCount = codes "FieldCount"
+
+-- the line that names a fault of the graph file
+abbrev pub graph_fault_line : List ℕ → ℕ → List ℕ
+graph_fault_line name line = codes "mdt: graph " ++ name ++ codes " line " ++ decimal line ++ codes "\n"
+
+-- the line that names a fault
+abbrev pub fault_line : Fault → List ℕ
+fault_line (Graph6 fault) = graph_fault_line (g6_name fault.kind) fault.line
+fault_line (Dimacs fault) = graph_fault_line (dimacs_name fault.kind) fault.line
+
+-- the line of what stops a run
+abbrev pub line_of_stop : Stop → List ℕ
+line_of_stop stops.Usage = codes "mdt: usage\n"
+line_of_stop (stops.BadInput fault) = fault_line fault
+line_of_stop stops.ReadFault = codes "mdt: read fault\n"
+line_of_stop stops.WriteFault = codes "mdt: write fault\n"
+line_of_stop stops.Memory = codes "mdt: memory\n"
+line_of_stop stops.TooLong = codes "mdt: too long\n"
+
+-- the line of an ending, none where the output is whole
+abbrev pub line_of : Result Verdict Stop → List ℕ
+line_of (Ok verdict) = []
+line_of (Err stop) = line_of_stop stop

@@ -1,0 +1,9 @@
+pub mod Form
+pub mod Input
+pub mod Load
+pub mod Output
+pub mod Ending
+pub mod Answer
+pub mod Command
+pub mod Clauses
+pub mod Ends

@@ -1,0 +1,41 @@
+//! What the program can be asked: the forms of words.
+ghost use Rattle.std.specs.Prelude.{◌≡◌};
+ghost use Rattle.md_top.specs.Form.{format_of, graph_form};
+
+/// How a graph file is written.
+#[derive(Clone, Copy, Debug, PartialEq, Eq)]
+pub enum Format {
+    /// Lines of graph6.
+    G6,
+    /// A DIMACS edge file.
+    Dimacs,
+}
+
+/// What the words ask for, without the names of files.
+#[derive(Clone, Copy, Debug, PartialEq, Eq)]
+pub enum Form {
+    /// The text of each graph of a file: the format that is read, and the format that is written.
+    Convert(Format, Format),
+}
+
+/// The format that a word names; none for any other word.
+pub fn format_of(word: &str) -> Option<Format>
+    ensures { result ≡ format_of word.now }
+{
+    match word {
+        "g6" => Some(Format::G6),
+        "dimacs" => Some(Format::Dimacs),
+        _ => None,
+    }
+}
+
+/// The form of a command over one graph file; none for any other word.
+pub fn graph_form(command: &str, format: Format) -> Option<Form>
+    ensures { result ≡ graph_form command.now format }
+{
+    match command {
+        "edges" => Some(Form::Convert(format, Format::Dimacs)),
+        "graph6" => Some(Form::Convert(format, Format::G6)),
+        _ => None,
+    }
+}

@@ -1,0 +1,135 @@
+//! The top call: all that the program does.
+ghost use Rattle.std.specs.Prelude.{◌≡◌, ◌≢◌, ◌↔◌, ◌⊎◌, ℕ, List, Option, [], ◌∷◌, None, Some, IsTrue};
+ghost use Rattle.md_io.specs.Count.{Rose};
+ghost use Rattle.md_top.specs.declared.form.Form.{Form};
+ghost use Rattle.md_top.specs.declared.stop.Fault.{Fault};
+ghost use Rattle.md_top.specs.Form.{Request, texts, request_of};
+ghost use Rattle.md_top.specs.Input.{IsInput, AllToldFiles, AsksInOrder, names_of};
+ghost use Rattle.md_top.specs.Answer.{fault_of};
+ghost use Rattle.md_top.specs.Command.{CommandEnds};
+ghost use Rattle.md_top.specs.Clauses.{CanBeBad, CanBeGood, Puts, TakesLineOf};
+ghost use Rattle.md_top.specs.Ends.{Ends};
+
+use std::alloc::Global;
+
+use md_io::{Files, Sink};
+
+use crate::convert::convert;
+use crate::form::{Form, format_of, graph_form};
+use crate::line::put_line;
+use crate::load::load;
+use crate::stop::{Status, Stop, Verdict};
+
+/// Does what the words ask for: loads the files that they name, in their order, puts the whole output to `out`,
+/// and answers how that ended. Where the output isn't whole, one line on `err` says why.
+///
+/// All files are loaded and the input is read whole before the first byte is put.
+pub fn run<F: Files, O: Sink, E: Sink>(alloc: Global, words: &[String], files: &mut F, out: &mut O, err: &mut E) -> Status
+    // Usage comes exactly where the words are in no form.
+    ensures usage { (result ≡ Status.Usage) ↔ (request_of (texts words.now) ≡ None) }
+
+    // No file but those of the words is asked for, and these in their order.
+    ensures asked { AsksInOrder (F.asked files.old) (F.asked files.new)
+        (names_of (request_of (texts words.now))) }
+
+    // Bad input comes exactly where the input has a fault. A reading fault or want of memory may come first.
+    ensures bad_input { result ≡ Status.BadInput
+        → (fault : Fault) × CanBeBad (F.holds files.old) (request_of (texts words.now)) fault }
+    ensures bad_input_always { (asked : Request) (contents : List (List ℕ)) (fault : Fault)
+        → IsInput (F.holds files.old) (request_of (texts words.now)) asked contents
+        → fault_of asked.form contents ≡ Some fault
+        → (result ≡ Status.BadInput) ⊎ (result ≡ Status.ReadFault) ⊎ (result ≡ Status.Memory) }
+
+    // Done and a writing fault come only over well-formed input.
+    ensures good_input { (result ≡ Status.Done) ⊎ (result ≡ Status.WriteFault)
+        → CanBeGood (F.holds files.old) (request_of (texts words.now)) }
+
+    // A fault of the outside is answered only where its count rose.
+    ensures read_fault { result ≡ Status.ReadFault → Rose (F.faults files.old) (F.faults files.new) }
+    ensures write_fault { result ≡ Status.WriteFault → Rose (O.faults out.old) (O.faults out.new) }
+    ensures too_long { result ≡ Status.TooLong → Rose (F.overs files.old) (F.overs files.new) }
+
+    // Where loads of told files can't fail, and the files of the words are told, none fails.
+    ensures sure { IsTrue (F.sure files.old)
+        → AllToldFiles (F.holds files.old) (names_of (request_of (texts words.now)))
+        → (F.faults files.new ≡ F.faults files.old)
+            × IsTrue (F.sure files.new) × (result ≢ Status.ReadFault) }
+
+    // What is put, by the status: a whole valid output, the beginning of one, or nothing.
+    ensures out { Puts (F.holds files.old) (request_of (texts words.now)) result
+        (O.holds out.old) (O.holds out.new) }
+
+    // The line of the status, or a beginning of it where a count of `err` rose.
+    ensures err { TakesLineOf (F.holds files.old) (request_of (texts words.now)) result
+        (E.holds err.old) (E.holds err.new)
+        (E.faults err.old) (E.faults err.new) (E.wants err.old) (E.wants err.new) }
+
+    // Well-formed input that is told, and no fault of the outside: the whole output, or want of memory.
+    ensures complete { (asked : Request) (contents : List (List ℕ))
+        → IsInput (F.holds files.old) (request_of (texts words.now)) asked contents
+        → fault_of asked.form contents ≡ None
+        → ¬ Rose (F.faults files.old) (F.faults files.new)
+        → ¬ Rose (O.faults out.old) (O.faults out.new)
+        → (result ≡ Status.Done) ⊎ (result ≡ Status.Memory) }
+
+    // What is told of the files stays.
+    ensures told { F.holds files.new ≡ F.holds files.old }
+{
+    if let Err(stop) = end(alloc, words, files, out) {
+        put_line(err, stop);
+        return stop.status();
+    }
+    Status::Done
+}
+
+/// Does what the words ask for, but for the line on `err`.
+fn end<F: Files, O: Sink>(alloc: Global, words: &[String], files: &mut F, out: &mut O) -> Result<Verdict, Stop>
+    ensures ends { Ends (request_of (texts words.now)) result
+        (record { holds = F.holds files.old;
+            asked_old = F.asked files.old; asked_new = F.asked files.new;
+            faults_old = F.faults files.old; faults_new = F.faults files.new;
+            overs_old = F.overs files.old; overs_new = F.overs files.new;
+            sure_old = F.sure files.old; sure_new = F.sure files.new })
+        (record { old = O.holds out.old; new = O.holds out.new;
+            faults_old = O.faults out.old; faults_new = O.faults out.new }) }
+    ensures told { F.holds files.new ≡ F.holds files.old }
+{
+    let [command, format, graph] = words else {
+        return Err(Stop::Usage);
+    };
+    let Some(format) = format_of(format.as_str()) else {
+        return Err(Stop::Usage);
+    };
+    let Some(form) = graph_form(command.as_str(), format) else {
+        return Err(Stop::Usage);
+    };
+    end_over_graph(alloc, form, graph.as_str(), files, out)
+}
+
+/// Loads the graph file of a form, and does what the form asks for.
+fn end_over_graph<F: Files, O: Sink>(alloc: Global, form: Form, name: &str, files: &mut F, out: &mut O) -> Result<Verdict, Stop>
+    ensures ends { Ends (Some (record { form = form; names = name.now ∷ [] })) result
+        (record { holds = F.holds files.old;
+            asked_old = F.asked files.old; asked_new = F.asked files.new;
+            faults_old = F.faults files.old; faults_new = F.faults files.new;
+            overs_old = F.overs files.old; overs_new = F.overs files.new;
+            sure_old = F.sure files.old; sure_new = F.sure files.new })
+        (record { old = O.holds out.old; new = O.holds out.new;
+            faults_old = O.faults out.old; faults_new = O.faults out.new }) }
+    ensures told { F.holds files.new ≡ F.holds files.old }
+{
+    match load(alloc, files, name) {
+        Ok(graph) => end_over_contents(alloc, form, &graph, out),
+        Err(stop) => Err(stop),
+    }
+}
+
+/// Does what a form over one graph file asks for.
+fn end_over_contents<O: Sink>(alloc: Global, form: Form, graph: &[u8], out: &mut O) -> Result<Verdict, Stop>
+    ensures ends { CommandEnds form (graph.now ∷ []) result (O.holds out.old) (O.holds out.new)
+        (O.faults out.old) (O.faults out.new) }
+{
+    match form {
+        Form::Convert(from, to) => convert(alloc, from, to, graph, out),
+    }
+}
