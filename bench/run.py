@@ -1,0 +1,141 @@
+#!/usr/bin/env python3
+"""Measures mdt: processor time, instructions and peak memory of each command over made inputs.
+
+    python3 bench/run.py                 builds the program and measures it
+    python3 bench/run.py --bin PATH      measures a program that is built already
+    python3 bench/run.py --peer PATH     measures another program with the same commands beside it
+    python3 bench/run.py --only many     measures the cases whose name holds a word
+
+Inputs are made with fixed seeds, in a temporary folder. Instructions are counted by valgrind's callgrind, peak
+memory is told by GNU time, each where it is there. Instructions don't change from run to run, as times do.
+"""
+import argparse
+import os
+import random
+import re
+import resource
+import shutil
+import subprocess
+import sys
+import tempfile
+
+TOP = os.path.dirname(os.path.dirname(os.path.abspath(__file__)))
+
+
+def rows_of(n, edges):
+    """The rows of a graph: bit u of row v is 1 where u < v and the edge is there."""
+    rows = [0] * n
+    for u, v in edges:
+        rows[max(u, v)] |= 1 << min(u, v)
+    return rows
+
+
+def dense(n, seed):
+    r = random.Random(seed)
+    return [r.getrandbits(v) if v else 0 for v in range(n)]
+
+
+def sparse(n, degree, seed):
+    r = random.Random(seed)
+    edges = {tuple(sorted(r.sample(range(n), 2))) for _ in range(n * degree // 2)}
+    return rows_of(n, edges)
+
+
+def g6(rows):
+    n = len(rows)
+    head = [n + 63] if n <= 62 else [126, 63 + (n >> 12), 63 + (n >> 6 & 63), 63 + (n & 63)]
+    bits = "".join(format(rows[v], "b").zfill(v)[::-1] if v else "" for v in range(n))
+    bits += "0" * (-len(bits) % 6)
+    return bytes(head + [63 + int(bits[k:k + 6], 2) for k in range(0, len(bits), 6)]) + b"\n"
+
+
+def dimacs(rows):
+    edges = sorted((u + 1, v + 1) for v in range(len(rows)) for u in range(v) if rows[v] >> u & 1)
+    return ("p edge %d %d\n" % (len(rows), len(edges)) + "".join("e %d %d\n" % e for e in edges)).encode()
+
+
+def small_graphs(count, seed):
+    r = random.Random(seed)
+    sizes = (8, 12, 16, 24, 40, 60)
+    return b"".join(g6(dense(r.choice(sizes), r.random()) if r.random() < .5 else sparse(r.choice(sizes), 3, r.random()))
+                    for _ in range(count))
+
+
+INPUTS = {
+    "none.g6": lambda: b"",
+    "dense1024.g6": lambda: g6(dense(1024, 1)),
+    "dense4096.g6": lambda: g6(dense(4096, 2)),
+    "sparse4096.g6": lambda: g6(sparse(4096, 8, 3)),
+    "small5000.g6": lambda: small_graphs(5000, 4),
+    "dense1024.col": lambda: dimacs(dense(1024, 1)),
+}
+
+CASES = [
+    ("edges", "g6", "none.g6"),
+    ("edges", "g6", "dense1024.g6"),
+    ("edges", "g6", "dense4096.g6"),
+    ("edges", "g6", "sparse4096.g6"),
+    ("edges", "g6", "small5000.g6"),
+    ("edges", "dimacs", "dense1024.col"),
+    ("graph6", "g6", "dense4096.g6"),
+    ("graph6", "g6", "small5000.g6"),
+    ("graph6", "dimacs", "dense1024.col"),
+]
+
+
+def measure(binary, words, where):
+    """Seconds, instructions and peak megabytes of one run; 0 for what can't be measured here."""
+    with open(os.devnull, "wb") as nothing:
+        before = resource.getrusage(resource.RUSAGE_CHILDREN)
+        status = subprocess.call(["/bin/sh", "-c", 'exec "$0" "$@"', binary, *words], cwd=where, stdout=nothing)
+        after = resource.getrusage(resource.RUSAGE_CHILDREN)
+    if status != 0:
+        sys.exit("%s %s ended with status %d" % (binary, " ".join(words), status))
+    seconds = after.ru_utime + after.ru_stime - before.ru_utime - before.ru_stime
+    peak = 0
+    if shutil.which("time"):
+        run = subprocess.run(["time", "-f", "%M", binary, *words], cwd=where, stdout=subprocess.DEVNULL, stderr=subprocess.PIPE)
+        peak = int(run.stderr.split()[-1])
+    count = 0
+    if shutil.which("valgrind"):
+        run = subprocess.run(["valgrind", "--tool=callgrind", "--callgrind-out-file=/dev/null", binary, *words], cwd=where,
+                             stdout=subprocess.DEVNULL, stderr=subprocess.PIPE)
+        found = re.search(rb"Collected : (\d+)", run.stderr)
+        count = int(found.group(1)) if found else 0
+    return seconds, count, peak / 1024
+
+
+def build():
+    folder = os.path.join(TOP, "crates", "md_cli")
+    subprocess.run(["rt", "run", "--", "edges", "g6", "data/graph.g6"], cwd=folder, stdout=subprocess.DEVNULL, check=True)
+    return os.path.join(folder, "out", "md_cli")
+
+
+def main():
+    options = argparse.ArgumentParser(description=__doc__, formatter_class=argparse.RawDescriptionHelpFormatter)
+    options.add_argument("--bin")
+    options.add_argument("--peer")
+    options.add_argument("--only", default="")
+    chosen = options.parse_args()
+    binary = os.path.abspath(chosen.bin or build())
+    peer = os.path.abspath(chosen.peer) if chosen.peer else None
+    print("| run | seconds | million instructions | peak MB |" + (" the other's | ratio | its peak MB |" if peer else ""))
+    print("|---|---|---|---|" + ("---|---|---|" if peer else ""))
+    with tempfile.TemporaryDirectory() as where:
+        for name, make in INPUTS.items():
+            with open(os.path.join(where, name), "wb") as file:
+                file.write(make())
+        for words in CASES:
+            name = " ".join(words)
+            if chosen.only not in name:
+                continue
+            seconds, count, peak = measure(binary, words, where)
+            line = "| `%s` | %.3f | %.1f | %.1f |" % (name, seconds, count / 1e6, peak)
+            if peer:
+                _, other, its_peak = measure(peer, words, where)
+                line += " %.1f | %.2f | %.1f |" % (other / 1e6, count / max(other, 1), its_peak)
+            print(line, flush=True)
+
+
+if __name__ == "__main__":
+    main()
