@@ -25,7 +25,7 @@ module _ (from to : Format) (file : List ℕ) (graphs : List PlainGraph) (faultl
         faultless = faultless;
         bytes = front.part;
         front = record { rest = front.rest; whole = record { graphs = graphs; spelt = spelt; text = sym front.whole ∙ text } };
-        put = front.appended
+        put = front.appended;
       }
 
   ends_of_whole : (result : Result (Unit {0}) Stop) (old new : Option (List ℕ)) (faults_old faults_new : ℕ) → PutsWhole whole result old new faults_old faults_new → CommandEnds (Convert from to) (file ∷ []) (verdict_of result) old new faults_old faults_new

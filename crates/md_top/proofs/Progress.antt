@@ -41,7 +41,7 @@ progress_stop old now new whole piece left so_far front =
       part = so_far.done ++ front.part;
       rest = front.rest ++ left;
       whole = so_far.split ∙ ap (λ p. so_far.done ++ (p ++ left)) front.whole ∙ ap (λ p. so_far.done ++ p) (append_assoc front.part front.rest left) ∙ sym (append_assoc so_far.done front.part (front.rest ++ left));
-      appended = appends_both old now new so_far.done front.part so_far.put front.appended
+      appended = appends_both old now new so_far.done front.part so_far.put front.appended;
     }
 
 -- stopped between two pieces

@@ -37,16 +37,16 @@ pub record Ends (request : Option Request) (ending : Result Verdict Stop) (f : F
   pub asked : AsksInOrder f.asked_old f.asked_new (names_of request)
   pub bad_input : (fault : Fault) → ending ≡ Err (stops.BadInput fault) → CanBeBad f.holds request fault
   pub bad_input_always : (asked : Request) (contents : List (List ℕ)) (fault : Fault)
-    → IsInput f.holds request asked contents → fault_of asked.form contents ≡ Some fault
-    → (status_of ending ≡ BadInput) ⊎ (status_of ending ≡ ReadFault) ⊎ (status_of ending ≡ Memory)
+      → IsInput f.holds request asked contents → fault_of asked.form contents ≡ Some fault
+      → (status_of ending ≡ BadInput) ⊎ (status_of ending ≡ ReadFault) ⊎ (status_of ending ≡ Memory)
   pub good_input : (status_of ending ≡ Done) ⊎ (status_of ending ≡ WriteFault) → CanBeGood f.holds request
   pub read_fault : status_of ending ≡ ReadFault → Rose f.faults_old f.faults_new
   pub write_fault : status_of ending ≡ WriteFault → Rose o.faults_old o.faults_new
   pub too_long : status_of ending ≡ TooLong → Rose f.overs_old f.overs_new
   pub sure : IsTrue f.sure_old → AllToldFiles f.holds (names_of request)
-    → (f.faults_new ≡ f.faults_old) × IsTrue f.sure_new × (status_of ending ≢ ReadFault)
+      → (f.faults_new ≡ f.faults_old) × IsTrue f.sure_new × (status_of ending ≢ ReadFault)
   pub out : Puts f.holds request (status_of ending) o.old o.new
   pub complete : (asked : Request) (contents : List (List ℕ))
-    → IsInput f.holds request asked contents → fault_of asked.form contents ≡ None
-    → ¬ Rose f.faults_old f.faults_new → ¬ Rose o.faults_old o.faults_new
-    → (status_of ending ≡ Done) ⊎ (status_of ending ≡ Memory)
+      → IsInput f.holds request asked contents → fault_of asked.form contents ≡ None
+      → ¬ Rose f.faults_old f.faults_new → ¬ Rose o.faults_old o.faults_new
+      → (status_of ending ≡ Done) ⊎ (status_of ending ≡ Memory)

@@ -8,18 +8,22 @@ ghost use Rattle.md_top.specs.declared.form.Form.{Form};
 ghost use Rattle.md_top.specs.Output.{PutsWhole, verdict_of};
 ghost use Rattle.md_top.specs.Command.{CommandEnds};
 
-use std::alloc::Global;
-
-use md_graph::{Graph, Memory};
-use md_graph6::Lines;
-use md_io::Sink;
-
 use crate::form::Format;
 use crate::put::put_piece;
 use crate::stop::{Fault, Stop, Verdict};
+use md_graph::{Graph, Memory};
+use md_graph6::Lines;
+use md_io::Sink;
+use std::alloc::Global;
 
 /// Puts the text of each graph of a graph file, in their order. The file is read whole before the first put.
-pub fn convert<O: Sink>(alloc: Global, from: Format, to: Format, file: &[u8], out: &mut O) -> Result<Verdict, Stop>
+pub fn convert<O: Sink>(
+    alloc: Global,
+    from: Format,
+    to: Format,
+    file: &[u8],
+    out: &mut O,
+) -> Result<Verdict, Stop>
     ensures ends { CommandEnds (Form.Convert from to) (file.now ∷ []) result (O.holds out.old) (O.holds out.new)
         (O.faults out.old) (O.faults out.new) }
     ensures faults_never_fall { O.faults out.old ≤ O.faults out.new }
@@ -54,7 +58,12 @@ fn put_lines<O: Sink>(alloc: Global, to: Format, file: &[u8], out: &mut O) -> Re
 }
 
 /// Puts the text of the graph of a DIMACS file, or names the first fault of the file.
-fn put_edge_file<O: Sink>(alloc: Global, to: Format, file: &[u8], out: &mut O) -> Result<Verdict, Stop>
+fn put_edge_file<O: Sink>(
+    alloc: Global,
+    to: Format,
+    file: &[u8],
+    out: &mut O,
+) -> Result<Verdict, Stop>
     ensures ends { CommandEnds (Form.Convert Format.Dimacs to) (file.now ∷ []) result (O.holds out.old) (O.holds out.new)
         (O.faults out.old) (O.faults out.new) }
     ensures faults_never_fall { O.faults out.old ≤ O.faults out.new }

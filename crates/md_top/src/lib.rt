@@ -5,11 +5,15 @@ mod convert;
 mod form;
 mod line;
 mod load;
+mod memory;
 mod put;
 mod short;
 mod stop;
 mod top;
 
-pub use form::{Form, Format};
-pub use stop::{Fault, Status, Stop, Verdict};
+pub use memory::run_in_memory;
+pub use stop::Status;
 pub use top::run;
+
+#[cfg(test)]
+mod tests;

@@ -3,12 +3,11 @@ ghost use Rattle.std.specs.Prelude.{◌≡◌, ◌≤◌, length};
 ghost use Rattle.md_top.specs.Ending.{g6_name, dimacs_name, graph_fault_line, fault_line, line_of_stop};
 ghost use Rattle.md_top.specs.Output.{TakesLine};
 
+use crate::short::ShortText;
+use crate::stop::{Fault, Stop};
 use md_dimacs::DimacsKind;
 use md_graph6::G6Kind;
 use md_io::Sink;
-
-use crate::short::ShortText;
-use crate::stop::{Fault, Stop};
 
 fn g6_name(kind: G6Kind) -> &'static str
     ensures { result.now ≡ g6_name kind }

@@ -4,11 +4,9 @@ ghost use Rattle.md_io.specs.Told.{IsToldAs, IsToldFile, IsToldLonger};
 ghost use Rattle.md_io.specs.Count.{Rose};
 ghost use Rattle.md_top.specs.Load.{IsLoadStop};
 
-use std::alloc::Global;
-
-use md_io::{Files, LIMIT, LoadFault};
-
 use crate::stop::Stop;
+use md_io::{Files, LIMIT, LoadFault};
+use std::alloc::Global;
 
 /// The bytes of the file of a name, within the limit.
 pub fn load<F: Files>(alloc: Global, files: &mut F, name: &str) -> Result<Vec<u8>, Stop>

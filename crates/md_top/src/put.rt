@@ -2,9 +2,8 @@
 ghost use Rattle.std.specs.Prelude.{◌≡◌, ◌≤◌};
 ghost use Rattle.md_top.specs.Output.{PutsWhole};
 
-use md_io::{PutFault, Sink};
-
 use crate::stop::Stop;
+use md_io::{PutFault, Sink};
 
 /// Puts a piece to the output.
 pub fn put_piece<O: Sink>(out: &mut O, piece: &[u8]) -> Result<(), Stop>

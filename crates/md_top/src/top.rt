@@ -10,21 +10,25 @@ ghost use Rattle.md_top.specs.Command.{CommandEnds};
 ghost use Rattle.md_top.specs.Clauses.{CanBeBad, CanBeGood, Puts, TakesLineOf};
 ghost use Rattle.md_top.specs.Ends.{Ends};
 
-use std::alloc::Global;
-
-use md_io::{Files, Sink};
-
 use crate::convert::convert;
 use crate::form::{Form, format_of, graph_form};
 use crate::line::put_line;
 use crate::load::load;
 use crate::stop::{Status, Stop, Verdict};
+use md_io::{Files, Sink};
+use std::alloc::Global;
 
 /// Does what the words ask for: loads the files that they name, in their order, puts the whole output to `out`,
 /// and answers how that ended. Where the output isn't whole, one line on `err` says why.
 ///
 /// All files are loaded and the input is read whole before the first byte is put.
-pub fn run<F: Files, O: Sink, E: Sink>(alloc: Global, words: &[String], files: &mut F, out: &mut O, err: &mut E) -> Status
+pub fn run<F: Files, O: Sink, E: Sink>(
+    alloc: Global,
+    words: &[String],
+    files: &mut F,
+    out: &mut O,
+    err: &mut E,
+) -> Status
     // Usage comes exactly where the words are in no form.
     ensures usage { (result ≡ Status.Usage) ↔ (request_of (texts words.now) ≡ None) }
 
@@ -53,7 +57,7 @@ pub fn run<F: Files, O: Sink, E: Sink>(alloc: Global, words: &[String], files: &
     ensures sure { IsTrue (F.sure files.old)
         → AllToldFiles (F.holds files.old) (names_of (request_of (texts words.now)))
         → (F.faults files.new ≡ F.faults files.old)
-            × IsTrue (F.sure files.new) × (result ≢ Status.ReadFault) }
+        × IsTrue (F.sure files.new) × (result ≢ Status.ReadFault) }
 
     // What is put, by the status: a whole valid output, the beginning of one, or nothing.
     ensures out { Puts (F.holds files.old) (request_of (texts words.now)) result
@@ -83,15 +87,30 @@ pub fn run<F: Files, O: Sink, E: Sink>(alloc: Global, words: &[String], files: &
 }
 
 /// Does what the words ask for, but for the line on `err`.
-fn end<F: Files, O: Sink>(alloc: Global, words: &[String], files: &mut F, out: &mut O) -> Result<Verdict, Stop>
+fn end<F: Files, O: Sink>(
+    alloc: Global,
+    words: &[String],
+    files: &mut F,
+    out: &mut O,
+) -> Result<Verdict, Stop>
     ensures ends { Ends (request_of (texts words.now)) result
-        (record { holds = F.holds files.old;
-            asked_old = F.asked files.old; asked_new = F.asked files.new;
-            faults_old = F.faults files.old; faults_new = F.faults files.new;
-            overs_old = F.overs files.old; overs_new = F.overs files.new;
-            sure_old = F.sure files.old; sure_new = F.sure files.new })
-        (record { old = O.holds out.old; new = O.holds out.new;
-            faults_old = O.faults out.old; faults_new = O.faults out.new }) }
+        (record {
+          holds = F.holds files.old;
+          asked_old = F.asked files.old;
+          asked_new = F.asked files.new;
+          faults_old = F.faults files.old;
+          faults_new = F.faults files.new;
+          overs_old = F.overs files.old;
+          overs_new = F.overs files.new;
+          sure_old = F.sure files.old;
+          sure_new = F.sure files.new;
+        })
+        (record {
+          old = O.holds out.old;
+          new = O.holds out.new;
+          faults_old = O.faults out.old;
+          faults_new = O.faults out.new;
+        }) }
     ensures told { F.holds files.new ≡ F.holds files.old }
 {
     let [command, format, graph] = words else {
@@ -107,15 +126,31 @@ fn end<F: Files, O: Sink>(alloc: Global, words: &[String], files: &mut F, out: &
 }
 
 /// Loads the graph file of a form, and does what the form asks for.
-fn end_over_graph<F: Files, O: Sink>(alloc: Global, form: Form, name: &str, files: &mut F, out: &mut O) -> Result<Verdict, Stop>
+fn end_over_graph<F: Files, O: Sink>(
+    alloc: Global,
+    form: Form,
+    name: &str,
+    files: &mut F,
+    out: &mut O,
+) -> Result<Verdict, Stop>
     ensures ends { Ends (Some (record { form = form; names = name.now ∷ [] })) result
-        (record { holds = F.holds files.old;
-            asked_old = F.asked files.old; asked_new = F.asked files.new;
-            faults_old = F.faults files.old; faults_new = F.faults files.new;
-            overs_old = F.overs files.old; overs_new = F.overs files.new;
-            sure_old = F.sure files.old; sure_new = F.sure files.new })
-        (record { old = O.holds out.old; new = O.holds out.new;
-            faults_old = O.faults out.old; faults_new = O.faults out.new }) }
+        (record {
+          holds = F.holds files.old;
+          asked_old = F.asked files.old;
+          asked_new = F.asked files.new;
+          faults_old = F.faults files.old;
+          faults_new = F.faults files.new;
+          overs_old = F.overs files.old;
+          overs_new = F.overs files.new;
+          sure_old = F.sure files.old;
+          sure_new = F.sure files.new;
+        })
+        (record {
+          old = O.holds out.old;
+          new = O.holds out.new;
+          faults_old = O.faults out.old;
+          faults_new = O.faults out.new;
+        }) }
     ensures told { F.holds files.new ≡ F.holds files.old }
 {
     match load(alloc, files, name) {
@@ -125,7 +160,12 @@ fn end_over_graph<F: Files, O: Sink>(alloc: Global, form: Form, name: &str, file
 }
 
 /// Does what a form over one graph file asks for.
-fn end_over_contents<O: Sink>(alloc: Global, form: Form, graph: &[u8], out: &mut O) -> Result<Verdict, Stop>
+fn end_over_contents<O: Sink>(
+    alloc: Global,
+    form: Form,
+    graph: &[u8],
+    out: &mut O,
+) -> Result<Verdict, Stop>
     ensures ends { CommandEnds form (graph.now ∷ []) result (O.holds out.old) (O.holds out.new)
         (O.faults out.old) (O.faults out.new) }
 {

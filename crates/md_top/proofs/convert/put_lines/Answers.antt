@@ -12,16 +12,16 @@ pub returns-in-Err-clause-puts : goal.returns-in-Err-clause-puts
 returns-in-Err-clause-puts g c =
     stops_within _ _ _ _ _ _ _ _ _ _
     (subst (λ (lines : List PlainGraph). Progress (g.O.Sink.holds c.args.out.now) (g.O.Sink.holds c.loop-lines.out) (flat_map (graph_text c.args.to) (graphs_of c.args.file.now)) (flat_map (graph_text c.args.to) lines))
-      (c.loop-lines-test.ensures.first) c.loop-lines.invariant.progress)
+    (c.loop-lines-test.ensures.first) c.loop-lines.invariant.progress)
     c.loop-lines.invariant.faults
     (c.in-Err.ensures.puts)
 
 pub loop-lines-preserved : goal.loop-lines-preserved
 loop-lines-preserved g c = record {
   progress = progress_step _ _ _ _ (graph_text c.args.to c.next.new.graph) _
-    (subst (λ (lines : List PlainGraph). Progress (g.O.Sink.holds c.args.out.now) (g.O.Sink.holds c.loop-lines.out) (flat_map (graph_text c.args.to) (graphs_of c.args.file.now)) (flat_map (graph_text c.args.to) lines))
+      (subst (λ (lines : List PlainGraph). Progress (g.O.Sink.holds c.args.out.now) (g.O.Sink.holds c.loop-lines.out) (flat_map (graph_text c.args.to) (graphs_of c.args.file.now)) (flat_map (graph_text c.args.to) lines))
       (c.loop-lines-test.ensures.first) c.loop-lines.invariant.progress)
-    (c.in_default-put_graph.ensures.puts);
+      (c.in_default-put_graph.ensures.puts);
   no_vertex = c.clear.ensures;
   faults = omega (arith, c.loop-lines.invariant.faults, c.put_graph.ensures.faults_never_fall);
 }

@@ -29,7 +29,7 @@ push-requires-2 t c =
 pub returns : goal.returns
 returns t c = record {
   items = rw (decimal_step c.args.n c.if-n-lt10.false)
-    (c.push-2.ensures.items ∙ ap (λ front. front ++ (48 + c.args.n % 10) ∷ []) c.push_decimal.ensures.items
+      (c.push-2.ensures.items ∙ ap (λ front. front ++ (48 + c.args.n % 10) ∷ []) c.push_decimal.ensures.items
       ∙ append_assoc c.args.self.now (decimal (c.args.n / 10)) ((48 + c.args.n % 10) ∷ []));
   len = let e : length (decimal c.args.n) ≡ length (decimal (c.args.n / 10)) + 1 = one_more c.args.n c.if-n-lt10.false in omega (arith, e);
 }

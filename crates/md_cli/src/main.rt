@@ -1,0 +1,39 @@
+//! The program `mdt`: the top call over the files of the system, standard output and standard error.
+#![tactic(auto)]
+
+use md_io::{DirFiles, StdSink};
+use md_top::{Status, run};
+use std::env;
+use std::io::ErrorKind;
+use std::process::ExitCode;
+
+/// Ends with the number of the status of `run` over the words behind the program's name. Where the words can't be
+/// had, it writes nothing and ends as at a reading fault, or as at want of memory.
+fn main(rt: HostRuntime) -> ExitCode {
+    let status = match words(&rt) {
+        Ok(words) => {
+            let mut files = DirFiles::new(&rt, rt.alloc());
+            let mut out = StdSink::new(rt.stdout());
+            let mut err = StdSink::new(rt.stderr());
+            run(rt.alloc(), &words, &mut files, &mut out, &mut err)
+        }
+        Err(status) => status,
+    };
+    ExitCode::from(status as u8)
+}
+
+/// The words behind the program's name.
+fn words(rt: &HostRuntime) -> Result<Vec<String>, Status> {
+    let args = match env::args(rt) {
+        Ok(args) => args,
+        Err(error) if error.kind() == ErrorKind::OutOfMemory => return Err(Status::Memory),
+        Err(_) => return Err(Status::ReadFault),
+    };
+    let mut words = Vec::new(rt.alloc());
+    for word in args.skip(1) {
+        if words.push(word).is_err() {
+            return Err(Status::Memory);
+        }
+    }
+    Ok(words)
+}

@@ -1,0 +1,41 @@
+//! The top call over files and sinks in memory.
+ghost use Rattle.std.specs.Prelude.{◌≡◌, ◌≢◌, ◌⊎◌, ℕ, List, None, Some, IsTrue};
+ghost use Rattle.md_top.specs.declared.stop.Fault.{Fault};
+ghost use Rattle.md_top.specs.Form.{Request, texts, request_of};
+ghost use Rattle.md_top.specs.Input.{IsInput, AllToldFiles, names_of};
+ghost use Rattle.md_top.specs.Answer.{fault_of};
+ghost use Rattle.md_top.specs.Clauses.{Puts};
+
+use crate::stop::Status;
+use crate::top::run;
+use md_io::{Files, MemFiles, SafeSink, Sink};
+use std::alloc::Global;
+
+/// `run` over files in memory and sinks that can't fail. Where the files of the words are there and no load to come
+/// is one that fails, memory alone can keep it from the answer that the input has.
+pub fn run_in_memory(
+    alloc: Global,
+    words: &[String],
+    files: &mut MemFiles,
+    out: &mut SafeSink,
+    err: &mut SafeSink,
+) -> Status
+    ensures no_write_fault { result ≢ Status.WriteFault }
+    ensures no_read_fault { IsTrue (⟦<MemFiles as Files>⟧.sure files.old)
+        → AllToldFiles (⟦<MemFiles as Files>⟧.holds files.old) (names_of (request_of (texts words.now)))
+        → result ≢ Status.ReadFault }
+    ensures good { (asked : Request) (contents : List (List ℕ))
+        → IsInput (⟦<MemFiles as Files>⟧.holds files.old) (request_of (texts words.now)) asked contents
+        → fault_of asked.form contents ≡ None
+        → IsTrue (⟦<MemFiles as Files>⟧.sure files.old)
+        → (result ≡ Status.Done) ⊎ (result ≡ Status.Memory) }
+    ensures bad { (asked : Request) (contents : List (List ℕ)) (fault : Fault)
+        → IsInput (⟦<MemFiles as Files>⟧.holds files.old) (request_of (texts words.now)) asked contents
+        → fault_of asked.form contents ≡ Some fault
+        → IsTrue (⟦<MemFiles as Files>⟧.sure files.old)
+        → (result ≡ Status.BadInput) ⊎ (result ≡ Status.Memory) }
+    ensures out { Puts (⟦<MemFiles as Files>⟧.holds files.old) (request_of (texts words.now)) result
+        (⟦<SafeSink as Sink>⟧.holds out.old) (⟦<SafeSink as Sink>⟧.holds out.new) }
+{
+    run(alloc, words, files, out, err)
+}

@@ -1,0 +1,214 @@
+//! Worked runs over files and sinks in memory.
+use super::*;
+use md_io::{MemFiles, MemSink};
+use std::alloc::Global;
+use std::test::Fail;
+
+/// The words of a line, cut at spaces.
+fn words_of(alloc: Global, line: &str) -> Result<Vec<String>, Fail> {
+    let mut words = Vec::new(alloc);
+    for word in line.split(' ') {
+        if !word.is_empty() {
+            words.push(String::from_str(alloc, word)?)?;
+        }
+    }
+    Ok(words)
+}
+
+/// A run over the file `g`: its status, and what stands on `out` and on `err`. The put of this number fails on `out`,
+/// after a part of it, and the load of this number fails.
+fn run_over(
+    alloc: Global,
+    line: &str,
+    file: &[u8],
+    load: u64,
+    put: u64,
+    part: u64,
+) -> Result<String, Fail> {
+    let words = words_of(alloc, line)?;
+    let mut files = MemFiles::new(alloc, vec![in alloc; load]?);
+    files.add("g", file)?;
+    let mut out = MemSink::new(alloc, vec![in alloc; put]?, part);
+    let mut err = MemSink::new(alloc, Vec::new(alloc), 0);
+    let status = run(alloc, &words, &mut files, &mut out, &mut err) as u8;
+    let mut shown = format!(in alloc; "{status}|")?;
+    for byte in out.bytes() {
+        shown.push(char::from(*byte))?;
+    }
+    shown.push('|')?;
+    for byte in err.bytes() {
+        shown.push(char::from(*byte))?;
+    }
+    Ok(shown)
+}
+
+#[test]
+fn runs(rt: HostRuntime) -> Result<(), Fail> {
+    let alloc = rt.alloc();
+    let table: [(&str, &[u8], &str); 44] = [
+        (
+            "edges g6 g",
+            b"DQc\n",
+            "0|p edge 5 4\ne 1 3\ne 1 5\ne 2 4\ne 4 5\n|",
+        ),
+        ("edges g6 g", b"?\n", "0|p edge 0 0\n|"),
+        ("edges g6 g", b"", "0||"),
+        (
+            "edges g6 g",
+            b"@\nA?\nA_\n\nBw\r\nBg",
+            "0|p edge 1 0\np edge 2 0\np edge 2 1\ne 1 2\np edge 3 3\ne 1 2\ne 1 3\ne 2 3\np edge 3 2\ne 1 2\ne 2 3\n|",
+        ),
+        (
+            "edges g6 g",
+            b"DhO\n",
+            "0|p edge 5 4\ne 1 2\ne 2 3\ne 2 5\ne 3 4\n|",
+        ),
+        (
+            "edges g6 g",
+            b">>graph6<<Ch\n",
+            "0|p edge 4 3\ne 1 2\ne 2 3\ne 3 4\n|",
+        ),
+        ("edges g6 g", b">>graph6<<", "0||"),
+        ("edges g6 g", b"DQ\n", "3||mdt: graph Truncated line 1\n"),
+        (
+            "edges g6 g",
+            b"DhO\nDQ\n",
+            "3||mdt: graph Truncated line 2\n",
+        ),
+        ("edges g6 g", b"B!\n", "3||mdt: graph BadByte line 1\n"),
+        ("edges g6 g", b"@\nB!\n", "3||mdt: graph BadByte line 2\n"),
+        (
+            "edges g6 g",
+            b"A__\n",
+            "3||mdt: graph TrailingBytes line 1\n",
+        ),
+        ("edges g6 g", b"A`\n", "3||mdt: graph BadPadding line 1\n"),
+        ("edges g6 g", b"~?\n", "3||mdt: graph Truncated line 1\n"),
+        ("edges g6 g", b"~??}\n", "3||mdt: graph BadSize line 1\n"),
+        (
+            "edges g6 g",
+            b"~@?@\n",
+            "3||mdt: graph TooManyVertices line 1\n",
+        ),
+        (
+            "edges g6 g",
+            b"~~??????\n",
+            "3||mdt: graph BadSize line 1\n",
+        ),
+        (
+            "edges g6 g",
+            b"~~~~~~~~\n",
+            "3||mdt: graph TooManyVertices line 1\n",
+        ),
+        ("edges g6 g", b"~~?\n", "3||mdt: graph Truncated line 1\n"),
+        (
+            "edges g6 g",
+            b">>graph6<\n",
+            "3||mdt: graph BadByte line 1\n",
+        ),
+        (
+            "edges g6 g",
+            b":Fa@x^\n",
+            "3||mdt: graph OtherFormat line 1\n",
+        ),
+        (
+            "edges dimacs g",
+            b"c queen part\np col 3 4\ne 1 2\ne 2 1\ne 2 3\ne 3 2\n",
+            "0|p edge 3 2\ne 1 2\ne 2 3\n|",
+        ),
+        (
+            "edges dimacs g",
+            b"p edge 3 999999999999999999\n",
+            "0|p edge 3 0\n|",
+        ),
+        (
+            "edges dimacs g",
+            b"p edge 2 1\ne 1 3\n",
+            "3||mdt: graph VertexOutOfRange line 2\n",
+        ),
+        (
+            "edges dimacs g",
+            b"p edge 2 1\ne 2 2\n",
+            "3||mdt: graph Loop line 2\n",
+        ),
+        (
+            "edges dimacs g",
+            b"p edge 2 1\ne 1 2 5\n",
+            "3||mdt: graph FieldCount line 2\n",
+        ),
+        (
+            "edges dimacs g",
+            b"p edge 1 1234567890123456789\n",
+            "3||mdt: graph BadNumber line 1\n",
+        ),
+        (
+            "edges dimacs g",
+            b"",
+            "3||mdt: graph NoProblemLine line 1\n",
+        ),
+        (
+            "edges dimacs g",
+            b"p edge 1 0\np edge 1 0\n",
+            "3||mdt: graph SecondProblemLine line 2\n",
+        ),
+        (
+            "edges dimacs g",
+            b"e 1 2\n",
+            "3||mdt: graph EdgeBeforeProblem line 1\n",
+        ),
+        (
+            "edges dimacs g",
+            b"q\n",
+            "3||mdt: graph UnknownLine line 1\n",
+        ),
+        (
+            "edges dimacs g",
+            b"p edge 4096 0\n",
+            "3||mdt: graph TooManyVertices line 1\n",
+        ),
+        ("graph6 dimacs g", b"p edge 3 2\ne 1 2\ne 2 3\n", "0|Bg\n|"),
+        ("graph6 dimacs g", b"p edge 0 0\n", "0|?\n|"),
+        ("graph6 g6 g", b"DQc\r\n\n@", "0|DQc\n@\n|"),
+        ("edges g6 h", b"DQc\n", "4||mdt: read fault\n"),
+        ("", b"DQc\n", "2||mdt: usage\n"),
+        ("edges", b"DQc\n", "2||mdt: usage\n"),
+        ("edges g6", b"DQc\n", "2||mdt: usage\n"),
+        ("edges png g", b"DQc\n", "2||mdt: usage\n"),
+        ("edge g6 g", b"DQc\n", "2||mdt: usage\n"),
+        ("edges g6 g g", b"DQc\n", "2||mdt: usage\n"),
+        (
+            "edges dimacs g",
+            b"DQc\n",
+            "3||mdt: graph UnknownLine line 1\n",
+        ),
+        (
+            "graph6 g6 g",
+            b"p edge 1 0\n",
+            "3||mdt: graph BadByte line 1\n",
+        ),
+    ];
+    for (line, file, want) in table {
+        let shown = run_over(alloc, line, file, 0, 0, 0)?;
+        assert_eq!(rt; shown.as_str(), want, "{line}");
+    }
+    Ok(())
+}
+
+#[test]
+fn runs_that_fail(rt: HostRuntime) -> Result<(), Fail> {
+    let alloc = rt.alloc();
+    let shown = run_over(alloc, "edges g6 g", b"DQc\n", 1, 0, 0)?;
+    assert_eq!(rt; shown.as_str(), "4||mdt: read fault\n");
+    let table = [
+        (1, 0, "5||mdt: write fault\n"),
+        (1, 4, "5|p ed|mdt: write fault\n"),
+        (2, 0, "5|p edge 1 0\n|mdt: write fault\n"),
+        (2, 9, "5|p edge 1 0\np edge 2 |mdt: write fault\n"),
+        (3, 9, "0|p edge 1 0\np edge 2 0\n|"),
+    ];
+    for (put, part, want) in table {
+        let shown = run_over(alloc, "edges g6 g", b"@\nA?\n", 0, put, part)?;
+        assert_eq!(rt; shown.as_str(), want, "put {put}");
+    }
+    Ok(())
+}
