@@ -65,14 +65,14 @@ fields-first line end some within other found =
     let word = word_front line end some within other in
     ⊎_elim
     (λ (short : end < length line).
-        let rest = drop_more line end 0 short in
-        ap fields (sym (take-append-drop end line) ∙ ap (λ (tail : List ℕ). take end line ++ tail) rest)
-        ∙ fields-append (take end line) (get_or line end 0) (drop (end + 1) line) word (found short)
-        ∙ ap (λ (tail : List (List ℕ)). take end line ∷ tail) (sym (ap fields rest ∙ fields-blank (get_or line end 0) (drop (end + 1) line) (found short))))
+    let rest = drop_more line end 0 short in
+    ap fields (sym (take-append-drop end line) ∙ ap (λ (tail : List ℕ). take end line ++ tail) rest)
+    ∙ fields-append (take end line) (get_or line end 0) (drop (end + 1) line) word (found short)
+    ∙ ap (λ (tail : List (List ℕ)). take end line ∷ tail) (sym (ap fields rest ∙ fields-blank (get_or line end 0) (drop (end + 1) line) (found short))))
     (λ (whole : length line ≤ end).
-        let same = take_all end line whole in
-        ap fields (sym same) ∙ fields-word (take end line) word
-        ∙ ap (λ (tail : List (List ℕ)). take end line ∷ tail) (sym (ap fields (drop_all end line whole) ∙ fields-nil)))
+    let same = take_all end line whole in
+    ap fields (sym same) ∙ fields-word (take end line) word
+    ∙ ap (λ (tail : List (List ℕ)). take end line ∷ tail) (sym (ap fields (drop_all end line whole) ∙ fields-nil)))
     (cases_lt end (length line))
 
 abbrev IsOther : ℕ → Type 0

@@ -111,16 +111,16 @@ lacks_before text k d below feed =
 pub lines-first : (text : List ℕ) → 0 < length text → lines text ≡ before_first is_feed text ∷ lines (after_first is_feed text)
 lines-first text some = ⊎_elim
     (λ (found : position_or_len is_feed text < length text).
-        let feed = eqb-true _ 10 (passes_at_first is_feed text 0 found) in
-        ap lines (split_at_first is_feed text 0 found)
-        ∙ ap (λ (byte : ℕ). lines (before_first is_feed text ++ byte ∷ after_first is_feed text)) feed
-        ∙ lines-append (before_first is_feed text) (after_first is_feed text) (lacks_before text))
+    let feed = eqb-true _ 10 (passes_at_first is_feed text 0 found) in
+    ap lines (split_at_first is_feed text 0 found)
+    ∙ ap (λ (byte : ℕ). lines (before_first is_feed text ++ byte ∷ after_first is_feed text)) feed
+    ∙ lines-append (before_first is_feed text) (after_first is_feed text) (lacks_before text))
     (λ (past : length text ≤ position_or_len is_feed text).
-        let whole : before_first is_feed text ≡ text = take_all (position_or_len is_feed text) text past in
-        let nothing : after_first is_feed text ≡ [] = drop_all (position_or_len is_feed text + 1) text (omega arith) in
-        lines-last text (subst LacksFeed whole (lacks_before text)) some
-        ∙ ap (λ (line : List ℕ). line ∷ []) (sym whole)
-        ∙ ap (λ (tail : List (List ℕ)). before_first is_feed text ∷ tail) (sym (ap lines nothing ∙ lines-nil)))
+    let whole : before_first is_feed text ≡ text = take_all (position_or_len is_feed text) text past in
+    let nothing : after_first is_feed text ≡ [] = drop_all (position_or_len is_feed text + 1) text (omega arith) in
+    lines-last text (subst LacksFeed whole (lacks_before text)) some
+    ∙ ap (λ (line : List ℕ). line ∷ []) (sym whole)
+    ∙ ap (λ (tail : List (List ℕ)). before_first is_feed text ∷ tail) (sym (ap lines nothing ∙ lines-nil)))
     (cases_lt (position_or_len is_feed text) (length text))
 
 -- the first line and the rest, by the place where the line ends

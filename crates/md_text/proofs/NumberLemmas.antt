@@ -119,9 +119,9 @@ value_above : (front : List ℕ) → 48 < get_or front 0 0 → decimal (value fr
 value_above front leads so_far = ⊎_elim
     (λ (above : 0 < value front). above)
     (λ (none : value front ≤ 0).
-        let is_zero : value front ≡ 0 = omega arith in
-        let head = ap (λ (digits : List ℕ). get_or digits 0 0) (sym so_far ∙ ap decimal is_zero ∙ decimal-zero) in
-        absurd (omega arith))
+    let is_zero : value front ≡ 0 = omega arith in
+    let head = ap (λ (digits : List ℕ). get_or digits 0 0) (sym so_far ∙ ap decimal is_zero ∙ decimal-zero) in
+    absurd (omega arith))
     (cases_lt 0 (value front))
 
 -- canonical digits with one digit more behind them
@@ -280,3 +280,7 @@ pushed_long old front next all n large is_front is_next is_all =
     let before = append_assoc (old ++ decimal (n / 10000)) (pair (n % 10000 / 100)) (pair (n % 100)) in
     let digits = decimal_four n large in
     cc
+
+-- the room that any `u64` needs
+pub decimal_fits_20 : (n : ℕ) → n < 2 ^ 64 → length (decimal n) ≤ 20
+decimal_fits_20 n small = length-decimal-le 20 n (omega arith) (omega arith)

@@ -6,7 +6,7 @@ use Rattle.md_text.proofs.NumberLemmas.{digit_bounds, value-nil, value_more, num
 use Rattle.md_text.proofs.digits.number.Goals as goal
 
 pub loop-byte-init : goal.loop-byte-init
-loop-byte-init c = record { digits = refl; so_far = sym value-nil; below = omega arith; }
+loop-byte-init c = record { digits = refl; so_far = sym value-nil; below = omega arith }
 
 pub overflow_mul-value : goal.overflow_mul-value
 overflow_mul-value c =
