@@ -1,21 +1,5 @@
 //! Cuts a text into lines, and a line into fields.
-ghost use Rattle.std.specs.Prelude.{
-  ◌≡◌,
-  ℕ,
-  ◌+◌,
-  ◌<◌,
-  ◌≤◌,
-  true,
-  false,
-  [],
-  ◌∷◌,
-  length,
-  take,
-  drop,
-  slice_index,
-  IfSome,
-  IfNone,
-};
+ghost use Rattle.std.specs.Prelude.{◌≡◌, ℕ, ◌+◌, ◌<◌, ◌≤◌, true, false, [], ◌∷◌, length, take, drop, slice_index, IfSome, IfNone};
 ghost use Rattle.std.specs.List.{before_first, after_first, position_or_len};
 ghost use Rattle.md_text.specs.Lines.{lines, is_feed, LacksFeed, without_return};
 ghost use Rattle.md_text.specs.Fields.{fields, is_blank, IsWord};

@@ -1,32 +1,6 @@
 //! What holds of lines, fields and numbers. Each function has an empty body, and its contract is the
 //! law: the statement stands in `specs/Laws.antt`.
-ghost use Rattle.md_text.specs.Laws.{
-  NoLines,
-  LineThenRest,
-  LastLine,
-  LinesOfEnded,
-  LinesOfEndedThenRest,
-  LinesAreTheCut,
-  ReturnTakenOff,
-  OtherEndStays,
-  LineWithoutReturnStays,
-  NoFields,
-  BlankThenFields,
-  LastField,
-  FieldThenRest,
-  FieldsOfJoined,
-  FieldsAreWords,
-  DecimalIsCanonical,
-  DecimalOfValue,
-  DecimalIsInjective,
-  NumberOfDecimal,
-  LengthOfDecimal,
-  DecimalIsWord,
-  DecimalIsDigits,
-  DecimalByDigits,
-  ValueByDigits,
-  DecimalIsDisplayed,
-};
+ghost use Rattle.md_text.specs.Laws.{NoLines, LineThenRest, LastLine, LinesOfEnded, LinesOfEndedThenRest, LinesAreTheCut, ReturnTakenOff, OtherEndStays, LineWithoutReturnStays, NoFields, BlankThenFields, LastField, FieldThenRest, FieldsOfJoined, FieldsAreWords, DecimalIsCanonical, DecimalOfValue, DecimalIsInjective, NumberOfDecimal, LengthOfDecimal, DecimalIsWord, DecimalIsDigits, DecimalByDigits, ValueByDigits, DecimalIsDisplayed};
 
 /// How a text is cut into lines, from the front.
 pub fn lines_by_front()
