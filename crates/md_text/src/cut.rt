@@ -139,7 +139,7 @@ fn is_end(line: &[u8], place: usize) -> bool
 fn is_space_or_tab(byte: u8) -> bool
     ensures { result ≡ is_blank byte }
 {
-    byte <= b' ' && (byte == b' ' || byte == b'\t')
+    byte == b' ' || byte == b'\t'
 }
 
 // The place of the first byte that is no blank, or the length where there is none.
