@@ -1,3 +1,5 @@
 pub mod Told
 pub mod Count
 pub mod Front
+pub mod Asked
+pub mod MemFiles

@@ -4,14 +4,22 @@
 //! contracts; a folder, standard output and standard error tell only their counts and the names asked for.
 #![tactic(auto)]
 
-ghost use Rattle.std.specs.Prelude.{◌≡◌, ◌⊎◌, ℕ, ◌+◌, ◌-◌, ◌^◌, ◌<◌, ◌≤◌, List, [], ◌∷◌, ◌++◌, Bool, Option, length, IsTrue, IsOk, IfOk, OnOk, IsErrOf};
+ghost use Rattle.std.specs.Prelude.{◌≡◌, ◌⊎◌, ℕ, ◌+◌, ◌-◌, ◌^◌, ◌<◌, ◌≤◌, List, [], ◌∷◌, ◌++◌, Bool, Option, Result, Vec, length, IsTrue, IsOk, IfOk, OnOk, IsErrOf};
 ghost use Rattle.std.specs.Io.KnownBytes.{Appends, Keeps};
+ghost use Rattle.std.specs.Global.{Global};
+ghost use Rattle.md_io.specs.declared.LoadFault.{LoadFault};
+ghost use Rattle.md_io.specs.declared.PutFault.{PutFault};
 ghost use Rattle.md_io.specs.Told.{Told, IsToldAs, IsToldLonger, IsToldFile};
 ghost use Rattle.md_io.specs.Count.{count_up, Rose, RoseBy};
 ghost use Rattle.md_io.specs.Front.{AppendsFront};
 
 use std::alloc::Global;
 use thiserror::Error;
+
+mod asked;
+mod memory;
+
+pub use memory::MemFiles;
 
 /// The most bytes of one file that the program takes. A load that takes more counts as an over.
 pub const LIMIT: u64 = 268_435_456;
@@ -63,6 +71,9 @@ pub trait Files {
     // No load of a file that is told can fail from here on.
     ghost sure: { Self → Bool };
 
+    // What else is known of a load at this type: before, the name, the limit, the answer, after.
+    ghost load_gives: { Self → List ℕ → ℕ → Result (Vec ℕ Global) LoadFault → Self → Type 0 } = { λ _ _ _ _ _. Unit {0} };
+
     /// Reads the whole file of a name, or refuses it where it has more than `limit` bytes.
     ///
     /// An absent file is a failure. Whatever the answer, what is told of the files stays as it was.
@@ -100,7 +111,8 @@ pub trait Files {
         ensures sure_faults { IsTrue (sure self.old) → IsToldFile (holds self.old name.now)
             → faults self.new ≡ faults self.old }
         ensures sure_stays { IsTrue (sure self.old) → IsToldFile (holds self.old name.now)
-            → IsTrue (sure self.new) };
+            → IsTrue (sure self.new) }
+        ensures gives { load_gives self.old name.now limit result self.new };
 
     // Where no load can fail, the count of faults can still rise.
     ghost sure_below: { (files : Self) → IsTrue (sure files) → faults files < 2 ^ 64 - 1 };
@@ -118,6 +130,9 @@ pub trait Sink {
 
     // How often the sink's own memory ran out.
     ghost wants: { Self → ℕ };
+
+    // What else is known of a put at this type: before, the piece, the answer, after.
+    ghost put_gives: { Self → List ℕ → Result (Unit {0}) PutFault → Self → Type 0 } = { λ _ _ _ _. Unit {0} };
 
     /// Takes a whole piece, or as much of it as goes before the device fails.
     ///
@@ -140,5 +155,6 @@ pub trait Sink {
         ensures wants_only { ¬ IsErrOf result PutFault.Memory → wants self.new ≡ wants self.old }
 
         ensures empty { length piece.now ≡ 0 → IsOk result
-            × (faults self.new ≡ faults self.old) × (wants self.new ≡ wants self.old) };
+            × (faults self.new ≡ faults self.old) × (wants self.new ≡ wants self.old) }
+        ensures gives { put_gives self.old piece.now result self.new };
 }
