@@ -18,3 +18,7 @@ sure-more faults loads now failing low e h =
 -- a load whose number is not among the failing ones, of a file that is there, does not fail
 pub neither-fails : {X : Type 0} (by_number : Bool) (found : Option X) (x : X) → by_number ≡ false → Some x ≡ found → (by_number || is_none found) ≡ true → ⊥
 neither-fails by_number found x quiet is fails = grind (arith, quiet, is, fails)
+
+-- a put whose number is not among the failing ones does not fail
+pub put-quiet : (some_byte by_number : Bool) → by_number ≡ false → (some_byte && by_number) ≡ true → ⊥
+put-quiet some_byte by_number quiet fails = grind (arith, quiet, fails)

@@ -19,7 +19,7 @@ use thiserror::Error;
 mod asked;
 mod memory;
 
-pub use memory::MemFiles;
+pub use memory::{MemFiles, MemSink, SafeSink};
 
 /// The most bytes of one file that the program takes. A load that takes more counts as an over.
 pub const LIMIT: u64 = 268_435_456;
