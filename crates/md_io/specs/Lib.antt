@@ -5,3 +5,5 @@ pub mod Asked
 pub mod MemFiles
 pub mod MemSink
 pub mod SafeSink
+pub mod DirFiles
+pub mod StdSink

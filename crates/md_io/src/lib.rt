@@ -18,8 +18,10 @@ use thiserror::Error;
 
 mod asked;
 mod memory;
+mod system;
 
 pub use memory::{MemFiles, MemSink, SafeSink};
+pub use system::{DirFiles, StdSink};
 
 /// The most bytes of one file that the program takes. A load that takes more counts as an over.
 pub const LIMIT: u64 = 268_435_456;
