@@ -10,4 +10,4 @@ use Rattle.md_io.specs.Count.{count_up}
 pub record IsSystemLoad (limit : ℕ) (answer : Result (Vec ℕ Global) LoadFault) (faults new_faults taken new_taken : ℕ) : Type 0 where
   pub fault : IsErrOf answer Failed → new_faults ≡ count_up faults 1
   pub no_fault : ¬ IsErrOf answer Failed → new_faults ≡ faults
-  pub stops : new_taken ≤ count_up taken (limit + 1)
+  pub stops : new_taken ≤ taken + (limit + 1)
