@@ -19,6 +19,8 @@ use thiserror::Error;
 mod asked;
 mod memory;
 mod system;
+#[cfg(test)]
+mod tests;
 
 pub use memory::{MemFiles, MemSink, SafeSink};
 pub use system::{DirFiles, StdSink};
