@@ -11,7 +11,7 @@ pub read_behind : (old grown buffer now pad : List ℕ) (filled room n : ℕ) �
 read_behind old grown buffer now pad filled room n long within grows front cut =
     let whole : take room old ≡ old = take_all room old (omega arith) in
     let kept : take filled grown ≡ old =
-        ap (take filled) (grows ∙ ap (λ xs. xs ++ pad) whole) ∙ take-append-le filled old pad (omega arith) ∙ take_all filled old (omega arith) in
+    ap (take filled) (grows ∙ ap (λ xs. xs ++ pad) whole) ∙ take-append-le filled old pad (omega arith) ∙ take_all filled old (omega arith) in
     let starts : take (length old) now ≡ old =
-        ap (λ k. take k now) (sym long) ∙ ap (take filled) cut ∙ take-take filled (filled + n) buffer (omega arith) ∙ front ∙ kept in
+    ap (λ k. take k now) (sym long) ∙ ap (take filled) cut ∙ take-take filled (filled + n) buffer (omega arith) ∙ front ∙ kept in
     (starts_with_rest now old starts, ap (λ k. drop k now) (sym long) ∙ ap (drop filled) cut ∙ drop-take filled n buffer)

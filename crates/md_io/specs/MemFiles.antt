@@ -1,5 +1,5 @@
 -- What files in memory are to a contract.
-use Rattle.std.specs.Prelude.{◌≡◌, ℕ, ◌+◌, ◌-◌, ◌^◌, List, map, Bool, ◌&&◌, ◌||◌, ◌==◌, nat_lt, Option, Some, None, is_none, Result, Vec, IsTrue, IsErrOf, IfOk, length, ◌≤◌, ◌⊎◌, ◌≢◌, not}
+use Rattle.std.specs.Prelude.{◌≡◌, ℕ, ◌+◌, ◌-◌, ◌^◌, List, Bool, ◌&&◌, ◌||◌, ◌==◌, nat_lt, Option, Some, None, is_none, Result, Vec, IsTrue, IsErrOf, ◌≤◌, ◌⊎◌, ◌≢◌}
 use Rattle.std.specs.Global.{Global}
 use Rattle.std.specs.Option.{option_map}
 use Rattle.std.specs.List.{list_any, list_all}
@@ -21,7 +21,8 @@ told_of (Some bytes) = file bytes
 abbrev pub stored : MemFiles → List ℕ → Told
 stored files name = told_of (option_map (λ bytes. bytes.items) (get_by_text files.files name))
 
--- the numbers of the loads that fail, counted from 1
+-- the numbers of the loads that fail, counted from 1.
+-- Source: faults planted by the number of a call.
 abbrev pub failing_loads : MemFiles → List ℕ
 failing_loads files = files.failing.items
 
@@ -38,7 +39,8 @@ abbrev pub no_load_fails : MemFiles → Bool
 no_load_fails files = nat_lt files.faults (2 ^ 64 - 1) && list_all (λ number. nat_lt number (load_count files + 1)) (failing_loads files)
 
 -- a load of files in memory: the failing loads fail, no other does, and want of memory goes before;
--- a file that is too long hands over one byte more than the limit
+-- a file that is too long hands over one byte more than the limit.
+-- Source: a reader finds out that a file is too long by the first byte past the limit.
 pub record IsMemLoad (old : MemFiles) (name : List ℕ) (limit : ℕ) (answer : Result (Vec ℕ Global) LoadFault) (new : MemFiles) : Type 0 where
   pub failed_only : IsErrOf answer Failed → IsTrue (next_load_fails old name)
   pub failed_always : IsTrue (next_load_fails old name) → IsErrOf answer Failed ⊎ IsErrOf answer Memory

@@ -6,7 +6,8 @@ use Rattle.md_io.specs.declared.PutFault.{PutFault}
 use Rattle.md_io.specs.declared.PutFault.TheVariants.{Failed, Memory}
 use Rattle.md_io.specs.Count.{count_up}
 
--- the numbers of the puts that fail, counted from 1; an empty piece is no put
+-- the numbers of the puts that fail, counted from 1; an empty piece is no put.
+-- Source: faults planted by the number of a call.
 abbrev pub failing_puts : MemSink → List ℕ
 failing_puts sink = sink.failing.items
 
@@ -23,7 +24,7 @@ abbrev pub next_put_fails : MemSink → List ℕ → Bool
 next_put_fails sink piece = not (length piece == 0) && list_any (λ number. number == put_count sink + 1) (failing_puts sink)
 
 -- a put to a sink in memory: the failing puts fail and take their part, no other put fails,
--- and want of memory goes before
+-- and want of memory goes before. Source: a device may take a part of a piece and then fail.
 pub record IsMemPut (old : MemSink) (piece : List ℕ) (answer : Result (Unit {0}) PutFault) (new : MemSink) : Type 0 where
   pub failed_only : IsErrOf answer Failed → IsTrue (next_put_fails old piece)
   pub failed_always : IsTrue (next_put_fails old piece) → IsErrOf answer Failed ⊎ IsErrOf answer Memory

@@ -1,7 +1,8 @@
 //! The outside of the program: where it loads files from, and where it puts its output.
 //!
-//! [`Files`] and [`Sink`] are all that the program knows of the outside. What is in memory tells its content to
-//! contracts; a folder, standard output and standard error tell only their counts and the names asked for.
+//! [`Files`] and [`Sink`] are all that the program knows of the outside. What is in memory tells its
+//! content to contracts; a folder, standard output and standard error tell only their counts and
+//! the names asked for.
 #![tactic(auto)]
 
 ghost use Rattle.std.specs.Prelude.{◌≡◌, ◌⊎◌, ℕ, ◌+◌, ◌-◌, ◌^◌, ◌<◌, ◌≤◌, List, [], ◌∷◌, ◌++◌, Bool, Option, Result, Vec, length, IsTrue, IsOk, IfOk, OnOk, IsErrOf};
@@ -25,7 +26,7 @@ mod tests;
 pub use memory::{MemFiles, MemSink, SafeSink};
 pub use system::{DirFiles, StdSink};
 
-/// The most bytes of one file that the program takes. A load that takes more counts as an over.
+/// The most bytes of one file that the program takes: 256 MiB.
 pub const LIMIT: u64 = 268_435_456;
 
 /// Why a load gave no bytes.
@@ -55,7 +56,8 @@ pub enum PutFault {
 
 /// Files by name.
 ///
-/// Every count stands still at the last value of a `u64`; there "rose" says that it rose or stands at that value.
+/// Every count stands still at the last value of a `u64`; there "rose" says that it rose or stands
+/// at that value.
 pub trait Files {
     // What is told of the file of each name.
     ghost holds: { Self → List ℕ → Told };
@@ -89,7 +91,8 @@ pub trait Files {
             (λ bytes. taken self.new ≡ count_up (taken self.old) (length bytes.items)) }
 
         // A fault comes only where its count rose.
-        ensures failed { IsErrOf result LoadFault.Failed → Rose (faults self.old) (faults self.new) }
+        ensures failed { IsErrOf result LoadFault.Failed
+            → Rose (faults self.old) (faults self.new) }
         ensures too_long { IsErrOf result LoadFault.TooLong
             → RoseBy (taken self.old) (taken self.new) (limit + 1) }
         ensures too_long_over { IsErrOf result LoadFault.TooLong
@@ -124,7 +127,8 @@ pub trait Files {
 
 /// Where output goes, piece by piece.
 ///
-/// Every count stands still at the last value of a `u64`; there "rose" says that it rose or stands at that value.
+/// Every count stands still at the last value of a `u64`; there "rose" says that it rose or stands
+/// at that value.
 pub trait Sink {
     // The bytes taken so far, where they are told.
     ghost holds: { Self → Option (List ℕ) };
@@ -150,13 +154,16 @@ pub trait Sink {
             → Keeps (holds self.old) (holds self.new) }
 
         // A fault comes only where its count rose.
-        ensures failed { IsErrOf result PutFault.Failed → Rose (faults self.old) (faults self.new) }
-        ensures memory { IsErrOf result PutFault.Memory → Rose (wants self.old) (wants self.new) }
+        ensures failed { IsErrOf result PutFault.Failed
+            → Rose (faults self.old) (faults self.new) }
+        ensures memory { IsErrOf result PutFault.Memory
+            → Rose (wants self.old) (wants self.new) }
 
         // The counts never fall, and `wants` counts nothing else.
         ensures faults_never_fall { faults self.old ≤ faults self.new }
         ensures wants_never_fall { wants self.old ≤ wants self.new }
-        ensures wants_only { ¬ IsErrOf result PutFault.Memory → wants self.new ≡ wants self.old }
+        ensures wants_only { ¬ IsErrOf result PutFault.Memory
+            → wants self.new ≡ wants self.old }
 
         ensures empty { length piece.now ≡ 0 → IsOk result
             × (faults self.new ≡ faults self.old) × (wants self.new ≡ wants self.old) }

@@ -38,7 +38,8 @@ fn next_fails(failing: &[u64], made: u64) -> bool
     }
 }
 
-// Copies a whole file, or refuses it where it has more bytes than the limit: it then hands over one byte more than that.
+// Copies a whole file, or refuses it where it has more bytes than the limit: it then hands over one
+// byte more than that.
 fn hand_over(
     alloc: Global,
     bytes: &[u8],
@@ -50,9 +51,12 @@ fn hand_over(
     ensures within { OnOk result (length bytes.now ≤ limit) }
     ensures ok_taken { OnOk result (taken.new ≡ count_up taken.old (length bytes.now)) }
     ensures too_long { IsErrOf result LoadFault.TooLong → limit < length bytes.now }
-    ensures too_long_taken { IsErrOf result LoadFault.TooLong → taken.new ≡ count_up taken.old (limit + 1) }
-    ensures over { IsErrOf result LoadFault.TooLong → LIMIT ≤ limit → overs.new ≡ count_up overs.old 1 }
-    ensures no_over { overs.old ≢ overs.new → IsErrOf result LoadFault.TooLong × (LIMIT ≤ limit) }
+    ensures too_long_taken { IsErrOf result LoadFault.TooLong
+        → taken.new ≡ count_up taken.old (limit + 1) }
+    ensures over { IsErrOf result LoadFault.TooLong
+        → LIMIT ≤ limit → overs.new ≡ count_up overs.old 1 }
+    ensures no_over { overs.old ≢ overs.new
+        → IsErrOf result LoadFault.TooLong × (LIMIT ≤ limit) }
     ensures memory { IsErrOf result LoadFault.Memory → taken.new ≡ taken.old }
     ensures not_failed { ¬ IsErrOf result LoadFault.Failed }
     ensures taken_never_falls { taken.old ≤ taken.new }
@@ -73,14 +77,16 @@ fn hand_over(
 impl MemFiles {
     /// No file yet. The loads whose numbers, counted from 1, stand in `failing` fail.
     pub fn new(alloc: Global, failing: Vec<u64>) -> MemFiles
-        ensures empty { (name : List ℕ) → ⟦<MemFiles as Files>⟧.holds result name ≡ absent }
+        ensures empty { (name : List ℕ)
+            → ⟦<MemFiles as Files>⟧.holds result name ≡ absent }
         ensures failing { failing_loads result ≡ failing.items }
         ensures loads { load_count result ≡ 0 }
         ensures faults { ⟦<MemFiles as Files>⟧.faults result ≡ 0 }
         ensures taken { ⟦<MemFiles as Files>⟧.taken result ≡ 0 }
         ensures overs { ⟦<MemFiles as Files>⟧.overs result ≡ 0 }
         ensures asked { ⟦<MemFiles as Files>⟧.asked result ≡ [] }
-        ensures sure { IsTrue (⟦<MemFiles as Files>⟧.sure result) ↔ All (λ number. number < 1) failing.items }
+        ensures sure { IsTrue (⟦<MemFiles as Files>⟧.sure result)
+            ↔ All (λ number. number < 1) failing.items }
     {
         MemFiles {
             alloc,
@@ -98,23 +104,32 @@ impl MemFiles {
     ///
     /// For want of memory the files stay as they were. No count and no name changes.
     pub fn add(&mut self, name: &str, bytes: &[u8]) -> Result<(), LoadFault>
-        ensures ok { OnOk result ((other : List ℕ) → ⟦<MemFiles as Files>⟧.holds self.new other
+        ensures ok { OnOk result ((other : List ℕ)
+            → ⟦<MemFiles as Files>⟧.holds self.new other
             ≡ (if bytes_eq name.now other then file bytes.now
             else ⟦<MemFiles as Files>⟧.holds self.old other)) }
-        ensures err { OnErr result ((other : List ℕ) → ⟦<MemFiles as Files>⟧.holds self.new other
+        ensures err { OnErr result ((other : List ℕ)
+            → ⟦<MemFiles as Files>⟧.holds self.new other
             ≡ ⟦<MemFiles as Files>⟧.holds self.old other) }
         ensures only_memory { IsOkUnless result LoadFault.Memory }
         ensures failing { failing_loads self.new ≡ failing_loads self.old }
         ensures loads { load_count self.new ≡ load_count self.old }
-        ensures faults { ⟦<MemFiles as Files>⟧.faults self.new ≡ ⟦<MemFiles as Files>⟧.faults self.old }
-        ensures taken { ⟦<MemFiles as Files>⟧.taken self.new ≡ ⟦<MemFiles as Files>⟧.taken self.old }
-        ensures overs { ⟦<MemFiles as Files>⟧.overs self.new ≡ ⟦<MemFiles as Files>⟧.overs self.old }
-        ensures asked { ⟦<MemFiles as Files>⟧.asked self.new ≡ ⟦<MemFiles as Files>⟧.asked self.old }
-        ensures sure { ⟦<MemFiles as Files>⟧.sure self.new ≡ ⟦<MemFiles as Files>⟧.sure self.old }
+        ensures faults { ⟦<MemFiles as Files>⟧.faults self.new
+            ≡ ⟦<MemFiles as Files>⟧.faults self.old }
+        ensures taken { ⟦<MemFiles as Files>⟧.taken self.new
+            ≡ ⟦<MemFiles as Files>⟧.taken self.old }
+        ensures overs { ⟦<MemFiles as Files>⟧.overs self.new
+            ≡ ⟦<MemFiles as Files>⟧.overs self.old }
+        ensures asked { ⟦<MemFiles as Files>⟧.asked self.new
+            ≡ ⟦<MemFiles as Files>⟧.asked self.old }
+        ensures sure { ⟦<MemFiles as Files>⟧.sure self.new
+            ≡ ⟦<MemFiles as Files>⟧.sure self.old }
     {
         let key = String::from_str(self.alloc, name).map_err(|_| LoadFault::Memory)?;
         let value = Vec::from_slice(self.alloc, bytes).map_err(|_| LoadFault::Memory)?;
-        self.files.insert(key, value).map_err(|_| LoadFault::Memory)?;
+        self.files
+            .insert(key, value)
+            .map_err(|_| LoadFault::Memory)?;
         Ok(())
     }
 }
@@ -150,7 +165,13 @@ impl Files for MemFiles {
             self.faults = self.faults.saturating_add(1);
             return Err(LoadFault::Failed);
         };
-        hand_over(alloc, bytes.as_slice(), limit, &mut self.taken, &mut self.overs)
+        hand_over(
+            alloc,
+            bytes.as_slice(),
+            limit,
+            &mut self.taken,
+            &mut self.overs,
+        )
     }
 }
 
@@ -193,12 +214,16 @@ fn front(piece: &[u8], most: u64) -> &[u8]
     ensures { result.now ≡ take most piece.now }
 {
     let most = most as usize;
-    if most < piece.len() { &piece[..most] } else { piece }
+    if most < piece.len() {
+        &piece[..most]
+    } else {
+        piece
+    }
 }
 
 impl MemSink {
-    /// An empty sink. The puts whose numbers, counted from 1, stand in `failing` fail, and take at most the first
-    /// `part` bytes of their piece. An empty piece counts as no put.
+    /// An empty sink. The puts whose numbers, counted from 1, stand in `failing` fail, and take at
+    /// most the first `part` bytes of their piece. An empty piece counts as no put.
     pub fn new(alloc: Global, failing: Vec<u64>, part: u64) -> MemSink
         ensures holds { ⟦<MemSink as Sink>⟧.holds result ≡ Some [] }
         ensures faults { ⟦<MemSink as Sink>⟧.faults result ≡ 0 }

@@ -12,9 +12,8 @@ ghost use Rattle.md_io.specs.StdSink.{IsWriterPut};
 use crate::asked::note;
 use crate::{Files, LIMIT, LoadFault, PutFault, Sink};
 use std::alloc::Global;
-use std::fs;
 use std::io::{ErrorKind, Read, Write};
-use std::rt;
+use std::{fs, rt};
 
 // The most bytes of one read.
 const LONGEST_READ: usize = 128 * 1024;
@@ -44,8 +43,10 @@ pub struct StdSink<W> {
 // One read, tried again where a signal interrupts it; none where it fails.
 fn read_once<T: Read>(reader: &mut T, buffer: &mut [u8]) -> Option<usize>
     ensures within { IfSome result (λ n. n ≤ length buffer.new) }
-    ensures some { IfSome result (λ n. Consumes (T.remaining reader.old) (T.remaining reader.new) (take n buffer.new)) }
-    ensures end { IfSome result (λ n. n ≡ 0 → 0 < length buffer.old → IsAtEnd (T.remaining reader.new)) }
+    ensures some { IfSome result (λ n.
+        Consumes (T.remaining reader.old) (T.remaining reader.new) (take n buffer.new)) }
+    ensures end { IfSome result (λ n.
+        n ≡ 0 → 0 < length buffer.old → IsAtEnd (T.remaining reader.new)) }
     ensures none { IfNone result (Keeps (T.remaining reader.old) (T.remaining reader.new)) }
 {
     for _ in 0..u64::MAX {
@@ -66,28 +67,33 @@ fn read_at<T: Read>(reader: &mut T, buffer: &mut [u8], at: usize) -> Option<usiz
     requires { at < length buffer.old }
     ensures front { take at buffer.new ≡ take at buffer.old }
     ensures within { IfSome result (λ n. at + n ≤ length buffer.new) }
-    ensures some { IfSome result (λ n. Consumes (T.remaining reader.old) (T.remaining reader.new) (take n (drop at buffer.new))) }
+    ensures some { IfSome result (λ n.
+        Consumes (T.remaining reader.old) (T.remaining reader.new) (take n (drop at buffer.new))) }
     ensures end { IfSome result (λ n. n ≡ 0 → IsAtEnd (T.remaining reader.new)) }
     ensures none { IfNone result (Keeps (T.remaining reader.old) (T.remaining reader.new)) }
 {
     read_once(reader, &mut buffer[at..])
 }
 
-// Appends the bytes of one read, and at most one byte more than the limit in all. Room is made first, so that
-// want of memory loses no byte.
+// Appends the bytes of one read, and at most one byte more than the limit in all. Room is made
+// first, so that want of memory loses no byte.
 fn read_piece<T: Read>(reader: &mut T, bytes: &mut Vec<u8>, limit: u64) -> Result<usize, LoadFault>
     requires { length bytes.old.items ≤ limit }
-    ensures grows { bytes.new.items ≡ bytes.old.items ++ appended_bytes bytes.old.items bytes.new.items }
+    ensures grows { bytes.new.items
+        ≡ bytes.old.items ++ appended_bytes bytes.old.items bytes.new.items }
     ensures count { IfOk result (λ n. length bytes.new.items ≡ length bytes.old.items + n) }
     ensures err { OnErr result (bytes.new.items ≡ bytes.old.items) }
     ensures most { length bytes.new.items ≤ limit + 1 }
-    ensures taken { Consumes (T.remaining reader.old) (T.remaining reader.new) (appended_bytes bytes.old.items bytes.new.items) }
+    ensures taken { Consumes (T.remaining reader.old) (T.remaining reader.new)
+        (appended_bytes bytes.old.items bytes.new.items) }
     ensures end { IfOk result (λ n. n ≡ 0 → IsAtEnd (T.remaining reader.new)) }
     ensures not_too_long { ¬ IsErrOf result LoadFault.TooLong }
 {
     let filled = bytes.len();
     let room = LONGEST_READ.min((limit - filled as u64).saturating_add(1) as usize);
-    bytes.resize(filled + room, 0).map_err(|_| LoadFault::Memory)?;
+    bytes
+        .resize(filled + room, 0)
+        .map_err(|_| LoadFault::Memory)?;
     match read_at(reader, bytes.as_mut_slice(), filled) {
         Some(n) => {
             bytes.truncate(filled + n);
@@ -149,7 +155,8 @@ impl<'a, R: rt::Files> Files for DirFiles<'a, R> {
 
     ghost sure = { λ _. false };
 
-    ghost load_gives = { λ old _ limit answer new. IsSystemLoad limit answer old.faults new.faults old.taken new.taken };
+    ghost load_gives = { λ old _ limit answer new.
+        IsSystemLoad limit answer old.faults new.faults old.taken new.taken };
 
     ghost use Rattle.std.proofs.Common.{arith};
 
@@ -185,7 +192,8 @@ impl<'a, R: rt::Files> Files for DirFiles<'a, R> {
 fn write_once<W: Write>(writer: &mut W, piece: &[u8]) -> Option<usize>
     ensures within { IfSome result (λ n. n ≤ length piece.now) }
     ensures progress { IfSome result (λ n. 0 < n) }
-    ensures some { IfSome result (λ n. Appends (W.contents writer.old) (W.contents writer.new) (take n piece.now)) }
+    ensures some { IfSome result (λ n.
+        Appends (W.contents writer.old) (W.contents writer.new) (take n piece.now)) }
     ensures none { IfNone result (Keeps (W.contents writer.old) (W.contents writer.new)) }
 {
     for _ in 0..u64::MAX {
@@ -204,7 +212,8 @@ fn write_once<W: Write>(writer: &mut W, piece: &[u8]) -> Option<usize>
 
 // Writes a whole piece, and says whether it was written.
 fn write_whole<W: Write>(writer: &mut W, piece: &[u8]) -> bool
-    ensures whole { IsTrue result → Appends (W.contents writer.old) (W.contents writer.new) piece.now }
+    ensures whole { IsTrue result
+        → Appends (W.contents writer.old) (W.contents writer.new) piece.now }
     ensures front { AppendsFront (W.contents writer.old) (W.contents writer.new) piece.now }
     ensures empty { length piece.now ≡ 0 → IsTrue result }
 {

@@ -60,7 +60,11 @@ fn puts_to_memory(rt: HostRuntime) -> Result<(), Fail> {
     let alloc = rt.alloc();
     let mut sink = MemSink::new(alloc, vec![in alloc; 1, 3]?, 2);
     assert!(rt; sink.put(b"").is_ok());
-    let table = [("abc", false, "ab"), ("cd", true, "abcd"), ("e", false, "abcde")];
+    let table = [
+        ("abc", false, "ab"),
+        ("cd", true, "abcd"),
+        ("e", false, "abcde"),
+    ];
     for (piece, taken, want) in table {
         assert_eq!(rt; sink.put(piece.as_bytes()).is_ok(), taken, "{piece}");
         assert_eq!(rt; sink.bytes(), want.as_bytes(), "{piece}");

@@ -1,8 +1,7 @@
 -- Every number of the list is a `u64`, and the next call's is none.
-use Rattle.std.proofs.Common.{◌≡◌, ◌<◌, ◌^◌, ◌==◌, ◌+◌, All, List, ℕ, Bool, true, false, ltb, nat_lt, sym, arith}
+use Rattle.std.proofs.Common.{◌<◌, ◌+◌, All, sym, arith}
 use Rattle.std.proofs.lemmas.List.Elements.{All-from_get_or}
-use Rattle.std.specs.List.{list_any, list_all}
-use Rattle.md_io.proofs.Numbers.{list_any-past, below-All, list_all-below}
+use Rattle.md_io.proofs.Numbers.{list_any-past, below-All}
 use Rattle.md_io.proofs.memory.next_fails.Goals as goal
 
 pub returns-in-None : goal.returns-in-None

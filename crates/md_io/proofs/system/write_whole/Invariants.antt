@@ -1,6 +1,5 @@
 -- What was written and what is left are the piece.
 use Rattle.std.proofs.Common.{◌≡◌, List, ℕ, ◌++◌, length}
-use Rattle.md_io.specs.Front.{AppendsFront}
 use Rattle.std.specs.Io.KnownBytes.{Appends}
 use Rattle.md_io.proofs.system.write_whole.Given as goal
 

@@ -1,4 +1,3 @@
-use Rattle.std.proofs.Common.{rules, arith}
 use Rattle.md_io.proofs.Numbers.{All-below, below-All}
 use Rattle.md_io.proofs.memory.MemFiles.new.Goals as goal
 
