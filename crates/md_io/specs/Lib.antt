@@ -1,3 +1,9 @@
 pub mod Told
 pub mod Count
 pub mod Front
+pub mod Asked
+pub mod MemFiles
+pub mod MemSink
+pub mod SafeSink
+pub mod DirFiles
+pub mod StdSink

@@ -1,11 +1,15 @@
 //! The outside of the program: where it loads files from, and where it puts its output.
 //!
-//! [`Files`] and [`Sink`] are all that the program knows of the outside. What is in memory tells its content to
-//! contracts; a folder, standard output and standard error tell only their counts and the names asked for.
+//! [`Files`] and [`Sink`] are all that the program knows of the outside. What is in memory tells its
+//! content to contracts; a folder, standard output and standard error tell only their counts and
+//! the names asked for.
 #![tactic(auto)]
 
-ghost use Rattle.std.specs.Prelude.{◌≡◌, ◌⊎◌, ℕ, ◌+◌, ◌-◌, ◌^◌, ◌<◌, ◌≤◌, List, [], ◌∷◌, ◌++◌, Bool, Option, length, IsTrue, IsOk, IfOk, OnOk, IsErrOf};
+ghost use Rattle.std.specs.Prelude.{◌≡◌, ◌⊎◌, ℕ, ◌+◌, ◌-◌, ◌^◌, ◌<◌, ◌≤◌, List, [], ◌∷◌, ◌++◌, Bool, Option, Result, Vec, length, IsTrue, IsOk, IfOk, OnOk, IsErrOf};
 ghost use Rattle.std.specs.Io.KnownBytes.{Appends, Keeps};
+ghost use Rattle.std.specs.Global.{Global};
+ghost use Rattle.md_io.specs.declared.LoadFault.{LoadFault};
+ghost use Rattle.md_io.specs.declared.PutFault.{PutFault};
 ghost use Rattle.md_io.specs.Told.{Told, IsToldAs, IsToldLonger, IsToldFile};
 ghost use Rattle.md_io.specs.Count.{count_up, Rose, RoseBy};
 ghost use Rattle.md_io.specs.Front.{AppendsFront};
@@ -13,7 +17,16 @@ ghost use Rattle.md_io.specs.Front.{AppendsFront};
 use std::alloc::Global;
 use thiserror::Error;
 
-/// The most bytes of one file that the program takes. A load that takes more counts as an over.
+mod asked;
+mod memory;
+mod system;
+#[cfg(test)]
+mod tests;
+
+pub use memory::{MemFiles, MemSink, SafeSink};
+pub use system::{DirFiles, StdSink};
+
+/// The most bytes of one file that the program takes: 256 MiB.
 pub const LIMIT: u64 = 268_435_456;
 
 /// Why a load gave no bytes.
@@ -43,7 +56,8 @@ pub enum PutFault {
 
 /// Files by name.
 ///
-/// Every count stands still at the last value of a `u64`; there "rose" says that it rose or stands at that value.
+/// Every count stands still at the last value of a `u64`; there "rose" says that it rose or stands
+/// at that value.
 pub trait Files {
     // What is told of the file of each name.
     ghost holds: { Self → List ℕ → Told };
@@ -63,6 +77,9 @@ pub trait Files {
     // No load of a file that is told can fail from here on.
     ghost sure: { Self → Bool };
 
+    // What else is known of a load at this type: before, the name, the limit, the answer, after.
+    ghost load_gives: { Self → List ℕ → ℕ → Result (Vec ℕ Global) LoadFault → Self → Type 0 } = { λ _ _ _ _ _. Unit {0} };
+
     /// Reads the whole file of a name, or refuses it where it has more than `limit` bytes.
     ///
     /// An absent file is a failure. Whatever the answer, what is told of the files stays as it was.
@@ -74,7 +91,8 @@ pub trait Files {
             (λ bytes. taken self.new ≡ count_up (taken self.old) (length bytes.items)) }
 
         // A fault comes only where its count rose.
-        ensures failed { IsErrOf result LoadFault.Failed → Rose (faults self.old) (faults self.new) }
+        ensures failed { IsErrOf result LoadFault.Failed
+            → Rose (faults self.old) (faults self.new) }
         ensures too_long { IsErrOf result LoadFault.TooLong
             → RoseBy (taken self.old) (taken self.new) (limit + 1) }
         ensures too_long_over { IsErrOf result LoadFault.TooLong
@@ -100,7 +118,8 @@ pub trait Files {
         ensures sure_faults { IsTrue (sure self.old) → IsToldFile (holds self.old name.now)
             → faults self.new ≡ faults self.old }
         ensures sure_stays { IsTrue (sure self.old) → IsToldFile (holds self.old name.now)
-            → IsTrue (sure self.new) };
+            → IsTrue (sure self.new) }
+        ensures gives { load_gives self.old name.now limit result self.new };
 
     // Where no load can fail, the count of faults can still rise.
     ghost sure_below: { (files : Self) → IsTrue (sure files) → faults files < 2 ^ 64 - 1 };
@@ -108,7 +127,8 @@ pub trait Files {
 
 /// Where output goes, piece by piece.
 ///
-/// Every count stands still at the last value of a `u64`; there "rose" says that it rose or stands at that value.
+/// Every count stands still at the last value of a `u64`; there "rose" says that it rose or stands
+/// at that value.
 pub trait Sink {
     // The bytes taken so far, where they are told.
     ghost holds: { Self → Option (List ℕ) };
@@ -118,6 +138,9 @@ pub trait Sink {
 
     // How often the sink's own memory ran out.
     ghost wants: { Self → ℕ };
+
+    // What else is known of a put at this type: before, the piece, the answer, after.
+    ghost put_gives: { Self → List ℕ → Result (Unit {0}) PutFault → Self → Type 0 } = { λ _ _ _ _. Unit {0} };
 
     /// Takes a whole piece, or as much of it as goes before the device fails.
     ///
@@ -131,14 +154,18 @@ pub trait Sink {
             → Keeps (holds self.old) (holds self.new) }
 
         // A fault comes only where its count rose.
-        ensures failed { IsErrOf result PutFault.Failed → Rose (faults self.old) (faults self.new) }
-        ensures memory { IsErrOf result PutFault.Memory → Rose (wants self.old) (wants self.new) }
+        ensures failed { IsErrOf result PutFault.Failed
+            → Rose (faults self.old) (faults self.new) }
+        ensures memory { IsErrOf result PutFault.Memory
+            → Rose (wants self.old) (wants self.new) }
 
         // The counts never fall, and `wants` counts nothing else.
         ensures faults_never_fall { faults self.old ≤ faults self.new }
         ensures wants_never_fall { wants self.old ≤ wants self.new }
-        ensures wants_only { ¬ IsErrOf result PutFault.Memory → wants self.new ≡ wants self.old }
+        ensures wants_only { ¬ IsErrOf result PutFault.Memory
+            → wants self.new ≡ wants self.old }
 
         ensures empty { length piece.now ≡ 0 → IsOk result
-            × (faults self.new ≡ faults self.old) × (wants self.new ≡ wants self.old) };
+            × (faults self.new ≡ faults self.old) × (wants self.new ≡ wants self.old) }
+        ensures gives { put_gives self.old piece.now result self.new };
 }

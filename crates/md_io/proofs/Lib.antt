@@ -1,0 +1,4 @@
+pub mod Numbers
+pub mod Sure
+pub mod Reading
+pub mod Writing
