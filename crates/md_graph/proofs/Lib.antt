@@ -1,0 +1,4 @@
+pub mod BitWords
+pub mod Limits
+pub mod NameLemmas
+pub mod SetLaws
