@@ -1,7 +1,7 @@
 -- Facts of graphs that callers may cite.
 use Rattle.std.specs.Prelude.{◌≡◌, ℕ, zero, suc, ◌+◌, ◌<◌, ◌≤◌, ◌≢◌, ◌⊎◌, min, max, Bool, true, false, cond, not, ◌&&◌, ◌||◌, ◌==◌, nat_lt, nat_le, IsTrue, List, [], ◌∷◌, ◌++◌, map, length, get_or, refl}
 use Rattle.std.proofs.Common.{subst, ap, sym, ◌∙◌, arith, inl, inr}
-use Rattle.std.proofs.lemmas.Bool.{true≢false, or_right, cases_Bool, cases_lt, cases_order, and_parts, or_cases, ltb-true, eqb-true, false_from_ne_true}
+use Rattle.std.proofs.lemmas.Bool.{true≢false, or_right, cases_Bool, cases_lt, cases_order, and_parts, or_cases, le-leb, ltb-true, eqb-true, false_from_ne_true}
 use Rattle.std.proofs.lemmas.Bool.Decides.{nat_tests}
 use Rattle.std.proofs.lemmas.List.{map-append, append-nil}
 use Rattle.std.specs.FinSet as set
@@ -191,13 +191,6 @@ edge_has u v s differ mu mv =
       | inr (inr down) ↦ let low : v ≡ min u v = omega arith in let high : u ≡ max u v = omega arith in (omega arith, subst (Member s) low mv, subst (Member s) high mu)
     ]
 
-pub IsGraph-with_edge : {g : PlainGraph} → IsGraph g → (u v : ℕ) → Member g.vertices u → Member g.vertices v → u ≢ v → IsGraph (with_edge g u v)
-IsGraph-with_edge {g} is u v mu mv differ =
-    IsGraph_by is.names (λ a b h. elim (or_cases _ _ (sym (pairs-insert g.edges (min u v) (max u v) a b) ∙ h)) [
-      | inl same ↦ edge_is a b u v g.vertices same (edge_has u v g.vertices differ mu mv)
-      | inr old ↦ graph_ends is a b old
-    ])
-
 -- what holds of the parts of an edge holds of an equal pair
 edge_is : (a b u v : ℕ) (s : NameSet) → ((a == min u v) && (b == max u v)) ≡ true → (min u v < max u v) × Member s (min u v) × Member s (max u v) → (a < b) × Member s a × Member s b
 edge_is a b u v s same has =
@@ -206,26 +199,120 @@ edge_is a b u v s same has =
     let high = eqb-true b (max u v) parts.1 in
     (omega arith, subst (Member s) (sym low) has.1, subst (Member s) (sym high) has.2)
 
+pub IsGraph-with_edge : {g : PlainGraph} → IsGraph g → (u v : ℕ) → Member g.vertices u → Member g.vertices v → u ≢ v → IsGraph (with_edge g u v)
+IsGraph-with_edge {g} is u v mu mv differ =
+    IsGraph_by is.names (λ a b h. elim (or_cases _ _ (sym (pairs-insert g.edges (min u v) (max u v) a b) ∙ h)) [
+      | inl same ↦ edge_is a b u v g.vertices same (edge_has u v g.vertices differ mu mv)
+      | inr old ↦ graph_ends is a b old
+    ])
+
 pub adjacent-with_edge : (g : PlainGraph) (u v a b : ℕ) → adjacent (with_edge g u v) a b ≡ ((((a == u) && (b == v)) || ((a == v) && (b == u))) || adjacent g a b)
 unfolding adjacent
 adjacent-with_edge g u v a b =
     pairs-insert g.edges (min u v) (max u v) (min a b) (max a b) ∙ ap (λ t. t || set.contains g.edges (edge a b)) (same_edge a b u v)
 
--- the pairs of a star
-contains-star : (v : ℕ) (s : NameSet) (n a b : ℕ) → set.contains (star v (ascending_between s 0 n)) (min a b, max a b) ≡ (((a == v) && (nat_lt b n && set.contains s b)) || ((b == v) && (nat_lt a n && set.contains s a)))
-unfolding ascending_between
-contains-star v s zero a b = rw (pairs-empty (min a b) (max a b)) (grind (arith, nat_tests))
-contains-star v s (suc n) a b =
-    elim (cases_Bool (set.contains s n)) [
-      | inl t ↦ rw (t, star_push v (ascending_between s 0 n) n, pairs-insert (star v (ascending_between s 0 n)) (min v n) (max v n) (min a b) (max a b), contains-star v s n a b, same_edge a b v n) ?
-      | inr f ↦ rw (f, append-nil (ascending_between s 0 n), contains-star v s n a b) ?
-    ]
+-- ---- stars
 
 star_push : (v : ℕ) (others : List ℕ) (n : ℕ) → star v (others ++ n ∷ []) ≡ set.insert (star v others) (edge v n)
 star_push v others n =
     ap set.from_list (map-append (edge v) others (n ∷ [])) ∙ pairs-from_list_push (map (edge v) others) (edge v n)
 
+-- the members below n + 1, where n is one and where it isn't
+below_suc : (s : NameSet) (n b : ℕ) → set.contains s n ≡ true → (nat_lt b (suc n) && set.contains s b) ≡ ((b == n) || (nat_lt b n && set.contains s b))
+below_suc s n b t =
+    elim (cases_order b n) [
+      | inl same ↦ rw same (grind (arith, nat_tests))
+      | inr other ↦ grind (arith, nat_tests)
+    ]
+
+below_same : (s : NameSet) (n b : ℕ) → set.contains s n ≡ false → (nat_lt b (suc n) && set.contains s b) ≡ (nat_lt b n && set.contains s b)
+below_same s n b f =
+    elim (cases_order b n) [
+      | inl same ↦ rw same (grind (arith, nat_tests))
+      | inr other ↦ grind (arith, nat_tests)
+    ]
+
+join_arms : (p q r w x y : Bool) → (((p && q) || (r && w)) || ((p && x) || (w && y))) ≡ ((p && (q || x)) || (w && (r || y)))
+join_arms p q r w x y = grind arith
+
+zero_le : (n : ℕ) → nat_le 0 n ≡ true
+zero_le n = le-leb 0 n (omega arith)
+
+-- the edges of a star
+contains-star : (v : ℕ) (s : NameSet) (n a b : ℕ) → set.contains (star v (ascending_between s 0 n)) (min a b, max a b) ≡ (((a == v) && (nat_lt b n && set.contains s b)) || ((b == v) && (nat_lt a n && set.contains s a)))
+unfolding ascending_between
+contains-star v s zero a b = rw (pairs-empty (min a b) (max a b)) (grind (arith, nat_tests))
+contains-star v s (suc n) a b =
+    elim (cases_Bool (set.contains s n)) [
+      | inl t ↦
+        rw (zero_le n, t, star_push v (ascending_between s 0 n) n, pairs-insert (star v (ascending_between s 0 n)) (min v n) (max v n) (min a b) (max a b), contains-star v s n a b, same_edge a b v n, below_suc s n a t, below_suc s n b t)
+        (join_arms (a == v) (b == n) (a == n) (b == v) _ _)
+      | inr f ↦
+        rw (zero_le n, f, append-nil (ascending_between s 0 n), contains-star v s n a b, below_same s n a f, below_same s n b f) refl
+    ]
+
+below_all : (s : NameSet) (n b : ℕ) → ((w : ℕ) → Member s w → w < n) → (nat_lt b n && set.contains s b) ≡ set.contains s b
+below_all s n b below =
+    elim (cases_Bool (set.contains s b)) [
+      | inl t ↦ let h = below b t in grind (arith, nat_tests)
+      | inr f ↦ grind (arith, nat_tests)
+    ]
+
 pub adjacent-with_edges : (g : PlainGraph) (v : ℕ) (others : NameSet) → ((w : ℕ) → Member others w → w < NAMES) → (a b : ℕ) → adjacent (with_edges g v others) a b ≡ ((((a == v) && set.contains others b) || ((b == v) && set.contains others a)) || adjacent g a b)
 unfolding adjacent
 adjacent-with_edges g v others below a b =
-    pairs-union g.edges (star v (ascending others)) (min a b) (max a b) ∙ ?
+    rw (pairs-union g.edges (star v (ascending others)) (min a b) (max a b), contains-star v others NAMES a b, below_all others NAMES a below, below_all others NAMES b below)
+    (grind arith)
+
+-- an edge of a star runs to a member
+star_parts : (v : ℕ) (s : NameSet) (n a b : ℕ) → set.contains (star v (ascending_between s 0 n)) (a, b) ≡ true → (w : ℕ) × Member s w × (((a == min v w) && (b == max v w)) ≡ true)
+unfolding ascending_between
+star_parts v s zero a b h = absurd (true≢false (sym h ∙ pairs-empty a b))
+star_parts v s (suc n) a b h =
+    elim (cases_Bool (set.contains s n)) [
+      | inl t ↦
+        let k = rw (zero_le n, t, star_push v (ascending_between s 0 n) n, pairs-insert (star v (ascending_between s 0 n)) (min v n) (max v n) a b) at h in
+        elim (or_cases _ _ k) [
+          | inl same ↦ (n, t, same)
+          | inr before ↦ star_parts v s n a b before
+        ]
+      | inr f ↦ star_parts v s n a b (rw (zero_le n, f, append-nil (ascending_between s 0 n)) at h)
+    ]
+
+pub IsGraph-with_edges : {g : PlainGraph} → IsGraph g → (v : ℕ) (others : NameSet) → Member g.vertices v → ((w : ℕ) → Member others w → Member g.vertices w) → set.contains others v ≡ false → IsGraph (with_edges g v others)
+IsGraph-with_edges {g} is v others mv members differ =
+    IsGraph_by is.names (λ a b h. elim (or_cases _ _ (sym (pairs-union g.edges (star v (ascending others)) a b) ∙ h)) [
+      | inl old ↦ graph_ends is a b old
+      | inr new ↦
+        let (w, mw, same) = star_parts v others NAMES a b new in
+        edge_is a b v w g.vertices same (edge_has v w g.vertices (λ e. true≢false (sym mw ∙ ap (set.contains others) (sym e) ∙ differ)) mv (members w mw))
+    ])
+
+-- ---- the complement, induced graphs, and removals
+
+pub adjacent-complement : {g : PlainGraph} → IsGraph g → (u v : ℕ) → adjacent (complement g) u v ≡ ((set.contains g.vertices u && set.contains g.vertices v) && (not (u == v) && not (adjacent g u v)))
+adjacent-complement {g} is u v = ?
+
+pub IsGraph-complement : {g : PlainGraph} → IsGraph g → IsGraph (complement g)
+IsGraph-complement {g} is = ?
+
+pub adjacent-induced : (g : PlainGraph) (s : NameSet) (u v : ℕ) → adjacent (induced g s) u v ≡ (adjacent g u v && (set.contains s u && set.contains s v))
+adjacent-induced g s u v = ?
+
+pub IsGraph-induced : {g : PlainGraph} → IsGraph g → (s : NameSet) → IsGraph (induced g s)
+IsGraph-induced {g} is s = ?
+
+pub adjacent-without_vertex : (g : PlainGraph) (v a b : ℕ) → adjacent (without_vertex g v) a b ≡ (adjacent g a b && (not (a == v) && not (b == v)))
+adjacent-without_vertex g v a b = ?
+
+pub IsGraph-without_vertex : {g : PlainGraph} → IsGraph g → (v : ℕ) → IsGraph (without_vertex g v)
+IsGraph-without_vertex {g} is v = ?
+
+pub adjacent-without_edge : (g : PlainGraph) (u v a b : ℕ) → adjacent (without_edge g u v) a b ≡ (not (((a == u) && (b == v)) || ((a == v) && (b == u))) && adjacent g a b)
+unfolding adjacent
+adjacent-without_edge g u v a b =
+    pairs-remove g.edges (min u v) (max u v) (min a b) (max a b) ∙ ap (λ t. not t && set.contains g.edges (edge a b)) (same_edge a b u v)
+
+pub IsGraph-without_edge : {g : PlainGraph} → IsGraph g → (u v : ℕ) → IsGraph (without_edge g u v)
+IsGraph-without_edge {g} is u v =
+    IsGraph_by is.names (λ a b h. graph_ends is a b (and_parts _ _ (sym (pairs-remove g.edges (min u v) (max u v) a b) ∙ h)).1)
