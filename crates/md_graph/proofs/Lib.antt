@@ -3,4 +3,5 @@ pub mod GraphLemmas
 pub mod Limits
 pub mod NameLemmas
 pub mod PairLaws
+pub mod RowLemmas
 pub mod SetLaws
