@@ -290,7 +290,8 @@ fn count_bits(words: &[u64; WORDS], used: usize) -> u32
 /// Whether the first `used` words are 0.
 fn are_all_zero(words: &[u64; WORDS], used: usize) -> bool
     requires { used ≤ WORDS }
-    ensures { IsTrue result ↔ ((k : ℕ) → k < used → slice_index words.now k ≡ 0) }
+    ensures zeros { IsTrue result ↔ ((k : ℕ) → k < used → slice_index words.now k ≡ 0) }
+    ensures fits { (k : ℕ) → slice_index words.now k < 2 ^ 64 }
 {
     for i in 0..used {
         if words[i] != 0 {

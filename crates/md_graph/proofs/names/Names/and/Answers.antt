@@ -1,8 +1,10 @@
-use Rattle.std.proofs.Common.{rules, ◌≡◌, ℕ, slice_index, bit_and, bit_or, ◌+◌, ◌*◌, ◌/◌, ◌%◌, ◌^◌, ◌<◌, ◌≤◌, ◌↔◌, IsTrue, IsNone, IfSome, IfNone, ◌==◌, ◌-◌, length, Bool, true, false, nat_eq, nat_lt, List, [], ◌∷◌, ◌++◌, get_or, Fits, w8, w32, w64, Bor, MutBor, set}
-use Rattle.std.specs.Int.{bit_at, bit_not}
-use Rattle.md_graph.specs.NameSet.{Member, IsLeastFrom, NoneFrom, AllBelow, ascending, ascending_from, block}
-use Rattle.md_graph.specs.Words.{IsWithout, names_below}
+use Rattle.std.proofs.Common.{◌∙◌, ap₂}
+use Rattle.std.specs.FinSet as set
+use Rattle.md_graph.specs.declared.TheConstants.{NAMES}
+use Rattle.md_graph.proofs.BitWords.{intersection_of_words}
 use Rattle.md_graph.proofs.names.Names.and.Goals as goal
 
 pub returns : goal.returns
-returns c = ?
+returns c =
+    intersection_of_words c.self.inside.words c.other.inside.words c.both.result NAMES _ _ _ c.self.invariant.1 c.other.invariant.1 c.min-used.ensures c.both.ensures.first c.both.ensures.rest
+    ∙ ap₂ set.intersection c.self.view_is c.other.view_is

@@ -1,8 +1,11 @@
-use Rattle.std.proofs.Common.{rules, ◌≡◌, ℕ, slice_index, bit_and, bit_or, ◌+◌, ◌*◌, ◌/◌, ◌%◌, ◌^◌, ◌<◌, ◌≤◌, ◌↔◌, IsTrue, IsNone, IfSome, IfNone, ◌==◌, ◌-◌, length, Bool, true, false, nat_eq, nat_lt, List, [], ◌∷◌, ◌++◌, get_or, Fits, w8, w32, w64, Bor, MutBor, set}
-use Rattle.std.specs.Int.{bit_at, bit_not}
-use Rattle.md_graph.specs.NameSet.{Member, IsLeastFrom, NoneFrom, AllBelow, ascending, ascending_from, block}
-use Rattle.md_graph.specs.Words.{IsWithout, names_below}
+use Rattle.std.proofs.Common.{◌∙◌, ap, rules, arith}
+use Rattle.std.specs.FinSet as set
+use Rattle.md_graph.specs.declared.TheConstants.{NAMES, WORDS}
+use Rattle.md_graph.proofs.Limits.{NAMES-is}
+use Rattle.md_graph.proofs.BitWords.{insert_name}
 use Rattle.md_graph.proofs.names.Names.insert.Goals as goal
 
 pub returns : goal.returns
-returns c = ?
+returns c =
+    insert_name c.self.inside.words NAMES c.args.v c.requires (search rules)
+    ∙ ap (λ s. set.insert s c.args.v) c.self.view_is
