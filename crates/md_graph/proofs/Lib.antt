@@ -1,5 +1,6 @@
 pub mod BitWords
 pub mod Counting
+pub mod EachRow
 pub mod GraphLemmas
 pub mod Limits
 pub mod NameLemmas
