@@ -1,14 +1,18 @@
 -- What writes to the rows of a graph make of it, one lemma for each method of `Graph`.
-use Rattle.std.specs.Prelude.{◌≡◌, ℕ, ◌+◌, ◌<◌, ◌≤◌, ◌≢◌, ◌⊎◌, Bool, true, false, cond, not, ◌&&◌, ◌||◌, ◌==◌, IsTrue, List, [], ◌∷◌, ◌++◌, length, get_or, replicate, refl, if◌then◌else◌}
-use Rattle.std.proofs.Common.{subst, ap, sym, ◌∙◌, arith, inl, inr, set}
+use Rattle.std.specs.Prelude.{◌≡◌, ℕ, ◌+◌, ◌*◌, ◌/◌, ◌^◌, ◌<◌, ◌≤◌, ◌≢◌, ◌⊎◌, Bool, true, false, cond, not, ◌&&◌, ◌||◌, ◌==◌, IsTrue, List, [], ◌∷◌, ◌++◌, length, get_or, replicate, sum_by, refl, if◌then◌else◌}
+use Rattle.std.proofs.Common.{subst, ap, sym, ◌∙◌, arith, inl, inr, set, mul-le-mul}
 use Rattle.std.proofs.lemmas.Bool.{true≢false, cases_Bool, cases_lt, cases_eq, eq-eqb, ne_eqb, false_from_ne_true}
 use Rattle.std.proofs.lemmas.Bool.Decides.{nat_tests}
 use Rattle.std.proofs.lemmas.List.{get_or_read, get_or_past, get_or-replicate, get_or-set_same, get_or-set_other, length-replicate, length-set}
+use Rattle.std.proofs.lemmas.List.Sums.{sum_by-cons}
 use Rattle.std.specs.FinSet as set
 use Rattle.md_graph.specs.declared.TheConstants.{NAMES}
-use Rattle.md_graph.specs.NameSet.{NameSet, Member}
+use Rattle.md_graph.specs.NameSet.{NameSet, Member, AllBelow, ascending}
 use Rattle.md_graph.specs.PlainGraph.{PlainGraph, IsGraph, adjacent, neighbours, empty_graph, with_vertex, with_edge, with_edges}
-use Rattle.md_graph.specs.Rows.{row_of, graph_of, AreRows}
+use Rattle.md_graph.specs.Rows.{row_of, edges_of, graph_of, AreRows}
+use Rattle.md_graph.proofs.Counting.{rows_twice, rows_le}
+use Rattle.md_graph.proofs.EachRow.{Lists, Lists-ascending, Lists-head, Lists-rest}
+use Rattle.md_graph.proofs.Limits.{NAMES-lt}
 use Rattle.md_graph.proofs.SetLaws.{contains-empty, contains-insert}
 use Rattle.md_graph.proofs.GraphLemmas.{rows_of_graph, IsGraph-graph_of, adjacent-graph_of, neighbours-graph_of, adjacent_ends, IsGraph-empty_graph, adjacent-empty_graph, IsGraph-with_vertex, adjacent-with_vertex, IsGraph-with_edge, adjacent-with_edge}
 
@@ -85,3 +89,57 @@ rows_add_edge {live} {rows} {g} a e u v mu mv differ {new_u} {old_u} {new_v} {ol
     let law = λ (x y : ℕ). twice_set a u v (is.names u mu) (is.names v mv) differ new_u old_u new_v old_v is_u read_u is_v read_v x y ∙ ap (λ t. (((x == u) && (y == v)) || ((x == v) && (y == u))) || t) (sym (adjacent-graph_of a x y) ∙ ap (λ h. adjacent h x y) e) ∙ sym (adjacent-with_edge g u v x y) in
     let n : length (set (set rows u new_u) v new_v) ≡ NAMES = length-set (set rows u new_u) v new_v ∙ length-set rows u new_u ∙ a.one_each in
     rows_of_graph (IsGraph-with_edge is u v mu mv differ) (ap (λ h. h.vertices) e) n law
+
+-- ---- the number of edges
+
+-- the sum of the lengths of the rows of the listed names
+abbrev pub ends_of : List NameSet → List ℕ → ℕ
+ends_of rows xs = sum_by (λ v. set.len (row_of rows v)) xs
+
+both_live : {live : NameSet} {rows : List NameSet} → AreRows live rows → (u v : ℕ) → Member (row_of rows u) v → Member live u × Member live v
+both_live a u v h = (a.inside v u (a.both_ways v u ∙ h), a.inside u v h)
+
+-- over all vertices it is twice the number of edges
+ends_of-all : {live : NameSet} {rows : List NameSet} → AreRows live rows → ends_of rows (ascending live) ≡ 2 * set.len (edges_of rows)
+unfolding edges_of
+ends_of-all {live} {rows} a = rows_twice live (row_of rows) NAMES (both_live a) a.names a.both_ways a.no_loop
+
+square_lt : (n : ℕ) → n < 2 ^ 16 → n * n < 2 ^ 32
+square_lt n h =
+    let top : n ≤ 65535 = omega arith in let le : n * n ≤ 65535 * 65535 = mul-le-mul top top in omega arith
+
+ends_of-lt : {live : NameSet} {rows : List NameSet} → AreRows live rows → ends_of rows (ascending live) < 2 ^ 32
+ends_of-lt {live} {rows} a =
+    let le = rows_le live (row_of rows) NAMES (both_live a) a.names in
+    let fit = square_lt NAMES NAMES-lt in
+    omega arith
+
+-- the ends are counted but for those at the listed names
+pub record Counted (live : NameSet) (rows : List NameSet) (ends : ℕ) (xs : List ℕ) : Type 0 where
+  pub left : Lists live xs
+  pub counted : ends + ends_of rows xs ≡ ends_of rows (ascending live)
+
+pub Counted-start : {live : NameSet} {rows : List NameSet} {xs : List ℕ} → xs ≡ ascending live → AllBelow live NAMES → Counted live rows 0 xs
+Counted-start {live} {rows} {xs} e below = record {
+  left = Lists-ascending xs e below;
+  counted = let same = ap (ends_of rows) e in omega arith;
+}
+
+pub Counted-more : {live : NameSet} {rows : List NameSet} {ends : ℕ} {xs : List ℕ} → AreRows live rows → Counted live rows ends xs → (x : ℕ) (rest : List ℕ) → xs ≡ x ∷ rest → (row : NameSet) → row ≡ get_or rows x row → (k : ℕ) → k ≡ set.len row → Counted live rows (ends + k) rest
+Counted-more {live} {rows} {ends} {xs} a before x rest e row read k is =
+    let one = is ∙ ap set.len (row_read a x (a.names x (Lists-head before.left x rest e)) row read) in
+    let split = ap (ends_of rows) e ∙ sum_by-cons (λ v. set.len (row_of rows v)) x rest in
+    record {
+      left = Lists-rest before.left x rest e;
+      counted = omega (arith, before.counted);
+    }
+
+pub Counted-fits : {live : NameSet} {rows : List NameSet} {ends : ℕ} {xs : List ℕ} → AreRows live rows → Counted live rows ends xs → ends < 2 ^ 32
+Counted-fits a before = let fit = ends_of-lt a in omega (arith, before.counted)
+
+pub Counted-end : {live : NameSet} {rows : List NameSet} {g : PlainGraph} {ends : ℕ} {xs : List ℕ} → AreRows live rows → graph_of live rows ≡ g → Counted live rows ends xs → xs ≡ [] → ends / 2 ≡ set.len g.edges
+Counted-end {live} {rows} {g} a e before none =
+    let all = ends_of-all a in
+    let last = ap (ends_of rows) none in
+    let edges = ap (λ h. set.len h.edges) e in
+    omega (arith, before.counted)
