@@ -276,8 +276,9 @@ fn first_alone(first: &[u64; WORDS], second: &[u64; WORDS], used: usize) -> [u64
 }
 
 /// How many bits of the first `used` words are 1.
-fn count_bits(words: &[u64; WORDS], used: usize) -> u32
-    requires { used ≤ WORDS }
+fn count_bits(words: &[u64], used: usize) -> u32
+    requires few { used ≤ WORDS }
+    requires used { used ≤ length words.now }
     ensures { result ≡ set.len (names_below words.now (64 * used)) }
 {
     let mut count = 0;
@@ -288,10 +289,10 @@ fn count_bits(words: &[u64; WORDS], used: usize) -> u32
 }
 
 /// Whether the first `used` words are 0.
-fn are_all_zero(words: &[u64; WORDS], used: usize) -> bool
-    requires { used ≤ WORDS }
-    ensures zeros { IsTrue result ↔ ((k : ℕ) → k < used → slice_index words.now k ≡ 0) }
-    ensures fits { (k : ℕ) → slice_index words.now k < 2 ^ 64 }
+fn are_all_zero(words: &[u64], used: usize) -> bool
+    requires { used ≤ length words.now }
+    ensures { IsTrue result
+        ↔ ((k i : ℕ) → k < used → i < 64 → bit_at (slice_index words.now k) i ≡ 0) }
 {
     for i in 0..used {
         if words[i] != 0 {
