@@ -1,4 +1,5 @@
 pub mod BitWords
 pub mod Limits
+pub mod MemberLists
 pub mod NameLemmas
 pub mod SetLaws
