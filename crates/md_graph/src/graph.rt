@@ -70,7 +70,7 @@ impl Graph {
         requires { Member self.now.vertices v }
         ensures { result ≡ set.len (neighbours self.now v) }
     {
-        self.row(v).count()
+        self.rows[v as usize].count()
     }
 
     /// The number of vertices.
