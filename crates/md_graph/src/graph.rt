@@ -250,10 +250,11 @@ impl Graph {
         requires { v < NAMES }
         ensures { result ≡ neighbours (induced self.now names.now) v }
     {
+        let row = &self.rows[v as usize];
         if !names.has(v) {
             return Names::none();
         }
-        self.rows[v as usize].and(names)
+        row.and(names)
     }
 }
 

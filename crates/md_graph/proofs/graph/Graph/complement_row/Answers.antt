@@ -1,14 +1,11 @@
-use Rattle.std.proofs.Common.{rules, ◌≡◌, ℕ, ◌<◌, ◌≢◌, true, false, IfOk, IfSome, IfNone, length, if◌then◌else◌, ◌+◌, ◌-◌, ◌*◌, ◌≤◌, ◌/◌, ◌%◌, Bool, nat_eq, nat_lt, List, [], ◌∷◌, ◌++◌, slice_index_or, bit_and, bit_or, Fits, w8, w32, w64, Bor, MutBor}
-use Rattle.std.specs.FinSet as set
-use Rattle.md_graph.specs.NameSet.{Member, IsLeastFrom, NoneFrom}
-use Rattle.md_graph.specs.PlainGraph.{adjacent, neighbours, IsGraph, empty_graph, with_vertex, with_edge, with_edges, complement, induced, without_vertex, without_edge}
-use Rattle.md_graph.specs.Rows.{row_of}
+use Rattle.std.proofs.Common.{◌∙◌, sym}
+use Rattle.md_graph.proofs.RowLemmas.{complement_dead, complement_row_is}
 use Rattle.md_graph.proofs.graph.Graph.complement_row.Goals as goal
 
--- src/graph.rt:241:13
 pub returns-then-not-has : goal.returns-then-not-has
-returns-then-not-has c = ?
+returns-then-not-has c =
+    complement_dead c.self.invariant c.self.view_is c.args.v (sym c.has.ensures ∙ c.if-not-has.true) c.none.ensures
 
--- src/graph.rt:236:5
 pub returns : goal.returns
-returns c = ?
+returns c =
+    complement_row_is c.self.invariant c.self.view_is c.args.v c.requires (sym c.has.ensures ∙ c.if-not-has.false) _ c.index.ensures _ c.minus-others.ensures _ c.remove.ensures
