@@ -6,6 +6,7 @@ use Rattle.std.proofs.lemmas.Nat.{shr_split}
 use Rattle.std.proofs.lemmas.Nat.Bits.{bit_at-lt, bit_at-zero, bit_at_and, bit_at-trailing_zeros, same_from_bits_below, bit_at-suc, bit_at_lowest, bit_at_cat_low, bit_at_cat_high}
 use Rattle.md_graph.specs.NameSet.{NameSet, AllBelow, ascending_between}
 use Rattle.md_graph.specs.Words.{bit_of, names_below, bits_between, names_of_words, members_left}
+use Rattle.md_graph.proofs.NameLemmas.{not_both, ascending_none}
 use Rattle.md_graph.proofs.BitWords.{InUse, contains-names_below, zero_has_no_bits}
 use Rattle.std.specs.FinSet as set
 
@@ -133,9 +134,6 @@ high_bits w place k fits =
         bit_at_cat_low (w / 2 ^ place) place 0 k below ∙ bit_at-zero k
     ] refl
 
-not_both : (low n : ℕ) (b : Bool) → (low ≤ n → b ≡ false) → (nat_le low n && b) ≡ false
-not_both low n b none = grind (arith, nat_tests)
-
 low_name : (low v x y : ℕ) (b : Bool) → low ≤ v → b ≡ (x == 1) → x ≡ y → (y == 1) ≡ (nat_le low v && b)
 low_name low v x y b l is same = grind (arith, nat_tests)
 
@@ -163,14 +161,6 @@ member_below : (v n : ℕ) (b : Bool) → (ltb v n && b) ≡ true → v < n
 member_below v n b h = grind (arith, nat_tests)
 
 -- ---- the members in a range, ascending
-
-pub ascending_none : (s : NameSet) (low n : ℕ) → ((v : ℕ) → low ≤ v → v < n → set.contains s v ≡ false) → ascending_between s low n ≡ []
-unfolding ascending_between
-ascending_none s low zero none = refl
-ascending_none s low (suc n) none =
-    let before = ascending_none s low n (λ v l h. none v l (omega arith)) in
-    let absent : (nat_le low n && set.contains s n) ≡ false = not_both low n _ (λ l. none n l (omega arith)) in
-    rw (before, absent) refl
 
 pub ascending_more : (s : NameSet) (low m d : ℕ) → ((v : ℕ) → m ≤ v → v < m + d → set.contains s v ≡ false) → ascending_between s low (m + d) ≡ ascending_between s low m
 unfolding ascending_between
