@@ -153,20 +153,19 @@ pub record IsTurn (s : NameSet) (low n x : ℕ) (rest : List ℕ) : Type 0 where
   pub item : IsFirstItem s low n x
   pub left : rest ≡ ascending_between s (x + 1) n
 
--- One turn of a walk over the members: `left` of the members from low on, x is the next and `rest` is then left. In a
--- `for x in names.members()` the invariant is that `l.x-iterator ≡ ascending_from s low` for some low below which all is done;
--- `gave` is the turn's `.is`, and `steps` its `next.ensures.steps`.
-pub walk_turn : (s : NameSet) (low n x : ℕ) (left rest : List ℕ) (r : Option ℕ) → left ≡ ascending_between s low n → r ≡ Some x → MatchOption r ((left ≡ []) × (rest ≡ [])) (λ y. left ≡ y ∷ rest) → IsTurn s low n x rest
-walk_turn s low n x left rest r is gave steps =
-    let first : left ≡ x ∷ rest = subst (λ o. MatchOption o ((left ≡ []) × (rest ≡ [])) (λ y. left ≡ y ∷ rest)) gave steps in
-    let item : IsFirstItem s low n x = subst (BeginsWith s low n) (sym is ∙ first) (ascending_begins s low n) in
-    record { item = item; left = same_rest x rest (ascending_between s (x + 1) n) (sym first ∙ is ∙ ascending_step s low n x item) }
+-- One turn of a walk over the members. In a `for x in names.members()` the invariant is that, for some number low,
+-- `l.x-iterator ≡ ascending_from s low`, and that all is done for the members below low: low is 0 at first, and x + 1 after a
+-- turn. `steps` is `c.in-Some.ensures.steps`, and at the end `c.in-None.ensures.steps`.
+pub walk_turn : (s : NameSet) (low n x : ℕ) (left rest : List ℕ) → left ≡ ascending_between s low n → left ≡ x ∷ rest → IsTurn s low n x rest
+walk_turn s low n x left rest is steps =
+    let item : IsFirstItem s low n x = subst (BeginsWith s low n) (sym is ∙ steps) (ascending_begins s low n) in
+    record { item = item; left = same_rest x rest (ascending_between s (x + 1) n) (sym steps ∙ is ∙ ascending_step s low n x item) }
 
--- the end of a walk: no member is left
-pub walk_end : (s : NameSet) (low n : ℕ) (left rest : List ℕ) (r : Option ℕ) → left ≡ ascending_between s low n → r ≡ None → MatchOption r ((left ≡ []) × (rest ≡ [])) (λ y. left ≡ y ∷ rest) → (w : ℕ) → Member s w → low ≤ w → w < n → ⊥
-walk_end s low n left rest r is gave steps =
-    let none : (left ≡ []) × (rest ≡ []) = subst (λ o. MatchOption o ((left ≡ []) × (rest ≡ [])) (λ y. left ≡ y ∷ rest)) gave steps in
-    subst (BeginsWith s low n) (sym is ∙ none.0) (ascending_begins s low n)
+-- at the end of a walk all members are below low
+pub walk_end : (s : NameSet) (low n : ℕ) (left rest : List ℕ) → AllBelow s n → left ≡ ascending_between s low n → (left ≡ []) × (rest ≡ []) → (w : ℕ) → Member s w → w < low
+walk_end s low n left rest below is steps w m =
+    let none = subst (BeginsWith s low n) (sym is ∙ steps.0) (ascending_begins s low n) in
+    under low w (λ l. none w m l (below w m))
 
 -- what is done for the members below low is done for those below x + 1
 pub walk_more : (s : NameSet) (low n x : ℕ) (Done : ℕ → Type 0) → IsFirstItem s low n x → ((w : ℕ) → Member s w → w < low → Done w) → Done x → (w : ℕ) → Member s w → w < x + 1 → Done w
