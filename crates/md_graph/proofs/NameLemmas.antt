@@ -45,8 +45,8 @@ begins_step : (s : NameSet) (low n : ℕ) (xs : List ℕ) → BeginsWith s low n
 begins_step s low n [] none =
     elim (test s low n) as (λ b. test s low n ≡ b → BeginsWith s low (suc n) (if b then n ∷ [] else [])) [
       | true ↦ λ e.
-        let last = last_of s low n e in
-        record { member = last.0; above = last.1; below = omega arith; first = λ w m l _. least_here s low n w (none w m l) }
+          let last = last_of s low n e in
+          record { member = last.0; above = last.1; below = omega arith; first = λ w m l _. least_here s low n w (none w m l) }
       | false ↦ λ e w m l below. none w m l (not_last s low n w e m l below)
     ] refl
 begins_step s low n (x ∷ xs) is = record {
@@ -254,10 +254,10 @@ ascending_appears s low (suc n) w m l h =
     bool_cases _ (ltb w n)
     (λ e. Contains-append_left _ _ _ (ascending_appears s low n w m l (ltb-true _ _ e)))
     (λ e.
-      let past = ltb-false _ _ e in
-      let same : n ≡ w = omega arith in
-      let here : test s low n ≡ true = has_last s low n w m l same in
-      rw here (contains_last (ascending_between s low n) n w same))
+    let past = ltb-false _ _ e in
+    let same : n ≡ w = omega arith in
+    let here : test s low n ≡ true = has_last s low n w m l same in
+    rw here (contains_last (ascending_between s low n) n w same))
 
 -- the members below n
 abbrev under_bound : NameSet → ℕ → NameSet
@@ -285,12 +285,12 @@ length_under s (suc n) =
     let absent : set.contains (under_bound s n) n ≡ false = contains-retain s (λ v. ltb v n) n ∙ not_itself n _ in
     bool_cases _ (set.contains s n)
     (λ m.
-      let here : test s 0 n ≡ true = rw m (low_enough n) in
-      let size = len-insert (under_bound s n) n in
-      rw (under_with s n m, here, size, absent, length-append, before) refl)
+    let here : test s 0 n ≡ true = rw m (low_enough n) in
+    let size = len-insert (under_bound s n) n in
+    rw (under_with s n m, here, size, absent, length-append, before) refl)
     (λ m.
-      let here : test s 0 n ≡ false = rw m (no_last n) in
-      rw (under_without s n m, here, append-nil, before) refl)
+    let here : test s 0 n ≡ false = rw m (no_last n) in
+    rw (under_without s n m, here, append-nil, before) refl)
 
 -- the length is the number of members
 pub length-ascending : (s : NameSet) (n : ℕ) → AllBelow s n → length (ascending_between s 0 n) ≡ set.len s
@@ -317,12 +317,12 @@ set_of_list s (suc n) =
     let before = set_of_list s n in
     bool_cases _ (set.contains s n)
     (λ m.
-      let here : test s 0 n ≡ true = rw m (low_enough n) in
-      let push = set.from_list_push nat_cmp_total nat_cmp-IsAntisymmetric (ascending_between s 0 n) n in
-      rw (under_with s n m, here, push, before) refl)
+    let here : test s 0 n ≡ true = rw m (low_enough n) in
+    let push = set.from_list_push nat_cmp_total nat_cmp-IsAntisymmetric (ascending_between s 0 n) n in
+    rw (under_with s n m, here, push, before) refl)
     (λ m.
-      let here : test s 0 n ≡ false = rw m (no_last n) in
-      rw (under_without s n m, here, append-nil, before) refl)
+    let here : test s 0 n ≡ false = rw m (no_last n) in
+    rw (under_without s n m, here, append-nil, before) refl)
 
 -- the set of the list is the set
 pub from_list-ascending : (s : NameSet) (n : ℕ) → AllBelow s n → set.from_list (ascending_between s 0 n) ≡ s
