@@ -189,9 +189,9 @@ impl Names {
         requires aligned { first % 64 ≡ 0 }
         ensures { self.new ≡ set.union self.old (block first bits) }
     {
-        let word = first as usize / 64;
-        self.words[word] |= bits;
-        self.used = self.used.max(word + 1);
+        let block = first as usize / 64;
+        self.words[block] |= bits;
+        self.used = self.used.max(block + 1);
     }
 
     /// Which of the names `first + k`, k below 64, are members: bit k of the answer is 1 exactly for these.
