@@ -11,7 +11,7 @@ use Rattle.std.specs.FinSet.{nat_cmp-IsAntisymmetric}
 use Rattle.md_graph.specs.declared.TheConstants.{NAMES}
 use Rattle.md_graph.specs.NameSet.{NameSet, Member, AllBelow, ascending, ascending_between}
 use Rattle.md_graph.specs.Rows.{row_of}
-use Rattle.md_graph.proofs.SetLaws.{contains-empty, contains-insert, contains-remove, same_set}
+use Rattle.md_graph.proofs.SetLaws.{contains-empty, contains-insert, contains-remove, contains-difference, same_set}
 use Rattle.md_graph.proofs.GraphLemmas.{zero_le, below_suc, below_same, below_all}
 
 -- ---- the members of a set, listed
@@ -85,3 +85,9 @@ insert_twice v s = same_set _ _ (λ q. rw (contains-insert (set.insert s v) v q,
 
 pub remove_twice : (v : ℕ) (s : NameSet) → set.remove (set.remove s v) v ≡ set.remove s v
 remove_twice v s = same_set _ _ (λ q. rw (contains-remove (set.remove s v) v q, contains-remove s v q) (grind arith))
+
+-- what is a member of a, where a without b is empty, is a member of b
+pub member_from_difference : (a b rest : NameSet) → rest ≡ set.difference a b → rest ≡ set.empty → (u : ℕ) → Member a u → Member b u
+member_from_difference a b rest is none u m =
+    let out : (set.contains a u && not (set.contains b u)) ≡ false = sym (contains-difference a b u) ∙ ap (λ s. set.contains s u) (sym is ∙ none) ∙ contains-empty u in
+    grind arith
