@@ -70,7 +70,8 @@ impl Graph {
         requires { Member self.now.vertices v }
         ensures { result ≡ set.len (neighbours self.now v) }
     {
-        self.rows[v as usize].count()
+        let row = &self.rows[v as usize];
+        row.count()
     }
 
     /// The number of vertices.
