@@ -12,15 +12,6 @@ use Rattle.std.specs.FinSet as set
 
 -- ---- the bits of one word
 
--- bits that are equal below n give the same names
-pub same_bits : (first a b n : ℕ) → ((k : ℕ) → k < n → bit_at a k ≡ bit_at b k) → bits_between first a n ≡ bits_between first b n
-unfolding bits_between
-same_bits first a b zero same = refl
-same_bits first a b (suc n) same =
-    let here = same n (omega arith) in
-    let before = same_bits first a b n (λ k h. same k (omega arith)) in
-    rw (before, here) refl
-
 pub no_bits : (first a n : ℕ) → ((k : ℕ) → k < n → bit_at a k ≡ 0) → bits_between first a n ≡ []
 unfolding bits_between
 no_bits first a zero none = refl
