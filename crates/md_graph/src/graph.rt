@@ -1,8 +1,9 @@
 //! Undirected graphs without loops and parallel edges.
-ghost use Rattle.std.specs.Prelude.{◌≡◌, ℕ, ◌<◌, ◌≢◌, false, IfOk, IfSome, IfNone};
+ghost use Rattle.std.specs.Prelude.{◌≡◌, ℕ, ◌<◌, ◌≢◌, true, false, IfOk, IfSome, IfNone, length, if◌then◌else◌};
 ghost use Rattle.std.specs.FinSet as set;
 ghost use Rattle.md_graph.specs.NameSet.{Member, IsLeastFrom, NoneFrom};
-ghost use Rattle.md_graph.specs.PlainGraph.{adjacent, neighbours, IsGraph, empty_graph, with_vertex, with_edge, with_edges};
+ghost use Rattle.md_graph.specs.PlainGraph.{adjacent, neighbours, IsGraph, empty_graph, with_vertex, with_edge, with_edges, complement, induced, without_vertex, without_edge};
+ghost use Rattle.md_graph.specs.Rows.{row_of};
 
 use std::alloc::Global;
 use std::marker::Model;
@@ -24,10 +25,9 @@ impl Model for Graph {
 
     ghost coded = { graph_code };
 
-    ghost use Rattle.std.specs.Prelude.{length};
-    ghost use Rattle.md_graph.specs.Rows.{edges_below, AreRows};
+    ghost use Rattle.md_graph.specs.Rows.{graph_of, AreRows};
 
-    ghost view = { λ g. record { vertices = g.live; edges = edges_below g.rows.items (length g.rows.items) } };
+    ghost view = { λ g. graph_of g.live g.rows.items };
 
     ghost invariant = { λ g. AreRows g.live g.rows.items };
 }
@@ -70,7 +70,8 @@ impl Graph {
         requires { Member self.now.vertices v }
         ensures { result ≡ set.len (neighbours self.now v) }
     {
-        self.row(v).count()
+        let row = &self.rows[v as usize];
+        row.count()
     }
 
     /// The number of vertices.
@@ -147,18 +148,251 @@ impl Graph {
         ensures { self.new ≡ with_edges self.old v others.now }
     {
         self.rows[v as usize].take_in(others);
-        for u in others.members() {
-            self.rows[u as usize].insert(v);
-        }
+        insert_in_rows(&mut self.rows, others, v);
+    }
+
+    /// Leaves out the vertex `v` and the edges at it. Condition: it is a vertex.
+    pub fn remove_vertex(&mut self, v: u32)
+        requires { Member self.old.vertices v }
+        ensures { self.new ≡ without_vertex self.old v }
+    {
+        let others = self.rows[v as usize].copy();
+        remove_from_rows(&mut self.rows, &others, v);
+        self.rows[v as usize].clear();
+        self.live.remove(v);
+    }
+
+    /// Leaves out the edge between `u` and `v`. Condition: it is there.
+    pub fn remove_edge(&mut self, u: u32, v: u32)
+        requires { adjacent self.old u v ≡ true }
+        ensures { self.new ≡ without_edge self.old u v }
+    {
+        self.rows[u as usize].remove(v);
+        self.rows[v as usize].remove(u);
     }
 
     /// All vertices and edges go. It passes over the rows of the vertices alone.
     pub fn clear(&mut self)
         ensures { self.new ≡ empty_graph }
     {
-        for v in self.live.members() {
-            self.rows[v as usize].clear();
-        }
+        clear_rows(&mut self.rows, &self.live);
         self.live.clear();
+    }
+
+    /// An equal graph.
+    pub fn copy(&self, alloc: Global) -> Result<Graph, Memory>
+        ensures { IfOk result (λ g. g ≡ self.now) }
+    {
+        let Ok(mut rows) = Vec::with_capacity(alloc, NAMES as usize) else {
+            return Err(Memory);
+        };
+        for v in 0..NAMES {
+            if rows.push(self.rows[v as usize].copy()).is_err() {
+                return Err(Memory);
+            }
+        }
+        Ok(Graph {
+            live: self.live.copy(),
+            rows,
+        })
+    }
+
+    /// The complement: the same vertices, and an edge between two of them where this graph has none.
+    pub fn complement(&self, alloc: Global) -> Result<Graph, Memory>
+        ensures { IfOk result (λ g. g ≡ complement self.now) }
+    {
+        let Ok(mut rows) = Vec::with_capacity(alloc, NAMES as usize) else {
+            return Err(Memory);
+        };
+        for v in 0..NAMES {
+            if rows.push(self.complement_row(v)).is_err() {
+                return Err(Memory);
+            }
+        }
+        Ok(Graph {
+            live: self.live.copy(),
+            rows,
+        })
+    }
+
+    /// The graph that this graph induces on `names`: the vertices among them, and the edges between these.
+    pub fn induced(&self, alloc: Global, names: &Names) -> Result<Graph, Memory>
+        ensures { IfOk result (λ g. g ≡ induced self.now names.now) }
+    {
+        let Ok(mut rows) = Vec::with_capacity(alloc, NAMES as usize) else {
+            return Err(Memory);
+        };
+        for v in 0..NAMES {
+            if rows.push(self.induced_row(v, names)).is_err() {
+                return Err(Memory);
+            }
+        }
+        Ok(Graph {
+            live: self.live.and(names),
+            rows,
+        })
+    }
+
+    // The row of `v` in the complement.
+    fn complement_row(&self, v: u32) -> Names
+        requires { v < NAMES }
+        ensures { result ≡ neighbours (complement self.now) v }
+    {
+        if !self.live.has(v) {
+            return Names::none();
+        }
+        let mut others = self.live.minus(&self.rows[v as usize]);
+        others.remove(v);
+        others
+    }
+
+    // The row of `v` in the graph that this graph induces on `names`.
+    fn induced_row(&self, v: u32, names: &Names) -> Names
+        requires { v < NAMES }
+        ensures { result ≡ neighbours (induced self.now names.now) v }
+    {
+        let row = &self.rows[v as usize];
+        if !names.has(v) {
+            return Names::none();
+        }
+        row.and(names)
+    }
+}
+
+// Takes `v` into the row of each member of `names`.
+fn insert_in_rows(rows: &mut [Names], names: &Names, v: u32)
+    requires name { v < NAMES }
+    requires in_rows { (u : ℕ) → Member names.now u → u < length rows.old }
+    ensures { (u : ℕ) → row_of rows.new u
+        ≡ (if set.contains names.now u then set.insert (row_of rows.old u) v else row_of rows.old u) }
+{
+    for u in names.members() {
+        rows[u as usize].insert(v);
+    }
+}
+
+// Leaves `v` out of the row of each member of `names`.
+fn remove_from_rows(rows: &mut [Names], names: &Names, v: u32)
+    requires name { v < NAMES }
+    requires in_rows { (u : ℕ) → Member names.now u → u < length rows.old }
+    ensures { (u : ℕ) → row_of rows.new u
+        ≡ (if set.contains names.now u then set.remove (row_of rows.old u) v else row_of rows.old u) }
+{
+    for u in names.members() {
+        rows[u as usize].remove(v);
+    }
+}
+
+// All members of the row of each member of `names` go.
+fn clear_rows(rows: &mut [Names], names: &Names)
+    requires { (u : ℕ) → Member names.now u → u < length rows.old }
+    ensures { (u : ℕ) → row_of rows.new u
+        ≡ (if set.contains names.now u then set.empty else row_of rows.old u) }
+{
+    for u in names.members() {
+        rows[u as usize].clear();
+    }
+}
+
+#[cfg(test)]
+mod tests {
+    use super::*;
+    use std::process::Abort;
+    use std::test::Fail;
+
+    /// The graph with these vertices and edges.
+    fn made(rt: &impl Abort, alloc: Global, names: &[u32], edges: &[(u32, u32)]) -> Result<Graph, Memory> {
+        let mut g = Graph::new(alloc)?;
+        for v in names {
+            assert!(rt; *v < NAMES && !g.has_vertex(*v));
+            g.add_vertex(*v);
+        }
+        for (u, v) in edges {
+            join(rt, &mut g, *u, *v);
+        }
+        Ok(g)
+    }
+
+    fn join(rt: &impl Abort, g: &mut Graph, u: u32, v: u32) {
+        assert!(rt; u != v);
+        assert!(rt; g.has_vertex(u));
+        assert!(rt; g.has_vertex(v));
+        assert!(rt; !g.has_edge(u, v));
+        g.add_edge(u, v);
+    }
+
+    fn part(rt: &impl Abort, g: &mut Graph, u: u32, v: u32) {
+        assert!(rt; g.has_edge(u, v));
+        g.remove_edge(u, v);
+    }
+
+    fn star(rt: &impl Abort, g: &mut Graph, v: u32, others: &Names) {
+        assert!(rt; g.has_vertex(v));
+        assert!(rt; !others.has(v));
+        let strange = others.minus(g.vertices());
+        assert!(rt; strange.is_empty());
+        g.add_edges(v, others);
+    }
+
+    /// Sees that the graph has these vertices and edges, and no others.
+    fn expect(rt: &impl Abort, g: &Graph, names: &[u32], edges: &[(u32, u32)]) {
+        assert_eq!(rt; g.count() as usize, names.len());
+        assert_eq!(rt; g.edge_count() as usize, edges.len());
+        for v in names {
+            assert!(rt; g.has_vertex(*v), "vertex {v}");
+        }
+        for (u, v) in edges {
+            assert!(rt; g.has_edge(*u, *v) && g.has_edge(*v, *u), "edge {u} {v}");
+        }
+    }
+
+    #[test]
+    fn derived_graphs(rt: HostRuntime) -> Result<(), Fail> {
+        let path = made(&rt, rt.alloc(), &[0, 1, 2], &[(0, 1), (1, 2)])?;
+        expect(&rt, &path, &[0, 1, 2], &[(0, 1), (1, 2)]);
+        let copy = path.copy(rt.alloc())?;
+        expect(&rt, &copy, &[0, 1, 2], &[(0, 1), (1, 2)]);
+        let complement = path.complement(rt.alloc())?;
+        expect(&rt, &complement, &[0, 1, 2], &[(0, 2)]);
+        let mut ends = Names::none();
+        ends.insert(0);
+        ends.insert(2);
+        ends.insert(9);
+        let apart = path.induced(rt.alloc(), &ends)?;
+        expect(&rt, &apart, &[0, 2], &[]);
+        Ok(())
+    }
+
+    #[test]
+    fn changes(rt: HostRuntime) -> Result<(), Fail> {
+        let last = NAMES - 1;
+        let mut g = made(&rt, rt.alloc(), &[5, 64, 200, last], &[(64, last)])?;
+        let mut others = Names::none();
+        others.insert(5);
+        others.insert(64);
+        others.insert(last);
+        star(&rt, &mut g, 200, &others);
+        expect(&rt, &g, &[5, 64, 200, last], &[(64, last), (200, 5), (200, 64), (200, last)]);
+        for (v, degree) in [(5, 1), (64, 2), (200, 3), (last, 2)] {
+            assert!(rt; g.has_vertex(v));
+            assert_eq!(rt; g.degree(v), degree, "degree of {v}");
+        }
+        for (u, v) in [(5, 64), (64, 64), (200, 200), (NAMES, 64), (64, u32::MAX), (7, 8)] {
+            assert!(rt; !g.has_edge(u, v), "no edge {u} {v}");
+        }
+        assert!(rt; g.row(64).count() == 2 && g.row(64).has(200) && g.row(7).is_empty());
+        assert_eq!(rt; g.vertices().count(), 4);
+        assert_eq!(rt; g.next_vertex(6), Some(64));
+        assert_eq!(rt; g.next_vertex(last), Some(last));
+        assert_eq!(rt; g.next_vertex(NAMES), None);
+        part(&rt, &mut g, 64, 200);
+        expect(&rt, &g, &[5, 64, 200, last], &[(64, last), (200, 5), (200, last)]);
+        assert!(rt; g.has_vertex(last));
+        g.remove_vertex(last);
+        expect(&rt, &g, &[5, 64, 200], &[(200, 5)]);
+        g.clear();
+        expect(&rt, &g, &[], &[]);
+        assert!(rt; !g.has_vertex(5) && g.row(200).is_empty());
+        Ok(())
     }
 }

@@ -1,12 +1,12 @@
 //! Sets of names.
-ghost use Rattle.std.specs.Prelude.{◌≡◌, ℕ, ◌+◌, ◌*◌, ◌/◌, ◌%◌, ◌^◌, ◌<◌, ◌≤◌, ◌↔◌, IsTrue, IsNone, IfSome, IfNone, ◌==◌};
+ghost use Rattle.std.specs.Prelude.{◌≡◌, nat_le, if◌then◌else◌, ◌≢◌, ◌∷◌, ℕ, length, slice_index, bit_and, bit_or, ◌+◌, ◌*◌, ◌/◌, ◌%◌, ◌^◌, ◌<◌, ◌≤◌, ◌↔◌, IsTrue, IsNone, IfSome, IfNone, ◌==◌};
 ghost use Rattle.std.specs.Int.{bit_at};
 ghost use Rattle.std.specs.FinSet as set;
 ghost use Rattle.md_graph.specs.NameSet.{Member, IsLeastFrom, NoneFrom, AllBelow, ascending, ascending_from, block};
-
-use std::marker::Model;
+ghost use Rattle.md_graph.specs.Words.{IsWithout, names_below, bits_between};
 
 use crate::{NAMES, WORDS};
+use std::marker::Model;
 
 /// A set of names below `NAMES`, kept in place as one bit a name. No call on it takes memory.
 ///
@@ -41,7 +41,7 @@ impl Names {
         ensures { result ≡ set.empty }
     {
         Names {
-            words: [0; WORDS],
+            words: no_words(),
             used: 0,
         }
     }
@@ -63,9 +63,7 @@ impl Names {
     {
         let word = v as usize / 64;
         self.words[word] |= 1 << (v % 64);
-        if self.used <= word {
-            self.used = word + 1;
-        }
+        self.used = self.used.max(word + 1);
     }
 
     /// Leaves `v` out. Condition: it is a name.
@@ -80,9 +78,7 @@ impl Names {
     pub fn clear(&mut self)
         ensures { self.new ≡ set.empty }
     {
-        for word in &mut self.words[..self.used] {
-            *word = 0;
-        }
+        wipe(&mut self.words, self.used);
         self.used = 0;
     }
 
@@ -90,12 +86,8 @@ impl Names {
     pub fn take_in(&mut self, other: &Names)
         ensures { self.new ≡ set.union self.old other.now }
     {
-        for i in 0..other.used {
-            self.words[i] |= other.words[i];
-        }
-        if self.used < other.used {
-            self.used = other.used;
-        }
+        join_in(&mut self.words, &other.words, other.used);
+        self.used = self.used.max(other.used);
     }
 
     /// Whether `v`, any number, is a member.
@@ -109,36 +101,32 @@ impl Names {
     pub fn and(&self, other: &Names) -> Names
         ensures { result ≡ set.intersection self.now other.now }
     {
-        let mut both = Names::none();
-        both.used = self.used.min(other.used);
-        for i in 0..both.used {
-            both.words[i] = self.words[i] & other.words[i];
+        let used = self.used.min(other.used);
+        Names {
+            words: both(&self.words, &other.words, used),
+            used,
         }
-        both
     }
 
     /// The members of either.
     pub fn or(&self, other: &Names) -> Names
         ensures { result ≡ set.union self.now other.now }
     {
-        let mut either = Names::none();
-        either.used = self.used.max(other.used);
-        for i in 0..either.used {
-            either.words[i] = self.words[i] | other.words[i];
+        let used = self.used.max(other.used);
+        Names {
+            words: either(&self.words, &other.words, used),
+            used,
         }
-        either
     }
 
     /// The members that `other` doesn't have.
     pub fn minus(&self, other: &Names) -> Names
         ensures { result ≡ set.difference self.now other.now }
     {
-        let mut rest = Names::none();
-        rest.used = self.used;
-        for i in 0..rest.used {
-            rest.words[i] = self.words[i] & !other.words[i];
+        Names {
+            words: first_alone(&self.words, &other.words, self.used),
+            used: self.used,
         }
-        rest
     }
 
     /// The least member at or above `v`, any number; `None` exactly where there is none.
@@ -154,18 +142,14 @@ impl Names {
     pub fn count(&self) -> u32
         ensures { result ≡ set.len self.now }
     {
-        let mut count = 0;
-        for word in &self.words[..self.used] {
-            count += word.count_ones();
-        }
-        count
+        count_bits(&self.words, self.used)
     }
 
     /// Whether no name is a member.
     pub fn is_empty(&self) -> bool
         ensures { IsTrue result ↔ (self.now ≡ set.empty) }
     {
-        self.words[..self.used].iter().all(|word| *word == 0)
+        are_all_zero(&self.words, self.used)
     }
 
     /// The members, ascending.
@@ -182,15 +166,19 @@ impl Names {
         ensures names { AllBelow self.now NAMES }
     {
         let at = v as usize / 64;
-        let mut left = 0;
-        if at < self.used {
-            left = self.words[at] >> (v % 64) << (v % 64);
+        if self.used <= at {
+            return Members {
+                words: &self.words,
+                used: self.used,
+                at: self.used,
+                left: 0,
+            };
         }
         Members {
             words: &self.words,
             used: self.used,
             at,
-            left,
+            left: from_place(self.words[at], v % 64),
         }
     }
 
@@ -201,11 +189,9 @@ impl Names {
         requires aligned { first % 64 ≡ 0 }
         ensures { self.new ≡ set.union self.old (block first bits) }
     {
-        let word = first as usize / 64;
-        self.words[word] |= bits;
-        if self.used <= word {
-            self.used = word + 1;
-        }
+        let block = first as usize / 64;
+        self.words[block] |= bits;
+        self.used = self.used.max(block + 1);
     }
 
     /// Which of the names `first + k`, k below 64, are members: bit k of the answer is 1 exactly for these.
@@ -217,6 +203,124 @@ impl Names {
     {
         self.words[first as usize / 64]
     }
+}
+
+/// Words that are all 0.
+fn no_words() -> [u64; WORDS]
+    ensures size { length result ≡ WORDS }
+    ensures zeros { (k : ℕ) → slice_index result k ≡ 0 }
+{
+    [0; WORDS]
+}
+
+/// The first `used` words become 0.
+fn wipe(words: &mut [u64; WORDS], used: usize)
+    requires { used ≤ WORDS }
+    ensures first { (k : ℕ) → k < used → slice_index words.new k ≡ 0 }
+    ensures rest { (k : ℕ) → used ≤ k → slice_index words.new k ≡ slice_index words.old k }
+{
+    for i in 0..used {
+        words[i] = 0;
+    }
+}
+
+/// Takes the bits of the first `used` words of `other` in.
+fn join_in(words: &mut [u64; WORDS], other: &[u64; WORDS], used: usize)
+    requires { used ≤ WORDS }
+    ensures first { (k : ℕ) → k < used
+        → slice_index words.new k ≡ bit_or (slice_index words.old k) (slice_index other.now k) }
+    ensures rest { (k : ℕ) → used ≤ k → slice_index words.new k ≡ slice_index words.old k }
+{
+    for i in 0..used {
+        words[i] |= other[i];
+    }
+}
+
+/// The bits that both have in the first `used` words.
+fn both(first: &[u64; WORDS], second: &[u64; WORDS], used: usize) -> [u64; WORDS]
+    requires { used ≤ WORDS }
+    ensures first { (k : ℕ) → k < used
+        → slice_index result k ≡ bit_and (slice_index first.now k) (slice_index second.now k) }
+    ensures rest { (k : ℕ) → used ≤ k → slice_index result k ≡ 0 }
+{
+    let mut words = no_words();
+    for i in 0..used {
+        words[i] = first[i] & second[i];
+    }
+    words
+}
+
+/// The bits that either has in the first `used` words.
+fn either(first: &[u64; WORDS], second: &[u64; WORDS], used: usize) -> [u64; WORDS]
+    requires { used ≤ WORDS }
+    ensures first { (k : ℕ) → k < used
+        → slice_index result k ≡ bit_or (slice_index first.now k) (slice_index second.now k) }
+    ensures rest { (k : ℕ) → used ≤ k → slice_index result k ≡ 0 }
+{
+    let mut words = no_words();
+    for i in 0..used {
+        words[i] = first[i] | second[i];
+    }
+    words
+}
+
+/// The bits of `first` that `second` doesn't have, in the first `used` words.
+fn first_alone(first: &[u64; WORDS], second: &[u64; WORDS], used: usize) -> [u64; WORDS]
+    requires { used ≤ WORDS }
+    ensures first { (k : ℕ) → k < used
+        → IsWithout (slice_index result k) (slice_index first.now k) (slice_index second.now k) }
+    ensures rest { (k : ℕ) → used ≤ k → slice_index result k ≡ 0 }
+{
+    let mut words = no_words();
+    for i in 0..used {
+        words[i] = first[i] & !second[i];
+    }
+    words
+}
+
+/// How many bits of the first `used` words are 1.
+fn count_bits(words: &[u64], used: usize) -> u32
+    requires few { used ≤ WORDS }
+    requires used { used ≤ length words.now }
+    ensures { result ≡ set.len (names_below words.now (64 * used)) }
+{
+    let mut count = 0;
+    for i in 0..used {
+        count += words[i].count_ones();
+    }
+    count
+}
+
+/// Whether the first `used` words are 0.
+fn are_all_zero(words: &[u64], used: usize) -> bool
+    requires { used ≤ length words.now }
+    ensures { IsTrue result
+        ↔ ((k i : ℕ) → k < used → i < 64 → bit_at (slice_index words.now k) i ≡ 0) }
+{
+    for i in 0..used {
+        if words[i] != 0 {
+            return false;
+        }
+    }
+    true
+}
+
+/// The bits of `word` from `place` on.
+fn from_place(word: u64, place: u32) -> u64
+    requires { place < 64 }
+    ensures { (k : ℕ) → k < 64 → bit_at result k ≡ (if nat_le place k then bit_at word k else 0) }
+{
+    word >> place << place
+}
+
+/// The place of the lowest 1 of `bits`, and `bits` without it.
+fn lowest(bits: u64) -> (u32, u64)
+    requires { bits ≢ 0 }
+    ensures place { result.0 < 64 }
+    ensures rest { (first : ℕ)
+        → bits_between first bits 64 ≡ (first + result.0) ∷ bits_between first result.1 64 }
+{
+    (bits.trailing_zeros(), bits & (bits - 1))
 }
 
 /// The members of a set that are still to come, ascending: word by word, and in a word from bit to bit.
@@ -238,7 +342,7 @@ impl<'a> Model for Members<'a> {
 
     ghost view = { λ m. members_left m.words.now m.used m.at m.left };
 
-    ghost invariant = { λ m. m.used ≤ WORDS };
+    ghost invariant = { λ m. (m.used ≤ WORDS) × (m.at ≤ WORDS) };
 }
 
 impl<'a> Iterator for Members<'a> {
@@ -258,8 +362,73 @@ impl<'a> Iterator for Members<'a> {
             self.at += 1;
             self.left = self.words[self.at];
         }
-        let k = self.left.trailing_zeros();
-        self.left &= self.left - 1;
-        Some(64 * self.at as u32 + k)
+        let (place, left) = lowest(self.left);
+        self.left = left;
+        Some(64 * self.at as u32 + place)
+    }
+}
+
+#[cfg(test)]
+mod tests {
+    use super::*;
+
+    /// The set of 63, 64, 127 and the last name: members on both sides of the borders between words.
+    fn borders() -> Names {
+        let mut names = Names::none();
+        names.insert(NAMES - 1);
+        names.insert(63);
+        names.insert(127);
+        names.insert(64);
+        names
+    }
+
+    #[test]
+    fn first_from_at_the_last_name(rt: HostRuntime) {
+        let mut names = Names::none();
+        names.insert(3);
+        names.insert(4095);
+        assert_eq!(rt; names.first_from(4), Some(4095));
+        assert_eq!(rt; names.first_from(4096), None);
+    }
+
+    #[test]
+    fn members_across_words(rt: HostRuntime) {
+        let mut names = borders();
+        let listed = [63, 64, 127, NAMES - 1];
+        let mut i = 0;
+        for v in names.members() {
+            assert!(rt; i < 4 && listed[i] == v, "member {v} at {i}");
+            i += 1;
+        }
+        assert_eq!(rt; i, 4);
+        assert_eq!(rt; names.count(), 4);
+        assert!(rt; names.has(63) && names.has(64) && names.has(NAMES - 1));
+        assert!(rt; !names.has(62) && !names.has(65) && !names.has(NAMES) && !names.has(u32::MAX));
+        names.remove(64);
+        assert_eq!(rt; names.first_from(64), Some(127));
+        assert_eq!(rt; names.members_from(127).next(), Some(127));
+        assert_eq!(rt; names.first_from(u32::MAX), None);
+        names.clear();
+        assert!(rt; names.is_empty());
+    }
+
+    #[test]
+    fn two_sets(rt: HostRuntime) {
+        let first = borders();
+        let mut second = Names::none();
+        second.insert_block(64, (1 << 63) | 2);
+        assert_eq!(rt; second.block(64), 0x8000_0000_0000_0002);
+        assert_eq!(rt; first.block(0), 1 << 63);
+        assert_eq!(rt; second.first_from(0), Some(65));
+        let both = first.and(&second);
+        assert!(rt; both.count() == 1 && both.has(127));
+        let either = first.or(&second);
+        assert!(rt; either.count() == 5 && either.has(65) && either.has(63));
+        let rest = first.minus(&second);
+        assert!(rt; rest.count() == 3 && !rest.has(127) && rest.has(NAMES - 1));
+        let mut all = second.copy();
+        all.take_in(&rest);
+        assert_eq!(rt; all.count(), 5);
+        assert!(rt; !all.is_empty());
     }
 }
