@@ -1,0 +1,274 @@
+-- Searches and decisions over finite sets, induction over them, and their sizes.
+use Rattle.std.proofs.Common.{◌≡◌, ℕ, ◌+◌, ◌-◌, ◌<◌, ◌≤◌, zero, suc, Bool, true, false, cond, not, ◌||◌, List, [], ◌∷◌, ◌≢◌, ◌⊎◌, refl, sym, ◌∙◌, ap, subst, inl, inr, true≢false, arith}
+use Rattle.std.specs.List.{list_any}
+use Rattle.std.specs.FinSet.{contains, empty, insert, remove, retain, union, intersection, difference, len, items, from_list, contains-items, contains-from_list, len-insert, len-remove, len-empty, empty_of_len}
+use Rattle.std.specs.Cmp.{nat_cmp_total}
+use Rattle.std.specs.Ordering.{nat_cmp, eq_by_cmp}
+use Rattle.md_modules.specs.Sets.{NameSet, Has, Lacks, Within, only_name, Proper}
+use Rattle.md_modules.proofs.Sets.{either, clash, true_if, false_if, same_name, empty_lacks, insert_new, insert_old, of_insert, insert_lacks, remove_gone, remove_left, of_remove, same_members, Within-refl, Within-trans, remove_insert, insert_within, insert_known, lacks_within, Has-along, of_meet}
+
+-- each set is the set of a list
+of_items : (s : NameSet) → s ≡ from_list (items s)
+of_items s = same_members _ _
+    (λ q h. contains-from_list nat_cmp_total (items s) q ∙ sym (contains-items s q) ∙ h)
+    (λ q h. contains-items s q ∙ sym (contains-from_list nat_cmp_total (items s) q) ∙ h)
+
+module _ {ℓ} (P : NameSet → Type ℓ) (none : P empty) (more : (s : NameSet) (x : ℕ) → Lacks s x → P s → P (insert s x)) where
+  over_list : (ks : List ℕ) → P (from_list ks)
+  over_list [] = none
+  over_list (k ∷ ks) =
+      elim (either (contains (from_list ks) k)) [
+        | inl h ↦ subst P (sym (insert_known _ k h)) (over_list ks)
+        | inr l ↦ more _ k l (over_list ks)
+      ]
+
+  -- induction over sets: the empty set, and one new member
+  pub over_sets : (s : NameSet) → P s
+  over_sets s = subst P (sym (of_items s)) (over_list (items s))
+
+-- P or its denial
+abbrev pub Decided : Type 0 → Type 0
+Decided P = P ⊎ (P → ⊥)
+
+pub decide_test : (a b : Bool) → Decided (a ≡ b)
+decide_test true true = inl refl
+decide_test true false = inr (λ e. true≢false e)
+decide_test false true = inr (λ e. true≢false (sym e))
+decide_test false false = inl refl
+
+pub decide_both : {P Q : Type 0} → Decided P → Decided Q → Decided (P × Q)
+decide_both (inl p) (inl q) = inl (p, q)
+decide_both (inl p) (inr n) = inr (λ w. n w.1)
+decide_both (inr n) d = inr (λ w. n w.0)
+
+pub decide_not : {P : Type 0} → Decided P → Decided (P → ⊥)
+decide_not (inl p) = inr (λ n. n p)
+decide_not (inr n) = inl n
+
+pub decide_if : {P Q : Type 0} → Decided P → Decided Q → Decided (P → Q)
+decide_if d (inl q) = inl (λ p. q)
+decide_if (inl p) (inr n) = inr (λ f. n (f p))
+decide_if (inr m) (inr n) = inl (λ p. absurd (m p))
+
+pub decide_like : {P Q : Type 0} → (P → Q) → (Q → P) → Decided P → Decided Q
+decide_like f g (inl p) = inl (f p)
+decide_like f g (inr n) = inr (λ q. n (g q))
+
+-- a member with P, or all with N
+module _ (P N : ℕ → Type 0) where
+  abbrev Found : NameSet → Type 0
+  Found s = (x : ℕ) × Has s x × P x
+
+  abbrev Searched : NameSet → Type 0
+  Searched s = ((x : ℕ) → Has s x → P x ⊎ N x) → Found s ⊎ ((x : ℕ) → Has s x → N x)
+
+  search_more : (s : NameSet) (k : ℕ) → Lacks s k → Searched s → Searched (insert s k)
+  search_more s k l rest d =
+      elim (rest (λ x h. d x (insert_old s k x h))) [
+        | inl w ↦ inl (w.0, insert_old s k w.0 w.1, w.2)
+        | inr none ↦ elim (d k (insert_new s k)) [
+            | inl p ↦ inl (k, insert_new s k, p)
+            | inr n ↦ inr (λ x h. elim (of_insert s k x h) [ inl e ↦ subst N (sym e) n | inr m ↦ none x m ])
+          ]
+      ]
+
+  pub search_members : (s : NameSet) → Searched s
+  search_members = over_sets Searched (λ d. inr (λ x h. clash h (empty_lacks x))) search_more
+
+pub decide_some : (s : NameSet) (P : ℕ → Type 0) → ((x : ℕ) → Has s x → Decided (P x)) → Decided ((x : ℕ) × Has s x × P x)
+decide_some s P d =
+    elim (search_members P (λ x. P x → ⊥) s d) [ inl w ↦ inl w | inr n ↦ inr (λ w. n w.0 w.1 w.2) ]
+
+turn : {P : Type 0} → Decided P → (P → ⊥) ⊎ P
+turn (inl p) = inr p
+turn (inr n) = inl n
+
+pub decide_all : (s : NameSet) (P : ℕ → Type 0) → ((x : ℕ) → Has s x → Decided (P x)) → Decided ((x : ℕ) → Has s x → P x)
+decide_all s P d =
+    elim (search_members (λ x. P x → ⊥) P s (λ x h. turn (d x h))) [ inl w ↦ inr (λ f. w.2 (f w.0 w.1)) | inr n ↦ inl n ]
+
+-- a subset with P, or all with N
+abbrev SearchedSets : NameSet → Type 1
+SearchedSets s =
+    (P N : NameSet → Type 0) → ((a : NameSet) → Within a s → P a ⊎ N a) →
+    ((a : NameSet) × Within a s × P a) ⊎ ((a : NameSet) → Within a s → N a)
+
+none_within : (s : NameSet) (a : NameSet) → Within a empty → a ≡ empty
+none_within s a w = same_members a empty w (λ q h. clash h (empty_lacks q))
+
+apart_within : (s a : NameSet) (k : ℕ) → Within a (insert s k) → Lacks a k → Within a s
+apart_within s a k w l q h = elim (of_insert s k q (w q h)) [ inl e ↦ clash (subst (Has a) e h) l | inr m ↦ m ]
+
+remove_within : (s a : NameSet) (k : ℕ) → Within a (insert s k) → Within (remove a k) s
+remove_within s a k w q h =
+    let two : (_ : _) × _ = of_remove a k q h in
+    elim (of_insert s k q (w q two.1)) [ inl e ↦ absurd (two.0 e) | inr m ↦ m ]
+
+search_sets_more : (s : NameSet) (k : ℕ) → Lacks s k → SearchedSets s → SearchedSets (insert s k)
+search_sets_more s k l rest P N d =
+    elim (rest P N (λ a w. d a (λ q h. insert_old s k q (w q h)))) [
+      | inl f ↦ inl (f.0, (λ q h. insert_old s k q (f.1 q h)), f.2)
+      | inr none ↦
+          elim (rest (λ a. P (insert a k)) (λ a. N (insert a k)) (λ a w. d (insert a k) (insert_within a (insert s k) k (λ q h. insert_old s k q (w q h)) (insert_new s k)))) [
+            | inl f ↦ inl (insert f.0 k, insert_within f.0 (insert s k) k (λ q h. insert_old s k q (f.1 q h)) (insert_new s k), f.2)
+            | inr none_with ↦ inr (λ a w. elim (either (contains a k)) [
+                | inl h ↦ subst N (remove_insert a k h) (none_with (remove a k) (remove_within s a k w))
+                | inr out ↦ none a (apart_within s a k w out)
+              ])
+          ]
+    ]
+
+search_sets_none : SearchedSets empty
+search_sets_none P N d =
+    elim (d empty (Within-refl empty)) [
+      | inl p ↦ inl (empty, Within-refl empty, p)
+      | inr n ↦ inr (λ a w. subst N (sym (none_within empty a w)) n)
+    ]
+
+pub search_sets : (s : NameSet) → SearchedSets s
+search_sets = over_sets SearchedSets search_sets_none search_sets_more
+
+pub decide_some_set : (s : NameSet) (P : NameSet → Type 0) → ((a : NameSet) → Within a s → Decided (P a)) → Decided ((a : NameSet) × Within a s × P a)
+decide_some_set s P d =
+    elim (search_sets s P (λ a. P a → ⊥) d) [ inl w ↦ inl w | inr n ↦ inr (λ w. n w.0 w.1 w.2) ]
+
+pub decide_all_sets : (s : NameSet) (P : NameSet → Type 0) → ((a : NameSet) → Within a s → Decided (P a)) → Decided ((a : NameSet) → Within a s → P a)
+decide_all_sets s P d =
+    elim (search_sets s (λ a. P a → ⊥) P (λ a w. turn (d a w))) [ inl w ↦ inr (λ f. w.2 (f w.0 w.1)) | inr n ↦ inl n ]
+
+pub decide_within : (a b : NameSet) → Decided (Within a b)
+decide_within a b = decide_all a (Has b) (λ x h. decide_test (contains b x) true)
+
+-- a member of a that b lacks, or a lies in b
+pub outside_or_within : (a b : NameSet) → ((x : ℕ) × Has a x × Lacks b x) ⊎ Within a b
+outside_or_within a b = search_members (Lacks b) (Has b) a (λ x h. turn_test (contains b x)) where
+  turn_test : (t : Bool) → (t ≡ false) ⊎ (t ≡ true)
+  turn_test true = inr refl
+  turn_test false = inl refl
+
+-- a member of both, or none
+pub meet_or_disjoint : (a b : NameSet) → ((x : ℕ) × Has a x × Has b x) ⊎ ((x : ℕ) → Has a x → Lacks b x)
+meet_or_disjoint a b = search_members (Has b) (Lacks b) a (λ x h. either (contains b x))
+
+-- a name that tells two sets apart, or they are equal
+pub larger_or_same : (a b : NameSet) → Within a b → ((x : ℕ) × Has b x × Lacks a x) ⊎ (a ≡ b)
+larger_or_same a b w = elim (outside_or_within b a) [ inl f ↦ inl f | inr v ↦ inr (same_members a b w v) ]
+
+pub decide_same : (a b : NameSet) → Decided (a ≡ b)
+decide_same a b =
+    elim (outside_or_within a b) [
+      | inl f ↦ inr (λ e. clash (Has-along a b e f.0 f.1) f.2)
+      | inr w ↦ elim (larger_or_same a b w) [
+          | inl f ↦ inr (λ e. clash (Has-along b a (sym e) f.0 f.1) f.2)
+          | inr e ↦ inl e
+        ]
+    ]
+
+pub decide_has_some : (s : NameSet) → Decided ((x : ℕ) × Has s x)
+decide_has_some s =
+    elim (search_members (λ x. Unit {0}) (λ x. ⊥) s (λ x h. inl tt)) [ inl w ↦ inl (w.0, w.1) | inr n ↦ inr (λ w. n w.0 w.1) ]
+
+-- sizes
+pub some_len : (s : NameSet) (x : ℕ) → Has s x → 1 ≤ len s
+some_len s x h = elim (zero_or_more (len s)) [ inl e ↦ clash (Has-along s empty (empty_of_len s e) x h) (empty_lacks x) | inr p ↦ p ] where
+  zero_or_more : (n : ℕ) → (n ≡ 0) ⊎ (1 ≤ n)
+  zero_or_more zero = inl refl
+  zero_or_more (suc n) = inr (omega arith)
+
+pub len_more : (s : NameSet) (x : ℕ) → Lacks s x → len (insert s x) ≡ len s + 1
+len_more s x l = len-insert nat_cmp_total s x ∙ ap (λ b. cond b (len s) (len s + 1)) l
+
+pub len_fewer : (s : NameSet) (x : ℕ) → Has s x → len (remove s x) + 1 ≡ len s
+len_fewer s x h =
+    let p : len (remove s x) ≡ len s - 1 = len-remove nat_cmp_total s x ∙ ap (λ b. cond b (len s - 1) (len s)) h in
+    let q : 1 ≤ len s = some_len s x h in
+    omega arith
+
+abbrev IsBelow : NameSet → Type 0
+IsBelow s = (t : NameSet) → Within s t → len s ≤ len t
+
+below_more : (s : NameSet) (x : ℕ) → Lacks s x → IsBelow s → IsBelow (insert s x)
+below_more s x l rest t w =
+    let h : Has t x = w x (insert_new s x) in
+    let a : len s ≤ len (remove t x) = rest (remove t x) (λ q m. remove_left t x q (λ e. clash (subst (Has s) e m) l) (w q (insert_old s x q m))) in
+    let b : len (remove t x) + 1 ≡ len t = len_fewer t x h in
+    let c : len (insert s x) ≡ len s + 1 = len_more s x l in
+    omega arith
+
+below_none : IsBelow empty
+below_none t w = let e : len (empty {R = nat_cmp}) ≡ 0 = len-empty nat_cmp in omega arith
+
+pub len_within : (s t : NameSet) → Within s t → len s ≤ len t
+len_within = over_sets IsBelow below_none below_more
+
+pub len_proper : (s t : NameSet) (x : ℕ) → Within s t → Has t x → Lacks s x → len s < len t
+len_proper s t x w h l =
+    let a : len (insert s x) ≤ len t = len_within (insert s x) t (insert_within s t x w h) in
+    let c : len (insert s x) ≡ len s + 1 = len_more s x l in
+    omega arith
+
+-- extremal sets
+module _ (P : NameSet → Type 0) where
+  abbrev Smallest : NameSet → Type 0
+  Smallest s = (m : NameSet) × Within m s × P m × ((a : NameSet) → Within a m → P a → a ≡ m)
+
+  smallest_in : (n : ℕ) (s : NameSet) → len s < n → P s → ((a : NameSet) → Within a s → Decided (P a)) → Smallest s
+  smallest_in zero s b p d = absurd (omega arith)
+  smallest_in (suc n) s b p d =
+      elim (decide_some_set s (λ a. P a × ((x : ℕ) × Has s x × Lacks a x))
+          (λ a w. decide_both (d a w) (decide_some s (Lacks a) (λ x h. decide_test (contains a x) false)))) [
+        | inl f ↦
+            let r : Smallest f.0 = smallest_in n f.0 (let c : len f.0 < len s = len_proper f.0 s f.2.1.0 f.1 f.2.1.1 f.2.1.2 in omega arith) f.2.0 (λ a w. d a (Within-trans a f.0 s w f.1)) in
+            (r.0, Within-trans r.0 f.0 s r.1 f.1, r.2, r.3)
+        | inr none ↦
+            (s, Within-refl s, p, λ a w q. elim (larger_or_same a s w) [ inl f ↦ absurd (none (a, w, (q, f))) | inr e ↦ e ])
+      ]
+
+  -- a smallest set with P inside s
+  pub smallest : (s : NameSet) → P s → ((a : NameSet) → Within a s → Decided (P a)) → Smallest s
+  smallest s p d = smallest_in (len s + 1) s (omega arith) p d
+
+  abbrev Largest : NameSet → NameSet → Type 0
+  Largest a s = (m : NameSet) × Within a m × Within m s × P m × ((b : NameSet) → Within m b → Within b s → P b → b ≡ m)
+
+  largest_over : (n : ℕ) (s a : NameSet) → len s < len a + n → Within a s → P a → ((b : NameSet) → Within b s → Decided (P b)) → Largest a s
+  largest_over zero s a b w p d = let c : len a ≤ len s = len_within a s w in absurd (omega arith)
+  largest_over (suc n) s a b w p d =
+      elim (decide_some_set s (λ t. Within a t × P t × ((x : ℕ) × Has t x × Lacks a x))
+          (λ t v. decide_three (decide_within a t) (d t v) (decide_some t (Lacks a) (λ x h. decide_test (contains a x) false)))) [
+        | inl f ↦
+            let r : Largest f.0 s = largest_over n s f.0 (let c : len a < len f.0 = len_proper a f.0 f.2.2.0 f.2.0 f.2.2.1 f.2.2.2 in omega arith) f.1 f.2.1 d in
+            (r.0, Within-trans a f.0 r.0 f.2.0 r.1, r.2, r.3, r.4)
+        | inr none ↦
+            (a, Within-refl a, w, p, λ t u v q. elim (larger_or_same a t u) [ inl f ↦ absurd (none (t, v, (u, q, f))) | inr e ↦ sym e ])
+      ]
+    where
+    decide_three : {X Y Z : Type 0} → Decided X → Decided Y → Decided Z → Decided (X × Y × Z)
+    decide_three (inl x) (inl y) (inl z) = inl (x, y, z)
+    decide_three (inr n) y z = inr (λ w. n w.0)
+    decide_three (inl x) (inr n) z = inr (λ w. n w.1)
+    decide_three (inl x) (inl y) (inr n) = inr (λ w. n w.2)
+
+  -- a largest set with P that holds a, inside s
+  pub largest : (s a : NameSet) → Within a s → P a → ((b : NameSet) → Within b s → Decided (P b)) → Largest a s
+  largest s a w p d = largest_over (len s + 1) s a (omega arith) w p d
+
+  -- where P is kept by intersections: the set with P that lies in each other one
+  pub least : (s : NameSet) → P s → ((a : NameSet) → Within a s → Decided (P a)) → ((a b : NameSet) → P a → P b → P (intersection a b)) →
+      (m : NameSet) × Within m s × P m × ((a : NameSet) → P a → Within m a)
+  least s p d meets =
+      let m : Smallest s = smallest s p d in
+      (m.0, m.1, m.2, λ a q x h. (of_meet m.0 a x (Has-along m.0 (intersection m.0 a) (sym (m.3 (intersection m.0 a) (λ y k. (of_meet m.0 a y k).0) (meets m.0 a m.2 q))) x h)).1)
+
+-- a function that keeps what each member has
+module _ (s : NameSet) (Q : ℕ → ℕ → Type 0) (d : (x : ℕ) → Has s x → (y : ℕ) × Q x y) where
+  abbrev chosen_at : (x : ℕ) (b : Bool) → contains s x ≡ b → ℕ
+  chosen_at x true h = (d x h).0
+  chosen_at x false h = 0
+
+  chosen_fits : (x : ℕ) (b : Bool) (h : contains s x ≡ b) → b ≡ true → Q x (chosen_at x b h)
+  chosen_fits x true h t = (d x h).1
+  chosen_fits x false h t = absurd (true≢false (sym t))
+
+  pub choose : (f : ℕ → ℕ) × ((x : ℕ) → Has s x → Q x (f x))
+  choose = ((λ x. chosen_at x (contains s x) refl), λ x h. chosen_fits x (contains s x) refl h)
