@@ -1,3 +1,4 @@
 pub mod Sets
 pub mod Search
 pub mod Modules
+pub mod Components
