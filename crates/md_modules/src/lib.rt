@@ -1,7 +1,4 @@
 //! Modules of an undirected graph: their definitions and laws.
 #![tactic(auto)]
 
-/// One more.
-pub fn one() -> usize {
-    1
-}
+pub mod laws;
