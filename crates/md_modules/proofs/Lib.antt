@@ -2,3 +2,5 @@ pub mod Sets
 pub mod Search
 pub mod Modules
 pub mod Components
+pub mod Strong
+pub mod Children

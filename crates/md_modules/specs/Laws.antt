@@ -18,3 +18,27 @@ pub record ExactlyOne (P Q R : Type 0) : Type 0 where
 -- a set with two or more members has exactly one kind
 abbrev pub HasOneKind : Type 0
 HasOneKind = (e : ℕ → ℕ → Bool) → IsAdjacency e → (s : NameSet) → HasTwo s → ExactlyOne (IsParallel e s) (IsSeries e s) (IsPrime e s)
+
+-- the strong modules of s are a tree under inclusion, with root s and the single names as leaves
+pub record AreTree (e : ℕ → ℕ → Bool) (s : NameSet) : Type 0 where
+  -- the root
+  pub root : IsStrong e s s
+  pub below_root : (m : NameSet) → IsStrong e s m → Within m s
+  -- two strong modules don't meet, or one holds the other
+  pub nested : (m n : NameSet) → IsStrong e s m → IsStrong e s n → Disjoint m n ⊎ Within m n ⊎ Within n m
+  -- each strong module but the root has a parent, and one alone
+  pub parent : (m : NameSet) → IsStrong e s m → m ≢ s → (p : NameSet) × IsParent e s m p
+  pub one_parent : (m p q : NameSet) → IsParent e s m p → IsParent e s m q → p ≡ q
+  -- each single name is a strong module, and these are those that hold no other one
+  pub singles : (v : ℕ) → Has s v → IsStrong e s (only_name v)
+  pub leaves : (m : NameSet) → IsStrong e s m → ((v : ℕ) × (m ≡ only_name v)) ↔ ((n : NameSet) → IsStrong e s n → ¬ (Proper n m))
+
+-- the strong modules of a set with a member are a tree
+abbrev pub StrongModulesAreTree : Type 0
+StrongModulesAreTree = (e : ℕ → ℕ → Bool) → (s : NameSet) → HasSome s → AreTree e s
+
+-- the strong modules of a set with a member are the set and the strong modules of each maximal proper strong module
+abbrev pub StrongModulesDescend : Type 0
+StrongModulesDescend =
+    (e : ℕ → ℕ → Bool) → (s : NameSet) → HasSome s → (m : NameSet) →
+    IsStrong e s m ↔ ((m ≡ s) ⊎ ((c : NameSet) × IsMaximalStrong e s c × IsStrong e c m))

@@ -1,10 +1,24 @@
 //! The laws of modules, each the contract of a function that does nothing. They speak of any set of names with a
 //! test of adjacency, so of a graph, of the graph on a part of its names, and of the complement of each.
 
-ghost use Rattle.md_modules.specs.Laws.{HasOneKind};
+ghost use Rattle.md_modules.specs.Laws.{HasOneKind, StrongModulesAreTree, StrongModulesDescend};
+
+/// The strong modules of a graph with a vertex are a tree under inclusion, whose root is the set of all vertices and
+/// whose leaves are the single vertices.
+pub fn strong_modules_are_tree()
+    ensures { StrongModulesAreTree }
+{
+}
 
 /// A set with two or more members, so each strong module with two or more, is exactly one of parallel, series and prime.
 pub fn one_kind()
     ensures { HasOneKind }
+{
+}
+
+/// The strong modules of a graph with a vertex are the set of all vertices and the strong modules of the graph on each
+/// maximal strong module properly inside it.
+pub fn strong_modules_descend()
+    ensures { StrongModulesDescend }
 {
 }
