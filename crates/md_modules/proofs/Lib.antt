@@ -4,3 +4,4 @@ pub mod Modules
 pub mod Components
 pub mod Strong
 pub mod Children
+pub mod Paths

@@ -42,3 +42,13 @@ abbrev pub StrongModulesDescend : Type 0
 StrongModulesDescend =
     (e : ℕ → ℕ → Bool) → (s : NameSet) → HasSome s → (m : NameSet) →
     IsStrong e s m ↔ ((m ≡ s) ⊎ ((c : NameSet) × IsMaximalStrong e s c × IsStrong e c m))
+
+-- a set with two or more members that is connected and whose complement is connected has an induced path on four names
+abbrev pub PrimeHasInducedPath : Type 0
+PrimeHasInducedPath = (e : ℕ → ℕ → Bool) → IsAdjacency e → (s : NameSet) → IsPrime e s → HasInducedPath e s
+
+-- no induced path on four names exactly where no strong module is prime
+abbrev pub NoInducedPathIfNonePrime : Type 0
+NoInducedPathIfNonePrime =
+    (e : ℕ → ℕ → Bool) → IsAdjacency e → (s : NameSet) →
+    (¬ (HasInducedPath e s)) ↔ ((m : NameSet) → IsStrong e s m → ¬ (IsPrime e m))

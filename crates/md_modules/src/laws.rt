@@ -1,7 +1,7 @@
 //! The laws of modules, each the contract of a function that does nothing. They speak of any set of names with a
 //! test of adjacency, so of a graph, of the graph on a part of its names, and of the complement of each.
 
-ghost use Rattle.md_modules.specs.Laws.{HasOneKind, StrongModulesAreTree, StrongModulesDescend};
+ghost use Rattle.md_modules.specs.Laws.{HasOneKind, StrongModulesAreTree, StrongModulesDescend, PrimeHasInducedPath, NoInducedPathIfNonePrime};
 
 /// The strong modules of a graph with a vertex are a tree under inclusion, whose root is the set of all vertices and
 /// whose leaves are the single vertices.
@@ -20,5 +20,17 @@ pub fn one_kind()
 /// maximal strong module properly inside it.
 pub fn strong_modules_descend()
     ensures { StrongModulesDescend }
+{
+}
+
+/// A graph with two or more vertices that is connected, as its complement is, has an induced path on four vertices.
+pub fn prime_has_induced_path()
+    ensures { PrimeHasInducedPath }
+{
+}
+
+/// A graph has no induced path on four vertices exactly where none of its strong modules is prime.
+pub fn no_induced_path_if_none_prime()
+    ensures { NoInducedPathIfNonePrime }
 {
 }
