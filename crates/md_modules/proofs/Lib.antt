@@ -5,3 +5,4 @@ pub mod Components
 pub mod Strong
 pub mod Children
 pub mod Paths
+pub mod Quotients

@@ -1,10 +1,10 @@
 -- Searches and decisions over finite sets, induction over them, and their sizes.
-use Rattle.std.proofs.Common.{◌≡◌, ℕ, ◌+◌, ◌-◌, ◌<◌, ◌≤◌, zero, suc, Bool, true, false, cond, not, ◌||◌, List, [], ◌∷◌, ◌≢◌, ◌⊎◌, refl, sym, ◌∙◌, ap, subst, inl, inr, true≢false, arith}
+use Rattle.std.proofs.Common.{◌≡◌, ℕ, ◌+◌, ◌-◌, ◌<◌, ◌≤◌, zero, suc, Bool, true, false, cond, not, ◌||◌, List, [], ◌∷◌, ◌≢◌, ◌⊎◌, refl, sym, ◌∙◌, ap, subst, inl, inr, true≢false, arith, ltb, ltb-true, ltb-false}
 use Rattle.std.specs.List.{list_any}
 use Rattle.std.specs.FinSet.{contains, empty, insert, remove, retain, union, intersection, difference, len, items, from_list, contains-items, contains-from_list, len-insert, len-remove, len-empty, empty_of_len}
 use Rattle.std.specs.Cmp.{nat_cmp_total}
 use Rattle.std.specs.Ordering.{nat_cmp, eq_by_cmp}
-use Rattle.md_modules.specs.Sets.{NameSet, Has, Lacks, Within, only_name, Proper}
+use Rattle.md_modules.specs.Sets.{NameSet, Has, Lacks, Within, HasTwo, only_name, Proper}
 use Rattle.md_modules.proofs.Sets.{either, clash, true_if, false_if, same_name, empty_lacks, insert_new, insert_old, of_insert, insert_lacks, remove_gone, remove_left, of_remove, same_members, Within-refl, Within-trans, remove_insert, insert_within, insert_known, lacks_within, Has-along, of_meet}
 
 -- each set is the set of a list
@@ -272,3 +272,82 @@ module _ (s : NameSet) (Q : ℕ → ℕ → Type 0) (d : (x : ℕ) → Has s x �
 
   pub choose : (f : ℕ → ℕ) × ((x : ℕ) → Has s x → Q x (f x))
   choose = ((λ x. chosen_at x (contains s x) refl), λ x h. chosen_fits x (contains s x) refl h)
+
+-- the test of what is decided
+abbrev pub test_of : {P : Type 0} → Decided P → Bool
+test_of (inl p) = true
+test_of (inr n) = false
+
+pub test_holds : {P : Type 0} → (d : Decided P) → P → test_of d ≡ true
+test_holds (inl p) q = refl
+test_holds (inr n) q = absurd (n q)
+
+pub of_test : {P : Type 0} → (d : Decided P) → test_of d ≡ true → P
+of_test (inl p) h = p
+of_test (inr n) h = absurd (true≢false (sym h))
+
+-- a set of one member at most, of two, and of four
+pub len_single : (s : NameSet) (x : ℕ) → ((y : ℕ) → Has s y → y ≡ x) → len s ≤ 1
+len_single s x only =
+    let a : len s ≤ len (only_name x) = len_within s (only_name x) (λ y h. subst (Has (only_name x)) (sym (only y h)) (insert_new empty x)) in
+    let b : len (only_name x) ≡ len (empty {R = nat_cmp}) + 1 = len_more empty x (empty_lacks x) in
+    let c : len (empty {R = nat_cmp}) ≡ 0 = len-empty nat_cmp in
+    omega arith
+
+-- a set with another member than x, or with x alone
+pub other_or_alone : (s : NameSet) (x : ℕ) → ((y : ℕ) × Has s y × (y ≢ x)) ⊎ ((y : ℕ) → Has s y → y ≡ x)
+other_or_alone s x = search_members (λ y. y ≢ x) (λ y. y ≡ x) s (λ y h. swapped (same_name y x)) where
+  swapped : {P : Type 0} → P ⊎ (P → ⊥) → (P → ⊥) ⊎ P
+  swapped (inl p) = inr p
+  swapped (inr n) = inl n
+
+pub two_of_len : (s : NameSet) → 2 ≤ len s → HasTwo s
+two_of_len s b =
+    elim (search_members (λ x. Unit {0}) (λ x. ⊥) s (λ x h. inl tt)) [
+      | inr none ↦
+          let a : len s ≤ len (empty {R = nat_cmp}) = len_within s empty (λ y h. absurd (none y h)) in
+          let c : len (empty {R = nat_cmp}) ≡ 0 = len-empty nat_cmp in
+          absurd (omega arith)
+      | inl f ↦ elim (other_or_alone s f.0) [
+          | inl g ↦ (g.0, f.0, g.1, f.1, g.2)
+          | inr only ↦ let a : len s ≤ 1 = len_single s f.0 only in absurd (omega arith)
+        ]
+    ]
+
+pub len_four : (s : NameSet) (a b c d : ℕ) → Has s a → Has s b → Has s c → Has s d → a ≢ b → a ≢ c → b ≢ c → a ≢ d → b ≢ d → c ≢ d → 4 ≤ len s
+len_four s a b c d ha hb hc hd ab ac bc ad bd cd =
+    let one : NameSet = only_name a in
+    let l0 : len (empty {R = nat_cmp}) ≡ 0 = len-empty nat_cmp in
+    let l1 : len (insert empty a) ≡ len (empty {R = nat_cmp}) + 1 = len_more empty a (empty_lacks a) in
+    let l2 : len (insert (insert empty a) b) ≡ len (insert empty a) + 1 =
+          len_more (insert empty a) b (insert_lacks empty a b (λ e. ab (sym e)) (empty_lacks b)) in
+    let l3 : len (insert (insert (insert empty a) b) c) ≡ len (insert (insert empty a) b) + 1 =
+          len_more (insert (insert empty a) b) c (insert_lacks (insert empty a) b c (λ e. bc (sym e)) (insert_lacks empty a c (λ e. ac (sym e)) (empty_lacks c))) in
+    let l4 : len (insert (insert (insert (insert empty a) b) c) d) ≡ len (insert (insert (insert empty a) b) c) + 1 =
+          len_more (insert (insert (insert empty a) b) c) d
+            (insert_lacks (insert (insert empty a) b) c d (λ e. cd (sym e)) (insert_lacks (insert empty a) b d (λ e. bd (sym e)) (insert_lacks empty a d (λ e. ad (sym e)) (empty_lacks d)))) in
+    let w : len (insert (insert (insert (insert empty a) b) c) d) ≤ len s =
+          len_within (insert (insert (insert (insert empty a) b) c) d) s
+            (insert_within (insert (insert (insert empty a) b) c) s d (insert_within (insert (insert empty a) b) s c (insert_within (insert empty a) s b (insert_within empty s a (λ q h. clash h (empty_lacks q)) ha) hb) hc) hd) in
+    omega arith
+
+-- the first member of a set
+first_below : (s : NameSet) (n x : ℕ) → x < n → Has s x → (z : ℕ) × Has s z × ((y : ℕ) → Has s y → z ≤ y)
+first_below s zero x b h = absurd (omega arith)
+first_below s (suc n) x b h =
+    elim (search_members (λ y. y < x) (λ y. x ≤ y) s (λ y k. order y x)) [
+      | inl f ↦ first_below s n f.0 (let l : f.0 < x = f.2 in omega arith) f.1
+      | inr none ↦ (x, h, none)
+    ]
+  where
+  order : (y x : ℕ) → (y < x) ⊎ (x ≤ y)
+  order y x = elim (either (ltb y x)) [ inl t ↦ inl (ltb-true y x t) | inr t ↦ inr (ltb-false y x t) ]
+
+pub first_member : (s : NameSet) (x : ℕ) → Has s x → (z : ℕ) × Has s z × ((y : ℕ) → Has s y → z ≤ y)
+first_member s x h = first_below s (x + 1) x (omega arith) h
+
+pub len_one_more : (t : NameSet) (x : ℕ) → len (insert t x) ≤ len t + 1
+len_one_more t x = elim (either (contains t x)) [
+    | inl h ↦ let same : len (insert t x) ≡ len t = ap len (insert_known t x h) in omega arith
+    | inr l ↦ let more : len (insert t x) ≡ len t + 1 = len_more t x l in omega arith
+  ]

@@ -52,3 +52,22 @@ abbrev pub NoInducedPathIfNonePrime : Type 0
 NoInducedPathIfNonePrime =
     (e : ℕ → ℕ → Bool) → IsAdjacency e → (s : NameSet) →
     (¬ (HasInducedPath e s)) ↔ ((m : NameSet) → IsStrong e s m → ¬ (IsPrime e m))
+
+-- the maximal proper modules of s, and their quotient
+pub record MaximalModules (e : ℕ → ℕ → Bool) (s : NameSet) : Type 0 where
+  -- each two names have a least module, and they lie in one maximal proper module exactly where that isn't s
+  pub least : (u v : ℕ) → Has s u → Has s v → (k : NameSet) × IsLeastModule e s u v k
+  pub together : (u v : ℕ) (k : NameSet) → IsLeastModule e s u v k → ((m : NameSet) × IsMaximalModule e s m × Has m u × Has m v) ↔ (k ≢ s)
+  -- each name lies in a maximal proper module, and different ones are disjoint
+  pub covered : (u : ℕ) → Has s u → (m : NameSet) × IsMaximalModule e s m × Has m u
+  pub disjoint : (m n : NameSet) → IsMaximalModule e s m → IsMaximalModule e s n → m ≢ n → Disjoint m n
+  -- between two of them all pairs are alike, so that the names of a quotient tell the adjacency of their modules
+  pub alike : (m n : NameSet) (a b p q : ℕ) → IsMaximalModule e s m → IsMaximalModule e s n → m ≢ n → Has m a → Has m p → Has n b → Has n q → e a b ≡ e p q
+  -- there is a quotient; each has trivial modules alone, and four names or more
+  pub quotient : (r : NameSet) × IsQuotient e s r
+  pub trivial : (r : NameSet) → IsQuotient e s r → HasTrivialModulesAlone e r
+  pub four : (r : NameSet) → IsQuotient e s r → 4 ≤ len r
+
+-- what holds of the maximal proper modules of each set that is prime: with two or more members, connected and co-connected
+abbrev pub PrimeHasMaximalModules : Type 0
+PrimeHasMaximalModules = (e : ℕ → ℕ → Bool) → IsAdjacency e → (s : NameSet) → IsPrime e s → MaximalModules e s

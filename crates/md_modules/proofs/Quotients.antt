@@ -1,0 +1,177 @@
+-- Partitions into modules and their quotients; the maximal proper modules of a prime set.
+use Rattle.std.proofs.Common.{◌≡◌, ℕ, ◌+◌, ◌<◌, ◌≤◌, Bool, true, false, not, nat_eq, ◌≢◌, ◌⊎◌, ◌↔◌, refl, sym, ◌∙◌, ap, subst, inl, inr, arith, eqb-true, eq-eqb}
+use Rattle.std.specs.FinSet.{contains, empty, insert, remove, retain, union, intersection, difference, len}
+use Rattle.md_modules.specs.Sets.{NameSet, Has, Lacks, Within, HasSome, HasTwo, Proper, Disjoint, only_name}
+use Rattle.md_modules.specs.Adjacency.{IsAdjacency}
+use Rattle.md_modules.specs.Modules.{IsModule, Overlap, IsStrong, IsLeastModule, IsMaximalModule, IsMaximalStrong, HasTrivialModulesAlone}
+use Rattle.md_modules.specs.Kinds.{IsSplit, IsPrime}
+use Rattle.md_modules.specs.Quotients.{IsQuotient, IsPartition, class}
+use Rattle.md_modules.specs.InducedPaths.{IsInducedPath, HasInducedPath}
+use Rattle.md_modules.specs.Laws.{MaximalModules, PrimeHasMaximalModules}
+use Rattle.md_modules.proofs.Sets.{either, clash, false_if, true_if, same_name, only_has, of_only, only_lacks, Has-along, Within-refl, Within-trans, lacks_within, same_members, insert_new, insert_old, of_insert, remove_gone, remove_left, of_remove, retain_has, of_retain, retain_lacks, of_retain_lacks, minus_has, of_minus}
+use Rattle.md_modules.proofs.Search.{Decided, decide_test, decide_both, decide_not, decide_if, decide_same, decide_some, decide_all, test_of, test_holds, of_test, search_members, outside_or_within, meet_or_disjoint, larger_or_same, choose, len_single, other_or_alone, two_of_len, len_fewer, len_one_more, len_within, len_four, first_member}
+use Rattle.md_modules.proofs.Components.{split_rest, closed_module, split_closed}
+use Rattle.md_modules.proofs.Modules.{across_modules, least_module, decide_module}
+use Rattle.md_modules.proofs.Strong.{strong_nested}
+use Rattle.md_modules.proofs.Children.{prime_unsplit, in_maximal, maximal_of, maximal_leaves, maximal_meet, together_if_least_proper, least_proper_if_together}
+use Rattle.md_modules.proofs.Paths.{prime_path}
+
+-- the class of p has the names that lead to p
+pub class_has : (s : NameSet) (rep : ℕ → ℕ) (p x : ℕ) → Has s x → rep x ≡ p → Has (class s rep p) x
+class_has s rep p x h same = retain_has s (λ y. nat_eq (rep y) p) x h (eq-eqb (rep x) p same)
+
+pub of_class : (s : NameSet) (rep : ℕ → ℕ) (p x : ℕ) → Has (class s rep p) x → Has s x × (rep x ≡ p)
+of_class s rep p x h =
+    let two : Has s x × (nat_eq (rep x) p ≡ true) = of_retain s (λ y. nat_eq (rep y) p) x h in
+    (two.0, eqb-true (rep x) p two.1)
+
+-- the names of s whose classes k names
+abbrev pub lifted : NameSet → (ℕ → ℕ) → NameSet → NameSet
+lifted s rep k = retain s (λ x. contains k (rep x))
+
+pub not_same_in : (k : NameSet) (x y : ℕ) → Has k x → Lacks k y → x ≢ y
+not_same_in k x y h l same = clash (subst (Has k) same h) l
+
+module _ {e : ℕ → ℕ → Bool} (adj : IsAdjacency e) (s r : NameSet) (rep : ℕ → ℕ) (part : IsPartition e s r rep) where
+  own_class : (p : ℕ) → Has r p → Has (class s rep p) p
+  own_class p h = class_has s rep p p (part.inside p h) (part.own p h)
+
+  -- between two classes all pairs are alike
+  pub across_classes : (a b : ℕ) → Has s a → Has s b → rep a ≢ rep b → e a b ≡ e (rep a) (rep b)
+  across_classes a b ha hb differ =
+      across_modules adj s (class s rep (rep a)) (class s rep (rep b)) (part.modules (rep a) (part.leads a ha)) (part.modules (rep b) (part.leads b hb))
+        (λ x h. false_if _ (λ k. differ (sym (of_class s rep (rep a) x h).1 ∙ (of_class s rep (rep b) x k).1)))
+        a (rep a) b (rep b) (class_has s rep (rep a) a ha refl) (own_class (rep a) (part.leads a ha)) (class_has s rep (rep b) b hb refl) (own_class (rep b) (part.leads b hb))
+
+  -- the classes of a module of the quotient are a module
+  pub lifted_module : (k : NameSet) → IsModule e r k → IsModule e s (lifted s rep k)
+  lifted_module k is = record {
+    some = (is.some.0, retain_has s (λ x. contains k (rep x)) is.some.0 (part.inside is.some.0 (is.inside is.some.0 is.some.1))
+      (subst (Has k) (sym (part.own is.some.0 (is.inside is.some.0 is.some.1))) is.some.1));
+    inside = λ x h. (of_retain s _ x h).0;
+    alike = λ a b x ha hb hx l.
+      let a_in : Has s a × Has k (rep a) = of_retain s (λ z. contains k (rep z)) a ha in
+      let b_in : Has s b × Has k (rep b) = of_retain s (λ z. contains k (rep z)) b hb in
+      let out : Lacks k (rep x) = of_retain_lacks s (λ z. contains k (rep z)) x hx l in
+      across_classes x a hx a_in.0 (λ same. not_same_in k (rep a) (rep x) a_in.1 out (sym same))
+      ∙ is.alike (rep a) (rep b) (rep x) a_in.1 b_in.1 (part.leads x hx) out
+      ∙ sym (across_classes x b hx b_in.0 (λ same. not_same_in k (rep b) (rep x) b_in.1 out (sym same)));
+  }
+
+  -- a split of the quotient is one of s
+  pub lifted_split : (k : NameSet) (v : Bool) → IsSplit e r k v → IsSplit e s (lifted s rep k) v
+  lifted_split k v is = record {
+    some = (is.some.0, retain_has s (λ x. contains k (rep x)) is.some.0 (part.inside is.some.0 (is.inside is.some.0 is.some.1))
+      (subst (Has k) (sym (part.own is.some.0 (is.inside is.some.0 is.some.1))) is.some.1));
+    inside = λ x h. (of_retain s _ x h).0;
+    rest = (is.rest.0, part.inside is.rest.0 is.rest.1, retain_lacks s (λ x. contains k (rep x)) is.rest.0 (subst (Lacks k) (sym (part.own is.rest.0 is.rest.1)) is.rest.2));
+    across = λ a b ha hb l.
+      let a_in : Has s a × Has k (rep a) = of_retain s (λ z. contains k (rep z)) a ha in
+      let out : Lacks k (rep b) = of_retain_lacks s (λ z. contains k (rep z)) b hb l in
+      across_classes a b a_in.0 hb (not_same_in k (rep a) (rep b) a_in.1 out) ∙ is.across (rep a) (rep b) a_in.1 (part.leads b hb) out;
+  }
+
+  -- the names of the classes that m meets
+  pub decide_met : (m : NameSet) (p : ℕ) → Decided ((x : ℕ) × Has m x × (rep x ≡ p))
+  decide_met m p = decide_some m (λ x. rep x ≡ p) (λ x h. same_name (rep x) p)
+
+  abbrev pub met : NameSet → NameSet
+  met m = retain r (λ p. test_of (decide_met m p))
+
+  pub met_has : (m : NameSet) (x : ℕ) → Has s x → Has m x → Has (met m) (rep x)
+  met_has m x hs h = retain_has r _ (rep x) (part.leads x hs) (test_holds (decide_met m (rep x)) (x, h, refl))
+
+  pub of_met : (m : NameSet) (p : ℕ) → Has (met m) p → (x : ℕ) × Has m x × (rep x ≡ p)
+  of_met m p h = of_test (decide_met m p) (of_retain r _ p h).1
+
+  -- the classes that a module meets are a module of the quotient
+  pub met_module : (m : NameSet) → IsModule e s m → IsModule e r (met m)
+  met_module m is = record {
+    some = (rep is.some.0, met_has m is.some.0 (is.inside is.some.0 is.some.1) is.some.1);
+    inside = λ p h. (of_retain r _ p h).0;
+    alike = λ p q x hp hq hx l.
+      let a : (z : ℕ) × Has m z × (rep z ≡ p) = of_met m p hp in
+      let b : (z : ℕ) × Has m z × (rep z ≡ q) = of_met m q hq in
+      let xs : Has s x = part.inside x hx in
+      let out : Lacks m x = false_if _ (λ h. clash (subst (Has (met m)) (part.own x hx) (met_has m x xs h)) l) in
+      sees x p a.0 hx (is.inside a.0 a.1) a.2 (λ same. clash (subst (Has (met m)) (sym same) hp) l)
+      ∙ is.alike a.0 b.0 x a.1 b.1 xs out
+      ∙ sym (sees x q b.0 hx (is.inside b.0 b.1) b.2 (λ same. clash (subst (Has (met m)) (sym same) hq) l));
+  } where
+    sees : (x p a : ℕ) → Has r x → Has s a → rep a ≡ p → x ≢ p → e x p ≡ e x a
+    sees x p a hx ha same differ =
+        sym (across_classes x a (part.inside x hx) ha (λ k. differ (sym (part.own x hx) ∙ k ∙ same))
+          ∙ ap (λ z. e z (rep a)) (part.own x hx) ∙ ap (e x) same)
+
+  -- in a quotient with three names or more and trivial modules alone, each module is the whole or lies in one class
+  rest_module : (m : NameSet) (z : ℕ) → IsModule e s m → 3 ≤ len r → met m ≡ r → Has s z → Lacks m z → IsModule e r (remove r (rep z))
+  rest_module m z is many same hz l = record {
+    some = some;
+    inside = λ x h. (of_remove r (rep z) x h).1;
+    alike = λ p q x hp hq hx out. elim (same_name x (rep z)) [
+      | inl is_z ↦ ap (λ y. e y p) is_z ∙ sees p hp ∙ sym (sees q hq) ∙ sym (ap (λ y. e y q) is_z)
+      | inr differs ↦ clash (remove_left r (rep z) x differs hx) out
+    ];
+  } where
+    some : HasSome (remove r (rep z))
+    some =
+        let fewer : len (remove r (rep z)) + 1 ≡ len r = len_fewer r (rep z) (part.leads z hz) in
+        let two : HasTwo (remove r (rep z)) = two_of_len (remove r (rep z)) (omega arith) in
+        (two.0, two.2)
+    w : ℕ
+    w = is.some.0
+    sees : (p : ℕ) → Has (remove r (rep z)) p → e (rep z) p ≡ e z w
+    sees p hp =
+        let p_in : (p ≢ rep z) × Has r p = of_remove r (rep z) p hp in
+        let a : (y : ℕ) × Has m y × (rep y ≡ p) = of_met m p (Has-along r (met m) (sym same) p p_in.1) in
+        sym (across_classes z a.0 hz (is.inside a.0 a.1) (λ k. p_in.0 (sym a.2 ∙ sym k)) ∙ ap (e (rep z)) a.2)
+        ∙ is.alike a.0 w z a.1 is.some.1 hz l
+
+  pub module_in_class : (m : NameSet) → IsModule e s m → 3 ≤ len r → HasTrivialModulesAlone e r → (m ≡ s) ⊎ ((p : ℕ) × Has r p × Within m (class s rep p))
+  module_in_class m is many trivial =
+      elim (trivial (met m) (met_module m is)) [
+        | inl one ↦
+            let w : ℕ = rep is.some.0 in
+            inr (w, part.leads is.some.0 (is.inside is.some.0 is.some.1), λ x h. class_has s rep w x (is.inside x h)
+              (one.1 (rep x) (met_has m x (is.inside x h) h) ∙ sym (one.1 w (met_has m is.some.0 (is.inside is.some.0 is.some.1) is.some.1))))
+        | inr all ↦ elim (larger_or_same m s is.inside) [
+            | inr same ↦ inl same
+            | inl z ↦ absurd (no_rest z.0 z.1 (trivial (remove r (rep z.0)) (rest_module m z.0 is many all z.1 z.2)))
+          ]
+      ]
+    where
+    no_rest : (z : ℕ) → Has s z → ((x : ℕ) × ((y : ℕ) → Has (remove r (rep z)) y → y ≡ x)) ⊎ (remove r (rep z) ≡ r) → ⊥
+    no_rest z hz (inl one) =
+        let fewer : len (remove r (rep z)) + 1 ≡ len r = len_fewer r (rep z) (part.leads z hz) in
+        let small : len (remove r (rep z)) ≤ 1 = len_single (remove r (rep z)) one.0 one.1 in
+        omega arith
+    no_rest z hz (inr same) = clash (Has-along r (remove r (rep z)) (sym same) (rep z) (part.leads z hz)) (remove_gone r (rep z))
+
+-- three names or more and trivial modules alone: a prime set
+module _ {e : ℕ → ℕ → Bool} (adj : IsAdjacency e) (r : NameSet) (many : 3 ≤ len r) (trivial : HasTrivialModulesAlone e r) where
+  trivial_unsplit : (v : Bool) (a : NameSet) → IsSplit e r a v → ⊥
+  trivial_unsplit v a split =
+      elim (trivial a (closed_module adj r a v (split_closed r a v split) split.some)) [
+        | inr same ↦ clash (Has-along r a (sym same) split.rest.0 split.rest.1) split.rest.2
+        | inl one ↦ elim (trivial (difference r a) (closed_module adj r (difference r a) v (split_closed r (difference r a) v rest) rest.some)) [
+            | inr same ↦ clash split.some.1 (of_minus r a split.some.0 (Has-along r (difference r a) (sym same) split.some.0 (split.inside split.some.0 split.some.1))).1
+            | inl other ↦
+                let small : len (difference r a) ≤ 1 = len_single (difference r a) other.0 other.1 in
+                let one_more : len (insert (difference r a) one.0) ≤ len (difference r a) + 1 = len_one_more (difference r a) one.0 in
+                let all : len r ≤ len (insert (difference r a) one.0) = len_within r (insert (difference r a) one.0) (λ x h. elim (either (contains a x)) [
+                  | inl i ↦ subst (Has (insert (difference r a) one.0)) (sym (one.1 x i)) (insert_new (difference r a) one.0)
+                  | inr o ↦ insert_old (difference r a) one.0 x (minus_has r a x h o)
+                ]) in
+                absurd (omega arith)
+          ]
+      ]
+    where
+    rest : IsSplit e r (difference r a) v
+    rest = split_rest adj r a v split
+
+  pub trivial_prime : IsPrime e r
+  trivial_prime = record {
+    two = two_of_len r (omega arith);
+    connected = λ w. trivial_unsplit false w.0 w.1;
+    co_connected = λ w. trivial_unsplit true w.0 w.1;
+  }
