@@ -3,10 +3,10 @@ use Rattle.std.proofs.Common.{◌≡◌, ℕ, Bool, true, false, ◌≢◌, ◌�
 use Rattle.std.specs.FinSet.{contains, union, intersection, difference}
 use Rattle.md_modules.specs.Sets.{NameSet, Has, Lacks, Within, HasSome, only_name}
 use Rattle.md_modules.specs.Adjacency.{IsAdjacency}
-use Rattle.md_modules.specs.Modules.{IsModule, Overlap, IsStrong, IsLeastModule}
+use Rattle.md_modules.specs.Modules.{IsModule, Overlap, IsStrong, IsLeastModule, IsMaximalModule}
 use Rattle.md_modules.specs.Kinds.{IsSplit}
 use Rattle.md_modules.proofs.Sets.{either, clash, false_if, same_name, only_has, of_only, Within-refl, Within-trans, lacks_within, same_members, meet_has, of_meet, of_meet_lacks, union_left, union_right, of_union, of_union_lacks, minus_has, of_minus, of_minus_lacks}
-use Rattle.md_modules.proofs.Search.{Decided, decide_test, decide_both, decide_if, decide_not, decide_like, decide_some, decide_all, decide_all_sets, decide_within, decide_has_some, outside_or_within, meet_or_disjoint, least}
+use Rattle.md_modules.proofs.Search.{Decided, decide_test, decide_both, decide_if, decide_not, decide_like, decide_some, decide_all, decide_all_sets, decide_within, decide_same, decide_has_some, outside_or_within, meet_or_disjoint, least}
 
 -- whether two sets overlap
 pub decide_overlap : (a b : NameSet) → Decided (Overlap a b)
@@ -141,6 +141,15 @@ module _ {e : ℕ → ℕ → Bool} where
         (λ w. record { is_module = w.0; free = λ n module_is. w.1 n module_is.inside module_is })
         (λ st. (st.is_module, λ n w module_is. st.free n module_is))
         (decide_both (decide_module s m) (decide_all_sets s (λ n. IsModule e s n → Overlap m n → ⊥) (λ n w. decide_if (decide_module s n) (decide_not (decide_overlap m n)))))
+
+  pub decide_maximal : (s m : NameSet) → Decided (IsMaximalModule e s m)
+  decide_maximal s m =
+      decide_like
+        (λ w. record { is_module = w.0; proper = w.1.0; maximal = λ n module_is differs v. w.1.1 n module_is.inside module_is differs v })
+        (λ max. (max.is_module, (max.proper, λ n w module_is differs v. max.maximal n module_is differs v)))
+        (decide_both (decide_module s m) (decide_both (decide_not (decide_same m s))
+          (decide_all_sets s (λ n. IsModule e s n → n ≢ s → Within m n → n ≡ m)
+            (λ n w. decide_if (decide_module s n) (decide_if (decide_not (decide_same n s)) (decide_if (decide_within m n) (decide_same n m)))))))
 
   -- the least module that holds two names, and that there is at most one
   pub least_module : (s : NameSet) (u v : ℕ) → Has s u → Has s v → (k : NameSet) × IsLeastModule e s u v k

@@ -9,9 +9,9 @@ use Rattle.md_modules.specs.Quotients.{IsQuotient, IsPartition, class}
 use Rattle.md_modules.specs.InducedPaths.{IsInducedPath, HasInducedPath}
 use Rattle.md_modules.specs.Laws.{MaximalModules, PrimeHasMaximalModules}
 use Rattle.md_modules.proofs.Sets.{either, clash, false_if, true_if, same_name, only_has, of_only, only_lacks, Has-along, Within-refl, Within-trans, lacks_within, same_members, insert_new, insert_old, of_insert, remove_gone, remove_left, of_remove, retain_has, of_retain, retain_lacks, of_retain_lacks, minus_has, of_minus}
-use Rattle.md_modules.proofs.Search.{Decided, decide_test, decide_both, decide_not, decide_if, decide_same, decide_some, decide_all, test_of, test_holds, of_test, search_members, outside_or_within, meet_or_disjoint, larger_or_same, choose, len_single, other_or_alone, two_of_len, len_fewer, len_one_more, len_within, len_four, first_member}
+use Rattle.md_modules.proofs.Search.{Decided, decide_test, decide_both, decide_not, decide_if, decide_same, decide_like, decide_below, decide_some, decide_some_set, decide_all, test_of, test_holds, of_test, search_members, outside_or_within, meet_or_disjoint, larger_or_same, choose, len_single, other_or_alone, two_of_len, len_fewer, len_one_more, len_within, len_four, first_member}
 use Rattle.md_modules.proofs.Components.{split_rest, closed_module, split_closed}
-use Rattle.md_modules.proofs.Modules.{across_modules, least_module, decide_module}
+use Rattle.md_modules.proofs.Modules.{across_modules, least_module, decide_module, decide_maximal}
 use Rattle.md_modules.proofs.Strong.{strong_nested}
 use Rattle.md_modules.proofs.Children.{prime_unsplit, in_maximal, maximal_of, maximal_leaves, maximal_meet, together_if_least_proper, least_proper_if_together}
 use Rattle.md_modules.proofs.Paths.{prime_path}
@@ -175,3 +175,166 @@ module _ {e : ℕ → ℕ → Bool} (adj : IsAdjacency e) (r : NameSet) (many : 
     connected = λ w. trivial_unsplit false w.0 w.1;
     co_connected = λ w. trivial_unsplit true w.0 w.1;
   }
+
+-- x and y lie in one maximal proper module
+abbrev pub Together : (ℕ → ℕ → Bool) → NameSet → ℕ → ℕ → Type 0
+Together e s x y = (m : NameSet) × IsMaximalModule e s m × Has m x × Has m y
+
+module _ (e : ℕ → ℕ → Bool) (s : NameSet) where
+  pub decide_together : (x y : ℕ) → Decided (Together e s x y)
+  decide_together x y =
+      decide_like
+        (λ w. (w.0, w.2.0, w.2.1.0, w.2.1.1))
+        (λ w. (w.0, w.1.is_module.inside, (w.1, (w.2, w.3))))
+        (decide_some_set s (λ m. IsMaximalModule e s m × (Has m x × Has m y))
+          (λ m w. decide_both (decide_maximal s m) (decide_both (decide_test (contains m x) true) (decide_test (contains m y) true))))
+
+  -- x is the first of its maximal proper module
+  abbrev pub IsFirst : ℕ → Type 0
+  IsFirst x = (y : ℕ) → Has s y → y < x → Together e s x y → ⊥
+
+  pub decide_first : (x : ℕ) → Decided (IsFirst x)
+  decide_first x = decide_all s _ (λ y h. decide_if (decide_below y x) (decide_not (decide_together x y)))
+
+  abbrev pub firsts : NameSet
+  firsts = retain s (λ x. test_of (decide_first x))
+
+  module _ (adj : IsAdjacency e) (prime : IsPrime e s) where
+    together_in : (m : NameSet) (x y : ℕ) → IsMaximalModule e s m → Has m x → Together e s x y → Has m y
+    together_in m x y max h t = Has-along t.0 m (maximal_meet adj s t.0 m x prime t.1 max t.2 h) y t.3
+
+    -- the first names of the maximal proper modules are the names of a quotient
+    pub firsts_quotient : IsQuotient e s firsts
+    firsts_quotient = record {
+      inside = λ x h. (of_retain s _ x h).0;
+      one = λ m max.
+        let f : (z : ℕ) × Has m z × ((y : ℕ) → Has m y → z ≤ y) = first_member m max.is_module.some.0 max.is_module.some.1 in
+        (f.0, f.1,
+          retain_has s (λ x. test_of (decide_first x)) f.0 (max.is_module.inside f.0 f.1)
+            (test_holds (decide_first f.0) (λ y h below t. let le : f.0 ≤ y = f.2 y (together_in m f.0 y max f.1 t) in omega arith)),
+          λ y h k. no_smaller y f.0 (of_test (decide_first y) (of_retain s (λ x. test_of (decide_first x)) y k).1)
+            (max.is_module.inside f.0 f.1) (f.2 y h) (m, max, h, f.1));
+    } where
+      no_smaller : (y z : ℕ) → IsFirst y → Has s z → z ≤ y → Together e s y z → y ≡ z
+      no_smaller y z first h le t = elim (same_name y z) [
+          | inl same ↦ same
+          | inr differs ↦ absurd (first z h (omega arith) t)
+        ]
+
+    module _ (r : NameSet) (quotient : IsQuotient e s r) where
+      one_in_class : (m : NameSet) (p q : ℕ) → IsMaximalModule e s m → Has m p → Has m q → Has r p → Has r q → p ≡ q
+      one_in_class m p q max mp mq rp rq =
+          let o : (x : ℕ) × Has m x × Has r x × ((y : ℕ) → Has m y → Has r y → y ≡ x) = quotient.one m max in
+          o.3 p mp rp ∙ sym (o.3 q mq rq)
+
+      Represents : ℕ → ℕ → Type 0
+      Represents x y = Has r y × Together e s x y
+
+      represent : (rep : ℕ → ℕ) × ((x : ℕ) → Has s x → Has r (rep x) × Together e s x (rep x))
+      represent = choose s (λ x y. Has r y × Together e s x y) (λ x h.
+          let m : (m : NameSet) × IsMaximalModule e s m × Has m x = maximal_of s x prime.two h in
+          let o : (z : ℕ) × Has m.0 z × Has r z × ((y : ℕ) → Has m.0 y → Has r y → y ≡ z) = quotient.one m.0 m.1 in
+          (o.0, (o.2, (m.0, m.1, m.2, o.1))))
+
+      module _ (rep : ℕ → ℕ) (fits : (x : ℕ) → Has s x → Has r (rep x) × Together e s x (rep x)) where
+        leads_to_own : (p : ℕ) → Has r p → rep p ≡ p
+        leads_to_own p h =
+            let f : Has r (rep p) × Together e s p (rep p) = fits p (quotient.inside p h) in
+            one_in_class f.1.0 (rep p) p f.1.1 f.1.3 f.1.2 f.0 h
+
+        class_same : (p : ℕ) (m : NameSet) → Has r p → IsMaximalModule e s m → Has m p → class s rep p ≡ m
+        class_same p m h max mp = same_members (class s rep p) m
+            (λ x k.
+              let c : Has s x × (rep x ≡ p) = of_class s rep p x k in
+              let t : Together e s x (rep x) = (fits x c.0).1 in
+              together_in m p x max mp (t.0, t.1, subst (Has t.0) c.1 t.3, t.2))
+            (λ x k.
+              let hs : Has s x = max.is_module.inside x k in
+              class_has s rep p x hs (one_in_class m (rep x) p max (together_in m x (rep x) max k (fits x hs).1) mp (fits x hs).0 h))
+
+        class_maximal : (p : ℕ) → Has r p → IsMaximalModule e s (class s rep p)
+        class_maximal p h =
+            let m : (m : NameSet) × IsMaximalModule e s m × Has m p = maximal_of s p prime.two (quotient.inside p h) in
+            subst (IsMaximalModule e s) (sym (class_same p m.0 h m.1 m.2)) m.1
+
+        partition : IsPartition e s r rep
+        partition = record {
+          inside = quotient.inside;
+          leads = λ x h. (fits x h).0;
+          own = leads_to_own;
+          modules = λ p h. (class_maximal p h).is_module;
+        }
+
+        trivial_from : HasTrivialModulesAlone e r
+        trivial_from k is =
+            elim (other_or_alone k is.some.0) [
+              | inr alone ↦ inl (is.some.0, alone)
+              | inl y ↦ elim (decide_same (lifted s rep k) s) [
+                  | inl same ↦ inr (same_members k r is.inside (λ x h.
+                      subst (Has k) (leads_to_own x h) (of_retain s (λ z. contains k (rep z)) x (Has-along s (lifted s rep k) (sym same) x (quotient.inside x h))).1))
+                  | inr differs ↦ absurd (no_two y (in_maximal s (lifted s rep k) (lifted_module adj s r rep partition k is) differs))
+                ]
+            ]
+          where
+          in_lifted : (p : ℕ) → Has k p → Has (lifted s rep k) p
+          in_lifted p h = retain_has s (λ z. contains k (rep z)) p (quotient.inside p (is.inside p h)) (subst (Has k) (sym (leads_to_own p (is.inside p h))) h)
+          no_two : (y : ℕ) × Has k y × (y ≢ is.some.0) → (x : NameSet) × IsMaximalModule e s x × Within (lifted s rep k) x → ⊥
+          no_two y m = y.2 (one_in_class m.0 y.0 is.some.0 m.1 (m.2 y.0 (in_lifted y.0 y.1)) (m.2 is.some.0 (in_lifted is.some.0 is.some.1)) (is.inside y.0 y.1) (is.inside is.some.0 is.some.1))
+
+        prime_from : IsPrime e r
+        prime_from = record {
+          two = (rep x, rep y.0, (fits x hx).0, (fits y.0 y.1).0, λ same.
+            let tx : Together e s x (rep x) = (fits x hx).1 in
+            let ty : Together e s y.0 (rep y.0) = (fits y.0 y.1).1 in
+            clash (together_in (class s rep (rep x)) (rep x) y.0 cx own_rep (ty.0, ty.1, subst (Has ty.0) (sym same) ty.3, ty.2)) y.2);
+          connected = λ w. prime_unsplit s prime false (lifted s rep w.0) (lifted_split adj s r rep partition w.0 false w.1);
+          co_connected = λ w. prime_unsplit s prime true (lifted s rep w.0) (lifted_split adj s r rep partition w.0 true w.1);
+        } where
+          x : ℕ
+          x = prime.two.0
+          hx : Has s x
+          hx = prime.two.2
+          cx : IsMaximalModule e s (class s rep (rep x))
+          cx = class_maximal (rep x) (fits x hx).0
+          own_rep : Has (class s rep (rep x)) (rep x)
+          own_rep = class_has s rep (rep x) (rep x) (quotient.inside (rep x) (fits x hx).0) (leads_to_own (rep x) (fits x hx).0)
+          y : (z : ℕ) × Has s z × Lacks (class s rep (rep x)) z
+          y = maximal_leaves s (class s rep (rep x)) cx
+
+      -- each quotient of a prime set is a partition into its maximal proper modules
+      pub quotient_partition : (rep : ℕ → ℕ) × IsPartition e s r rep × ((p : ℕ) → Has r p → IsMaximalModule e s (class s rep p))
+      quotient_partition = (represent.0, partition represent.0 represent.1, class_maximal represent.0 represent.1)
+
+      pub quotient_trivial : HasTrivialModulesAlone e r
+      quotient_trivial = trivial_from represent.0 represent.1
+
+      pub quotient_prime : IsPrime e r
+      quotient_prime = prime_from represent.0 represent.1
+
+      pub quotient_four : 4 ≤ len r
+      quotient_four =
+          let path : HasInducedPath e r = prime_path adj r quotient_prime in
+          let is : IsInducedPath e r path.0 path.1 path.2 path.3 = path.4 in
+          len_four r path.0 path.1 path.2 path.3 is.inside.0 is.inside.1 is.inside.2 is.inside.3
+            is.different.0 is.different.1 is.different.2 (ends_differ path.0 path.3 is.ascending) is.different.3 is.different.4
+        where
+        ends_differ : (a d : ℕ) → a < d → a ≢ d
+        ends_differ a d l same = let k : a < d = l in let q : a ≡ d = same in omega arith
+
+    maximal_disjoint : (m n : NameSet) → IsMaximalModule e s m → IsMaximalModule e s n → m ≢ n → Disjoint m n
+    maximal_disjoint m n a b differ x h = false_if _ (λ k. differ (maximal_meet adj s m n x prime a b h k))
+
+    pub maximal_modules : MaximalModules e s
+    maximal_modules = record {
+      least = least_module s;
+      together = λ u v k is. ((λ w. least_proper_if_together s k w.0 u v is w.1 w.2 w.3), together_if_least_proper s k u v is);
+      covered = λ u h. maximal_of s u prime.two h;
+      disjoint = maximal_disjoint;
+      alike = λ m n a b p q mm mn differ ha hp hb hq. across_modules adj s m n mm.is_module mn.is_module (maximal_disjoint m n mm mn differ) a p b q ha hp hb hq;
+      quotient = (firsts, firsts_quotient);
+      trivial = quotient_trivial;
+      four = quotient_four;
+    }
+
+pub maximal_modules_proof : PrimeHasMaximalModules
+maximal_modules_proof e adj s prime = maximal_modules e s adj prime

@@ -351,3 +351,9 @@ len_one_more t x = elim (either (contains t x)) [
     | inl h ↦ let same : len (insert t x) ≡ len t = ap len (insert_known t x h) in omega arith
     | inr l ↦ let more : len (insert t x) ≡ len t + 1 = len_more t x l in omega arith
   ]
+
+pub decide_below : (a b : ℕ) → Decided (a < b)
+decide_below a b = elim (either (ltb a b)) [
+    | inl t ↦ inl (ltb-true a b t)
+    | inr t ↦ inr (λ l. let le : b ≤ a = ltb-false a b t in omega arith)
+  ]

@@ -1,7 +1,9 @@
 //! The laws of modules, each the contract of a function that does nothing. They speak of any set of names with a
 //! test of adjacency, so of a graph, of the graph on a part of its names, and of the complement of each.
 
-ghost use Rattle.md_modules.specs.Laws.{HasOneKind, StrongModulesAreTree, StrongModulesDescend, PrimeHasInducedPath, NoInducedPathIfNonePrime};
+ghost use Rattle.md_modules.specs.Laws.{
+    HasOneKind, StrongModulesAreTree, StrongModulesDescend, PrimeHasMaximalModules, PrimeHasInducedPath, NoInducedPathIfNonePrime,
+};
 
 /// The strong modules of a graph with a vertex are a tree under inclusion, whose root is the set of all vertices and
 /// whose leaves are the single vertices.
@@ -20,6 +22,14 @@ pub fn one_kind()
 /// maximal strong module properly inside it.
 pub fn strong_modules_descend()
     ensures { StrongModulesDescend }
+{
+}
+
+/// In a graph with two or more vertices that is connected, as its complement is: two vertices lie in one maximal proper
+/// module exactly where the least module that holds both isn't the set of all; different maximal proper modules are
+/// disjoint; their quotient has trivial modules alone, and four vertices or more.
+pub fn prime_has_maximal_modules()
+    ensures { PrimeHasMaximalModules }
 {
 }
 
