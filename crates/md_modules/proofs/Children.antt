@@ -1,16 +1,16 @@
 -- The children of a set of each kind: its components, those of its complement, or its maximal proper modules.
-use Rattle.std.proofs.Common.{◌≡◌, ℕ, Bool, true, false, not, ◌≢◌, ◌⊎◌, ◌↔◌, refl, sym, ◌∙◌, ap, subst, inl, inr}
-use Rattle.std.specs.FinSet.{contains, union, intersection, difference}
-use Rattle.md_modules.specs.Sets.{NameSet, Has, Lacks, Within, HasSome, HasTwo, Proper, Disjoint, only_name}
+use Rattle.std.proofs.Common.{◌≡◌, ℕ, Bool, true, false, not, ◌≢◌, sym, ◌∙◌, subst, inl, inr}
+use Rattle.std.specs.FinSet.{contains, union}
+use Rattle.md_modules.specs.Sets.{NameSet, Has, Lacks, Within, HasTwo, only_name}
 use Rattle.md_modules.specs.Adjacency.{IsAdjacency}
 use Rattle.md_modules.specs.Modules.{IsModule, Overlap, IsStrong, IsLeastModule, IsMaximalModule, IsMaximalStrong}
 use Rattle.md_modules.specs.Kinds.{IsSplit, IsPrime}
-use Rattle.md_modules.specs.Components.{IsClosed, IsComponent}
-use Rattle.md_modules.proofs.Sets.{either, clash, false_if, true_if, same_name, only_has, of_only, Has-along, Within-refl, Within-trans, lacks_within, same_members, union_left, union_right, of_union, of_union_lacks, union_lacks}
-use Rattle.md_modules.proofs.Search.{Decided, decide_test, decide_both, decide_not, decide_same, outside_or_within, larger_or_same, largest}
-use Rattle.md_modules.proofs.Modules.{whole_module, single_module, join_module, cover_split, decide_module, least_module}
-use Rattle.md_modules.proofs.Components.{not_own, split_closed, closed_join, component_of, crossing_pair, closed_module, component_unsplit, component_of_member, components_meet}
-use Rattle.md_modules.proofs.Strong.{nested_if_meet, larger_than_single, strong_nested, whole_strong, child_of}
+use Rattle.md_modules.specs.Components.{IsComponent}
+use Rattle.md_modules.proofs.Sets.{either, clash, false_if, only_has, Has-along, same_members, union_left, union_right, union_lacks}
+use Rattle.md_modules.proofs.Search.{decide_both, decide_not, decide_same, outside_or_within, larger_or_same, largest}
+use Rattle.md_modules.proofs.Modules.{single_module, join_module, cover_split, decide_module}
+use Rattle.md_modules.proofs.Components.{not_own, closed_join, component_of, crossing_pair, closed_module, component_unsplit, components_meet}
+use Rattle.md_modules.proofs.Strong.{nested_if_meet, larger_than_single, strong_nested}
 
 -- where s doesn't split in either way
 pub prime_unsplit : {e : ℕ → ℕ → Bool} (s : NameSet) → IsPrime e s → (v : Bool) (a : NameSet) → IsSplit e s a v → ⊥
@@ -22,7 +22,7 @@ module _ {e : ℕ → ℕ → Bool} where
   pub in_maximal : (s m : NameSet) → IsModule e s m → m ≢ s → (x : NameSet) × IsMaximalModule e s x × Within m x
   in_maximal s m is differs =
       let r : (x : NameSet) × Within m x × Within x s × (IsModule e s x × (x ≢ s)) × ((b : NameSet) → Within x b → Within b s → IsModule e s b × (b ≢ s) → b ≡ x) =
-            largest (λ x. IsModule e s x × (x ≢ s)) s m is.inside (is, differs) (λ x w. decide_both (decide_module s x) (decide_not (decide_same x s))) in
+      largest (λ x. IsModule e s x × (x ≢ s)) s m is.inside (is, differs) (λ x w. decide_both (decide_module s x) (decide_not (decide_same x s))) in
       (r.0, record { is_module = r.3.0; proper = r.3.1; maximal = λ n module_is d w. r.4 n w module_is.inside (module_is, d) }, r.1)
 
   pub maximal_of : (s : NameSet) (x : ℕ) → HasTwo s → Has s x → (m : NameSet) × IsMaximalModule e s m × Has m x
@@ -39,9 +39,9 @@ module _ {e : ℕ → ℕ → Bool} where
     component_strong s c v x is = record {
       is_module = closed_module adj s c v is.closed (x, is.holds);
       free = λ k module_is over.
-        let r : (a : ℕ) × (b : ℕ) × Has c a × Has c b × (contains k a ≡ true) × (contains k b ≡ false) × (e a b ≡ not v) =
-              crossing_pair c v (contains k) over.meet.0 over.left.0 (component_unsplit adj s c v x is) over.meet.1 over.left.1 over.meet.2 over.left.2 in
-        not_own (e r.1 over.right.0) v
+          let r : (a : ℕ) × (b : ℕ) × Has c a × Has c b × (contains k a ≡ true) × (contains k b ≡ false) × (e a b ≡ not v) =
+          crossing_pair c v (contains k) over.meet.0 over.left.0 (component_unsplit adj s c v x is) over.meet.1 over.left.1 over.meet.2 over.left.2 in
+          not_own (e r.1 over.right.0) v
           (is.closed.across r.1 over.right.0 r.3 (module_is.inside over.right.0 over.right.1) over.right.2)
           (sym (module_is.alike r.0 over.right.0 r.1 r.4 over.right.1 (is.closed.inside r.1 r.3) r.5) ∙ adj.symmetric r.1 r.0 ∙ r.6);
     }
@@ -52,24 +52,26 @@ module _ {e : ℕ → ℕ → Bool} where
         elim (outside_or_within m c) [
           | inr w ↦ w
           | inl left ↦ elim (larger_or_same m s is.is_module.inside) [
-              | inr same ↦ absurd (differs same)
-              | inl rest ↦ (let r : (d : NameSet) × IsComponent e s rest.0 d v = component_of s v rest.0 rest.1 in absurd (outside left rest r.0 r.1))
-            ]
+            | inr same ↦ absurd (differs same)
+            | inl rest ↦ (let r : (d : NameSet) × IsComponent e s rest.0 d v = component_of s v rest.0 rest.1 in absurd (outside left rest r.0 r.1))
+          ]
         ]
       where
-      c_module : IsModule e s c
-      c_module = closed_module adj s c v comp.closed (x, comp.holds)
-      d_lacks : (y : (y : ℕ) × Has m y × Lacks c y) (z : (z : ℕ) × Has s z × Lacks m z) (d : NameSet) → IsComponent e s z.0 d v → Lacks d y.0
-      d_lacks y z d of = false_if _ (λ k. elim (either (contains d x)) [
-        | inr o ↦ is.free d (closed_module adj s d v of.closed (z.0, of.holds)) (record { meet = (y.0, y.1, k); left = (x, h, o); right = (z.0, of.holds, z.2) })
-        | inl i ↦ elim (nested_if_meet m c x (is.free c c_module) h comp.holds) [
+        c_module : IsModule e s c
+        c_module = closed_module adj s c v comp.closed (x, comp.holds)
+
+        d_lacks : (y : (y : ℕ) × Has m y × Lacks c y) (z : (z : ℕ) × Has s z × Lacks m z) (d : NameSet) → IsComponent e s z.0 d v → Lacks d y.0
+        d_lacks y z d of = false_if _ (λ k. elim (either (contains d x)) [
+          | inr o ↦ is.free d (closed_module adj s d v of.closed (z.0, of.holds)) (record { meet = (y.0, y.1, k); left = (x, h, o); right = (z.0, of.holds, z.2) })
+          | inl i ↦ elim (nested_if_meet m c x (is.free c c_module) h comp.holds) [
             | inl w ↦ clash (w y.0 y.1) y.2
             | inr w ↦ clash (w z.0 (Has-along d c (sym (components_meet adj s c d v x z.0 x comp of comp.holds i)) z.0 of.holds)) z.2
           ]
-      ])
-      outside : (y : (y : ℕ) × Has m y × Lacks c y) (z : (z : ℕ) × Has s z × Lacks m z) (d : NameSet) → IsComponent e s z.0 d v → ⊥
-      outside y z d of =
-          is.free (union c d) (closed_module adj s (union c d) v (closed_join s c d v comp.closed of.closed) (x, union_left c d x comp.holds))
+        ])
+
+        outside : (y : (y : ℕ) × Has m y × Lacks c y) (z : (z : ℕ) × Has s z × Lacks m z) (d : NameSet) → IsComponent e s z.0 d v → ⊥
+        outside y z d of =
+            is.free (union c d) (closed_module adj s (union c d) v (closed_join s c d v comp.closed of.closed) (x, union_left c d x comp.holds))
             (record {
               meet = (x, h, union_left c d x comp.holds);
               left = (y.0, y.1, union_lacks c d y.0 y.2 (d_lacks y z d of));

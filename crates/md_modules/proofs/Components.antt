@@ -1,14 +1,14 @@
 -- Closed parts, components and splits, of the graph (v is false) and of its complement (v is true) at once.
-use Rattle.std.proofs.Common.{◌≡◌, ℕ, Bool, true, false, not, ◌≢◌, ◌⊎◌, refl, sym, ◌∙◌, ap, subst, inl, inr}
+use Rattle.std.proofs.Common.{◌≡◌, ℕ, Bool, true, false, not, ◌⊎◌, refl, sym, ◌∙◌, inl, inr}
 use Rattle.std.specs.FinSet.{contains, retain, union, intersection, difference}
-use Rattle.md_modules.specs.Sets.{NameSet, Has, Lacks, Within, HasSome, HasTwo, only_name}
+use Rattle.md_modules.specs.Sets.{NameSet, Has, Lacks, Within, HasSome, HasTwo}
 use Rattle.md_modules.specs.Adjacency.{IsAdjacency}
 use Rattle.md_modules.specs.Modules.{IsModule}
 use Rattle.md_modules.specs.Kinds.{IsSplit, IsParallel, IsSeries, IsPrime}
 use Rattle.md_modules.specs.Components.{IsClosed, IsComponent}
-use Rattle.md_modules.specs.Laws.{ExactlyOne, HasOneKind}
-use Rattle.md_modules.proofs.Sets.{either, clash, false_if, true_if, same_name, only_has, of_only, Within-refl, Within-trans, lacks_within, same_members, retain_has, of_retain, retain_lacks, of_retain_lacks, meet_has, of_meet, of_meet_lacks, union_left, union_right, of_union, of_union_lacks, minus_has, of_minus, of_minus_lacks, minus_lacks}
-use Rattle.md_modules.proofs.Search.{Decided, decide_test, decide_both, decide_if, decide_not, decide_like, decide_some, decide_all, decide_some_set, decide_within, decide_has_some, larger_or_same, least}
+use Rattle.md_modules.specs.Laws.{HasOneKind}
+use Rattle.md_modules.proofs.Sets.{either, clash, true_if, Within-refl, Within-trans, same_members, retain_has, of_retain, retain_lacks, of_retain_lacks, meet_has, of_meet, of_meet_lacks, of_union, of_union_lacks, minus_has, of_minus, of_minus_lacks, minus_lacks}
+use Rattle.md_modules.proofs.Search.{Decided, decide_test, decide_both, decide_if, decide_like, decide_some, decide_all, decide_some_set, decide_within, decide_has_some, larger_or_same, least}
 
 pub other_value : (a v : Bool) → (a ≡ not v → ⊥) → a ≡ v
 other_value true true n = refl
@@ -68,25 +68,25 @@ module _ {e : ℕ → ℕ → Bool} where
   pub decide_closed : (s c : NameSet) (v : Bool) → Decided (IsClosed e s c v)
   decide_closed s c v =
       decide_like
-        (λ w. record { inside = w.0; across = λ a b p q l. w.1 a p b q l })
-        (λ closed. (closed.inside, λ a p b q l. closed.across a b p q l))
-        (decide_both (decide_within c s) (decide_closed_all s c v))
+      (λ w. record { inside = w.0; across = λ a b p q l. w.1 a p b q l })
+      (λ closed. (closed.inside, λ a p b q l. closed.across a b p q l))
+      (decide_both (decide_within c s) (decide_closed_all s c v))
 
   -- whether s splits
   pub decide_split : (s : NameSet) (v : Bool) → Decided ((part : NameSet) × IsSplit e s part v)
   decide_split s v =
       decide_like
-        (λ w. (w.0, closed_split s w.0 v w.2.0 w.2.1.0 w.2.1.1))
-        (λ w. (w.0, w.1.inside, (split_closed s w.0 v w.1, (w.1.some, w.1.rest))))
-        (decide_some_set s (λ a. IsClosed e s a v × (HasSome a × ((x : ℕ) × Has s x × Lacks a x)))
-          (λ a w. decide_both (decide_closed s a v) (decide_both (decide_has_some a) (decide_some s (Lacks a) (λ x h. decide_test (contains a x) false)))))
+      (λ w. (w.0, closed_split s w.0 v w.2.0 w.2.1.0 w.2.1.1))
+      (λ w. (w.0, w.1.inside, (split_closed s w.0 v w.1, (w.1.some, w.1.rest))))
+      (decide_some_set s (λ a. IsClosed e s a v × (HasSome a × ((x : ℕ) × Has s x × Lacks a x)))
+      (λ a w. decide_both (decide_closed s a v) (decide_both (decide_has_some a) (decide_some s (Lacks a) (λ x h. decide_test (contains a x) false)))))
 
   -- each name lies in a component
   pub component_of : (s : NameSet) (v : Bool) (x : ℕ) → Has s x → (c : NameSet) × IsComponent e s x c v
   component_of s v x h =
       let r : (c : NameSet) × Within c s × (IsClosed e s c v × Has c x) × ((a : NameSet) → IsClosed e s a v × Has a x → Within c a) =
-            least (λ c. IsClosed e s c v × Has c x) s (closed_whole s v, h) (λ c w. decide_both (decide_closed s c v) (decide_test (contains c x) true))
-              (λ a b p q. (closed_meet s a b v p.0 q.0, meet_has a b x p.1 q.1)) in
+      least (λ c. IsClosed e s c v × Has c x) s (closed_whole s v, h) (λ c w. decide_both (decide_closed s c v) (decide_test (contains c x) true))
+      (λ a b p q. (closed_meet s a b v p.0 q.0, meet_has a b x p.1 q.1)) in
       (r.0, record { holds = r.2.1; closed = r.2.0; least = λ a p q. r.3 a (p, q) })
 
   pub one_component : (s c d : NameSet) (v : Bool) (x : ℕ) → IsComponent e s x c v → IsComponent e s x d v → c ≡ d
@@ -105,14 +105,14 @@ module _ {e : ℕ → ℕ → Bool} where
       (a : ℕ) × (b : ℕ) × Has c a × Has c b × (t a ≡ true) × (t b ≡ false) × (e a b ≡ not v)
   crossing_pair c v t p q no_split hp hq tp tq =
       elim (decide_some c (λ a. (t a ≡ true) × ((b : ℕ) × Has c b × ((t b ≡ false) × (e a b ≡ not v))))
-          (λ a ha. decide_both (decide_test (t a) true) (decide_some c _ (λ b hb. decide_both (decide_test (t b) false) (decide_test (e a b) (not v)))))) [
+      (λ a ha. decide_both (decide_test (t a) true) (decide_some c _ (λ b hb. decide_both (decide_test (t b) false) (decide_test (e a b) (not v)))))) [
         | inl f ↦ (f.0, f.2.1.0, f.1, f.2.1.1, f.2.0, f.2.1.2.0, f.2.1.2.1)
         | inr none ↦ absurd (no_split (retain c t) (record {
-            some = (p, retain_has c t p hp tp);
-            inside = λ x h. (of_retain c t x h).0;
-            rest = (q, hq, retain_lacks c t q tq);
-            across = λ a b ha hb l. other_value (e a b) v (λ k. none (a, (of_retain c t a ha).0, ((of_retain c t a ha).1, (b, hb, (of_retain_lacks c t b hb l, k)))));
-          }))
+          some = (p, retain_has c t p hp tp);
+          inside = λ x h. (of_retain c t x h).0;
+          rest = (q, hq, retain_lacks c t q tq);
+          across = λ a b ha hb l. other_value (e a b) v (λ k. none (a, (of_retain c t a ha).0, ((of_retain c t a ha).1, (b, hb, (of_retain_lacks c t b hb l, k)))));
+        }))
       ]
 
   module _ (adj : IsAdjacency e) where
@@ -127,8 +127,8 @@ module _ {e : ℕ → ℕ → Bool} where
     pub split_rest : (s a : NameSet) (v : Bool) → IsSplit e s a v → IsSplit e s (difference s a) v
     split_rest s a v split =
         closed_split s (difference s a) v (closed_rest s a v (split_closed s a v split))
-          (split.rest.0, minus_has s a split.rest.0 split.rest.1 split.rest.2)
-          (split.some.0, split.inside split.some.0 split.some.1, minus_lacks s a split.some.0 split.some.1)
+        (split.rest.0, minus_has s a split.rest.0 split.rest.1 split.rest.2)
+        (split.some.0, split.inside split.some.0 split.some.1, minus_lacks s a split.some.0 split.some.1)
 
     pub closed_module : (s c : NameSet) (v : Bool) → IsClosed e s c v → HasSome c → IsModule e s c
     closed_module s c v closed some = record {
@@ -144,8 +144,8 @@ module _ {e : ℕ → ℕ → Bool} where
           | inl h ↦ clash (is.least a (closed_of_closed s c a v is.closed (split_closed c a v split)) h split.rest.0 split.rest.1) split.rest.2
           | inr o ↦ clash split.some.1
               (of_minus c a split.some.0
-                (is.least (difference c a) (closed_of_closed s c (difference c a) v is.closed (closed_rest c a v (split_closed c a v split))) (minus_has c a x is.holds o)
-                  split.some.0 (split.inside split.some.0 split.some.1))).1
+              (is.least (difference c a) (closed_of_closed s c (difference c a) v is.closed (closed_rest c a v (split_closed c a v split))) (minus_has c a x is.holds o)
+              split.some.0 (split.inside split.some.0 split.some.1))).1
         ]
 
     -- a component is that of each of its members
@@ -169,12 +169,12 @@ module _ {e : ℕ → ℕ → Bool} where
     both_splits_at s a b x p q ha hb =
         elim (either (contains a q.rest.0)) [
           | inl h ↦ clash (q.across p.rest.0 q.rest.0 (in_b p.rest.0 p.rest.1 p.rest.2) q.rest.1 q.rest.2)
-                (adj.symmetric p.rest.0 q.rest.0 ∙ p.across q.rest.0 p.rest.0 h p.rest.1 p.rest.2)
+              (adj.symmetric p.rest.0 q.rest.0 ∙ p.across q.rest.0 p.rest.0 h p.rest.1 p.rest.2)
           | inr o ↦ clash (q.across x q.rest.0 hb q.rest.1 q.rest.2) (p.across x q.rest.0 ha q.rest.1 o)
         ]
       where
-      in_b : (y : ℕ) → Has s y → Lacks a y → Has b y
-      in_b y hy l = true_if _ (λ o. clash (q.across x y hb hy o) (p.across x y ha hy l))
+        in_b : (y : ℕ) → Has s y → Lacks a y → Has b y
+        in_b y hy l = true_if _ (λ o. clash (q.across x y hb hy o) (p.across x y ha hy l))
 
     -- no set has a split without an edge across and one with every edge across
     pub not_both_splits : (s a b : NameSet) → IsSplit e s a false → IsSplit e s b true → ⊥
@@ -189,9 +189,9 @@ module _ {e : ℕ → ℕ → Bool} where
       elim (decide_split s false) [
         | inl p ↦ inl p
         | inr n ↦ elim (decide_split s true) [
-            | inl q ↦ inr (inl q)
-            | inr m ↦ inr (inr (record { two = two; connected = n; co_connected = m }))
-          ]
+          | inl q ↦ inr (inl q)
+          | inr m ↦ inr (inr (record { two = two; connected = n; co_connected = m }))
+        ]
       ]
 
 pub one_kind_proof : HasOneKind

@@ -1,11 +1,10 @@
 -- Searches and decisions over finite sets, induction over them, and their sizes.
-use Rattle.std.proofs.Common.{◌≡◌, ℕ, ◌+◌, ◌-◌, ◌<◌, ◌≤◌, zero, suc, Bool, true, false, cond, not, ◌||◌, List, [], ◌∷◌, ◌≢◌, ◌⊎◌, refl, sym, ◌∙◌, ap, subst, inl, inr, true≢false, arith, ltb, ltb-true, ltb-false}
-use Rattle.std.specs.List.{list_any}
-use Rattle.std.specs.FinSet.{contains, empty, insert, remove, retain, union, intersection, difference, len, items, from_list, contains-items, contains-from_list, len-insert, len-remove, len-empty, empty_of_len}
+use Rattle.std.proofs.Common.{◌≡◌, ℕ, ◌+◌, ◌-◌, ◌<◌, ◌≤◌, zero, suc, Bool, true, false, cond, List, [], ◌∷◌, ◌≢◌, ◌⊎◌, refl, sym, ◌∙◌, ap, subst, inl, inr, true≢false, arith, ltb, ltb-true, ltb-false}
+use Rattle.std.specs.FinSet.{contains, empty, insert, remove, intersection, len, items, from_list, contains-items, contains-from_list, len-insert, len-remove, len-empty, empty_of_len}
 use Rattle.std.specs.Cmp.{nat_cmp_total}
-use Rattle.std.specs.Ordering.{nat_cmp, eq_by_cmp}
-use Rattle.md_modules.specs.Sets.{NameSet, Has, Lacks, Within, HasTwo, only_name, Proper}
-use Rattle.md_modules.proofs.Sets.{either, clash, true_if, false_if, same_name, empty_lacks, insert_new, insert_old, of_insert, insert_lacks, remove_gone, remove_left, of_remove, same_members, Within-refl, Within-trans, remove_insert, insert_within, insert_known, lacks_within, Has-along, of_meet}
+use Rattle.std.specs.Ordering.{nat_cmp}
+use Rattle.md_modules.specs.Sets.{NameSet, Has, Lacks, Within, HasTwo, only_name}
+use Rattle.md_modules.proofs.Sets.{either, clash, same_name, empty_lacks, insert_new, insert_old, of_insert, insert_lacks, remove_left, of_remove, same_members, Within-refl, Within-trans, remove_insert, insert_within, insert_known, Has-along, of_meet}
 
 -- each set is the set of a list
 of_items : (s : NameSet) → s ≡ from_list (items s)
@@ -67,9 +66,9 @@ module _ (P N : ℕ → Type 0) where
       elim (rest (λ x h. d x (insert_old s k x h))) [
         | inl w ↦ inl (w.0, insert_old s k w.0 w.1, w.2)
         | inr none ↦ elim (d k (insert_new s k)) [
-            | inl p ↦ inl (k, insert_new s k, p)
-            | inr n ↦ inr (λ x h. elim (of_insert s k x h) [ inl e ↦ subst N (sym e) n | inr m ↦ none x m ])
-          ]
+          | inl p ↦ inl (k, insert_new s k, p)
+          | inr n ↦ inr (λ x h. elim (of_insert s k x h) [ inl e ↦ subst N (sym e) n | inr m ↦ none x m ])
+        ]
       ]
 
   pub search_members : (s : NameSet) → Searched s
@@ -112,9 +111,9 @@ search_sets_more s k l rest P N d =
           elim (rest (λ a. P (insert a k)) (λ a. N (insert a k)) (λ a w. d (insert a k) (insert_within a (insert s k) k (λ q h. insert_old s k q (w q h)) (insert_new s k)))) [
             | inl f ↦ inl (insert f.0 k, insert_within f.0 (insert s k) k (λ q h. insert_old s k q (f.1 q h)) (insert_new s k), f.2)
             | inr none_with ↦ inr (λ a w. elim (either (contains a k)) [
-                | inl h ↦ subst N (remove_insert a k h) (none_with (remove a k) (remove_within s a k w))
-                | inr out ↦ none a (apart_within s a k w out)
-              ])
+              | inl h ↦ subst N (remove_insert a k h) (none_with (remove a k) (remove_within s a k w))
+              | inr out ↦ none a (apart_within s a k w out)
+            ])
           ]
     ]
 
@@ -159,9 +158,9 @@ decide_same a b =
     elim (outside_or_within a b) [
       | inl f ↦ inr (λ e. clash (Has-along a b e f.0 f.1) f.2)
       | inr w ↦ elim (larger_or_same a b w) [
-          | inl f ↦ inr (λ e. clash (Has-along b a (sym e) f.0 f.1) f.2)
-          | inr e ↦ inl e
-        ]
+        | inl f ↦ inr (λ e. clash (Has-along b a (sym e) f.0 f.1) f.2)
+        | inr e ↦ inl e
+      ]
     ]
 
 pub decide_has_some : (s : NameSet) → Decided ((x : ℕ) × Has s x)
@@ -216,7 +215,7 @@ module _ (P : NameSet → Type 0) where
   smallest_in zero s b p d = absurd (omega arith)
   smallest_in (suc n) s b p d =
       elim (decide_some_set s (λ a. P a × ((x : ℕ) × Has s x × Lacks a x))
-          (λ a w. decide_both (d a w) (decide_some s (Lacks a) (λ x h. decide_test (contains a x) false)))) [
+      (λ a w. decide_both (d a w) (decide_some s (Lacks a) (λ x h. decide_test (contains a x) false)))) [
         | inl f ↦
             let r : Smallest f.0 = smallest_in n f.0 (let c : len f.0 < len s = len_proper f.0 s f.2.1.0 f.1 f.2.1.1 f.2.1.2 in omega arith) f.2.0 (λ a w. d a (Within-trans a f.0 s w f.1)) in
             (r.0, Within-trans r.0 f.0 s r.1 f.1, r.2, r.3)
@@ -235,7 +234,7 @@ module _ (P : NameSet → Type 0) where
   largest_over zero s a b w p d = let c : len a ≤ len s = len_within a s w in absurd (omega arith)
   largest_over (suc n) s a b w p d =
       elim (decide_some_set s (λ t. Within a t × P t × ((x : ℕ) × Has t x × Lacks a x))
-          (λ t v. decide_three (decide_within a t) (d t v) (decide_some t (Lacks a) (λ x h. decide_test (contains a x) false)))) [
+      (λ t v. decide_three (decide_within a t) (d t v) (decide_some t (Lacks a) (λ x h. decide_test (contains a x) false)))) [
         | inl f ↦
             let r : Largest f.0 s = largest_over n s f.0 (let c : len a < len f.0 = len_proper a f.0 f.2.2.0 f.2.0 f.2.2.1 f.2.2.2 in omega arith) f.1 f.2.1 d in
             (r.0, Within-trans a f.0 r.0 f.2.0 r.1, r.2, r.3, r.4)
@@ -243,11 +242,11 @@ module _ (P : NameSet → Type 0) where
             (a, Within-refl a, w, p, λ t u v q. elim (larger_or_same a t u) [ inl f ↦ absurd (none (t, v, (u, q, f))) | inr e ↦ sym e ])
       ]
     where
-    decide_three : {X Y Z : Type 0} → Decided X → Decided Y → Decided Z → Decided (X × Y × Z)
-    decide_three (inl x) (inl y) (inl z) = inl (x, y, z)
-    decide_three (inr n) y z = inr (λ w. n w.0)
-    decide_three (inl x) (inr n) z = inr (λ w. n w.1)
-    decide_three (inl x) (inl y) (inr n) = inr (λ w. n w.2)
+      decide_three : {X Y Z : Type 0} → Decided X → Decided Y → Decided Z → Decided (X × Y × Z)
+      decide_three (inl x) (inl y) (inl z) = inl (x, y, z)
+      decide_three (inr n) y z = inr (λ w. n w.0)
+      decide_three (inl x) (inr n) z = inr (λ w. n w.1)
+      decide_three (inl x) (inl y) (inr n) = inr (λ w. n w.2)
 
   -- a largest set with P that holds a, inside s
   pub largest : (s a : NameSet) → Within a s → P a → ((b : NameSet) → Within b s → Decided (P b)) → Largest a s
@@ -309,9 +308,9 @@ two_of_len s b =
           let c : len (empty {R = nat_cmp}) ≡ 0 = len-empty nat_cmp in
           absurd (omega arith)
       | inl f ↦ elim (other_or_alone s f.0) [
-          | inl g ↦ (g.0, f.0, g.1, f.1, g.2)
-          | inr only ↦ let a : len s ≤ 1 = len_single s f.0 only in absurd (omega arith)
-        ]
+        | inl g ↦ (g.0, f.0, g.1, f.1, g.2)
+        | inr only ↦ let a : len s ≤ 1 = len_single s f.0 only in absurd (omega arith)
+      ]
     ]
 
 pub len_four : (s : NameSet) (a b c d : ℕ) → Has s a → Has s b → Has s c → Has s d → a ≢ b → a ≢ c → b ≢ c → a ≢ d → b ≢ d → c ≢ d → 4 ≤ len s
@@ -320,15 +319,15 @@ len_four s a b c d ha hb hc hd ab ac bc ad bd cd =
     let l0 : len (empty {R = nat_cmp}) ≡ 0 = len-empty nat_cmp in
     let l1 : len (insert empty a) ≡ len (empty {R = nat_cmp}) + 1 = len_more empty a (empty_lacks a) in
     let l2 : len (insert (insert empty a) b) ≡ len (insert empty a) + 1 =
-          len_more (insert empty a) b (insert_lacks empty a b (λ e. ab (sym e)) (empty_lacks b)) in
+    len_more (insert empty a) b (insert_lacks empty a b (λ e. ab (sym e)) (empty_lacks b)) in
     let l3 : len (insert (insert (insert empty a) b) c) ≡ len (insert (insert empty a) b) + 1 =
-          len_more (insert (insert empty a) b) c (insert_lacks (insert empty a) b c (λ e. bc (sym e)) (insert_lacks empty a c (λ e. ac (sym e)) (empty_lacks c))) in
+    len_more (insert (insert empty a) b) c (insert_lacks (insert empty a) b c (λ e. bc (sym e)) (insert_lacks empty a c (λ e. ac (sym e)) (empty_lacks c))) in
     let l4 : len (insert (insert (insert (insert empty a) b) c) d) ≡ len (insert (insert (insert empty a) b) c) + 1 =
-          len_more (insert (insert (insert empty a) b) c) d
-            (insert_lacks (insert (insert empty a) b) c d (λ e. cd (sym e)) (insert_lacks (insert empty a) b d (λ e. bd (sym e)) (insert_lacks empty a d (λ e. ad (sym e)) (empty_lacks d)))) in
+    len_more (insert (insert (insert empty a) b) c) d
+    (insert_lacks (insert (insert empty a) b) c d (λ e. cd (sym e)) (insert_lacks (insert empty a) b d (λ e. bd (sym e)) (insert_lacks empty a d (λ e. ad (sym e)) (empty_lacks d)))) in
     let w : len (insert (insert (insert (insert empty a) b) c) d) ≤ len s =
-          len_within (insert (insert (insert (insert empty a) b) c) d) s
-            (insert_within (insert (insert (insert empty a) b) c) s d (insert_within (insert (insert empty a) b) s c (insert_within (insert empty a) s b (insert_within empty s a (λ q h. clash h (empty_lacks q)) ha) hb) hc) hd) in
+    len_within (insert (insert (insert (insert empty a) b) c) d) s
+    (insert_within (insert (insert (insert empty a) b) c) s d (insert_within (insert (insert empty a) b) s c (insert_within (insert empty a) s b (insert_within empty s a (λ q h. clash h (empty_lacks q)) ha) hb) hc) hd) in
     omega arith
 
 -- the first member of a set
@@ -340,20 +339,20 @@ first_below s (suc n) x b h =
       | inr none ↦ (x, h, none)
     ]
   where
-  order : (y x : ℕ) → (y < x) ⊎ (x ≤ y)
-  order y x = elim (either (ltb y x)) [ inl t ↦ inl (ltb-true y x t) | inr t ↦ inr (ltb-false y x t) ]
+    order : (y x : ℕ) → (y < x) ⊎ (x ≤ y)
+    order y x = elim (either (ltb y x)) [ inl t ↦ inl (ltb-true y x t) | inr t ↦ inr (ltb-false y x t) ]
 
 pub first_member : (s : NameSet) (x : ℕ) → Has s x → (z : ℕ) × Has s z × ((y : ℕ) → Has s y → z ≤ y)
 first_member s x h = first_below s (x + 1) x (omega arith) h
 
 pub len_one_more : (t : NameSet) (x : ℕ) → len (insert t x) ≤ len t + 1
 len_one_more t x = elim (either (contains t x)) [
-    | inl h ↦ let same : len (insert t x) ≡ len t = ap len (insert_known t x h) in omega arith
-    | inr l ↦ let more : len (insert t x) ≡ len t + 1 = len_more t x l in omega arith
-  ]
+  | inl h ↦ let same : len (insert t x) ≡ len t = ap len (insert_known t x h) in omega arith
+  | inr l ↦ let more : len (insert t x) ≡ len t + 1 = len_more t x l in omega arith
+]
 
 pub decide_below : (a b : ℕ) → Decided (a < b)
 decide_below a b = elim (either (ltb a b)) [
-    | inl t ↦ inl (ltb-true a b t)
-    | inr t ↦ inr (λ l. let le : b ≤ a = ltb-false a b t in omega arith)
-  ]
+  | inl t ↦ inl (ltb-true a b t)
+  | inr t ↦ inr (λ l. let le : b ≤ a = ltb-false a b t in omega arith)
+]

@@ -1,6 +1,6 @@
 -- What `contains` answers of each set of names, one way and back, and the orders of sets.
-use Rattle.std.proofs.Common.{◌≡◌, ℕ, ◌+◌, ◌-◌, ◌<◌, ◌≤◌, suc, Bool, true, false, cond, not, ◌&&◌, ◌||◌, ◌≢◌, ◌⊎◌, refl, sym, ◌∙◌, ap, subst, inl, inr, true≢false, arith, eqb-true, eq-eqb}
-use Rattle.std.specs.FinSet.{contains, empty, insert, remove, retain, union, intersection, difference, len, contains-empty, contains-insert, contains-remove, contains-retain, contains-union, contains-intersection, contains-difference, same_set, len-insert, len-remove, empty_of_len, nat_cmp-IsAntisymmetric}
+use Rattle.std.proofs.Common.{◌≡◌, ℕ, Bool, true, false, not, ◌&&◌, ◌||◌, ◌≢◌, ◌⊎◌, refl, sym, ◌∙◌, ap, subst, inl, inr, true≢false, eqb-true, eq-eqb}
+use Rattle.std.specs.FinSet.{empty, insert, remove, retain, union, intersection, difference, contains-empty, contains-insert, contains-remove, contains-retain, contains-union, contains-intersection, contains-difference, same_set, nat_cmp-IsAntisymmetric}
 use Rattle.std.specs.Cmp.{nat_cmp_total, unsigned_tied}
 use Rattle.std.specs.Ordering.{nat_cmp, eq_by_cmp}
 use Rattle.md_modules.specs.Sets.{NameSet, Has, Lacks, Within, only_name}

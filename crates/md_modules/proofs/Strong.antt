@@ -1,16 +1,11 @@
 -- Strong modules: the tree that they are, and the children of a set of each kind.
-use Rattle.std.proofs.Common.{◌≡◌, ℕ, Bool, true, false, not, ◌≢◌, ◌⊎◌, ◌↔◌, refl, sym, ◌∙◌, ap, subst, inl, inr}
-use Rattle.std.specs.FinSet.{contains, union, intersection, difference}
+use Rattle.std.proofs.Common.{◌≡◌, ℕ, Bool, ◌≢◌, ◌⊎◌, sym, ◌∙◌, subst, inl, inr}
 use Rattle.md_modules.specs.Sets.{NameSet, Has, Lacks, Within, HasSome, HasTwo, Proper, Disjoint, only_name}
-use Rattle.md_modules.specs.Adjacency.{IsAdjacency}
-use Rattle.md_modules.specs.Modules.{IsModule, Overlap, IsStrong, IsLeastModule, IsMaximalModule, IsMaximalStrong, IsParent}
-use Rattle.md_modules.specs.Kinds.{IsSplit, IsPrime}
-use Rattle.md_modules.specs.Components.{IsClosed, IsComponent}
-use Rattle.md_modules.specs.Laws.{AreTree, StrongModulesAreTree, StrongModulesDescend}
-use Rattle.md_modules.proofs.Sets.{either, clash, false_if, true_if, same_name, only_has, of_only, Has-along, Within-refl, Within-trans, lacks_within, same_members, meet_has, of_meet, of_meet_lacks, union_left, union_right, of_union, of_union_lacks, union_lacks}
-use Rattle.md_modules.proofs.Search.{Decided, decide_test, decide_both, decide_if, decide_not, decide_like, decide_some, decide_all, decide_same, decide_within, outside_or_within, meet_or_disjoint, larger_or_same, smallest, largest}
-use Rattle.md_modules.proofs.Modules.{whole_module, single_module, restrict_module, module_inside, module_of_module, meet_module, join_module, cover_split, decide_module, decide_strong, least_module}
-use Rattle.md_modules.proofs.Components.{not_own, split_closed, closed_join, component_of, crossing_pair, closed_module, component_unsplit, component_of_member, components_meet}
+use Rattle.md_modules.specs.Modules.{Overlap, IsStrong, IsMaximalStrong, IsParent}
+use Rattle.md_modules.specs.Laws.{StrongModulesAreTree, StrongModulesDescend}
+use Rattle.md_modules.proofs.Sets.{clash, only_has, of_only, Has-along, same_members}
+use Rattle.md_modules.proofs.Search.{decide_both, decide_not, decide_same, decide_within, outside_or_within, meet_or_disjoint, larger_or_same, smallest, largest}
+use Rattle.md_modules.proofs.Modules.{whole_module, single_module, module_inside, module_of_module, decide_strong}
 
 -- sets that don't overlap don't meet, or one holds the other
 pub apart_or_nested : (a b : NameSet) → (Overlap a b → ⊥) → Disjoint a b ⊎ Within a b ⊎ Within b a
@@ -18,12 +13,12 @@ apart_or_nested a b free =
     elim (meet_or_disjoint a b) [
       | inr apart ↦ inl apart
       | inl meet ↦ elim (outside_or_within a b) [
-          | inr w ↦ inr (inl w)
-          | inl left ↦ elim (outside_or_within b a) [
-              | inr w ↦ inr (inr w)
-              | inl right ↦ absurd (free (record { meet = meet; left = left; right = right }))
-            ]
+        | inr w ↦ inr (inl w)
+        | inl left ↦ elim (outside_or_within b a) [
+          | inr w ↦ inr (inr w)
+          | inl right ↦ absurd (free (record { meet = meet; left = left; right = right }))
         ]
+      ]
     ]
 
 -- of two sets that don't overlap and meet, one holds the other
@@ -59,10 +54,10 @@ module _ {e : ℕ → ℕ → Bool} where
   strong_of_strong s m n outer inner = record {
     is_module = module_of_module s m n outer.is_module inner.is_module;
     free = λ k module_is over.
-      elim (nested_if_meet m k over.meet.0 (outer.free k module_is) (inner.is_module.inside over.meet.0 over.meet.1) over.meet.2) [
-        | inl w ↦ clash (w over.left.0 (inner.is_module.inside over.left.0 over.left.1)) over.left.2
-        | inr w ↦ inner.free k (module_inside s m k module_is outer.is_module.inside w) over
-      ];
+        elim (nested_if_meet m k over.meet.0 (outer.free k module_is) (inner.is_module.inside over.meet.0 over.meet.1) over.meet.2) [
+          | inl w ↦ clash (w over.left.0 (inner.is_module.inside over.left.0 over.left.1)) over.left.2
+          | inr w ↦ inner.free k (module_inside s m k module_is outer.is_module.inside w) over
+        ];
   }
 
   -- of two strong modules that meet, one holds the other
@@ -73,7 +68,7 @@ module _ {e : ℕ → ℕ → Bool} where
   pub in_child : (s m : NameSet) → IsStrong e s m → m ≢ s → (c : NameSet) × IsMaximalStrong e s c × Within m c
   in_child s m is differs =
       let r : (c : NameSet) × Within m c × Within c s × (IsStrong e s c × (c ≢ s)) × ((b : NameSet) → Within c b → Within b s → IsStrong e s b × (b ≢ s) → b ≡ c) =
-            largest (λ c. IsStrong e s c × (c ≢ s)) s m is.is_module.inside (is, differs) (λ c w. decide_both (decide_strong s c) (decide_not (decide_same c s))) in
+      largest (λ c. IsStrong e s c × (c ≢ s)) s m is.is_module.inside (is, differs) (λ c w. decide_both (decide_strong s c) (decide_not (decide_same c s))) in
       (r.0, record { is_strong = r.3.0; proper = r.3.1; maximal = λ n st d w. r.4 n w st.is_module.inside (st, d) }, r.1)
 
   -- two children that meet are one
@@ -98,16 +93,22 @@ module _ {e : ℕ → ℕ → Bool} where
   pub parent_of : (s m : NameSet) → IsStrong e s m → m ≢ s → (p : NameSet) × IsParent e s m p
   parent_of s m is differs =
       let r : (p : NameSet) × Within p s × (IsStrong e s p × Proper m p) × ((a : NameSet) → Within a p → IsStrong e s a × Proper m a → a ≡ p) =
-            smallest (λ p. IsStrong e s p × Proper m p) s (whole_strong s (m_some.0, is.is_module.inside m_some.0 m_some.1), (is.is_module.inside, differs))
-              (λ a w. decide_both (decide_strong s a) (decide_both (decide_within m a) (decide_not (decide_same m a)))) in
-      (r.0, record { is_strong = r.2.0; above = r.2.1; least = λ n st above.
-        elim (strong_nested s r.0 n m_some.0 r.2.0 st (r.2.1.0 m_some.0 m_some.1) (above.0 m_some.0 m_some.1)) [
-          | inl w ↦ w
-          | inr w ↦ Has-along r.0 n (sym (r.3 n w (st, above)))
-        ] })
+      smallest (λ p. IsStrong e s p × Proper m p) s (whole_strong s (m_some.0, is.is_module.inside m_some.0 m_some.1), (is.is_module.inside, differs))
+      (λ a w. decide_both (decide_strong s a) (decide_both (decide_within m a) (decide_not (decide_same m a)))) in (
+        r.0,
+        record {
+          is_strong = r.2.0;
+          above = r.2.1;
+          least = λ n st above.
+              elim (strong_nested s r.0 n m_some.0 r.2.0 st (r.2.1.0 m_some.0 m_some.1) (above.0 m_some.0 m_some.1)) [
+                | inl w ↦ w
+                | inr w ↦ Has-along r.0 n (sym (r.3 n w (st, above)))
+              ];
+        },
+      )
     where
-    m_some : HasSome m
-    m_some = is.is_module.some
+      m_some : HasSome m
+      m_some = is.is_module.some
 
   pub one_parent : (s m p q : NameSet) → IsParent e s m p → IsParent e s m q → p ≡ q
   one_parent s m p q a b = same_members p q (a.least q b.is_strong b.above) (b.least p a.is_strong a.above)
@@ -116,10 +117,11 @@ module _ {e : ℕ → ℕ → Bool} where
   leaf_if_single s m v same n is above =
       above.1 (same_members n m above.0 (λ y h. subst (Has n) (only n_some.0 (above.0 n_some.0 n_some.1) ∙ sym (only y h)) n_some.1))
     where
-    n_some : HasSome n
-    n_some = is.is_module.some
-    only : (y : ℕ) → Has m y → y ≡ v
-    only y h = of_only v y (Has-along m _ same y h)
+      n_some : HasSome n
+      n_some = is.is_module.some
+
+      only : (y : ℕ) → Has m y → y ≡ v
+      only y h = of_only v y (Has-along m _ same y h)
 
   single_if_leaf : (s m : NameSet) → IsStrong e s m → ((n : NameSet) → IsStrong e s n → Proper n m → ⊥) → (v : ℕ) × (m ≡ only_name v)
   single_if_leaf s m is leaf =
@@ -128,10 +130,11 @@ module _ {e : ℕ → ℕ → Bool} where
         | inr differs ↦ absurd (leaf (only_name v) (single_strong s v (is.is_module.inside v h)) ((λ x k. subst (Has m) (sym (of_only v x k)) h), differs))
       ]
     where
-    v : ℕ
-    v = is.is_module.some.0
-    h : Has m v
-    h = is.is_module.some.1
+      v : ℕ
+      v = is.is_module.some.0
+
+      h : Has m v
+      h = is.is_module.some.1
 
   -- the strong modules are s and those of its children
   pub strong_descends : (s m : NameSet) → IsStrong e s m → (m ≡ s) ⊎ ((c : NameSet) × IsMaximalStrong e s c × IsStrong e c m)
@@ -153,8 +156,10 @@ tree_proof e s some = record {
 }
 
 pub descend_proof : StrongModulesDescend
-descend_proof e s some m =
-    (strong_descends s m, λ w. elim w [
-      | inl same ↦ subst (IsStrong e s) (sym same) (whole_strong s some)
-      | inr below ↦ strong_of_strong s below.0 m below.1.is_strong below.2
-    ])
+descend_proof e s some m = (
+  strong_descends s m,
+  λ w. elim w [
+    | inl same ↦ subst (IsStrong e s) (sym same) (whole_strong s some)
+    | inr below ↦ strong_of_strong s below.0 m below.1.is_strong below.2
+  ],
+)

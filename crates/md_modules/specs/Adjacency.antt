@@ -1,6 +1,6 @@
 -- A graph as a set of names with one test of adjacency. The graph on a part of the names has the same test.
 -- Source: any textbook of graph theory.
-use Rattle.std.specs.Prelude.{◌≡◌, ℕ, Bool, true, false, not, ◌&&◌, nat_eq}
+use Rattle.std.specs.Prelude.{◌≡◌, ℕ, Bool, false, not, ◌&&◌, nat_eq}
 
 -- a test of adjacency of a graph without loops, whose edges have no direction
 pub record IsAdjacency (e : ℕ → ℕ → Bool) : Type 0 where

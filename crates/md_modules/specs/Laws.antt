@@ -1,12 +1,12 @@
 -- The laws of modules.
 use Rattle.std.specs.Prelude.{◌≡◌, ◌≢◌, ◌≤◌, ◌⊎◌, ◌↔◌, ℕ, Bool}
 use Rattle.std.specs.FinSet.{len}
-use Rattle.md_modules.specs.Sets.{NameSet, Has, Lacks, Within, HasSome, HasTwo, Proper, Disjoint, only_name}
+use Rattle.md_modules.specs.Sets.{NameSet, Has, Within, HasSome, HasTwo, Proper, Disjoint, only_name}
 use Rattle.md_modules.specs.Adjacency.{IsAdjacency}
-use Rattle.md_modules.specs.Modules.{IsModule, IsStrong, IsLeastModule, IsMaximalModule, IsMaximalStrong, IsParent, HasTrivialModulesAlone}
+use Rattle.md_modules.specs.Modules.{IsStrong, IsLeastModule, IsMaximalModule, IsMaximalStrong, IsParent, HasTrivialModulesAlone}
 use Rattle.md_modules.specs.Kinds.{IsParallel, IsSeries, IsPrime}
 use Rattle.md_modules.specs.Quotients.{IsQuotient}
-use Rattle.md_modules.specs.InducedPaths.{IsInducedPath, HasInducedPath}
+use Rattle.md_modules.specs.InducedPaths.{HasInducedPath}
 
 -- of three facts one holds, and no two
 pub record ExactlyOne (P Q R : Type 0) : Type 0 where

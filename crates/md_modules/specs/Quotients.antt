@@ -1,6 +1,6 @@
 -- Quotients: one name for each class, with the adjacency of those names.
 -- Source: Habib and Paul, A survey of the algorithmic aspects of modular decomposition.
-use Rattle.std.specs.Prelude.{◌≡◌, ◌≢◌, ℕ, Bool, nat_eq}
+use Rattle.std.specs.Prelude.{◌≡◌, ℕ, Bool, nat_eq}
 use Rattle.std.specs.FinSet.{retain}
 use Rattle.md_modules.specs.Sets.{NameSet, Has, Within}
 use Rattle.md_modules.specs.Modules.{IsModule, IsMaximalModule}
