@@ -6,3 +6,4 @@ pub mod Strong
 pub mod Children
 pub mod Paths
 pub mod Quotients
+pub mod Complement

@@ -2,8 +2,8 @@
 use Rattle.std.specs.Prelude.{◌≡◌, ◌≢◌, ◌≤◌, ◌⊎◌, ◌↔◌, ℕ, Bool}
 use Rattle.std.specs.FinSet.{len}
 use Rattle.md_modules.specs.Sets.{NameSet, Has, Within, HasSome, HasTwo, Proper, Disjoint, only_name}
-use Rattle.md_modules.specs.Adjacency.{IsAdjacency}
-use Rattle.md_modules.specs.Modules.{IsStrong, IsLeastModule, IsMaximalModule, IsMaximalStrong, IsParent, HasTrivialModulesAlone}
+use Rattle.md_modules.specs.Adjacency.{IsAdjacency, co}
+use Rattle.md_modules.specs.Modules.{IsModule, IsStrong, IsLeastModule, IsMaximalModule, IsMaximalStrong, IsParent, HasTrivialModulesAlone}
 use Rattle.md_modules.specs.Kinds.{IsParallel, IsSeries, IsPrime}
 use Rattle.md_modules.specs.Quotients.{IsQuotient}
 use Rattle.md_modules.specs.InducedPaths.{HasInducedPath}
@@ -71,3 +71,18 @@ pub record MaximalModules (e : ℕ → ℕ → Bool) (s : NameSet) : Type 0 wher
 -- what holds of the maximal proper modules of each set that is prime: with two or more members, connected and co-connected
 abbrev pub PrimeHasMaximalModules : Type 0
 PrimeHasMaximalModules = (e : ℕ → ℕ → Bool) → IsAdjacency e → (s : NameSet) → IsPrime e s → MaximalModules e s
+
+-- what the complement has of the graph on s
+pub record ComplementTurns (e : ℕ → ℕ → Bool) (s : NameSet) : Type 0 where
+  pub adjacency : IsAdjacency (co e)
+  -- the same modules and strong modules
+  pub modules : (m : NameSet) → IsModule e s m ↔ IsModule (co e) s m
+  pub strong : (m : NameSet) → IsStrong e s m ↔ IsStrong (co e) s m
+  -- parallel and series change places, and prime stays
+  pub parallel : IsParallel e s ↔ IsSeries (co e) s
+  pub series : IsSeries e s ↔ IsParallel (co e) s
+  pub prime : IsPrime e s ↔ IsPrime (co e) s
+
+-- the complement has the same modules, with parallel and series the other way round
+abbrev pub ComplementTurnsKinds : Type 0
+ComplementTurnsKinds = (e : ℕ → ℕ → Bool) → IsAdjacency e → (s : NameSet) → ComplementTurns e s

@@ -2,6 +2,7 @@
 //! test of adjacency, so of a graph, of the graph on a part of its names, and of the complement of each.
 
 ghost use Rattle.md_modules.specs.Laws.{
+  ComplementTurnsKinds,
   HasOneKind,
   StrongModulesAreTree,
   StrongModulesDescend,
@@ -43,3 +44,10 @@ pub fn prime_has_induced_path()
 pub fn no_induced_path_if_none_prime()
     ensures { NoInducedPathIfNonePrime }
 {}
+
+/// The complement of a graph has the same modules and the same strong modules, with parallel and series the other way
+/// round. So a graph's complement is connected exactly where the graph has no split with every edge across.
+pub fn complement_turns_kinds()
+    ensures { ComplementTurnsKinds }
+{
+}
