@@ -1,9 +1,9 @@
 -- The complement: the same modules, with parallel and series the other way round.
-use Rattle.std.proofs.Common.{◌≡◌, ℕ, Bool, true, false, not, ◌&&◌, nat_eq, ◌≢◌, ◌⊎◌, ◌↔◌, refl, sym, ◌∙◌, ap, subst, inl, inr, eqb-true, eq-eqb}
-use Rattle.md_modules.specs.Sets.{NameSet, Has, Lacks, Within, HasSome, HasTwo}
+use Rattle.std.proofs.Common.{◌≡◌, ℕ, Bool, true, false, not, ◌&&◌, nat_eq, ◌≢◌, refl, sym, ◌∙◌, ap, subst, inl, inr, eqb-true, eq-eqb}
+use Rattle.md_modules.specs.Sets.{NameSet, Has, Lacks}
 use Rattle.md_modules.specs.Adjacency.{IsAdjacency, co}
-use Rattle.md_modules.specs.Modules.{IsModule, Overlap, IsStrong}
-use Rattle.md_modules.specs.Kinds.{IsSplit, IsParallel, IsSeries, IsPrime}
+use Rattle.md_modules.specs.Modules.{IsModule, IsStrong}
+use Rattle.md_modules.specs.Kinds.{IsSplit}
 use Rattle.md_modules.specs.Laws.{ComplementTurns, ComplementTurnsKinds}
 use Rattle.md_modules.proofs.Sets.{either, clash, false_if}
 
@@ -39,7 +39,7 @@ module _ (e : ℕ → ℕ → Bool) (s : NameSet) where
     some = is.some;
     inside = is.inside;
     alike = λ a b x ha hb hx l.
-      co_value e x a (outside_differs m x a ha l) ∙ ap not (is.alike a b x ha hb hx l) ∙ sym (co_value e x b (outside_differs m x b hb l));
+        co_value e x a (outside_differs m x a ha l) ∙ ap not (is.alike a b x ha hb hx l) ∙ sym (co_value e x b (outside_differs m x b hb l));
   }
 
   pub module_of_co : (m : NameSet) → IsModule (co e) s m → IsModule e s m
@@ -47,7 +47,7 @@ module _ (e : ℕ → ℕ → Bool) (s : NameSet) where
     some = is.some;
     inside = is.inside;
     alike = λ a b x ha hb hx l. back_value (e x a) (e x b)
-      (sym (co_value e x a (outside_differs m x a ha l)) ∙ is.alike a b x ha hb hx l ∙ co_value e x b (outside_differs m x b hb l));
+        (sym (co_value e x a (outside_differs m x a ha l)) ∙ is.alike a b x ha hb hx l ∙ co_value e x b (outside_differs m x b hb l));
   }
 
   pub co_strong : (m : NameSet) → IsStrong e s m → IsStrong (co e) s m
@@ -89,7 +89,7 @@ module _ (e : ℕ → ℕ → Bool) (s : NameSet) where
         two = is.two;
         connected = λ w. is.co_connected (w.0, co_split w.0 false w.1);
         co_connected = λ w. is.connected (w.0, co_split w.0 true w.1);
-      })
+      }),
     );
   }
 

@@ -7,3 +7,4 @@ pub mod Children
 pub mod Paths
 pub mod Quotients
 pub mod Complement
+pub mod Growth

@@ -1,10 +1,10 @@
 -- Searches and decisions over finite sets, induction over them, and their sizes.
 use Rattle.std.proofs.Common.{◌≡◌, ℕ, ◌+◌, ◌-◌, ◌<◌, ◌≤◌, zero, suc, Bool, true, false, cond, List, [], ◌∷◌, ◌≢◌, ◌⊎◌, refl, sym, ◌∙◌, ap, subst, inl, inr, true≢false, arith, ltb, ltb-true, ltb-false}
-use Rattle.std.specs.FinSet.{contains, empty, insert, remove, intersection, len, items, from_list, contains-items, contains-from_list, len-insert, len-remove, len-empty, empty_of_len}
+use Rattle.std.specs.FinSet.{contains, empty, insert, remove, union, intersection, difference, len, items, from_list, contains-items, contains-from_list, len-insert, len-remove, len-empty, empty_of_len}
 use Rattle.std.specs.Cmp.{nat_cmp_total}
 use Rattle.std.specs.Ordering.{nat_cmp}
 use Rattle.md_modules.specs.Sets.{NameSet, Has, Lacks, Within, HasTwo, only_name}
-use Rattle.md_modules.proofs.Sets.{either, clash, same_name, empty_lacks, insert_new, insert_old, of_insert, insert_lacks, remove_left, of_remove, same_members, Within-refl, Within-trans, remove_insert, insert_within, insert_known, Has-along, of_meet}
+use Rattle.md_modules.proofs.Sets.{either, clash, same_name, empty_lacks, insert_new, insert_old, of_insert, insert_lacks, remove_left, of_remove, same_members, Within-refl, Within-trans, remove_insert, insert_within, insert_known, Has-along, of_meet, of_union, union_left, union_right, of_minus, minus_has, minus_lacks, lacks_within}
 
 -- each set is the set of a list
 of_items : (s : NameSet) → s ≡ from_list (items s)
@@ -356,3 +356,63 @@ decide_below a b = elim (either (ltb a b)) [
   | inl t ↦ inl (ltb-true a b t)
   | inr t ↦ inr (λ l. let le : b ≤ a = ltb-false a b t in omega arith)
 ]
+
+-- sizes of unions and of differences
+abbrev IsUnionBelow : NameSet → Type 0
+IsUnionBelow b = (a : NameSet) → len (union a b) ≤ len a + len b
+
+union_below_more : (b : NameSet) (x : ℕ) → Lacks b x → IsUnionBelow b → IsUnionBelow (insert b x)
+union_below_more b x l rest a =
+    let p : len (union a (insert b x)) ≤ len (insert (union a b) x) = len_within (union a (insert b x)) (insert (union a b) x) inside in
+    let q : len (insert (union a b) x) ≤ len (union a b) + 1 = len_one_more (union a b) x in
+    let r : len (union a b) ≤ len a + len b = rest a in
+    let m : len (insert b x) ≡ len b + 1 = len_more b x l in
+    omega arith
+  where
+    inside : Within (union a (insert b x)) (insert (union a b) x)
+    inside y h = elim (of_union a (insert b x) y h) [
+      | inl i ↦ insert_old (union a b) x y (union_left a b y i)
+      | inr j ↦ elim (of_insert b x y j) [
+        | inl same ↦ subst (Has (insert (union a b) x)) (sym same) (insert_new (union a b) x)
+        | inr k ↦ insert_old (union a b) x y (union_right a b y k)
+      ]
+    ]
+
+union_below_none : IsUnionBelow empty
+union_below_none a =
+    let p : len (union a empty) ≤ len a = len_within (union a empty) a (λ y h. elim (of_union a empty y h) [ inl i ↦ i | inr j ↦ clash j (empty_lacks y) ]) in
+    omega arith
+
+pub len_union : (a b : NameSet) → len (union a b) ≤ len a + len b
+len_union a b = over_sets IsUnionBelow union_below_none union_below_more b a
+
+abbrev IsMinusBelow : NameSet → Type 0
+IsMinusBelow b = (a : NameSet) → Within b a → len (difference a b) + len b ≤ len a
+
+minus_below_more : (b : NameSet) (x : ℕ) → Lacks b x → IsMinusBelow b → IsMinusBelow (insert b x)
+minus_below_more b x l rest a w =
+    let p : len (difference a (insert b x)) < len (difference a b) =
+    len_proper (difference a (insert b x)) (difference a b) x
+    (λ y h. minus_has a b y (of_minus a (insert b x) y h).0 (lacks_within b (insert b x) (insert_old b x) y (of_minus a (insert b x) y h).1))
+    (minus_has a b x (w x (insert_new b x)) l) (minus_lacks a (insert b x) x (insert_new b x)) in
+    let r : len (difference a b) + len b ≤ len a = rest a (λ y h. w y (insert_old b x y h)) in
+    let m : len (insert b x) ≡ len b + 1 = len_more b x l in
+    omega arith
+
+minus_below_none : IsMinusBelow empty
+minus_below_none a w =
+    let p : len (difference a empty) ≤ len a = len_within (difference a empty) a (λ y h. (of_minus a empty y h).0) in
+    let z : len (empty {R = nat_cmp}) ≡ 0 = len-empty nat_cmp in
+    omega arith
+
+pub len_minus : (a b : NameSet) → Within b a → len (difference a b) + len b ≤ len a
+len_minus a b w = over_sets IsMinusBelow minus_below_none minus_below_more b a w
+
+-- a search takes one name off what is to do and moves some names over from what is left: this falls
+pub search_falls : (left todo new : NameSet) (w : ℕ) → Has todo w → Within new left →
+    len (difference left new) + len (union (remove todo w) new) < len left + len todo
+search_falls left todo new w h inside =
+    let p : len (difference left new) + len new ≤ len left = len_minus left new inside in
+    let q : len (union (remove todo w) new) ≤ len (remove todo w) + len new = len_union (remove todo w) new in
+    let r : len (remove todo w) + 1 ≡ len todo = len_fewer todo w h in
+    omega arith

@@ -27,6 +27,12 @@ pub record IsLeastModule (e : ℕ → ℕ → Bool) (s : NameSet) (u v : ℕ) (k
   pub has_right : Has k v
   pub least : (m : NameSet) → IsModule e s m → Has m u → Has m v → Within k m
 
+-- the least module that holds a set of names
+pub record IsLeastModuleOver (e : ℕ → ℕ → Bool) (s begun k : NameSet) : Type 0 where
+  pub is_module : IsModule e s k
+  pub holds : Within begun k
+  pub least : (m : NameSet) → IsModule e s m → Within begun m → Within k m
+
 -- a module other than s that lies in no other module but s
 pub record IsMaximalModule (e : ℕ → ℕ → Bool) (s m : NameSet) : Type 0 where
   pub is_module : IsModule e s m

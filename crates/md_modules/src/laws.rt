@@ -49,5 +49,4 @@ pub fn no_induced_path_if_none_prime()
 /// round. So a graph's complement is connected exactly where the graph has no split with every edge across.
 pub fn complement_turns_kinds()
     ensures { ComplementTurnsKinds }
-{
-}
+{}
