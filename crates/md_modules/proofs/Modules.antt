@@ -173,6 +173,13 @@ module _ {e : ℕ → ℕ → Bool} where
   pub one_least_module : (s : NameSet) (u v : ℕ) (k l : NameSet) → IsLeastModule e s u v k → IsLeastModule e s u v l → k ≡ l
   one_least_module s u v k l a b = same_members k l (a.least l b.is_module b.has_left b.has_right) (b.least k a.is_module a.has_left a.has_right)
 
+  -- the least module of one name is that name
+  pub least_of_one : (s : NameSet) (u : ℕ) (k : NameSet) → IsLeastModule e s u u k → k ≡ only_name u
+  least_of_one s u k is =
+      same_members k (only_name u)
+      (is.least (only_name u) (single_module s u (is.is_module.inside u is.has_left)) (only_has u) (only_has u))
+      (λ x h. subst (Has k) (sym (of_only u x h)) is.has_left)
+
   -- the least module of u and a member of that of u and v lies in it
   pub least_inside : (s : NameSet) (u v w : ℕ) (k l : NameSet) → IsLeastModule e s u v k → Has k w → IsLeastModule e s u w l → Within l k
   least_inside s u v w k l a h b = b.least k a.is_module a.has_left h

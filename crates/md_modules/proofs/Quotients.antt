@@ -240,9 +240,6 @@ module _ (e : ℕ → ℕ → Bool) (s : NameSet) where
           let o : (x : ℕ) × Has m x × Has r x × ((y : ℕ) → Has m y → Has r y → y ≡ x) = quotient.one m max in
           o.3 p mp rp ∙ sym (o.3 q mq rq)
 
-      Represents : ℕ → ℕ → Type 0
-      Represents x y = Has r y × Together e s x y
-
       represent : (rep : ℕ → ℕ) × ((x : ℕ) → Has s x → Has r (rep x) × Together e s x (rep x))
       represent = choose s (λ x y. Has r y × Together e s x y) (λ x h.
           let m : (m : NameSet) × IsMaximalModule e s m × Has m x = maximal_of s x prime.two h in

@@ -315,7 +315,6 @@ two_of_len s b =
 
 pub len_four : (s : NameSet) (a b c d : ℕ) → Has s a → Has s b → Has s c → Has s d → a ≢ b → a ≢ c → b ≢ c → a ≢ d → b ≢ d → c ≢ d → 4 ≤ len s
 len_four s a b c d ha hb hc hd ab ac bc ad bd cd =
-    let one : NameSet = only_name a in
     let l0 : len (empty {R = nat_cmp}) ≡ 0 = len-empty nat_cmp in
     let l1 : len (insert empty a) ≡ len (empty {R = nat_cmp}) + 1 = len_more empty a (empty_lacks a) in
     let l2 : len (insert (insert empty a) b) ≡ len (insert empty a) + 1 =
