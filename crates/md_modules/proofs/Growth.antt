@@ -1,0 +1,211 @@
+-- The three searches, over sets: what stays true in each turn, and what holds at the end.
+-- left is what a search hasn't taken, todo what it took and hasn't looked at.
+use Rattle.std.proofs.Common.{◌≡◌, ℕ, Bool, not, ◌≢◌, ◌⊎◌, refl, sym, ◌∙◌, ap, subst, inl, inr}
+use Rattle.std.specs.FinSet.{remove, union, difference}
+use Rattle.md_modules.specs.Sets.{NameSet, Has, Lacks, Within, only_name}
+use Rattle.md_modules.specs.Adjacency.{IsAdjacency}
+use Rattle.md_modules.specs.Modules.{IsModule, IsLeastModule, IsLeastModuleOver}
+use Rattle.md_modules.specs.Components.{IsClosed, IsComponent}
+use Rattle.md_modules.proofs.Sets.{clash, only_has, of_only, only_lacks, false_if, true_if, same_name, remove_left, of_remove, of_union_lacks, of_union, minus_has, of_minus, minus_lacks, of_minus_lacks, lacks_within}
+use Rattle.md_modules.proofs.Search.{decide_test}
+use Rattle.md_modules.proofs.Components.{other_value, closed_follow}
+
+-- a name that is out of the new todo is out of the old one, or was looked at, and wasn't taken in this turn
+looked_at : (todo new : NameSet) (w y : ℕ) → Lacks (union (remove todo w) new) y → Lacks new y × ((y ≡ w) ⊎ Lacks todo y)
+looked_at todo new w y l =
+    let two : Lacks (remove todo w) y × Lacks new y = of_union_lacks (remove todo w) new y l in
+    (two.1, elim (same_name y w) [ inl same ↦ inl same | inr differs ↦ inr (false_if _ (λ h. clash (remove_left todo w y differs h) two.0)) ])
+
+-- what the rest of left is without new
+left_before : (left new : NameSet) (y : ℕ) → Lacks (difference left new) y → Lacks left y ⊎ Has new y
+left_before left new y l = of_minus_lacks left new y l
+
+-- the parts that a turn leaves
+rest_lacks : (left new : NameSet) (y : ℕ) → Lacks left y → Lacks (difference left new) y
+rest_lacks left new y l = lacks_within (difference left new) left (λ z h. (of_minus left new z h).0) y l
+
+taken_then : (s left todo new : NameSet) (w : ℕ) → Within left s → ((y : ℕ) → Has todo y → Has s y × Lacks left y) → ((y : ℕ) → Has new y → Has left y) →
+    (y : ℕ) → Has (union (remove todo w) new) y → Has s y × Lacks (difference left new) y
+taken_then s left todo new w inside taken of_new y h =
+    elim (of_union (remove todo w) new y h) [
+      | inl i ↦ let t : Has s y × Lacks left y = taken y (of_remove todo w y i).1 in (t.0, rest_lacks left new y t.1)
+      | inr j ↦ (inside y (of_new y j), minus_lacks left new y j)
+    ]
+
+-- tests that don't differ are equal
+alike_unless : (a b : Bool) → ((a ≡ b → ⊥) → ⊥) → a ≡ b
+alike_unless a b n = elim (decide_test a b) [ inl same ↦ same | inr differ ↦ absurd (n differ) ]
+
+-- The component of x: each turn takes the names left that w sees with the other value than v.
+pub record IsReaching (e : ℕ → ℕ → Bool) (s : NameSet) (v : Bool) (x : ℕ) (left todo : NameSet) : Type 0 where
+  pub start : Has s x × Lacks left x
+  pub inside : Within left s
+  pub taken : (y : ℕ) → Has todo y → Has s y × Lacks left y
+  pub least : (part : NameSet) → IsClosed e s part v → Has part x → (y : ℕ) → Has s y → Lacks left y → Has part y
+  pub looked : (w : ℕ) → Has s w → Lacks left w → Lacks todo w → (y : ℕ) → Has left y → e w y ≡ v
+
+-- The least module that holds begun, a member v of which is fixed: each turn takes the names left that tell v and w apart.
+pub record IsGrowing (e : ℕ → ℕ → Bool) (s : NameSet) (v : ℕ) (begun left todo : NameSet) : Type 0 where
+  pub start : Has begun v
+  pub begins : (y : ℕ) → Has begun y → Has s y × Lacks left y
+  pub inside : Within left s
+  pub taken : (y : ℕ) → Has todo y → Has s y × Lacks left y
+  pub least : (m : NameSet) → IsModule e s m → Within begun m → (y : ℕ) → Has s y → Lacks left y → Has m y
+  pub looked : (w : ℕ) → Has s w → Lacks left w → Lacks todo w → (y : ℕ) → Has left y → e v y ≡ e w y
+
+-- The names that no proper module holds with v: each turn takes the names left that w tells apart from v.
+pub record IsGoingBack (e : ℕ → ℕ → Bool) (s : NameSet) (v : ℕ) (left todo : NameSet) : Type 0 where
+  pub start : Has left v
+  pub inside : Within left s
+  pub taken : (y : ℕ) → Has todo y → Has s y × Lacks left y
+  pub whole : (y : ℕ) → Has s y → Lacks left y → (m : NameSet) → IsModule e s m → Has m v → Has m y → Within s m
+  pub looked : (w : ℕ) → Has s w → Lacks left w → Lacks todo w → (y : ℕ) → Has left y → e w y ≡ e w v
+
+module _ {e : ℕ → ℕ → Bool} where
+  pub reach_start : (s : NameSet) (v : Bool) (x : ℕ) → Has s x → IsReaching e s v x (difference s (only_name x)) (only_name x)
+  reach_start s v x h = record {
+    start = (h, minus_lacks s (only_name x) x (only_has x));
+    inside = λ y k. (of_minus s (only_name x) y k).0;
+    taken = λ y k. (subst (Has s) (sym (of_only x y k)) h, minus_lacks s (only_name x) y k);
+    least = λ part closed k y hs l. elim (of_minus_lacks s (only_name x) y l) [
+      | inl o ↦ clash hs o
+      | inr i ↦ subst (Has part) (sym (of_only x y i)) k
+    ];
+    looked = λ w hs l t y k. elim (of_minus_lacks s (only_name x) w l) [ inl o ↦ clash hs o | inr i ↦ clash i t ];
+  }
+
+  pub reach_turn : (s left todo new : NameSet) (v : Bool) (x w : ℕ) → IsReaching e s v x left todo → Has todo w →
+      ((y : ℕ) → Has left y → e w y ≡ not v → Has new y) → ((y : ℕ) → Has new y → Has left y × (e w y ≡ not v)) →
+      IsReaching e s v x (difference left new) (union (remove todo w) new)
+  reach_turn s left todo new v x w is hw new_has of_new = record {
+    start = (is.start.0, rest_lacks left new x is.start.1);
+    inside = λ y k. is.inside y (of_minus left new y k).0;
+    taken = taken_then s left todo new w is.inside is.taken (λ y k. (of_new y k).0);
+    least = λ part closed k y hs l. elim (left_before left new y l) [
+      | inl o ↦ is.least part closed k y hs o
+      | inr i ↦ closed_follow s part v closed w y (is.least part closed k w (is.taken w hw).0 (is.taken w hw).1) hs (of_new y i).1
+    ];
+    looked = λ a hs l t y k.
+        let out : Lacks new a × ((a ≡ w) ⊎ Lacks todo a) = looked_at todo new w a t in
+        let z : Has left y × Lacks new y = of_minus left new y k in
+        elim out.1 [
+          | inl same ↦ ap (λ b. e b y) same ∙ other_value (e w y) v (λ c. clash (new_has y z.0 c) z.1)
+          | inr o ↦ is.looked a hs (elim (left_before left new a l) [ inl p ↦ p | inr i ↦ clash i out.0 ]) o y z.0
+        ];
+  }
+
+  pub reach_end : (s left todo : NameSet) (v : Bool) (x : ℕ) → IsReaching e s v x left todo → ((y : ℕ) → Lacks todo y) → IsComponent e s x (difference s left) v
+  reach_end s left todo v x is none = record {
+    holds = minus_has s left x is.start.0 is.start.1;
+    closed = record {
+      inside = λ y k. (of_minus s left y k).0;
+      across = λ a b ha hb l.
+          let p : Has s a × Lacks left a = of_minus s left a ha in
+          is.looked a p.0 p.1 (none a) b (elim (of_minus_lacks s left b l) [ inl o ↦ clash hb o | inr i ↦ i ]);
+    };
+    least = λ part closed k y h. let p : Has s y × Lacks left y = of_minus s left y h in is.least part closed k y p.0 p.1;
+  }
+
+  -- begun is looked at but for todo
+  pub grow_start : (s begun todo : NameSet) (v : ℕ) → Has begun v → Within begun s → Within todo begun →
+      ((w : ℕ) → Has begun w → Lacks todo w → (y : ℕ) → Has s y → Lacks begun y → e v y ≡ e w y) → IsGrowing e s v begun (difference s begun) todo
+  grow_start s begun todo v hv inside among seen = record {
+    start = hv;
+    begins = λ y k. (inside y k, minus_lacks s begun y k);
+    inside = λ y k. (of_minus s begun y k).0;
+    taken = λ y k. (inside y (among y k), minus_lacks s begun y (among y k));
+    least = λ m module_is holds y hs l. elim (of_minus_lacks s begun y l) [ inl o ↦ clash hs o | inr i ↦ holds y i ];
+    looked = λ w hs l t y k. elim (of_minus_lacks s begun w l) [
+      | inl o ↦ clash hs o
+      | inr i ↦ let z : Has s y × Lacks begun y = of_minus s begun y k in seen w i t y z.0 z.1
+    ];
+  }
+
+  pub back_start : (s : NameSet) (v j : ℕ) → Has s v → Has s j → v ≢ j → ((m : NameSet) → IsModule e s m → Has m v → Has m j → Within s m) →
+      IsGoingBack e s v (difference s (only_name j)) (only_name j)
+  back_start s v j hv hj differ alone = record {
+    start = minus_has s (only_name j) v hv (only_lacks j v differ);
+    inside = λ y k. (of_minus s (only_name j) y k).0;
+    taken = λ y k. (subst (Has s) (sym (of_only j y k)) hj, minus_lacks s (only_name j) y k);
+    whole = λ y hs l m module_is mv my. elim (of_minus_lacks s (only_name j) y l) [
+      | inl o ↦ clash hs o
+      | inr i ↦ alone m module_is mv (subst (Has m) (of_only j y i) my)
+    ];
+    looked = λ w hs l t y k. elim (of_minus_lacks s (only_name j) w l) [ inl o ↦ clash hs o | inr i ↦ clash i t ];
+  }
+
+  pub back_turn : (s left todo new : NameSet) (v w : ℕ) → IsGoingBack e s v left todo → Has todo w →
+      ((y : ℕ) → Has left y → (e w y ≡ e w v → ⊥) → Has new y) → ((y : ℕ) → Has new y → Has left y × (e w y ≡ e w v → ⊥)) →
+      IsGoingBack e s v (difference left new) (union (remove todo w) new)
+  back_turn s left todo new v w is hw new_has of_new = record {
+    start = minus_has left new v is.start (false_if _ (λ k. (of_new v k).1 refl));
+    inside = λ y k. is.inside y (of_minus left new y k).0;
+    taken = taken_then s left todo new w is.inside is.taken (λ y k. (of_new y k).0);
+    whole = λ y hs l m module_is mv my. elim (left_before left new y l) [
+      | inl o ↦ is.whole y hs o m module_is mv my
+      | inr i ↦ is.whole w (is.taken w hw).0 (is.taken w hw).1 m module_is mv
+          (true_if _ (λ out. (of_new y i).1 (module_is.alike y v w my mv (is.taken w hw).0 out)))
+    ];
+    looked = λ a hs l t y k.
+        let out : Lacks new a × ((a ≡ w) ⊎ Lacks todo a) = looked_at todo new w a t in
+        let z : Has left y × Lacks new y = of_minus left new y k in
+        elim out.1 [
+          | inl same ↦ ap (λ b. e b y) same ∙ alike_unless (e w y) (e w v) (λ c. clash (new_has y z.0 c) z.1) ∙ ap (λ b. e b v) (sym same)
+          | inr o ↦ is.looked a hs (elim (left_before left new a l) [ inl p ↦ p | inr i ↦ clash i out.0 ]) o y z.0
+        ];
+  }
+
+  -- what is left is a module that holds v, and no proper module holds v and another name
+  pub back_end : (s left todo : NameSet) (v : ℕ) → IsGoingBack e s v left todo → ((y : ℕ) → Lacks todo y) → IsModule e s left
+  back_end s left todo v is none = record {
+    some = (v, is.start);
+    inside = is.inside;
+    alike = λ a b x ha hb hx l. is.looked x hx l (none x) a ha ∙ sym (is.looked x hx l (none x) b hb);
+  }
+
+  module _ (adj : IsAdjacency e) where
+    pub grow_turn : (s begun left todo new : NameSet) (v w : ℕ) → IsGrowing e s v begun left todo → Has todo w →
+        ((y : ℕ) → Has left y → (e v y ≡ e w y → ⊥) → Has new y) → ((y : ℕ) → Has new y → Has left y × (e v y ≡ e w y → ⊥)) →
+        IsGrowing e s v begun (difference left new) (union (remove todo w) new)
+    grow_turn s begun left todo new v w is hw new_has of_new = record {
+      start = is.start;
+      begins = λ y k. let t : Has s y × Lacks left y = is.begins y k in (t.0, rest_lacks left new y t.1);
+      inside = λ y k. is.inside y (of_minus left new y k).0;
+      taken = taken_then s left todo new w is.inside is.taken (λ y k. (of_new y k).0);
+      least = λ m module_is holds y hs l. elim (left_before left new y l) [
+        | inl o ↦ is.least m module_is holds y hs o
+        | inr i ↦ true_if _ (λ out. (of_new y i).1 (adj.symmetric v y
+            ∙ module_is.alike v w y (holds v is.start) (is.least m module_is holds w (is.taken w hw).0 (is.taken w hw).1) hs out ∙ adj.symmetric y w))
+      ];
+      looked = λ a hs l t y k.
+          let out : Lacks new a × ((a ≡ w) ⊎ Lacks todo a) = looked_at todo new w a t in
+          let z : Has left y × Lacks new y = of_minus left new y k in
+          elim out.1 [
+            | inl same ↦ alike_unless (e v y) (e w y) (λ c. clash (new_has y z.0 c) z.1) ∙ ap (λ b. e b y) (sym same)
+            | inr o ↦ is.looked a hs (elim (left_before left new a l) [ inl p ↦ p | inr i ↦ clash i out.0 ]) o y z.0
+          ];
+    }
+
+    pub grow_end : (s begun left todo : NameSet) (v : ℕ) → IsGrowing e s v begun left todo → ((y : ℕ) → Lacks todo y) → IsLeastModuleOver e s begun (difference s left)
+    grow_end s begun left todo v is none = record {
+      is_module = record {
+        some = (v, minus_has s left v (is.begins v is.start).0 (is.begins v is.start).1);
+        inside = λ y k. (of_minus s left y k).0;
+        alike = λ a b x ha hb hx l.
+            let out : Has left x = elim (of_minus_lacks s left x l) [ inl o ↦ clash hx o | inr i ↦ i ] in
+            let p : Has s a × Lacks left a = of_minus s left a ha in
+            let q : Has s b × Lacks left b = of_minus s left b hb in
+            adj.symmetric x a ∙ sym (is.looked a p.0 p.1 (none a) x out) ∙ is.looked b q.0 q.1 (none b) x out ∙ adj.symmetric b x;
+      };
+      holds = λ y k. let t : Has s y × Lacks left y = is.begins y k in minus_has s left y t.0 t.1;
+      least = λ m module_is holds y k. let t : Has s y × Lacks left y = of_minus s left y k in is.least m module_is holds y t.0 t.1;
+    }
+
+  -- the least module over two names is that of the two
+  pub least_of_two : (s k begun : NameSet) (u v : ℕ) → ((y : ℕ) → Has begun y → (y ≡ u) ⊎ (y ≡ v)) → Has begun u → Has begun v → IsLeastModuleOver e s begun k → IsLeastModule e s u v k
+  least_of_two s k begun u v of_begun hu hv is = record {
+    is_module = is.is_module;
+    has_left = is.holds u hu;
+    has_right = is.holds v hv;
+    least = λ m module_is p q. is.least m module_is (λ y h. elim (of_begun y h) [ inl same ↦ subst (Has m) (sym same) p | inr same ↦ subst (Has m) (sym same) q ]);
+  }

@@ -1,0 +1,10 @@
+pub mod Sets
+pub mod Search
+pub mod Modules
+pub mod Components
+pub mod Strong
+pub mod Children
+pub mod Paths
+pub mod Quotients
+pub mod Complement
+pub mod Growth

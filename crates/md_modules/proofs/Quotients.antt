@@ -1,0 +1,361 @@
+-- Partitions into modules and their quotients; the maximal proper modules of a prime set.
+use Rattle.std.proofs.Common.{◌≡◌, ℕ, ◌+◌, ◌<◌, ◌≤◌, Bool, true, false, nat_eq, ◌≢◌, ◌⊎◌, refl, sym, ◌∙◌, ap, subst, inl, inr, arith, eqb-true, eq-eqb}
+use Rattle.std.specs.FinSet.{contains, insert, remove, retain, difference, len}
+use Rattle.md_modules.specs.Sets.{NameSet, Has, Lacks, Within, HasSome, HasTwo, Disjoint}
+use Rattle.md_modules.specs.Adjacency.{IsAdjacency}
+use Rattle.md_modules.specs.Modules.{IsModule, IsMaximalModule, HasTrivialModulesAlone}
+use Rattle.md_modules.specs.Kinds.{IsSplit, IsPrime}
+use Rattle.md_modules.specs.Quotients.{IsQuotient, IsPartition, class}
+use Rattle.md_modules.specs.InducedPaths.{IsInducedPath, HasInducedPath}
+use Rattle.md_modules.specs.Laws.{MaximalModules, PrimeHasMaximalModules}
+use Rattle.md_modules.proofs.Sets.{either, clash, false_if, same_name, Has-along, same_members, insert_new, insert_old, remove_gone, remove_left, of_remove, retain_has, of_retain, retain_lacks, of_retain_lacks, minus_has, of_minus}
+use Rattle.md_modules.proofs.Search.{Decided, decide_test, decide_both, decide_not, decide_if, decide_same, decide_like, decide_below, decide_some, decide_some_set, decide_all, test_of, test_holds, of_test, larger_or_same, choose, len_single, other_or_alone, two_of_len, len_fewer, len_one_more, len_within, len_four, first_member}
+use Rattle.md_modules.proofs.Components.{split_rest, closed_module, split_closed}
+use Rattle.md_modules.proofs.Modules.{across_modules, least_module, decide_maximal}
+use Rattle.md_modules.proofs.Children.{prime_unsplit, in_maximal, maximal_of, maximal_leaves, maximal_meet, together_if_least_proper, least_proper_if_together}
+use Rattle.md_modules.proofs.Paths.{prime_path}
+
+-- the class of p has the names that lead to p
+pub class_has : (s : NameSet) (rep : ℕ → ℕ) (p x : ℕ) → Has s x → rep x ≡ p → Has (class s rep p) x
+class_has s rep p x h same = retain_has s (λ y. nat_eq (rep y) p) x h (eq-eqb (rep x) p same)
+
+pub of_class : (s : NameSet) (rep : ℕ → ℕ) (p x : ℕ) → Has (class s rep p) x → Has s x × (rep x ≡ p)
+of_class s rep p x h =
+    let two : Has s x × (nat_eq (rep x) p ≡ true) = of_retain s (λ y. nat_eq (rep y) p) x h in
+    (two.0, eqb-true (rep x) p two.1)
+
+-- the names of s whose classes k names
+abbrev pub lifted : NameSet → (ℕ → ℕ) → NameSet → NameSet
+lifted s rep k = retain s (λ x. contains k (rep x))
+
+pub not_same_in : (k : NameSet) (x y : ℕ) → Has k x → Lacks k y → x ≢ y
+not_same_in k x y h l same = clash (subst (Has k) same h) l
+
+module _ {e : ℕ → ℕ → Bool} (adj : IsAdjacency e) (s r : NameSet) (rep : ℕ → ℕ) (part : IsPartition e s r rep) where
+  own_class : (p : ℕ) → Has r p → Has (class s rep p) p
+  own_class p h = class_has s rep p p (part.inside p h) (part.own p h)
+
+  -- between two classes all pairs are alike
+  pub across_classes : (a b : ℕ) → Has s a → Has s b → rep a ≢ rep b → e a b ≡ e (rep a) (rep b)
+  across_classes a b ha hb differ =
+      across_modules adj s (class s rep (rep a)) (class s rep (rep b)) (part.modules (rep a) (part.leads a ha)) (part.modules (rep b) (part.leads b hb))
+      (λ x h. false_if _ (λ k. differ (sym (of_class s rep (rep a) x h).1 ∙ (of_class s rep (rep b) x k).1)))
+      a (rep a) b (rep b) (class_has s rep (rep a) a ha refl) (own_class (rep a) (part.leads a ha)) (class_has s rep (rep b) b hb refl) (own_class (rep b) (part.leads b hb))
+
+  -- the classes of a module of the quotient are a module
+  pub lifted_module : (k : NameSet) → IsModule e r k → IsModule e s (lifted s rep k)
+  lifted_module k is = record {
+    some = (
+      is.some.0,
+      retain_has s (λ x. contains k (rep x)) is.some.0 (part.inside is.some.0 (is.inside is.some.0 is.some.1))
+          (subst (Has k) (sym (part.own is.some.0 (is.inside is.some.0 is.some.1))) is.some.1),
+    );
+    inside = λ x h. (of_retain s _ x h).0;
+    alike = λ a b x ha hb hx l.
+        let a_in : Has s a × Has k (rep a) = of_retain s (λ z. contains k (rep z)) a ha in
+        let b_in : Has s b × Has k (rep b) = of_retain s (λ z. contains k (rep z)) b hb in
+        let out : Lacks k (rep x) = of_retain_lacks s (λ z. contains k (rep z)) x hx l in
+        across_classes x a hx a_in.0 (λ same. not_same_in k (rep a) (rep x) a_in.1 out (sym same))
+        ∙ is.alike (rep a) (rep b) (rep x) a_in.1 b_in.1 (part.leads x hx) out
+        ∙ sym (across_classes x b hx b_in.0 (λ same. not_same_in k (rep b) (rep x) b_in.1 out (sym same)));
+  }
+
+  -- a split of the quotient is one of s
+  pub lifted_split : (k : NameSet) (v : Bool) → IsSplit e r k v → IsSplit e s (lifted s rep k) v
+  lifted_split k v is = record {
+    some = (
+      is.some.0,
+      retain_has s (λ x. contains k (rep x)) is.some.0 (part.inside is.some.0 (is.inside is.some.0 is.some.1))
+          (subst (Has k) (sym (part.own is.some.0 (is.inside is.some.0 is.some.1))) is.some.1),
+    );
+    inside = λ x h. (of_retain s _ x h).0;
+    rest = (is.rest.0, part.inside is.rest.0 is.rest.1, retain_lacks s (λ x. contains k (rep x)) is.rest.0 (subst (Lacks k) (sym (part.own is.rest.0 is.rest.1)) is.rest.2));
+    across = λ a b ha hb l.
+        let a_in : Has s a × Has k (rep a) = of_retain s (λ z. contains k (rep z)) a ha in
+        let out : Lacks k (rep b) = of_retain_lacks s (λ z. contains k (rep z)) b hb l in
+        across_classes a b a_in.0 hb (not_same_in k (rep a) (rep b) a_in.1 out) ∙ is.across (rep a) (rep b) a_in.1 (part.leads b hb) out;
+  }
+
+  -- the names of the classes that m meets
+  pub decide_met : (m : NameSet) (p : ℕ) → Decided ((x : ℕ) × Has m x × (rep x ≡ p))
+  decide_met m p = decide_some m (λ x. rep x ≡ p) (λ x h. same_name (rep x) p)
+
+  abbrev pub met : NameSet → NameSet
+  met m = retain r (λ p. test_of (decide_met m p))
+
+  pub met_has : (m : NameSet) (x : ℕ) → Has s x → Has m x → Has (met m) (rep x)
+  met_has m x hs h = retain_has r _ (rep x) (part.leads x hs) (test_holds (decide_met m (rep x)) (x, h, refl))
+
+  pub of_met : (m : NameSet) (p : ℕ) → Has (met m) p → (x : ℕ) × Has m x × (rep x ≡ p)
+  of_met m p h = of_test (decide_met m p) (of_retain r _ p h).1
+
+  -- the classes that a module meets are a module of the quotient
+  pub met_module : (m : NameSet) → IsModule e s m → IsModule e r (met m)
+  met_module m is = record {
+    some = (rep is.some.0, met_has m is.some.0 (is.inside is.some.0 is.some.1) is.some.1);
+    inside = λ p h. (of_retain r _ p h).0;
+    alike = λ p q x hp hq hx l.
+        let a : (z : ℕ) × Has m z × (rep z ≡ p) = of_met m p hp in
+        let b : (z : ℕ) × Has m z × (rep z ≡ q) = of_met m q hq in
+        let xs : Has s x = part.inside x hx in
+        let out : Lacks m x = false_if _ (λ h. clash (subst (Has (met m)) (part.own x hx) (met_has m x xs h)) l) in
+        sees x p a.0 hx (is.inside a.0 a.1) a.2 (λ same. clash (subst (Has (met m)) (sym same) hp) l)
+        ∙ is.alike a.0 b.0 x a.1 b.1 xs out
+        ∙ sym (sees x q b.0 hx (is.inside b.0 b.1) b.2 (λ same. clash (subst (Has (met m)) (sym same) hq) l));
+  } where
+    sees : (x p a : ℕ) → Has r x → Has s a → rep a ≡ p → x ≢ p → e x p ≡ e x a
+    sees x p a hx ha same differ =
+        sym (across_classes x a (part.inside x hx) ha (λ k. differ (sym (part.own x hx) ∙ k ∙ same))
+        ∙ ap (λ z. e z (rep a)) (part.own x hx) ∙ ap (e x) same)
+
+  -- in a quotient with three names or more and trivial modules alone, each module is the whole or lies in one class
+  rest_module : (m : NameSet) (z : ℕ) → IsModule e s m → 3 ≤ len r → met m ≡ r → Has s z → Lacks m z → IsModule e r (remove r (rep z))
+  rest_module m z is many same hz l = record {
+    some = some;
+    inside = λ x h. (of_remove r (rep z) x h).1;
+    alike = λ p q x hp hq hx out. elim (same_name x (rep z)) [
+      | inl is_z ↦ ap (λ y. e y p) is_z ∙ sees p hp ∙ sym (sees q hq) ∙ sym (ap (λ y. e y q) is_z)
+      | inr differs ↦ clash (remove_left r (rep z) x differs hx) out
+    ];
+  } where
+    some : HasSome (remove r (rep z))
+    some =
+        let fewer : len (remove r (rep z)) + 1 ≡ len r = len_fewer r (rep z) (part.leads z hz) in
+        let two : HasTwo (remove r (rep z)) = two_of_len (remove r (rep z)) (omega arith) in
+        (two.0, two.2)
+
+    w : ℕ
+    w = is.some.0
+
+    sees : (p : ℕ) → Has (remove r (rep z)) p → e (rep z) p ≡ e z w
+    sees p hp =
+        let p_in : (p ≢ rep z) × Has r p = of_remove r (rep z) p hp in
+        let a : (y : ℕ) × Has m y × (rep y ≡ p) = of_met m p (Has-along r (met m) (sym same) p p_in.1) in
+        sym (across_classes z a.0 hz (is.inside a.0 a.1) (λ k. p_in.0 (sym a.2 ∙ sym k)) ∙ ap (e (rep z)) a.2)
+        ∙ is.alike a.0 w z a.1 is.some.1 hz l
+
+  pub module_in_class : (m : NameSet) → IsModule e s m → 3 ≤ len r → HasTrivialModulesAlone e r → (m ≡ s) ⊎ ((p : ℕ) × Has r p × Within m (class s rep p))
+  module_in_class m is many trivial =
+      elim (trivial (met m) (met_module m is)) [
+        | inl one ↦
+            let w : ℕ = rep is.some.0 in
+            inr (
+              w,
+              part.leads is.some.0 (is.inside is.some.0 is.some.1),
+              λ x h. class_has s rep w x (is.inside x h)
+                  (one.1 (rep x) (met_has m x (is.inside x h) h) ∙ sym (one.1 w (met_has m is.some.0 (is.inside is.some.0 is.some.1) is.some.1))),
+            )
+        | inr all ↦ elim (larger_or_same m s is.inside) [
+          | inr same ↦ inl same
+          | inl z ↦ absurd (no_rest z.0 z.1 (trivial (remove r (rep z.0)) (rest_module m z.0 is many all z.1 z.2)))
+        ]
+      ]
+    where
+      no_rest : (z : ℕ) → Has s z → ((x : ℕ) × ((y : ℕ) → Has (remove r (rep z)) y → y ≡ x)) ⊎ (remove r (rep z) ≡ r) → ⊥
+      no_rest z hz (inl one) =
+          let fewer : len (remove r (rep z)) + 1 ≡ len r = len_fewer r (rep z) (part.leads z hz) in
+          let small : len (remove r (rep z)) ≤ 1 = len_single (remove r (rep z)) one.0 one.1 in
+          omega arith
+      no_rest z hz (inr same) = clash (Has-along r (remove r (rep z)) (sym same) (rep z) (part.leads z hz)) (remove_gone r (rep z))
+
+-- three names or more and trivial modules alone: a prime set
+module _ {e : ℕ → ℕ → Bool} (adj : IsAdjacency e) (r : NameSet) (many : 3 ≤ len r) (trivial : HasTrivialModulesAlone e r) where
+  trivial_unsplit : (v : Bool) (a : NameSet) → IsSplit e r a v → ⊥
+  trivial_unsplit v a split =
+      elim (trivial a (closed_module adj r a v (split_closed r a v split) split.some)) [
+        | inr same ↦ clash (Has-along r a (sym same) split.rest.0 split.rest.1) split.rest.2
+        | inl one ↦ elim (trivial (difference r a) (closed_module adj r (difference r a) v (split_closed r (difference r a) v rest) rest.some)) [
+          | inr same ↦ clash split.some.1 (of_minus r a split.some.0 (Has-along r (difference r a) (sym same) split.some.0 (split.inside split.some.0 split.some.1))).1
+          | inl other ↦
+              let small : len (difference r a) ≤ 1 = len_single (difference r a) other.0 other.1 in
+              let one_more : len (insert (difference r a) one.0) ≤ len (difference r a) + 1 = len_one_more (difference r a) one.0 in
+              let all : len r ≤ len (insert (difference r a) one.0) = len_within r (insert (difference r a) one.0) (λ x h. elim (either (contains a x)) [
+                | inl i ↦ subst (Has (insert (difference r a) one.0)) (sym (one.1 x i)) (insert_new (difference r a) one.0)
+                | inr o ↦ insert_old (difference r a) one.0 x (minus_has r a x h o)
+              ]) in
+              absurd (omega arith)
+        ]
+      ]
+    where
+      rest : IsSplit e r (difference r a) v
+      rest = split_rest adj r a v split
+
+  pub trivial_prime : IsPrime e r
+  trivial_prime = record {
+    two = two_of_len r (omega arith);
+    connected = λ w. trivial_unsplit false w.0 w.1;
+    co_connected = λ w. trivial_unsplit true w.0 w.1;
+  }
+
+-- x and y lie in one maximal proper module
+abbrev pub Together : (ℕ → ℕ → Bool) → NameSet → ℕ → ℕ → Type 0
+Together e s x y = (m : NameSet) × IsMaximalModule e s m × Has m x × Has m y
+
+module _ (e : ℕ → ℕ → Bool) (s : NameSet) where
+  pub decide_together : (x y : ℕ) → Decided (Together e s x y)
+  decide_together x y =
+      decide_like
+      (λ w. (w.0, w.2.0, w.2.1.0, w.2.1.1))
+      (λ w. (w.0, w.1.is_module.inside, (w.1, (w.2, w.3))))
+      (decide_some_set s (λ m. IsMaximalModule e s m × (Has m x × Has m y))
+      (λ m w. decide_both (decide_maximal s m) (decide_both (decide_test (contains m x) true) (decide_test (contains m y) true))))
+
+  -- x is the first of its maximal proper module
+  abbrev pub IsFirst : ℕ → Type 0
+  IsFirst x = (y : ℕ) → Has s y → y < x → Together e s x y → ⊥
+
+  pub decide_first : (x : ℕ) → Decided (IsFirst x)
+  decide_first x = decide_all s _ (λ y h. decide_if (decide_below y x) (decide_not (decide_together x y)))
+
+  abbrev pub firsts : NameSet
+  firsts = retain s (λ x. test_of (decide_first x))
+
+  module _ (adj : IsAdjacency e) (prime : IsPrime e s) where
+    together_in : (m : NameSet) (x y : ℕ) → IsMaximalModule e s m → Has m x → Together e s x y → Has m y
+    together_in m x y max h t = Has-along t.0 m (maximal_meet adj s t.0 m x prime t.1 max t.2 h) y t.3
+
+    -- the first names of the maximal proper modules are the names of a quotient
+    pub firsts_quotient : IsQuotient e s firsts
+    firsts_quotient = record {
+      inside = λ x h. (of_retain s _ x h).0;
+      one = λ m max.
+          let f : (z : ℕ) × Has m z × ((y : ℕ) → Has m y → z ≤ y) = first_member m max.is_module.some.0 max.is_module.some.1 in (
+            f.0,
+            f.1,
+            retain_has s (λ x. test_of (decide_first x)) f.0 (max.is_module.inside f.0 f.1)
+                (test_holds (decide_first f.0) (λ y h below t. let le : f.0 ≤ y = f.2 y (together_in m f.0 y max f.1 t) in omega arith)),
+            λ y h k. no_smaller y f.0 (of_test (decide_first y) (of_retain s (λ x. test_of (decide_first x)) y k).1)
+                (max.is_module.inside f.0 f.1) (f.2 y h) (m, max, h, f.1),
+          );
+    } where
+      no_smaller : (y z : ℕ) → IsFirst y → Has s z → z ≤ y → Together e s y z → y ≡ z
+      no_smaller y z first h le t = elim (same_name y z) [
+        | inl same ↦ same
+        | inr differs ↦ absurd (first z h (omega arith) t)
+      ]
+
+    module _ (r : NameSet) (quotient : IsQuotient e s r) where
+      one_in_class : (m : NameSet) (p q : ℕ) → IsMaximalModule e s m → Has m p → Has m q → Has r p → Has r q → p ≡ q
+      one_in_class m p q max mp mq rp rq =
+          let o : (x : ℕ) × Has m x × Has r x × ((y : ℕ) → Has m y → Has r y → y ≡ x) = quotient.one m max in
+          o.3 p mp rp ∙ sym (o.3 q mq rq)
+
+      represent : (rep : ℕ → ℕ) × ((x : ℕ) → Has s x → Has r (rep x) × Together e s x (rep x))
+      represent = choose s (λ x y. Has r y × Together e s x y) (λ x h.
+          let m : (m : NameSet) × IsMaximalModule e s m × Has m x = maximal_of s x prime.two h in
+          let o : (z : ℕ) × Has m.0 z × Has r z × ((y : ℕ) → Has m.0 y → Has r y → y ≡ z) = quotient.one m.0 m.1 in
+          (o.0, (o.2, (m.0, m.1, m.2, o.1))))
+
+      module _ (rep : ℕ → ℕ) (fits : (x : ℕ) → Has s x → Has r (rep x) × Together e s x (rep x)) where
+        leads_to_own : (p : ℕ) → Has r p → rep p ≡ p
+        leads_to_own p h =
+            let f : Has r (rep p) × Together e s p (rep p) = fits p (quotient.inside p h) in
+            one_in_class f.1.0 (rep p) p f.1.1 f.1.3 f.1.2 f.0 h
+
+        class_same : (p : ℕ) (m : NameSet) → Has r p → IsMaximalModule e s m → Has m p → class s rep p ≡ m
+        class_same p m h max mp = same_members (class s rep p) m
+            (λ x k.
+            let c : Has s x × (rep x ≡ p) = of_class s rep p x k in
+            let t : Together e s x (rep x) = (fits x c.0).1 in
+            together_in m p x max mp (t.0, t.1, subst (Has t.0) c.1 t.3, t.2))
+            (λ x k.
+            let hs : Has s x = max.is_module.inside x k in
+            class_has s rep p x hs (one_in_class m (rep x) p max (together_in m x (rep x) max k (fits x hs).1) mp (fits x hs).0 h))
+
+        class_maximal : (p : ℕ) → Has r p → IsMaximalModule e s (class s rep p)
+        class_maximal p h =
+            let m : (m : NameSet) × IsMaximalModule e s m × Has m p = maximal_of s p prime.two (quotient.inside p h) in
+            subst (IsMaximalModule e s) (sym (class_same p m.0 h m.1 m.2)) m.1
+
+        partition : IsPartition e s r rep
+        partition = record {
+          inside = quotient.inside;
+          leads = λ x h. (fits x h).0;
+          own = leads_to_own;
+          modules = λ p h. (class_maximal p h).is_module;
+        }
+
+        trivial_from : HasTrivialModulesAlone e r
+        trivial_from k is =
+            elim (other_or_alone k is.some.0) [
+              | inr alone ↦ inl (is.some.0, alone)
+              | inl y ↦ elim (decide_same (lifted s rep k) s) [
+                | inl same ↦ inr (same_members k r is.inside (λ x h.
+                    subst (Has k) (leads_to_own x h) (of_retain s (λ z. contains k (rep z)) x (Has-along s (lifted s rep k) (sym same) x (quotient.inside x h))).1))
+                | inr differs ↦ absurd (no_two y (in_maximal s (lifted s rep k) (lifted_module adj s r rep partition k is) differs))
+              ]
+            ]
+          where
+            in_lifted : (p : ℕ) → Has k p → Has (lifted s rep k) p
+            in_lifted p h = retain_has s (λ z. contains k (rep z)) p (quotient.inside p (is.inside p h)) (subst (Has k) (sym (leads_to_own p (is.inside p h))) h)
+
+            no_two : (y : ℕ) × Has k y × (y ≢ is.some.0) → (x : NameSet) × IsMaximalModule e s x × Within (lifted s rep k) x → ⊥
+            no_two y m = y.2 (one_in_class m.0 y.0 is.some.0 m.1 (m.2 y.0 (in_lifted y.0 y.1)) (m.2 is.some.0 (in_lifted is.some.0 is.some.1)) (is.inside y.0 y.1) (is.inside is.some.0 is.some.1))
+
+        prime_from : IsPrime e r
+        prime_from = record {
+          two = (
+            rep x,
+            rep y.0,
+            (fits x hx).0,
+            (fits y.0 y.1).0,
+            λ same.
+                let tx : Together e s x (rep x) = (fits x hx).1 in
+                let ty : Together e s y.0 (rep y.0) = (fits y.0 y.1).1 in
+                clash (together_in (class s rep (rep x)) (rep x) y.0 cx own_rep (ty.0, ty.1, subst (Has ty.0) (sym same) ty.3, ty.2)) y.2,
+          );
+          connected = λ w. prime_unsplit s prime false (lifted s rep w.0) (lifted_split adj s r rep partition w.0 false w.1);
+          co_connected = λ w. prime_unsplit s prime true (lifted s rep w.0) (lifted_split adj s r rep partition w.0 true w.1);
+        } where
+          x : ℕ
+          x = prime.two.0
+
+          hx : Has s x
+          hx = prime.two.2
+
+          cx : IsMaximalModule e s (class s rep (rep x))
+          cx = class_maximal (rep x) (fits x hx).0
+
+          own_rep : Has (class s rep (rep x)) (rep x)
+          own_rep = class_has s rep (rep x) (rep x) (quotient.inside (rep x) (fits x hx).0) (leads_to_own (rep x) (fits x hx).0)
+
+          y : (z : ℕ) × Has s z × Lacks (class s rep (rep x)) z
+          y = maximal_leaves s (class s rep (rep x)) cx
+
+      -- each quotient of a prime set is a partition into its maximal proper modules
+      pub quotient_partition : (rep : ℕ → ℕ) × IsPartition e s r rep × ((p : ℕ) → Has r p → IsMaximalModule e s (class s rep p))
+      quotient_partition = (represent.0, partition represent.0 represent.1, class_maximal represent.0 represent.1)
+
+      pub quotient_trivial : HasTrivialModulesAlone e r
+      quotient_trivial = trivial_from represent.0 represent.1
+
+      pub quotient_prime : IsPrime e r
+      quotient_prime = prime_from represent.0 represent.1
+
+      pub quotient_four : 4 ≤ len r
+      quotient_four =
+          let path : HasInducedPath e r = prime_path adj r quotient_prime in
+          let is : IsInducedPath e r path.0 path.1 path.2 path.3 = path.4 in
+          len_four r path.0 path.1 path.2 path.3 is.inside.0 is.inside.1 is.inside.2 is.inside.3
+          is.different.0 is.different.1 is.different.2 (ends_differ path.0 path.3 is.ascending) is.different.3 is.different.4
+        where
+          ends_differ : (a d : ℕ) → a < d → a ≢ d
+          ends_differ a d l same = let k : a < d = l in let q : a ≡ d = same in omega arith
+
+    maximal_disjoint : (m n : NameSet) → IsMaximalModule e s m → IsMaximalModule e s n → m ≢ n → Disjoint m n
+    maximal_disjoint m n a b differ x h = false_if _ (λ k. differ (maximal_meet adj s m n x prime a b h k))
+
+    pub maximal_modules : MaximalModules e s
+    maximal_modules = record {
+      least = least_module s;
+      together = λ u v k is. ((λ w. least_proper_if_together s k w.0 u v is w.1 w.2 w.3), together_if_least_proper s k u v is);
+      covered = λ u h. maximal_of s u prime.two h;
+      disjoint = maximal_disjoint;
+      alike = λ m n a b p q mm mn differ ha hp hb hq. across_modules adj s m n mm.is_module mn.is_module (maximal_disjoint m n mm mn differ) a p b q ha hp hb hq;
+      quotient = (firsts, firsts_quotient);
+      trivial = quotient_trivial;
+      four = quotient_four;
+    }
+
+pub maximal_modules_proof : PrimeHasMaximalModules
+maximal_modules_proof e adj s prime = maximal_modules e s adj prime

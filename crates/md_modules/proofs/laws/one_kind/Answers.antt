@@ -1,0 +1,5 @@
+use Rattle.md_modules.proofs.Components.{one_kind_proof}
+use Rattle.md_modules.proofs.laws.one_kind.Goals as goal
+
+pub returns : goal.returns
+returns c = one_kind_proof

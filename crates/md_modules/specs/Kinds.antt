@@ -1,0 +1,33 @@
+-- The kinds of a set of names with two or more members: parallel, series and prime.
+-- Source: Gallai, Transitiv orientierbare Graphen.
+use Rattle.std.specs.Prelude.{◌≡◌, ℕ, Bool, true, false}
+use Rattle.md_modules.specs.Sets.{NameSet, Has, Lacks, Within, HasSome, HasTwo}
+
+-- part and the rest of s are both nonempty, and every pair across is adjacent (v is true), or no pair across is (v is false)
+pub record IsSplit (e : ℕ → ℕ → Bool) (s part : NameSet) (v : Bool) : Type 0 where
+  pub some : HasSome part
+  pub inside : Within part s
+  pub rest : (x : ℕ) × Has s x × Lacks part x
+  pub across : (a b : ℕ) → Has part a → Has s b → Lacks part b → e a b ≡ v
+
+-- s splits into two nonempty parts with no edge across
+abbrev pub IsParallel : (ℕ → ℕ → Bool) → NameSet → Type 0
+IsParallel e s = (part : NameSet) × IsSplit e s part false
+
+-- s splits into two nonempty parts with every edge across
+abbrev pub IsSeries : (ℕ → ℕ → Bool) → NameSet → Type 0
+IsSeries e s = (part : NameSet) × IsSplit e s part true
+
+-- the graph on s is connected: no name, one name, or no split without an edge across
+abbrev pub IsConnected : (ℕ → ℕ → Bool) → NameSet → Type 0
+IsConnected e s = ¬ (IsParallel e s)
+
+-- the complement on s is connected
+abbrev pub IsCoConnected : (ℕ → ℕ → Bool) → NameSet → Type 0
+IsCoConnected e s = ¬ (IsSeries e s)
+
+-- s has two members, and neither split
+pub record IsPrime (e : ℕ → ℕ → Bool) (s : NameSet) : Type 0 where
+  pub two : HasTwo s
+  pub connected : IsConnected e s
+  pub co_connected : IsCoConnected e s

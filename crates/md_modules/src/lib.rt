@@ -1,0 +1,4 @@
+//! Modules of an undirected graph: their definitions and laws.
+#![tactic(auto)]
+
+pub mod laws;
