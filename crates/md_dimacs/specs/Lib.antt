@@ -1,0 +1,4 @@
+pub mod Line
+pub mod File
+pub mod Text
+pub mod Laws

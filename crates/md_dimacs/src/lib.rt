@@ -1,0 +1,14 @@
+//! DIMACS edge files: one graph a file, read and written.
+//!
+//! `read` reads a whole file, or names its first fault; `write` writes a graph as a file.
+#![tactic(auto)]
+
+mod fault;
+pub mod laws;
+mod line;
+mod reader;
+mod writer;
+
+pub use fault::{DimacsFault, DimacsKind};
+pub use reader::read;
+pub use writer::write;
