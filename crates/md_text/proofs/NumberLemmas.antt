@@ -7,10 +7,11 @@ use Rattle.std.specs.Fmt.{decimal as displayed}
 use Rattle.std.specs.List.{All, AllPass, list_all}
 use Rattle.std.proofs.lemmas.Bool.{cases_lt, lt-ltb, le-leb, leb-true, and_from, and_parts, or_from, ne_eqb, cond-true}
 use Rattle.std.proofs.lemmas.Fmt.{decimal_digit as displayed_digit, decimal-digits_of as displayed-digits_of}
-use Rattle.std.proofs.lemmas.Grind.{common_steps, fold-append}
+use Rattle.std.proofs.lemmas.Grind.{common_steps, fold-append, pow_more}
 use Rattle.std.proofs.lemmas.Int.Digits.{digits_of_step, length-digits_of-le}
 use Rattle.std.proofs.lemmas.List.{append_assoc, append-nil, map-append, length-map, length-append, length-take-le, take_more, take_all, get_or_append_left, get_or-take}
 use Rattle.std.proofs.lemmas.List.Elements.{All-nil, All-cons, All-head, All-tail, All-push, All-take, All-weaker, All-get_or}
+use Rattle.std.proofs.Math.Nat.{pow-le-pow_right}
 use Rattle.md_text.specs.declared.digits.TheConstants.{DIGITS}
 use Rattle.md_text.specs.Fields.{is_blank, IsWord}
 use Rattle.md_text.specs.Numbers.{value, decimal, is_number, number_of, IsCanonical}
@@ -198,3 +199,14 @@ number_of-decimal n below =
 pub displayed-decimal : (n : ℕ) → n < 2 ^ 64 → displayed n ≡ decimal n
 displayed-decimal zero small = displayed_digit 0 (omega arith) ∙ sym decimal-zero
 displayed-decimal (suc n) small = displayed-digits_of (suc n) (omega arith) small ∙ sym (decimal_above (suc n) (omega arith))
+
+-- one more digit of a list that is read from the front
+pub value_more : (digits : List ℕ) (i : ℕ) → i < length digits → value (take (i + 1) digits) ≡ value (take i digits) * 10 + (get_or digits i 0 - 48)
+value_more digits i below = ap value (take_more digits i 0 below) ∙ value-push (take i digits) (get_or digits i 0)
+
+-- a number of fewer than DIGITS digits has room for one digit more
+pub number_room : (n i : ℕ) → n < 10 ^ i → i < DIGITS → n * 10 + 9 < 10 ^ DIGITS
+number_room n i below short = omega (arith, pow-le-pow_right {n = 10} (omega arith) {i = i} {j = 17} (omega arith))
+
+pub number_grows : (n i digit : ℕ) → n < 10 ^ i → digit ≤ 9 → n * 10 + digit < 10 ^ (i + 1)
+number_grows n i digit below small = omega (arith, pow_more 10 i)
