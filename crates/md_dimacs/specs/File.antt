@@ -16,25 +16,37 @@ use Rattle.md_dimacs.specs.Line.{words, class_of, sizes_of, ends_of, is_vertex, 
 abbrev pub IsPassed : List ℕ → Type 0
 IsPassed line = class_of (words line) ≡ Passed
 
--- a problem line for n vertices, fewer than there are names; its other number may be any
-pub record IsProblemLine (n : ℕ) (line : List ℕ) : Type 0 where
+-- the two numbers of a problem line for n vertices, fewer than there are names; the other may be any
+pub record AreSizes (n : ℕ) (sizes : Option (ℕ × ℕ)) : Type 0 where
   pub edge_count : ℕ
-  pub sizes : sizes_of (words line) ≡ Some (n, edge_count)
+  pub numbers : sizes ≡ Some (n, edge_count)
   pub named : n < NAMES
 
--- an edge line: its ends are two different ones of the vertices 1 to n
-pub record IsEdgeLine (n : ℕ) (line : List ℕ) : Type 0 where
+-- two different ones of the vertices 1 to n
+pub record AreEnds (n : ℕ) (ends : Option (ℕ × ℕ)) : Type 0 where
   pub first : ℕ
   pub second : ℕ
-  pub ends : ends_of (words line) ≡ Some (first, second)
+  pub numbers : ends ≡ Some (first, second)
   pub first_vertex : IsTrue (is_vertex n first)
   pub second_vertex : IsTrue (is_vertex n second)
   pub differ : first ≢ second
 
+-- a problem line for n vertices
+abbrev pub IsProblemLine : ℕ → List ℕ → Type 0
+IsProblemLine n line = AreSizes n (sizes_of (words line))
+
+-- an edge line between two of the vertices 1 to n
+abbrev pub IsEdgeLine : ℕ → List ℕ → Type 0
+IsEdgeLine n line = AreEnds n (ends_of (words line))
+
+-- a line that may stand behind the problem line
+abbrev pub IsPassedOrEdge : ℕ → List ℕ → Type 0
+IsPassedOrEdge n line = IsPassed line ⊎ IsEdgeLine n line
+
 -- whether the ends are u and v, in either order
 abbrev pub are_ends : ℕ → ℕ → Option (ℕ × ℕ) → Bool
 are_ends u v None = false
-are_ends u v (Some p) = (p.0 == u && p.1 == v) || (p.0 == v && p.1 == u)
+are_ends u v (Some p) = (u == p.0 && v == p.1) || (u == p.1 && v == p.0)
 
 -- whether the line is an edge line between u and v
 abbrev pub joins : ℕ → ℕ → List ℕ → Bool
@@ -50,7 +62,7 @@ pub record Spells (bytes : List ℕ) (g : PlainGraph) : Type 0 where
   pub whole : lines bytes ≡ before ++ problem ∷ behind
   pub passed : All IsPassed before
   pub problem_line : IsProblemLine n problem
-  pub edge_lines : All (λ line. IsPassed line ⊎ IsEdgeLine n line) behind
+  pub edge_lines : All (IsPassedOrEdge n) behind
   pub vertices : (v : ℕ) → set.contains g.vertices v ≡ is_vertex n v
   pub edges : (u v : ℕ) → adjacent g u v ≡ list_any (joins u v) behind
   pub graph : IsGraph g

@@ -1,4 +1,5 @@
 pub mod Line
 pub mod File
+pub mod Read
 pub mod Text
 pub mod Laws

@@ -1,10 +1,12 @@
 //! One line of a DIMACS edge file.
 ghost use Rattle.std.specs.Prelude.{
-    ◌≡◌, ◌≢◌, ◌<◌, ◌∷◌, [], length, None, Some, IfSome, IfNone, IfOk, IfErr,
+    ◌≡◌, ◌≢◌, ◌<◌, ◌∷◌, [], length, None, Some, IfSome, IfNone, IfOk, IfErr, OnOk, IsTrue,
 };
-ghost use Rattle.md_graph.specs.declared.TheConstants.{NAMES};
 ghost use Rattle.md_text.specs.Fields.{fields};
-ghost use Rattle.md_dimacs.specs.Line.{class_of_field, is_form, problem_fault, edge_fault, ends_in, sizes_in};
+ghost use Rattle.md_dimacs.specs.Line.{
+    class_of_field, is_form, sizes_in, ends_in, is_vertex, problem_fault, edge_fault,
+};
+ghost use Rattle.md_dimacs.specs.File.{AreSizes};
 
 use md_graph::NAMES;
 use md_text::{number, split_field};
@@ -25,6 +27,7 @@ pub(crate) enum LineClass {
 }
 
 // The class of a line that begins with this field.
+#[tactic(auto, unfolding(crate::specs::Line::class_of_field))]
 pub(crate) fn class_of(field: &[u8]) -> LineClass
     requires { 0 < length field.now }
     ensures { result ≡ class_of_field field.now }
@@ -41,4 +44,83 @@ pub(crate) fn class_of(field: &[u8]) -> LineClass
         b'n' | b'd' | b'v' | b'x' => LineClass::Passed,
         _ => LineClass::Unknown,
     }
+}
+
+// The fields of a text, if there are three.
+fn three_fields(text: &[u8]) -> Option<(&[u8], &[u8], &[u8])>
+    ensures fields { IfSome result (λ p. fields text.now ≡ p.0.now ∷ p.1.now ∷ p.2.now ∷ []) }
+    ensures other_count { IfNone result (length (fields text.now) ≢ 3) }
+{
+    let (first, text) = split_field(text)?;
+    let (second, text) = split_field(text)?;
+    let (third, text) = split_field(text)?;
+    match split_field(text) {
+        Some(_) => None,
+        None => Some((first, second, third)),
+    }
+}
+
+// The fields of a text, if there are two.
+fn two_fields(text: &[u8]) -> Option<(&[u8], &[u8])>
+    ensures fields { IfSome result (λ p. fields text.now ≡ p.0.now ∷ p.1.now ∷ []) }
+    ensures other_count { IfNone result (length (fields text.now) ≢ 2) }
+{
+    let (first, text) = split_field(text)?;
+    let (second, text) = split_field(text)?;
+    match split_field(text) {
+        Some(_) => None,
+        None => Some((first, second)),
+    }
+}
+
+// Whether the second field of a problem line is right.
+#[tactic(auto, unfolding(crate::specs::Line::is_form))]
+fn names_edges(field: &[u8]) -> bool
+    ensures { result ≡ is_form field.now }
+{
+    field == b"edge".as_slice() || field == b"col".as_slice()
+}
+
+// Reads the fields behind the `p` of a first problem line: the number of vertices.
+pub(crate) fn read_problem(rest: &[u8]) -> Result<u32, DimacsKind>
+    ensures sizes { IfOk result (λ n. AreSizes n (sizes_in (fields rest.now))) }
+    ensures fault { IfErr result (λ kind. problem_fault None (fields rest.now) ≡ Some kind) }
+{
+    let Some((form, vertices, edges)) = three_fields(rest) else {
+        return Err(DimacsKind::FieldCount);
+    };
+    if !names_edges(form) {
+        return Err(DimacsKind::UnknownLine);
+    }
+    let (Some(n), Some(_)) = (number(vertices), number(edges)) else {
+        return Err(DimacsKind::BadNumber);
+    };
+    if n >= u64::from(NAMES) {
+        return Err(DimacsKind::TooManyVertices);
+    }
+    Ok(n as u32)
+}
+
+// Reads the fields behind the `e` of an edge line behind the problem line: the two ends.
+pub(crate) fn read_ends(n: u32, rest: &[u8]) -> Result<(u32, u32), DimacsKind>
+    ensures ends { IfOk result (λ p. ends_in (fields rest.now) ≡ Some p) }
+    ensures first { IfOk result (λ p. IsTrue (is_vertex n p.0)) }
+    ensures second { IfOk result (λ p. IsTrue (is_vertex n p.1)) }
+    ensures differ { IfOk result (λ p. p.0 ≢ p.1) }
+    ensures fault { IfErr result (λ kind. edge_fault (Some n) (fields rest.now) ≡ Some kind) }
+{
+    let Some((first, second)) = two_fields(rest) else {
+        return Err(DimacsKind::FieldCount);
+    };
+    let (Some(u), Some(v)) = (number(first), number(second)) else {
+        return Err(DimacsKind::BadNumber);
+    };
+    let last = u64::from(n);
+    if u == 0 || u > last || v == 0 || v > last {
+        return Err(DimacsKind::VertexOutOfRange);
+    }
+    if u == v {
+        return Err(DimacsKind::Loop);
+    }
+    Ok((u as u32, v as u32))
 }
