@@ -21,7 +21,7 @@ use Rattle.md_dimacs.specs.declared.line.LineClass.{LineClass}
 use Rattle.md_dimacs.specs.declared.line.LineClass.TheVariants.{Passed, Problem, Edge, Unknown}
 use Rattle.md_dimacs.specs.Line.{words, class_of_field, class_of, is_form, both, sizes_in, ends_in, sizes_by, ends_by, sizes_of, ends_of, sizes_fault, problem_fault, is_vertex, ends_fault, edge_fault, fault_by, fault_of_words, fault_of_line}
 use Rattle.md_dimacs.specs.File.{IsPassed, AreSizes, AreEnds, IsProblemLine, IsEdgeLine, IsPassedOrEdge, are_ends, joins, Spells, SpellsOnly, SpellsOne, SpellsNone, seen_after, first_number, end_fault, fault_or, fault_behind, first_fault}
-use Rattle.md_dimacs.specs.Read.{IsBeforeProblem, IsBehindProblem, names_to, edgeless, with_ends, with_line, with_lines}
+use Rattle.md_dimacs.specs.Read.{IsBeforeProblem, IsBehindProblem, HasVertices, names_to, edgeless, with_ends, with_line, with_lines}
 
 -- ---- one line behind the problem line
 
@@ -237,11 +237,18 @@ fault-passed count (line ∷ before) rest all =
     ∙ fault-passed (count + 1) before rest (All-tail IsPassed line before all)
     ∙ ap (λ k. fault_behind None k rest) (omega arith)
 
-fault_before : (all : List (List ℕ)) (count : ℕ) (rest : List (List ℕ)) → IsBeforeProblem all count rest
+pub fault_before : (all : List (List ℕ)) (count : ℕ) (rest : List (List ℕ)) → IsBeforeProblem all count rest
     → fault_behind None 0 all ≡ fault_behind None count rest
 fault_before all count rest b =
     ap (fault_behind None 0) b.cut ∙ fault-passed 0 b.before rest b.passed
     ∙ let same = b.counted in ap (λ k. fault_behind None k rest) (omega arith)
+
+pub fault-behind_problem : (all : List (List ℕ)) (n count : ℕ) (rest : List (List ℕ)) → IsBehindProblem all n count rest
+    → fault_behind None 0 all ≡ fault_behind (Some n) count rest
+fault-behind_problem all n count rest b =
+    ap (fault_behind None 0) b.cut ∙ fault-passed 0 b.before (b.problem ∷ rest) b.passed
+    ∙ problem_first n (0 + length b.before) b.problem rest b.problem_line
+    ∙ let same = b.counted in ap (λ k. fault_behind (Some n) k rest) (omega arith)
 
 pub spelled_has_no_fault : (bytes : List ℕ) (g : PlainGraph) → Spells bytes g → first_fault bytes ≡ None
 spelled_has_no_fault bytes g s =
@@ -266,7 +273,7 @@ adjacent-with_lines g (line ∷ more) u v =
     ∙ ap (λ b. list_any (joins u v) more || b) (adjacent-with_ends g (ends_of (words line)) u v)
     ∙ or_turned (joins u v line) (list_any (joins u v) more) (adjacent g u v)
 
-vertices-with_ends : (g : PlainGraph) (ends : Option (ℕ × ℕ)) → (with_ends g ends).vertices ≡ g.vertices
+pub vertices-with_ends : (g : PlainGraph) (ends : Option (ℕ × ℕ)) → (with_ends g ends).vertices ≡ g.vertices
 vertices-with_ends g None = refl
 vertices-with_ends g (Some p) = refl
 
@@ -274,10 +281,6 @@ pub vertices-with_lines : (g : PlainGraph) (more : List (List ℕ)) → (with_li
 unfolding with_lines
 vertices-with_lines g [] = refl
 vertices-with_lines g (line ∷ more) = vertices-with_lines (with_line g line) more ∙ vertices-with_ends g (ends_of (words line))
-
--- the vertices of the graph are 1 to n
-abbrev HasVertices : ℕ → PlainGraph → Type 0
-HasVertices n g = (v : ℕ) → set.contains g.vertices v ≡ is_vertex n v
 
 IsGraph-with_ends : {g : PlainGraph} (n : ℕ) (ends : Option (ℕ × ℕ)) → IsGraph g → HasVertices n g → AreEnds n ends → IsGraph (with_ends g ends)
 IsGraph-with_ends n None is has e = is
@@ -370,7 +373,7 @@ parts_without_fault count (line ∷ more) h =
     let parts = no_fault _ _ _ h in
     parts_by_first count line more (first_words (words line) parts.0) parts.1 (parts_without_fault (count + 1) more)
 
-spelled_by_parts : (bytes : List ℕ) (n : ℕ) (before : List (List ℕ)) (problem_of : List ℕ) (behind : List (List ℕ))
+pub spelled_by_parts : (bytes : List ℕ) (n : ℕ) (before : List (List ℕ)) (problem_of : List ℕ) (behind : List (List ℕ))
     → lines bytes ≡ before ++ problem_of ∷ behind → All IsPassed before → IsProblemLine n problem_of → All (IsPassedOrEdge n) behind
     → Spells bytes (with_lines (edgeless n) behind)
 spelled_by_parts bytes n before problem_of behind whole are_passed is_problem are_edges = record {

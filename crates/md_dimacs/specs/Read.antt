@@ -4,7 +4,7 @@ use Rattle.std.specs.List.{All}
 use Rattle.std.specs.FinSet as set
 use Rattle.md_graph.specs.NameSet.{NameSet}
 use Rattle.md_graph.specs.PlainGraph.{PlainGraph, with_edge}
-use Rattle.md_dimacs.specs.Line.{words, ends_of}
+use Rattle.md_dimacs.specs.Line.{words, ends_of, is_vertex}
 use Rattle.md_dimacs.specs.File.{IsPassed, IsProblemLine}
 
 -- behind `count` of all lines, none of which is a problem line or an edge line, the rest is to be read
@@ -22,6 +22,10 @@ pub record IsBehindProblem (all : List (List ℕ)) (n count : ℕ) (rest : List 
   pub counted : length before + 1 ≡ count
   pub passed : All IsPassed before
   pub problem_line : IsProblemLine n problem
+
+-- the vertices of the graph are 1 to n
+abbrev pub HasVertices : ℕ → PlainGraph → Type 0
+HasVertices n g = (v : ℕ) → set.contains g.vertices v ≡ is_vertex n v
 
 -- the names 1 to n
 unfoldable pub names_to : ℕ → NameSet

@@ -4,7 +4,8 @@ ghost use Rattle.std.specs.Prelude.{
 };
 ghost use Rattle.md_text.specs.Fields.{fields};
 ghost use Rattle.md_dimacs.specs.Line.{
-    class_of_field, is_form, sizes_in, ends_in, is_vertex, problem_fault, edge_fault,
+    class_of_field, is_form, both, sizes_in, ends_in, is_vertex, sizes_fault, problem_fault, ends_fault,
+    edge_fault,
 };
 ghost use Rattle.md_dimacs.specs.File.{AreSizes};
 
@@ -86,41 +87,76 @@ pub(crate) fn read_problem(rest: &[u8]) -> Result<u32, DimacsKind>
     ensures sizes { IfOk result (λ n. AreSizes n (sizes_in (fields rest.now))) }
     ensures fault { IfErr result (λ kind. problem_fault None (fields rest.now) ≡ Some kind) }
 {
-    let Some((form, vertices, edges)) = three_fields(rest) else {
-        return Err(DimacsKind::FieldCount);
-    };
-    if !names_edges(form) {
-        return Err(DimacsKind::UnknownLine);
+    match three_fields(rest) {
+        Some((form, vertices, edges)) => {
+            if !names_edges(form) {
+                return Err(DimacsKind::UnknownLine);
+            }
+            checked_size(number(vertices), number(edges))
+        }
+        None => Err(DimacsKind::FieldCount),
     }
-    let (Some(n), Some(_)) = (number(vertices), number(edges)) else {
+}
+
+// The number of vertices that the two numbers of a problem line give.
+fn checked_size(vertices: Option<u64>, edges: Option<u64>) -> Result<u32, DimacsKind>
+    ensures sizes { IfOk result (λ n. AreSizes n (both vertices edges)) }
+    ensures fault { IfErr result (λ kind. sizes_fault vertices edges ≡ Some kind) }
+{
+    let Some(n) = vertices else {
         return Err(DimacsKind::BadNumber);
     };
+    if edges.is_none() {
+        return Err(DimacsKind::BadNumber);
+    }
     if n >= u64::from(NAMES) {
         return Err(DimacsKind::TooManyVertices);
     }
     Ok(n as u32)
 }
 
-// Reads the fields behind the `e` of an edge line behind the problem line: the two ends.
+// Reads the fields behind the `e` of an edge line, where there are `n` vertices: the two ends.
 pub(crate) fn read_ends(n: u32, rest: &[u8]) -> Result<(u32, u32), DimacsKind>
     ensures ends { IfOk result (λ p. ends_in (fields rest.now) ≡ Some p) }
     ensures first { IfOk result (λ p. IsTrue (is_vertex n p.0)) }
     ensures second { IfOk result (λ p. IsTrue (is_vertex n p.1)) }
     ensures differ { IfOk result (λ p. p.0 ≢ p.1) }
+    ensures faultless { OnOk result (edge_fault (Some n) (fields rest.now) ≡ None) }
     ensures fault { IfErr result (λ kind. edge_fault (Some n) (fields rest.now) ≡ Some kind) }
 {
-    let Some((first, second)) = two_fields(rest) else {
-        return Err(DimacsKind::FieldCount);
-    };
-    let (Some(u), Some(v)) = (number(first), number(second)) else {
+    match two_fields(rest) {
+        Some((first, second)) => checked_ends(n, number(first), number(second)),
+        None => Err(DimacsKind::FieldCount),
+    }
+}
+
+// The ends that the two numbers of an edge line give, where there are `n` vertices.
+fn checked_ends(n: u32, first: Option<u64>, second: Option<u64>) -> Result<(u32, u32), DimacsKind>
+    ensures ends { IfOk result (λ p. both first second ≡ Some p) }
+    ensures first { IfOk result (λ p. IsTrue (is_vertex n p.0)) }
+    ensures second { IfOk result (λ p. IsTrue (is_vertex n p.1)) }
+    ensures differ { IfOk result (λ p. p.0 ≢ p.1) }
+    ensures faultless { OnOk result (ends_fault n first second ≡ None) }
+    ensures fault { IfErr result (λ kind. ends_fault n first second ≡ Some kind) }
+{
+    let Some(u) = first else {
         return Err(DimacsKind::BadNumber);
     };
-    let last = u64::from(n);
-    if u == 0 || u > last || v == 0 || v > last {
+    let Some(v) = second else {
+        return Err(DimacsKind::BadNumber);
+    };
+    if !is_vertex_of(n, u) || !is_vertex_of(n, v) {
         return Err(DimacsKind::VertexOutOfRange);
     }
     if u == v {
         return Err(DimacsKind::Loop);
     }
     Ok((u as u32, v as u32))
+}
+
+// Whether a number is one of the vertices 1 to n.
+fn is_vertex_of(n: u32, u: u64) -> bool
+    ensures { result ≡ is_vertex n u }
+{
+    0 < u && u <= u64::from(n)
 }
