@@ -1,5 +1,6 @@
 -- The steps of the reader.
-use Rattle.std.specs.Prelude.{◌≡◌, ℕ, zero, suc, ◌+◌, ◌-◌, ◌^◌, ◌<◌, ◌≤◌, min, max, Bool, true, false, ◌==◌, ◌||◌, ◌&&◌, List, [], ◌∷◌, ◌++◌, length, Some, None, refl}
+use Rattle.std.specs.Prelude.{◌≡◌, ℕ, zero, suc, ◌+◌, ◌-◌, ◌^◌, ◌<◌, ◌≤◌, min, max, Bool, true, false, ◌==◌, ◌||◌, ◌&&◌, List, [], ◌∷◌, ◌++◌, length, Some, None, Result, Ok, Err, OnOk, OnErr, IfErr, refl}
+use Rattle.std.specs.Result.{is_err}
 use Rattle.std.specs.List.{All}
 use Rattle.std.proofs.Common.{subst, ap, sym, ◌∙◌, arith, add-one, append_assoc, length-append}
 use Rattle.std.proofs.lemmas.Bool.{cases_Bool, or_right, and_parts, eqb-true}
@@ -137,3 +138,35 @@ file_spells bytes n count rest g b fault e =
     let edges = lines_behind n count rest fault in
     let spelled = spelled_by_parts bytes n b.before b.problem rest b.cut b.passed b.problem_line edges in
     subst (Spells bytes) (sym e) spelled
+
+-- ---- the outcome of the lines behind the problem line, in what it says of the file
+
+pub outcome_spells : {T : Type 0} (r : Result T DimacsFault) (bytes : List ℕ) (n count : ℕ) (rest : List (List ℕ)) (start g : PlainGraph) → IsBehindProblem (lines bytes) n count rest
+    → start ≡ edgeless n → OnOk r (fault_behind (Some n) count rest ≡ None) → OnOk r (g ≡ with_lines start rest) → OnOk r (Spells bytes g)
+outcome_spells (Ok x) bytes n count rest start g b empty fault added = file_spells bytes n count rest g b fault (added ∙ ap (λ h. with_lines h rest) empty)
+outcome_spells (Err e) bytes n count rest start g b empty fault added = tt
+
+pub outcome_faultless : {T : Type 0} (r : Result T DimacsFault) (bytes : List ℕ) (n count : ℕ) (rest : List (List ℕ)) → IsBehindProblem (lines bytes) n count rest
+    → OnOk r (fault_behind (Some n) count rest ≡ None) → OnOk r (first_fault bytes ≡ None)
+outcome_faultless (Ok x) bytes n count rest b fault = fault_of_rest bytes n count rest b ∙ fault
+outcome_faultless (Err e) bytes n count rest b fault = tt
+
+pub outcome_fault : {T : Type 0} (r : Result T DimacsFault) (bytes : List ℕ) (n count : ℕ) (rest : List (List ℕ)) → IsBehindProblem (lines bytes) n count rest
+    → IfErr r (λ f. fault_behind (Some n) count rest ≡ Some f) → IfErr r (λ f. first_fault bytes ≡ Some f)
+outcome_fault (Ok x) bytes n count rest b fault = tt
+outcome_fault (Err e) bytes n count rest b fault = fault_of_rest bytes n count rest b ∙ fault
+
+pub nothing_on_ok : {T : Type 0} (r : Result T DimacsFault) (P : Type 0) → is_err r ≡ true → OnOk r P
+nothing_on_ok (Ok x) P h = absurd (cc)
+nothing_on_ok (Err e) P h = tt
+
+pub nothing_on_err : {T : Type 0} (r : Result T DimacsFault) (P : Type 0) → is_err r ≡ false → OnErr r P
+nothing_on_err (Ok x) P h = tt
+nothing_on_err (Err e) P h = absurd (cc)
+
+pub always_on_err : {T : Type 0} (r : Result T DimacsFault) (P : Type 0) → P → OnErr r P
+always_on_err (Ok x) P h = tt
+always_on_err (Err e) P h = h
+
+pub vertices-edgeless : (g : PlainGraph) (n : ℕ) → g ≡ edgeless n → HasVertices n g
+vertices-edgeless g n e v = ap (λ (h : PlainGraph). set.contains h.vertices v) e ∙ contains-names_to n v
