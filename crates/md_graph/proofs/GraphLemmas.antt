@@ -1,7 +1,7 @@
 -- Facts of graphs that callers may cite.
 use Rattle.std.specs.Prelude.{◌≡◌, ℕ, zero, suc, ◌+◌, ◌<◌, ◌≤◌, ◌≢◌, ◌⊎◌, min, max, Bool, true, false, cond, not, ◌&&◌, ◌||◌, ◌==◌, nat_lt, nat_le, IsTrue, List, [], ◌∷◌, ◌++◌, map, length, get_or, refl}
 use Rattle.std.proofs.Common.{subst, ap, sym, ◌∙◌, arith, inl, inr}
-use Rattle.std.proofs.lemmas.Bool.{true≢false, or_right, cases_Bool, cases_lt, cases_order, and_parts, or_cases, le-leb, ltb-true, eqb-true, false_from_ne_true}
+use Rattle.std.proofs.lemmas.Bool.{true≢false, or_right, cases_Bool, cases_lt, cases_order, and_parts, and_from, or_cases, le-leb, ltb-true, eqb-true, false_from_ne_true}
 use Rattle.std.proofs.lemmas.Bool.Decides.{nat_tests}
 use Rattle.std.proofs.lemmas.List.{map-append, append-nil}
 use Rattle.std.specs.FinSet as set
@@ -14,7 +14,7 @@ use Rattle.md_graph.proofs.PairLaws.{pairs-empty, pairs-insert, pairs-remove, pa
 
 -- ---- the pairs for which a test is true
 
-contains-pairs_at : (test : ℕ → ℕ → Bool) (start : PairSet) (w n u v : ℕ) → set.contains (pairs_at test start w n) (u, v) ≡ ((((v == w) && nat_lt u n) && test u v) || set.contains start (u, v))
+pub contains-pairs_at : (test : ℕ → ℕ → Bool) (start : PairSet) (w n u v : ℕ) → set.contains (pairs_at test start w n) (u, v) ≡ ((((v == w) && nat_lt u n) && test u v) || set.contains start (u, v))
 unfolding pairs_at
 contains-pairs_at test start w zero u v = grind (arith, nat_tests)
 contains-pairs_at test start w (suc n) u v =
@@ -23,7 +23,7 @@ contains-pairs_at test start w (suc n) u v =
       | inr f ↦ rw (f, contains-pairs_at test start w n u v) (grind (arith, nat_tests, f))
     ]
 
-contains-pairs_where : (test : ℕ → ℕ → Bool) (n u v : ℕ) → set.contains (pairs_where test n) (u, v) ≡ ((nat_lt u v && nat_lt v n) && test u v)
+pub contains-pairs_where : (test : ℕ → ℕ → Bool) (n u v : ℕ) → set.contains (pairs_where test n) (u, v) ≡ ((nat_lt u v && nat_lt v n) && test u v)
 unfolding pairs_where
 contains-pairs_where test zero u v = rw (pairs-empty u v) (grind (arith, nat_tests))
 contains-pairs_where test (suc n) u v =
@@ -218,14 +218,14 @@ star_push v others n =
     ap set.from_list (map-append (edge v) others (n ∷ [])) ∙ pairs-from_list_push (map (edge v) others) (edge v n)
 
 -- the members below n + 1, where n is one and where it isn't
-below_suc : (s : NameSet) (n b : ℕ) → set.contains s n ≡ true → (nat_lt b (suc n) && set.contains s b) ≡ ((b == n) || (nat_lt b n && set.contains s b))
+pub below_suc : (s : NameSet) (n b : ℕ) → set.contains s n ≡ true → (nat_lt b (suc n) && set.contains s b) ≡ ((b == n) || (nat_lt b n && set.contains s b))
 below_suc s n b t =
     elim (cases_order b n) [
       | inl same ↦ rw same (grind (arith, nat_tests))
       | inr other ↦ grind (arith, nat_tests)
     ]
 
-below_same : (s : NameSet) (n b : ℕ) → set.contains s n ≡ false → (nat_lt b (suc n) && set.contains s b) ≡ (nat_lt b n && set.contains s b)
+pub below_same : (s : NameSet) (n b : ℕ) → set.contains s n ≡ false → (nat_lt b (suc n) && set.contains s b) ≡ (nat_lt b n && set.contains s b)
 below_same s n b f =
     elim (cases_order b n) [
       | inl same ↦ rw same (grind (arith, nat_tests))
@@ -235,7 +235,7 @@ below_same s n b f =
 join_arms : (p q r w x y : Bool) → (((p && q) || (r && w)) || ((p && x) || (w && y))) ≡ ((p && (q || x)) || (w && (r || y)))
 join_arms p q r w x y = grind arith
 
-zero_le : (n : ℕ) → nat_le 0 n ≡ true
+pub zero_le : (n : ℕ) → nat_le 0 n ≡ true
 zero_le n = le-leb 0 n (omega arith)
 
 -- the edges of a star
@@ -251,7 +251,7 @@ contains-star v s (suc n) a b =
         rw (zero_le n, f, append-nil (ascending_between s 0 n), contains-star v s n a b, below_same s n a f, below_same s n b f) refl
     ]
 
-below_all : (s : NameSet) (n b : ℕ) → ((w : ℕ) → Member s w → w < n) → (nat_lt b n && set.contains s b) ≡ set.contains s b
+pub below_all : (s : NameSet) (n b : ℕ) → ((w : ℕ) → Member s w → w < n) → (nat_lt b n && set.contains s b) ≡ set.contains s b
 below_all s n b below =
     elim (cases_Bool (set.contains s b)) [
       | inl t ↦ let h = below b t in grind (arith, nat_tests)
@@ -290,23 +290,71 @@ IsGraph-with_edges {g} is v others mv members differ =
 
 -- ---- the complement, induced graphs, and removals
 
-pub adjacent-complement : {g : PlainGraph} → IsGraph g → (u v : ℕ) → adjacent (complement g) u v ≡ ((set.contains g.vertices u && set.contains g.vertices v) && (not (u == v) && not (adjacent g u v)))
-adjacent-complement {g} is u v = ?
+contains-complement : (g : PlainGraph) (u v : ℕ) → set.contains (complement g).edges (u, v) ≡ ((nat_lt u v && nat_lt v NAMES) && ((set.contains g.vertices u && set.contains g.vertices v) && not (adjacent g u v)))
+contains-complement g u v =
+    contains-pairs_where (λ u v. (set.contains g.vertices u && set.contains g.vertices v) && not (adjacent g u v)) NAMES u v
 
 pub IsGraph-complement : {g : PlainGraph} → IsGraph g → IsGraph (complement g)
-IsGraph-complement {g} is = ?
+IsGraph-complement {g} is =
+    IsGraph_by is.names (λ u v h.
+      let parts = and_parts _ _ (sym (contains-complement g u v) ∙ h) in
+      let ends = and_parts _ _ (and_parts _ _ parts.1).0 in
+      (ltb-true u v (and_parts _ _ parts.0).0, ends.0, ends.1))
+
+complement_up : {g : PlainGraph} → IsGraph g → (u v : ℕ) → u < v → adjacent (complement g) u v ≡ ((set.contains g.vertices u && set.contains g.vertices v) && not (adjacent g u v))
+complement_up {g} is u v up =
+    adjacent_up (complement g) u v up
+    ∙ contains-complement g u v
+    ∙ elim (cases_Bool (set.contains g.vertices v)) [
+      | inl t ↦ let name = is.names v t in grind (arith, nat_tests)
+      | inr f ↦ grind (arith, nat_tests)
+    ]
+
+pub adjacent-complement : {g : PlainGraph} → IsGraph g → (u v : ℕ) → adjacent (complement g) u v ≡ ((set.contains g.vertices u && set.contains g.vertices v) && (not (u == v) && not (adjacent g u v)))
+adjacent-complement {g} is u v =
+    elim (cases_order u v) [
+      | inl same ↦ rw (same, adjacent_self (IsGraph-complement is) v) (grind (arith, nat_tests))
+      | inr (inl up) ↦ rw (complement_up is u v up) (grind (arith, nat_tests))
+      | inr (inr down) ↦ rw (adjacent_sym (complement g) u v, complement_up is v u down, adjacent_sym g v u) (grind (arith, nat_tests))
+    ]
+
+-- what holds of both parts of an edge holds of both its ends
+both_ends : (p : ℕ → Bool) (u v : ℕ) → (p (min u v) && p (max u v)) ≡ (p u && p v)
+both_ends p u v =
+    elim (cases_lt u v) [
+      | inl up ↦ let low : min u v ≡ u = omega arith in let high : max u v ≡ v = omega arith in rw (low, high) refl
+      | inr down ↦ let low : min u v ≡ v = omega arith in let high : max u v ≡ u = omega arith in rw (low, high) (grind arith)
+    ]
 
 pub adjacent-induced : (g : PlainGraph) (s : NameSet) (u v : ℕ) → adjacent (induced g s) u v ≡ (adjacent g u v && (set.contains s u && set.contains s v))
-adjacent-induced g s u v = ?
+unfolding adjacent
+adjacent-induced g s u v =
+    pairs-retain g.edges (λ p. set.contains s p.0 && set.contains s p.1) (min u v) (max u v) ∙ ap (λ t. set.contains g.edges (edge u v) && t) (both_ends (set.contains s) u v)
 
 pub IsGraph-induced : {g : PlainGraph} → IsGraph g → (s : NameSet) → IsGraph (induced g s)
-IsGraph-induced {g} is s = ?
+IsGraph-induced {g} is s =
+    let inside = λ (w : ℕ). contains-intersection g.vertices s w in
+    IsGraph_by
+    (λ w h. is.names w (and_parts _ _ (sym (inside w) ∙ h)).0)
+    (λ u v h.
+      let parts = and_parts _ _ (sym (pairs-retain g.edges (λ p. set.contains s p.0 && set.contains s p.1) u v) ∙ h) in
+      let ends = and_parts _ _ parts.1 in
+      (is.ordered u v parts.0, inside u ∙ and_from _ _ (is.low_end u v parts.0) ends.0, inside v ∙ and_from _ _ (is.high_end u v parts.0) ends.1))
 
 pub adjacent-without_vertex : (g : PlainGraph) (v a b : ℕ) → adjacent (without_vertex g v) a b ≡ (adjacent g a b && (not (a == v) && not (b == v)))
-adjacent-without_vertex g v a b = ?
+unfolding adjacent
+adjacent-without_vertex g v a b =
+    pairs-retain g.edges (λ p. not (p.0 == v) && not (p.1 == v)) (min a b) (max a b) ∙ ap (λ t. set.contains g.edges (edge a b) && t) (both_ends (λ x. not (x == v)) a b)
 
 pub IsGraph-without_vertex : {g : PlainGraph} → IsGraph g → (v : ℕ) → IsGraph (without_vertex g v)
-IsGraph-without_vertex {g} is v = ?
+IsGraph-without_vertex {g} is v =
+    let kept = λ (w : ℕ). contains-remove g.vertices v w in
+    IsGraph_by
+    (λ w h. is.names w (and_parts _ _ (sym (kept w) ∙ h)).1)
+    (λ a b h.
+      let parts = and_parts _ _ (sym (pairs-retain g.edges (λ p. not (p.0 == v) && not (p.1 == v)) a b) ∙ h) in
+      let ends = and_parts _ _ parts.1 in
+      (is.ordered a b parts.0, kept a ∙ and_from _ _ ends.0 (is.low_end a b parts.0), kept b ∙ and_from _ _ ends.1 (is.high_end a b parts.0)))
 
 pub adjacent-without_edge : (g : PlainGraph) (u v a b : ℕ) → adjacent (without_edge g u v) a b ≡ (not (((a == u) && (b == v)) || ((a == v) && (b == u))) && adjacent g a b)
 unfolding adjacent
