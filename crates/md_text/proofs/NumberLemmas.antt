@@ -1,16 +1,15 @@
 -- The laws of numbers and their digits.
-use Rattle.std.proofs.Common.{◌≡◌, ◌≢◌, ℕ, ◌+◌, ◌-◌, ◌*◌, ◌/◌, ◌%◌, ◌^◌, ◌<◌, ◌≤◌, ◌⊎◌, zero, suc, Bool, true, false, ◌&&◌, cond, eqb, List, [], ◌∷◌, ◌++◌, length, get_or, take, drop, map, Some, None, fold, refl, sym, ap, ◌∙◌, ⊎_elim, subst, arith, rules, ltb, leb}
+use Rattle.std.proofs.Common.{◌≡◌, ℕ, ◌+◌, ◌-◌, ◌*◌, ◌/◌, ◌%◌, ◌^◌, ◌<◌, ◌≤◌, zero, suc, Bool, true, false, ◌&&◌, eqb, List, [], ◌∷◌, ◌++◌, length, get_or, take, map, Some, None, refl, sym, ap, ◌∙◌, ⊎_elim, subst, arith, leb}
 use Rattle.std.specs.Char.{is_ascii_digit}
-use Rattle.std.specs.Int.{IsInRange, is_in_range}
 use Rattle.std.specs.Int.Digits.{digits_of}
 use Rattle.std.specs.Fmt.{decimal as displayed}
 use Rattle.std.specs.List.{All, AllPass, list_all}
 use Rattle.std.proofs.lemmas.Bool.{cases_lt, eqb-true, lt-ltb, le-leb, leb-true, and_from, and_parts, or_from, ne_eqb, cond-true}
 use Rattle.std.proofs.lemmas.Fmt.{decimal_digit as displayed_digit, decimal-digits_of as displayed-digits_of}
-use Rattle.std.proofs.lemmas.Grind.{common_steps, fold-append, pow_more}
+use Rattle.std.proofs.lemmas.Grind.{fold-append, pow_more}
 use Rattle.std.proofs.lemmas.Int.Digits.{digits_of_step, length-digits_of-le}
-use Rattle.std.proofs.lemmas.List.{append_assoc, append-nil, map-append, length-map, length-append, length-take-le, take_more, take_all, get_or_append_left, get_or-take}
-use Rattle.std.proofs.lemmas.List.Elements.{All-nil, All-cons, All-head, All-tail, All-push, All-take, All-weaker, All-get_or}
+use Rattle.std.proofs.lemmas.List.{append_assoc, append-nil, map-append, length-map, length-append, take_more, get_or_append_left}
+use Rattle.std.proofs.lemmas.List.Elements.{All-nil, All-cons, All-head, All-tail, All-push, All-weaker}
 use Rattle.std.proofs.Math.Nat.{pow-le-pow_right}
 use Rattle.md_text.specs.declared.digits.TheConstants.{DIGITS, PAIRS}
 use Rattle.md_text.specs.Fields.{is_blank, IsWord}
@@ -119,9 +118,9 @@ value_above : (front : List ℕ) → 48 < get_or front 0 0 → decimal (value fr
 value_above front leads so_far = ⊎_elim
     (λ (above : 0 < value front). above)
     (λ (none : value front ≤ 0).
-        let is_zero : value front ≡ 0 = omega arith in
-        let head = ap (λ (digits : List ℕ). get_or digits 0 0) (sym so_far ∙ ap decimal is_zero ∙ decimal-zero) in
-        absurd (omega arith))
+    let is_zero : value front ≡ 0 = omega arith in
+    let head = ap (λ (digits : List ℕ). get_or digits 0 0) (sym so_far ∙ ap decimal is_zero ∙ decimal-zero) in
+    absurd (omega arith))
     (cases_lt 0 (value front))
 
 -- canonical digits with one digit more behind them
@@ -280,3 +279,7 @@ pushed_long old front next all n large is_front is_next is_all =
     let before = append_assoc (old ++ decimal (n / 10000)) (pair (n % 10000 / 100)) (pair (n % 100)) in
     let digits = decimal_four n large in
     cc
+
+-- the room that any `u64` needs
+pub decimal_fits_20 : (n : ℕ) → n < 2 ^ 64 → length (decimal n) ≤ 20
+decimal_fits_20 n small = length-decimal-le 20 n (omega arith) (omega arith)

@@ -1,7 +1,5 @@
 //! Cuts a text into lines, and a line into fields.
-ghost use Rattle.std.specs.Prelude.{
-    ◌≡◌, ℕ, ◌+◌, ◌<◌, ◌≤◌, true, false, [], ◌∷◌, length, take, drop, slice_index, IfSome, IfNone,
-};
+ghost use Rattle.std.specs.Prelude.{◌≡◌, ℕ, ◌+◌, ◌<◌, ◌≤◌, true, false, [], ◌∷◌, length, take, drop, slice_index, IfSome, IfNone};
 ghost use Rattle.std.specs.List.{before_first, after_first, position_or_len};
 ghost use Rattle.md_text.specs.Lines.{lines, is_feed, LacksFeed, without_return};
 ghost use Rattle.md_text.specs.Fields.{fields, is_blank, IsWord};
@@ -9,6 +7,7 @@ ghost use Rattle.md_text.specs.Fields.{fields, is_blank, IsWord};
 use std::simd::prelude::*;
 
 const LINE_FEED: u8 = b'\n';
+
 const CARRIAGE_RETURN: u8 = b'\r';
 
 // How many bytes are looked at in one step.
@@ -54,7 +53,9 @@ fn before_feed(text: &[u8], from: usize) -> usize
     requires { from + LANES ≤ length text.now }
     ensures { result ≡ position_or_len is_feed (take LANES (drop from text.now)) }
 {
-    let feeds = u8x16::from_slice(&text[from..]).simd_eq(u8x16::splat(LINE_FEED)).to_bitmask();
+    let feeds = u8x16::from_slice(&text[from..])
+        .simd_eq(u8x16::splat(LINE_FEED))
+        .to_bitmask();
     if feeds == 0 {
         return LANES;
     }

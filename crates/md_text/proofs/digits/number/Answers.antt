@@ -1,4 +1,4 @@
-use Rattle.std.proofs.Common.{◌≡◌, ℕ, ◌+◌, ◌-◌, ◌*◌, ◌<◌, ◌≤◌, ◌&&◌, true, get_or, take, sym, ap, ◌∙◌, refl, arith}
+use Rattle.std.proofs.Common.{◌≡◌, true, get_or, sym, ◌∙◌, refl, arith}
 use Rattle.std.specs.Char.{is_ascii_digit}
 use Rattle.std.proofs.lemmas.Bool.{and_from}
 use Rattle.std.proofs.lemmas.List.Folds.{list_all_more}
@@ -6,7 +6,7 @@ use Rattle.md_text.proofs.NumberLemmas.{digit_bounds, value-nil, value_more, num
 use Rattle.md_text.proofs.digits.number.Goals as goal
 
 pub loop-byte-init : goal.loop-byte-init
-loop-byte-init c = record { digits = refl; so_far = sym value-nil; below = omega arith; }
+loop-byte-init c = record { digits = refl; so_far = sym value-nil; below = omega arith }
 
 pub overflow_mul-value : goal.overflow_mul-value
 overflow_mul-value c =
