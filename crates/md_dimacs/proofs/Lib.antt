@@ -1,3 +1,5 @@
 pub mod FileLemmas
 pub mod LineLemmas
 pub mod ReadLemmas
+pub mod PieceLemmas
+pub mod AscendingLemmas

@@ -6,7 +6,9 @@
 mod fault;
 pub mod laws;
 mod line;
+mod piece;
 mod reader;
+mod spelling;
 mod writer;
 
 pub use fault::{DimacsFault, DimacsKind};

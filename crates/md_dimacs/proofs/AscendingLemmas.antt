@@ -1,0 +1,114 @@
+-- The members of a set of names in ascending order, one after the other.
+use Rattle.std.specs.Prelude.{◌≡◌, ℕ, zero, suc, ◌+◌, ◌-◌, ◌<◌, ◌≤◌, ◌⊎◌, Bool, true, false, cond, ◌&&◌, ◌==◌, nat_le, nat_lt, IsTrue, List, [], ◌∷◌, ◌++◌, length, refl}
+use Rattle.std.proofs.Common.{subst, ap, sym, ◌∙◌, arith, inl, inr, add-one, append_assoc, length-append}
+use Rattle.std.proofs.lemmas.Bool.{true≢false, cases_Bool, cases_lt, cases_eq, le-leb, lt-leb, leb-true, and_parts, false_from_ne_true}
+use Rattle.std.proofs.lemmas.List.{append-nil}
+use Rattle.std.specs.FinSet as set
+use Rattle.md_graph.specs.declared.TheConstants.{NAMES}
+use Rattle.md_graph.specs.NameSet.{NameSet, Member, AllBelow, ascending, ascending_between}
+use Rattle.md_graph.specs.PlainGraph.{PlainGraph}
+use Rattle.md_dimacs.specs.Text.{position}
+
+-- ---- one number more
+
+one_more : (s : NameSet) (low n : ℕ) → low ≤ n → set.contains s n ≡ true → ascending_between s low (suc n) ≡ ascending_between s low n ++ n ∷ []
+unfolding ascending_between
+one_more s low n within t = rw (le-leb low n within, t) refl
+
+no_more : (s : NameSet) (low n : ℕ) → set.contains s n ≡ false → ascending_between s low (suc n) ≡ ascending_between s low n
+unfolding ascending_between
+no_more s low n f = by_test (nat_le low n) where
+  by_test : (b : Bool) → (ascending_between s low n ++ cond (b && set.contains s n) (n ∷ []) []) ≡ ascending_between s low n
+  by_test true = rw f (append-nil (ascending_between s low n))
+  by_test false = append-nil (ascending_between s low n)
+
+below_low : (s : NameSet) (low n : ℕ) → n ≤ low → ascending_between s low n ≡ []
+unfolding ascending_between
+below_low s low zero h = refl
+below_low s low (suc n) h = rw (lt-leb low n (omega arith), below_low s low n (omega arith)) refl
+
+-- none is left out
+member_listed : (s : NameSet) (low n v : ℕ) → ascending_between s low n ≡ [] → low ≤ v → v < n → set.contains s v ≡ false
+member_listed s low zero v e from below = absurd (omega arith)
+member_listed s low (suc n) v e from below =
+    elim (cases_Bool (set.contains s n)) [
+      | inl t ↦ absurd (some_listed (ascending_between s low n) n (sym (one_more s low n (omega arith) t) ∙ e))
+      | inr f ↦ elim (cases_eq v n) [
+        | inl same ↦ ap (set.contains s) same ∙ f
+        | inr other ↦ member_listed s low n v (sym (no_more s low n f) ∙ e) from (omega arith)
+      ]
+    ]
+  where
+    some_listed : (xs : List ℕ) (x : ℕ) → (xs ++ x ∷ []) ≡ [] → ⊥
+    some_listed [] x h = cc
+    some_listed (y ∷ ys) x h = cc
+
+-- ---- the first, and the rest
+
+-- v comes first among the members from low on and below n, and the others follow
+pub record ComesFirst (s : NameSet) (low n v : ℕ) (rest : List ℕ) : Type 0 where
+  pub from : low ≤ v
+  pub below : v < n
+  pub member : Member s v
+  pub none_before : (w : ℕ) → low ≤ w → w < v → set.contains s w ≡ false
+  pub others : rest ≡ ascending_between s (v + 1) n
+
+first_by_list : (s : NameSet) (low n : ℕ) (xs : List ℕ) (v : ℕ) (rest : List ℕ) → xs ≡ ascending_between s low n → set.contains s n ≡ true → low ≤ n
+    → (xs ++ n ∷ []) ≡ v ∷ rest → ((x : ℕ) (more : List ℕ) → ascending_between s low n ≡ x ∷ more → ComesFirst s low n x more) → ComesFirst s low (suc n) v rest
+first_by_list s low n [] v rest e t within h before =
+    let same : n ≡ v = head_is n [] v rest h in
+    record {
+      from = omega arith;
+      below = omega arith;
+      member = ap (set.contains s) (sym same) ∙ t;
+      none_before = λ w from b. member_listed s low n w (sym e) from (omega arith);
+      others = tail_is n [] v rest h ∙ sym (below_low s (v + 1) (suc n) (omega arith));
+    }
+  where
+    head_is : (x : ℕ) (xs : List ℕ) (y : ℕ) (ys : List ℕ) → (x ∷ xs) ≡ (y ∷ ys) → x ≡ y
+    head_is x xs y ys h = cc
+    tail_is : (x : ℕ) (xs : List ℕ) (y : ℕ) (ys : List ℕ) → (x ∷ xs) ≡ (y ∷ ys) → ys ≡ xs
+    tail_is x xs y ys h = cc
+first_by_list s low n (x ∷ xs) v rest e t within h before =
+    let first = before x xs (sym e) in
+    let same : x ≡ v = head_is x (xs ++ n ∷ []) v rest h in
+    let b = first.below in
+    record {
+      from = let f = first.from in omega arith;
+      below = omega arith;
+      member = ap (set.contains s) (sym same) ∙ first.member;
+      none_before = λ w from less. first.none_before w from (omega arith);
+      others =
+        tail_is x (xs ++ n ∷ []) v rest h ∙ ap (λ l. l ++ n ∷ []) (first.others ∙ ap (λ k. ascending_between s (k + 1) n) same)
+        ∙ sym (one_more s (v + 1) n (omega arith) t);
+    }
+  where
+    head_is : (x : ℕ) (xs : List ℕ) (y : ℕ) (ys : List ℕ) → (x ∷ xs) ≡ (y ∷ ys) → x ≡ y
+    head_is x xs y ys h = cc
+    tail_is : (x : ℕ) (xs : List ℕ) (y : ℕ) (ys : List ℕ) → (x ∷ xs) ≡ (y ∷ ys) → ys ≡ xs
+    tail_is x xs y ys h = cc
+
+pub comes_first : (s : NameSet) (low n v : ℕ) (rest : List ℕ) → ascending_between s low n ≡ v ∷ rest → ComesFirst s low n v rest
+comes_first s low zero v rest h = absurd (none_listed s low v rest h) where
+  none_listed : (s : NameSet) (low v : ℕ) (rest : List ℕ) → ascending_between s low zero ≡ v ∷ rest → ⊥
+  unfolding ascending_between
+  none_listed s low v rest h = cc
+comes_first s low (suc n) v rest h =
+    elim (cases_Bool (set.contains s n)) [
+      | inl t ↦ elim (cases_lt n low) [
+        | inl under ↦ absurd (none_left v rest (sym (below_low s low (suc n) (omega arith)) ∙ h))
+        | inr within ↦ first_by_list s low n (ascending_between s low n) v rest refl t within (sym (one_more s low n within t) ∙ h) (λ x more e. comes_first s low n x more e)
+      ]
+      | inr f ↦ one_later (comes_first s low n v rest (sym (no_more s low n f) ∙ h)) f
+    ]
+  where
+    none_left : (v : ℕ) (rest : List ℕ) → [] ≡ v ∷ rest → ⊥
+    none_left v rest e = cc
+    one_later : ComesFirst s low n v rest → set.contains s n ≡ false → ComesFirst s low (suc n) v rest
+    one_later first f = record {
+      from = first.from;
+      below = let b = first.below in omega arith;
+      member = first.member;
+      none_before = first.none_before;
+      others = first.others ∙ sym (no_more s (v + 1) n f);
+    }
