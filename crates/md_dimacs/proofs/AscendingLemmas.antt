@@ -88,11 +88,12 @@ first_by_list s low n (x ∷ xs) v rest e t within h before =
     tail_is : (x : ℕ) (xs : List ℕ) (y : ℕ) (ys : List ℕ) → (x ∷ xs) ≡ (y ∷ ys) → ys ≡ xs
     tail_is x xs y ys h = cc
 
+none_listed : (s : NameSet) (low v : ℕ) (rest : List ℕ) → ascending_between s low zero ≡ v ∷ rest → ⊥
+unfolding ascending_between
+none_listed s low v rest h = cc
+
 pub comes_first : (s : NameSet) (low n v : ℕ) (rest : List ℕ) → ascending_between s low n ≡ v ∷ rest → ComesFirst s low n v rest
-comes_first s low zero v rest h = absurd (none_listed s low v rest h) where
-  none_listed : (s : NameSet) (low v : ℕ) (rest : List ℕ) → ascending_between s low zero ≡ v ∷ rest → ⊥
-  unfolding ascending_between
-  none_listed s low v rest h = cc
+comes_first s low zero v rest h = absurd (none_listed s low v rest h)
 comes_first s low (suc n) v rest h =
     elim (cases_Bool (set.contains s n)) [
       | inl t ↦ elim (cases_lt n low) [
@@ -112,3 +113,77 @@ comes_first s low (suc n) v rest h =
       none_before = first.none_before;
       others = first.others ∙ sym (no_more s (v + 1) n f);
     }
+
+-- ---- how many there are
+
+-- where no member is from low on and below v, as many are below both
+pub same_below : (s : NameSet) (low v : ℕ) → low ≤ v → ((w : ℕ) → low ≤ w → w < v → set.contains s w ≡ false) → ascending_between s 0 v ≡ ascending_between s 0 low
+same_below s low zero within none = let e : 0 ≡ low = omega arith in ap (ascending_between s 0) e
+same_below s low (suc v) within none =
+    elim (cases_eq low (suc v)) [
+      | inl same ↦ ap (ascending_between s 0) (sym same)
+      | inr other ↦
+        no_more s 0 v (none v (omega arith) (omega arith))
+        ∙ same_below s low v (omega arith) (λ w from b. none w from (omega arith))
+    ]
+
+pub count_le : (s : NameSet) (n : ℕ) → length (ascending_between s 0 n) ≤ n
+count_le s zero = let e = ap length (below_low s 0 0 (omega arith)) in omega arith
+count_le s (suc n) =
+    let before = count_le s n in
+    elim (cases_Bool (set.contains s n)) [
+      | inl t ↦ let e = ap length (one_more s 0 n (omega arith) t) ∙ length-append (ascending_between s 0 n) (n ∷ []) in omega arith
+      | inr f ↦ let e = ap length (no_more s 0 n f) in omega arith
+    ]
+
+pub count_member : (s : NameSet) (v : ℕ) → Member s v → length (ascending_between s 0 (v + 1)) ≡ length (ascending_between s 0 v) + 1
+count_member s v m =
+    ap (λ k. length (ascending_between s 0 k)) (add-one v) ∙ ap length (one_more s 0 v (omega arith) m) ∙ length-append (ascending_between s 0 v) (v ∷ [])
+
+-- ---- a list of the members from low on, of which `place` are below
+
+pub record Coming (s : NameSet) (low place : ℕ) (xs : List ℕ) : Type 0 where
+  pub left : xs ≡ ascending_between s low NAMES
+  pub placed : place ≡ length (ascending_between s 0 low)
+
+pub record NextUp (s : NameSet) (low place v : ℕ) (rest : List ℕ) : Type 0 where
+  pub member : Member s v
+  pub from : low ≤ v
+  pub name : v < NAMES
+  pub placed : place ≡ length (ascending_between s 0 v)
+  pub none_before : (w : ℕ) → low ≤ w → w < v → set.contains s w ≡ false
+  pub after : Coming s (v + 1) (place + 1) rest
+
+pub coming_all : (s : NameSet) (xs : List ℕ) → xs ≡ ascending s → Coming s 0 0 xs
+coming_all s xs e = record { left = e; placed = sym (ap length (below_low s 0 0 (omega arith))) }
+
+pub coming_from : (s : NameSet) (low : ℕ) (xs : List ℕ) → xs ≡ ascending_between s low NAMES → Coming s low (length (ascending_between s 0 low)) xs
+coming_from s low xs e = record { left = e; placed = refl }
+
+pub next_up : (s : NameSet) (low place : ℕ) (xs : List ℕ) (v : ℕ) (rest : List ℕ) → Coming s low place xs → xs ≡ v ∷ rest → NextUp s low place v rest
+next_up s low place xs v rest c e =
+    let first = comes_first s low NAMES v rest (sym c.left ∙ e) in
+    let count : place ≡ length (ascending_between s 0 v) = c.placed ∙ ap length (sym (same_below s low v first.from first.none_before)) in
+    record {
+      member = first.member;
+      from = first.from;
+      name = first.below;
+      placed = count;
+      none_before = first.none_before;
+      after = record { left = first.others; placed = ap (λ k. k + 1) count ∙ sym (count_member s v first.member) };
+    }
+
+pub none_left : (s : NameSet) (low place : ℕ) (xs : List ℕ) (w : ℕ) → Coming s low place xs → xs ≡ [] → Member s w → w < NAMES → w < low
+none_left s low place xs w c e m name =
+    elim (cases_lt w low) [
+      | inl under ↦ under
+      | inr above ↦ absurd (true≢false (sym m ∙ member_listed s low NAMES w (sym c.left ∙ e) above name))
+    ]
+
+pub position_is : (g : PlainGraph) (v place : ℕ) → place ≡ length (ascending_between g.vertices 0 v) → place + 1 ≡ position g v
+unfolding position
+position_is g v place e = ap (λ k. k + 1) e
+
+pub position_le : (g : PlainGraph) (v : ℕ) → position g v ≤ v + 1
+unfolding position
+position_le g v = let most = count_le g.vertices v in omega arith

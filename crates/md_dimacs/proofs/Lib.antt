@@ -3,3 +3,4 @@ pub mod LineLemmas
 pub mod ReadLemmas
 pub mod PieceLemmas
 pub mod AscendingLemmas
+pub mod TextLemmas
