@@ -3,6 +3,7 @@ pub mod Counting
 pub mod EachRow
 pub mod GraphLemmas
 pub mod Limits
+pub mod MemberLists
 pub mod NameLemmas
 pub mod PairLaws
 pub mod RowLemmas
