@@ -1,13 +1,15 @@
 -- The members of a set of names in ascending order, one after the other.
-use Rattle.std.specs.Prelude.{◌≡◌, ℕ, zero, suc, ◌+◌, ◌-◌, ◌<◌, ◌≤◌, ◌⊎◌, Bool, true, false, cond, ◌&&◌, ◌==◌, nat_le, nat_lt, IsTrue, List, [], ◌∷◌, ◌++◌, length, refl}
+use Rattle.std.specs.Prelude.{◌≡◌, ℕ, zero, suc, ◌+◌, ◌-◌, ◌^◌, ◌<◌, ◌≤◌, ◌⊎◌, Bool, true, false, cond, ◌&&◌, ◌==◌, nat_le, nat_lt, IsTrue, List, [], ◌∷◌, ◌++◌, length, refl}
 use Rattle.std.proofs.Common.{subst, ap, sym, ◌∙◌, arith, inl, inr, add-one, append_assoc, length-append}
 use Rattle.std.proofs.lemmas.Bool.{true≢false, cases_Bool, cases_lt, cases_eq, le-leb, lt-leb, leb-true, and_parts, false_from_ne_true}
 use Rattle.std.proofs.lemmas.List.{append-nil}
 use Rattle.std.specs.FinSet as set
 use Rattle.md_graph.specs.declared.TheConstants.{NAMES}
 use Rattle.md_graph.specs.NameSet.{NameSet, Member, AllBelow, ascending, ascending_between}
-use Rattle.md_graph.specs.PlainGraph.{PlainGraph}
+use Rattle.md_graph.specs.PlainGraph.{PlainGraph, IsGraph, neighbours}
+use Rattle.md_graph.proofs.GraphLemmas.{adjacent_ends, contains-neighbours}
 use Rattle.md_dimacs.specs.Text.{position}
+use Rattle.md_dimacs.proofs.PieceLemmas.{names_fit}
 
 -- ---- one number more
 
@@ -187,3 +189,20 @@ position_is g v place e = ap (λ k. k + 1) e
 pub position_le : (g : PlainGraph) (v : ℕ) → position g v ≤ v + 1
 unfolding position
 position_le g v = let most = count_le g.vertices v in omega arith
+
+pub coming_at_start : (s : NameSet) (low : ℕ) (xs : List ℕ) → low ≡ 0 → xs ≡ ascending s → Coming s low 0 xs
+coming_at_start s low xs e list = subst (λ k. Coming s k 0 xs) (sym e) (coming_all s xs list)
+
+pub coming_at : (s : NameSet) (low at place : ℕ) (xs : List ℕ) → at ≡ low → Coming s low place xs → Coming s at place xs
+coming_at s low at place xs e c = subst (λ k. Coming s k place xs) (sym e) c
+
+pub place_small : (s : NameSet) (low place v : ℕ) (rest : List ℕ) → NextUp s low place v rest → place + 1 < 10 ^ 5
+place_small s low place v rest up =
+    let most = count_le s v in
+    let placed = up.placed in
+    let name = up.name in
+    let fit = names_fit in
+    omega arith
+
+pub neighbour_is_vertex : (g : PlainGraph) (v w : ℕ) → IsGraph g → Member (neighbours g v) w → Member g.vertices w
+neighbour_is_vertex g v w is m = (adjacent_ends is v w (sym (contains-neighbours is v w) ∙ m)).1

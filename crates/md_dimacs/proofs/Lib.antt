@@ -4,3 +4,4 @@ pub mod ReadLemmas
 pub mod PieceLemmas
 pub mod AscendingLemmas
 pub mod TextLemmas
+pub mod PlacesLemmas

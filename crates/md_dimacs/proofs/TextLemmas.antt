@@ -98,3 +98,6 @@ head_is g n m word one two is_word is_n is_m first second =
     second ∙ ap (λ l. l ++ (decimal m ++ 10 ∷ [])) (first ∙ ap (λ l. l ++ (decimal n ++ 32 ∷ [])) is_word)
     ∙ head_cut (decimal n) (decimal m)
     ∙ (λ i. (112 ∷ 32 ∷ 101 ∷ 100 ∷ 103 ∷ 101 ∷ 32 ∷ (decimal (is_n i) ++ 32 ∷ decimal (is_m i))) ++ 10 ∷ [])
+
+pub start_is : (g : PlainGraph) (v place : ℕ) (start : List ℕ) → start ≡ codes "e " ++ (decimal place ++ 32 ∷ []) → place ≡ position g v → start ≡ line_start g v
+start_is g v place start e is_place = e ∙ ap (λ k. codes "e " ++ (decimal k ++ 32 ∷ [])) is_place

@@ -104,7 +104,7 @@ fn write_edges(graph: &Graph, places: &[Piece], text: &mut Vec<u8>) -> Result<()
     let mut place = 0;
     for v in graph.vertices().members() {
         place += 1;
-        at = write_row(graph, v, &start_piece(place), places, &mut chunk, at, text)?;
+        at = write_row(graph, v, start_piece(place), places, &mut chunk, at, text)?;
     }
     if text.extend_from_slice(&chunk[..at]).is_err() {
         return Err(Memory);
@@ -114,9 +114,9 @@ fn write_edges(graph: &Graph, places: &[Piece], text: &mut Vec<u8>) -> Result<()
 
 // Writes the lines of the edges of v to the vertices above it behind the first `at` bytes of the chunk, and
 // says how many are then gathered there; a full chunk goes to the text.
-fn write_row(graph: &Graph, v: u32, start: &Piece, places: &[Piece], chunk: &mut [u8], at: usize, text: &mut Vec<u8>) -> Result<usize, Memory>
+fn write_row(graph: &Graph, v: u32, start: Piece, places: &[Piece], chunk: &mut [u8], at: usize, text: &mut Vec<u8>) -> Result<usize, Memory>
     requires name { v < NAMES }
-    requires start { text_of start.now ≡ line_start graph.now v }
+    requires start { text_of start ≡ line_start graph.now v }
     requires places { ArePlaces graph.now places.now }
     requires chunk { length chunk.old ≡ CHUNK }
     requires at { at ≤ CHUNK }
@@ -129,7 +129,7 @@ fn write_row(graph: &Graph, v: u32, start: &Piece, places: &[Piece], chunk: &mut
     let mut at = at;
     for w in graph.row(v).members_from(v + 1) {
         at = make_room(chunk, at, text)?;
-        at = put_piece(chunk, at, start);
+        at = put_piece(chunk, at, &start);
         at = put_piece(chunk, at, &places[w as usize]);
     }
     Ok(at)
