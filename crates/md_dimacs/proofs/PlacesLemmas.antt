@@ -2,7 +2,8 @@
 use Rattle.std.specs.Prelude.{◌≡◌, ℕ, ◌+◌, ◌-◌, ◌<◌, ◌≤◌, ◌⊎◌, Bool, true, false, List, [], ◌∷◌, ◌++◌, length, take, replicate, get_or, refl}
 use Rattle.std.proofs.Common.{subst, ap, sym, ◌∙◌, arith, inl, inr, length-append}
 use Rattle.std.proofs.lemmas.Bool.{true≢false, cases_lt, cases_eq}
-use Rattle.std.proofs.lemmas.List.{get_or_append_left, get_or_append_right, get_or-replicate, length-replicate}
+use Rattle.std.proofs.Math.Seq.{get_or-append_right}
+use Rattle.std.proofs.lemmas.List.{get_or_append_left, get_or-replicate, length-replicate}
 use Rattle.std.specs.FinSet as set
 use Rattle.md_graph.specs.NameSet.{Member}
 use Rattle.md_graph.specs.PlainGraph.{PlainGraph}
@@ -17,7 +18,7 @@ new_piece : (old : List Piece) (k w : ℕ) (piece other : Piece) → length old 
 new_piece old k w piece other from below =
     let count = length-append old (replicate k piece) in
     let copies = length-replicate k piece in
-    get_or_append_right old (replicate k piece) other w from ∙ get_or-replicate k (w - length old) piece other (omega arith)
+    get_or-append_right old (replicate k piece) w other from ∙ get_or-replicate k (w - length old) piece other (omega arith)
 
 -- where the old pieces hold the places of all vertices below them, so do the new ones
 pub spelled_more : (g : PlainGraph) (old new : List Piece) (k low place v : ℕ) (rest : List ℕ) (piece : Piece) → NextUp g.vertices low place v rest → low ≡ length old
