@@ -13,24 +13,24 @@ use Rattle.md_dimacs.proofs.PieceLemmas.{names_fit}
 
 -- ---- one number more
 
-one_more : (s : NameSet) (low n : ℕ) → low ≤ n → set.contains s n ≡ true → ascending_between s low (suc n) ≡ ascending_between s low n ++ n ∷ []
+pub one_more : (s : NameSet) (low n : ℕ) → low ≤ n → set.contains s n ≡ true → ascending_between s low (suc n) ≡ ascending_between s low n ++ n ∷ []
 unfolding ascending_between
 one_more s low n within t = rw (le-leb low n within, t) refl
 
-no_more : (s : NameSet) (low n : ℕ) → set.contains s n ≡ false → ascending_between s low (suc n) ≡ ascending_between s low n
+pub no_more : (s : NameSet) (low n : ℕ) → set.contains s n ≡ false → ascending_between s low (suc n) ≡ ascending_between s low n
 unfolding ascending_between
 no_more s low n f = by_test (nat_le low n) where
   by_test : (b : Bool) → (ascending_between s low n ++ cond (b && set.contains s n) (n ∷ []) []) ≡ ascending_between s low n
   by_test true = rw f (append-nil (ascending_between s low n))
   by_test false = append-nil (ascending_between s low n)
 
-below_low : (s : NameSet) (low n : ℕ) → n ≤ low → ascending_between s low n ≡ []
+pub below_low : (s : NameSet) (low n : ℕ) → n ≤ low → ascending_between s low n ≡ []
 unfolding ascending_between
 below_low s low zero h = refl
 below_low s low (suc n) h = rw (lt-leb low n (omega arith), below_low s low n (omega arith)) refl
 
 -- none is left out
-member_listed : (s : NameSet) (low n v : ℕ) → ascending_between s low n ≡ [] → low ≤ v → v < n → set.contains s v ≡ false
+pub member_listed : (s : NameSet) (low n v : ℕ) → ascending_between s low n ≡ [] → low ≤ v → v < n → set.contains s v ≡ false
 member_listed s low zero v e from below = absurd (omega arith)
 member_listed s low (suc n) v e from below =
     elim (cases_Bool (set.contains s n)) [
@@ -136,6 +136,19 @@ count_le s (suc n) =
     elim (cases_Bool (set.contains s n)) [
       | inl t ↦ let e = ap length (one_more s 0 n (omega arith) t) ∙ length-append (ascending_between s 0 n) (n ∷ []) in omega arith
       | inr f ↦ let e = ap length (no_more s 0 n f) in omega arith
+    ]
+
+pub count_up_to : (s : NameSet) (m n : ℕ) → m ≤ n → length (ascending_between s 0 m) ≤ length (ascending_between s 0 n)
+count_up_to s m zero within = let e : m ≡ 0 = omega arith in let same = ap (λ k. length (ascending_between s 0 k)) e in omega arith
+count_up_to s m (suc n) within =
+    elim (cases_eq m (suc n)) [
+      | inl same ↦ let e = ap (λ k. length (ascending_between s 0 k)) same in omega arith
+      | inr other ↦
+        let before = count_up_to s m n (omega arith) in
+        elim (cases_Bool (set.contains s n)) [
+          | inl t ↦ let e = ap length (one_more s 0 n (omega arith) t) ∙ length-append (ascending_between s 0 n) (n ∷ []) in omega arith
+          | inr f ↦ let e = ap length (no_more s 0 n f) in omega arith
+        ]
     ]
 
 pub count_member : (s : NameSet) (v : ℕ) → Member s v → length (ascending_between s 0 (v + 1)) ≡ length (ascending_between s 0 v) + 1

@@ -424,7 +424,7 @@ one_graph bytes g h s t =
     (same_set g.vertices h.vertices (λ v. s.vertices v ∙ ap (λ n. is_vertex n v) same_n ∙ sym (t.vertices v)))
     (λ u v. s.edges u v ∙ ap (list_any (joins u v)) split.1 ∙ sym (t.edges u v))
 
-spelled_only : (bytes : List ℕ) (g : PlainGraph) → Spells bytes g → SpellsOnly bytes g
+pub spelled_only : (bytes : List ℕ) (g : PlainGraph) → Spells bytes g → SpellsOnly bytes g
 spelled_only bytes g s = record { spells = s; only = λ other t. one_graph bytes other g t s }
 
 by_fault : (bytes : List ℕ) (fault : Option DimacsFault) → first_fault bytes ≡ fault → MatchOption fault (SpellsOne bytes) (λ _. SpellsNone bytes)

@@ -5,3 +5,4 @@ pub mod PieceLemmas
 pub mod AscendingLemmas
 pub mod TextLemmas
 pub mod PlacesLemmas
+pub mod RoundTrip
