@@ -277,7 +277,7 @@ pub vertices-with_ends : (g : PlainGraph) (ends : Option (ℕ × ℕ)) → (with
 vertices-with_ends g None = refl
 vertices-with_ends g (Some p) = refl
 
-pub vertices-with_lines : (g : PlainGraph) (more : List (List ℕ)) → (with_lines g more).vertices ≡ g.vertices
+vertices-with_lines : (g : PlainGraph) (more : List (List ℕ)) → (with_lines g more).vertices ≡ g.vertices
 unfolding with_lines
 vertices-with_lines g [] = refl
 vertices-with_lines g (line ∷ more) = vertices-with_lines (with_line g line) more ∙ vertices-with_ends g (ends_of (words line))
@@ -326,6 +326,13 @@ or_nothing a b c h e = grind arith
 adjacent-edgeless : (n u v : ℕ) → adjacent (edgeless n) u v ≡ false
 unfolding adjacent
 adjacent-edgeless n u v = pairs-empty _ _
+
+-- the graph that the lines behind the problem line name
+pub vertices_read : (n : ℕ) (behind : List (List ℕ)) (v : ℕ) → set.contains (with_lines (edgeless n) behind).vertices v ≡ is_vertex n v
+vertices_read n behind v = ap (λ s. set.contains s v) (vertices-with_lines (edgeless n) behind) ∙ contains-names_to n v
+
+pub edges_read : (n : ℕ) (behind : List (List ℕ)) (u v : ℕ) → adjacent (with_lines (edgeless n) behind) u v ≡ list_any (joins u v) behind
+edges_read n behind u v = or_nothing _ _ _ (adjacent-edgeless n u v) (adjacent-with_lines (edgeless n) behind u v)
 
 -- ---- a file without fault
 
@@ -385,8 +392,8 @@ spelled_by_parts bytes n before problem_of behind whole are_passed is_problem ar
   passed = are_passed;
   problem_line = is_problem;
   edge_lines = are_edges;
-  vertices = λ v. ap (λ s. set.contains s v) (vertices-with_lines (edgeless n) behind) ∙ contains-names_to n v;
-  edges = λ u v. or_nothing _ _ _ (adjacent-edgeless n u v) (adjacent-with_lines (edgeless n) behind u v);
+  vertices = vertices_read n behind;
+  edges = edges_read n behind;
   graph = IsGraph-with_lines n behind (IsGraph-edgeless n is_problem.named) (contains-names_to n) are_edges;
 }
 

@@ -6,3 +6,4 @@ pub mod AscendingLemmas
 pub mod TextLemmas
 pub mod PlacesLemmas
 pub mod RoundTrip
+pub mod Renamed

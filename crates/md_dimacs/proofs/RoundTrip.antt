@@ -112,7 +112,7 @@ position_up g v w up m =
     let more = count_up_to g.vertices (v + 1) w (omega arith) in
     omega arith
 
-position_same : (g : PlainGraph) (v w : ℕ) → Member g.vertices v → Member g.vertices w → position g v ≡ position g w → v ≡ w
+pub position_same : (g : PlainGraph) (v w : ℕ) → Member g.vertices v → Member g.vertices w → position g v ≡ position g w → v ≡ w
 position_same g v w mv mw same =
     elim (cases_order v w) [
       | inl e ↦ e
@@ -231,15 +231,15 @@ unfolding class_of_field sizes_in is_form
 sizes_read n m hn hm = numbers_read n m hn hm
 
 -- two places of n, the lower first
-record ArePlaces (n : ℕ) (p : ℕ × ℕ) : Type 0 where
-  low : 0 < p.0
-  up : p.0 < p.1
-  last : p.1 ≤ n
+pub record ArePlaces (n : ℕ) (p : ℕ × ℕ) : Type 0 where
+  pub low : 0 < p.0
+  pub up : p.0 < p.1
+  pub last : p.1 ≤ n
 
 names_below_digits : NAMES < 10 ^ 18
 names_below_digits = lit< tt
 
-ends-edge_line : (n : ℕ) (p : ℕ × ℕ) → n < NAMES → ArePlaces n p → ends_of (words (edge_line p)) ≡ Some (p.0, p.1)
+pub ends-edge_line : (n : ℕ) (p : ℕ × ℕ) → n < NAMES → ArePlaces n p → ends_of (words (edge_line p)) ≡ Some (p.0, p.1)
 ends-edge_line n p small places =
     let low = places.low in let up = places.up in let last = places.last in let digits = names_below_digits in
     ap ends_of (words-edge_line p) ∙ ends_read p.0 p.1 (omega arith) (omega arith)
@@ -305,7 +305,7 @@ places_of_row g is v lv =
         last = position_last g w is mw;
       }) (ascending_from (neighbours g v) (v + 1)) (all_listed (neighbours g v) (v + 1) NAMES))
 
-all_places : (g : PlainGraph) → IsGraph g → All (ArePlaces (set.len g.vertices)) (edge_places g)
+pub all_places : (g : PlainGraph) → IsGraph g → All (ArePlaces (set.len g.vertices)) (edge_places g)
 unfolding edge_places
 all_places g is = All-flat_map (Listed g.vertices 0 NAMES) (ArePlaces (set.len g.vertices)) (edges_above g) (ascending g.vertices) (all_listed g.vertices 0 NAMES) (places_of_row g is)
 
@@ -321,10 +321,10 @@ text_lines g =
     all_lack (p ∷ ps) = All-cons (λ p. LacksFeed (edge_line p)) p ps (lacks_feed (edge_line p) (plain-edge_line p)) (all_lack ps)
 
 -- the graph that the text spells
-abbrev read_back : PlainGraph → PlainGraph
+abbrev pub read_back : PlainGraph → PlainGraph
 read_back g = with_lines (edgeless (set.len g.vertices)) (map edge_line (edge_places g))
 
-text_spells : (g : PlainGraph) → IsGraph g → set.len g.vertices < NAMES → Spells (dimacs_text g) (read_back g)
+pub text_spells : (g : PlainGraph) → IsGraph g → set.len g.vertices < NAMES → Spells (dimacs_text g) (read_back g)
 text_spells g is small =
     spelled_by_parts (dimacs_text g) (set.len g.vertices) [] (problem_line g) (map edge_line (edge_places g)) (text_lines g) (All-nil IsPassed) (problem_line_is g is small)
     (All-map (IsPassedOrEdge (set.len g.vertices)) edge_line (edge_places g)
