@@ -1,0 +1,81 @@
+-- The fault of a line by the fields behind its first.
+use Rattle.std.specs.Prelude.{◌≡◌, ◌≢◌, ℕ, Bool, true, false, List, [], ◌∷◌, length, Option, Some, None, Result, IfOk, IfErr, OnOk, refl}
+use Rattle.std.proofs.Common.{ap, ◌∙◌, subst, sym}
+use Rattle.md_text.specs.Numbers.{number_of}
+use Rattle.md_dimacs.specs.declared.fault.DimacsKind.{DimacsKind}
+use Rattle.md_dimacs.specs.declared.fault.DimacsKind.TheVariants.{UnknownLine, FieldCount}
+use Rattle.md_dimacs.specs.Line.{is_form, both, sizes_in, ends_in, sizes_fault, problem_fault, ends_fault, edge_fault}
+use Rattle.md_dimacs.specs.File.{AreSizes}
+
+pub problem_field_count : (rest : List (List ℕ)) → length rest ≢ 3 → problem_fault None rest ≡ Some FieldCount
+unfolding problem_fault
+problem_field_count [] h = refl
+problem_field_count (a ∷ []) h = refl
+problem_field_count (a ∷ b ∷ []) h = refl
+problem_field_count (a ∷ b ∷ c ∷ []) h = absurd (h refl)
+problem_field_count (a ∷ b ∷ c ∷ d ∷ more) h = refl
+
+pub edge_field_count : (n : ℕ) (rest : List (List ℕ)) → length rest ≢ 2 → edge_fault (Some n) rest ≡ Some FieldCount
+unfolding edge_fault
+edge_field_count n [] h = refl
+edge_field_count n (a ∷ []) h = refl
+edge_field_count n (a ∷ b ∷ []) h = absurd (h refl)
+edge_field_count n (a ∷ b ∷ c ∷ more) h = refl
+
+-- at the three fields behind a `p`
+pub problem_unknown : (rest : List (List ℕ)) (form vertices edges : List ℕ) → rest ≡ form ∷ vertices ∷ edges ∷ []
+    → is_form form ≡ false → problem_fault None rest ≡ Some UnknownLine
+unfolding problem_fault
+problem_unknown rest form vertices edges cut f = rw (cut, f) refl
+
+pub problem_numbers : (rest : List (List ℕ)) (form vertices edges : List ℕ) → rest ≡ form ∷ vertices ∷ edges ∷ []
+    → is_form form ≡ true → problem_fault None rest ≡ sizes_fault (number_of vertices) (number_of edges)
+unfolding problem_fault
+problem_numbers rest form vertices edges cut t = rw (cut, t) refl
+
+pub sizes_numbers : (rest : List (List ℕ)) (form vertices edges : List ℕ) → rest ≡ form ∷ vertices ∷ edges ∷ []
+    → is_form form ≡ true → sizes_in rest ≡ both (number_of vertices) (number_of edges)
+unfolding sizes_in
+sizes_numbers rest form vertices edges cut t = rw (cut, t) refl
+
+-- at the two fields behind an `e`
+pub edge_numbers : (n : ℕ) (rest : List (List ℕ)) (first second : List ℕ) → rest ≡ first ∷ second ∷ []
+    → edge_fault (Some n) rest ≡ ends_fault n (number_of first) (number_of second)
+unfolding edge_fault
+edge_numbers n rest first second cut = rw cut refl
+
+pub ends_numbers : (rest : List (List ℕ)) (first second : List ℕ) → rest ≡ first ∷ second ∷ []
+    → ends_in rest ≡ both (number_of first) (number_of second)
+unfolding ends_in
+ends_numbers rest first second cut = rw cut refl
+
+-- the same, under what a result says
+pub ends_read : (r : Result (ℕ × ℕ) DimacsKind) (rest : List (List ℕ)) (first second : List ℕ) (u v : Option ℕ) → rest ≡ first ∷ second ∷ []
+    → u ≡ number_of first → v ≡ number_of second → IfOk r (λ p. both u v ≡ Some p) → IfOk r (λ p. ends_in rest ≡ Some p)
+ends_read r rest first second u v cut eu ev h =
+    let same : both u v ≡ ends_in rest = (λ i. both (eu i) (ev i)) ∙ sym (ends_numbers rest first second cut) in
+    subst (λ o. IfOk r (λ p. o ≡ Some p)) same h
+
+pub ends_refused : (r : Result (ℕ × ℕ) DimacsKind) (n : ℕ) (rest : List (List ℕ)) (first second : List ℕ) (u v : Option ℕ) → rest ≡ first ∷ second ∷ []
+    → u ≡ number_of first → v ≡ number_of second → IfErr r (λ kind. ends_fault n u v ≡ Some kind) → IfErr r (λ kind. edge_fault (Some n) rest ≡ Some kind)
+ends_refused r n rest first second u v cut eu ev h =
+    let same : ends_fault n u v ≡ edge_fault (Some n) rest = (λ i. ends_fault n (eu i) (ev i)) ∙ sym (edge_numbers n rest first second cut) in
+    subst (λ o. IfErr r (λ kind. o ≡ Some kind)) same h
+
+pub sizes_read : (r : Result ℕ DimacsKind) (rest : List (List ℕ)) (form vertices edges : List ℕ) (n m : Option ℕ) → rest ≡ form ∷ vertices ∷ edges ∷ []
+    → is_form form ≡ true → n ≡ number_of vertices → m ≡ number_of edges → IfOk r (λ k. AreSizes k (both n m)) → IfOk r (λ k. AreSizes k (sizes_in rest))
+sizes_read r rest form vertices edges n m cut t en em h =
+    let same : both n m ≡ sizes_in rest = (λ i. both (en i) (em i)) ∙ sym (sizes_numbers rest form vertices edges cut t) in
+    subst (λ o. IfOk r (λ k. AreSizes k o)) same h
+
+pub sizes_refused : (r : Result ℕ DimacsKind) (rest : List (List ℕ)) (form vertices edges : List ℕ) (n m : Option ℕ) → rest ≡ form ∷ vertices ∷ edges ∷ []
+    → is_form form ≡ true → n ≡ number_of vertices → m ≡ number_of edges → IfErr r (λ kind. sizes_fault n m ≡ Some kind) → IfErr r (λ kind. problem_fault None rest ≡ Some kind)
+sizes_refused r rest form vertices edges n m cut t en em h =
+    let same : sizes_fault n m ≡ problem_fault None rest = (λ i. sizes_fault (en i) (em i)) ∙ sym (problem_numbers rest form vertices edges cut t) in
+    subst (λ o. IfErr r (λ kind. o ≡ Some kind)) same h
+
+pub ends_passed : (r : Result (ℕ × ℕ) DimacsKind) (n : ℕ) (rest : List (List ℕ)) (first second : List ℕ) (u v : Option ℕ) → rest ≡ first ∷ second ∷ []
+    → u ≡ number_of first → v ≡ number_of second → OnOk r (ends_fault n u v ≡ None) → OnOk r (edge_fault (Some n) rest ≡ None)
+ends_passed r n rest first second u v cut eu ev h =
+    let same : ends_fault n u v ≡ edge_fault (Some n) rest = (λ i. ends_fault n (eu i) (ev i)) ∙ sym (edge_numbers n rest first second cut) in
+    subst (λ o. OnOk r (o ≡ None)) same h

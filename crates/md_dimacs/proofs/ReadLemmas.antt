@@ -1,0 +1,172 @@
+-- The steps of the reader.
+use Rattle.std.specs.Prelude.{◌≡◌, ℕ, zero, suc, ◌+◌, ◌-◌, ◌^◌, ◌<◌, ◌≤◌, min, max, Bool, true, false, ◌==◌, ◌||◌, ◌&&◌, List, [], ◌∷◌, ◌++◌, length, Some, None, Result, Ok, Err, OnOk, OnErr, IfErr, refl}
+use Rattle.std.specs.Result.{is_err}
+use Rattle.std.specs.List.{All}
+use Rattle.std.proofs.Common.{subst, ap, sym, ◌∙◌, arith, add-one, append_assoc, length-append}
+use Rattle.std.proofs.lemmas.Bool.{cases_Bool, or_right, and_parts, eqb-true}
+use Rattle.std.proofs.lemmas.Bool.Decides.{nat_tests}
+use Rattle.std.proofs.lemmas.List.Elements.{All-nil, All-push}
+use Rattle.std.specs.FinSet as set
+use Rattle.md_graph.specs.PlainGraph.{PlainGraph, adjacent, edge, empty_graph, with_vertex, with_edge}
+use Rattle.md_graph.proofs.SetLaws.{contains-empty}
+use Rattle.md_graph.proofs.PairLaws.{pairs-insert, same_pairs}
+use Rattle.md_text.specs.Lines.{lines, without_return}
+use Rattle.md_text.specs.Fields.{fields}
+use Rattle.md_text.proofs.LineLemmas.{lines-nil}
+use Rattle.md_dimacs.specs.declared.fault.DimacsFault.{DimacsFault}
+use Rattle.md_dimacs.specs.declared.fault.DimacsKind.{DimacsKind}
+use Rattle.md_dimacs.specs.declared.fault.DimacsKind.TheVariants.{NoProblemLine}
+use Rattle.md_dimacs.specs.declared.line.LineClass.TheVariants.{Passed}
+use Rattle.md_dimacs.specs.Line.{words, class_of, ends_of, fault_of_words, is_vertex}
+use Rattle.md_dimacs.specs.File.{IsPassed, Spells, first_fault, fault_or, fault_behind, next_count}
+use Rattle.md_dimacs.specs.Read.{IsBeforeProblem, IsBehindProblem, HasVertices, names_to, edgeless, with_ends, with_line, with_lines}
+use Rattle.md_dimacs.proofs.FileLemmas.{fault_before, fault-behind_problem, contains-names_to, vertices-with_ends, lines_behind, spelled_by_parts}
+
+-- ---- vertices and edges
+
+pub edgeless-zero : empty_graph ≡ edgeless 0
+unfolding names_to
+edgeless-zero = refl
+
+pub edgeless-step : (g : PlainGraph) (n : ℕ) → g ≡ edgeless n → with_vertex g (n + 1) ≡ edgeless (n + 1)
+unfolding names_to
+edgeless-step g n e = ap (λ h. with_vertex h (n + 1)) e ∙ ap edgeless (sym (add-one n))
+
+pub next_name_absent : (g : PlainGraph) (n : ℕ) → g ≡ edgeless n → set.contains g.vertices (n + 1) ≡ false
+next_name_absent g n e = ap (λ (h : PlainGraph). set.contains h.vertices (n + 1)) e ∙ contains-names_to n (n + 1) ∙ grind (arith, nat_tests)
+
+there_already : (same there : Bool) → (same ≡ true → there ≡ true) → there ≡ (same || there)
+there_already true there h = h refl
+there_already false there h = refl
+
+-- an edge that is there stays alone
+pub with_edge_there : (g : PlainGraph) (u v : ℕ) → adjacent g u v ≡ true → g ≡ with_edge g u v
+unfolding adjacent
+with_edge_there g u v h =
+    let same : g.edges ≡ set.insert g.edges (edge u v) =
+      same_pairs g.edges (set.insert g.edges (edge u v)) (λ a b.
+        there_already ((a == min u v) && (b == max u v)) (set.contains g.edges (a, b)) (λ t. at_edge a b t)
+        ∙ sym (pairs-insert g.edges (min u v) (max u v) a b)) in
+    λ i. record { vertices = g.vertices; edges = same i }
+  where
+    at_edge : (a b : ℕ) → ((a == min u v) && (b == max u v)) ≡ true → set.contains g.edges (a, b) ≡ true
+    at_edge a b t =
+        let parts = and_parts (a == min u v) (b == max u v) t in
+        let low = eqb-true a (min u v) parts.0 in
+        let high = eqb-true b (max u v) parts.1 in
+        ap (λ p. set.contains g.edges p) (λ i. (low i, high i)) ∙ h
+
+-- ---- the lines before the problem line
+
+pub nothing_before : (all : List (List ℕ)) → IsBeforeProblem all 0 all
+nothing_before all = record { before = []; cut = refl; counted = refl; passed = All-nil IsPassed }
+
+pub one_passed : (all : List (List ℕ)) (count : ℕ) (rest : List (List ℕ)) (line stripped : List ℕ) (more : List (List ℕ)) → IsBeforeProblem all count rest
+    → rest ≡ line ∷ more → stripped ≡ without_return line → class_of (fields stripped) ≡ Passed → IsBeforeProblem all (count + 1) more
+one_passed all count rest line stripped more b cut e class = record {
+  before = b.before ++ line ∷ [];
+  cut = b.cut ∙ ap (λ ls. b.before ++ ls) cut ∙ sym (append_assoc b.before (line ∷ []) more);
+  counted = length-append b.before (line ∷ []) ∙ ap (λ k. k + 1) b.counted;
+  passed = All-push IsPassed b.before line b.passed (ap (λ s. class_of (fields s)) (sym e) ∙ class);
+}
+
+pub refused_before : (all : List (List ℕ)) (count : ℕ) (rest : List (List ℕ)) (line stripped : List ℕ) (more : List (List ℕ)) (kind : DimacsKind) → IsBeforeProblem all count rest
+    → rest ≡ line ∷ more → stripped ≡ without_return line → fault_of_words None (fields stripped) ≡ Some kind
+    → fault_behind None 0 all ≡ Some (record { kind = kind; line = count + 1 })
+unfolding fault_behind
+refused_before all count rest line stripped more kind b cut e fault =
+    let here : fault_of_words None (words line) ≡ Some kind = ap (λ s. fault_of_words None (fields s)) (sym e) ∙ fault in
+    fault_before all count rest b ∙ ap (fault_behind None count) cut ∙ rw here refl
+
+no_lines : (bytes : List ℕ) → (length bytes == 0) ≡ true → lines bytes ≡ []
+no_lines [] h = lines-nil
+no_lines (b ∷ bytes) h = absurd (let e = eqb-true (suc (length bytes)) 0 h in omega arith)
+
+pub no_problem : (all : List (List ℕ)) (count : ℕ) (rest : List ℕ) (number : ℕ) → IsBeforeProblem all count (lines rest) → (length rest == 0) ≡ true
+    → number ≡ next_count count → fault_behind None 0 all ≡ Some (record { kind = NoProblemLine; line = number })
+unfolding fault_behind
+no_problem all count rest number b empty e =
+    fault_before all count (lines rest) b ∙ ap (fault_behind None count) (no_lines rest empty)
+    ∙ ap (λ k. Some (record { kind = NoProblemLine; line = k })) (sym e)
+
+-- ---- the lines behind it
+
+pub refused_behind : (n start count : ℕ) (all rest : List (List ℕ)) (line stripped : List ℕ) (more : List (List ℕ)) (kind : DimacsKind)
+    → fault_behind (Some n) start all ≡ fault_behind (Some n) count rest → rest ≡ line ∷ more → stripped ≡ without_return line
+    → fault_of_words (Some n) (fields stripped) ≡ Some kind → fault_behind (Some n) start all ≡ Some (record { kind = kind; line = count + 1 })
+unfolding fault_behind
+refused_behind n start count all rest line stripped more kind same cut e fault =
+    let here : fault_of_words (Some n) (words line) ≡ Some kind = ap (λ s. fault_of_words (Some n) (fields s)) (sym e) ∙ fault in
+    same ∙ ap (fault_behind (Some n) count) cut ∙ rw here refl
+
+pub vertices_kept : (n : ℕ) (g h : PlainGraph) (stripped : List ℕ) → HasVertices n g → h ≡ with_ends g (ends_of (fields stripped)) → HasVertices n h
+vertices_kept n g h stripped has e v = ap (λ (k : PlainGraph). set.contains k.vertices v) e ∙ ap (λ s. set.contains s v) (vertices-with_ends g (ends_of (fields stripped))) ∙ has v
+
+pub one_added : (g h start : PlainGraph) (all rest : List (List ℕ)) (line stripped : List ℕ) (more : List (List ℕ))
+    → with_lines start all ≡ with_lines g rest → rest ≡ line ∷ more → stripped ≡ without_return line
+    → h ≡ with_ends g (ends_of (fields stripped)) → with_lines start all ≡ with_lines h more
+unfolding with_lines
+one_added g h start all rest line stripped more same cut e added =
+    let here : with_line g line ≡ h = ap (λ s. with_ends g (ends_of (fields s))) (sym e) ∙ sym added in
+    same ∙ ap (with_lines g) cut ∙ ap (λ k. with_lines k more) here
+
+pub one_faultless : (n start count : ℕ) (all rest : List (List ℕ)) (line stripped : List ℕ) (more : List (List ℕ))
+    → fault_behind (Some n) start all ≡ fault_behind (Some n) count rest → rest ≡ line ∷ more → stripped ≡ without_return line
+    → fault_of_words (Some n) (fields stripped) ≡ None → fault_behind (Some n) start all ≡ fault_behind (Some n) (count + 1) more
+unfolding fault_behind
+one_faultless n start count all rest line stripped more same cut e fault =
+    let here : fault_of_words (Some n) (words line) ≡ None = ap (λ s. fault_of_words (Some n) (fields s)) (sym e) ∙ fault in
+    same ∙ ap (fault_behind (Some n) count) cut ∙ rw here refl
+
+pub all_added : (g start : PlainGraph) (all : List (List ℕ)) (rest : List ℕ) → with_lines start all ≡ with_lines g (lines rest) → (length rest == 0) ≡ true → g ≡ with_lines start all
+unfolding with_lines
+all_added g start all rest same empty = sym (same ∙ ap (with_lines g) (no_lines rest empty))
+
+pub all_faultless : (n start count : ℕ) (all : List (List ℕ)) (rest : List ℕ) → fault_behind (Some n) start all ≡ fault_behind (Some n) count (lines rest)
+    → (length rest == 0) ≡ true → fault_behind (Some n) start all ≡ None
+unfolding fault_behind
+all_faultless n start count all rest same empty = same ∙ ap (fault_behind (Some n) count) (no_lines rest empty)
+
+-- ---- the whole file
+
+pub fault_of_rest : (bytes : List ℕ) (n count : ℕ) (rest : List (List ℕ)) → IsBehindProblem (lines bytes) n count rest → first_fault bytes ≡ fault_behind (Some n) count rest
+fault_of_rest bytes n count rest b = fault-behind_problem (lines bytes) n count rest b
+
+pub file_spells : (bytes : List ℕ) (n count : ℕ) (rest : List (List ℕ)) (g : PlainGraph) → IsBehindProblem (lines bytes) n count rest
+    → fault_behind (Some n) count rest ≡ None → g ≡ with_lines (edgeless n) rest → Spells bytes g
+file_spells bytes n count rest g b fault e =
+    let edges = lines_behind n count rest fault in
+    let spelled = spelled_by_parts bytes n b.before b.problem rest b.cut b.passed b.problem_line edges in
+    subst (Spells bytes) (sym e) spelled
+
+-- ---- the outcome of the lines behind the problem line, in what it says of the file
+
+pub outcome_spells : {T : Type 0} (r : Result T DimacsFault) (bytes : List ℕ) (n count : ℕ) (rest : List (List ℕ)) (start g : PlainGraph) → IsBehindProblem (lines bytes) n count rest
+    → start ≡ edgeless n → OnOk r (fault_behind (Some n) count rest ≡ None) → OnOk r (g ≡ with_lines start rest) → OnOk r (Spells bytes g)
+outcome_spells (Ok x) bytes n count rest start g b empty fault added = file_spells bytes n count rest g b fault (added ∙ ap (λ h. with_lines h rest) empty)
+outcome_spells (Err e) bytes n count rest start g b empty fault added = tt
+
+pub outcome_faultless : {T : Type 0} (r : Result T DimacsFault) (bytes : List ℕ) (n count : ℕ) (rest : List (List ℕ)) → IsBehindProblem (lines bytes) n count rest
+    → OnOk r (fault_behind (Some n) count rest ≡ None) → OnOk r (first_fault bytes ≡ None)
+outcome_faultless (Ok x) bytes n count rest b fault = fault_of_rest bytes n count rest b ∙ fault
+outcome_faultless (Err e) bytes n count rest b fault = tt
+
+pub outcome_fault : {T : Type 0} (r : Result T DimacsFault) (bytes : List ℕ) (n count : ℕ) (rest : List (List ℕ)) → IsBehindProblem (lines bytes) n count rest
+    → IfErr r (λ f. fault_behind (Some n) count rest ≡ Some f) → IfErr r (λ f. first_fault bytes ≡ Some f)
+outcome_fault (Ok x) bytes n count rest b fault = tt
+outcome_fault (Err e) bytes n count rest b fault = fault_of_rest bytes n count rest b ∙ fault
+
+pub nothing_on_ok : {T : Type 0} (r : Result T DimacsFault) (P : Type 0) → is_err r ≡ true → OnOk r P
+nothing_on_ok (Ok x) P h = absurd (cc)
+nothing_on_ok (Err e) P h = tt
+
+pub nothing_on_err : {T : Type 0} (r : Result T DimacsFault) (P : Type 0) → is_err r ≡ false → OnErr r P
+nothing_on_err (Ok x) P h = tt
+nothing_on_err (Err e) P h = absurd (cc)
+
+pub always_on_err : {T : Type 0} (r : Result T DimacsFault) (P : Type 0) → P → OnErr r P
+always_on_err (Ok x) P h = tt
+always_on_err (Err e) P h = h
+
+pub vertices-edgeless : (g : PlainGraph) (n : ℕ) → g ≡ edgeless n → HasVertices n g
+vertices-edgeless g n e v = ap (λ (h : PlainGraph). set.contains h.vertices v) e ∙ contains-names_to n v

@@ -1,0 +1,173 @@
+-- The graph that the text spells is the graph with each vertex named by its place.
+use Rattle.std.specs.Prelude.{◌≡◌, ℕ, zero, suc, ◌+◌, ◌<◌, ◌≤◌, ◌⊎◌, Bool, true, false, ◌&&◌, ◌||◌, ◌==◌, List, [], ◌∷◌, ◌++◌, map, Some, refl}
+use Rattle.std.specs.List.{All, list_any, flat_map}
+use Rattle.std.specs.Cmp.{both_ways}
+use Rattle.std.proofs.Common.{ap, sym, ◌∙◌, arith, inl, inr}
+use Rattle.std.proofs.lemmas.Bool.{true≢false, cases_Bool, cases_lt, cases_eq, cases_order, and_parts, and_from, or_cases, or_left, or_right, eqb-true, eq-eqb}
+use Rattle.std.proofs.lemmas.List.Elements.{All-head, All-tail, All-weaker}
+use Rattle.std.proofs.lemmas.List.Folds.{list_any-append}
+use Rattle.std.specs.FinSet as set
+use Rattle.md_graph.specs.declared.TheConstants.{NAMES}
+use Rattle.md_graph.specs.NameSet.{NameSet, Member, ascending, ascending_from, ascending_between}
+use Rattle.md_graph.specs.PlainGraph.{PlainGraph, IsGraph, adjacent, neighbours}
+use Rattle.md_graph.proofs.GraphLemmas.{adjacent_sym, adjacent_ends, contains-neighbours}
+use Rattle.md_dimacs.specs.Line.{words, ends_of}
+use Rattle.md_dimacs.specs.File.{are_ends, joins, Spells}
+use Rattle.md_dimacs.specs.Text.{position, edges_above, edge_places, edge_line, dimacs_text, IsRenamed}
+use Rattle.md_dimacs.specs.Laws.{SpellsRenamed}
+use Rattle.md_dimacs.proofs.FileLemmas.{vertices_read, edges_read, spelled_only, spelled_has_no_fault}
+use Rattle.md_dimacs.proofs.AscendingLemmas.{one_more, no_more, below_low}
+use Rattle.md_dimacs.proofs.RoundTrip.{ArePlaces, position_same, ends-edge_line, all_places, read_back, text_spells}
+
+-- ---- a test of listed members
+
+-- the member that passes
+pub record Passing (s : NameSet) (low n : ℕ) (p : ℕ → Bool) : Type 0 where
+  pub found : ℕ
+  pub member : Member s found
+  pub from : low ≤ found
+  pub passes : p found ≡ true
+
+one_of_more : (p : ℕ → Bool) (xs : List ℕ) (x : ℕ) → list_any p (xs ++ x ∷ []) ≡ true → (list_any p xs ≡ true) ⊎ (p x ≡ true)
+one_of_more p xs x h = elim (or_cases (list_any p xs) (p x || false) (sym (list_any-append p xs (x ∷ [])) ∙ h)) [
+    | inl before ↦ inl before
+    | inr last ↦ elim (or_cases (p x) false last) [ inl here ↦ inr here | inr none ↦ absurd (cc) ]
+  ]
+
+any_from : (p : ℕ → Bool) (s : NameSet) (low n : ℕ) → list_any p (ascending_between s low n) ≡ true → Passing s low n p
+any_from p s low zero h = absurd (let none = ap (list_any p) (below_low s low 0 (omega arith)) in true≢false (sym h ∙ none))
+any_from p s low (suc n) h =
+    elim (cases_lt n low) [
+      | inl under ↦ absurd (let none = ap (list_any p) (below_low s low (suc n) (omega arith)) in true≢false (sym h ∙ none))
+      | inr within ↦ elim (cases_Bool (set.contains s n)) [
+        | inl t ↦ elim (one_of_more p (ascending_between s low n) n (sym (ap (list_any p) (one_more s low n within t)) ∙ h)) [
+          | inl before ↦ let one = any_from p s low n before in record { found = one.found; member = one.member; from = one.from; passes = one.passes }
+          | inr here ↦ record { found = n; member = t; from = within; passes = here }
+        ]
+        | inr f ↦ let one = any_from p s low n (sym (ap (list_any p) (no_more s low n f)) ∙ h) in record { found = one.found; member = one.member; from = one.from; passes = one.passes }
+      ]
+    ]
+
+any_push : (p : ℕ → Bool) (xs : List ℕ) (x : ℕ) → (list_any p xs ≡ true) ⊎ (p x ≡ true) → list_any p (xs ++ x ∷ []) ≡ true
+any_push p xs x (inl before) = list_any-append p xs (x ∷ []) ∙ or_left (list_any p xs) (p x || false) before
+any_push p xs x (inr here) = list_any-append p xs (x ∷ []) ∙ or_right (list_any p xs) (p x || false) (or_left (p x) false here)
+
+any_to : (p : ℕ → Bool) (s : NameSet) (low n w : ℕ) → low ≤ w → w < n → Member s w → p w ≡ true → list_any p (ascending_between s low n) ≡ true
+any_to p s low zero w from below m passes = absurd (omega arith)
+any_to p s low (suc n) w from below m passes =
+    elim (cases_eq w n) [
+      | inl same ↦
+        ap (list_any p) (one_more s low n (omega arith) (sym (ap (set.contains s) same) ∙ m))
+        ∙ any_push p (ascending_between s low n) n (inr (sym (ap p same) ∙ passes))
+      | inr other ↦
+        let before = any_to p s low n w from (omega arith) m passes in
+        elim (cases_Bool (set.contains s n)) [
+          | inl t ↦ ap (list_any p) (one_more s low n (omega arith) t) ∙ any_push p (ascending_between s low n) n (inl before)
+          | inr f ↦ ap (list_any p) (no_more s low n f) ∙ before
+        ]
+    ]
+
+any_map : {X Y : Type 0} (p : Y → Bool) (f : X → Y) (xs : List X) → list_any p (map f xs) ≡ list_any (λ x. p (f x)) xs
+any_map p f [] = refl
+any_map p f (x ∷ xs) = ap (λ b. p (f x) || b) (any_map p f xs)
+
+any_flat_map : {X Y : Type 0} (p : Y → Bool) (f : X → List Y) (xs : List X) → list_any p (flat_map f xs) ≡ list_any (λ x. list_any p (f x)) xs
+any_flat_map p f [] = refl
+any_flat_map p f (x ∷ xs) = list_any-append p (f x) (flat_map f xs) ∙ ap (λ b. list_any p (f x) || b) (any_flat_map p f xs)
+
+any_alike : {X : Type 0} (p q : X → Bool) (xs : List X) → All (λ x. p x ≡ q x) xs → list_any p xs ≡ list_any q xs
+any_alike p q [] all = refl
+any_alike p q (x ∷ xs) all = λ i. All-head (λ x. p x ≡ q x) x xs all i || any_alike p q xs (All-tail (λ x. p x ≡ q x) x xs all) i
+
+-- ---- the edges
+
+-- whether two places are those of the ends a and b
+abbrev at_places : ℕ → ℕ → ℕ × ℕ → Bool
+at_places a b p = are_ends a b (Some p)
+
+lines_join : (g : PlainGraph) → IsGraph g → set.len g.vertices < NAMES → (a b : ℕ) → list_any (joins a b) (map edge_line (edge_places g)) ≡ list_any (at_places a b) (edge_places g)
+lines_join g is small a b =
+    any_map (joins a b) edge_line (edge_places g)
+    ∙ any_alike (λ p. joins a b (edge_line p)) (at_places a b) (edge_places g)
+    (All-weaker (ArePlaces (set.len g.vertices)) (λ p. joins a b (edge_line p) ≡ at_places a b p) (λ p places. ap (are_ends a b) (ends-edge_line (set.len g.vertices) p small places)) (edge_places g) (all_places g is))
+
+-- the test of one row
+abbrev in_row : PlainGraph → ℕ → ℕ → ℕ → Bool
+in_row g a b v = list_any (λ w. at_places a b (position g v, position g w)) (ascending_from (neighbours g v) (v + 1))
+
+rows_join : (g : PlainGraph) (a b : ℕ) → list_any (at_places a b) (edge_places g) ≡ list_any (in_row g a b) (ascending g.vertices)
+unfolding edge_places edges_above
+rows_join g a b =
+    any_flat_map (at_places a b) (edges_above g) (ascending g.vertices) ∙ rows_alike (ascending g.vertices)
+  where
+    rows_alike : (vs : List ℕ) → list_any (λ v. list_any (at_places a b) (edges_above g v)) vs ≡ list_any (in_row g a b) vs
+    rows_alike [] = refl
+    rows_alike (v ∷ vs) = λ i. any_map (at_places a b) (λ w. (position g v, position g w)) (ascending_from (neighbours g v) (v + 1)) i || rows_alike vs i
+
+ends_are : (g : PlainGraph) (u v x y : ℕ) → Member g.vertices u → Member g.vertices v → Member g.vertices x → Member g.vertices y
+    → at_places (position g u) (position g v) (position g x, position g y) ≡ true → ((u ≡ x) × (v ≡ y)) ⊎ ((u ≡ y) × (v ≡ x))
+ends_are g u v x y mu mv mx my h = elim (or_cases _ _ h) [
+    | inl straight ↦
+      let parts = and_parts _ _ straight in
+      inl (position_same g u x mu mx (eqb-true _ _ parts.0), position_same g v y mv my (eqb-true _ _ parts.1))
+    | inr turned ↦
+      let parts = and_parts _ _ turned in
+      inr (position_same g u y mu my (eqb-true _ _ parts.0), position_same g v x mv mx (eqb-true _ _ parts.1))
+  ]
+
+found_edge : (g : PlainGraph) → IsGraph g → (u v : ℕ) → Member g.vertices u → Member g.vertices v
+    → list_any (in_row g (position g u) (position g v)) (ascending g.vertices) ≡ true → adjacent g u v ≡ true
+found_edge g is u v mu mv h =
+    let row = any_from (in_row g (position g u) (position g v)) g.vertices 0 NAMES h in
+    let x = row.found in
+    let end = any_from (λ w. at_places (position g u) (position g v) (position g x, position g w)) (neighbours g x) (x + 1) NAMES row.passes in
+    let y = end.found in
+    let edge : adjacent g x y ≡ true = sym (contains-neighbours is x y) ∙ end.member in
+    elim (ends_are g u v x y mu mv row.member (adjacent_ends is x y edge).1 end.passes) [
+      | inl straight ↦ (λ i. adjacent g (straight.0 i) (straight.1 i)) ∙ edge
+      | inr turned ↦ (λ i. adjacent g (turned.0 i) (turned.1 i)) ∙ adjacent_sym g y x ∙ edge
+    ]
+
+same_places : (a b : ℕ) → at_places a b (a, b) ≡ true
+same_places a b = or_left _ _ (and_from _ _ (eq-eqb a a refl) (eq-eqb b b refl))
+
+turned_places : (a b : ℕ) → at_places a b (b, a) ≡ true
+turned_places a b = or_right _ _ (and_from _ _ (eq-eqb a a refl) (eq-eqb b b refl))
+
+edge_found_at : (g : PlainGraph) → IsGraph g → (a b x y : ℕ) → x < y → adjacent g x y ≡ true → at_places a b (position g x, position g y) ≡ true
+    → list_any (in_row g a b) (ascending g.vertices) ≡ true
+edge_found_at g is a b x y up edge passes =
+    let ends = adjacent_ends is x y edge in
+    any_to (in_row g a b) g.vertices 0 NAMES x (omega arith) (is.names x ends.0) ends.0
+    (any_to (λ w. at_places a b (position g x, position g w)) (neighbours g x) (x + 1) NAMES y (omega arith) (is.names y ends.1) (contains-neighbours is x y ∙ edge) passes)
+
+edge_found : (g : PlainGraph) → IsGraph g → (u v : ℕ) → adjacent g u v ≡ true → list_any (in_row g (position g u) (position g v)) (ascending g.vertices) ≡ true
+edge_found g is u v edge =
+    elim (cases_order u v) [
+      | inl same ↦ absurd ((adjacent_ends is u v edge).2 same)
+      | inr (inl up) ↦ edge_found_at g is (position g u) (position g v) u v up edge (same_places (position g u) (position g v))
+      | inr (inr down) ↦ edge_found_at g is (position g u) (position g v) v u down (adjacent_sym g v u ∙ edge) (turned_places (position g u) (position g v))
+    ]
+
+-- ---- the law
+
+is_renamed : (g : PlainGraph) → IsGraph g → set.len g.vertices < NAMES → IsRenamed g (read_back g)
+is_renamed g is small =
+    let spelled = text_spells g is small in
+    record {
+      vertices = vertices_read (set.len g.vertices) (map edge_line (edge_places g));
+      edges = λ u v mu mv.
+        edges_read (set.len g.vertices) (map edge_line (edge_places g)) (position g u) (position g v) ∙ lines_join g is small (position g u) (position g v) ∙ rows_join g (position g u) (position g v)
+        ∙ both_ways _ _ (found_edge g is u v mu mv) (edge_found g is u v);
+      graph = spelled.graph;
+    }
+
+pub text_is_read : (g : PlainGraph) → IsGraph g → set.len g.vertices < NAMES → SpellsRenamed (dimacs_text g) g
+text_is_read g is small =
+    let spelled = text_spells g is small in
+    record {
+      named = read_back g;
+      renamed = is_renamed g is small;
+      spelled = spelled_only (dimacs_text g) (read_back g) spelled;
+      faultless = spelled_has_no_fault (dimacs_text g) (read_back g) spelled;
+    }

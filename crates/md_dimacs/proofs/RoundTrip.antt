@@ -1,0 +1,331 @@
+-- The text of a graph is read as the graph with each vertex named by its place.
+use Rattle.std.specs.Prelude.{◌≡◌, ◌≢◌, ℕ, zero, suc, ◌+◌, ◌-◌, ◌*◌, ◌^◌, ◌<◌, ◌≤◌, ◌⊎◌, Bool, true, false, cond, not, ◌&&◌, ◌||◌, ◌==◌, nat_lt, nat_le, List, [], ◌∷◌, ◌++◌, length, map, Option, Some, None, codes, sum_by, refl}
+use Rattle.std.specs.List.{All, list_any, flat_map, join_with_byte}
+use Rattle.std.specs.Cmp.{both_ways}
+use Rattle.std.proofs.Common.{subst, ap, sym, ◌∙◌, arith, inl, inr, lit<, add-one, length-append}
+use Rattle.std.proofs.lemmas.Bool.{true≢false, cases_Bool, cases_lt, cases_eq, cases_order, and_parts, and_from, or_cases, or_left, or_right, eqb-true, eqb-false, eq-eqb, ne_eqb, not-true, lt-ltb, le-leb, ltb-true, false_from_ne_true}
+use Rattle.std.proofs.lemmas.Bool.Decides.{nat_tests}
+use Rattle.std.proofs.lemmas.List.Elements.{All-nil, All-cons, All-head, All-tail, All-append, All-push, All-map, All-weaker}
+use Rattle.std.proofs.lemmas.List.Folds.{list_any-append}
+use Rattle.std.specs.FinSet as set
+use Rattle.md_graph.specs.declared.TheConstants.{NAMES}
+use Rattle.md_graph.specs.NameSet.{NameSet, Member, AllBelow, ascending, ascending_from, ascending_between}
+use Rattle.md_graph.specs.PlainGraph.{PlainGraph, PairSet, IsGraph, adjacent, neighbours, pairs_where}
+use Rattle.md_graph.proofs.SetLaws.{contains-empty, contains-insert, contains-remove, len-empty, len-insert, same_set}
+use Rattle.md_graph.proofs.PairLaws.{same_pairs}
+use Rattle.md_graph.proofs.GraphLemmas.{adjacent_sym, adjacent_ends, adjacent_self, contains-edges, contains-neighbours, contains-pairs_where}
+use Rattle.md_graph.proofs.Counting.{rows_twice, rows_le}
+use Rattle.md_text.specs.Lines.{lines, ended, LacksFeed, without_return}
+use Rattle.md_text.specs.Fields.{fields, is_blank, IsWord}
+use Rattle.md_text.specs.Numbers.{decimal, number_of}
+use Rattle.md_text.proofs.LineLemmas.{lines-ended, without_return-stays}
+use Rattle.md_text.proofs.FieldLemmas.{fields-joined}
+use Rattle.md_text.proofs.NumberLemmas.{number_of-decimal, decimal_is_word, decimal_is_digits}
+use Rattle.md_dimacs.specs.Line.{words, class_of_field, is_form, both, sizes_in, ends_in, sizes_of, ends_of, is_vertex}
+use Rattle.md_dimacs.specs.File.{AreSizes, AreEnds, IsPassed, IsPassedOrEdge, are_ends, joins, Spells, SpellsOnly}
+use Rattle.md_dimacs.specs.Read.{edgeless, with_lines}
+use Rattle.md_dimacs.specs.Text.{position, edges_above, edge_places, edge_line, problem_line, dimacs_text, IsRenamed}
+use Rattle.md_dimacs.specs.Laws.{SpellsRenamed}
+use Rattle.md_dimacs.proofs.FileLemmas.{spelled_by_parts, spelled_only, spelled_has_no_fault}
+use Rattle.md_dimacs.proofs.AscendingLemmas.{one_more, no_more, below_low, count_member, count_up_to}
+
+-- ---- how many vertices and edges there are
+
+ascending_agree : (s t : NameSet) (n : ℕ) → ((w : ℕ) → w < n → set.contains s w ≡ set.contains t w) → ascending_between s 0 n ≡ ascending_between t 0 n
+unfolding ascending_between
+ascending_agree s t zero same = refl
+ascending_agree s t (suc n) same =
+    let here = same n (omega arith) in
+    let before = ascending_agree s t n (λ w b. same w (omega arith)) in
+    λ i. before i ++ cond (nat_le 0 n && here i) (n ∷ []) []
+
+-- a set is what is left without n, and n
+with_last : (s : NameSet) (n : ℕ) → set.contains s n ≡ true → s ≡ set.insert (set.remove s n) n
+with_last s n t = same_set s (set.insert (set.remove s n) n) (λ q.
+  sym (contains-insert (set.remove s n) n q ∙ ap (λ b. (q == n) || b) (contains-remove s n q)
+  ∙ elim (cases_eq q n) [
+    | inl same ↦ ap (λ b. b || (not b && set.contains s q)) (eq-eqb q n same) ∙ sym (ap (set.contains s) same ∙ t)
+    | inr other ↦ ap (λ b. b || (not b && set.contains s q)) (ne_eqb q n other)
+  ]))
+
+len-ascending : (n : ℕ) (s : NameSet) → AllBelow s n → set.len s ≡ length (ascending_between s 0 n)
+len-ascending zero s below =
+    ap set.len (same_set s set.empty (λ q. false_from_ne_true _ (λ m. let b = below q m in omega arith) ∙ sym (contains-empty q))) ∙ len-empty
+    ∙ sym (ap length (below_low s 0 0 (omega arith)))
+len-ascending (suc n) s below =
+    elim (cases_Bool (set.contains s n)) [
+      | inl t ↦
+        let rest = set.remove s n in
+        let gone : set.contains rest n ≡ false = contains-remove s n n ∙ ap (λ b. not b && set.contains s n) (eq-eqb n n refl) in
+        let before = len-ascending n rest (λ w m.
+          let parts = and_parts _ _ (sym (contains-remove s n w) ∙ m) in
+          let other = eqb-false w n (not-true _ parts.0) in
+          let b = below w parts.1 in
+          below_other w n b other) in
+        let same = ascending_agree rest s n (λ w b. contains-remove s n w ∙ ap (λ b. not b && set.contains s w) (ne_eqb w n (λ e. omega arith))) in
+        ap set.len (with_last s n t) ∙ len-insert rest n ∙ ap (λ b. cond b (set.len rest) (set.len rest + 1)) gone
+        ∙ ap (λ k. k + 1) (before ∙ ap length same)
+        ∙ sym (ap length (one_more s 0 n (omega arith) t) ∙ length-append (ascending_between s 0 n) (n ∷ []))
+      | inr f ↦
+        len-ascending n s (λ w m. let b = below w m in below_other w n b (λ e. true≢false (sym m ∙ ap (set.contains s) e ∙ f)))
+        ∙ ap length (sym (no_more s 0 n f))
+    ]
+  where
+    below_other : (w n : ℕ) → w < suc n → (w ≡ n → ⊥) → w < n
+    below_other w n b other = elim (cases_order w n) [ inl same ↦ absurd (other same) | inr (inl under) ↦ under | inr (inr over) ↦ omega arith ]
+
+-- a product of two names is a number that can be read
+names_product : NAMES * NAMES < 10 ^ 18
+names_product = lit< tt
+
+edges_are_pairs : (g : PlainGraph) → IsGraph g → g.edges ≡ pairs_where (λ u v. set.contains (neighbours g v) u) NAMES
+edges_are_pairs g is = same_pairs g.edges (pairs_where (λ u v. set.contains (neighbours g v) u) NAMES) (λ u v.
+  contains-edges is u v ∙ by_test u v (adjacent g u v) refl ∙ sym (contains-pairs_where (λ u v. set.contains (neighbours g v) u) NAMES u v))
+  where
+    by_test : (u v : ℕ) (b : Bool) → adjacent g u v ≡ b → (nat_lt u v && adjacent g u v) ≡ ((nat_lt u v && nat_lt v NAMES) && set.contains (neighbours g v) u)
+    by_test u v true e =
+        let name = lt-ltb v NAMES (is.names v (adjacent_ends is u v e).1) in
+        let other = contains-neighbours is v u ∙ adjacent_sym g v u ∙ e in
+        rw (e, name, other) (grind (arith, nat_tests))
+    by_test u v false e =
+        let other = contains-neighbours is v u ∙ adjacent_sym g v u ∙ e in
+        rw (e, other) (grind (arith, nat_tests))
+
+pub len_edges_small : (g : PlainGraph) → IsGraph g → set.len g.edges < 10 ^ 18
+len_edges_small g is =
+    let inside = λ (u v : ℕ) (m : Member (neighbours g u) v). both_members u v m in
+    let twice = rows_twice g.vertices (neighbours g) NAMES inside is.names (λ u v. contains-neighbours is u v ∙ adjacent_sym g u v ∙ sym (contains-neighbours is v u)) (λ v. contains-neighbours is v v ∙ adjacent_self is v) in
+    let most = rows_le g.vertices (neighbours g) NAMES inside is.names in
+    let pairs = ap set.len (edges_are_pairs g is) in
+    let product = names_product in
+    omega arith
+  where
+    both_members : (u v : ℕ) → Member (neighbours g u) v → Member g.vertices u × Member g.vertices v
+    both_members u v m = let ends = adjacent_ends is u v (sym (contains-neighbours is u v) ∙ m) in (ends.0, ends.1)
+
+-- ---- places
+
+position_up : (g : PlainGraph) (v w : ℕ) → v < w → Member g.vertices v → position g v < position g w
+unfolding position
+position_up g v w up m =
+    let next = count_member g.vertices v m in
+    let more = count_up_to g.vertices (v + 1) w (omega arith) in
+    omega arith
+
+pub position_same : (g : PlainGraph) (v w : ℕ) → Member g.vertices v → Member g.vertices w → position g v ≡ position g w → v ≡ w
+position_same g v w mv mw same =
+    elim (cases_order v w) [
+      | inl e ↦ e
+      | inr (inl up) ↦ absurd (let more = position_up g v w up mv in omega arith)
+      | inr (inr down) ↦ absurd (let more = position_up g w v down mw in omega arith)
+    ]
+
+position_first : (g : PlainGraph) (v : ℕ) → 0 < position g v
+unfolding position
+position_first g v = omega arith
+
+position_last : (g : PlainGraph) (v : ℕ) → IsGraph g → Member g.vertices v → position g v ≤ set.len g.vertices
+unfolding position
+position_last g v is m =
+    let all = len-ascending NAMES g.vertices is.names in
+    let next = count_member g.vertices v m in
+    let more = count_up_to g.vertices (v + 1) NAMES (let name = is.names v m in omega arith) in
+    omega arith
+
+-- ---- the words of the lines
+
+-- no byte is a control byte
+abbrev Plain : List ℕ → Type 0
+Plain text = All (λ byte. 32 ≤ byte) text
+
+plain-cons : (byte : ℕ) (text : List ℕ) → 32 ≤ byte → Plain text → Plain (byte ∷ text)
+plain-cons byte text h all = All-cons (λ byte. 32 ≤ byte) byte text h all
+
+plain-append : (a b : List ℕ) → Plain a → Plain b → Plain (a ++ b)
+plain-append a b pa pb = All-append (λ byte. 32 ≤ byte) a b pa pb
+
+plain-decimal : (n : ℕ) → Plain (decimal n)
+plain-decimal n = All-weaker (λ byte. (48 ≤ byte) × (byte ≤ 57)) (λ byte. 32 ≤ byte) (λ byte d. let low = d.0 in omega arith) (decimal n) (decimal_is_digits n)
+
+plain-pair : (a b : List ℕ) → Plain a → Plain b → Plain (a ++ 32 ∷ b)
+plain-pair a b pa pb = plain-append a (32 ∷ b) pa (plain-cons 32 b (omega arith) pb)
+
+plain-after_e : (text : List ℕ) → Plain text → Plain (101 ∷ 32 ∷ text)
+plain-after_e text p = plain-cons 101 (32 ∷ text) (omega arith) (plain-cons 32 text (omega arith) p)
+
+plain-after_edge : (text : List ℕ) → Plain text → Plain (101 ∷ 100 ∷ 103 ∷ 101 ∷ 32 ∷ text)
+plain-after_edge text p =
+    plain-cons 101 (100 ∷ 103 ∷ 101 ∷ 32 ∷ text) (omega arith) (plain-cons 100 (103 ∷ 101 ∷ 32 ∷ text) (omega arith) (plain-cons 103 (101 ∷ 32 ∷ text) (omega arith) (plain-after_e text p)))
+
+plain-after_p : (text : List ℕ) → Plain text → Plain (112 ∷ 32 ∷ text)
+plain-after_p text p = plain-cons 112 (32 ∷ text) (omega arith) (plain-cons 32 text (omega arith) p)
+
+plain-edge_line : (p : ℕ × ℕ) → Plain (edge_line p)
+unfolding edge_line
+plain-edge_line p =
+    plain-after_e (decimal p.0 ++ 32 ∷ decimal p.1) (plain-pair (decimal p.0) (decimal p.1) (plain-decimal p.0) (plain-decimal p.1))
+
+plain-problem_line : (g : PlainGraph) → Plain (problem_line g)
+unfolding problem_line
+plain-problem_line g =
+    let n = set.len g.vertices in
+    let m = set.len g.edges in
+    let numbers = decimal n ++ 32 ∷ decimal m in
+    plain-after_p (101 ∷ 100 ∷ 103 ∷ 101 ∷ 32 ∷ numbers) (plain-after_edge numbers (plain-pair (decimal n) (decimal m) (plain-decimal n) (plain-decimal m)))
+
+lacks_feed : (text : List ℕ) → Plain text → LacksFeed text
+lacks_feed text p = All-weaker (λ byte. 32 ≤ byte) (λ byte. byte ≢ 10) (λ byte h e. omega arith) text p
+
+stays : (text : List ℕ) → Plain text → without_return text ≡ text
+stays text p = without_return-stays text (All-weaker (λ byte. 32 ≤ byte) (λ byte. byte ≢ 13) (λ byte h e. omega arith) text p)
+
+words_of_joined : (ws : List (List ℕ)) → Plain (join_with_byte 32 ws) → All IsWord ws → words (join_with_byte 32 ws) ≡ ws
+words_of_joined ws p all = ap fields (stays (join_with_byte 32 ws) p) ∙ fields-joined ws all
+
+-- a letter is no blank
+abbrev IsNoBlank : ℕ → Type 0
+IsNoBlank byte = is_blank byte ≡ false
+
+word_e : IsWord (codes "e")
+word_e = record { some_byte = omega arith; no_blank = All-cons IsNoBlank 101 [] refl (All-nil IsNoBlank) }
+
+word_p : IsWord (codes "p")
+word_p = record { some_byte = omega arith; no_blank = All-cons IsNoBlank 112 [] refl (All-nil IsNoBlank) }
+
+word_edge : IsWord (codes "edge")
+word_edge = record {
+  some_byte = omega arith;
+  no_blank =
+    All-cons IsNoBlank 101 (100 ∷ 103 ∷ 101 ∷ []) refl (All-cons IsNoBlank 100 (103 ∷ 101 ∷ []) refl
+    (All-cons IsNoBlank 103 (101 ∷ []) refl (All-cons IsNoBlank 101 [] refl (All-nil IsNoBlank))));
+}
+
+words-edge_line : (p : ℕ × ℕ) → words (edge_line p) ≡ codes "e" ∷ decimal p.0 ∷ decimal p.1 ∷ []
+unfolding edge_line
+words-edge_line p =
+    let i = decimal p.0 in
+    let j = decimal p.1 in
+    words_of_joined (codes "e" ∷ i ∷ j ∷ []) (plain-edge_line p)
+    (All-cons IsWord (codes "e") (i ∷ j ∷ []) word_e (All-cons IsWord i (j ∷ []) (decimal_is_word p.0) (All-cons IsWord j [] (decimal_is_word p.1) (All-nil IsWord))))
+
+words-problem_line : (g : PlainGraph) → words (problem_line g) ≡ codes "p" ∷ codes "edge" ∷ decimal (set.len g.vertices) ∷ decimal (set.len g.edges) ∷ []
+unfolding problem_line
+words-problem_line g =
+    let n = decimal (set.len g.vertices) in
+    let m = decimal (set.len g.edges) in
+    words_of_joined (codes "p" ∷ codes "edge" ∷ n ∷ m ∷ []) (plain-problem_line g)
+    (All-cons IsWord (codes "p") (codes "edge" ∷ n ∷ m ∷ []) word_p (All-cons IsWord (codes "edge") (n ∷ m ∷ []) word_edge
+    (All-cons IsWord n (m ∷ []) (decimal_is_word (set.len g.vertices)) (All-cons IsWord m [] (decimal_is_word (set.len g.edges)) (All-nil IsWord)))))
+
+-- ---- what the lines name
+
+numbers_read : (n m : ℕ) → n < 10 ^ 18 → m < 10 ^ 18 → both (number_of (decimal n)) (number_of (decimal m)) ≡ Some (n, m)
+numbers_read n m hn hm = λ i. both (number_of-decimal n hn i) (number_of-decimal m hm i)
+
+ends_read : (i j : ℕ) → i < 10 ^ 18 → j < 10 ^ 18 → ends_of (codes "e" ∷ decimal i ∷ decimal j ∷ []) ≡ Some (i, j)
+unfolding class_of_field ends_in
+ends_read i j hi hj = numbers_read i j hi hj
+
+sizes_read : (n m : ℕ) → n < 10 ^ 18 → m < 10 ^ 18 → sizes_of (codes "p" ∷ codes "edge" ∷ decimal n ∷ decimal m ∷ []) ≡ Some (n, m)
+unfolding class_of_field sizes_in is_form
+sizes_read n m hn hm = numbers_read n m hn hm
+
+-- two places of n, the lower first
+pub record ArePlaces (n : ℕ) (p : ℕ × ℕ) : Type 0 where
+  pub low : 0 < p.0
+  pub up : p.0 < p.1
+  pub last : p.1 ≤ n
+
+names_below_digits : NAMES < 10 ^ 18
+names_below_digits = lit< tt
+
+pub ends-edge_line : (n : ℕ) (p : ℕ × ℕ) → n < NAMES → ArePlaces n p → ends_of (words (edge_line p)) ≡ Some (p.0, p.1)
+ends-edge_line n p small places =
+    let low = places.low in let up = places.up in let last = places.last in let digits = names_below_digits in
+    ap ends_of (words-edge_line p) ∙ ends_read p.0 p.1 (omega arith) (omega arith)
+
+edge_line_is : (n : ℕ) (p : ℕ × ℕ) → n < NAMES → ArePlaces n p → IsPassedOrEdge n (edge_line p)
+edge_line_is n p small places =
+    let low = places.low in let up = places.up in let last = places.last in
+    inr (record {
+      first = p.0;
+      second = p.1;
+      numbers = ends-edge_line n p small places;
+      first_vertex = and_from _ _ (lt-ltb 0 p.0 (omega arith)) (le-leb p.0 n (omega arith));
+      second_vertex = and_from _ _ (lt-ltb 0 p.1 (omega arith)) (le-leb p.1 n (omega arith));
+      differ = λ e. omega arith;
+    })
+
+problem_line_is : (g : PlainGraph) → IsGraph g → set.len g.vertices < NAMES → AreSizes (set.len g.vertices) (sizes_of (words (problem_line g)))
+problem_line_is g is small =
+    let digits = names_below_digits in
+    record {
+      edge_count = set.len g.edges;
+      numbers = ap sizes_of (words-problem_line g) ∙ sizes_read (set.len g.vertices) (set.len g.edges) (omega arith) (len_edges_small g is);
+      named = small;
+    }
+
+-- ---- all lines
+
+-- a member from low on and below n
+record Listed (s : NameSet) (low n w : ℕ) : Type 0 where
+  member : Member s w
+  from : low ≤ w
+  below : w < n
+
+listed_more : (s : NameSet) (low n w : ℕ) → Listed s low n w → Listed s low (suc n) w
+listed_more s low n w l = record { member = l.member; from = l.from; below = let b = l.below in omega arith }
+
+all_listed : (s : NameSet) (low n : ℕ) → All (Listed s low n) (ascending_between s low n)
+all_listed s low zero = subst (All (Listed s low 0)) (sym (below_low s low 0 (omega arith))) (All-nil (Listed s low 0))
+all_listed s low (suc n) =
+    let before = All-weaker (Listed s low n) (Listed s low (suc n)) (listed_more s low n) (ascending_between s low n) (all_listed s low n) in
+    elim (cases_lt n low) [
+      | inl under ↦ subst (All (Listed s low (suc n))) (sym (below_low s low (suc n) (omega arith))) (All-nil (Listed s low (suc n)))
+      | inr within ↦ elim (cases_Bool (set.contains s n)) [
+        | inl t ↦ subst (All (Listed s low (suc n))) (sym (one_more s low n within t)) (All-push (Listed s low (suc n)) (ascending_between s low n) n before (record { member = t; from = within; below = omega arith }))
+        | inr f ↦ subst (All (Listed s low (suc n))) (sym (no_more s low n f)) before
+      ]
+    ]
+
+All-flat_map : {X Y : Type 0} (P : X → Type 0) (Q : Y → Type 0) (f : X → List Y) (xs : List X) → All P xs → ((x : X) → P x → All Q (f x)) → All Q (flat_map f xs)
+All-flat_map P Q f [] all each = All-nil Q
+All-flat_map P Q f (x ∷ xs) all each = All-append Q (f x) (flat_map f xs) (each x (All-head P x xs all)) (All-flat_map P Q f xs (All-tail P x xs all) each)
+
+places_of_row : (g : PlainGraph) → IsGraph g → (v : ℕ) → Listed g.vertices 0 NAMES v → All (ArePlaces (set.len g.vertices)) (edges_above g v)
+unfolding edges_above
+places_of_row g is v lv =
+    All-map (ArePlaces (set.len g.vertices)) (λ w. (position g v, position g w)) (ascending_from (neighbours g v) (v + 1))
+    (All-weaker (Listed (neighbours g v) (v + 1) NAMES) (λ w. ArePlaces (set.len g.vertices) (position g v, position g w)) (λ w lw.
+      let mw = (adjacent_ends is v w (sym (contains-neighbours is v w) ∙ lw.member)).1 in
+      let from = lw.from in
+      record {
+        low = position_first g v;
+        up = position_up g v w (omega arith) lv.member;
+        last = position_last g w is mw;
+      }) (ascending_from (neighbours g v) (v + 1)) (all_listed (neighbours g v) (v + 1) NAMES))
+
+pub all_places : (g : PlainGraph) → IsGraph g → All (ArePlaces (set.len g.vertices)) (edge_places g)
+unfolding edge_places
+all_places g is = All-flat_map (Listed g.vertices 0 NAMES) (ArePlaces (set.len g.vertices)) (edges_above g) (ascending g.vertices) (all_listed g.vertices 0 NAMES) (places_of_row g is)
+
+text_lines : (g : PlainGraph) → lines (dimacs_text g) ≡ problem_line g ∷ map edge_line (edge_places g)
+unfolding dimacs_text
+text_lines g =
+    lines-ended (problem_line g ∷ map edge_line (edge_places g))
+    (All-cons LacksFeed (problem_line g) (map edge_line (edge_places g)) (lacks_feed (problem_line g) (plain-problem_line g))
+    (All-map LacksFeed edge_line (edge_places g) (all_lack (edge_places g))))
+  where
+    all_lack : (ps : List (ℕ × ℕ)) → All (λ p. LacksFeed (edge_line p)) ps
+    all_lack [] = All-nil (λ p. LacksFeed (edge_line p))
+    all_lack (p ∷ ps) = All-cons (λ p. LacksFeed (edge_line p)) p ps (lacks_feed (edge_line p) (plain-edge_line p)) (all_lack ps)
+
+-- the graph that the text spells
+abbrev pub read_back : PlainGraph → PlainGraph
+read_back g = with_lines (edgeless (set.len g.vertices)) (map edge_line (edge_places g))
+
+pub text_spells : (g : PlainGraph) → IsGraph g → set.len g.vertices < NAMES → Spells (dimacs_text g) (read_back g)
+text_spells g is small =
+    spelled_by_parts (dimacs_text g) (set.len g.vertices) [] (problem_line g) (map edge_line (edge_places g)) (text_lines g) (All-nil IsPassed) (problem_line_is g is small)
+    (All-map (IsPassedOrEdge (set.len g.vertices)) edge_line (edge_places g)
+    (All-weaker (ArePlaces (set.len g.vertices)) (λ p. IsPassedOrEdge (set.len g.vertices) (edge_line p)) (λ p places. edge_line_is (set.len g.vertices) p small places) (edge_places g) (all_places g is)))

@@ -1,0 +1,103 @@
+-- The text of a graph, row by row.
+use Rattle.std.specs.Prelude.{◌≡◌, ℕ, zero, suc, ◌+◌, ◌<◌, ◌≤◌, List, [], ◌∷◌, ◌++◌, length, take, map, codes, refl}
+use Rattle.std.specs.List.{flat_map, join_with_byte}
+use Rattle.std.proofs.Common.{subst, ap, sym, ◌∙◌, arith, append_assoc}
+use Rattle.std.proofs.lemmas.List.{map-append, append-nil}
+use Rattle.std.specs.FinSet as set
+use Rattle.md_graph.specs.declared.TheConstants.{NAMES}
+use Rattle.md_graph.specs.NameSet.{Member, ascending, ascending_from}
+use Rattle.md_graph.specs.PlainGraph.{PlainGraph, IsGraph, adjacent, neighbours}
+use Rattle.md_text.specs.Lines.{ended}
+use Rattle.md_text.specs.Numbers.{decimal}
+use Rattle.md_text.proofs.LineLemmas.{ended-nil, ended-cons}
+use Rattle.md_dimacs.specs.Text.{position, edges_above, edge_places, edge_line, problem_line, dimacs_text}
+use Rattle.md_dimacs.specs.Places.{line_start, row_text, edges_text}
+
+pub ended-append : (xs ys : List (List ℕ)) → ended (xs ++ ys) ≡ ended xs ++ ended ys
+ended-append [] ys = ap (λ l. l ++ ended ys) (sym ended-nil)
+ended-append (x ∷ xs) ys =
+    ended-cons x (xs ++ ys) ∙ ap (λ l. (x ++ 10 ∷ []) ++ l) (ended-append xs ys)
+    ∙ sym (append_assoc (x ++ 10 ∷ []) (ended xs) (ended ys)) ∙ ap (λ l. l ++ ended ys) (sym (ended-cons x xs))
+
+-- ---- one row
+
+-- the pair of the places of v and w
+abbrev pub places_of : PlainGraph → ℕ → ℕ → ℕ × ℕ
+places_of g v w = (position g v, position g w)
+
+-- the lines of the edges between v and the listed names
+abbrev pub row_lines : PlainGraph → ℕ → List ℕ → List ℕ
+row_lines g v ws = ended (map edge_line (map (places_of g v) ws))
+
+pub row_text_is : (g : PlainGraph) (v : ℕ) (ws : List ℕ) → ws ≡ ascending_from (neighbours g v) (v + 1) → row_lines g v ws ≡ row_text g v
+unfolding row_text edges_above
+row_text_is g v ws e = ap (row_lines g v) e
+
+line_cut : (a b : List ℕ) → ((101 ∷ 32 ∷ (a ++ 32 ∷ b)) ++ 10 ∷ []) ≡ ((101 ∷ 32 ∷ (a ++ 32 ∷ [])) ++ (b ++ 10 ∷ []))
+line_cut a b = ap (λ l. 101 ∷ 32 ∷ l) (append_assoc a (32 ∷ b) (10 ∷ []) ∙ sym (append_assoc a (32 ∷ []) (b ++ 10 ∷ [])))
+
+pub row_lines-cons : (g : PlainGraph) (v w : ℕ) (ws : List ℕ) → row_lines g v (w ∷ ws) ≡ (line_start g v ++ (decimal (position g w) ++ 10 ∷ [])) ++ row_lines g v ws
+unfolding edge_line
+row_lines-cons g v w ws =
+    ended-cons (edge_line (places_of g v w)) (map edge_line (map (places_of g v) ws))
+    ∙ ap (λ l. l ++ row_lines g v ws) (line_cut (decimal (position g v)) (decimal (position g w)))
+
+-- what is gathered, and the lines that are still to come, stay the same text
+pub row_step : (g : PlainGraph) (v w : ℕ) (xs ws : List ℕ) (text new_text held roomed started placed start place total : List ℕ)
+    → (text ++ held) ++ row_lines g v xs ≡ total → xs ≡ w ∷ ws → new_text ++ roomed ≡ text ++ held → started ≡ roomed ++ start → placed ≡ started ++ place
+    → start ≡ line_start g v → place ≡ decimal (position g w) ++ 10 ∷ [] → (new_text ++ placed) ++ row_lines g v ws ≡ total
+row_step g v w xs ws text new_text held roomed started placed start place total before cut room one two is_start is_place =
+    let line = line_start g v ++ (decimal (position g w) ++ 10 ∷ []) in
+    let now : placed ≡ roomed ++ line = two ∙ ap (λ l. l ++ place) one ∙ append_assoc roomed start place ∙ ap (λ l. roomed ++ l) (λ i. is_start i ++ is_place i) in
+    ap (λ l. (new_text ++ l) ++ row_lines g v ws) now
+    ∙ ap (λ l. l ++ row_lines g v ws) (sym (append_assoc new_text roomed line) ∙ ap (λ l. l ++ line) room)
+    ∙ append_assoc (text ++ held) line (row_lines g v ws)
+    ∙ ap (λ l. (text ++ held) ++ l) (sym (ap (row_lines g v) cut ∙ row_lines-cons g v w ws))
+    ∙ before
+
+pub row_end : (g : PlainGraph) (v : ℕ) (xs held total : List ℕ) → held ++ row_lines g v xs ≡ total → xs ≡ [] → held ≡ total
+row_end g v xs held total before e = sym (append-nil held) ∙ ap (λ l. held ++ l) (sym (ap (row_lines g v) e ∙ ended-nil)) ∙ before
+
+-- ---- all rows
+
+abbrev pub rows_lines : PlainGraph → List ℕ → List ℕ
+rows_lines g vs = ended (map edge_line (flat_map (edges_above g) vs))
+
+pub edges_text_is : (g : PlainGraph) (vs : List ℕ) → vs ≡ ascending g.vertices → rows_lines g vs ≡ edges_text g
+unfolding edges_text edge_places
+edges_text_is g vs e = ap (rows_lines g) e
+
+rows_lines-cons : (g : PlainGraph) (v : ℕ) (vs : List ℕ) → rows_lines g (v ∷ vs) ≡ row_text g v ++ rows_lines g vs
+unfolding row_text
+rows_lines-cons g v vs =
+    ap ended (map-append edge_line (edges_above g v) (flat_map (edges_above g) vs))
+    ∙ ended-append (map edge_line (edges_above g v)) (map edge_line (flat_map (edges_above g) vs))
+
+pub rows_step : (g : PlainGraph) (v : ℕ) (xs vs held new_held total : List ℕ) → held ++ rows_lines g xs ≡ total → xs ≡ v ∷ vs → new_held ≡ held ++ row_text g v
+    → new_held ++ rows_lines g vs ≡ total
+rows_step g v xs vs held new_held total before cut more =
+    ap (λ l. l ++ rows_lines g vs) more ∙ append_assoc held (row_text g v) (rows_lines g vs)
+    ∙ ap (λ l. held ++ l) (sym (ap (rows_lines g) cut ∙ rows_lines-cons g v vs)) ∙ before
+
+pub rows_end : (g : PlainGraph) (xs held total : List ℕ) → held ++ rows_lines g xs ≡ total → xs ≡ [] → held ≡ total
+rows_end g xs held total before e = sym (append-nil held) ∙ ap (λ l. held ++ l) (sym (ap (rows_lines g) e ∙ ended-nil)) ∙ before
+
+-- ---- the whole text
+
+pub text_is : (g : PlainGraph) (head text : List ℕ) → head ≡ problem_line g ++ 10 ∷ [] → text ≡ head ++ edges_text g → text ≡ dimacs_text g
+unfolding dimacs_text edges_text
+text_is g head text e more = more ∙ ap (λ l. l ++ edges_text g) e ∙ sym (ended-cons (problem_line g) (map edge_line (edge_places g)))
+
+head_cut : (a b : List ℕ) → (((112 ∷ 32 ∷ 101 ∷ 100 ∷ 103 ∷ 101 ∷ 32 ∷ []) ++ (a ++ 32 ∷ [])) ++ (b ++ 10 ∷ [])) ≡ ((112 ∷ 32 ∷ 101 ∷ 100 ∷ 103 ∷ 101 ∷ 32 ∷ (a ++ 32 ∷ b)) ++ 10 ∷ [])
+head_cut a b = ap (λ l. 112 ∷ 32 ∷ 101 ∷ 100 ∷ 103 ∷ 101 ∷ 32 ∷ l) (append_assoc a (32 ∷ []) (b ++ 10 ∷ []) ∙ sym (append_assoc a (32 ∷ b) (10 ∷ [])))
+
+pub head_is : (g : PlainGraph) (n m : ℕ) (word one two : List ℕ) → word ≡ codes "p edge " → n ≡ set.len g.vertices → m ≡ set.len g.edges
+    → one ≡ word ++ (decimal n ++ 32 ∷ []) → two ≡ one ++ (decimal m ++ 10 ∷ []) → two ≡ problem_line g ++ 10 ∷ []
+unfolding problem_line
+head_is g n m word one two is_word is_n is_m first second =
+    second ∙ ap (λ l. l ++ (decimal m ++ 10 ∷ [])) (first ∙ ap (λ l. l ++ (decimal n ++ 32 ∷ [])) is_word)
+    ∙ head_cut (decimal n) (decimal m)
+    ∙ (λ i. (112 ∷ 32 ∷ 101 ∷ 100 ∷ 103 ∷ 101 ∷ 32 ∷ (decimal (is_n i) ++ 32 ∷ decimal (is_m i))) ++ 10 ∷ [])
+
+pub start_is : (g : PlainGraph) (v place : ℕ) (start : List ℕ) → start ≡ codes "e " ++ (decimal place ++ 32 ∷ []) → place ≡ position g v → start ≡ line_start g v
+start_is g v place start e is_place = e ∙ ap (λ k. codes "e " ++ (decimal k ++ 32 ∷ [])) is_place

@@ -1,0 +1,39 @@
+use Rattle.std.proofs.Common.{arith, sym, ◌∙◌}
+use Rattle.md_text.specs.Lines.{lines}
+use Rattle.md_dimacs.proofs.ReadLemmas.{outcome_spells, outcome_faultless, outcome_fault, nothing_on_ok, nothing_on_err, always_on_err, vertices-edgeless}
+use Rattle.md_dimacs.proofs.reader.read.Goals as goal
+
+pub add_vertices-requires-clause-named : goal.add_vertices-requires-clause-named
+add_vertices-requires-clause-named c = c.in_ok-n.ensures.found.problem_line.named
+
+pub read_edges-outcome-requires-clause-vertices : goal.read_edges-outcome-requires-clause-vertices
+read_edges-outcome-requires-clause-vertices c = vertices-edgeless c.add_vertices.new.graph c.in_ok-n.n c.add_vertices.ensures
+
+pub returns-then-is_err-clause-spells : goal.returns-then-is_err-clause-spells
+returns-then-is_err-clause-spells c = nothing_on_ok c.read_edges-outcome.result _ (sym c.is_err.ensures.value ∙ c.if-is_err.true)
+
+pub returns-then-is_err-clause-faultless : goal.returns-then-is_err-clause-faultless
+returns-then-is_err-clause-faultless c = nothing_on_ok c.read_edges-outcome.result _ (sym c.is_err.ensures.value ∙ c.if-is_err.true)
+
+pub returns-then-is_err-clause-fault : goal.returns-then-is_err-clause-fault
+returns-then-is_err-clause-fault c =
+    outcome_fault c.read_edges-outcome.result c.args.bytes.now c.in_ok-n.n c.in_ok-n.count (lines c.in_ok-n.rest.now) c.in_ok-n.ensures.found c.read_edges-outcome.ensures.fault
+
+pub returns-then-is_err-clause-refused : goal.returns-then-is_err-clause-refused
+returns-then-is_err-clause-refused c = always_on_err c.read_edges-outcome.result _ c.clear.ensures
+
+pub returns-else-is_err-clause-spells : goal.returns-else-is_err-clause-spells
+returns-else-is_err-clause-spells c =
+    outcome_spells c.read_edges-outcome.result c.args.bytes.now c.in_ok-n.n c.in_ok-n.count (lines c.in_ok-n.rest.now) c.add_vertices.new.graph c.read_edges-outcome.new.graph
+    c.in_ok-n.ensures.found c.add_vertices.ensures c.read_edges-outcome.ensures.faultless c.read_edges-outcome.ensures.added
+
+pub returns-else-is_err-clause-faultless : goal.returns-else-is_err-clause-faultless
+returns-else-is_err-clause-faultless c =
+    outcome_faultless c.read_edges-outcome.result c.args.bytes.now c.in_ok-n.n c.in_ok-n.count (lines c.in_ok-n.rest.now) c.in_ok-n.ensures.found c.read_edges-outcome.ensures.faultless
+
+pub returns-else-is_err-clause-fault : goal.returns-else-is_err-clause-fault
+returns-else-is_err-clause-fault c =
+    outcome_fault c.read_edges-outcome.result c.args.bytes.now c.in_ok-n.n c.in_ok-n.count (lines c.in_ok-n.rest.now) c.in_ok-n.ensures.found c.read_edges-outcome.ensures.fault
+
+pub returns-else-is_err-clause-refused : goal.returns-else-is_err-clause-refused
+returns-else-is_err-clause-refused c = nothing_on_err c.read_edges-outcome.result _ (sym c.is_err.ensures.value ∙ c.if-is_err.false)

@@ -1,0 +1,50 @@
+use Rattle.std.proofs.Common.{arith, ap, sym, ◌∙◌, ◌+◌, ◌++◌, take, append_assoc}
+use Rattle.std.proofs.lemmas.List.{append-nil}
+use Rattle.md_graph.specs.NameSet.{ascending}
+use Rattle.md_graph.specs.Rows.{row_of}
+use Rattle.md_dimacs.specs.Places.{text_of, line_start}
+use Rattle.md_dimacs.proofs.AscendingLemmas.{NextUp, coming_all, next_up, place_small, position_is}
+use Rattle.md_dimacs.proofs.PieceLemmas.{if_ok}
+use Rattle.md_dimacs.proofs.TextLemmas.{rows_lines, edges_text_is, start_is, rows_step, rows_end}
+use Rattle.md_dimacs.proofs.writer.write_edges.Goals as goal
+
+pub loop-v-init : goal.loop-v-init
+loop-v-init c =
+    let list = c.into_iter-v-iterator.ensures.into_iter_gives ∙ c.members-v-items.ensures.list ∙ ap ascending c.vertices.ensures.set in
+    record {
+      within = omega arith;
+      coming = (0, coming_all c.args.graph.now.vertices _ list);
+      written = ap (λ l. l ++ rows_lines c.args.graph.now c.into_iter-v-iterator.result) (append-nil c.args.text.now.items) ∙ ap (λ l. c.args.text.now.items ++ l) (edges_text_is c.args.graph.now _ list);
+    }
+
+pub overflow_add-place : goal.overflow_add-place
+overflow_add-place c =
+    let small = place_small c.args.graph.now.vertices _ _ _ _ (next_up c.args.graph.now.vertices c.loop-v.invariant.coming.0 c.loop-v.place _ c.in-Some.v _ c.loop-v.invariant.coming.1 c.in-Some.ensures.steps) in
+    omega arith
+
+pub start_piece-requires : goal.start_piece-requires
+start_piece-requires c =
+    place_small c.args.graph.now.vertices _ _ _ _ (next_up c.args.graph.now.vertices c.loop-v.invariant.coming.0 c.loop-v.place _ c.in-Some.v _ c.loop-v.invariant.coming.1 c.in-Some.ensures.steps)
+
+pub write_row-requires-clause-name : goal.write_row-requires-clause-name
+write_row-requires-clause-name c =
+    (next_up c.args.graph.now.vertices c.loop-v.invariant.coming.0 c.loop-v.place _ c.in-Some.v _ c.loop-v.invariant.coming.1 c.in-Some.ensures.steps).name
+
+pub write_row-requires-clause-start : goal.write_row-requires-clause-start
+write_row-requires-clause-start c =
+    let up = next_up c.args.graph.now.vertices c.loop-v.invariant.coming.0 c.loop-v.place _ c.in-Some.v _ c.loop-v.invariant.coming.1 c.in-Some.ensures.steps in
+    start_is c.args.graph.now c.in-Some.v (c.loop-v.place + 1) (text_of c.start_piece.result) c.start_piece.ensures (position_is c.args.graph.now c.in-Some.v c.loop-v.place up.placed)
+
+pub loop-v-preserved : goal.loop-v-preserved
+loop-v-preserved c =
+    let up = next_up c.args.graph.now.vertices c.loop-v.invariant.coming.0 c.loop-v.place _ c.in-Some.v _ c.loop-v.invariant.coming.1 c.in-Some.ensures.steps in
+    record {
+      within = c.in_ok-at.ensures.within;
+      coming = (c.in-Some.v + 1, up.after);
+      written = rows_step c.args.graph.now c.in-Some.v _ _ _ _ _ c.loop-v.invariant.written c.in-Some.ensures.steps c.in_ok-at.ensures.written;
+    }
+
+pub returns : goal.returns
+returns c =
+    let items = if_ok c.extend_from_slice.result _ _ _ (sym c.is_err.ensures.value ∙ c.if-is_err.false) c.extend_from_slice.ensures.items in
+    items ∙ rows_end c.args.graph.now _ _ _ c.loop-v.invariant.written c.in-None.ensures.steps.0

@@ -1,0 +1,33 @@
+-- The places of vertices, spelled as pieces of text.
+use Rattle.std.specs.Prelude.{◌≡◌, ℕ, ◌<◌, List, [], ◌∷◌, ◌++◌, length, take, map, slice_index_or, codes}
+use Rattle.md_graph.specs.NameSet.{Member}
+use Rattle.md_graph.specs.PlainGraph.{PlainGraph}
+use Rattle.md_text.specs.Lines.{ended}
+use Rattle.md_text.specs.Numbers.{decimal}
+use Rattle.md_dimacs.specs.declared.piece.Piece.{Piece}
+use Rattle.md_dimacs.specs.Text.{position, edges_above, edge_places, edge_line}
+
+-- the text of a piece
+abbrev pub text_of : Piece → List ℕ
+text_of piece = take piece.used piece.bytes
+
+-- the piece at index w is the place of the vertex w, and a line feed
+pub record IsPlaceOf (g : PlainGraph) (places : List Piece) (w : ℕ) : Type 0 where
+  pub there : w < length places
+  pub text : (other : Piece) → text_of (slice_index_or places w other) ≡ decimal (position g w) ++ 10 ∷ []
+
+-- each vertex has its place at its index
+abbrev pub ArePlaces : PlainGraph → List Piece → Type 0
+ArePlaces g places = (w : ℕ) → Member g.vertices w → IsPlaceOf g places w
+
+-- `e i `, which begins each line of the edges of v to the vertices above it
+abbrev pub line_start : PlainGraph → ℕ → List ℕ
+line_start g v = codes "e " ++ (decimal (position g v) ++ 32 ∷ [])
+
+-- the lines of the edges of v to the vertices above it
+unfoldable pub row_text : PlainGraph → ℕ → List ℕ
+row_text g v = ended (map edge_line (edges_above g v))
+
+-- the lines of all edges
+unfoldable pub edges_text : PlainGraph → List ℕ
+edges_text g = ended (map edge_line (edge_places g))

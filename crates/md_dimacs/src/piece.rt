@@ -1,0 +1,11 @@
+//! Short texts that are copied whole, eight bytes at a time.
+ghost use Rattle.std.specs.Prelude.{◌≤◌};
+
+
+/// A text of at most eight bytes: the first `used` of `bytes`.
+#[derive(Clone, Copy)]
+pub(crate) struct Piece {
+    pub(crate) bytes: [u8; 8],
+    pub(crate) used: usize,
+    ghost within: { used ≤ 8 },
+}

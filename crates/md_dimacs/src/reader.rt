@@ -1,0 +1,156 @@
+//! Reads a DIMACS edge file.
+ghost use Rattle.std.specs.Prelude.{
+    ◌≡◌, ◌≢◌, ◌<◌, ◌≤◌, ◌+◌, ◌^◌, length, None, Some, MatchOption, IfOk, IfErr, OnOk, OnErr,
+};
+ghost use Rattle.md_graph.specs.PlainGraph.{empty_graph, with_edge};
+ghost use Rattle.md_graph.specs.NameSet.{Member};
+ghost use Rattle.md_text.specs.Lines.{lines};
+ghost use Rattle.md_text.specs.Fields.{fields};
+ghost use Rattle.md_dimacs.specs.declared.line.LineClass.TheVariants.{Passed};
+ghost use Rattle.md_dimacs.specs.Line.{class_of, sizes_of, ends_of, fault_of_words};
+ghost use Rattle.md_dimacs.specs.File.{Spells, AreSizes, fault_behind, first_fault};
+ghost use Rattle.md_dimacs.specs.Read.{IsBehindProblem, HasVertices, edgeless, with_ends, with_lines};
+
+use md_graph::{Graph, NAMES};
+use md_text::{split_field, split_line, without_return};
+
+use crate::line::{LineClass, class_of, read_ends, read_problem};
+use crate::{DimacsFault, DimacsKind};
+
+/// Reads the graph that the bytes of a DIMACS edge file spell: the vertices 1 to N of its problem line, and
+/// the edges of its edge lines, each once. It takes no memory. Condition: the graph has no vertices.
+///
+/// # Errors
+///
+/// It refuses exactly where the file has a fault, and names the first; the graph then has no vertices.
+pub fn read(bytes: &[u8], graph: &mut Graph) -> Result<(), DimacsFault>
+    requires { graph.old ≡ empty_graph }
+    ensures spells { OnOk result (Spells bytes.now graph.new) }
+    ensures faultless { OnOk result (first_fault bytes.now ≡ None) }
+    ensures fault { IfErr result (λ fault. first_fault bytes.now ≡ Some fault) }
+    ensures refused { OnErr result (graph.new ≡ empty_graph) }
+{
+    let (n, count, rest) = find_problem(bytes)?;
+    add_vertices(n, graph);
+    let outcome = read_edges(n, rest, count, graph);
+    if outcome.is_err() {
+        graph.clear();
+    }
+    outcome
+}
+
+// Reads the lines up to the problem line: the number of vertices, how many lines that were, and what
+// stands behind them.
+fn find_problem(bytes: &[u8]) -> Result<(u32, u64, &[u8]), DimacsFault>
+    ensures found { IfOk result (λ p. IsBehindProblem (lines bytes.now) p.0 p.1 (lines p.2.now)) }
+    ensures room { IfOk result (λ p. p.1 + length p.2.now ≤ length bytes.now) }
+    ensures fault { IfErr result (λ fault. first_fault bytes.now ≡ Some fault) }
+{
+    let mut rest = bytes;
+    let mut count = 0u64;
+    while !rest.is_empty() {
+        let (line, more) = split_line(rest);
+        rest = more;
+        count += 1;
+        match read_first(without_return(line)) {
+            Ok(None) => {}
+            Ok(Some(n)) => return Ok((n, count, rest)),
+            Err(kind) => return Err(DimacsFault { kind, line: count }),
+        }
+    }
+    Err(DimacsFault {
+        kind: DimacsKind::NoProblemLine,
+        line: count.saturating_add(1),
+    })
+}
+
+// Reads a line before which no problem line stood: the number of vertices if it is one, and none if it is
+// read past.
+#[tactic(auto, unfolding(crate::specs::Line::edge_fault))]
+fn read_first(line: &[u8]) -> Result<Option<u32>, DimacsKind>
+    ensures read {
+        IfOk result (λ size. MatchOption size (class_of (fields line.now) ≡ Passed)
+            (λ n. AreSizes n (sizes_of (fields line.now))))
+    }
+    ensures fault { IfErr result (λ kind. fault_of_words None (fields line.now) ≡ Some kind) }
+{
+    let Some((first, rest)) = split_field(line) else {
+        return Ok(None);
+    };
+    match class_of(first) {
+        LineClass::Passed => Ok(None),
+        LineClass::Problem => {
+            let n = read_problem(rest)?;
+            Ok(Some(n))
+        }
+        LineClass::Edge => Err(DimacsKind::EdgeBeforeProblem),
+        LineClass::Unknown => Err(DimacsKind::UnknownLine),
+    }
+}
+
+// Takes in the vertices 1 to n.
+fn add_vertices(n: u32, graph: &mut Graph)
+    requires named { n < NAMES }
+    requires empty { graph.old ≡ empty_graph }
+    ensures { graph.new ≡ edgeless n }
+{
+    for v in 0..n {
+        graph.add_vertex(v + 1);
+    }
+}
+
+// Reads the lines behind the problem line, before which `count` lines stood.
+fn read_edges(n: u32, bytes: &[u8], count: u64, graph: &mut Graph) -> Result<(), DimacsFault>
+    requires vertices { HasVertices n graph.old }
+    requires room { count + length bytes.now < 2 ^ 64 }
+    ensures added { OnOk result (graph.new ≡ with_lines graph.old (lines bytes.now)) }
+    ensures faultless { OnOk result (fault_behind (Some n) count (lines bytes.now) ≡ None) }
+    ensures fault { IfErr result (λ fault. fault_behind (Some n) count (lines bytes.now) ≡ Some fault) }
+{
+    let mut rest = bytes;
+    let mut count = count;
+    while !rest.is_empty() {
+        let (line, more) = split_line(rest);
+        rest = more;
+        count += 1;
+        if let Err(kind) = read_line(n, without_return(line), graph) {
+            return Err(DimacsFault { kind, line: count });
+        }
+    }
+    Ok(())
+}
+
+// Reads one line behind the problem line, and takes in the edge that it names, if it names one.
+#[tactic(auto, unfolding(crate::specs::Line::problem_fault))]
+fn read_line(n: u32, line: &[u8], graph: &mut Graph) -> Result<(), DimacsKind>
+    requires { HasVertices n graph.old }
+    ensures added { OnOk result (graph.new ≡ with_ends graph.old (ends_of (fields line.now))) }
+    ensures faultless { OnOk result (fault_of_words (Some n) (fields line.now) ≡ None) }
+    ensures fault { IfErr result (λ kind. fault_of_words (Some n) (fields line.now) ≡ Some kind) }
+{
+    let Some((first, rest)) = split_field(line) else {
+        return Ok(());
+    };
+    match class_of(first) {
+        LineClass::Passed => Ok(()),
+        LineClass::Problem => Err(DimacsKind::SecondProblemLine),
+        LineClass::Edge => {
+            let (u, v) = read_ends(n, rest)?;
+            take_edge(u, v, graph);
+            Ok(())
+        }
+        LineClass::Unknown => Err(DimacsKind::UnknownLine),
+    }
+}
+
+// Takes in the edge between u and v, unless it is there.
+fn take_edge(u: u32, v: u32, graph: &mut Graph)
+    requires first { Member graph.old.vertices u }
+    requires second { Member graph.old.vertices v }
+    requires differ { u ≢ v }
+    ensures { graph.new ≡ with_edge graph.old u v }
+{
+    if !graph.has_edge(u, v) {
+        graph.add_edge(u, v);
+    }
+}

@@ -1,0 +1,164 @@
+//! Writes a DIMACS edge file.
+ghost use Rattle.std.specs.Prelude.{
+    ◌≡◌, ℕ, ◌+◌, ◌^◌, ◌<◌, ◌≤◌, [], ◌∷◌, ◌++◌, length, take, replicate, vec_len, IfOk, OnOk,
+};
+ghost use Rattle.md_graph.specs.NameSet.{Member};
+ghost use Rattle.md_text.specs.Numbers.{decimal};
+ghost use Rattle.md_dimacs.specs.Text.{dimacs_text, position, problem_line};
+ghost use Rattle.md_dimacs.specs.Places.{text_of, ArePlaces, line_start, row_text, edges_text};
+
+use std::alloc::Global;
+
+use md_graph::{Graph, Memory, NAMES};
+use md_text::push_decimal;
+
+use crate::piece::Piece;
+use crate::spelling::{number_piece, start_piece};
+
+// How many bytes of lines are gathered before they are appended to the text.
+const CHUNK: usize = 1024;
+
+/// The DIMACS text of a graph: `p edge n m`, and for each edge a line `e i j`, i < j, ascending by i, then
+/// by j, where i and j are the places of its ends among the vertices in ascending order, counted from 1.
+/// Each line is ended by a line feed.
+///
+/// # Errors
+///
+/// Want of memory.
+pub fn write(alloc: Global, graph: &Graph) -> Result<Vec<u8>, Memory>
+    ensures { IfOk result (λ text. text.items ≡ dimacs_text graph.now) }
+{
+    let places = spell_places(alloc, graph)?;
+    let mut text = begin_text(alloc, graph)?;
+    write_edges(graph, &places, &mut text)?;
+    Ok(text)
+}
+
+// The problem line of the text, with room for the lines of the edges.
+fn begin_text(alloc: Global, graph: &Graph) -> Result<Vec<u8>, Memory>
+    ensures { IfOk result (λ text. text.items ≡ problem_line graph.now ++ 10 ∷ []) }
+{
+    let edges = graph.edge_count();
+    let Ok(mut text) = Vec::with_capacity(alloc, edges as usize * 14 + 64) else {
+        return Err(Memory);
+    };
+    if text.extend_from_slice(b"p edge ").is_err() {
+        return Err(Memory);
+    }
+    push_number(&mut text, graph.count(), b' ')?;
+    push_number(&mut text, edges, b'\n')?;
+    Ok(text)
+}
+
+// Appends the digits of a number, and the byte `end`.
+fn push_number(text: &mut Vec<u8>, n: u32, end: u8) -> Result<(), Memory>
+    ensures { OnOk result (text.new.items ≡ text.old.items ++ (decimal n ++ end ∷ [])) }
+{
+    if text.reserve(10).is_err() {
+        return Err(Memory);
+    }
+    push_decimal(text, u64::from(n));
+    if text.push(end).is_err() {
+        return Err(Memory);
+    }
+    Ok(())
+}
+
+// The place of each vertex, with a line feed, at the index of the vertex.
+fn spell_places(alloc: Global, graph: &Graph) -> Result<Vec<Piece>, Memory>
+    ensures { IfOk result (λ places. ArePlaces graph.now places.items) }
+{
+    let vertices = graph.vertices();
+    let Ok(mut places) = Vec::with_capacity(alloc, vertices.count() as usize + 1) else {
+        return Err(Memory);
+    };
+    let mut place = 0;
+    for v in vertices.members() {
+        place += 1;
+        fill_up(&mut places, v as usize, number_piece(place, b'\n'))?;
+    }
+    Ok(places)
+}
+
+// Appends a piece until there is one at the index v.
+fn fill_up(places: &mut Vec<Piece>, v: usize, piece: Piece) -> Result<(), Memory>
+    requires { vec_len places.old ≤ v }
+    ensures count { OnOk result (vec_len places.new ≡ v + 1) }
+    ensures items { OnOk result ((k : ℕ) × (places.new.items ≡ places.old.items ++ replicate k piece)) }
+{
+    while places.len() <= v {
+        if places.push(piece).is_err() {
+            return Err(Memory);
+        }
+    }
+    Ok(())
+}
+
+// Appends the lines of all edges.
+fn write_edges(graph: &Graph, places: &[Piece], text: &mut Vec<u8>) -> Result<(), Memory>
+    requires { ArePlaces graph.now places.now }
+    ensures { OnOk result (text.new.items ≡ text.old.items ++ edges_text graph.now) }
+{
+    let mut chunk = [0; CHUNK];
+    let mut at = 0;
+    let mut place = 0;
+    for v in graph.vertices().members() {
+        place += 1;
+        at = write_row(graph, v, start_piece(place), places, &mut chunk, at, text)?;
+    }
+    if text.extend_from_slice(&chunk[..at]).is_err() {
+        return Err(Memory);
+    }
+    Ok(())
+}
+
+// Writes the lines of the edges of v to the vertices above it behind the first `at` bytes of the chunk, and
+// says how many are then gathered there; a full chunk goes to the text.
+fn write_row(graph: &Graph, v: u32, start: Piece, places: &[Piece], chunk: &mut [u8], at: usize, text: &mut Vec<u8>) -> Result<usize, Memory>
+    requires name { v < NAMES }
+    requires start { text_of start ≡ line_start graph.now v }
+    requires places { ArePlaces graph.now places.now }
+    requires chunk { length chunk.old ≡ CHUNK }
+    requires at { at ≤ CHUNK }
+    ensures within { IfOk result (λ after. after ≤ CHUNK) }
+    ensures written {
+        IfOk result (λ after. text.new.items ++ take after chunk.new
+            ≡ (text.old.items ++ take at chunk.old) ++ row_text graph.now v)
+    }
+{
+    let mut at = at;
+    for w in graph.row(v).members_from(v + 1) {
+        at = make_room(chunk, at, text)?;
+        at = put_piece(chunk, at, &start);
+        at = put_piece(chunk, at, &places[w as usize]);
+    }
+    Ok(at)
+}
+
+// Appends the gathered bytes to the text if a line might not fit behind them.
+fn make_room(chunk: &[u8], at: usize, text: &mut Vec<u8>) -> Result<usize, Memory>
+    requires chunk { length chunk.now ≡ CHUNK }
+    requires at { at ≤ CHUNK }
+    ensures room { IfOk result (λ after. after + 16 ≤ CHUNK) }
+    ensures same {
+        IfOk result (λ after. text.new.items ++ take after chunk.now ≡ text.old.items ++ take at chunk.now)
+    }
+{
+    if at + 16 <= CHUNK {
+        return Ok(at);
+    }
+    if text.extend_from_slice(&chunk[..at]).is_err() {
+        return Err(Memory);
+    }
+    Ok(0)
+}
+
+// Writes a piece behind the first `at` bytes, and says how many they then are.
+fn put_piece(chunk: &mut [u8], at: usize, piece: &Piece) -> usize
+    requires { at + 8 ≤ length chunk.old }
+    ensures text { take result chunk.new ≡ take at chunk.old ++ text_of piece.now }
+    ensures within { result ≤ at + 8 }
+{
+    chunk[at..at + 8].copy_from_slice(&piece.bytes);
+    at + piece.used
+}
