@@ -1,6 +1,6 @@
 -- The fields of a line.
 use Rattle.std.specs.Prelude.{◌≡◌, ℕ, ◌<◌, Bool, false, not, ◌||◌, List, length, ◌==◌, filter}
-use Rattle.std.specs.List.{AllPass, slice_split}
+use Rattle.std.specs.List.{All, slice_split}
 
 -- a space or a tab (the class `blank` of POSIX)
 abbrev pub is_blank : ℕ → Bool
@@ -18,4 +18,4 @@ fields line = filter has_byte (slice_split is_blank line)
 -- some bytes, none of them a blank
 pub record IsWord (word : List ℕ) : Type 0 where
   pub some_byte : 0 < length word
-  pub no_blank : AllPass (λ byte. not (is_blank byte)) word
+  pub no_blank : All (λ byte. is_blank byte ≡ false) word
