@@ -1,0 +1,5 @@
+pub mod Bits
+pub mod Size
+pub mod Line
+pub mod File
+pub mod Laws
