@@ -1,10 +1,10 @@
 //! One line of a graph6 file: its size, its first fault, and the graph that it spells.
-ghost use Rattle.std.specs.Prelude.{◌≡◌, ℕ, ◌+◌, ◌*◌, ◌<◌, ◌≤◌, length, None};
-ghost use Rattle.std.specs.List.{AllPass};
+ghost use Rattle.std.specs.Prelude.{◌≡◌, ℕ, ◌+◌, ◌*◌, ◌<◌, ◌≤◌, length, IfSome, None};
+ghost use Rattle.std.specs.List.{AllPass, list_all};
 ghost use Rattle.md_graph.specs.PlainGraph.{empty_graph};
 ghost use Rattle.md_graph6.specs.Bits.{body_length};
 ghost use Rattle.md_graph6.specs.Size.{size_of, eighteen_bits, is_too_long};
-ghost use Rattle.md_graph6.specs.Line.{is_group, pair_count, is_padding_set, line_fault, body_fault, graph_of_line};
+ghost use Rattle.md_graph6.specs.Line.{is_group, pair_count, is_padding_set, begins_other, line_fault, body_fault, graph_of_line};
 
 use md_graph::{Graph, NAMES};
 
@@ -37,7 +37,8 @@ fn eighteen(line: &[u8], place: usize) -> u64
 fn size(line: &[u8]) -> Option<(usize, u64)>
     requires some { 0 < length line.now }
     requires groups { AllPass is_group line.now }
-    ensures { result ≡ size_of line.now }
+    ensures value { result ≡ size_of line.now }
+    ensures short { IfSome result (λ size. size.0 ≤ 8) }
 {
     if line[0] != LONG {
         return Some((1, u64::from(line[0] - 63)));
@@ -109,17 +110,31 @@ fn body_fault(line: &[u8], taken: usize, n: u64) -> Option<G6Kind>
     None
 }
 
+/// Whether a line with this first byte is of another format.
+fn begins_other(first: u8) -> bool
+    ensures { result ≡ begins_other first }
+{
+    first == b':' || first == b';' || first == b'&'
+}
+
+/// Whether each byte is 63 with six bits added.
+fn are_groups(line: &[u8]) -> bool
+    ensures { result ≡ list_all is_group line.now }
+{
+    line.iter().all(|byte| 63 <= *byte && *byte <= 126)
+}
+
 /// The first fault of a line; an empty one has none.
 pub fn line_fault(line: &[u8]) -> Option<G6Kind>
     ensures { result ≡ line_fault line.now }
 {
-    let [first, ..] = line else {
+    if line.is_empty() {
         return None;
-    };
-    if matches!(first, b':' | b';' | b'&') {
+    }
+    if begins_other(line[0]) {
         return Some(G6Kind::OtherFormat);
     }
-    if !line.iter().all(|byte| (63..=126).contains(byte)) {
+    if !are_groups(line) {
         return Some(G6Kind::BadByte);
     }
     match size(line) {

@@ -1,0 +1,4 @@
+pub mod Limits
+pub mod PaddingLemmas
+pub mod LineLemmas
+pub mod ReadLemmas
