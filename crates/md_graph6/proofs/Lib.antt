@@ -2,3 +2,4 @@ pub mod Limits
 pub mod PaddingLemmas
 pub mod LineLemmas
 pub mod ReadLemmas
+pub mod SizeLemmas
