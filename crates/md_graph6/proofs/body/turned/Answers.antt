@@ -1,0 +1,9 @@
+use Rattle.std.proofs.Common.{◌-◌, arith}
+use Rattle.md_graph6.proofs.BitLemmas.{turned_below, turned_bits}
+use Rattle.md_graph6.proofs.body.turned.Goals as goal
+
+pub returns-clause-below : goal.returns-clause-below
+returns-clause-below c = turned_below (c.args.byte - 63) (omega arith)
+
+pub returns-clause-bits : goal.returns-clause-bits
+returns-clause-bits c = turned_bits (c.args.byte - 63) (omega arith)
