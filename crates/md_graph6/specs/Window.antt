@@ -1,5 +1,5 @@
 -- Words that hold bits of a body.
-use Rattle.std.specs.Prelude.{◌≡◌, ℕ, ◌+◌, ◌^◌, ◌<◌, ◌≤◌, List, length, get_or}
+use Rattle.std.specs.Prelude.{◌≡◌, ℕ, ◌+◌, ◌*◌, ◌^◌, ◌<◌, ◌≤◌, List, length, get_or}
 use Rattle.std.specs.Int.{bit_at}
 use Rattle.md_graph6.specs.Bits.{bit}
 
@@ -12,3 +12,12 @@ pub record AreGroups (body : List ℕ) : Type 0 where
 pub record IsWindow (body : List ℕ) (place n word : ℕ) : Type 0 where
   pub below : word < 2 ^ n
   pub bits : (k : ℕ) → k < n → bit_at word k ≡ bit body (place + k)
+
+-- The n bytes from `at` on are set to the lowest 6 n bits of a word, the first bit being its lowest; all
+-- other bits stay.
+pub record IsPut (old new : List ℕ) (at n word : ℕ) : Type 0 where
+  pub length : length new ≡ length old
+  pub groups : AreGroups new
+  pub inside : (i : ℕ) → i < 6 * n → bit new (6 * at + i) ≡ bit_at word i
+  pub before : (k : ℕ) → k < 6 * at → bit new k ≡ bit old k
+  pub behind : (k : ℕ) → 6 * at + 6 * n ≤ k → bit new k ≡ bit old k

@@ -12,15 +12,25 @@ const TURNED: [u8; 64] = [
     3, 35, 19, 51, 11, 43, 27, 59, 7, 39, 23, 55, 15, 47, 31, 63,
 ];
 
+/// Six bits turned round.
+#[inline]
+pub(crate) fn turned(group: u64) -> u8
+    requires { group < 64 }
+    ensures below { result < 64 }
+    ensures bits { (k : ℕ) → k < 6 → bit_at result k ≡ bit_at group (5 - k) }
+{
+    TURNED[group as usize]
+}
+
 /// The six bits of a byte, the first in the lowest place.
 #[inline]
-fn turned(byte: u8) -> u64
+pub(crate) fn bits_of(byte: u8) -> u64
     requires low { 63 ≤ byte }
     requires high { byte < 127 }
     ensures below { result < 64 }
     ensures bits { (k : ℕ) → k < 6 → bit_at result k ≡ bit_at (byte - 63) (5 - k) }
 {
-    TURNED[(byte - 63) as usize] as u64
+    turned((byte - 63) as u64) as u64
 }
 
 /// The bits of `low`, n of them, and those of `high` behind them.
@@ -41,7 +51,7 @@ fn two_groups(body: &[u8], at: usize) -> u64
     requires inside { at + 1 < length body.now }
     ensures { IsWindow body.now (6 * at) 12 result }
 {
-    joined(turned(body[at]), turned(body[at + 1]), 6)
+    joined(bits_of(body[at]), bits_of(body[at + 1]), 6)
 }
 
 /// The sixty bits of ten bytes.

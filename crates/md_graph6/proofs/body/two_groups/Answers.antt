@@ -6,6 +6,6 @@ pub returns : goal.returns
 returns c =
     let body = c.args.body.now in
     let at = c.args.at in
-    let first = read_group body at _ (omega arith) c.turned.ensures.below c.turned.ensures.bits in
-    let second = read_group body (at + 1) _ (omega arith) c.turned-2.ensures.below c.turned-2.ensures.bits in
+    let first = read_group body at _ (omega arith) c.bits_of.ensures.below c.bits_of.ensures.bits in
+    let second = read_group body (at + 1) _ (omega arith) c.bits_of-2.ensures.below c.bits_of-2.ensures.bits in
     joined_window body (6 * at) 6 (6 * (at + 1)) 6 12 _ _ _ first second (omega arith) (omega arith) c.joined.ensures
