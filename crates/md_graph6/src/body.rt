@@ -1,8 +1,14 @@
-//! The bits of a graph6 line, one for each pair of vertices, put into a graph.
+//! The bits of a graph6 line, one for each pair of vertices, read into a graph: 64 bits of a column at once.
 ghost use Rattle.std.specs.Prelude.{◌≡◌, ℕ, ◌+◌, ◌-◌, ◌*◌, ◌/◌, ◌%◌, ◌^◌, ◌<◌, ◌≤◌, ◌==◌, ◌&&◌, nat_lt, length, get_or, if◌then◌else◌};
 ghost use Rattle.std.specs.Int.{bit_at};
-ghost use Rattle.md_graph6.specs.Bits.{bit, pair_number, body_length};
+ghost use Rattle.std.specs.List.{AllPass};
+ghost use Rattle.md_graph.specs.PlainGraph.{empty_graph};
+ghost use Rattle.md_graph6.specs.Bits.{bit, pair_number, IsBodyOf};
+ghost use Rattle.md_graph6.specs.Line.{is_group};
 ghost use Rattle.md_graph6.specs.Window.{AreGroups, IsWindow};
+ghost use Rattle.md_graph6.specs.Filled.{HasVertices, IsColumn};
+
+use md_graph::{Graph, NAMES, Names};
 
 /// Each number below 64 with its six bits turned round.
 const TURNED: [u8; 64] = [
@@ -120,4 +126,55 @@ pub(crate) fn low_bits(bits: u64, count: u32) -> u64
         return bits & ((1 << count) - 1);
     }
     bits
+}
+
+/// The place of the first bit of column j.
+#[inline]
+pub(crate) fn column_place(j: u32) -> usize
+    requires { j < NAMES }
+    ensures { result ≡ pair_number 0 j }
+{
+    j as usize * (j as usize).saturating_sub(1) / 2
+}
+
+/// Makes `column` the set of the numbers i < j for which the bit of the pair is 1.
+fn read_column(body: &[u8], j: u32, column: &mut Names)
+    requires name { j < NAMES }
+    requires groups { AreGroups body.now }
+    ensures { IsColumn body.now j column.new }
+{
+    column.clear();
+    let place = column_place(j);
+    for w in 0..(j + 63) / 64 {
+        let first = 64 * w;
+        let bits = bits_from(body, place + first as usize);
+        column.insert_block(first, low_bits(bits, j - first));
+    }
+}
+
+/// Takes in the numbers below n as vertices.
+fn add_vertices(graph: &mut Graph, n: u32)
+    requires empty { graph.old ≡ empty_graph }
+    requires few { n ≤ NAMES }
+    ensures { HasVertices n graph.new }
+{
+    for v in 0..n {
+        graph.add_vertex(v);
+    }
+}
+
+/// Fills the graph with the numbers below n as vertices and the edges whose bits are 1.
+/// Conditions: the graph has no vertices, n is at most the number of names, and each byte is from 63 to 126.
+pub fn fill(graph: &mut Graph, n: u32, body: &[u8])
+    requires empty { graph.old ≡ empty_graph }
+    requires few { n ≤ NAMES }
+    requires groups { AllPass is_group body.now }
+    ensures { IsBodyOf body.now n graph.new }
+{
+    add_vertices(graph, n);
+    let mut column = Names::none();
+    for j in 1..n {
+        read_column(body, j, &mut column);
+        graph.add_edges(j, &column);
+    }
 }
