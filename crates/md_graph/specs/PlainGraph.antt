@@ -1,6 +1,6 @@
 -- A graph without loops and parallel edges, as contracts see it: a finite set of vertices and a finite set
 -- of edges, each edge the pair of its two ends with the smaller first. Source: any textbook on graphs.
-use Rattle.std.specs.Prelude.{ℕ, ◌<◌, min, max, Bool, List, map, IsTrue, refl}
+use Rattle.std.specs.Prelude.{ℕ, zero, suc, ◌<◌, min, max, Bool, not, ◌&&◌, ◌==◌, if◌then◌else◌, List, map, IsTrue, refl}
 use Rattle.std.specs.declared.cmp.Ordering.{Ordering}
 use Rattle.std.specs.Ordering.{nat_cmp, then_cmp, on}
 use Rattle.std.specs.FinSet as set
@@ -25,6 +25,17 @@ abbrev pub graph_code : Coded PlainGraph
 graph_code =
     code_by (NameSet × PairSet) (coded× (set.code coded_ℕ) (set.code (coded× coded_ℕ coded_ℕ)))
     (λ g. (g.vertices, g.edges)) (λ p. record { vertices = p.0; edges = p.1 }) (λ _. refl)
+
+-- `start` with the pairs (u, v), u below `bound`, for which the test is true
+unfoldable pub pairs_at : (ℕ → ℕ → Bool) → PairSet → ℕ → ℕ → PairSet
+pairs_at test start v zero = start
+pairs_at test start v (suc u) =
+    if test u v then set.insert (pairs_at test start v u) (u, v) else pairs_at test start v u
+
+-- the pairs (u, v), u < v < bound, for which the test is true
+unfoldable pub pairs_where : (ℕ → ℕ → Bool) → ℕ → PairSet
+pairs_where test zero = set.empty
+pairs_where test (suc v) = pairs_at test (pairs_where test v) v v
 
 -- the edge between u and v: its smaller end, then its larger end
 abbrev pub edge : ℕ → ℕ → ℕ × ℕ
@@ -65,3 +76,29 @@ star v others = set.from_list (map (edge v) others)
 -- g with an edge between v and each member of `others`
 abbrev pub with_edges : PlainGraph → ℕ → NameSet → PlainGraph
 with_edges g v others = record { vertices = g.vertices; edges = set.union g.edges (star v (ascending others)) }
+
+-- the complement of g: the same vertices, and an edge between two of them where g has none
+abbrev pub complement : PlainGraph → PlainGraph
+complement g = record {
+  vertices = g.vertices;
+  edges =
+    pairs_where (λ u v. (set.contains g.vertices u && set.contains g.vertices v) && not (adjacent g u v)) NAMES;
+}
+
+-- the graph that g induces on s: the vertices of g in s, and the edges of g with both ends in s
+abbrev pub induced : PlainGraph → NameSet → PlainGraph
+induced g s = record {
+  vertices = set.intersection g.vertices s;
+  edges = set.retain g.edges (λ p. set.contains s p.0 && set.contains s p.1);
+}
+
+-- g without the vertex v and the edges at it
+abbrev pub without_vertex : PlainGraph → ℕ → PlainGraph
+without_vertex g v = record {
+  vertices = set.remove g.vertices v;
+  edges = set.retain g.edges (λ p. not (p.0 == v) && not (p.1 == v));
+}
+
+-- g without the edge between u and v
+abbrev pub without_edge : PlainGraph → ℕ → ℕ → PlainGraph
+without_edge g u v = record { vertices = g.vertices; edges = set.remove g.edges (edge u v) }

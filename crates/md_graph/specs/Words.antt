@@ -1,5 +1,5 @@
 -- The set that words of bits keep: name v is bit v % 64 of word v / 64.
-use Rattle.std.specs.Prelude.{ℕ, zero, suc, ◌+◌, ◌-◌, ◌/◌, ◌%◌, ◌*◌, List, [], ◌∷◌, ◌++◌, get_or, if◌then◌else◌, ◌==◌}
+use Rattle.std.specs.Prelude.{◌≡◌, ◌<◌, min, ℕ, zero, suc, ◌+◌, ◌-◌, ◌/◌, ◌%◌, ◌*◌, List, [], ◌∷◌, ◌++◌, get_or, if◌then◌else◌, ◌==◌}
 use Rattle.std.specs.Int.{bit_at}
 use Rattle.std.specs.FinSet as set
 use Rattle.md_graph.specs.NameSet.{NameSet}
@@ -7,6 +7,10 @@ use Rattle.md_graph.specs.NameSet.{NameSet}
 -- the bit of name v
 abbrev pub bit_of : List ℕ → ℕ → ℕ
 bit_of words v = bit_at (get_or words (v / 64) 0) (v % 64)
+
+-- the low 64 bits of `word` are those of `first` that `second` doesn't have
+abbrev pub IsWithout : ℕ → ℕ → ℕ → Type 0
+IsWithout word first second = (k : ℕ) → k < 64 → bit_at word k ≡ min (bit_at first k) (1 - bit_at second k)
 
 -- the names below `bound` whose bit is 1
 unfoldable pub names_below : List ℕ → ℕ → NameSet

@@ -24,10 +24,9 @@ impl Model for Graph {
 
     ghost coded = { graph_code };
 
-    ghost use Rattle.std.specs.Prelude.{length};
-    ghost use Rattle.md_graph.specs.Rows.{edges_below, AreRows};
+    ghost use Rattle.md_graph.specs.Rows.{graph_of, AreRows};
 
-    ghost view = { λ g. record { vertices = g.live; edges = edges_below g.rows.items (length g.rows.items) } };
+    ghost view = { λ g. graph_of g.live g.rows.items };
 
     ghost invariant = { λ g. AreRows g.live g.rows.items };
 }

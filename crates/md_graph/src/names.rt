@@ -1,8 +1,9 @@
 //! Sets of names.
-ghost use Rattle.std.specs.Prelude.{◌≡◌, ℕ, ◌+◌, ◌*◌, ◌/◌, ◌%◌, ◌^◌, ◌<◌, ◌≤◌, ◌↔◌, IsTrue, IsNone, IfSome, IfNone, ◌==◌};
+ghost use Rattle.std.specs.Prelude.{◌≡◌, ℕ, slice_index, bit_and, bit_or, ◌+◌, ◌*◌, ◌/◌, ◌%◌, ◌^◌, ◌<◌, ◌≤◌, ◌↔◌, IsTrue, IsNone, IfSome, IfNone, ◌==◌};
 ghost use Rattle.std.specs.Int.{bit_at};
 ghost use Rattle.std.specs.FinSet as set;
 ghost use Rattle.md_graph.specs.NameSet.{Member, IsLeastFrom, NoneFrom, AllBelow, ascending, ascending_from, block};
+ghost use Rattle.md_graph.specs.Words.{IsWithout, names_below};
 
 use std::marker::Model;
 
@@ -41,7 +42,7 @@ impl Names {
         ensures { result ≡ set.empty }
     {
         Names {
-            words: [0; WORDS],
+            words: no_words(),
             used: 0,
         }
     }
@@ -80,9 +81,7 @@ impl Names {
     pub fn clear(&mut self)
         ensures { self.new ≡ set.empty }
     {
-        for word in &mut self.words[..self.used] {
-            *word = 0;
-        }
+        wipe(&mut self.words, self.used);
         self.used = 0;
     }
 
@@ -90,9 +89,7 @@ impl Names {
     pub fn take_in(&mut self, other: &Names)
         ensures { self.new ≡ set.union self.old other.now }
     {
-        for i in 0..other.used {
-            self.words[i] |= other.words[i];
-        }
+        join_in(&mut self.words, &other.words, other.used);
         if self.used < other.used {
             self.used = other.used;
         }
@@ -109,36 +106,32 @@ impl Names {
     pub fn and(&self, other: &Names) -> Names
         ensures { result ≡ set.intersection self.now other.now }
     {
-        let mut both = Names::none();
-        both.used = self.used.min(other.used);
-        for i in 0..both.used {
-            both.words[i] = self.words[i] & other.words[i];
+        let used = self.used.min(other.used);
+        Names {
+            words: both(&self.words, &other.words, used),
+            used,
         }
-        both
     }
 
     /// The members of either.
     pub fn or(&self, other: &Names) -> Names
         ensures { result ≡ set.union self.now other.now }
     {
-        let mut either = Names::none();
-        either.used = self.used.max(other.used);
-        for i in 0..either.used {
-            either.words[i] = self.words[i] | other.words[i];
+        let used = self.used.max(other.used);
+        Names {
+            words: either(&self.words, &other.words, used),
+            used,
         }
-        either
     }
 
     /// The members that `other` doesn't have.
     pub fn minus(&self, other: &Names) -> Names
         ensures { result ≡ set.difference self.now other.now }
     {
-        let mut rest = Names::none();
-        rest.used = self.used;
-        for i in 0..rest.used {
-            rest.words[i] = self.words[i] & !other.words[i];
+        Names {
+            words: first_alone(&self.words, &other.words, self.used),
+            used: self.used,
         }
-        rest
     }
 
     /// The least member at or above `v`, any number; `None` exactly where there is none.
@@ -154,18 +147,14 @@ impl Names {
     pub fn count(&self) -> u32
         ensures { result ≡ set.len self.now }
     {
-        let mut count = 0;
-        for word in &self.words[..self.used] {
-            count += word.count_ones();
-        }
-        count
+        count_bits(&self.words, self.used)
     }
 
     /// Whether no name is a member.
     pub fn is_empty(&self) -> bool
         ensures { IsTrue result ↔ (self.now ≡ set.empty) }
     {
-        self.words[..self.used].iter().all(|word| *word == 0)
+        are_all_zero(&self.words, self.used)
     }
 
     /// The members, ascending.
@@ -217,6 +206,103 @@ impl Names {
     {
         self.words[first as usize / 64]
     }
+}
+
+/// Words that are all 0.
+fn no_words() -> [u64; WORDS]
+    ensures { (k : ℕ) → slice_index result k ≡ 0 }
+{
+    [0; WORDS]
+}
+
+/// The first `used` words become 0.
+fn wipe(words: &mut [u64; WORDS], used: usize)
+    requires { used ≤ WORDS }
+    ensures first { (k : ℕ) → k < used → slice_index words.new k ≡ 0 }
+    ensures rest { (k : ℕ) → used ≤ k → slice_index words.new k ≡ slice_index words.old k }
+{
+    for i in 0..used {
+        words[i] = 0;
+    }
+}
+
+/// Takes the bits of the first `used` words of `other` in.
+fn join_in(words: &mut [u64; WORDS], other: &[u64; WORDS], used: usize)
+    requires { used ≤ WORDS }
+    ensures first { (k : ℕ) → k < used
+        → slice_index words.new k ≡ bit_or (slice_index words.old k) (slice_index other.now k) }
+    ensures rest { (k : ℕ) → used ≤ k → slice_index words.new k ≡ slice_index words.old k }
+{
+    for i in 0..used {
+        words[i] |= other[i];
+    }
+}
+
+/// The bits that both have in the first `used` words.
+fn both(first: &[u64; WORDS], second: &[u64; WORDS], used: usize) -> [u64; WORDS]
+    requires { used ≤ WORDS }
+    ensures first { (k : ℕ) → k < used
+        → slice_index result k ≡ bit_and (slice_index first.now k) (slice_index second.now k) }
+    ensures rest { (k : ℕ) → used ≤ k → slice_index result k ≡ 0 }
+{
+    let mut words = no_words();
+    for i in 0..used {
+        words[i] = first[i] & second[i];
+    }
+    words
+}
+
+/// The bits that either has in the first `used` words.
+fn either(first: &[u64; WORDS], second: &[u64; WORDS], used: usize) -> [u64; WORDS]
+    requires { used ≤ WORDS }
+    ensures first { (k : ℕ) → k < used
+        → slice_index result k ≡ bit_or (slice_index first.now k) (slice_index second.now k) }
+    ensures rest { (k : ℕ) → used ≤ k → slice_index result k ≡ 0 }
+{
+    let mut words = no_words();
+    for i in 0..used {
+        words[i] = first[i] | second[i];
+    }
+    words
+}
+
+/// The bits of `first` that `second` doesn't have, in the first `used` words.
+fn first_alone(first: &[u64; WORDS], second: &[u64; WORDS], used: usize) -> [u64; WORDS]
+    requires { used ≤ WORDS }
+    ensures first { (k : ℕ) → k < used
+        → IsWithout (slice_index result k) (slice_index first.now k) (slice_index second.now k) }
+    ensures rest { (k : ℕ) → used ≤ k → slice_index result k ≡ 0 }
+{
+    let mut words = no_words();
+    for i in 0..used {
+        words[i] = first[i] & !second[i];
+    }
+    words
+}
+
+/// How many bits of the first `used` words are 1.
+fn count_bits(words: &[u64; WORDS], used: usize) -> u32
+    requires { used ≤ WORDS }
+    ensures { result ≡ set.len (names_below words.now (64 * used)) }
+{
+    let mut count = 0;
+    for i in 0..used {
+        count += words[i].count_ones();
+    }
+    count
+}
+
+/// Whether the first `used` words are 0.
+fn are_all_zero(words: &[u64; WORDS], used: usize) -> bool
+    requires { used ≤ WORDS }
+    ensures { IsTrue result ↔ ((k : ℕ) → k < used → slice_index words.now k ≡ 0) }
+{
+    for i in 0..used {
+        if words[i] != 0 {
+            return false;
+        }
+    }
+    true
 }
 
 /// The members of a set that are still to come, ascending: word by word, and in a word from bit to bit.

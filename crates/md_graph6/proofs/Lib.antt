@@ -1,5 +1,9 @@
+pub mod BitLemmas
+pub mod FillLemmas
+pub mod PutLemmas
 pub mod Limits
 pub mod PaddingLemmas
 pub mod LineLemmas
 pub mod ReadLemmas
 pub mod SizeLemmas
+pub mod DecodeLemmas

@@ -3,3 +3,6 @@ pub mod Size
 pub mod Line
 pub mod File
 pub mod Laws
+pub mod Window
+pub mod Filled
+pub mod Written

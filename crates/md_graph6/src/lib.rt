@@ -10,7 +10,9 @@ pub mod laws;
 mod line;
 mod reader;
 mod file;
+mod writer;
 
 pub use fault::{G6Fault, G6Kind};
 pub use reader::Lines;
 pub use file::scan;
+pub use writer::write;

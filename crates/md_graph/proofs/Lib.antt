@@ -1,0 +1,7 @@
+pub mod BitWords
+pub mod GraphLemmas
+pub mod Limits
+pub mod NameLemmas
+pub mod PairLaws
+pub mod RowLemmas
+pub mod SetLaws

@@ -1,0 +1,1 @@
+-- The limits: the only file that looks at the values of the constants.

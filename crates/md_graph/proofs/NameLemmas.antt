@@ -1,0 +1,1 @@
+-- Facts of sets of names that callers may cite.
