@@ -14,7 +14,7 @@ use Rattle.md_graph.proofs.PairLaws.{pairs-empty, pairs-insert, pairs-remove, pa
 
 -- ---- the pairs for which a test is true
 
-contains-pairs_at : (test : ℕ → ℕ → Bool) (start : PairSet) (w n u v : ℕ) → set.contains (pairs_at test start w n) (u, v) ≡ ((((v == w) && nat_lt u n) && test u v) || set.contains start (u, v))
+pub contains-pairs_at : (test : ℕ → ℕ → Bool) (start : PairSet) (w n u v : ℕ) → set.contains (pairs_at test start w n) (u, v) ≡ ((((v == w) && nat_lt u n) && test u v) || set.contains start (u, v))
 unfolding pairs_at
 contains-pairs_at test start w zero u v = grind (arith, nat_tests)
 contains-pairs_at test start w (suc n) u v =
@@ -23,7 +23,7 @@ contains-pairs_at test start w (suc n) u v =
       | inr f ↦ rw (f, contains-pairs_at test start w n u v) (grind (arith, nat_tests, f))
     ]
 
-contains-pairs_where : (test : ℕ → ℕ → Bool) (n u v : ℕ) → set.contains (pairs_where test n) (u, v) ≡ ((nat_lt u v && nat_lt v n) && test u v)
+pub contains-pairs_where : (test : ℕ → ℕ → Bool) (n u v : ℕ) → set.contains (pairs_where test n) (u, v) ≡ ((nat_lt u v && nat_lt v n) && test u v)
 unfolding pairs_where
 contains-pairs_where test zero u v = rw (pairs-empty u v) (grind (arith, nat_tests))
 contains-pairs_where test (suc n) u v =

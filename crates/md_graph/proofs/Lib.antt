@@ -1,4 +1,5 @@
 pub mod BitWords
+pub mod Counting
 pub mod GraphLemmas
 pub mod Limits
 pub mod NameLemmas

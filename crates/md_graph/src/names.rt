@@ -1,5 +1,5 @@
 //! Sets of names.
-ghost use Rattle.std.specs.Prelude.{◌≡◌, ℕ, slice_index, bit_and, bit_or, ◌+◌, ◌*◌, ◌/◌, ◌%◌, ◌^◌, ◌<◌, ◌≤◌, ◌↔◌, IsTrue, IsNone, IfSome, IfNone, ◌==◌};
+ghost use Rattle.std.specs.Prelude.{◌≡◌, ℕ, length, slice_index, bit_and, bit_or, ◌+◌, ◌*◌, ◌/◌, ◌%◌, ◌^◌, ◌<◌, ◌≤◌, ◌↔◌, IsTrue, IsNone, IfSome, IfNone, ◌==◌};
 ghost use Rattle.std.specs.Int.{bit_at};
 ghost use Rattle.std.specs.FinSet as set;
 ghost use Rattle.md_graph.specs.NameSet.{Member, IsLeastFrom, NoneFrom, AllBelow, ascending, ascending_from, block};
@@ -64,9 +64,7 @@ impl Names {
     {
         let word = v as usize / 64;
         self.words[word] |= 1 << (v % 64);
-        if self.used <= word {
-            self.used = word + 1;
-        }
+        self.used = self.used.max(word + 1);
     }
 
     /// Leaves `v` out. Condition: it is a name.
@@ -90,9 +88,7 @@ impl Names {
         ensures { self.new ≡ set.union self.old other.now }
     {
         join_in(&mut self.words, &other.words, other.used);
-        if self.used < other.used {
-            self.used = other.used;
-        }
+        self.used = self.used.max(other.used);
     }
 
     /// Whether `v`, any number, is a member.
@@ -192,9 +188,7 @@ impl Names {
     {
         let word = first as usize / 64;
         self.words[word] |= bits;
-        if self.used <= word {
-            self.used = word + 1;
-        }
+        self.used = self.used.max(word + 1);
     }
 
     /// Which of the names `first + k`, k below 64, are members: bit k of the answer is 1 exactly for these.
@@ -210,7 +204,8 @@ impl Names {
 
 /// Words that are all 0.
 fn no_words() -> [u64; WORDS]
-    ensures { (k : ℕ) → slice_index result k ≡ 0 }
+    ensures size { length result ≡ WORDS }
+    ensures zeros { (k : ℕ) → slice_index result k ≡ 0 }
 {
     [0; WORDS]
 }
@@ -295,7 +290,8 @@ fn count_bits(words: &[u64; WORDS], used: usize) -> u32
 /// Whether the first `used` words are 0.
 fn are_all_zero(words: &[u64; WORDS], used: usize) -> bool
     requires { used ≤ WORDS }
-    ensures { IsTrue result ↔ ((k : ℕ) → k < used → slice_index words.now k ≡ 0) }
+    ensures zeros { IsTrue result ↔ ((k : ℕ) → k < used → slice_index words.now k ≡ 0) }
+    ensures fits { (k : ℕ) → slice_index words.now k < 2 ^ 64 }
 {
     for i in 0..used {
         if words[i] != 0 {
