@@ -7,3 +7,5 @@ pub mod LineLemmas
 pub mod ReadLemmas
 pub mod SizeLemmas
 pub mod DecodeLemmas
+pub mod SpellLemmas
+pub mod FileLemmas

@@ -83,4 +83,5 @@ line_fault-none line some sound =
 -- and a line of group bytes with a size and a sound body has no fault
 pub body_fault-sound : (line : List ℕ) (taken n : ℕ) → IsSoundBody line taken n → body_fault line taken n ≡ None
 unfolding body_fault
-body_fault-sound line taken n sound = ?
+body_fault-sound line taken n sound =
+    grind (arith, nat_tests, sound.shortest, sound.few, sound.long, sound.padding)

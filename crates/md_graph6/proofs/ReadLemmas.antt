@@ -128,7 +128,7 @@ IsRead-count bytes rest number count before end =
     omega arith
 
 -- no fault is found where the line has none and none comes later
-fault_or-none : (kind : Option G6Kind) (number : ℕ) (later : Option G6Fault) → fault_or kind number later ≡ None
+pub fault_or-none : (kind : Option G6Kind) (number : ℕ) (later : Option G6Fault) → fault_or kind number later ≡ None
     → (kind ≡ None) × (later ≡ None)
 fault_or-none None number later e = (refl, e)
 fault_or-none (Some kind) number later e = cc
