@@ -111,6 +111,10 @@ lacks_each (line ∷ more) (g ∷ graphs) spells zero d inside = group-other lin
 lacks_each (line ∷ more) (g ∷ graphs) spells (suc k) d inside =
     lacks_each more graphs spells.1 k d (omega arith)
 
+-- a text with another first byte has no header
+other_first : (byte : ℕ) (rest : List ℕ) → 62 ≢ byte → without_header (byte ∷ rest) ≡ byte ∷ rest
+other_first byte rest other = rw (ne_eqb 62 byte other) refl
+
 -- and the text has no header
 no_header : (all : List (List ℕ)) (graphs : List PlainGraph) → AllSpell all graphs → without_header (ended all) ≡ ended all
 unfolding ended
@@ -119,7 +123,7 @@ no_header (line ∷ more) [] spells = absurd spells
 no_header ([] ∷ more) (g ∷ graphs) spells = absurd (omega (arith, spells-some [] g spells.0))
 no_header ((byte ∷ line) ∷ more) (g ∷ graphs) spells =
     let other : 62 ≢ byte = λ same. group-other (byte ∷ line) g 62 (omega arith) spells.0 0 0 (omega arith) (sym same) in
-    rw (ne_eqb 62 byte other) refl
+    other_first byte ((line ++ 10 ∷ []) ++ ended more) other
 
 pub ended_lines_spell : EndedLinesSpell
 ended_lines_spell = λ all graphs spells.

@@ -1,8 +1,9 @@
 -- What a line spells: a line without fault spells one graph, and a line that spells one has no fault.
-use Rattle.std.proofs.Common.{◌≡◌, ℕ, zero, suc, ◌+◌, ◌-◌, ◌*◌, ◌<◌, ◌≤◌, Bool, true, false, List, [], ◌∷◌, ◌++◌, length, get_or, drop, Option, None, Some, refl, sym, ap, ◌∙◌, arith, length-append, length-drop}
+use Rattle.std.proofs.Common.{◌≡◌, ℕ, zero, suc, ◌+◌, ◌-◌, ◌*◌, ◌<◌, ◌≤◌, Bool, true, false, List, [], ◌∷◌, ◌++◌, length, get_or, take, drop, Option, None, Some, refl, sym, ap, ◌∙◌, arith, length-append, length-drop}
 use Rattle.std.specs.List.{list_all, AllPass}
 use Rattle.std.proofs.lemmas.Bool.Decides.{nat_tests}
 use Rattle.std.proofs.lemmas.List.Sums.{list_all-from_AllPass, AllPass-from_list_all}
+use Rattle.std.proofs.lemmas.List.{take_rest}
 use Rattle.std.proofs.lemmas.List.Elements.{All-drop}
 use Rattle.std.proofs.lemmas.List.Folds.{list_all-append}
 use Rattle.md_graph.specs.declared.TheConstants.{NAMES}
@@ -14,7 +15,7 @@ use Rattle.md_graph6.proofs.Limits.{names_fit}
 use Rattle.md_graph6.proofs.SizeLemmas.{is_group-range, size_text-read, size_text-shortest, size_text-groups, size_text-some, size_text-spelt}
 use Rattle.md_graph6.proofs.PaddingLemmas.{padding-none, padding-all}
 use Rattle.md_graph6.proofs.DecodeLemmas.{decoded_is_body, IsBodyOf-one}
-use Rattle.md_graph6.proofs.LineLemmas.{IsSoundBody, IsSoundLine, line_fault-sized, line_fault-none, body_fault-sound}
+use Rattle.md_graph6.proofs.LineLemmas.{IsSoundBody, IsSoundLine, line_fault-sized, line_fault-none, body_fault-none, body_fault-sound}
 
 -- a name's size takes at most four bytes
 name_size : (n : ℕ) → n ≤ NAMES → n ≤ most_in_four_bytes
@@ -100,3 +101,27 @@ pub sound-spells : (line : List ℕ) → 0 < length line → line_fault line ≡
 sound-spells line some sound =
     let facts : IsSoundLine line = line_fault-none line some sound in
     sound_line-spells line facts.taken facts.n some facts.groups facts.sized facts.body
+
+-- the size of a line without fault is there, and its body is sound
+pub sound_line-sized : (line : List ℕ) → 0 < length line → line_fault line ≡ None → size_of line ≡ None → ⊥
+sound_line-sized line some sound none = let facts : IsSoundLine line = line_fault-none line some sound in cc (facts.sized)
+
+pub sound_line-groups : (line : List ℕ) → 0 < length line → line_fault line ≡ None → AllPass is_group line
+sound_line-groups line some sound = (line_fault-none line some sound).groups
+
+pub sound_line-body : (line : List ℕ) (taken n : ℕ) → 0 < length line → line_fault line ≡ None
+    → size_of line ≡ Some (taken, n) → IsSoundBody line taken n
+unfolding size_fault
+sound_line-body line taken n some sound sized =
+    let groups : list_all is_group line ≡ true = list_all-from_AllPass is_group line (sound_line-groups line some sound) in
+    let fault : line_fault line ≡ body_fault line taken n =
+        line_fault-sized line (Some (taken, n)) some (line_begins line some groups) groups sized in
+    body_fault-none line taken n (sym fault ∙ sound)
+
+-- a graph that is filled from what stands behind the size is the line's
+pub filled_is_line : (line : List ℕ) (taken n : ℕ) (g : PlainGraph) → size_of line ≡ Some (taken, n) → n ≤ NAMES
+    → IsBodyOf (take (length line - taken) (drop taken line)) n g → g ≡ graph_of_line line
+unfolding graph_of_sized
+filled_is_line line taken n g sized few bits =
+    let behind : IsBodyOf (drop taken line) n g = rw take_rest at bits in
+    rw sized (IsBodyOf-one (drop taken line) n g (graph_of_body (drop taken line) n) behind (decoded_is_body (drop taken line) n few))
