@@ -2,6 +2,7 @@
 use Rattle.std.proofs.Common.{◌≡◌, ◌≢◌, ℕ, zero, suc, ◌+◌, ◌<◌, ◌≤◌, ◌&&◌, Bool, true, false, nat_eq, List, [], ◌∷◌, ◌++◌, length, map, get_or, Option, None, Some, refl, sym, ap, ◌∙◌, arith}
 use Rattle.std.specs.Prelude.{MatchOption}
 use Rattle.std.specs.List.{All, AllPass, starts_with}
+use Rattle.std.proofs.lemmas.List.{append-nil}
 use Rattle.std.proofs.lemmas.Bool.{ne_eqb}
 use Rattle.md_graph.specs.PlainGraph.{PlainGraph, IsGraph}
 use Rattle.md_text.specs.Lines.{lines, ended, LacksFeed, without_return}
@@ -9,7 +10,7 @@ use Rattle.md_text.proofs.LineLemmas.{lines-ended, without_return-stays}
 use Rattle.md_graph6.specs.declared.fault.G6Fault.{G6Fault}
 use Rattle.md_graph6.specs.Line.{SpellsLine, is_group, line_fault, graph_of_line}
 use Rattle.md_graph6.specs.File.{header, without_header, stripped_lines, file_lines, SpellEach, Spells, SpellsOnly, SpellsNone, fault_after, first_fault, graphs_of_lines, graphs_of}
-use Rattle.md_graph6.specs.Laws.{SpelledOrFaulty, SpelledHasNoFault, GraphsAreGraphs, AllSpell, EndedLinesSpell}
+use Rattle.md_graph6.specs.Laws.{SpelledOrFaulty, SpelledHasNoFault, GraphsAreGraphs, AllSpell, EndedLinesSpell, EndedLineSpells}
 use Rattle.md_graph6.proofs.SizeLemmas.{is_group-range}
 use Rattle.md_graph6.proofs.SpellLemmas.{spells-some, spells-sound, spells-graph, spells-groups, sound-spells}
 use Rattle.md_graph6.proofs.ReadLemmas.{fault_or-none}
@@ -125,7 +126,26 @@ no_header ((byte ∷ line) ∷ more) (g ∷ graphs) spells =
     let other : 62 ≢ byte = λ same. group-other (byte ∷ line) g 62 (omega arith) spells.0 0 0 (omega arith) (sym same) in
     other_first byte ((line ++ 10 ∷ []) ++ ended more) other
 
-pub ended_lines_spell : EndedLinesSpell
-ended_lines_spell = λ all graphs spells.
+ended_lines-each : (all : List (List ℕ)) (graphs : List PlainGraph) → AllSpell all graphs → Spells (ended all) graphs
+ended_lines-each all graphs spells =
     rw (no_header all graphs spells, lines-ended all (lacks_each all graphs spells), stays_each all graphs spells)
     (all_spell-each all graphs spells)
+
+-- a file spells one list of graphs
+only_one : (bytes : List ℕ) (graphs : List PlainGraph) → Spells bytes graphs → SpellsOnly bytes graphs
+only_one bytes graphs spells = record {
+  spells = spells;
+  only = λ others spelt.
+    sym (spelled_has_no_fault bytes others spelt).1 ∙ (spelled_has_no_fault bytes graphs spells).1;
+}
+
+pub ended_lines_spell : EndedLinesSpell
+ended_lines_spell = λ all graphs spells. only_one (ended all) graphs (ended_lines-each all graphs spells)
+
+-- one line, ended
+ended-one : (line : List ℕ) → ended (line ∷ []) ≡ line ++ 10 ∷ []
+unfolding ended
+ended-one line = append-nil (line ++ 10 ∷ [])
+
+pub ended_line_spells : EndedLineSpells
+ended_line_spells = λ line g spells. rw (← ended-one line) (ended_lines_spell (line ∷ []) (g ∷ []) (spells, tt))
