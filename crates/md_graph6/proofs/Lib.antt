@@ -5,3 +5,4 @@ pub mod ReadLemmas
 pub mod BitLemmas
 pub mod PutLemmas
 pub mod FillLemmas
+pub mod WriteLemmas
