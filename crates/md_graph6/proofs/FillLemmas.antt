@@ -180,3 +180,23 @@ filled_all body n j {g} all filled = record {
   graph = filled.graph;
   edges = λ a b up inside. filled.pairs a b up ∙ (let t : nat_lt b j ≡ true = grind (arith, nat_tests) in rw t refl);
 }
+
+pub vertices_absent : {g : PlainGraph} (v : ℕ) → HasVertices v g → set.contains g.vertices v ≡ false
+vertices_absent {g} v has = has.vertices v ∙ (let not_below : nat_lt v v ≡ false = grind (arith, nat_tests) in not_below)
+
+pub vertices_more_is : {g h : PlainGraph} (i : ℕ) → i < NAMES → HasVertices i g → h ≡ with_vertex g i → HasVertices (i + 1) h
+vertices_more_is {g} {h} i name has e = rw e (vertices_more i name has)
+
+pub filled_more_is : (body : List ℕ) (n j : ℕ) {g h : PlainGraph} (column : NameSet) → j < n → n ≤ NAMES
+    → Filled body n j g → IsColumn body j column → h ≡ with_edges g j column → Filled body n (j + 1) h
+filled_more_is body n j {g} {h} column inside names filled is e = rw e (filled_more body n j column inside names filled is)
+
+pub IsColumn-all : (body : List ℕ) (s : NameSet) (place j first : ℕ) → j ≤ first → place ≡ pair_number 0 j
+    → ((i : ℕ) → set.contains s i ≡ (nat_lt i first && (nat_lt i j && (bit body (place + i) == 1))))
+    → IsColumn body j s
+IsColumn-all body s place j first all e before = record {
+  members = λ i.
+    let f : place + i ≡ pair_number i j = omega arith in
+    column_all s (λ i. bit body (place + i) == 1) j first all before i
+    ∙ ap (λ k. nat_lt i j && (bit body k == 1)) f;
+}

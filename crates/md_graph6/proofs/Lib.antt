@@ -1,6 +1,3 @@
-pub mod BitLemmas
-pub mod FillLemmas
-pub mod PutLemmas
 pub mod Limits
 pub mod PaddingLemmas
 pub mod LineLemmas
@@ -9,3 +6,7 @@ pub mod SizeLemmas
 pub mod DecodeLemmas
 pub mod SpellLemmas
 pub mod FileLemmas
+pub mod BitLemmas
+pub mod PutLemmas
+pub mod FillLemmas
+pub mod WriteLemmas
