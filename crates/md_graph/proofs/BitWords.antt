@@ -281,6 +281,9 @@ block_of_word words n w first s is whole below aligned k h =
 in_use_bit : (n used q x : ℕ) → 64 * used ≤ n → (64 * used ≤ q → x ≡ 0) → (ltb q (64 * used) && (x == 1)) ≡ (ltb q n && (x == 1))
 in_use_bit n used q x within none = grind (arith, nat_tests)
 
+no_bit : (n q x : ℕ) → x ≡ 0 → false ≡ (ltb q n && (x == 1))
+no_bit n q x none = grind (arith, nat_tests)
+
 empty_bit : (n q x y : ℕ) → q < n → x < 2 → (ltb q n && (x == 1)) ≡ false → x ≡ y → y ≡ 0
 empty_bit n q x y below two none same = grind (arith, nat_tests)
 
@@ -319,7 +322,7 @@ ones_more w j =
 
 pub len_of_word : (words : List ℕ) (i j : ℕ) → j ≤ 64 → set.len (names_below words (64 * i + j)) ≡ set.len (names_below words (64 * i)) + ones (get_or words i 0 % 2 ^ j)
 unfolding ones
-len_of_word words i zero h = let none : get_or words i 0 % 1 ≡ 0 = omega arith in rw none (omega arith)
+len_of_word words i zero h = let none : get_or words i 0 % 1 ≡ 0 = omega arith in let same : 64 * i + 0 ≡ 64 * i = omega arith in rw (same, none) (omega arith)
 len_of_word words i (suc j) h =
     let word : (64 * i + j) / 64 ≡ i = omega arith in
     let place : (64 * i + j) % 64 ≡ j = omega arith in
@@ -336,6 +339,9 @@ len_more words i fits =
     let bound : 64 * (i + 1) ≡ 64 * i + 64 = omega arith in
     rw (bound, more, low) refl
 
+pub count_more : (words : List ℕ) (i count : ℕ) → count ≡ set.len (names_below words (64 * i)) → get_or words i 0 < 2 ^ 64 → count + ones (get_or words i 0) ≡ set.len (names_below words (64 * (i + 1)))
+count_more words i count is fits = ap (λ n. n + ones (get_or words i 0)) is ∙ len_more words i fits
+
 -- the words that are not in use have no members
 pub names_in_use : (words : List ℕ) (n w used : ℕ) → InUse words used → n ≡ 64 * w → used ≤ w → names_below words (64 * used) ≡ names_below words n
 names_in_use words n w used rest whole within =
@@ -343,14 +349,31 @@ names_in_use words n w used rest whole within =
       rw (contains-names_below words n q, contains-names_below words (64 * used) q)
       (in_use_bit n used q _ (omega arith) (λ h. zero_bit _ (q % 64) (rest (q / 64) (omega arith)))))
 
--- a set without names has words that are 0
-pub words_of_empty : (words : List ℕ) (n w : ℕ) → n ≡ 64 * w → ((k : ℕ) → get_or words k 0 < 2 ^ 64) → names_below words n ≡ set.empty → (k : ℕ) → k < w → get_or words k 0 ≡ 0
-words_of_empty words n w whole fits is k h =
-    same_from_bits_below 64 _ _ (fits k) (lit< tt) (λ i below.
-      let word : (64 * k + i) / 64 ≡ k = omega arith in
-      let place : (64 * k + i) % 64 ≡ i = omega arith in
-      let bit : bit_of words (64 * k + i) ≡ bit_at (get_or words k 0) i = rw (word, place) refl in
-      let absent = contains-names_below words n (64 * k + i) in
-      let empty = contains-empty (64 * k + i) in
-      let same = ap (λ s. set.contains s (64 * k + i)) is in
-      empty_bit n (64 * k + i) _ _ (omega arith) (bit_at-lt _ _) (sym absent ∙ same ∙ empty) bit ∙ sym (bit_at-zero i))
+-- a word without bits is 0
+pub zero_from_bits : (w : ℕ) → w < 2 ^ 64 → ((i : ℕ) → i < 64 → bit_at w i ≡ 0) → w ≡ 0
+zero_from_bits w fits none = same_from_bits_below 64 w 0 fits (lit< tt) (λ i h. none i h ∙ sym (bit_at-zero i))
+
+pub zero_has_no_bits : (w i : ℕ) → w ≡ 0 → bit_at w i ≡ 0
+zero_has_no_bits w i e = zero_bit w i e
+
+-- the words of a set without names have no bits
+pub bits_of_empty : (words : List ℕ) (n w : ℕ) → n ≡ 64 * w → names_below words n ≡ set.empty → (k i : ℕ) → k < w → i < 64 → bit_at (get_or words k 0) i ≡ 0
+bits_of_empty words n w whole is k i h below =
+    let word : (64 * k + i) / 64 ≡ k = omega arith in
+    let place : (64 * k + i) % 64 ≡ i = omega arith in
+    let bit : bit_of words (64 * k + i) ≡ bit_at (get_or words k 0) i = rw (word, place) refl in
+    let absent = contains-names_below words n (64 * k + i) in
+    let empty = contains-empty (64 * k + i) in
+    let same = ap (λ s. set.contains s (64 * k + i)) is in
+    empty_bit n (64 * k + i) _ _ (omega arith) (bit_at-lt _ _) (sym absent ∙ same ∙ empty) bit
+
+-- and words without bits keep the empty set
+pub empty_of_bits : (words : List ℕ) (n u : ℕ) → InUse words u → ((k i : ℕ) → k < u → i < 64 → bit_at (get_or words k 0) i ≡ 0) → names_below words n ≡ set.empty
+empty_of_bits words n u rest first =
+    from_bits words n _ (λ q.
+      let none = from_both (λ k. bit_at (get_or words k 0) (q % 64) ≡ 0) u (λ k h. first k (q % 64) h (omega arith)) (λ k h. zero_bit _ (q % 64) (rest k h)) (q / 64) in
+      contains-empty q ∙ no_bit n q _ none)
+
+pub len_of_none : (words : List ℕ) → set.len (names_below words 0) ≡ 0
+unfolding names_below
+len_of_none words = len-empty
