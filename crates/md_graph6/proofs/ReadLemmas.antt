@@ -1,0 +1,151 @@
+-- How a reader goes through the lines of a file.
+use Rattle.std.proofs.Common.{◌≡◌, ℕ, zero, suc, ◌+◌, ◌<◌, ◌≤◌, ◌==◌, Bool, true, false, not, Option, List, [], ◌∷◌, length, map, if◌then◌else◌, None, Some, inl, inr, refl, sym, ap, ◌∙◌, arith}
+use mir.Val.{bool_byte}
+use Rattle.std.proofs.lemmas.Bool.Decides.{eqb_tells}
+use Rattle.md_text.specs.Lines.{lines, without_return}
+use Rattle.md_text.proofs.LineLemmas.{lines-nil}
+use Rattle.md_graph6.specs.declared.fault.G6Fault.{G6Fault}
+use Rattle.md_graph6.specs.declared.fault.G6Kind.{G6Kind}
+use Rattle.md_graph6.specs.Line.{line_fault, graph_of_line}
+use Rattle.md_graph6.specs.File.{stripped_lines, fault_after, fault_or, HasNoFault, graphs_of_lines, first_fault, graphs_of}
+
+-- a text without bytes has no lines
+stripped_lines-empty : (text : List ℕ) → length text ≡ 0 → stripped_lines text ≡ []
+stripped_lines-empty [] none = rw lines-nil refl
+stripped_lines-empty (byte ∷ rest) none = absurd (omega arith)
+
+-- the first line and the others
+pub stripped_lines-cut : (text line rest : List ℕ) → lines text ≡ line ∷ lines rest
+    → stripped_lines text ≡ without_return line ∷ stripped_lines rest
+stripped_lines-cut text line rest cut = rw cut refl
+
+-- no lines have no fault
+pub fault_after-end : (before : ℕ) (text : List ℕ) → length text ≡ 0 → fault_after before (stripped_lines text) ≡ None
+unfolding fault_after
+fault_after-end before text none = rw (stripped_lines-empty text none) refl
+
+-- no lines give no graphs
+pub graphs_of_lines-end : (text : List ℕ) → length text ≡ 0 → graphs_of_lines (stripped_lines text) ≡ []
+unfolding graphs_of_lines
+graphs_of_lines-end text none = rw (stripped_lines-empty text none) refl
+
+-- the fault of the first line, or of a later one
+pub fault_after-cut : (before : ℕ) (text line rest : List ℕ) → lines text ≡ line ∷ lines rest
+    → fault_after before (stripped_lines text)
+    ≡ fault_or (line_fault (without_return line)) (before + 1) (fault_after (before + 1) (stripped_lines rest))
+unfolding fault_after
+fault_after-cut before text line rest cut = rw (stripped_lines-cut text line rest cut) refl
+
+-- the graphs behind an empty line
+graphs_of_lines-skip : (line : List ℕ) (more : List (List ℕ)) → length line ≡ 0
+    → graphs_of_lines (line ∷ more) ≡ graphs_of_lines more
+unfolding graphs_of_lines
+graphs_of_lines-skip [] more none = refl
+graphs_of_lines-skip (byte ∷ line) more none = absurd (omega arith)
+
+-- the graph of another line, and the others
+graphs_of_lines-more : (line : List ℕ) (more : List (List ℕ)) → 0 < length line
+    → graphs_of_lines (line ∷ more) ≡ graph_of_line line ∷ graphs_of_lines more
+unfolding graphs_of_lines
+graphs_of_lines-more [] more some = absurd (omega arith)
+graphs_of_lines-more (byte ∷ line) more some = refl
+
+pub graphs-cut_skip : (text line rest : List ℕ) → lines text ≡ line ∷ lines rest → length (without_return line) ≡ 0
+    → graphs_of_lines (stripped_lines text) ≡ graphs_of_lines (stripped_lines rest)
+graphs-cut_skip text line rest cut none =
+    rw (stripped_lines-cut text line rest cut) (graphs_of_lines-skip _ _ none)
+
+pub graphs-cut_more : (text line rest : List ℕ) → lines text ≡ line ∷ lines rest → 0 < length (without_return line)
+    → graphs_of_lines (stripped_lines text)
+    ≡ graph_of_line (without_return line) ∷ graphs_of_lines (stripped_lines rest)
+graphs-cut_more text line rest cut some =
+    rw (stripped_lines-cut text line rest cut) (graphs_of_lines-more _ _ some)
+
+-- what a scan has found out where `number` lines are read, `count` of them graphs
+pub record IsRead (bytes rest : List ℕ) (number count : ℕ) : Type 0 where
+  pub faults : fault_after number (stripped_lines rest) ≡ first_fault bytes
+  pub graphs : count + length (graphs_of_lines (stripped_lines rest)) ≡ length (graphs_of bytes)
+  pub few : count ≤ number
+  pub read : number + length rest ≤ length bytes
+
+-- the number that a test is turned into
+pub bool_byte-if : (b : Bool) → bool_byte b ≡ (if b then 1 else 0)
+bool_byte-if true = refl
+bool_byte-if false = refl
+
+-- one line's graphs are counted
+IsRead-graphs : (bytes rest line more : List ℕ) (number count one : ℕ)
+    → IsRead bytes rest number count → lines rest ≡ line ∷ lines more
+    → one ≡ (if not (length (without_return line) == 0) then 1 else 0)
+    → count + one + length (graphs_of_lines (stripped_lines more)) ≡ length (graphs_of bytes)
+IsRead-graphs bytes rest line more number count one before cut counts =
+    elim (eqb_tells (length (without_return line)) 0) [
+      | inl (test, none) ↦
+        let same : length (graphs_of_lines (stripped_lines rest)) ≡ length (graphs_of_lines (stripped_lines more)) =
+            ap length (graphs-cut_skip rest line more cut none) in
+        let zero_more : one ≡ 0 = counts ∙ rw test refl in
+        omega (arith, before.graphs)
+      | inr (test, some) ↦
+        let same : length (graphs_of_lines (stripped_lines rest))
+            ≡ length (graph_of_line (without_return line) ∷ graphs_of_lines (stripped_lines more)) =
+            ap length (graphs-cut_more rest line more cut (omega arith)) in
+        let one_more : one ≡ 1 = counts ∙ rw test refl in
+        omega (arith, before.graphs)
+    ]
+
+-- a line without fault is read
+pub IsRead-more : (bytes rest line more : List ℕ) (number count one : ℕ) (empty : Bool)
+    → IsRead bytes rest number count → lines rest ≡ line ∷ lines more → length more < length rest
+    → line_fault (without_return line) ≡ None → empty ≡ (length (without_return line) == 0)
+    → one ≡ (if not empty then 1 else 0) → IsRead bytes more (number + 1) (count + one)
+IsRead-more bytes rest line more number count one empty before cut shorter sound is_empty counts = record {
+  faults = sym (fault_after-cut number rest line more cut ∙ rw sound refl) ∙ before.faults;
+  graphs = IsRead-graphs bytes rest line more number count one before cut (counts ∙ rw is_empty refl);
+  few = elim empty as (λ b. one ≡ (if not b then 1 else 0) → count + one ≤ number + 1) [
+    | true ↦ λ e. omega (arith, before.few)
+    | false ↦ λ e. omega (arith, before.few)
+  ] counts;
+  read = omega (arith, before.read)
+}
+
+-- a fault of the next line is the first
+pub IsRead-fault : (bytes rest line more : List ℕ) (number count : ℕ) (kind : G6Kind)
+    → IsRead bytes rest number count → lines rest ≡ line ∷ lines more
+    → line_fault (without_return line) ≡ Some kind → first_fault bytes ≡ Some (record { kind = kind; line = number + 1 })
+IsRead-fault bytes rest line more number count kind before cut faulty =
+    sym before.faults ∙ fault_after-cut number rest line more cut ∙ rw faulty refl
+
+-- nothing is left
+pub IsRead-sound : (bytes rest : List ℕ) (number count : ℕ) → IsRead bytes rest number count → length rest ≡ 0
+    → first_fault bytes ≡ None
+IsRead-sound bytes rest number count before end = sym before.faults ∙ fault_after-end number rest end
+
+pub IsRead-count : (bytes rest : List ℕ) (number count : ℕ) → IsRead bytes rest number count → length rest ≡ 0
+    → count ≡ length (graphs_of bytes)
+IsRead-count bytes rest number count before end =
+    let none : length (graphs_of_lines (stripped_lines rest)) ≡ 0 = ap length (graphs_of_lines-end rest end) in
+    let all : count + length (graphs_of_lines (stripped_lines rest)) ≡ length (graphs_of bytes) = before.graphs in
+    omega arith
+
+-- no fault is found where the line has none and none comes later
+pub fault_or-none : (kind : Option G6Kind) (number : ℕ) (later : Option G6Fault) → fault_or kind number later ≡ None
+    → (kind ≡ None) × (later ≡ None)
+fault_or-none None number later e = (refl, e)
+fault_or-none (Some kind) number later e = cc
+
+-- whether there is a fault doesn't depend on the numbers of the lines
+fault_after-renumbered : (all : List (List ℕ)) (before other : ℕ) → fault_after before all ≡ None
+    → fault_after other all ≡ None
+unfolding fault_after
+fault_after-renumbered [] before other sound = refl
+fault_after-renumbered (line ∷ more) before other sound =
+    let parts = fault_or-none (line_fault line) (before + 1) (fault_after (before + 1) more) sound in
+    rw (parts.0) (fault_after-renumbered more (before + 1) (other + 1) parts.1)
+
+-- a text without fault has a first line without fault, and others
+pub HasNoFault-cut : (text line rest : List ℕ) → lines text ≡ line ∷ lines rest → HasNoFault (stripped_lines text)
+    → (line_fault (without_return line) ≡ None) × HasNoFault (stripped_lines rest)
+HasNoFault-cut text line rest cut sound =
+    let parts = fault_or-none (line_fault (without_return line)) (0 + 1) (fault_after (0 + 1) (stripped_lines rest))
+        (sym (fault_after-cut 0 text line rest cut) ∙ sound) in
+    (parts.0, fault_after-renumbered (stripped_lines rest) (0 + 1) 0 parts.1)

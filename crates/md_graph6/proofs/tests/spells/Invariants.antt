@@ -1,0 +1,6 @@
+use Rattle.std.proofs.Common.{◌≡◌}
+use Rattle.md_graph.specs.PlainGraph.{empty_graph}
+use Rattle.md_graph6.proofs.tests.spells.Given as goal
+
+abbrev pub invariant-loop-n : goal.invariant-loop-n
+invariant-loop-n l = l.graph ≡ empty_graph

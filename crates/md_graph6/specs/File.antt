@@ -1,0 +1,74 @@
+-- A graph6 file: its lines, the graphs that it spells, and its first fault.
+-- Source: B. McKay, "Description of graph6, sparse6 and digraph6 encodings"; the faults are this project's.
+use Rattle.std.specs.Prelude.{◌≡◌, ℕ, ◌+◌, List, [], ◌∷◌, length, map, drop, if◌then◌else◌, nat_eq, Option, None, Some, codes}
+use Rattle.std.specs.List.{starts_with}
+use Rattle.md_graph.specs.PlainGraph.{PlainGraph}
+use Rattle.md_text.specs.Lines.{lines, without_return}
+use Rattle.md_graph6.specs.declared.fault.G6Fault.{G6Fault}
+use Rattle.md_graph6.specs.declared.fault.G6Kind.{G6Kind}
+use Rattle.md_graph6.specs.Line.{SpellsLine, line_fault, graph_of_line}
+
+-- the bytes `>>graph6<<`, with which a file may begin
+abbrev pub header : List ℕ
+header = codes ">>graph6<<"
+
+-- the file without the header
+abbrev pub without_header : List ℕ → List ℕ
+without_header bytes = if starts_with nat_eq bytes header then drop (length header) bytes else bytes
+
+-- the lines of a text, each without one byte 13 at its end; empty ones are among them
+abbrev pub stripped_lines : List ℕ → List (List ℕ)
+stripped_lines bytes = map without_return (lines bytes)
+
+-- the lines of a graph file
+abbrev pub file_lines : List ℕ → List (List ℕ)
+file_lines bytes = stripped_lines (without_header bytes)
+
+-- the lines that aren't empty spell the graphs, one each, in order
+unfoldable pub SpellEach : List (List ℕ) → List PlainGraph → Type 0
+SpellEach [] graphs = graphs ≡ []
+SpellEach ([] ∷ more) graphs = SpellEach more graphs
+SpellEach ((byte ∷ line) ∷ more) [] = ⊥
+SpellEach ((byte ∷ line) ∷ more) (g ∷ graphs) = SpellsLine (byte ∷ line) g × SpellEach more graphs
+
+-- the bytes of a file spell the graphs
+abbrev pub Spells : List ℕ → List PlainGraph → Type 0
+Spells bytes graphs = SpellEach (file_lines bytes) graphs
+
+-- the bytes spell these graphs and no others
+pub record SpellsOnly (bytes : List ℕ) (graphs : List PlainGraph) : Type 0 where
+  pub spells : Spells bytes graphs
+  pub only : (others : List PlainGraph) → Spells bytes others → others ≡ graphs
+
+-- the bytes spell no list of graphs
+abbrev pub SpellsNone : List ℕ → Type 0
+SpellsNone bytes = (graphs : List PlainGraph) → Spells bytes graphs → ⊥
+
+-- the kind, if there is one, as the fault of line `number`, or else what comes later
+abbrev pub fault_or : Option G6Kind → ℕ → Option G6Fault → Option G6Fault
+fault_or None number later = later
+fault_or (Some kind) number later = Some (record { kind = kind; line = number })
+
+-- the first fault of lines behind `before` others
+unfoldable pub fault_after : ℕ → List (List ℕ) → Option G6Fault
+fault_after before [] = None
+fault_after before (line ∷ more) =
+    fault_or (line_fault line) (before + 1) (fault_after (before + 1) more)
+
+-- the first fault of a file: that of its first faulty line, with the number of the line, counted from 1
+abbrev pub first_fault : List ℕ → Option G6Fault
+first_fault bytes = fault_after 0 (file_lines bytes)
+
+-- no line has a fault
+abbrev pub HasNoFault : List (List ℕ) → Type 0
+HasNoFault all = fault_after 0 all ≡ None
+
+-- the graphs of lines without fault, one for each that isn't empty
+unfoldable pub graphs_of_lines : List (List ℕ) → List PlainGraph
+graphs_of_lines [] = []
+graphs_of_lines ([] ∷ more) = graphs_of_lines more
+graphs_of_lines ((byte ∷ line) ∷ more) = graph_of_line (byte ∷ line) ∷ graphs_of_lines more
+
+-- the graphs of a file without fault
+abbrev pub graphs_of : List ℕ → List PlainGraph
+graphs_of bytes = graphs_of_lines (file_lines bytes)

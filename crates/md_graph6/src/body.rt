@@ -1,0 +1,180 @@
+//! The bits of a graph6 line, one for each pair of vertices, read into a graph: 64 bits of a column at once.
+ghost use Rattle.std.specs.Prelude.{◌≡◌, ℕ, ◌+◌, ◌-◌, ◌*◌, ◌/◌, ◌%◌, ◌^◌, ◌<◌, ◌≤◌, ◌==◌, ◌&&◌, nat_lt, length, get_or, if◌then◌else◌};
+ghost use Rattle.std.specs.Int.{bit_at};
+ghost use Rattle.std.specs.List.{AllPass};
+ghost use Rattle.md_graph.specs.PlainGraph.{empty_graph};
+ghost use Rattle.md_graph6.specs.Bits.{bit, pair_number, IsBodyOf};
+ghost use Rattle.md_graph6.specs.Line.{is_group};
+ghost use Rattle.md_graph6.specs.Window.{AreGroups, IsWindow};
+ghost use Rattle.md_graph6.specs.Filled.{HasVertices, IsColumn};
+
+use md_graph::{Graph, NAMES, Names};
+
+/// Each number below 64 with its six bits turned round.
+const TURNED: [u8; 64] = [
+    0, 32, 16, 48, 8, 40, 24, 56, 4, 36, 20, 52, 12, 44, 28, 60,
+    2, 34, 18, 50, 10, 42, 26, 58, 6, 38, 22, 54, 14, 46, 30, 62,
+    1, 33, 17, 49, 9, 41, 25, 57, 5, 37, 21, 53, 13, 45, 29, 61,
+    3, 35, 19, 51, 11, 43, 27, 59, 7, 39, 23, 55, 15, 47, 31, 63,
+];
+
+/// Six bits turned round.
+#[inline]
+pub(crate) fn turned(group: u64) -> u8
+    requires { group < 64 }
+    ensures below { result < 64 }
+    ensures bits { (k : ℕ) → k < 6 → bit_at result k ≡ bit_at group (5 - k) }
+{
+    TURNED[group as usize]
+}
+
+/// The six bits of a byte, the first in the lowest place.
+#[inline]
+pub(crate) fn bits_of(byte: u8) -> u64
+    requires low { 63 ≤ byte }
+    requires high { byte < 127 }
+    ensures below { result < 64 }
+    ensures bits { (k : ℕ) → k < 6 → bit_at result k ≡ bit_at (byte - 63) (5 - k) }
+{
+    turned((byte - 63) as u64) as u64
+}
+
+/// The bits of `low`, n of them, and those of `high` behind them.
+#[inline]
+fn joined(low: u64, high: u64, n: u32) -> u64
+    requires low { low < 2 ^ n }
+    requires high { high < 2 ^ 12 }
+    requires room { n ≤ 52 }
+    ensures { result ≡ high * 2 ^ n + low }
+{
+    low | high << n
+}
+
+/// The twelve bits of two bytes.
+#[inline]
+fn two_groups(body: &[u8], at: usize) -> u64
+    requires groups { AreGroups body.now }
+    requires inside { at + 1 < length body.now }
+    ensures { IsWindow body.now (6 * at) 12 result }
+{
+    joined(bits_of(body[at]), bits_of(body[at + 1]), 6)
+}
+
+/// The sixty bits of ten bytes.
+#[inline]
+fn ten_groups(body: &[u8], at: usize) -> u64
+    requires groups { AreGroups body.now }
+    requires inside { at + 9 < length body.now }
+    ensures { IsWindow body.now (6 * at) 60 result }
+{
+    let word = joined(two_groups(body, at), two_groups(body, at + 2), 12);
+    let word = joined(word, two_groups(body, at + 4), 24);
+    let word = joined(word, two_groups(body, at + 6), 36);
+    joined(word, two_groups(body, at + 8), 48)
+}
+
+/// 64 bits of the body from bit `shift` of byte `at` on.
+#[inline]
+fn bits_inside(body: &[u8], at: usize, shift: u32) -> u64
+    requires groups { AreGroups body.now }
+    requires inside { at + 11 < length body.now }
+    requires shift { shift < 6 }
+    ensures { (k : ℕ) → k < 64 → bit_at result k ≡ bit body.now (6 * at + shift + k) }
+{
+    let first = ten_groups(body, at);
+    let second = two_groups(body, at + 10);
+    first >> shift | second << (60 - shift)
+}
+
+/// Twelve bytes of the body from `at` on; behind its end they have no bit.
+fn padded(body: &[u8], at: usize) -> [u8; 12]
+    requires groups { AreGroups body.now }
+    requires place { at < 2 ^ 62 }
+    ensures groups { AreGroups result }
+    ensures length { length result ≡ 12 }
+    ensures same { (k : ℕ) → k < 12 → get_or result k 63 ≡ get_or body.now (at + k) 63 }
+{
+    let mut twelve = [63; 12];
+    for k in 0..12 {
+        if at + k < body.len() {
+            twelve[k] = body[at + k];
+        }
+    }
+    twelve
+}
+
+/// 64 bits of the body from bit `place` on; behind the body they are 0.
+#[inline]
+pub(crate) fn bits_from(body: &[u8], place: usize) -> u64
+    requires { AreGroups body.now }
+    ensures { (k : ℕ) → k < 64 → bit_at result k ≡ bit body.now (place + k) }
+{
+    let at = place / 6;
+    let shift = (place % 6) as u32;
+    if body.len() >= 12 && at <= body.len() - 12 {
+        return bits_inside(body, at, shift);
+    }
+    bits_inside(&padded(body, at), 0, shift)
+}
+
+/// The lowest `count` bits.
+#[inline]
+pub(crate) fn low_bits(bits: u64, count: u32) -> u64
+    ensures { (k : ℕ) → k < 64 → bit_at result k ≡ (if nat_lt k count then bit_at bits k else 0) }
+{
+    if count < 64 {
+        return bits & ((1 << count) - 1);
+    }
+    bits
+}
+
+/// The place of the first bit of column j.
+#[inline]
+pub(crate) fn column_place(j: u32) -> usize
+    requires { j < NAMES }
+    ensures { result ≡ pair_number 0 j }
+{
+    j as usize * (j as usize).saturating_sub(1) / 2
+}
+
+/// Makes `column` the set of the numbers i < j for which the bit of the pair is 1.
+fn read_column(body: &[u8], j: u32, column: &mut Names)
+    requires name { j < NAMES }
+    requires groups { AreGroups body.now }
+    ensures { IsColumn body.now j column.new }
+{
+    column.clear();
+    let place = column_place(j);
+    for w in 0..(j + 63) / 64 {
+        let first = 64 * w;
+        let bits = bits_from(body, place + first as usize);
+        column.insert_block(first, low_bits(bits, j - first));
+    }
+}
+
+/// Takes in the numbers below n as vertices.
+fn add_vertices(graph: &mut Graph, n: u32)
+    requires empty { graph.old ≡ empty_graph }
+    requires few { n ≤ NAMES }
+    ensures { HasVertices n graph.new }
+{
+    for v in 0..n {
+        graph.add_vertex(v);
+    }
+}
+
+/// Fills the graph with the numbers below n as vertices and the edges whose bits are 1.
+/// Conditions: the graph has no vertices, n is at most the number of names, and each byte is from 63 to 126.
+pub fn fill(graph: &mut Graph, n: u32, body: &[u8])
+    requires empty { graph.old ≡ empty_graph }
+    requires few { n ≤ NAMES }
+    requires groups { AllPass is_group body.now }
+    ensures { IsBodyOf body.now n graph.new }
+{
+    add_vertices(graph, n);
+    let mut column = Names::none();
+    for j in 1..n {
+        read_column(body, j, &mut column);
+        graph.add_edges(j, &column);
+    }
+}

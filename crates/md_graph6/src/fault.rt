@@ -1,0 +1,31 @@
+//! What may be wrong with a graph6 file.
+
+/// What is wrong with a line. A line's first fault is named, in the order: another format, a bad byte, a
+/// size that isn't all there, a size that is spelt too long, too many vertices, too few bytes, too many
+/// bytes, padding that isn't zero.
+#[derive(Clone, Copy, Debug, PartialEq, Eq)]
+pub enum G6Kind {
+    /// A byte is below 63 or above 126.
+    BadByte = 1,
+    /// Fewer bytes would spell the size.
+    BadSize,
+    /// There are more vertices than names.
+    TooManyVertices,
+    /// The line ends inside its size or inside its bits.
+    Truncated,
+    /// The line goes on behind its bits.
+    TrailingBytes,
+    /// A bit that fills up the last byte is 1.
+    BadPadding,
+    /// The line begins as one of another format: `:`, `;` or `&`.
+    OtherFormat,
+}
+
+/// The first fault of a file.
+#[derive(Clone, Copy, Debug, PartialEq, Eq)]
+pub struct G6Fault {
+    /// What is wrong.
+    pub kind: G6Kind,
+    /// The number of the line, counted from 1; empty lines count.
+    pub line: u64,
+}

@@ -1,0 +1,37 @@
+//! Whether a whole file is without fault.
+ghost use Rattle.std.specs.Prelude.{◌≡◌, length, IfOk, IfErr, None, Some};
+ghost use Rattle.md_graph6.specs.File.{first_fault, graphs_of};
+
+use md_text::{split_line, without_return};
+
+use crate::fault::G6Fault;
+use crate::line::line_fault;
+use crate::reader::without_header;
+
+/// The number of graphs in a file. It refuses exactly where the file has a fault, and names the first one:
+/// the first faulty line, and of its faults the first in the order that `G6Kind` gives.
+///
+/// Source: B. McKay, "Description of graph6, sparse6 and digraph6 encodings".
+pub fn scan(bytes: &[u8]) -> Result<u64, G6Fault>
+    ensures sound { IfOk result (λ _. first_fault bytes.now ≡ None) }
+    ensures count { IfOk result (λ count. count ≡ length (graphs_of bytes.now)) }
+    ensures fault { IfErr result (λ fault. first_fault bytes.now ≡ Some fault) }
+{
+    let mut rest = without_header(bytes);
+    let mut count = 0;
+    let mut number = 0;
+    while !rest.is_empty() {
+        let (line, more) = split_line(rest);
+        let line = without_return(line);
+        number += 1;
+        if let Some(kind) = line_fault(line) {
+            return Err(G6Fault {
+                kind,
+                line: number,
+            });
+        }
+        count += u64::from(!line.is_empty());
+        rest = more;
+    }
+    Ok(count)
+}

@@ -1,0 +1,21 @@
+//! graph6: files of one line a graph, read and written.
+//!
+//! `scan` says whether a whole file is without fault, or names its first one. `Lines` then reads the
+//! graphs of such a file one after the other, and `write` writes one graph as a line.
+#![tactic(auto)]
+
+mod body;
+mod fault;
+pub mod laws;
+mod line;
+mod reader;
+mod file;
+mod writer;
+
+pub use fault::{G6Fault, G6Kind};
+pub use reader::Lines;
+pub use file::scan;
+pub use writer::write;
+
+#[cfg(test)]
+mod tests;

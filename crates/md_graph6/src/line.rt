@@ -1,0 +1,164 @@
+//! One line of a graph6 file: its size, its first fault, and the graph that it spells.
+ghost use Rattle.std.specs.Prelude.{◌≡◌, ℕ, ◌+◌, ◌*◌, ◌<◌, ◌≤◌, length, IfSome, None};
+ghost use Rattle.std.specs.List.{AllPass, list_all};
+ghost use Rattle.md_graph.specs.PlainGraph.{empty_graph};
+ghost use Rattle.md_graph6.specs.Bits.{body_length};
+ghost use Rattle.md_graph6.specs.Size.{size_of, eighteen_bits, is_too_long};
+ghost use Rattle.md_graph6.specs.Line.{is_group, pair_count, is_padding_set, begins_other, line_fault, body_fault, graph_of_line};
+
+use md_graph::{Graph, NAMES};
+
+use crate::body;
+use crate::fault::G6Kind;
+
+/// The byte that begins a size of four or of eight bytes.
+const LONG: u8 = 126;
+
+/// The greatest size that one byte spells.
+const MOST_IN_ONE_BYTE: u64 = 62;
+
+/// The greatest size that four bytes spell.
+const MOST_IN_FOUR_BYTES: u64 = 258_047;
+
+/// The 18 bits of the three bytes from `place` on.
+fn eighteen(line: &[u8], place: usize) -> u64
+    requires groups { AllPass is_group line.now }
+    requires inside { place + 2 < length line.now }
+    ensures value { result ≡ eighteen_bits line.now place }
+    ensures below { result < 262144 }
+{
+    let high = u64::from(line[place] - 63);
+    let middle = u64::from(line[place + 1] - 63);
+    let low = u64::from(line[place + 2] - 63);
+    (high * 64 + middle) * 64 + low
+}
+
+/// How many bytes of a line spell its size, and the size; `None` where not all of them are there.
+fn size(line: &[u8]) -> Option<(usize, u64)>
+    requires some { 0 < length line.now }
+    requires groups { AllPass is_group line.now }
+    ensures value { result ≡ size_of line.now }
+    ensures short { IfSome result (λ size. size.0 ≤ 8) }
+{
+    if line[0] != LONG {
+        return Some((1, u64::from(line[0] - 63)));
+    }
+    if line.len() < 4 {
+        return None;
+    }
+    if line[1] != LONG {
+        return Some((4, eighteen(line, 1)));
+    }
+    if line.len() < 8 {
+        return None;
+    }
+    Some((8, eighteen(line, 2) * 262_144 + eighteen(line, 5)))
+}
+
+/// Whether fewer bytes would spell the size.
+fn is_too_long(taken: usize, n: u64) -> bool
+    ensures { result ≡ is_too_long taken n }
+{
+    taken == 4 && n <= MOST_IN_ONE_BYTE || taken == 8 && n <= MOST_IN_FOUR_BYTES
+}
+
+/// The number of pairs of n vertices.
+fn pair_count(n: u64) -> usize
+    requires { n ≤ NAMES }
+    ensures value { result ≡ pair_count n }
+    ensures below { result < 4294967296 }
+{
+    (n * n.saturating_sub(1) / 2) as usize
+}
+
+/// Whether a bit behind those of the pairs is 1. They stand in the last byte.
+fn is_padding_set(body: &[u8], n: u64) -> bool
+    requires few { n ≤ NAMES }
+    requires groups { AllPass is_group body.now }
+    requires long { length body.now ≡ body_length n }
+    ensures { result ≡ is_padding_set body.now n }
+{
+    let padding = body.len() * 6 - pair_count(n);
+    match body {
+        [] => false,
+        [.., last] => (last - 63) % (1 << padding) != 0,
+    }
+}
+
+/// The first fault of a line of which `taken` bytes spell the size.
+fn body_fault(line: &[u8], taken: usize, n: u64) -> Option<G6Kind>
+    requires groups { AllPass is_group line.now }
+    requires short { taken ≤ 8 }
+    ensures { result ≡ body_fault line.now taken n }
+{
+    if is_too_long(taken, n) {
+        return Some(G6Kind::BadSize);
+    }
+    if n > u64::from(NAMES) {
+        return Some(G6Kind::TooManyVertices);
+    }
+    let end = taken + pair_count(n).div_ceil(6);
+    if line.len() < end {
+        return Some(G6Kind::Truncated);
+    }
+    if line.len() > end {
+        return Some(G6Kind::TrailingBytes);
+    }
+    if is_padding_set(&line[taken..], n) {
+        return Some(G6Kind::BadPadding);
+    }
+    None
+}
+
+/// Whether a line with this first byte is of another format.
+fn begins_other(first: u8) -> bool
+    ensures { result ≡ begins_other first }
+{
+    first == b':' || first == b';' || first == b'&'
+}
+
+/// Whether each byte is 63 with six bits added. The least and the greatest byte are found 16 bytes at a time.
+fn are_groups(line: &[u8]) -> bool
+    ensures { result ≡ list_all is_group line.now }
+{
+    let mut least = 126;
+    let mut greatest = 63;
+    for byte in line {
+        least = least.min(*byte);
+        greatest = greatest.max(*byte);
+    }
+    63 <= least && greatest <= 126
+}
+
+/// The first fault of a line; an empty one has none.
+pub fn line_fault(line: &[u8]) -> Option<G6Kind>
+    ensures { result ≡ line_fault line.now }
+{
+    if line.is_empty() {
+        return None;
+    }
+    if begins_other(line[0]) {
+        return Some(G6Kind::OtherFormat);
+    }
+    if !are_groups(line) {
+        return Some(G6Kind::BadByte);
+    }
+    match size(line) {
+        Some((taken, n)) => body_fault(line, taken, n),
+        None => Some(G6Kind::Truncated),
+    }
+}
+
+/// Fills the graph with the one that a line spells. Conditions: the line isn't empty and has no fault, and
+/// the graph has no vertices.
+pub fn fill_line(graph: &mut Graph, line: &[u8])
+    requires empty { graph.old ≡ empty_graph }
+    requires some { 0 < length line.now }
+    requires sound { line_fault line.now ≡ None }
+    ensures { graph.new ≡ graph_of_line line.now }
+{
+    let Some((taken, n)) = size(line) else {
+        unreachable!();
+    };
+    body::fill(graph, n as u32, &line[taken..]);
+}

@@ -1,0 +1,97 @@
+//! The graphs of a file without fault, one after the other.
+ghost use Rattle.std.specs.Prelude.{◌≡◌, ◌<◌, ◌≤◌, [], ◌∷◌, length, None};
+ghost use Rattle.std.specs.Bool.{OnTrue, OnFalse};
+ghost use Rattle.md_graph.specs.PlainGraph.{empty_graph};
+ghost use Rattle.md_graph6.specs.Line.{line_fault, graph_of_line};
+ghost use Rattle.md_graph6.specs.File.{without_header, stripped_lines, graphs_of_lines, HasNoFault, first_fault, graphs_of};
+
+use std::marker::Model;
+
+use md_graph::Graph;
+use md_text::{split_line, without_return};
+
+use crate::line::fill_line;
+
+/// The graphs of a file that aren't read yet.
+#[derive(Drop)]
+pub struct Lines<'a> {
+    rest: &'a [u8],
+}
+
+impl<'a> Model for Lines<'a> {
+    ghost use Rattle.std.specs.Prelude.{List};
+    ghost use Rattle.std.specs.Coded.{coded_list};
+    ghost use Rattle.md_graph.specs.PlainGraph.{PlainGraph, graph_code};
+    ghost use Rattle.md_graph6.specs.File.{stripped_lines, graphs_of_lines, HasNoFault};
+
+    ghost Value = { List PlainGraph };
+
+    ghost coded = { coded_list graph_code };
+
+    ghost view = { λ l. graphs_of_lines (stripped_lines l.rest.now) };
+
+    ghost invariant = { λ l. HasNoFault (stripped_lines l.rest.now) };
+}
+
+impl<'a> Lines<'a> {
+    /// The graphs of a file. Condition: it has no fault, which `scan` tests.
+    pub fn new(bytes: &'a [u8]) -> Lines<'a>
+        requires { first_fault bytes.now ≡ None }
+        ensures { result ≡ graphs_of bytes.now }
+    {
+        Lines {
+            rest: without_header(bytes),
+        }
+    }
+
+    /// Fills the graph with the first of the graphs, takes that off, and answers true. It answers false
+    /// exactly where no graph is left, and the graph then stays without vertices.
+    /// Condition: the graph has no vertices.
+    pub fn next(&mut self, graph: &mut Graph) -> bool
+        requires { graph.old ≡ empty_graph }
+        ensures first { OnTrue result (self.old ≡ graph.new ∷ self.new) }
+        ensures none { OnFalse result (self.old ≡ []) }
+        ensures none_left { OnFalse result (self.new ≡ []) }
+        ensures stays { OnFalse result (graph.new ≡ empty_graph) }
+    {
+        let (line, rest) = next_line(self.rest);
+        self.rest = rest;
+        if line.is_empty() {
+            return false;
+        }
+        fill_line(graph, line);
+        true
+    }
+}
+
+/// The file without its header, if it has one.
+pub fn without_header(bytes: &[u8]) -> &[u8]
+    ensures value { result.now ≡ without_header bytes.now }
+    ensures shorter { length result.now ≤ length bytes.now }
+{
+    bytes.strip_prefix(b">>graph6<<").unwrap_or(bytes)
+}
+
+/// The first line that isn't empty, and what stands behind it; an empty one where there is none.
+fn next_line(text: &[u8]) -> (&[u8], &[u8])
+    requires { HasNoFault (stripped_lines text.now) }
+    ensures first {
+        0 < length result.0.now →
+            graphs_of_lines (stripped_lines text.now) ≡ graph_of_line result.0.now ∷ graphs_of_lines (stripped_lines result.1.now)
+    }
+    ensures none { length result.0.now ≡ 0 → graphs_of_lines (stripped_lines text.now) ≡ [] }
+    ensures none_left { length result.0.now ≡ 0 → graphs_of_lines (stripped_lines result.1.now) ≡ [] }
+    ensures sound { line_fault result.0.now ≡ None }
+    ensures rest_sound { HasNoFault (stripped_lines result.1.now) }
+{
+    let mut rest = text;
+    while !rest.is_empty() {
+        let (line, more) = split_line(rest);
+        let line = without_return(line);
+        rest = more;
+        if !line.is_empty() {
+            return (line, rest);
+        }
+    }
+    (rest, rest)
+}

@@ -1,0 +1,264 @@
+//! The text of a graph in graph6, 64 bits of a column at once.
+ghost use Rattle.std.specs.Prelude.{IfOk, ◌++◌, true, vec_len, vec_capacity, ◌≡◌, ℕ, ◌+◌, ◌-◌, ◌*◌, ◌/◌, ◌%◌, ◌^◌, ◌<◌, ◌≤◌, ◌==◌, ◌&&◌, nat_lt, length, get_or, if◌then◌else◌};
+ghost use Rattle.std.specs.Int.{bit_at};
+ghost use Rattle.std.specs.FinSet as set;
+ghost use Rattle.md_graph.specs.NameSet.{Member, ascending};
+ghost use Rattle.md_graph.specs.PlainGraph.{adjacent, IsGraph};
+ghost use Rattle.md_graph6.specs.Bits.{bit, pair_number, body_length};
+ghost use Rattle.md_graph6.specs.Size.{size_text};
+ghost use Rattle.md_graph6.specs.Window.{AreGroups, IsPut};
+ghost use Rattle.md_graph6.specs.Written.{bit_if, nth, IsWritten, IsTextOf};
+
+use std::alloc::Global;
+
+use md_graph::{Graph, Memory, NAMES, Names};
+
+use crate::body::{bits_of, column_place, low_bits, turned};
+
+/// The byte of six bits that are 0.
+const NO_BITS: u8 = 63;
+
+/// The greatest size that one byte spells.
+const MOST_IN_ONE_BYTE: u32 = 62;
+
+/// The byte of the lowest six bits of a word, the first bit in the lowest place.
+#[inline]
+fn byte_of(bits: u64) -> u8
+    ensures low { 63 ≤ result }
+    ensures high { result < 127 }
+    ensures bits { (k : ℕ) → k < 6 → bit_at (result - 63) (5 - k) ≡ bit_at bits k }
+{
+    NO_BITS + turned(bits & 63)
+}
+
+/// Sets one byte.
+#[inline]
+fn set_group(body: &mut [u8], at: usize, bits: u64)
+    requires groups { AreGroups body.old }
+    requires inside { at < length body.old }
+    ensures { IsPut body.old body.new at 1 bits }
+{
+    body[at] = byte_of(bits);
+}
+
+/// Sets two bytes.
+#[inline]
+fn set_two(body: &mut [u8], at: usize, bits: u64)
+    requires groups { AreGroups body.old }
+    requires inside { at + 1 < length body.old }
+    ensures { IsPut body.old body.new at 2 bits }
+{
+    set_group(body, at, bits);
+    set_group(body, at + 1, bits >> 6);
+}
+
+/// Sets ten bytes.
+#[inline]
+fn set_ten(body: &mut [u8], at: usize, bits: u64)
+    requires groups { AreGroups body.old }
+    requires inside { at + 9 < length body.old }
+    ensures { IsPut body.old body.new at 10 bits }
+{
+    set_two(body, at, bits);
+    set_two(body, at + 2, bits >> 12);
+    set_two(body, at + 4, bits >> 24);
+    set_two(body, at + 6, bits >> 36);
+    set_two(body, at + 8, bits >> 48);
+}
+
+/// Sets twelve bytes, to the lowest sixty bits of `low` and the lowest twelve of `high`.
+#[inline]
+fn set_twelve(body: &mut [u8], at: usize, low: u64, high: u64)
+    requires groups { AreGroups body.old }
+    requires inside { at + 11 < length body.old }
+    ensures { IsPut body.old body.new at 12 (high * 2 ^ 60 + low % 2 ^ 60) }
+{
+    set_ten(body, at, low);
+    set_two(body, at + 10, high);
+}
+
+/// Copies what fits of twelve bytes to the end of the body, from `at` on.
+fn copy_end(body: &mut [u8], at: usize, twelve: &[u8])
+    requires inside { at < length body.old }
+    requires end { length body.old ≤ at + 12 }
+    requires twelve { length twelve.now ≡ 12 }
+    ensures before { (k : ℕ) → k < at → get_or body.new k 63 ≡ get_or body.old k 63 }
+    ensures from { (k : ℕ) → at + k < length body.old → get_or body.new (at + k) 63 ≡ get_or twelve.now k 63 }
+{
+    for i in at..body.len() {
+        body[i] = twelve[i - at];
+    }
+}
+
+/// Sets the last bytes of the body, as `set_twelve` does. Condition: bits behind its end are 0.
+fn set_end(body: &mut [u8], at: usize, low: u64, high: u64)
+    requires groups { AreGroups body.old }
+    requires inside { at < length body.old }
+    requires end { length body.old ≤ at + 12 }
+    requires room { (i : ℕ) → 6 * length body.old ≤ 6 * at + i → bit_at (high * 2 ^ 60 + low % 2 ^ 60) i ≡ 0 }
+    ensures { IsPut body.old body.new at 12 (high * 2 ^ 60 + low % 2 ^ 60) }
+{
+    let mut twelve = [NO_BITS; 12];
+    set_twelve(&mut twelve, 0, low, high);
+    copy_end(body, at, &twelve);
+}
+
+/// Puts 64 bits into a body that has none from `place` on. Condition: bits behind its end are 0.
+#[inline]
+pub(crate) fn put_bits(body: &mut [u8], place: usize, bits: u64)
+    requires groups { AreGroups body.old }
+    requires inside { place < 6 * length body.old }
+    requires blank { (k : ℕ) → place ≤ k → bit body.old k ≡ 0 }
+    requires room { (k : ℕ) → 6 * length body.old ≤ place + k → bit_at bits k ≡ 0 }
+    ensures groups { AreGroups body.new }
+    ensures bits { (k : ℕ) → bit body.new k ≡ (if nat_lt k place then bit body.old k else bit_at bits (k - place)) }
+{
+    let at = place / 6;
+    let shift = (place % 6) as u32;
+    let low = bits_of(body[at]) | bits << shift;
+    let high = bits >> (60 - shift);
+    if body.len() - at >= 12 {
+        set_twelve(body, at, low, high);
+        return;
+    }
+    set_end(body, at, low, high);
+}
+
+/// Puts column j behind the columns before it: its bits say which of the numbers below j are members.
+fn put_column(body: &mut [u8], j: u32, column: &Names)
+    requires name { j < NAMES }
+    requires groups { AreGroups body.old }
+    requires room { pair_number j j ≤ 6 * length body.old }
+    requires blank { (k : ℕ) → pair_number 0 j ≤ k → bit body.old k ≡ 0 }
+    ensures groups { AreGroups body.new }
+    ensures before { (k : ℕ) → k < pair_number 0 j → bit body.new k ≡ bit body.old k }
+    ensures column { (i : ℕ) → bit body.new (pair_number i j) ≡ bit_if (nat_lt i j && set.contains column.now i) }
+{
+    let place = column_place(j);
+    for w in 0..(j + 63) / 64 {
+        let first = 64 * w;
+        put_bits(body, place + first as usize, low_bits(column.block(first), j - first));
+    }
+}
+
+/// The number of vertices, and whether they are the numbers below it.
+fn shape(graph: &Graph) -> (u32, bool)
+    ensures count { result.0 ≡ length (ascending graph.now.vertices) }
+    ensures few { result.0 ≤ NAMES }
+    ensures numbered { result.1 ≡ true → (i : ℕ) → i < result.0 → nth graph.now i ≡ i }
+{
+    let mut count = 0;
+    let mut numbered = true;
+    for v in graph.vertices().members() {
+        if v != count {
+            numbered = false;
+        }
+        count += 1;
+    }
+    (count, numbered)
+}
+
+/// Makes `column` the set of the numbers i < j for which the i-th vertex is in the row.
+fn gather(graph: &Graph, row: &Names, j: u32, column: &mut Names)
+    requires { j ≤ length (ascending graph.now.vertices) }
+    ensures { (i : ℕ) → set.contains column.new i ≡ (nat_lt i j && set.contains row.now (nth graph.now i)) }
+{
+    column.clear();
+    let mut i = 0;
+    for u in graph.vertices().members() {
+        if i == j {
+            return;
+        }
+        if row.has(u) {
+            column.insert(i);
+        }
+        i += 1;
+    }
+}
+
+/// Puts the bits of a graph whose vertices are the numbers below n.
+fn put_numbered(body: &mut [u8], graph: &Graph, n: u32)
+    requires count { n ≡ length (ascending graph.now.vertices) }
+    requires few { n ≤ NAMES }
+    requires numbered { (i : ℕ) → i < n → nth graph.now i ≡ i }
+    requires blank { IsWritten body.old graph.now 0 }
+    requires room { pair_number 0 n ≤ 6 * length body.old }
+    ensures { IsWritten body.new graph.now n }
+{
+    for j in 0..n {
+        put_column(body, j, graph.row(j));
+    }
+}
+
+/// Puts the bits of any graph, the i-th vertex taken as i.
+fn put_any(body: &mut [u8], graph: &Graph)
+    requires blank { IsWritten body.old graph.now 0 }
+    requires room { pair_number 0 (length (ascending graph.now.vertices)) ≤ 6 * length body.old }
+    ensures { IsWritten body.new graph.now (length (ascending graph.now.vertices)) }
+{
+    let mut column = Names::none();
+    let mut j = 0;
+    for v in graph.vertices().members() {
+        gather(graph, graph.row(v), j, &mut column);
+        put_column(body, j, &column);
+        j += 1;
+    }
+}
+
+/// How many bytes spell the size n in its shortest spelling.
+fn size_length(n: u32) -> usize
+    requires { n ≤ NAMES }
+    ensures { result ≡ length (size_text n) }
+{
+    if n <= MOST_IN_ONE_BYTE { 1 } else { 4 }
+}
+
+/// Puts the size n in its shortest spelling behind a text that has room for it.
+fn push_size(text: &mut Vec<u8>, n: u32)
+    requires few { n ≤ NAMES }
+    requires room { vec_len text.old + length (size_text n) ≤ vec_capacity text.old }
+    ensures items { text.new.items ≡ text.old.items ++ size_text n }
+    ensures capacity { vec_capacity text.new ≡ vec_capacity text.old }
+{
+    if n <= MOST_IN_ONE_BYTE {
+        text.push_reserved(n as u8 + NO_BITS);
+        return;
+    }
+    text.push_reserved(126);
+    text.push_reserved((n / 64 / 64 % 64) as u8 + NO_BITS);
+    text.push_reserved((n / 64 % 64) as u8 + NO_BITS);
+    text.push_reserved((n % 64) as u8 + NO_BITS);
+}
+
+/// How many bytes hold a bit for each pair of n vertices.
+fn body_length(n: u32) -> usize
+    requires { n ≤ NAMES }
+    ensures { result ≡ body_length n }
+{
+    (n as usize * (n as usize).saturating_sub(1) / 2 + 5) / 6
+}
+
+/// The graph6 line of the graph in the shortest spelling, and a line feed. The i-th vertex in ascending
+/// order, counted from 0, is i. Error: want of memory. Source: the public description of the format.
+pub fn write(alloc: Global, graph: &Graph) -> Result<Vec<u8>, Memory>
+    ensures { IfOk result (λ text. IsTextOf text.items graph.now) }
+{
+    let (n, numbered) = shape(graph);
+    let size = size_length(n);
+    let end = size + body_length(n);
+    let Ok(mut text) = Vec::with_capacity(alloc, end + 1) else {
+        return Err(Memory);
+    };
+    push_size(&mut text, n);
+    if text.resize(end, NO_BITS).is_err() {
+        return Err(Memory);
+    }
+    let body = &mut text.as_mut_slice()[size..];
+    if numbered {
+        put_numbered(body, graph, n);
+    } else {
+        put_any(body, graph);
+    }
+    text.push_reserved(b'\n');
+    Ok(text)
+}
