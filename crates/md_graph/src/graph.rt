@@ -1,8 +1,9 @@
 //! Undirected graphs without loops and parallel edges.
-ghost use Rattle.std.specs.Prelude.{◌≡◌, ℕ, ◌<◌, ◌≢◌, false, IfOk, IfSome, IfNone};
+ghost use Rattle.std.specs.Prelude.{◌≡◌, ℕ, ◌<◌, ◌≢◌, true, false, IfOk, IfSome, IfNone, length, if◌then◌else◌};
 ghost use Rattle.std.specs.FinSet as set;
 ghost use Rattle.md_graph.specs.NameSet.{Member, IsLeastFrom, NoneFrom};
-ghost use Rattle.md_graph.specs.PlainGraph.{adjacent, neighbours, IsGraph, empty_graph, with_vertex, with_edge, with_edges};
+ghost use Rattle.md_graph.specs.PlainGraph.{adjacent, neighbours, IsGraph, empty_graph, with_vertex, with_edge, with_edges, complement, induced, without_vertex, without_edge};
+ghost use Rattle.md_graph.specs.Rows.{row_of};
 
 use std::alloc::Global;
 use std::marker::Model;
@@ -146,18 +147,147 @@ impl Graph {
         ensures { self.new ≡ with_edges self.old v others.now }
     {
         self.rows[v as usize].take_in(others);
-        for u in others.members() {
-            self.rows[u as usize].insert(v);
-        }
+        insert_in_rows(&mut self.rows, others, v);
+    }
+
+    /// Leaves out the vertex `v` and the edges at it. Condition: it is a vertex.
+    pub fn remove_vertex(&mut self, v: u32)
+        requires { Member self.old.vertices v }
+        ensures { self.new ≡ without_vertex self.old v }
+    {
+        let others = self.rows[v as usize].copy();
+        remove_from_rows(&mut self.rows, &others, v);
+        self.rows[v as usize].clear();
+        self.live.remove(v);
+    }
+
+    /// Leaves out the edge between `u` and `v`. Condition: it is there.
+    pub fn remove_edge(&mut self, u: u32, v: u32)
+        requires { adjacent self.old u v ≡ true }
+        ensures { self.new ≡ without_edge self.old u v }
+    {
+        self.rows[u as usize].remove(v);
+        self.rows[v as usize].remove(u);
     }
 
     /// All vertices and edges go. It passes over the rows of the vertices alone.
     pub fn clear(&mut self)
         ensures { self.new ≡ empty_graph }
     {
-        for v in self.live.members() {
-            self.rows[v as usize].clear();
-        }
+        clear_rows(&mut self.rows, &self.live);
         self.live.clear();
+    }
+
+    /// An equal graph.
+    pub fn copy(&self, alloc: Global) -> Result<Graph, Memory>
+        ensures { IfOk result (λ g. g ≡ self.now) }
+    {
+        let Ok(mut rows) = Vec::with_capacity(alloc, NAMES as usize) else {
+            return Err(Memory);
+        };
+        for v in 0..NAMES {
+            if rows.push(self.rows[v as usize].copy()).is_err() {
+                return Err(Memory);
+            }
+        }
+        Ok(Graph {
+            live: self.live.copy(),
+            rows,
+        })
+    }
+
+    /// The complement: the same vertices, and an edge between two of them where this graph has none.
+    pub fn complement(&self, alloc: Global) -> Result<Graph, Memory>
+        ensures { IfOk result (λ g. g ≡ complement self.now) }
+    {
+        let Ok(mut rows) = Vec::with_capacity(alloc, NAMES as usize) else {
+            return Err(Memory);
+        };
+        for v in 0..NAMES {
+            if rows.push(self.complement_row(v)).is_err() {
+                return Err(Memory);
+            }
+        }
+        Ok(Graph {
+            live: self.live.copy(),
+            rows,
+        })
+    }
+
+    /// The graph that this graph induces on `names`: the vertices among them, and the edges between these.
+    pub fn induced(&self, alloc: Global, names: &Names) -> Result<Graph, Memory>
+        ensures { IfOk result (λ g. g ≡ induced self.now names.now) }
+    {
+        let Ok(mut rows) = Vec::with_capacity(alloc, NAMES as usize) else {
+            return Err(Memory);
+        };
+        for v in 0..NAMES {
+            if rows.push(self.induced_row(v, names)).is_err() {
+                return Err(Memory);
+            }
+        }
+        Ok(Graph {
+            live: self.live.and(names),
+            rows,
+        })
+    }
+
+    // The row of `v` in the complement.
+    fn complement_row(&self, v: u32) -> Names
+        requires { v < NAMES }
+        ensures { result ≡ neighbours (complement self.now) v }
+    {
+        if !self.live.has(v) {
+            return Names::none();
+        }
+        let mut others = self.live.minus(&self.rows[v as usize]);
+        others.remove(v);
+        others
+    }
+
+    // The row of `v` in the graph that this graph induces on `names`.
+    fn induced_row(&self, v: u32, names: &Names) -> Names
+        requires { v < NAMES }
+        ensures { result ≡ neighbours (induced self.now names.now) v }
+    {
+        if !names.has(v) {
+            return Names::none();
+        }
+        self.rows[v as usize].and(names)
+    }
+}
+
+// Takes `v` into the row of each member of `names`.
+fn insert_in_rows(rows: &mut [Names], names: &Names, v: u32)
+    requires name { v < NAMES }
+    requires in_rows { (u : ℕ) → Member names.now u → u < length rows.old }
+    ensures { (u : ℕ) → row_of rows.new u
+        ≡ (if set.contains names.now u then set.insert (row_of rows.old u) v else row_of rows.old u) }
+{
+    for u in names.members() {
+        rows[u as usize].insert(v);
+    }
+}
+
+// Leaves `v` out of the row of each member of `names`.
+fn remove_from_rows(rows: &mut [Names], names: &Names, v: u32)
+    requires name { v < NAMES }
+    requires in_rows { (u : ℕ) → Member names.now u → u < length rows.old }
+    ensures { (u : ℕ) → row_of rows.new u
+        ≡ (if set.contains names.now u then set.remove (row_of rows.old u) v else row_of rows.old u) }
+{
+    for u in names.members() {
+        rows[u as usize].remove(v);
+    }
+}
+
+// All members of the row of each member of `names` go.
+fn clear_rows(rows: &mut [Names], names: &Names)
+    requires { (u : ℕ) → Member names.now u → u < length rows.old }
+    ensures { (u : ℕ) → row_of rows.new u
+        ≡ (if set.contains names.now u then set.empty else row_of rows.old u) }
+{
+    for u in names.members() {
+        rows[u as usize].clear();
     }
 }

@@ -1,9 +1,9 @@
 //! Sets of names.
-ghost use Rattle.std.specs.Prelude.{◌≡◌, ℕ, slice_index, bit_and, bit_or, ◌+◌, ◌*◌, ◌/◌, ◌%◌, ◌^◌, ◌<◌, ◌≤◌, ◌↔◌, IsTrue, IsNone, IfSome, IfNone, ◌==◌};
+ghost use Rattle.std.specs.Prelude.{◌≡◌, nat_le, if◌then◌else◌, ◌≢◌, ◌∷◌, ℕ, length, slice_index, bit_and, bit_or, ◌+◌, ◌*◌, ◌/◌, ◌%◌, ◌^◌, ◌<◌, ◌≤◌, ◌↔◌, IsTrue, IsNone, IfSome, IfNone, ◌==◌};
 ghost use Rattle.std.specs.Int.{bit_at};
 ghost use Rattle.std.specs.FinSet as set;
 ghost use Rattle.md_graph.specs.NameSet.{Member, IsLeastFrom, NoneFrom, AllBelow, ascending, ascending_from, block};
-ghost use Rattle.md_graph.specs.Words.{IsWithout, names_below};
+ghost use Rattle.md_graph.specs.Words.{IsWithout, names_below, bits_between};
 
 use std::marker::Model;
 
@@ -64,9 +64,7 @@ impl Names {
     {
         let word = v as usize / 64;
         self.words[word] |= 1 << (v % 64);
-        if self.used <= word {
-            self.used = word + 1;
-        }
+        self.used = self.used.max(word + 1);
     }
 
     /// Leaves `v` out. Condition: it is a name.
@@ -90,9 +88,7 @@ impl Names {
         ensures { self.new ≡ set.union self.old other.now }
     {
         join_in(&mut self.words, &other.words, other.used);
-        if self.used < other.used {
-            self.used = other.used;
-        }
+        self.used = self.used.max(other.used);
     }
 
     /// Whether `v`, any number, is a member.
@@ -171,15 +167,19 @@ impl Names {
         ensures names { AllBelow self.now NAMES }
     {
         let at = v as usize / 64;
-        let mut left = 0;
-        if at < self.used {
-            left = self.words[at] >> (v % 64) << (v % 64);
+        if self.used <= at {
+            return Members {
+                words: &self.words,
+                used: self.used,
+                at: self.used,
+                left: 0,
+            };
         }
         Members {
             words: &self.words,
             used: self.used,
             at,
-            left,
+            left: from_place(self.words[at], v % 64),
         }
     }
 
@@ -192,9 +192,7 @@ impl Names {
     {
         let word = first as usize / 64;
         self.words[word] |= bits;
-        if self.used <= word {
-            self.used = word + 1;
-        }
+        self.used = self.used.max(word + 1);
     }
 
     /// Which of the names `first + k`, k below 64, are members: bit k of the answer is 1 exactly for these.
@@ -210,7 +208,8 @@ impl Names {
 
 /// Words that are all 0.
 fn no_words() -> [u64; WORDS]
-    ensures { (k : ℕ) → slice_index result k ≡ 0 }
+    ensures size { length result ≡ WORDS }
+    ensures zeros { (k : ℕ) → slice_index result k ≡ 0 }
 {
     [0; WORDS]
 }
@@ -281,8 +280,9 @@ fn first_alone(first: &[u64; WORDS], second: &[u64; WORDS], used: usize) -> [u64
 }
 
 /// How many bits of the first `used` words are 1.
-fn count_bits(words: &[u64; WORDS], used: usize) -> u32
-    requires { used ≤ WORDS }
+fn count_bits(words: &[u64], used: usize) -> u32
+    requires few { used ≤ WORDS }
+    requires used { used ≤ length words.now }
     ensures { result ≡ set.len (names_below words.now (64 * used)) }
 {
     let mut count = 0;
@@ -293,9 +293,10 @@ fn count_bits(words: &[u64; WORDS], used: usize) -> u32
 }
 
 /// Whether the first `used` words are 0.
-fn are_all_zero(words: &[u64; WORDS], used: usize) -> bool
-    requires { used ≤ WORDS }
-    ensures { IsTrue result ↔ ((k : ℕ) → k < used → slice_index words.now k ≡ 0) }
+fn are_all_zero(words: &[u64], used: usize) -> bool
+    requires { used ≤ length words.now }
+    ensures { IsTrue result
+        ↔ ((k i : ℕ) → k < used → i < 64 → bit_at (slice_index words.now k) i ≡ 0) }
 {
     for i in 0..used {
         if words[i] != 0 {
@@ -303,6 +304,24 @@ fn are_all_zero(words: &[u64; WORDS], used: usize) -> bool
         }
     }
     true
+}
+
+/// The bits of `word` from `place` on.
+fn from_place(word: u64, place: u32) -> u64
+    requires { place < 64 }
+    ensures { (k : ℕ) → k < 64 → bit_at result k ≡ (if nat_le place k then bit_at word k else 0) }
+{
+    word >> place << place
+}
+
+/// The place of the lowest 1 of `bits`, and `bits` without it.
+fn lowest(bits: u64) -> (u32, u64)
+    requires { bits ≢ 0 }
+    ensures place { result.0 < 64 }
+    ensures rest { (first : ℕ)
+        → bits_between first bits 64 ≡ (first + result.0) ∷ bits_between first result.1 64 }
+{
+    (bits.trailing_zeros(), bits & (bits - 1))
 }
 
 /// The members of a set that are still to come, ascending: word by word, and in a word from bit to bit.
@@ -324,7 +343,7 @@ impl<'a> Model for Members<'a> {
 
     ghost view = { λ m. members_left m.words.now m.used m.at m.left };
 
-    ghost invariant = { λ m. m.used ≤ WORDS };
+    ghost invariant = { λ m. (m.used ≤ WORDS) × (m.at ≤ WORDS) };
 }
 
 impl<'a> Iterator for Members<'a> {
@@ -344,8 +363,8 @@ impl<'a> Iterator for Members<'a> {
             self.at += 1;
             self.left = self.words[self.at];
         }
-        let k = self.left.trailing_zeros();
-        self.left &= self.left - 1;
-        Some(64 * self.at as u32 + k)
+        let (place, left) = lowest(self.left);
+        self.left = left;
+        Some(64 * self.at as u32 + place)
     }
 }

@@ -2,6 +2,10 @@ pub mod Limits
 pub mod PaddingLemmas
 pub mod LineLemmas
 pub mod ReadLemmas
+pub mod SizeLemmas
+pub mod DecodeLemmas
+pub mod SpellLemmas
+pub mod FileLemmas
 pub mod BitLemmas
 pub mod PutLemmas
 pub mod FillLemmas

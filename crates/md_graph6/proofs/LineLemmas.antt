@@ -1,6 +1,7 @@
 -- The faults of one line, and what a line without fault is made of.
 use Rattle.std.proofs.Common.{◌≡◌, ℕ, zero, suc, ◌+◌, ◌-◌, ◌*◌, ◌/◌, ◌%◌, ◌^◌, ◌<◌, ◌≤◌, ◌==◌, ◌||◌, ◌&&◌, Bool, true, false, not, nat_lt, List, [], ◌∷◌, length, get_or, drop, if◌then◌else◌, Option, None, Some, refl, sym, ap, ◌∙◌, arith}
-use Rattle.std.specs.List.{list_all}
+use Rattle.std.specs.List.{list_all, AllPass}
+use Rattle.std.proofs.lemmas.List.Sums.{AllPass-from_list_all}
 use Rattle.std.proofs.lemmas.Bool.Decides.{nat_tests}
 use Rattle.std.proofs.lemmas.Grind.{common_steps}
 use Rattle.md_graph.specs.declared.TheConstants.{NAMES}
@@ -45,3 +46,42 @@ body_fault-none line taken n e = record {
   long = grind (arith, nat_tests);
   padding = grind (arith, nat_tests);
 }
+
+-- a line without fault has a size, and a sound body
+pub record IsSoundLine (line : List ℕ) : Type 0 where
+  pub groups : AllPass is_group line
+  pub taken : ℕ
+  pub n : ℕ
+  pub sized : size_of line ≡ Some (taken, n)
+  pub body : IsSoundBody line taken n
+
+size_fault-none : (line : List ℕ) (size : Option (ℕ × ℕ)) → AllPass is_group line → size_of line ≡ size
+    → size_fault line size ≡ None → IsSoundLine line
+unfolding size_fault
+size_fault-none line None groups sized sound = cc
+size_fault-none line (Some size) groups sized sound = record {
+  groups = groups;
+  taken = size.0;
+  n = size.1;
+  sized = sized;
+  body = body_fault-none line size.0 size.1 sound;
+}
+
+first_faults-none : (line : List ℕ) (other groups : Bool) (later : Option G6Kind)
+    → (if other then Some OtherFormat else if not groups then Some BadByte else later) ≡ None
+    → (other ≡ false) × (groups ≡ true) × (later ≡ None)
+first_faults-none line true groups later e = cc
+first_faults-none line false false later e = cc
+first_faults-none line false true later e = (refl, refl, e)
+
+pub line_fault-none : (line : List ℕ) → 0 < length line → line_fault line ≡ None → IsSoundLine line
+line_fault-none line some sound =
+    let parts = first_faults-none line (begins_other (get_or line 0 0)) (list_all is_group line)
+        (size_fault line (size_of line)) (sym (line_fault-some line some) ∙ sound) in
+    size_fault-none line (size_of line) (AllPass-from_list_all is_group line parts.1) refl parts.2
+
+-- and a line of group bytes with a size and a sound body has no fault
+pub body_fault-sound : (line : List ℕ) (taken n : ℕ) → IsSoundBody line taken n → body_fault line taken n ≡ None
+unfolding body_fault
+body_fault-sound line taken n sound =
+    grind (arith, nat_tests, sound.shortest, sound.few, sound.long, sound.padding)

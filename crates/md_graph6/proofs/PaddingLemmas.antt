@@ -1,7 +1,7 @@
 -- The padding of a body stands in its last byte.
 use Rattle.std.proofs.Common.{◌≡◌, ℕ, zero, suc, ◌+◌, ◌-◌, ◌*◌, ◌/◌, ◌%◌, ◌^◌, ◌<◌, ◌≤◌, ◌==◌, ◌||◌, Bool, true, false, not, List, length, get_or, ◌⊎◌, inl, inr, refl, sym, ap, ◌∙◌, arith, add-one, add_comm}
 use Rattle.std.specs.Int.{bit_at}
-use Rattle.std.proofs.lemmas.Bool.Decides.{nat_tests}
+use Rattle.std.proofs.lemmas.Bool.Decides.{nat_tests, eqb_tells}
 use Rattle.std.proofs.lemmas.Nat.{mod-pow-add}
 use Rattle.std.proofs.lemmas.Nat.Bits.{bit_at-lt}
 use Rattle.std.proofs.Math.Pow.{pow_mono}
@@ -70,3 +70,44 @@ is_padding_set-shift body n pairs e some is =
     let inside : length body - 1 < length body = omega arith in
     rw (width, shifted (6 * length body - pair_count n) (omega arith), get_or_default body (length body - 1) 0 63)
     (sym (is_padding_set-last body n e))
+
+-- an "or" that is false
+or_parts : (a b : Bool) → (a || b) ≡ false → (a ≡ false) × (b ≡ false)
+or_parts true b e = cc
+or_parts false b e = (refl, e)
+
+-- a bit is 0 or 1
+bit-zero : (b : ℕ) → b < 2 → (b == 1) ≡ false → b ≡ 0
+bit-zero b small e = grind (arith, nat_tests)
+
+-- no bit is 1 where all are 0
+some_bit-none : (body : List ℕ) (count first : ℕ) → ((k : ℕ) → first ≤ k → k < first + count → bit body k ≡ 0)
+    → some_bit body first count ≡ false
+unfolding some_bit
+some_bit-none body zero first blank = refl
+some_bit-none body (suc count) first blank =
+    rw (blank first (omega arith) (omega arith))
+    (some_bit-none body count (first + 1) (λ k low high. blank k (omega arith) (omega arith)))
+
+-- and all are 0 where none is 1
+some_bit-all : (body : List ℕ) (count first : ℕ) → some_bit body first count ≡ false
+    → (k : ℕ) → first ≤ k → k < first + count → bit body k ≡ 0
+unfolding some_bit
+some_bit-all body zero first none k low high = absurd (omega arith)
+some_bit-all body (suc count) first none k low high =
+    let parts = or_parts (bit body first == 1) (some_bit body (first + 1) count) none in
+    elim (eqb_tells k first) [
+      | inl (test, is) ↦ rw is (bit-zero (bit body first) (bit_at-lt _ _) parts.0)
+      | inr (test, other) ↦ some_bit-all body count (first + 1) parts.1 k (omega arith) (omega arith)
+    ]
+
+-- the bits of a body without padding, and the padding of a body whose other bits are 0
+pub padding-none : (body : List ℕ) (n : ℕ) → ((k : ℕ) → pair_count n ≤ k → k < 6 * body_length n → bit body k ≡ 0)
+    → is_padding_set body n ≡ false
+padding-none body n blank =
+    some_bit-none body (6 * body_length n - pair_count n) (pair_count n) (λ k low high. blank k low (omega arith))
+
+pub padding-all : (body : List ℕ) (n : ℕ) → is_padding_set body n ≡ false
+    → (k : ℕ) → pair_count n ≤ k → k < 6 * body_length n → bit body k ≡ 0
+padding-all body n none k low high =
+    some_bit-all body (6 * body_length n - pair_count n) (pair_count n) none k low (omega arith)

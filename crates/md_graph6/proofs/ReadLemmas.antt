@@ -1,12 +1,13 @@
 -- How a reader goes through the lines of a file.
-use Rattle.std.proofs.Common.{◌≡◌, ℕ, zero, suc, ◌+◌, ◌<◌, ◌≤◌, ◌==◌, Bool, true, false, not, List, [], ◌∷◌, length, map, if◌then◌else◌, None, Some, inl, inr, refl, sym, ap, ◌∙◌, arith}
+use Rattle.std.proofs.Common.{◌≡◌, ℕ, zero, suc, ◌+◌, ◌<◌, ◌≤◌, ◌==◌, Bool, true, false, not, Option, List, [], ◌∷◌, length, map, if◌then◌else◌, None, Some, inl, inr, refl, sym, ap, ◌∙◌, arith}
 use mir.Val.{bool_byte}
 use Rattle.std.proofs.lemmas.Bool.Decides.{eqb_tells}
 use Rattle.md_text.specs.Lines.{lines, without_return}
 use Rattle.md_text.proofs.LineLemmas.{lines-nil}
+use Rattle.md_graph6.specs.declared.fault.G6Fault.{G6Fault}
 use Rattle.md_graph6.specs.declared.fault.G6Kind.{G6Kind}
 use Rattle.md_graph6.specs.Line.{line_fault, graph_of_line}
-use Rattle.md_graph6.specs.File.{stripped_lines, fault_after, fault_or, graphs_of_lines, first_fault, graphs_of}
+use Rattle.md_graph6.specs.File.{stripped_lines, fault_after, fault_or, HasNoFault, graphs_of_lines, first_fault, graphs_of}
 
 -- a text without bytes has no lines
 stripped_lines-empty : (text : List ℕ) → length text ≡ 0 → stripped_lines text ≡ []
@@ -125,3 +126,26 @@ IsRead-count bytes rest number count before end =
     let none : length (graphs_of_lines (stripped_lines rest)) ≡ 0 = ap length (graphs_of_lines-end rest end) in
     let all : count + length (graphs_of_lines (stripped_lines rest)) ≡ length (graphs_of bytes) = before.graphs in
     omega arith
+
+-- no fault is found where the line has none and none comes later
+pub fault_or-none : (kind : Option G6Kind) (number : ℕ) (later : Option G6Fault) → fault_or kind number later ≡ None
+    → (kind ≡ None) × (later ≡ None)
+fault_or-none None number later e = (refl, e)
+fault_or-none (Some kind) number later e = cc
+
+-- whether there is a fault doesn't depend on the numbers of the lines
+fault_after-renumbered : (all : List (List ℕ)) (before other : ℕ) → fault_after before all ≡ None
+    → fault_after other all ≡ None
+unfolding fault_after
+fault_after-renumbered [] before other sound = refl
+fault_after-renumbered (line ∷ more) before other sound =
+    let parts = fault_or-none (line_fault line) (before + 1) (fault_after (before + 1) more) sound in
+    rw (parts.0) (fault_after-renumbered more (before + 1) (other + 1) parts.1)
+
+-- a text without fault has a first line without fault, and others
+pub HasNoFault-cut : (text line rest : List ℕ) → lines text ≡ line ∷ lines rest → HasNoFault (stripped_lines text)
+    → (line_fault (without_return line) ≡ None) × HasNoFault (stripped_lines rest)
+HasNoFault-cut text line rest cut sound =
+    let parts = fault_or-none (line_fault (without_return line)) (0 + 1) (fault_after (0 + 1) (stripped_lines rest))
+        (sym (fault_after-cut 0 text line rest cut) ∙ sound) in
+    (parts.0, fault_after-renumbered (stripped_lines rest) (0 + 1) 0 parts.1)

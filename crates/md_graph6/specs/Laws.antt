@@ -26,7 +26,12 @@ AllSpell [] [] = Unit {0}
 AllSpell (line ∷ more) (g ∷ graphs) = SpellsLine line g × AllSpell more graphs
 AllSpell _ _ = ⊥
 
--- lines that spell graphs, each ended by a line feed, are a file that spells these graphs
+-- lines that spell graphs, each ended by a line feed, are a file that spells these graphs and no others
 abbrev pub EndedLinesSpell : Type 0
 EndedLinesSpell = (all : List (List ℕ)) (graphs : List PlainGraph) → AllSpell all graphs
-    → Spells (ended all) graphs
+    → SpellsOnly (ended all) graphs
+
+-- a line that spells a graph and a line feed are a file that spells this graph and no other
+abbrev pub EndedLineSpells : Type 0
+EndedLineSpells =
+    (line : List ℕ) (g : PlainGraph) → SpellsLine line g → SpellsOnly (line ++ 10 ∷ []) (g ∷ [])

@@ -5,7 +5,7 @@ use Rattle.std.specs.List.{AllPass, list_all}
 use Rattle.std.specs.FinSet as set
 use Rattle.md_graph.specs.declared.TheConstants.{NAMES}
 use Rattle.md_graph.specs.NameSet.{NameSet}
-use Rattle.md_graph.specs.PlainGraph.{PlainGraph, PairSet}
+use Rattle.md_graph.specs.PlainGraph.{PlainGraph, pairs_where}
 use Rattle.md_graph6.specs.declared.fault.G6Kind.{G6Kind}
 use Rattle.md_graph6.specs.declared.fault.G6Kind.TheVariants.{BadByte, BadSize, TooManyVertices, Truncated, TrailingBytes, BadPadding, OtherFormat}
 use Rattle.md_graph6.specs.Bits.{bit, pair_number, body_length, IsBodyOf}
@@ -70,20 +70,13 @@ unfoldable pub numbers_below : ℕ → NameSet
 numbers_below zero = set.empty
 numbers_below (suc n) = set.insert (numbers_below n) n
 
--- the pairs (i, j), i < count, whose bit is 1
-unfoldable pub column : List ℕ → ℕ → ℕ → PairSet
-column body j zero = set.empty
-column body j (suc i) =
-    if bit body (pair_number i j) == 1 then set.insert (column body j i) (i, j) else column body j i
-
--- the pairs (i, j), i < j < n, whose bit is 1
-unfoldable pub pairs_below : List ℕ → ℕ → PairSet
-pairs_below body zero = set.empty
-pairs_below body (suc j) = set.union (pairs_below body j) (column body j j)
+-- whether the bit of the pair i < j is 1
+abbrev pub is_edge : List ℕ → ℕ → ℕ → Bool
+is_edge body i j = bit body (pair_number i j) == 1
 
 -- the graph of n vertices that a body spells
 unfoldable pub graph_of_body : List ℕ → ℕ → PlainGraph
-graph_of_body body n = record { vertices = numbers_below n; edges = pairs_below body n }
+graph_of_body body n = record { vertices = numbers_below n; edges = pairs_where (is_edge body) n }
 
 -- the same, of a size as `size_of` gives it; the graph without vertices where there is none
 unfoldable pub graph_of_sized : List ℕ → Option (ℕ × ℕ) → PlainGraph

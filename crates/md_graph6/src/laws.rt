@@ -1,6 +1,6 @@
 //! What holds of graph6 files. Each function has an empty body, and its contract is the law: the
 //! statement stands in `specs/Laws.antt`.
-ghost use Rattle.md_graph6.specs.Laws.{SpelledOrFaulty, SpelledHasNoFault, GraphsAreGraphs, EndedLinesSpell};
+ghost use Rattle.md_graph6.specs.Laws.{SpelledOrFaulty, SpelledHasNoFault, GraphsAreGraphs, EndedLinesSpell, EndedLineSpells};
 
 /// A file has either a first fault or one list of graphs that it spells.
 pub fn files_are_spelled_or_faulty()
@@ -10,8 +10,9 @@ pub fn files_are_spelled_or_faulty()
 {
 }
 
-/// Lines that are written one after the other spell the graphs of each.
+/// Lines that are written one after the other spell the graphs of each, and no others.
 pub fn written_lines_spell()
-    ensures { EndedLinesSpell }
+    ensures all { EndedLinesSpell }
+    ensures one { EndedLineSpells }
 {
 }

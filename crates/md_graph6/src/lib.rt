@@ -16,3 +16,6 @@ pub use fault::{G6Fault, G6Kind};
 pub use reader::Lines;
 pub use file::scan;
 pub use writer::write;
+
+#[cfg(test)]
+mod tests;

@@ -117,11 +117,17 @@ fn begins_other(first: u8) -> bool
     first == b':' || first == b';' || first == b'&'
 }
 
-/// Whether each byte is 63 with six bits added.
+/// Whether each byte is 63 with six bits added. The least and the greatest byte are found 16 bytes at a time.
 fn are_groups(line: &[u8]) -> bool
     ensures { result ≡ list_all is_group line.now }
 {
-    line.iter().all(|byte| 63 <= *byte && *byte <= 126)
+    let mut least = 126;
+    let mut greatest = 63;
+    for byte in line {
+        least = least.min(*byte);
+        greatest = greatest.max(*byte);
+    }
+    63 <= least && greatest <= 126
 }
 
 /// The first fault of a line; an empty one has none.

@@ -1,11 +1,14 @@
 -- The laws of lines.
-use Rattle.std.proofs.Common.{◌≡◌, ◌≢◌, ℕ, ◌+◌, ◌-◌, ◌<◌, ◌≤◌, ◌⊎◌, min, Bool, true, false, cond, not, eqb, List, [], ◌∷◌, ◌++◌, length, get_or, take, drop, refl, sym, ap, ◌∙◌, inl, inr, ⊎_elim, subst, arith, rules}
+use Rattle.std.proofs.Common.{◌≡◌, ◌≢◌, ℕ, ◌+◌, ◌-◌, ◌<◌, ◌≤◌, ◌⊎◌, min, Bool, true, false, cond, not, eqb, List, [], ◌∷◌, ◌++◌, length, get_or, take, drop, map, refl, sym, ap, ◌∙◌, inl, inr, ⊎_elim, subst, arith, rules}
 use Rattle.std.specs.List.{All, onto_first, position_or_len, before_first, after_first}
 use Rattle.std.proofs.lemmas.Bool.{ne_eqb, eqb-true, eqb-false, cases_eq, cases_lt}
 use Rattle.std.proofs.lemmas.Grind.{common_steps}
 use Rattle.std.proofs.lemmas.List.{append_assoc, append-nil, length-take, get_or-take, take_all, drop_all, take_rest, drop_min}
 use Rattle.std.proofs.lemmas.List.Elements.{All-nil, All-cons, All-head, All-tail, All-push, All-from_get_or, All-take}
 use Rattle.std.proofs.lemmas.List.Sums.{fails_before_first, passes_at_first, split_at_first, position_or_len_is}
+use Rattle.std.specs.Simd.Lanes.{mask_l}
+use Rattle.std.proofs.lemmas.Simd.{leading_from_mask_l, trailing_mask_l, run_in_chunk_fails}
+use lib.Count.{count_trailing_zeros}
 use Rattle.md_text.proofs.ListLemmas.{All-onto_first}
 use Rattle.md_text.specs.Lines.{lines, ended, LacksFeed, is_feed, without_return}
 
@@ -134,3 +137,18 @@ line_lacks text line is_line = subst LacksFeed (sym is_line) (lacks_before text)
 pub rest_after : (text : List ℕ) (end next : ℕ) → position_or_len is_feed text ≡ end → next ≡ min (end + 1) (length text) → take (length text - next) (drop next text) ≡ after_first is_feed text
 rest_after text end next first is =
     take_rest text next ∙ ap (λ (n : ℕ). drop n text) is ∙ drop_min (end + 1) text ∙ ap (λ (n : ℕ). drop (n + 1) text) (sym first)
+
+-- the mask of the lanes that hold a byte 10: none is set, or the lowest is the first
+pub no_feed_in_lanes : (lanes : List ℕ) (mask : ℕ) → length lanes ≡ 16 → mask ≡ mask_l (map is_feed lanes) → mask ≡ 0 → 16 ≡ position_or_len is_feed lanes
+no_feed_in_lanes lanes mask long is none = sym (leading_from_mask_l is_feed lanes (sym is ∙ none) ∙ long)
+
+pub first_feed_in_lanes : (lanes : List ℕ) (mask : ℕ) → length lanes ≡ 16 → mask ≡ mask_l (map is_feed lanes) → (mask ≡ 0 → ⊥) → count_trailing_zeros 64 mask ≡ position_or_len is_feed lanes
+first_feed_in_lanes lanes mask long is some =
+    ap (count_trailing_zeros 64) is ∙ trailing_mask_l is_feed 64 lanes (omega arith) (⊎_elim (λ (above : 0 < mask_l (map is_feed lanes)). above) (λ (none : mask_l (map is_feed lanes) ≤ 0). absurd (some (is ∙ omega arith))) (cases_lt 0 (mask_l (map is_feed lanes))))
+
+-- what a step of 16 bytes finds
+pub fails_in_lanes : (text : List ℕ) (from before : ℕ) → from + 16 ≤ length text → before ≡ position_or_len is_feed (take 16 (drop from text)) → ((k : ℕ) → k < from → is_feed (get_or text k 0) ≡ false) → (k : ℕ) → k < from + before → is_feed (get_or text k 0) ≡ false
+fails_in_lanes text from before room counted so_far k below = ⊎_elim
+    (λ (less : k < from). so_far k less)
+    (λ (more : from ≤ k). run_in_chunk_fails is_feed text from 16 before 0 room counted k more below)
+    (cases_lt k from)

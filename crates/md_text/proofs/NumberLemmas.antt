@@ -1,18 +1,18 @@
 -- The laws of numbers and their digits.
-use Rattle.std.proofs.Common.{◌≡◌, ◌≢◌, ℕ, ◌+◌, ◌-◌, ◌*◌, ◌/◌, ◌%◌, ◌^◌, ◌<◌, ◌≤◌, ◌⊎◌, zero, suc, Bool, true, false, ◌&&◌, cond, List, [], ◌∷◌, ◌++◌, length, get_or, take, drop, map, Some, None, fold, refl, sym, ap, ◌∙◌, ⊎_elim, subst, arith, rules, ltb, leb}
+use Rattle.std.proofs.Common.{◌≡◌, ◌≢◌, ℕ, ◌+◌, ◌-◌, ◌*◌, ◌/◌, ◌%◌, ◌^◌, ◌<◌, ◌≤◌, ◌⊎◌, zero, suc, Bool, true, false, ◌&&◌, cond, eqb, List, [], ◌∷◌, ◌++◌, length, get_or, take, drop, map, Some, None, fold, refl, sym, ap, ◌∙◌, ⊎_elim, subst, arith, rules, ltb, leb}
 use Rattle.std.specs.Char.{is_ascii_digit}
 use Rattle.std.specs.Int.{IsInRange, is_in_range}
 use Rattle.std.specs.Int.Digits.{digits_of}
 use Rattle.std.specs.Fmt.{decimal as displayed}
 use Rattle.std.specs.List.{All, AllPass, list_all}
-use Rattle.std.proofs.lemmas.Bool.{cases_lt, lt-ltb, le-leb, leb-true, and_from, and_parts, or_from, ne_eqb, cond-true}
+use Rattle.std.proofs.lemmas.Bool.{cases_lt, eqb-true, lt-ltb, le-leb, leb-true, and_from, and_parts, or_from, ne_eqb, cond-true}
 use Rattle.std.proofs.lemmas.Fmt.{decimal_digit as displayed_digit, decimal-digits_of as displayed-digits_of}
 use Rattle.std.proofs.lemmas.Grind.{common_steps, fold-append, pow_more}
 use Rattle.std.proofs.lemmas.Int.Digits.{digits_of_step, length-digits_of-le}
 use Rattle.std.proofs.lemmas.List.{append_assoc, append-nil, map-append, length-map, length-append, length-take-le, take_more, take_all, get_or_append_left, get_or-take}
 use Rattle.std.proofs.lemmas.List.Elements.{All-nil, All-cons, All-head, All-tail, All-push, All-take, All-weaker, All-get_or}
 use Rattle.std.proofs.Math.Nat.{pow-le-pow_right}
-use Rattle.md_text.specs.declared.digits.TheConstants.{DIGITS}
+use Rattle.md_text.specs.declared.digits.TheConstants.{DIGITS, PAIRS}
 use Rattle.md_text.specs.Fields.{is_blank, IsWord}
 use Rattle.md_text.specs.Numbers.{value, decimal, is_number, number_of, IsCanonical}
 
@@ -210,3 +210,73 @@ number_room n i below short = omega (arith, pow-le-pow_right {n = 10} (omega ari
 
 pub number_grows : (n i digit : ℕ) → n < 10 ^ i → digit ≤ 9 → n * 10 + digit < 10 ^ (i + 1)
 number_grows n i digit below small = omega (arith, pow_more 10 i)
+
+-- the two digits of a number below 100
+abbrev pub pair : ℕ → List ℕ
+pair n = (48 + n / 10) ∷ (48 + n % 10) ∷ []
+
+pub decimal_two : (n : ℕ) → 10 ≤ n → n < 100 → decimal n ≡ pair n
+decimal_two n large small = rw (decimal_step n large, decimal_digit (n / 10) (omega arith))
+
+pub decimal_pair : (n : ℕ) → 100 ≤ n → decimal n ≡ decimal (n / 100) ++ pair (n % 100)
+decimal_pair n large =
+    let front : n / 10 / 10 ≡ n / 100 = omega arith in
+    let tens : n / 10 % 10 ≡ n % 100 / 10 = omega arith in
+    let ones : n % 10 ≡ n % 100 % 10 = omega arith in
+    rw (decimal_step n (omega arith), decimal_step (n / 10) (omega arith), append_assoc, front, tens, ← ones)
+
+pub decimal_four : (n : ℕ) → 10000 ≤ n → decimal n ≡ decimal (n / 10000) ++ (pair (n % 10000 / 100) ++ pair (n % 100))
+decimal_four n large =
+    let front : n / 100 / 100 ≡ n / 10000 = omega arith in
+    let middle : n / 100 % 100 ≡ n % 10000 / 100 = omega arith in
+    rw (decimal_pair n (omega arith), decimal_pair (n / 100) (omega arith), append_assoc, front, middle)
+
+pub length-decimal_digit : (n : ℕ) → n < 10 → length (decimal n) ≡ 1
+length-decimal_digit n small = ap length (decimal_digit n small)
+
+pub length-decimal_two : (n : ℕ) → 10 ≤ n → n < 100 → length (decimal n) ≡ 2
+length-decimal_two n large small = ap length (decimal_two n large small)
+
+pub length-decimal_pair : (n : ℕ) → 100 ≤ n → length (decimal n) ≡ length (decimal (n / 100)) + 2
+length-decimal_pair n large = ap length (decimal_pair n large) ∙ length-append (decimal (n / 100)) (pair (n % 100))
+
+pub length-decimal_four : (n : ℕ) → 10000 ≤ n → length (decimal n) ≡ length (decimal (n / 10000)) + 4
+length-decimal_four n large = ap length (decimal_four n large) ∙ length-append (decimal (n / 10000)) (pair (n % 10000 / 100) ++ pair (n % 100))
+
+-- the table of two digits, place by place
+abbrev are_pairs : ℕ → Bool
+are_pairs zero = true
+are_pairs (suc n) = (eqb (get_or PAIRS (n * 2) 0) (48 + n / 10) && eqb (get_or PAIRS (n * 2 + 1) 0) (48 + n % 10)) && are_pairs n
+
+pairs_below : (turns n : ℕ) → are_pairs turns ≡ true → n < turns → (get_or PAIRS (n * 2) 0 ≡ 48 + n / 10) × (get_or PAIRS (n * 2 + 1) 0 ≡ 48 + n % 10)
+pairs_below zero n all below = absurd (omega arith)
+pairs_below (suc turns) n all below =
+    let parts = and_parts (eqb (get_or PAIRS (turns * 2) 0) (48 + turns / 10) && eqb (get_or PAIRS (turns * 2 + 1) 0) (48 + turns % 10)) (are_pairs turns) all in
+    let both = and_parts (eqb (get_or PAIRS (turns * 2) 0) (48 + turns / 10)) (eqb (get_or PAIRS (turns * 2 + 1) 0) (48 + turns % 10)) parts.0 in
+    ⊎_elim
+    (λ (less : n < turns). pairs_below turns n parts.1 less)
+    (λ (more : turns ≤ n). let same : n ≡ turns = omega arith in rw same (eqb-true _ _ both.0, eqb-true _ _ both.1))
+    (cases_lt n turns)
+
+pub PAIRS_at : (n : ℕ) → n < 100 → (get_or PAIRS (n * 2) 0 ≡ 48 + n / 10) × (get_or PAIRS (n * 2 + 1) 0 ≡ 48 + n % 10)
+PAIRS_at n below = pairs_below 100 n refl below
+
+pub ruleset digit_steps = (decimal_digit, decimal_two, decimal_pair, decimal_four, length-decimal_digit, length-decimal_two, length-decimal_pair, length-decimal_four)
+
+-- a text after its digits are pushed, two by two
+pub pushed_pair : (old front all : List ℕ) (a b x y : ℕ) → front ≡ old ++ a ∷ [] → all ≡ front ++ b ∷ [] → a ≡ x → b ≡ y → all ≡ old ++ x ∷ y ∷ []
+pushed_pair old front all a b x y is_front is_all is_x is_y =
+    let regroup = append_assoc old (a ∷ []) (b ∷ []) in cc
+
+pub pushed_short : (old front all : List ℕ) (n : ℕ) → 100 ≤ n → front ≡ old ++ decimal (n / 100) → all ≡ front ++ pair (n % 100) → all ≡ old ++ decimal n
+pushed_short old front all n large is_front is_all =
+    let regroup = append_assoc old (decimal (n / 100)) (pair (n % 100)) in
+    let digits = decimal_pair n large in
+    cc
+
+pub pushed_long : (old front next all : List ℕ) (n : ℕ) → 10000 ≤ n → front ≡ old ++ decimal (n / 10000) → next ≡ front ++ pair (n % 10000 / 100) → all ≡ next ++ pair (n % 100) → all ≡ old ++ decimal n
+pushed_long old front next all n large is_front is_next is_all =
+    let regroup = append_assoc old (decimal (n / 10000)) (pair (n % 10000 / 100) ++ pair (n % 100)) in
+    let before = append_assoc (old ++ decimal (n / 10000)) (pair (n % 10000 / 100)) (pair (n % 100)) in
+    let digits = decimal_four n large in
+    cc

@@ -1,13 +1,18 @@
 //! Cuts a text into lines, and a line into fields.
 ghost use Rattle.std.specs.Prelude.{
-    ◌≡◌, ℕ, ◌+◌, ◌<◌, ◌≤◌, true, false, [], ◌∷◌, length, slice_index, IfSome, IfNone,
+    ◌≡◌, ℕ, ◌+◌, ◌<◌, ◌≤◌, true, false, [], ◌∷◌, length, take, drop, slice_index, IfSome, IfNone,
 };
-ghost use Rattle.std.specs.List.{before_first, after_first};
+ghost use Rattle.std.specs.List.{before_first, after_first, position_or_len};
 ghost use Rattle.md_text.specs.Lines.{lines, is_feed, LacksFeed, without_return};
 ghost use Rattle.md_text.specs.Fields.{fields, is_blank, IsWord};
 
+use std::simd::prelude::*;
+
 const LINE_FEED: u8 = b'\n';
 const CARRIAGE_RETURN: u8 = b'\r';
+
+// How many bytes are looked at in one step.
+const LANES: usize = 16;
 
 /// The first line of a text, without the byte 10 that ends it, and what stands behind that byte.
 /// The last line may lack it. (POSIX's text lines.)
@@ -25,14 +30,46 @@ pub fn split_line(text: &[u8]) -> (&[u8], &[u8])
     (&text[..end], &text[next..])
 }
 
-// The place of the first byte 10, or the length where there is none.
+// The place of the first byte 10, or the length where there is none. It looks at 16 bytes at a time.
+#[inline]
 fn first_feed(text: &[u8]) -> usize
     ensures within { result ≤ length text.now }
     ensures before { (k : ℕ) → k < result → is_feed (slice_index text.now k) ≡ false }
     ensures found { result < length text.now → is_feed (slice_index text.now result) ≡ true }
 {
-    for (place, byte) in text.iter().enumerate() {
-        if *byte == LINE_FEED {
+    let mut from = 0;
+    while text.len() - from >= LANES {
+        let before = before_feed(text, from);
+        if before < LANES {
+            return from + before;
+        }
+        from += LANES;
+    }
+    first_feed_from(text, from)
+}
+
+// How many of the 16 bytes from a place on stand before the first byte 10.
+#[inline(always)]
+fn before_feed(text: &[u8], from: usize) -> usize
+    requires { from + LANES ≤ length text.now }
+    ensures { result ≡ position_or_len is_feed (take LANES (drop from text.now)) }
+{
+    let feeds = u8x16::from_slice(&text[from..]).simd_eq(u8x16::splat(LINE_FEED)).to_bitmask();
+    if feeds == 0 {
+        return LANES;
+    }
+    feeds.trailing_zeros() as usize
+}
+
+// The place of the first byte 10 from a place on, or the length where there is none.
+fn first_feed_from(text: &[u8], from: usize) -> usize
+    requires { from ≤ length text.now }
+    ensures within { (from ≤ result) × (result ≤ length text.now) }
+    ensures before { (k : ℕ) → from ≤ k → k < result → is_feed (slice_index text.now k) ≡ false }
+    ensures found { result < length text.now → is_feed (slice_index text.now result) ≡ true }
+{
+    for place in from..text.len() {
+        if text[place] == LINE_FEED {
             return place;
         }
     }

@@ -1,10 +1,6 @@
-use Rattle.std.proofs.Common.{rules, ◌≡◌, ℕ, ◌+◌, ◌*◌, ◌/◌, ◌%◌, ◌^◌, ◌<◌, ◌≤◌}
-use Rattle.std.specs.FinSet as set
-use Rattle.md_graph.proofs.SetLaws.{same_set}
+use Rattle.md_graph.specs.declared.TheConstants.{NAMES}
+use Rattle.md_graph.proofs.BitWords.{empty_of_words}
 use Rattle.md_graph.proofs.names.Names.none.Goals as goal
 
-pub invariant_of-result : goal.invariant_of-result
-invariant_of-result c = ?
-
 pub returns : goal.returns
-returns c = ?
+returns c = empty_of_words c.no_words.result NAMES c.no_words.ensures.zeros

@@ -1,0 +1,151 @@
+-- What a file spells: a file without fault spells one list of graphs, and a file that spells one has no fault.
+use Rattle.std.proofs.Common.{◌≡◌, ◌≢◌, ℕ, zero, suc, ◌+◌, ◌<◌, ◌≤◌, ◌&&◌, Bool, true, false, nat_eq, List, [], ◌∷◌, ◌++◌, length, map, get_or, Option, None, Some, refl, sym, ap, ◌∙◌, arith}
+use Rattle.std.specs.Prelude.{MatchOption}
+use Rattle.std.specs.List.{All, AllPass, starts_with}
+use Rattle.std.proofs.lemmas.List.{append-nil}
+use Rattle.std.proofs.lemmas.Bool.{ne_eqb}
+use Rattle.md_graph.specs.PlainGraph.{PlainGraph, IsGraph}
+use Rattle.md_text.specs.Lines.{lines, ended, LacksFeed, without_return}
+use Rattle.md_text.proofs.LineLemmas.{lines-ended, without_return-stays}
+use Rattle.md_graph6.specs.declared.fault.G6Fault.{G6Fault}
+use Rattle.md_graph6.specs.Line.{SpellsLine, is_group, line_fault, graph_of_line}
+use Rattle.md_graph6.specs.File.{header, without_header, stripped_lines, file_lines, SpellEach, Spells, SpellsOnly, SpellsNone, fault_after, first_fault, graphs_of_lines, graphs_of}
+use Rattle.md_graph6.specs.Laws.{SpelledOrFaulty, SpelledHasNoFault, GraphsAreGraphs, AllSpell, EndedLinesSpell, EndedLineSpells}
+use Rattle.md_graph6.proofs.SizeLemmas.{is_group-range}
+use Rattle.md_graph6.proofs.SpellLemmas.{spells-some, spells-sound, spells-graph, spells-groups, sound-spells}
+use Rattle.md_graph6.proofs.ReadLemmas.{fault_or-none}
+
+-- lines that spell graphs have no fault, and are decoded to these graphs
+each_sound : (all : List (List ℕ)) (graphs : List PlainGraph) (before : ℕ) → SpellEach all graphs
+    → (fault_after before all ≡ None) × (graphs_of_lines all ≡ graphs)
+unfolding SpellEach fault_after graphs_of_lines line_fault
+each_sound [] graphs before spells = (refl, sym spells)
+each_sound ([] ∷ more) graphs before spells = each_sound more graphs (before + 1) spells
+each_sound ((byte ∷ line) ∷ more) [] before spells = absurd spells
+each_sound ((byte ∷ line) ∷ more) (g ∷ graphs) before spells =
+    let rest = each_sound more graphs (before + 1) spells.1 in
+    let first : graph_of_line (byte ∷ line) ≡ g = spells-graph (byte ∷ line) g spells.0 in
+    (rw (spells-sound (byte ∷ line) g spells.0) rest.0, λ i. first i ∷ rest.1 i)
+
+-- lines without fault spell the graphs that are decoded
+sound_each : (all : List (List ℕ)) (before : ℕ) → fault_after before all ≡ None → SpellEach all (graphs_of_lines all)
+unfolding SpellEach fault_after graphs_of_lines line_fault
+sound_each [] before sound = refl
+sound_each ([] ∷ more) before sound = sound_each more (before + 1) sound
+sound_each ((byte ∷ line) ∷ more) before sound =
+    let parts = fault_or-none (line_fault (byte ∷ line)) (before + 1) (fault_after (before + 1) more) sound in
+    (sound-spells (byte ∷ line) (omega arith) parts.0, sound_each more (before + 1) parts.1)
+
+-- by whether there is a fault
+by_fault : (fault : Option G6Fault) (P Q : Type 0) → (fault ≡ None → P) → ((f : G6Fault) → fault ≡ Some f → Q)
+    → MatchOption fault P (λ _. Q)
+by_fault None P Q sound faulty = sound refl
+by_fault (Some f) P Q sound faulty = faulty f refl
+
+pub spelled_has_no_fault : SpelledHasNoFault
+spelled_has_no_fault = λ bytes graphs spells. each_sound (file_lines bytes) graphs 0 spells
+
+pub spelled_or_faulty : SpelledOrFaulty
+spelled_or_faulty = λ bytes. by_fault (first_fault bytes) (SpellsOnly bytes (graphs_of bytes)) (SpellsNone bytes)
+    (λ sound. record {
+      spells = sound_each (file_lines bytes) 0 sound;
+      only = λ others spells. sym (spelled_has_no_fault bytes others spells).1;
+    })
+    (λ f faulty graphs spells. no_fault (first_fault bytes) f (spelled_has_no_fault bytes graphs spells).0 faulty)
+  where
+    no_fault : (fault : Option G6Fault) (f : G6Fault) → fault ≡ None → fault ≡ Some f → ⊥
+    no_fault fault f none some = cc
+
+-- one more graph
+all_graphs-cons : (g : PlainGraph) (graphs : List PlainGraph) → IsGraph g → All IsGraph graphs
+    → (k : ℕ) (d : PlainGraph) → k < length (g ∷ graphs) → IsGraph (get_or (g ∷ graphs) k d)
+all_graphs-cons g graphs is all zero d inside = is
+all_graphs-cons g graphs is all (suc k) d inside = all k d (omega arith)
+
+-- what lines spell are graphs
+each_graphs : (all : List (List ℕ)) (graphs : List PlainGraph) → SpellEach all graphs → All IsGraph graphs
+unfolding SpellEach
+each_graphs [] [] spells = λ k d inside. absurd (omega arith)
+each_graphs [] (g ∷ graphs) spells = cc
+each_graphs ([] ∷ more) graphs spells = each_graphs more graphs spells
+each_graphs ((byte ∷ line) ∷ more) [] spells = absurd spells
+each_graphs ((byte ∷ line) ∷ more) (g ∷ graphs) spells =
+    all_graphs-cons g graphs spells.0.bits.graph (each_graphs more graphs spells.1)
+
+pub graphs_are_graphs : GraphsAreGraphs
+graphs_are_graphs = λ bytes sound.
+    each_graphs (file_lines bytes) (graphs_of bytes) (sound_each (file_lines bytes) 0 sound)
+
+-- lines that are written spell their graphs
+all_spell-each : (all : List (List ℕ)) (graphs : List PlainGraph) → AllSpell all graphs → SpellEach all graphs
+unfolding SpellEach
+all_spell-each [] [] spells = refl
+all_spell-each [] (g ∷ graphs) spells = absurd spells
+all_spell-each (line ∷ more) [] spells = absurd spells
+all_spell-each ([] ∷ more) (g ∷ graphs) spells = absurd (omega (arith, spells-some [] g spells.0))
+all_spell-each ((byte ∷ line) ∷ more) (g ∷ graphs) spells = (spells.0, all_spell-each more graphs spells.1)
+
+-- a byte of six bits is none of a line's end
+group-other : (line : List ℕ) (g : PlainGraph) (other : ℕ) → other < 63 → SpellsLine line g → All (λ byte. byte ≢ other) line
+group-other line g other small spells = λ k d inside same.
+    let range = is_group-range (get_or line k d) (spells-groups line g spells k d inside) in omega (arith, range.0)
+
+-- a line that spells a graph keeps its end
+spelt-stays : (line : List ℕ) (g : PlainGraph) → SpellsLine line g → without_return line ≡ line
+spelt-stays line g spells = without_return-stays line (group-other line g 13 (omega arith) spells)
+
+stays_each : (all : List (List ℕ)) (graphs : List PlainGraph) → AllSpell all graphs → map without_return all ≡ all
+stays_each [] [] spells = refl
+stays_each [] (g ∷ graphs) spells = absurd spells
+stays_each (line ∷ more) [] spells = absurd spells
+stays_each (line ∷ more) (g ∷ graphs) spells =
+    let first : without_return line ≡ line = spelt-stays line g spells.0 in
+    let rest : map without_return more ≡ more = stays_each more graphs spells.1 in
+    λ i. first i ∷ rest i
+
+-- no line holds a line feed
+lacks_each : (all : List (List ℕ)) (graphs : List PlainGraph) → AllSpell all graphs
+    → (k : ℕ) (d : List ℕ) → k < length all → LacksFeed (get_or all k d)
+lacks_each [] graphs spells k d inside = absurd (omega arith)
+lacks_each (line ∷ more) [] spells k d inside = absurd spells
+lacks_each (line ∷ more) (g ∷ graphs) spells zero d inside = group-other line g 10 (omega arith) spells.0
+lacks_each (line ∷ more) (g ∷ graphs) spells (suc k) d inside =
+    lacks_each more graphs spells.1 k d (omega arith)
+
+-- a text with another first byte has no header
+other_first : (byte : ℕ) (rest : List ℕ) → 62 ≢ byte → without_header (byte ∷ rest) ≡ byte ∷ rest
+other_first byte rest other = rw (ne_eqb 62 byte other) refl
+
+-- and the text has no header
+no_header : (all : List (List ℕ)) (graphs : List PlainGraph) → AllSpell all graphs → without_header (ended all) ≡ ended all
+unfolding ended
+no_header [] graphs spells = refl
+no_header (line ∷ more) [] spells = absurd spells
+no_header ([] ∷ more) (g ∷ graphs) spells = absurd (omega (arith, spells-some [] g spells.0))
+no_header ((byte ∷ line) ∷ more) (g ∷ graphs) spells =
+    let other : 62 ≢ byte = λ same. group-other (byte ∷ line) g 62 (omega arith) spells.0 0 0 (omega arith) (sym same) in
+    other_first byte ((line ++ 10 ∷ []) ++ ended more) other
+
+ended_lines-each : (all : List (List ℕ)) (graphs : List PlainGraph) → AllSpell all graphs → Spells (ended all) graphs
+ended_lines-each all graphs spells =
+    rw (no_header all graphs spells, lines-ended all (lacks_each all graphs spells), stays_each all graphs spells)
+    (all_spell-each all graphs spells)
+
+-- a file spells one list of graphs
+only_one : (bytes : List ℕ) (graphs : List PlainGraph) → Spells bytes graphs → SpellsOnly bytes graphs
+only_one bytes graphs spells = record {
+  spells = spells;
+  only = λ others spelt.
+    sym (spelled_has_no_fault bytes others spelt).1 ∙ (spelled_has_no_fault bytes graphs spells).1;
+}
+
+pub ended_lines_spell : EndedLinesSpell
+ended_lines_spell = λ all graphs spells. only_one (ended all) graphs (ended_lines-each all graphs spells)
+
+-- one line, ended
+ended-one : (line : List ℕ) → ended (line ∷ []) ≡ line ++ 10 ∷ []
+unfolding ended
+ended-one line = append-nil (line ++ 10 ∷ [])
+
+pub ended_line_spells : EndedLineSpells
+ended_line_spells = λ line g spells. rw (← ended-one line) (ended_lines_spell (line ∷ []) (g ∷ []) (spells, tt))

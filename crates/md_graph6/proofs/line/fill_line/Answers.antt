@@ -1,0 +1,52 @@
+use Rattle.std.proofs.Common.{rules, ◌≡◌, ◌≤◌, true, length, Some, arith, ◌∙◌, sym}
+use Rattle.std.proofs.lemmas.List.{take_rest}
+use Rattle.std.proofs.lemmas.List.Elements.{All-drop}
+use Rattle.md_graph.specs.declared.TheConstants.{NAMES}
+use Rattle.md_graph6.specs.Line.{is_group}
+use Rattle.md_graph6.proofs.Limits.{names_fit}
+use Rattle.md_graph6.proofs.LineLemmas.{IsSoundBody}
+use Rattle.md_graph6.proofs.SpellLemmas.{sound_line-sized, sound_line-groups, sound_line-body, filled_is_line}
+use Rattle.md_graph6.proofs.line.fill_line.Goals as goal
+
+pub size-requires-clause-groups : goal.size-requires-clause-groups
+size-requires-clause-groups c = sound_line-groups _ c.requires.some c.requires.sound
+
+pub unreachable-requires : goal.unreachable-requires
+unreachable-requires c =
+    sound_line-sized _ c.requires.some c.requires.sound (sym c.size.ensures.value ∙ c.in_default.is)
+
+pub overflow_cast-n : goal.overflow_cast-n
+overflow_cast-n c =
+    let body : IsSoundBody c.args.line.now c.in-Some.taken c.in-Some.n =
+        sound_line-body _ _ _ c.requires.some c.requires.sound (sym c.size.ensures.value ∙ c.in-Some.is) in
+    let few : c.in-Some.n ≤ NAMES = body.few in
+    let fits : NAMES ≤ 65536 = names_fit in
+    omega arith
+
+pub slice_bounds-fill-count : goal.slice_bounds-fill-count
+slice_bounds-fill-count c =
+    let body : IsSoundBody c.args.line.now c.in-Some.taken c.in-Some.n =
+        sound_line-body _ _ _ c.requires.some c.requires.sound (sym c.size.ensures.value ∙ c.in-Some.is) in
+    omega (arith, body.long)
+
+pub slice_bounds-fill-start : goal.slice_bounds-fill-start
+slice_bounds-fill-start c =
+    let body : IsSoundBody c.args.line.now c.in-Some.taken c.in-Some.n =
+        sound_line-body _ _ _ c.requires.some c.requires.sound (sym c.size.ensures.value ∙ c.in-Some.is) in
+    let within : c.in-Some.taken ≤ length c.args.line.now = omega (arith, body.long) in
+    search rules
+
+pub fill-requires-clause-few : goal.fill-requires-clause-few
+fill-requires-clause-few c =
+    (sound_line-body _ _ _ c.requires.some c.requires.sound (sym c.size.ensures.value ∙ c.in-Some.is)).few
+
+pub fill-requires-clause-groups : goal.fill-requires-clause-groups
+fill-requires-clause-groups c =
+    rw take_rest (All-drop (λ byte. is_group byte ≡ true) _ _ (sound_line-groups _ c.requires.some c.requires.sound))
+
+pub returns : goal.returns
+returns c =
+    let sized = sym c.size.ensures.value ∙ c.in-Some.is in
+    let body : IsSoundBody c.args.line.now c.in-Some.taken c.in-Some.n =
+        sound_line-body _ _ _ c.requires.some c.requires.sound sized in
+    filled_is_line _ _ _ _ sized body.few c.fill.ensures

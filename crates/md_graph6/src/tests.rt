@@ -1,0 +1,104 @@
+//! Whole files: what is read from them, and the fault that is named.
+ghost use Rattle.std.specs.Prelude.{◌≡◌};
+ghost use Rattle.md_graph.specs.PlainGraph.{empty_graph};
+
+use std::process::Abort;
+use std::test::Fail;
+
+use md_graph::Graph;
+
+use crate::{G6Fault, G6Kind, Lines, scan};
+
+/// The number of vertices and the edges of a graph.
+type Wanted = (u32, &'static [(u32, u32)]);
+
+/// The next graph of the file has these vertices and edges.
+fn gives(rt: &impl Abort, lines: &mut Lines, graph: &mut Graph, n: u32, edges: &[(u32, u32)])
+    requires { graph.old ≡ empty_graph }
+    ensures { graph.new ≡ empty_graph }
+{
+    assert!(rt; lines.next(graph));
+    assert_eq!(rt; graph.count(), n);
+    assert_eq!(rt; graph.edge_count() as usize, edges.len());
+    for (u, v) in edges {
+        assert!(rt; graph.has_edge(*u, *v));
+    }
+    graph.clear();
+}
+
+/// The file spells these graphs.
+fn spells(rt: &impl Abort, graph: &mut Graph, bytes: &[u8], graphs: &[Wanted])
+    requires { graph.old ≡ empty_graph }
+    ensures { graph.new ≡ empty_graph }
+{
+    let Ok(count) = scan(bytes) else {
+        panic!(rt; "a fault");
+    };
+    assert_eq!(rt; count as usize, graphs.len());
+    let mut lines = Lines::new(bytes);
+    for (n, edges) in graphs {
+        gives(rt, &mut lines, graph, *n, edges);
+    }
+    assert!(rt; !lines.next(graph));
+}
+
+/// The file has this first fault.
+fn refuses(rt: &impl Abort, bytes: &[u8], kind: G6Kind, line: u64) {
+    assert_eq!(rt; scan(bytes), Err(G6Fault { kind, line }));
+}
+
+#[test]
+fn files_spell(rt: HostRuntime) -> Result<(), Fail> {
+    let mut graph = Graph::new(rt.alloc())?;
+    let g = &mut graph;
+    spells(&rt, g, b"", &[]);
+    spells(&rt, g, b">>graph6<<", &[]);
+    spells(&rt, g, b"?\n", &[(0, &[])]);
+    spells(&rt, g, b"DQc\n", &[(5, &[(0, 2), (0, 4), (1, 3), (3, 4)])]);
+    spells(&rt, g, b"DhO\n", &[(5, &[(0, 1), (1, 2), (2, 3), (1, 4)])]);
+    spells(&rt, g, b">>graph6<<Ch\n", &[(4, &[(0, 1), (1, 2), (2, 3)])]);
+    spells(
+        &rt,
+        g,
+        b"@\nA?\nA_\n\nBw\r\nBg",
+        &[
+            (1, &[]),
+            (2, &[]),
+            (2, &[(0, 1)]),
+            (3, &[(0, 1), (0, 2), (1, 2)]),
+            (3, &[(0, 1), (1, 2)]),
+        ],
+    );
+    Ok(())
+}
+
+#[test]
+fn long_sizes_are_read(rt: HostRuntime) -> Result<(), Fail> {
+    let mut graph = Graph::new(rt.alloc())?;
+    let mut file = Vec::new(rt.alloc());
+    file.extend_from_slice(b"~??~")?;
+    file.resize(330, b'?')?;
+    file.push(b'\n')?;
+    spells(&rt, &mut graph, &file, &[(63, &[])]);
+    file.clear();
+    file.extend_from_slice(b"~@??")?;
+    file.resize(1_397_764, b'?')?;
+    spells(&rt, &mut graph, &file, &[(4096, &[])]);
+    Ok(())
+}
+
+#[test]
+fn faults_are_named(rt: HostRuntime) {
+    refuses(&rt, b"A`\n", G6Kind::BadPadding, 1);
+    refuses(&rt, b"DhO\nDQ\n", G6Kind::Truncated, 2);
+    refuses(&rt, b"~??}\n", G6Kind::BadSize, 1);
+    refuses(&rt, b"~@?@\n", G6Kind::TooManyVertices, 1);
+    refuses(&rt, b"~?\n", G6Kind::Truncated, 1);
+    refuses(&rt, b"A__\n", G6Kind::TrailingBytes, 1);
+    refuses(&rt, b"@\nB!\n", G6Kind::BadByte, 2);
+    refuses(&rt, b":Fa@x^\n", G6Kind::OtherFormat, 1);
+    refuses(&rt, b"~~??????\n", G6Kind::BadSize, 1);
+    refuses(&rt, b"~~~~~~~~\n", G6Kind::TooManyVertices, 1);
+    refuses(&rt, b"~~?\n", G6Kind::Truncated, 1);
+    refuses(&rt, b">>graph6<\n", G6Kind::BadByte, 1);
+}
