@@ -6,3 +6,4 @@ pub mod Laws
 pub mod Window
 pub mod Filled
 pub mod Written
+pub mod Text

@@ -8,6 +8,7 @@ ghost use Rattle.md_graph6.specs.Bits.{bit, pair_number, body_length};
 ghost use Rattle.md_graph6.specs.Size.{size_text};
 ghost use Rattle.md_graph6.specs.Window.{AreGroups, IsPut};
 ghost use Rattle.md_graph6.specs.Written.{bit_if, nth, IsWritten, IsTextOf};
+ghost use Rattle.md_graph6.specs.Text.{graph6_text};
 
 use std::alloc::Global;
 
@@ -295,7 +296,8 @@ fn blank_line(alloc: Global, n: u32, size: usize) -> Result<Vec<u8>, Memory>
 /// The graph6 line of the graph in the shortest spelling, and a line feed. The i-th vertex in ascending
 /// order, counted from 0, is i. Error: want of memory. Source: the public description of the format.
 pub fn write(alloc: Global, graph: &Graph) -> Result<Vec<u8>, Memory>
-    ensures { IfOk result (λ text. IsTextOf text.items graph.now) }
+    ensures text { IfOk result (λ text. text.items ≡ graph6_text graph.now) }
+    ensures spells { IfOk result (λ text. IsTextOf text.items graph.now) }
 {
     let (n, numbered) = shape(graph);
     let size = size_length(n);

@@ -1,5 +1,7 @@
-use Rattle.std.proofs.Common.{◌≡◌, List, [], ◌∷◌, ◌++◌, length, ap, sym, ◌∙◌}
+use Rattle.std.proofs.Common.{◌≡◌, List, [], ◌∷◌, ◌++◌, length, take, drop, ap, sym, ◌∙◌}
 use Rattle.md_graph6.specs.Bits.{body_length}
+use Rattle.md_graph6.specs.Size.{size_text}
+use Rattle.md_graph6.proofs.TextLemmas.{line_written}
 use Rattle.md_graph6.proofs.WriteLemmas.{whole_back, size_kept, body_kept, SpellsLine-written}
 use Rattle.md_graph6.proofs.writer.write.Goals as goal
 
@@ -10,12 +12,16 @@ returns c =
     let size = c.size_length-size.result in
     let n = c.shape-n.result.0 in
     let same : length line ≡ length items = c.put_behind.auto.line ∙ ap length c.as_mut_slice.ensures.value in
+    let begins : take size line ≡ size_text n =
+      size_kept line items _ size n (body_length n) c.put_behind.ensures.size c.as_mut_slice.ensures.value c.in_ok-text.ensures.items c.size_length-size.ensures in
+    let long : length (drop size line) ≡ body_length n =
+      body_kept line items size n (body_length n) same c.in_ok-text.ensures.items c.size_length-size.ensures in
+    let whole = c.push_reserved.ensures.items ∙ ap (λ s. s ++ 10 ∷ []) (whole_back line items c.in_ok-text.text.len same c.in_ok-text.text.ok.0) in
     record {
-      line = line;
-      ended = c.push_reserved.ensures.items ∙ ap (λ s. s ++ 10 ∷ []) (whole_back line items c.in_ok-text.text.len same c.in_ok-text.text.ok.0);
-      spells =
-          SpellsLine-written line size n c.args.graph.now c.shape-n.ensures.count
-          (size_kept line items _ size n (body_length n) c.put_behind.ensures.size c.as_mut_slice.ensures.value c.in_ok-text.ensures.items c.size_length-size.ensures)
-          (body_kept line items size n (body_length n) same c.in_ok-text.ensures.items c.size_length-size.ensures)
-          c.put_behind.ensures.body;
+      text = whole ∙ line_written line c.args.graph.now size n c.shape-n.ensures.count begins long c.put_behind.ensures.body;
+      spells = record {
+        line = line;
+        ended = whole;
+        spells = SpellsLine-written line size n c.args.graph.now c.shape-n.ensures.count begins long c.put_behind.ensures.body;
+      };
     }
