@@ -5,10 +5,9 @@ ghost use Rattle.md_graph.specs.NameSet.{Member, IsLeastFrom, NoneFrom};
 ghost use Rattle.md_graph.specs.PlainGraph.{adjacent, neighbours, IsGraph, empty_graph, with_vertex, with_edge, with_edges, complement, induced, without_vertex, without_edge};
 ghost use Rattle.md_graph.specs.Rows.{row_of};
 
+use crate::{Memory, NAMES, Names};
 use std::alloc::Global;
 use std::marker::Model;
-
-use crate::{Memory, NAMES, Names};
 
 /// A graph: its vertices are names, and each name has a row, the set of its neighbours. All rows are taken
 /// when the graph is made, and the row of a name that is no vertex is empty.
@@ -301,7 +300,12 @@ mod tests {
     use std::test::Fail;
 
     /// The graph with these vertices and edges.
-    fn made(rt: &impl Abort, alloc: Global, names: &[u32], edges: &[(u32, u32)]) -> Result<Graph, Memory> {
+    fn made(
+        rt: &impl Abort,
+        alloc: Global,
+        names: &[u32],
+        edges: &[(u32, u32)],
+    ) -> Result<Graph, Memory> {
         let mut g = Graph::new(alloc)?;
         for v in names {
             assert!(rt; *v < NAMES && !g.has_vertex(*v));
@@ -372,12 +376,24 @@ mod tests {
         others.insert(64);
         others.insert(last);
         star(&rt, &mut g, 200, &others);
-        expect(&rt, &g, &[5, 64, 200, last], &[(64, last), (200, 5), (200, 64), (200, last)]);
+        expect(
+            &rt,
+            &g,
+            &[5, 64, 200, last],
+            &[(64, last), (200, 5), (200, 64), (200, last)],
+        );
         for (v, degree) in [(5, 1), (64, 2), (200, 3), (last, 2)] {
             assert!(rt; g.has_vertex(v));
             assert_eq!(rt; g.degree(v), degree, "degree of {v}");
         }
-        for (u, v) in [(5, 64), (64, 64), (200, 200), (NAMES, 64), (64, u32::MAX), (7, 8)] {
+        for (u, v) in [
+            (5, 64),
+            (64, 64),
+            (200, 200),
+            (NAMES, 64),
+            (64, u32::MAX),
+            (7, 8),
+        ] {
             assert!(rt; !g.has_edge(u, v), "no edge {u} {v}");
         }
         assert!(rt; g.row(64).count() == 2 && g.row(64).has(200) && g.row(7).is_empty());
@@ -386,7 +402,12 @@ mod tests {
         assert_eq!(rt; g.next_vertex(last), Some(last));
         assert_eq!(rt; g.next_vertex(NAMES), None);
         part(&rt, &mut g, 64, 200);
-        expect(&rt, &g, &[5, 64, 200, last], &[(64, last), (200, 5), (200, last)]);
+        expect(
+            &rt,
+            &g,
+            &[5, 64, 200, last],
+            &[(64, last), (200, 5), (200, last)],
+        );
         assert!(rt; g.has_vertex(last));
         g.remove_vertex(last);
         expect(&rt, &g, &[5, 64, 200], &[(200, 5)]);
