@@ -70,7 +70,7 @@ impl Graph {
         requires { Member self.now.vertices v }
         ensures { result ≡ set.len (neighbours self.now v) }
     {
-        self.row(v).count()
+        self.rows[v as usize].count()
     }
 
     /// The number of vertices.
@@ -250,10 +250,11 @@ impl Graph {
         requires { v < NAMES }
         ensures { result ≡ neighbours (induced self.now names.now) v }
     {
+        let row = &self.rows[v as usize];
         if !names.has(v) {
             return Names::none();
         }
-        self.rows[v as usize].and(names)
+        row.and(names)
     }
 }
 

@@ -9,4 +9,6 @@ pub mod FileLemmas
 pub mod BitLemmas
 pub mod PutLemmas
 pub mod FillLemmas
+pub mod Listed
+pub mod SizeText
 pub mod WriteLemmas

@@ -1,14 +1,24 @@
 -- The columns of a body, written one after the other.
-use Rattle.std.proofs.Common.{◌≡◌, ℕ, zero, suc, ◌+◌, ◌-◌, ◌*◌, ◌/◌, ◌%◌, ◌^◌, ◌<◌, ◌≤◌, Bool, true, false, cond, ◌&&◌, ◌==◌, List, length, get_or, refl, sym, ap, ◌∙◌, subst, arith, rules, nat_lt, if◌then◌else◌, inl, inr, ◌⊎◌, ⊎_elim}
+use Rattle.std.proofs.Common.{◌≡◌, ℕ, zero, suc, ◌+◌, ◌-◌, ◌*◌, ◌/◌, ◌%◌, ◌^◌, ◌<◌, ◌≤◌, Bool, true, false, cond, ◌&&◌, ◌==◌, List, [], ◌∷◌, ◌++◌, IsTrue, take, drop, length-append, length, get_or, replicate, refl, sym, ap, ◌∙◌, subst, arith, rules, nat_lt, if◌then◌else◌, inl, inr, ◌⊎◌, ⊎_elim}
 use Rattle.std.specs.Int.{bit_at}
-use Rattle.std.proofs.lemmas.Nat.Bits.{bit_at_above, bit_at-lt}
-use Rattle.std.proofs.lemmas.Bool.{cases_Bool, cases_lt, eqb-true}
+use Rattle.std.proofs.lemmas.Nat.Bits.{bit_at_above, bit_at-lt, bit_at-zero}
+use Rattle.std.proofs.lemmas.Bool.{cases_Bool, cases_lt, eqb-true, ltb-true, lt-ltb, and_parts}
+use Rattle.std.proofs.lemmas.List.{take-append-drop, get_or_default, length-replicate, length-drop}
+use Rattle.std.proofs.Math.Seq.{drop-append_seam, take-append_seam}
+use Rattle.std.specs.List.{AllPass}
+use Rattle.md_graph.specs.declared.TheConstants.{NAMES}
+use Rattle.md_graph6.specs.Size.{size_text}
+use Rattle.md_graph6.specs.Line.{SpellsLine, is_group, numbers_below}
+use Rattle.md_graph6.proofs.Listed.{length_ascending}
+use Rattle.md_graph6.proofs.DecodeLemmas.{contains-numbers_below}
 use Rattle.std.proofs.lemmas.Bool.Decides.{nat_tests}
 use Rattle.std.specs.FinSet as set
-use Rattle.md_graph.specs.NameSet.{NameSet}
-use Rattle.md_graph6.specs.Bits.{bit, pair_number}
+use Rattle.md_graph.specs.NameSet.{NameSet, ascending}
+use Rattle.md_graph6.specs.Bits.{bit, pair_number, body_length, IsBodyOf}
 use Rattle.md_graph6.specs.Window.{AreGroups}
-use Rattle.md_graph6.specs.Written.{bit_if}
+use Rattle.md_graph6.specs.Written.{bit_if, nth, are_adjacent, renumbered, IsWritten}
+use Rattle.md_graph.specs.PlainGraph.{PlainGraph, IsGraph, adjacent, neighbours}
+use Rattle.md_graph.proofs.GraphLemmas.{contains-neighbours, contains-pairs_where, adjacent_sym, adjacent_up}
 
 -- a bit by its test
 bit_by_test : (b : ℕ) (t : Bool) → b < 2 → t ≡ (b == 1) → b ≡ bit_if t
@@ -79,3 +89,167 @@ written_more old mid new column place j first next bits low k after started fits
             bit_at_above low 64 (k - (place + first)) fits outside ∙ rw v refl
         ])
     ]
+
+-- ---- pair numbers
+
+-- one column more
+triangle_next : (j : ℕ) → (j + 1) * (j + 1 - 1) / 2 ≡ j * (j - 1) / 2 + j
+triangle_next zero = refl
+triangle_next (suc i) =
+    let above : suc i + 1 - 1 ≡ suc i = omega arith in
+    let below : suc i - 1 ≡ i = omega arith in
+    let product : (suc i + 1) * suc i ≡ suc i * i + 2 * suc i = omega arith in
+    rw (above, below, product) (omega arith)
+
+pub pair_next : (j : ℕ) → pair_number 0 (j + 1) ≡ pair_number j j
+pair_next j = omega (arith, triangle_next j)
+
+pub pair_mono : (b j : ℕ) → b ≤ j → pair_number 0 b ≤ pair_number 0 j
+pair_mono b zero h = let e : b ≡ 0 = omega arith in rw e (omega arith)
+pair_mono b (suc j) h =
+    elim (cases_lt b (suc j)) [
+      | inl less ↦ let before = pair_mono b j (omega arith) in let next = pair_next j in let up : pair_number 0 j ≤ pair_number j j = omega arith in let one : j + 1 ≡ suc j = omega arith in subst (λ x. pair_number 0 b ≤ pair_number 0 x) one (rw next (omega (arith, before, up)))
+      | inr more ↦ let e : b ≡ suc j = omega arith in rw e (omega arith)
+    ]
+
+-- the pairs of earlier columns stand before column j
+pub pair_before : (a b j : ℕ) → a < b → b < j → pair_number a b < pair_number 0 j
+pair_before a b j up less =
+    let next = pair_next b in
+    let mono = pair_mono (b + 1) j (omega arith) in
+    let here : pair_number a b < pair_number b b = omega arith in
+    omega (arith, next, mono, here)
+
+-- ---- a body of zeros
+
+pub zeros_each : (n k : ℕ) → ◌≡◌ {A = ℕ} (get_or (replicate n 63) k 63) 63
+zeros_each zero k = refl
+zeros_each (suc n) zero = refl
+zeros_each (suc n) (suc k) = zeros_each n k
+
+pub zeros_bit : (n k : ℕ) → bit (replicate n 63) k ≡ 0
+zeros_bit n k = rw (zeros_each n (k / 6)) (bit_at-zero (5 - k % 6))
+
+pub IsWritten-zeros : (g : PlainGraph) (n : ℕ) → IsWritten (replicate n 63) g 0
+IsWritten-zeros g n = record {
+  groups = record { low = λ k h. rw (zeros_each n k) (omega arith); high = λ k h. rw (zeros_each n k) (omega arith) };
+  bits = λ i j up none. absurd (omega arith);
+  blank = λ k h. zeros_bit n k;
+}
+
+-- one column more
+pub IsWritten-more : {old new : List ℕ} {g : PlainGraph} {j : ℕ} (column : NameSet) → IsWritten old g j → AreGroups new
+    → ((k : ℕ) → k < pair_number 0 j → bit new k ≡ bit old k)
+    → ((i : ℕ) → bit new (pair_number i j) ≡ bit_if (nat_lt i j && set.contains column i))
+    → ((i : ℕ) → i < j → set.contains column i ≡ are_adjacent g i j)
+    → IsWritten new g (j + 1)
+IsWritten-more {old} {new} {g} {j} column written groups before here is = record {
+  groups = groups;
+  bits = λ a b up inside. elim (cases_lt b j) [
+    | inl less ↦ before (pair_number a b) (pair_before a b j up less) ∙ written.bits a b up less
+    | inr more ↦
+      let e : j ≡ b = omega arith in
+      let t : nat_lt a j ≡ true = grind (arith, nat_tests) in
+      subst (λ x. bit new (pair_number a x) ≡ bit_if (are_adjacent g a x)) e (here a ∙ rw (t, is a (omega arith)) refl)
+  ];
+  blank = λ k past.
+    let next = pair_next j in
+    let e : k ≡ pair_number (k - pair_number 0 j) j = omega (arith, next) in
+    let f : nat_lt (k - pair_number 0 j) j ≡ false = nat_lt_no (k - pair_number 0 j) j (omega (arith, next)) in
+    ap (bit new) e ∙ here (k - pair_number 0 j) ∙ rw f refl;
+}
+  where
+    nat_lt_no : (x y : ℕ) → y ≤ x → nat_lt x y ≡ false
+    nat_lt_no x y h = grind (arith, nat_tests)
+
+-- ---- the columns of a graph
+
+-- the row of a vertex
+row_at : {g : PlainGraph} (row : NameSet) (v u : ℕ) → IsGraph g → row ≡ neighbours g v → set.contains row u ≡ adjacent g u v
+row_at {g} row v u is e = ap (λ s. set.contains s u) e ∙ contains-neighbours is v u ∙ adjacent_sym g v u
+
+-- where the i-th vertex is i, a row is a column
+pub numbered_column : {g : PlainGraph} (row : NameSet) (n j : ℕ) → IsGraph g → row ≡ neighbours g j
+    → ((i : ℕ) → i < n → nth g i ≡ i) → j < n → (i : ℕ) → i < j → set.contains row i ≡ are_adjacent g i j
+numbered_column {g} row n j is e numbered inside i up =
+    let here = numbered i (omega arith) in
+    let there = numbered j inside in
+    row_at row j i is e ∙ sym (ap (λ x. adjacent g x (nth g j)) here ∙ ap (adjacent g i) there)
+
+-- a column that was gathered from a row
+pub gathered_column : {g : PlainGraph} (row column : NameSet) (v j : ℕ) → IsGraph g → row ≡ neighbours g v → v ≡ nth g j
+    → ((i : ℕ) → set.contains column i ≡ (nat_lt i j && set.contains row (nth g i)))
+    → (i : ℕ) → i < j → set.contains column i ≡ are_adjacent g i j
+gathered_column {g} row column v j is e vertex gathered i up =
+    let t : nat_lt i j ≡ true = grind (arith, nat_tests) in
+    gathered i ∙ rw t (row_at row v (nth g i) is e ∙ ap (adjacent g (nth g i)) vertex)
+
+-- ---- the whole text
+
+are_groups_pass : (body : List ℕ) → AreGroups body → AllPass is_group body
+are_groups_pass body are = λ k d h.
+    let e = get_or_default body k d 63 h in
+    let low = are.low k h in
+    let high = are.high k h in
+    rw e (grind (arith, nat_tests))
+
+pub IsGraph-renumbered : (g : PlainGraph) → IsGraph (renumbered g)
+IsGraph-renumbered g =
+    let n = length (ascending g.vertices) in
+    let few = length_ascending g.vertices 0 NAMES in
+    let parts = λ (u v : ℕ) (h : IsTrue (set.contains (renumbered g).edges (u, v))). and_parts (nat_lt u v) (nat_lt v n) (and_parts _ _ (sym (contains-pairs_where (are_adjacent g) n u v) ∙ h)).0 in
+    record {
+      names = λ v h. omega (arith, few, ltb-true v n (sym (contains-numbers_below n v) ∙ h));
+      ordered = λ u v h. ltb-true u v (parts u v h).0;
+      low_end = λ u v h. contains-numbers_below n u ∙ lt-ltb u n (omega (arith, ltb-true u v (parts u v h).0, ltb-true v n (parts u v h).1));
+      high_end = λ u v h. contains-numbers_below n v ∙ (parts u v h).1;
+    }
+
+adjacent-renumbered : (g : PlainGraph) (i j : ℕ) → i < j → j < length (ascending g.vertices) → adjacent (renumbered g) i j ≡ are_adjacent g i j
+adjacent-renumbered g i j up inside =
+    adjacent_up (renumbered g) i j up
+    ∙ contains-pairs_where (are_adjacent g) (length (ascending g.vertices)) i j
+    ∙ rw (lt-ltb i j up, lt-ltb j (length (ascending g.vertices)) inside) refl
+
+-- a body that is written is one of the renumbered graph
+pub IsBodyOf-written : (body : List ℕ) (g : PlainGraph) → IsWritten body g (length (ascending g.vertices))
+    → IsBodyOf body (length (ascending g.vertices)) (renumbered g)
+IsBodyOf-written body g written = record {
+  vertices = contains-numbers_below (length (ascending g.vertices));
+  graph = IsGraph-renumbered g;
+  edges = λ i j up inside. adjacent-renumbered g i j up inside ∙ tested (are_adjacent g i j) ∙ ap (λ b. b == 1) (sym (written.bits i j up inside));
+}
+  where
+    tested : (b : Bool) → b ≡ (bit_if b == 1)
+    tested true = refl
+    tested false = refl
+
+pub SpellsLine-written : (line : List ℕ) (size n : ℕ) (g : PlainGraph) → n ≡ length (ascending g.vertices)
+    → take size line ≡ size_text n → length (drop size line) ≡ body_length n → IsWritten (drop size line) g n
+    → SpellsLine line (renumbered g)
+SpellsLine-written line size n g count begins long written = record {
+  n = n;
+  body = drop size line;
+  few = omega (arith, count, length_ascending g.vertices 0 NAMES);
+  text = sym (take-append-drop size line) ∙ ap (λ s. s ++ drop size line) begins;
+  long = long;
+  groups = are_groups_pass (drop size line) written.groups;
+  bits = subst (λ m. IsBodyOf (drop size line) m (renumbered g)) (sym count) (IsBodyOf-written (drop size line) g (subst (IsWritten (drop size line) g) count written));
+  padding = λ k past within. written.blank k (omega arith);
+}
+
+-- what a write through a slice of a whole `Vec` leaves
+pub whole_back : (now items : List ℕ) (len : ℕ) → length now ≡ length items → len ≡ length items → take len (now ++ drop (length now) items) ≡ now
+whole_back now items len same is =
+    let e : len ≡ length now = is ∙ sym same in
+    rw e (take-append_seam now (drop (length now) items))
+
+pub size_kept : (line items now : List ℕ) (size n many : ℕ) → take size line ≡ take size now → now ≡ items → items ≡ size_text n ++ replicate many 63
+    → size ≡ length (size_text n) → take size line ≡ size_text n
+size_kept line items now size n many kept same blank is =
+    kept ∙ rw (same, blank, is) (take-append_seam (size_text n) (replicate many 63))
+
+pub body_kept : (line items : List ℕ) (size n many : ℕ) → length line ≡ length items → items ≡ size_text n ++ replicate many 63
+    → size ≡ length (size_text n) → length (drop size line) ≡ many
+body_kept line items size n many same blank is =
+    omega (arith, length-drop size line, same, ap length blank ∙ length-append (size_text n) (replicate many 63), length-replicate {A = ℕ} many 63, is)

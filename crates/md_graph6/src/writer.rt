@@ -1,5 +1,5 @@
 //! The text of a graph in graph6, 64 bits of a column at once.
-ghost use Rattle.std.specs.Prelude.{IfOk, ◌++◌, true, vec_len, vec_capacity, ◌≡◌, ℕ, ◌+◌, ◌-◌, ◌*◌, ◌/◌, ◌%◌, ◌^◌, ◌<◌, ◌≤◌, ◌==◌, ◌&&◌, nat_lt, length, get_or, if◌then◌else◌};
+ghost use Rattle.std.specs.Prelude.{IfOk, ◌++◌, true, vec_len, vec_capacity, replicate, take, drop, ◌≡◌, ℕ, ◌+◌, ◌-◌, ◌*◌, ◌/◌, ◌%◌, ◌^◌, ◌<◌, ◌≤◌, ◌==◌, ◌&&◌, ◌||◌, nat_lt, length, get_or, if◌then◌else◌};
 ghost use Rattle.std.specs.Int.{bit_at};
 ghost use Rattle.std.specs.FinSet as set;
 ghost use Rattle.md_graph.specs.NameSet.{Member, ascending};
@@ -150,12 +150,20 @@ fn shape(graph: &Graph) -> (u32, bool)
     let mut count = 0;
     let mut numbered = true;
     for v in graph.vertices().members() {
-        if v != count {
-            numbered = false;
-        }
+        numbered = v == count && numbered;
         count += 1;
     }
     (count, numbered)
+}
+
+/// Takes i in if it is wanted.
+fn insert_if(column: &mut Names, i: u32, wanted: bool)
+    requires { i < NAMES }
+    ensures { (k : ℕ) → set.contains column.new k ≡ (((k == i) && wanted) || set.contains column.old k) }
+{
+    if wanted {
+        column.insert(i);
+    }
 }
 
 /// Makes `column` the set of the numbers i < j for which the i-th vertex is in the row.
@@ -169,9 +177,7 @@ fn gather(graph: &Graph, row: &Names, j: u32, column: &mut Names)
         if i == j {
             return;
         }
-        if row.has(u) {
-            column.insert(i);
-        }
+        insert_if(column, i, row.has(u));
         i += 1;
     }
 }
@@ -203,6 +209,36 @@ fn put_any(body: &mut [u8], graph: &Graph)
         put_column(body, j, &column);
         j += 1;
     }
+}
+
+/// Puts the bits of a graph of n vertices.
+fn put_body(body: &mut [u8], graph: &Graph, n: u32, numbered: bool)
+    requires count { n ≡ length (ascending graph.now.vertices) }
+    requires few { n ≤ NAMES }
+    requires numbered { numbered ≡ true → (i : ℕ) → i < n → nth graph.now i ≡ i }
+    requires blank { IsWritten body.old graph.now 0 }
+    requires room { pair_number 0 n ≤ 6 * length body.old }
+    ensures { IsWritten body.new graph.now n }
+{
+    if numbered {
+        put_numbered(body, graph, n);
+        return;
+    }
+    put_any(body, graph);
+}
+
+/// Puts the bits of a graph of n vertices behind the size of a line.
+fn put_behind(line: &mut [u8], size: usize, graph: &Graph, n: u32, numbered: bool)
+    requires count { n ≡ length (ascending graph.now.vertices) }
+    requires few { n ≤ NAMES }
+    requires numbered { numbered ≡ true → (i : ℕ) → i < n → nth graph.now i ≡ i }
+    requires inside { size ≤ length line.old }
+    requires blank { IsWritten (drop size line.old) graph.now 0 }
+    requires room { pair_number 0 n ≤ 6 * (length line.old - size) }
+    ensures size { take size line.new ≡ take size line.old }
+    ensures body { IsWritten (drop size line.new) graph.now n }
+{
+    put_body(&mut line[size..], graph, n, numbered);
 }
 
 /// How many bytes spell the size n in its shortest spelling.
@@ -238,13 +274,13 @@ fn body_length(n: u32) -> usize
     (n as usize * (n as usize).saturating_sub(1) / 2 + 5) / 6
 }
 
-/// The graph6 line of the graph in the shortest spelling, and a line feed. The i-th vertex in ascending
-/// order, counted from 0, is i. Error: want of memory. Source: the public description of the format.
-pub fn write(alloc: Global, graph: &Graph) -> Result<Vec<u8>, Memory>
-    ensures { IfOk result (λ text. IsTextOf text.items graph.now) }
+/// The line of n vertices without edges, and room for one byte more.
+fn blank_line(alloc: Global, n: u32, size: usize) -> Result<Vec<u8>, Memory>
+    requires few { n ≤ NAMES }
+    requires size { size ≡ length (size_text n) }
+    ensures items { IfOk result (λ text. text.items ≡ size_text n ++ replicate (body_length n) 63) }
+    ensures room { IfOk result (λ text. vec_len text < vec_capacity text) }
 {
-    let (n, numbered) = shape(graph);
-    let size = size_length(n);
     let end = size + body_length(n);
     let Ok(mut text) = Vec::with_capacity(alloc, end + 1) else {
         return Err(Memory);
@@ -253,12 +289,18 @@ pub fn write(alloc: Global, graph: &Graph) -> Result<Vec<u8>, Memory>
     if text.resize(end, NO_BITS).is_err() {
         return Err(Memory);
     }
-    let body = &mut text.as_mut_slice()[size..];
-    if numbered {
-        put_numbered(body, graph, n);
-    } else {
-        put_any(body, graph);
-    }
+    Ok(text)
+}
+
+/// The graph6 line of the graph in the shortest spelling, and a line feed. The i-th vertex in ascending
+/// order, counted from 0, is i. Error: want of memory. Source: the public description of the format.
+pub fn write(alloc: Global, graph: &Graph) -> Result<Vec<u8>, Memory>
+    ensures { IfOk result (λ text. IsTextOf text.items graph.now) }
+{
+    let (n, numbered) = shape(graph);
+    let size = size_length(n);
+    let mut text = blank_line(alloc, n, size)?;
+    put_behind(text.as_mut_slice(), size, graph, n, numbered);
     text.push_reserved(b'\n');
     Ok(text)
 }

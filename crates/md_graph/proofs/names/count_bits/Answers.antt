@@ -9,7 +9,7 @@ pub loop-i-init : goal.loop-i-init
 loop-i-init c = sym (len_of_none c.args.words.now)
 
 pub overflow_add-count : goal.overflow_add-count
-overflow_add-count c = 
+overflow_add-count c =
     let few = len-names_below-le c.args.words.now (64 * c.loop-i.i) in
     let ones = ones-le 64 _ (c.type_inv.words c.loop-i.i).fits in
     omega arith

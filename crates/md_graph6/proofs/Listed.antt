@@ -1,0 +1,96 @@
+-- The vertices of a graph, ascending, and a loop over them.
+use Rattle.std.proofs.Common.{◌≡◌, ℕ, zero, suc, ◌+◌, ◌-◌, ◌*◌, ◌/◌, ◌%◌, ◌^◌, ◌<◌, ◌≤◌, Bool, true, false, cond, ◌&&◌, ◌||◌, ◌==◌, List, [], ◌∷◌, ◌++◌, length, get_or, drop, refl, sym, ap, ◌∙◌, subst, arith, rules, nat_lt, nat_le, if◌then◌else◌, inl, inr, ◌⊎◌, ⊎_elim, length-drop, length-append}
+use Rattle.std.proofs.lemmas.List.{drop_more, get_or_push}
+use Rattle.std.proofs.Math.ListN.{get_or-append}
+use Rattle.std.proofs.lemmas.Bool.{cases_Bool, cases_lt, cases_eq}
+use Rattle.std.proofs.lemmas.Bool.Decides.{nat_tests}
+use Rattle.md_graph.proofs.SetLaws.{contains-empty}
+use Rattle.std.specs.FinSet as set
+use Rattle.md_graph.specs.declared.TheConstants.{NAMES}
+use Rattle.md_graph.specs.NameSet.{NameSet, Member, ascending, ascending_between}
+
+-- a loop over a list has `i` items behind it and the others before it
+pub record IsAt (items rest : List ℕ) (i : ℕ) : Type 0 where
+  pub inside : i ≤ length items
+  pub is : rest ≡ drop i items
+
+pub at_start : (items rest : List ℕ) → rest ≡ items → IsAt items rest 0
+at_start items rest e = record { inside = omega arith; is = e }
+
+pub at_turn : {items rest : List ℕ} {i : ℕ} → IsAt items rest i → (x : ℕ) (more : List ℕ) → rest ≡ x ∷ more
+    → (i < length items) × (x ≡ get_or items i 0) × IsAt items more (i + 1)
+at_turn {items} {rest} {i} at_i x more e =
+    let left : length (drop i items) ≡ length items - i = length-drop i items in
+    let some : length (drop i items) ≡ suc (length more) = ap length (sym at_i.is ∙ e) in
+    let inside : i < length items = omega arith in
+    let split = drop_more items i 0 inside in
+    let head : x ≡ get_or items i 0 = cc in
+    let tail : more ≡ drop (i + 1) items = cc in
+    (inside, head, record { inside = omega arith; is = tail })
+
+pub at_end : {items rest : List ℕ} {i : ℕ} → IsAt items rest i → rest ≡ [] → i ≡ length items
+at_end {items} {rest} {i} at_i e =
+    let left : length (drop i items) ≡ length items - i = length-drop i items in
+    let none : length (drop i items) ≡ 0 = ap length (sym at_i.is ∙ e) in
+    let inside = at_i.inside in
+    omega arith
+
+-- ---- ascending lists
+
+list_push : (xs : List ℕ) (n : ℕ) → length (xs ++ n ∷ []) ≡ length xs + 1
+list_push xs n = length-append xs (n ∷ [])
+
+pub length_ascending : (s : NameSet) (low n : ℕ) → length (ascending_between s low n) ≤ n
+unfolding ascending_between
+length_ascending s low zero = omega arith
+length_ascending s low (suc n) =
+    let before = length_ascending s low n in
+    elim (cases_Bool (nat_le low n && set.contains s n)) [
+      | inl t ↦ rw (t, list_push (ascending_between s low n) n) (omega arith)
+      | inr f ↦ rw (f, length-append (ascending_between s low n) []) (omega arith)
+    ]
+
+pub ascending_each : (s : NameSet) (low n i : ℕ) → i < length (ascending_between s low n) → get_or (ascending_between s low n) i 0 < n
+unfolding ascending_between
+ascending_each s low zero i inside = absurd (omega arith)
+ascending_each s low (suc n) i inside =
+    elim (cases_lt i (length (ascending_between s low n))) [
+      | inl earlier ↦ rw (get_or-append (ascending_between s low n) (if nat_le low n && set.contains s n then n ∷ [] else []) 0 i earlier) (omega (arith, ascending_each s low n i earlier))
+      | inr last ↦ elim (cases_Bool (nat_le low n && set.contains s n)) [
+        | inl t ↦
+          let at_end : length (ascending_between s low n) ≡ i = pushed_at i last (rw t at inside) in
+          rw (t, get_or_push (ascending_between s low n) n 0 i at_end) (omega arith)
+        | inr f ↦ absurd (no_more i last (rw f at inside))
+      ]
+    ]
+  where
+    pushed_at : (i : ℕ) → length (ascending_between s low n) ≤ i → i < length (ascending_between s low n ++ n ∷ []) → length (ascending_between s low n) ≡ i
+    pushed_at i last inside = omega (arith, list_push (ascending_between s low n) n)
+
+    no_more : (i : ℕ) → length (ascending_between s low n) ≤ i → i < length (ascending_between s low n ++ []) → ⊥
+    no_more i last inside = omega (arith, length-append (ascending_between s low n) [])
+
+-- ---- the loops of the writer
+
+-- whether the i-th item is i, as far as the loop has come
+pub numbered_more : (f : ℕ → ℕ) (count v : ℕ) → v ≡ f count → v ≡ count → ((i : ℕ) → i < count → f i ≡ i) → (i : ℕ) → i < count + 1 → f i ≡ i
+numbered_more f count v is same before i h =
+    elim (cases_lt i count) [
+      | inl less ↦ before i less
+      | inr more ↦ let e : i ≡ count = omega arith in ap f e ∙ sym is ∙ same ∙ sym e
+    ]
+
+pub gathered_none : (s : NameSet) (f : ℕ → Bool) → s ≡ set.empty → (k : ℕ) → set.contains s k ≡ (nat_lt k 0 && f k)
+gathered_none s f e k =
+    let none : nat_lt k 0 ≡ false = grind (arith, nat_tests) in
+    ap (λ x. set.contains x k) e ∙ contains-empty k ∙ rw none refl
+
+pub gathered_more : (s t : NameSet) (f : ℕ → Bool) (i : ℕ) (wanted : Bool) → wanted ≡ f i
+    → ((k : ℕ) → set.contains t k ≡ (((k == i) && wanted) || set.contains s k))
+    → ((k : ℕ) → set.contains s k ≡ (nat_lt k i && f k))
+    → (k : ℕ) → set.contains t k ≡ (nat_lt k (i + 1) && f k)
+gathered_more s t f i wanted is taken before k =
+    taken k ∙ ap (λ b. ((k == i) && wanted) || b) (before k) ∙ elim (cases_eq k i) [
+      | inl same ↦ let e = is ∙ ap f (sym same) in grind (arith, nat_tests)
+      | inr other ↦ grind (arith, nat_tests)
+    ]

@@ -1,0 +1,40 @@
+use Rattle.std.proofs.Common.{◌≡◌, ℕ, ◌<◌, ◌≤◌, ◌+◌, ◌&&◌, nat_lt, length, arith, ◌∙◌, ap, sym}
+use Rattle.std.specs.FinSet as set
+use Rattle.md_graph.specs.declared.TheConstants.{NAMES}
+use Rattle.md_graph.specs.NameSet.{ascending}
+use Rattle.md_graph6.specs.Written.{nth}
+use Rattle.md_graph6.proofs.Listed.{at_start, at_turn, at_end, length_ascending, gathered_none, gathered_more}
+use Rattle.md_graph6.proofs.writer.gather.Goals as goal
+
+pub loop-u-init : goal.loop-u-init
+loop-u-init c = record {
+  place = at_start (ascending c.args.graph.now.vertices) c.into_iter-u-iterator.result (c.into_iter-u-iterator.ensures.into_iter_gives ∙ c.members-u-items.ensures.list ∙ ap ascending c.vertices.ensures.set);
+  below = omega arith;
+  members = gathered_none c.clear.new.self (λ k. set.contains c.args.row.now (nth c.args.graph.now k)) c.clear.ensures;
+}
+
+pub returns-then-i-j : goal.returns-then-i-j
+returns-then-i-j c = λ k.
+    c.loop-u.invariant.members k ∙ ap (λ j. nat_lt k j && set.contains c.args.row.now (nth c.args.graph.now k)) c.if-i-j.true
+
+pub insert_if-requires : goal.insert_if-requires
+insert_if-requires c =
+    let turn = at_turn c.loop-u.invariant.place c.in-Some.u c.next.new.self c.in-Some.ensures.steps in
+    let few = length_ascending c.args.graph.now.vertices 0 NAMES in
+    omega (arith, turn.0, few)
+
+pub loop-u-preserved : goal.loop-u-preserved
+loop-u-preserved c =
+    let turn = at_turn c.loop-u.invariant.place c.in-Some.u c.next.new.self c.in-Some.ensures.steps in
+    record {
+      place = turn.2;
+      below = omega arith;
+      members = gathered_more c.loop-u.column c.insert_if.new.column (λ k. set.contains c.args.row.now (nth c.args.graph.now k)) c.loop-u.i c.has.result
+        (c.has.ensures ∙ ap (set.contains c.args.row.now) turn.1) c.insert_if.ensures c.loop-u.invariant.members;
+    }
+
+pub returns : goal.returns
+returns c =
+    let all = at_end c.loop-u.invariant.place c.in-None.ensures.steps.0 in
+    let e : c.loop-u.i ≡ c.args.j = omega (arith, all, c.requires) in
+    λ k. c.loop-u.invariant.members k ∙ ap (λ j. nat_lt k j && set.contains c.args.row.now (nth c.args.graph.now k)) e

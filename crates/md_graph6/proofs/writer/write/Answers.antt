@@ -1,0 +1,21 @@
+use Rattle.std.proofs.Common.{◌≡◌, List, [], ◌∷◌, ◌++◌, length, ap, sym, ◌∙◌}
+use Rattle.md_graph6.specs.Bits.{body_length}
+use Rattle.md_graph6.proofs.WriteLemmas.{whole_back, size_kept, body_kept, SpellsLine-written}
+use Rattle.md_graph6.proofs.writer.write.Goals as goal
+
+pub returns : goal.returns
+returns c =
+    let line = c.put_behind.new.line in
+    let items = c.in_ok-text.text.items in
+    let size = c.size_length-size.result in
+    let n = c.shape-n.result.0 in
+    let same : length line ≡ length items = c.put_behind.auto.line ∙ ap length c.as_mut_slice.ensures.value in
+    record {
+      line = line;
+      ended = c.push_reserved.ensures.items ∙ ap (λ s. s ++ 10 ∷ []) (whole_back line items c.in_ok-text.text.len same c.in_ok-text.text.ok.0);
+      spells =
+          SpellsLine-written line size n c.args.graph.now c.shape-n.ensures.count
+          (size_kept line items _ size n (body_length n) c.put_behind.ensures.size c.as_mut_slice.ensures.value c.in_ok-text.ensures.items c.size_length-size.ensures)
+          (body_kept line items size n (body_length n) same c.in_ok-text.ensures.items c.size_length-size.ensures)
+          c.put_behind.ensures.body;
+    }
