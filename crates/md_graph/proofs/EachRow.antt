@@ -1,17 +1,16 @@
 -- A loop over the members of a set that changes the row of each.
-use Rattle.std.specs.Prelude.{◌≡◌, ℕ, zero, suc, ◌+◌, ◌<◌, ◌≤◌, ◌≢◌, ◌⊎◌, Bool, true, false, cond, not, ◌&&◌, ◌||◌, ◌==◌, nat_lt, nat_le, IsTrue, List, [], ◌∷◌, ◌++◌, length, get_or, refl}
-use Rattle.std.proofs.Common.{subst, ap, sym, ◌∙◌, arith, inl, inr, set}
-use Rattle.std.proofs.lemmas.Bool.{cases_Bool, cases_eq, cases_order, or_left, or_right, eq-eqb, ne_eqb}
+use Rattle.std.specs.Prelude.{◌≡◌, ℕ, zero, suc, ◌<◌, Bool, true, false, cond, not, ◌&&◌, nat_lt, List, [], ◌∷◌, length, get_or, refl}
+use Rattle.std.proofs.Common.{ap, sym, ◌∙◌, arith, inl, inr, set}
+use Rattle.std.proofs.lemmas.Bool.{cases_Bool, cases_eq, or_left, or_right, eq-eqb, ne_eqb}
 use Rattle.std.proofs.lemmas.Bool.Decides.{nat_tests}
 use Rattle.std.proofs.lemmas.List.{append-nil, get_or_read, get_or-set_same, get_or-set_other}
-use Rattle.std.specs.Ordering.{nat_cmp}
 use Rattle.std.specs.Cmp.{nat_cmp_total}
 use Rattle.std.specs.FinSet as set
 use Rattle.std.specs.FinSet.{nat_cmp-IsAntisymmetric}
 use Rattle.md_graph.specs.declared.TheConstants.{NAMES}
 use Rattle.md_graph.specs.NameSet.{NameSet, Member, AllBelow, ascending, ascending_between}
 use Rattle.md_graph.specs.Rows.{row_of}
-use Rattle.md_graph.proofs.SetLaws.{contains-empty, contains-insert, contains-remove, same_set}
+use Rattle.md_graph.proofs.SetLaws.{contains-empty, contains-insert, contains-remove, contains-difference, same_set}
 use Rattle.md_graph.proofs.GraphLemmas.{zero_le, below_suc, below_same, below_all}
 
 -- ---- the members of a set, listed
@@ -70,9 +69,9 @@ each_step f twice rows x xs rest e below new old is read u =
     let row : new ≡ f (row_of rows x) = is ∙ ap f (get_or_read rows x old below read set.empty) in
     let here : changed f (listed (x ∷ rest)) rows u ≡ changed f (listed rest) (set rows x new) u = elim (cases_eq u x) [
       | inl same ↦
-        rw (same, contains-insert (listed rest) x x, eq-eqb x x refl, get_or-set_same rows x new set.empty below, row, twice (row_of rows x)) (sym (either (set.contains (listed rest) x) (f (row_of rows x))))
+          rw (same, contains-insert (listed rest) x x, eq-eqb x x refl, get_or-set_same rows x new set.empty below, row, twice (row_of rows x)) (sym (either (set.contains (listed rest) x) (f (row_of rows x))))
       | inr other ↦
-        rw (contains-insert (listed rest) x u, ne_eqb u x other, get_or-set_other rows x u new set.empty other) refl
+          rw (contains-insert (listed rest) x u, ne_eqb u x other, get_or-set_other rows x u new set.empty other) refl
     ] in
     sym (ap (λ ys. changed f (listed ys) rows u) e ∙ here)
 
@@ -85,3 +84,9 @@ insert_twice v s = same_set _ _ (λ q. rw (contains-insert (set.insert s v) v q,
 
 pub remove_twice : (v : ℕ) (s : NameSet) → set.remove (set.remove s v) v ≡ set.remove s v
 remove_twice v s = same_set _ _ (λ q. rw (contains-remove (set.remove s v) v q, contains-remove s v q) (grind arith))
+
+-- what is a member of a, where a without b is empty, is a member of b
+pub member_from_difference : (a b rest : NameSet) → rest ≡ set.difference a b → rest ≡ set.empty → (u : ℕ) → Member a u → Member b u
+member_from_difference a b rest is none u m =
+    let out : (set.contains a u && not (set.contains b u)) ≡ false = sym (contains-difference a b u) ∙ ap (λ s. set.contains s u) (sym is ∙ none) ∙ contains-empty u in
+    grind arith
