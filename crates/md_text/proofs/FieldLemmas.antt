@@ -1,9 +1,8 @@
 -- The laws of fields.
-use Rattle.std.proofs.Common.{◌≡◌, ◌≢◌, ℕ, ◌+◌, ◌-◌, ◌<◌, ◌≤◌, ◌⊎◌, zero, suc, Bool, true, false, cond, not, eqb, List, [], ◌∷◌, ◌++◌, length, get_or, take, drop, filter, refl, sym, ap, ◌∙◌, add-zero, inl, inr, ⊎_elim, subst, arith, rules}
+use Rattle.std.proofs.Common.{◌≡◌, ℕ, ◌+◌, ◌<◌, ◌≤◌, zero, suc, true, false, cond, not, eqb, List, [], ◌∷◌, ◌++◌, length, get_or, take, drop, filter, refl, sym, ap, ◌∙◌, add-zero, ⊎_elim, subst, arith}
 use Rattle.std.specs.List.{All, slice_split, join_with_byte}
 use Rattle.std.proofs.lemmas.Bool.{cases_Bool, cases_lt, ne_eqb, cond_both, eqb-false, not-true, both_ways}
-use Rattle.std.proofs.lemmas.Grind.{common_steps}
-use Rattle.std.proofs.lemmas.List.{append-nil, length-take-le, get_or-take, get_or-drop, take_all, drop_all, drop_more, take-append-drop}
+use Rattle.std.proofs.lemmas.List.{length-take-le, get_or-take, get_or-drop, take_all, drop_all, drop_more, take-append-drop}
 use Rattle.std.proofs.lemmas.List.Elements.{All-nil, All-cons, All-head, All-tail, All-from_get_or}
 use Rattle.std.proofs.lemmas.List.Splits.{slice_split_none, slice_split_at, slice_split-cons_yes, slice_split-cons_no}
 use Rattle.md_text.proofs.ListLemmas.{All-onto_first}
@@ -65,14 +64,14 @@ fields-first line end some within other found =
     let word = word_front line end some within other in
     ⊎_elim
     (λ (short : end < length line).
-        let rest = drop_more line end 0 short in
-        ap fields (sym (take-append-drop end line) ∙ ap (λ (tail : List ℕ). take end line ++ tail) rest)
-        ∙ fields-append (take end line) (get_or line end 0) (drop (end + 1) line) word (found short)
-        ∙ ap (λ (tail : List (List ℕ)). take end line ∷ tail) (sym (ap fields rest ∙ fields-blank (get_or line end 0) (drop (end + 1) line) (found short))))
+    let rest = drop_more line end 0 short in
+    ap fields (sym (take-append-drop end line) ∙ ap (λ (tail : List ℕ). take end line ++ tail) rest)
+    ∙ fields-append (take end line) (get_or line end 0) (drop (end + 1) line) word (found short)
+    ∙ ap (λ (tail : List (List ℕ)). take end line ∷ tail) (sym (ap fields rest ∙ fields-blank (get_or line end 0) (drop (end + 1) line) (found short))))
     (λ (whole : length line ≤ end).
-        let same = take_all end line whole in
-        ap fields (sym same) ∙ fields-word (take end line) word
-        ∙ ap (λ (tail : List (List ℕ)). take end line ∷ tail) (sym (ap fields (drop_all end line whole) ∙ fields-nil)))
+    let same = take_all end line whole in
+    ap fields (sym same) ∙ fields-word (take end line) word
+    ∙ ap (λ (tail : List (List ℕ)). take end line ∷ tail) (sym (ap fields (drop_all end line whole) ∙ fields-nil)))
     (cases_lt end (length line))
 
 abbrev IsOther : ℕ → Type 0

@@ -1,10 +1,10 @@
 -- The laws of lines.
-use Rattle.std.proofs.Common.{◌≡◌, ◌≢◌, ℕ, ◌+◌, ◌-◌, ◌<◌, ◌≤◌, ◌⊎◌, min, Bool, true, false, cond, not, eqb, List, [], ◌∷◌, ◌++◌, length, get_or, take, drop, map, refl, sym, ap, ◌∙◌, inl, inr, ⊎_elim, subst, arith, rules}
+use Rattle.std.proofs.Common.{◌≡◌, ◌≢◌, ℕ, ◌+◌, ◌-◌, ◌<◌, ◌≤◌, ◌⊎◌, min, true, false, cond, List, [], ◌∷◌, ◌++◌, length, get_or, take, drop, map, refl, sym, ap, ◌∙◌, inl, inr, ⊎_elim, subst, arith}
 use Rattle.std.specs.List.{All, onto_first, position_or_len, before_first, after_first}
 use Rattle.std.proofs.lemmas.Bool.{ne_eqb, eqb-true, eqb-false, cases_eq, cases_lt}
 use Rattle.std.proofs.lemmas.Grind.{common_steps}
 use Rattle.std.proofs.lemmas.List.{append_assoc, append-nil, length-take, get_or-take, take_all, drop_all, take_rest, drop_min}
-use Rattle.std.proofs.lemmas.List.Elements.{All-nil, All-cons, All-head, All-tail, All-push, All-from_get_or, All-take}
+use Rattle.std.proofs.lemmas.List.Elements.{All-nil, All-cons, All-head, All-tail}
 use Rattle.std.proofs.lemmas.List.Sums.{fails_before_first, passes_at_first, split_at_first, position_or_len_is}
 use Rattle.std.specs.Simd.Lanes.{mask_l}
 use Rattle.std.proofs.lemmas.Simd.{leading_from_mask_l, trailing_mask_l, run_in_chunk_fails}
@@ -111,16 +111,16 @@ lacks_before text k d below feed =
 pub lines-first : (text : List ℕ) → 0 < length text → lines text ≡ before_first is_feed text ∷ lines (after_first is_feed text)
 lines-first text some = ⊎_elim
     (λ (found : position_or_len is_feed text < length text).
-        let feed = eqb-true _ 10 (passes_at_first is_feed text 0 found) in
-        ap lines (split_at_first is_feed text 0 found)
-        ∙ ap (λ (byte : ℕ). lines (before_first is_feed text ++ byte ∷ after_first is_feed text)) feed
-        ∙ lines-append (before_first is_feed text) (after_first is_feed text) (lacks_before text))
+    let feed = eqb-true _ 10 (passes_at_first is_feed text 0 found) in
+    ap lines (split_at_first is_feed text 0 found)
+    ∙ ap (λ (byte : ℕ). lines (before_first is_feed text ++ byte ∷ after_first is_feed text)) feed
+    ∙ lines-append (before_first is_feed text) (after_first is_feed text) (lacks_before text))
     (λ (past : length text ≤ position_or_len is_feed text).
-        let whole : before_first is_feed text ≡ text = take_all (position_or_len is_feed text) text past in
-        let nothing : after_first is_feed text ≡ [] = drop_all (position_or_len is_feed text + 1) text (omega arith) in
-        lines-last text (subst LacksFeed whole (lacks_before text)) some
-        ∙ ap (λ (line : List ℕ). line ∷ []) (sym whole)
-        ∙ ap (λ (tail : List (List ℕ)). before_first is_feed text ∷ tail) (sym (ap lines nothing ∙ lines-nil)))
+    let whole : before_first is_feed text ≡ text = take_all (position_or_len is_feed text) text past in
+    let nothing : after_first is_feed text ≡ [] = drop_all (position_or_len is_feed text + 1) text (omega arith) in
+    lines-last text (subst LacksFeed whole (lacks_before text)) some
+    ∙ ap (λ (line : List ℕ). line ∷ []) (sym whole)
+    ∙ ap (λ (tail : List (List ℕ)). before_first is_feed text ∷ tail) (sym (ap lines nothing ∙ lines-nil)))
     (cases_lt (position_or_len is_feed text) (length text))
 
 -- the first line and the rest, by the place where the line ends

@@ -1,5 +1,5 @@
 -- The lines of a text.
-use Rattle.std.specs.Prelude.{◌≡◌, ◌≢◌, ℕ, ◌-◌, Bool, List, [], ◌∷◌, ◌++◌, length, take, if◌then◌else◌, ◌==◌, slice_index}
+use Rattle.std.specs.Prelude.{◌≢◌, ℕ, ◌-◌, Bool, List, [], ◌∷◌, ◌++◌, length, take, if◌then◌else◌, ◌==◌, slice_index}
 use Rattle.std.specs.List.{All, onto_first}
 
 -- the text cut at each byte 10; what follows the last is a line if it isn't empty

@@ -8,5 +8,8 @@ mod cut;
 mod digits;
 pub mod laws;
 
-pub use cut::{split_field, split_line, without_return};
-pub use digits::{number, push_decimal, DIGITS};
+pub use cut::{split_field, split_line, split_number, without_return};
+pub use digits::{DIGITS, number, push_decimal};
+
+#[cfg(test)]
+mod tests;

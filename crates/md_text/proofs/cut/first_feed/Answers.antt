@@ -1,4 +1,4 @@
-use Rattle.std.proofs.Common.{◌≡◌, ◌+◌, ◌≤◌, length, sym, arith}
+use Rattle.std.proofs.Common.{◌+◌, ◌≤◌, length, arith}
 use Rattle.std.proofs.lemmas.Simd.{run_in_chunk_le, run_in_chunk_stops}
 use Rattle.md_text.specs.Lines.{is_feed}
 use Rattle.md_text.proofs.LineLemmas.{fails_in_lanes}

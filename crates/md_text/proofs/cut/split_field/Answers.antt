@@ -1,6 +1,5 @@
-use Rattle.std.proofs.Common.{◌≡◌, ℕ, ◌<◌, ◌-◌, ◌∷◌, List, ◌∙◌, sym, ap, length, take, drop, arith}
+use Rattle.std.proofs.Common.{◌<◌, ◌-◌, ap, length, take, drop, arith}
 use Rattle.std.proofs.lemmas.List.{length-drop, take_rest}
-use Rattle.md_text.specs.Fields.{fields, IsWord}
 use Rattle.md_text.proofs.FieldLemmas.{IsFirstField, fields-blanks, field_cut, field_is_word}
 use Rattle.md_text.proofs.cut.split_field.Goals as goal
 

@@ -1,6 +1,4 @@
-use Rattle.std.proofs.Common.{◌≡◌, ℕ, sym, ap, take}
-use Rattle.std.specs.List.{position_or_len}
-use Rattle.md_text.specs.Lines.{is_feed}
+use Rattle.std.proofs.Common.{ℕ, sym, ap, take}
 use Rattle.md_text.proofs.LineLemmas.{first_feed_is, line_cut, line_lacks, rest_after}
 use Rattle.md_text.proofs.cut.split_line.Goals as goal
 

@@ -1,4 +1,3 @@
-use Rattle.std.proofs.Common.{arith}
 use Rattle.md_text.proofs.NumberLemmas.{pushed_short}
 use Rattle.md_text.proofs.digits.push_short.Goals as goal
 
