@@ -13,3 +13,4 @@ pub mod Listed
 pub mod SizeText
 pub mod WriteLemmas
 pub mod TextLemmas
+pub mod ByteLemmas

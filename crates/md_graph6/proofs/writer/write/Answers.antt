@@ -1,12 +1,14 @@
+-- The bytes of the line, and what they are as a file.
 use Rattle.std.proofs.Common.{◌≡◌, List, [], ◌∷◌, ◌++◌, length, take, drop, ap, sym, ◌∙◌}
 use Rattle.md_graph6.specs.Bits.{body_length}
 use Rattle.md_graph6.specs.Size.{size_text}
-use Rattle.md_graph6.proofs.TextLemmas.{line_written}
+use Rattle.md_graph6.proofs.ByteLemmas.{line_written}
 use Rattle.md_graph6.proofs.WriteLemmas.{whole_back, size_kept, body_kept, SpellsLine-written}
+use Rattle.md_graph6.proofs.TextLemmas.{text_spells, text_sound}
 use Rattle.md_graph6.proofs.writer.write.Goals as goal
 
-pub returns : goal.returns
-returns c =
+pub returns-clause-bytes : goal.returns-clause-bytes
+returns-clause-bytes c =
     let line = c.put_behind.new.line in
     let items = c.in_ok-text.text.items in
     let size = c.size_length-size.result in
@@ -16,12 +18,31 @@ returns c =
       size_kept line items _ size n (body_length n) c.put_behind.ensures.size c.as_mut_slice.ensures.value c.in_ok-text.ensures.items c.size_length-size.ensures in
     let long : length (drop size line) ≡ body_length n =
       body_kept line items size n (body_length n) same c.in_ok-text.ensures.items c.size_length-size.ensures in
-    let whole = c.push_reserved.ensures.items ∙ ap (λ s. s ++ 10 ∷ []) (whole_back line items c.in_ok-text.text.len same c.in_ok-text.text.ok.0) in
+    c.push_reserved.ensures.items ∙ ap (λ s. s ++ 10 ∷ []) (whole_back line items c.in_ok-text.text.len same c.in_ok-text.text.ok.0)
+    ∙ line_written line c.args.graph.now size n c.shape-n.ensures.count begins long c.put_behind.ensures.body
+
+pub returns-clause-text : goal.returns-clause-text
+returns-clause-text c =
+    let line = c.put_behind.new.line in
+    let items = c.in_ok-text.text.items in
+    let size = c.size_length-size.result in
+    let n = c.shape-n.result.0 in
+    let same : length line ≡ length items = c.put_behind.auto.line ∙ ap length c.as_mut_slice.ensures.value in
     record {
-      text = whole ∙ line_written line c.args.graph.now size n c.shape-n.ensures.count begins long c.put_behind.ensures.body;
-      spells = record {
-        line = line;
-        ended = whole;
-        spells = SpellsLine-written line size n c.args.graph.now c.shape-n.ensures.count begins long c.put_behind.ensures.body;
-      };
+      line = line;
+      ended = c.push_reserved.ensures.items ∙ ap (λ s. s ++ 10 ∷ []) (whole_back line items c.in_ok-text.text.len same c.in_ok-text.text.ok.0);
+      spells =
+          SpellsLine-written line size n c.args.graph.now c.shape-n.ensures.count
+          (size_kept line items _ size n (body_length n) c.put_behind.ensures.size c.as_mut_slice.ensures.value c.in_ok-text.ensures.items c.size_length-size.ensures)
+          (body_kept line items size n (body_length n) same c.in_ok-text.ensures.items c.size_length-size.ensures)
+          c.put_behind.ensures.body;
     }
+
+pub returns-clause-spells : goal.returns-clause-spells
+returns-clause-spells c = text_spells (returns-clause-text c)
+
+pub returns-clause-no_fault : goal.returns-clause-no_fault
+returns-clause-no_fault c = (text_sound (returns-clause-text c)).0
+
+pub returns-clause-graphs : goal.returns-clause-graphs
+returns-clause-graphs c = (text_sound (returns-clause-text c)).1
