@@ -129,8 +129,8 @@ fn write_row(graph: &Graph, v: u32, start: Piece, places: &[Piece], chunk: &mut 
     let mut at = at;
     for w in graph.row(v).members_from(v + 1) {
         at = make_room(chunk, at, text)?;
-        at = put_piece(chunk, at, &start);
-        at = put_piece(chunk, at, &places[w as usize]);
+        at = put_piece(chunk, at, start);
+        at = put_piece(chunk, at, places[w as usize]);
     }
     Ok(at)
 }
@@ -154,9 +154,9 @@ fn make_room(chunk: &[u8], at: usize, text: &mut Vec<u8>) -> Result<usize, Memor
 }
 
 // Writes a piece behind the first `at` bytes, and says how many they then are.
-fn put_piece(chunk: &mut [u8], at: usize, piece: &Piece) -> usize
+fn put_piece(chunk: &mut [u8], at: usize, piece: Piece) -> usize
     requires { at + 8 ≤ length chunk.old }
-    ensures text { take result chunk.new ≡ take at chunk.old ++ text_of piece.now }
+    ensures text { take result chunk.new ≡ take at chunk.old ++ text_of piece }
     ensures within { result ≤ at + 8 }
 {
     chunk[at..at + 8].copy_from_slice(&piece.bytes);

@@ -4,4 +4,4 @@ use Rattle.md_dimacs.proofs.writer.put_piece.Goals as goal
 
 pub returns-clause-text : goal.returns-clause-text
 returns-clause-text c =
-    put_text c.args.at c.args.piece.now.used _ c.args.chunk.now c.copy_from_slice.new.self c.args.piece.now.bytes c.copy_from_slice.ensures.after (omega arith) c.args.piece.now.within c.requires
+    put_text c.args.at c.args.piece.used _ c.args.chunk.now c.copy_from_slice.new.self c.args.piece.bytes c.copy_from_slice.ensures.after (omega arith) c.args.piece.within c.requires
