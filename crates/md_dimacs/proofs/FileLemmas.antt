@@ -312,9 +312,9 @@ contains-names_to (suc n) v =
 IsGraph-edgeless : (n : ℕ) → n < NAMES → IsGraph (edgeless n)
 IsGraph-edgeless n named = record {
   names = λ v member.
-    let inside = and_parts (nat_lt 0 v) (nat_le v n) (sym (contains-names_to n v) ∙ member) in
-    let below : v ≤ n = leb-true v n inside.1 in
-    omega arith;
+      let inside = and_parts (nat_lt 0 v) (nat_le v n) (sym (contains-names_to n v) ∙ member) in
+      let below : v ≤ n = leb-true v n inside.1 in
+      omega arith;
   ordered = λ u v h. absurd (true≢false (sym h ∙ pairs-empty u v));
   low_end = λ u v h. absurd (true≢false (sym h ∙ pairs-empty u v));
   high_end = λ u v h. absurd (true≢false (sym h ∙ pairs-empty u v));
@@ -424,9 +424,9 @@ one_size n m c d o a b =
 pub one_graph : (bytes : List ℕ) (g h : PlainGraph) → Spells bytes g → Spells bytes h → g ≡ h
 one_graph bytes g h s t =
     let split = one_split s.before t.before s.problem t.problem s.behind t.behind (sym s.whole ∙ t.whole) s.passed t.passed
-      (problem_words s.n (words s.problem) s.problem_line).1 (problem_words t.n (words t.problem) t.problem_line).1 in
+    (problem_words s.n (words s.problem) s.problem_line).1 (problem_words t.n (words t.problem) t.problem_line).1 in
     let same_n : s.n ≡ t.n = one_size s.n t.n s.problem_line.edge_count t.problem_line.edge_count (sizes_of (words s.problem)) s.problem_line.numbers
-      (ap (λ line. sizes_of (words line)) split.0 ∙ t.problem_line.numbers) in
+    (ap (λ line. sizes_of (words line)) split.0 ∙ t.problem_line.numbers) in
     same_graph s.graph t.graph
     (same_set g.vertices h.vertices (λ v. s.vertices v ∙ ap (λ n. is_vertex n v) same_n ∙ sym (t.vertices v)))
     (λ u v. s.edges u v ∙ ap (list_any (joins u v)) split.1 ∙ sym (t.edges u v))

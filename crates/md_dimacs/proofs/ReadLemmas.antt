@@ -44,9 +44,9 @@ pub with_edge_there : (g : PlainGraph) (u v : ℕ) → adjacent g u v ≡ true �
 unfolding adjacent
 with_edge_there g u v h =
     let same : g.edges ≡ set.insert g.edges (edge u v) =
-      same_pairs g.edges (set.insert g.edges (edge u v)) (λ a b.
-        there_already ((a == min u v) && (b == max u v)) (set.contains g.edges (a, b)) (λ t. at_edge a b t)
-        ∙ sym (pairs-insert g.edges (min u v) (max u v) a b)) in
+    same_pairs g.edges (set.insert g.edges (edge u v)) (λ a b.
+    there_already ((a == min u v) && (b == max u v)) (set.contains g.edges (a, b)) (λ t. at_edge a b t)
+    ∙ sym (pairs-insert g.edges (min u v) (max u v) a b)) in
     λ i. record { vertices = g.vertices; edges = same i }
   where
     at_edge : (a b : ℕ) → ((a == min u v) && (b == max u v)) ≡ true → set.contains g.edges (a, b) ≡ true

@@ -34,31 +34,31 @@ column_bit g j zero k below = absurd (omega (arith, below))
 column_bit g j (suc i) k below = elim (cases_lt k i) [
   | inl less ↦ get_or_append_left (column_bits g j i) (bit_if (are_adjacent g i j) ∷ []) 0 k (subst (λ (n : ℕ). k < n) (sym (length-column_bits g j i)) less) ∙ column_bit g j i k less
   | inr more ↦
-    let same : k ≡ i = omega (arith, below, more) in
-    let none : k - i ≡ 0 = omega arith in
-    get_or-append_right (column_bits g j i) (bit_if (are_adjacent g i j) ∷ []) i k 0 (length-column_bits g j i) more
-    ∙ ap (λ (n : ℕ). get_or (bit_if (are_adjacent g i j) ∷ []) n 0) none
-    ∙ ap (λ (n : ℕ). bit_if (are_adjacent g n j)) (sym same)
+      let same : k ≡ i = omega (arith, below, more) in
+      let none : k - i ≡ 0 = omega arith in
+      get_or-append_right (column_bits g j i) (bit_if (are_adjacent g i j) ∷ []) i k 0 (length-column_bits g j i) more
+      ∙ ap (λ (n : ℕ). get_or (bit_if (are_adjacent g i j) ∷ []) n 0) none
+      ∙ ap (λ (n : ℕ). bit_if (are_adjacent g n j)) (sym same)
 ]
 
 -- a bit of the pairs is that of a body which holds them
 pair_bit : (body : List ℕ) (g : PlainGraph) (n : ℕ) → ((i j : ℕ) → i < j → j < n → bit body (pair_number i j) ≡ bit_if (are_adjacent g i j))
-  → (j p : ℕ) → j ≤ n → p < pair_number 0 j → get_or (pair_bits g j) p 0 ≡ bit body p
+    → (j p : ℕ) → j ≤ n → p < pair_number 0 j → get_or (pair_bits g j) p 0 ≡ bit body p
 unfolding pair_bits
 pair_bit body g n holds zero p within below = absurd (omega (arith, below))
 pair_bit body g n holds (suc j) p within below = elim (cases_lt p (pair_number 0 j)) [
   | inl less ↦
-    get_or_append_left (pair_bits g j) (column_bits g j j) 0 p (subst (λ (m : ℕ). p < m) (sym (length-pair_bits g j)) less)
-    ∙ pair_bit body g n holds j p (omega (arith, within)) less
+      get_or_append_left (pair_bits g j) (column_bits g j j) 0 p (subst (λ (m : ℕ). p < m) (sym (length-pair_bits g j)) less)
+      ∙ pair_bit body g n holds j p (omega (arith, within)) less
   | inr more ↦
-    let next : pair_number 0 (suc j) ≡ pair_number j j = subst (λ (x : ℕ). pair_number 0 x ≡ pair_number j j) (omega arith) (pair_next j) in
-    let up : pair_number j j ≡ pair_number 0 j + j = omega arith in
-    let row : p - pair_number 0 j < j = omega (arith, next, up, below, more) in
-    let place : pair_number (p - pair_number 0 j) j ≡ p = omega (arith, more) in
-    get_or-append_right (pair_bits g j) (column_bits g j j) (pair_number 0 j) p 0 (length-pair_bits g j) more
-    ∙ column_bit g j j (p - pair_number 0 j) row
-    ∙ sym (holds (p - pair_number 0 j) j row (omega (arith, within)))
-    ∙ ap (bit body) place
+      let next : pair_number 0 (suc j) ≡ pair_number j j = subst (λ (x : ℕ). pair_number 0 x ≡ pair_number j j) (omega arith) (pair_next j) in
+      let up : pair_number j j ≡ pair_number 0 j + j = omega arith in
+      let row : p - pair_number 0 j < j = omega (arith, next, up, below, more) in
+      let place : pair_number (p - pair_number 0 j) j ≡ p = omega (arith, more) in
+      get_or-append_right (pair_bits g j) (column_bits g j j) (pair_number 0 j) p 0 (length-pair_bits g j) more
+      ∙ column_bit g j j (p - pair_number 0 j) row
+      ∙ sym (holds (p - pair_number 0 j) j row (omega (arith, within)))
+      ∙ ap (bit body) place
 ]
 
 -- a bit of the text is that of a body which holds the pairs and no other bit
@@ -87,7 +87,7 @@ body_byte body g n k written within =
     let of : (r : ℕ) → r < 6 → get_or (pair_bits g n) (6 * k + r) 0 ≡ bit_at (b - 63) (5 - r) = λ r below. text_bit body g n (6 * k + r) written ∙ byte_bits body k r below in
     let zeroth : get_or (pair_bits g n) (6 * k) 0 ≡ bit_at (b - 63) 5 = ap (λ (p : ℕ). get_or (pair_bits g n) p 0) (omega arith) ∙ of 0 (omega arith) in
     let value : b - 63 ≡ six_bits (pair_bits g n) (6 * k) =
-      rw (zeroth, of 1 (omega arith), of 2 (omega arith), of 3 (omega arith), of 4 (omega arith), of 5 (omega arith)) (six_bits_of (b - 63) (omega (arith, high))) in
+    rw (zeroth, of 1 (omega arith), of 2 (omega arith), of 3 (omega arith), of 4 (omega arith), of 5 (omega arith)) (six_bits_of (b - 63) (omega (arith, high))) in
     get_or_default body k 0 63 within ∙ omega (arith, low, value)
 
 -- the first bytes of the body are those of the text

@@ -136,7 +136,7 @@ only_one : (bytes : List ℕ) (graphs : List PlainGraph) → Spells bytes graphs
 only_one bytes graphs spells = record {
   spells = spells;
   only = λ others spelt.
-    sym (spelled_has_no_fault bytes others spelt).1 ∙ (spelled_has_no_fault bytes graphs spells).1;
+      sym (spelled_has_no_fault bytes others spelt).1 ∙ (spelled_has_no_fault bytes graphs spells).1;
 }
 
 pub ended_lines_spell : EndedLinesSpell

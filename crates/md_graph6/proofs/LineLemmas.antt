@@ -20,7 +20,7 @@ line_fault-empty (byte ∷ rest) none = absurd (omega arith)
 -- the faults of another line, by its first byte
 pub line_fault-some : (line : List ℕ) → 0 < length line
     → line_fault line ≡ (if begins_other (get_or line 0 0) then Some OtherFormat else
-      if not (list_all is_group line) then Some BadByte else size_fault line (size_of line))
+    if not (list_all is_group line) then Some BadByte else size_fault line (size_of line))
 unfolding line_fault
 line_fault-some [] some = absurd (omega arith)
 line_fault-some (byte ∷ rest) some = refl
@@ -77,7 +77,7 @@ first_faults-none line false true later e = (refl, refl, e)
 pub line_fault-none : (line : List ℕ) → 0 < length line → line_fault line ≡ None → IsSoundLine line
 line_fault-none line some sound =
     let parts = first_faults-none line (begins_other (get_or line 0 0)) (list_all is_group line)
-        (size_fault line (size_of line)) (sym (line_fault-some line some) ∙ sound) in
+    (size_fault line (size_of line)) (sym (line_fault-some line some) ∙ sound) in
     size_fault-none line (size_of line) (AllPass-from_list_all is_group line parts.1) refl parts.2
 
 -- and a line of group bytes with a size and a sound body has no fault

@@ -58,7 +58,7 @@ text_fault n body few long groups blank =
     let some : 0 < length (size_text n ++ body) = size_text-some n body (name_size n few) in
     let pass : list_all is_group (size_text n ++ body) ≡ true = text_groups n body few groups in
     line_fault-sized (size_text n ++ body) (Some (length (size_text n), n)) some
-        (line_begins (size_text n ++ body) some pass) pass (size_text-read n body (name_size n few))
+    (line_begins (size_text n ++ body) some pass) pass (size_text-read n body (name_size n few))
     ∙ body_fault-sound (size_text n ++ body) (length (size_text n)) n (text_is_sound n body few long blank)
 
 text_graph : (n : ℕ) (body : List ℕ) (g : PlainGraph) → n ≤ NAMES → IsBodyOf body n g
@@ -115,7 +115,7 @@ unfolding size_fault
 sound_line-body line taken n some sound sized =
     let groups : list_all is_group line ≡ true = list_all-from_AllPass is_group line (sound_line-groups line some sound) in
     let fault : line_fault line ≡ body_fault line taken n =
-        line_fault-sized line (Some (taken, n)) some (line_begins line some groups) groups sized in
+    line_fault-sized line (Some (taken, n)) some (line_begins line some groups) groups sized in
     body_fault-none line taken n (sym fault ∙ sound)
 
 -- a graph that is filled from what stands behind the size is the line's

@@ -7,12 +7,10 @@ pub fn files_are_spelled_or_faulty()
     ensures either { SpelledOrFaulty }
     ensures spelled { SpelledHasNoFault }
     ensures graphs { GraphsAreGraphs }
-{
-}
+{}
 
 /// Lines that are written one after the other spell the graphs of each, and no others.
 pub fn written_lines_spell()
     ensures all { EndedLinesSpell }
     ensures one { EndedLineSpells }
-{
-}
+{}

@@ -1,8 +1,8 @@
 -- From "the whole is put, or the call stopped within it" to what a converter does.
 use Rattle.std.proofs.Common.{◌≡◌, ◌⊎◌, ℕ, List, [], ◌∷◌, ◌++◌, Option, None, Some, Result, Ok, Err, ◌≤◌, refl, sym, ap, subst, ◌∙◌, inr, arith}
 use Rattle.std.specs.Option.{option_map}
-use Rattle.md_graph6.specs.File.{first_fault, graphs_of}
-use Rattle.md_graph6.proofs.FileLemmas.{spelled}
+use Rattle.md_graph6.specs.File.{first_fault, graphs_of, Spells}
+use Rattle.md_graph6.proofs.FileLemmas.{spelled_or_faulty}
 use Rattle.md_top.specs.declared.form.Format.TheVariants.{G6}
 use Rattle.md_top.specs.declared.stop.Fault.TheVariants as faults
 use Rattle.std.specs.List.{flat_map}
@@ -52,6 +52,10 @@ stops_within whole piece left WriteFault old now new faults_old faults_now fault
 stops_within whole piece left Memory old now new faults_old faults_now faults_new so_far below stopped =
     progress_stop old now new whole piece left so_far stopped
 stops_within whole piece left TooLong old now new faults_old faults_now faults_new so_far below stopped = stopped
+
+-- a graph6 file without fault spells its graphs
+spelled : (file : List ℕ) → first_fault file ≡ None → Spells file (graphs_of file)
+spelled file faultless = (rw faultless at (spelled_or_faulty file)).spells
 
 -- the same of a graph6 file without fault
 pub command_of_lines : (from to : Format) → from ≡ G6 → (file : List ℕ) → first_fault file ≡ None → (result : Result (Unit {0}) Stop) (old new : Option (List ℕ)) (faults_old faults_new : ℕ) → PutsWhole (flat_map (graph_text to) (graphs_of file)) result old new faults_old faults_new → (ending : Result Verdict Stop) → ending ≡ verdict_of result → CommandEnds (Convert from to) (file ∷ []) ending old new faults_old faults_new

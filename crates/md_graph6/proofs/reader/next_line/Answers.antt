@@ -25,7 +25,7 @@ loop-rest-preserved c =
     let none : length (without_return c.split_line.result.0.now) ≡ 0 = grind (arith, common_steps) in
     record {
       same = sym (graphs-cut_skip _ _ _ c.split_line.ensures.cut none) ∙ c.loop-rest.invariant.same;
-      sound = (HasNoFault-cut _ _ _ c.split_line.ensures.cut c.loop-rest.invariant.sound).1
+      sound = (HasNoFault-cut _ _ _ c.split_line.ensures.cut c.loop-rest.invariant.sound).1;
     }
 
 pub returns-clause-none : goal.returns-clause-none

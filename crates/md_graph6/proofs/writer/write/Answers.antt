@@ -15,9 +15,9 @@ returns-clause-bytes c =
     let n = c.shape-n.result.0 in
     let same : length line ≡ length items = c.put_behind.auto.line ∙ ap length c.as_mut_slice.ensures.value in
     let begins : take size line ≡ size_text n =
-      size_kept line items _ size n (body_length n) c.put_behind.ensures.size c.as_mut_slice.ensures.value c.in_ok-text.ensures.items c.size_length-size.ensures in
+    size_kept line items _ size n (body_length n) c.put_behind.ensures.size c.as_mut_slice.ensures.value c.in_ok-text.ensures.items c.size_length-size.ensures in
     let long : length (drop size line) ≡ body_length n =
-      body_kept line items size n (body_length n) same c.in_ok-text.ensures.items c.size_length-size.ensures in
+    body_kept line items size n (body_length n) same c.in_ok-text.ensures.items c.size_length-size.ensures in
     c.push_reserved.ensures.items ∙ ap (λ s. s ++ 10 ∷ []) (whole_back line items c.in_ok-text.text.len same c.in_ok-text.text.ok.0)
     ∙ line_written line c.args.graph.now size n c.shape-n.ensures.count begins long c.put_behind.ensures.body
 
