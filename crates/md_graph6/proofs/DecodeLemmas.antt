@@ -1,15 +1,15 @@
 -- The graph that a body spells: there is one, and it is the one that is decoded.
-use Rattle.std.proofs.Common.{◌≡◌, ℕ, zero, suc, ◌<◌, ◌≤◌, ◌==◌, ◌||◌, ◌&&◌, Bool, true, false, not, nat_lt, List, IsTrue, ◌⊎◌, inl, inr, refl, sym, ap, ◌∙◌, arith}
+use Rattle.std.proofs.Common.{◌≡◌, ℕ, zero, suc, ◌<◌, ◌≤◌, ◌&&◌, Bool, true, nat_lt, List, inl, inr, refl, sym, ◌∙◌, arith}
 use Rattle.std.specs.FinSet as set
 use Rattle.std.proofs.lemmas.Bool.Decides.{nat_tests}
 use Rattle.std.proofs.lemmas.Bool.{cases_Bool, ltb-true, lt-ltb}
 use Rattle.md_graph.specs.declared.TheConstants.{NAMES}
-use Rattle.md_graph.specs.NameSet.{NameSet, Member}
-use Rattle.md_graph.specs.PlainGraph.{PlainGraph, IsGraph, adjacent, pairs_where}
+use Rattle.md_graph.specs.NameSet.{Member}
+use Rattle.md_graph.specs.PlainGraph.{PlainGraph, IsGraph, adjacent}
 use Rattle.md_graph.proofs.SetLaws.{contains-empty, contains-insert, same_set}
 use Rattle.md_graph.proofs.PairLaws.{same_pairs}
 use Rattle.md_graph.proofs.GraphLemmas.{contains-pairs_where, adjacent_up}
-use Rattle.md_graph6.specs.Bits.{bit, pair_number, IsBodyOf}
+use Rattle.md_graph6.specs.Bits.{IsBodyOf}
 use Rattle.md_graph6.specs.Line.{numbers_below, is_edge, graph_of_body}
 
 -- the members of the numbers below n
@@ -39,11 +39,11 @@ decoded_is_graph body n few = record {
   names = λ v member. omega (arith, few, ltb-true v n (sym (contains-numbers_below n v) ∙ member));
   ordered = λ u v there. (edge_parts u v n (is_edge body u v) (sym (contains-decoded body n u v) ∙ there)).0;
   low_end = λ u v there.
-    let range : (u < v) × (v < n) = edge_parts u v n (is_edge body u v) (sym (contains-decoded body n u v) ∙ there) in
-    below_is_member n u (omega (arith, range.0, range.1));
+      let range : (u < v) × (v < n) = edge_parts u v n (is_edge body u v) (sym (contains-decoded body n u v) ∙ there) in
+      below_is_member n u (omega (arith, range.0, range.1));
   high_end = λ u v there.
-    let range : (u < v) × (v < n) = edge_parts u v n (is_edge body u v) (sym (contains-decoded body n u v) ∙ there) in
-    below_is_member n v range.1;
+      let range : (u < v) × (v < n) = edge_parts u v n (is_edge body u v) (sym (contains-decoded body n u v) ∙ there) in
+      below_is_member n v range.1;
 }
 
 -- two names of a decoded graph
@@ -76,12 +76,12 @@ same_bits : (body : List ℕ) (n : ℕ) (g h : PlainGraph) → IsBodyOf body n g
 same_bits body n g h of_g of_h u v =
     elim (cases_Bool (set.contains g.edges (u, v))) [
       | inl there ↦
-        let range : (u < v) × (v < n) = pair_range body n g of_g u v there in
-        pair_bit body n g of_g u v range ∙ sym (pair_bit body n h of_h u v range)
+          let range : (u < v) × (v < n) = pair_range body n g of_g u v there in
+          pair_bit body n g of_g u v range ∙ sym (pair_bit body n h of_h u v range)
       | inr absent ↦ elim (cases_Bool (set.contains h.edges (u, v))) [
         | inl there ↦
-          let range : (u < v) × (v < n) = pair_range body n h of_h u v there in
-          pair_bit body n g of_g u v range ∙ sym (pair_bit body n h of_h u v range)
+            let range : (u < v) × (v < n) = pair_range body n h of_h u v there in
+            pair_bit body n g of_g u v range ∙ sym (pair_bit body n h of_h u v range)
         | inr none ↦ absent ∙ sym none
       ]
     ]
@@ -90,6 +90,6 @@ same_bits body n g h of_g of_h u v =
 pub IsBodyOf-one : (body : List ℕ) (n : ℕ) (g h : PlainGraph) → IsBodyOf body n g → IsBodyOf body n h → g ≡ h
 IsBodyOf-one body n g h of_g of_h =
     let vertices : g.vertices ≡ h.vertices =
-        same_set g.vertices h.vertices (λ v. of_g.vertices v ∙ sym (of_h.vertices v)) in
+    same_set g.vertices h.vertices (λ v. of_g.vertices v ∙ sym (of_h.vertices v)) in
     let edges : g.edges ≡ h.edges = same_pairs g.edges h.edges (same_bits body n g h of_g of_h) in
     λ i. record { vertices = vertices i; edges = edges i }

@@ -1,13 +1,12 @@
 -- The faults of one line, and what a line without fault is made of.
-use Rattle.std.proofs.Common.{◌≡◌, ℕ, zero, suc, ◌+◌, ◌-◌, ◌*◌, ◌/◌, ◌%◌, ◌^◌, ◌<◌, ◌≤◌, ◌==◌, ◌||◌, ◌&&◌, Bool, true, false, not, nat_lt, List, [], ◌∷◌, length, get_or, drop, if◌then◌else◌, Option, None, Some, refl, sym, ap, ◌∙◌, arith}
+use Rattle.std.proofs.Common.{◌≡◌, ℕ, ◌+◌, ◌<◌, ◌≤◌, Bool, true, false, not, List, [], ◌∷◌, length, get_or, drop, if◌then◌else◌, Option, None, Some, refl, sym, ◌∙◌, arith}
 use Rattle.std.specs.List.{list_all, AllPass}
 use Rattle.std.proofs.lemmas.List.Sums.{AllPass-from_list_all}
 use Rattle.std.proofs.lemmas.Bool.Decides.{nat_tests}
-use Rattle.std.proofs.lemmas.Grind.{common_steps}
 use Rattle.md_graph.specs.declared.TheConstants.{NAMES}
 use Rattle.md_graph6.specs.declared.fault.G6Kind.{G6Kind}
 use Rattle.md_graph6.specs.declared.fault.G6Kind.TheVariants.{BadByte, OtherFormat}
-use Rattle.md_graph6.specs.Bits.{bit, body_length}
+use Rattle.md_graph6.specs.Bits.{body_length}
 use Rattle.md_graph6.specs.Size.{size_of, is_too_long}
 use Rattle.md_graph6.specs.Line.{is_group, begins_other, line_fault, size_fault, body_fault, is_padding_set}
 
@@ -20,7 +19,7 @@ line_fault-empty (byte ∷ rest) none = absurd (omega arith)
 -- the faults of another line, by its first byte
 pub line_fault-some : (line : List ℕ) → 0 < length line
     → line_fault line ≡ (if begins_other (get_or line 0 0) then Some OtherFormat else
-      if not (list_all is_group line) then Some BadByte else size_fault line (size_of line))
+    if not (list_all is_group line) then Some BadByte else size_fault line (size_of line))
 unfolding line_fault
 line_fault-some [] some = absurd (omega arith)
 line_fault-some (byte ∷ rest) some = refl
@@ -77,7 +76,7 @@ first_faults-none line false true later e = (refl, refl, e)
 pub line_fault-none : (line : List ℕ) → 0 < length line → line_fault line ≡ None → IsSoundLine line
 line_fault-none line some sound =
     let parts = first_faults-none line (begins_other (get_or line 0 0)) (list_all is_group line)
-        (size_fault line (size_of line)) (sym (line_fault-some line some) ∙ sound) in
+    (size_fault line (size_of line)) (sym (line_fault-some line some) ∙ sound) in
     size_fault-none line (size_of line) (AllPass-from_list_all is_group line parts.1) refl parts.2
 
 -- and a line of group bytes with a size and a sound body has no fault

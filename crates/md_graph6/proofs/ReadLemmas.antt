@@ -1,5 +1,5 @@
 -- How a reader goes through the lines of a file.
-use Rattle.std.proofs.Common.{◌≡◌, ℕ, zero, suc, ◌+◌, ◌<◌, ◌≤◌, ◌==◌, Bool, true, false, not, Option, List, [], ◌∷◌, length, map, if◌then◌else◌, None, Some, inl, inr, refl, sym, ap, ◌∙◌, arith}
+use Rattle.std.proofs.Common.{◌≡◌, ℕ, ◌+◌, ◌<◌, ◌≤◌, ◌==◌, Bool, true, false, not, Option, List, [], ◌∷◌, length, if◌then◌else◌, None, Some, inl, inr, refl, sym, ap, ◌∙◌, arith}
 use mir.Val.{bool_byte}
 use Rattle.std.proofs.lemmas.Bool.Decides.{eqb_tells}
 use Rattle.md_text.specs.Lines.{lines, without_return}
@@ -81,16 +81,16 @@ IsRead-graphs : (bytes rest line more : List ℕ) (number count one : ℕ)
 IsRead-graphs bytes rest line more number count one before cut counts =
     elim (eqb_tells (length (without_return line)) 0) [
       | inl (test, none) ↦
-        let same : length (graphs_of_lines (stripped_lines rest)) ≡ length (graphs_of_lines (stripped_lines more)) =
-            ap length (graphs-cut_skip rest line more cut none) in
-        let zero_more : one ≡ 0 = counts ∙ rw test refl in
-        omega (arith, before.graphs)
+          let same : length (graphs_of_lines (stripped_lines rest)) ≡ length (graphs_of_lines (stripped_lines more)) =
+          ap length (graphs-cut_skip rest line more cut none) in
+          let zero_more : one ≡ 0 = counts ∙ rw test refl in
+          omega (arith, before.graphs)
       | inr (test, some) ↦
-        let same : length (graphs_of_lines (stripped_lines rest))
-            ≡ length (graph_of_line (without_return line) ∷ graphs_of_lines (stripped_lines more)) =
-            ap length (graphs-cut_more rest line more cut (omega arith)) in
-        let one_more : one ≡ 1 = counts ∙ rw test refl in
-        omega (arith, before.graphs)
+          let same : length (graphs_of_lines (stripped_lines rest))
+          ≡ length (graph_of_line (without_return line) ∷ graphs_of_lines (stripped_lines more)) =
+          ap length (graphs-cut_more rest line more cut (omega arith)) in
+          let one_more : one ≡ 1 = counts ∙ rw test refl in
+          omega (arith, before.graphs)
     ]
 
 -- a line without fault is read
@@ -105,7 +105,7 @@ IsRead-more bytes rest line more number count one empty before cut shorter sound
     | true ↦ λ e. omega (arith, before.few)
     | false ↦ λ e. omega (arith, before.few)
   ] counts;
-  read = omega (arith, before.read)
+  read = omega (arith, before.read);
 }
 
 -- a fault of the next line is the first
@@ -147,5 +147,5 @@ pub HasNoFault-cut : (text line rest : List ℕ) → lines text ≡ line ∷ lin
     → (line_fault (without_return line) ≡ None) × HasNoFault (stripped_lines rest)
 HasNoFault-cut text line rest cut sound =
     let parts = fault_or-none (line_fault (without_return line)) (0 + 1) (fault_after (0 + 1) (stripped_lines rest))
-        (sym (fault_after-cut 0 text line rest cut) ∙ sound) in
+    (sym (fault_after-cut 0 text line rest cut) ∙ sound) in
     (parts.0, fault_after-renumbered (stripped_lines rest) (0 + 1) 0 parts.1)

@@ -1,5 +1,5 @@
 -- The spelling of a size, and how it is read.
-use Rattle.std.proofs.Common.{◌≡◌, ◌≢◌, ℕ, zero, suc, ◌+◌, ◌-◌, ◌*◌, ◌/◌, ◌%◌, ◌<◌, ◌≤◌, ◌==◌, ◌||◌, ◌&&◌, Bool, true, false, not, nat_lt, nat_le, List, [], ◌∷◌, ◌++◌, length, get_or, unwrap_or, drop, if◌then◌else◌, Option, None, Some, ◌⊎◌, inl, inr, refl, sym, ap, ◌∙◌, arith}
+use Rattle.std.proofs.Common.{◌≡◌, ◌≢◌, ℕ, suc, ◌+◌, ◌-◌, ◌*◌, ◌/◌, ◌%◌, ◌<◌, ◌≤◌, true, false, nat_lt, List, [], ◌∷◌, ◌++◌, length, get_or, unwrap_or, drop, Option, None, Some, ◌⊎◌, inl, inr, refl, sym, ap, ◌∙◌, arith}
 use Rattle.std.specs.List.{AllPass, list_all}
 use Rattle.std.proofs.lemmas.Bool.Decides.{nat_tests, eqb_tells}
 use Rattle.std.proofs.lemmas.Bool.{ne_eqb}
@@ -70,15 +70,18 @@ pub size_text-read : (n : ℕ) (body : List ℕ) → n ≤ most_in_four_bytes
 size_text-read n body small =
     elim (nat_le_or n 62) [
       | inl one ↦
-        let byte : n + 63 ≢ 126 = λ e. absurd (omega arith) in
-        let value : n + 63 - 63 ≡ n = omega arith in
-        rw (size_text-one n one, size_of-one (n + 63) body byte, value) refl
+          let byte : n + 63 ≢ 126 = λ e. absurd (omega arith) in
+          let value : n + 63 - 63 ≡ n = omega arith in
+          rw (size_text-one n one, size_of-one (n + 63) body byte, value) refl
       | inr four ↦
-        let high : n / 64 / 64 % 64 ≡ n / 64 / 64 = omega arith in
-        let byte : n / 64 / 64 % 64 + 63 ≢ 126 = λ e. absurd (omega arith) in
-        let value : ((n / 64 / 64 % 64 + 63 - 63) * 64 + (n / 64 % 64 + 63 - 63)) * 64 + (n % 64 + 63 - 63) ≡ n = omega arith in
-        rw (size_text-four n four small,
-            size_of-four (n / 64 / 64 % 64 + 63) (n / 64 % 64 + 63) (n % 64 + 63) body byte, value) refl
+          let high : n / 64 / 64 % 64 ≡ n / 64 / 64 = omega arith in
+          let byte : n / 64 / 64 % 64 + 63 ≢ 126 = λ e. absurd (omega arith) in
+          let value : ((n / 64 / 64 % 64 + 63 - 63) * 64 + (n / 64 % 64 + 63 - 63)) * 64 + (n % 64 + 63 - 63) ≡ n = omega arith in
+          rw (
+            size_text-four n four small,
+            size_of-four (n / 64 / 64 % 64 + 63) (n / 64 % 64 + 63) (n % 64 + 63) body byte,
+            value,
+          ) refl
     ]
 
 -- the parts of a size that is there
@@ -116,7 +119,7 @@ spelt-four a b c rest taken n ga gb gc other sized shortest small =
     let in_b : (63 ≤ b) × (b ≤ 126) = is_group-range b gb in
     let in_c : (63 ≤ c) × (c ≤ 126) = is_group-range c gc in
     let read : ◌≡◌ {A = Option (ℕ × ℕ)} (Some (4, ((a - 63) * 64 + (b - 63)) * 64 + (c - 63))) (Some (taken, n)) =
-        sym (size_of-four a b c rest other) ∙ sized in
+    sym (size_of-four a b c rest other) ∙ sized in
     let four : 4 ≡ taken = taken_of _ _ _ _ read in
     let value : ((a - 63) * 64 + (b - 63)) * 64 + (c - 63) ≡ n = n_of _ _ _ _ read in
     let large : 63 ≤ n = too_long-four taken n four shortest in
@@ -145,14 +148,14 @@ spelt-long (a ∷ b ∷ c ∷ rest) taken n groups sized shortest small =
     elim (eqb_tells a 126) [
       | inl (test, is) ↦ elim (nat_le_or 8 (length (126 ∷ a ∷ b ∷ c ∷ rest))) [
         | inl long ↦
-          absurd (omega (arith, spelt-eight (126 ∷ a ∷ b ∷ c ∷ rest) taken n refl is long sized shortest))
+            absurd (omega (arith, spelt-eight (126 ∷ a ∷ b ∷ c ∷ rest) taken n refl is long sized shortest))
         | inr short ↦
-          let none : size_of (126 ∷ a ∷ b ∷ c ∷ rest) ≡ None =
-              size_of-long_short (126 ∷ a ∷ b ∷ c ∷ rest) refl is short in cc
+            let none : size_of (126 ∷ a ∷ b ∷ c ∷ rest) ≡ None =
+            size_of-long_short (126 ∷ a ∷ b ∷ c ∷ rest) refl is short in cc
       ]
       | inr (test, other) ↦
-        spelt-four a b c rest taken n (groups 1 0 (omega arith)) (groups 2 0 (omega arith)) (groups 3 0 (omega arith))
-        other sized shortest small
+          spelt-four a b c rest taken n (groups 1 0 (omega arith)) (groups 2 0 (omega arith)) (groups 3 0 (omega arith))
+          other sized shortest small
     ]
 
 -- a line whose size is not too long begins with the shortest spelling
@@ -163,9 +166,9 @@ size_text-spelt [] taken n some groups sized shortest small = absurd (omega arit
 size_text-spelt (byte ∷ rest) taken n some groups sized shortest small =
     elim (eqb_tells byte 126) [
       | inl (test, is) ↦
-        let there : AllPass is_group (126 ∷ rest) = rw is at groups in
-        let size : size_of (126 ∷ rest) ≡ Some (taken, n) = rw is at sized in
-        rw is (spelt-long rest taken n there size shortest small)
+          let there : AllPass is_group (126 ∷ rest) = rw is at groups in
+          let size : size_of (126 ∷ rest) ≡ Some (taken, n) = rw is at sized in
+          rw is (spelt-long rest taken n there size shortest small)
       | inr (test, other) ↦ spelt-one byte rest taken n (groups 0 0 (omega arith)) other sized
     ]
 
@@ -183,10 +186,12 @@ size_text-groups n small =
     elim (nat_le_or n 62) [
       | inl one ↦ rw (size_text-one n one, range-is_group (n + 63) (omega arith) (omega arith)) refl
       | inr four ↦
-        rw (size_text-four n four small,
+          rw (
+            size_text-four n four small,
             range-is_group (n / 64 / 64 % 64 + 63) (omega arith) (omega arith),
             range-is_group (n / 64 % 64 + 63) (omega arith) (omega arith),
-            range-is_group (n % 64 + 63) (omega arith) (omega arith)) refl
+            range-is_group (n % 64 + 63) (omega arith) (omega arith),
+          ) refl
     ]
 
 -- there is a byte

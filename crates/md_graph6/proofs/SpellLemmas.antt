@@ -1,5 +1,5 @@
 -- What a line spells: a line without fault spells one graph, and a line that spells one has no fault.
-use Rattle.std.proofs.Common.{◌≡◌, ℕ, zero, suc, ◌+◌, ◌-◌, ◌*◌, ◌<◌, ◌≤◌, Bool, true, false, List, [], ◌∷◌, ◌++◌, length, get_or, take, drop, Option, None, Some, refl, sym, ap, ◌∙◌, arith, length-append, length-drop}
+use Rattle.std.proofs.Common.{◌≡◌, ℕ, ◌+◌, ◌-◌, ◌*◌, ◌<◌, ◌≤◌, true, false, List, [], ◌∷◌, ◌++◌, length, get_or, take, drop, None, Some, refl, sym, ap, ◌∙◌, arith, length-append, length-drop}
 use Rattle.std.specs.List.{list_all, AllPass}
 use Rattle.std.proofs.lemmas.Bool.Decides.{nat_tests}
 use Rattle.std.proofs.lemmas.List.Sums.{list_all-from_AllPass, AllPass-from_list_all}
@@ -9,8 +9,8 @@ use Rattle.std.proofs.lemmas.List.Folds.{list_all-append}
 use Rattle.md_graph.specs.declared.TheConstants.{NAMES}
 use Rattle.md_graph.specs.PlainGraph.{PlainGraph}
 use Rattle.md_graph6.specs.Bits.{bit, body_length, IsBodyOf}
-use Rattle.md_graph6.specs.Size.{size_text, size_of, is_too_long, most_in_four_bytes}
-use Rattle.md_graph6.specs.Line.{SpellsLine, is_group, begins_other, pair_count, is_padding_set, line_fault, size_fault, body_fault, graph_of_body, graph_of_sized, graph_of_line}
+use Rattle.md_graph6.specs.Size.{size_text, size_of, most_in_four_bytes}
+use Rattle.md_graph6.specs.Line.{SpellsLine, is_group, begins_other, pair_count, line_fault, size_fault, body_fault, graph_of_body, graph_of_sized, graph_of_line}
 use Rattle.md_graph6.proofs.Limits.{names_fit}
 use Rattle.md_graph6.proofs.SizeLemmas.{is_group-range, size_text-read, size_text-shortest, size_text-groups, size_text-some, size_text-spelt}
 use Rattle.md_graph6.proofs.PaddingLemmas.{padding-none, padding-all}
@@ -58,7 +58,7 @@ text_fault n body few long groups blank =
     let some : 0 < length (size_text n ++ body) = size_text-some n body (name_size n few) in
     let pass : list_all is_group (size_text n ++ body) ≡ true = text_groups n body few groups in
     line_fault-sized (size_text n ++ body) (Some (length (size_text n), n)) some
-        (line_begins (size_text n ++ body) some pass) pass (size_text-read n body (name_size n few))
+    (line_begins (size_text n ++ body) some pass) pass (size_text-read n body (name_size n few))
     ∙ body_fault-sound (size_text n ++ body) (length (size_text n)) n (text_is_sound n body few long blank)
 
 text_graph : (n : ℕ) (body : List ℕ) (g : PlainGraph) → n ≤ NAMES → IsBodyOf body n g
@@ -115,7 +115,7 @@ unfolding size_fault
 sound_line-body line taken n some sound sized =
     let groups : list_all is_group line ≡ true = list_all-from_AllPass is_group line (sound_line-groups line some sound) in
     let fault : line_fault line ≡ body_fault line taken n =
-        line_fault-sized line (Some (taken, n)) some (line_begins line some groups) groups sized in
+    line_fault-sized line (Some (taken, n)) some (line_begins line some groups) groups sized in
     body_fault-none line taken n (sym fault ∙ sound)
 
 -- a graph that is filled from what stands behind the size is the line's

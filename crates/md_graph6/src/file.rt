@@ -2,11 +2,10 @@
 ghost use Rattle.std.specs.Prelude.{◌≡◌, length, IfOk, IfErr, None, Some};
 ghost use Rattle.md_graph6.specs.File.{first_fault, graphs_of};
 
-use md_text::{split_line, without_return};
-
 use crate::fault::G6Fault;
 use crate::line::line_fault;
 use crate::reader::without_header;
+use md_text::{split_line, without_return};
 
 /// The number of graphs in a file. It refuses exactly where the file has a fault, and names the first one:
 /// the first faulty line, and of its faults the first in the order that `G6Kind` gives.
@@ -25,10 +24,7 @@ pub fn scan(bytes: &[u8]) -> Result<u64, G6Fault>
         let line = without_return(line);
         number += 1;
         if let Some(kind) = line_fault(line) {
-            return Err(G6Fault {
-                kind,
-                line: number,
-            });
+            return Err(G6Fault { kind, line: number });
         }
         count += u64::from(!line.is_empty());
         rest = more;

@@ -6,15 +6,15 @@
 
 mod body;
 mod fault;
+mod file;
 pub mod laws;
 mod line;
 mod reader;
-mod file;
 mod writer;
 
 pub use fault::{G6Fault, G6Kind};
-pub use reader::Lines;
 pub use file::scan;
+pub use reader::Lines;
 pub use writer::write;
 
 #[cfg(test)]

@@ -6,10 +6,9 @@ ghost use Rattle.md_graph6.specs.Bits.{body_length};
 ghost use Rattle.md_graph6.specs.Size.{size_of, eighteen_bits, is_too_long};
 ghost use Rattle.md_graph6.specs.Line.{is_group, pair_count, is_padding_set, begins_other, line_fault, body_fault, graph_of_line};
 
-use md_graph::{Graph, NAMES};
-
 use crate::body;
 use crate::fault::G6Kind;
+use md_graph::{Graph, NAMES};
 
 /// The byte that begins a size of four or of eight bytes.
 const LONG: u8 = 126;

@@ -5,12 +5,10 @@ ghost use Rattle.md_graph.specs.PlainGraph.{empty_graph};
 ghost use Rattle.md_graph6.specs.Line.{line_fault, graph_of_line};
 ghost use Rattle.md_graph6.specs.File.{without_header, stripped_lines, graphs_of_lines, HasNoFault, first_fault, graphs_of};
 
-use std::marker::Model;
-
+use crate::line::fill_line;
 use md_graph::Graph;
 use md_text::{split_line, without_return};
-
-use crate::line::fill_line;
+use std::marker::Model;
 
 /// The graphs of a file that aren't read yet.
 #[derive(Drop)]
@@ -75,10 +73,8 @@ pub fn without_header(bytes: &[u8]) -> &[u8]
 /// The first line that isn't empty, and what stands behind it; an empty one where there is none.
 fn next_line(text: &[u8]) -> (&[u8], &[u8])
     requires { HasNoFault (stripped_lines text.now) }
-    ensures first {
-        0 < length result.0.now →
-            graphs_of_lines (stripped_lines text.now) ≡ graph_of_line result.0.now ∷ graphs_of_lines (stripped_lines result.1.now)
-    }
+    ensures first { 0 < length result.0.now →
+        graphs_of_lines (stripped_lines text.now) ≡ graph_of_line result.0.now ∷ graphs_of_lines (stripped_lines result.1.now) }
     ensures none { length result.0.now ≡ 0 → graphs_of_lines (stripped_lines text.now) ≡ [] }
     ensures none_left { length result.0.now ≡ 0 → graphs_of_lines (stripped_lines result.1.now) ≡ [] }
     ensures sound { line_fault result.0.now ≡ None }

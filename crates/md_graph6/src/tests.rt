@@ -2,12 +2,10 @@
 ghost use Rattle.std.specs.Prelude.{◌≡◌};
 ghost use Rattle.md_graph.specs.PlainGraph.{empty_graph};
 
+use crate::{G6Fault, G6Kind, Lines, scan};
+use md_graph::Graph;
 use std::process::Abort;
 use std::test::Fail;
-
-use md_graph::Graph;
-
-use crate::{G6Fault, G6Kind, Lines, scan};
 
 /// The number of vertices and the edges of a graph.
 type Wanted = (u32, &'static [(u32, u32)]);

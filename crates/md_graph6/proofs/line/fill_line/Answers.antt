@@ -1,4 +1,4 @@
-use Rattle.std.proofs.Common.{rules, ◌≡◌, ◌≤◌, true, length, Some, arith, ◌∙◌, sym}
+use Rattle.std.proofs.Common.{rules, ◌≡◌, ◌≤◌, true, length, arith, ◌∙◌, sym}
 use Rattle.std.proofs.lemmas.List.{take_rest}
 use Rattle.std.proofs.lemmas.List.Elements.{All-drop}
 use Rattle.md_graph.specs.declared.TheConstants.{NAMES}
@@ -18,7 +18,7 @@ unreachable-requires c =
 pub overflow_cast-n : goal.overflow_cast-n
 overflow_cast-n c =
     let body : IsSoundBody c.args.line.now c.in-Some.taken c.in-Some.n =
-        sound_line-body _ _ _ c.requires.some c.requires.sound (sym c.size.ensures.value ∙ c.in-Some.is) in
+    sound_line-body _ _ _ c.requires.some c.requires.sound (sym c.size.ensures.value ∙ c.in-Some.is) in
     let few : c.in-Some.n ≤ NAMES = body.few in
     let fits : NAMES ≤ 65536 = names_fit in
     omega arith
@@ -26,13 +26,13 @@ overflow_cast-n c =
 pub slice_bounds-fill-count : goal.slice_bounds-fill-count
 slice_bounds-fill-count c =
     let body : IsSoundBody c.args.line.now c.in-Some.taken c.in-Some.n =
-        sound_line-body _ _ _ c.requires.some c.requires.sound (sym c.size.ensures.value ∙ c.in-Some.is) in
+    sound_line-body _ _ _ c.requires.some c.requires.sound (sym c.size.ensures.value ∙ c.in-Some.is) in
     omega (arith, body.long)
 
 pub slice_bounds-fill-start : goal.slice_bounds-fill-start
 slice_bounds-fill-start c =
     let body : IsSoundBody c.args.line.now c.in-Some.taken c.in-Some.n =
-        sound_line-body _ _ _ c.requires.some c.requires.sound (sym c.size.ensures.value ∙ c.in-Some.is) in
+    sound_line-body _ _ _ c.requires.some c.requires.sound (sym c.size.ensures.value ∙ c.in-Some.is) in
     let within : c.in-Some.taken ≤ length c.args.line.now = omega (arith, body.long) in
     search rules
 
@@ -48,5 +48,5 @@ pub returns : goal.returns
 returns c =
     let sized = sym c.size.ensures.value ∙ c.in-Some.is in
     let body : IsSoundBody c.args.line.now c.in-Some.taken c.in-Some.n =
-        sound_line-body _ _ _ c.requires.some c.requires.sound sized in
+    sound_line-body _ _ _ c.requires.some c.requires.sound sized in
     filled_is_line _ _ _ _ sized body.few c.fill.ensures

@@ -1,4 +1,4 @@
-use Rattle.std.proofs.Common.{◌≡◌, ℕ, ◌<◌, ◌≤◌, ◌+◌, ◌&&◌, nat_lt, length, arith, ◌∙◌, ap, sym}
+use Rattle.std.proofs.Common.{◌≡◌, ◌&&◌, nat_lt, arith, ◌∙◌, ap}
 use Rattle.std.specs.FinSet as set
 use Rattle.md_graph.specs.declared.TheConstants.{NAMES}
 use Rattle.md_graph.specs.NameSet.{ascending}
@@ -30,7 +30,7 @@ loop-u-preserved c =
       place = turn.2;
       below = omega arith;
       members = gathered_more c.loop-u.column c.insert_if.new.column (λ k. set.contains c.args.row.now (nth c.args.graph.now k)) c.loop-u.i c.has.result
-        (c.has.ensures ∙ ap (set.contains c.args.row.now) turn.1) c.insert_if.ensures c.loop-u.invariant.members;
+          (c.has.ensures ∙ ap (set.contains c.args.row.now) turn.1) c.insert_if.ensures c.loop-u.invariant.members;
     }
 
 pub returns : goal.returns

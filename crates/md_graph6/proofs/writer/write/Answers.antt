@@ -1,4 +1,4 @@
-use Rattle.std.proofs.Common.{◌≡◌, List, [], ◌∷◌, ◌++◌, length, ap, sym, ◌∙◌}
+use Rattle.std.proofs.Common.{◌≡◌, [], ◌∷◌, ◌++◌, length, ap, ◌∙◌}
 use Rattle.md_graph6.specs.Bits.{body_length}
 use Rattle.md_graph6.proofs.WriteLemmas.{whole_back, size_kept, body_kept, SpellsLine-written}
 use Rattle.md_graph6.proofs.writer.write.Goals as goal
