@@ -4,7 +4,6 @@ use Rattle.std.specs.Int.{bit_at}
 use Rattle.std.proofs.lemmas.Nat.{shr-shr, shr_split, shr_below, shl_whole, or_comm, or_shifted, and_mask, one_shl, mul-add-lt, pow-add, pow_pos, pow_below, mod_below}
 use Rattle.std.proofs.lemmas.Nat.Bits.{bit_at_or, bit_at_above, bit_at_cat_low, bit_at_cat_high, bit_at-zero}
 use Rattle.std.proofs.lemmas.Bool.{cases_lt, and_parts, eqb-true, ltb-true}
-
 use Rattle.md_graph6.specs.declared.body.TheConstants.{TURNED}
 use Rattle.std.proofs.lemmas.List.{get_or_default}
 use Rattle.md_graph6.specs.Bits.{bit}
@@ -44,8 +43,8 @@ join_window body place n next m whole low high first second follows sum = record
   bits = λ k h. ⊎_elim
       (λ (low_part : k < n). bit_at_cat_low high n low k low_part ∙ first.bits k low_part)
       (λ (high_part : n ≤ k).
-          let e : next + (k - n) ≡ place + k = omega arith in
-          bit_at_cat_high high n low k first.below high_part ∙ second.bits (k - n) (omega arith) ∙ ap (bit body) e)
+      let e : next + (k - n) ≡ place + k = omega arith in
+      bit_at_cat_high high n low k first.below high_part ∙ second.bits (k - n) (omega arith) ∙ ap (bit body) e)
       (cases_lt k n);
 }
 
@@ -70,18 +69,18 @@ shifted_window body place next low high shift k first second follows small insid
     let second_bit = bit_at_mod (high * 2 ^ (60 - shift)) 64 k inside in
     ⊎_elim
     (λ (low_part : k < 60 - shift).
-        let e : place + (shift + k) ≡ place + shift + k = omega arith in
-        let first_bit : bit_at (low / 2 ^ shift) k ≡ bit body (place + shift + k) =
-            ap (λ x. x % 2) (shr-shr low shift k) ∙ first.bits (shift + k) (omega arith) ∙ ap (bit body) e in
-        let no_bit = second_bit ∙ bit_at_shl_low high (60 - shift) k low_part in
-        omega (arith, whole, first_bit, no_bit))
+    let e : place + (shift + k) ≡ place + shift + k = omega arith in
+    let first_bit : bit_at (low / 2 ^ shift) k ≡ bit body (place + shift + k) =
+    ap (λ x. x % 2) (shr-shr low shift k) ∙ first.bits (shift + k) (omega arith) ∙ ap (bit body) e in
+    let no_bit = second_bit ∙ bit_at_shl_low high (60 - shift) k low_part in
+    omega (arith, whole, first_bit, no_bit))
     (λ (high_part : 60 - shift ≤ k).
-        let e : next + (k - (60 - shift)) ≡ place + shift + k = omega arith in
-        let split : 60 - shift + shift ≡ 60 = omega arith in
-        let fits : low < 2 ^ (60 - shift + shift) = rw split first.below in
-        let no_bit = bit_at_above (low / 2 ^ shift) (60 - shift) k (shr_below low (60 - shift) shift fits) high_part in
-        let its_bit = second_bit ∙ bit_at_shl_high high (60 - shift) k high_part ∙ second.bits (k - (60 - shift)) (omega arith) ∙ ap (bit body) e in
-        omega (arith, whole, no_bit, its_bit))
+    let e : next + (k - (60 - shift)) ≡ place + shift + k = omega arith in
+    let split : 60 - shift + shift ≡ 60 = omega arith in
+    let fits : low < 2 ^ (60 - shift + shift) = rw split first.below in
+    let no_bit = bit_at_above (low / 2 ^ shift) (60 - shift) k (shr_below low (60 - shift) shift fits) high_part in
+    let its_bit = second_bit ∙ bit_at_shl_high high (60 - shift) k high_part ∙ second.bits (k - (60 - shift)) (omega arith) ∙ ap (bit body) e in
+    omega (arith, whole, no_bit, its_bit))
     (cases_lt k (60 - shift))
 
 -- `bits & ((1 << count) - 1)`
@@ -89,7 +88,7 @@ pub low_bits_at : (bits count k : ℕ) → count < 64
     → bit_at (bit_and bits (1 * 2 ^ count % 2 ^ 64 - 1)) k ≡ (if nat_lt k count then bit_at bits k else 0)
 low_bits_at bits count k small =
     let e : bit_and bits (1 * 2 ^ count % 2 ^ 64 - 1) ≡ bits % 2 ^ count =
-        ap (λ m. bit_and bits (m - 1)) (one_shl count 64 small) ∙ and_mask bits count in
+    ap (λ m. bit_and bits (m - 1)) (one_shl count 64 small) ∙ and_mask bits count in
     ap (λ x. bit_at x k) e ∙ ⊎_elim
     (λ (h : k < count). let t : nat_lt k count ≡ true = search rules in rw t (bit_at_mod bits count k h))
     (λ (h : count ≤ k). let t : nat_lt k count ≡ false = search rules in rw t (bit_at_mod_above bits count k h))

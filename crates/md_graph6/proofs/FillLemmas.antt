@@ -74,9 +74,9 @@ column_words s f low j first next e before word i =
       | inl done ↦ grind (arith, nat_tests)
       | inr from ↦ elim (cases_lt i next) [
         | inl inside ↦
-          let place : first + (i - first) ≡ i = omega arith in
-          let here = word (i - first) (omega arith) ∙ ap (λ x. nat_lt (i - first) (j - first) && f x) place in
-          rw here (inside_word i j first next (f i) from inside e)
+            let place : first + (i - first) ≡ i = omega arith in
+            let here = word (i - first) (omega arith) ∙ ap (λ x. nat_lt (i - first) (j - first) && f x) place in
+            rw here (inside_word i j first next (f i) from inside e)
         | inr past ↦ grind (arith, nat_tests)
       ]
     ])
@@ -153,8 +153,8 @@ filled_more body n j {g} column inside names filled is = record {
   vertices = filled.vertices;
   graph = IsGraph-with_edges filled.graph j column vertex others not_itself;
   pairs = λ a b up.
-    adjacent-with_edges g j column (λ w m. filled.graph.names w (others w m)) a b
-    ∙ joined a b up (set.contains column b) (set.contains column a) (adjacent g a b) (is.members b) (is.members a) (filled.pairs a b up);
+      adjacent-with_edges g j column (λ w m. filled.graph.names w (others w m)) a b
+      ∙ joined a b up (set.contains column b) (set.contains column a) (adjacent g a b) (is.members b) (is.members a) (filled.pairs a b up);
 }
   where
     vertex : Member g.vertices j
@@ -196,7 +196,7 @@ pub IsColumn-all : (body : List ℕ) (s : NameSet) (place j first : ℕ) → j �
     → IsColumn body j s
 IsColumn-all body s place j first all e before = record {
   members = λ i.
-    let f : place + i ≡ pair_number i j = omega arith in
-    column_all s (λ i. bit body (place + i) == 1) j first all before i
-    ∙ ap (λ k. nat_lt i j && (bit body k == 1)) f;
+      let f : place + i ≡ pair_number i j = omega arith in
+      column_all s (λ i. bit body (place + i) == 1) j first all before i
+      ∙ ap (λ k. nat_lt i j && (bit body k == 1)) f;
 }

@@ -58,8 +58,8 @@ ascending_each s low (suc n) i inside =
       | inl earlier ↦ rw (get_or-append (ascending_between s low n) (if nat_le low n && set.contains s n then n ∷ [] else []) 0 i earlier) (omega (arith, ascending_each s low n i earlier))
       | inr last ↦ elim (cases_Bool (nat_le low n && set.contains s n)) [
         | inl t ↦
-          let at_end : length (ascending_between s low n) ≡ i = pushed_at i last (rw t at inside) in
-          rw (t, get_or_push (ascending_between s low n) n 0 i at_end) (omega arith)
+            let at_end : length (ascending_between s low n) ≡ i = pushed_at i last (rw t at inside) in
+            rw (t, get_or_push (ascending_between s low n) n 0 i at_end) (omega arith)
         | inr f ↦ absurd (no_more i last (rw f at inside))
       ]
     ]

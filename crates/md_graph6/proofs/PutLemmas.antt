@@ -42,12 +42,12 @@ put_more old mid new at n next m whole low high word first second follows sum be
   length = second.length ∙ first.length;
   groups = second.groups;
   inside = λ i h. ⊎_elim
-    (λ (l : i < 6 * n). second.before (6 * at + i) (omega arith) ∙ first.inside i l ∙ below i l)
-    (λ (g : 6 * n ≤ i).
+      (λ (l : i < 6 * n). second.before (6 * at + i) (omega arith) ∙ first.inside i l ∙ below i l)
+      (λ (g : 6 * n ≤ i).
       let e : 6 * at + i ≡ 6 * next + (i - 6 * n) = omega arith in
       let f : 6 * n + (i - 6 * n) ≡ i = omega arith in
       ap (bit new) e ∙ second.inside (i - 6 * n) (omega arith) ∙ above (i - 6 * n) (omega arith) ∙ ap (bit_at word) f)
-    (cases_lt i (6 * n));
+      (cases_lt i (6 * n));
   before = λ k h. second.before k (omega arith) ∙ first.before k h;
   behind = λ k h. second.behind k (omega arith) ∙ first.behind k (omega arith);
 }
@@ -67,8 +67,8 @@ put_twelve old mid new at low high first second =
     put_more old mid new at 10 (at + 10) 2 12 low high (high * 2 ^ 60 + low % 2 ^ 60) first second refl refl
     (λ i h. sym (bit_at_mod low 60 i h) ∙ sym (bit_at_cat_low high 60 (low % 2 ^ 60) i h))
     (λ i h.
-      let e : 60 + i - 60 ≡ i = omega arith in
-      sym (bit_at_cat_high high 60 (low % 2 ^ 60) (60 + i) (mod_below low (2 ^ 60) (pow_pos 60)) (omega arith) ∙ ap (bit_at high) e))
+    let e : 60 + i - 60 ≡ i = omega arith in
+    sym (bit_at_cat_high high 60 (low % 2 ^ 60) (60 + i) (mod_below low (2 ^ 60) (pow_pos 60)) (omega arith) ∙ ap (bit_at high) e))
 
 -- ---- the last bytes
 
@@ -85,14 +85,14 @@ put_end old new none twelve at word same are put inside end long room before fro
     high = λ k h. each (λ x. x < 127) k h (λ b. are.high k (omega arith)) (λ g. put.groups.high (k - at) (omega arith));
   };
   inside = λ i h. ⊎_elim
-    (λ (here : 6 * at + i < 6 * length old).
+      (λ (here : 6 * at + i < 6 * length old).
       let e : (6 * at + i) / 6 ≡ at + i / 6 = omega arith in
       let f : (6 * at + i) % 6 ≡ i % 6 = omega arith in
       let g = from (i / 6) (omega arith) in
       let z : 0 + i ≡ i = omega arith in
       rw (e, f, g) (ap (bit twelve) (sym z) ∙ put.inside i h))
-    (λ (past : 6 * length old ≤ 6 * at + i). no_bit new (6 * at + i) (omega arith) ∙ sym (room i past))
-    (cases_lt (6 * at + i) (6 * length old));
+      (λ (past : 6 * length old ≤ 6 * at + i). no_bit new (6 * at + i) (omega arith) ∙ sym (room i past))
+      (cases_lt (6 * at + i) (6 * length old));
   before = λ k h. let e = before (k / 6) (omega arith) in rw e refl;
   behind = λ k h. no_bit new k (omega arith) ∙ sym (no_bit old k (omega arith));
 }
@@ -102,9 +102,9 @@ put_end old new none twelve at word same are put inside end long room before fro
         elim (cases_lt k at) [
           | inl b ↦ rw (before k b) (first b)
           | inr g ↦
-            let e : at + (k - at) ≡ k = omega arith in
-            let f = ap (λ x. get_or new x 63) (sym e) ∙ from (k - at) (omega arith) in
-            rw f (second g)
+              let e : at + (k - at) ≡ k = omega arith in
+              let f = ap (λ x. get_or new x 63) (sym e) ∙ from (k - at) (omega arith) in
+              rw f (second g)
         ]
 
 -- ---- 64 bits from a place on
@@ -129,14 +129,14 @@ placed_before there bits shift i small h =
 pub placed_from : (there bits shift i : ℕ) → shift < 6 → shift ≤ i → bit_at there i ≡ 0 → bit_at (placed there bits shift) i ≡ bit_at bits (i - shift)
 placed_from there bits shift i small h none = ⊎_elim
     (λ (low : i < 60).
-      let e = placed_low there bits shift i low in
-      let f = bit_at_shl_high bits shift i h in
-      omega (arith, e, f, none))
+    let e = placed_low there bits shift i low in
+    let f = bit_at_shl_high bits shift i h in
+    omega (arith, e, f, none))
     (λ (high : 60 ≤ i).
-      let e : 60 - shift + (i - 60) ≡ i - shift = omega arith in
-      bit_at_cat_high (bits / 2 ^ (60 - shift)) 60 (bit_or there (bits * 2 ^ shift % 2 ^ 64) % 2 ^ 60) i (mod_below _ (2 ^ 60) (pow_pos 60)) high
-      ∙ bit_at_shr bits (60 - shift) (i - 60)
-      ∙ ap (bit_at bits) e)
+    let e : 60 - shift + (i - 60) ≡ i - shift = omega arith in
+    bit_at_cat_high (bits / 2 ^ (60 - shift)) 60 (bit_or there (bits * 2 ^ shift % 2 ^ 64) % 2 ^ 60) i (mod_below _ (2 ^ 60) (pow_pos 60)) high
+    ∙ bit_at_shr bits (60 - shift) (i - 60)
+    ∙ ap (bit_at bits) e)
     (cases_lt i 60)
 
 -- what stands in the first byte from the place on is nothing
@@ -151,7 +151,6 @@ there_none body place at shift there i where_ small is blank h = ⊎_elim
 module _ (body : List ℕ) (place at shift there bits : ℕ) (place_is : place ≡ 6 * at + shift) (shift_small : shift < 6) (there_small : there < 64)
     (there_is : (k : ℕ) → k < 6 → bit_at there k ≡ bit body (6 * at + k))
     (blank : (k : ℕ) → place ≤ k → bit body k ≡ 0) where
-
   pub placed_room : ((k : ℕ) → 6 * length body ≤ place + k → bit_at bits k ≡ 0) → at < length body
       → (i : ℕ) → 6 * length body ≤ 6 * at + i → bit_at (placed there bits shift) i ≡ 0
   placed_room room inside i h =
@@ -163,26 +162,26 @@ module _ (body : List ℕ) (place at shift there bits : ℕ) (place_is : place �
   placed_bits new put fits k =
       elim (cases_lt k place) [
         | inl before ↦
-          let t : nat_lt k place ≡ true = search rules in
-          rw t (⊎_elim
+            let t : nat_lt k place ≡ true = search rules in
+            rw t (⊎_elim
             (λ (earlier : k < 6 * at). put.before k earlier)
             (λ (here : 6 * at ≤ k).
-              let e : 6 * at + (k - 6 * at) ≡ k = omega arith in
-              ap (bit new) (sym e) ∙ put.inside (k - 6 * at) (omega arith)
-              ∙ placed_before there bits shift (k - 6 * at) shift_small (omega arith)
-              ∙ there_is (k - 6 * at) (omega arith) ∙ ap (bit body) e)
+            let e : 6 * at + (k - 6 * at) ≡ k = omega arith in
+            ap (bit new) (sym e) ∙ put.inside (k - 6 * at) (omega arith)
+            ∙ placed_before there bits shift (k - 6 * at) shift_small (omega arith)
+            ∙ there_is (k - 6 * at) (omega arith) ∙ ap (bit body) e)
             (cases_lt k (6 * at)))
         | inr from ↦
-          let f : nat_lt k place ≡ false = search rules in
-          rw f (⊎_elim
+            let f : nat_lt k place ≡ false = search rules in
+            rw f (⊎_elim
             (λ (here : k < 6 * at + 72).
-              let e : 6 * at + (k - 6 * at) ≡ k = omega arith in
-              let d : k - 6 * at - shift ≡ k - place = omega arith in
-              ap (bit new) (sym e) ∙ put.inside (k - 6 * at) (omega arith)
-              ∙ placed_from there bits shift (k - 6 * at) shift_small (omega arith) (there_none body place at shift there (k - 6 * at) place_is there_small there_is blank (omega arith))
-              ∙ ap (bit_at bits) d)
+            let e : 6 * at + (k - 6 * at) ≡ k = omega arith in
+            let d : k - 6 * at - shift ≡ k - place = omega arith in
+            ap (bit new) (sym e) ∙ put.inside (k - 6 * at) (omega arith)
+            ∙ placed_from there bits shift (k - 6 * at) shift_small (omega arith) (there_none body place at shift there (k - 6 * at) place_is there_small there_is blank (omega arith))
+            ∙ ap (bit_at bits) d)
             (λ (past : 6 * at + 72 ≤ k).
-              put.behind k past ∙ blank k from ∙ sym (bit_at_above bits 64 (k - place) fits (omega arith)))
+            put.behind k past ∙ blank k from ∙ sym (bit_at_above bits 64 (k - place) fits (omega arith)))
             (cases_lt k (6 * at + 72)))
       ]
 

@@ -47,13 +47,13 @@ column_bit column first j bits low k inside started is cut =
     let b = bit_by_test (bit_at bits k) (set.contains column (first + k)) (bit_at-lt bits k) is in
     elim (cases_lt k (j - first)) [
       | inl below ↦
-        let t : nat_lt k (j - first) ≡ true = grind (arith, nat_tests) in
-        let u : nat_lt (first + k) j ≡ true = grind (arith, nat_tests) in
-        cut ∙ rw (t, u) b
+          let t : nat_lt k (j - first) ≡ true = grind (arith, nat_tests) in
+          let u : nat_lt (first + k) j ≡ true = grind (arith, nat_tests) in
+          cut ∙ rw (t, u) b
       | inr above ↦
-        let t : nat_lt k (j - first) ≡ false = grind (arith, nat_tests) in
-        let u : nat_lt (first + k) j ≡ false = grind (arith, nat_tests) in
-        cut ∙ rw (t, u) refl
+          let t : nat_lt k (j - first) ≡ false = grind (arith, nat_tests) in
+          let u : nat_lt (first + k) j ≡ false = grind (arith, nat_tests) in
+          cut ∙ rw (t, u) refl
     ]
 
 -- one more word of a column
@@ -66,28 +66,28 @@ pub written_more : (old mid new : List ℕ) (column : NameSet) (place j first ne
 written_more old mid new column place j first next bits low k after started fits before is cut put =
     put k ∙ elim (cases_lt k (place + first)) [
       | inl done ↦
-        let t : nat_lt k (place + first) ≡ true = grind (arith, nat_tests) in
-        rw t (before k ∙ elim (cases_lt k place) [
-          | inl earlier ↦ let u : nat_lt k place ≡ true = grind (arith, nat_tests) in rw u refl
-          | inr here ↦
-            let u : nat_lt (k - place) first ≡ true = grind (arith, nat_tests) in
-            let v : nat_lt (k - place) next ≡ true = grind (arith, nat_tests) in
-            rw (u, v) refl
-        ])
+          let t : nat_lt k (place + first) ≡ true = grind (arith, nat_tests) in
+          rw t (before k ∙ elim (cases_lt k place) [
+            | inl earlier ↦ let u : nat_lt k place ≡ true = grind (arith, nat_tests) in rw u refl
+            | inr here ↦
+                let u : nat_lt (k - place) first ≡ true = grind (arith, nat_tests) in
+                let v : nat_lt (k - place) next ≡ true = grind (arith, nat_tests) in
+                rw (u, v) refl
+          ])
       | inr here ↦
-        let t : nat_lt k (place + first) ≡ false = grind (arith, nat_tests) in
-        let u : nat_lt k place ≡ false = grind (arith, nat_tests) in
-        let e : first + (k - (place + first)) ≡ k - place = omega arith in
-        rw (t, u) (elim (cases_lt (k - (place + first)) 64) [
-          | inl inside ↦
-            let v : nat_lt (k - place) next ≡ true = grind (arith, nat_tests) in
-            column_bit column first j bits low (k - (place + first)) inside started (is (k - (place + first)) inside) (cut (k - (place + first)) inside)
-            ∙ ap (λ i. bit_if (nat_lt i j && set.contains column i)) e
-            ∙ rw v refl
-          | inr outside ↦
-            let v : nat_lt (k - place) next ≡ false = grind (arith, nat_tests) in
-            bit_at_above low 64 (k - (place + first)) fits outside ∙ rw v refl
-        ])
+          let t : nat_lt k (place + first) ≡ false = grind (arith, nat_tests) in
+          let u : nat_lt k place ≡ false = grind (arith, nat_tests) in
+          let e : first + (k - (place + first)) ≡ k - place = omega arith in
+          rw (t, u) (elim (cases_lt (k - (place + first)) 64) [
+            | inl inside ↦
+                let v : nat_lt (k - place) next ≡ true = grind (arith, nat_tests) in
+                column_bit column first j bits low (k - (place + first)) inside started (is (k - (place + first)) inside) (cut (k - (place + first)) inside)
+                ∙ ap (λ i. bit_if (nat_lt i j && set.contains column i)) e
+                ∙ rw v refl
+            | inr outside ↦
+                let v : nat_lt (k - place) next ≡ false = grind (arith, nat_tests) in
+                bit_at_above low 64 (k - (place + first)) fits outside ∙ rw v refl
+          ])
     ]
 
 -- ---- pair numbers
@@ -148,15 +148,15 @@ IsWritten-more {old} {new} {g} {j} column written groups before here is = record
   bits = λ a b up inside. elim (cases_lt b j) [
     | inl less ↦ before (pair_number a b) (pair_before a b j up less) ∙ written.bits a b up less
     | inr more ↦
-      let e : j ≡ b = omega arith in
-      let t : nat_lt a j ≡ true = grind (arith, nat_tests) in
-      subst (λ x. bit new (pair_number a x) ≡ bit_if (are_adjacent g a x)) e (here a ∙ rw (t, is a (omega arith)) refl)
+        let e : j ≡ b = omega arith in
+        let t : nat_lt a j ≡ true = grind (arith, nat_tests) in
+        subst (λ x. bit new (pair_number a x) ≡ bit_if (are_adjacent g a x)) e (here a ∙ rw (t, is a (omega arith)) refl)
   ];
   blank = λ k past.
-    let next = pair_next j in
-    let e : k ≡ pair_number (k - pair_number 0 j) j = omega (arith, next) in
-    let f : nat_lt (k - pair_number 0 j) j ≡ false = nat_lt_no (k - pair_number 0 j) j (omega (arith, next)) in
-    ap (bit new) e ∙ here (k - pair_number 0 j) ∙ rw f refl;
+      let next = pair_next j in
+      let e : k ≡ pair_number (k - pair_number 0 j) j = omega (arith, next) in
+      let f : nat_lt (k - pair_number 0 j) j ≡ false = nat_lt_no (k - pair_number 0 j) j (omega (arith, next)) in
+      ap (bit new) e ∙ here (k - pair_number 0 j) ∙ rw f refl;
 }
   where
     nat_lt_no : (x y : ℕ) → y ≤ x → nat_lt x y ≡ false

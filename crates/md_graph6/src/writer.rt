@@ -10,11 +10,9 @@ ghost use Rattle.md_graph6.specs.File.{SpellsOnly, first_fault, graphs_of};
 ghost use Rattle.md_graph6.specs.Window.{AreGroups, IsPut};
 ghost use Rattle.md_graph6.specs.Written.{bit_if, nth, renumbered, IsWritten, IsTextOf};
 
-use std::alloc::Global;
-
-use md_graph::{Graph, Memory, NAMES, Names};
-
 use crate::body::{bits_of, column_place, low_bits, turned};
+use md_graph::{Graph, Memory, NAMES, Names};
+use std::alloc::Global;
 
 /// The byte of six bits that are 0.
 const NO_BITS: u8 = 63;
@@ -138,7 +136,11 @@ fn put_column(body: &mut [u8], j: u32, column: &Names)
     let place = column_place(j);
     for w in 0..(j + 63) / 64 {
         let first = 64 * w;
-        put_bits(body, place + first as usize, low_bits(column.block(first), j - first));
+        put_bits(
+            body,
+            place + first as usize,
+            low_bits(column.block(first), j - first),
+        );
     }
 }
 
@@ -310,3 +312,6 @@ pub fn write(alloc: Global, graph: &Graph) -> Result<Vec<u8>, Memory>
     text.push_reserved(b'\n');
     Ok(text)
 }
+
+#[cfg(test)]
+mod tests;

@@ -12,7 +12,7 @@ pub loop-w-preserved : goal.loop-w-preserved
 loop-w-preserved c = λ i.
     ap (λ s. set.contains s i) c.insert_block.ensures
     ∙ column_more c.args.body.now c.loop-w.column c.column_place-place.result c.args.j (64 * c.loop-w.w) (64 * (c.loop-w.w + 1)) c.bits_from-bits.result c.low_bits.result (omega arith)
-      c.loop-w.invariant c.bits_from-bits.ensures c.low_bits.ensures i
+    c.loop-w.invariant c.bits_from-bits.ensures c.low_bits.ensures i
 
 pub returns : goal.returns
 returns c = IsColumn-all c.args.body.now c.loop-w.column c.column_place-place.result c.args.j (64 * c.loop-w.w) (omega arith) c.column_place-place.ensures c.loop-w.invariant

@@ -30,7 +30,7 @@ loop-u-preserved c =
       place = turn.2;
       below = omega arith;
       members = gathered_more c.loop-u.column c.insert_if.new.column (λ k. set.contains c.args.row.now (nth c.args.graph.now k)) c.loop-u.i c.has.result
-        (c.has.ensures ∙ ap (set.contains c.args.row.now) turn.1) c.insert_if.ensures c.loop-u.invariant.members;
+          (c.has.ensures ∙ ap (set.contains c.args.row.now) turn.1) c.insert_if.ensures c.loop-u.invariant.members;
     }
 
 pub returns : goal.returns

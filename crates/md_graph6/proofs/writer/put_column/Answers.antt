@@ -10,6 +10,6 @@ pub loop-w-preserved : goal.loop-w-preserved
 loop-w-preserved c = record {
   groups = c.put_bits.ensures.groups;
   bits = λ k.
-    written_more c.args.body.now c.loop-w.body c.put_bits.new.body c.args.column.now c.column_place-place.result c.args.j (64 * c.loop-w.w) (64 * (c.loop-w.w + 1)) c.block.result c.low_bits.result k
+      written_more c.args.body.now c.loop-w.body c.put_bits.new.body c.args.column.now c.column_place-place.result c.args.j (64 * c.loop-w.w) (64 * (c.loop-w.w + 1)) c.block.result c.low_bits.result k
       (omega arith) (omega arith) c.low_bits.type_inv c.loop-w.invariant.bits c.block.ensures c.low_bits.ensures c.put_bits.ensures.bits;
 }

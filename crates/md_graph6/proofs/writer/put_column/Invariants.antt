@@ -9,6 +9,6 @@ abbrev pub invariant-loop-w : goal.invariant-loop-w
 invariant-loop-w l = record {
   groups : AreGroups l.body;
   bits : (k : ℕ) → bit l.body k
-    ≡ (if nat_lt k l.place then bit l.fn.body k
+      ≡ (if nat_lt k l.place then bit l.fn.body k
       else bit_if (nat_lt (k - l.place) (64 * l.w) && (nat_lt (k - l.place) l.j && set.contains l.column (k - l.place))));
 }
