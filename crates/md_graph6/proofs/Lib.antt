@@ -12,3 +12,4 @@ pub mod FillLemmas
 pub mod Listed
 pub mod SizeText
 pub mod WriteLemmas
+pub mod TextLemmas

@@ -1,13 +1,14 @@
 //! The text of a graph in graph6, 64 bits of a column at once.
-ghost use Rattle.std.specs.Prelude.{IfOk, ◌++◌, true, vec_len, vec_capacity, replicate, take, drop, ◌≡◌, ℕ, ◌+◌, ◌-◌, ◌*◌, ◌/◌, ◌%◌, ◌^◌, ◌<◌, ◌≤◌, ◌==◌, ◌&&◌, ◌||◌, nat_lt, length, get_or, if◌then◌else◌};
+ghost use Rattle.std.specs.Prelude.{None, [], ◌∷◌, IfOk, ◌++◌, true, vec_len, vec_capacity, replicate, take, drop, ◌≡◌, ℕ, ◌+◌, ◌-◌, ◌*◌, ◌/◌, ◌%◌, ◌^◌, ◌<◌, ◌≤◌, ◌==◌, ◌&&◌, ◌||◌, nat_lt, length, get_or, if◌then◌else◌};
 ghost use Rattle.std.specs.Int.{bit_at};
 ghost use Rattle.std.specs.FinSet as set;
 ghost use Rattle.md_graph.specs.NameSet.{Member, ascending};
 ghost use Rattle.md_graph.specs.PlainGraph.{adjacent, IsGraph};
 ghost use Rattle.md_graph6.specs.Bits.{bit, pair_number, body_length};
 ghost use Rattle.md_graph6.specs.Size.{size_text};
+ghost use Rattle.md_graph6.specs.File.{SpellsOnly, first_fault, graphs_of};
 ghost use Rattle.md_graph6.specs.Window.{AreGroups, IsPut};
-ghost use Rattle.md_graph6.specs.Written.{bit_if, nth, IsWritten, IsTextOf};
+ghost use Rattle.md_graph6.specs.Written.{bit_if, nth, renumbered, IsWritten, IsTextOf};
 
 use crate::body::{bits_of, column_place, low_bits, turned};
 use md_graph::{Graph, Memory, NAMES, Names};
@@ -295,9 +296,14 @@ fn blank_line(alloc: Global, n: u32, size: usize) -> Result<Vec<u8>, Memory>
 }
 
 /// The graph6 line of the graph in the shortest spelling, and a line feed. The i-th vertex in ascending
-/// order, counted from 0, is i. Error: want of memory. Source: the public description of the format.
+/// order, counted from 0, is i. As a file the text has no fault, and spells the graph so renumbered and no
+/// other. Error: want of memory.
+/// Source: B. McKay, "Description of graph6, sparse6 and digraph6 encodings".
 pub fn write(alloc: Global, graph: &Graph) -> Result<Vec<u8>, Memory>
-    ensures { IfOk result (λ text. IsTextOf text.items graph.now) }
+    ensures text { IfOk result (λ text. IsTextOf text.items graph.now) }
+    ensures spells { IfOk result (λ text. SpellsOnly text.items (renumbered graph.now ∷ [])) }
+    ensures no_fault { IfOk result (λ text. first_fault text.items ≡ None) }
+    ensures graphs { IfOk result (λ text. graphs_of text.items ≡ renumbered graph.now ∷ []) }
 {
     let (n, numbered) = shape(graph);
     let size = size_length(n);
@@ -306,3 +312,6 @@ pub fn write(alloc: Global, graph: &Graph) -> Result<Vec<u8>, Memory>
     text.push_reserved(b'\n');
     Ok(text)
 }
+
+#[cfg(test)]
+mod tests;

@@ -1,10 +1,11 @@
 use Rattle.std.proofs.Common.{◌≡◌, [], ◌∷◌, ◌++◌, length, ap, ◌∙◌}
 use Rattle.md_graph6.specs.Bits.{body_length}
 use Rattle.md_graph6.proofs.WriteLemmas.{whole_back, size_kept, body_kept, SpellsLine-written}
+use Rattle.md_graph6.proofs.TextLemmas.{text_spells, text_sound}
 use Rattle.md_graph6.proofs.writer.write.Goals as goal
 
-pub returns : goal.returns
-returns c =
+pub returns-clause-text : goal.returns-clause-text
+returns-clause-text c =
     let line = c.put_behind.new.line in
     let items = c.in_ok-text.text.items in
     let size = c.size_length-size.result in
@@ -19,3 +20,12 @@ returns c =
           (body_kept line items size n (body_length n) same c.in_ok-text.ensures.items c.size_length-size.ensures)
           c.put_behind.ensures.body;
     }
+
+pub returns-clause-spells : goal.returns-clause-spells
+returns-clause-spells c = text_spells (returns-clause-text c)
+
+pub returns-clause-no_fault : goal.returns-clause-no_fault
+returns-clause-no_fault c = (text_sound (returns-clause-text c)).0
+
+pub returns-clause-graphs : goal.returns-clause-graphs
+returns-clause-graphs c = (text_sound (returns-clause-text c)).1
