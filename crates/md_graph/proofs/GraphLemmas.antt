@@ -218,14 +218,14 @@ star_push v others n =
     ap set.from_list (map-append (edge v) others (n ∷ [])) ∙ pairs-from_list_push (map (edge v) others) (edge v n)
 
 -- the members below n + 1, where n is one and where it isn't
-pub below_suc : (s : NameSet) (n b : ℕ) → set.contains s n ≡ true → (nat_lt b (suc n) && set.contains s b) ≡ ((b == n) || (nat_lt b n && set.contains s b))
+below_suc : (s : NameSet) (n b : ℕ) → set.contains s n ≡ true → (nat_lt b (suc n) && set.contains s b) ≡ ((b == n) || (nat_lt b n && set.contains s b))
 below_suc s n b t =
     elim (cases_order b n) [
       | inl same ↦ rw same (grind (arith, nat_tests))
       | inr other ↦ grind (arith, nat_tests)
     ]
 
-pub below_same : (s : NameSet) (n b : ℕ) → set.contains s n ≡ false → (nat_lt b (suc n) && set.contains s b) ≡ (nat_lt b n && set.contains s b)
+below_same : (s : NameSet) (n b : ℕ) → set.contains s n ≡ false → (nat_lt b (suc n) && set.contains s b) ≡ (nat_lt b n && set.contains s b)
 below_same s n b f =
     elim (cases_order b n) [
       | inl same ↦ rw same (grind (arith, nat_tests))
@@ -235,7 +235,7 @@ below_same s n b f =
 join_arms : (p q r w x y : Bool) → (((p && q) || (r && w)) || ((p && x) || (w && y))) ≡ ((p && (q || x)) || (w && (r || y)))
 join_arms p q r w x y = grind arith
 
-pub zero_le : (n : ℕ) → nat_le 0 n ≡ true
+zero_le : (n : ℕ) → nat_le 0 n ≡ true
 zero_le n = le-leb 0 n (omega arith)
 
 -- the edges of a star
@@ -251,7 +251,7 @@ contains-star v s (suc n) a b =
           rw (zero_le n, f, append-nil (ascending_between s 0 n), contains-star v s n a b, below_same s n a f, below_same s n b f) refl
     ]
 
-pub below_all : (s : NameSet) (n b : ℕ) → ((w : ℕ) → Member s w → w < n) → (nat_lt b n && set.contains s b) ≡ set.contains s b
+below_all : (s : NameSet) (n b : ℕ) → ((w : ℕ) → Member s w → w < n) → (nat_lt b n && set.contains s b) ≡ set.contains s b
 below_all s n b below =
     elim (cases_Bool (set.contains s b)) [
       | inl t ↦ let h = below b t in grind (arith, nat_tests)

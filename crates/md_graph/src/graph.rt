@@ -263,7 +263,9 @@ fn insert_in_rows(rows: &mut [Names], names: &Names, v: u32)
     requires name { v < NAMES }
     requires in_rows { (u : ℕ) → Member names.now u → u < length rows.old }
     ensures { (u : ℕ) → row_of rows.new u
-        ≡ (if set.contains names.now u then set.insert (row_of rows.old u) v else row_of rows.old u) }
+        ≡ (if set.contains names.now u
+        then set.insert (row_of rows.old u) v
+        else row_of rows.old u) }
 {
     for u in names.members() {
         rows[u as usize].insert(v);
@@ -275,7 +277,9 @@ fn remove_from_rows(rows: &mut [Names], names: &Names, v: u32)
     requires name { v < NAMES }
     requires in_rows { (u : ℕ) → Member names.now u → u < length rows.old }
     ensures { (u : ℕ) → row_of rows.new u
-        ≡ (if set.contains names.now u then set.remove (row_of rows.old u) v else row_of rows.old u) }
+        ≡ (if set.contains names.now u
+        then set.remove (row_of rows.old u) v
+        else row_of rows.old u) }
 {
     for u in names.members() {
         rows[u as usize].remove(v);
