@@ -24,7 +24,13 @@ fn join(graph: &mut Graph, u: u32, v: u32) {
 }
 
 /// The graph on these vertices with these edges is written so.
-fn gives(rt: &impl Abort, alloc: Global, vertices: &[u32], edges: &[(u32, u32)], text: &[u8]) -> Result<(), Fail> {
+fn gives(
+    rt: &impl Abort,
+    alloc: Global,
+    vertices: &[u32],
+    edges: &[(u32, u32)],
+    text: &[u8],
+) -> Result<(), Fail> {
     let mut graph = Graph::new(alloc)?;
     for v in vertices {
         take(&mut graph, *v);
@@ -44,8 +50,20 @@ fn texts_are_written(rt: HostRuntime) -> Result<(), Fail> {
     gives(&rt, alloc, &[7], &[], b"@\n")?;
     gives(&rt, alloc, &[0, 1], &[(0, 1)], b"A_\n")?;
     gives(&rt, alloc, &[2, 5, 9], &[(2, 9)], b"BO\n")?;
-    gives(&rt, alloc, &[0, 1, 2, 3], &[(0, 1), (1, 2), (2, 3)], b"Ch\n")?;
-    gives(&rt, alloc, &[0, 1, 2, 3, 4], &[(0, 2), (0, 4), (1, 3), (3, 4)], b"DQc\n")?;
+    gives(
+        &rt,
+        alloc,
+        &[0, 1, 2, 3],
+        &[(0, 1), (1, 2), (2, 3)],
+        b"Ch\n",
+    )?;
+    gives(
+        &rt,
+        alloc,
+        &[0, 1, 2, 3, 4],
+        &[(0, 2), (0, 4), (1, 3), (3, 4)],
+        b"DQc\n",
+    )?;
     let ring = [(0, 1), (1, 2), (2, 3), (3, 4), (4, 5), (0, 5)];
     gives(&rt, alloc, &[0, 1, 2, 3, 4, 5], &ring, b"EhEG\n")?;
     Ok(())
