@@ -1,13 +1,13 @@
 -- Words that hold bits of a body.
-use Rattle.std.proofs.Common.{◌≡◌, ℕ, zero, suc, ◌+◌, ◌-◌, ◌*◌, ◌/◌, ◌%◌, ◌^◌, ◌<◌, ◌≤◌, Bool, true, false, cond, ◌&&◌, eqb, ltb, List, length, get_or, rules, refl, sym, ap, ◌∙◌, subst, arith, max, bit_and, bit_or, nat_lt, if◌then◌else◌, inl, inr, ◌⊎◌, ⊎_elim}
+use Rattle.std.proofs.Common.{◌≡◌, ℕ, zero, suc, ◌+◌, ◌-◌, ◌*◌, ◌/◌, ◌%◌, ◌^◌, ◌<◌, ◌≤◌, Bool, true, false, ◌&&◌, eqb, ltb, List, length, get_or, rules, refl, sym, ap, ◌∙◌, arith, bit_and, bit_or, nat_lt, if◌then◌else◌, inl, inr, ◌⊎◌, ⊎_elim}
 use Rattle.std.specs.Int.{bit_at}
-use Rattle.std.proofs.lemmas.Nat.{shr-shr, shr_split, shr_below, shl_whole, or_comm, or_shifted, and_mask, one_shl, mul-add-lt, pow-add, pow_pos, pow_below, mod_below}
+use Rattle.std.proofs.lemmas.Nat.{shr-shr, shr_split, shr_below, shl_whole, or_comm, or_shifted, and_mask, one_shl, mul-add-lt, pow-add, pow_pos, mod_below}
 use Rattle.std.proofs.lemmas.Nat.Bits.{bit_at_or, bit_at_above, bit_at_cat_low, bit_at_cat_high, bit_at-zero}
 use Rattle.std.proofs.lemmas.Bool.{cases_lt, and_parts, eqb-true, ltb-true}
 use Rattle.md_graph6.specs.declared.body.TheConstants.{TURNED}
 use Rattle.std.proofs.lemmas.List.{get_or_default}
 use Rattle.md_graph6.specs.Bits.{bit}
-use Rattle.md_graph6.specs.Window.{IsWindow, AreGroups}
+use Rattle.md_graph6.specs.Window.{IsWindow}
 
 -- `(a << n) | b`
 pub or_joined : (low high n : ℕ) → low < 2 ^ n → high < 2 ^ 12 → n ≤ 52 → bit_or low (high * 2 ^ n % 2 ^ 64) ≡ high * 2 ^ n + low

@@ -1,15 +1,15 @@
 -- The graph that a body spells: there is one, and it is the one that is decoded.
-use Rattle.std.proofs.Common.{◌≡◌, ℕ, zero, suc, ◌<◌, ◌≤◌, ◌==◌, ◌||◌, ◌&&◌, Bool, true, false, not, nat_lt, List, IsTrue, ◌⊎◌, inl, inr, refl, sym, ap, ◌∙◌, arith}
+use Rattle.std.proofs.Common.{◌≡◌, ℕ, zero, suc, ◌<◌, ◌≤◌, ◌&&◌, Bool, true, nat_lt, List, inl, inr, refl, sym, ◌∙◌, arith}
 use Rattle.std.specs.FinSet as set
 use Rattle.std.proofs.lemmas.Bool.Decides.{nat_tests}
 use Rattle.std.proofs.lemmas.Bool.{cases_Bool, ltb-true, lt-ltb}
 use Rattle.md_graph.specs.declared.TheConstants.{NAMES}
-use Rattle.md_graph.specs.NameSet.{NameSet, Member}
-use Rattle.md_graph.specs.PlainGraph.{PlainGraph, IsGraph, adjacent, pairs_where}
+use Rattle.md_graph.specs.NameSet.{Member}
+use Rattle.md_graph.specs.PlainGraph.{PlainGraph, IsGraph, adjacent}
 use Rattle.md_graph.proofs.SetLaws.{contains-empty, contains-insert, same_set}
 use Rattle.md_graph.proofs.PairLaws.{same_pairs}
 use Rattle.md_graph.proofs.GraphLemmas.{contains-pairs_where, adjacent_up}
-use Rattle.md_graph6.specs.Bits.{bit, pair_number, IsBodyOf}
+use Rattle.md_graph6.specs.Bits.{IsBodyOf}
 use Rattle.md_graph6.specs.Line.{numbers_below, is_edge, graph_of_body}
 
 -- the members of the numbers below n

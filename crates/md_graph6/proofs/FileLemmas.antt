@@ -1,16 +1,17 @@
 -- What a file spells: a file without fault spells one list of graphs, and a file that spells one has no fault.
-use Rattle.std.proofs.Common.{◌≡◌, ◌≢◌, ℕ, zero, suc, ◌+◌, ◌<◌, ◌≤◌, ◌&&◌, Bool, true, false, nat_eq, List, [], ◌∷◌, ◌++◌, length, map, get_or, Option, None, Some, refl, sym, ap, ◌∙◌, arith}
+use Rattle.std.proofs.Common.{◌≡◌, ◌≢◌, ℕ, zero, suc, ◌+◌, ◌<◌, List, [], ◌∷◌, ◌++◌, length, map, get_or, Option, None, Some, refl, sym, ◌∙◌, arith}
 use Rattle.std.specs.Prelude.{MatchOption}
-use Rattle.std.specs.List.{All, AllPass, starts_with}
+use Rattle.std.specs.List.{All}
 use Rattle.std.proofs.lemmas.List.{append-nil}
 use Rattle.std.proofs.lemmas.Bool.{ne_eqb}
 use Rattle.md_graph.specs.PlainGraph.{PlainGraph, IsGraph}
-use Rattle.md_text.specs.Lines.{lines, ended, LacksFeed, without_return}
+use Rattle.md_text.specs.Lines.{ended, LacksFeed, without_return}
 use Rattle.md_text.proofs.LineLemmas.{lines-ended, without_return-stays}
 use Rattle.md_graph6.specs.declared.fault.G6Fault.{G6Fault}
-use Rattle.md_graph6.specs.Line.{SpellsLine, is_group, line_fault, graph_of_line}
-use Rattle.md_graph6.specs.File.{header, without_header, stripped_lines, file_lines, SpellEach, Spells, SpellsOnly, SpellsNone, fault_after, first_fault, graphs_of_lines, graphs_of}
-use Rattle.md_graph6.specs.Laws.{SpelledOrFaulty, SpelledHasNoFault, GraphsAreGraphs, AllSpell, EndedLinesSpell, EndedLineSpells}
+use Rattle.md_graph6.specs.Line.{SpellsLine, line_fault, graph_of_line}
+use Rattle.md_graph6.specs.File.{without_header, file_lines, SpellEach, Spells, SpellsOnly, SpellsNone, fault_after, first_fault, graphs_of_lines, graphs_of}
+use Rattle.md_graph6.specs.Written.{renumbered}
+use Rattle.md_graph6.specs.Laws.{SpelledOrFaulty, SpelledHasNoFault, GraphsAreGraphs, AllSpell, EndedLinesSpell, EndedLineSpells, TextSpells}
 use Rattle.md_graph6.proofs.SizeLemmas.{is_group-range}
 use Rattle.md_graph6.proofs.SpellLemmas.{spells-some, spells-sound, spells-graph, spells-groups, sound-spells}
 use Rattle.md_graph6.proofs.ReadLemmas.{fault_or-none}
@@ -149,3 +150,6 @@ ended-one line = append-nil (line ++ 10 ∷ [])
 
 pub ended_line_spells : EndedLineSpells
 ended_line_spells = λ line g spells. rw (← ended-one line) (ended_lines_spell (line ∷ []) (g ∷ []) (spells, tt))
+
+pub text_spells : TextSpells
+text_spells = λ text g is. rw (is.ended) (ended_line_spells is.line (renumbered g) is.spells)

@@ -1,12 +1,12 @@
 -- Columns of a body and the graph that they make.
-use Rattle.std.proofs.Common.{◌≡◌, ℕ, zero, suc, ◌+◌, ◌-◌, ◌*◌, ◌/◌, ◌%◌, ◌<◌, ◌≤◌, Bool, true, false, cond, ◌&&◌, ◌||◌, ◌==◌, nat_lt, nat_le, List, refl, sym, ap, ◌∙◌, subst, arith, inl, inr, ◌⊎◌, ⊎_elim, if◌then◌else◌}
+use Rattle.std.proofs.Common.{◌≡◌, ℕ, zero, suc, ◌+◌, ◌-◌, ◌<◌, ◌≤◌, Bool, true, false, ◌&&◌, ◌||◌, ◌==◌, nat_lt, nat_le, List, refl, sym, ap, ◌∙◌, arith, inl, inr, if◌then◌else◌}
 use Rattle.std.specs.Int.{bit_at}
 use Rattle.std.proofs.lemmas.Bool.{cases_Bool, cases_lt, cases_order}
 use Rattle.std.proofs.lemmas.Bool.Decides.{nat_tests}
 use Rattle.std.specs.FinSet as set
 use Rattle.md_graph.specs.NameSet.{NameSet, Member, block, block_below}
-use Rattle.md_graph.proofs.SetLaws.{contains-empty, contains-insert, contains-union, contains-intersection}
-use Rattle.md_graph.specs.PlainGraph.{PlainGraph, IsGraph, adjacent, empty_graph, with_vertex, with_edges}
+use Rattle.md_graph.proofs.SetLaws.{contains-empty, contains-insert, contains-union}
+use Rattle.md_graph.specs.PlainGraph.{PlainGraph, adjacent, empty_graph, with_vertex, with_edges}
 use Rattle.md_graph.specs.declared.TheConstants.{NAMES}
 use Rattle.md_graph.proofs.GraphLemmas.{IsGraph-empty_graph, adjacent-empty_graph, IsGraph-with_vertex, adjacent-with_vertex, IsGraph-with_edges, adjacent-with_edges}
 use Rattle.md_graph6.specs.Bits.{bit, pair_number, IsBodyOf}

@@ -1,13 +1,12 @@
 -- The faults of one line, and what a line without fault is made of.
-use Rattle.std.proofs.Common.{◌≡◌, ℕ, zero, suc, ◌+◌, ◌-◌, ◌*◌, ◌/◌, ◌%◌, ◌^◌, ◌<◌, ◌≤◌, ◌==◌, ◌||◌, ◌&&◌, Bool, true, false, not, nat_lt, List, [], ◌∷◌, length, get_or, drop, if◌then◌else◌, Option, None, Some, refl, sym, ap, ◌∙◌, arith}
+use Rattle.std.proofs.Common.{◌≡◌, ℕ, ◌+◌, ◌<◌, ◌≤◌, Bool, true, false, not, List, [], ◌∷◌, length, get_or, drop, if◌then◌else◌, Option, None, Some, refl, sym, ◌∙◌, arith}
 use Rattle.std.specs.List.{list_all, AllPass}
 use Rattle.std.proofs.lemmas.List.Sums.{AllPass-from_list_all}
 use Rattle.std.proofs.lemmas.Bool.Decides.{nat_tests}
-use Rattle.std.proofs.lemmas.Grind.{common_steps}
 use Rattle.md_graph.specs.declared.TheConstants.{NAMES}
 use Rattle.md_graph6.specs.declared.fault.G6Kind.{G6Kind}
 use Rattle.md_graph6.specs.declared.fault.G6Kind.TheVariants.{BadByte, OtherFormat}
-use Rattle.md_graph6.specs.Bits.{bit, body_length}
+use Rattle.md_graph6.specs.Bits.{body_length}
 use Rattle.md_graph6.specs.Size.{size_of, is_too_long}
 use Rattle.md_graph6.specs.Line.{is_group, begins_other, line_fault, size_fault, body_fault, is_padding_set}
 

@@ -1,13 +1,12 @@
 -- The vertices of a graph, ascending, and a loop over them.
-use Rattle.std.proofs.Common.{◌≡◌, ℕ, zero, suc, ◌+◌, ◌-◌, ◌*◌, ◌/◌, ◌%◌, ◌^◌, ◌<◌, ◌≤◌, Bool, true, false, cond, ◌&&◌, ◌||◌, ◌==◌, List, [], ◌∷◌, ◌++◌, length, get_or, drop, refl, sym, ap, ◌∙◌, subst, arith, rules, nat_lt, nat_le, if◌then◌else◌, inl, inr, ◌⊎◌, ⊎_elim, length-drop, length-append}
+use Rattle.std.proofs.Common.{◌≡◌, ℕ, zero, suc, ◌+◌, ◌-◌, ◌<◌, ◌≤◌, Bool, false, ◌&&◌, ◌||◌, ◌==◌, List, [], ◌∷◌, ◌++◌, length, get_or, drop, refl, sym, ap, ◌∙◌, arith, nat_lt, nat_le, if◌then◌else◌, inl, inr, length-drop, length-append}
 use Rattle.std.proofs.lemmas.List.{drop_more, get_or_push}
 use Rattle.std.proofs.Math.ListN.{get_or-append}
 use Rattle.std.proofs.lemmas.Bool.{cases_Bool, cases_lt, cases_eq}
 use Rattle.std.proofs.lemmas.Bool.Decides.{nat_tests}
 use Rattle.md_graph.proofs.SetLaws.{contains-empty}
 use Rattle.std.specs.FinSet as set
-use Rattle.md_graph.specs.declared.TheConstants.{NAMES}
-use Rattle.md_graph.specs.NameSet.{NameSet, Member, ascending, ascending_between}
+use Rattle.md_graph.specs.NameSet.{NameSet, ascending_between}
 
 -- a loop over a list has `i` items behind it and the others before it
 pub record IsAt (items rest : List ℕ) (i : ℕ) : Type 0 where

@@ -1,13 +1,13 @@
 -- Bytes of a body set to bits of a word.
-use Rattle.std.proofs.Common.{◌≡◌, ℕ, zero, suc, ◌+◌, ◌-◌, ◌*◌, ◌/◌, ◌%◌, ◌^◌, ◌<◌, ◌≤◌, ◌≢◌, Bool, true, false, cond, ◌&&◌, List, length, get_or, set, refl, sym, ap, ◌∙◌, subst, arith, rules, max, bit_and, bit_or, nat_lt, if◌then◌else◌, inl, inr, ◌⊎◌, ⊎_elim, get_or-set_same, get_or-set_other, length-set}
+use Rattle.std.proofs.Common.{◌≡◌, ℕ, ◌+◌, ◌-◌, ◌*◌, ◌/◌, ◌%◌, ◌^◌, ◌<◌, ◌≤◌, true, false, List, length, get_or, refl, sym, ap, ◌∙◌, arith, rules, max, bit_and, bit_or, nat_lt, if◌then◌else◌, inl, inr, ⊎_elim}
 use Rattle.std.specs.Int.{bit_at}
 use Rattle.std.proofs.lemmas.Nat.{shr-shr, and_mask, mod_below, pow_pos}
 use Rattle.std.proofs.lemmas.List.{get_or_past, get_or_default}
 use Rattle.std.proofs.lemmas.Nat.Bits.{bit_at_or, bit_at_above, bit_at_cat_low, bit_at_cat_high, bit_at-zero}
-use Rattle.std.proofs.lemmas.Bool.{cases_lt, cases_eq}
+use Rattle.std.proofs.lemmas.Bool.{cases_lt}
 use Rattle.md_graph6.specs.Bits.{bit}
 use Rattle.md_graph6.specs.Window.{AreGroups, IsPut}
-use Rattle.md_graph6.proofs.BitLemmas.{bit_at_mod, bit_at_mod_above, bit_at_shl_low, bit_at_shl_high}
+use Rattle.md_graph6.proofs.BitLemmas.{bit_at_mod, bit_at_shl_low, bit_at_shl_high}
 
 pub bit_at_shr : (n s i : ℕ) → bit_at (n / 2 ^ s) i ≡ bit_at n (s + i)
 bit_at_shr n s i = ap (λ x. x % 2) (shr-shr n s i)

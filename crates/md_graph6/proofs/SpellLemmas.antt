@@ -1,5 +1,5 @@
 -- What a line spells: a line without fault spells one graph, and a line that spells one has no fault.
-use Rattle.std.proofs.Common.{◌≡◌, ℕ, zero, suc, ◌+◌, ◌-◌, ◌*◌, ◌<◌, ◌≤◌, Bool, true, false, List, [], ◌∷◌, ◌++◌, length, get_or, take, drop, Option, None, Some, refl, sym, ap, ◌∙◌, arith, length-append, length-drop}
+use Rattle.std.proofs.Common.{◌≡◌, ℕ, ◌+◌, ◌-◌, ◌*◌, ◌<◌, ◌≤◌, true, false, List, [], ◌∷◌, ◌++◌, length, get_or, take, drop, None, Some, refl, sym, ap, ◌∙◌, arith, length-append, length-drop}
 use Rattle.std.specs.List.{list_all, AllPass}
 use Rattle.std.proofs.lemmas.Bool.Decides.{nat_tests}
 use Rattle.std.proofs.lemmas.List.Sums.{list_all-from_AllPass, AllPass-from_list_all}
@@ -9,8 +9,8 @@ use Rattle.std.proofs.lemmas.List.Folds.{list_all-append}
 use Rattle.md_graph.specs.declared.TheConstants.{NAMES}
 use Rattle.md_graph.specs.PlainGraph.{PlainGraph}
 use Rattle.md_graph6.specs.Bits.{bit, body_length, IsBodyOf}
-use Rattle.md_graph6.specs.Size.{size_text, size_of, is_too_long, most_in_four_bytes}
-use Rattle.md_graph6.specs.Line.{SpellsLine, is_group, begins_other, pair_count, is_padding_set, line_fault, size_fault, body_fault, graph_of_body, graph_of_sized, graph_of_line}
+use Rattle.md_graph6.specs.Size.{size_text, size_of, most_in_four_bytes}
+use Rattle.md_graph6.specs.Line.{SpellsLine, is_group, begins_other, pair_count, line_fault, size_fault, body_fault, graph_of_body, graph_of_sized, graph_of_line}
 use Rattle.md_graph6.proofs.Limits.{names_fit}
 use Rattle.md_graph6.proofs.SizeLemmas.{is_group-range, size_text-read, size_text-shortest, size_text-groups, size_text-some, size_text-spelt}
 use Rattle.md_graph6.proofs.PaddingLemmas.{padding-none, padding-all}

@@ -1,14 +1,14 @@
 -- The columns of a body, written one after the other.
-use Rattle.std.proofs.Common.{◌≡◌, ℕ, zero, suc, ◌+◌, ◌-◌, ◌*◌, ◌/◌, ◌%◌, ◌^◌, ◌<◌, ◌≤◌, Bool, true, false, cond, ◌&&◌, ◌==◌, List, [], ◌∷◌, ◌++◌, IsTrue, take, drop, length-append, length, get_or, replicate, refl, sym, ap, ◌∙◌, subst, arith, rules, nat_lt, if◌then◌else◌, inl, inr, ◌⊎◌, ⊎_elim}
+use Rattle.std.proofs.Common.{◌≡◌, ℕ, zero, suc, ◌+◌, ◌-◌, ◌*◌, ◌/◌, ◌%◌, ◌^◌, ◌<◌, ◌≤◌, Bool, true, false, ◌&&◌, ◌==◌, List, ◌++◌, IsTrue, take, drop, length-append, length, get_or, replicate, refl, sym, ap, ◌∙◌, subst, arith, nat_lt, if◌then◌else◌, inl, inr}
 use Rattle.std.specs.Int.{bit_at}
 use Rattle.std.proofs.lemmas.Nat.Bits.{bit_at_above, bit_at-lt, bit_at-zero}
 use Rattle.std.proofs.lemmas.Bool.{cases_Bool, cases_lt, eqb-true, ltb-true, lt-ltb, and_parts}
 use Rattle.std.proofs.lemmas.List.{take-append-drop, get_or_default, length-replicate, length-drop}
-use Rattle.std.proofs.Math.Seq.{drop-append_seam, take-append_seam}
+use Rattle.std.proofs.Math.Seq.{take-append_seam}
 use Rattle.std.specs.List.{AllPass}
 use Rattle.md_graph.specs.declared.TheConstants.{NAMES}
 use Rattle.md_graph6.specs.Size.{size_text}
-use Rattle.md_graph6.specs.Line.{SpellsLine, is_group, numbers_below}
+use Rattle.md_graph6.specs.Line.{SpellsLine, is_group}
 use Rattle.md_graph6.proofs.Listed.{length_ascending}
 use Rattle.md_graph6.proofs.DecodeLemmas.{contains-numbers_below}
 use Rattle.std.proofs.lemmas.Bool.Decides.{nat_tests}

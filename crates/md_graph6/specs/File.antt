@@ -69,6 +69,10 @@ graphs_of_lines [] = []
 graphs_of_lines ([] ∷ more) = graphs_of_lines more
 graphs_of_lines ((byte ∷ line) ∷ more) = graph_of_line (byte ∷ line) ∷ graphs_of_lines more
 
+-- the graphs of a text without fault that has no header
+abbrev pub graphs_in : List ℕ → List PlainGraph
+graphs_in text = graphs_of_lines (stripped_lines text)
+
 -- the graphs of a file without fault
 abbrev pub graphs_of : List ℕ → List PlainGraph
-graphs_of bytes = graphs_of_lines (file_lines bytes)
+graphs_of bytes = graphs_in (without_header bytes)

@@ -1,9 +1,10 @@
 -- What holds of graph6 files: the statements of the laws of `src/laws.rt`.
-use Rattle.std.specs.Prelude.{◌≡◌, ℕ, List, [], ◌∷◌, ◌++◌, Option, None, MatchOption}
+use Rattle.std.specs.Prelude.{◌≡◌, ℕ, List, [], ◌∷◌, ◌++◌, None, MatchOption}
 use Rattle.std.specs.List.{All}
 use Rattle.md_graph.specs.PlainGraph.{PlainGraph, IsGraph}
 use Rattle.md_text.specs.Lines.{ended}
 use Rattle.md_graph6.specs.Line.{SpellsLine}
+use Rattle.md_graph6.specs.Written.{IsTextOf, renumbered}
 use Rattle.md_graph6.specs.File.{Spells, SpellsOnly, SpellsNone, first_fault, graphs_of}
 
 -- a file either has no fault and spells one list of graphs, or has a first fault and spells none
@@ -35,3 +36,8 @@ EndedLinesSpell = (all : List (List ℕ)) (graphs : List PlainGraph) → AllSpel
 abbrev pub EndedLineSpells : Type 0
 EndedLineSpells =
     (line : List ℕ) (g : PlainGraph) → SpellsLine line g → SpellsOnly (line ++ 10 ∷ []) (g ∷ [])
+
+-- the text of a graph is a file that spells this graph, its vertices renumbered, and no other
+abbrev pub TextSpells : Type 0
+TextSpells =
+    (text : List ℕ) (g : PlainGraph) → IsTextOf text g → SpellsOnly text (renumbered g ∷ [])

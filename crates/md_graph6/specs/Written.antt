@@ -1,8 +1,7 @@
 -- The graph6 text of a graph.
 -- Source: B. McKay, "Description of graph6, sparse6 and digraph6 encodings".
-use Rattle.std.specs.Prelude.{◌≡◌, ℕ, ◌+◌, ◌<◌, ◌≤◌, ◌&&◌, nat_lt, Bool, List, [], ◌∷◌, ◌++◌, length, get_or, if◌then◌else◌}
-use Rattle.std.specs.FinSet as set
-use Rattle.md_graph.specs.NameSet.{NameSet, ascending}
+use Rattle.std.specs.Prelude.{◌≡◌, ℕ, ◌<◌, ◌≤◌, Bool, List, [], ◌∷◌, ◌++◌, length, get_or, if◌then◌else◌}
+use Rattle.md_graph.specs.NameSet.{ascending}
 use Rattle.md_graph.specs.PlainGraph.{PlainGraph, adjacent, pairs_where}
 use Rattle.md_graph6.specs.Bits.{bit, pair_number}
 use Rattle.md_graph6.specs.Line.{SpellsLine, numbers_below}

@@ -1,6 +1,6 @@
 //! What holds of graph6 files. Each function has an empty body, and its contract is the law: the
 //! statement stands in `specs/Laws.antt`.
-ghost use Rattle.md_graph6.specs.Laws.{SpelledOrFaulty, SpelledHasNoFault, GraphsAreGraphs, EndedLinesSpell, EndedLineSpells};
+ghost use Rattle.md_graph6.specs.Laws.{SpelledOrFaulty, SpelledHasNoFault, GraphsAreGraphs, EndedLinesSpell, EndedLineSpells, TextSpells};
 
 /// A file has either a first fault or one list of graphs that it spells.
 pub fn files_are_spelled_or_faulty()
@@ -13,4 +13,5 @@ pub fn files_are_spelled_or_faulty()
 pub fn written_lines_spell()
     ensures all { EndedLinesSpell }
     ensures one { EndedLineSpells }
+    ensures text { TextSpells }
 {}

@@ -3,7 +3,7 @@ ghost use Rattle.std.specs.Prelude.{◌≡◌, ◌<◌, ◌≤◌, [], ◌∷◌
 ghost use Rattle.std.specs.Bool.{OnTrue, OnFalse};
 ghost use Rattle.md_graph.specs.PlainGraph.{empty_graph};
 ghost use Rattle.md_graph6.specs.Line.{line_fault, graph_of_line};
-ghost use Rattle.md_graph6.specs.File.{without_header, stripped_lines, graphs_of_lines, HasNoFault, first_fault, graphs_of};
+ghost use Rattle.md_graph6.specs.File.{without_header, stripped_lines, graphs_in, HasNoFault, first_fault, graphs_of};
 
 use crate::line::fill_line;
 use md_graph::Graph;
@@ -20,13 +20,13 @@ impl<'a> Model for Lines<'a> {
     ghost use Rattle.std.specs.Prelude.{List};
     ghost use Rattle.std.specs.Coded.{coded_list};
     ghost use Rattle.md_graph.specs.PlainGraph.{PlainGraph, graph_code};
-    ghost use Rattle.md_graph6.specs.File.{stripped_lines, graphs_of_lines, HasNoFault};
+    ghost use Rattle.md_graph6.specs.File.{stripped_lines, graphs_in, HasNoFault};
 
     ghost Value = { List PlainGraph };
 
     ghost coded = { coded_list graph_code };
 
-    ghost view = { λ l. graphs_of_lines (stripped_lines l.rest.now) };
+    ghost view = { λ l. graphs_in l.rest.now };
 
     ghost invariant = { λ l. HasNoFault (stripped_lines l.rest.now) };
 }
@@ -74,9 +74,9 @@ pub fn without_header(bytes: &[u8]) -> &[u8]
 fn next_line(text: &[u8]) -> (&[u8], &[u8])
     requires { HasNoFault (stripped_lines text.now) }
     ensures first { 0 < length result.0.now →
-        graphs_of_lines (stripped_lines text.now) ≡ graph_of_line result.0.now ∷ graphs_of_lines (stripped_lines result.1.now) }
-    ensures none { length result.0.now ≡ 0 → graphs_of_lines (stripped_lines text.now) ≡ [] }
-    ensures none_left { length result.0.now ≡ 0 → graphs_of_lines (stripped_lines result.1.now) ≡ [] }
+        graphs_in text.now ≡ graph_of_line result.0.now ∷ graphs_in result.1.now }
+    ensures none { length result.0.now ≡ 0 → graphs_in text.now ≡ [] }
+    ensures none_left { length result.0.now ≡ 0 → graphs_in result.1.now ≡ [] }
     ensures sound { line_fault result.0.now ≡ None }
     ensures rest_sound { HasNoFault (stripped_lines result.1.now) }
 {

@@ -314,3 +314,6 @@ pub fn write(alloc: Global, graph: &Graph) -> Result<Vec<u8>, Memory>
     text.push_reserved(b'\n');
     Ok(text)
 }
+
+#[cfg(test)]
+mod tests;

@@ -1,5 +1,4 @@
 use Rattle.std.proofs.Common.{arith}
-use Rattle.std.proofs.lemmas.Bool.Decides.{nat_tests}
 use Rattle.md_graph6.proofs.FillLemmas.{vertices_none, vertices_absent, vertices_more_is}
 use Rattle.md_graph6.proofs.body.add_vertices.Goals as goal
 

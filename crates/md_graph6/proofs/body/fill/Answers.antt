@@ -1,4 +1,3 @@
-use Rattle.std.proofs.Common.{arith}
 use Rattle.md_graph6.proofs.FillLemmas.{filled_none, filled_more_is, filled_all}
 use Rattle.md_graph6.proofs.body.fill.Goals as goal
 

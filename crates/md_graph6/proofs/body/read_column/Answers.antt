@@ -1,4 +1,4 @@
-use Rattle.std.proofs.Common.{◌==◌, ◌+◌, ◌*◌, arith, refl, ap, ◌∙◌}
+use Rattle.std.proofs.Common.{◌==◌, ◌+◌, ◌*◌, arith, ap, ◌∙◌}
 use Rattle.std.specs.FinSet as set
 use Rattle.md_graph6.specs.Bits.{bit}
 use Rattle.md_graph6.proofs.FillLemmas.{column_none, column_more, IsColumn-all}

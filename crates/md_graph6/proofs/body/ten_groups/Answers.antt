@@ -1,5 +1,4 @@
 use Rattle.std.proofs.Common.{◌*◌, arith}
-use Rattle.md_graph6.specs.Window.{IsWindow}
 use Rattle.md_graph6.proofs.BitLemmas.{joined_window}
 use Rattle.md_graph6.proofs.body.ten_groups.Goals as goal
 

@@ -1,7 +1,5 @@
 use Rattle.std.proofs.Common.{◌≡◌, length, ◌∙◌, arith}
 use Rattle.std.proofs.lemmas.Grind.{common_steps}
-use Rattle.md_text.specs.Lines.{without_return}
-use Rattle.md_graph6.specs.Line.{line_fault}
 use Rattle.md_graph6.proofs.ReadLemmas.{bool_byte-if, IsRead-more, IsRead-fault, IsRead-sound, IsRead-count}
 use Rattle.md_graph6.proofs.file.scan.Goals as goal
 

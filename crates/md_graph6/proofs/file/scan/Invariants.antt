@@ -1,4 +1,4 @@
-use Rattle.std.proofs.Common.{◌≡◌, ℕ, ◌+◌, ◌≤◌, length}
+use Rattle.std.proofs.Common.{length}
 use Rattle.md_graph6.proofs.ReadLemmas.{IsRead}
 use Rattle.md_graph6.proofs.file.scan.Given as goal
 

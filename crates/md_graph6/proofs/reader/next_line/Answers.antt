@@ -1,8 +1,6 @@
 use Rattle.std.proofs.Common.{◌≡◌, length, sym, ◌∙◌, arith}
 use Rattle.std.proofs.lemmas.Grind.{common_steps}
 use Rattle.md_text.specs.Lines.{without_return}
-use Rattle.md_graph6.specs.Line.{line_fault, graph_of_line}
-use Rattle.md_graph6.specs.File.{stripped_lines, graphs_of_lines, HasNoFault}
 use Rattle.md_graph6.proofs.LineLemmas.{line_fault-empty}
 use Rattle.md_graph6.proofs.ReadLemmas.{HasNoFault-cut, graphs-cut_skip, graphs-cut_more, graphs_of_lines-end}
 use Rattle.md_graph6.proofs.reader.next_line.Goals as goal

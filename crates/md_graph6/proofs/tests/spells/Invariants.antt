@@ -3,4 +3,4 @@ use Rattle.md_graph.specs.PlainGraph.{empty_graph}
 use Rattle.md_graph6.proofs.tests.spells.Given as goal
 
 abbrev pub invariant-loop-n : goal.invariant-loop-n
-invariant-loop-n l = l.graph ≡ empty_graph
+invariant-loop-n g l = l.graph ≡ empty_graph

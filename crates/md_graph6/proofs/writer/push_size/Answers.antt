@@ -1,4 +1,4 @@
-use Rattle.std.proofs.Common.{◌≤◌, ◌++◌, arith, ap, ◌∙◌, sym}
+use Rattle.std.proofs.Common.{◌++◌, arith, ap, ◌∙◌, sym}
 use Rattle.md_graph6.proofs.Limits.{names_fit}
 use Rattle.md_graph6.proofs.SizeText.{size_text-short, size_text-long, four_pushed, length-size_short, length-size_long}
 use Rattle.md_graph6.proofs.writer.push_size.Goals as goal

@@ -1,8 +1,7 @@
-use Rattle.std.proofs.Common.{◌≡◌, ◌<◌, ◌≤◌, ◌+◌, length, arith, ◌∙◌, ap, sym, subst}
+use Rattle.std.proofs.Common.{◌+◌, length, arith, ◌∙◌, ap, subst}
 use Rattle.md_graph.specs.declared.TheConstants.{NAMES}
 use Rattle.md_graph.specs.NameSet.{ascending}
-use Rattle.md_graph6.specs.Bits.{pair_number}
-use Rattle.md_graph6.specs.Written.{nth, IsWritten}
+use Rattle.md_graph6.specs.Written.{IsWritten}
 use Rattle.md_graph6.proofs.Limits.{names_fit}
 use Rattle.md_graph6.proofs.Listed.{at_start, at_turn, at_end, length_ascending, ascending_each}
 use Rattle.md_graph6.proofs.WriteLemmas.{IsWritten-more, gathered_column, pair_next, pair_mono}

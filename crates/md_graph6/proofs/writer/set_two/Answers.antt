@@ -1,4 +1,4 @@
-use Rattle.std.proofs.Common.{◌/◌, ◌^◌, ◌+◌, refl}
+use Rattle.std.proofs.Common.{◌+◌, refl}
 use Rattle.md_graph6.proofs.PutLemmas.{put_more, bit_at_shr}
 use Rattle.md_graph6.proofs.writer.set_two.Goals as goal
 

@@ -1,0 +1,119 @@
+//! Texts of graphs: outside vectors, and graphs whose columns cross words.
+ghost use Rattle.std.specs.Prelude.{◌≡◌, None};
+ghost use Rattle.md_graph.specs.PlainGraph.{empty_graph};
+ghost use Rattle.md_graph6.specs.File.{first_fault};
+
+use crate::{Lines, write};
+use md_graph::{Graph, NAMES};
+use std::alloc::Global;
+use std::process::Abort;
+use std::test::Fail;
+
+/// Takes in a vertex that isn't there yet.
+fn take(graph: &mut Graph, v: u32) {
+    if v < NAMES && !graph.has_vertex(v) {
+        graph.add_vertex(v);
+    }
+}
+
+/// Takes in an edge between two vertices.
+fn join(graph: &mut Graph, u: u32, v: u32) {
+    if u != v && graph.has_vertex(u) && graph.has_vertex(v) && !graph.has_edge(u, v) {
+        graph.add_edge(u, v);
+    }
+}
+
+/// The graph on these vertices with these edges is written so.
+fn gives(
+    rt: &impl Abort,
+    alloc: Global,
+    vertices: &[u32],
+    edges: &[(u32, u32)],
+    text: &[u8],
+) -> Result<(), Fail> {
+    let mut graph = Graph::new(alloc)?;
+    for v in vertices {
+        take(&mut graph, *v);
+    }
+    for (u, v) in edges {
+        join(&mut graph, *u, *v);
+    }
+    let written = write(alloc, &graph)?;
+    assert_eq!(rt; written.as_slice(), text);
+    Ok(())
+}
+
+#[test]
+fn texts_are_written(rt: HostRuntime) -> Result<(), Fail> {
+    let alloc = rt.alloc();
+    gives(&rt, alloc, &[], &[], b"?\n")?;
+    gives(&rt, alloc, &[7], &[], b"@\n")?;
+    gives(&rt, alloc, &[0, 1], &[(0, 1)], b"A_\n")?;
+    gives(&rt, alloc, &[2, 5, 9], &[(2, 9)], b"BO\n")?;
+    gives(
+        &rt,
+        alloc,
+        &[0, 1, 2, 3],
+        &[(0, 1), (1, 2), (2, 3)],
+        b"Ch\n",
+    )?;
+    gives(
+        &rt,
+        alloc,
+        &[0, 1, 2, 3, 4],
+        &[(0, 2), (0, 4), (1, 3), (3, 4)],
+        b"DQc\n",
+    )?;
+    let ring = [(0, 1), (1, 2), (2, 3), (3, 4), (4, 5), (0, 5)];
+    gives(&rt, alloc, &[0, 1, 2, 3, 4, 5], &ring, b"EhEG\n")?;
+    Ok(())
+}
+
+/// An edge of the graphs on many vertices.
+fn runs_between(i: u32, j: u32) -> bool {
+    (i ^ j) % 2 == 1 || j % 7 == i % 5
+}
+
+/// Takes in a vertex and the edges to those before it.
+fn take_joined(graph: &mut Graph, j: u32) {
+    take(graph, j);
+    for i in 0..j {
+        if runs_between(i, j) {
+            join(graph, i, j);
+        }
+    }
+}
+
+/// The graph has the edges of the rule between its first n vertices.
+fn has_edges(rt: &impl Abort, graph: &Graph, n: u32) {
+    assert_eq!(rt; graph.count(), n);
+    for j in 0..n {
+        for i in 0..j {
+            assert_eq!(rt; graph.has_edge(i, j), runs_between(i, j));
+        }
+    }
+}
+
+/// The text spells the graph of the rule on n vertices.
+fn spells(rt: &impl Abort, graph: &mut Graph, text: &[u8], n: u32)
+    requires empty { graph.old ≡ empty_graph }
+    requires sound { first_fault text.now ≡ None }
+{
+    let mut lines = Lines::new(text);
+    assert!(rt; lines.next(graph));
+    has_edges(rt, graph, n);
+}
+
+#[test]
+fn what_is_written_is_read(rt: HostRuntime) -> Result<(), Fail> {
+    for n in [65, 130] {
+        let mut graph = Graph::new(rt.alloc())?;
+        for j in 0..n {
+            take_joined(&mut graph, j);
+        }
+        let text = write(rt.alloc(), &graph)?;
+        let mut other = Graph::new(rt.alloc())?;
+        spells(&rt, &mut other, &text, n);
+    }
+    Ok(())
+}
