@@ -1,5 +1,5 @@
 -- Words of bits and the sets that they keep.
-use Rattle.std.proofs.Common.{◌≡◌, ℕ, zero, suc, ◌+◌, ◌-◌, ◌*◌, ◌/◌, ◌%◌, ◌^◌, ◌<◌, ◌≤◌, bit_and, bit_or, min, max, not, mod-lt, mod-eq_of_lt, lit<, lit≤, one-add, add-suc, add-zero, pow_pos, ltb-true, ltb-false, lt-ltb, Bool, true, false, cond, ltb, leb, eqb, eqb-true, ◌⊎◌, inl, inr, ◌==◌, ◌&&◌, ◌||◌, ◌≢◌, if◌then◌else◌, List, [], ◌∷◌, get_or, replicate, length, refl, arith, ap, sym, ◌∙◌}
+use Rattle.std.proofs.Common.{◌≡◌, ℕ, zero, suc, ◌+◌, ◌-◌, ◌*◌, ◌/◌, ◌%◌, ◌^◌, ◌<◌, ◌≤◌, bit_and, bit_or, min, max, not, mod-lt, mod-eq_of_lt, lit<, lit≤, one-add, add-suc, pow_pos, ltb-true, ltb-false, lt-ltb, Bool, true, false, cond, ltb, leb, eqb, eqb-true, ◌==◌, ◌&&◌, ◌||◌, ◌≢◌, if◌then◌else◌, List, get_or, replicate, length, refl, arith, ap, sym, ◌∙◌}
 use Rattle.std.proofs.lemmas.Bool.{eqb-false}
 use Rattle.std.proofs.lemmas.Bool.Decides.{nat_tests}
 use Rattle.std.specs.Int.{bit_at, bit_not, w64}

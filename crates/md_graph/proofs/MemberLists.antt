@@ -1,9 +1,9 @@
 -- The members that an iterator over words has left.
-use Rattle.std.proofs.Common.{ltb, ◌&&◌, append-nil, mod-eq_of_lt, add-zero, leb-true, leb-false, le-leb, shr-shr, ◌≡◌, ℕ, zero, suc, ◌+◌, ◌-◌, ◌*◌, ◌/◌, ◌%◌, ◌^◌, ◌<◌, ◌≤◌, ◌≢◌, min, bit_and, Bool, true, false, cond, if◌then◌else◌, ◌==◌, nat_le, List, [], ◌∷◌, ◌++◌, get_or, append_assoc, refl, arith, ap, sym, ◌∙◌, add-suc, mod-lt, pow_pos, suc-mul, subst}
+use Rattle.std.proofs.Common.{ltb, ◌&&◌, append-nil, mod-eq_of_lt, add-zero, leb-true, leb-false, le-leb, shr-shr, ◌≡◌, ℕ, zero, suc, ◌+◌, ◌-◌, ◌*◌, ◌/◌, ◌%◌, ◌^◌, ◌<◌, ◌≤◌, ◌≢◌, min, bit_and, Bool, true, false, if◌then◌else◌, ◌==◌, nat_le, List, [], ◌∷◌, ◌++◌, get_or, append_assoc, refl, arith, ap, sym, ◌∙◌, mod-lt, pow_pos, suc-mul, subst}
 use Rattle.std.proofs.lemmas.Bool.Decides.{nat_tests}
 use Rattle.std.specs.Int.{bit_at, w64, trailing_zeros}
 use Rattle.std.proofs.lemmas.Nat.{shr_split}
-use Rattle.std.proofs.lemmas.Nat.Bits.{bit_at-lt, bit_at-zero, bit_at_and, bit_at-trailing_zeros, same_from_bits_below, bit_at-suc, bit_at_lowest, bit_at_cat_low, bit_at_cat_high}
+use Rattle.std.proofs.lemmas.Nat.Bits.{bit_at-zero, bit_at_and, bit_at-trailing_zeros, same_from_bits_below, bit_at-suc, bit_at_lowest, bit_at_cat_low, bit_at_cat_high}
 use Rattle.md_graph.specs.NameSet.{NameSet, AllBelow, ascending_between}
 use Rattle.md_graph.specs.Words.{bit_of, names_below, bits_between, names_of_words, members_left}
 use Rattle.md_graph.proofs.NameLemmas.{not_both, ascending_none}
@@ -11,15 +11,6 @@ use Rattle.md_graph.proofs.BitWords.{InUse, contains-names_below, zero_has_no_bi
 use Rattle.std.specs.FinSet as set
 
 -- ---- the bits of one word
-
--- bits that are equal below n give the same names
-pub same_bits : (first a b n : ℕ) → ((k : ℕ) → k < n → bit_at a k ≡ bit_at b k) → bits_between first a n ≡ bits_between first b n
-unfolding bits_between
-same_bits first a b zero same = refl
-same_bits first a b (suc n) same =
-    let here = same n (omega arith) in
-    let before = same_bits first a b n (λ k h. same k (omega arith)) in
-    rw (before, here) refl
 
 pub no_bits : (first a n : ℕ) → ((k : ℕ) → k < n → bit_at a k ≡ 0) → bits_between first a n ≡ []
 unfolding bits_between

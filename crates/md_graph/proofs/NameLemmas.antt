@@ -1,13 +1,12 @@
 -- Facts of sets of names that callers may cite: what the ascending list of a set's members holds.
-use Rattle.std.proofs.Common.{◌≡◌, ℕ, zero, suc, ◌+◌, ◌-◌, ◌<◌, ◌≤◌, ◌≢◌, Bool, true, false, cond, not, ◌&&◌, ◌||◌, if◌then◌else◌, ◌==◌, nat_le, IsTrue, List, [], ◌∷◌, ◌++◌, length, get_or, append_assoc, append-nil, length-append, refl, arith, ap, sym, ◌∙◌, subst, ltb, ltb-true, ltb-false, lit<, All, Contains, AllPairs, Option, Some, None, IfSome, IfNone, MatchOption}
+use Rattle.std.proofs.Common.{◌≡◌, ℕ, zero, suc, ◌+◌, ◌-◌, ◌<◌, ◌≤◌, ◌≢◌, Bool, true, false, ◌&&◌, ◌||◌, if◌then◌else◌, ◌==◌, nat_le, List, [], ◌∷◌, ◌++◌, length, append_assoc, append-nil, length-append, refl, arith, ap, sym, ◌∙◌, subst, ltb, ltb-true, ltb-false, lit<, All, Contains, AllPairs, Option, Some, None, IfSome, IfNone, MatchOption}
 use Rattle.std.proofs.lemmas.Bool.Decides.{nat_tests}
 use Rattle.std.proofs.lemmas.List.Elements.{All-nil, All-push, All-weaker, Contains-append_left, Contains-append_right}
 use Rattle.std.proofs.lemmas.List.Quantifiers.{all_pairs_push}
 use Rattle.std.specs.Cmp.{nat_cmp_total}
 use Rattle.std.specs.FinSet.{nat_cmp-IsAntisymmetric}
 use Rattle.std.specs.FinSet as set
-use Rattle.md_graph.specs.declared.TheConstants.{NAMES}
-use Rattle.md_graph.specs.NameSet.{NameSet, Member, AllBelow, NoneFrom, IsLeastFrom, ascending_between, ascending_from, ascending}
+use Rattle.md_graph.specs.NameSet.{NameSet, Member, AllBelow, NoneFrom, IsLeastFrom, ascending_between}
 use Rattle.md_graph.proofs.SetLaws.{contains-empty, contains-insert, contains-retain, len-empty, len-insert, same_set}
 
 -- ---- the first item

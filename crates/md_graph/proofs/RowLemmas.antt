@@ -1,5 +1,5 @@
 -- What writes to the rows of a graph make of it, one lemma for each method of `Graph`.
-use Rattle.std.specs.Prelude.{◌≡◌, ℕ, ◌+◌, ◌*◌, ◌/◌, ◌^◌, ◌<◌, ◌≤◌, ◌≢◌, ◌⊎◌, Bool, true, false, cond, not, ◌&&◌, ◌||◌, ◌==◌, IsTrue, List, [], ◌∷◌, ◌++◌, length, get_or, replicate, sum_by, refl, if◌then◌else◌}
+use Rattle.std.specs.Prelude.{◌≡◌, ℕ, ◌+◌, ◌*◌, ◌/◌, ◌^◌, ◌<◌, ◌≤◌, ◌≢◌, Bool, true, false, cond, not, ◌&&◌, ◌||◌, ◌==◌, List, [], ◌∷◌, ◌++◌, length, get_or, replicate, sum_by, refl}
 use Rattle.std.proofs.Common.{subst, ap, sym, ◌∙◌, arith, inl, inr, set, take, drop, mul-le-mul}
 use Rattle.std.proofs.lemmas.Bool.{true≢false, cases_Bool, cases_lt, cases_eq, eq-eqb, ne_eqb, false_from_ne_true}
 use Rattle.std.proofs.lemmas.Bool.Decides.{nat_tests}
@@ -82,9 +82,9 @@ twice_set {live} {rows} op f keeps gives a u v name_u name_v differ new_u old_u 
     ∙ elim (cases_eq x v) [
       | inl same_v ↦ rw (same_v, eq-eqb v v refl) (at_v ∙ ap (λ t. op t (set.contains (row_of rows v) y)) test_v)
       | inr not_v ↦ rw (ne_eqb x v not_v, contains-set_row rows u new_u x y in_u) (elim (cases_eq x u) [
-          | inl same_u ↦ rw (same_u, eq-eqb u u refl) (at_u ∙ ap (λ t. op t (set.contains (row_of rows u) y)) test_u)
-          | inr not_u ↦ rw (ne_eqb x u not_u) (sym (keeps (set.contains (row_of rows x) y)))
-        ])
+        | inl same_u ↦ rw (same_u, eq-eqb u u refl) (at_u ∙ ap (λ t. op t (set.contains (row_of rows u) y)) test_u)
+        | inr not_u ↦ rw (ne_eqb x u not_u) (sym (keeps (set.contains (row_of rows x) y)))
+      ])
     ]
 
 pub rows_add_edge : {live : NameSet} {rows : List NameSet} {g : PlainGraph} → AreRows live rows → graph_of live rows ≡ g → (u v : ℕ) → Member g.vertices u → Member g.vertices v → u ≢ v → {new_u old_u new_v old_v : NameSet} → new_u ≡ set.insert old_u v → old_u ≡ get_or rows u old_u → new_v ≡ set.insert old_v u → old_v ≡ get_or (set rows u new_u) v old_v → AreRows live (set (set rows u new_u) v new_v) × (graph_of live (set (set rows u new_u) v new_v) ≡ with_edge g u v)
@@ -144,15 +144,15 @@ star_row : (others : NameSet) (v x y : ℕ) (old : NameSet) (was new : Bool) →
 star_row others v x y old was new e at_v differ =
     elim (cases_eq x v) [
       | inl same ↦
-        let out : set.contains others x ≡ false = ap (set.contains others) same ∙ differ in
-        let now : set.contains old y ≡ (was || set.contains others y) = e ∙ ap (λ b. cond b new was) (eq-eqb x v same) ∙ at_v same in
-        rw out (grind (arith, nat_tests))
+          let out : set.contains others x ≡ false = ap (set.contains others) same ∙ differ in
+          let now : set.contains old y ≡ (was || set.contains others y) = e ∙ ap (λ b. cond b new was) (eq-eqb x v same) ∙ at_v same in
+          rw out (grind (arith, nat_tests))
       | inr other ↦
-        let now : set.contains old y ≡ was = e ∙ ap (λ b. cond b new was) (ne_eqb x v other) in
-        elim (cases_Bool (set.contains others x)) [
-          | inl t ↦ rw (t, contains-insert old v y) (grind (arith, nat_tests))
-          | inr f ↦ rw f (grind (arith, nat_tests))
-        ]
+          let now : set.contains old y ≡ was = e ∙ ap (λ b. cond b new was) (ne_eqb x v other) in
+          elim (cases_Bool (set.contains others x)) [
+            | inl t ↦ rw (t, contains-insert old v y) (grind (arith, nat_tests))
+            | inr f ↦ rw f (grind (arith, nat_tests))
+          ]
     ]
 
 pub rows_add_edges : {live : NameSet} {rows : List NameSet} {g : PlainGraph} → AreRows live rows → graph_of live rows ≡ g → (v : ℕ) (others : NameSet) → Member g.vertices v → ((w : ℕ) → Member others w → Member g.vertices w) → set.contains others v ≡ false → (new_v old_v : NameSet) → new_v ≡ set.union old_v others → old_v ≡ get_or rows v old_v → (n : ℕ) (old ws : List NameSet) → n ≡ length rows → old ≡ set rows v new_v → length ws ≡ length old → ((u : ℕ) → row_of ws u ≡ cond (set.contains others u) (set.insert (row_of old u) v) (row_of old u)) → AreRows live (refill n (set rows v new_v) ws) × (graph_of live (refill n (set rows v new_v) ws) ≡ with_edges g v others)
@@ -173,20 +173,20 @@ gone_row : (others : NameSet) (v x y : ℕ) (old new_v : NameSet) → new_v ≡ 
 gone_row others v x y old new_v none {now} e at_v =
     elim (cases_eq x v) [
       | inl same ↦
-        let out : set.contains new_v y ≡ false = ap (λ s. set.contains s y) none ∙ contains-empty y in
-        grind (arith, nat_tests)
+          let out : set.contains new_v y ≡ false = ap (λ s. set.contains s y) none ∙ contains-empty y in
+          grind (arith, nat_tests)
       | inr other ↦ elim (cases_Bool (set.contains others x)) [
-          | inl t ↦
+        | inl t ↦
             let left : now ≡ (not (y == v) && set.contains old y) = e ∙ rw t (contains-remove old v y) in
             grind (arith, nat_tests)
-          | inr f ↦
+        | inr f ↦
             let left : now ≡ set.contains old y = e ∙ rw f refl in
             let out : set.contains old v ≡ false = sym at_v ∙ f in
             elim (cases_eq y v) [
               | inl same ↦ let gone : set.contains old y ≡ false = ap (set.contains old) same ∙ out in grind (arith, nat_tests)
               | inr apart ↦ grind (arith, nat_tests)
             ]
-        ]
+      ]
     ]
 
 pub rows_remove_vertex : {live : NameSet} {rows : List NameSet} {g : PlainGraph} → AreRows live rows → graph_of live rows ≡ g → (v : ℕ) → Member g.vertices v → (row others : NameSet) → row ≡ get_or rows v row → others ≡ row → (n : ℕ) (old ws : List NameSet) → n ≡ length rows → old ≡ rows → length ws ≡ length old → ((u : ℕ) → row_of ws u ≡ cond (set.contains others u) (set.remove (row_of old u) v) (row_of old u)) → {new_v : NameSet} → new_v ≡ set.empty → {new : NameSet} → new ≡ set.remove live v → AreRows new (set (refill n rows ws) v new_v) × (graph_of new (set (refill n rows ws) v new_v) ≡ without_vertex g v)
@@ -246,12 +246,12 @@ complement_row_is {live} {rows} {g} a e v name alive row read rest is_rest other
     let is = graph_is a e in
     let live_is = λ (q : ℕ). ap (λ h. set.contains h.vertices q) e in
     same_set others (neighbours (complement g) v) (λ q.
-      let left = ap (λ s. set.contains s q) is_others ∙ contains-remove rest v q in
-      let middle = ap (λ s. set.contains s q) is_rest ∙ contains-difference live row q in
-      let here = bit_is a e v q name row read in
-      let alive_g : set.contains g.vertices v ≡ true = sym (live_is v) ∙ alive in
-      let alive_q = live_is q in
-      left ∙ complement_bits v q _ _ _ _ middle alive_q here ∙ sym (contains-neighbours (IsGraph-complement is) v q ∙ adjacent-complement is v q ∙ rw alive_g refl))
+    let left = ap (λ s. set.contains s q) is_others ∙ contains-remove rest v q in
+    let middle = ap (λ s. set.contains s q) is_rest ∙ contains-difference live row q in
+    let here = bit_is a e v q name row read in
+    let alive_g : set.contains g.vertices v ≡ true = sym (live_is v) ∙ alive in
+    let alive_q = live_is q in
+    left ∙ complement_bits v q _ _ _ _ middle alive_q here ∙ sym (contains-neighbours (IsGraph-complement is) v q ∙ adjacent-complement is v q ∙ rw alive_g refl))
 
 -- the rows of an induced graph
 pub induced_dead : {live : NameSet} {rows : List NameSet} {g : PlainGraph} → AreRows live rows → graph_of live rows ≡ g → (s : NameSet) (v : ℕ) → set.contains s v ≡ false → {none : NameSet} → none ≡ set.empty → none ≡ neighbours (induced g s) v
@@ -261,10 +261,10 @@ induced_dead {live} {rows} {g} a e s v out {none} is_none =
 pub induced_row_is : {live : NameSet} {rows : List NameSet} {g : PlainGraph} → AreRows live rows → graph_of live rows ≡ g → (s : NameSet) (v : ℕ) → v < NAMES → set.contains s v ≡ true → (row : NameSet) → row ≡ get_or rows v row → (both : NameSet) → both ≡ set.intersection row s → both ≡ neighbours (induced g s) v
 induced_row_is {live} {rows} {g} a e s v name in_s row read both is_both =
     same_set both (neighbours (induced g s) v) (λ q.
-      ap (λ t. set.contains t q) is_both
-      ∙ contains-intersection row s q
-      ∙ ap (λ b. b && set.contains s q) (bit_is a e v q name row read)
-      ∙ sym (contains-neighbours (IsGraph-induced (graph_is a e) s) v q ∙ adjacent-induced g s v q ∙ rw in_s refl))
+    ap (λ t. set.contains t q) is_both
+    ∙ contains-intersection row s q
+    ∙ ap (λ b. b && set.contains s q) (bit_is a e v q name row read)
+    ∙ sym (contains-neighbours (IsGraph-induced (graph_is a e) s) v q ∙ adjacent-induced g s v q ∙ rw in_s refl))
 
 -- ---- the number of edges
 

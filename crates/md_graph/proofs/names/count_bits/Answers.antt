@@ -1,7 +1,5 @@
-use Rattle.std.proofs.Common.{◌∙◌, sym, ap, rules, arith, ◌+◌, ◌*◌, ◌≤◌}
-use Rattle.std.specs.FinSet as set
+use Rattle.std.proofs.Common.{sym, arith, ◌*◌}
 use Rattle.std.proofs.lemmas.Nat.{ones-le}
-use Rattle.md_graph.specs.Words.{names_below}
 use Rattle.md_graph.proofs.BitWords.{count_more, len_of_none, len-names_below-le}
 use Rattle.md_graph.proofs.names.count_bits.Goals as goal
 

@@ -1,8 +1,7 @@
 use Rattle.std.proofs.Common.{arith, rules, ◌≡◌, ◌++◌, ◌∷◌, [], ◌∙◌, ap}
-use Rattle.std.specs.FinSet as set
 use Rattle.md_graph.specs.PlainGraph.{complement}
 use Rattle.md_graph.proofs.GraphLemmas.{IsGraph-complement}
-use Rattle.md_graph.proofs.RowLemmas.{graph_is, row_is, Made-start, Made-more, Made-end}
+use Rattle.md_graph.proofs.RowLemmas.{graph_is, Made-start, Made-more, Made-end}
 use Rattle.md_graph.proofs.graph.Graph.complement.Goals as goal
 
 pub loop-v-init : goal.loop-v-init

@@ -1,5 +1,4 @@
 use Rattle.std.proofs.Common.{arith, rules, ◌≡◌, ◌++◌, ◌∷◌, [], ◌∙◌, ap}
-use Rattle.std.specs.FinSet as set
 use Rattle.md_graph.proofs.RowLemmas.{graph_is, row_is, Made-start, Made-more, Made-end}
 use Rattle.md_graph.proofs.graph.Graph.copy.Goals as goal
 

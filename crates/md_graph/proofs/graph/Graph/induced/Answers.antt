@@ -2,7 +2,7 @@ use Rattle.std.proofs.Common.{arith, rules, ◌≡◌, ◌++◌, ◌∷◌, [], 
 use Rattle.std.specs.FinSet as set
 use Rattle.md_graph.specs.PlainGraph.{induced}
 use Rattle.md_graph.proofs.GraphLemmas.{IsGraph-induced}
-use Rattle.md_graph.proofs.RowLemmas.{graph_is, row_is, Made-start, Made-more, Made-end}
+use Rattle.md_graph.proofs.RowLemmas.{graph_is, Made-start, Made-more, Made-end}
 use Rattle.md_graph.proofs.graph.Graph.induced.Goals as goal
 
 pub loop-v-init : goal.loop-v-init

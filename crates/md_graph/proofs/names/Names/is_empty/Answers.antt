@@ -1,4 +1,4 @@
-use Rattle.std.proofs.Common.{◌∙◌, sym, rules, arith}
+use Rattle.std.proofs.Common.{◌∙◌, sym, arith}
 use Rattle.md_graph.specs.declared.TheConstants.{NAMES, WORDS}
 use Rattle.md_graph.proofs.Limits.{NAMES-is}
 use Rattle.md_graph.proofs.BitWords.{empty_of_bits, bits_of_empty}
