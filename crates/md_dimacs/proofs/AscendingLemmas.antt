@@ -1,11 +1,11 @@
 -- The members of a set of names in ascending order, one after the other.
-use Rattle.std.specs.Prelude.{◌≡◌, ℕ, zero, suc, ◌+◌, ◌-◌, ◌^◌, ◌<◌, ◌≤◌, ◌⊎◌, Bool, true, false, cond, ◌&&◌, ◌==◌, nat_le, nat_lt, IsTrue, List, [], ◌∷◌, ◌++◌, length, refl}
-use Rattle.std.proofs.Common.{subst, ap, sym, ◌∙◌, arith, inl, inr, add-one, append_assoc, length-append}
-use Rattle.std.proofs.lemmas.Bool.{true≢false, cases_Bool, cases_lt, cases_eq, le-leb, lt-leb, leb-true, and_parts, false_from_ne_true}
+use Rattle.std.specs.Prelude.{◌≡◌, ℕ, zero, suc, ◌+◌, ◌^◌, ◌<◌, ◌≤◌, Bool, true, false, cond, ◌&&◌, nat_le, List, [], ◌∷◌, ◌++◌, length, refl}
+use Rattle.std.proofs.Common.{subst, ap, sym, ◌∙◌, arith, inl, inr, add-one, length-append}
+use Rattle.std.proofs.lemmas.Bool.{true≢false, cases_Bool, cases_lt, cases_eq, le-leb, lt-leb}
 use Rattle.std.proofs.lemmas.List.{append-nil}
 use Rattle.std.specs.FinSet as set
 use Rattle.md_graph.specs.declared.TheConstants.{NAMES}
-use Rattle.md_graph.specs.NameSet.{NameSet, Member, AllBelow, ascending, ascending_between}
+use Rattle.md_graph.specs.NameSet.{NameSet, Member, ascending, ascending_between}
 use Rattle.md_graph.specs.PlainGraph.{PlainGraph, IsGraph, neighbours}
 use Rattle.md_graph.proofs.GraphLemmas.{adjacent_ends, contains-neighbours}
 use Rattle.md_dimacs.specs.Text.{position}
@@ -69,6 +69,7 @@ first_by_list s low n [] v rest e t within h before =
   where
     head_is : (x : ℕ) (xs : List ℕ) (y : ℕ) (ys : List ℕ) → (x ∷ xs) ≡ (y ∷ ys) → x ≡ y
     head_is x xs y ys h = cc
+
     tail_is : (x : ℕ) (xs : List ℕ) (y : ℕ) (ys : List ℕ) → (x ∷ xs) ≡ (y ∷ ys) → ys ≡ xs
     tail_is x xs y ys h = cc
 first_by_list s low n (x ∷ xs) v rest e t within h before =
@@ -81,12 +82,13 @@ first_by_list s low n (x ∷ xs) v rest e t within h before =
       member = ap (set.contains s) (sym same) ∙ first.member;
       none_before = λ w from less. first.none_before w from (omega arith);
       others =
-        tail_is x (xs ++ n ∷ []) v rest h ∙ ap (λ l. l ++ n ∷ []) (first.others ∙ ap (λ k. ascending_between s (k + 1) n) same)
-        ∙ sym (one_more s (v + 1) n (omega arith) t);
+          tail_is x (xs ++ n ∷ []) v rest h ∙ ap (λ l. l ++ n ∷ []) (first.others ∙ ap (λ k. ascending_between s (k + 1) n) same)
+          ∙ sym (one_more s (v + 1) n (omega arith) t);
     }
   where
     head_is : (x : ℕ) (xs : List ℕ) (y : ℕ) (ys : List ℕ) → (x ∷ xs) ≡ (y ∷ ys) → x ≡ y
     head_is x xs y ys h = cc
+
     tail_is : (x : ℕ) (xs : List ℕ) (y : ℕ) (ys : List ℕ) → (x ∷ xs) ≡ (y ∷ ys) → ys ≡ xs
     tail_is x xs y ys h = cc
 
@@ -107,6 +109,7 @@ comes_first s low (suc n) v rest h =
   where
     none_left : (v : ℕ) (rest : List ℕ) → [] ≡ v ∷ rest → ⊥
     none_left v rest e = cc
+
     one_later : ComesFirst s low n v rest → set.contains s n ≡ false → ComesFirst s low (suc n) v rest
     one_later first f = record {
       from = first.from;
@@ -125,8 +128,8 @@ same_below s low (suc v) within none =
     elim (cases_eq low (suc v)) [
       | inl same ↦ ap (ascending_between s 0) (sym same)
       | inr other ↦
-        no_more s 0 v (none v (omega arith) (omega arith))
-        ∙ same_below s low v (omega arith) (λ w from b. none w from (omega arith))
+          no_more s 0 v (none v (omega arith) (omega arith))
+          ∙ same_below s low v (omega arith) (λ w from b. none w from (omega arith))
     ]
 
 pub count_le : (s : NameSet) (n : ℕ) → length (ascending_between s 0 n) ≤ n
@@ -144,11 +147,11 @@ count_up_to s m (suc n) within =
     elim (cases_eq m (suc n)) [
       | inl same ↦ let e = ap (λ k. length (ascending_between s 0 k)) same in omega arith
       | inr other ↦
-        let before = count_up_to s m n (omega arith) in
-        elim (cases_Bool (set.contains s n)) [
-          | inl t ↦ let e = ap length (one_more s 0 n (omega arith) t) ∙ length-append (ascending_between s 0 n) (n ∷ []) in omega arith
-          | inr f ↦ let e = ap length (no_more s 0 n f) in omega arith
-        ]
+          let before = count_up_to s m n (omega arith) in
+          elim (cases_Bool (set.contains s n)) [
+            | inl t ↦ let e = ap length (one_more s 0 n (omega arith) t) ∙ length-append (ascending_between s 0 n) (n ∷ []) in omega arith
+            | inr f ↦ let e = ap length (no_more s 0 n f) in omega arith
+          ]
     ]
 
 pub count_member : (s : NameSet) (v : ℕ) → Member s v → length (ascending_between s 0 (v + 1)) ≡ length (ascending_between s 0 v) + 1

@@ -1,26 +1,26 @@
 -- The first fault of a file, and the graph that it spells.
-use Rattle.std.specs.Prelude.{◌≡◌, ℕ, zero, suc, ◌+◌, ◌<◌, ◌≤◌, ◌≢◌, ◌⊎◌, Bool, true, false, cond, not, ◌&&◌, ◌||◌, ◌==◌, nat_lt, nat_le, IsTrue, List, [], ◌∷◌, ◌++◌, length, Option, Some, None, MatchOption, refl}
+use Rattle.std.specs.Prelude.{◌≡◌, ℕ, zero, suc, ◌+◌, ◌<◌, ◌≤◌, ◌≢◌, ◌⊎◌, Bool, true, false, cond, not, ◌&&◌, ◌||◌, ◌==◌, nat_lt, nat_le, List, [], ◌∷◌, ◌++◌, length, Option, Some, None, MatchOption, refl}
 use Rattle.std.specs.List.{All, list_any}
 use Rattle.std.proofs.Common.{subst, ap, sym, ◌∙◌, arith, inl, inr}
-use Rattle.std.proofs.lemmas.Bool.{true≢false, cases_Bool, and_parts, eqb-true, eqb-false, ne_eqb, leb-true, leb-false, lt-leb}
+use Rattle.std.proofs.lemmas.Bool.{true≢false, and_parts, eqb-false, ne_eqb, leb-true, leb-false, lt-leb}
 use Rattle.std.proofs.lemmas.Bool.Decides.{nat_tests}
-use Rattle.std.proofs.lemmas.List.Elements.{All-nil, All-cons, All-head, All-tail, All-append}
+use Rattle.std.proofs.lemmas.List.Elements.{All-nil, All-cons, All-head, All-tail}
 use Rattle.std.specs.FinSet as set
 use Rattle.md_graph.specs.declared.TheConstants.{NAMES}
-use Rattle.md_graph.specs.NameSet.{NameSet, Member}
-use Rattle.md_graph.specs.PlainGraph.{PlainGraph, IsGraph, adjacent, with_edge, empty_graph}
+use Rattle.md_graph.specs.NameSet.{Member}
+use Rattle.md_graph.specs.PlainGraph.{PlainGraph, IsGraph, adjacent, with_edge}
 use Rattle.md_graph.proofs.SetLaws.{contains-empty, contains-insert, same_set}
 use Rattle.md_graph.proofs.PairLaws.{pairs-empty}
-use Rattle.md_graph.proofs.GraphLemmas.{same_graph, IsGraph-with_edge, adjacent-with_edge, adjacent-empty_graph}
+use Rattle.md_graph.proofs.GraphLemmas.{same_graph, IsGraph-with_edge, adjacent-with_edge}
 use Rattle.md_text.specs.Lines.{lines}
 use Rattle.md_text.specs.Numbers.{number_of}
 use Rattle.md_dimacs.specs.declared.fault.DimacsFault.{DimacsFault}
 use Rattle.md_dimacs.specs.declared.fault.DimacsKind.{DimacsKind}
-use Rattle.md_dimacs.specs.declared.fault.DimacsKind.TheVariants.{NoProblemLine, SecondProblemLine, EdgeBeforeProblem, BadNumber, VertexOutOfRange, Loop, UnknownLine, TooManyVertices, FieldCount}
+use Rattle.md_dimacs.specs.declared.fault.DimacsKind.TheVariants.{VertexOutOfRange, Loop, UnknownLine, TooManyVertices}
 use Rattle.md_dimacs.specs.declared.line.LineClass.{LineClass}
 use Rattle.md_dimacs.specs.declared.line.LineClass.TheVariants.{Passed, Problem, Edge, Unknown}
 use Rattle.md_dimacs.specs.Line.{words, class_of_field, class_of, is_form, both, sizes_in, ends_in, sizes_by, ends_by, sizes_of, ends_of, sizes_fault, problem_fault, is_vertex, ends_fault, edge_fault, fault_by, fault_of_words, fault_of_line}
-use Rattle.md_dimacs.specs.File.{IsPassed, AreSizes, AreEnds, IsProblemLine, IsEdgeLine, IsPassedOrEdge, are_ends, joins, Spells, SpellsOnly, SpellsOne, SpellsNone, seen_after, first_number, end_fault, fault_or, fault_behind, first_fault}
+use Rattle.md_dimacs.specs.File.{IsPassed, AreSizes, AreEnds, IsProblemLine, IsPassedOrEdge, are_ends, joins, Spells, SpellsOnly, SpellsOne, SpellsNone, seen_after, first_number, fault_or, fault_behind, first_fault}
 use Rattle.md_dimacs.specs.Read.{IsBeforeProblem, IsBehindProblem, HasVertices, names_to, edgeless, with_ends, with_line, with_lines}
 
 -- ---- one line behind the problem line
@@ -312,9 +312,9 @@ contains-names_to (suc n) v =
 IsGraph-edgeless : (n : ℕ) → n < NAMES → IsGraph (edgeless n)
 IsGraph-edgeless n named = record {
   names = λ v member.
-    let inside = and_parts (nat_lt 0 v) (nat_le v n) (sym (contains-names_to n v) ∙ member) in
-    let below : v ≤ n = leb-true v n inside.1 in
-    omega arith;
+      let inside = and_parts (nat_lt 0 v) (nat_le v n) (sym (contains-names_to n v) ∙ member) in
+      let below : v ≤ n = leb-true v n inside.1 in
+      omega arith;
   ordered = λ u v h. absurd (true≢false (sym h ∙ pairs-empty u v));
   low_end = λ u v h. absurd (true≢false (sym h ∙ pairs-empty u v));
   high_end = λ u v h. absurd (true≢false (sym h ∙ pairs-empty u v));
@@ -424,9 +424,9 @@ one_size n m c d o a b =
 pub one_graph : (bytes : List ℕ) (g h : PlainGraph) → Spells bytes g → Spells bytes h → g ≡ h
 one_graph bytes g h s t =
     let split = one_split s.before t.before s.problem t.problem s.behind t.behind (sym s.whole ∙ t.whole) s.passed t.passed
-      (problem_words s.n (words s.problem) s.problem_line).1 (problem_words t.n (words t.problem) t.problem_line).1 in
+    (problem_words s.n (words s.problem) s.problem_line).1 (problem_words t.n (words t.problem) t.problem_line).1 in
     let same_n : s.n ≡ t.n = one_size s.n t.n s.problem_line.edge_count t.problem_line.edge_count (sizes_of (words s.problem)) s.problem_line.numbers
-      (ap (λ line. sizes_of (words line)) split.0 ∙ t.problem_line.numbers) in
+    (ap (λ line. sizes_of (words line)) split.0 ∙ t.problem_line.numbers) in
     same_graph s.graph t.graph
     (same_set g.vertices h.vertices (λ v. s.vertices v ∙ ap (λ n. is_vertex n v) same_n ∙ sym (t.vertices v)))
     (λ u v. s.edges u v ∙ ap (list_any (joins u v)) split.1 ∙ sym (t.edges u v))

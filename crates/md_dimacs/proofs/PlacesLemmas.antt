@@ -1,10 +1,9 @@
 -- The places of vertices as pieces, one index after the other.
-use Rattle.std.specs.Prelude.{◌≡◌, ℕ, ◌+◌, ◌-◌, ◌<◌, ◌≤◌, ◌⊎◌, Bool, true, false, List, [], ◌∷◌, ◌++◌, length, take, replicate, get_or, refl}
-use Rattle.std.proofs.Common.{subst, ap, sym, ◌∙◌, arith, inl, inr, length-append}
+use Rattle.std.specs.Prelude.{◌≡◌, ℕ, ◌+◌, ◌-◌, ◌<◌, ◌≤◌, List, [], ◌∷◌, ◌++◌, length, replicate, get_or}
+use Rattle.std.proofs.Common.{ap, sym, ◌∙◌, arith, inl, inr, length-append}
 use Rattle.std.proofs.lemmas.Bool.{true≢false, cases_lt, cases_eq}
 use Rattle.std.proofs.Math.Seq.{get_or-append_right}
 use Rattle.std.proofs.lemmas.List.{get_or_append_left, get_or-replicate, length-replicate}
-use Rattle.std.specs.FinSet as set
 use Rattle.md_graph.specs.NameSet.{Member}
 use Rattle.md_graph.specs.PlainGraph.{PlainGraph}
 use Rattle.md_text.specs.Numbers.{decimal}
@@ -27,20 +26,20 @@ pub spelled_more : (g : PlainGraph) (old new : List Piece) (k low place v : ℕ)
 spelled_more g old new k low place v rest piece up is_low made count text before w m below =
     elim (cases_lt w low) [
       | inl under ↦
-        let place_of = before w m under in
-        record {
-          there = omega arith;
-          text = λ other. ap (λ l. text_of (get_or l w other)) made ∙ ap text_of (get_or_append_left old (replicate k piece) other w place_of.there) ∙ place_of.text other;
-        }
-      | inr above ↦ elim (cases_eq w v) [
-        | inl same ↦
-          let count_made = sym (ap length made) ∙ count in
+          let place_of = before w m under in
           record {
             there = omega arith;
-            text = λ other.
-              ap (λ l. text_of (get_or l w other)) made ∙ ap text_of (new_piece old k w piece other (omega arith) (omega arith)) ∙ text
-              ∙ ap (λ p. decimal p ++ 10 ∷ []) (position_is g v place up.placed ∙ ap (position g) (sym same));
+            text = λ other. ap (λ l. text_of (get_or l w other)) made ∙ ap text_of (get_or_append_left old (replicate k piece) other w place_of.there) ∙ place_of.text other;
           }
+      | inr above ↦ elim (cases_eq w v) [
+        | inl same ↦
+            let count_made = sym (ap length made) ∙ count in
+            record {
+              there = omega arith;
+              text = λ other.
+                  ap (λ l. text_of (get_or l w other)) made ∙ ap text_of (new_piece old k w piece other (omega arith) (omega arith)) ∙ text
+                  ∙ ap (λ p. decimal p ++ 10 ∷ []) (position_is g v place up.placed ∙ ap (position g) (sym same));
+            }
         | inr other ↦ absurd (true≢false (sym m ∙ up.none_before w above (omega arith)))
       ]
     ]

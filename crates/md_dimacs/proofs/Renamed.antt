@@ -1,5 +1,5 @@
 -- The graph that the text spells is the graph with each vertex named by its place.
-use Rattle.std.specs.Prelude.{◌≡◌, ℕ, zero, suc, ◌+◌, ◌<◌, ◌≤◌, ◌⊎◌, Bool, true, false, ◌&&◌, ◌||◌, ◌==◌, List, [], ◌∷◌, ◌++◌, map, Some, refl}
+use Rattle.std.specs.Prelude.{◌≡◌, ℕ, zero, suc, ◌+◌, ◌<◌, ◌≤◌, ◌⊎◌, Bool, true, false, ◌||◌, List, [], ◌∷◌, ◌++◌, map, Some, refl}
 use Rattle.std.specs.List.{All, list_any, flat_map}
 use Rattle.std.specs.Cmp.{both_ways}
 use Rattle.std.proofs.Common.{ap, sym, ◌∙◌, arith, inl, inr}
@@ -11,8 +11,7 @@ use Rattle.md_graph.specs.declared.TheConstants.{NAMES}
 use Rattle.md_graph.specs.NameSet.{NameSet, Member, ascending, ascending_from, ascending_between}
 use Rattle.md_graph.specs.PlainGraph.{PlainGraph, IsGraph, adjacent, neighbours}
 use Rattle.md_graph.proofs.GraphLemmas.{adjacent_sym, adjacent_ends, contains-neighbours}
-use Rattle.md_dimacs.specs.Line.{words, ends_of}
-use Rattle.md_dimacs.specs.File.{are_ends, joins, Spells}
+use Rattle.md_dimacs.specs.File.{are_ends, joins}
 use Rattle.md_dimacs.specs.Text.{position, edges_above, edge_places, edge_line, dimacs_text, IsRenamed}
 use Rattle.md_dimacs.specs.Laws.{SpellsRenamed}
 use Rattle.md_dimacs.proofs.FileLemmas.{vertices_read, edges_read, spelled_only, spelled_has_no_fault}
@@ -30,9 +29,9 @@ pub record Passing (s : NameSet) (low n : ℕ) (p : ℕ → Bool) : Type 0 where
 
 one_of_more : (p : ℕ → Bool) (xs : List ℕ) (x : ℕ) → list_any p (xs ++ x ∷ []) ≡ true → (list_any p xs ≡ true) ⊎ (p x ≡ true)
 one_of_more p xs x h = elim (or_cases (list_any p xs) (p x || false) (sym (list_any-append p xs (x ∷ [])) ∙ h)) [
-    | inl before ↦ inl before
-    | inr last ↦ elim (or_cases (p x) false last) [ inl here ↦ inr here | inr none ↦ absurd (cc) ]
-  ]
+  | inl before ↦ inl before
+  | inr last ↦ elim (or_cases (p x) false last) [ inl here ↦ inr here | inr none ↦ absurd (cc) ]
+]
 
 any_from : (p : ℕ → Bool) (s : NameSet) (low n : ℕ) → list_any p (ascending_between s low n) ≡ true → Passing s low n p
 any_from p s low zero h = absurd (let none = ap (list_any p) (below_low s low 0 (omega arith)) in true≢false (sym h ∙ none))
@@ -57,14 +56,14 @@ any_to p s low zero w from below m passes = absurd (omega arith)
 any_to p s low (suc n) w from below m passes =
     elim (cases_eq w n) [
       | inl same ↦
-        ap (list_any p) (one_more s low n (omega arith) (sym (ap (set.contains s) same) ∙ m))
-        ∙ any_push p (ascending_between s low n) n (inr (sym (ap p same) ∙ passes))
+          ap (list_any p) (one_more s low n (omega arith) (sym (ap (set.contains s) same) ∙ m))
+          ∙ any_push p (ascending_between s low n) n (inr (sym (ap p same) ∙ passes))
       | inr other ↦
-        let before = any_to p s low n w from (omega arith) m passes in
-        elim (cases_Bool (set.contains s n)) [
-          | inl t ↦ ap (list_any p) (one_more s low n (omega arith) t) ∙ any_push p (ascending_between s low n) n (inl before)
-          | inr f ↦ ap (list_any p) (no_more s low n f) ∙ before
-        ]
+          let before = any_to p s low n w from (omega arith) m passes in
+          elim (cases_Bool (set.contains s n)) [
+            | inl t ↦ ap (list_any p) (one_more s low n (omega arith) t) ∙ any_push p (ascending_between s low n) n (inl before)
+            | inr f ↦ ap (list_any p) (no_more s low n f) ∙ before
+          ]
     ]
 
 any_map : {X Y : Type 0} (p : Y → Bool) (f : X → Y) (xs : List X) → list_any p (map f xs) ≡ list_any (λ x. p (f x)) xs
@@ -107,13 +106,13 @@ rows_join g a b =
 ends_are : (g : PlainGraph) (u v x y : ℕ) → Member g.vertices u → Member g.vertices v → Member g.vertices x → Member g.vertices y
     → at_places (position g u) (position g v) (position g x, position g y) ≡ true → ((u ≡ x) × (v ≡ y)) ⊎ ((u ≡ y) × (v ≡ x))
 ends_are g u v x y mu mv mx my h = elim (or_cases _ _ h) [
-    | inl straight ↦
+  | inl straight ↦
       let parts = and_parts _ _ straight in
       inl (position_same g u x mu mx (eqb-true _ _ parts.0), position_same g v y mv my (eqb-true _ _ parts.1))
-    | inr turned ↦
+  | inr turned ↦
       let parts = and_parts _ _ turned in
       inr (position_same g u y mu my (eqb-true _ _ parts.0), position_same g v x mv mx (eqb-true _ _ parts.1))
-  ]
+]
 
 found_edge : (g : PlainGraph) → IsGraph g → (u v : ℕ) → Member g.vertices u → Member g.vertices v
     → list_any (in_row g (position g u) (position g v)) (ascending g.vertices) ≡ true → adjacent g u v ≡ true
@@ -157,8 +156,8 @@ is_renamed g is small =
     record {
       vertices = vertices_read (set.len g.vertices) (map edge_line (edge_places g));
       edges = λ u v mu mv.
-        edges_read (set.len g.vertices) (map edge_line (edge_places g)) (position g u) (position g v) ∙ lines_join g is small (position g u) (position g v) ∙ rows_join g (position g u) (position g v)
-        ∙ both_ways _ _ (found_edge g is u v mu mv) (edge_found g is u v);
+          edges_read (set.len g.vertices) (map edge_line (edge_places g)) (position g u) (position g v) ∙ lines_join g is small (position g u) (position g v) ∙ rows_join g (position g u) (position g v)
+          ∙ both_ways _ _ (found_edge g is u v mu mv) (edge_found g is u v);
       graph = spelled.graph;
     }
 

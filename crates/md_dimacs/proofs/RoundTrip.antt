@@ -1,32 +1,29 @@
 -- The text of a graph is read as the graph with each vertex named by its place.
-use Rattle.std.specs.Prelude.{◌≡◌, ◌≢◌, ℕ, zero, suc, ◌+◌, ◌-◌, ◌*◌, ◌^◌, ◌<◌, ◌≤◌, ◌⊎◌, Bool, true, false, cond, not, ◌&&◌, ◌||◌, ◌==◌, nat_lt, nat_le, List, [], ◌∷◌, ◌++◌, length, map, Option, Some, None, codes, sum_by, refl}
-use Rattle.std.specs.List.{All, list_any, flat_map, join_with_byte}
-use Rattle.std.specs.Cmp.{both_ways}
-use Rattle.std.proofs.Common.{subst, ap, sym, ◌∙◌, arith, inl, inr, lit<, add-one, length-append}
-use Rattle.std.proofs.lemmas.Bool.{true≢false, cases_Bool, cases_lt, cases_eq, cases_order, and_parts, and_from, or_cases, or_left, or_right, eqb-true, eqb-false, eq-eqb, ne_eqb, not-true, lt-ltb, le-leb, ltb-true, false_from_ne_true}
+use Rattle.std.specs.Prelude.{◌≡◌, ◌≢◌, ℕ, zero, suc, ◌+◌, ◌*◌, ◌^◌, ◌<◌, ◌≤◌, Bool, true, false, cond, not, ◌&&◌, ◌||◌, ◌==◌, nat_lt, nat_le, List, [], ◌∷◌, ◌++◌, length, map, Some, codes, refl}
+use Rattle.std.specs.List.{All, flat_map, join_with_byte}
+use Rattle.std.proofs.Common.{subst, ap, sym, ◌∙◌, arith, inl, inr, lit<, length-append}
+use Rattle.std.proofs.lemmas.Bool.{true≢false, cases_Bool, cases_lt, cases_eq, cases_order, and_parts, and_from, eqb-false, eq-eqb, ne_eqb, not-true, lt-ltb, le-leb, false_from_ne_true}
 use Rattle.std.proofs.lemmas.Bool.Decides.{nat_tests}
 use Rattle.std.proofs.lemmas.List.Elements.{All-nil, All-cons, All-head, All-tail, All-append, All-push, All-map, All-weaker}
-use Rattle.std.proofs.lemmas.List.Folds.{list_any-append}
 use Rattle.std.specs.FinSet as set
 use Rattle.md_graph.specs.declared.TheConstants.{NAMES}
 use Rattle.md_graph.specs.NameSet.{NameSet, Member, AllBelow, ascending, ascending_from, ascending_between}
-use Rattle.md_graph.specs.PlainGraph.{PlainGraph, PairSet, IsGraph, adjacent, neighbours, pairs_where}
+use Rattle.md_graph.specs.PlainGraph.{PlainGraph, IsGraph, adjacent, neighbours, pairs_where}
 use Rattle.md_graph.proofs.SetLaws.{contains-empty, contains-insert, contains-remove, len-empty, len-insert, same_set}
 use Rattle.md_graph.proofs.PairLaws.{same_pairs}
 use Rattle.md_graph.proofs.GraphLemmas.{adjacent_sym, adjacent_ends, adjacent_self, contains-edges, contains-neighbours, contains-pairs_where}
 use Rattle.md_graph.proofs.Counting.{rows_twice, rows_le}
-use Rattle.md_text.specs.Lines.{lines, ended, LacksFeed, without_return}
+use Rattle.md_text.specs.Lines.{lines, LacksFeed, without_return}
 use Rattle.md_text.specs.Fields.{fields, is_blank, IsWord}
 use Rattle.md_text.specs.Numbers.{decimal, number_of}
 use Rattle.md_text.proofs.LineLemmas.{lines-ended, without_return-stays}
 use Rattle.md_text.proofs.FieldLemmas.{fields-joined}
 use Rattle.md_text.proofs.NumberLemmas.{number_of-decimal, decimal_is_word, decimal_is_digits}
-use Rattle.md_dimacs.specs.Line.{words, class_of_field, is_form, both, sizes_in, ends_in, sizes_of, ends_of, is_vertex}
-use Rattle.md_dimacs.specs.File.{AreSizes, AreEnds, IsPassed, IsPassedOrEdge, are_ends, joins, Spells, SpellsOnly}
+use Rattle.md_dimacs.specs.Line.{words, class_of_field, is_form, both, sizes_in, ends_in, sizes_of, ends_of}
+use Rattle.md_dimacs.specs.File.{AreSizes, IsPassed, IsPassedOrEdge, Spells}
 use Rattle.md_dimacs.specs.Read.{edgeless, with_lines}
-use Rattle.md_dimacs.specs.Text.{position, edges_above, edge_places, edge_line, problem_line, dimacs_text, IsRenamed}
-use Rattle.md_dimacs.specs.Laws.{SpellsRenamed}
-use Rattle.md_dimacs.proofs.FileLemmas.{spelled_by_parts, spelled_only, spelled_has_no_fault}
+use Rattle.md_dimacs.specs.Text.{position, edges_above, edge_places, edge_line, problem_line, dimacs_text}
+use Rattle.md_dimacs.proofs.FileLemmas.{spelled_by_parts}
 use Rattle.md_dimacs.proofs.AscendingLemmas.{one_more, no_more, below_low, count_member, count_up_to}
 
 -- ---- how many vertices and edges there are
@@ -42,11 +39,11 @@ ascending_agree s t (suc n) same =
 -- a set is what is left without n, and n
 with_last : (s : NameSet) (n : ℕ) → set.contains s n ≡ true → s ≡ set.insert (set.remove s n) n
 with_last s n t = same_set s (set.insert (set.remove s n) n) (λ q.
-  sym (contains-insert (set.remove s n) n q ∙ ap (λ b. (q == n) || b) (contains-remove s n q)
-  ∙ elim (cases_eq q n) [
-    | inl same ↦ ap (λ b. b || (not b && set.contains s q)) (eq-eqb q n same) ∙ sym (ap (set.contains s) same ∙ t)
-    | inr other ↦ ap (λ b. b || (not b && set.contains s q)) (ne_eqb q n other)
-  ]))
+    sym (contains-insert (set.remove s n) n q ∙ ap (λ b. (q == n) || b) (contains-remove s n q)
+    ∙ elim (cases_eq q n) [
+      | inl same ↦ ap (λ b. b || (not b && set.contains s q)) (eq-eqb q n same) ∙ sym (ap (set.contains s) same ∙ t)
+      | inr other ↦ ap (λ b. b || (not b && set.contains s q)) (ne_eqb q n other)
+    ]))
 
 len-ascending : (n : ℕ) (s : NameSet) → AllBelow s n → set.len s ≡ length (ascending_between s 0 n)
 len-ascending zero s below =
@@ -55,20 +52,20 @@ len-ascending zero s below =
 len-ascending (suc n) s below =
     elim (cases_Bool (set.contains s n)) [
       | inl t ↦
-        let rest = set.remove s n in
-        let gone : set.contains rest n ≡ false = contains-remove s n n ∙ ap (λ b. not b && set.contains s n) (eq-eqb n n refl) in
-        let before = len-ascending n rest (λ w m.
+          let rest = set.remove s n in
+          let gone : set.contains rest n ≡ false = contains-remove s n n ∙ ap (λ b. not b && set.contains s n) (eq-eqb n n refl) in
+          let before = len-ascending n rest (λ w m.
           let parts = and_parts _ _ (sym (contains-remove s n w) ∙ m) in
           let other = eqb-false w n (not-true _ parts.0) in
           let b = below w parts.1 in
           below_other w n b other) in
-        let same = ascending_agree rest s n (λ w b. contains-remove s n w ∙ ap (λ b. not b && set.contains s w) (ne_eqb w n (λ e. omega arith))) in
-        ap set.len (with_last s n t) ∙ len-insert rest n ∙ ap (λ b. cond b (set.len rest) (set.len rest + 1)) gone
-        ∙ ap (λ k. k + 1) (before ∙ ap length same)
-        ∙ sym (ap length (one_more s 0 n (omega arith) t) ∙ length-append (ascending_between s 0 n) (n ∷ []))
+          let same = ascending_agree rest s n (λ w b. contains-remove s n w ∙ ap (λ b. not b && set.contains s w) (ne_eqb w n (λ e. omega arith))) in
+          ap set.len (with_last s n t) ∙ len-insert rest n ∙ ap (λ b. cond b (set.len rest) (set.len rest + 1)) gone
+          ∙ ap (λ k. k + 1) (before ∙ ap length same)
+          ∙ sym (ap length (one_more s 0 n (omega arith) t) ∙ length-append (ascending_between s 0 n) (n ∷ []))
       | inr f ↦
-        len-ascending n s (λ w m. let b = below w m in below_other w n b (λ e. true≢false (sym m ∙ ap (set.contains s) e ∙ f)))
-        ∙ ap length (sym (no_more s 0 n f))
+          len-ascending n s (λ w m. let b = below w m in below_other w n b (λ e. true≢false (sym m ∙ ap (set.contains s) e ∙ f)))
+          ∙ ap length (sym (no_more s 0 n f))
     ]
   where
     below_other : (w n : ℕ) → w < suc n → (w ≡ n → ⊥) → w < n
@@ -80,7 +77,7 @@ names_product = lit< tt
 
 edges_are_pairs : (g : PlainGraph) → IsGraph g → g.edges ≡ pairs_where (λ u v. set.contains (neighbours g v) u) NAMES
 edges_are_pairs g is = same_pairs g.edges (pairs_where (λ u v. set.contains (neighbours g v) u) NAMES) (λ u v.
-  contains-edges is u v ∙ by_test u v (adjacent g u v) refl ∙ sym (contains-pairs_where (λ u v. set.contains (neighbours g v) u) NAMES u v))
+    contains-edges is u v ∙ by_test u v (adjacent g u v) refl ∙ sym (contains-pairs_where (λ u v. set.contains (neighbours g v) u) NAMES u v))
   where
     by_test : (u v : ℕ) (b : Bool) → adjacent g u v ≡ b → (nat_lt u v && adjacent g u v) ≡ ((nat_lt u v && nat_lt v NAMES) && set.contains (neighbours g v) u)
     by_test u v true e =
@@ -196,8 +193,8 @@ word_edge : IsWord (codes "edge")
 word_edge = record {
   some_byte = omega arith;
   no_blank =
-    All-cons IsNoBlank 101 (100 ∷ 103 ∷ 101 ∷ []) refl (All-cons IsNoBlank 100 (103 ∷ 101 ∷ []) refl
-    (All-cons IsNoBlank 103 (101 ∷ []) refl (All-cons IsNoBlank 101 [] refl (All-nil IsNoBlank))));
+      All-cons IsNoBlank 101 (100 ∷ 103 ∷ 101 ∷ []) refl (All-cons IsNoBlank 100 (103 ∷ 101 ∷ []) refl
+      (All-cons IsNoBlank 103 (101 ∷ []) refl (All-cons IsNoBlank 101 [] refl (All-nil IsNoBlank))));
 }
 
 words-edge_line : (p : ℕ × ℕ) → words (edge_line p) ≡ codes "e" ∷ decimal p.0 ∷ decimal p.1 ∷ []
@@ -297,13 +294,13 @@ unfolding edges_above
 places_of_row g is v lv =
     All-map (ArePlaces (set.len g.vertices)) (λ w. (position g v, position g w)) (ascending_from (neighbours g v) (v + 1))
     (All-weaker (Listed (neighbours g v) (v + 1) NAMES) (λ w. ArePlaces (set.len g.vertices) (position g v, position g w)) (λ w lw.
-      let mw = (adjacent_ends is v w (sym (contains-neighbours is v w) ∙ lw.member)).1 in
-      let from = lw.from in
-      record {
-        low = position_first g v;
-        up = position_up g v w (omega arith) lv.member;
-        last = position_last g w is mw;
-      }) (ascending_from (neighbours g v) (v + 1)) (all_listed (neighbours g v) (v + 1) NAMES))
+    let mw = (adjacent_ends is v w (sym (contains-neighbours is v w) ∙ lw.member)).1 in
+    let from = lw.from in
+    record {
+      low = position_first g v;
+      up = position_up g v w (omega arith) lv.member;
+      last = position_last g w is mw;
+    }) (ascending_from (neighbours g v) (v + 1)) (all_listed (neighbours g v) (v + 1) NAMES))
 
 pub all_places : (g : PlainGraph) → IsGraph g → All (ArePlaces (set.len g.vertices)) (edge_places g)
 unfolding edge_places

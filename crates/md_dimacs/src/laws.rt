@@ -6,12 +6,10 @@ ghost use Rattle.md_dimacs.specs.Laws.{SpelledOrFaulty, SpelledHasNoFault, TextI
 pub fn files_are_spelled_or_faulty()
     ensures either { SpelledOrFaulty }
     ensures spelled { SpelledHasNoFault }
-{
-}
+{}
 
 /// The text that is written for a graph with fewer vertices than names is read as that graph, its vertices
 /// named by their places from 1 on.
 pub fn written_text_is_read()
     ensures { TextIsRead }
-{
-}
+{}

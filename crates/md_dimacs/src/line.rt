@@ -1,18 +1,38 @@
 //! One line of a DIMACS edge file.
 ghost use Rattle.std.specs.Prelude.{
-    ◌≡◌, ◌≢◌, ◌<◌, ◌∷◌, [], length, None, Some, IfSome, IfNone, IfOk, IfErr, OnOk, IsTrue,
+  ◌≡◌,
+  ◌≢◌,
+  ◌<◌,
+  ◌∷◌,
+  [],
+  length,
+  None,
+  Some,
+  IfSome,
+  IfNone,
+  IfOk,
+  IfErr,
+  OnOk,
+  IsTrue,
 };
 ghost use Rattle.md_text.specs.Fields.{fields};
 ghost use Rattle.md_dimacs.specs.Line.{
-    class_of_field, is_form, both, sizes_in, ends_in, is_vertex, sizes_fault, problem_fault, ends_fault,
-    edge_fault,
+  class_of_field,
+  is_form,
+  both,
+  sizes_in,
+  ends_in,
+  is_vertex,
+  sizes_fault,
+  problem_fault,
+  ends_fault,
+  edge_fault,
 };
 ghost use Rattle.md_dimacs.specs.File.{AreSizes};
 
+use crate::DimacsKind;
 use md_graph::NAMES;
 use md_text::{number, split_field};
-
-use crate::DimacsKind;
 
 /// The class of a line, by its first field.
 #[derive(Clone, Copy)]

@@ -1,7 +1,6 @@
 //! Short texts that are copied whole, eight bytes at a time.
 ghost use Rattle.std.specs.Prelude.{◌≤◌};
 
-
 /// A text of at most eight bytes: the first `used` of `bytes`.
 #[derive(Clone, Copy)]
 pub(crate) struct Piece {

@@ -1,6 +1,19 @@
 //! Reads a DIMACS edge file.
 ghost use Rattle.std.specs.Prelude.{
-    ◌≡◌, ◌≢◌, ◌<◌, ◌≤◌, ◌+◌, ◌^◌, length, None, Some, MatchOption, IfOk, IfErr, OnOk, OnErr,
+  ◌≡◌,
+  ◌≢◌,
+  ◌<◌,
+  ◌≤◌,
+  ◌+◌,
+  ◌^◌,
+  length,
+  None,
+  Some,
+  MatchOption,
+  IfOk,
+  IfErr,
+  OnOk,
+  OnErr,
 };
 ghost use Rattle.md_graph.specs.PlainGraph.{empty_graph, with_edge};
 ghost use Rattle.md_graph.specs.NameSet.{Member};
@@ -11,11 +24,10 @@ ghost use Rattle.md_dimacs.specs.Line.{class_of, sizes_of, ends_of, fault_of_wor
 ghost use Rattle.md_dimacs.specs.File.{Spells, AreSizes, fault_behind, first_fault};
 ghost use Rattle.md_dimacs.specs.Read.{IsBehindProblem, HasVertices, edgeless, with_ends, with_lines};
 
-use md_graph::{Graph, NAMES};
-use md_text::{split_field, split_line, without_return};
-
 use crate::line::{LineClass, class_of, read_ends, read_problem};
 use crate::{DimacsFault, DimacsKind};
+use md_graph::{Graph, NAMES};
+use md_text::{split_field, split_line, without_return};
 
 /// Reads the graph that the bytes of a DIMACS edge file spell: the vertices 1 to N of its problem line, and
 /// the edges of its edge lines, each once. It takes no memory. Condition: the graph has no vertices.
@@ -68,10 +80,8 @@ fn find_problem(bytes: &[u8]) -> Result<(u32, u64, &[u8]), DimacsFault>
 // read past.
 #[tactic(auto, unfolding(crate::specs::Line::edge_fault))]
 fn read_first(line: &[u8]) -> Result<Option<u32>, DimacsKind>
-    ensures read {
-        IfOk result (λ size. MatchOption size (class_of (fields line.now) ≡ Passed)
-            (λ n. AreSizes n (sizes_of (fields line.now))))
-    }
+    ensures read { IfOk result (λ size. MatchOption size (class_of (fields line.now) ≡ Passed)
+        (λ n. AreSizes n (sizes_of (fields line.now)))) }
     ensures fault { IfErr result (λ kind. fault_of_words None (fields line.now) ≡ Some kind) }
 {
     let Some((first, rest)) = split_field(line) else {

@@ -1,16 +1,24 @@
 //! Files with the graphs that they spell or their faults, and graphs with their texts. A copy of a line is in
 //! both directions where colouring files have it so; the last file is the Mycielski graph on 11 vertices.
+use super::*;
+use DimacsKind::*;
 use md_graph::{Graph, Memory};
 use std::alloc::Global;
 use std::process::Abort;
 use std::test::Fail;
 
-use super::*;
-use DimacsKind::*;
-
-fn check_fault(rt: &impl Abort, alloc: Global, file: &str, kind: DimacsKind, line: u64) -> Result<(), Memory> {
+fn check_fault(
+    rt: &impl Abort,
+    alloc: Global,
+    file: &str,
+    kind: DimacsKind,
+    line: u64,
+) -> Result<(), Memory> {
     let mut graph = Graph::new(alloc)?;
-    assert_eq!(rt; read(file.as_bytes(), &mut graph), Err(DimacsFault { kind, line }));
+    assert_eq!(rt;
+        read(file.as_bytes(), &mut graph),
+        Err(DimacsFault { kind, line })
+    );
     assert_eq!(rt; graph.count(), 0);
     Ok(())
 }
@@ -41,12 +49,16 @@ fn files(rt: HostRuntime) -> Result<(), Fail> {
     ] {
         check_fault(&rt, rt.alloc(), file, kind, line)?;
     }
-    let mycielski = "p edge 11 20\ne 1 2\ne 1 4\ne 1 7\ne 1 9\ne 2 3\ne 2 6\ne 2 8\ne 3 5\ne 3 7\ne 3 10\ne 4 5\ne 4 6\ne 4 10\ne 5 8\ne 5 9\ne 6 11\ne 7 11\ne 8 11\ne 9 11\ne 10 11\n";
+    let mycielski =
+        "p edge 11 20\ne 1 2\ne 1 4\ne 1 7\ne 1 9\ne 2 3\ne 2 6\ne 2 8\ne 3 5\ne 3 7\ne 3 10\ne 4 5\ne 4 6\ne 4 10\ne 5 8\ne 5 9\ne 6 11\ne 7 11\ne 8 11\ne 9 11\ne 10 11\n";
     for (file, text) in [
         ("p edge 0 0\n", "p edge 0 0\n"),
         ("p edge 3 999999999999999999\n", "p edge 3 0\n"),
         ("p edge 3 2\ne 1 2\ne 2 3\n", "p edge 3 2\ne 1 2\ne 2 3\n"),
-        ("c queen part\np col 3 4\ne 1 2\ne 2 1\ne 2 3\ne 3 2\n", "p edge 3 2\ne 1 2\ne 2 3\n"),
+        (
+            "c queen part\np col 3 4\ne 1 2\ne 2 1\ne 2 3\ne 3 2\n",
+            "p edge 3 2\ne 1 2\ne 2 3\n",
+        ),
         (mycielski, mycielski),
     ] {
         check_text(&rt, rt.alloc(), file, text)?;

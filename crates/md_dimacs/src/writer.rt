@@ -1,19 +1,31 @@
 //! Writes a DIMACS edge file.
 ghost use Rattle.std.specs.Prelude.{
-    ◌≡◌, ℕ, ◌+◌, ◌^◌, ◌<◌, ◌≤◌, [], ◌∷◌, ◌++◌, length, take, replicate, vec_len, IfOk, OnOk,
+  ◌≡◌,
+  ℕ,
+  ◌+◌,
+  ◌^◌,
+  ◌<◌,
+  ◌≤◌,
+  [],
+  ◌∷◌,
+  ◌++◌,
+  length,
+  take,
+  replicate,
+  vec_len,
+  IfOk,
+  OnOk,
 };
 ghost use Rattle.md_graph.specs.NameSet.{Member};
 ghost use Rattle.md_text.specs.Numbers.{decimal};
 ghost use Rattle.md_dimacs.specs.Text.{dimacs_text, position, problem_line};
 ghost use Rattle.md_dimacs.specs.Places.{text_of, ArePlaces, line_start, row_text, edges_text};
 
-use std::alloc::Global;
-
-use md_graph::{Graph, Memory, NAMES};
-use md_text::push_decimal;
-
 use crate::piece::Piece;
 use crate::spelling::{number_piece, start_piece};
+use md_graph::{Graph, Memory, NAMES};
+use md_text::push_decimal;
+use std::alloc::Global;
 
 // How many bytes of lines are gathered before they are appended to the text.
 const CHUNK: usize = 1024;
@@ -114,17 +126,23 @@ fn write_edges(graph: &Graph, places: &[Piece], text: &mut Vec<u8>) -> Result<()
 
 // Writes the lines of the edges of v to the vertices above it behind the first `at` bytes of the chunk, and
 // says how many are then gathered there; a full chunk goes to the text.
-fn write_row(graph: &Graph, v: u32, start: Piece, places: &[Piece], chunk: &mut [u8], at: usize, text: &mut Vec<u8>) -> Result<usize, Memory>
+fn write_row(
+    graph: &Graph,
+    v: u32,
+    start: Piece,
+    places: &[Piece],
+    chunk: &mut [u8],
+    at: usize,
+    text: &mut Vec<u8>,
+) -> Result<usize, Memory>
     requires name { v < NAMES }
     requires start { text_of start ≡ line_start graph.now v }
     requires places { ArePlaces graph.now places.now }
     requires chunk { length chunk.old ≡ CHUNK }
     requires at { at ≤ CHUNK }
     ensures within { IfOk result (λ after. after ≤ CHUNK) }
-    ensures written {
-        IfOk result (λ after. text.new.items ++ take after chunk.new
-            ≡ (text.old.items ++ take at chunk.old) ++ row_text graph.now v)
-    }
+    ensures written { IfOk result (λ after. text.new.items ++ take after chunk.new
+        ≡ (text.old.items ++ take at chunk.old) ++ row_text graph.now v) }
 {
     let mut at = at;
     for w in graph.row(v).members_from(v + 1) {
@@ -140,9 +158,7 @@ fn make_room(chunk: &[u8], at: usize, text: &mut Vec<u8>) -> Result<usize, Memor
     requires chunk { length chunk.now ≡ CHUNK }
     requires at { at ≤ CHUNK }
     ensures room { IfOk result (λ after. after + 16 ≤ CHUNK) }
-    ensures same {
-        IfOk result (λ after. text.new.items ++ take after chunk.now ≡ text.old.items ++ take at chunk.now)
-    }
+    ensures same { IfOk result (λ after. text.new.items ++ take after chunk.now ≡ text.old.items ++ take at chunk.now) }
 {
     if at + 16 <= CHUNK {
         return Ok(at);

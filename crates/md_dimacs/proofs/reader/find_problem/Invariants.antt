@@ -6,7 +6,7 @@ use Rattle.md_dimacs.proofs.reader.find_problem.Given as goal
 abbrev pub invariant-loop-rest : goal.invariant-loop-rest
 invariant-loop-rest l = record {
   before : IsBeforeProblem (lines l.fn.bytes) l.count (lines l.rest);
-  room : l.count + length l.rest ≤ length l.fn.bytes
+  room : l.count + length l.rest ≤ length l.fn.bytes;
 }
 
 abbrev pub decreases-loop-rest : goal.decreases-loop-rest

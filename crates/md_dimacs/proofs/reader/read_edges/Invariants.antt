@@ -9,7 +9,7 @@ invariant-loop-rest l = record {
   vertices : HasVertices l.n l.graph;
   room : l.count + length l.rest ≤ l.fn.count + length l.fn.bytes;
   added : with_lines l.fn.graph (lines l.fn.bytes) ≡ with_lines l.graph (lines l.rest);
-  fault : fault_behind (Some l.n) l.fn.count (lines l.fn.bytes) ≡ fault_behind (Some l.n) l.count (lines l.rest)
+  fault : fault_behind (Some l.n) l.fn.count (lines l.fn.bytes) ≡ fault_behind (Some l.n) l.count (lines l.rest);
 }
 
 abbrev pub decreases-loop-rest : goal.decreases-loop-rest

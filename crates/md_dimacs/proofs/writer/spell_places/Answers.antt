@@ -1,6 +1,6 @@
 use Rattle.std.proofs.Common.{arith, ap, sym, ◌∙◌, ◌+◌, vec_len}
 use Rattle.md_graph.specs.NameSet.{ascending}
-use Rattle.md_dimacs.proofs.AscendingLemmas.{NextUp, coming_at_start, coming_at, next_up, none_left, place_small}
+use Rattle.md_dimacs.proofs.AscendingLemmas.{coming_at_start, coming_at, next_up, none_left, place_small}
 use Rattle.md_dimacs.proofs.PlacesLemmas.{spelled_more}
 use Rattle.md_dimacs.proofs.writer.spell_places.Goals as goal
 
@@ -30,8 +30,8 @@ loop-v-preserved c =
     record {
       coming = coming_at c.args.graph.now.vertices (c.in-Some.v + 1) (vec_len c.fill_up.new.places) (c.loop-v.place + 1) _ c.in_ok-fill_up.ensures.count up.after;
       spelled = λ w m below.
-        spelled_more c.args.graph.now c.loop-v.places.items c.fill_up.new.places.items c.in_ok-fill_up.ensures.items.0 (vec_len c.loop-v.places) c.loop-v.place c.in-Some.v _ c.number_piece.result up c.loop-v.places.ok.0 c.in_ok-fill_up.ensures.items.1 (sym c.fill_up.new.places.ok.0 ∙ c.in_ok-fill_up.ensures.count)
-        c.number_piece.ensures.text c.loop-v.invariant.spelled w m (omega (arith, c.in_ok-fill_up.ensures.count));
+          spelled_more c.args.graph.now c.loop-v.places.items c.fill_up.new.places.items c.in_ok-fill_up.ensures.items.0 (vec_len c.loop-v.places) c.loop-v.place c.in-Some.v _ c.number_piece.result up c.loop-v.places.ok.0 c.in_ok-fill_up.ensures.items.1 (sym c.fill_up.new.places.ok.0 ∙ c.in_ok-fill_up.ensures.count)
+          c.number_piece.ensures.text c.loop-v.invariant.spelled w m (omega (arith, c.in_ok-fill_up.ensures.count));
     }
 
 pub returns : goal.returns

@@ -1,4 +1,4 @@
-use Rattle.std.proofs.Common.{◌≡◌, ℕ, ◌+◌, ◌≤◌, ◌++◌, length, take}
+use Rattle.std.proofs.Common.{◌≡◌, ℕ, ◌≤◌, ◌++◌, take}
 use Rattle.md_dimacs.specs.declared.writer.TheConstants.{CHUNK}
 use Rattle.md_dimacs.specs.Places.{edges_text}
 use Rattle.md_dimacs.proofs.AscendingLemmas.{Coming}
@@ -9,5 +9,5 @@ abbrev pub invariant-loop-v : goal.invariant-loop-v
 invariant-loop-v l = record {
   within : l.at ≤ CHUNK;
   coming : (low : ℕ) × Coming l.graph.vertices low l.place l.v-iterator;
-  written : (l.text.items ++ take l.at l.chunk) ++ rows_lines l.graph l.v-iterator ≡ l.fn.text.items ++ edges_text l.graph
+  written : (l.text.items ++ take l.at l.chunk) ++ rows_lines l.graph l.v-iterator ≡ l.fn.text.items ++ edges_text l.graph;
 }

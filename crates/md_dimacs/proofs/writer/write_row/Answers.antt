@@ -1,8 +1,8 @@
-use Rattle.std.proofs.Common.{arith, ap, sym, ◌∙◌, ◌+◌, ◌++◌, take}
+use Rattle.std.proofs.Common.{arith, ap, ◌∙◌, ◌+◌, ◌++◌, take}
 use Rattle.md_graph.specs.NameSet.{ascending_from}
 use Rattle.md_graph.specs.PlainGraph.{neighbours}
 use Rattle.md_dimacs.specs.Places.{text_of}
-use Rattle.md_dimacs.proofs.AscendingLemmas.{NextUp, coming_from, next_up, neighbour_is_vertex}
+use Rattle.md_dimacs.proofs.AscendingLemmas.{coming_from, next_up, neighbour_is_vertex}
 use Rattle.md_dimacs.proofs.TextLemmas.{row_text_is, row_step, row_end}
 use Rattle.md_dimacs.proofs.writer.write_row.Goals as goal
 
@@ -30,8 +30,8 @@ loop-w-preserved c =
       within = omega (arith, c.in_ok-at.ensures.room);
       coming = (c.in-Some.w + 1, (c.loop-w.invariant.coming.1.0 + 1, up.after));
       written =
-        row_step c.args.graph.now c.args.v c.in-Some.w _ _ c.loop-w.text.items c.make_room.new.text.items (take c.loop-w.at c.loop-w.chunk) _ _ _ (text_of c.args.start) (text_of c.index-places-w.result) _ c.loop-w.invariant.written c.in-Some.ensures.steps c.in_ok-at.ensures.same
-        c.put_piece-at.ensures.text c.put_piece-at-in-loop-w.ensures.text c.requires.start (ap text_of c.index-places-w.is ∙ place.text c.index-places-w.result);
+          row_step c.args.graph.now c.args.v c.in-Some.w _ _ c.loop-w.text.items c.make_room.new.text.items (take c.loop-w.at c.loop-w.chunk) _ _ _ (text_of c.args.start) (text_of c.index-places-w.result) _ c.loop-w.invariant.written c.in-Some.ensures.steps c.in_ok-at.ensures.same
+          c.put_piece-at.ensures.text c.put_piece-at-in-loop-w.ensures.text c.requires.start (ap text_of c.index-places-w.is ∙ place.text c.index-places-w.result);
     }
 
 pub returns-clause-written : goal.returns-clause-written
