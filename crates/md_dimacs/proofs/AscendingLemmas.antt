@@ -1,11 +1,11 @@
 -- The members of a set of names in ascending order, one after the other.
-use Rattle.std.specs.Prelude.{◌≡◌, ℕ, zero, suc, ◌+◌, ◌-◌, ◌^◌, ◌<◌, ◌≤◌, ◌⊎◌, Bool, true, false, cond, ◌&&◌, ◌==◌, nat_le, nat_lt, IsTrue, List, [], ◌∷◌, ◌++◌, length, refl}
-use Rattle.std.proofs.Common.{subst, ap, sym, ◌∙◌, arith, inl, inr, add-one, append_assoc, length-append}
-use Rattle.std.proofs.lemmas.Bool.{true≢false, cases_Bool, cases_lt, cases_eq, le-leb, lt-leb, leb-true, and_parts, false_from_ne_true}
+use Rattle.std.specs.Prelude.{◌≡◌, ℕ, zero, suc, ◌+◌, ◌^◌, ◌<◌, ◌≤◌, Bool, true, false, cond, ◌&&◌, nat_le, List, [], ◌∷◌, ◌++◌, length, refl}
+use Rattle.std.proofs.Common.{subst, ap, sym, ◌∙◌, arith, inl, inr, add-one, length-append}
+use Rattle.std.proofs.lemmas.Bool.{true≢false, cases_Bool, cases_lt, cases_eq, le-leb, lt-leb}
 use Rattle.std.proofs.lemmas.List.{append-nil}
 use Rattle.std.specs.FinSet as set
 use Rattle.md_graph.specs.declared.TheConstants.{NAMES}
-use Rattle.md_graph.specs.NameSet.{NameSet, Member, AllBelow, ascending, ascending_between}
+use Rattle.md_graph.specs.NameSet.{NameSet, Member, ascending, ascending_between}
 use Rattle.md_graph.specs.PlainGraph.{PlainGraph, IsGraph, neighbours}
 use Rattle.md_graph.proofs.GraphLemmas.{adjacent_ends, contains-neighbours}
 use Rattle.md_dimacs.specs.Text.{position}

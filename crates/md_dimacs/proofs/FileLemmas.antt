@@ -1,26 +1,26 @@
 -- The first fault of a file, and the graph that it spells.
-use Rattle.std.specs.Prelude.{◌≡◌, ℕ, zero, suc, ◌+◌, ◌<◌, ◌≤◌, ◌≢◌, ◌⊎◌, Bool, true, false, cond, not, ◌&&◌, ◌||◌, ◌==◌, nat_lt, nat_le, IsTrue, List, [], ◌∷◌, ◌++◌, length, Option, Some, None, MatchOption, refl}
+use Rattle.std.specs.Prelude.{◌≡◌, ℕ, zero, suc, ◌+◌, ◌<◌, ◌≤◌, ◌≢◌, ◌⊎◌, Bool, true, false, cond, not, ◌&&◌, ◌||◌, ◌==◌, nat_lt, nat_le, List, [], ◌∷◌, ◌++◌, length, Option, Some, None, MatchOption, refl}
 use Rattle.std.specs.List.{All, list_any}
 use Rattle.std.proofs.Common.{subst, ap, sym, ◌∙◌, arith, inl, inr}
-use Rattle.std.proofs.lemmas.Bool.{true≢false, cases_Bool, and_parts, eqb-true, eqb-false, ne_eqb, leb-true, leb-false, lt-leb}
+use Rattle.std.proofs.lemmas.Bool.{true≢false, and_parts, eqb-false, ne_eqb, leb-true, leb-false, lt-leb}
 use Rattle.std.proofs.lemmas.Bool.Decides.{nat_tests}
-use Rattle.std.proofs.lemmas.List.Elements.{All-nil, All-cons, All-head, All-tail, All-append}
+use Rattle.std.proofs.lemmas.List.Elements.{All-nil, All-cons, All-head, All-tail}
 use Rattle.std.specs.FinSet as set
 use Rattle.md_graph.specs.declared.TheConstants.{NAMES}
-use Rattle.md_graph.specs.NameSet.{NameSet, Member}
-use Rattle.md_graph.specs.PlainGraph.{PlainGraph, IsGraph, adjacent, with_edge, empty_graph}
+use Rattle.md_graph.specs.NameSet.{Member}
+use Rattle.md_graph.specs.PlainGraph.{PlainGraph, IsGraph, adjacent, with_edge}
 use Rattle.md_graph.proofs.SetLaws.{contains-empty, contains-insert, same_set}
 use Rattle.md_graph.proofs.PairLaws.{pairs-empty}
-use Rattle.md_graph.proofs.GraphLemmas.{same_graph, IsGraph-with_edge, adjacent-with_edge, adjacent-empty_graph}
+use Rattle.md_graph.proofs.GraphLemmas.{same_graph, IsGraph-with_edge, adjacent-with_edge}
 use Rattle.md_text.specs.Lines.{lines}
 use Rattle.md_text.specs.Numbers.{number_of}
 use Rattle.md_dimacs.specs.declared.fault.DimacsFault.{DimacsFault}
 use Rattle.md_dimacs.specs.declared.fault.DimacsKind.{DimacsKind}
-use Rattle.md_dimacs.specs.declared.fault.DimacsKind.TheVariants.{NoProblemLine, SecondProblemLine, EdgeBeforeProblem, BadNumber, VertexOutOfRange, Loop, UnknownLine, TooManyVertices, FieldCount}
+use Rattle.md_dimacs.specs.declared.fault.DimacsKind.TheVariants.{VertexOutOfRange, Loop, UnknownLine, TooManyVertices}
 use Rattle.md_dimacs.specs.declared.line.LineClass.{LineClass}
 use Rattle.md_dimacs.specs.declared.line.LineClass.TheVariants.{Passed, Problem, Edge, Unknown}
 use Rattle.md_dimacs.specs.Line.{words, class_of_field, class_of, is_form, both, sizes_in, ends_in, sizes_by, ends_by, sizes_of, ends_of, sizes_fault, problem_fault, is_vertex, ends_fault, edge_fault, fault_by, fault_of_words, fault_of_line}
-use Rattle.md_dimacs.specs.File.{IsPassed, AreSizes, AreEnds, IsProblemLine, IsEdgeLine, IsPassedOrEdge, are_ends, joins, Spells, SpellsOnly, SpellsOne, SpellsNone, seen_after, first_number, end_fault, fault_or, fault_behind, first_fault}
+use Rattle.md_dimacs.specs.File.{IsPassed, AreSizes, AreEnds, IsProblemLine, IsPassedOrEdge, are_ends, joins, Spells, SpellsOnly, SpellsOne, SpellsNone, seen_after, first_number, fault_or, fault_behind, first_fault}
 use Rattle.md_dimacs.specs.Read.{IsBeforeProblem, IsBehindProblem, HasVertices, names_to, edgeless, with_ends, with_line, with_lines}
 
 -- ---- one line behind the problem line

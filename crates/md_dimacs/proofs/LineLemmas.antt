@@ -1,6 +1,6 @@
 -- The fault of a line by the fields behind its first.
-use Rattle.std.specs.Prelude.{◌≡◌, ◌≢◌, ℕ, Bool, true, false, List, [], ◌∷◌, length, Option, Some, None, Result, IfOk, IfErr, OnOk, refl}
-use Rattle.std.proofs.Common.{ap, ◌∙◌, subst, sym}
+use Rattle.std.specs.Prelude.{◌≡◌, ◌≢◌, ℕ, true, false, List, [], ◌∷◌, length, Option, Some, None, Result, IfOk, IfErr, OnOk, refl}
+use Rattle.std.proofs.Common.{◌∙◌, subst, sym}
 use Rattle.md_text.specs.Numbers.{number_of}
 use Rattle.md_dimacs.specs.declared.fault.DimacsKind.{DimacsKind}
 use Rattle.md_dimacs.specs.declared.fault.DimacsKind.TheVariants.{UnknownLine, FieldCount}

@@ -1,8 +1,8 @@
 -- Pieces of text, and bytes that are gathered in front of others.
-use Rattle.std.specs.Prelude.{◌≡◌, ℕ, zero, suc, ◌+◌, ◌-◌, ◌/◌, ◌%◌, ◌^◌, ◌<◌, ◌≤◌, List, [], ◌∷◌, ◌++◌, length, take, drop, replicate, get_or, Bool, true, false, cond, Result, Ok, Err, OnOk, is_ok, refl}
+use Rattle.std.specs.Prelude.{◌≡◌, ℕ, suc, ◌+◌, ◌/◌, ◌%◌, ◌^◌, ◌<◌, ◌≤◌, List, [], ◌∷◌, ◌++◌, length, take, replicate, false, cond, Result, Ok, Err, OnOk, is_ok}
 use Rattle.std.specs.Result.{is_err}
-use Rattle.std.proofs.Common.{subst, ap, sym, ◌∙◌, arith, add-one, append_assoc, length-append, lit<, set}
-use Rattle.std.proofs.lemmas.List.{take-append-le, length-take, append-nil, take_more_set, replicate-append-replicate}
+use Rattle.std.proofs.Common.{ap, sym, ◌∙◌, arith, append_assoc, length-append, lit<, set}
+use Rattle.std.proofs.lemmas.List.{take-append-le, length-take, take_more_set, replicate-append-replicate}
 use Rattle.md_text.specs.Numbers.{decimal}
 use Rattle.md_text.proofs.NumberLemmas.{decimal_digit, decimal_step, length-decimal-le}
 use borrow.Rule.Slice.PartMut.{put_mid, post_of}

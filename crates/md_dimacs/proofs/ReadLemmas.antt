@@ -1,14 +1,12 @@
 -- The steps of the reader.
-use Rattle.std.specs.Prelude.{◌≡◌, ℕ, zero, suc, ◌+◌, ◌-◌, ◌^◌, ◌<◌, ◌≤◌, min, max, Bool, true, false, ◌==◌, ◌||◌, ◌&&◌, List, [], ◌∷◌, ◌++◌, length, Some, None, Result, Ok, Err, OnOk, OnErr, IfErr, refl}
+use Rattle.std.specs.Prelude.{◌≡◌, ℕ, suc, ◌+◌, min, max, Bool, true, false, ◌==◌, ◌||◌, ◌&&◌, List, [], ◌∷◌, ◌++◌, length, Some, None, Result, Ok, Err, OnOk, OnErr, IfErr, refl}
 use Rattle.std.specs.Result.{is_err}
-use Rattle.std.specs.List.{All}
 use Rattle.std.proofs.Common.{subst, ap, sym, ◌∙◌, arith, add-one, append_assoc, length-append}
-use Rattle.std.proofs.lemmas.Bool.{cases_Bool, or_right, and_parts, eqb-true}
+use Rattle.std.proofs.lemmas.Bool.{and_parts, eqb-true}
 use Rattle.std.proofs.lemmas.Bool.Decides.{nat_tests}
 use Rattle.std.proofs.lemmas.List.Elements.{All-nil, All-push}
 use Rattle.std.specs.FinSet as set
 use Rattle.md_graph.specs.PlainGraph.{PlainGraph, adjacent, edge, empty_graph, with_vertex, with_edge}
-use Rattle.md_graph.proofs.SetLaws.{contains-empty}
 use Rattle.md_graph.proofs.PairLaws.{pairs-insert, same_pairs}
 use Rattle.md_text.specs.Lines.{lines, without_return}
 use Rattle.md_text.specs.Fields.{fields}
@@ -17,8 +15,8 @@ use Rattle.md_dimacs.specs.declared.fault.DimacsFault.{DimacsFault}
 use Rattle.md_dimacs.specs.declared.fault.DimacsKind.{DimacsKind}
 use Rattle.md_dimacs.specs.declared.fault.DimacsKind.TheVariants.{NoProblemLine}
 use Rattle.md_dimacs.specs.declared.line.LineClass.TheVariants.{Passed}
-use Rattle.md_dimacs.specs.Line.{words, class_of, ends_of, fault_of_words, is_vertex}
-use Rattle.md_dimacs.specs.File.{IsPassed, Spells, first_fault, fault_or, fault_behind, next_count}
+use Rattle.md_dimacs.specs.Line.{words, class_of, ends_of, fault_of_words}
+use Rattle.md_dimacs.specs.File.{IsPassed, Spells, first_fault, fault_behind, next_count}
 use Rattle.md_dimacs.specs.Read.{IsBeforeProblem, IsBehindProblem, HasVertices, names_to, edgeless, with_ends, with_line, with_lines}
 use Rattle.md_dimacs.proofs.FileLemmas.{fault_before, fault-behind_problem, contains-names_to, vertices-with_ends, lines_behind, spelled_by_parts}
 

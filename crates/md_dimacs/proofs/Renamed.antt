@@ -1,5 +1,5 @@
 -- The graph that the text spells is the graph with each vertex named by its place.
-use Rattle.std.specs.Prelude.{◌≡◌, ℕ, zero, suc, ◌+◌, ◌<◌, ◌≤◌, ◌⊎◌, Bool, true, false, ◌&&◌, ◌||◌, ◌==◌, List, [], ◌∷◌, ◌++◌, map, Some, refl}
+use Rattle.std.specs.Prelude.{◌≡◌, ℕ, zero, suc, ◌+◌, ◌<◌, ◌≤◌, ◌⊎◌, Bool, true, false, ◌||◌, List, [], ◌∷◌, ◌++◌, map, Some, refl}
 use Rattle.std.specs.List.{All, list_any, flat_map}
 use Rattle.std.specs.Cmp.{both_ways}
 use Rattle.std.proofs.Common.{ap, sym, ◌∙◌, arith, inl, inr}
@@ -11,8 +11,7 @@ use Rattle.md_graph.specs.declared.TheConstants.{NAMES}
 use Rattle.md_graph.specs.NameSet.{NameSet, Member, ascending, ascending_from, ascending_between}
 use Rattle.md_graph.specs.PlainGraph.{PlainGraph, IsGraph, adjacent, neighbours}
 use Rattle.md_graph.proofs.GraphLemmas.{adjacent_sym, adjacent_ends, contains-neighbours}
-use Rattle.md_dimacs.specs.Line.{words, ends_of}
-use Rattle.md_dimacs.specs.File.{are_ends, joins, Spells}
+use Rattle.md_dimacs.specs.File.{are_ends, joins}
 use Rattle.md_dimacs.specs.Text.{position, edges_above, edge_places, edge_line, dimacs_text, IsRenamed}
 use Rattle.md_dimacs.specs.Laws.{SpellsRenamed}
 use Rattle.md_dimacs.proofs.FileLemmas.{vertices_read, edges_read, spelled_only, spelled_has_no_fault}

@@ -1,32 +1,29 @@
 -- The text of a graph is read as the graph with each vertex named by its place.
-use Rattle.std.specs.Prelude.{◌≡◌, ◌≢◌, ℕ, zero, suc, ◌+◌, ◌-◌, ◌*◌, ◌^◌, ◌<◌, ◌≤◌, ◌⊎◌, Bool, true, false, cond, not, ◌&&◌, ◌||◌, ◌==◌, nat_lt, nat_le, List, [], ◌∷◌, ◌++◌, length, map, Option, Some, None, codes, sum_by, refl}
-use Rattle.std.specs.List.{All, list_any, flat_map, join_with_byte}
-use Rattle.std.specs.Cmp.{both_ways}
-use Rattle.std.proofs.Common.{subst, ap, sym, ◌∙◌, arith, inl, inr, lit<, add-one, length-append}
-use Rattle.std.proofs.lemmas.Bool.{true≢false, cases_Bool, cases_lt, cases_eq, cases_order, and_parts, and_from, or_cases, or_left, or_right, eqb-true, eqb-false, eq-eqb, ne_eqb, not-true, lt-ltb, le-leb, ltb-true, false_from_ne_true}
+use Rattle.std.specs.Prelude.{◌≡◌, ◌≢◌, ℕ, zero, suc, ◌+◌, ◌*◌, ◌^◌, ◌<◌, ◌≤◌, Bool, true, false, cond, not, ◌&&◌, ◌||◌, ◌==◌, nat_lt, nat_le, List, [], ◌∷◌, ◌++◌, length, map, Some, codes, refl}
+use Rattle.std.specs.List.{All, flat_map, join_with_byte}
+use Rattle.std.proofs.Common.{subst, ap, sym, ◌∙◌, arith, inl, inr, lit<, length-append}
+use Rattle.std.proofs.lemmas.Bool.{true≢false, cases_Bool, cases_lt, cases_eq, cases_order, and_parts, and_from, eqb-false, eq-eqb, ne_eqb, not-true, lt-ltb, le-leb, false_from_ne_true}
 use Rattle.std.proofs.lemmas.Bool.Decides.{nat_tests}
 use Rattle.std.proofs.lemmas.List.Elements.{All-nil, All-cons, All-head, All-tail, All-append, All-push, All-map, All-weaker}
-use Rattle.std.proofs.lemmas.List.Folds.{list_any-append}
 use Rattle.std.specs.FinSet as set
 use Rattle.md_graph.specs.declared.TheConstants.{NAMES}
 use Rattle.md_graph.specs.NameSet.{NameSet, Member, AllBelow, ascending, ascending_from, ascending_between}
-use Rattle.md_graph.specs.PlainGraph.{PlainGraph, PairSet, IsGraph, adjacent, neighbours, pairs_where}
+use Rattle.md_graph.specs.PlainGraph.{PlainGraph, IsGraph, adjacent, neighbours, pairs_where}
 use Rattle.md_graph.proofs.SetLaws.{contains-empty, contains-insert, contains-remove, len-empty, len-insert, same_set}
 use Rattle.md_graph.proofs.PairLaws.{same_pairs}
 use Rattle.md_graph.proofs.GraphLemmas.{adjacent_sym, adjacent_ends, adjacent_self, contains-edges, contains-neighbours, contains-pairs_where}
 use Rattle.md_graph.proofs.Counting.{rows_twice, rows_le}
-use Rattle.md_text.specs.Lines.{lines, ended, LacksFeed, without_return}
+use Rattle.md_text.specs.Lines.{lines, LacksFeed, without_return}
 use Rattle.md_text.specs.Fields.{fields, is_blank, IsWord}
 use Rattle.md_text.specs.Numbers.{decimal, number_of}
 use Rattle.md_text.proofs.LineLemmas.{lines-ended, without_return-stays}
 use Rattle.md_text.proofs.FieldLemmas.{fields-joined}
 use Rattle.md_text.proofs.NumberLemmas.{number_of-decimal, decimal_is_word, decimal_is_digits}
-use Rattle.md_dimacs.specs.Line.{words, class_of_field, is_form, both, sizes_in, ends_in, sizes_of, ends_of, is_vertex}
-use Rattle.md_dimacs.specs.File.{AreSizes, AreEnds, IsPassed, IsPassedOrEdge, are_ends, joins, Spells, SpellsOnly}
+use Rattle.md_dimacs.specs.Line.{words, class_of_field, is_form, both, sizes_in, ends_in, sizes_of, ends_of}
+use Rattle.md_dimacs.specs.File.{AreSizes, IsPassed, IsPassedOrEdge, Spells}
 use Rattle.md_dimacs.specs.Read.{edgeless, with_lines}
-use Rattle.md_dimacs.specs.Text.{position, edges_above, edge_places, edge_line, problem_line, dimacs_text, IsRenamed}
-use Rattle.md_dimacs.specs.Laws.{SpellsRenamed}
-use Rattle.md_dimacs.proofs.FileLemmas.{spelled_by_parts, spelled_only, spelled_has_no_fault}
+use Rattle.md_dimacs.specs.Text.{position, edges_above, edge_places, edge_line, problem_line, dimacs_text}
+use Rattle.md_dimacs.proofs.FileLemmas.{spelled_by_parts}
 use Rattle.md_dimacs.proofs.AscendingLemmas.{one_more, no_more, below_low, count_member, count_up_to}
 
 -- ---- how many vertices and edges there are

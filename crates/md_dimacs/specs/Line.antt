@@ -1,6 +1,6 @@
 -- A line of a DIMACS edge file: its class, what it names, and its first fault.
 -- Source: DIMACS, "Clique and coloring problems: graph format" (1993); the faults are this project's.
-use Rattle.std.specs.Prelude.{◌≡◌, ℕ, ◌<◌, ◌≤◌, ◌≢◌, ◌==◌, ◌&&◌, ◌||◌, nat_eq, nat_lt, nat_le, Bool, not, List, [], ◌∷◌, length, slice_index, if◌then◌else◌, Option, None, Some, codes}
+use Rattle.std.specs.Prelude.{ℕ, ◌==◌, ◌&&◌, ◌||◌, nat_eq, nat_lt, nat_le, Bool, not, List, [], ◌∷◌, length, slice_index, if◌then◌else◌, Option, None, Some, codes}
 use Rattle.std.specs.Cmp.Lexicographic.{pointwise}
 use Rattle.md_graph.specs.declared.TheConstants.{NAMES}
 use Rattle.md_text.specs.Lines.{without_return}

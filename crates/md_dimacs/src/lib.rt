@@ -9,6 +9,8 @@ mod line;
 mod piece;
 mod reader;
 mod spelling;
+#[cfg(test)]
+mod tests;
 mod writer;
 
 pub use fault::{DimacsFault, DimacsKind};

@@ -1,4 +1,4 @@
-use Rattle.std.proofs.Common.{ap, sym, ◌∙◌}
+use Rattle.std.proofs.Common.{◌∙◌}
 use Rattle.md_dimacs.proofs.ReadLemmas.{edgeless-zero, edgeless-step, next_name_absent}
 use Rattle.md_dimacs.proofs.reader.add_vertices.Goals as goal
 

@@ -1,4 +1,4 @@
-use Rattle.std.proofs.Common.{arith, sym, ◌∙◌}
+use Rattle.std.proofs.Common.{sym, ◌∙◌}
 use Rattle.md_text.specs.Lines.{lines}
 use Rattle.md_dimacs.proofs.ReadLemmas.{outcome_spells, outcome_faultless, outcome_fault, nothing_on_ok, nothing_on_err, always_on_err, vertices-edgeless}
 use Rattle.md_dimacs.proofs.reader.read.Goals as goal

@@ -1,6 +1,6 @@
 use Rattle.std.proofs.Common.{arith, ap, sym, ◌∙◌, ◌+◌, vec_len}
 use Rattle.md_graph.specs.NameSet.{ascending}
-use Rattle.md_dimacs.proofs.AscendingLemmas.{NextUp, coming_at_start, coming_at, next_up, none_left, place_small}
+use Rattle.md_dimacs.proofs.AscendingLemmas.{coming_at_start, coming_at, next_up, none_left, place_small}
 use Rattle.md_dimacs.proofs.PlacesLemmas.{spelled_more}
 use Rattle.md_dimacs.proofs.writer.spell_places.Goals as goal
 

@@ -1,4 +1,4 @@
-use Rattle.std.proofs.Common.{◌≡◌, ℕ, ◌<◌, vec_len}
+use Rattle.std.proofs.Common.{ℕ, ◌<◌, vec_len}
 use Rattle.md_graph.specs.NameSet.{Member}
 use Rattle.md_dimacs.specs.Places.{IsPlaceOf}
 use Rattle.md_dimacs.proofs.AscendingLemmas.{Coming}

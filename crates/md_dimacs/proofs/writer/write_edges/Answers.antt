@@ -1,9 +1,8 @@
-use Rattle.std.proofs.Common.{arith, ap, sym, ◌∙◌, ◌+◌, ◌++◌, take, append_assoc}
+use Rattle.std.proofs.Common.{arith, ap, sym, ◌∙◌, ◌+◌, ◌++◌}
 use Rattle.std.proofs.lemmas.List.{append-nil}
 use Rattle.md_graph.specs.NameSet.{ascending}
-use Rattle.md_graph.specs.Rows.{row_of}
-use Rattle.md_dimacs.specs.Places.{text_of, line_start}
-use Rattle.md_dimacs.proofs.AscendingLemmas.{NextUp, coming_all, next_up, place_small, position_is}
+use Rattle.md_dimacs.specs.Places.{text_of}
+use Rattle.md_dimacs.proofs.AscendingLemmas.{coming_all, next_up, place_small, position_is}
 use Rattle.md_dimacs.proofs.PieceLemmas.{if_ok}
 use Rattle.md_dimacs.proofs.TextLemmas.{rows_lines, edges_text_is, start_is, rows_step, rows_end}
 use Rattle.md_dimacs.proofs.writer.write_edges.Goals as goal

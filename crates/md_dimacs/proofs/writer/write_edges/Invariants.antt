@@ -1,4 +1,4 @@
-use Rattle.std.proofs.Common.{◌≡◌, ℕ, ◌+◌, ◌≤◌, ◌++◌, length, take}
+use Rattle.std.proofs.Common.{◌≡◌, ℕ, ◌≤◌, ◌++◌, take}
 use Rattle.md_dimacs.specs.declared.writer.TheConstants.{CHUNK}
 use Rattle.md_dimacs.specs.Places.{edges_text}
 use Rattle.md_dimacs.proofs.AscendingLemmas.{Coming}

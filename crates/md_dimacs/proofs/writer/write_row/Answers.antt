@@ -1,8 +1,8 @@
-use Rattle.std.proofs.Common.{arith, ap, sym, ◌∙◌, ◌+◌, ◌++◌, take}
+use Rattle.std.proofs.Common.{arith, ap, ◌∙◌, ◌+◌, ◌++◌, take}
 use Rattle.md_graph.specs.NameSet.{ascending_from}
 use Rattle.md_graph.specs.PlainGraph.{neighbours}
 use Rattle.md_dimacs.specs.Places.{text_of}
-use Rattle.md_dimacs.proofs.AscendingLemmas.{NextUp, coming_from, next_up, neighbour_is_vertex}
+use Rattle.md_dimacs.proofs.AscendingLemmas.{coming_from, next_up, neighbour_is_vertex}
 use Rattle.md_dimacs.proofs.TextLemmas.{row_text_is, row_step, row_end}
 use Rattle.md_dimacs.proofs.writer.write_row.Goals as goal
 

@@ -1,0 +1,83 @@
+//! Files with the graphs that they spell or their faults, and graphs with their texts. A copy of a line is in
+//! both directions where colouring files have it so; the last file is the Mycielski graph on 11 vertices.
+use super::*;
+use DimacsKind::*;
+use md_graph::{Graph, Memory};
+use std::alloc::Global;
+use std::process::Abort;
+use std::test::Fail;
+
+fn check_fault(
+    rt: &impl Abort,
+    alloc: Global,
+    file: &str,
+    kind: DimacsKind,
+    line: u64,
+) -> Result<(), Memory> {
+    let mut graph = Graph::new(alloc)?;
+    assert_eq!(rt;
+        read(file.as_bytes(), &mut graph),
+        Err(DimacsFault { kind, line })
+    );
+    assert_eq!(rt; graph.count(), 0);
+    Ok(())
+}
+
+fn check_text(rt: &impl Abort, alloc: Global, file: &str, text: &str) -> Result<(), Memory> {
+    let mut graph = Graph::new(alloc)?;
+    assert_eq!(rt; read(file.as_bytes(), &mut graph), Ok(()));
+    let written = write(alloc, &graph)?;
+    assert_eq!(rt; written.as_slice(), text.as_bytes());
+    Ok(())
+}
+
+#[test]
+fn files(rt: HostRuntime) -> Result<(), Fail> {
+    for (file, kind, line) in [
+        ("", NoProblemLine, 1),
+        ("c x\n", NoProblemLine, 2),
+        ("p edge 1 0\np edge 1 0\n", SecondProblemLine, 2),
+        ("e 1 2\n", EdgeBeforeProblem, 1),
+        ("p edge x 0\n", BadNumber, 1),
+        ("p edge 1 1234567890123456789\n", BadNumber, 1),
+        ("p edge 2 1\ne 1 3\n", VertexOutOfRange, 2),
+        ("p edge 2 1\ne 2 2\n", Loop, 2),
+        ("q\n", UnknownLine, 1),
+        ("p edge 4096 0\n", TooManyVertices, 1),
+        ("p edge 3\n", FieldCount, 1),
+        ("p edge 2 1\ne 1 2 5\n", FieldCount, 2),
+    ] {
+        check_fault(&rt, rt.alloc(), file, kind, line)?;
+    }
+    let mycielski =
+        "p edge 11 20\ne 1 2\ne 1 4\ne 1 7\ne 1 9\ne 2 3\ne 2 6\ne 2 8\ne 3 5\ne 3 7\ne 3 10\ne 4 5\ne 4 6\ne 4 10\ne 5 8\ne 5 9\ne 6 11\ne 7 11\ne 8 11\ne 9 11\ne 10 11\n";
+    for (file, text) in [
+        ("p edge 0 0\n", "p edge 0 0\n"),
+        ("p edge 3 999999999999999999\n", "p edge 3 0\n"),
+        ("p edge 3 2\ne 1 2\ne 2 3\n", "p edge 3 2\ne 1 2\ne 2 3\n"),
+        (
+            "c queen part\np col 3 4\ne 1 2\ne 2 1\ne 2 3\ne 3 2\n",
+            "p edge 3 2\ne 1 2\ne 2 3\n",
+        ),
+        (mycielski, mycielski),
+    ] {
+        check_text(&rt, rt.alloc(), file, text)?;
+    }
+    Ok(())
+}
+
+#[test]
+fn places(rt: HostRuntime) -> Result<(), Fail> {
+    let mut graph = Graph::new(rt.alloc())?;
+    for v in [2, 5, 9] {
+        if !graph.has_vertex(v) {
+            graph.add_vertex(v);
+        }
+    }
+    if graph.has_vertex(2) && graph.has_vertex(9) && !graph.has_edge(2, 9) {
+        graph.add_edge(2, 9);
+    }
+    let text = write(rt.alloc(), &graph)?;
+    assert_eq!(rt; text.as_slice(), b"p edge 3 1\ne 1 3\n".as_slice());
+    Ok(())
+}
