@@ -16,7 +16,7 @@ use Rattle.md_dimacs.specs.declared.fault.DimacsKind.{DimacsKind}
 use Rattle.md_dimacs.specs.declared.fault.DimacsKind.TheVariants.{NoProblemLine}
 use Rattle.md_dimacs.specs.declared.line.LineClass.TheVariants.{Passed}
 use Rattle.md_dimacs.specs.Line.{words, class_of, ends_of, fault_of_words}
-use Rattle.md_dimacs.specs.File.{IsPassed, Spells, first_fault, fault_behind, next_count}
+use Rattle.md_dimacs.specs.File.{IsPassed, Spells, first_fault, fault_behind}
 use Rattle.md_dimacs.specs.Read.{IsBeforeProblem, IsBehindProblem, HasVertices, names_to, edgeless, with_ends, with_line, with_lines}
 use Rattle.md_dimacs.proofs.FileLemmas.{fault_before, fault-behind_problem, contains-names_to, vertices-with_ends, lines_behind, spelled_by_parts}
 
@@ -81,7 +81,7 @@ no_lines [] h = lines-nil
 no_lines (b ∷ bytes) h = absurd (let e = eqb-true (suc (length bytes)) 0 h in omega arith)
 
 pub no_problem : (all : List (List ℕ)) (count : ℕ) (rest : List ℕ) (number : ℕ) → IsBeforeProblem all count (lines rest) → (length rest == 0) ≡ true
-    → number ≡ next_count count → fault_behind None 0 all ≡ Some (record { kind = NoProblemLine; line = number })
+    → number ≡ count + 1 → fault_behind None 0 all ≡ Some (record { kind = NoProblemLine; line = number })
 unfolding fault_behind
 no_problem all count rest number b empty e =
     fault_before all count (lines rest) b ∙ ap (fault_behind None count) (no_lines rest empty)

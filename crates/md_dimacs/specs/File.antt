@@ -1,6 +1,6 @@
 -- A DIMACS edge file: the graph that it spells, and its first fault.
 -- Source: DIMACS, "Clique and coloring problems: graph format" (1993); the faults are this project's.
-use Rattle.std.specs.Prelude.{◌≡◌, ℕ, ◌+◌, ◌-◌, ◌^◌, ◌<◌, ◌≢◌, ◌==◌, ◌&&◌, ◌||◌, ◌⊎◌, min, Bool, false, List, [], ◌∷◌, ◌++◌, Option, None, Some, IsTrue}
+use Rattle.std.specs.Prelude.{◌≡◌, ℕ, ◌+◌, ◌<◌, ◌≢◌, ◌==◌, ◌&&◌, ◌||◌, ◌⊎◌, Bool, false, List, [], ◌∷◌, ◌++◌, Option, None, Some, IsTrue}
 use Rattle.std.specs.List.{All, list_any}
 use Rattle.std.specs.FinSet as set
 use Rattle.md_graph.specs.declared.TheConstants.{NAMES}
@@ -80,10 +80,6 @@ SpellsOne bytes = (g : PlainGraph) × SpellsOnly bytes g
 abbrev pub SpellsNone : List ℕ → Type 0
 SpellsNone bytes = (g : PlainGraph) → Spells bytes g → ⊥
 
--- the number behind `count`, which stands still at the last value of 64 bits
-abbrev pub next_count : ℕ → ℕ
-next_count count = min (count + 1) (2 ^ 64 - 1)
-
 -- the number of vertices of the first of the two numbers, if there are any
 abbrev pub first_number : Option (ℕ × ℕ) → Option ℕ
 first_number None = None
@@ -96,7 +92,7 @@ seen_after None line = first_number (sizes_of (words line))
 
 -- the fault of a file at its end, behind `count` lines: no problem line stood there
 abbrev pub end_fault : Option ℕ → ℕ → Option DimacsFault
-end_fault None count = Some (record { kind = NoProblemLine; line = next_count count })
+end_fault None count = Some (record { kind = NoProblemLine; line = count + 1 })
 end_fault (Some n) count = None
 
 -- the kind, if there is one, as the fault of line `number`, or else what comes later

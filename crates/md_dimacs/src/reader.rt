@@ -72,7 +72,7 @@ fn find_problem(bytes: &[u8]) -> Result<(u32, u64, &[u8]), DimacsFault>
     }
     Err(DimacsFault {
         kind: DimacsKind::NoProblemLine,
-        line: count.saturating_add(1),
+        line: count + 1,
     })
 }
 

@@ -1,4 +1,4 @@
-use Rattle.std.proofs.Common.{arith, sym, ◌∙◌}
+use Rattle.std.proofs.Common.{◌+◌, refl, arith, sym, ◌∙◌}
 use Rattle.md_text.specs.Lines.{lines}
 use Rattle.md_dimacs.proofs.ReadLemmas.{one_passed, refused_before, no_problem}
 use Rattle.md_dimacs.proofs.reader.find_problem.Goals as goal
@@ -15,4 +15,4 @@ returns-in-Err-clause-fault c =
 
 pub returns-clause-fault : goal.returns-clause-fault
 returns-clause-fault c =
-    no_problem (lines c.args.bytes.now) c.loop-rest.count c.loop-rest.rest.now c.saturating_add.result c.loop-rest.invariant.before (sym c.is_empty.ensures ∙ c.loop-rest-test.false) c.saturating_add.ensures
+    no_problem (lines c.args.bytes.now) c.loop-rest.count c.loop-rest.rest.now (c.loop-rest.count + 1) c.loop-rest.invariant.before (sym c.is_empty.ensures ∙ c.loop-rest-test.false) refl
