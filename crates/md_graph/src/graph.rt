@@ -218,6 +218,7 @@ impl Graph {
     pub fn induced(&self, alloc: Global, names: &Names) -> Result<Graph, Memory>
         ensures { IfOk result (λ g. g ≡ induced self.now names.now) }
     {
+        let live = &self.live;
         let Ok(mut rows) = Vec::with_capacity(alloc, NAMES as usize) else {
             return Err(Memory);
         };
@@ -227,7 +228,7 @@ impl Graph {
             }
         }
         Ok(Graph {
-            live: self.live.and(names),
+            live: live.and(names),
             rows,
         })
     }
