@@ -1,26 +1,26 @@
 -- The members of a set, 64 names at a time.
-use Rattle.std.specs.Prelude.{◌≡◌, ℕ, zero, suc, ◌+◌, ◌-◌, ◌*◌, ◌/◌, ◌%◌, ◌^◌, ◌<◌, ◌≤◌, ◌⊎◌, max, Bool, true, false, cond, ◌&&◌, ◌==◌, nat_le, List, [], ◌∷◌, ◌++◌, length, take, map, slice_get, get_or, Some, refl}
+use Rattle.std.specs.Prelude.{◌≡◌, ℕ, zero, suc, ◌+◌, ◌-◌, ◌*◌, ◌/◌, ◌%◌, ◌<◌, ◌≤◌, max, Bool, true, false, cond, ◌&&◌, ◌==◌, nat_le, List, [], ◌∷◌, ◌++◌, length, get_or, refl}
 use Rattle.std.specs.Int.{bit_at}
 use Rattle.std.specs.List.{All}
 use Rattle.std.specs.Option.{option_map_or}
 use Rattle.std.proofs.Common.{subst, ap, sym, ◌∙◌, arith, inl, inr, append_assoc, length-append}
-use Rattle.std.proofs.lemmas.Bool.{true≢false, cases_Bool, cases_lt, le-leb, lt-leb, leb-true, leb-false, false_from_ne_true}
-use Rattle.std.proofs.lemmas.List.{append-nil, map-append}
+use Rattle.std.proofs.lemmas.Bool.{cases_lt, le-leb, lt-leb, false_from_ne_true}
+use Rattle.std.proofs.lemmas.List.{append-nil}
 use Rattle.std.proofs.lemmas.List.Elements.{All-nil, All-cons, All-head, All-tail, All-weaker}
 use Rattle.std.proofs.lemmas.Option.{slice_get-get_or}
 use Rattle.std.specs.FinSet as set
-use Rattle.md_graph.specs.declared.TheConstants.{NAMES, WORDS}
-use Rattle.md_graph.specs.NameSet.{NameSet, Member, ascending_between}
+use Rattle.md_graph.specs.declared.TheConstants.{NAMES}
+use Rattle.md_graph.specs.NameSet.{NameSet, ascending_between}
 use Rattle.md_graph.specs.PlainGraph.{PlainGraph, IsGraph, neighbours}
 use Rattle.md_graph.specs.Words.{bits_between}
 use Rattle.md_graph.proofs.Limits.{NAMES-is}
 use Rattle.md_graph.proofs.MemberLists.{no_bits_of_zero}
 use Rattle.md_text.specs.Numbers.{decimal}
 use Rattle.md_dimacs.specs.declared.piece.Piece.{Piece}
-use Rattle.md_dimacs.specs.Text.{position, edge_line}
+use Rattle.md_dimacs.specs.Text.{position}
 use Rattle.md_dimacs.specs.Places.{text_of, IsPlaceOf, ArePlaces, text_at, lines_at, line_start, row_text}
-use Rattle.md_dimacs.proofs.AscendingLemmas.{Listed, all_listed, one_more, no_more, below_low, asc_split, asc_none, neighbour_is_vertex}
-use Rattle.md_dimacs.proofs.TextLemmas.{places_of, row_lines, row_lines-nil, row_lines-cons, row_lines-append, row_text_is, row_end}
+use Rattle.md_dimacs.proofs.AscendingLemmas.{Listed, all_listed, below_low, asc_split, asc_none, neighbour_is_vertex}
+use Rattle.md_dimacs.proofs.TextLemmas.{row_lines, row_lines-nil, row_lines-cons, row_lines-append, row_text_is, row_end}
 
 -- ---- the bits of a word
 

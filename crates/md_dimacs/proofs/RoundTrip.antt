@@ -1,10 +1,10 @@
 -- The text of a graph is read as the graph with each vertex named by its place.
 use Rattle.std.specs.Prelude.{◌≡◌, ◌≢◌, ℕ, zero, suc, ◌+◌, ◌*◌, ◌^◌, ◌<◌, ◌≤◌, Bool, true, false, cond, not, ◌&&◌, ◌||◌, ◌==◌, nat_lt, nat_le, List, [], ◌∷◌, ◌++◌, length, map, Some, codes, refl}
 use Rattle.std.specs.List.{All, flat_map, join_with_byte}
-use Rattle.std.proofs.Common.{subst, ap, sym, ◌∙◌, arith, inl, inr, lit<, length-append}
-use Rattle.std.proofs.lemmas.Bool.{true≢false, cases_Bool, cases_lt, cases_eq, cases_order, and_parts, and_from, eqb-false, eq-eqb, ne_eqb, not-true, lt-ltb, le-leb, false_from_ne_true}
+use Rattle.std.proofs.Common.{ap, sym, ◌∙◌, arith, inl, inr, lit<, length-append}
+use Rattle.std.proofs.lemmas.Bool.{true≢false, cases_Bool, cases_eq, cases_order, and_parts, and_from, eqb-false, eq-eqb, ne_eqb, not-true, lt-ltb, le-leb, false_from_ne_true}
 use Rattle.std.proofs.lemmas.Bool.Decides.{nat_tests}
-use Rattle.std.proofs.lemmas.List.Elements.{All-nil, All-cons, All-head, All-tail, All-append, All-push, All-map, All-weaker}
+use Rattle.std.proofs.lemmas.List.Elements.{All-nil, All-cons, All-head, All-tail, All-append, All-map, All-weaker}
 use Rattle.std.specs.FinSet as set
 use Rattle.md_graph.specs.declared.TheConstants.{NAMES}
 use Rattle.md_graph.specs.NameSet.{NameSet, Member, AllBelow, ascending, ascending_from, ascending_between}

@@ -1,4 +1,4 @@
-use Rattle.std.proofs.Common.{◌∙◌, ap, ◌-◌}
+use Rattle.std.proofs.Common.{◌∙◌, ◌-◌}
 use Rattle.md_graph.proofs.MemberLists.{high_bits}
 use Rattle.md_dimacs.proofs.BlockLemmas.{same_part}
 use Rattle.md_dimacs.proofs.blocks.bits_from.Goals as goal

@@ -1,4 +1,4 @@
-use Rattle.std.proofs.Common.{arith, refl, take, ◌+◌}
+use Rattle.std.proofs.Common.{arith, refl, take}
 use Rattle.md_dimacs.specs.Places.{text_of}
 use Rattle.md_dimacs.proofs.BlockLemmas.{bits_count, bit_step, bit_end, no_bits_left, shorter, first_there, rest_there}
 use Rattle.md_dimacs.proofs.blocks.write_block.Goals as goal

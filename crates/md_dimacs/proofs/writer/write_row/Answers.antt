@@ -1,7 +1,5 @@
-use Rattle.std.proofs.Common.{arith, ap, sym, ◌∙◌, ◌+◌, ◌++◌, take, max, ℕ, ◌<◌}
+use Rattle.std.proofs.Common.{arith, ap, sym, ◌∙◌, ◌+◌, ◌++◌, take, ℕ, ◌<◌}
 use Rattle.std.specs.FinSet as set
-use Rattle.md_graph.specs.declared.TheConstants.{NAMES}
-use Rattle.md_graph.specs.NameSet.{ascending_between}
 use Rattle.md_graph.specs.PlainGraph.{neighbours}
 use Rattle.md_graph.specs.Words.{bits_between}
 use Rattle.md_dimacs.specs.Places.{text_of}
