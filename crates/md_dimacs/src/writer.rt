@@ -30,7 +30,7 @@ use md_text::push_decimal;
 use std::alloc::Global;
 
 // How many bytes of lines are gathered before they are appended to the text.
-const CHUNK: usize = 4096;
+const CHUNK: usize = 2000;
 
 /// The DIMACS text of a graph: `p edge n m`, and for each edge a line `e i j`, i < j, ascending by i, then
 /// by j, where i and j are the places of its ends among the vertices in ascending order, counted from 1.
