@@ -1,8 +1,10 @@
 -- The members of a set of names in ascending order, one after the other.
 use Rattle.std.specs.Prelude.{◌≡◌, ℕ, zero, suc, ◌+◌, ◌^◌, ◌<◌, ◌≤◌, Bool, true, false, cond, ◌&&◌, nat_le, List, [], ◌∷◌, ◌++◌, length, refl}
-use Rattle.std.proofs.Common.{subst, ap, sym, ◌∙◌, arith, inl, inr, add-one, length-append}
+use Rattle.std.proofs.Common.{subst, ap, sym, ◌∙◌, arith, inl, inr, add-one, append_assoc, length-append}
 use Rattle.std.proofs.lemmas.Bool.{true≢false, cases_Bool, cases_lt, cases_eq, le-leb, lt-leb}
 use Rattle.std.proofs.lemmas.List.{append-nil}
+use Rattle.std.specs.List.{All}
+use Rattle.std.proofs.lemmas.List.Elements.{All-nil, All-push, All-weaker}
 use Rattle.std.specs.FinSet as set
 use Rattle.md_graph.specs.declared.TheConstants.{NAMES}
 use Rattle.md_graph.specs.NameSet.{NameSet, Member, ascending, ascending_between}
@@ -222,3 +224,55 @@ place_small s low place v rest up =
 
 pub neighbour_is_vertex : (g : PlainGraph) (v w : ℕ) → IsGraph g → Member (neighbours g v) w → Member g.vertices w
 neighbour_is_vertex g v w is m = (adjacent_ends is v w (sym (contains-neighbours is v w) ∙ m)).1
+
+-- ---- each of them
+
+-- a member from low on and below n
+pub record Listed (s : NameSet) (low n w : ℕ) : Type 0 where
+  pub member : Member s w
+  pub from : low ≤ w
+  pub below : w < n
+
+listed_more : (s : NameSet) (low n w : ℕ) → Listed s low n w → Listed s low (suc n) w
+listed_more s low n w l = record { member = l.member; from = l.from; below = let b = l.below in omega arith }
+
+pub all_listed : (s : NameSet) (low n : ℕ) → All (Listed s low n) (ascending_between s low n)
+all_listed s low zero = subst (All (Listed s low 0)) (sym (below_low s low 0 (omega arith))) (All-nil (Listed s low 0))
+all_listed s low (suc n) =
+    let before = All-weaker (Listed s low n) (Listed s low (suc n)) (listed_more s low n) (ascending_between s low n) (all_listed s low n) in
+    elim (cases_lt n low) [
+      | inl under ↦ subst (All (Listed s low (suc n))) (sym (below_low s low (suc n) (omega arith))) (All-nil (Listed s low (suc n)))
+      | inr within ↦ elim (cases_Bool (set.contains s n)) [
+        | inl t ↦ subst (All (Listed s low (suc n))) (sym (one_more s low n within t)) (All-push (Listed s low (suc n)) (ascending_between s low n) n before (record { member = t; from = within; below = omega arith }))
+        | inr f ↦ subst (All (Listed s low (suc n))) (sym (no_more s low n f)) before
+      ]
+    ]
+
+-- ---- parts
+
+pub asc_split : (s : NameSet) (low mid n : ℕ) → low ≤ mid → mid ≤ n → ascending_between s low n ≡ ascending_between s low mid ++ ascending_between s mid n
+asc_split s low mid zero lm mn =
+    let e : mid ≡ 0 = omega arith in
+    sym (ap (λ k. ascending_between s low k ++ ascending_between s k 0) e ∙ ap (λ l. ascending_between s low 0 ++ l) (below_low s 0 0 (omega arith)) ∙ append-nil (ascending_between s low 0))
+asc_split s low mid (suc n) lm mn =
+    elim (cases_eq mid (suc n)) [
+      | inl same ↦
+          sym (ap (λ k. ascending_between s low k ++ ascending_between s k (suc n)) same
+          ∙ ap (λ l. ascending_between s low (suc n) ++ l) (below_low s (suc n) (suc n) (omega arith)) ∙ append-nil (ascending_between s low (suc n)))
+      | inr other ↦
+          let before = asc_split s low mid n lm (omega arith) in
+          elim (cases_Bool (set.contains s n)) [
+            | inl t ↦
+                one_more s low n (omega arith) t ∙ ap (λ l. l ++ n ∷ []) before ∙ append_assoc (ascending_between s low mid) (ascending_between s mid n) (n ∷ [])
+                ∙ ap (λ l. ascending_between s low mid ++ l) (sym (one_more s mid n (omega arith) t))
+            | inr f ↦ no_more s low n f ∙ before ∙ ap (λ l. ascending_between s low mid ++ l) (sym (no_more s mid n f))
+          ]
+    ]
+
+pub asc_none : (s : NameSet) (low n : ℕ) → ((w : ℕ) → low ≤ w → w < n → set.contains s w ≡ false) → ascending_between s low n ≡ []
+asc_none s low zero none = below_low s low 0 (omega arith)
+asc_none s low (suc n) none =
+    elim (cases_lt n low) [
+      | inl under ↦ below_low s low (suc n) (omega arith)
+      | inr within ↦ no_more s low n (none n within (omega arith)) ∙ asc_none s low n (λ w from below. none w from (omega arith))
+    ]

@@ -7,3 +7,4 @@ pub mod TextLemmas
 pub mod PlacesLemmas
 pub mod RoundTrip
 pub mod Renamed
+pub mod BlockLemmas

@@ -1,10 +1,10 @@
 -- The text of a graph is read as the graph with each vertex named by its place.
 use Rattle.std.specs.Prelude.{◌≡◌, ◌≢◌, ℕ, zero, suc, ◌+◌, ◌*◌, ◌^◌, ◌<◌, ◌≤◌, Bool, true, false, cond, not, ◌&&◌, ◌||◌, ◌==◌, nat_lt, nat_le, List, [], ◌∷◌, ◌++◌, length, map, Some, codes, refl}
 use Rattle.std.specs.List.{All, flat_map, join_with_byte}
-use Rattle.std.proofs.Common.{subst, ap, sym, ◌∙◌, arith, inl, inr, lit<, length-append}
-use Rattle.std.proofs.lemmas.Bool.{true≢false, cases_Bool, cases_lt, cases_eq, cases_order, and_parts, and_from, eqb-false, eq-eqb, ne_eqb, not-true, lt-ltb, le-leb, false_from_ne_true}
+use Rattle.std.proofs.Common.{ap, sym, ◌∙◌, arith, inl, inr, lit<, length-append}
+use Rattle.std.proofs.lemmas.Bool.{true≢false, cases_Bool, cases_eq, cases_order, and_parts, and_from, eqb-false, eq-eqb, ne_eqb, not-true, lt-ltb, le-leb, false_from_ne_true}
 use Rattle.std.proofs.lemmas.Bool.Decides.{nat_tests}
-use Rattle.std.proofs.lemmas.List.Elements.{All-nil, All-cons, All-head, All-tail, All-append, All-push, All-map, All-weaker}
+use Rattle.std.proofs.lemmas.List.Elements.{All-nil, All-cons, All-head, All-tail, All-append, All-map, All-weaker}
 use Rattle.std.specs.FinSet as set
 use Rattle.md_graph.specs.declared.TheConstants.{NAMES}
 use Rattle.md_graph.specs.NameSet.{NameSet, Member, AllBelow, ascending, ascending_from, ascending_between}
@@ -24,7 +24,7 @@ use Rattle.md_dimacs.specs.File.{AreSizes, IsPassed, IsPassedOrEdge, Spells}
 use Rattle.md_dimacs.specs.Read.{edgeless, with_lines}
 use Rattle.md_dimacs.specs.Text.{position, edges_above, edge_places, edge_line, problem_line, dimacs_text}
 use Rattle.md_dimacs.proofs.FileLemmas.{spelled_by_parts}
-use Rattle.md_dimacs.proofs.AscendingLemmas.{one_more, no_more, below_low, count_member, count_up_to}
+use Rattle.md_dimacs.proofs.AscendingLemmas.{Listed, all_listed, one_more, no_more, below_low, count_member, count_up_to}
 
 -- ---- how many vertices and edges there are
 
@@ -263,27 +263,6 @@ problem_line_is g is small =
     }
 
 -- ---- all lines
-
--- a member from low on and below n
-record Listed (s : NameSet) (low n w : ℕ) : Type 0 where
-  member : Member s w
-  from : low ≤ w
-  below : w < n
-
-listed_more : (s : NameSet) (low n w : ℕ) → Listed s low n w → Listed s low (suc n) w
-listed_more s low n w l = record { member = l.member; from = l.from; below = let b = l.below in omega arith }
-
-all_listed : (s : NameSet) (low n : ℕ) → All (Listed s low n) (ascending_between s low n)
-all_listed s low zero = subst (All (Listed s low 0)) (sym (below_low s low 0 (omega arith))) (All-nil (Listed s low 0))
-all_listed s low (suc n) =
-    let before = All-weaker (Listed s low n) (Listed s low (suc n)) (listed_more s low n) (ascending_between s low n) (all_listed s low n) in
-    elim (cases_lt n low) [
-      | inl under ↦ subst (All (Listed s low (suc n))) (sym (below_low s low (suc n) (omega arith))) (All-nil (Listed s low (suc n)))
-      | inr within ↦ elim (cases_Bool (set.contains s n)) [
-        | inl t ↦ subst (All (Listed s low (suc n))) (sym (one_more s low n within t)) (All-push (Listed s low (suc n)) (ascending_between s low n) n before (record { member = t; from = within; below = omega arith }))
-        | inr f ↦ subst (All (Listed s low (suc n))) (sym (no_more s low n f)) before
-      ]
-    ]
 
 All-flat_map : {X Y : Type 0} (P : X → Type 0) (Q : Y → Type 0) (f : X → List Y) (xs : List X) → All P xs → ((x : X) → P x → All Q (f x)) → All Q (flat_map f xs)
 All-flat_map P Q f [] all each = All-nil Q

@@ -41,18 +41,14 @@ row_lines-cons g v w ws =
     ended-cons (edge_line (places_of g v w)) (map edge_line (map (places_of g v) ws))
     ∙ ap (λ l. l ++ row_lines g v ws) (line_cut (decimal (position g v)) (decimal (position g w)))
 
--- what is gathered, and the lines that are still to come, stay the same text
-pub row_step : (g : PlainGraph) (v w : ℕ) (xs ws : List ℕ) (text new_text held roomed started placed start place total : List ℕ)
-    → (text ++ held) ++ row_lines g v xs ≡ total → xs ≡ w ∷ ws → new_text ++ roomed ≡ text ++ held → started ≡ roomed ++ start → placed ≡ started ++ place
-    → start ≡ line_start g v → place ≡ decimal (position g w) ++ 10 ∷ [] → (new_text ++ placed) ++ row_lines g v ws ≡ total
-row_step g v w xs ws text new_text held roomed started placed start place total before cut room one two is_start is_place =
-    let line = line_start g v ++ (decimal (position g w) ++ 10 ∷ []) in
-    let now : placed ≡ roomed ++ line = two ∙ ap (λ l. l ++ place) one ∙ append_assoc roomed start place ∙ ap (λ l. roomed ++ l) (λ i. is_start i ++ is_place i) in
-    ap (λ l. (new_text ++ l) ++ row_lines g v ws) now
-    ∙ ap (λ l. l ++ row_lines g v ws) (sym (append_assoc new_text roomed line) ∙ ap (λ l. l ++ line) room)
-    ∙ append_assoc (text ++ held) line (row_lines g v ws)
-    ∙ ap (λ l. (text ++ held) ++ l) (sym (ap (row_lines g v) cut ∙ row_lines-cons g v w ws))
-    ∙ before
+pub row_lines-nil : (g : PlainGraph) (v : ℕ) → row_lines g v [] ≡ []
+row_lines-nil g v = ended-nil
+
+pub row_lines-append : (g : PlainGraph) (v : ℕ) (xs ys : List ℕ) → row_lines g v (xs ++ ys) ≡ row_lines g v xs ++ row_lines g v ys
+row_lines-append g v xs ys =
+    ap (λ ps. ended (map edge_line ps)) (map-append (places_of g v) xs ys)
+    ∙ ap ended (map-append edge_line (map (places_of g v) xs) (map (places_of g v) ys))
+    ∙ ended-append (map edge_line (map (places_of g v) xs)) (map edge_line (map (places_of g v) ys))
 
 pub row_end : (g : PlainGraph) (v : ℕ) (xs held total : List ℕ) → held ++ row_lines g v xs ≡ total → xs ≡ [] → held ≡ total
 row_end g v xs held total before e = sym (append-nil held) ∙ ap (λ l. held ++ l) (sym (ap (row_lines g v) e ∙ ended-nil)) ∙ before

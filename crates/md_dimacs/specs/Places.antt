@@ -1,5 +1,7 @@
 -- The places of vertices, spelled as pieces of text.
-use Rattle.std.specs.Prelude.{◌≡◌, ℕ, ◌<◌, List, [], ◌∷◌, ◌++◌, length, take, map, slice_index_or, codes}
+use Rattle.std.specs.Prelude.{◌≡◌, ℕ, ◌<◌, ◌≤◌, List, [], ◌∷◌, ◌++◌, length, take, map, slice_get, slice_index_or, codes}
+use Rattle.std.specs.Option.{option_map_or}
+use Rattle.md_graph.specs.declared.TheConstants.{NAMES}
 use Rattle.md_graph.specs.NameSet.{Member}
 use Rattle.md_graph.specs.PlainGraph.{PlainGraph}
 use Rattle.md_text.specs.Lines.{ended}
@@ -16,9 +18,19 @@ pub record IsPlaceOf (g : PlainGraph) (places : List Piece) (w : ℕ) : Type 0 w
   pub there : w < length places
   pub text : (other : Piece) → text_of (slice_index_or places w other) ≡ decimal (position g w) ++ 10 ∷ []
 
--- each vertex has its place at its index
-abbrev pub ArePlaces : PlainGraph → List Piece → Type 0
-ArePlaces g places = (w : ℕ) → Member g.vertices w → IsPlaceOf g places w
+-- each vertex has its place at its index, and there are not more than names
+pub record ArePlaces (g : PlainGraph) (places : List Piece) : Type 0 where
+  pub place_of : (w : ℕ) → Member g.vertices w → IsPlaceOf g places w
+  pub named : length places ≤ NAMES
+
+-- the text of the piece at an index, if there is one
+abbrev pub text_at : List Piece → ℕ → List ℕ
+text_at places w = option_map_or text_of (slice_get places w) []
+
+-- for each index the text `start` and that of its piece, one after the other
+unfoldable pub lines_at : List Piece → List ℕ → List ℕ → List ℕ
+lines_at places start [] = []
+lines_at places start (w ∷ ws) = (start ++ text_at places w) ++ lines_at places start ws
 
 -- `e i `, which begins each line of the edges of v to the vertices above it
 abbrev pub line_start : PlainGraph → ℕ → List ℕ

@@ -3,6 +3,7 @@
 //! `read` reads a whole file, or names its first fault; `write` writes a graph as a file.
 #![tactic(auto)]
 
+mod blocks;
 mod fault;
 pub mod laws;
 mod line;

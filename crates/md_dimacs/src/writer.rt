@@ -3,6 +3,7 @@ ghost use Rattle.std.specs.Prelude.{
   ◌≡◌,
   ℕ,
   ◌+◌,
+  ◌*◌,
   ◌^◌,
   ◌<◌,
   ◌≤◌,
@@ -21,6 +22,7 @@ ghost use Rattle.md_text.specs.Numbers.{decimal};
 ghost use Rattle.md_dimacs.specs.Text.{dimacs_text, position, problem_line};
 ghost use Rattle.md_dimacs.specs.Places.{text_of, ArePlaces, line_start, row_text, edges_text};
 
+use crate::blocks::{bits_from, write_block};
 use crate::piece::Piece;
 use crate::spelling::{number_piece, start_piece};
 use md_graph::{Graph, Memory, NAMES};
@@ -28,7 +30,7 @@ use md_text::push_decimal;
 use std::alloc::Global;
 
 // How many bytes of lines are gathered before they are appended to the text.
-const CHUNK: usize = 1024;
+const CHUNK: usize = 2000;
 
 /// The DIMACS text of a graph: `p edge n m`, and for each edge a line `e i j`, i < j, ascending by i, then
 /// by j, where i and j are the places of its ends among the vertices in ascending order, counted from 1.
@@ -144,37 +146,31 @@ fn write_row(
     ensures written { IfOk result (λ after. text.new.items ++ take after chunk.new
         ≡ (text.old.items ++ take at chunk.old) ++ row_text graph.now v) }
 {
+    let row = graph.row(v);
+    let from = v + 1;
+    let mut first = from / 64 * 64;
     let mut at = at;
-    for w in graph.row(v).members_from(v + 1) {
+    while (first as usize) < places.len() {
         at = make_room(chunk, at, text)?;
-        at = put_piece(chunk, at, start);
-        at = put_piece(chunk, at, places[w as usize]);
+        let bits = bits_from(row.block(first), first, from);
+        at = write_block(first, bits, start, places, chunk, at);
+        first += 64;
     }
     Ok(at)
 }
 
-// Appends the gathered bytes to the text if a line might not fit behind them.
+// Appends the gathered bytes to the text if 64 lines might not fit behind them.
 fn make_room(chunk: &[u8], at: usize, text: &mut Vec<u8>) -> Result<usize, Memory>
     requires chunk { length chunk.now ≡ CHUNK }
     requires at { at ≤ CHUNK }
-    ensures room { IfOk result (λ after. after + 16 ≤ CHUNK) }
+    ensures room { IfOk result (λ after. after + 16 * 64 ≤ CHUNK) }
     ensures same { IfOk result (λ after. text.new.items ++ take after chunk.now ≡ text.old.items ++ take at chunk.now) }
 {
-    if at + 16 <= CHUNK {
+    if at + 16 * 64 <= CHUNK {
         return Ok(at);
     }
     if text.extend_from_slice(&chunk[..at]).is_err() {
         return Err(Memory);
     }
     Ok(0)
-}
-
-// Writes a piece behind the first `at` bytes, and says how many they then are.
-fn put_piece(chunk: &mut [u8], at: usize, piece: Piece) -> usize
-    requires { at + 8 ≤ length chunk.old }
-    ensures text { take result chunk.new ≡ take at chunk.old ++ text_of piece }
-    ensures within { result ≤ at + 8 }
-{
-    chunk[at..at + 8].copy_from_slice(&piece.bytes);
-    at + piece.used
 }

@@ -9,6 +9,7 @@ loop-v-init c =
     let list = c.into_iter-v-iterator.ensures.into_iter_gives ∙ c.members-v-items.ensures.list ∙ ap ascending c.vertices-vertices.ensures.set in
     record {
       coming = coming_at_start c.args.graph.now.vertices (vec_len c.in-Ok.places) _ c.in-Ok.ensures.len list;
+      named = omega (arith, c.in-Ok.ensures.len);
       spelled = λ w m below. absurd (omega (arith, c.in-Ok.ensures.len));
     }
 
@@ -29,12 +30,16 @@ loop-v-preserved c =
     let up = next_up c.args.graph.now.vertices (vec_len c.loop-v.places) c.loop-v.place _ c.in-Some.v _ c.loop-v.invariant.coming c.in-Some.ensures.steps in
     record {
       coming = coming_at c.args.graph.now.vertices (c.in-Some.v + 1) (vec_len c.fill_up.new.places) (c.loop-v.place + 1) _ c.in_ok-fill_up.ensures.count up.after;
+      named = let name = up.name in omega (arith, c.in_ok-fill_up.ensures.count);
       spelled = λ w m below.
           spelled_more c.args.graph.now c.loop-v.places.items c.fill_up.new.places.items c.in_ok-fill_up.ensures.items.0 (vec_len c.loop-v.places) c.loop-v.place c.in-Some.v _ c.number_piece.result up c.loop-v.places.ok.0 c.in_ok-fill_up.ensures.items.1 (sym c.fill_up.new.places.ok.0 ∙ c.in_ok-fill_up.ensures.count)
           c.number_piece.ensures.text c.loop-v.invariant.spelled w m (omega (arith, c.in_ok-fill_up.ensures.count));
     }
 
 pub returns : goal.returns
-returns c = λ w m.
-    c.loop-v.invariant.spelled w m
-    (none_left c.args.graph.now.vertices (vec_len c.loop-v.places) c.loop-v.place _ w c.loop-v.invariant.coming c.in-None.ensures.steps.0 m (c.vertices-vertices.ensures.graph.names w m))
+returns c = record {
+  place_of = λ w m.
+      c.loop-v.invariant.spelled w m
+      (none_left c.args.graph.now.vertices (vec_len c.loop-v.places) c.loop-v.place _ w c.loop-v.invariant.coming c.in-None.ensures.steps.0 m (c.vertices-vertices.ensures.graph.names w m));
+  named = let count = c.loop-v.places.ok.0 in omega (arith, c.loop-v.invariant.named);
+}

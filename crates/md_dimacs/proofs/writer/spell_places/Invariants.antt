@@ -1,4 +1,5 @@
-use Rattle.std.proofs.Common.{ℕ, ◌<◌, vec_len}
+use Rattle.std.proofs.Common.{ℕ, ◌<◌, ◌≤◌, vec_len}
+use Rattle.md_graph.specs.declared.TheConstants.{NAMES}
 use Rattle.md_graph.specs.NameSet.{Member}
 use Rattle.md_dimacs.specs.Places.{IsPlaceOf}
 use Rattle.md_dimacs.proofs.AscendingLemmas.{Coming}
@@ -7,5 +8,6 @@ use Rattle.md_dimacs.proofs.writer.spell_places.Given as goal
 abbrev pub invariant-loop-v : goal.invariant-loop-v
 invariant-loop-v l = record {
   coming : Coming l.graph.vertices (vec_len l.places) l.place l.v-iterator;
+  named : vec_len l.places ≤ NAMES;
   spelled : (w : ℕ) → Member l.graph.vertices w → w < vec_len l.places → IsPlaceOf l.graph l.places.items w;
 }

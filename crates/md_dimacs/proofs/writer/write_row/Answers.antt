@@ -1,38 +1,45 @@
-use Rattle.std.proofs.Common.{arith, ap, ◌∙◌, ◌+◌, ◌++◌, take}
-use Rattle.md_graph.specs.NameSet.{ascending_from}
+use Rattle.std.proofs.Common.{arith, ap, sym, ◌∙◌, ◌+◌, ◌++◌, take, ℕ, ◌<◌}
+use Rattle.std.specs.FinSet as set
 use Rattle.md_graph.specs.PlainGraph.{neighbours}
+use Rattle.md_graph.specs.Words.{bits_between}
 use Rattle.md_dimacs.specs.Places.{text_of}
-use Rattle.md_dimacs.proofs.AscendingLemmas.{coming_from, next_up, neighbour_is_vertex}
-use Rattle.md_dimacs.proofs.TextLemmas.{row_text_is, row_step, row_end}
+use Rattle.md_dimacs.proofs.BlockLemmas.{block_split, block_places, block_step, block_start, block_end, all_there, names_after, word_fits}
 use Rattle.md_dimacs.proofs.writer.write_row.Goals as goal
 
-pub loop-w-init : goal.loop-w-init
-loop-w-init c =
-    let list = c.into_iter-w-iterator.ensures.into_iter_gives ∙ c.members_from-w-items.ensures.list ∙ ap (λ s. ascending_from s (c.args.v + 1)) c.row.ensures.set in
-    record {
-      size = c.requires.chunk;
-      within = c.requires.at;
-      coming = (c.args.v + 1, (_, coming_from (neighbours c.args.graph.now c.args.v) (c.args.v + 1) _ list));
-      written = ap (λ l. (c.args.text.now.items ++ take c.args.at c.args.chunk.now) ++ l) (row_text_is c.args.graph.now c.args.v _ list);
-    }
+pub loop-first-init : goal.loop-first-init
+loop-first-init c = record {
+  size = c.requires.chunk;
+  within = c.requires.at;
+  aligned = omega arith;
+  named = names_after c.args.v c.requires.name;
+  near = omega arith;
+  written = ap (λ l. (c.args.text.now.items ++ take c.args.at c.args.chunk.now) ++ l) (block_start c.args.graph.now c.args.v (c.args.v + 1) _ (omega arith) (omega arith));
+}
 
-pub bounds-places-w : goal.bounds-places-w
-bounds-places-w c =
-    let up = next_up (neighbours c.args.graph.now c.args.v) c.loop-w.invariant.coming.0 c.loop-w.invariant.coming.1.0 _ c.in-Some.w _ c.loop-w.invariant.coming.1.1 c.in-Some.ensures.steps in
-    (c.requires.places c.in-Some.w (neighbour_is_vertex c.args.graph.now c.args.v c.in-Some.w c.row.ensures.graph up.member)).there
+pub write_block-at-requires-clause-there : goal.write_block-at-requires-clause-there
+write_block-at-requires-clause-there c =
+    let fits = word_fits c.loop-first.first c.loop-first.invariant.aligned (omega (arith, c.requires.places.named)) in
+    let has = λ (k : ℕ) (h : k < 64). ap (λ s. set.contains s (c.loop-first.first + k)) (sym c.row-row.ensures.set) ∙ c.block.ensures k h in
+    let cut = block_split (neighbours c.args.graph.now c.args.v) (c.args.v + 1) c.loop-first.first c.block.result c.bits_from-bits.result c.loop-first.invariant.near fits has c.bits_from-bits.ensures in
+    all_there c.args.graph.now c.args.places.now _ (block_places c.args.graph.now c.row-row.ensures.graph c.args.v c.args.places.now c.requires.places _ _ _ cut)
 
-pub loop-w-preserved : goal.loop-w-preserved
-loop-w-preserved c =
-    let up = next_up (neighbours c.args.graph.now c.args.v) c.loop-w.invariant.coming.0 c.loop-w.invariant.coming.1.0 _ c.in-Some.w _ c.loop-w.invariant.coming.1.1 c.in-Some.ensures.steps in
-    let place = c.requires.places c.in-Some.w (neighbour_is_vertex c.args.graph.now c.args.v c.in-Some.w c.row.ensures.graph up.member) in
+pub loop-first-preserved : goal.loop-first-preserved
+loop-first-preserved c =
+    let fits = word_fits c.loop-first.first c.loop-first.invariant.aligned (omega (arith, c.requires.places.named)) in
+    let has = λ (k : ℕ) (h : k < 64). ap (λ s. set.contains s (c.loop-first.first + k)) (sym c.row-row.ensures.set) ∙ c.block.ensures k h in
+    let cut = block_split (neighbours c.args.graph.now c.args.v) (c.args.v + 1) c.loop-first.first c.block.result c.bits_from-bits.result c.loop-first.invariant.near fits has c.bits_from-bits.ensures in
+    let places = block_places c.args.graph.now c.row-row.ensures.graph c.args.v c.args.places.now c.requires.places _ _ _ cut in
     record {
       size = omega arith;
       within = omega (arith, c.in_ok-at.ensures.room);
-      coming = (c.in-Some.w + 1, (c.loop-w.invariant.coming.1.0 + 1, up.after));
+      aligned = omega (arith, c.loop-first.invariant.aligned);
+      named = fits;
+      near = omega (arith, c.loop-first.invariant.near);
       written =
-          row_step c.args.graph.now c.args.v c.in-Some.w _ _ c.loop-w.text.items c.make_room.new.text.items (take c.loop-w.at c.loop-w.chunk) _ _ _ (text_of c.args.start) (text_of c.index-places-w.result) _ c.loop-w.invariant.written c.in-Some.ensures.steps c.in_ok-at.ensures.same
-          c.put_piece-at.ensures.text c.put_piece-at-in-loop-w.ensures.text c.requires.start (ap text_of c.index-places-w.is ∙ place.text c.index-places-w.result);
+          block_step c.args.graph.now c.args.v (c.args.v + 1) c.loop-first.first c.args.places.now (bits_between c.loop-first.first c.bits_from-bits.result 64) c.loop-first.text.items (take c.loop-first.at c.loop-first.chunk) c.make_room.new.text.items
+          (take c.in_ok-at.at c.loop-first.chunk) (take c.write_block-at.result c.write_block-at.new.chunk) (text_of c.args.start) _ c.loop-first.invariant.written cut places c.requires.start c.in_ok-at.ensures.same c.write_block-at.ensures.text;
     }
 
 pub returns-clause-written : goal.returns-clause-written
-returns-clause-written c = row_end c.args.graph.now c.args.v _ _ _ c.loop-w.invariant.written c.in-None.ensures.steps.0
+returns-clause-written c =
+    block_end c.args.graph.now c.row-row.ensures.graph c.args.v (c.args.v + 1) c.loop-first.first c.args.places.now _ _ c.requires.places c.loop-first-test.false c.loop-first.invariant.written

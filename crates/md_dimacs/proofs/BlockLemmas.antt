@@ -1,0 +1,171 @@
+-- The members of a set, 64 names at a time.
+use Rattle.std.specs.Prelude.{◌≡◌, ℕ, zero, suc, ◌+◌, ◌-◌, ◌*◌, ◌/◌, ◌%◌, ◌<◌, ◌≤◌, max, Bool, true, false, cond, ◌&&◌, ◌==◌, nat_le, List, [], ◌∷◌, ◌++◌, length, get_or, refl}
+use Rattle.std.specs.Int.{bit_at}
+use Rattle.std.specs.List.{All}
+use Rattle.std.specs.Option.{option_map_or}
+use Rattle.std.proofs.Common.{subst, ap, sym, ◌∙◌, arith, inl, inr, append_assoc, length-append}
+use Rattle.std.proofs.lemmas.Bool.{cases_lt, le-leb, lt-leb, false_from_ne_true}
+use Rattle.std.proofs.lemmas.List.{append-nil}
+use Rattle.std.proofs.lemmas.List.Elements.{All-nil, All-cons, All-head, All-tail, All-weaker}
+use Rattle.std.proofs.lemmas.Option.{slice_get-get_or}
+use Rattle.std.specs.FinSet as set
+use Rattle.md_graph.specs.declared.TheConstants.{NAMES}
+use Rattle.md_graph.specs.NameSet.{NameSet, ascending_between}
+use Rattle.md_graph.specs.PlainGraph.{PlainGraph, IsGraph, neighbours}
+use Rattle.md_graph.specs.Words.{bits_between}
+use Rattle.md_graph.proofs.Limits.{NAMES-is}
+use Rattle.md_graph.proofs.MemberLists.{no_bits_of_zero}
+use Rattle.md_text.specs.Numbers.{decimal}
+use Rattle.md_dimacs.specs.declared.piece.Piece.{Piece}
+use Rattle.md_dimacs.specs.Text.{position}
+use Rattle.md_dimacs.specs.Places.{text_of, IsPlaceOf, ArePlaces, text_at, lines_at, line_start, row_text}
+use Rattle.md_dimacs.proofs.AscendingLemmas.{Listed, all_listed, below_low, asc_split, asc_none, neighbour_is_vertex}
+use Rattle.md_dimacs.proofs.TextLemmas.{row_lines, row_lines-nil, row_lines-cons, row_lines-append, row_text_is, row_end}
+
+-- ---- the bits of a word
+
+at_most_one_more : (xs : List ℕ) (x n : ℕ) (b : Bool) → length xs ≤ n → length (xs ++ cond b (x ∷ []) []) ≤ suc n
+at_most_one_more xs x n true h = let e = length-append xs (x ∷ []) in omega arith
+at_most_one_more xs x n false h = let e = ap length (append-nil xs) in omega arith
+
+pub bits_count : (first bits n : ℕ) → length (bits_between first bits n) ≤ n
+unfolding bits_between
+bits_count first bits zero = omega arith
+bits_count first bits (suc n) = at_most_one_more (bits_between first bits n) (first + n) n (bit_at bits n == 1) (bits_count first bits n)
+
+-- the members from low on up to first + n, where bit k tells of first + k
+by_bits : (s : NameSet) (low first bits n : ℕ) → ((k : ℕ) → k < n → (bit_at bits k == 1) ≡ (nat_le low (first + k) && set.contains s (first + k)))
+    → ascending_between s low (first + n) ≡ ascending_between s low first ++ bits_between first bits n
+unfolding ascending_between bits_between
+by_bits s low first bits zero same =
+    let bound : first + 0 ≡ first = omega arith in ap (ascending_between s low) bound ∙ sym (append-nil (ascending_between s low first))
+by_bits s low first bits (suc n) same =
+    let bound : first + suc n ≡ suc (first + n) = omega arith in
+    ap (ascending_between s low) bound
+    ∙ (λ i. by_bits s low first bits n (λ k h. same k (omega arith)) i ++ cond (sym (same n (omega arith)) i) ((first + n) ∷ []) [])
+    ∙ append_assoc (ascending_between s low first) (bits_between first bits n) (cond (bit_at bits n == 1) ((first + n) ∷ []) [])
+
+kept_bit : (s : NameSet) (from first low bits masked k : ℕ) → low ≡ max from first → set.contains s (first + k) ≡ (bit_at bits k == 1)
+    → bit_at masked k ≡ cond (nat_le from (first + k)) (bit_at bits k) 0 → (bit_at masked k == 1) ≡ (nat_le low (first + k) && set.contains s (first + k))
+kept_bit s from first low bits masked k is_low has is =
+    elim (cases_lt (first + k) from) [
+      | inl under ↦
+          let out = lt-leb from (first + k) under in
+          let low_out = lt-leb low (first + k) (omega arith) in
+          ap (λ b. b == 1) (is ∙ ap (λ b. cond b (bit_at bits k) 0) out) ∙ sym (ap (λ b. b && set.contains s (first + k)) low_out)
+      | inr above ↦
+          let kept = le-leb from (first + k) above in
+          let low_kept = le-leb low (first + k) (omega arith) in
+          ap (λ b. b == 1) (is ∙ ap (λ b. cond b (bit_at bits k) 0) kept) ∙ sym (ap (λ b. b && set.contains s (first + k)) low_kept ∙ has)
+    ]
+
+-- the members from low on: those of one word, and the others
+pub block_split : (s : NameSet) (from first bits masked : ℕ) → from < first + 64 → first + 64 ≤ NAMES
+    → ((k : ℕ) → k < 64 → set.contains s (first + k) ≡ (bit_at bits k == 1)) → ((k : ℕ) → k < 64 → bit_at masked k ≡ cond (nat_le from (first + k)) (bit_at bits k) 0)
+    → ascending_between s (max from first) NAMES ≡ bits_between first masked 64 ++ ascending_between s (max from (first + 64)) NAMES
+block_split s from first bits masked within named has is =
+    let low = max from first in
+    let next : first + 64 ≡ max from (first + 64) = omega arith in
+    asc_split s low (first + 64) NAMES (omega arith) named
+    ∙ (λ i. (by_bits s low first masked 64 (λ k h. kept_bit s from first low bits masked k refl (has k h) (is k h)) ∙ ap (λ l. l ++ bits_between first masked 64) (below_low s low first (omega arith))) i ++ ascending_between s (next i) NAMES)
+
+-- a name at the front of a word that isn't behind all names
+pub word_fits : (first : ℕ) → first % 64 ≡ 0 → first < NAMES → first + 64 ≤ NAMES
+word_fits first aligned below = let whole = NAMES-is in omega arith
+
+-- ---- the lines of a word
+
+text_at_is : (g : PlainGraph) (places : List Piece) (w : ℕ) → IsPlaceOf g places w → text_at places w ≡ decimal (position g w) ++ 10 ∷ []
+text_at_is g places w is =
+    let any : Piece = record { bytes = []; used = 0; within = omega arith } in
+    ap (λ o. option_map_or text_of o []) (slice_get-get_or places w any is.there) ∙ is.text any
+
+pub lines_are : (g : PlainGraph) (v : ℕ) (places : List Piece) (ws : List ℕ) → All (IsPlaceOf g places) ws → lines_at places (line_start g v) ws ≡ row_lines g v ws
+unfolding lines_at
+lines_are g v places [] all = sym (row_lines-nil g v)
+lines_are g v places (w ∷ ws) all =
+    (λ i. (line_start g v ++ text_at_is g places w (All-head (IsPlaceOf g places) w ws all) i) ++ lines_are g v places ws (All-tail (IsPlaceOf g places) w ws all) i)
+    ∙ sym (row_lines-cons g v w ws)
+
+All-front : {X : Type 0} (P : X → Type 0) (xs ys : List X) → All P (xs ++ ys) → All P xs
+All-front P [] ys all = All-nil P
+All-front P (x ∷ xs) ys all = All-cons P x xs (All-head P x (xs ++ ys) all) (All-front P xs ys (All-tail P x (xs ++ ys) all))
+
+-- the pieces of the neighbours in a word are there
+pub block_places : (g : PlainGraph) → IsGraph g → (v : ℕ) (places : List Piece) → ArePlaces g places → (low : ℕ) (xs rest : List ℕ)
+    → ascending_between (neighbours g v) low NAMES ≡ xs ++ rest → All (IsPlaceOf g places) xs
+block_places g is v places all low xs rest cut =
+    All-front (IsPlaceOf g places) xs rest (subst (All (IsPlaceOf g places)) cut
+    (All-weaker (Listed (neighbours g v) low NAMES) (IsPlaceOf g places) (λ w l. all.place_of w (neighbour_is_vertex g v w is l.member)) (ascending_between (neighbours g v) low NAMES) (all_listed (neighbours g v) low NAMES)))
+
+pub all_there : (g : PlainGraph) (places : List Piece) (xs : List ℕ) → All (IsPlaceOf g places) xs → All (λ w. w < length places) xs
+all_there g places xs all = All-weaker (IsPlaceOf g places) (λ w. w < length places) (λ w is. is.there) xs all
+
+-- one step of the loop over the words of a row
+pub block_step : (g : PlainGraph) (v from first : ℕ) (places : List Piece) (xs text held new_text roomed placed start total : List ℕ)
+    → ((text ++ held) ++ row_lines g v (ascending_between (neighbours g v) (max from first) NAMES)) ≡ total
+    → ascending_between (neighbours g v) (max from first) NAMES ≡ xs ++ ascending_between (neighbours g v) (max from (first + 64)) NAMES
+    → All (IsPlaceOf g places) xs → start ≡ line_start g v → new_text ++ roomed ≡ text ++ held → placed ≡ roomed ++ lines_at places start xs
+    → ((new_text ++ placed) ++ row_lines g v (ascending_between (neighbours g v) (max from (first + 64)) NAMES)) ≡ total
+block_step g v from first places xs text held new_text roomed placed start total before cut all is_start room more =
+    let rest = ascending_between (neighbours g v) (max from (first + 64)) NAMES in
+    let lines : lines_at places start xs ≡ row_lines g v xs = ap (λ s. lines_at places s xs) is_start ∙ lines_are g v places xs all in
+    ap (λ l. (new_text ++ l) ++ row_lines g v rest) (more ∙ ap (λ l. roomed ++ l) lines)
+    ∙ ap (λ l. l ++ row_lines g v rest) (sym (append_assoc new_text roomed (row_lines g v xs)) ∙ ap (λ l. l ++ row_lines g v xs) room)
+    ∙ append_assoc (text ++ held) (row_lines g v xs) (row_lines g v rest)
+    ∙ ap (λ l. (text ++ held) ++ l) (sym (ap (row_lines g v) cut ∙ row_lines-append g v xs rest))
+    ∙ before
+
+-- behind all pieces no line is left
+pub block_end : (g : PlainGraph) → IsGraph g → (v from first : ℕ) (places : List Piece) (held total : List ℕ) → ArePlaces g places → length places ≤ first
+    → (held ++ row_lines g v (ascending_between (neighbours g v) (max from first) NAMES)) ≡ total → held ≡ total
+block_end g is v from first places held total all past before =
+    row_end g v (ascending_between (neighbours g v) (max from first) NAMES) held total before
+    (asc_none (neighbours g v) (max from first) NAMES (λ w above below. false_from_ne_true _ (λ m.
+    let there = (all.place_of w (neighbour_is_vertex g v w is m)).there in omega arith)))
+
+pub block_start : (g : PlainGraph) (v from first : ℕ) → from ≡ v + 1 → first ≤ from → row_lines g v (ascending_between (neighbours g v) (max from first) NAMES) ≡ row_text g v
+block_start g v from first is within =
+    let low : max from first ≡ v + 1 = omega arith in
+    row_text_is g v (ascending_between (neighbours g v) (max from first) NAMES) (ap (λ k. ascending_between (neighbours g v) k NAMES) low)
+
+-- ---- the loop over the bits of a word
+
+pub bit_step : (first left others place : ℕ) (places : List Piece) (start held started placed total : List ℕ) (piece : Piece)
+    → (held ++ lines_at places start (bits_between first left 64)) ≡ total → bits_between first left 64 ≡ (first + place) ∷ bits_between first others 64
+    → started ≡ held ++ start → placed ≡ started ++ text_of piece → piece ≡ get_or places (first + place) piece → first + place < length places
+    → (placed ++ lines_at places start (bits_between first others 64)) ≡ total
+unfolding lines_at
+bit_step first left others place places start held started placed total piece before cut one two is there =
+    let rest = lines_at places start (bits_between first others 64) in
+    let text : text_of piece ≡ text_at places (first + place) = ap text_of is ∙ sym (ap (λ o. option_map_or text_of o []) (slice_get-get_or places (first + place) piece there)) in
+    ap (λ l. l ++ rest) (two ∙ ap (λ l. l ++ text_of piece) one ∙ append_assoc held start (text_of piece) ∙ ap (λ l. held ++ (start ++ l)) text)
+    ∙ append_assoc held (start ++ text_at places (first + place)) rest
+    ∙ ap (λ l. held ++ l) (sym (ap (lines_at places start) cut)) ∙ before
+
+pub bit_end : (first : ℕ) (places : List Piece) (start held total xs : List ℕ) → (held ++ lines_at places start xs) ≡ total → xs ≡ [] → held ≡ total
+unfolding lines_at
+bit_end first places start held total xs before e = sym (append-nil held) ∙ ap (λ l. held ++ l) (sym (ap (lines_at places start) e)) ∙ before
+
+pub rest_there : (n : ℕ) (x : ℕ) (xs ys : List ℕ) → ys ≡ x ∷ xs → All (λ w. w < n) ys → All (λ w. w < n) xs
+rest_there n x xs ys e all = All-tail (λ w. w < n) x xs (subst (All (λ w. w < n)) e all)
+
+pub first_there : (n : ℕ) (x : ℕ) (xs ys : List ℕ) → ys ≡ x ∷ xs → All (λ w. w < n) ys → x < n
+first_there n x xs ys e all = All-head (λ w. w < n) x xs (subst (All (λ w. w < n)) e all)
+
+pub no_bits_left : (first left : ℕ) → left ≡ 0 → bits_between first left 64 ≡ []
+no_bits_left first left e = ap (λ b. bits_between first b 64) e ∙ no_bits_of_zero first 64
+
+pub shorter : (x : ℕ) (xs ys : List ℕ) → ys ≡ x ∷ xs → length ys ≡ length xs + 1
+shorter x xs ys e = let l = ap length e in omega arith
+
+pub same_part : (bits first from k : ℕ) → first < from → cond (nat_le (from - first) k) (bit_at bits k) 0 ≡ cond (nat_le from (first + k)) (bit_at bits k) 0
+same_part bits first from k h =
+    elim (cases_lt (first + k) from) [
+      | inl under ↦ (λ i. cond (lt-leb (from - first) k (omega arith) i) (bit_at bits k) 0) ∙ sym (λ i. cond (lt-leb from (first + k) under i) (bit_at bits k) 0)
+      | inr above ↦ (λ i. cond (le-leb (from - first) k (omega arith) i) (bit_at bits k) 0) ∙ sym (λ i. cond (le-leb from (first + k) above i) (bit_at bits k) 0)
+    ]
+
+-- the front of the word of the name behind v
+pub names_after : (v : ℕ) → v < NAMES → (v + 1) / 64 * 64 ≤ NAMES
+names_after v below = let whole = NAMES-is in omega arith

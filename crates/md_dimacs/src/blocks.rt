@@ -1,0 +1,68 @@
+//! Writes the lines of the edges of one vertex, 64 names at a time.
+ghost use Rattle.std.specs.Prelude.{◌≡◌, ◌≢◌, ℕ, ◌+◌, ◌*◌, ◌^◌, ◌<◌, ◌≤◌, ◌∷◌, ◌++◌, length, take, nat_le, if◌then◌else◌};
+ghost use Rattle.std.specs.Int.{bit_at};
+ghost use Rattle.std.specs.List.{All};
+ghost use Rattle.md_graph.specs.Words.{bits_between};
+ghost use Rattle.md_dimacs.specs.Places.{text_of, lines_at};
+
+use crate::piece::Piece;
+
+// Writes, for each 1 in `bits`, a line of `start` and of the piece at its place behind `first`; the lines
+// stand behind the first `at` bytes, and the result says how many these then are.
+pub(crate) fn write_block(
+    first: u32,
+    bits: u64,
+    start: Piece,
+    places: &[Piece],
+    chunk: &mut [u8],
+    at: usize,
+) -> usize
+    requires there { All (λ w. w < length places.now) (bits_between first bits 64) }
+    requires fits { first + 64 < 2 ^ 32 }
+    requires room { at + 16 * 64 ≤ length chunk.old }
+    ensures text { take result chunk.new
+        ≡ take at chunk.old ++ lines_at places.now (text_of start) (bits_between first bits 64) }
+    ensures within { result ≤ at + 16 * 64 }
+{
+    let mut left = bits;
+    let mut at = at;
+    while left != 0 {
+        let (place, others) = lowest(left);
+        left = others;
+        at = put_piece(chunk, at, start);
+        at = put_piece(chunk, at, places[(first + place) as usize]);
+    }
+    at
+}
+
+// The place of the lowest 1 of `bits`, and `bits` without it.
+fn lowest(bits: u64) -> (u32, u64)
+    requires { bits ≢ 0 }
+    ensures place { result.0 < 64 }
+    ensures rest { (first : ℕ)
+        → bits_between first bits 64 ≡ (first + result.0) ∷ bits_between first result.1 64 }
+{
+    (bits.trailing_zeros(), bits & (bits - 1))
+}
+
+// The bits for names at or above `from`, where bit k is for the name `first + k`.
+pub(crate) fn bits_from(bits: u64, first: u32, from: u32) -> u64
+    requires { from < first + 64 }
+    ensures { (k : ℕ) → k < 64 → bit_at result k ≡ (if nat_le from (first + k) then bit_at bits k else 0) }
+{
+    if from <= first {
+        return bits;
+    }
+    let place = from - first;
+    bits >> place << place
+}
+
+// Writes a piece behind the first `at` bytes, and says how many they then are.
+fn put_piece(chunk: &mut [u8], at: usize, piece: Piece) -> usize
+    requires { at + 8 ≤ length chunk.old }
+    ensures text { take result chunk.new ≡ take at chunk.old ++ text_of piece }
+    ensures within { result ≤ at + 8 }
+{
+    chunk[at..at + 8].copy_from_slice(&piece.bytes);
+    at + piece.used
+}
