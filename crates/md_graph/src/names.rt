@@ -63,7 +63,9 @@ impl Names {
     {
         let word = v as usize / 64;
         self.words[word] |= 1 << (v % 64);
-        self.used = self.used.max(word + 1);
+        if self.used <= word {
+            self.used = word + 1;
+        }
     }
 
     /// Leaves `v` out. Condition: it is a name.
