@@ -1,0 +1,5 @@
+pub mod Trees
+pub mod StrongTrees
+pub mod WellFormed
+pub mod TreeGraph
+pub mod Laws
