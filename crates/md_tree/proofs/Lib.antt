@@ -5,3 +5,5 @@ pub mod Unique
 pub mod Pairs
 pub mod Exists
 pub mod Canonical
+pub mod Graph
+pub mod OneTree
