@@ -1,0 +1,4 @@
+pub mod ListLemmas
+pub mod LineLemmas
+pub mod FieldLemmas
+pub mod NumberLemmas

@@ -1,0 +1,37 @@
+use Rattle.std.proofs.Common.{◌<◌, ◌-◌, ap, length, take, drop, arith}
+use Rattle.std.proofs.lemmas.List.{length-drop, take_rest}
+use Rattle.md_text.proofs.FieldLemmas.{IsFirstField, fields-blanks, field_cut, field_is_word}
+use Rattle.md_text.proofs.cut.split_field.Goals as goal
+
+pub returns-then-start-line-clause-none : goal.returns-then-start-line-clause-none
+returns-then-start-line-clause-none c =
+    fields-blanks c.args.line.now (λ k below. c.first_other-start.ensures.before k (omega arith))
+
+-- what the two searches found
+first_field : (c : goal.After-split_at) → let line = c.args.line.now in let start = c.first_other-start.result in IsFirstField line (take (length line - start) (drop start line)) start c.first_blank-end.result
+first_field c =
+    let line = c.args.line.now in
+    let start = c.first_other-start.result in
+    let known = c.first_other-start.ensures in
+    let more = c.first_blank-end.ensures in
+    let left : start < length line = omega arith in
+    record {
+      skipped = known.within;
+      blanks = known.before;
+      begins = known.found left;
+      is_rest = take_rest line start;
+      some = omega (arith, ap length (take_rest line start), length-drop start line);
+      within = more.within;
+      others = more.before;
+      found = more.found;
+    }
+
+pub returns-clause-field : goal.returns-clause-field
+returns-clause-field c =
+    let cut = field_cut _ _ _ _ (first_field c) in
+    let front = c.split_at.ensures.front in
+    let back = c.split_at.ensures.back in
+    cc
+
+pub returns-clause-word : goal.returns-clause-word
+returns-clause-word c = rw c.split_at.ensures.front (field_is_word _ _ _ _ (first_field c))

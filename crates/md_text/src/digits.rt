@@ -1,0 +1,112 @@
+//! Reads and writes numbers in decimal digits.
+ghost use Rattle.std.specs.Prelude.{◌≡◌, ◌+◌, ◌/◌, ◌%◌, ◌<◌, ◌≤◌, [], ◌∷◌, ◌++◌, length, vec_len, vec_capacity};
+ghost use Rattle.md_text.specs.Numbers.{number_of, decimal};
+
+/// How many digits a number that is read may have. Every such number fits a `u64`.
+pub const DIGITS: usize = 18;
+
+/// The number that a field writes: 1 to `DIGITS` bytes, all of them `0` to `9`. None for any other
+/// field. Leading zeros are allowed, and are counted. (DIMACS.)
+pub fn number(field: &[u8]) -> Option<u64>
+    ensures { result ≡ number_of field.now }
+{
+    if field.is_empty() || field.len() > DIGITS {
+        return None;
+    }
+    let mut value = 0;
+    for byte in field {
+        if !byte.is_ascii_digit() {
+            return None;
+        }
+        value = value * 10 + u64::from(*byte - b'0');
+    }
+    Some(value)
+}
+
+/// Appends the shortest decimal digits of a number. It takes no memory: there has to be room for
+/// the digits, of which a number below `10^k` has at most `k`.
+#[inline]
+pub fn push_decimal(text: &mut Vec<u8>, n: u64)
+    requires { vec_len text.old + length (decimal n) ≤ vec_capacity text.old }
+    ensures items { text.new.items ≡ text.old.items ++ decimal n }
+    ensures len { vec_len text.new ≡ vec_len text.old + length (decimal n) }
+    ensures capacity { vec_capacity text.new ≡ vec_capacity text.old }
+{
+    if n < 10_000 {
+        push_short(text, n);
+    } else {
+        push_long(text, n);
+    }
+}
+
+// The same for five digits or more: those of a ten-thousandth, and then four.
+#[tactic(auto, using(crate::proofs::NumberLemmas::digit_steps))]
+fn push_long(text: &mut Vec<u8>, n: u64)
+    requires long { 10000 ≤ n }
+    requires room { vec_len text.old + length (decimal n) ≤ vec_capacity text.old }
+    ensures items { text.new.items ≡ text.old.items ++ decimal n }
+    ensures len { vec_len text.new ≡ vec_len text.old + length (decimal n) }
+    ensures capacity { vec_capacity text.new ≡ vec_capacity text.old }
+{
+    let front = n / 10_000;
+    if front < 10_000 {
+        push_short(text, front);
+    } else {
+        push_long(text, front);
+    }
+    push_pair(text, n % 10_000 / 100);
+    push_pair(text, n % 100);
+}
+
+// The same for at most four digits.
+#[tactic(auto, using(crate::proofs::NumberLemmas::digit_steps))]
+#[inline(always)]
+fn push_short(text: &mut Vec<u8>, n: u64)
+    requires short { n < 10000 }
+    requires room { vec_len text.old + length (decimal n) ≤ vec_capacity text.old }
+    ensures items { text.new.items ≡ text.old.items ++ decimal n }
+    ensures len { vec_len text.new ≡ vec_len text.old + length (decimal n) }
+    ensures capacity { vec_capacity text.new ≡ vec_capacity text.old }
+{
+    if n < 100 {
+        push_front(text, n);
+    } else {
+        push_front(text, n / 100);
+        push_pair(text, n % 100);
+    }
+}
+
+// The same for one or two digits.
+#[tactic(auto, using(crate::proofs::NumberLemmas::digit_steps))]
+#[inline(always)]
+fn push_front(text: &mut Vec<u8>, n: u64)
+    requires short { n < 100 }
+    requires room { vec_len text.old + length (decimal n) ≤ vec_capacity text.old }
+    ensures items { text.new.items ≡ text.old.items ++ decimal n }
+    ensures len { vec_len text.new ≡ vec_len text.old + length (decimal n) }
+    ensures capacity { vec_capacity text.new ≡ vec_capacity text.old }
+{
+    if n < 10 {
+        text.push_reserved(b'0' + n as u8);
+    } else {
+        push_pair(text, n);
+    }
+}
+
+// Each number below 100 in two digits.
+static PAIRS: [u8; 200] =
+    *b"00010203040506070809101112131415161718192021222324252627282930313233343536373839404142434445464748495051525354555657585960616263646566676869707172737475767778798081828384858687888990919293949596979899";
+
+// Appends a number below 100 in two digits.
+#[inline(always)]
+fn push_pair(text: &mut Vec<u8>, pair: u64)
+    requires below { pair < 100 }
+    requires room { vec_len text.old + 2 ≤ vec_capacity text.old }
+    ensures items { text.new.items ≡ text.old.items ++ (48 + pair / 10) ∷ (48 + pair % 10) ∷ [] }
+    ensures len { vec_len text.new ≡ vec_len text.old + 2 }
+    ensures capacity { vec_capacity text.new ≡ vec_capacity text.old }
+{
+    let place = pair as usize * 2;
+    text.push_reserved(PAIRS[place]);
+    text.push_reserved(PAIRS[place + 1]);
+}

@@ -1,0 +1,82 @@
+//! Texts, lines and numbers with what POSIX and the DIMACS format read in them.
+use super::*;
+use std::alloc::{AllocError, Global};
+use std::process::Abort;
+use std::test::Fail;
+
+fn check_lines(rt: &impl Abort, text: &[u8], expected: &[&[u8]]) {
+    let mut rest = text;
+    for line in expected {
+        assert!(rt; !rest.is_empty());
+        let (first, behind) = split_line(rest);
+        assert_eq!(rt; without_return(first), *line);
+        rest = behind;
+    }
+    assert!(rt; rest.is_empty());
+}
+
+fn check_fields(rt: &impl Abort, line: &[u8], expected: &[&[u8]]) {
+    let mut rest = line;
+    for field in expected {
+        let (first, behind) = split_field(rest).expect(rt, "a field");
+        assert_eq!(rt; first, *field);
+        rest = behind;
+    }
+    assert!(rt; split_field(rest).is_none());
+}
+
+#[tactic(auto, using(crate::proofs::NumberLemmas::decimal_fits_20))]
+fn check_number(rt: &impl Abort, alloc: Global, n: u64, digits: &[u8]) -> Result<(), AllocError> {
+    let mut text = Vec::with_capacity(alloc, 20)?;
+    push_decimal(&mut text, n);
+    assert_eq!(rt; text.as_slice(), digits);
+    assert_eq!(rt;
+        number(digits),
+        if digits.len() <= DIGITS {
+            Some(n)
+        } else {
+            None
+        }
+    );
+    Ok(())
+}
+
+fn check_refused(rt: &impl Abort, fields: &[&[u8]]) {
+    for field in fields {
+        assert_eq!(rt; number(field), None);
+    }
+}
+
+#[test]
+fn texts(rt: HostRuntime) -> Result<(), Fail> {
+    check_lines(&rt, b"", &[]);
+    check_lines(
+        &rt,
+        b"a\n\nb\r\nc\rd\r\r\n\r",
+        &[b"a", b"", b"b", b"c\rd\r", b""],
+    );
+    check_lines(
+        &rt,
+        b"0123456789abcde\n0123456789abcdef\n",
+        &[b"0123456789abcde", b"0123456789abcdef"],
+    );
+    check_fields(&rt, b" \t", &[]);
+    check_fields(&rt, b"\te\t10  2\r ", &[b"e", b"10", b"2\r"]);
+    check_number(&rt, rt.alloc(), 0, b"0")?;
+    check_number(&rt, rt.alloc(), 10, b"10")?;
+    check_number(&rt, rt.alloc(), 4_095, b"4095")?;
+    check_number(&rt, rt.alloc(), 100_005, b"100005")?;
+    check_number(
+        &rt,
+        rt.alloc(),
+        999_999_999_999_999_999,
+        b"999999999999999999",
+    )?;
+    check_number(&rt, rt.alloc(), u64::MAX, b"18446744073709551615")?;
+    assert_eq!(rt; number(b"000000000000000001"), Some(1));
+    check_refused(
+        &rt,
+        &[b"", b"+1", b"1a", b"1 ", b"/", b":", b"0000000000000000001"],
+    );
+    Ok(())
+}
