@@ -7,3 +7,4 @@ pub mod Exists
 pub mod Canonical
 pub mod Graph
 pub mod OneTree
+pub mod Texts

@@ -7,6 +7,7 @@ use Rattle.md_tree.specs.Trees.{PlainTree, names}
 use Rattle.md_tree.specs.StrongTrees.{IsTreeOf, IsTree}
 use Rattle.md_tree.specs.WellFormed.{IsCanonical, HasNoPrimeNode}
 use Rattle.md_tree.specs.TreeGraph.{adjacent_in}
+use Rattle.md_tree.specs.TreeTexts.{text_of}
 
 -- each graph has exactly one tree, none where it has no vertex
 abbrev pub OneTree : Type 0
@@ -30,3 +31,7 @@ abbrev pub NoInducedPathIfNoPrimeNode : Type 0
 NoInducedPathIfNoPrimeNode =
     (e : ℕ → ℕ → Bool) → IsAdjacency e → (s : NameSet) (t : PlainTree) → IsTreeOf e s t →
     (¬ (HasInducedPath e s)) ↔ HasNoPrimeNode t
+
+-- different trees have different texts
+abbrev pub OneTreeOneText : Type 0
+OneTreeOneText = (o p : Option PlainTree) → text_of o ≡ text_of p → o ≡ p

@@ -2,4 +2,5 @@ pub mod Trees
 pub mod StrongTrees
 pub mod WellFormed
 pub mod TreeGraph
+pub mod TreeTexts
 pub mod Laws

@@ -1,7 +1,7 @@
 //! The laws of trees, each the contract of a function that does nothing. They speak of any set of names with a test of
 //! adjacency, and stand on no call that computes a tree.
 
-ghost use Rattle.md_tree.specs.Laws.{OneTree, TreeIsCanonical, TreeTellsGraph, NoInducedPathIfNoPrimeNode};
+ghost use Rattle.md_tree.specs.Laws.{OneTree, TreeIsCanonical, TreeTellsGraph, NoInducedPathIfNoPrimeNode, OneTreeOneText};
 
 /// Each graph has exactly one tree of strong modules; the graph without vertices has none in its place.
 pub fn one_tree()
@@ -22,4 +22,9 @@ pub fn tree_tells_graph()
 /// A graph has no induced path on four vertices exactly where its tree has no prime node.
 pub fn no_induced_path_if_no_prime_node()
     ensures { NoInducedPathIfNoPrimeNode }
+{}
+
+/// Different trees have different texts, and no tree has the text of a graph without vertices.
+pub fn one_tree_one_text()
+    ensures { OneTreeOneText }
 {}
