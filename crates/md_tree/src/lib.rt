@@ -1,6 +1,9 @@
 //! The tree of strong modules of a graph: its types, its text, the graph that it denotes, and their laws.
 #![tactic(auto)]
 
+ghost use Rattle.std.specs.Prelude.{◌≡◌, ◌<◌, vec_len, slice_index_or};
+ghost use Rattle.md_tree.specs.declared.Children.{out-Children};
+
 pub mod laws;
 
 /// The kind of a node of a tree: its leaf set has no edge across some split, every edge across some split, or neither.
@@ -37,4 +40,38 @@ pub struct Children {
 #[derive(Drop)]
 pub struct QuotientEdges {
     pub list: Vec<Pair>,
+}
+
+impl Children {
+    /// How many children there are.
+    pub fn len(&self) -> u64
+        ensures { result ≡ vec_len (out-Children self.now).list }
+    {
+        self.list.len() as u64
+    }
+
+    /// The child at a position, counted from 0.
+    pub fn get(&self, i: u64) -> &Tree
+        requires { i < vec_len (out-Children self.now).list }
+        ensures { result.now ≡ slice_index_or (out-Children self.now).list.items i result.now }
+    {
+        &self.list[i as usize]
+    }
+}
+
+impl QuotientEdges {
+    /// How many pairs there are.
+    pub fn len(&self) -> u64
+        ensures { result ≡ vec_len self.now.list }
+    {
+        self.list.len() as u64
+    }
+
+    /// The pair at a position, counted from 0.
+    pub fn get(&self, i: u64) -> &Pair
+        requires { i < vec_len self.now.list }
+        ensures { result.now ≡ slice_index_or self.now.list.items i result.now }
+    {
+        &self.list[i as usize]
+    }
 }
