@@ -8,3 +8,4 @@ pub mod Canonical
 pub mod Graph
 pub mod OneTree
 pub mod Texts
+pub mod Plain

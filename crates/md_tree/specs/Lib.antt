@@ -1,4 +1,5 @@
 pub mod Trees
+pub mod Plain
 pub mod StrongTrees
 pub mod WellFormed
 pub mod TreeGraph

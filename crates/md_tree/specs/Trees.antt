@@ -57,3 +57,8 @@ abbrev pub names_at : PlainTrees → ℕ → NameSet
 names_at no_tree i = empty
 names_at (one_more t ts) zero = names t
 names_at (one_more t ts) (suc i) = names_at ts i
+
+-- the trees of a list in a row
+abbrev pub row : List PlainTree → PlainTrees
+row [] = no_tree
+row (t ∷ ts) = one_more t (row ts)

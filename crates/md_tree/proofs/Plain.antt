@@ -1,0 +1,25 @@
+-- The plain tree of a node is the node of its children's plain trees.
+use Rattle.std.proofs.Common.{◌≡◌, List, [], ◌∷◌, map, refl, sym, ◌∙◌, ap}
+use mathlib.Core.Former.{Count}
+use Rattle.md_tree.specs.declared.Kind.{Kind}
+use Rattle.md_tree.specs.declared.QuotientEdges.{QuotientEdges}
+use Rattle.md_tree.specs.declared.Children.{Children, out-Children}
+use Rattle.md_tree.specs.declared.Tree.{Tree, Leaf, Node, Node', Row_of-Tree, end_of-Tree, more_of-Tree, items-the_row-Tree, items_hidden-the_row-Tree-0}
+use Rattle.md_tree.specs.Trees.{PlainTree, leaf, node, PlainTrees, no_tree, one_more, row}
+use Rattle.md_tree.specs.Plain.{plain, plain_row}
+
+row_items : (n : _) (ts : Row_of-Tree n) → plain_row ts ≡ row (map plain (items-the_row-Tree n ts))
+unfolding plain
+row_items n end_of-Tree = refl
+row_items n (more_of-Tree t rest) = ap (one_more (plain t)) (row_items _ rest)
+
+abbrev children_row : Tree → (n : Count) × Row_of-Tree n
+children_row (Leaf v) = (_, end_of-Tree)
+children_row (Node' k shape ts es) = (_, ts)
+
+pub plain-node : (k : Kind) (cs : Children) (es : QuotientEdges) → plain (Node k cs es) ≡ node k (row (map plain (out-Children cs).list.items)) es.list.items
+unfolding plain
+plain-node k cs es =
+    let r = children_row (Node k cs es) in
+    let same = items_hidden-the_row-Tree-0 cs.list in
+    ap (λ w. node k w es.list.items) (row_items r.0 r.1 ∙ ap (λ l. row (map plain l)) same)
