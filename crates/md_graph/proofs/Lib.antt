@@ -1,0 +1,10 @@
+pub mod BitWords
+pub mod Counting
+pub mod EachRow
+pub mod GraphLemmas
+pub mod Limits
+pub mod MemberLists
+pub mod NameLemmas
+pub mod PairLaws
+pub mod RowLemmas
+pub mod SetLaws

@@ -1,0 +1,223 @@
+-- What writes to the rows of a graph make of it, one lemma for each method of `Graph`.
+use Rattle.std.specs.Prelude.{◌≡◌, ℕ, ◌+◌, ◌*◌, ◌/◌, ◌^◌, ◌<◌, ◌≤◌, ◌≢◌, ◌⊎◌, Bool, true, false, cond, not, ◌&&◌, ◌||◌, ◌==◌, IsTrue, List, [], ◌∷◌, ◌++◌, length, get_or, replicate, sum_by, refl, if◌then◌else◌}
+use Rattle.std.proofs.Common.{subst, ap, sym, ◌∙◌, arith, inl, inr, set, take, drop, mul-le-mul}
+use Rattle.std.proofs.lemmas.Bool.{true≢false, cases_Bool, cases_lt, cases_eq, eq-eqb, ne_eqb, false_from_ne_true}
+use Rattle.std.proofs.lemmas.Bool.Decides.{nat_tests}
+use Rattle.std.proofs.lemmas.List.{get_or_read, get_or_past, get_or-replicate, get_or-set_same, get_or-set_other, length-replicate, length-set}
+use Rattle.std.proofs.lemmas.List.Sums.{sum_by-cons}
+use Rattle.std.proofs.Math.Seq.{take-append_seam}
+use Rattle.std.specs.List.{refill}
+use Rattle.std.specs.FinSet as set
+use Rattle.md_graph.specs.declared.TheConstants.{NAMES}
+use Rattle.md_graph.specs.NameSet.{NameSet, Member, AllBelow, ascending}
+use Rattle.md_graph.specs.PlainGraph.{PlainGraph, IsGraph, adjacent, neighbours, empty_graph, with_vertex, with_edge, with_edges, without_vertex, without_edge, induced, complement}
+use Rattle.md_graph.specs.Rows.{row_of, edges_of, graph_of, AreRows}
+use Rattle.md_graph.proofs.Counting.{rows_twice, rows_le}
+use Rattle.md_graph.proofs.EachRow.{Lists, Lists-ascending, Lists-head, Lists-rest}
+use Rattle.md_graph.proofs.Limits.{NAMES-lt}
+use Rattle.md_graph.proofs.SetLaws.{contains-empty, contains-insert, contains-remove, contains-union, same_set}
+use Rattle.md_graph.proofs.GraphLemmas.{rows_of_graph, IsGraph-graph_of, adjacent-graph_of, neighbours-graph_of, adjacent_ends, IsGraph-empty_graph, adjacent-empty_graph, IsGraph-with_vertex, adjacent-with_vertex, IsGraph-with_edge, adjacent-with_edge, IsGraph-with_edges, adjacent-with_edges, IsGraph-without_vertex, adjacent-without_vertex, IsGraph-without_edge, adjacent-without_edge, contains-neighbours, IsGraph-induced, IsGraph-complement, adjacent-induced, adjacent-complement}
+
+-- what `rows[v]` gives
+pub row_read : {live : NameSet} {rows : List NameSet} → AreRows live rows → (v : ℕ) → v < NAMES → (x : NameSet) → x ≡ get_or rows v x → x ≡ row_of rows v
+row_read {live} {rows} a v name x e = let in_rows : v < length rows = omega (arith, a.one_each) in get_or_read rows v x in_rows e set.empty
+
+pub row_is : {live : NameSet} {rows : List NameSet} {g : PlainGraph} → AreRows live rows → graph_of live rows ≡ g → (v : ℕ) → v < NAMES → (x : NameSet) → x ≡ get_or rows v x → x ≡ neighbours g v
+row_is {live} {rows} {g} a e v name x read =
+    row_read a v name x read ∙ sym (neighbours-graph_of a v) ∙ ap (λ h. neighbours h v) e
+
+pub bit_is : {live : NameSet} {rows : List NameSet} {g : PlainGraph} → AreRows live rows → graph_of live rows ≡ g → (u v : ℕ) → u < NAMES → (x : NameSet) → x ≡ get_or rows u x → set.contains x v ≡ adjacent g u v
+bit_is {live} {rows} {g} a e u v name x read =
+    ap (λ s. set.contains s v) (row_read a u name x read) ∙ sym (adjacent-graph_of a u v) ∙ ap (λ h. adjacent h u v) e
+
+-- no edge runs at a number that is no name
+pub no_edge : {live : NameSet} {rows : List NameSet} {g : PlainGraph} → AreRows live rows → graph_of live rows ≡ g → (u v : ℕ) → NAMES ≤ u → adjacent g u v ≡ false
+no_edge {live} {rows} {g} a e u v past =
+    let is : IsGraph g = subst IsGraph e (IsGraph-graph_of a) in
+    false_from_ne_true _ (λ h. let name = is.names u (adjacent_ends is u v h).0 in omega arith)
+
+row_of-replicate : (n v : ℕ) → row_of (replicate n set.empty) v ≡ set.empty
+row_of-replicate n v =
+    elim (cases_lt v n) [
+      | inl below ↦ get_or-replicate n v set.empty set.empty below
+      | inr past ↦ get_or_past (replicate n set.empty) v set.empty (rw (length-replicate n set.empty) past)
+    ]
+
+-- rows without members are those of the graph without vertices
+pub rows_new : {live : NameSet} {rows : List NameSet} → live ≡ set.empty → length rows ≡ NAMES → ((v : ℕ) → row_of rows v ≡ set.empty) → AreRows live rows × (graph_of live rows ≡ empty_graph)
+rows_new {live} {rows} none n empty =
+    rows_of_graph IsGraph-empty_graph none n (λ u v. ap (λ s. set.contains s v) (empty u) ∙ contains-empty v ∙ sym (adjacent-empty_graph u v))
+
+pub rows_replicated : {live : NameSet} {rows : List NameSet} (n : ℕ) → live ≡ set.empty → rows ≡ replicate n set.empty → n ≡ NAMES → AreRows live rows × (graph_of live rows ≡ empty_graph)
+rows_replicated n none e is =
+    rows_new none (ap length e ∙ length-replicate n set.empty ∙ is) (λ v. ap (λ r. row_of r v) e ∙ row_of-replicate n v)
+
+pub rows_add_vertex : {live : NameSet} {rows : List NameSet} {g : PlainGraph} → AreRows live rows → graph_of live rows ≡ g → (v : ℕ) → v < NAMES → {new : NameSet} → new ≡ set.insert live v → AreRows new rows × (graph_of new rows ≡ with_vertex g v)
+rows_add_vertex {live} {rows} {g} a e v name {new} is_new =
+    let is : IsGraph g = subst IsGraph e (IsGraph-graph_of a) in
+    let law = λ (x y : ℕ). sym (adjacent-graph_of a x y) ∙ ap (λ h. adjacent h x y) e ∙ sym (adjacent-with_vertex g v x y) in
+    rows_of_graph (IsGraph-with_vertex is v name) (is_new ∙ ap (λ h. set.insert h.vertices v) e) a.one_each law
+
+-- the rows after one is replaced
+contains-set_row : (rows : List NameSet) (u : ℕ) (new : NameSet) (a b : ℕ) → u < length rows → set.contains (row_of (set rows u new) a) b ≡ cond (a == u) (set.contains new b) (set.contains (row_of rows a) b)
+contains-set_row rows u new a b below =
+    elim (cases_eq a u) [
+      | inl same ↦ rw (same, eq-eqb u u refl, get_or-set_same rows u new set.empty below) refl
+      | inr other ↦ rw (ne_eqb a u other, get_or-set_other rows u a new set.empty other) refl
+    ]
+
+-- two rows that change at each other's name, by a change that is `op` on members
+twice_set : {live : NameSet} {rows : List NameSet} (op : Bool → Bool → Bool) (f : NameSet → ℕ → NameSet) → ((q : Bool) → op false q ≡ q) → ((s : NameSet) (k y : ℕ) → set.contains (f s k) y ≡ op (y == k) (set.contains s y)) → AreRows live rows → (u v : ℕ) → u < NAMES → v < NAMES → u ≢ v → (new_u old_u new_v old_v : NameSet) → new_u ≡ f old_u v → old_u ≡ get_or rows u old_u → new_v ≡ f old_v u → old_v ≡ get_or (set rows u new_u) v old_v → (x y : ℕ) → set.contains (row_of (set (set rows u new_u) v new_v) x) y ≡ op (((x == u) && (y == v)) || ((x == v) && (y == u))) (set.contains (row_of rows x) y)
+twice_set {live} {rows} op f keeps gives a u v name_u name_v differ new_u old_u new_v old_v is_u read_u is_v read_v x y =
+    let in_u : u < length rows = omega (arith, a.one_each) in
+    let in_v : v < length (set rows u new_u) = omega (arith, a.one_each, length-set rows u new_u) in
+    let other : v ≢ u = λ e. differ (sym e) in
+    let row_u : old_u ≡ row_of rows u = row_read a u name_u old_u read_u in
+    let row_v : old_v ≡ row_of rows v = get_or_read (set rows u new_u) v old_v in_v read_v set.empty ∙ get_or-set_other rows u v new_u set.empty other in
+    let at_u : set.contains new_u y ≡ op (y == v) (set.contains (row_of rows u) y) = ap (λ s. set.contains s y) is_u ∙ gives old_u v y ∙ ap (λ s. op (y == v) (set.contains s y)) row_u in
+    let at_v : set.contains new_v y ≡ op (y == u) (set.contains (row_of rows v) y) = ap (λ s. set.contains s y) is_v ∙ gives old_v u y ∙ ap (λ s. op (y == u) (set.contains s y)) row_v in
+    let test_u : (y == v) ≡ ((y == v) || false) = grind arith in
+    let test_v : (y == u) ≡ (((v == u) && (y == v)) || (y == u)) = grind (arith, nat_tests) in
+    contains-set_row (set rows u new_u) v new_v x y in_v
+    ∙ elim (cases_eq x v) [
+      | inl same_v ↦ rw (same_v, eq-eqb v v refl) (at_v ∙ ap (λ t. op t (set.contains (row_of rows v) y)) test_v)
+      | inr not_v ↦ rw (ne_eqb x v not_v, contains-set_row rows u new_u x y in_u) (elim (cases_eq x u) [
+          | inl same_u ↦ rw (same_u, eq-eqb u u refl) (at_u ∙ ap (λ t. op t (set.contains (row_of rows u) y)) test_u)
+          | inr not_u ↦ rw (ne_eqb x u not_u) (sym (keeps (set.contains (row_of rows x) y)))
+        ])
+    ]
+
+pub rows_add_edge : {live : NameSet} {rows : List NameSet} {g : PlainGraph} → AreRows live rows → graph_of live rows ≡ g → (u v : ℕ) → Member g.vertices u → Member g.vertices v → u ≢ v → {new_u old_u new_v old_v : NameSet} → new_u ≡ set.insert old_u v → old_u ≡ get_or rows u old_u → new_v ≡ set.insert old_v u → old_v ≡ get_or (set rows u new_u) v old_v → AreRows live (set (set rows u new_u) v new_v) × (graph_of live (set (set rows u new_u) v new_v) ≡ with_edge g u v)
+rows_add_edge {live} {rows} {g} a e u v mu mv differ {new_u} {old_u} {new_v} {old_v} is_u read_u is_v read_v =
+    let is : IsGraph g = subst IsGraph e (IsGraph-graph_of a) in
+    let law = λ (x y : ℕ). twice_set ◌||◌ set.insert (λ _. refl) contains-insert a u v (is.names u mu) (is.names v mv) differ new_u old_u new_v old_v is_u read_u is_v read_v x y ∙ ap (λ t. (((x == u) && (y == v)) || ((x == v) && (y == u))) || t) (sym (adjacent-graph_of a x y) ∙ ap (λ h. adjacent h x y) e) ∙ sym (adjacent-with_edge g u v x y) in
+    let n : length (set (set rows u new_u) v new_v) ≡ NAMES = length-set (set rows u new_u) v new_v ∙ length-set rows u new_u ∙ a.one_each in
+    rows_of_graph (IsGraph-with_edge is u v mu mv differ) (ap (λ h. h.vertices) e) n law
+
+-- what is kept of the edge between u and v
+abbrev without : Bool → Bool → Bool
+without p q = not p && q
+
+pub rows_remove_edge : {live : NameSet} {rows : List NameSet} {g : PlainGraph} → AreRows live rows → graph_of live rows ≡ g → (u v : ℕ) → adjacent g u v ≡ true → {new_u old_u new_v old_v : NameSet} → new_u ≡ set.remove old_u v → old_u ≡ get_or rows u old_u → new_v ≡ set.remove old_v u → old_v ≡ get_or (set rows u new_u) v old_v → AreRows live (set (set rows u new_u) v new_v) × (graph_of live (set (set rows u new_u) v new_v) ≡ without_edge g u v)
+rows_remove_edge {live} {rows} {g} a e u v there {new_u} {old_u} {new_v} {old_v} is_u read_u is_v read_v =
+    let is : IsGraph g = subst IsGraph e (IsGraph-graph_of a) in
+    let ends = adjacent_ends is u v there in
+    let law = λ (x y : ℕ). twice_set without set.remove (λ _. refl) contains-remove a u v (is.names u ends.0) (is.names v ends.1) ends.2 new_u old_u new_v old_v is_u read_u is_v read_v x y ∙ ap (λ t. not (((x == u) && (y == v)) || ((x == v) && (y == u))) && t) (sym (adjacent-graph_of a x y) ∙ ap (λ h. adjacent h x y) e) ∙ sym (adjacent-without_edge g u v x y) in
+    let n : length (set (set rows u new_u) v new_v) ≡ NAMES = length-set (set rows u new_u) v new_v ∙ length-set rows u new_u ∙ a.one_each in
+    rows_of_graph (IsGraph-without_edge is u v) (ap (λ h. h.vertices) e) n law
+
+-- the ends of an edge are names
+pub ends_are_names : {live : NameSet} {rows : List NameSet} {g : PlainGraph} → AreRows live rows → graph_of live rows ≡ g → (u v : ℕ) → adjacent g u v ≡ true → (u < NAMES) × (v < NAMES)
+ends_are_names {live} {rows} {g} a e u v there =
+    let is : IsGraph g = subst IsGraph e (IsGraph-graph_of a) in
+    let ends = adjacent_ends is u v there in
+    (is.names u ends.0, is.names v ends.1)
+
+pub member_is_name : {live : NameSet} {rows : List NameSet} {g : PlainGraph} → AreRows live rows → graph_of live rows ≡ g → (v : ℕ) → Member g.vertices v → v < NAMES
+member_is_name {live} {rows} {g} a e v m = let is : IsGraph g = subst IsGraph e (IsGraph-graph_of a) in is.names v m
+
+-- ---- all rows of a slice
+
+-- the elements of a `Vec` after a call that has its slice
+refilled : (n : ℕ) (xs ws : List NameSet) → length ws ≡ n → refill n xs ws ≡ ws
+refilled n xs ws e =
+    ap (λ k. take k (ws ++ drop (length ws) xs)) (sym e) ∙ take-append_seam ws (drop (length ws) xs)
+
+-- a name that is no vertex has no neighbours
+row_dead : {live : NameSet} {rows : List NameSet} → AreRows live rows → (u : ℕ) → set.contains live u ≡ false → row_of rows u ≡ set.empty
+row_dead {live} {rows} a u dead =
+    same_set (row_of rows u) set.empty (λ v. false_from_ne_true _ (λ h. true≢false (sym (a.inside v u (a.both_ways v u ∙ h)) ∙ dead)) ∙ sym (contains-empty v))
+
+pub rows_clear : {live : NameSet} {rows : List NameSet} → AreRows live rows → (n : ℕ) (old ws : List NameSet) → n ≡ length rows → old ≡ rows → length ws ≡ length old → ((u : ℕ) → row_of ws u ≡ cond (set.contains live u) set.empty (row_of old u)) → {new : NameSet} → new ≡ set.empty → AreRows new (refill n rows ws) × (graph_of new (refill n rows ws) ≡ empty_graph)
+rows_clear {live} {rows} a n old ws len same kept cleared none =
+    let same_len = ap length same in
+    let whole = refilled n rows ws (omega arith) in
+    let row = λ (u : ℕ). ap (λ r. row_of r u) whole ∙ cleared u ∙ elim (cases_Bool (set.contains live u)) [
+      | inl t ↦ rw t refl
+      | inr f ↦ rw (f, same) (row_dead a u f)
+    ] in
+    rows_new none (ap length whole ∙ kept ∙ same_len ∙ a.one_each) row
+
+-- Whether y is in the row of x after v takes in `others`, and each of these v: `old` is the row of x between
+-- the two, `was` says whether y was in it at first, `new` whether it is in that of v between the two.
+star_row : (others : NameSet) (v x y : ℕ) (old : NameSet) (was new : Bool) → set.contains old y ≡ cond (x == v) new was → (x ≡ v → new ≡ (was || set.contains others y)) → set.contains others v ≡ false → set.contains (cond (set.contains others x) (set.insert old v) old) y ≡ ((((x == v) && set.contains others y) || ((y == v) && set.contains others x)) || was)
+star_row others v x y old was new e at_v differ =
+    elim (cases_eq x v) [
+      | inl same ↦
+        let out : set.contains others x ≡ false = ap (set.contains others) same ∙ differ in
+        let now : set.contains old y ≡ (was || set.contains others y) = e ∙ ap (λ b. cond b new was) (eq-eqb x v same) ∙ at_v same in
+        rw out (grind (arith, nat_tests))
+      | inr other ↦
+        let now : set.contains old y ≡ was = e ∙ ap (λ b. cond b new was) (ne_eqb x v other) in
+        elim (cases_Bool (set.contains others x)) [
+          | inl t ↦ rw (t, contains-insert old v y) (grind (arith, nat_tests))
+          | inr f ↦ rw f (grind (arith, nat_tests))
+        ]
+    ]
+
+pub rows_add_edges : {live : NameSet} {rows : List NameSet} {g : PlainGraph} → AreRows live rows → graph_of live rows ≡ g → (v : ℕ) (others : NameSet) → Member g.vertices v → ((w : ℕ) → Member others w → Member g.vertices w) → set.contains others v ≡ false → (new_v old_v : NameSet) → new_v ≡ set.union old_v others → old_v ≡ get_or rows v old_v → (n : ℕ) (old ws : List NameSet) → n ≡ length rows → old ≡ set rows v new_v → length ws ≡ length old → ((u : ℕ) → row_of ws u ≡ cond (set.contains others u) (set.insert (row_of old u) v) (row_of old u)) → AreRows live (refill n (set rows v new_v) ws) × (graph_of live (refill n (set rows v new_v) ws) ≡ with_edges g v others)
+rows_add_edges {live} {rows} {g} a e v others mv members differ new_v old_v is read n old ws len same kept each =
+    let is_graph : IsGraph g = subst IsGraph e (IsGraph-graph_of a) in
+    let name_v : v < NAMES = is_graph.names v mv in
+    let in_v : v < length rows = omega (arith, a.one_each) in
+    let same_len = ap length same ∙ length-set rows v new_v in
+    let whole = refilled n (set rows v new_v) ws (omega (arith, length-set rows v new_v)) in
+    let below = λ (w : ℕ) (m : Member others w). is_graph.names w (members w m) in
+    let has = λ (x y : ℕ). sym (adjacent-graph_of a x y) ∙ ap (λ h. adjacent h x y) e in
+    let at_v = λ (y : ℕ). ap (λ s. set.contains s y) (is ∙ ap (λ s. set.union s others) (row_read a v name_v old_v read)) ∙ contains-union (row_of rows v) others y in
+    let law = λ (x y : ℕ). ap (λ r. set.contains (row_of r x) y) whole ∙ ap (λ s. set.contains s y) (each x) ∙ star_row others v x y (row_of old x) _ (set.contains new_v y) (ap (λ r. set.contains (row_of r x) y) same ∙ contains-set_row rows v new_v x y in_v) (λ here. at_v y ∙ ap (λ w. set.contains (row_of rows w) y || set.contains others y) (sym here)) differ ∙ ap (λ t. (((x == v) && set.contains others y) || ((y == v) && set.contains others x)) || t) (has x y) ∙ sym (adjacent-with_edges g v others below x y) in
+    rows_of_graph (IsGraph-with_edges is_graph v others mv members differ) (ap (λ h. h.vertices) e) (ap length whole ∙ kept ∙ same_len ∙ a.one_each) law
+
+-- ---- the number of edges
+
+-- the sum of the lengths of the rows of the listed names
+abbrev pub ends_of : List NameSet → List ℕ → ℕ
+ends_of rows xs = sum_by (λ v. set.len (row_of rows v)) xs
+
+both_live : {live : NameSet} {rows : List NameSet} → AreRows live rows → (u v : ℕ) → Member (row_of rows u) v → Member live u × Member live v
+both_live a u v h = (a.inside v u (a.both_ways v u ∙ h), a.inside u v h)
+
+-- over all vertices it is twice the number of edges
+ends_of-all : {live : NameSet} {rows : List NameSet} → AreRows live rows → ends_of rows (ascending live) ≡ 2 * set.len (edges_of rows)
+unfolding edges_of
+ends_of-all {live} {rows} a = rows_twice live (row_of rows) NAMES (both_live a) a.names a.both_ways a.no_loop
+
+square_lt : (n : ℕ) → n < 2 ^ 16 → n * n < 2 ^ 32
+square_lt n h =
+    let top : n ≤ 65535 = omega arith in let le : n * n ≤ 65535 * 65535 = mul-le-mul top top in omega arith
+
+ends_of-lt : {live : NameSet} {rows : List NameSet} → AreRows live rows → ends_of rows (ascending live) < 2 ^ 32
+ends_of-lt {live} {rows} a =
+    let le = rows_le live (row_of rows) NAMES (both_live a) a.names in
+    let fit = square_lt NAMES NAMES-lt in
+    omega arith
+
+-- the ends are counted but for those at the listed names
+pub record Counted (live : NameSet) (rows : List NameSet) (ends : ℕ) (xs : List ℕ) : Type 0 where
+  pub left : Lists live xs
+  pub counted : ends + ends_of rows xs ≡ ends_of rows (ascending live)
+
+pub Counted-start : {live : NameSet} {rows : List NameSet} {xs : List ℕ} → xs ≡ ascending live → AllBelow live NAMES → Counted live rows 0 xs
+Counted-start {live} {rows} {xs} e below = record {
+  left = Lists-ascending xs e below;
+  counted = let same = ap (ends_of rows) e in omega arith;
+}
+
+pub Counted-more : {live : NameSet} {rows : List NameSet} {ends : ℕ} {xs : List ℕ} → AreRows live rows → Counted live rows ends xs → (x : ℕ) (rest : List ℕ) → xs ≡ x ∷ rest → (row : NameSet) → row ≡ get_or rows x row → (k : ℕ) → k ≡ set.len row → Counted live rows (ends + k) rest
+Counted-more {live} {rows} {ends} {xs} a before x rest e row read k is =
+    let one = is ∙ ap set.len (row_read a x (a.names x (Lists-head before.left x rest e)) row read) in
+    let split = ap (ends_of rows) e ∙ sum_by-cons (λ v. set.len (row_of rows v)) x rest in
+    record {
+      left = Lists-rest before.left x rest e;
+      counted = omega (arith, before.counted);
+    }
+
+pub Counted-fits : {live : NameSet} {rows : List NameSet} {ends : ℕ} {xs : List ℕ} → AreRows live rows → Counted live rows ends xs → ends < 2 ^ 32
+Counted-fits a before = let fit = ends_of-lt a in omega (arith, before.counted)
+
+pub Counted-end : {live : NameSet} {rows : List NameSet} {g : PlainGraph} {ends : ℕ} {xs : List ℕ} → AreRows live rows → graph_of live rows ≡ g → Counted live rows ends xs → xs ≡ [] → ends / 2 ≡ set.len g.edges
+Counted-end {live} {rows} {g} a e before none =
+    let all = ends_of-all a in
+    let last = ap (ends_of rows) none in
+    let edges = ap (λ h. set.len h.edges) e in
+    omega (arith, before.counted)

@@ -1,0 +1,11 @@
+use Rattle.std.proofs.Common.{◌∙◌, ap, rules, arith}
+use Rattle.std.specs.FinSet as set
+use Rattle.md_graph.specs.declared.TheConstants.{NAMES, WORDS}
+use Rattle.md_graph.proofs.Limits.{NAMES-is}
+use Rattle.md_graph.proofs.BitWords.{insert_name}
+use Rattle.md_graph.proofs.names.Names.insert.Goals as goal
+
+pub returns : goal.returns
+returns c =
+    insert_name c.self.inside.words NAMES c.args.v c.requires (search rules)
+    ∙ ap (λ s. set.insert s c.args.v) c.self.view_is

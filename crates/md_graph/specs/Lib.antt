@@ -1,0 +1,4 @@
+pub mod NameSet
+pub mod Words
+pub mod PlainGraph
+pub mod Rows

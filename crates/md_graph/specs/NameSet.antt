@@ -1,0 +1,52 @@
+-- A finite set of names, as contracts see it. Two sets with the same members are equal.
+use Rattle.std.specs.Prelude.{◌≡◌, ℕ, zero, suc, ◌+◌, ◌<◌, ◌≤◌, ◌&&◌, ◌==◌, nat_le, List, [], ◌∷◌, ◌++◌, IsTrue, if◌then◌else◌}
+use Rattle.std.specs.Ordering.{nat_cmp}
+use Rattle.std.specs.Int.{bit_at}
+use Rattle.std.specs.FinSet as set
+use Rattle.md_graph.specs.declared.TheConstants.{NAMES}
+
+-- a set of numbers
+abbrev pub NameSet : Type 0
+NameSet = set.FinSet nat_cmp
+
+-- `v` is a member of `s`
+abbrev pub Member : NameSet → ℕ → Type 0
+Member s v = IsTrue (set.contains s v)
+
+-- the least member of `s` at or above `v`
+pub record IsLeastFrom (s : NameSet) (v least : ℕ) : Type 0 where
+  pub member : Member s least
+  pub above : v ≤ least
+  pub first : (w : ℕ) → Member s w → v ≤ w → least ≤ w
+
+-- no member of `s` is at or above `v`
+abbrev pub NoneFrom : NameSet → ℕ → Type 0
+NoneFrom s v = (w : ℕ) → Member s w → w < v
+
+-- all members of `s` are below `n`
+abbrev pub AllBelow : NameSet → ℕ → Type 0
+AllBelow s n = (w : ℕ) → Member s w → w < n
+
+-- the members of `s` from `low` on and below `bound`, ascending
+unfoldable pub ascending_between : NameSet → ℕ → ℕ → List ℕ
+ascending_between s low zero = []
+ascending_between s low (suc n) =
+    ascending_between s low n ++ (if nat_le low n && set.contains s n then n ∷ [] else [])
+
+-- the members of a set of names at or above `low`, ascending
+abbrev pub ascending_from : NameSet → ℕ → List ℕ
+ascending_from s low = ascending_between s low NAMES
+
+-- the members of a set of names, ascending
+abbrev pub ascending : NameSet → List ℕ
+ascending s = ascending_from s 0
+
+-- the names first + k, k < bound, for which bit k of `bits` is 1
+unfoldable pub block_below : ℕ → ℕ → ℕ → NameSet
+block_below first bits zero = set.empty
+block_below first bits (suc k) =
+    if bit_at bits k == 1 then set.insert (block_below first bits k) (first + k) else block_below first bits k
+
+-- the names first + k for which bit k of a word is 1
+abbrev pub block : ℕ → ℕ → NameSet
+block first bits = block_below first bits 64

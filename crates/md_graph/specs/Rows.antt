@@ -1,0 +1,27 @@
+-- The edges that rows of neighbours keep, and what holds of the rows of a graph.
+use Rattle.std.specs.Prelude.{◌≡◌, ℕ, ◌<◌, List, length, get_or, false}
+use Rattle.std.specs.FinSet as set
+use Rattle.md_graph.specs.declared.TheConstants.{NAMES}
+use Rattle.md_graph.specs.NameSet.{NameSet, Member}
+use Rattle.md_graph.specs.PlainGraph.{PairSet, PlainGraph, pairs_where}
+
+-- the row of name v
+abbrev pub row_of : List NameSet → ℕ → NameSet
+row_of rows v = get_or rows v set.empty
+
+-- the pairs (u, v), u < v, for which u stands in the row of v
+unfoldable pub edges_of : List NameSet → PairSet
+edges_of rows = pairs_where (λ u v. set.contains (row_of rows v) u) NAMES
+
+-- the graph that the set of live names and the rows keep
+abbrev pub graph_of : NameSet → List NameSet → PlainGraph
+graph_of live rows = record { vertices = live; edges = edges_of rows }
+
+-- What holds of the rows of a graph: one for each name; an edge stands in the rows of both its ends, which
+-- are live and differ.
+pub record AreRows (live : NameSet) (rows : List NameSet) : Type 0 where
+  pub one_each : length rows ≡ NAMES
+  pub both_ways : (u v : ℕ) → set.contains (row_of rows u) v ≡ set.contains (row_of rows v) u
+  pub no_loop : (v : ℕ) → set.contains (row_of rows v) v ≡ false
+  pub inside : (u v : ℕ) → Member (row_of rows u) v → Member live v
+  pub names : (v : ℕ) → Member live v → v < NAMES

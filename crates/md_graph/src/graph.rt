@@ -1,0 +1,293 @@
+//! Undirected graphs without loops and parallel edges.
+ghost use Rattle.std.specs.Prelude.{◌≡◌, ℕ, ◌<◌, ◌≢◌, true, false, IfOk, IfSome, IfNone, length, if◌then◌else◌};
+ghost use Rattle.std.specs.FinSet as set;
+ghost use Rattle.md_graph.specs.NameSet.{Member, IsLeastFrom, NoneFrom};
+ghost use Rattle.md_graph.specs.PlainGraph.{adjacent, neighbours, IsGraph, empty_graph, with_vertex, with_edge, with_edges, complement, induced, without_vertex, without_edge};
+ghost use Rattle.md_graph.specs.Rows.{row_of};
+
+use std::alloc::Global;
+use std::marker::Model;
+
+use crate::{Memory, NAMES, Names};
+
+/// A graph: its vertices are names, and each name has a row, the set of its neighbours. All rows are taken
+/// when the graph is made, and the row of a name that is no vertex is empty.
+#[derive(Drop)]
+pub struct Graph {
+    live: Names,
+    rows: Vec<Names>,
+}
+
+impl Model for Graph {
+    ghost use Rattle.md_graph.specs.PlainGraph.{PlainGraph, graph_code};
+
+    ghost Value = { PlainGraph };
+
+    ghost coded = { graph_code };
+
+    ghost use Rattle.md_graph.specs.Rows.{graph_of, AreRows};
+
+    ghost view = { λ g. graph_of g.live g.rows.items };
+
+    ghost invariant = { λ g. AreRows g.live g.rows.items };
+}
+
+impl Graph {
+    /// The graph without vertices.
+    pub fn new(alloc: Global) -> Result<Graph, Memory>
+        ensures { IfOk result (λ g. g ≡ empty_graph) }
+    {
+        let Ok(mut rows) = Vec::with_capacity(alloc, NAMES as usize) else {
+            return Err(Memory);
+        };
+        for _ in 0..NAMES {
+            if rows.push(Names::none()).is_err() {
+                return Err(Memory);
+            }
+        }
+        Ok(Graph {
+            live: Names::none(),
+            rows,
+        })
+    }
+
+    /// Whether `v`, any number, is a vertex.
+    pub fn has_vertex(&self, v: u32) -> bool
+        ensures { result ≡ set.contains self.now.vertices v }
+    {
+        self.live.has(v)
+    }
+
+    /// Whether an edge runs between `u` and `v`, any numbers.
+    pub fn has_edge(&self, u: u32, v: u32) -> bool
+        ensures { result ≡ adjacent self.now u v }
+    {
+        u < NAMES && self.rows[u as usize].has(v)
+    }
+
+    /// The number of neighbours of `v`. Condition: it is a vertex.
+    pub fn degree(&self, v: u32) -> u32
+        requires { Member self.now.vertices v }
+        ensures { result ≡ set.len (neighbours self.now v) }
+    {
+        self.row(v).count()
+    }
+
+    /// The number of vertices.
+    pub fn count(&self) -> u32
+        ensures { result ≡ set.len self.now.vertices }
+    {
+        self.live.count()
+    }
+
+    /// The number of edges.
+    pub fn edge_count(&self) -> u32
+        ensures { result ≡ set.len self.now.edges }
+    {
+        let mut ends = 0;
+        for v in self.live.members() {
+            ends += self.rows[v as usize].count();
+        }
+        ends / 2
+    }
+
+    /// The vertices.
+    pub fn vertices(&self) -> &Names
+        ensures set { result.now ≡ self.now.vertices }
+        ensures graph { IsGraph self.now }
+    {
+        &self.live
+    }
+
+    /// The least vertex at or above `from`, any number; `None` exactly where there is none.
+    pub fn next_vertex(&self, from: u32) -> Option<u32>
+        ensures found { IfSome result (IsLeastFrom self.now.vertices from) }
+        ensures none { IfNone result (NoneFrom self.now.vertices from) }
+        ensures name { IfSome result (λ v. v < NAMES) }
+    {
+        self.live.first_from(from)
+    }
+
+    /// The neighbours of `v`: none for a name that is no vertex. Condition: `v` is a name.
+    pub fn row(&self, v: u32) -> &Names
+        requires { v < NAMES }
+        ensures set { result.now ≡ neighbours self.now v }
+        ensures graph { IsGraph self.now }
+    {
+        &self.rows[v as usize]
+    }
+
+    /// Takes in the vertex `v`, without edges. Condition: it is a name and no vertex yet.
+    pub fn add_vertex(&mut self, v: u32)
+        requires name { v < NAMES }
+        requires absent { set.contains self.old.vertices v ≡ false }
+        ensures { self.new ≡ with_vertex self.old v }
+    {
+        self.live.insert(v);
+    }
+
+    /// Takes in the edge between `u` and `v`. Condition: both are vertices and differ, and the edge is absent.
+    pub fn add_edge(&mut self, u: u32, v: u32)
+        requires first { Member self.old.vertices u }
+        requires second { Member self.old.vertices v }
+        requires differ { u ≢ v }
+        requires absent { adjacent self.old u v ≡ false }
+        ensures { self.new ≡ with_edge self.old u v }
+    {
+        self.rows[u as usize].insert(v);
+        self.rows[v as usize].insert(u);
+    }
+
+    /// Takes in the edges between `v` and each member of `others`. Condition: all are vertices, and `v` is
+    /// no member. An edge that is there already stays.
+    pub fn add_edges(&mut self, v: u32, others: &Names)
+        requires vertex { Member self.old.vertices v }
+        requires vertices { (u : ℕ) → Member others.now u → Member self.old.vertices u }
+        requires differ { set.contains others.now v ≡ false }
+        ensures { self.new ≡ with_edges self.old v others.now }
+    {
+        self.rows[v as usize].take_in(others);
+        insert_in_rows(&mut self.rows, others, v);
+    }
+
+    /// Leaves out the vertex `v` and the edges at it. Condition: it is a vertex.
+    pub fn remove_vertex(&mut self, v: u32)
+        requires { Member self.old.vertices v }
+        ensures { self.new ≡ without_vertex self.old v }
+    {
+        let others = self.rows[v as usize].copy();
+        remove_from_rows(&mut self.rows, &others, v);
+        self.rows[v as usize].clear();
+        self.live.remove(v);
+    }
+
+    /// Leaves out the edge between `u` and `v`. Condition: it is there.
+    pub fn remove_edge(&mut self, u: u32, v: u32)
+        requires { adjacent self.old u v ≡ true }
+        ensures { self.new ≡ without_edge self.old u v }
+    {
+        self.rows[u as usize].remove(v);
+        self.rows[v as usize].remove(u);
+    }
+
+    /// All vertices and edges go. It passes over the rows of the vertices alone.
+    pub fn clear(&mut self)
+        ensures { self.new ≡ empty_graph }
+    {
+        clear_rows(&mut self.rows, &self.live);
+        self.live.clear();
+    }
+
+    /// An equal graph.
+    pub fn copy(&self, alloc: Global) -> Result<Graph, Memory>
+        ensures { IfOk result (λ g. g ≡ self.now) }
+    {
+        let Ok(mut rows) = Vec::with_capacity(alloc, NAMES as usize) else {
+            return Err(Memory);
+        };
+        for v in 0..NAMES {
+            if rows.push(self.rows[v as usize].copy()).is_err() {
+                return Err(Memory);
+            }
+        }
+        Ok(Graph {
+            live: self.live.copy(),
+            rows,
+        })
+    }
+
+    /// The complement: the same vertices, and an edge between two of them where this graph has none.
+    pub fn complement(&self, alloc: Global) -> Result<Graph, Memory>
+        ensures { IfOk result (λ g. g ≡ complement self.now) }
+    {
+        let Ok(mut rows) = Vec::with_capacity(alloc, NAMES as usize) else {
+            return Err(Memory);
+        };
+        for v in 0..NAMES {
+            if rows.push(self.complement_row(v)).is_err() {
+                return Err(Memory);
+            }
+        }
+        Ok(Graph {
+            live: self.live.copy(),
+            rows,
+        })
+    }
+
+    /// The graph that this graph induces on `names`: the vertices among them, and the edges between these.
+    pub fn induced(&self, alloc: Global, names: &Names) -> Result<Graph, Memory>
+        ensures { IfOk result (λ g. g ≡ induced self.now names.now) }
+    {
+        let Ok(mut rows) = Vec::with_capacity(alloc, NAMES as usize) else {
+            return Err(Memory);
+        };
+        for v in 0..NAMES {
+            if rows.push(self.induced_row(v, names)).is_err() {
+                return Err(Memory);
+            }
+        }
+        Ok(Graph {
+            live: self.live.and(names),
+            rows,
+        })
+    }
+
+    // The row of `v` in the complement.
+    fn complement_row(&self, v: u32) -> Names
+        requires { v < NAMES }
+        ensures { result ≡ neighbours (complement self.now) v }
+    {
+        if !self.live.has(v) {
+            return Names::none();
+        }
+        let mut others = self.live.minus(&self.rows[v as usize]);
+        others.remove(v);
+        others
+    }
+
+    // The row of `v` in the graph that this graph induces on `names`.
+    fn induced_row(&self, v: u32, names: &Names) -> Names
+        requires { v < NAMES }
+        ensures { result ≡ neighbours (induced self.now names.now) v }
+    {
+        if !names.has(v) {
+            return Names::none();
+        }
+        self.rows[v as usize].and(names)
+    }
+}
+
+// Takes `v` into the row of each member of `names`.
+fn insert_in_rows(rows: &mut [Names], names: &Names, v: u32)
+    requires name { v < NAMES }
+    requires in_rows { (u : ℕ) → Member names.now u → u < length rows.old }
+    ensures { (u : ℕ) → row_of rows.new u
+        ≡ (if set.contains names.now u then set.insert (row_of rows.old u) v else row_of rows.old u) }
+{
+    for u in names.members() {
+        rows[u as usize].insert(v);
+    }
+}
+
+// Leaves `v` out of the row of each member of `names`.
+fn remove_from_rows(rows: &mut [Names], names: &Names, v: u32)
+    requires name { v < NAMES }
+    requires in_rows { (u : ℕ) → Member names.now u → u < length rows.old }
+    ensures { (u : ℕ) → row_of rows.new u
+        ≡ (if set.contains names.now u then set.remove (row_of rows.old u) v else row_of rows.old u) }
+{
+    for u in names.members() {
+        rows[u as usize].remove(v);
+    }
+}
+
+// All members of the row of each member of `names` go.
+fn clear_rows(rows: &mut [Names], names: &Names)
+    requires { (u : ℕ) → Member names.now u → u < length rows.old }
+    ensures { (u : ℕ) → row_of rows.new u
+        ≡ (if set.contains names.now u then set.empty else row_of rows.old u) }
+{
+    for u in names.members() {
+        rows[u as usize].clear();
+    }
+}

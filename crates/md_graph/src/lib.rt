@@ -1,0 +1,19 @@
+//! Names and graphs: sets of names as bit words in place, and undirected graphs without loops and parallel
+//! edges as one row of neighbours a name.
+#![tactic(auto)]
+
+mod graph;
+mod names;
+
+pub use graph::Graph;
+pub use names::{Members, Names};
+
+/// How many names there are: a name is a number below it.
+pub const NAMES: u32 = 4096;
+
+/// How many words of 64 bits hold one bit a name.
+pub const WORDS: usize = 64;
+
+/// Want of memory.
+#[derive(Clone, Copy, Debug, PartialEq, Eq)]
+pub struct Memory;

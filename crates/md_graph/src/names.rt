@@ -1,0 +1,370 @@
+//! Sets of names.
+ghost use Rattle.std.specs.Prelude.{◌≡◌, nat_le, if◌then◌else◌, ◌≢◌, ◌∷◌, ℕ, length, slice_index, bit_and, bit_or, ◌+◌, ◌*◌, ◌/◌, ◌%◌, ◌^◌, ◌<◌, ◌≤◌, ◌↔◌, IsTrue, IsNone, IfSome, IfNone, ◌==◌};
+ghost use Rattle.std.specs.Int.{bit_at};
+ghost use Rattle.std.specs.FinSet as set;
+ghost use Rattle.md_graph.specs.NameSet.{Member, IsLeastFrom, NoneFrom, AllBelow, ascending, ascending_from, block};
+ghost use Rattle.md_graph.specs.Words.{IsWithout, names_below, bits_between};
+
+use std::marker::Model;
+
+use crate::{NAMES, WORDS};
+
+/// A set of names below `NAMES`, kept in place as one bit a name. No call on it takes memory.
+///
+/// The first `used` words hold all members: the words behind them are 0, and no call passes over them.
+#[derive(Drop)]
+pub struct Names {
+    words: [u64; WORDS],
+    used: usize,
+}
+
+impl Model for Names {
+    ghost use Rattle.std.specs.Prelude.{ℕ, ◌≡◌, ◌≤◌, get_or};
+    ghost use Rattle.std.specs.Ordering.{nat_cmp};
+    ghost use Rattle.std.specs.FinSet as set;
+    ghost use Rattle.std.specs.Coded.{coded_ℕ};
+
+    ghost Value = { set.FinSet nat_cmp };
+
+    ghost coded = { set.code coded_ℕ };
+
+    ghost use Rattle.md_graph.specs.Words.{names_below};
+    ghost use Rattle.md_graph.specs.declared.TheConstants.{NAMES, WORDS};
+
+    ghost view = { λ s. names_below s.words NAMES };
+
+    ghost invariant = { λ s. (s.used ≤ WORDS) × ((k : ℕ) → s.used ≤ k → get_or s.words k 0 ≡ 0) };
+}
+
+impl Names {
+    /// The empty set.
+    pub fn none() -> Names
+        ensures { result ≡ set.empty }
+    {
+        Names {
+            words: no_words(),
+            used: 0,
+        }
+    }
+
+    /// An equal set.
+    pub fn copy(&self) -> Names
+        ensures { result ≡ self.now }
+    {
+        Names {
+            words: self.words,
+            used: self.used,
+        }
+    }
+
+    /// Takes `v` in. Condition: it is a name.
+    pub fn insert(&mut self, v: u32)
+        requires { v < NAMES }
+        ensures { self.new ≡ set.insert self.old v }
+    {
+        let word = v as usize / 64;
+        self.words[word] |= 1 << (v % 64);
+        self.used = self.used.max(word + 1);
+    }
+
+    /// Leaves `v` out. Condition: it is a name.
+    pub fn remove(&mut self, v: u32)
+        requires { v < NAMES }
+        ensures { self.new ≡ set.remove self.old v }
+    {
+        self.words[v as usize / 64] &= !(1 << (v % 64));
+    }
+
+    /// All members go. It passes over the words in use.
+    pub fn clear(&mut self)
+        ensures { self.new ≡ set.empty }
+    {
+        wipe(&mut self.words, self.used);
+        self.used = 0;
+    }
+
+    /// Takes in the members of `other`. It passes over the words that `other` uses.
+    pub fn take_in(&mut self, other: &Names)
+        ensures { self.new ≡ set.union self.old other.now }
+    {
+        join_in(&mut self.words, &other.words, other.used);
+        self.used = self.used.max(other.used);
+    }
+
+    /// Whether `v`, any number, is a member.
+    pub fn has(&self, v: u32) -> bool
+        ensures { result ≡ set.contains self.now v }
+    {
+        v < NAMES && (self.words[v as usize / 64] >> (v % 64)) & 1 == 1
+    }
+
+    /// The members of both.
+    pub fn and(&self, other: &Names) -> Names
+        ensures { result ≡ set.intersection self.now other.now }
+    {
+        let used = self.used.min(other.used);
+        Names {
+            words: both(&self.words, &other.words, used),
+            used,
+        }
+    }
+
+    /// The members of either.
+    pub fn or(&self, other: &Names) -> Names
+        ensures { result ≡ set.union self.now other.now }
+    {
+        let used = self.used.max(other.used);
+        Names {
+            words: either(&self.words, &other.words, used),
+            used,
+        }
+    }
+
+    /// The members that `other` doesn't have.
+    pub fn minus(&self, other: &Names) -> Names
+        ensures { result ≡ set.difference self.now other.now }
+    {
+        Names {
+            words: first_alone(&self.words, &other.words, self.used),
+            used: self.used,
+        }
+    }
+
+    /// The least member at or above `v`, any number; `None` exactly where there is none.
+    pub fn first_from(&self, v: u32) -> Option<u32>
+        ensures found { IfSome result (IsLeastFrom self.now v) }
+        ensures none { IfNone result (NoneFrom self.now v) }
+        ensures name { IfSome result (λ least. least < NAMES) }
+    {
+        self.members_from(v).next()
+    }
+
+    /// The number of members.
+    pub fn count(&self) -> u32
+        ensures { result ≡ set.len self.now }
+    {
+        count_bits(&self.words, self.used)
+    }
+
+    /// Whether no name is a member.
+    pub fn is_empty(&self) -> bool
+        ensures { IsTrue result ↔ (self.now ≡ set.empty) }
+    {
+        are_all_zero(&self.words, self.used)
+    }
+
+    /// The members, ascending.
+    pub fn members(&self) -> Members<'_>
+        ensures list { result ≡ ascending self.now }
+        ensures names { AllBelow self.now NAMES }
+    {
+        self.members_from(0)
+    }
+
+    /// The members at or above `v`, any number, ascending.
+    pub fn members_from(&self, v: u32) -> Members<'_>
+        ensures list { result ≡ ascending_from self.now v }
+        ensures names { AllBelow self.now NAMES }
+    {
+        let at = v as usize / 64;
+        if self.used <= at {
+            return Members {
+                words: &self.words,
+                used: self.used,
+                at: self.used,
+                left: 0,
+            };
+        }
+        Members {
+            words: &self.words,
+            used: self.used,
+            at,
+            left: from_place(self.words[at], v % 64),
+        }
+    }
+
+    /// Takes in each name `first + k` for which bit k of `bits` is 1: 64 names at once, for readers.
+    /// Condition: `first` is a name and a multiple of 64.
+    pub fn insert_block(&mut self, first: u32, bits: u64)
+        requires name { first < NAMES }
+        requires aligned { first % 64 ≡ 0 }
+        ensures { self.new ≡ set.union self.old (block first bits) }
+    {
+        let word = first as usize / 64;
+        self.words[word] |= bits;
+        self.used = self.used.max(word + 1);
+    }
+
+    /// Which of the names `first + k`, k below 64, are members: bit k of the answer is 1 exactly for these.
+    /// For writers. Condition: `first` is a name and a multiple of 64.
+    pub fn block(&self, first: u32) -> u64
+        requires name { first < NAMES }
+        requires aligned { first % 64 ≡ 0 }
+        ensures { (k : ℕ) → k < 64 → set.contains self.now (first + k) ≡ (bit_at result k == 1) }
+    {
+        self.words[first as usize / 64]
+    }
+}
+
+/// Words that are all 0.
+fn no_words() -> [u64; WORDS]
+    ensures size { length result ≡ WORDS }
+    ensures zeros { (k : ℕ) → slice_index result k ≡ 0 }
+{
+    [0; WORDS]
+}
+
+/// The first `used` words become 0.
+fn wipe(words: &mut [u64; WORDS], used: usize)
+    requires { used ≤ WORDS }
+    ensures first { (k : ℕ) → k < used → slice_index words.new k ≡ 0 }
+    ensures rest { (k : ℕ) → used ≤ k → slice_index words.new k ≡ slice_index words.old k }
+{
+    for i in 0..used {
+        words[i] = 0;
+    }
+}
+
+/// Takes the bits of the first `used` words of `other` in.
+fn join_in(words: &mut [u64; WORDS], other: &[u64; WORDS], used: usize)
+    requires { used ≤ WORDS }
+    ensures first { (k : ℕ) → k < used
+        → slice_index words.new k ≡ bit_or (slice_index words.old k) (slice_index other.now k) }
+    ensures rest { (k : ℕ) → used ≤ k → slice_index words.new k ≡ slice_index words.old k }
+{
+    for i in 0..used {
+        words[i] |= other[i];
+    }
+}
+
+/// The bits that both have in the first `used` words.
+fn both(first: &[u64; WORDS], second: &[u64; WORDS], used: usize) -> [u64; WORDS]
+    requires { used ≤ WORDS }
+    ensures first { (k : ℕ) → k < used
+        → slice_index result k ≡ bit_and (slice_index first.now k) (slice_index second.now k) }
+    ensures rest { (k : ℕ) → used ≤ k → slice_index result k ≡ 0 }
+{
+    let mut words = no_words();
+    for i in 0..used {
+        words[i] = first[i] & second[i];
+    }
+    words
+}
+
+/// The bits that either has in the first `used` words.
+fn either(first: &[u64; WORDS], second: &[u64; WORDS], used: usize) -> [u64; WORDS]
+    requires { used ≤ WORDS }
+    ensures first { (k : ℕ) → k < used
+        → slice_index result k ≡ bit_or (slice_index first.now k) (slice_index second.now k) }
+    ensures rest { (k : ℕ) → used ≤ k → slice_index result k ≡ 0 }
+{
+    let mut words = no_words();
+    for i in 0..used {
+        words[i] = first[i] | second[i];
+    }
+    words
+}
+
+/// The bits of `first` that `second` doesn't have, in the first `used` words.
+fn first_alone(first: &[u64; WORDS], second: &[u64; WORDS], used: usize) -> [u64; WORDS]
+    requires { used ≤ WORDS }
+    ensures first { (k : ℕ) → k < used
+        → IsWithout (slice_index result k) (slice_index first.now k) (slice_index second.now k) }
+    ensures rest { (k : ℕ) → used ≤ k → slice_index result k ≡ 0 }
+{
+    let mut words = no_words();
+    for i in 0..used {
+        words[i] = first[i] & !second[i];
+    }
+    words
+}
+
+/// How many bits of the first `used` words are 1.
+fn count_bits(words: &[u64], used: usize) -> u32
+    requires few { used ≤ WORDS }
+    requires used { used ≤ length words.now }
+    ensures { result ≡ set.len (names_below words.now (64 * used)) }
+{
+    let mut count = 0;
+    for i in 0..used {
+        count += words[i].count_ones();
+    }
+    count
+}
+
+/// Whether the first `used` words are 0.
+fn are_all_zero(words: &[u64], used: usize) -> bool
+    requires { used ≤ length words.now }
+    ensures { IsTrue result
+        ↔ ((k i : ℕ) → k < used → i < 64 → bit_at (slice_index words.now k) i ≡ 0) }
+{
+    for i in 0..used {
+        if words[i] != 0 {
+            return false;
+        }
+    }
+    true
+}
+
+/// The bits of `word` from `place` on.
+fn from_place(word: u64, place: u32) -> u64
+    requires { place < 64 }
+    ensures { (k : ℕ) → k < 64 → bit_at result k ≡ (if nat_le place k then bit_at word k else 0) }
+{
+    word >> place << place
+}
+
+/// The place of the lowest 1 of `bits`, and `bits` without it.
+fn lowest(bits: u64) -> (u32, u64)
+    requires { bits ≢ 0 }
+    ensures place { result.0 < 64 }
+    ensures rest { (first : ℕ)
+        → bits_between first bits 64 ≡ (first + result.0) ∷ bits_between first result.1 64 }
+{
+    (bits.trailing_zeros(), bits & (bits - 1))
+}
+
+/// The members of a set that are still to come, ascending: word by word, and in a word from bit to bit.
+#[derive(Drop)]
+pub struct Members<'a> {
+    words: &'a [u64; WORDS],
+    used: usize,
+    at: usize,
+    left: u64,
+}
+
+impl<'a> Model for Members<'a> {
+    ghost use Rattle.std.specs.Prelude.{ℕ, List, ◌≤◌};
+    ghost use Rattle.md_graph.specs.declared.TheConstants.{WORDS};
+
+    ghost Value = { List ℕ };
+
+    ghost use Rattle.md_graph.specs.Words.{members_left};
+
+    ghost view = { λ m. members_left m.words.now m.used m.at m.left };
+
+    ghost invariant = { λ m. (m.used ≤ WORDS) × (m.at ≤ WORDS) };
+}
+
+impl<'a> Iterator for Members<'a> {
+    type Item = u32;
+
+    ghost use Rattle.std.specs.Iterator.{YieldsFirst, item_count};
+
+    ghost next_gives = { YieldsFirst (λ s. s) };
+
+    ghost remaining = { item_count (λ s. s) };
+
+    fn next(&mut self) -> Option<u32> {
+        while self.left == 0 {
+            if self.used <= self.at + 1 {
+                return None;
+            }
+            self.at += 1;
+            self.left = self.words[self.at];
+        }
+        let (place, left) = lowest(self.left);
+        self.left = left;
+        Some(64 * self.at as u32 + place)
+    }
+}
