@@ -9,3 +9,4 @@ pub mod Graph
 pub mod OneTree
 pub mod Texts
 pub mod Plain
+pub mod Written

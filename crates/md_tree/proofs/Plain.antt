@@ -1,5 +1,5 @@
 -- The plain tree of a node is the node of its children's plain trees.
-use Rattle.std.proofs.Common.{◌≡◌, List, [], ◌∷◌, map, refl, sym, ◌∙◌, ap}
+use Rattle.std.proofs.Common.{◌≡◌, ℕ, List, [], ◌∷◌, map, refl, sym, ◌∙◌, ap}
 use mathlib.Core.Former.{Count}
 use Rattle.md_tree.specs.declared.Kind.{Kind}
 use Rattle.md_tree.specs.declared.QuotientEdges.{QuotientEdges}
@@ -23,3 +23,12 @@ plain-node k cs es =
     let r = children_row (Node k cs es) in
     let same = items_hidden-the_row-Tree-0 cs.list in
     ap (λ w. node k w es.list.items) (row_items r.0 r.1 ∙ ap (λ l. row (map plain l)) same)
+
+-- the same for a tree that is told to be a leaf or a node
+pub plain_is_leaf : (t : Tree) (v : ℕ) → t ≡ Leaf v → plain t ≡ leaf v
+unfolding plain
+plain_is_leaf t v e = ap plain e
+
+pub plain_is_node : (t : Tree) (k : Kind) (cs : Children) (es : QuotientEdges) → t ≡ Node k cs es →
+    plain t ≡ node k (row (map plain (out-Children cs).list.items)) es.list.items
+plain_is_node t k cs es e = ap plain e ∙ plain-node k cs es
