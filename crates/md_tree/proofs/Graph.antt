@@ -26,7 +26,7 @@ use Rattle.md_tree.proofs.Pairs.{pair}
 use Rattle.md_tree.proofs.Canonical.{children_maximal, apart_of}
 
 -- a name stands in the tree at its position, and at no other one
-at_position : (cs : PlainTrees) (a : ℕ) → Has (names_below cs) a → Has (names_at cs (position_of cs a)) a
+pub at_position : (cs : PlainTrees) (a : ℕ) → Has (names_below cs) a → Has (names_at cs (position_of cs a)) a
 at_position no_tree a h = clash h (empty_lacks a)
 at_position (one_more t ts) a h = elim (either (contains (names t) a)) [
   | inl i ↦ subst (λ w. Has (names_at (one_more t ts) (cond w 0 (suc (position_of ts a)))) a) (sym i) i
@@ -34,12 +34,12 @@ at_position (one_more t ts) a h = elim (either (contains (names t) a)) [
       (at_position ts a (elim (of_union (names t) (names_below ts) a h) [ inl i ↦ clash i l | inr j ↦ j ]))
 ]
 
-at_inside : (cs : PlainTrees) (i : ℕ) → Within (names_at cs i) (names_below cs)
+pub at_inside : (cs : PlainTrees) (i : ℕ) → Within (names_at cs i) (names_below cs)
 at_inside no_tree i x h = h
 at_inside (one_more t ts) zero x h = union_left (names t) (names_below ts) x h
 at_inside (one_more t ts) (suc i) x h = union_right (names t) (names_below ts) x (at_inside ts i x h)
 
-position_at : (cs : PlainTrees) → AreApart cs → (i x : ℕ) → Has (names_at cs i) x → position_of cs x ≡ i
+pub position_at : (cs : PlainTrees) → AreApart cs → (i x : ℕ) → Has (names_at cs i) x → position_of cs x ≡ i
 position_at no_tree apart i x h = clash h (empty_lacks x)
 position_at (one_more t ts) apart zero x h = ap (λ w. cond w 0 (suc (position_of ts x))) h
 position_at (one_more t ts) apart (suc i) x h =
@@ -63,14 +63,14 @@ same_numbers p i j h = elim (either (eqb p.low i)) [
   | inr a ↦ absurd (true≢false (sym h ∙ ap (λ w. w && eqb p.high j) a))
 ]
 
-of_lists : (ps : List Pair) (i j : ℕ) → lists_pair ps i j ≡ true → In ps (pair i j)
+pub of_lists : (ps : List Pair) (i j : ℕ) → lists_pair ps i j ≡ true → In ps (pair i j)
 of_lists [] i j h = absurd (true≢false (sym h))
 of_lists (p ∷ ps) i j h = elim (either (eqb p.low i && eqb p.high j)) [
   | inl a ↦ inl (same_numbers p i j a)
   | inr a ↦ inr (of_lists ps i j (sym (ap (λ w. w || lists_pair ps i j) a) ∙ h))
 ]
 
-to_lists : (ps : List Pair) (p : Pair) → In ps p → lists_pair ps p.low p.high ≡ true
+pub to_lists : (ps : List Pair) (p : Pair) → In ps p → lists_pair ps p.low p.high ≡ true
 to_lists [] p i = absurd i
 to_lists (q ∷ ps) p (inl e) =
     ap (λ w. (w && eqb q.high p.high) || lists_pair ps p.low p.high) (eq-eqb q.low p.low (sym (ap (λ r. r.low) e)))
@@ -80,12 +80,12 @@ to_lists (q ∷ ps) p (inr i) = elim (either (eqb q.low p.low && eqb q.high p.hi
   | inr a ↦ ap (λ w. w || lists_pair ps p.low p.high) a ∙ to_lists ps p i
 ]
 
-same_test : (a b : Bool) → (a ≡ true → b ≡ true) → (b ≡ true → a ≡ true) → a ≡ b
+pub same_test : (a b : Bool) → (a ≡ true → b ≡ true) → (b ≡ true → a ≡ true) → a ≡ b
 same_test true b f g = sym (f refl)
 same_test false true f g = g refl
 same_test false false f g = refl
 
-less_or_more : (i j : ℕ) → i ≢ j → (i < j) ⊎ (j < i)
+pub less_or_more : (i j : ℕ) → i ≢ j → (i < j) ⊎ (j < i)
 less_or_more zero zero n = absurd (n refl)
 less_or_more zero (suc j) n = inl (omega arith)
 less_or_more (suc i) zero n = inr (omega arith)

@@ -10,3 +10,4 @@ pub mod OneTree
 pub mod Texts
 pub mod Plain
 pub mod Written
+pub mod Edges

@@ -1,7 +1,9 @@
 -- The graph that a tree denotes.
 -- Source: Habib and Paul, A survey of the algorithmic aspects of modular decomposition.
-use Rattle.std.specs.Prelude.{ℕ, suc, Bool, true, false, ◌&&◌, ◌||◌, nat_eq, min, max, cond, List, [], ◌∷◌}
-use Rattle.std.specs.FinSet.{contains}
+use Rattle.std.specs.Prelude.{ℕ, suc, Bool, true, false, ◌&&◌, ◌||◌, nat_eq, min, max, cond, List, [], ◌∷◌, Option, Some, None}
+use Rattle.std.specs.FinSet.{contains, empty}
+use Rattle.md_graph.specs.declared.TheConstants.{NAMES}
+use Rattle.md_graph.specs.PlainGraph.{PlainGraph, pairs_where, empty_graph}
 use Rattle.md_tree.specs.declared.Kind.{Kind}
 use Rattle.md_tree.specs.declared.Kind.TheVariants.{Parallel, Series, Prime}
 use Rattle.md_tree.specs.declared.Pair.{Pair}
@@ -34,3 +36,11 @@ abbrev mutual
   pub adjacent_below : PlainTrees → ℕ → ℕ → Bool
   adjacent_below no_tree a b = false
   adjacent_below (one_more t ts) a b = cond (contains (names t) a) (adjacent_in t a b) (adjacent_below ts a b)
+
+-- the graph that a tree denotes: its leaves, and their adjacency in the tree; the graph without vertices where there is no tree
+abbrev pub graph_of_tree : Option PlainTree → PlainGraph
+graph_of_tree None = empty_graph
+graph_of_tree (Some t) = record {
+  vertices = names t;
+  edges = pairs_where (λ a b. (contains (names t) a && contains (names t) b) && adjacent_in t a b) NAMES;
+}

@@ -1,7 +1,9 @@
 -- Well-formed trees.
 -- Source: Habib and Paul, A survey of the algorithmic aspects of modular decomposition; the order of the children is our own.
-use Rattle.std.specs.Prelude.{◌≡◌, ◌≢◌, ◌<◌, ◌≤◌, ℕ, List, [], Contains, AllPairs, ⊤}
+use Rattle.std.specs.Prelude.{◌≡◌, ◌≢◌, ◌<◌, ◌≤◌, ℕ, List, [], Contains, AllPairs, ⊤, Option, Some, None}
 use Rattle.md_modules.specs.Sets.{Disjoint}
+use Rattle.md_graph.specs.declared.TheConstants.{NAMES}
+use Rattle.md_graph.specs.NameSet.{AllBelow}
 use Rattle.md_tree.specs.declared.Kind.{Kind}
 use Rattle.md_tree.specs.declared.Kind.TheVariants.{Parallel, Series, Prime}
 use Rattle.md_tree.specs.declared.Pair.{Pair}
@@ -54,3 +56,8 @@ IsCanonical = EachNode IsCanonicalNode
 -- no node of the tree is prime
 abbrev pub HasNoPrimeNode : PlainTree → Type 0
 HasNoPrimeNode = EachNode (λ k cs ps. k ≢ Prime)
+
+-- a tree is well-formed: its names are below the limit, and each node is as well-formed trees have it; so is no tree
+abbrev pub IsWellFormed : Option PlainTree → Type 0
+IsWellFormed None = ⊤
+IsWellFormed (Some t) = AllBelow (names t) NAMES × IsCanonical t
