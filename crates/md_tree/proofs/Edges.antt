@@ -1,8 +1,11 @@
 -- The edges of a tree's nodes are those of the graph that it denotes.
-use Rattle.std.proofs.Common.{◌≡◌, ◌≢◌, ℕ, zero, suc, ◌<◌, Bool, true, false, cond, eqb, min, max, ◌&&◌, ◌||◌, ◌⊎◌, List, [], ◌∷◌, refl, sym, ◌∙◌, ap, subst, inl, inr, true≢false, eqb-true, eq-eqb, arith}
-use Rattle.std.specs.FinSet.{contains}
-use Rattle.md_modules.specs.Sets.{NameSet, Has, Lacks, Disjoint}
-use Rattle.md_modules.proofs.Sets.{either, clash, false_if, of_only, empty_lacks, union_left, union_right, of_union}
+use Rattle.std.proofs.Common.{◌≡◌, ◌≢◌, ℕ, zero, suc, ◌<◌, Bool, true, false, cond, eqb, min, max, ◌&&◌, ◌||◌, ◌==◌, ◌⊎◌, List, [], ◌∷◌, refl, sym, ◌∙◌, ap, subst, inl, inr, true≢false, eqb-true, eq-eqb, arith}
+use Rattle.std.specs.FinSet.{contains, empty, insert, union}
+use Rattle.md_modules.specs.Sets.{NameSet, Has, Lacks, Disjoint, only_name}
+use Rattle.md_modules.proofs.Sets.{either, clash, false_if, only_has, of_only, empty_lacks, union_left, union_right, of_union}
+use Rattle.md_graph.specs.PlainGraph.{PlainGraph, adjacent, edge, with_edge}
+use Rattle.md_graph.proofs.GraphLemmas.{adjacent-with_edge}
+use Rattle.md_graph.proofs.PairLaws.{pairs-insert, same_pairs as same_pair_sets}
 use Rattle.md_tree.specs.declared.Kind.{Kind}
 use Rattle.md_tree.specs.declared.Kind.TheVariants.{Parallel, Series, Prime}
 use Rattle.md_tree.specs.declared.Pair.{Pair}
@@ -25,7 +28,7 @@ or_second : (a b : Bool) → b ≡ true → (a || b) ≡ true
 or_second true b h = refl
 or_second false b h = h
 
-and_true : (a b : Bool) → (a && b) ≡ true → (a ≡ true) × (b ≡ true)
+pub and_true : (a b : Bool) → (a && b) ≡ true → (a ≡ true) × (b ≡ true)
 and_true true b h = (refl, h)
 and_true false b h = absurd (true≢false (sym h))
 
@@ -292,3 +295,88 @@ edges_are t each x y = same_test (has_edge_in t x y) ((contains (names t) x && c
     let a : (contains (names t) x && contains (names t) y ≡ true) × (adjacent_in t x y ≡ true) = and_true (contains (names t) x && contains (names t) y) (adjacent_in t x y) h in
     let b : Has (names t) x × Has (names t) y = and_true (contains (names t) x) (contains (names t) y) a.0 in
     to_edge t x y (record { first = b.0; second = b.1; adjacent = a.1 }))
+
+-- the edges across a union
+pub crosses_right : (a : NameSet) (t : PlainTree) (ts : PlainTrees) (x y : ℕ) →
+    crosses a (names_below (one_more t ts)) x y ≡ (crosses a (names t) x y || crosses a (names_below ts) x y)
+crosses_right a t ts x y =
+    same_test (crosses a (union (names t) (names_below ts)) x y) (crosses a (names t) x y || crosses a (names_below ts) x y)
+    (λ h. elim (of_crosses a (union (names t) (names_below ts)) x y h) [
+      | inl w ↦ elim (of_union (names t) (names_below ts) y w.1) [
+        | inl i ↦ or_first (crosses a (names t) x y) (crosses a (names_below ts) x y) (to_crosses a (names t) x y (inl (w.0, i)))
+        | inr i ↦ or_second (crosses a (names t) x y) (crosses a (names_below ts) x y) (to_crosses a (names_below ts) x y (inl (w.0, i)))
+      ]
+      | inr w ↦ elim (of_union (names t) (names_below ts) x w.1) [
+        | inl i ↦ or_first (crosses a (names t) x y) (crosses a (names_below ts) x y) (to_crosses a (names t) x y (inr (w.0, i)))
+        | inr i ↦ or_second (crosses a (names t) x y) (crosses a (names_below ts) x y) (to_crosses a (names_below ts) x y (inr (w.0, i)))
+      ]
+    ])
+    (λ h. elim (or_true (crosses a (names t) x y) (crosses a (names_below ts) x y) h) [
+      | inl l ↦ elim (of_crosses a (names t) x y l) [
+        | inl w ↦ to_crosses a (union (names t) (names_below ts)) x y (inl (w.0, union_left (names t) (names_below ts) y w.1))
+        | inr w ↦ to_crosses a (union (names t) (names_below ts)) x y (inr (w.0, union_left (names t) (names_below ts) x w.1))
+      ]
+      | inr l ↦ elim (of_crosses a (names_below ts) x y l) [
+        | inl w ↦ to_crosses a (union (names t) (names_below ts)) x y (inl (w.0, union_right (names t) (names_below ts) y w.1))
+        | inr w ↦ to_crosses a (union (names t) (names_below ts)) x y (inr (w.0, union_right (names t) (names_below ts) x w.1))
+      ]
+    ])
+
+crosses_turn : (a b : NameSet) (x y : ℕ) → crosses a b x y ≡ crosses b a x y
+crosses_turn a b x y = same_test (crosses a b x y) (crosses b a x y)
+    (λ h. to_crosses b a x y (elim (of_crosses a b x y h) [ inl w ↦ inr (w.1, w.0) | inr w ↦ inl (w.1, w.0) ]))
+    (λ h. to_crosses a b x y (elim (of_crosses b a x y h) [ inl w ↦ inr (w.1, w.0) | inr w ↦ inl (w.1, w.0) ]))
+
+pub crosses_left : (b : NameSet) (t : PlainTree) (ts : PlainTrees) (x y : ℕ) →
+    crosses (names_below (one_more t ts)) b x y ≡ (crosses (names t) b x y || crosses (names_below ts) b x y)
+crosses_left b t ts x y =
+    crosses_turn (union (names t) (names_below ts)) b x y ∙ crosses_right b t ts x y
+    ∙ ap (λ w. w || crosses b (names_below ts) x y) (crosses_turn b (names t) x y) ∙ ap (λ w. crosses (names t) b x y || w) (crosses_turn b (names_below ts) x y)
+
+pub crosses_none : (a : NameSet) (x y : ℕ) → crosses a empty x y ≡ false
+crosses_none a x y = false_if _ (λ h. elim (of_crosses a empty x y h) [ inl w ↦ clash w.1 (empty_lacks y) | inr w ↦ clash w.1 (empty_lacks x) ])
+
+pub none_crosses : (b : NameSet) (x y : ℕ) → crosses empty b x y ≡ false
+none_crosses b x y = crosses_turn empty b x y ∙ crosses_none b x y
+
+-- one edge
+pub joined_two : (g h : PlainGraph) (u v : ℕ) → h ≡ with_edge g u v → (x y : ℕ) → adjacent h x y ≡ (adjacent g x y || crosses (only_name u) (only_name v) x y)
+joined_two g h u v same x y =
+    ap (λ k. adjacent k x y) same ∙ adjacent-with_edge g u v x y
+    ∙ same_test ((((x == u) && (y == v)) || ((x == v) && (y == u))) || adjacent g x y) (adjacent g x y || crosses (only_name u) (only_name v) x y) forth back
+  where
+    forth : ((((x == u) && (y == v)) || ((x == v) && (y == u))) || adjacent g x y) ≡ true → (adjacent g x y || crosses (only_name u) (only_name v) x y) ≡ true
+    forth h = elim (or_true (((x == u) && (y == v)) || ((x == v) && (y == u))) (adjacent g x y) h) [
+      | inl l ↦ or_second (adjacent g x y) (crosses (only_name u) (only_name v) x y) (to_crosses (only_name u) (only_name v) x y
+          (elim (or_true ((x == u) && (y == v)) ((x == v) && (y == u)) l) [
+            | inl w ↦ (let p : ((x == u) ≡ true) × ((y == v) ≡ true) = and_true (x == u) (y == v) w in
+                inl (subst (Has (only_name u)) (sym (eqb-true x u p.0)) (only_has u), subst (Has (only_name v)) (sym (eqb-true y v p.1)) (only_has v)))
+            | inr w ↦ (let p : ((x == v) ≡ true) × ((y == u) ≡ true) = and_true (x == v) (y == u) w in
+                inr (subst (Has (only_name u)) (sym (eqb-true y u p.1)) (only_has u), subst (Has (only_name v)) (sym (eqb-true x v p.0)) (only_has v)))
+          ]))
+      | inr r ↦ or_first (adjacent g x y) (crosses (only_name u) (only_name v) x y) r
+    ]
+
+    back : (adjacent g x y || crosses (only_name u) (only_name v) x y) ≡ true → ((((x == u) && (y == v)) || ((x == v) && (y == u))) || adjacent g x y) ≡ true
+    back h = elim (or_true (adjacent g x y) (crosses (only_name u) (only_name v) x y) h) [
+      | inl l ↦ or_second (((x == u) && (y == v)) || ((x == v) && (y == u))) (adjacent g x y) l
+      | inr r ↦ or_first (((x == u) && (y == v)) || ((x == v) && (y == u))) (adjacent g x y)
+          (elim (of_crosses (only_name u) (only_name v) x y r) [
+            | inl w ↦ or_first ((x == u) && (y == v)) ((x == v) && (y == u)) (and_both (x == u) (y == v) (eq-eqb x u (of_only u x w.0)) (eq-eqb y v (of_only v y w.1)))
+            | inr w ↦ or_second ((x == u) && (y == v)) ((x == v) && (y == u)) (and_both (x == v) (y == u) (eq-eqb x v (of_only v x w.1)) (eq-eqb y u (of_only u y w.0)))
+          ])
+    ]
+
+pub edge_known : (g : PlainGraph) (u v : ℕ) → adjacent g u v ≡ true → g ≡ with_edge g u v
+unfolding adjacent
+edge_known g u v h n = record { vertices = g.vertices; edges = same_edges n } where
+  same_edges : g.edges ≡ insert g.edges (edge u v)
+  same_edges = same_pair_sets g.edges (insert g.edges (edge u v)) (λ a b.
+      same_test (contains g.edges (a, b)) (((a == min u v) && (b == max u v)) || contains g.edges (a, b))
+      (λ k. or_second ((a == min u v) && (b == max u v)) (contains g.edges (a, b)) k)
+      (λ k. elim (or_true ((a == min u v) && (b == max u v)) (contains g.edges (a, b)) k) [
+        | inl w ↦ (let p : ((a == min u v) ≡ true) × ((b == max u v) ≡ true) = and_true (a == min u v) (b == max u v) w in
+            subst (λ z. contains g.edges (z, b) ≡ true) (sym (eqb-true a (min u v) p.0)) (subst (λ z. contains g.edges (min u v, z) ≡ true) (sym (eqb-true b (max u v) p.1)) h))
+        | inr w ↦ w
+      ])
+      ∙ sym (pairs-insert g.edges (min u v) (max u v) a b))

@@ -1,4 +1,5 @@
 pub mod Lists
+pub mod Loops
 pub mod Nodes
 pub mod Built
 pub mod Unique
@@ -11,3 +12,4 @@ pub mod Texts
 pub mod Plain
 pub mod Written
 pub mod Edges
+pub mod Denoted

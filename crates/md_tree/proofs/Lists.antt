@@ -28,7 +28,7 @@ module _ {A : Type 0} where
       let r : Contains xs y = to_contains xs y i in
       (suc r.0, (let b : r.0 < length xs = r.1 in let c : suc r.0 < suc (length xs) = omega arith in c), r.2)
 
-  in_get : (xs : List A) (k : ℕ) (d : A) → k < length xs → In xs (get_or xs k d)
+  pub in_get : (xs : List A) (k : ℕ) (d : A) → k < length xs → In xs (get_or xs k d)
   in_get [] k d h = let b : k < 0 = h in omega arith
   in_get (x ∷ xs) zero d h = inl refl
   in_get (x ∷ xs) (suc k) d h = inr (in_get xs k d (let b : suc k < suc (length xs) = h in omega arith))

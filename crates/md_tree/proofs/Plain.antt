@@ -5,7 +5,8 @@ use Rattle.md_tree.specs.declared.Kind.{Kind}
 use Rattle.md_tree.specs.declared.QuotientEdges.{QuotientEdges}
 use Rattle.md_tree.specs.declared.Children.{Children, out-Children}
 use Rattle.md_tree.specs.declared.Tree.{Tree, Leaf, Node, Node', Row_of-Tree, end_of-Tree, more_of-Tree, items-the_row-Tree, items_hidden-the_row-Tree-0}
-use Rattle.md_tree.specs.Trees.{PlainTree, leaf, node, PlainTrees, no_tree, one_more, row}
+use Rattle.md_tree.specs.Trees.{PlainTree, leaf, node, PlainTrees, no_tree, one_more, names, names_below, row}
+use Rattle.md_modules.specs.Sets.{only_name}
 use Rattle.md_tree.specs.Plain.{plain, plain_row}
 
 row_items : (n : _) (ts : Row_of-Tree n) → plain_row ts ≡ row (map plain (items-the_row-Tree n ts))
@@ -32,3 +33,10 @@ plain_is_leaf t v e = ap plain e
 pub plain_is_node : (t : Tree) (k : Kind) (cs : Children) (es : QuotientEdges) → t ≡ Node k cs es →
     plain t ≡ node k (row (map plain (out-Children cs).list.items)) es.list.items
 plain_is_node t k cs es e = ap plain e ∙ plain-node k cs es
+
+-- their names
+pub names_leaf : (t : Tree) (v : ℕ) → t ≡ Leaf v → names (plain t) ≡ only_name v
+names_leaf t v e = ap names (plain_is_leaf t v e)
+
+pub names_node : (t : Tree) (k : Kind) (cs : Children) (es : QuotientEdges) → t ≡ Node k cs es → names (plain t) ≡ names_below (row (map plain (out-Children cs).list.items))
+names_node t k cs es e = ap names (plain_is_node t k cs es e)

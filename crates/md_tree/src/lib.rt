@@ -4,9 +4,11 @@
 ghost use Rattle.std.specs.Prelude.{◌≡◌, ◌<◌, vec_len, slice_index_or};
 ghost use Rattle.md_tree.specs.declared.Children.{out-Children};
 
+mod graphs;
 pub mod laws;
 mod writer;
 
+pub use graphs::graph_of;
 pub use writer::text;
 
 /// The kind of a node of a tree: its leaf set has no edge across some split, every edge across some split, or neither.
