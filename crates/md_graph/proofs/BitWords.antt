@@ -1,5 +1,5 @@
 -- Words of bits and the sets that they keep.
-use Rattle.std.proofs.Common.{◌≡◌, ℕ, zero, suc, ◌+◌, ◌-◌, ◌*◌, ◌/◌, ◌%◌, ◌^◌, ◌<◌, ◌≤◌, bit_and, bit_or, min, max, not, mod-lt, mod-eq_of_lt, lit<, lit≤, one-add, add-suc, add-zero, pow_pos, ltb-true, ltb-false, lt-ltb, Bool, true, false, cond, ltb, leb, eqb, eqb-true, ◌⊎◌, inl, inr, ◌==◌, ◌&&◌, ◌||◌, ◌≢◌, if◌then◌else◌, List, [], ◌∷◌, get_or, replicate, length, refl, arith, ap, sym, ◌∙◌}
+use Rattle.std.proofs.Common.{◌≡◌, ℕ, zero, suc, ◌+◌, ◌-◌, ◌*◌, ◌/◌, ◌%◌, ◌^◌, ◌<◌, ◌≤◌, bit_and, bit_or, min, max, not, mod-lt, mod-eq_of_lt, lit<, lit≤, one-add, add-suc, pow_pos, ltb-true, ltb-false, lt-ltb, Bool, true, false, cond, ltb, leb, eqb, eqb-true, ◌==◌, ◌&&◌, ◌||◌, ◌≢◌, if◌then◌else◌, List, get_or, replicate, length, refl, arith, ap, sym, ◌∙◌}
 use Rattle.std.proofs.lemmas.Bool.{eqb-false}
 use Rattle.std.proofs.lemmas.Bool.Decides.{nat_tests}
 use Rattle.std.specs.Int.{bit_at, bit_not, w64}
@@ -40,9 +40,6 @@ contains-names_below words (suc n) v =
 
 -- ---- places of names
 
-
-
-
 -- what holds below u and from u on holds everywhere
 pub from_both : (P : ℕ → Type 0) (u : ℕ) → ((k : ℕ) → k < u → P k) → ((k : ℕ) → u ≤ k → P k) → (k : ℕ) → P k
 from_both P u below above k =
@@ -78,20 +75,20 @@ without_within false x y z e = refl
 pub union_of_bits : (a b c : List ℕ) (n : ℕ) → ((q : ℕ) → bit_of c q ≡ max (bit_of a q) (bit_of b q)) → names_below c n ≡ set.union (names_below a n) (names_below b n)
 union_of_bits a b c n each =
     from_bits c n _ (λ q.
-      rw (contains-union, contains-names_below a n q, contains-names_below b n q)
-      (or_within _ _ _ _ (ap (λ x. x == 1) (each q) ∙ or_bits _ _ (bit_at-lt _ _) (bit_at-lt _ _))))
+    rw (contains-union, contains-names_below a n q, contains-names_below b n q)
+    (or_within _ _ _ _ (ap (λ x. x == 1) (each q) ∙ or_bits _ _ (bit_at-lt _ _) (bit_at-lt _ _))))
 
 pub intersection_of_bits : (a b c : List ℕ) (n : ℕ) → ((q : ℕ) → bit_of c q ≡ min (bit_of a q) (bit_of b q)) → names_below c n ≡ set.intersection (names_below a n) (names_below b n)
 intersection_of_bits a b c n each =
     from_bits c n _ (λ q.
-      rw (contains-intersection, contains-names_below a n q, contains-names_below b n q)
-      (and_within _ _ _ _ (ap (λ x. x == 1) (each q) ∙ and_bits _ _ (bit_at-lt _ _) (bit_at-lt _ _))))
+    rw (contains-intersection, contains-names_below a n q, contains-names_below b n q)
+    (and_within _ _ _ _ (ap (λ x. x == 1) (each q) ∙ and_bits _ _ (bit_at-lt _ _) (bit_at-lt _ _))))
 
 pub difference_of_bits : (a b c : List ℕ) (n : ℕ) → ((q : ℕ) → bit_of c q ≡ min (bit_of a q) (1 - bit_of b q)) → names_below c n ≡ set.difference (names_below a n) (names_below b n)
 difference_of_bits a b c n each =
     from_bits c n _ (λ q.
-      rw (contains-difference, contains-names_below a n q, contains-names_below b n q)
-      (without_within _ _ _ _ (ap (λ x. x == 1) (each q) ∙ without_bits _ _ (bit_at-lt _ _) (bit_at-lt _ _))))
+    rw (contains-difference, contains-names_below a n q, contains-names_below b n q)
+    (without_within _ _ _ _ (ap (λ x. x == 1) (each q) ∙ without_bits _ _ (bit_at-lt _ _) (bit_at-lt _ _))))
 
 zero_bit : (w i : ℕ) → w ≡ 0 → bit_at w i ≡ 0
 zero_bit w i e = ap (λ x. bit_at x i) e ∙ bit_at-zero i
@@ -108,18 +105,18 @@ InUse words used = (k : ℕ) → used ≤ k → get_or words k 0 ≡ 0
 pub union_of_words : (a b c : List ℕ) (n ua ub u : ℕ) → InUse a ua → InUse b ub → u ≡ max ua ub → ((k : ℕ) → k < u → get_or c k 0 ≡ bit_or (get_or a k 0) (get_or b k 0)) → InUse c u → names_below c n ≡ set.union (names_below a n) (names_below b n)
 union_of_words a b c n ua ub u ra rb e first rest =
     union_of_bits a b c n (λ q.
-      from_both (λ k. bit_at (get_or c k 0) (q % 64) ≡ max (bit_at (get_or a k 0) (q % 64)) (bit_at (get_or b k 0) (q % 64))) u
-      (λ k h. ap (λ w. bit_at w (q % 64)) (first k h) ∙ bit_at_or _ _ _)
-      (λ k h. rw (zero_bit _ (q % 64) (rest k h), zero_bit _ (q % 64) (ra k (omega arith)), zero_bit _ (q % 64) (rb k (omega arith))) refl)
-      (q / 64))
+    from_both (λ k. bit_at (get_or c k 0) (q % 64) ≡ max (bit_at (get_or a k 0) (q % 64)) (bit_at (get_or b k 0) (q % 64))) u
+    (λ k h. ap (λ w. bit_at w (q % 64)) (first k h) ∙ bit_at_or _ _ _)
+    (λ k h. rw (zero_bit _ (q % 64) (rest k h), zero_bit _ (q % 64) (ra k (omega arith)), zero_bit _ (q % 64) (rb k (omega arith))) refl)
+    (q / 64))
 
 pub taken_in_words : (a b c : List ℕ) (n u : ℕ) → InUse b u → ((k : ℕ) → k < u → get_or c k 0 ≡ bit_or (get_or a k 0) (get_or b k 0)) → ((k : ℕ) → u ≤ k → get_or c k 0 ≡ get_or a k 0) → names_below c n ≡ set.union (names_below a n) (names_below b n)
 taken_in_words a b c n u rb first rest =
     union_of_bits a b c n (λ q.
-      from_both (λ k. bit_at (get_or c k 0) (q % 64) ≡ max (bit_at (get_or a k 0) (q % 64)) (bit_at (get_or b k 0) (q % 64))) u
-      (λ k h. ap (λ w. bit_at w (q % 64)) (first k h) ∙ bit_at_or _ _ _)
-      (λ k h. let left = ap (λ w. bit_at w (q % 64)) (rest k h) in let right = zero_bit _ (q % 64) (rb k h) in omega arith)
-      (q / 64))
+    from_both (λ k. bit_at (get_or c k 0) (q % 64) ≡ max (bit_at (get_or a k 0) (q % 64)) (bit_at (get_or b k 0) (q % 64))) u
+    (λ k h. ap (λ w. bit_at w (q % 64)) (first k h) ∙ bit_at_or _ _ _)
+    (λ k h. let left = ap (λ w. bit_at w (q % 64)) (rest k h) in let right = zero_bit _ (q % 64) (rb k h) in omega arith)
+    (q / 64))
 
 least_none : (ua ub u k x y z : ℕ) → u ≡ min ua ub → u ≤ k → z ≡ 0 → (ua ≤ k → x ≡ 0) → (ub ≤ k → y ≡ 0) → z ≡ min x y
 least_none ua ub u k x y z e h none left right = grind arith
@@ -127,19 +124,19 @@ least_none ua ub u k x y z e h none left right = grind arith
 pub intersection_of_words : (a b c : List ℕ) (n ua ub u : ℕ) → InUse a ua → InUse b ub → u ≡ min ua ub → ((k : ℕ) → k < u → get_or c k 0 ≡ bit_and (get_or a k 0) (get_or b k 0)) → InUse c u → names_below c n ≡ set.intersection (names_below a n) (names_below b n)
 intersection_of_words a b c n ua ub u ra rb e first rest =
     intersection_of_bits a b c n (λ q.
-      from_both (λ k. bit_at (get_or c k 0) (q % 64) ≡ min (bit_at (get_or a k 0) (q % 64)) (bit_at (get_or b k 0) (q % 64))) u
-      (λ k h. ap (λ w. bit_at w (q % 64)) (first k h) ∙ bit_at_and _ _ _)
-      (λ k h.
-        least_none ua ub u k _ _ _ e h (zero_bit _ (q % 64) (rest k h)) (λ l. zero_bit _ (q % 64) (ra k l)) (λ l. zero_bit _ (q % 64) (rb k l)))
-      (q / 64))
+    from_both (λ k. bit_at (get_or c k 0) (q % 64) ≡ min (bit_at (get_or a k 0) (q % 64)) (bit_at (get_or b k 0) (q % 64))) u
+    (λ k h. ap (λ w. bit_at w (q % 64)) (first k h) ∙ bit_at_and _ _ _)
+    (λ k h.
+    least_none ua ub u k _ _ _ e h (zero_bit _ (q % 64) (rest k h)) (λ l. zero_bit _ (q % 64) (ra k l)) (λ l. zero_bit _ (q % 64) (rb k l)))
+    (q / 64))
 
 pub difference_of_words : (a b c : List ℕ) (n u : ℕ) → InUse a u → ((k : ℕ) → k < u → IsWithout (get_or c k 0) (get_or a k 0) (get_or b k 0)) → InUse c u → names_below c n ≡ set.difference (names_below a n) (names_below b n)
 difference_of_words a b c n u ra first rest =
     difference_of_bits a b c n (λ q.
-      from_both (λ k. bit_at (get_or c k 0) (q % 64) ≡ min (bit_at (get_or a k 0) (q % 64)) (1 - bit_at (get_or b k 0) (q % 64))) u
-      (λ k h. first k h (q % 64) (omega arith))
-      (λ k h. rw (zero_bit _ (q % 64) (rest k h), zero_bit _ (q % 64) (ra k h)) (omega arith))
-      (q / 64))
+    from_both (λ k. bit_at (get_or c k 0) (q % 64) ≡ min (bit_at (get_or a k 0) (q % 64)) (1 - bit_at (get_or b k 0) (q % 64))) u
+    (λ k h. first k h (q % 64) (omega arith))
+    (λ k h. rw (zero_bit _ (q % 64) (rest k h), zero_bit _ (q % 64) (ra k h)) (omega arith))
+    (q / 64))
 
 -- ---- one word written
 
@@ -207,15 +204,15 @@ remove_bit n v q x y same other = grind (arith, nat_tests)
 pub insert_name : (words : List ℕ) (n v : ℕ) → v < n → v / 64 < length words → names_below (with_name words v) n ≡ set.insert (names_below words n) v
 insert_name words n v below within =
     from_bits _ n _ (λ q.
-      rw (contains-insert, contains-names_below words n q)
-      (insert_bit n v q _ _ below (with_name_same words v q within) (with_name_other words v q within)))
+    rw (contains-insert, contains-names_below words n q)
+    (insert_bit n v q _ _ below (with_name_same words v q within) (with_name_other words v q within)))
 
 -- the word of a name with its bit cleared
 pub remove_name : (words : List ℕ) (n v : ℕ) → v / 64 < length words → names_below (without_name words v) n ≡ set.remove (names_below words n) v
 remove_name words n v within =
     from_bits _ n _ (λ q.
-      rw (contains-remove, contains-names_below words n q)
-      (remove_bit n v q _ _ (without_name_same words v q within) (without_name_other words v q within)))
+    rw (contains-remove, contains-names_below words n q)
+    (remove_bit n v q _ _ (without_name_same words v q within) (without_name_other words v q within)))
 
 -- the test of one bit
 pub has_name : (words : List ℕ) (n v : ℕ) (s : NameSet) → names_below words n ≡ s → v < n → (bit_and (get_or words (v / 64) 0 / 2 ^ (v % 64)) 1 == 1) ≡ set.contains s v
@@ -260,13 +257,13 @@ block_other first q a b apart = grind (arith, nat_tests)
 pub insert_block : (words : List ℕ) (n w first bits : ℕ) → n ≡ 64 * w → first < n → first % 64 ≡ 0 → first / 64 < length words → names_below (set_at words (first / 64) (bit_or (get_or words (first / 64) 0) bits)) n ≡ set.union (names_below words n) (block_below first bits 64)
 insert_block words n w first bits whole below aligned within =
     from_bits _ n _ (λ q.
-      rw (contains-union, contains-names_below words n q, contains-block_below first bits 64 q)
-      (bit_of_set (λ y. ((ltb q n && (bit_of words q == 1)) || (leb first q && (ltb (q - first) 64 && (bit_at bits (q - first) == 1)))) ≡ (ltb q n && (y == 1))) words (first / 64) _ q within
-      (λ same.
-        let place : q - first ≡ q % 64 = omega arith in
-        rw (bit_at_or (get_or words (first / 64) 0) bits (q % 64), ← same)
-        (block_bit n first q _ _ _ (omega arith) (bit_at-lt _ _) (bit_at-lt _ _) (omega arith) (omega arith) (ap (bit_at bits) place)))
-      (λ ne. block_other first q _ _ (λ low. omega arith))))
+    rw (contains-union, contains-names_below words n q, contains-block_below first bits 64 q)
+    (bit_of_set (λ y. ((ltb q n && (bit_of words q == 1)) || (leb first q && (ltb (q - first) 64 && (bit_at bits (q - first) == 1)))) ≡ (ltb q n && (y == 1))) words (first / 64) _ q within
+    (λ same.
+    let place : q - first ≡ q % 64 = omega arith in
+    rw (bit_at_or (get_or words (first / 64) 0) bits (q % 64), ← same)
+    (block_bit n first q _ _ _ (omega arith) (bit_at-lt _ _) (bit_at-lt _ _) (omega arith) (omega arith) (ap (bit_at bits) place)))
+    (λ ne. block_other first q _ _ (λ low. omega arith))))
 
 -- the word of 64 names
 pub block_of_word : (words : List ℕ) (n w first : ℕ) (s : NameSet) → names_below words n ≡ s → n ≡ 64 * w → first < n → first % 64 ≡ 0 → (k : ℕ) → k < 64 → set.contains s (first + k) ≡ (bit_at (get_or words (first / 64) 0) k == 1)
@@ -346,8 +343,8 @@ count_more words i count is fits = ap (λ n. n + ones (get_or words i 0)) is ∙
 pub names_in_use : (words : List ℕ) (n w used : ℕ) → InUse words used → n ≡ 64 * w → used ≤ w → names_below words (64 * used) ≡ names_below words n
 names_in_use words n w used rest whole within =
     same_set _ _ (λ q.
-      rw (contains-names_below words n q, contains-names_below words (64 * used) q)
-      (in_use_bit n used q _ (omega arith) (λ h. zero_bit _ (q % 64) (rest (q / 64) (omega arith)))))
+    rw (contains-names_below words n q, contains-names_below words (64 * used) q)
+    (in_use_bit n used q _ (omega arith) (λ h. zero_bit _ (q % 64) (rest (q / 64) (omega arith)))))
 
 -- a word without bits is 0
 pub zero_from_bits : (w : ℕ) → w < 2 ^ 64 → ((i : ℕ) → i < 64 → bit_at w i ≡ 0) → w ≡ 0
@@ -371,8 +368,8 @@ bits_of_empty words n w whole is k i h below =
 pub empty_of_bits : (words : List ℕ) (n u : ℕ) → InUse words u → ((k i : ℕ) → k < u → i < 64 → bit_at (get_or words k 0) i ≡ 0) → names_below words n ≡ set.empty
 empty_of_bits words n u rest first =
     from_bits words n _ (λ q.
-      let none = from_both (λ k. bit_at (get_or words k 0) (q % 64) ≡ 0) u (λ k h. first k (q % 64) h (omega arith)) (λ k h. zero_bit _ (q % 64) (rest k h)) (q / 64) in
-      contains-empty q ∙ no_bit n q _ none)
+    let none = from_both (λ k. bit_at (get_or words k 0) (q % 64) ≡ 0) u (λ k h. first k (q % 64) h (omega arith)) (λ k h. zero_bit _ (q % 64) (rest k h)) (q / 64) in
+    contains-empty q ∙ no_bit n q _ none)
 
 pub len_of_none : (words : List ℕ) → set.len (names_below words 0) ≡ 0
 unfolding names_below

@@ -1,15 +1,15 @@
 -- Sums over numbers below a bound, and the double counting of the edges of rows.
-use Rattle.std.specs.Prelude.{◌≡◌, ℕ, zero, suc, ◌+◌, ◌*◌, ◌^◌, ◌<◌, ◌≤◌, ◌⊎◌, Bool, true, false, cond, ◌&&◌, ◌||◌, ◌==◌, nat_lt, nat_le, IsTrue, List, [], ◌∷◌, ◌++◌, sum_by, refl, not}
-use Rattle.std.proofs.Common.{subst, ap, sym, ◌∙◌, arith, inl, inr}
-use Rattle.std.proofs.lemmas.Bool.{true≢false, cases_Bool, cases_lt, cases_eq, cases_order, and_parts, not-true, eqb-false, eq-eqb, ne_eqb, false_from_ne_true, le-leb}
+use Rattle.std.specs.Prelude.{◌≡◌, ℕ, zero, suc, ◌+◌, ◌*◌, ◌<◌, ◌≤◌, Bool, true, false, cond, ◌&&◌, sum_by, refl, not}
+use Rattle.std.proofs.Common.{ap, sym, ◌∙◌, arith, inl, inr}
+use Rattle.std.proofs.lemmas.Bool.{true≢false, cases_Bool, cases_eq, and_parts, not-true, eqb-false, ne_eqb, false_from_ne_true, le-leb}
 use Rattle.std.proofs.lemmas.Bool.Decides.{nat_tests}
 use Rattle.std.proofs.lemmas.List.{append-nil}
-use Rattle.std.proofs.lemmas.List.Sums.{sum_by_push, sum_by-cons}
+use Rattle.std.proofs.lemmas.List.Sums.{sum_by_push}
 use Rattle.std.specs.FinSet as set
 use Rattle.md_graph.specs.NameSet.{NameSet, Member, ascending_between}
 use Rattle.md_graph.specs.PlainGraph.{PairSet, pairs_at, pairs_where}
-use Rattle.md_graph.proofs.SetLaws.{contains-empty, contains-insert, contains-remove, len-empty, len-insert, len-remove, same_set, empty_of_len}
-use Rattle.md_graph.proofs.PairLaws.{pairs-empty, pairs-len-empty, pairs-len-insert}
+use Rattle.md_graph.proofs.SetLaws.{contains-empty, contains-remove, len-empty, len-remove, same_set, empty_of_len}
+use Rattle.md_graph.proofs.PairLaws.{pairs-len-empty, pairs-len-insert}
 use Rattle.md_graph.proofs.GraphLemmas.{contains-pairs_at, contains-pairs_where}
 
 -- f 0 + .. + f (n - 1)
@@ -117,13 +117,13 @@ rows_counted : (live : NameSet) (row : ℕ → NameSet) (n : ℕ) → ((u v : �
 rows_counted live row n inside below =
     sum_by-ascending_between (λ v. set.len (row v)) live n
     ∙ sum_below-same (λ v. cond (set.contains live v) (set.len (row v)) 0) (λ v. sum_below (λ u. bit (set.contains (row v) u)) n) n (λ v h.
-      let l = len-below n (row v) (λ w m. below w (inside v w m).1) in
-      elim (cases_Bool (set.contains live v)) [
-        | inl t ↦ rw t l
-        | inr f ↦
+    let l = len-below n (row v) (λ w m. below w (inside v w m).1) in
+    elim (cases_Bool (set.contains live v)) [
+      | inl t ↦ rw t l
+      | inr f ↦
           let none : row v ≡ set.empty = same_set (row v) set.empty (λ q. false_from_ne_true _ (λ m. true≢false (sym (inside v q m).0 ∙ f)) ∙ sym (contains-empty q)) in
           rw f (sym len-empty ∙ ap set.len (sym none) ∙ l)
-      ])
+    ])
 
 -- it is twice the number of edges
 pub rows_twice : (live : NameSet) (row : ℕ → NameSet) (n : ℕ) → ((u v : ℕ) → Member (row u) v → Member live u × Member live v) → ((v : ℕ) → Member live v → v < n) → ((u v : ℕ) → set.contains (row u) v ≡ set.contains (row v) u) → ((v : ℕ) → set.contains (row v) v ≡ false) → sum_by (λ v. set.len (row v)) (ascending_between live 0 n) ≡ 2 * set.len (pairs_where (λ u v. set.contains (row v) u) n)

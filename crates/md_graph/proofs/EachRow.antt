@@ -1,18 +1,14 @@
 -- A loop over the members of a set that changes the row of each.
-use Rattle.std.specs.Prelude.{◌≡◌, ℕ, zero, suc, ◌+◌, ◌<◌, ◌≤◌, ◌≢◌, ◌⊎◌, Bool, true, false, cond, not, ◌&&◌, ◌||◌, ◌==◌, nat_lt, nat_le, IsTrue, List, [], ◌∷◌, ◌++◌, length, get_or, refl}
-use Rattle.std.proofs.Common.{subst, ap, sym, ◌∙◌, arith, inl, inr, set}
-use Rattle.std.proofs.lemmas.Bool.{cases_Bool, cases_eq, cases_order, or_left, or_right, eq-eqb, ne_eqb}
-use Rattle.std.proofs.lemmas.Bool.Decides.{nat_tests}
-use Rattle.std.proofs.lemmas.List.{append-nil, get_or_read, get_or-set_same, get_or-set_other}
-use Rattle.std.specs.Ordering.{nat_cmp}
-use Rattle.std.specs.Cmp.{nat_cmp_total}
+use Rattle.std.specs.Prelude.{◌≡◌, ℕ, ◌<◌, Bool, true, false, cond, not, ◌&&◌, List, [], ◌∷◌, length, get_or, refl}
+use Rattle.std.proofs.Common.{ap, sym, ◌∙◌, arith, inl, inr, set}
+use Rattle.std.proofs.lemmas.Bool.{cases_eq, or_left, or_right, eq-eqb, ne_eqb}
+use Rattle.std.proofs.lemmas.List.{get_or_read, get_or-set_same, get_or-set_other}
 use Rattle.std.specs.FinSet as set
-use Rattle.std.specs.FinSet.{nat_cmp-IsAntisymmetric}
 use Rattle.md_graph.specs.declared.TheConstants.{NAMES}
-use Rattle.md_graph.specs.NameSet.{NameSet, Member, AllBelow, ascending, ascending_between}
+use Rattle.md_graph.specs.NameSet.{NameSet, Member, AllBelow, ascending}
 use Rattle.md_graph.specs.Rows.{row_of}
-use Rattle.md_graph.proofs.SetLaws.{contains-empty, contains-insert, contains-remove, same_set}
-use Rattle.md_graph.proofs.GraphLemmas.{zero_le, below_suc, below_same, below_all}
+use Rattle.md_graph.proofs.SetLaws.{contains-empty, contains-insert, contains-remove, contains-difference, same_set}
+use Rattle.md_graph.proofs.NameLemmas.{from_list-ascending}
 
 -- ---- the members of a set, listed
 
@@ -24,17 +20,8 @@ listed xs = set.from_list xs
 pub record Lists (s : NameSet) (xs : List ℕ) : Type 0 where
   pub inside : (w : ℕ) → Member (listed xs) w → Member s w
 
-contains-ascending_between : (s : NameSet) (n u : ℕ) → set.contains (listed (ascending_between s 0 n)) u ≡ (nat_lt u n && set.contains s u)
-unfolding ascending_between
-contains-ascending_between s zero u = rw (contains-empty u) (grind (arith, nat_tests))
-contains-ascending_between s (suc n) u =
-    elim (cases_Bool (set.contains s n)) [
-      | inl t ↦ rw (zero_le n, t, set.from_list_push nat_cmp_total nat_cmp-IsAntisymmetric (ascending_between s 0 n) n, contains-insert (set.from_list (ascending_between s 0 n)) n u, contains-ascending_between s n u, below_suc s n u t) refl
-      | inr f ↦ rw (zero_le n, f, append-nil (ascending_between s 0 n), contains-ascending_between s n u, below_same s n u f) refl
-    ]
-
 pub contains-ascending : (s : NameSet) → AllBelow s NAMES → (u : ℕ) → set.contains (listed (ascending s)) u ≡ set.contains s u
-contains-ascending s below u = contains-ascending_between s NAMES u ∙ below_all s NAMES u below
+contains-ascending s below u = ap (λ t. set.contains t u) (from_list-ascending s NAMES below)
 
 pub Lists-ascending : {s : NameSet} (xs : List ℕ) → xs ≡ ascending s → AllBelow s NAMES → Lists s xs
 Lists-ascending {s} xs e below = record {
@@ -70,9 +57,9 @@ each_step f twice rows x xs rest e below new old is read u =
     let row : new ≡ f (row_of rows x) = is ∙ ap f (get_or_read rows x old below read set.empty) in
     let here : changed f (listed (x ∷ rest)) rows u ≡ changed f (listed rest) (set rows x new) u = elim (cases_eq u x) [
       | inl same ↦
-        rw (same, contains-insert (listed rest) x x, eq-eqb x x refl, get_or-set_same rows x new set.empty below, row, twice (row_of rows x)) (sym (either (set.contains (listed rest) x) (f (row_of rows x))))
+          rw (same, contains-insert (listed rest) x x, eq-eqb x x refl, get_or-set_same rows x new set.empty below, row, twice (row_of rows x)) (sym (either (set.contains (listed rest) x) (f (row_of rows x))))
       | inr other ↦
-        rw (contains-insert (listed rest) x u, ne_eqb u x other, get_or-set_other rows x u new set.empty other) refl
+          rw (contains-insert (listed rest) x u, ne_eqb u x other, get_or-set_other rows x u new set.empty other) refl
     ] in
     sym (ap (λ ys. changed f (listed ys) rows u) e ∙ here)
 
@@ -85,3 +72,9 @@ insert_twice v s = same_set _ _ (λ q. rw (contains-insert (set.insert s v) v q,
 
 pub remove_twice : (v : ℕ) (s : NameSet) → set.remove (set.remove s v) v ≡ set.remove s v
 remove_twice v s = same_set _ _ (λ q. rw (contains-remove (set.remove s v) v q, contains-remove s v q) (grind arith))
+
+-- what is a member of a, where a without b is empty, is a member of b
+pub member_from_difference : (a b rest : NameSet) → rest ≡ set.difference a b → rest ≡ set.empty → (u : ℕ) → Member a u → Member b u
+member_from_difference a b rest is none u m =
+    let out : (set.contains a u && not (set.contains b u)) ≡ false = sym (contains-difference a b u) ∙ ap (λ s. set.contains s u) (sym is ∙ none) ∙ contains-empty u in
+    grind arith

@@ -1,5 +1,5 @@
 -- Facts of graphs that callers may cite.
-use Rattle.std.specs.Prelude.{◌≡◌, ℕ, zero, suc, ◌+◌, ◌<◌, ◌≤◌, ◌≢◌, ◌⊎◌, min, max, Bool, true, false, cond, not, ◌&&◌, ◌||◌, ◌==◌, nat_lt, nat_le, IsTrue, List, [], ◌∷◌, ◌++◌, map, length, get_or, refl}
+use Rattle.std.specs.Prelude.{◌≡◌, ℕ, zero, suc, ◌<◌, ◌≢◌, min, max, Bool, true, false, not, ◌&&◌, ◌||◌, ◌==◌, nat_lt, nat_le, List, [], ◌∷◌, ◌++◌, map, length, refl}
 use Rattle.std.proofs.Common.{subst, ap, sym, ◌∙◌, arith, inl, inr}
 use Rattle.std.proofs.lemmas.Bool.{true≢false, or_right, cases_Bool, cases_lt, cases_order, and_parts, and_from, or_cases, le-leb, ltb-true, eqb-true, false_from_ne_true}
 use Rattle.std.proofs.lemmas.Bool.Decides.{nat_tests}
@@ -218,14 +218,14 @@ star_push v others n =
     ap set.from_list (map-append (edge v) others (n ∷ [])) ∙ pairs-from_list_push (map (edge v) others) (edge v n)
 
 -- the members below n + 1, where n is one and where it isn't
-pub below_suc : (s : NameSet) (n b : ℕ) → set.contains s n ≡ true → (nat_lt b (suc n) && set.contains s b) ≡ ((b == n) || (nat_lt b n && set.contains s b))
+below_suc : (s : NameSet) (n b : ℕ) → set.contains s n ≡ true → (nat_lt b (suc n) && set.contains s b) ≡ ((b == n) || (nat_lt b n && set.contains s b))
 below_suc s n b t =
     elim (cases_order b n) [
       | inl same ↦ rw same (grind (arith, nat_tests))
       | inr other ↦ grind (arith, nat_tests)
     ]
 
-pub below_same : (s : NameSet) (n b : ℕ) → set.contains s n ≡ false → (nat_lt b (suc n) && set.contains s b) ≡ (nat_lt b n && set.contains s b)
+below_same : (s : NameSet) (n b : ℕ) → set.contains s n ≡ false → (nat_lt b (suc n) && set.contains s b) ≡ (nat_lt b n && set.contains s b)
 below_same s n b f =
     elim (cases_order b n) [
       | inl same ↦ rw same (grind (arith, nat_tests))
@@ -235,7 +235,7 @@ below_same s n b f =
 join_arms : (p q r w x y : Bool) → (((p && q) || (r && w)) || ((p && x) || (w && y))) ≡ ((p && (q || x)) || (w && (r || y)))
 join_arms p q r w x y = grind arith
 
-pub zero_le : (n : ℕ) → nat_le 0 n ≡ true
+zero_le : (n : ℕ) → nat_le 0 n ≡ true
 zero_le n = le-leb 0 n (omega arith)
 
 -- the edges of a star
@@ -245,13 +245,13 @@ contains-star v s zero a b = rw (pairs-empty (min a b) (max a b)) (grind (arith,
 contains-star v s (suc n) a b =
     elim (cases_Bool (set.contains s n)) [
       | inl t ↦
-        rw (zero_le n, t, star_push v (ascending_between s 0 n) n, pairs-insert (star v (ascending_between s 0 n)) (min v n) (max v n) (min a b) (max a b), contains-star v s n a b, same_edge a b v n, below_suc s n a t, below_suc s n b t)
-        (join_arms (a == v) (b == n) (a == n) (b == v) _ _)
+          rw (zero_le n, t, star_push v (ascending_between s 0 n) n, pairs-insert (star v (ascending_between s 0 n)) (min v n) (max v n) (min a b) (max a b), contains-star v s n a b, same_edge a b v n, below_suc s n a t, below_suc s n b t)
+          (join_arms (a == v) (b == n) (a == n) (b == v) _ _)
       | inr f ↦
-        rw (zero_le n, f, append-nil (ascending_between s 0 n), contains-star v s n a b, below_same s n a f, below_same s n b f) refl
+          rw (zero_le n, f, append-nil (ascending_between s 0 n), contains-star v s n a b, below_same s n a f, below_same s n b f) refl
     ]
 
-pub below_all : (s : NameSet) (n b : ℕ) → ((w : ℕ) → Member s w → w < n) → (nat_lt b n && set.contains s b) ≡ set.contains s b
+below_all : (s : NameSet) (n b : ℕ) → ((w : ℕ) → Member s w → w < n) → (nat_lt b n && set.contains s b) ≡ set.contains s b
 below_all s n b below =
     elim (cases_Bool (set.contains s b)) [
       | inl t ↦ let h = below b t in grind (arith, nat_tests)
@@ -271,11 +271,11 @@ star_parts v s zero a b h = absurd (true≢false (sym h ∙ pairs-empty a b))
 star_parts v s (suc n) a b h =
     elim (cases_Bool (set.contains s n)) [
       | inl t ↦
-        let k = rw (zero_le n, t, star_push v (ascending_between s 0 n) n, pairs-insert (star v (ascending_between s 0 n)) (min v n) (max v n) a b) at h in
-        elim (or_cases _ _ k) [
-          | inl same ↦ (n, t, same)
-          | inr before ↦ star_parts v s n a b before
-        ]
+          let k = rw (zero_le n, t, star_push v (ascending_between s 0 n) n, pairs-insert (star v (ascending_between s 0 n)) (min v n) (max v n) a b) at h in
+          elim (or_cases _ _ k) [
+            | inl same ↦ (n, t, same)
+            | inr before ↦ star_parts v s n a b before
+          ]
       | inr f ↦ star_parts v s n a b (rw (zero_le n, f, append-nil (ascending_between s 0 n)) at h)
     ]
 
@@ -284,8 +284,8 @@ IsGraph-with_edges {g} is v others mv members differ =
     IsGraph_by is.names (λ a b h. elim (or_cases _ _ (sym (pairs-union g.edges (star v (ascending others)) a b) ∙ h)) [
       | inl old ↦ graph_ends is a b old
       | inr new ↦
-        let (w, mw, same) = star_parts v others NAMES a b new in
-        edge_is a b v w g.vertices same (edge_has v w g.vertices (λ e. true≢false (sym mw ∙ ap (set.contains others) (sym e) ∙ differ)) mv (members w mw))
+          let (w, mw, same) = star_parts v others NAMES a b new in
+          edge_is a b v w g.vertices same (edge_has v w g.vertices (λ e. true≢false (sym mw ∙ ap (set.contains others) (sym e) ∙ differ)) mv (members w mw))
     ])
 
 -- ---- the complement, induced graphs, and removals
@@ -297,9 +297,9 @@ contains-complement g u v =
 pub IsGraph-complement : {g : PlainGraph} → IsGraph g → IsGraph (complement g)
 IsGraph-complement {g} is =
     IsGraph_by is.names (λ u v h.
-      let parts = and_parts _ _ (sym (contains-complement g u v) ∙ h) in
-      let ends = and_parts _ _ (and_parts _ _ parts.1).0 in
-      (ltb-true u v (and_parts _ _ parts.0).0, ends.0, ends.1))
+    let parts = and_parts _ _ (sym (contains-complement g u v) ∙ h) in
+    let ends = and_parts _ _ (and_parts _ _ parts.1).0 in
+    (ltb-true u v (and_parts _ _ parts.0).0, ends.0, ends.1))
 
 complement_up : {g : PlainGraph} → IsGraph g → (u v : ℕ) → u < v → adjacent (complement g) u v ≡ ((set.contains g.vertices u && set.contains g.vertices v) && not (adjacent g u v))
 complement_up {g} is u v up =
@@ -337,9 +337,9 @@ IsGraph-induced {g} is s =
     IsGraph_by
     (λ w h. is.names w (and_parts _ _ (sym (inside w) ∙ h)).0)
     (λ u v h.
-      let parts = and_parts _ _ (sym (pairs-retain g.edges (λ p. set.contains s p.0 && set.contains s p.1) u v) ∙ h) in
-      let ends = and_parts _ _ parts.1 in
-      (is.ordered u v parts.0, inside u ∙ and_from _ _ (is.low_end u v parts.0) ends.0, inside v ∙ and_from _ _ (is.high_end u v parts.0) ends.1))
+    let parts = and_parts _ _ (sym (pairs-retain g.edges (λ p. set.contains s p.0 && set.contains s p.1) u v) ∙ h) in
+    let ends = and_parts _ _ parts.1 in
+    (is.ordered u v parts.0, inside u ∙ and_from _ _ (is.low_end u v parts.0) ends.0, inside v ∙ and_from _ _ (is.high_end u v parts.0) ends.1))
 
 pub adjacent-without_vertex : (g : PlainGraph) (v a b : ℕ) → adjacent (without_vertex g v) a b ≡ (adjacent g a b && (not (a == v) && not (b == v)))
 unfolding adjacent
@@ -352,9 +352,9 @@ IsGraph-without_vertex {g} is v =
     IsGraph_by
     (λ w h. is.names w (and_parts _ _ (sym (kept w) ∙ h)).1)
     (λ a b h.
-      let parts = and_parts _ _ (sym (pairs-retain g.edges (λ p. not (p.0 == v) && not (p.1 == v)) a b) ∙ h) in
-      let ends = and_parts _ _ parts.1 in
-      (is.ordered a b parts.0, kept a ∙ and_from _ _ ends.0 (is.low_end a b parts.0), kept b ∙ and_from _ _ ends.1 (is.high_end a b parts.0)))
+    let parts = and_parts _ _ (sym (pairs-retain g.edges (λ p. not (p.0 == v) && not (p.1 == v)) a b) ∙ h) in
+    let ends = and_parts _ _ parts.1 in
+    (is.ordered a b parts.0, kept a ∙ and_from _ _ ends.0 (is.low_end a b parts.0), kept b ∙ and_from _ _ ends.1 (is.high_end a b parts.0)))
 
 pub adjacent-without_edge : (g : PlainGraph) (u v a b : ℕ) → adjacent (without_edge g u v) a b ≡ (not (((a == u) && (b == v)) || ((a == v) && (b == u))) && adjacent g a b)
 unfolding adjacent

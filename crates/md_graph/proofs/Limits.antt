@@ -1,5 +1,5 @@
 -- The limits: the only file that looks at the values of the constants.
-use Rattle.std.proofs.Common.{◌≡◌, ℕ, ◌*◌, ◌^◌, ◌<◌, ◌≤◌, refl, lit<}
+use Rattle.std.proofs.Common.{◌≡◌, ◌*◌, ◌^◌, ◌<◌, refl, lit<}
 use Rattle.md_graph.specs.declared.TheConstants.{NAMES, WORDS}
 
 -- each name has one bit

@@ -1,24 +1,16 @@
 -- The members that an iterator over words has left.
-use Rattle.std.proofs.Common.{ltb, ◌&&◌, append-nil, mod-eq_of_lt, add-zero, leb-true, leb-false, le-leb, shr-shr, ◌≡◌, ℕ, zero, suc, ◌+◌, ◌-◌, ◌*◌, ◌/◌, ◌%◌, ◌^◌, ◌<◌, ◌≤◌, ◌≢◌, min, bit_and, Bool, true, false, cond, if◌then◌else◌, ◌==◌, nat_le, List, [], ◌∷◌, ◌++◌, get_or, append_assoc, refl, arith, ap, sym, ◌∙◌, add-suc, mod-lt, pow_pos, suc-mul, subst}
+use Rattle.std.proofs.Common.{ltb, ◌&&◌, append-nil, mod-eq_of_lt, add-zero, leb-true, leb-false, le-leb, shr-shr, ◌≡◌, ℕ, zero, suc, ◌+◌, ◌-◌, ◌*◌, ◌/◌, ◌%◌, ◌^◌, ◌<◌, ◌≤◌, ◌≢◌, min, bit_and, Bool, true, false, if◌then◌else◌, ◌==◌, nat_le, List, [], ◌∷◌, ◌++◌, get_or, append_assoc, refl, arith, ap, sym, ◌∙◌, mod-lt, pow_pos, suc-mul, subst}
 use Rattle.std.proofs.lemmas.Bool.Decides.{nat_tests}
 use Rattle.std.specs.Int.{bit_at, w64, trailing_zeros}
 use Rattle.std.proofs.lemmas.Nat.{shr_split}
-use Rattle.std.proofs.lemmas.Nat.Bits.{bit_at-lt, bit_at-zero, bit_at_and, bit_at-trailing_zeros, same_from_bits_below, bit_at-suc, bit_at_lowest, bit_at_cat_low, bit_at_cat_high}
+use Rattle.std.proofs.lemmas.Nat.Bits.{bit_at-zero, bit_at_and, bit_at-trailing_zeros, same_from_bits_below, bit_at-suc, bit_at_lowest, bit_at_cat_low, bit_at_cat_high}
 use Rattle.md_graph.specs.NameSet.{NameSet, AllBelow, ascending_between}
 use Rattle.md_graph.specs.Words.{bit_of, names_below, bits_between, names_of_words, members_left}
+use Rattle.md_graph.proofs.NameLemmas.{not_both, ascending_none}
 use Rattle.md_graph.proofs.BitWords.{InUse, contains-names_below, zero_has_no_bits}
 use Rattle.std.specs.FinSet as set
 
 -- ---- the bits of one word
-
--- bits that are equal below n give the same names
-pub same_bits : (first a b n : ℕ) → ((k : ℕ) → k < n → bit_at a k ≡ bit_at b k) → bits_between first a n ≡ bits_between first b n
-unfolding bits_between
-same_bits first a b zero same = refl
-same_bits first a b (suc n) same =
-    let here = same n (omega arith) in
-    let before = same_bits first a b n (λ k h. same k (omega arith)) in
-    rw (before, here) refl
 
 pub no_bits : (first a n : ℕ) → ((k : ℕ) → k < n → bit_at a k ≡ 0) → bits_between first a n ≡ []
 unfolding bits_between
@@ -52,7 +44,7 @@ lowest_first first a b t (suc n) is =
 low_part : (a t : ℕ) → ((i : ℕ) → i < t → bit_at a i ≡ 0) → a % 2 ^ t ≡ 0
 low_part a t none =
     same_from_bits_below t (a % 2 ^ t) 0 (mod-lt _ (pow_pos t)) (pow_pos t) (λ i h.
-      sym (bit_at_cat_low (a / 2 ^ t) t (a % 2 ^ t) i h) ∙ ap (λ x. bit_at x i) (shr_split a t) ∙ none i h ∙ sym (bit_at-zero i))
+    sym (bit_at_cat_low (a / 2 ^ t) t (a % 2 ^ t) i h) ∙ ap (λ x. bit_at x i) (shr_split a t) ∙ none i h ∙ sym (bit_at-zero i))
 
 least : (x y z : ℕ) → z ≡ min x y → x ≡ 0 → z ≡ 0
 least x y z is none = omega arith
@@ -124,17 +116,14 @@ high_bits w place k fits =
     ap (λ x. bit_at x k) whole
     ∙ elim (nat_le place k) as (λ b. nat_le place k ≡ b → bit_at (w / 2 ^ place * 2 ^ place + 0) k ≡ (if b then bit_at w k else 0)) [
       | true ↦ λ e.
-        let above : place ≤ k = leb-true _ _ e in
-        let all : place + (k - place) ≡ k = omega arith in
-        bit_at_cat_high (w / 2 ^ place) place 0 k (pow_pos place) above
-        ∙ ap (λ x. x % 2) (shr-shr w place (k - place) ∙ ap (λ j. w / 2 ^ j) all)
+          let above : place ≤ k = leb-true _ _ e in
+          let all : place + (k - place) ≡ k = omega arith in
+          bit_at_cat_high (w / 2 ^ place) place 0 k (pow_pos place) above
+          ∙ ap (λ x. x % 2) (shr-shr w place (k - place) ∙ ap (λ j. w / 2 ^ j) all)
       | false ↦ λ e.
-        let below : k < place = leb-false _ _ e in
-        bit_at_cat_low (w / 2 ^ place) place 0 k below ∙ bit_at-zero k
+          let below : k < place = leb-false _ _ e in
+          bit_at_cat_low (w / 2 ^ place) place 0 k below ∙ bit_at-zero k
     ] refl
-
-not_both : (low n : ℕ) (b : Bool) → (low ≤ n → b ≡ false) → (nat_le low n && b) ≡ false
-not_both low n b none = grind (arith, nat_tests)
 
 low_name : (low v x y : ℕ) (b : Bool) → low ≤ v → b ≡ (x == 1) → x ≡ y → (y == 1) ≡ (nat_le low v && b)
 low_name low v x y b l is same = grind (arith, nat_tests)
@@ -146,11 +135,11 @@ first_word_bit : (v k x y z : ℕ) (b : Bool) → k < 64 → x ≡ (if nat_le (v
 first_word_bit v k x y z b h is member same =
     elim (nat_le (v % 64) k) as (λ t. nat_le (v % 64) k ≡ t → x ≡ (if t then z else 0) → (x == 1) ≡ (nat_le v (64 * (v / 64) + k) && b)) [
       | true ↦ λ e is.
-        let low : nat_le v (64 * (v / 64) + k) ≡ true = le-leb _ _ (let l = leb-true _ _ e in omega arith) in
-        rw (low, member, same, is) refl
+          let low : nat_le v (64 * (v / 64) + k) ≡ true = le-leb _ _ (let l = leb-true _ _ e in omega arith) in
+          rw (low, member, same, is) refl
       | false ↦ λ e is.
-        let high : nat_le v (64 * (v / 64) + k) ≡ false = not_le _ _ (let l = leb-false _ _ e in omega arith) in
-        rw (high, is) refl
+          let high : nat_le v (64 * (v / 64) + k) ≡ false = not_le _ _ (let l = leb-false _ _ e in omega arith) in
+          rw (high, is) refl
     ] refl is
 
 no_member : (n v x : ℕ) → x ≡ 0 → (ltb v n && (x == 1)) ≡ false
@@ -163,14 +152,6 @@ member_below : (v n : ℕ) (b : Bool) → (ltb v n && b) ≡ true → v < n
 member_below v n b h = grind (arith, nat_tests)
 
 -- ---- the members in a range, ascending
-
-pub ascending_none : (s : NameSet) (low n : ℕ) → ((v : ℕ) → low ≤ v → v < n → set.contains s v ≡ false) → ascending_between s low n ≡ []
-unfolding ascending_between
-ascending_none s low zero none = refl
-ascending_none s low (suc n) none =
-    let before = ascending_none s low n (λ v l h. none v l (omega arith)) in
-    let absent : (nat_le low n && set.contains s n) ≡ false = not_both low n _ (λ l. none n l (omega arith)) in
-    rw (before, absent) refl
 
 pub ascending_more : (s : NameSet) (low m d : ℕ) → ((v : ℕ) → m ≤ v → v < m + d → set.contains s v ≡ false) → ascending_between s low (m + d) ≡ ascending_between s low m
 unfolding ascending_between
@@ -198,11 +179,11 @@ ascending_words s words low from (suc count) same low_enough =
     let rest = ascending_words s words low (from + 1) count (λ v h. same v (omega arith)) (omega arith) in
     let word_bound : 64 * (from + 1) ≡ 64 * from + 64 = omega arith in
     let word = ascending_word s low (64 * from) (get_or words from 0) 64 (λ k h.
-        let at_word : (64 * from + k) / 64 ≡ from = omega arith in
-        let place : (64 * from + k) % 64 ≡ k = omega arith in
-        let bit : bit_of words (64 * from + k) ≡ bit_at (get_or words from 0) k = rw (at_word, place) refl in
-        let is = same (64 * from + k) (omega arith) in
-        low_name low (64 * from + k) _ _ _ (omega arith) is bit) in
+    let at_word : (64 * from + k) / 64 ≡ from = omega arith in
+    let place : (64 * from + k) % 64 ≡ k = omega arith in
+    let bit : bit_of words (64 * from + k) ≡ bit_at (get_or words from 0) k = rw (at_word, place) refl in
+    let is = same (64 * from + k) (omega arith) in
+    low_name low (64 * from + k) _ _ _ (omega arith) is bit) in
     rw (bound, rest, word_bound, word, append_assoc) refl
 
 -- ---- what an iterator has left at first
@@ -223,11 +204,11 @@ members_left_from words n w used v left whole rest within here bits =
     let behind = ascending_words s words v (v / 64 + 1) (used - (v / 64 + 1)) (λ q h. same q (omega arith)) (omega arith) in
     let bound : 64 * (v / 64 + 1) ≡ 64 * (v / 64) + 64 = omega arith in
     let word = ascending_word s v (64 * (v / 64)) left 64 (λ k h.
-        let at_word : (64 * (v / 64) + k) / 64 ≡ v / 64 = omega arith in
-        let place : (64 * (v / 64) + k) % 64 ≡ k = omega arith in
-        let bit : bit_of words (64 * (v / 64) + k) ≡ bit_at (get_or words (v / 64) 0) k = rw (at_word, place) refl in
-        let is = same (64 * (v / 64) + k) (omega arith) in
-        first_word_bit v k _ _ _ _ (omega arith) (bits k h) is bit) in
+    let at_word : (64 * (v / 64) + k) / 64 ≡ v / 64 = omega arith in
+    let place : (64 * (v / 64) + k) % 64 ≡ k = omega arith in
+    let bit : bit_of words (64 * (v / 64) + k) ≡ bit_at (get_or words (v / 64) 0) k = rw (at_word, place) refl in
+    let is = same (64 * (v / 64) + k) (omega arith) in
+    first_word_bit v k _ _ _ _ (omega arith) (bits k h) is bit) in
     let none = ascending_none s v (64 * (v / 64)) (λ q l h. absurd (omega arith)) in
     let first : ascending_between s v (64 * (v / 64 + 1)) ≡ bits_between (64 * (v / 64)) left 64 = ap (ascending_between s v) bound ∙ word ∙ ap (λ xs. xs ++ bits_between (64 * (v / 64)) left 64) none in
     sym (ap (ascending_between s v) (sym past) ∙ all ∙ ap (λ u. ascending_between s v (64 * u)) (sym count) ∙ behind ∙ ap (λ xs. xs ++ names_of_words words (v / 64 + 1) (used - (v / 64 + 1))) first)

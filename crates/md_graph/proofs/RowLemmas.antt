@@ -1,9 +1,9 @@
 -- What writes to the rows of a graph make of it, one lemma for each method of `Graph`.
-use Rattle.std.specs.Prelude.{◌≡◌, ℕ, ◌+◌, ◌*◌, ◌/◌, ◌^◌, ◌<◌, ◌≤◌, ◌≢◌, ◌⊎◌, Bool, true, false, cond, not, ◌&&◌, ◌||◌, ◌==◌, IsTrue, List, [], ◌∷◌, ◌++◌, length, get_or, replicate, sum_by, refl, if◌then◌else◌}
+use Rattle.std.specs.Prelude.{◌≡◌, ℕ, ◌+◌, ◌*◌, ◌/◌, ◌^◌, ◌<◌, ◌≤◌, ◌≢◌, Bool, true, false, cond, not, ◌&&◌, ◌||◌, ◌==◌, List, [], ◌∷◌, ◌++◌, length, get_or, replicate, sum_by, refl}
 use Rattle.std.proofs.Common.{subst, ap, sym, ◌∙◌, arith, inl, inr, set, take, drop, mul-le-mul}
 use Rattle.std.proofs.lemmas.Bool.{true≢false, cases_Bool, cases_lt, cases_eq, eq-eqb, ne_eqb, false_from_ne_true}
 use Rattle.std.proofs.lemmas.Bool.Decides.{nat_tests}
-use Rattle.std.proofs.lemmas.List.{get_or_read, get_or_past, get_or-replicate, get_or-set_same, get_or-set_other, length-replicate, length-set}
+use Rattle.std.proofs.lemmas.List.{get_or_read, get_or_past, get_or-replicate, get_or-set_same, get_or-set_other, get_or_append_left, get_or_push, length_push, length-replicate, length-set}
 use Rattle.std.proofs.lemmas.List.Sums.{sum_by-cons}
 use Rattle.std.proofs.Math.Seq.{take-append_seam}
 use Rattle.std.specs.List.{refill}
@@ -15,7 +15,7 @@ use Rattle.md_graph.specs.Rows.{row_of, edges_of, graph_of, AreRows}
 use Rattle.md_graph.proofs.Counting.{rows_twice, rows_le}
 use Rattle.md_graph.proofs.EachRow.{Lists, Lists-ascending, Lists-head, Lists-rest}
 use Rattle.md_graph.proofs.Limits.{NAMES-lt}
-use Rattle.md_graph.proofs.SetLaws.{contains-empty, contains-insert, contains-remove, contains-union, same_set}
+use Rattle.md_graph.proofs.SetLaws.{contains-empty, contains-insert, contains-remove, contains-union, contains-difference, contains-intersection, same_set}
 use Rattle.md_graph.proofs.GraphLemmas.{rows_of_graph, IsGraph-graph_of, adjacent-graph_of, neighbours-graph_of, adjacent_ends, IsGraph-empty_graph, adjacent-empty_graph, IsGraph-with_vertex, adjacent-with_vertex, IsGraph-with_edge, adjacent-with_edge, IsGraph-with_edges, adjacent-with_edges, IsGraph-without_vertex, adjacent-without_vertex, IsGraph-without_edge, adjacent-without_edge, contains-neighbours, IsGraph-induced, IsGraph-complement, adjacent-induced, adjacent-complement}
 
 -- what `rows[v]` gives
@@ -82,9 +82,9 @@ twice_set {live} {rows} op f keeps gives a u v name_u name_v differ new_u old_u 
     ∙ elim (cases_eq x v) [
       | inl same_v ↦ rw (same_v, eq-eqb v v refl) (at_v ∙ ap (λ t. op t (set.contains (row_of rows v) y)) test_v)
       | inr not_v ↦ rw (ne_eqb x v not_v, contains-set_row rows u new_u x y in_u) (elim (cases_eq x u) [
-          | inl same_u ↦ rw (same_u, eq-eqb u u refl) (at_u ∙ ap (λ t. op t (set.contains (row_of rows u) y)) test_u)
-          | inr not_u ↦ rw (ne_eqb x u not_u) (sym (keeps (set.contains (row_of rows x) y)))
-        ])
+        | inl same_u ↦ rw (same_u, eq-eqb u u refl) (at_u ∙ ap (λ t. op t (set.contains (row_of rows u) y)) test_u)
+        | inr not_u ↦ rw (ne_eqb x u not_u) (sym (keeps (set.contains (row_of rows x) y)))
+      ])
     ]
 
 pub rows_add_edge : {live : NameSet} {rows : List NameSet} {g : PlainGraph} → AreRows live rows → graph_of live rows ≡ g → (u v : ℕ) → Member g.vertices u → Member g.vertices v → u ≢ v → {new_u old_u new_v old_v : NameSet} → new_u ≡ set.insert old_u v → old_u ≡ get_or rows u old_u → new_v ≡ set.insert old_v u → old_v ≡ get_or (set rows u new_u) v old_v → AreRows live (set (set rows u new_u) v new_v) × (graph_of live (set (set rows u new_u) v new_v) ≡ with_edge g u v)
@@ -144,15 +144,15 @@ star_row : (others : NameSet) (v x y : ℕ) (old : NameSet) (was new : Bool) →
 star_row others v x y old was new e at_v differ =
     elim (cases_eq x v) [
       | inl same ↦
-        let out : set.contains others x ≡ false = ap (set.contains others) same ∙ differ in
-        let now : set.contains old y ≡ (was || set.contains others y) = e ∙ ap (λ b. cond b new was) (eq-eqb x v same) ∙ at_v same in
-        rw out (grind (arith, nat_tests))
+          let out : set.contains others x ≡ false = ap (set.contains others) same ∙ differ in
+          let now : set.contains old y ≡ (was || set.contains others y) = e ∙ ap (λ b. cond b new was) (eq-eqb x v same) ∙ at_v same in
+          rw out (grind (arith, nat_tests))
       | inr other ↦
-        let now : set.contains old y ≡ was = e ∙ ap (λ b. cond b new was) (ne_eqb x v other) in
-        elim (cases_Bool (set.contains others x)) [
-          | inl t ↦ rw (t, contains-insert old v y) (grind (arith, nat_tests))
-          | inr f ↦ rw f (grind (arith, nat_tests))
-        ]
+          let now : set.contains old y ≡ was = e ∙ ap (λ b. cond b new was) (ne_eqb x v other) in
+          elim (cases_Bool (set.contains others x)) [
+            | inl t ↦ rw (t, contains-insert old v y) (grind (arith, nat_tests))
+            | inr f ↦ rw f (grind (arith, nat_tests))
+          ]
     ]
 
 pub rows_add_edges : {live : NameSet} {rows : List NameSet} {g : PlainGraph} → AreRows live rows → graph_of live rows ≡ g → (v : ℕ) (others : NameSet) → Member g.vertices v → ((w : ℕ) → Member others w → Member g.vertices w) → set.contains others v ≡ false → (new_v old_v : NameSet) → new_v ≡ set.union old_v others → old_v ≡ get_or rows v old_v → (n : ℕ) (old ws : List NameSet) → n ≡ length rows → old ≡ set rows v new_v → length ws ≡ length old → ((u : ℕ) → row_of ws u ≡ cond (set.contains others u) (set.insert (row_of old u) v) (row_of old u)) → AreRows live (refill n (set rows v new_v) ws) × (graph_of live (refill n (set rows v new_v) ws) ≡ with_edges g v others)
@@ -167,6 +167,104 @@ rows_add_edges {live} {rows} {g} a e v others mv members differ new_v old_v is r
     let at_v = λ (y : ℕ). ap (λ s. set.contains s y) (is ∙ ap (λ s. set.union s others) (row_read a v name_v old_v read)) ∙ contains-union (row_of rows v) others y in
     let law = λ (x y : ℕ). ap (λ r. set.contains (row_of r x) y) whole ∙ ap (λ s. set.contains s y) (each x) ∙ star_row others v x y (row_of old x) _ (set.contains new_v y) (ap (λ r. set.contains (row_of r x) y) same ∙ contains-set_row rows v new_v x y in_v) (λ here. at_v y ∙ ap (λ w. set.contains (row_of rows w) y || set.contains others y) (sym here)) differ ∙ ap (λ t. (((x == v) && set.contains others y) || ((y == v) && set.contains others x)) || t) (has x y) ∙ sym (adjacent-with_edges g v others below x y) in
     rows_of_graph (IsGraph-with_edges is_graph v others mv members differ) (ap (λ h. h.vertices) e) (ap length whole ∙ kept ∙ same_len ∙ a.one_each) law
+
+-- Whether y is in the row of x after each of `others`, the neighbours of v, leaves v out and the row of v is cleared.
+gone_row : (others : NameSet) (v x y : ℕ) (old new_v : NameSet) → new_v ≡ set.empty → {now : Bool} → now ≡ set.contains (cond (set.contains others x) (set.remove old v) old) y → set.contains others x ≡ set.contains old v → cond (x == v) (set.contains new_v y) now ≡ (set.contains old y && (not (x == v) && not (y == v)))
+gone_row others v x y old new_v none {now} e at_v =
+    elim (cases_eq x v) [
+      | inl same ↦
+          let out : set.contains new_v y ≡ false = ap (λ s. set.contains s y) none ∙ contains-empty y in
+          grind (arith, nat_tests)
+      | inr other ↦ elim (cases_Bool (set.contains others x)) [
+        | inl t ↦
+            let left : now ≡ (not (y == v) && set.contains old y) = e ∙ rw t (contains-remove old v y) in
+            grind (arith, nat_tests)
+        | inr f ↦
+            let left : now ≡ set.contains old y = e ∙ rw f refl in
+            let out : set.contains old v ≡ false = sym at_v ∙ f in
+            elim (cases_eq y v) [
+              | inl same ↦ let gone : set.contains old y ≡ false = ap (set.contains old) same ∙ out in grind (arith, nat_tests)
+              | inr apart ↦ grind (arith, nat_tests)
+            ]
+      ]
+    ]
+
+pub rows_remove_vertex : {live : NameSet} {rows : List NameSet} {g : PlainGraph} → AreRows live rows → graph_of live rows ≡ g → (v : ℕ) → Member g.vertices v → (row others : NameSet) → row ≡ get_or rows v row → others ≡ row → (n : ℕ) (old ws : List NameSet) → n ≡ length rows → old ≡ rows → length ws ≡ length old → ((u : ℕ) → row_of ws u ≡ cond (set.contains others u) (set.remove (row_of old u) v) (row_of old u)) → {new_v : NameSet} → new_v ≡ set.empty → {new : NameSet} → new ≡ set.remove live v → AreRows new (set (refill n rows ws) v new_v) × (graph_of new (set (refill n rows ws) v new_v) ≡ without_vertex g v)
+rows_remove_vertex {live} {rows} {g} a e v mv row others read is n old ws len same kept each {new_v} none {new} is_new =
+    let is_graph : IsGraph g = subst IsGraph e (IsGraph-graph_of a) in
+    let name_v : v < NAMES = is_graph.names v mv in
+    let same_len = ap length same in
+    let whole = refilled n rows ws (omega arith) in
+    let in_v : v < length ws = omega (arith, a.one_each) in
+    let points = is ∙ row_read a v name_v row read in
+    let has = λ (x y : ℕ). sym (adjacent-graph_of a x y) ∙ ap (λ h. adjacent h x y) e in
+    let law = λ (x y : ℕ). ap (λ r. set.contains (row_of (set r v new_v) x) y) whole ∙ contains-set_row ws v new_v x y in_v ∙ gone_row others v x y (row_of rows x) new_v none (ap (λ s. set.contains s y) (each x ∙ ap (λ r. cond (set.contains others x) (set.remove (row_of r x) v) (row_of r x)) same)) (ap (λ s. set.contains s x) points ∙ a.both_ways v x) ∙ ap (λ t. t && (not (x == v) && not (y == v))) (has x y) ∙ sym (adjacent-without_vertex g v x y) in
+    let size : length (set (refill n rows ws) v new_v) ≡ NAMES = length-set (refill n rows ws) v new_v ∙ ap length whole ∙ kept ∙ same_len ∙ a.one_each in
+    rows_of_graph (IsGraph-without_vertex is_graph v) (is_new ∙ ap (λ h. set.remove h.vertices v) e) size law
+
+-- ---- rows made one after another
+
+-- the rows of the names below n in a graph
+pub record Made (h : PlainGraph) (n : ℕ) (rows : List NameSet) : Type 0 where
+  pub size : length rows ≡ n
+  pub each : (k : ℕ) → k < n → row_of rows k ≡ neighbours h k
+
+pub Made-start : (h : PlainGraph) (rows : List NameSet) → rows ≡ [] → Made h 0 rows
+Made-start h rows e = record { size = ap length e; each = λ k below. absurd (omega arith) }
+
+pub Made-more : {h : PlainGraph} {n : ℕ} {rows : List NameSet} → Made h n rows → (row : NameSet) → row ≡ neighbours h n → (new : List NameSet) → new ≡ rows ++ row ∷ [] → Made h (n + 1) new
+Made-more {h} {n} {rows} before row is new e = record {
+  size = ap length e ∙ length_push rows row ∙ ap (λ k. k + 1) before.size;
+  each = λ k below. ap (λ r. row_of r k) e ∙ elim (cases_lt k n) [
+    | inl old ↦ get_or_append_left rows (row ∷ []) set.empty k (omega (arith, before.size)) ∙ before.each k old
+    | inr last ↦ let here : n ≡ k = omega arith in get_or_push rows row set.empty k (before.size ∙ here) ∙ is ∙ ap (neighbours h) here
+  ];
+}
+
+pub Made-end : {h : PlainGraph} {n : ℕ} {rows : List NameSet} → IsGraph h → Made h n rows → n ≡ NAMES → {live : NameSet} → live ≡ h.vertices → AreRows live rows × (graph_of live rows ≡ h)
+Made-end {h} {n} {rows} is made all {live} e =
+    rows_of_graph is e (made.size ∙ all) (λ u v. elim (cases_lt u n) [
+      | inl below ↦ ap (λ s. set.contains s v) (made.each u below) ∙ contains-neighbours is u v
+      | inr past ↦ ap (λ s. set.contains s v) (get_or_past rows u set.empty (omega (arith, made.size))) ∙ contains-empty v ∙ sym (false_from_ne_true (adjacent h u v) (λ there. let name = is.names u (adjacent_ends is u v there).0 in omega arith))
+    ])
+
+pub graph_is : {live : NameSet} {rows : List NameSet} {g : PlainGraph} → AreRows live rows → graph_of live rows ≡ g → IsGraph g
+graph_is a e = subst IsGraph e (IsGraph-graph_of a)
+
+complement_bits : (v q : ℕ) (rest live row there : Bool) {vertex : Bool} → rest ≡ (live && not row) → live ≡ vertex → row ≡ there → (not (q == v) && rest) ≡ ((true && vertex) && (not (v == q) && not there))
+complement_bits v q rest live row there e f h = grind (arith, nat_tests)
+
+-- the rows of the complement
+pub complement_dead : {live : NameSet} {rows : List NameSet} {g : PlainGraph} → AreRows live rows → graph_of live rows ≡ g → (v : ℕ) → set.contains live v ≡ false → {none : NameSet} → none ≡ set.empty → none ≡ neighbours (complement g) v
+complement_dead {live} {rows} {g} a e v dead {none} is_none =
+    let is = graph_is a e in
+    let dead_g : set.contains g.vertices v ≡ false = sym (ap (λ h. set.contains h.vertices v) e) ∙ dead in
+    is_none ∙ same_set set.empty (neighbours (complement g) v) (λ q. contains-empty q ∙ sym (contains-neighbours (IsGraph-complement is) v q ∙ adjacent-complement is v q ∙ rw dead_g refl))
+
+pub complement_row_is : {live : NameSet} {rows : List NameSet} {g : PlainGraph} → AreRows live rows → graph_of live rows ≡ g → (v : ℕ) → v < NAMES → set.contains live v ≡ true → (row : NameSet) → row ≡ get_or rows v row → (rest : NameSet) → rest ≡ set.difference live row → (others : NameSet) → others ≡ set.remove rest v → others ≡ neighbours (complement g) v
+complement_row_is {live} {rows} {g} a e v name alive row read rest is_rest others is_others =
+    let is = graph_is a e in
+    let live_is = λ (q : ℕ). ap (λ h. set.contains h.vertices q) e in
+    same_set others (neighbours (complement g) v) (λ q.
+    let left = ap (λ s. set.contains s q) is_others ∙ contains-remove rest v q in
+    let middle = ap (λ s. set.contains s q) is_rest ∙ contains-difference live row q in
+    let here = bit_is a e v q name row read in
+    let alive_g : set.contains g.vertices v ≡ true = sym (live_is v) ∙ alive in
+    let alive_q = live_is q in
+    left ∙ complement_bits v q _ _ _ _ middle alive_q here ∙ sym (contains-neighbours (IsGraph-complement is) v q ∙ adjacent-complement is v q ∙ rw alive_g refl))
+
+-- the rows of an induced graph
+pub induced_dead : {live : NameSet} {rows : List NameSet} {g : PlainGraph} → AreRows live rows → graph_of live rows ≡ g → (s : NameSet) (v : ℕ) → set.contains s v ≡ false → {none : NameSet} → none ≡ set.empty → none ≡ neighbours (induced g s) v
+induced_dead {live} {rows} {g} a e s v out {none} is_none =
+    is_none ∙ same_set set.empty (neighbours (induced g s) v) (λ q. contains-empty q ∙ sym (contains-neighbours (IsGraph-induced (graph_is a e) s) v q ∙ adjacent-induced g s v q ∙ rw out (grind arith)))
+
+pub induced_row_is : {live : NameSet} {rows : List NameSet} {g : PlainGraph} → AreRows live rows → graph_of live rows ≡ g → (s : NameSet) (v : ℕ) → v < NAMES → set.contains s v ≡ true → (row : NameSet) → row ≡ get_or rows v row → (both : NameSet) → both ≡ set.intersection row s → both ≡ neighbours (induced g s) v
+induced_row_is {live} {rows} {g} a e s v name in_s row read both is_both =
+    same_set both (neighbours (induced g s) v) (λ q.
+    ap (λ t. set.contains t q) is_both
+    ∙ contains-intersection row s q
+    ∙ ap (λ b. b && set.contains s q) (bit_is a e v q name row read)
+    ∙ sym (contains-neighbours (IsGraph-induced (graph_is a e) s) v q ∙ adjacent-induced g s v q ∙ rw in_s refl))
 
 -- ---- the number of edges
 

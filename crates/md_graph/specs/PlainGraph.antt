@@ -82,7 +82,7 @@ abbrev pub complement : PlainGraph → PlainGraph
 complement g = record {
   vertices = g.vertices;
   edges =
-    pairs_where (λ u v. (set.contains g.vertices u && set.contains g.vertices v) && not (adjacent g u v)) NAMES;
+      pairs_where (λ u v. (set.contains g.vertices u && set.contains g.vertices v) && not (adjacent g u v)) NAMES;
 }
 
 -- the graph that g induces on s: the vertices of g in s, and the edges of g with both ends in s

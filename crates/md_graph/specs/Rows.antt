@@ -1,4 +1,5 @@
 -- The edges that rows of neighbours keep, and what holds of the rows of a graph.
+-- Source: the adjacency matrix of a graph, as in any textbook.
 use Rattle.std.specs.Prelude.{◌≡◌, ℕ, ◌<◌, List, length, get_or, false}
 use Rattle.std.specs.FinSet as set
 use Rattle.md_graph.specs.declared.TheConstants.{NAMES}

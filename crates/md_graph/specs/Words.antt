@@ -1,4 +1,5 @@
 -- The set that words of bits keep: name v is bit v % 64 of word v / 64.
+-- Source: a finite set as a vector of bits, as in any textbook on data structures.
 use Rattle.std.specs.Prelude.{◌≡◌, ◌<◌, min, ℕ, zero, suc, ◌+◌, ◌-◌, ◌/◌, ◌%◌, ◌*◌, List, [], ◌∷◌, ◌++◌, get_or, if◌then◌else◌, ◌==◌}
 use Rattle.std.specs.Int.{bit_at}
 use Rattle.std.specs.FinSet as set

@@ -5,10 +5,9 @@ ghost use Rattle.md_graph.specs.NameSet.{Member, IsLeastFrom, NoneFrom};
 ghost use Rattle.md_graph.specs.PlainGraph.{adjacent, neighbours, IsGraph, empty_graph, with_vertex, with_edge, with_edges, complement, induced, without_vertex, without_edge};
 ghost use Rattle.md_graph.specs.Rows.{row_of};
 
+use crate::{Memory, NAMES, Names};
 use std::alloc::Global;
 use std::marker::Model;
-
-use crate::{Memory, NAMES, Names};
 
 /// A graph: its vertices are names, and each name has a row, the set of its neighbours. All rows are taken
 /// when the graph is made, and the row of a name that is no vertex is empty.
@@ -70,7 +69,8 @@ impl Graph {
         requires { Member self.now.vertices v }
         ensures { result ≡ set.len (neighbours self.now v) }
     {
-        self.row(v).count()
+        let row = &self.rows[v as usize];
+        row.count()
     }
 
     /// The number of vertices.
@@ -250,10 +250,11 @@ impl Graph {
         requires { v < NAMES }
         ensures { result ≡ neighbours (induced self.now names.now) v }
     {
+        let row = &self.rows[v as usize];
         if !names.has(v) {
             return Names::none();
         }
-        self.rows[v as usize].and(names)
+        row.and(names)
     }
 }
 
@@ -262,7 +263,9 @@ fn insert_in_rows(rows: &mut [Names], names: &Names, v: u32)
     requires name { v < NAMES }
     requires in_rows { (u : ℕ) → Member names.now u → u < length rows.old }
     ensures { (u : ℕ) → row_of rows.new u
-        ≡ (if set.contains names.now u then set.insert (row_of rows.old u) v else row_of rows.old u) }
+        ≡ (if set.contains names.now u
+        then set.insert (row_of rows.old u) v
+        else row_of rows.old u) }
 {
     for u in names.members() {
         rows[u as usize].insert(v);
@@ -274,7 +277,9 @@ fn remove_from_rows(rows: &mut [Names], names: &Names, v: u32)
     requires name { v < NAMES }
     requires in_rows { (u : ℕ) → Member names.now u → u < length rows.old }
     ensures { (u : ℕ) → row_of rows.new u
-        ≡ (if set.contains names.now u then set.remove (row_of rows.old u) v else row_of rows.old u) }
+        ≡ (if set.contains names.now u
+        then set.remove (row_of rows.old u) v
+        else row_of rows.old u) }
 {
     for u in names.members() {
         rows[u as usize].remove(v);
@@ -289,5 +294,130 @@ fn clear_rows(rows: &mut [Names], names: &Names)
 {
     for u in names.members() {
         rows[u as usize].clear();
+    }
+}
+
+#[cfg(test)]
+mod tests {
+    use super::*;
+    use std::process::Abort;
+    use std::test::Fail;
+
+    /// The graph with these vertices and edges.
+    fn made(
+        rt: &impl Abort,
+        alloc: Global,
+        names: &[u32],
+        edges: &[(u32, u32)],
+    ) -> Result<Graph, Memory> {
+        let mut g = Graph::new(alloc)?;
+        for v in names {
+            assert!(rt; *v < NAMES && !g.has_vertex(*v));
+            g.add_vertex(*v);
+        }
+        for (u, v) in edges {
+            join(rt, &mut g, *u, *v);
+        }
+        Ok(g)
+    }
+
+    fn join(rt: &impl Abort, g: &mut Graph, u: u32, v: u32) {
+        assert!(rt; u != v);
+        assert!(rt; g.has_vertex(u));
+        assert!(rt; g.has_vertex(v));
+        assert!(rt; !g.has_edge(u, v));
+        g.add_edge(u, v);
+    }
+
+    fn part(rt: &impl Abort, g: &mut Graph, u: u32, v: u32) {
+        assert!(rt; g.has_edge(u, v));
+        g.remove_edge(u, v);
+    }
+
+    fn star(rt: &impl Abort, g: &mut Graph, v: u32, others: &Names) {
+        assert!(rt; g.has_vertex(v));
+        assert!(rt; !others.has(v));
+        let strange = others.minus(g.vertices());
+        assert!(rt; strange.is_empty());
+        g.add_edges(v, others);
+    }
+
+    /// Sees that the graph has these vertices and edges, and no others.
+    fn expect(rt: &impl Abort, g: &Graph, names: &[u32], edges: &[(u32, u32)]) {
+        assert_eq!(rt; g.count() as usize, names.len());
+        assert_eq!(rt; g.edge_count() as usize, edges.len());
+        for v in names {
+            assert!(rt; g.has_vertex(*v), "vertex {v}");
+        }
+        for (u, v) in edges {
+            assert!(rt; g.has_edge(*u, *v) && g.has_edge(*v, *u), "edge {u} {v}");
+        }
+    }
+
+    #[test]
+    fn derived_graphs(rt: HostRuntime) -> Result<(), Fail> {
+        let path = made(&rt, rt.alloc(), &[0, 1, 2], &[(0, 1), (1, 2)])?;
+        expect(&rt, &path, &[0, 1, 2], &[(0, 1), (1, 2)]);
+        let copy = path.copy(rt.alloc())?;
+        expect(&rt, &copy, &[0, 1, 2], &[(0, 1), (1, 2)]);
+        let complement = path.complement(rt.alloc())?;
+        expect(&rt, &complement, &[0, 1, 2], &[(0, 2)]);
+        let mut ends = Names::none();
+        ends.insert(0);
+        ends.insert(2);
+        ends.insert(9);
+        let apart = path.induced(rt.alloc(), &ends)?;
+        expect(&rt, &apart, &[0, 2], &[]);
+        Ok(())
+    }
+
+    #[test]
+    fn changes(rt: HostRuntime) -> Result<(), Fail> {
+        let last = NAMES - 1;
+        let mut g = made(&rt, rt.alloc(), &[5, 64, 200, last], &[(64, last)])?;
+        let mut others = Names::none();
+        others.insert(5);
+        others.insert(64);
+        others.insert(last);
+        star(&rt, &mut g, 200, &others);
+        expect(
+            &rt,
+            &g,
+            &[5, 64, 200, last],
+            &[(64, last), (200, 5), (200, 64), (200, last)],
+        );
+        for (v, degree) in [(5, 1), (64, 2), (200, 3), (last, 2)] {
+            assert!(rt; g.has_vertex(v));
+            assert_eq!(rt; g.degree(v), degree, "degree of {v}");
+        }
+        for (u, v) in [
+            (5, 64),
+            (64, 64),
+            (200, 200),
+            (NAMES, 64),
+            (64, u32::MAX),
+            (7, 8),
+        ] {
+            assert!(rt; !g.has_edge(u, v), "no edge {u} {v}");
+        }
+        assert!(rt; g.row(64).count() == 2 && g.row(64).has(200) && g.row(7).is_empty());
+        assert_eq!(rt; g.vertices().count(), 4);
+        assert_eq!(rt; g.next_vertex(6), Some(64));
+        assert_eq!(rt; g.next_vertex(last), Some(last));
+        assert_eq!(rt; g.next_vertex(NAMES), None);
+        part(&rt, &mut g, 64, 200);
+        expect(
+            &rt,
+            &g,
+            &[5, 64, 200, last],
+            &[(64, last), (200, 5), (200, last)],
+        );
+        assert!(rt; g.has_vertex(last));
+        g.remove_vertex(last);
+        expect(&rt, &g, &[5, 64, 200], &[(200, 5)]);
+        g.clear();
+        expect(&rt, &g, &[], &[]);
+        assert!(rt; !g.has_vertex(5) && g.row(200).is_empty());
+        Ok(())
     }
 }

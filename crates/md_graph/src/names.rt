@@ -5,9 +5,8 @@ ghost use Rattle.std.specs.FinSet as set;
 ghost use Rattle.md_graph.specs.NameSet.{Member, IsLeastFrom, NoneFrom, AllBelow, ascending, ascending_from, block};
 ghost use Rattle.md_graph.specs.Words.{IsWithout, names_below, bits_between};
 
-use std::marker::Model;
-
 use crate::{NAMES, WORDS};
+use std::marker::Model;
 
 /// A set of names below `NAMES`, kept in place as one bit a name. No call on it takes memory.
 ///
@@ -190,9 +189,9 @@ impl Names {
         requires aligned { first % 64 ≡ 0 }
         ensures { self.new ≡ set.union self.old (block first bits) }
     {
-        let word = first as usize / 64;
-        self.words[word] |= bits;
-        self.used = self.used.max(word + 1);
+        let block = first as usize / 64;
+        self.words[block] |= bits;
+        self.used = self.used.max(block + 1);
     }
 
     /// Which of the names `first + k`, k below 64, are members: bit k of the answer is 1 exactly for these.
@@ -366,5 +365,70 @@ impl<'a> Iterator for Members<'a> {
         let (place, left) = lowest(self.left);
         self.left = left;
         Some(64 * self.at as u32 + place)
+    }
+}
+
+#[cfg(test)]
+mod tests {
+    use super::*;
+
+    /// The set of 63, 64, 127 and the last name: members on both sides of the borders between words.
+    fn borders() -> Names {
+        let mut names = Names::none();
+        names.insert(NAMES - 1);
+        names.insert(63);
+        names.insert(127);
+        names.insert(64);
+        names
+    }
+
+    #[test]
+    fn first_from_at_the_last_name(rt: HostRuntime) {
+        let mut names = Names::none();
+        names.insert(3);
+        names.insert(4095);
+        assert_eq!(rt; names.first_from(4), Some(4095));
+        assert_eq!(rt; names.first_from(4096), None);
+    }
+
+    #[test]
+    fn members_across_words(rt: HostRuntime) {
+        let mut names = borders();
+        let listed = [63, 64, 127, NAMES - 1];
+        let mut i = 0;
+        for v in names.members() {
+            assert!(rt; i < 4 && listed[i] == v, "member {v} at {i}");
+            i += 1;
+        }
+        assert_eq!(rt; i, 4);
+        assert_eq!(rt; names.count(), 4);
+        assert!(rt; names.has(63) && names.has(64) && names.has(NAMES - 1));
+        assert!(rt; !names.has(62) && !names.has(65) && !names.has(NAMES) && !names.has(u32::MAX));
+        names.remove(64);
+        assert_eq!(rt; names.first_from(64), Some(127));
+        assert_eq!(rt; names.members_from(127).next(), Some(127));
+        assert_eq!(rt; names.first_from(u32::MAX), None);
+        names.clear();
+        assert!(rt; names.is_empty());
+    }
+
+    #[test]
+    fn two_sets(rt: HostRuntime) {
+        let first = borders();
+        let mut second = Names::none();
+        second.insert_block(64, (1 << 63) | 2);
+        assert_eq!(rt; second.block(64), 0x8000_0000_0000_0002);
+        assert_eq!(rt; first.block(0), 1 << 63);
+        assert_eq!(rt; second.first_from(0), Some(65));
+        let both = first.and(&second);
+        assert!(rt; both.count() == 1 && both.has(127));
+        let either = first.or(&second);
+        assert!(rt; either.count() == 5 && either.has(65) && either.has(63));
+        let rest = first.minus(&second);
+        assert!(rt; rest.count() == 3 && !rest.has(127) && rest.has(NAMES - 1));
+        let mut all = second.copy();
+        all.take_in(&rest);
+        assert_eq!(rt; all.count(), 5);
+        assert!(rt; !all.is_empty());
     }
 }

@@ -1,4 +1,4 @@
-use Rattle.std.proofs.Common.{◌∙◌, ◌≡◌, refl, rules, arith}
+use Rattle.std.proofs.Common.{refl, arith}
 use Rattle.md_graph.proofs.BitWords.{zero_from_bits, zero_has_no_bits}
 use Rattle.md_graph.proofs.names.are_all_zero.Goals as goal
 

@@ -1,4 +1,4 @@
-use Rattle.std.proofs.Common.{◌≡◌, ℕ, get_or, length, bit_and, bit_or, ◌+◌, ◌*◌, ◌<◌, ◌≤◌}
+use Rattle.std.proofs.Common.{◌≡◌, ℕ, get_or, length, bit_and, ◌<◌, ◌≤◌}
 use Rattle.md_graph.specs.declared.TheConstants.{WORDS}
 use Rattle.md_graph.proofs.names.both.Given as goal
 

@@ -1,7 +1,5 @@
-use Rattle.std.proofs.Common.{◌∙◌, sym, ap, rules, arith, ◌+◌, ◌*◌, ◌≤◌}
-use Rattle.std.specs.FinSet as set
+use Rattle.std.proofs.Common.{sym, arith, ◌*◌}
 use Rattle.std.proofs.lemmas.Nat.{ones-le}
-use Rattle.md_graph.specs.Words.{names_below}
 use Rattle.md_graph.proofs.BitWords.{count_more, len_of_none, len-names_below-le}
 use Rattle.md_graph.proofs.names.count_bits.Goals as goal
 
@@ -9,7 +7,7 @@ pub loop-i-init : goal.loop-i-init
 loop-i-init c = sym (len_of_none c.args.words.now)
 
 pub overflow_add-count : goal.overflow_add-count
-overflow_add-count c = 
+overflow_add-count c =
     let few = len-names_below-le c.args.words.now (64 * c.loop-i.i) in
     let ones = ones-le 64 _ (c.type_inv.words c.loop-i.i).fits in
     omega arith

@@ -1,4 +1,4 @@
-use Rattle.std.proofs.Common.{◌≡◌, ℕ, get_or, bit_and, bit_or, ◌+◌, ◌*◌, ◌<◌, ◌≤◌}
+use Rattle.std.proofs.Common.{◌≡◌, ◌*◌}
 use Rattle.std.specs.FinSet as set
 use Rattle.md_graph.specs.Words.{names_below}
 use Rattle.md_graph.proofs.names.count_bits.Given as goal

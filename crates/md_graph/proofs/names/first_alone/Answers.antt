@@ -7,7 +7,7 @@ pub loop-i-preserved : goal.loop-i-preserved
 loop-i-preserved c = record {
   size = length-set _ _ _ ∙ c.loop-i.invariant.size;
   done =
-    done_more (λ k x. IsWithout x (get_or c.args.first.now k 0) (get_or c.args.second.now k 0)) _ _ _ (search rules) c.loop-i.invariant.done
-    (without_word _ _ (c.fits-second c.loop-i.i));
+      done_more (λ k x. IsWithout x (get_or c.args.first.now k 0) (get_or c.args.second.now k 0)) _ _ _ (search rules) c.loop-i.invariant.done
+      (without_word _ _ (c.fits-second c.loop-i.i));
   rest = rest_more _ _ _ c.loop-i.invariant.rest;
 }

@@ -1,4 +1,3 @@
-use Rattle.std.proofs.Common.{rules}
 use Rattle.md_graph.specs.declared.TheConstants.{WORDS}
 use Rattle.md_graph.proofs.BitWords.{get_or-zeros}
 use Rattle.md_graph.proofs.names.no_words.Goals as goal

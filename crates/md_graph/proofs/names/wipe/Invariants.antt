@@ -1,4 +1,4 @@
-use Rattle.std.proofs.Common.{◌≡◌, ℕ, get_or, bit_and, bit_or, ◌+◌, ◌*◌, ◌<◌, ◌≤◌}
+use Rattle.std.proofs.Common.{◌≡◌, ℕ, get_or, ◌<◌, ◌≤◌}
 use Rattle.md_graph.proofs.names.wipe.Given as goal
 
 abbrev pub invariant-loop-i : goal.invariant-loop-i

@@ -1,6 +1,5 @@
-use Rattle.std.proofs.Common.{◌∙◌, sym, false, nat_lt, le-ltb, ltb-false, tests, rules, arith}
-use Rattle.md_graph.specs.declared.TheConstants.{NAMES, WORDS}
-use Rattle.md_graph.proofs.Limits.{NAMES-is}
+use Rattle.std.proofs.Common.{◌∙◌, le-ltb}
+use Rattle.md_graph.specs.declared.TheConstants.{NAMES}
 use Rattle.md_graph.proofs.BitWords.{has_name, has_no_name}
 use Rattle.md_graph.proofs.names.Names.has.Goals as goal
 

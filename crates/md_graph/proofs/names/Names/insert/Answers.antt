@@ -1,7 +1,6 @@
-use Rattle.std.proofs.Common.{◌∙◌, ap, rules, arith}
+use Rattle.std.proofs.Common.{◌∙◌, ap, rules}
 use Rattle.std.specs.FinSet as set
-use Rattle.md_graph.specs.declared.TheConstants.{NAMES, WORDS}
-use Rattle.md_graph.proofs.Limits.{NAMES-is}
+use Rattle.md_graph.specs.declared.TheConstants.{NAMES}
 use Rattle.md_graph.proofs.BitWords.{insert_name}
 use Rattle.md_graph.proofs.names.Names.insert.Goals as goal
 

@@ -1,11 +1,11 @@
-use Rattle.std.proofs.Common.{◌∙◌, sym, rules, arith}
+use Rattle.std.proofs.Common.{◌∙◌, sym, arith}
 use Rattle.md_graph.specs.declared.TheConstants.{NAMES, WORDS}
 use Rattle.md_graph.proofs.Limits.{NAMES-is}
 use Rattle.md_graph.proofs.BitWords.{empty_of_bits, bits_of_empty}
 use Rattle.md_graph.proofs.names.Names.is_empty.Goals as goal
 
 pub returns : goal.returns
-returns c =
-    ( λ t. sym c.self.view_is ∙ empty_of_bits c.self.inside.words NAMES _ c.self.invariant.1 (c.are_all_zero.ensures.0 t)
-    , λ e. c.are_all_zero.ensures.1 (λ k i h. bits_of_empty c.self.inside.words NAMES WORDS NAMES-is (c.self.view_is ∙ e) k i (omega arith))
-    )
+returns c = (
+  λ t. sym c.self.view_is ∙ empty_of_bits c.self.inside.words NAMES _ c.self.invariant.1 (c.are_all_zero.ensures.0 t),
+  λ e. c.are_all_zero.ensures.1 (λ k i h. bits_of_empty c.self.inside.words NAMES WORDS NAMES-is (c.self.view_is ∙ e) k i (omega arith)),
+)
