@@ -1,5 +1,5 @@
 -- The laws of numbers and their digits.
-use Rattle.std.proofs.Common.{◌≡◌, ℕ, ◌+◌, ◌-◌, ◌*◌, ◌/◌, ◌%◌, ◌^◌, ◌<◌, ◌≤◌, zero, suc, Bool, true, false, ◌&&◌, eqb, List, [], ◌∷◌, ◌++◌, length, get_or, take, map, Some, None, refl, sym, ap, ◌∙◌, ⊎_elim, subst, arith, leb}
+use Rattle.std.proofs.Common.{◌≡◌, ℕ, ◌+◌, ◌-◌, ◌*◌, ◌/◌, ◌%◌, ◌^◌, ◌<◌, ◌≤◌, zero, suc, Bool, true, false, ◌&&◌, eqb, List, [], ◌∷◌, ◌++◌, length, get_or, take, drop, map, Option, Some, None, refl, sym, ap, ◌∙◌, ⊎_elim, subst, arith, leb}
 use Rattle.std.specs.Char.{is_ascii_digit}
 use Rattle.std.specs.Int.Digits.{digits_of}
 use Rattle.std.specs.Fmt.{decimal as displayed}
@@ -8,12 +8,13 @@ use Rattle.std.proofs.lemmas.Bool.{cases_lt, eqb-true, lt-ltb, le-leb, leb-true,
 use Rattle.std.proofs.lemmas.Fmt.{decimal_digit as displayed_digit, decimal-digits_of as displayed-digits_of}
 use Rattle.std.proofs.lemmas.Grind.{fold-append, pow_more}
 use Rattle.std.proofs.lemmas.Int.Digits.{digits_of_step, length-digits_of-le}
-use Rattle.std.proofs.lemmas.List.{append_assoc, append-nil, map-append, length-map, length-append, take_more, get_or_append_left}
+use Rattle.std.proofs.lemmas.List.{append_assoc, append-nil, map-append, length-map, length-append, length-take-le, get_or-take, take_more, get_or_append_left}
 use Rattle.std.proofs.lemmas.List.Elements.{All-nil, All-cons, All-head, All-tail, All-push, All-weaker}
 use Rattle.std.proofs.Math.Nat.{pow-le-pow_right}
 use Rattle.md_text.specs.declared.digits.TheConstants.{DIGITS, PAIRS}
-use Rattle.md_text.specs.Fields.{is_blank, IsWord}
-use Rattle.md_text.specs.Numbers.{value, decimal, is_number, number_of, IsCanonical}
+use Rattle.md_text.specs.Fields.{fields, is_blank, IsWord}
+use Rattle.md_text.specs.Numbers.{value, decimal, is_number, number_of, BeginsWithNumber, IsCanonical}
+use Rattle.md_text.proofs.FieldLemmas.{IsFirstField, field_cut}
 
 abbrev IsDigit : ℕ → Type 0
 IsDigit byte = is_ascii_digit byte ≡ true
@@ -187,9 +188,18 @@ list_all-from_AllPass [] all = refl
 list_all-from_AllPass (digit ∷ digits) all =
     and_from (is_ascii_digit digit) (list_all is_ascii_digit digits) (All-head IsDigit digit digits all) (list_all-from_AllPass digits (All-tail IsDigit digit digits all))
 
+pub AllPass-from_list_all : (digits : List ℕ) → list_all is_ascii_digit digits ≡ true → AllPass is_ascii_digit digits
+AllPass-from_list_all [] all = All-nil IsDigit
+AllPass-from_list_all (digit ∷ digits) all =
+    let parts = and_parts (is_ascii_digit digit) (list_all is_ascii_digit digits) all in
+    All-cons IsDigit digit digits parts.0 (AllPass-from_list_all digits parts.1)
+
+pub number_of-tested : (digits : List ℕ) → 0 < length digits → length digits ≤ DIGITS → list_all is_ascii_digit digits ≡ true → number_of digits ≡ Some (value digits)
+number_of-tested digits some short all =
+    cond-true (is_number digits) (Some (value digits)) None (and_from _ _ (lt-ltb 0 (length digits) some) (and_from _ _ (le-leb (length digits) DIGITS short) all))
+
 pub number_of-digits : (digits : List ℕ) → 0 < length digits → length digits ≤ DIGITS → AllPass is_ascii_digit digits → number_of digits ≡ Some (value digits)
-number_of-digits digits some short all =
-    cond-true (is_number digits) (Some (value digits)) None (and_from _ _ (lt-ltb 0 (length digits) some) (and_from _ _ (le-leb (length digits) DIGITS short) (list_all-from_AllPass digits all)))
+number_of-digits digits some short all = number_of-tested digits some short (list_all-from_AllPass digits all)
 
 pub number_of-decimal : (n : ℕ) → n < 10 ^ DIGITS → number_of (decimal n) ≡ Some n
 number_of-decimal n below =
@@ -283,3 +293,48 @@ pushed_long old front next all n large is_front is_next is_all =
 -- the room that any `u64` needs
 pub decimal_fits_20 : (n : ℕ) → n < 2 ^ 64 → length (decimal n) ≤ 20
 decimal_fits_20 n small = length-decimal-le 20 n (omega arith) (omega arith)
+
+-- digits that a field begins with are no blanks
+digits_no_blank : (text : List ℕ) (count : ℕ) → count ≤ length text → list_all is_ascii_digit (take count text) ≡ true → (k : ℕ) → k < count → is_blank (get_or text k 0) ≡ false
+digits_no_blank text count within all k below =
+    let is = AllPass-from_list_all (take count text) all k 0 (omega (arith, length-take-le count text within)) in
+    digit_no_blank (get_or text k 0) (ap is_ascii_digit (sym (get_or-take count text k 0 below)) ∙ is)
+
+-- what a reader knows of a field that begins at `start`, of which the first `count` bytes are digits
+pub record IsFirstNumber (line rest : List ℕ) (start count : ℕ) : Type 0 where
+  pub skipped : start ≤ length line
+  pub blanks : (k : ℕ) → k < start → is_blank (get_or line k 0) ≡ true
+  pub begins : is_blank (get_or line start 0) ≡ false
+  pub is_rest : rest ≡ drop start line
+  pub some : 0 < count
+  pub within : count ≤ length rest
+  pub at_most : count ≤ DIGITS
+  pub digits : list_all is_ascii_digit (take count rest) ≡ true
+  pub found : count < length rest → is_blank (get_or rest count 0) ≡ true
+
+pub number_begins : (line rest behind : List ℕ) (start count number : ℕ) → IsFirstNumber line rest start count → number ≡ value (take count rest) → behind ≡ drop count rest → BeginsWithNumber line (Some number) behind
+number_begins line rest behind start count number f is_value is_behind = record {
+  field = take count rest;
+  is_first = field_cut line rest start count (record {
+    skipped = f.skipped;
+    blanks = f.blanks;
+    begins = f.begins;
+    is_rest = f.is_rest;
+    some = let some = f.some in let within = f.within in omega arith;
+    within = f.within;
+    others = digits_no_blank rest count f.within f.digits;
+    found = f.found;
+  }) ∙ ap (λ (tail : List ℕ). take count rest ∷ fields tail) (sym is_behind);
+  is_number = ap Some is_value ∙ sym (number_of-tested (take count rest) (let some = f.some in omega (arith, length-take-le count rest f.within)) (let at_most = f.at_most in omega (arith, length-take-le count rest f.within)) f.digits);
+}
+
+pub field_begins : (line rest field behind : List ℕ) (start end : ℕ) (number : Option ℕ) → IsFirstField line rest start end → field ≡ take end rest → behind ≡ drop end rest → number ≡ number_of field → BeginsWithNumber line number behind
+field_begins line rest field behind start end number f is_field is_behind is_number = record {
+  field = field;
+  is_first = field_cut line rest start end f ∙ cc;
+  is_number = is_number;
+}
+
+-- the room that any number below 100,000 needs
+pub decimal_fits_5 : (n : ℕ) → n < 100000 → length (decimal n) ≤ 5
+decimal_fits_5 n small = length-decimal-le 5 n (omega arith) small

@@ -3,6 +3,7 @@ use Rattle.std.specs.Prelude.{◌≡◌, ℕ, ◌+◌, ◌-◌, ◌*◌, ◌<◌
 use Rattle.std.specs.Char.{is_ascii_digit}
 use Rattle.std.specs.List.{AllPass, list_all}
 use Rattle.std.specs.Int.Digits.{digits_of}
+use Rattle.md_text.specs.Fields.{fields}
 use Rattle.md_text.specs.declared.digits.TheConstants.{DIGITS}
 
 -- the number that decimal digits write, the highest digit first (positional notation)
@@ -17,6 +18,12 @@ is_number field =
 -- the number that a field writes, if it is one; leading zeros are allowed (DIMACS)
 abbrev pub number_of : List ℕ → Option ℕ
 number_of field = if is_number field then Some (value field) else None
+
+-- the first field of a line, the number that it writes, and the rest of the line behind it
+pub record BeginsWithNumber (line : List ℕ) (number : Option ℕ) (rest : List ℕ) : Type 0 where
+  pub field : List ℕ
+  pub is_first : fields line ≡ field ∷ fields rest
+  pub is_number : number ≡ number_of field
 
 -- the shortest decimal digits that write n (positional notation)
 unfoldable pub decimal : ℕ → List ℕ

@@ -1,9 +1,11 @@
 //! Cuts a text into lines, and a line into fields.
-ghost use Rattle.std.specs.Prelude.{◌≡◌, ℕ, ◌+◌, ◌<◌, ◌≤◌, true, false, [], ◌∷◌, length, take, drop, slice_index, IfSome, IfNone};
+ghost use Rattle.std.specs.Prelude.{◌≡◌, ℕ, ◌+◌, ◌<◌, ◌≤◌, true, false, [], ◌∷◌, length, take, drop, slice_index, IsTrue, IfSome, IfNone};
 ghost use Rattle.std.specs.List.{before_first, after_first, position_or_len};
 ghost use Rattle.md_text.specs.Lines.{lines, is_feed, LacksFeed, without_return};
 ghost use Rattle.md_text.specs.Fields.{fields, is_blank, IsWord};
+ghost use Rattle.md_text.specs.Numbers.{BeginsWithNumber};
 
+use crate::digits::{leading_digits, number};
 use std::simd::prelude::*;
 
 const LINE_FEED: u8 = b'\n';
@@ -94,6 +96,7 @@ pub fn split_field(line: &[u8]) -> Option<(&[u8], &[u8])>
     ensures none { IfNone result (fields line.now ≡ []) }
     ensures word { IfSome result (λ p. IsWord p.0.now) }
     ensures shorter { IfSome result (λ p. length p.0.now + length p.1.now ≤ length line.now) }
+    ensures rest_shorter { IfSome result (λ p. length p.1.now < length line.now) }
 {
     let start = first_other(line);
     if start == line.len() {
@@ -102,6 +105,35 @@ pub fn split_field(line: &[u8]) -> Option<(&[u8], &[u8])>
     let rest = &line[start..];
     let end = first_blank(rest);
     Some(rest.split_at(end))
+}
+
+/// The number that the first field of a line writes, if it is one, and what stands behind the field;
+/// none if the line has no field. The same as `split_field` and `number`, in one pass.
+pub fn split_number(line: &[u8]) -> Option<(Option<u64>, &[u8])>
+    ensures number { IfSome result (λ p. BeginsWithNumber line.now p.0 p.1.now) }
+    ensures none { IfNone result (fields line.now ≡ []) }
+    ensures rest_shorter { IfSome result (λ p. length p.1.now < length line.now) }
+{
+    let start = first_other(line);
+    if start == line.len() {
+        return None;
+    }
+    let rest = &line[start..];
+    let (count, value) = leading_digits(rest);
+    if count > 0 && is_end(rest, count) {
+        return Some((Some(value), &rest[count..]));
+    }
+    let (field, behind) = rest.split_at(first_blank(rest));
+    Some((number(field), behind))
+}
+
+// Whether no byte of a field stands at a place.
+#[inline(always)]
+fn is_end(line: &[u8], place: usize) -> bool
+    requires { place ≤ length line.now }
+    ensures { IsTrue result → place < length line.now → is_blank (slice_index line.now place) ≡ true }
+{
+    place == line.len() || is_space_or_tab(line[place])
 }
 
 fn is_space_or_tab(byte: u8) -> bool

@@ -1,6 +1,8 @@
 //! Reads and writes numbers in decimal digits.
-ghost use Rattle.std.specs.Prelude.{◌≡◌, ◌+◌, ◌/◌, ◌%◌, ◌<◌, ◌≤◌, [], ◌∷◌, ◌++◌, length, vec_len, vec_capacity};
-ghost use Rattle.md_text.specs.Numbers.{number_of, decimal};
+ghost use Rattle.std.specs.Prelude.{◌≡◌, ◌+◌, ◌/◌, ◌%◌, ◌<◌, ◌≤◌, true, false, [], ◌∷◌, ◌++◌, length, take, slice_index, vec_len, vec_capacity};
+ghost use Rattle.std.specs.Char.{is_ascii_digit};
+ghost use Rattle.std.specs.List.{list_all};
+ghost use Rattle.md_text.specs.Numbers.{value, number_of, decimal};
 
 /// How many digits a number that is read may have. Every such number fits a `u64`.
 pub const DIGITS: usize = 18;
@@ -10,17 +12,32 @@ pub const DIGITS: usize = 18;
 pub fn number(field: &[u8]) -> Option<u64>
     ensures { result ≡ number_of field.now }
 {
-    if field.is_empty() || field.len() > DIGITS {
+    let (count, value) = leading_digits(field);
+    if count == 0 || count < field.len() {
         return None;
     }
+    Some(value)
+}
+
+// The digits that a text begins with, `DIGITS` of them at most: how many they are, and their value.
+#[inline]
+pub(crate) fn leading_digits(text: &[u8]) -> (usize, u64)
+    ensures within { result.0 ≤ length text.now }
+    ensures at_most { result.0 ≤ DIGITS }
+    ensures digits { list_all is_ascii_digit (take result.0 text.now) ≡ true }
+    ensures value { result.1 ≡ value (take result.0 text.now) }
+    ensures stops { result.0 < length text.now → result.0 < DIGITS
+        → is_ascii_digit (slice_index text.now result.0) ≡ false }
+{
+    let front = &text[..text.len().min(DIGITS)];
     let mut value = 0;
-    for byte in field {
+    for (count, byte) in front.iter().enumerate() {
         if !byte.is_ascii_digit() {
-            return None;
+            return (count, value);
         }
         value = value * 10 + u64::from(*byte - b'0');
     }
-    Some(value)
+    (front.len(), value)
 }
 
 /// Appends the shortest decimal digits of a number. It takes no memory: there has to be room for

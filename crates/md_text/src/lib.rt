@@ -8,7 +8,7 @@ mod cut;
 mod digits;
 pub mod laws;
 
-pub use cut::{split_field, split_line, without_return};
+pub use cut::{split_field, split_line, split_number, without_return};
 pub use digits::{DIGITS, number, push_decimal};
 
 #[cfg(test)]

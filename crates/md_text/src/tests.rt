@@ -47,6 +47,12 @@ fn check_refused(rt: &impl Abort, fields: &[&[u8]]) {
     }
 }
 
+fn check_split_number(rt: &impl Abort, line: &[u8], n: Option<u64>, behind: &[u8]) {
+    let (found, rest) = split_number(line).expect(rt, "a field");
+    assert_eq!(rt; found, n);
+    assert_eq!(rt; rest, behind);
+}
+
 #[test]
 fn texts(rt: HostRuntime) -> Result<(), Fail> {
     check_lines(&rt, b"", &[]);
@@ -78,5 +84,9 @@ fn texts(rt: HostRuntime) -> Result<(), Fail> {
         &rt,
         &[b"", b"+1", b"1a", b"1 ", b"/", b":", b"0000000000000000001"],
     );
+    check_split_number(&rt, b"\t007 x", Some(7), b" x");
+    check_split_number(&rt, b"0000000000000000001", None, b"");
+    check_split_number(&rt, b"12a\t3", None, b"\t3");
+    assert!(rt; split_number(b" ").is_none());
     Ok(())
 }
