@@ -73,7 +73,7 @@ within_limit true false false f = refl
 abbrev joined_names : PlainTree → ℕ → ℕ → Bool
 joined_names t a b = (contains (names t) a && contains (names t) b) && adjacent_in t a b
 
-tree_graph : (g : PlainGraph) (t : PlainTree) → IsGraph g → IsCanonical t → AllBelow (names t) NAMES → g.vertices ≡ names t →
+pub tree_graph : (g : PlainGraph) (t : PlainTree) → IsGraph g → IsCanonical t → AllBelow (names t) NAMES → g.vertices ≡ names t →
     ((x y : ℕ) → adjacent g x y ≡ has_edge_in t x y) → g ≡ graph_of_tree (Some t)
 tree_graph g t is canonical below same edges n = record { vertices = same n; edges = same_edges n } where
   same_edges : g.edges ≡ pairs_where (joined_names t) NAMES

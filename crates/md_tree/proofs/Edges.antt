@@ -32,7 +32,7 @@ pub and_true : (a b : Bool) → (a && b) ≡ true → (a ≡ true) × (b ≡ tru
 and_true true b h = (refl, h)
 and_true false b h = absurd (true≢false (sym h))
 
-and_both : (a b : Bool) → a ≡ true → b ≡ true → (a && b) ≡ true
+pub and_both : (a b : Bool) → a ≡ true → b ≡ true → (a && b) ≡ true
 and_both a b p q = ap (λ w. w && b) p ∙ q
 
 pub of_crosses : (a b : NameSet) (x y : ℕ) → crosses a b x y ≡ true → (Has a x × Has b y) ⊎ (Has a y × Has b x)
