@@ -80,3 +80,6 @@ impl QuotientEdges {
         &self.list[i as usize]
     }
 }
+
+#[cfg(test)]
+mod tests;
