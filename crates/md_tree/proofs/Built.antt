@@ -1,16 +1,16 @@
 -- A tree is the tree of strong modules exactly where the children of each node are the maximal proper strong modules.
-use Rattle.std.proofs.Common.{◌≡◌, ◌≢◌, ℕ, Bool, ◌⊎◌, ◌↔◌, refl, sym, subst, inl, inr}
-use Rattle.std.specs.Prelude.{⊤, List}
+use Rattle.std.proofs.Common.{◌≡◌, ◌≢◌, ℕ, Bool, ◌↔◌, refl, sym, subst, inl, inr}
+use Rattle.std.specs.Prelude.{List}
 use Rattle.md_modules.specs.Sets.{NameSet, Has, Within, HasSome, only_name}
 use Rattle.md_modules.specs.Modules.{IsStrong, IsMaximalStrong}
 use Rattle.md_modules.proofs.Sets.{Has-along, same_members}
 use Rattle.md_modules.proofs.Strong.{whole_strong, strong_inside, strong_of_strong}
 use Rattle.md_tree.specs.declared.Kind.{Kind}
 use Rattle.md_tree.specs.declared.Pair.{Pair}
-use Rattle.md_tree.specs.Trees.{PlainTree, leaf, node, PlainTrees, no_tree, one_more, names, names_below, node_sets, node_sets_below, EachNode, EachNodeBelow}
+use Rattle.md_tree.specs.Trees.{PlainTree, leaf, node, PlainTrees, no_tree, one_more, names, names_below, node_sets, EachNode, EachNodeBelow}
 use Rattle.md_tree.specs.StrongTrees.{IsNodeOf, IsTreeOf}
 use Rattle.md_tree.proofs.Lists.{In, Later, of_contains, to_contains, of_pairs}
-use Rattle.md_tree.proofs.Nodes.{IsChild, Differ, own_set, set_inside, single_in, child_inside, child_of_name, child_set_in, child_of_set, child_once, one_child}
+use Rattle.md_tree.proofs.Nodes.{IsChild, Differ, own_set, set_inside, single_in, child_inside, child_set_in, child_of_set, child_once, one_child}
 
 -- m is the leaf set of one of the trees
 abbrev pub IsChildSet : PlainTrees → NameSet → Type 0

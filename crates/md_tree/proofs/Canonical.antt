@@ -1,31 +1,30 @@
 -- Such a tree is the tree of strong modules, and it is as well-formed trees are.
-use Rattle.std.proofs.Common.{◌≡◌, ◌≢◌, ℕ, zero, suc, ◌+◌, ◌<◌, ◌≤◌, Bool, true, false, ◌⊎◌, ◌↔◌, List, [], ◌∷◌, Contains, refl, sym, ◌∙◌, ap, subst, inl, inr, arith}
+use Rattle.std.proofs.Common.{◌≡◌, ◌≢◌, ℕ, zero, suc, ◌+◌, ◌<◌, ◌≤◌, Bool, true, false, List, [], Contains, refl, sym, ◌∙◌, subst, inl, inr, arith}
 use Rattle.std.specs.FinSet.{contains, empty, len, len-empty, union, intersection, difference}
 use Rattle.std.specs.Ordering.{nat_cmp}
 use Rattle.md_modules.specs.Sets.{NameSet, Has, Lacks, Within, HasSome, HasTwo, only_name}
 use Rattle.md_modules.specs.Adjacency.{IsAdjacency}
-use Rattle.md_modules.specs.Modules.{IsStrong, IsMaximalStrong, IsMaximalModule}
+use Rattle.md_modules.specs.Modules.{IsStrong, IsMaximalStrong}
 use Rattle.md_modules.specs.Kinds.{IsSplit, IsPrime}
 use Rattle.md_modules.specs.Quotients.{IsQuotient}
 use Rattle.md_modules.specs.Laws.{MaximalModules}
 use Rattle.md_modules.proofs.Sets.{either, clash, false_if, only_has, of_only, empty_lacks, Has-along, same_members, union_left, union_right, of_union, meet_has, of_meet, minus_has, of_minus}
 use Rattle.md_modules.proofs.Search.{decide_has_some, len_within, len_union, len_single}
 use Rattle.md_modules.proofs.Strong.{whole_strong, strong_of_strong, children_meet, child_leaves, strong_descends}
-use Rattle.md_modules.proofs.Children.{child_unsplit, child_maximal, prime_unsplit}
+use Rattle.md_modules.proofs.Children.{child_unsplit, child_maximal}
 use Rattle.md_modules.proofs.Quotients.{maximal_modules_proof}
 use Rattle.md_tree.specs.declared.Kind.{Kind}
 use Rattle.md_tree.specs.declared.Kind.TheVariants.{Parallel, Series, Prime}
 use Rattle.md_tree.specs.declared.Pair.{Pair}
 use Rattle.md_tree.specs.Trees.{PlainTree, leaf, node, PlainTrees, no_tree, one_more, names, names_below, names_at, node_sets, node_sets_below, count, EachNode, EachNodeBelow}
-use Rattle.md_tree.specs.StrongTrees.{HasKind, IsBefore, IsInOrder, IsJoined, IsPairBefore, ListsJoined, HasPairs, IsNodeOf, IsTreeOf}
-use Rattle.md_tree.specs.WellFormed.{IsOfKind, NoneOfKind, AreApart, IsPlainNode, IsPrimeNode, HasShape, IsCanonicalNode, IsCanonical}
+use Rattle.md_tree.specs.StrongTrees.{HasKind, IsInOrder, IsJoined, ListsJoined, IsNodeOf, IsTreeOf}
+use Rattle.md_tree.specs.WellFormed.{IsOfKind, NoneOfKind, AreApart, IsPlainNode, HasShape, IsCanonicalNode}
 use Rattle.md_tree.proofs.Lists.{In, Later, of_append, in_left, in_right, of_contains, to_contains, to_pairs, later_append}
-use Rattle.md_tree.proofs.Nodes.{IsChild, Differ, own_set, set_inside, sets_inside, child_inside, child_of_name, child_of_set}
-use Rattle.md_tree.proofs.Built.{IsChildSet, HasChildren, IsBuilt}
+use Rattle.md_tree.proofs.Nodes.{IsChild, Differ, set_inside, sets_inside, child_inside, child_of_name, child_of_set}
+use Rattle.md_tree.proofs.Built.{IsChildSet, IsBuilt}
 use Rattle.md_tree.proofs.Unique.{two_of_kind}
 use Rattle.md_tree.proofs.Exists.{position_below}
 use Rattle.md_tree.proofs.Pairs.{pair}
-
 
 module _ (e : ℕ → ℕ → Bool) where
   pub children_maximal : (k : Kind) (cs : PlainTrees) (ps : List Pair) → IsBuilt e k cs ps → (c : PlainTree) → IsChild cs c → IsMaximalStrong e (names_below cs) (names c)
@@ -195,18 +194,21 @@ module _ (e : ℕ → ℕ → Bool) (adj : IsAdjacency e) where
   some_pair_of : (cs : PlainTrees) (ps : List Pair) → IsPrime e (names_below cs) → ListsJoined e cs ps →
       ((c : PlainTree) → IsChild cs c → IsMaximalStrong e (names_below cs) (names c)) → ps ≢ []
   some_pair_of no_tree ps prime lists max none = clash prime.two.2 (empty_lacks prime.two.0)
-  some_pair_of (one_more t ts) ps prime lists max none = prime.connected (names t, record {
-    some = (max t (inl refl)).is_strong.is_module.some;
-    inside = union_left (names t) (names_below ts);
-    rest = child_leaves (union (names t) (names_below ts)) (names t) (max t (inl refl));
-    across = λ a b ha hb l. false_if _ (λ h. elim (of_union (names t) (names_below ts) b hb) [
-      | inl i ↦ clash i l
-      | inr j ↦ (
-          let p : (i : ℕ) × Has (names_at ts i) b = place_of ts b j in
-          let is : IsJoined e (one_more t ts) 0 (suc p.0) = record { ordered = omega arith; edge = (a, b, ha, p.1, h) } in
-          of_contains [] (pair 0 (suc p.0)) (subst (λ w. Contains w (pair 0 (suc p.0))) none ((lists.exactly (pair 0 (suc p.0))).1 is)))
-    ]);
-  })
+  some_pair_of (one_more t ts) ps prime lists max none = prime.connected (
+    names t,
+    record {
+      some = (max t (inl refl)).is_strong.is_module.some;
+      inside = union_left (names t) (names_below ts);
+      rest = child_leaves (union (names t) (names_below ts)) (names t) (max t (inl refl));
+      across = λ a b ha hb l. false_if _ (λ h. elim (of_union (names t) (names_below ts) b hb) [
+        | inl i ↦ clash i l
+        | inr j ↦ (
+            let p : (i : ℕ) × Has (names_at ts i) b = place_of ts b j in
+            let is : IsJoined e (one_more t ts) 0 (suc p.0) = record { ordered = omega arith; edge = (a, b, ha, p.1, h) } in
+            of_contains [] (pair 0 (suc p.0)) (subst (λ w. Contains w (pair 0 (suc p.0))) none ((lists.exactly (pair 0 (suc p.0))).1 is)))
+      ]);
+    },
+  )
 
   plain_node : (k : Kind) (v : Bool) (cs : PlainTrees) (ps : List Pair) → IsBuilt e k cs ps → EachNodeBelow (IsBuilt e) cs →
       ((s : NameSet) → HasKind e s k → (part : NameSet) × IsSplit e s part v) → ps ≡ [] → IsPlainNode k cs ps

@@ -1,5 +1,5 @@
 -- The graph that a tree denotes, from its edges; pairs of trees that a node lists.
-use Rattle.std.proofs.Common.{◌≡◌, ◌≢◌, ℕ, ◌+◌, ◌-◌, ◌<◌, ◌≤◌, Bool, true, false, ◌&&◌, ◌||◌, List, length, get_or, drop, take, map, Contains, nat_lt, Option, Some, None, option_map, refl, sym, ◌∙◌, ap, subst, inl, inr, arith}
+use Rattle.std.proofs.Common.{◌≡◌, ℕ, ◌+◌, ◌-◌, ◌<◌, Bool, true, false, ◌&&◌, ◌||◌, List, length, get_or, drop, take, map, Contains, nat_lt, Option, Some, refl, sym, ◌∙◌, ap, subst, inl, inr, arith}
 use Rattle.std.proofs.lemmas.List.{at_drop_more, length-drop}
 use Rattle.std.proofs.lemmas.Bool.{lt-ltb}
 use Rattle.std.proofs.Math.Seq.{take-length}
@@ -9,7 +9,7 @@ use Rattle.md_graph.specs.NameSet.{AllBelow}
 use Rattle.md_graph.specs.PlainGraph.{PlainGraph, IsGraph, adjacent, edge, pairs_where, empty_graph}
 use Rattle.md_graph.proofs.GraphLemmas.{contains-pairs_where, contains-edges, adjacent-empty_graph}
 use Rattle.md_graph.proofs.PairLaws.{pairs-empty, same_pairs}
-use Rattle.md_modules.specs.Sets.{NameSet, Has, Lacks, Within, Disjoint}
+use Rattle.md_modules.specs.Sets.{NameSet, Within, Disjoint}
 use Rattle.md_modules.proofs.Sets.{clash, false_if, empty_lacks, Has-along, same_members, union_right, of_union}
 use Rattle.md_tree.specs.declared.Pair.{Pair}
 use Rattle.md_tree.specs.declared.Tree.{Tree}

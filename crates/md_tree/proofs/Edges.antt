@@ -1,5 +1,5 @@
 -- The edges of a tree's nodes are those of the graph that it denotes.
-use Rattle.std.proofs.Common.{◌≡◌, ◌≢◌, ℕ, zero, suc, ◌<◌, Bool, true, false, cond, eqb, min, max, ◌&&◌, ◌||◌, ◌==◌, ◌⊎◌, List, [], ◌∷◌, refl, sym, ◌∙◌, ap, subst, inl, inr, true≢false, eqb-true, eq-eqb, arith}
+use Rattle.std.proofs.Common.{◌≡◌, ◌≢◌, ℕ, suc, ◌<◌, Bool, true, false, cond, eqb, min, max, ◌&&◌, ◌||◌, ◌==◌, ◌⊎◌, List, [], ◌∷◌, refl, sym, ◌∙◌, ap, subst, inl, inr, true≢false, eqb-true, eq-eqb, arith}
 use Rattle.std.specs.FinSet.{contains, empty, insert, union}
 use Rattle.md_modules.specs.Sets.{NameSet, Has, Lacks, Disjoint, only_name}
 use Rattle.md_modules.proofs.Sets.{either, clash, false_if, only_has, of_only, empty_lacks, union_left, union_right, of_union}
@@ -10,7 +10,7 @@ use Rattle.md_tree.specs.declared.Kind.{Kind}
 use Rattle.md_tree.specs.declared.Kind.TheVariants.{Parallel, Series, Prime}
 use Rattle.md_tree.specs.declared.Pair.{Pair}
 use Rattle.md_tree.specs.Trees.{PlainTree, leaf, node, PlainTrees, no_tree, one_more, names, names_below, names_at, EachNode, EachNodeBelow}
-use Rattle.md_tree.specs.WellFormed.{AreApart, IsCanonicalNode, HasShape, IsPrimeNode}
+use Rattle.md_tree.specs.WellFormed.{AreApart, IsCanonicalNode, IsPrimeNode}
 use Rattle.md_tree.specs.TreeGraph.{position_of, lists_pair, joins, adjacent_in, adjacent_below}
 use Rattle.md_tree.specs.TreeEdges.{crosses, in_two, in_listed, edge_across, has_edge_in, has_edge_below}
 use Rattle.md_tree.proofs.Lists.{In, to_contains}
@@ -290,7 +290,7 @@ mutual
 pub edges_are : (t : PlainTree) → EachNode IsCanonicalNode t → (x y : ℕ) → has_edge_in t x y ≡ ((contains (names t) x && contains (names t) y) && adjacent_in t x y)
 edges_are t each x y = same_test (has_edge_in t x y) ((contains (names t) x && contains (names t) y) && adjacent_in t x y)
     (λ h. let i : IsEdge t x y = of_edge t each x y h in
-      and_both (contains (names t) x && contains (names t) y) (adjacent_in t x y) (and_both (contains (names t) x) (contains (names t) y) i.first i.second) i.adjacent)
+    and_both (contains (names t) x && contains (names t) y) (adjacent_in t x y) (and_both (contains (names t) x) (contains (names t) y) i.first i.second) i.adjacent)
     (λ h.
     let a : (contains (names t) x && contains (names t) y ≡ true) × (adjacent_in t x y ≡ true) = and_true (contains (names t) x && contains (names t) y) (adjacent_in t x y) h in
     let b : Has (names t) x × Has (names t) y = and_true (contains (names t) x) (contains (names t) y) a.0 in

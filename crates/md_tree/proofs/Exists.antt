@@ -1,8 +1,7 @@
 -- Each set of names with a member has such a tree: by induction on the size, over the children in order.
-use Rattle.std.proofs.Common.{◌≡◌, ◌≢◌, ℕ, zero, suc, ◌+◌, ◌<◌, ◌≤◌, Bool, true, ◌⊎◌, ◌↔◌, List, [], refl, sym, ◌∙◌, ap, subst, inl, inr, arith}
+use Rattle.std.proofs.Common.{◌≡◌, ◌≢◌, ℕ, zero, suc, ◌+◌, ◌<◌, ◌≤◌, Bool, true, List, [], refl, sym, ◌∙◌, ap, subst, inl, inr, arith}
 use Rattle.std.specs.FinSet.{contains, empty, len, difference, union}
 use Rattle.md_modules.specs.Sets.{NameSet, Has, Lacks, Within, HasSome, HasTwo, only_name}
-use Rattle.md_modules.specs.Adjacency.{IsAdjacency}
 use Rattle.md_modules.specs.Modules.{IsMaximalStrong}
 use Rattle.md_modules.proofs.Sets.{either, clash, false_if, only_has, of_only, empty_lacks, Has-along, same_members, union_left, union_right, of_union, minus_has, of_minus, minus_lacks}
 use Rattle.md_modules.proofs.Search.{Decided, decide_test, decide_both, decide_like, decide_some, decide_has_some, decide_same, decide_below, first_member, other_or_alone, len_proper, test_of, test_holds, of_test}
@@ -12,10 +11,10 @@ use Rattle.md_tree.specs.declared.Kind.{Kind}
 use Rattle.md_tree.specs.declared.Kind.TheVariants.{Parallel, Series, Prime}
 use Rattle.md_tree.specs.declared.Pair.{Pair}
 use Rattle.md_tree.specs.Trees.{PlainTree, leaf, node, PlainTrees, no_tree, one_more, names, names_below, names_at, count, EachNode, EachNodeBelow}
-use Rattle.md_tree.specs.StrongTrees.{HasKind, IsBefore, IsInOrder, IsJoined, IsPairBefore, ListsJoined, HasPairs}
-use Rattle.md_tree.proofs.Lists.{In, of_contains, to_contains, to_pairs}
+use Rattle.md_tree.specs.StrongTrees.{HasKind, IsInOrder, IsJoined, IsPairBefore, ListsJoined, HasPairs}
+use Rattle.md_tree.proofs.Lists.{of_contains, to_contains, to_pairs}
 use Rattle.md_tree.proofs.Nodes.{IsChild}
-use Rattle.md_tree.proofs.Built.{IsChildSet, HasChildren, IsBuilt}
+use Rattle.md_tree.proofs.Built.{IsChildSet, IsBuilt}
 use Rattle.md_tree.proofs.Pairs.{passing, passing_ascends, of_passing, to_passing}
 
 -- only positions of trees have names
@@ -64,7 +63,7 @@ module _ (e : ℕ → ℕ → Bool) where
     exactly = λ p. (
       (λ c. of_test (decide_joined cs p.low p.high) (of_passing (λ i j. test_of (decide_joined cs i j)) (count cs) p (of_contains (joined cs) p c))),
       λ is. to_contains (joined cs) p (to_passing (λ i j. test_of (decide_joined cs i j)) (count cs) p
-      (position_below cs p.low is.edge.0 is.edge.2) (position_below cs p.high is.edge.1 is.edge.3) (test_holds (decide_joined cs p.low p.high) is)),
+          (position_below cs p.low is.edge.0 is.edge.2) (position_below cs p.high is.edge.1 is.edge.3) (test_holds (decide_joined cs p.low p.high) is)),
     );
   }
 
@@ -75,7 +74,6 @@ module _ (e : ℕ → ℕ → Bool) where
 
   kind_for : (s : NameSet) → HasTwo s → (k : Kind) × HasKind e s k
   kind_for s two = elim (decide_prime {e = e} s two) [ inl p ↦ (Parallel, p) | inr r ↦ elim r [ inl p ↦ (Series, p) | inr p ↦ (Prime, p) ] ]
-
 
 module _ {e : ℕ → ℕ → Bool} where
   -- the row of the children in rest, where each child that meets rest lies in it

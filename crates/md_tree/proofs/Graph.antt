@@ -1,9 +1,8 @@
 -- The graph of the tree of strong modules is the graph itself, and its prime nodes tell of induced paths.
-use Rattle.std.proofs.Common.{◌≡◌, ◌≢◌, ℕ, zero, suc, ◌<◌, Bool, true, false, cond, eqb, min, max, ◌&&◌, ◌||◌, ◌⊎◌, ◌↔◌, List, [], ◌∷◌, Contains, refl, sym, ◌∙◌, ap, subst, inl, inr, true≢false, eqb-true, eq-eqb, arith}
-use Rattle.std.specs.FinSet.{contains, union}
-use Rattle.md_modules.specs.Sets.{NameSet, Has, Lacks, Within, HasTwo, only_name}
+use Rattle.std.proofs.Common.{◌≡◌, ◌≢◌, ℕ, zero, suc, ◌<◌, Bool, true, false, cond, eqb, min, max, ◌&&◌, ◌||◌, ◌⊎◌, ◌↔◌, List, [], ◌∷◌, refl, sym, ◌∙◌, ap, subst, inl, inr, true≢false, eqb-true, eq-eqb, arith}
+use Rattle.std.specs.FinSet.{contains}
+use Rattle.md_modules.specs.Sets.{NameSet, Has, Lacks, Within}
 use Rattle.md_modules.specs.Adjacency.{IsAdjacency}
-use Rattle.md_modules.specs.Modules.{IsStrong, IsMaximalStrong, IsMaximalModule}
 use Rattle.md_modules.specs.Kinds.{IsSplit, IsPrime}
 use Rattle.md_modules.specs.InducedPaths.{HasInducedPath}
 use Rattle.md_modules.specs.Laws.{MaximalModules}
@@ -20,8 +19,8 @@ use Rattle.md_tree.specs.StrongTrees.{HasKind, IsJoined, ListsJoined, IsNodeOf, 
 use Rattle.md_tree.specs.WellFormed.{AreApart, HasNoPrimeNode}
 use Rattle.md_tree.specs.TreeGraph.{position_of, lists_pair, joins, adjacent_in, adjacent_below}
 use Rattle.md_tree.proofs.Lists.{In, of_append, in_left, in_right, of_contains, to_contains}
-use Rattle.md_tree.proofs.Nodes.{IsChild, own_set}
-use Rattle.md_tree.proofs.Built.{IsChildSet, IsBuilt}
+use Rattle.md_tree.proofs.Nodes.{IsChild}
+use Rattle.md_tree.proofs.Built.{IsBuilt}
 use Rattle.md_tree.proofs.Pairs.{pair}
 use Rattle.md_tree.proofs.Canonical.{children_maximal, apart_of}
 
@@ -121,8 +120,10 @@ module _ (e : ℕ → ℕ → Bool) (adj : IsAdjacency e) where
     listed prime lists a b ha hb less = same_test _ _ edge_if_listed listed_if_edge where
       i : ℕ
       i = position_of cs a
+
       j : ℕ
       j = position_of cs b
+
       edge_if_listed : lists_pair ps (position_of cs a) (position_of cs b) ≡ true → e a b ≡ true
       edge_if_listed h =
           let is : IsJoined e cs (position_of cs a) (position_of cs b) =

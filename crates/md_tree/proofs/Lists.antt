@@ -53,8 +53,8 @@ module _ {A : Type 0} where
     of_pairs [] p = tt
     of_pairs (x ∷ xs) p = (
       (λ y i.
-      let c : Contains xs y = to_contains xs y i in
-      subst (R x) c.2 (p 0 (suc c.0) y (omega arith) (let b : c.0 < length xs = c.1 in let d : suc c.0 < suc (length xs) = omega arith in d))),
+          let c : Contains xs y = to_contains xs y i in
+          subst (R x) c.2 (p 0 (suc c.0) y (omega arith) (let b : c.0 < length xs = c.1 in let d : suc c.0 < suc (length xs) = omega arith in d))),
       of_pairs xs (λ i j d l h. p (suc i) (suc j) d (let b : i < j = l in omega arith) (let b : j < length xs = h in let c : suc j < suc (length xs) = omega arith in c)),
     )
 

@@ -43,9 +43,6 @@ or_none true = refl
 or_none false = refl
 
 module _ (F : PlainTrees → ℕ → ℕ → Bool) (P : PlainTrees → Type 0) where
-  pub loop_begin : (g : PlainGraph) (xs : List Tree) → Within (names_below (row (map plain xs))) g.vertices → P (row (map plain xs)) → EdgeLoop F P g g xs 0
-  loop_begin g xs inside others = record { vertices = refl; inside = inside; others = others; edges = λ x y. refl }
-
   module _ (start g : PlainGraph) (xs : List Tree) (i : ℕ) (loop : EdgeLoop F P start g xs i) where
     module _ (ys : List Tree) (same : ys ≡ xs) (r : Tree) (is : r ≡ get_or ys i r) (less : i < length ys) where
       cut_rest : rest xs i ≡ one_more (plain r) (rest xs (i + 1))
@@ -68,8 +65,8 @@ module _ (F : PlainTrees → ℕ → ℕ → Bool) (P : PlainTrees → Type 0) w
         inside = λ x k. subst (λ s. Has s x) (sym kept) (loop_later x k);
         others = tail (plain r) (rest xs (i + 1)) loop_others;
         edges = λ x y. or_moved (adjacent g x y) (adjacent h x y) (G (plain r) (rest xs (i + 1)) x y) (F (rest xs i) x y) (F (rest xs (i + 1)) x y)
-          (adjacent start x y || F (row (map plain xs)) x y) (more x y) (loop.edges x y)
-          (ap (λ ts. F ts x y) cut_rest ∙ cut (plain r) (rest xs (i + 1)) x y);
+            (adjacent start x y || F (row (map plain xs)) x y) (more x y) (loop.edges x y)
+            (ap (λ ts. F ts x y) cut_rest ∙ cut (plain r) (rest xs (i + 1)) x y);
       }
 
     pub loop_end : ((x y : ℕ) → F no_tree x y ≡ false) → (ys : List Tree) → ys ≡ xs → length ys ≤ i → (x y : ℕ) → adjacent g x y ≡ (adjacent start x y || F (row (map plain xs)) x y)
@@ -99,10 +96,6 @@ union_three a b c = same_members (union (union a b) c) (union a (union b c))
 pub union_none : (a : NameSet) → union a empty ≡ a
 union_none a = same_members (union a empty) a
     (λ x h. elim (of_union a empty x h) [ inl i ↦ i | inr i ↦ clash i (empty_lacks x) ]) (union_left a empty)
-
-pub names_begin : (g : PlainGraph) (xs : List Tree) → AllBelow (names_below (row (map plain xs))) NAMES → Disjoint (names_below (row (map plain xs))) g.vertices →
-    AreApart (row (map plain xs)) → EachNodeBelow IsCanonicalNode (row (map plain xs)) → NameLoop g g xs 0
-names_begin g xs a b c d = record { names_left = a; absent = b; apart = c; canonical = d; vertices = refl; edges = refl }
 
 module _ (start g : PlainGraph) (xs : List Tree) (i : ℕ) (loop : NameLoop start g xs i) (ys : List Tree) (same : ys ≡ xs) (r : Tree) (is : r ≡ get_or ys i r) (less : i < length ys) where
   abbrev c : PlainTree
@@ -136,7 +129,7 @@ module _ (start g : PlainGraph) (xs : List Tree) (i : ℕ) (loop : NameLoop star
     apart = apart_now.1;
     canonical = (subst (EachNodeBelow IsCanonicalNode) cut_names loop.canonical).1;
     vertices = ap (λ s. union s (names_below ts)) more ∙ union_three g.vertices (names c) (names_below ts)
-      ∙ sym (ap (λ us. union g.vertices (names_below us)) cut_names) ∙ loop.vertices;
+        ∙ sym (ap (λ us. union g.vertices (names_below us)) cut_names) ∙ loop.vertices;
     edges = kept ∙ loop.edges;
   } where
     apart_now : AreApart (one_more c ts)

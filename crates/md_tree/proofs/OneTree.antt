@@ -1,5 +1,5 @@
 -- Each set of names has exactly one tree of strong modules, or none where it is empty; and what that tree tells.
-use Rattle.std.proofs.Common.{◌≡◌, ℕ, Bool, true, ◌&&◌, ◌⊎◌, Option, Some, None, refl, sym, ◌∙◌, ap, subst, inl, inr}
+use Rattle.std.proofs.Common.{◌≡◌, ℕ, Bool, true, ◌&&◌, Option, Some, None, refl, sym, ◌∙◌, ap, subst, inl, inr}
 use Rattle.std.specs.FinSet.{contains, empty}
 use Rattle.md_graph.specs.declared.TheConstants.{NAMES}
 use Rattle.md_graph.specs.NameSet.{AllBelow}
@@ -10,7 +10,6 @@ use Rattle.md_modules.specs.Adjacency.{IsAdjacency}
 use Rattle.md_modules.specs.Modules.{IsStrong}
 use Rattle.md_modules.proofs.Sets.{clash, empty_lacks, Has-along, same_members}
 use Rattle.md_modules.proofs.Search.{decide_has_some}
-use Rattle.md_modules.proofs.Strong.{whole_strong}
 use Rattle.md_tree.specs.Trees.{PlainTree, names, node_sets, EachNode}
 use Rattle.md_tree.specs.WellFormed.{IsCanonicalNode}
 use Rattle.md_tree.specs.TreeGraph.{adjacent_in}

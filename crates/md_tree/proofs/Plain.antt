@@ -1,11 +1,11 @@
 -- The plain tree of a node is the node of its children's plain trees.
-use Rattle.std.proofs.Common.{◌≡◌, ℕ, List, [], ◌∷◌, map, refl, sym, ◌∙◌, ap}
+use Rattle.std.proofs.Common.{◌≡◌, ℕ, map, refl, ◌∙◌, ap}
 use mathlib.Core.Former.{Count}
 use Rattle.md_tree.specs.declared.Kind.{Kind}
 use Rattle.md_tree.specs.declared.QuotientEdges.{QuotientEdges}
 use Rattle.md_tree.specs.declared.Children.{Children, out-Children}
 use Rattle.md_tree.specs.declared.Tree.{Tree, Leaf, Node, Node', Row_of-Tree, end_of-Tree, more_of-Tree, items-the_row-Tree, items_hidden-the_row-Tree-0}
-use Rattle.md_tree.specs.Trees.{PlainTree, leaf, node, PlainTrees, no_tree, one_more, names, names_below, row}
+use Rattle.md_tree.specs.Trees.{leaf, node, one_more, names, names_below, row}
 use Rattle.md_modules.specs.Sets.{only_name}
 use Rattle.md_tree.specs.Plain.{plain, plain_row}
 

@@ -1,5 +1,5 @@
 -- The plain tree that a tree of the program is.
-use Rattle.std.specs.Prelude.{List, Option, option_map}
+use Rattle.std.specs.Prelude.{Option, option_map}
 use Rattle.md_tree.specs.declared.Tree.{Tree, Leaf, Node', Row_of-Tree, end_of-Tree, more_of-Tree}
 use Rattle.md_tree.specs.Trees.{PlainTree, leaf, node, PlainTrees, no_tree, one_more}
 

@@ -1,7 +1,7 @@
 -- The graph that a tree denotes.
 -- Source: Habib and Paul, A survey of the algorithmic aspects of modular decomposition.
 use Rattle.std.specs.Prelude.{ℕ, suc, Bool, true, false, ◌&&◌, ◌||◌, nat_eq, min, max, cond, List, [], ◌∷◌, Option, Some, None}
-use Rattle.std.specs.FinSet.{contains, empty}
+use Rattle.std.specs.FinSet.{contains}
 use Rattle.md_graph.specs.declared.TheConstants.{NAMES}
 use Rattle.md_graph.specs.PlainGraph.{PlainGraph, pairs_where, empty_graph}
 use Rattle.md_tree.specs.declared.Kind.{Kind}

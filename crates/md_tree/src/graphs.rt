@@ -12,9 +12,8 @@ ghost use Rattle.md_tree.specs.TreeEdges.{crosses, in_two, in_listed, edge_acros
 ghost use Rattle.md_tree.specs.declared.Children.{out-Children};
 ghost use Rattle.md_tree.specs.declared.Pair.{Pair};
 
-use md_graph::{Graph, NAMES};
-
 use crate::{Children, Kind, QuotientEdges, Tree};
+use md_graph::{Graph, NAMES};
 
 /// Makes an empty graph the graph that a tree denotes: its vertices are the names of the tree, and two of them are adjacent
 /// exactly where their least common node is series, or is prime and lists the pair of the children that hold them.
@@ -142,7 +141,11 @@ fn join_listed(children: &Children, edges: &QuotientEdges, graph: &mut Graph)
         ≡ (adjacent graph.old x y || in_listed (row (map plain (out-Children children.now).list.items)) edges.now.list.items x y) }
 {
     for pair in &edges.list {
-        join_trees(&children.list[pair.low as usize], &children.list[pair.high as usize], graph);
+        join_trees(
+            &children.list[pair.low as usize],
+            &children.list[pair.high as usize],
+            graph,
+        );
     }
 }
 

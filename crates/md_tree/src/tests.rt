@@ -61,7 +61,12 @@ fn texts(rt: HostRuntime) -> Result<(), Fail> {
     if row.len() == 3 {
         assert!(&rt; matches!(row.get(2), Tree::Leaf(120)));
     }
-    check_text(&rt, alloc, Some(Tree::Node(Kind::Series, row, none)), b"S(10,11,120)");
+    check_text(
+        &rt,
+        alloc,
+        Some(Tree::Node(Kind::Series, row, none)),
+        b"S(10,11,120)",
+    );
     let edges = [
         Pair { low: 0, high: 1 },
         Pair { low: 1, high: 2 },

@@ -6,12 +6,10 @@ ghost use Rattle.md_tree.specs.Plain.{plain, plain_option};
 ghost use Rattle.md_tree.specs.TreeTexts.{letter, pairs_text, tree_text, row_text, text_of};
 ghost use Rattle.md_tree.specs.declared.Children.{out-Children};
 
-use std::alloc::Global;
-
+use crate::{Children, Kind, Pair, QuotientEdges, Tree};
 use md_graph::Memory;
 use md_text::push_decimal;
-
-use crate::{Children, Kind, Pair, QuotientEdges, Tree};
+use std::alloc::Global;
 
 /// No position and no name has more digits.
 const MOST_DIGITS: usize = 10;

@@ -1,8 +1,7 @@
-use Rattle.std.proofs.Common.{rules, ◌≡◌, ℕ, Bool, false, ◌||◌, refl, sym, ◌∙◌, ap, subst}
+use Rattle.std.proofs.Common.{rules, ◌||◌, refl, sym, ◌∙◌, ap, subst}
 use Rattle.md_graph.specs.PlainGraph.{adjacent}
 use Rattle.md_modules.specs.Sets.{Has, Within}
-use Rattle.md_tree.specs.Trees.{PlainTree, PlainTrees, one_more, names, names_below, EachNode, EachNodeBelow}
-use Rattle.md_tree.specs.Plain.{plain}
+use Rattle.md_tree.specs.Trees.{EachNode, EachNodeBelow}
 use Rattle.md_tree.specs.WellFormed.{IsCanonicalNode}
 use Rattle.md_tree.specs.TreeEdges.{has_edge_in, has_edge_below}
 use Rattle.md_tree.specs.declared.Tree.{the_lemmas}
@@ -38,9 +37,9 @@ add_edges_below-add_edges-requires t c = (
   search (rules, the_lemmas),
   (
     loop_child has_edge_below (EachNodeBelow IsCanonicalNode) c.args.graph.now c.loop-child.graph c.args.children.now.list.items c.loop-child.child-index c.loop-child.invariant
-    c.deref-child-items.result.now c.deref-child-items.ensures.value c.child-item.result c.child-item.is c.loop-child-test.true,
+        c.deref-child-items.result.now c.deref-child-items.ensures.value c.child-item.result c.child-item.is c.loop-child-test.true,
     (loop_others has_edge_below (EachNodeBelow IsCanonicalNode) c.args.graph.now c.loop-child.graph c.args.children.now.list.items c.loop-child.child-index c.loop-child.invariant
-    c.deref-child-items.result.now c.deref-child-items.ensures.value c.child-item.result c.child-item.is c.loop-child-test.true).0,
+        c.deref-child-items.result.now c.deref-child-items.ensures.value c.child-item.result c.child-item.is c.loop-child-test.true).0,
   ),
 )
 

@@ -1,8 +1,8 @@
-use Rattle.std.proofs.Common.{rules, ◌≡◌, ℕ, Bool, ◌||◌, sym, ◌∙◌, ap, subst}
+use Rattle.std.proofs.Common.{rules, ℕ, Bool, ◌||◌, sym, ◌∙◌, ap, subst}
 use Rattle.md_graph.specs.PlainGraph.{adjacent}
 use Rattle.md_modules.specs.Sets.{Has, Lacks, Within, only_name}
-use Rattle.md_modules.proofs.Sets.{clash, only_has, false_if, union_left, union_right}
-use Rattle.md_tree.specs.Trees.{PlainTree, PlainTrees, one_more, names, names_below}
+use Rattle.md_modules.proofs.Sets.{clash, only_has}
+use Rattle.md_tree.specs.Trees.{PlainTrees, names, names_below}
 use Rattle.md_tree.specs.Plain.{plain}
 use Rattle.md_tree.specs.TreeEdges.{crosses}
 use Rattle.md_tree.specs.declared.Tree.{the_lemmas}
@@ -50,19 +50,23 @@ join_name-returns-in-Node-clause-edges t c x y =
 pub join_name_below-join_name-requires : goal.join_name_below-join_name-requires
 join_name_below-join_name-requires t c = (
   search (rules, the_lemmas),
-  (c.loop-child.invariant.1, (
-  loop_child (F c.args.name) (P c.args.name) c.args.graph.now c.loop-child.graph c.args.children.now.list.items c.loop-child.child-index c.loop-child.invariant.0
-  c.deref-child-items.result.now c.deref-child-items.ensures.value c.child-item.result c.child-item.is c.loop-child-test.true,
-  lacks_first c.args.name (plain c.child-item.result) _ (loop_others (F c.args.name) (P c.args.name) c.args.graph.now c.loop-child.graph c.args.children.now.list.items c.loop-child.child-index c.loop-child.invariant.0
-  c.deref-child-items.result.now c.deref-child-items.ensures.value c.child-item.result c.child-item.is c.loop-child-test.true))),
+  (
+    c.loop-child.invariant.1,
+    (
+      loop_child (F c.args.name) (P c.args.name) c.args.graph.now c.loop-child.graph c.args.children.now.list.items c.loop-child.child-index c.loop-child.invariant.0
+          c.deref-child-items.result.now c.deref-child-items.ensures.value c.child-item.result c.child-item.is c.loop-child-test.true,
+      lacks_first c.args.name (plain c.child-item.result) _ (loop_others (F c.args.name) (P c.args.name) c.args.graph.now c.loop-child.graph c.args.children.now.list.items c.loop-child.child-index c.loop-child.invariant.0
+          c.deref-child-items.result.now c.deref-child-items.ensures.value c.child-item.result c.child-item.is c.loop-child-test.true),
+    ),
+  ),
 )
 
 pub join_name_below-loop-child-preserved : goal.join_name_below-loop-child-preserved
 join_name_below-loop-child-preserved t c = (
   loop_step (F c.args.name) (P c.args.name) c.args.graph.now c.loop-child.graph c.args.children.now.list.items c.loop-child.child-index c.loop-child.invariant.0
-  c.deref-child-items.result.now c.deref-child-items.ensures.value c.child-item.result c.child-item.is c.loop-child-test.true
-  (λ t ts. crosses (only_name c.args.name) (names t)) (λ t ts l. lacks_rest c.args.name t ts l) (λ t ts x y. crosses_right (only_name c.args.name) t ts x y)
-  c.join_name.new.graph c.join_name.ensures.vertices c.join_name.ensures.edges,
+      c.deref-child-items.result.now c.deref-child-items.ensures.value c.child-item.result c.child-item.is c.loop-child-test.true
+      (λ t ts. crosses (only_name c.args.name) (names t)) (λ t ts l. lacks_rest c.args.name t ts l) (λ t ts x y. crosses_right (only_name c.args.name) t ts x y)
+      c.join_name.new.graph c.join_name.ensures.vertices c.join_name.ensures.edges,
   subst (λ s. Has s c.args.name) (sym c.join_name.ensures.vertices) c.loop-child.invariant.1,
 )
 

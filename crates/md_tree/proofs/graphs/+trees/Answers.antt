@@ -1,8 +1,8 @@
-use Rattle.std.proofs.Common.{rules, ◌≡◌, ℕ, Bool, ◌||◌, sym, ◌∙◌, ap, subst}
+use Rattle.std.proofs.Common.{rules, ℕ, Bool, ◌||◌, sym, ◌∙◌, ap, subst}
 use Rattle.md_graph.specs.PlainGraph.{adjacent}
-use Rattle.md_modules.specs.Sets.{NameSet, Has, Within, Disjoint, only_name}
+use Rattle.md_modules.specs.Sets.{NameSet, Has, Within, Disjoint}
 use Rattle.md_modules.proofs.Sets.{only_has, union_left, union_right}
-use Rattle.md_tree.specs.Trees.{PlainTree, PlainTrees, one_more, names, names_below}
+use Rattle.md_tree.specs.Trees.{PlainTrees, names, names_below}
 use Rattle.md_tree.specs.Plain.{plain}
 use Rattle.md_tree.specs.TreeEdges.{crosses}
 use Rattle.md_tree.specs.declared.Tree.{the_lemmas}
@@ -52,12 +52,12 @@ join_below-join_trees-requires t c = (
   search (rules, the_lemmas),
   (
     loop_child (F (names (plain c.args.right.now))) (P (names (plain c.args.right.now))) c.args.graph.now c.loop-child.graph c.args.children.now.list.items c.loop-child.child-index c.loop-child.invariant.0
-    c.deref-child-items.result.now c.deref-child-items.ensures.value c.child-item.result c.child-item.is c.loop-child-test.true,
+        c.deref-child-items.result.now c.deref-child-items.ensures.value c.child-item.result c.child-item.is c.loop-child-test.true,
     (
       c.loop-child.invariant.1,
       λ x h. loop_others (F (names (plain c.args.right.now))) (P (names (plain c.args.right.now))) c.args.graph.now c.loop-child.graph c.args.children.now.list.items c.loop-child.child-index c.loop-child.invariant.0
-      c.deref-child-items.result.now c.deref-child-items.ensures.value c.child-item.result c.child-item.is c.loop-child-test.true x
-      (union_left (names (plain c.child-item.result)) _ x h),
+          c.deref-child-items.result.now c.deref-child-items.ensures.value c.child-item.result c.child-item.is c.loop-child-test.true x
+          (union_left (names (plain c.child-item.result)) _ x h),
     ),
   ),
 )
@@ -65,9 +65,9 @@ join_below-join_trees-requires t c = (
 pub join_below-loop-child-preserved : goal.join_below-loop-child-preserved
 join_below-loop-child-preserved t c = (
   loop_step (F (names (plain c.args.right.now))) (P (names (plain c.args.right.now))) c.args.graph.now c.loop-child.graph c.args.children.now.list.items c.loop-child.child-index c.loop-child.invariant.0
-  c.deref-child-items.result.now c.deref-child-items.ensures.value c.child-item.result c.child-item.is c.loop-child-test.true
-  (λ t ts. crosses (names t) (names (plain c.args.right.now))) (λ t ts l x h. l x (union_right (names t) (names_below ts) x h)) (λ t ts x y. crosses_left (names (plain c.args.right.now)) t ts x y)
-  c.join_trees.new.graph c.join_trees.ensures.vertices c.join_trees.ensures.edges,
+      c.deref-child-items.result.now c.deref-child-items.ensures.value c.child-item.result c.child-item.is c.loop-child-test.true
+      (λ t ts. crosses (names t) (names (plain c.args.right.now))) (λ t ts l x h. l x (union_right (names t) (names_below ts) x h)) (λ t ts x y. crosses_left (names (plain c.args.right.now)) t ts x y)
+      c.join_trees.new.graph c.join_trees.ensures.vertices c.join_trees.ensures.edges,
   subst (Within (names (plain c.args.right.now))) (sym c.join_trees.ensures.vertices) c.loop-child.invariant.1,
 )
 

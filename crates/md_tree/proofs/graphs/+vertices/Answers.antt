@@ -1,12 +1,11 @@
-use Rattle.std.proofs.Common.{rules, ◌≡◌, ℕ, ◌<◌, sym, ◌∙◌, ap, subst}
+use Rattle.std.proofs.Common.{rules, sym, ◌∙◌, ap, subst}
 use Rattle.std.specs.FinSet.{union}
 use Rattle.md_graph.specs.declared.TheConstants.{NAMES}
 use Rattle.md_graph.specs.NameSet.{AllBelow}
-use Rattle.md_modules.specs.Sets.{Has, Disjoint, only_name}
+use Rattle.md_modules.specs.Sets.{Has, Disjoint}
 use Rattle.md_modules.proofs.Sets.{only_has}
-use Rattle.md_tree.specs.Trees.{names, EachNode}
+use Rattle.md_tree.specs.Trees.{EachNode}
 use Rattle.md_tree.specs.WellFormed.{IsCanonicalNode}
-use Rattle.md_tree.specs.Plain.{plain}
 use Rattle.md_tree.specs.declared.Tree.{the_lemmas}
 use Rattle.md_tree.proofs.Plain.{plain_is_node, names_leaf, names_node}
 use Rattle.md_tree.proofs.Loops.{names_child_below, names_child_absent, names_child_canonical, names_step, names_end, insert_is_union}
@@ -48,12 +47,12 @@ add_names_below-add_names-requires t c = (
   search (rules, the_lemmas),
   (
     names_child_below c.args.graph.now c.loop-child.graph c.args.children.now.list.items c.loop-child.child-index c.loop-child.invariant
-    c.deref-child-items.result.now c.deref-child-items.ensures.value c.child-item.result c.child-item.is c.loop-child-test.true,
+        c.deref-child-items.result.now c.deref-child-items.ensures.value c.child-item.result c.child-item.is c.loop-child-test.true,
     (
       names_child_absent c.args.graph.now c.loop-child.graph c.args.children.now.list.items c.loop-child.child-index c.loop-child.invariant
-      c.deref-child-items.result.now c.deref-child-items.ensures.value c.child-item.result c.child-item.is c.loop-child-test.true,
+          c.deref-child-items.result.now c.deref-child-items.ensures.value c.child-item.result c.child-item.is c.loop-child-test.true,
       names_child_canonical c.args.graph.now c.loop-child.graph c.args.children.now.list.items c.loop-child.child-index c.loop-child.invariant
-      c.deref-child-items.result.now c.deref-child-items.ensures.value c.child-item.result c.child-item.is c.loop-child-test.true,
+          c.deref-child-items.result.now c.deref-child-items.ensures.value c.child-item.result c.child-item.is c.loop-child-test.true,
     ),
   ),
 )

@@ -1,4 +1,4 @@
-use Rattle.std.proofs.Common.{◌≡◌, sym, ◌∙◌, ap, subst}
+use Rattle.std.proofs.Common.{sym, ◌∙◌, ap, subst}
 use Rattle.md_graph.specs.PlainGraph.{adjacent}
 use Rattle.md_modules.specs.Sets.{Has, Lacks}
 use Rattle.md_modules.proofs.Sets.{empty_lacks, union_right}

@@ -1,4 +1,4 @@
-use Rattle.std.proofs.Common.{◌≡◌, ℕ, ◌+◌, refl}
+use Rattle.std.proofs.Common.{refl}
 use Rattle.md_tree.specs.Trees.{names, names_below}
 use Rattle.md_tree.specs.WellFormed.{AreApart}
 use Rattle.md_tree.specs.TreeEdges.{crosses, in_two}

@@ -1,6 +1,5 @@
-use Rattle.std.proofs.Common.{◌≡◌, ℕ, Bool, drop, sym, subst}
+use Rattle.std.proofs.Common.{ℕ, Bool, drop, sym, subst}
 use Rattle.md_modules.specs.Sets.{NameSet, Within, Disjoint}
-use Rattle.md_modules.proofs.Sets.{union_left, union_right}
 use Rattle.md_tree.specs.Trees.{PlainTrees, names, names_below}
 use Rattle.md_tree.specs.Plain.{plain}
 use Rattle.md_tree.specs.TreeEdges.{crosses}
@@ -29,9 +28,9 @@ join_trees-requires-clause-apart c =
 pub loop-later-preserved : goal.loop-later-preserved
 loop-later-preserved c = (
   loop_step (F (names (plain c.args.tree.now))) (P (names (plain c.args.tree.now))) c.args.graph.now c.loop-later.graph (drop c.args.from c.args.children.now.list.items) c.loop-later.later-index c.loop-later.invariant.0
-  _ (later_items c.deref.result.now c.args.children.now.list.items c.args.from c.deref.ensures.value) c.later-item.result c.later-item.is c.loop-later-test.true
-  (λ t ts. crosses (names (plain c.args.tree.now)) (names t)) (λ t ts l. disjoint_rest (names (plain c.args.tree.now)) t ts l) (λ t ts x y. crosses_right (names (plain c.args.tree.now)) t ts x y)
-  c.join_trees.new.graph c.join_trees.ensures.vertices c.join_trees.ensures.edges,
+      _ (later_items c.deref.result.now c.args.children.now.list.items c.args.from c.deref.ensures.value) c.later-item.result c.later-item.is c.loop-later-test.true
+      (λ t ts. crosses (names (plain c.args.tree.now)) (names t)) (λ t ts l. disjoint_rest (names (plain c.args.tree.now)) t ts l) (λ t ts x y. crosses_right (names (plain c.args.tree.now)) t ts x y)
+      c.join_trees.new.graph c.join_trees.ensures.vertices c.join_trees.ensures.edges,
   subst (Within (names (plain c.args.tree.now))) (sym c.join_trees.ensures.vertices) c.loop-later.invariant.1,
 )
 

@@ -1,9 +1,8 @@
-use Rattle.std.proofs.Common.{rules, ◌≡◌, ℕ, ◌+◌, ◌<◌, List, length, get_or, map, vec_len, sym, ◌∙◌, subst, arith}
+use Rattle.std.proofs.Common.{◌≡◌, ◌<◌, length, get_or, map, vec_len, sym, ◌∙◌, subst, arith}
 use Rattle.md_modules.specs.Sets.{Within}
 use Rattle.md_tree.specs.declared.Pair.{Pair}
 use Rattle.md_tree.specs.Trees.{names, names_below, count, row}
 use Rattle.md_tree.specs.Plain.{plain}
-use Rattle.md_tree.proofs.Loops.{count_row}
 use Rattle.md_tree.proofs.Denoted.{listed_at, at_listed, at_apart, at_within, pair_step, places}
 use Rattle.md_tree.proofs.graphs.join_listed.Goals as goal
 
@@ -54,8 +53,8 @@ loop-pair-preserved c =
     (listed_at c.deref-pair-items.result.now c.args.edges.now.list.items c.loop-pair.pair-index none c.deref-pair-items.ensures.value c.loop-pair-test.true) in (
       c.join_trees.ensures.vertices ∙ c.loop-pair.invariant.0,
       pair_step (row (map plain c.args.children.now.list.items)) c.deref-pair-items.result.now c.args.edges.now.list.items c.loop-pair.pair-index none c.args.graph.now c.loop-pair.graph c.join_trees.new.graph
-      (names (plain c.index.result.now)) (names (plain c.index-in-loop-pair.result.now)) c.deref-pair-items.ensures.value c.loop-pair-test.true
-      (at_listed c.args.children.now.list.items (get_or c.deref-pair-items.result.now c.loop-pair.pair-index none).low c.index.result.now c.index.ensures (places c.args.children.now.list.items (get_or c.deref-pair-items.result.now c.loop-pair.pair-index none) p).0)
-      (at_listed c.args.children.now.list.items (get_or c.deref-pair-items.result.now c.loop-pair.pair-index none).high c.index-in-loop-pair.result.now c.index-in-loop-pair.ensures (places c.args.children.now.list.items (get_or c.deref-pair-items.result.now c.loop-pair.pair-index none) p).1)
-      c.join_trees.ensures.edges c.loop-pair.invariant.1,
+          (names (plain c.index.result.now)) (names (plain c.index-in-loop-pair.result.now)) c.deref-pair-items.ensures.value c.loop-pair-test.true
+          (at_listed c.args.children.now.list.items (get_or c.deref-pair-items.result.now c.loop-pair.pair-index none).low c.index.result.now c.index.ensures (places c.args.children.now.list.items (get_or c.deref-pair-items.result.now c.loop-pair.pair-index none) p).0)
+          (at_listed c.args.children.now.list.items (get_or c.deref-pair-items.result.now c.loop-pair.pair-index none).high c.index-in-loop-pair.result.now c.index-in-loop-pair.ensures (places c.args.children.now.list.items (get_or c.deref-pair-items.result.now c.loop-pair.pair-index none) p).1)
+          c.join_trees.ensures.edges c.loop-pair.invariant.1,
     )

@@ -1,4 +1,4 @@
-use Rattle.std.proofs.Common.{◌≡◌, sym, ◌∙◌}
+use Rattle.std.proofs.Common.{sym, ◌∙◌}
 use Rattle.md_tree.proofs.Edges.{edge_known}
 use Rattle.md_tree.proofs.graphs.join_two.Goals as goal
 

@@ -1,5 +1,5 @@
 -- A `u32` has at most ten digits.
-use Rattle.std.proofs.Common.{◌≡◌, ◌<◌, ◌≤◌, ◌^◌, length, arith}
+use Rattle.std.proofs.Common.{◌≡◌, ◌<◌, ◌≤◌, length, arith}
 use Rattle.md_text.specs.Numbers.{decimal}
 use Rattle.md_text.proofs.NumberLemmas.{length-decimal-le}
 use Rattle.md_tree.proofs.writer.push_number.Goals as goal
