@@ -1,0 +1,15 @@
+pub mod Lists
+pub mod Loops
+pub mod Nodes
+pub mod Built
+pub mod Unique
+pub mod Pairs
+pub mod Exists
+pub mod Canonical
+pub mod Graph
+pub mod OneTree
+pub mod Texts
+pub mod Plain
+pub mod Written
+pub mod Edges
+pub mod Denoted

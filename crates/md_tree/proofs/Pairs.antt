@@ -1,0 +1,133 @@
+-- The list of the pairs of positions that pass a test.
+use Rattle.std.proofs.Common.{◌≡◌, ℕ, zero, suc, ◌+◌, ◌<◌, ◌≤◌, Bool, true, false, ◌⊎◌, List, [], ◌∷◌, ◌++◌, refl, sym, subst, inl, inr, true≢false, arith}
+use Rattle.md_tree.specs.declared.Pair.{Pair}
+use Rattle.md_tree.specs.StrongTrees.{IsPairBefore}
+use Rattle.md_tree.proofs.Lists.{In, Later, in_left, in_right, of_append, later_append}
+
+abbrev pub pair : ℕ → ℕ → Pair
+pair i j = record { low = i; high = j }
+
+-- a pair before the list, where the test is true
+abbrev put : Bool → Pair → List Pair → List Pair
+put true p ps = p ∷ ps
+put false p ps = ps
+
+of_put : (b : Bool) (p q : Pair) (ps : List Pair) → In (put b p ps) q → ((q ≡ p) × (b ≡ true)) ⊎ In ps q
+of_put true p q ps (inl e) = inl (e, refl)
+of_put true p q ps (inr i) = inr i
+of_put false p q ps i = inr i
+
+put_first : (b : Bool) (p : Pair) (ps : List Pair) → b ≡ true → In (put b p ps) p
+put_first true p ps h = inl refl
+put_first false p ps h = absurd (true≢false (sym h))
+
+put_rest : (b : Bool) (p q : Pair) (ps : List Pair) → In ps q → In (put b p ps) q
+put_rest true p q ps i = inr i
+put_rest false p q ps i = i
+
+later_put : (b : Bool) (p : Pair) (ps : List Pair) → Later IsPairBefore ps → ((q : Pair) → In ps q → IsPairBefore p q) → Later IsPairBefore (put b p ps)
+later_put true p ps l f = (f, l)
+later_put false p ps l f = l
+
+module _ (test : ℕ → ℕ → Bool) where
+  -- those of the n pairs (i, j), (i, j + 1), .. that pass
+  abbrev row : ℕ → ℕ → ℕ → List Pair
+  row i j zero = []
+  row i j (suc n) = put (test i j) (pair i j) (row i (suc j) n)
+
+  record IsRowPair (i j n : ℕ) (p : Pair) : Type 0 where
+    low : p.low ≡ i
+    from : j ≤ p.high
+    below : p.high < j + n
+    passes : test p.low p.high ≡ true
+
+  of_row : (i j n : ℕ) (p : Pair) → In (row i j n) p → IsRowPair i j n p
+  of_row i j zero p h = absurd h
+  of_row i j (suc n) p h = elim (of_put (test i j) (pair i j) p (row i (suc j) n) h) [
+    | inl f ↦ subst (IsRowPair i j (suc n)) (sym f.0) (record { low = refl; from = omega arith; below = omega arith; passes = f.1 })
+    | inr k ↦ (
+        let r : IsRowPair i (suc j) n p = of_row i (suc j) n p k in
+        let a : suc j ≤ p.high = r.from in
+        let b : p.high < suc j + n = r.below in
+        record { low = r.low; from = omega arith; below = omega arith; passes = r.passes })
+  ]
+
+  to_row : (i j n k : ℕ) → j ≤ k → k < j + n → test i k ≡ true → In (row i j n) (pair i k)
+  to_row i j zero k a b h = absurd (omega arith)
+  to_row i j (suc n) k a b h = elim (same_or_later j k a) [
+    | inl e ↦ subst (λ w. In (row i j (suc n)) (pair i w)) e (put_first (test i j) (pair i j) (row i (suc j) n) (subst (λ w. test i w ≡ true) (sym e) h))
+    | inr l ↦ put_rest (test i j) (pair i j) (pair i k) (row i (suc j) n) (to_row i (suc j) n k (omega arith) (omega arith) h)
+  ] where
+    same_or_later : (j k : ℕ) → j ≤ k → (j ≡ k) ⊎ (j < k)
+    same_or_later zero zero l = inl refl
+    same_or_later zero (suc k) l = inr (omega arith)
+    same_or_later (suc j) zero l = absurd (omega arith)
+    same_or_later (suc j) (suc k) l = elim (same_or_later j k (omega arith)) [ inl e ↦ inl (omega arith) | inr m ↦ inr (omega arith) ]
+
+  row_ascends : (i j n : ℕ) → Later IsPairBefore (row i j n)
+  row_ascends i j zero = tt
+  row_ascends i j (suc n) =
+      later_put (test i j) (pair i j) (row i (suc j) n) (row_ascends i (suc j) n)
+      (λ q h. let r : IsRowPair i (suc j) n q = of_row i (suc j) n q h in let a : suc j ≤ q.high = r.from in inr (sym r.low, (omega arith)))
+
+  -- the rows i, i + 1, .., n in number, of m pairs each
+  abbrev rows : ℕ → ℕ → ℕ → List Pair
+  rows i zero m = []
+  rows i (suc n) m = row i 0 m ++ rows (suc i) n m
+
+  record IsRowsPair (i n m : ℕ) (p : Pair) : Type 0 where
+    from : i ≤ p.low
+    below : p.high < m
+    passes : test p.low p.high ≡ true
+
+  of_rows : (i n m : ℕ) (p : Pair) → In (rows i n m) p → IsRowsPair i n m p
+  of_rows i zero m p h = absurd h
+  of_rows i (suc n) m p h = elim (of_append (row i 0 m) (rows (suc i) n m) p h) [
+    | inl f ↦ (
+        let r : IsRowPair i 0 m p = of_row i 0 m p f in
+        let a : p.low ≡ i = r.low in
+        let b : p.high < 0 + m = r.below in
+        record { from = omega arith; below = omega arith; passes = r.passes })
+    | inr k ↦ (
+        let r : IsRowsPair (suc i) n m p = of_rows (suc i) n m p k in
+        let a : suc i ≤ p.low = r.from in
+        record { from = omega arith; below = r.below; passes = r.passes })
+  ]
+
+  to_rows : (i n m j k : ℕ) → i ≤ j → j < i + n → k < m → test j k ≡ true → In (rows i n m) (pair j k)
+  to_rows i zero m j k a b c h = absurd (omega arith)
+  to_rows i (suc n) m j k a b c h = elim (same_or_above i j a) [
+    | inl e ↦ in_left (row i 0 m) (rows (suc i) n m) (pair j k)
+        (subst (λ w. In (row i 0 m) (pair w k)) e (to_row i 0 m k (omega arith) (omega arith) (subst (λ w. test w k ≡ true) (sym e) h)))
+    | inr l ↦ in_right (row i 0 m) (rows (suc i) n m) (pair j k) (to_rows (suc i) n m j k (omega arith) (omega arith) c h)
+  ] where
+    same_or_above : (i j : ℕ) → i ≤ j → (i ≡ j) ⊎ (i < j)
+    same_or_above zero zero l = inl refl
+    same_or_above zero (suc k) l = inr (omega arith)
+    same_or_above (suc j) zero l = absurd (omega arith)
+    same_or_above (suc j) (suc k) l = elim (same_or_above j k (omega arith)) [ inl e ↦ inl (omega arith) | inr m ↦ inr (omega arith) ]
+
+  rows_ascend : (i n m : ℕ) → Later IsPairBefore (rows i n m)
+  rows_ascend i zero m = tt
+  rows_ascend i (suc n) m =
+      later_append IsPairBefore (row i 0 m) (rows (suc i) n m) (row_ascends i 0 m) (rows_ascend (suc i) n m)
+      (λ p q h k.
+      let a : p.low ≡ i = (of_row i 0 m p h).low in
+      let b : suc i ≤ q.low = (of_rows (suc i) n m q k).from in
+      inl (omega arith))
+
+  -- the pairs of numbers below n that pass, ascending
+  pub passing : ℕ → List Pair
+  passing n = rows 0 n n
+
+  pub passing_ascends : (n : ℕ) → Later IsPairBefore (passing n)
+  unfolding passing
+  passing_ascends n = rows_ascend 0 n n
+
+  pub of_passing : (n : ℕ) (p : Pair) → In (passing n) p → test p.low p.high ≡ true
+  unfolding passing
+  of_passing n p h = (of_rows 0 n n p h).passes
+
+  pub to_passing : (n : ℕ) (p : Pair) → p.low < n → p.high < n → test p.low p.high ≡ true → In (passing n) p
+  unfolding passing
+  to_passing n p a b h = to_rows 0 n n p.low p.high (omega arith) (omega arith) b h

@@ -1,0 +1,226 @@
+-- A text that begins with the text of a tree tells the tree and where it ends.
+use Rattle.std.proofs.Common.{◌≡◌, ◌≢◌, ℕ, suc, ◌<◌, ◌≤◌, ◌⊎◌, List, [], ◌∷◌, ◌++◌, length, All, Some, None, codes, append_assoc, append-nil, refl, sym, ◌∙◌, ap, subst, inl, inr, arith}
+use Rattle.std.specs.Prelude.{⊤}
+use Rattle.md_text.specs.Numbers.{decimal}
+use Rattle.md_text.proofs.NumberLemmas.{decimal_is_canonical, decimal_injective, decimal_is_digits}
+use Rattle.md_tree.specs.declared.Kind.{Kind}
+use Rattle.md_tree.specs.declared.Kind.TheVariants.{Parallel, Series, Prime}
+use Rattle.md_tree.specs.declared.Pair.{Pair}
+use Rattle.md_tree.specs.Trees.{PlainTree, leaf, node, PlainTrees, no_tree, one_more}
+use Rattle.md_tree.specs.TreeTexts.{letter, pairs_text, tree_text, row_text}
+use Rattle.md_tree.specs.Laws.{OneTreeOneText}
+
+abbrev IsDigit : ℕ → Type 0
+IsDigit b = (48 ≤ b) × (b ≤ 57)
+
+-- the text is empty or begins with a byte that is no digit
+abbrev pub Stops : List ℕ → Type 0
+Stops [] = ⊤
+Stops (b ∷ r) = ¬ (IsDigit b)
+
+-- the text begins with the byte that ends a row of trees
+abbrev Ends : List ℕ → Type 0
+Ends [] = ⊥
+Ends (b ∷ r) = (b ≡ 41) ⊎ (b ≡ 59)
+
+abbrev AllDigits : List ℕ → Type 0
+AllDigits [] = ⊤
+AllDigits (b ∷ r) = IsDigit b × AllDigits r
+
+to_digits : (xs : List ℕ) → All IsDigit xs → AllDigits xs
+to_digits [] all = tt
+to_digits (x ∷ xs) all = (
+  all 0 0 (let b : 0 < suc (length xs) = omega arith in b),
+  to_digits xs (λ k d h. all (suc k) d (let b : k < length xs = h in let c : suc k < suc (length xs) = omega arith in c)),
+)
+
+digits_of : (n : ℕ) → AllDigits (decimal n)
+digits_of n = to_digits (decimal n) (decimal_is_digits n)
+
+-- digits before what is no digit
+same_digits : (xs ys r s : List ℕ) → AllDigits xs → AllDigits ys → Stops r → Stops s → xs ++ r ≡ ys ++ s → (xs ≡ ys) × (r ≡ s)
+same_digits [] [] r s a b p q e = (refl, e)
+same_digits [] (y ∷ ys) [] s a b p q e = let f : [] ≡ y ∷ (ys ++ s) = e in cc
+same_digits [] (y ∷ ys) (c ∷ r) s a b p q e =
+    let f : c ∷ r ≡ y ∷ (ys ++ s) = e in
+    let g : c ≡ y = cc in
+    absurd (p (subst IsDigit (sym g) b.0))
+same_digits (x ∷ xs) [] r [] a b p q e = let f : x ∷ (xs ++ r) ≡ [] = e in cc
+same_digits (x ∷ xs) [] r (c ∷ s) a b p q e =
+    let f : x ∷ (xs ++ r) ≡ c ∷ s = e in
+    let g : x ≡ c = cc in
+    absurd (q (subst IsDigit g a.0))
+same_digits (x ∷ xs) (y ∷ ys) r s a b p q e =
+    let f : x ∷ (xs ++ r) ≡ y ∷ (ys ++ s) = e in
+    let g : x ≡ y = cc in
+    let h : xs ++ r ≡ ys ++ s = cc in
+    let i : (xs ≡ ys) × (r ≡ s) = same_digits xs ys r s a.1 b.1 p q h in
+    let j : xs ≡ ys = i.0 in
+    (cc, i.1)
+
+same_number : (m n : ℕ) (r s : List ℕ) → Stops r → Stops s → decimal m ++ r ≡ decimal n ++ s → (m ≡ n) × (r ≡ s)
+same_number m n r s p q e =
+    let i : (decimal m ≡ decimal n) × (r ≡ s) = same_digits (decimal m) (decimal n) r s (digits_of m) (digits_of n) p q e in
+    (decimal_injective m n i.0, i.1)
+
+-- digits before a text, where the first byte is another one
+first_digit : (xs r : List ℕ) (b : ℕ) (s : List ℕ) → 0 < length xs → AllDigits xs → xs ++ r ≡ b ∷ s → IsDigit b
+first_digit [] r b s some a e = let l : 0 < 0 = some in absurd (omega arith)
+first_digit (x ∷ xs) r b s some a e =
+    let f : x ∷ (xs ++ r) ≡ b ∷ s = e in
+    let g : x ≡ b = cc in
+    subst IsDigit g a.0
+
+number_first : (n : ℕ) (r : List ℕ) (b : ℕ) (s : List ℕ) → decimal n ++ r ≡ b ∷ s → IsDigit b
+number_first n r b s e = first_digit (decimal n) r b s (decimal_is_canonical n).0.some_digit (digits_of n) e
+
+same_letter : (k l : Kind) → letter k ≡ letter l → k ≡ l
+same_letter Parallel Parallel e = refl
+same_letter Parallel Series e = let f : ◌≡◌ {A = ℕ} 80 83 = e in absurd (omega arith)
+same_letter Parallel Prime e = let f : ◌≡◌ {A = ℕ} 80 82 = e in absurd (omega arith)
+same_letter Series Parallel e = let f : ◌≡◌ {A = ℕ} 83 80 = e in absurd (omega arith)
+same_letter Series Series e = refl
+same_letter Series Prime e = let f : ◌≡◌ {A = ℕ} 83 82 = e in absurd (omega arith)
+same_letter Prime Parallel e = let f : ◌≡◌ {A = ℕ} 82 80 = e in absurd (omega arith)
+same_letter Prime Series e = let f : ◌≡◌ {A = ℕ} 82 83 = e in absurd (omega arith)
+same_letter Prime Prime e = refl
+
+letter_large : (k : Kind) → 80 ≤ letter k
+letter_large Parallel = omega arith
+letter_large Series = omega arith
+letter_large Prime = omega arith
+
+letter_below : (k : Kind) → letter k < 90
+letter_below Parallel = omega arith
+letter_below Series = omega arith
+letter_below Prime = omega arith
+
+stops_at : (b : ℕ) (r : List ℕ) → (b < 48) ⊎ (57 < b) → Stops (b ∷ r)
+stops_at b r (inl l) d = let p : 48 ≤ b = d.0 in omega arith
+stops_at b r (inr l) d = let p : b ≤ 57 = d.1 in omega arith
+
+-- pairs before a closing bracket
+pairs_stop : (ps : List Pair) (r : List ℕ) → Stops (pairs_text 44 ps ++ 41 ∷ r)
+pairs_stop [] r = stops_at 41 r (inl (omega arith))
+pairs_stop (p ∷ ps) r = stops_at 44 ((decimal p.low ++ 45 ∷ (decimal p.high ++ pairs_text 44 ps)) ++ 41 ∷ r) (inl (omega arith))
+
+pair_spelled : (mark : ℕ) (p : Pair) (ps : List Pair) (r : List ℕ) →
+    pairs_text mark (p ∷ ps) ++ r ≡ mark ∷ (decimal p.low ++ 45 ∷ (decimal p.high ++ (pairs_text 44 ps ++ r)))
+pair_spelled mark p ps r =
+    ap (λ w. mark ∷ w) (append_assoc (decimal p.low) (45 ∷ (decimal p.high ++ pairs_text 44 ps)) r
+    ∙ ap (λ w. decimal p.low ++ 45 ∷ w) (append_assoc (decimal p.high) (pairs_text 44 ps) r))
+
+same_pairs : (mark : ℕ) (ps qs : List Pair) (r s : List ℕ) → mark ≢ 41 → pairs_text mark ps ++ 41 ∷ r ≡ pairs_text mark qs ++ 41 ∷ s → (ps ≡ qs) × (r ≡ s)
+same_pairs mark [] [] r s n e = let f : 41 ∷ r ≡ 41 ∷ s = e in (refl, cc)
+same_pairs mark [] (q ∷ qs) r s n e =
+    let f : 41 ∷ r ≡ mark ∷ (decimal q.low ++ 45 ∷ (decimal q.high ++ (pairs_text 44 qs ++ 41 ∷ s))) = e ∙ pair_spelled mark q qs (41 ∷ s) in
+    let g : mark ≡ 41 = cc in
+    absurd (n g)
+same_pairs mark (p ∷ ps) [] r s n e =
+    let f : 41 ∷ s ≡ mark ∷ (decimal p.low ++ 45 ∷ (decimal p.high ++ (pairs_text 44 ps ++ 41 ∷ r))) = sym e ∙ pair_spelled mark p ps (41 ∷ r) in
+    let g : mark ≡ 41 = cc in
+    absurd (n g)
+same_pairs mark (p ∷ ps) (q ∷ qs) r s n e =
+    let f : mark ∷ (decimal p.low ++ 45 ∷ (decimal p.high ++ (pairs_text 44 ps ++ 41 ∷ r))) ≡ mark ∷ (decimal q.low ++ 45 ∷ (decimal q.high ++ (pairs_text 44 qs ++ 41 ∷ s))) =
+    sym (pair_spelled mark p ps (41 ∷ r)) ∙ e ∙ pair_spelled mark q qs (41 ∷ s) in
+    let g : decimal p.low ++ 45 ∷ (decimal p.high ++ (pairs_text 44 ps ++ 41 ∷ r)) ≡ decimal q.low ++ 45 ∷ (decimal q.high ++ (pairs_text 44 qs ++ 41 ∷ s)) = cc in
+    let low : (p.low ≡ q.low) × (45 ∷ (decimal p.high ++ (pairs_text 44 ps ++ 41 ∷ r)) ≡ 45 ∷ (decimal q.high ++ (pairs_text 44 qs ++ 41 ∷ s))) =
+    same_number p.low q.low (45 ∷ (decimal p.high ++ (pairs_text 44 ps ++ 41 ∷ r))) (45 ∷ (decimal q.high ++ (pairs_text 44 qs ++ 41 ∷ s)))
+    (stops_at 45 (decimal p.high ++ (pairs_text 44 ps ++ 41 ∷ r)) (inl (omega arith))) (stops_at 45 (decimal q.high ++ (pairs_text 44 qs ++ 41 ∷ s)) (inl (omega arith))) g in
+    let h : 45 ∷ (decimal p.high ++ (pairs_text 44 ps ++ 41 ∷ r)) ≡ 45 ∷ (decimal q.high ++ (pairs_text 44 qs ++ 41 ∷ s)) = low.1 in
+    let i : decimal p.high ++ (pairs_text 44 ps ++ 41 ∷ r) ≡ decimal q.high ++ (pairs_text 44 qs ++ 41 ∷ s) = cc in
+    let high : (p.high ≡ q.high) × (pairs_text 44 ps ++ 41 ∷ r ≡ pairs_text 44 qs ++ 41 ∷ s) =
+    same_number p.high q.high (pairs_text 44 ps ++ 41 ∷ r) (pairs_text 44 qs ++ 41 ∷ s) (pairs_stop ps r) (pairs_stop qs s) i in
+    let others : (ps ≡ qs) × (r ≡ s) = same_pairs 44 ps qs r s (λ w. omega arith) high.1 in
+    let j : p ≡ q = λ n. record { low = low.0 n; high = high.0 n } in
+    let k : ps ≡ qs = others.0 in
+    (cc, others.1)
+
+-- trees before a semicolon or a closing bracket
+row_stops : (ts : PlainTrees) (r : List ℕ) → Ends r → Stops (row_text 44 ts ++ r)
+row_stops no_tree [] ends = absurd ends
+row_stops no_tree (b ∷ r) (inl e) = stops_at b r (inl (omega arith))
+row_stops no_tree (b ∷ r) (inr e) = stops_at b r (inr (omega arith))
+row_stops (one_more t ts) r ends = stops_at 44 ((tree_text t ++ row_text 44 ts) ++ r) (inl (omega arith))
+
+mark_is_no_end : (mark : ℕ) (r xs : List ℕ) → (mark ≡ 40) ⊎ (mark ≡ 44) → Ends r → r ≡ mark ∷ xs → ⊥
+mark_is_no_end mark [] xs m ends e = ends
+mark_is_no_end mark (b ∷ r) xs m ends e =
+    let f : b ≡ mark = cc in
+    elim m [
+      | inl p ↦ elim ends [ inl q ↦ omega arith | inr q ↦ omega arith ]
+      | inr p ↦ elim ends [ inl q ↦ omega arith | inr q ↦ omega arith ]
+    ]
+
+pairs_end : (ps : List Pair) (r : List ℕ) → Ends (pairs_text 59 ps ++ 41 ∷ r)
+pairs_end [] r = inl refl
+pairs_end (p ∷ ps) r = inr refl
+
+node_spelled : (k : Kind) (cs : PlainTrees) (ps : List Pair) (r : List ℕ) →
+    tree_text (node k cs ps) ++ r ≡ letter k ∷ (row_text 40 cs ++ (pairs_text 59 ps ++ 41 ∷ r))
+node_spelled k cs ps r =
+    ap (λ w. letter k ∷ w) (append_assoc (row_text 40 cs) (pairs_text 59 ps ++ 41 ∷ []) r
+    ∙ ap (λ w. row_text 40 cs ++ w) (append_assoc (pairs_text 59 ps) (41 ∷ []) r))
+
+row_spelled : (mark : ℕ) (t : PlainTree) (ts : PlainTrees) (r : List ℕ) → row_text mark (one_more t ts) ++ r ≡ mark ∷ (tree_text t ++ (row_text 44 ts ++ r))
+row_spelled mark t ts r = ap (λ w. mark ∷ w) (append_assoc (tree_text t) (row_text 44 ts) r)
+
+leaf_is_no_node : (v : ℕ) (k : Kind) (r xs : List ℕ) → decimal v ++ r ≡ letter k ∷ xs → ⊥
+leaf_is_no_node v k r xs e =
+    let d : IsDigit (letter k) = number_first v r (letter k) xs e in
+    let a : letter k ≤ 57 = d.1 in
+    let b : 80 ≤ letter k = letter_large k in
+    omega arith
+
+mutual
+  pub same_text : (t u : PlainTree) (r s : List ℕ) → Stops r → Stops s → tree_text t ++ r ≡ tree_text u ++ s → (t ≡ u) × (r ≡ s)
+  same_text (leaf v) (leaf w) r s p q e = let i : (v ≡ w) × (r ≡ s) = same_number v w r s p q e in (ap leaf i.0, i.1)
+  same_text (leaf v) (node l ds qs) r s p q e = absurd (leaf_is_no_node v l r (row_text 40 ds ++ (pairs_text 59 qs ++ 41 ∷ s)) (e ∙ node_spelled l ds qs s))
+  same_text (node k cs ps) (leaf w) r s p q e = absurd (leaf_is_no_node w k s (row_text 40 cs ++ (pairs_text 59 ps ++ 41 ∷ r)) (sym e ∙ node_spelled k cs ps r))
+  same_text (node k cs ps) (node l ds qs) r s p q e =
+      let f : letter k ∷ (row_text 40 cs ++ (pairs_text 59 ps ++ 41 ∷ r)) ≡ letter l ∷ (row_text 40 ds ++ (pairs_text 59 qs ++ 41 ∷ s)) =
+      sym (node_spelled k cs ps r) ∙ e ∙ node_spelled l ds qs s in
+      let g : letter k ≡ letter l = cc in
+      let h : row_text 40 cs ++ (pairs_text 59 ps ++ 41 ∷ r) ≡ row_text 40 ds ++ (pairs_text 59 qs ++ 41 ∷ s) = cc in
+      let kinds : k ≡ l = same_letter k l g in
+      let rows : (cs ≡ ds) × (pairs_text 59 ps ++ 41 ∷ r ≡ pairs_text 59 qs ++ 41 ∷ s) =
+      same_row 40 cs ds (pairs_text 59 ps ++ 41 ∷ r) (pairs_text 59 qs ++ 41 ∷ s) (inl refl) (pairs_end ps r) (pairs_end qs s) h in
+      let lists : (ps ≡ qs) × (r ≡ s) = same_pairs 59 ps qs r s (λ w. omega arith) rows.1 in
+      let a : cs ≡ ds = rows.0 in
+      let b : ps ≡ qs = lists.0 in
+      (cc, lists.1)
+
+  same_row : (mark : ℕ) (ts us : PlainTrees) (r s : List ℕ) → (mark ≡ 40) ⊎ (mark ≡ 44) → Ends r → Ends s → row_text mark ts ++ r ≡ row_text mark us ++ s → (ts ≡ us) × (r ≡ s)
+  same_row mark no_tree no_tree r s m p q e = (refl, e)
+  same_row mark no_tree (one_more u us) r s m p q e =
+      absurd (mark_is_no_end mark r (tree_text u ++ (row_text 44 us ++ s)) m p (e ∙ row_spelled mark u us s))
+  same_row mark (one_more t ts) no_tree r s m p q e =
+      absurd (mark_is_no_end mark s (tree_text t ++ (row_text 44 ts ++ r)) m q (sym e ∙ row_spelled mark t ts r))
+  same_row mark (one_more t ts) (one_more u us) r s m p q e =
+      let f : mark ∷ (tree_text t ++ (row_text 44 ts ++ r)) ≡ mark ∷ (tree_text u ++ (row_text 44 us ++ s)) = sym (row_spelled mark t ts r) ∙ e ∙ row_spelled mark u us s in
+      let g : tree_text t ++ (row_text 44 ts ++ r) ≡ tree_text u ++ (row_text 44 us ++ s) = cc in
+      let first : (t ≡ u) × (row_text 44 ts ++ r ≡ row_text 44 us ++ s) =
+      same_text t u (row_text 44 ts ++ r) (row_text 44 us ++ s) (row_stops ts r p) (row_stops us s q) g in
+      let others : (ts ≡ us) × (r ≡ s) = same_row 44 ts us r s (inr refl) p q first.1 in
+      let a : t ≡ u = first.0 in
+      let b : ts ≡ us = others.0 in
+      (cc, others.1)
+
+-- the word `empty` is no tree's text
+not_empty : (t : PlainTree) → tree_text t ≡ codes "empty" → ⊥
+not_empty (leaf v) e =
+    let d : IsDigit 101 = number_first v [] 101 (codes "mpty") (append-nil (decimal v) ∙ e) in
+    let b : 101 ≤ 57 = d.1 in
+    omega arith
+not_empty (node k cs ps) e =
+    let f : letter k ∷ (row_text 40 cs ++ (pairs_text 59 ps ++ 41 ∷ [])) ≡ 101 ∷ codes "mpty" = e in
+    let g : letter k ≡ 101 = cc in
+    let b : letter k < 90 = letter_below k in
+    omega arith
+
+pub one_text_proof : OneTreeOneText
+one_text_proof None None e = refl
+one_text_proof None (Some t) e = absurd (not_empty t (sym e))
+one_text_proof (Some t) None e = absurd (not_empty t e)
+one_text_proof (Some t) (Some u) e =
+    ap Some (same_text t u [] [] tt tt (append-nil (tree_text t) ∙ e ∙ sym (append-nil (tree_text u)))).0

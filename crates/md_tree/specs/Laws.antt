@@ -1,0 +1,49 @@
+-- The laws of trees.
+use Rattle.std.specs.Prelude.{◌≡◌, ◌↔◌, ℕ, Bool, Option}
+use Rattle.md_graph.specs.declared.TheConstants.{NAMES}
+use Rattle.md_graph.specs.NameSet.{AllBelow}
+use Rattle.md_graph.specs.PlainGraph.{PlainGraph, IsGraph, adjacent}
+use Rattle.md_modules.specs.Sets.{NameSet, Has}
+use Rattle.md_modules.specs.Adjacency.{IsAdjacency}
+use Rattle.md_modules.specs.InducedPaths.{HasInducedPath}
+use Rattle.md_tree.specs.Trees.{PlainTree, names}
+use Rattle.md_tree.specs.StrongTrees.{IsTreeOf, IsTree}
+use Rattle.md_tree.specs.WellFormed.{IsCanonical, IsWellFormed, HasNoPrimeNode}
+use Rattle.md_tree.specs.TreeGraph.{adjacent_in, graph_of_tree}
+use Rattle.md_tree.specs.TreeTexts.{text_of}
+
+-- each graph has exactly one tree, none where it has no vertex
+abbrev pub OneTree : Type 0
+OneTree =
+    (e : ℕ → ℕ → Bool) → IsAdjacency e → (s : NameSet) →
+    (o : Option PlainTree) × IsTree e s o × ((p : Option PlainTree) → IsTree e s p → p ≡ o)
+
+-- the leaf set of a graph's tree is the set of its vertices, and the tree is as well-formed trees are
+abbrev pub TreeIsCanonical : Type 0
+TreeIsCanonical =
+    (e : ℕ → ℕ → Bool) → IsAdjacency e → (s : NameSet) (t : PlainTree) → IsTreeOf e s t → (names t ≡ s) × IsCanonical t
+
+-- the tree of a graph on names below the limit is well-formed
+abbrev pub TreeIsWellFormed : Type 0
+TreeIsWellFormed =
+    (e : ℕ → ℕ → Bool) → IsAdjacency e → (s : NameSet) (o : Option PlainTree) → IsTree e s o → AllBelow s NAMES → IsWellFormed o
+
+-- two vertices are adjacent in a graph exactly where they are in its tree
+abbrev pub TreeTellsGraph : Type 0
+TreeTellsGraph =
+    (e : ℕ → ℕ → Bool) → IsAdjacency e → (s : NameSet) (t : PlainTree) → IsTreeOf e s t →
+    (a b : ℕ) → Has s a → Has s b → adjacent_in t a b ≡ e a b
+
+-- a graph is the graph that its tree denotes, so that different graphs have different trees
+abbrev pub GraphOfTheTree : Type 0
+GraphOfTheTree = (g : PlainGraph) → IsGraph g → (o : Option PlainTree) → IsTree (adjacent g) g.vertices o → graph_of_tree o ≡ g
+
+-- a graph has no induced path on four names exactly where its tree has no prime node
+abbrev pub NoInducedPathIfNoPrimeNode : Type 0
+NoInducedPathIfNoPrimeNode =
+    (e : ℕ → ℕ → Bool) → IsAdjacency e → (s : NameSet) (t : PlainTree) → IsTreeOf e s t →
+    (¬ (HasInducedPath e s)) ↔ HasNoPrimeNode t
+
+-- different trees have different texts
+abbrev pub OneTreeOneText : Type 0
+OneTreeOneText = (o p : Option PlainTree) → text_of o ≡ text_of p → o ≡ p

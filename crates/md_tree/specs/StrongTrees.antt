@@ -1,0 +1,63 @@
+-- The tree of the strong modules of the graph on a set of names s with the adjacency e.
+-- Source: Habib and Paul, A survey of the algorithmic aspects of modular decomposition; the order of the children is our own.
+use Rattle.std.specs.Prelude.{◌≡◌, ◌≢◌, ◌<◌, ◌⊎◌, ◌↔◌, ℕ, Bool, true, List, [], Contains, AllPairs, Option, Some, None, ⊤}
+use Rattle.std.specs.FinSet.{empty}
+use Rattle.md_modules.specs.Sets.{NameSet, Has}
+use Rattle.md_modules.specs.Modules.{IsStrong}
+use Rattle.md_modules.specs.Kinds.{IsParallel, IsSeries, IsPrime}
+use Rattle.md_tree.specs.declared.Kind.{Kind}
+use Rattle.md_tree.specs.declared.Kind.TheVariants.{Parallel, Series, Prime}
+use Rattle.md_tree.specs.declared.Pair.{Pair}
+use Rattle.md_tree.specs.Trees.{PlainTree, PlainTrees, no_tree, one_more, names, names_below, names_at, node_sets, EachNode}
+
+-- s is of kind k
+abbrev pub HasKind : (ℕ → ℕ → Bool) → NameSet → Kind → Type 0
+HasKind e s Parallel = IsParallel e s
+HasKind e s Series = IsSeries e s
+HasKind e s Prime = IsPrime e s
+
+-- some name of s is below each name of t
+abbrev pub IsBefore : NameSet → NameSet → Type 0
+IsBefore s t = (x : ℕ) × Has s x × ((y : ℕ) → Has t y → x < y)
+
+-- the trees stand in ascending order of their least names: each has a name below all names of those after it
+abbrev pub IsInOrder : PlainTrees → Type 0
+IsInOrder no_tree = ⊤
+IsInOrder (one_more t ts) = IsBefore (names t) (names_below ts) × IsInOrder ts
+
+-- i is before j, and an edge runs between the trees at the positions i and j
+pub record IsJoined (e : ℕ → ℕ → Bool) (cs : PlainTrees) (i j : ℕ) : Type 0 where
+  pub ordered : i < j
+  pub edge : (a : ℕ) × (b : ℕ) × Has (names_at cs i) a × Has (names_at cs j) b × (e a b ≡ true)
+
+-- the one pair comes before the other, by the lower and then by the higher position
+abbrev pub IsPairBefore : Pair → Pair → Type 0
+IsPairBefore p q = (p.low < q.low) ⊎ ((p.low ≡ q.low) × (p.high < q.high))
+
+-- the list has exactly the pairs of positions between which an edge runs, each once, in ascending order
+pub record ListsJoined (e : ℕ → ℕ → Bool) (cs : PlainTrees) (ps : List Pair) : Type 0 where
+  pub ascending : AllPairs IsPairBefore ps
+  pub exactly : (p : Pair) → Contains ps p ↔ IsJoined e cs p.low p.high
+
+-- a prime node lists the pairs of its children between which an edge runs, and no other node lists pairs
+abbrev pub HasPairs : (ℕ → ℕ → Bool) → Kind → PlainTrees → List Pair → Type 0
+HasPairs e Parallel cs ps = ps ≡ []
+HasPairs e Series cs ps = ps ≡ []
+HasPairs e Prime cs ps = ListsJoined e cs ps
+
+-- a node has the kind of its leaf set, its children in order, and its pairs
+pub record IsNodeOf (e : ℕ → ℕ → Bool) (k : Kind) (cs : PlainTrees) (ps : List Pair) : Type 0 where
+  pub kind : HasKind e (names_below cs) k
+  pub order : IsInOrder cs
+  pub pairs : HasPairs e k cs ps
+
+-- t is the tree of the strong modules of s: the leaf sets of its nodes are exactly the strong modules, each once
+pub record IsTreeOf (e : ℕ → ℕ → Bool) (s : NameSet) (t : PlainTree) : Type 0 where
+  pub strong : (m : NameSet) → IsStrong e s m ↔ Contains (node_sets t) m
+  pub once : AllPairs (λ m n. m ≢ n) (node_sets t)
+  pub nodes : EachNode (IsNodeOf e) t
+
+-- the tree of the graph on s, and none where s has no member
+abbrev pub IsTree : (ℕ → ℕ → Bool) → NameSet → Option PlainTree → Type 0
+IsTree e s None = s ≡ empty
+IsTree e s (Some t) = IsTreeOf e s t

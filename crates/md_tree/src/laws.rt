@@ -1,0 +1,40 @@
+//! The laws of trees, each the contract of a function that does nothing. They speak of any set of names with a test of
+//! adjacency, and stand on no call that computes a tree.
+
+ghost use Rattle.md_tree.specs.Laws.{OneTree, TreeIsCanonical, TreeIsWellFormed, TreeTellsGraph, GraphOfTheTree, NoInducedPathIfNoPrimeNode, OneTreeOneText};
+
+/// Each graph has exactly one tree of strong modules; the graph without vertices has none in its place.
+pub fn one_tree()
+    ensures { OneTree }
+{}
+
+/// The leaves of a graph's tree are its vertices, and the tree is well-formed.
+pub fn tree_is_canonical()
+    ensures { TreeIsCanonical }
+{}
+
+/// The tree of a graph on names below the limit is well-formed.
+pub fn tree_is_well_formed()
+    ensures { TreeIsWellFormed }
+{}
+
+/// A graph is the graph that its tree denotes, so that different graphs have different trees.
+pub fn graph_of_the_tree()
+    ensures { GraphOfTheTree }
+{}
+
+/// Two vertices are adjacent in a graph exactly as its tree says: where their least common node is series, or is
+/// prime and lists the pair of the children that hold them.
+pub fn tree_tells_graph()
+    ensures { TreeTellsGraph }
+{}
+
+/// A graph has no induced path on four vertices exactly where its tree has no prime node.
+pub fn no_induced_path_if_no_prime_node()
+    ensures { NoInducedPathIfNoPrimeNode }
+{}
+
+/// Different trees have different texts, and no tree has the text of a graph without vertices.
+pub fn one_tree_one_text()
+    ensures { OneTreeOneText }
+{}

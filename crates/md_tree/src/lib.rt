@@ -1,0 +1,85 @@
+//! The tree of strong modules of a graph: its types, its text, the graph that it denotes, and their laws.
+#![tactic(auto)]
+
+ghost use Rattle.std.specs.Prelude.{◌≡◌, ◌<◌, vec_len, slice_index_or};
+ghost use Rattle.md_tree.specs.declared.Children.{out-Children};
+
+mod graphs;
+pub mod laws;
+mod writer;
+
+pub use graphs::graph_of;
+pub use writer::text;
+
+/// The kind of a node of a tree: its leaf set has no edge across some split, every edge across some split, or neither.
+#[derive(Clone, Copy, PartialEq, Eq, Debug)]
+pub enum Kind {
+    Parallel,
+    Series,
+    Prime,
+}
+
+/// Two children of a prime node, by their positions from 0, between which edges run; the lower position first.
+#[derive(Clone, Copy, PartialEq, Eq, Debug)]
+pub struct Pair {
+    pub low: u32,
+    pub high: u32,
+}
+
+/// A tree over names: a name, or a node with its kind, its children, and the pairs of children that it lists.
+#[cycle(tree)]
+#[derive(Drop)]
+pub enum Tree {
+    Leaf(u32),
+    Node(Kind, Children, QuotientEdges),
+}
+
+/// The children of a node, in their order.
+#[cycle(tree)]
+#[derive(Drop)]
+pub struct Children {
+    pub list: Vec<Tree>,
+}
+
+/// The pairs of children that a node lists, in their order.
+#[derive(Drop)]
+pub struct QuotientEdges {
+    pub list: Vec<Pair>,
+}
+
+impl Children {
+    /// How many children there are.
+    pub fn len(&self) -> u64
+        ensures { result ≡ vec_len (out-Children self.now).list }
+    {
+        self.list.len() as u64
+    }
+
+    /// The child at a position, counted from 0.
+    pub fn get(&self, i: u64) -> &Tree
+        requires { i < vec_len (out-Children self.now).list }
+        ensures { result.now ≡ slice_index_or (out-Children self.now).list.items i result.now }
+    {
+        &self.list[i as usize]
+    }
+}
+
+impl QuotientEdges {
+    /// How many pairs there are.
+    pub fn len(&self) -> u64
+        ensures { result ≡ vec_len self.now.list }
+    {
+        self.list.len() as u64
+    }
+
+    /// The pair at a position, counted from 0.
+    pub fn get(&self, i: u64) -> &Pair
+        requires { i < vec_len self.now.list }
+        ensures { result.now ≡ slice_index_or self.now.list.items i result.now }
+    {
+        &self.list[i as usize]
+    }
+}
+
+#[cfg(test)]
+mod tests;
