@@ -71,45 +71,34 @@ module _ {g : PlainGraph} (graph : IsGraph g) where
   ToldApart v w among result =
       ((y : ℕ) → Has among y → adjacent g v y ≢ adjacent g w y → Has result y) × ((y : ℕ) → Has result y → Has among y × (adjacent g v y ≢ adjacent g w y))
 
-  pub told : (v w : ℕ) (among row_v row_w first second apart other result : NameSet) → row_v ≡ neighbours g v → row_w ≡ neighbours g w →
-      first ≡ intersection row_v among → second ≡ intersection row_w among → apart ≡ difference first second → other ≡ difference second first → result ≡ union apart other →
-      ToldApart v w among result
-  told v w among row_v row_w first second apart other result is_v is_w is_first is_second is_apart is_other is = (has, only) where
-    in_first : (y : ℕ) → Has among y → adjacent g v y ≡ true → Has first y
-    in_first y h k = Has-along _ _ (sym is_first) y (meet_has row_v among y (row_is v row_v is_v y ∙ k) h)
+  pub told : (v w : ℕ) (among first second apart other joined result : NameSet) → first ≡ neighbours g v → second ≡ neighbours g w →
+      apart ≡ difference first second → other ≡ difference second first → joined ≡ union apart other → result ≡ intersection joined among → ToldApart v w among result
+  told v w among first second apart other joined result is_first is_second is_apart is_other is_joined is = (has, only) where
+    of_first : (y : ℕ) → contains first y ≡ adjacent g v y
+    of_first y = row_is v first is_first y
 
-    in_second : (y : ℕ) → Has among y → adjacent g w y ≡ true → Has second y
-    in_second y h k = Has-along _ _ (sym is_second) y (meet_has row_w among y (row_is w row_w is_w y ∙ k) h)
-
-    of_first : (y : ℕ) → Has first y → Has among y × (adjacent g v y ≡ true)
-    of_first y h =
-        let two : Has row_v y × Has among y = of_meet row_v among y (Has-along _ _ is_first y h) in
-        (two.1, sym (row_is v row_v is_v y) ∙ two.0)
-
-    of_second : (y : ℕ) → Has second y → Has among y × (adjacent g w y ≡ true)
-    of_second y h =
-        let two : Has row_w y × Has among y = of_meet row_w among y (Has-along _ _ is_second y h) in
-        (two.1, sym (row_is w row_w is_w y) ∙ two.0)
+    of_second : (y : ℕ) → contains second y ≡ adjacent g w y
+    of_second y = row_is w second is_second y
 
     has : (y : ℕ) → Has among y → adjacent g v y ≢ adjacent g w y → Has result y
-    has y h differ = elim (either (adjacent g v y)) [
-      | inl t ↦ Has-along _ _ (sym is) y (union_left apart other y (Has-along _ _ (sym is_apart) y
-          (minus_has first second y (in_first y h t) (false_if _ (λ k. differ (t ∙ sym (of_second y k).1))))))
-      | inr f ↦ Has-along _ _ (sym is) y (union_right apart other y (Has-along _ _ (sym is_other) y
-          (minus_has second first y (in_second y h (true_if _ (λ k. differ (f ∙ sym k)))) (false_if _ (λ k. clash (of_first y k).1 f)))))
-    ]
+    has y h differ = Has-along _ _ (sym is) y (meet_has joined among y (Has-along _ _ (sym is_joined) y (elim (either (adjacent g v y)) [
+      | inl t ↦ union_left apart other y (Has-along _ _ (sym is_apart) y
+          (minus_has first second y (of_first y ∙ t) (of_second y ∙ false_if _ (λ k. differ (t ∙ sym k)))))
+      | inr f ↦ union_right apart other y (Has-along _ _ (sym is_other) y
+          (minus_has second first y (of_second y ∙ true_if _ (λ k. differ (f ∙ sym k))) (of_first y ∙ f)))
+    ])) h)
 
     only : (y : ℕ) → Has result y → Has among y × (adjacent g v y ≢ adjacent g w y)
-    only y h = elim (of_union apart other y (Has-along _ _ is y h)) [
-      | inl i ↦
-          let two : Has first y × Lacks second y = of_minus first second y (Has-along _ _ is_apart y i) in
-          let more : Has among y × (adjacent g v y ≡ true) = of_first y two.0 in
-          (more.0, λ same. clash (in_second y more.0 (sym same ∙ more.1)) two.1)
-      | inr i ↦
-          let two : Has second y × Lacks first y = of_minus second first y (Has-along _ _ is_other y i) in
-          let more : Has among y × (adjacent g w y ≡ true) = of_second y two.0 in
-          (more.0, λ same. clash (in_first y more.0 (same ∙ more.1)) two.1)
-    ]
+    only y h =
+        let in_both : Has joined y × Has among y = of_meet joined among y (Has-along _ _ is y h) in
+        (in_both.1, elim (of_union apart other y (Has-along _ _ is_joined y in_both.0)) [
+          | inl i ↦
+              let two : Has first y × Lacks second y = of_minus first second y (Has-along _ _ is_apart y i) in
+              λ same. clash (sym same ∙ sym (of_first y) ∙ two.0) (sym (of_second y) ∙ two.1)
+          | inr i ↦
+              let two : Has second y × Lacks first y = of_minus second first y (Has-along _ _ is_other y i) in
+              λ same. clash (same ∙ sym (of_second y) ∙ two.0) (sym (of_first y) ∙ two.1)
+        ])
 
 -- ---- turns
 
@@ -364,3 +353,13 @@ whole_test {e} adj s vertices left v x r same part is test =
     subst (λ t. (r ≡ true) ↔ (((part : NameSet) × IsSplit e t part v) → ⊥)) same
     (let whole = whole_is adj s left v x part is in
     (λ t. whole.0 (test.0 t), λ no_split. test.1 (whole.1 no_split)))
+
+-- ---- for the tests
+
+pub meet_inside : (part live vertices within : NameSet) → live ≡ vertices → within ≡ intersection part live → Within within vertices
+meet_inside part live vertices within same is y h = Has-along _ _ same y (of_meet part live y (Has-along _ _ is y h)).1
+
+pub least_whole : {e : ℕ → ℕ → Bool} (s k rest : NameSet) (u v : ℕ) → IsLeastModule e s u v k → rest ≡ difference s k → rest ≡ empty → IsLeastModule e s u v s
+least_whole {e} s k rest u v is rest_is none =
+    subst (IsLeastModule e s u v) (same_members k s is.is_module.inside
+    (λ y h. true_if _ (λ l. clash (Has-along _ _ (sym rest_is) y (minus_has s k y h l)) (empty_if rest none y)))) is

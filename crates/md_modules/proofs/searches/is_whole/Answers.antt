@@ -1,4 +1,4 @@
-use Rattle.md_modules.proofs.Turns.{graph_adjacency, whole_is, whole_test}
+use Rattle.md_modules.proofs.Turns.{graph_adjacency, whole_test}
 use Rattle.md_modules.proofs.searches.is_whole.Goals as goal
 
 pub returns : goal.returns

@@ -1,5 +1,5 @@
-use Rattle.std.proofs.Common.{inl, inr}
-use Rattle.md_modules.proofs.Turns.{empty_if, none_lacks}
+use Rattle.std.proofs.Common.{inl}
+use Rattle.md_modules.proofs.Turns.{empty_if}
 use Rattle.md_modules.proofs.searches.next.Goals as goal
 
 pub returns-then-is_empty-clause-none : goal.returns-then-is_empty-clause-none

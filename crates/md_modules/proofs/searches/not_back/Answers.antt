@@ -1,6 +1,5 @@
 use Rattle.std.proofs.Common.{◌∙◌, ap}
 use Rattle.std.specs.FinSet.{remove, insert}
-use Rattle.md_modules.proofs.Search.{search_falls}
 use Rattle.md_modules.proofs.Growth.{back_end}
 use Rattle.md_modules.proofs.Turns.{back_begin, back_more, back_names, none_lacks, turn_falls}
 use Rattle.md_modules.proofs.searches.not_back.Goals as goal
