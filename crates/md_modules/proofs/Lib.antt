@@ -8,3 +8,4 @@ pub mod Paths
 pub mod Quotients
 pub mod Complement
 pub mod Growth
+pub mod Turns
