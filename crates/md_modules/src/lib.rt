@@ -4,4 +4,6 @@
 pub mod laws;
 mod searches;
 
-pub use searches::{back, closure, closure_in, co_component, co_connected, component, connected, grow, is_module};
+pub use searches::{
+    back, closure, closure_in, co_component, co_connected, component, connected, grow, is_module,
+};
