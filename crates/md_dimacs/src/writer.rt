@@ -164,7 +164,8 @@ fn make_room(chunk: &[u8], at: usize, text: &mut Vec<u8>) -> Result<usize, Memor
     requires chunk { length chunk.now ≡ CHUNK }
     requires at { at ≤ CHUNK }
     ensures room { IfOk result (λ after. after + 16 * 64 ≤ CHUNK) }
-    ensures same { IfOk result (λ after. text.new.items ++ take after chunk.now ≡ text.old.items ++ take at chunk.now) }
+    ensures same { IfOk result (λ after. text.new.items ++ take after chunk.now
+        ≡ text.old.items ++ take at chunk.now) }
 {
     if at + 16 * 64 <= CHUNK {
         return Ok(at);
