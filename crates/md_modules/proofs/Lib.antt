@@ -8,3 +8,5 @@ pub mod Paths
 pub mod Quotients
 pub mod Complement
 pub mod Growth
+pub mod Walks
+pub mod PathSearch
