@@ -124,3 +124,73 @@ fn ascending(a: u32, b: u32, c: u32, d: u32) -> P4
         }
     }
 }
+
+#[cfg(test)]
+mod tests {
+    use super::*;
+    use md_graph::Memory;
+    use std::alloc::Global;
+    use std::process::Abort;
+    use std::test::Fail;
+
+    /// The graph with the vertices 0 to 4 and these edges.
+    fn made(rt: &impl Abort, alloc: Global, edges: &[(u32, u32)]) -> Result<Graph, Memory> {
+        let mut g = Graph::new(alloc)?;
+        for v in 0..5 {
+            assert!(rt; !g.has_vertex(v));
+            g.add_vertex(v);
+        }
+        for (u, v) in edges {
+            assert!(rt; *u != *v);
+            assert!(rt; g.has_vertex(*u));
+            assert!(rt; g.has_vertex(*v));
+            assert!(rt; !g.has_edge(*u, *v));
+            g.add_edge(*u, *v);
+        }
+        Ok(g)
+    }
+
+    /// Sees that the path with `x` is this one, or that there is none.
+    fn expect(rt: &impl Abort, g: &Graph, x: u32, want: Option<(u32, u32, u32, u32)>) {
+        assert!(rt; g.has_vertex(x));
+        let found = find_p4_with(g, x).map(|p| (p.a, p.b, p.c, p.d));
+        assert_eq!(rt; found, want);
+    }
+
+    #[test]
+    fn known_graphs(rt: HostRuntime) -> Result<(), Fail> {
+        let spider = made(&rt, rt.alloc(), &[(0, 1), (1, 2), (2, 3), (1, 4)])?;
+        expect(&rt, &spider, 4, Some((3, 2, 1, 4)));
+        expect(&rt, &spider, 0, Some((0, 1, 2, 3)));
+        let three = made(&rt, rt.alloc(), &[(1, 2), (2, 3)])?;
+        expect(&rt, &three, 1, None);
+        expect(&rt, &three, 0, None);
+        let five = made(&rt, rt.alloc(), &[(0, 1), (1, 2), (2, 3), (3, 4)])?;
+        expect(&rt, &five, 0, Some((0, 1, 2, 3)));
+        expect(&rt, &five, 4, Some((1, 2, 3, 4)));
+        let cycle = made(&rt, rt.alloc(), &[(0, 1), (1, 2), (2, 3), (3, 4), (0, 4)])?;
+        assert!(rt; cycle.has_vertex(2));
+        assert!(rt; find_p4_with(&cycle, 2).is_some());
+        Ok(())
+    }
+
+    #[test]
+    fn bull(rt: HostRuntime) -> Result<(), Fail> {
+        let bull = made(&rt, rt.alloc(), &[(0, 1), (1, 2), (2, 3), (1, 4), (2, 4)])?;
+        expect(&rt, &bull, 4, None);
+        expect(&rt, &bull, 0, Some((0, 1, 2, 3)));
+        expect(&rt, &bull, 2, Some((0, 1, 2, 3)));
+        for (a, b, c, d, want) in [
+            (0, 1, 2, 3, true),
+            (3, 2, 1, 0, false),
+            (0, 1, 4, 3, false),
+            (0, 1, 2, 4, false),
+            (0, 1, 0, 1, false),
+            (0, 1, 2, 9, false),
+            (0, 1, 2, u32::MAX, false),
+        ] {
+            assert_eq!(rt; is_p4(&bull, &P4 { a, b, c, d }), want, "{a} {b} {c} {d}");
+        }
+        Ok(())
+    }
+}
