@@ -30,3 +30,7 @@ Walked-more {s} {left} {Done} walked x rest steps here =
 pub Walked-end : {s : NameSet} {left : List ℕ} {Done : ℕ → Type 0} → Walked s left Done → (rest : List ℕ) → (left ≡ []) × (rest ≡ []) → (w : ℕ) → Member s w → Done w
 Walked-end {s} {left} walked rest steps w m =
     walked.done w m (walk_end s walked.low NAMES left rest walked.names walked.is steps w m)
+
+-- the same of a wider Done
+pub Walked-map : {s : NameSet} {left : List ℕ} {Done Wider : ℕ → Type 0} → Walked s left Done → ((w : ℕ) → Done w → Wider w) → Walked s left Wider
+Walked-map walked wider = record { low = walked.low; is = walked.is; names = walked.names; done = λ w m h. wider w (walked.done w m h) }

@@ -1,10 +1,14 @@
 //! Induced paths on four vertices.
-ghost use Rattle.std.specs.Prelude.{◌≡◌, ℕ, ◌<◌, ◌≤◌, ◌↔◌, true, false, IsTrue, IfSome, IfNone};
-ghost use Rattle.std.specs.FinSet as set;
+ghost use Rattle.std.specs.Prelude.{◌≡◌, ℕ, ◌<◌, ◌↔◌, true, false, not, IsTrue, IfSome, IfNone};
 ghost use Rattle.md_graph.specs.NameSet.{Member};
-ghost use Rattle.md_graph.specs.PlainGraph.{adjacent, neighbours};
+ghost use Rattle.md_graph.specs.PlainGraph.{adjacent, IsGraph};
+ghost use Rattle.md_modules.specs.Sets.{NameSet, Has, Within};
+ghost use Rattle.md_modules.specs.Kinds.{IsSplit};
+ghost use Rattle.md_modules.specs.Components.{IsComponent};
 ghost use Rattle.md_modules.specs.InducedPaths.{IsInducedPath, HasPathEdges, IsInducedPathWith};
+ghost use Rattle.md_modules.specs.PathSearch.{ToldApart, IsPathOf};
 
+use crate::{co_component, component};
 use md_graph::{Graph, NAMES, Names};
 
 /// Four vertices in the order of a path on them, as an induced path of a graph with `a < d`.
@@ -26,8 +30,8 @@ pub fn is_p4(graph: &Graph, p: &P4) -> bool
     p.a < p.d && vertices.has(p.a) && has_path_edges(graph, p.a, p.b, p.c, p.d)
 }
 
-/// An induced path on four vertices that holds `x`; `None` exactly where there is none. It takes no memory, and two
-/// row operations for each edge between the neighbours of `x` and the other vertices. Condition: `x` is a vertex.
+/// An induced path on four vertices that holds `x`; `None` exactly where there is none. It takes no memory, and a fixed
+/// number of row operations for each vertex. Condition: `x` is a vertex.
 pub fn find_p4_with(graph: &Graph, x: u32) -> Option<P4>
     requires { Member graph.now.vertices x }
     ensures found { IfSome result (λ p.
@@ -38,14 +42,11 @@ pub fn find_p4_with(graph: &Graph, x: u32) -> Option<P4>
 {
     let vertices = graph.vertices();
     let near = graph.row(x);
-    let mut far = vertices.minus(near);
-    far.remove(x);
-    for b in near.members() {
-        if let Some(p) = path_over(graph, x, b, near, &far) {
-            return Some(p);
-        }
+    let far = vertices.minus(near);
+    if let Some(p) = path_by_parts(graph, x, &far, near, false) {
+        return Some(p);
     }
-    None
+    path_by_parts(graph, x, near, &far, true)
 }
 
 /// Whether the edges among `a`, `b`, `c` and `d`, any numbers, are exactly a-b, b-c and c-d.
@@ -57,61 +58,128 @@ fn has_path_edges(graph: &Graph, a: u32, b: u32, c: u32, d: u32) -> bool
     edges && !chords
 }
 
-/// An induced path in which `b` stands beside `x` and has another neighbour that isn't one of `x`.
-/// `near` has the neighbours of `x`, and `far` the vertices that are neither `x` nor its neighbours.
-fn path_over(graph: &Graph, x: u32, b: u32, near: &Names, far: &Names) -> Option<P4>
-    requires name { b < NAMES }
-    requires edge { adjacent graph.now x b ≡ true }
-    requires near { near.now ≡ neighbours graph.now x }
-    requires far { far.now ≡ set.remove (set.difference graph.now.vertices (neighbours graph.now x)) x }
+/// An induced path with `x`, one of `others`, and two of one part of `names`, of which the one of `others` sees only one.
+/// The parts are the components of `names`, none of which `x` sees (`value` is false), or the components of its complement,
+/// all of which `x` sees (`value` is true); `x` sees all of `others`, or none.
+fn path_by_parts(graph: &Graph, x: u32, names: &Names, others: &Names, value: bool) -> Option<P4>
+    requires graph { IsGraph graph.now }
+    requires inside { Within names.now graph.now.vertices }
+    requires alike { (z : ℕ) → Has names.now z → adjacent graph.now x z ≡ value }
+    requires across { (o : ℕ) → Has others.now o → adjacent graph.now x o ≡ not value }
     ensures found { IfSome result (λ p.
         IsInducedPathWith (adjacent graph.now) graph.now.vertices x p.a p.b p.c p.d) }
-    ensures no_end { IfNone result ((c d : ℕ) → HasPathEdges (adjacent graph.now) x b c d → ⊥) }
-    ensures no_inner { IfNone result ((a c : ℕ) → HasPathEdges (adjacent graph.now) a x b c → ⊥) }
+    ensures none { IfNone result ((o m z : ℕ) → Has others.now o → Has names.now m → Has names.now z
+        → adjacent graph.now m z ≡ not value → ToldApart graph.now o m z → ⊥) }
 {
-    let row = graph.row(b);
-    let beside = near.minus(row);
-    let behind = far.minus(row);
-    let next = row.and(far);
-    for c in next.members() {
-        if let Some(p) = path_through(graph, x, b, c, &beside, &behind) {
+    let mut left = names.copy();
+    let mut part = Names::none();
+    while let Some(y) = left.first_from(0) {
+        part_of(graph, names, y, value, &mut part);
+        if let Some(p) = path_by_part(graph, x, &part, others, value) {
             return Some(p);
+        }
+        left = left.minus(&part);
+    }
+    None
+}
+
+/// The component of `y` in the graph on `within` (`value` is false), or in its complement (`value` is true).
+fn part_of(graph: &Graph, within: &Names, y: u32, value: bool, into: &mut Names)
+    requires inside { Within within.now graph.now.vertices }
+    requires member { Has within.now y }
+    ensures { IsComponent (adjacent graph.now) within.now y into.new value }
+{
+    if value {
+        co_component(graph, within, y, into);
+    } else {
+        component(graph, within, y, into);
+    }
+}
+
+/// An induced path with `x`, one of `others` and two of `part`. Condition: `part` doesn't split.
+fn path_by_part(graph: &Graph, x: u32, part: &Names, others: &Names, value: bool) -> Option<P4>
+    requires graph { IsGraph graph.now }
+    requires whole { (a : NameSet) → IsSplit (adjacent graph.now) part.now a value → ⊥ }
+    requires alike { (z : ℕ) → Has part.now z → adjacent graph.now x z ≡ value }
+    requires across { (o : ℕ) → Has others.now o → adjacent graph.now x o ≡ not value }
+    ensures found { IfSome result (λ p.
+        IsInducedPathWith (adjacent graph.now) graph.now.vertices x p.a p.b p.c p.d) }
+    ensures none { IfNone result ((o m z : ℕ) → Has others.now o → Has part.now m → Has part.now z
+        → ToldApart graph.now o m z → ⊥) }
+{
+    let telling = that_tell(graph, part, others);
+    if let Some(o) = telling.first_from(0) {
+        return path_over(graph, x, o, part, value);
+    }
+    None
+}
+
+/// The names of `others` that see one of `part` and not all.
+fn that_tell(graph: &Graph, part: &Names, others: &Names) -> Names
+    ensures only { (o : ℕ) → Has result o → Has others.now o
+        × ((m : ℕ) × Has part.now m × (adjacent graph.now m o ≡ true))
+        × ((z : ℕ) × Has part.now z × (adjacent graph.now z o ≡ false)) }
+    ensures all { (o m z : ℕ) → Has others.now o → Has part.now m → Has part.now z
+        → adjacent graph.now m o ≡ true → adjacent graph.now z o ≡ false → Has result o }
+{
+    let mut some = Names::none();
+    let mut all = others.copy();
+    for m in part.members() {
+        let row = graph.row(m);
+        some.take_in(row);
+        all = all.and(row);
+    }
+    others.and(&some).minus(&all)
+}
+
+/// An induced path with `x`, `o` and two of `part`, of which `o` sees only one.
+fn path_over(graph: &Graph, x: u32, o: u32, part: &Names, value: bool) -> Option<P4>
+    requires name { o < NAMES }
+    requires alike { (z : ℕ) → Has part.now z → adjacent graph.now x z ≡ value }
+    requires across { adjacent graph.now x o ≡ not value }
+    ensures found { IfSome result (λ p.
+        IsInducedPathWith (adjacent graph.now) graph.now.vertices x p.a p.b p.c p.d) }
+    ensures none { IfNone result ((m z : ℕ) → Has part.now m → Has part.now z
+        → adjacent graph.now m z ≡ not value → ToldApart graph.now o m z → ⊥) }
+{
+    let row = graph.row(o);
+    let seen = part.and(row);
+    let rest = part.minus(row);
+    for m in seen.members() {
+        if let Some(z) = first_across(graph, m, &rest, value) {
+            return Some(path_through(x, o, m, z, value));
         }
     }
     None
 }
 
-/// An induced path that begins with `x`, `b`, `c` or ends with them. `beside` has the neighbours of `x` that are none
-/// of `b`, and `behind` the other vertices that are neighbours of neither.
-fn path_through(graph: &Graph, x: u32, b: u32, c: u32, beside: &Names, behind: &Names) -> Option<P4>
-    requires name { c < NAMES }
-    requires edge { adjacent graph.now x b ≡ true }
-    requires next { adjacent graph.now b c ≡ true }
-    requires apart { adjacent graph.now x c ≡ false }
-    requires beside { beside.now ≡ set.difference (neighbours graph.now x) (neighbours graph.now b) }
-    requires behind { behind.now
-        ≡ set.difference
-        (set.remove (set.difference graph.now.vertices (neighbours graph.now x)) x)
-        (neighbours graph.now b) }
-    ensures found { IfSome result (λ p.
-        IsInducedPathWith (adjacent graph.now) graph.now.vertices x p.a p.b p.c p.d) }
-    ensures no_last { IfNone result ((d : ℕ) → HasPathEdges (adjacent graph.now) x b c d → ⊥) }
-    ensures no_first { IfNone result ((a : ℕ) → HasPathEdges (adjacent graph.now) a x b c → ⊥) }
+/// The first of `rest` that isn't to `m` as `value` says.
+fn first_across(graph: &Graph, m: u32, rest: &Names, value: bool) -> Option<u32>
+    requires { m < NAMES }
+    ensures found { IfSome result (λ z. Has rest.now z × (adjacent graph.now m z ≡ not value)) }
+    ensures none { IfNone result ((z : ℕ) → Has rest.now z → adjacent graph.now m z ≡ not value → ⊥) }
 {
-    let row = graph.row(c);
-    if let Some(d) = row.and(behind).first_from(0) {
-        return Some(ascending(x, b, c, d));
+    let row = graph.row(m);
+    if value {
+        return rest.minus(row).first_from(0);
     }
-    if let Some(a) = beside.minus(row).first_from(0) {
-        return Some(ascending(a, x, b, c));
+    rest.and(row).first_from(0)
+}
+
+/// The path from `x` over `o` and `m` to `z` (`value` is false), or from `z` over `x` and `m` to `o` (`value` is true).
+fn path_through(x: u32, o: u32, m: u32, z: u32, value: bool) -> P4
+    ensures begun { value ≡ false → IsPathOf result x o m z }
+    ensures passed { value ≡ true → IsPathOf result z x m o }
+{
+    if value {
+        return ascending(z, x, m, o);
     }
-    None
+    ascending(x, o, m, z)
 }
 
 /// The four in this order, or turned round where `d` is the smaller end.
 fn ascending(a: u32, b: u32, c: u32, d: u32) -> P4
-    ensures kept { a < d → result ≡ record { a = a; b = b; c = c; d = d } }
-    ensures turned { d ≤ a → result ≡ record { a = d; b = c; c = b; d = a } }
+    ensures { IsPathOf result a b c d }
 {
     if a < d {
         P4 { a, b, c, d }

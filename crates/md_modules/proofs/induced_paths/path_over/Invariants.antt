@@ -1,6 +1,8 @@
-use Rattle.md_modules.proofs.PathSearch.{NoPathThrough, nexts}
+use Rattle.std.specs.FinSet.{intersection}
+use Rattle.md_graph.specs.PlainGraph.{neighbours}
+use Rattle.md_modules.proofs.PathSearch.{NothingAcross}
 use Rattle.md_modules.proofs.Walks.{Walked}
 use Rattle.md_modules.proofs.induced_paths.path_over.Given as goal
 
-abbrev pub invariant-loop-c : goal.invariant-loop-c
-invariant-loop-c l = Walked (nexts l.graph l.x l.b) l.c-iterator (NoPathThrough l.graph l.x l.b)
+abbrev pub invariant-loop-m : goal.invariant-loop-m
+invariant-loop-m l = Walked (intersection l.part (neighbours l.graph l.o)) l.m-iterator (NothingAcross l.graph l.part l.o l.value)
