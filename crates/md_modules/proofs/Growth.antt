@@ -33,7 +33,7 @@ taken_then s left todo new w inside taken of_new y h =
     ]
 
 -- tests that don't differ are equal
-alike_unless : (a b : Bool) → ((a ≡ b → ⊥) → ⊥) → a ≡ b
+pub alike_unless : (a b : Bool) → ((a ≡ b → ⊥) → ⊥) → a ≡ b
 alike_unless a b n = elim (decide_test a b) [ inl same ↦ same | inr differ ↦ absurd (n differ) ]
 
 -- The component of x: each turn takes the names left that w sees with the other value than v.

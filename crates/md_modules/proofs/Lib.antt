@@ -10,3 +10,4 @@ pub mod Complement
 pub mod Growth
 pub mod Walks
 pub mod PathSearch
+pub mod Turns

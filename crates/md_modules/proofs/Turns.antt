@@ -1,0 +1,365 @@
+-- What the functions that search answer, from what they call: sets by their members, adjacency by rows, and the turns of a search.
+use Rattle.std.proofs.Common.{◌≡◌, ◌<◌, ◌+◌, ◌↔◌, List, [], ◌∷◌, ℕ, Bool, true, false, not, ◌≢◌, ◌⊎◌, refl, sym, ◌∙◌, ap, subst, inl, inr, arith}
+use Rattle.std.specs.FinSet.{contains, empty, insert, remove, union, intersection, difference, len}
+use Rattle.md_graph.specs.declared.TheConstants.{NAMES}
+use Rattle.md_graph.specs.NameSet.{NoneFrom, AllBelow, ascending, ascending_from}
+use Rattle.md_graph.proofs.NameLemmas.{walk_turn, walk_more, walk_end}
+use Rattle.md_graph.specs.PlainGraph.{PlainGraph, IsGraph, adjacent, neighbours}
+use Rattle.md_graph.proofs.GraphLemmas.{adjacent_sym, adjacent_self, contains-neighbours}
+use Rattle.md_modules.specs.Sets.{NameSet, Has, Lacks, Within, only_name}
+use Rattle.md_modules.specs.Adjacency.{IsAdjacency}
+use Rattle.md_modules.specs.Modules.{IsModule, IsLeastModule, IsLeastModuleOver}
+use Rattle.md_modules.specs.Kinds.{IsSplit}
+use Rattle.md_modules.specs.Components.{IsComponent}
+use Rattle.md_modules.proofs.Sets.{either, clash, true_if, false_if, empty_lacks, insert_new, insert_old, of_insert, remove_left, of_remove, meet_has, of_meet, union_left, union_right, of_union, only_has, of_only, only_lacks, minus_has, of_minus, of_minus_lacks, minus_lacks, same_members, Has-along, Within-refl}
+use Rattle.md_modules.proofs.Search.{search_falls}
+use Rattle.md_modules.proofs.Modules.{whole_module, single_module}
+use Rattle.md_modules.proofs.Components.{component_unsplit, unsplit_component}
+use Rattle.md_modules.proofs.Growth.{alike_unless, IsReaching, IsGrowing, IsGoingBack, reach_start, reach_turn, reach_end, grow_start, grow_turn, grow_end, back_start, back_turn, back_end, least_of_two}
+
+-- ---- sets
+
+pub remove_is : (s : NameSet) (x : ℕ) → remove s x ≡ difference s (only_name x)
+remove_is s x = same_members _ _
+    (λ q h. minus_has s (only_name x) q (of_remove s x q h).1 (only_lacks x q (of_remove s x q h).0))
+    (λ q h. remove_left s x q (λ e. clash (subst (Has (only_name x)) (sym e) (only_has x)) (of_minus s (only_name x) q h).1) (of_minus s (only_name x) q h).0)
+
+pub none_lacks : (s : NameSet) → NoneFrom s 0 → (y : ℕ) → Lacks s y
+none_lacks s none y = false_if _ (λ h. let b : y < 0 = none y h in omega arith)
+
+pub empty_if : (s : NameSet) → s ≡ empty → (y : ℕ) → Lacks s y
+empty_if s e y = ap (λ t. contains t y) e ∙ empty_lacks y
+
+pub if_empty : (s : NameSet) → ((y : ℕ) → Lacks s y) → s ≡ empty
+if_empty s none = same_members s empty (λ y h. clash h (none y)) (λ y h. clash h (empty_lacks y))
+
+pub lacks_along : (s t : NameSet) → s ≡ t → (y : ℕ) → Lacks t y → Lacks s y
+lacks_along s t e y l = ap (λ w. contains w y) e ∙ l
+
+pub along_two : (P : NameSet → NameSet → Type 0) (a b a' b' : NameSet) → a' ≡ a → b' ≡ b → P a b → P a' b'
+along_two P a b a' b' ea eb p = subst (P a') (sym eb) (subst (λ t. P t b) (sym ea) p)
+
+-- ---- adjacency
+
+module _ {g : PlainGraph} (graph : IsGraph g) where
+  pub graph_adjacency : IsAdjacency (adjacent g)
+  graph_adjacency = record { symmetric = adjacent_sym g; irreflexive = adjacent_self graph }
+
+  row_is : (w : ℕ) (row : NameSet) → row ≡ neighbours g w → (y : ℕ) → contains row y ≡ adjacent g w y
+  row_is w row e y = ap (λ s. contains s y) e ∙ contains-neighbours graph w y
+
+  abbrev pub SeenAs : ℕ → Bool → NameSet → NameSet → Type 0
+  SeenAs w v among result = ((y : ℕ) → Has among y → adjacent g w y ≡ v → Has result y) × ((y : ℕ) → Has result y → Has among y × (adjacent g w y ≡ v))
+
+  pub seen_true : (w : ℕ) (v : Bool) (among row result : NameSet) → v ≡ true → row ≡ neighbours g w → result ≡ intersection row among → SeenAs w v among result
+  seen_true w v among row result is_true is_row is = (
+    λ y h k. Has-along _ _ (sym is) y (meet_has row among y (row_is w row is_row y ∙ k ∙ is_true) h),
+    λ y h.
+        let two : Has row y × Has among y = of_meet row among y (Has-along _ _ is y h) in
+        (two.1, sym (row_is w row is_row y) ∙ two.0 ∙ sym is_true),
+  )
+
+  pub seen_false : (w : ℕ) (v : Bool) (among row result : NameSet) → v ≡ false → row ≡ neighbours g w → result ≡ difference among row → SeenAs w v among result
+  seen_false w v among row result is_false is_row is = (
+    λ y h k. Has-along _ _ (sym is) y (minus_has among row y h (row_is w row is_row y ∙ k ∙ is_false)),
+    λ y h.
+        let two : Has among y × Lacks row y = of_minus among row y (Has-along _ _ is y h) in
+        (two.0, sym (row_is w row is_row y) ∙ two.1 ∙ sym is_false),
+  )
+
+  abbrev pub ToldApart : ℕ → ℕ → NameSet → NameSet → Type 0
+  ToldApart v w among result =
+      ((y : ℕ) → Has among y → adjacent g v y ≢ adjacent g w y → Has result y) × ((y : ℕ) → Has result y → Has among y × (adjacent g v y ≢ adjacent g w y))
+
+  pub told : (v w : ℕ) (among first second apart other joined result : NameSet) → first ≡ neighbours g v → second ≡ neighbours g w →
+      apart ≡ difference first second → other ≡ difference second first → joined ≡ union apart other → result ≡ intersection joined among → ToldApart v w among result
+  told v w among first second apart other joined result is_first is_second is_apart is_other is_joined is = (has, only) where
+    of_first : (y : ℕ) → contains first y ≡ adjacent g v y
+    of_first y = row_is v first is_first y
+
+    of_second : (y : ℕ) → contains second y ≡ adjacent g w y
+    of_second y = row_is w second is_second y
+
+    has : (y : ℕ) → Has among y → adjacent g v y ≢ adjacent g w y → Has result y
+    has y h differ = Has-along _ _ (sym is) y (meet_has joined among y (Has-along _ _ (sym is_joined) y (elim (either (adjacent g v y)) [
+      | inl t ↦ union_left apart other y (Has-along _ _ (sym is_apart) y
+          (minus_has first second y (of_first y ∙ t) (of_second y ∙ false_if _ (λ k. differ (t ∙ sym k)))))
+      | inr f ↦ union_right apart other y (Has-along _ _ (sym is_other) y
+          (minus_has second first y (of_second y ∙ true_if _ (λ k. differ (f ∙ sym k))) (of_first y ∙ f)))
+    ])) h)
+
+    only : (y : ℕ) → Has result y → Has among y × (adjacent g v y ≢ adjacent g w y)
+    only y h =
+        let in_both : Has joined y × Has among y = of_meet joined among y (Has-along _ _ is y h) in
+        (in_both.1, elim (of_union apart other y (Has-along _ _ is_joined y in_both.0)) [
+          | inl i ↦
+              let two : Has first y × Lacks second y = of_minus first second y (Has-along _ _ is_apart y i) in
+              λ same. clash (sym same ∙ sym (of_first y) ∙ two.0) (sym (of_second y) ∙ two.1)
+          | inr i ↦
+              let two : Has second y × Lacks first y = of_minus second first y (Has-along _ _ is_other y i) in
+              λ same. clash (same ∙ sym (of_second y) ∙ two.0) (sym (of_first y) ∙ two.1)
+        ])
+
+-- ---- turns
+
+not_like : (a b : Bool) → a ≢ b → a ≡ not b
+not_like true true n = absurd (n refl)
+not_like true false n = refl
+not_like false true n = refl
+not_like false false n = absurd (n refl)
+
+of_not_like : (a b : Bool) → a ≡ not b → a ≢ b
+of_not_like true true p q = clash refl p
+of_not_like true false p q = clash refl q
+of_not_like false true p q = clash q refl
+of_not_like false false p q = clash p refl
+
+minus_twice : (s left into : NameSet) → Within left s → into ≡ difference s left → difference s into ≡ left
+minus_twice s left into part is = same_members _ _
+    (λ y h.
+        let two : Has s y × Lacks into y = of_minus s into y h in
+        true_if _ (λ l. clash (Has-along _ _ (sym is) y (minus_has s left y two.0 l)) two.1))
+    (λ y h. minus_has s into y (part y h) (lacks_along into _ is y (minus_lacks s left y h)))
+
+pub back_fixed : (s left into : NameSet) (v : ℕ) → Within left s → into ≡ difference s left → Has left v → Has (difference s into) v
+back_fixed s left into v part is h = Has-along _ _ (sym (minus_twice s left into part is)) v h
+
+pub pair_within : (s begun : NameSet) (u v : ℕ) → begun ≡ insert (only_name u) v → Has s u → Has s v → Within begun s
+pair_within s begun u v is hu hv y h = elim (of_insert (only_name u) v y (Has-along _ _ is y h)) [
+  | inl same ↦ subst (Has s) (sym same) hv
+  | inr old ↦ subst (Has s) (sym (of_only u y old)) hu
+]
+
+pub pair_among : (begun todo : NameSet) (u v : ℕ) → begun ≡ insert (only_name u) v → todo ≡ only_name v → Within todo begun
+pair_among begun todo u v is is_todo y h =
+    Has-along _ _ (sym is) y (subst (Has (insert (only_name u) v)) (sym (of_only v y (Has-along _ _ is_todo y h))) (insert_new (only_name u) v))
+
+pub pair_first : (begun : NameSet) (u v : ℕ) → begun ≡ insert (only_name u) v → Has begun u
+pair_first begun u v is = Has-along _ _ (sym is) u (insert_old (only_name u) v u (only_has u))
+
+-- where nothing is to be looked at but v itself, and the members of begun are u and v
+pub pair_seen : (e : ℕ → ℕ → Bool) (begun todo : NameSet) (u v : ℕ) → begun ≡ insert (only_name u) v → todo ≡ only_name v → (w : ℕ) → Has begun w → Lacks todo w → (y : ℕ) → e u y ≡ e w y
+pair_seen e begun todo u v is is_todo w h l y = elim (of_insert (only_name u) v w (Has-along _ _ is w h)) [
+  | inl same ↦ clash (Has-along _ _ (sym is_todo) w (subst (Has (only_name v)) (sym same) (only_has v))) l
+  | inr old ↦ ap (λ b. e b y) (sym (of_only u w old))
+]
+
+module _ {e : ℕ → ℕ → Bool} where
+  pub reach_begin : (s left todo : NameSet) (v : Bool) (x : ℕ) → Has s x → left ≡ remove s x → todo ≡ insert empty x → IsReaching e s v x left todo
+  reach_begin s left todo v x h is_left is_todo =
+      along_two (IsReaching e s v x) _ _ left todo (is_left ∙ remove_is s x) is_todo (reach_start s v x h)
+
+  pub reach_more : (s left todo new left' todo' : NameSet) (v : Bool) (x w : ℕ) → IsReaching e s v x left todo → Has todo w →
+      ((y : ℕ) → Has left y → e w y ≡ not v → Has new y) → ((y : ℕ) → Has new y → Has left y × (e w y ≡ not v)) →
+      left' ≡ difference left new → todo' ≡ union (remove todo w) new → IsReaching e s v x left' todo'
+  reach_more s left todo new left' todo' v x w is h has only is_left is_todo =
+      along_two (IsReaching e s v x) _ _ left' todo' is_left is_todo (reach_turn s left todo new v x w is h has only)
+
+  pub reach_stop : (s left todo : NameSet) (v : Bool) (x : ℕ) → IsReaching e s v x left todo → ((y : ℕ) → Lacks left y) ⊎ ((y : ℕ) → Lacks todo y) → IsComponent e s x (difference s left) v
+  reach_stop s left todo v x is (inl all) =
+      reach_end s left empty v x (record {
+        start = is.start;
+        inside = is.inside;
+        taken = λ y h. clash h (empty_lacks y);
+        least = is.least;
+        looked = λ w hs l t y k. clash k (all y);
+      }) empty_lacks
+  reach_stop s left todo v x is (inr none) = reach_end s left todo v x is none
+
+  pub component_along : (s c d : NameSet) (v : Bool) (x : ℕ) → d ≡ c → IsComponent e s x c v → IsComponent e s x d v
+  component_along s c d v x same is = subst (λ t. IsComponent e s x t v) (sym same) is
+
+  pub grow_begin : (s begun todo left : NameSet) (v : ℕ) → Has begun v → Within begun s → Within todo begun →
+      ((w : ℕ) → Has begun w → Lacks todo w → (y : ℕ) → Has s y → Lacks begun y → e v y ≡ e w y) → left ≡ difference s begun → IsGrowing e s v begun left todo
+  grow_begin s begun todo left v hv inside among seen is = subst (λ t. IsGrowing e s v begun t todo) (sym is) (grow_start s begun todo v hv inside among seen)
+
+  pub back_begin : (s left todo : NameSet) (v j : ℕ) → v ≢ j → IsLeastModule e s v j s → left ≡ remove s j → todo ≡ insert empty j → IsGoingBack e s v left todo × Lacks left j
+  back_begin s left todo v j differ whole is_left is_todo = (
+    along_two (IsGoingBack e s v) _ _ left todo (is_left ∙ remove_is s j) is_todo (back_start s v j whole.has_left whole.has_right differ whole.least),
+    lacks_along left _ (is_left ∙ remove_is s j) j (minus_lacks s (only_name j) j (only_has j)),
+  )
+
+  pub back_more : (s left todo new left' todo' : NameSet) (v j w : ℕ) (value : Bool) → IsGoingBack e s v left todo × Lacks left j → Has todo w → value ≡ e w v →
+      ((y : ℕ) → Has left y → e w y ≡ not value → Has new y) → ((y : ℕ) → Has new y → Has left y × (e w y ≡ not value)) →
+      left' ≡ difference left new → todo' ≡ union (remove todo w) new → IsGoingBack e s v left' todo' × Lacks left' j
+  back_more s left todo new left' todo' v j w value is h same has only is_left is_todo = (
+    along_two (IsGoingBack e s v) _ _ left' todo' is_left is_todo
+    (back_turn s left todo new v w is.0 h
+    (λ y k differ. has y k (not_like (e w y) value (λ p. differ (p ∙ same))))
+    (λ y k. ((only y k).0, λ p. of_not_like (e w y) value (only y k).1 (p ∙ sym same)))),
+    lacks_along left' _ is_left j (false_if _ (λ k. clash (of_minus left new j k).0 is.1)),
+  )
+
+  pub back_names : (s left todo : NameSet) (v j : ℕ) → IsGoingBack e s v left todo × Lacks left j → IsLeastModule e s v j s → ((y : ℕ) → Lacks todo y) →
+      (i : ℕ) → Has s i → Lacks left i ↔ ((i ≢ v) × IsLeastModule e s v i s)
+  back_names s left todo v j is whole none i hi = (
+    λ l. (
+      λ same. clash (subst (Has left) (sym same) is.0.start) l,
+      record { is_module = whole.is_module; has_left = whole.has_left; has_right = hi; least = λ m module_is p q. is.0.whole i hi l m module_is p q },
+    ),
+    λ w. false_if _ (λ h. clash (w.1.least left (back_end s left todo v is.0 none) is.0.start h j whole.has_right) is.1),
+  )
+
+  -- the names taken are those of s that aren't left
+  pub back_taken : (s left into : NameSet) (v : ℕ) → into ≡ difference s left → ((i : ℕ) → Has s i → Lacks left i ↔ ((i ≢ v) × IsLeastModule e s v i s)) →
+      (i : ℕ) → Has into i ↔ (Has s i × (i ≢ v) × IsLeastModule e s v i s)
+  back_taken s left into v is names i = (
+    λ h.
+        let two : Has s i × Lacks left i = of_minus s left i (Has-along _ _ is i h) in
+        let w : (i ≢ v) × IsLeastModule e s v i s = (names i two.0).0 two.1 in
+        (two.0, w.0, w.1),
+    λ w. Has-along _ _ (sym is) i (minus_has s left i w.0 ((names i w.0).1 (w.1, w.2))),
+  )
+
+  pub back_rest : (s left into : NameSet) → Within left s → into ≡ difference s left → IsModule e s left → IsModule e s (difference s into)
+  back_rest s left into part is module_is = subst (IsModule e s) (sym (minus_twice s left into part is)) module_is
+
+  pub least_over_along : (s begun c d : NameSet) → d ≡ c → IsLeastModuleOver e s begun c → IsLeastModuleOver e s begun d
+  least_over_along s begun c d same is = subst (IsLeastModuleOver e s begun) (sym same) is
+
+  pub least_alone : (s k : NameSet) (u v : ℕ) → u ≡ v → Has s u → k ≡ only_name u → IsLeastModule e s u v k
+  least_alone s k u v same hu is = record {
+    is_module = subst (IsModule e s) (sym is) (single_module s u hu);
+    has_left = Has-along _ _ (sym is) u (only_has u);
+    has_right = Has-along _ _ (sym is) v (subst (Has (only_name u)) same (only_has u));
+    least = λ m module_is p q y h. subst (Has m) (sym (of_only u y (Has-along _ _ is y h))) p;
+  }
+
+  pub least_pair : (s begun k : NameSet) (u v : ℕ) → begun ≡ insert (only_name u) v → IsLeastModuleOver e s begun k → IsLeastModule e s u v k
+  least_pair s begun k u v is least =
+      least_of_two s k begun u v
+      (λ y h. elim (of_insert (only_name u) v y (Has-along _ _ is y h)) [ inl same ↦ inr same | inr old ↦ inl (of_only u y old) ])
+      (Has-along _ _ (sym is) u (insert_old (only_name u) v u (only_has u)))
+      (Has-along _ _ (sym is) v (insert_new (only_name u) v)) least
+
+  -- modules
+  pub no_member_no_module : (s m : NameSet) → NoneFrom m 0 → IsModule e s m → ⊥
+  no_member_no_module s m none module_is = clash module_is.some.1 (none_lacks m none module_is.some.0)
+
+  pub strange_no_module : (s m strange : NameSet) → strange ≡ difference m s → IsModule e s m → strange ≡ empty
+  strange_no_module s m strange is module_is =
+      if_empty strange (λ y. lacks_along strange _ is y (false_if _ (λ h. clash (module_is.inside y (of_minus m s y h).0) (of_minus m s y h).1)))
+
+  pub no_member_no_split : (s : NameSet) (v : Bool) → NoneFrom s 0 → ((part : NameSet) × IsSplit e s part v) → ⊥
+  no_member_no_split s v none split = clash (split.1.inside split.1.some.0 split.1.some.1) (none_lacks s none split.1.some.0)
+
+  module _ (adj : IsAdjacency e) where
+    pub grow_more : (s begun left todo new left' todo' : NameSet) (v w : ℕ) → IsGrowing e s v begun left todo → Has todo w →
+        ((y : ℕ) → Has left y → e v y ≢ e w y → Has new y) → ((y : ℕ) → Has new y → Has left y × (e v y ≢ e w y)) →
+        left' ≡ difference left new → todo' ≡ union (remove todo w) new → IsGrowing e s v begun left' todo'
+    grow_more s begun left todo new left' todo' v w is h has only is_left is_todo =
+        along_two (IsGrowing e s v begun) _ _ left' todo' is_left is_todo (grow_turn adj s begun left todo new v w is h has only)
+
+    pub grow_stop : (s begun left todo : NameSet) (v : ℕ) → IsGrowing e s v begun left todo → ((y : ℕ) → Lacks left y) ⊎ ((y : ℕ) → Lacks todo y) → IsLeastModuleOver e s begun (difference s left)
+    grow_stop s begun left todo v is (inl all) =
+        grow_end adj s begun left empty v (record {
+          start = is.start;
+          begins = is.begins;
+          inside = is.inside;
+          taken = λ y h. clash h (empty_lacks y);
+          least = is.least;
+          looked = λ w hs l t y k. clash k (all y);
+        }) empty_lacks
+    grow_stop s begun left todo v is (inr none) = grow_end adj s begun left todo v is none
+
+    -- a set whose component leaves nothing doesn't split, and the other way round
+    pub whole_is : (s left : NameSet) (v : Bool) (x : ℕ) → Within left s → IsComponent e s x (difference s left) v → (left ≡ empty) ↔ (((part : NameSet) × IsSplit e s part v) → ⊥)
+    whole_is s left v x part is = (
+      λ none split.
+          let all : difference s left ≡ s = same_members _ _ (λ y h. (of_minus s left y h).0) (λ y h. minus_has s left y h (empty_if left none y)) in
+          component_unsplit adj s s v x (component_along s (difference s left) s v x (sym all) is) split.0 split.1,
+      λ no_split. if_empty left (λ y. false_if _ (λ h.
+          let all : difference s left ≡ s = unsplit_component s (difference s left) v x (λ a split. no_split (a, split)) is in
+          clash h (of_minus s left y (Has-along _ _ (sym all) y (part y h))).1)),
+    )
+
+    abbrev pub AreAlike : ℕ → NameSet → NameSet → Type 0
+    AreAlike v names others = (w : ℕ) → Has names w → (y : ℕ) → Has others y → e v y ≡ e w y
+
+    pub module_if_alike : (s m others : NameSet) (v : ℕ) → Has m v → Within m s → others ≡ difference s m → AreAlike v m others ↔ IsModule e s m
+    module_if_alike s m others v hv inside is = (
+      λ alike. record {
+        some = (v, hv);
+        inside = inside;
+        alike = λ a b x ha hb hx l.
+            let out : Has others x = Has-along _ _ (sym is) x (minus_has s m x hx l) in
+            adj.symmetric x a ∙ sym (alike a ha x out) ∙ alike b hb x out ∙ adj.symmetric b x;
+      },
+      λ module_is w hw y hy.
+          let two : Has s y × Lacks m y = of_minus s m y (Has-along _ _ is y hy) in
+          adj.symmetric v y ∙ module_is.alike v w y hv hw two.0 two.1 ∙ adj.symmetric y w,
+    )
+
+-- ---- the walk over the members of a set of names
+
+abbrev pub Walked : NameSet → List ℕ → (ℕ → Type 0) → Type 0
+Walked s xs Done = AllBelow s NAMES × ((low : ℕ) × (xs ≡ ascending_from s low) × ((w : ℕ) → Has s w → w < low → Done w))
+
+pub walked_start : (s : NameSet) (xs : List ℕ) (Done : ℕ → Type 0) → AllBelow s NAMES → xs ≡ ascending s → Walked s xs Done
+walked_start s xs Done below is = (below, (0, is, λ w h l. absurd (omega arith)))
+
+pub walked_member : (s : NameSet) (xs rest : List ℕ) (x : ℕ) (Done : ℕ → Type 0) → Walked s xs Done → xs ≡ x ∷ rest → Has s x × (x < NAMES)
+walked_member s xs rest x Done is steps =
+    let item = (walk_turn s is.1.0 NAMES x xs rest is.1.1 steps).item in
+    (item.member, item.below)
+
+pub walked_turn : (s : NameSet) (xs rest : List ℕ) (x : ℕ) (Done : ℕ → Type 0) → Walked s xs Done → xs ≡ x ∷ rest → Done x → Walked s rest Done
+walked_turn s xs rest x Done is steps here =
+    let turn = walk_turn s is.1.0 NAMES x xs rest is.1.1 steps in
+    (is.0, (x + 1, turn.left, walk_more s is.1.0 NAMES x Done turn.item is.1.2 here))
+
+pub walked_all : (s : NameSet) (xs rest : List ℕ) (Done : ℕ → Type 0) → Walked s xs Done → (xs ≡ []) × (rest ≡ []) → (w : ℕ) → Has s w → Done w
+walked_all s xs rest Done is steps w h = is.1.2 w h (walk_end s is.1.0 NAMES xs rest is.0 is.1.1 steps w h)
+
+-- ---- names told apart
+
+pub some_apart : (others result : NameSet) (p q : ℕ → Bool) → ((y : ℕ) → Has result y → Has others y × (p y ≢ q y)) → ((y : ℕ) → Has others y → p y ≡ q y) →
+    (r : Bool) → (r ≡ true) ↔ (result ≡ empty) → r ≡ false → false ≡ true
+some_apart others result p q only alike r is h =
+    clash (is.1 (if_empty result (λ y. false_if _ (λ k. (only y k).1 (alike y (only y k).0))))) h
+
+pub none_apart : (others result : NameSet) (p q : ℕ → Bool) → ((y : ℕ) → Has others y → p y ≢ q y → Has result y) →
+    (r : Bool) → (r ≡ true) ↔ (result ≡ empty) → r ≡ true → (y : ℕ) → Has others y → p y ≡ q y
+none_apart others result p q has r is h y k =
+    alike_unless (p y) (q y) (λ differ. clash (has y k differ) (empty_if result (is.0 h) y))
+
+pub module_not_strange : {e : ℕ → ℕ → Bool} (s vertices m strange : NameSet) (r : Bool) → vertices ≡ s → strange ≡ difference m vertices → (r ≡ true) ↔ (strange ≡ empty) → r ≡ false → IsModule e s m → false ≡ true
+module_not_strange {e} s vertices m strange r same is empty_is h module_is =
+    clash (empty_is.1 (strange_no_module vertices m strange is (subst (λ t. IsModule e t m) (sym same) module_is))) h
+
+pub no_strange : (s m strange : NameSet) (r : Bool) → strange ≡ difference m s → (r ≡ true) ↔ (strange ≡ empty) → r ≡ true → Within m s
+no_strange s m strange r is empty_is h y k =
+    true_if _ (λ l. clash (Has-along _ _ (sym is) y (minus_has m s y k l)) (empty_if strange (empty_is.0 h) y))
+
+pub module_test : {e : ℕ → ℕ → Bool} → IsAdjacency e → (s vertices m strange others : NameSet) (v : ℕ) (r b : Bool) → vertices ≡ s → Has m v → strange ≡ difference m vertices → (r ≡ true) ↔ (strange ≡ empty) → r ≡ true →
+    others ≡ difference vertices m → (b ≡ true) ↔ ((w : ℕ) → Has m w → (y : ℕ) → Has others y → e v y ≡ e w y) → (b ≡ true) ↔ IsModule e s m
+module_test {e} adj s vertices m strange others v r b same hv is empty_is h is_others alike =
+    subst (λ t. (b ≡ true) ↔ IsModule e t m) same
+    (let if_alike = module_if_alike adj vertices m others v hv (no_strange vertices m strange r is empty_is h) is_others in
+    (λ t. if_alike.0 (alike.0 t), λ module_is. alike.1 (if_alike.1 module_is)))
+
+-- ---- a search ends
+
+pub turn_falls : (left todo new left' todo' : NameSet) (w : ℕ) → Has todo w → Within new left → left' ≡ difference left new → todo' ≡ union (remove todo w) new →
+    len left' + len todo' < len left + len todo
+turn_falls left todo new left' todo' w h inside is_left is_todo =
+    along_two (λ a b. len a + len b < len left + len todo) _ _ left' todo' is_left is_todo (search_falls left todo new w h inside)
+
+-- ---- whether a graph splits
+
+pub whole_test : {e : ℕ → ℕ → Bool} → IsAdjacency e → (s vertices left : NameSet) (v : Bool) (x : ℕ) (r : Bool) → s ≡ vertices → Within left s → IsComponent e s x (difference s left) v →
+    (r ≡ true) ↔ (left ≡ empty) → (r ≡ true) ↔ (((part : NameSet) × IsSplit e vertices part v) → ⊥)
+whole_test {e} adj s vertices left v x r same part is test =
+    subst (λ t. (r ≡ true) ↔ (((part : NameSet) × IsSplit e t part v) → ⊥)) same
+    (let whole = whole_is adj s left v x part is in
+    (λ t. whole.0 (test.0 t), λ no_split. test.1 (whole.1 no_split)))
+
+-- ---- for the tests
+
+pub meet_inside : (part live vertices within : NameSet) → live ≡ vertices → within ≡ intersection part live → Within within vertices
+meet_inside part live vertices within same is y h = Has-along _ _ same y (of_meet part live y (Has-along _ _ is y h)).1
+
+pub least_whole : {e : ℕ → ℕ → Bool} (s k rest : NameSet) (u v : ℕ) → IsLeastModule e s u v k → rest ≡ difference s k → rest ≡ empty → IsLeastModule e s u v s
+least_whole {e} s k rest u v is rest_is none =
+    subst (IsLeastModule e s u v) (same_members k s is.is_module.inside
+    (λ y h. true_if _ (λ l. clash (Has-along _ _ (sym rest_is) y (minus_has s k y h l)) (empty_if rest none y)))) is
