@@ -1,12 +1,11 @@
 -- The search for an induced path with a given vertex.
-use Rattle.std.proofs.Common.{◌≡◌, ℕ, ◌+◌, ◌<◌, ◌≤◌, Bool, true, false, not, IsTrue, ◌↔◌, ◌≢◌, ◌⊎◌, List, ◌∷◌, [], refl, sym, ◌∙◌, ap, subst, inl, inr, arith}
+use Rattle.std.proofs.Common.{◌≡◌, ℕ, ◌<◌, ◌≤◌, Bool, true, false, not, IsTrue, ◌↔◌, ◌≢◌, List, ◌∷◌, refl, sym, ◌∙◌, ap, subst, inl, inr, arith}
 use Rattle.std.proofs.lemmas.Bool.{cases_lt}
 use Rattle.std.specs.Prelude.{Option, Some, None, IfSome, IfNone}
 use Rattle.std.specs.FinSet.{contains, empty, union, difference, intersection, len}
-use Rattle.md_graph.specs.NameSet.{NoneFrom, IsLeastFrom, AllBelow, ascending}
+use Rattle.md_graph.specs.NameSet.{NoneFrom, IsLeastFrom}
 use Rattle.md_graph.specs.PlainGraph.{PlainGraph, IsGraph, adjacent, neighbours}
 use Rattle.md_graph.proofs.GraphLemmas.{adjacent_sym, adjacent_self, adjacent_ends, contains-neighbours}
-use Rattle.md_graph.specs.declared.TheConstants.{NAMES}
 use Rattle.md_modules.specs.Sets.{NameSet, Has, Lacks, Within}
 use Rattle.md_modules.specs.Adjacency.{IsAdjacency}
 use Rattle.md_modules.specs.Kinds.{IsSplit}
@@ -14,7 +13,7 @@ use Rattle.md_modules.specs.Components.{IsComponent}
 use Rattle.md_modules.specs.InducedPaths.{IsInducedPath, HasPathEdges, IsOneOf, IsInducedPathWith}
 use Rattle.md_modules.specs.PathSearch.{ToldApart, IsPathOf}
 use Rattle.md_modules.specs.declared.induced_paths.P4.{P4}
-use Rattle.md_modules.proofs.Sets.{clash, false_if, empty_lacks, union_left, union_right, of_union, meet_has, of_meet, of_meet_lacks, minus_has, of_minus, of_minus_lacks, minus_lacks, Has-along, either}
+use Rattle.md_modules.proofs.Sets.{clash, false_if, empty_lacks, union_left, union_right, of_union, meet_has, of_meet, of_meet_lacks, minus_has, of_minus, of_minus_lacks, minus_lacks, Has-along}
 use Rattle.md_modules.proofs.Search.{len_proper}
 use Rattle.md_modules.proofs.Components.{closed_follow, component_unsplit, crossing_pair}
 use Rattle.md_modules.proofs.Walks.{Walked, Walked-more, Walked-map}

@@ -6,4 +6,6 @@ pub mod laws;
 mod searches;
 
 pub use induced_paths::{P4, find_p4_with, is_p4};
-pub use searches::{back, closure, closure_in, co_component, co_connected, component, connected, grow, is_module};
+pub use searches::{
+    back, closure, closure_in, co_component, co_connected, component, connected, grow, is_module,
+};
