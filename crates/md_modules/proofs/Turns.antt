@@ -11,9 +11,9 @@ use Rattle.md_modules.specs.Adjacency.{IsAdjacency}
 use Rattle.md_modules.specs.Modules.{IsModule, IsLeastModule, IsLeastModuleOver}
 use Rattle.md_modules.specs.Kinds.{IsSplit}
 use Rattle.md_modules.specs.Components.{IsComponent}
-use Rattle.md_modules.proofs.Sets.{either, clash, true_if, false_if, empty_lacks, insert_new, insert_old, of_insert, remove_left, of_remove, meet_has, of_meet, union_left, union_right, of_union, only_has, of_only, only_lacks, minus_has, of_minus, of_minus_lacks, minus_lacks, same_members, Has-along, Within-refl}
+use Rattle.md_modules.proofs.Sets.{either, clash, true_if, false_if, empty_lacks, insert_new, insert_old, of_insert, remove_left, of_remove, meet_has, of_meet, union_left, union_right, of_union, only_has, of_only, only_lacks, minus_has, of_minus, minus_lacks, same_members, Has-along}
 use Rattle.md_modules.proofs.Search.{search_falls}
-use Rattle.md_modules.proofs.Modules.{whole_module, single_module}
+use Rattle.md_modules.proofs.Modules.{single_module}
 use Rattle.md_modules.proofs.Components.{component_unsplit, unsplit_component}
 use Rattle.md_modules.proofs.Growth.{alike_unless, IsReaching, IsGrowing, IsGoingBack, reach_start, reach_turn, reach_end, grow_start, grow_turn, grow_end, back_start, back_turn, back_end, least_of_two}
 
@@ -90,15 +90,17 @@ module _ {g : PlainGraph} (graph : IsGraph g) where
 
     only : (y : ℕ) → Has result y → Has among y × (adjacent g v y ≢ adjacent g w y)
     only y h =
-        let in_both : Has joined y × Has among y = of_meet joined among y (Has-along _ _ is y h) in
-        (in_both.1, elim (of_union apart other y (Has-along _ _ is_joined y in_both.0)) [
-          | inl i ↦
-              let two : Has first y × Lacks second y = of_minus first second y (Has-along _ _ is_apart y i) in
-              λ same. clash (sym same ∙ sym (of_first y) ∙ two.0) (sym (of_second y) ∙ two.1)
-          | inr i ↦
-              let two : Has second y × Lacks first y = of_minus second first y (Has-along _ _ is_other y i) in
-              λ same. clash (same ∙ sym (of_second y) ∙ two.0) (sym (of_first y) ∙ two.1)
-        ])
+        let in_both : Has joined y × Has among y = of_meet joined among y (Has-along _ _ is y h) in (
+          in_both.1,
+          elim (of_union apart other y (Has-along _ _ is_joined y in_both.0)) [
+            | inl i ↦
+                let two : Has first y × Lacks second y = of_minus first second y (Has-along _ _ is_apart y i) in
+                λ same. clash (sym same ∙ sym (of_first y) ∙ two.0) (sym (of_second y) ∙ two.1)
+            | inr i ↦
+                let two : Has second y × Lacks first y = of_minus second first y (Has-along _ _ is_other y i) in
+                λ same. clash (same ∙ sym (of_second y) ∙ two.0) (sym (of_first y) ∙ two.1)
+          ],
+        )
 
 -- ---- turns
 
@@ -117,8 +119,8 @@ of_not_like false false p q = clash p refl
 minus_twice : (s left into : NameSet) → Within left s → into ≡ difference s left → difference s into ≡ left
 minus_twice s left into part is = same_members _ _
     (λ y h.
-        let two : Has s y × Lacks into y = of_minus s into y h in
-        true_if _ (λ l. clash (Has-along _ _ (sym is) y (minus_has s left y two.0 l)) two.1))
+    let two : Has s y × Lacks into y = of_minus s into y h in
+    true_if _ (λ l. clash (Has-along _ _ (sym is) y (minus_has s left y two.0 l)) two.1))
     (λ y h. minus_has s into y (part y h) (lacks_along into _ is y (minus_lacks s left y h)))
 
 pub back_fixed : (s left into : NameSet) (v : ℕ) → Within left s → into ≡ difference s left → Has left v → Has (difference s into) v
@@ -184,9 +186,9 @@ module _ {e : ℕ → ℕ → Bool} where
       left' ≡ difference left new → todo' ≡ union (remove todo w) new → IsGoingBack e s v left' todo' × Lacks left' j
   back_more s left todo new left' todo' v j w value is h same has only is_left is_todo = (
     along_two (IsGoingBack e s v) _ _ left' todo' is_left is_todo
-    (back_turn s left todo new v w is.0 h
-    (λ y k differ. has y k (not_like (e w y) value (λ p. differ (p ∙ same))))
-    (λ y k. ((only y k).0, λ p. of_not_like (e w y) value (only y k).1 (p ∙ sym same)))),
+        (back_turn s left todo new v w is.0 h
+        (λ y k differ. has y k (not_like (e w y) value (λ p. differ (p ∙ same))))
+        (λ y k. ((only y k).0, λ p. of_not_like (e w y) value (only y k).1 (p ∙ sym same)))),
     lacks_along left' _ is_left j (false_if _ (λ k. clash (of_minus left new j k).0 is.1)),
   )
 

@@ -263,7 +263,12 @@ mod tests {
     use std::test::Fail;
 
     /// The graph with the vertices below `count` and these edges.
-    fn made(rt: &impl Abort, alloc: Global, count: u32, edges: &[(u32, u32)]) -> Result<Graph, Memory> {
+    fn made(
+        rt: &impl Abort,
+        alloc: Global,
+        count: u32,
+        edges: &[(u32, u32)],
+    ) -> Result<Graph, Memory> {
         let mut g = Graph::new(alloc)?;
         for v in 0..count {
             assert!(rt; v < NAMES && !g.has_vertex(v));
@@ -354,7 +359,14 @@ mod tests {
         assert!(rt; !is_module(&g, &set(&rt, &[9])));
         assert!(rt; !is_module(&g, &set(&rt, &[0, 1, 2, 3, 4, 9])));
         parted(&rt, &g, &[0, 2, 3, 9], 2, 3, [&[2, 3], &[0, 2, 3], &[2, 3]]);
-        parted(&rt, &g, &[0, 1, 2, 3], 1, 2, [&[0, 1, 2, 3], &[0, 1, 2, 3], &[0, 1, 2, 3]]);
+        parted(
+            &rt,
+            &g,
+            &[0, 1, 2, 3],
+            1,
+            2,
+            [&[0, 1, 2, 3], &[0, 1, 2, 3], &[0, 1, 2, 3]],
+        );
         parted(&rt, &g, &[0, 1, 4], 0, 4, [&[0, 1, 4], &[0, 4], &[0, 4]]);
         turned(&rt, &g, &[0, 1, 2, 3, 4], 0, 1, &[1, 2, 3]);
         turned(&rt, &g, &[0, 3], 3, 0, &[0]);

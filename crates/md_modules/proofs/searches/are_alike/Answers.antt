@@ -1,4 +1,4 @@
-use Rattle.std.proofs.Common.{◌∙◌, refl, sym}
+use Rattle.std.proofs.Common.{◌∙◌, refl}
 use Rattle.md_modules.proofs.Sets.{clash}
 use Rattle.md_modules.proofs.Turns.{walked_start, walked_member, walked_turn, walked_all, none_apart, some_apart}
 use Rattle.md_modules.proofs.searches.are_alike.Goals as goal
