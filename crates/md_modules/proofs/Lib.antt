@@ -8,4 +8,6 @@ pub mod Paths
 pub mod Quotients
 pub mod Complement
 pub mod Growth
+pub mod Walks
+pub mod PathSearch
 pub mod Turns

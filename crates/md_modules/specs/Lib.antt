@@ -6,3 +6,4 @@ pub mod Components
 pub mod Quotients
 pub mod InducedPaths
 pub mod Laws
+pub mod PathSearch

@@ -1,0 +1,14 @@
+use Rattle.md_modules.proofs.PathSearch.{part_whole, left_smaller, Searched-more}
+use Rattle.md_modules.proofs.induced_paths.path_by_parts.Goals as goal
+
+pub path_by_part-requires-clause-whole : goal.path_by_part-requires-clause-whole
+path_by_part-requires-clause-whole c =
+    part_whole c.requires.graph c.args.names.now c.part_of.new.into c.args.value c.in-Some.y c.part_of.ensures
+
+pub loop-y-smaller : goal.loop-y-smaller
+loop-y-smaller c =
+    left_smaller c.loop-y.left c.part_of.new.into c.minus-left.result c.in-Some.y c.in-Some.ensures.found.member c.part_of.ensures.holds c.minus-left.ensures
+
+pub loop-y-preserved : goal.loop-y-preserved
+loop-y-preserved c =
+    Searched-more c.args.graph.now c.args.names.now c.args.others.now c.args.value c.loop-y.left c.part_of.new.into c.minus-left.result c.in-Some.y c.loop-y.invariant c.part_of.ensures c.minus-left.ensures c.in_default-path_by_part.ensures.none

@@ -1,0 +1,15 @@
+-- What the search for an induced path says of its steps.
+-- Source: an induced path with a given vertex, by the components of its neighbours and of the other vertices.
+use Rattle.std.specs.Prelude.{◌≡◌, ◌<◌, ◌≤◌, ℕ, true, false}
+use Rattle.md_graph.specs.PlainGraph.{PlainGraph, adjacent}
+use Rattle.md_modules.specs.declared.induced_paths.P4.{P4}
+
+-- o sees m and not z
+pub record ToldApart (g : PlainGraph) (o m z : ℕ) : Type 0 where
+  pub sees : adjacent g o m ≡ true
+  pub misses : adjacent g o z ≡ false
+
+-- p is a, b, c, d in this order, or turned round where d is the smaller end
+pub record IsPathOf (p : P4) (a b c d : ℕ) : Type 0 where
+  pub kept : a < d → p ≡ record { a = a; b = b; c = c; d = d }
+  pub turned : d ≤ a → p ≡ record { a = d; b = c; c = b; d = a }

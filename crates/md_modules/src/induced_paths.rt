@@ -1,0 +1,264 @@
+//! Induced paths on four vertices.
+ghost use Rattle.std.specs.Prelude.{◌≡◌, ℕ, ◌<◌, ◌↔◌, true, false, not, IsTrue, IfSome, IfNone};
+ghost use Rattle.md_graph.specs.NameSet.{Member};
+ghost use Rattle.md_graph.specs.PlainGraph.{adjacent, IsGraph};
+ghost use Rattle.md_modules.specs.Sets.{NameSet, Has, Within};
+ghost use Rattle.md_modules.specs.Kinds.{IsSplit};
+ghost use Rattle.md_modules.specs.Components.{IsComponent};
+ghost use Rattle.md_modules.specs.InducedPaths.{IsInducedPath, HasPathEdges, IsInducedPathWith};
+ghost use Rattle.md_modules.specs.PathSearch.{ToldApart, IsPathOf};
+
+use crate::{co_component, component};
+use md_graph::{Graph, NAMES, Names};
+
+/// Four vertices in the order of a path on them, as an induced path of a graph with `a < d`.
+#[derive(Clone, Copy, Debug, PartialEq, Eq)]
+pub struct P4 {
+    pub a: u32,
+    pub b: u32,
+    pub c: u32,
+    pub d: u32,
+}
+
+/// Whether `p`, any four numbers, is an induced path of the graph: four different vertices, the edges among them
+/// exactly a-b, b-c and c-d, and `a < d`.
+pub fn is_p4(graph: &Graph, p: &P4) -> bool
+    ensures { IsTrue result
+        ↔ IsInducedPath (adjacent graph.now) graph.now.vertices p.now.a p.now.b p.now.c p.now.d }
+{
+    let vertices = graph.vertices();
+    p.a < p.d && vertices.has(p.a) && has_path_edges(graph, p.a, p.b, p.c, p.d)
+}
+
+/// An induced path on four vertices that holds `x`; `None` exactly where there is none. It takes no memory, and a fixed
+/// number of row operations for each vertex. Condition: `x` is a vertex.
+pub fn find_p4_with(graph: &Graph, x: u32) -> Option<P4>
+    requires { Member graph.now.vertices x }
+    ensures found { IfSome result (λ p.
+        IsInducedPathWith (adjacent graph.now) graph.now.vertices x p.a p.b p.c p.d) }
+    ensures none { IfNone result ((a b c d : ℕ)
+        → IsInducedPathWith (adjacent graph.now) graph.now.vertices x a b c d
+        → ⊥) }
+{
+    let vertices = graph.vertices();
+    let near = graph.row(x);
+    let far = vertices.minus(near);
+    if let Some(p) = path_by_parts(graph, x, &far, near, false) {
+        return Some(p);
+    }
+    path_by_parts(graph, x, near, &far, true)
+}
+
+/// Whether the edges among `a`, `b`, `c` and `d`, any numbers, are exactly a-b, b-c and c-d.
+fn has_path_edges(graph: &Graph, a: u32, b: u32, c: u32, d: u32) -> bool
+    ensures { IsTrue result ↔ HasPathEdges (adjacent graph.now) a b c d }
+{
+    let edges = graph.has_edge(a, b) && graph.has_edge(b, c) && graph.has_edge(c, d);
+    let chords = graph.has_edge(a, c) || graph.has_edge(a, d) || graph.has_edge(b, d);
+    edges && !chords
+}
+
+/// An induced path with `x`, one of `others`, and two of one part of `names`, of which the one of `others` sees only one.
+/// The parts are the components of `names`, none of which `x` sees (`value` is false), or the components of its complement,
+/// all of which `x` sees (`value` is true); `x` sees all of `others`, or none.
+fn path_by_parts(graph: &Graph, x: u32, names: &Names, others: &Names, value: bool) -> Option<P4>
+    requires graph { IsGraph graph.now }
+    requires inside { Within names.now graph.now.vertices }
+    requires alike { (z : ℕ) → Has names.now z → adjacent graph.now x z ≡ value }
+    requires across { (o : ℕ) → Has others.now o → adjacent graph.now x o ≡ not value }
+    ensures found { IfSome result (λ p.
+        IsInducedPathWith (adjacent graph.now) graph.now.vertices x p.a p.b p.c p.d) }
+    ensures none { IfNone result ((o m z : ℕ) → Has others.now o → Has names.now m → Has names.now z
+        → adjacent graph.now m z ≡ not value → ToldApart graph.now o m z → ⊥) }
+{
+    let mut left = names.copy();
+    let mut part = Names::none();
+    while let Some(y) = left.first_from(0) {
+        part_of(graph, names, y, value, &mut part);
+        if let Some(p) = path_by_part(graph, x, &part, others, value) {
+            return Some(p);
+        }
+        left = left.minus(&part);
+    }
+    None
+}
+
+/// The component of `y` in the graph on `within` (`value` is false), or in its complement (`value` is true).
+fn part_of(graph: &Graph, within: &Names, y: u32, value: bool, into: &mut Names)
+    requires inside { Within within.now graph.now.vertices }
+    requires member { Has within.now y }
+    ensures { IsComponent (adjacent graph.now) within.now y into.new value }
+{
+    if value {
+        co_component(graph, within, y, into);
+    } else {
+        component(graph, within, y, into);
+    }
+}
+
+/// An induced path with `x`, one of `others` and two of `part`. Condition: `part` doesn't split.
+fn path_by_part(graph: &Graph, x: u32, part: &Names, others: &Names, value: bool) -> Option<P4>
+    requires graph { IsGraph graph.now }
+    requires whole { (a : NameSet) → IsSplit (adjacent graph.now) part.now a value → ⊥ }
+    requires alike { (z : ℕ) → Has part.now z → adjacent graph.now x z ≡ value }
+    requires across { (o : ℕ) → Has others.now o → adjacent graph.now x o ≡ not value }
+    ensures found { IfSome result (λ p.
+        IsInducedPathWith (adjacent graph.now) graph.now.vertices x p.a p.b p.c p.d) }
+    ensures none { IfNone result ((o m z : ℕ) → Has others.now o → Has part.now m → Has part.now z
+        → ToldApart graph.now o m z → ⊥) }
+{
+    let telling = that_tell(graph, part, others);
+    if let Some(o) = telling.first_from(0) {
+        return path_over(graph, x, o, part, value);
+    }
+    None
+}
+
+/// The names of `others` that see one of `part` and not all.
+fn that_tell(graph: &Graph, part: &Names, others: &Names) -> Names
+    ensures only { (o : ℕ) → Has result o → Has others.now o
+        × ((m : ℕ) × Has part.now m × (adjacent graph.now m o ≡ true))
+        × ((z : ℕ) × Has part.now z × (adjacent graph.now z o ≡ false)) }
+    ensures all { (o m z : ℕ) → Has others.now o → Has part.now m → Has part.now z
+        → adjacent graph.now m o ≡ true → adjacent graph.now z o ≡ false → Has result o }
+{
+    let mut some = Names::none();
+    let mut all = others.copy();
+    for m in part.members() {
+        let row = graph.row(m);
+        some.take_in(row);
+        all = all.and(row);
+    }
+    others.and(&some).minus(&all)
+}
+
+/// An induced path with `x`, `o` and two of `part`, of which `o` sees only one.
+fn path_over(graph: &Graph, x: u32, o: u32, part: &Names, value: bool) -> Option<P4>
+    requires name { o < NAMES }
+    requires alike { (z : ℕ) → Has part.now z → adjacent graph.now x z ≡ value }
+    requires across { adjacent graph.now x o ≡ not value }
+    ensures found { IfSome result (λ p.
+        IsInducedPathWith (adjacent graph.now) graph.now.vertices x p.a p.b p.c p.d) }
+    ensures none { IfNone result ((m z : ℕ) → Has part.now m → Has part.now z
+        → adjacent graph.now m z ≡ not value → ToldApart graph.now o m z → ⊥) }
+{
+    let row = graph.row(o);
+    let seen = part.and(row);
+    let rest = part.minus(row);
+    for m in seen.members() {
+        if let Some(z) = first_across(graph, m, &rest, value) {
+            return Some(path_through(x, o, m, z, value));
+        }
+    }
+    None
+}
+
+/// The first of `rest` that isn't to `m` as `value` says.
+fn first_across(graph: &Graph, m: u32, rest: &Names, value: bool) -> Option<u32>
+    requires { m < NAMES }
+    ensures found { IfSome result (λ z. Has rest.now z × (adjacent graph.now m z ≡ not value)) }
+    ensures none { IfNone result ((z : ℕ) → Has rest.now z → adjacent graph.now m z ≡ not value → ⊥) }
+{
+    let row = graph.row(m);
+    if value {
+        return rest.minus(row).first_from(0);
+    }
+    rest.and(row).first_from(0)
+}
+
+/// The path from `x` over `o` and `m` to `z` (`value` is false), or from `z` over `x` and `m` to `o` (`value` is true).
+fn path_through(x: u32, o: u32, m: u32, z: u32, value: bool) -> P4
+    ensures begun { value ≡ false → IsPathOf result x o m z }
+    ensures passed { value ≡ true → IsPathOf result z x m o }
+{
+    if value {
+        return ascending(z, x, m, o);
+    }
+    ascending(x, o, m, z)
+}
+
+/// The four in this order, or turned round where `d` is the smaller end.
+fn ascending(a: u32, b: u32, c: u32, d: u32) -> P4
+    ensures { IsPathOf result a b c d }
+{
+    if a < d {
+        P4 { a, b, c, d }
+    } else {
+        P4 {
+            a: d,
+            b: c,
+            c: b,
+            d: a,
+        }
+    }
+}
+
+#[cfg(test)]
+mod tests {
+    use super::*;
+    use md_graph::Memory;
+    use std::alloc::Global;
+    use std::process::Abort;
+    use std::test::Fail;
+
+    /// The graph with the vertices 0 to 4 and these edges.
+    fn made(rt: &impl Abort, alloc: Global, edges: &[(u32, u32)]) -> Result<Graph, Memory> {
+        let mut g = Graph::new(alloc)?;
+        for v in 0..5 {
+            assert!(rt; !g.has_vertex(v));
+            g.add_vertex(v);
+        }
+        for (u, v) in edges {
+            assert!(rt; *u != *v);
+            assert!(rt; g.has_vertex(*u));
+            assert!(rt; g.has_vertex(*v));
+            assert!(rt; !g.has_edge(*u, *v));
+            g.add_edge(*u, *v);
+        }
+        Ok(g)
+    }
+
+    /// Sees that the path with `x` is this one, or that there is none.
+    fn expect(rt: &impl Abort, g: &Graph, x: u32, want: Option<(u32, u32, u32, u32)>) {
+        assert!(rt; g.has_vertex(x));
+        let found = find_p4_with(g, x).map(|p| (p.a, p.b, p.c, p.d));
+        assert_eq!(rt; found, want);
+    }
+
+    #[test]
+    fn known_graphs(rt: HostRuntime) -> Result<(), Fail> {
+        let spider = made(&rt, rt.alloc(), &[(0, 1), (1, 2), (2, 3), (1, 4)])?;
+        expect(&rt, &spider, 4, Some((3, 2, 1, 4)));
+        expect(&rt, &spider, 0, Some((0, 1, 2, 3)));
+        let three = made(&rt, rt.alloc(), &[(1, 2), (2, 3)])?;
+        expect(&rt, &three, 1, None);
+        expect(&rt, &three, 0, None);
+        let five = made(&rt, rt.alloc(), &[(0, 1), (1, 2), (2, 3), (3, 4)])?;
+        expect(&rt, &five, 0, Some((0, 1, 2, 3)));
+        expect(&rt, &five, 4, Some((1, 2, 3, 4)));
+        let cycle = made(&rt, rt.alloc(), &[(0, 1), (1, 2), (2, 3), (3, 4), (0, 4)])?;
+        assert!(rt; cycle.has_vertex(2));
+        assert!(rt; find_p4_with(&cycle, 2).is_some());
+        Ok(())
+    }
+
+    #[test]
+    fn bull(rt: HostRuntime) -> Result<(), Fail> {
+        let bull = made(&rt, rt.alloc(), &[(0, 1), (1, 2), (2, 3), (1, 4), (2, 4)])?;
+        expect(&rt, &bull, 4, None);
+        expect(&rt, &bull, 0, Some((0, 1, 2, 3)));
+        expect(&rt, &bull, 2, Some((0, 1, 2, 3)));
+        for (a, b, c, d, want) in [
+            (0, 1, 2, 3, true),
+            (3, 2, 1, 0, false),
+            (0, 1, 4, 3, false),
+            (0, 1, 2, 4, false),
+            (0, 1, 0, 1, false),
+            (0, 1, 2, 9, false),
+            (0, 1, 2, u32::MAX, false),
+        ] {
+            assert_eq!(rt; is_p4(&bull, &P4 { a, b, c, d }), want, "{a} {b} {c} {d}");
+        }
+        Ok(())
+    }
+}
