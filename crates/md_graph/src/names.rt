@@ -63,9 +63,7 @@ impl Names {
     {
         let word = v as usize / 64;
         self.words[word] |= 1 << (v % 64);
-        if self.used <= word {
-            self.used = word + 1;
-        }
+        self.used = self.used.max(word + 1);
     }
 
     /// Leaves `v` out. Condition: it is a name.
