@@ -179,12 +179,6 @@ pub record Searched (g : PlainGraph) (names others : NameSet) (value : Bool) (le
   pub inside : Within left names
   pub done : (o m z : ℕ) → Has others o → Has names m → Lacks left m → Has names z → adjacent g m z ≡ not value → ToldApart g o m z → ⊥
 
-pub Searched-start : (g : PlainGraph) (names others : NameSet) (value : Bool) (left : NameSet) → left ≡ names → Searched g names others value left
-Searched-start g names others value left is = record {
-  inside = Has-along left names is;
-  done = λ o m z ho hm lacks hz mz told. clash (Has-along names left (sym is) m hm) lacks;
-}
-
 pub Searched-more : (g : PlainGraph) (names others : NameSet) (value : Bool) (left part rest : NameSet) (y : ℕ) → Searched g names others value left →
     IsComponent (adjacent g) names y part value → rest ≡ difference left part →
     ((o m z : ℕ) → Has others o → Has part m → Has part z → ToldApart g o m z → ⊥) → Searched g names others value rest
@@ -201,10 +195,6 @@ none_here s none w h = let low : w < 0 = none w h in omega arith
 
 pub none_left : (s : NameSet) → NoneFrom s 0 → (w : ℕ) → Lacks s w
 none_left s none w = false_if _ (none_here s none w)
-
-pub Searched-end : (g : PlainGraph) (names others : NameSet) (value : Bool) (left : NameSet) → Searched g names others value left → NoneFrom left 0 →
-    (o m z : ℕ) → Has others o → Has names m → Has names z → adjacent g m z ≡ not value → ToldApart g o m z → ⊥
-Searched-end g names others value left searched none o m z ho hm hz mz told = searched.done o m z ho hm (none_left left none m) hz mz told
 
 pub left_smaller : (left part rest : NameSet) (y : ℕ) → Has left y → Has part y → rest ≡ difference left part → len rest < len left
 left_smaller left part rest y hl hp is_rest =
