@@ -1,5 +1,5 @@
 -- A body that holds the bits of a graph is the one that the text of the graph has.
-use Rattle.std.proofs.Common.{◌≡◌, ℕ, zero, suc, ◌+◌, ◌-◌, ◌*◌, ◌/◌, ◌%◌, ◌^◌, ◌<◌, ◌≤◌, List, [], ◌∷◌, ◌++◌, take, drop, length, get_or, length-append, refl, sym, ap, subst, ◌∙◌, arith, inl, inr}
+use Rattle.std.proofs.Common.{◌≡◌, ℕ, zero, suc, ◌+◌, ◌-◌, ◌*◌, ◌/◌, ◌%◌, ◌<◌, ◌≤◌, List, [], ◌∷◌, ◌++◌, take, drop, length, get_or, length-append, refl, sym, ap, subst, ◌∙◌, arith, inl, inr}
 use Rattle.std.specs.Int.{bit_at}
 use Rattle.std.proofs.lemmas.Bool.{cases_lt}
 use Rattle.std.proofs.lemmas.List.{get_or_append_left, get_or-append_right, get_or_default, get_or_past, take-append-drop, take_all}
@@ -8,10 +8,9 @@ use Rattle.md_graph.specs.NameSet.{ascending}
 use Rattle.md_graph.specs.PlainGraph.{PlainGraph}
 use Rattle.md_graph6.specs.Bits.{bit, pair_number, body_length}
 use Rattle.md_graph6.specs.Size.{size_text}
-use Rattle.md_graph6.specs.Window.{AreGroups}
 use Rattle.md_graph6.specs.Written.{bit_if, are_adjacent, IsWritten}
 use Rattle.md_graph6.specs.Text.{column_bits, pair_bits, six_bits, bytes_of_bits, line_text, graph6_text}
-use Rattle.md_graph6.proofs.WriteLemmas.{pair_next, pair_mono}
+use Rattle.md_graph6.proofs.WriteLemmas.{pair_next}
 
 length-column_bits : (g : PlainGraph) (j i : ℕ) → length (column_bits g j i) ≡ i
 unfolding column_bits

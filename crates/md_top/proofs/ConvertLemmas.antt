@@ -1,5 +1,5 @@
 -- From "the whole is put, or the call stopped within it" to what a converter does.
-use Rattle.std.proofs.Common.{◌≡◌, ◌⊎◌, ℕ, List, [], ◌∷◌, ◌++◌, Option, None, Some, Result, Ok, Err, ◌≤◌, refl, sym, ap, subst, ◌∙◌, inr, arith}
+use Rattle.std.proofs.Common.{◌≡◌, ℕ, List, [], ◌∷◌, ◌++◌, Option, None, Result, Ok, Err, ◌≤◌, refl, sym, ap, subst, ◌∙◌, inr, arith}
 use Rattle.std.specs.Option.{option_map}
 use Rattle.md_graph6.specs.File.{first_fault, graphs_of, Spells}
 use Rattle.md_graph6.proofs.FileLemmas.{spelled_or_faulty}
@@ -12,7 +12,7 @@ use Rattle.md_top.specs.declared.form.Format.{Format}
 use Rattle.md_top.specs.declared.stop.Stop.{Stop}
 use Rattle.md_top.specs.declared.stop.Verdict.{Verdict}
 use Rattle.md_top.specs.declared.stop.Stop.TheVariants.{Usage, BadInput, ReadFault, WriteFault, Memory, TooLong}
-use Rattle.md_top.specs.Answer.{graph_fault, graph_text, SpellsGraphs, IsConversion, IsConversionFront}
+use Rattle.md_top.specs.Answer.{graph_fault, graph_text, SpellsGraphs}
 use Rattle.md_top.specs.Output.{PutsWhole, StopsWithin, verdict_of}
 use Rattle.md_top.specs.declared.form.Form.TheVariants.{Convert}
 use Rattle.md_top.specs.Command.{CommandEnds, PutsFront}

@@ -1,6 +1,6 @@
 -- The whole output of a form over given contents, the beginnings of one, and what is wrong with the contents.
 -- Each form has one line in each definition; the contents stand in the order of the form's file names.
-use Rattle.std.specs.Prelude.{◌≡◌, ℕ, Option, Some, None, List, [], ◌∷◌, ◌++◌}
+use Rattle.std.specs.Prelude.{◌≡◌, ℕ, Option, None, List, [], ◌∷◌, ◌++◌}
 use Rattle.std.specs.Option.{option_map}
 use Rattle.std.specs.List.{flat_map}
 use Rattle.md_graph.specs.PlainGraph.{PlainGraph}

@@ -3,7 +3,6 @@ use Rattle.std.specs.Prelude.{◌≡◌, ◌⊎◌, ℕ, List, Option, Some, Non
 use Rattle.std.specs.Io.KnownBytes.{Appends, Keeps}
 use Rattle.md_io.specs.Count.{Rose}
 use Rattle.md_top.specs.declared.form.Form.{Form}
-use Rattle.md_top.specs.declared.stop.Fault.{Fault}
 use Rattle.md_top.specs.declared.stop.Verdict.{Verdict}
 use Rattle.md_top.specs.declared.stop.Stop.{Stop}
 use Rattle.md_top.specs.declared.stop.Stop.TheVariants.{Usage, BadInput, ReadFault, WriteFault, Memory, TooLong}

@@ -1,6 +1,6 @@
 -- What a sink takes of a piece, a line or an answer.
-use Rattle.std.specs.Prelude.{◌≡◌, ◌⊎◌, ℕ, List, ◌++◌, Option, Result, Ok, Err}
-use Rattle.std.specs.Io.KnownBytes.{Appends, Keeps}
+use Rattle.std.specs.Prelude.{◌⊎◌, ℕ, List, Option, Result, Ok, Err}
+use Rattle.std.specs.Io.KnownBytes.{Appends}
 use Rattle.md_io.specs.Front.{AppendsFront}
 use Rattle.md_io.specs.Count.{Rose}
 use Rattle.md_top.specs.declared.stop.Stop.{Stop}

@@ -1,5 +1,5 @@
 -- The bytes of the line, and what they are as a file.
-use Rattle.std.proofs.Common.{◌≡◌, List, [], ◌∷◌, ◌++◌, length, take, drop, ap, sym, ◌∙◌}
+use Rattle.std.proofs.Common.{◌≡◌, [], ◌∷◌, ◌++◌, length, take, drop, ap, ◌∙◌}
 use Rattle.md_graph6.specs.Bits.{body_length}
 use Rattle.md_graph6.specs.Size.{size_text}
 use Rattle.md_graph6.proofs.ByteLemmas.{line_written}

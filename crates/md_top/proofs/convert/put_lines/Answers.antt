@@ -1,5 +1,5 @@
 -- One more text is put, or the call stopped within it.
-use Rattle.std.proofs.Common.{◌≡◌, ◌≤◌, ℕ, List, ◌∷◌, ◌++◌, subst, arith}
+use Rattle.std.proofs.Common.{List, subst, arith}
 use Rattle.std.specs.List.{flat_map}
 use Rattle.md_graph.specs.PlainGraph.{PlainGraph}
 use Rattle.md_graph6.specs.File.{graphs_of}
