@@ -1,10 +1,11 @@
 //! The top call over files and sinks in memory.
-ghost use Rattle.std.specs.Prelude.{◌≡◌, ◌≢◌, ◌⊎◌, ℕ, List, None, Some, IsTrue};
+ghost use Rattle.std.specs.Prelude.{◌≡◌, ◌≢◌, ◌↔◌, ◌⊎◌, ℕ, List, None, Some, IsTrue};
+ghost use Rattle.md_io.specs.Count.{Rose};
 ghost use Rattle.md_top.specs.declared.stop.Fault.{Fault};
 ghost use Rattle.md_top.specs.Form.{Request, texts, request_of};
-ghost use Rattle.md_top.specs.Input.{IsInput, AllToldFiles, names_of};
+ghost use Rattle.md_top.specs.Input.{IsInput, AllToldFiles, AsksInOrder, names_of};
 ghost use Rattle.md_top.specs.Answer.{fault_of};
-ghost use Rattle.md_top.specs.Clauses.{Puts};
+ghost use Rattle.md_top.specs.Clauses.{CanBeBad, Puts, TakesLineOf};
 
 use crate::stop::Status;
 use crate::top::run;
@@ -20,7 +21,16 @@ pub fn run_in_memory(
     out: &mut SafeSink,
     err: &mut SafeSink,
 ) -> Status
+    ensures usage { (result ≡ Status.Usage) ↔ (request_of (texts words.now) ≡ None) }
+    ensures asked { AsksInOrder (⟦<MemFiles as Files>⟧.asked files.old) (⟦<MemFiles as Files>⟧.asked files.new)
+        (names_of (request_of (texts words.now))) }
+    ensures bad_input { result ≡ Status.BadInput → (fault : Fault)
+        × CanBeBad (⟦<MemFiles as Files>⟧.holds files.old) (request_of (texts words.now)) fault }
+    ensures read_fault { result ≡ Status.ReadFault
+        → Rose (⟦<MemFiles as Files>⟧.faults files.old) (⟦<MemFiles as Files>⟧.faults files.new) }
     ensures no_write_fault { result ≢ Status.WriteFault }
+    ensures too_long { result ≡ Status.TooLong
+        → Rose (⟦<MemFiles as Files>⟧.overs files.old) (⟦<MemFiles as Files>⟧.overs files.new) }
     ensures no_read_fault { IsTrue (⟦<MemFiles as Files>⟧.sure files.old)
         → AllToldFiles (⟦<MemFiles as Files>⟧.holds files.old) (names_of (request_of (texts words.now)))
         → result ≢ Status.ReadFault }
@@ -36,6 +46,11 @@ pub fn run_in_memory(
         → (result ≡ Status.BadInput) ⊎ (result ≡ Status.Memory) }
     ensures out { Puts (⟦<MemFiles as Files>⟧.holds files.old) (request_of (texts words.now)) result
         (⟦<SafeSink as Sink>⟧.holds out.old) (⟦<SafeSink as Sink>⟧.holds out.new) }
+    ensures err { TakesLineOf (⟦<MemFiles as Files>⟧.holds files.old) (request_of (texts words.now)) result
+        (⟦<SafeSink as Sink>⟧.holds err.old) (⟦<SafeSink as Sink>⟧.holds err.new)
+        (⟦<SafeSink as Sink>⟧.faults err.old) (⟦<SafeSink as Sink>⟧.faults err.new)
+        (⟦<SafeSink as Sink>⟧.wants err.old) (⟦<SafeSink as Sink>⟧.wants err.new) }
+    ensures told { ⟦<MemFiles as Files>⟧.holds files.new ≡ ⟦<MemFiles as Files>⟧.holds files.old }
 {
     run(alloc, words, files, out, err)
 }
