@@ -1,0 +1,14 @@
+//! Modular decomposition: the tree of strong modules of a graph, computed.
+//!
+//! The sets that are still to be taken apart are kept in a vector, and so are the parts of the tree, from which it is put
+//! together at the end: no call nests as deep as the tree.
+#![tactic(auto)]
+
+mod build;
+mod decomposition;
+mod node;
+mod pairs;
+mod part;
+mod prime;
+
+pub use decomposition::decompose;
