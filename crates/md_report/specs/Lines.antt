@@ -1,0 +1,41 @@
+-- The lines of a report, and their texts.
+-- Source: this project's own format of reports.
+use Rattle.std.specs.Prelude.{ℕ, List, ◌∷◌, [], ◌++◌, codes, Option}
+use Rattle.std.specs.List.{flat_map}
+use Rattle.md_tree.specs.Trees.{PlainTree}
+use Rattle.md_tree.specs.Plain.{plain_option}
+use Rattle.md_tree.specs.TreeTexts.{text_of}
+use Rattle.md_report.specs.declared.line.Mode.{Mode}
+use Rattle.md_report.specs.declared.line.Mode.TheVariants as modes
+use Rattle.md_report.specs.declared.line.Line.{Line}
+use Rattle.md_report.specs.declared.line.Line.TheVariants as lines
+
+-- a line, with plain trees
+pub data PlainLine : Type 0 where
+  head : Mode → PlainLine
+  tree : Option PlainTree → PlainLine
+  end : PlainLine
+
+-- the plain line that a line of the program is
+abbrev pub plain_line : Line → PlainLine
+plain_line (lines.Head mode) = head mode
+plain_line (lines.Tree t) = tree (plain_option t)
+plain_line lines.End = end
+
+-- the word of a mode
+abbrev pub mode_word : Mode → List ℕ
+mode_word modes.Tree = codes "tree"
+
+-- the text of a line, without a line feed
+abbrev pub line_text : PlainLine → List ℕ
+line_text (head mode) = codes "mdt " ++ mode_word mode
+line_text (tree t) = codes "t " ++ text_of t
+line_text end = codes "end"
+
+-- a line with its line feed
+abbrev pub fed_line : PlainLine → List ℕ
+fed_line line = line_text line ++ 10 ∷ []
+
+-- the text of lines, each with its line feed
+abbrev pub lines_text : List PlainLine → List ℕ
+lines_text = flat_map fed_line

@@ -1,0 +1,14 @@
+//! The laws of reports, each the contract of a function that does nothing.
+
+ghost use Rattle.md_report.specs.Laws.{LinesLeadIfFirst, FrontsBeginReports};
+
+/// Lines are the first lines of a whole report exactly where each may come at the place to which those before it lead.
+pub fn lines_lead_if_first()
+    ensures { LinesLeadIfFirst }
+{}
+
+/// A text begins a whole report exactly where it is a front by places: the text of lines that lead to a place, and the
+/// beginning of a line that may come there.
+pub fn fronts_begin_reports()
+    ensures { FrontsBeginReports }
+{}
