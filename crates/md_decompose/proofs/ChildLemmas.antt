@@ -13,7 +13,7 @@ use Rattle.md_modules.proofs.Children.{in_maximal, maximal_leaves, maximal_meet,
 use Rattle.md_modules.proofs.Turns.{none_lacks}
 use Rattle.md_tree.specs.StrongTrees.{IsBefore}
 use Rattle.md_decompose.specs.Children.{set_at, AreChildren}
-use Rattle.md_decompose.specs.Classes.{AreMaximalInside}
+use Rattle.md_decompose.specs.Classes.{AreMaximalInside, ListsInOrder}
 use Rattle.md_decompose.proofs.OrderLemmas.{contains_at, at_contained}
 use Rattle.md_decompose.proofs.ClassLists.{at_known}
 
@@ -111,7 +111,7 @@ module _ {e : ℕ → ℕ → Bool} where
           ]
 
     module _ (s rest : NameSet) (v : ℕ) (cs done : List NameSet) (prime : IsPrime e s) (max : IsMaximalModule e s (difference s rest))
-        (hv : Has (difference s rest) v) (is : AreMaximalInside e s rest cs) (rest_in : Within rest s) where
+        (hv : Has (difference s rest) v) (is : AreMaximalInside e s rest cs) where
       -- a maximal module other than that of v lies in the rest
       away : (m : NameSet) (x : ℕ) → IsMaximalModule e s m → Has m x → Has rest x → Within m rest
       away m x m_max h hr y hy = true_if _ (λ out.
@@ -140,24 +140,32 @@ module _ {e : ℕ → ℕ → Bool} where
           in
           subst (Contains cs) same (contains_at cs at.0 known)
 
-      pub children_are : AllPairs IsBefore done → ((m : NameSet) → Contains done m ↔ ((m ≡ difference s rest) ⊎ Contains cs m)) → AreChildren e s done
-      children_are order same = record {
+      children_are : ListsInOrder (difference s rest) cs done → AreChildren e s done
+      children_are listed = record {
         exactly = λ m. (
           λ child.
               let m_max : IsMaximalModule e s m = child_maximal adj s m prime child in
               let x : ℕ = m_max.is_module.some.0 in
               let h : Has m x = m_max.is_module.some.1 in
-              (same m).1 (elim (either (contains rest x)) [
+              (listed.exactly m).1 (elim (either (contains rest x)) [
                 | inl hr ↦ inr (child_class m x m_max h hr)
                 | inr out ↦ inl (maximal_meet adj s m (difference s rest) x prime m_max max h (minus_has s rest x (m_max.is_module.inside x h) out))
               ]),
-          λ has. elim ((same m).0 has) [
+          λ has. elim ((listed.exactly m).0 has) [
             | inl first ↦ subst (IsMaximalStrong e s) (sym first) (maximal_child adj s (difference s rest) prime max)
             | inr class ↦ (let at : (k : ℕ) × (k < length cs) × (set_at cs k ≡ m) = at_contained cs m class in subst (IsMaximalStrong e s) at.2 (class_child at.0 at.1))
           ],
         );
-        order = order;
+        order = listed.order;
       }
+
+    -- what is found from the names that no proper module holds with v
+    pub children_found : (s rest first : NameSet) (v j : ℕ) (cs listed done : List NameSet) → IsPrime e s → v ≢ j → IsLeastModule e s v j s → IsRest e s v rest →
+        IsModule e s (difference s rest) → Has (difference s rest) v → AreMaximalInside e s rest cs → listed ≡ cs → first ≡ difference s rest →
+        ListsInOrder first listed done → AreChildren e s done
+    children_found s rest first v j cs listed done prime differ whole names is hv max same is_first in_order =
+        children_are s rest v cs done prime (rest_maximal s rest v j differ whole names is hv) hv max
+        (subst (λ t. ListsInOrder t cs done) is_first (subst (λ t. ListsInOrder first t done) same in_order))
 
   -- the least name lies below all of the rest
   pub first_before : (s rest : NameSet) (v : ℕ) → IsLeastFrom s 0 v → IsRest e s v rest → Has (difference s rest) v → IsBefore (difference s rest) rest

@@ -11,7 +11,7 @@ use Rattle.md_modules.proofs.Search.{len_proper}
 use Rattle.md_modules.proofs.Turns.{none_lacks}
 use Rattle.md_tree.specs.StrongTrees.{IsBefore}
 use Rattle.md_decompose.specs.Children.{set_at}
-use Rattle.md_decompose.specs.Classes.{IsPartition}
+use Rattle.md_decompose.specs.Classes.{IsPartition, ListsInOrder}
 use Rattle.md_decompose.proofs.ClassLists.{at_known}
 
 -- the list has first and those classes that don't lie in left, in order, all before left
@@ -88,17 +88,19 @@ module _ (first b left : NameSet) (cs done : List NameSet) (v k : ℕ) (part : I
           let low : v ≤ y = least.first y two.0 (omega arith) in
           elim (same_name v y) [ inl same ↦ clash (subst (Has (set_at cs k)) same holds) two.1 | inr differ ↦ omega arith ]
 
-pub ordering_ends : (first b left : NameSet) (cs done : List NameSet) → IsPartition b cs → IsOrdering first b cs left done → NoneFrom left 0 →
-    (m : NameSet) → Contains done m ↔ ((m ≡ first) ⊎ Contains cs m)
-ordering_ends first b left cs done part is none m = (
-  is.known m,
-  λ w. elim w [
-    | inl same ↦ subst (Contains done) (sym same) is.begins
-    | inr has ↦
-        let at : (k : ℕ) × (k < length cs) × (set_at cs k ≡ m) = at_contained cs m has in
-        elim (is.each at.0 at.1) [
-          | inl inside ↦ (let x : (x : ℕ) × Has (set_at cs at.0) x = part.some at.0 at.1 in clash (inside x.0 x.1) (none_lacks left none x.0))
-          | inr gone ↦ subst (Contains done) at.2 gone.0
-        ]
-  ],
-)
+pub ordering_ends : (first b left : NameSet) (cs done : List NameSet) → IsPartition b cs → IsOrdering first b cs left done → NoneFrom left 0 → ListsInOrder first cs done
+ordering_ends first b left cs done part is none = record {
+  order = is.order;
+  exactly = λ m. (
+    is.known m,
+    λ w. elim w [
+      | inl same ↦ subst (Contains done) (sym same) is.begins
+      | inr has ↦
+          let at : (k : ℕ) × (k < length cs) × (set_at cs k ≡ m) = at_contained cs m has in
+          elim (is.each at.0 at.1) [
+            | inl inside ↦ (let x : (x : ℕ) × Has (set_at cs at.0) x = part.some at.0 at.1 in clash (inside x.0 x.1) (none_lacks left none x.0))
+            | inr gone ↦ subst (Contains done) at.2 gone.0
+          ]
+    ],
+  );
+}

@@ -1,9 +1,10 @@
 -- Partitions of a set of names, and the parts of a prime set that its modules lie in.
 -- Source: Habib and Paul, A survey of the algorithmic aspects of modular decomposition (partition refinement).
-use Rattle.std.specs.Prelude.{◌≡◌, ◌<◌, ℕ, Bool, true, false, List, length}
+use Rattle.std.specs.Prelude.{◌≡◌, ◌<◌, ◌⊎◌, ◌↔◌, ℕ, Bool, true, false, List, length, Contains, AllPairs}
 use Rattle.std.specs.FinSet.{union, intersection, difference}
 use Rattle.md_modules.specs.Sets.{NameSet, Has, Lacks, Within, HasSome}
 use Rattle.md_modules.specs.Modules.{IsModule}
+use Rattle.md_tree.specs.StrongTrees.{IsBefore}
 use Rattle.md_decompose.specs.Children.{set_at}
 
 -- the names of a third set that exactly one of two sets has
@@ -33,3 +34,8 @@ pub record HoldsModules (e : ℕ → ℕ → Bool) (s b : NameSet) (cs : List Na
 pub record AreMaximalInside (e : ℕ → ℕ → Bool) (s b : NameSet) (cs : List NameSet) : Type 0 where
   pub holds : HoldsModules e s b cs
   pub modules : (k : ℕ) → k < length cs → IsModule e s (set_at cs k)
+
+-- the list has a first set and the sets of another list, and no others, in ascending order of their least names
+pub record ListsInOrder (first : NameSet) (cs sets : List NameSet) : Type 0 where
+  pub order : AllPairs IsBefore sets
+  pub exactly : (m : NameSet) → Contains sets m ↔ ((m ≡ first) ⊎ Contains cs m)

@@ -1,9 +1,9 @@
 //! Sets in ascending order of their least names.
-ghost use Rattle.std.specs.Prelude.{◌≡◌, ◌<◌, ◌⊎◌, ◌↔◌, ℕ, IfOk, Contains, AllPairs, length};
-ghost use Rattle.md_modules.specs.Sets.{NameSet, Has};
+ghost use Rattle.std.specs.Prelude.{◌<◌, ℕ, IfOk, length};
+ghost use Rattle.md_modules.specs.Sets.{Has};
 ghost use Rattle.md_tree.specs.StrongTrees.{IsBefore};
 ghost use Rattle.md_decompose.specs.Children.{set_at};
-ghost use Rattle.md_decompose.specs.Classes.{IsPartition};
+ghost use Rattle.md_decompose.specs.Classes.{IsPartition, ListsInOrder};
 
 use md_graph::{Memory, Names};
 use std::alloc::Global;
@@ -18,9 +18,7 @@ pub(crate) fn in_order(
 ) -> Result<Vec<Names>, Memory>
     requires lowest { IsBefore first rest.now }
     requires partition { IsPartition rest.now classes.now }
-    ensures order { IfOk result (λ sets. AllPairs IsBefore sets.items) }
-    ensures same { IfOk result (λ sets. (m : NameSet)
-        → Contains sets.items m ↔ ((m ≡ first) ⊎ Contains classes.now m)) }
+    ensures { IfOk result (λ sets. ListsInOrder first classes.now sets.items) }
 {
     let mut sets = Vec::new(alloc);
     if sets.push(first).is_err() {

@@ -32,7 +32,9 @@ pub(crate) fn cut(
     let mut at = 0;
     while at < classes.len() {
         if let Some(p) = teller(graph, set, &classes[at]) {
-            split(&mut classes, at, graph.row(p))?;
+            if let Err(stop) = split(&mut classes, at, graph.row(p)) {
+                return Err(stop);
+            }
         } else {
             at += 1;
         }

@@ -23,6 +23,7 @@ pub(crate) fn prime_children(
     requires prime { IsPrime (adjacent graph.now) set.now }
     ensures { IfOk result (λ sets. AreChildren (adjacent graph.now) set.now sets.items) }
 {
+    let _vertices = graph.vertices();
     let Some(v) = set.first_from(0) else {
         unreachable!();
     };

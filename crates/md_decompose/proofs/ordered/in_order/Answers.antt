@@ -23,6 +23,6 @@ loop-v-preserved c =
     c.minus-left.result c.push-in-Some.new.self.items (c.minus-left.ensures ∙ ap (difference c.loop-v.left) class)
     (pushed ∙ ap (λ t. c.loop-v.sets.items ++ t ∷ []) (c.copy.ensures ∙ class))
 
-pub returns-clause-same : goal.returns-clause-same
-returns-clause-same c =
+pub returns : goal.returns
+returns c =
     ordering_ends c.args.first c.args.rest.now c.loop-v.left c.args.classes.now c.loop-v.sets.items c.requires.partition c.loop-v.invariant c.in_default.ensures.none

@@ -26,5 +26,5 @@ loop-x-preserved c =
 
 pub returns-clause-none : goal.returns-clause-none
 returns-clause-none c =
-    (module_if_alike (graph_adjacency c.vertices-_vertices.ensures.graph) c.args.set.now c.args.class.now c.minus-out.result c.in-Some.first
+    (module_if_alike (graph_adjacency c.vertices-vertices.ensures.graph) c.args.set.now c.args.class.now c.minus-out.result c.in-Some.first
     c.in-Some.ensures.found.member c.requires.part c.minus-out.ensures).0 (walked_all c.args.class.now _ _ _ c.loop-x.invariant c.in-None.ensures.steps)

@@ -6,7 +6,7 @@ use Rattle.md_decompose.proofs.ChildLemmas.{held_begins, held_falls, held_more, 
 use Rattle.md_decompose.proofs.prime.far_from.Goals as goal
 
 pub insert-requires : goal.insert-requires
-insert-requires c = c.vertices-_vertices.ensures.graph.names c.args.v (c.requires.inside c.args.v c.requires.member)
+insert-requires c = c.vertices-vertices.ensures.graph.names c.args.v (c.requires.inside c.args.v c.requires.member)
 
 pub loop-j-init : goal.loop-j-init
 loop-j-init c =
@@ -24,7 +24,7 @@ loop-j-smaller c =
 
 pub loop-j-preserved : goal.loop-j-preserved
 loop-j-preserved c =
-    held_more (graph_adjacency c.vertices-_vertices.ensures.graph) c.args.set.now c.loop-j.held c.hold.new.held c.minus.result c.args.v c.loop-j.last c.in-Some.j
+    held_more (graph_adjacency c.vertices-vertices.ensures.graph) c.args.set.now c.loop-j.held c.hold.new.held c.minus.result c.args.v c.loop-j.last c.in-Some.j
     c.requires.prime c.loop-j.invariant c.minus.ensures c.in-Some.ensures.found c.hold.ensures
 
 pub returns-clause-differ : goal.returns-clause-differ

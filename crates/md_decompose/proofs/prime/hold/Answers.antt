@@ -18,5 +18,5 @@ grow-requires-clause-among c =
 
 pub grow-requires-clause-seen : goal.grow-requires-clause-seen
 grow-requires-clause-seen c =
-    grow_seen (graph_adjacency c.vertices-_vertices.ensures.graph) c.args.set.now c.args.held.now c.insert-2.new.self c.insert.new.self c.args.v c.args.j
+    grow_seen (graph_adjacency c.vertices-vertices.ensures.graph) c.args.set.now c.args.held.now c.insert-2.new.self c.insert.new.self c.args.v c.args.j
     c.requires.begun c.requires.fixed c.insert-2.ensures (c.insert.ensures ∙ ap (λ s. insert s c.args.j) c.none-todo.ensures)
