@@ -1,19 +1,19 @@
 -- The children of a prime set: the one that holds a name, and the maximal modules inside the rest.
-use Rattle.std.proofs.Common.{◌≡◌, ℕ, ◌<◌, ◌≤◌, ◌≢◌, ◌⊎◌, ◌↔◌, Bool, List, length, Contains, AllPairs, sym, ◌∙◌, subst, inl, inr, arith}
+use Rattle.std.proofs.Common.{◌≡◌, ℕ, ◌<◌, ◌≢◌, ◌↔◌, Bool, List, length, Contains, sym, ◌∙◌, subst, inl, inr}
 use Rattle.std.specs.FinSet.{contains, empty, insert, union, difference, len}
 use Rattle.md_graph.specs.NameSet.{IsLeastFrom, NoneFrom}
 use Rattle.md_modules.specs.Sets.{NameSet, Has, Lacks, Within}
 use Rattle.md_modules.specs.Adjacency.{IsAdjacency}
 use Rattle.md_modules.specs.Modules.{IsModule, IsLeastModule, IsLeastModuleOver, IsMaximalModule, IsMaximalStrong}
 use Rattle.md_modules.specs.Kinds.{IsPrime}
-use Rattle.md_modules.proofs.Sets.{either, clash, true_if, false_if, same_name, only_has, of_only, insert_new, insert_old, of_insert, union_left, union_right, of_union, minus_has, of_minus, minus_lacks, Has-along, same_members}
+use Rattle.md_modules.proofs.Sets.{either, clash, true_if, false_if, only_has, of_only, insert_new, insert_old, of_insert, union_left, union_right, of_union, minus_has, of_minus, minus_lacks, Has-along, same_members}
 use Rattle.md_modules.proofs.Search.{decide_same, len_proper}
 use Rattle.md_modules.proofs.Modules.{single_module, join_module}
 use Rattle.md_modules.proofs.Children.{in_maximal, maximal_leaves, maximal_meet, maximal_child, child_maximal}
 use Rattle.md_modules.proofs.Turns.{none_lacks}
-use Rattle.md_tree.specs.StrongTrees.{IsBefore}
 use Rattle.md_decompose.specs.Children.{set_at, AreChildren}
-use Rattle.md_decompose.specs.Classes.{AreMaximalInside, ListsInOrder}
+use Rattle.md_decompose.specs.Classes.{AreMaximalInside}
+use Rattle.md_decompose.specs.Marks.{ListsInOrder}
 use Rattle.md_decompose.proofs.OrderLemmas.{contains_at, at_contained}
 use Rattle.md_decompose.proofs.ClassLists.{at_known}
 
@@ -101,9 +101,9 @@ module _ {e : ℕ → ℕ → Bool} where
           let t : (t : ℕ) × Has s t × Lacks x.0 t = maximal_leaves s x.0 x.1 in
           let joined : IsModule e s (union held m) = join_module s held m v is.is_module module_is is.start hv in
           let in_join : Has (union held m) t.0 =
-              over.least (union held m) joined
-              (λ z h. elim (of_insert held j z h) [ inl new ↦ union_right held m z (subst (Has m) (sym new) hj) | inr old ↦ union_left held m z old ])
-              t.0 (all t.0 t.1)
+          over.least (union held m) joined
+          (λ z h. elim (of_insert held j z h) [ inl new ↦ union_right held m z (subst (Has m) (sym new) hj) | inr old ↦ union_left held m z old ])
+          t.0 (all t.0 t.1)
           in
           elim (of_union held m t.0 in_join) [
             | inl h ↦ clash (x.2 t.0 h) t.2
@@ -124,7 +124,7 @@ module _ {e : ℕ → ℕ → Bool} where
           let x : ℕ = c_module.some.0 in
           let hx : Has (set_at cs k) x = c_module.some.1 in
           let differs : set_at cs k ≢ s = λ same.
-              clash (is.holds.partition.inside k v (Has-along s _ (sym same) v (of_minus s rest v hv).0)) (of_minus s rest v hv).1 in
+          clash (is.holds.partition.inside k v (Has-along s _ (sym same) v (of_minus s rest v hv).0)) (of_minus s rest v hv).1 in
           let y : (y : NameSet) × IsMaximalModule e s y × Within (set_at cs k) y = in_maximal s (set_at cs k) c_module differs in
           let y_in : Within y.0 rest = away y.0 x y.1 (y.2 x hx) (is.holds.partition.inside k x hx) in
           let same : y.0 ≡ set_at cs k = same_members y.0 (set_at cs k) (is.holds.whole y.0 y.1.is_module y_in k x hx (y.2 x hx)) y.2 in
@@ -136,7 +136,7 @@ module _ {e : ℕ → ℕ → Bool} where
           let known : at.0 < length cs = at_known cs at.0 x at.1 in
           let differs : set_at cs at.0 ≢ s = (class_child at.0 known).proper in
           let same : set_at cs at.0 ≡ m =
-              m_max.maximal (set_at cs at.0) (is.modules at.0 known) differs (is.holds.whole m m_max.is_module (away m x m_max h hr) at.0 x at.1 h)
+          m_max.maximal (set_at cs at.0) (is.modules at.0 known) differs (is.holds.whole m m_max.is_module (away m x m_max h hr) at.0 x at.1 h)
           in
           subst (Contains cs) same (contains_at cs at.0 known)
 
@@ -166,15 +166,3 @@ module _ {e : ℕ → ℕ → Bool} where
     children_found s rest first v j cs listed done prime differ whole names is hv max same is_first in_order =
         children_are s rest v cs done prime (rest_maximal s rest v j differ whole names is hv) hv max
         (subst (λ t. ListsInOrder t cs done) is_first (subst (λ t. ListsInOrder first t done) same in_order))
-
-  -- the least name lies below all of the rest
-  pub first_before : (s rest : NameSet) (v : ℕ) → IsLeastFrom s 0 v → IsRest e s v rest → Has (difference s rest) v → IsBefore (difference s rest) rest
-  first_before s rest v least names hv = (
-    v,
-    hv,
-    λ y h.
-        let two : Has s y × (y ≢ v) × IsLeastModule e s v y s = (names y).0 h in
-        let low : v ≤ y = least.first y two.0 (omega arith) in
-        let differ : y ≢ v = two.1 in
-        omega arith,
-  )

@@ -1,5 +1,5 @@
 -- Classes that are cut until they are modules.
-use Rattle.std.proofs.Common.{◌≡◌, ℕ, ◌+◌, ◌<◌, ◌≤◌, ◌≢◌, ◌⊎◌, Bool, true, false, List, [], ◌∷◌, ◌++◌, length, set, refl, sym, ◌∙◌, ap, subst, inl, inr, arith}
+use Rattle.std.proofs.Common.{◌≡◌, ℕ, ◌+◌, ◌<◌, ◌≤◌, ◌≢◌, ◌⊎◌, Bool, List, [], ◌∷◌, length, refl, sym, ◌∙◌, ap, subst, inl, inr, arith}
 use Rattle.std.specs.FinSet.{contains, union, intersection, difference}
 use Rattle.md_graph.specs.declared.TheConstants.{NAMES}
 use Rattle.md_graph.specs.NameSet.{IsLeastFrom, NoneFrom, AllBelow, ascending_from}
@@ -11,10 +11,10 @@ use Rattle.md_modules.proofs.Sets.{either, clash, true_if, false_if, same_name, 
 use Rattle.md_modules.proofs.Growth.{alike_unless}
 use Rattle.md_modules.proofs.Turns.{ToldApart, told, none_lacks, Walked}
 use Rattle.md_decompose.specs.Children.{set_at}
-use Rattle.md_decompose.specs.Classes.{told_apart, Tells, IsPartition, HoldsModules, AreMaximalInside}
+use Rattle.md_decompose.specs.Classes.{told_apart, IsSplitter, IsPartition, HoldsModules, AreMaximalInside}
 use Rattle.md_decompose.proofs.ClassLists.{at_known, at_one, in_one, IsCutAt, place_of}
 
--- ---- a name that tells two names of a class apart
+-- ---- splitters
 
 module _ {g : PlainGraph} (graph : IsGraph g) where
   apart : (a x : ℕ) (first second out : NameSet) → first ≡ neighbours g a → second ≡ neighbours g x → ToldApart graph a x out (told_apart first second out)
@@ -22,9 +22,9 @@ module _ {g : PlainGraph} (graph : IsGraph g) where
       told graph a x out first second (difference first second) (difference second first) (union (difference first second) (difference second first)) (told_apart first second out)
       is_first is_second refl refl refl refl
 
-  pub teller_found : (s c first second out : NameSet) (a x p : ℕ) → Has c a → Has c x → out ≡ difference s c → first ≡ neighbours g a → second ≡ neighbours g x →
-      IsLeastFrom (told_apart first second out) 0 p → Tells (adjacent g) s c p
-  teller_found s c first second out a x p ha hx is_out is_first is_second is =
+  pub splitter_found : (s c first second out : NameSet) (a x p : ℕ) → Has c a → Has c x → out ≡ difference s c → first ≡ neighbours g a → second ≡ neighbours g x →
+      IsLeastFrom (told_apart first second out) 0 p → IsSplitter (adjacent g) s c p
+  splitter_found s c first second out a x p ha hx is_out is_first is_second is =
       let two : Has out p × (adjacent g a p ≢ adjacent g x p) = (apart a x first second out is_first is_second).1 p is.member in
       let place : Has s p × Lacks c p = of_minus s c p (Has-along out _ is_out p two.0) in
       elim (either (adjacent g p a)) [
@@ -42,9 +42,9 @@ module _ {g : PlainGraph} (graph : IsGraph g) where
         }
       ]
 
-  pub teller_none : (first second out : NameSet) (a x : ℕ) → first ≡ neighbours g a → second ≡ neighbours g x →
+  pub splitter_none : (first second out : NameSet) (a x : ℕ) → first ≡ neighbours g a → second ≡ neighbours g x →
       NoneFrom (told_apart first second out) 0 → (y : ℕ) → Has out y → adjacent g a y ≡ adjacent g x y
-  teller_none first second out a x is_first is_second none y h =
+  splitter_none first second out a x is_first is_second none y h =
       alike_unless (adjacent g a y) (adjacent g x y) (λ differ. clash ((apart a x first second out is_first is_second).0 y h differ) (none_lacks _ none y))
 
 -- a walk over the members behind the least one
@@ -74,15 +74,7 @@ module _ (b row : NameSet) (cs new : List NameSet) (i : ℕ) (is : IsCutAt cs ne
 
   pub cut_partition : IsPartition b cs → HasSome (intersection (set_at cs i) row) → HasSome (difference (set_at cs i) row) → IsPartition b new
   cut_partition old in_some out_some = record {
-    some = λ k l. elim (same_name k i) [
-      | inl same ↦ (in_some.0, in_here k same in_some.0 in_some.1)
-      | inr differ ↦ elim (same_name k (length cs)) [
-        | inl same ↦ (out_some.0, in_last k same out_some.0 out_some.1)
-        | inr not_last ↦
-            let size : length new ≡ length cs + 1 = is.size in
-            let r : HasSome (set_at cs k) = old.some k (omega arith) in (r.0, in_other k differ not_last r.0 r.1)
-      ]
-    ];
+    are_apart = record { some = each_some; apart = alone };
     inside = λ k x h. elim (place k x h) [
       | inl here ↦ old.inside i x (of_meet (set_at cs i) row x here.1).0
       | inr other ↦ elim other [ inl last ↦ old.inside i x (of_minus (set_at cs i) row x last.1).0 | inr w ↦ old.inside k x w.2 ]
@@ -99,10 +91,20 @@ module _ (b row : NameSet) (cs new : List NameSet) (i : ℕ) (is : IsCutAt cs ne
           let not_last : r.0 ≢ length cs = λ e. omega arith in
           (r.0, in_other r.0 differ not_last x r.1)
     ];
-    apart = alone;
   } where
+    each_some : (k : ℕ) → k < length new → HasSome (set_at new k)
+    each_some k l = elim (same_name k i) [
+      | inl same ↦ (in_some.0, in_here k same in_some.0 in_some.1)
+      | inr differ ↦ elim (same_name k (length cs)) [
+        | inl same ↦ (out_some.0, in_last k same out_some.0 out_some.1)
+        | inr not_last ↦
+            let size : length new ≡ length cs + 1 = is.size in
+            let r : HasSome (set_at cs k) = old.are_apart.some k (omega arith) in (r.0, in_other k differ not_last r.0 r.1)
+      ]
+    ]
+
     known_in : (k x : ℕ) → (k ≢ i) → Has (set_at cs k) x → Has (set_at cs i) x → ⊥
-    known_in k x differ h hi = differ (old.apart k i x h hi)
+    known_in k x differ h hi = differ (old.are_apart.apart k i x h hi)
 
     alone : (j k x : ℕ) → Has (set_at new j) x → Has (set_at new k) x → j ≡ k
     alone j k x hj hk = elim (place j x hj) [
@@ -125,7 +127,7 @@ module _ (b row : NameSet) (cs new : List NameSet) (i : ℕ) (is : IsCutAt cs ne
           | inl q ↦ absurd (known_in j x p.0 p.2 (of_meet (set_at cs i) row x q.1).0)
           | inr other ↦ elim other [
             | inl q ↦ absurd (known_in j x p.0 p.2 (of_minus (set_at cs i) row x q.1).0)
-            | inr q ↦ old.apart j k x p.2 q.2
+            | inr q ↦ old.are_apart.apart j k x p.2 q.2
           ]
         ]
       ]
@@ -141,10 +143,9 @@ module _ {e : ℕ → ℕ → Bool} where
   cutting_begins s b c cs some same is = subst (λ t. IsCutting e s b t 0) (sym (is ∙ ap (λ t. t ∷ []) same)) (record {
     holds = record {
       partition = record {
-        some = λ k l. subst HasSome (sym (in_one b k l)) some;
+        are_apart = record { some = λ k l. subst HasSome (sym (in_one b k l)) some; apart = λ j k x hj hk. (at_one b j x hj).0 ∙ sym (at_one b k x hk).0 };
         inside = λ k x h. (at_one b k x h).1;
         cover = λ x h. (0, h);
-        apart = λ j k x hj hk. (at_one b j x hj).0 ∙ sym (at_one b k x hk).0;
       };
       whole = λ m is w k x h hm y hy.
           let first : k ≡ 0 = (at_one b k x h).0 in subst (λ n. Has (set_at (b ∷ []) n) y) (sym first) (w y hy);
@@ -165,7 +166,7 @@ module _ {e : ℕ → ℕ → Bool} where
   pub cutting_ends : (s b : NameSet) (cs : List NameSet) (i : ℕ) → IsCutting e s b cs i → length cs ≤ i → AreMaximalInside e s b cs
   cutting_ends s b cs i is end = record { holds = is.holds; modules = λ k l. is.modules k (omega arith) l }
 
-  module _ (s row : NameSet) (cs : List NameSet) (i p : ℕ) (rows : (y : ℕ) → contains row y ≡ e p y) (tells : Tells e s (set_at cs i) p) where
+  module _ (s row : NameSet) (cs : List NameSet) (i p : ℕ) (rows : (y : ℕ) → contains row y ≡ e p y) (tells : IsSplitter e s (set_at cs i) p) where
     pub sees_some : HasSome (intersection (set_at cs i) row)
     sees_some = (tells.sees.0, meet_has (set_at cs i) row tells.sees.0 tells.sees.1 (rows tells.sees.0 ∙ tells.sees.2))
 

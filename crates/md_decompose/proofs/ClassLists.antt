@@ -1,11 +1,11 @@
 -- Lists of classes: the class at a place, a class cut in two, and the work that is left from a place on.
-use Rattle.std.proofs.Common.{◌≡◌, ℕ, zero, suc, ◌+◌, ◌-◌, ◌*◌, ◌<◌, ◌≤◌, ◌≢◌, ◌⊎◌, List, [], ◌∷◌, ◌++◌, length, get_or, set, refl, sym, ◌∙◌, ap, subst, inl, inr, arith}
+use Rattle.std.proofs.Common.{◌≡◌, ℕ, zero, suc, ◌+◌, ◌-◌, ◌*◌, ◌<◌, ◌≤◌, ◌≢◌, ◌⊎◌, List, [], ◌∷◌, ◌++◌, length, set, refl, sym, ◌∙◌, ap, subst, inl, inr, arith}
 use Rattle.std.proofs.lemmas.Bool.{cases_lt}
 use Rattle.std.proofs.lemmas.List.{get_or_past, get_or_push, get_or_append_left, get_or-set_same, get_or-set_other, length-set, length_push}
 use Rattle.std.specs.FinSet.{empty, len, intersection, difference}
-use Rattle.md_modules.specs.Sets.{NameSet, Has, Lacks, Within, HasSome}
+use Rattle.md_modules.specs.Sets.{NameSet, Has, Lacks, HasSome}
 use Rattle.md_modules.proofs.Sets.{clash, false_if, same_name, empty_lacks, Has-along, meet_has, of_meet, minus_has, of_minus, same_members}
-use Rattle.md_modules.proofs.Search.{some_len, len_within, len_minus}
+use Rattle.md_modules.proofs.Search.{some_len, len_minus}
 use Rattle.md_decompose.specs.Children.{set_at}
 
 -- a place with a member is one of the list
@@ -108,9 +108,9 @@ work_falls cs new i row l in_some out_some is =
     let some_in : 1 ≤ len (intersection c row) = some_len (intersection c row) in_some.0 in_some.1 in
     let some_out : 1 ≤ len (difference c row) = some_len (difference c row) out_some.0 out_some.1 in
     let rest : difference c row ≡ difference c (intersection c row) =
-        same_members _ _
-        (λ x h. minus_has c (intersection c row) x (of_minus c row x h).0 (false_at c x (of_minus c row x h).1))
-        (λ x h. minus_has c row x (of_minus c (intersection c row) x h).0 (false_in c x (of_minus c (intersection c row) x h)))
+    same_members _ _
+    (λ x h. minus_has c (intersection c row) x (of_minus c row x h).0 (false_at c x (of_minus c row x h).1))
+    (λ x h. minus_has c row x (of_minus c (intersection c row) x h).0 (false_in c x (of_minus c (intersection c row) x h)))
     in
     let both : len (difference c (intersection c row)) + len (intersection c row) ≤ len c = len_minus c (intersection c row) (λ x h. (of_meet c row x h).0) in
     let parts : len (difference c row) ≡ len (difference c (intersection c row)) = ap len rest in

@@ -6,7 +6,7 @@ ghost use Rattle.md_graph.specs.PlainGraph.{adjacent};
 ghost use Rattle.md_modules.specs.Sets.{Within, HasSome};
 ghost use Rattle.md_modules.specs.Modules.{IsModule};
 ghost use Rattle.md_decompose.specs.Children.{set_at};
-ghost use Rattle.md_decompose.specs.Classes.{told_apart, Tells, AreMaximalInside};
+ghost use Rattle.md_decompose.specs.Classes.{told_apart, IsSplitter, AreMaximalInside};
 
 use md_graph::{Graph, Memory, NAMES, Names};
 use std::alloc::Global;
@@ -31,7 +31,7 @@ pub(crate) fn cut(
     }
     let mut at = 0;
     while at < classes.len() {
-        if let Some(p) = teller(graph, set, &classes[at]) {
+        if let Some(p) = splitter(graph, set, &classes[at]) {
             if let Err(stop) = split(&mut classes, at, graph.row(p)) {
                 return Err(stop);
             }
@@ -60,11 +60,11 @@ fn split(classes: &mut Vec<Names>, at: usize, row: &Names) -> Result<(), Memory>
 }
 
 /// A name of `set` outside `class` that is adjacent to some of it and not to all; none exactly where `class` is a module.
-fn teller(graph: &Graph, set: &Names, class: &Names) -> Option<u32>
+fn splitter(graph: &Graph, set: &Names, class: &Names) -> Option<u32>
     requires inside { Within set.now graph.now.vertices }
     requires part { Within class.now set.now }
     requires some { HasSome class.now }
-    ensures found { IfSome result (Tells (adjacent graph.now) set.now class.now) }
+    ensures found { IfSome result (IsSplitter (adjacent graph.now) set.now class.now) }
     ensures none { IfNone result (IsModule (adjacent graph.now) set.now class.now) }
     ensures name { IfSome result (λ p. p < NAMES) }
 {

@@ -31,7 +31,7 @@ pub(crate) fn prime_children(
     let mut rest = Names::none();
     back(graph, set, v, j, &mut rest);
     let classes = cut(alloc, graph, set, &rest)?;
-    in_order(alloc, set.minus(&rest), &rest, &classes)
+    in_order(alloc, set.minus(&rest), &classes)
 }
 
 /// A member of a prime set that no proper module holds with its member `v`.
@@ -68,4 +68,73 @@ fn hold(graph: &Graph, set: &Names, v: u32, j: u32, held: &mut Names)
     todo.insert(j);
     held.insert(j);
     grow(graph, set, v, held, todo);
+}
+
+#[cfg(test)]
+mod tests {
+    use super::*;
+    use md_graph::NAMES;
+    use md_modules::{co_connected, connected};
+    use std::process::Abort;
+    use std::test::Fail;
+
+    /// The graph with the vertices below `count` and these edges.
+    fn made(
+        rt: &impl Abort,
+        alloc: Global,
+        count: u32,
+        edges: &[(u32, u32)],
+    ) -> Result<Graph, Memory> {
+        let mut g = Graph::new(alloc)?;
+        for v in 0..count {
+            assert!(rt; v < NAMES && !g.has_vertex(v));
+            g.add_vertex(v);
+        }
+        for (u, v) in edges {
+            join(rt, &mut g, *u, *v);
+        }
+        Ok(g)
+    }
+
+    fn join(rt: &impl Abort, g: &mut Graph, u: u32, v: u32) {
+        assert!(rt; u != v);
+        assert!(rt; g.has_vertex(u));
+        assert!(rt; g.has_vertex(v));
+        assert!(rt; !g.has_edge(u, v));
+        g.add_edge(u, v);
+    }
+
+    /// Sees what the children of the whole graph are.
+    fn divided(rt: &impl Abort, alloc: Global, g: &Graph, lists: &[&[u32]]) -> Result<(), Memory> {
+        assert!(rt; g.has_vertex(0));
+        assert!(rt; g.has_vertex(1));
+        assert!(rt; connected(g));
+        assert!(rt; co_connected(g));
+        let sets = prime_children(alloc, g, g.vertices())?;
+        assert_eq!(rt; sets.len(), lists.len());
+        for (set, list) in sets.iter().zip(lists) {
+            assert_eq!(rt; set.count() as usize, list.len());
+            for v in *list {
+                assert!(rt; set.has(*v), "member {v}");
+            }
+        }
+        Ok(())
+    }
+
+    const PATH: [(u32, u32); 3] = [(0, 1), (1, 2), (2, 3)];
+
+    const BULL: [(u32, u32); 5] = [(0, 1), (1, 2), (2, 3), (4, 1), (4, 2)];
+    /// The path 3-0-1-2, with 4 beside 3 and 5 in the place of 1.
+    const TWINS: [(u32, u32); 6] = [(3, 0), (4, 0), (0, 1), (0, 5), (1, 2), (5, 2)];
+
+    #[test]
+    fn children(rt: HostRuntime) -> Result<(), Fail> {
+        let path = made(&rt, rt.alloc(), 4, &PATH)?;
+        divided(&rt, rt.alloc(), &path, &[&[0], &[1], &[2], &[3]])?;
+        let bull = made(&rt, rt.alloc(), 5, &BULL)?;
+        divided(&rt, rt.alloc(), &bull, &[&[0], &[1], &[2], &[3], &[4]])?;
+        let twins = made(&rt, rt.alloc(), 6, &TWINS)?;
+        divided(&rt, rt.alloc(), &twins, &[&[0], &[1, 5], &[2], &[3, 4]])?;
+        Ok(())
+    }
 }

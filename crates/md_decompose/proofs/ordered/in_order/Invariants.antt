@@ -1,9 +1,5 @@
-use Rattle.std.specs.FinSet.{len}
-use Rattle.md_decompose.proofs.OrderLemmas.{IsOrdering}
+use Rattle.md_decompose.proofs.OrderLemmas.{IsListing}
 use Rattle.md_decompose.proofs.ordered.in_order.Given as goal
 
-abbrev pub invariant-loop-v : goal.invariant-loop-v
-invariant-loop-v l = IsOrdering l.fn.first l.rest l.classes l.left l.sets.items
-
-abbrev pub decreases-loop-v : goal.decreases-loop-v
-decreases-loop-v l = len l.left
+abbrev pub invariant-loop-mark : goal.invariant-loop-mark
+invariant-loop-mark l = IsListing l.fn.first l.classes l.mark-items l.mark-index l.sets.items

@@ -1,4 +1,4 @@
-use Rattle.std.proofs.Common.{◌≡◌, ◌<◌, ℕ, ◌∷◌, ◌++◌, [], length, ◌∙◌, sym, ap, subst, rules, arith}
+use Rattle.std.proofs.Common.{◌≡◌, ◌<◌, ℕ, ◌∷◌, [], length, ◌∙◌, sym, ap, subst, rules, arith}
 use Rattle.std.proofs.lemmas.List.{get_or_read}
 use Rattle.std.specs.FinSet.{contains, empty}
 use Rattle.md_graph.specs.PlainGraph.{adjacent}
@@ -6,7 +6,7 @@ use Rattle.md_graph.proofs.GraphLemmas.{contains-neighbours}
 use Rattle.md_modules.specs.Sets.{NameSet, HasSome, Within}
 use Rattle.md_modules.specs.Modules.{IsModule}
 use Rattle.md_decompose.specs.Children.{set_at}
-use Rattle.md_decompose.specs.Classes.{Tells}
+use Rattle.md_decompose.specs.Classes.{IsSplitter}
 use Rattle.md_decompose.proofs.ClassLists.{work_passes, work_falls, cut_at}
 use Rattle.md_decompose.proofs.ClassLemmas.{cutting_begins, cutting_passes, cutting_ends, cutting_cuts, sees_some, misses_some}
 use Rattle.md_decompose.proofs.partition.cut.Goals as goal
@@ -16,26 +16,26 @@ loop-at-init c =
     let pushed : c.push.new.self.items ≡ c.copy.result ∷ [] = search rules in
     cutting_begins c.args.set.now c.args.rest.now c.copy.result c.push.new.self.items c.requires.some c.copy.ensures pushed
 
-pub teller-requires-clause-part : goal.teller-requires-clause-part
-teller-requires-clause-part c =
+pub splitter-requires-clause-part : goal.splitter-requires-clause-part
+splitter-requires-clause-part c =
     let cs = c.loop-at.classes.items in
     let known : c.loop-at.at < length cs = omega (arith, c.loop-at.classes.ok.0) in
     let class : c.index.result.now ≡ set_at cs c.loop-at.at = get_or_read cs c.loop-at.at _ known c.index.ensures empty in
     subst (λ (t : NameSet). Within t c.args.set.now) (sym class)
     (λ x h. c.requires.part x (c.loop-at.invariant.holds.partition.inside c.loop-at.at x h))
 
-pub teller-requires-clause-some : goal.teller-requires-clause-some
-teller-requires-clause-some c =
+pub splitter-requires-clause-some : goal.splitter-requires-clause-some
+splitter-requires-clause-some c =
     let cs = c.loop-at.classes.items in
     let known : c.loop-at.at < length cs = omega (arith, c.loop-at.classes.ok.0) in
     let class : c.index.result.now ≡ set_at cs c.loop-at.at = get_or_read cs c.loop-at.at _ known c.index.ensures empty in
-    subst HasSome (sym class) (c.loop-at.invariant.holds.partition.some c.loop-at.at known)
+    subst HasSome (sym class) (c.loop-at.invariant.holds.partition.are_apart.some c.loop-at.at known)
 
 pub loop-at-smaller : goal.loop-at-smaller
 loop-at-smaller c =
     let cs = c.loop-at.classes.items in
     let known : c.loop-at.at < length cs = omega (arith, c.loop-at.classes.ok.0) in
-    work_passes cs c.loop-at.at known (c.loop-at.invariant.holds.partition.some c.loop-at.at known)
+    work_passes cs c.loop-at.at known (c.loop-at.invariant.holds.partition.are_apart.some c.loop-at.at known)
 
 pub loop-at-preserved : goal.loop-at-preserved
 loop-at-preserved c =
@@ -55,7 +55,7 @@ loop-at-smaller-in_default-split c =
     let e = adjacent c.args.graph.now in
     let known : c.loop-at.at < length cs = omega (arith, c.loop-at.classes.ok.0) in
     let class : c.index.result.now ≡ set_at cs c.loop-at.at = get_or_read cs c.loop-at.at _ known c.index.ensures empty in
-    let tells : Tells e c.args.set.now (set_at cs c.loop-at.at) c.in-Some.p = subst (λ (t : NameSet). Tells e c.args.set.now t c.in-Some.p) class c.in-Some.ensures.found in
+    let tells : IsSplitter e c.args.set.now (set_at cs c.loop-at.at) c.in-Some.p = subst (λ (t : NameSet). IsSplitter e c.args.set.now t c.in-Some.p) class c.in-Some.ensures.found in
     let rows = λ (y : ℕ). ap (λ s. contains s y) c.row.ensures.set ∙ contains-neighbours c.row.ensures.graph c.in-Some.p y in
     work_falls cs c.split.new.classes.items c.loop-at.at c.row.result.now known
     (sees_some c.args.set.now c.row.result.now cs c.loop-at.at c.in-Some.p rows tells) (misses_some c.args.set.now c.row.result.now cs c.loop-at.at c.in-Some.p rows tells)
@@ -67,7 +67,7 @@ loop-at-preserved-in_default-split c =
     let e = adjacent c.args.graph.now in
     let known : c.loop-at.at < length cs = omega (arith, c.loop-at.classes.ok.0) in
     let class : c.index.result.now ≡ set_at cs c.loop-at.at = get_or_read cs c.loop-at.at _ known c.index.ensures empty in
-    let tells : Tells e c.args.set.now (set_at cs c.loop-at.at) c.in-Some.p = subst (λ (t : NameSet). Tells e c.args.set.now t c.in-Some.p) class c.in-Some.ensures.found in
+    let tells : IsSplitter e c.args.set.now (set_at cs c.loop-at.at) c.in-Some.p = subst (λ (t : NameSet). IsSplitter e c.args.set.now t c.in-Some.p) class c.in-Some.ensures.found in
     let rows = λ (y : ℕ). ap (λ s. contains s y) c.row.ensures.set ∙ contains-neighbours c.row.ensures.graph c.in-Some.p y in
     cutting_cuts c.args.set.now c.row.result.now cs c.loop-at.at c.in-Some.p rows tells c.args.rest.now c.split.new.classes.items
     (cut_at cs c.split.new.classes.items c.loop-at.at _ _ known c.in_default-split.ensures) known c.loop-at.invariant

@@ -1,4 +1,3 @@
-use Rattle.std.proofs.Common.{◌≤◌, length}
 use Rattle.md_graph.specs.PlainGraph.{adjacent}
 use Rattle.md_decompose.proofs.ClassLists.{work}
 use Rattle.md_decompose.proofs.ClassLemmas.{IsCutting}
