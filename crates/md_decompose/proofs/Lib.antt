@@ -1,0 +1,4 @@
+pub mod ClassLists
+pub mod ClassLemmas
+pub mod OrderLemmas
+pub mod ChildLemmas

@@ -1,2 +1,4 @@
 pub mod Parts
 pub mod Children
+pub mod Classes
+pub mod Marks

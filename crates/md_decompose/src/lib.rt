@@ -7,8 +7,10 @@
 mod build;
 mod decomposition;
 mod node;
+mod ordered;
 mod pairs;
 mod part;
+mod partition;
 mod prime;
 
 pub use decomposition::decompose;

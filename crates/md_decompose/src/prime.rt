@@ -1,11 +1,16 @@
 //! The children of a prime set.
-ghost use Rattle.std.specs.Prelude.{IfOk};
+ghost use Rattle.std.specs.Prelude.{◌≡◌, ◌≢◌, IfOk};
+ghost use Rattle.std.specs.FinSet.{insert};
 ghost use Rattle.md_graph.specs.PlainGraph.{adjacent};
-ghost use Rattle.md_modules.specs.Sets.{Within};
+ghost use Rattle.md_modules.specs.Sets.{Has, Lacks, Within};
+ghost use Rattle.md_modules.specs.Modules.{IsModule, IsLeastModule, IsLeastModuleOver};
 ghost use Rattle.md_modules.specs.Kinds.{IsPrime};
 ghost use Rattle.md_decompose.specs.Children.{AreChildren};
 
+use crate::ordered::in_order;
+use crate::partition::cut;
 use md_graph::{Graph, Memory, Names};
+use md_modules::{back, grow};
 use std::alloc::Global;
 
 /// The maximal proper modules of a prime set of vertices, in ascending order of their least names.
@@ -18,5 +23,118 @@ pub(crate) fn prime_children(
     requires prime { IsPrime (adjacent graph.now) set.now }
     ensures { IfOk result (λ sets. AreChildren (adjacent graph.now) set.now sets.items) }
 {
-    Err(Memory)
+    let _vertices = graph.vertices();
+    let Some(v) = set.first_from(0) else {
+        unreachable!();
+    };
+    let j = far_from(graph, set, v);
+    let mut rest = Names::none();
+    back(graph, set, v, j, &mut rest);
+    let classes = cut(alloc, graph, set, &rest)?;
+    in_order(alloc, set.minus(&rest), &classes)
+}
+
+/// A member of a prime set that no proper module holds with its member `v`.
+fn far_from(graph: &Graph, set: &Names, v: u32) -> u32
+    requires inside { Within set.now graph.now.vertices }
+    requires prime { IsPrime (adjacent graph.now) set.now }
+    requires member { Has set.now v }
+    ensures differ { v ≢ result }
+    ensures whole { IsLeastModule (adjacent graph.now) set.now v result set.now }
+{
+    let _vertices = graph.vertices();
+    let mut held = Names::none();
+    held.insert(v);
+    let mut last = v;
+    while let Some(j) = set.minus(&held).first_from(0) {
+        last = j;
+        hold(graph, set, v, j, &mut held);
+    }
+    last
+}
+
+/// Grows a module that holds `v` to the least one that has `j` too. Condition: `set` is a set of vertices, and `j` a member
+/// outside the module.
+fn hold(graph: &Graph, set: &Names, v: u32, j: u32, held: &mut Names)
+    requires inside { Within set.now graph.now.vertices }
+    requires begun { IsModule (adjacent graph.now) set.now held.old }
+    requires fixed { Has held.old v }
+    requires member { Has set.now j }
+    requires new { Lacks held.old j }
+    ensures { IsLeastModuleOver (adjacent graph.now) set.now (insert held.old j) held.new }
+{
+    let _vertices = graph.vertices();
+    let mut todo = Names::none();
+    todo.insert(j);
+    held.insert(j);
+    grow(graph, set, v, held, todo);
+}
+
+#[cfg(test)]
+mod tests {
+    use super::*;
+    use md_graph::NAMES;
+    use md_modules::{co_connected, connected};
+    use std::process::Abort;
+    use std::test::Fail;
+
+    /// The graph with the vertices below `count` and these edges.
+    fn made(
+        rt: &impl Abort,
+        alloc: Global,
+        count: u32,
+        edges: &[(u32, u32)],
+    ) -> Result<Graph, Memory> {
+        let mut g = Graph::new(alloc)?;
+        for v in 0..count {
+            assert!(rt; v < NAMES && !g.has_vertex(v));
+            g.add_vertex(v);
+        }
+        for (u, v) in edges {
+            join(rt, &mut g, *u, *v);
+        }
+        Ok(g)
+    }
+
+    fn join(rt: &impl Abort, g: &mut Graph, u: u32, v: u32) {
+        assert!(rt; u != v);
+        assert!(rt; g.has_vertex(u));
+        assert!(rt; g.has_vertex(v));
+        assert!(rt; !g.has_edge(u, v));
+        g.add_edge(u, v);
+    }
+
+    /// Sees what the children of the whole graph are.
+    fn divided(rt: &impl Abort, alloc: Global, g: &Graph, lists: &[&[u32]]) -> Result<(), Memory> {
+        assert!(rt; g.has_vertex(0));
+        assert!(rt; g.has_vertex(1));
+        assert!(rt; connected(g));
+        assert!(rt; co_connected(g));
+        let sets = prime_children(alloc, g, g.vertices())?;
+        assert_eq!(rt; sets.len(), lists.len());
+        for (set, list) in sets.iter().zip(lists) {
+            assert_eq!(rt; set.count() as usize, list.len());
+            for v in *list {
+                assert!(rt; set.has(*v), "member {v}");
+            }
+        }
+        Ok(())
+    }
+
+    const PATH: [(u32, u32); 3] = [(0, 1), (1, 2), (2, 3)];
+
+    const BULL: [(u32, u32); 5] = [(0, 1), (1, 2), (2, 3), (4, 1), (4, 2)];
+    /// The path 3-0-1-2, with 4 beside 3 and 5 in the place of 1.
+    const TWINS: [(u32, u32); 6] = [(3, 0), (4, 0), (0, 1), (0, 5), (1, 2), (5, 2)];
+
+    #[test]
+    fn children(rt: HostRuntime) -> Result<(), Fail> {
+        let path = made(&rt, rt.alloc(), 4, &PATH)?;
+        divided(&rt, rt.alloc(), &path, &[&[0], &[1], &[2], &[3]])?;
+        let bull = made(&rt, rt.alloc(), 5, &BULL)?;
+        divided(&rt, rt.alloc(), &bull, &[&[0], &[1], &[2], &[3], &[4]])?;
+        let twins = made(&rt, rt.alloc(), 6, &TWINS)?;
+        divided(&rt, rt.alloc(), &twins, &[&[0], &[1, 5], &[2], &[3, 4]])?;
+        Ok(())
+    }
 }

@@ -1,0 +1,39 @@
+-- Partitions of a set of names, and the parts of a prime set that its modules lie in.
+-- Source: Habib and Paul, A survey of the algorithmic aspects of modular decomposition (partition refinement).
+use Rattle.std.specs.Prelude.{◌≡◌, ◌<◌, ℕ, Bool, true, false, List, length}
+use Rattle.std.specs.FinSet.{union, intersection, difference}
+use Rattle.md_modules.specs.Sets.{NameSet, Has, Lacks, Within, HasSome}
+use Rattle.md_modules.specs.Modules.{IsModule}
+use Rattle.md_decompose.specs.Children.{set_at}
+
+-- the names of a third set that exactly one of two sets has
+abbrev pub told_apart : NameSet → NameSet → NameSet → NameSet
+told_apart a b among = intersection (union (difference a b) (difference b a)) among
+
+-- p is a name of s outside c that is adjacent to a name of c and not to another one
+pub record IsSplitter (e : ℕ → ℕ → Bool) (s c : NameSet) (p : ℕ) : Type 0 where
+  pub inside : Has s p
+  pub outside : Lacks c p
+  pub sees : (a : ℕ) × Has c a × (e p a ≡ true)
+  pub misses : (a : ℕ) × Has c a × (e p a ≡ false)
+
+-- no set is empty, and no two sets meet
+pub record AreApart (cs : List NameSet) : Type 0 where
+  pub some : (k : ℕ) → k < length cs → HasSome (set_at cs k)
+  pub apart : (j k x : ℕ) → Has (set_at cs j) x → Has (set_at cs k) x → j ≡ k
+
+-- the sets partition b
+pub record IsPartition (b : NameSet) (cs : List NameSet) : Type 0 where
+  pub are_apart : AreApart cs
+  pub inside : (k x : ℕ) → Has (set_at cs k) x → Has b x
+  pub cover : (x : ℕ) → Has b x → (k : ℕ) × Has (set_at cs k) x
+
+-- the sets partition b, and each module of s that is a part of b lies in one of them
+pub record HoldsModules (e : ℕ → ℕ → Bool) (s b : NameSet) (cs : List NameSet) : Type 0 where
+  pub partition : IsPartition b cs
+  pub whole : (m : NameSet) → IsModule e s m → Within m b → (k x : ℕ) → Has (set_at cs k) x → Has m x → Within m (set_at cs k)
+
+-- the list has exactly the maximal ones among the modules of s that are parts of b
+pub record AreMaximalInside (e : ℕ → ℕ → Bool) (s b : NameSet) (cs : List NameSet) : Type 0 where
+  pub holds : HoldsModules e s b cs
+  pub modules : (k : ℕ) → k < length cs → IsModule e s (set_at cs k)

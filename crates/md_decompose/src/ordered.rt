@@ -1,0 +1,59 @@
+//! Sets in ascending order of their least names.
+ghost use Rattle.std.specs.Prelude.{◌<◌, ℕ, IfOk, length};
+ghost use Rattle.md_modules.specs.Sets.{NameSet};
+ghost use Rattle.md_tree.specs.StrongTrees.{IsBefore};
+ghost use Rattle.md_decompose.specs.Children.{set_at};
+ghost use Rattle.md_decompose.specs.Classes.{AreApart};
+ghost use Rattle.md_decompose.specs.Marks.{AreMarks, ListsInOrder};
+
+use md_graph::{Memory, Names};
+use std::alloc::Global;
+
+/// The least name of a class, and the place of the class in its list.
+#[derive(Clone, Copy)]
+struct Mark {
+    least: u32,
+    place: usize,
+}
+
+/// `first` and then the classes, in ascending order of their least names. Condition: no two classes meet, none is empty,
+/// and `first` has a name below all of theirs.
+pub(crate) fn in_order(alloc: Global, first: Names, classes: &[Names]) -> Result<Vec<Names>, Memory>
+    requires apart { AreApart classes.now }
+    requires lowest { (k : ℕ) → k < length classes.now → IsBefore first (set_at classes.now k) }
+    ensures { IfOk result (λ sets. ListsInOrder first classes.now sets.items) }
+{
+    let marks = marks(alloc, classes)?;
+    let Ok(mut sets) = Vec::with_capacity(alloc, marks.len() + 1) else {
+        return Err(Memory);
+    };
+    if sets.push(first).is_err() {
+        return Err(Memory);
+    }
+    for mark in &marks {
+        if sets.push(classes[mark.place].copy()).is_err() {
+            return Err(Memory);
+        }
+    }
+    Ok(sets)
+}
+
+/// One mark of each class, in ascending order of their least names.
+fn marks(alloc: Global, classes: &[Names]) -> Result<Vec<Mark>, Memory>
+    requires { AreApart classes.now }
+    ensures { IfOk result (λ marks. AreMarks classes.now marks.items) }
+{
+    let Ok(mut marks) = Vec::with_capacity(alloc, classes.len()) else {
+        return Err(Memory);
+    };
+    for (place, class) in classes.iter().enumerate() {
+        let Some(least) = class.first_from(0) else {
+            unreachable!();
+        };
+        if marks.push(Mark { least, place }).is_err() {
+            return Err(Memory);
+        }
+    }
+    marks.sort_unstable_by_key(|mark| mark.least);
+    Ok(marks)
+}
