@@ -1,2 +1,4 @@
 pub mod Parts
 pub mod Children
+pub mod Stacks
+pub mod Turns
