@@ -1,2 +1,4 @@
 pub mod Folding
 pub mod Stacking
+pub mod Joining
+pub mod Opened

@@ -24,9 +24,9 @@ use std::alloc::Global;
 pub fn decompose(alloc: Global, graph: &Graph) -> Result<Option<Tree>, Memory>
     ensures { IfOk result (λ tree. IsTree (adjacent graph.now) graph.now.vertices (plain_option tree)) }
 {
-    if graph.vertices().first_from(0).is_none() {
+    let Some(_) = graph.next_vertex(0) else {
         return Ok(None);
-    }
+    };
     let parts = parts(alloc, graph)?;
     Ok(Some(build(alloc, parts)?))
 }
@@ -43,9 +43,7 @@ fn parts(alloc: Global, graph: &Graph) -> Result<Vec<Part>, Memory>
         names: graph.vertices().copy(),
         parent: None,
     };
-    if waiting.push(whole).is_err() {
-        return Err(Memory);
-    }
+    push_set(&mut waiting, whole)?;
     while let Some(next) = waiting.pop() {
         take_apart(alloc, graph, &next, &mut parts, &mut waiting)?;
     }
@@ -129,9 +127,16 @@ fn push_open(waiting: &mut Vec<Open>, kind: Kind, sets: Vec<Names>) -> Result<()
             names,
             parent: Some(kind),
         };
-        if waiting.push(set).is_err() {
-            return Err(Memory);
-        }
+        push_set(waiting, set)?;
+    }
+    Ok(())
+}
+
+fn push_set(waiting: &mut Vec<Open>, set: Open) -> Result<(), Memory>
+    ensures { IfOk result (λ _. waiting.new.items ≡ waiting.old.items ++ set ∷ []) }
+{
+    if waiting.push(set).is_err() {
+        return Err(Memory);
     }
     Ok(())
 }
