@@ -1,12 +1,12 @@
 -- The parts of a tree, put from the last to the first on a stack of trees, leave the tree on top of it.
-use Rattle.std.proofs.Common.{◌≡◌, ℕ, suc, ◌+◌, ◌-◌, ◌≤◌, List, [], ◌∷◌, ◌++◌, length, take, drop, map, refl, sym, ◌∙◌, ap, subst, append_assoc, append-nil, length-append, arith}
+use Rattle.std.proofs.Common.{◌≡◌, suc, ◌-◌, ◌≤◌, List, [], ◌∷◌, ◌++◌, length, take, drop, refl, sym, ◌∙◌, ap, subst, append_assoc, append-nil, length-append, arith}
 use Rattle.std.proofs.Math.Seq.{take-append_seam, drop-append_seam}
 use Rattle.std.proofs.lemmas.List.{same_from_push}
 use Rattle.std.specs.Prelude.{⊤}
 use Rattle.md_tree.specs.declared.Kind.{Kind}
 use Rattle.md_tree.specs.declared.Pair.{Pair}
 use Rattle.md_tree.specs.Trees.{PlainTree, leaf, node, PlainTrees, no_tree, one_more, count, row}
-use Rattle.md_decompose.specs.Parts.{PlainPart, name, inner, parts_of, parts_backward}
+use Rattle.md_decompose.specs.Parts.{PlainPart, inner, parts_of, parts_backward}
 use Rattle.md_decompose.specs.Stacks.{with_part, HasChildrenOf}
 
 -- the stack after these parts, from the last to the first

@@ -1,6 +1,6 @@
 -- A node over the trees of a set's children, and how much smaller the children are.
-use Rattle.std.proofs.Common.{◌≡◌, ℕ, zero, suc, ◌+◌, ◌-◌, ◌*◌, ◌<◌, ◌≤◌, Bool, true, List, [], ◌∷◌, ◌++◌, length, map, refl, sym, ◌∙◌, ap, subst, inl, inr, arith}
-use Rattle.std.specs.FinSet.{empty, len, difference}
+use Rattle.std.proofs.Common.{◌≡◌, ℕ, zero, suc, ◌+◌, ◌-◌, ◌*◌, ◌<◌, ◌≤◌, Bool, List, [], ◌∷◌, ◌++◌, length, map, refl, sym, ◌∙◌, ap, subst, inl, inr, arith}
+use Rattle.std.specs.FinSet.{len, difference}
 use Rattle.md_modules.specs.Sets.{NameSet, Has, Lacks, Within, HasSome, HasTwo, Disjoint}
 use Rattle.md_modules.specs.Modules.{IsMaximalStrong}
 use Rattle.md_modules.proofs.Sets.{clash, false_if, same_members, minus_has}
@@ -9,12 +9,11 @@ use Rattle.md_modules.proofs.Strong.{children_meet, child_of, child_leaves}
 use Rattle.md_tree.specs.declared.Kind.{Kind}
 use Rattle.md_tree.specs.declared.Kind.TheVariants.{Parallel, Series, Prime}
 use Rattle.md_tree.specs.declared.Pair.{Pair}
-use Rattle.md_tree.specs.Trees.{PlainTree, PlainTrees, names, names_below, names_at, row}
-use Rattle.md_tree.specs.StrongTrees.{HasKind, IsBefore, IsInOrder, IsJoined, ListsJoined, HasPairs}
+use Rattle.md_tree.specs.Trees.{PlainTree, names, names_below, names_at, row}
+use Rattle.md_tree.specs.StrongTrees.{HasKind, IsBefore, IsInOrder, IsJoined, HasPairs}
 use Rattle.md_tree.proofs.Lists.{In, Later, of_contains, to_contains, of_pairs}
 use Rattle.md_tree.proofs.Nodes.{IsChild, child_inside, child_of_name}
 use Rattle.md_tree.proofs.Built.{IsChildSet, IsBuilt}
-use Rattle.md_tree.proofs.Unique.{two_of_kind}
 use Rattle.md_decompose.specs.Children.{AreChildren, set_at, AreJoined, ListsPairs}
 use Rattle.md_decompose.specs.Turns.{ListsForKind}
 
@@ -41,12 +40,16 @@ in_order (t ∷ ts) later some = (before, in_order ts later.1 (λ c i. some c (i
   z = first_member (names t) (some t (inl refl)).0 (some t (inl refl)).1
 
   before : IsBefore (names t) (names_below (row ts))
-  before = (z.0, z.1, λ y h.
-      let c : (c : PlainTree) × IsChild (row ts) c × Has (names c) y = child_of_name (row ts) y h in
-      let b : IsBefore (names t) (names c.0) = later.0 (names c.0) (of_child ts c.0 c.1) in
-      let p : z.0 ≤ b.0 = z.2 b.0 b.1 in
-      let q : b.0 < y = b.2 y c.2 in
-      omega arith)
+  before = (
+    z.0,
+    z.1,
+    λ y h.
+        let c : (c : PlainTree) × IsChild (row ts) c × Has (names c) y = child_of_name (row ts) y h in
+        let b : IsBefore (names t) (names c.0) = later.0 (names c.0) (of_child ts c.0 c.1) in
+        let p : z.0 ≤ b.0 = z.2 b.0 b.1 in
+        let q : b.0 < y = b.2 y c.2 in
+        omega arith,
+  )
 
 module _ (e : ℕ → ℕ → Bool) where
   module _ (ts : List PlainTree) (cs : List NameSet) (same : map names ts ≡ cs) where

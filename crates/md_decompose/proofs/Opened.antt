@@ -1,8 +1,8 @@
 -- The sets that wait to be taken apart, and the parts so far: whatever trees the sets have, with them the parts are those of a tree.
-use Rattle.std.proofs.Common.{◌≡◌, ℕ, suc, ◌+◌, ◌-◌, ◌*◌, ◌<◌, ◌≤◌, Bool, true, false, List, [], ◌∷◌, ◌++◌, length, map, Option, Some, None, refl, sym, ◌∙◌, ap, subst, inl, inr, arith, append_assoc, append-nil}
-use Rattle.std.proofs.lemmas.List.{map-append, length-map}
+use Rattle.std.proofs.Common.{◌≡◌, ℕ, suc, ◌+◌, ◌-◌, ◌*◌, ◌<◌, ◌≤◌, Bool, true, false, List, [], ◌∷◌, ◌++◌, length, map, Some, None, refl, sym, ◌∙◌, ap, subst, inl, inr, arith, append_assoc, append-nil}
+use Rattle.std.proofs.lemmas.List.{map-append}
 use Rattle.std.specs.FinSet.{len}
-use Rattle.md_modules.specs.Sets.{NameSet, Has, Within, HasSome, HasTwo, only_name}
+use Rattle.md_modules.specs.Sets.{NameSet, Within, HasSome, HasTwo}
 use Rattle.md_modules.specs.Adjacency.{IsAdjacency}
 use Rattle.md_modules.specs.Modules.{IsMaximalStrong}
 use Rattle.md_modules.proofs.Sets.{Has-along}
@@ -20,7 +20,7 @@ use Rattle.md_tree.proofs.Canonical.{built_tree}
 use Rattle.md_decompose.specs.declared.part.Open.{Open}
 use Rattle.md_decompose.specs.Parts.{PlainPart, name, inner, parts_of, parts_backward}
 use Rattle.md_decompose.specs.Children.{FitsBelow}
-use Rattle.md_decompose.specs.Turns.{open_below, IsNode, IsPartOf, IsTurn}
+use Rattle.md_decompose.specs.Turns.{open_below, IsPartOf, IsTurn}
 use Rattle.md_decompose.proofs.Joining.{all_names, node_built, weights, weights-append, child_maximal, children_fall}
 
 abbrev pub sets_of : List Open → List NameSet
@@ -94,6 +94,9 @@ module _ {e : ℕ → ℕ → Bool} (adj : IsAdjacency e) where
   child_fits s c Prime kind max = tt
 
   module _ (all : NameSet) where
+    begun_as : {ps qs : List PlainPart} → ps ≡ qs → IsBegun e all ps → IsBegun e all qs
+    begun_as same b = (b.0, b.1, b.2, sym same ∙ b.3)
+
     whole_ready : (o : Open) → HasSome all → o.names ≡ all → o.parent ≡ None → IsReady e all o
     whole_ready o some same top = record { some = subst HasSome (sym same) some; inside = Has-along o.names all same; below = subst (FitsBelow e o.names) (sym top) tt }
 
@@ -136,8 +139,11 @@ module _ {e : ℕ → ℕ → Bool} (adj : IsAdjacency e) where
           })
 
       -- the tree of o over those of its children
+      abbrev HasTreeOver : PlainPart → List PlainTree → Type 0
+      HasTreeOver p us = (t : PlainTree) × (names t ≡ o.names) × EachNode (IsBuilt e) t × (parts_of t ≡ p ∷ parts_backward (row us))
+
       tree_over : (p : PlainPart) (added : List Open) → IsPartOf e o.names p added → (us : List PlainTree) → map names us ≡ sets_of added →
-          EachNodeBelow (IsBuilt e) (row us) → (t : PlainTree) × (names t ≡ o.names) × EachNode (IsBuilt e) t × (parts_of t ≡ p ∷ parts_backward (row us))
+          EachNodeBelow (IsBuilt e) (row us) → HasTreeOver p us
       tree_over (name v) added part us sets each =
           (leaf v, sym part.0, tt, ap (λ ts. name v ∷ parts_backward (row ts)) (sym (no_trees us (sets ∙ ap sets_of part.1))))
       tree_over (inner k n ps) added part us sets each =
@@ -160,30 +166,29 @@ module _ {e : ℕ → ℕ → Bool} (adj : IsAdjacency e) where
             omega arith
 
         module _ (p : PlainPart) (added : List Open) (part : IsPartOf e o.names p added) (later : parts' ≡ parts ++ p ∷ []) (left : os' ≡ waiting ++ added) where
-          goes_on : (ts : List PlainTree) → map names ts ≡ sets_of os' → EachNodeBelow (IsBuilt e) (row ts) → IsBegun e all (parts' ++ parts_backward (row ts))
-          goes_on ts sets each =
-              let r : Parted ts (sets_of waiting) (sets_of added) =
-              parted ts (sets_of waiting) (sets_of added) (sets ∙ ap sets_of left ∙ map-append (λ (q : Open). q.names) waiting added) in
-              let two : EachNodeBelow (IsBuilt e) (row r.0) × EachNodeBelow (IsBuilt e) (row r.1) =
-              of_each (IsBuilt e) r.0 r.1 (subst (λ us. EachNodeBelow (IsBuilt e) (row us)) r.2 each) in
-              let t : (t : PlainTree) × (names t ≡ o.names) × EachNode (IsBuilt e) t × (parts_of t ≡ p ∷ parts_backward (row r.1)) = tree_over p added part r.1 r.4 two.1 in
-              let before : IsBegun e all (parts ++ parts_backward (row (r.0 ++ t.0 ∷ []))) =
-              is.goes_on (r.0 ++ t.0 ∷ [])
+          moved : (ts xs ys : List PlainTree) (t : PlainTree) → ts ≡ xs ++ ys → parts_of t ≡ p ∷ parts_backward (row ys) →
+              parts ++ parts_backward (row (xs ++ t ∷ [])) ≡ parts' ++ parts_backward (row ts)
+          moved ts xs ys t cut own =
+              ap (λ ps. parts ++ ps) (backward-append xs (t ∷ [])) ∙ ap (λ ps. parts ++ (ps ++ parts_backward (row xs))) own
+              ∙ ap (λ ps. parts ++ p ∷ ps) (sym (backward-append xs ys)) ∙ sym (append_assoc parts (p ∷ []) (parts_backward (row (xs ++ ys))))
+              ∙ ap (λ ps. ps ++ parts_backward (row (xs ++ ys))) (sym later) ∙ ap (λ us. parts' ++ parts_backward (row us)) (sym cut)
+
+          with_tree : (ts : List PlainTree) (r : Parted ts (sets_of waiting) (sets_of added)) → EachNodeBelow (IsBuilt e) (row r.0) → HasTreeOver p r.1 →
+              IsBegun e all (parts' ++ parts_backward (row ts))
+          with_tree ts r each t =
+              begun_as (moved ts r.0 r.1 t.0 r.2 t.3)
+              (is.goes_on (r.0 ++ t.0 ∷ [])
               (map-append names r.0 (t.0 ∷ []) ∙ ap (λ ss. ss ++ names t.0 ∷ []) r.3 ∙ ap (λ s. sets_of waiting ++ s ∷ []) t.1
               ∙ sym (ap sets_of popped ∙ map-append (λ (q : Open). q.names) waiting (o ∷ [])))
-              (each_append (IsBuilt e) r.0 (t.0 ∷ []) two.0 (t.2, tt)) in (
-                before.0,
-                before.1,
-                before.2,
-                sym (moved ts r.0 r.1 t.0 r.2 t.3) ∙ before.3,
-              )
-            where
-              moved : (ts xs ys : List PlainTree) (t : PlainTree) → ts ≡ xs ++ ys → parts_of t ≡ p ∷ parts_backward (row ys) →
-                  parts ++ parts_backward (row (xs ++ t ∷ [])) ≡ parts' ++ parts_backward (row ts)
-              moved ts xs ys t cut own =
-                  ap (λ ps. parts ++ ps) (backward-append xs (t ∷ [])) ∙ ap (λ ps. parts ++ (ps ++ parts_backward (row xs))) own
-                  ∙ ap (λ ps. parts ++ p ∷ ps) (sym (backward-append xs ys)) ∙ sym (append_assoc parts (p ∷ []) (parts_backward (row (xs ++ ys))))
-                  ∙ ap (λ ps. ps ++ parts_backward (row (xs ++ ys))) (sym later) ∙ ap (λ us. parts' ++ parts_backward (row us)) (sym cut)
+              (each_append (IsBuilt e) r.0 (t.0 ∷ []) each (t.2, tt)))
+
+          with_parts : (ts : List PlainTree) (r : Parted ts (sets_of waiting) (sets_of added)) →
+              EachNodeBelow (IsBuilt e) (row r.0) × EachNodeBelow (IsBuilt e) (row r.1) → IsBegun e all (parts' ++ parts_backward (row ts))
+          with_parts ts r two = with_tree ts r two.0 (tree_over p added part r.1 r.4 two.1)
+
+          with_sets : (ts : List PlainTree) → EachNodeBelow (IsBuilt e) (row ts) → Parted ts (sets_of waiting) (sets_of added) →
+              IsBegun e all (parts' ++ parts_backward (row ts))
+          with_sets ts each r = with_parts ts r (of_each (IsBuilt e) r.0 r.1 (subst (λ us. EachNodeBelow (IsBuilt e) (row us)) r.2 each))
 
           opened_by : IsOpened e all parts' os'
           opened_by = record {
@@ -191,7 +196,8 @@ module _ {e : ℕ → ℕ → Bool} (adj : IsAdjacency e) where
               | inl a ↦ is.ready q (subst (λ ws. In ws q) (sym popped) (in_left waiting (o ∷ []) q a))
               | inr b ↦ part_ready p added part q b
             ];
-            goes_on = goes_on;
+            goes_on = λ ts sets each. with_sets ts each
+                (parted ts (sets_of waiting) (sets_of added) (sets ∙ ap sets_of left ∙ map-append (λ (q : Open). q.names) waiting added));
           }
 
         pub opened_more : IsTurn e o.names parts waiting parts' os' → IsOpened e all parts' os'

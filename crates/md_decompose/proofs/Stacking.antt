@@ -1,18 +1,17 @@
 -- One part put on the program's stack of trees.
-use Rattle.std.proofs.Common.{◌≡◌, ℕ, ◌-◌, List, [], ◌∷◌, ◌++◌, length, take, drop, map, Option, Some, Vec, Global, Result, Ok, Err, IfOk, refl, sym, ◌∙◌, ap, subst}
+use Rattle.std.proofs.Common.{◌≡◌, ℕ, ◌-◌, List, [], ◌∷◌, ◌++◌, length, take, drop, map, Vec, Global, Result, Ok, Err, IfOk, refl, sym, ◌∙◌, ap}
 use Rattle.std.proofs.lemmas.List.{map-append, take-map, drop-map, length-map}
-use Rattle.std.specs.Option.{option_to_list}
 use Rattle.md_tree.specs.declared.Kind.{Kind}
 use Rattle.md_tree.specs.declared.QuotientEdges.{QuotientEdges}
-use Rattle.md_tree.specs.declared.Children.{roll-Children, out-Children}
+use Rattle.md_tree.specs.declared.Children.{roll-Children}
 use Rattle.md_tree.specs.declared.Tree.{Tree, Leaf, Node}
-use Rattle.md_tree.specs.Trees.{PlainTree, leaf, node, row}
+use Rattle.md_tree.specs.Trees.{node, row}
 use Rattle.md_tree.specs.Plain.{plain}
 use Rattle.md_tree.proofs.Plain.{plain_is_leaf, plain-node}
 use Rattle.md_decompose.specs.declared.part.Part.{Part}
 use Rattle.md_decompose.specs.declared.part.Part.TheVariants.{Leaf as LeafPart, Node as NodePart}
 use Rattle.md_decompose.specs.Parts.{plain_part}
-use Rattle.md_decompose.specs.Stacks.{with_part, HasChildrenOf}
+use Rattle.md_decompose.specs.Stacks.{with_part}
 
 pub map_one_more : {X Y : Type 0} (f : X → Y) (xs ys : List X) (x : X) → xs ≡ ys ++ x ∷ [] → map f xs ≡ map f ys ++ f x ∷ []
 map_one_more f xs ys x e = ap (map f) e ∙ map-append f ys (x ∷ [])

@@ -12,3 +12,6 @@ mod part;
 mod prime;
 
 pub use decomposition::decompose;
+
+#[cfg(test)]
+mod tests;
