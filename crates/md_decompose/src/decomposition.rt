@@ -1,16 +1,20 @@
 //! The tree of a graph: the sets that are still to be taken apart are taken from the end of a vector, one node each turn.
-ghost use Rattle.std.specs.Prelude.{◌≡◌, map, IfOk};
+ghost use Rattle.std.specs.Prelude.{◌≡◌, [], ◌∷◌, ◌++◌, map, IfOk, IfSome, IfNone};
 ghost use Rattle.md_graph.specs.PlainGraph.{adjacent};
-ghost use Rattle.md_modules.specs.Sets.{HasSome};
+ghost use Rattle.md_modules.specs.Sets.{Within, HasSome, HasTwo, only_name};
 ghost use Rattle.md_tree.specs.Trees.{PlainTree};
-ghost use Rattle.md_tree.specs.StrongTrees.{IsTreeOf, IsTree};
+ghost use Rattle.md_tree.specs.StrongTrees.{HasKind, IsTreeOf, IsTree};
 ghost use Rattle.md_tree.specs.Plain.{plain_option};
+ghost use Rattle.md_decompose.specs.Children.{AreChildren, FitsBelow};
 ghost use Rattle.md_decompose.specs.Parts.{plain_part, parts_of};
+ghost use Rattle.md_decompose.specs.Turns.{open_below, ListsForKind, IsTurn};
 
 use crate::build::build;
-use crate::part::Part;
-use md_graph::{Graph, Memory};
-use md_tree::Tree;
+use crate::node::children;
+use crate::pairs::quotient_edges;
+use crate::part::{Open, Part};
+use md_graph::{Graph, Memory, Names};
+use md_tree::{Kind, QuotientEdges, Tree};
 use std::alloc::Global;
 
 /// The tree of the strong modules of a graph, none exactly for the graph without vertices: the leaf sets of its nodes are
@@ -20,9 +24,9 @@ use std::alloc::Global;
 pub fn decompose(alloc: Global, graph: &Graph) -> Result<Option<Tree>, Memory>
     ensures { IfOk result (λ tree. IsTree (adjacent graph.now) graph.now.vertices (plain_option tree)) }
 {
-    if graph.vertices().first_from(0).is_none() {
+    let Some(_) = graph.next_vertex(0) else {
         return Ok(None);
-    }
+    };
     let parts = parts(alloc, graph)?;
     Ok(Some(build(alloc, parts)?))
 }
@@ -33,5 +37,106 @@ fn parts(alloc: Global, graph: &Graph) -> Result<Vec<Part>, Memory>
     ensures { IfOk result (λ parts. (t : PlainTree) × IsTreeOf (adjacent graph.now) graph.now.vertices t
         × (map plain_part parts.items ≡ parts_of t)) }
 {
-    Err(Memory)
+    let mut parts = Vec::new(alloc);
+    let mut waiting = Vec::new(alloc);
+    let whole = Open {
+        names: graph.vertices().copy(),
+        parent: None,
+    };
+    push_set(&mut waiting, whole)?;
+    while let Some(next) = waiting.pop() {
+        take_apart(alloc, graph, &next, &mut parts, &mut waiting)?;
+    }
+    Ok(parts)
+}
+
+// The part of a set comes behind the parts so far, and the sets of its children behind the waiting ones.
+fn take_apart(
+    alloc: Global,
+    graph: &Graph,
+    set: &Open,
+    parts: &mut Vec<Part>,
+    waiting: &mut Vec<Open>,
+) -> Result<(), Memory>
+    requires some { HasSome set.now.names }
+    requires inside { Within set.now.names graph.now.vertices }
+    requires below { FitsBelow (adjacent graph.now) set.now.names set.now.parent }
+    ensures { IfOk result (λ _. IsTurn (adjacent graph.now) set.now.names
+        (map plain_part parts.old.items) waiting.old.items (map plain_part parts.new.items) waiting.new.items) }
+{
+    if let Some(name) = only_member(&set.names) {
+        return push_part(parts, Part::Leaf(name));
+    }
+    let (kind, sets) = children(alloc, graph, &set.names, set.parent)?;
+    let edges = edges_between(alloc, graph, kind, &set.names, &sets)?;
+    push_part(parts, Part::Node(kind, sets.len() as u64, edges))?;
+    push_open(waiting, kind, sets)
+}
+
+// The member of a set with one member.
+fn only_member(set: &Names) -> Option<u32>
+    requires { HasSome set.now }
+    ensures one { IfSome result (λ name. set.now ≡ only_name name) }
+    ensures more { IfNone result (HasTwo set.now) }
+{
+    let Some(first) = set.first_from(0) else {
+        unreachable!();
+    };
+    match set.first_from(first + 1) {
+        Some(_) => None,
+        None => Some(first),
+    }
+}
+
+// The pairs that a node lists: those of a prime node alone.
+fn edges_between(
+    alloc: Global,
+    graph: &Graph,
+    kind: Kind,
+    set: &Names,
+    sets: &[Names],
+) -> Result<QuotientEdges, Memory>
+    requires inside { Within set.now graph.now.vertices }
+    requires kind { HasKind (adjacent graph.now) set.now kind }
+    requires children { AreChildren (adjacent graph.now) set.now sets.now }
+    ensures { IfOk result (λ edges. ListsForKind (adjacent graph.now) kind sets.now edges.list.items) }
+{
+    match kind {
+        Kind::Prime => quotient_edges(alloc, graph, set, sets),
+        Kind::Parallel | Kind::Series => Ok(QuotientEdges {
+            list: Vec::new(alloc),
+        }),
+    }
+}
+
+fn push_part(parts: &mut Vec<Part>, part: Part) -> Result<(), Memory>
+    ensures { IfOk result (λ _. parts.new.items ≡ parts.old.items ++ part ∷ []) }
+{
+    if parts.push(part).is_err() {
+        return Err(Memory);
+    }
+    Ok(())
+}
+
+// The children's sets in order, so that the last one is taken apart first.
+fn push_open(waiting: &mut Vec<Open>, kind: Kind, sets: Vec<Names>) -> Result<(), Memory>
+    ensures { IfOk result (λ _. waiting.new.items ≡ waiting.old.items ++ map (open_below kind) sets.items) }
+{
+    for names in sets {
+        let set = Open {
+            names,
+            parent: Some(kind),
+        };
+        push_set(waiting, set)?;
+    }
+    Ok(())
+}
+
+fn push_set(waiting: &mut Vec<Open>, set: Open) -> Result<(), Memory>
+    ensures { IfOk result (λ _. waiting.new.items ≡ waiting.old.items ++ set ∷ []) }
+{
+    if waiting.push(set).is_err() {
+        return Err(Memory);
+    }
+    Ok(())
 }

@@ -14,3 +14,6 @@ mod partition;
 mod prime;
 
 pub use decomposition::decompose;
+
+#[cfg(test)]
+mod tests;

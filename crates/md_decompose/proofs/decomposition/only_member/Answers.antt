@@ -1,0 +1,14 @@
+use Rattle.std.proofs.Common.{◌≡◌, ◌<◌, ◌+◌, ◌≤◌, sym, subst, arith}
+use Rattle.md_modules.specs.Sets.{Has, only_name}
+use Rattle.md_modules.proofs.Sets.{same_members, only_has, of_only}
+use Rattle.md_decompose.proofs.decomposition.only_member.Goals as goal
+
+pub returns-in-None-clause-one : goal.returns-in-None-clause-one
+returns-in-None-clause-one c =
+    same_members c.args.set.now (only_name c.in-Some.first)
+    (λ x h.
+    let a : c.in-Some.first ≤ x = c.in-Some.ensures.found.first x h (omega arith) in
+    let b : x < c.in-Some.first + 1 = c.in-None.ensures.none x h in
+    let same : c.in-Some.first ≡ x = omega arith in
+    subst (Has (only_name c.in-Some.first)) same (only_has c.in-Some.first))
+    (λ x h. subst (Has c.args.set.now) (sym (of_only c.in-Some.first x h)) c.in-Some.ensures.found.member)

@@ -1,0 +1,36 @@
+use Rattle.std.proofs.Common.{[], ◌∷◌, ◌++◌, map, None, refl, sym, ◌∙◌, ap}
+use Rattle.std.proofs.lemmas.List.{nil_from_length}
+use Rattle.md_graph.specs.PlainGraph.{adjacent}
+use Rattle.md_modules.proofs.Turns.{graph_adjacency}
+use Rattle.md_decompose.specs.Parts.{plain_part}
+use Rattle.md_decompose.proofs.Opened.{IsReady, opened_begin, next_ready, turn_falls, opened_more, opened_end}
+use Rattle.md_decompose.proofs.decomposition.parts.Goals as goal
+
+pub loop-next-init : goal.loop-next-init
+loop-next-init c =
+    opened_begin (graph_adjacency c.vertices.ensures.graph) c.args.graph.now.vertices (record { names = c.copy.result; parent = None }) c.push_set.new.waiting.items
+    (map plain_part c.new-parts.result.items) c.requires (c.copy.ensures ∙ c.vertices.ensures.set) refl
+    (c.in_ok-push_set.ensures ∙ ap (λ os. os ++ record { names = c.copy.result; parent = None } ∷ []) c.new-waiting.ensures.items)
+    (ap (map plain_part) c.new-parts.ensures.items)
+
+pub take_apart-requires : goal.take_apart-requires
+take_apart-requires c =
+    let ready : IsReady (adjacent c.args.graph.now) c.args.graph.now.vertices c.in-Some.next =
+    next_ready (graph_adjacency c.vertices.ensures.graph) c.args.graph.now.vertices (map plain_part c.loop-next.parts.items) c.loop-next.waiting.items c.pop.new.self.items c.in-Some.next c.loop-next.invariant
+    c.in-Some.ensures.items in
+    record { some = ready.some; inside = ready.inside; below = ready.below }
+
+pub loop-next-smaller : goal.loop-next-smaller
+loop-next-smaller c =
+    turn_falls (graph_adjacency c.vertices.ensures.graph) c.args.graph.now.vertices (map plain_part c.loop-next.parts.items) c.loop-next.waiting.items c.pop.new.self.items
+    c.in-Some.next c.loop-next.invariant c.in-Some.ensures.items _ c.take_apart.new.waiting.items c.in_ok-take_apart.ensures
+
+pub loop-next-preserved : goal.loop-next-preserved
+loop-next-preserved c =
+    opened_more (graph_adjacency c.vertices.ensures.graph) c.args.graph.now.vertices _ c.loop-next.waiting.items c.pop.new.self.items
+    c.in-Some.next c.loop-next.invariant c.in-Some.ensures.items _ c.take_apart.new.waiting.items c.in_ok-take_apart.ensures
+
+pub returns : goal.returns
+returns c =
+    opened_end (graph_adjacency c.vertices.ensures.graph) c.args.graph.now.vertices (map plain_part c.loop-next.parts.items) c.loop-next.waiting.items c.loop-next.invariant
+    (nil_from_length c.loop-next.waiting.items (sym c.loop-next.waiting.ok.0 ∙ c.in_default.ensures.cases.0))

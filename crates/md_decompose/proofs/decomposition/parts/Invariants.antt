@@ -1,0 +1,12 @@
+use Rattle.std.proofs.Common.{map}
+use Rattle.md_graph.specs.PlainGraph.{adjacent}
+use Rattle.md_decompose.specs.Parts.{plain_part}
+use Rattle.md_decompose.proofs.Joining.{weights}
+use Rattle.md_decompose.proofs.Opened.{IsOpened, sets_of}
+use Rattle.md_decompose.proofs.decomposition.parts.Given as goal
+
+abbrev pub invariant-loop-next : goal.invariant-loop-next
+invariant-loop-next l = IsOpened (adjacent l.graph) l.graph.vertices (map plain_part l.parts.items) l.waiting.items
+
+abbrev pub decreases-loop-next : goal.decreases-loop-next
+decreases-loop-next l = weights (sets_of l.waiting.items)

@@ -1,0 +1,36 @@
+use Rattle.std.proofs.Common.{[], map, refl, sym, ◌∙◌, subst, append-nil}
+use Rattle.md_graph.specs.PlainGraph.{adjacent}
+use Rattle.md_decompose.specs.declared.part.Part.TheVariants.{Leaf, Node}
+use Rattle.md_decompose.specs.Parts.{plain_part, name, inner}
+use Rattle.md_decompose.specs.Turns.{open_below, ListsForKind}
+use Rattle.md_decompose.proofs.Stacking.{map_one_more, if_ok}
+use Rattle.md_decompose.proofs.decomposition.take_apart.Goals as goal
+
+pub returns-in-Some : goal.returns-in-Some
+returns-in-Some c =
+    if_ok c.push_part.result (λ _ grown. (
+      name c.in-Some.name,
+      [],
+      (c.in-Some.ensures.one, refl),
+      map_one_more plain_part c.push_part.new.parts.items c.args.parts.now.items (Leaf c.in-Some.name) grown,
+      sym (append-nil c.args.waiting.now.items),
+    )) c.push_part.ensures
+
+pub returns : goal.returns
+returns c =
+    if_ok c.push_open.result (λ _ grown. (
+      inner c.in_ok-kind.kind c.len.result c.in_ok-edges.edges.list.items,
+      map (open_below c.in_ok-kind.kind) c.in_ok-kind.sets.items,
+      (
+        c.in_ok-kind.sets.items,
+        record {
+          kind = c.in_ok-kind.ensures.kind;
+          children = c.in_ok-kind.ensures.sets;
+          number = c.len.ensures ∙ c.in_ok-kind.sets.ok.0;
+          pairs = subst (λ cs. ListsForKind (adjacent c.args.graph.now) c.in_ok-kind.kind cs c.in_ok-edges.edges.list.items) c.deref.ensures.value c.in_ok-edges.ensures;
+        },
+        refl,
+      ),
+      map_one_more plain_part c.push_part-2.new.parts.items c.args.parts.now.items (Node c.in_ok-kind.kind c.len.result c.in_ok-edges.edges) c.in_ok-push_part.ensures,
+      grown,
+    )) c.push_open.ensures

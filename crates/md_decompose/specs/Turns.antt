@@ -1,0 +1,38 @@
+-- One turn of a decomposition: a set is taken apart, which gives one part of the tree and the sets of its children.
+-- Source: top-down modular decomposition, as in Habib and Paul, A survey of the algorithmic aspects of modular decomposition.
+use Rattle.std.specs.Prelude.{◌≡◌, ℕ, Bool, List, [], ◌∷◌, ◌++◌, map, length, Some}
+use Rattle.md_modules.specs.Sets.{NameSet, only_name}
+use Rattle.md_tree.specs.declared.Kind.{Kind}
+use Rattle.md_tree.specs.declared.Kind.TheVariants.{Parallel, Series, Prime}
+use Rattle.md_tree.specs.declared.Pair.{Pair}
+use Rattle.md_tree.specs.StrongTrees.{HasKind}
+use Rattle.md_decompose.specs.declared.part.Open.{Open}
+use Rattle.md_decompose.specs.Parts.{PlainPart, name, inner}
+use Rattle.md_decompose.specs.Children.{AreChildren, ListsPairs}
+
+-- the set c below a node of kind k, still to be taken apart
+abbrev pub open_below : Kind → NameSet → Open
+open_below k c = record { names = c; parent = Some k }
+
+-- a prime node lists the pairs of its children between which an edge runs, and no other node lists pairs
+abbrev pub ListsForKind : (ℕ → ℕ → Bool) → Kind → List NameSet → List Pair → Type 0
+ListsForKind e Parallel cs ps = ps ≡ []
+ListsForKind e Series cs ps = ps ≡ []
+ListsForKind e Prime cs ps = ListsPairs e cs ps
+
+-- the set s has the kind k, the children cs, n of them, and the pairs ps
+pub record IsNode (e : ℕ → ℕ → Bool) (s : NameSet) (k : Kind) (n : ℕ) (ps : List Pair) (cs : List NameSet) : Type 0 where
+  pub kind : HasKind e s k
+  pub children : AreChildren e s cs
+  pub number : n ≡ length cs
+  pub pairs : ListsForKind e k cs ps
+
+-- p is the part of the set s, and os are the sets of its children, still to be taken apart
+abbrev pub IsPartOf : (ℕ → ℕ → Bool) → NameSet → PlainPart → List Open → Type 0
+IsPartOf e s (name v) os = (s ≡ only_name v) × (os ≡ [])
+IsPartOf e s (inner k n ps) os = (cs : List NameSet) × IsNode e s k n ps cs × (os ≡ map (open_below k) cs)
+
+-- when s is taken apart, its part comes behind the parts so far, and the sets of its children behind the waiting ones
+abbrev pub IsTurn : (ℕ → ℕ → Bool) → NameSet → List PlainPart → List Open → List PlainPart → List Open → Type 0
+IsTurn e s parts waiting parts' waiting' =
+    (p : PlainPart) × (os : List Open) × IsPartOf e s p os × (parts' ≡ parts ++ p ∷ []) × (waiting' ≡ waiting ++ os)
