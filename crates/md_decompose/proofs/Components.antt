@@ -6,10 +6,11 @@ use Rattle.md_graph.specs.PlainGraph.{PlainGraph, IsGraph, adjacent}
 use Rattle.md_modules.specs.Sets.{NameSet, Has, Lacks, Within, HasSome}
 use Rattle.md_modules.specs.Adjacency.{IsAdjacency}
 use Rattle.md_modules.specs.Modules.{IsMaximalStrong}
+use Rattle.md_modules.specs.Kinds.{IsSplit}
 use Rattle.md_modules.specs.Components.{IsClosed, IsComponent}
-use Rattle.md_modules.proofs.Sets.{clash, false_if, empty_lacks, meet_has, of_meet, of_meet_lacks, minus_has, of_minus, minus_lacks, Has-along}
-use Rattle.md_modules.proofs.Search.{decide_same, len_proper}
-use Rattle.md_modules.proofs.Components.{closed_of_closed, closed_whole, closed_rest, unsplit_component, component_unsplit}
+use Rattle.md_modules.proofs.Sets.{clash, false_if, empty_lacks, meet_has, of_meet, of_meet_lacks, minus_has, of_minus, minus_lacks, Has-along, same_members}
+use Rattle.md_modules.proofs.Search.{decide_same, len_proper, larger_or_same}
+use Rattle.md_modules.proofs.Components.{closed_of_closed, closed_whole, closed_rest, closed_split, component_unsplit}
 use Rattle.md_modules.proofs.Strong.{children_meet}
 use Rattle.md_modules.proofs.Children.{component_child}
 use Rattle.md_modules.proofs.PathSearch.{adjacency}
@@ -122,3 +123,21 @@ pub rest_falls : (rest c rest' : NameSet) (x : ℕ) → Has rest x → Has c x �
 rest_falls rest c rest' x h k is =
     len_proper rest' rest x (λ y l. (of_minus rest c y (Has-along rest' (difference rest c) is y l)).0) h
     (ap (λ s. contains s x) is ∙ minus_lacks rest c x k)
+
+-- whether a component is the whole
+module _ {g : PlainGraph} (is_graph : IsGraph g) where
+  pub whole_unsplit : (s c left : NameSet) (v : Bool) (x : ℕ) → IsComponent (adjacent g) s x c v → left ≡ difference s c → left ≡ empty → Splits (adjacent g) s v → ⊥
+  whole_unsplit s c left v x is is_left none split =
+      elim (larger_or_same c s is.closed.inside) [
+        | inl rest ↦ clash (Has-along (difference s c) empty (sym is_left ∙ none) rest.0 (minus_has s c rest.0 rest.1 rest.2)) (empty_lacks rest.0)
+        | inr same ↦ component_unsplit (adjacency is_graph) s c v x is split.0 (subst (λ t. IsSplit (adjacent g) t split.0 v) (sym same) split.1)
+      ]
+
+pub part_splits : {e : ℕ → ℕ → Bool} (s c left : NameSet) (v : Bool) (x : ℕ) → IsComponent e s x c v → left ≡ difference s c → (left ≡ empty → ⊥) → Splits e s v
+part_splits s c left v x is is_left some =
+    elim (larger_or_same c s is.closed.inside) [
+      | inl rest ↦ (c, closed_split s c v is.closed (x, is.holds) rest)
+      | inr same ↦ absurd (some (is_left ∙ same_members (difference s c) empty
+          (λ y h. let k : Has s y × Lacks c y = of_minus s c y h in clash (Has-along s c (sym same) y k.0) k.1)
+          (λ y h. clash h (empty_lacks y))))
+    ]
