@@ -1,2 +1,4 @@
 pub mod Components
 pub mod Pushes
+pub mod Heads
+pub mod HeadPairs
