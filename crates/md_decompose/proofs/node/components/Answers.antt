@@ -1,5 +1,4 @@
-use Rattle.std.proofs.Common.{◌≡◌, Bool, true, false, IsTrue, sym, ◌∙◌, true≢false}
-use Rattle.std.specs.FinSet.{empty}
+use Rattle.std.proofs.Common.{sym, ◌∙◌, true≢false}
 use Rattle.md_decompose.proofs.Components.{whole_unsplit, part_splits}
 use Rattle.md_decompose.proofs.node.components.Goals as goal
 

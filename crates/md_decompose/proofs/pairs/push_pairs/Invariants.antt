@@ -1,9 +1,5 @@
-use Rattle.std.proofs.Common.{◌≡◌, ℕ, ◌≤◌}
 use Rattle.std.specs.FinSet.{intersection}
-use Rattle.md_graph.specs.declared.TheConstants.{NAMES}
-use Rattle.md_graph.specs.NameSet.{AllBelow, ascending_from}
 use Rattle.md_graph.specs.PlainGraph.{adjacent, neighbours}
-use Rattle.md_decompose.specs.Heads.{ListsHeadPairs}
 use Rattle.md_decompose.proofs.HeadPairs.{IsPushing}
 use Rattle.md_decompose.proofs.pairs.push_pairs.Given as goal
 
