@@ -1,8 +1,8 @@
 -- The adjacent pairs of heads, put down one head after the other, and for each head one later head after the other.
-use Rattle.std.proofs.Common.{◌≡◌, ◌≢◌, ℕ, ◌+◌, ◌<◌, ◌≤◌, ◌⊎◌, Bool, true, false, List, [], ◌∷◌, ◌++◌, AllPairs, Contains, length, get_or, refl, sym, ◌∙◌, ap, subst, inl, inr, arith}
+use Rattle.std.proofs.Common.{◌≡◌, ◌≢◌, ℕ, ◌+◌, ◌<◌, ◌≤◌, Bool, true, List, [], ◌∷◌, ◌++◌, Contains, length, get_or, refl, sym, ◌∙◌, ap, subst, inl, inr, arith}
 use Rattle.std.proofs.Math.ListN.{get_or-eq_default}
 use Rattle.std.proofs.lemmas.Bool.{cases_lt}
-use Rattle.std.specs.FinSet.{contains, empty, intersection}
+use Rattle.std.specs.FinSet.{empty, intersection}
 use Rattle.md_graph.specs.declared.TheConstants.{NAMES}
 use Rattle.md_graph.specs.NameSet.{AllBelow, IsLeastFrom, ascending_from}
 use Rattle.md_graph.specs.PlainGraph.{PlainGraph, IsGraph, adjacent, neighbours}
@@ -11,7 +11,7 @@ use Rattle.md_graph.proofs.GraphLemmas.{adjacent_ends, contains-neighbours}
 use Rattle.md_modules.specs.Sets.{NameSet, Has, HasSome}
 use Rattle.md_modules.specs.Modules.{IsMaximalModule}
 use Rattle.md_modules.specs.Kinds.{IsPrime}
-use Rattle.md_modules.proofs.Sets.{of_meet, meet_has, same_name, clash, empty_lacks, Has-along}
+use Rattle.md_modules.proofs.Sets.{of_meet, meet_has, clash, empty_lacks, Has-along}
 use Rattle.md_modules.proofs.Children.{child_maximal}
 use Rattle.md_modules.proofs.Quotients.{maximal_modules_proof}
 use Rattle.md_modules.proofs.PathSearch.{adjacency}
