@@ -6,3 +6,7 @@ pub mod Folding
 pub mod Stacking
 pub mod Joining
 pub mod Opened
+pub mod Components
+pub mod Pushes
+pub mod Heads
+pub mod HeadPairs

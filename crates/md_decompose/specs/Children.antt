@@ -4,7 +4,7 @@ use Rattle.std.specs.Prelude.{◌≡◌, ◌<◌, ◌↔◌, ℕ, Bool, true, Li
 use Rattle.std.specs.FinSet.{empty}
 use Rattle.md_modules.specs.Sets.{NameSet, Has}
 use Rattle.md_modules.specs.Modules.{IsMaximalStrong}
-use Rattle.md_modules.specs.Kinds.{IsConnected, IsCoConnected}
+use Rattle.md_modules.specs.Kinds.{IsConnected, IsCoConnected, IsSplit}
 use Rattle.md_tree.specs.declared.Kind.{Kind}
 use Rattle.md_tree.specs.declared.Kind.TheVariants.{Parallel, Series, Prime}
 use Rattle.md_tree.specs.declared.Pair.{Pair}
@@ -36,3 +36,7 @@ FitsBelow e s (Some Parallel) = IsConnected e s
 FitsBelow e s (Some Series) = IsCoConnected e s
 FitsBelow e s (Some Prime) = ⊤
 FitsBelow e s None = ⊤
+
+-- s has a split without an edge across (v is false), or one with every edge across (v is true)
+abbrev pub Splits : (ℕ → ℕ → Bool) → NameSet → Bool → Type 0
+Splits e s v = (part : NameSet) × IsSplit e s part v

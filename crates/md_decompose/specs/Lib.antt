@@ -4,3 +4,4 @@ pub mod Classes
 pub mod Marks
 pub mod Stacks
 pub mod Turns
+pub mod Heads

@@ -1,12 +1,14 @@
 //! The pairs of children that a prime node lists.
-ghost use Rattle.std.specs.Prelude.{IfOk};
+ghost use Rattle.std.specs.Prelude.{◌≡◌, ◌+◌, ◌<◌, ℕ, IfOk, AllPairs, length, slice_index};
 ghost use Rattle.md_graph.specs.PlainGraph.{adjacent};
-ghost use Rattle.md_modules.specs.Sets.{NameSet, Within};
+ghost use Rattle.md_modules.specs.Sets.{NameSet, Has, HasSome, Within};
 ghost use Rattle.md_modules.specs.Kinds.{IsPrime};
-ghost use Rattle.md_decompose.specs.Children.{AreChildren, ListsPairs};
+ghost use Rattle.md_tree.specs.StrongTrees.{IsBefore};
+ghost use Rattle.md_decompose.specs.Children.{AreChildren, ListsPairs, set_at};
+ghost use Rattle.md_decompose.specs.Heads.{AreHeads, RisesOn, ListsHeadPairs};
 
-use md_graph::{Graph, Memory, Names};
-use md_tree::QuotientEdges;
+use md_graph::{Graph, Memory, NAMES, Names};
+use md_tree::{Pair, QuotientEdges};
 use std::alloc::Global;
 
 /// The pairs of children of a prime set between which an edge runs, by their positions. The first names of two children
@@ -22,5 +24,74 @@ pub(crate) fn quotient_edges(
     requires children { AreChildren (adjacent graph.now) set.now sets.now }
     ensures { IfOk result (λ edges. ListsPairs (adjacent graph.now) sets.now edges.list.items) }
 {
-    Err(Memory)
+    let _vertices = graph.vertices();
+    let mut places = [0; NAMES as usize];
+    let heads = heads_of(sets, &mut places);
+    let list = head_pairs(alloc, graph, &heads, &places)?;
+    Ok(QuotientEdges { list })
+}
+
+/// The least name of each set, and at its place the position of the set.
+fn heads_of(sets: &[Names], places: &mut [u32]) -> Names
+    requires room { length places.old ≡ NAMES }
+    requires some { (k : ℕ) → k < length sets.now → HasSome (set_at sets.now k) }
+    requires order { AllPairs IsBefore sets.now }
+    ensures { AreHeads sets.now (length sets.now) result places.new }
+{
+    let mut heads = Names::none();
+    for (place, set) in sets.iter().enumerate() {
+        let Some(head) = set.first_from(0) else {
+            return heads;
+        };
+        heads.insert(head);
+        places[head as usize] = place as u32;
+    }
+    heads
+}
+
+/// The pairs of adjacent heads, by their places.
+fn head_pairs(
+    alloc: Global,
+    graph: &Graph,
+    heads: &Names,
+    places: &[u32],
+) -> Result<Vec<Pair>, Memory>
+    requires room { length places.now ≡ NAMES }
+    requires rising { RisesOn heads.now places.now }
+    ensures { IfOk result (λ edges. ListsHeadPairs (adjacent graph.now) heads.now places.now NAMES 0 edges.items) }
+{
+    let mut edges = Vec::new(alloc);
+    for head in heads.members() {
+        push_pairs(graph, heads, places, head, &mut edges)?;
+    }
+    Ok(edges)
+}
+
+/// The pairs of `head` and each later one that is adjacent to it, by their places.
+fn push_pairs(
+    graph: &Graph,
+    heads: &Names,
+    places: &[u32],
+    head: u32,
+    edges: &mut Vec<Pair>,
+) -> Result<(), Memory>
+    requires room { length places.now ≡ NAMES }
+    requires rising { RisesOn heads.now places.now }
+    requires member { Has heads.now head }
+    requires name { head < NAMES }
+    requires before { ListsHeadPairs (adjacent graph.now) heads.now places.now head 0 edges.old.items }
+    ensures { IfOk result (λ _. ListsHeadPairs (adjacent graph.now) heads.now places.now (head + 1) 0 edges.new.items) }
+{
+    let low = places[head as usize];
+    let near = graph.row(head).and(heads);
+    for other in near.members_from(head + 1) {
+        let pair = Pair {
+            low,
+            high: places[other as usize],
+        };
+        if edges.push(pair).is_err() {
+            return Err(Memory);
+        }
+    }
+    Ok(())
 }

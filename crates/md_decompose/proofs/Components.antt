@@ -1,0 +1,143 @@
+-- The components of a set that splits, one after the other, in ascending order of their least names.
+use Rattle.std.proofs.Common.{◌≡◌, ℕ, ◌<◌, ◌≤◌, ◌≢◌, ◌⊎◌, Bool, List, [], ◌∷◌, ◌++◌, sym, ◌∙◌, subst, inl, inr, arith, ap}
+use Rattle.std.specs.FinSet.{contains, empty, difference, intersection, len}
+use Rattle.md_graph.specs.NameSet.{IsLeastFrom, NoneFrom}
+use Rattle.md_graph.specs.PlainGraph.{PlainGraph, IsGraph, adjacent}
+use Rattle.md_modules.specs.Sets.{NameSet, Has, Lacks, Within, HasSome}
+use Rattle.md_modules.specs.Adjacency.{IsAdjacency}
+use Rattle.md_modules.specs.Modules.{IsMaximalStrong}
+use Rattle.md_modules.specs.Kinds.{IsSplit}
+use Rattle.md_modules.specs.Components.{IsClosed, IsComponent}
+use Rattle.md_modules.proofs.Sets.{clash, false_if, empty_lacks, meet_has, of_meet, of_meet_lacks, minus_has, of_minus, minus_lacks, Has-along, same_members}
+use Rattle.md_modules.proofs.Search.{decide_same, len_proper, larger_or_same}
+use Rattle.md_modules.proofs.Components.{closed_of_closed, closed_whole, closed_rest, closed_split, component_unsplit}
+use Rattle.md_modules.proofs.Strong.{children_meet}
+use Rattle.md_modules.proofs.Children.{component_child}
+use Rattle.md_modules.proofs.PathSearch.{adjacency}
+use Rattle.md_tree.specs.StrongTrees.{IsBefore}
+use Rattle.md_tree.proofs.Lists.{In, Later, in_left, in_right, of_append, later_append, of_contains, to_contains, to_pairs}
+use Rattle.md_decompose.specs.Children.{AreChildren, Splits}
+
+-- the list has the children of s outside rest, in order, and no child is in part outside rest
+pub record IsListing (e : ℕ → ℕ → Bool) (s : NameSet) (v : Bool) (rest : NameSet) (cs : List NameSet) : Type 0 where
+  pub closed : IsClosed e s rest v
+  pub each : (m : NameSet) → In cs m → IsMaximalStrong e s m
+  pub all : (m : NameSet) → IsMaximalStrong e s m → In cs m ⊎ Within m rest
+  pub order : Later IsBefore cs
+  pub before : (m : NameSet) → In cs m → IsBefore m rest
+
+before_within : (a b c : NameSet) → Within c b → IsBefore a b → IsBefore a c
+before_within a b c w is = (is.0, is.1, λ y h. is.2 y (w y h))
+
+module _ {e : ℕ → ℕ → Bool} where
+  -- a component of a closed part is a component of the whole
+  component_of_rest : (s rest c : NameSet) (v : Bool) (x : ℕ) → IsClosed e s rest v → IsComponent e rest x c v → IsComponent e s x c v
+  component_of_rest s rest c v x closed is = record {
+    holds = is.holds;
+    closed = closed_of_closed s rest c v closed is.closed;
+    least = λ part part_closed h y hc. (of_meet part rest y (is.least (intersection part rest) (record {
+      inside = λ z k. (of_meet part rest z k).1;
+      across = λ a b ha hb l. part_closed.across a b (of_meet part rest a ha).0 (closed.inside b hb)
+          (elim (of_meet_lacks part rest b l) [ inl o ↦ o | inr o ↦ clash hb o ]);
+    }) (meet_has part rest x h (is.closed.inside x is.holds)) y hc)).0;
+  }
+
+  closed_outside : (adj : IsAdjacency e) (s rest c : NameSet) (v : Bool) → IsClosed e s rest v → IsClosed e rest c v → IsClosed e s (difference rest c) v
+  closed_outside adj s rest c v closed inner = closed_of_closed s rest (difference rest c) v closed (closed_rest adj rest c v inner)
+
+  listing_none : (s : NameSet) (v : Bool) → IsListing e s v s []
+  listing_none s v = record {
+    closed = closed_whole s v;
+    each = λ m i. absurd i;
+    all = λ m is. inr is.is_strong.is_module.inside;
+    order = tt;
+    before = λ m i. absurd i;
+  }
+
+  listing_more : (adj : IsAdjacency e) (s rest c : NameSet) (v : Bool) (x : ℕ) (cs : List NameSet) → Splits e s v → IsListing e s v rest cs →
+      IsComponent e rest x c v → ((y : ℕ) → Has rest y → x ≤ y) → IsListing e s v (difference rest c) (cs ++ c ∷ [])
+  listing_more adj s rest c v x cs split listing is least = record {
+    closed = closed_outside adj s rest c v listing.closed is.closed;
+    each = λ m i. elim (of_append cs (c ∷ []) m i) [
+      | inl l ↦ listing.each m l
+      | inr r ↦ elim r [ inl same ↦ subst (IsMaximalStrong e s) (sym same) child | inr none ↦ absurd none ]
+    ];
+    all = λ m max. elim (listing.all m max) [
+      | inl l ↦ inl (in_left cs (c ∷ []) m l)
+      | inr w ↦ elim (decide_same m c) [
+        | inl same ↦ inl (in_right cs (c ∷ []) m (inl same))
+        | inr differs ↦ inr (λ y h. minus_has rest c y (w y h) (false_if _ (λ k. differs (children_meet s m c y max child h k))))
+      ]
+    ];
+    order = later_append IsBefore cs (c ∷ []) listing.order ((λ y i. absurd i), tt)
+        (λ m d i j. elim j [ inl same ↦ before_within m rest d (λ y h. is.closed.inside y (Has-along d c same y h)) (listing.before m i) | inr none ↦ absurd none ]);
+    before = λ m i. elim (of_append cs (c ∷ []) m i) [
+      | inl l ↦ before_within m rest (difference rest c) (λ y h. (of_minus rest c y h).0) (listing.before m l)
+      | inr r ↦ elim r [ inl same ↦ subst (λ d. IsBefore d (difference rest c)) (sym same) (x, is.holds, after) | inr none ↦ absurd none ]
+    ];
+  } where
+    child : IsMaximalStrong e s c
+    child = component_child adj s c split.0 v x split.1 (component_of_rest s rest c v x listing.closed is)
+
+    after : (y : ℕ) → Has (difference rest c) y → x < y
+    after y h =
+        let k : Has rest y × Lacks c y = of_minus rest c y h in
+        let a : x ≤ y = least y k.0 in
+        let b : x ≢ y = λ same. clash (subst (Has c) same is.holds) k.1 in
+        omega arith
+
+  listing_whole : (s rest : NameSet) (v : Bool) (cs : List NameSet) → IsListing e s v rest cs → (HasSome rest → ⊥) → AreChildren e s cs
+  listing_whole s rest v cs listing none = record {
+    exactly = λ m. (
+      (λ max. to_contains cs m (elim (listing.all m max) [
+        | inl l ↦ l
+        | inr w ↦ absurd (none (max.is_strong.is_module.some.0, w max.is_strong.is_module.some.0 max.is_strong.is_module.some.1))
+      ])),
+      λ c. listing.each m (of_contains cs m c),
+    );
+    order = to_pairs IsBefore cs listing.order;
+  }
+
+-- the turns of the list of components, and its end
+module _ {g : PlainGraph} (is_graph : IsGraph g) where
+  pub listing_begin : (s rest c : NameSet) (v : Bool) (some : List NameSet) (cs : List NameSet) → Splits (adjacent g) s v →
+      (x : ℕ) × IsLeastFrom s 0 x × IsComponent (adjacent g) s x c v → rest ≡ difference s c → some ≡ [] → cs ≡ some ++ c ∷ [] →
+      IsListing (adjacent g) s v rest cs
+  listing_begin s rest c v some cs split first is_rest is_none is_cs =
+      subst (λ r. IsListing (adjacent g) s v r cs) (sym is_rest)
+      (subst (IsListing (adjacent g) s v (difference s c)) (sym (is_cs ∙ ap (λ l. l ++ c ∷ []) is_none))
+      (listing_more (adjacency is_graph) s s c v first.0 [] split (listing_none s v) first.2 (λ y h. first.1.first y h (omega arith))))
+
+  pub listing_turn : (s rest rest' c : NameSet) (v : Bool) (x : ℕ) (cs cs' : List NameSet) → Splits (adjacent g) s v → IsListing (adjacent g) s v rest cs →
+      IsLeastFrom rest 0 x → IsComponent (adjacent g) rest x c v → rest' ≡ difference rest c → cs' ≡ cs ++ c ∷ [] →
+      IsListing (adjacent g) s v rest' cs'
+  listing_turn s rest rest' c v x cs cs' split listing least is is_rest is_cs =
+      subst (λ r. IsListing (adjacent g) s v r cs') (sym is_rest)
+      (subst (IsListing (adjacent g) s v (difference rest c)) (sym is_cs)
+      (listing_more (adjacency is_graph) s rest c v x cs split listing is (λ y h. least.first y h (omega arith))))
+
+pub listing_end : {e : ℕ → ℕ → Bool} (s rest : NameSet) (v : Bool) (cs : List NameSet) → IsListing e s v rest cs → NoneFrom rest 0 → AreChildren e s cs
+listing_end s rest v cs listing none = listing_whole s rest v cs listing (λ w. let below : w.0 < 0 = none w.0 w.1 in omega arith)
+
+pub rest_falls : (rest c rest' : NameSet) (x : ℕ) → Has rest x → Has c x → rest' ≡ difference rest c → len rest' < len rest
+rest_falls rest c rest' x h k is =
+    len_proper rest' rest x (λ y l. (of_minus rest c y (Has-along rest' (difference rest c) is y l)).0) h
+    (ap (λ s. contains s x) is ∙ minus_lacks rest c x k)
+
+-- whether a component is the whole
+module _ {g : PlainGraph} (is_graph : IsGraph g) where
+  pub whole_unsplit : (s c left : NameSet) (v : Bool) (x : ℕ) → IsComponent (adjacent g) s x c v → left ≡ difference s c → left ≡ empty → Splits (adjacent g) s v → ⊥
+  whole_unsplit s c left v x is is_left none split =
+      elim (larger_or_same c s is.closed.inside) [
+        | inl rest ↦ clash (Has-along (difference s c) empty (sym is_left ∙ none) rest.0 (minus_has s c rest.0 rest.1 rest.2)) (empty_lacks rest.0)
+        | inr same ↦ component_unsplit (adjacency is_graph) s c v x is split.0 (subst (λ t. IsSplit (adjacent g) t split.0 v) (sym same) split.1)
+      ]
+
+pub part_splits : {e : ℕ → ℕ → Bool} (s c left : NameSet) (v : Bool) (x : ℕ) → IsComponent e s x c v → left ≡ difference s c → (left ≡ empty → ⊥) → Splits e s v
+part_splits s c left v x is is_left some =
+    elim (larger_or_same c s is.closed.inside) [
+      | inl rest ↦ (c, closed_split s c v is.closed (x, is.holds) rest)
+      | inr same ↦ absurd (some (is_left ∙ same_members (difference s c) empty
+          (λ y h. let k : Has s y × Lacks c y = of_minus s c y h in clash (Has-along s c (sym same) y k.0) k.1)
+          (λ y h. clash h (empty_lacks y))))
+    ]
