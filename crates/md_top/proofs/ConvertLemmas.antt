@@ -54,7 +54,7 @@ stops_within whole piece left Memory old now new faults_old faults_now faults_ne
 stops_within whole piece left TooLong old now new faults_old faults_now faults_new so_far below stopped = stopped
 
 -- a graph6 file without fault spells its graphs
-spelled : (file : List ℕ) → first_fault file ≡ None → Spells file (graphs_of file)
+pub spelled : (file : List ℕ) → first_fault file ≡ None → Spells file (graphs_of file)
 spelled file faultless = (rw faultless at (spelled_or_faulty file)).spells
 
 -- the same of a graph6 file without fault

@@ -1,3 +1,5 @@
 pub mod Progress
 pub mod ConvertLemmas
 pub mod EndsLemmas
+pub mod ReportLemmas
+pub mod Fronts

@@ -11,7 +11,10 @@ use Rattle.md_dimacs.specs.Text.{dimacs_text}
 use Rattle.md_top.specs.declared.form.Format.{Format}
 use Rattle.md_top.specs.declared.form.Format.TheVariants.{G6, Dimacs}
 use Rattle.md_top.specs.declared.form.Form.{Form}
-use Rattle.md_top.specs.declared.form.Form.TheVariants.{Convert}
+use Rattle.md_top.specs.declared.form.Form.TheVariants.{Convert, Report}
+use Rattle.md_report.specs.declared.line.Mode.{Mode}
+use Rattle.md_report.specs.Places.{before_head}
+use Rattle.md_report.specs.Reports as reports
 use Rattle.md_top.specs.declared.stop.Fault.{Fault}
 use Rattle.md_top.specs.declared.stop.Fault.TheVariants as faults
 use Rattle.md_top.specs.declared.stop.Verdict.{Verdict}
@@ -43,17 +46,32 @@ pub record IsConversionFront (from to : Format) (file bytes : List ℕ) : Type 0
   pub rest : List ℕ
   pub whole : IsConversion from to file (bytes ++ rest)
 
+-- a whole report of a mode over the graphs of a file
+pub record IsReport (mode : Mode) (from : Format) (file bytes : List ℕ) : Type 0 where
+  pub graphs : List PlainGraph
+  pub spelt : SpellsGraphs from file graphs
+  pub report : reports.IsReport (before_head mode graphs) bytes
+
+-- the beginning of such a report, by its lines
+pub record IsReportFront (mode : Mode) (from : Format) (file bytes : List ℕ) : Type 0 where
+  pub graphs : List PlainGraph
+  pub spelt : SpellsGraphs from file graphs
+  pub front : reports.IsFront (before_head mode graphs) bytes
+
 -- the first cause of bad input, none where the input is well-formed
 abbrev pub fault_of : Form → List (List ℕ) → Option Fault
 fault_of (Convert from to) (graph ∷ []) = graph_fault from graph
+fault_of (Report mode from) (graph ∷ []) = graph_fault from graph
 fault_of form contents = None
 
 -- a whole valid output with its verdict
 abbrev pub IsAnswer : Form → List (List ℕ) → Verdict → List ℕ → Type 0
 IsAnswer (Convert from to) (graph ∷ []) Done bytes = IsConversion from to graph bytes
+IsAnswer (Report mode from) (graph ∷ []) Done bytes = IsReport mode from graph bytes
 IsAnswer form contents verdict bytes = ⊥
 
 -- the beginning of a whole valid output
 abbrev pub IsFront : Form → List (List ℕ) → List ℕ → Type 0
 IsFront (Convert from to) (graph ∷ []) bytes = IsConversionFront from to graph bytes
+IsFront (Report mode from) (graph ∷ []) bytes = IsReportFront mode from graph bytes
 IsFront form contents bytes = ⊥

@@ -7,7 +7,8 @@ use Rattle.std.specs.Str.{bytes_eq}
 use Rattle.md_top.specs.declared.form.Format.{Format}
 use Rattle.md_top.specs.declared.form.Format.TheVariants.{G6, Dimacs}
 use Rattle.md_top.specs.declared.form.Form.{Form}
-use Rattle.md_top.specs.declared.form.Form.TheVariants.{Convert}
+use Rattle.md_top.specs.declared.form.Form.TheVariants.{Convert, Report}
+use Rattle.md_report.specs.declared.line.Mode.TheVariants as modes
 
 -- a form, and the names of its files in the order of the words
 pub record Request : Type 0 where
@@ -28,7 +29,8 @@ format_of word =
 abbrev pub graph_form : List ℕ → Format → Option Form
 graph_form command format =
     if bytes_eq command (codes "edges") then Some (Convert format Dimacs)
-    else (if bytes_eq command (codes "graph6") then Some (Convert format G6) else None)
+    else (if bytes_eq command (codes "graph6") then Some (Convert format G6)
+    else (if bytes_eq command (codes "tree") then Some (Report modes.Tree format) else None))
 
 -- a form, if there is one, with the names of its files
 abbrev pub with_names : List (List ℕ) → Option Form → Option Request

@@ -2,8 +2,10 @@ pub mod Form
 pub mod Input
 pub mod Load
 pub mod Output
+pub mod Reported
 pub mod Ending
 pub mod Answer
 pub mod Command
 pub mod Clauses
 pub mod Ends
+pub mod Laws

@@ -9,7 +9,7 @@ ghost use Rattle.md_top.specs.Output.{PutsWhole, verdict_of};
 ghost use Rattle.md_top.specs.Command.{CommandEnds};
 
 use crate::form::Format;
-use crate::put::put_piece;
+use crate::put::{put_piece, verdict_of};
 use crate::stop::{Fault, Stop, Verdict};
 use md_graph::{Graph, Memory};
 use md_graph6::Lines;
@@ -74,16 +74,6 @@ fn put_edge_file<O: Sink>(
     match md_dimacs::read(file, &mut graph) {
         Ok(()) => verdict_of(put_graph(alloc, to, &graph, out)),
         Err(fault) => Err(Stop::BadInput(Fault::Dimacs(fault))),
-    }
-}
-
-/// Done, where all is put.
-fn verdict_of(put: Result<(), Stop>) -> Result<Verdict, Stop>
-    ensures { result ≡ verdict_of put }
-{
-    match put {
-        Ok(()) => Ok(Verdict::Done),
-        Err(stop) => Err(stop),
     }
 }
 

@@ -2,6 +2,8 @@
 ghost use Rattle.std.specs.Prelude.{◌≡◌};
 ghost use Rattle.md_top.specs.Form.{format_of, graph_form};
 
+use md_report::Mode;
+
 /// How a graph file is written.
 #[derive(Clone, Copy, Debug, PartialEq, Eq)]
 pub enum Format {
@@ -16,6 +18,8 @@ pub enum Format {
 pub enum Form {
     /// The text of each graph of a file: the format that is read, and the format that is written.
     Convert(Format, Format),
+    /// The report of a mode over the graphs of a file, and the format that is read.
+    Report(Mode, Format),
 }
 
 /// The format that a word names; none for any other word.
@@ -36,6 +40,7 @@ pub fn graph_form(command: &str, format: Format) -> Option<Form>
     match command {
         "edges" => Some(Form::Convert(format, Format::Dimacs)),
         "graph6" => Some(Form::Convert(format, Format::G6)),
+        "tree" => Some(Form::Report(Mode::Tree, format)),
         _ => None,
     }
 }

@@ -3,10 +3,12 @@
 
 mod convert;
 mod form;
+pub mod laws;
 mod line;
 mod load;
 mod memory;
 mod put;
+mod report;
 mod short;
 mod stop;
 mod top;

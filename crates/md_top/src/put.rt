@@ -1,8 +1,8 @@
 //! Puts a piece of the output.
 ghost use Rattle.std.specs.Prelude.{◌≡◌, ◌≤◌};
-ghost use Rattle.md_top.specs.Output.{PutsWhole};
+ghost use Rattle.md_top.specs.Output.{PutsWhole, verdict_of};
 
-use crate::stop::Stop;
+use crate::stop::{Stop, Verdict};
 use md_io::{PutFault, Sink};
 
 /// Puts a piece to the output.
@@ -15,5 +15,15 @@ pub fn put_piece<O: Sink>(out: &mut O, piece: &[u8]) -> Result<(), Stop>
         Ok(()) => Ok(()),
         Err(PutFault::Failed) => Err(Stop::WriteFault),
         Err(PutFault::Memory) => Err(Stop::Memory),
+    }
+}
+
+/// Done, where all is put.
+pub fn verdict_of(put: Result<(), Stop>) -> Result<Verdict, Stop>
+    ensures { result ≡ verdict_of put }
+{
+    match put {
+        Ok(()) => Ok(Verdict::Done),
+        Err(stop) => Err(stop),
     }
 }

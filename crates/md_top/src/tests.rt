@@ -4,6 +4,10 @@ use md_io::{MemFiles, MemSink};
 use std::alloc::Global;
 use std::test::Fail;
 
+/// The graph of Mycielski on 11 vertices, which has no triangle and four colours at least.
+const MYCIELSKI: &[u8] =
+    b"c Mycielski\np edge 11 20\ne 1 2\ne 1 4\ne 1 7\ne 1 9\ne 2 3\ne 2 6\ne 2 8\ne 3 5\ne 3 7\ne 3 10\ne 4 5\ne 4 6\ne 4 10\ne 5 8\ne 5 9\ne 6 11\ne 7 11\ne 8 11\ne 9 11\ne 10 11\n";
+
 /// The words of a line, cut at spaces.
 fn words_of(alloc: Global, line: &str) -> Result<Vec<String>, Fail> {
     let mut words = Vec::new(alloc);
@@ -45,7 +49,7 @@ fn run_over(
 #[test]
 fn runs(rt: HostRuntime) -> Result<(), Fail> {
     let alloc = rt.alloc();
-    let table: [(&str, &[u8], &str); 44] = [
+    let table: [(&str, &[u8], &str); 59] = [
         (
             "edges g6 g",
             b"DQc\n",
@@ -177,6 +181,57 @@ fn runs(rt: HostRuntime) -> Result<(), Fail> {
         ("edge g6 g", b"DQc\n", "2||mdt: usage\n"),
         ("edges g6 g g", b"DQc\n", "2||mdt: usage\n"),
         (
+            "tree g6 g",
+            b"DQc\n",
+            "0|mdt tree\nt R(0,1,2,3,4;0-2,0-4,1-3,3-4)\nend\n|",
+        ),
+        ("tree g6 g", b"?\n", "0|mdt tree\nt empty\nend\n|"),
+        ("tree g6 g", b"", "0|mdt tree\nend\n|"),
+        (
+            "tree g6 g",
+            b"@\nA?\nA_\n\nBw\r\nBg",
+            "0|mdt tree\nt 0\nt P(0,1)\nt S(0,1)\nt S(0,1,2)\nt S(P(0,2),1)\nend\n|",
+        ),
+        (
+            "tree g6 g",
+            b"DhO\n",
+            "0|mdt tree\nt R(P(0,4),1,2,3;0-1,1-2,2-3)\nend\n|",
+        ),
+        ("tree g6 g", b"A`\n", "3||mdt: graph BadPadding line 1\n"),
+        (
+            "tree g6 g",
+            b"DhO\nDQ\n",
+            "3||mdt: graph Truncated line 2\n",
+        ),
+        (
+            "tree g6 g",
+            b">>graph6<<Ch\n",
+            "0|mdt tree\nt R(0,1,2,3;0-1,1-2,2-3)\nend\n|",
+        ),
+        (
+            "tree dimacs g",
+            b"c queen part\np col 3 4\ne 1 2\ne 2 1\ne 2 3\ne 3 2\n",
+            "0|mdt tree\nt S(P(1,3),2)\nend\n|",
+        ),
+        (
+            "tree dimacs g",
+            b"p edge 2 1\ne 1 3\n",
+            "3||mdt: graph VertexOutOfRange line 2\n",
+        ),
+        (
+            "tree dimacs g",
+            b"p edge 2 1\ne 2 2\n",
+            "3||mdt: graph Loop line 2\n",
+        ),
+        (
+            "tree dimacs g",
+            MYCIELSKI,
+            "0|mdt tree\nt R(1,2,3,4,5,6,7,8,9,10,11;0-1,0-3,0-6,0-8,1-2,1-5,1-7,2-4,2-6,2-9,3-4,3-5,3-9,4-7,4-8,5-10,6-10,7-10,8-10,9-10)\nend\n|",
+        ),
+        ("tree g6 h", b"DQc\n", "4||mdt: read fault\n"),
+        ("tree png x", b"DQc\n", "2||mdt: usage\n"),
+        ("trees g6 g", b"DQc\n", "2||mdt: usage\n"),
+        (
             "edges dimacs g",
             b"DQc\n",
             "3||mdt: graph UnknownLine line 1\n",
@@ -199,6 +254,21 @@ fn runs_that_fail(rt: HostRuntime) -> Result<(), Fail> {
     let alloc = rt.alloc();
     let shown = run_over(alloc, "edges g6 g", b"DQc\n", 1, 0, 0)?;
     assert_eq!(rt; shown.as_str(), "4||mdt: read fault\n");
+    let shown = run_over(alloc, "tree g6 g", b"DQc\n", 1, 0, 0)?;
+    assert_eq!(rt; shown.as_str(), "4||mdt: read fault\n");
+    let table = [
+        (1, 0, "5||mdt: write fault\n"),
+        (2, 3, "5|mdt tree\nt R|mdt: write fault\n"),
+        (
+            3,
+            10,
+            "5|mdt tree\nt R(0,1,2,3,4;0-2,0-4,1-3,3-4)\nend\n|mdt: write fault\n",
+        ),
+    ];
+    for (put, part, want) in table {
+        let shown = run_over(alloc, "tree g6 g", b"DQc\n", 0, put, part)?;
+        assert_eq!(rt; shown.as_str(), want, "put {put}");
+    }
     let table = [
         (1, 0, "5||mdt: write fault\n"),
         (1, 4, "5|p ed|mdt: write fault\n"),

@@ -14,6 +14,7 @@ use crate::convert::convert;
 use crate::form::{Form, format_of, graph_form};
 use crate::line::put_line;
 use crate::load::load;
+use crate::report::report;
 use crate::stop::{Status, Stop, Verdict};
 use md_io::{Files, Sink};
 use std::alloc::Global;
@@ -171,5 +172,6 @@ fn end_over_contents<O: Sink>(
 {
     match form {
         Form::Convert(from, to) => convert(alloc, from, to, graph, out),
+        Form::Report(mode, from) => report(alloc, mode, from, graph, out),
     }
 }

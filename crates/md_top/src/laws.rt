@@ -1,0 +1,8 @@
+//! The laws of valid outputs, each the contract of a function that does nothing.
+
+ghost use Rattle.md_top.specs.Laws.{FrontsBeginAnswers};
+
+/// What may be put before a fault is exactly the beginning of a whole valid output.
+pub fn fronts_begin_answers()
+    ensures { FrontsBeginAnswers }
+{}
