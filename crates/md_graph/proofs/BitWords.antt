@@ -1,15 +1,15 @@
 -- Words of bits and the sets that they keep.
-use Rattle.std.proofs.Common.{◌≡◌, ℕ, zero, suc, ◌+◌, ◌-◌, ◌*◌, ◌/◌, ◌%◌, ◌^◌, ◌<◌, ◌≤◌, bit_and, bit_or, min, max, not, mod-lt, mod-eq_of_lt, lit<, lit≤, one-add, add-suc, pow_pos, ltb-true, ltb-false, lt-ltb, Bool, true, false, cond, ltb, leb, eqb, eqb-true, ◌==◌, ◌&&◌, ◌||◌, ◌≢◌, if◌then◌else◌, List, get_or, replicate, length, refl, arith, ap, sym, ◌∙◌}
+use Rattle.std.proofs.Common.{◌≡◌, ℕ, zero, suc, ◌+◌, ◌-◌, ◌*◌, ◌/◌, ◌%◌, ◌^◌, ◌<◌, ◌≤◌, bit_and, bit_or, bit_xor, min, max, not, mod-lt, mod-eq_of_lt, lit<, lit≤, one-add, add-suc, pow_pos, ltb-true, ltb-false, lt-ltb, Bool, true, false, cond, ltb, leb, eqb, eqb-true, ◌==◌, ◌&&◌, ◌||◌, ◌≢◌, if◌then◌else◌, List, get_or, Option, Some, None, IfSome, IfNone, replicate, length, refl, arith, ap, sym, ◌∙◌}
 use Rattle.std.proofs.lemmas.Bool.{eqb-false}
 use Rattle.std.proofs.lemmas.Bool.Decides.{nat_tests}
-use Rattle.std.specs.Int.{bit_at, bit_not, w64}
+use Rattle.std.specs.Int.{bit_at, bit_not, w64, trailing_zeros}
 use Rattle.std.proofs.Common.{set as set_at, below_more, get_or-set_other, get_or-set_same}
-use Rattle.std.proofs.lemmas.Nat.Bits.{same_from_bits_below, bit_at-lt, bit_at-zero, bit_at_or, bit_at_and, bit_at_not, shr_and_one, bit_at_set_same, bit_at_set_other, bit_at_clear_same, bit_at_clear_other}
-use Rattle.std.proofs.lemmas.Nat.{mod-pow-add, ones_cat}
+use Rattle.std.proofs.lemmas.Nat.Bits.{same_from_bits_below, bit_at-lt, bit_at-zero, bit_at_or, bit_at_and, bit_at_xor, bit_at_not, bit_at-trailing_zeros, shr_and_one, bit_at_set_same, bit_at_set_other, bit_at_clear_same, bit_at_clear_other}
+use Rattle.std.proofs.lemmas.Nat.{mod-pow-add, ones_cat, and_le_l}
 use lib.Count.{ones}
 use Rattle.std.specs.FinSet as set
-use Rattle.md_graph.specs.NameSet.{NameSet, block_below}
-use Rattle.md_graph.specs.Words.{bit_of, names_below, IsWithout}
+use Rattle.md_graph.specs.NameSet.{NameSet, IsLeastFrom, NoneFrom, block_below, told_apart}
+use Rattle.md_graph.specs.Words.{bit_of, bit_apart, names_below, IsWithout}
 use Rattle.md_graph.proofs.SetLaws.{len-empty, len-insert, contains-empty, contains-insert, contains-remove, contains-union, contains-intersection, contains-difference, same_set}
 
 -- each item of a list of zeros is 0, past its end too
@@ -374,3 +374,170 @@ empty_of_bits words n u rest first =
 pub len_of_none : (words : List ℕ) → set.len (names_below words 0) ≡ 0
 unfolding names_below
 len_of_none words = len-empty
+
+-- ---- members moved from set to set
+
+-- the words that `word` tells keep the set s
+abbrev pub Keeps : (ℕ → ℕ) → ℕ → NameSet → Type 0
+Keeps word n s = (q : ℕ) → set.contains s q ≡ (ltb q n && (bit_at (word (q / 64)) (q % 64) == 1))
+
+pub keeps_words : (words : List ℕ) (n : ℕ) (s : NameSet) → names_below words n ≡ s → Keeps (λ k. get_or words k 0) n s
+keeps_words words n s is q = ap (λ t. set.contains t q) (sym is) ∙ contains-names_below words n q
+
+apart_bits : (x y : ℕ) → x < 2 → y < 2 → ((x + y) % 2 == 1) ≡ (((x == 1) && not (y == 1)) || ((y == 1) && not (x == 1)))
+apart_bits zero zero p q = refl
+apart_bits zero (suc zero) p q = refl
+apart_bits zero (suc (suc y)) p q = absurd (omega arith)
+apart_bits (suc zero) zero p q = refl
+apart_bits (suc zero) (suc zero) p q = refl
+apart_bits (suc zero) (suc (suc y)) p q = absurd (omega arith)
+apart_bits (suc (suc x)) y p q = absurd (omega arith)
+
+apart_within : (b x y z : Bool) → z ≡ ((x && not y) || (y && not x)) → (((b && x) && not (b && y)) || ((b && y) && not (b && x))) ≡ (b && z)
+apart_within true x y z e = sym e
+apart_within false x y z e = refl
+
+apart_test : (b : Bool) (x y z : ℕ) → x < 2 → y < 2 → z ≡ (x + y) % 2 → (((b && (x == 1)) && not (b && (y == 1))) || ((b && (y == 1)) && not (b && (x == 1)))) ≡ (b && (z == 1))
+apart_test b x y z p q e = apart_within b (x == 1) (y == 1) (z == 1) (ap (λ t. t == 1) e ∙ apart_bits x y p q)
+
+pub keeps_apart : (f g : List ℕ) (n : ℕ) (s t : NameSet) → names_below f n ≡ s → names_below g n ≡ t → Keeps (λ k. bit_xor (get_or f k 0) (get_or g k 0)) n (told_apart s t)
+keeps_apart f g n s t is_s is_t q =
+    rw (contains-union (set.difference s t) (set.difference t s) q, contains-difference s t q, contains-difference t s q, keeps_words f n s is_s q, keeps_words g n t is_t q)
+    (apart_test (ltb q n) _ _ _ (bit_at-lt _ _) (bit_at-lt _ _) (bit_at_xor (get_or f (q / 64) 0) (get_or g (q / 64) 0) (q % 64)))
+
+away : (x y : ℕ) → x < 2 → y < 2 → (x + min x y) % 2 ≡ min x (1 - y)
+away x y p q = omega arith
+
+away_bit : (a m i : ℕ) → bit_at (bit_xor a (bit_and a m)) i ≡ min (bit_at a i) (1 - bit_at m i)
+away_bit a m i =
+    bit_at_xor a (bit_and a m) i ∙ ap (λ x. (bit_at a i + x) % 2) (bit_at_and a m i) ∙ away _ _ (bit_at-lt a i) (bit_at-lt m i)
+
+-- what stays behind where the members of r go
+pub rest_of_moved : (a c : List ℕ) (m : ℕ → ℕ) (n u : ℕ) (s r : NameSet) → names_below a n ≡ s → Keeps m n r → InUse a u → ((k : ℕ) → k < u → get_or c k 0 ≡ bit_xor (get_or a k 0) (bit_and (get_or a k 0) (m k))) → ((k : ℕ) → u ≤ k → get_or c k 0 ≡ get_or a k 0) → names_below c n ≡ set.difference s r
+rest_of_moved a c m n u s r is keeps ra first rest =
+    from_bits c n _ (λ q.
+    rw (contains-difference s r q, keeps_words a n s is q, keeps q)
+    (without_within _ _ _ _
+    (ap (λ x. x == 1)
+    (from_both (λ k. bit_at (get_or c k 0) (q % 64) ≡ min (bit_at (get_or a k 0) (q % 64)) (1 - bit_at (m k) (q % 64))) u
+    (λ k h. ap (λ w. bit_at w (q % 64)) (first k h) ∙ away_bit _ _ _)
+    (λ k h. rw (zero_bit _ (q % 64) (rest k h ∙ ra k h), zero_bit _ (q % 64) (ra k h)) (omega arith))
+    (q / 64))
+    ∙ without_bits _ _ (bit_at-lt _ _) (bit_at-lt _ _))))
+
+-- what stays behind where the others go
+pub rest_of_others : (a c : List ℕ) (m : ℕ → ℕ) (n u : ℕ) (s r : NameSet) → names_below a n ≡ s → Keeps m n r → InUse a u → ((k : ℕ) → k < u → get_or c k 0 ≡ bit_and (get_or a k 0) (m k)) → ((k : ℕ) → u ≤ k → get_or c k 0 ≡ get_or a k 0) → names_below c n ≡ set.intersection s r
+rest_of_others a c m n u s r is keeps ra first rest =
+    from_bits c n _ (λ q.
+    rw (contains-intersection s r q, keeps_words a n s is q, keeps q)
+    (and_within _ _ _ _
+    (ap (λ x. x == 1)
+    (from_both (λ k. bit_at (get_or c k 0) (q % 64) ≡ min (bit_at (get_or a k 0) (q % 64)) (bit_at (m k) (q % 64))) u
+    (λ k h. ap (λ w. bit_at w (q % 64)) (first k h) ∙ bit_at_and _ _ _)
+    (λ k h. rw (zero_bit _ (q % 64) (rest k h ∙ ra k h), zero_bit _ (q % 64) (ra k h)) (omega arith))
+    (q / 64))
+    ∙ and_bits _ _ (bit_at-lt _ _) (bit_at-lt _ _))))
+
+-- what the members of r make of the set that they go to
+pub moved_to : (a c d : List ℕ) (m : ℕ → ℕ) (n u : ℕ) (s r t : NameSet) → names_below a n ≡ s → Keeps m n r → names_below c n ≡ t → InUse a u → ((k : ℕ) → k < u → get_or d k 0 ≡ bit_or (get_or c k 0) (bit_and (get_or a k 0) (m k))) → ((k : ℕ) → u ≤ k → get_or d k 0 ≡ get_or c k 0) → names_below d n ≡ set.union t (set.intersection s r)
+moved_to a c d m n u s r t is keeps is_t ra first rest =
+    from_bits d n _ (λ q.
+    rw (contains-union t (set.intersection s r) q, contains-intersection s r q, keeps_words a n s is q, keeps q, keeps_words c n t is_t q)
+    (ap (λ b. (ltb q n && (bit_of c q == 1)) || b) (and_within (ltb q n) _ _ _ (and_bits _ _ (bit_at-lt _ _) (bit_at-lt _ _)))
+    ∙ or_within _ _ _ _
+    (ap (λ x. x == 1)
+    (from_both (λ k. bit_at (get_or d k 0) (q % 64) ≡ max (bit_at (get_or c k 0) (q % 64)) (min (bit_at (get_or a k 0) (q % 64)) (bit_at (m k) (q % 64)))) u
+    (λ k h. ap (λ w. bit_at w (q % 64)) (first k h) ∙ bit_at_or _ _ _ ∙ ap (max (bit_at (get_or c k 0) (q % 64))) (bit_at_and _ _ _))
+    (λ k h. rw (rest k h, zero_bit _ (q % 64) (ra k h)) (omega arith))
+    (q / 64))
+    ∙ or_bits _ _ (bit_at-lt _ _) (let two = bit_at-lt (get_or a (q / 64) 0) (q % 64) in omega arith))))
+
+-- what the others make of the set that they go to
+pub others_to : (a c d : List ℕ) (m : ℕ → ℕ) (n u : ℕ) (s r t : NameSet) → names_below a n ≡ s → Keeps m n r → names_below c n ≡ t → InUse a u → ((k : ℕ) → k < u → get_or d k 0 ≡ bit_or (get_or c k 0) (bit_xor (get_or a k 0) (bit_and (get_or a k 0) (m k)))) → ((k : ℕ) → u ≤ k → get_or d k 0 ≡ get_or c k 0) → names_below d n ≡ set.union t (set.difference s r)
+others_to a c d m n u s r t is keeps is_t ra first rest =
+    from_bits d n _ (λ q.
+    rw (contains-union t (set.difference s r) q, contains-difference s r q, keeps_words a n s is q, keeps q, keeps_words c n t is_t q)
+    (ap (λ b. (ltb q n && (bit_of c q == 1)) || b) (without_within (ltb q n) _ _ _ (without_bits _ _ (bit_at-lt _ _) (bit_at-lt _ _)))
+    ∙ or_within _ _ _ _
+    (ap (λ x. x == 1)
+    (from_both (λ k. bit_at (get_or d k 0) (q % 64) ≡ max (bit_at (get_or c k 0) (q % 64)) (min (bit_at (get_or a k 0) (q % 64)) (1 - bit_at (m k) (q % 64)))) u
+    (λ k h. ap (λ w. bit_at w (q % 64)) (first k h) ∙ bit_at_or _ _ _ ∙ ap (max (bit_at (get_or c k 0) (q % 64))) (away_bit _ _ _))
+    (λ k h. rw (rest k h, zero_bit _ (q % 64) (ra k h)) (omega arith))
+    (q / 64))
+    ∙ or_bits _ _ (bit_at-lt _ _) (let two = bit_at-lt (get_or a (q / 64) 0) (q % 64) in omega arith))))
+
+-- ---- the first member that is told apart
+
+pub apart_word : (a f g : List ℕ) (i j : ℕ) → j < 64 → bit_apart a f g (64 * i + j) ≡ bit_at (bit_and (get_or a i 0) (bit_xor (get_or f i 0) (get_or g i 0))) j
+apart_word a f g i j h =
+    let word : (64 * i + j) / 64 ≡ i = omega arith in
+    let place : (64 * i + j) % 64 ≡ j = omega arith in
+    rw (word, place, bit_at_and (get_or a i 0) (bit_xor (get_or f i 0) (get_or g i 0)) j, bit_at_xor (get_or f i 0) (get_or g i 0) j) refl
+
+-- a word without bits is passed over
+pub apart_more : (a f g : List ℕ) (i : ℕ) → bit_and (get_or a i 0) (bit_xor (get_or f i 0) (get_or g i 0)) ≡ 0 → ((q : ℕ) → q < 64 * i → bit_apart a f g q ≡ 0) → (q : ℕ) → q < 64 * (i + 1) → bit_apart a f g q ≡ 0
+apart_more a f g i none before q h =
+    from_both (λ x. x ≡ q → bit_apart a f g x ≡ 0) (64 * i) (λ x l _. before x l)
+    (λ x l e.
+    let place : 64 * i + (x - 64 * i) ≡ x = omega arith in
+    ap (bit_apart a f g) (sym place) ∙ apart_word a f g i (x - 64 * i) (omega arith) ∙ zero_bit _ _ none) q refl
+
+pub record IsFirstApart (a f g : List ℕ) (u least : ℕ) : Type 0 where
+  pub within : least < 64 * u
+  pub here : bit_apart a f g least ≡ 1
+  pub first : (q : ℕ) → q < least → bit_apart a f g q ≡ 0
+
+-- the lowest bit of a word that has one
+pub apart_found : (a f g : List ℕ) (i u : ℕ) → i < u → bit_and (get_or a i 0) (bit_xor (get_or f i 0) (get_or g i 0)) ≢ 0 → get_or a i 0 < 2 ^ 64 → ((q : ℕ) → q < 64 * i → bit_apart a f g q ≡ 0) → IsFirstApart a f g u (64 * i + trailing_zeros w64 (bit_and (get_or a i 0) (bit_xor (get_or f i 0) (get_or g i 0))))
+apart_found a f g i u below some fits before =
+    let facts = bit_at-trailing_zeros w64 (bit_and (get_or a i 0) (bit_xor (get_or f i 0) (get_or g i 0))) (omega arith) (let le = and_le_l (get_or a i 0) (bit_xor (get_or f i 0) (get_or g i 0)) in omega arith) in
+    let small = facts.0 in
+    record {
+      within = omega arith;
+      here = apart_word a f g i _ facts.0 ∙ facts.1;
+      first = λ q h. from_both (λ x. x ≡ q → bit_apart a f g x ≡ 0) (64 * i) (λ x l _. before x l)
+          (λ x l e.
+          let place : 64 * i + (x - 64 * i) ≡ x = omega arith in
+          ap (bit_apart a f g) (sym place) ∙ apart_word a f g i (x - 64 * i) (omega arith) ∙ facts.2 (x - 64 * i) (omega arith)) q refl;
+    }
+
+apart_member : (a f g : List ℕ) (n : ℕ) (s r t : NameSet) → names_below a n ≡ s → names_below f n ≡ r → names_below g n ≡ t → (q : ℕ) → set.contains (set.intersection s (told_apart r t)) q ≡ (ltb q n && (bit_apart a f g q == 1))
+apart_member a f g n s r t is is_r is_t q =
+    rw (contains-intersection s (told_apart r t) q, keeps_words a n s is q, keeps_apart f g n r t is_r is_t q)
+    (and_within _ _ _ _ (ap (λ x. min (bit_of a q) x == 1) (sym (bit_at_xor _ _ _)) ∙ and_bits _ _ (bit_at-lt _ _) (bit_at-lt _ _)))
+
+member_bit : (n q x : ℕ) (b : Bool) → b ≡ (ltb q n && (x == 1)) → b ≡ true → x ≡ 1
+member_bit n q x b is h = grind (arith, nat_tests)
+
+member_here : (n q x : ℕ) → q < n → x ≡ 1 → (ltb q n && (x == 1)) ≡ true
+member_here n q x h e = grind (arith, nat_tests)
+
+pub least_apart : (a f g : List ℕ) (n w u : ℕ) (s r t : NameSet) (least : ℕ) → n ≡ 64 * w → u ≤ w → names_below a n ≡ s → names_below f n ≡ r → names_below g n ≡ t → IsFirstApart a f g u least → (IsLeastFrom (set.intersection s (told_apart r t)) 0 least) × (least < n)
+least_apart a f g n w u s r t least whole used is is_r is_t found =
+    let within = found.within in
+    let below : least < n = omega arith in (
+      record {
+        member = apart_member a f g n s r t is is_r is_t least ∙ member_here n least _ below found.here;
+        above = omega arith;
+        first = λ q m _. from_both (λ x. x ≡ q → least ≤ x) least
+            (λ x l e. let one = member_bit n x _ _ (apart_member a f g n s r t is is_r is_t x) (ap (set.contains (set.intersection s (told_apart r t))) e ∙ m) in let none = found.first x l in absurd (omega arith))
+            (λ x l _. l) q refl;
+      },
+      below,
+    )
+
+apart_unused : (a f g : List ℕ) (u q : ℕ) → InUse a u → 64 * u ≤ q → bit_apart a f g q ≡ 0
+apart_unused a f g u q ra h = let none = zero_bit _ (q % 64) (ra (q / 64) (omega arith)) in omega arith
+
+pub none_apart : (a f g : List ℕ) (n u : ℕ) (s r t : NameSet) → InUse a u → names_below a n ≡ s → names_below f n ≡ r → names_below g n ≡ t → ((q : ℕ) → q < 64 * u → bit_apart a f g q ≡ 0) → NoneFrom (set.intersection s (told_apart r t)) 0
+none_apart a f g n u s r t ra is is_r is_t none q m =
+    let one = member_bit n q _ _ (apart_member a f g n s r t is is_r is_t q) m in
+    let zero_here : bit_apart a f g q ≡ 0 = from_both (λ x. bit_apart a f g x ≡ 0) (64 * u) none (λ x l. apart_unused a f g u x ra l) q in
+    absurd (omega arith)
+
+-- what the first bit that is told apart says of the sets
+pub least_or_none : (a f g : List ℕ) (n w u : ℕ) (s r t : NameSet) (found : Option ℕ) → n ≡ 64 * w → u ≤ w → InUse a u → names_below a n ≡ s → names_below f n ≡ r → names_below g n ≡ t → IfSome found (λ least. (least < 64 * u) × (bit_apart a f g least ≡ 1) × ((q : ℕ) → q < least → bit_apart a f g q ≡ 0)) → IfNone found ((q : ℕ) → q < 64 * u → bit_apart a f g q ≡ 0) → (IfSome found (IsLeastFrom (set.intersection s (told_apart r t)) 0)) × (IfNone found (NoneFrom (set.intersection s (told_apart r t)) 0)) × (IfSome found (λ least. least < n))
+least_or_none a f g n w u s r t None whole used ra is is_r is_t some none = (tt, none_apart a f g n u s r t ra is is_r is_t none, tt)
+least_or_none a f g n w u s r t (Some least) whole used ra is is_r is_t some none =
+    let both = least_apart a f g n w u s r t least whole used is is_r is_t (record { within = some.0; here = some.1; first = some.2 }) in
+    (both.0, tt, both.1)

@@ -8,3 +8,5 @@ pub mod NameLemmas
 pub mod PairLaws
 pub mod RowLemmas
 pub mod SetLaws
+pub mod Transposing
+pub mod BlockRows

@@ -119,7 +119,7 @@ member_is_name {live} {rows} {g} a e v m = let is : IsGraph g = subst IsGraph e 
 -- ---- all rows of a slice
 
 -- the elements of a `Vec` after a call that has its slice
-refilled : (n : ℕ) (xs ws : List NameSet) → length ws ≡ n → refill n xs ws ≡ ws
+pub refilled : (n : ℕ) (xs ws : List NameSet) → length ws ≡ n → refill n xs ws ≡ ws
 refilled n xs ws e =
     ap (λ k. take k (ws ++ drop (length ws) xs)) (sym e) ∙ take-append_seam ws (drop (length ws) xs)
 

@@ -2,3 +2,4 @@ pub mod NameSet
 pub mod Words
 pub mod PlainGraph
 pub mod Rows
+pub mod Blocks

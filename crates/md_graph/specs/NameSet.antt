@@ -28,6 +28,10 @@ NoneFrom s v = (w : ℕ) → Member s w → w < v
 abbrev pub AllBelow : NameSet → ℕ → Type 0
 AllBelow s n = (w : ℕ) → Member s w → w < n
 
+-- the numbers that exactly one of `a` and `b` has
+abbrev pub told_apart : NameSet → NameSet → NameSet
+told_apart a b = set.union (set.difference a b) (set.difference b a)
+
 -- the members of `s` from `low` on and below `bound`, ascending
 unfoldable pub ascending_between : NameSet → ℕ → ℕ → List ℕ
 ascending_between s low zero = []

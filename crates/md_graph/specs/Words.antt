@@ -9,6 +9,10 @@ use Rattle.md_graph.specs.NameSet.{NameSet}
 abbrev pub bit_of : List ℕ → ℕ → ℕ
 bit_of words v = bit_at (get_or words (v / 64) 0) (v % 64)
 
+-- the bit of name v in `words`, where exactly one of `first` and `second` has it
+abbrev pub bit_apart : List ℕ → List ℕ → List ℕ → ℕ → ℕ
+bit_apart words first second v = min (bit_of words v) ((bit_of first v + bit_of second v) % 2)
+
 -- the low 64 bits of `word` are those of `first` that `second` doesn't have
 abbrev pub IsWithout : ℕ → ℕ → ℕ → Type 0
 IsWithout word first second = (k : ℕ) → k < 64 → bit_at word k ≡ min (bit_at first k) (1 - bit_at second k)

@@ -1,10 +1,13 @@
 //! Undirected graphs without loops and parallel edges.
-ghost use Rattle.std.specs.Prelude.{◌≡◌, ℕ, ◌<◌, ◌≢◌, true, false, IfOk, IfSome, IfNone, length, if◌then◌else◌};
+ghost use Rattle.std.specs.Prelude.{◌≡◌, ℕ, ◌<◌, ◌≢◌, true, false, IfOk, IfSome, IfNone, length, if◌then◌else◌, ◌/◌, ◌%◌, ◌==◌, ◌&&◌, ◌||◌};
+ghost use Rattle.std.specs.Int.{bit_at};
 ghost use Rattle.std.specs.FinSet as set;
 ghost use Rattle.md_graph.specs.NameSet.{Member, IsLeastFrom, NoneFrom};
 ghost use Rattle.md_graph.specs.PlainGraph.{adjacent, neighbours, IsGraph, empty_graph, with_vertex, with_edge, with_edges, complement, induced, without_vertex, without_edge};
 ghost use Rattle.md_graph.specs.Rows.{row_of};
+ghost use Rattle.md_graph.specs.Blocks.{in_block, IsWithBlock};
 
+use crate::transposition::transposed;
 use crate::{Memory, NAMES, Names};
 use std::alloc::Global;
 use std::marker::Model;
@@ -150,6 +153,21 @@ impl Graph {
         insert_in_rows(&mut self.rows, others, v);
     }
 
+    /// Takes in 64 by 64 edges at once, for readers: one between `high + r` and `low + k` for each bit k of word r that is 1.
+    /// Condition: `low` and `high` are names and multiples of 64, and the ends of each such edge are vertices and differ. An
+    /// edge that is there already stays.
+    pub fn add_block(&mut self, low: u32, high: u32, block: &[u64; 64])
+        requires low { low < NAMES }
+        requires low_aligned { low % 64 ≡ 0 }
+        requires high { high < NAMES }
+        requires high_aligned { high % 64 ≡ 0 }
+        requires ends { (u v : ℕ) → in_block block.now high low u v ≡ true
+            → Member self.old.vertices u × Member self.old.vertices v × (u ≢ v) }
+        ensures { IsWithBlock self.old high low block.now self.new }
+    {
+        join_block(&mut self.rows, low, high, block);
+    }
+
     /// Leaves out the vertex `v` and the edges at it. Condition: it is a vertex.
     pub fn remove_vertex(&mut self, v: u32)
         requires { Member self.old.vertices v }
@@ -257,6 +275,50 @@ impl Graph {
         }
         row.and(names)
     }
+}
+
+// Takes a block into the rows of both ends of its edges.
+fn join_block(rows: &mut [Names], low: u32, high: u32, block: &[u64; 64])
+    requires rows { length rows.old ≡ NAMES }
+    requires low { low < NAMES }
+    requires low_aligned { low % 64 ≡ 0 }
+    requires high { high < NAMES }
+    requires high_aligned { high % 64 ≡ 0 }
+    ensures { (u v : ℕ) → set.contains (row_of rows.new u) v ≡ (set.contains (row_of rows.old u) v
+        || (in_block block.now high low u v || in_block block.now high low v u)) }
+{
+    join_rows(rows, high, low, block);
+    join_rows(rows, low, high, &transposed(block));
+}
+
+// Takes the names from `first` on whose bits are 1 in word r of the block into the row of `from + r`.
+fn join_rows(rows: &mut [Names], from: u32, first: u32, block: &[u64; 64])
+    requires rows { length rows.old ≡ NAMES }
+    requires from { from < NAMES }
+    requires from_aligned { from % 64 ≡ 0 }
+    requires first { first < NAMES }
+    requires first_aligned { first % 64 ≡ 0 }
+    ensures { (u v : ℕ) → set.contains (row_of rows.new u) v
+        ≡ (set.contains (row_of rows.old u) v || in_block block.now from first u v) }
+{
+    for r in 0..64 {
+        join_row(rows, from as usize + r, first, block[r]);
+    }
+}
+
+// Takes the names from `first` on whose bits are 1 into the row of `at`.
+#[inline]
+fn join_row(rows: &mut [Names], at: usize, first: u32, bits: u64)
+    requires inside { at < length rows.old }
+    requires first { first < NAMES }
+    requires aligned { first % 64 ≡ 0 }
+    ensures { (u v : ℕ) → set.contains (row_of rows.new u) v ≡ (set.contains (row_of rows.old u) v
+        || ((u == at) && ((v / 64 == first / 64) && (bit_at bits (v % 64) == 1)))) }
+{
+    if bits == 0 {
+        return;
+    }
+    rows[at].insert_block(first, bits);
 }
 
 // Takes `v` into the row of each member of `names`.

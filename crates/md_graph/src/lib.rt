@@ -4,6 +4,7 @@
 
 mod graph;
 mod names;
+mod transposition;
 
 pub use graph::Graph;
 pub use names::{Members, Names};

@@ -1,9 +1,9 @@
 //! Sets of names.
-ghost use Rattle.std.specs.Prelude.{◌≡◌, nat_le, if◌then◌else◌, ◌≢◌, ◌∷◌, ℕ, length, slice_index, bit_and, bit_or, ◌+◌, ◌*◌, ◌/◌, ◌%◌, ◌^◌, ◌<◌, ◌≤◌, ◌↔◌, IsTrue, IsNone, IfSome, IfNone, ◌==◌};
+ghost use Rattle.std.specs.Prelude.{◌≡◌, nat_le, if◌then◌else◌, ◌≢◌, ◌∷◌, ℕ, length, slice_index, bit_and, bit_or, bit_xor, ◌+◌, ◌*◌, ◌/◌, ◌%◌, ◌^◌, ◌<◌, ◌≤◌, ◌↔◌, IsTrue, IsNone, IfSome, IfNone, ◌==◌};
 ghost use Rattle.std.specs.Int.{bit_at};
 ghost use Rattle.std.specs.FinSet as set;
-ghost use Rattle.md_graph.specs.NameSet.{Member, IsLeastFrom, NoneFrom, AllBelow, ascending, ascending_from, block};
-ghost use Rattle.md_graph.specs.Words.{IsWithout, names_below, bits_between};
+ghost use Rattle.md_graph.specs.NameSet.{Member, IsLeastFrom, NoneFrom, AllBelow, ascending, ascending_from, block, told_apart};
+ghost use Rattle.md_graph.specs.Words.{IsWithout, names_below, bits_between, bit_apart};
 
 use crate::{NAMES, WORDS};
 use std::marker::Model;
@@ -63,7 +63,9 @@ impl Names {
     {
         let word = v as usize / 64;
         self.words[word] |= 1 << (v % 64);
-        self.used = self.used.max(word + 1);
+        if self.used <= word {
+            self.used = word + 1;
+        }
     }
 
     /// Leaves `v` out. Condition: it is a name.
@@ -88,6 +90,51 @@ impl Names {
     {
         join_in(&mut self.words, &other.words, other.used);
         self.used = self.used.max(other.used);
+    }
+
+    /// Moves the members that `row` has to `to`. It passes over the words in use.
+    pub fn move_shared(&mut self, row: &Names, to: &mut Names)
+        ensures rest { self.new ≡ set.difference self.old row.now }
+        ensures moved { to.new ≡ set.union to.old (set.intersection self.old row.now) }
+    {
+        move_both(&mut self.words, &row.words, &mut to.words, self.used);
+        to.used = to.used.max(self.used);
+    }
+
+    /// Moves the members that `row` lacks to `to`. It passes over the words in use.
+    pub fn move_unshared(&mut self, row: &Names, to: &mut Names)
+        ensures rest { self.new ≡ set.intersection self.old row.now }
+        ensures moved { to.new ≡ set.union to.old (set.difference self.old row.now) }
+    {
+        move_alone(&mut self.words, &row.words, &mut to.words, self.used);
+        to.used = to.used.max(self.used);
+    }
+
+    /// Moves the members that exactly one of `first` and `second` has to `to`. It passes over the words in use.
+    pub fn move_told_apart(&mut self, first: &Names, second: &Names, to: &mut Names)
+        ensures rest { self.new ≡ set.difference self.old (told_apart first.now second.now) }
+        ensures moved { to.new
+            ≡ set.union to.old (set.intersection self.old (told_apart first.now second.now)) }
+    {
+        move_apart(
+            &mut self.words,
+            &first.words,
+            &second.words,
+            &mut to.words,
+            self.used,
+        );
+        to.used = to.used.max(self.used);
+    }
+
+    /// The least member that exactly one of `first` and `second` has; `None` exactly where there is none.
+    pub fn first_told_apart(&self, first: &Names, second: &Names) -> Option<u32>
+        ensures found { IfSome result (IsLeastFrom
+            (set.intersection self.now (told_apart first.now second.now)) 0) }
+        ensures none { IfNone result (NoneFrom
+            (set.intersection self.now (told_apart first.now second.now)) 0) }
+        ensures name { IfSome result (λ least. least < NAMES) }
+    {
+        first_apart(&self.words, &first.words, &second.words, self.used)
     }
 
     /// Whether `v`, any number, is a member.
@@ -191,7 +238,9 @@ impl Names {
     {
         let block = first as usize / 64;
         self.words[block] |= bits;
-        self.used = self.used.max(block + 1);
+        if self.used <= block {
+            self.used = block + 1;
+        }
     }
 
     /// Which of the names `first + k`, k below 64, are members: bit k of the answer is 1 exactly for these.
@@ -234,6 +283,87 @@ fn join_in(words: &mut [u64; WORDS], other: &[u64; WORDS], used: usize)
     for i in 0..used {
         words[i] |= other[i];
     }
+}
+
+/// In the first `used` words the bits that `row` has go to `to`.
+fn move_both(words: &mut [u64; WORDS], row: &[u64; WORDS], to: &mut [u64; WORDS], used: usize)
+    requires { used ≤ WORDS }
+    ensures first { (k : ℕ) → k < used → slice_index words.new k
+        ≡ bit_xor (slice_index words.old k) (bit_and (slice_index words.old k) (slice_index row.now k)) }
+    ensures rest { (k : ℕ) → used ≤ k → slice_index words.new k ≡ slice_index words.old k }
+    ensures moved { (k : ℕ) → k < used → slice_index to.new k
+        ≡ bit_or (slice_index to.old k) (bit_and (slice_index words.old k) (slice_index row.now k)) }
+    ensures others { (k : ℕ) → used ≤ k → slice_index to.new k ≡ slice_index to.old k }
+{
+    for i in 0..used {
+        let moved = words[i] & row[i];
+        words[i] ^= moved;
+        to[i] |= moved;
+    }
+}
+
+/// In the first `used` words the bits that `row` lacks go to `to`.
+fn move_alone(words: &mut [u64; WORDS], row: &[u64; WORDS], to: &mut [u64; WORDS], used: usize)
+    requires { used ≤ WORDS }
+    ensures first { (k : ℕ) → k < used → slice_index words.new k
+        ≡ bit_and (slice_index words.old k) (slice_index row.now k) }
+    ensures rest { (k : ℕ) → used ≤ k → slice_index words.new k ≡ slice_index words.old k }
+    ensures moved { (k : ℕ) → k < used → slice_index to.new k ≡ bit_or (slice_index to.old k)
+        (bit_xor (slice_index words.old k) (bit_and (slice_index words.old k) (slice_index row.now k))) }
+    ensures others { (k : ℕ) → used ≤ k → slice_index to.new k ≡ slice_index to.old k }
+{
+    for i in 0..used {
+        let stay = words[i] & row[i];
+        to[i] |= words[i] ^ stay;
+        words[i] = stay;
+    }
+}
+
+/// In the first `used` words the bits that exactly one of `first` and `second` has go to `to`.
+fn move_apart(
+    words: &mut [u64; WORDS],
+    first: &[u64; WORDS],
+    second: &[u64; WORDS],
+    to: &mut [u64; WORDS],
+    used: usize,
+)
+    requires { used ≤ WORDS }
+    ensures first { (k : ℕ) → k < used → slice_index words.new k ≡ bit_xor (slice_index words.old k)
+        (bit_and (slice_index words.old k) (bit_xor (slice_index first.now k) (slice_index second.now k))) }
+    ensures rest { (k : ℕ) → used ≤ k → slice_index words.new k ≡ slice_index words.old k }
+    ensures moved { (k : ℕ) → k < used → slice_index to.new k ≡ bit_or (slice_index to.old k)
+        (bit_and (slice_index words.old k) (bit_xor (slice_index first.now k) (slice_index second.now k))) }
+    ensures others { (k : ℕ) → used ≤ k → slice_index to.new k ≡ slice_index to.old k }
+{
+    for i in 0..used {
+        let moved = words[i] & (first[i] ^ second[i]);
+        words[i] ^= moved;
+        to[i] |= moved;
+    }
+}
+
+/// The place of the lowest bit in the first `used` words that exactly one of `first` and `second` has.
+fn first_apart(
+    words: &[u64],
+    first: &[u64; WORDS],
+    second: &[u64; WORDS],
+    used: usize,
+) -> Option<u32>
+    requires few { used ≤ WORDS }
+    requires used { used ≤ length words.now }
+    ensures found { IfSome result (λ least. (least < 64 * used)
+        × (bit_apart words.now first.now second.now least ≡ 1)
+        × ((q : ℕ) → q < least → bit_apart words.now first.now second.now q ≡ 0)) }
+    ensures none { IfNone result ((q : ℕ) → q < 64 * used
+        → bit_apart words.now first.now second.now q ≡ 0) }
+{
+    for i in 0..used {
+        let apart = words[i] & (first[i] ^ second[i]);
+        if apart != 0 {
+            return Some(64 * i as u32 + apart.trailing_zeros());
+        }
+    }
+    None
 }
 
 /// The bits that both have in the first `used` words.
@@ -430,5 +560,24 @@ mod tests {
         all.take_in(&rest);
         assert_eq!(rt; all.count(), 5);
         assert!(rt; !all.is_empty());
+    }
+
+    #[test]
+    fn moves(rt: HostRuntime) {
+        let mut second = Names::none();
+        second.insert_block(64, (1 << 63) | 2);
+        let mut names = borders();
+        let mut to = Names::none();
+        names.move_shared(&second, &mut to);
+        assert!(rt; names.count() == 3 && !names.has(127) && to.count() == 1 && to.has(127));
+        names.insert(65);
+        names.move_unshared(&second, &mut to);
+        assert!(rt; names.count() == 1 && names.has(65) && to.count() == 4 && to.has(NAMES - 1));
+        let mut left = borders();
+        assert_eq!(rt; left.first_told_apart(&to, &to), None);
+        assert_eq!(rt; left.first_told_apart(&second, &to), Some(63));
+        left.move_told_apart(&second, &to, &mut names);
+        assert!(rt; left.count() == 1 && left.has(127) && names.count() == 4 && names.has(64));
+        assert_eq!(rt; left.first_told_apart(&second, &to), None);
     }
 }

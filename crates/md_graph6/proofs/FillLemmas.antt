@@ -1,109 +1,19 @@
--- Columns of a body and the graph that they make.
-use Rattle.std.proofs.Common.{◌≡◌, ℕ, zero, suc, ◌+◌, ◌-◌, ◌<◌, ◌≤◌, Bool, true, false, ◌&&◌, ◌||◌, ◌==◌, nat_lt, nat_le, List, refl, sym, ap, ◌∙◌, arith, inl, inr, if◌then◌else◌}
+-- Blocks of a body and the graph that they make.
+use Rattle.std.proofs.Common.{◌≡◌, ℕ, zero, suc, ◌+◌, ◌-◌, ◌*◌, ◌/◌, ◌%◌, ◌<◌, ◌≤◌, ◌≢◌, Bool, true, false, ◌&&◌, ◌||◌, ◌==◌, nat_lt, min, List, length, get_or, replicate, refl, sym, ap, ap₂, ◌∙◌, arith, inl, inr, if◌then◌else◌, ltb-true, get_or-set_same, get_or-set_other, set as set_at}
 use Rattle.std.specs.Int.{bit_at}
-use Rattle.std.proofs.lemmas.Bool.{cases_Bool, cases_lt, cases_order}
+use Rattle.std.proofs.lemmas.Bool.{cases_eq, eq-eqb, ne_eqb, true≢false}
 use Rattle.std.proofs.lemmas.Bool.Decides.{nat_tests}
+use Rattle.std.proofs.lemmas.Nat.Bits.{bit_at-zero}
 use Rattle.std.specs.FinSet as set
-use Rattle.md_graph.specs.NameSet.{NameSet, Member, block, block_below}
-use Rattle.md_graph.proofs.SetLaws.{contains-empty, contains-insert, contains-union}
-use Rattle.md_graph.specs.PlainGraph.{PlainGraph, adjacent, empty_graph, with_vertex, with_edges}
+use Rattle.md_graph.specs.NameSet.{Member}
+use Rattle.md_graph.specs.Blocks.{in_block, IsWithBlock}
+use Rattle.md_graph.proofs.BitWords.{get_or-zeros}
+use Rattle.md_graph.proofs.SetLaws.{contains-empty, contains-insert}
+use Rattle.md_graph.specs.PlainGraph.{PlainGraph, adjacent, empty_graph, with_vertex}
 use Rattle.md_graph.specs.declared.TheConstants.{NAMES}
-use Rattle.md_graph.proofs.GraphLemmas.{IsGraph-empty_graph, adjacent-empty_graph, IsGraph-with_vertex, adjacent-with_vertex, IsGraph-with_edges, adjacent-with_edges}
+use Rattle.md_graph.proofs.GraphLemmas.{IsGraph-empty_graph, adjacent-empty_graph, IsGraph-with_vertex, adjacent-with_vertex}
 use Rattle.md_graph6.specs.Bits.{bit, pair_number, IsBodyOf}
-use Rattle.md_graph6.specs.Filled.{Filled, HasVertices, IsColumn}
-
--- whether `v` is one of the names first + k, k < n
-abbrev within : ℕ → ℕ → ℕ → Bool
-within first n v = nat_le first v && nat_lt v (first + n)
-
-in_step : (bits first n v : ℕ) (b : Bool) → b ≡ (within first n v && (bit_at bits (v - first) == 1))
-    → (bit_at bits n == 1) ≡ true → ((v == first + n) || b) ≡ (within first (suc n) v && (bit_at bits (v - first) == 1))
-in_step bits first n v b ih one =
-    elim (cases_order v (first + n)) [
-      | inl same ↦ let e : v - first ≡ n = omega arith in let f = ap (λ k. bit_at bits k == 1) e ∙ one in rw f (grind (arith, nat_tests))
-      | inr other ↦ grind (arith, nat_tests)
-    ]
-
-out_step : (bits first n v : ℕ) (b : Bool) → b ≡ (within first n v && (bit_at bits (v - first) == 1))
-    → (bit_at bits n == 1) ≡ false → b ≡ (within first (suc n) v && (bit_at bits (v - first) == 1))
-out_step bits first n v b ih none =
-    elim (cases_order v (first + n)) [
-      | inl same ↦ let e : v - first ≡ n = omega arith in let f = ap (λ k. bit_at bits k == 1) e ∙ none in rw f (grind (arith, nat_tests))
-      | inr other ↦ grind (arith, nat_tests)
-    ]
-
-contains-block_below : (first bits n v : ℕ) → set.contains (block_below first bits n) v ≡ (within first n v && (bit_at bits (v - first) == 1))
-unfolding block_below
-contains-block_below first bits zero v = rw (contains-empty v) (grind (arith, nat_tests))
-contains-block_below first bits (suc n) v =
-    elim (cases_Bool (bit_at bits n == 1)) [
-      | inl t ↦ rw (t, contains-insert (block_below first bits n) (first + n) v) (in_step bits first n v _ (contains-block_below first bits n v) t)
-      | inr f ↦ rw f (out_step bits first n v _ (contains-block_below first bits n v) f)
-    ]
-
--- which names a block has
-pub contains-block : (first bits v : ℕ) → set.contains (block first bits) v ≡ (within first 64 v && (bit_at bits (v - first) == 1))
-contains-block first bits v = contains-block_below first bits 64 v
-
-none_below : (i : ℕ) (b : Bool) → false ≡ (nat_lt i 0 && b)
-none_below i b = let none : nat_lt i 0 ≡ false = grind (arith, nat_tests) in rw none refl
-
--- ---- one column
-
--- a word of a column, cut to the rows above the diagonal
-block_bit : (body : List ℕ) (place first count bits low k : ℕ)
-    → bit_at bits k ≡ bit body (place + first + k)
-    → bit_at low k ≡ (if nat_lt k count then bit_at bits k else 0)
-    → (bit_at low k == 1) ≡ (nat_lt k count && (bit body (place + (first + k)) == 1))
-block_bit body place first count bits low k stream cut =
-    let e : place + first + k ≡ place + (first + k) = omega arith in
-    let f = stream ∙ ap (bit body) e in
-    elim (cases_Bool (nat_lt k count)) [
-      | inl t ↦ rw (cut, t, f) refl
-      | inr below ↦ rw (cut, below) refl
-    ]
-
--- one more word of a column
-column_words : (s : NameSet) (f : ℕ → Bool) (low j first next : ℕ) → next ≡ first + 64
-    → ((i : ℕ) → set.contains s i ≡ (nat_lt i first && (nat_lt i j && f i)))
-    → ((k : ℕ) → k < 64 → (bit_at low k == 1) ≡ (nat_lt k (j - first) && f (first + k)))
-    → (i : ℕ) → set.contains (set.union s (block first low)) i ≡ (nat_lt i next && (nat_lt i j && f i))
-column_words s f low j first next e before word i =
-    rw (contains-union s (block first low) i, contains-block first low i, before i)
-    (elim (cases_lt i first) [
-      | inl done ↦ grind (arith, nat_tests)
-      | inr from ↦ elim (cases_lt i next) [
-        | inl inside ↦
-            let place : first + (i - first) ≡ i = omega arith in
-            let here = word (i - first) (omega arith) ∙ ap (λ x. nat_lt (i - first) (j - first) && f x) place in
-            rw here (inside_word i j first next (f i) from inside e)
-        | inr past ↦ grind (arith, nat_tests)
-      ]
-    ])
-  where
-    inside_word : (i j first next : ℕ) (b : Bool) → first ≤ i → i < next → next ≡ first + 64
-        → ((nat_lt i first && (nat_lt i j && b)) || (within first 64 i && (nat_lt (i - first) (j - first) && b))) ≡ (nat_lt i next && (nat_lt i j && b))
-    inside_word i j first next b from inside e = grind (arith, nat_tests)
-
-pub column_more : (body : List ℕ) (s : NameSet) (place j first next bits low : ℕ) → next ≡ first + 64
-    → ((i : ℕ) → set.contains s i ≡ (nat_lt i first && (nat_lt i j && (bit body (place + i) == 1))))
-    → ((k : ℕ) → k < 64 → bit_at bits k ≡ bit body (place + first + k))
-    → ((k : ℕ) → k < 64 → bit_at low k ≡ (if nat_lt k (j - first) then bit_at bits k else 0))
-    → (i : ℕ) → set.contains (set.union s (block first low)) i ≡ (nat_lt i next && (nat_lt i j && (bit body (place + i) == 1)))
-column_more body s place j first next bits low e before stream cut =
-    column_words s (λ i. bit body (place + i) == 1) low j first next e before
-    (λ k h. block_bit body place first (j - first) bits low k (stream k h) (cut k h))
-
-pub column_none : (s : NameSet) (f : ℕ → Bool) (j : ℕ) → s ≡ set.empty → (i : ℕ) → set.contains s i ≡ (nat_lt i 0 && (nat_lt i j && f i))
-column_none s f j e i = ap (λ x. set.contains x i) e ∙ contains-empty i ∙ none_below i (nat_lt i j && f i)
-
-pub column_all : (s : NameSet) (f : ℕ → Bool) (j first : ℕ) → j ≤ first
-    → ((i : ℕ) → set.contains s i ≡ (nat_lt i first && (nat_lt i j && f i)))
-    → (i : ℕ) → set.contains s i ≡ (nat_lt i j && f i)
-column_all s f j first all before i = before i ∙ cut (f i)
-  where
-    cut : (b : Bool) → (nat_lt i first && (nat_lt i j && b)) ≡ (nat_lt i j && b)
-    cut b = grind (arith, nat_tests)
+use Rattle.md_graph6.specs.Filled.{HasVertices, IsBlock, is_before, IsFilled}
 
 -- ---- the vertices
 
@@ -124,79 +34,155 @@ vertices_more {g} i name has = record {
     below : (v : ℕ) → ((v == i) || nat_lt v i) ≡ nat_lt v (i + 1)
     below v = grind (arith, nat_tests)
 
--- ---- the columns
-
-pub filled_none : (body : List ℕ) (n : ℕ) {g : PlainGraph} → HasVertices n g → Filled body n 1 g
-filled_none body n {g} has = record {
-  vertices = has.vertices;
-  graph = has.graph;
-  pairs = λ a b up. has.no_edge a b ∙ none a b up;
-}
-  where
-    none : (a b : ℕ) → a < b → false ≡ (nat_lt b 1 && (bit body (pair_number a b) == 1))
-    none a b up = let f : nat_lt b 1 ≡ false = grind (arith, nat_tests) in rw f refl
-
--- an edge of one more column has its larger end there
-tests : (a b j : ℕ) (at_b at_a old x y z : Bool) → a < b
-    → at_b ≡ (nat_lt b j && y) → at_a ≡ (nat_lt a j && z) → old ≡ (nat_lt b j && x) → (b ≡ j → z ≡ x)
-    → ((((a == j) && at_b) || ((b == j) && at_a)) || old) ≡ (nat_lt b (j + 1) && x)
-tests a b j at_b at_a old x y z up e f h diagonal =
-    elim (cases_order b j) [
-      | inl same ↦ let one = diagonal same in grind (arith, nat_tests)
-      | inr (inl less) ↦ grind (arith, nat_tests)
-      | inr (inr more) ↦ grind (arith, nat_tests)
-    ]
-
-pub filled_more : (body : List ℕ) (n j : ℕ) {g : PlainGraph} (column : NameSet) → j < n → n ≤ NAMES
-    → Filled body n j g → IsColumn body j column → Filled body n (j + 1) (with_edges g j column)
-filled_more body n j {g} column inside names filled is = record {
-  vertices = filled.vertices;
-  graph = IsGraph-with_edges filled.graph j column vertex others not_itself;
-  pairs = λ a b up.
-      adjacent-with_edges g j column (λ w m. filled.graph.names w (others w m)) a b
-      ∙ joined a b up (set.contains column b) (set.contains column a) (adjacent g a b) (is.members b) (is.members a) (filled.pairs a b up);
-}
-  where
-    vertex : Member g.vertices j
-    vertex = filled.vertices j ∙ grind (arith, nat_tests)
-
-    others : (w : ℕ) → Member column w → Member g.vertices w
-    others w m = let h = sym (is.members w) ∙ m in filled.vertices w ∙ grind (arith, nat_tests)
-
-    not_itself : set.contains column j ≡ false
-    not_itself = is.members j ∙ grind (arith, nat_tests)
-
-    joined : (a b : ℕ) → a < b → (at_b at_a old : Bool)
-        → at_b ≡ (nat_lt b j && (bit body (pair_number b j) == 1))
-        → at_a ≡ (nat_lt a j && (bit body (pair_number a j) == 1))
-        → old ≡ (nat_lt b j && (bit body (pair_number a b) == 1))
-        → ((((a == j) && at_b) || ((b == j) && at_a)) || old) ≡ (nat_lt b (j + 1) && (bit body (pair_number a b) == 1))
-    joined a b up at_b at_a old e f h =
-        tests a b j at_b at_a old _ _ _ up e f h (λ same. ap (λ k. bit body (pair_number a k) == 1) (sym same))
-
-pub filled_all : (body : List ℕ) (n j : ℕ) {g : PlainGraph} → n ≤ j → Filled body n j g → IsBodyOf body n g
-filled_all body n j {g} all filled = record {
-  vertices = filled.vertices;
-  graph = filled.graph;
-  edges = λ a b up inside. filled.pairs a b up ∙ (let t : nat_lt b j ≡ true = grind (arith, nat_tests) in rw t refl);
-}
-
 pub vertices_absent : {g : PlainGraph} (v : ℕ) → HasVertices v g → set.contains g.vertices v ≡ false
 vertices_absent {g} v has = has.vertices v ∙ (let not_below : nat_lt v v ≡ false = grind (arith, nat_tests) in not_below)
 
 pub vertices_more_is : {g h : PlainGraph} (i : ℕ) → i < NAMES → HasVertices i g → h ≡ with_vertex g i → HasVertices (i + 1) h
 vertices_more_is {g} {h} i name has e = rw e (vertices_more i name has)
 
-pub filled_more_is : (body : List ℕ) (n j : ℕ) {g h : PlainGraph} (column : NameSet) → j < n → n ≤ NAMES
-    → Filled body n j g → IsColumn body j column → h ≡ with_edges g j column → Filled body n (j + 1) h
-filled_more_is body n j {g} {h} column inside names filled is e = rw e (filled_more body n j column inside names filled is)
+-- ---- one column and one block
 
-pub IsColumn-all : (body : List ℕ) (s : NameSet) (place j first : ℕ) → j ≤ first → place ≡ pair_number 0 j
-    → ((i : ℕ) → set.contains s i ≡ (nat_lt i first && (nat_lt i j && (bit body (place + i) == 1))))
-    → IsColumn body j s
-IsColumn-all body s place j first all e before = record {
-  members = λ i.
-      let f : place + i ≡ pair_number i j = omega arith in
-      column_all s (λ i. bit body (place + i) == 1) j first all before i
-      ∙ ap (λ k. nat_lt i j && (bit body k == 1)) f;
+cut_bit : (x y z : ℕ) (a b : Bool) → x ≡ (if a then y else 0) → a ≡ b → y ≡ z → x ≡ (if b then z else 0)
+cut_bit x y z a b e f g = rw (e, f, g) refl
+
+-- the lowest j - low bits of a column from row low on
+pub column_cut : (body : List ℕ) (place j low bits cut k : ℕ) → low ≤ j → place ≡ pair_number 0 j
+    → bit_at bits k ≡ bit body (place + low + k)
+    → bit_at cut k ≡ (if nat_lt k (j - low) then bit_at bits k else 0)
+    → bit_at cut k ≡ (if nat_lt (low + k) j then bit body (pair_number (low + k) j) else 0)
+column_cut body place j low bits cut k above is stream e =
+    let same : nat_lt k (j - low) ≡ nat_lt (low + k) j = grind (arith, nat_tests) in
+    let where_it_is : place + low + k ≡ pair_number (low + k) j = omega arith in
+    cut_bit _ _ _ _ _ e same (stream ∙ ap (bit body) where_it_is)
+
+-- the words below r are those of a block, the others 0
+abbrev pub IsPart : List ℕ → ℕ → ℕ → ℕ → List ℕ → ℕ → Type 0
+IsPart body n low high block count =
+    (r k : ℕ) → k < 64 → bit_at (get_or block r 0) k ≡ (if nat_lt r count && nat_lt (low + k) (high + r) then bit body (pair_number (low + k) (high + r)) else 0)
+
+none_yet : (x : ℕ) (r : ℕ) (b : Bool) → 0 ≡ (if nat_lt r 0 && b then x else 0)
+none_yet x r b = let none : nat_lt r 0 ≡ false = grind (arith, nat_tests) in rw none refl
+
+pub part_none : (body : List ℕ) (n low high size : ℕ) → IsPart body n low high (replicate size 0) 0
+part_none body n low high size r k h = ap (λ x. bit_at x k) (get_or-zeros size r) ∙ bit_at-zero k ∙ none_yet _ r _
+
+more_old : (r count : ℕ) (b : Bool) → r ≢ count → (nat_lt r count && b) ≡ (nat_lt r (count + 1) && b)
+more_old r count b ne = grind (arith, nat_tests)
+
+pub part_more : (body : List ℕ) (n low high : ℕ) (block : List ℕ) (count word : ℕ) → count < length block → IsPart body n low high block count
+    → ((k : ℕ) → k < 64 → bit_at word k ≡ (if nat_lt (low + k) (high + count) then bit body (pair_number (low + k) (high + count)) else 0))
+    → IsPart body n low high (set_at block count word) (count + 1)
+part_more body n low high block count word inside before column r k h =
+    elim (cases_eq r count) [
+      | inl same ↦
+          let last : nat_lt r (count + 1) ≡ true = grind (arith, nat_tests) in
+          rw last (rw (same, get_or-set_same block count word 0 inside) (column k h))
+      | inr other ↦
+          rw (get_or-set_other block count r word 0 other)
+          (cut_bit _ _ _ _ _ (before r k h) (more_old r count (nat_lt (low + k) (high + r)) other) refl)
+    ]
+
+pub part_all : (body : List ℕ) (n low high : ℕ) (block : List ℕ) (count : ℕ) → high < n → count ≡ min (n - high) 64 → IsPart body n low high block count → IsBlock body n low high block
+part_all body n low high block count inside all part r k hr hk =
+    let same : nat_lt r count ≡ nat_lt (high + r) n = grind (arith, nat_tests) in
+    cut_bit _ _ _ _ _ (part r k hk) (ap (λ b. b && nat_lt (low + k) (high + r)) same) refl
+
+-- ---- the blocks
+
+-- an edge of a block
+pub block_edge : (body : List ℕ) (n l h : ℕ) (words : List ℕ) → IsBlock body n (64 * l) (64 * h) words → (u v : ℕ)
+    → in_block words (64 * h) (64 * l) u v ≡ (((u / 64 == h) && (v / 64 == l)) && ((nat_lt u n && nat_lt v u) && (bit body (pair_number v u) == 1)))
+block_edge body n l h words is u v =
+    elim (cases_eq (u / 64) h) [
+      | inl at_h ↦ elim (cases_eq (v / 64) l) [
+        | inl at_l ↦
+            let row : 64 * h + u % 64 ≡ u = omega arith in
+            let column : 64 * l + v % 64 ≡ v = omega arith in
+            let high : 64 * h / 64 ≡ h = omega arith in
+            let low : 64 * l / 64 ≡ l = omega arith in
+            let here = is (u % 64) (v % 64) (omega arith) (omega arith) in
+            rw (high, low, at_h, at_l) (edge_test (h == h) (l == l) (nat_lt u n && nat_lt v u) (bit body (pair_number v u)) (eq-eqb h h refl) (eq-eqb l l refl) _ (here ∙ ap₂ (λ a b. if nat_lt a n && nat_lt b a then bit body (pair_number b a) else 0) row column))
+        | inr ne ↦ let low : 64 * l / 64 ≡ l = omega arith in rw (low, ne_eqb (v / 64) l ne) (grind arith)
+      ]
+      | inr ne ↦ let high : 64 * h / 64 ≡ h = omega arith in rw (high, ne_eqb (u / 64) h ne) (grind arith)
+    ]
+  where
+    edge_test : (p q t : Bool) (y : ℕ) → p ≡ true → q ≡ true → (x : ℕ) → x ≡ (if t then y else 0) → (p && (q && (x == 1))) ≡ ((p && q) && (t && (y == 1)))
+    edge_test p q true y e f x g = rw (e, f, g) refl
+    edge_test p q false y e f x g = rw (e, f, g) refl
+
+edge_parts : (a b c d e : Bool) → ((a && b) && ((c && d) && e)) ≡ true → (c ≡ true) × (d ≡ true)
+edge_parts true true true true e h = (refl, refl)
+edge_parts true true true false e h = absurd (true≢false (sym h))
+edge_parts true true false d e h = absurd (true≢false (sym h))
+edge_parts true false c d e h = absurd (true≢false (sym h))
+edge_parts false b c d e h = absurd (true≢false (sym h))
+
+-- the ends of an edge of a block are vertices and differ
+pub block_ends : (body : List ℕ) (n l h : ℕ) (words : List ℕ) {g : PlainGraph} {m k : ℕ} → IsBlock body n (64 * l) (64 * h) words → IsFilled body n m k g
+    → (u v : ℕ) → in_block words (64 * h) (64 * l) u v ≡ true → Member g.vertices u × Member g.vertices v × (u ≢ v)
+block_ends body n l h words {g} is filled u v edge =
+    let parts = edge_parts (u / 64 == h) (v / 64 == l) (nat_lt u n) (nat_lt v u) (bit body (pair_number v u) == 1) (sym (block_edge body n l h words is u v) ∙ edge) in
+    let below = ltb-true u n parts.0 in
+    let smaller = ltb-true v u parts.1 in
+    (filled.vertices u ∙ parts.0, filled.vertices v ∙ grind (arith, nat_tests), λ e. omega arith)
+
+-- the edges of one block more
+block_more : (a b n h l : ℕ) (old here there x y : Bool) → a < b
+    → old ≡ ((nat_lt b n && is_before h l a b) && x)
+    → here ≡ (((a / 64 == h) && (b / 64 == l)) && ((nat_lt a n && nat_lt b a) && y))
+    → there ≡ (((b / 64 == h) && (a / 64 == l)) && ((nat_lt b n && nat_lt a b) && x))
+    → (old || (here || there)) ≡ ((nat_lt b n && is_before h (l + 1) a b) && x)
+block_more a b n h l old here there x y up e f g =
+    let none : nat_lt b a ≡ false = grind (arith, nat_tests) in
+    let some : nat_lt a b ≡ true = grind (arith, nat_tests) in
+    let more : nat_lt (a / 64) (l + 1) ≡ (nat_lt (a / 64) l || (a / 64 == l)) = next_test (a / 64) l in
+    rw (e, f, g, none, some, more) (block_bools (nat_lt b n) (nat_lt (b / 64) h) (b / 64 == h) (nat_lt (a / 64) l) (a / 64 == l) x _ _ y)
+  where
+    next_test : (i l : ℕ) → nat_lt i (l + 1) ≡ (nat_lt i l || (i == l))
+    next_test i l = grind (arith, nat_tests)
+
+    block_bools : (p q r s t x c d y : Bool) → (((p && (q || (r && s))) && x) || ((c && ((d && false) && y)) || ((r && t) && ((p && true) && x)))) ≡ ((p && (q || (r && (s || t)))) && x)
+    block_bools p q r s t x c d y = grind arith
+
+pub filled_more : (body : List ℕ) (n l h : ℕ) (words : List ℕ) {g new : PlainGraph} → IsBlock body n (64 * l) (64 * h) words → IsFilled body n h l g
+    → IsWithBlock g (64 * h) (64 * l) words new → IsFilled body n h (l + 1) new
+filled_more body n l h words {g} {new} is filled with_block = record {
+  vertices = λ v. ap (λ s. set.contains s v) with_block.vertices ∙ filled.vertices v;
+  graph = with_block.graph;
+  pairs = λ a b up.
+      with_block.edges a b
+      ∙ block_more a b n h l _ _ _ _ _ up (filled.pairs a b up) (block_edge body n l h words is a b) (block_edge body n l h words is b a);
+}
+
+-- the blocks of 64 columns
+pub filled_columns : (body : List ℕ) (n h l : ℕ) {g : PlainGraph} → l ≡ h + 1 → IsFilled body n h l g → IsFilled body n (h + 1) 0 g
+filled_columns body n h l {g} all filled = record {
+  vertices = filled.vertices;
+  graph = filled.graph;
+  pairs = λ a b up. filled.pairs a b up ∙ ap (λ t. (nat_lt b n && t) && (bit body (pair_number a b) == 1)) (columns_test (a / 64) (b / 64) h l all (omega arith));
+}
+  where
+    columns_test : (i j h l : ℕ) → l ≡ h + 1 → i ≤ j → (nat_lt j h || ((j == h) && nat_lt i l)) ≡ (nat_lt j (h + 1) || ((j == h + 1) && nat_lt i 0))
+    columns_test i j h l e le = grind (arith, nat_tests)
+
+pub filled_none : (body : List ℕ) (n : ℕ) {g : PlainGraph} → HasVertices n g → IsFilled body n 0 0 g
+filled_none body n {g} has = record {
+  vertices = has.vertices;
+  graph = has.graph;
+  pairs = λ a b up. has.no_edge a b ∙ none_test (nat_lt b n) (b / 64) (a / 64) _;
+}
+  where
+    none_test : (p : Bool) (j i : ℕ) (x : Bool) → false ≡ ((p && (nat_lt j 0 || ((j == 0) && nat_lt i 0))) && x)
+    none_test p j i x = grind (arith, nat_tests)
+
+pub filled_all : (body : List ℕ) (n h : ℕ) {g : PlainGraph} → (n + 63) / 64 ≤ h → IsFilled body n h 0 g → IsBodyOf body n g
+filled_all body n h {g} all filled = record {
+  vertices = filled.vertices;
+  graph = filled.graph;
+  edges = λ a b up inside.
+      let below : nat_lt b n ≡ true = grind (arith, nat_tests) in
+      let block_below : b / 64 < h = omega arith in
+      let before : nat_lt (b / 64) h ≡ true = grind (arith, nat_tests) in
+      filled.pairs a b up ∙ rw (below, before) refl;
 }

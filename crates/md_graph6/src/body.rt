@@ -1,4 +1,5 @@
-//! The bits of a graph6 line, one for each pair of vertices, read into a graph: 64 bits of a column at once.
+//! The bits of a graph6 line, one for each pair of vertices, read into a graph: 64 bits of 64 columns
+//! at once.
 ghost use Rattle.std.specs.Prelude.{◌≡◌, ℕ, ◌+◌, ◌-◌, ◌*◌, ◌/◌, ◌%◌, ◌^◌, ◌<◌, ◌≤◌, ◌==◌, ◌&&◌, nat_lt, length, get_or, if◌then◌else◌};
 ghost use Rattle.std.specs.Int.{bit_at};
 ghost use Rattle.std.specs.List.{AllPass};
@@ -6,9 +7,9 @@ ghost use Rattle.md_graph.specs.PlainGraph.{empty_graph};
 ghost use Rattle.md_graph6.specs.Bits.{bit, pair_number, IsBodyOf};
 ghost use Rattle.md_graph6.specs.Line.{is_group};
 ghost use Rattle.md_graph6.specs.Window.{AreGroups, IsWindow};
-ghost use Rattle.md_graph6.specs.Filled.{HasVertices, IsColumn};
+ghost use Rattle.md_graph6.specs.Filled.{HasVertices, IsBlock, IsFilled};
 
-use md_graph::{Graph, NAMES, Names};
+use md_graph::{Graph, NAMES};
 
 /// Each number below 64 with its six bits turned round.
 const TURNED: [u8; 64] = [
@@ -136,19 +137,32 @@ pub(crate) fn column_place(j: u32) -> usize
     j as usize * (j as usize).saturating_sub(1) / 2
 }
 
-/// Makes `column` the set of the numbers i < j for which the bit of the pair is 1.
-fn read_column(body: &[u8], j: u32, column: &mut Names)
+/// The bits of column j from row `low` on, 64 at most: those of the rows above row j.
+#[inline]
+fn column_bits(body: &[u8], j: u32, low: u32) -> u64
     requires name { j < NAMES }
+    requires above { low ≤ j }
     requires groups { AreGroups body.now }
-    ensures { IsColumn body.now j column.new }
+    ensures { (k : ℕ) → k < 64
+        → bit_at result k ≡ (if nat_lt (low + k) j then bit body.now (pair_number (low + k) j) else 0) }
 {
-    column.clear();
-    let place = column_place(j);
-    for w in 0..(j + 63) / 64 {
-        let first = 64 * w;
-        let bits = bits_from(body, place + first as usize);
-        column.insert_block(first, low_bits(bits, j - first));
+    let bits = bits_from(body, column_place(j) + low as usize);
+    low_bits(bits, j - low)
+}
+
+/// The bits of the columns from `high` on, 64 at most and those below n, each from row `low` on.
+fn block_bits(body: &[u8], n: u32, low: u32, high: u32) -> [u64; 64]
+    requires few { n ≤ NAMES }
+    requires inside { high < n }
+    requires above { low ≤ high }
+    requires groups { AreGroups body.now }
+    ensures { IsBlock body.now n low high result }
+{
+    let mut block = [0; 64];
+    for r in 0..(n - high).min(64) {
+        block[r as usize] = column_bits(body, high + r, low);
     }
+    block
 }
 
 /// Takes in the numbers below n as vertices.
@@ -162,6 +176,20 @@ fn add_vertices(graph: &mut Graph, n: u32)
     }
 }
 
+/// Takes in the edges whose larger end is one of the 64 numbers from 64 `h` on.
+fn fill_columns(graph: &mut Graph, n: u32, body: &[u8], h: u32)
+    requires few { n ≤ NAMES }
+    requires inside { 64 * h < n }
+    requires groups { AreGroups body.now }
+    requires before { IsFilled body.now n h 0 graph.old }
+    ensures { IsFilled body.now n (h + 1) 0 graph.new }
+{
+    for l in 0..h + 1 {
+        let block = block_bits(body, n, 64 * l, 64 * h);
+        graph.add_block(64 * l, 64 * h, &block);
+    }
+}
+
 /// Fills the graph with the numbers below n as vertices and the edges whose bits are 1.
 /// Conditions: the graph has no vertices, n is at most the number of names, and each byte is from 63 to 126.
 pub fn fill(graph: &mut Graph, n: u32, body: &[u8])
@@ -171,9 +199,7 @@ pub fn fill(graph: &mut Graph, n: u32, body: &[u8])
     ensures { IsBodyOf body.now n graph.new }
 {
     add_vertices(graph, n);
-    let mut column = Names::none();
-    for j in 1..n {
-        read_column(body, j, &mut column);
-        graph.add_edges(j, &column);
+    for h in 0..(n + 63) / 64 {
+        fill_columns(graph, n, body, h);
     }
 }

@@ -1,8 +1,9 @@
 -- What the functions that search answer, from what they call: sets by their members, adjacency by rows, and the turns of a search.
-use Rattle.std.proofs.Common.{◌≡◌, ◌<◌, ◌+◌, ◌↔◌, List, [], ◌∷◌, ℕ, Bool, true, false, not, ◌≢◌, ◌⊎◌, refl, sym, ◌∙◌, ap, subst, inl, inr, arith}
+use Rattle.std.proofs.Common.{◌≡◌, ◌<◌, ◌+◌, ◌↔◌, List, [], ◌∷◌, ℕ, Bool, true, false, not, ◌≢◌, ◌⊎◌, refl, sym, ◌∙◌, ap, ap₂, subst, inl, inr, arith, Option, Some, None, IfSome, IfNone}
+use Rattle.std.specs.Option.{is_some}
 use Rattle.std.specs.FinSet.{contains, empty, insert, remove, union, intersection, difference, len}
 use Rattle.md_graph.specs.declared.TheConstants.{NAMES}
-use Rattle.md_graph.specs.NameSet.{NoneFrom, AllBelow, ascending, ascending_from}
+use Rattle.md_graph.specs.NameSet.{NoneFrom, IsLeastFrom, AllBelow, ascending, ascending_from, told_apart}
 use Rattle.md_graph.proofs.NameLemmas.{walk_turn, walk_more, walk_end}
 use Rattle.md_graph.specs.PlainGraph.{PlainGraph, IsGraph, adjacent, neighbours}
 use Rattle.md_graph.proofs.GraphLemmas.{adjacent_sym, adjacent_self, contains-neighbours}
@@ -11,6 +12,7 @@ use Rattle.md_modules.specs.Adjacency.{IsAdjacency}
 use Rattle.md_modules.specs.Modules.{IsModule, IsLeastModule, IsLeastModuleOver}
 use Rattle.md_modules.specs.Kinds.{IsSplit}
 use Rattle.md_modules.specs.Components.{IsComponent}
+use Rattle.md_modules.specs.Seen.{seen_as}
 use Rattle.md_modules.proofs.Sets.{either, clash, true_if, false_if, empty_lacks, insert_new, insert_old, of_insert, remove_left, of_remove, meet_has, of_meet, union_left, union_right, of_union, only_has, of_only, only_lacks, minus_has, of_minus, minus_lacks, same_members, Has-along}
 use Rattle.md_modules.proofs.Search.{search_falls}
 use Rattle.md_modules.proofs.Modules.{single_module}
@@ -41,66 +43,110 @@ along_two P a b a' b' ea eb p = subst (P a') (sym eb) (subst (λ t. P t b) (sym 
 
 -- ---- adjacency
 
+-- the members of `among` that are adjacent to one of v and w, and not to both
+abbrev pub apart_in : PlainGraph → ℕ → ℕ → NameSet → NameSet
+apart_in g v w among = intersection among (told_apart (neighbours g v) (neighbours g w))
+
 module _ {g : PlainGraph} (graph : IsGraph g) where
   pub graph_adjacency : IsAdjacency (adjacent g)
   graph_adjacency = record { symmetric = adjacent_sym g; irreflexive = adjacent_self graph }
 
-  row_is : (w : ℕ) (row : NameSet) → row ≡ neighbours g w → (y : ℕ) → contains row y ≡ adjacent g w y
-  row_is w row e y = ap (λ s. contains s y) e ∙ contains-neighbours graph w y
-
   abbrev pub SeenAs : ℕ → Bool → NameSet → NameSet → Type 0
   SeenAs w v among result = ((y : ℕ) → Has among y → adjacent g w y ≡ v → Has result y) × ((y : ℕ) → Has result y → Has among y × (adjacent g w y ≡ v))
 
-  pub seen_true : (w : ℕ) (v : Bool) (among row result : NameSet) → v ≡ true → row ≡ neighbours g w → result ≡ intersection row among → SeenAs w v among result
-  seen_true w v among row result is_true is_row is = (
-    λ y h k. Has-along _ _ (sym is) y (meet_has row among y (row_is w row is_row y ∙ k ∙ is_true) h),
+  pub seen_all : (w : ℕ) (v : Bool) (among : NameSet) → SeenAs w v among (seen_as g w v among)
+  seen_all w true among = (
+    λ y h k. meet_has among (neighbours g w) y h (contains-neighbours graph w y ∙ k),
     λ y h.
-        let two : Has row y × Has among y = of_meet row among y (Has-along _ _ is y h) in
-        (two.1, sym (row_is w row is_row y) ∙ two.0 ∙ sym is_true),
+        let two : Has among y × Has (neighbours g w) y = of_meet among (neighbours g w) y h in
+        (two.0, sym (contains-neighbours graph w y) ∙ two.1),
   )
-
-  pub seen_false : (w : ℕ) (v : Bool) (among row result : NameSet) → v ≡ false → row ≡ neighbours g w → result ≡ difference among row → SeenAs w v among result
-  seen_false w v among row result is_false is_row is = (
-    λ y h k. Has-along _ _ (sym is) y (minus_has among row y h (row_is w row is_row y ∙ k ∙ is_false)),
+  seen_all w false among = (
+    λ y h k. minus_has among (neighbours g w) y h (contains-neighbours graph w y ∙ k),
     λ y h.
-        let two : Has among y × Lacks row y = of_minus among row y (Has-along _ _ is y h) in
-        (two.0, sym (row_is w row is_row y) ∙ two.1 ∙ sym is_false),
+        let two : Has among y × Lacks (neighbours g w) y = of_minus among (neighbours g w) y h in
+        (two.0, sym (contains-neighbours graph w y) ∙ two.1),
   )
 
   abbrev pub ToldApart : ℕ → ℕ → NameSet → NameSet → Type 0
   ToldApart v w among result =
       ((y : ℕ) → Has among y → adjacent g v y ≢ adjacent g w y → Has result y) × ((y : ℕ) → Has result y → Has among y × (adjacent g v y ≢ adjacent g w y))
 
-  pub told : (v w : ℕ) (among first second apart other joined result : NameSet) → first ≡ neighbours g v → second ≡ neighbours g w →
-      apart ≡ difference first second → other ≡ difference second first → joined ≡ union apart other → result ≡ intersection joined among → ToldApart v w among result
-  told v w among first second apart other joined result is_first is_second is_apart is_other is_joined is = (has, only) where
+  pub told_all : (v w : ℕ) (among : NameSet) → ToldApart v w among (apart_in g v w among)
+  told_all v w among = (has, only) where
+    first : NameSet
+    first = neighbours g v
+
+    second : NameSet
+    second = neighbours g w
+
     of_first : (y : ℕ) → contains first y ≡ adjacent g v y
-    of_first y = row_is v first is_first y
+    of_first y = contains-neighbours graph v y
 
     of_second : (y : ℕ) → contains second y ≡ adjacent g w y
-    of_second y = row_is w second is_second y
+    of_second y = contains-neighbours graph w y
 
-    has : (y : ℕ) → Has among y → adjacent g v y ≢ adjacent g w y → Has result y
-    has y h differ = Has-along _ _ (sym is) y (meet_has joined among y (Has-along _ _ (sym is_joined) y (elim (either (adjacent g v y)) [
-      | inl t ↦ union_left apart other y (Has-along _ _ (sym is_apart) y
-          (minus_has first second y (of_first y ∙ t) (of_second y ∙ false_if _ (λ k. differ (t ∙ sym k)))))
-      | inr f ↦ union_right apart other y (Has-along _ _ (sym is_other) y
-          (minus_has second first y (of_second y ∙ true_if _ (λ k. differ (f ∙ sym k))) (of_first y ∙ f)))
-    ])) h)
+    has : (y : ℕ) → Has among y → adjacent g v y ≢ adjacent g w y → Has (apart_in g v w among) y
+    has y h differ = meet_has among (told_apart first second) y h (elim (either (adjacent g v y)) [
+      | inl t ↦ union_left (difference first second) (difference second first) y
+          (minus_has first second y (of_first y ∙ t) (of_second y ∙ false_if _ (λ k. differ (t ∙ sym k))))
+      | inr f ↦ union_right (difference first second) (difference second first) y
+          (minus_has second first y (of_second y ∙ true_if _ (λ k. differ (f ∙ sym k))) (of_first y ∙ f))
+    ])
 
-    only : (y : ℕ) → Has result y → Has among y × (adjacent g v y ≢ adjacent g w y)
+    only : (y : ℕ) → Has (apart_in g v w among) y → Has among y × (adjacent g v y ≢ adjacent g w y)
     only y h =
-        let in_both : Has joined y × Has among y = of_meet joined among y (Has-along _ _ is y h) in (
-          in_both.1,
-          elim (of_union apart other y (Has-along _ _ is_joined y in_both.0)) [
+        let in_both : Has among y × Has (told_apart first second) y = of_meet among (told_apart first second) y h in (
+          in_both.0,
+          elim (of_union (difference first second) (difference second first) y in_both.1) [
             | inl i ↦
-                let two : Has first y × Lacks second y = of_minus first second y (Has-along _ _ is_apart y i) in
+                let two : Has first y × Lacks second y = of_minus first second y i in
                 λ same. clash (sym same ∙ sym (of_first y) ∙ two.0) (sym (of_second y) ∙ two.1)
             | inr i ↦
-                let two : Has second y × Lacks first y = of_minus second first y (Has-along _ _ is_other y i) in
+                let two : Has second y × Lacks first y = of_minus second first y i in
                 λ same. clash (same ∙ sym (of_second y) ∙ two.0) (sym (of_first y) ∙ two.1)
           ],
         )
+
+-- ---- moves
+
+-- to leave out t is to leave out what is in t
+minus_shared : (s t : NameSet) → difference s t ≡ difference s (intersection s t)
+minus_shared s t = same_members _ _
+    (λ q h. let two : Has s q × Lacks t q = of_minus s t q h in minus_has s (intersection s t) q two.0 (false_if _ (λ k. clash (of_meet s t q k).1 two.1)))
+    (λ q h. let two : Has s q × Lacks (intersection s t) q = of_minus s (intersection s t) q h in minus_has s t q two.0 (false_if _ (λ k. clash (meet_has s t q two.0 k) two.1)))
+
+-- to keep what is in t is to leave out the rest
+meet_unshared : (s t : NameSet) → intersection s t ≡ difference s (difference s t)
+meet_unshared s t = same_members _ _
+    (λ q h. let two : Has s q × Has t q = of_meet s t q h in minus_has s (difference s t) q two.0 (false_if _ (λ k. clash two.1 (of_minus s t q k).1)))
+    (λ q h. let two : Has s q × Lacks (difference s t) q = of_minus s (difference s t) q h in meet_has s t q two.0 (true_if _ (λ l. clash (minus_has s t q two.0 l) two.1)))
+
+pub moved_shared : (g : PlainGraph) (w : ℕ) (v : Bool) (left row left' todo todo' : NameSet) → v ≡ true → row ≡ neighbours g w → left' ≡ difference left row → todo' ≡ union todo (intersection left row) →
+    (left' ≡ difference left (seen_as g w v left)) × (todo' ≡ union todo (seen_as g w v left))
+moved_shared g w v left row left' todo todo' is_true is_row is_left is_todo = (
+  is_left ∙ minus_shared left row ∙ ap (λ r. difference left (intersection left r)) is_row ∙ ap (λ b. difference left (seen_as g w b left)) (sym is_true),
+  is_todo ∙ ap (λ r. union todo (intersection left r)) is_row ∙ ap (λ b. union todo (seen_as g w b left)) (sym is_true),
+)
+
+pub moved_unshared : (g : PlainGraph) (w : ℕ) (v : Bool) (left row left' todo todo' : NameSet) → v ≡ false → row ≡ neighbours g w → left' ≡ intersection left row → todo' ≡ union todo (difference left row) →
+    (left' ≡ difference left (seen_as g w v left)) × (todo' ≡ union todo (seen_as g w v left))
+moved_unshared g w v left row left' todo todo' is_false is_row is_left is_todo = (
+  is_left ∙ meet_unshared left row ∙ ap (λ r. difference left (difference left r)) is_row ∙ ap (λ b. difference left (seen_as g w b left)) (sym is_false),
+  is_todo ∙ ap (λ r. union todo (difference left r)) is_row ∙ ap (λ b. union todo (seen_as g w b left)) (sym is_false),
+)
+
+pub union_along : (a b new t : NameSet) → b ≡ a → t ≡ union b new → t ≡ union a new
+union_along a b new t is e = e ∙ ap (λ s. union s new) is
+
+-- the rest of those that are told apart
+pub rest_apart : (g : PlainGraph) (v w : ℕ) (left first second left' : NameSet) → first ≡ neighbours g v → second ≡ neighbours g w → left' ≡ difference left (told_apart first second) → left' ≡ difference left (apart_in g v w left)
+rest_apart g v w left first second left' is_first is_second is_left =
+    is_left ∙ minus_shared left (told_apart first second) ∙ ap₂ (λ a b. difference left (intersection left (told_apart a b))) is_first is_second
+
+pub taken_apart : (g : PlainGraph) (v w : ℕ) (left first second todo todo' : NameSet) → first ≡ neighbours g v → second ≡ neighbours g w → todo' ≡ union todo (intersection left (told_apart first second)) → todo' ≡ union todo (apart_in g v w left)
+taken_apart g v w left first second todo todo' is_first is_second is_todo =
+    is_todo ∙ ap₂ (λ a b. union todo (intersection left (told_apart a b))) is_first is_second
 
 -- ---- turns
 
@@ -315,15 +361,31 @@ walked_all s xs rest Done is steps w h = is.1.2 w h (walk_end s is.1.0 NAMES xs 
 
 -- ---- names told apart
 
-pub some_apart : (others result : NameSet) (p q : ℕ → Bool) → ((y : ℕ) → Has result y → Has others y × (p y ≢ q y)) → ((y : ℕ) → Has others y → p y ≡ q y) →
-    (r : Bool) → (r ≡ true) ↔ (result ≡ empty) → r ≡ false → false ≡ true
-some_apart others result p q only alike r is h =
-    clash (is.1 (if_empty result (λ y. false_if _ (λ k. (only y k).1 (alike y (only y k).0))))) h
+not_true : (r : Bool) → not r ≡ true → r ≡ false
+not_true true e = sym e
+not_true false e = refl
 
-pub none_apart : (others result : NameSet) (p q : ℕ → Bool) → ((y : ℕ) → Has others y → p y ≢ q y → Has result y) →
-    (r : Bool) → (r ≡ true) ↔ (result ≡ empty) → r ≡ true → (y : ℕ) → Has others y → p y ≡ q y
-none_apart others result p q has r is h y k =
-    alike_unless (p y) (q y) (λ differ. clash (has y k differ) (empty_if result (is.0 h) y))
+not_false : (r : Bool) → not r ≡ false → r ≡ true
+not_false true e = refl
+not_false false e = sym e
+
+-- no first name is told apart exactly where all are alike
+pub alike_test : {g : PlainGraph} → IsGraph g → (v w : ℕ) (others first second : NameSet) (found : Option ℕ) (r : Bool) → first ≡ neighbours g v → second ≡ neighbours g w →
+    IfSome found (IsLeastFrom (intersection others (told_apart first second)) 0) → IfNone found (NoneFrom (intersection others (told_apart first second)) 0) →
+    is_some found ≡ not r → (r ≡ true) ↔ ((y : ℕ) → Has others y → adjacent g v y ≡ adjacent g w y)
+alike_test {g} graph v w others first second (Some least) r is_first is_second some none is = (
+  λ t. clash t (not_true r (sym is)),
+  λ alike.
+      let here : Has (apart_in g v w others) least = Has-along _ _ (ap₂ (λ a b. intersection others (told_apart a b)) is_first is_second) least some.member in
+      let two = (told_all graph v w others).1 least here in
+      absurd (two.1 (alike least two.0)),
+)
+alike_test {g} graph v w others first second None r is_first is_second some none is = (
+  λ t y h. alike_unless (adjacent g v y) (adjacent g w y) (λ differ.
+      clash (Has-along _ _ (sym (ap₂ (λ a b. intersection others (told_apart a b)) is_first is_second)) y ((told_all graph v w others).0 y h differ))
+      (none_lacks (intersection others (told_apart first second)) none y)),
+  λ alike. not_false r (sym is),
+)
 
 pub module_not_strange : {e : ℕ → ℕ → Bool} (s vertices m strange : NameSet) (r : Bool) → vertices ≡ s → strange ≡ difference m vertices → (r ≡ true) ↔ (strange ≡ empty) → r ≡ false → IsModule e s m → false ≡ true
 module_not_strange {e} s vertices m strange r same is empty_is h module_is =

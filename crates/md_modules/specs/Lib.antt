@@ -7,3 +7,4 @@ pub mod Quotients
 pub mod InducedPaths
 pub mod Laws
 pub mod PathSearch
+pub mod Seen

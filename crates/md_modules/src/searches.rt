@@ -1,12 +1,13 @@
 //! Searches for modules and components. Each keeps what it hasn't taken yet and what it took and hasn't looked at, and
 //! needs no memory: one operation on rows for each name that it takes.
 ghost use Rattle.std.specs.Prelude.{◌≡◌, ◌≢◌, ℕ, ◌<◌, ◌⊎◌, ◌↔◌, IsTrue, IfSome, IfNone, true, false};
-ghost use Rattle.std.specs.FinSet.{remove, union, difference};
+ghost use Rattle.std.specs.FinSet.{union, difference};
 ghost use Rattle.md_graph.specs.PlainGraph.{adjacent, IsGraph};
 ghost use Rattle.md_modules.specs.Sets.{NameSet, Has, Lacks, Within};
 ghost use Rattle.md_modules.specs.Modules.{IsModule, IsLeastModule, IsLeastModuleOver};
 ghost use Rattle.md_modules.specs.Kinds.{IsSplit, IsConnected, IsCoConnected};
 ghost use Rattle.md_modules.specs.Components.{IsComponent};
+ghost use Rattle.md_modules.specs.Seen.{seen_as};
 
 use md_graph::{Graph, NAMES, Names};
 
@@ -139,11 +140,22 @@ fn are_alike(graph: &Graph, v: u32, names: &Names, others: &Names) -> bool
         → adjacent graph.now v y ≡ adjacent graph.now w y) }
 {
     for w in names.members() {
-        if !told_apart(graph, v, w, others).is_empty() {
+        if !see_alike(graph, v, w, others) {
             return false;
         }
     }
     true
+}
+
+// Whether each of `others` is adjacent to both `v` and `w` or to neither.
+fn see_alike(graph: &Graph, v: u32, w: u32, others: &Names) -> bool
+    requires left { v < NAMES }
+    requires right { w < NAMES }
+    ensures { IsTrue result ↔ ((y : ℕ) → Has others.now y → adjacent graph.now v y ≡ adjacent graph.now w y) }
+{
+    others
+        .first_told_apart(graph.row(v), graph.row(w))
+        .is_none()
 }
 
 // What the component of `x` leaves of `within`, in the graph (`value` is false) or its complement (`value` is true).
@@ -159,8 +171,8 @@ fn unreached(graph: &Graph, within: &Names, x: u32, value: bool) -> Names
     let mut todo = Names::none();
     todo.insert(x);
     while let Some(w) = next(&left, &todo) {
-        let new = seen_as(graph, w, !value, &left);
-        take(&mut left, &mut todo, w, &new);
+        todo.remove(w);
+        move_seen(graph, w, !value, &mut left, &mut todo);
     }
     left
 }
@@ -178,8 +190,8 @@ fn not_grown(graph: &Graph, within: &Names, v: u32, begun: &Names, mut todo: Nam
     let _vertices = graph.vertices();
     let mut left = within.minus(begun);
     while let Some(w) = next(&left, &todo) {
-        let new = told_apart(graph, v, w, &left);
-        take(&mut left, &mut todo, w, &new);
+        todo.remove(w);
+        left.move_told_apart(graph.row(v), graph.row(w), &mut todo);
     }
     left
 }
@@ -201,8 +213,8 @@ fn not_back(graph: &Graph, within: &Names, v: u32, j: u32) -> Names
     let mut todo = Names::none();
     todo.insert(j);
     while let Some(w) = todo.first_from(0) {
-        let new = seen_as(graph, w, !graph.has_edge(w, v), &left);
-        take(&mut left, &mut todo, w, &new);
+        todo.remove(w);
+        move_seen(graph, w, !graph.has_edge(w, v), &mut left, &mut todo);
     }
     left
 }
@@ -218,40 +230,18 @@ fn next(left: &Names, todo: &Names) -> Option<u32>
     todo.first_from(0)
 }
 
-// `w` is looked at, and `new` taken.
-fn take(left: &mut Names, todo: &mut Names, w: u32, new: &Names)
+// Moves the members of `left` that are adjacent to `w` (`value` is true), or that aren't (`value` is false), to `todo`.
+fn move_seen(graph: &Graph, w: u32, value: bool, left: &mut Names, todo: &mut Names)
     requires { w < NAMES }
-    ensures left { left.new ≡ difference left.old new.now }
-    ensures todo { todo.new ≡ union (remove todo.old w) new.now }
+    ensures left { left.new ≡ difference left.old (seen_as graph.now w value left.old) }
+    ensures todo { todo.new ≡ union todo.old (seen_as graph.now w value left.old) }
 {
-    *left = left.minus(new);
-    todo.remove(w);
-    todo.take_in(new);
-}
-
-// The members of `among` that are adjacent to `w` (`value` is true), or that aren't (`value` is false).
-fn seen_as(graph: &Graph, w: u32, value: bool, among: &Names) -> Names
-    requires { w < NAMES }
-    ensures has { (y : ℕ) → Has among.now y → adjacent graph.now w y ≡ value → Has result y }
-    ensures only { (y : ℕ) → Has result y → Has among.now y × (adjacent graph.now w y ≡ value) }
-{
+    let row = graph.row(w);
     if value {
-        return graph.row(w).and(among);
+        left.move_shared(row, todo);
+    } else {
+        left.move_unshared(row, todo);
     }
-    among.minus(graph.row(w))
-}
-
-// The members of `among` that are adjacent to one of `v` and `w`, and not to both.
-fn told_apart(graph: &Graph, v: u32, w: u32, among: &Names) -> Names
-    requires left { v < NAMES }
-    requires right { w < NAMES }
-    ensures has { (y : ℕ) → Has among.now y → adjacent graph.now v y ≢ adjacent graph.now w y → Has result y }
-    ensures only { (y : ℕ) → Has result y → Has among.now y × (adjacent graph.now v y ≢ adjacent graph.now w y) }
-{
-    let (first, second) = (graph.row(v), graph.row(w));
-    let mut apart = first.minus(second);
-    apart.take_in(&second.minus(first));
-    apart.and(among)
 }
 
 #[cfg(test)]

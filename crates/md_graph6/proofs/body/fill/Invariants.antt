@@ -1,5 +1,5 @@
-use Rattle.md_graph6.specs.Filled.{Filled}
+use Rattle.md_graph6.specs.Filled.{IsFilled}
 use Rattle.md_graph6.proofs.body.fill.Given as goal
 
-abbrev pub invariant-loop-j : goal.invariant-loop-j
-invariant-loop-j l = Filled l.body l.n l.j l.graph
+abbrev pub invariant-loop-h : goal.invariant-loop-h
+invariant-loop-h l = IsFilled l.body l.n l.h 0 l.graph

@@ -1,7 +1,8 @@
-use Rattle.std.proofs.Common.{◌∙◌, ap}
+use Rattle.std.proofs.Common.{◌∙◌, ap, not}
 use Rattle.std.specs.FinSet.{remove, insert}
+use Rattle.md_modules.specs.Seen.{seen_as}
 use Rattle.md_modules.proofs.Growth.{back_end}
-use Rattle.md_modules.proofs.Turns.{back_begin, back_more, back_names, none_lacks, turn_falls}
+use Rattle.md_modules.proofs.Turns.{back_begin, back_more, back_names, none_lacks, turn_falls, seen_all, union_along}
 use Rattle.md_modules.proofs.searches.not_back.Goals as goal
 
 pub loop-w-init : goal.loop-w-init
@@ -11,13 +12,14 @@ loop-w-init c =
 
 pub loop-w-smaller : goal.loop-w-smaller
 loop-w-smaller c =
-    turn_falls c.loop-w.left c.loop-w.todo c.seen_as-new.result c.take.new.left c.take.new.todo c.in-Some.w c.in-Some.ensures.found.member
-    (λ y h. (c.seen_as-new.ensures.only y h).0) c.take.ensures.left c.take.ensures.todo
+    turn_falls c.loop-w.left c.loop-w.todo (seen_as c.args.graph.now c.in-Some.w (not c.has_edge.result) c.loop-w.left) c.move_seen.new.left c.move_seen.new.todo c.in-Some.w c.in-Some.ensures.found.member
+    (λ y h. ((seen_all c.vertices-vertices.ensures.graph c.in-Some.w (not c.has_edge.result) c.loop-w.left).1 y h).0) c.move_seen.ensures.left (union_along _ _ _ _ c.remove-in-Some.ensures c.move_seen.ensures.todo)
 
 pub loop-w-preserved : goal.loop-w-preserved
 loop-w-preserved c =
-    back_more c.args.within.now c.loop-w.left c.loop-w.todo c.seen_as-new.result c.take.new.left c.take.new.todo c.args.v c.args.j c.in-Some.w c.has_edge.result
-    c.loop-w.invariant c.in-Some.ensures.found.member c.has_edge.ensures c.seen_as-new.ensures.has c.seen_as-new.ensures.only c.take.ensures.left c.take.ensures.todo
+    let seen = seen_all c.vertices-vertices.ensures.graph c.in-Some.w (not c.has_edge.result) c.loop-w.left in
+    back_more c.args.within.now c.loop-w.left c.loop-w.todo (seen_as c.args.graph.now c.in-Some.w (not c.has_edge.result) c.loop-w.left) c.move_seen.new.left c.move_seen.new.todo c.args.v c.args.j c.in-Some.w c.has_edge.result
+    c.loop-w.invariant c.in-Some.ensures.found.member c.has_edge.ensures seen.0 seen.1 c.move_seen.ensures.left (union_along _ _ _ _ c.remove-in-Some.ensures c.move_seen.ensures.todo)
 
 pub returns-clause-names : goal.returns-clause-names
 returns-clause-names c =

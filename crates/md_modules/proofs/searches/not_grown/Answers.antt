@@ -1,4 +1,4 @@
-use Rattle.md_modules.proofs.Turns.{graph_adjacency, grow_begin, grow_more, grow_stop, turn_falls}
+use Rattle.md_modules.proofs.Turns.{graph_adjacency, grow_begin, grow_more, grow_stop, turn_falls, apart_in, told_all, rest_apart, taken_apart, union_along}
 use Rattle.md_modules.proofs.searches.not_grown.Goals as goal
 
 pub loop-w-init : goal.loop-w-init
@@ -7,13 +7,18 @@ loop-w-init c =
 
 pub loop-w-smaller : goal.loop-w-smaller
 loop-w-smaller c =
-    turn_falls c.loop-w.left c.loop-w.todo c.told_apart-new.result c.take.new.left c.take.new.todo c.in-Some.w c.in-Some.ensures.found.0
-    (λ y h. (c.told_apart-new.ensures.only y h).0) c.take.ensures.left c.take.ensures.todo
+    turn_falls c.loop-w.left c.loop-w.todo (apart_in c.args.graph.now c.args.v c.in-Some.w c.loop-w.left) c.move_told_apart.new.self c.move_told_apart.new.to c.in-Some.w c.in-Some.ensures.found.0
+    (λ y h. ((told_all c.vertices-vertices.ensures.graph c.args.v c.in-Some.w c.loop-w.left).1 y h).0)
+    (rest_apart c.args.graph.now c.args.v c.in-Some.w c.loop-w.left c.row.result.now c.row-in-Some.result.now c.move_told_apart.new.self c.row.ensures.set c.row-in-Some.ensures.set c.move_told_apart.ensures.rest)
+    (union_along _ _ _ _ c.remove.ensures (taken_apart c.args.graph.now c.args.v c.in-Some.w c.loop-w.left c.row.result.now c.row-in-Some.result.now c.remove.new.self c.move_told_apart.new.to c.row.ensures.set c.row-in-Some.ensures.set c.move_told_apart.ensures.moved))
 
 pub loop-w-preserved : goal.loop-w-preserved
 loop-w-preserved c =
-    grow_more (graph_adjacency c.vertices-vertices.ensures.graph) c.args.within.now c.args.begun.now c.loop-w.left c.loop-w.todo c.told_apart-new.result c.take.new.left c.take.new.todo c.args.v c.in-Some.w
-    c.loop-w.invariant c.in-Some.ensures.found.0 c.told_apart-new.ensures.has c.told_apart-new.ensures.only c.take.ensures.left c.take.ensures.todo
+    let apart = told_all c.vertices-vertices.ensures.graph c.args.v c.in-Some.w c.loop-w.left in
+    grow_more (graph_adjacency c.vertices-vertices.ensures.graph) c.args.within.now c.args.begun.now c.loop-w.left c.loop-w.todo (apart_in c.args.graph.now c.args.v c.in-Some.w c.loop-w.left) c.move_told_apart.new.self c.move_told_apart.new.to c.args.v c.in-Some.w
+    c.loop-w.invariant c.in-Some.ensures.found.0 apart.0 apart.1
+    (rest_apart c.args.graph.now c.args.v c.in-Some.w c.loop-w.left c.row.result.now c.row-in-Some.result.now c.move_told_apart.new.self c.row.ensures.set c.row-in-Some.ensures.set c.move_told_apart.ensures.rest)
+    (union_along _ _ _ _ c.remove.ensures (taken_apart c.args.graph.now c.args.v c.in-Some.w c.loop-w.left c.row.result.now c.row-in-Some.result.now c.remove.new.self c.move_told_apart.new.to c.row.ensures.set c.row-in-Some.ensures.set c.move_told_apart.ensures.moved))
 
 pub returns : goal.returns
 returns c =

@@ -1,0 +1,15 @@
+use Rattle.std.proofs.Common.{arith, length-set, ◌∙◌, refl}
+use Rattle.md_graph6.proofs.FillLemmas.{part_none, part_more, part_all}
+use Rattle.md_graph6.proofs.body.block_bits.Goals as goal
+
+pub loop-r-init : goal.loop-r-init
+loop-r-init c = record { size = refl; done = part_none c.args.body.now c.args.n c.args.low c.args.high 64 }
+
+pub loop-r-preserved : goal.loop-r-preserved
+loop-r-preserved c = record {
+  size = length-set _ _ _ ∙ c.loop-r.invariant.size;
+  done = part_more c.args.body.now c.args.n c.args.low c.args.high c.loop-r.block c.loop-r.r c.column_bits.result (omega (arith, c.loop-r.invariant.size)) c.loop-r.invariant.done c.column_bits.ensures;
+}
+
+pub returns : goal.returns
+returns c = part_all c.args.body.now c.args.n c.args.low c.args.high c.loop-r.block c.loop-r.r c.requires.inside (omega arith) c.loop-r.invariant.done
