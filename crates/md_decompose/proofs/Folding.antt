@@ -19,22 +19,22 @@ abbrev pub Finds : List PlainPart → List PlainTree → Type 0
 Finds [] ts = ⊤
 Finds (p ∷ ps) ts = Finds ps ts × HasChildrenOf p (folded ps ts)
 
-pub folded-append : (ps qs : List PlainPart) (ts : List PlainTree) → folded (ps ++ qs) ts ≡ folded ps (folded qs ts)
+folded-append : (ps qs : List PlainPart) (ts : List PlainTree) → folded (ps ++ qs) ts ≡ folded ps (folded qs ts)
 folded-append [] qs ts = refl
 folded-append (p ∷ ps) qs ts = ap (with_part p) (folded-append ps qs ts)
 
-pub finds_append : (ps qs : List PlainPart) (ts : List PlainTree) → Finds qs ts → Finds ps (folded qs ts) → Finds (ps ++ qs) ts
+finds_append : (ps qs : List PlainPart) (ts : List PlainTree) → Finds qs ts → Finds ps (folded qs ts) → Finds (ps ++ qs) ts
 finds_append [] qs ts h k = h
 finds_append (p ∷ ps) qs ts h k = (finds_append ps qs ts h k.0, subst (HasChildrenOf p) (sym (folded-append ps qs ts)) k.1)
 
-pub of_finds : (ps qs : List PlainPart) (ts : List PlainTree) → Finds (ps ++ qs) ts → Finds ps (folded qs ts) × Finds qs ts
+of_finds : (ps qs : List PlainPart) (ts : List PlainTree) → Finds (ps ++ qs) ts → Finds ps (folded qs ts) × Finds qs ts
 of_finds [] qs ts h = (tt, h)
 of_finds (p ∷ ps) qs ts h =
     let r : Finds ps (folded qs ts) × Finds qs ts = of_finds ps qs ts h.0 in
     ((r.0, subst (HasChildrenOf p) (folded-append ps qs ts) h.1), r.1)
 
 -- the trees of a row
-abbrev pub listed : PlainTrees → List PlainTree
+abbrev listed : PlainTrees → List PlainTree
 listed no_tree = []
 listed (one_more t ts) = t ∷ listed ts
 
@@ -57,7 +57,7 @@ over_children k cs ps ts =
     ∙ ap (λ xs. ts ++ node k xs ps ∷ []) (row_listed cs)
 
 mutual
-  pub folded_tree : (t : PlainTree) (ts : List PlainTree) → folded (parts_of t) ts ≡ ts ++ t ∷ []
+  folded_tree : (t : PlainTree) (ts : List PlainTree) → folded (parts_of t) ts ≡ ts ++ t ∷ []
   folded_tree (leaf v) ts = refl
   folded_tree (node k cs ps) ts = ap (with_part (inner k (count cs) ps)) (folded_trees cs ts) ∙ over_children k cs ps ts
 
@@ -71,7 +71,7 @@ enough : (cs : PlainTrees) (ts : List PlainTree) → count cs ≤ length (folded
 enough cs ts = omega (arith, ap length (folded_trees cs ts), length-append ts (listed cs), length_listed cs)
 
 mutual
-  pub finds_tree : (t : PlainTree) (ts : List PlainTree) → Finds (parts_of t) ts
+  finds_tree : (t : PlainTree) (ts : List PlainTree) → Finds (parts_of t) ts
   finds_tree (leaf v) ts = (tt, tt)
   finds_tree (node k cs ps) ts = (finds_trees cs ts, enough cs ts)
 

@@ -13,7 +13,8 @@ use std::alloc::Global;
 /// The tree whose parts these are.
 pub(crate) fn build(alloc: Global, mut parts: Vec<Part>) -> Result<Tree, Memory>
     requires { (t : PlainTree) × (map plain_part parts.items ≡ parts_of t) }
-    ensures { IfOk result (λ tree. (t : PlainTree) → map plain_part parts.items ≡ parts_of t → plain tree ≡ t) }
+    ensures { IfOk result (λ tree. (t : PlainTree)
+        → map plain_part parts.items ≡ parts_of t → plain tree ≡ t) }
 {
     let mut stack = Vec::new(alloc);
     while let Some(part) = parts.pop() {

@@ -22,7 +22,8 @@ use std::alloc::Global;
 /// their least names, and a prime node lists exactly the pairs of children between which edges run. So the tree is
 /// well-formed, and the graph that it denotes is this one. Errors: want of memory.
 pub fn decompose(alloc: Global, graph: &Graph) -> Result<Option<Tree>, Memory>
-    ensures { IfOk result (λ tree. IsTree (adjacent graph.now) graph.now.vertices (plain_option tree)) }
+    ensures { IfOk result (λ tree.
+        IsTree (adjacent graph.now) graph.now.vertices (plain_option tree)) }
 {
     let Some(_) = graph.next_vertex(0) else {
         return Ok(None);
@@ -34,7 +35,8 @@ pub fn decompose(alloc: Global, graph: &Graph) -> Result<Option<Tree>, Memory>
 /// The parts of the tree of a graph with a vertex.
 fn parts(alloc: Global, graph: &Graph) -> Result<Vec<Part>, Memory>
     requires { HasSome graph.now.vertices }
-    ensures { IfOk result (λ parts. (t : PlainTree) × IsTreeOf (adjacent graph.now) graph.now.vertices t
+    ensures { IfOk result (λ parts. (t : PlainTree)
+        × IsTreeOf (adjacent graph.now) graph.now.vertices t
         × (map plain_part parts.items ≡ parts_of t)) }
 {
     let mut parts = Vec::new(alloc);
@@ -62,7 +64,8 @@ fn take_apart(
     requires inside { Within set.now.names graph.now.vertices }
     requires below { FitsBelow (adjacent graph.now) set.now.names set.now.parent }
     ensures { IfOk result (λ _. IsTurn (adjacent graph.now) set.now.names
-        (map plain_part parts.old.items) waiting.old.items (map plain_part parts.new.items) waiting.new.items) }
+        (map plain_part parts.old.items) waiting.old.items
+        (map plain_part parts.new.items) waiting.new.items) }
 {
     if let Some(name) = only_member(&set.names) {
         return push_part(parts, Part::Leaf(name));
@@ -99,7 +102,8 @@ fn edges_between(
     requires inside { Within set.now graph.now.vertices }
     requires kind { HasKind (adjacent graph.now) set.now kind }
     requires children { AreChildren (adjacent graph.now) set.now sets.now }
-    ensures { IfOk result (λ edges. ListsForKind (adjacent graph.now) kind sets.now edges.list.items) }
+    ensures { IfOk result (λ edges.
+        ListsForKind (adjacent graph.now) kind sets.now edges.list.items) }
 {
     match kind {
         Kind::Prime => quotient_edges(alloc, graph, set, sets),
@@ -120,7 +124,8 @@ fn push_part(parts: &mut Vec<Part>, part: Part) -> Result<(), Memory>
 
 // The children's sets in order, so that the last one is taken apart first.
 fn push_open(waiting: &mut Vec<Open>, kind: Kind, sets: Vec<Names>) -> Result<(), Memory>
-    ensures { IfOk result (λ _. waiting.new.items ≡ waiting.old.items ++ map (open_below kind) sets.items) }
+    ensures { IfOk result (λ _. waiting.new.items
+        ≡ waiting.old.items ++ map (open_below kind) sets.items) }
 {
     for names in sets {
         let set = Open {
