@@ -6,10 +6,6 @@ use Rattle.md_modules.specs.Sets.{NameSet, Has, Lacks, Within, HasSome}
 use Rattle.md_modules.specs.Modules.{IsModule}
 use Rattle.md_decompose.specs.Children.{set_at}
 
--- the names of a third set that exactly one of two sets has
-abbrev pub told_apart : NameSet → NameSet → NameSet → NameSet
-told_apart a b among = intersection (union (difference a b) (difference b a)) among
-
 -- p is a name of s outside c that is adjacent to a name of c and not to another one
 pub record IsSplitter (e : ℕ → ℕ → Bool) (s c : NameSet) (p : ℕ) : Type 0 where
   pub inside : Has s p
