@@ -86,7 +86,8 @@ count_fault n rest = if length rest == n then names_fault rest else Some FieldCo
 
 -- the first fault of fields that are to be a name and any number of others
 abbrev pub vertex_fault : List (List ℕ) → Option ScriptKind
-vertex_fault rest = if length rest == 0 then Some FieldCount else names_fault rest
+vertex_fault [] = Some FieldCount
+vertex_fault (field ∷ rest) = names_fault (field ∷ rest)
 
 -- the first fault of the fields behind a word
 abbrev pub fault_with : EditWord → List (List ℕ) → Option ScriptKind
