@@ -1,2 +1,3 @@
 pub mod NameListLemmas
 pub mod LineLemmas
+pub mod ChangeLemmas
