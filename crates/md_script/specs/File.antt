@@ -30,12 +30,12 @@ abbrev pub SpellsNone : List ℕ → Type 0
 SpellsNone bytes = (edits : List Edit) → SpellsScript bytes edits → ⊥
 
 -- what is wrong with a line, and the number of the line
-pub record LineFault : Type 0 where
+pub record FaultyLine : Type 0 where
   pub kind : ScriptKind
   pub line : ℕ
 
 -- the kind, if there is one, as the fault of line `number`, or else what comes later
-abbrev pub fault_or : Option ScriptKind → ℕ → Option LineFault → Option LineFault
+abbrev pub fault_or : Option ScriptKind → ℕ → Option FaultyLine → Option FaultyLine
 fault_or None number later = later
 fault_or (Some kind) number later = Some (record { kind = kind; line = number })
 
@@ -44,12 +44,12 @@ abbrev pub edits_after : ℕ → List (List ℕ) → ℕ
 edits_after edits ws = if is_skipped ws then edits else edits + 1
 
 -- the first fault of lines behind `count` others, which count too, with `edits` edits among them
-unfoldable pub fault_behind : ℕ → ℕ → List (List ℕ) → Option LineFault
+unfoldable pub fault_behind : ℕ → ℕ → List (List ℕ) → Option FaultyLine
 fault_behind edits count [] = None
 fault_behind edits count (line ∷ more) =
     fault_or (fault_of_words edits (words line)) (count + 1)
     (fault_behind (edits_after edits (words line)) (count + 1) more)
 
 -- the first fault of a script: that of its first faulty line, with the number of the line, counted from 1
-abbrev pub first_fault : List ℕ → Option LineFault
+abbrev pub first_fault : List ℕ → Option FaultyLine
 first_fault bytes = fault_behind 0 0 (lines bytes)
