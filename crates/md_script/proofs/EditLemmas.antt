@@ -1,19 +1,15 @@
 -- The first fault of a line, and the edit that it spells.
-use Rattle.std.specs.Prelude.{◌≡◌, ℕ, suc, ◌+◌, ◌<◌, ◌≤◌, Bool, true, false, not, cond, nat_le, ◌==◌, List, [], ◌∷◌, ◌++◌, length, map, Option, Some, None, MatchOption, option_and_then, option_to_list, refl}
+use Rattle.std.specs.Prelude.{◌≡◌, ℕ, suc, ◌<◌, Bool, true, false, cond, nat_le, ◌==◌, List, [], ◌∷◌, length, Option, Some, None, option_and_then, refl}
 use Rattle.std.specs.Option.{option_or}
 use Rattle.std.specs.List.{All}
-use Rattle.std.proofs.Common.{ap, sym, ◌∙◌, arith, subst, append_assoc, length-append}
+use Rattle.std.proofs.Common.{ap, sym, ◌∙◌, arith, subst}
 use Rattle.std.proofs.lemmas.Bool.{eqb-true, leb-false, lt-leb}
 use Rattle.std.proofs.lemmas.Bool.Decides.{nat_tests}
-use Rattle.std.proofs.lemmas.List.{append-nil}
 use Rattle.std.proofs.lemmas.List.Elements.{All-nil, All-cons, All-head, All-tail}
 use Rattle.std.specs.FinSet as set
 use Rattle.md_graph.specs.declared.TheConstants.{NAMES}
 use Rattle.md_graph.specs.NameSet.{ascending}
-use Rattle.md_text.specs.Lines.{lines, without_return}
-use Rattle.md_text.specs.Fields.{fields}
 use Rattle.md_text.specs.Numbers.{number_of}
-use Rattle.md_text.proofs.LineLemmas.{lines-nil}
 use Rattle.md_script.specs.declared.TheConstants.{EDITS}
 use Rattle.md_script.specs.declared.edit.Edit.{Edit}
 use Rattle.md_script.specs.declared.edit.Edit.TheVariants.{AddEdge, DelEdge, AddVertex, DelVertex}
@@ -22,8 +18,7 @@ use Rattle.md_script.specs.declared.fault.ScriptKind.TheVariants.{FieldCount, Na
 use Rattle.md_script.specs.declared.line.EditWord.{EditWord}
 use Rattle.md_script.specs.declared.line.EditWord.TheVariants.{PlusEdge, MinusEdge, PlusVertex, MinusVertex}
 use Rattle.md_script.specs.Edit.{HasNames}
-use Rattle.md_script.specs.Line.{words, is_skipped, word_of, name_in, number_fault, before_names, names_of, names_fault, edit_with, edit_by, edit_of, count_fault, vertex_fault, fault_with, fault_by, edit_fault, fault_of_words}
-use Rattle.md_script.specs.File.{edit_lines, SpellsScript, SpellsOnly, SpellsOne, SpellsNone, FaultyLine, fault_or, edits_after, fault_behind, first_fault}
+use Rattle.md_script.specs.Line.{is_skipped, word_of, name_in, number_fault, before_names, names_of, names_fault, edit_with, edit_by, edit_of, count_fault, vertex_fault, fault_with, fault_by, edit_fault, fault_of_words}
 use Rattle.md_script.proofs.NameListLemmas.{ascending_is_list}
 
 -- ---- fields that are all names

@@ -1,7 +1,7 @@
 -- The first fault of a script, and the edits that it spells.
 use Rattle.std.specs.Prelude.{◌≡◌, ℕ, suc, ◌+◌, ◌≤◌, Bool, true, false, not, cond, ◌==◌, List, [], ◌∷◌, ◌++◌, length, map, Option, Some, None, MatchOption, option_to_list, refl}
 use Rattle.std.specs.List.{All}
-use Rattle.std.proofs.Common.{ap, sym, ◌∙◌, arith, subst, append_assoc, length-append}
+use Rattle.std.proofs.Common.{ap, sym, ◌∙◌, arith, subst, length-append}
 use Rattle.std.proofs.lemmas.Bool.{eqb-true}
 use Rattle.std.proofs.lemmas.List.{append-nil}
 use Rattle.std.proofs.lemmas.List.Elements.{All-nil, All-cons}
@@ -13,11 +13,11 @@ use Rattle.md_script.specs.declared.edit.Edit.{Edit}
 use Rattle.md_script.specs.declared.fault.ScriptKind.{ScriptKind}
 use Rattle.md_script.specs.Edit.{HasNames}
 use Rattle.md_script.specs.Line.{words, is_skipped, edit_of, fault_of_words}
-use Rattle.md_script.specs.File.{edit_lines, SpellsScript, SpellsOnly, SpellsOne, SpellsNone, FaultyLine, fault_or, edits_after, fault_behind, first_fault}
+use Rattle.md_script.specs.File.{edit_lines, SpellsScript, SpellsOne, SpellsNone, FaultyLine, fault_or, edits_after, fault_behind, first_fault}
 use Rattle.md_script.specs.declared.line.Refusal.{Refusal}
 use Rattle.md_script.specs.declared.line.Refusal.TheVariants.{Bad}
 use Rattle.md_script.specs.Read.{IsRefusal, edits_in}
-use Rattle.md_script.proofs.EditLemmas.{IsEditLine, fault-skipped, line_without_fault, line_has_no_fault, line_has_names}
+use Rattle.md_script.proofs.EditLemmas.{fault-skipped, line_without_fault, line_has_no_fault, line_has_names}
 
 -- the edits that lines spell, each if its line spells one
 abbrev pub spelled_by : List (List ℕ) → List (Option Edit)
@@ -85,11 +85,13 @@ spelled_first n count line more false e room none behind =
     let here = line_without_fault n (words line) e none.here in
     let same = edits_after-edit n (words line) e in
     let more_room = here.1.room in
-    let rest = behind (n + 1) (omega arith) (ap (λ k. fault_behind k (count + 1) more) (sym same) ∙ none.behind) in
-    (here.0 ∷ rest.0, record {
-      each = spelled-edit line more e ∙ (λ i. here.1.spelled i ∷ rest.1.each i);
-      room = let fits = rest.1.room in omega arith;
-    })
+    let rest = behind (n + 1) (omega arith) (ap (λ k. fault_behind k (count + 1) more) (sym same) ∙ none.behind) in (
+      here.0 ∷ rest.0,
+      record {
+        each = spelled-edit line more e ∙ (λ i. here.1.spelled i ∷ rest.1.each i);
+        room = let fits = rest.1.room in omega arith;
+      },
+    )
 
 spelled_without_fault : (n count : ℕ) (all : List (List ℕ)) → n ≤ EDITS → fault_behind n count all ≡ None → (edits : List Edit) × SpellBehind n all edits
 spelled_without_fault n count [] room h = ([], record { each = refl; room = omega arith })
@@ -139,11 +141,13 @@ pub script_spelled_or_faulty : (bytes : List ℕ) → MatchOption (first_fault b
 script_spelled_or_faulty bytes = by_fault (first_fault bytes) refl where
   by_fault : (fault : Option FaultyLine) → first_fault bytes ≡ fault → MatchOption fault (SpellsOne bytes) (λ _. SpellsNone bytes)
   by_fault None e =
-      let found = spelled_without_fault 0 0 (lines bytes) (omega arith) e in
-      (found.0, record {
-        spells = record { each = found.1.each; few = let room = found.1.room in omega arith };
-        only = λ other s. same_edits other found.0 (sym s.each ∙ found.1.each);
-      })
+      let found = spelled_without_fault 0 0 (lines bytes) (omega arith) e in (
+        found.0,
+        record {
+          spells = record { each = found.1.each; few = let room = found.1.room in omega arith };
+          only = λ other s. same_edits other found.0 (sym s.each ∙ found.1.each);
+        },
+      )
   by_fault (Some fault) e = λ edits s. let none = script_has_no_fault bytes edits s in cc
 
 names_in_edits : (lines_spelled : List (List (List ℕ))) (edits : List Edit) → map edit_of lines_spelled ≡ map Some edits → All HasNames edits

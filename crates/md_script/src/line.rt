@@ -78,8 +78,13 @@ fn edit_word(field: &[u8]) -> Option<EditWord>
 }
 
 // Reads the line of an edit by its first field and what stands behind it. Only the neighbours of a new
-// vertex take memory.
-pub(crate) fn read_edit(alloc: Global, first: &[u8], rest: &[u8]) -> Result<Edit, Refusal>
+// vertex take memory; `names` is a set to gather them in, whose members go.
+pub(crate) fn read_edit(
+    alloc: Global,
+    first: &[u8],
+    rest: &[u8],
+    names: &mut Names,
+) -> Result<Edit, Refusal>
     ensures edit { IfOk result (λ edit. edit_by (word_of first.now) (fields rest.now) ≡ Some edit) }
     ensures faultless { OnOk result (fault_by (word_of first.now) (fields rest.now) ≡ None) }
     ensures fault { IfErr result (IsRefusal (fault_by (word_of first.now) (fields rest.now))) }
@@ -96,8 +101,8 @@ pub(crate) fn read_edit(alloc: Global, first: &[u8], rest: &[u8]) -> Result<Edit
             Ok((u, v)) => Ok(Edit::DelEdge { u, v }),
             Err(kind) => Err(Refusal::Bad(kind)),
         },
-        EditWord::PlusVertex => match read_new_vertex(rest) {
-            Ok((x, names)) => add_vertex(alloc, x, &names),
+        EditWord::PlusVertex => match read_new_vertex(rest, names) {
+            Ok(x) => add_vertex(alloc, x, names),
             Err(kind) => Err(Refusal::Bad(kind)),
         },
         EditWord::MinusVertex => match read_vertex(rest) {
@@ -142,9 +147,9 @@ fn read_vertex(rest: &[u8]) -> Result<u32, ScriptKind>
     }
 }
 
-// Reads the names behind `+v`: the new vertex, and its neighbours.
-fn read_new_vertex(rest: &[u8]) -> Result<(u32, Names), ScriptKind>
-    ensures names { IfOk result (λ p. NamesVertex (fields rest.now) p.0 p.1) }
+// Reads the names behind `+v`: the new vertex, and its neighbours into `names`.
+fn read_new_vertex(rest: &[u8], names: &mut Names) -> Result<u32, ScriptKind>
+    ensures names { IfOk result (λ x. NamesVertex (fields rest.now) x names.new) }
     ensures faultless { OnOk result (vertex_fault (fields rest.now) ≡ None) }
     ensures fault { IfErr result (λ kind. vertex_fault (fields rest.now) ≡ Some kind) }
 {
@@ -152,23 +157,23 @@ fn read_new_vertex(rest: &[u8]) -> Result<(u32, Names), ScriptKind>
         return Err(ScriptKind::FieldCount);
     };
     let x = checked_name(first)?;
-    let names = read_names(more)?;
-    Ok((x, names))
+    read_names(more, names)?;
+    Ok(x)
 }
 
-// Reads fields that are all names, as a set.
-fn read_names(text: &[u8]) -> Result<Names, ScriptKind>
-    ensures names { IfOk result (λ s. NamesSet (fields text.now) s) }
+// Reads fields that are all names into `names`, in place of its members.
+fn read_names(text: &[u8], names: &mut Names) -> Result<(), ScriptKind>
+    ensures names { OnOk result (NamesSet (fields text.now) names.new) }
     ensures faultless { OnOk result (names_fault (fields text.now) ≡ None) }
     ensures fault { IfErr result (λ kind. names_fault (fields text.now) ≡ Some kind) }
 {
-    let mut names = Names::none();
+    names.clear();
     let mut rest = text;
     while let Some((number, more)) = split_number(rest) {
         names.insert(checked_name(number)?);
         rest = more;
     }
-    Ok(names)
+    Ok(())
 }
 
 // The two names that the two fields write.

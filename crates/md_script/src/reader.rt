@@ -7,6 +7,7 @@ ghost use Rattle.md_script.specs.Read.{IsFaultOf, IsRefusal, edits_in};
 
 use crate::line::{Refusal, read_edit};
 use crate::{EDITS, Edit, Script, ScriptFault, ScriptKind};
+use md_graph::Names;
 use md_text::{split_field, split_line, without_return};
 use std::alloc::Global;
 
@@ -21,13 +22,14 @@ pub fn read_script(alloc: Global, bytes: &[u8]) -> Result<Script, ScriptFault>
     ensures fault { IfErr result (IsFaultOf bytes.now) }
 {
     let mut edits = Vec::new(alloc);
+    let mut names = Names::none();
     let mut rest = bytes;
     let mut count = 0u64;
     while !rest.is_empty() {
         let (line, more) = split_line(rest);
         rest = more;
         count += 1;
-        match read_line(alloc, without_return(line), &mut edits) {
+        match read_line(alloc, without_return(line), &mut names, &mut edits) {
             Ok(()) => {}
             Err(Refusal::Bad(kind)) => return Err(ScriptFault::Bad { kind, line: count }),
             Err(Refusal::Memory) => return Err(ScriptFault::Memory),
@@ -36,8 +38,13 @@ pub fn read_script(alloc: Global, bytes: &[u8]) -> Result<Script, ScriptFault>
     Ok(Script::from_list(edits))
 }
 
-// Reads one line, and puts its edit behind the others, unless it is skipped.
-fn read_line(alloc: Global, line: &[u8], edits: &mut Vec<Edit>) -> Result<(), Refusal>
+// Reads one line, and puts its edit behind the others, unless it is skipped; `names` is a set to work with.
+fn read_line(
+    alloc: Global,
+    line: &[u8],
+    names: &mut Names,
+    edits: &mut Vec<Edit>,
+) -> Result<(), Refusal>
     requires { vec_len edits.old ≤ EDITS }
     ensures read { OnOk result (edits.new.items ≡ edits.old.items ++ edits_in (fields line.now)) }
     ensures few { OnOk result (vec_len edits.new ≤ EDITS) }
@@ -53,7 +60,7 @@ fn read_line(alloc: Global, line: &[u8], edits: &mut Vec<Edit>) -> Result<(), Re
     if edits.len() as u64 >= EDITS {
         return Err(Refusal::Bad(ScriptKind::TooManyEdits));
     }
-    let edit = read_edit(alloc, first, rest)?;
+    let edit = read_edit(alloc, first, rest, names)?;
     if edits.push(edit).is_err() {
         return Err(Refusal::Memory);
     }

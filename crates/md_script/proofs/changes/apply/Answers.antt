@@ -1,4 +1,4 @@
-use Rattle.std.proofs.Common.{◌≡◌, ap, ◌∙◌}
+use Rattle.std.proofs.Common.{ap, ◌∙◌}
 use Rattle.std.specs.FinSet as set
 use Rattle.md_script.proofs.ChangeLemmas.{vertex_added, neighbours_are_vertices, no_own_neighbour}
 use Rattle.md_script.proofs.changes.apply.Goals as goal

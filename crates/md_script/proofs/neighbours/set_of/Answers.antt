@@ -1,4 +1,4 @@
-use Rattle.std.proofs.Common.{◌≡◌, refl}
+use Rattle.std.proofs.Common.{refl}
 use Rattle.md_script.proofs.NameListLemmas.{one_more_name}
 use Rattle.md_script.proofs.neighbours.set_of.Goals as goal
 
