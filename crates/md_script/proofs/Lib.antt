@@ -1,0 +1,5 @@
+pub mod NameListLemmas
+pub mod LineLemmas
+pub mod ChangeLemmas
+pub mod EditLemmas
+pub mod FileLemmas

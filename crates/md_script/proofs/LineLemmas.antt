@@ -1,0 +1,169 @@
+-- The names in a line.
+use Rattle.std.specs.Prelude.{◌≡◌, ℕ, List, [], ◌∷◌, ◌++◌, Option, Some, None, Result, Ok, Err, IfOk, IfErr, OnOk, option_map, refl}
+use Rattle.std.specs.Option.{option_or}
+use Rattle.std.proofs.Common.{subst, ap, sym, ◌∙◌, append_assoc}
+use Rattle.std.proofs.lemmas.List.{append-nil}
+use Rattle.std.specs.Ordering.{nat_cmp}
+use Rattle.std.specs.FinSet as set
+use Rattle.std.specs.FinSet.{nat_cmp-IsAntisymmetric}
+use Rattle.std.specs.Cmp.{nat_cmp_total}
+use Rattle.md_graph.specs.NameSet.{NameSet}
+use Rattle.md_text.specs.Fields.{fields}
+use Rattle.md_text.specs.Numbers.{number_of, BeginsWithNumber}
+use Rattle.md_script.specs.declared.fault.ScriptKind.{ScriptKind}
+use Rattle.md_script.specs.Line.{name_in, number_fault, before_names, names_of, names_fault, count_fault, vertex_fault}
+use Rattle.md_script.specs.Read.{NamesSet, NamesVertex}
+
+or_none : {T : Type 0} (o : Option T) → option_or o None ≡ o
+or_none None = refl
+or_none (Some x) = refl
+
+-- ---- any number of names
+
+-- of the fields, those up to `rest` are names, the members of s
+pub record HasRead (whole rest : List (List ℕ)) (s : NameSet) : Type 0 where
+  pub done : List ℕ
+  pub names : names_of whole ≡ option_map (λ more. done ++ more) (names_of rest)
+  pub members : s ≡ set.from_list done
+  pub fault : names_fault whole ≡ names_fault rest
+
+nothing_before : (o : Option (List ℕ)) → o ≡ option_map (λ more. [] ++ more) o
+nothing_before None = refl
+nothing_before (Some xs) = refl
+
+from_no_list : set.from_list {R = nat_cmp} [] ≡ set.empty
+from_no_list = refl
+
+pub read_none : (whole : List (List ℕ)) (s : NameSet) → s ≡ set.empty → HasRead whole whole s
+read_none whole s empty = record {
+  done = [];
+  names = nothing_before (names_of whole);
+  members = empty ∙ sym from_no_list;
+  fault = refl;
+}
+
+one_before : (done : List ℕ) (v : ℕ) (o : Option (List ℕ)) → option_map (λ more. done ++ more) (before_names (Some v) o) ≡ option_map (λ more. (done ++ v ∷ []) ++ more) o
+one_before done v None = refl
+one_before done v (Some xs) = ap (λ l. Some l) (sym (append_assoc done (v ∷ []) xs))
+
+names-cons : (field : List ℕ) (rest : List (List ℕ)) (v : ℕ) → name_in (number_of field) ≡ Some v → names_of (field ∷ rest) ≡ before_names (Some v) (names_of rest)
+unfolding names_of
+names-cons field rest v is = ap (λ o. before_names o (names_of rest)) is
+
+fault-cons : (field : List ℕ) (rest : List (List ℕ)) → number_fault (number_of field) ≡ None → names_fault (field ∷ rest) ≡ names_fault rest
+unfolding names_fault
+fault-cons field rest is = ap (λ o. option_or o (names_fault rest)) is
+
+fault-here : (field : List ℕ) (rest : List (List ℕ)) (kind : ScriptKind) → number_fault (number_of field) ≡ Some kind → names_fault (field ∷ rest) ≡ Some kind
+unfolding names_fault
+fault-here field rest kind is = ap (λ o. option_or o (names_fault rest)) is
+
+pub read_more : (whole : List (List ℕ)) (line more : List ℕ) (number : Option ℕ) (v : ℕ) (s t : NameSet) → HasRead whole (fields line) s → BeginsWithNumber line number more
+    → name_in number ≡ Some v → number_fault number ≡ None → t ≡ set.insert s v → HasRead whole (fields more) t
+read_more whole line more number v s t h b name fault added = record {
+  done = h.done ++ v ∷ [];
+  names =
+      h.names ∙ ap (λ l. option_map (λ xs. h.done ++ xs) (names_of l)) b.is_first
+      ∙ ap (option_map (λ xs. h.done ++ xs)) (names-cons b.field (fields more) v (ap name_in (sym b.is_number) ∙ name))
+      ∙ one_before h.done v (names_of (fields more));
+  members = added ∙ ap (λ u. set.insert u v) h.members ∙ sym (set.from_list_push nat_cmp_total nat_cmp-IsAntisymmetric h.done v);
+  fault = h.fault ∙ ap names_fault b.is_first ∙ fault-cons b.field (fields more) (ap number_fault (sym b.is_number) ∙ fault);
+}
+
+pub read_refused : (whole : List (List ℕ)) (line more : List ℕ) (number : Option ℕ) (kind : ScriptKind) (s : NameSet) → HasRead whole (fields line) s → BeginsWithNumber line number more
+    → number_fault number ≡ Some kind → names_fault whole ≡ Some kind
+read_refused whole line more number kind s h b fault =
+    h.fault ∙ ap names_fault b.is_first ∙ fault-here b.field (fields more) kind (ap number_fault (sym b.is_number) ∙ fault)
+
+names-nil : names_of [] ≡ Some []
+unfolding names_of
+names-nil = refl
+
+fault-nil : names_fault [] ≡ None
+unfolding names_fault
+fault-nil = refl
+
+pub read_all : (whole rest : List (List ℕ)) (s : NameSet) → HasRead whole rest s → rest ≡ [] → NamesSet whole s
+read_all whole rest s h end = record {
+  list = h.done ++ [];
+  written = h.names ∙ ap (λ l. option_map (λ more. h.done ++ more) (names_of l)) end ∙ ap (option_map (λ more. h.done ++ more)) names-nil;
+  members = h.members ∙ ap set.from_list (sym (append-nil h.done));
+}
+
+pub read_faultless : (whole rest : List (List ℕ)) (s : NameSet) → HasRead whole rest s → rest ≡ [] → names_fault whole ≡ None
+read_faultless whole rest s h end = h.fault ∙ ap names_fault end ∙ fault-nil
+
+-- ---- a name and any number of others
+
+pub vertex_read : (line more : List ℕ) (number : Option ℕ) (x : ℕ) (s : NameSet) → BeginsWithNumber line number more → name_in number ≡ Some x → NamesSet (fields more) s
+    → NamesVertex (fields line) x s
+vertex_read line more number x s b name others = record {
+  list = others.list;
+  written =
+      ap names_of b.is_first ∙ names-cons b.field (fields more) x (ap name_in (sym b.is_number) ∙ name)
+      ∙ ap (before_names (Some x)) others.written;
+  members = others.members;
+}
+
+pub vertex_refused : (line more : List ℕ) (number : Option ℕ) (kind : ScriptKind) → BeginsWithNumber line number more → number_fault number ≡ Some kind
+    → vertex_fault (fields line) ≡ Some kind
+vertex_refused line more number kind b fault =
+    ap vertex_fault b.is_first ∙ fault-here b.field (fields more) kind (ap number_fault (sym b.is_number) ∙ fault)
+
+pub others_fault : (line more : List ℕ) (number : Option ℕ) (fault : Option ScriptKind) → BeginsWithNumber line number more → number_fault number ≡ None
+    → names_fault (fields more) ≡ fault → vertex_fault (fields line) ≡ fault
+others_fault line more number fault b none later =
+    ap vertex_fault b.is_first ∙ fault-cons b.field (fields more) (ap number_fault (sym b.is_number) ∙ none) ∙ later
+
+-- ---- one name, or two
+
+names_one : (rest : List (List ℕ)) (a : List ℕ) (u : ℕ) → rest ≡ a ∷ [] → name_in (number_of a) ≡ Some u → names_of rest ≡ Some (u ∷ [])
+names_one rest a u cut name = ap names_of cut ∙ names-cons a [] u name ∙ ap (before_names (Some u)) names-nil
+
+names_two : (rest : List (List ℕ)) (a b : List ℕ) (u v : ℕ) → rest ≡ a ∷ b ∷ [] → name_in (number_of a) ≡ Some u → name_in (number_of b) ≡ Some v
+    → names_of rest ≡ Some (u ∷ v ∷ [])
+names_two rest a b u v cut first second =
+    ap names_of cut ∙ names-cons a (b ∷ []) u first ∙ ap (before_names (Some u)) (names_one (b ∷ []) b v refl second)
+
+fault_one : (rest : List (List ℕ)) (a : List ℕ) → rest ≡ a ∷ [] → count_fault 1 rest ≡ number_fault (number_of a)
+unfolding names_fault
+fault_one rest a cut = ap (count_fault 1) cut ∙ or_none (number_fault (number_of a))
+
+fault_two : (rest : List (List ℕ)) (a b : List ℕ) → rest ≡ a ∷ b ∷ [] → count_fault 2 rest ≡ option_or (number_fault (number_of a)) (number_fault (number_of b))
+unfolding names_fault
+fault_two rest a b cut = ap (count_fault 2) cut ∙ ap (option_or (number_fault (number_of a))) (or_none (number_fault (number_of b)))
+
+-- what a result says of two numbers, it says of the fields that write them
+pub ends_named : (r : Result (ℕ × ℕ) ScriptKind) (rest : List (List ℕ)) (a b : List ℕ) (u v : Option ℕ) → rest ≡ a ∷ b ∷ [] → u ≡ number_of a → v ≡ number_of b
+    → IfOk r (λ p. name_in u ≡ Some p.0) → IfOk r (λ p. name_in v ≡ Some p.1) → IfOk r (λ p. names_of rest ≡ Some (p.0 ∷ p.1 ∷ []))
+ends_named (Ok p) rest a b u v cut eu ev first second = names_two rest a b p.0 p.1 cut (ap name_in (sym eu) ∙ first) (ap name_in (sym ev) ∙ second)
+ends_named (Err kind) rest a b u v cut eu ev first second = tt
+
+both_faults : (rest : List (List ℕ)) (a b : List ℕ) (u v : Option ℕ) → rest ≡ a ∷ b ∷ [] → u ≡ number_of a → v ≡ number_of b
+    → option_or (number_fault u) (number_fault v) ≡ count_fault 2 rest
+both_faults rest a b u v cut eu ev = (λ i. option_or (number_fault (eu i)) (number_fault (ev i))) ∙ sym (fault_two rest a b cut)
+
+pub ends_passed : (r : Result (ℕ × ℕ) ScriptKind) (rest : List (List ℕ)) (a b : List ℕ) (u v : Option ℕ) → rest ≡ a ∷ b ∷ [] → u ≡ number_of a → v ≡ number_of b
+    → OnOk r (option_or (number_fault u) (number_fault v) ≡ None) → OnOk r (count_fault 2 rest ≡ None)
+ends_passed r rest a b u v cut eu ev h = subst (λ o. OnOk r (o ≡ None)) (both_faults rest a b u v cut eu ev) h
+
+pub ends_refused : (r : Result (ℕ × ℕ) ScriptKind) (rest : List (List ℕ)) (a b : List ℕ) (u v : Option ℕ) → rest ≡ a ∷ b ∷ [] → u ≡ number_of a → v ≡ number_of b
+    → IfErr r (λ kind. option_or (number_fault u) (number_fault v) ≡ Some kind) → IfErr r (λ kind. count_fault 2 rest ≡ Some kind)
+ends_refused r rest a b u v cut eu ev h = subst (λ o. IfErr r (λ kind. o ≡ Some kind)) (both_faults rest a b u v cut eu ev) h
+
+-- and of one
+pub vertex_named : (r : Result ℕ ScriptKind) (rest : List (List ℕ)) (a : List ℕ) (u : Option ℕ) → rest ≡ a ∷ [] → u ≡ number_of a
+    → IfOk r (λ x. name_in u ≡ Some x) → IfOk r (λ x. names_of rest ≡ Some (x ∷ []))
+vertex_named (Ok x) rest a u cut eu name = names_one rest a x cut (ap name_in (sym eu) ∙ name)
+vertex_named (Err kind) rest a u cut eu name = tt
+
+one_fault : (rest : List (List ℕ)) (a : List ℕ) (u : Option ℕ) → rest ≡ a ∷ [] → u ≡ number_of a → number_fault u ≡ count_fault 1 rest
+one_fault rest a u cut eu = ap number_fault eu ∙ sym (fault_one rest a cut)
+
+pub vertex_passed : (r : Result ℕ ScriptKind) (rest : List (List ℕ)) (a : List ℕ) (u : Option ℕ) → rest ≡ a ∷ [] → u ≡ number_of a
+    → OnOk r (number_fault u ≡ None) → OnOk r (count_fault 1 rest ≡ None)
+vertex_passed r rest a u cut eu h = subst (λ o. OnOk r (o ≡ None)) (one_fault rest a u cut eu) h
+
+pub name_refused : (r : Result ℕ ScriptKind) (rest : List (List ℕ)) (a : List ℕ) (u : Option ℕ) → rest ≡ a ∷ [] → u ≡ number_of a
+    → IfErr r (λ kind. number_fault u ≡ Some kind) → IfErr r (λ kind. count_fault 1 rest ≡ Some kind)
+name_refused r rest a u cut eu h = subst (λ o. IfErr r (λ kind. o ≡ Some kind)) (one_fault rest a u cut eu) h

@@ -1,0 +1,35 @@
+-- Lists of names, and the sets of their members.
+use Rattle.std.specs.Prelude.{◌≡◌, ℕ, ◌+◌, ◌<◌, List, [], ◌∷◌, ◌++◌, length, take, map, refl}
+use Rattle.std.proofs.Common.{ap, sym, ◌∙◌, subst, arith, get_or}
+use Rattle.std.proofs.lemmas.List.{take_more}
+use Rattle.std.proofs.lemmas.List.Elements.{All-weaker}
+use Rattle.std.specs.FinSet as set
+use Rattle.std.specs.FinSet.{nat_cmp-IsAntisymmetric}
+use Rattle.std.specs.Cmp.{nat_cmp_total}
+use Rattle.md_graph.specs.declared.TheConstants.{NAMES}
+use Rattle.md_graph.specs.NameSet.{NameSet, ascending}
+use Rattle.md_graph.proofs.NameLemmas.{IsItem, ascending_items, ascending_order}
+use Rattle.md_script.specs.Neighbours.{IsNameList}
+
+-- the members of a set in ascending order are such a list
+pub ascending_is_list : (s : NameSet) → IsNameList (ascending s)
+ascending_is_list s = record {
+  increasing = λ k below. ascending_order s 0 NAMES k (k + 1) 0 (omega arith) below;
+  names = All-weaker (IsItem s 0 NAMES) (λ v. v < NAMES) (λ v is. is.below) (ascending s) (ascending_items s 0 NAMES);
+}
+
+map_same : (xs : List ℕ) → map (λ x. x) xs ≡ xs
+map_same [] = refl
+map_same (x ∷ xs) = ap (λ l. x ∷ l) (map_same xs)
+
+-- the same of a list of what an iterator gave
+pub collected_list : (list xs : List ℕ) (s : NameSet) → list ≡ xs → map (λ x. x) xs ≡ ascending s → IsNameList list
+collected_list list xs s items all = subst IsNameList (sym (items ∙ sym (map_same xs) ∙ all)) (ascending_is_list s)
+
+-- one item of a list more
+pub one_more_name : (s t : NameSet) (list : List ℕ) (i v : ℕ) → s ≡ set.from_list (take i list) → v ≡ get_or list i 0 → i < length list
+    → t ≡ set.insert s v → t ≡ set.from_list (take (i + 1) list)
+one_more_name s t list i v so_far item within more =
+    let push = set.from_list_push nat_cmp_total nat_cmp-IsAntisymmetric (take i list) v in
+    let longer : take (i + 1) list ≡ take i list ++ v ∷ [] = take_more list i 0 within ∙ ap (λ x. take i list ++ x ∷ []) (sym item) in
+    more ∙ ap (λ u. set.insert u v) so_far ∙ sym push ∙ ap set.from_list (sym longer)

@@ -1,0 +1,112 @@
+-- A line of a script: the edit that it spells, and its first fault.
+-- Source: the format and its faults are this project's.
+use Rattle.std.specs.Prelude.{ℕ, ◌==◌, nat_eq, nat_le, Bool, true, List, [], ◌∷◌, length, slice_index, if◌then◌else◌, Option, None, Some, codes, option_and_then}
+use Rattle.std.specs.Option.{option_or}
+use Rattle.std.specs.Cmp.Lexicographic.{pointwise}
+use Rattle.std.specs.FinSet as set
+use Rattle.md_graph.specs.declared.TheConstants.{NAMES}
+use Rattle.md_graph.specs.NameSet.{ascending}
+use Rattle.md_text.specs.Lines.{without_return}
+use Rattle.md_text.specs.Fields.{fields}
+use Rattle.md_text.specs.Numbers.{number_of}
+use Rattle.md_script.specs.declared.TheConstants.{EDITS}
+use Rattle.md_script.specs.declared.edit.Edit.{Edit}
+use Rattle.md_script.specs.declared.edit.Edit.TheVariants.{AddEdge, DelEdge, AddVertex, DelVertex}
+use Rattle.md_script.specs.declared.fault.ScriptKind.{ScriptKind}
+use Rattle.md_script.specs.declared.fault.ScriptKind.TheVariants.{UnknownEdit, FieldCount, BadNumber, NameTooLarge, TooManyEdits}
+use Rattle.md_script.specs.declared.line.EditWord.{EditWord}
+use Rattle.md_script.specs.declared.line.EditWord.TheVariants.{PlusEdge, MinusEdge, PlusVertex, MinusVertex}
+
+-- the fields of a line, of which one byte 13 at its end is no part
+abbrev pub words : List ℕ → List (List ℕ)
+words line = fields (without_return line)
+
+-- whether a line with these fields is skipped: it has none, or the first begins with `#`
+abbrev pub is_skipped : List (List ℕ) → Bool
+is_skipped [] = true
+is_skipped (first ∷ rest) = slice_index first 0 == 35
+
+-- the word that a first field is, if it is one of the four
+unfoldable pub word_of : List ℕ → Option EditWord
+word_of field =
+    if pointwise nat_eq field (codes "+e") then Some PlusEdge
+    else (if pointwise nat_eq field (codes "-e") then Some MinusEdge
+    else (if pointwise nat_eq field (codes "+v") then Some PlusVertex
+    else (if pointwise nat_eq field (codes "-v") then Some MinusVertex
+    else None)))
+
+-- the number, if it is one and a name
+abbrev pub name_in : Option ℕ → Option ℕ
+name_in None = None
+name_in (Some n) = if nat_le NAMES n then None else Some n
+
+-- the fault of a field in the place of a name, by its number
+abbrev pub number_fault : Option ℕ → Option ScriptKind
+number_fault None = Some BadNumber
+number_fault (Some n) = if nat_le NAMES n then Some NameTooLarge else None
+
+-- a name before others, if all are there
+abbrev pub before_names : Option ℕ → Option (List ℕ) → Option (List ℕ)
+before_names None names = None
+before_names (Some v) None = None
+before_names (Some v) (Some names) = Some (v ∷ names)
+
+-- the names that fields write, if each writes one
+unfoldable pub names_of : List (List ℕ) → Option (List ℕ)
+names_of [] = Some []
+names_of (field ∷ rest) = before_names (name_in (number_of field)) (names_of rest)
+
+-- the first fault of fields that are all to be names
+unfoldable pub names_fault : List (List ℕ) → Option ScriptKind
+names_fault [] = None
+names_fault (field ∷ rest) = option_or (number_fault (number_of field)) (names_fault rest)
+
+-- the edit of a word with these names behind it, if they are as many as it takes; of the neighbours of
+-- a new vertex the order and repeats don't matter
+abbrev pub edit_with : EditWord → List ℕ → Option Edit
+edit_with PlusEdge (u ∷ v ∷ []) = Some (AddEdge u v)
+edit_with MinusEdge (u ∷ v ∷ []) = Some (DelEdge u v)
+edit_with PlusVertex (x ∷ names) = Some (AddVertex x (ascending (set.from_list names)))
+edit_with MinusVertex (x ∷ []) = Some (DelVertex x)
+edit_with _ _ = None
+
+-- the edit of a word with these fields behind it
+abbrev pub edit_by : Option EditWord → List (List ℕ) → Option Edit
+edit_by None rest = None
+edit_by (Some word) rest = option_and_then (edit_with word) (names_of rest)
+
+-- the edit that fields spell, if they spell one
+abbrev pub edit_of : List (List ℕ) → Option Edit
+edit_of [] = None
+edit_of (first ∷ rest) = edit_by (word_of first) rest
+
+-- the first fault of fields that are to be n names
+abbrev pub count_fault : ℕ → List (List ℕ) → Option ScriptKind
+count_fault n rest = if length rest == n then names_fault rest else Some FieldCount
+
+-- the first fault of fields that are to be a name and any number of others
+abbrev pub vertex_fault : List (List ℕ) → Option ScriptKind
+vertex_fault [] = Some FieldCount
+vertex_fault (field ∷ rest) = names_fault (field ∷ rest)
+
+-- the first fault of the fields behind a word
+abbrev pub fault_with : EditWord → List (List ℕ) → Option ScriptKind
+fault_with PlusEdge rest = count_fault 2 rest
+fault_with MinusEdge rest = count_fault 2 rest
+fault_with PlusVertex rest = vertex_fault rest
+fault_with MinusVertex rest = count_fault 1 rest
+
+-- the first fault of a first field and those behind it
+abbrev pub fault_by : Option EditWord → List (List ℕ) → Option ScriptKind
+fault_by None rest = Some UnknownEdit
+fault_by (Some word) rest = fault_with word rest
+
+-- the first fault of a line of an edit by its fields, where `edits` edits stood before
+abbrev pub edit_fault : ℕ → List (List ℕ) → Option ScriptKind
+edit_fault edits [] = None
+edit_fault edits (first ∷ rest) =
+    if nat_le EDITS edits then Some TooManyEdits else fault_by (word_of first) rest
+
+-- the first fault of a line by its fields, where `edits` edits stood before
+abbrev pub fault_of_words : ℕ → List (List ℕ) → Option ScriptKind
+fault_of_words edits ws = if is_skipped ws then None else edit_fault edits ws

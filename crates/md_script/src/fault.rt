@@ -1,0 +1,30 @@
+//! What may be wrong with a script.
+
+/// What is wrong with a line. Of a line the first fault is named, in the order of `specs/Line.antt`.
+#[derive(Clone, Copy, Debug, PartialEq, Eq)]
+pub enum ScriptKind {
+    /// The first field is none of `+e`, `-e`, `+v` and `-v`.
+    UnknownEdit = 1,
+    /// There are more or fewer fields than the edit takes.
+    FieldCount,
+    /// A field is no number of 1 to 18 digits.
+    BadNumber,
+    /// A number isn't below the number of names.
+    NameTooLarge,
+    /// As many edits as a script may have stood before this line.
+    TooManyEdits,
+}
+
+/// Why a script isn't read.
+#[derive(Clone, Copy, Debug, PartialEq, Eq)]
+pub enum ScriptFault {
+    /// The first fault of the script.
+    Bad {
+        /// What is wrong.
+        kind: ScriptKind,
+        /// The number of the line, counted from 1; every line counts.
+        line: u64,
+    },
+    /// Want of memory.
+    Memory,
+}

@@ -1,0 +1,26 @@
+//! Scripts of edits: read from bytes, and applied to a graph one edit after the other.
+//!
+//! `read_script` reads a whole script, or names its first fault; `reason` says why an edit can't be applied
+//! to a graph, and `apply` applies one that can.
+#![tactic(auto)]
+
+mod changes;
+mod edit;
+mod fault;
+pub mod laws;
+mod line;
+mod neighbours;
+mod reader;
+mod script;
+#[cfg(test)]
+mod tests;
+
+pub use changes::{apply, reason};
+pub use edit::{Edit, EditReason};
+pub use fault::{ScriptFault, ScriptKind};
+pub use neighbours::Neighbours;
+pub use reader::read_script;
+pub use script::Script;
+
+/// How many edits a script may have.
+pub const EDITS: u64 = 200_000;

@@ -1,0 +1,230 @@
+//! One line of a script.
+ghost use Rattle.std.specs.Prelude.{
+  ◌≡◌,
+  ◌≢◌,
+  ◌<◌,
+  ◌∷◌,
+  [],
+  length,
+  None,
+  Some,
+  IfSome,
+  IfNone,
+  IfOk,
+  IfErr,
+  OnOk,
+};
+ghost use Rattle.std.specs.Option.{option_or};
+ghost use Rattle.md_graph.specs.NameSet.{ascending};
+ghost use Rattle.md_text.specs.Fields.{fields};
+ghost use Rattle.md_script.specs.Line.{
+  word_of,
+  name_in,
+  number_fault,
+  names_of,
+  names_fault,
+  count_fault,
+  vertex_fault,
+  edit_by,
+  fault_by,
+};
+ghost use Rattle.md_script.specs.Read.{NamesSet, NamesVertex, IsRefusal};
+
+use crate::{Edit, Neighbours, ScriptKind};
+use md_graph::{NAMES, Names};
+use md_text::{number, split_field, split_number};
+use std::alloc::Global;
+
+/// The first field of an edit's line.
+#[derive(Clone, Copy)]
+pub(crate) enum EditWord {
+    /// `+e`
+    PlusEdge,
+    /// `-e`
+    MinusEdge,
+    /// `+v`
+    PlusVertex,
+    /// `-v`
+    MinusVertex,
+}
+
+/// Why a line isn't read.
+#[derive(Clone, Copy)]
+pub(crate) enum Refusal {
+    /// Its first fault.
+    Bad(ScriptKind),
+    /// Want of memory.
+    Memory,
+}
+
+// The word that a field is, if it is one.
+#[tactic(auto, unfolding(crate::specs::Line::word_of))]
+fn edit_word(field: &[u8]) -> Option<EditWord>
+    ensures { result ≡ word_of field.now }
+{
+    if field == b"+e".as_slice() {
+        return Some(EditWord::PlusEdge);
+    }
+    if field == b"-e".as_slice() {
+        return Some(EditWord::MinusEdge);
+    }
+    if field == b"+v".as_slice() {
+        return Some(EditWord::PlusVertex);
+    }
+    if field == b"-v".as_slice() {
+        return Some(EditWord::MinusVertex);
+    }
+    None
+}
+
+// Reads the line of an edit by its first field and what stands behind it. Only the neighbours of a new
+// vertex take memory; `names` is a set to gather them in, whose members go.
+pub(crate) fn read_edit(
+    alloc: Global,
+    first: &[u8],
+    rest: &[u8],
+    names: &mut Names,
+) -> Result<Edit, Refusal>
+    ensures edit { IfOk result (λ edit. edit_by (word_of first.now) (fields rest.now) ≡ Some edit) }
+    ensures faultless { OnOk result (fault_by (word_of first.now) (fields rest.now) ≡ None) }
+    ensures fault { IfErr result (IsRefusal (fault_by (word_of first.now) (fields rest.now))) }
+{
+    let Some(word) = edit_word(first) else {
+        return Err(Refusal::Bad(ScriptKind::UnknownEdit));
+    };
+    match word {
+        EditWord::PlusEdge => match read_ends(rest) {
+            Ok((u, v)) => Ok(Edit::AddEdge { u, v }),
+            Err(kind) => Err(Refusal::Bad(kind)),
+        },
+        EditWord::MinusEdge => match read_ends(rest) {
+            Ok((u, v)) => Ok(Edit::DelEdge { u, v }),
+            Err(kind) => Err(Refusal::Bad(kind)),
+        },
+        EditWord::PlusVertex => match read_new_vertex(rest, names) {
+            Ok(x) => add_vertex(alloc, x, names),
+            Err(kind) => Err(Refusal::Bad(kind)),
+        },
+        EditWord::MinusVertex => match read_vertex(rest) {
+            Ok(x) => Ok(Edit::DelVertex { x }),
+            Err(kind) => Err(Refusal::Bad(kind)),
+        },
+    }
+}
+
+// The edit that takes in the vertex x with these neighbours.
+fn add_vertex(alloc: Global, x: u32, names: &Names) -> Result<Edit, Refusal>
+    ensures edit { IfOk result (λ edit. edit ≡ Edit.AddVertex x (ascending names.now)) }
+    ensures memory { IfErr result (λ refusal. refusal ≡ Refusal.Memory) }
+{
+    match Neighbours::new(alloc, names) {
+        Ok(neighbours) => Ok(Edit::AddVertex { x, neighbours }),
+        Err(_) => Err(Refusal::Memory),
+    }
+}
+
+// Reads the two names behind `+e` or `-e`.
+fn read_ends(rest: &[u8]) -> Result<(u32, u32), ScriptKind>
+    ensures names { IfOk result (λ p. names_of (fields rest.now) ≡ Some (p.0 ∷ p.1 ∷ [])) }
+    ensures faultless { OnOk result (count_fault 2 (fields rest.now) ≡ None) }
+    ensures fault { IfErr result (λ kind. count_fault 2 (fields rest.now) ≡ Some kind) }
+{
+    match two_fields(rest) {
+        Some((first, second)) => checked_ends(number(first), number(second)),
+        None => Err(ScriptKind::FieldCount),
+    }
+}
+
+// Reads the name behind `-v`.
+fn read_vertex(rest: &[u8]) -> Result<u32, ScriptKind>
+    ensures names { IfOk result (λ x. names_of (fields rest.now) ≡ Some (x ∷ [])) }
+    ensures faultless { OnOk result (count_fault 1 (fields rest.now) ≡ None) }
+    ensures fault { IfErr result (λ kind. count_fault 1 (fields rest.now) ≡ Some kind) }
+{
+    match one_field(rest) {
+        Some(field) => checked_name(number(field)),
+        None => Err(ScriptKind::FieldCount),
+    }
+}
+
+// Reads the names behind `+v`: the new vertex, and its neighbours into `names`.
+fn read_new_vertex(rest: &[u8], names: &mut Names) -> Result<u32, ScriptKind>
+    ensures names { IfOk result (λ x. NamesVertex (fields rest.now) x names.new) }
+    ensures faultless { OnOk result (vertex_fault (fields rest.now) ≡ None) }
+    ensures fault { IfErr result (λ kind. vertex_fault (fields rest.now) ≡ Some kind) }
+{
+    let Some((first, more)) = split_number(rest) else {
+        return Err(ScriptKind::FieldCount);
+    };
+    let x = checked_name(first)?;
+    read_names(more, names)?;
+    Ok(x)
+}
+
+// Reads fields that are all names into `names`, in place of its members.
+fn read_names(text: &[u8], names: &mut Names) -> Result<(), ScriptKind>
+    ensures names { OnOk result (NamesSet (fields text.now) names.new) }
+    ensures faultless { OnOk result (names_fault (fields text.now) ≡ None) }
+    ensures fault { IfErr result (λ kind. names_fault (fields text.now) ≡ Some kind) }
+{
+    names.clear();
+    let mut rest = text;
+    while let Some((number, more)) = split_number(rest) {
+        names.insert(checked_name(number)?);
+        rest = more;
+    }
+    Ok(())
+}
+
+// The two names that the two fields write.
+fn checked_ends(first: Option<u64>, second: Option<u64>) -> Result<(u32, u32), ScriptKind>
+    ensures first { IfOk result (λ p. name_in first ≡ Some p.0) }
+    ensures second { IfOk result (λ p. name_in second ≡ Some p.1) }
+    ensures faultless { OnOk result (option_or (number_fault first) (number_fault second) ≡ None) }
+    ensures fault { IfErr result (λ kind. option_or (number_fault first) (number_fault second) ≡ Some kind) }
+{
+    let u = checked_name(first)?;
+    let v = checked_name(second)?;
+    Ok((u, v))
+}
+
+// The name that a field writes, by its number.
+fn checked_name(number: Option<u64>) -> Result<u32, ScriptKind>
+    ensures name { IfOk result (λ v. name_in number ≡ Some v) }
+    ensures below { IfOk result (λ v. v < NAMES) }
+    ensures faultless { OnOk result (number_fault number ≡ None) }
+    ensures fault { IfErr result (λ kind. number_fault number ≡ Some kind) }
+{
+    let Some(v) = number else {
+        return Err(ScriptKind::BadNumber);
+    };
+    if v >= u64::from(NAMES) {
+        return Err(ScriptKind::NameTooLarge);
+    }
+    Ok(v as u32)
+}
+
+// The fields of a text, if there are two.
+fn two_fields(text: &[u8]) -> Option<(&[u8], &[u8])>
+    ensures fields { IfSome result (λ p. fields text.now ≡ p.0.now ∷ p.1.now ∷ []) }
+    ensures other_count { IfNone result (length (fields text.now) ≢ 2) }
+{
+    let (first, text) = split_field(text)?;
+    let (second, text) = split_field(text)?;
+    match split_field(text) {
+        Some(_) => None,
+        None => Some((first, second)),
+    }
+}
+
+// The field of a text, if there is one and no other.
+fn one_field(text: &[u8]) -> Option<&[u8]>
+    ensures field { IfSome result (λ field. fields text.now ≡ field.now ∷ []) }
+    ensures other_count { IfNone result (length (fields text.now) ≢ 1) }
+{
+    let (first, text) = split_field(text)?;
+    match split_field(text) {
+        Some(_) => None,
+        None => Some(first),
+    }
+}

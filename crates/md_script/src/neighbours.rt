@@ -1,0 +1,60 @@
+//! The neighbours that a new vertex is to have.
+ghost use Rattle.std.specs.Prelude.{◌≡◌, ◌<◌, IfOk};
+ghost use Rattle.std.specs.List.{All};
+ghost use Rattle.std.specs.FinSet as set;
+ghost use Rattle.md_graph.specs.NameSet.{ascending};
+ghost use Rattle.md_script.specs.Neighbours.{IsNameList};
+
+use md_graph::{Memory, NAMES, Names};
+use std::alloc::Global;
+use std::marker::Model;
+
+/// An ascending list of names without repeats.
+#[derive(Debug, Drop)]
+pub struct Neighbours {
+    list: Vec<u32>,
+}
+
+impl Model for Neighbours {
+    ghost use Rattle.std.specs.Prelude.{ℕ, List};
+
+    ghost Value = { List ℕ };
+
+    ghost use Rattle.md_script.specs.Neighbours.{IsNameList};
+
+    ghost view = { λ n. n.list.items };
+
+    ghost invariant = { λ n. IsNameList n.list.items };
+}
+
+impl Neighbours {
+    /// The members of a set of names. One with no member takes no memory.
+    pub fn new(alloc: Global, names: &Names) -> Result<Neighbours, Memory>
+        ensures { IfOk result (λ n. n ≡ ascending names.now) }
+    {
+        match names.members().collect(alloc) {
+            Ok(list) => Ok(Neighbours { list }),
+            Err(_) => Err(Memory),
+        }
+    }
+
+    /// The names, ascending.
+    pub fn as_slice(&self) -> &[u32]
+        ensures list { result.now ≡ self.now }
+        ensures names { IsNameList self.now }
+    {
+        self.list.as_slice()
+    }
+}
+
+// The set of the names in a list.
+pub(crate) fn set_of(list: &[u32]) -> Names
+    requires { All (λ v. v < NAMES) list.now }
+    ensures { result ≡ set.from_list list.now }
+{
+    let mut names = Names::none();
+    for v in list {
+        names.insert(*v);
+    }
+    names
+}

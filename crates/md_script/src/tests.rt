@@ -1,0 +1,187 @@
+//! Scripts with their edits or faults, and edits with their reasons and what they change.
+use super::*;
+use EditReason::*;
+use ScriptKind::*;
+use md_graph::{Graph, NAMES, Names};
+use std::alloc::Global;
+use std::process::Abort;
+use std::test::Fail;
+
+fn check_fault(rt: &impl Abort, alloc: Global, file: &str, kind: ScriptKind, line: u64) {
+    match read_script(alloc, file.as_bytes()) {
+        Ok(script) => assert_eq!(rt; script.len(), 0, "{file} is read"),
+        Err(fault) => assert_eq!(rt; fault, ScriptFault::Bad { kind, line }, "{file}"),
+    }
+}
+
+/// An edit as plain numbers: its word, its first two names, and the list of neighbours.
+fn check_edit(rt: &impl Abort, edit: &Edit, word: &str, first: u32, others: &[u32]) {
+    match edit {
+        Edit::AddEdge { u, v } => {
+            assert!(rt; word == "+e" && *u == first);
+            assert_eq!(rt; [*v].as_slice(), others);
+        }
+        Edit::DelEdge { u, v } => {
+            assert!(rt; word == "-e" && *u == first);
+            assert_eq!(rt; [*v].as_slice(), others);
+        }
+        Edit::AddVertex { x, neighbours } => {
+            assert!(rt; word == "+v" && *x == first);
+            assert_eq!(rt; neighbours.as_slice(), others);
+        }
+        Edit::DelVertex { x } => {
+            assert!(rt; word == "-v" && *x == first);
+            assert!(rt; others.is_empty());
+        }
+    }
+}
+
+fn check_script(
+    rt: &impl Abort,
+    alloc: Global,
+    file: &str,
+    edits: &[(&str, u32, &[u32])],
+) -> Result<(), ScriptFault> {
+    let script = read_script(alloc, file.as_bytes())?;
+    assert_eq!(rt; script.len() as usize, edits.len(), "{file}");
+    for (i, (word, first, others)) in edits.iter().enumerate() {
+        assert!(rt; (i as u64) < script.len());
+        check_edit(rt, script.get(i as u64), word, *first, others);
+    }
+    Ok(())
+}
+
+#[test]
+fn scripts(rt: HostRuntime) -> Result<(), Fail> {
+    check_script(&rt, rt.alloc(), "", &[])?;
+    check_script(
+        &rt,
+        rt.alloc(),
+        "+v 7 3 1 3\n-e 2 4\n",
+        &[("+v", 7, &[1, 3]), ("-e", 2, &[4])],
+    )?;
+    check_script(
+        &rt,
+        rt.alloc(),
+        "# a script\r\n\r\n \t\n-v 0\r\n+v\t4095 \n#\n+v 5 5 64 63\n+e 007 7",
+        &[
+            ("-v", 0, &[]),
+            ("+v", 4095, &[]),
+            ("+v", 5, &[5, 63, 64]),
+            ("+e", 7, &[7]),
+        ],
+    )?;
+    for (file, kind, line) in [
+        ("\n+w 1", UnknownEdit, 2),
+        ("+e 1 2\ne 1 2 3\n", UnknownEdit, 2),
+        ("+e 1 2 3", FieldCount, 1),
+        ("-e x", FieldCount, 1),
+        ("+v\r\n", FieldCount, 1),
+        ("#\n#\n-v 1 2\n", FieldCount, 3),
+        ("+e 4096 x\n", NameTooLarge, 1),
+        ("+e x 4096\n", BadNumber, 1),
+        ("-v -1\n", BadNumber, 1),
+        ("+v 1 2 3 4 5a 4096\n", BadNumber, 1),
+        ("-e 1 1234567890123456789\n", BadNumber, 1),
+        ("-e 1 999999999999999999\n", NameTooLarge, 1),
+        ("+v 1 2 3 4096\n", NameTooLarge, 1),
+    ] {
+        check_fault(&rt, rt.alloc(), file, kind, line);
+    }
+    Ok(())
+}
+
+/// As many edits as a script may have, and then one more.
+#[test]
+fn longest_script(rt: HostRuntime) -> Result<(), Fail> {
+    let mut text = Vec::new(rt.alloc());
+    for _ in 0..EDITS {
+        text.extend_from_slice(b"-v 0\n")?;
+    }
+    text.extend_from_slice(b"# end")?;
+    let script = read_script(rt.alloc(), &text)?;
+    assert_eq!(rt; script.len(), EDITS);
+    text.extend_from_slice(b"\nx")?;
+    match read_script(rt.alloc(), &text) {
+        Ok(_) => assert!(rt; false, "too many edits are read"),
+        Err(fault) => {
+            let kind = TooManyEdits;
+            let line = EDITS + 2;
+            assert_eq!(rt; fault, ScriptFault::Bad { kind, line });
+        }
+    }
+    Ok(())
+}
+
+/// Applies each edit that can be applied, and compares the reasons against the others.
+fn check_run(
+    rt: &impl Abort,
+    alloc: Global,
+    graph: &mut Graph,
+    file: &str,
+    reasons: &[Option<EditReason>],
+) -> Result<(), ScriptFault> {
+    let script = read_script(alloc, file.as_bytes())?;
+    assert_eq!(rt; script.len() as usize, reasons.len(), "{file}");
+    for (i, expected) in reasons.iter().enumerate() {
+        assert!(rt; (i as u64) < script.len());
+        let edit = script.get(i as u64);
+        let found = reason(graph, edit);
+        assert_eq!(rt; found, *expected, "edit {i} of {file}");
+        if found.is_none() {
+            apply(graph, edit);
+        }
+    }
+    Ok(())
+}
+
+#[test]
+fn edits(rt: HostRuntime) -> Result<(), Fail> {
+    let mut graph = Graph::new(rt.alloc())?;
+    let g = &mut graph;
+    check_run(&rt, rt.alloc(), g, "+v 3\n+v 1 3\n+v 2 3 1\n", &[None; 3])?;
+    assert!(rt; graph.count() == 3 && graph.edge_count() == 3);
+    let g = &mut graph;
+    check_run(
+        &rt,
+        rt.alloc(),
+        g,
+        "+e 5 5\n-e 5 6\n+e 1 6\n-e 7 6\n+e 1 2\n-v 0\n+v 3 9 8 1\n+v 3 2\n+v 4 2 4\n",
+        &[
+            Some(Same),
+            Some(NoVertex(5)),
+            Some(NoVertex(6)),
+            Some(NoVertex(7)),
+            Some(EdgeThere),
+            Some(NoVertex(0)),
+            Some(NoVertex(8)),
+            Some(NameTaken(3)),
+            Some(NoVertex(4)),
+        ],
+    )?;
+    assert!(rt; graph.count() == 3 && graph.edge_count() == 3);
+    let g = &mut graph;
+    check_run(
+        &rt,
+        rt.alloc(),
+        g,
+        "-e 2 1\n-e 1 2\n-v 3\n+v 4095 1\n+e 1 2\n",
+        &[None, Some(EdgeAbsent), None, None, None],
+    )?;
+    assert!(rt; graph.count() == 3 && graph.edge_count() == 2);
+    assert!(rt; graph.has_edge(1, 2) && graph.has_edge(4095, 1) && !graph.has_vertex(3));
+    Ok(())
+}
+
+#[test]
+fn neighbours(rt: HostRuntime) -> Result<(), Fail> {
+    let mut names = Names::none();
+    let none = Neighbours::new(rt.alloc(), &names)?;
+    assert!(rt; none.as_slice().is_empty());
+    names.insert(64);
+    names.insert(3);
+    names.insert(NAMES - 1);
+    let some = Neighbours::new(rt.alloc(), &names)?;
+    assert_eq!(rt; some.as_slice(), [3, 64, 4095].as_slice());
+    Ok(())
+}
