@@ -24,23 +24,27 @@ begun_begins p sound begun (inl none) =
     let whole : (lines : List PlainLine) × Lead p lines after_end = completion p sound in
     (lines_text whole.0, record { lines = whole.0; leads = whole.1; text = ap (λ b. b ++ lines_text whole.0) none })
 begun_begins p sound begun (inr line) =
-    let whole : (lines : List PlainLine) × Lead (next_place p) lines after_end = completion (next_place p) (lead_sound p (next_place p) (line.0 ∷ []) sound (line.1, refl)) in
-    (line.2 ++ lines_text whole.0, record {
-      lines = line.0 ∷ whole.0;
-      leads = (line.1, whole.1);
-      text = sym (append_assoc begun line.2 (lines_text whole.0)) ∙ ap (λ t. t ++ lines_text whole.0) (sym line.3);
-    })
+    let whole : (lines : List PlainLine) × Lead (next_place p) lines after_end = completion (next_place p) (lead_sound p (next_place p) (line.0 ∷ []) sound (line.1, refl)) in (
+      line.2 ++ lines_text whole.0,
+      record {
+        lines = line.0 ∷ whole.0;
+        leads = (line.1, whole.1);
+        text = sym (append_assoc begun line.2 (lines_text whole.0)) ∙ ap (λ t. t ++ lines_text whole.0) (sym line.3);
+      },
+    )
 
 of_front : (p : Place) → IsSound p → (bytes : List ℕ) → IsFront p bytes → (rest : List ℕ) × IsReport p (bytes ++ rest)
 of_front p sound bytes front =
     let on : (rest : List ℕ) × IsReport front.place (front.begun ++ rest) =
-    begun_begins front.place (lead_sound p front.place front.lines sound front.leads) front.begun front.begins in
-    (on.0, record {
-      lines = front.lines ++ on.1.lines;
-      leads = lead_append p front.place after_end front.lines on.1.lines front.leads on.1.leads;
-      text = ap (λ b. b ++ on.0) front.text ∙ append_assoc (lines_text front.lines) front.begun on.0
-          ∙ ap (λ b. lines_text front.lines ++ b) on.1.text ∙ sym (flat_map-append fed_line front.lines on.1.lines);
-    })
+    begun_begins front.place (lead_sound p front.place front.lines sound front.leads) front.begun front.begins in (
+      on.0,
+      record {
+        lines = front.lines ++ on.1.lines;
+        leads = lead_append p front.place after_end front.lines on.1.lines front.leads on.1.leads;
+        text = ap (λ b. b ++ on.0) front.text ∙ append_assoc (lines_text front.lines) front.begun on.0
+            ∙ ap (λ b. lines_text front.lines ++ b) on.1.text ∙ sym (flat_map-append fed_line front.lines on.1.lines);
+      },
+    )
 
 to_front : (p : Place) (lines : List PlainLine) → Lead p lines after_end → (bytes rest : List ℕ) → bytes ++ rest ≡ lines_text lines → IsFront p bytes
 to_front p [] leads bytes rest text =

@@ -1,8 +1,15 @@
 -- The laws of reports.
 use Rattle.std.specs.Prelude.{◌≡◌, ◌↔◌, ℕ, List, [], ◌∷◌, ◌++◌, ⊤}
 use Rattle.md_graph.specs.PlainGraph.{PlainGraph, IsGraph}
-use Rattle.md_report.specs.Lines.{PlainLine}
-use Rattle.md_report.specs.Places.{Place, before_head, at_graphs, after_end, Lead}
+use Rattle.std.specs.List.{All}
+use Rattle.md_tree.specs.Trees.{PlainTree}
+use Rattle.md_tree.specs.StrongTrees.{IsTree}
+use Rattle.md_script.specs.declared.edit.Edit.{Edit}
+use Rattle.md_script.specs.Edit.{HasNames}
+use Rattle.md_report.specs.declared.line.Mode.TheVariants as modes
+use Rattle.md_report.specs.Lines.{PlainLine, head, tree, end}
+use Rattle.md_report.specs.Sessions.{HasTreeLine, SessionRun}
+use Rattle.md_report.specs.Places.{Place, before_head, at_graphs, before_session, at_state, at_edits, after_end, Lead}
 use Rattle.md_report.specs.Reports.{IsReport, IsFront}
 
 -- each of the list is a graph on names
@@ -10,10 +17,13 @@ abbrev pub AreGraphs : List PlainGraph → Type 0
 AreGraphs [] = ⊤
 AreGraphs (g ∷ graphs) = IsGraph g × AreGraphs graphs
 
--- what is still to be reported at a place are graphs
+-- what is still to be reported at a place are graphs, and edits with names
 abbrev pub IsSound : Place → Type 0
 IsSound (before_head mode graphs) = AreGraphs graphs
 IsSound (at_graphs mode graphs) = AreGraphs graphs
+IsSound (before_session g edits) = IsGraph g × All HasNames edits
+IsSound (at_state g edits) = IsGraph g × All HasNames edits
+IsSound (at_edits g edits) = IsGraph g × All HasNames edits
 IsSound after_end = ⊤
 
 -- Lines lead somewhere exactly where they are the first lines of a whole report.
@@ -21,6 +31,20 @@ abbrev pub LinesLeadIfFirst : Type 0
 LinesLeadIfFirst =
     (p : Place) → IsSound p → (lines : List PlainLine) →
     ((q : Place) × Lead p lines q) ↔ ((more : List PlainLine) × Lead p (lines ++ more) after_end)
+
+-- A whole report of a session over a script: the head, the tree of the first state, the lines of the run, and the end.
+pub record IsSessionReport (g : PlainGraph) (edits : List Edit) (lines : List PlainLine) : Type 0 where
+  pub first : PlainLine
+  pub run : List PlainLine
+  pub tree_line : HasTreeLine tree g first
+  pub runs : SessionRun g edits run
+  pub whole : lines ≡ head modes.Edit ∷ first ∷ (run ++ end ∷ [])
+
+-- Lines lead from before a session to the end exactly where they are such a report.
+abbrev pub SessionReportsAreRuns : Type 0
+SessionReportsAreRuns =
+    (g : PlainGraph) (edits : List Edit) (lines : List PlainLine) →
+    Lead (before_session g edits) lines after_end ↔ IsSessionReport g edits lines
 
 -- Bytes are the front of a report by places exactly where a whole report begins with them.
 abbrev pub FrontsBeginReports : Type 0

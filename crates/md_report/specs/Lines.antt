@@ -2,9 +2,14 @@
 -- Source: this project's own format of reports.
 use Rattle.std.specs.Prelude.{ℕ, List, ◌∷◌, [], ◌++◌, codes, Option}
 use Rattle.std.specs.List.{flat_map}
+use Rattle.md_text.specs.Numbers.{decimal}
 use Rattle.md_tree.specs.Trees.{PlainTree}
 use Rattle.md_tree.specs.Plain.{plain_option}
 use Rattle.md_tree.specs.TreeTexts.{text_of}
+use Rattle.md_script.specs.declared.edit.EditReason.{EditReason}
+use Rattle.md_script.specs.declared.edit.EditReason.TheVariants.{Same, NoVertex, NameTaken, EdgeThere, EdgeAbsent}
+use Rattle.md_report.specs.declared.line.GraphMode.{GraphMode}
+use Rattle.md_report.specs.declared.line.GraphMode.TheVariants as graph_modes
 use Rattle.md_report.specs.declared.line.Mode.{Mode}
 use Rattle.md_report.specs.declared.line.Mode.TheVariants as modes
 use Rattle.md_report.specs.declared.line.Line.{Line}
@@ -14,22 +19,41 @@ use Rattle.md_report.specs.declared.line.Line.TheVariants as lines
 pub data PlainLine : Type 0 where
   head : Mode → PlainLine
   tree : Option PlainTree → PlainLine
+  applied : Option PlainTree → PlainLine
+  refused : EditReason → PlainLine
   end : PlainLine
 
 -- the plain line that a line of the program is
 abbrev pub plain_line : Line → PlainLine
 plain_line (lines.Head mode) = head mode
 plain_line (lines.Tree t) = tree (plain_option t)
+plain_line (lines.Applied t) = applied (plain_option t)
+plain_line (lines.Refused reason) = refused reason
 plain_line lines.End = end
+
+-- what a report over graphs is about
+abbrev pub mode_of : GraphMode → Mode
+mode_of graph_modes.Tree = modes.Tree
 
 -- the word of a mode
 abbrev pub mode_word : Mode → List ℕ
 mode_word modes.Tree = codes "tree"
+mode_word modes.Edit = codes "edit"
+
+-- the words of a reason
+abbrev pub reason_words : EditReason → List ℕ
+reason_words Same = codes "same"
+reason_words (NoVertex v) = codes "vertex " ++ decimal v
+reason_words (NameTaken v) = codes "taken " ++ decimal v
+reason_words EdgeThere = codes "edge-there"
+reason_words EdgeAbsent = codes "edge-absent"
 
 -- the text of a line, without a line feed
 abbrev pub line_text : PlainLine → List ℕ
 line_text (head mode) = codes "mdt " ++ mode_word mode
 line_text (tree t) = codes "t " ++ text_of t
+line_text (applied t) = codes "ok " ++ text_of t
+line_text (refused reason) = codes "no " ++ reason_words reason
 line_text end = codes "end"
 
 -- a line with its line feed

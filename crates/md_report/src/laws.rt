@@ -1,10 +1,15 @@
 //! The laws of reports, each the contract of a function that does nothing.
 
-ghost use Rattle.md_report.specs.Laws.{LinesLeadIfFirst, FrontsBeginReports};
+ghost use Rattle.md_report.specs.Laws.{LinesLeadIfFirst, SessionReportsAreRuns, FrontsBeginReports};
 
 /// Lines are the first lines of a whole report exactly where each may come at the place to which those before it lead.
 pub fn lines_lead_if_first()
     ensures { LinesLeadIfFirst }
+{}
+
+/// A whole report of a session is the head, the tree of the first state, the lines of the run over the script, and the end.
+pub fn session_reports_are_runs()
+    ensures { SessionReportsAreRuns }
 {}
 
 /// A text begins a whole report exactly where it is a front by places: the text of lines that lead to a place, and the

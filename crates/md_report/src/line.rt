@@ -1,18 +1,47 @@
 //! The lines of a report.
 ghost use Rattle.std.specs.Prelude.{◌≡◌, ◌++◌, IfOk};
+ghost use Rattle.md_text.specs.Numbers.{decimal};
 ghost use Rattle.md_tree.specs.Plain.{plain_option};
 ghost use Rattle.md_tree.specs.TreeTexts.{text_of};
-ghost use Rattle.md_report.specs.Lines.{plain_line, mode_word, line_text};
+ghost use Rattle.md_report.specs.Lines.{plain_line, mode_word, reason_words, line_text};
 
 use md_graph::Memory;
+use md_script::EditReason;
+use md_text::push_decimal;
 use md_tree::Tree;
 use std::alloc::Global;
+
+/// No name has more digits.
+const MOST_DIGITS: usize = 10;
 
 /// What a report is about.
 #[derive(Clone, Copy, Debug, PartialEq, Eq)]
 pub enum Mode {
     /// The trees of the strong modules of graphs.
     Tree,
+    /// The tree of a graph, and of the graph that each edit of a script leaves.
+    Edit,
+}
+
+/// What a report over the graphs of a file says of each of them.
+#[derive(Clone, Copy, Debug, PartialEq, Eq)]
+pub enum GraphMode {
+    /// Its tree of strong modules.
+    Tree,
+}
+
+impl GraphMode {
+    ghost use Rattle.std.specs.Prelude.{◌≡◌};
+    ghost use Rattle.md_report.specs.Lines.{mode_of};
+
+    /// What the whole report is about.
+    pub fn mode(self) -> Mode
+        ensures { result ≡ mode_of self }
+    {
+        match self {
+            GraphMode::Tree => Mode::Tree,
+        }
+    }
 }
 
 /// A line of a report.
@@ -22,6 +51,10 @@ pub enum Line {
     Head(Mode),
     /// The tree of a graph, none where the graph has no vertices.
     Tree(Option<Tree>),
+    /// The edit was applied, and this is the tree of the graph that it left.
+    Applied(Option<Tree>),
+    /// The edit was refused, and the graph stays.
+    Refused(EditReason),
     /// The last line.
     End,
 }
@@ -40,6 +73,14 @@ pub fn write_line(alloc: Global, line: &Line) -> Result<Vec<u8>, Memory>
             push_bytes(&mut text, b"t ")?;
             push_tree(alloc, &mut text, tree)?;
         }
+        Line::Applied(tree) => {
+            push_bytes(&mut text, b"ok ")?;
+            push_tree(alloc, &mut text, tree)?;
+        }
+        Line::Refused(reason) => {
+            push_bytes(&mut text, b"no ")?;
+            push_reason(&mut text, *reason)?;
+        }
         Line::End => push_bytes(&mut text, b"end")?,
     }
     Ok(text)
@@ -50,7 +91,31 @@ fn mode_word(mode: Mode) -> &'static str
 {
     match mode {
         Mode::Tree => "tree",
+        Mode::Edit => "edit",
     }
+}
+
+fn push_reason(text: &mut Vec<u8>, reason: EditReason) -> Result<(), Memory>
+    ensures { IfOk result (λ _. text.new.items ≡ text.old.items ++ reason_words reason) }
+{
+    match reason {
+        EditReason::Same => push_bytes(text, b"same"),
+        EditReason::NoVertex(v) => push_named(text, b"vertex ", v),
+        EditReason::NameTaken(v) => push_named(text, b"taken ", v),
+        EditReason::EdgeThere => push_bytes(text, b"edge-there"),
+        EditReason::EdgeAbsent => push_bytes(text, b"edge-absent"),
+    }
+}
+
+fn push_named(text: &mut Vec<u8>, word: &[u8], name: u32) -> Result<(), Memory>
+    ensures { IfOk result (λ _. text.new.items ≡ text.old.items ++ (word.now ++ decimal name)) }
+{
+    push_bytes(text, word)?;
+    if text.reserve(MOST_DIGITS).is_err() {
+        return Err(Memory);
+    }
+    push_decimal(text, u64::from(name));
+    Ok(())
 }
 
 fn push_bytes(text: &mut Vec<u8>, bytes: &[u8]) -> Result<(), Memory>

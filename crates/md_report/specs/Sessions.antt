@@ -1,0 +1,43 @@
+-- Sessions: a graph that is kept under edits. The state is a graph alone; each edit has one line, and leads to one state.
+-- Source: Shamir and Sharan, A fully dynamic algorithm for modular decomposition and recognition of cographs.
+use Rattle.std.specs.Prelude.{◌≡◌, List, [], ◌∷◌, Option, Some, None}
+use Rattle.md_graph.specs.PlainGraph.{PlainGraph, adjacent}
+use Rattle.md_tree.specs.Trees.{PlainTree}
+use Rattle.md_tree.specs.StrongTrees.{IsTree}
+use Rattle.md_script.specs.declared.edit.Edit.{Edit}
+use Rattle.md_script.specs.declared.edit.EditReason.{EditReason}
+use Rattle.md_script.specs.Edit.{reason_of, after}
+use Rattle.md_report.specs.Lines.{PlainLine, applied, refused}
+
+-- the line is one with the tree of strong modules of g
+abbrev pub HasTreeLine : (Option PlainTree → PlainLine) → PlainGraph → PlainLine → Type 0
+HasTreeLine made g line = (t : Option PlainTree) × IsTree (adjacent g) g.vertices t × (line ≡ made t)
+
+-- the line of an edit at g, by the reason against it: the reason, or the tree of the graph after the edit
+abbrev pub IsLineBy : Option EditReason → PlainGraph → Edit → PlainLine → Type 0
+IsLineBy (Some reason) g edit line = line ≡ refused reason
+IsLineBy None g edit line = HasTreeLine applied (after g edit) line
+
+-- the state after an edit at g, by the reason against it: g stays where there is one
+abbrev pub state_by : Option EditReason → PlainGraph → Edit → PlainGraph
+state_by (Some reason) g edit = g
+state_by None g edit = after g edit
+
+-- the line of an edit at g
+abbrev pub IsStepLine : PlainGraph → Edit → PlainLine → Type 0
+IsStepLine g edit line = IsLineBy (reason_of g edit) g edit line
+
+-- the state after an edit at g
+abbrev pub state_after : PlainGraph → Edit → PlainGraph
+state_after g edit = state_by (reason_of g edit) g edit
+
+-- one step of a session: the line of the edit, and the state that it leaves
+pub record SessionStep (g : PlainGraph) (edit : Edit) (line : PlainLine) (next : PlainGraph) : Type 0 where
+  pub line_is : IsStepLine g edit line
+  pub next_is : next ≡ state_after g edit
+
+-- the run of a session over a script: one line for each edit, each at the state that those before it leave
+abbrev pub SessionRun : PlainGraph → List Edit → List PlainLine → Type 0
+SessionRun g [] lines = lines ≡ []
+SessionRun g (edit ∷ edits) [] = ⊥
+SessionRun g (edit ∷ edits) (line ∷ lines) = IsStepLine g edit line × SessionRun (state_after g edit) edits lines

@@ -1,0 +1,67 @@
+//! Sessions on any graph: the tree is computed anew after each edit.
+ghost use Rattle.std.specs.Prelude.{◌≡◌, IfOk, IsErr};
+ghost use Rattle.md_graph.specs.PlainGraph.{adjacent};
+ghost use Rattle.md_tree.specs.StrongTrees.{IsTree};
+ghost use Rattle.md_tree.specs.Plain.{plain_option};
+ghost use Rattle.md_script.specs.Edit.{HasNames};
+ghost use Rattle.md_report.specs.Lines.{plain_line};
+ghost use Rattle.md_report.specs.Sessions.{SessionStep};
+
+use md_decompose::decompose;
+use md_graph::{Graph, Memory, Names};
+use md_report::Line;
+use md_script::{Edit, reason};
+use md_tree::Tree;
+use std::alloc::Global;
+use std::marker::Model;
+
+/// A session on any graph. It keeps the graph alone.
+#[derive(Drop)]
+pub struct GeneralSession {
+    graph: Graph,
+}
+
+impl Model for GeneralSession {
+    ghost use Rattle.md_graph.specs.PlainGraph.{PlainGraph, graph_code};
+
+    ghost Value = { PlainGraph };
+
+    ghost coded = { graph_code };
+
+    ghost view = { λ s. s.graph };
+}
+
+impl GeneralSession {
+    /// The session whose graph is the one handed in.
+    pub fn new(graph: Graph) -> GeneralSession
+        ensures { result ≡ graph }
+    {
+        GeneralSession { graph }
+    }
+
+    /// The tree of strong modules of the graph, none where it has no vertices. Errors: want of memory.
+    pub fn tree(&self, alloc: Global) -> Result<Option<Tree>, Memory>
+        ensures { IfOk result (λ tree. IsTree (adjacent self.now) self.now.vertices (plain_option tree)) }
+    {
+        decompose(alloc, &self.graph)
+    }
+
+    /// Answers an edit: refuses it where there is a reason against it, and the graph stays; else changes the graph, and
+    /// gives its tree. Condition: the names in the edit are names. Errors: want of memory; the graph then stays.
+    pub fn apply(&mut self, alloc: Global, edit: &Edit) -> Result<Line, Memory>
+        requires { HasNames edit.now }
+        ensures step { IfOk result (λ line. SessionStep self.old edit.now (plain_line line) self.new) }
+        ensures stays { IsErr result → self.new ≡ self.old }
+    {
+        if let Some(reason) = reason(&self.graph, edit) {
+            return Ok(Line::Refused(reason));
+        }
+        let row = row_at(&self.graph, edit);
+        md_script::apply(&mut self.graph, edit);
+        if let Ok(tree) = decompose(alloc, &self.graph) {
+            return Ok(Line::Applied(tree));
+        }
+        take_back(&mut self.graph, edit, &row);
+        Err(Memory)
+    }
+}

@@ -1,0 +1,6 @@
+//! Sessions: a graph that is kept under edits.
+#![tactic(auto)]
+
+mod general;
+
+pub use general::GeneralSession;
