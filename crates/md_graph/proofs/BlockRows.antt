@@ -1,20 +1,19 @@
 -- Blocks of 64 by 64 edges, joined to the rows of a graph.
-use Rattle.std.proofs.Common.{◌≡◌, ℕ, ◌+◌, ◌-◌, ◌*◌, ◌/◌, ◌%◌, ◌<◌, ◌≤◌, ◌≢◌, Bool, true, false, not, cond, ◌&&◌, ◌||◌, ◌==◌, nat_lt, nat_le, ltb, leb, List, length, get_or, refl, sym, ap, ap₂, ◌∙◌, subst, arith, inl, inr, set as set_at}
+use Rattle.std.proofs.Common.{◌≡◌, ℕ, ◌+◌, ◌-◌, ◌/◌, ◌%◌, ◌<◌, ◌≤◌, ◌≢◌, Bool, true, false, ◌&&◌, ◌||◌, ◌==◌, ltb, leb, List, length, get_or, refl, sym, ap, ap₂, ◌∙◌, arith, inl, inr, set as set_at}
 use Rattle.std.specs.Int.{bit_at}
-use Rattle.std.proofs.lemmas.Bool.{cases_eq, cases_Bool, cases_lt, eq-eqb, ne_eqb, or_cases, false_from_ne_true, true≢false}
+use Rattle.std.proofs.lemmas.Bool.{cases_eq, cases_lt, eq-eqb, ne_eqb, or_cases, false_from_ne_true}
 use Rattle.std.proofs.lemmas.Bool.Decides.{nat_tests}
 use Rattle.std.proofs.lemmas.Nat.Bits.{bit_at-zero}
 use Rattle.std.proofs.lemmas.List.{get_or_read, get_or-set_same, get_or-set_other}
 use Rattle.std.specs.List.{refill}
 use Rattle.std.specs.FinSet as set
-use Rattle.md_graph.specs.declared.TheConstants.{NAMES}
 use Rattle.md_graph.specs.NameSet.{NameSet, Member, block}
-use Rattle.md_graph.specs.PlainGraph.{PlainGraph, IsGraph, adjacent}
+use Rattle.md_graph.specs.PlainGraph.{PlainGraph, adjacent}
 use Rattle.md_graph.specs.Rows.{row_of, graph_of, AreRows}
 use Rattle.md_graph.specs.Blocks.{in_block, IsWithBlock}
 use Rattle.md_graph.proofs.SetLaws.{contains-union}
 use Rattle.md_graph.proofs.BitWords.{contains-block_below}
-use Rattle.md_graph.proofs.GraphLemmas.{IsGraph-graph_of, adjacent-graph_of, adjacent_sym, adjacent_self}
+use Rattle.md_graph.proofs.GraphLemmas.{IsGraph-graph_of, adjacent-graph_of}
 use Rattle.md_graph.proofs.RowLemmas.{refilled}
 
 -- ---- one row
@@ -123,6 +122,16 @@ both_sides old mid new words turned low high transposed first second u v =
     ∙ ap₂ (λ a b. a || b) (first u v) (turn_tests (u / 64 == low / 64) (v / 64 == high / 64) _ _ (transposed (u % 64) (v % 64) (omega arith) (omega arith)))
     ∙ or_assoc (set.contains (row_of old u) v) (in_block words high low u v) (in_block words high low v u)
 
+nothing_more : (a b c d e : Bool) → a ≡ (a || ((b && (c && false)) || (d && (e && false))))
+nothing_more a b c d e = grind arith
+
+-- a block without bits
+pub no_sides : (rows : List NameSet) (words : List ℕ) (low high : ℕ) → ((k i : ℕ) → k < 64 → i < 64 → bit_at (get_or words k 0) i ≡ 0) → (u v : ℕ)
+    → set.contains (row_of rows u) v ≡ (set.contains (row_of rows u) v || (in_block words high low u v || in_block words high low v u))
+no_sides rows words low high none u v =
+    rw (none (u % 64) (v % 64) (omega arith) (omega arith), none (v % 64) (u % 64) (omega arith) (omega arith))
+    (nothing_more (set.contains (row_of rows u) v) (u / 64 == high / 64) (v / 64 == low / 64) (v / 64 == high / 64) (u / 64 == low / 64))
+
 -- ---- the graph
 
 or_swap : (a b c : Bool) → (a || (b || c)) ≡ (a || (c || b))
@@ -153,9 +162,11 @@ rows_add_block {live} {rows} {g} a e low high words ends n old ws len same kept 
         ]
       ];
       names = a.names;
-    } in
-    (made, record {
-      vertices = ap (λ h. h.vertices) e;
-      graph = IsGraph-graph_of made;
-      edges = λ u v. adjacent-graph_of made u v ∙ law u v ∙ ap (λ b. b || (in_block words high low u v || in_block words high low v u)) (sym (adjacent-graph_of a u v) ∙ ap (λ h. adjacent h u v) e);
-    })
+    } in (
+      made,
+      record {
+        vertices = ap (λ h. h.vertices) e;
+        graph = IsGraph-graph_of made;
+        edges = λ u v. adjacent-graph_of made u v ∙ law u v ∙ ap (λ b. b || (in_block words high low u v || in_block words high low v u)) (sym (adjacent-graph_of a u v) ∙ ap (λ h. adjacent h u v) e);
+      },
+    )

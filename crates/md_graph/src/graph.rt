@@ -7,6 +7,7 @@ ghost use Rattle.md_graph.specs.PlainGraph.{adjacent, neighbours, IsGraph, empty
 ghost use Rattle.md_graph.specs.Rows.{row_of};
 ghost use Rattle.md_graph.specs.Blocks.{in_block, IsWithBlock};
 
+use crate::names::are_all_zero;
 use crate::transposition::transposed;
 use crate::{Memory, NAMES, Names};
 use std::alloc::Global;
@@ -287,6 +288,9 @@ fn join_block(rows: &mut [Names], low: u32, high: u32, block: &[u64; 64])
     ensures { (u v : ℕ) → set.contains (row_of rows.new u) v ≡ (set.contains (row_of rows.old u) v
         || (in_block block.now high low u v || in_block block.now high low v u)) }
 {
+    if are_all_zero(block, 64) {
+        return;
+    }
     join_rows(rows, high, low, block);
     join_rows(rows, low, high, &transposed(block));
 }

@@ -422,7 +422,7 @@ fn count_bits(words: &[u64], used: usize) -> u32
 }
 
 /// Whether the first `used` words are 0.
-fn are_all_zero(words: &[u64], used: usize) -> bool
+pub(crate) fn are_all_zero(words: &[u64], used: usize) -> bool
     requires { used ≤ length words.now }
     ensures { IsTrue result
         ↔ ((k i : ℕ) → k < used → i < 64 → bit_at (slice_index words.now k) i ≡ 0) }

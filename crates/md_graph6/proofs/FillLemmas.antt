@@ -1,5 +1,5 @@
 -- Blocks of a body and the graph that they make.
-use Rattle.std.proofs.Common.{◌≡◌, ℕ, zero, suc, ◌+◌, ◌-◌, ◌*◌, ◌/◌, ◌%◌, ◌<◌, ◌≤◌, ◌≢◌, Bool, true, false, ◌&&◌, ◌||◌, ◌==◌, nat_lt, min, List, length, get_or, replicate, refl, sym, ap, ap₂, ◌∙◌, arith, inl, inr, if◌then◌else◌, ltb-true, get_or-set_same, get_or-set_other, set as set_at}
+use Rattle.std.proofs.Common.{◌≡◌, ℕ, ◌+◌, ◌-◌, ◌*◌, ◌/◌, ◌%◌, ◌<◌, ◌≤◌, ◌≢◌, Bool, true, false, ◌&&◌, ◌||◌, ◌==◌, nat_lt, min, List, length, get_or, replicate, refl, sym, ap, ap₂, ◌∙◌, arith, inl, inr, if◌then◌else◌, ltb-true, get_or-set_same, get_or-set_other, set as set_at}
 use Rattle.std.specs.Int.{bit_at}
 use Rattle.std.proofs.lemmas.Bool.{cases_eq, eq-eqb, ne_eqb, true≢false}
 use Rattle.std.proofs.lemmas.Bool.Decides.{nat_tests}
@@ -9,7 +9,7 @@ use Rattle.md_graph.specs.NameSet.{Member}
 use Rattle.md_graph.specs.Blocks.{in_block, IsWithBlock}
 use Rattle.md_graph.proofs.BitWords.{get_or-zeros}
 use Rattle.md_graph.proofs.SetLaws.{contains-empty, contains-insert}
-use Rattle.md_graph.specs.PlainGraph.{PlainGraph, adjacent, empty_graph, with_vertex}
+use Rattle.md_graph.specs.PlainGraph.{PlainGraph, empty_graph, with_vertex}
 use Rattle.md_graph.specs.declared.TheConstants.{NAMES}
 use Rattle.md_graph.proofs.GraphLemmas.{IsGraph-empty_graph, adjacent-empty_graph, IsGraph-with_vertex, adjacent-with_vertex}
 use Rattle.md_graph6.specs.Bits.{bit, pair_number, IsBodyOf}

@@ -1,5 +1,8 @@
-use Rattle.md_graph.proofs.BlockRows.{both_sides}
+use Rattle.md_graph.proofs.BlockRows.{no_sides, both_sides}
 use Rattle.md_graph.proofs.graph.join_block.Goals as goal
+
+pub returns-then-are_all_zero : goal.returns-then-are_all_zero
+returns-then-are_all_zero c = no_sides c.args.rows.now c.args.block.now c.args.low c.args.high (c.are_all_zero.ensures.0 c.if-are_all_zero.true)
 
 pub returns : goal.returns
 returns c =
