@@ -169,9 +169,6 @@ pub record HasReadLines (all : List (List ℕ)) (count : ℕ) (rest : List (List
   pub each : spelled_by all ≡ map Some edits ++ spelled_by rest
   pub fault : fault_behind 0 0 all ≡ fault_behind (length edits) count rest
 
-pub no_lines_read : (all : List (List ℕ)) (edits : List Edit) → edits ≡ [] → HasReadLines all 0 all edits
-no_lines_read all edits none = subst (HasReadLines all 0 all) (sym none) (record { each = refl; fault = refl })
-
 map-push : (edits : List Edit) (edit : Edit) (more : List (Option Edit)) → map Some edits ++ Some edit ∷ more ≡ map Some (edits ++ edit ∷ []) ++ more
 map-push [] edit more = refl
 map-push (first ∷ edits) edit more = ap (λ l. Some first ∷ l) (map-push edits edit more)

@@ -3,7 +3,6 @@ use Rattle.std.specs.Prelude.{◌≡◌, ℕ, List, [], ◌∷◌, ◌++◌, Opt
 use Rattle.std.specs.Option.{option_or}
 use Rattle.std.proofs.Common.{subst, ap, sym, ◌∙◌, append_assoc}
 use Rattle.std.proofs.lemmas.List.{append-nil}
-use Rattle.std.specs.Ordering.{nat_cmp}
 use Rattle.std.specs.FinSet as set
 use Rattle.std.specs.FinSet.{nat_cmp-IsAntisymmetric}
 use Rattle.std.specs.Cmp.{nat_cmp_total}
@@ -26,21 +25,6 @@ pub record HasRead (whole rest : List (List ℕ)) (s : NameSet) : Type 0 where
   pub names : names_of whole ≡ option_map (λ more. done ++ more) (names_of rest)
   pub members : s ≡ set.from_list done
   pub fault : names_fault whole ≡ names_fault rest
-
-nothing_before : (o : Option (List ℕ)) → o ≡ option_map (λ more. [] ++ more) o
-nothing_before None = refl
-nothing_before (Some xs) = refl
-
-from_no_list : set.from_list {R = nat_cmp} [] ≡ set.empty
-from_no_list = refl
-
-pub read_none : (whole : List (List ℕ)) (s : NameSet) → s ≡ set.empty → HasRead whole whole s
-read_none whole s empty = record {
-  done = [];
-  names = nothing_before (names_of whole);
-  members = empty ∙ sym from_no_list;
-  fault = refl;
-}
 
 one_before : (done : List ℕ) (v : ℕ) (o : Option (List ℕ)) → option_map (λ more. done ++ more) (before_names (Some v) o) ≡ option_map (λ more. (done ++ v ∷ []) ++ more) o
 one_before done v None = refl

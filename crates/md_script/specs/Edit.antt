@@ -27,19 +27,22 @@ ends_reason g u v =
     else (if not (set.contains g.vertices v) then Some (NoVertex v)
     else None))
 
--- the least of the ascending neighbours that is no vertex of g
+-- the first of the neighbours that is no vertex of g: the least, as they are ascending
 abbrev pub least_absent : PlainGraph → List ℕ → Option ℕ
 least_absent g neighbours = find (λ v. not (set.contains g.vertices v)) neighbours
 
--- the first reason why an edit can't be applied to g, if one holds
+-- the first reason why an edit can't be applied to g, if one holds: the ends of an edge are looked at before
+-- the edge, and the neighbours of a new vertex before its name
 abbrev pub reason_of : PlainGraph → Edit → Option EditReason
 reason_of g (AddEdge u v) = option_or (ends_reason g u v) (then_some (adjacent g u v) EdgeThere)
 reason_of g (DelEdge u v) = option_or (ends_reason g u v) (then_some (not (adjacent g u v)) EdgeAbsent)
 reason_of g (AddVertex x neighbours) =
-    option_or (option_map NoVertex (least_absent g neighbours)) (then_some (set.contains g.vertices x) (NameTaken x))
+    option_or (option_map NoVertex (least_absent g neighbours))
+    (then_some (set.contains g.vertices x) (NameTaken x))
 reason_of g (DelVertex x) = then_some (not (set.contains g.vertices x)) (NoVertex x)
 
--- g with a vertex or an edge more, or without one, and with it the edges at it
+-- g with the edge or without it; with the vertex and its edges to the neighbours; without the vertex and the
+-- edges at it
 abbrev pub after : PlainGraph → Edit → PlainGraph
 after g (AddEdge u v) = with_edge g u v
 after g (DelEdge u v) = without_edge g u v

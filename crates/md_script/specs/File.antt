@@ -11,7 +11,8 @@ use Rattle.md_script.specs.Line.{words, is_skipped, edit_of, fault_of_words}
 abbrev pub edit_lines : List (List ℕ) → List (List (List ℕ))
 edit_lines all = filter (λ ws. not (is_skipped ws)) (map words all)
 
--- The bytes spell a script: each line that isn't skipped spells one edit, in order, and there are not too many.
+-- The bytes spell a script: each line that isn't skipped spells one edit, in order, and there are not too
+-- many.
 pub record SpellsScript (bytes : List ℕ) (edits : List Edit) : Type 0 where
   pub each : map edit_of (edit_lines (lines bytes)) ≡ map Some edits
   pub few : length edits ≤ EDITS

@@ -24,9 +24,11 @@ SpelledHasNames = (bytes : List ℕ) (edits : List Edit) → SpellsScript bytes 
 
 -- an edit that can be applied to a graph gives a graph
 abbrev pub GivesGraph : Type 0
-GivesGraph = (g : PlainGraph) (edit : Edit) → IsGraph g → HasNames edit → reason_of g edit ≡ None → IsGraph (after g edit)
+GivesGraph = (g : PlainGraph) (edit : Edit) → IsGraph g → HasNames edit → reason_of g edit ≡ None
+    → IsGraph (after g edit)
 
 -- of ascending neighbours the one that is named is the least of those that are no vertices
 abbrev pub NamesLeast : Type 0
 NamesLeast = (g : PlainGraph) (neighbours : List ℕ) (v : ℕ) → IsStrictlyIncreasing neighbours
-    → least_absent g neighbours ≡ Some v → IsLeastFrom (set.difference (set.from_list neighbours) g.vertices) 0 v
+    → least_absent g neighbours ≡ Some v
+    → IsLeastFrom (set.difference (set.from_list neighbours) g.vertices) 0 v

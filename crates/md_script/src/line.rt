@@ -57,7 +57,7 @@ pub(crate) enum Refusal {
     Memory,
 }
 
-// The word that a field is, if it is one.
+// The word that a field is, if it is one of the four.
 #[tactic(auto, unfolding(crate::specs::Line::word_of))]
 fn edit_word(field: &[u8]) -> Option<EditWord>
     ensures { result ≡ word_of field.now }
@@ -78,7 +78,7 @@ fn edit_word(field: &[u8]) -> Option<EditWord>
 }
 
 // Reads the line of an edit by its first field and what stands behind it. Only the neighbours of a new
-// vertex take memory; `names` is a set to gather them in, whose members go.
+// vertex take memory. They are gathered in `names`; what it held is lost.
 pub(crate) fn read_edit(
     alloc: Global,
     first: &[u8],
@@ -181,7 +181,8 @@ fn checked_ends(first: Option<u64>, second: Option<u64>) -> Result<(u32, u32), S
     ensures first { IfOk result (λ p. name_in first ≡ Some p.0) }
     ensures second { IfOk result (λ p. name_in second ≡ Some p.1) }
     ensures faultless { OnOk result (option_or (number_fault first) (number_fault second) ≡ None) }
-    ensures fault { IfErr result (λ kind. option_or (number_fault first) (number_fault second) ≡ Some kind) }
+    ensures fault { IfErr result
+        (λ kind. option_or (number_fault first) (number_fault second) ≡ Some kind) }
 {
     let u = checked_name(first)?;
     let v = checked_name(second)?;

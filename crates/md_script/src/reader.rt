@@ -11,7 +11,8 @@ use md_graph::Names;
 use md_text::{split_field, split_line, without_return};
 use std::alloc::Global;
 
-/// Reads the script that bytes spell: one edit for each line that isn't skipped.
+/// Reads the script that bytes spell: one edit for each line that isn't skipped. Besides the script, only the
+/// neighbours of new vertices take memory.
 ///
 /// # Errors
 ///
@@ -38,7 +39,8 @@ pub fn read_script(alloc: Global, bytes: &[u8]) -> Result<Script, ScriptFault>
     Ok(Script::from_list(edits))
 }
 
-// Reads one line, and puts its edit behind the others, unless it is skipped; `names` is a set to work with.
+// Reads one line, and puts its edit behind the others, unless it is skipped. Neighbours are gathered in
+// `names`; what it held is lost.
 fn read_line(
     alloc: Global,
     line: &[u8],

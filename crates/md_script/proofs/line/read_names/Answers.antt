@@ -1,10 +1,7 @@
 use Rattle.md_text.specs.Fields.{fields}
 use Rattle.std.proofs.lemmas.Result.{err_from_is_err_and}
-use Rattle.md_script.proofs.LineLemmas.{read_none, read_more, read_refused, read_all, read_faultless}
+use Rattle.md_script.proofs.LineLemmas.{read_more, read_refused, read_all, read_faultless}
 use Rattle.md_script.proofs.line.read_names.Goals as goal
-
-pub loop-number-init : goal.loop-number-init
-loop-number-init c = read_none (fields c.args.text.now) c.clear.new.self c.clear.ensures
 
 pub returns-in_err-checked_name-clause-fault : goal.returns-in_err-checked_name-clause-fault
 returns-in_err-checked_name-clause-fault c =
