@@ -1,4 +1,4 @@
 pub mod Components
 pub mod Pushes
 pub mod Heads
-pub mod HeadPairs
+pub mod Links
