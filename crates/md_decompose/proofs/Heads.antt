@@ -1,23 +1,32 @@
 -- The least names of sets in order.
-use Rattle.std.proofs.Common.{◌≡◌, ℕ, zero, suc, ◌+◌, ◌<◌, ◌≤◌, ◌⊎◌, List, AllPairs, length, get_or, sym, ap, subst, inl, inr, arith}
+use Rattle.std.proofs.Common.{◌≡◌, ℕ, zero, suc, ◌+◌, ◌<◌, ◌≤◌, ◌⊎◌, List, AllPairs, length, get_or, sym, ◌∙◌, ap, subst, inl, inr, arith}
 use Rattle.std.proofs.lemmas.Bool.{cases_lt}
+use Rattle.std.proofs.lemmas.List.{get_or_default}
 use Rattle.std.specs.FinSet.{empty, insert}
-use Rattle.md_graph.specs.NameSet.{IsLeastFrom}
-use Rattle.md_modules.specs.Sets.{NameSet, Has}
+use Rattle.md_graph.specs.NameSet.{IsLeastFrom, NoneFrom}
+use Rattle.md_modules.specs.Sets.{NameSet, Has, HasSome}
 use Rattle.md_modules.proofs.Sets.{clash, empty_lacks, insert_new, insert_old, of_insert}
 use Rattle.md_tree.specs.StrongTrees.{IsBefore}
 use Rattle.md_decompose.specs.Children.{set_at}
 use Rattle.md_decompose.specs.Heads.{AreHeads, AreNames, Rise, AreNamesOf}
 
 -- below n + 1 is below n, or n
-pub below_or_last : (k n : ℕ) → k < n + 1 → (k < n) ⊎ (k ≡ n)
+below_or_last : (k n : ℕ) → k < n + 1 → (k < n) ⊎ (k ≡ n)
 below_or_last k n b = elim (cases_lt k n) [ inl l ↦ inl l | inr l ↦ inr (omega arith) ]
 
--- ---- the list of the heads
+-- ---- the list
 
+-- the heads of the first n sets, which are names
 pub record IsHeading (cs : List NameSet) (n : ℕ) (heads : List ℕ) : Type 0 where
   pub heads_of : AreHeads cs n heads
   pub names : AreNames heads
+
+-- each set has a head
+pub no_heads : {A : Type 0} (cs : List NameSet) (n : ℕ) (c : NameSet) → ((k : ℕ) → k < length cs → HasSome (set_at cs k)) → n < length cs → c ≡ get_or cs n c → NoneFrom c 0 → A
+no_heads cs n c some room is none =
+    let x : HasSome (set_at cs n) = some n room in
+    let b : x.0 < 0 = none x.0 (subst (λ t. Has t x.0) (sym (is ∙ get_or_default cs n c empty room)) x.1) in
+    absurd (omega arith)
 
 module _ (cs : List NameSet) (order : AllPairs IsBefore cs) where
   -- the least name of an earlier set is below all names of a later one

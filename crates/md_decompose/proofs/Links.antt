@@ -1,5 +1,5 @@
 -- The pairs of adjacent heads, put down one head after the other, and for each head one later head after the other.
-use Rattle.std.proofs.Common.{◌≡◌, ◌≢◌, ℕ, ◌+◌, ◌<◌, ◌≤◌, Bool, true, List, [], ◌∷◌, ◌++◌, Contains, length, get_or, refl, sym, ◌∙◌, ap, subst, inl, inr, arith}
+use Rattle.std.proofs.Common.{◌≡◌, ◌≢◌, ℕ, ◌+◌, ◌<◌, ◌≤◌, Bool, true, List, [], ◌∷◌, ◌++◌, length, get_or, refl, sym, ◌∙◌, ap, subst, inl, inr, arith}
 use Rattle.std.proofs.Math.ListN.{get_or-eq_default}
 use Rattle.std.proofs.lemmas.Bool.{cases_lt}
 use Rattle.std.specs.FinSet.{empty, intersection}
@@ -20,7 +20,6 @@ use Rattle.md_tree.specs.declared.Pair.{Pair}
 use Rattle.md_tree.proofs.Lists.{In, of_contains, to_contains, in_get, in_left, in_right, of_append, of_pairs, to_pairs, later_append}
 use Rattle.md_decompose.specs.Children.{AreChildren, ListsPairs, AreJoined, set_at}
 use Rattle.md_decompose.specs.Heads.{AreHeads, Rise, AreNamesOf, AreLinked, ComesBefore, ListsLinks}
-use Rattle.md_decompose.proofs.Heads.{head_below, rise_back}
 
 no_pair : (i j x : ℕ) → (i ≡ x) × (j < 0) → ⊥
 no_pair i j x w = let l : j < 0 = w.1 in omega arith

@@ -41,7 +41,7 @@ fn heads_of(alloc: Global, sets: &[Names]) -> Result<Vec<u32>, Memory>
     };
     for set in sets {
         let Some(head) = set.first_from(0) else {
-            return Err(Memory);
+            return Ok(heads);
         };
         if heads.push(head).is_err() {
             return Err(Memory);

@@ -1,4 +1,4 @@
-use Rattle.std.proofs.Common.{length, sym, ap, subst}
+use Rattle.std.proofs.Common.{length, sym, subst}
 use Rattle.md_graph.specs.PlainGraph.{adjacent}
 use Rattle.md_decompose.specs.Heads.{Rise, ListsLinks}
 use Rattle.md_decompose.proofs.Heads.{heads_rise}
