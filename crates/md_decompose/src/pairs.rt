@@ -1,13 +1,12 @@
 //! The pairs of children that a prime node lists.
-ghost use Rattle.std.specs.Prelude.{◌≡◌, ◌+◌, ◌<◌, ◌≤◌, ℕ, IfOk, AllPairs, length, slice_index};
+ghost use Rattle.std.specs.Prelude.{◌≡◌, ◌+◌, ◌<◌, ◌≤◌, ℕ, IfOk, length, slice_index};
 ghost use Rattle.md_graph.specs.PlainGraph.{adjacent};
-ghost use Rattle.md_modules.specs.Sets.{NameSet, Has, HasSome, Within};
+ghost use Rattle.md_modules.specs.Sets.{HasSome, Within};
 ghost use Rattle.md_modules.specs.Kinds.{IsPrime};
-ghost use Rattle.md_tree.specs.StrongTrees.{IsBefore};
 ghost use Rattle.md_decompose.specs.Children.{AreChildren, ListsPairs, set_at};
 ghost use Rattle.md_decompose.specs.Heads.{AreHeads, AreNames, Rise, AreNamesOf, ListsLinks};
 
-use md_graph::{Graph, Memory, NAMES, Names};
+use md_graph::{Graph, Memory, Names};
 use md_tree::{Pair, QuotientEdges};
 use std::alloc::Global;
 
