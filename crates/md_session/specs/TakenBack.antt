@@ -1,6 +1,6 @@
 -- Edits that are taken back: the graph before an edit, by the graph after it and the row that the edit took away.
 -- Source: the plain changes of the sets of vertices and edges.
-use Rattle.std.specs.Prelude.{◌≡◌, ℕ, None}
+use Rattle.std.specs.Prelude.{◌≡◌, None}
 use Rattle.std.specs.FinSet as set
 use Rattle.md_graph.specs.NameSet.{NameSet}
 use Rattle.md_graph.specs.PlainGraph.{PlainGraph, IsGraph, neighbours}
