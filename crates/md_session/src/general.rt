@@ -7,8 +7,9 @@ ghost use Rattle.md_script.specs.Edit.{HasNames};
 ghost use Rattle.md_report.specs.Lines.{plain_line};
 ghost use Rattle.md_report.specs.Sessions.{SessionStep};
 
+use crate::undo::{row_at, take_back};
 use md_decompose::decompose;
-use md_graph::{Graph, Memory, Names};
+use md_graph::{Graph, Memory};
 use md_report::Line;
 use md_script::{Edit, reason};
 use md_tree::Tree;

@@ -2,5 +2,9 @@
 #![tactic(auto)]
 
 mod general;
+mod undo;
 
 pub use general::GeneralSession;
+
+#[cfg(test)]
+mod tests;
