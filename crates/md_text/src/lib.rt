@@ -2,7 +2,8 @@
 //!
 //! A text is a slice of bytes. `split_line` and `split_field` take one line or one field off the
 //! front, `number` reads a field, and `push_decimal` writes a number. A `Piece` is a text of a few bytes
-//! that is made once and then copied whole, many times. None of them takes memory.
+//! that is made once and then copied whole, many times; pieces are gathered in a chunk, which `make_room`
+//! appends to a text when it is full. None of the others takes memory.
 #![tactic(auto)]
 
 mod cut;
@@ -14,7 +15,7 @@ mod spelling;
 pub use cut::{split_field, split_line, split_number, without_return};
 pub use digits::{DIGITS, number, push_decimal};
 pub use piece::Piece;
-pub use spelling::{digits_piece, number_piece, piece_behind, put_piece};
+pub use spelling::{digits_piece, make_room, number_piece, piece_behind, put_piece};
 
 #[cfg(test)]
 mod tests;
