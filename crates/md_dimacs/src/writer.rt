@@ -167,11 +167,5 @@ fn make_room(chunk: &[u8], at: usize, text: &mut Vec<u8>) -> Result<usize, Memor
     ensures same { IfOk result (λ after. text.new.items ++ take after chunk.now
         ≡ text.old.items ++ take at chunk.now) }
 {
-    if at + 16 * 64 <= CHUNK {
-        return Ok(at);
-    }
-    if text.extend_from_slice(&chunk[..at]).is_err() {
-        return Err(Memory);
-    }
-    Ok(0)
+    md_text::make_room(chunk, at, 16 * 64, text).map_err(|_| Memory)
 }
