@@ -36,3 +36,15 @@ pub(crate) fn push_number(text: &mut Vec<u8>, number: u32) -> Result<(), Memory>
     push_decimal(text, u64::from(number));
     Ok(())
 }
+
+// Appends a byte and the digits of a number.
+pub(crate) fn push_marked(text: &mut Vec<u8>, mark: u8, number: u32) -> Result<(), Memory>
+    ensures { IfOk result (λ _. text.new.items ≡ text.old.items ++ mark ∷ decimal number) }
+{
+    if text.reserve(1 + MOST_DIGITS).is_err() {
+        return Err(Memory);
+    }
+    text.push_reserved(mark);
+    push_decimal(text, u64::from(number));
+    Ok(())
+}

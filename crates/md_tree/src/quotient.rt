@@ -1,11 +1,11 @@
 //! Writes the pairs of a node.
-ghost use Rattle.std.specs.Prelude.{◌≡◌, ◌+◌, ◌^◌, ◌<◌, ◌≤◌, [], ◌∷◌, ◌++◌, length, take, vec_len, IfOk};
+ghost use Rattle.std.specs.Prelude.{◌≡◌, ◌+◌, ◌^◌, ◌<◌, ◌≤◌, [], ◌∷◌, ◌++◌, length, take, vec_len, IsTrue, IfOk};
 ghost use Rattle.md_text.specs.Numbers.{decimal};
 ghost use Rattle.md_text.specs.Pieces.{piece_text};
 ghost use Rattle.md_tree.specs.Positions.{ArePositions};
 ghost use Rattle.md_tree.specs.TreeTexts.{pairs_text};
 
-use crate::numbers::{push_byte, push_bytes, push_number};
+use crate::numbers::{push_bytes, push_marked};
 use crate::start::Start;
 use crate::workspace::{CHUNK, Workspace};
 use crate::{Pair, QuotientEdges};
@@ -54,6 +54,7 @@ fn spell_positions(positions: &mut Vec<Piece>, count: usize) -> Result<(), Memor
 }
 
 // The pairs behind the first.
+#[inline(never)]
 fn push_more(text: &mut Vec<u8>, pairs: &[Pair], positions: &[Piece], chunk: &mut [u8]) -> Result<(), Memory>
     requires positions { ArePositions positions.now }
     requires chunk { length chunk.old ≡ CHUNK }
@@ -85,10 +86,9 @@ fn put_pair(
     ensures written { IfOk result (λ after. text.new.items ++ take after chunk.new
         ≡ (text.old.items ++ take at chunk.old) ++ 44 ∷ (decimal pair.low ++ 45 ∷ decimal pair.high)) }
 {
-    if pair.low.max(pair.high) as usize >= positions.len() {
+    if pair.high as usize >= positions.len() || !move_to(start, pair.low) {
         return push_apart(text, pair, chunk, at);
     }
-    *start = moved(*start, pair.low);
     let Ok(at) = make_room(chunk, at, PAIR_ROOM, text) else {
         return Err(Memory);
     };
@@ -108,16 +108,19 @@ fn push_apart(text: &mut Vec<u8>, pair: Pair, chunk: &[u8], at: usize) -> Result
     Ok(0)
 }
 
-// The start with this position.
+// Gives the start another position, if it has at most five digits; says whether the start then has it.
 #[inline(always)]
-fn moved(start: Start, low: u32) -> Start
-    requires { low < 10 ^ 5 }
-    ensures { result.low ≡ low }
+fn move_to(start: &mut Start, low: u32) -> bool
+    ensures { IsTrue result → start.new.low ≡ low }
 {
     if start.low == low {
-        return start;
+        return true;
     }
-    start_at(low)
+    if low as usize >= MOST_POSITIONS {
+        return false;
+    }
+    *start = start_at(low);
+    true
 }
 
 fn start_at(low: u32) -> Start
@@ -134,8 +137,6 @@ fn push_pair(text: &mut Vec<u8>, mark: u8, pair: Pair) -> Result<(), Memory>
     ensures { IfOk result (λ _. text.new.items
         ≡ text.old.items ++ mark ∷ (decimal pair.low ++ 45 ∷ decimal pair.high)) }
 {
-    push_byte(text, mark)?;
-    push_number(text, pair.low)?;
-    push_byte(text, b'-')?;
-    push_number(text, pair.high)
+    push_marked(text, mark, pair.low)?;
+    push_marked(text, b'-', pair.high)
 }

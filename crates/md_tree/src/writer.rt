@@ -1,15 +1,14 @@
 //! Writes the text of a tree.
 ghost use Rattle.std.specs.Prelude.{◌≡◌, [], ◌∷◌, ◌++◌, map, IfOk};
-ghost use Rattle.md_text.specs.Numbers.{decimal};
-ghost use Rattle.md_tree.specs.Trees.{row};
+ghost use Rattle.md_tree.specs.Trees.{node, row};
 ghost use Rattle.md_tree.specs.Plain.{plain, plain_option};
-ghost use Rattle.md_tree.specs.TreeTexts.{letter, pairs_text, tree_text, row_text, text_of};
+ghost use Rattle.md_tree.specs.TreeTexts.{letter, tree_text, row_text, text_of};
 ghost use Rattle.md_tree.specs.declared.Children.{out-Children};
 
-use crate::numbers::{push_byte, push_bytes, push_number};
+use crate::numbers::{push_byte, push_bytes, push_marked, push_number};
 use crate::quotient::push_pairs;
 use crate::workspace::{CHUNK, Workspace};
-use crate::{Children, Kind, Tree};
+use crate::{Children, Kind, QuotientEdges, Tree};
 use md_graph::Memory;
 use std::alloc::Global;
 
@@ -39,6 +38,16 @@ pub fn push_text(alloc: Global, text: &mut Vec<u8>, tree: &Option<Tree>) -> Resu
     push_tree(text, tree, &mut space)
 }
 
+// Appends the text of a tree.
+fn push_tree(text: &mut Vec<u8>, tree: &Tree, space: &mut Workspace) -> Result<(), Memory>
+    ensures { IfOk result (λ _. text.new.items ≡ text.old.items ++ tree_text (plain tree.now)) }
+{
+    match tree {
+        Tree::Leaf(name) => push_number(text, *name),
+        Tree::Node(kind, children, edges) => push_node(text, *kind, children, edges, space),
+    }
+}
+
 fn letter(kind: Kind) -> u8
     ensures { result ≡ letter kind }
 {
@@ -49,20 +58,37 @@ fn letter(kind: Kind) -> u8
     }
 }
 
+// A byte, and the text of a tree.
 #[cycle(write)]
-#[tactic(auto, using(crate::proofs::Plain::plain_is_leaf, crate::proofs::Plain::plain_is_node, crate::proofs::Written::node_written))]
-fn push_tree(text: &mut Vec<u8>, tree: &Tree, space: &mut Workspace) -> Result<(), Memory>
-    ensures { IfOk result (λ _. text.new.items ≡ text.old.items ++ tree_text (plain tree.now)) }
+#[tactic(auto, using(crate::proofs::Plain::plain_is_leaf, crate::proofs::Plain::plain_is_node))]
+fn push_child(text: &mut Vec<u8>, mark: u8, tree: &Tree, space: &mut Workspace) -> Result<(), Memory>
+    ensures { IfOk result (λ _. text.new.items ≡ text.old.items ++ mark ∷ tree_text (plain tree.now)) }
 {
     match tree {
-        Tree::Leaf(name) => push_number(text, *name),
+        Tree::Leaf(name) => push_marked(text, mark, *name),
         Tree::Node(kind, children, edges) => {
-            push_byte(text, letter(*kind))?;
-            push_children(text, children, space)?;
-            push_pairs(text, edges, children.list.len(), space)?;
-            push_byte(text, b')')
+            push_byte(text, mark)?;
+            push_node(text, *kind, children, edges, space)
         }
     }
+}
+
+#[cycle(write)]
+#[tactic(auto, using(crate::proofs::Written::node_written))]
+fn push_node(
+    text: &mut Vec<u8>,
+    kind: Kind,
+    children: &Children,
+    edges: &QuotientEdges,
+    space: &mut Workspace,
+) -> Result<(), Memory>
+    ensures { IfOk result (λ _. text.new.items ≡ text.old.items
+        ++ tree_text (node kind (row (map plain (out-Children children.now).list.items)) edges.now.list.items)) }
+{
+    push_byte(text, letter(kind))?;
+    push_children(text, children, space)?;
+    push_pairs(text, edges, children.list.len(), space)?;
+    push_byte(text, b')')
 }
 
 // The opening bracket and the children.
@@ -73,8 +99,7 @@ fn push_children(text: &mut Vec<u8>, children: &Children, space: &mut Workspace)
 {
     let mut mark = b'(';
     for child in &children.list {
-        push_byte(text, mark)?;
-        push_tree(text, child, space)?;
+        push_child(text, mark, child, space)?;
         mark = b',';
     }
     Ok(())
