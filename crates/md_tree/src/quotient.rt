@@ -1,5 +1,5 @@
 //! Writes the pairs of a node.
-ghost use Rattle.std.specs.Prelude.{◌≡◌, ◌+◌, ◌^◌, ◌<◌, ◌≤◌, [], ◌∷◌, ◌++◌, length, take, vec_len, IsTrue, IfOk};
+ghost use Rattle.std.specs.Prelude.{◌≡◌, ◌+◌, ◌^◌, ◌<◌, ◌≤◌, [], ◌∷◌, ◌++◌, length, take, drop, vec_len, IsTrue, IfOk};
 ghost use Rattle.md_text.specs.Numbers.{decimal};
 ghost use Rattle.md_text.specs.Pieces.{piece_text};
 ghost use Rattle.md_tree.specs.Positions.{ArePositions};
@@ -54,7 +54,6 @@ fn spell_positions(positions: &mut Vec<Piece>, count: usize) -> Result<(), Memor
 }
 
 // The pairs behind the first.
-#[inline(never)]
 fn push_more(text: &mut Vec<u8>, pairs: &[Pair], positions: &[Piece], chunk: &mut [u8]) -> Result<(), Memory>
     requires positions { ArePositions positions.now }
     requires chunk { length chunk.old ≡ CHUNK }
@@ -62,15 +61,49 @@ fn push_more(text: &mut Vec<u8>, pairs: &[Pair], positions: &[Piece], chunk: &mu
 {
     let mut start = start_at(0);
     let mut at = 0;
-    for pair in pairs {
-        at = put_pair(text, *pair, positions, &mut start, chunk, at)?;
+    let mut place = 0;
+    while place < pairs.len() {
+        at = put_pair(text, pairs[place], positions, &mut start, chunk, at)?;
+        (place, at) = put_run(pairs, place + 1, positions, start, chunk, at);
     }
     push_bytes(text, &chunk[..at])
 }
 
+// Writes pairs, from the one at `from` on, behind the first `at` bytes of the chunk, as long as they have the position of the
+// start and there is room. Says where the others begin, and how many bytes are then gathered.
+#[inline(never)]
+fn put_run(
+    pairs: &[Pair],
+    from: usize,
+    positions: &[Piece],
+    start: Start,
+    chunk: &mut [u8],
+    at: usize,
+) -> (usize, usize)
+    requires positions { ArePositions positions.now }
+    requires chunk { length chunk.old ≡ CHUNK }
+    requires at { at ≤ CHUNK }
+    requires from { from ≤ length pairs.now }
+    ensures behind { from ≤ result.0 }
+    ensures place { result.0 ≤ length pairs.now }
+    ensures within { result.1 ≤ CHUNK }
+    ensures written { take result.1 chunk.new ++ pairs_text 44 (drop result.0 pairs.now)
+        ≡ take at chunk.old ++ pairs_text 44 (drop from pairs.now) }
+{
+    let mut at = at;
+    for place in from..pairs.len() {
+        let pair = pairs[place];
+        if pair.low != start.low || pair.high as usize >= positions.len() || at > CHUNK - PAIR_ROOM {
+            return (place, at);
+        }
+        let behind = put_piece(chunk, at, start.piece);
+        at = put_piece(chunk, behind, positions[pair.high as usize]);
+    }
+    (pairs.len(), at)
+}
+
 // Writes a pair behind the first `at` bytes of the chunk, and says how many are then gathered there; a full chunk
 // goes to the text.
-#[inline(always)]
 fn put_pair(
     text: &mut Vec<u8>,
     pair: Pair,
@@ -109,7 +142,6 @@ fn push_apart(text: &mut Vec<u8>, pair: Pair, chunk: &[u8], at: usize) -> Result
 }
 
 // Gives the start another position, if it has at most five digits; says whether the start then has it.
-#[inline(always)]
 fn move_to(start: &mut Start, low: u32) -> bool
     ensures { IsTrue result → start.new.low ≡ low }
 {
