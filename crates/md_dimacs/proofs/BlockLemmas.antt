@@ -16,9 +16,10 @@ use Rattle.md_graph.specs.Words.{bits_between}
 use Rattle.md_graph.proofs.Limits.{NAMES-is}
 use Rattle.md_graph.proofs.MemberLists.{no_bits_of_zero}
 use Rattle.md_text.specs.Numbers.{decimal}
-use Rattle.md_dimacs.specs.declared.piece.Piece.{Piece}
+use Rattle.md_text.specs.declared.piece.Piece.{Piece}
 use Rattle.md_dimacs.specs.Text.{position}
-use Rattle.md_dimacs.specs.Places.{text_of, IsPlaceOf, ArePlaces, text_at, lines_at, line_start, row_text}
+use Rattle.md_text.specs.Pieces.{piece_text}
+use Rattle.md_dimacs.specs.Places.{IsPlaceOf, ArePlaces, text_at, lines_at, line_start, row_text}
 use Rattle.md_dimacs.proofs.AscendingLemmas.{Listed, all_listed, below_low, asc_split, asc_none, neighbour_is_vertex}
 use Rattle.md_dimacs.proofs.TextLemmas.{row_lines, row_lines-nil, row_lines-cons, row_lines-append, row_text_is, row_end}
 
@@ -78,7 +79,7 @@ word_fits first aligned below = let whole = NAMES-is in omega arith
 text_at_is : (g : PlainGraph) (places : List Piece) (w : ℕ) → IsPlaceOf g places w → text_at places w ≡ decimal (position g w) ++ 10 ∷ []
 text_at_is g places w is =
     let any : Piece = record { bytes = []; used = 0; within = omega arith } in
-    ap (λ o. option_map_or text_of o []) (slice_get-get_or places w any is.there) ∙ is.text any
+    ap (λ o. option_map_or piece_text o []) (slice_get-get_or places w any is.there) ∙ is.text any
 
 pub lines_are : (g : PlainGraph) (v : ℕ) (places : List Piece) (ws : List ℕ) → All (IsPlaceOf g places) ws → lines_at places (line_start g v) ws ≡ row_lines g v ws
 unfolding lines_at
@@ -133,13 +134,13 @@ block_start g v from first is within =
 
 pub bit_step : (first left others place : ℕ) (places : List Piece) (start held started placed total : List ℕ) (piece : Piece)
     → (held ++ lines_at places start (bits_between first left 64)) ≡ total → bits_between first left 64 ≡ (first + place) ∷ bits_between first others 64
-    → started ≡ held ++ start → placed ≡ started ++ text_of piece → piece ≡ get_or places (first + place) piece → first + place < length places
+    → started ≡ held ++ start → placed ≡ started ++ piece_text piece → piece ≡ get_or places (first + place) piece → first + place < length places
     → (placed ++ lines_at places start (bits_between first others 64)) ≡ total
 unfolding lines_at
 bit_step first left others place places start held started placed total piece before cut one two is there =
     let rest = lines_at places start (bits_between first others 64) in
-    let text : text_of piece ≡ text_at places (first + place) = ap text_of is ∙ sym (ap (λ o. option_map_or text_of o []) (slice_get-get_or places (first + place) piece there)) in
-    ap (λ l. l ++ rest) (two ∙ ap (λ l. l ++ text_of piece) one ∙ append_assoc held start (text_of piece) ∙ ap (λ l. held ++ (start ++ l)) text)
+    let text : piece_text piece ≡ text_at places (first + place) = ap piece_text is ∙ sym (ap (λ o. option_map_or piece_text o []) (slice_get-get_or places (first + place) piece there)) in
+    ap (λ l. l ++ rest) (two ∙ ap (λ l. l ++ piece_text piece) one ∙ append_assoc held start (piece_text piece) ∙ ap (λ l. held ++ (start ++ l)) text)
     ∙ append_assoc held (start ++ text_at places (first + place)) rest
     ∙ ap (λ l. held ++ l) (sym (ap (lines_at places start) cut)) ∙ before
 

@@ -7,9 +7,10 @@ use Rattle.std.proofs.lemmas.List.{get_or_append_left, get_or-replicate, length-
 use Rattle.md_graph.specs.NameSet.{Member}
 use Rattle.md_graph.specs.PlainGraph.{PlainGraph}
 use Rattle.md_text.specs.Numbers.{decimal}
-use Rattle.md_dimacs.specs.declared.piece.Piece.{Piece}
+use Rattle.md_text.specs.declared.piece.Piece.{Piece}
 use Rattle.md_dimacs.specs.Text.{position}
-use Rattle.md_dimacs.specs.Places.{text_of, IsPlaceOf}
+use Rattle.md_text.specs.Pieces.{piece_text}
+use Rattle.md_dimacs.specs.Places.{IsPlaceOf}
 use Rattle.md_dimacs.proofs.AscendingLemmas.{NextUp, position_is}
 
 -- a piece that stands behind the old ones
@@ -21,7 +22,7 @@ new_piece old k w piece other from below =
 
 -- where the old pieces hold the places of all vertices below them, so do the new ones
 pub spelled_more : (g : PlainGraph) (old new : List Piece) (k low place v : ℕ) (rest : List ℕ) (piece : Piece) → NextUp g.vertices low place v rest → low ≡ length old
-    → new ≡ old ++ replicate k piece → length new ≡ v + 1 → text_of piece ≡ decimal (place + 1) ++ 10 ∷ []
+    → new ≡ old ++ replicate k piece → length new ≡ v + 1 → piece_text piece ≡ decimal (place + 1) ++ 10 ∷ []
     → ((w : ℕ) → Member g.vertices w → w < low → IsPlaceOf g old w) → (w : ℕ) → Member g.vertices w → w < v + 1 → IsPlaceOf g new w
 spelled_more g old new k low place v rest piece up is_low made count text before w m below =
     elim (cases_lt w low) [
@@ -29,7 +30,7 @@ spelled_more g old new k low place v rest piece up is_low made count text before
           let place_of = before w m under in
           record {
             there = omega arith;
-            text = λ other. ap (λ l. text_of (get_or l w other)) made ∙ ap text_of (get_or_append_left old (replicate k piece) other w place_of.there) ∙ place_of.text other;
+            text = λ other. ap (λ l. piece_text (get_or l w other)) made ∙ ap piece_text (get_or_append_left old (replicate k piece) other w place_of.there) ∙ place_of.text other;
           }
       | inr above ↦ elim (cases_eq w v) [
         | inl same ↦
@@ -37,7 +38,7 @@ spelled_more g old new k low place v rest piece up is_low made count text before
             record {
               there = omega arith;
               text = λ other.
-                  ap (λ l. text_of (get_or l w other)) made ∙ ap text_of (new_piece old k w piece other (omega arith) (omega arith)) ∙ text
+                  ap (λ l. piece_text (get_or l w other)) made ∙ ap piece_text (new_piece old k w piece other (omega arith) (omega arith)) ∙ text
                   ∙ ap (λ p. decimal p ++ 10 ∷ []) (position_is g v place up.placed ∙ ap (position g) (sym same));
             }
         | inr other ↦ absurd (true≢false (sym m ∙ up.none_before w above (omega arith)))

@@ -6,17 +6,14 @@ use Rattle.md_graph.specs.NameSet.{Member}
 use Rattle.md_graph.specs.PlainGraph.{PlainGraph}
 use Rattle.md_text.specs.Lines.{ended}
 use Rattle.md_text.specs.Numbers.{decimal}
-use Rattle.md_dimacs.specs.declared.piece.Piece.{Piece}
+use Rattle.md_text.specs.declared.piece.Piece.{Piece}
+use Rattle.md_text.specs.Pieces.{piece_text}
 use Rattle.md_dimacs.specs.Text.{position, edges_above, edge_places, edge_line}
-
--- the text of a piece
-abbrev pub text_of : Piece → List ℕ
-text_of piece = take piece.used piece.bytes
 
 -- the piece at index w is the place of the vertex w, and a line feed
 pub record IsPlaceOf (g : PlainGraph) (places : List Piece) (w : ℕ) : Type 0 where
   pub there : w < length places
-  pub text : (other : Piece) → text_of (slice_index_or places w other) ≡ decimal (position g w) ++ 10 ∷ []
+  pub text : (other : Piece) → piece_text (slice_index_or places w other) ≡ decimal (position g w) ++ 10 ∷ []
 
 -- each vertex has its place at its index, and there are not more than names
 pub record ArePlaces (g : PlainGraph) (places : List Piece) : Type 0 where
@@ -25,7 +22,7 @@ pub record ArePlaces (g : PlainGraph) (places : List Piece) : Type 0 where
 
 -- the text of the piece at an index, if there is one
 abbrev pub text_at : List Piece → ℕ → List ℕ
-text_at places w = option_map_or text_of (slice_get places w) []
+text_at places w = option_map_or piece_text (slice_get places w) []
 
 -- for each index the text `start` and that of its piece, one after the other
 unfoldable pub lines_at : List Piece → List ℕ → List ℕ → List ℕ

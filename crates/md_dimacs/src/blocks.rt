@@ -3,9 +3,10 @@ ghost use Rattle.std.specs.Prelude.{◌≡◌, ◌≢◌, ℕ, ◌+◌, ◌*◌,
 ghost use Rattle.std.specs.Int.{bit_at};
 ghost use Rattle.std.specs.List.{All};
 ghost use Rattle.md_graph.specs.Words.{bits_between};
-ghost use Rattle.md_dimacs.specs.Places.{text_of, lines_at};
+ghost use Rattle.md_text.specs.Pieces.{piece_text};
+ghost use Rattle.md_dimacs.specs.Places.{lines_at};
 
-use crate::piece::Piece;
+use md_text::{Piece, put_piece};
 
 // Writes, for each 1 in `bits`, a line of `start` and of the piece at its place behind `first`; the lines
 // stand behind the first `at` bytes, and the result says how many these then are.
@@ -21,7 +22,7 @@ pub(crate) fn write_block(
     requires fits { first + 64 < 2 ^ 32 }
     requires room { at + 16 * 64 ≤ length chunk.old }
     ensures text { take result chunk.new
-        ≡ take at chunk.old ++ lines_at places.now (text_of start) (bits_between first bits 64) }
+        ≡ take at chunk.old ++ lines_at places.now (piece_text start) (bits_between first bits 64) }
     ensures within { result ≤ at + 16 * 64 }
 {
     let mut left = bits;
@@ -55,14 +56,4 @@ pub(crate) fn bits_from(bits: u64, first: u32, from: u32) -> u64
     }
     let place = from - first;
     bits >> place << place
-}
-
-// Writes a piece behind the first `at` bytes, and says how many they then are.
-fn put_piece(chunk: &mut [u8], at: usize, piece: Piece) -> usize
-    requires { at + 8 ≤ length chunk.old }
-    ensures text { take result chunk.new ≡ take at chunk.old ++ text_of piece }
-    ensures within { result ≤ at + 8 }
-{
-    chunk[at..at + 8].copy_from_slice(&piece.bytes);
-    at + piece.used
 }

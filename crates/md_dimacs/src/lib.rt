@@ -7,7 +7,6 @@ mod blocks;
 mod fault;
 pub mod laws;
 mod line;
-mod piece;
 mod reader;
 mod spelling;
 #[cfg(test)]

@@ -20,13 +20,13 @@ ghost use Rattle.std.specs.Prelude.{
 ghost use Rattle.md_graph.specs.NameSet.{Member};
 ghost use Rattle.md_text.specs.Numbers.{decimal};
 ghost use Rattle.md_dimacs.specs.Text.{dimacs_text, position, problem_line};
-ghost use Rattle.md_dimacs.specs.Places.{text_of, ArePlaces, line_start, row_text, edges_text};
+ghost use Rattle.md_text.specs.Pieces.{piece_text};
+ghost use Rattle.md_dimacs.specs.Places.{ArePlaces, line_start, row_text, edges_text};
 
 use crate::blocks::{bits_from, write_block};
-use crate::piece::Piece;
-use crate::spelling::{number_piece, start_piece};
+use crate::spelling::start_piece;
 use md_graph::{Graph, Memory, NAMES};
-use md_text::push_decimal;
+use md_text::{Piece, number_piece, push_decimal};
 use std::alloc::Global;
 
 // How many bytes of lines are gathered before they are appended to the text.
@@ -138,7 +138,7 @@ fn write_row(
     text: &mut Vec<u8>,
 ) -> Result<usize, Memory>
     requires name { v < NAMES }
-    requires start { text_of start ≡ line_start graph.now v }
+    requires start { piece_text start ≡ line_start graph.now v }
     requires places { ArePlaces graph.now places.now }
     requires chunk { length chunk.old ≡ CHUNK }
     requires at { at ≤ CHUNK }
@@ -167,11 +167,5 @@ fn make_room(chunk: &[u8], at: usize, text: &mut Vec<u8>) -> Result<usize, Memor
     ensures same { IfOk result (λ after. text.new.items ++ take after chunk.now
         ≡ text.old.items ++ take at chunk.now) }
 {
-    if at + 16 * 64 <= CHUNK {
-        return Ok(at);
-    }
-    if text.extend_from_slice(&chunk[..at]).is_err() {
-        return Err(Memory);
-    }
-    Ok(0)
+    md_text::make_room(chunk, at, 16 * 64, text).map_err(|_| Memory)
 }

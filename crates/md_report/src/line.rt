@@ -1,14 +1,12 @@
 //! The lines of a report.
 ghost use Rattle.std.specs.Prelude.{◌≡◌, ◌++◌, IfOk};
 ghost use Rattle.md_text.specs.Numbers.{decimal};
-ghost use Rattle.md_tree.specs.Plain.{plain_option};
-ghost use Rattle.md_tree.specs.TreeTexts.{text_of};
 ghost use Rattle.md_report.specs.Lines.{plain_line, mode_word, reason_words, line_text};
 
 use md_graph::Memory;
 use md_script::EditReason;
 use md_text::push_decimal;
-use md_tree::Tree;
+use md_tree::{Tree, push_text};
 use std::alloc::Global;
 
 /// No name has more digits.
@@ -71,11 +69,11 @@ pub fn write_line(alloc: Global, line: &Line) -> Result<Vec<u8>, Memory>
         }
         Line::Tree(tree) => {
             push_bytes(&mut text, b"t ")?;
-            push_tree(alloc, &mut text, tree)?;
+            push_text(alloc, &mut text, tree)?;
         }
         Line::Applied(tree) => {
             push_bytes(&mut text, b"ok ")?;
-            push_tree(alloc, &mut text, tree)?;
+            push_text(alloc, &mut text, tree)?;
         }
         Line::Refused(reason) => {
             push_bytes(&mut text, b"no ")?;
@@ -125,11 +123,4 @@ fn push_bytes(text: &mut Vec<u8>, bytes: &[u8]) -> Result<(), Memory>
         return Err(Memory);
     }
     Ok(())
-}
-
-fn push_tree(alloc: Global, text: &mut Vec<u8>, tree: &Option<Tree>) -> Result<(), Memory>
-    ensures { IfOk result (λ _. text.new.items ≡ text.old.items ++ text_of (plain_option tree.now)) }
-{
-    let tree = md_tree::text(alloc, tree)?;
-    push_bytes(text, &tree)
 }

@@ -2,3 +2,4 @@ pub mod ListLemmas
 pub mod LineLemmas
 pub mod FieldLemmas
 pub mod NumberLemmas
+pub mod PieceLemmas

@@ -1,4 +1,5 @@
 pub mod Lines
 pub mod Fields
 pub mod Numbers
+pub mod Pieces
 pub mod Laws

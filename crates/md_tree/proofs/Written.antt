@@ -1,5 +1,7 @@
 -- One item more of a text.
-use Rattle.std.proofs.Common.{◌≡◌, ℕ, List, [], ◌∷◌, ◌++◌, Result, Ok, Err, IfOk, append_assoc, sym, ◌∙◌, ap}
+use Rattle.std.proofs.Common.{◌≡◌, ℕ, suc, ◌+◌, ◌<◌, List, [], ◌∷◌, ◌++◌, length, drop, get_or, Result, Ok, Err, IfOk, append_assoc, sym, ◌∙◌, ap, arith}
+use Rattle.std.proofs.Math.Seq.{drop-cons}
+use Rattle.md_text.specs.Numbers.{decimal}
 use Rattle.md_tree.specs.declared.Kind.{Kind}
 use Rattle.md_tree.specs.declared.Pair.{Pair}
 use Rattle.md_tree.specs.Trees.{PlainTree, PlainTrees, node}
@@ -13,6 +15,24 @@ node_written k cs ps t a b c d f same p q r s =
     ∙ ap (λ z. z ++ (row_text 40 cs ++ (pairs_text 59 ps ++ 41 ∷ []))) p ∙ append_assoc a (letter k ∷ []) (row_text 40 cs ++ (pairs_text 59 ps ++ 41 ∷ []))
     ∙ sym (ap (λ z. a ++ tree_text z) same)
 
+pub child_written : (mark : ℕ) (t n : PlainTree) (a b f : List ℕ) → t ≡ n → b ≡ a ++ mark ∷ [] → f ≡ b ++ tree_text n → f ≡ a ++ mark ∷ tree_text t
+child_written mark t n a b f same p q =
+    q ∙ ap (λ z. z ++ tree_text n) p ∙ append_assoc a (mark ∷ []) (tree_text n) ∙ sym (ap (λ z. a ++ mark ∷ tree_text z) same)
+
 pub if_ok : {A E : Type 0} {P Q : A → Type 0} (r : Result A E) → ((x : A) → P x → Q x) → IfOk r P → IfOk r Q
 if_ok (Ok x) f h = f x h
 if_ok (Err e) f h = h
+
+-- a pair behind gathered bytes, and then those that were gathered after it
+pub run_written : (pairs : List Pair) (place next : ℕ) (d : Pair) (text held new_text one more total : List ℕ) → place < length pairs →
+    (text ++ held) ++ pairs_text 44 (drop place pairs) ≡ total →
+    new_text ++ one ≡ (text ++ held) ++ 44 ∷ (decimal (get_or pairs place d).low ++ 45 ∷ decimal (get_or pairs place d).high) →
+    more ++ pairs_text 44 (drop next pairs) ≡ one ++ pairs_text 44 (drop (place + 1) pairs) → (new_text ++ more) ++ pairs_text 44 (drop next pairs) ≡ total
+run_written pairs place next d text held new_text one more total within before pair run =
+    let p = get_or pairs place d in
+    let rest = pairs_text 44 (drop (place + 1) pairs) in
+    let after : suc place ≡ place + 1 = omega arith in
+    let cut : drop place pairs ≡ p ∷ drop (place + 1) pairs = drop-cons pairs place d within ∙ ap (λ k. p ∷ drop k pairs) after in
+    append_assoc new_text more (pairs_text 44 (drop next pairs)) ∙ ap (λ z. new_text ++ z) run ∙ sym (append_assoc new_text one rest) ∙ ap (λ z. z ++ rest) pair
+    ∙ append_assoc (text ++ held) (44 ∷ (decimal p.low ++ 45 ∷ decimal p.high)) rest
+    ∙ ap (λ z. (text ++ held) ++ z) (ap (λ z. 44 ∷ z) (append_assoc (decimal p.low) (45 ∷ decimal p.high) rest) ∙ sym (ap (pairs_text 44) cut)) ∙ before

@@ -6,3 +6,4 @@ pub mod TreeGraph
 pub mod TreeEdges
 pub mod TreeTexts
 pub mod Laws
+pub mod Positions

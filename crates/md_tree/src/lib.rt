@@ -6,10 +6,14 @@ ghost use Rattle.md_tree.specs.declared.Children.{out-Children};
 
 mod graphs;
 pub mod laws;
+mod numbers;
+mod quotient;
+mod start;
+mod workspace;
 mod writer;
 
 pub use graphs::graph_of;
-pub use writer::text;
+pub use writer::{push_text, text};
 
 /// The kind of a node of a tree: its leaf set has no edge across some split, every edge across some split, or neither.
 #[derive(Clone, Copy, PartialEq, Eq, Debug)]

@@ -1,7 +1,7 @@
 use Rattle.std.proofs.Common.{arith, ap, sym, ◌∙◌, ◌+◌, ◌++◌}
 use Rattle.std.proofs.lemmas.List.{append-nil}
 use Rattle.md_graph.specs.NameSet.{ascending}
-use Rattle.md_dimacs.specs.Places.{text_of}
+use Rattle.md_text.specs.Pieces.{piece_text}
 use Rattle.md_dimacs.proofs.AscendingLemmas.{coming_all, next_up, place_small, position_is}
 use Rattle.md_dimacs.proofs.PieceLemmas.{if_ok}
 use Rattle.md_dimacs.proofs.TextLemmas.{rows_lines, edges_text_is, start_is, rows_step, rows_end}
@@ -32,7 +32,7 @@ write_row-requires-clause-name c =
 pub write_row-requires-clause-start : goal.write_row-requires-clause-start
 write_row-requires-clause-start c =
     let up = next_up c.args.graph.now.vertices c.loop-v.invariant.coming.0 c.loop-v.place _ c.in-Some.v _ c.loop-v.invariant.coming.1 c.in-Some.ensures.steps in
-    start_is c.args.graph.now c.in-Some.v (c.loop-v.place + 1) (text_of c.start_piece.result) c.start_piece.ensures (position_is c.args.graph.now c.in-Some.v c.loop-v.place up.placed)
+    start_is c.args.graph.now c.in-Some.v (c.loop-v.place + 1) (piece_text c.start_piece.result) c.start_piece.ensures (position_is c.args.graph.now c.in-Some.v c.loop-v.place up.placed)
 
 pub loop-v-preserved : goal.loop-v-preserved
 loop-v-preserved c =

@@ -2,7 +2,7 @@ use Rattle.std.proofs.Common.{arith, ap, sym, ◌∙◌, ◌+◌, ◌++◌, take
 use Rattle.std.specs.FinSet as set
 use Rattle.md_graph.specs.PlainGraph.{neighbours}
 use Rattle.md_graph.specs.Words.{bits_between}
-use Rattle.md_dimacs.specs.Places.{text_of}
+use Rattle.md_text.specs.Pieces.{piece_text}
 use Rattle.md_dimacs.proofs.BlockLemmas.{block_split, block_places, block_step, block_start, block_end, all_there, names_after, word_fits}
 use Rattle.md_dimacs.proofs.writer.write_row.Goals as goal
 
@@ -37,7 +37,7 @@ loop-first-preserved c =
       near = omega (arith, c.loop-first.invariant.near);
       written =
           block_step c.args.graph.now c.args.v (c.args.v + 1) c.loop-first.first c.args.places.now (bits_between c.loop-first.first c.bits_from-bits.result 64) c.loop-first.text.items (take c.loop-first.at c.loop-first.chunk) c.make_room.new.text.items
-          (take c.in_ok-at.at c.loop-first.chunk) (take c.write_block-at.result c.write_block-at.new.chunk) (text_of c.args.start) _ c.loop-first.invariant.written cut places c.requires.start c.in_ok-at.ensures.same c.write_block-at.ensures.text;
+          (take c.in_ok-at.at c.loop-first.chunk) (take c.write_block-at.result c.write_block-at.new.chunk) (piece_text c.args.start) _ c.loop-first.invariant.written cut places c.requires.start c.in_ok-at.ensures.same c.write_block-at.ensures.text;
     }
 
 pub returns-clause-written : goal.returns-clause-written

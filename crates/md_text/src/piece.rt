@@ -3,8 +3,8 @@ ghost use Rattle.std.specs.Prelude.{◌≤◌};
 
 /// A text of at most eight bytes: the first `used` of `bytes`.
 #[derive(Clone, Copy)]
-pub(crate) struct Piece {
-    pub(crate) bytes: [u8; 8],
-    pub(crate) used: usize,
-    ghost within: { used ≤ 8 },
+pub struct Piece {
+    pub bytes: [u8; 8],
+    pub used: usize,
+    pub ghost within: { used ≤ 8 },
 }

@@ -1,6 +1,6 @@
 use Rattle.std.proofs.Common.{arith}
-use Rattle.md_dimacs.proofs.PieceLemmas.{first_digit, one_digit, next_digit, next_count, at_most_five}
-use Rattle.md_dimacs.proofs.spelling.+put_digits.Goals as goal
+use Rattle.md_text.proofs.PieceLemmas.{first_digit, one_digit, next_digit, next_count, at_most_five}
+use Rattle.md_text.proofs.spelling.+put_digits.Goals as goal
 
 pub returns-then-n-lt10-clause-text : goal.returns-then-n-lt10-clause-text
 returns-then-n-lt10-clause-text t c = first_digit c.args.n c.args.bytes.now c.if-n-lt10.true (omega arith)

@@ -1,6 +1,6 @@
 use Rattle.std.proofs.Common.{arith}
-use Rattle.md_dimacs.proofs.PieceLemmas.{put_text}
-use Rattle.md_dimacs.proofs.blocks.put_piece.Goals as goal
+use Rattle.md_text.proofs.PieceLemmas.{put_text}
+use Rattle.md_text.proofs.spelling.put_piece.Goals as goal
 
 pub returns-clause-text : goal.returns-clause-text
 returns-clause-text c =

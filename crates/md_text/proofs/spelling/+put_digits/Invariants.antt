@@ -1,4 +1,4 @@
-use Rattle.md_dimacs.proofs.spelling.+put_digits.Given as goal
+use Rattle.md_text.proofs.spelling.+put_digits.Given as goal
 
 abbrev pub decreases-put_digits : goal.decreases-put_digits
 decreases-put_digits l = l.n

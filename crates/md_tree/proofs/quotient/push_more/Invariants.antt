@@ -1,0 +1,15 @@
+use Rattle.std.proofs.Common.{◌≡◌, ◌-◌, ◌≤◌, ◌++◌, length, take, drop}
+use Rattle.md_tree.specs.declared.workspace.TheConstants.{CHUNK}
+use Rattle.md_tree.specs.TreeTexts.{pairs_text}
+use Rattle.md_tree.proofs.quotient.push_more.Given as goal
+
+abbrev pub invariant-loop-place : goal.invariant-loop-place
+invariant-loop-place l = record {
+  size : length l.chunk ≡ CHUNK;
+  within : l.at ≤ CHUNK;
+  inside : l.place ≤ length l.pairs;
+  written : (l.text.items ++ take l.at l.chunk) ++ pairs_text 44 (drop l.place l.pairs) ≡ l.fn.text.items ++ pairs_text 44 l.pairs;
+}
+
+abbrev pub decreases-loop-place : goal.decreases-loop-place
+decreases-loop-place l = length l.pairs - l.place
