@@ -1,29 +1,28 @@
 -- Classes that are cut until they are modules.
-use Rattle.std.proofs.Common.{◌≡◌, ℕ, ◌+◌, ◌<◌, ◌≤◌, ◌≢◌, ◌⊎◌, Bool, List, [], ◌∷◌, length, refl, sym, ◌∙◌, ap, subst, inl, inr, arith}
+use Rattle.std.proofs.Common.{◌≡◌, ℕ, ◌+◌, ◌<◌, ◌≤◌, ◌≢◌, ◌⊎◌, Bool, List, [], ◌∷◌, length, refl, sym, ◌∙◌, ap, ap₂, subst, inl, inr, arith}
 use Rattle.std.specs.FinSet.{contains, union, intersection, difference}
 use Rattle.md_graph.specs.declared.TheConstants.{NAMES}
-use Rattle.md_graph.specs.NameSet.{IsLeastFrom, NoneFrom, AllBelow, ascending_from}
+use Rattle.md_graph.specs.NameSet.{IsLeastFrom, NoneFrom, AllBelow, ascending_from, told_apart}
 use Rattle.md_graph.specs.PlainGraph.{PlainGraph, IsGraph, adjacent, neighbours}
 use Rattle.md_graph.proofs.GraphLemmas.{adjacent_sym}
 use Rattle.md_modules.specs.Sets.{NameSet, Has, Lacks, Within, HasSome}
 use Rattle.md_modules.specs.Modules.{IsModule}
 use Rattle.md_modules.proofs.Sets.{either, clash, true_if, false_if, same_name, Has-along, meet_has, of_meet, minus_has, of_minus}
 use Rattle.md_modules.proofs.Growth.{alike_unless}
-use Rattle.md_modules.proofs.Turns.{ToldApart, told, none_lacks, Walked}
+use Rattle.md_modules.proofs.Turns.{ToldApart, told_all, none_lacks, Walked}
 use Rattle.md_decompose.specs.Children.{set_at}
-use Rattle.md_decompose.specs.Classes.{told_apart, IsSplitter, IsPartition, HoldsModules, AreMaximalInside}
+use Rattle.md_decompose.specs.Classes.{IsSplitter, IsPartition, HoldsModules, AreMaximalInside}
 use Rattle.md_decompose.proofs.ClassLists.{at_known, at_one, in_one, IsCutAt, place_of}
 
 -- ---- splitters
 
 module _ {g : PlainGraph} (graph : IsGraph g) where
-  apart : (a x : ℕ) (first second out : NameSet) → first ≡ neighbours g a → second ≡ neighbours g x → ToldApart graph a x out (told_apart first second out)
+  apart : (a x : ℕ) (first second out : NameSet) → first ≡ neighbours g a → second ≡ neighbours g x → ToldApart graph a x out (intersection out (told_apart first second))
   apart a x first second out is_first is_second =
-      told graph a x out first second (difference first second) (difference second first) (union (difference first second) (difference second first)) (told_apart first second out)
-      is_first is_second refl refl refl refl
+      subst (ToldApart graph a x out) (ap₂ (λ s t. intersection out (told_apart s t)) (sym is_first) (sym is_second)) (told_all graph a x out)
 
   pub splitter_found : (s c first second out : NameSet) (a x p : ℕ) → Has c a → Has c x → out ≡ difference s c → first ≡ neighbours g a → second ≡ neighbours g x →
-      IsLeastFrom (told_apart first second out) 0 p → IsSplitter (adjacent g) s c p
+      IsLeastFrom (intersection out (told_apart first second)) 0 p → IsSplitter (adjacent g) s c p
   splitter_found s c first second out a x p ha hx is_out is_first is_second is =
       let two : Has out p × (adjacent g a p ≢ adjacent g x p) = (apart a x first second out is_first is_second).1 p is.member in
       let place : Has s p × Lacks c p = of_minus s c p (Has-along out _ is_out p two.0) in
@@ -43,7 +42,7 @@ module _ {g : PlainGraph} (graph : IsGraph g) where
       ]
 
   pub splitter_none : (first second out : NameSet) (a x : ℕ) → first ≡ neighbours g a → second ≡ neighbours g x →
-      NoneFrom (told_apart first second out) 0 → (y : ℕ) → Has out y → adjacent g a y ≡ adjacent g x y
+      NoneFrom (intersection out (told_apart first second)) 0 → (y : ℕ) → Has out y → adjacent g a y ≡ adjacent g x y
   splitter_none first second out a x is_first is_second none y h =
       alike_unless (adjacent g a y) (adjacent g x y) (λ differ. clash ((apart a x first second out is_first is_second).0 y h differ) (none_lacks _ none y))
 

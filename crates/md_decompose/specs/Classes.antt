@@ -1,14 +1,9 @@
 -- Partitions of a set of names, and the parts of a prime set that its modules lie in.
 -- Source: Habib and Paul, A survey of the algorithmic aspects of modular decomposition (partition refinement).
 use Rattle.std.specs.Prelude.{◌≡◌, ◌<◌, ℕ, Bool, true, false, List, length}
-use Rattle.std.specs.FinSet.{union, intersection, difference}
 use Rattle.md_modules.specs.Sets.{NameSet, Has, Lacks, Within, HasSome}
 use Rattle.md_modules.specs.Modules.{IsModule}
 use Rattle.md_decompose.specs.Children.{set_at}
-
--- the names of a third set that exactly one of two sets has
-abbrev pub told_apart : NameSet → NameSet → NameSet → NameSet
-told_apart a b among = intersection (union (difference a b) (difference b a)) among
 
 -- p is a name of s outside c that is adjacent to a name of c and not to another one
 pub record IsSplitter (e : ℕ → ℕ → Bool) (s c : NameSet) (p : ℕ) : Type 0 where

@@ -1,12 +1,11 @@
 //! Partitions of a set of names into modules.
 ghost use Rattle.std.specs.Prelude.{◌≡◌, ◌<◌, ◌++◌, ◌∷◌, ℕ, IfOk, IfSome, IfNone, [], slice_set, vec_len};
 ghost use Rattle.std.specs.FinSet.{intersection, difference};
-ghost use Rattle.md_graph.specs.NameSet.{IsLeastFrom, NoneFrom};
 ghost use Rattle.md_graph.specs.PlainGraph.{adjacent};
 ghost use Rattle.md_modules.specs.Sets.{Within, HasSome};
 ghost use Rattle.md_modules.specs.Modules.{IsModule};
 ghost use Rattle.md_decompose.specs.Children.{set_at};
-ghost use Rattle.md_decompose.specs.Classes.{told_apart, IsSplitter, AreMaximalInside};
+ghost use Rattle.md_decompose.specs.Classes.{IsSplitter, AreMaximalInside};
 
 use md_graph::{Graph, Memory, NAMES, Names};
 use std::alloc::Global;
@@ -74,20 +73,9 @@ fn splitter(graph: &Graph, set: &Names, class: &Names) -> Option<u32>
     };
     let out = set.minus(class);
     for x in class.members_from(first + 1) {
-        if let Some(p) = first_told_apart(graph.row(first), graph.row(x), &out) {
+        if let Some(p) = out.first_told_apart(graph.row(first), graph.row(x)) {
             return Some(p);
         }
     }
     None
-}
-
-/// The least name of `among` that exactly one of two sets has; `None` exactly where there is none.
-fn first_told_apart(first: &Names, second: &Names, among: &Names) -> Option<u32>
-    ensures found { IfSome result (IsLeastFrom (told_apart first.now second.now among.now) 0) }
-    ensures none { IfNone result (NoneFrom (told_apart first.now second.now among.now) 0) }
-    ensures name { IfSome result (λ p. p < NAMES) }
-{
-    let mut apart = first.minus(second);
-    apart.take_in(&second.minus(first));
-    apart.and(among).first_from(0)
 }
