@@ -1,12 +1,13 @@
 //! Searches for modules and components. Each keeps what it hasn't taken yet and what it took and hasn't looked at, and
 //! needs no memory: one operation on rows for each name that it takes.
-ghost use Rattle.std.specs.Prelude.{◌≡◌, ◌≢◌, ℕ, ◌<◌, ◌⊎◌, ◌↔◌, IsTrue, IfSome, IfNone, true, false};
-ghost use Rattle.std.specs.FinSet.{union, difference};
+ghost use Rattle.std.specs.Prelude.{◌≡◌, ◌≢◌, ℕ, ◌<◌, ◌≤◌, ◌+◌, ◌⊎◌, ◌↔◌, IsTrue, IfSome, IfNone, true, false};
+ghost use Rattle.std.specs.FinSet.{union, difference, len};
 ghost use Rattle.md_graph.specs.PlainGraph.{adjacent, IsGraph};
-ghost use Rattle.md_modules.specs.Sets.{NameSet, Has, Lacks, Within};
+ghost use Rattle.md_modules.specs.Sets.{NameSet, Has, Lacks, Within, Disjoint};
 ghost use Rattle.md_modules.specs.Modules.{IsModule, IsLeastModule, IsLeastModuleOver};
 ghost use Rattle.md_modules.specs.Kinds.{IsSplit, IsConnected, IsCoConnected};
 ghost use Rattle.md_modules.specs.Components.{IsComponent};
+ghost use Rattle.md_modules.specs.Searches.{IsReaching};
 ghost use Rattle.md_modules.specs.Seen.{seen_as};
 
 use md_graph::{Graph, NAMES, Names};
@@ -170,11 +171,76 @@ fn unreached(graph: &Graph, within: &Names, x: u32, value: bool) -> Names
     left.remove(x);
     let mut todo = Names::none();
     todo.insert(x);
+    // Each name is taken once. It is looked at in a turn, at two operations on rows, or a look back saves its turn, at one
+    // operation on rows or less. So a search costs at most two of them for each name of `within`.
     while let Some(w) = next(&left, &todo) {
-        todo.remove(w);
-        move_seen(graph, w, !value, &mut left, &mut todo);
+        turn(graph, within, value, w, &mut left, &mut todo);
     }
     left
+}
+
+// One turn of the search for a component: what is left and adjacent to `w` is taken. Where nothing is, the search looks back,
+// unless more names are left than are to be looked at.
+fn turn(graph: &Graph, within: &Names, value: bool, w: u32, left: &mut Names, todo: &mut Names)
+    requires member { Has todo.old w }
+    requires name { w < NAMES }
+    requires apart { Disjoint left.old todo.old }
+    ensures kept { (x : ℕ) → IsReaching (adjacent graph.now) within.now value x left.old todo.old
+        → IsReaching (adjacent graph.now) within.now value x left.new todo.new }
+    ensures fewer { len left.new + len todo.new < len left.old + len todo.old }
+{
+    let _vertices = graph.vertices();
+    todo.remove(w);
+    if sees(graph, w, !value, left, todo) {
+        move_seen(graph, w, !value, left, todo);
+        return;
+    }
+    if left.count() <= todo.count() {
+        look_back(graph, within, value, left, todo);
+    }
+}
+
+// What is left and adjacent to a name taken is taken, and nothing else is to be looked at: no name taken before is adjacent to
+// one that is still left.
+fn look_back(graph: &Graph, within: &Names, value: bool, left: &mut Names, todo: &mut Names)
+    ensures kept { (x : ℕ) → IsReaching (adjacent graph.now) within.now value x left.old todo.old
+        → IsReaching (adjacent graph.now) within.now value x left.new todo.new }
+    ensures fewer { len left.new + len todo.new ≤ len left.old }
+{
+    let _vertices = graph.vertices();
+    let taken = within.minus(left);
+    let new = seeing(graph, !value, left, &taken);
+    todo.clear();
+    left.move_shared(&new, todo);
+}
+
+// The members of `left` that are adjacent to one of `taken` (`value` is true), or that aren't (`value` is false).
+fn seeing(graph: &Graph, value: bool, left: &Names, taken: &Names) -> Names
+    requires { Disjoint taken.now left.now }
+    ensures { (y : ℕ) → Has result y ↔ (Has left.now y
+        × ((t : ℕ) × Has taken.now t × (adjacent graph.now y t ≡ value))) }
+{
+    let mut new = Names::none();
+    for y in left.members() {
+        if sees(graph, y, value, taken, left) {
+            new.insert(y);
+        }
+    }
+    new
+}
+
+// Whether `w` is adjacent to one of `among` (`value` is true), or not adjacent to one (`value` is false). Condition: `apart` is
+// a set without a member of `among`.
+fn sees(graph: &Graph, w: u32, value: bool, among: &Names, apart: &Names) -> bool
+    requires name { w < NAMES }
+    requires apart { Disjoint among.now apart.now }
+    ensures { IsTrue result ↔ ((t : ℕ) × Has among.now t × (adjacent graph.now w t ≡ value)) }
+{
+    let row = graph.row(w);
+    if value {
+        return among.first_told_apart(row, apart).is_some();
+    }
+    among.first_told_apart(row, among).is_some()
 }
 
 // What the least module that holds `begun` leaves of `within`.
