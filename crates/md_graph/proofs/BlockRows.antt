@@ -153,9 +153,11 @@ rows_add_block {live} {rows} {g} a e low high words ends n old ws len same kept 
         ]
       ];
       names = a.names;
-    } in
-    (made, record {
-      vertices = ap (λ h. h.vertices) e;
-      graph = IsGraph-graph_of made;
-      edges = λ u v. adjacent-graph_of made u v ∙ law u v ∙ ap (λ b. b || (in_block words high low u v || in_block words high low v u)) (sym (adjacent-graph_of a u v) ∙ ap (λ h. adjacent h u v) e);
-    })
+    } in (
+      made,
+      record {
+        vertices = ap (λ h. h.vertices) e;
+        graph = IsGraph-graph_of made;
+        edges = λ u v. adjacent-graph_of made u v ∙ law u v ∙ ap (λ b. b || (in_block words high low u v || in_block words high low v u)) (sym (adjacent-graph_of a u v) ∙ ap (λ h. adjacent h u v) e);
+      },
+    )
