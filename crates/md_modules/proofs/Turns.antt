@@ -36,6 +36,24 @@ empty_if s e y = ap (λ t. contains t y) e ∙ empty_lacks y
 pub if_empty : (s : NameSet) → ((y : ℕ) → Lacks s y) → s ≡ empty
 if_empty s none = same_members s empty (λ y h. clash h (none y)) (λ y h. clash h (empty_lacks y))
 
+-- a set that took in another one, and had no member before
+pub taken_whole : (s none t : NameSet) → none ≡ empty → t ≡ union none s → t ≡ s
+taken_whole s none t is_none is = is ∙ same_members _ _
+    (λ y h. elim (of_union none s y h) [ inl o ↦ clash o (empty_if none is_none y) | inr i ↦ i ])
+    (λ y h. union_right none s y h)
+
+-- what is told apart from a set is the rest of it, for a part
+pub flipped_part : (s t : NameSet) → Within t s → told_apart t s ≡ difference s t
+flipped_part s t inside = same_members _ _
+    (λ y h. elim (of_union (difference t s) (difference s t) y h) [
+      | inl o ↦ let two : Has t y × Lacks s y = of_minus t s y o in clash (inside y two.0) two.1
+      | inr i ↦ i
+    ])
+    (λ y h. union_right (difference t s) (difference s t) y h)
+
+pub flipped_along : (s t u : NameSet) → Within t s → u ≡ told_apart t s → u ≡ difference s t
+flipped_along s t u inside is = is ∙ flipped_part s t inside
+
 pub lacks_along : (s t : NameSet) → s ≡ t → (y : ℕ) → Lacks t y → Lacks s y
 lacks_along s t e y l = ap (λ w. contains w y) e ∙ l
 

@@ -58,7 +58,8 @@ pub fn component(graph: &Graph, within: &Names, x: u32, into: &mut Names)
     requires member { Has within.now x }
     ensures { IsComponent (adjacent graph.now) within.now x into.new false }
 {
-    *into = within.minus(&unreached(graph, within, x, false));
+    unreached(graph, within, x, false, into);
+    into.flip(within);
 }
 
 /// Puts into `into` the component of `x` in the complement of the graph on `within`. Condition: `within` is a set of
@@ -68,7 +69,8 @@ pub fn co_component(graph: &Graph, within: &Names, x: u32, into: &mut Names)
     requires member { Has within.now x }
     ensures { IsComponent (adjacent graph.now) within.now x into.new true }
 {
-    *into = within.minus(&unreached(graph, within, x, true));
+    unreached(graph, within, x, true, into);
+    into.flip(within);
 }
 
 /// Puts into `into` the least module of the graph on `within` that holds `u` and `v`: `u` alone where they are equal.
@@ -103,8 +105,8 @@ pub fn grow(graph: &Graph, within: &Names, v: u32, into: &mut Names, todo: Names
         → adjacent graph.now v y ≡ adjacent graph.now w y }
     ensures { IsLeastModuleOver (adjacent graph.now) within.now into.old into.new }
 {
-    let left = not_grown(graph, within, v, into, todo);
-    *into = within.minus(&left);
+    not_grown(graph, within, v, into, todo);
+    into.flip(within);
 }
 
 /// Puts into `into` the names of `within` other than `v` that no module holds with `v` but `within` itself; the rest of
@@ -119,7 +121,8 @@ pub fn back(graph: &Graph, within: &Names, v: u32, j: u32, into: &mut Names)
     ensures rest { IsModule (adjacent graph.now) within.now (difference within.now into.new) }
     ensures fixed { Has (difference within.now into.new) v }
 {
-    *into = within.minus(&not_back(graph, within, v, j));
+    not_back(graph, within, v, j, into);
+    into.flip(within);
 }
 
 // Whether the graph (`value` is false) or its complement (`value` is true) is connected.
@@ -131,7 +134,9 @@ fn is_whole(graph: &Graph, value: bool) -> bool
     let Some(x) = vertices.first_from(0) else {
         return true;
     };
-    unreached(graph, vertices, x, value).is_empty()
+    let mut left = Names::none();
+    unreached(graph, vertices, x, value, &mut left);
+    left.is_empty()
 }
 
 // Whether each of `others` is adjacent to `v` and to all of `names`, or to none of these.
@@ -159,24 +164,25 @@ fn see_alike(graph: &Graph, v: u32, w: u32, others: &Names) -> bool
         .is_none()
 }
 
-// What the component of `x` leaves of `within`, in the graph (`value` is false) or its complement (`value` is true).
-fn unreached(graph: &Graph, within: &Names, x: u32, value: bool) -> Names
+// Puts into `left` what the component of `x` leaves of `within`, in the graph (`value` is false) or its complement (`value` is
+// true).
+fn unreached(graph: &Graph, within: &Names, x: u32, value: bool, left: &mut Names)
     requires inside { Within within.now graph.now.vertices }
     requires member { Has within.now x }
-    ensures part { Within result within.now }
-    ensures taken { IsComponent (adjacent graph.now) within.now x (difference within.now result) value }
+    ensures part { Within left.new within.now }
+    ensures taken { IsComponent (adjacent graph.now) within.now x (difference within.now left.new) value }
 {
     let _vertices = graph.vertices();
-    let mut left = within.copy();
+    left.clear();
+    left.take_in(within);
     left.remove(x);
     let mut todo = Names::none();
     todo.insert(x);
     // Each name is taken once. It is looked at in a turn, at two operations on rows, or a look back saves its turn, at one
     // operation on rows or less. So a search costs at most two of them for each name of `within`.
-    while let Some(w) = next(&left, &todo) {
-        turn(graph, within, value, w, &mut left, &mut todo);
+    while let Some(w) = next(left, &todo) {
+        turn(graph, within, value, w, left, &mut todo);
     }
-    left
 }
 
 // One turn of the search for a component: what is left and adjacent to `w` is taken. Where nothing is, the search looks back,
@@ -243,46 +249,46 @@ fn sees(graph: &Graph, w: u32, value: bool, among: &Names, apart: &Names) -> boo
     among.first_told_apart(row, among).is_some()
 }
 
-// What the least module that holds `begun` leaves of `within`.
-fn not_grown(graph: &Graph, within: &Names, v: u32, begun: &Names, mut todo: Names) -> Names
+// Puts into `left`, in place of its members, what the least module that holds them leaves of `within`.
+fn not_grown(graph: &Graph, within: &Names, v: u32, left: &mut Names, mut todo: Names)
     requires inside { Within within.now graph.now.vertices }
-    requires part { Within begun.now within.now }
-    requires fixed { Has begun.now v }
-    requires among { Within todo begun.now }
-    requires seen { (w : ℕ) → Has begun.now w → Lacks todo w → (y : ℕ) → Has within.now y → Lacks begun.now y
+    requires part { Within left.old within.now }
+    requires fixed { Has left.old v }
+    requires among { Within todo left.old }
+    requires seen { (w : ℕ) → Has left.old w → Lacks todo w → (y : ℕ) → Has within.now y → Lacks left.old y
         → adjacent graph.now v y ≡ adjacent graph.now w y }
-    ensures { IsLeastModuleOver (adjacent graph.now) within.now begun.now (difference within.now result) }
+    ensures part { Within left.new within.now }
+    ensures grown { IsLeastModuleOver (adjacent graph.now) within.now left.old (difference within.now left.new) }
 {
     let _vertices = graph.vertices();
-    let mut left = within.minus(begun);
-    while let Some(w) = next(&left, &todo) {
+    left.flip(within);
+    while let Some(w) = next(left, &todo) {
         todo.remove(w);
         left.move_told_apart(graph.row(v), graph.row(w), &mut todo);
     }
-    left
 }
 
-// The names of `within` that a module smaller than `within` holds with `v`, and `v`.
-fn not_back(graph: &Graph, within: &Names, v: u32, j: u32) -> Names
+// Puts into `left` the names of `within` that a module smaller than `within` holds with `v`, and `v`.
+fn not_back(graph: &Graph, within: &Names, v: u32, j: u32, left: &mut Names)
     requires inside { Within within.now graph.now.vertices }
     requires differ { v ≢ j }
     requires whole { IsLeastModule (adjacent graph.now) within.now v j within.now }
-    ensures part { Within result within.now }
-    ensures names { (i : ℕ) → Has within.now i → Lacks result i
+    ensures part { Within left.new within.now }
+    ensures names { (i : ℕ) → Has within.now i → Lacks left.new i
         ↔ ((i ≢ v) × IsLeastModule (adjacent graph.now) within.now v i within.now) }
-    ensures rest { IsModule (adjacent graph.now) within.now result }
-    ensures fixed { Has result v }
+    ensures rest { IsModule (adjacent graph.now) within.now left.new }
+    ensures fixed { Has left.new v }
 {
     let _vertices = graph.vertices();
-    let mut left = within.copy();
+    left.clear();
+    left.take_in(within);
     left.remove(j);
     let mut todo = Names::none();
     todo.insert(j);
     while let Some(w) = todo.first_from(0) {
         todo.remove(w);
-        move_seen(graph, w, !graph.has_edge(w, v), &mut left, &mut todo);
+        move_seen(graph, w, !graph.has_edge(w, v), left, &mut todo);
     }
-    left
 }
 
 // A name to look at, as long as a name is left; none where nothing is left, or nothing is to be looked at.
