@@ -168,10 +168,10 @@ module _ {g : PlainGraph} (is_graph : IsGraph g) (heads : NameSet) (places : Lis
     same = is_near ∙ ap (λ s. intersection s heads) is_row
 
   module _ (left : List ℕ) (ps : List Pair) (pushing : IsPushing (adjacent g) heads places h near_heads left ps) where
-    pub pushing_name : (x : ℕ) (rest : List ℕ) → left ≡ x ∷ rest → x < NAMES
-    pushing_name x rest steps =
+    pub pushing_head : (x : ℕ) (rest : List ℕ) → left ≡ x ∷ rest → Has heads x
+    pushing_head x rest steps =
         let turn : IsTurn near_heads pushing.low NAMES x rest = walk_turn near_heads pushing.low NAMES x left rest pushing.is steps in
-        turn.item.below
+        (of_near x turn.item.member).0
 
     pub pushing_more : (x : ℕ) (rest : List ℕ) (qs : List Pair) → RisesOn heads places → Has heads h → left ≡ x ∷ rest → qs ≡ ps ++ pair_at places h x ∷ [] →
         IsPushing (adjacent g) heads places h near_heads rest qs
@@ -232,6 +232,9 @@ module _ {g : PlainGraph} (is_graph : IsGraph g) (s : NameSet) (cs : List NameSe
 
   pub child_some : (k : ℕ) → k < length cs → HasSome (set_at cs k)
   child_some k room = (child_at k room).is_module.some
+
+  pub child_within : (k x : ℕ) → k < length cs → Has (set_at cs k) x → Has s x
+  child_within k x room h = (child_at k room).is_module.inside x h
 
   place_of : (k x : ℕ) → Has (set_at cs k) x → k < length cs
   place_of k x h = elim (cases_lt k (length cs)) [

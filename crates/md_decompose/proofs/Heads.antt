@@ -15,10 +15,10 @@ use Rattle.md_decompose.specs.Heads.{AreHeads, RisesOn}
 -- the heads of the first n sets, none of which is below its place
 pub record IsHeading (cs : List NameSet) (n : ℕ) (heads : NameSet) (places : List ℕ) : Type 0 where
   pub heads_of : AreHeads cs n heads places
-  pub room : length places ≡ NAMES
+  pub room : (k v : ℕ) → k < length cs → Has (set_at cs k) v → v < length places
   pub early : (a : ℕ) → Has heads a → get_or places a 0 ≤ a
 
-pub heading_none : (cs : List NameSet) (heads : NameSet) (places : List ℕ) → heads ≡ empty → length places ≡ NAMES → IsHeading cs 0 heads places
+pub heading_none : (cs : List NameSet) (heads : NameSet) (places : List ℕ) → heads ≡ empty → ((k v : ℕ) → k < length cs → Has (set_at cs k) v → v < length places) → IsHeading cs 0 heads places
 heading_none cs heads places is room = record {
   heads_of = record { below = λ a h. absurd (none a h); least = λ a h. absurd (none a h); each = λ k h. absurd (omega arith) };
   room = room;
@@ -53,36 +53,40 @@ module _ (cs : List NameSet) (order : AllPairs IsBefore cs) where
     pub place_fits : n ≤ h
     place_fits = let p : n ≤ h = place_low n refl in p
 
-    module _ (name : h < NAMES) where
-      here : get_or (set places h n) h 0 ≡ n
-      here = let e : length places ≡ NAMES = heading.room in let lt : h < length places = omega arith in rw get_or-set_same refl
+    here : get_or (set places h n) h 0 ≡ n
+    here = let lt : h < length places = heading.room n h room least.member in rw get_or-set_same refl
 
-      other : (a : ℕ) → Has heads a → get_or (set places h n) a 0 ≡ get_or places a 0
-      other a k = let b : a < h = head_before a k in let ne : a ≢ h = omega arith in rw get_or-set_other refl
+    other : (a : ℕ) → Has heads a → get_or (set places h n) a 0 ≡ get_or places a 0
+    other a k = let b : a < h = head_before a k in let ne : a ≢ h = omega arith in rw get_or-set_other refl
 
-      more_each : (k : ℕ) → k < n + 1 → (k < n) ⊎ (k ≡ n) → (a : ℕ) × Has (insert heads h) a × (get_or (set places h n) a 0 ≡ k)
-      more_each k b (inl l) =
-          let r : (a : ℕ) × Has heads a × (get_or places a 0 ≡ k) = heading.heads_of.each k l in
-          (r.0, insert_old heads h r.0 r.1, other r.0 r.1 ∙ r.2)
-      more_each k b (inr e) = (h, insert_new heads h, here ∙ sym e)
+    more_each : (k : ℕ) → k < n + 1 → (k < n) ⊎ (k ≡ n) → (a : ℕ) × Has (insert heads h) a × (get_or (set places h n) a 0 ≡ k)
+    more_each k b (inl l) =
+        let r : (a : ℕ) × Has heads a × (get_or places a 0 ≡ k) = heading.heads_of.each k l in
+        (r.0, insert_old heads h r.0 r.1, other r.0 r.1 ∙ r.2)
+    more_each k b (inr e) = (h, insert_new heads h, here ∙ sym e)
 
-      more_heads : AreHeads cs (n + 1) (insert heads h) (set places h n)
-      more_heads = record {
-        below = λ a k. elim (of_insert heads h a k) [
-          | inl e ↦ subst (λ w. get_or (set places h n) w 0 < n + 1) (sym e) (let p : get_or (set places h n) h 0 ≡ n = here in omega arith)
-          | inr k' ↦ let p : get_or places a 0 < n = heading.heads_of.below a k' in let q : get_or (set places h n) a 0 ≡ get_or places a 0 = other a k' in omega arith
-        ];
-        least = λ a k. elim (of_insert heads h a k) [
-          | inl e ↦ subst (λ w. IsLeastFrom (set_at cs (get_or (set places h n) w 0)) 0 w) (sym e) (subst (λ w. IsLeastFrom (set_at cs w) 0 h) (sym here) least)
-          | inr k' ↦ subst (λ w. IsLeastFrom (set_at cs w) 0 a) (sym (other a k')) (heading.heads_of.least a k')
-        ];
-        each = λ k b. more_each k b (cases_lt_or_same k n b);
-      } where
-        cases_lt_or_same : (k n : ℕ) → k < n + 1 → (k < n) ⊎ (k ≡ n)
-        cases_lt_or_same zero zero b = inr refl
-        cases_lt_or_same zero (suc n) b = inl (omega arith)
-        cases_lt_or_same (suc k) zero b = absurd (omega arith)
-        cases_lt_or_same (suc k) (suc n) b = elim (cases_lt_or_same k n (omega arith)) [ inl l ↦ inl (omega arith) | inr e ↦ inr (omega arith) ]
+    more_heads : AreHeads cs (n + 1) (insert heads h) (set places h n)
+    more_heads = record {
+      below = λ a k. elim (of_insert heads h a k) [
+        | inl e ↦ subst (λ w. get_or (set places h n) w 0 < n + 1) (sym e) (let p : get_or (set places h n) h 0 ≡ n = here in omega arith)
+        | inr k' ↦ let p : get_or places a 0 < n = heading.heads_of.below a k' in let q : get_or (set places h n) a 0 ≡ get_or places a 0 = other a k' in omega arith
+      ];
+      least = λ a k. elim (of_insert heads h a k) [
+        | inl e ↦ subst (λ w. IsLeastFrom (set_at cs (get_or (set places h n) w 0)) 0 w) (sym e) (subst (λ w. IsLeastFrom (set_at cs w) 0 h) (sym here) least)
+        | inr k' ↦ subst (λ w. IsLeastFrom (set_at cs w) 0 a) (sym (other a k')) (heading.heads_of.least a k')
+      ];
+      each = λ k b. more_each k b (cases_lt_or_same k n b);
+    } where
+      cases_lt_or_same : (k n : ℕ) → k < n + 1 → (k < n) ⊎ (k ≡ n)
+      cases_lt_or_same zero zero b = inr refl
+      cases_lt_or_same zero (suc n) b = inl (omega arith)
+      cases_lt_or_same (suc k) zero b = absurd (omega arith)
+      cases_lt_or_same (suc k) (suc n) b = elim (cases_lt_or_same k n (omega arith)) [ inl l ↦ inl (omega arith) | inr e ↦ inr (omega arith) ]
+
+-- a head has a place
+pub head_room : (cs : List NameSet) (n h : ℕ) (c heads : NameSet) (places : List ℕ) → IsHeading cs n heads places → n < length cs → c ≡ get_or cs n c → IsLeastFrom c 0 h → h < length places
+head_room cs n h c heads places heading room is least =
+    heading.room n h room (subst (λ t. Has t h) (is ∙ get_or_default cs n c empty room) least.member)
 
 -- the turns of the heads of sets
 module _ (cs : List NameSet) (order : AllPairs IsBefore cs) where
@@ -90,16 +94,16 @@ module _ (cs : List NameSet) (order : AllPairs IsBefore cs) where
   least_at n h c is room least = subst (λ t. IsLeastFrom t 0 h) (is ∙ get_or_default cs n c empty room) least
 
   pub heading_turn : (n h : ℕ) (c : NameSet) (heads heads' : NameSet) (places : List ℕ) → IsHeading cs n heads places → n < length cs → c ≡ get_or cs n c → IsLeastFrom c 0 h →
-      h < NAMES → heads' ≡ insert heads h → IsHeading cs (n + 1) heads' (set places h n)
-  heading_turn n h c heads heads' places heading room is least name same =
+      heads' ≡ insert heads h → IsHeading cs (n + 1) heads' (set places h n)
+  heading_turn n h c heads heads' places heading room is least same =
       subst (λ t. IsHeading cs (n + 1) t (set places h n)) (sym same) (record {
-        heads_of = more_heads cs order n heads places heading h room at_n name;
-        room = length-set places h n ∙ heading.room;
+        heads_of = more_heads cs order n heads places heading h room at_n;
+        room = λ k v l m. subst (λ z. v < z) (sym (length-set places h n)) (heading.room k v l m);
         early = λ a k. elim (of_insert heads h a k) [
           | inl e ↦ subst (λ w. get_or (set places h n) w 0 ≤ w) (sym e)
-              (let p : get_or (set places h n) h 0 ≡ n = here cs order n heads places heading h room at_n name in let q : n ≤ h = place_fits cs order n heads places heading h room at_n in omega arith)
+              (let p : get_or (set places h n) h 0 ≡ n = here cs order n heads places heading h room at_n in let q : n ≤ h = place_fits cs order n heads places heading h room at_n in omega arith)
           | inr k' ↦ (
-              let p : get_or (set places h n) a 0 ≡ get_or places a 0 = other cs order n heads places heading h room at_n name a k' in
+              let p : get_or (set places h n) a 0 ≡ get_or places a 0 = other cs order n heads places heading h room at_n a k' in
               let q : get_or places a 0 ≤ a = heading.early a k' in
               omega arith)
         ];

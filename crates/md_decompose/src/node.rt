@@ -63,7 +63,7 @@ fn components(
         return Ok(None);
     };
     let first = component_at(graph, set, v, value);
-    if set.minus(&first).is_empty() {
+    if set.first_told_apart(&first, set).is_none() {
         return Ok(None);
     }
     Ok(Some(component_list(alloc, graph, set, first, value)?))
@@ -90,7 +90,7 @@ fn component_list(
     }
     while let Some(v) = rest.first_from(0) {
         let next = component_at(graph, &rest, v, value);
-        rest = rest.minus(&next);
+        rest.flip(&next);
         if sets.push(next).is_err() {
             return Err(Memory);
         }

@@ -11,6 +11,9 @@ use md_graph::{Graph, Memory, NAMES, Names};
 use md_tree::{Pair, QuotientEdges};
 use std::alloc::Global;
 
+/// In a set of names below this the places of names are kept in a small array, which costs less to make.
+const FEW: u32 = 64;
+
 /// The pairs of children of a prime set between which an edge runs, by their positions. The first names of two children
 /// are adjacent exactly where an edge runs between them.
 pub(crate) fn quotient_edges(
@@ -25,18 +28,40 @@ pub(crate) fn quotient_edges(
     ensures { IfOk result (λ edges. ListsPairs (adjacent graph.now) sets.now edges.list.items) }
 {
     let _vertices = graph.vertices();
-    let mut places = [0; NAMES as usize];
-    let heads = heads_of(sets, &mut places);
-    let list = head_pairs(alloc, graph, &heads, &places)?;
+    if set.first_from(FEW).is_none() {
+        return pairs_by_places(alloc, graph, set, sets, &mut [0; FEW as usize]);
+    }
+    pairs_by_places(alloc, graph, set, sets, &mut [0; NAMES as usize])
+}
+
+/// The pairs of children of a prime set between which an edge runs, with room for a place at each name of the set.
+fn pairs_by_places(
+    alloc: Global,
+    graph: &Graph,
+    set: &Names,
+    sets: &[Names],
+    places: &mut [u32],
+) -> Result<QuotientEdges, Memory>
+    requires inside { Within set.now graph.now.vertices }
+    requires prime { IsPrime (adjacent graph.now) set.now }
+    requires children { AreChildren (adjacent graph.now) set.now sets.now }
+    requires room { (v : ℕ) → Has set.now v → v < length places.old }
+    ensures { IfOk result (λ edges. ListsPairs (adjacent graph.now) sets.now edges.list.items) }
+{
+    let _vertices = graph.vertices();
+    let heads = heads_of(sets, places);
+    let list = head_pairs(alloc, graph, &heads, places)?;
     Ok(QuotientEdges { list })
 }
 
 /// The least name of each set, and at its place the position of the set.
 fn heads_of(sets: &[Names], places: &mut [u32]) -> Names
-    requires room { length places.old ≡ NAMES }
+    requires room { (k v : ℕ) → k < length sets.now → Has (set_at sets.now k) v
+        → v < length places.old }
     requires some { (k : ℕ) → k < length sets.now → HasSome (set_at sets.now k) }
     requires order { AllPairs IsBefore sets.now }
-    ensures { AreHeads sets.now (length sets.now) result places.new }
+    ensures heads { AreHeads sets.now (length sets.now) result places.new }
+    ensures size { length places.new ≡ length places.old }
 {
     let mut heads = Names::none();
     for (place, set) in sets.iter().enumerate() {
@@ -56,7 +81,7 @@ fn head_pairs(
     heads: &Names,
     places: &[u32],
 ) -> Result<Vec<Pair>, Memory>
-    requires room { length places.now ≡ NAMES }
+    requires room { (v : ℕ) → Has heads.now v → v < length places.now }
     requires rising { RisesOn heads.now places.now }
     ensures { IfOk result (λ edges. ListsHeadPairs (adjacent graph.now) heads.now places.now NAMES 0 edges.items) }
 {
@@ -75,7 +100,7 @@ fn push_pairs(
     head: u32,
     edges: &mut Vec<Pair>,
 ) -> Result<(), Memory>
-    requires room { length places.now ≡ NAMES }
+    requires room { (v : ℕ) → Has heads.now v → v < length places.now }
     requires rising { RisesOn heads.now places.now }
     requires member { Has heads.now head }
     requires name { head < NAMES }

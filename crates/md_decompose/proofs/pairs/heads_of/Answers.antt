@@ -1,6 +1,6 @@
 use Rattle.std.proofs.Common.{◌<◌, ◌≤◌, arith}
 use Rattle.md_graph.specs.declared.TheConstants.{NAMES}
-use Rattle.md_decompose.proofs.Heads.{heading_none, heading_turn, heading_place, no_heads}
+use Rattle.md_decompose.proofs.Heads.{head_room, heading_none, heading_turn, heading_place, no_heads}
 use Rattle.md_decompose.proofs.pairs.heads_of.Goals as goal
 
 pub loop-place-init : goal.loop-place-init
@@ -21,4 +21,7 @@ overflow_cast-places c =
 pub loop-place-preserved : goal.loop-place-preserved
 loop-place-preserved c =
     heading_turn c.args.sets.now c.requires.order c.loop-place.place c.in-Some.head c.index-sets-place.result c.loop-place.heads c.insert.new.self c.loop-place.places
-    c.loop-place.invariant c.loop-place-test.true c.index-sets-place.is c.in-Some.ensures.found c.in-Some.ensures.name c.insert.ensures
+    c.loop-place.invariant c.loop-place-test.true c.index-sets-place.is c.in-Some.ensures.found c.insert.ensures
+
+pub bounds-places-head : goal.bounds-places-head
+bounds-places-head c = head_room c.args.sets.now c.loop-place.place c.in-Some.head c.index-sets-place.result c.loop-place.heads c.loop-place.places c.loop-place.invariant c.loop-place-test.true c.index-sets-place.is c.in-Some.ensures.found

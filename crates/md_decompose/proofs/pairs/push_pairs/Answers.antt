@@ -1,6 +1,4 @@
-use Rattle.std.proofs.Common.{◌≡◌, ◌<◌, length, arith}
-use Rattle.md_graph.specs.declared.TheConstants.{NAMES}
-use Rattle.md_decompose.proofs.HeadPairs.{pushing_begin, pushing_name, pushing_more, pushing_end}
+use Rattle.md_decompose.proofs.HeadPairs.{pushing_begin, pushing_head, pushing_more, pushing_end}
 use Rattle.md_decompose.proofs.Pushes.{pushed}
 use Rattle.md_decompose.proofs.pairs.push_pairs.Goals as goal
 
@@ -12,10 +10,8 @@ loop-other-init c =
 
 pub bounds-places-other : goal.bounds-places-other
 bounds-places-other c =
-    let p : c.in-Some.other < NAMES =
-    pushing_name c.row.ensures.graph c.args.heads.now c.args.places.now c.args.head c.loop-other.other-iterator c.loop-other.edges.items c.loop-other.invariant c.in-Some.other _ c.in-Some.ensures.steps in
-    let q : length c.args.places.now ≡ NAMES = c.requires.room in
-    omega arith
+    c.requires.room c.in-Some.other
+    (pushing_head c.row.ensures.graph c.args.heads.now c.args.places.now c.args.head c.loop-other.other-iterator c.loop-other.edges.items c.loop-other.invariant c.in-Some.other _ c.in-Some.ensures.steps)
 
 pub loop-other-preserved : goal.loop-other-preserved
 loop-other-preserved c =
