@@ -19,7 +19,7 @@ use Rattle.md_decompose.proofs.ClassLists.{at_known, at_one, in_one, IsCutAt, pl
 module _ {g : PlainGraph} (graph : IsGraph g) where
   apart : (a x : ℕ) (first second out : NameSet) → first ≡ neighbours g a → second ≡ neighbours g x → ToldApart graph a x out (intersection out (told_apart first second))
   apart a x first second out is_first is_second =
-      subst (ToldApart graph a x out) (ap₂ (λ p q. intersection out (told_apart p q)) (sym is_first) (sym is_second)) (told_all graph a x out)
+      subst (ToldApart graph a x out) (ap₂ (λ s t. intersection out (told_apart s t)) (sym is_first) (sym is_second)) (told_all graph a x out)
 
   pub splitter_found : (s c first second out : NameSet) (a x p : ℕ) → Has c a → Has c x → out ≡ difference s c → first ≡ neighbours g a → second ≡ neighbours g x →
       IsLeastFrom (intersection out (told_apart first second)) 0 p → IsSplitter (adjacent g) s c p

@@ -9,4 +9,4 @@ pub mod Opened
 pub mod Components
 pub mod Pushes
 pub mod Heads
-pub mod Links
+pub mod HeadPairs

@@ -1,7 +1,6 @@
 -- Partitions of a set of names, and the parts of a prime set that its modules lie in.
 -- Source: Habib and Paul, A survey of the algorithmic aspects of modular decomposition (partition refinement).
 use Rattle.std.specs.Prelude.{◌≡◌, ◌<◌, ℕ, Bool, true, false, List, length}
-use Rattle.std.specs.FinSet.{union, intersection, difference}
 use Rattle.md_modules.specs.Sets.{NameSet, Has, Lacks, Within, HasSome}
 use Rattle.md_modules.specs.Modules.{IsModule}
 use Rattle.md_decompose.specs.Children.{set_at}

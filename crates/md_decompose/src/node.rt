@@ -1,8 +1,8 @@
 //! One node of the tree: its kind and its children.
-ghost use Rattle.std.specs.Prelude.{ℕ, IfOk, IsTrue, MatchOption};
+ghost use Rattle.std.specs.Prelude.{ℕ, false, true, IfOk, IsTrue, MatchOption};
 ghost use Rattle.md_graph.specs.NameSet.{IsLeastFrom};
 ghost use Rattle.md_graph.specs.PlainGraph.{adjacent, IsGraph};
-ghost use Rattle.md_modules.specs.Sets.{Has, Within, HasSome, HasTwo};
+ghost use Rattle.md_modules.specs.Sets.{NameSet, Has, Within, HasSome, HasTwo};
 ghost use Rattle.md_modules.specs.Components.{IsComponent};
 ghost use Rattle.md_tree.specs.StrongTrees.{HasKind};
 ghost use Rattle.md_decompose.specs.Children.{AreChildren, FitsBelow, Splits};
@@ -63,7 +63,7 @@ fn components(
         return Ok(None);
     };
     let first = component_at(graph, set, v, value);
-    if set.minus(&first).is_empty() {
+    if set.first_told_apart(&first, set).is_none() {
         return Ok(None);
     }
     Ok(Some(component_list(alloc, graph, set, first, value)?))
@@ -90,7 +90,7 @@ fn component_list(
     }
     while let Some(v) = rest.first_from(0) {
         let next = component_at(graph, &rest, v, value);
-        rest = rest.minus(&next);
+        rest.flip(&next);
         if sets.push(next).is_err() {
             return Err(Memory);
         }

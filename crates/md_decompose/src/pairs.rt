@@ -1,14 +1,18 @@
 //! The pairs of children that a prime node lists.
-ghost use Rattle.std.specs.Prelude.{◌≡◌, ◌+◌, ◌<◌, ◌≤◌, ℕ, IfOk, length, slice_index};
+ghost use Rattle.std.specs.Prelude.{◌≡◌, ◌+◌, ◌<◌, ℕ, IfOk, AllPairs, length, slice_index};
 ghost use Rattle.md_graph.specs.PlainGraph.{adjacent};
-ghost use Rattle.md_modules.specs.Sets.{HasSome, Within};
+ghost use Rattle.md_modules.specs.Sets.{NameSet, Has, HasSome, Within};
 ghost use Rattle.md_modules.specs.Kinds.{IsPrime};
+ghost use Rattle.md_tree.specs.StrongTrees.{IsBefore};
 ghost use Rattle.md_decompose.specs.Children.{AreChildren, ListsPairs, set_at};
-ghost use Rattle.md_decompose.specs.Heads.{AreHeads, AreNames, Rise, AreNamesOf, ListsLinks};
+ghost use Rattle.md_decompose.specs.Heads.{AreHeads, RisesOn, ListsHeadPairs};
 
-use md_graph::{Graph, Memory, Names};
+use md_graph::{Graph, Memory, NAMES, Names};
 use md_tree::{Pair, QuotientEdges};
 use std::alloc::Global;
+
+/// In a set of names below this the places of names are kept in a small array, which costs less to make.
+const FEW: u32 = 64;
 
 /// The pairs of children of a prime set between which an edge runs, by their positions. The first names of two children
 /// are adjacent exactly where an edge runs between them.
@@ -24,99 +28,95 @@ pub(crate) fn quotient_edges(
     ensures { IfOk result (λ edges. ListsPairs (adjacent graph.now) sets.now edges.list.items) }
 {
     let _vertices = graph.vertices();
-    let heads = heads_of(alloc, sets)?;
-    let list = links(alloc, graph, &heads)?;
+    if set.first_from(FEW).is_none() {
+        return pairs_by_places(alloc, graph, set, sets, &mut [0; FEW as usize]);
+    }
+    pairs_by_places(alloc, graph, set, sets, &mut [0; NAMES as usize])
+}
+
+/// The pairs of children of a prime set between which an edge runs, with room for a place at each name of the set.
+fn pairs_by_places(
+    alloc: Global,
+    graph: &Graph,
+    set: &Names,
+    sets: &[Names],
+    places: &mut [u32],
+) -> Result<QuotientEdges, Memory>
+    requires inside { Within set.now graph.now.vertices }
+    requires prime { IsPrime (adjacent graph.now) set.now }
+    requires children { AreChildren (adjacent graph.now) set.now sets.now }
+    requires room { (v : ℕ) → Has set.now v → v < length places.old }
+    ensures { IfOk result (λ edges. ListsPairs (adjacent graph.now) sets.now edges.list.items) }
+{
+    let _vertices = graph.vertices();
+    let heads = heads_of(sets, places);
+    let list = head_pairs(alloc, graph, &heads, places)?;
     Ok(QuotientEdges { list })
 }
 
-/// The least name of each set.
-fn heads_of(alloc: Global, sets: &[Names]) -> Result<Vec<u32>, Memory>
+/// The least name of each set, and at its place the position of the set.
+fn heads_of(sets: &[Names], places: &mut [u32]) -> Names
+    requires room { (k v : ℕ) → k < length sets.now → Has (set_at sets.now k) v
+        → v < length places.old }
     requires some { (k : ℕ) → k < length sets.now → HasSome (set_at sets.now k) }
-    ensures heads { IfOk result (λ heads. AreHeads sets.now (length sets.now) heads.items) }
-    ensures names { IfOk result (λ heads. AreNames heads.items) }
+    requires order { AllPairs IsBefore sets.now }
+    ensures heads { AreHeads sets.now (length sets.now) result places.new }
+    ensures size { length places.new ≡ length places.old }
 {
-    let Ok(mut heads) = Vec::with_capacity(alloc, sets.len()) else {
-        return Err(Memory);
-    };
-    for set in sets {
+    let mut heads = Names::none();
+    for (place, set) in sets.iter().enumerate() {
         let Some(head) = set.first_from(0) else {
-            return Ok(heads);
+            return heads;
         };
-        if heads.push(head).is_err() {
-            return Err(Memory);
-        }
+        heads.insert(head);
+        places[head as usize] = place as u32;
     }
-    Ok(heads)
+    heads
 }
 
-/// The pairs of adjacent heads, by their positions.
-fn links(alloc: Global, graph: &Graph, heads: &[u32]) -> Result<Vec<Pair>, Memory>
-    requires names { AreNames heads.now }
-    requires rising { Rise heads.now }
-    ensures { IfOk result (λ edges. ListsLinks (adjacent graph.now) heads.now (length heads.now) 0 edges.items) }
+/// The pairs of adjacent heads, by their places.
+fn head_pairs(
+    alloc: Global,
+    graph: &Graph,
+    heads: &Names,
+    places: &[u32],
+) -> Result<Vec<Pair>, Memory>
+    requires room { (v : ℕ) → Has heads.now v → v < length places.now }
+    requires rising { RisesOn heads.now places.now }
+    ensures { IfOk result (λ edges. ListsHeadPairs (adjacent graph.now) heads.now places.now NAMES 0 edges.items) }
 {
-    let names = names_of(heads);
     let mut edges = Vec::new(alloc);
-    for low in 0..heads.len() {
-        push_links(graph, heads, &names, low, &mut edges)?;
+    for head in heads.members() {
+        push_pairs(graph, heads, places, head, &mut edges)?;
     }
     Ok(edges)
 }
 
-/// The set of the heads.
-fn names_of(heads: &[u32]) -> Names
-    requires { AreNames heads.now }
-    ensures { AreNamesOf heads.now (length heads.now) result }
-{
-    let mut names = Names::none();
-    for head in heads {
-        names.insert(*head);
-    }
-    names
-}
-
-/// The pairs of the head at `low` and each later one that is adjacent to it, by their positions.
-fn push_links(
+/// The pairs of `head` and each later one that is adjacent to it, by their places.
+fn push_pairs(
     graph: &Graph,
-    heads: &[u32],
-    names: &Names,
-    low: usize,
+    heads: &Names,
+    places: &[u32],
+    head: u32,
     edges: &mut Vec<Pair>,
 ) -> Result<(), Memory>
-    requires names { AreNames heads.now }
-    requires rising { Rise heads.now }
-    requires set { AreNamesOf heads.now (length heads.now) names.now }
-    requires position { low < length heads.now }
-    requires before { ListsLinks (adjacent graph.now) heads.now low 0 edges.old.items }
-    ensures { IfOk result (λ _. ListsLinks (adjacent graph.now) heads.now (low + 1) 0 edges.new.items) }
+    requires room { (v : ℕ) → Has heads.now v → v < length places.now }
+    requires rising { RisesOn heads.now places.now }
+    requires member { Has heads.now head }
+    requires name { head < NAMES }
+    requires before { ListsHeadPairs (adjacent graph.now) heads.now places.now head 0 edges.old.items }
+    ensures { IfOk result (λ _. ListsHeadPairs (adjacent graph.now) heads.now places.now (head + 1) 0 edges.new.items) }
 {
-    let head = heads[low];
-    let near = graph.row(head).and(names);
-    let mut next = low + 1;
+    let low = places[head as usize];
+    let near = graph.row(head).and(heads);
     for other in near.members_from(head + 1) {
-        let high = position_from(heads, next, other);
         let pair = Pair {
-            low: low as u32,
-            high: high as u32,
+            low,
+            high: places[other as usize],
         };
         if edges.push(pair).is_err() {
             return Err(Memory);
         }
-        next = high + 1;
     }
     Ok(())
-}
-
-/// The position of `name`, which is at or behind `from`.
-fn position_from(heads: &[u32], from: usize, name: u32) -> usize
-    requires { (k : ℕ) × (from ≤ k) × (k < length heads.now) × (slice_index heads.now k ≡ name) }
-    ensures from { from ≤ result }
-    ensures inside { result < length heads.now }
-    ensures name { slice_index heads.now result ≡ name }
-{
-    let mut position = from;
-    while heads[position] != name {
-        position += 1;
-    }
-    position
 }

@@ -1,7 +1,6 @@
 //! Partitions of a set of names into modules.
 ghost use Rattle.std.specs.Prelude.{◌≡◌, ◌<◌, ◌++◌, ◌∷◌, ℕ, IfOk, IfSome, IfNone, [], slice_set, vec_len};
 ghost use Rattle.std.specs.FinSet.{intersection, difference};
-ghost use Rattle.md_graph.specs.NameSet.{IsLeastFrom, NoneFrom};
 ghost use Rattle.md_graph.specs.PlainGraph.{adjacent};
 ghost use Rattle.md_modules.specs.Sets.{Within, HasSome};
 ghost use Rattle.md_modules.specs.Modules.{IsModule};
@@ -49,10 +48,8 @@ fn split(classes: &mut Vec<Names>, at: usize, row: &Names) -> Result<(), Memory>
         ≡ slice_set classes.old.items at (intersection (set_at classes.old.items at) row.now)
         ++ difference (set_at classes.old.items at) row.now ∷ []) }
 {
-    let class = &classes[at];
-    let outside = class.minus(row);
-    let inside = class.and(row);
-    classes[at] = inside;
+    let mut outside = Names::none();
+    classes[at].move_unshared(row, &mut outside);
     if classes.push(outside).is_err() {
         return Err(Memory);
     }

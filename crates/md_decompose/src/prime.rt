@@ -46,7 +46,7 @@ fn far_from(graph: &Graph, set: &Names, v: u32) -> u32
     let mut held = Names::none();
     held.insert(v);
     let mut last = v;
-    while let Some(j) = set.minus(&held).first_from(0) {
+    while let Some(j) = set.first_told_apart(&held, set) {
         last = j;
         hold(graph, set, v, j, &mut held);
     }

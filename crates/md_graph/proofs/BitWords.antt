@@ -466,6 +466,20 @@ others_to a c d m n u s r t is keeps is_t ra first rest =
     (q / 64))
     ∙ or_bits _ _ (bit_at-lt _ _) (let two = bit_at-lt (get_or a (q / 64) 0) (q % 64) in omega arith))))
 
+-- a bit that is changed where another is 1
+flipped_bit : (x y z : ℕ) → x ≡ (y + z) % 2 → z ≡ 0 → y < 2 → x ≡ y
+flipped_bit x y z e none two = omega (arith, e, none)
+
+pub flipped_words : (a b c : List ℕ) (n u : ℕ) (s t : NameSet) → names_below a n ≡ s → names_below b n ≡ t → InUse b u → ((k : ℕ) → k < u → get_or c k 0 ≡ bit_xor (get_or a k 0) (get_or b k 0)) → ((k : ℕ) → u ≤ k → get_or c k 0 ≡ get_or a k 0) → names_below c n ≡ told_apart s t
+flipped_words a b c n u s t is is_t rb first rest =
+    from_bits c n _ (λ q.
+    keeps_apart a b n s t is is_t q
+    ∙ ap (λ x. ltb q n && (x == 1))
+    (from_both (λ k. bit_at (bit_xor (get_or a k 0) (get_or b k 0)) (q % 64) ≡ bit_at (get_or c k 0) (q % 64)) u
+    (λ k h. ap (λ w. bit_at w (q % 64)) (sym (first k h)))
+    (λ k h. flipped_bit _ _ _ (bit_at_xor (get_or a k 0) (get_or b k 0) (q % 64)) (zero_bit _ (q % 64) (rb k h)) (bit_at-lt _ _) ∙ ap (λ w. bit_at w (q % 64)) (sym (rest k h)))
+    (q / 64)))
+
 -- ---- the first member that is told apart
 
 pub apart_word : (a f g : List ℕ) (i j : ℕ) → j < 64 → bit_apart a f g (64 * i + j) ≡ bit_at (bit_and (get_or a i 0) (bit_xor (get_or f i 0) (get_or g i 0))) j

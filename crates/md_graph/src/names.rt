@@ -92,6 +92,15 @@ impl Names {
         self.used = self.used.max(other.used);
     }
 
+    /// Takes in the members of `other` that it doesn't have, and leaves out those that it has. It passes over the words
+    /// that `other` uses.
+    pub fn flip(&mut self, other: &Names)
+        ensures { self.new ≡ told_apart self.old other.now }
+    {
+        flip_bits(&mut self.words, &other.words, other.used);
+        self.used = self.used.max(other.used);
+    }
+
     /// Moves the members that `row` has to `to`. It passes over the words in use.
     pub fn move_shared(&mut self, row: &Names, to: &mut Names)
         ensures rest { self.new ≡ set.difference self.old row.now }
@@ -282,6 +291,18 @@ fn join_in(words: &mut [u64; WORDS], other: &[u64; WORDS], used: usize)
 {
     for i in 0..used {
         words[i] |= other[i];
+    }
+}
+
+/// Changes the bits that `other` has in its first `used` words.
+fn flip_bits(words: &mut [u64; WORDS], other: &[u64; WORDS], used: usize)
+    requires { used ≤ WORDS }
+    ensures first { (k : ℕ) → k < used
+        → slice_index words.new k ≡ bit_xor (slice_index words.old k) (slice_index other.now k) }
+    ensures rest { (k : ℕ) → used ≤ k → slice_index words.new k ≡ slice_index words.old k }
+{
+    for i in 0..used {
+        words[i] ^= other[i];
     }
 }
 
@@ -579,5 +600,8 @@ mod tests {
         left.move_told_apart(&second, &to, &mut names);
         assert!(rt; left.count() == 1 && left.has(127) && names.count() == 4 && names.has(64));
         assert_eq!(rt; left.first_told_apart(&second, &to), None);
+        left.flip(&names);
+        left.flip(&second);
+        assert!(rt; left.count() == 4 && left.has(64) && left.has(65) && !left.has(127));
     }
 }

@@ -1,11 +1,12 @@
 -- The three searches, over sets: what stays true in each turn, and what holds at the end.
 -- left is what a search hasn't taken, todo what it took and hasn't looked at.
-use Rattle.std.proofs.Common.{◌≡◌, ℕ, Bool, not, ◌≢◌, ◌⊎◌, refl, sym, ◌∙◌, ap, subst, inl, inr}
+use Rattle.std.proofs.Common.{◌≡◌, ◌↔◌, ℕ, Bool, not, ◌≢◌, ◌⊎◌, refl, sym, ◌∙◌, ap, subst, inl, inr}
 use Rattle.std.specs.FinSet.{remove, union, difference}
 use Rattle.md_modules.specs.Sets.{NameSet, Has, Lacks, Within, only_name}
 use Rattle.md_modules.specs.Adjacency.{IsAdjacency}
 use Rattle.md_modules.specs.Modules.{IsModule, IsLeastModule, IsLeastModuleOver}
 use Rattle.md_modules.specs.Components.{IsClosed, IsComponent}
+use Rattle.md_modules.specs.Searches.{IsReaching}
 use Rattle.md_modules.proofs.Sets.{clash, only_has, of_only, only_lacks, false_if, true_if, same_name, remove_left, of_remove, of_union_lacks, of_union, minus_has, of_minus, minus_lacks, of_minus_lacks, lacks_within}
 use Rattle.md_modules.proofs.Search.{decide_test}
 use Rattle.md_modules.proofs.Components.{other_value, closed_follow}
@@ -35,14 +36,6 @@ taken_then s left todo new w inside taken of_new y h =
 -- tests that don't differ are equal
 pub alike_unless : (a b : Bool) → ((a ≡ b → ⊥) → ⊥) → a ≡ b
 alike_unless a b n = elim (decide_test a b) [ inl same ↦ same | inr differ ↦ absurd (n differ) ]
-
--- The component of x: each turn takes the names left that w sees with the other value than v.
-pub record IsReaching (e : ℕ → ℕ → Bool) (s : NameSet) (v : Bool) (x : ℕ) (left todo : NameSet) : Type 0 where
-  pub start : Has s x × Lacks left x
-  pub inside : Within left s
-  pub taken : (y : ℕ) → Has todo y → Has s y × Lacks left y
-  pub least : (part : NameSet) → IsClosed e s part v → Has part x → (y : ℕ) → Has s y → Lacks left y → Has part y
-  pub looked : (w : ℕ) → Has s w → Lacks left w → Lacks todo w → (y : ℕ) → Has left y → e w y ≡ v
 
 -- The least module that holds begun, a member v of which is fixed: each turn takes the names left that tell v and w apart.
 pub record IsGrowing (e : ℕ → ℕ → Bool) (s : NameSet) (v : ℕ) (begun left todo : NameSet) : Type 0 where
@@ -91,6 +84,43 @@ module _ {e : ℕ → ℕ → Bool} where
         elim out.1 [
           | inl same ↦ ap (λ b. e b y) same ∙ other_value (e w y) v (λ c. clash (new_has y z.0 c) z.1)
           | inr o ↦ is.looked a hs (elim (left_before left new a l) [ inl p ↦ p | inr i ↦ clash i out.0 ]) o y z.0
+        ];
+  }
+
+  -- no name is taken, and w was looked at
+  pub reach_idle : (s left todo : NameSet) (v : Bool) (x w : ℕ) → IsReaching e s v x left todo → ((y : ℕ) → Has left y → e w y ≡ not v → ⊥) →
+      IsReaching e s v x left (remove todo w)
+  reach_idle s left todo v x w is none = record {
+    start = is.start;
+    inside = is.inside;
+    taken = λ y h. is.taken y (of_remove todo w y h).1;
+    least = is.least;
+    looked = λ a hs l t y k. elim (same_name a w) [
+      | inl same ↦ ap (λ b. e b y) same ∙ other_value (e w y) v (none y k)
+      | inr differs ↦ is.looked a hs l (false_if _ (λ h. clash (remove_left todo w a differs h) t)) y k
+    ];
+  }
+
+  -- all names of left are looked at: those that see a name taken are taken, and what was taken before sees none of the others
+  pub reach_back : IsAdjacency e → (s left todo new : NameSet) (v : Bool) (x : ℕ) → IsReaching e s v x left todo →
+      ((y : ℕ) → Has new y ↔ (Has left y × ((t : ℕ) × Has (difference s left) t × (e y t ≡ not v)))) →
+      IsReaching e s v x (difference left new) new
+  reach_back adj s left todo new v x is sees = record {
+    start = (is.start.0, rest_lacks left new x is.start.1);
+    inside = λ y k. is.inside y (of_minus left new y k).0;
+    taken = λ y k. (is.inside y ((sees y).0 k).0, minus_lacks left new y k);
+    least = λ part closed k y hs l. elim (left_before left new y l) [
+      | inl o ↦ is.least part closed k y hs o
+      | inr i ↦
+          let seen : (t : ℕ) × Has (difference s left) t × (e y t ≡ not v) = ((sees y).0 i).1 in
+          let out : Has s seen.0 × Lacks left seen.0 = of_minus s left seen.0 seen.1 in
+          closed_follow s part v closed seen.0 y (is.least part closed k seen.0 out.0 out.1) hs (adj.symmetric seen.0 y ∙ seen.2)
+    ];
+    looked = λ a hs l t y k.
+        let z : Has left y × Lacks new y = of_minus left new y k in
+        elim (left_before left new a l) [
+          | inl o ↦ other_value (e a y) v (λ c. clash ((sees y).1 (z.0, (a, minus_has s left a hs o, adj.symmetric y a ∙ c))) z.1)
+          | inr i ↦ clash i t
         ];
   }
 

@@ -1,5 +1,5 @@
 -- What the functions that search answer, from what they call: sets by their members, adjacency by rows, and the turns of a search.
-use Rattle.std.proofs.Common.{◌≡◌, ◌<◌, ◌+◌, ◌↔◌, List, [], ◌∷◌, ℕ, Bool, true, false, not, ◌≢◌, ◌⊎◌, refl, sym, ◌∙◌, ap, ap₂, subst, inl, inr, arith, Option, Some, None, IfSome, IfNone}
+use Rattle.std.proofs.Common.{◌≡◌, ◌<◌, ◌≤◌, ◌+◌, ◌↔◌, List, [], ◌∷◌, ℕ, Bool, true, false, not, ◌≢◌, ◌⊎◌, refl, sym, ◌∙◌, ap, ap₂, subst, inl, inr, arith, Option, Some, None, IfSome, IfNone}
 use Rattle.std.specs.Option.{is_some}
 use Rattle.std.specs.FinSet.{contains, empty, insert, remove, union, intersection, difference, len}
 use Rattle.md_graph.specs.declared.TheConstants.{NAMES}
@@ -7,17 +7,18 @@ use Rattle.md_graph.specs.NameSet.{NoneFrom, IsLeastFrom, AllBelow, ascending, a
 use Rattle.md_graph.proofs.NameLemmas.{walk_turn, walk_more, walk_end}
 use Rattle.md_graph.specs.PlainGraph.{PlainGraph, IsGraph, adjacent, neighbours}
 use Rattle.md_graph.proofs.GraphLemmas.{adjacent_sym, adjacent_self, contains-neighbours}
-use Rattle.md_modules.specs.Sets.{NameSet, Has, Lacks, Within, only_name}
+use Rattle.md_modules.specs.Sets.{NameSet, Has, Lacks, Within, Disjoint, only_name}
 use Rattle.md_modules.specs.Adjacency.{IsAdjacency}
 use Rattle.md_modules.specs.Modules.{IsModule, IsLeastModule, IsLeastModuleOver}
 use Rattle.md_modules.specs.Kinds.{IsSplit}
 use Rattle.md_modules.specs.Components.{IsComponent}
+use Rattle.md_modules.specs.Searches.{IsReaching}
 use Rattle.md_modules.specs.Seen.{seen_as}
-use Rattle.md_modules.proofs.Sets.{either, clash, true_if, false_if, empty_lacks, insert_new, insert_old, of_insert, remove_left, of_remove, meet_has, of_meet, union_left, union_right, of_union, only_has, of_only, only_lacks, minus_has, of_minus, minus_lacks, same_members, Has-along}
-use Rattle.md_modules.proofs.Search.{search_falls}
+use Rattle.md_modules.proofs.Sets.{either, clash, true_if, false_if, empty_lacks, insert_new, insert_old, of_insert, remove_left, of_remove, meet_has, of_meet, union_left, union_right, of_union, only_has, of_only, only_lacks, minus_has, of_minus, minus_lacks, same_members, lacks_within, Has-along}
+use Rattle.md_modules.proofs.Search.{search_falls, len_minus, len_fewer, some_len}
 use Rattle.md_modules.proofs.Modules.{single_module}
 use Rattle.md_modules.proofs.Components.{component_unsplit, unsplit_component}
-use Rattle.md_modules.proofs.Growth.{alike_unless, IsReaching, IsGrowing, IsGoingBack, reach_start, reach_turn, reach_end, grow_start, grow_turn, grow_end, back_start, back_turn, back_end, least_of_two}
+use Rattle.md_modules.proofs.Growth.{alike_unless, IsGrowing, IsGoingBack, reach_start, reach_turn, reach_idle, reach_back, reach_end, grow_start, grow_turn, grow_end, back_start, back_turn, back_end, least_of_two}
 
 -- ---- sets
 
@@ -34,6 +35,24 @@ empty_if s e y = ap (λ t. contains t y) e ∙ empty_lacks y
 
 pub if_empty : (s : NameSet) → ((y : ℕ) → Lacks s y) → s ≡ empty
 if_empty s none = same_members s empty (λ y h. clash h (none y)) (λ y h. clash h (empty_lacks y))
+
+-- a set that took in another one, and had no member before
+pub taken_whole : (s none t : NameSet) → none ≡ empty → t ≡ union none s → t ≡ s
+taken_whole s none t is_none is = is ∙ same_members _ _
+    (λ y h. elim (of_union none s y h) [ inl o ↦ clash o (empty_if none is_none y) | inr i ↦ i ])
+    (λ y h. union_right none s y h)
+
+-- what is told apart from a set is the rest of it, for a part
+pub flipped_part : (s t : NameSet) → Within t s → told_apart t s ≡ difference s t
+flipped_part s t inside = same_members _ _
+    (λ y h. elim (of_union (difference t s) (difference s t) y h) [
+      | inl o ↦ let two : Has t y × Lacks s y = of_minus t s y o in clash (inside y two.0) two.1
+      | inr i ↦ i
+    ])
+    (λ y h. union_right (difference t s) (difference s t) y h)
+
+pub flipped_along : (s t u : NameSet) → Within t s → u ≡ told_apart t s → u ≡ difference s t
+flipped_along s t u inside is = is ∙ flipped_part s t inside
 
 pub lacks_along : (s t : NameSet) → s ≡ t → (y : ℕ) → Lacks t y → Lacks s y
 lacks_along s t e y l = ap (λ w. contains w y) e ∙ l
@@ -192,6 +211,33 @@ pair_seen e begun todo u v is is_todo w h l y = elim (of_insert (only_name u) v 
   | inr old ↦ ap (λ b. e b y) (sym (of_only u w old))
 ]
 
+-- what is taken anew, where nothing else is kept
+only_new : (left new none : NameSet) → none ≡ empty → Within new left → union none (intersection left new) ≡ new
+only_new left new none is inside = same_members _ _
+    (λ y h. elim (of_union none (intersection left new) y h) [ inl o ↦ clash o (empty_if none is y) | inr i ↦ (of_meet left new y i).1 ])
+    (λ y h. union_right none (intersection left new) y (meet_has left new y (inside y h) h))
+
+-- fewer names are left and to be looked at
+pub back_falls : (left new none left' todo' : NameSet) → none ≡ empty → Within new left → left' ≡ difference left new → todo' ≡ union none (intersection left new) → len left' + len todo' ≤ len left
+back_falls left new none left' todo' is inside is_left is_todo =
+    along_two (λ a b. len a + len b ≤ len left) _ _ left' todo' is_left (is_todo ∙ only_new left new none is inside) (len_minus left new inside)
+
+pub idle_falls : (left todo todo' : NameSet) (w : ℕ) → Has todo w → todo' ≡ remove todo w → len left + len todo' < len left + len todo
+idle_falls left todo todo' w h is =
+    let r : len (remove todo w) + 1 ≡ len todo = len_fewer todo w h in
+    subst (λ (t : NameSet). len left + len t < len left + len todo) (sym is) (omega arith)
+
+pub back_shorter : (left todo left' todo' : NameSet) (w : ℕ) → Has todo w → len left' + len todo' ≤ len left → len left' + len todo' < len left + len todo
+back_shorter left todo left' todo' w h is = let r : 1 ≤ len todo = some_len todo w h in omega arith
+
+-- w sees none of those left
+pub not_seen : (g : PlainGraph) (left : NameSet) (w : ℕ) (v : Bool) (r : Bool) → r ≡ false → ((r ≡ true) ↔ ((t : ℕ) × Has left t × (adjacent g w t ≡ v))) → (y : ℕ) → Has left y → adjacent g w y ≡ v → ⊥
+not_seen g left w v r is test y h same = clash (test.1 (y, h, same)) is
+
+pub rest_apart_from : (left todo todo' : NameSet) (w : ℕ) → todo' ≡ remove todo w → Disjoint left todo → Disjoint left todo'
+rest_apart_from left todo todo' w is apart y h =
+    lacks_along todo' _ is y (lacks_within (remove todo w) todo (λ z k. (of_remove todo w z k).1) y (apart y h))
+
 module _ {e : ℕ → ℕ → Bool} where
   pub reach_begin : (s left todo : NameSet) (v : Bool) (x : ℕ) → Has s x → left ≡ remove s x → todo ≡ insert empty x → IsReaching e s v x left todo
   reach_begin s left todo v x h is_left is_todo =
@@ -202,6 +248,21 @@ module _ {e : ℕ → ℕ → Bool} where
       left' ≡ difference left new → todo' ≡ union (remove todo w) new → IsReaching e s v x left' todo'
   reach_more s left todo new left' todo' v x w is h has only is_left is_todo =
       along_two (IsReaching e s v x) _ _ left' todo' is_left is_todo (reach_turn s left todo new v x w is h has only)
+
+  pub reach_passed : (s left todo todo' : NameSet) (v : Bool) (x w : ℕ) → IsReaching e s v x left todo → todo' ≡ remove todo w → ((y : ℕ) → Has left y → e w y ≡ not v → ⊥) →
+      IsReaching e s v x left todo'
+  reach_passed s left todo todo' v x w is is_todo none = subst (IsReaching e s v x left) (sym is_todo) (reach_idle s left todo v x w is none)
+
+  pub reach_backed : IsAdjacency e → (s left todo taken new none left' todo' : NameSet) (v : Bool) (x : ℕ) → IsReaching e s v x left todo → taken ≡ difference s left →
+      ((y : ℕ) → Has new y ↔ (Has left y × ((t : ℕ) × Has taken t × (e y t ≡ not v)))) → none ≡ empty →
+      left' ≡ difference left new → todo' ≡ union none (intersection left new) → IsReaching e s v x left' todo'
+  reach_backed adj s left todo taken new none left' todo' v x is is_taken sees is_none is_left is_todo =
+      along_two (IsReaching e s v x) _ _ left' todo' is_left (is_todo ∙ only_new left new none is_none (λ y h. ((sees y).0 h).0))
+      (reach_back adj s left todo new v x is (subst (λ (t : NameSet). (y : ℕ) → Has new y ↔ (Has left y × ((z : ℕ) × Has t z × (e y z ≡ not v)))) is_taken sees))
+
+  -- what is left isn't taken
+  pub left_apart : (s left todo : NameSet) (v : Bool) (x : ℕ) → IsReaching e s v x left todo → Disjoint left todo
+  left_apart s left todo v x is y h = false_if _ (λ k. clash h (is.taken y k).1)
 
   pub reach_stop : (s left todo : NameSet) (v : Bool) (x : ℕ) → IsReaching e s v x left todo → ((y : ℕ) → Lacks left y) ⊎ ((y : ℕ) → Lacks todo y) → IsComponent e s x (difference s left) v
   reach_stop s left todo v x is (inl all) =
@@ -338,6 +399,55 @@ module _ {e : ℕ → ℕ → Bool} where
           adj.symmetric v y ∙ module_is.alike v w y hv hw two.0 two.1 ∙ adj.symmetric y w,
     )
 
+-- ---- whether a name sees one of a set
+
+told_value : (row mark : NameSet) (value : Bool) (y : ℕ) → contains mark y ≡ not value → Has (told_apart row mark) y → contains row y ≡ value
+told_value row mark true y is h = elim (of_union (difference row mark) (difference mark row) y h) [
+  | inl i ↦ (of_minus row mark y i).0
+  | inr i ↦ clash (of_minus mark row y i).0 is
+]
+told_value row mark false y is h = elim (of_union (difference row mark) (difference mark row) y h) [
+  | inl i ↦ clash is (of_minus row mark y i).1
+  | inr i ↦ (of_minus mark row y i).1
+]
+
+value_told : (row mark : NameSet) (value : Bool) (y : ℕ) → contains mark y ≡ not value → contains row y ≡ value → Has (told_apart row mark) y
+value_told row mark true y is here = union_left (difference row mark) (difference mark row) y (minus_has row mark y here is)
+value_told row mark false y is here = union_right (difference row mark) (difference mark row) y (minus_has mark row y is here)
+
+abbrev pub Sees : PlainGraph → ℕ → Bool → NameSet → Type 0
+Sees g w v among = (t : ℕ) × Has among t × (adjacent g w t ≡ v)
+
+-- a first name told apart from a mark is one that is seen, where the mark says of no name of the set that it is seen
+pub sees_test : {g : PlainGraph} → IsGraph g → (w : ℕ) (value : Bool) (among mark row : NameSet) (found : Option ℕ) (r : Bool) → row ≡ neighbours g w →
+    ((y : ℕ) → Has among y → contains mark y ≡ not value) → IfSome found (IsLeastFrom (intersection among (told_apart row mark)) 0) → IfNone found (NoneFrom (intersection among (told_apart row mark)) 0) →
+    r ≡ is_some found → (r ≡ true) ↔ Sees g w value among
+sees_test {g} graph w value among mark row (Some least) r is_row is_mark some none is = (
+  λ _.
+      let two : Has among least × Has (told_apart row mark) least = of_meet among (told_apart row mark) least some.member in
+      (least, two.0, sym (ap (λ s. contains s least) is_row ∙ contains-neighbours graph w least) ∙ told_value row mark value least (is_mark least two.0) two.1),
+  λ _. is,
+)
+sees_test {g} graph w value among mark row None r is_row is_mark some none is = (
+  λ t. clash t is,
+  λ seen.
+      let here : contains row seen.0 ≡ value = ap (λ s. contains s seen.0) is_row ∙ contains-neighbours graph w seen.0 ∙ seen.2 in
+      clash (meet_has among (told_apart row mark) seen.0 seen.1 (value_told row mark value seen.0 (is_mark seen.0 seen.1) here))
+      (none_lacks (intersection among (told_apart row mark)) none seen.0),
+)
+
+pub sees_seen : {g : PlainGraph} → IsGraph g → (w : ℕ) (value : Bool) (among apart row : NameSet) (found : Option ℕ) (r : Bool) → value ≡ true → row ≡ neighbours g w →
+    Disjoint among apart → IfSome found (IsLeastFrom (intersection among (told_apart row apart)) 0) → IfNone found (NoneFrom (intersection among (told_apart row apart)) 0) →
+    r ≡ is_some found → (r ≡ true) ↔ Sees g w value among
+sees_seen {g} graph w value among apart row found r is_value is_row out some none is =
+    sees_test graph w value among apart row found r is_row (λ y h. out y h ∙ ap not (sym is_value)) some none is
+
+pub sees_unseen : {g : PlainGraph} → IsGraph g → (w : ℕ) (value : Bool) (among row : NameSet) (found : Option ℕ) (r : Bool) → value ≡ false → row ≡ neighbours g w →
+    IfSome found (IsLeastFrom (intersection among (told_apart row among)) 0) → IfNone found (NoneFrom (intersection among (told_apart row among)) 0) →
+    r ≡ is_some found → (r ≡ true) ↔ Sees g w value among
+sees_unseen {g} graph w value among row found r is_value is_row some none is =
+    sees_test graph w value among among row found r is_row (λ y h. h ∙ ap not (sym is_value)) some none is
+
 -- ---- the walk over the members of a set of names
 
 abbrev pub Walked : NameSet → List ℕ → (ℕ → Type 0) → Type 0
@@ -355,6 +465,9 @@ pub walked_turn : (s : NameSet) (xs rest : List ℕ) (x : ℕ) (Done : ℕ → T
 walked_turn s xs rest x Done is steps here =
     let turn = walk_turn s is.1.0 NAMES x xs rest is.1.1 steps in
     (is.0, (x + 1, turn.left, walk_more s is.1.0 NAMES x Done turn.item is.1.2 here))
+
+pub walked_weaker : (s : NameSet) (xs : List ℕ) (Done Later : ℕ → Type 0) → ((w : ℕ) → Done w → Later w) → Walked s xs Done → Walked s xs Later
+walked_weaker s xs Done Later more is = (is.0, (is.1.0, is.1.1, λ w h l. more w (is.1.2 w h l)))
 
 pub walked_all : (s : NameSet) (xs rest : List ℕ) (Done : ℕ → Type 0) → Walked s xs Done → (xs ≡ []) × (rest ≡ []) → (w : ℕ) → Has s w → Done w
 walked_all s xs rest Done is steps w h = is.1.2 w h (walk_end s is.1.0 NAMES xs rest is.0 is.1.1 steps w h)

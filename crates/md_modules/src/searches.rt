@@ -1,12 +1,13 @@
 //! Searches for modules and components. Each keeps what it hasn't taken yet and what it took and hasn't looked at, and
 //! needs no memory: one operation on rows for each name that it takes.
-ghost use Rattle.std.specs.Prelude.{◌≡◌, ◌≢◌, ℕ, ◌<◌, ◌⊎◌, ◌↔◌, IsTrue, IfSome, IfNone, true, false};
-ghost use Rattle.std.specs.FinSet.{union, difference};
+ghost use Rattle.std.specs.Prelude.{◌≡◌, ◌≢◌, ℕ, ◌<◌, ◌≤◌, ◌+◌, ◌⊎◌, ◌↔◌, IsTrue, IfSome, IfNone, true, false};
+ghost use Rattle.std.specs.FinSet.{union, difference, len};
 ghost use Rattle.md_graph.specs.PlainGraph.{adjacent, IsGraph};
-ghost use Rattle.md_modules.specs.Sets.{NameSet, Has, Lacks, Within};
+ghost use Rattle.md_modules.specs.Sets.{NameSet, Has, Lacks, Within, Disjoint};
 ghost use Rattle.md_modules.specs.Modules.{IsModule, IsLeastModule, IsLeastModuleOver};
 ghost use Rattle.md_modules.specs.Kinds.{IsSplit, IsConnected, IsCoConnected};
 ghost use Rattle.md_modules.specs.Components.{IsComponent};
+ghost use Rattle.md_modules.specs.Searches.{IsReaching};
 ghost use Rattle.md_modules.specs.Seen.{seen_as};
 
 use md_graph::{Graph, NAMES, Names};
@@ -57,7 +58,8 @@ pub fn component(graph: &Graph, within: &Names, x: u32, into: &mut Names)
     requires member { Has within.now x }
     ensures { IsComponent (adjacent graph.now) within.now x into.new false }
 {
-    *into = within.minus(&unreached(graph, within, x, false));
+    unreached(graph, within, x, false, into);
+    into.flip(within);
 }
 
 /// Puts into `into` the component of `x` in the complement of the graph on `within`. Condition: `within` is a set of
@@ -67,7 +69,8 @@ pub fn co_component(graph: &Graph, within: &Names, x: u32, into: &mut Names)
     requires member { Has within.now x }
     ensures { IsComponent (adjacent graph.now) within.now x into.new true }
 {
-    *into = within.minus(&unreached(graph, within, x, true));
+    unreached(graph, within, x, true, into);
+    into.flip(within);
 }
 
 /// Puts into `into` the least module of the graph on `within` that holds `u` and `v`: `u` alone where they are equal.
@@ -102,8 +105,8 @@ pub fn grow(graph: &Graph, within: &Names, v: u32, into: &mut Names, todo: Names
         → adjacent graph.now v y ≡ adjacent graph.now w y }
     ensures { IsLeastModuleOver (adjacent graph.now) within.now into.old into.new }
 {
-    let left = not_grown(graph, within, v, into, todo);
-    *into = within.minus(&left);
+    not_grown(graph, within, v, into, todo);
+    into.flip(within);
 }
 
 /// Puts into `into` the names of `within` other than `v` that no module holds with `v` but `within` itself; the rest of
@@ -118,7 +121,8 @@ pub fn back(graph: &Graph, within: &Names, v: u32, j: u32, into: &mut Names)
     ensures rest { IsModule (adjacent graph.now) within.now (difference within.now into.new) }
     ensures fixed { Has (difference within.now into.new) v }
 {
-    *into = within.minus(&not_back(graph, within, v, j));
+    not_back(graph, within, v, j, into);
+    into.flip(within);
 }
 
 // Whether the graph (`value` is false) or its complement (`value` is true) is connected.
@@ -130,7 +134,9 @@ fn is_whole(graph: &Graph, value: bool) -> bool
     let Some(x) = vertices.first_from(0) else {
         return true;
     };
-    unreached(graph, vertices, x, value).is_empty()
+    let mut left = Names::none();
+    unreached(graph, vertices, x, value, &mut left);
+    left.is_empty()
 }
 
 // Whether each of `others` is adjacent to `v` and to all of `names`, or to none of these.
@@ -158,65 +164,131 @@ fn see_alike(graph: &Graph, v: u32, w: u32, others: &Names) -> bool
         .is_none()
 }
 
-// What the component of `x` leaves of `within`, in the graph (`value` is false) or its complement (`value` is true).
-fn unreached(graph: &Graph, within: &Names, x: u32, value: bool) -> Names
+// Puts into `left` what the component of `x` leaves of `within`, in the graph (`value` is false) or its complement (`value` is
+// true).
+fn unreached(graph: &Graph, within: &Names, x: u32, value: bool, left: &mut Names)
     requires inside { Within within.now graph.now.vertices }
     requires member { Has within.now x }
-    ensures part { Within result within.now }
-    ensures taken { IsComponent (adjacent graph.now) within.now x (difference within.now result) value }
+    ensures part { Within left.new within.now }
+    ensures taken { IsComponent (adjacent graph.now) within.now x (difference within.now left.new) value }
 {
     let _vertices = graph.vertices();
-    let mut left = within.copy();
+    left.clear();
+    left.take_in(within);
     left.remove(x);
     let mut todo = Names::none();
     todo.insert(x);
-    while let Some(w) = next(&left, &todo) {
-        todo.remove(w);
-        move_seen(graph, w, !value, &mut left, &mut todo);
+    // Each name is taken once. It is looked at in a turn, at two operations on rows, or a look back saves its turn, at one
+    // operation on rows or less. So a search costs at most two of them for each name of `within`.
+    while let Some(w) = next(left, &todo) {
+        turn(graph, within, value, w, left, &mut todo);
     }
-    left
 }
 
-// What the least module that holds `begun` leaves of `within`.
-fn not_grown(graph: &Graph, within: &Names, v: u32, begun: &Names, mut todo: Names) -> Names
-    requires inside { Within within.now graph.now.vertices }
-    requires part { Within begun.now within.now }
-    requires fixed { Has begun.now v }
-    requires among { Within todo begun.now }
-    requires seen { (w : ℕ) → Has begun.now w → Lacks todo w → (y : ℕ) → Has within.now y → Lacks begun.now y
-        → adjacent graph.now v y ≡ adjacent graph.now w y }
-    ensures { IsLeastModuleOver (adjacent graph.now) within.now begun.now (difference within.now result) }
+// One turn of the search for a component: what is left and adjacent to `w` is taken. Where nothing is, the search looks back,
+// unless more names are left than are to be looked at.
+fn turn(graph: &Graph, within: &Names, value: bool, w: u32, left: &mut Names, todo: &mut Names)
+    requires member { Has todo.old w }
+    requires name { w < NAMES }
+    requires apart { Disjoint left.old todo.old }
+    ensures kept { (x : ℕ) → IsReaching (adjacent graph.now) within.now value x left.old todo.old
+        → IsReaching (adjacent graph.now) within.now value x left.new todo.new }
+    ensures fewer { len left.new + len todo.new < len left.old + len todo.old }
 {
     let _vertices = graph.vertices();
-    let mut left = within.minus(begun);
-    while let Some(w) = next(&left, &todo) {
+    todo.remove(w);
+    if sees(graph, w, !value, left, todo) {
+        move_seen(graph, w, !value, left, todo);
+        return;
+    }
+    if left.count() <= todo.count() {
+        look_back(graph, within, value, left, todo);
+    }
+}
+
+// What is left and adjacent to a name taken is taken, and nothing else is to be looked at: no name taken before is adjacent to
+// one that is still left.
+fn look_back(graph: &Graph, within: &Names, value: bool, left: &mut Names, todo: &mut Names)
+    ensures kept { (x : ℕ) → IsReaching (adjacent graph.now) within.now value x left.old todo.old
+        → IsReaching (adjacent graph.now) within.now value x left.new todo.new }
+    ensures fewer { len left.new + len todo.new ≤ len left.old }
+{
+    let _vertices = graph.vertices();
+    let taken = within.minus(left);
+    let new = seeing(graph, !value, left, &taken);
+    todo.clear();
+    left.move_shared(&new, todo);
+}
+
+// The members of `left` that are adjacent to one of `taken` (`value` is true), or that aren't (`value` is false).
+fn seeing(graph: &Graph, value: bool, left: &Names, taken: &Names) -> Names
+    requires { Disjoint taken.now left.now }
+    ensures { (y : ℕ) → Has result y ↔ (Has left.now y
+        × ((t : ℕ) × Has taken.now t × (adjacent graph.now y t ≡ value))) }
+{
+    let mut new = Names::none();
+    for y in left.members() {
+        if sees(graph, y, value, taken, left) {
+            new.insert(y);
+        }
+    }
+    new
+}
+
+// Whether `w` is adjacent to one of `among` (`value` is true), or not adjacent to one (`value` is false). Condition: `apart` is
+// a set without a member of `among`.
+fn sees(graph: &Graph, w: u32, value: bool, among: &Names, apart: &Names) -> bool
+    requires name { w < NAMES }
+    requires apart { Disjoint among.now apart.now }
+    ensures { IsTrue result ↔ ((t : ℕ) × Has among.now t × (adjacent graph.now w t ≡ value)) }
+{
+    let row = graph.row(w);
+    if value {
+        return among.first_told_apart(row, apart).is_some();
+    }
+    among.first_told_apart(row, among).is_some()
+}
+
+// Puts into `left`, in place of its members, what the least module that holds them leaves of `within`.
+fn not_grown(graph: &Graph, within: &Names, v: u32, left: &mut Names, mut todo: Names)
+    requires inside { Within within.now graph.now.vertices }
+    requires part { Within left.old within.now }
+    requires fixed { Has left.old v }
+    requires among { Within todo left.old }
+    requires seen { (w : ℕ) → Has left.old w → Lacks todo w → (y : ℕ) → Has within.now y → Lacks left.old y
+        → adjacent graph.now v y ≡ adjacent graph.now w y }
+    ensures part { Within left.new within.now }
+    ensures grown { IsLeastModuleOver (adjacent graph.now) within.now left.old (difference within.now left.new) }
+{
+    let _vertices = graph.vertices();
+    left.flip(within);
+    while let Some(w) = next(left, &todo) {
         todo.remove(w);
         left.move_told_apart(graph.row(v), graph.row(w), &mut todo);
     }
-    left
 }
 
-// The names of `within` that a module smaller than `within` holds with `v`, and `v`.
-fn not_back(graph: &Graph, within: &Names, v: u32, j: u32) -> Names
+// Puts into `left` the names of `within` that a module smaller than `within` holds with `v`, and `v`.
+fn not_back(graph: &Graph, within: &Names, v: u32, j: u32, left: &mut Names)
     requires inside { Within within.now graph.now.vertices }
     requires differ { v ≢ j }
     requires whole { IsLeastModule (adjacent graph.now) within.now v j within.now }
-    ensures part { Within result within.now }
-    ensures names { (i : ℕ) → Has within.now i → Lacks result i
+    ensures part { Within left.new within.now }
+    ensures names { (i : ℕ) → Has within.now i → Lacks left.new i
         ↔ ((i ≢ v) × IsLeastModule (adjacent graph.now) within.now v i within.now) }
-    ensures rest { IsModule (adjacent graph.now) within.now result }
-    ensures fixed { Has result v }
+    ensures rest { IsModule (adjacent graph.now) within.now left.new }
+    ensures fixed { Has left.new v }
 {
     let _vertices = graph.vertices();
-    let mut left = within.copy();
+    left.clear();
+    left.take_in(within);
     left.remove(j);
     let mut todo = Names::none();
     todo.insert(j);
     while let Some(w) = todo.first_from(0) {
         todo.remove(w);
-        move_seen(graph, w, !graph.has_edge(w, v), &mut left, &mut todo);
+        move_seen(graph, w, !graph.has_edge(w, v), left, &mut todo);
     }
-    left
 }
 
 // A name to look at, as long as a name is left; none where nothing is left, or nothing is to be looked at.

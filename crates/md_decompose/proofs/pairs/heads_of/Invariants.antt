@@ -1,5 +1,5 @@
 use Rattle.md_decompose.proofs.Heads.{IsHeading}
 use Rattle.md_decompose.proofs.pairs.heads_of.Given as goal
 
-abbrev pub invariant-loop-set : goal.invariant-loop-set
-invariant-loop-set l = IsHeading l.sets l.set-index l.heads.items
+abbrev pub invariant-loop-place : goal.invariant-loop-place
+invariant-loop-place l = IsHeading l.sets l.place l.heads l.places

@@ -2,13 +2,13 @@ use Rattle.std.proofs.Common.{◌∙◌, ap, not}
 use Rattle.std.specs.FinSet.{remove, insert}
 use Rattle.md_modules.specs.Seen.{seen_as}
 use Rattle.md_modules.proofs.Growth.{back_end}
-use Rattle.md_modules.proofs.Turns.{back_begin, back_more, back_names, none_lacks, turn_falls, seen_all, union_along}
+use Rattle.md_modules.proofs.Turns.{taken_whole, back_begin, back_more, back_names, none_lacks, turn_falls, seen_all, union_along}
 use Rattle.md_modules.proofs.searches.not_back.Goals as goal
 
 pub loop-w-init : goal.loop-w-init
 loop-w-init c =
     back_begin c.args.within.now c.remove.new.self c.insert.new.self c.args.v c.args.j c.requires.differ c.requires.whole
-    (c.remove.ensures ∙ ap (λ s. remove s c.args.j) c.copy-left.ensures) (c.insert.ensures ∙ ap (λ s. insert s c.args.j) c.none-todo.ensures)
+    (c.remove.ensures ∙ ap (λ s. remove s c.args.j) (taken_whole c.args.within.now c.clear.new.self c.take_in.new.self c.clear.ensures c.take_in.ensures)) (c.insert.ensures ∙ ap (λ s. insert s c.args.j) c.none-todo.ensures)
 
 pub loop-w-smaller : goal.loop-w-smaller
 loop-w-smaller c =

@@ -5,7 +5,7 @@ use Rattle.md_modules.proofs.Growth.{IsGrowing}
 use Rattle.md_modules.proofs.searches.not_grown.Given as goal
 
 abbrev pub invariant-loop-w : goal.invariant-loop-w
-invariant-loop-w l = IsGrowing (adjacent l.graph) l.within l.v l.begun l.left l.todo
+invariant-loop-w l = IsGrowing (adjacent l.graph) l.within l.v l.fn.left l.left l.todo
 
 abbrev pub decreases-loop-w : goal.decreases-loop-w
 decreases-loop-w l = len l.left + len l.todo

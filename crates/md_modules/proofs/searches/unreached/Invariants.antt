@@ -1,7 +1,7 @@
 use Rattle.std.proofs.Common.{◌+◌}
 use Rattle.std.specs.FinSet.{len}
 use Rattle.md_graph.specs.PlainGraph.{adjacent}
-use Rattle.md_modules.proofs.Growth.{IsReaching}
+use Rattle.md_modules.specs.Searches.{IsReaching}
 use Rattle.md_modules.proofs.searches.unreached.Given as goal
 
 abbrev pub invariant-loop-w : goal.invariant-loop-w

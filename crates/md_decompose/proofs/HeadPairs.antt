@@ -1,0 +1,293 @@
+-- The adjacent pairs of heads, put down one head after the other, and for each head one later head after the other.
+use Rattle.std.proofs.Common.{◌≡◌, ◌≢◌, ℕ, ◌+◌, ◌<◌, ◌≤◌, Bool, true, List, [], ◌∷◌, ◌++◌, Contains, length, get_or, refl, sym, ◌∙◌, ap, subst, inl, inr, arith}
+use Rattle.std.proofs.Math.ListN.{get_or-eq_default}
+use Rattle.std.proofs.lemmas.Bool.{cases_lt}
+use Rattle.std.specs.FinSet.{empty, intersection}
+use Rattle.md_graph.specs.declared.TheConstants.{NAMES}
+use Rattle.md_graph.specs.NameSet.{AllBelow, IsLeastFrom, ascending_from}
+use Rattle.md_graph.specs.PlainGraph.{PlainGraph, IsGraph, adjacent, neighbours}
+use Rattle.md_graph.proofs.NameLemmas.{IsTurn, walk_turn, walk_end}
+use Rattle.md_graph.proofs.GraphLemmas.{adjacent_ends, contains-neighbours}
+use Rattle.md_modules.specs.Sets.{NameSet, Has, HasSome}
+use Rattle.md_modules.specs.Modules.{IsMaximalModule}
+use Rattle.md_modules.specs.Kinds.{IsPrime}
+use Rattle.md_modules.proofs.Sets.{of_meet, meet_has, clash, empty_lacks, Has-along}
+use Rattle.md_modules.proofs.Children.{child_maximal}
+use Rattle.md_modules.proofs.Quotients.{maximal_modules_proof}
+use Rattle.md_modules.proofs.PathSearch.{adjacency}
+use Rattle.md_tree.specs.StrongTrees.{IsBefore, IsPairBefore}
+use Rattle.md_tree.specs.declared.Pair.{Pair}
+use Rattle.md_tree.proofs.Lists.{In, of_contains, to_contains, in_get, in_left, in_right, of_append, of_pairs, to_pairs, later_append}
+use Rattle.md_decompose.specs.Children.{AreChildren, ListsPairs, AreJoined, set_at}
+use Rattle.md_decompose.specs.Heads.{AreHeads, RisesOn, AreNear, ComesBefore, pair_at, ListsHeadPairs}
+use Rattle.md_decompose.proofs.Heads.{head_below, heads_rise}
+
+-- the pairs with the head h and a later head below low are put down, and the other names of near are left
+pub record IsPushing (e : ℕ → ℕ → Bool) (heads : NameSet) (places : List ℕ) (h : ℕ) (near : NameSet) (left : List ℕ) (ps : List Pair) : Type 0 where
+  pub low : ℕ
+  pub above : h < low
+  pub is : left ≡ ascending_from near low
+  pub names : AllBelow near NAMES
+  pub lists : ListsHeadPairs e heads places h low ps
+
+-- the pairs of the heads below low are put down, and the other heads are left
+pub record IsListingPairs (e : ℕ → ℕ → Bool) (heads : NameSet) (places : List ℕ) (left : List ℕ) (ps : List Pair) : Type 0 where
+  pub low : ℕ
+  pub is : left ≡ ascending_from heads low
+  pub names : AllBelow heads NAMES
+  pub lists : ListsHeadPairs e heads places low 0 ps
+
+no_pair : (a b x : ℕ) → (a ≡ x) × (b < 0) → ⊥
+no_pair a b x w = let l : b < 0 = w.1 in omega arith
+
+module _ {e : ℕ → ℕ → Bool} {heads : NameSet} {places : List ℕ} where
+  pub lists_none : ListsHeadPairs e heads places 0 0 []
+  lists_none = record {
+    ascending = to_pairs IsPairBefore [] tt;
+    each = λ p c. absurd (of_contains [] p c);
+    all = λ a b near before. absurd (elim before [ inl l ↦ (let k : a < 0 = l in omega arith) | inr w ↦ no_pair a b 0 w ]);
+  }
+
+  -- up to the next head
+  pub lists_skip : (x h : ℕ) (ps : List Pair) → x ≤ h → ((w : ℕ) → Has heads w → x ≤ w → h ≤ w) → ListsHeadPairs e heads places x 0 ps → ListsHeadPairs e heads places h 0 ps
+  lists_skip x h ps up first lists = record {
+    ascending = lists.ascending;
+    each = λ p c.
+        let r : (a : ℕ) × (b : ℕ) × AreNear e heads a b × ComesBefore a b x 0 × (p ≡ pair_at places a b) = lists.each p c in
+        (r.0, r.1, r.2, elim r.3 [ inl l ↦ inl (let k : r.0 < x = l in omega arith) | inr w ↦ absurd (no_pair r.0 r.1 x w) ], r.4);
+    all = λ a b near before. elim before [
+      | inr w ↦ absurd (no_pair a b h w)
+      | inl l ↦ elim (cases_lt a x) [
+        | inl k ↦ lists.all a b near (inl k)
+        | inr k ↦ (let f : h ≤ a = first a near.first k in let m : a < h = l in absurd (omega arith))
+      ]
+    ];
+  }
+
+  -- past all heads
+  pub lists_whole : (x n : ℕ) (ps : List Pair) → ((w : ℕ) → Has heads w → w < x) → ((w : ℕ) → Has heads w → w < n) → ListsHeadPairs e heads places x 0 ps → ListsHeadPairs e heads places n 0 ps
+  lists_whole x n ps below names lists = record {
+    ascending = lists.ascending;
+    each = λ p c.
+        let r : (a : ℕ) × (b : ℕ) × AreNear e heads a b × ComesBefore a b x 0 × (p ≡ pair_at places a b) = lists.each p c in
+        (r.0, r.1, r.2, inl (names r.0 r.2.first), r.4);
+    all = λ a b near before. lists.all a b near (inl (below a near.first));
+  }
+
+  -- no head is nearer than the next number
+  pub lists_begin : (h : ℕ) (ps : List Pair) → ListsHeadPairs e heads places h 0 ps → ListsHeadPairs e heads places h (h + 1) ps
+  lists_begin h ps lists = record {
+    ascending = lists.ascending;
+    each = λ p c.
+        let r : (a : ℕ) × (b : ℕ) × AreNear e heads a b × ComesBefore a b h 0 × (p ≡ pair_at places a b) = lists.each p c in
+        (r.0, r.1, r.2, elim r.3 [ inl l ↦ inl l | inr w ↦ absurd (no_pair r.0 r.1 h w) ], r.4);
+    all = λ a b near before. elim before [
+      | inl l ↦ lists.all a b near (inl l)
+      | inr w ↦ (let p : a ≡ h = w.0 in let q : b < h + 1 = w.1 in let o : a < b = near.ordered in absurd (omega arith))
+    ];
+  }
+
+  -- where no adjacent head is left
+  pub lists_end : (h low : ℕ) (ps : List Pair) → ((b : ℕ) → AreNear e heads h b → b < low) → ListsHeadPairs e heads places h low ps → ListsHeadPairs e heads places (h + 1) 0 ps
+  lists_end h low ps none lists = record {
+    ascending = lists.ascending;
+    each = λ p c.
+        let r : (a : ℕ) × (b : ℕ) × AreNear e heads a b × ComesBefore a b h low × (p ≡ pair_at places a b) = lists.each p c in
+        (r.0, r.1, r.2, inl (elim r.3 [ inl l ↦ (let k : r.0 < h = l in omega arith) | inr w ↦ (let k : r.0 ≡ h = w.0 in omega arith) ]), r.4);
+    all = λ a b near before. elim before [
+      | inr w ↦ absurd (no_pair a b (h + 1) w)
+      | inl l ↦ elim (cases_lt a h) [
+        | inl k ↦ lists.all a b near (inl k)
+        | inr k ↦ (
+            let m : a < h + 1 = l in
+            let same : a ≡ h = omega arith in
+            lists.all a b near (inr (same, none b (subst (λ z. AreNear e heads z b) same near))))
+      ]
+    ];
+  }
+
+  -- one more adjacent head
+  pub lists_more : (rising : RisesOn heads places) (h low x : ℕ) (ps : List Pair) → Has heads h → Has heads x → h < x → e h x ≡ true → low ≤ x →
+      ((b : ℕ) → AreNear e heads h b → low ≤ b → x ≤ b) → ListsHeadPairs e heads places h low ps → ListsHeadPairs e heads places h (x + 1) (ps ++ pair_at places h x ∷ [])
+  lists_more rising h low x ps head other up edge above first lists = record {
+    ascending = to_pairs IsPairBefore (ps ++ pair_at places h x ∷ []) (later_append IsPairBefore ps (pair_at places h x ∷ [])
+        (of_pairs IsPairBefore ps lists.ascending) ((λ y i. absurd i), tt)
+        (λ p q i j. elim j [ inl same ↦ subst (IsPairBefore p) (sym same) (before p i) | inr none ↦ absurd none ]));
+    each = λ p c. elim (of_append ps (pair_at places h x ∷ []) p (of_contains (ps ++ pair_at places h x ∷ []) p c)) [
+      | inl i ↦
+          let r : (a : ℕ) × (b : ℕ) × AreNear e heads a b × ComesBefore a b h low × (p ≡ pair_at places a b) = lists.each p (to_contains ps p i) in
+          (r.0, r.1, r.2, elim r.3 [ inl l ↦ inl l | inr w ↦ inr (w.0, (let k : r.1 < low = w.1 in omega arith)) ], r.4)
+      | inr i ↦ elim i [
+        | inl same ↦ (h, x, record { first = head; second = other; ordered = up; edge = edge }, inr (refl, (omega arith)), same)
+        | inr none ↦ absurd none
+      ]
+    ];
+    all = λ a b near come. to_contains (ps ++ pair_at places h x ∷ []) (pair_at places a b) (elim come [
+      | inl l ↦ in_left ps (pair_at places h x ∷ []) (pair_at places a b) (of_contains ps (pair_at places a b) (lists.all a b near (inl l)))
+      | inr w ↦ elim (cases_lt b low) [
+        | inl k ↦ in_left ps (pair_at places h x ∷ []) (pair_at places a b) (of_contains ps (pair_at places a b) (lists.all a b near (inr (w.0, k))))
+        | inr k ↦
+            let m : b < x + 1 = w.1 in
+            let n : x ≤ b = first b (subst (λ z. AreNear e heads z b) w.0 near) k in
+            let same : b ≡ x = omega arith in
+            in_right ps (pair_at places h x ∷ []) (pair_at places a b) (inl (ap (λ z. pair_at places z b) w.0 ∙ ap (pair_at places h) same))
+      ]
+    ]);
+  } where
+    before : (p : Pair) → In ps p → IsPairBefore p (pair_at places h x)
+    before p i =
+        let r : (a : ℕ) × (b : ℕ) × AreNear e heads a b × ComesBefore a b h low × (p ≡ pair_at places a b) = lists.each p (to_contains ps p i) in
+        subst (λ q. IsPairBefore q (pair_at places h x)) (sym r.4) (elim r.3 [
+          | inl l ↦ inl (rising r.0 h r.2.first head l)
+          | inr w ↦ inr (ap (λ z. get_or places z 0) w.0, rising r.1 x r.2.second other (let k : r.1 < low = w.1 in omega arith))
+        ])
+
+-- the turns for one head
+module _ {g : PlainGraph} (is_graph : IsGraph g) (heads : NameSet) (places : List ℕ) (h : ℕ) where
+  abbrev near_heads : NameSet
+  near_heads = intersection (neighbours g h) heads
+
+  near_has : (b : ℕ) → AreNear (adjacent g) heads h b → Has near_heads b
+  near_has b near = meet_has (neighbours g h) heads b (contains-neighbours is_graph h b ∙ near.edge) near.second
+
+  of_near : (b : ℕ) → Has near_heads b → Has heads b × (adjacent g h b ≡ true)
+  of_near b k =
+      let two : Has (neighbours g h) b × Has heads b = of_meet (neighbours g h) heads b k in
+      (two.1, sym (contains-neighbours is_graph h b) ∙ two.0)
+
+  pub pushing_begin : (row near : NameSet) (items left : List ℕ) (ps : List Pair) → row ≡ neighbours g h → near ≡ intersection row heads → items ≡ ascending_from near (h + 1) →
+      AllBelow near NAMES → left ≡ items → ListsHeadPairs (adjacent g) heads places h 0 ps → IsPushing (adjacent g) heads places h near_heads left ps
+  pushing_begin row near items left ps is_row is_near is_items names is_left lists = record {
+    low = h + 1;
+    above = omega arith;
+    is = is_left ∙ is_items ∙ ap (λ s. ascending_from s (h + 1)) same;
+    names = subst (λ s. AllBelow s NAMES) same names;
+    lists = lists_begin h ps lists;
+  } where
+    same : near ≡ near_heads
+    same = is_near ∙ ap (λ s. intersection s heads) is_row
+
+  module _ (left : List ℕ) (ps : List Pair) (pushing : IsPushing (adjacent g) heads places h near_heads left ps) where
+    pub pushing_head : (x : ℕ) (rest : List ℕ) → left ≡ x ∷ rest → Has heads x
+    pushing_head x rest steps =
+        let turn : IsTurn near_heads pushing.low NAMES x rest = walk_turn near_heads pushing.low NAMES x left rest pushing.is steps in
+        (of_near x turn.item.member).0
+
+    pub pushing_more : (x : ℕ) (rest : List ℕ) (qs : List Pair) → RisesOn heads places → Has heads h → left ≡ x ∷ rest → qs ≡ ps ++ pair_at places h x ∷ [] →
+        IsPushing (adjacent g) heads places h near_heads rest qs
+    pushing_more x rest qs rising head steps is_qs =
+        let turn : IsTurn near_heads pushing.low NAMES x rest = walk_turn near_heads pushing.low NAMES x left rest pushing.is steps in
+        let up : pushing.low ≤ x = turn.item.above in
+        let above : h < pushing.low = pushing.above in
+        let x_in : Has heads x × (adjacent g h x ≡ true) = of_near x turn.item.member in
+        record {
+          low = x + 1;
+          above = omega arith;
+          is = turn.left;
+          names = pushing.names;
+          lists = subst (ListsHeadPairs (adjacent g) heads places h (x + 1)) (sym is_qs)
+              (lists_more rising h pushing.low x ps head x_in.0 (omega arith) x_in.1 up
+              (λ b near from. turn.item.first b (near_has b near) from (pushing.names b (near_has b near))) pushing.lists);
+        }
+
+    pub pushing_end : (rest : List ℕ) → (left ≡ []) × (rest ≡ []) → ListsHeadPairs (adjacent g) heads places (h + 1) 0 ps
+    pushing_end rest steps =
+        lists_end h pushing.low ps (λ b near. walk_end near_heads pushing.low NAMES left rest pushing.names pushing.is steps b (near_has b near)) pushing.lists
+
+-- the turns over the heads
+pub pairs_begin : {e : ℕ → ℕ → Bool} (heads : NameSet) (places : List ℕ) (items left : List ℕ) (ps : List Pair) → items ≡ ascending_from heads 0 → AllBelow heads NAMES → left ≡ items →
+    ps ≡ [] → IsListingPairs e heads places left ps
+pairs_begin {e} heads places items left ps is_items names is_left none = record {
+  low = 0;
+  is = is_left ∙ is_items;
+  names = names;
+  lists = subst (ListsHeadPairs e heads places 0 0) (sym none) lists_none;
+}
+
+module _ {e : ℕ → ℕ → Bool} (heads : NameSet) (places : List ℕ) (left : List ℕ) (ps : List Pair) (listing : IsListingPairs e heads places left ps) where
+  turn_of : (x : ℕ) (rest : List ℕ) → left ≡ x ∷ rest → IsTurn heads listing.low NAMES x rest
+  turn_of x rest steps = walk_turn heads listing.low NAMES x left rest listing.is steps
+
+  pub pairs_head : (x : ℕ) (rest : List ℕ) → left ≡ x ∷ rest → Has heads x
+  pairs_head x rest steps = (turn_of x rest steps).item.member
+
+  pub pairs_name : (x : ℕ) (rest : List ℕ) → left ≡ x ∷ rest → x < NAMES
+  pairs_name x rest steps = (turn_of x rest steps).item.below
+
+  pub pairs_before : (x : ℕ) (rest : List ℕ) → left ≡ x ∷ rest → ListsHeadPairs e heads places x 0 ps
+  pairs_before x rest steps =
+      lists_skip listing.low x ps (turn_of x rest steps).item.above
+      (λ w h from. (turn_of x rest steps).item.first w h from (listing.names w h)) listing.lists
+
+  pub pairs_whole : (rest : List ℕ) → (left ≡ []) × (rest ≡ []) → ListsHeadPairs e heads places NAMES 0 ps
+  pairs_whole rest steps = lists_whole listing.low NAMES ps (walk_end heads listing.low NAMES left rest listing.names listing.is steps) listing.names listing.lists
+
+  pub pairs_more : (x : ℕ) (rest : List ℕ) (qs : List Pair) → left ≡ x ∷ rest → ListsHeadPairs e heads places (x + 1) 0 qs → IsListingPairs e heads places rest qs
+  pairs_more x rest qs steps lists = record { low = x + 1; is = (turn_of x rest steps).left; names = listing.names; lists = lists }
+
+-- the pairs of all heads are those of the sets between which an edge runs
+module _ {g : PlainGraph} (is_graph : IsGraph g) (s : NameSet) (cs : List NameSet) (prime : IsPrime (adjacent g) s) (children : AreChildren (adjacent g) s cs) where
+  child_at : (k : ℕ) → k < length cs → IsMaximalModule (adjacent g) s (set_at cs k)
+  child_at k room = child_maximal (adjacency is_graph) s (set_at cs k) prime ((children.exactly (set_at cs k)).1 (to_contains cs (set_at cs k) (in_get cs k empty room)))
+
+  pub child_some : (k : ℕ) → k < length cs → HasSome (set_at cs k)
+  child_some k room = (child_at k room).is_module.some
+
+  pub child_within : (k x : ℕ) → k < length cs → Has (set_at cs k) x → Has s x
+  child_within k x room h = (child_at k room).is_module.inside x h
+
+  place_of : (k x : ℕ) → Has (set_at cs k) x → k < length cs
+  place_of k x h = elim (cases_lt k (length cs)) [
+    | inl l ↦ l
+    | inr le ↦ clash (Has-along (set_at cs k) empty (get_or-eq_default cs empty le) x h) (empty_lacks x)
+  ]
+
+  apart : (i j : ℕ) → i < j → j < length cs → set_at cs i ≢ set_at cs j
+  apart i j up room same =
+      let is : IsBefore (set_at cs i) (set_at cs j) = children.order i j empty up room in
+      let b : is.0 < is.0 = is.2 is.0 (Has-along (set_at cs i) (set_at cs j) same is.0 is.1) in
+      omega arith
+
+  module _ (heads : NameSet) (places : List ℕ) (is : AreHeads cs (length cs) heads places) where
+    to_joined : (a b : ℕ) → AreNear (adjacent g) heads a b → AreJoined (adjacent g) cs (get_or places a 0) (get_or places b 0)
+    to_joined a b near = record {
+      ordered = heads_rise cs children.order (length cs) heads places (omega arith) is a b near.first near.second near.ordered;
+      edge = (a, b, (is.least a near.first).member, (is.least b near.second).member, near.edge);
+    }
+
+    of_joined : (i j : ℕ) → AreJoined (adjacent g) cs i j → (a : ℕ) × (b : ℕ) × AreNear (adjacent g) heads a b × (pair_at places a b ≡ record { low = i; high = j })
+    of_joined i j joined =
+        let x : ℕ = joined.edge.0 in
+        let y : ℕ = joined.edge.1 in
+        let up : i < j = joined.ordered in
+        let room : j < length cs = place_of j y joined.edge.3 in
+        let a : (a : ℕ) × Has heads a × (get_or places a 0 ≡ i) = is.each i (omega arith) in
+        let b : (b : ℕ) × Has heads b × (get_or places b 0 ≡ j) = is.each j room in
+        let a_least : IsLeastFrom (set_at cs i) 0 a.0 = subst (λ k. IsLeastFrom (set_at cs k) 0 a.0) a.2 (is.least a.0 a.1) in
+        let b_least : IsLeastFrom (set_at cs j) 0 b.0 = subst (λ k. IsLeastFrom (set_at cs k) 0 b.0) b.2 (is.least b.0 b.1) in (
+          a.0,
+          b.0,
+          record {
+            first = a.1;
+            second = b.1;
+            ordered = head_below cs children.order i j a.0 b.0 up room a_least b_least.member;
+            edge = (maximal_modules_proof (adjacent g) (adjacency is_graph) s prime).alike (set_at cs i) (set_at cs j) a.0 b.0 x y
+                (child_at i (omega arith)) (child_at j room) (apart i j up room) a_least.member joined.edge.2 b_least.member joined.edge.3
+                ∙ joined.edge.4;
+          },
+          ap (λ k. record { low = k; high = get_or places b.0 0 }) a.2 ∙ ap (λ k. record { low = i; high = k }) b.2,
+        )
+
+    pub pairs_listed : (ps : List Pair) → ListsHeadPairs (adjacent g) heads places NAMES 0 ps → ListsPairs (adjacent g) cs ps
+    pairs_listed ps lists = record {
+      ascending = lists.ascending;
+      exactly = λ p. (
+        (λ c.
+            let r : (a : ℕ) × (b : ℕ) × AreNear (adjacent g) heads a b × ComesBefore a b NAMES 0 × (p ≡ pair_at places a b) = lists.each p c in
+            subst (λ q. AreJoined (adjacent g) cs q.low q.high) (sym r.4) (to_joined r.0 r.1 r.2)),
+        λ joined.
+            let r : (a : ℕ) × (b : ℕ) × AreNear (adjacent g) heads a b × (pair_at places a b ≡ p) = of_joined p.low p.high joined in
+            let inside : Has g.vertices r.0 = (adjacent_ends is_graph r.0 r.1 r.2.edge).0 in
+            subst (Contains ps) r.3 (lists.all r.0 r.1 r.2 (inl (is_graph.names r.0 inside))),
+      );
+    }

@@ -1,0 +1,8 @@
+use Rattle.std.specs.FinSet.{intersection}
+use Rattle.md_graph.specs.PlainGraph.{adjacent, neighbours}
+use Rattle.md_decompose.proofs.HeadPairs.{IsPushing}
+use Rattle.md_decompose.proofs.pairs.push_pairs.Given as goal
+
+abbrev pub invariant-loop-other : goal.invariant-loop-other
+invariant-loop-other l =
+    IsPushing (adjacent l.graph) l.heads l.places l.head (intersection (neighbours l.graph l.head) l.heads) l.other-iterator l.edges.items
