@@ -3,3 +3,4 @@ pub mod ConvertLemmas
 pub mod EndsLemmas
 pub mod ReportLemmas
 pub mod Fronts
+pub mod SessionLemmas

@@ -4,7 +4,7 @@ use Rattle.std.proofs.lemmas.Grind.{flat_map-append}
 use Rattle.std.specs.Io.KnownBytes.{Appends}
 use Rattle.md_io.specs.Front.{AppendsFront}
 use Rattle.md_graph.specs.PlainGraph.{PlainGraph}
-use Rattle.md_report.specs.declared.line.Mode.{Mode}
+use Rattle.md_report.specs.declared.line.GraphMode.{GraphMode}
 use Rattle.md_report.specs.Lines.{PlainLine, fed_line, lines_text}
 use Rattle.md_report.specs.Places.{Place, before_head, after_end, MayCome, next_place}
 use Rattle.md_report.proofs.Places.{lead_append}
@@ -56,7 +56,7 @@ stopped_before p old = record {
 }
 
 -- a front behind lines
-front_behind : (p q : Place) (old now new : Option (List ℕ)) → AppendsLines p q old now → AppendsFrontFrom q now new → AppendsFrontFrom p old new
+pub front_behind : (p q : Place) (old now new : Option (List ℕ)) → AppendsLines p q old now → AppendsFrontFrom q now new → AppendsFrontFrom p old new
 front_behind p q old now new so_far more = record {
   bytes = lines_text so_far.lines ++ more.bytes;
   front = record {
@@ -94,7 +94,7 @@ puts_behind p q r (Err stop) old now new faults_old faults_now faults_new so_far
     stops_behind p q stop old now new faults_old faults_now faults_new so_far below more
 
 -- a report over the graphs of a file
-module _ (mode : Mode) (from : Format) (file : List ℕ) (graphs : List PlainGraph) (faultless : graph_fault from file ≡ None) (spelt : SpellsGraphs from file graphs) where
+module _ (mode : GraphMode) (from : Format) (file : List ℕ) (graphs : List PlainGraph) (faultless : graph_fault from file ≡ None) (spelt : SpellsGraphs from file graphs) where
   front_of : (old new : Option (List ℕ)) → AppendsFrontFrom (before_head mode graphs) old new → PutsFront (Report mode from) (file ∷ []) old new
   front_of old new front =
       record { faultless = faultless; bytes = front.bytes; front = record { graphs = graphs; spelt = spelt; front = front.front }; put = front.put }
@@ -118,7 +118,7 @@ module _ (mode : Mode) (from : Format) (file : List ℕ) (graphs : List PlainGra
       subst (λ (e : Result Verdict Stop). CommandEnds (Report mode from) (file ∷ []) e old new faults_old faults_new) (sym is) (ends_of_report result old new faults_old faults_new put)
 
 -- the same over a graph6 file without fault
-pub command_of_report_lines : (mode : Mode) (from : Format) → from ≡ G6 → (file : List ℕ) → first_fault file ≡ None → (result : Result (Unit {0}) Stop) (old new : Option (List ℕ)) (faults_old faults_new : ℕ) → PutsLines (before_head mode (graphs_of file)) after_end result old new faults_old faults_new → (ending : Result Verdict Stop) → ending ≡ verdict_of result → CommandEnds (Report mode from) (file ∷ []) ending old new faults_old faults_new
+pub command_of_report_lines : (mode : GraphMode) (from : Format) → from ≡ G6 → (file : List ℕ) → first_fault file ≡ None → (result : Result (Unit {0}) Stop) (old new : Option (List ℕ)) (faults_old faults_new : ℕ) → PutsLines (before_head mode (graphs_of file)) after_end result old new faults_old faults_new → (ending : Result Verdict Stop) → ending ≡ verdict_of result → CommandEnds (Report mode from) (file ∷ []) ending old new faults_old faults_new
 command_of_report_lines mode from is file faultless result old new faults_old faults_new put ending same =
     subst (λ (f : Format). CommandEnds (Report mode f) (file ∷ []) ending old new faults_old faults_new) (sym is)
     (command_of_report mode G6 file (graphs_of file) (ap (option_map faults.Graph6) faultless) (spelled file faultless) result old new faults_old faults_new put ending same)

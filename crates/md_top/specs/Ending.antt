@@ -5,8 +5,10 @@ use Rattle.md_graph6.specs.declared.fault.G6Kind.{G6Kind}
 use Rattle.md_graph6.specs.declared.fault.G6Kind.TheVariants as g6
 use Rattle.md_dimacs.specs.declared.fault.DimacsKind.{DimacsKind}
 use Rattle.md_dimacs.specs.declared.fault.DimacsKind.TheVariants as dimacs
+use Rattle.md_script.specs.declared.fault.ScriptKind.{ScriptKind}
+use Rattle.md_script.specs.declared.fault.ScriptKind.TheVariants as script
 use Rattle.md_top.specs.declared.stop.Fault.{Fault}
-use Rattle.md_top.specs.declared.stop.Fault.TheVariants.{Graph6, Dimacs}
+use Rattle.md_top.specs.declared.stop.Fault.TheVariants.{Graph6, Dimacs, NotOneGraph, Script}
 use Rattle.md_top.specs.declared.stop.Stop.{Stop}
 use Rattle.md_top.specs.declared.stop.Stop.TheVariants as stops
 use Rattle.md_top.specs.declared.stop.Verdict.{Verdict}
@@ -49,14 +51,27 @@ dimacs_name dimacs.UnknownLine = codes "UnknownLine"
 dimacs_name dimacs.TooManyVertices = codes "TooManyVertices"
 dimacs_name dimacs.FieldCount = codes "FieldCount"
 
+abbrev pub script_name : ScriptKind → List ℕ
+script_name script.UnknownEdit = codes "UnknownEdit"
+script_name script.FieldCount = codes "FieldCount"
+script_name script.BadNumber = codes "BadNumber"
+script_name script.NameTooLarge = codes "NameTooLarge"
+script_name script.TooManyEdits = codes "TooManyEdits"
+
 -- the line that names a fault of the graph file
 abbrev pub graph_fault_line : List ℕ → ℕ → List ℕ
 graph_fault_line name line = codes "mdt: graph " ++ name ++ codes " line " ++ decimal line ++ codes "\n"
+
+-- the line that names a fault of the script
+abbrev pub script_fault_line : List ℕ → ℕ → List ℕ
+script_fault_line name line = codes "mdt: script " ++ name ++ codes " line " ++ decimal line ++ codes "\n"
 
 -- the line that names a fault
 abbrev pub fault_line : Fault → List ℕ
 fault_line (Graph6 fault) = graph_fault_line (g6_name fault.kind) fault.line
 fault_line (Dimacs fault) = graph_fault_line (dimacs_name fault.kind) fault.line
+fault_line (NotOneGraph count) = codes "mdt: graph NotOneGraph count " ++ decimal count ++ codes "\n"
+fault_line (Script kind line) = script_fault_line (script_name kind) line
 
 -- the line of what stops a run
 abbrev pub line_of_stop : Stop → List ℕ

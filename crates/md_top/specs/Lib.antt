@@ -3,6 +3,7 @@ pub mod Input
 pub mod Load
 pub mod Output
 pub mod Reported
+pub mod Session
 pub mod Ending
 pub mod Answer
 pub mod Command

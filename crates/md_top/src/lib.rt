@@ -9,6 +9,7 @@ mod load;
 mod memory;
 mod put;
 mod report;
+mod session;
 mod short;
 mod stop;
 mod top;

@@ -1,6 +1,7 @@
 //! The line on standard error.
 ghost use Rattle.std.specs.Prelude.{◌≡◌, ◌≤◌, length};
-ghost use Rattle.md_top.specs.Ending.{g6_name, dimacs_name, graph_fault_line, fault_line, line_of_stop};
+ghost use Rattle.md_top.specs.Ending.{g6_name, dimacs_name, script_name, graph_fault_line, script_fault_line, fault_line, line_of_stop};
+ghost use Rattle.md_top.specs.declared.stop.Fault.{Fault};
 ghost use Rattle.md_top.specs.Output.{TakesLine};
 
 use crate::short::ShortText;
@@ -8,6 +9,7 @@ use crate::stop::{Fault, Stop};
 use md_dimacs::DimacsKind;
 use md_graph6::G6Kind;
 use md_io::Sink;
+use md_script::ScriptKind;
 
 fn g6_name(kind: G6Kind) -> &'static str
     ensures { result.now ≡ g6_name kind }
@@ -39,6 +41,18 @@ fn dimacs_name(kind: DimacsKind) -> &'static str
     }
 }
 
+fn script_name(kind: ScriptKind) -> &'static str
+    ensures { result.now ≡ script_name kind }
+{
+    match kind {
+        ScriptKind::UnknownEdit => "UnknownEdit",
+        ScriptKind::FieldCount => "FieldCount",
+        ScriptKind::BadNumber => "BadNumber",
+        ScriptKind::NameTooLarge => "NameTooLarge",
+        ScriptKind::TooManyEdits => "TooManyEdits",
+    }
+}
+
 fn graph_fault_line(name: &str, line: u64) -> ShortText
     requires { length name.now ≤ 32 }
     ensures { result ≡ graph_fault_line name.now line }
@@ -58,7 +72,32 @@ fn fault_line(fault: Fault) -> ShortText
     match fault {
         Fault::Graph6(fault) => graph_fault_line(g6_name(fault.kind), fault.line),
         Fault::Dimacs(fault) => graph_fault_line(dimacs_name(fault.kind), fault.line),
+        Fault::NotOneGraph(count) => count_line(count),
+        Fault::Script(kind, line) => script_fault_line(script_name(kind), line),
     }
+}
+
+fn count_line(count: u64) -> ShortText
+    ensures { result ≡ fault_line (Fault.NotOneGraph count) }
+{
+    let mut text = ShortText::new();
+    text.push(b"mdt: graph NotOneGraph count ");
+    text.push_decimal(count);
+    text.push(b"\n");
+    text
+}
+
+fn script_fault_line(name: &str, line: u64) -> ShortText
+    requires { length name.now ≤ 32 }
+    ensures { result ≡ script_fault_line name.now line }
+{
+    let mut text = ShortText::new();
+    text.push(b"mdt: script ");
+    text.push(name.as_bytes());
+    text.push(b" line ");
+    text.push_decimal(line);
+    text.push(b"\n");
+    text
 }
 
 fn fixed_line(line: &[u8]) -> ShortText

@@ -20,7 +20,7 @@ pub fn load<F: Files>(alloc: Global, files: &mut F, name: &str) -> Result<Vec<u8
         ⊎ (IsErrOf result Stop.Memory × (F.asked files.new ≡ F.asked files.old)) }
     ensures holds { F.holds files.new ≡ F.holds files.old }
     ensures sure { IsTrue (F.sure files.old) → IsToldFile (F.holds files.old name.now)
-        → (F.faults files.new ≡ F.faults files.old) × IsTrue (F.sure files.new) }
+        → (F.faults files.new ≡ F.faults files.old) × IsTrue (F.sure files.new) × ¬ (IsErrOf result Stop.ReadFault) }
     ensures faults_never_fall { F.faults files.old ≤ F.faults files.new }
     ensures overs_never_fall { F.overs files.old ≤ F.overs files.new }
 {

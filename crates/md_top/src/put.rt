@@ -1,9 +1,14 @@
 //! Puts a piece of the output.
 ghost use Rattle.std.specs.Prelude.{◌≡◌, ◌≤◌};
+ghost use Rattle.md_report.specs.Lines.{plain_line};
+ghost use Rattle.md_report.specs.Places.{Place, MayCome, next_place};
+ghost use Rattle.md_top.specs.Reported.{PutsLines};
 ghost use Rattle.md_top.specs.Output.{PutsWhole, verdict_of};
 
 use crate::stop::{Stop, Verdict};
 use md_io::{PutFault, Sink};
+use md_report::{Line, write_line};
+use std::alloc::Global;
 
 /// Puts a piece to the output.
 pub fn put_piece<O: Sink>(out: &mut O, piece: &[u8]) -> Result<(), Stop>
@@ -26,4 +31,19 @@ pub fn verdict_of(put: Result<(), Stop>) -> Result<Verdict, Stop>
         Ok(()) => Ok(Verdict::Done),
         Err(stop) => Err(stop),
     }
+}
+
+/// Puts a line of a report, with its line feed.
+pub fn put_report_line<O: Sink>(alloc: Global, line: Line, out: &mut O) -> Result<(), Stop>
+    ensures puts { (p : Place) → MayCome p (plain_line line) → PutsLines p (next_place p) result
+        (O.holds out.old) (O.holds out.new) (O.faults out.old) (O.faults out.new) }
+    ensures faults_never_fall { O.faults out.old ≤ O.faults out.new }
+{
+    let Ok(mut text) = write_line(alloc, &line) else {
+        return Err(Stop::Memory);
+    };
+    if text.push(b'\n').is_err() {
+        return Err(Stop::Memory);
+    }
+    put_piece(out, &text)
 }

@@ -2,26 +2,25 @@
 ghost use Rattle.std.specs.Prelude.{◌≡◌, ◌≤◌, List, [], ◌∷◌, None};
 ghost use Rattle.md_graph.specs.PlainGraph.{PlainGraph, empty_graph};
 ghost use Rattle.md_graph6.specs.File.{first_fault, graphs_of};
-ghost use Rattle.md_report.specs.Lines.{plain_line};
-ghost use Rattle.md_report.specs.Places.{Place, before_head, at_graphs, after_end, MayCome, next_place};
+ghost use Rattle.md_report.specs.Places.{before_head, at_graphs, after_end};
 ghost use Rattle.md_top.specs.declared.form.Form.{Form};
 ghost use Rattle.md_top.specs.Command.{CommandEnds};
 ghost use Rattle.md_top.specs.Reported.{PutsLines};
 
 use crate::form::Format;
-use crate::put::{put_piece, verdict_of};
+use crate::put::{put_report_line, verdict_of};
 use crate::stop::{Fault, Stop, Verdict};
 use md_decompose::decompose;
 use md_graph::{Graph, Memory};
 use md_graph6::Lines;
 use md_io::Sink;
-use md_report::{Line, Mode, write_line};
+use md_report::{GraphMode, Line};
 use std::alloc::Global;
 
 /// Puts the report of a mode over the graphs of a file.
 pub fn report<O: Sink>(
     alloc: Global,
-    mode: Mode,
+    mode: GraphMode,
     from: Format,
     file: &[u8],
     out: &mut O,
@@ -39,23 +38,28 @@ pub fn report<O: Sink>(
 }
 
 /// Puts the report over the graphs of a graph6 file without fault.
-fn report_lines<O: Sink>(alloc: Global, mode: Mode, file: &[u8], out: &mut O) -> Result<(), Stop>
+fn report_lines<O: Sink>(
+    alloc: Global,
+    mode: GraphMode,
+    file: &[u8],
+    out: &mut O,
+) -> Result<(), Stop>
     requires { first_fault file.now ≡ None }
     ensures puts { PutsLines (before_head mode (graphs_of file.now)) after_end result (O.holds out.old) (O.holds out.new)
         (O.faults out.old) (O.faults out.new) }
     ensures faults_never_fall { O.faults out.old ≤ O.faults out.new }
 {
-    if let Err(stop) = put_line(alloc, Line::Head(mode), out) {
+    if let Err(stop) = put_report_line(alloc, Line::Head(mode.mode()), out) {
         return Err(stop);
     }
     if let Err(stop) = put_graphs(alloc, mode, file, out) {
         return Err(stop);
     }
-    put_line(alloc, Line::End, out)
+    put_report_line(alloc, Line::End, out)
 }
 
 /// Puts the line of each graph of a graph6 file without fault.
-fn put_graphs<O: Sink>(alloc: Global, mode: Mode, file: &[u8], out: &mut O) -> Result<(), Stop>
+fn put_graphs<O: Sink>(alloc: Global, mode: GraphMode, file: &[u8], out: &mut O) -> Result<(), Stop>
     requires { first_fault file.now ≡ None }
     ensures puts { PutsLines (at_graphs mode (graphs_of file.now)) (at_graphs mode []) result
         (O.holds out.old) (O.holds out.new) (O.faults out.old) (O.faults out.new) }
@@ -77,7 +81,7 @@ fn put_graphs<O: Sink>(alloc: Global, mode: Mode, file: &[u8], out: &mut O) -> R
 /// Puts the report over the graph of a DIMACS file, or names the first fault of the file.
 fn report_edge_file<O: Sink>(
     alloc: Global,
-    mode: Mode,
+    mode: GraphMode,
     file: &[u8],
     out: &mut O,
 ) -> Result<Verdict, Stop>
@@ -94,45 +98,40 @@ fn report_edge_file<O: Sink>(
 }
 
 /// Puts the report over one graph.
-fn report_graph<O: Sink>(alloc: Global, mode: Mode, graph: &Graph, out: &mut O) -> Result<(), Stop>
+fn report_graph<O: Sink>(
+    alloc: Global,
+    mode: GraphMode,
+    graph: &Graph,
+    out: &mut O,
+) -> Result<(), Stop>
     ensures puts { PutsLines (before_head mode (graph.now ∷ [])) after_end result (O.holds out.old) (O.holds out.new)
         (O.faults out.old) (O.faults out.new) }
     ensures faults_never_fall { O.faults out.old ≤ O.faults out.new }
 {
-    if let Err(stop) = put_line(alloc, Line::Head(mode), out) {
+    if let Err(stop) = put_report_line(alloc, Line::Head(mode.mode()), out) {
         return Err(stop);
     }
     if let Err(stop) = put_graph(alloc, mode, graph, out) {
         return Err(stop);
     }
-    put_line(alloc, Line::End, out)
+    put_report_line(alloc, Line::End, out)
 }
 
 /// Puts the line that reports a graph.
-fn put_graph<O: Sink>(alloc: Global, mode: Mode, graph: &Graph, out: &mut O) -> Result<(), Stop>
+fn put_graph<O: Sink>(
+    alloc: Global,
+    mode: GraphMode,
+    graph: &Graph,
+    out: &mut O,
+) -> Result<(), Stop>
     ensures puts { (graphs : List PlainGraph) → PutsLines (at_graphs mode (graph.now ∷ graphs)) (at_graphs mode graphs) result
         (O.holds out.old) (O.holds out.new) (O.faults out.old) (O.faults out.new) }
     ensures faults_never_fall { O.faults out.old ≤ O.faults out.new }
 {
     match mode {
-        Mode::Tree => match decompose(alloc, graph) {
-            Ok(tree) => put_line(alloc, Line::Tree(tree), out),
+        GraphMode::Tree => match decompose(alloc, graph) {
+            Ok(tree) => put_report_line(alloc, Line::Tree(tree), out),
             Err(Memory) => Err(Stop::Memory),
         },
     }
-}
-
-/// Puts a line of a report.
-fn put_line<O: Sink>(alloc: Global, line: Line, out: &mut O) -> Result<(), Stop>
-    ensures puts { (p : Place) → MayCome p (plain_line line) → PutsLines p (next_place p) result
-        (O.holds out.old) (O.holds out.new) (O.faults out.old) (O.faults out.new) }
-    ensures faults_never_fall { O.faults out.old ≤ O.faults out.new }
-{
-    let Ok(mut text) = write_line(alloc, &line) else {
-        return Err(Stop::Memory);
-    };
-    if text.push(b'\n').is_err() {
-        return Err(Stop::Memory);
-    }
-    put_piece(out, &text)
 }

@@ -1,6 +1,7 @@
 //! How a run ends: with a verdict, or at what stops it.
 use md_dimacs::DimacsFault;
 use md_graph6::G6Fault;
+use md_script::ScriptKind;
 
 /// What is wrong with the input, its first fault in the order of work.
 #[derive(Clone, Copy, Debug, PartialEq, Eq)]
@@ -9,6 +10,10 @@ pub enum Fault {
     Graph6(G6Fault),
     /// The DIMACS file has a fault.
     Dimacs(DimacsFault),
+    /// The graph file has this many graphs, where one is needed.
+    NotOneGraph(u64),
+    /// A line of the script, counted from 1, has a fault.
+    Script(ScriptKind, u64),
 }
 
 /// What the whole output says.

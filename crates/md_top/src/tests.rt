@@ -19,12 +19,13 @@ fn words_of(alloc: Global, line: &str) -> Result<Vec<String>, Fail> {
     Ok(words)
 }
 
-/// A run over the file `g`: its status, and what stands on `out` and on `err`. The put of this number fails on `out`,
+/// A run over the files `g` and `s`: its status, and what stands on `out` and on `err`. The put of this number fails on `out`,
 /// after a part of it, and the load of this number fails.
 fn run_over(
     alloc: Global,
     line: &str,
     file: &[u8],
+    script: &[u8],
     load: u64,
     put: u64,
     part: u64,
@@ -32,6 +33,7 @@ fn run_over(
     let words = words_of(alloc, line)?;
     let mut files = MemFiles::new(alloc, vec![in alloc; load]?);
     files.add("g", file)?;
+    files.add("s", script)?;
     let mut out = MemSink::new(alloc, vec![in alloc; put]?, part);
     let mut err = MemSink::new(alloc, Vec::new(alloc), 0);
     let status = run(alloc, &words, &mut files, &mut out, &mut err) as u8;
@@ -243,7 +245,7 @@ fn runs(rt: HostRuntime) -> Result<(), Fail> {
         ),
     ];
     for (line, file, want) in table {
-        let shown = run_over(alloc, line, file, 0, 0, 0)?;
+        let shown = run_over(alloc, line, file, b"", 0, 0, 0)?;
         assert_eq!(rt; shown.as_str(), want, "{line}");
     }
     Ok(())
@@ -252,9 +254,9 @@ fn runs(rt: HostRuntime) -> Result<(), Fail> {
 #[test]
 fn runs_that_fail(rt: HostRuntime) -> Result<(), Fail> {
     let alloc = rt.alloc();
-    let shown = run_over(alloc, "edges g6 g", b"DQc\n", 1, 0, 0)?;
+    let shown = run_over(alloc, "edges g6 g", b"DQc\n", b"", 1, 0, 0)?;
     assert_eq!(rt; shown.as_str(), "4||mdt: read fault\n");
-    let shown = run_over(alloc, "tree g6 g", b"DQc\n", 1, 0, 0)?;
+    let shown = run_over(alloc, "tree g6 g", b"DQc\n", b"", 1, 0, 0)?;
     assert_eq!(rt; shown.as_str(), "4||mdt: read fault\n");
     let table = [
         (1, 0, "5||mdt: write fault\n"),
@@ -266,7 +268,7 @@ fn runs_that_fail(rt: HostRuntime) -> Result<(), Fail> {
         ),
     ];
     for (put, part, want) in table {
-        let shown = run_over(alloc, "tree g6 g", b"DQc\n", 0, put, part)?;
+        let shown = run_over(alloc, "tree g6 g", b"DQc\n", b"", 0, put, part)?;
         assert_eq!(rt; shown.as_str(), want, "put {put}");
     }
     let table = [
@@ -277,8 +279,99 @@ fn runs_that_fail(rt: HostRuntime) -> Result<(), Fail> {
         (3, 9, "0|p edge 1 0\np edge 2 0\n|"),
     ];
     for (put, part, want) in table {
-        let shown = run_over(alloc, "edges g6 g", b"@\nA?\n", 0, put, part)?;
+        let shown = run_over(alloc, "edges g6 g", b"@\nA?\n", b"", 0, put, part)?;
         assert_eq!(rt; shown.as_str(), want, "put {put}");
     }
+    Ok(())
+}
+
+#[test]
+fn sessions(rt: HostRuntime) -> Result<(), Fail> {
+    let alloc = rt.alloc();
+    let table: [(&str, &[u8], &[u8], &str); 15] = [
+        (
+            "edit dimacs g s",
+            b"p edge 3 2\ne 1 2\ne 2 3\n",
+            b"+e 1 3\n+e 1 3\n-v 9\n",
+            "0|mdt edit\nt S(P(1,3),2)\nok S(1,2,3)\nno edge-there\nno vertex 9\nend\n|",
+        ),
+        (
+            "edit g6 g s",
+            b"@\n",
+            b"# all goes\n-v 0\n+v 0\n+v 1 1\n",
+            "0|mdt edit\nt 0\nok empty\nok 0\nno vertex 1\nend\n|",
+        ),
+        (
+            "edit g6 g s",
+            b"Bg\n",
+            b"+e 7 7\n+v 0 9\n+v 0\n-e 0 2\n+e 0 1\n",
+            "0|mdt edit\nt S(P(0,2),1)\nno same\nno vertex 9\nno taken 0\nno edge-absent\nno edge-there\nend\n|",
+        ),
+        (
+            "edit g6 g s",
+            b"DhO\n",
+            b"+e 0 4\n-v 3\n+v 3 0 1 2 4\n",
+            "0|mdt edit\nt R(P(0,4),1,2,3;0-1,1-2,2-3)\nok R(S(0,4),1,2,3;0-1,1-2,2-3)\nok S(P(S(0,4),2),1)\nok S(P(S(0,4),2),1,3)\nend\n|",
+        ),
+        (
+            "edit g6 g s",
+            b"@\n@\n",
+            b"",
+            "3||mdt: graph NotOneGraph count 2\n",
+        ),
+        (
+            "edit g6 g s",
+            b"",
+            b"",
+            "3||mdt: graph NotOneGraph count 0\n",
+        ),
+        (
+            "edit g6 g s",
+            b"@\n",
+            b"\n*e 0 1\n",
+            "3||mdt: script UnknownEdit line 2\n",
+        ),
+        (
+            "edit g6 g s",
+            b"@\n",
+            b"+e 0\n",
+            "3||mdt: script FieldCount line 1\n",
+        ),
+        (
+            "edit g6 g s",
+            b"@\n",
+            b"+v a\n",
+            "3||mdt: script BadNumber line 1\n",
+        ),
+        (
+            "edit g6 g s",
+            b"@\n",
+            b"-v 4096\n",
+            "3||mdt: script NameTooLarge line 1\n",
+        ),
+        (
+            "edit g6 g s",
+            b"A`\n",
+            b"*",
+            "3||mdt: graph BadPadding line 1\n",
+        ),
+        (
+            "edit dimacs g s",
+            b"q\n",
+            b"",
+            "3||mdt: graph UnknownLine line 1\n",
+        ),
+        ("edit g6 g t", b"@\n", b"", "4||mdt: read fault\n"),
+        ("edit g6 g", b"@\n", b"", "2||mdt: usage\n"),
+        ("tree g6 g s", b"@\n", b"", "2||mdt: usage\n"),
+    ];
+    for (line, file, script, want) in table {
+        let shown = run_over(alloc, line, file, script, 0, 0, 0)?;
+        assert_eq!(rt; shown.as_str(), want, "{line}");
+    }
+    let shown = run_over(alloc, "edit g6 g s", b"@\n", b"-v 0\n", 2, 0, 0)?;
+    assert_eq!(rt; shown.as_str(), "4||mdt: read fault\n");
+    let shown = run_over(alloc, "edit g6 g s", b"@\n", b"-v 0\n", 0, 3, 2)?;
+    assert_eq!(rt; shown.as_str(), "5|mdt edit\nt 0\nok|mdt: write fault\n");
     Ok(())
 }

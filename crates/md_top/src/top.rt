@@ -3,7 +3,7 @@ ghost use Rattle.std.specs.Prelude.{◌≡◌, ◌≢◌, ◌↔◌, ◌⊎◌, 
 ghost use Rattle.md_io.specs.Count.{Rose};
 ghost use Rattle.md_top.specs.declared.form.Form.{Form};
 ghost use Rattle.md_top.specs.declared.stop.Fault.{Fault};
-ghost use Rattle.md_top.specs.Form.{Request, texts, request_of};
+ghost use Rattle.md_top.specs.Form.{Request, texts, format_of, graph_request, script_request, request_of, IsOverGraph, IsOverScript};
 ghost use Rattle.md_top.specs.Input.{IsInput, AllToldFiles, AsksInOrder, names_of};
 ghost use Rattle.md_top.specs.Answer.{fault_of};
 ghost use Rattle.md_top.specs.Command.{CommandEnds};
@@ -11,10 +11,11 @@ ghost use Rattle.md_top.specs.Clauses.{CanBeBad, CanBeGood, Puts, TakesLineOf};
 ghost use Rattle.md_top.specs.Ends.{Ends};
 
 use crate::convert::convert;
-use crate::form::{Form, format_of, graph_form};
+use crate::form::{Form, format_of, graph_form, script_form};
 use crate::line::put_line;
 use crate::load::load;
 use crate::report::report;
+use crate::session::edit;
 use crate::stop::{Status, Stop, Verdict};
 use md_io::{Files, Sink};
 use std::alloc::Global;
@@ -114,16 +115,103 @@ fn end<F: Files, O: Sink>(
         }) }
     ensures told { F.holds files.new ≡ F.holds files.old }
 {
-    let [command, format, graph] = words else {
+    match words {
+        [command, format, graph] => over_graph(
+            alloc,
+            command.as_str(),
+            format.as_str(),
+            graph.as_str(),
+            files,
+            out,
+        ),
+        [command, format, graph, script] => over_script(
+            alloc,
+            command.as_str(),
+            format.as_str(),
+            graph.as_str(),
+            script.as_str(),
+            files,
+            out,
+        ),
+        _ => Err(Stop::Usage),
+    }
+}
+
+/// Does what a command over one graph file asks for.
+fn over_graph<F: Files, O: Sink>(
+    alloc: Global,
+    command: &str,
+    format: &str,
+    graph: &str,
+    files: &mut F,
+    out: &mut O,
+) -> Result<Verdict, Stop>
+    ensures ends { Ends (graph_request command.now (format_of format.now) graph.now) result
+        (record {
+          holds = F.holds files.old;
+          asked_old = F.asked files.old;
+          asked_new = F.asked files.new;
+          faults_old = F.faults files.old;
+          faults_new = F.faults files.new;
+          overs_old = F.overs files.old;
+          overs_new = F.overs files.new;
+          sure_old = F.sure files.old;
+          sure_new = F.sure files.new;
+        })
+        (record {
+          old = O.holds out.old;
+          new = O.holds out.new;
+          faults_old = O.faults out.old;
+          faults_new = O.faults out.new;
+        }) }
+    ensures told { F.holds files.new ≡ F.holds files.old }
+{
+    let Some(format) = format_of(format) else {
         return Err(Stop::Usage);
     };
-    let Some(format) = format_of(format.as_str()) else {
+    let Some(form) = graph_form(command, format) else {
         return Err(Stop::Usage);
     };
-    let Some(form) = graph_form(command.as_str(), format) else {
+    end_over_graph(alloc, form, graph, files, out)
+}
+
+/// Does what a command over a graph file and a script asks for.
+fn over_script<F: Files, O: Sink>(
+    alloc: Global,
+    command: &str,
+    format: &str,
+    graph: &str,
+    script: &str,
+    files: &mut F,
+    out: &mut O,
+) -> Result<Verdict, Stop>
+    ensures ends { Ends (script_request command.now (format_of format.now) graph.now script.now) result
+        (record {
+          holds = F.holds files.old;
+          asked_old = F.asked files.old;
+          asked_new = F.asked files.new;
+          faults_old = F.faults files.old;
+          faults_new = F.faults files.new;
+          overs_old = F.overs files.old;
+          overs_new = F.overs files.new;
+          sure_old = F.sure files.old;
+          sure_new = F.sure files.new;
+        })
+        (record {
+          old = O.holds out.old;
+          new = O.holds out.new;
+          faults_old = O.faults out.old;
+          faults_new = O.faults out.new;
+        }) }
+    ensures told { F.holds files.new ≡ F.holds files.old }
+{
+    let Some(format) = format_of(format) else {
         return Err(Stop::Usage);
     };
-    end_over_graph(alloc, form, graph.as_str(), files, out)
+    let Some(form) = script_form(command, format) else {
+        return Err(Stop::Usage);
+    };
+    end_over_script(alloc, form, graph, script, files, out)
 }
 
 /// Loads the graph file of a form, and does what the form asks for.
@@ -134,6 +222,7 @@ fn end_over_graph<F: Files, O: Sink>(
     files: &mut F,
     out: &mut O,
 ) -> Result<Verdict, Stop>
+    requires { IsOverGraph form }
     ensures ends { Ends (Some (record { form = form; names = name.now ∷ [] })) result
         (record {
           holds = F.holds files.old;
@@ -160,6 +249,46 @@ fn end_over_graph<F: Files, O: Sink>(
     }
 }
 
+/// Loads the graph file and the script of a form, and does what the form asks for.
+fn end_over_script<F: Files, O: Sink>(
+    alloc: Global,
+    form: Form,
+    graph_name: &str,
+    script_name: &str,
+    files: &mut F,
+    out: &mut O,
+) -> Result<Verdict, Stop>
+    requires { IsOverScript form }
+    ensures ends { Ends (Some (record { form = form; names = graph_name.now ∷ script_name.now ∷ [] })) result
+        (record {
+          holds = F.holds files.old;
+          asked_old = F.asked files.old;
+          asked_new = F.asked files.new;
+          faults_old = F.faults files.old;
+          faults_new = F.faults files.new;
+          overs_old = F.overs files.old;
+          overs_new = F.overs files.new;
+          sure_old = F.sure files.old;
+          sure_new = F.sure files.new;
+        })
+        (record {
+          old = O.holds out.old;
+          new = O.holds out.new;
+          faults_old = O.faults out.old;
+          faults_new = O.faults out.new;
+        }) }
+    ensures told { F.holds files.new ≡ F.holds files.old }
+{
+    let graph = match load(alloc, files, graph_name) {
+        Ok(graph) => graph,
+        Err(stop) => return Err(stop),
+    };
+    match load(alloc, files, script_name) {
+        Ok(script) => end_over_two(alloc, form, &graph, &script, out),
+        Err(stop) => Err(stop),
+    }
+}
+
 /// Does what a form over one graph file asks for.
 fn end_over_contents<O: Sink>(
     alloc: Global,
@@ -167,11 +296,31 @@ fn end_over_contents<O: Sink>(
     graph: &[u8],
     out: &mut O,
 ) -> Result<Verdict, Stop>
+    requires { IsOverGraph form }
     ensures ends { CommandEnds form (graph.now ∷ []) result (O.holds out.old) (O.holds out.new)
         (O.faults out.old) (O.faults out.new) }
 {
     match form {
         Form::Convert(from, to) => convert(alloc, from, to, graph, out),
         Form::Report(mode, from) => report(alloc, mode, from, graph, out),
+        Form::Edit(_) => unreachable!(),
+    }
+}
+
+/// Does what a form over a graph file and a script asks for.
+fn end_over_two<O: Sink>(
+    alloc: Global,
+    form: Form,
+    graph: &[u8],
+    script: &[u8],
+    out: &mut O,
+) -> Result<Verdict, Stop>
+    requires { IsOverScript form }
+    ensures ends { CommandEnds form (graph.now ∷ script.now ∷ []) result (O.holds out.old) (O.holds out.new)
+        (O.faults out.old) (O.faults out.new) }
+{
+    match form {
+        Form::Edit(from) => edit(alloc, from, graph, script, out),
+        _ => unreachable!(),
     }
 }

@@ -1,7 +1,7 @@
 use Rattle.std.proofs.Common.{rules, ◌≡◌}
 use Rattle.md_report.specs.Lines.{plain_line, fed_line}
 use Rattle.md_top.proofs.ReportLemmas.{one_line}
-use Rattle.md_top.proofs.report.put_line.Goals as goal
+use Rattle.md_top.proofs.put.put_report_line.Goals as goal
 
 pub returns-clause-puts : goal.returns-clause-puts
 returns-clause-puts g c p may =
