@@ -1,11 +1,10 @@
 -- Pieces of text, and bytes that are gathered in front of others.
-use Rattle.std.specs.Prelude.{◌≡◌, ℕ, suc, ◌+◌, ◌/◌, ◌%◌, ◌^◌, ◌<◌, ◌≤◌, List, [], ◌∷◌, ◌++◌, length, take, replicate, false, cond, Result, Ok, Err, OnOk, is_ok}
+use Rattle.std.specs.Prelude.{◌≡◌, ℕ, ◌+◌, ◌^◌, ◌<◌, ◌≤◌, List, [], ◌∷◌, ◌++◌, length, replicate, false, cond, Result, Ok, Err, OnOk, is_ok}
 use Rattle.std.specs.Result.{is_err}
-use Rattle.std.proofs.Common.{ap, sym, ◌∙◌, arith, append_assoc, length-append, lit<, set}
-use Rattle.std.proofs.lemmas.List.{take-append-le, length-take, take_more_set, replicate-append-replicate}
+use Rattle.std.proofs.Common.{ap, ◌∙◌, arith, append_assoc, lit<}
+use Rattle.std.proofs.lemmas.List.{replicate-append-replicate}
 use Rattle.md_text.specs.Numbers.{decimal}
-use Rattle.md_text.proofs.NumberLemmas.{decimal_digit, decimal_step, length-decimal-le}
-use borrow.Rule.Slice.PartMut.{put_mid, post_of}
+use Rattle.md_text.proofs.NumberLemmas.{length-decimal-le}
 use Rattle.md_graph.specs.declared.TheConstants.{NAMES}
 
 -- there are fewer names than numbers of five digits

@@ -77,7 +77,12 @@ fn put_digits(bytes: &mut [u8; 8], n: u32) -> usize
 /// Appends the first `at` bytes of a chunk to a text if there is no room for `more` behind them, and says how many
 /// bytes are then gathered in the chunk. Errors: want of memory.
 #[inline(always)]
-pub fn make_room(chunk: &[u8], at: usize, more: usize, text: &mut Vec<u8>) -> Result<usize, AllocError>
+pub fn make_room(
+    chunk: &[u8],
+    at: usize,
+    more: usize,
+    text: &mut Vec<u8>,
+) -> Result<usize, AllocError>
     requires more { more ≤ length chunk.now }
     requires at { at ≤ length chunk.now }
     ensures room { IfOk result (λ after. after + more ≤ length chunk.now) }

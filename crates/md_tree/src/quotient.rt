@@ -54,7 +54,12 @@ fn spell_positions(positions: &mut Vec<Piece>, count: usize) -> Result<(), Memor
 }
 
 // The pairs behind the first.
-fn push_more(text: &mut Vec<u8>, pairs: &[Pair], positions: &[Piece], chunk: &mut [u8]) -> Result<(), Memory>
+fn push_more(
+    text: &mut Vec<u8>,
+    pairs: &[Pair],
+    positions: &[Piece],
+    chunk: &mut [u8],
+) -> Result<(), Memory>
     requires positions { ArePositions positions.now }
     requires chunk { length chunk.old ≡ CHUNK }
     ensures { IfOk result (λ _. text.new.items ≡ text.old.items ++ pairs_text 44 pairs.now) }
@@ -90,16 +95,17 @@ fn put_run(
     ensures written { take result.1 chunk.new ++ pairs_text 44 (drop result.0 pairs.now)
         ≡ take at chunk.old ++ pairs_text 44 (drop from pairs.now) }
 {
+    let end = pairs.len().min(from + (CHUNK - at) / PAIR_ROOM);
     let mut at = at;
-    for place in from..pairs.len() {
+    for place in from..end {
         let pair = pairs[place];
-        if pair.low != start.low || pair.high as usize >= positions.len() || at > CHUNK - PAIR_ROOM {
+        if pair.low != start.low || pair.high as usize >= positions.len() {
             return (place, at);
         }
         let behind = put_piece(chunk, at, start.piece);
         at = put_piece(chunk, behind, positions[pair.high as usize]);
     }
-    (pairs.len(), at)
+    (end, at)
 }
 
 // Writes a pair behind the first `at` bytes of the chunk, and says how many are then gathered there; a full chunk

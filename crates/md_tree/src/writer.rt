@@ -61,7 +61,12 @@ fn letter(kind: Kind) -> u8
 // A byte, and the text of a tree.
 #[cycle(write)]
 #[tactic(auto, using(crate::proofs::Plain::plain_is_leaf, crate::proofs::Plain::plain_is_node))]
-fn push_child(text: &mut Vec<u8>, mark: u8, tree: &Tree, space: &mut Workspace) -> Result<(), Memory>
+fn push_child(
+    text: &mut Vec<u8>,
+    mark: u8,
+    tree: &Tree,
+    space: &mut Workspace,
+) -> Result<(), Memory>
     ensures { IfOk result (λ _. text.new.items ≡ text.old.items ++ mark ∷ tree_text (plain tree.now)) }
 {
     match tree {
@@ -93,7 +98,11 @@ fn push_node(
 
 // The opening bracket and the children.
 #[cycle(write)]
-fn push_children(text: &mut Vec<u8>, children: &Children, space: &mut Workspace) -> Result<(), Memory>
+fn push_children(
+    text: &mut Vec<u8>,
+    children: &Children,
+    space: &mut Workspace,
+) -> Result<(), Memory>
     ensures { IfOk result (λ _. text.new.items
         ≡ text.old.items ++ row_text 40 (row (map plain (out-Children children.now).list.items))) }
 {

@@ -1,6 +1,4 @@
-use Rattle.std.proofs.Common.{rules, refl, arith, ◌≡◌, ◌+◌, ◌^◌, ◌<◌, ◌≤◌, [], ◌∷◌, ◌++◌, length, take, drop}
-use Rattle.md_text.specs.Numbers.{decimal}
-use Rattle.md_tree.specs.TreeTexts.{pairs_text}
+use Rattle.std.proofs.Common.{arith, take}
 use Rattle.md_tree.proofs.Written.{run_written}
 use Rattle.md_tree.proofs.quotient.push_more.Goals as goal
 

@@ -1,5 +1,5 @@
 use Rattle.md_tree.specs.Plain.{plain}
-use Rattle.md_tree.proofs.Plain.{plain_is_leaf, plain_is_node}
+use Rattle.md_tree.proofs.Plain.{plain_is_node}
 use Rattle.md_tree.proofs.Written.{child_written, if_ok}
 use Rattle.md_tree.proofs.writer.+write.Goals as goal
 
