@@ -1,20 +1,19 @@
 -- Blocks of 64 by 64 edges, joined to the rows of a graph.
-use Rattle.std.proofs.Common.{◌≡◌, ℕ, ◌+◌, ◌-◌, ◌*◌, ◌/◌, ◌%◌, ◌<◌, ◌≤◌, ◌≢◌, Bool, true, false, not, cond, ◌&&◌, ◌||◌, ◌==◌, nat_lt, nat_le, ltb, leb, List, length, get_or, refl, sym, ap, ap₂, ◌∙◌, subst, arith, inl, inr, set as set_at}
+use Rattle.std.proofs.Common.{◌≡◌, ℕ, ◌+◌, ◌-◌, ◌/◌, ◌%◌, ◌<◌, ◌≤◌, ◌≢◌, Bool, true, false, ◌&&◌, ◌||◌, ◌==◌, ltb, leb, List, length, get_or, refl, sym, ap, ap₂, ◌∙◌, arith, inl, inr, set as set_at}
 use Rattle.std.specs.Int.{bit_at}
-use Rattle.std.proofs.lemmas.Bool.{cases_eq, cases_Bool, cases_lt, eq-eqb, ne_eqb, or_cases, false_from_ne_true, true≢false}
+use Rattle.std.proofs.lemmas.Bool.{cases_eq, cases_lt, eq-eqb, ne_eqb, or_cases, false_from_ne_true}
 use Rattle.std.proofs.lemmas.Bool.Decides.{nat_tests}
 use Rattle.std.proofs.lemmas.Nat.Bits.{bit_at-zero}
 use Rattle.std.proofs.lemmas.List.{get_or_read, get_or-set_same, get_or-set_other}
 use Rattle.std.specs.List.{refill}
 use Rattle.std.specs.FinSet as set
-use Rattle.md_graph.specs.declared.TheConstants.{NAMES}
 use Rattle.md_graph.specs.NameSet.{NameSet, Member, block}
-use Rattle.md_graph.specs.PlainGraph.{PlainGraph, IsGraph, adjacent}
+use Rattle.md_graph.specs.PlainGraph.{PlainGraph, adjacent}
 use Rattle.md_graph.specs.Rows.{row_of, graph_of, AreRows}
 use Rattle.md_graph.specs.Blocks.{in_block, IsWithBlock}
 use Rattle.md_graph.proofs.SetLaws.{contains-union}
 use Rattle.md_graph.proofs.BitWords.{contains-block_below}
-use Rattle.md_graph.proofs.GraphLemmas.{IsGraph-graph_of, adjacent-graph_of, adjacent_sym, adjacent_self}
+use Rattle.md_graph.proofs.GraphLemmas.{IsGraph-graph_of, adjacent-graph_of}
 use Rattle.md_graph.proofs.RowLemmas.{refilled}
 
 -- ---- one row

@@ -1,5 +1,4 @@
-use Rattle.std.proofs.Common.{◌≡◌, ℕ, get_or, length, ◌<◌, ◌+◌, ◌-◌, ◌*◌, ◌/◌, ◌%◌}
-use Rattle.std.specs.Int.{bit_at}
+use Rattle.std.proofs.Common.{◌≡◌, length, ◌*◌}
 use Rattle.md_graph.proofs.Transposing.{IsDone}
 use Rattle.md_graph.proofs.transposition.round.Given as goal
 
