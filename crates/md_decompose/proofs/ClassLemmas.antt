@@ -1,6 +1,6 @@
 -- Classes that are cut until they are modules.
 use Rattle.std.proofs.Common.{◌≡◌, ℕ, ◌+◌, ◌<◌, ◌≤◌, ◌≢◌, ◌⊎◌, Bool, List, [], ◌∷◌, length, refl, sym, ◌∙◌, ap, ap₂, subst, inl, inr, arith}
-use Rattle.std.specs.FinSet.{contains, union, intersection, difference}
+use Rattle.std.specs.FinSet.{contains, intersection, difference}
 use Rattle.md_graph.specs.declared.TheConstants.{NAMES}
 use Rattle.md_graph.specs.NameSet.{IsLeastFrom, NoneFrom, AllBelow, ascending_from, told_apart}
 use Rattle.md_graph.specs.PlainGraph.{PlainGraph, IsGraph, adjacent, neighbours}

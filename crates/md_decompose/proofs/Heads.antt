@@ -4,7 +4,6 @@ use Rattle.std.proofs.Math.ListN.{set, length-set}
 use Rattle.std.proofs.lemmas.Bool.{cases_lt}
 use Rattle.std.proofs.lemmas.List.{get_or_default}
 use Rattle.std.specs.FinSet.{empty, insert}
-use Rattle.md_graph.specs.declared.TheConstants.{NAMES}
 use Rattle.md_graph.specs.NameSet.{IsLeastFrom, NoneFrom}
 use Rattle.md_modules.specs.Sets.{NameSet, Has, HasSome}
 use Rattle.md_modules.proofs.Sets.{clash, empty_lacks, insert_new, insert_old, of_insert}

@@ -1,6 +1,6 @@
 -- The children of a set in the tree of strong modules, as a list of sets.
 -- Source: Habib and Paul, A survey of the algorithmic aspects of modular decomposition; the order is our own.
-use Rattle.std.specs.Prelude.{◌≡◌, ◌<◌, ◌↔◌, ℕ, Bool, true, List, [], Contains, AllPairs, get_or, Option, Some, None, ⊤}
+use Rattle.std.specs.Prelude.{◌≡◌, ◌<◌, ◌↔◌, ℕ, Bool, true, List, Contains, AllPairs, get_or, Option, Some, None, ⊤}
 use Rattle.std.specs.FinSet.{empty}
 use Rattle.md_modules.specs.Sets.{NameSet, Has}
 use Rattle.md_modules.specs.Modules.{IsMaximalStrong}

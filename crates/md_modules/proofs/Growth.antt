@@ -5,7 +5,7 @@ use Rattle.std.specs.FinSet.{remove, union, difference}
 use Rattle.md_modules.specs.Sets.{NameSet, Has, Lacks, Within, only_name}
 use Rattle.md_modules.specs.Adjacency.{IsAdjacency}
 use Rattle.md_modules.specs.Modules.{IsModule, IsLeastModule, IsLeastModuleOver}
-use Rattle.md_modules.specs.Components.{IsClosed, IsComponent}
+use Rattle.md_modules.specs.Components.{IsComponent}
 use Rattle.md_modules.specs.Searches.{IsReaching}
 use Rattle.md_modules.proofs.Sets.{clash, only_has, of_only, only_lacks, false_if, true_if, same_name, remove_left, of_remove, of_union_lacks, of_union, minus_has, of_minus, minus_lacks, of_minus_lacks, lacks_within}
 use Rattle.md_modules.proofs.Search.{decide_test}
