@@ -61,6 +61,48 @@ def small_graphs(count, seed):
                     for _ in range(count))
 
 
+def path(n):
+    return rows_of(n, [(v, v + 1) for v in range(n - 1)])
+
+
+def threshold(n):
+    """Each odd vertex is adjacent to all before it: a tree as deep as it can be."""
+    return [(1 << v) - 1 if v % 2 else 0 for v in range(n)]
+
+
+def half_graph(n):
+    """Vertex i of the lower half is adjacent to those of the upper half from i on: prime."""
+    return rows_of(n, [(i, n // 2 + j) for i in range(n // 2) for j in range(i, n // 2)])
+
+
+def cograph(n, seed):
+    """Disjoint unions and joins in turn, over parts of random sizes."""
+    r = random.Random(seed)
+    rows = [0] * n
+
+    def build(low, high, joined):
+        if high - low < 2:
+            return
+        cuts = sorted({low, high} | {r.randrange(low + 1, high) for _ in range(r.randrange(1, 4))})
+        for a, b in zip(cuts, cuts[1:]):
+            build(a, b, not joined)
+            if joined:
+                for v in range(a, b):
+                    rows[v] |= (1 << a) - (1 << low)
+
+    build(0, n, True)
+    return rows
+
+
+def script(n, count, seed):
+    r = random.Random(seed)
+    lines = []
+    for _ in range(count):
+        u, v = r.sample(range(n), 2)
+        lines.append("%ce %d %d\n" % (r.choice("+-"), u, v))
+    return "".join(lines).encode()
+
+
 INPUTS = {
     "none.g6": lambda: b"",
     "dense1024.g6": lambda: g6(dense(1024, 1)),
@@ -68,6 +110,12 @@ INPUTS = {
     "sparse4096.g6": lambda: g6(sparse(4096, 8, 3)),
     "small5000.g6": lambda: small_graphs(5000, 4),
     "dense1024.col": lambda: dimacs(dense(1024, 1)),
+    "path4096.g6": lambda: g6(path(4096)),
+    "half4096.g6": lambda: g6(half_graph(4096)),
+    "threshold4096.g6": lambda: g6(threshold(4096)),
+    "cograph4096.g6": lambda: g6(cograph(4096, 5)),
+    "dense256.g6": lambda: g6(dense(256, 6)),
+    "script300.txt": lambda: script(256, 300, 7),
 }
 
 CASES = [
@@ -80,6 +128,15 @@ CASES = [
     ("graph6", "g6", "dense4096.g6"),
     ("graph6", "g6", "small5000.g6"),
     ("graph6", "dimacs", "dense1024.col"),
+    ("tree", "g6", "dense1024.g6"),
+    ("tree", "g6", "dense4096.g6"),
+    ("tree", "g6", "sparse4096.g6"),
+    ("tree", "g6", "cograph4096.g6"),
+    ("tree", "g6", "path4096.g6"),
+    ("tree", "g6", "half4096.g6"),
+    ("tree", "g6", "threshold4096.g6"),
+    ("tree", "g6", "small5000.g6"),
+    ("edit", "g6", "dense256.g6", "script300.txt"),
 ]
 
 

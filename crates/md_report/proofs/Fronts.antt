@@ -1,9 +1,9 @@
 -- Fronts of reports by places are the beginnings of whole reports.
 use Rattle.std.proofs.Common.{◌≡◌, ℕ, ◌⊎◌, List, [], ◌∷◌, ◌++◌, refl, sym, ◌∙◌, ap, inl, inr}
-use Rattle.std.proofs.lemmas.List.{append_assoc, append-nil}
+use Rattle.std.proofs.lemmas.List.{append_assoc}
 use Rattle.std.proofs.lemmas.Grind.{flat_map-append}
 use Rattle.md_report.specs.Lines.{PlainLine, fed_line, lines_text}
-use Rattle.md_report.specs.Places.{Place, after_end, MayCome, next_place, Lead}
+use Rattle.md_report.specs.Places.{Place, after_end, next_place, Lead}
 use Rattle.md_report.specs.Reports.{IsReport, IsBegun, IsFront}
 use Rattle.md_report.specs.Laws.{IsSound, FrontsBeginReports}
 use Rattle.md_report.proofs.Places.{lead_append, lead_sound, completion}

@@ -1,8 +1,7 @@
 -- Lines that lead from place to place, and on to the end.
-use Rattle.std.proofs.Common.{◌≡◌, ℕ, Bool, false, List, [], ◌∷◌, ◌++◌, Option, None, Some, refl, sym, ap, ap₂, subst}
+use Rattle.std.proofs.Common.{◌≡◌, List, [], ◌∷◌, ◌++◌, Option, None, Some, refl, sym, ap, ap₂, subst}
 use Rattle.md_graph.specs.PlainGraph.{PlainGraph, IsGraph, adjacent}
 use Rattle.md_graph.proofs.GraphLemmas.{adjacent_sym, adjacent_self}
-use Rattle.md_modules.specs.Adjacency.{IsAdjacency}
 use Rattle.md_tree.specs.Trees.{PlainTree}
 use Rattle.md_tree.specs.StrongTrees.{IsTree}
 use Rattle.md_tree.proofs.OneTree.{one_tree_proof}
@@ -17,7 +16,7 @@ use Rattle.md_report.specs.declared.line.GraphMode.TheVariants.{Tree}
 use Rattle.md_report.specs.declared.line.Mode.TheVariants.{Edit}
 use Rattle.md_report.specs.Lines.{PlainLine, mode_of, head, tree, applied, refused, end}
 use Rattle.md_report.specs.Sessions.{HasTreeLine, IsLineBy, state_by, IsStepLine, state_after, SessionRun}
-use Rattle.md_report.specs.Places.{Place, before_head, at_graphs, before_session, at_state, at_edits, after_end, Reports, MayCome, next_place, Lead}
+use Rattle.md_report.specs.Places.{Place, before_head, at_graphs, before_session, at_state, at_edits, after_end, Reports, next_place, Lead}
 use Rattle.md_report.specs.Laws.{AreGraphs, IsSound, LinesLeadIfFirst, IsSessionReport, SessionReportsAreRuns}
 
 pub lead_append : (p q r : Place) (lines more : List PlainLine) → Lead p lines q → Lead q more r → Lead p (lines ++ more) r
