@@ -95,17 +95,19 @@ fn put_run(
     ensures written { take result.1 chunk.new ++ pairs_text 44 (drop result.0 pairs.now)
         ≡ take at chunk.old ++ pairs_text 44 (drop from pairs.now) }
 {
-    let end = pairs.len().min(from + (CHUNK - at) / PAIR_ROOM);
     let mut at = at;
-    for place in from..end {
+    for place in from..pairs.len() {
         let pair = pairs[place];
-        if pair.low != start.low || pair.high as usize >= positions.len() {
+        if pair.low != start.low
+            || pair.high as usize >= positions.len()
+            || at > CHUNK - PAIR_ROOM
+        {
             return (place, at);
         }
         let behind = put_piece(chunk, at, start.piece);
         at = put_piece(chunk, behind, positions[pair.high as usize]);
     }
-    (end, at)
+    (pairs.len(), at)
 }
 
 // Writes a pair behind the first `at` bytes of the chunk, and says how many are then gathered there; a full chunk

@@ -1,4 +1,4 @@
-use Rattle.std.proofs.Common.{◌≡◌, ◌+◌, ◌-◌, ◌*◌, ◌≤◌, ◌++◌, length, take, drop}
+use Rattle.std.proofs.Common.{◌≡◌, ◌≤◌, ◌++◌, length, take, drop}
 use Rattle.md_tree.specs.declared.workspace.TheConstants.{CHUNK}
 use Rattle.md_tree.specs.TreeTexts.{pairs_text}
 use Rattle.md_tree.proofs.quotient.put_run.Given as goal
@@ -6,6 +6,6 @@ use Rattle.md_tree.proofs.quotient.put_run.Given as goal
 abbrev pub invariant-loop-place : goal.invariant-loop-place
 invariant-loop-place l = record {
   size : length l.chunk ≡ CHUNK;
-  room : l.at + 16 * (l.end - l.place) ≤ CHUNK;
+  within : l.at ≤ CHUNK;
   written : take l.at l.chunk ++ pairs_text 44 (drop l.place l.pairs) ≡ take l.fn.at l.fn.chunk ++ pairs_text 44 (drop l.fn.from l.pairs);
 }
