@@ -77,7 +77,7 @@ fn take_apart(
 }
 
 // The member of a set with one member.
-fn only_member(set: &Names) -> Option<u32>
+pub(crate) fn only_member(set: &Names) -> Option<u32>
     requires { HasSome set.now }
     ensures one { IfSome result (λ name. set.now ≡ only_name name) }
     ensures more { IfNone result (HasTwo set.now) }

@@ -16,4 +16,6 @@ mod prime;
 pub use decomposition::decompose;
 
 #[cfg(test)]
+mod plain;
+#[cfg(test)]
 mod tests;

@@ -1,5 +1,5 @@
 //! The pairs of children that a prime node lists.
-ghost use Rattle.std.specs.Prelude.{◌≡◌, ◌+◌, ◌<◌, ℕ, IfOk, AllPairs, length, slice_index};
+ghost use Rattle.std.specs.Prelude.{◌≡◌, ◌+◌, ◌<◌, ◌++◌, ◌∷◌, [], ℕ, IfOk, AllPairs, length, slice_index};
 ghost use Rattle.md_graph.specs.PlainGraph.{adjacent};
 ghost use Rattle.md_modules.specs.Sets.{NameSet, Has, HasSome, Within};
 ghost use Rattle.md_modules.specs.Kinds.{IsPrime};
@@ -114,9 +114,17 @@ fn push_pairs(
             low,
             high: places[other as usize],
         };
-        if edges.push(pair).is_err() {
-            return Err(Memory);
-        }
+        push_pair(edges, pair)?;
     }
+    Ok(())
+}
+
+fn push_pair(edges: &mut Vec<Pair>, pair: Pair) -> Result<(), Memory>
+    ensures { IfOk result (λ _. edges.new.items ≡ edges.old.items ++ pair ∷ []) }
+{
+    if edges.len() == edges.capacity() && edges.reserve(1).is_err() {
+        return Err(Memory);
+    }
+    edges.push_reserved(pair);
     Ok(())
 }

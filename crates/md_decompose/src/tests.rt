@@ -24,7 +24,7 @@ fn made(
     Ok(graph)
 }
 
-fn join(rt: &impl Abort, graph: &mut Graph, u: u32, v: u32) {
+pub(crate) fn join(rt: &impl Abort, graph: &mut Graph, u: u32, v: u32) {
     assert!(rt; u != v);
     assert!(rt; graph.has_vertex(u));
     assert!(rt; graph.has_vertex(v));
@@ -32,7 +32,7 @@ fn join(rt: &impl Abort, graph: &mut Graph, u: u32, v: u32) {
     graph.add_edge(u, v);
 }
 
-fn is_same_set(left: &Names, right: &Names) -> bool {
+pub(crate) fn is_same_set(left: &Names, right: &Names) -> bool {
     left.minus(right).is_empty() && right.minus(left).is_empty()
 }
 

@@ -258,6 +258,12 @@ fn runs_that_fail(rt: HostRuntime) -> Result<(), Fail> {
     assert_eq!(rt; shown.as_str(), "4||mdt: read fault\n");
     let shown = run_over(alloc, "tree g6 g", b"DQc\n", b"", 1, 0, 0)?;
     assert_eq!(rt; shown.as_str(), "4||mdt: read fault\n");
+    let words = words_of(alloc, "tree png x")?;
+    let mut files = MemFiles::new(alloc, Vec::new(alloc));
+    let mut out = MemSink::new(alloc, Vec::new(alloc), 0);
+    let mut err = MemSink::new(alloc, vec![in alloc; 1]?, 4);
+    let status = run(alloc, &words, &mut files, &mut out, &mut err) as u8;
+    assert!(rt; status == 2 && out.bytes().is_empty() && err.bytes() == b"mdt:".as_slice());
     let table = [
         (1, 0, "5||mdt: write fault\n"),
         (2, 3, "5|mdt tree\nt R|mdt: write fault\n"),

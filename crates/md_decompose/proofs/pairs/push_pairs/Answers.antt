@@ -1,5 +1,4 @@
 use Rattle.md_decompose.proofs.HeadPairs.{pushing_begin, pushing_head, pushing_more, pushing_end}
-use Rattle.md_decompose.proofs.Pushes.{pushed}
 use Rattle.md_decompose.proofs.pairs.push_pairs.Goals as goal
 
 pub loop-other-init : goal.loop-other-init
@@ -15,9 +14,9 @@ bounds-places-other c =
 
 pub loop-other-preserved : goal.loop-other-preserved
 loop-other-preserved c =
-    pushing_more c.row.ensures.graph c.args.heads.now c.args.places.now c.args.head c.loop-other.other-iterator c.loop-other.edges.items c.loop-other.invariant c.in-Some.other _ c.push.new.self.items
+    pushing_more c.row.ensures.graph c.args.heads.now c.args.places.now c.args.head c.loop-other.other-iterator c.loop-other.edges.items c.loop-other.invariant c.in-Some.other _ c.push_pair.new.edges.items
     c.requires.rising c.requires.member c.in-Some.ensures.steps
-    (pushed c.push.result c.is_err.result _ _ _ c.is_err.ensures.value c.if-is_err.false c.push.ensures.items)
+    c.in_ok-push_pair.ensures
 
 pub returns : goal.returns
 returns c =
