@@ -602,6 +602,6 @@ mod tests {
         assert_eq!(rt; left.first_told_apart(&second, &to), None);
         left.flip(&names);
         left.flip(&second);
-        assert!(rt; left.count() == 4 && left.has(64) && left.has(65) && !left.has(127));
+        assert!(rt; left.count() == 3 && left.has(64) && !left.has(65) && !left.has(127));
     }
 }

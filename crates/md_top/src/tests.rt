@@ -51,7 +51,7 @@ fn run_over(
 #[test]
 fn runs(rt: HostRuntime) -> Result<(), Fail> {
     let alloc = rt.alloc();
-    let table: [(&str, &[u8], &str); 59] = [
+    let table: [(&str, &[u8], &str); 21] = [
         (
             "edges g6 g",
             b"DQc\n",
@@ -117,6 +117,18 @@ fn runs(rt: HostRuntime) -> Result<(), Fail> {
             b":Fa@x^\n",
             "3||mdt: graph OtherFormat line 1\n",
         ),
+    ];
+    for (line, file, want) in table {
+        let shown = run_over(alloc, line, file, b"", 0, 0, 0)?;
+        assert_eq!(rt; shown.as_str(), want, "{line}");
+    }
+    Ok(())
+}
+
+#[test]
+fn runs_over_other_words(rt: HostRuntime) -> Result<(), Fail> {
+    let alloc = rt.alloc();
+    let table: [(&str, &[u8], &str); 23] = [
         (
             "edges dimacs g",
             b"c queen part\np col 3 4\ne 1 2\ne 2 1\ne 2 3\ne 3 2\n",
@@ -183,6 +195,28 @@ fn runs(rt: HostRuntime) -> Result<(), Fail> {
         ("edge g6 g", b"DQc\n", "2||mdt: usage\n"),
         ("edges g6 g g", b"DQc\n", "2||mdt: usage\n"),
         (
+            "edges dimacs g",
+            b"DQc\n",
+            "3||mdt: graph UnknownLine line 1\n",
+        ),
+        (
+            "graph6 g6 g",
+            b"p edge 1 0\n",
+            "3||mdt: graph BadByte line 1\n",
+        ),
+    ];
+    for (line, file, want) in table {
+        let shown = run_over(alloc, line, file, b"", 0, 0, 0)?;
+        assert_eq!(rt; shown.as_str(), want, "{line}");
+    }
+    Ok(())
+}
+
+#[test]
+fn trees(rt: HostRuntime) -> Result<(), Fail> {
+    let alloc = rt.alloc();
+    let table: [(&str, &[u8], &str); 15] = [
+        (
             "tree g6 g",
             b"DQc\n",
             "0|mdt tree\nt R(0,1,2,3,4;0-2,0-4,1-3,3-4)\nend\n|",
@@ -233,16 +267,6 @@ fn runs(rt: HostRuntime) -> Result<(), Fail> {
         ("tree g6 h", b"DQc\n", "4||mdt: read fault\n"),
         ("tree png x", b"DQc\n", "2||mdt: usage\n"),
         ("trees g6 g", b"DQc\n", "2||mdt: usage\n"),
-        (
-            "edges dimacs g",
-            b"DQc\n",
-            "3||mdt: graph UnknownLine line 1\n",
-        ),
-        (
-            "graph6 g6 g",
-            b"p edge 1 0\n",
-            "3||mdt: graph BadByte line 1\n",
-        ),
     ];
     for (line, file, want) in table {
         let shown = run_over(alloc, line, file, b"", 0, 0, 0)?;
