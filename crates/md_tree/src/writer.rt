@@ -23,8 +23,8 @@ pub fn text(alloc: Global, tree: &Option<Tree>) -> Result<Vec<u8>, Memory>
     Ok(text)
 }
 
-/// Appends the text of a tree. Errors: want of memory; the text then holds what it held, and perhaps a beginning of
-/// the tree's text.
+/// Appends the text of a tree: the one that `text` makes. Errors: want of memory; nothing is then said of what the
+/// text holds.
 pub fn push_text(alloc: Global, text: &mut Vec<u8>, tree: &Option<Tree>) -> Result<(), Memory>
     ensures { IfOk result (λ _. text.new.items ≡ text.old.items ++ text_of (plain_option tree.now)) }
 {
