@@ -1,12 +1,12 @@
 -- The adjacent pairs of heads, put down one head after the other, and for each head one later head after the other.
-use Rattle.std.proofs.Common.{◌≡◌, ◌≢◌, ℕ, ◌+◌, ◌<◌, ◌≤◌, Bool, true, List, [], ◌∷◌, ◌++◌, Contains, length, get_or, refl, sym, ◌∙◌, ap, subst, inl, inr, arith}
+use Rattle.std.proofs.Common.{◌≡◌, ◌≢◌, ℕ, ◌+◌, ◌<◌, ◌≤◌, Bool, true, List, [], ◌∷◌, ◌++◌, Contains, length, length-append, get_or, refl, sym, ◌∙◌, ap, subst, inl, inr, arith}
 use Rattle.std.proofs.Math.ListN.{get_or-eq_default}
 use Rattle.std.proofs.lemmas.Bool.{cases_lt}
-use Rattle.std.specs.FinSet.{empty, intersection}
+use Rattle.std.specs.FinSet.{empty, intersection, len}
 use Rattle.md_graph.specs.declared.TheConstants.{NAMES}
-use Rattle.md_graph.specs.NameSet.{AllBelow, IsLeastFrom, ascending_from}
+use Rattle.md_graph.specs.NameSet.{AllBelow, IsLeastFrom, ascending_between, ascending_from}
 use Rattle.md_graph.specs.PlainGraph.{PlainGraph, IsGraph, adjacent, neighbours}
-use Rattle.md_graph.proofs.NameLemmas.{IsTurn, walk_turn, walk_end}
+use Rattle.md_graph.proofs.NameLemmas.{IsTurn, walk_turn, walk_end, ascending_split, length-ascending}
 use Rattle.md_graph.proofs.GraphLemmas.{adjacent_ends, contains-neighbours}
 use Rattle.md_modules.specs.Sets.{NameSet, Has, HasSome}
 use Rattle.md_modules.specs.Modules.{IsMaximalModule}
@@ -141,6 +141,14 @@ module _ {e : ℕ → ℕ → Bool} {heads : NameSet} {places : List ℕ} where
           | inl l ↦ inl (rising r.0 h r.2.first head l)
           | inr w ↦ inr (ap (λ z. get_or places z 0) w.0, rising r.1 x r.2.second other (let k : r.1 < low = w.1 in omega arith))
         ])
+
+-- no more names are left than the set has
+pub left_few : (near : NameSet) (h : ℕ) (items left : List ℕ) → h < NAMES → AllBelow near NAMES → items ≡ ascending_from near (h + 1) → left ≡ items → length left ≤ len near
+left_few near h items left name names is_items is_left =
+    let same : length left ≡ length (ascending_from near (h + 1)) = ap length (is_left ∙ is_items) in
+    let parts = ap length (ascending_split near 0 (h + 1) NAMES (omega arith) (omega arith)) ∙ length-append (ascending_between near 0 (h + 1)) (ascending_from near (h + 1)) in
+    let all = length-ascending near NAMES names in
+    omega arith
 
 -- the turns for one head
 module _ {g : PlainGraph} (is_graph : IsGraph g) (heads : NameSet) (places : List ℕ) (h : ℕ) where

@@ -109,22 +109,12 @@ fn push_pairs(
 {
     let low = places[head as usize];
     let near = graph.row(head).and(heads);
+    edges.reserve(near.count() as usize)?;
     for other in near.members_from(head + 1) {
-        let pair = Pair {
+        edges.push_reserved(Pair {
             low,
             high: places[other as usize],
-        };
-        push_pair(edges, pair)?;
+        });
     }
-    Ok(())
-}
-
-fn push_pair(edges: &mut Vec<Pair>, pair: Pair) -> Result<(), Memory>
-    ensures { IfOk result (λ _. edges.new.items ≡ edges.old.items ++ pair ∷ []) }
-{
-    if edges.len() == edges.capacity() && edges.reserve(1).is_err() {
-        return Err(Memory);
-    }
-    edges.push_reserved(pair);
     Ok(())
 }

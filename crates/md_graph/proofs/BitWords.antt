@@ -90,7 +90,7 @@ difference_of_bits a b c n each =
     rw (contains-difference, contains-names_below a n q, contains-names_below b n q)
     (without_within _ _ _ _ (ap (λ x. x == 1) (each q) ∙ without_bits _ _ (bit_at-lt _ _) (bit_at-lt _ _))))
 
-zero_bit : (w i : ℕ) → w ≡ 0 → bit_at w i ≡ 0
+pub zero_bit : (w i : ℕ) → w ≡ 0 → bit_at w i ≡ 0
 zero_bit w i e = ap (λ x. bit_at x i) e ∙ bit_at-zero i
 
 -- the words of the empty set

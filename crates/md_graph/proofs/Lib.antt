@@ -10,3 +10,4 @@ pub mod RowLemmas
 pub mod SetLaws
 pub mod Transposing
 pub mod BlockRows
+pub mod LastPlace

@@ -20,6 +20,11 @@ pub record IsLeastFrom (s : NameSet) (v least : ℕ) : Type 0 where
   pub above : v ≤ least
   pub first : (w : ℕ) → Member s w → v ≤ w → least ≤ w
 
+-- the greatest member of `s`
+pub record IsGreatest (s : NameSet) (greatest : ℕ) : Type 0 where
+  pub member : Member s greatest
+  pub last : (w : ℕ) → Member s w → w ≤ greatest
+
 -- no member of `s` is at or above `v`
 abbrev pub NoneFrom : NameSet → ℕ → Type 0
 NoneFrom s v = (w : ℕ) → Member s w → w < v

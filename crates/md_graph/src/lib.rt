@@ -9,12 +9,26 @@ mod transposition;
 pub use graph::Graph;
 pub use names::{Members, Names};
 
+use std::alloc::{AllocError, AllocFailed};
+
 /// How many names there are: a name is a number below it.
 pub const NAMES: u32 = 4096;
 
 /// How many words of 64 bits hold one bit a name.
 pub const WORDS: usize = 64;
 
-/// Want of memory.
+/// Want of memory. `?` makes it of what a `Vec` answers then.
 #[derive(Clone, Copy, Debug, PartialEq, Eq)]
 pub struct Memory;
+
+impl From<AllocError> for Memory {
+    fn from(_error: AllocError) -> Memory {
+        Memory
+    }
+}
+
+impl<T: Drop> From<AllocFailed<T>> for Memory {
+    fn from(_error: AllocFailed<T>) -> Memory {
+        Memory
+    }
+}

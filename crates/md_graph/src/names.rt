@@ -2,8 +2,8 @@
 ghost use Rattle.std.specs.Prelude.{◌≡◌, nat_le, if◌then◌else◌, ◌≢◌, ◌∷◌, ℕ, length, slice_index, bit_and, bit_or, bit_xor, ◌+◌, ◌*◌, ◌/◌, ◌%◌, ◌^◌, ◌<◌, ◌≤◌, ◌↔◌, IsTrue, IsNone, IfSome, IfNone, ◌==◌};
 ghost use Rattle.std.specs.Int.{bit_at};
 ghost use Rattle.std.specs.FinSet as set;
-ghost use Rattle.md_graph.specs.NameSet.{Member, IsLeastFrom, NoneFrom, AllBelow, ascending, ascending_from, block, told_apart};
-ghost use Rattle.md_graph.specs.Words.{IsWithout, names_below, bits_between, bit_apart};
+ghost use Rattle.md_graph.specs.NameSet.{Member, IsLeastFrom, IsGreatest, NoneFrom, AllBelow, ascending, ascending_from, block, told_apart};
+ghost use Rattle.md_graph.specs.Words.{IsWithout, bit_of, names_below, bits_between, bit_apart};
 
 use crate::{NAMES, WORDS};
 use std::marker::Model;
@@ -194,6 +194,15 @@ impl Names {
         self.members_from(v).next()
     }
 
+    /// The greatest member; `None` exactly where there is none.
+    pub fn last(&self) -> Option<u32>
+        ensures found { IfSome result (IsGreatest self.now) }
+        ensures none { IfNone result (NoneFrom self.now 0) }
+        ensures name { IfSome result (λ greatest. greatest < NAMES) }
+    {
+        last_place(&self.words, self.used)
+    }
+
     /// The number of members.
     pub fn count(&self) -> u32
         ensures { result ≡ set.len self.now }
@@ -226,14 +235,14 @@ impl Names {
             return Members {
                 words: &self.words,
                 used: self.used,
-                at: self.used,
+                first: 64 * self.used as u32,
                 left: 0,
             };
         }
         Members {
             words: &self.words,
             used: self.used,
-            at,
+            first: v / 64 * 64,
             left: from_place(self.words[at], v % 64),
         }
     }
@@ -429,6 +438,33 @@ fn first_alone(first: &[u64; WORDS], second: &[u64; WORDS], used: usize) -> [u64
     words
 }
 
+/// The place of the highest bit in the first `used` words.
+fn last_place(words: &[u64], used: usize) -> Option<u32>
+    requires few { used ≤ WORDS }
+    requires used { used ≤ length words.now }
+    ensures found { IfSome result (λ greatest. (greatest < 64 * used)
+        × (bit_of words.now greatest ≡ 1)
+        × ((q : ℕ) → greatest < q → q < 64 * used → bit_of words.now q ≡ 0)) }
+    ensures none { IfNone result ((q : ℕ) → q < 64 * used → bit_of words.now q ≡ 0) }
+{
+    for i in (0..used).rev() {
+        if words[i] != 0 {
+            return Some(64 * i as u32 + highest(words[i]));
+        }
+    }
+    None
+}
+
+/// The place of the highest 1 of `bits`.
+fn highest(bits: u64) -> u32
+    requires { bits ≢ 0 }
+    ensures place { result < 64 }
+    ensures here { bit_at bits result ≡ 1 }
+    ensures above { (k : ℕ) → result < k → bit_at bits k ≡ 0 }
+{
+    63 - bits.leading_zeros()
+}
+
 /// How many bits of the first `used` words are 1.
 fn count_bits(words: &[u64], used: usize) -> u32
     requires few { used ≤ WORDS }
@@ -474,26 +510,27 @@ fn lowest(bits: u64) -> (u32, u64)
     (bits.trailing_zeros(), bits & (bits - 1))
 }
 
-/// The members of a set that are still to come, ascending: word by word, and in a word from bit to bit.
+/// The members of a set that are still to come, ascending: word by word, and in a word from bit to bit. Those of the word at
+/// hand are the bits of `left`, counted from the name `first`.
 #[derive(Drop)]
 pub struct Members<'a> {
     words: &'a [u64; WORDS],
     used: usize,
-    at: usize,
+    first: u32,
     left: u64,
 }
 
 impl<'a> Model for Members<'a> {
-    ghost use Rattle.std.specs.Prelude.{ℕ, List, ◌≤◌};
+    ghost use Rattle.std.specs.Prelude.{ℕ, List, ◌≡◌, ◌≤◌, ◌*◌, ◌/◌};
     ghost use Rattle.md_graph.specs.declared.TheConstants.{WORDS};
 
     ghost Value = { List ℕ };
 
     ghost use Rattle.md_graph.specs.Words.{members_left};
 
-    ghost view = { λ m. members_left m.words.now m.used m.at m.left };
+    ghost view = { λ m. members_left m.words.now m.used (m.first / 64) m.left };
 
-    ghost invariant = { λ m. (m.used ≤ WORDS) × (m.at ≤ WORDS) };
+    ghost invariant = { λ m. (m.used ≤ WORDS) × (m.first / 64 ≤ WORDS) × (64 * (m.first / 64) ≡ m.first) };
 }
 
 impl<'a> Iterator for Members<'a> {
@@ -507,15 +544,16 @@ impl<'a> Iterator for Members<'a> {
 
     fn next(&mut self) -> Option<u32> {
         while self.left == 0 {
-            if self.used <= self.at + 1 {
+            let at = self.first as usize / 64 + 1;
+            if self.used <= at {
                 return None;
             }
-            self.at += 1;
-            self.left = self.words[self.at];
+            self.first += 64;
+            self.left = self.words[at];
         }
         let (place, left) = lowest(self.left);
         self.left = left;
-        Some(64 * self.at as u32 + place)
+        Some(self.first + place)
     }
 }
 

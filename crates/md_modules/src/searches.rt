@@ -183,8 +183,10 @@ fn unreached(graph: &Graph, within: &Names, x: u32, value: bool, left: &mut Name
     // costs at most six operations on rows for each name that it takes. The searches of one node take each name of its set
     // once, and a search that finds one component alone once more. The nodes of one depth share no name, and n vertices leave
     // room for n depths, whose sets shrink by a name at least: some 6n² operations in all, within 8n².
-    while let Some(w) = next(left, &todo) {
+    let mut from_end = false;
+    while let Some(w) = next(left, &todo, from_end) {
         turn(graph, within, value, w, left, &mut todo);
+        from_end = !from_end;
     }
 }
 
@@ -265,9 +267,11 @@ fn not_grown(graph: &Graph, within: &Names, v: u32, left: &mut Names, mut todo: 
 {
     let _vertices = graph.vertices();
     left.flip(within);
-    while let Some(w) = next(left, &todo) {
+    let mut from_end = false;
+    while let Some(w) = next(left, &todo, from_end) {
         todo.remove(w);
         left.move_told_apart(graph.row(v), graph.row(w), &mut todo);
+        from_end = !from_end;
     }
 }
 
@@ -294,13 +298,18 @@ fn not_back(graph: &Graph, within: &Names, v: u32, j: u32, left: &mut Names)
     }
 }
 
-// A name to look at, as long as a name is left; none where nothing is left, or nothing is to be looked at.
-fn next(left: &Names, todo: &Names) -> Option<u32>
+// A name to look at, as long as a name is left: the greatest or the least (`from_end` or not); none where nothing is left, or
+// nothing is to be looked at. A search takes both in turn: of vertices each of which is adjacent to those before it, or to those
+// behind it, one end sees most.
+fn next(left: &Names, todo: &Names, from_end: bool) -> Option<u32>
     ensures found { IfSome result (λ w. Has todo.now w × (w < NAMES)) }
     ensures none { IfNone result (((y : ℕ) → Lacks left.now y) ⊎ ((y : ℕ) → Lacks todo.now y)) }
 {
     if left.is_empty() {
         return None;
+    }
+    if from_end {
+        return todo.last();
     }
     todo.first_from(0)
 }

@@ -11,18 +11,14 @@ const MOST_DIGITS: usize = 10;
 pub(crate) fn push_bytes(text: &mut Vec<u8>, bytes: &[u8]) -> Result<(), Memory>
     ensures { IfOk result (λ _. text.new.items ≡ text.old.items ++ bytes.now) }
 {
-    if text.extend_from_slice(bytes).is_err() {
-        return Err(Memory);
-    }
+    text.extend_from_slice(bytes)?;
     Ok(())
 }
 
 pub(crate) fn push_byte(text: &mut Vec<u8>, byte: u8) -> Result<(), Memory>
     ensures { IfOk result (λ _. text.new.items ≡ text.old.items ++ byte ∷ []) }
 {
-    if text.push(byte).is_err() {
-        return Err(Memory);
-    }
+    text.push(byte)?;
     Ok(())
 }
 
@@ -30,9 +26,7 @@ pub(crate) fn push_byte(text: &mut Vec<u8>, byte: u8) -> Result<(), Memory>
 pub(crate) fn push_number(text: &mut Vec<u8>, number: u32) -> Result<(), Memory>
     ensures { IfOk result (λ _. text.new.items ≡ text.old.items ++ decimal number) }
 {
-    if text.reserve(MOST_DIGITS).is_err() {
-        return Err(Memory);
-    }
+    text.reserve(MOST_DIGITS)?;
     push_decimal(text, u64::from(number));
     Ok(())
 }
@@ -41,9 +35,7 @@ pub(crate) fn push_number(text: &mut Vec<u8>, number: u32) -> Result<(), Memory>
 pub(crate) fn push_marked(text: &mut Vec<u8>, mark: u8, number: u32) -> Result<(), Memory>
     ensures { IfOk result (λ _. text.new.items ≡ text.old.items ++ mark ∷ decimal number) }
 {
-    if text.reserve(1 + MOST_DIGITS).is_err() {
-        return Err(Memory);
-    }
+    text.reserve(1 + MOST_DIGITS)?;
     text.push_reserved(mark);
     push_decimal(text, u64::from(number));
     Ok(())

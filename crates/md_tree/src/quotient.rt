@@ -31,9 +31,7 @@ pub(crate) fn push_pairs(
         return Ok(());
     }
     spell_positions(&mut space.positions, count)?;
-    if text.reserve(edges.list.len().saturating_mul(12)).is_err() {
-        return Err(Memory);
-    }
+    text.reserve(edges.list.len().saturating_mul(12))?;
     push_pair(text, b';', edges.list[0])?;
     push_more(text, &edges.list[1..], &space.positions, &mut space.chunk)
 }
@@ -46,9 +44,7 @@ fn spell_positions(positions: &mut Vec<Piece>, count: usize) -> Result<(), Memor
     let most = count.min(MOST_POSITIONS);
     while positions.len() < most {
         let piece = digits_piece(positions.len() as u32);
-        if positions.push(piece).is_err() {
-            return Err(Memory);
-        }
+        positions.push(piece)?;
     }
     Ok(())
 }
@@ -95,19 +91,17 @@ fn put_run(
     ensures written { take result.1 chunk.new ++ pairs_text 44 (drop result.0 pairs.now)
         ≡ take at chunk.old ++ pairs_text 44 (drop from pairs.now) }
 {
+    let end = from + (pairs.len() - from).min((CHUNK - at) / PAIR_ROOM);
     let mut at = at;
-    for place in from..pairs.len() {
+    for place in from..end {
         let pair = pairs[place];
-        if pair.low != start.low
-            || pair.high as usize >= positions.len()
-            || at > CHUNK - PAIR_ROOM
-        {
+        if pair.low != start.low || pair.high as usize >= positions.len() {
             return (place, at);
         }
         let behind = put_piece(chunk, at, start.piece);
         at = put_piece(chunk, behind, positions[pair.high as usize]);
     }
-    (pairs.len(), at)
+    (end, at)
 }
 
 // Writes a pair behind the first `at` bytes of the chunk, and says how many are then gathered there; a full chunk
@@ -130,9 +124,7 @@ fn put_pair(
     if pair.high as usize >= positions.len() || !move_to(start, pair.low) {
         return push_apart(text, pair, chunk, at);
     }
-    let Ok(at) = make_room(chunk, at, PAIR_ROOM, text) else {
-        return Err(Memory);
-    };
+    let at = make_room(chunk, at, CHUNK / 2, text)?;
     let behind = put_piece(chunk, at, start.piece);
     Ok(put_piece(chunk, behind, positions[pair.high as usize]))
 }
