@@ -6,6 +6,7 @@ ghost use Rattle.md_graph.specs.Words.{bits_between};
 ghost use Rattle.md_text.specs.Pieces.{piece_text};
 ghost use Rattle.md_dimacs.specs.Places.{lines_at};
 
+use md_graph::lowest;
 use md_text::{Piece, put_piece};
 
 // Writes, for each 1 in `bits`, a line of `start` and of the piece at its place behind `first`; the lines
@@ -34,16 +35,6 @@ pub(crate) fn write_block(
         at = put_piece(chunk, at, places[(first + place) as usize]);
     }
     at
-}
-
-// The place of the lowest 1 of `bits`, and `bits` without it.
-fn lowest(bits: u64) -> (u32, u64)
-    requires { bits ≢ 0 }
-    ensures place { result.0 < 64 }
-    ensures rest { (first : ℕ)
-        → bits_between first bits 64 ≡ (first + result.0) ∷ bits_between first result.1 64 }
-{
-    (bits.trailing_zeros(), bits & (bits - 1))
 }
 
 // The bits for names at or above `from`, where bit k is for the name `first + k`.

@@ -103,11 +103,11 @@ done_pair width old new i even odd inside done first second r k hr hk =
 
 -- ---- the constants of the rounds, by computing
 
-abbrev passes_below : (ℕ → Bool) → ℕ → Bool
+abbrev pub passes_below : (ℕ → Bool) → ℕ → Bool
 passes_below p zero = true
 passes_below p (suc n) = p n && passes_below p n
 
-from_passes : (p : ℕ → Bool) (n : ℕ) → passes_below p n ≡ true → (k : ℕ) → k < n → p k ≡ true
+pub from_passes : (p : ℕ → Bool) (n : ℕ) → passes_below p n ≡ true → (k : ℕ) → k < n → p k ≡ true
 from_passes p zero passed k h = absurd (omega arith)
 from_passes p (suc n) passed k h =
     let both = and_parts (p n) (passes_below p n) passed in

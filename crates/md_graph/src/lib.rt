@@ -7,7 +7,7 @@ mod names;
 mod transposition;
 
 pub use graph::Graph;
-pub use names::{Members, Names};
+pub use names::{Members, Names, lowest};
 
 use std::alloc::{AllocError, AllocFailed};
 

@@ -1,5 +1,5 @@
 -- The laws of lines.
-use Rattle.std.proofs.Common.{◌≡◌, ◌≢◌, ℕ, ◌+◌, ◌-◌, ◌<◌, ◌≤◌, ◌⊎◌, min, true, false, cond, List, [], ◌∷◌, ◌++◌, length, get_or, take, drop, map, refl, sym, ap, ◌∙◌, inl, inr, ⊎_elim, subst, arith}
+use Rattle.std.proofs.Common.{◌≡◌, ◌≢◌, ℕ, suc, ◌+◌, ◌-◌, ◌<◌, ◌≤◌, ◌==◌, ◌⊎◌, min, true, false, cond, List, [], ◌∷◌, ◌++◌, length, get_or, take, drop, map, refl, sym, ap, ◌∙◌, inl, inr, ⊎_elim, subst, arith}
 use Rattle.std.specs.List.{All, onto_first, position_or_len, before_first, after_first}
 use Rattle.std.proofs.lemmas.Bool.{ne_eqb, eqb-true, eqb-false, cases_eq, cases_lt}
 use Rattle.std.proofs.lemmas.Grind.{common_steps}
@@ -18,6 +18,11 @@ IsOther byte = byte ≢ 10
 pub lines-nil : lines [] ≡ []
 unfolding lines
 lines-nil = refl
+
+-- an empty text has no line
+pub no_lines : (text : List ℕ) → (length text == 0) ≡ true → lines text ≡ []
+no_lines [] empty = lines-nil
+no_lines (byte ∷ text) empty = absurd (let e = eqb-true (suc (length text)) 0 empty in omega arith)
 
 -- a byte 10 ends an empty line
 pub lines-feed : (rest : List ℕ) → lines (10 ∷ rest) ≡ [] ∷ lines rest

@@ -1,11 +1,16 @@
 //! Reads and writes numbers in decimal digits.
-ghost use Rattle.std.specs.Prelude.{◌≡◌, ◌+◌, ◌/◌, ◌%◌, ◌<◌, ◌≤◌, true, false, [], ◌∷◌, ◌++◌, length, take, slice_index, vec_len, vec_capacity};
+ghost use Rattle.std.specs.Prelude.{◌≡◌, ◌+◌, ◌/◌, ◌%◌, ◌<◌, ◌≤◌, true, false, [], ◌∷◌, ◌++◌, length, take, slice_index, vec_len, vec_capacity, OnOk, OnErr};
 ghost use Rattle.std.specs.Char.{is_ascii_digit};
 ghost use Rattle.std.specs.List.{list_all};
 ghost use Rattle.md_text.specs.Numbers.{value, number_of, decimal};
 
+use std::alloc::AllocError;
+
 /// How many digits a number that is read may have. Every such number fits a `u64`.
 pub const DIGITS: usize = 18;
+
+// No `u64` has more digits.
+const MOST_DIGITS: usize = 20;
 
 /// The number that a field writes: 1 to `DIGITS` bytes, all of them `0` to `9`. None for any other
 /// field. Leading zeros are allowed, and are counted. (DIMACS.)
@@ -38,6 +43,17 @@ pub(crate) fn leading_digits(text: &[u8]) -> (usize, u64)
         value = value * 10 + u64::from(*byte - b'0');
     }
     (front.len(), value)
+}
+
+/// Appends the shortest decimal digits of a number. Errors: want of memory; the text then stays.
+#[tactic(auto, using(crate::proofs::NumberLemmas::decimal_fits_20))]
+pub fn push_number(text: &mut Vec<u8>, n: u64) -> Result<(), AllocError>
+    ensures appended { OnOk result (text.new.items ≡ text.old.items ++ decimal n) }
+    ensures stays { OnErr result (text.new.items ≡ text.old.items) }
+{
+    text.reserve(MOST_DIGITS)?;
+    push_decimal(text, n);
+    Ok(())
 }
 
 /// Appends the shortest decimal digits of a number. It takes no memory: there has to be room for

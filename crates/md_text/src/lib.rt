@@ -1,19 +1,21 @@
 //! What every text format shares: lines, fields, numbers and decimal digits.
 //!
 //! A text is a slice of bytes. `split_line` and `split_field` take one line or one field off the
-//! front, `number` reads a field, and `push_decimal` writes a number. A `Piece` is a text of a few bytes
+//! front, `number` reads a field, and `push_number` writes a number. A `Piece` is a text of a few bytes
 //! that is made once and then copied whole, many times; pieces are gathered in a chunk, which `make_room`
-//! appends to a text when it is full. None of the others takes memory.
+//! appends to a text when it is full. Only `push_number` and `make_room` take memory.
 #![tactic(auto)]
 
 mod cut;
 mod digits;
+mod fields;
 pub mod laws;
 mod piece;
 mod spelling;
 
 pub use cut::{split_field, split_line, split_number, without_return};
-pub use digits::{DIGITS, number, push_decimal};
+pub use digits::{DIGITS, number, push_decimal, push_number};
+pub use fields::{one_field, three_fields, two_fields};
 pub use piece::Piece;
 pub use spelling::{digits_piece, make_room, number_piece, piece_behind, put_piece};
 

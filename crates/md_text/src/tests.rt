@@ -25,10 +25,9 @@ fn check_fields(rt: &impl Abort, line: &[u8], expected: &[&[u8]]) {
     assert!(rt; split_field(rest).is_none());
 }
 
-#[tactic(auto, using(crate::proofs::NumberLemmas::decimal_fits_20))]
 fn check_number(rt: &impl Abort, alloc: Global, n: u64, digits: &[u8]) -> Result<(), AllocError> {
-    let mut text = Vec::with_capacity(alloc, 20)?;
-    push_decimal(&mut text, n);
+    let mut text = Vec::new(alloc);
+    push_number(&mut text, n)?;
     assert_eq!(rt; text.as_slice(), digits);
     assert_eq!(rt;
         number(digits),
@@ -68,6 +67,10 @@ fn texts(rt: HostRuntime) -> Result<(), Fail> {
     );
     check_fields(&rt, b" \t", &[]);
     check_fields(&rt, b"\te\t10  2\r ", &[b"e", b"10", b"2\r"]);
+    assert!(rt; one_field(b" e ").is_some());
+    assert!(rt; two_fields(b"e 1").is_some());
+    assert!(rt; three_fields(b"e 1 2").is_some());
+    assert!(rt; two_fields(b"e 1 2").is_none());
     check_number(&rt, rt.alloc(), 0, b"0")?;
     check_number(&rt, rt.alloc(), 10, b"10")?;
     check_number(&rt, rt.alloc(), 4_095, b"4095")?;

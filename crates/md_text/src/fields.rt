@@ -1,0 +1,37 @@
+//! Takes a line apart that has a certain number of fields.
+ghost use Rattle.std.specs.Prelude.{◌≡◌, ◌≢◌, ◌∷◌, [], length, IfSome, IfNone};
+ghost use Rattle.md_text.specs.Fields.{fields};
+
+use crate::split_field;
+
+/// The field of a line, if it has exactly one.
+pub fn one_field(line: &[u8]) -> Option<&[u8]>
+    ensures field { IfSome result (λ field. fields line.now ≡ field.now ∷ []) }
+    ensures other_count { IfNone result (length (fields line.now) ≢ 1) }
+{
+    let (field, behind) = split_field(line)?;
+    match split_field(behind) {
+        Some(_) => None,
+        None => Some(field),
+    }
+}
+
+/// The fields of a line, if it has exactly two.
+pub fn two_fields(line: &[u8]) -> Option<(&[u8], &[u8])>
+    ensures fields { IfSome result (λ p. fields line.now ≡ p.0.now ∷ p.1.now ∷ []) }
+    ensures other_count { IfNone result (length (fields line.now) ≢ 2) }
+{
+    let (first, behind) = split_field(line)?;
+    let second = one_field(behind)?;
+    Some((first, second))
+}
+
+/// The fields of a line, if it has exactly three.
+pub fn three_fields(line: &[u8]) -> Option<(&[u8], &[u8], &[u8])>
+    ensures fields { IfSome result (λ p. fields line.now ≡ p.0.now ∷ p.1.now ∷ p.2.now ∷ []) }
+    ensures other_count { IfNone result (length (fields line.now) ≢ 3) }
+{
+    let (first, behind) = split_field(line)?;
+    let (second, third) = two_fields(behind)?;
+    Some((first, second, third))
+}
