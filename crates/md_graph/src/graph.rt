@@ -40,13 +40,9 @@ impl Graph {
     pub fn new(alloc: Global) -> Result<Graph, Memory>
         ensures { IfOk result (λ g. g ≡ empty_graph) }
     {
-        let Ok(mut rows) = Vec::with_capacity(alloc, NAMES as usize) else {
-            return Err(Memory);
-        };
+        let mut rows = Vec::with_capacity(alloc, NAMES as usize)?;
         for _ in 0..NAMES {
-            if rows.push(Names::none()).is_err() {
-                return Err(Memory);
-            }
+            rows.push(Names::none())?;
         }
         Ok(Graph {
             live: Names::none(),
@@ -201,13 +197,9 @@ impl Graph {
     pub fn copy(&self, alloc: Global) -> Result<Graph, Memory>
         ensures { IfOk result (λ g. g ≡ self.now) }
     {
-        let Ok(mut rows) = Vec::with_capacity(alloc, NAMES as usize) else {
-            return Err(Memory);
-        };
+        let mut rows = Vec::with_capacity(alloc, NAMES as usize)?;
         for v in 0..NAMES {
-            if rows.push(self.rows[v as usize].copy()).is_err() {
-                return Err(Memory);
-            }
+            rows.push(self.rows[v as usize].copy())?;
         }
         Ok(Graph {
             live: self.live.copy(),
@@ -219,13 +211,9 @@ impl Graph {
     pub fn complement(&self, alloc: Global) -> Result<Graph, Memory>
         ensures { IfOk result (λ g. g ≡ complement self.now) }
     {
-        let Ok(mut rows) = Vec::with_capacity(alloc, NAMES as usize) else {
-            return Err(Memory);
-        };
+        let mut rows = Vec::with_capacity(alloc, NAMES as usize)?;
         for v in 0..NAMES {
-            if rows.push(self.complement_row(v)).is_err() {
-                return Err(Memory);
-            }
+            rows.push(self.complement_row(v))?;
         }
         Ok(Graph {
             live: self.live.copy(),
@@ -238,13 +226,9 @@ impl Graph {
         ensures { IfOk result (λ g. g ≡ induced self.now names.now) }
     {
         let live = &self.live;
-        let Ok(mut rows) = Vec::with_capacity(alloc, NAMES as usize) else {
-            return Err(Memory);
-        };
+        let mut rows = Vec::with_capacity(alloc, NAMES as usize)?;
         for v in 0..NAMES {
-            if rows.push(self.induced_row(v, names)).is_err() {
-                return Err(Memory);
-            }
+            rows.push(self.induced_row(v, names))?;
         }
         Ok(Graph {
             live: live.and(names),

@@ -5,7 +5,7 @@ use Rattle.md_graph.proofs.RowLemmas.{graph_is, Made-start, Made-more, Made-end}
 use Rattle.md_graph.proofs.graph.Graph.complement.Goals as goal
 
 pub loop-v-init : goal.loop-v-init
-loop-v-init c = Made-start (complement c.args.self.now) _ (c.in-Ok.ensures.items)
+loop-v-init c = Made-start (complement c.args.self.now) _ (c.in_ok-rows.ensures.items)
 
 pub loop-v-preserved : goal.loop-v-preserved
 loop-v-preserved c =

@@ -3,7 +3,7 @@ use Rattle.md_graph.proofs.RowLemmas.{graph_is, row_is, Made-start, Made-more, M
 use Rattle.md_graph.proofs.graph.Graph.copy.Goals as goal
 
 pub loop-v-init : goal.loop-v-init
-loop-v-init c = Made-start (c.args.self.now) _ (c.in-Ok.ensures.items)
+loop-v-init c = Made-start (c.args.self.now) _ (c.in_ok-rows.ensures.items)
 
 pub loop-v-preserved : goal.loop-v-preserved
 loop-v-preserved c =
