@@ -7,6 +7,5 @@ pub mod Stacking
 pub mod Joining
 pub mod Opened
 pub mod Components
-pub mod Pushes
 pub mod Heads
 pub mod HeadPairs

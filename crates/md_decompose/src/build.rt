@@ -36,9 +36,7 @@ fn put_part(stack: &mut Vec<Tree>, part: Part) -> Result<(), Memory>
         Part::Leaf(name) => push_tree(stack, Tree::Leaf(name)),
         Part::Node(kind, number, edges) => {
             let below = stack.len() - number as usize;
-            let Ok(list) = stack.split_off(below) else {
-                return Err(Memory);
-            };
+            let list = stack.split_off(below)?;
             push_tree(stack, Tree::Node(kind, Children { list }, edges))
         }
     }
@@ -47,8 +45,6 @@ fn put_part(stack: &mut Vec<Tree>, part: Part) -> Result<(), Memory>
 fn push_tree(stack: &mut Vec<Tree>, tree: Tree) -> Result<(), Memory>
     ensures { IfOk result (λ _. stack.new.items ≡ stack.old.items ++ tree ∷ []) }
 {
-    if stack.push(tree).is_err() {
-        return Err(Memory);
-    }
+    stack.push(tree)?;
     Ok(())
 }

@@ -116,9 +116,7 @@ fn edges_between(
 fn push_part(parts: &mut Vec<Part>, part: Part) -> Result<(), Memory>
     ensures { IfOk result (λ _. parts.new.items ≡ parts.old.items ++ part ∷ []) }
 {
-    if parts.push(part).is_err() {
-        return Err(Memory);
-    }
+    parts.push(part)?;
     Ok(())
 }
 
@@ -140,8 +138,6 @@ fn push_open(waiting: &mut Vec<Open>, kind: Kind, sets: Vec<Names>) -> Result<()
 fn push_set(waiting: &mut Vec<Open>, set: Open) -> Result<(), Memory>
     ensures { IfOk result (λ _. waiting.new.items ≡ waiting.old.items ++ set ∷ []) }
 {
-    if waiting.push(set).is_err() {
-        return Err(Memory);
-    }
+    waiting.push(set)?;
     Ok(())
 }

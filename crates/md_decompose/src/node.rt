@@ -85,15 +85,11 @@ fn component_list(
 {
     let mut rest = set.minus(&first);
     let mut sets = Vec::new(alloc);
-    if sets.push(first).is_err() {
-        return Err(Memory);
-    }
+    sets.push(first)?;
     while let Some(v) = rest.first_from(0) {
         let next = component_at(graph, &rest, v, value);
         rest.flip(&next);
-        if sets.push(next).is_err() {
-            return Err(Memory);
-        }
+        sets.push(next)?;
     }
     Ok(sets)
 }

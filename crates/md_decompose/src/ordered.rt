@@ -24,16 +24,10 @@ pub(crate) fn in_order(alloc: Global, first: Names, classes: &[Names]) -> Result
     ensures { IfOk result (λ sets. ListsInOrder first classes.now sets.items) }
 {
     let marks = marks(alloc, classes)?;
-    let Ok(mut sets) = Vec::with_capacity(alloc, marks.len() + 1) else {
-        return Err(Memory);
-    };
-    if sets.push(first).is_err() {
-        return Err(Memory);
-    }
+    let mut sets = Vec::with_capacity(alloc, marks.len() + 1)?;
+    sets.push(first)?;
     for mark in &marks {
-        if sets.push(classes[mark.place].copy()).is_err() {
-            return Err(Memory);
-        }
+        sets.push(classes[mark.place].copy())?;
     }
     Ok(sets)
 }
@@ -43,16 +37,12 @@ fn marks(alloc: Global, classes: &[Names]) -> Result<Vec<Mark>, Memory>
     requires { AreApart classes.now }
     ensures { IfOk result (λ marks. AreMarks classes.now marks.items) }
 {
-    let Ok(mut marks) = Vec::with_capacity(alloc, classes.len()) else {
-        return Err(Memory);
-    };
+    let mut marks = Vec::with_capacity(alloc, classes.len())?;
     for (place, class) in classes.iter().enumerate() {
         let Some(least) = class.first_from(0) else {
             unreachable!();
         };
-        if marks.push(Mark { least, place }).is_err() {
-            return Err(Memory);
-        }
+        marks.push(Mark { least, place })?;
     }
     marks.sort_unstable_by_key(|mark| mark.least);
     Ok(marks)

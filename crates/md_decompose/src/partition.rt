@@ -25,9 +25,7 @@ pub(crate) fn cut(
         (λ classes. AreMaximalInside (adjacent graph.now) set.now rest.now classes.items) }
 {
     let mut classes = Vec::new(alloc);
-    if classes.push(rest.copy()).is_err() {
-        return Err(Memory);
-    }
+    classes.push(rest.copy())?;
     let mut at = 0;
     while at < classes.len() {
         if let Some(p) = splitter(graph, set, &classes[at]) {
@@ -50,9 +48,7 @@ fn split(classes: &mut Vec<Names>, at: usize, row: &Names) -> Result<(), Memory>
 {
     let mut outside = Names::none();
     classes[at].move_unshared(row, &mut outside);
-    if classes.push(outside).is_err() {
-        return Err(Memory);
-    }
+    classes.push(outside)?;
     Ok(())
 }
 

@@ -91,9 +91,7 @@ fn plain_children(
         };
         let next = block(rt, graph, set, &rest, u);
         rest = rest.minus(&next);
-        if sets.push(next).is_err() {
-            return Err(Memory);
-        }
+        sets.push(next)?;
     }
     Ok(sets)
 }
@@ -126,9 +124,7 @@ fn divide(
         expect_same(rt, &sets, &plain_children(rt, alloc, graph, set)?);
     }
     for names in sets {
-        if waiting.push(names).is_err() {
-            return Err(Memory);
-        }
+        waiting.push(names)?;
     }
     Ok(())
 }
@@ -136,9 +132,7 @@ fn divide(
 /// Sees that both programs take a graph apart in the same way.
 fn compare(rt: &impl Abort, alloc: Global, graph: &Graph) -> Result<(), Memory> {
     let mut waiting = Vec::new(alloc);
-    if waiting.push(graph.vertices().copy()).is_err() {
-        return Err(Memory);
-    }
+    waiting.push(graph.vertices().copy())?;
     for _ in 0..2 * NAMES {
         let Some(set) = waiting.pop() else {
             return Ok(());

@@ -6,7 +6,6 @@ ghost use Rattle.md_tree.specs.declared.Children.{out-Children};
 
 mod graphs;
 pub mod laws;
-mod numbers;
 mod quotient;
 mod start;
 mod workspace;

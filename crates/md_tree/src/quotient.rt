@@ -5,12 +5,13 @@ ghost use Rattle.md_text.specs.Pieces.{piece_text};
 ghost use Rattle.md_tree.specs.Positions.{ArePositions};
 ghost use Rattle.md_tree.specs.TreeTexts.{pairs_text};
 
-use crate::numbers::{push_bytes, push_marked};
 use crate::start::Start;
 use crate::workspace::{CHUNK, Workspace};
 use crate::{Pair, QuotientEdges};
 use md_graph::Memory;
-use md_text::{Piece, digits_piece, make_room, number_piece, piece_behind, put_piece};
+use md_text::{
+    Piece, digits_piece, make_room, number_piece, piece_behind, push_number, put_piece,
+};
 
 // So many positions have at most five digits.
 const MOST_POSITIONS: usize = 100_000;
@@ -67,7 +68,8 @@ fn push_more(
         at = put_pair(text, pairs[place], positions, &mut start, chunk, at)?;
         (place, at) = put_run(pairs, place + 1, positions, start, chunk, at);
     }
-    push_bytes(text, &chunk[..at])
+    text.extend_from_slice(&chunk[..at])?;
+    Ok(())
 }
 
 // Writes pairs, from the one at `from` on, behind the first `at` bytes of the chunk, as long as they have the position of the
@@ -136,7 +138,7 @@ fn push_apart(text: &mut Vec<u8>, pair: Pair, chunk: &[u8], at: usize) -> Result
     ensures written { IfOk result (λ after. text.new.items
         ≡ (text.old.items ++ take at chunk.now) ++ 44 ∷ (decimal pair.low ++ 45 ∷ decimal pair.high)) }
 {
-    push_bytes(text, &chunk[..at])?;
+    text.extend_from_slice(&chunk[..at])?;
     push_pair(text, b',', pair)?;
     Ok(0)
 }
@@ -169,6 +171,9 @@ fn push_pair(text: &mut Vec<u8>, mark: u8, pair: Pair) -> Result<(), Memory>
     ensures { IfOk result (λ _. text.new.items
         ≡ text.old.items ++ mark ∷ (decimal pair.low ++ 45 ∷ decimal pair.high)) }
 {
-    push_marked(text, mark, pair.low)?;
-    push_marked(text, b'-', pair.high)
+    text.push(mark)?;
+    push_number(text, u64::from(pair.low))?;
+    text.push(b'-')?;
+    push_number(text, u64::from(pair.high))?;
+    Ok(())
 }

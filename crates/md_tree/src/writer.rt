@@ -5,11 +5,11 @@ ghost use Rattle.md_tree.specs.Plain.{plain, plain_option};
 ghost use Rattle.md_tree.specs.TreeTexts.{letter, tree_text, row_text, text_of};
 ghost use Rattle.md_tree.specs.declared.Children.{out-Children};
 
-use crate::numbers::{push_byte, push_bytes, push_marked, push_number};
 use crate::quotient::push_pairs;
 use crate::workspace::{CHUNK, Workspace};
 use crate::{Children, Kind, QuotientEdges, Tree};
 use md_graph::Memory;
+use md_text::push_number;
 use std::alloc::Global;
 
 /// The text of a tree: a name in digits, and a node as `P`, `S` or `R`, then in brackets its children with commas between
@@ -29,23 +29,14 @@ pub fn push_text(alloc: Global, text: &mut Vec<u8>, tree: &Option<Tree>) -> Resu
     ensures { IfOk result (λ _. text.new.items ≡ text.old.items ++ text_of (plain_option tree.now)) }
 {
     let Some(tree) = tree else {
-        return push_bytes(text, b"empty");
+        text.extend_from_slice(b"empty")?;
+        return Ok(());
     };
     let mut space = Workspace {
         positions: Vec::new(alloc),
         chunk: [0; CHUNK],
     };
     push_tree(text, tree, &mut space)
-}
-
-// Appends the text of a tree.
-fn push_tree(text: &mut Vec<u8>, tree: &Tree, space: &mut Workspace) -> Result<(), Memory>
-    ensures { IfOk result (λ _. text.new.items ≡ text.old.items ++ tree_text (plain tree.now)) }
-{
-    match tree {
-        Tree::Leaf(name) => push_number(text, *name),
-        Tree::Node(kind, children, edges) => push_node(text, *kind, children, edges, space),
-    }
 }
 
 fn letter(kind: Kind) -> u8
@@ -58,23 +49,14 @@ fn letter(kind: Kind) -> u8
     }
 }
 
-// A byte, and the text of a tree.
 #[cycle(write)]
 #[tactic(auto, using(crate::proofs::Plain::plain_is_leaf, crate::proofs::Plain::plain_is_node))]
-fn push_child(
-    text: &mut Vec<u8>,
-    mark: u8,
-    tree: &Tree,
-    space: &mut Workspace,
-) -> Result<(), Memory>
-    ensures { IfOk result (λ _. text.new.items ≡ text.old.items ++ mark ∷ tree_text (plain tree.now)) }
+fn push_tree(text: &mut Vec<u8>, tree: &Tree, space: &mut Workspace) -> Result<(), Memory>
+    ensures { IfOk result (λ _. text.new.items ≡ text.old.items ++ tree_text (plain tree.now)) }
 {
     match tree {
-        Tree::Leaf(name) => push_marked(text, mark, *name),
-        Tree::Node(kind, children, edges) => {
-            push_byte(text, mark)?;
-            push_node(text, *kind, children, edges, space)
-        }
+        Tree::Leaf(name) => Ok(push_number(text, u64::from(*name))?),
+        Tree::Node(kind, children, edges) => push_node(text, *kind, children, edges, space),
     }
 }
 
@@ -90,10 +72,11 @@ fn push_node(
     ensures { IfOk result (λ _. text.new.items ≡ text.old.items
         ++ tree_text (node kind (row (map plain (out-Children children.now).list.items)) edges.now.list.items)) }
 {
-    push_byte(text, letter(kind))?;
+    text.push(letter(kind))?;
     push_children(text, children, space)?;
     push_pairs(text, edges, children.list.len(), space)?;
-    push_byte(text, b')')
+    text.push(b')')?;
+    Ok(())
 }
 
 // The opening bracket and the children.
@@ -108,7 +91,8 @@ fn push_children(
 {
     let mut mark = b'(';
     for child in &children.list {
-        push_child(text, mark, child, space)?;
+        text.push(mark)?;
+        push_tree(text, child, space)?;
         mark = b',';
     }
     Ok(())

@@ -14,7 +14,7 @@ pub unreachable-requires : goal.unreachable-requires
 unreachable-requires c =
     let class : c.index-classes-place.result ≡ set_at c.args.classes.now c.loop-place.place = get_or_read c.args.classes.now c.loop-place.place _ c.loop-place-test.true c.index-classes-place.is empty in
     let some : HasSome c.index-classes-place.result = subst HasSome (sym class) (c.requires.some c.loop-place.place c.loop-place-test.true) in
-    clash some.1 (none_lacks _ c.in_default-first_from.ensures.none some.0)
+    clash some.1 (none_lacks _ c.in_default.ensures.none some.0)
 
 pub returns : goal.returns
 returns c =
