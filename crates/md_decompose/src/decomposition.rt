@@ -41,11 +41,10 @@ fn parts(alloc: Global, graph: &Graph) -> Result<Vec<Part>, Memory>
 {
     let mut parts = Vec::new(alloc);
     let mut waiting = Vec::new(alloc);
-    let whole = Open {
+    waiting.push(Open {
         names: graph.vertices().copy(),
         parent: None,
-    };
-    push_set(&mut waiting, whole)?;
+    })?;
     while let Some(next) = waiting.pop() {
         take_apart(alloc, graph, &next, &mut parts, &mut waiting)?;
     }
@@ -68,11 +67,12 @@ fn take_apart(
         (map plain_part parts.new.items) waiting.new.items) }
 {
     if let Some(name) = only_member(&set.names) {
-        return push_part(parts, Part::Leaf(name));
+        parts.push(Part::Leaf(name))?;
+        return Ok(());
     }
     let (kind, sets) = children(alloc, graph, &set.names, set.parent)?;
     let edges = edges_between(alloc, graph, kind, &set.names, &sets)?;
-    push_part(parts, Part::Node(kind, sets.len() as u64, edges))?;
+    parts.push(Part::Node(kind, sets.len() as u64, edges))?;
     push_open(waiting, kind, sets)
 }
 
@@ -113,31 +113,17 @@ fn edges_between(
     }
 }
 
-fn push_part(parts: &mut Vec<Part>, part: Part) -> Result<(), Memory>
-    ensures { IfOk result (λ _. parts.new.items ≡ parts.old.items ++ part ∷ []) }
-{
-    parts.push(part)?;
-    Ok(())
-}
-
 // The children's sets in order, so that the last one is taken apart first.
 fn push_open(waiting: &mut Vec<Open>, kind: Kind, sets: Vec<Names>) -> Result<(), Memory>
     ensures { IfOk result (λ _. waiting.new.items
         ≡ waiting.old.items ++ map (open_below kind) sets.items) }
 {
+    waiting.reserve(sets.len())?;
     for names in sets {
-        let set = Open {
+        waiting.push_reserved(Open {
             names,
             parent: Some(kind),
-        };
-        push_set(waiting, set)?;
+        });
     }
-    Ok(())
-}
-
-fn push_set(waiting: &mut Vec<Open>, set: Open) -> Result<(), Memory>
-    ensures { IfOk result (λ _. waiting.new.items ≡ waiting.old.items ++ set ∷ []) }
-{
-    waiting.push(set)?;
     Ok(())
 }

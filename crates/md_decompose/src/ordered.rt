@@ -25,9 +25,9 @@ pub(crate) fn in_order(alloc: Global, first: Names, classes: &[Names]) -> Result
 {
     let marks = marks(alloc, classes)?;
     let mut sets = Vec::with_capacity(alloc, marks.len() + 1)?;
-    sets.push(first)?;
+    sets.push_reserved(first);
     for mark in &marks {
-        sets.push(classes[mark.place].copy())?;
+        sets.push_reserved(classes[mark.place].copy());
     }
     Ok(sets)
 }
@@ -42,7 +42,7 @@ fn marks(alloc: Global, classes: &[Names]) -> Result<Vec<Mark>, Memory>
         let Some(least) = class.first_from(0) else {
             unreachable!();
         };
-        marks.push(Mark { least, place })?;
+        marks.push_reserved(Mark { least, place });
     }
     marks.sort_unstable_by_key(|mark| mark.least);
     Ok(marks)

@@ -10,6 +10,9 @@ ghost use Rattle.md_decompose.specs.Classes.{IsSplitter, AreMaximalInside};
 use md_graph::{Graph, Memory, NAMES, Names};
 use std::alloc::Global;
 
+/// Room for so many classes is taken at once.
+const FEW: u32 = 64;
+
 /// The maximal ones among the modules of `set` that are parts of `rest`, in any order; they partition `rest`. Condition:
 /// `rest` is a nonempty part of `set`.
 pub(crate) fn cut(
@@ -24,7 +27,7 @@ pub(crate) fn cut(
     ensures { IfOk result
         (λ classes. AreMaximalInside (adjacent graph.now) set.now rest.now classes.items) }
 {
-    let mut classes = Vec::new(alloc);
+    let mut classes = Vec::with_capacity(alloc, rest.count().min(FEW) as usize)?;
     classes.push(rest.copy())?;
     let mut at = 0;
     while at < classes.len() {
@@ -65,6 +68,9 @@ fn splitter(graph: &Graph, set: &Names, class: &Names) -> Option<u32>
     let Some(first) = class.first_from(0) else {
         unreachable!();
     };
+    if class.first_from(first + 1).is_none() {
+        return None;
+    }
     let out = set.minus(class);
     for x in class.members_from(first + 1) {
         if let Some(p) = out.first_told_apart(graph.row(first), graph.row(x)) {

@@ -4,7 +4,7 @@ ghost use Rattle.md_tree.specs.Positions.{ArePositions};
 use md_text::Piece;
 
 // How many bytes of pairs are gathered before they are appended to the text.
-pub(crate) const CHUNK: usize = 4096;
+pub(crate) const CHUNK: usize = 1920;
 
 /// The positions of children as pieces, and a chunk in which pairs of them are gathered.
 #[derive(Drop)]

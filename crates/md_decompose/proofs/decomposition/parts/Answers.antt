@@ -8,9 +8,9 @@ use Rattle.md_decompose.proofs.decomposition.parts.Goals as goal
 
 pub loop-next-init : goal.loop-next-init
 loop-next-init c =
-    opened_begin (graph_adjacency c.vertices.ensures.graph) c.args.graph.now.vertices (record { names = c.copy.result; parent = None }) c.push_set.new.waiting.items
+    opened_begin (graph_adjacency c.vertices.ensures.graph) c.args.graph.now.vertices (record { names = c.copy.result; parent = None }) c.push.new.self.items
     (map plain_part c.new-parts.result.items) c.requires (c.copy.ensures ∙ c.vertices.ensures.set) refl
-    (c.in_ok-push_set.ensures ∙ ap (λ os. os ++ record { names = c.copy.result; parent = None } ∷ []) c.new-waiting.ensures.items)
+    (c.in_ok-push.ensures.items ∙ ap (λ os. os ++ record { names = c.copy.result; parent = None } ∷ []) c.new-waiting.ensures.items)
     (ap (map plain_part) c.new-parts.ensures.items)
 
 pub take_apart-requires : goal.take_apart-requires

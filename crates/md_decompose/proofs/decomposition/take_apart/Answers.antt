@@ -8,13 +8,13 @@ use Rattle.md_decompose.proofs.decomposition.take_apart.Goals as goal
 
 pub returns-in-Some : goal.returns-in-Some
 returns-in-Some c =
-    if_ok c.push_part.result (λ _ grown. (
+    (
       name c.in-Some.name,
       [],
       (c.in-Some.ensures.one, refl),
-      map_one_more plain_part c.push_part.new.parts.items c.args.parts.now.items (Leaf c.in-Some.name) grown,
+      map_one_more plain_part c.push.new.self.items c.args.parts.now.items (Leaf c.in-Some.name) c.in_ok-push.ensures.items,
       sym (append-nil c.args.waiting.now.items),
-    )) c.push_part.ensures
+    )
 
 pub returns : goal.returns
 returns c =
@@ -31,6 +31,6 @@ returns c =
         },
         refl,
       ),
-      map_one_more plain_part c.push_part-2.new.parts.items c.args.parts.now.items (Node c.in_ok-kind.kind c.len.result c.in_ok-edges.edges) c.in_ok-push_part.ensures,
+      map_one_more plain_part c.push-2.new.self.items c.args.parts.now.items (Node c.in_ok-kind.kind c.len.result c.in_ok-edges.edges) c.in_ok-push-2.ensures.items,
       grown,
     )) c.push_open.ensures
