@@ -33,18 +33,12 @@ fn put_part(stack: &mut Vec<Tree>, part: Part) -> Result<(), Memory>
         ≡ with_part (plain_part part) (map plain stack.old.items)) }
 {
     match part {
-        Part::Leaf(name) => push_tree(stack, Tree::Leaf(name)),
+        Part::Leaf(name) => stack.push(Tree::Leaf(name))?,
         Part::Node(kind, number, edges) => {
             let below = stack.len() - number as usize;
             let list = stack.split_off(below)?;
-            push_tree(stack, Tree::Node(kind, Children { list }, edges))
+            stack.push(Tree::Node(kind, Children { list }, edges))?;
         }
     }
-}
-
-fn push_tree(stack: &mut Vec<Tree>, tree: Tree) -> Result<(), Memory>
-    ensures { IfOk result (λ _. stack.new.items ≡ stack.old.items ++ tree ∷ []) }
-{
-    stack.push(tree)?;
     Ok(())
 }
