@@ -1,5 +1,5 @@
 //! The children of prime sets by the closures of pairs, the plain program, beside the fast one: on all graphs of up to five
-//! vertices, and on larger ones whose edges are drawn.
+//! vertices, and on larger ones of many kinds.
 use crate::decomposition::only_member;
 use crate::node::children;
 use crate::tests::{is_same_set, join};
@@ -42,13 +42,54 @@ fn by_bits(rt: &impl Abort, alloc: Global, count: u32, bits: u32) -> Result<Grap
     Ok(graph)
 }
 
-/// A graph whose edges are drawn by a linear congruence.
-fn drawn(rt: &impl Abort, alloc: Global, count: u32, seed: u32) -> Result<Graph, Memory> {
+/// Small graphs of many kinds as graph6 lines of up to 30 vertices: random ones, sparse ones, cographs, permutation graphs,
+/// bipartite ones, and paths and random graphs that are put in the places of one another's vertices.
+const DRAWN: [&[u8]; 16] = [
+    b"Kz]QOMQSJx}_",
+    b"WvKNjVDboLB@ZJuoVpZCVeXh|Lgkv?`uJKb]]|xX~JGE@sZ",
+    b"O@G?B??O????hG?AYGO?@",
+    b"W?PA???@?OW?G????C_QOW?????????@?g?OC@G??G?????",
+    b"K_o@@FG?@E??",
+    b"W@N@oID??sOc`HE_?coHK@??C???_?H?BDe|oXnW?_CWkvi",
+    b"K^{??DF?oM_?",
+    b"WGCOg?^VwAAHV~CRB|i~ZCR?VLGAOF~~|^l}?Q??A??B|lr",
+    b"Krc?GAPOB?HC",
+    b"W??L?R_u???A?GSA?MGD_@SPGAGD_@OSCD?@?S??I_I?cG?",
+    b"Kb~I]\\HQqPD?",
+    b"WGAWWjzGGHR{ererakwHN@H|?_?JNcu\\sEf`fr]kHUA_E??",
+    b"]QhOA_Oa?CPAa?aD?CAn@aCQ_?COA?_?aGTIa?o?_?aP?gCa?_?a?O_A_A?EnPaPTOCAKO?P?O",
+    b"KwjhF~~j\\B\\m",
+    b"WVTYf|V~yaiIzn~~J}~~z~z|PZ^~^~~z~~|~znNf~~^^~fp",
+    b"]A??LQ@@????@?iZ?a???iZO?@DRYWRAUH`IiYQw?AS?o??Dck@iZQ{TKH]G?AK?iYQ{XEQoC?",
+];
+
+/// The bit of a pair in a graph6 line, by the place of the pair.
+fn is_one(rt: &impl Abort, line: &[u8], place: usize) -> bool {
+    let at = 1 + place / 6;
+    assert!(rt; at < line.len() && line[at] >= 63);
+    (line[at] - 63) >> (5 - place % 6) & 1 == 1
+}
+
+/// Joins `v` to the lower vertices whose bits are 1, from a place of a graph6 line on, and gives the place behind these.
+fn join_by_line(rt: &impl Abort, graph: &mut Graph, v: u32, line: &[u8], place: usize) -> usize {
+    let mut next = place;
+    for u in 0..v {
+        if is_one(rt, line, next) {
+            join(rt, graph, u, v);
+        }
+        next = next.wrapping_add(1);
+    }
+    next
+}
+
+/// The graph of a graph6 line.
+fn by_line(rt: &impl Abort, alloc: Global, line: &[u8]) -> Result<Graph, Memory> {
+    assert!(rt; !line.is_empty() && line[0] >= 63);
+    let count = u32::from(line[0] - 63);
     let mut graph = edgeless(rt, alloc, count)?;
-    let mut state = seed;
+    let mut place = 0;
     for v in 0..count {
-        state = state.wrapping_mul(1_664_525).wrapping_add(1_013_904_223);
-        join_by_bits(rt, &mut graph, v, state >> 2);
+        place = join_by_line(rt, &mut graph, v, line, place);
     }
     Ok(graph)
 }
@@ -156,8 +197,8 @@ fn both_programs(rt: HostRuntime) -> Result<(), Fail> {
     for (count, graphs) in [(1, 1), (2, 2), (3, 8), (4, 64), (5, 1024)] {
         compare_all(&rt, rt.alloc(), count, graphs)?;
     }
-    for (count, seed) in [(8, 1), (9, 2), (12, 3), (16, 4), (24, 5), (30, 6)] {
-        let graph = drawn(&rt, rt.alloc(), count, seed)?;
+    for line in DRAWN {
+        let graph = by_line(&rt, rt.alloc(), line)?;
         compare(&rt, rt.alloc(), &graph)?;
     }
     Ok(())
