@@ -1,17 +1,17 @@
 -- Classes that are cut until they are modules.
 use Rattle.std.proofs.Common.{◌≡◌, ℕ, ◌+◌, ◌<◌, ◌≤◌, ◌≢◌, ◌⊎◌, Bool, List, [], ◌∷◌, length, refl, sym, ◌∙◌, ap, ap₂, subst, inl, inr, arith}
-use Rattle.std.specs.FinSet.{contains, intersection, difference}
+use Rattle.std.specs.FinSet.{contains, union, intersection, difference}
 use Rattle.md_graph.specs.declared.TheConstants.{NAMES}
 use Rattle.md_graph.specs.NameSet.{IsLeastFrom, NoneFrom, AllBelow, ascending_from, told_apart}
 use Rattle.md_graph.specs.PlainGraph.{PlainGraph, IsGraph, adjacent, neighbours}
 use Rattle.md_graph.proofs.GraphLemmas.{adjacent_sym}
-use Rattle.md_modules.specs.Sets.{NameSet, Has, Lacks, Within, HasSome}
+use Rattle.md_modules.specs.Sets.{NameSet, Has, Lacks, Within, Disjoint, HasSome}
 use Rattle.md_modules.specs.Modules.{IsModule}
-use Rattle.md_modules.proofs.Sets.{either, clash, true_if, false_if, same_name, Has-along, meet_has, of_meet, minus_has, of_minus}
+use Rattle.md_modules.proofs.Sets.{either, clash, true_if, false_if, same_name, Has-along, meet_has, of_meet, minus_has, of_minus, minus_lacks, union_left, union_right, of_union, union_lacks, lacks_within, same_members}
 use Rattle.md_modules.proofs.Growth.{alike_unless}
 use Rattle.md_modules.proofs.Turns.{ToldApart, told_all, none_lacks, Walked}
 use Rattle.md_decompose.specs.Children.{set_at}
-use Rattle.md_decompose.specs.Classes.{IsSplitter, IsPartition, HoldsModules, AreMaximalInside}
+use Rattle.md_decompose.specs.Classes.{IsSplitter, HoldsSplitters, IsSideOf, IsPartition, HoldsModules, AreMaximalInside}
 use Rattle.md_decompose.proofs.ClassLists.{at_known, at_one, in_one, IsCutAt, place_of}
 
 -- ---- splitters
@@ -21,21 +21,21 @@ module _ {g : PlainGraph} (graph : IsGraph g) where
   apart a x first second out is_first is_second =
       subst (ToldApart graph a x out) (ap₂ (λ s t. intersection out (told_apart s t)) (sym is_first) (sym is_second)) (told_all graph a x out)
 
-  pub splitter_found : (s c first second out : NameSet) (a x p : ℕ) → Has c a → Has c x → out ≡ difference s c → first ≡ neighbours g a → second ≡ neighbours g x →
-      IsLeastFrom (intersection out (told_apart first second)) 0 p → IsSplitter (adjacent g) s c p
-  splitter_found s c first second out a x p ha hx is_out is_first is_second is =
-      let two : Has out p × (adjacent g a p ≢ adjacent g x p) = (apart a x first second out is_first is_second).1 p is.member in
-      let place : Has s p × Lacks c p = of_minus s c p (Has-along out _ is_out p two.0) in
+  pub splitter_found : (c first second left : NameSet) (a x p : ℕ) → Has c a → Has c x → Disjoint c left → first ≡ neighbours g a → second ≡ neighbours g x →
+      IsLeastFrom (intersection left (told_apart first second)) 0 p → IsSplitter (adjacent g) left c p
+  splitter_found c first second left a x p ha hx out is_first is_second is =
+      let two : Has left p × (adjacent g a p ≢ adjacent g x p) = (apart a x first second left is_first is_second).1 p is.member in
+      let outside : Lacks c p = false_if _ (λ h. clash two.0 (out p h)) in
       elim (either (adjacent g p a)) [
         | inl t ↦ record {
-          inside = place.0;
-          outside = place.1;
+          inside = two.0;
+          outside = outside;
           sees = (a, ha, t);
           misses = (x, hx, false_if _ (λ k. two.1 (adjacent_sym g a p ∙ t ∙ sym k ∙ adjacent_sym g p x)));
         }
         | inr f ↦ record {
-          inside = place.0;
-          outside = place.1;
+          inside = two.0;
+          outside = outside;
           sees = (x, hx, true_if _ (λ k. two.1 (adjacent_sym g a p ∙ f ∙ sym k ∙ adjacent_sym g p x)));
           misses = (a, ha, f);
         }
@@ -46,6 +46,73 @@ module _ {g : PlainGraph} (graph : IsGraph g) where
   splitter_none first second out a x is_first is_second none y h =
       alike_unless (adjacent g a y) (adjacent g x y) (λ differ. clash ((apart a x first second out is_first is_second).0 y h differ) (none_lacks _ none y))
 
+  -- where all members of a class see the names left alike
+  pub no_splitter : (c left : NameSet) (first : ℕ) → ((w : ℕ) → Has c w → (y : ℕ) → Has left y → adjacent g first y ≡ adjacent g w y) → (p : ℕ) → IsSplitter (adjacent g) left c p → ⊥
+  no_splitter c left first alike p tells =
+      let same : adjacent g tells.sees.0 p ≡ adjacent g tells.misses.0 p = sym (alike tells.sees.0 tells.sees.1 p tells.inside) ∙ alike tells.misses.0 tells.misses.1 p tells.inside in
+      clash (adjacent_sym g tells.sees.0 p ∙ tells.sees.2) (same ∙ adjacent_sym g tells.misses.0 p ∙ tells.misses.2)
+
+-- ---- the names left, which may cut a class
+
+module _ {e : ℕ → ℕ → Bool} (s c : NameSet) where
+  pub left_begins : (left : NameSet) → left ≡ difference s c → HoldsSplitters e s c left
+  left_begins left is = subst (HoldsSplitters e s c) (sym is) (record {
+    inside = λ x h. (of_minus s c x h).0;
+    outside = λ x h. minus_lacks s c x h;
+    all = λ p tells. minus_has s c p tells.inside tells.outside;
+  })
+
+  splits_left : (left : NameSet) → HoldsSplitters e s c left → (p : ℕ) → IsSplitter e s c p → IsSplitter e left c p
+  splits_left left holds p tells = record { inside = holds.all p tells; outside = tells.outside; sees = tells.sees; misses = tells.misses }
+
+  splits_all : (left : NameSet) → Within left s → (p : ℕ) → IsSplitter e left c p → IsSplitter e s c p
+  splits_all left inside p tells = record { inside = inside p tells.inside; outside = tells.outside; sees = tells.sees; misses = tells.misses }
+
+  left_falls : (left new : NameSet) → HoldsSplitters e s c left → Within new left → ((p : ℕ) → IsSplitter e left c p → Has new p) → HoldsSplitters e s c new
+  left_falls left new holds less kept = record {
+    inside = λ x h. holds.inside x (less x h);
+    outside = λ x h. lacks_within new left less x (holds.outside x h);
+    all = λ p tells. kept p (splits_left left holds p tells);
+  }
+
+  -- a name left that cuts the class, where other names may have gone
+  pub told_by_left : (class left new : NameSet) (p : ℕ) → class ≡ c → HoldsSplitters e s c left → Within new left → ((q : ℕ) → IsSplitter e left class q → Has new q) →
+      IsSplitter e new class p → HoldsSplitters e s c new × IsSplitter e s c p
+  told_by_left class left new p same holds less kept tells =
+      let falls : HoldsSplitters e s c new = left_falls left new holds less (λ q h. kept q (subst (λ t. IsSplitter e left t q) (sym same) h)) in
+      (falls, splits_all new falls.inside p (subst (λ t. IsSplitter e new t p) same tells))
+
+  -- a class that no name left cuts
+  pub module_unless_cut : (class left : NameSet) → class ≡ c → HoldsSplitters e s c left → HasSome c → Within c s → ((p : ℕ) → IsSplitter e left class p → ⊥) → IsModule e s c
+  module_unless_cut class left same holds some inside uncut = record {
+    some = some;
+    inside = inside;
+    alike = λ a b x ha hb hx out. alike_unless (e x a) (e x b) (λ differ. elim (either (e x a)) [
+      | inl t ↦ none x (splits_left left holds x (record { inside = hx; outside = out; sees = (a, ha, t); misses = (b, hb, false_if _ (λ k. differ (t ∙ sym k))) }))
+      | inr f ↦ none x (splits_left left holds x (record { inside = hx; outside = out; sees = (b, hb, true_if _ (λ k. differ (f ∙ sym k))); misses = (a, ha, f) }))
+    ]);
+  } where
+    none : (p : ℕ) → IsSplitter e left c p → ⊥
+    none p tells = uncut p (subst (λ t. IsSplitter e left t p) (sym same) tells)
+
+  -- one of two parts of a class: the names of the other one may cut it
+  pub left_grows : (part left new : NameSet) → HoldsSplitters e s c left → Within c s → new ≡ union left (difference c part) → HoldsSplitters e s (intersection c part) new
+  left_grows part left new holds inside is = subst (HoldsSplitters e s (intersection c part)) (sym is) (record {
+    inside = λ x h. elim (of_union left (difference c part) x h) [ inl l ↦ holds.inside x l | inr d ↦ inside x (of_minus c part x d).0 ];
+    outside = λ x h.
+        let two : Has c x × Has part x = of_meet c part x h in
+        union_lacks left (difference c part) x (holds.outside x two.0) (minus_lacks c part x two.1);
+    all = λ p tells. elim (either (contains c p)) [
+      | inl t ↦ union_right left (difference c part) p (minus_has c part p t (false_if _ (λ h. clash (meet_has c part p t h) tells.outside)))
+      | inr f ↦ union_left left (difference c part) p (holds.all p (record {
+        inside = tells.inside;
+        outside = f;
+        sees = (tells.sees.0, (of_meet c part tells.sees.0 tells.sees.1).0, tells.sees.2);
+        misses = (tells.misses.0, (of_meet c part tells.misses.0 tells.misses.1).0, tells.misses.2);
+      }))
+    ];
+  })
+
 -- a walk over the members behind the least one
 pub walked_behind : (c : NameSet) (xs : List ℕ) (first : ℕ) (Done : ℕ → Type 0) → IsLeastFrom c 0 first → AllBelow c NAMES → xs ≡ ascending_from c (first + 1) → Done first → Walked c xs Done
 walked_behind c xs first Done is below list here = (
@@ -54,6 +121,18 @@ walked_behind c xs first Done is below list here = (
 )
 
 -- ---- a class cut in two
+
+-- the names that row lacks as a part: its names, and the others
+pub rest_in : (c row : NameSet) → difference c row ≡ intersection c (difference c row)
+rest_in c row = same_members _ _
+    (λ x h. meet_has c (difference c row) x (of_minus c row x h).0 h)
+    (λ x h. (of_meet c (difference c row) x h).1)
+
+pub rest_out : (c row : NameSet) → intersection c row ≡ difference c (difference c row)
+rest_out c row = same_members _ _
+    (λ x h. let two : Has c x × Has row x = of_meet c row x h in minus_has c (difference c row) x two.0 (minus_lacks c row x two.1))
+    (λ x h. let two : Has c x × Lacks (difference c row) x = of_minus c (difference c row) x h in
+    meet_has c row x two.0 (true_if _ (λ out. clash (minus_has c row x two.0 out) two.1)))
 
 module _ (b row : NameSet) (cs new : List NameSet) (i : ℕ) (is : IsCutAt cs new i (intersection (set_at cs i) row) (difference (set_at cs i) row)) where
   c : NameSet
@@ -165,24 +244,49 @@ module _ {e : ℕ → ℕ → Bool} where
   pub cutting_ends : (s b : NameSet) (cs : List NameSet) (i : ℕ) → IsCutting e s b cs i → length cs ≤ i → AreMaximalInside e s b cs
   cutting_ends s b cs i is end = record { holds = is.holds; modules = λ k l. is.modules k (omega arith) l }
 
-  module _ (s row : NameSet) (cs : List NameSet) (i p : ℕ) (rows : (y : ℕ) → contains row y ≡ e p y) (tells : IsSplitter e s (set_at cs i) p) where
-    pub sees_some : HasSome (intersection (set_at cs i) row)
-    sees_some = (tells.sees.0, meet_has (set_at cs i) row tells.sees.0 tells.sees.1 (rows tells.sees.0 ∙ tells.sees.2))
+  module _ (s row part : NameSet) (cs : List NameSet) (i p : ℕ) (rows : (y : ℕ) → contains row y ≡ e p y) (tells : IsSplitter e s (set_at cs i) p) (side : IsSideOf part (set_at cs i) row) where
+    pub sees_some : HasSome (intersection (set_at cs i) part)
+    sees_some = elim side [
+      | inl is ↦ (tells.sees.0, meet_has (set_at cs i) part tells.sees.0 tells.sees.1 (Has-along row part (sym is) tells.sees.0 (rows tells.sees.0 ∙ tells.sees.2)))
+      | inr is ↦ (
+        tells.misses.0,
+        meet_has (set_at cs i) part tells.misses.0 tells.misses.1
+            (Has-along (difference (set_at cs i) row) part (sym is) tells.misses.0 (minus_has (set_at cs i) row tells.misses.0 tells.misses.1 (rows tells.misses.0 ∙ tells.misses.2))),
+      )
+    ]
 
-    pub misses_some : HasSome (difference (set_at cs i) row)
-    misses_some = (tells.misses.0, minus_has (set_at cs i) row tells.misses.0 tells.misses.1 (rows tells.misses.0 ∙ tells.misses.2))
+    pub misses_some : HasSome (difference (set_at cs i) part)
+    misses_some = elim side [
+      | inl is ↦ (tells.misses.0, minus_has (set_at cs i) part tells.misses.0 tells.misses.1 (ap (λ t. contains t tells.misses.0) is ∙ rows tells.misses.0 ∙ tells.misses.2))
+      | inr is ↦ (
+        tells.sees.0,
+        minus_has (set_at cs i) part tells.sees.0 tells.sees.1
+            (ap (λ t. contains t tells.sees.0) is ∙ minus_lacks (set_at cs i) row tells.sees.0 (rows tells.sees.0 ∙ tells.sees.2)),
+      )
+    ]
+
+    alike_sides : (x y : ℕ) → Has (set_at cs i) x → Has (set_at cs i) y → contains row x ≡ contains row y → contains part x ≡ contains part y
+    alike_sides x y hx hy same = elim side [
+      | inl is ↦ ap (λ t. contains t x) is ∙ same ∙ sym (ap (λ t. contains t y) is)
+      | inr is ↦
+          let other : contains (difference (set_at cs i) row) x ≡ contains (difference (set_at cs i) row) y = elim (either (contains row x)) [
+            | inl t ↦ minus_lacks (set_at cs i) row x t ∙ sym (minus_lacks (set_at cs i) row y (sym same ∙ t))
+            | inr f ↦ minus_has (set_at cs i) row x hx f ∙ sym (minus_has (set_at cs i) row y hy (sym same ∙ f))
+          ] in
+          ap (λ t. contains t x) is ∙ other ∙ sym (ap (λ t. contains t y) is)
+    ]
 
     -- a module inside the class lies in one of its two parts
-    stays : (m : NameSet) (x y : ℕ) → IsModule e s m → Within m (set_at cs i) → Has m x → Has m y → contains row y ≡ contains row x
+    stays : (m : NameSet) (x y : ℕ) → IsModule e s m → Within m (set_at cs i) → Has m x → Has m y → contains part y ≡ contains part x
     stays m x y module_is w hx hy =
-        rows y ∙ module_is.alike y x p hy hx tells.inside (false_if _ (λ h. clash (w p h) tells.outside)) ∙ sym (rows x)
+        alike_sides y x (w y hy) (w x hx) (rows y ∙ module_is.alike y x p hy hx tells.inside (false_if _ (λ h. clash (w p h) tells.outside)) ∙ sym (rows x))
 
     -- the class at place i is cut by a name outside it
-    pub cutting_cuts : (b : NameSet) (new : List NameSet) → IsCutAt cs new i (intersection (set_at cs i) row) (difference (set_at cs i) row) → i < length cs →
+    pub cutting_cuts : (b : NameSet) (new : List NameSet) → IsCutAt cs new i (intersection (set_at cs i) part) (difference (set_at cs i) part) → i < length cs →
         IsCutting e s b cs i → IsCutting e s b new i
     cutting_cuts b new cut l is = record {
       holds = record {
-        partition = cut_partition b row cs new i cut is.holds.partition sees_some misses_some;
+        partition = cut_partition b part cs new i cut is.holds.partition sees_some misses_some;
         whole = whole;
       };
       modules = λ k before known.
@@ -192,16 +296,16 @@ module _ {e : ℕ → ℕ → Bool} where
     } where
       whole : (m : NameSet) → IsModule e s m → Within m b → (k x : ℕ) → Has (set_at new k) x → Has m x → Within m (set_at new k)
       whole m module_is w k x h hm y hy =
-          elim (place_of cs new i (intersection (set_at cs i) row) (difference (set_at cs i) row) cut k x h) [
+          elim (place_of cs new i (intersection (set_at cs i) part) (difference (set_at cs i) part) cut k x h) [
             | inl here ↦
-                let two : Has (set_at cs i) x × Has row x = of_meet (set_at cs i) row x here.1 in
+                let two : Has (set_at cs i) x × Has part x = of_meet (set_at cs i) part x here.1 in
                 let inside : Within m (set_at cs i) = is.holds.whole m module_is w i x two.0 hm in
-                subst (λ n. Has (set_at new n) y) (sym here.0) (Has-along _ _ (sym cut.here) y (meet_has (set_at cs i) row y (inside y hy) (stays m x y module_is inside hm hy ∙ two.1)))
+                subst (λ n. Has (set_at new n) y) (sym here.0) (Has-along _ _ (sym cut.here) y (meet_has (set_at cs i) part y (inside y hy) (stays m x y module_is inside hm hy ∙ two.1)))
             | inr other ↦ elim other [
               | inl last ↦
-                  let two : Has (set_at cs i) x × Lacks row x = of_minus (set_at cs i) row x last.1 in
+                  let two : Has (set_at cs i) x × Lacks part x = of_minus (set_at cs i) part x last.1 in
                   let inside : Within m (set_at cs i) = is.holds.whole m module_is w i x two.0 hm in
-                  subst (λ n. Has (set_at new n) y) (sym last.0) (Has-along _ _ (sym cut.last) y (minus_has (set_at cs i) row y (inside y hy) (stays m x y module_is inside hm hy ∙ two.1)))
+                  subst (λ n. Has (set_at new n) y) (sym last.0) (Has-along _ _ (sym cut.last) y (minus_has (set_at cs i) part y (inside y hy) (stays m x y module_is inside hm hy ∙ two.1)))
               | inr q ↦ Has-along _ _ (sym (cut.others k q.0 q.1)) y (is.holds.whole m module_is w k x q.2 hm y hy)
             ]
           ]

@@ -1,7 +1,8 @@
 -- Partitions of a set of names, and the parts of a prime set that its modules lie in.
 -- Source: Habib and Paul, A survey of the algorithmic aspects of modular decomposition (partition refinement).
-use Rattle.std.specs.Prelude.{◌≡◌, ◌<◌, ℕ, Bool, true, false, List, length}
-use Rattle.md_modules.specs.Sets.{NameSet, Has, Lacks, Within, HasSome}
+use Rattle.std.specs.Prelude.{◌≡◌, ◌<◌, ◌⊎◌, ℕ, Bool, true, false, List, length}
+use Rattle.std.specs.FinSet.{difference}
+use Rattle.md_modules.specs.Sets.{NameSet, Has, Lacks, Within, Disjoint, HasSome}
 use Rattle.md_modules.specs.Modules.{IsModule}
 use Rattle.md_decompose.specs.Children.{set_at}
 
@@ -11,6 +12,21 @@ pub record IsSplitter (e : ℕ → ℕ → Bool) (s c : NameSet) (p : ℕ) : Typ
   pub outside : Lacks c p
   pub sees : (a : ℕ) × Has c a × (e p a ≡ true)
   pub misses : (a : ℕ) × Has c a × (e p a ≡ false)
+
+-- p is adjacent to a name of c and not to another one
+pub record TellsApart (e : ℕ → ℕ → Bool) (c : NameSet) (p : ℕ) : Type 0 where
+  pub sees : (a : ℕ) × Has c a × (e p a ≡ true)
+  pub misses : (a : ℕ) × Has c a × (e p a ≡ false)
+
+-- left is a part of s outside c, and has each name of s outside c that tells names of c apart
+pub record HoldsSplitters (e : ℕ → ℕ → Bool) (s c left : NameSet) : Type 0 where
+  pub inside : Within left s
+  pub outside : Disjoint c left
+  pub all : (p : ℕ) → IsSplitter e s c p → Has left p
+
+-- part has the names of c that row has, or those that it lacks
+abbrev pub IsSideOf : NameSet → NameSet → NameSet → Type 0
+IsSideOf part c row = (part ≡ row) ⊎ (part ≡ difference c row)
 
 -- no set is empty, and no two sets meet
 pub record AreApart (cs : List NameSet) : Type 0 where

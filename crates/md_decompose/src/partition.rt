@@ -1,16 +1,17 @@
 //! Partitions of a set of names into modules.
-ghost use Rattle.std.specs.Prelude.{◌≡◌, ◌<◌, ◌++◌, ◌∷◌, ℕ, IfOk, IfSome, IfNone, [], slice_set, vec_len};
-ghost use Rattle.std.specs.FinSet.{intersection, difference};
+ghost use Rattle.std.specs.Prelude.{◌≡◌, ◌<◌, ◌++◌, ◌∷◌, ◌↔◌, ℕ, IfOk, IfSome, IfNone, IsTrue, [], length, slice_set, vec_len};
+ghost use Rattle.std.specs.FinSet.{empty, union, intersection, difference};
 ghost use Rattle.md_graph.specs.PlainGraph.{adjacent};
-ghost use Rattle.md_modules.specs.Sets.{Within, HasSome};
-ghost use Rattle.md_modules.specs.Modules.{IsModule};
+ghost use Rattle.md_modules.specs.Sets.{NameSet, Has, Within, Disjoint, HasSome};
 ghost use Rattle.md_decompose.specs.Children.{set_at};
-ghost use Rattle.md_decompose.specs.Classes.{IsSplitter, AreMaximalInside};
+ghost use Rattle.md_decompose.specs.Classes.{IsSplitter, TellsApart, IsSideOf, AreMaximalInside};
 
 use md_graph::{Graph, Memory, NAMES, Names};
+use md_modules::sees;
 use std::alloc::Global;
+use std::mem::swap;
 
-/// Room for so many classes is taken at once.
+/// Room for so many classes is taken at once, and a class of so many names is small.
 const FEW: u32 = 64;
 
 /// The maximal ones among the modules of `set` that are parts of `rest`, in any order; they partition `rest`. Condition:
@@ -29,53 +30,123 @@ pub(crate) fn cut(
 {
     let mut classes = Vec::with_capacity(alloc, rest.count().min(FEW) as usize)?;
     classes.push(rest.copy())?;
+    let mut left = set.minus(rest);
     let mut at = 0;
+    // A class is seen to be final, or to be cut, at two passes over it for each name left, which no other turn for the place
+    // looks at again; or, if it is small, at one pass over the names left for each of its members. So k classes in a set of m
+    // names cost about 2km passes at most.
     while at < classes.len() {
-        if let Some(p) = splitter(graph, set, &classes[at]) {
-            if let Err(stop) = split(&mut classes, at, graph.row(p)) {
-                return Err(stop);
-            }
+        if let Some(p) = splitter(graph, &classes[at], &mut left) {
+            split(&mut classes, at, graph.row(p), &mut left)?;
         } else {
             at += 1;
+            begin(set, &classes, at, &mut left);
         }
     }
     Ok(classes)
 }
 
-/// The class at a place becomes its part in `row`, and the rest of it is a new class, the last one.
-fn split(classes: &mut Vec<Names>, at: usize, row: &Names) -> Result<(), Memory>
-    requires { at < vec_len classes.old }
-    ensures { IfOk result (λ _. classes.new.items
-        ≡ slice_set classes.old.items at (intersection (set_at classes.old.items at) row.now)
-        ++ difference (set_at classes.old.items at) row.now ∷ []) }
+/// Puts into `left` the names of `set` outside the class at a place, if there is one.
+fn begin(set: &Names, classes: &[Names], at: usize, left: &mut Names)
+    requires { at < length classes.now → Within (set_at classes.now at) set.now }
+    ensures { at < length classes.now → left.new ≡ difference set.now (set_at classes.now at) }
 {
-    let mut outside = Names::none();
-    classes[at].move_unshared(row, &mut outside);
-    classes.push(outside)?;
+    if at < classes.len() {
+        left.clear();
+        left.take_in(set);
+        left.flip(&classes[at]);
+    }
+}
+
+/// The class at a place becomes one of its two parts, in `row` and outside it, and the other one is a new class, the last
+/// one; `left` takes in its names.
+fn split(classes: &mut Vec<Names>, at: usize, row: &Names, left: &mut Names) -> Result<(), Memory>
+    requires { at < vec_len classes.old }
+    ensures { IfOk result (λ _. (part : NameSet)
+        × IsSideOf part (set_at classes.old.items at) row.now
+        × (classes.new.items ≡ slice_set classes.old.items at (intersection (set_at classes.old.items at) part)
+        ++ difference (set_at classes.old.items at) part ∷ [])
+        × (left.new ≡ union left.old (difference (set_at classes.old.items at) part))) }
+{
+    let mut other = Names::none();
+    divide(&mut classes[at], row, &mut other);
+    left.take_in(&other);
+    classes.push(other)?;
     Ok(())
 }
 
-/// A name of `set` outside `class` that is adjacent to some of it and not to all; none exactly where `class` is a module.
-fn splitter(graph: &Graph, set: &Names, class: &Names) -> Option<u32>
-    requires inside { Within set.now graph.now.vertices }
-    requires part { Within class.now set.now }
+/// Moves one of the two parts of a class, in `row` and outside it, to the empty set `other`: of a large class the smaller part.
+fn divide(class: &mut Names, row: &Names, other: &mut Names)
+    requires { other.old ≡ empty }
+    ensures { (part : NameSet) × IsSideOf part class.old row.now
+        × (class.new ≡ intersection class.old part) × (other.new ≡ difference class.old part) }
+{
+    class.move_unshared(row, other);
+    if other.count() > FEW.max(class.count()) {
+        swap(class, other);
+    }
+}
+
+/// A name of `left` that is adjacent to some of `class` and not to all; none exactly where there is none. Other names
+/// may go from `left`.
+fn splitter(graph: &Graph, class: &Names, left: &mut Names) -> Option<u32>
     requires some { HasSome class.now }
-    ensures found { IfSome result (IsSplitter (adjacent graph.now) set.now class.now) }
-    ensures none { IfNone result (IsModule (adjacent graph.now) set.now class.now) }
+    requires apart { Disjoint class.now left.old }
+    ensures found { IfSome result (IsSplitter (adjacent graph.now) left.new class.now) }
+    ensures none { IfNone result ((p : ℕ) → IsSplitter (adjacent graph.now) left.old class.now p → ⊥) }
+    ensures less { Within left.new left.old }
+    ensures kept { (p : ℕ) → IsSplitter (adjacent graph.now) left.old class.now p → Has left.new p }
+    ensures name { IfSome result (λ p. p < NAMES) }
+{
+    if class.count() <= FEW {
+        return splitter_of_few(graph, class, left);
+    }
+    splitter_of_many(graph, class, left)
+}
+
+/// The same by a look at each member of the class.
+fn splitter_of_few(graph: &Graph, class: &Names, left: &Names) -> Option<u32>
+    requires some { HasSome class.now }
+    requires apart { Disjoint class.now left.now }
+    ensures found { IfSome result (IsSplitter (adjacent graph.now) left.now class.now) }
+    ensures none { IfNone result ((p : ℕ) → IsSplitter (adjacent graph.now) left.now class.now p → ⊥) }
     ensures name { IfSome result (λ p. p < NAMES) }
 {
     let _vertices = graph.vertices();
     let Some(first) = class.first_from(0) else {
         unreachable!();
     };
-    if class.first_from(first + 1).is_none() {
-        return None;
-    }
-    let out = set.minus(class);
     for x in class.members_from(first + 1) {
-        if let Some(p) = out.first_told_apart(graph.row(first), graph.row(x)) {
+        if let Some(p) = left.first_told_apart(graph.row(first), graph.row(x)) {
             return Some(p);
         }
     }
     None
+}
+
+/// The same by a look at each name left, which goes where it doesn't cut the class.
+fn splitter_of_many(graph: &Graph, class: &Names, left: &mut Names) -> Option<u32>
+    requires apart { Disjoint class.now left.old }
+    ensures found { IfSome result (IsSplitter (adjacent graph.now) left.new class.now) }
+    ensures none { IfNone result ((p : ℕ) → IsSplitter (adjacent graph.now) left.old class.now p → ⊥) }
+    ensures less { Within left.new left.old }
+    ensures kept { (p : ℕ) → IsSplitter (adjacent graph.now) left.old class.now p → Has left.new p }
+    ensures name { IfSome result (λ p. p < NAMES) }
+{
+    while let Some(p) = left.first_from(0) {
+        if tells_apart(graph, p, class, left) {
+            return Some(p);
+        }
+        left.remove(p);
+    }
+    None
+}
+
+/// Whether `p` is adjacent to some of a class and not to all. Condition: the class and `left` don't meet.
+fn tells_apart(graph: &Graph, p: u32, class: &Names, left: &Names) -> bool
+    requires name { p < NAMES }
+    requires apart { Disjoint class.now left.now }
+    ensures { IsTrue result ↔ TellsApart (adjacent graph.now) class.now p }
+{
+    sees(graph, p, true, class, left) && sees(graph, p, false, class, left)
 }

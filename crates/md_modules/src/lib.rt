@@ -8,4 +8,5 @@ mod searches;
 pub use induced_paths::{P4, find_p4_with, is_p4};
 pub use searches::{
     back, closure, closure_in, co_component, co_connected, component, connected, grow, is_module,
+    sees,
 };

@@ -240,9 +240,9 @@ fn seeing(graph: &Graph, value: bool, left: &Names, taken: &Names) -> Names
     new
 }
 
-// Whether `w` is adjacent to one of `among` (`value` is true), or not adjacent to one (`value` is false). Condition: `apart` is
-// a set without a member of `among`.
-fn sees(graph: &Graph, w: u32, value: bool, among: &Names, apart: &Names) -> bool
+/// Whether `w` is adjacent to one of `among` (`value` is true), or not adjacent to one (`value` is false). Conditions: `w` is a
+/// name, and `apart` is a set without a member of `among`.
+pub fn sees(graph: &Graph, w: u32, value: bool, among: &Names, apart: &Names) -> bool
     requires name { w < NAMES }
     requires apart { Disjoint among.now apart.now }
     ensures { IsTrue result ↔ ((t : ℕ) × Has among.now t × (adjacent graph.now w t ≡ value)) }

@@ -7,14 +7,13 @@ use Rattle.md_decompose.proofs.Stacking.{map_one_more, if_ok}
 use Rattle.md_decompose.proofs.decomposition.take_apart.Goals as goal
 
 pub returns-in-Some : goal.returns-in-Some
-returns-in-Some c =
-    (
-      name c.in-Some.name,
-      [],
-      (c.in-Some.ensures.one, refl),
-      map_one_more plain_part c.push.new.self.items c.args.parts.now.items (Leaf c.in-Some.name) c.in_ok-push.ensures.items,
-      sym (append-nil c.args.waiting.now.items),
-    )
+returns-in-Some c = (
+  name c.in-Some.name,
+  [],
+  (c.in-Some.ensures.one, refl),
+  map_one_more plain_part c.push.new.self.items c.args.parts.now.items (Leaf c.in-Some.name) c.in_ok-push.ensures.items,
+  sym (append-nil c.args.waiting.now.items),
+)
 
 pub returns : goal.returns
 returns c =

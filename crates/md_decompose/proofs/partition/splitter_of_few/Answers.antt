@@ -1,7 +1,7 @@
 use Rattle.std.proofs.Common.{◌∙◌, refl}
-use Rattle.md_modules.proofs.Turns.{graph_adjacency, module_if_alike, walked_member, walked_turn, walked_all}
-use Rattle.md_decompose.proofs.ClassLemmas.{splitter_found, splitter_none, walked_behind}
-use Rattle.md_decompose.proofs.partition.splitter.Goals as goal
+use Rattle.md_modules.proofs.Turns.{walked_member, walked_turn, walked_all}
+use Rattle.md_decompose.proofs.ClassLemmas.{splitter_found, splitter_none, no_splitter, walked_behind}
+use Rattle.md_decompose.proofs.partition.splitter_of_few.Goals as goal
 
 pub loop-x-init : goal.loop-x-init
 loop-x-init c =
@@ -13,18 +13,17 @@ row-requires-in-loop-x c = (walked_member c.args.class.now _ _ c.in-Some-x.x _ c
 
 pub returns-in-Some-first_told_apart-clause-found : goal.returns-in-Some-first_told_apart-clause-found
 returns-in-Some-first_told_apart-clause-found c =
-    splitter_found c.row.ensures.graph c.args.set.now c.args.class.now c.row.result.now c.row-in-loop-x.result.now c.minus-out.result
+    splitter_found c.row.ensures.graph c.args.class.now c.row.result.now c.row-in-loop-x.result.now c.args.left.now
     c.in-Some.first c.in-Some-x.x c.in-Some-first_told_apart.p c.in-Some.ensures.found.member
     (walked_member c.args.class.now _ _ c.in-Some-x.x _ c.loop-x.invariant c.in-Some-x.ensures.steps).0
-    c.minus-out.ensures c.row.ensures.set c.row-in-loop-x.ensures.set c.in-Some-first_told_apart.ensures.found
+    c.requires.apart c.row.ensures.set c.row-in-loop-x.ensures.set c.in-Some-first_told_apart.ensures.found
 
 pub loop-x-preserved : goal.loop-x-preserved
 loop-x-preserved c =
     walked_turn c.args.class.now _ _ c.in-Some-x.x _ c.loop-x.invariant c.in-Some-x.ensures.steps
-    (splitter_none c.row.ensures.graph c.row.result.now c.row-in-loop-x.result.now c.minus-out.result c.in-Some.first c.in-Some-x.x
+    (splitter_none c.row.ensures.graph c.row.result.now c.row-in-loop-x.result.now c.args.left.now c.in-Some.first c.in-Some-x.x
     c.row.ensures.set c.row-in-loop-x.ensures.set c.in_default-first_told_apart.ensures.none)
 
 pub returns-clause-none : goal.returns-clause-none
 returns-clause-none c =
-    (module_if_alike (graph_adjacency c.vertices-vertices.ensures.graph) c.args.set.now c.args.class.now c.minus-out.result c.in-Some.first
-    c.in-Some.ensures.found.member c.requires.part c.minus-out.ensures).0 (walked_all c.args.class.now _ _ _ c.loop-x.invariant c.in-None.ensures.steps)
+    no_splitter c.vertices-vertices.ensures.graph c.args.class.now c.args.left.now c.in-Some.first (walked_all c.args.class.now _ _ _ c.loop-x.invariant c.in-None.ensures.steps)
