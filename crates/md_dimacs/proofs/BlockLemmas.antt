@@ -1,9 +1,9 @@
 -- The members of a set, 64 names at a time.
-use Rattle.std.specs.Prelude.{◌≡◌, ℕ, zero, suc, ◌+◌, ◌-◌, ◌*◌, ◌/◌, ◌%◌, ◌<◌, ◌≤◌, max, Bool, true, false, cond, ◌&&◌, ◌==◌, nat_le, List, [], ◌∷◌, ◌++◌, length, get_or, refl}
+use Rattle.std.specs.Prelude.{◌≡◌, ℕ, zero, suc, ◌+◌, ◌-◌, ◌*◌, ◌/◌, ◌%◌, ◌<◌, ◌≤◌, max, cond, ◌&&◌, ◌==◌, nat_le, List, [], ◌∷◌, ◌++◌, length, get_or, refl}
 use Rattle.std.specs.Int.{bit_at}
 use Rattle.std.specs.List.{All}
 use Rattle.std.specs.Option.{option_map_or}
-use Rattle.std.proofs.Common.{subst, ap, sym, ◌∙◌, arith, inl, inr, append_assoc, length-append}
+use Rattle.std.proofs.Common.{subst, ap, sym, ◌∙◌, arith, inl, inr, append_assoc}
 use Rattle.std.proofs.lemmas.Bool.{cases_lt, le-leb, lt-leb, false_from_ne_true}
 use Rattle.std.proofs.lemmas.List.{append-nil}
 use Rattle.std.proofs.lemmas.List.Elements.{All-nil, All-cons, All-head, All-tail, All-weaker}
@@ -15,19 +15,16 @@ use Rattle.md_graph.specs.PlainGraph.{PlainGraph, IsGraph, neighbours}
 use Rattle.md_graph.specs.Words.{bits_between}
 use Rattle.md_graph.proofs.Limits.{NAMES-is}
 use Rattle.md_graph.proofs.MemberLists.{no_bits_of_zero}
+use Rattle.md_graph.proofs.NameLemmas.{IsItem, ascending_items, ascending_none, ascending_split}
 use Rattle.md_text.specs.Numbers.{decimal}
 use Rattle.md_text.specs.declared.piece.Piece.{Piece}
 use Rattle.md_dimacs.specs.Text.{position}
 use Rattle.md_text.specs.Pieces.{piece_text}
 use Rattle.md_dimacs.specs.Places.{IsPlaceOf, ArePlaces, text_at, lines_at, line_start, row_text}
-use Rattle.md_dimacs.proofs.AscendingLemmas.{Listed, all_listed, below_low, asc_split, asc_none, neighbour_is_vertex}
+use Rattle.md_dimacs.proofs.AscendingLemmas.{at_most_one_more, nothing_below, neighbour_is_vertex}
 use Rattle.md_dimacs.proofs.TextLemmas.{row_lines, row_lines-nil, row_lines-cons, row_lines-append, row_text_is, row_end}
 
 -- ---- the bits of a word
-
-at_most_one_more : (xs : List ℕ) (x n : ℕ) (b : Bool) → length xs ≤ n → length (xs ++ cond b (x ∷ []) []) ≤ suc n
-at_most_one_more xs x n true h = let e = length-append xs (x ∷ []) in omega arith
-at_most_one_more xs x n false h = let e = ap length (append-nil xs) in omega arith
 
 pub bits_count : (first bits n : ℕ) → length (bits_between first bits n) ≤ n
 unfolding bits_between
@@ -67,8 +64,8 @@ pub block_split : (s : NameSet) (from first bits masked : ℕ) → from < first 
 block_split s from first bits masked within named has is =
     let low = max from first in
     let next : first + 64 ≡ max from (first + 64) = omega arith in
-    asc_split s low (first + 64) NAMES (omega arith) named
-    ∙ (λ i. (by_bits s low first masked 64 (λ k h. kept_bit s from first low bits masked k refl (has k h) (is k h)) ∙ ap (λ l. l ++ bits_between first masked 64) (below_low s low first (omega arith))) i ++ ascending_between s (next i) NAMES)
+    ascending_split s low (first + 64) NAMES (omega arith) named
+    ∙ (λ i. (by_bits s low first masked 64 (λ k h. kept_bit s from first low bits masked k refl (has k h) (is k h)) ∙ ap (λ l. l ++ bits_between first masked 64) (nothing_below s low first (omega arith))) i ++ ascending_between s (next i) NAMES)
 
 -- a name at the front of a word that isn't behind all names
 pub word_fits : (first : ℕ) → first % 64 ≡ 0 → first < NAMES → first + 64 ≤ NAMES
@@ -97,7 +94,7 @@ pub block_places : (g : PlainGraph) → IsGraph g → (v : ℕ) (places : List P
     → ascending_between (neighbours g v) low NAMES ≡ xs ++ rest → All (IsPlaceOf g places) xs
 block_places g is v places all low xs rest cut =
     All-front (IsPlaceOf g places) xs rest (subst (All (IsPlaceOf g places)) cut
-    (All-weaker (Listed (neighbours g v) low NAMES) (IsPlaceOf g places) (λ w l. all.place_of w (neighbour_is_vertex g v w is l.member)) (ascending_between (neighbours g v) low NAMES) (all_listed (neighbours g v) low NAMES)))
+    (All-weaker (IsItem (neighbours g v) low NAMES) (IsPlaceOf g places) (λ w l. all.place_of w (neighbour_is_vertex g v w is l.member)) (ascending_between (neighbours g v) low NAMES) (ascending_items (neighbours g v) low NAMES)))
 
 pub all_there : (g : PlainGraph) (places : List Piece) (xs : List ℕ) → All (IsPlaceOf g places) xs → All (λ w. w < length places) xs
 all_there g places xs all = All-weaker (IsPlaceOf g places) (λ w. w < length places) (λ w is. is.there) xs all
@@ -122,7 +119,7 @@ pub block_end : (g : PlainGraph) → IsGraph g → (v from first : ℕ) (places 
     → (held ++ row_lines g v (ascending_between (neighbours g v) (max from first) NAMES)) ≡ total → held ≡ total
 block_end g is v from first places held total all past before =
     row_end g v (ascending_between (neighbours g v) (max from first) NAMES) held total before
-    (asc_none (neighbours g v) (max from first) NAMES (λ w above below. false_from_ne_true _ (λ m.
+    (ascending_none (neighbours g v) (max from first) NAMES (λ w above below. false_from_ne_true _ (λ m.
     let there = (all.place_of w (neighbour_is_vertex g v w is m)).there in omega arith)))
 
 pub block_start : (g : PlainGraph) (v from first : ℕ) → from ≡ v + 1 → first ≤ from → row_lines g v (ascending_between (neighbours g v) (max from first) NAMES) ≡ row_text g v

@@ -1,16 +1,16 @@
 -- The steps of the reader.
-use Rattle.std.specs.Prelude.{◌≡◌, ℕ, suc, ◌+◌, min, max, Bool, true, false, ◌==◌, ◌||◌, ◌&&◌, List, [], ◌∷◌, ◌++◌, length, Some, None, Result, Ok, Err, OnOk, OnErr, IfErr, refl}
+use Rattle.std.specs.Prelude.{◌≡◌, ℕ, ◌+◌, min, max, Bool, true, false, ◌==◌, ◌||◌, ◌&&◌, List, [], ◌∷◌, ◌++◌, length, Some, None, Result, Ok, Err, OnOk, OnErr, IfErr, refl}
 use Rattle.std.specs.Result.{is_err}
 use Rattle.std.proofs.Common.{subst, ap, sym, ◌∙◌, arith, add-one, append_assoc, length-append}
 use Rattle.std.proofs.lemmas.Bool.{and_parts, eqb-true}
 use Rattle.std.proofs.lemmas.Bool.Decides.{nat_tests}
-use Rattle.std.proofs.lemmas.List.Elements.{All-nil, All-push}
+use Rattle.std.proofs.lemmas.List.Elements.{All-push}
 use Rattle.std.specs.FinSet as set
 use Rattle.md_graph.specs.PlainGraph.{PlainGraph, adjacent, edge, empty_graph, with_vertex, with_edge}
 use Rattle.md_graph.proofs.PairLaws.{pairs-insert, same_pairs}
 use Rattle.md_text.specs.Lines.{lines, without_return}
 use Rattle.md_text.specs.Fields.{fields}
-use Rattle.md_text.proofs.LineLemmas.{lines-nil}
+use Rattle.md_text.proofs.LineLemmas.{no_lines}
 use Rattle.md_dimacs.specs.declared.fault.DimacsFault.{DimacsFault}
 use Rattle.md_dimacs.specs.declared.fault.DimacsKind.{DimacsKind}
 use Rattle.md_dimacs.specs.declared.fault.DimacsKind.TheVariants.{NoProblemLine}
@@ -56,9 +56,6 @@ with_edge_there g u v h =
 
 -- ---- the lines before the problem line
 
-pub nothing_before : (all : List (List ℕ)) → IsBeforeProblem all 0 all
-nothing_before all = record { before = []; cut = refl; counted = refl; passed = All-nil IsPassed }
-
 pub one_passed : (all : List (List ℕ)) (count : ℕ) (rest : List (List ℕ)) (line stripped : List ℕ) (more : List (List ℕ)) → IsBeforeProblem all count rest
     → rest ≡ line ∷ more → stripped ≡ without_return line → class_of (fields stripped) ≡ Passed → IsBeforeProblem all (count + 1) more
 one_passed all count rest line stripped more b cut e class = record {
@@ -75,10 +72,6 @@ unfolding fault_behind
 refused_before all count rest line stripped more kind b cut e fault =
     let here : fault_of_words None (words line) ≡ Some kind = ap (λ s. fault_of_words None (fields s)) (sym e) ∙ fault in
     fault_before all count rest b ∙ ap (fault_behind None count) cut ∙ rw here refl
-
-no_lines : (bytes : List ℕ) → (length bytes == 0) ≡ true → lines bytes ≡ []
-no_lines [] h = lines-nil
-no_lines (b ∷ bytes) h = absurd (let e = eqb-true (suc (length bytes)) 0 h in omega arith)
 
 pub no_problem : (all : List (List ℕ)) (count : ℕ) (rest : List ℕ) (number : ℕ) → IsBeforeProblem all count (lines rest) → (length rest == 0) ≡ true
     → number ≡ count + 1 → fault_behind None 0 all ≡ Some (record { kind = NoProblemLine; line = number })

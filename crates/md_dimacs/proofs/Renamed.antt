@@ -1,70 +1,41 @@
 -- The graph that the text spells is the graph with each vertex named by its place.
-use Rattle.std.specs.Prelude.{◌≡◌, ℕ, zero, suc, ◌+◌, ◌<◌, ◌≤◌, ◌⊎◌, Bool, true, false, ◌||◌, List, [], ◌∷◌, ◌++◌, map, Some, refl}
+use Rattle.std.specs.Prelude.{◌≡◌, ℕ, ◌+◌, ◌<◌, ◌≤◌, ◌⊎◌, Bool, true, ◌||◌, List, [], ◌∷◌, map, Some, refl}
 use Rattle.std.specs.List.{All, list_any, flat_map}
 use Rattle.std.specs.Cmp.{both_ways}
 use Rattle.std.proofs.Common.{ap, sym, ◌∙◌, arith, inl, inr}
-use Rattle.std.proofs.lemmas.Bool.{true≢false, cases_Bool, cases_lt, cases_eq, cases_order, and_parts, and_from, or_cases, or_left, or_right, eqb-true, eq-eqb}
-use Rattle.std.proofs.lemmas.List.Elements.{All-head, All-tail, All-weaker}
-use Rattle.std.proofs.lemmas.List.Folds.{list_any-append}
+use Rattle.std.proofs.lemmas.Bool.{cases_order, and_parts, and_from, or_cases, or_left, or_right, eqb-true, eq-eqb}
+use Rattle.std.proofs.lemmas.List.Elements.{All-contains, All-head, All-tail, All-weaker}
+use Rattle.std.proofs.lemmas.List.Folds.{list_any-append, Any-from_list_any, list_any-from_Any}
 use Rattle.std.specs.FinSet as set
 use Rattle.md_graph.specs.declared.TheConstants.{NAMES}
 use Rattle.md_graph.specs.NameSet.{NameSet, Member, ascending, ascending_from, ascending_between}
 use Rattle.md_graph.specs.PlainGraph.{PlainGraph, IsGraph, adjacent, neighbours}
 use Rattle.md_graph.proofs.GraphLemmas.{adjacent_sym, adjacent_ends, contains-neighbours}
+use Rattle.md_graph.proofs.NameLemmas.{IsItem, ascending_items, ascending_appears}
 use Rattle.md_dimacs.specs.File.{are_ends, joins}
 use Rattle.md_dimacs.specs.Text.{position, edges_above, edge_places, edge_line, dimacs_text, IsRenamed}
 use Rattle.md_dimacs.specs.Laws.{SpellsRenamed}
 use Rattle.md_dimacs.proofs.FileLemmas.{vertices_read, edges_read, spelled_only, spelled_has_no_fault}
-use Rattle.md_dimacs.proofs.AscendingLemmas.{one_more, no_more, below_low}
 use Rattle.md_dimacs.proofs.RoundTrip.{ArePlaces, position_same, ends-edge_line, all_places, read_back, text_spells}
 
 -- ---- a test of listed members
 
--- the member that passes
+-- a member in the range that passes
 pub record Passing (s : NameSet) (low n : ℕ) (p : ℕ → Bool) : Type 0 where
   pub found : ℕ
-  pub member : Member s found
-  pub from : low ≤ found
+  pub item : IsItem s low n found
   pub passes : p found ≡ true
 
-one_of_more : (p : ℕ → Bool) (xs : List ℕ) (x : ℕ) → list_any p (xs ++ x ∷ []) ≡ true → (list_any p xs ≡ true) ⊎ (p x ≡ true)
-one_of_more p xs x h = elim (or_cases (list_any p xs) (p x || false) (sym (list_any-append p xs (x ∷ [])) ∙ h)) [
-  | inl before ↦ inl before
-  | inr last ↦ elim (or_cases (p x) false last) [ inl here ↦ inr here | inr none ↦ absurd (cc) ]
-]
-
 any_from : (p : ℕ → Bool) (s : NameSet) (low n : ℕ) → list_any p (ascending_between s low n) ≡ true → Passing s low n p
-any_from p s low zero h = absurd (let none = ap (list_any p) (below_low s low 0 (omega arith)) in true≢false (sym h ∙ none))
-any_from p s low (suc n) h =
-    elim (cases_lt n low) [
-      | inl under ↦ absurd (let none = ap (list_any p) (below_low s low (suc n) (omega arith)) in true≢false (sym h ∙ none))
-      | inr within ↦ elim (cases_Bool (set.contains s n)) [
-        | inl t ↦ elim (one_of_more p (ascending_between s low n) n (sym (ap (list_any p) (one_more s low n within t)) ∙ h)) [
-          | inl before ↦ let one = any_from p s low n before in record { found = one.found; member = one.member; from = one.from; passes = one.passes }
-          | inr here ↦ record { found = n; member = t; from = within; passes = here }
-        ]
-        | inr f ↦ let one = any_from p s low n (sym (ap (list_any p) (no_more s low n f)) ∙ h) in record { found = one.found; member = one.member; from = one.from; passes = one.passes }
-      ]
-    ]
-
-any_push : (p : ℕ → Bool) (xs : List ℕ) (x : ℕ) → (list_any p xs ≡ true) ⊎ (p x ≡ true) → list_any p (xs ++ x ∷ []) ≡ true
-any_push p xs x (inl before) = list_any-append p xs (x ∷ []) ∙ or_left (list_any p xs) (p x || false) before
-any_push p xs x (inr here) = list_any-append p xs (x ∷ []) ∙ or_right (list_any p xs) (p x || false) (or_left (p x) false here)
+any_from p s low n h =
+    let xs = ascending_between s low n in
+    let (k, x, inside, is, passes) = Any-from_list_any p xs h in
+    record { found = x; item = All-contains (IsItem s low n) xs x (ascending_items s low n) (k, inside, is); passes = passes }
 
 any_to : (p : ℕ → Bool) (s : NameSet) (low n w : ℕ) → low ≤ w → w < n → Member s w → p w ≡ true → list_any p (ascending_between s low n) ≡ true
-any_to p s low zero w from below m passes = absurd (omega arith)
-any_to p s low (suc n) w from below m passes =
-    elim (cases_eq w n) [
-      | inl same ↦
-          ap (list_any p) (one_more s low n (omega arith) (sym (ap (set.contains s) same) ∙ m))
-          ∙ any_push p (ascending_between s low n) n (inr (sym (ap p same) ∙ passes))
-      | inr other ↦
-          let before = any_to p s low n w from (omega arith) m passes in
-          elim (cases_Bool (set.contains s n)) [
-            | inl t ↦ ap (list_any p) (one_more s low n (omega arith) t) ∙ any_push p (ascending_between s low n) n (inl before)
-            | inr f ↦ ap (list_any p) (no_more s low n f) ∙ before
-          ]
-    ]
+any_to p s low n w from below m passes =
+    let (k, inside, is) = ascending_appears s low n w m from below in
+    list_any-from_Any p (ascending_between s low n) (k, w, inside, is, passes)
 
 any_map : {X Y : Type 0} (p : Y → Bool) (f : X → Y) (xs : List X) → list_any p (map f xs) ≡ list_any (λ x. p (f x)) xs
 any_map p f [] = refl
@@ -121,8 +92,8 @@ found_edge g is u v mu mv h =
     let x = row.found in
     let end = any_from (λ w. at_places (position g u) (position g v) (position g x, position g w)) (neighbours g x) (x + 1) NAMES row.passes in
     let y = end.found in
-    let edge : adjacent g x y ≡ true = sym (contains-neighbours is x y) ∙ end.member in
-    elim (ends_are g u v x y mu mv row.member (adjacent_ends is x y edge).1 end.passes) [
+    let edge : adjacent g x y ≡ true = sym (contains-neighbours is x y) ∙ end.item.member in
+    elim (ends_are g u v x y mu mv row.item.member (adjacent_ends is x y edge).1 end.passes) [
       | inl straight ↦ (λ i. adjacent g (straight.0 i) (straight.1 i)) ∙ edge
       | inr turned ↦ (λ i. adjacent g (turned.0 i) (turned.1 i)) ∙ adjacent_sym g y x ∙ edge
     ]

@@ -1,18 +1,19 @@
 -- The text of a graph is read as the graph with each vertex named by its place.
-use Rattle.std.specs.Prelude.{◌≡◌, ◌≢◌, ℕ, zero, suc, ◌+◌, ◌*◌, ◌^◌, ◌<◌, ◌≤◌, Bool, true, false, cond, not, ◌&&◌, ◌||◌, ◌==◌, nat_lt, nat_le, List, [], ◌∷◌, ◌++◌, length, map, Some, codes, refl}
+use Rattle.std.specs.Prelude.{◌≡◌, ◌≢◌, ℕ, ◌+◌, ◌*◌, ◌^◌, ◌<◌, ◌≤◌, Bool, true, false, ◌&&◌, nat_lt, List, [], ◌∷◌, ◌++◌, map, Some, codes, refl}
 use Rattle.std.specs.List.{All, flat_map, join_with_byte}
-use Rattle.std.proofs.Common.{ap, sym, ◌∙◌, arith, inl, inr, lit<, length-append}
-use Rattle.std.proofs.lemmas.Bool.{true≢false, cases_Bool, cases_eq, cases_order, and_parts, and_from, eqb-false, eq-eqb, ne_eqb, not-true, lt-ltb, le-leb, false_from_ne_true}
+use Rattle.std.proofs.Common.{ap, sym, ◌∙◌, arith, inl, inr, mul-le-mul}
+use Rattle.std.proofs.lemmas.Bool.{cases_order, and_from, lt-ltb, le-leb}
 use Rattle.std.proofs.lemmas.Bool.Decides.{nat_tests}
 use Rattle.std.proofs.lemmas.List.Elements.{All-nil, All-cons, All-head, All-tail, All-append, All-map, All-weaker}
 use Rattle.std.specs.FinSet as set
 use Rattle.md_graph.specs.declared.TheConstants.{NAMES}
-use Rattle.md_graph.specs.NameSet.{NameSet, Member, AllBelow, ascending, ascending_from, ascending_between}
+use Rattle.md_graph.specs.NameSet.{Member, ascending, ascending_from}
 use Rattle.md_graph.specs.PlainGraph.{PlainGraph, IsGraph, adjacent, neighbours, pairs_where}
-use Rattle.md_graph.proofs.SetLaws.{contains-empty, contains-insert, contains-remove, len-empty, len-insert, same_set}
 use Rattle.md_graph.proofs.PairLaws.{same_pairs}
 use Rattle.md_graph.proofs.GraphLemmas.{adjacent_sym, adjacent_ends, adjacent_self, contains-edges, contains-neighbours, contains-pairs_where}
 use Rattle.md_graph.proofs.Counting.{rows_twice, rows_le}
+use Rattle.md_graph.proofs.Limits.{NAMES-lt}
+use Rattle.md_graph.proofs.NameLemmas.{IsItem, ascending_items, length-ascending}
 use Rattle.md_text.specs.Lines.{lines, LacksFeed, without_return}
 use Rattle.md_text.specs.Fields.{fields, is_blank, IsWord}
 use Rattle.md_text.specs.Numbers.{decimal, number_of}
@@ -24,56 +25,17 @@ use Rattle.md_dimacs.specs.File.{AreSizes, IsPassed, IsPassedOrEdge, Spells}
 use Rattle.md_dimacs.specs.Read.{edgeless, with_lines}
 use Rattle.md_dimacs.specs.Text.{position, edges_above, edge_places, edge_line, problem_line, dimacs_text}
 use Rattle.md_dimacs.proofs.FileLemmas.{spelled_by_parts}
-use Rattle.md_dimacs.proofs.AscendingLemmas.{Listed, all_listed, one_more, no_more, below_low, count_member, count_up_to}
+use Rattle.md_dimacs.proofs.AscendingLemmas.{count_member, count_up_to}
 
--- ---- how many vertices and edges there are
-
-ascending_agree : (s t : NameSet) (n : ℕ) → ((w : ℕ) → w < n → set.contains s w ≡ set.contains t w) → ascending_between s 0 n ≡ ascending_between t 0 n
-unfolding ascending_between
-ascending_agree s t zero same = refl
-ascending_agree s t (suc n) same =
-    let here = same n (omega arith) in
-    let before = ascending_agree s t n (λ w b. same w (omega arith)) in
-    λ i. before i ++ cond (nat_le 0 n && here i) (n ∷ []) []
-
--- a set is what is left without n, and n
-with_last : (s : NameSet) (n : ℕ) → set.contains s n ≡ true → s ≡ set.insert (set.remove s n) n
-with_last s n t = same_set s (set.insert (set.remove s n) n) (λ q.
-    sym (contains-insert (set.remove s n) n q ∙ ap (λ b. (q == n) || b) (contains-remove s n q)
-    ∙ elim (cases_eq q n) [
-      | inl same ↦ ap (λ b. b || (not b && set.contains s q)) (eq-eqb q n same) ∙ sym (ap (set.contains s) same ∙ t)
-      | inr other ↦ ap (λ b. b || (not b && set.contains s q)) (ne_eqb q n other)
-    ]))
-
-len-ascending : (n : ℕ) (s : NameSet) → AllBelow s n → set.len s ≡ length (ascending_between s 0 n)
-len-ascending zero s below =
-    ap set.len (same_set s set.empty (λ q. false_from_ne_true _ (λ m. let b = below q m in omega arith) ∙ sym (contains-empty q))) ∙ len-empty
-    ∙ sym (ap length (below_low s 0 0 (omega arith)))
-len-ascending (suc n) s below =
-    elim (cases_Bool (set.contains s n)) [
-      | inl t ↦
-          let rest = set.remove s n in
-          let gone : set.contains rest n ≡ false = contains-remove s n n ∙ ap (λ b. not b && set.contains s n) (eq-eqb n n refl) in
-          let before = len-ascending n rest (λ w m.
-          let parts = and_parts _ _ (sym (contains-remove s n w) ∙ m) in
-          let other = eqb-false w n (not-true _ parts.0) in
-          let b = below w parts.1 in
-          below_other w n b other) in
-          let same = ascending_agree rest s n (λ w b. contains-remove s n w ∙ ap (λ b. not b && set.contains s w) (ne_eqb w n (λ e. omega arith))) in
-          ap set.len (with_last s n t) ∙ len-insert rest n ∙ ap (λ b. cond b (set.len rest) (set.len rest + 1)) gone
-          ∙ ap (λ k. k + 1) (before ∙ ap length same)
-          ∙ sym (ap length (one_more s 0 n (omega arith) t) ∙ length-append (ascending_between s 0 n) (n ∷ []))
-      | inr f ↦
-          len-ascending n s (λ w m. let b = below w m in below_other w n b (λ e. true≢false (sym m ∙ ap (set.contains s) e ∙ f)))
-          ∙ ap length (sym (no_more s 0 n f))
-    ]
-  where
-    below_other : (w n : ℕ) → w < suc n → (w ≡ n → ⊥) → w < n
-    below_other w n b other = elim (cases_order w n) [ inl same ↦ absurd (other same) | inr (inl under) ↦ under | inr (inr over) ↦ omega arith ]
+-- ---- how many edges there are
 
 -- a product of two names is a number that can be read
 names_product : NAMES * NAMES < 10 ^ 18
-names_product = lit< tt
+names_product =
+    let fits = NAMES-lt in
+    let top : NAMES ≤ 65535 = omega arith in
+    let most = mul-le-mul top top in
+    omega arith
 
 edges_are_pairs : (g : PlainGraph) → IsGraph g → g.edges ≡ pairs_where (λ u v. set.contains (neighbours g v) u) NAMES
 edges_are_pairs g is = same_pairs g.edges (pairs_where (λ u v. set.contains (neighbours g v) u) NAMES) (λ u v.
@@ -124,7 +86,7 @@ position_first g v = omega arith
 position_last : (g : PlainGraph) (v : ℕ) → IsGraph g → Member g.vertices v → position g v ≤ set.len g.vertices
 unfolding position
 position_last g v is m =
-    let all = len-ascending NAMES g.vertices is.names in
+    let all = length-ascending g.vertices NAMES is.names in
     let next = count_member g.vertices v m in
     let more = count_up_to g.vertices (v + 1) NAMES (let name = is.names v m in omega arith) in
     omega arith
@@ -233,12 +195,9 @@ pub record ArePlaces (n : ℕ) (p : ℕ × ℕ) : Type 0 where
   pub up : p.0 < p.1
   pub last : p.1 ≤ n
 
-names_below_digits : NAMES < 10 ^ 18
-names_below_digits = lit< tt
-
 pub ends-edge_line : (n : ℕ) (p : ℕ × ℕ) → n < NAMES → ArePlaces n p → ends_of (words (edge_line p)) ≡ Some (p.0, p.1)
 ends-edge_line n p small places =
-    let low = places.low in let up = places.up in let last = places.last in let digits = names_below_digits in
+    let low = places.low in let up = places.up in let last = places.last in let fits = NAMES-lt in
     ap ends_of (words-edge_line p) ∙ ends_read p.0 p.1 (omega arith) (omega arith)
 
 edge_line_is : (n : ℕ) (p : ℕ × ℕ) → n < NAMES → ArePlaces n p → IsPassedOrEdge n (edge_line p)
@@ -255,7 +214,7 @@ edge_line_is n p small places =
 
 problem_line_is : (g : PlainGraph) → IsGraph g → set.len g.vertices < NAMES → AreSizes (set.len g.vertices) (sizes_of (words (problem_line g)))
 problem_line_is g is small =
-    let digits = names_below_digits in
+    let fits = NAMES-lt in
     record {
       edge_count = set.len g.edges;
       numbers = ap sizes_of (words-problem_line g) ∙ sizes_read (set.len g.vertices) (set.len g.edges) (omega arith) (len_edges_small g is);
@@ -268,22 +227,22 @@ All-flat_map : {X Y : Type 0} (P : X → Type 0) (Q : Y → Type 0) (f : X → L
 All-flat_map P Q f [] all each = All-nil Q
 All-flat_map P Q f (x ∷ xs) all each = All-append Q (f x) (flat_map f xs) (each x (All-head P x xs all)) (All-flat_map P Q f xs (All-tail P x xs all) each)
 
-places_of_row : (g : PlainGraph) → IsGraph g → (v : ℕ) → Listed g.vertices 0 NAMES v → All (ArePlaces (set.len g.vertices)) (edges_above g v)
+places_of_row : (g : PlainGraph) → IsGraph g → (v : ℕ) → IsItem g.vertices 0 NAMES v → All (ArePlaces (set.len g.vertices)) (edges_above g v)
 unfolding edges_above
 places_of_row g is v lv =
     All-map (ArePlaces (set.len g.vertices)) (λ w. (position g v, position g w)) (ascending_from (neighbours g v) (v + 1))
-    (All-weaker (Listed (neighbours g v) (v + 1) NAMES) (λ w. ArePlaces (set.len g.vertices) (position g v, position g w)) (λ w lw.
+    (All-weaker (IsItem (neighbours g v) (v + 1) NAMES) (λ w. ArePlaces (set.len g.vertices) (position g v, position g w)) (λ w lw.
     let mw = (adjacent_ends is v w (sym (contains-neighbours is v w) ∙ lw.member)).1 in
-    let from = lw.from in
+    let above = lw.above in
     record {
       low = position_first g v;
       up = position_up g v w (omega arith) lv.member;
       last = position_last g w is mw;
-    }) (ascending_from (neighbours g v) (v + 1)) (all_listed (neighbours g v) (v + 1) NAMES))
+    }) (ascending_from (neighbours g v) (v + 1)) (ascending_items (neighbours g v) (v + 1) NAMES))
 
 pub all_places : (g : PlainGraph) → IsGraph g → All (ArePlaces (set.len g.vertices)) (edge_places g)
 unfolding edge_places
-all_places g is = All-flat_map (Listed g.vertices 0 NAMES) (ArePlaces (set.len g.vertices)) (edges_above g) (ascending g.vertices) (all_listed g.vertices 0 NAMES) (places_of_row g is)
+all_places g is = All-flat_map (IsItem g.vertices 0 NAMES) (ArePlaces (set.len g.vertices)) (edges_above g) (ascending g.vertices) (ascending_items g.vertices 0 NAMES) (places_of_row g is)
 
 text_lines : (g : PlainGraph) → lines (dimacs_text g) ≡ problem_line g ∷ map edge_line (edge_places g)
 unfolding dimacs_text

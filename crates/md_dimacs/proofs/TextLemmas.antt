@@ -83,14 +83,15 @@ pub text_is : (g : PlainGraph) (head text : List ℕ) → head ≡ problem_line 
 unfolding dimacs_text edges_text
 text_is g head text e more = more ∙ ap (λ l. l ++ edges_text g) e ∙ sym (ended-cons (problem_line g) (map edge_line (edge_places g)))
 
-head_cut : (a b : List ℕ) → (((112 ∷ 32 ∷ 101 ∷ 100 ∷ 103 ∷ 101 ∷ 32 ∷ []) ++ (a ++ 32 ∷ [])) ++ (b ++ 10 ∷ [])) ≡ ((112 ∷ 32 ∷ 101 ∷ 100 ∷ 103 ∷ 101 ∷ 32 ∷ (a ++ 32 ∷ b)) ++ 10 ∷ [])
-head_cut a b = ap (λ l. 112 ∷ 32 ∷ 101 ∷ 100 ∷ 103 ∷ 101 ∷ 32 ∷ l) (append_assoc a (32 ∷ []) (b ++ 10 ∷ []) ∙ sym (append_assoc a (32 ∷ b) (10 ∷ [])))
+head_cut : (a b : List ℕ) → (((((112 ∷ 32 ∷ 101 ∷ 100 ∷ 103 ∷ 101 ∷ 32 ∷ []) ++ a) ++ 32 ∷ []) ++ b) ++ 10 ∷ []) ≡ ((112 ∷ 32 ∷ 101 ∷ 100 ∷ 103 ∷ 101 ∷ 32 ∷ (a ++ 32 ∷ b)) ++ 10 ∷ [])
+head_cut a b = ap (λ l. 112 ∷ 32 ∷ 101 ∷ 100 ∷ 103 ∷ 101 ∷ 32 ∷ (l ++ 10 ∷ [])) (append_assoc a (32 ∷ []) b)
 
-pub head_is : (g : PlainGraph) (n m : ℕ) (word one two : List ℕ) → word ≡ codes "p edge " → n ≡ set.len g.vertices → m ≡ set.len g.edges
-    → one ≡ word ++ (decimal n ++ 32 ∷ []) → two ≡ one ++ (decimal m ++ 10 ∷ []) → two ≡ problem_line g ++ 10 ∷ []
+-- the problem line, part by part
+pub head_is : (g : PlainGraph) (n m : ℕ) (word first spaced second text : List ℕ) → word ≡ codes "p edge " → n ≡ set.len g.vertices → m ≡ set.len g.edges
+    → first ≡ word ++ decimal n → spaced ≡ first ++ 32 ∷ [] → second ≡ spaced ++ decimal m → text ≡ second ++ 10 ∷ [] → text ≡ problem_line g ++ 10 ∷ []
 unfolding problem_line
-head_is g n m word one two is_word is_n is_m first second =
-    second ∙ ap (λ l. l ++ (decimal m ++ 10 ∷ [])) (first ∙ ap (λ l. l ++ (decimal n ++ 32 ∷ [])) is_word)
+head_is g n m word first spaced second text is_word is_n is_m is_first is_spaced is_second is_text =
+    is_text ∙ ap (λ l. l ++ 10 ∷ []) (is_second ∙ ap (λ l. l ++ decimal m) (is_spaced ∙ ap (λ l. l ++ 32 ∷ []) (is_first ∙ ap (λ l. l ++ decimal n) is_word)))
     ∙ head_cut (decimal n) (decimal m)
     ∙ (λ i. (112 ∷ 32 ∷ 101 ∷ 100 ∷ 103 ∷ 101 ∷ 32 ∷ (decimal (is_n i) ++ 32 ∷ decimal (is_m i))) ++ 10 ∷ [])
 

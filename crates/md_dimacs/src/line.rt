@@ -1,20 +1,5 @@
 //! One line of a DIMACS edge file.
-ghost use Rattle.std.specs.Prelude.{
-  ◌≡◌,
-  ◌≢◌,
-  ◌<◌,
-  ◌∷◌,
-  [],
-  length,
-  None,
-  Some,
-  IfSome,
-  IfNone,
-  IfOk,
-  IfErr,
-  OnOk,
-  IsTrue,
-};
+ghost use Rattle.std.specs.Prelude.{◌≡◌, ◌≢◌, ◌<◌, length, None, Some, IfOk, IfErr, OnOk, IsTrue};
 ghost use Rattle.md_text.specs.Fields.{fields};
 ghost use Rattle.md_dimacs.specs.Line.{
   class_of_field,
@@ -32,7 +17,7 @@ ghost use Rattle.md_dimacs.specs.File.{AreSizes};
 
 use crate::DimacsKind;
 use md_graph::NAMES;
-use md_text::{number, split_field};
+use md_text::{number, three_fields, two_fields};
 
 /// The class of a line, by its first field.
 #[derive(Clone, Copy)]
@@ -64,33 +49,6 @@ pub(crate) fn class_of(field: &[u8]) -> LineClass
         b'e' => LineClass::Edge,
         b'n' | b'd' | b'v' | b'x' => LineClass::Passed,
         _ => LineClass::Unknown,
-    }
-}
-
-// The fields of a text, if there are three.
-fn three_fields(text: &[u8]) -> Option<(&[u8], &[u8], &[u8])>
-    ensures fields { IfSome result (λ p. fields text.now ≡ p.0.now ∷ p.1.now ∷ p.2.now ∷ []) }
-    ensures other_count { IfNone result (length (fields text.now) ≢ 3) }
-{
-    let (first, text) = split_field(text)?;
-    let (second, text) = split_field(text)?;
-    let (third, text) = split_field(text)?;
-    match split_field(text) {
-        Some(_) => None,
-        None => Some((first, second, third)),
-    }
-}
-
-// The fields of a text, if there are two.
-fn two_fields(text: &[u8]) -> Option<(&[u8], &[u8])>
-    ensures fields { IfSome result (λ p. fields text.now ≡ p.0.now ∷ p.1.now ∷ []) }
-    ensures other_count { IfNone result (length (fields text.now) ≢ 2) }
-{
-    let (first, text) = split_field(text)?;
-    let (second, text) = split_field(text)?;
-    match split_field(text) {
-        Some(_) => None,
-        None => Some((first, second)),
     }
 }
 

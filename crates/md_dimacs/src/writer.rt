@@ -4,7 +4,6 @@ ghost use Rattle.std.specs.Prelude.{
   ℕ,
   ◌+◌,
   ◌*◌,
-  ◌^◌,
   ◌<◌,
   ◌≤◌,
   [],
@@ -17,16 +16,14 @@ ghost use Rattle.std.specs.Prelude.{
   IfOk,
   OnOk,
 };
-ghost use Rattle.md_graph.specs.NameSet.{Member};
-ghost use Rattle.md_text.specs.Numbers.{decimal};
-ghost use Rattle.md_dimacs.specs.Text.{dimacs_text, position, problem_line};
+ghost use Rattle.md_dimacs.specs.Text.{dimacs_text, problem_line};
 ghost use Rattle.md_text.specs.Pieces.{piece_text};
 ghost use Rattle.md_dimacs.specs.Places.{ArePlaces, line_start, row_text, edges_text};
 
 use crate::blocks::{bits_from, write_block};
 use crate::spelling::start_piece;
 use md_graph::{Graph, Memory, NAMES};
-use md_text::{Piece, number_piece, push_decimal};
+use md_text::{Piece, make_room, number_piece, push_number};
 use std::alloc::Global;
 
 // How many bytes of lines are gathered before they are appended to the text.
@@ -53,29 +50,13 @@ fn begin_text(alloc: Global, graph: &Graph) -> Result<Vec<u8>, Memory>
     ensures { IfOk result (λ text. text.items ≡ problem_line graph.now ++ 10 ∷ []) }
 {
     let edges = graph.edge_count();
-    let Ok(mut text) = Vec::with_capacity(alloc, edges as usize * 14 + 64) else {
-        return Err(Memory);
-    };
-    if text.extend_from_slice(b"p edge ").is_err() {
-        return Err(Memory);
-    }
-    push_number(&mut text, graph.count(), b' ')?;
-    push_number(&mut text, edges, b'\n')?;
+    let mut text = Vec::with_capacity(alloc, edges as usize * 14 + 64)?;
+    text.extend_from_slice(b"p edge ")?;
+    push_number(&mut text, u64::from(graph.count()))?;
+    text.push(b' ')?;
+    push_number(&mut text, u64::from(edges))?;
+    text.push(b'\n')?;
     Ok(text)
-}
-
-// Appends the digits of a number, and the byte `end`.
-fn push_number(text: &mut Vec<u8>, n: u32, end: u8) -> Result<(), Memory>
-    ensures { OnOk result (text.new.items ≡ text.old.items ++ (decimal n ++ end ∷ [])) }
-{
-    if text.reserve(10).is_err() {
-        return Err(Memory);
-    }
-    push_decimal(text, u64::from(n));
-    if text.push(end).is_err() {
-        return Err(Memory);
-    }
-    Ok(())
 }
 
 // The place of each vertex, with a line feed, at the index of the vertex.
@@ -83,9 +64,7 @@ fn spell_places(alloc: Global, graph: &Graph) -> Result<Vec<Piece>, Memory>
     ensures { IfOk result (λ places. ArePlaces graph.now places.items) }
 {
     let vertices = graph.vertices();
-    let Ok(mut places) = Vec::with_capacity(alloc, vertices.count() as usize + 1) else {
-        return Err(Memory);
-    };
+    let mut places = Vec::with_capacity(alloc, vertices.count() as usize + 1)?;
     let mut place = 0;
     for v in vertices.members() {
         place += 1;
@@ -101,9 +80,7 @@ fn fill_up(places: &mut Vec<Piece>, v: usize, piece: Piece) -> Result<(), Memory
     ensures items { OnOk result ((k : ℕ) × (places.new.items ≡ places.old.items ++ replicate k piece)) }
 {
     while places.len() <= v {
-        if places.push(piece).is_err() {
-            return Err(Memory);
-        }
+        places.push(piece)?;
     }
     Ok(())
 }
@@ -120,14 +97,12 @@ fn write_edges(graph: &Graph, places: &[Piece], text: &mut Vec<u8>) -> Result<()
         place += 1;
         at = write_row(graph, v, start_piece(place), places, &mut chunk, at, text)?;
     }
-    if text.extend_from_slice(&chunk[..at]).is_err() {
-        return Err(Memory);
-    }
+    text.extend_from_slice(&chunk[..at])?;
     Ok(())
 }
 
 // Writes the lines of the edges of v to the vertices above it behind the first `at` bytes of the chunk, and
-// says how many are then gathered there; a full chunk goes to the text.
+// says how many are then gathered there. A chunk with no room for 64 lines of 16 bytes goes to the text.
 fn write_row(
     graph: &Graph,
     v: u32,
@@ -151,21 +126,10 @@ fn write_row(
     let mut first = from / 64 * 64;
     let mut at = at;
     while (first as usize) < places.len() {
-        at = make_room(chunk, at, text)?;
+        at = make_room(chunk, at, 16 * 64, text)?;
         let bits = bits_from(row.block(first), first, from);
         at = write_block(first, bits, start, places, chunk, at);
         first += 64;
     }
     Ok(at)
-}
-
-// Appends the gathered bytes to the text if 64 lines might not fit behind them.
-fn make_room(chunk: &[u8], at: usize, text: &mut Vec<u8>) -> Result<usize, Memory>
-    requires chunk { length chunk.now ≡ CHUNK }
-    requires at { at ≤ CHUNK }
-    ensures room { IfOk result (λ after. after + 16 * 64 ≤ CHUNK) }
-    ensures same { IfOk result (λ after. text.new.items ++ take after chunk.now
-        ≡ text.old.items ++ take at chunk.now) }
-{
-    md_text::make_room(chunk, at, 16 * 64, text).map_err(|_| Memory)
 }

@@ -1,9 +1,10 @@
 -- Words that hold bits of a body.
-use Rattle.std.proofs.Common.{◌≡◌, ℕ, zero, suc, ◌+◌, ◌-◌, ◌*◌, ◌/◌, ◌%◌, ◌^◌, ◌<◌, ◌≤◌, Bool, true, false, ◌&&◌, eqb, ltb, List, length, get_or, rules, refl, sym, ap, ◌∙◌, arith, bit_and, bit_or, nat_lt, if◌then◌else◌, inl, inr, ◌⊎◌, ⊎_elim}
+use Rattle.std.proofs.Common.{◌≡◌, ℕ, ◌+◌, ◌-◌, ◌*◌, ◌/◌, ◌%◌, ◌^◌, ◌<◌, ◌≤◌, Bool, true, false, ◌&&◌, eqb, ltb, List, length, get_or, rules, refl, sym, ap, ◌∙◌, arith, bit_and, bit_or, nat_lt, if◌then◌else◌, ⊎_elim}
 use Rattle.std.specs.Int.{bit_at}
 use Rattle.std.proofs.lemmas.Nat.{shr-shr, shr_split, shr_below, shl_whole, or_comm, or_shifted, and_mask, one_shl, mul-add-lt, pow-add, pow_pos, mod_below}
 use Rattle.std.proofs.lemmas.Nat.Bits.{bit_at_or, bit_at_above, bit_at_cat_low, bit_at_cat_high, bit_at-zero}
 use Rattle.std.proofs.lemmas.Bool.{cases_lt, and_parts, eqb-true, ltb-true}
+use Rattle.md_graph.proofs.Transposing.{bit_at_shl, passes_below, from_passes}
 use Rattle.md_graph6.specs.declared.body.TheConstants.{TURNED}
 use Rattle.std.proofs.lemmas.List.{get_or_default}
 use Rattle.md_graph6.specs.Bits.{bit}
@@ -26,11 +27,6 @@ pub bit_at_shl_low : (n w k : ℕ) → k < w → bit_at (n * 2 ^ w) k ≡ 0
 bit_at_shl_low n w k h =
     let e : n * 2 ^ w ≡ n * 2 ^ w + 0 = omega arith in
     ap (λ x. bit_at x k) e ∙ bit_at_cat_low n w 0 k h ∙ bit_at-zero k
-
-pub bit_at_shl_high : (n w k : ℕ) → w ≤ k → bit_at (n * 2 ^ w) k ≡ bit_at n (k - w)
-bit_at_shl_high n w k h =
-    let e : n * 2 ^ w ≡ n * 2 ^ w + 0 = omega arith in
-    ap (λ x. bit_at x k) e ∙ bit_at_cat_high n w 0 k (pow_pos w) h
 
 -- the bits of `low` and those of `high` behind them
 pub join_window : (body : List ℕ) (place n next m whole low high : ℕ)
@@ -66,20 +62,19 @@ pub shifted_window : (body : List ℕ) (place next low high shift k : ℕ)
     → bit_at (bit_or (low / 2 ^ shift) (high * 2 ^ (60 - shift) % 2 ^ 64)) k ≡ bit body (place + shift + k)
 shifted_window body place next low high shift k first second follows small inside =
     let whole = bit_at_or (low / 2 ^ shift) (high * 2 ^ (60 - shift) % 2 ^ 64) k in
-    let second_bit = bit_at_mod (high * 2 ^ (60 - shift)) 64 k inside in
     ⊎_elim
     (λ (low_part : k < 60 - shift).
     let e : place + (shift + k) ≡ place + shift + k = omega arith in
     let first_bit : bit_at (low / 2 ^ shift) k ≡ bit body (place + shift + k) =
     ap (λ x. x % 2) (shr-shr low shift k) ∙ first.bits (shift + k) (omega arith) ∙ ap (bit body) e in
-    let no_bit = second_bit ∙ bit_at_shl_low high (60 - shift) k low_part in
+    let no_bit = bit_at_mod (high * 2 ^ (60 - shift)) 64 k inside ∙ bit_at_shl_low high (60 - shift) k low_part in
     omega (arith, whole, first_bit, no_bit))
     (λ (high_part : 60 - shift ≤ k).
     let e : next + (k - (60 - shift)) ≡ place + shift + k = omega arith in
     let split : 60 - shift + shift ≡ 60 = omega arith in
     let fits : low < 2 ^ (60 - shift + shift) = rw split first.below in
     let no_bit = bit_at_above (low / 2 ^ shift) (60 - shift) k (shr_below low (60 - shift) shift fits) high_part in
-    let its_bit = second_bit ∙ bit_at_shl_high high (60 - shift) k high_part ∙ second.bits (k - (60 - shift)) (omega arith) ∙ ap (bit body) e in
+    let its_bit = bit_at_shl high (60 - shift) k inside high_part ∙ second.bits (k - (60 - shift)) (omega arith) ∙ ap (bit body) e in
     omega (arith, whole, no_bit, its_bit))
     (cases_lt k (60 - shift))
 
@@ -108,20 +103,6 @@ pub read_group : (body : List ℕ) (at group : ℕ) → at < length body → gro
 read_group body at group inside small bits =
     let e : get_or body at 0 ≡ get_or body at 63 = get_or_default body at 0 63 inside in
     group_window body at group small (λ k h. bits k h ∙ ap (λ x. bit_at (x - 63) (5 - k)) e)
-
--- a test of the numbers below n, by computing
-abbrev pub passes_below : (ℕ → Bool) → ℕ → Bool
-passes_below p zero = true
-passes_below p (suc n) = p n && passes_below p n
-
-pub from_passes : (p : ℕ → Bool) (n : ℕ) → passes_below p n ≡ true → (k : ℕ) → k < n → p k ≡ true
-from_passes p zero passed k h = absurd (omega arith)
-from_passes p (suc n) passed k h =
-    let both = and_parts (p n) (passes_below p n) passed in
-    ⊎_elim (λ (e : k ≡ n). rw e both.0) (λ (less : k < n). from_passes p n both.1 k less) (last_or_below k n h)
-  where
-    last_or_below : (k n : ℕ) → k < suc n → (k ≡ n) ⊎ (k < n)
-    last_or_below k n h = ⊎_elim (λ (less : k < n). inr less) (λ (e : n ≤ k). inl (omega arith)) (cases_lt k n)
 
 -- whether number g of a table is g with its six bits turned round
 abbrev pub is_turned : List ℕ → ℕ → Bool

@@ -10,7 +10,7 @@ use Rattle.md_text.proofs.LineLemmas.{lines-ended, without_return-stays}
 use Rattle.md_graph6.specs.declared.fault.G6Fault.{G6Fault}
 use Rattle.md_graph6.specs.Line.{SpellsLine, line_fault, graph_of_line}
 use Rattle.md_graph6.specs.File.{without_header, file_lines, SpellEach, Spells, SpellsOnly, SpellsNone, fault_after, first_fault, graphs_of_lines, graphs_of}
-use Rattle.md_graph6.specs.Written.{renumbered}
+use Rattle.md_graph6.specs.Written.{renumbered, IsTextOf}
 use Rattle.md_graph6.specs.Laws.{SpelledOrFaulty, SpelledHasNoFault, GraphsAreGraphs, AllSpell, EndedLinesSpell, EndedLineSpells, TextSpells}
 use Rattle.md_graph6.proofs.SizeLemmas.{is_group-range}
 use Rattle.md_graph6.proofs.SpellLemmas.{spells-some, spells-sound, spells-graph, spells-groups, sound-spells}
@@ -153,3 +153,7 @@ ended_line_spells = λ line g spells. rw (← ended-one line) (ended_lines_spell
 
 pub text_spells : TextSpells
 text_spells = λ text g is. rw (is.ended) (ended_line_spells is.line (renumbered g) is.spells)
+
+-- what the text is as a file
+pub text_sound : {text : List ℕ} {g : PlainGraph} → IsTextOf text g → (first_fault text ≡ None) × (graphs_of text ≡ renumbered g ∷ [])
+text_sound {text} {g} is = spelled_has_no_fault text (renumbered g ∷ []) (text_spells text g is).spells

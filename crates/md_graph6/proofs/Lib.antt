@@ -1,4 +1,3 @@
-pub mod Limits
 pub mod PaddingLemmas
 pub mod LineLemmas
 pub mod ReadLemmas
@@ -12,5 +11,4 @@ pub mod FillLemmas
 pub mod Listed
 pub mod SizeText
 pub mod WriteLemmas
-pub mod TextLemmas
 pub mod ByteLemmas

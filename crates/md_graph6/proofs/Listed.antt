@@ -1,7 +1,6 @@
 -- The vertices of a graph, ascending, and a loop over them.
-use Rattle.std.proofs.Common.{◌≡◌, ℕ, zero, suc, ◌+◌, ◌-◌, ◌<◌, ◌≤◌, Bool, false, ◌&&◌, ◌||◌, ◌==◌, List, [], ◌∷◌, ◌++◌, length, get_or, drop, refl, sym, ap, ◌∙◌, arith, nat_lt, nat_le, if◌then◌else◌, inl, inr, length-drop, length-append}
-use Rattle.std.proofs.lemmas.List.{drop_more, get_or_push}
-use Rattle.std.proofs.Math.ListN.{get_or-append}
+use Rattle.std.proofs.Common.{◌≡◌, ℕ, zero, suc, ◌+◌, ◌-◌, ◌<◌, ◌≤◌, Bool, false, ◌&&◌, ◌||◌, ◌==◌, List, [], ◌∷◌, length, get_or, drop, refl, sym, ap, ◌∙◌, arith, nat_lt, nat_le, inl, inr, length-drop, length-append}
+use Rattle.std.proofs.lemmas.List.{drop_more, length_push}
 use Rattle.std.proofs.lemmas.Bool.{cases_Bool, cases_lt, cases_eq}
 use Rattle.std.proofs.lemmas.Bool.Decides.{nat_tests}
 use Rattle.md_graph.proofs.SetLaws.{contains-empty}
@@ -36,38 +35,15 @@ at_end {items} {rest} {i} at_i e =
 
 -- ---- ascending lists
 
-list_push : (xs : List ℕ) (n : ℕ) → length (xs ++ n ∷ []) ≡ length xs + 1
-list_push xs n = length-append xs (n ∷ [])
-
 pub length_ascending : (s : NameSet) (low n : ℕ) → length (ascending_between s low n) ≤ n
 unfolding ascending_between
 length_ascending s low zero = omega arith
 length_ascending s low (suc n) =
     let before = length_ascending s low n in
     elim (cases_Bool (nat_le low n && set.contains s n)) [
-      | inl t ↦ rw (t, list_push (ascending_between s low n) n) (omega arith)
+      | inl t ↦ rw (t, length_push (ascending_between s low n) n) (omega arith)
       | inr f ↦ rw (f, length-append (ascending_between s low n) []) (omega arith)
     ]
-
-pub ascending_each : (s : NameSet) (low n i : ℕ) → i < length (ascending_between s low n) → get_or (ascending_between s low n) i 0 < n
-unfolding ascending_between
-ascending_each s low zero i inside = absurd (omega arith)
-ascending_each s low (suc n) i inside =
-    elim (cases_lt i (length (ascending_between s low n))) [
-      | inl earlier ↦ rw (get_or-append (ascending_between s low n) (if nat_le low n && set.contains s n then n ∷ [] else []) 0 i earlier) (omega (arith, ascending_each s low n i earlier))
-      | inr last ↦ elim (cases_Bool (nat_le low n && set.contains s n)) [
-        | inl t ↦
-            let at_end : length (ascending_between s low n) ≡ i = pushed_at i last (rw t at inside) in
-            rw (t, get_or_push (ascending_between s low n) n 0 i at_end) (omega arith)
-        | inr f ↦ absurd (no_more i last (rw f at inside))
-      ]
-    ]
-  where
-    pushed_at : (i : ℕ) → length (ascending_between s low n) ≤ i → i < length (ascending_between s low n ++ n ∷ []) → length (ascending_between s low n) ≡ i
-    pushed_at i last inside = omega (arith, list_push (ascending_between s low n) n)
-
-    no_more : (i : ℕ) → length (ascending_between s low n) ≤ i → i < length (ascending_between s low n ++ []) → ⊥
-    no_more i last inside = omega (arith, length-append (ascending_between s low n) [])
 
 -- ---- the loops of the writer
 

@@ -1,6 +1,7 @@
 -- The padding of a body stands in its last byte.
-use Rattle.std.proofs.Common.{◌≡◌, ℕ, zero, suc, ◌+◌, ◌-◌, ◌*◌, ◌/◌, ◌%◌, ◌^◌, ◌<◌, ◌≤◌, ◌==◌, ◌||◌, Bool, true, false, not, List, length, get_or, ◌⊎◌, inl, inr, refl, sym, ◌∙◌, arith, add-one, add_comm}
+use Rattle.std.proofs.Common.{◌≡◌, ℕ, zero, suc, ◌+◌, ◌-◌, ◌*◌, ◌/◌, ◌%◌, ◌^◌, ◌<◌, ◌≤◌, ◌==◌, ◌||◌, false, not, List, length, get_or, ◌⊎◌, inl, inr, refl, sym, ◌∙◌, arith, add-one, add_comm}
 use Rattle.std.specs.Int.{bit_at}
+use Rattle.std.proofs.lemmas.Bool.{or_parts}
 use Rattle.std.proofs.lemmas.Bool.Decides.{nat_tests, eqb_tells}
 use Rattle.std.proofs.lemmas.Nat.{mod-pow-add}
 use Rattle.std.proofs.lemmas.Nat.Bits.{bit_at-lt}
@@ -70,11 +71,6 @@ is_padding_set-shift body n pairs e some is =
     let inside : length body - 1 < length body = omega arith in
     rw (width, shifted (6 * length body - pair_count n) (omega arith), get_or_default body (length body - 1) 0 63)
     (sym (is_padding_set-last body n e))
-
--- an "or" that is false
-or_parts : (a b : Bool) → (a || b) ≡ false → (a ≡ false) × (b ≡ false)
-or_parts true b e = cc
-or_parts false b e = (refl, e)
 
 -- a bit is 0 or 1
 bit-zero : (b : ℕ) → b < 2 → (b == 1) ≡ false → b ≡ 0

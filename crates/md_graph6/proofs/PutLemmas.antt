@@ -1,16 +1,14 @@
 -- Bytes of a body set to bits of a word.
-use Rattle.std.proofs.Common.{◌≡◌, ℕ, ◌+◌, ◌-◌, ◌*◌, ◌/◌, ◌%◌, ◌^◌, ◌<◌, ◌≤◌, true, false, List, length, get_or, refl, sym, ap, ◌∙◌, arith, rules, max, bit_and, bit_or, nat_lt, if◌then◌else◌, inl, inr, ⊎_elim}
+use Rattle.std.proofs.Common.{◌≡◌, ℕ, ◌+◌, ◌-◌, ◌*◌, ◌/◌, ◌%◌, ◌^◌, ◌<◌, ◌≤◌, true, false, List, length, get_or, refl, sym, ap, ◌∙◌, arith, rules, add_comm, max, bit_and, bit_or, nat_lt, if◌then◌else◌, inl, inr, ⊎_elim}
 use Rattle.std.specs.Int.{bit_at}
-use Rattle.std.proofs.lemmas.Nat.{shr-shr, and_mask, mod_below, pow_pos}
+use Rattle.std.proofs.lemmas.Nat.{and_mask, mod_below, pow_pos}
 use Rattle.std.proofs.lemmas.List.{get_or_past, get_or_default}
 use Rattle.std.proofs.lemmas.Nat.Bits.{bit_at_or, bit_at_above, bit_at_cat_low, bit_at_cat_high, bit_at-zero}
 use Rattle.std.proofs.lemmas.Bool.{cases_lt}
+use Rattle.md_graph.proofs.Transposing.{bit_at_shl, bit_at_shr}
 use Rattle.md_graph6.specs.Bits.{bit}
 use Rattle.md_graph6.specs.Window.{AreGroups, IsPut}
-use Rattle.md_graph6.proofs.BitLemmas.{bit_at_mod, bit_at_shl_low, bit_at_shl_high}
-
-pub bit_at_shr : (n s i : ℕ) → bit_at (n / 2 ^ s) i ≡ bit_at n (s + i)
-bit_at_shr n s i = ap (λ x. x % 2) (shr-shr n s i)
+use Rattle.md_graph6.proofs.BitLemmas.{bit_at_mod, bit_at_shl_low}
 
 -- the lowest six bits
 pub six_below : (bits : ℕ) → bit_and bits 63 < 64
@@ -57,7 +55,7 @@ pub put_two_more : (old mid new : List ℕ) (at n next whole bits : ℕ)
     → IsPut old mid at n bits → IsPut mid new next 2 (bits / 2 ^ (6 * n)) → next ≡ at + n → whole ≡ n + 2
     → IsPut old new at whole bits
 put_two_more old mid new at n next whole bits first second follows sum =
-    put_more old mid new at n next 2 whole _ _ bits first second follows sum (λ i h. refl) (λ i h. bit_at_shr bits (6 * n) i)
+    put_more old mid new at n next 2 whole _ _ bits first second follows sum (λ i h. refl) (λ i h. bit_at_shr bits (6 * n) i ∙ ap (bit_at bits) (add_comm i (6 * n)))
 
 -- sixty bits and twelve
 pub put_twelve : (old mid new : List ℕ) (at low high : ℕ)
@@ -113,27 +111,26 @@ put_end old new none twelve at word same are put inside end long room before fro
 abbrev pub placed : ℕ → ℕ → ℕ → ℕ
 placed there bits shift = bits / 2 ^ (60 - shift) * 2 ^ 60 + bit_or there (bits * 2 ^ shift % 2 ^ 64) % 2 ^ 60
 
-placed_low : (there bits shift i : ℕ) → i < 60 → bit_at (placed there bits shift) i ≡ max (bit_at there i) (bit_at (bits * 2 ^ shift) i)
+placed_low : (there bits shift i : ℕ) → i < 60 → bit_at (placed there bits shift) i ≡ max (bit_at there i) (bit_at (bits * 2 ^ shift % 2 ^ 64) i)
 placed_low there bits shift i h =
     bit_at_cat_low (bits / 2 ^ (60 - shift)) 60 (bit_or there (bits * 2 ^ shift % 2 ^ 64) % 2 ^ 60) i h
     ∙ bit_at_mod (bit_or there (bits * 2 ^ shift % 2 ^ 64)) 60 i h
     ∙ bit_at_or there (bits * 2 ^ shift % 2 ^ 64) i
-    ∙ ap (max (bit_at there i)) (bit_at_mod (bits * 2 ^ shift) 64 i (omega arith))
 
 pub placed_before : (there bits shift i : ℕ) → shift < 6 → i < shift → bit_at (placed there bits shift) i ≡ bit_at there i
 placed_before there bits shift i small h =
     let e = placed_low there bits shift i (omega arith) in
-    let f = bit_at_shl_low bits shift i h in
+    let f = bit_at_mod (bits * 2 ^ shift) 64 i (omega arith) ∙ bit_at_shl_low bits shift i h in
     omega (arith, e, f)
 
 pub placed_from : (there bits shift i : ℕ) → shift < 6 → shift ≤ i → bit_at there i ≡ 0 → bit_at (placed there bits shift) i ≡ bit_at bits (i - shift)
 placed_from there bits shift i small h none = ⊎_elim
     (λ (low : i < 60).
     let e = placed_low there bits shift i low in
-    let f = bit_at_shl_high bits shift i h in
+    let f = bit_at_shl bits shift i (omega arith) h in
     omega (arith, e, f, none))
     (λ (high : 60 ≤ i).
-    let e : 60 - shift + (i - 60) ≡ i - shift = omega arith in
+    let e : i - 60 + (60 - shift) ≡ i - shift = omega arith in
     bit_at_cat_high (bits / 2 ^ (60 - shift)) 60 (bit_or there (bits * 2 ^ shift % 2 ^ 64) % 2 ^ 60) i (mod_below _ (2 ^ 60) (pow_pos 60)) high
     ∙ bit_at_shr bits (60 - shift) (i - 60)
     ∙ ap (bit_at bits) e)

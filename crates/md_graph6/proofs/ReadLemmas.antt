@@ -1,9 +1,10 @@
 -- How a reader goes through the lines of a file.
 use Rattle.std.proofs.Common.{◌≡◌, ℕ, ◌+◌, ◌<◌, ◌≤◌, ◌==◌, Bool, true, false, not, Option, List, [], ◌∷◌, length, if◌then◌else◌, None, Some, inl, inr, refl, sym, ap, ◌∙◌, arith}
 use mir.Val.{bool_byte}
+use Rattle.std.proofs.lemmas.Bool.{eq-eqb}
 use Rattle.std.proofs.lemmas.Bool.Decides.{eqb_tells}
 use Rattle.md_text.specs.Lines.{lines, without_return}
-use Rattle.md_text.proofs.LineLemmas.{lines-nil}
+use Rattle.md_text.proofs.LineLemmas.{no_lines}
 use Rattle.md_graph6.specs.declared.fault.G6Fault.{G6Fault}
 use Rattle.md_graph6.specs.declared.fault.G6Kind.{G6Kind}
 use Rattle.md_graph6.specs.Line.{line_fault, graph_of_line}
@@ -11,8 +12,7 @@ use Rattle.md_graph6.specs.File.{stripped_lines, fault_after, fault_or, HasNoFau
 
 -- a text without bytes has no lines
 stripped_lines-empty : (text : List ℕ) → length text ≡ 0 → stripped_lines text ≡ []
-stripped_lines-empty [] none = rw lines-nil refl
-stripped_lines-empty (byte ∷ rest) none = absurd (omega arith)
+stripped_lines-empty text none = rw (no_lines text (eq-eqb (length text) 0 none)) refl
 
 -- the first line and the others
 pub stripped_lines-cut : (text line rest : List ℕ) → lines text ≡ line ∷ lines rest

@@ -1,8 +1,8 @@
 -- The spelling of a size, and how it is read.
-use Rattle.std.proofs.Common.{◌≡◌, ◌≢◌, ℕ, suc, ◌+◌, ◌-◌, ◌*◌, ◌/◌, ◌%◌, ◌<◌, ◌≤◌, true, false, nat_lt, List, [], ◌∷◌, ◌++◌, length, get_or, unwrap_or, drop, Option, None, Some, ◌⊎◌, inl, inr, refl, sym, ap, ◌∙◌, arith}
+use Rattle.std.proofs.Common.{◌≡◌, ◌≢◌, ℕ, suc, ◌+◌, ◌-◌, ◌*◌, ◌/◌, ◌%◌, ◌<◌, ◌≤◌, true, false, List, [], ◌∷◌, ◌++◌, length, get_or, unwrap_or, drop, Option, None, Some, ◌⊎◌, inl, inr, refl, sym, ap, ◌∙◌, arith}
 use Rattle.std.specs.List.{AllPass, list_all}
 use Rattle.std.proofs.lemmas.Bool.Decides.{nat_tests, eqb_tells}
-use Rattle.std.proofs.lemmas.Bool.{ne_eqb}
+use Rattle.std.proofs.lemmas.Bool.{le-ltb, lt-ltb, ne_eqb}
 use Rattle.md_graph6.specs.Size.{size_text, size_of, is_too_long, eighteen_bits, most_in_four_bytes}
 use Rattle.md_graph6.specs.Line.{is_group}
 
@@ -33,31 +33,24 @@ pub size_of-one : (byte : ℕ) (rest : List ℕ) → byte ≢ 126 → size_of (b
 unfolding size_of
 size_of-one byte rest other = rw (ne_eqb byte 126 other) refl
 
--- tests of numbers
-at_least : (a b : ℕ) → b ≤ a → nat_lt a b ≡ false
-at_least a b h = grind (arith, nat_tests)
-
-below : (a b : ℕ) → a < b → nat_lt a b ≡ true
-below a b h = grind (arith, nat_tests)
-
 -- four bytes are read
 pub size_of-four : (a b c : ℕ) (rest : List ℕ) → a ≢ 126
     → size_of (126 ∷ a ∷ b ∷ c ∷ rest) ≡ Some (4, ((a - 63) * 64 + (b - 63)) * 64 + (c - 63))
 unfolding size_of
 size_of-four a b c rest other =
     let long : 4 ≤ suc (suc (suc (suc (length rest)))) = omega arith in
-    rw (at_least (suc (suc (suc (suc (length rest))))) 4 long, ne_eqb a 126 other) refl
+    rw (le-ltb (suc (suc (suc (suc (length rest))))) 4 long, ne_eqb a 126 other) refl
 
 -- eight bytes are read
 size_of-eight : (line : List ℕ) → get_or line 0 0 ≡ 126 → get_or line 1 0 ≡ 126 → 8 ≤ length line
     → size_of line ≡ Some (8, eighteen_bits line 2 * 262144 + eighteen_bits line 5)
 unfolding size_of
-size_of-eight line first second long = rw (first, second, at_least (length line) 4 (omega arith), at_least (length line) 8 long) refl
+size_of-eight line first second long = rw (first, second, le-ltb (length line) 4 (omega arith), le-ltb (length line) 8 long) refl
 
 -- a size that isn't all there
 size_of-short : (line : List ℕ) → get_or line 0 0 ≡ 126 → length line < 4 → size_of line ≡ None
 unfolding size_of
-size_of-short line first short = rw (first, below (length line) 4 short) refl
+size_of-short line first short = rw (first, lt-ltb (length line) 4 short) refl
 
 size_of-long_short : (line : List ℕ) → get_or line 0 0 ≡ 126 → get_or line 1 0 ≡ 126 → length line < 8
     → size_of line ≡ None

@@ -1,36 +1,22 @@
 -- The size that begins a line, as it is written, and how long a line is.
-use Rattle.std.proofs.Common.{◌≡◌, ℕ, ◌+◌, ◌-◌, ◌*◌, ◌/◌, ◌%◌, ◌<◌, ◌≤◌, true, false, List, [], ◌∷◌, ◌++◌, length, refl, ap, ◌∙◌, arith, nat_le, append_assoc, inl, inr}
+use Rattle.std.proofs.Common.{◌≡◌, ℕ, ◌-◌, ◌*◌, ◌<◌, ◌≤◌, List, [], ◌∷◌, ◌++◌, length, ap, ◌∙◌, arith, append_assoc, inl, inr}
 use Rattle.std.proofs.lemmas.Bool.{cases_lt}
-use Rattle.std.proofs.lemmas.Bool.Decides.{nat_tests}
 use Rattle.std.proofs.lemmas.Nat.{mul-le}
 use Rattle.md_graph.specs.declared.TheConstants.{NAMES}
 use Rattle.md_graph6.specs.Bits.{body_length}
 use Rattle.md_graph6.specs.Size.{size_text}
-use Rattle.md_graph6.proofs.Limits.{names_fit}
-
--- one byte
-pub size_text-short : (n : ℕ) → n ≤ 62 → size_text n ≡ (n + 63) ∷ []
-unfolding size_text
-size_text-short n few = let t : nat_le n 62 ≡ true = grind (arith, nat_tests) in rw t refl
-
--- four bytes
-pub size_text-long : (n : ℕ) → 62 < n → n ≤ 258047
-    → size_text n ≡ 126 ∷ (n / 64 / 64 % 64 + 63) ∷ (n / 64 % 64 + 63) ∷ (n % 64 + 63) ∷ []
-unfolding size_text
-size_text-long n many few =
-    let f : nat_le n 62 ≡ false = grind (arith, nat_tests) in
-    let t : nat_le n 258047 ≡ true = grind (arith, nat_tests) in
-    rw (f, t) refl
+use Rattle.md_graph6.proofs.SizeLemmas.{size_text-one, size_text-four}
+use Rattle.md_graph.proofs.Limits.{NAMES-lt}
 
 pub length-size_short : (n : ℕ) → n ≤ 62 → length (size_text n) ≡ 1
-length-size_short n few = ap length (size_text-short n few)
+length-size_short n few = ap length (size_text-one n few)
 
 pub length-size_long : (n : ℕ) → 62 < n → n ≤ NAMES → length (size_text n) ≡ 4
-length-size_long n many few = ap length (size_text-long n many (omega (arith, names_fit)))
+length-size_long n many few = ap length (size_text-four n many (omega (arith, NAMES-lt)))
 
 pub body_fits : (n : ℕ) → n ≤ NAMES → body_length n < 4294967296
 body_fits n few =
-    let product : n * (n - 1) ≤ 65536 * 65536 = mul-le n (n - 1) 65536 65536 (omega (arith, names_fit)) (omega (arith, names_fit)) in
+    let product : n * (n - 1) ≤ 65536 * 65536 = mul-le n (n - 1) 65536 65536 (omega (arith, NAMES-lt)) (omega (arith, NAMES-lt)) in
     omega (arith, product)
 
 pub length-size_below : (n : ℕ) → n ≤ NAMES → length (size_text n) ≤ 4

@@ -1,8 +1,9 @@
 -- What a line spells: a line without fault spells one graph, and a line that spells one has no fault.
-use Rattle.std.proofs.Common.{◌≡◌, ℕ, ◌+◌, ◌-◌, ◌*◌, ◌<◌, ◌≤◌, true, false, List, [], ◌∷◌, ◌++◌, length, get_or, take, drop, None, Some, refl, sym, ap, ◌∙◌, arith, length-append, length-drop}
+use Rattle.std.proofs.Common.{◌≡◌, ℕ, ◌+◌, ◌-◌, ◌*◌, ◌<◌, ◌≤◌, true, false, List, ◌++◌, length, get_or, take, drop, None, Some, refl, sym, ap, ◌∙◌, arith, length-append, length-drop}
 use Rattle.std.specs.List.{list_all, AllPass}
 use Rattle.std.proofs.lemmas.Bool.Decides.{nat_tests}
 use Rattle.std.proofs.lemmas.List.Sums.{list_all-from_AllPass, AllPass-from_list_all}
+use Rattle.std.proofs.Math.Seq.{drop-append_seam}
 use Rattle.std.proofs.lemmas.List.{take_rest}
 use Rattle.std.proofs.lemmas.List.Elements.{All-drop}
 use Rattle.std.proofs.lemmas.List.Folds.{list_all-append}
@@ -11,7 +12,7 @@ use Rattle.md_graph.specs.PlainGraph.{PlainGraph}
 use Rattle.md_graph6.specs.Bits.{bit, body_length, IsBodyOf}
 use Rattle.md_graph6.specs.Size.{size_text, size_of, most_in_four_bytes}
 use Rattle.md_graph6.specs.Line.{SpellsLine, is_group, begins_other, pair_count, line_fault, size_fault, body_fault, graph_of_body, graph_of_sized, graph_of_line}
-use Rattle.md_graph6.proofs.Limits.{names_fit}
+use Rattle.md_graph.proofs.Limits.{NAMES-lt}
 use Rattle.md_graph6.proofs.SizeLemmas.{is_group-range, size_text-read, size_text-shortest, size_text-groups, size_text-some, size_text-spelt}
 use Rattle.md_graph6.proofs.PaddingLemmas.{padding-none, padding-all}
 use Rattle.md_graph6.proofs.DecodeLemmas.{decoded_is_body, IsBodyOf-one}
@@ -19,7 +20,7 @@ use Rattle.md_graph6.proofs.LineLemmas.{IsSoundBody, IsSoundLine, line_fault-siz
 
 -- a name's size takes at most four bytes
 name_size : (n : ℕ) → n ≤ NAMES → n ≤ most_in_four_bytes
-name_size n few = let fits : NAMES ≤ 65536 = names_fit in omega arith
+name_size n few = let fits = NAMES-lt in omega arith
 
 -- a byte of six bits begins no line of another format
 group-begins : (byte : ℕ) → is_group byte ≡ true → begins_other byte ≡ false
@@ -27,11 +28,6 @@ group-begins byte group = let range : (63 ≤ byte) × (byte ≤ 126) = is_group
 
 line_begins : (line : List ℕ) → 0 < length line → list_all is_group line ≡ true → begins_other (get_or line 0 0) ≡ false
 line_begins line some groups = group-begins (get_or line 0 0) (AllPass-from_list_all is_group line groups 0 0 some)
-
--- what stands behind the size
-behind_size : (front back : List ℕ) → drop (length front) (front ++ back) ≡ back
-behind_size [] back = refl
-behind_size (byte ∷ front) back = behind_size front back
 
 -- the line of a size and its body has a sound body
 text_is_sound : (n : ℕ) (body : List ℕ) → n ≤ NAMES → length body ≡ body_length n
@@ -41,7 +37,7 @@ text_is_sound n body few long blank = record {
   shortest = size_text-shortest n (name_size n few);
   few = few;
   long = length-append (size_text n) body ∙ ap (λ k. length (size_text n) + k) long;
-  padding = rw (behind_size (size_text n) body) (padding-none body n blank);
+  padding = rw (drop-append_seam (size_text n) body) (padding-none body n blank);
 }
 
 text_groups : (n : ℕ) (body : List ℕ) → n ≤ NAMES → AllPass is_group body
@@ -65,7 +61,7 @@ text_graph : (n : ℕ) (body : List ℕ) (g : PlainGraph) → n ≤ NAMES → Is
     → graph_of_line (size_text n ++ body) ≡ g
 unfolding graph_of_sized
 text_graph n body g few bits =
-    rw (size_text-read n body (name_size n few), behind_size (size_text n) body)
+    rw (size_text-read n body (name_size n few), drop-append_seam (size_text n) body)
     (IsBodyOf-one body n (graph_of_body body n) g (decoded_is_body body n few) bits)
 
 -- a line that spells a graph has no fault, and is decoded to that graph

@@ -1,8 +1,8 @@
 -- The columns of a body, written one after the other.
-use Rattle.std.proofs.Common.{◌≡◌, ℕ, zero, suc, ◌+◌, ◌-◌, ◌*◌, ◌/◌, ◌%◌, ◌^◌, ◌<◌, ◌≤◌, Bool, true, false, ◌&&◌, ◌==◌, List, ◌++◌, IsTrue, take, drop, length-append, length, get_or, replicate, refl, sym, ap, ◌∙◌, subst, arith, nat_lt, if◌then◌else◌, inl, inr}
+use Rattle.std.proofs.Common.{◌≡◌, ℕ, zero, suc, ◌+◌, ◌-◌, ◌*◌, ◌/◌, ◌^◌, ◌<◌, ◌≤◌, Bool, true, false, ◌&&◌, ◌==◌, List, ◌++◌, IsTrue, take, drop, length-append, length, replicate, refl, sym, ap, ◌∙◌, subst, arith, nat_lt, if◌then◌else◌, inl, inr}
 use Rattle.std.specs.Int.{bit_at}
-use Rattle.std.proofs.lemmas.Nat.Bits.{bit_at_above, bit_at-lt, bit_at-zero}
-use Rattle.std.proofs.lemmas.Bool.{cases_Bool, cases_lt, eqb-true, ltb-true, lt-ltb, and_parts}
+use Rattle.std.proofs.lemmas.Nat.Bits.{bit_at_above, bit_at-lt}
+use Rattle.std.proofs.lemmas.Bool.{cases_Bool, cases_lt, eqb-true, ltb-true, lt-ltb, le-ltb, and_parts}
 use Rattle.std.proofs.lemmas.List.{take-append-drop, get_or_default, length-replicate, length-drop}
 use Rattle.std.proofs.Math.Seq.{take-append_seam}
 use Rattle.std.specs.List.{AllPass}
@@ -120,23 +120,6 @@ pair_before a b j up less =
     let here : pair_number a b < pair_number b b = omega arith in
     omega (arith, next, mono, here)
 
--- ---- a body of zeros
-
-pub zeros_each : (n k : ℕ) → ◌≡◌ {A = ℕ} (get_or (replicate n 63) k 63) 63
-zeros_each zero k = refl
-zeros_each (suc n) zero = refl
-zeros_each (suc n) (suc k) = zeros_each n k
-
-pub zeros_bit : (n k : ℕ) → bit (replicate n 63) k ≡ 0
-zeros_bit n k = rw (zeros_each n (k / 6)) (bit_at-zero (5 - k % 6))
-
-pub IsWritten-zeros : (g : PlainGraph) (n : ℕ) → IsWritten (replicate n 63) g 0
-IsWritten-zeros g n = record {
-  groups = record { low = λ k h. rw (zeros_each n k) (omega arith); high = λ k h. rw (zeros_each n k) (omega arith) };
-  bits = λ i j up none. absurd (omega arith);
-  blank = λ k h. zeros_bit n k;
-}
-
 -- one column more
 pub IsWritten-more : {old new : List ℕ} {g : PlainGraph} {j : ℕ} (column : NameSet) → IsWritten old g j → AreGroups new
     → ((k : ℕ) → k < pair_number 0 j → bit new k ≡ bit old k)
@@ -155,12 +138,9 @@ IsWritten-more {old} {new} {g} {j} column written groups before here is = record
   blank = λ k past.
       let next = pair_next j in
       let e : k ≡ pair_number (k - pair_number 0 j) j = omega (arith, next) in
-      let f : nat_lt (k - pair_number 0 j) j ≡ false = nat_lt_no (k - pair_number 0 j) j (omega (arith, next)) in
+      let f : nat_lt (k - pair_number 0 j) j ≡ false = le-ltb (k - pair_number 0 j) j (omega (arith, next)) in
       ap (bit new) e ∙ here (k - pair_number 0 j) ∙ rw f refl;
 }
-  where
-    nat_lt_no : (x y : ℕ) → y ≤ x → nat_lt x y ≡ false
-    nat_lt_no x y h = grind (arith, nat_tests)
 
 -- ---- the columns of a graph
 

@@ -2,8 +2,7 @@
 ghost use Rattle.std.specs.Prelude.{None, [], ◌∷◌, IfOk, ◌++◌, true, vec_len, vec_capacity, replicate, take, drop, ◌≡◌, ℕ, ◌+◌, ◌-◌, ◌*◌, ◌/◌, ◌%◌, ◌^◌, ◌<◌, ◌≤◌, ◌==◌, ◌&&◌, ◌||◌, nat_lt, length, get_or, if◌then◌else◌};
 ghost use Rattle.std.specs.Int.{bit_at};
 ghost use Rattle.std.specs.FinSet as set;
-ghost use Rattle.md_graph.specs.NameSet.{Member, ascending};
-ghost use Rattle.md_graph.specs.PlainGraph.{adjacent, IsGraph};
+ghost use Rattle.md_graph.specs.NameSet.{ascending};
 ghost use Rattle.md_graph6.specs.Bits.{bit, pair_number, body_length};
 ghost use Rattle.md_graph6.specs.Size.{size_text};
 ghost use Rattle.md_graph6.specs.File.{SpellsOnly, first_fault, graphs_of};
@@ -286,13 +285,9 @@ fn blank_line(alloc: Global, n: u32, size: usize) -> Result<Vec<u8>, Memory>
     ensures room { IfOk result (λ text. vec_len text < vec_capacity text) }
 {
     let end = size + body_length(n);
-    let Ok(mut text) = Vec::with_capacity(alloc, end + 1) else {
-        return Err(Memory);
-    };
+    let mut text = Vec::with_capacity(alloc, end + 1)?;
     push_size(&mut text, n);
-    if text.resize(end, NO_BITS).is_err() {
-        return Err(Memory);
-    }
+    text.resize(end, NO_BITS)?;
     Ok(text)
 }
 

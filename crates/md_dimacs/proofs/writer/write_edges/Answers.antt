@@ -1,9 +1,8 @@
-use Rattle.std.proofs.Common.{arith, ap, sym, ◌∙◌, ◌+◌, ◌++◌}
+use Rattle.std.proofs.Common.{arith, ap, ◌∙◌, ◌+◌, ◌++◌}
 use Rattle.std.proofs.lemmas.List.{append-nil}
 use Rattle.md_graph.specs.NameSet.{ascending}
 use Rattle.md_text.specs.Pieces.{piece_text}
 use Rattle.md_dimacs.proofs.AscendingLemmas.{coming_all, next_up, place_small, position_is}
-use Rattle.md_dimacs.proofs.PieceLemmas.{if_ok}
 use Rattle.md_dimacs.proofs.TextLemmas.{rows_lines, edges_text_is, start_is, rows_step, rows_end}
 use Rattle.md_dimacs.proofs.writer.write_edges.Goals as goal
 
@@ -27,7 +26,7 @@ start_piece-requires c =
 
 pub write_row-requires-clause-name : goal.write_row-requires-clause-name
 write_row-requires-clause-name c =
-    (next_up c.args.graph.now.vertices c.loop-v.invariant.coming.0 c.loop-v.place _ c.in-Some.v _ c.loop-v.invariant.coming.1 c.in-Some.ensures.steps).name
+    (next_up c.args.graph.now.vertices c.loop-v.invariant.coming.0 c.loop-v.place _ c.in-Some.v _ c.loop-v.invariant.coming.1 c.in-Some.ensures.steps).item.below
 
 pub write_row-requires-clause-start : goal.write_row-requires-clause-start
 write_row-requires-clause-start c =
@@ -45,5 +44,4 @@ loop-v-preserved c =
 
 pub returns : goal.returns
 returns c =
-    let items = if_ok c.extend_from_slice.result _ _ _ (sym c.is_err.ensures.value ∙ c.if-is_err.false) c.extend_from_slice.ensures.items in
-    items ∙ rows_end c.args.graph.now _ _ _ c.loop-v.invariant.written c.in-None.ensures.steps.0
+    c.in_ok-extend_from_slice.ensures.items ∙ rows_end c.args.graph.now _ _ _ c.loop-v.invariant.written c.in-None.ensures.steps.0

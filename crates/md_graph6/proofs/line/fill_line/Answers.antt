@@ -3,7 +3,7 @@ use Rattle.std.proofs.lemmas.List.{take_rest}
 use Rattle.std.proofs.lemmas.List.Elements.{All-drop}
 use Rattle.md_graph.specs.declared.TheConstants.{NAMES}
 use Rattle.md_graph6.specs.Line.{is_group}
-use Rattle.md_graph6.proofs.Limits.{names_fit}
+use Rattle.md_graph.proofs.Limits.{NAMES-lt}
 use Rattle.md_graph6.proofs.LineLemmas.{IsSoundBody}
 use Rattle.md_graph6.proofs.SpellLemmas.{sound_line-sized, sound_line-groups, sound_line-body, filled_is_line}
 use Rattle.md_graph6.proofs.line.fill_line.Goals as goal
@@ -20,7 +20,7 @@ overflow_cast-n c =
     let body : IsSoundBody c.args.line.now c.in-Some.taken c.in-Some.n =
     sound_line-body _ _ _ c.requires.some c.requires.sound (sym c.size.ensures.value ∙ c.in-Some.is) in
     let few : c.in-Some.n ≤ NAMES = body.few in
-    let fits : NAMES ≤ 65536 = names_fit in
+    let fits = NAMES-lt in
     omega arith
 
 pub slice_bounds-fill-count : goal.slice_bounds-fill-count

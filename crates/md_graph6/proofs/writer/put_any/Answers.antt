@@ -2,8 +2,9 @@ use Rattle.std.proofs.Common.{◌+◌, length, arith, ◌∙◌, ap, subst}
 use Rattle.md_graph.specs.declared.TheConstants.{NAMES}
 use Rattle.md_graph.specs.NameSet.{ascending}
 use Rattle.md_graph6.specs.Written.{IsWritten}
-use Rattle.md_graph6.proofs.Limits.{names_fit}
-use Rattle.md_graph6.proofs.Listed.{at_start, at_turn, at_end, length_ascending, ascending_each}
+use Rattle.md_graph.proofs.Limits.{NAMES-lt}
+use Rattle.md_graph.proofs.NameLemmas.{ascending_items}
+use Rattle.md_graph6.proofs.Listed.{at_start, at_turn, at_end, length_ascending}
 use Rattle.md_graph6.proofs.WriteLemmas.{IsWritten-more, gathered_column, pair_next, pair_mono}
 use Rattle.md_graph6.proofs.writer.put_any.Goals as goal
 
@@ -16,7 +17,8 @@ loop-v-init c = record {
 pub row-requires : goal.row-requires
 row-requires c =
     let turn = at_turn c.loop-v.invariant.place c.in-Some.v c.next.new.self c.in-Some.ensures.steps in
-    omega (arith, turn.1, ascending_each c.args.graph.now.vertices 0 NAMES c.loop-v.j turn.0)
+    let below = (ascending_items c.args.graph.now.vertices 0 NAMES c.loop-v.j 0 turn.0).below in
+    omega (arith, turn.1, below)
 
 pub gather-requires : goal.gather-requires
 gather-requires c = c.loop-v.invariant.place.inside
@@ -55,4 +57,4 @@ returns c =
 pub overflow_add-j : goal.overflow_add-j
 overflow_add-j c =
     let turn = at_turn c.loop-v.invariant.place c.in-Some.v c.next.new.self c.in-Some.ensures.steps in
-    omega (arith, turn.0, length_ascending c.args.graph.now.vertices 0 NAMES, names_fit)
+    omega (arith, turn.0, length_ascending c.args.graph.now.vertices 0 NAMES, NAMES-lt)

@@ -3,7 +3,7 @@ use Rattle.std.proofs.lemmas.Bool.{eqb-true}
 use Rattle.md_graph.specs.declared.TheConstants.{NAMES}
 use Rattle.md_graph.specs.NameSet.{ascending}
 use Rattle.md_graph6.specs.Written.{nth}
-use Rattle.md_graph6.proofs.Limits.{names_fit}
+use Rattle.md_graph.proofs.Limits.{NAMES-lt}
 use Rattle.md_graph6.proofs.Listed.{at_start, at_turn, at_end, length_ascending, numbered_more}
 use Rattle.md_graph6.proofs.writer.shape.Goals as goal
 use Rattle.md_graph6.proofs.writer.shape.Goals.{then-v-count, else-v-count}
@@ -18,7 +18,7 @@ pub overflow_add-count : goal.overflow_add-count
 overflow_add-count c =
     let turn = at_turn c.loop-v.invariant.place c.in-Some.v c.next.new.self c.in-Some.ensures.steps in
     let few = length_ascending c.args.graph.now.vertices 0 NAMES in
-    omega (arith, turn.0, few, names_fit)
+    omega (arith, turn.0, few, NAMES-lt)
 
 pub loop-v-preserved : goal.loop-v-preserved
 loop-v-preserved c =

@@ -4,7 +4,7 @@ use Rattle.md_graph6.specs.Bits.{body_length}
 use Rattle.md_graph6.specs.Size.{size_text}
 use Rattle.md_graph6.proofs.ByteLemmas.{line_written}
 use Rattle.md_graph6.proofs.WriteLemmas.{whole_back, size_kept, body_kept, SpellsLine-written}
-use Rattle.md_graph6.proofs.TextLemmas.{text_spells, text_sound}
+use Rattle.md_graph6.proofs.FileLemmas.{text_spells, text_sound}
 use Rattle.md_graph6.proofs.writer.write.Goals as goal
 
 pub returns-clause-bytes : goal.returns-clause-bytes
@@ -39,7 +39,7 @@ returns-clause-text c =
     }
 
 pub returns-clause-spells : goal.returns-clause-spells
-returns-clause-spells c = text_spells (returns-clause-text c)
+returns-clause-spells c = text_spells _ _ (returns-clause-text c)
 
 pub returns-clause-no_fault : goal.returns-clause-no_fault
 returns-clause-no_fault c = (text_sound (returns-clause-text c)).0
