@@ -1,15 +1,14 @@
 -- The members of a set of names in ascending order: how many are below a name, and a walk over them that counts.
-use Rattle.std.specs.Prelude.{◌≡◌, ℕ, zero, suc, ◌+◌, ◌^◌, ◌<◌, ◌≤◌, Bool, true, false, cond, ◌&&◌, nat_le, List, [], ◌∷◌, ◌++◌, length}
+use Rattle.std.specs.Prelude.{◌≡◌, ℕ, suc, ◌+◌, ◌^◌, ◌<◌, ◌≤◌, Bool, true, false, cond, List, [], ◌∷◌, ◌++◌, length}
 use Rattle.std.proofs.Common.{subst, ap, sym, ◌∙◌, arith, length-append}
 use Rattle.std.proofs.lemmas.List.{append-nil}
 use Rattle.std.proofs.lemmas.Bool.{false_from_ne_true}
-use Rattle.std.specs.FinSet as set
 use Rattle.md_graph.specs.declared.TheConstants.{NAMES}
 use Rattle.md_graph.specs.NameSet.{NameSet, Member, ascending, ascending_between}
 use Rattle.md_graph.specs.PlainGraph.{PlainGraph, IsGraph, neighbours}
 use Rattle.md_graph.proofs.GraphLemmas.{adjacent_ends, contains-neighbours}
 use Rattle.md_graph.proofs.Limits.{NAMES-lt}
-use Rattle.md_graph.proofs.NameLemmas.{IsFirstItem, ascending_none, ascending_split, ascending_step, walk_turn}
+use Rattle.md_graph.proofs.NameLemmas.{IsFirstItem, few_below, ascending_none, ascending_split, ascending_step, walk_turn}
 use Rattle.md_dimacs.specs.Text.{position}
 
 -- ---- how many there are
@@ -17,11 +16,6 @@ use Rattle.md_dimacs.specs.Text.{position}
 pub at_most_one_more : (xs : List ℕ) (x n : ℕ) (b : Bool) → length xs ≤ n → length (xs ++ cond b (x ∷ []) []) ≤ suc n
 at_most_one_more xs x n true h = let e = length-append xs (x ∷ []) in omega arith
 at_most_one_more xs x n false h = let e = ap length (append-nil xs) in omega arith
-
-count_le : (s : NameSet) (n : ℕ) → length (ascending_between s 0 n) ≤ n
-unfolding ascending_between
-count_le s zero = omega arith
-count_le s (suc n) = at_most_one_more (ascending_between s 0 n) n n (nat_le 0 n && set.contains s n) (count_le s n)
 
 pub nothing_below : (s : NameSet) (low n : ℕ) → n ≤ low → ascending_between s low n ≡ []
 nothing_below s low n h = ascending_none s low n (λ w from below. absurd (omega arith))
@@ -84,7 +78,7 @@ coming_at s low at place xs e c = subst (λ k. Coming s k place xs) (sym e) c
 
 pub place_small : (s : NameSet) (low place v : ℕ) (rest : List ℕ) → NextUp s low place v rest → place + 1 < 10 ^ 5
 place_small s low place v rest up =
-    let most = count_le s v in
+    let most = few_below s 0 v in
     let placed = up.placed in
     let name = up.item.below in
     let fit = NAMES-lt in

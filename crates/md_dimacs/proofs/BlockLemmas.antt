@@ -14,7 +14,7 @@ use Rattle.md_graph.specs.NameSet.{NameSet, ascending_between}
 use Rattle.md_graph.specs.PlainGraph.{PlainGraph, IsGraph, neighbours}
 use Rattle.md_graph.specs.Words.{bits_between}
 use Rattle.md_graph.proofs.Limits.{NAMES-is}
-use Rattle.md_graph.proofs.MemberLists.{no_bits_of_zero}
+use Rattle.md_graph.proofs.MemberLists.{ascending_word, no_bits_of_zero}
 use Rattle.md_graph.proofs.NameLemmas.{IsItem, ascending_items, ascending_none, ascending_split}
 use Rattle.md_text.specs.Numbers.{decimal}
 use Rattle.md_text.specs.declared.piece.Piece.{Piece}
@@ -30,18 +30,6 @@ pub bits_count : (first bits n : ℕ) → length (bits_between first bits n) ≤
 unfolding bits_between
 bits_count first bits zero = omega arith
 bits_count first bits (suc n) = at_most_one_more (bits_between first bits n) (first + n) n (bit_at bits n == 1) (bits_count first bits n)
-
--- the members from low on up to first + n, where bit k tells of first + k
-by_bits : (s : NameSet) (low first bits n : ℕ) → ((k : ℕ) → k < n → (bit_at bits k == 1) ≡ (nat_le low (first + k) && set.contains s (first + k)))
-    → ascending_between s low (first + n) ≡ ascending_between s low first ++ bits_between first bits n
-unfolding ascending_between bits_between
-by_bits s low first bits zero same =
-    let bound : first + 0 ≡ first = omega arith in ap (ascending_between s low) bound ∙ sym (append-nil (ascending_between s low first))
-by_bits s low first bits (suc n) same =
-    let bound : first + suc n ≡ suc (first + n) = omega arith in
-    ap (ascending_between s low) bound
-    ∙ (λ i. by_bits s low first bits n (λ k h. same k (omega arith)) i ++ cond (sym (same n (omega arith)) i) ((first + n) ∷ []) [])
-    ∙ append_assoc (ascending_between s low first) (bits_between first bits n) (cond (bit_at bits n == 1) ((first + n) ∷ []) [])
 
 kept_bit : (s : NameSet) (from first low bits masked k : ℕ) → low ≡ max from first → set.contains s (first + k) ≡ (bit_at bits k == 1)
     → bit_at masked k ≡ cond (nat_le from (first + k)) (bit_at bits k) 0 → (bit_at masked k == 1) ≡ (nat_le low (first + k) && set.contains s (first + k))
@@ -65,7 +53,7 @@ block_split s from first bits masked within named has is =
     let low = max from first in
     let next : first + 64 ≡ max from (first + 64) = omega arith in
     ascending_split s low (first + 64) NAMES (omega arith) named
-    ∙ (λ i. (by_bits s low first masked 64 (λ k h. kept_bit s from first low bits masked k refl (has k h) (is k h)) ∙ ap (λ l. l ++ bits_between first masked 64) (nothing_below s low first (omega arith))) i ++ ascending_between s (next i) NAMES)
+    ∙ (λ i. (ascending_word s low first masked 64 (λ k h. kept_bit s from first low bits masked k refl (has k h) (is k h)) ∙ ap (λ l. l ++ bits_between first masked 64) (nothing_below s low first (omega arith))) i ++ ascending_between s (next i) NAMES)
 
 -- a name at the front of a word that isn't behind all names
 pub word_fits : (first : ℕ) → first % 64 ≡ 0 → first < NAMES → first + 64 ≤ NAMES

@@ -162,7 +162,7 @@ ascending_more s low m (suc d) none =
     let absent : (nat_le low (m + d) && set.contains s (m + d)) ≡ false = not_both low (m + d) _ (λ _. none (m + d) (omega arith) (omega arith)) in
     rw (bound, before, absent, append-nil) refl
 
-ascending_word : (s : NameSet) (low first bits j : ℕ) → ((k : ℕ) → k < j → (bit_at bits k == 1) ≡ (nat_le low (first + k) && set.contains s (first + k))) → ascending_between s low (first + j) ≡ ascending_between s low first ++ bits_between first bits j
+pub ascending_word : (s : NameSet) (low first bits j : ℕ) → ((k : ℕ) → k < j → (bit_at bits k == 1) ≡ (nat_le low (first + k) && set.contains s (first + k))) → ascending_between s low (first + j) ≡ ascending_between s low first ++ bits_between first bits j
 unfolding ascending_between bits_between
 ascending_word s low first bits zero same = let bound : first + 0 ≡ first = omega arith in rw (bound, append-nil) refl
 ascending_word s low first bits (suc j) same =

@@ -295,6 +295,16 @@ length_under s (suc n) =
 pub length-ascending : (s : NameSet) (n : ℕ) → AllBelow s n → length (ascending_between s 0 n) ≡ set.len s
 length-ascending s n below = length_under s n ∙ ap set.len (under_all s n below)
 
+-- no more members are below n than there are names
+pub few_below : (s : NameSet) (low n : ℕ) → length (ascending_between s low n) ≤ n
+unfolding ascending_between
+few_below s low zero = omega arith
+few_below s low (suc n) =
+    let before = few_below s low n in
+    bool_cases _ (nat_le low n && set.contains s n)
+    (λ t. rw (t, length-append (ascending_between s low n) (n ∷ [])) (omega arith))
+    (λ f. rw (f, length-append (ascending_between s low n) []) (omega arith))
+
 -- no member of the empty set
 pub ascending-empty : (low n : ℕ) → ascending_between set.empty low n ≡ []
 ascending-empty low n = ascending_none set.empty low n (λ v _ _. contains-empty v)

@@ -1,11 +1,11 @@
 -- The vertices of a graph, ascending, and a loop over them.
-use Rattle.std.proofs.Common.{◌≡◌, ℕ, zero, suc, ◌+◌, ◌-◌, ◌<◌, ◌≤◌, Bool, false, ◌&&◌, ◌||◌, ◌==◌, List, [], ◌∷◌, length, get_or, drop, refl, sym, ap, ◌∙◌, arith, nat_lt, nat_le, inl, inr, length-drop, length-append}
-use Rattle.std.proofs.lemmas.List.{drop_more, length_push}
-use Rattle.std.proofs.lemmas.Bool.{cases_Bool, cases_lt, cases_eq}
+use Rattle.std.proofs.Common.{◌≡◌, ℕ, suc, ◌+◌, ◌-◌, ◌<◌, ◌≤◌, Bool, false, ◌&&◌, ◌||◌, ◌==◌, List, [], ◌∷◌, length, get_or, drop, refl, sym, ap, ◌∙◌, arith, nat_lt, inl, inr, length-drop}
+use Rattle.std.proofs.lemmas.List.{drop_more}
+use Rattle.std.proofs.lemmas.Bool.{cases_lt, cases_eq}
 use Rattle.std.proofs.lemmas.Bool.Decides.{nat_tests}
 use Rattle.md_graph.proofs.SetLaws.{contains-empty}
 use Rattle.std.specs.FinSet as set
-use Rattle.md_graph.specs.NameSet.{NameSet, ascending_between}
+use Rattle.md_graph.specs.NameSet.{NameSet}
 
 -- a loop over a list has `i` items behind it and the others before it
 pub record IsAt (items rest : List ℕ) (i : ℕ) : Type 0 where
@@ -32,18 +32,6 @@ at_end {items} {rest} {i} at_i e =
     let none : length (drop i items) ≡ 0 = ap length (sym at_i.is ∙ e) in
     let inside = at_i.inside in
     omega arith
-
--- ---- ascending lists
-
-pub length_ascending : (s : NameSet) (low n : ℕ) → length (ascending_between s low n) ≤ n
-unfolding ascending_between
-length_ascending s low zero = omega arith
-length_ascending s low (suc n) =
-    let before = length_ascending s low n in
-    elim (cases_Bool (nat_le low n && set.contains s n)) [
-      | inl t ↦ rw (t, length_push (ascending_between s low n) n) (omega arith)
-      | inr f ↦ rw (f, length-append (ascending_between s low n) []) (omega arith)
-    ]
 
 -- ---- the loops of the writer
 

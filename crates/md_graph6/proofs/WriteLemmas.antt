@@ -7,9 +7,9 @@ use Rattle.std.proofs.lemmas.List.{take-append-drop, get_or_default, length-repl
 use Rattle.std.proofs.Math.Seq.{take-append_seam}
 use Rattle.std.specs.List.{AllPass}
 use Rattle.md_graph.specs.declared.TheConstants.{NAMES}
+use Rattle.md_graph.proofs.NameLemmas.{few_below}
 use Rattle.md_graph6.specs.Size.{size_text}
 use Rattle.md_graph6.specs.Line.{SpellsLine, is_group}
-use Rattle.md_graph6.proofs.Listed.{length_ascending}
 use Rattle.md_graph6.proofs.DecodeLemmas.{contains-numbers_below}
 use Rattle.std.proofs.lemmas.Bool.Decides.{nat_tests}
 use Rattle.std.specs.FinSet as set
@@ -176,7 +176,7 @@ are_groups_pass body are = λ k d h.
 pub IsGraph-renumbered : (g : PlainGraph) → IsGraph (renumbered g)
 IsGraph-renumbered g =
     let n = length (ascending g.vertices) in
-    let few = length_ascending g.vertices 0 NAMES in
+    let few = few_below g.vertices 0 NAMES in
     let parts = λ (u v : ℕ) (h : IsTrue (set.contains (renumbered g).edges (u, v))). and_parts (nat_lt u v) (nat_lt v n) (and_parts _ _ (sym (contains-pairs_where (are_adjacent g) n u v) ∙ h)).0 in
     record {
       names = λ v h. omega (arith, few, ltb-true v n (sym (contains-numbers_below n v) ∙ h));
@@ -210,7 +210,7 @@ pub SpellsLine-written : (line : List ℕ) (size n : ℕ) (g : PlainGraph) → n
 SpellsLine-written line size n g count begins long written = record {
   n = n;
   body = drop size line;
-  few = omega (arith, count, length_ascending g.vertices 0 NAMES);
+  few = omega (arith, count, few_below g.vertices 0 NAMES);
   text = sym (take-append-drop size line) ∙ ap (λ s. s ++ drop size line) begins;
   long = long;
   groups = are_groups_pass (drop size line) written.groups;

@@ -2,8 +2,9 @@ use Rattle.std.proofs.Common.{◌≡◌, ◌&&◌, nat_lt, arith, ◌∙◌, ap}
 use Rattle.std.specs.FinSet as set
 use Rattle.md_graph.specs.declared.TheConstants.{NAMES}
 use Rattle.md_graph.specs.NameSet.{ascending}
+use Rattle.md_graph.proofs.NameLemmas.{few_below}
 use Rattle.md_graph6.specs.Written.{nth}
-use Rattle.md_graph6.proofs.Listed.{at_start, at_turn, at_end, length_ascending, gathered_none, gathered_more}
+use Rattle.md_graph6.proofs.Listed.{at_start, at_turn, at_end, gathered_none, gathered_more}
 use Rattle.md_graph6.proofs.writer.gather.Goals as goal
 
 pub loop-u-init : goal.loop-u-init
@@ -20,7 +21,7 @@ returns-then-i-j c = λ k.
 pub insert_if-requires : goal.insert_if-requires
 insert_if-requires c =
     let turn = at_turn c.loop-u.invariant.place c.in-Some.u c.next.new.self c.in-Some.ensures.steps in
-    let few = length_ascending c.args.graph.now.vertices 0 NAMES in
+    let few = few_below c.args.graph.now.vertices 0 NAMES in
     omega (arith, turn.0, few)
 
 pub loop-u-preserved : goal.loop-u-preserved

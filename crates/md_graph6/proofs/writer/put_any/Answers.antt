@@ -3,8 +3,8 @@ use Rattle.md_graph.specs.declared.TheConstants.{NAMES}
 use Rattle.md_graph.specs.NameSet.{ascending}
 use Rattle.md_graph6.specs.Written.{IsWritten}
 use Rattle.md_graph.proofs.Limits.{NAMES-lt}
-use Rattle.md_graph.proofs.NameLemmas.{ascending_items}
-use Rattle.md_graph6.proofs.Listed.{at_start, at_turn, at_end, length_ascending}
+use Rattle.md_graph.proofs.NameLemmas.{few_below, ascending_items}
+use Rattle.md_graph6.proofs.Listed.{at_start, at_turn, at_end}
 use Rattle.md_graph6.proofs.WriteLemmas.{IsWritten-more, gathered_column, pair_next, pair_mono}
 use Rattle.md_graph6.proofs.writer.put_any.Goals as goal
 
@@ -26,7 +26,7 @@ gather-requires c = c.loop-v.invariant.place.inside
 pub put_column-requires-clause-name : goal.put_column-requires-clause-name
 put_column-requires-clause-name c =
     let turn = at_turn c.loop-v.invariant.place c.in-Some.v c.next.new.self c.in-Some.ensures.steps in
-    omega (arith, turn.0, length_ascending c.args.graph.now.vertices 0 NAMES)
+    omega (arith, turn.0, few_below c.args.graph.now.vertices 0 NAMES)
 
 pub put_column-requires-clause-groups : goal.put_column-requires-clause-groups
 put_column-requires-clause-groups c = c.loop-v.invariant.written.groups
@@ -57,4 +57,4 @@ returns c =
 pub overflow_add-j : goal.overflow_add-j
 overflow_add-j c =
     let turn = at_turn c.loop-v.invariant.place c.in-Some.v c.next.new.self c.in-Some.ensures.steps in
-    omega (arith, turn.0, length_ascending c.args.graph.now.vertices 0 NAMES, NAMES-lt)
+    omega (arith, turn.0, few_below c.args.graph.now.vertices 0 NAMES, NAMES-lt)

@@ -2,9 +2,10 @@ use Rattle.std.proofs.Common.{arith, ◌∙◌, ap, sym}
 use Rattle.std.proofs.lemmas.Bool.{eqb-true}
 use Rattle.md_graph.specs.declared.TheConstants.{NAMES}
 use Rattle.md_graph.specs.NameSet.{ascending}
+use Rattle.md_graph.proofs.NameLemmas.{few_below}
 use Rattle.md_graph6.specs.Written.{nth}
 use Rattle.md_graph.proofs.Limits.{NAMES-lt}
-use Rattle.md_graph6.proofs.Listed.{at_start, at_turn, at_end, length_ascending, numbered_more}
+use Rattle.md_graph6.proofs.Listed.{at_start, at_turn, at_end, numbered_more}
 use Rattle.md_graph6.proofs.writer.shape.Goals as goal
 use Rattle.md_graph6.proofs.writer.shape.Goals.{then-v-count, else-v-count}
 
@@ -17,7 +18,7 @@ loop-v-init c = record {
 pub overflow_add-count : goal.overflow_add-count
 overflow_add-count c =
     let turn = at_turn c.loop-v.invariant.place c.in-Some.v c.next.new.self c.in-Some.ensures.steps in
-    let few = length_ascending c.args.graph.now.vertices 0 NAMES in
+    let few = few_below c.args.graph.now.vertices 0 NAMES in
     omega (arith, turn.0, few, NAMES-lt)
 
 pub loop-v-preserved : goal.loop-v-preserved
@@ -34,7 +35,7 @@ loop-v-preserved c =
 pub returns : goal.returns
 returns c =
     let all = at_end c.loop-v.invariant.place c.in-None.ensures.steps.0 in
-    let few = length_ascending c.args.graph.now.vertices 0 NAMES in
+    let few = few_below c.args.graph.now.vertices 0 NAMES in
     record {
       count = all;
       few = omega (arith, all, few);
