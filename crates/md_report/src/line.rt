@@ -5,12 +5,9 @@ ghost use Rattle.md_report.specs.Lines.{plain_line, mode_word, reason_words, lin
 
 use md_graph::Memory;
 use md_script::EditReason;
-use md_text::push_decimal;
+use md_text::push_number;
 use md_tree::{Tree, push_text};
 use std::alloc::Global;
-
-/// No name has more digits.
-const MOST_DIGITS: usize = 10;
 
 /// What a report is about.
 #[derive(Clone, Copy, Debug, PartialEq, Eq)]
@@ -64,22 +61,22 @@ pub fn write_line(alloc: Global, line: &Line) -> Result<Vec<u8>, Memory>
     let mut text = Vec::new(alloc);
     match line {
         Line::Head(mode) => {
-            push_bytes(&mut text, b"mdt ")?;
-            push_bytes(&mut text, mode_word(*mode).as_bytes())?;
+            text.extend_from_slice(b"mdt ")?;
+            text.extend_from_slice(mode_word(*mode).as_bytes())?;
         }
         Line::Tree(tree) => {
-            push_bytes(&mut text, b"t ")?;
+            text.extend_from_slice(b"t ")?;
             push_text(alloc, &mut text, tree)?;
         }
         Line::Applied(tree) => {
-            push_bytes(&mut text, b"ok ")?;
+            text.extend_from_slice(b"ok ")?;
             push_text(alloc, &mut text, tree)?;
         }
         Line::Refused(reason) => {
-            push_bytes(&mut text, b"no ")?;
+            text.extend_from_slice(b"no ")?;
             push_reason(&mut text, *reason)?;
         }
-        Line::End => push_bytes(&mut text, b"end")?,
+        Line::End => text.extend_from_slice(b"end")?,
     }
     Ok(text)
 }
@@ -97,30 +94,19 @@ fn push_reason(text: &mut Vec<u8>, reason: EditReason) -> Result<(), Memory>
     ensures { IfOk result (λ _. text.new.items ≡ text.old.items ++ reason_words reason) }
 {
     match reason {
-        EditReason::Same => push_bytes(text, b"same"),
-        EditReason::NoVertex(v) => push_named(text, b"vertex ", v),
-        EditReason::NameTaken(v) => push_named(text, b"taken ", v),
-        EditReason::EdgeThere => push_bytes(text, b"edge-there"),
-        EditReason::EdgeAbsent => push_bytes(text, b"edge-absent"),
+        EditReason::Same => text.extend_from_slice(b"same")?,
+        EditReason::NoVertex(v) => push_named(text, b"vertex ", v)?,
+        EditReason::NameTaken(v) => push_named(text, b"taken ", v)?,
+        EditReason::EdgeThere => text.extend_from_slice(b"edge-there")?,
+        EditReason::EdgeAbsent => text.extend_from_slice(b"edge-absent")?,
     }
+    Ok(())
 }
 
 fn push_named(text: &mut Vec<u8>, word: &[u8], name: u32) -> Result<(), Memory>
     ensures { IfOk result (λ _. text.new.items ≡ text.old.items ++ (word.now ++ decimal name)) }
 {
-    push_bytes(text, word)?;
-    if text.reserve(MOST_DIGITS).is_err() {
-        return Err(Memory);
-    }
-    push_decimal(text, u64::from(name));
-    Ok(())
-}
-
-fn push_bytes(text: &mut Vec<u8>, bytes: &[u8]) -> Result<(), Memory>
-    ensures { IfOk result (λ _. text.new.items ≡ text.old.items ++ bytes.now) }
-{
-    if text.extend_from_slice(bytes).is_err() {
-        return Err(Memory);
-    }
+    text.extend_from_slice(word)?;
+    push_number(text, u64::from(name))?;
     Ok(())
 }

@@ -1,13 +1,12 @@
 -- The first fault of a script, and the edits that it spells.
-use Rattle.std.specs.Prelude.{◌≡◌, ℕ, suc, ◌+◌, ◌≤◌, Bool, true, false, not, cond, ◌==◌, List, [], ◌∷◌, ◌++◌, length, map, Option, Some, None, MatchOption, option_to_list, refl}
+use Rattle.std.specs.Prelude.{◌≡◌, ℕ, ◌+◌, ◌≤◌, Bool, true, false, not, cond, ◌==◌, List, [], ◌∷◌, ◌++◌, length, map, Option, Some, None, MatchOption, option_to_list, refl}
 use Rattle.std.specs.List.{All}
 use Rattle.std.proofs.Common.{ap, sym, ◌∙◌, arith, subst, length-append}
-use Rattle.std.proofs.lemmas.Bool.{eqb-true}
 use Rattle.std.proofs.lemmas.List.{append-nil}
 use Rattle.std.proofs.lemmas.List.Elements.{All-nil, All-cons}
 use Rattle.md_text.specs.Lines.{lines, without_return}
 use Rattle.md_text.specs.Fields.{fields}
-use Rattle.md_text.proofs.LineLemmas.{lines-nil}
+use Rattle.md_text.proofs.LineLemmas.{no_lines}
 use Rattle.md_script.specs.declared.TheConstants.{EDITS}
 use Rattle.md_script.specs.declared.edit.Edit.{Edit}
 use Rattle.md_script.specs.declared.fault.ScriptKind.{ScriptKind}
@@ -225,10 +224,6 @@ line_refused all count n rest line stripped more edits refusal kind shown h cut 
     let words_fault : fault_of_words n (fields stripped) ≡ Some kind = subst (IsRefusal (fault_of_words n (fields stripped))) bad fault in
     let here : fault_of_words (length edits) (words line) ≡ Some shown = (λ i. fault_of_words (sym size i) (fields (sym e i))) ∙ words_fault ∙ ap (λ k. Some k) (sym same) in
     h.fault ∙ ap (fault_behind (length edits) count) cut ∙ fault-named (length edits) count line more shown here
-
-no_lines : (bytes : List ℕ) → (length bytes == 0) ≡ true → lines bytes ≡ []
-no_lines [] h = lines-nil
-no_lines (b ∷ bytes) h = absurd (let e = eqb-true (suc (length bytes)) 0 h in omega arith)
 
 pub all_lines_read : (bytes rest : List ℕ) (count n : ℕ) (edits : List Edit) → HasReadLines (lines bytes) count (lines rest) edits → (length rest == 0) ≡ true → n ≡ length edits → n ≤ EDITS
     → SpellsScript bytes edits

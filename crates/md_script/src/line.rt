@@ -1,22 +1,8 @@
 //! One line of a script.
-ghost use Rattle.std.specs.Prelude.{
-  ◌≡◌,
-  ◌≢◌,
-  ◌<◌,
-  ◌∷◌,
-  [],
-  length,
-  None,
-  Some,
-  IfSome,
-  IfNone,
-  IfOk,
-  IfErr,
-  OnOk,
-};
+ghost use Rattle.std.specs.Prelude.{◌≡◌, ◌<◌, ◌∷◌, [], None, Some, IfOk, IfErr, OnOk};
 ghost use Rattle.std.specs.Option.{option_or};
-ghost use Rattle.md_graph.specs.NameSet.{ascending};
 ghost use Rattle.md_text.specs.Fields.{fields};
+ghost use Rattle.md_script.specs.declared.line.Refusal.TheVariants.{Bad, Memory as NoMemory};
 ghost use Rattle.md_script.specs.Line.{
   word_of,
   name_in,
@@ -31,9 +17,9 @@ ghost use Rattle.md_script.specs.Line.{
 ghost use Rattle.md_script.specs.Read.{NamesSet, NamesVertex, IsRefusal};
 
 use crate::{Edit, Neighbours, ScriptKind};
-use md_graph::{NAMES, Names};
-use md_text::{number, split_field, split_number};
-use std::alloc::Global;
+use md_graph::{Memory, NAMES, Names};
+use md_text::{number, one_field, split_number, two_fields};
+use std::alloc::{AllocFailed, Global};
 
 /// The first field of an edit's line.
 #[derive(Clone, Copy)]
@@ -48,13 +34,37 @@ pub(crate) enum EditWord {
     MinusVertex,
 }
 
-/// Why a line isn't read.
+/// Why a line isn't read. `?` makes it of a fault, and of want of memory.
 #[derive(Clone, Copy)]
 pub(crate) enum Refusal {
     /// Its first fault.
     Bad(ScriptKind),
     /// Want of memory.
     Memory,
+}
+
+impl From<ScriptKind> for Refusal {
+    ghost from_gives = { λ kind refusal. refusal ≡ Bad kind };
+
+    fn from(kind: ScriptKind) -> Refusal {
+        Refusal::Bad(kind)
+    }
+}
+
+impl From<Memory> for Refusal {
+    ghost from_gives = { λ _ refusal. refusal ≡ NoMemory };
+
+    fn from(_memory: Memory) -> Refusal {
+        Refusal::Memory
+    }
+}
+
+impl<T: Drop> From<AllocFailed<T>> for Refusal {
+    ghost from_gives = { λ _ refusal. refusal ≡ NoMemory };
+
+    fn from(_failed: AllocFailed<T>) -> Refusal {
+        Refusal::Memory
+    }
 }
 
 // The word that a field is, if it is one of the four.
@@ -89,37 +99,25 @@ pub(crate) fn read_edit(
     ensures faultless { OnOk result (fault_by (word_of first.now) (fields rest.now) ≡ None) }
     ensures fault { IfErr result (IsRefusal (fault_by (word_of first.now) (fields rest.now))) }
 {
-    let Some(word) = edit_word(first) else {
-        return Err(Refusal::Bad(ScriptKind::UnknownEdit));
-    };
+    let word = edit_word(first).ok_or(ScriptKind::UnknownEdit)?;
     match word {
-        EditWord::PlusEdge => match read_ends(rest) {
-            Ok((u, v)) => Ok(Edit::AddEdge { u, v }),
-            Err(kind) => Err(Refusal::Bad(kind)),
-        },
-        EditWord::MinusEdge => match read_ends(rest) {
-            Ok((u, v)) => Ok(Edit::DelEdge { u, v }),
-            Err(kind) => Err(Refusal::Bad(kind)),
-        },
-        EditWord::PlusVertex => match read_new_vertex(rest, names) {
-            Ok(x) => add_vertex(alloc, x, names),
-            Err(kind) => Err(Refusal::Bad(kind)),
-        },
-        EditWord::MinusVertex => match read_vertex(rest) {
-            Ok(x) => Ok(Edit::DelVertex { x }),
-            Err(kind) => Err(Refusal::Bad(kind)),
-        },
-    }
-}
-
-// The edit that takes in the vertex x with these neighbours.
-fn add_vertex(alloc: Global, x: u32, names: &Names) -> Result<Edit, Refusal>
-    ensures edit { IfOk result (λ edit. edit ≡ Edit.AddVertex x (ascending names.now)) }
-    ensures memory { IfErr result (λ refusal. refusal ≡ Refusal.Memory) }
-{
-    match Neighbours::new(alloc, names) {
-        Ok(neighbours) => Ok(Edit::AddVertex { x, neighbours }),
-        Err(_) => Err(Refusal::Memory),
+        EditWord::PlusEdge => {
+            let (u, v) = read_ends(rest)?;
+            Ok(Edit::AddEdge { u, v })
+        }
+        EditWord::MinusEdge => {
+            let (u, v) = read_ends(rest)?;
+            Ok(Edit::DelEdge { u, v })
+        }
+        EditWord::PlusVertex => {
+            let x = read_new_vertex(rest, names)?;
+            let neighbours = Neighbours::new(alloc, names)?;
+            Ok(Edit::AddVertex { x, neighbours })
+        }
+        EditWord::MinusVertex => {
+            let x = read_vertex(rest)?;
+            Ok(Edit::DelVertex { x })
+        }
     }
 }
 
@@ -203,29 +201,4 @@ fn checked_name(number: Option<u64>) -> Result<u32, ScriptKind>
         return Err(ScriptKind::NameTooLarge);
     }
     Ok(v as u32)
-}
-
-// The fields of a text, if there are two.
-fn two_fields(text: &[u8]) -> Option<(&[u8], &[u8])>
-    ensures fields { IfSome result (λ p. fields text.now ≡ p.0.now ∷ p.1.now ∷ []) }
-    ensures other_count { IfNone result (length (fields text.now) ≢ 2) }
-{
-    let (first, text) = split_field(text)?;
-    let (second, text) = split_field(text)?;
-    match split_field(text) {
-        Some(_) => None,
-        None => Some((first, second)),
-    }
-}
-
-// The field of a text, if there is one and no other.
-fn one_field(text: &[u8]) -> Option<&[u8]>
-    ensures field { IfSome result (λ field. fields text.now ≡ field.now ∷ []) }
-    ensures other_count { IfNone result (length (fields text.now) ≢ 1) }
-{
-    let (first, text) = split_field(text)?;
-    match split_field(text) {
-        Some(_) => None,
-        None => Some(first),
-    }
 }

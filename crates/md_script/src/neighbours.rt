@@ -32,10 +32,8 @@ impl Neighbours {
     pub fn new(alloc: Global, names: &Names) -> Result<Neighbours, Memory>
         ensures { IfOk result (λ n. n ≡ ascending names.now) }
     {
-        match names.members().collect(alloc) {
-            Ok(list) => Ok(Neighbours { list }),
-            Err(_) => Err(Memory),
-        }
+        let list = names.members().collect(alloc)?;
+        Ok(Neighbours { list })
     }
 
     /// The names, ascending.

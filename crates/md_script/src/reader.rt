@@ -62,9 +62,6 @@ fn read_line(
     if edits.len() as u64 >= EDITS {
         return Err(Refusal::Bad(ScriptKind::TooManyEdits));
     }
-    let edit = read_edit(alloc, first, rest, names)?;
-    if edits.push(edit).is_err() {
-        return Err(Refusal::Memory);
-    }
+    edits.push(read_edit(alloc, first, rest, names)?)?;
     Ok(())
 }

@@ -1,5 +1,5 @@
 -- From "the whole is put, or the call stopped within it" to what a converter does.
-use Rattle.std.proofs.Common.{◌≡◌, ℕ, List, [], ◌∷◌, ◌++◌, Option, None, Result, Ok, Err, ◌≤◌, refl, sym, ap, subst, ◌∙◌, inr, arith}
+use Rattle.std.proofs.Common.{◌≡◌, ℕ, List, [], ◌∷◌, ◌++◌, Option, None, Result, Ok, Err, IsErrAnd, ◌≤◌, refl, sym, ap, subst, ◌∙◌, inr, arith}
 use Rattle.std.specs.Option.{option_map}
 use Rattle.md_graph6.specs.File.{first_fault, graphs_of, Spells}
 use Rattle.md_graph6.proofs.FileLemmas.{spelled_or_faulty}
@@ -43,7 +43,7 @@ module _ (from to : Format) (file : List ℕ) (graphs : List PlainGraph) (faultl
       subst (λ (e : Result Verdict Stop). CommandEnds (Convert from to) (file ∷ []) e old new faults_old faults_new) (sym is) (ends_of_whole result old new faults_old faults_new put)
 
 -- a call that stopped within a piece stopped within the whole
-pub stops_within : (whole piece left : List ℕ) (stop : Stop) (old now new : Option (List ℕ)) (faults_old faults_now faults_new : ℕ) → Progress old now whole (piece ++ left) → faults_old ≤ faults_now → StopsWithin piece stop now new faults_now faults_new → StopsWithin whole stop old new faults_old faults_new
+stops_within : (whole piece left : List ℕ) (stop : Stop) (old now new : Option (List ℕ)) (faults_old faults_now faults_new : ℕ) → Progress old now whole (piece ++ left) → faults_old ≤ faults_now → StopsWithin piece stop now new faults_now faults_new → StopsWithin whole stop old new faults_old faults_new
 stops_within whole piece left Usage old now new faults_old faults_now faults_new so_far below stopped = stopped
 stops_within whole piece left (BadInput fault) old now new faults_old faults_now faults_new so_far below stopped = absurd stopped
 stops_within whole piece left ReadFault old now new faults_old faults_now faults_new so_far below stopped = stopped
@@ -52,6 +52,12 @@ stops_within whole piece left WriteFault old now new faults_old faults_now fault
 stops_within whole piece left Memory old now new faults_old faults_now faults_new so_far below stopped =
     progress_stop old now new whole piece left so_far stopped
 stops_within whole piece left TooLong old now new faults_old faults_now faults_new so_far below stopped = stopped
+
+-- the same, where the call that stopped hands its stop on
+pub stop_handed_on : (whole piece left : List ℕ) (result : Result (Unit {0}) Stop) (stop : Stop) (old now new : Option (List ℕ)) (faults_old faults_now faults_new : ℕ) → IsErrAnd result (λ named. named ≡ stop) → Progress old now whole (piece ++ left) → faults_old ≤ faults_now → StopsWithin piece stop now new faults_now faults_new → PutsWhole whole result old new faults_old faults_new
+stop_handed_on whole piece left (Ok done) stop old now new faults_old faults_now faults_new is so_far below stopped = absurd is
+stop_handed_on whole piece left (Err named) stop old now new faults_old faults_now faults_new is so_far below stopped =
+    subst (λ (s : Stop). StopsWithin whole s old new faults_old faults_new) (sym is) (stops_within whole piece left stop old now new faults_old faults_now faults_new so_far below stopped)
 
 -- a graph6 file without fault spells its graphs
 pub spelled : (file : List ℕ) → first_fault file ≡ None → Spells file (graphs_of file)

@@ -1,5 +1,5 @@
 -- What an ending says of the fault of its input.
-use Rattle.std.proofs.Common.{◌≡◌, ◌≢◌, ◌⊎◌, ℕ, ◌-◌, ◌^◌, ◌<◌, ◌≤◌, length, Bool, true, false, ◌&&◌, nat_lt, IsTrue, List, [], ◌∷◌, ◌++◌, Option, None, Some, Result, Ok, Err, refl, sym, ◌∙◌, ap, ap₂, subst, inl, inr, append-nil, append_assoc, arith}
+use Rattle.std.proofs.Common.{◌≡◌, ◌≢◌, ◌⊎◌, ℕ, ◌-◌, ◌^◌, ◌<◌, ◌≤◌, length, Bool, true, false, ◌&&◌, nat_lt, IsTrue, List, [], ◌∷◌, ◌++◌, Option, None, Some, Result, IsErrAnd, Ok, Err, refl, sym, ◌∙◌, ap, ap₂, subst, inl, inr, append-nil, append_assoc, arith}
 use Rattle.std.proofs.lemmas.Bool.{ltb-true}
 use Rattle.md_io.specs.Count.{Rose}
 use Rattle.md_io.specs.Told.{Told, IsToldAs, IsToldFile, IsToldLonger}
@@ -199,6 +199,11 @@ module _ (asked : Request) (f : FilesRun) (o : SinkRun) (in_order : AsksInOrder 
 pub keeps_same : (held : Option (List ℕ)) → Keeps held held
 keeps_same None = tt
 keeps_same (Some bytes) = refl
+
+-- an ending that is handed on
+pub ends_handed_on : (request : Option Request) (ending : Result Verdict Stop) (stop : Stop) (f : FilesRun) (o : SinkRun) → IsErrAnd ending (λ named. named ≡ stop) → Ends request (Err stop) f o → Ends request ending f o
+ends_handed_on request (Ok verdict) stop f o is ends = absurd is
+ends_handed_on request (Err named) stop f o is ends = subst (λ (s : Stop). Ends request (Err s) f o) (sym is) ends
 
 -- words in no form
 pub ends_with_usage : (request : Option Request) (holds : List ℕ → Told) (asked : List (List ℕ)) (faults overs : ℕ) (sure : Bool) (held : Option (List ℕ)) (out_faults : ℕ) → request ≡ None →

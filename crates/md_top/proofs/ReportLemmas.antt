@@ -1,5 +1,5 @@
 -- Reports put line by line: what is put so far leads from place to place.
-use Rattle.std.proofs.Common.{◌≡◌, ℕ, List, [], ◌∷◌, ◌++◌, Option, None, Result, Ok, Err, ◌≤◌, refl, sym, ap, subst, ◌∙◌, inl, inr, arith, append_assoc, append-nil}
+use Rattle.std.proofs.Common.{◌≡◌, ℕ, List, [], ◌∷◌, ◌++◌, Option, None, Result, Ok, Err, IsErrAnd, ◌≤◌, refl, sym, ap, subst, ◌∙◌, inl, inr, arith, append_assoc, append-nil}
 use Rattle.std.proofs.lemmas.Grind.{flat_map-append}
 use Rattle.std.specs.Io.KnownBytes.{Appends}
 use Rattle.md_io.specs.Front.{AppendsFront}
@@ -56,7 +56,7 @@ stopped_before p old = record {
 }
 
 -- a front behind lines
-pub front_behind : (p q : Place) (old now new : Option (List ℕ)) → AppendsLines p q old now → AppendsFrontFrom q now new → AppendsFrontFrom p old new
+front_behind : (p q : Place) (old now new : Option (List ℕ)) → AppendsLines p q old now → AppendsFrontFrom q now new → AppendsFrontFrom p old new
 front_behind p q old now new so_far more = record {
   bytes = lines_text so_far.lines ++ more.bytes;
   front = record {
@@ -79,7 +79,7 @@ lines_behind p q r old now new so_far more = record {
 }
 
 -- lines behind lines, or stopped within those
-pub stops_behind : (p q : Place) (stop : Stop) (old now new : Option (List ℕ)) (faults_old faults_now faults_new : ℕ) → AppendsLines p q old now → faults_old ≤ faults_now → StopsFrom q stop now new faults_now faults_new → StopsFrom p stop old new faults_old faults_new
+stops_behind : (p q : Place) (stop : Stop) (old now new : Option (List ℕ)) (faults_old faults_now faults_new : ℕ) → AppendsLines p q old now → faults_old ≤ faults_now → StopsFrom q stop now new faults_now faults_new → StopsFrom p stop old new faults_old faults_new
 stops_behind p q Usage old now new faults_old faults_now faults_new so_far below stopped = stopped
 stops_behind p q (BadInput fault) old now new faults_old faults_now faults_new so_far below stopped = absurd stopped
 stops_behind p q ReadFault old now new faults_old faults_now faults_new so_far below stopped = stopped
@@ -87,6 +87,12 @@ stops_behind p q WriteFault old now new faults_old faults_now faults_new so_far 
     (front_behind p q old now new so_far stopped.0, omega (arith, stopped.1))
 stops_behind p q Memory old now new faults_old faults_now faults_new so_far below stopped = front_behind p q old now new so_far stopped
 stops_behind p q TooLong old now new faults_old faults_now faults_new so_far below stopped = stopped
+
+-- the same, where the call that stopped hands its stop on
+pub stop_handed_on : (p q r : Place) (result : Result (Unit {0}) Stop) (stop : Stop) (old now new : Option (List ℕ)) (faults_old faults_now faults_new : ℕ) → IsErrAnd result (λ named. named ≡ stop) → AppendsLines p q old now → faults_old ≤ faults_now → StopsFrom q stop now new faults_now faults_new → PutsLines p r result old new faults_old faults_new
+stop_handed_on p q r (Ok done) stop old now new faults_old faults_now faults_new is so_far below stopped = absurd is
+stop_handed_on p q r (Err named) stop old now new faults_old faults_now faults_new is so_far below stopped =
+    subst (λ (s : Stop). StopsFrom p s old new faults_old faults_new) (sym is) (stops_behind p q stop old now new faults_old faults_now faults_new so_far below stopped)
 
 pub puts_behind : (p q r : Place) (result : Result (Unit {0}) Stop) (old now new : Option (List ℕ)) (faults_old faults_now faults_new : ℕ) → AppendsLines p q old now → faults_old ≤ faults_now → PutsLines q r result now new faults_now faults_new → PutsLines p r result old new faults_old faults_new
 puts_behind p q r (Ok done) old now new faults_old faults_now faults_new so_far below more = lines_behind p q r old now new so_far more

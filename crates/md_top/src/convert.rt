@@ -44,14 +44,10 @@ fn put_lines<O: Sink>(alloc: Global, to: Format, file: &[u8], out: &mut O) -> Re
         (O.faults out.old) (O.faults out.new) }
     ensures faults_never_fall { O.faults out.old ≤ O.faults out.new }
 {
-    let Ok(mut graph) = Graph::new(alloc) else {
-        return Err(Stop::Memory);
-    };
+    let mut graph = Graph::new(alloc)?;
     let mut lines = Lines::new(file);
     while lines.next(&mut graph) {
-        if let Err(stop) = put_graph(alloc, to, &graph, out) {
-            return Err(stop);
-        }
+        put_graph(alloc, to, &graph, out)?;
         graph.clear();
     }
     Ok(())
@@ -68,9 +64,7 @@ fn put_edge_file<O: Sink>(
         (O.faults out.old) (O.faults out.new) }
     ensures faults_never_fall { O.faults out.old ≤ O.faults out.new }
 {
-    let Ok(mut graph) = Graph::new(alloc) else {
-        return Err(Stop::Memory);
-    };
+    let mut graph = Graph::new(alloc)?;
     match md_dimacs::read(file, &mut graph) {
         Ok(()) => verdict_of(put_graph(alloc, to, &graph, out)),
         Err(fault) => Err(Stop::BadInput(Fault::Dimacs(fault))),
@@ -83,10 +77,8 @@ fn put_graph<O: Sink>(alloc: Global, to: Format, graph: &Graph, out: &mut O) -> 
         (O.faults out.old) (O.faults out.new) }
     ensures faults_never_fall { O.faults out.old ≤ O.faults out.new }
 {
-    match text_of(alloc, to, graph) {
-        Ok(text) => put_piece(out, &text),
-        Err(Memory) => Err(Stop::Memory),
-    }
+    let text = text_of(alloc, to, graph)?;
+    put_piece(out, &text)
 }
 
 /// The text of a graph in a format.

@@ -1,11 +1,12 @@
 //! Puts a piece of the output.
-ghost use Rattle.std.specs.Prelude.{◌≡◌, ◌≤◌};
-ghost use Rattle.md_report.specs.Lines.{plain_line};
+ghost use Rattle.std.specs.Prelude.{◌≡◌, ◌≤◌, IfOk};
+ghost use Rattle.md_report.specs.Lines.{plain_line, fed_line};
 ghost use Rattle.md_report.specs.Places.{Place, MayCome, next_place};
 ghost use Rattle.md_top.specs.Reported.{PutsLines};
 ghost use Rattle.md_top.specs.Output.{PutsWhole, verdict_of};
 
 use crate::stop::{Stop, Verdict};
+use md_graph::Memory;
 use md_io::{PutFault, Sink};
 use md_report::{Line, write_line};
 use std::alloc::Global;
@@ -39,11 +40,15 @@ pub fn put_report_line<O: Sink>(alloc: Global, line: Line, out: &mut O) -> Resul
         (O.holds out.old) (O.holds out.new) (O.faults out.old) (O.faults out.new) }
     ensures faults_never_fall { O.faults out.old ≤ O.faults out.new }
 {
-    let Ok(mut text) = write_line(alloc, &line) else {
-        return Err(Stop::Memory);
-    };
-    if text.push(b'\n').is_err() {
-        return Err(Stop::Memory);
-    }
+    let text = fed_text(alloc, &line)?;
     put_piece(out, &text)
+}
+
+/// The text of a line of a report, with its line feed.
+fn fed_text(alloc: Global, line: &Line) -> Result<Vec<u8>, Memory>
+    ensures { IfOk result (λ text. text.items ≡ fed_line (plain_line line.now)) }
+{
+    let mut text = write_line(alloc, line)?;
+    text.push(b'\n')?;
+    Ok(text)
 }

@@ -11,7 +11,7 @@ use crate::form::Format;
 use crate::put::{put_report_line, verdict_of};
 use crate::stop::{Fault, Stop, Verdict};
 use md_decompose::decompose;
-use md_graph::{Graph, Memory};
+use md_graph::Graph;
 use md_graph6::Lines;
 use md_io::Sink;
 use md_report::{GraphMode, Line};
@@ -49,12 +49,8 @@ fn report_lines<O: Sink>(
         (O.faults out.old) (O.faults out.new) }
     ensures faults_never_fall { O.faults out.old ≤ O.faults out.new }
 {
-    if let Err(stop) = put_report_line(alloc, Line::Head(mode.mode()), out) {
-        return Err(stop);
-    }
-    if let Err(stop) = put_graphs(alloc, mode, file, out) {
-        return Err(stop);
-    }
+    put_report_line(alloc, Line::Head(mode.mode()), out)?;
+    put_graphs(alloc, mode, file, out)?;
     put_report_line(alloc, Line::End, out)
 }
 
@@ -65,14 +61,10 @@ fn put_graphs<O: Sink>(alloc: Global, mode: GraphMode, file: &[u8], out: &mut O)
         (O.holds out.old) (O.holds out.new) (O.faults out.old) (O.faults out.new) }
     ensures faults_never_fall { O.faults out.old ≤ O.faults out.new }
 {
-    let Ok(mut graph) = Graph::new(alloc) else {
-        return Err(Stop::Memory);
-    };
+    let mut graph = Graph::new(alloc)?;
     let mut lines = Lines::new(file);
     while lines.next(&mut graph) {
-        if let Err(stop) = put_graph(alloc, mode, &graph, out) {
-            return Err(stop);
-        }
+        put_graph(alloc, mode, &graph, out)?;
         graph.clear();
     }
     Ok(())
@@ -88,9 +80,7 @@ fn report_edge_file<O: Sink>(
     ensures ends { CommandEnds (Form.Report mode Format.Dimacs) (file.now ∷ []) result (O.holds out.old) (O.holds out.new)
         (O.faults out.old) (O.faults out.new) }
 {
-    let Ok(mut graph) = Graph::new(alloc) else {
-        return Err(Stop::Memory);
-    };
+    let mut graph = Graph::new(alloc)?;
     match md_dimacs::read(file, &mut graph) {
         Ok(()) => verdict_of(report_graph(alloc, mode, &graph, out)),
         Err(fault) => Err(Stop::BadInput(Fault::Dimacs(fault))),
@@ -108,12 +98,8 @@ fn report_graph<O: Sink>(
         (O.faults out.old) (O.faults out.new) }
     ensures faults_never_fall { O.faults out.old ≤ O.faults out.new }
 {
-    if let Err(stop) = put_report_line(alloc, Line::Head(mode.mode()), out) {
-        return Err(stop);
-    }
-    if let Err(stop) = put_graph(alloc, mode, graph, out) {
-        return Err(stop);
-    }
+    put_report_line(alloc, Line::Head(mode.mode()), out)?;
+    put_graph(alloc, mode, graph, out)?;
     put_report_line(alloc, Line::End, out)
 }
 
@@ -129,9 +115,9 @@ fn put_graph<O: Sink>(
     ensures faults_never_fall { O.faults out.old ≤ O.faults out.new }
 {
     match mode {
-        GraphMode::Tree => match decompose(alloc, graph) {
-            Ok(tree) => put_report_line(alloc, Line::Tree(tree), out),
-            Err(Memory) => Err(Stop::Memory),
-        },
+        GraphMode::Tree => {
+            let tree = decompose(alloc, graph)?;
+            put_report_line(alloc, Line::Tree(tree), out)
+        }
     }
 }

@@ -30,14 +30,8 @@ pub fn edit<O: Sink>(
     ensures ends { CommandEnds (Form.Edit from) (file.now ∷ script.now ∷ []) result
         (O.holds out.old) (O.holds out.new) (O.faults out.old) (O.faults out.new) }
 {
-    let graph = match one_graph(alloc, from, file) {
-        Ok(graph) => graph,
-        Err(stop) => return Err(stop),
-    };
-    let script = match read_script(alloc, script) {
-        Ok(script) => script,
-        Err(stop) => return Err(stop),
-    };
+    let graph = one_graph(alloc, from, file)?;
+    let script = read_script(alloc, script)?;
     verdict_of(put_session(alloc, graph, &script, out))
 }
 
@@ -47,9 +41,7 @@ fn one_graph(alloc: Global, from: Format, file: &[u8]) -> Result<Graph, Stop>
     ensures faultless { IfOk result (λ _. one_graph_fault from file.now ≡ None) }
     ensures stops { IfErr result (IsInputStop (one_graph_fault from file.now)) }
 {
-    let Ok(mut graph) = Graph::new(alloc) else {
-        return Err(Stop::Memory);
-    };
+    let mut graph = Graph::new(alloc)?;
     match from {
         Format::G6 => match md_graph6::scan(file) {
             Ok(1) => {
@@ -90,16 +82,10 @@ fn put_session<O: Sink>(
         (O.holds out.old) (O.holds out.new) (O.faults out.old) (O.faults out.new) }
     ensures faults_never_fall { O.faults out.old ≤ O.faults out.new }
 {
-    if let Err(stop) = put_report_line(alloc, Line::Head(Mode::Edit), out) {
-        return Err(stop);
-    }
+    put_report_line(alloc, Line::Head(Mode::Edit), out)?;
     let session = GeneralSession::new(graph);
-    let Ok(tree) = session.tree(alloc) else {
-        return Err(Stop::Memory);
-    };
-    if let Err(stop) = put_report_line(alloc, Line::Tree(tree), out) {
-        return Err(stop);
-    }
+    let tree = session.tree(alloc)?;
+    put_report_line(alloc, Line::Tree(tree), out)?;
     put_edits(alloc, session, script, out)
 }
 
@@ -115,12 +101,8 @@ fn put_edits<O: Sink>(
     ensures faults_never_fall { O.faults out.old ≤ O.faults out.new }
 {
     for i in 0..script.len() {
-        let Ok(line) = session.apply(alloc, script.get(i)) else {
-            return Err(Stop::Memory);
-        };
-        if let Err(stop) = put_report_line(alloc, line, out) {
-            return Err(stop);
-        }
+        let line = session.apply(alloc, script.get(i))?;
+        put_report_line(alloc, line, out)?;
     }
     put_report_line(alloc, Line::End, out)
 }

@@ -1,5 +1,9 @@
 //! How a run ends: with a verdict, or at what stops it.
+ghost use Rattle.std.specs.Prelude.{◌≡◌};
+ghost use Rattle.md_top.specs.declared.stop.Stop.TheVariants.{Memory as NoMemory};
+
 use md_dimacs::DimacsFault;
+use md_graph::Memory;
 use md_graph6::G6Fault;
 use md_script::ScriptKind;
 
@@ -23,7 +27,7 @@ pub enum Verdict {
     Done,
 }
 
-/// What ends a run before its output is whole.
+/// What ends a run before its output is whole. `?` makes it of want of memory.
 #[derive(Clone, Copy, Debug, PartialEq, Eq)]
 pub enum Stop {
     /// The words are in no form.
@@ -38,6 +42,14 @@ pub enum Stop {
     Memory,
     /// A file has more bytes than the limit.
     TooLong,
+}
+
+impl From<Memory> for Stop {
+    ghost from_gives = { λ _ stop. stop ≡ NoMemory };
+
+    fn from(_memory: Memory) -> Stop {
+        Stop::Memory
+    }
 }
 
 /// How a run ended. Its number is the exit code of the program.
@@ -60,7 +72,6 @@ pub enum Status {
 }
 
 impl Stop {
-    ghost use Rattle.std.specs.Prelude.{◌≡◌};
     ghost use Rattle.md_top.specs.Ending.{status_of_stop};
 
     /// The status of a run that stopped so.

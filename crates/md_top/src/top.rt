@@ -243,10 +243,8 @@ fn end_over_graph<F: Files, O: Sink>(
         }) }
     ensures told { F.holds files.new ≡ F.holds files.old }
 {
-    match load(alloc, files, name) {
-        Ok(graph) => end_over_contents(alloc, form, &graph, out),
-        Err(stop) => Err(stop),
-    }
+    let graph = load(alloc, files, name)?;
+    end_over_contents(alloc, form, &graph, out)
 }
 
 /// Loads the graph file and the script of a form, and does what the form asks for.
@@ -279,14 +277,9 @@ fn end_over_script<F: Files, O: Sink>(
         }) }
     ensures told { F.holds files.new ≡ F.holds files.old }
 {
-    let graph = match load(alloc, files, graph_name) {
-        Ok(graph) => graph,
-        Err(stop) => return Err(stop),
-    };
-    match load(alloc, files, script_name) {
-        Ok(script) => end_over_two(alloc, form, &graph, &script, out),
-        Err(stop) => Err(stop),
-    }
+    let graph = load(alloc, files, graph_name)?;
+    let script = load(alloc, files, script_name)?;
+    end_over_two(alloc, form, &graph, &script, out)
 }
 
 /// Does what a form over one graph file asks for.

@@ -3,21 +3,21 @@ use Rattle.std.proofs.Common.{[], refl, ap, arith}
 use Rattle.md_graph6.specs.File.{graphs_of}
 use Rattle.md_report.specs.Lines.{head}
 use Rattle.md_report.specs.Places.{before_head, at_graphs, after_end}
-use Rattle.md_top.proofs.ReportLemmas.{stops_behind, puts_behind, lines_behind}
+use Rattle.md_top.proofs.ReportLemmas.{stop_handed_on, puts_behind, lines_behind}
 use Rattle.md_top.proofs.report.report_lines.Goals as goal
 
-pub returns-in-Err-put_graphs-clause-puts : goal.returns-in-Err-put_graphs-clause-puts
-returns-in-Err-put_graphs-clause-puts g c =
-    stops_behind _ (at_graphs c.args.mode (graphs_of c.args.file.now)) _ _ _ _ _ _ _
-    (c.in_default.ensures.puts (before_head c.args.mode (graphs_of c.args.file.now)) (ap head c.mode.ensures))
+pub returns-in_err-put_graphs-clause-puts : goal.returns-in_err-put_graphs-clause-puts
+returns-in_err-put_graphs-clause-puts g c =
+    stop_handed_on _ (at_graphs c.args.mode (graphs_of c.args.file.now)) _ _ _ _ _ _ _ _ _ c.from_residual-in_err-put_graphs.ensures.1
+    (c.in_ok-put_report_line.ensures.puts (before_head c.args.mode (graphs_of c.args.file.now)) (ap head c.mode.ensures))
     c.put_report_line.ensures.faults_never_fall
-    c.in-Err-put_graphs.ensures.puts
+    c.in_err-put_graphs.ensures.puts
 
 pub returns-clause-puts : goal.returns-clause-puts
 returns-clause-puts g c =
     puts_behind _ (at_graphs c.args.mode []) after_end _ _ _ _ _ _ _
     (lines_behind _ (at_graphs c.args.mode (graphs_of c.args.file.now)) _ _ _ _
-    (c.in_default.ensures.puts (before_head c.args.mode (graphs_of c.args.file.now)) (ap head c.mode.ensures))
-    c.in_default-put_graphs.ensures.puts)
+    (c.in_ok-put_report_line.ensures.puts (before_head c.args.mode (graphs_of c.args.file.now)) (ap head c.mode.ensures))
+    c.in_ok-put_graphs.ensures.puts)
     (omega (arith, c.put_report_line.ensures.faults_never_fall, c.put_graphs.ensures.faults_never_fall))
     (c.put_report_line-2.ensures.puts (at_graphs c.args.mode []) refl)

@@ -5,26 +5,26 @@ use Rattle.md_script.specs.declared.edit.Edit.{Edit}
 use Rattle.md_graph.specs.PlainGraph.{PlainGraph}
 use Rattle.md_report.specs.Places.{at_edits, after_end}
 use Rattle.md_top.specs.Reported.{AppendsLines}
-use Rattle.md_top.proofs.ReportLemmas.{stops_behind, puts_behind, lines_behind}
+use Rattle.md_top.proofs.ReportLemmas.{stop_handed_on, puts_behind, lines_behind}
 use Rattle.md_top.proofs.SessionLemmas.{next_edit}
 use Rattle.md_top.proofs.session.put_edits.Goals as goal
 
-pub returns-in-Err-clause-puts : goal.returns-in-Err-clause-puts
-returns-in-Err-clause-puts g c =
-    stops_behind _ (at_edits c.loop-i.session (c.get.result.now ∷ drop (c.loop-i.i + 1) c.args.script.now)) _ _ _ _ _ _ _
+pub returns-in_err-put_report_line-clause-puts : goal.returns-in_err-put_report_line-clause-puts
+returns-in_err-put_report_line-clause-puts g c =
+    stop_handed_on _ (at_edits c.loop-i.session (c.get.result.now ∷ drop (c.loop-i.i + 1) c.args.script.now)) _ _ _ _ _ _ _ _ _ c.from_residual-in_err-put_report_line.ensures.1
     (subst (λ (edits : List Edit). AppendsLines (at_edits c.args.session c.args.script.now) (at_edits c.loop-i.session edits) (g.O.Sink.holds c.args.out.now) (g.O.Sink.holds c.loop-i.out))
     (next_edit c.args.script.now c.loop-i.i c.get.result.now c.get.ensures.edit) c.loop-i.invariant.progress)
     c.loop-i.invariant.faults
-    (c.in-Err.ensures.puts (at_edits c.loop-i.session (c.get.result.now ∷ drop (c.loop-i.i + 1) c.args.script.now)) c.in-Ok.ensures.step.line_is)
+    (c.in_err-put_report_line.ensures.puts (at_edits c.loop-i.session (c.get.result.now ∷ drop (c.loop-i.i + 1) c.args.script.now)) c.in_ok-line.ensures.step.line_is)
 
 pub loop-i-preserved : goal.loop-i-preserved
 loop-i-preserved g c = record {
   progress = subst (λ (state : PlainGraph). AppendsLines (at_edits c.args.session c.args.script.now) (at_edits state (drop (c.loop-i.i + 1) c.args.script.now)) (g.O.Sink.holds c.args.out.now) (g.O.Sink.holds c.put_report_line.new.out))
-      (sym c.in-Ok.ensures.step.next_is)
+      (sym c.in_ok-line.ensures.step.next_is)
       (lines_behind _ (at_edits c.loop-i.session (c.get.result.now ∷ drop (c.loop-i.i + 1) c.args.script.now)) _ _ _ _
       (subst (λ (edits : List Edit). AppendsLines (at_edits c.args.session c.args.script.now) (at_edits c.loop-i.session edits) (g.O.Sink.holds c.args.out.now) (g.O.Sink.holds c.loop-i.out))
       (next_edit c.args.script.now c.loop-i.i c.get.result.now c.get.ensures.edit) c.loop-i.invariant.progress)
-      (c.in_default-put_report_line.ensures.puts (at_edits c.loop-i.session (c.get.result.now ∷ drop (c.loop-i.i + 1) c.args.script.now)) c.in-Ok.ensures.step.line_is));
+      (c.in_ok-put_report_line.ensures.puts (at_edits c.loop-i.session (c.get.result.now ∷ drop (c.loop-i.i + 1) c.args.script.now)) c.in_ok-line.ensures.step.line_is));
   faults = omega (arith, c.loop-i.invariant.faults, c.put_report_line.ensures.faults_never_fall);
 }
 

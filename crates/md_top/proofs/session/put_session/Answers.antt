@@ -5,30 +5,31 @@ use Rattle.md_tree.specs.StrongTrees.{IsTree}
 use Rattle.md_tree.specs.Plain.{plain_option}
 use Rattle.md_report.specs.Places.{before_session, at_state, at_edits, after_end}
 use Rattle.md_top.specs.Reported.{PutsLines}
-use Rattle.md_top.proofs.ReportLemmas.{stops_behind, puts_behind, lines_behind, stopped_before, front_behind}
+use Rattle.md_top.proofs.ReportLemmas.{stop_handed_on, puts_behind, lines_behind, stopped_before}
 use Rattle.md_top.proofs.session.put_session.Goals as goal
 
-pub returns-in_default-tree-clause-puts : goal.returns-in_default-tree-clause-puts
-returns-in_default-tree-clause-puts g c =
-    front_behind _ (at_state c.args.graph c.args.script.now) _ _ _
-    (c.in_default.ensures.puts (before_session c.args.graph c.args.script.now) refl)
+pub returns-in_err-tree-clause-puts : goal.returns-in_err-tree-clause-puts
+returns-in_err-tree-clause-puts g c =
+    stop_handed_on _ (at_state c.args.graph c.args.script.now) _ _ _ _ _ _ _ _ _ c.from_residual-in_err-tree.ensures.1
+    (c.in_ok-put_report_line.ensures.puts (before_session c.args.graph c.args.script.now) refl)
+    c.put_report_line.ensures.faults_never_fall
     (stopped_before _ _)
 
-pub returns-in-Err-put_report_line-clause-puts : goal.returns-in-Err-put_report_line-clause-puts
-returns-in-Err-put_report_line-clause-puts g c =
-    stops_behind _ (at_state c.args.graph c.args.script.now) _ _ _ _ _ _ _
-    (c.in_default.ensures.puts (before_session c.args.graph c.args.script.now) refl)
+pub returns-in_err-put_report_line-2-clause-puts : goal.returns-in_err-put_report_line-2-clause-puts
+returns-in_err-put_report_line-2-clause-puts g c =
+    stop_handed_on _ (at_state c.args.graph c.args.script.now) _ _ _ _ _ _ _ _ _ c.from_residual-in_err-put_report_line-2.ensures.1
+    (c.in_ok-put_report_line.ensures.puts (before_session c.args.graph c.args.script.now) refl)
     c.put_report_line.ensures.faults_never_fall
-    (c.in-Err-put_report_line.ensures.puts (at_state c.args.graph c.args.script.now)
-    (plain_option c.in-Ok.tree, subst (λ (s : PlainGraph). IsTree (adjacent s) s.vertices (plain_option c.in-Ok.tree)) c.new-session.ensures c.in-Ok.ensures, refl))
+    (c.in_err-put_report_line-2.ensures.puts (at_state c.args.graph c.args.script.now)
+    (plain_option c.in_ok-tree.tree, subst (λ (s : PlainGraph). IsTree (adjacent s) s.vertices (plain_option c.in_ok-tree.tree)) c.new-session.ensures c.in_ok-tree.ensures, refl))
 
 pub returns-clause-puts : goal.returns-clause-puts
 returns-clause-puts g c =
     puts_behind _ (at_edits c.args.graph c.args.script.now) after_end _ _ _ _ _ _ _
     (lines_behind _ (at_state c.args.graph c.args.script.now) _ _ _ _
-    (c.in_default.ensures.puts (before_session c.args.graph c.args.script.now) refl)
-    (c.in_default-put_report_line.ensures.puts (at_state c.args.graph c.args.script.now)
-    (plain_option c.in-Ok.tree, subst (λ (s : PlainGraph). IsTree (adjacent s) s.vertices (plain_option c.in-Ok.tree)) c.new-session.ensures c.in-Ok.ensures, refl)))
+    (c.in_ok-put_report_line.ensures.puts (before_session c.args.graph c.args.script.now) refl)
+    (c.in_ok-put_report_line-2.ensures.puts (at_state c.args.graph c.args.script.now)
+    (plain_option c.in_ok-tree.tree, subst (λ (s : PlainGraph). IsTree (adjacent s) s.vertices (plain_option c.in_ok-tree.tree)) c.new-session.ensures c.in_ok-tree.ensures, refl)))
     (omega (arith, c.put_report_line.ensures.faults_never_fall, c.put_report_line-2.ensures.faults_never_fall))
     (subst (λ (s : PlainGraph). PutsLines (at_edits s c.args.script.now) after_end c.put_edits.result
     (g.O.Sink.holds c.put_report_line-2.new.out) (g.O.Sink.holds c.put_edits.new.out) (g.O.Sink.faults c.put_report_line-2.new.out) (g.O.Sink.faults c.put_edits.new.out))

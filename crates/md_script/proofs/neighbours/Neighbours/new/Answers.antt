@@ -6,6 +6,6 @@ use Rattle.md_script.proofs.neighbours.Neighbours.new.Goals as goal
 
 pub invariant_of-result : goal.invariant_of-result
 invariant_of-result c =
-    let ran = c.in-Ok.ensures.ran in
+    let ran = c.in_ok-list.ensures.ran in
     let all = items_from_drains {v = λ x. x} ran.0 ran.1 (YieldsList-from_first (λ x. x) (λ s. s) (ascending c.args.names.now) c.members.ensures.list) in
-    collected_list c.in-Ok.list.items ran.0 c.args.names.now ran.2.0 all
+    collected_list c.in_ok-list.list.items ran.0 c.args.names.now ran.2.0 all
