@@ -92,9 +92,9 @@ pub greatest_or_none : (words : List ℕ) (n w u : ℕ) (s : NameSet) (found : O
 greatest_or_none words n w u s None whole few rest is some none = (
   tt,
   (λ q m.
-  let one = is_one n q _ _ (kept words n s is q) m in
-  let nothing : bit_of words q ≡ 0 = from_both (λ x. bit_of words x ≡ 0) (64 * u) none (λ x l. unused words u x rest l) q in
-  absurd (omega arith)),
+      let one = is_one n q _ _ (kept words n s is q) m in
+      let nothing : bit_of words q ≡ 0 = from_both (λ x. bit_of words x ≡ 0) (64 * u) none (λ x l. unused words u x rest l) q in
+      absurd (omega arith)),
   tt,
 )
 greatest_or_none words n w u s (Some place) whole few rest is some none =

@@ -8,7 +8,6 @@ mod transposition;
 
 pub use graph::Graph;
 pub use names::{Members, Names, lowest};
-
 use std::alloc::{AllocError, AllocFailed};
 
 /// How many names there are: a name is a number below it.

@@ -9,9 +9,7 @@ use crate::start::Start;
 use crate::workspace::{CHUNK, Workspace};
 use crate::{Pair, QuotientEdges};
 use md_graph::Memory;
-use md_text::{
-    Piece, digits_piece, make_room, number_piece, piece_behind, push_number, put_piece,
-};
+use md_text::{Piece, digits_piece, make_room, number_piece, piece_behind, push_number, put_piece};
 
 // So many positions have at most five digits.
 const MOST_POSITIONS: usize = 100_000;
