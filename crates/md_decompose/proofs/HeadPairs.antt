@@ -202,16 +202,6 @@ module _ {g : PlainGraph} (is_graph : IsGraph g) (heads : NameSet) (places : Lis
     pushing_end rest steps =
         lists_end h pushing.low ps (λ b near. walk_end near_heads pushing.low NAMES left rest pushing.names pushing.is steps b (near_has b near)) pushing.lists
 
--- the turns over the heads
-pub pairs_begin : {e : ℕ → ℕ → Bool} (heads : NameSet) (places : List ℕ) (items left : List ℕ) (ps : List Pair) → items ≡ ascending_from heads 0 → AllBelow heads NAMES → left ≡ items →
-    ps ≡ [] → IsListingPairs e heads places left ps
-pairs_begin {e} heads places items left ps is_items names is_left none = record {
-  low = 0;
-  is = is_left ∙ is_items;
-  names = names;
-  lists = subst (ListsHeadPairs e heads places 0 0) (sym none) lists_none;
-}
-
 module _ {e : ℕ → ℕ → Bool} (heads : NameSet) (places : List ℕ) (left : List ℕ) (ps : List Pair) (listing : IsListingPairs e heads places left ps) where
   turn_of : (x : ℕ) (rest : List ℕ) → left ≡ x ∷ rest → IsTurn heads listing.low NAMES x rest
   turn_of x rest steps = walk_turn heads listing.low NAMES x left rest listing.is steps

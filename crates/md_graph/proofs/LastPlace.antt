@@ -47,37 +47,15 @@ word_bit words i j h =
 abbrev pub NoneBehind : List ℕ → ℕ → ℕ → Type 0
 NoneBehind words i u = (q : ℕ) → 64 * i ≤ q → q < 64 * u → bit_of words q ≡ 0
 
-pub none_more : (words : List ℕ) (i u : ℕ) → get_or words i 0 ≡ 0 → NoneBehind words (i + 1) u → NoneBehind words i u
-none_more words i u zero_word behind q low high =
-    from_both (λ x. x ≡ q → bit_of words x ≡ 0) (64 * (i + 1))
-    (λ x l e.
-    let place : 64 * i + (x - 64 * i) ≡ x = omega arith in
-    ap (bit_of words) (sym place) ∙ word_bit words i (x - 64 * i) (omega arith) ∙ zero_bit _ _ zero_word)
-    (λ x l e. behind x l (omega arith)) q refl
-
 pub record IsLastBit (words : List ℕ) (u place : ℕ) : Type 0 where
   pub within : place < 64 * u
   pub here : bit_of words place ≡ 1
   pub last : (q : ℕ) → place < q → q < 64 * u → bit_of words q ≡ 0
 
-pub last_found : (words : List ℕ) (i u place : ℕ) → i < u → place < 64 → bit_at (get_or words i 0) place ≡ 1 → ((k : ℕ) → place < k → bit_at (get_or words i 0) k ≡ 0) → NoneBehind words (i + 1) u → IsLastBit words u (64 * i + place)
-last_found words i u place below small here above behind = record {
-  within = omega arith;
-  here = word_bit words i place small ∙ here;
-  last = λ q up high. from_both (λ x. x ≡ q → bit_of words x ≡ 0) (64 * (i + 1))
-      (λ x l e.
-      let at_place : 64 * i + (x - 64 * i) ≡ x = omega arith in
-      ap (bit_of words) (sym at_place) ∙ word_bit words i (x - 64 * i) (omega arith) ∙ above (x - 64 * i) (omega arith))
-      (λ x l e. behind x l (omega arith)) q refl;
-}
-
 -- ---- the set
 
 is_one : (n q x : ℕ) (b : Bool) → b ≡ (ltb q n && (x == 1)) → b ≡ true → x ≡ 1
 is_one n q x b is h = grind (arith, nat_tests)
-
-is_below : (n q x : ℕ) (b : Bool) → b ≡ (ltb q n && (x == 1)) → b ≡ true → q < n
-is_below n q x b is h = grind (arith, nat_tests)
 
 is_there : (n q x : ℕ) → q < n → x ≡ 1 → (ltb q n && (x == 1)) ≡ true
 is_there n q x h e = grind (arith, nat_tests)

@@ -305,20 +305,6 @@ few_below s low (suc n) =
     (λ t. rw (t, length-append (ascending_between s low n) (n ∷ [])) (omega arith))
     (λ f. rw (f, length-append (ascending_between s low n) []) (omega arith))
 
--- no member of the empty set
-pub ascending-empty : (low n : ℕ) → ascending_between set.empty low n ≡ []
-ascending-empty low n = ascending_none set.empty low n (λ v _ _. contains-empty v)
-
--- a member more: between those below it and those above it
-pub ascending-insert : (s : NameSet) (low n v : ℕ) → low ≤ v → v < n → ascending_between (set.insert s v) low n ≡ ascending_between s low v ++ v ∷ ascending_between s (v + 1) n
-ascending-insert s low n v l h =
-    let t = set.insert s v in
-    let member : Member t v = contains-insert s v v ∙ itself v _ in
-    let below = ascending_same t s low v (λ w a b. contains-insert s v w ∙ other w v _ (omega arith)) in
-    let above = ascending_same t s (v + 1) n (λ w a b. contains-insert s v w ∙ other w v _ (omega arith)) in
-    let first = ascending_step t v n v (record { member = member; above = omega arith; below = h; first = λ w _ a _. a }) in
-    ascending_split t low v n l (omega arith) ∙ rw (below, first, above) refl
-
 set_of_list : (s : NameSet) (n : ℕ) → set.from_list (ascending_between s 0 n) ≡ under_bound s n
 unfolding ascending_between
 set_of_list s zero = sym (under_none s)

@@ -579,6 +579,7 @@ mod tests {
         names.insert(4095);
         assert_eq!(rt; names.first_from(4), Some(4095));
         assert_eq!(rt; names.first_from(4096), None);
+        assert_eq!(rt; names.last(), Some(4095));
     }
 
     #[test]

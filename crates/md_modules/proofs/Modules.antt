@@ -5,7 +5,7 @@ use Rattle.md_modules.specs.Sets.{NameSet, Has, Lacks, Within, HasSome, only_nam
 use Rattle.md_modules.specs.Adjacency.{IsAdjacency}
 use Rattle.md_modules.specs.Modules.{IsModule, Overlap, IsStrong, IsLeastModule, IsMaximalModule}
 use Rattle.md_modules.specs.Kinds.{IsSplit}
-use Rattle.md_modules.proofs.Sets.{either, clash, false_if, only_has, of_only, Within-refl, Within-trans, same_members, meet_has, of_meet, of_meet_lacks, union_left, of_union, of_union_lacks, minus_has, of_minus, of_minus_lacks}
+use Rattle.md_modules.proofs.Sets.{either, clash, false_if, only_has, of_only, Within-refl, Within-trans, meet_has, of_meet, of_meet_lacks, union_left, of_union, of_union_lacks, minus_has, of_minus, of_minus_lacks}
 use Rattle.md_modules.proofs.Search.{Decided, decide_test, decide_both, decide_if, decide_not, decide_like, decide_some, decide_all, decide_all_sets, decide_within, decide_same, decide_has_some, least}
 
 -- whether two sets overlap
@@ -28,15 +28,6 @@ module _ {e : ℕ → ℕ → Bool} where
     some = (v, only_has v);
     inside = λ x m. subst (Has s) (sym (of_only v x m)) h;
     alike = λ a b x p q k l. ap (e x) (of_only v a p ∙ sym (of_only v b q));
-  }
-
-  -- what a module has of a part of the graph is a module of that part
-  pub restrict_module : (s m t : NameSet) → IsModule e s m → Within t s → HasSome (intersection m t) → IsModule e t (intersection m t)
-  restrict_module s m t module_is w some = record {
-    some = some;
-    inside = λ x h. (of_meet m t x h).1;
-    alike = λ a b x p q k l. module_is.alike a b x (of_meet m t a p).0 (of_meet m t b q).0 (w x k)
-        (elim (of_meet_lacks m t x l) [ inl o ↦ o | inr o ↦ clash k o ]);
   }
 
   -- a module of s inside t is a module of t
@@ -169,17 +160,3 @@ module _ {e : ℕ → ℕ → Bool} where
       meets a b p q =
           let h : Has (intersection a b) u = meet_has a b u p.1 q.1 in
           (meet_module s a b p.0 q.0 (u, h), h, meet_has a b v p.2 q.2)
-
-  pub one_least_module : (s : NameSet) (u v : ℕ) (k l : NameSet) → IsLeastModule e s u v k → IsLeastModule e s u v l → k ≡ l
-  one_least_module s u v k l a b = same_members k l (a.least l b.is_module b.has_left b.has_right) (b.least k a.is_module a.has_left a.has_right)
-
-  -- the least module of one name is that name
-  pub least_of_one : (s : NameSet) (u : ℕ) (k : NameSet) → IsLeastModule e s u u k → k ≡ only_name u
-  least_of_one s u k is =
-      same_members k (only_name u)
-      (is.least (only_name u) (single_module s u (is.is_module.inside u is.has_left)) (only_has u) (only_has u))
-      (λ x h. subst (Has k) (sym (of_only u x h)) is.has_left)
-
-  -- the least module of u and a member of that of u and v lies in it
-  pub least_inside : (s : NameSet) (u v w : ℕ) (k l : NameSet) → IsLeastModule e s u v k → Has k w → IsLeastModule e s u w l → Within l k
-  least_inside s u v w k l a h b = b.least k a.is_module a.has_left h

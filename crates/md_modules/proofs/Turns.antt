@@ -341,16 +341,9 @@ module _ {e : ℕ → ℕ → Bool} where
       (Has-along _ _ (sym is) u (insert_old (only_name u) v u (only_has u)))
       (Has-along _ _ (sym is) v (insert_new (only_name u) v)) least
 
-  -- modules
-  pub no_member_no_module : (s m : NameSet) → NoneFrom m 0 → IsModule e s m → ⊥
-  no_member_no_module s m none module_is = clash module_is.some.1 (none_lacks m none module_is.some.0)
-
   pub strange_no_module : (s m strange : NameSet) → strange ≡ difference m s → IsModule e s m → strange ≡ empty
   strange_no_module s m strange is module_is =
       if_empty strange (λ y. lacks_along strange _ is y (false_if _ (λ h. clash (module_is.inside y (of_minus m s y h).0) (of_minus m s y h).1)))
-
-  pub no_member_no_split : (s : NameSet) (v : Bool) → NoneFrom s 0 → ((part : NameSet) × IsSplit e s part v) → ⊥
-  no_member_no_split s v none split = clash (split.1.inside split.1.some.0 split.1.some.1) (none_lacks s none split.1.some.0)
 
   module _ (adj : IsAdjacency e) where
     pub grow_more : (s begun left todo new left' todo' : NameSet) (v w : ℕ) → IsGrowing e s v begun left todo → Has todo w →

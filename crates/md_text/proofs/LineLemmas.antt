@@ -96,12 +96,6 @@ lines_are_the_cut_lem (byte ∷ rest) =
     (λ (other : byte ≢ 10). subst (IsCutOf (byte ∷ rest)) (sym (lines-other byte rest other)) (All-onto_first IsOther byte (lines rest) other so_far.0, cut_onto byte rest (lines rest) so_far.1))
     (cases_eq byte 10)
 
-pub without_return-push_return : (line : List ℕ) → without_return (line ++ 13 ∷ []) ≡ line
-without_return-push_return line = grind (arith, common_steps)
-
-pub without_return-push_other : (line : List ℕ) (last : ℕ) → last ≢ 13 → without_return (line ++ last ∷ []) ≡ line ++ last ∷ []
-without_return-push_other line last other = grind (arith, common_steps)
-
 pub without_return-stays : (line : List ℕ) → All (λ byte. byte ≢ 13) line → without_return line ≡ line
 without_return-stays line lacks = grind (arith, common_steps)
 

@@ -334,7 +334,3 @@ field_begins line rest field behind start end number f is_field is_behind is_num
   is_first = field_cut line rest start end f ∙ cc;
   is_number = is_number;
 }
-
--- the room that any number below 100,000 needs
-pub decimal_fits_5 : (n : ℕ) → n < 100000 → length (decimal n) ≤ 5
-decimal_fits_5 n small = length-decimal-le 5 n (omega arith) small

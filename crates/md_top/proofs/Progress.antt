@@ -14,20 +14,12 @@ pub appends_nothing : (old : Option (List ℕ)) → Appends old old []
 appends_nothing None = tt
 appends_nothing (Some xs) = sym (append-nil xs)
 
-pub keeps_appends : (old now : Option (List ℕ)) → Keeps old now → Appends old now []
-keeps_appends None now kept = tt
-keeps_appends (Some xs) None kept = kept
-keeps_appends (Some xs) (Some ys) kept = kept ∙ sym (append-nil xs)
-
 -- one piece behind the other
 pub appends_both : (old now new : Option (List ℕ)) (first second : List ℕ) → Appends old now first → Appends now new second → Appends old new (first ++ second)
 appends_both None now new first second a b = tt
 appends_both (Some xs) None new first second a b = absurd a
 appends_both (Some xs) (Some ys) None first second a b = b
 appends_both (Some xs) (Some ys) (Some zs) first second a b = rw (b, a, append_assoc) refl
-
-pub progress_start : (old : Option (List ℕ)) (whole : List ℕ) → Progress old old whole whole
-progress_start old whole = record { done = []; split = refl; put = appends_nothing old }
 
 -- one more piece
 pub progress_step : (old now new : Option (List ℕ)) (whole piece left : List ℕ) → Progress old now whole (piece ++ left) → Appends now new piece → Progress old new whole left
@@ -43,11 +35,3 @@ progress_stop old now new whole piece left so_far front =
       whole = so_far.split ∙ ap (λ p. so_far.done ++ (p ++ left)) front.whole ∙ ap (λ p. so_far.done ++ p) (append_assoc front.part front.rest left) ∙ sym (append_assoc so_far.done front.part (front.rest ++ left));
       appended = appends_both old now new so_far.done front.part so_far.put front.appended;
     }
-
--- stopped between two pieces
-pub progress_pause : (old now : Option (List ℕ)) (whole left : List ℕ) → Progress old now whole left → AppendsFront old now whole
-progress_pause old now whole left so_far = record { part = so_far.done; rest = left; whole = so_far.split; appended = so_far.put }
-
--- nothing is left
-pub progress_end : (old now : Option (List ℕ)) (whole : List ℕ) → Progress old now whole [] → Appends old now whole
-progress_end old now whole so_far = subst (Appends old now) (sym (so_far.split ∙ append-nil so_far.done)) so_far.put
