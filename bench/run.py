@@ -65,6 +65,12 @@ def path(n):
     return rows_of(n, [(v, v + 1) for v in range(n - 1)])
 
 
+def shuffled_cycle(n, seed):
+    """A cycle whose vertices have names in any order."""
+    names = random.Random(seed).sample(range(n), n)
+    return rows_of(n, [(names[v], names[(v + 1) % n]) for v in range(n)])
+
+
 def threshold(n):
     """Each odd vertex is adjacent to all before it: a tree as deep as it can be."""
     return [(1 << v) - 1 if v % 2 else 0 for v in range(n)]
@@ -111,6 +117,7 @@ INPUTS = {
     "small5000.g6": lambda: small_graphs(5000, 4),
     "dense1024.col": lambda: dimacs(dense(1024, 1)),
     "path4096.g6": lambda: g6(path(4096)),
+    "cycle4096.g6": lambda: g6(shuffled_cycle(4096, 8)),
     "half4096.g6": lambda: g6(half_graph(4096)),
     "threshold4096.g6": lambda: g6(threshold(4096)),
     "cograph4096.g6": lambda: g6(cograph(4096, 5)),
@@ -133,6 +140,7 @@ CASES = [
     ("tree", "g6", "sparse4096.g6"),
     ("tree", "g6", "cograph4096.g6"),
     ("tree", "g6", "path4096.g6"),
+    ("tree", "g6", "cycle4096.g6"),
     ("tree", "g6", "half4096.g6"),
     ("tree", "g6", "threshold4096.g6"),
     ("tree", "g6", "small5000.g6"),

@@ -32,9 +32,9 @@ pub(crate) fn cut(
     classes.push(rest.copy())?;
     let mut left = set.minus(rest);
     let mut at = 0;
-    // A class is seen to be final, or to be cut, at two passes over it for each name left, which no other turn for the place
-    // looks at again; or, if it is small, at one pass over the names left for each of its members. So k classes in a set of m
-    // names cost about 2km passes at most.
+    // A large class is seen to be final, or to be cut, at two passes over it for each name left that is looked at, and what stays
+    // in its place looks at none of these again but the one that cut it. A small class takes one pass over the names left for
+    // each member, and there are at most two such looks a class. So k classes in a set of m names cost some 4km passes at most.
     while at < classes.len() {
         if let Some(p) = splitter(graph, &classes[at], &mut left) {
             split(&mut classes, at, graph.row(p), &mut left)?;

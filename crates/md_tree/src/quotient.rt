@@ -104,8 +104,8 @@ fn put_run(
     (end, at)
 }
 
-// Writes a pair behind the first `at` bytes of the chunk, and says how many are then gathered there; a full chunk
-// goes to the text.
+// Writes a pair behind the first `at` bytes of the chunk, and says how many are then gathered there; a chunk that is
+// more than half full goes to the text first.
 fn put_pair(
     text: &mut Vec<u8>,
     pair: Pair,
