@@ -7,7 +7,7 @@
     python3 bench/run.py --only many     measures the cases whose name holds a word
 
 Inputs are made with fixed seeds, in a temporary folder. Instructions are counted by valgrind's callgrind, peak
-memory is told by GNU time, each where it is there. Instructions don't change from run to run, as times do.
+memory is told by GNU time, each where it is there. Instructions hardly change from run to run, as times do.
 """
 import argparse
 import os
