@@ -13,11 +13,6 @@ pub record IsSplitter (e : ℕ → ℕ → Bool) (s c : NameSet) (p : ℕ) : Typ
   pub sees : (a : ℕ) × Has c a × (e p a ≡ true)
   pub misses : (a : ℕ) × Has c a × (e p a ≡ false)
 
--- p is adjacent to a name of c and not to another one
-pub record TellsApart (e : ℕ → ℕ → Bool) (c : NameSet) (p : ℕ) : Type 0 where
-  pub sees : (a : ℕ) × Has c a × (e p a ≡ true)
-  pub misses : (a : ℕ) × Has c a × (e p a ≡ false)
-
 -- left is a part of s outside c, and has each name of s outside c that tells names of c apart
 pub record HoldsSplitters (e : ℕ → ℕ → Bool) (s c left : NameSet) : Type 0 where
   pub inside : Within left s

@@ -4,7 +4,7 @@ ghost use Rattle.std.specs.FinSet.{empty, union, intersection, difference};
 ghost use Rattle.md_graph.specs.PlainGraph.{adjacent};
 ghost use Rattle.md_modules.specs.Sets.{NameSet, Has, Within, Disjoint, HasSome};
 ghost use Rattle.md_decompose.specs.Children.{set_at};
-ghost use Rattle.md_decompose.specs.Classes.{IsSplitter, TellsApart, IsSideOf, AreMaximalInside};
+ghost use Rattle.md_decompose.specs.Classes.{IsSplitter, IsSideOf, AreMaximalInside};
 
 use md_graph::{Graph, Memory, NAMES, Names};
 use md_modules::sees;
@@ -34,7 +34,7 @@ pub(crate) fn cut(
     let mut at = 0;
     // A large class is seen to be final, or to be cut, at two passes over it for each name left that is looked at, and what stays
     // in its place looks at none of these again but the one that cut it. A small class takes one pass over the names left for
-    // each member, and there are at most two such looks a class. So k classes in a set of m names cost some 4km passes at most.
+    // each member, and there are at most two such looks a class. So k classes in a set of m names cost about 4km passes at most.
     while at < classes.len() {
         if let Some(p) = splitter(graph, &classes[at], &mut left) {
             split(&mut classes, at, graph.row(p), &mut left)?;
@@ -82,7 +82,7 @@ fn divide(class: &mut Names, row: &Names, other: &mut Names)
         × (class.new ≡ intersection class.old part) × (other.new ≡ difference class.old part) }
 {
     class.move_unshared(row, other);
-    if other.count() > FEW.max(class.count()) {
+    if other.count() > FEW && other.count() > class.count() {
         swap(class, other);
     }
 }
@@ -134,7 +134,7 @@ fn splitter_of_many(graph: &Graph, class: &Names, left: &mut Names) -> Option<u3
     ensures name { IfSome result (λ p. p < NAMES) }
 {
     while let Some(p) = left.first_from(0) {
-        if tells_apart(graph, p, class, left) {
+        if is_splitter(graph, p, class, left) {
             return Some(p);
         }
         left.remove(p);
@@ -142,11 +142,12 @@ fn splitter_of_many(graph: &Graph, class: &Names, left: &mut Names) -> Option<u3
     None
 }
 
-/// Whether `p` is adjacent to some of a class and not to all. Condition: the class and `left` don't meet.
-fn tells_apart(graph: &Graph, p: u32, class: &Names, left: &Names) -> bool
+/// Whether `p`, a member of `left`, is adjacent to some of a class and not to all. Condition: the class and `left` don't meet.
+fn is_splitter(graph: &Graph, p: u32, class: &Names, left: &Names) -> bool
     requires name { p < NAMES }
+    requires member { Has left.now p }
     requires apart { Disjoint class.now left.now }
-    ensures { IsTrue result ↔ TellsApart (adjacent graph.now) class.now p }
+    ensures { IsTrue result ↔ IsSplitter (adjacent graph.now) left.now class.now p }
 {
     sees(graph, p, true, class, left) && sees(graph, p, false, class, left)
 }

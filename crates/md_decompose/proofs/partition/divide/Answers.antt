@@ -4,16 +4,16 @@ use Rattle.md_modules.proofs.Turns.{taken_whole}
 use Rattle.md_decompose.proofs.ClassLemmas.{rest_in, rest_out}
 use Rattle.md_decompose.proofs.partition.divide.Goals as goal
 
-pub returns-then-count-max : goal.returns-then-count-max
-returns-then-count-max c = (
+pub returns-then-count : goal.returns-then-count
+returns-then-count c = (
   difference c.args.class.now c.args.row.now,
   inr refl,
   c.swap.ensures.x_after ∙ taken_whole _ _ _ c.requires c.move_unshared.ensures.moved ∙ rest_in c.args.class.now c.args.row.now,
   c.swap.ensures.y_after ∙ c.move_unshared.ensures.rest ∙ rest_out c.args.class.now c.args.row.now,
 )
 
-pub returns-else-count-max : goal.returns-else-count-max
-returns-else-count-max c = (
+pub returns-else-count-gt-FEW : goal.returns-else-count-gt-FEW
+returns-else-count-gt-FEW c = (
   c.args.row.now,
   inl refl,
   c.move_unshared.ensures.rest,

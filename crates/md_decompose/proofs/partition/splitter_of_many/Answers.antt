@@ -3,7 +3,7 @@ use Rattle.std.specs.FinSet.{len, remove}
 use Rattle.md_graph.specs.PlainGraph.{adjacent}
 use Rattle.md_modules.proofs.Sets.{clash, Has-along, of_remove, remove_left}
 use Rattle.md_modules.proofs.Search.{len_fewer}
-use Rattle.md_decompose.specs.Classes.{TellsApart}
+use Rattle.md_decompose.specs.Classes.{IsSplitter}
 use Rattle.md_decompose.proofs.partition.splitter_of_many.Goals as goal
 
 pub loop-p-smaller : goal.loop-p-smaller
@@ -17,7 +17,13 @@ loop-p-preserved c = record {
   less = λ x h. c.loop-p.invariant.less x (of_remove c.loop-p.left c.in-Some.p x (Has-along _ _ c.remove.ensures x h)).1;
   kept = λ q tells.
       let other : q ≢ c.in-Some.p = λ same.
-      clash (c.tells_apart.ensures.1 (subst (TellsApart (adjacent c.args.graph.now) c.args.class.now) same (record { sees = tells.sees; misses = tells.misses }))) c.if-tells_apart.false
+      let here : IsSplitter (adjacent c.args.graph.now) c.loop-p.left c.args.class.now q = record {
+        inside = c.loop-p.invariant.kept q tells;
+        outside = tells.outside;
+        sees = tells.sees;
+        misses = tells.misses;
+      } in
+      clash (c.is_splitter.ensures.1 (subst (IsSplitter (adjacent c.args.graph.now) c.loop-p.left c.args.class.now) same here)) c.if-is_splitter.false
       in
       Has-along _ _ (sym c.remove.ensures) q (remove_left c.loop-p.left c.in-Some.p q other (c.loop-p.invariant.kept q tells));
 }
