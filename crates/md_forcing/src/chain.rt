@@ -1,0 +1,137 @@
+//! Lists of arcs, and the list by which an arc reaches its reverse.
+ghost use Rattle.std.specs.Prelude.{◌≡◌, ℕ, ◌<◌, Bool, length, slice_get, Some, IfOk, IfSome, IfNone};
+ghost use Rattle.std.specs.Map.{keys_of};
+ghost use Rattle.md_graph.specs.PlainGraph.{adjacent};
+ghost use Rattle.md_forcing.specs.declared.arc.Arc.{Arc};
+ghost use Rattle.md_forcing.specs.Lists.{Holds};
+ghost use Rattle.md_forcing.specs.Forcing.{reverse, IsListToReverse};
+ghost use Rattle.md_forcing.specs.Classes.{IsClass};
+
+use crate::{Arc, Class};
+use md_graph::{Graph, Memory};
+use std::alloc::Global;
+use std::marker::Model;
+
+/// A list of arcs.
+#[derive(Drop)]
+pub struct Arcs {
+    list: Vec<Arc>,
+}
+
+impl Model for Arcs {
+    ghost use Rattle.std.specs.Prelude.{List};
+    ghost use Rattle.md_forcing.specs.declared.arc.Arc.{Arc};
+
+    ghost Value = { List Arc };
+
+    ghost view = { λ a. a.list.items };
+}
+
+impl Arcs {
+    /// These arcs.
+    pub fn from_list(list: Vec<Arc>) -> Arcs
+        ensures { result ≡ list.items }
+    {
+        Arcs { list }
+    }
+
+    /// The number of arcs.
+    pub fn len(&self) -> u64
+        ensures { result ≡ length self.now }
+    {
+        self.list.len() as u64
+    }
+
+    /// The arc at a place, counted from 0. Condition: there are more.
+    pub fn get(&self, i: u64) -> Arc
+        requires { i < length self.now }
+        ensures { slice_get self.now i ≡ Some result }
+    {
+        self.list[i as usize]
+    }
+}
+
+/// A list of arcs in which neighbours are to force each other directly.
+#[derive(Drop)]
+pub struct Chain {
+    list: Vec<Arc>,
+}
+
+impl Model for Chain {
+    ghost use Rattle.std.specs.Prelude.{List};
+    ghost use Rattle.md_forcing.specs.declared.arc.Arc.{Arc};
+
+    ghost Value = { List Arc };
+
+    ghost view = { λ c. c.list.items };
+}
+
+impl Chain {
+    /// These arcs.
+    pub fn from_list(list: Vec<Arc>) -> Chain
+        ensures { result ≡ list.items }
+    {
+        Chain { list }
+    }
+
+    /// The number of arcs.
+    pub fn len(&self) -> u64
+        ensures { result ≡ length self.now }
+    {
+        self.list.len() as u64
+    }
+
+    /// The arc at a place, counted from 0. Condition: there are more.
+    pub fn get(&self, i: u64) -> Arc
+        requires { i < length self.now }
+        ensures { slice_get self.now i ≡ Some result }
+    {
+        self.list[i as usize]
+    }
+}
+
+/// A list without repeats from the first arc of a class to its reverse, in which neighbours force each other directly;
+/// `None` exactly where the class doesn't hold the reverse. Condition: it is the class of an arc of the graph. Errors:
+/// want of memory.
+pub fn chain_to_reverse(
+    alloc: Global,
+    _graph: &Graph,
+    class: &Class,
+) -> Result<Option<Chain>, Memory>
+    requires { (first : Arc) × IsClass (adjacent _graph.now) first class.now }
+    ensures found { IfOk result (λ answer. IfSome answer (λ chain. (first : Arc)
+        → IsClass (adjacent _graph.now) first class.now
+        → IsListToReverse (adjacent _graph.now) first chain)) }
+    ensures none { IfOk result (λ answer. IfNone answer ((first : Arc)
+        → IsClass (adjacent _graph.now) first class.now → Holds (keys_of class.now) (reverse first) → ⊥)) }
+{
+    chain_of(alloc, class)
+}
+
+/// The same of a class of any graph, so of the complement of one.
+pub fn chain_of(alloc: Global, class: &Class) -> Result<Option<Chain>, Memory>
+    requires { (e : ℕ → ℕ → Bool) × (first : Arc) × IsClass e first class.now }
+    ensures found { IfOk result (λ answer. IfSome answer (λ chain. (e : ℕ → ℕ → Bool) (first : Arc)
+        → IsClass e first class.now → IsListToReverse e first chain)) }
+    ensures none { IfOk result (λ answer. IfNone answer ((e : ℕ → ℕ → Bool) (first : Arc)
+        → IsClass e first class.now → Holds (keys_of class.now) (reverse first) → ⊥)) }
+{
+    let (first, _) = class.entry(0);
+    let turned = Arc {
+        tail: first.head,
+        head: first.tail,
+    };
+    let Some(last) = class.place_of(turned) else {
+        return Ok(None);
+    };
+    let mut list = Vec::new(alloc);
+    let mut at = last;
+    while at > 0 {
+        let (by, place) = class.entry(at);
+        list.push(by)?;
+        at = place as usize;
+    }
+    list.push(first)?;
+    list.reverse();
+    Ok(Some(Chain { list }))
+}
