@@ -1,3 +1,4 @@
+pub mod Limits
 pub mod ListLemmas
 pub mod NameLists
 pub mod Reaching
@@ -6,3 +7,5 @@ pub mod SeenRows
 pub mod OneSide
 pub mod Pushing
 pub mod TurnLemmas
+pub mod Exploring
+pub mod Following

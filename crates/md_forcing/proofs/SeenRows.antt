@@ -4,6 +4,7 @@ use Rattle.std.proofs.lemmas.Bool.{cases_Bool, cases_eq, cases_lt, eq-eqb, ne_eq
 use Rattle.std.proofs.lemmas.List.{get_or_read, get_or_past, length-set}
 use Rattle.std.specs.List.{refill}
 use Rattle.std.specs.FinSet as set
+use Rattle.md_graph.specs.declared.TheConstants.{NAMES}
 use Rattle.md_graph.specs.NameSet.{NameSet, Member as Has}
 use Rattle.md_graph.specs.Rows.{row_of}
 use Rattle.md_graph.proofs.RowLemmas.{contains-set_row, refilled}
@@ -155,6 +156,18 @@ module _ (a b now : List NameSet) (k : ℕ) (names : NameSet) (is : AreTurned a 
     pub tails_taken : (x : Arc) → IsSeen (refill n a ws) x ↔ (IsSeen now x ⊎ ((x.head ≡ k) × Has names x.tail))
     tails_taken =
         seen_added (λ u v. row_test k names v u) (λ x. (x.head ≡ k) × Has names x.tail) (λ x. row_same k names x.head x.tail) a now _ same (turned_row n a before ws names k len same_a kept each).1
+
+-- ---- rows without members
+
+pub turned_none : (a b : List NameSet) (n : ℕ) → n ≤ NAMES → length a ≡ n → length b ≡ n → ((v : ℕ) → row_of a v ≡ set.empty) → ((v : ℕ) → row_of b v ≡ set.empty) → AreTurned a b
+turned_none a b n few len_a len_b none_a none_b = record {
+  few = omega arith;
+  same = len_b ∙ sym len_a;
+  both = λ u v. ap (λ s. set.contains s u) (none_b v) ∙ contains-empty u ∙ sym (ap (λ s. set.contains s v) (none_a u) ∙ contains-empty v);
+}
+
+pub none_seen : (rows : List NameSet) → ((v : ℕ) → row_of rows v ≡ set.empty) → (a : Arc) → IsSeen rows a → ⊥
+none_seen rows none a h = clash (set.contains (row_of rows a.tail) a.head) h (ap (λ s. set.contains s a.head) (none a.tail) ∙ contains-empty a.head)
 
 -- ---- where seen arcs end
 

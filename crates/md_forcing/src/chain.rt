@@ -95,15 +95,15 @@ impl Chain {
 /// want of memory.
 pub fn chain_to_reverse(
     alloc: Global,
-    _graph: &Graph,
+    graph: &Graph,
     class: &Class,
 ) -> Result<Option<Chain>, Memory>
-    requires { (first : Arc) × IsClass (adjacent _graph.now) first class.now }
+    requires { (first : Arc) × IsClass (adjacent graph.now) first class.now }
     ensures found { IfOk result (λ answer. IfSome answer (λ chain. (first : Arc)
-        → IsClass (adjacent _graph.now) first class.now
-        → IsListToReverse (adjacent _graph.now) first chain)) }
+        → IsClass (adjacent graph.now) first class.now
+        → IsListToReverse (adjacent graph.now) first chain)) }
     ensures none { IfOk result (λ answer. IfNone answer ((first : Arc)
-        → IsClass (adjacent _graph.now) first class.now → Holds (keys_of class.now) (reverse first) → ⊥)) }
+        → IsClass (adjacent graph.now) first class.now → Holds (keys_of class.now) (reverse first) → ⊥)) }
 {
     chain_of(alloc, class)
 }
