@@ -2,12 +2,12 @@
 use Rattle.std.proofs.Common.{◌≡◌, ℕ, suc, ◌+◌, ◌-◌, ◌*◌, ◌<◌, ◌≤◌, Bool, true, false, List, [], ◌∷◌, ◌++◌, length, map, Some, None, refl, sym, ◌∙◌, ap, subst, inl, inr, arith, append_assoc, append-nil}
 use Rattle.std.proofs.lemmas.List.{map-append}
 use Rattle.std.specs.FinSet.{len}
-use Rattle.md_modules.specs.Sets.{NameSet, Within, HasSome, HasTwo}
+use Rattle.md_graph.specs.Sets.{NameSet, Within, HasSome, HasTwo}
 use Rattle.md_modules.specs.Adjacency.{IsAdjacency}
 use Rattle.md_modules.specs.Modules.{IsMaximalStrong}
-use Rattle.md_modules.proofs.Sets.{Has-along}
+use Rattle.md_graph.proofs.SetLemmas.{Has-along}
 use Rattle.md_modules.proofs.Children.{child_unsplit}
-use Rattle.md_modules.proofs.Search.{some_len}
+use Rattle.md_graph.proofs.Search.{some_len}
 use Rattle.md_tree.specs.declared.Kind.{Kind}
 use Rattle.md_tree.specs.declared.Kind.TheVariants.{Parallel, Series, Prime}
 use Rattle.md_tree.specs.declared.Pair.{Pair}

@@ -1,7 +1,7 @@
 -- One turn of a decomposition: a set is taken apart, which gives one part of the tree and the sets of its children.
 -- Source: top-down modular decomposition, as in Habib and Paul, A survey of the algorithmic aspects of modular decomposition.
 use Rattle.std.specs.Prelude.{◌≡◌, ℕ, Bool, List, [], ◌∷◌, ◌++◌, map, length, Some}
-use Rattle.md_modules.specs.Sets.{NameSet, only_name}
+use Rattle.md_graph.specs.Sets.{NameSet, only_name}
 use Rattle.md_tree.specs.declared.Kind.{Kind}
 use Rattle.md_tree.specs.declared.Kind.TheVariants.{Parallel, Series, Prime}
 use Rattle.md_tree.specs.declared.Pair.{Pair}

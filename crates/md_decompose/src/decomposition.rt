@@ -1,7 +1,7 @@
 //! The tree of a graph: the sets that are still to be taken apart are taken from the end of a vector, one node each turn.
 ghost use Rattle.std.specs.Prelude.{◌≡◌, [], ◌∷◌, ◌++◌, map, IfOk, IfSome, IfNone};
 ghost use Rattle.md_graph.specs.PlainGraph.{adjacent};
-ghost use Rattle.md_modules.specs.Sets.{Within, HasSome, HasTwo, only_name};
+ghost use Rattle.md_graph.specs.Sets.{Within, HasSome, HasTwo, only_name};
 ghost use Rattle.md_tree.specs.Trees.{PlainTree};
 ghost use Rattle.md_tree.specs.StrongTrees.{HasKind, IsTreeOf, IsTree};
 ghost use Rattle.md_tree.specs.Plain.{plain_option};

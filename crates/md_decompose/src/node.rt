@@ -2,7 +2,7 @@
 ghost use Rattle.std.specs.Prelude.{ℕ, false, true, IfOk, IsTrue, MatchOption};
 ghost use Rattle.md_graph.specs.NameSet.{IsLeastFrom};
 ghost use Rattle.md_graph.specs.PlainGraph.{adjacent, IsGraph};
-ghost use Rattle.md_modules.specs.Sets.{NameSet, Has, Within, HasSome, HasTwo};
+ghost use Rattle.md_graph.specs.Sets.{NameSet, Has, Within, HasSome, HasTwo};
 ghost use Rattle.md_modules.specs.Components.{IsComponent};
 ghost use Rattle.md_tree.specs.StrongTrees.{HasKind};
 ghost use Rattle.md_decompose.specs.Children.{AreChildren, FitsBelow, Splits};

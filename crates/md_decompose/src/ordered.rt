@@ -1,6 +1,6 @@
 //! Sets in ascending order of their least names.
 ghost use Rattle.std.specs.Prelude.{◌<◌, ℕ, IfOk, length};
-ghost use Rattle.md_modules.specs.Sets.{NameSet};
+ghost use Rattle.md_graph.specs.Sets.{NameSet};
 ghost use Rattle.md_tree.specs.StrongTrees.{IsBefore};
 ghost use Rattle.md_decompose.specs.Children.{set_at};
 ghost use Rattle.md_decompose.specs.Classes.{AreApart};

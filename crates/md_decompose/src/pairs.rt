@@ -1,7 +1,7 @@
 //! The pairs of children that a prime node lists.
 ghost use Rattle.std.specs.Prelude.{◌≡◌, ◌+◌, ◌<◌, ◌++◌, ◌∷◌, [], ℕ, IfOk, AllPairs, length, slice_index};
 ghost use Rattle.md_graph.specs.PlainGraph.{adjacent};
-ghost use Rattle.md_modules.specs.Sets.{NameSet, Has, HasSome, Within};
+ghost use Rattle.md_graph.specs.Sets.{NameSet, Has, Within, HasSome};
 ghost use Rattle.md_modules.specs.Kinds.{IsPrime};
 ghost use Rattle.md_tree.specs.StrongTrees.{IsBefore};
 ghost use Rattle.md_decompose.specs.Children.{AreChildren, ListsPairs, set_at};

@@ -1,3 +1,5 @@
+pub mod Search
+pub mod SetLemmas
 pub mod BitWords
 pub mod Counting
 pub mod EachRow

@@ -1,3 +1,4 @@
+pub mod Sets
 pub mod NameSet
 pub mod Words
 pub mod PlainGraph

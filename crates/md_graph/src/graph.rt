@@ -2,7 +2,8 @@
 ghost use Rattle.std.specs.Prelude.{◌≡◌, ℕ, ◌<◌, ◌≢◌, true, false, IfOk, IfSome, IfNone, length, if◌then◌else◌, ◌/◌, ◌%◌, ◌==◌, ◌&&◌, ◌||◌};
 ghost use Rattle.std.specs.Int.{bit_at};
 ghost use Rattle.std.specs.FinSet as set;
-ghost use Rattle.md_graph.specs.NameSet.{Member, IsLeastFrom, NoneFrom};
+ghost use Rattle.md_graph.specs.Sets.{Has};
+ghost use Rattle.md_graph.specs.NameSet.{IsLeastFrom, NoneFrom};
 ghost use Rattle.md_graph.specs.PlainGraph.{adjacent, neighbours, IsGraph, empty_graph, with_vertex, with_edge, with_edges, complement, induced, without_vertex, without_edge};
 ghost use Rattle.md_graph.specs.Rows.{row_of};
 ghost use Rattle.md_graph.specs.Blocks.{in_block, IsWithBlock};
@@ -66,7 +67,7 @@ impl Graph {
 
     /// The number of neighbours of `v`. Condition: it is a vertex.
     pub fn degree(&self, v: u32) -> u32
-        requires { Member self.now.vertices v }
+        requires { Has self.now.vertices v }
         ensures { result ≡ set.len (neighbours self.now v) }
     {
         let row = &self.rows[v as usize];
@@ -128,8 +129,8 @@ impl Graph {
 
     /// Takes in the edge between `u` and `v`. Condition: both are vertices and differ, and the edge is absent.
     pub fn add_edge(&mut self, u: u32, v: u32)
-        requires first { Member self.old.vertices u }
-        requires second { Member self.old.vertices v }
+        requires first { Has self.old.vertices u }
+        requires second { Has self.old.vertices v }
         requires differ { u ≢ v }
         requires absent { adjacent self.old u v ≡ false }
         ensures { self.new ≡ with_edge self.old u v }
@@ -141,8 +142,8 @@ impl Graph {
     /// Takes in the edges between `v` and each member of `others`. Condition: all are vertices, and `v` is
     /// no member. An edge that is there already stays.
     pub fn add_edges(&mut self, v: u32, others: &Names)
-        requires vertex { Member self.old.vertices v }
-        requires vertices { (u : ℕ) → Member others.now u → Member self.old.vertices u }
+        requires vertex { Has self.old.vertices v }
+        requires vertices { (u : ℕ) → Has others.now u → Has self.old.vertices u }
         requires differ { set.contains others.now v ≡ false }
         ensures { self.new ≡ with_edges self.old v others.now }
     {
@@ -159,7 +160,7 @@ impl Graph {
         requires high { high < NAMES }
         requires high_aligned { high % 64 ≡ 0 }
         requires ends { (u v : ℕ) → in_block block.now high low u v ≡ true
-            → Member self.old.vertices u × Member self.old.vertices v × (u ≢ v) }
+            → Has self.old.vertices u × Has self.old.vertices v × (u ≢ v) }
         ensures { IsWithBlock self.old high low block.now self.new }
     {
         join_block(&mut self.rows, low, high, block);
@@ -167,7 +168,7 @@ impl Graph {
 
     /// Leaves out the vertex `v` and the edges at it. Condition: it is a vertex.
     pub fn remove_vertex(&mut self, v: u32)
-        requires { Member self.old.vertices v }
+        requires { Has self.old.vertices v }
         ensures { self.new ≡ without_vertex self.old v }
     {
         let others = self.rows[v as usize].copy();
@@ -312,7 +313,7 @@ fn join_row(rows: &mut [Names], at: usize, first: u32, bits: u64)
 // Takes `v` into the row of each member of `names`.
 fn insert_in_rows(rows: &mut [Names], names: &Names, v: u32)
     requires name { v < NAMES }
-    requires in_rows { (u : ℕ) → Member names.now u → u < length rows.old }
+    requires in_rows { (u : ℕ) → Has names.now u → u < length rows.old }
     ensures { (u : ℕ) → row_of rows.new u
         ≡ (if set.contains names.now u
         then set.insert (row_of rows.old u) v
@@ -326,7 +327,7 @@ fn insert_in_rows(rows: &mut [Names], names: &Names, v: u32)
 // Leaves `v` out of the row of each member of `names`.
 fn remove_from_rows(rows: &mut [Names], names: &Names, v: u32)
     requires name { v < NAMES }
-    requires in_rows { (u : ℕ) → Member names.now u → u < length rows.old }
+    requires in_rows { (u : ℕ) → Has names.now u → u < length rows.old }
     ensures { (u : ℕ) → row_of rows.new u
         ≡ (if set.contains names.now u
         then set.remove (row_of rows.old u) v
@@ -339,7 +340,7 @@ fn remove_from_rows(rows: &mut [Names], names: &Names, v: u32)
 
 // All members of the row of each member of `names` go.
 fn clear_rows(rows: &mut [Names], names: &Names)
-    requires { (u : ℕ) → Member names.now u → u < length rows.old }
+    requires { (u : ℕ) → Has names.now u → u < length rows.old }
     ensures { (u : ℕ) → row_of rows.new u
         ≡ (if set.contains names.now u then set.empty else row_of rows.old u) }
 {

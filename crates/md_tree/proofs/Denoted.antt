@@ -1,7 +1,7 @@
 -- The graph that a tree denotes, from its edges; pairs of trees that a node lists.
 use Rattle.std.proofs.Common.{◌≡◌, ℕ, ◌+◌, ◌-◌, ◌<◌, Bool, true, false, ◌&&◌, ◌||◌, List, length, get_or, drop, take, map, Contains, nat_lt, Option, Some, refl, sym, ◌∙◌, ap, subst, inl, inr, arith}
 use Rattle.std.proofs.lemmas.List.{at_drop_more, length-drop}
-use Rattle.std.proofs.lemmas.Bool.{lt-ltb}
+use Rattle.std.proofs.lemmas.Bool.{lt-ltb, false_from_ne_true}
 use Rattle.std.proofs.Math.Seq.{take-length}
 use Rattle.std.specs.FinSet.{contains, empty, union}
 use Rattle.md_graph.specs.declared.TheConstants.{NAMES}
@@ -9,8 +9,8 @@ use Rattle.md_graph.specs.NameSet.{AllBelow}
 use Rattle.md_graph.specs.PlainGraph.{PlainGraph, IsGraph, adjacent, edge, pairs_where, empty_graph}
 use Rattle.md_graph.proofs.GraphLemmas.{contains-pairs_where, contains-edges, adjacent-empty_graph}
 use Rattle.md_graph.proofs.PairLaws.{pairs-empty, same_pairs}
-use Rattle.md_modules.specs.Sets.{NameSet, Within, Disjoint}
-use Rattle.md_modules.proofs.Sets.{clash, false_if, empty_lacks, Has-along, same_members, union_right, of_union}
+use Rattle.md_graph.specs.Sets.{NameSet, Within, Disjoint}
+use Rattle.md_graph.proofs.SetLemmas.{clash, empty_lacks, Has-along, same_members, union_right, of_union}
 use Rattle.md_tree.specs.declared.Pair.{Pair}
 use Rattle.md_tree.specs.declared.Tree.{Tree}
 use Rattle.md_tree.specs.Trees.{PlainTree, PlainTrees, names, names_below, names_at, count, row}
@@ -36,7 +36,7 @@ pub at_listed : (xs : List Tree) (i : ℕ) (r : Tree) → r ≡ get_or xs i r �
 at_listed xs i r is less = names_at_row xs i r less ∙ ap (λ q. names (plain q)) (sym is)
 
 pub at_apart : (cs : PlainTrees) → AreApart cs → (i j : ℕ) → i < j → (a b : NameSet) → names_at cs i ≡ a → names_at cs j ≡ b → Disjoint a b
-at_apart cs apart i j less a b p q x h = false_if _ (λ k.
+at_apart cs apart i j less a b p q x h = false_from_ne_true _ (λ k.
     let m : position_of cs x ≡ i = position_at cs apart i x (Has-along a (names_at cs i) (sym p) x h) in
     let n : position_of cs x ≡ j = position_at cs apart j x (Has-along b (names_at cs j) (sym q) x k) in
     omega arith)
@@ -62,7 +62,7 @@ pub no_vertices_empty : (g : PlainGraph) → IsGraph g → g.vertices ≡ empty 
 no_vertices_empty g is none n = record { vertices = none n; edges = no_edges n } where
   no_edges : g.edges ≡ empty
   no_edges = same_pairs g.edges empty (λ u v.
-      false_if _ (λ h. clash (Has-along g.vertices empty none u (is.low_end u v h)) (empty_lacks u)) ∙ sym (pairs-empty u v))
+      false_from_ne_true _ (λ h. clash (Has-along g.vertices empty none u (is.low_end u v h)) (empty_lacks u)) ∙ sym (pairs-empty u v))
 
 within_limit : (a b t : Bool) → (t ≡ true → b ≡ true) → (a && t) ≡ ((a && b) && t)
 within_limit false b t f = refl

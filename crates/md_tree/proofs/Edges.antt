@@ -1,8 +1,9 @@
 -- The edges of a tree's nodes are those of the graph that it denotes.
 use Rattle.std.proofs.Common.{◌≡◌, ◌≢◌, ℕ, suc, ◌<◌, Bool, true, false, cond, eqb, min, max, ◌&&◌, ◌||◌, ◌==◌, ◌⊎◌, List, [], ◌∷◌, refl, sym, ◌∙◌, ap, subst, inl, inr, true≢false, eqb-true, eq-eqb, arith}
 use Rattle.std.specs.FinSet.{contains, empty, insert, union}
-use Rattle.md_modules.specs.Sets.{NameSet, Has, Lacks, Disjoint, only_name}
-use Rattle.md_modules.proofs.Sets.{either, clash, false_if, only_has, of_only, empty_lacks, union_left, union_right, of_union}
+use Rattle.md_graph.specs.Sets.{NameSet, Has, Lacks, Disjoint, only_name}
+use Rattle.std.proofs.lemmas.Bool.{cases_Bool, false_from_ne_true}
+use Rattle.md_graph.proofs.SetLemmas.{clash, only_has, of_only, empty_lacks, union_left, union_right, of_union}
 use Rattle.md_graph.specs.PlainGraph.{PlainGraph, adjacent, edge, with_edge}
 use Rattle.md_graph.proofs.GraphLemmas.{adjacent-with_edge}
 use Rattle.md_graph.proofs.PairLaws.{pairs-insert, same_pairs as same_pair_sets}
@@ -60,7 +61,7 @@ later : (t : PlainTree) (ts : PlainTrees) (x : ℕ) → Lacks (names t) x → po
 later t ts x l = ap (λ w. cond w 0 (suc (position_of ts x))) l
 
 below_lacks : (t : PlainTree) (ts : PlainTrees) (x : ℕ) → Disjoint (names t) (names_below ts) → Has (names_below ts) x → Lacks (names t) x
-below_lacks t ts x apart h = false_if _ (λ k. clash h (apart x k))
+below_lacks t ts x apart h = false_from_ne_true _ (λ k. clash h (apart x k))
 
 two_here : (t : PlainTree) (ts : PlainTrees) (x y : ℕ) → Disjoint (names t) (names_below ts) → Has (names t) x → Has (names_below ts) y →
     position_of (one_more t ts) x ≢ position_of (one_more t ts) y
@@ -98,13 +99,13 @@ of_two (one_more t ts) x y apart h = elim (or_true (crosses (names t) (names_bel
 
 to_two : (cs : PlainTrees) (x y : ℕ) → InTwo cs x y → in_two cs x y ≡ true
 to_two no_tree x y i = clash i.first (empty_lacks x)
-to_two (one_more t ts) x y i = elim (either (contains (names t) x)) [
-  | inl hx ↦ elim (either (contains (names t) y)) [
+to_two (one_more t ts) x y i = elim (cases_Bool (contains (names t) x)) [
+  | inl hx ↦ elim (cases_Bool (contains (names t) y)) [
     | inl hy ↦ absurd (i.differ (here t ts x hx ∙ sym (here t ts y hy)))
     | inr ly ↦ or_first (crosses (names t) (names_below ts) x y) (in_two ts x y)
         (to_crosses (names t) (names_below ts) x y (inl (hx, elim (of_union (names t) (names_below ts) y i.second) [ inl k ↦ clash k ly | inr j ↦ j ])))
   ]
-  | inr lx ↦ elim (either (contains (names t) y)) [
+  | inr lx ↦ elim (cases_Bool (contains (names t) y)) [
     | inl hy ↦ or_first (crosses (names t) (names_below ts) x y) (in_two ts x y)
         (to_crosses (names t) (names_below ts) x y (inr (hy, elim (of_union (names t) (names_below ts) x i.first) [ inl k ↦ clash k lx | inr j ↦ j ])))
     | inr ly ↦ or_second (crosses (names t) (names_below ts) x y) (in_two ts x y) (to_two ts x y (record {
@@ -218,7 +219,7 @@ mutual
         })
     | inr r ↦ (
         let i : AcrossEdge k cs ps x y = of_across k cs ps x y each.0 r in
-        let n : eqb (position_of cs x) (position_of cs y) ≡ false = false_if _ (λ e. i.two.differ (eqb-true (position_of cs x) (position_of cs y) e)) in
+        let n : eqb (position_of cs x) (position_of cs y) ≡ false = false_from_ne_true _ (λ e. i.two.differ (eqb-true (position_of cs x) (position_of cs y) e)) in
         record {
           first = i.two.first;
           second = i.two.second;
@@ -251,7 +252,7 @@ mutual
 mutual
   to_edge : (t : PlainTree) → (x y : ℕ) → IsEdge t x y → has_edge_in t x y ≡ true
   to_edge (leaf v) x y is = is.adjacent
-  to_edge (node k cs ps) x y is = elim (either (eqb (position_of cs x) (position_of cs y))) [
+  to_edge (node k cs ps) x y is = elim (cases_Bool (eqb (position_of cs x) (position_of cs y))) [
     | inl e ↦ or_first (has_edge_below cs x y) (edge_across k cs ps x y) (to_edge_below cs x y (record {
       first = is.first;
       second = is.second;
@@ -266,8 +267,8 @@ mutual
 
   to_edge_below : (cs : PlainTrees) → (x y : ℕ) → IsEdgeBelow cs x y → has_edge_below cs x y ≡ true
   to_edge_below no_tree x y is = clash is.first (empty_lacks x)
-  to_edge_below (one_more t ts) x y is = elim (either (contains (names t) x)) [
-    | inl hx ↦ elim (either (contains (names t) y)) [
+  to_edge_below (one_more t ts) x y is = elim (cases_Bool (contains (names t) x)) [
+    | inl hx ↦ elim (cases_Bool (contains (names t) y)) [
       | inl hy ↦ or_first (has_edge_in t x y) (has_edge_below ts x y) (to_edge t x y (record {
         first = hx;
         second = hy;
@@ -275,7 +276,7 @@ mutual
       }))
       | inr ly ↦ (let r : 0 ≡ suc (position_of ts y) = sym (here t ts x hx) ∙ is.same ∙ later t ts y ly in absurd (omega arith))
     ]
-    | inr lx ↦ elim (either (contains (names t) y)) [
+    | inr lx ↦ elim (cases_Bool (contains (names t) y)) [
       | inl hy ↦ (let r : suc (position_of ts x) ≡ 0 = sym (later t ts x lx) ∙ is.same ∙ here t ts y hy in absurd (omega arith))
       | inr ly ↦ or_second (has_edge_in t x y) (has_edge_below ts x y) (to_edge_below ts x y (record {
         first = elim (of_union (names t) (names_below ts) x is.first) [ inl k ↦ clash k lx | inr j ↦ j ];
@@ -334,7 +335,7 @@ crosses_left b t ts x y =
     ∙ ap (λ w. w || crosses b (names_below ts) x y) (crosses_turn b (names t) x y) ∙ ap (λ w. crosses (names t) b x y || w) (crosses_turn b (names_below ts) x y)
 
 pub crosses_none : (a : NameSet) (x y : ℕ) → crosses a empty x y ≡ false
-crosses_none a x y = false_if _ (λ h. elim (of_crosses a empty x y h) [ inl w ↦ clash w.1 (empty_lacks y) | inr w ↦ clash w.1 (empty_lacks x) ])
+crosses_none a x y = false_from_ne_true _ (λ h. elim (of_crosses a empty x y h) [ inl w ↦ clash w.1 (empty_lacks y) | inr w ↦ clash w.1 (empty_lacks x) ])
 
 pub none_crosses : (b : NameSet) (x y : ℕ) → crosses empty b x y ≡ false
 none_crosses b x y = crosses_turn empty b x y ∙ crosses_none b x y

@@ -5,11 +5,11 @@ use Rattle.md_graph.specs.declared.TheConstants.{NAMES}
 use Rattle.md_graph.specs.NameSet.{AllBelow}
 use Rattle.md_graph.specs.PlainGraph.{PlainGraph, IsGraph, adjacent}
 use Rattle.md_graph.proofs.GraphLemmas.{adjacent_sym, adjacent_self, adjacent_ends}
-use Rattle.md_modules.specs.Sets.{NameSet, Has, HasSome}
+use Rattle.md_graph.specs.Sets.{NameSet, Has, HasSome}
 use Rattle.md_modules.specs.Adjacency.{IsAdjacency}
 use Rattle.md_modules.specs.Modules.{IsStrong}
-use Rattle.md_modules.proofs.Sets.{clash, empty_lacks, Has-along, same_members}
-use Rattle.md_modules.proofs.Search.{decide_has_some}
+use Rattle.md_graph.proofs.SetLemmas.{clash, empty_lacks, Has-along, same_members}
+use Rattle.md_graph.proofs.Search.{decide_has_some}
 use Rattle.md_tree.specs.Trees.{PlainTree, names, node_sets, EachNode}
 use Rattle.md_tree.specs.WellFormed.{IsCanonicalNode}
 use Rattle.md_tree.specs.TreeGraph.{adjacent_in}

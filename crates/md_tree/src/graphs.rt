@@ -1,9 +1,9 @@
 //! The graph that a tree denotes.
 ghost use Rattle.std.specs.Prelude.{◌≡◌, ◌≢◌, ◌+◌, ◌<◌, ◌≤◌, ℕ, ◌||◌, map, drop, Contains, vec_len};
 ghost use Rattle.std.specs.FinSet as set;
-ghost use Rattle.md_graph.specs.NameSet.{Member, AllBelow};
+ghost use Rattle.md_graph.specs.Sets.{Has, Lacks, Within, Disjoint, only_name};
+ghost use Rattle.md_graph.specs.NameSet.{AllBelow};
 ghost use Rattle.md_graph.specs.PlainGraph.{adjacent, with_edge};
-ghost use Rattle.md_modules.specs.Sets.{Has, Lacks, Within, Disjoint, only_name};
 ghost use Rattle.md_tree.specs.Trees.{names, names_below, names_at, count, row, EachNodeBelow};
 ghost use Rattle.md_tree.specs.Plain.{plain, plain_option};
 ghost use Rattle.md_tree.specs.WellFormed.{AreApart, IsCanonicalNode, IsCanonical, IsWellFormed};
@@ -182,7 +182,7 @@ fn join_below(children: &Children, right: &Tree, graph: &mut Graph)
 // All edges between a name and a tree.
 #[cycle(name)]
 fn join_name(name: u32, tree: &Tree, graph: &mut Graph)
-    requires vertex { Member graph.old.vertices name }
+    requires vertex { Has graph.old.vertices name }
     requires inside { Within (names (plain tree.now)) graph.old.vertices }
     requires apart { Lacks (names (plain tree.now)) name }
     ensures vertices { graph.new.vertices ≡ graph.old.vertices }
@@ -197,7 +197,7 @@ fn join_name(name: u32, tree: &Tree, graph: &mut Graph)
 
 #[cycle(name)]
 fn join_name_below(name: u32, children: &Children, graph: &mut Graph)
-    requires vertex { Member graph.old.vertices name }
+    requires vertex { Has graph.old.vertices name }
     requires inside { Within (names_below (row (map plain (out-Children children.now).list.items))) graph.old.vertices }
     requires apart { Lacks (names_below (row (map plain (out-Children children.now).list.items))) name }
     ensures vertices { graph.new.vertices ≡ graph.old.vertices }
@@ -210,8 +210,8 @@ fn join_name_below(name: u32, children: &Children, graph: &mut Graph)
 }
 
 fn join_two(name: u32, other: u32, graph: &mut Graph)
-    requires vertex { Member graph.old.vertices name }
-    requires other_vertex { Member graph.old.vertices other }
+    requires vertex { Has graph.old.vertices name }
+    requires other_vertex { Has graph.old.vertices other }
     requires differ { name ≢ other }
     ensures { graph.new ≡ with_edge graph.old name other }
 {

@@ -1,7 +1,7 @@
 use Rattle.std.proofs.Common.{subst}
 use Rattle.std.specs.FinSet.{intersection}
-use Rattle.md_modules.specs.Sets.{NameSet, Has}
-use Rattle.md_modules.proofs.Sets.{Has-along, of_meet}
+use Rattle.md_graph.specs.Sets.{NameSet, Has}
+use Rattle.md_graph.proofs.SetLemmas.{Has-along, of_meet}
 use Rattle.md_decompose.proofs.plain.take_closure.Goals as goal
 
 pub closure_in-requires-clause-inside : goal.closure_in-requires-clause-inside

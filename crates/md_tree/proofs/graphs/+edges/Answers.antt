@@ -1,6 +1,6 @@
 use Rattle.std.proofs.Common.{rules, ◌||◌, refl, sym, ◌∙◌, ap, subst}
 use Rattle.md_graph.specs.PlainGraph.{adjacent}
-use Rattle.md_modules.specs.Sets.{Has, Within}
+use Rattle.md_graph.specs.Sets.{Has, Within}
 use Rattle.md_tree.specs.Trees.{EachNode, EachNodeBelow}
 use Rattle.md_tree.specs.WellFormed.{IsCanonicalNode}
 use Rattle.md_tree.specs.TreeEdges.{has_edge_in, has_edge_below}

@@ -1,7 +1,7 @@
 use Rattle.std.proofs.Common.{rules, ℕ, Bool, ◌||◌, sym, ◌∙◌, ap, subst}
 use Rattle.md_graph.specs.PlainGraph.{adjacent}
-use Rattle.md_modules.specs.Sets.{Has, Lacks, Within, only_name}
-use Rattle.md_modules.proofs.Sets.{clash, only_has}
+use Rattle.md_graph.specs.Sets.{Has, Lacks, Within, only_name}
+use Rattle.md_graph.proofs.SetLemmas.{clash, only_has}
 use Rattle.md_tree.specs.Trees.{PlainTrees, names, names_below}
 use Rattle.md_tree.specs.Plain.{plain}
 use Rattle.md_tree.specs.TreeEdges.{crosses}

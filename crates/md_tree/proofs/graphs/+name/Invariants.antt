@@ -1,4 +1,4 @@
-use Rattle.md_modules.specs.Sets.{Has, Lacks, only_name}
+use Rattle.md_graph.specs.Sets.{Has, Lacks, only_name}
 use Rattle.md_tree.specs.Trees.{names_below}
 use Rattle.md_tree.specs.TreeEdges.{crosses}
 use Rattle.md_tree.proofs.Loops.{EdgeLoop}

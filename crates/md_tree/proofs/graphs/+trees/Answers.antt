@@ -1,7 +1,7 @@
 use Rattle.std.proofs.Common.{rules, ℕ, Bool, ◌||◌, sym, ◌∙◌, ap, subst}
 use Rattle.md_graph.specs.PlainGraph.{adjacent}
-use Rattle.md_modules.specs.Sets.{NameSet, Has, Within, Disjoint}
-use Rattle.md_modules.proofs.Sets.{only_has, union_left, union_right}
+use Rattle.md_graph.specs.Sets.{NameSet, Has, Within, Disjoint}
+use Rattle.md_graph.proofs.SetLemmas.{only_has, union_left, union_right}
 use Rattle.md_tree.specs.Trees.{PlainTrees, names, names_below}
 use Rattle.md_tree.specs.Plain.{plain}
 use Rattle.md_tree.specs.TreeEdges.{crosses}

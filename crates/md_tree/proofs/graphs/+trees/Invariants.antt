@@ -1,4 +1,4 @@
-use Rattle.md_modules.specs.Sets.{Within, Disjoint}
+use Rattle.md_graph.specs.Sets.{Within, Disjoint}
 use Rattle.md_tree.specs.Trees.{names, names_below}
 use Rattle.md_tree.specs.Plain.{plain}
 use Rattle.md_tree.specs.TreeEdges.{crosses}

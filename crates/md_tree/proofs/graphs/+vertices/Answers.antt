@@ -2,8 +2,8 @@ use Rattle.std.proofs.Common.{rules, sym, ◌∙◌, ap, subst}
 use Rattle.std.specs.FinSet.{union}
 use Rattle.md_graph.specs.declared.TheConstants.{NAMES}
 use Rattle.md_graph.specs.NameSet.{AllBelow}
-use Rattle.md_modules.specs.Sets.{Has, Disjoint}
-use Rattle.md_modules.proofs.Sets.{only_has}
+use Rattle.md_graph.specs.Sets.{Has, Disjoint}
+use Rattle.md_graph.proofs.SetLemmas.{only_has}
 use Rattle.md_tree.specs.Trees.{EachNode}
 use Rattle.md_tree.specs.WellFormed.{IsCanonicalNode}
 use Rattle.md_tree.specs.declared.Tree.{the_lemmas}

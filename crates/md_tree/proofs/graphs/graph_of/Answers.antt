@@ -1,7 +1,7 @@
 use Rattle.std.proofs.Common.{sym, ◌∙◌, ap, subst}
 use Rattle.md_graph.specs.PlainGraph.{adjacent}
-use Rattle.md_modules.specs.Sets.{Has, Lacks}
-use Rattle.md_modules.proofs.Sets.{empty_lacks, union_right}
+use Rattle.md_graph.specs.Sets.{Has, Lacks}
+use Rattle.md_graph.proofs.SetLemmas.{empty_lacks, union_right}
 use Rattle.md_tree.specs.Trees.{names}
 use Rattle.md_tree.specs.Plain.{plain, plain_option}
 use Rattle.md_tree.specs.TreeGraph.{graph_of_tree}

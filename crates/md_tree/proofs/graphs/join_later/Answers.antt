@@ -1,5 +1,5 @@
 use Rattle.std.proofs.Common.{ℕ, Bool, drop, sym, subst}
-use Rattle.md_modules.specs.Sets.{NameSet, Within, Disjoint}
+use Rattle.md_graph.specs.Sets.{NameSet, Within, Disjoint}
 use Rattle.md_tree.specs.Trees.{PlainTrees, names, names_below}
 use Rattle.md_tree.specs.Plain.{plain}
 use Rattle.md_tree.specs.TreeEdges.{crosses}

@@ -1,5 +1,5 @@
 use Rattle.std.proofs.Common.{◌≡◌, ◌<◌, length, get_or, map, vec_len, sym, ◌∙◌, subst, arith}
-use Rattle.md_modules.specs.Sets.{Within}
+use Rattle.md_graph.specs.Sets.{Within}
 use Rattle.md_tree.specs.declared.Pair.{Pair}
 use Rattle.md_tree.specs.Trees.{names, names_below, count, row}
 use Rattle.md_tree.specs.Plain.{plain}

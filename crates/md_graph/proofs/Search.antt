@@ -3,8 +3,9 @@ use Rattle.std.proofs.Common.{◌≡◌, ℕ, ◌+◌, ◌-◌, ◌<◌, ◌≤�
 use Rattle.std.specs.FinSet.{contains, empty, insert, remove, union, intersection, difference, len, items, from_list, contains-items, contains-from_list, len-insert, len-remove, len-empty, empty_of_len}
 use Rattle.std.specs.Cmp.{nat_cmp_total}
 use Rattle.std.specs.Ordering.{nat_cmp}
-use Rattle.md_modules.specs.Sets.{NameSet, Has, Lacks, Within, HasTwo, only_name}
-use Rattle.md_modules.proofs.Sets.{either, clash, same_name, empty_lacks, insert_new, insert_old, of_insert, insert_lacks, remove_left, of_remove, same_members, Within-refl, Within-trans, remove_insert, insert_within, insert_known, Has-along, of_meet, of_union, union_left, union_right, of_minus, minus_has, minus_lacks, lacks_within}
+use Rattle.md_graph.specs.Sets.{NameSet, Has, Lacks, Within, HasTwo, only_name}
+use Rattle.std.proofs.lemmas.Bool.{cases_Bool}
+use Rattle.md_graph.proofs.SetLemmas.{clash, same_name, empty_lacks, insert_new, insert_old, of_insert, insert_lacks, remove_left, of_remove, same_members, Within-refl, Within-trans, remove_insert, insert_within, insert_known, Has-along, of_meet, of_union, union_left, union_right, of_minus, minus_has, minus_lacks, lacks_within}
 
 -- each set is the set of a list
 of_items : (s : NameSet) → s ≡ from_list (items s)
@@ -16,7 +17,7 @@ module _ {ℓ} (P : NameSet → Type ℓ) (none : P empty) (more : (s : NameSet)
   over_list : (ks : List ℕ) → P (from_list ks)
   over_list [] = none
   over_list (k ∷ ks) =
-      elim (either (contains (from_list ks) k)) [
+      elim (cases_Bool (contains (from_list ks) k)) [
         | inl h ↦ subst P (sym (insert_known _ k h)) (over_list ks)
         | inr l ↦ more _ k l (over_list ks)
       ]
@@ -110,7 +111,7 @@ search_sets_more s k l rest P N d =
       | inr none ↦
           elim (rest (λ a. P (insert a k)) (λ a. N (insert a k)) (λ a w. d (insert a k) (insert_within a (insert s k) k (λ q h. insert_old s k q (w q h)) (insert_new s k)))) [
             | inl f ↦ inl (insert f.0 k, insert_within f.0 (insert s k) k (λ q h. insert_old s k q (f.1 q h)) (insert_new s k), f.2)
-            | inr none_with ↦ inr (λ a w. elim (either (contains a k)) [
+            | inr none_with ↦ inr (λ a w. elim (cases_Bool (contains a k)) [
               | inl h ↦ subst N (remove_insert a k h) (none_with (remove a k) (remove_within s a k w))
               | inr out ↦ none a (apart_within s a k w out)
             ])
@@ -147,7 +148,7 @@ outside_or_within a b = search_members (Lacks b) (Has b) a (λ x h. turn_test (c
 
 -- a member of both, or none
 pub meet_or_disjoint : (a b : NameSet) → ((x : ℕ) × Has a x × Has b x) ⊎ ((x : ℕ) → Has a x → Lacks b x)
-meet_or_disjoint a b = search_members (Has b) (Lacks b) a (λ x h. either (contains b x))
+meet_or_disjoint a b = search_members (Has b) (Lacks b) a (λ x h. cases_Bool (contains b x))
 
 -- a name that tells two sets apart, or they are equal
 pub larger_or_same : (a b : NameSet) → Within a b → ((x : ℕ) × Has b x × Lacks a x) ⊎ (a ≡ b)
@@ -339,19 +340,19 @@ first_below s (suc n) x b h =
     ]
   where
     order : (y x : ℕ) → (y < x) ⊎ (x ≤ y)
-    order y x = elim (either (ltb y x)) [ inl t ↦ inl (ltb-true y x t) | inr t ↦ inr (ltb-false y x t) ]
+    order y x = elim (cases_Bool (ltb y x)) [ inl t ↦ inl (ltb-true y x t) | inr t ↦ inr (ltb-false y x t) ]
 
 pub first_member : (s : NameSet) (x : ℕ) → Has s x → (z : ℕ) × Has s z × ((y : ℕ) → Has s y → z ≤ y)
 first_member s x h = first_below s (x + 1) x (omega arith) h
 
 pub len_one_more : (t : NameSet) (x : ℕ) → len (insert t x) ≤ len t + 1
-len_one_more t x = elim (either (contains t x)) [
+len_one_more t x = elim (cases_Bool (contains t x)) [
   | inl h ↦ let same : len (insert t x) ≡ len t = ap len (insert_known t x h) in omega arith
   | inr l ↦ let more : len (insert t x) ≡ len t + 1 = len_more t x l in omega arith
 ]
 
 pub decide_below : (a b : ℕ) → Decided (a < b)
-decide_below a b = elim (either (ltb a b)) [
+decide_below a b = elim (cases_Bool (ltb a b)) [
   | inl t ↦ inl (ltb-true a b t)
   | inr t ↦ inr (λ l. let le : b ≤ a = ltb-false a b t in omega arith)
 ]

@@ -1,80 +1,13 @@
 -- What `contains` answers of each set of names, one way and back, and the orders of sets.
 use Rattle.std.proofs.Common.{◌≡◌, ℕ, Bool, true, false, not, ◌&&◌, ◌||◌, ◌≢◌, ◌⊎◌, refl, sym, ◌∙◌, ap, subst, inl, inr, true≢false, eqb-true, eq-eqb}
+use Rattle.std.proofs.lemmas.Bool.{cases_Bool, true_from_ne_false, false_from_ne_true, or_cases, or_parts, or_left, or_right, or_from, and_parts, and_cases, and_from, and_left, and_right, not-true, not-false, not_from_false, not_from_true}
 use Rattle.std.specs.FinSet.{empty, insert, remove, retain, union, intersection, difference, contains-empty, contains-insert, contains-remove, contains-retain, contains-union, contains-intersection, contains-difference, same_set, nat_cmp-IsAntisymmetric}
 use Rattle.std.specs.Cmp.{nat_cmp_total, unsigned_tied}
 use Rattle.std.specs.Ordering.{nat_cmp, eq_by_cmp}
-use Rattle.md_modules.specs.Sets.{NameSet, Has, Lacks, Within, only_name}
-
--- a test is true or false
-pub either : (b : Bool) → (b ≡ true) ⊎ (b ≡ false)
-either true = inl refl
-either false = inr refl
+use Rattle.md_graph.specs.Sets.{NameSet, Has, Lacks, Within, only_name}
 
 pub clash : {A : Type 0} {b : Bool} → b ≡ true → b ≡ false → A
 clash p q = absurd (true≢false (sym p ∙ q))
-
--- what isn't false is true, and the other way round
-pub true_if : (b : Bool) → (b ≡ false → ⊥) → b ≡ true
-true_if true n = refl
-true_if false n = absurd (n refl)
-
-pub false_if : (b : Bool) → (b ≡ true → ⊥) → b ≡ false
-false_if true n = absurd (n refl)
-false_if false n = refl
-
-of_or : (a b : Bool) → (a || b) ≡ true → (a ≡ true) ⊎ (b ≡ true)
-of_or true b h = inl refl
-of_or false b h = inr h
-
-of_no_or : (a b : Bool) → (a || b) ≡ false → (a ≡ false) × (b ≡ false)
-of_no_or true b h = absurd (true≢false h)
-of_no_or false b h = (refl, h)
-
-or_left : (a b : Bool) → a ≡ true → (a || b) ≡ true
-or_left true b h = refl
-or_left false b h = absurd (true≢false (sym h))
-
-or_right : (a b : Bool) → b ≡ true → (a || b) ≡ true
-or_right true b h = refl
-or_right false b h = h
-
-no_or : (a b : Bool) → a ≡ false → b ≡ false → (a || b) ≡ false
-no_or true b p q = p
-no_or false b p q = q
-
-of_and : (a b : Bool) → (a && b) ≡ true → (a ≡ true) × (b ≡ true)
-of_and true b h = (refl, h)
-of_and false b h = absurd (true≢false (sym h))
-
-of_no_and : (a b : Bool) → (a && b) ≡ false → (a ≡ false) ⊎ (b ≡ false)
-of_no_and true b h = inr h
-of_no_and false b h = inl refl
-
-both : (a b : Bool) → a ≡ true → b ≡ true → (a && b) ≡ true
-both true b p q = q
-both false b p q = p
-
-no_left : (a b : Bool) → a ≡ false → (a && b) ≡ false
-no_left true b p = absurd (true≢false p)
-no_left false b p = refl
-
-no_right : (a b : Bool) → b ≡ false → (a && b) ≡ false
-no_right true b p = p
-no_right false b p = refl
-
-of_not : (b : Bool) → not b ≡ true → b ≡ false
-of_not true h = absurd (true≢false (sym h))
-of_not false h = refl
-
-of_no_not : (b : Bool) → not b ≡ false → b ≡ true
-of_no_not true h = refl
-of_no_not false h = absurd (true≢false h)
-
-not_false : (b : Bool) → b ≡ false → not b ≡ true
-not_false b h = ap not h
-
-not_true : (b : Bool) → b ≡ true → not b ≡ false
-not_true b h = ap not h
 
 -- equal tests of numbers
 pub tied : (q k : ℕ) → eq_by_cmp nat_cmp q k ≡ true → q ≡ k
@@ -85,7 +18,7 @@ tie q k h = unsigned_tied q k ∙ eq-eqb q k h
 
 -- two numbers are equal or not
 pub same_name : (x y : ℕ) → (x ≡ y) ⊎ (x ≢ y)
-same_name x y = elim (either (eq_by_cmp nat_cmp x y)) [ inl h ↦ inl (tied x y h) | inr h ↦ inr (λ e. clash (tie x y e) h) ]
+same_name x y = elim (cases_Bool (eq_by_cmp nat_cmp x y)) [ inl h ↦ inl (tied x y h) | inr h ↦ inr (λ e. clash (tie x y e) h) ]
 
 -- the empty set
 pub empty_lacks : (q : ℕ) → Lacks empty q
@@ -99,35 +32,35 @@ pub insert_old : (s : NameSet) (k q : ℕ) → Has s q → Has (insert s k) q
 insert_old s k q h = contains-insert nat_cmp_total s k q ∙ or_right _ _ h
 
 pub of_insert : (s : NameSet) (k q : ℕ) → Has (insert s k) q → (q ≡ k) ⊎ Has s q
-of_insert s k q h = elim (of_or _ _ (sym (contains-insert nat_cmp_total s k q) ∙ h)) [ inl e ↦ inl (tied q k e) | inr m ↦ inr m ]
+of_insert s k q h = elim (or_cases _ _ (sym (contains-insert nat_cmp_total s k q) ∙ h)) [ inl e ↦ inl (tied q k e) | inr m ↦ inr m ]
 
 pub insert_lacks : (s : NameSet) (k q : ℕ) → q ≢ k → Lacks s q → Lacks (insert s k) q
-insert_lacks s k q n h = contains-insert nat_cmp_total s k q ∙ no_or _ _ (false_if _ (λ e. n (tied q k e))) h
+insert_lacks s k q n h = contains-insert nat_cmp_total s k q ∙ or_from _ _ (false_from_ne_true _ (λ e. n (tied q k e))) h
 
 -- one member fewer
 pub remove_gone : (s : NameSet) (k : ℕ) → Lacks (remove s k) k
-remove_gone s k = contains-remove nat_cmp_total s k k ∙ no_left _ _ (not_true _ (tie k k refl))
+remove_gone s k = contains-remove nat_cmp_total s k k ∙ and_left _ _ (not_from_true _ (tie k k refl))
 
 pub remove_left : (s : NameSet) (k q : ℕ) → q ≢ k → Has s q → Has (remove s k) q
-remove_left s k q n h = contains-remove nat_cmp_total s k q ∙ both _ _ (not_false _ (false_if _ (λ e. n (tied q k e)))) h
+remove_left s k q n h = contains-remove nat_cmp_total s k q ∙ and_from _ _ (not_from_false _ (false_from_ne_true _ (λ e. n (tied q k e)))) h
 
 pub of_remove : (s : NameSet) (k q : ℕ) → Has (remove s k) q → (q ≢ k) × Has s q
 of_remove s k q h =
-    let both : (_ : _) × _ = of_and _ _ (sym (contains-remove nat_cmp_total s k q) ∙ h) in
-    (λ e. clash (tie q k e) (of_not _ both.0), both.1)
+    let parts : (_ : _) × _ = and_parts _ _ (sym (contains-remove nat_cmp_total s k q) ∙ h) in
+    (λ e. clash (tie q k e) (not-true _ parts.0), parts.1)
 
 -- the members that pass a test
 pub retain_has : (s : NameSet) (p : ℕ → Bool) (q : ℕ) → Has s q → p q ≡ true → Has (retain s p) q
-retain_has s p q h k = contains-retain s p q (λ x e. ap p (sym (nat_cmp-IsAntisymmetric q x e))) ∙ both _ _ h k
+retain_has s p q h k = contains-retain s p q (λ x e. ap p (sym (nat_cmp-IsAntisymmetric q x e))) ∙ and_from _ _ h k
 
 pub of_retain : (s : NameSet) (p : ℕ → Bool) (q : ℕ) → Has (retain s p) q → Has s q × (p q ≡ true)
-of_retain s p q h = of_and _ _ (sym (contains-retain s p q (λ x e. ap p (sym (nat_cmp-IsAntisymmetric q x e)))) ∙ h)
+of_retain s p q h = and_parts _ _ (sym (contains-retain s p q (λ x e. ap p (sym (nat_cmp-IsAntisymmetric q x e)))) ∙ h)
 
 pub retain_lacks : (s : NameSet) (p : ℕ → Bool) (q : ℕ) → p q ≡ false → Lacks (retain s p) q
-retain_lacks s p q k = contains-retain s p q (λ x e. ap p (sym (nat_cmp-IsAntisymmetric q x e))) ∙ no_right _ _ k
+retain_lacks s p q k = contains-retain s p q (λ x e. ap p (sym (nat_cmp-IsAntisymmetric q x e))) ∙ and_right _ _ k
 
 pub of_retain_lacks : (s : NameSet) (p : ℕ → Bool) (q : ℕ) → Has s q → Lacks (retain s p) q → p q ≡ false
-of_retain_lacks s p q h l = false_if _ (λ k. clash (retain_has s p q h k) l)
+of_retain_lacks s p q h l = false_from_ne_true _ (λ k. clash (retain_has s p q h k) l)
 
 -- a union
 pub union_left : (s t : NameSet) (q : ℕ) → Has s q → Has (union s t) q
@@ -137,39 +70,39 @@ pub union_right : (s t : NameSet) (q : ℕ) → Has t q → Has (union s t) q
 union_right s t q h = contains-union nat_cmp_total s t q ∙ or_right _ _ h
 
 pub of_union : (s t : NameSet) (q : ℕ) → Has (union s t) q → Has s q ⊎ Has t q
-of_union s t q h = of_or _ _ (sym (contains-union nat_cmp_total s t q) ∙ h)
+of_union s t q h = or_cases _ _ (sym (contains-union nat_cmp_total s t q) ∙ h)
 
 pub of_union_lacks : (s t : NameSet) (q : ℕ) → Lacks (union s t) q → Lacks s q × Lacks t q
-of_union_lacks s t q h = of_no_or _ _ (sym (contains-union nat_cmp_total s t q) ∙ h)
+of_union_lacks s t q h = or_parts _ _ (sym (contains-union nat_cmp_total s t q) ∙ h)
 
 pub union_lacks : (s t : NameSet) (q : ℕ) → Lacks s q → Lacks t q → Lacks (union s t) q
-union_lacks s t q h k = contains-union nat_cmp_total s t q ∙ no_or _ _ h k
+union_lacks s t q h k = contains-union nat_cmp_total s t q ∙ or_from _ _ h k
 
 -- an intersection
 pub meet_has : (s t : NameSet) (q : ℕ) → Has s q → Has t q → Has (intersection s t) q
-meet_has s t q h k = contains-intersection nat_cmp_total s t q ∙ both _ _ h k
+meet_has s t q h k = contains-intersection nat_cmp_total s t q ∙ and_from _ _ h k
 
 pub of_meet : (s t : NameSet) (q : ℕ) → Has (intersection s t) q → Has s q × Has t q
-of_meet s t q h = of_and _ _ (sym (contains-intersection nat_cmp_total s t q) ∙ h)
+of_meet s t q h = and_parts _ _ (sym (contains-intersection nat_cmp_total s t q) ∙ h)
 
 pub of_meet_lacks : (s t : NameSet) (q : ℕ) → Lacks (intersection s t) q → Lacks s q ⊎ Lacks t q
-of_meet_lacks s t q h = of_no_and _ _ (sym (contains-intersection nat_cmp_total s t q) ∙ h)
+of_meet_lacks s t q h = and_cases _ _ (sym (contains-intersection nat_cmp_total s t q) ∙ h)
 
 -- a difference
 pub minus_has : (s t : NameSet) (q : ℕ) → Has s q → Lacks t q → Has (difference s t) q
-minus_has s t q h k = contains-difference nat_cmp_total s t q ∙ both _ _ h (not_false _ k)
+minus_has s t q h k = contains-difference nat_cmp_total s t q ∙ and_from _ _ h (not_from_false _ k)
 
 pub of_minus : (s t : NameSet) (q : ℕ) → Has (difference s t) q → Has s q × Lacks t q
 of_minus s t q h =
-    let two : (_ : _) × _ = of_and _ _ (sym (contains-difference nat_cmp_total s t q) ∙ h) in
-    (two.0, of_not _ two.1)
+    let two : (_ : _) × _ = and_parts _ _ (sym (contains-difference nat_cmp_total s t q) ∙ h) in
+    (two.0, not-true _ two.1)
 
 pub of_minus_lacks : (s t : NameSet) (q : ℕ) → Lacks (difference s t) q → Lacks s q ⊎ Has t q
 of_minus_lacks s t q h =
-    elim (of_no_and _ _ (sym (contains-difference nat_cmp_total s t q) ∙ h)) [ inl a ↦ inl a | inr b ↦ inr (of_no_not _ b) ]
+    elim (and_cases _ _ (sym (contains-difference nat_cmp_total s t q) ∙ h)) [ inl a ↦ inl a | inr b ↦ inr (not-false _ b) ]
 
 pub minus_lacks : (s t : NameSet) (q : ℕ) → Has t q → Lacks (difference s t) q
-minus_lacks s t q h = contains-difference nat_cmp_total s t q ∙ no_right _ _ (not_true _ h)
+minus_lacks s t q h = contains-difference nat_cmp_total s t q ∙ and_right _ _ (not_from_true _ h)
 
 -- the set of one member
 pub only_has : (v : ℕ) → Has (only_name v) v
@@ -201,7 +134,7 @@ Within-trans a b c f g x h = g x (f x h)
 
 -- what a smaller set lacks
 pub lacks_within : (s t : NameSet) → Within s t → (x : ℕ) → Lacks t x → Lacks s x
-lacks_within s t f x l = false_if _ (λ h. clash (f x h) l)
+lacks_within s t f x l = false_from_ne_true _ (λ h. clash (f x h) l)
 
 pub remove_insert : (s : NameSet) (k : ℕ) → Has s k → insert (remove s k) k ≡ s
 remove_insert s k h = same_members _ _

@@ -1,4 +1,5 @@
--- Sets of names, and the words that the definitions of modules use of them.
+-- Finite sets of names, and the words for them. Two sets with the same members are equal.
+-- Source: finite sets, as in any textbook.
 use Rattle.std.specs.Prelude.{◌≡◌, ℕ, ◌≢◌, true, false}
 use Rattle.std.specs.FinSet.{FinSet, contains, empty, insert}
 use Rattle.std.specs.Ordering.{nat_cmp}
