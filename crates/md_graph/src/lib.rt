@@ -6,7 +6,7 @@ mod graph;
 mod names;
 mod transposition;
 
-pub use graph::Graph;
+pub use graph::{Graph, insert_in_rows};
 pub use names::{Members, Names, lowest};
 use std::alloc::{AllocError, AllocFailed};
 

@@ -147,6 +147,21 @@ impl Names {
         first_apart(&self.words, &first.words, &second.words, self.used)
     }
 
+    /// Becomes the members of `of` that neither `first` nor `second` has. It passes over the words in use of both.
+    pub fn become_alone(&mut self, of: &Names, first: &Names, second: &Names)
+        ensures { self.new ≡ set.difference of.now (set.union first.now second.now) }
+    {
+        wipe(&mut self.words, self.used);
+        keep_alone(
+            &mut self.words,
+            &of.words,
+            &first.words,
+            &second.words,
+            of.used,
+        );
+        self.used = of.used;
+    }
+
     /// Whether `v`, any number, is a member.
     pub fn has(&self, v: u32) -> bool
         ensures { result ≡ set.contains self.now v }
@@ -370,6 +385,24 @@ fn move_apart(
         let moved = words[i] & (first[i] ^ second[i]);
         words[i] ^= moved;
         to[i] |= moved;
+    }
+}
+
+/// The first `used` words become the bits of `of` that neither `first` nor `second` has.
+fn keep_alone(
+    words: &mut [u64; WORDS],
+    of: &[u64; WORDS],
+    first: &[u64; WORDS],
+    second: &[u64; WORDS],
+    used: usize,
+)
+    requires { used ≤ WORDS }
+    ensures first { (k : ℕ) → k < used → slice_index words.new k ≡ bit_xor (slice_index of.now k)
+        (bit_and (slice_index of.now k) (bit_or (slice_index first.now k) (slice_index second.now k))) }
+    ensures rest { (k : ℕ) → used ≤ k → slice_index words.new k ≡ slice_index words.old k }
+{
+    for i in 0..used {
+        words[i] = of[i] ^ (of[i] & (first[i] | second[i]));
     }
 }
 
@@ -644,5 +677,10 @@ mod tests {
         left.flip(&names);
         left.flip(&second);
         assert!(rt; left.count() == 3 && left.has(64) && !left.has(65) && !left.has(127));
+        names.become_alone(&borders(), &left, &second);
+        assert!(rt; names.is_empty());
+        left.remove(NAMES - 1);
+        names.become_alone(&borders(), &left, &second);
+        assert!(rt; names.count() == 1 && names.has(NAMES - 1));
     }
 }
