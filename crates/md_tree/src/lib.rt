@@ -6,9 +6,7 @@ ghost use Rattle.md_tree.specs.declared.Children.{out-Children};
 
 mod graphs;
 pub mod laws;
-mod quotient;
-mod start;
-mod workspace;
+mod pair_writer;
 mod writer;
 
 pub use graphs::graph_of;
