@@ -18,6 +18,7 @@ use std::alloc::Global;
 use thiserror::Error;
 
 mod asked;
+pub mod laws;
 mod memory;
 mod system;
 #[cfg(test)]
