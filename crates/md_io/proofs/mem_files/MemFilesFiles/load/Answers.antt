@@ -1,7 +1,7 @@
 -- Where no load can fail, the number of this one is not among the failing ones.
 use Rattle.std.proofs.Common.{arith, rules, sym}
 use Rattle.md_io.proofs.Sure.{next-sure, sure-more, neither-fails}
-use Rattle.md_io.proofs.memory.MemFilesFiles.load.Goals as goal
+use Rattle.md_io.proofs.mem_files.MemFilesFiles.load.Goals as goal
 
 pub returns-in_err-note-clause-sure_stays : goal.returns-in_err-note-clause-sure_stays
 returns-in_err-note-clause-sure_stays c = λ sure _.

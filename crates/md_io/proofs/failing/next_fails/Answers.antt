@@ -2,7 +2,7 @@
 use Rattle.std.proofs.Common.{◌<◌, ◌+◌, All, sym, arith}
 use Rattle.std.proofs.lemmas.List.Elements.{All-from_get_or}
 use Rattle.md_io.proofs.Numbers.{list_any-past, below-All}
-use Rattle.md_io.proofs.memory.next_fails.Goals as goal
+use Rattle.md_io.proofs.failing.next_fails.Goals as goal
 
 pub returns-in-None : goal.returns-in-None
 returns-in-None c =

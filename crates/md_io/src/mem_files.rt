@@ -1,17 +1,13 @@
-//! Files and sinks in memory.
-ghost use Rattle.std.specs.Prelude.{◌≡◌, ◌≢◌, ◌⊎◌, ◌↔◌, ◌==◌, ℕ, ◌+◌, ◌-◌, ◌^◌, ◌<◌, ◌≤◌, List, [], ◌∷◌, ◌++◌, Bool, Option, None, Some, length, take, bytes_eq, if◌then◌else◌, IsTrue, IsOk, IfOk, OnOk, OnErr, IsErrOf, IsOkUnless, All};
-ghost use Rattle.std.specs.List.{list_any};
-ghost use Rattle.std.specs.Io.KnownBytes.{Appends, Keeps};
+//! Files in memory.
+ghost use Rattle.std.specs.Prelude.{◌≡◌, ◌≢◌, ◌⊎◌, ◌↔◌, ◌==◌, ℕ, ◌+◌, ◌-◌, ◌^◌, ◌<◌, ◌≤◌, List, [], ◌∷◌, ◌++◌, Bool, length, bytes_eq, if◌then◌else◌, IsTrue, IfOk, OnOk, OnErr, IsErrOf, IsOkUnless, All};
 ghost use Rattle.md_io.specs.Told.{absent, file, IsToldAs, IsToldLonger, IsToldFile};
 ghost use Rattle.md_io.specs.Count.{count_up, Rose, RoseBy};
-ghost use Rattle.md_io.specs.Front.{AppendsFront};
 ghost use Rattle.md_io.specs.Asked.{names};
 ghost use Rattle.md_io.specs.MemFiles.{stored, failing_loads, load_count, no_load_fails, IsMemLoad};
-ghost use Rattle.md_io.specs.MemSink.{failing_puts, put_count, part_of_put, IsMemPut};
-ghost use Rattle.md_io.specs.SafeSink.{IsSafePut};
 
 use crate::asked::note;
-use crate::{Files, LIMIT, LoadFault, PutFault, Sink};
+use crate::failing::next_fails;
+use crate::{Files, LIMIT, LoadFault};
 use std::alloc::Global;
 use std::collections::BTreeMap;
 
@@ -26,16 +22,6 @@ pub struct MemFiles {
     taken: u64,
     overs: u64,
     asked: Vec<String>,
-}
-
-// Whether the next call's number is among the failing ones, after this many calls.
-fn next_fails(failing: &[u64], made: u64) -> bool
-    ensures { result ≡ list_any (λ number. number == made + 1) failing.now }
-{
-    match made.checked_add(1) {
-        Some(number) => failing.contains(&number),
-        None => false,
-    }
 }
 
 // Copies a whole file, or refuses it where it has more bytes than the limit: it then hands over one
@@ -172,143 +158,5 @@ impl Files for MemFiles {
             &mut self.taken,
             &mut self.overs,
         )
-    }
-}
-
-/// A sink in memory, of which some puts fail by their number.
-#[derive(Drop)]
-pub struct MemSink {
-    content: Vec<u8>,
-    failing: Vec<u64>,
-    part: u64,
-    puts: u64,
-    faults: u64,
-    wants: u64,
-}
-
-/// A sink in memory that never fails: every put takes its whole piece, or memory runs out.
-#[derive(Drop)]
-pub struct SafeSink {
-    content: Vec<u8>,
-    wants: u64,
-}
-
-// Appends a piece, and counts a want of memory.
-fn append(content: &mut Vec<u8>, wants: &mut u64, piece: &[u8]) -> Result<(), PutFault>
-    ensures ok { OnOk result (content.new.items ≡ content.old.items ++ piece.now) }
-    ensures ok_wants { OnOk result (wants.new ≡ wants.old) }
-    ensures err { OnErr result (content.new.items ≡ content.old.items) }
-    ensures err_wants { OnErr result (wants.new ≡ count_up wants.old 1) }
-    ensures only_memory { IsOkUnless result PutFault.Memory }
-    ensures wants_never_fall { wants.old ≤ wants.new }
-{
-    if content.extend_from_slice(piece).is_err() {
-        *wants = wants.saturating_add(1);
-        return Err(PutFault::Memory);
-    }
-    Ok(())
-}
-
-// The beginning of a piece that a put takes before it fails.
-fn front(piece: &[u8], most: u64) -> &[u8]
-    ensures { result.now ≡ take most piece.now }
-{
-    let most = most as usize;
-    if most < piece.len() {
-        &piece[..most]
-    } else {
-        piece
-    }
-}
-
-impl MemSink {
-    /// An empty sink. The puts whose numbers, counted from 1, stand in `failing` fail, and take at
-    /// most the first `part` bytes of their piece. An empty piece counts as no put.
-    pub fn new(alloc: Global, failing: Vec<u64>, part: u64) -> MemSink
-        ensures holds { ⟦<MemSink as Sink>⟧.holds result ≡ Some [] }
-        ensures faults { ⟦<MemSink as Sink>⟧.faults result ≡ 0 }
-        ensures wants { ⟦<MemSink as Sink>⟧.wants result ≡ 0 }
-        ensures failing { failing_puts result ≡ failing.items }
-        ensures puts { put_count result ≡ 0 }
-        ensures part { part_of_put result ≡ part }
-    {
-        MemSink {
-            content: Vec::new(alloc),
-            failing,
-            part,
-            puts: 0,
-            faults: 0,
-            wants: 0,
-        }
-    }
-
-    /// The bytes taken so far.
-    pub fn bytes(&self) -> &[u8]
-        ensures { ⟦<MemSink as Sink>⟧.holds self.now ≡ Some result.now }
-    {
-        self.content.as_slice()
-    }
-}
-
-impl Sink for MemSink {
-    ghost holds = { λ sink. Some sink.content.items };
-
-    ghost faults = { λ sink. sink.faults };
-
-    ghost wants = { λ sink. sink.wants };
-
-    ghost put_gives = { IsMemPut };
-
-    fn put(&mut self, piece: &[u8]) -> Result<(), PutFault> {
-        if piece.is_empty() {
-            return Ok(());
-        }
-        let fails = next_fails(self.failing.as_slice(), self.puts);
-        self.puts = self.puts.saturating_add(1);
-        if !fails {
-            return append(&mut self.content, &mut self.wants, piece);
-        }
-        let part = front(piece, self.part);
-        append(&mut self.content, &mut self.wants, part)?;
-        self.faults = self.faults.saturating_add(1);
-        Err(PutFault::Failed)
-    }
-}
-
-impl SafeSink {
-    /// An empty sink.
-    pub fn new(alloc: Global) -> SafeSink
-        ensures holds { ⟦<SafeSink as Sink>⟧.holds result ≡ Some [] }
-        ensures faults { ⟦<SafeSink as Sink>⟧.faults result ≡ 0 }
-        ensures wants { ⟦<SafeSink as Sink>⟧.wants result ≡ 0 }
-    {
-        SafeSink {
-            content: Vec::new(alloc),
-            wants: 0,
-        }
-    }
-
-    /// The bytes taken so far.
-    pub fn bytes(&self) -> &[u8]
-        ensures { ⟦<SafeSink as Sink>⟧.holds self.now ≡ Some result.now }
-    {
-        self.content.as_slice()
-    }
-}
-
-impl Sink for SafeSink {
-    ghost holds = { λ sink. Some sink.content.items };
-
-    ghost faults = { λ _. 0 };
-
-    ghost wants = { λ sink. sink.wants };
-
-    ghost put_gives = { IsSafePut };
-
-    fn put(&mut self, piece: &[u8]) -> Result<(), PutFault> {
-        if piece.is_empty() {
-            return Ok(());
-        }
-        append(&mut self.content, &mut self.wants, piece)
     }
 }

@@ -1,7 +1,8 @@
--- A put whose number is not among the failing ones does not fail; one that fails takes a beginning of the piece.
+-- A put whose number is not among the failing ones does not fail; one that fails takes a beginning
+-- of the piece.
 use Rattle.std.proofs.Common.{rules, sym, take, drop, take-append-drop}
 use Rattle.md_io.proofs.Sure.{put-quiet}
-use Rattle.md_io.proofs.memory.MemSinkSink.put.Goals as goal
+use Rattle.md_io.proofs.mem_sink.MemSinkSink.put.Goals as goal
 
 pub returns-then-not-fails-clause-gives : goal.returns-then-not-fails-clause-gives
 returns-then-not-fails-clause-gives c = record {
