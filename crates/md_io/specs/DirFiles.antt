@@ -9,7 +9,8 @@ use Rattle.md_io.specs.Count.{count_up}
 -- the counts of faults and of bytes before and after a load of a file of the system: one more fault
 -- exactly where it failed, and at most one byte more than the limit taken.
 -- Source: the read loop of POSIX, `read` until it gives 0.
-pub record IsSystemLoad (limit : ℕ) (answer : Result (Vec ℕ Global) LoadFault) (faults new_faults taken new_taken : ℕ) : Type 0 where
+pub record IsSystemLoad (limit : ℕ) (answer : Result (Vec ℕ Global) LoadFault)
+    (faults new_faults taken new_taken : ℕ) : Type 0 where
   pub fault : IsErrOf answer Failed → new_faults ≡ count_up faults 1
   pub no_fault : ¬ IsErrOf answer Failed → new_faults ≡ faults
   pub stops : new_taken ≤ taken + (limit + 1)

@@ -123,8 +123,8 @@ fn read_up_to<T: Read>(reader: &mut T, bytes: &mut Vec<u8>, limit: u64) -> Resul
     Err(LoadFault::TooLong)
 }
 
-// Reads a whole file, or refuses it where it has more bytes than the limit. Every byte that was read
-// is counted, whatever the answer.
+// Reads a whole file, or refuses it where it has more bytes than the limit. Every byte that was
+// read is counted, whatever the answer.
 pub(crate) fn read_whole<T: Read>(
     alloc: Global,
     reader: &mut T,
