@@ -9,7 +9,7 @@ use Rattle.md_tree.specs.WellFormed.{IsCanonicalNode}
 use Rattle.md_tree.specs.declared.Tree.{the_lemmas}
 use Rattle.md_tree.proofs.Plain.{plain_is_node, names_leaf, names_node}
 use Rattle.md_tree.proofs.Loops.{names_child_below, names_child_absent, names_child_canonical, names_step, names_end, insert_is_union}
-use Rattle.md_tree.proofs.graphs.+vertices.Goals as goal
+use Rattle.md_tree.proofs.tree_graph.+vertices.Goals as goal
 
 pub add_names-add_vertex-requires-clause-name : goal.add_names-add_vertex-requires-clause-name
 add_names-add_vertex-requires-clause-name t c =

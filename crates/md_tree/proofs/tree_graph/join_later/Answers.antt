@@ -6,7 +6,7 @@ use Rattle.md_tree.specs.TreeEdges.{crosses}
 use Rattle.md_tree.proofs.Edges.{crosses_right, crosses_none}
 use Rattle.md_tree.proofs.Loops.{loop_child, loop_others, loop_step, loop_end, disjoint_first, disjoint_rest}
 use Rattle.md_tree.proofs.Denoted.{later_items}
-use Rattle.md_tree.proofs.graphs.join_later.Goals as goal
+use Rattle.md_tree.proofs.tree_graph.join_later.Goals as goal
 
 abbrev F : NameSet → PlainTrees → ℕ → ℕ → Bool
 F a ts = crosses a (names_below ts)

@@ -3,7 +3,7 @@ use Rattle.md_tree.specs.Trees.{names, names_below}
 use Rattle.md_tree.specs.WellFormed.{AreApart}
 use Rattle.md_tree.specs.TreeEdges.{crosses, in_two}
 use Rattle.md_tree.proofs.Loops.{loop_child, loop_others, loop_later, loop_step}
-use Rattle.md_tree.proofs.graphs.join_each_two.Goals as goal
+use Rattle.md_tree.proofs.tree_graph.join_each_two.Goals as goal
 
 pub join_later-requires-clause-inside : goal.join_later-requires-clause-inside
 join_later-requires-clause-inside c =

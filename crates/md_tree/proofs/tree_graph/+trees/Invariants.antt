@@ -3,7 +3,7 @@ use Rattle.md_tree.specs.Trees.{names, names_below}
 use Rattle.md_tree.specs.Plain.{plain}
 use Rattle.md_tree.specs.TreeEdges.{crosses}
 use Rattle.md_tree.proofs.Loops.{EdgeLoop}
-use Rattle.md_tree.proofs.graphs.+trees.Given as goal
+use Rattle.md_tree.proofs.tree_graph.+trees.Given as goal
 
 abbrev pub invariant-join_below-loop-child : goal.invariant-join_below-loop-child
 invariant-join_below-loop-child l =

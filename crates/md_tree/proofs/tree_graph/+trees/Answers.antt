@@ -9,7 +9,7 @@ use Rattle.md_tree.specs.declared.Tree.{the_lemmas}
 use Rattle.md_tree.proofs.Plain.{names_leaf, names_node}
 use Rattle.md_tree.proofs.Edges.{crosses_left, none_crosses}
 use Rattle.md_tree.proofs.Loops.{loop_child, loop_others, loop_step, loop_end}
-use Rattle.md_tree.proofs.graphs.+trees.Goals as goal
+use Rattle.md_tree.proofs.tree_graph.+trees.Goals as goal
 
 abbrev F : NameSet → PlainTrees → ℕ → ℕ → Bool
 F b ts = crosses (names_below ts) b

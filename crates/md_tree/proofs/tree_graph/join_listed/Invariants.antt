@@ -3,7 +3,7 @@ use Rattle.md_graph.specs.PlainGraph.{adjacent}
 use Rattle.md_tree.specs.Trees.{row}
 use Rattle.md_tree.specs.Plain.{plain}
 use Rattle.md_tree.specs.TreeEdges.{in_listed}
-use Rattle.md_tree.proofs.graphs.join_listed.Given as goal
+use Rattle.md_tree.proofs.tree_graph.join_listed.Given as goal
 
 abbrev pub invariant-loop-pair : goal.invariant-loop-pair
 invariant-loop-pair l =

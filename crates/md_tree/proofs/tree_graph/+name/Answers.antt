@@ -9,7 +9,7 @@ use Rattle.md_tree.specs.declared.Tree.{the_lemmas}
 use Rattle.md_tree.proofs.Plain.{names_leaf, names_node}
 use Rattle.md_tree.proofs.Edges.{crosses_right, crosses_none, joined_two}
 use Rattle.md_tree.proofs.Loops.{loop_child, loop_others, loop_step, loop_end, lacks_first, lacks_rest}
-use Rattle.md_tree.proofs.graphs.+name.Goals as goal
+use Rattle.md_tree.proofs.tree_graph.+name.Goals as goal
 
 abbrev F : ℕ → PlainTrees → ℕ → ℕ → Bool
 F name ts = crosses (only_name name) (names_below ts)

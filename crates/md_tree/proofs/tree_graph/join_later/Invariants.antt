@@ -4,7 +4,7 @@ use Rattle.md_tree.specs.Trees.{names, names_below}
 use Rattle.md_tree.specs.Plain.{plain}
 use Rattle.md_tree.specs.TreeEdges.{crosses}
 use Rattle.md_tree.proofs.Loops.{EdgeLoop}
-use Rattle.md_tree.proofs.graphs.join_later.Given as goal
+use Rattle.md_tree.proofs.tree_graph.join_later.Given as goal
 
 abbrev pub invariant-loop-later : goal.invariant-loop-later
 invariant-loop-later l =
