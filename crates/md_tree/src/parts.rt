@@ -1,17 +1,25 @@
-//! Puts a tree together from its parts.
+//! The parts of a tree, and the tree that is put together from them.
 ghost use Rattle.std.specs.Prelude.{◌≡◌, [], ◌∷◌, ◌++◌, map, IfOk};
 ghost use Rattle.md_tree.specs.Trees.{PlainTree};
 ghost use Rattle.md_tree.specs.Plain.{plain};
-ghost use Rattle.md_decompose.specs.Parts.{plain_part, parts_of};
-ghost use Rattle.md_decompose.specs.Stacks.{with_part, HasChildrenOf};
+ghost use Rattle.md_tree.specs.Parts.{plain_part, parts_of};
+ghost use Rattle.md_tree.specs.Stacks.{with_part, HasChildrenOf};
 
-use crate::part::Part;
+use crate::{Children, Kind, QuotientEdges, Tree};
 use md_graph::Memory;
-use md_tree::{Children, Tree};
 use std::alloc::Global;
 
-/// The tree whose parts these are.
-pub(crate) fn build(alloc: Global, mut parts: Vec<Part>) -> Result<Tree, Memory>
+/// A node of a tree without those below it: a name, or a kind with the number of children and the
+/// pairs of them that it lists.
+#[derive(Drop)]
+pub enum Part {
+    Leaf(u32),
+    Node(Kind, u64, QuotientEdges),
+}
+
+/// The tree whose parts these are: each node before its children, and these from the last to the
+/// first. No call nests as deep as the tree. Errors: want of memory.
+pub fn build(alloc: Global, mut parts: Vec<Part>) -> Result<Tree, Memory>
     requires { (t : PlainTree) × (map plain_part parts.items ≡ parts_of t) }
     ensures { IfOk result (λ tree. (t : PlainTree)
         → map plain_part parts.items ≡ parts_of t → plain tree ≡ t) }

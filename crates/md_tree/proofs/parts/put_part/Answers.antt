@@ -1,6 +1,6 @@
 use Rattle.std.proofs.Common.{◌-◌, ◌∙◌, ap}
-use Rattle.md_decompose.proofs.Stacking.{leaf_put, node_put}
-use Rattle.md_decompose.proofs.build.put_part.Goals as goal
+use Rattle.md_tree.proofs.Stacking.{leaf_put, node_put}
+use Rattle.md_tree.proofs.parts.put_part.Goals as goal
 
 pub returns-in_ok-push-in-Leaf : goal.returns-in_ok-push-in-Leaf
 returns-in_ok-push-in-Leaf c = leaf_put c.in-Leaf.name _ _ c.args.part c.in-Leaf.is c.in_ok-push-in-Leaf.ensures.items

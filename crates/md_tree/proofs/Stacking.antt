@@ -8,10 +8,10 @@ use Rattle.md_tree.specs.declared.Tree.{Tree, Leaf, Node}
 use Rattle.md_tree.specs.Trees.{node, row}
 use Rattle.md_tree.specs.Plain.{plain}
 use Rattle.md_tree.proofs.Plain.{plain_is_leaf, plain-node}
-use Rattle.md_decompose.specs.declared.part.Part.{Part}
-use Rattle.md_decompose.specs.declared.part.Part.TheVariants.{Leaf as LeafPart, Node as NodePart}
-use Rattle.md_decompose.specs.Parts.{plain_part}
-use Rattle.md_decompose.specs.Stacks.{with_part}
+use Rattle.md_tree.specs.declared.parts.Part.{Part}
+use Rattle.md_tree.specs.declared.parts.Part.TheVariants.{Leaf as LeafPart, Node as NodePart}
+use Rattle.md_tree.specs.Parts.{plain_part}
+use Rattle.md_tree.specs.Stacks.{with_part}
 
 pub map_one_more : {X Y : Type 0} (f : X → Y) (xs ys : List X) (x : X) → xs ≡ ys ++ x ∷ [] → map f xs ≡ map f ys ++ f x ∷ []
 map_one_more f xs ys x e = ap (map f) e ∙ map-append f ys (x ∷ [])

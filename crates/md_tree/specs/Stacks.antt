@@ -2,7 +2,7 @@
 -- Source: the evaluation of prefix notation, read from right to left.
 use Rattle.std.specs.Prelude.{◌≤◌, ◌-◌, List, [], ◌∷◌, ◌++◌, length, take, drop, ⊤}
 use Rattle.md_tree.specs.Trees.{PlainTree, leaf, node, row}
-use Rattle.md_decompose.specs.Parts.{PlainPart, name, inner}
+use Rattle.md_tree.specs.Parts.{PlainPart, name, inner}
 
 -- the stack after one more part, its lowest tree first: a name is a tree, and a node takes its children off the top
 abbrev pub with_part : PlainPart → List PlainTree → List PlainTree

@@ -4,8 +4,8 @@ use Rattle.std.specs.Prelude.{ℕ, List, [], ◌∷◌, ◌++◌}
 use Rattle.md_tree.specs.declared.Kind.{Kind}
 use Rattle.md_tree.specs.declared.Pair.{Pair}
 use Rattle.md_tree.specs.Trees.{PlainTree, leaf, node, PlainTrees, no_tree, one_more, count}
-use Rattle.md_decompose.specs.declared.part.Part.{Part}
-use Rattle.md_decompose.specs.declared.part.Part.TheVariants.{Leaf, Node}
+use Rattle.md_tree.specs.declared.parts.Part.{Part}
+use Rattle.md_tree.specs.declared.parts.Part.TheVariants.{Leaf, Node}
 
 -- a name, or a node with its kind, the number of its children, and the pairs of positions that it lists
 pub data PlainPart : Type 0 where

@@ -1,8 +1,8 @@
 use Rattle.std.proofs.Common.{map, vec_len}
 use Rattle.md_tree.specs.Plain.{plain}
-use Rattle.md_decompose.specs.Parts.{plain_part}
-use Rattle.md_decompose.proofs.Folding.{IsFolding}
-use Rattle.md_decompose.proofs.build.build.Given as goal
+use Rattle.md_tree.specs.Parts.{plain_part}
+use Rattle.md_tree.proofs.Folding.{IsFolding}
+use Rattle.md_tree.proofs.parts.build.Given as goal
 
 abbrev pub invariant-loop-part : goal.invariant-loop-part
 invariant-loop-part l =

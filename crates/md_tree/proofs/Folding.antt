@@ -6,8 +6,8 @@ use Rattle.std.specs.Prelude.{⊤}
 use Rattle.md_tree.specs.declared.Kind.{Kind}
 use Rattle.md_tree.specs.declared.Pair.{Pair}
 use Rattle.md_tree.specs.Trees.{PlainTree, leaf, node, PlainTrees, no_tree, one_more, count, row}
-use Rattle.md_decompose.specs.Parts.{PlainPart, inner, parts_of, parts_backward}
-use Rattle.md_decompose.specs.Stacks.{with_part, HasChildrenOf}
+use Rattle.md_tree.specs.Parts.{PlainPart, inner, parts_of, parts_backward}
+use Rattle.md_tree.specs.Stacks.{with_part, HasChildrenOf}
 
 -- the stack after these parts, from the last to the first
 abbrev pub folded : List PlainPart → List PlainTree → List PlainTree

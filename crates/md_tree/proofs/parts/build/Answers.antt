@@ -1,10 +1,10 @@
 use Rattle.std.proofs.Common.{map, sym, ◌∙◌, ap, subst}
 use Rattle.std.proofs.lemmas.List.{nil_from_length}
 use Rattle.md_tree.specs.Plain.{plain}
-use Rattle.md_decompose.specs.Parts.{plain_part}
-use Rattle.md_decompose.proofs.Folding.{IsFolding, fold_begin, fold_finds, fold_more, fold_top, fold_some}
-use Rattle.md_decompose.proofs.Stacking.{map_one_more}
-use Rattle.md_decompose.proofs.build.build.Goals as goal
+use Rattle.md_tree.specs.Parts.{plain_part}
+use Rattle.md_tree.proofs.Folding.{IsFolding, fold_begin, fold_finds, fold_more, fold_top, fold_some}
+use Rattle.md_tree.proofs.Stacking.{map_one_more}
+use Rattle.md_tree.proofs.parts.build.Goals as goal
 
 pub loop-part-init : goal.loop-part-init
 loop-part-init c =
