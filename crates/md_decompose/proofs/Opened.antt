@@ -17,8 +17,8 @@ use Rattle.md_tree.proofs.Lists.{In, of_append, in_left, in_right}
 use Rattle.md_tree.proofs.Built.{IsBuilt}
 use Rattle.md_tree.proofs.Unique.{two_of_kind}
 use Rattle.md_tree.proofs.Canonical.{built_tree}
-use Rattle.md_decompose.specs.declared.part.Open.{Open}
-use Rattle.md_decompose.specs.Parts.{PlainPart, name, inner, parts_of, parts_backward}
+use Rattle.md_decompose.specs.declared.decomposition.Open.{Open}
+use Rattle.md_tree.specs.Parts.{PlainPart, name, inner, parts_of, parts_backward}
 use Rattle.md_decompose.specs.Children.{FitsBelow}
 use Rattle.md_decompose.specs.Turns.{open_below, IsPartOf, IsTurn}
 use Rattle.md_decompose.proofs.Joining.{all_names, node_built, weights, weights-append, child_maximal, children_fall}

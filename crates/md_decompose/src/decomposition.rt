@@ -6,16 +6,21 @@ ghost use Rattle.md_tree.specs.Trees.{PlainTree};
 ghost use Rattle.md_tree.specs.StrongTrees.{HasKind, IsTreeOf, IsTree};
 ghost use Rattle.md_tree.specs.Plain.{plain_option};
 ghost use Rattle.md_decompose.specs.Children.{AreChildren, FitsBelow};
-ghost use Rattle.md_decompose.specs.Parts.{plain_part, parts_of};
+ghost use Rattle.md_tree.specs.Parts.{plain_part, parts_of};
 ghost use Rattle.md_decompose.specs.Turns.{open_below, ListsForKind, IsTurn};
 
-use crate::build::build;
 use crate::node::children;
 use crate::pairs::quotient_edges;
-use crate::part::{Open, Part};
 use md_graph::{Graph, Memory, Names};
-use md_tree::{Kind, QuotientEdges, Tree};
+use md_tree::{Kind, Part, QuotientEdges, Tree, build};
 use std::alloc::Global;
+
+// A set of vertices whose tree is to come, and the kind of the node above it.
+#[derive(Drop)]
+struct Open {
+    names: Names,
+    parent: Option<Kind>,
+}
 
 /// The tree of the strong modules of a graph, none exactly for the graph without vertices: the leaf sets of its nodes are
 /// exactly the strong modules, each once, each node has the kind of its leaf set, children stand in ascending order of

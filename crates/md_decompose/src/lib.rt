@@ -4,12 +4,10 @@
 //! together at the end: no call nests as deep as the tree.
 #![tactic(auto)]
 
-mod build;
 mod decomposition;
 mod node;
 mod ordered;
 mod pairs;
-mod part;
 mod partition;
 mod prime;
 
