@@ -1,10 +1,10 @@
 //! Undirected graphs without loops and parallel edges.
-ghost use Rattle.std.specs.Prelude.{◌≡◌, ℕ, ◌<◌, ◌≢◌, true, false, IfOk, IfSome, IfNone, length, if◌then◌else◌, ◌/◌, ◌%◌, ◌==◌, ◌&&◌, ◌||◌};
+ghost use Rattle.std.specs.Prelude.{◌≡◌, ℕ, ◌+◌, ◌<◌, ◌≤◌, ◌≢◌, true, false, IfOk, IfSome, IfNone, length, if◌then◌else◌, ◌/◌, ◌%◌, ◌==◌, ◌&&◌, ◌||◌};
 ghost use Rattle.std.specs.Int.{bit_at};
 ghost use Rattle.std.specs.FinSet as set;
-ghost use Rattle.md_graph.specs.Sets.{Has};
+ghost use Rattle.md_graph.specs.Sets.{Has, Lacks};
 ghost use Rattle.md_graph.specs.NameSet.{IsLeastFrom, NoneFrom};
-ghost use Rattle.md_graph.specs.PlainGraph.{adjacent, neighbours, IsGraph, empty_graph, with_vertex, with_edge, with_edges, complement, induced, without_vertex, without_edge};
+ghost use Rattle.md_graph.specs.PlainGraph.{adjacent, neighbours, IsGraph, empty_graph, with_vertex, with_range, with_edge, with_edges, complement, induced, without_vertex, without_edge};
 ghost use Rattle.md_graph.specs.Rows.{row_of};
 ghost use Rattle.md_graph.specs.Blocks.{in_block, IsWithBlock};
 
@@ -125,6 +125,15 @@ impl Graph {
         ensures { self.new ≡ with_vertex self.old v }
     {
         self.live.insert(v);
+    }
+
+    /// Takes in the `count` vertices from `from` on, without edges. Condition: they are names, and none is a vertex yet.
+    pub fn add_range(&mut self, from: u32, count: u32)
+        requires names { from + count ≤ NAMES }
+        requires absent { (v : ℕ) → from ≤ v → v < from + count → Lacks self.old.vertices v }
+        ensures { self.new ≡ with_range self.old from count }
+    {
+        self.live.insert_range(from, count);
     }
 
     /// Takes in the edge between `u` and `v`. Condition: both are vertices and differ, and the edge is absent.

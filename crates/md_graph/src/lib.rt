@@ -3,6 +3,7 @@
 #![tactic(auto)]
 
 mod graph;
+pub mod laws;
 mod names;
 mod transposition;
 
@@ -13,8 +14,8 @@ use std::alloc::{AllocError, AllocFailed};
 /// How many names there are: a name is a number below it.
 pub const NAMES: u32 = 4096;
 
-/// How many words of 64 bits hold one bit a name.
-pub const WORDS: usize = 64;
+// How many words of 64 bits hold one bit a name.
+pub(crate) const WORDS: usize = 64;
 
 /// Want of memory. `?` makes it of what a `Vec` answers then.
 #[derive(Clone, Copy, Debug, PartialEq, Eq)]

@@ -1,9 +1,9 @@
 //! Sets of names.
-ghost use Rattle.std.specs.Prelude.{◌≡◌, nat_le, if◌then◌else◌, ◌≢◌, ◌∷◌, ℕ, length, slice_index, bit_and, bit_or, bit_xor, ◌+◌, ◌*◌, ◌/◌, ◌%◌, ◌^◌, ◌<◌, ◌≤◌, ◌↔◌, IsTrue, IsNone, IfSome, IfNone, ◌==◌};
+ghost use Rattle.std.specs.Prelude.{◌≡◌, nat_le, nat_lt, ◌&&◌, if◌then◌else◌, ◌≢◌, ◌∷◌, ℕ, length, slice_index, bit_and, bit_or, bit_xor, ◌+◌, ◌*◌, ◌/◌, ◌%◌, ◌^◌, ◌<◌, ◌≤◌, ◌↔◌, IsTrue, IsNone, IfSome, IfNone, ◌==◌};
 ghost use Rattle.std.specs.Int.{bit_at};
 ghost use Rattle.std.specs.FinSet as set;
-ghost use Rattle.md_graph.specs.Sets.{Has};
-ghost use Rattle.md_graph.specs.NameSet.{IsLeastFrom, IsGreatest, NoneFrom, AllBelow, ascending, ascending_from, block, told_apart};
+ghost use Rattle.md_graph.specs.Sets.{Has, Within};
+ghost use Rattle.md_graph.specs.NameSet.{IsLeastFrom, IsGreatest, NoneFrom, AllBelow, ascending, ascending_from, block, range, told_apart};
 ghost use Rattle.md_graph.specs.Words.{IsWithout, bit_of, names_below, bits_between, bit_apart};
 
 use crate::{NAMES, WORDS};
@@ -66,6 +66,17 @@ impl Names {
         self.words[word] |= 1 << (v % 64);
         if self.used <= word {
             self.used = word + 1;
+        }
+    }
+
+    /// Takes in the `count` names from `from` on, 64 at once. Condition: all are names.
+    pub fn insert_range(&mut self, from: u32, count: u32)
+        requires { from + count ≤ NAMES }
+        ensures { self.new ≡ set.union self.old (range from count) }
+    {
+        let to = from + count;
+        for at in from / 64..to.div_ceil(64) {
+            self.insert_block(64 * at, bits_of_range(64 * at, from, to));
         }
     }
 
@@ -233,6 +244,20 @@ impl Names {
         are_all_zero(&self.words, self.used)
     }
 
+    /// Whether `other` has the same members.
+    pub fn is_same(&self, other: &Names) -> bool
+        ensures { IsTrue result ↔ (self.now ≡ other.now) }
+    {
+        are_equal(&self.words, &other.words, self.used.max(other.used))
+    }
+
+    /// Whether `other` has each member.
+    pub fn is_subset(&self, other: &Names) -> bool
+        ensures { IsTrue result ↔ Within self.now other.now }
+    {
+        are_within(&self.words, &other.words, self.used)
+    }
+
     /// The members, ascending.
     pub fn members(&self) -> Members<'_>
         ensures list { result ≡ ascending self.now }
@@ -263,9 +288,9 @@ impl Names {
         }
     }
 
-    /// Takes in each name `first + k` for which bit k of `bits` is 1: 64 names at once, for readers.
-    /// Condition: `first` is a name and a multiple of 64.
-    pub fn insert_block(&mut self, first: u32, bits: u64)
+    // Takes in each name `first + k` for which bit k of `bits` is 1: 64 names at once.
+    // Condition: `first` is a name and a multiple of 64.
+    pub(crate) fn insert_block(&mut self, first: u32, bits: u64)
         requires name { first < NAMES }
         requires aligned { first % 64 ≡ 0 }
         ensures { self.new ≡ set.union self.old (block first bits) }
@@ -526,6 +551,60 @@ pub(crate) fn are_all_zero(words: &[u64], used: usize) -> bool
     true
 }
 
+// Whether the first `used` words are equal.
+fn are_equal(first: &[u64], second: &[u64], used: usize) -> bool
+    requires first { used ≤ length first.now }
+    requires second { used ≤ length second.now }
+    ensures { IsTrue result ↔ ((k i : ℕ) → k < used → i < 64
+        → bit_at (slice_index first.now k) i ≡ bit_at (slice_index second.now k) i) }
+{
+    for i in 0..used {
+        if first[i] != second[i] {
+            return false;
+        }
+    }
+    true
+}
+
+// Whether `second` has each bit of the first `used` words.
+fn are_within(first: &[u64], second: &[u64], used: usize) -> bool
+    requires first { used ≤ length first.now }
+    requires second { used ≤ length second.now }
+    ensures { IsTrue result ↔ ((k i : ℕ) → k < used → i < 64
+        → bit_at (slice_index first.now k) i ≤ bit_at (slice_index second.now k) i) }
+{
+    for i in 0..used {
+        if first[i] | second[i] != second[i] {
+            return false;
+        }
+    }
+    true
+}
+
+// Which of the names `first + k`, k below 64, are from `from` on and below `to`. Condition: one of them is below `to`, and one
+// isn't below `from`.
+fn bits_of_range(first: u32, from: u32, to: u32) -> u64
+    requires some { first < to }
+    requires within { from < first + 64 }
+    requires name { first < NAMES }
+    ensures { (k : ℕ) → k < 64
+        → (bit_at result k == 1) ≡ (nat_le from (first + k) && nat_lt (first + k) to) }
+{
+    from_place(
+        below_place((to - first).min(64)),
+        from.saturating_sub(first),
+    )
+}
+
+// The bits below `place` alone.
+fn below_place(place: u32) -> u64
+    requires some { 0 < place }
+    requires within { place ≤ 64 }
+    ensures { (k : ℕ) → k < 64 → bit_at result k ≡ (if nat_lt k place then 1 else 0) }
+{
+    u64::MAX >> (64 - place)
+}
+
 /// The bits of `word` from `place` on.
 fn from_place(word: u64, place: u32) -> u64
     requires { place < 64 }
@@ -655,6 +734,24 @@ mod tests {
         all.take_in(&rest);
         assert_eq!(rt; all.count(), 5);
         assert!(rt; !all.is_empty());
+    }
+
+    #[test]
+    fn compared(rt: HostRuntime) {
+        let mut names = borders();
+        let mut more = Names::none();
+        more.insert_range(63, 66);
+        assert!(rt; more.count() == 66 && more.has(63) && more.has(128) && !more.has(62));
+        assert!(rt; !more.has(129) && !more.is_same(&names) && !names.is_subset(&more));
+        names.remove(NAMES - 1);
+        assert!(rt; names.is_subset(&more) && !more.is_subset(&names) && !names.is_same(&more));
+        names.insert_range(62, 67);
+        names.insert_range(NAMES, 0);
+        assert!(rt; !names.is_same(&more));
+        names.remove(62);
+        assert!(rt; names.is_same(&more) && names.is_subset(&more));
+        more.insert_range(0, NAMES);
+        assert_eq!(rt; more.count(), 4096);
     }
 
     #[test]
