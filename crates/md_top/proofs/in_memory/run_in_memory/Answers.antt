@@ -1,7 +1,7 @@
 -- Where loads can't fail and the files are told, no count of faults rises.
 use Rattle.std.proofs.Common.{rules, inl, inr}
 use Rattle.md_top.proofs.EndsLemmas.{told_input, unrisen}
-use Rattle.md_top.proofs.memory.run_in_memory.Goals as goal
+use Rattle.md_top.proofs.in_memory.run_in_memory.Goals as goal
 
 pub returns-clause-good : goal.returns-clause-good
 returns-clause-good c asked contents input faultless sure =

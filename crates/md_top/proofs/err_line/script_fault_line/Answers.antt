@@ -2,7 +2,7 @@
 use Rattle.std.proofs.Common.{◌≤◌, length, arith}
 use Rattle.md_text.specs.Numbers.{decimal}
 use Rattle.md_text.proofs.NumberLemmas.{length-decimal-le}
-use Rattle.md_top.proofs.line.graph_fault_line.Goals as goal
+use Rattle.md_top.proofs.err_line.script_fault_line.Goals as goal
 
 pub push_decimal-requires : goal.push_decimal-requires
 push_decimal-requires c =
