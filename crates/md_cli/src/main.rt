@@ -4,6 +4,7 @@
 
 ghost use Rattle.std.specs.Prelude.{◌≡◌};
 ghost use Rattle.std.specs.Process.{exit_status};
+ghost use Rattle.md_top.specs.declared.stop.Status.{Status};
 ghost use Rattle.md_top.specs.Ending.{number_of};
 
 use md_io::{DirFiles, StdSink};
@@ -12,14 +13,21 @@ use std::env;
 use std::io::ErrorKind;
 use std::process::ExitCode;
 
+#[cfg(test)]
+mod tests;
+
+fn main(rt: HostRuntime) -> ExitCode {
+    end(&rt)
+}
+
 // Ends with the number of the status of `run` over the words behind the program's name. Where the
 // words can't be had, it writes nothing and ends as at a reading fault, or as at want of memory.
-fn main(rt: HostRuntime) -> ExitCode
+fn end(rt: &HostRuntime) -> ExitCode
     ensures { (status : Status) × (exit_status result ≡ number_of status) }
 {
-    let status = match words(&rt) {
+    let status = match words(rt) {
         Ok(words) => {
-            let mut files = DirFiles::new(&rt, rt.alloc());
+            let mut files = DirFiles::new(rt, rt.alloc());
             let mut out = StdSink::new(rt.stdout());
             let mut err = StdSink::new(rt.stderr());
             run(rt.alloc(), &words, &mut files, &mut out, &mut err)
