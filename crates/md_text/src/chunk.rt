@@ -56,14 +56,15 @@ impl Chunk {
         self.used = 0;
     }
 
-    /// Gathers a piece behind the others. There has to be room for eight bytes: so many are written.
+    /// Gathers two pieces behind the others. There has to be room for sixteen bytes: up to so many are written.
     #[inline]
-    pub fn put(&mut self, piece: Piece)
-        requires { length self.old + 8 ≤ CHUNK_SIZE }
-        ensures text { self.new ≡ self.old ++ piece_text piece }
-        ensures within { length self.new ≤ length self.old + 8 }
+    pub fn put_both(&mut self, first: Piece, second: Piece)
+        requires { length self.old + 16 ≤ CHUNK_SIZE }
+        ensures text { self.new ≡ (self.old ++ piece_text first) ++ piece_text second }
+        ensures within { length self.new ≤ length self.old + 16 }
     {
-        self.used = put_piece(&mut self.bytes, self.used, piece);
+        let at = put_piece(&mut self.bytes, self.used, first);
+        self.used = put_piece(&mut self.bytes, at, second);
     }
 
     /// Appends the bytes to a text, so that none are gathered. Errors: want of memory; both then stay.
