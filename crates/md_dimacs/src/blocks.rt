@@ -21,8 +21,7 @@ pub(crate) fn write_block(first: u32, bits: u64, start: Piece, places: &[Piece],
     while left != 0 {
         let (place, others) = lowest(left);
         left = others;
-        chunk.put(start);
-        chunk.put(places[(first + place) as usize]);
+        chunk.put_both(start, places[(first + place) as usize]);
     }
 }
 

@@ -10,10 +10,12 @@ use std::marker::Model;
 pub const CHUNK_SIZE: usize = 1920;
 
 /// Bytes that are gathered, to be appended to a text together.
+// How many are used stands before the bytes and has 32 bits: so the compiler sees that no byte is written over
+// it, and keeps it in a register while a loop gathers pieces.
 #[derive(Drop)]
 pub struct Chunk {
+    used: u32,
     bytes: [u8; CHUNK_SIZE],
-    used: usize,
 }
 
 impl Model for Chunk {
@@ -33,8 +35,8 @@ impl Chunk {
         ensures { result ≡ [] }
     {
         Chunk {
-            bytes: [0; CHUNK_SIZE],
             used: 0,
+            bytes: [0; CHUNK_SIZE],
         }
     }
 
@@ -43,7 +45,7 @@ impl Chunk {
     pub fn room(&self) -> usize
         ensures { length self.now + result ≡ CHUNK_SIZE }
     {
-        CHUNK_SIZE - self.used
+        CHUNK_SIZE - self.used as usize
     }
 
     /// Lets the bytes go.
@@ -54,14 +56,15 @@ impl Chunk {
         self.used = 0;
     }
 
-    /// Gathers a piece behind the others. There has to be room for eight bytes: so many are written.
+    /// Gathers two pieces behind the others. There has to be room for sixteen bytes: up to so many are written.
     #[inline]
-    pub fn put(&mut self, piece: Piece)
-        requires { length self.old + 8 ≤ CHUNK_SIZE }
-        ensures text { self.new ≡ self.old ++ piece_text piece }
-        ensures within { length self.new ≤ length self.old + 8 }
+    pub fn put_both(&mut self, first: Piece, second: Piece)
+        requires { length self.old + 16 ≤ CHUNK_SIZE }
+        ensures text { self.new ≡ (self.old ++ piece_text first) ++ piece_text second }
+        ensures within { length self.new ≤ length self.old + 16 }
     {
-        self.used = put_piece(&mut self.bytes, self.used, piece);
+        let at = put_piece(&mut self.bytes, self.used, first);
+        self.used = put_piece(&mut self.bytes, at, second);
     }
 
     /// Appends the bytes to a text, so that none are gathered. Errors: want of memory; both then stay.
@@ -71,7 +74,7 @@ impl Chunk {
         ensures text_stays { OnErr result (text.new.items ≡ text.old.items) }
         ensures stays { OnErr result (self.new ≡ self.old) }
     {
-        text.extend_from_slice(&self.bytes[..self.used])?;
+        text.extend_from_slice(&self.bytes[..self.used as usize])?;
         self.used = 0;
         Ok(())
     }
@@ -96,11 +99,12 @@ impl Chunk {
 // Writes a piece behind the first `at` bytes, and says how many they then are. Eight bytes are written, so that
 // what stood behind the piece is lost.
 #[inline(always)]
-fn put_piece(chunk: &mut [u8; CHUNK_SIZE], at: usize, piece: Piece) -> usize
+fn put_piece(chunk: &mut [u8; CHUNK_SIZE], at: u32, piece: Piece) -> u32
     requires { at + 8 ≤ CHUNK_SIZE }
     ensures text { take result chunk.new ≡ take at chunk.old ++ piece_text piece }
     ensures within { result ≤ at + 8 }
 {
+    let at = at as usize;
     chunk[at..at + 8].copy_from_slice(&piece.bytes);
-    at + piece.used
+    (at + piece.used) as u32
 }

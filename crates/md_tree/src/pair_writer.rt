@@ -117,8 +117,7 @@ fn put_run(
         if pair.low != start.low || pair.high as usize >= positions.len() {
             return place;
         }
-        chunk.put(start.piece);
-        chunk.put(positions[pair.high as usize]);
+        chunk.put_both(start.piece, positions[pair.high as usize]);
     }
     end
 }
@@ -140,8 +139,7 @@ fn put_pair(
         return push_pair(text, b',', pair);
     }
     chunk.make_room(CHUNK_SIZE / 2, text)?;
-    chunk.put(start.piece);
-    chunk.put(positions[pair.high as usize]);
+    chunk.put_both(start.piece, positions[pair.high as usize]);
     Ok(())
 }
 

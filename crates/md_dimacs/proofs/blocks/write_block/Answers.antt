@@ -18,7 +18,7 @@ loop-left-preserved c =
       room = let less = shorter _ _ _ cut in omega (arith, c.loop-left.invariant.room);
       written =
           bit_step c.args.first c.loop-left.left c.lowest-place.result.1 c.lowest-place.result.0 c.args.places.now (piece_text c.args.start) c.loop-left.chunk _ _ _ c.index-places-first.result
-          c.loop-left.invariant.written cut c.put.ensures.text c.put-in-loop-left.ensures.text c.index-places-first.is (first_there _ _ _ _ cut c.loop-left.invariant.there);
+          c.loop-left.invariant.written cut refl c.put_both.ensures.text c.index-places-first.is (first_there _ _ _ _ cut c.loop-left.invariant.there);
     }
 
 pub returns : goal.returns
