@@ -1,5 +1,5 @@
 use Rattle.md_decompose.proofs.Components.{flipped_off, listing_begin, listing_turn, listing_end, rest_falls}
-use Rattle.md_decompose.proofs.node.component_list.Goals as goal
+use Rattle.md_decompose.proofs.children.component_list.Goals as goal
 
 pub loop-v-init : goal.loop-v-init
 loop-v-init c =

@@ -1,7 +1,7 @@
 use Rattle.std.proofs.Common.{◌<◌, ◌≤◌, arith}
 use Rattle.md_graph.specs.declared.TheConstants.{NAMES}
 use Rattle.md_decompose.proofs.Heads.{head_room, heading_none, heading_turn, heading_place, no_heads}
-use Rattle.md_decompose.proofs.pairs.heads_of.Goals as goal
+use Rattle.md_decompose.proofs.quotient.heads_of.Goals as goal
 
 pub loop-place-init : goal.loop-place-init
 loop-place-init c = heading_none c.args.sets.now c.none-heads.result c.args.places.now c.none-heads.ensures c.requires.room

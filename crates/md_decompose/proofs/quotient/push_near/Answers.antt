@@ -2,7 +2,7 @@ use Rattle.std.proofs.Common.{length, subst, sym, ap, arith}
 use Rattle.md_graph.specs.PlainGraph.{adjacent}
 use Rattle.md_decompose.specs.Heads.{ListsHeadPairs}
 use Rattle.md_decompose.proofs.HeadPairs.{left_few, pushing_begin, pushing_head, pushing_more, pushing_end}
-use Rattle.md_decompose.proofs.pairs.push_pairs.Goals as goal
+use Rattle.md_decompose.proofs.quotient.push_near.Goals as goal
 
 pub loop-other-init : goal.loop-other-init
 loop-other-init c =

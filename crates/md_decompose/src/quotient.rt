@@ -1,4 +1,4 @@
-//! The pairs of children that a prime node lists.
+//! The pairs of children that a prime node lists: the edges of its quotient.
 ghost use Rattle.std.specs.Prelude.{◌≡◌, ◌+◌, ◌<◌, ◌++◌, ◌∷◌, [], ℕ, IfOk, AllPairs, length, slice_index};
 ghost use Rattle.md_graph.specs.PlainGraph.{adjacent};
 ghost use Rattle.md_graph.specs.Sets.{NameSet, Has, Within, HasSome};
@@ -11,11 +11,12 @@ use md_graph::{Graph, Memory, NAMES, Names};
 use md_tree::{Pair, QuotientEdges};
 use std::alloc::Global;
 
-/// In a set of names below this the places of names are kept in a small array, which costs less to make.
-const FEW: u32 = 64;
+// In a set of names below this the places of names are kept in a small array, which costs less to
+// make.
+const LOW: u32 = 64;
 
-/// The pairs of children of a prime set between which an edge runs, by their positions. The first names of two children
-/// are adjacent exactly where an edge runs between them.
+// The pairs of children of a prime set between which an edge runs, by their positions. The first
+// names of two children are adjacent exactly where an edge runs between them.
 pub(crate) fn quotient_edges(
     alloc: Global,
     graph: &Graph,
@@ -28,13 +29,13 @@ pub(crate) fn quotient_edges(
     ensures { IfOk result (λ edges. ListsPairs (adjacent graph.now) sets.now edges.list.items) }
 {
     let _vertices = graph.vertices();
-    if set.first_from(FEW).is_none() {
-        return pairs_by_places(alloc, graph, set, sets, &mut [0; FEW as usize]);
+    if set.first_from(LOW).is_none() {
+        return pairs_by_places(alloc, graph, set, sets, &mut [0; LOW as usize]);
     }
     pairs_by_places(alloc, graph, set, sets, &mut [0; NAMES as usize])
 }
 
-/// The pairs of children of a prime set between which an edge runs, with room for a place at each name of the set.
+// The same, with room for a place at each name of the set.
 fn pairs_by_places(
     alloc: Global,
     graph: &Graph,
@@ -54,7 +55,7 @@ fn pairs_by_places(
     Ok(QuotientEdges { list })
 }
 
-/// The least name of each set, and at its place the position of the set.
+// The least name of each set, and at its place the position of the set.
 fn heads_of(sets: &[Names], places: &mut [u32]) -> Names
     requires room { (k v : ℕ) → k < length sets.now → Has (set_at sets.now k) v
         → v < length places.old }
@@ -74,7 +75,7 @@ fn heads_of(sets: &[Names], places: &mut [u32]) -> Names
     heads
 }
 
-/// The pairs of adjacent heads, by their places.
+// The pairs of adjacent heads, by their places.
 fn head_pairs(
     alloc: Global,
     graph: &Graph,
@@ -83,17 +84,18 @@ fn head_pairs(
 ) -> Result<Vec<Pair>, Memory>
     requires room { (v : ℕ) → Has heads.now v → v < length places.now }
     requires rising { RisesOn heads.now places.now }
-    ensures { IfOk result (λ edges. ListsHeadPairs (adjacent graph.now) heads.now places.now NAMES 0 edges.items) }
+    ensures { IfOk result (λ edges.
+        ListsHeadPairs (adjacent graph.now) heads.now places.now NAMES 0 edges.items) }
 {
     let mut edges = Vec::new(alloc);
     for head in heads.members() {
-        push_pairs(graph, heads, places, head, &mut edges)?;
+        push_near(graph, heads, places, head, &mut edges)?;
     }
     Ok(edges)
 }
 
-/// The pairs of `head` and each later one that is adjacent to it, by their places.
-fn push_pairs(
+// The pairs of `head` and each later one that is adjacent to it, by their places.
+fn push_near(
     graph: &Graph,
     heads: &Names,
     places: &[u32],
@@ -105,7 +107,8 @@ fn push_pairs(
     requires member { Has heads.now head }
     requires name { head < NAMES }
     requires before { ListsHeadPairs (adjacent graph.now) heads.now places.now head 0 edges.old.items }
-    ensures { IfOk result (λ _. ListsHeadPairs (adjacent graph.now) heads.now places.now (head + 1) 0 edges.new.items) }
+    ensures { IfOk result (λ _.
+        ListsHeadPairs (adjacent graph.now) heads.now places.now (head + 1) 0 edges.new.items) }
 {
     let low = places[head as usize];
     let near = graph.row(head).and(heads);

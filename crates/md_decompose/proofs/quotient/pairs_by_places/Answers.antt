@@ -1,7 +1,7 @@
 use Rattle.std.proofs.Common.{◌<◌, length, sym, subst, arith}
 use Rattle.md_decompose.proofs.Heads.{heads_rise}
 use Rattle.md_decompose.proofs.HeadPairs.{child_within, child_some, pairs_listed}
-use Rattle.md_decompose.proofs.pairs.pairs_by_places.Goals as goal
+use Rattle.md_decompose.proofs.quotient.pairs_by_places.Goals as goal
 
 pub heads_of-heads-requires-clause-some : goal.heads_of-heads-requires-clause-some
 heads_of-heads-requires-clause-some c =

@@ -1,8 +1,8 @@
-//! The children of prime sets by the closures of pairs, the plain program, beside the fast one: on all graphs of up to five
-//! vertices, and on larger ones of many kinds.
+//! The children of prime sets by the closures of pairs, a slow program, beside the fast one: on all
+//! graphs of up to five vertices, and on larger ones of many kinds.
+use super::{is_same_set, join};
+use crate::children::children;
 use crate::decomposition::only_member;
-use crate::node::children;
-use crate::tests::{is_same_set, join};
 use md_graph::{Graph, Memory, NAMES, Names};
 use md_modules::closure_in;
 use md_tree::Kind;
@@ -10,7 +10,7 @@ use std::alloc::Global;
 use std::process::Abort;
 use std::test::Fail;
 
-/// The graph on the vertices below `count` without edges.
+// The graph on the vertices below `count` without edges.
 fn edgeless(rt: &impl Abort, alloc: Global, count: u32) -> Result<Graph, Memory> {
     let mut graph = Graph::new(alloc)?;
     for v in 0..count {
@@ -20,7 +20,7 @@ fn edgeless(rt: &impl Abort, alloc: Global, count: u32) -> Result<Graph, Memory>
     Ok(graph)
 }
 
-/// Joins `v` to the lower vertices whose bits are 1, and gives the bits behind these.
+// Joins `v` to the lower vertices whose bits are 1, and gives the bits behind these.
 fn join_by_bits(rt: &impl Abort, graph: &mut Graph, v: u32, bits: u32) -> u32 {
     let mut left = bits;
     for u in 0..v {
@@ -32,7 +32,7 @@ fn join_by_bits(rt: &impl Abort, graph: &mut Graph, v: u32, bits: u32) -> u32 {
     left
 }
 
-/// The graph of the pairs whose bits are 1, column by column.
+// The graph of the pairs whose bits are 1, column by column.
 fn by_bits(rt: &impl Abort, alloc: Global, count: u32, bits: u32) -> Result<Graph, Memory> {
     let mut graph = edgeless(rt, alloc, count)?;
     let mut left = bits;
@@ -42,8 +42,9 @@ fn by_bits(rt: &impl Abort, alloc: Global, count: u32, bits: u32) -> Result<Grap
     Ok(graph)
 }
 
-/// Small graphs of many kinds as graph6 lines of up to 30 vertices: random ones, sparse ones, cographs, permutation graphs,
-/// bipartite ones, and paths and random graphs that are put in the places of one another's vertices.
+// Small graphs of many kinds as graph6 lines of up to 30 vertices: random ones, sparse ones,
+// cographs, permutation graphs, bipartite ones, and paths and random graphs that are put in the
+// places of one another's vertices.
 const DRAWN: [&[u8]; 16] = [
     b"Kz]QOMQSJx}_",
     b"WvKNjVDboLB@ZJuoVpZCVeXh|Lgkv?`uJKb]]|xX~JGE@sZ",
@@ -63,14 +64,15 @@ const DRAWN: [&[u8]; 16] = [
     b"]A??LQ@@????@?iZ?a???iZO?@DRYWRAUH`IiYQw?AS?o??Dck@iZQ{TKH]G?AK?iYQ{XEQoC?",
 ];
 
-/// The bit of a pair in a graph6 line, by the place of the pair.
+// The bit of a pair in a graph6 line, by the place of the pair.
 fn is_one(rt: &impl Abort, line: &[u8], place: usize) -> bool {
     let at = 1 + place / 6;
     assert!(rt; at < line.len() && line[at] >= 63);
     (line[at] - 63) >> (5 - place % 6) & 1 == 1
 }
 
-/// Joins `v` to the lower vertices whose bits are 1, from a place of a graph6 line on, and gives the place behind these.
+// Joins `v` to the lower vertices whose bits are 1, from a place of a graph6 line on, and gives the
+// place behind these.
 fn join_by_line(rt: &impl Abort, graph: &mut Graph, v: u32, line: &[u8], place: usize) -> usize {
     let mut next = place;
     for u in 0..v {
@@ -82,7 +84,7 @@ fn join_by_line(rt: &impl Abort, graph: &mut Graph, v: u32, line: &[u8], place: 
     next
 }
 
-/// The graph of a graph6 line.
+// The graph of a graph6 line.
 fn by_line(rt: &impl Abort, alloc: Global, line: &[u8]) -> Result<Graph, Memory> {
     assert!(rt; !line.is_empty() && line[0] >= 63);
     let count = u32::from(line[0] - 63);
@@ -94,7 +96,7 @@ fn by_line(rt: &impl Abort, alloc: Global, line: &[u8]) -> Result<Graph, Memory>
     Ok(graph)
 }
 
-/// Takes in the least module of `u` and `v` in the graph on `set`, unless it is the whole set.
+// Takes in the least module of `u` and `v` in the graph on `set`, unless it is the whole set.
 fn take_closure(rt: &impl Abort, graph: &Graph, set: &Names, u: u32, v: u32, block: &mut Names) {
     let within = set.and(graph.vertices());
     assert!(rt; within.has(u));
@@ -106,7 +108,7 @@ fn take_closure(rt: &impl Abort, graph: &Graph, set: &Names, u: u32, v: u32, blo
     }
 }
 
-/// The maximal proper module of `u` in a prime set.
+// The maximal proper module of `u` in a prime set.
 fn block(rt: &impl Abort, graph: &Graph, set: &Names, rest: &Names, u: u32) -> Names {
     let mut block = Names::none();
     for v in rest.members() {
@@ -117,8 +119,8 @@ fn block(rt: &impl Abort, graph: &Graph, set: &Names, rest: &Names, u: u32) -> N
     block
 }
 
-/// The maximal proper modules of a prime set, in order.
-fn plain_children(
+// The maximal proper modules of a prime set, in order.
+fn slow_children(
     rt: &impl Abort,
     alloc: Global,
     graph: &Graph,
@@ -137,7 +139,7 @@ fn plain_children(
     Ok(sets)
 }
 
-/// Sees that two lists have the same sets.
+// Sees that two lists have the same sets.
 fn expect_same(rt: &impl Abort, left: &[Names], right: &[Names]) {
     assert_eq!(rt; left.len(), right.len());
     for (first, second) in left.iter().zip(right) {
@@ -145,7 +147,7 @@ fn expect_same(rt: &impl Abort, left: &[Names], right: &[Names]) {
     }
 }
 
-/// Sees that both programs give a set the same children, which come behind the waiting sets.
+// Sees that both programs give a set the same children, which come behind the waiting sets.
 fn divide(
     rt: &impl Abort,
     alloc: Global,
@@ -160,9 +162,9 @@ fn divide(
     if only_member(&within).is_some() {
         return Ok(());
     }
-    let (kind, sets) = children(alloc, graph, &within, None)?;
+    let (kind, sets, _) = children(alloc, graph, &within, None)?;
     if matches!(kind, Kind::Prime) {
-        expect_same(rt, &sets, &plain_children(rt, alloc, graph, set)?);
+        expect_same(rt, &sets, &slow_children(rt, alloc, graph, set)?);
     }
     for names in sets {
         waiting.push(names)?;
@@ -170,7 +172,7 @@ fn divide(
     Ok(())
 }
 
-/// Sees that both programs take a graph apart in the same way.
+// Sees that both programs take a graph apart in the same way.
 fn compare(rt: &impl Abort, alloc: Global, graph: &Graph) -> Result<(), Memory> {
     let mut waiting = Vec::new(alloc);
     waiting.push(graph.vertices().copy())?;
@@ -183,7 +185,7 @@ fn compare(rt: &impl Abort, alloc: Global, graph: &Graph) -> Result<(), Memory> 
     Ok(())
 }
 
-/// All graphs on the vertices below `count`, which are so many.
+// All graphs on the vertices below `count`, which are so many.
 fn compare_all(rt: &impl Abort, alloc: Global, count: u32, graphs: u32) -> Result<(), Memory> {
     for bits in 0..graphs {
         let graph = by_bits(rt, alloc, count, bits)?;

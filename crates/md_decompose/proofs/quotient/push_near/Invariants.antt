@@ -2,7 +2,7 @@ use Rattle.std.proofs.Common.{◌+◌, ◌≤◌, length, vec_len, vec_capacity}
 use Rattle.std.specs.FinSet.{intersection}
 use Rattle.md_graph.specs.PlainGraph.{adjacent, neighbours}
 use Rattle.md_decompose.proofs.HeadPairs.{IsPushing}
-use Rattle.md_decompose.proofs.pairs.push_pairs.Given as goal
+use Rattle.md_decompose.proofs.quotient.push_near.Given as goal
 
 abbrev pub invariant-loop-other : goal.invariant-loop-other
 invariant-loop-other l =

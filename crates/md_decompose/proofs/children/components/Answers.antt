@@ -1,6 +1,6 @@
 use Rattle.std.proofs.Common.{refl, sym, ◌∙◌, true≢false}
 use Rattle.md_decompose.proofs.Components.{rest_test, whole_unsplit, part_splits}
-use Rattle.md_decompose.proofs.node.components.Goals as goal
+use Rattle.md_decompose.proofs.children.components.Goals as goal
 
 pub returns-then-is_none : goal.returns-then-is_none
 returns-then-is_none c =
