@@ -2,12 +2,13 @@
 use Rattle.std.proofs.Common.{◌≡◌, ℕ, ◌<◌, ◌≢◌, ◌↔◌, Bool, List, length, Contains, sym, ◌∙◌, subst, inl, inr}
 use Rattle.std.specs.FinSet.{contains, empty, insert, union, difference, len}
 use Rattle.md_graph.specs.NameSet.{IsLeastFrom, NoneFrom}
-use Rattle.md_modules.specs.Sets.{NameSet, Has, Lacks, Within}
+use Rattle.md_graph.specs.Sets.{NameSet, Has, Lacks, Within}
 use Rattle.md_modules.specs.Adjacency.{IsAdjacency}
 use Rattle.md_modules.specs.Modules.{IsModule, IsLeastModule, IsLeastModuleOver, IsMaximalModule, IsMaximalStrong}
 use Rattle.md_modules.specs.Kinds.{IsPrime}
-use Rattle.md_modules.proofs.Sets.{either, clash, true_if, false_if, only_has, of_only, insert_new, insert_old, of_insert, union_left, union_right, of_union, minus_has, of_minus, minus_lacks, Has-along, same_members}
-use Rattle.md_modules.proofs.Search.{decide_same, len_proper}
+use Rattle.std.proofs.lemmas.Bool.{cases_Bool, true_from_ne_false, false_from_ne_true}
+use Rattle.md_graph.proofs.SetLemmas.{clash, only_has, of_only, insert_new, insert_old, of_insert, union_left, union_right, of_union, minus_has, of_minus, minus_lacks, Has-along, same_members}
+use Rattle.md_graph.proofs.Search.{decide_same, len_proper}
 use Rattle.md_modules.proofs.Modules.{single_module, join_module}
 use Rattle.md_modules.proofs.Children.{in_maximal, maximal_leaves, maximal_meet, maximal_child, child_maximal}
 use Rattle.md_modules.proofs.Turns.{none_lacks}
@@ -44,12 +45,12 @@ module _ {e : ℕ → ℕ → Bool} where
   held_falls s held more left j is least over =
       let j_in : Has (difference s held) j = Has-along left _ is j least.member in
       len_proper (difference s more) (difference s held) j
-      (λ x h. minus_has s held x (of_minus s more x h).0 (false_if _ (λ k. clash (over.holds x (insert_old held j x k)) (of_minus s more x h).1)))
+      (λ x h. minus_has s held x (of_minus s more x h).0 (false_from_ne_true _ (λ k. clash (over.holds x (insert_old held j x k)) (of_minus s more x h).1)))
       j_in (minus_lacks s more j (over.holds j (insert_new held j)))
 
   pub held_ends : (s held left : NameSet) (v j : ℕ) → left ≡ difference s held → NoneFrom left 0 → IsHeld e s v j held → (v ≢ j) × IsLeastModule e s v j s
   held_ends s held left v j is none held_is =
-      held_is.whole (λ x h. true_if _ (λ l. clash (Has-along _ left (sym is) x (minus_has s held x h l)) (none_lacks left none x)))
+      held_is.whole (λ x h. true_from_ne_false _ (λ l. clash (Has-along _ left (sym is) x (minus_has s held x h l)) (none_lacks left none x)))
 
   pub grow_seen : IsAdjacency e → (s held into todo : NameSet) (v j : ℕ) → IsModule e s held → Has held v → into ≡ insert held j → todo ≡ insert empty j →
       (w : ℕ) → Has into w → Lacks todo w → (y : ℕ) → Has s y → Lacks into y → e v y ≡ e w y
@@ -57,7 +58,7 @@ module _ {e : ℕ → ℕ → Bool} where
     | inl same ↦ clash (Has-along _ _ (sym is_todo) w (subst (Has (insert empty j)) (sym same) (only_has j))) l
     | inr old ↦
         adj.symmetric v y
-        ∙ is.alike v w y hv old hy (false_if _ (λ k. clash (Has-along _ _ (sym is_into) y (insert_old held j y k)) ly))
+        ∙ is.alike v w y hv old hy (false_from_ne_true _ (λ k. clash (Has-along _ _ (sym is_into) y (insert_old held j y k)) ly))
         ∙ adj.symmetric y w
   ]
 
@@ -67,7 +68,7 @@ module _ {e : ℕ → ℕ → Bool} where
     is_module = is;
     proper = λ same. clash ((names j).1 (whole.has_right, (λ q. differ (sym q)), whole)) (of_minus s rest j (Has-along s _ (sym same) j whole.has_right)).1;
     maximal = λ n module_is n_differs w. same_members n (difference s rest)
-        (λ x h. minus_has s rest x (module_is.inside x h) (false_if _ (λ k.
+        (λ x h. minus_has s rest x (module_is.inside x h) (false_from_ne_true _ (λ k.
         let least : IsLeastModule e s v x s = ((names x).0 k).2 in n_differs (same_members n s module_is.inside (least.least n module_is (w v hv) h)))))
         w;
   }
@@ -114,7 +115,7 @@ module _ {e : ℕ → ℕ → Bool} where
         (hv : Has (difference s rest) v) (is : AreMaximalInside e s rest cs) where
       -- a maximal module other than that of v lies in the rest
       away : (m : NameSet) (x : ℕ) → IsMaximalModule e s m → Has m x → Has rest x → Within m rest
-      away m x m_max h hr y hy = true_if _ (λ out.
+      away m x m_max h hr y hy = true_from_ne_false _ (λ out.
           let one : m ≡ difference s rest = maximal_meet adj s m (difference s rest) y prime m_max max hy (minus_has s rest y (m_max.is_module.inside y hy) out) in
           clash hr (of_minus s rest x (Has-along _ _ one x h)).1)
 
@@ -147,7 +148,7 @@ module _ {e : ℕ → ℕ → Bool} where
               let m_max : IsMaximalModule e s m = child_maximal adj s m prime child in
               let x : ℕ = m_max.is_module.some.0 in
               let h : Has m x = m_max.is_module.some.1 in
-              (listed.exactly m).1 (elim (either (contains rest x)) [
+              (listed.exactly m).1 (elim (cases_Bool (contains rest x)) [
                 | inl hr ↦ inr (child_class m x m_max h hr)
                 | inr out ↦ inl (maximal_meet adj s m (difference s rest) x prime m_max max h (minus_has s rest x (m_max.is_module.inside x h) out))
               ]),

@@ -5,9 +5,10 @@ use Rattle.md_graph.specs.declared.TheConstants.{NAMES}
 use Rattle.md_graph.specs.NameSet.{IsLeastFrom, NoneFrom, AllBelow, ascending_from, told_apart}
 use Rattle.md_graph.specs.PlainGraph.{PlainGraph, IsGraph, adjacent, neighbours}
 use Rattle.md_graph.proofs.GraphLemmas.{adjacent_sym}
-use Rattle.md_modules.specs.Sets.{NameSet, Has, Lacks, Within, Disjoint, HasSome}
+use Rattle.md_graph.specs.Sets.{NameSet, Has, Lacks, Within, Disjoint, HasSome}
 use Rattle.md_modules.specs.Modules.{IsModule}
-use Rattle.md_modules.proofs.Sets.{either, clash, true_if, false_if, same_name, Has-along, meet_has, of_meet, minus_has, of_minus, minus_lacks, union_left, union_right, of_union, union_lacks, lacks_within, same_members}
+use Rattle.std.proofs.lemmas.Bool.{cases_Bool, true_from_ne_false, false_from_ne_true}
+use Rattle.md_graph.proofs.SetLemmas.{clash, same_name, Has-along, meet_has, of_meet, minus_has, of_minus, minus_lacks, union_left, union_right, of_union, union_lacks, lacks_within, same_members}
 use Rattle.md_modules.proofs.Growth.{alike_unless}
 use Rattle.md_modules.proofs.Turns.{ToldApart, told_all, none_lacks, Walked}
 use Rattle.md_decompose.specs.Children.{set_at}
@@ -25,18 +26,18 @@ module _ {g : PlainGraph} (graph : IsGraph g) where
       IsLeastFrom (intersection left (told_apart first second)) 0 p → IsSplitter (adjacent g) left c p
   splitter_found c first second left a x p ha hx out is_first is_second is =
       let two : Has left p × (adjacent g a p ≢ adjacent g x p) = (apart a x first second left is_first is_second).1 p is.member in
-      let outside : Lacks c p = false_if _ (λ h. clash two.0 (out p h)) in
-      elim (either (adjacent g p a)) [
+      let outside : Lacks c p = false_from_ne_true _ (λ h. clash two.0 (out p h)) in
+      elim (cases_Bool (adjacent g p a)) [
         | inl t ↦ record {
           inside = two.0;
           outside = outside;
           sees = (a, ha, t);
-          misses = (x, hx, false_if _ (λ k. two.1 (adjacent_sym g a p ∙ t ∙ sym k ∙ adjacent_sym g p x)));
+          misses = (x, hx, false_from_ne_true _ (λ k. two.1 (adjacent_sym g a p ∙ t ∙ sym k ∙ adjacent_sym g p x)));
         }
         | inr f ↦ record {
           inside = two.0;
           outside = outside;
-          sees = (x, hx, true_if _ (λ k. two.1 (adjacent_sym g a p ∙ f ∙ sym k ∙ adjacent_sym g p x)));
+          sees = (x, hx, true_from_ne_false _ (λ k. two.1 (adjacent_sym g a p ∙ f ∙ sym k ∙ adjacent_sym g p x)));
           misses = (a, ha, f);
         }
       ]
@@ -87,9 +88,9 @@ module _ {e : ℕ → ℕ → Bool} (s c : NameSet) where
   module_unless_cut class left same holds some inside uncut = record {
     some = some;
     inside = inside;
-    alike = λ a b x ha hb hx out. alike_unless (e x a) (e x b) (λ differ. elim (either (e x a)) [
-      | inl t ↦ none x (splits_left left holds x (record { inside = hx; outside = out; sees = (a, ha, t); misses = (b, hb, false_if _ (λ k. differ (t ∙ sym k))) }))
-      | inr f ↦ none x (splits_left left holds x (record { inside = hx; outside = out; sees = (b, hb, true_if _ (λ k. differ (f ∙ sym k))); misses = (a, ha, f) }))
+    alike = λ a b x ha hb hx out. alike_unless (e x a) (e x b) (λ differ. elim (cases_Bool (e x a)) [
+      | inl t ↦ none x (splits_left left holds x (record { inside = hx; outside = out; sees = (a, ha, t); misses = (b, hb, false_from_ne_true _ (λ k. differ (t ∙ sym k))) }))
+      | inr f ↦ none x (splits_left left holds x (record { inside = hx; outside = out; sees = (b, hb, true_from_ne_false _ (λ k. differ (f ∙ sym k))); misses = (a, ha, f) }))
     ]);
   } where
     none : (p : ℕ) → IsSplitter e left c p → ⊥
@@ -102,8 +103,8 @@ module _ {e : ℕ → ℕ → Bool} (s c : NameSet) where
     outside = λ x h.
         let two : Has c x × Has part x = of_meet c part x h in
         union_lacks left (difference c part) x (holds.outside x two.0) (minus_lacks c part x two.1);
-    all = λ p tells. elim (either (contains c p)) [
-      | inl t ↦ union_right left (difference c part) p (minus_has c part p t (false_if _ (λ h. clash (meet_has c part p t h) tells.outside)))
+    all = λ p tells. elim (cases_Bool (contains c p)) [
+      | inl t ↦ union_right left (difference c part) p (minus_has c part p t (false_from_ne_true _ (λ h. clash (meet_has c part p t h) tells.outside)))
       | inr f ↦ union_left left (difference c part) p (holds.all p (record {
         inside = tells.inside;
         outside = f;
@@ -132,7 +133,7 @@ pub rest_out : (c row : NameSet) → intersection c row ≡ difference c (differ
 rest_out c row = same_members _ _
     (λ x h. let two : Has c x × Has row x = of_meet c row x h in minus_has c (difference c row) x two.0 (minus_lacks c row x two.1))
     (λ x h. let two : Has c x × Lacks (difference c row) x = of_minus c (difference c row) x h in
-    meet_has c row x two.0 (true_if _ (λ out. clash (minus_has c row x two.0 out) two.1)))
+    meet_has c row x two.0 (true_from_ne_false _ (λ out. clash (minus_has c row x two.0 out) two.1)))
 
 module _ (b row : NameSet) (cs new : List NameSet) (i : ℕ) (is : IsCutAt cs new i (intersection (set_at cs i) row) (difference (set_at cs i) row)) where
   c : NameSet
@@ -160,7 +161,7 @@ module _ (b row : NameSet) (cs new : List NameSet) (i : ℕ) (is : IsCutAt cs ne
     cover = λ x h. let r : (k : ℕ) × Has (set_at cs k) x = old.cover x h in elim (same_name r.0 i) [
       | inl same ↦
           let hi : Has (set_at cs i) x = subst (λ n. Has (set_at cs n) x) same r.1 in
-          elim (either (contains row x)) [
+          elim (cases_Bool (contains row x)) [
             | inl t ↦ (i, in_here i refl x (meet_has (set_at cs i) row x hi t))
             | inr f ↦ (length cs, in_last (length cs) refl x (minus_has (set_at cs i) row x hi f))
           ]
@@ -269,7 +270,7 @@ module _ {e : ℕ → ℕ → Bool} where
     alike_sides x y hx hy same = elim side [
       | inl is ↦ ap (λ t. contains t x) is ∙ same ∙ sym (ap (λ t. contains t y) is)
       | inr is ↦
-          let other : contains (difference (set_at cs i) row) x ≡ contains (difference (set_at cs i) row) y = elim (either (contains row x)) [
+          let other : contains (difference (set_at cs i) row) x ≡ contains (difference (set_at cs i) row) y = elim (cases_Bool (contains row x)) [
             | inl t ↦ minus_lacks (set_at cs i) row x t ∙ sym (minus_lacks (set_at cs i) row y (sym same ∙ t))
             | inr f ↦ minus_has (set_at cs i) row x hx f ∙ sym (minus_has (set_at cs i) row y hy (sym same ∙ f))
           ] in
@@ -279,7 +280,7 @@ module _ {e : ℕ → ℕ → Bool} where
     -- a module inside the class lies in one of its two parts
     stays : (m : NameSet) (x y : ℕ) → IsModule e s m → Within m (set_at cs i) → Has m x → Has m y → contains part y ≡ contains part x
     stays m x y module_is w hx hy =
-        alike_sides y x (w y hy) (w x hx) (rows y ∙ module_is.alike y x p hy hx tells.inside (false_if _ (λ h. clash (w p h) tells.outside)) ∙ sym (rows x))
+        alike_sides y x (w y hy) (w x hx) (rows y ∙ module_is.alike y x p hy hx tells.inside (false_from_ne_true _ (λ h. clash (w p h) tells.outside)) ∙ sym (rows x))
 
     -- the class at place i is cut by a name outside it
     pub cutting_cuts : (b : NameSet) (new : List NameSet) → IsCutAt cs new i (intersection (set_at cs i) part) (difference (set_at cs i) part) → i < length cs →

@@ -1,11 +1,11 @@
 -- Lists of classes: the class at a place, a class cut in two, and the work that is left from a place on.
 use Rattle.std.proofs.Common.{◌≡◌, ℕ, zero, suc, ◌+◌, ◌-◌, ◌*◌, ◌<◌, ◌≤◌, ◌≢◌, ◌⊎◌, List, [], ◌∷◌, ◌++◌, length, set, refl, sym, ◌∙◌, ap, subst, inl, inr, arith}
-use Rattle.std.proofs.lemmas.Bool.{cases_lt}
+use Rattle.std.proofs.lemmas.Bool.{cases_lt, false_from_ne_true}
 use Rattle.std.proofs.lemmas.List.{get_or_past, get_or_push, get_or_append_left, get_or-set_same, get_or-set_other, length-set, length_push}
 use Rattle.std.specs.FinSet.{empty, len, intersection, difference}
-use Rattle.md_modules.specs.Sets.{NameSet, Has, Lacks, HasSome}
-use Rattle.md_modules.proofs.Sets.{clash, false_if, same_name, empty_lacks, Has-along, meet_has, of_meet, minus_has, of_minus, same_members}
-use Rattle.md_modules.proofs.Search.{some_len, len_minus}
+use Rattle.md_graph.specs.Sets.{NameSet, Has, Lacks, HasSome}
+use Rattle.md_graph.proofs.SetLemmas.{clash, same_name, empty_lacks, Has-along, meet_has, of_meet, minus_has, of_minus, same_members}
+use Rattle.md_graph.proofs.Search.{some_len, len_minus}
 use Rattle.md_decompose.specs.Children.{set_at}
 
 -- a place with a member is one of the list
@@ -119,7 +119,7 @@ work_falls cs new i row l in_some out_some is =
     omega arith
   where
     false_at : (c : NameSet) (x : ℕ) → Lacks row x → Lacks (intersection c row) x
-    false_at c x out = false_if _ (λ h. clash (of_meet c row x h).1 out)
+    false_at c x out = false_from_ne_true _ (λ h. clash (of_meet c row x h).1 out)
 
     false_in : (c : NameSet) (x : ℕ) → Has c x × Lacks (intersection c row) x → Lacks row x
-    false_in c x two = false_if _ (λ h. clash (meet_has c row x two.0 h) two.1)
+    false_in c x two = false_from_ne_true _ (λ h. clash (meet_has c row x two.0 h) two.1)

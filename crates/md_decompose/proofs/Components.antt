@@ -4,13 +4,14 @@ use Rattle.std.specs.FinSet.{contains, empty, difference, intersection, len}
 use Rattle.std.specs.Option.{is_some}
 use Rattle.md_graph.specs.NameSet.{IsLeastFrom, NoneFrom, told_apart}
 use Rattle.md_graph.specs.PlainGraph.{PlainGraph, IsGraph, adjacent}
-use Rattle.md_modules.specs.Sets.{NameSet, Has, Lacks, Within, HasSome}
+use Rattle.md_graph.specs.Sets.{NameSet, Has, Lacks, Within, HasSome}
 use Rattle.md_modules.specs.Adjacency.{IsAdjacency}
 use Rattle.md_modules.specs.Modules.{IsMaximalStrong}
 use Rattle.md_modules.specs.Kinds.{IsSplit}
 use Rattle.md_modules.specs.Components.{IsClosed, IsComponent}
-use Rattle.md_modules.proofs.Sets.{clash, false_if, empty_lacks, of_union, union_left, union_right, meet_has, of_meet, of_meet_lacks, minus_has, of_minus, minus_lacks, Has-along, same_members}
-use Rattle.md_modules.proofs.Search.{decide_same, len_proper, larger_or_same}
+use Rattle.std.proofs.lemmas.Bool.{false_from_ne_true}
+use Rattle.md_graph.proofs.SetLemmas.{clash, empty_lacks, of_union, union_left, union_right, meet_has, of_meet, of_meet_lacks, minus_has, of_minus, minus_lacks, Has-along, same_members}
+use Rattle.md_graph.proofs.Search.{decide_same, len_proper, larger_or_same}
 use Rattle.md_modules.proofs.Components.{closed_of_closed, closed_whole, closed_rest, closed_split, component_unsplit}
 use Rattle.md_modules.proofs.Strong.{children_meet}
 use Rattle.md_modules.proofs.Children.{component_child}
@@ -68,7 +69,7 @@ module _ {e : ℕ → ℕ → Bool} where
       | inl l ↦ inl (in_left cs (c ∷ []) m l)
       | inr w ↦ elim (decide_same m c) [
         | inl same ↦ inl (in_right cs (c ∷ []) m (inl same))
-        | inr differs ↦ inr (λ y h. minus_has rest c y (w y h) (false_if _ (λ k. differs (children_meet s m c y max child h k))))
+        | inr differs ↦ inr (λ y h. minus_has rest c y (w y h) (false_from_ne_true _ (λ k. differs (children_meet s m c y max child h k))))
       ]
     ];
     order = later_append IsBefore cs (c ∷ []) listing.order ((λ y i. absurd i), tt)

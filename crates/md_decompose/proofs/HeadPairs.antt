@@ -8,10 +8,10 @@ use Rattle.md_graph.specs.NameSet.{AllBelow, IsLeastFrom, ascending_between, asc
 use Rattle.md_graph.specs.PlainGraph.{PlainGraph, IsGraph, adjacent, neighbours}
 use Rattle.md_graph.proofs.NameLemmas.{IsTurn, walk_turn, walk_end, ascending_split, length-ascending}
 use Rattle.md_graph.proofs.GraphLemmas.{adjacent_ends, contains-neighbours}
-use Rattle.md_modules.specs.Sets.{NameSet, Has, HasSome}
+use Rattle.md_graph.specs.Sets.{NameSet, Has, HasSome}
 use Rattle.md_modules.specs.Modules.{IsMaximalModule}
 use Rattle.md_modules.specs.Kinds.{IsPrime}
-use Rattle.md_modules.proofs.Sets.{of_meet, meet_has, clash, empty_lacks, Has-along}
+use Rattle.md_graph.proofs.SetLemmas.{of_meet, meet_has, clash, empty_lacks, Has-along}
 use Rattle.md_modules.proofs.Children.{child_maximal}
 use Rattle.md_modules.proofs.Quotients.{maximal_modules_proof}
 use Rattle.md_modules.proofs.PathSearch.{adjacency}

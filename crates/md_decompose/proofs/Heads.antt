@@ -5,8 +5,8 @@ use Rattle.std.proofs.lemmas.Bool.{cases_lt}
 use Rattle.std.proofs.lemmas.List.{get_or_default}
 use Rattle.std.specs.FinSet.{empty, insert}
 use Rattle.md_graph.specs.NameSet.{IsLeastFrom, NoneFrom}
-use Rattle.md_modules.specs.Sets.{NameSet, Has, HasSome}
-use Rattle.md_modules.proofs.Sets.{clash, empty_lacks, insert_new, insert_old, of_insert}
+use Rattle.md_graph.specs.Sets.{NameSet, Has, HasSome}
+use Rattle.md_graph.proofs.SetLemmas.{clash, empty_lacks, insert_new, insert_old, of_insert}
 use Rattle.md_tree.specs.StrongTrees.{IsBefore}
 use Rattle.md_decompose.specs.Children.{set_at}
 use Rattle.md_decompose.specs.Heads.{AreHeads, RisesOn}

@@ -1,10 +1,11 @@
 -- A node over the trees of a set's children, and how much smaller the children are.
 use Rattle.std.proofs.Common.{◌≡◌, ℕ, zero, suc, ◌+◌, ◌-◌, ◌*◌, ◌<◌, ◌≤◌, Bool, List, [], ◌∷◌, ◌++◌, length, map, refl, sym, ◌∙◌, ap, subst, inl, inr, arith}
 use Rattle.std.specs.FinSet.{len, difference}
-use Rattle.md_modules.specs.Sets.{NameSet, Has, Lacks, Within, HasSome, HasTwo, Disjoint}
+use Rattle.md_graph.specs.Sets.{NameSet, Has, Lacks, Within, Disjoint, HasSome, HasTwo}
 use Rattle.md_modules.specs.Modules.{IsMaximalStrong}
-use Rattle.md_modules.proofs.Sets.{clash, false_if, same_members, minus_has}
-use Rattle.md_modules.proofs.Search.{first_member, some_len, len_minus}
+use Rattle.std.proofs.lemmas.Bool.{false_from_ne_true}
+use Rattle.md_graph.proofs.SetLemmas.{clash, same_members, minus_has}
+use Rattle.md_graph.proofs.Search.{first_member, some_len, len_minus}
 use Rattle.md_modules.proofs.Strong.{children_meet, child_of, child_leaves}
 use Rattle.md_tree.specs.declared.Kind.{Kind}
 use Rattle.md_tree.specs.declared.Kind.TheVariants.{Parallel, Series, Prime}
@@ -123,7 +124,7 @@ spread : (cs : List NameSet) (s : NameSet) → ((c : NameSet) → In cs c → Ha
 spread [] s parts apart = omega arith
 spread (c ∷ cs) s parts apart =
     let r : weights cs + length cs ≤ 2 * len (difference s c) =
-    spread cs (difference s c) (λ d i. ((parts d (inr i)).0, λ x h. minus_has s c x ((parts d (inr i)).1 x h) (false_if _ (λ k. clash h (apart.0 d i x k))))) apart.1 in
+    spread cs (difference s c) (λ d i. ((parts d (inr i)).0, λ x h. minus_has s c x ((parts d (inr i)).1 x h) (false_from_ne_true _ (λ k. clash h (apart.0 d i x k))))) apart.1 in
     let l : len (difference s c) + len c ≤ len s = len_minus s c (parts c (inl refl)).1 in
     let o : 1 ≤ len c = some_len c (parts c (inl refl)).0.0 (parts c (inl refl)).0.1 in
     omega arith
@@ -141,7 +142,7 @@ module _ {e : ℕ → ℕ → Bool} (s : NameSet) where
   apart : (cs : List NameSet) → ((c : NameSet) → In cs c → IsMaximalStrong e s c) → Later IsBefore cs → Later Disjoint cs
   apart [] max later = tt
   apart (c ∷ cs) max later = (
-    λ d i x h. false_if _ (λ k.
+    λ d i x h. false_from_ne_true _ (λ k.
         let same : c ≡ d = children_meet s c d x (max c (inl refl)) (max d (inr i)) h k in
         let b : IsBefore c d = later.0 d i in
         let bad : b.0 < b.0 = b.2 b.0 (subst (λ w. Has w b.0) same b.1) in

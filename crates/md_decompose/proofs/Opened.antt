@@ -2,12 +2,12 @@
 use Rattle.std.proofs.Common.{◌≡◌, ℕ, suc, ◌+◌, ◌-◌, ◌*◌, ◌<◌, ◌≤◌, Bool, true, false, List, [], ◌∷◌, ◌++◌, length, map, Some, None, refl, sym, ◌∙◌, ap, subst, inl, inr, arith, append_assoc, append-nil}
 use Rattle.std.proofs.lemmas.List.{map-append}
 use Rattle.std.specs.FinSet.{len}
-use Rattle.md_modules.specs.Sets.{NameSet, Within, HasSome, HasTwo}
+use Rattle.md_graph.specs.Sets.{NameSet, Within, HasSome, HasTwo}
 use Rattle.md_modules.specs.Adjacency.{IsAdjacency}
 use Rattle.md_modules.specs.Modules.{IsMaximalStrong}
-use Rattle.md_modules.proofs.Sets.{Has-along}
+use Rattle.md_graph.proofs.SetLemmas.{Has-along}
 use Rattle.md_modules.proofs.Children.{child_unsplit}
-use Rattle.md_modules.proofs.Search.{some_len}
+use Rattle.md_graph.proofs.Search.{some_len}
 use Rattle.md_tree.specs.declared.Kind.{Kind}
 use Rattle.md_tree.specs.declared.Kind.TheVariants.{Parallel, Series, Prime}
 use Rattle.md_tree.specs.declared.Pair.{Pair}
@@ -17,8 +17,8 @@ use Rattle.md_tree.proofs.Lists.{In, of_append, in_left, in_right}
 use Rattle.md_tree.proofs.Built.{IsBuilt}
 use Rattle.md_tree.proofs.Unique.{two_of_kind}
 use Rattle.md_tree.proofs.Canonical.{built_tree}
-use Rattle.md_decompose.specs.declared.part.Open.{Open}
-use Rattle.md_decompose.specs.Parts.{PlainPart, name, inner, parts_of, parts_backward}
+use Rattle.md_decompose.specs.declared.decomposition.Open.{Open}
+use Rattle.md_tree.specs.Parts.{PlainPart, name, inner, parts_of, parts_backward}
 use Rattle.md_decompose.specs.Children.{FitsBelow}
 use Rattle.md_decompose.specs.Turns.{open_below, IsPartOf, IsTurn}
 use Rattle.md_decompose.proofs.Joining.{all_names, node_built, weights, weights-append, child_maximal, children_fall}

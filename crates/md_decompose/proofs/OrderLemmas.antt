@@ -10,8 +10,8 @@ use Rattle.std.specs.FinSet.{empty}
 use Rattle.std.specs.List.{IsDistinct}
 use Rattle.std.specs.List.Sorted.{IsPermutation, IsNonDecreasingBy}
 use Rattle.md_graph.specs.NameSet.{IsLeastFrom}
-use Rattle.md_modules.specs.Sets.{NameSet, Has}
-use Rattle.md_modules.proofs.Sets.{same_name}
+use Rattle.md_graph.specs.Sets.{NameSet, Has}
+use Rattle.md_graph.proofs.SetLemmas.{same_name}
 use Rattle.md_tree.specs.StrongTrees.{IsBefore}
 use Rattle.md_decompose.specs.declared.ordered.Mark.{Mark}
 use Rattle.md_decompose.specs.Children.{set_at}

@@ -2,7 +2,7 @@
 -- Source: Habib and Paul, A survey of the algorithmic aspects of modular decomposition; the order is our own.
 use Rattle.std.specs.Prelude.{◌≡◌, ◌<◌, ◌↔◌, ℕ, Bool, true, List, Contains, AllPairs, get_or, Option, Some, None, ⊤}
 use Rattle.std.specs.FinSet.{empty}
-use Rattle.md_modules.specs.Sets.{NameSet, Has}
+use Rattle.md_graph.specs.Sets.{NameSet, Has}
 use Rattle.md_modules.specs.Modules.{IsMaximalStrong}
 use Rattle.md_modules.specs.Kinds.{IsConnected, IsCoConnected, IsSplit}
 use Rattle.md_tree.specs.declared.Kind.{Kind}

@@ -2,7 +2,7 @@
 -- Source: Habib and Paul, A survey of the algorithmic aspects of modular decomposition (partition refinement).
 use Rattle.std.specs.Prelude.{◌≡◌, ◌<◌, ◌⊎◌, ℕ, Bool, true, false, List, length}
 use Rattle.std.specs.FinSet.{difference}
-use Rattle.md_modules.specs.Sets.{NameSet, Has, Lacks, Within, Disjoint, HasSome}
+use Rattle.md_graph.specs.Sets.{NameSet, Has, Lacks, Within, Disjoint, HasSome}
 use Rattle.md_modules.specs.Modules.{IsModule}
 use Rattle.md_decompose.specs.Children.{set_at}
 

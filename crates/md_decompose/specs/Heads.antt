@@ -2,7 +2,7 @@
 -- Source: a quotient with one name of each class.
 use Rattle.std.specs.Prelude.{◌≡◌, ◌<◌, ◌⊎◌, ℕ, Bool, true, List, Contains, AllPairs, slice_index}
 use Rattle.md_graph.specs.NameSet.{IsLeastFrom}
-use Rattle.md_modules.specs.Sets.{NameSet, Has}
+use Rattle.md_graph.specs.Sets.{NameSet, Has}
 use Rattle.md_tree.specs.StrongTrees.{IsPairBefore}
 use Rattle.md_tree.specs.declared.Pair.{Pair}
 use Rattle.md_decompose.specs.Children.{set_at}

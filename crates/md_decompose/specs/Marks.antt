@@ -2,7 +2,7 @@
 -- Source: sorting by a key, as in any textbook.
 use Rattle.std.specs.Prelude.{◌≡◌, ◌<◌, ◌⊎◌, ◌↔◌, ℕ, List, length, Contains, All, AllPairs}
 use Rattle.md_graph.specs.NameSet.{IsLeastFrom}
-use Rattle.md_modules.specs.Sets.{NameSet}
+use Rattle.md_graph.specs.Sets.{NameSet}
 use Rattle.md_tree.specs.StrongTrees.{IsBefore}
 use Rattle.md_decompose.specs.declared.ordered.Mark.{Mark}
 use Rattle.md_decompose.specs.Children.{set_at}

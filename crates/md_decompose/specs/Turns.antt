@@ -1,13 +1,13 @@
 -- One turn of a decomposition: a set is taken apart, which gives one part of the tree and the sets of its children.
 -- Source: top-down modular decomposition, as in Habib and Paul, A survey of the algorithmic aspects of modular decomposition.
 use Rattle.std.specs.Prelude.{◌≡◌, ℕ, Bool, List, [], ◌∷◌, ◌++◌, map, length, Some}
-use Rattle.md_modules.specs.Sets.{NameSet, only_name}
+use Rattle.md_graph.specs.Sets.{NameSet, only_name}
 use Rattle.md_tree.specs.declared.Kind.{Kind}
 use Rattle.md_tree.specs.declared.Kind.TheVariants.{Parallel, Series, Prime}
 use Rattle.md_tree.specs.declared.Pair.{Pair}
 use Rattle.md_tree.specs.StrongTrees.{HasKind}
-use Rattle.md_decompose.specs.declared.part.Open.{Open}
-use Rattle.md_decompose.specs.Parts.{PlainPart, name, inner}
+use Rattle.md_decompose.specs.declared.decomposition.Open.{Open}
+use Rattle.md_tree.specs.Parts.{PlainPart, name, inner}
 use Rattle.md_decompose.specs.Children.{AreChildren, ListsPairs}
 
 -- the set c below a node of kind k, still to be taken apart

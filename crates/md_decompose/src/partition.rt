@@ -2,7 +2,7 @@
 ghost use Rattle.std.specs.Prelude.{◌≡◌, ◌<◌, ◌++◌, ◌∷◌, ◌↔◌, ℕ, IfOk, IfSome, IfNone, IsTrue, [], length, slice_set, vec_len};
 ghost use Rattle.std.specs.FinSet.{empty, union, intersection, difference};
 ghost use Rattle.md_graph.specs.PlainGraph.{adjacent};
-ghost use Rattle.md_modules.specs.Sets.{NameSet, Has, Within, Disjoint, HasSome};
+ghost use Rattle.md_graph.specs.Sets.{NameSet, Has, Within, Disjoint, HasSome};
 ghost use Rattle.md_decompose.specs.Children.{set_at};
 ghost use Rattle.md_decompose.specs.Classes.{IsSplitter, IsSideOf, AreMaximalInside};
 

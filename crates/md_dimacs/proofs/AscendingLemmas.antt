@@ -4,7 +4,8 @@ use Rattle.std.proofs.Common.{subst, ap, sym, ◌∙◌, arith, length-append}
 use Rattle.std.proofs.lemmas.List.{append-nil}
 use Rattle.std.proofs.lemmas.Bool.{false_from_ne_true}
 use Rattle.md_graph.specs.declared.TheConstants.{NAMES}
-use Rattle.md_graph.specs.NameSet.{NameSet, Member, ascending, ascending_between}
+use Rattle.md_graph.specs.Sets.{NameSet, Has}
+use Rattle.md_graph.specs.NameSet.{ascending, ascending_between}
 use Rattle.md_graph.specs.PlainGraph.{PlainGraph, IsGraph, neighbours}
 use Rattle.md_graph.proofs.GraphLemmas.{adjacent_ends, contains-neighbours}
 use Rattle.md_graph.proofs.Limits.{NAMES-lt}
@@ -26,7 +27,7 @@ count_split s m n within = ap length (ascending_split s 0 m n (omega arith) with
 pub count_up_to : (s : NameSet) (m n : ℕ) → m ≤ n → length (ascending_between s 0 m) ≤ length (ascending_between s 0 n)
 count_up_to s m n within = let all = count_split s m n within in omega arith
 
-pub count_member : (s : NameSet) (v : ℕ) → Member s v → length (ascending_between s 0 (v + 1)) ≡ length (ascending_between s 0 v) + 1
+pub count_member : (s : NameSet) (v : ℕ) → Has s v → length (ascending_between s 0 (v + 1)) ≡ length (ascending_between s 0 v) + 1
 count_member s v m =
     let only : IsFirstItem s v (v + 1) v = record { member = m; above = omega arith; below = omega arith; first = λ w _ from _. from } in
     let one = ap length (ascending_step s v (v + 1) v only ∙ ap (λ l. v ∷ l) (nothing_below s (v + 1) (v + 1) (omega arith))) in
@@ -84,5 +85,5 @@ place_small s low place v rest up =
     let fit = NAMES-lt in
     omega arith
 
-pub neighbour_is_vertex : (g : PlainGraph) (v w : ℕ) → IsGraph g → Member (neighbours g v) w → Member g.vertices w
+pub neighbour_is_vertex : (g : PlainGraph) (v w : ℕ) → IsGraph g → Has (neighbours g v) w → Has g.vertices w
 neighbour_is_vertex g v w is m = (adjacent_ends is v w (sym (contains-neighbours is v w) ∙ m)).1

@@ -7,7 +7,7 @@ use Rattle.std.proofs.lemmas.Bool.Decides.{nat_tests}
 use Rattle.std.proofs.lemmas.List.Elements.{All-nil, All-cons, All-head, All-tail}
 use Rattle.std.specs.FinSet as set
 use Rattle.md_graph.specs.declared.TheConstants.{NAMES}
-use Rattle.md_graph.specs.NameSet.{Member}
+use Rattle.md_graph.specs.Sets.{Has}
 use Rattle.md_graph.specs.PlainGraph.{PlainGraph, IsGraph, adjacent, with_edge}
 use Rattle.md_graph.proofs.SetLaws.{contains-empty, contains-insert, same_set}
 use Rattle.md_graph.proofs.PairLaws.{pairs-empty}
@@ -285,7 +285,7 @@ vertices-with_lines g (line ∷ more) = vertices-with_lines (with_line g line) m
 IsGraph-with_ends : {g : PlainGraph} (n : ℕ) (ends : Option (ℕ × ℕ)) → IsGraph g → HasVertices n g → AreEnds n ends → IsGraph (with_ends g ends)
 IsGraph-with_ends n None is has e = is
 IsGraph-with_ends {g} n (Some p) is has e = by_ends e.first e.second e.numbers (has e.first ∙ e.first_vertex) (has e.second ∙ e.second_vertex) e.differ where
-  by_ends : (u v : ℕ) → ◌≡◌ {A = Option (ℕ × ℕ)} (Some p) (Some (u, v)) → Member g.vertices u → Member g.vertices v → u ≢ v → IsGraph (with_ends g (Some p))
+  by_ends : (u v : ℕ) → ◌≡◌ {A = Option (ℕ × ℕ)} (Some p) (Some (u, v)) → Has g.vertices u → Has g.vertices v → u ≢ v → IsGraph (with_ends g (Some p))
   by_ends u v same mu mv differ =
       let pairs : ◌≡◌ {A = ℕ × ℕ} p (u, v) = cc in
       subst (λ (q : ℕ × ℕ). IsGraph (with_edge g q.0 q.1)) (sym pairs) (IsGraph-with_edge is u v mu mv differ)

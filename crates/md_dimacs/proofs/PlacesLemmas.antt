@@ -4,7 +4,7 @@ use Rattle.std.proofs.Common.{subst, ap, sym, ◌∙◌, arith, append_assoc, le
 use Rattle.std.proofs.Math.Seq.{get_or-append_right}
 use Rattle.std.proofs.lemmas.List.{get_or_append_left, get_or-replicate, length-replicate, replicate-append-replicate}
 use Rattle.md_graph.specs.declared.TheConstants.{NAMES}
-use Rattle.md_graph.specs.NameSet.{Member}
+use Rattle.md_graph.specs.Sets.{Has}
 use Rattle.md_graph.specs.PlainGraph.{PlainGraph}
 use Rattle.md_graph.proofs.NameLemmas.{walk_more}
 use Rattle.md_text.specs.Numbers.{decimal}
@@ -34,11 +34,11 @@ old_place g old more w is = record {
 -- where the old pieces hold the places of all vertices below them, so do the new ones
 pub spelled_more : (g : PlainGraph) (old new : List Piece) (k low place v : ℕ) (rest : List ℕ) (piece : Piece) → NextUp g.vertices low place v rest → low ≡ length old
     → new ≡ old ++ replicate k piece → length new ≡ v + 1 → piece_text piece ≡ decimal (place + 1) ++ 10 ∷ []
-    → ((w : ℕ) → Member g.vertices w → w < low → IsPlaceOf g old w) → (w : ℕ) → Member g.vertices w → w < v + 1 → IsPlaceOf g new w
+    → ((w : ℕ) → Has g.vertices w → w < low → IsPlaceOf g old w) → (w : ℕ) → Has g.vertices w → w < v + 1 → IsPlaceOf g new w
 spelled_more g old new k low place v rest piece up is_low made count text before =
     let from = up.item.above in
     let count_made = sym (ap length made) ∙ count in
-    subst (λ l. (w : ℕ) → Member g.vertices w → w < v + 1 → IsPlaceOf g l w) (sym made)
+    subst (λ l. (w : ℕ) → Has g.vertices w → w < v + 1 → IsPlaceOf g l w) (sym made)
     (walk_more g.vertices low NAMES v (IsPlaceOf g (old ++ replicate k piece)) up.item
     (λ w m below. old_place g old (replicate k piece) w (before w m below))
     (record {

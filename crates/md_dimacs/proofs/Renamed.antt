@@ -8,7 +8,8 @@ use Rattle.std.proofs.lemmas.List.Elements.{All-contains, All-head, All-tail, Al
 use Rattle.std.proofs.lemmas.List.Folds.{list_any-append, Any-from_list_any, list_any-from_Any}
 use Rattle.std.specs.FinSet as set
 use Rattle.md_graph.specs.declared.TheConstants.{NAMES}
-use Rattle.md_graph.specs.NameSet.{NameSet, Member, ascending, ascending_from, ascending_between}
+use Rattle.md_graph.specs.Sets.{NameSet, Has}
+use Rattle.md_graph.specs.NameSet.{ascending, ascending_from, ascending_between}
 use Rattle.md_graph.specs.PlainGraph.{PlainGraph, IsGraph, adjacent, neighbours}
 use Rattle.md_graph.proofs.GraphLemmas.{adjacent_sym, adjacent_ends, contains-neighbours}
 use Rattle.md_graph.proofs.NameLemmas.{IsItem, ascending_items, ascending_appears}
@@ -32,7 +33,7 @@ any_from p s low n h =
     let (k, x, inside, is, passes) = Any-from_list_any p xs h in
     record { found = x; item = All-contains (IsItem s low n) xs x (ascending_items s low n) (k, inside, is); passes = passes }
 
-any_to : (p : ℕ → Bool) (s : NameSet) (low n w : ℕ) → low ≤ w → w < n → Member s w → p w ≡ true → list_any p (ascending_between s low n) ≡ true
+any_to : (p : ℕ → Bool) (s : NameSet) (low n w : ℕ) → low ≤ w → w < n → Has s w → p w ≡ true → list_any p (ascending_between s low n) ≡ true
 any_to p s low n w from below m passes =
     let (k, inside, is) = ascending_appears s low n w m from below in
     list_any-from_Any p (ascending_between s low n) (k, w, inside, is, passes)
@@ -74,7 +75,7 @@ rows_join g a b =
     rows_alike [] = refl
     rows_alike (v ∷ vs) = λ i. any_map (at_places a b) (λ w. (position g v, position g w)) (ascending_from (neighbours g v) (v + 1)) i || rows_alike vs i
 
-ends_are : (g : PlainGraph) (u v x y : ℕ) → Member g.vertices u → Member g.vertices v → Member g.vertices x → Member g.vertices y
+ends_are : (g : PlainGraph) (u v x y : ℕ) → Has g.vertices u → Has g.vertices v → Has g.vertices x → Has g.vertices y
     → at_places (position g u) (position g v) (position g x, position g y) ≡ true → ((u ≡ x) × (v ≡ y)) ⊎ ((u ≡ y) × (v ≡ x))
 ends_are g u v x y mu mv mx my h = elim (or_cases _ _ h) [
   | inl straight ↦
@@ -85,7 +86,7 @@ ends_are g u v x y mu mv mx my h = elim (or_cases _ _ h) [
       inr (position_same g u y mu my (eqb-true _ _ parts.0), position_same g v x mv mx (eqb-true _ _ parts.1))
 ]
 
-found_edge : (g : PlainGraph) → IsGraph g → (u v : ℕ) → Member g.vertices u → Member g.vertices v
+found_edge : (g : PlainGraph) → IsGraph g → (u v : ℕ) → Has g.vertices u → Has g.vertices v
     → list_any (in_row g (position g u) (position g v)) (ascending g.vertices) ≡ true → adjacent g u v ≡ true
 found_edge g is u v mu mv h =
     let row = any_from (in_row g (position g u) (position g v)) g.vertices 0 NAMES h in

@@ -7,7 +7,8 @@ use Rattle.std.proofs.lemmas.Bool.Decides.{nat_tests}
 use Rattle.std.proofs.lemmas.List.Elements.{All-nil, All-cons, All-head, All-tail, All-append, All-map, All-weaker}
 use Rattle.std.specs.FinSet as set
 use Rattle.md_graph.specs.declared.TheConstants.{NAMES}
-use Rattle.md_graph.specs.NameSet.{Member, ascending, ascending_from}
+use Rattle.md_graph.specs.Sets.{Has}
+use Rattle.md_graph.specs.NameSet.{ascending, ascending_from}
 use Rattle.md_graph.specs.PlainGraph.{PlainGraph, IsGraph, adjacent, neighbours, pairs_where}
 use Rattle.md_graph.proofs.PairLaws.{same_pairs}
 use Rattle.md_graph.proofs.GraphLemmas.{adjacent_sym, adjacent_ends, adjacent_self, contains-edges, contains-neighbours, contains-pairs_where}
@@ -52,26 +53,26 @@ edges_are_pairs g is = same_pairs g.edges (pairs_where (λ u v. set.contains (ne
 
 pub len_edges_small : (g : PlainGraph) → IsGraph g → set.len g.edges < 10 ^ 18
 len_edges_small g is =
-    let inside = λ (u v : ℕ) (m : Member (neighbours g u) v). both_members u v m in
+    let inside = λ (u v : ℕ) (m : Has (neighbours g u) v). both_members u v m in
     let twice = rows_twice g.vertices (neighbours g) NAMES inside is.names (λ u v. contains-neighbours is u v ∙ adjacent_sym g u v ∙ sym (contains-neighbours is v u)) (λ v. contains-neighbours is v v ∙ adjacent_self is v) in
     let most = rows_le g.vertices (neighbours g) NAMES inside is.names in
     let pairs = ap set.len (edges_are_pairs g is) in
     let product = names_product in
     omega arith
   where
-    both_members : (u v : ℕ) → Member (neighbours g u) v → Member g.vertices u × Member g.vertices v
+    both_members : (u v : ℕ) → Has (neighbours g u) v → Has g.vertices u × Has g.vertices v
     both_members u v m = let ends = adjacent_ends is u v (sym (contains-neighbours is u v) ∙ m) in (ends.0, ends.1)
 
 -- ---- places
 
-position_up : (g : PlainGraph) (v w : ℕ) → v < w → Member g.vertices v → position g v < position g w
+position_up : (g : PlainGraph) (v w : ℕ) → v < w → Has g.vertices v → position g v < position g w
 unfolding position
 position_up g v w up m =
     let next = count_member g.vertices v m in
     let more = count_up_to g.vertices (v + 1) w (omega arith) in
     omega arith
 
-pub position_same : (g : PlainGraph) (v w : ℕ) → Member g.vertices v → Member g.vertices w → position g v ≡ position g w → v ≡ w
+pub position_same : (g : PlainGraph) (v w : ℕ) → Has g.vertices v → Has g.vertices w → position g v ≡ position g w → v ≡ w
 position_same g v w mv mw same =
     elim (cases_order v w) [
       | inl e ↦ e
@@ -83,7 +84,7 @@ position_first : (g : PlainGraph) (v : ℕ) → 0 < position g v
 unfolding position
 position_first g v = omega arith
 
-position_last : (g : PlainGraph) (v : ℕ) → IsGraph g → Member g.vertices v → position g v ≤ set.len g.vertices
+position_last : (g : PlainGraph) (v : ℕ) → IsGraph g → Has g.vertices v → position g v ≤ set.len g.vertices
 unfolding position
 position_last g v is m =
     let all = length-ascending g.vertices NAMES is.names in

@@ -2,7 +2,7 @@
 use Rattle.std.specs.Prelude.{◌≡◌, ℕ, ◌<◌, ◌≤◌, List, [], ◌∷◌, ◌++◌, length, map, slice_get, slice_index_or, codes}
 use Rattle.std.specs.Option.{option_map_or}
 use Rattle.md_graph.specs.declared.TheConstants.{NAMES}
-use Rattle.md_graph.specs.NameSet.{Member}
+use Rattle.md_graph.specs.Sets.{Has}
 use Rattle.md_graph.specs.PlainGraph.{PlainGraph}
 use Rattle.md_text.specs.Lines.{ended}
 use Rattle.md_text.specs.Numbers.{decimal}
@@ -17,7 +17,7 @@ pub record IsPlaceOf (g : PlainGraph) (places : List Piece) (w : ℕ) : Type 0 w
 
 -- each vertex has its place at its index, and there are not more than names
 pub record ArePlaces (g : PlainGraph) (places : List Piece) : Type 0 where
-  pub place_of : (w : ℕ) → Member g.vertices w → IsPlaceOf g places w
+  pub place_of : (w : ℕ) → Has g.vertices w → IsPlaceOf g places w
   pub named : length places ≤ NAMES
 
 -- the text of the piece at an index, if there is one

@@ -2,7 +2,7 @@
 use Rattle.std.specs.Prelude.{◌≡◌, ℕ, zero, suc, ◌+◌, List, [], ◌∷◌, ◌++◌, length, Option, None, Some}
 use Rattle.std.specs.List.{All}
 use Rattle.std.specs.FinSet as set
-use Rattle.md_graph.specs.NameSet.{NameSet}
+use Rattle.md_graph.specs.Sets.{NameSet}
 use Rattle.md_graph.specs.PlainGraph.{PlainGraph, with_edge}
 use Rattle.md_dimacs.specs.Line.{words, ends_of, is_vertex}
 use Rattle.md_dimacs.specs.File.{IsPassed, IsProblemLine}

@@ -3,7 +3,8 @@
 use Rattle.std.specs.Prelude.{◌≡◌, ℕ, ◌+◌, List, [], ◌∷◌, length, map, codes}
 use Rattle.std.specs.List.{flat_map, join_with_byte}
 use Rattle.std.specs.FinSet as set
-use Rattle.md_graph.specs.NameSet.{Member, ascending, ascending_from, ascending_between}
+use Rattle.md_graph.specs.Sets.{Has}
+use Rattle.md_graph.specs.NameSet.{ascending, ascending_from, ascending_between}
 use Rattle.md_graph.specs.PlainGraph.{PlainGraph, IsGraph, adjacent, neighbours}
 use Rattle.md_text.specs.Lines.{ended}
 use Rattle.md_text.specs.Numbers.{decimal}
@@ -37,6 +38,6 @@ dimacs_text g = ended (problem_line g ∷ map edge_line (edge_places g))
 -- h is g with each vertex named by its place: 1 to the number of vertices
 pub record IsRenamed (g h : PlainGraph) : Type 0 where
   pub vertices : (v : ℕ) → set.contains h.vertices v ≡ is_vertex (set.len g.vertices) v
-  pub edges : (u v : ℕ) → Member g.vertices u → Member g.vertices v
+  pub edges : (u v : ℕ) → Has g.vertices u → Has g.vertices v
       → adjacent h (position g u) (position g v) ≡ adjacent g u v
   pub graph : IsGraph h

@@ -16,7 +16,7 @@ ghost use Rattle.std.specs.Prelude.{
   OnErr,
 };
 ghost use Rattle.md_graph.specs.PlainGraph.{empty_graph, with_edge};
-ghost use Rattle.md_graph.specs.NameSet.{Member};
+ghost use Rattle.md_graph.specs.Sets.{Has};
 ghost use Rattle.md_text.specs.Lines.{lines};
 ghost use Rattle.md_text.specs.Fields.{fields};
 ghost use Rattle.md_dimacs.specs.declared.line.LineClass.TheVariants.{Passed};
@@ -155,8 +155,8 @@ fn read_line(n: u32, line: &[u8], graph: &mut Graph) -> Result<(), DimacsKind>
 
 // Takes in the edge between u and v, unless it is there.
 fn take_edge(u: u32, v: u32, graph: &mut Graph)
-    requires first { Member graph.old.vertices u }
-    requires second { Member graph.old.vertices v }
+    requires first { Has graph.old.vertices u }
+    requires second { Has graph.old.vertices v }
     requires differ { u ≢ v }
     ensures { graph.new ≡ with_edge graph.old u v }
 {

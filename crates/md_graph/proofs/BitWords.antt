@@ -8,7 +8,8 @@ use Rattle.std.proofs.lemmas.Nat.Bits.{same_from_bits_below, bit_at-lt, bit_at-z
 use Rattle.std.proofs.lemmas.Nat.{mod-pow-add, ones_cat, and_le_l}
 use lib.Count.{ones}
 use Rattle.std.specs.FinSet as set
-use Rattle.md_graph.specs.NameSet.{NameSet, IsLeastFrom, NoneFrom, block_below, told_apart}
+use Rattle.md_graph.specs.Sets.{NameSet}
+use Rattle.md_graph.specs.NameSet.{IsLeastFrom, NoneFrom, block_below, told_apart}
 use Rattle.md_graph.specs.Words.{bit_of, bit_apart, names_below, IsWithout}
 use Rattle.md_graph.proofs.SetLaws.{len-empty, len-insert, contains-empty, contains-insert, contains-remove, contains-union, contains-intersection, contains-difference, same_set}
 

@@ -7,7 +7,8 @@ use Rattle.std.proofs.lemmas.Nat.Bits.{bit_at-zero}
 use Rattle.std.proofs.lemmas.List.{get_or_read, get_or-set_same, get_or-set_other}
 use Rattle.std.specs.List.{refill}
 use Rattle.std.specs.FinSet as set
-use Rattle.md_graph.specs.NameSet.{NameSet, Member, block}
+use Rattle.md_graph.specs.Sets.{NameSet, Has}
+use Rattle.md_graph.specs.NameSet.{block}
 use Rattle.md_graph.specs.PlainGraph.{PlainGraph, adjacent}
 use Rattle.md_graph.specs.Rows.{row_of, graph_of, AreRows}
 use Rattle.md_graph.specs.Blocks.{in_block, IsWithBlock}
@@ -141,7 +142,7 @@ neither : (a b : Bool) → a ≡ false → b ≡ false → (a || (b || b)) ≡ f
 neither a b e f = grind arith
 
 pub rows_add_block : {live : NameSet} {rows : List NameSet} {g : PlainGraph} → AreRows live rows → graph_of live rows ≡ g → (low high : ℕ) (words : List ℕ)
-    → ((u v : ℕ) → in_block words high low u v ≡ true → Member g.vertices u × Member g.vertices v × (u ≢ v))
+    → ((u v : ℕ) → in_block words high low u v ≡ true → Has g.vertices u × Has g.vertices v × (u ≢ v))
     → (n : ℕ) (old ws : List NameSet) → n ≡ length rows → old ≡ rows → length ws ≡ length old
     → ((u v : ℕ) → set.contains (row_of ws u) v ≡ (set.contains (row_of old u) v || (in_block words high low u v || in_block words high low v u)))
     → AreRows live (refill n rows ws) × IsWithBlock g high low words (graph_of live (refill n rows ws))

@@ -6,7 +6,8 @@ use Rattle.std.proofs.lemmas.Bool.Decides.{nat_tests}
 use Rattle.std.proofs.lemmas.List.{append-nil}
 use Rattle.std.proofs.lemmas.List.Sums.{sum_by_push}
 use Rattle.std.specs.FinSet as set
-use Rattle.md_graph.specs.NameSet.{NameSet, Member, ascending_between}
+use Rattle.md_graph.specs.Sets.{NameSet, Has}
+use Rattle.md_graph.specs.NameSet.{ascending_between}
 use Rattle.md_graph.specs.PlainGraph.{PairSet, pairs_at, pairs_where}
 use Rattle.md_graph.proofs.SetLaws.{contains-empty, contains-remove, len-empty, len-remove, same_set, empty_of_len}
 use Rattle.md_graph.proofs.PairLaws.{pairs-len-empty, pairs-len-insert}
@@ -42,21 +43,21 @@ sum_below-le f m (suc n) below =
 -- ---- how many members a set has
 
 -- a set with a member isn't empty
-len-member : (s : NameSet) (n : ℕ) → Member s n → 0 < set.len s
+len-member : (s : NameSet) (n : ℕ) → Has s n → 0 < set.len s
 len-member s n h =
     elim (cases_eq (set.len s) 0) [
       | inl zero_len ↦ absurd (true≢false (sym h ∙ ap (λ t. set.contains t n) (empty_of_len s zero_len) ∙ contains-empty n))
       | inr more ↦ omega arith
     ]
 
-rest_below : (n : ℕ) (s : NameSet) → ((w : ℕ) → Member s w → w < suc n) → (w : ℕ) → Member (set.remove s n) w → w < n
+rest_below : (n : ℕ) (s : NameSet) → ((w : ℕ) → Has s w → w < suc n) → (w : ℕ) → Has (set.remove s n) w → w < n
 rest_below n s below w h =
     let parts = and_parts _ _ (sym (contains-remove s n w) ∙ h) in
     let other : w ≡ n → ⊥ = eqb-false w n (not-true _ parts.0) in
     let b = below w parts.1 in
     omega arith
 
-len-below : (n : ℕ) (s : NameSet) → ((w : ℕ) → Member s w → w < n) → set.len s ≡ sum_below (λ w. bit (set.contains s w)) n
+len-below : (n : ℕ) (s : NameSet) → ((w : ℕ) → Has s w → w < n) → set.len s ≡ sum_below (λ w. bit (set.contains s w)) n
 unfolding sum_below
 len-below zero s below = ap set.len (same_set s set.empty (λ q. false_from_ne_true _ (λ h. let b = below q h in omega arith) ∙ sym (contains-empty q))) ∙ len-empty
 len-below (suc n) s below =
@@ -113,7 +114,7 @@ both_counted test (suc n) both none =
 -- ---- the rows of a graph
 
 -- the sum of the lengths of the rows of the members
-rows_counted : (live : NameSet) (row : ℕ → NameSet) (n : ℕ) → ((u v : ℕ) → Member (row u) v → Member live u × Member live v) → ((v : ℕ) → Member live v → v < n) → sum_by (λ v. set.len (row v)) (ascending_between live 0 n) ≡ sum_below (λ v. sum_below (λ u. bit (set.contains (row v) u)) n) n
+rows_counted : (live : NameSet) (row : ℕ → NameSet) (n : ℕ) → ((u v : ℕ) → Has (row u) v → Has live u × Has live v) → ((v : ℕ) → Has live v → v < n) → sum_by (λ v. set.len (row v)) (ascending_between live 0 n) ≡ sum_below (λ v. sum_below (λ u. bit (set.contains (row v) u)) n) n
 rows_counted live row n inside below =
     sum_by-ascending_between (λ v. set.len (row v)) live n
     ∙ sum_below-same (λ v. cond (set.contains live v) (set.len (row v)) 0) (λ v. sum_below (λ u. bit (set.contains (row v) u)) n) n (λ v h.
@@ -126,7 +127,7 @@ rows_counted live row n inside below =
     ])
 
 -- it is twice the number of edges
-pub rows_twice : (live : NameSet) (row : ℕ → NameSet) (n : ℕ) → ((u v : ℕ) → Member (row u) v → Member live u × Member live v) → ((v : ℕ) → Member live v → v < n) → ((u v : ℕ) → set.contains (row u) v ≡ set.contains (row v) u) → ((v : ℕ) → set.contains (row v) v ≡ false) → sum_by (λ v. set.len (row v)) (ascending_between live 0 n) ≡ 2 * set.len (pairs_where (λ u v. set.contains (row v) u) n)
+pub rows_twice : (live : NameSet) (row : ℕ → NameSet) (n : ℕ) → ((u v : ℕ) → Has (row u) v → Has live u × Has live v) → ((v : ℕ) → Has live v → v < n) → ((u v : ℕ) → set.contains (row u) v ≡ set.contains (row v) u) → ((v : ℕ) → set.contains (row v) v ≡ false) → sum_by (λ v. set.len (row v)) (ascending_between live 0 n) ≡ 2 * set.len (pairs_where (λ u v. set.contains (row v) u) n)
 rows_twice live row n inside below both none =
     rows_counted live row n inside below
     ∙ both_counted (λ u v. set.contains (row v) u) n (λ u v. both v u) none
@@ -137,7 +138,7 @@ bit-le true = omega arith
 bit-le false = omega arith
 
 -- it is at most n * n
-pub rows_le : (live : NameSet) (row : ℕ → NameSet) (n : ℕ) → ((u v : ℕ) → Member (row u) v → Member live u × Member live v) → ((v : ℕ) → Member live v → v < n) → sum_by (λ v. set.len (row v)) (ascending_between live 0 n) ≤ n * n
+pub rows_le : (live : NameSet) (row : ℕ → NameSet) (n : ℕ) → ((u v : ℕ) → Has (row u) v → Has live u × Has live v) → ((v : ℕ) → Has live v → v < n) → sum_by (λ v. set.len (row v)) (ascending_between live 0 n) ≤ n * n
 rows_le live row n inside below =
     let each = λ (v : ℕ). sum_below-le (λ u. bit (set.contains (row v) u)) 1 n (λ u. bit-le (set.contains (row v) u)) in
     let all = sum_below-le (λ v. sum_below (λ u. bit (set.contains (row v) u)) n) n n (λ v. let e = each v in omega arith) in

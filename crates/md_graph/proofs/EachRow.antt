@@ -5,7 +5,8 @@ use Rattle.std.proofs.lemmas.Bool.{cases_eq, or_left, or_right, eq-eqb, ne_eqb}
 use Rattle.std.proofs.lemmas.List.{get_or_read, get_or-set_same, get_or-set_other}
 use Rattle.std.specs.FinSet as set
 use Rattle.md_graph.specs.declared.TheConstants.{NAMES}
-use Rattle.md_graph.specs.NameSet.{NameSet, Member, AllBelow, ascending}
+use Rattle.md_graph.specs.Sets.{NameSet, Has}
+use Rattle.md_graph.specs.NameSet.{AllBelow, ascending}
 use Rattle.md_graph.specs.Rows.{row_of}
 use Rattle.md_graph.proofs.SetLaws.{contains-empty, contains-insert, contains-remove, contains-difference, same_set}
 use Rattle.md_graph.proofs.NameLemmas.{from_list-ascending}
@@ -18,7 +19,7 @@ listed xs = set.from_list xs
 
 -- each listed name is a member
 pub record Lists (s : NameSet) (xs : List ℕ) : Type 0 where
-  pub inside : (w : ℕ) → Member (listed xs) w → Member s w
+  pub inside : (w : ℕ) → Has (listed xs) w → Has s w
 
 pub contains-ascending : (s : NameSet) → AllBelow s NAMES → (u : ℕ) → set.contains (listed (ascending s)) u ≡ set.contains s u
 contains-ascending s below u = ap (λ t. set.contains t u) (from_list-ascending s NAMES below)
@@ -28,7 +29,7 @@ Lists-ascending {s} xs e below = record {
   inside = λ w h. sym (ap (λ ys. set.contains (listed ys) w) e ∙ contains-ascending s below w) ∙ h;
 }
 
-pub Lists-head : {s : NameSet} {xs : List ℕ} → Lists s xs → (x : ℕ) (rest : List ℕ) → xs ≡ x ∷ rest → Member s x
+pub Lists-head : {s : NameSet} {xs : List ℕ} → Lists s xs → (x : ℕ) (rest : List ℕ) → xs ≡ x ∷ rest → Has s x
 Lists-head {s} {xs} all x rest e =
     all.inside x (ap (λ ys. set.contains (listed ys) x) e ∙ contains-insert (listed rest) x x ∙ or_left _ _ (eq-eqb x x refl))
 
@@ -74,7 +75,7 @@ pub remove_twice : (v : ℕ) (s : NameSet) → set.remove (set.remove s v) v ≡
 remove_twice v s = same_set _ _ (λ q. rw (contains-remove (set.remove s v) v q, contains-remove s v q) (grind arith))
 
 -- what is a member of a, where a without b is empty, is a member of b
-pub member_from_difference : (a b rest : NameSet) → rest ≡ set.difference a b → rest ≡ set.empty → (u : ℕ) → Member a u → Member b u
+pub member_from_difference : (a b rest : NameSet) → rest ≡ set.difference a b → rest ≡ set.empty → (u : ℕ) → Has a u → Has b u
 member_from_difference a b rest is none u m =
     let out : (set.contains a u && not (set.contains b u)) ≡ false = sym (contains-difference a b u) ∙ ap (λ s. set.contains s u) (sym is ∙ none) ∙ contains-empty u in
     grind arith

@@ -1,15 +1,17 @@
 -- Facts of graphs that callers may cite.
-use Rattle.std.specs.Prelude.{◌≡◌, ℕ, zero, suc, ◌<◌, ◌≢◌, min, max, Bool, true, false, not, ◌&&◌, ◌||◌, ◌==◌, nat_lt, nat_le, List, [], ◌∷◌, ◌++◌, map, length, refl}
+use Rattle.std.specs.Prelude.{◌≡◌, ℕ, zero, suc, ◌+◌, ◌<◌, ◌≤◌, ◌≢◌, min, max, Bool, true, false, not, ◌&&◌, ◌||◌, ◌==◌, nat_lt, nat_le, List, [], ◌∷◌, ◌++◌, map, length, refl}
 use Rattle.std.proofs.Common.{subst, ap, sym, ◌∙◌, arith, inl, inr}
-use Rattle.std.proofs.lemmas.Bool.{true≢false, or_right, cases_Bool, cases_lt, cases_order, and_parts, and_from, or_cases, le-leb, ltb-true, eqb-true, false_from_ne_true}
+use Rattle.std.proofs.lemmas.Bool.{true≢false, or_left, or_right, cases_Bool, cases_lt, cases_order, and_parts, and_from, or_cases, le-leb, ltb-true, eqb-true, false_from_ne_true}
 use Rattle.std.proofs.lemmas.Bool.Decides.{nat_tests}
 use Rattle.std.proofs.lemmas.List.{map-append, append-nil}
 use Rattle.std.specs.FinSet as set
 use Rattle.md_graph.specs.declared.TheConstants.{NAMES}
-use Rattle.md_graph.specs.NameSet.{NameSet, Member, ascending, ascending_between}
-use Rattle.md_graph.specs.PlainGraph.{PairSet, PlainGraph, IsGraph, pairs_at, pairs_where, edge, adjacent, neighbours, empty_graph, with_vertex, with_edge, star, with_edges, complement, induced, without_vertex, without_edge}
+use Rattle.md_graph.specs.Sets.{NameSet, Has}
+use Rattle.md_graph.specs.NameSet.{ascending, ascending_between, range}
+use Rattle.md_graph.specs.PlainGraph.{PairSet, PlainGraph, IsGraph, pairs_at, pairs_where, edge, adjacent, neighbours, empty_graph, with_vertex, with_range, with_edge, star, with_edges, complement, induced, without_vertex, without_edge}
 use Rattle.md_graph.specs.Rows.{row_of, edges_of, graph_of, AreRows}
-use Rattle.md_graph.proofs.SetLaws.{contains-empty, contains-insert, contains-remove, contains-intersection, contains-retain, same_set}
+use Rattle.md_graph.proofs.SetLaws.{contains-empty, contains-insert, contains-remove, contains-union, contains-intersection, contains-retain, same_set}
+use Rattle.md_graph.proofs.Ranges.{contains-range}
 use Rattle.md_graph.proofs.PairLaws.{pairs-empty, pairs-insert, pairs-remove, pairs-union, pairs-retain, pairs-from_list_push, same_pairs}
 
 -- ---- the pairs for which a test is true
@@ -60,7 +62,7 @@ unfolding adjacent
 adjacent_ordered is u v h = is.ordered (min u v) (max u v) h
 
 -- the ends of an edge are vertices and differ
-pub adjacent_ends : {g : PlainGraph} → IsGraph g → (u v : ℕ) → adjacent g u v ≡ true → Member g.vertices u × Member g.vertices v × (u ≢ v)
+pub adjacent_ends : {g : PlainGraph} → IsGraph g → (u v : ℕ) → adjacent g u v ≡ true → Has g.vertices u × Has g.vertices v × (u ≢ v)
 adjacent_ends {g} is u v h =
     let ordered = adjacent_ordered is u v h in
     elim (cases_order u v) [
@@ -149,7 +151,7 @@ rows_of_graph {live} {rows} {g} is ev n law =
 
 -- ---- operations
 
-IsGraph_by : {g : PlainGraph} → ((v : ℕ) → Member g.vertices v → v < NAMES) → ((u v : ℕ) → set.contains g.edges (u, v) ≡ true → (u < v) × Member g.vertices u × Member g.vertices v) → IsGraph g
+IsGraph_by : {g : PlainGraph} → ((v : ℕ) → Has g.vertices v → v < NAMES) → ((u v : ℕ) → set.contains g.edges (u, v) ≡ true → (u < v) × Has g.vertices u × Has g.vertices v) → IsGraph g
 IsGraph_by below ends = record {
   names = below;
   ordered = λ u v h. (ends u v h).0;
@@ -157,7 +159,7 @@ IsGraph_by below ends = record {
   high_end = λ u v h. (ends u v h).2;
 }
 
-graph_ends : {g : PlainGraph} → IsGraph g → (u v : ℕ) → set.contains g.edges (u, v) ≡ true → (u < v) × Member g.vertices u × Member g.vertices v
+graph_ends : {g : PlainGraph} → IsGraph g → (u v : ℕ) → set.contains g.edges (u, v) ≡ true → (u < v) × Has g.vertices u × Has g.vertices v
 graph_ends is u v h = (is.ordered u v h, is.low_end u v h, is.high_end u v h)
 
 pub IsGraph-empty_graph : IsGraph empty_graph
@@ -168,9 +170,14 @@ pub adjacent-empty_graph : (u v : ℕ) → adjacent empty_graph u v ≡ false
 unfolding adjacent
 adjacent-empty_graph u v = pairs-empty (min u v) (max u v)
 
+-- a graph without vertices is the empty graph
+pub empty_without_vertices : (g : PlainGraph) → IsGraph g → g.vertices ≡ set.empty → g ≡ empty_graph
+empty_without_vertices g is none = same_graph is IsGraph-empty_graph none (λ u v.
+    false_from_ne_true _ (λ h. true≢false (sym (adjacent_ends is u v h).0 ∙ ap (λ s. set.contains s u) none ∙ contains-empty u)) ∙ sym (adjacent-empty_graph u v))
+
 pub IsGraph-with_vertex : {g : PlainGraph} → IsGraph g → (v : ℕ) → v < NAMES → IsGraph (with_vertex g v)
 IsGraph-with_vertex {g} is v name =
-    let kept = λ (w : ℕ) (h : Member g.vertices w). contains-insert g.vertices v w ∙ or_right (w == v) _ h in
+    let kept = λ (w : ℕ) (h : Has g.vertices w). contains-insert g.vertices v w ∙ or_right (w == v) _ h in
     IsGraph_by
     (λ w h. elim (or_cases (w == v) _ (sym (contains-insert g.vertices v w) ∙ h)) [
       | inl same ↦ let e = eqb-true w v same in omega arith
@@ -182,24 +189,38 @@ pub adjacent-with_vertex : (g : PlainGraph) (v a b : ℕ) → adjacent (with_ver
 unfolding adjacent
 adjacent-with_vertex g v a b = refl
 
+pub IsGraph-with_range : {g : PlainGraph} → IsGraph g → (from count : ℕ) → from + count ≤ NAMES → IsGraph (with_range g from count)
+IsGraph-with_range {g} is from count names =
+    let kept = λ (w : ℕ) (h : Has g.vertices w). contains-union g.vertices (range from count) w ∙ or_left _ _ h in
+    IsGraph_by
+    (λ w h. elim (or_cases _ _ (sym (contains-union g.vertices (range from count) w) ∙ h)) [
+      | inl old ↦ is.names w old
+      | inr new ↦ let below : w < from + count = ltb-true w (from + count) (and_parts (nat_le from w) (nat_lt w (from + count)) (sym (contains-range from count w) ∙ new)).1 in omega arith
+    ])
+    (λ a b h. (is.ordered a b h, kept a (is.low_end a b h), kept b (is.high_end a b h)))
+
+pub adjacent-with_range : (g : PlainGraph) (from count a b : ℕ) → adjacent (with_range g from count) a b ≡ adjacent g a b
+unfolding adjacent
+adjacent-with_range g from count a b = refl
+
 -- the two ends of the edge between u and v, whichever is the smaller
-edge_has : (u v : ℕ) (s : NameSet) → u ≢ v → Member s u → Member s v → (min u v < max u v) × Member s (min u v) × Member s (max u v)
+edge_has : (u v : ℕ) (s : NameSet) → u ≢ v → Has s u → Has s v → (min u v < max u v) × Has s (min u v) × Has s (max u v)
 edge_has u v s differ mu mv =
     elim (cases_order u v) [
       | inl same ↦ absurd (differ same)
-      | inr (inl up) ↦ let low : u ≡ min u v = omega arith in let high : v ≡ max u v = omega arith in (omega arith, subst (Member s) low mu, subst (Member s) high mv)
-      | inr (inr down) ↦ let low : v ≡ min u v = omega arith in let high : u ≡ max u v = omega arith in (omega arith, subst (Member s) low mv, subst (Member s) high mu)
+      | inr (inl up) ↦ let low : u ≡ min u v = omega arith in let high : v ≡ max u v = omega arith in (omega arith, subst (Has s) low mu, subst (Has s) high mv)
+      | inr (inr down) ↦ let low : v ≡ min u v = omega arith in let high : u ≡ max u v = omega arith in (omega arith, subst (Has s) low mv, subst (Has s) high mu)
     ]
 
 -- what holds of the parts of an edge holds of an equal pair
-edge_is : (a b u v : ℕ) (s : NameSet) → ((a == min u v) && (b == max u v)) ≡ true → (min u v < max u v) × Member s (min u v) × Member s (max u v) → (a < b) × Member s a × Member s b
+edge_is : (a b u v : ℕ) (s : NameSet) → ((a == min u v) && (b == max u v)) ≡ true → (min u v < max u v) × Has s (min u v) × Has s (max u v) → (a < b) × Has s a × Has s b
 edge_is a b u v s same has =
     let parts = and_parts _ _ same in
     let low = eqb-true a (min u v) parts.0 in
     let high = eqb-true b (max u v) parts.1 in
-    (omega arith, subst (Member s) (sym low) has.1, subst (Member s) (sym high) has.2)
+    (omega arith, subst (Has s) (sym low) has.1, subst (Has s) (sym high) has.2)
 
-pub IsGraph-with_edge : {g : PlainGraph} → IsGraph g → (u v : ℕ) → Member g.vertices u → Member g.vertices v → u ≢ v → IsGraph (with_edge g u v)
+pub IsGraph-with_edge : {g : PlainGraph} → IsGraph g → (u v : ℕ) → Has g.vertices u → Has g.vertices v → u ≢ v → IsGraph (with_edge g u v)
 IsGraph-with_edge {g} is u v mu mv differ =
     IsGraph_by is.names (λ a b h. elim (or_cases _ _ (sym (pairs-insert g.edges (min u v) (max u v) a b) ∙ h)) [
       | inl same ↦ edge_is a b u v g.vertices same (edge_has u v g.vertices differ mu mv)
@@ -251,21 +272,21 @@ contains-star v s (suc n) a b =
           rw (zero_le n, f, append-nil (ascending_between s 0 n), contains-star v s n a b, below_same s n a f, below_same s n b f) refl
     ]
 
-below_all : (s : NameSet) (n b : ℕ) → ((w : ℕ) → Member s w → w < n) → (nat_lt b n && set.contains s b) ≡ set.contains s b
+below_all : (s : NameSet) (n b : ℕ) → ((w : ℕ) → Has s w → w < n) → (nat_lt b n && set.contains s b) ≡ set.contains s b
 below_all s n b below =
     elim (cases_Bool (set.contains s b)) [
       | inl t ↦ let h = below b t in grind (arith, nat_tests)
       | inr f ↦ grind (arith, nat_tests)
     ]
 
-pub adjacent-with_edges : (g : PlainGraph) (v : ℕ) (others : NameSet) → ((w : ℕ) → Member others w → w < NAMES) → (a b : ℕ) → adjacent (with_edges g v others) a b ≡ ((((a == v) && set.contains others b) || ((b == v) && set.contains others a)) || adjacent g a b)
+pub adjacent-with_edges : (g : PlainGraph) (v : ℕ) (others : NameSet) → ((w : ℕ) → Has others w → w < NAMES) → (a b : ℕ) → adjacent (with_edges g v others) a b ≡ ((((a == v) && set.contains others b) || ((b == v) && set.contains others a)) || adjacent g a b)
 unfolding adjacent
 adjacent-with_edges g v others below a b =
     rw (pairs-union g.edges (star v (ascending others)) (min a b) (max a b), contains-star v others NAMES a b, below_all others NAMES a below, below_all others NAMES b below)
     (grind arith)
 
 -- an edge of a star runs to a member
-star_parts : (v : ℕ) (s : NameSet) (n a b : ℕ) → set.contains (star v (ascending_between s 0 n)) (a, b) ≡ true → (w : ℕ) × Member s w × (((a == min v w) && (b == max v w)) ≡ true)
+star_parts : (v : ℕ) (s : NameSet) (n a b : ℕ) → set.contains (star v (ascending_between s 0 n)) (a, b) ≡ true → (w : ℕ) × Has s w × (((a == min v w) && (b == max v w)) ≡ true)
 unfolding ascending_between
 star_parts v s zero a b h = absurd (true≢false (sym h ∙ pairs-empty a b))
 star_parts v s (suc n) a b h =
@@ -279,7 +300,7 @@ star_parts v s (suc n) a b h =
       | inr f ↦ star_parts v s n a b (rw (zero_le n, f, append-nil (ascending_between s 0 n)) at h)
     ]
 
-pub IsGraph-with_edges : {g : PlainGraph} → IsGraph g → (v : ℕ) (others : NameSet) → Member g.vertices v → ((w : ℕ) → Member others w → Member g.vertices w) → set.contains others v ≡ false → IsGraph (with_edges g v others)
+pub IsGraph-with_edges : {g : PlainGraph} → IsGraph g → (v : ℕ) (others : NameSet) → Has g.vertices v → ((w : ℕ) → Has others w → Has g.vertices w) → set.contains others v ≡ false → IsGraph (with_edges g v others)
 IsGraph-with_edges {g} is v others mv members differ =
     IsGraph_by is.names (λ a b h. elim (or_cases _ _ (sym (pairs-union g.edges (star v (ascending others)) a b) ∙ h)) [
       | inl old ↦ graph_ends is a b old

@@ -6,7 +6,8 @@ use Rattle.std.specs.FinSet as set
 use Rattle.std.proofs.Math.Nat.{div-eq_of_lt, div-eq_of_lt-le, pow-suc, pow-le-pow_right}
 use Rattle.std.proofs.lemmas.Nat.{leading_top}
 use lib.Count.{count_leading_zeros}
-use Rattle.md_graph.specs.NameSet.{NameSet, IsGreatest, NoneFrom}
+use Rattle.md_graph.specs.Sets.{NameSet}
+use Rattle.md_graph.specs.NameSet.{IsGreatest, NoneFrom}
 use Rattle.md_graph.specs.Words.{bit_of, names_below}
 use Rattle.md_graph.proofs.BitWords.{InUse, from_both, zero_bit, contains-names_below}
 

@@ -1,3 +1,5 @@
+pub mod Search
+pub mod SetLemmas
 pub mod BitWords
 pub mod Counting
 pub mod EachRow
@@ -11,3 +13,5 @@ pub mod SetLaws
 pub mod Transposing
 pub mod BlockRows
 pub mod LastPlace
+pub mod Comparing
+pub mod Ranges

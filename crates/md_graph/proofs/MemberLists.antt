@@ -4,7 +4,8 @@ use Rattle.std.proofs.lemmas.Bool.Decides.{nat_tests}
 use Rattle.std.specs.Int.{bit_at, w64, trailing_zeros}
 use Rattle.std.proofs.lemmas.Nat.{shr_split}
 use Rattle.std.proofs.lemmas.Nat.Bits.{bit_at-zero, bit_at_and, bit_at-trailing_zeros, same_from_bits_below, bit_at-suc, bit_at_lowest, bit_at_cat_low, bit_at_cat_high}
-use Rattle.md_graph.specs.NameSet.{NameSet, AllBelow, ascending_between}
+use Rattle.md_graph.specs.Sets.{NameSet}
+use Rattle.md_graph.specs.NameSet.{AllBelow, ascending_between}
 use Rattle.md_graph.specs.Words.{bit_of, names_below, bits_between, names_of_words, members_left}
 use Rattle.md_graph.proofs.NameLemmas.{not_both, ascending_none}
 use Rattle.md_graph.proofs.BitWords.{InUse, contains-names_below, zero_has_no_bits}

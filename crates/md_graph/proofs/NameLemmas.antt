@@ -6,29 +6,30 @@ use Rattle.std.proofs.lemmas.List.Quantifiers.{all_pairs_push}
 use Rattle.std.specs.Cmp.{nat_cmp_total}
 use Rattle.std.specs.FinSet.{nat_cmp-IsAntisymmetric}
 use Rattle.std.specs.FinSet as set
-use Rattle.md_graph.specs.NameSet.{NameSet, Member, AllBelow, NoneFrom, IsLeastFrom, ascending_between}
+use Rattle.md_graph.specs.Sets.{NameSet, Has}
+use Rattle.md_graph.specs.NameSet.{AllBelow, NoneFrom, IsLeastFrom, ascending_between}
 use Rattle.md_graph.proofs.SetLaws.{contains-empty, contains-insert, contains-retain, len-empty, len-insert, same_set}
 
 -- ---- the first item
 
 -- what holds of the first item of the members of s from low on and below n, or of there being none
 pub record IsFirstItem (s : NameSet) (low n x : ℕ) : Type 0 where
-  pub member : Member s x
+  pub member : Has s x
   pub above : low ≤ x
   pub below : x < n
-  pub first : (w : ℕ) → Member s w → low ≤ w → w < n → x ≤ w
+  pub first : (w : ℕ) → Has s w → low ≤ w → w < n → x ≤ w
 
 abbrev pub BeginsWith : NameSet → ℕ → ℕ → List ℕ → Type 0
-BeginsWith s low n [] = (w : ℕ) → Member s w → low ≤ w → w < n → ⊥
+BeginsWith s low n [] = (w : ℕ) → Has s w → low ≤ w → w < n → ⊥
 BeginsWith s low n (x ∷ xs) = IsFirstItem s low n x
 
 abbrev test : NameSet → ℕ → ℕ → Bool
 test s low n = nat_le low n && set.contains s n
 
-last_of : (s : NameSet) (low n : ℕ) → test s low n ≡ true → (Member s n) × (low ≤ n)
+last_of : (s : NameSet) (low n : ℕ) → test s low n ≡ true → (Has s n) × (low ≤ n)
 last_of s low n h = grind (arith, nat_tests)
 
-not_last : (s : NameSet) (low n w : ℕ) → test s low n ≡ false → Member s w → low ≤ w → w < suc n → w < n
+not_last : (s : NameSet) (low n w : ℕ) → test s low n ≡ false → Has s w → low ≤ w → w < suc n → w < n
 not_last s low n w h m l below = grind (arith, nat_tests)
 
 least_here : (s : NameSet) (low n w : ℕ) → (w < n → ⊥) → n ≤ w
@@ -116,7 +117,7 @@ ascending_same s t low (suc n) same =
     rw (before, here) refl
 
 -- the list of one member
-ascending_one : (s : NameSet) (x : ℕ) → Member s x → ascending_between s x (suc x) ≡ x ∷ []
+ascending_one : (s : NameSet) (x : ℕ) → Has s x → ascending_between s x (suc x) ≡ x ∷ []
 unfolding ascending_between
 ascending_one s x m =
     let none = ascending_none s x x (λ v a b. absurd (omega arith)) in
@@ -161,13 +162,13 @@ walk_turn s low n x left rest is steps =
     record { item = item; left = same_rest x rest (ascending_between s (x + 1) n) (sym steps ∙ is ∙ ascending_step s low n x item) }
 
 -- at the end of a walk all members are below low
-pub walk_end : (s : NameSet) (low n : ℕ) (left rest : List ℕ) → AllBelow s n → left ≡ ascending_between s low n → (left ≡ []) × (rest ≡ []) → (w : ℕ) → Member s w → w < low
+pub walk_end : (s : NameSet) (low n : ℕ) (left rest : List ℕ) → AllBelow s n → left ≡ ascending_between s low n → (left ≡ []) × (rest ≡ []) → (w : ℕ) → Has s w → w < low
 walk_end s low n left rest below is steps w m =
     let none = subst (BeginsWith s low n) (sym is ∙ steps.0) (ascending_begins s low n) in
     under low w (λ l. none w m l (below w m))
 
 -- what is done for the members below low is done for those below x + 1
-pub walk_more : (s : NameSet) (low n x : ℕ) (Done : ℕ → Type 0) → IsFirstItem s low n x → ((w : ℕ) → Member s w → w < low → Done w) → Done x → (w : ℕ) → Member s w → w < x + 1 → Done w
+pub walk_more : (s : NameSet) (low n x : ℕ) (Done : ℕ → Type 0) → IsFirstItem s low n x → ((w : ℕ) → Has s w → w < low → Done w) → Done x → (w : ℕ) → Has s w → w < x + 1 → Done w
 walk_more s low n x Done is done here w m below =
     bool_cases _ (ltb w low) (λ e. done w m (ltb-true _ _ e))
     (λ e. let least = is.first w m (ltb-false _ _ e) (let h = is.below in omega arith) in let same : x ≡ w = omega arith in subst Done same here)
@@ -199,11 +200,11 @@ under_test p n q m = grind (arith, nat_tests)
 under_same : (p : ℕ → Bool) (n q : ℕ) → p n ≡ false → (p q && ltb q (suc n)) ≡ (p q && ltb q n)
 under_same p n q m = grind (arith, nat_tests)
 
-has_last : (s : NameSet) (low n w : ℕ) → Member s w → low ≤ w → n ≡ w → test s low n ≡ true
+has_last : (s : NameSet) (low n w : ℕ) → Has s w → low ≤ w → n ≡ w → test s low n ≡ true
 has_last s low n w m l same = rw same (grind (arith, nat_tests))
 
 pub record IsItem (s : NameSet) (low n x : ℕ) : Type 0 where
-  pub member : Member s x
+  pub member : Has s x
   pub above : low ≤ x
   pub below : x < n
 
@@ -246,7 +247,7 @@ contains_last : (xs : List ℕ) (n w : ℕ) → n ≡ w → Contains (xs ++ n �
 contains_last xs n w e = subst (λ k. Contains (xs ++ k ∷ []) w) (sym e) (Contains-append_right xs (w ∷ []) w (contains_here w))
 
 -- each member in the range is an item
-pub ascending_appears : (s : NameSet) (low n w : ℕ) → Member s w → low ≤ w → w < n → Contains (ascending_between s low n) w
+pub ascending_appears : (s : NameSet) (low n w : ℕ) → Has s w → low ≤ w → w < n → Contains (ascending_between s low n) w
 unfolding ascending_between
 ascending_appears s low zero w m l h = absurd (omega arith)
 ascending_appears s low (suc n) w m l h =

@@ -9,14 +9,15 @@ use Rattle.std.proofs.Math.Seq.{take-append_seam}
 use Rattle.std.specs.List.{refill}
 use Rattle.std.specs.FinSet as set
 use Rattle.md_graph.specs.declared.TheConstants.{NAMES}
-use Rattle.md_graph.specs.NameSet.{NameSet, Member, AllBelow, ascending}
-use Rattle.md_graph.specs.PlainGraph.{PlainGraph, IsGraph, adjacent, neighbours, empty_graph, with_vertex, with_edge, with_edges, without_vertex, without_edge, induced, complement}
+use Rattle.md_graph.specs.Sets.{NameSet, Has}
+use Rattle.md_graph.specs.NameSet.{AllBelow, ascending, range}
+use Rattle.md_graph.specs.PlainGraph.{PlainGraph, IsGraph, adjacent, neighbours, empty_graph, with_vertex, with_range, with_edge, with_edges, without_vertex, without_edge, induced, complement}
 use Rattle.md_graph.specs.Rows.{row_of, edges_of, graph_of, AreRows}
 use Rattle.md_graph.proofs.Counting.{rows_twice, rows_le}
 use Rattle.md_graph.proofs.EachRow.{Lists, Lists-ascending, Lists-head, Lists-rest}
 use Rattle.md_graph.proofs.Limits.{NAMES-lt}
 use Rattle.md_graph.proofs.SetLaws.{contains-empty, contains-insert, contains-remove, contains-union, contains-difference, contains-intersection, same_set}
-use Rattle.md_graph.proofs.GraphLemmas.{rows_of_graph, IsGraph-graph_of, adjacent-graph_of, neighbours-graph_of, adjacent_ends, IsGraph-empty_graph, adjacent-empty_graph, IsGraph-with_vertex, adjacent-with_vertex, IsGraph-with_edge, adjacent-with_edge, IsGraph-with_edges, adjacent-with_edges, IsGraph-without_vertex, adjacent-without_vertex, IsGraph-without_edge, adjacent-without_edge, contains-neighbours, IsGraph-induced, IsGraph-complement, adjacent-induced, adjacent-complement}
+use Rattle.md_graph.proofs.GraphLemmas.{rows_of_graph, IsGraph-graph_of, adjacent-graph_of, neighbours-graph_of, adjacent_ends, IsGraph-empty_graph, adjacent-empty_graph, IsGraph-with_vertex, adjacent-with_vertex, IsGraph-with_range, adjacent-with_range, IsGraph-with_edge, adjacent-with_edge, IsGraph-with_edges, adjacent-with_edges, IsGraph-without_vertex, adjacent-without_vertex, IsGraph-without_edge, adjacent-without_edge, contains-neighbours, IsGraph-induced, IsGraph-complement, adjacent-induced, adjacent-complement}
 
 -- what `rows[v]` gives
 pub row_read : {live : NameSet} {rows : List NameSet} → AreRows live rows → (v : ℕ) → v < NAMES → (x : NameSet) → x ≡ get_or rows v x → x ≡ row_of rows v
@@ -58,6 +59,12 @@ rows_add_vertex {live} {rows} {g} a e v name {new} is_new =
     let law = λ (x y : ℕ). sym (adjacent-graph_of a x y) ∙ ap (λ h. adjacent h x y) e ∙ sym (adjacent-with_vertex g v x y) in
     rows_of_graph (IsGraph-with_vertex is v name) (is_new ∙ ap (λ h. set.insert h.vertices v) e) a.one_each law
 
+pub rows_add_range : {live : NameSet} {rows : List NameSet} {g : PlainGraph} → AreRows live rows → graph_of live rows ≡ g → (from count : ℕ) → from + count ≤ NAMES → {new : NameSet} → new ≡ set.union live (range from count) → AreRows new rows × (graph_of new rows ≡ with_range g from count)
+rows_add_range {live} {rows} {g} a e from count names {new} is_new =
+    let is : IsGraph g = subst IsGraph e (IsGraph-graph_of a) in
+    let law = λ (x y : ℕ). sym (adjacent-graph_of a x y) ∙ ap (λ h. adjacent h x y) e ∙ sym (adjacent-with_range g from count x y) in
+    rows_of_graph (IsGraph-with_range is from count names) (is_new ∙ ap (λ h. set.union h.vertices (range from count)) e) a.one_each law
+
 -- the rows after one is replaced
 pub contains-set_row : (rows : List NameSet) (u : ℕ) (new : NameSet) (a b : ℕ) → u < length rows → set.contains (row_of (set rows u new) a) b ≡ cond (a == u) (set.contains new b) (set.contains (row_of rows a) b)
 contains-set_row rows u new a b below =
@@ -87,7 +94,7 @@ twice_set {live} {rows} op f keeps gives a u v name_u name_v differ new_u old_u 
       ])
     ]
 
-pub rows_add_edge : {live : NameSet} {rows : List NameSet} {g : PlainGraph} → AreRows live rows → graph_of live rows ≡ g → (u v : ℕ) → Member g.vertices u → Member g.vertices v → u ≢ v → {new_u old_u new_v old_v : NameSet} → new_u ≡ set.insert old_u v → old_u ≡ get_or rows u old_u → new_v ≡ set.insert old_v u → old_v ≡ get_or (set rows u new_u) v old_v → AreRows live (set (set rows u new_u) v new_v) × (graph_of live (set (set rows u new_u) v new_v) ≡ with_edge g u v)
+pub rows_add_edge : {live : NameSet} {rows : List NameSet} {g : PlainGraph} → AreRows live rows → graph_of live rows ≡ g → (u v : ℕ) → Has g.vertices u → Has g.vertices v → u ≢ v → {new_u old_u new_v old_v : NameSet} → new_u ≡ set.insert old_u v → old_u ≡ get_or rows u old_u → new_v ≡ set.insert old_v u → old_v ≡ get_or (set rows u new_u) v old_v → AreRows live (set (set rows u new_u) v new_v) × (graph_of live (set (set rows u new_u) v new_v) ≡ with_edge g u v)
 rows_add_edge {live} {rows} {g} a e u v mu mv differ {new_u} {old_u} {new_v} {old_v} is_u read_u is_v read_v =
     let is : IsGraph g = subst IsGraph e (IsGraph-graph_of a) in
     let law = λ (x y : ℕ). twice_set ◌||◌ set.insert (λ _. refl) contains-insert a u v (is.names u mu) (is.names v mv) differ new_u old_u new_v old_v is_u read_u is_v read_v x y ∙ ap (λ t. (((x == u) && (y == v)) || ((x == v) && (y == u))) || t) (sym (adjacent-graph_of a x y) ∙ ap (λ h. adjacent h x y) e) ∙ sym (adjacent-with_edge g u v x y) in
@@ -113,7 +120,7 @@ ends_are_names {live} {rows} {g} a e u v there =
     let ends = adjacent_ends is u v there in
     (is.names u ends.0, is.names v ends.1)
 
-pub member_is_name : {live : NameSet} {rows : List NameSet} {g : PlainGraph} → AreRows live rows → graph_of live rows ≡ g → (v : ℕ) → Member g.vertices v → v < NAMES
+pub member_is_name : {live : NameSet} {rows : List NameSet} {g : PlainGraph} → AreRows live rows → graph_of live rows ≡ g → (v : ℕ) → Has g.vertices v → v < NAMES
 member_is_name {live} {rows} {g} a e v m = let is : IsGraph g = subst IsGraph e (IsGraph-graph_of a) in is.names v m
 
 -- ---- all rows of a slice
@@ -155,14 +162,14 @@ star_row others v x y old was new e at_v differ =
           ]
     ]
 
-pub rows_add_edges : {live : NameSet} {rows : List NameSet} {g : PlainGraph} → AreRows live rows → graph_of live rows ≡ g → (v : ℕ) (others : NameSet) → Member g.vertices v → ((w : ℕ) → Member others w → Member g.vertices w) → set.contains others v ≡ false → (new_v old_v : NameSet) → new_v ≡ set.union old_v others → old_v ≡ get_or rows v old_v → (n : ℕ) (old ws : List NameSet) → n ≡ length rows → old ≡ set rows v new_v → length ws ≡ length old → ((u : ℕ) → row_of ws u ≡ cond (set.contains others u) (set.insert (row_of old u) v) (row_of old u)) → AreRows live (refill n (set rows v new_v) ws) × (graph_of live (refill n (set rows v new_v) ws) ≡ with_edges g v others)
+pub rows_add_edges : {live : NameSet} {rows : List NameSet} {g : PlainGraph} → AreRows live rows → graph_of live rows ≡ g → (v : ℕ) (others : NameSet) → Has g.vertices v → ((w : ℕ) → Has others w → Has g.vertices w) → set.contains others v ≡ false → (new_v old_v : NameSet) → new_v ≡ set.union old_v others → old_v ≡ get_or rows v old_v → (n : ℕ) (old ws : List NameSet) → n ≡ length rows → old ≡ set rows v new_v → length ws ≡ length old → ((u : ℕ) → row_of ws u ≡ cond (set.contains others u) (set.insert (row_of old u) v) (row_of old u)) → AreRows live (refill n (set rows v new_v) ws) × (graph_of live (refill n (set rows v new_v) ws) ≡ with_edges g v others)
 rows_add_edges {live} {rows} {g} a e v others mv members differ new_v old_v is read n old ws len same kept each =
     let is_graph : IsGraph g = subst IsGraph e (IsGraph-graph_of a) in
     let name_v : v < NAMES = is_graph.names v mv in
     let in_v : v < length rows = omega (arith, a.one_each) in
     let same_len = ap length same ∙ length-set rows v new_v in
     let whole = refilled n (set rows v new_v) ws (omega (arith, length-set rows v new_v)) in
-    let below = λ (w : ℕ) (m : Member others w). is_graph.names w (members w m) in
+    let below = λ (w : ℕ) (m : Has others w). is_graph.names w (members w m) in
     let has = λ (x y : ℕ). sym (adjacent-graph_of a x y) ∙ ap (λ h. adjacent h x y) e in
     let at_v = λ (y : ℕ). ap (λ s. set.contains s y) (is ∙ ap (λ s. set.union s others) (row_read a v name_v old_v read)) ∙ contains-union (row_of rows v) others y in
     let law = λ (x y : ℕ). ap (λ r. set.contains (row_of r x) y) whole ∙ ap (λ s. set.contains s y) (each x) ∙ star_row others v x y (row_of old x) _ (set.contains new_v y) (ap (λ r. set.contains (row_of r x) y) same ∙ contains-set_row rows v new_v x y in_v) (λ here. at_v y ∙ ap (λ w. set.contains (row_of rows w) y || set.contains others y) (sym here)) differ ∙ ap (λ t. (((x == v) && set.contains others y) || ((y == v) && set.contains others x)) || t) (has x y) ∙ sym (adjacent-with_edges g v others below x y) in
@@ -189,7 +196,7 @@ gone_row others v x y old new_v none {now} e at_v =
       ]
     ]
 
-pub rows_remove_vertex : {live : NameSet} {rows : List NameSet} {g : PlainGraph} → AreRows live rows → graph_of live rows ≡ g → (v : ℕ) → Member g.vertices v → (row others : NameSet) → row ≡ get_or rows v row → others ≡ row → (n : ℕ) (old ws : List NameSet) → n ≡ length rows → old ≡ rows → length ws ≡ length old → ((u : ℕ) → row_of ws u ≡ cond (set.contains others u) (set.remove (row_of old u) v) (row_of old u)) → {new_v : NameSet} → new_v ≡ set.empty → {new : NameSet} → new ≡ set.remove live v → AreRows new (set (refill n rows ws) v new_v) × (graph_of new (set (refill n rows ws) v new_v) ≡ without_vertex g v)
+pub rows_remove_vertex : {live : NameSet} {rows : List NameSet} {g : PlainGraph} → AreRows live rows → graph_of live rows ≡ g → (v : ℕ) → Has g.vertices v → (row others : NameSet) → row ≡ get_or rows v row → others ≡ row → (n : ℕ) (old ws : List NameSet) → n ≡ length rows → old ≡ rows → length ws ≡ length old → ((u : ℕ) → row_of ws u ≡ cond (set.contains others u) (set.remove (row_of old u) v) (row_of old u)) → {new_v : NameSet} → new_v ≡ set.empty → {new : NameSet} → new ≡ set.remove live v → AreRows new (set (refill n rows ws) v new_v) × (graph_of new (set (refill n rows ws) v new_v) ≡ without_vertex g v)
 rows_remove_vertex {live} {rows} {g} a e v mv row others read is n old ws len same kept each {new_v} none {new} is_new =
     let is_graph : IsGraph g = subst IsGraph e (IsGraph-graph_of a) in
     let name_v : v < NAMES = is_graph.names v mv in
@@ -272,7 +279,7 @@ induced_row_is {live} {rows} {g} a e s v name in_s row read both is_both =
 abbrev pub ends_of : List NameSet → List ℕ → ℕ
 ends_of rows xs = sum_by (λ v. set.len (row_of rows v)) xs
 
-both_live : {live : NameSet} {rows : List NameSet} → AreRows live rows → (u v : ℕ) → Member (row_of rows u) v → Member live u × Member live v
+both_live : {live : NameSet} {rows : List NameSet} → AreRows live rows → (u v : ℕ) → Has (row_of rows u) v → Has live u × Has live v
 both_live a u v h = (a.inside v u (a.both_ways v u ∙ h), a.inside u v h)
 
 -- over all vertices it is twice the number of edges

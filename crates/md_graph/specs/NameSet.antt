@@ -1,37 +1,29 @@
 -- A finite set of names, as contracts see it. Two sets with the same members are equal.
 -- Source: finite sets of numbers in their usual order, as in any textbook.
-use Rattle.std.specs.Prelude.{ℕ, zero, suc, ◌+◌, ◌<◌, ◌≤◌, ◌&&◌, ◌==◌, nat_le, List, [], ◌∷◌, ◌++◌, IsTrue, if◌then◌else◌}
-use Rattle.std.specs.Ordering.{nat_cmp}
+use Rattle.std.specs.Prelude.{ℕ, zero, suc, ◌+◌, ◌<◌, ◌≤◌, ◌&&◌, ◌==◌, nat_le, List, [], ◌∷◌, ◌++◌, if◌then◌else◌}
 use Rattle.std.specs.Int.{bit_at}
 use Rattle.std.specs.FinSet as set
+use Rattle.md_graph.specs.Sets.{NameSet, Has}
 use Rattle.md_graph.specs.declared.TheConstants.{NAMES}
-
--- a set of numbers
-abbrev pub NameSet : Type 0
-NameSet = set.FinSet nat_cmp
-
--- `v` is a member of `s`
-abbrev pub Member : NameSet → ℕ → Type 0
-Member s v = IsTrue (set.contains s v)
 
 -- the least member of `s` at or above `v`
 pub record IsLeastFrom (s : NameSet) (v least : ℕ) : Type 0 where
-  pub member : Member s least
+  pub member : Has s least
   pub above : v ≤ least
-  pub first : (w : ℕ) → Member s w → v ≤ w → least ≤ w
+  pub first : (w : ℕ) → Has s w → v ≤ w → least ≤ w
 
 -- the greatest member of `s`
 pub record IsGreatest (s : NameSet) (greatest : ℕ) : Type 0 where
-  pub member : Member s greatest
-  pub last : (w : ℕ) → Member s w → w ≤ greatest
+  pub member : Has s greatest
+  pub last : (w : ℕ) → Has s w → w ≤ greatest
 
 -- no member of `s` is at or above `v`
 abbrev pub NoneFrom : NameSet → ℕ → Type 0
-NoneFrom s v = (w : ℕ) → Member s w → w < v
+NoneFrom s v = (w : ℕ) → Has s w → w < v
 
 -- all members of `s` are below `n`
 abbrev pub AllBelow : NameSet → ℕ → Type 0
-AllBelow s n = (w : ℕ) → Member s w → w < n
+AllBelow s n = (w : ℕ) → Has s w → w < n
 
 -- the numbers that exactly one of `a` and `b` has
 abbrev pub told_apart : NameSet → NameSet → NameSet
@@ -50,6 +42,11 @@ ascending_from s low = ascending_between s low NAMES
 -- the members of a set of names, ascending
 abbrev pub ascending : NameSet → List ℕ
 ascending s = ascending_from s 0
+
+-- the names from `from` on, `count` of them
+unfoldable pub range : ℕ → ℕ → NameSet
+range from zero = set.empty
+range from (suc count) = set.insert (range from count) (from + count)
 
 -- the names first + k, k < bound, for which bit k of `bits` is 1
 unfoldable pub block_below : ℕ → ℕ → ℕ → NameSet

@@ -6,7 +6,8 @@ use Rattle.std.specs.Ordering.{nat_cmp, then_cmp, on}
 use Rattle.std.specs.FinSet as set
 use Rattle.std.specs.Coded.{Coded, code_by, coded×, coded_ℕ}
 use Rattle.md_graph.specs.declared.TheConstants.{NAMES}
-use Rattle.md_graph.specs.NameSet.{NameSet, Member, ascending}
+use Rattle.md_graph.specs.Sets.{NameSet, Has}
+use Rattle.md_graph.specs.NameSet.{ascending, range}
 
 -- pairs in lexicographic order: by the first number, then by the second
 abbrev pub pair_cmp : ℕ × ℕ → ℕ × ℕ → Ordering
@@ -52,10 +53,10 @@ neighbours g v = set.retain g.vertices (adjacent g v)
 -- What holds of every graph: its vertices are names, and an edge has two different ends, both of them
 -- vertices, the smaller first.
 pub record IsGraph (g : PlainGraph) : Type 0 where
-  pub names : (v : ℕ) → Member g.vertices v → v < NAMES
+  pub names : (v : ℕ) → Has g.vertices v → v < NAMES
   pub ordered : (u v : ℕ) → IsTrue (set.contains g.edges (u, v)) → u < v
-  pub low_end : (u v : ℕ) → IsTrue (set.contains g.edges (u, v)) → Member g.vertices u
-  pub high_end : (u v : ℕ) → IsTrue (set.contains g.edges (u, v)) → Member g.vertices v
+  pub low_end : (u v : ℕ) → IsTrue (set.contains g.edges (u, v)) → Has g.vertices u
+  pub high_end : (u v : ℕ) → IsTrue (set.contains g.edges (u, v)) → Has g.vertices v
 
 -- the graph without vertices
 abbrev pub empty_graph : PlainGraph
@@ -64,6 +65,10 @@ empty_graph = record { vertices = set.empty; edges = set.empty }
 -- g with the vertex v, and no new edge
 abbrev pub with_vertex : PlainGraph → ℕ → PlainGraph
 with_vertex g v = record { vertices = set.insert g.vertices v; edges = g.edges }
+
+-- g with the vertices from `from` on, `count` of them, and no new edge
+abbrev pub with_range : PlainGraph → ℕ → ℕ → PlainGraph
+with_range g from count = record { vertices = set.union g.vertices (range from count); edges = g.edges }
 
 -- g with an edge between u and v
 abbrev pub with_edge : PlainGraph → ℕ → ℕ → PlainGraph

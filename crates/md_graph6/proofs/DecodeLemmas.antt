@@ -4,7 +4,7 @@ use Rattle.std.specs.FinSet as set
 use Rattle.std.proofs.lemmas.Bool.Decides.{nat_tests}
 use Rattle.std.proofs.lemmas.Bool.{cases_Bool, ltb-true, lt-ltb}
 use Rattle.md_graph.specs.declared.TheConstants.{NAMES}
-use Rattle.md_graph.specs.NameSet.{Member}
+use Rattle.md_graph.specs.Sets.{Has}
 use Rattle.md_graph.specs.PlainGraph.{PlainGraph, IsGraph, adjacent}
 use Rattle.md_graph.proofs.SetLaws.{contains-empty, contains-insert, same_set}
 use Rattle.md_graph.proofs.PairLaws.{same_pairs}
@@ -29,7 +29,7 @@ edge_parts : (u v n : ℕ) (b : Bool) → ((nat_lt u v && nat_lt v n) && b) ≡ 
 edge_parts u v n b e = (grind (arith, nat_tests), grind (arith, nat_tests))
 
 -- a number below n is a member, and no other
-below_is_member : (n v : ℕ) → v < n → Member (numbers_below n) v
+below_is_member : (n v : ℕ) → v < n → Has (numbers_below n) v
 below_is_member n v small = contains-numbers_below n v ∙ lt-ltb v n small
 
 -- what is decoded is a graph

@@ -5,7 +5,7 @@ use Rattle.std.proofs.lemmas.Bool.{cases_eq, eq-eqb, ne_eqb, true≢false}
 use Rattle.std.proofs.lemmas.Bool.Decides.{nat_tests}
 use Rattle.std.proofs.lemmas.Nat.Bits.{bit_at-zero}
 use Rattle.std.specs.FinSet as set
-use Rattle.md_graph.specs.NameSet.{Member}
+use Rattle.md_graph.specs.Sets.{Has}
 use Rattle.md_graph.specs.Blocks.{in_block, IsWithBlock}
 use Rattle.md_graph.proofs.BitWords.{get_or-zeros}
 use Rattle.md_graph.proofs.SetLaws.{contains-empty, contains-insert}
@@ -120,7 +120,7 @@ edge_parts false b c d e h = absurd (true≢false (sym h))
 
 -- the ends of an edge of a block are vertices and differ
 pub block_ends : (body : List ℕ) (n l h : ℕ) (words : List ℕ) {g : PlainGraph} {m k : ℕ} → IsBlock body n (64 * l) (64 * h) words → IsFilled body n m k g
-    → (u v : ℕ) → in_block words (64 * h) (64 * l) u v ≡ true → Member g.vertices u × Member g.vertices v × (u ≢ v)
+    → (u v : ℕ) → in_block words (64 * h) (64 * l) u v ≡ true → Has g.vertices u × Has g.vertices v × (u ≢ v)
 block_ends body n l h words {g} is filled u v edge =
     let parts = edge_parts (u / 64 == h) (v / 64 == l) (nat_lt u n) (nat_lt v u) (bit body (pair_number v u) == 1) (sym (block_edge body n l h words is u v) ∙ edge) in
     let below = ltb-true u n parts.0 in

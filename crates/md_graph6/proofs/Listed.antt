@@ -5,7 +5,7 @@ use Rattle.std.proofs.lemmas.Bool.{cases_lt, cases_eq}
 use Rattle.std.proofs.lemmas.Bool.Decides.{nat_tests}
 use Rattle.md_graph.proofs.SetLaws.{contains-empty}
 use Rattle.std.specs.FinSet as set
-use Rattle.md_graph.specs.NameSet.{NameSet}
+use Rattle.md_graph.specs.Sets.{NameSet}
 
 -- a loop over a list has `i` items behind it and the others before it
 pub record IsAt (items rest : List ℕ) (i : ℕ) : Type 0 where

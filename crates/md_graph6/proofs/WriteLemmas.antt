@@ -13,7 +13,8 @@ use Rattle.md_graph6.specs.Line.{SpellsLine, is_group}
 use Rattle.md_graph6.proofs.DecodeLemmas.{contains-numbers_below}
 use Rattle.std.proofs.lemmas.Bool.Decides.{nat_tests}
 use Rattle.std.specs.FinSet as set
-use Rattle.md_graph.specs.NameSet.{NameSet, ascending}
+use Rattle.md_graph.specs.Sets.{NameSet}
+use Rattle.md_graph.specs.NameSet.{ascending}
 use Rattle.md_graph6.specs.Bits.{bit, pair_number, body_length, IsBodyOf}
 use Rattle.md_graph6.specs.Window.{AreGroups}
 use Rattle.md_graph6.specs.Written.{bit_if, nth, are_adjacent, renumbered, IsWritten}

@@ -4,7 +4,7 @@ use Rattle.std.specs.Prelude.{◌≡◌, ℕ, zero, suc, ◌+◌, ◌-◌, ◌*�
 use Rattle.std.specs.List.{AllPass, list_all}
 use Rattle.std.specs.FinSet as set
 use Rattle.md_graph.specs.declared.TheConstants.{NAMES}
-use Rattle.md_graph.specs.NameSet.{NameSet}
+use Rattle.md_graph.specs.Sets.{NameSet}
 use Rattle.md_graph.specs.PlainGraph.{PlainGraph, pairs_where}
 use Rattle.md_graph6.specs.declared.fault.G6Kind.{G6Kind}
 use Rattle.md_graph6.specs.declared.fault.G6Kind.TheVariants.{BadByte, BadSize, TooManyVertices, Truncated, TrailingBytes, BadPadding, OtherFormat}

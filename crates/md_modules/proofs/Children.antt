@@ -1,18 +1,19 @@
 -- The children of a set of each kind: its components, those of its complement, or its maximal proper modules.
 use Rattle.std.proofs.Common.{◌≡◌, ℕ, Bool, true, false, not, ◌≢◌, sym, ◌∙◌, subst, inl, inr}
 use Rattle.std.specs.FinSet.{contains, union}
-use Rattle.md_modules.specs.Sets.{NameSet, Has, Lacks, Within, HasTwo, only_name}
+use Rattle.md_graph.specs.Sets.{NameSet, Has, Lacks, Within, HasTwo, only_name}
 use Rattle.md_modules.specs.Adjacency.{IsAdjacency}
 use Rattle.md_modules.specs.Modules.{IsModule, Overlap, IsStrong, IsLeastModule, IsMaximalModule, IsMaximalStrong}
 use Rattle.md_modules.specs.Kinds.{IsSplit, IsPrime}
 use Rattle.md_modules.specs.Components.{IsComponent}
-use Rattle.md_modules.proofs.Sets.{either, clash, false_if, only_has, Has-along, same_members, union_left, union_right, union_lacks}
-use Rattle.md_modules.proofs.Search.{decide_both, decide_not, decide_same, outside_or_within, larger_or_same, largest}
+use Rattle.std.proofs.lemmas.Bool.{cases_Bool, false_from_ne_true}
+use Rattle.md_graph.proofs.SetLemmas.{clash, only_has, Has-along, same_members, union_left, union_right, union_lacks}
+use Rattle.md_graph.proofs.Search.{decide_both, decide_not, decide_same, outside_or_within, larger_or_same, largest}
 use Rattle.md_modules.proofs.Modules.{single_module, join_module, cover_split, decide_module}
 use Rattle.md_modules.proofs.Components.{not_own, closed_join, component_of, crossing_pair, closed_module, component_unsplit, components_meet}
 use Rattle.md_modules.proofs.Strong.{nested_if_meet, larger_than_single, strong_nested}
 
--- where s doesn't split in either way
+-- where s doesn't split in cases_Bool way
 pub prime_unsplit : {e : ℕ → ℕ → Bool} (s : NameSet) → IsPrime e s → (v : Bool) (a : NameSet) → IsSplit e s a v → ⊥
 prime_unsplit s prime true a split = prime.co_connected (a, split)
 prime_unsplit s prime false a split = prime.connected (a, split)
@@ -61,7 +62,7 @@ module _ {e : ℕ → ℕ → Bool} where
         c_module = closed_module adj s c v comp.closed (x, comp.holds)
 
         d_lacks : (y : (y : ℕ) × Has m y × Lacks c y) (z : (z : ℕ) × Has s z × Lacks m z) (d : NameSet) → IsComponent e s z.0 d v → Lacks d y.0
-        d_lacks y z d of = false_if _ (λ k. elim (either (contains d x)) [
+        d_lacks y z d of = false_from_ne_true _ (λ k. elim (cases_Bool (contains d x)) [
           | inr o ↦ is.free d (closed_module adj s d v of.closed (z.0, of.holds)) (record { meet = (y.0, y.1, k); left = (x, h, o); right = (z.0, of.holds, z.2) })
           | inl i ↦ elim (nested_if_meet m c x (is.free c c_module) h comp.holds) [
             | inl w ↦ clash (w y.0 y.1) y.2

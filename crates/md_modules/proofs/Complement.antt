@@ -1,22 +1,23 @@
 -- The complement: the same modules, with parallel and series the other way round.
 use Rattle.std.proofs.Common.{◌≡◌, ℕ, Bool, true, false, not, ◌&&◌, nat_eq, ◌≢◌, refl, sym, ◌∙◌, ap, subst, inl, inr, eqb-true, eq-eqb}
-use Rattle.md_modules.specs.Sets.{NameSet, Has, Lacks}
+use Rattle.md_graph.specs.Sets.{NameSet, Has, Lacks}
 use Rattle.md_modules.specs.Adjacency.{IsAdjacency, co}
 use Rattle.md_modules.specs.Modules.{IsModule, IsStrong}
 use Rattle.md_modules.specs.Kinds.{IsSplit}
 use Rattle.md_modules.specs.Laws.{ComplementTurns, ComplementTurnsKinds}
-use Rattle.md_modules.proofs.Sets.{either, clash, false_if}
+use Rattle.std.proofs.lemmas.Bool.{cases_Bool, false_from_ne_true}
+use Rattle.md_graph.proofs.SetLemmas.{clash}
 
 same_turned : (x y : ℕ) → nat_eq x y ≡ nat_eq y x
 same_turned x y =
-    elim (either (nat_eq x y)) [
+    elim (cases_Bool (nat_eq x y)) [
       | inl h ↦ h ∙ sym (eq-eqb y x (sym (eqb-true x y h)))
-      | inr l ↦ l ∙ sym (false_if (nat_eq y x) (λ h. clash (eq-eqb x y (sym (eqb-true y x h))) l))
+      | inr l ↦ l ∙ sym (false_from_ne_true (nat_eq y x) (λ h. clash (eq-eqb x y (sym (eqb-true y x h))) l))
     ]
 
 -- at two different names the complement says the other value
 pub co_value : (e : ℕ → ℕ → Bool) (a b : ℕ) → a ≢ b → co e a b ≡ not (e a b)
-co_value e a b differ = ap (λ t. not t && not (e a b)) (false_if (nat_eq a b) (λ h. differ (eqb-true a b h)))
+co_value e a b differ = ap (λ t. not t && not (e a b)) (false_from_ne_true (nat_eq a b) (λ h. differ (eqb-true a b h)))
 
 back_value : (a b : Bool) → not a ≡ not b → a ≡ b
 back_value true true p = refl

@@ -1,14 +1,15 @@
 -- Closed parts, components and splits, of the graph (v is false) and of its complement (v is true) at once.
 use Rattle.std.proofs.Common.{◌≡◌, ℕ, Bool, true, false, not, ◌⊎◌, refl, sym, ◌∙◌, inl, inr}
 use Rattle.std.specs.FinSet.{contains, retain, union, intersection, difference}
-use Rattle.md_modules.specs.Sets.{NameSet, Has, Lacks, Within, HasSome, HasTwo}
+use Rattle.md_graph.specs.Sets.{NameSet, Has, Lacks, Within, HasSome, HasTwo}
 use Rattle.md_modules.specs.Adjacency.{IsAdjacency}
 use Rattle.md_modules.specs.Modules.{IsModule}
 use Rattle.md_modules.specs.Kinds.{IsSplit, IsParallel, IsSeries, IsPrime}
 use Rattle.md_modules.specs.Components.{IsClosed, IsComponent}
 use Rattle.md_modules.specs.Laws.{HasOneKind}
-use Rattle.md_modules.proofs.Sets.{either, clash, true_if, Within-refl, Within-trans, same_members, retain_has, of_retain, retain_lacks, of_retain_lacks, meet_has, of_meet, of_meet_lacks, of_union, of_union_lacks, minus_has, of_minus, of_minus_lacks, minus_lacks}
-use Rattle.md_modules.proofs.Search.{Decided, decide_test, decide_both, decide_if, decide_like, decide_some, decide_all, decide_some_set, decide_within, decide_has_some, larger_or_same, least}
+use Rattle.std.proofs.lemmas.Bool.{cases_Bool, true_from_ne_false}
+use Rattle.md_graph.proofs.SetLemmas.{clash, Within-refl, Within-trans, same_members, retain_has, of_retain, retain_lacks, of_retain_lacks, meet_has, of_meet, of_meet_lacks, of_union, of_union_lacks, minus_has, of_minus, of_minus_lacks, minus_lacks}
+use Rattle.md_graph.proofs.Search.{Decided, decide_test, decide_both, decide_if, decide_like, decide_some, decide_all, decide_some_set, decide_within, decide_has_some, larger_or_same, least}
 
 pub other_value : (a v : Bool) → (a ≡ not v → ⊥) → a ≡ v
 other_value true true n = refl
@@ -52,7 +53,7 @@ module _ {e : ℕ → ℕ → Bool} where
   pub closed_of_closed : (s c d : NameSet) (v : Bool) → IsClosed e s c v → IsClosed e c d v → IsClosed e s d v
   closed_of_closed s c d v outer inner = record {
     inside = Within-trans d c s inner.inside outer.inside;
-    across = λ p q hp hq l. elim (either (contains c q)) [
+    across = λ p q hp hq l. elim (cases_Bool (contains c q)) [
       | inl h ↦ inner.across p q hp h l
       | inr o ↦ outer.across p q (inner.inside p hp) hq o
     ];
@@ -60,7 +61,7 @@ module _ {e : ℕ → ℕ → Bool} where
 
   -- where a member leads across a pair of the other value, the other end is a member
   pub closed_follow : (s c : NameSet) (v : Bool) → IsClosed e s c v → (p q : ℕ) → Has c p → Has s q → e p q ≡ not v → Has c q
-  closed_follow s c v closed p q hp hq k = true_if _ (λ l. not_own (e p q) v (closed.across p q hp hq l) k)
+  closed_follow s c v closed p q hp hq k = true_from_ne_false _ (λ l. not_own (e p q) v (closed.across p q hp hq l) k)
 
   decide_closed_all : (s c : NameSet) (v : Bool) → Decided ((a : ℕ) → Has c a → (b : ℕ) → Has s b → Lacks c b → e a b ≡ v)
   decide_closed_all s c v = decide_all c _ (λ a ha. decide_all s _ (λ b hb. decide_if (decide_test (contains c b) false) (decide_test (e a b) v)))
@@ -140,7 +141,7 @@ module _ {e : ℕ → ℕ → Bool} where
     -- a component doesn't split
     pub component_unsplit : (s c : NameSet) (v : Bool) (x : ℕ) → IsComponent e s x c v → (a : NameSet) → IsSplit e c a v → ⊥
     component_unsplit s c v x is a split =
-        elim (either (contains a x)) [
+        elim (cases_Bool (contains a x)) [
           | inl h ↦ clash (is.least a (closed_of_closed s c a v is.closed (split_closed c a v split)) h split.rest.0 split.rest.1) split.rest.2
           | inr o ↦ clash split.some.1
               (of_minus c a split.some.0
@@ -153,7 +154,7 @@ module _ {e : ℕ → ℕ → Bool} where
     component_of_member s c v x y is h = record {
       holds = h;
       closed = is.closed;
-      least = λ a closed k. elim (either (contains a x)) [
+      least = λ a closed k. elim (cases_Bool (contains a x)) [
         | inl i ↦ is.least a closed i
         | inr o ↦ clash k (of_minus s a y (is.least (difference s a) (closed_rest s a v closed) (minus_has s a x (is.closed.inside x is.holds) o) y h)).1
       ];
@@ -167,19 +168,19 @@ module _ {e : ℕ → ℕ → Bool} where
     -- kinds
     both_splits_at : (s a b : NameSet) (x : ℕ) → IsSplit e s a false → IsSplit e s b true → Has a x → Has b x → ⊥
     both_splits_at s a b x p q ha hb =
-        elim (either (contains a q.rest.0)) [
+        elim (cases_Bool (contains a q.rest.0)) [
           | inl h ↦ clash (q.across p.rest.0 q.rest.0 (in_b p.rest.0 p.rest.1 p.rest.2) q.rest.1 q.rest.2)
               (adj.symmetric p.rest.0 q.rest.0 ∙ p.across q.rest.0 p.rest.0 h p.rest.1 p.rest.2)
           | inr o ↦ clash (q.across x q.rest.0 hb q.rest.1 q.rest.2) (p.across x q.rest.0 ha q.rest.1 o)
         ]
       where
         in_b : (y : ℕ) → Has s y → Lacks a y → Has b y
-        in_b y hy l = true_if _ (λ o. clash (q.across x y hb hy o) (p.across x y ha hy l))
+        in_b y hy l = true_from_ne_false _ (λ o. clash (q.across x y hb hy o) (p.across x y ha hy l))
 
     -- no set has a split without an edge across and one with every edge across
     pub not_both_splits : (s a b : NameSet) → IsSplit e s a false → IsSplit e s b true → ⊥
     not_both_splits s a b p q =
-        elim (either (contains b p.some.0)) [
+        elim (cases_Bool (contains b p.some.0)) [
           | inl h ↦ both_splits_at s a b p.some.0 p q p.some.1 h
           | inr o ↦ both_splits_at s a (difference s b) p.some.0 p (split_rest s b true q) p.some.1 (minus_has s b p.some.0 (p.inside p.some.0 p.some.1) o)
         ]

@@ -2,20 +2,21 @@
 -- left is what a search hasn't taken, todo what it took and hasn't looked at.
 use Rattle.std.proofs.Common.{◌≡◌, ◌↔◌, ℕ, Bool, not, ◌≢◌, ◌⊎◌, refl, sym, ◌∙◌, ap, subst, inl, inr}
 use Rattle.std.specs.FinSet.{remove, union, difference}
-use Rattle.md_modules.specs.Sets.{NameSet, Has, Lacks, Within, only_name}
+use Rattle.md_graph.specs.Sets.{NameSet, Has, Lacks, Within, only_name}
 use Rattle.md_modules.specs.Adjacency.{IsAdjacency}
 use Rattle.md_modules.specs.Modules.{IsModule, IsLeastModule, IsLeastModuleOver}
 use Rattle.md_modules.specs.Components.{IsComponent}
 use Rattle.md_modules.specs.Searches.{IsReaching}
-use Rattle.md_modules.proofs.Sets.{clash, only_has, of_only, only_lacks, false_if, true_if, same_name, remove_left, of_remove, of_union_lacks, of_union, minus_has, of_minus, minus_lacks, of_minus_lacks, lacks_within}
-use Rattle.md_modules.proofs.Search.{decide_test}
+use Rattle.std.proofs.lemmas.Bool.{false_from_ne_true, true_from_ne_false}
+use Rattle.md_graph.proofs.SetLemmas.{clash, only_has, of_only, only_lacks, same_name, remove_left, of_remove, of_union_lacks, of_union, minus_has, of_minus, minus_lacks, of_minus_lacks, lacks_within}
+use Rattle.md_graph.proofs.Search.{decide_test}
 use Rattle.md_modules.proofs.Components.{other_value, closed_follow}
 
 -- a name that is out of the new todo is out of the old one, or was looked at, and wasn't taken in this turn
 looked_at : (todo new : NameSet) (w y : ℕ) → Lacks (union (remove todo w) new) y → Lacks new y × ((y ≡ w) ⊎ Lacks todo y)
 looked_at todo new w y l =
     let two : Lacks (remove todo w) y × Lacks new y = of_union_lacks (remove todo w) new y l in
-    (two.1, elim (same_name y w) [ inl same ↦ inl same | inr differs ↦ inr (false_if _ (λ h. clash (remove_left todo w y differs h) two.0)) ])
+    (two.1, elim (same_name y w) [ inl same ↦ inl same | inr differs ↦ inr (false_from_ne_true _ (λ h. clash (remove_left todo w y differs h) two.0)) ])
 
 -- what the rest of left is without new
 left_before : (left new : NameSet) (y : ℕ) → Lacks (difference left new) y → Lacks left y ⊎ Has new y
@@ -97,7 +98,7 @@ module _ {e : ℕ → ℕ → Bool} where
     least = is.least;
     looked = λ a hs l t y k. elim (same_name a w) [
       | inl same ↦ ap (λ b. e b y) same ∙ other_value (e w y) v (none y k)
-      | inr differs ↦ is.looked a hs l (false_if _ (λ h. clash (remove_left todo w a differs h) t)) y k
+      | inr differs ↦ is.looked a hs l (false_from_ne_true _ (λ h. clash (remove_left todo w a differs h) t)) y k
     ];
   }
 
@@ -168,13 +169,13 @@ module _ {e : ℕ → ℕ → Bool} where
       ((y : ℕ) → Has left y → (e w y ≡ e w v → ⊥) → Has new y) → ((y : ℕ) → Has new y → Has left y × (e w y ≡ e w v → ⊥)) →
       IsGoingBack e s v (difference left new) (union (remove todo w) new)
   back_turn s left todo new v w is hw new_has of_new = record {
-    start = minus_has left new v is.start (false_if _ (λ k. (of_new v k).1 refl));
+    start = minus_has left new v is.start (false_from_ne_true _ (λ k. (of_new v k).1 refl));
     inside = λ y k. is.inside y (of_minus left new y k).0;
     taken = taken_then s left todo new w is.inside is.taken (λ y k. (of_new y k).0);
     whole = λ y hs l m module_is mv my. elim (left_before left new y l) [
       | inl o ↦ is.whole y hs o m module_is mv my
       | inr i ↦ is.whole w (is.taken w hw).0 (is.taken w hw).1 m module_is mv
-          (true_if _ (λ out. (of_new y i).1 (module_is.alike y v w my mv (is.taken w hw).0 out)))
+          (true_from_ne_false _ (λ out. (of_new y i).1 (module_is.alike y v w my mv (is.taken w hw).0 out)))
     ];
     looked = λ a hs l t y k.
         let out : Lacks new a × ((a ≡ w) ⊎ Lacks todo a) = looked_at todo new w a t in
@@ -204,7 +205,7 @@ module _ {e : ℕ → ℕ → Bool} where
       taken = taken_then s left todo new w is.inside is.taken (λ y k. (of_new y k).0);
       least = λ m module_is holds y hs l. elim (left_before left new y l) [
         | inl o ↦ is.least m module_is holds y hs o
-        | inr i ↦ true_if _ (λ out. (of_new y i).1 (adj.symmetric v y
+        | inr i ↦ true_from_ne_false _ (λ out. (of_new y i).1 (adj.symmetric v y
             ∙ module_is.alike v w y (holds v is.start) (is.least m module_is holds w (is.taken w hw).0 (is.taken w hw).1) hs out ∙ adj.symmetric y w))
       ];
       looked = λ a hs l t y k.

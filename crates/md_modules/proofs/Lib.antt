@@ -1,5 +1,3 @@
-pub mod Sets
-pub mod Search
 pub mod Modules
 pub mod Components
 pub mod Strong

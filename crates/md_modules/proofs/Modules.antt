@@ -1,12 +1,13 @@
 -- Modules: the whole, the single names, parts, meets, joins and differences.
 use Rattle.std.proofs.Common.{◌≡◌, ℕ, Bool, true, false, ◌≢◌, sym, ◌∙◌, ap, subst, inl, inr}
 use Rattle.std.specs.FinSet.{contains, union, intersection, difference}
-use Rattle.md_modules.specs.Sets.{NameSet, Has, Lacks, Within, HasSome, only_name}
+use Rattle.md_graph.specs.Sets.{NameSet, Has, Lacks, Within, HasSome, only_name}
 use Rattle.md_modules.specs.Adjacency.{IsAdjacency}
 use Rattle.md_modules.specs.Modules.{IsModule, Overlap, IsStrong, IsLeastModule, IsMaximalModule}
 use Rattle.md_modules.specs.Kinds.{IsSplit}
-use Rattle.md_modules.proofs.Sets.{either, clash, false_if, only_has, of_only, Within-refl, Within-trans, meet_has, of_meet, of_meet_lacks, union_left, of_union, of_union_lacks, minus_has, of_minus, of_minus_lacks}
-use Rattle.md_modules.proofs.Search.{Decided, decide_test, decide_both, decide_if, decide_not, decide_like, decide_some, decide_all, decide_all_sets, decide_within, decide_same, decide_has_some, least}
+use Rattle.std.proofs.lemmas.Bool.{cases_Bool, false_from_ne_true}
+use Rattle.md_graph.proofs.SetLemmas.{clash, only_has, of_only, Within-refl, Within-trans, meet_has, of_meet, of_meet_lacks, union_left, of_union, of_union_lacks, minus_has, of_minus, of_minus_lacks}
+use Rattle.md_graph.proofs.Search.{Decided, decide_test, decide_both, decide_if, decide_not, decide_like, decide_some, decide_all, decide_all_sets, decide_within, decide_same, decide_has_some, least}
 
 -- whether two sets overlap
 pub decide_overlap : (a b : NameSet) → Decided (Overlap a b)
@@ -43,7 +44,7 @@ module _ {e : ℕ → ℕ → Bool} where
   module_of_module s m n outer inner = record {
     some = inner.some;
     inside = Within-trans n m s inner.inside outer.inside;
-    alike = λ a b x p q k l. elim (either (contains m x)) [
+    alike = λ a b x p q k l. elim (cases_Bool (contains m x)) [
       | inl h ↦ inner.alike a b x p q h l
       | inr o ↦ outer.alike a b x (inner.inside a p) (inner.inside b q) k o
     ];
@@ -79,7 +80,7 @@ module _ {e : ℕ → ℕ → Bool} where
     minus_module s a b ma mb over = record {
       some = (over.left.0, minus_has a b over.left.0 over.left.1 over.left.2);
       inside = λ x h. ma.inside x (of_minus a b x h).0;
-      alike = λ p q x hp hq k l. elim (either (contains a x)) [
+      alike = λ p q x hp hq k l. elim (cases_Bool (contains a x)) [
         | inr o ↦ ma.alike p q x (of_minus a b p hp).0 (of_minus a b q hq).0 k o
         | inl i ↦ elim (of_minus_lacks a b x l) [
           | inl o ↦ clash i o
@@ -95,7 +96,7 @@ module _ {e : ℕ → ℕ → Bool} where
     pub across_modules : (s a b : NameSet) → IsModule e s a → IsModule e s b → ((x : ℕ) → Has a x → Lacks b x) →
         (p p' q q' : ℕ) → Has a p → Has a p' → Has b q → Has b q' → e p q ≡ e p' q'
     across_modules s a b ma mb apart p p' q q' hp hp' hq hq' =
-        adj.symmetric p q ∙ ma.alike p p' q hp hp' (mb.inside q hq) (false_if _ (λ h. clash hq (apart q h))) ∙ adj.symmetric q p'
+        adj.symmetric p q ∙ ma.alike p p' q hp hp' (mb.inside q hq) (false_from_ne_true _ (λ h. clash hq (apart q h))) ∙ adj.symmetric q p'
         ∙ mb.alike q q' p' hq hq' (ma.inside p' hp') (apart p' hp')
 
     -- two modules that overlap and cover s: one of them splits s
@@ -114,7 +115,7 @@ module _ {e : ℕ → ℕ → Bool} where
         )
       where
         lacks_minus : (x : ℕ) → Has b x → Lacks (difference a b) x
-        lacks_minus x h = false_if _ (λ i. clash h (of_minus a b x i).1)
+        lacks_minus x h = false_from_ne_true _ (λ i. clash h (of_minus a b x i).1)
 
   -- decisions
   decide_alike : (s m : NameSet) → Decided ((a : ℕ) → Has m a → (b : ℕ) → Has m b → (x : ℕ) → Has s x → Lacks m x → e x a ≡ e x b)

@@ -1,20 +1,20 @@
 -- The search for an induced path with a given vertex.
 use Rattle.std.proofs.Common.{◌≡◌, ℕ, ◌<◌, ◌≤◌, Bool, true, false, not, IsTrue, ◌↔◌, ◌≢◌, List, ◌∷◌, refl, sym, ◌∙◌, ap, subst, inl, inr, arith}
-use Rattle.std.proofs.lemmas.Bool.{cases_lt}
+use Rattle.std.proofs.lemmas.Bool.{cases_lt, false_from_ne_true}
 use Rattle.std.specs.Prelude.{Option, Some, None, IfSome, IfNone}
 use Rattle.std.specs.FinSet.{contains, empty, union, difference, intersection, len}
 use Rattle.md_graph.specs.NameSet.{NoneFrom, IsLeastFrom}
 use Rattle.md_graph.specs.PlainGraph.{PlainGraph, IsGraph, adjacent, neighbours}
 use Rattle.md_graph.proofs.GraphLemmas.{adjacent_sym, adjacent_self, adjacent_ends, contains-neighbours}
-use Rattle.md_modules.specs.Sets.{NameSet, Has, Lacks, Within}
+use Rattle.md_graph.specs.Sets.{NameSet, Has, Lacks, Within}
 use Rattle.md_modules.specs.Adjacency.{IsAdjacency}
 use Rattle.md_modules.specs.Kinds.{IsSplit}
 use Rattle.md_modules.specs.Components.{IsComponent}
 use Rattle.md_modules.specs.InducedPaths.{IsInducedPath, HasPathEdges, IsOneOf, IsInducedPathWith}
 use Rattle.md_modules.specs.PathSearch.{ToldApart, IsPathOf}
 use Rattle.md_modules.specs.declared.induced_paths.P4.{P4}
-use Rattle.md_modules.proofs.Sets.{clash, false_if, empty_lacks, union_left, union_right, of_union, meet_has, of_meet, of_meet_lacks, minus_has, of_minus, of_minus_lacks, minus_lacks, Has-along}
-use Rattle.md_modules.proofs.Search.{len_proper}
+use Rattle.md_graph.proofs.SetLemmas.{clash, empty_lacks, union_left, union_right, of_union, meet_has, of_meet, of_meet_lacks, minus_has, of_minus, of_minus_lacks, minus_lacks, Has-along}
+use Rattle.md_graph.proofs.Search.{len_proper}
 use Rattle.md_modules.proofs.Components.{closed_follow, component_unsplit, crossing_pair}
 use Rattle.md_modules.proofs.Walks.{Walked, Walked-more, Walked-map}
 
@@ -194,7 +194,7 @@ pub none_here : (s : NameSet) → NoneFrom s 0 → (w : ℕ) → Has s w → ⊥
 none_here s none w h = let low : w < 0 = none w h in omega arith
 
 pub none_left : (s : NameSet) → NoneFrom s 0 → (w : ℕ) → Lacks s w
-none_left s none w = false_if _ (none_here s none w)
+none_left s none w = false_from_ne_true _ (none_here s none w)
 
 pub left_smaller : (left part rest : NameSet) (y : ℕ) → Has left y → Has part y → rest ≡ difference left part → len rest < len left
 left_smaller left part rest y hl hp is_rest =
@@ -241,7 +241,7 @@ Telling-more {g} is_graph part others some all some' all' row left before m rest
 }
   where
     all_lacks : (o : ℕ) → (Has all o × Has row o → ⊥) → Lacks all' o
-    all_lacks o none = false_if _ (λ h. none (of_meet all row o (Has-along all' _ is_all o h)))
+    all_lacks o none = false_from_ne_true _ (λ h. none (of_meet all row o (Has-along all' _ is_all o h)))
 
 module _ (others some all told : NameSet) (is_told : told ≡ difference (intersection others some) all) where
   pub of_told : (o : ℕ) → Has told o → Has others o × Has some o × Lacks all o

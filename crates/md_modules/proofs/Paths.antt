@@ -1,15 +1,16 @@
 -- Induced paths on four names: each prime set has one, and where a set has one some strong module is prime.
 use Rattle.std.proofs.Common.{◌≡◌, ℕ, ◌+◌, ◌<◌, ◌≤◌, zero, suc, Bool, true, false, not, ltb, ◌≢◌, ◌⊎◌, refl, sym, ◌∙◌, ap, subst, inl, inr, arith, ltb-true, ltb-false}
 use Rattle.std.specs.FinSet.{contains, difference, remove, len}
-use Rattle.md_modules.specs.Sets.{NameSet, Has, Lacks, Within, HasSome, HasTwo, only_name}
+use Rattle.md_graph.specs.Sets.{NameSet, Has, Lacks, Within, HasSome, HasTwo, only_name}
 use Rattle.md_modules.specs.Adjacency.{IsAdjacency}
 use Rattle.md_modules.specs.Modules.{IsStrong}
 use Rattle.md_modules.specs.Kinds.{IsSplit, IsPrime}
 use Rattle.md_modules.specs.Components.{IsClosed, IsComponent}
 use Rattle.md_modules.specs.InducedPaths.{IsInducedPath, HasInducedPath}
 use Rattle.md_modules.specs.Laws.{PrimeHasInducedPath, NoInducedPathIfNonePrime}
-use Rattle.md_modules.proofs.Sets.{either, clash, false_if, same_name, only_has, of_only, only_lacks, remove_gone, remove_left, of_remove, minus_has, of_minus}
-use Rattle.md_modules.proofs.Search.{Decided, decide_test, decide_both, decide_like, search_members, larger_or_same, smallest, len_proper}
+use Rattle.std.proofs.lemmas.Bool.{cases_Bool, false_from_ne_true}
+use Rattle.md_graph.proofs.SetLemmas.{clash, same_name, only_has, of_only, only_lacks, remove_gone, remove_left, of_remove, minus_has, of_minus}
+use Rattle.md_graph.proofs.Search.{Decided, decide_test, decide_both, decide_like, search_members, larger_or_same, smallest, len_proper}
 use Rattle.md_modules.proofs.Components.{closed_rest, closed_follow, decide_split, component_of, crossing_pair, component_unsplit}
 use Rattle.md_modules.proofs.Strong.{whole_strong, strong_of_strong}
 use Rattle.md_modules.proofs.Modules.{decide_strong}
@@ -50,7 +51,7 @@ tells_own false b p = p
 
 ascending_or_not : (a d : ℕ) → a ≢ d → (a < d) ⊎ (d < a)
 ascending_or_not a d n =
-    elim (either (ltb a d)) [
+    elim (cases_Bool (ltb a d)) [
       | inl h ↦ inl (ltb-true a d h)
       | inr h ↦ let le : d ≤ a = ltb-false a d h in inr (omega arith)
     ]
@@ -159,7 +160,7 @@ module _ {e : ℕ → ℕ → Bool} where
             | inr none ↦ absurd (prime_unsplit s prime v c (record {
               some = some;
               inside = λ z h. in_s z (closed.inside z h);
-              rest = (x, hx, false_if _ (λ h. (of_remove s x x (closed.inside x h)).0 refl));
+              rest = (x, hx, false_from_ne_true _ (λ h. (of_remove s x x (closed.inside x h)).0 refl));
               across = λ a b ha hb l. elim (same_name b x) [
                 | inl same ↦ ap (e a) same ∙ adj.symmetric a x ∙ none a ha
                 | inr differs ↦ closed.across a b ha (left_of b hb differs) l

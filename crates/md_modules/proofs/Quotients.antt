@@ -1,15 +1,16 @@
 -- Partitions into modules and their quotients; the maximal proper modules of a prime set.
 use Rattle.std.proofs.Common.{◌≡◌, ℕ, ◌+◌, ◌<◌, ◌≤◌, Bool, true, false, nat_eq, ◌≢◌, ◌⊎◌, refl, sym, ◌∙◌, ap, subst, inl, inr, arith, eqb-true, eq-eqb}
 use Rattle.std.specs.FinSet.{contains, insert, remove, retain, difference, len}
-use Rattle.md_modules.specs.Sets.{NameSet, Has, Lacks, Within, HasSome, HasTwo, Disjoint}
+use Rattle.md_graph.specs.Sets.{NameSet, Has, Lacks, Within, Disjoint, HasSome, HasTwo}
 use Rattle.md_modules.specs.Adjacency.{IsAdjacency}
 use Rattle.md_modules.specs.Modules.{IsModule, IsMaximalModule, HasTrivialModulesAlone}
 use Rattle.md_modules.specs.Kinds.{IsSplit, IsPrime}
 use Rattle.md_modules.specs.Quotients.{IsQuotient, IsPartition, class}
 use Rattle.md_modules.specs.InducedPaths.{IsInducedPath, HasInducedPath}
 use Rattle.md_modules.specs.Laws.{MaximalModules, PrimeHasMaximalModules}
-use Rattle.md_modules.proofs.Sets.{either, clash, false_if, same_name, Has-along, same_members, insert_new, insert_old, remove_gone, remove_left, of_remove, retain_has, of_retain, retain_lacks, of_retain_lacks, minus_has, of_minus}
-use Rattle.md_modules.proofs.Search.{Decided, decide_test, decide_both, decide_not, decide_if, decide_same, decide_like, decide_below, decide_some, decide_some_set, decide_all, test_of, test_holds, of_test, larger_or_same, choose, len_single, other_or_alone, two_of_len, len_fewer, len_one_more, len_within, len_four, first_member}
+use Rattle.std.proofs.lemmas.Bool.{cases_Bool, false_from_ne_true}
+use Rattle.md_graph.proofs.SetLemmas.{clash, same_name, Has-along, same_members, insert_new, insert_old, remove_gone, remove_left, of_remove, retain_has, of_retain, retain_lacks, of_retain_lacks, minus_has, of_minus}
+use Rattle.md_graph.proofs.Search.{Decided, decide_test, decide_both, decide_not, decide_if, decide_same, decide_like, decide_below, decide_some, decide_some_set, decide_all, test_of, test_holds, of_test, larger_or_same, choose, len_single, other_or_alone, two_of_len, len_fewer, len_one_more, len_within, len_four, first_member}
 use Rattle.md_modules.proofs.Components.{split_rest, closed_module, split_closed}
 use Rattle.md_modules.proofs.Modules.{across_modules, least_module, decide_maximal}
 use Rattle.md_modules.proofs.Children.{prime_unsplit, in_maximal, maximal_of, maximal_leaves, maximal_meet, together_if_least_proper, least_proper_if_together}
@@ -39,7 +40,7 @@ module _ {e : ℕ → ℕ → Bool} (adj : IsAdjacency e) (s r : NameSet) (rep :
   pub across_classes : (a b : ℕ) → Has s a → Has s b → rep a ≢ rep b → e a b ≡ e (rep a) (rep b)
   across_classes a b ha hb differ =
       across_modules adj s (class s rep (rep a)) (class s rep (rep b)) (part.modules (rep a) (part.leads a ha)) (part.modules (rep b) (part.leads b hb))
-      (λ x h. false_if _ (λ k. differ (sym (of_class s rep (rep a) x h).1 ∙ (of_class s rep (rep b) x k).1)))
+      (λ x h. false_from_ne_true _ (λ k. differ (sym (of_class s rep (rep a) x h).1 ∙ (of_class s rep (rep b) x k).1)))
       a (rep a) b (rep b) (class_has s rep (rep a) a ha refl) (own_class (rep a) (part.leads a ha)) (class_has s rep (rep b) b hb refl) (own_class (rep b) (part.leads b hb))
 
   -- the classes of a module of the quotient are a module
@@ -98,7 +99,7 @@ module _ {e : ℕ → ℕ → Bool} (adj : IsAdjacency e) (s r : NameSet) (rep :
         let a : (z : ℕ) × Has m z × (rep z ≡ p) = of_met m p hp in
         let b : (z : ℕ) × Has m z × (rep z ≡ q) = of_met m q hq in
         let xs : Has s x = part.inside x hx in
-        let out : Lacks m x = false_if _ (λ h. clash (subst (Has (met m)) (part.own x hx) (met_has m x xs h)) l) in
+        let out : Lacks m x = false_from_ne_true _ (λ h. clash (subst (Has (met m)) (part.own x hx) (met_has m x xs h)) l) in
         sees x p a.0 hx (is.inside a.0 a.1) a.2 (λ same. clash (subst (Has (met m)) (sym same) hp) l)
         ∙ is.alike a.0 b.0 x a.1 b.1 xs out
         ∙ sym (sees x q b.0 hx (is.inside b.0 b.1) b.2 (λ same. clash (subst (Has (met m)) (sym same) hq) l));
@@ -169,7 +170,7 @@ module _ {e : ℕ → ℕ → Bool} (adj : IsAdjacency e) (r : NameSet) (many : 
           | inl other ↦
               let small : len (difference r a) ≤ 1 = len_single (difference r a) other.0 other.1 in
               let one_more : len (insert (difference r a) one.0) ≤ len (difference r a) + 1 = len_one_more (difference r a) one.0 in
-              let all : len r ≤ len (insert (difference r a) one.0) = len_within r (insert (difference r a) one.0) (λ x h. elim (either (contains a x)) [
+              let all : len r ≤ len (insert (difference r a) one.0) = len_within r (insert (difference r a) one.0) (λ x h. elim (cases_Bool (contains a x)) [
                 | inl i ↦ subst (Has (insert (difference r a) one.0)) (sym (one.1 x i)) (insert_new (difference r a) one.0)
                 | inr o ↦ insert_old (difference r a) one.0 x (minus_has r a x h o)
               ]) in
@@ -343,7 +344,7 @@ module _ (e : ℕ → ℕ → Bool) (s : NameSet) where
           ends_differ a d l same = let k : a < d = l in let q : a ≡ d = same in omega arith
 
     maximal_disjoint : (m n : NameSet) → IsMaximalModule e s m → IsMaximalModule e s n → m ≢ n → Disjoint m n
-    maximal_disjoint m n a b differ x h = false_if _ (λ k. differ (maximal_meet adj s m n x prime a b h k))
+    maximal_disjoint m n a b differ x h = false_from_ne_true _ (λ k. differ (maximal_meet adj s m n x prime a b h k))
 
     pub maximal_modules : MaximalModules e s
     maximal_modules = record {

@@ -1,10 +1,10 @@
 -- Strong modules: the tree that they are, and the children of a set of each kind.
 use Rattle.std.proofs.Common.{◌≡◌, ℕ, Bool, ◌≢◌, ◌⊎◌, sym, ◌∙◌, subst, inl, inr}
-use Rattle.md_modules.specs.Sets.{NameSet, Has, Lacks, Within, HasSome, HasTwo, Proper, Disjoint, only_name}
+use Rattle.md_graph.specs.Sets.{NameSet, Has, Lacks, Within, Disjoint, HasSome, HasTwo, Proper, only_name}
 use Rattle.md_modules.specs.Modules.{Overlap, IsStrong, IsMaximalStrong, IsParent}
 use Rattle.md_modules.specs.Laws.{StrongModulesAreTree, StrongModulesDescend}
-use Rattle.md_modules.proofs.Sets.{clash, only_has, of_only, Has-along, same_members}
-use Rattle.md_modules.proofs.Search.{decide_both, decide_not, decide_same, decide_within, outside_or_within, meet_or_disjoint, larger_or_same, smallest, largest}
+use Rattle.md_graph.proofs.SetLemmas.{clash, only_has, of_only, Has-along, same_members}
+use Rattle.md_graph.proofs.Search.{decide_both, decide_not, decide_same, decide_within, outside_or_within, meet_or_disjoint, larger_or_same, smallest, largest}
 use Rattle.md_modules.proofs.Modules.{whole_module, single_module, module_inside, module_of_module, decide_strong}
 
 -- sets that don't overlap don't meet, or one holds the other

@@ -7,15 +7,16 @@ use Rattle.md_graph.specs.NameSet.{NoneFrom, IsLeastFrom, AllBelow, ascending, a
 use Rattle.md_graph.proofs.NameLemmas.{walk_turn, walk_more, walk_end}
 use Rattle.md_graph.specs.PlainGraph.{PlainGraph, IsGraph, adjacent, neighbours}
 use Rattle.md_graph.proofs.GraphLemmas.{adjacent_sym, adjacent_self, contains-neighbours}
-use Rattle.md_modules.specs.Sets.{NameSet, Has, Lacks, Within, Disjoint, only_name}
+use Rattle.md_graph.specs.Sets.{NameSet, Has, Lacks, Within, Disjoint, only_name}
 use Rattle.md_modules.specs.Adjacency.{IsAdjacency}
 use Rattle.md_modules.specs.Modules.{IsModule, IsLeastModule, IsLeastModuleOver}
 use Rattle.md_modules.specs.Kinds.{IsSplit}
 use Rattle.md_modules.specs.Components.{IsComponent}
 use Rattle.md_modules.specs.Searches.{IsReaching}
 use Rattle.md_modules.specs.Seen.{seen_as}
-use Rattle.md_modules.proofs.Sets.{either, clash, true_if, false_if, empty_lacks, insert_new, insert_old, of_insert, remove_left, of_remove, meet_has, of_meet, union_left, union_right, of_union, only_has, of_only, only_lacks, minus_has, of_minus, minus_lacks, same_members, lacks_within, Has-along}
-use Rattle.md_modules.proofs.Search.{search_falls, len_minus, len_fewer, some_len}
+use Rattle.std.proofs.lemmas.Bool.{cases_Bool, true_from_ne_false, false_from_ne_true, not-true, not-false}
+use Rattle.md_graph.proofs.SetLemmas.{clash, empty_lacks, insert_new, insert_old, of_insert, remove_left, of_remove, meet_has, of_meet, union_left, union_right, of_union, only_has, of_only, only_lacks, minus_has, of_minus, minus_lacks, same_members, lacks_within, Has-along}
+use Rattle.md_graph.proofs.Search.{search_falls, len_minus, len_fewer, some_len}
 use Rattle.md_modules.proofs.Modules.{single_module}
 use Rattle.md_modules.proofs.Components.{component_unsplit, unsplit_component}
 use Rattle.md_modules.proofs.Growth.{alike_unless, IsGrowing, IsGoingBack, reach_start, reach_turn, reach_idle, reach_back, reach_end, grow_start, grow_turn, grow_end, back_start, back_turn, back_end, least_of_two}
@@ -28,7 +29,7 @@ remove_is s x = same_members _ _
     (λ q h. remove_left s x q (λ e. clash (subst (Has (only_name x)) (sym e) (only_has x)) (of_minus s (only_name x) q h).1) (of_minus s (only_name x) q h).0)
 
 pub none_lacks : (s : NameSet) → NoneFrom s 0 → (y : ℕ) → Lacks s y
-none_lacks s none y = false_if _ (λ h. let b : y < 0 = none y h in omega arith)
+none_lacks s none y = false_from_ne_true _ (λ h. let b : y < 0 = none y h in omega arith)
 
 pub empty_if : (s : NameSet) → s ≡ empty → (y : ℕ) → Lacks s y
 empty_if s e y = ap (λ t. contains t y) e ∙ empty_lacks y
@@ -106,11 +107,11 @@ module _ {g : PlainGraph} (graph : IsGraph g) where
     of_second y = contains-neighbours graph w y
 
     has : (y : ℕ) → Has among y → adjacent g v y ≢ adjacent g w y → Has (apart_in g v w among) y
-    has y h differ = meet_has among (told_apart first second) y h (elim (either (adjacent g v y)) [
+    has y h differ = meet_has among (told_apart first second) y h (elim (cases_Bool (adjacent g v y)) [
       | inl t ↦ union_left (difference first second) (difference second first) y
-          (minus_has first second y (of_first y ∙ t) (of_second y ∙ false_if _ (λ k. differ (t ∙ sym k))))
+          (minus_has first second y (of_first y ∙ t) (of_second y ∙ false_from_ne_true _ (λ k. differ (t ∙ sym k))))
       | inr f ↦ union_right (difference first second) (difference second first) y
-          (minus_has second first y (of_second y ∙ true_if _ (λ k. differ (f ∙ sym k))) (of_first y ∙ f))
+          (minus_has second first y (of_second y ∙ true_from_ne_false _ (λ k. differ (f ∙ sym k))) (of_first y ∙ f))
     ])
 
     only : (y : ℕ) → Has (apart_in g v w among) y → Has among y × (adjacent g v y ≢ adjacent g w y)
@@ -132,14 +133,14 @@ module _ {g : PlainGraph} (graph : IsGraph g) where
 -- to leave out t is to leave out what is in t
 minus_shared : (s t : NameSet) → difference s t ≡ difference s (intersection s t)
 minus_shared s t = same_members _ _
-    (λ q h. let two : Has s q × Lacks t q = of_minus s t q h in minus_has s (intersection s t) q two.0 (false_if _ (λ k. clash (of_meet s t q k).1 two.1)))
-    (λ q h. let two : Has s q × Lacks (intersection s t) q = of_minus s (intersection s t) q h in minus_has s t q two.0 (false_if _ (λ k. clash (meet_has s t q two.0 k) two.1)))
+    (λ q h. let two : Has s q × Lacks t q = of_minus s t q h in minus_has s (intersection s t) q two.0 (false_from_ne_true _ (λ k. clash (of_meet s t q k).1 two.1)))
+    (λ q h. let two : Has s q × Lacks (intersection s t) q = of_minus s (intersection s t) q h in minus_has s t q two.0 (false_from_ne_true _ (λ k. clash (meet_has s t q two.0 k) two.1)))
 
 -- to keep what is in t is to leave out the rest
 meet_unshared : (s t : NameSet) → intersection s t ≡ difference s (difference s t)
 meet_unshared s t = same_members _ _
-    (λ q h. let two : Has s q × Has t q = of_meet s t q h in minus_has s (difference s t) q two.0 (false_if _ (λ k. clash two.1 (of_minus s t q k).1)))
-    (λ q h. let two : Has s q × Lacks (difference s t) q = of_minus s (difference s t) q h in meet_has s t q two.0 (true_if _ (λ l. clash (minus_has s t q two.0 l) two.1)))
+    (λ q h. let two : Has s q × Has t q = of_meet s t q h in minus_has s (difference s t) q two.0 (false_from_ne_true _ (λ k. clash two.1 (of_minus s t q k).1)))
+    (λ q h. let two : Has s q × Lacks (difference s t) q = of_minus s (difference s t) q h in meet_has s t q two.0 (true_from_ne_false _ (λ l. clash (minus_has s t q two.0 l) two.1)))
 
 pub moved_shared : (g : PlainGraph) (w : ℕ) (v : Bool) (left row left' todo todo' : NameSet) → v ≡ true → row ≡ neighbours g w → left' ≡ difference left row → todo' ≡ union todo (intersection left row) →
     (left' ≡ difference left (seen_as g w v left)) × (todo' ≡ union todo (seen_as g w v left))
@@ -185,7 +186,7 @@ minus_twice : (s left into : NameSet) → Within left s → into ≡ difference 
 minus_twice s left into part is = same_members _ _
     (λ y h.
     let two : Has s y × Lacks into y = of_minus s into y h in
-    true_if _ (λ l. clash (Has-along _ _ (sym is) y (minus_has s left y two.0 l)) two.1))
+    true_from_ne_false _ (λ l. clash (Has-along _ _ (sym is) y (minus_has s left y two.0 l)) two.1))
     (λ y h. minus_has s into y (part y h) (lacks_along into _ is y (minus_lacks s left y h)))
 
 pub back_fixed : (s left into : NameSet) (v : ℕ) → Within left s → into ≡ difference s left → Has left v → Has (difference s into) v
@@ -262,7 +263,7 @@ module _ {e : ℕ → ℕ → Bool} where
 
   -- what is left isn't taken
   pub left_apart : (s left todo : NameSet) (v : Bool) (x : ℕ) → IsReaching e s v x left todo → Disjoint left todo
-  left_apart s left todo v x is y h = false_if _ (λ k. clash h (is.taken y k).1)
+  left_apart s left todo v x is y h = false_from_ne_true _ (λ k. clash h (is.taken y k).1)
 
   pub reach_stop : (s left todo : NameSet) (v : Bool) (x : ℕ) → IsReaching e s v x left todo → ((y : ℕ) → Lacks left y) ⊎ ((y : ℕ) → Lacks todo y) → IsComponent e s x (difference s left) v
   reach_stop s left todo v x is (inl all) =
@@ -296,7 +297,7 @@ module _ {e : ℕ → ℕ → Bool} where
         (back_turn s left todo new v w is.0 h
         (λ y k differ. has y k (not_like (e w y) value (λ p. differ (p ∙ same))))
         (λ y k. ((only y k).0, λ p. of_not_like (e w y) value (only y k).1 (p ∙ sym same)))),
-    lacks_along left' _ is_left j (false_if _ (λ k. clash (of_minus left new j k).0 is.1)),
+    lacks_along left' _ is_left j (false_from_ne_true _ (λ k. clash (of_minus left new j k).0 is.1)),
   )
 
   pub back_names : (s left todo : NameSet) (v j : ℕ) → IsGoingBack e s v left todo × Lacks left j → IsLeastModule e s v j s → ((y : ℕ) → Lacks todo y) →
@@ -306,7 +307,7 @@ module _ {e : ℕ → ℕ → Bool} where
       λ same. clash (subst (Has left) (sym same) is.0.start) l,
       record { is_module = whole.is_module; has_left = whole.has_left; has_right = hi; least = λ m module_is p q. is.0.whole i hi l m module_is p q },
     ),
-    λ w. false_if _ (λ h. clash (w.1.least left (back_end s left todo v is.0 none) is.0.start h j whole.has_right) is.1),
+    λ w. false_from_ne_true _ (λ h. clash (w.1.least left (back_end s left todo v is.0 none) is.0.start h j whole.has_right) is.1),
   )
 
   -- the names taken are those of s that aren't left
@@ -343,7 +344,7 @@ module _ {e : ℕ → ℕ → Bool} where
 
   pub strange_no_module : (s m strange : NameSet) → strange ≡ difference m s → IsModule e s m → strange ≡ empty
   strange_no_module s m strange is module_is =
-      if_empty strange (λ y. lacks_along strange _ is y (false_if _ (λ h. clash (module_is.inside y (of_minus m s y h).0) (of_minus m s y h).1)))
+      if_empty strange (λ y. lacks_along strange _ is y (false_from_ne_true _ (λ h. clash (module_is.inside y (of_minus m s y h).0) (of_minus m s y h).1)))
 
   module _ (adj : IsAdjacency e) where
     pub grow_more : (s begun left todo new left' todo' : NameSet) (v w : ℕ) → IsGrowing e s v begun left todo → Has todo w →
@@ -370,7 +371,7 @@ module _ {e : ℕ → ℕ → Bool} where
       λ none split.
           let all : difference s left ≡ s = same_members _ _ (λ y h. (of_minus s left y h).0) (λ y h. minus_has s left y h (empty_if left none y)) in
           component_unsplit adj s s v x (component_along s (difference s left) s v x (sym all) is) split.0 split.1,
-      λ no_split. if_empty left (λ y. false_if _ (λ h.
+      λ no_split. if_empty left (λ y. false_from_ne_true _ (λ h.
           let all : difference s left ≡ s = unsplit_component s (difference s left) v x (λ a split. no_split (a, split)) is in
           clash h (of_minus s left y (Has-along _ _ (sym all) y (part y h))).1)),
     )
@@ -467,20 +468,12 @@ walked_all s xs rest Done is steps w h = is.1.2 w h (walk_end s is.1.0 NAMES xs 
 
 -- ---- names told apart
 
-not_true : (r : Bool) → not r ≡ true → r ≡ false
-not_true true e = sym e
-not_true false e = refl
-
-not_false : (r : Bool) → not r ≡ false → r ≡ true
-not_false true e = refl
-not_false false e = sym e
-
 -- no first name is told apart exactly where all are alike
 pub alike_test : {g : PlainGraph} → IsGraph g → (v w : ℕ) (others first second : NameSet) (found : Option ℕ) (r : Bool) → first ≡ neighbours g v → second ≡ neighbours g w →
     IfSome found (IsLeastFrom (intersection others (told_apart first second)) 0) → IfNone found (NoneFrom (intersection others (told_apart first second)) 0) →
     is_some found ≡ not r → (r ≡ true) ↔ ((y : ℕ) → Has others y → adjacent g v y ≡ adjacent g w y)
 alike_test {g} graph v w others first second (Some least) r is_first is_second some none is = (
-  λ t. clash t (not_true r (sym is)),
+  λ t. clash t (not-true r (sym is)),
   λ alike.
       let here : Has (apart_in g v w others) least = Has-along _ _ (ap₂ (λ a b. intersection others (told_apart a b)) is_first is_second) least some.member in
       let two = (told_all graph v w others).1 least here in
@@ -490,7 +483,7 @@ alike_test {g} graph v w others first second None r is_first is_second some none
   λ t y h. alike_unless (adjacent g v y) (adjacent g w y) (λ differ.
       clash (Has-along _ _ (sym (ap₂ (λ a b. intersection others (told_apart a b)) is_first is_second)) y ((told_all graph v w others).0 y h differ))
       (none_lacks (intersection others (told_apart first second)) none y)),
-  λ alike. not_false r (sym is),
+  λ alike. not-false r (sym is),
 )
 
 pub module_not_strange : {e : ℕ → ℕ → Bool} (s vertices m strange : NameSet) (r : Bool) → vertices ≡ s → strange ≡ difference m vertices → (r ≡ true) ↔ (strange ≡ empty) → r ≡ false → IsModule e s m → false ≡ true
@@ -499,7 +492,7 @@ module_not_strange {e} s vertices m strange r same is empty_is h module_is =
 
 pub no_strange : (s m strange : NameSet) (r : Bool) → strange ≡ difference m s → (r ≡ true) ↔ (strange ≡ empty) → r ≡ true → Within m s
 no_strange s m strange r is empty_is h y k =
-    true_if _ (λ l. clash (Has-along _ _ (sym is) y (minus_has m s y k l)) (empty_if strange (empty_is.0 h) y))
+    true_from_ne_false _ (λ l. clash (Has-along _ _ (sym is) y (minus_has m s y k l)) (empty_if strange (empty_is.0 h) y))
 
 pub module_test : {e : ℕ → ℕ → Bool} → IsAdjacency e → (s vertices m strange others : NameSet) (v : ℕ) (r b : Bool) → vertices ≡ s → Has m v → strange ≡ difference m vertices → (r ≡ true) ↔ (strange ≡ empty) → r ≡ true →
     others ≡ difference vertices m → (b ≡ true) ↔ ((w : ℕ) → Has m w → (y : ℕ) → Has others y → e v y ≡ e w y) → (b ≡ true) ↔ IsModule e s m
@@ -532,4 +525,4 @@ meet_inside part live vertices within same is y h = Has-along _ _ same y (of_mee
 pub least_whole : {e : ℕ → ℕ → Bool} (s k rest : NameSet) (u v : ℕ) → IsLeastModule e s u v k → rest ≡ difference s k → rest ≡ empty → IsLeastModule e s u v s
 least_whole {e} s k rest u v is rest_is none =
     subst (IsLeastModule e s u v) (same_members k s is.is_module.inside
-    (λ y h. true_if _ (λ l. clash (Has-along _ _ (sym rest_is) y (minus_has s k y h l)) (empty_if rest none y)))) is
+    (λ y h. true_from_ne_false _ (λ l. clash (Has-along _ _ (sym rest_is) y (minus_has s k y h l)) (empty_if rest none y)))) is

@@ -1,7 +1,8 @@
 -- A walk over the members of a set of names.
 use Rattle.std.proofs.Common.{◌≡◌, ℕ, ◌+◌, ◌<◌, List, [], ◌∷◌, arith, subst}
 use Rattle.md_graph.specs.declared.TheConstants.{NAMES}
-use Rattle.md_graph.specs.NameSet.{NameSet, Member, AllBelow, ascending, ascending_from}
+use Rattle.md_graph.specs.Sets.{NameSet, Has}
+use Rattle.md_graph.specs.NameSet.{AllBelow, ascending, ascending_from}
 use Rattle.md_graph.proofs.NameLemmas.{IsTurn, walk_turn, walk_end, walk_more}
 
 -- Done holds of the members below low, and the others are left
@@ -9,7 +10,7 @@ pub record Walked (s : NameSet) (left : List ℕ) (Done : ℕ → Type 0) : Type
   pub low : ℕ
   pub is : left ≡ ascending_from s low
   pub names : AllBelow s NAMES
-  pub done : (w : ℕ) → Member s w → w < low → Done w
+  pub done : (w : ℕ) → Has s w → w < low → Done w
 
 pub Walked-start : {s : NameSet} {left : List ℕ} {Done : ℕ → Type 0} → left ≡ ascending s → AllBelow s NAMES → Walked s left Done
 Walked-start is names = record { low = 0; is = is; names = names; done = λ w m h. absurd (omega arith) }
@@ -18,7 +19,7 @@ Walked-start is names = record { low = 0; is = is; names = names; done = λ w m 
 pub Walked-along : {s t : NameSet} {left : List ℕ} {Done : ℕ → Type 0} → s ≡ t → Walked s left Done → Walked t left Done
 Walked-along {left} {Done} same walked = subst (λ s. Walked s left Done) same walked
 
-pub Walked-item : {s : NameSet} {left : List ℕ} {Done : ℕ → Type 0} → Walked s left Done → (x : ℕ) (rest : List ℕ) → left ≡ x ∷ rest → Member s x
+pub Walked-item : {s : NameSet} {left : List ℕ} {Done : ℕ → Type 0} → Walked s left Done → (x : ℕ) (rest : List ℕ) → left ≡ x ∷ rest → Has s x
 Walked-item {s} {left} walked x rest steps =
     let turn : IsTurn s walked.low NAMES x rest = walk_turn s walked.low NAMES x left rest walked.is steps in turn.item.member
 
@@ -27,7 +28,7 @@ Walked-more {s} {left} {Done} walked x rest steps here =
     let turn : IsTurn s walked.low NAMES x rest = walk_turn s walked.low NAMES x left rest walked.is steps in
     record { low = x + 1; is = turn.left; names = walked.names; done = walk_more s walked.low NAMES x Done turn.item walked.done here }
 
-pub Walked-end : {s : NameSet} {left : List ℕ} {Done : ℕ → Type 0} → Walked s left Done → (rest : List ℕ) → (left ≡ []) × (rest ≡ []) → (w : ℕ) → Member s w → Done w
+pub Walked-end : {s : NameSet} {left : List ℕ} {Done : ℕ → Type 0} → Walked s left Done → (rest : List ℕ) → (left ≡ []) × (rest ≡ []) → (w : ℕ) → Has s w → Done w
 Walked-end {s} {left} walked rest steps w m =
     walked.done w m (walk_end s walked.low NAMES left rest walked.names walked.is steps w m)
 

@@ -1,7 +1,7 @@
 -- Components of the graph on a set of names, and of its complement.
 -- Source: any textbook of graph theory.
 use Rattle.std.specs.Prelude.{◌≡◌, ℕ, Bool}
-use Rattle.md_modules.specs.Sets.{NameSet, Has, Lacks, Within}
+use Rattle.md_graph.specs.Sets.{NameSet, Has, Lacks, Within}
 
 -- no edge leads from part to the rest of s (v is false), or no edge of the complement does (v is true)
 pub record IsClosed (e : ℕ → ℕ → Bool) (s part : NameSet) (v : Bool) : Type 0 where

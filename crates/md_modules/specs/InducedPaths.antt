@@ -1,7 +1,7 @@
 -- Induced paths on four names.
 -- Source: Corneil, Lerchs and Stewart Burlingham, Complement reducible graphs.
 use Rattle.std.specs.Prelude.{◌≡◌, ◌≢◌, ◌<◌, ◌⊎◌, ℕ, Bool, true, false}
-use Rattle.md_modules.specs.Sets.{NameSet, Has}
+use Rattle.md_graph.specs.Sets.{NameSet, Has}
 
 -- a, b, c, d are four different names of s, the edges among them are exactly ab, bc and cd, and the ends ascend
 pub record IsInducedPath (e : ℕ → ℕ → Bool) (s : NameSet) (a b c d : ℕ) : Type 0 where

@@ -1,7 +1,7 @@
 -- The kinds of a set of names with two or more members: parallel, series and prime.
 -- Source: Gallai, Transitiv orientierbare Graphen.
 use Rattle.std.specs.Prelude.{◌≡◌, ℕ, Bool, true, false}
-use Rattle.md_modules.specs.Sets.{NameSet, Has, Lacks, Within, HasSome, HasTwo}
+use Rattle.md_graph.specs.Sets.{NameSet, Has, Lacks, Within, HasSome, HasTwo}
 
 -- part and the rest of s are both nonempty, and every pair across is adjacent (v is true), or no pair across is (v is false)
 pub record IsSplit (e : ℕ → ℕ → Bool) (s part : NameSet) (v : Bool) : Type 0 where

@@ -1,7 +1,7 @@
 -- Modules and strong modules of the graph on a set of names s with the adjacency e.
 -- Source: Habib and Paul, A survey of the algorithmic aspects of modular decomposition.
 use Rattle.std.specs.Prelude.{◌≡◌, ◌≢◌, ℕ, Bool, ◌⊎◌}
-use Rattle.md_modules.specs.Sets.{NameSet, Has, Lacks, Within, HasSome, Proper}
+use Rattle.md_graph.specs.Sets.{NameSet, Has, Lacks, Within, HasSome, Proper}
 
 -- m is a nonempty part of s, and each name of s outside m is adjacent to all of m or to none of it
 pub record IsModule (e : ℕ → ℕ → Bool) (s m : NameSet) : Type 0 where

@@ -2,7 +2,7 @@
 -- Source: Habib and Paul, A survey of the algorithmic aspects of modular decomposition.
 use Rattle.std.specs.Prelude.{◌≡◌, ℕ, Bool, nat_eq}
 use Rattle.std.specs.FinSet.{retain}
-use Rattle.md_modules.specs.Sets.{NameSet, Has, Within}
+use Rattle.md_graph.specs.Sets.{NameSet, Has, Within}
 use Rattle.md_modules.specs.Modules.{IsModule, IsMaximalModule}
 
 -- r has exactly one name of each maximal proper module of s, and no other name: the names of the quotient

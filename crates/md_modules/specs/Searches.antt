@@ -1,7 +1,7 @@
 -- How far a search for a component has come: the names that it left, and those that it took and hasn't looked at.
 -- Source: the search of a graph, as in any textbook on algorithms.
 use Rattle.std.specs.Prelude.{◌≡◌, ℕ, Bool}
-use Rattle.md_modules.specs.Sets.{NameSet, Has, Lacks, Within}
+use Rattle.md_graph.specs.Sets.{NameSet, Has, Lacks, Within}
 use Rattle.md_modules.specs.Components.{IsClosed}
 
 -- the component of x in the graph on s (v is false) or in its complement (v is true) holds all names of s but those left,

@@ -3,7 +3,7 @@
 use Rattle.std.specs.Prelude.{ℕ, Bool, true, false}
 use Rattle.std.specs.FinSet.{intersection, difference}
 use Rattle.md_graph.specs.PlainGraph.{PlainGraph, neighbours}
-use Rattle.md_modules.specs.Sets.{NameSet}
+use Rattle.md_graph.specs.Sets.{NameSet}
 
 -- the members of `among` that are adjacent to w (the value is true), or that aren't (it is false)
 abbrev pub seen_as : PlainGraph → ℕ → Bool → NameSet → NameSet

@@ -1,8 +1,7 @@
 //! Induced paths on four vertices.
 ghost use Rattle.std.specs.Prelude.{◌≡◌, ℕ, ◌<◌, ◌↔◌, true, false, not, IsTrue, IfSome, IfNone};
-ghost use Rattle.md_graph.specs.NameSet.{Member};
+ghost use Rattle.md_graph.specs.Sets.{NameSet, Has, Within};
 ghost use Rattle.md_graph.specs.PlainGraph.{adjacent, IsGraph};
-ghost use Rattle.md_modules.specs.Sets.{NameSet, Has, Within};
 ghost use Rattle.md_modules.specs.Kinds.{IsSplit};
 ghost use Rattle.md_modules.specs.Components.{IsComponent};
 ghost use Rattle.md_modules.specs.InducedPaths.{IsInducedPath, HasPathEdges, IsInducedPathWith};
@@ -33,7 +32,7 @@ pub fn is_p4(graph: &Graph, p: &P4) -> bool
 /// An induced path on four vertices that holds `x`; `None` exactly where there is none. It takes no memory, and a fixed
 /// number of row operations for each vertex. Condition: `x` is a vertex.
 pub fn find_p4_with(graph: &Graph, x: u32) -> Option<P4>
-    requires { Member graph.now.vertices x }
+    requires { Has graph.now.vertices x }
     ensures found { IfSome result (λ p.
         IsInducedPathWith (adjacent graph.now) graph.now.vertices x p.a p.b p.c p.d) }
     ensures none { IfNone result ((a b c d : ℕ)

@@ -3,7 +3,7 @@
 ghost use Rattle.std.specs.Prelude.{◌≡◌, ◌≢◌, ℕ, ◌<◌, ◌≤◌, ◌+◌, ◌⊎◌, ◌↔◌, IsTrue, IfSome, IfNone, true, false};
 ghost use Rattle.std.specs.FinSet.{union, difference, len};
 ghost use Rattle.md_graph.specs.PlainGraph.{adjacent, IsGraph};
-ghost use Rattle.md_modules.specs.Sets.{NameSet, Has, Lacks, Within, Disjoint};
+ghost use Rattle.md_graph.specs.Sets.{NameSet, Has, Lacks, Within, Disjoint};
 ghost use Rattle.md_modules.specs.Modules.{IsModule, IsLeastModule, IsLeastModuleOver};
 ghost use Rattle.md_modules.specs.Kinds.{IsSplit, IsConnected, IsCoConnected};
 ghost use Rattle.md_modules.specs.Components.{IsComponent};

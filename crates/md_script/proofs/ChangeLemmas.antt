@@ -9,7 +9,8 @@ use Rattle.std.proofs.lemmas.Bool.{cases_Bool, eqb-true, eqb-false, or_cases, or
 use Rattle.std.proofs.lemmas.Bool.Decides.{nat_tests}
 use Rattle.std.specs.FinSet as set
 use Rattle.std.specs.FinSet.{contains-from_list_nat}
-use Rattle.md_graph.specs.NameSet.{NameSet, Member, IsLeastFrom}
+use Rattle.md_graph.specs.Sets.{NameSet, Has}
+use Rattle.md_graph.specs.NameSet.{IsLeastFrom}
 use Rattle.md_graph.specs.PlainGraph.{PlainGraph, IsGraph, with_vertex}
 use Rattle.md_graph.proofs.SetLaws.{contains-insert, contains-difference}
 use Rattle.md_graph.proofs.GraphLemmas.{IsGraph-with_vertex, IsGraph-with_edge, IsGraph-with_edges, IsGraph-without_vertex, IsGraph-without_edge}
@@ -62,11 +63,11 @@ new_vertex s x u member = contains-insert s x u ∙ by_test (u == x) where
 same_vertex : (s : NameSet) (x : ℕ) → set.contains (set.insert s x) x ≡ true
 same_vertex s x = contains-insert s x x ∙ grind (arith, nat_tests)
 
-pub vertex_added : (g h : PlainGraph) (x : ℕ) → h ≡ with_vertex g x → Member h.vertices x
+pub vertex_added : (g h : PlainGraph) (x : ℕ) → h ≡ with_vertex g x → Has h.vertices x
 vertex_added g h x added = ap (λ (k : PlainGraph). set.contains k.vertices x) added ∙ same_vertex g.vertices x
 
 pub neighbours_are_vertices : (g h : PlainGraph) (edit : Edit) (x : ℕ) (neighbours : List ℕ) (others : NameSet) → edit ≡ AddVertex x neighbours → reason_of g edit ≡ None
-    → others ≡ set.from_list neighbours → h ≡ with_vertex g x → (u : ℕ) → Member others u → Member h.vertices u
+    → others ≡ set.from_list neighbours → h ≡ with_vertex g x → (u : ℕ) → Has others u → Has h.vertices u
 neighbours_are_vertices g h edit x neighbours others is none made added u member =
     ap (λ (k : PlainGraph). set.contains k.vertices u) added
     ∙ new_vertex g.vertices x u (neighbours_there g edit x neighbours others is none made u member)

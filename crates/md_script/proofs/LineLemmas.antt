@@ -6,7 +6,7 @@ use Rattle.std.proofs.lemmas.List.{append-nil}
 use Rattle.std.specs.FinSet as set
 use Rattle.std.specs.FinSet.{nat_cmp-IsAntisymmetric}
 use Rattle.std.specs.Cmp.{nat_cmp_total}
-use Rattle.md_graph.specs.NameSet.{NameSet}
+use Rattle.md_graph.specs.Sets.{NameSet}
 use Rattle.md_text.specs.Fields.{fields}
 use Rattle.md_text.specs.Numbers.{number_of, BeginsWithNumber}
 use Rattle.md_script.specs.declared.fault.ScriptKind.{ScriptKind}

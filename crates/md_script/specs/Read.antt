@@ -1,7 +1,7 @@
 -- What a reader of a script has read.
 use Rattle.std.specs.Prelude.{◌≡◌, ℕ, List, [], ◌∷◌, Option, Some, option_to_list, if◌then◌else◌}
 use Rattle.std.specs.FinSet as set
-use Rattle.md_graph.specs.NameSet.{NameSet}
+use Rattle.md_graph.specs.Sets.{NameSet}
 use Rattle.md_script.specs.declared.edit.Edit.{Edit}
 use Rattle.md_script.specs.declared.fault.ScriptKind.{ScriptKind}
 use Rattle.md_script.specs.declared.fault.ScriptFault.{ScriptFault}

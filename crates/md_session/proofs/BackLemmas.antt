@@ -3,16 +3,16 @@ use Rattle.std.specs.Prelude.{◌≡◌, ℕ, ◌<◌, Bool, true, false, not, �
 use Rattle.std.specs.Bool.{then_some}
 use Rattle.std.specs.Option.{option_or}
 use Rattle.std.proofs.Common.{ap, sym, ◌∙◌, subst, arith, inl, inr}
-use Rattle.std.proofs.lemmas.Bool.{cases_Bool, eqb-true, and_parts, or_cases}
+use Rattle.std.proofs.lemmas.Bool.{cases_Bool, eqb-true, and_parts, or_cases, false_from_ne_true}
 use Rattle.std.proofs.lemmas.Bool.Decides.{nat_tests}
 use Rattle.std.specs.FinSet as set
 use Rattle.md_graph.specs.declared.TheConstants.{NAMES}
-use Rattle.md_graph.specs.NameSet.{NameSet, Member}
+use Rattle.md_graph.specs.Sets.{NameSet, Has}
 use Rattle.md_graph.specs.PlainGraph.{PairSet, PlainGraph, IsGraph, adjacent, neighbours, with_vertex, with_edge, with_edges, without_vertex, without_edge}
 use Rattle.md_graph.proofs.SetLaws.{contains-insert, contains-remove, same_set}
 use Rattle.md_graph.proofs.PairLaws.{pairs-insert, pairs-remove, same_pairs}
 use Rattle.md_graph.proofs.GraphLemmas.{same_graph, adjacent_sym, adjacent_self, adjacent_ends, contains-neighbours, adjacent-with_vertex, adjacent-with_edge, adjacent-with_edges, adjacent-without_vertex, adjacent-without_edge, IsGraph-with_vertex, IsGraph-with_edges, IsGraph-without_vertex}
-use Rattle.md_modules.proofs.Sets.{remove_insert, false_if, clash}
+use Rattle.md_graph.proofs.SetLemmas.{remove_insert, clash}
 use Rattle.md_script.specs.declared.edit.Edit.{Edit}
 use Rattle.md_script.specs.declared.edit.Edit.TheVariants.{AddEdge, DelEdge, AddVertex, DelVertex}
 use Rattle.md_script.specs.declared.edit.EditReason.{EditReason}
@@ -73,7 +73,7 @@ no_edge_and_back g u v there =
 -- what isn't a vertex has no neighbours
 apart : {g : PlainGraph} → IsGraph g → (x u v : ℕ) → set.contains g.vertices x ≡ false → ((u == x) || (v == x)) ≡ true → adjacent g u v ≡ false
 apart {g} is x u v absent either =
-    false_if _ (λ there.
+    false_from_ne_true _ (λ there.
     let ends = adjacent_ends is u v there in
     elim (or_cases (u == x) (v == x) either) [
       | inl same ↦ clash ends.0 (ap (set.contains g.vertices) (eqb-true u x same) ∙ absent)
@@ -87,7 +87,7 @@ in_and_out false true has_a has_b there apart = rw (apart refl) (grind arith)
 in_and_out false false has_a has_b there apart = grind arith
 
 vertex_and_back : (g : PlainGraph) (x : ℕ) (others : NameSet) → IsGraph g → IsGraph (with_edges (with_vertex g x) x others) → set.contains g.vertices x ≡ false
-    → ((w : ℕ) → Member others w → w < NAMES) → without_vertex (with_edges (with_vertex g x) x others) x ≡ g
+    → ((w : ℕ) → Has others w → w < NAMES) → without_vertex (with_edges (with_vertex g x) x others) x ≡ g
 vertex_and_back g x others is next absent below =
     same_graph (IsGraph-without_vertex next x) is (remove_new g.vertices x absent) (λ a b.
     adjacent-without_vertex (with_edges (with_vertex g x) x others) x a b
@@ -95,7 +95,7 @@ vertex_and_back g x others is next absent below =
     (in_and_out (a == x) (b == x) (set.contains others a) (set.contains others b) (adjacent g a b) (apart is x a b absent)))
 
 -- the neighbours of a vertex are vertices once it is back
-neighbours_back : (g : PlainGraph) (x u : ℕ) → IsGraph g → Member (neighbours g x) u → Member (with_vertex (without_vertex g x) x).vertices u
+neighbours_back : (g : PlainGraph) (x u : ℕ) → IsGraph g → Has (neighbours g x) u → Has (with_vertex (without_vertex g x) x).vertices u
 neighbours_back g x u is member =
     let ends = adjacent_ends is x u (sym (contains-neighbours is x u) ∙ member) in
     ap (λ s. set.contains s u) (remove_insert g.vertices x ends.0) ∙ ends.1
@@ -110,7 +110,7 @@ out_and_in true false has_a has_b there first second = rw (first refl) (grind ar
 out_and_in false true has_a has_b there first second = rw (second refl) (grind arith)
 out_and_in false false has_a has_b there first second = grind arith
 
-no_vertex_and_back : (g : PlainGraph) (x : ℕ) → IsGraph g → Member g.vertices x → with_edges (with_vertex (without_vertex g x) x) x (neighbours g x) ≡ g
+no_vertex_and_back : (g : PlainGraph) (x : ℕ) → IsGraph g → Has g.vertices x → with_edges (with_vertex (without_vertex g x) x) x (neighbours g x) ≡ g
 no_vertex_and_back g x is member =
     same_graph
     (IsGraph-with_edges (IsGraph-with_vertex (IsGraph-without_vertex is x) x (is.names x member)) x (neighbours g x) (vertex_added (without_vertex g x) (with_vertex (without_vertex g x) x) x refl) (λ u m. neighbours_back g x u is m) (no_loop g x is))
@@ -170,7 +170,7 @@ deleted_edge_back h back edit row u v same made g before =
 
 -- ---- the vertex of an edit
 
-pub added_is_vertex : (h : PlainGraph) (edit : Edit) (row : NameSet) (x : ℕ) (list : List ℕ) → edit ≡ AddVertex x list → (g : PlainGraph) × Led g edit row h → Member h.vertices x
+pub added_is_vertex : (h : PlainGraph) (edit : Edit) (row : NameSet) (x : ℕ) (list : List ℕ) → edit ≡ AddVertex x list → (g : PlainGraph) × Led g edit row h → Has h.vertices x
 added_is_vertex h edit row x list same some =
     let led = led_by same some.1 in
     ap (λ (k : PlainGraph). set.contains k.vertices x) led.next_is ∙ vertex_added some.0 (with_vertex some.0 x) x refl
@@ -189,7 +189,7 @@ deleted_is_no_vertex h edit row x same some =
     let led = led_by same some.1 in
     ap (λ (k : PlainGraph). set.contains k.vertices x) led.next_is ∙ contains-remove some.0.vertices x x ∙ grind (arith, nat_tests)
 
-pub row_are_vertices : (h next : PlainGraph) (edit : Edit) (row : NameSet) (x : ℕ) → edit ≡ DelVertex x → next ≡ with_vertex h x → (g : PlainGraph) × Led g edit row h → (u : ℕ) → Member row u → Member next.vertices u
+pub row_are_vertices : (h next : PlainGraph) (edit : Edit) (row : NameSet) (x : ℕ) → edit ≡ DelVertex x → next ≡ with_vertex h x → (g : PlainGraph) × Led g edit row h → (u : ℕ) → Has row u → Has next.vertices u
 row_are_vertices h next edit row x same made some u member =
     let led = led_by same some.1 in
     ap (λ (k : PlainGraph). set.contains k.vertices u) (made ∙ ap (λ (k : PlainGraph). with_vertex k x) led.next_is)

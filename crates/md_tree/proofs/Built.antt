@@ -1,9 +1,9 @@
 -- A tree is the tree of strong modules exactly where the children of each node are the maximal proper strong modules.
 use Rattle.std.proofs.Common.{◌≡◌, ◌≢◌, ℕ, Bool, ◌↔◌, refl, sym, subst, inl, inr}
 use Rattle.std.specs.Prelude.{List}
-use Rattle.md_modules.specs.Sets.{NameSet, Has, Within, HasSome, only_name}
+use Rattle.md_graph.specs.Sets.{NameSet, Has, Within, HasSome, only_name}
 use Rattle.md_modules.specs.Modules.{IsStrong, IsMaximalStrong}
-use Rattle.md_modules.proofs.Sets.{Has-along, same_members}
+use Rattle.md_graph.proofs.SetLemmas.{Has-along, same_members}
 use Rattle.md_modules.proofs.Strong.{whole_strong, strong_inside, strong_of_strong}
 use Rattle.md_tree.specs.declared.Kind.{Kind}
 use Rattle.md_tree.specs.declared.Pair.{Pair}

@@ -2,14 +2,15 @@
 use Rattle.std.proofs.Common.{◌≡◌, ◌≢◌, ℕ, zero, suc, ◌+◌, ◌<◌, ◌≤◌, Bool, true, false, List, [], Contains, refl, sym, ◌∙◌, subst, inl, inr, arith}
 use Rattle.std.specs.FinSet.{contains, empty, len, len-empty, union, intersection, difference}
 use Rattle.std.specs.Ordering.{nat_cmp}
-use Rattle.md_modules.specs.Sets.{NameSet, Has, Lacks, Within, HasSome, HasTwo, only_name}
+use Rattle.md_graph.specs.Sets.{NameSet, Has, Lacks, Within, HasSome, HasTwo, only_name}
 use Rattle.md_modules.specs.Adjacency.{IsAdjacency}
 use Rattle.md_modules.specs.Modules.{IsStrong, IsMaximalStrong}
 use Rattle.md_modules.specs.Kinds.{IsSplit, IsPrime}
 use Rattle.md_modules.specs.Quotients.{IsQuotient}
 use Rattle.md_modules.specs.Laws.{MaximalModules}
-use Rattle.md_modules.proofs.Sets.{either, clash, false_if, only_has, of_only, empty_lacks, Has-along, same_members, union_left, union_right, of_union, meet_has, of_meet, minus_has, of_minus}
-use Rattle.md_modules.proofs.Search.{decide_has_some, len_within, len_union, len_single}
+use Rattle.std.proofs.lemmas.Bool.{cases_Bool, false_from_ne_true}
+use Rattle.md_graph.proofs.SetLemmas.{clash, only_has, of_only, empty_lacks, Has-along, same_members, union_left, union_right, of_union, meet_has, of_meet, minus_has, of_minus}
+use Rattle.md_graph.proofs.Search.{decide_has_some, len_within, len_union, len_single}
 use Rattle.md_modules.proofs.Strong.{whole_strong, strong_of_strong, children_meet, child_leaves, strong_descends}
 use Rattle.md_modules.proofs.Children.{child_unsplit, child_maximal}
 use Rattle.md_modules.proofs.Quotients.{maximal_modules_proof}
@@ -33,7 +34,7 @@ module _ (e : ℕ → ℕ → Bool) where
   -- such children in order have no name in common
   pub apart_of : (s : NameSet) (cs : PlainTrees) → ((c : PlainTree) → IsChild cs c → IsMaximalStrong e s (names c)) → IsInOrder cs → AreApart cs
   apart_of s no_tree max order = tt
-  apart_of s (one_more t ts) max order = ((λ x h. false_if _ (λ k. shared x h k)), apart_of s ts (λ c i. max c (inr i)) order.1) where
+  apart_of s (one_more t ts) max order = ((λ x h. false_from_ne_true _ (λ k. shared x h k)), apart_of s ts (λ c i. max c (inr i)) order.1) where
     shared : (x : ℕ) → Has (names t) x → Has (names_below ts) x → ⊥
     shared x h k =
         let c : (c : PlainTree) × IsChild ts c × Has (names c) x = child_of_name ts x k in
@@ -131,7 +132,7 @@ few_names no_tree r w one =
     c
 few_names (one_more t ts) r w one =
     let a : len r ≤ len (union (intersection (names t) r) (difference r (names t))) =
-    len_within r (union (intersection (names t) r) (difference r (names t))) (λ x h. elim (either (contains (names t) x)) [
+    len_within r (union (intersection (names t) r) (difference r (names t))) (λ x h. elim (cases_Bool (contains (names t) x)) [
       | inl i ↦ union_left (intersection (names t) r) (difference r (names t)) x (meet_has (names t) r x i h)
       | inr l ↦ union_right (intersection (names t) r) (difference r (names t)) x (minus_has r (names t) x h l)
     ]) in
@@ -200,7 +201,7 @@ module _ (e : ℕ → ℕ → Bool) (adj : IsAdjacency e) where
       some = (max t (inl refl)).is_strong.is_module.some;
       inside = union_left (names t) (names_below ts);
       rest = child_leaves (union (names t) (names_below ts)) (names t) (max t (inl refl));
-      across = λ a b ha hb l. false_if _ (λ h. elim (of_union (names t) (names_below ts) b hb) [
+      across = λ a b ha hb l. false_from_ne_true _ (λ h. elim (of_union (names t) (names_below ts) b hb) [
         | inl i ↦ clash i l
         | inr j ↦ (
             let p : (i : ℕ) × Has (names_at ts i) b = place_of ts b j in

@@ -1,10 +1,11 @@
 -- Each set of names with a member has such a tree: by induction on the size, over the children in order.
 use Rattle.std.proofs.Common.{◌≡◌, ◌≢◌, ℕ, zero, suc, ◌+◌, ◌<◌, ◌≤◌, Bool, true, List, [], refl, sym, ◌∙◌, ap, subst, inl, inr, arith}
 use Rattle.std.specs.FinSet.{contains, empty, len, difference, union}
-use Rattle.md_modules.specs.Sets.{NameSet, Has, Lacks, Within, HasSome, HasTwo, only_name}
+use Rattle.md_graph.specs.Sets.{NameSet, Has, Lacks, Within, HasSome, HasTwo, only_name}
 use Rattle.md_modules.specs.Modules.{IsMaximalStrong}
-use Rattle.md_modules.proofs.Sets.{either, clash, false_if, only_has, of_only, empty_lacks, Has-along, same_members, union_left, union_right, of_union, minus_has, of_minus, minus_lacks}
-use Rattle.md_modules.proofs.Search.{Decided, decide_test, decide_both, decide_like, decide_some, decide_has_some, decide_same, decide_below, first_member, other_or_alone, len_proper, test_of, test_holds, of_test}
+use Rattle.std.proofs.lemmas.Bool.{cases_Bool, false_from_ne_true}
+use Rattle.md_graph.proofs.SetLemmas.{clash, only_has, of_only, empty_lacks, Has-along, same_members, union_left, union_right, of_union, minus_has, of_minus, minus_lacks}
+use Rattle.md_graph.proofs.Search.{Decided, decide_test, decide_both, decide_like, decide_some, decide_has_some, decide_same, decide_below, first_member, other_or_alone, len_proper, test_of, test_holds, of_test}
 use Rattle.md_modules.proofs.Components.{decide_prime}
 use Rattle.md_modules.proofs.Strong.{children_meet, child_of, child_leaves}
 use Rattle.md_tree.specs.declared.Kind.{Kind}
@@ -41,7 +42,7 @@ record IsRow (e : ℕ → ℕ → Bool) (s rest : NameSet) (cs : PlainTrees) : T
 join_rest : (rest c : NameSet) → Within c rest → union c (difference rest c) ≡ rest
 join_rest rest c w = same_members (union c (difference rest c)) rest
     (λ x h. elim (of_union c (difference rest c) x h) [ inl i ↦ w x i | inr i ↦ (of_minus rest c x i).0 ])
-    (λ x h. elim (either (contains c x)) [ inl i ↦ union_left c (difference rest c) x i | inr l ↦ union_right c (difference rest c) x (minus_has rest c x h l) ])
+    (λ x h. elim (cases_Bool (contains c x)) [ inl i ↦ union_left c (difference rest c) x i | inr l ↦ union_right c (difference rest c) x (minus_has rest c x h l) ])
 
 module _ (e : ℕ → ℕ → Bool) where
   decide_joined : (cs : PlainTrees) (i j : ℕ) → Decided (IsJoined e cs i j)
@@ -114,7 +115,7 @@ module _ {e : ℕ → ℕ → Bool} where
       each_child m other w = elim (decide_same m c) [
         | inl same ↦ (t, inl refl, same ∙ sym t_names)
         | inr differs ↦ (
-            let r : IsChildSet ts m = row.each m other (λ x h. minus_has rest c x (w x h) (false_if _ (λ k. differs (children_meet s m c x other max h k)))) in
+            let r : IsChildSet ts m = row.each m other (λ x h. minus_has rest c x (w x h) (false_from_ne_true _ (λ k. differs (children_meet s m c x other max h k)))) in
             (r.0, inr r.1, r.2))
       ]
 
@@ -145,7 +146,7 @@ module _ {e : ℕ → ℕ → Bool} where
           let r : (ts : PlainTrees) × IsRow e s (difference rest c.0) ts =
           row_in n (difference rest c.0) (omega arith) (λ x h. w x (of_minus rest c.0 x h).0)
           (λ d max x hd hx y hy. minus_has rest c.0 y (whole d max x hd (of_minus rest c.0 x hx).0 y hy)
-          (false_if _ (λ k. clash (subst (λ m. Has m x) (children_meet s d c.0 y max c.1 hy k) hd) (of_minus rest c.0 x hx).1))) in
+          (false_from_ne_true _ (λ k. clash (subst (λ m. Has m x) (children_meet s d c.0 y max c.1 hy k) hd) (of_minus rest c.0 x hx).1))) in
           (one_more (t rest c.0 z.0 c.1 c.2 z.2 inside r.0 r.1) r.0, row_more rest c.0 z.0 c.1 c.2 z.2 inside r.0 r.1)
     ]
 

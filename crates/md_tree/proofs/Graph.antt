@@ -1,12 +1,14 @@
 -- The graph of the tree of strong modules is the graph itself, and its prime nodes tell of induced paths.
 use Rattle.std.proofs.Common.{◌≡◌, ◌≢◌, ℕ, zero, suc, ◌<◌, Bool, true, false, cond, eqb, min, max, ◌&&◌, ◌||◌, ◌⊎◌, ◌↔◌, List, [], ◌∷◌, refl, sym, ◌∙◌, ap, subst, inl, inr, true≢false, eqb-true, eq-eqb, arith}
 use Rattle.std.specs.FinSet.{contains}
-use Rattle.md_modules.specs.Sets.{NameSet, Has, Lacks, Within}
+use Rattle.md_graph.specs.Sets.{NameSet, Has, Lacks, Within}
 use Rattle.md_modules.specs.Adjacency.{IsAdjacency}
 use Rattle.md_modules.specs.Kinds.{IsSplit, IsPrime}
 use Rattle.md_modules.specs.InducedPaths.{HasInducedPath}
 use Rattle.md_modules.specs.Laws.{MaximalModules}
-use Rattle.md_modules.proofs.Sets.{either, clash, false_if, of_only, empty_lacks, Has-along, union_left, union_right, of_union}
+use Rattle.std.proofs.lemmas.Bool.{cases_Bool, false_from_ne_true}
+use Rattle.std.specs.Cmp.{both_ways}
+use Rattle.md_graph.proofs.SetLemmas.{clash, of_only, empty_lacks, Has-along, union_left, union_right, of_union}
 use Rattle.md_modules.proofs.Children.{child_component, child_maximal}
 use Rattle.md_modules.proofs.Quotients.{maximal_modules_proof}
 use Rattle.md_modules.proofs.Strong.{larger_than_single}
@@ -27,7 +29,7 @@ use Rattle.md_tree.proofs.Canonical.{children_maximal, apart_of}
 -- a name stands in the tree at its position, and at no other one
 pub at_position : (cs : PlainTrees) (a : ℕ) → Has (names_below cs) a → Has (names_at cs (position_of cs a)) a
 at_position no_tree a h = clash h (empty_lacks a)
-at_position (one_more t ts) a h = elim (either (contains (names t) a)) [
+at_position (one_more t ts) a h = elim (cases_Bool (contains (names t) a)) [
   | inl i ↦ subst (λ w. Has (names_at (one_more t ts) (cond w 0 (suc (position_of ts a)))) a) (sym i) i
   | inr l ↦ subst (λ w. Has (names_at (one_more t ts) (cond w 0 (suc (position_of ts a)))) a) (sym l)
       (at_position ts a (elim (of_union (names t) (names_below ts) a h) [ inl i ↦ clash i l | inr j ↦ j ]))
@@ -42,7 +44,7 @@ pub position_at : (cs : PlainTrees) → AreApart cs → (i x : ℕ) → Has (nam
 position_at no_tree apart i x h = clash h (empty_lacks x)
 position_at (one_more t ts) apart zero x h = ap (λ w. cond w 0 (suc (position_of ts x))) h
 position_at (one_more t ts) apart (suc i) x h =
-    let l : Lacks (names t) x = false_if _ (λ k. clash (at_inside ts i x h) (apart.0 x k)) in
+    let l : Lacks (names t) x = false_from_ne_true _ (λ k. clash (at_inside ts i x h) (apart.0 x k)) in
     ap (λ w. cond w 0 (suc (position_of ts x))) l ∙ ap (λ n. suc n) (position_at ts apart.1 i x h)
 
 child_at : (cs : PlainTrees) (i x : ℕ) → Has (names_at cs i) x → (c : PlainTree) × IsChild cs c × (names_at cs i ≡ names c)
@@ -54,8 +56,8 @@ child_at (one_more t ts) (suc i) x h =
 
 -- the test of a list of pairs
 same_numbers : (p : Pair) (i j : ℕ) → (eqb p.low i && eqb p.high j) ≡ true → pair i j ≡ p
-same_numbers p i j h = elim (either (eqb p.low i)) [
-  | inl a ↦ elim (either (eqb p.high j)) [
+same_numbers p i j h = elim (cases_Bool (eqb p.low i)) [
+  | inl a ↦ elim (cases_Bool (eqb p.high j)) [
     | inl b ↦ λ n. record { low = sym (eqb-true p.low i a) n; high = sym (eqb-true p.high j b) n }
     | inr b ↦ absurd (true≢false (sym h ∙ ap (λ w. w && eqb p.high j) a ∙ b))
   ]
@@ -64,7 +66,7 @@ same_numbers p i j h = elim (either (eqb p.low i)) [
 
 pub of_lists : (ps : List Pair) (i j : ℕ) → lists_pair ps i j ≡ true → In ps (pair i j)
 of_lists [] i j h = absurd (true≢false (sym h))
-of_lists (p ∷ ps) i j h = elim (either (eqb p.low i && eqb p.high j)) [
+of_lists (p ∷ ps) i j h = elim (cases_Bool (eqb p.low i && eqb p.high j)) [
   | inl a ↦ inl (same_numbers p i j a)
   | inr a ↦ inr (of_lists ps i j (sym (ap (λ w. w || lists_pair ps i j) a) ∙ h))
 ]
@@ -74,15 +76,10 @@ to_lists [] p i = absurd i
 to_lists (q ∷ ps) p (inl e) =
     ap (λ w. (w && eqb q.high p.high) || lists_pair ps p.low p.high) (eq-eqb q.low p.low (sym (ap (λ r. r.low) e)))
     ∙ ap (λ w. w || lists_pair ps p.low p.high) (eq-eqb q.high p.high (sym (ap (λ r. r.high) e)))
-to_lists (q ∷ ps) p (inr i) = elim (either (eqb q.low p.low && eqb q.high p.high)) [
+to_lists (q ∷ ps) p (inr i) = elim (cases_Bool (eqb q.low p.low && eqb q.high p.high)) [
   | inl a ↦ ap (λ w. w || lists_pair ps p.low p.high) a
   | inr a ↦ ap (λ w. w || lists_pair ps p.low p.high) a ∙ to_lists ps p i
 ]
-
-pub same_test : (a b : Bool) → (a ≡ true → b ≡ true) → (b ≡ true → a ≡ true) → a ≡ b
-same_test true b f g = sym (f refl)
-same_test false true f g = g refl
-same_test false false f g = refl
 
 pub less_or_more : (i j : ℕ) → i ≢ j → (i < j) ⊎ (j < i)
 less_or_more zero zero n = absurd (n refl)
@@ -108,7 +105,7 @@ module _ (e : ℕ → ℕ → Bool) (adj : IsAdjacency e) where
 
     lacks_other : (a b : ℕ) (c : PlainTree) → names_at cs (position_of cs a) ≡ names c → position_of cs a ≢ position_of cs b → Lacks (names c) b
     lacks_other a b c same differ =
-        false_if _ (λ h. differ (sym (position_at cs apart (position_of cs a) b (Has-along (names c) (names_at cs (position_of cs a)) (sym same) b h))))
+        false_from_ne_true _ (λ h. differ (sym (position_at cs apart (position_of cs a) b (Has-along (names c) (names_at cs (position_of cs a)) (sym same) b h))))
 
     across_split : (part : NameSet) (v : Bool) → IsSplit e s part v → (a b : ℕ) → Has s a → Has s b → position_of cs a ≢ position_of cs b → e a b ≡ v
     across_split part v split a b ha hb differ =
@@ -117,7 +114,7 @@ module _ (e : ℕ → ℕ → Bool) (adj : IsAdjacency e) where
 
     listed : IsPrime e s → ListsJoined e cs ps → (a b : ℕ) → Has s a → Has s b → position_of cs a < position_of cs b →
         lists_pair ps (position_of cs a) (position_of cs b) ≡ e a b
-    listed prime lists a b ha hb less = same_test _ _ edge_if_listed listed_if_edge where
+    listed prime lists a b ha hb less = both_ways _ _ edge_if_listed listed_if_edge where
       i : ℕ
       i = position_of cs a
 
@@ -166,7 +163,7 @@ module _ (e : ℕ → ℕ → Bool) (adj : IsAdjacency e) where
     pub adjacent_right : (t : PlainTree) → EachNode (IsBuilt e) t → (a b : ℕ) → Has (names t) a → Has (names t) b → adjacent_in t a b ≡ e a b
     adjacent_right (leaf v) each a b ha hb =
         sym (ap (λ w. e w b) (of_only v a ha) ∙ ap (e v) (of_only v b hb) ∙ adj.irreflexive v)
-    adjacent_right (node k cs ps) each a b ha hb = elim (either (eqb (position_of cs a) (position_of cs b))) [
+    adjacent_right (node k cs ps) each a b ha hb = elim (cases_Bool (eqb (position_of cs a) (position_of cs b))) [
       | inl h ↦ ap (λ w. cond w (adjacent_below cs a b) (joins k ps (position_of cs a) (position_of cs b))) h
           ∙ below_right cs each.1 a b ha hb (eqb-true (position_of cs a) (position_of cs b) h)
       | inr h ↦ ap (λ w. cond w (adjacent_below cs a b) (joins k ps (position_of cs a) (position_of cs b))) h
@@ -176,8 +173,8 @@ module _ (e : ℕ → ℕ → Bool) (adj : IsAdjacency e) where
     below_right : (cs : PlainTrees) → EachNodeBelow (IsBuilt e) cs → (a b : ℕ) → Has (names_below cs) a → Has (names_below cs) b →
         position_of cs a ≡ position_of cs b → adjacent_below cs a b ≡ e a b
     below_right no_tree each a b ha hb same = clash ha (empty_lacks a)
-    below_right (one_more t ts) each a b ha hb same = elim (either (contains (names t) a)) [
-      | inl i ↦ elim (either (contains (names t) b)) [
+    below_right (one_more t ts) each a b ha hb same = elim (cases_Bool (contains (names t) a)) [
+      | inl i ↦ elim (cases_Bool (contains (names t) b)) [
         | inl j ↦ ap (λ w. cond w (adjacent_in t a b) (adjacent_below ts a b)) i ∙ adjacent_right t each.0 a b i j
         | inr m ↦ (
             let p : position_of (one_more t ts) a ≡ 0 = ap (λ w. cond w 0 (suc (position_of ts a))) i in
@@ -185,7 +182,7 @@ module _ (e : ℕ → ℕ → Bool) (adj : IsAdjacency e) where
             let r : 0 ≡ suc (position_of ts b) = sym p ∙ same ∙ q in
             absurd (omega arith))
       ]
-      | inr l ↦ elim (either (contains (names t) b)) [
+      | inr l ↦ elim (cases_Bool (contains (names t) b)) [
         | inl j ↦ (
             let p : position_of (one_more t ts) a ≡ suc (position_of ts a) = ap (λ w. cond w 0 (suc (position_of ts a))) l in
             let q : position_of (one_more t ts) b ≡ 0 = ap (λ w. cond w 0 (suc (position_of ts b))) j in

@@ -13,3 +13,5 @@ pub mod Plain
 pub mod Written
 pub mod Edges
 pub mod Denoted
+pub mod Folding
+pub mod Stacking

@@ -6,8 +6,9 @@ use Rattle.std.specs.FinSet.{empty, insert, union}
 use Rattle.md_graph.specs.declared.TheConstants.{NAMES}
 use Rattle.md_graph.specs.NameSet.{AllBelow}
 use Rattle.md_graph.specs.PlainGraph.{PlainGraph, adjacent}
-use Rattle.md_modules.specs.Sets.{NameSet, Has, Lacks, Within, Disjoint, only_name}
-use Rattle.md_modules.proofs.Sets.{clash, false_if, of_insert, insert_old, insert_new, of_only, only_has, empty_lacks, same_members, union_left, union_right, of_union}
+use Rattle.md_graph.specs.Sets.{NameSet, Has, Lacks, Within, Disjoint, only_name}
+use Rattle.std.proofs.lemmas.Bool.{false_from_ne_true}
+use Rattle.md_graph.proofs.SetLemmas.{clash, of_insert, insert_old, insert_new, of_only, only_has, empty_lacks, same_members, union_left, union_right, of_union}
 use Rattle.md_tree.specs.WellFormed.{AreApart, IsCanonicalNode}
 use Rattle.md_tree.specs.declared.Tree.{Tree}
 use Rattle.md_tree.specs.Trees.{PlainTree, PlainTrees, no_tree, one_more, names, names_below, names_at, count, row, EachNode, EachNodeBelow}
@@ -122,7 +123,7 @@ module _ (start g : PlainGraph) (xs : List Tree) (i : ℕ) (loop : NameLoop star
   pub names_step : (h : PlainGraph) → h.vertices ≡ union g.vertices (names c) → h.edges ≡ g.edges → NameLoop start h xs (i + 1)
   names_step h more kept = record {
     names_left = λ x k. loop.names_left x (in_rest x (union_right (names c) (names_below ts) x k));
-    absent = λ x k. false_if _ (λ m. elim (of_union g.vertices (names c) x (subst (λ s. Has s x) more m)) [
+    absent = λ x k. false_from_ne_true _ (λ m. elim (of_union g.vertices (names c) x (subst (λ s. Has s x) more m)) [
       | inl j ↦ clash j (loop.absent x (in_rest x (union_right (names c) (names_below ts) x k)))
       | inr j ↦ clash k (apart_now.0 x j)
     ]);
@@ -141,10 +142,10 @@ names_end start g xs i loop ys same past =
 
 -- what a row and its first tree lack
 pub lacks_first : (v : ℕ) (t : PlainTree) (ts : PlainTrees) → Lacks (names_below (one_more t ts)) v → Lacks (names t) v
-lacks_first v t ts l = false_if _ (λ h. clash (union_left (names t) (names_below ts) v h) l)
+lacks_first v t ts l = false_from_ne_true _ (λ h. clash (union_left (names t) (names_below ts) v h) l)
 
 pub lacks_rest : (v : ℕ) (t : PlainTree) (ts : PlainTrees) → Lacks (names_below (one_more t ts)) v → Lacks (names_below ts) v
-lacks_rest v t ts l = false_if _ (λ h. clash (union_right (names t) (names_below ts) v h) l)
+lacks_rest v t ts l = false_from_ne_true _ (λ h. clash (union_right (names t) (names_below ts) v h) l)
 
 pub disjoint_first : (a : NameSet) (t : PlainTree) (ts : PlainTrees) → Disjoint a (names_below (one_more t ts)) → Disjoint a (names t)
 disjoint_first a t ts apart x h = lacks_first x t ts (apart x h)

@@ -1,7 +1,7 @@
 -- The nodes of a tree: their leaf sets, and the children of a node.
 use Rattle.std.proofs.Common.{◌≡◌, ◌≢◌, ℕ, ◌⊎◌, refl, sym, ◌∙◌, ap, subst, inl, inr}
-use Rattle.md_modules.specs.Sets.{NameSet, Has, Within, only_name}
-use Rattle.md_modules.proofs.Sets.{clash, of_only, empty_lacks, union_left, union_right, of_union}
+use Rattle.md_graph.specs.Sets.{NameSet, Has, Within, only_name}
+use Rattle.md_graph.proofs.SetLemmas.{clash, of_only, empty_lacks, union_left, union_right, of_union}
 use Rattle.md_tree.specs.Trees.{PlainTree, leaf, node, PlainTrees, no_tree, one_more, names, names_below, node_sets, node_sets_below}
 use Rattle.md_tree.proofs.Lists.{In, Later, in_left, in_right, of_append, later_left, later_right, later_across}
 

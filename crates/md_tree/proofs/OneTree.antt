@@ -1,15 +1,17 @@
 -- Each set of names has exactly one tree of strong modules, or none where it is empty; and what that tree tells.
 use Rattle.std.proofs.Common.{◌≡◌, ℕ, Bool, true, ◌&&◌, Option, Some, None, refl, sym, ◌∙◌, ap, subst, inl, inr}
+use Rattle.std.proofs.lemmas.Bool.{and_parts, and_from}
+use Rattle.std.specs.Cmp.{both_ways}
 use Rattle.std.specs.FinSet.{contains, empty}
 use Rattle.md_graph.specs.declared.TheConstants.{NAMES}
 use Rattle.md_graph.specs.NameSet.{AllBelow}
 use Rattle.md_graph.specs.PlainGraph.{PlainGraph, IsGraph, adjacent}
 use Rattle.md_graph.proofs.GraphLemmas.{adjacent_sym, adjacent_self, adjacent_ends}
-use Rattle.md_modules.specs.Sets.{NameSet, Has, HasSome}
+use Rattle.md_graph.specs.Sets.{NameSet, Has, HasSome}
 use Rattle.md_modules.specs.Adjacency.{IsAdjacency}
 use Rattle.md_modules.specs.Modules.{IsStrong}
-use Rattle.md_modules.proofs.Sets.{clash, empty_lacks, Has-along, same_members}
-use Rattle.md_modules.proofs.Search.{decide_has_some}
+use Rattle.md_graph.proofs.SetLemmas.{clash, empty_lacks, Has-along, same_members}
+use Rattle.md_graph.proofs.Search.{decide_has_some}
 use Rattle.md_tree.specs.Trees.{PlainTree, names, node_sets, EachNode}
 use Rattle.md_tree.specs.WellFormed.{IsCanonicalNode}
 use Rattle.md_tree.specs.TreeGraph.{adjacent_in}
@@ -21,8 +23,8 @@ use Rattle.md_tree.proofs.Built.{tree_names, tree_built}
 use Rattle.md_tree.proofs.Unique.{same_tree}
 use Rattle.md_tree.proofs.Exists.{HasTree, some_tree}
 use Rattle.md_tree.proofs.Canonical.{built_tree, canonical_of}
-use Rattle.md_tree.proofs.Graph.{adjacent_right, no_path_tree, same_test}
-use Rattle.md_tree.proofs.Edges.{edges_are, and_true, and_both}
+use Rattle.md_tree.proofs.Graph.{adjacent_right, no_path_tree}
+use Rattle.md_tree.proofs.Edges.{edges_are}
 use Rattle.md_tree.proofs.Denoted.{no_vertices_empty, tree_graph}
 
 module _ (e : ℕ → ℕ → Bool) where
@@ -83,14 +85,14 @@ graph_proof g is (Some t) tree =
     let adj : IsAdjacency (adjacent g) = graph_adjacency g is in
     let c : (names t ≡ g.vertices) × EachNode IsCanonicalNode t = canonical_proof (adjacent g) adj g.vertices t tree in
     sym (tree_graph g t is c.1 (subst (λ w. AllBelow w NAMES) (sym c.0) is.names) (sym c.0) (λ x y.
-    same_test (adjacent g x y) ((contains (names t) x && contains (names t) y) && adjacent_in t x y)
+    both_ways (adjacent g x y) ((contains (names t) x && contains (names t) y) && adjacent_in t x y)
     (λ h.
     let ends : (_ : _) × _ × _ = adjacent_ends is x y h in
-    and_both (contains (names t) x && contains (names t) y) (adjacent_in t x y)
-    (and_both (contains (names t) x) (contains (names t) y) (Has-along g.vertices (names t) (sym c.0) x ends.0) (Has-along g.vertices (names t) (sym c.0) y ends.1))
+    and_from (contains (names t) x && contains (names t) y) (adjacent_in t x y)
+    (and_from (contains (names t) x) (contains (names t) y) (Has-along g.vertices (names t) (sym c.0) x ends.0) (Has-along g.vertices (names t) (sym c.0) y ends.1))
     (tells_proof (adjacent g) adj g.vertices t tree x y ends.0 ends.1 ∙ h))
     (λ h.
-    let a : (contains (names t) x && contains (names t) y ≡ true) × (adjacent_in t x y ≡ true) = and_true (contains (names t) x && contains (names t) y) (adjacent_in t x y) h in
-    let b : Has (names t) x × Has (names t) y = and_true (contains (names t) x) (contains (names t) y) a.0 in
+    let a : (contains (names t) x && contains (names t) y ≡ true) × (adjacent_in t x y ≡ true) = and_parts (contains (names t) x && contains (names t) y) (adjacent_in t x y) h in
+    let b : Has (names t) x × Has (names t) y = and_parts (contains (names t) x) (contains (names t) y) a.0 in
     sym (tells_proof (adjacent g) adj g.vertices t tree x y (Has-along (names t) g.vertices c.0 x b.0) (Has-along (names t) g.vertices c.0 y b.1)) ∙ a.1)
     ∙ sym (edges_are t c.1 x y)))

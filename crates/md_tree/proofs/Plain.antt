@@ -6,7 +6,7 @@ use Rattle.md_tree.specs.declared.QuotientEdges.{QuotientEdges}
 use Rattle.md_tree.specs.declared.Children.{Children, out-Children}
 use Rattle.md_tree.specs.declared.Tree.{Tree, Leaf, Node, Node', Row_of-Tree, end_of-Tree, more_of-Tree, items-the_row-Tree, items_hidden-the_row-Tree-0}
 use Rattle.md_tree.specs.Trees.{leaf, node, one_more, names, names_below, row}
-use Rattle.md_modules.specs.Sets.{only_name}
+use Rattle.md_graph.specs.Sets.{only_name}
 use Rattle.md_tree.specs.Plain.{plain, plain_row}
 
 row_items : (n : _) (ts : Row_of-Tree n) → plain_row ts ≡ row (map plain (items-the_row-Tree n ts))

@@ -1,11 +1,11 @@
 -- A set of names has at most one tree of strong modules.
 use Rattle.std.proofs.Common.{◌≡◌, ℕ, ◌<◌, Bool, true, false, List, [], ◌∷◌, refl, sym, ◌∙◌, ap, subst, inl, inr, arith}
-use Rattle.md_modules.specs.Sets.{NameSet, Has, HasTwo, only_name}
+use Rattle.md_graph.specs.Sets.{NameSet, Has, HasTwo, only_name}
 use Rattle.md_modules.specs.Adjacency.{IsAdjacency}
 use Rattle.md_modules.specs.Modules.{IsMaximalStrong}
 use Rattle.md_modules.specs.Kinds.{IsSplit}
 use Rattle.md_modules.specs.Laws.{ExactlyOne}
-use Rattle.md_modules.proofs.Sets.{clash, only_has, of_only, Has-along}
+use Rattle.md_graph.proofs.SetLemmas.{clash, only_has, of_only, Has-along}
 use Rattle.md_modules.proofs.Components.{one_kind_proof}
 use Rattle.md_modules.proofs.Strong.{larger_than_single}
 use Rattle.md_tree.specs.declared.Kind.{Kind}

@@ -7,3 +7,5 @@ pub mod TreeEdges
 pub mod TreeTexts
 pub mod Laws
 pub mod Positions
+pub mod Parts
+pub mod Stacks

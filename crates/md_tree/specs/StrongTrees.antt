@@ -2,7 +2,7 @@
 -- Source: Habib and Paul, A survey of the algorithmic aspects of modular decomposition; the order of the children is our own.
 use Rattle.std.specs.Prelude.{◌≡◌, ◌≢◌, ◌<◌, ◌⊎◌, ◌↔◌, ℕ, Bool, true, List, [], Contains, AllPairs, Option, Some, None, ⊤}
 use Rattle.std.specs.FinSet.{empty}
-use Rattle.md_modules.specs.Sets.{NameSet, Has}
+use Rattle.md_graph.specs.Sets.{NameSet, Has}
 use Rattle.md_modules.specs.Modules.{IsStrong}
 use Rattle.md_modules.specs.Kinds.{IsParallel, IsSeries, IsPrime}
 use Rattle.md_tree.specs.declared.Kind.{Kind}

@@ -1,8 +1,9 @@
--- The edges of the graph that a tree denotes, node by node.
+-- The loop's view of the graph that a tree denotes (TreeGraph is its meaning): its edges in the order in which the nodes are
+-- gone through.
 -- Source: Habib and Paul, A survey of the algorithmic aspects of modular decomposition.
 use Rattle.std.specs.Prelude.{ℕ, Bool, false, ◌&&◌, ◌||◌, List, [], ◌∷◌}
 use Rattle.std.specs.FinSet.{contains}
-use Rattle.md_modules.specs.Sets.{NameSet}
+use Rattle.md_graph.specs.Sets.{NameSet}
 use Rattle.md_tree.specs.declared.Kind.{Kind}
 use Rattle.md_tree.specs.declared.Kind.TheVariants.{Parallel, Series, Prime}
 use Rattle.md_tree.specs.declared.Pair.{Pair}

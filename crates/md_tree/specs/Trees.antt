@@ -2,7 +2,7 @@
 -- Source: any textbook of graph theory.
 use Rattle.std.specs.Prelude.{ℕ, zero, suc, List, [], ◌∷◌, ◌++◌, ⊤}
 use Rattle.std.specs.FinSet.{empty, union}
-use Rattle.md_modules.specs.Sets.{NameSet, only_name}
+use Rattle.md_graph.specs.Sets.{NameSet, only_name}
 use Rattle.md_tree.specs.declared.Kind.{Kind}
 use Rattle.md_tree.specs.declared.Pair.{Pair}
 

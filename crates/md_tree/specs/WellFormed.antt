@@ -1,7 +1,7 @@
 -- Well-formed trees.
 -- Source: Habib and Paul, A survey of the algorithmic aspects of modular decomposition; the order of the children is our own.
 use Rattle.std.specs.Prelude.{◌≡◌, ◌≢◌, ◌<◌, ◌≤◌, List, [], Contains, AllPairs, ⊤, Option, Some, None}
-use Rattle.md_modules.specs.Sets.{Disjoint}
+use Rattle.md_graph.specs.Sets.{Disjoint}
 use Rattle.md_graph.specs.declared.TheConstants.{NAMES}
 use Rattle.md_graph.specs.NameSet.{AllBelow}
 use Rattle.md_tree.specs.declared.Kind.{Kind}

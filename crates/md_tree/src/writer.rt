@@ -1,20 +1,19 @@
 //! Writes the text of a tree.
-ghost use Rattle.std.specs.Prelude.{◌≡◌, [], ◌∷◌, ◌++◌, map, IfOk};
-ghost use Rattle.md_tree.specs.Trees.{node, row};
-ghost use Rattle.md_tree.specs.Plain.{plain, plain_option};
+ghost use Rattle.std.specs.Prelude.{◌≡◌, [], ◌∷◌, ◌++◌, IfOk};
+ghost use Rattle.md_tree.specs.Trees.{node};
+ghost use Rattle.md_tree.specs.Plain.{plain, plain_option, row_of};
 ghost use Rattle.md_tree.specs.TreeTexts.{letter, tree_text, row_text, text_of};
-ghost use Rattle.md_tree.specs.declared.Children.{out-Children};
 
-use crate::quotient::push_pairs;
-use crate::workspace::{CHUNK, Workspace};
+use crate::pair_writer::{Workspace, push_pairs};
 use crate::{Children, Kind, QuotientEdges, Tree};
 use md_graph::Memory;
 use md_text::push_number;
 use std::alloc::Global;
 
-/// The text of a tree: a name in digits, and a node as `P`, `S` or `R`, then in brackets its children with commas between
-/// them, and where the node is prime a semicolon and its pairs, as `0-2`, with commas between them. The text `empty`
-/// where there is no tree. Errors: want of memory.
+/// The text of a tree: a name in digits, and a node as `P`, `S` or `R`, then in brackets its
+/// children with commas between them, and where the node is prime a semicolon and its pairs, as
+/// `0-2`, with commas between them. The text `empty` where there is no tree. Errors: want of
+/// memory.
 pub fn text(alloc: Global, tree: &Option<Tree>) -> Result<Vec<u8>, Memory>
     ensures { IfOk result (λ v. v.items ≡ text_of (plain_option tree.now)) }
 {
@@ -23,19 +22,17 @@ pub fn text(alloc: Global, tree: &Option<Tree>) -> Result<Vec<u8>, Memory>
     Ok(text)
 }
 
-/// Appends the text of a tree: the one that `text` makes. Errors: want of memory; nothing is then said of what the
-/// text holds.
+/// Appends the text of a tree: the one that `text` makes. Errors: want of memory; nothing is then
+/// said of what the text holds.
 pub fn push_text(alloc: Global, text: &mut Vec<u8>, tree: &Option<Tree>) -> Result<(), Memory>
-    ensures { IfOk result (λ _. text.new.items ≡ text.old.items ++ text_of (plain_option tree.now)) }
+    ensures { IfOk result (λ _. text.new.items
+        ≡ text.old.items ++ text_of (plain_option tree.now)) }
 {
     let Some(tree) = tree else {
         text.extend_from_slice(b"empty")?;
         return Ok(());
     };
-    let mut space = Workspace {
-        positions: Vec::new(alloc),
-        chunk: [0; CHUNK],
-    };
+    let mut space = Workspace::new(alloc);
     push_tree(text, tree, &mut space)
 }
 
@@ -69,8 +66,8 @@ fn push_node(
     edges: &QuotientEdges,
     space: &mut Workspace,
 ) -> Result<(), Memory>
-    ensures { IfOk result (λ _. text.new.items ≡ text.old.items
-        ++ tree_text (node kind (row (map plain (out-Children children.now).list.items)) edges.now.list.items)) }
+    ensures { IfOk result (λ _. text.new.items
+        ≡ text.old.items ++ tree_text (node kind (row_of children.now) edges.now.list.items)) }
 {
     text.push(letter(kind))?;
     push_children(text, children, space)?;
@@ -87,7 +84,7 @@ fn push_children(
     space: &mut Workspace,
 ) -> Result<(), Memory>
     ensures { IfOk result (λ _. text.new.items
-        ≡ text.old.items ++ row_text 40 (row (map plain (out-Children children.now).list.items))) }
+        ≡ text.old.items ++ row_text 40 (row_of children.now)) }
 {
     let mut mark = b'(';
     for child in &children.list {

@@ -1,6 +1,6 @@
 use Rattle.std.proofs.Common.{◌≡◌, ◌<◌, ◌+◌, ◌≤◌, sym, subst, arith}
-use Rattle.md_modules.specs.Sets.{Has, only_name}
-use Rattle.md_modules.proofs.Sets.{same_members, only_has, of_only}
+use Rattle.md_graph.specs.Sets.{Has, only_name}
+use Rattle.md_graph.proofs.SetLemmas.{same_members, only_has, of_only}
 use Rattle.md_decompose.proofs.decomposition.only_member.Goals as goal
 
 pub returns-in-None-clause-one : goal.returns-in-None-clause-one

@@ -1,7 +1,7 @@
 use Rattle.std.proofs.Common.{◌≡◌, ◌∙◌, ap, subst, sym}
 use Rattle.std.proofs.lemmas.List.{get_or_read}
 use Rattle.std.specs.FinSet.{empty, difference}
-use Rattle.md_modules.specs.Sets.{NameSet, Within}
+use Rattle.md_graph.specs.Sets.{NameSet, Within}
 use Rattle.md_modules.proofs.Turns.{taken_whole}
 use Rattle.md_decompose.specs.Children.{set_at}
 use Rattle.md_decompose.proofs.Components.{flipped_off}

@@ -3,7 +3,7 @@ use Rattle.std.proofs.lemmas.List.{get_or_read}
 use Rattle.std.specs.FinSet.{contains, empty, difference, intersection}
 use Rattle.md_graph.specs.PlainGraph.{adjacent}
 use Rattle.md_graph.proofs.GraphLemmas.{contains-neighbours}
-use Rattle.md_modules.specs.Sets.{NameSet, HasSome, Within}
+use Rattle.md_graph.specs.Sets.{NameSet, Within, HasSome}
 use Rattle.md_decompose.specs.Children.{set_at}
 use Rattle.md_decompose.specs.Classes.{HoldsSplitters}
 use Rattle.md_decompose.proofs.ClassLists.{IsCutAt, work_passes, work_falls, cut_at}

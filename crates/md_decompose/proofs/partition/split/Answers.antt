@@ -1,7 +1,7 @@
 use Rattle.std.proofs.Common.{◌≡◌, ◌<◌, ◌++◌, ◌∷◌, [], slice_set, length, ◌∙◌, ap, ap₂, subst, arith}
 use Rattle.std.proofs.lemmas.List.{get_or_read}
 use Rattle.std.specs.FinSet.{empty, union, intersection, difference}
-use Rattle.md_modules.specs.Sets.{NameSet}
+use Rattle.md_graph.specs.Sets.{NameSet}
 use Rattle.md_decompose.specs.Children.{set_at}
 use Rattle.md_decompose.specs.Classes.{IsSideOf}
 use Rattle.md_decompose.proofs.partition.split.Goals as goal

@@ -1,8 +1,8 @@
 use Rattle.std.proofs.Common.{◌≡◌, ◌≢◌, ◌+◌, ap, subst, sym, arith}
 use Rattle.std.specs.FinSet.{len, remove}
 use Rattle.md_graph.specs.PlainGraph.{adjacent}
-use Rattle.md_modules.proofs.Sets.{clash, Has-along, of_remove, remove_left}
-use Rattle.md_modules.proofs.Search.{len_fewer}
+use Rattle.md_graph.proofs.SetLemmas.{clash, Has-along, of_remove, remove_left}
+use Rattle.md_graph.proofs.Search.{len_fewer}
 use Rattle.md_decompose.specs.Classes.{IsSplitter}
 use Rattle.md_decompose.proofs.partition.splitter_of_many.Goals as goal
 

@@ -1,7 +1,7 @@
 use Rattle.std.proofs.Common.{ℕ}
 use Rattle.std.specs.FinSet.{len}
 use Rattle.md_graph.specs.PlainGraph.{adjacent}
-use Rattle.md_modules.specs.Sets.{Has, Within}
+use Rattle.md_graph.specs.Sets.{Has, Within}
 use Rattle.md_decompose.specs.Classes.{IsSplitter}
 use Rattle.md_decompose.proofs.partition.splitter_of_many.Given as goal
 

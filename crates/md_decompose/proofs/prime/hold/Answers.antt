@@ -1,6 +1,6 @@
 use Rattle.std.proofs.Common.{sym, ◌∙◌, ap}
 use Rattle.std.specs.FinSet.{insert}
-use Rattle.md_modules.proofs.Sets.{insert_old, insert_within, Has-along}
+use Rattle.md_graph.proofs.SetLemmas.{insert_old, insert_within, Has-along}
 use Rattle.md_modules.proofs.Turns.{graph_adjacency}
 use Rattle.md_decompose.proofs.ChildLemmas.{grow_seen, hold_among}
 use Rattle.md_decompose.proofs.prime.hold.Goals as goal

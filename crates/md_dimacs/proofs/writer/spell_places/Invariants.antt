@@ -1,6 +1,6 @@
 use Rattle.std.proofs.Common.{ℕ, ◌<◌, ◌≤◌, vec_len}
 use Rattle.md_graph.specs.declared.TheConstants.{NAMES}
-use Rattle.md_graph.specs.NameSet.{Member}
+use Rattle.md_graph.specs.Sets.{Has}
 use Rattle.md_dimacs.specs.Places.{IsPlaceOf}
 use Rattle.md_dimacs.proofs.AscendingLemmas.{Coming}
 use Rattle.md_dimacs.proofs.writer.spell_places.Given as goal
@@ -9,5 +9,5 @@ abbrev pub invariant-loop-v : goal.invariant-loop-v
 invariant-loop-v l = record {
   coming : Coming l.graph.vertices (vec_len l.places) l.place l.v-iterator;
   named : vec_len l.places ≤ NAMES;
-  spelled : (w : ℕ) → Member l.graph.vertices w → w < vec_len l.places → IsPlaceOf l.graph l.places.items w;
+  spelled : (w : ℕ) → Has l.graph.vertices w → w < vec_len l.places → IsPlaceOf l.graph l.places.items w;
 }

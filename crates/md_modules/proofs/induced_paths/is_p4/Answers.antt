@@ -1,7 +1,7 @@
 use Rattle.std.proofs.Common.{◌∙◌}
 use Rattle.std.proofs.lemmas.Bool.{le-ltb}
 use Rattle.md_modules.proofs.PathSearch.{path_by_edges}
-use Rattle.md_modules.proofs.Sets.{clash}
+use Rattle.md_graph.proofs.SetLemmas.{clash}
 use Rattle.md_modules.proofs.induced_paths.is_p4.Goals as goal
 use Rattle.md_modules.proofs.induced_paths.is_p4.Goals.{then-p, else-p}
 

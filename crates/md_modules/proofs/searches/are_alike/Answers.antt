@@ -1,5 +1,5 @@
 use Rattle.std.proofs.Common.{◌∙◌, refl}
-use Rattle.md_modules.proofs.Sets.{clash}
+use Rattle.md_graph.proofs.SetLemmas.{clash}
 use Rattle.md_modules.proofs.Turns.{walked_start, walked_member, walked_turn, walked_all}
 use Rattle.md_modules.proofs.searches.are_alike.Goals as goal
 

@@ -1,6 +1,6 @@
 use Rattle.std.proofs.Common.{◌≡◌, ℕ}
 use Rattle.md_graph.specs.PlainGraph.{adjacent}
-use Rattle.md_modules.specs.Sets.{Has}
+use Rattle.md_graph.specs.Sets.{Has}
 use Rattle.md_modules.proofs.Turns.{Walked}
 use Rattle.md_modules.proofs.searches.are_alike.Given as goal
 

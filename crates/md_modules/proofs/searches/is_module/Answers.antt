@@ -1,5 +1,5 @@
 use Rattle.std.proofs.Common.{refl}
-use Rattle.md_modules.proofs.Sets.{clash}
+use Rattle.md_graph.proofs.SetLemmas.{clash}
 use Rattle.md_modules.proofs.Turns.{graph_adjacency, module_not_strange, module_test}
 use Rattle.md_modules.proofs.searches.is_module.Goals as goal
 

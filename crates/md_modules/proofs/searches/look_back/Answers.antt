@@ -1,4 +1,4 @@
-use Rattle.md_modules.proofs.Sets.{Has-along, of_minus}
+use Rattle.md_graph.proofs.SetLemmas.{Has-along, of_minus}
 use Rattle.md_modules.proofs.Turns.{graph_adjacency, reach_backed, back_falls}
 use Rattle.md_modules.proofs.searches.look_back.Goals as goal
 

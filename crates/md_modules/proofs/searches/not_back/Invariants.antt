@@ -1,7 +1,7 @@
 use Rattle.std.proofs.Common.{◌+◌}
 use Rattle.std.specs.FinSet.{len}
 use Rattle.md_graph.specs.PlainGraph.{adjacent}
-use Rattle.md_modules.specs.Sets.{Lacks}
+use Rattle.md_graph.specs.Sets.{Lacks}
 use Rattle.md_modules.proofs.Growth.{IsGoingBack}
 use Rattle.md_modules.proofs.searches.not_back.Given as goal
 

@@ -1,6 +1,6 @@
 use Rattle.std.proofs.Common.{◌∙◌, sym, subst, inl, inr}
-use Rattle.md_modules.specs.Sets.{Has}
-use Rattle.md_modules.proofs.Sets.{clash, insert_new, insert_old, of_insert, Has-along}
+use Rattle.md_graph.specs.Sets.{Has}
+use Rattle.md_graph.proofs.SetLemmas.{clash, insert_new, insert_old, of_insert, Has-along}
 use Rattle.md_modules.proofs.Turns.{Sees, empty_if, walked_start, walked_member, walked_turn, walked_weaker, walked_all}
 use Rattle.md_modules.proofs.searches.seeing.Goals as goal
 

@@ -1,5 +1,5 @@
 use Rattle.std.proofs.Common.{ℕ}
-use Rattle.md_modules.specs.Sets.{Has}
+use Rattle.md_graph.specs.Sets.{Has}
 use Rattle.md_modules.proofs.Turns.{Walked, Sees}
 use Rattle.md_modules.proofs.searches.seeing.Given as goal
 

@@ -1,6 +1,6 @@
 use Rattle.std.proofs.Common.{◌≡◌, true, subst, sym, ◌∙◌, rules, arith}
 use Rattle.md_graph.specs.PlainGraph.{adjacent}
-use Rattle.md_modules.specs.Sets.{NameSet}
+use Rattle.md_graph.specs.Sets.{NameSet}
 use Rattle.md_modules.specs.Kinds.{IsPrime}
 use Rattle.md_decompose.proofs.prime.tests.divided.Goals as goal
 
