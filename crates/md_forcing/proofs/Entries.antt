@@ -1,16 +1,15 @@
 -- The entries of the map of a class, as `insert` and `get_index_of` of the map leave and find them.
-use Rattle.std.proofs.Common.{◌≡◌, ◌⊎◌, ℕ, zero, suc, ◌+◌, ◌<◌, ◌≤◌, Bool, true, false, not, cond, ◌&&◌, nat_eq, nat_lt, ltb, List, [], ◌∷◌, ◌++◌, length, slice_get, get_or, position, Option, Some, None, IfSome, IfNone, refl, sym, ◌∙◌, ap, subst, inl, inr, arith}
+use Rattle.std.proofs.Common.{◌≡◌, ℕ, zero, suc, ◌<◌, Bool, true, cond, ◌&&◌, nat_eq, nat_lt, List, [], ◌∷◌, ◌++◌, length, slice_get, get_or, position, Option, Some, None, IfSome, IfNone, refl, sym, ◌∙◌, ap, subst, inl, inr, arith}
 use Rattle.std.proofs.lemmas.Bool.{cases_Bool, and_parts, eqb-true}
 use Rattle.std.proofs.lemmas.Bool.Decides.{nat_tests}
-use Rattle.std.proofs.lemmas.List.{get_or_read}
 use Rattle.std.proofs.lemmas.List.Quantifiers.{position-Some}
 use Rattle.std.specs.List.{position_or_len}
 use Rattle.std.specs.Map.{keys_of}
 use Rattle.indexmap.specs.IndexMap.{insert_entry}
+use Rattle.md_graph.proofs.SetLemmas.{clash}
 use Rattle.md_forcing.specs.declared.arc.Arc.{Arc}
 use Rattle.md_forcing.specs.Lists.{Holds}
 use Rattle.md_forcing.specs.contracts.arc.ArcPartialEq.TheImpl as arc_eq
-use Rattle.md_forcing.proofs.ListLemmas.{same_some}
 
 pub same_arc : (a b : Arc) → arc_eq.eq-value.it a b ≡ true → a ≡ b
 same_arc a b h =
@@ -19,9 +18,6 @@ same_arc a b h =
 
 pub arc_itself : (a : Arc) → arc_eq.eq-value.it a a ≡ true
 arc_itself a = let P : (nat_eq a.tail a.tail && nat_eq a.head a.head) ≡ true = grind (arith, nat_tests) in P
-
-clash : (b : Bool) → b ≡ true → b ≡ false → ⊥
-clash b x y = cc
 
 module _ {K V : Type 0} (eq : K → K → Bool) (same : (x y : K) → eq x y ≡ true → x ≡ y) where
   -- a new key goes last
@@ -40,9 +36,9 @@ first_within p (y ∷ xs) x h t =
     elim (cases_Bool (p y)) [
       | inl yes_here ↦ rw yes_here (omega arith)
       | inr not_here ↦ elim h [
-          | inl is ↦ absurd (clash (p y) (ap p (sym is) ∙ t) not_here)
-          | inr rest ↦ let before = first_within p xs x rest t in rw not_here (omega arith)
-        ]
+        | inl is ↦ absurd (clash (ap p (sym is) ∙ t) not_here)
+        | inr rest ↦ let before = first_within p xs x rest t in rw not_here (omega arith)
+      ]
     ]
 
 some_position : (a b : ℕ) (r : Option ℕ) → r ≡ cond (nat_lt a b) (Some a) None → a < b → r ≡ None → ⊥

@@ -1,16 +1,17 @@
 -- How far the exploration of a class has come: the arcs at the first places have handed on what they force.
-use Rattle.std.proofs.Common.{◌≡◌, ◌⊎◌, ◌↔◌, ℕ, zero, suc, ◌+◌, ◌*◌, ◌<◌, ◌≤◌, Bool, true, false, List, [], ◌∷◌, ◌++◌, map, length, slice_get, Some, refl, sym, ◌∙◌, ap, subst, inl, inr, arith}
-use Rattle.std.proofs.lemmas.Bool.{cases_Bool, cases_lt, cases_eq}
+use Rattle.std.proofs.Common.{◌≡◌, ◌⊎◌, ◌↔◌, ℕ, zero, suc, ◌+◌, ◌*◌, ◌<◌, ◌≤◌, Bool, true, List, [], ◌∷◌, ◌++◌, map, length, slice_get, Some, refl, sym, ◌∙◌, ap, subst, inl, inr, arith}
+use Rattle.std.proofs.lemmas.Bool.{cases_Bool, cases_lt}
 use Rattle.std.specs.FinSet as set
 use Rattle.std.specs.Map.{keys_of}
 use Rattle.md_graph.specs.declared.TheConstants.{NAMES}
-use Rattle.md_graph.specs.NameSet.{NameSet}
+use Rattle.md_graph.specs.Sets.{NameSet}
 use Rattle.md_graph.specs.Rows.{row_of}
+use Rattle.md_graph.proofs.SetLemmas.{clash}
 use Rattle.md_forcing.specs.declared.arc.Arc.{Arc}
 use Rattle.md_forcing.specs.Lists.{Holds, NoRepeats}
 use Rattle.md_forcing.specs.Forcing.{IsArc, ForcesDirectly, Reaches}
 use Rattle.md_forcing.specs.Seen.{IsSeen, IsClosed}
-use Rattle.md_forcing.specs.Classes.{IsForcedAt, IsClass, TakesClass}
+use Rattle.md_forcing.specs.Classes.{IsForcedAt, IsClass}
 use Rattle.md_forcing.specs.Turns.{IsTurn, placed_at}
 use Rattle.md_forcing.proofs.ListLemmas.{holds_left, holds_right, of_append, once_append, of_map, get_left, get_of_append, place_within, keys-append, key_at, place_of_key, same_some}
 use Rattle.md_forcing.proofs.NameLists.{few_arcs, length-keys}
@@ -24,9 +25,6 @@ pub record Exploring (e : ℕ → ℕ → Bool) (first : Arc) (start rows : List
   pub reached : (a : Arc) → Holds (keys_of es) a → Reaches e first a
   pub forced : (j p : ℕ) (a : Arc) → 0 < j → slice_get es j ≡ Some (a, p) → IsForcedAt e es j p a
   pub done : (j p : ℕ) (a b : Arc) → j < i → slice_get es j ≡ Some (a, p) → IsArc e b → ForcesDirectly e a b → IsSeen rows b
-
-not_both : (b : Bool) → b ≡ true → b ≡ false → ⊥
-not_both b x y = cc
 
 same_entry : (x y : Arc × ℕ) → Some x ≡ Some y → x ≡ y
 same_entry x y e = same_some x y e
@@ -78,18 +76,18 @@ module _ (e : ℕ → ℕ → Bool) (first : Arc) (start : List NameSet) where
 
     more_seen : (a : Arc) → IsSeen new_rows a ↔ (IsSeen start a ⊎ Holds (keys_of new) a)
     more_seen a = (
-        λ h. elim ((turn.taken a).0 h) [
-          | inl old ↦ elim ((before.seen a).0 old) [ inl s ↦ inl s | inr k ↦ inr (in_old a k) ]
-          | inr m ↦ inr (in_more a m)
-        ],
-        λ h. elim h [
-          | inl s ↦ (turn.taken a).1 (inl ((before.seen a).1 (inl s)))
-          | inr k ↦ elim (of_new a k) [
-              | inl old ↦ (turn.taken a).1 (inl ((before.seen a).1 (inr old)))
-              | inr m ↦ (turn.taken a).1 (inr m)
-            ]
-        ],
-      )
+      λ h. elim ((turn.taken a).0 h) [
+        | inl old ↦ elim ((before.seen a).0 old) [ inl s ↦ inl s | inr k ↦ inr (in_old a k) ]
+        | inr m ↦ inr (in_more a m)
+      ],
+      λ h. elim h [
+        | inl s ↦ (turn.taken a).1 (inl ((before.seen a).1 (inl s)))
+        | inr k ↦ elim (of_new a k) [
+          | inl old ↦ (turn.taken a).1 (inl ((before.seen a).1 (inr old)))
+          | inr m ↦ (turn.taken a).1 (inr m)
+        ]
+      ],
+    )
 
     more_fresh : (a : Arc) → Holds (keys_of new) a → IsSeen start a → ⊥
     more_fresh a h s =
@@ -139,7 +137,7 @@ module _ (e : ℕ → ℕ → Bool) (first : Arc) (start : List NameSet) where
     handed b is f =
         elim (cases_Bool (set.contains (row_of rows b.tail) b.head)) [
           | inl t ↦ (turn.taken b).1 (inl t)
-          | inr none ↦ (turn.taken b).1 (inr ((turn.exactly b).1 (is, f, λ t. not_both _ t none)))
+          | inr none ↦ (turn.taken b).1 (inr ((turn.exactly b).1 (is, f, λ t. clash t none)))
         ]
 
     more_done : (j p : ℕ) (a b : Arc) → j < i + 1 → slice_get new j ≡ Some (a, p) → IsArc e b → ForcesDirectly e a b → IsSeen new_rows b
@@ -147,12 +145,12 @@ module _ (e : ℕ → ℕ → Bool) (first : Arc) (start : List NameSet) where
         let within = place_within es i _ turn.stands in
         elim (at_new j p a s) [
           | inl old ↦ elim (cases_lt j i) [
-              | inl less ↦ (turn.taken b).1 (inl (before.done j p a b less old is f))
-              | inr not_less ↦
-                  let here : j ≡ i = omega arith in
-                  let same : (a, p) ≡ (turn.by, turn.its_place) = same_entry _ _ (sym old ∙ ap (slice_get es) here ∙ turn.stands) in
-                  handed b is (subst (λ x. ForcesDirectly e x b) (ap (λ x. x.0) same) f)
-            ]
+            | inl less ↦ (turn.taken b).1 (inl (before.done j p a b less old is f))
+            | inr not_less ↦
+                let here : j ≡ i = omega arith in
+                let same : (a, p) ≡ (turn.by, turn.its_place) = same_entry _ _ (sym old ∙ ap (slice_get es) here ∙ turn.stands) in
+                handed b is (subst (λ x. ForcesDirectly e x b) (ap (λ x. x.0) same) f)
+          ]
           | inr behind ↦ let far = behind.0 in absurd (omega arith)
         ]
 

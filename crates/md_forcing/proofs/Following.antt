@@ -1,11 +1,11 @@
 -- The places of a class followed from an arc back to the first.
-use Rattle.std.proofs.Common.{◌≡◌, ◌⊎◌, ℕ, zero, suc, ◌+◌, ◌<◌, ◌≤◌, Bool, List, [], ◌∷◌, ◌++◌, length, slice_get, Some, None, Option, IfNone, Result, Ok, Err, IfOk, refl, sym, ◌∙◌, ap, subst, inl, inr, arith, reverse as back_to_front}
+use Rattle.std.proofs.Common.{◌≡◌, ℕ, ◌<◌, Bool, List, [], ◌∷◌, ◌++◌, length, slice_get, Some, None, Option, IfNone, Result, Ok, Err, IfOk, sym, ◌∙◌, ap, subst, inl, inr, arith, reverse as back_to_front}
 use Rattle.std.proofs.lemmas.List.{reverse-append}
 use Rattle.std.specs.Map.{keys_of}
 use Rattle.md_forcing.specs.declared.arc.Arc.{Arc}
 use Rattle.md_forcing.specs.Lists.{Holds, NoRepeats}
-use Rattle.md_forcing.specs.Forcing.{reverse, IsArc, ForcesDirectly, Leads, Reaches, IsListToReverse}
-use Rattle.md_forcing.specs.Classes.{IsForcedAt, IsClass}
+use Rattle.md_forcing.specs.Forcing.{reverse, ForcesDirectly, Leads, IsListToReverse}
+use Rattle.md_forcing.specs.Classes.{IsClass}
 use Rattle.md_forcing.proofs.ListLemmas.{key_at, one_place, place_within, same_some}
 use Rattle.md_forcing.proofs.Reaching.{reached_arc}
 

@@ -1,6 +1,5 @@
 -- What lists hold: appended, mapped, by place.
-use Rattle.std.proofs.Common.{◌≡◌, ◌≢◌, ◌⊎◌, ℕ, zero, suc, ◌+◌, ◌-◌, ◌*◌, ◌<◌, ◌≤◌, List, [], ◌∷◌, ◌++◌, map, length, slice_get, Option, Some, None, refl, sym, ◌∙◌, ap, subst, inl, inr, arith, true≢false, Bool, true, false, append-nil}
-use Rattle.std.proofs.lemmas.Bool.{cases_Bool}
+use Rattle.std.proofs.Common.{◌≡◌, ◌⊎◌, ℕ, zero, suc, ◌<◌, ◌≤◌, List, [], ◌∷◌, ◌++◌, map, length, slice_get, Option, Some, refl, sym, ap, subst, inl, inr, arith}
 use Rattle.std.specs.Map.{keys_of}
 use Rattle.md_forcing.specs.Lists.{Holds, NoRepeats}
 
@@ -25,9 +24,9 @@ module _ {X : Type 0} where
   pub once_append : (xs ys : List X) → NoRepeats xs → NoRepeats ys → ((x : X) → Holds xs x → Holds ys x → ⊥) → NoRepeats (xs ++ ys)
   once_append [] ys a b apart = b
   once_append (x ∷ xs) ys a b apart = (
-      λ h. elim (of_append xs ys x h) [ inl l ↦ a.0 l | inr r ↦ apart x (inl refl) r ],
-      once_append xs ys a.1 b (λ y l r. apart y (inr l) r),
-    )
+    λ h. elim (of_append xs ys x h) [ inl l ↦ a.0 l | inr r ↦ apart x (inl refl) r ],
+    once_append xs ys a.1 b (λ y l r. apart y (inr l) r),
+  )
 
   pub once_push : (xs : List X) (x : X) → NoRepeats xs → (Holds xs x → ⊥) → NoRepeats (xs ++ x ∷ [])
   once_push xs x a new = once_append xs (x ∷ []) a (λ h. h, tt) (λ y l r. elim r [ inl e ↦ new (subst (Holds xs) e l) | inr h ↦ absurd h ])
@@ -83,9 +82,9 @@ module _ {X Y : Type 0} (f : X → Y) where
   pub once_map : (xs : List X) → ((x z : X) → Holds xs x → Holds xs z → f x ≡ f z → x ≡ z) → NoRepeats xs → NoRepeats (map f xs)
   once_map [] same once = tt
   once_map (x ∷ xs) same once = (
-      λ h. let other = of_map xs (f x) h in once.0 (subst (Holds xs) (sym (same x other.0 (inl refl) (inr other.1) other.2)) other.1),
-      once_map xs (λ z w l r e. same z w (inr l) (inr r) e) once.1,
-    )
+    λ h. let other = of_map xs (f x) h in once.0 (subst (Holds xs) (sym (same x other.0 (inl refl) (inr other.1) other.2)) other.1),
+    once_map xs (λ z w l r e. same z w (inr l) (inr r) e) once.1,
+  )
 
 -- ---- keys
 

@@ -1,8 +1,9 @@
 -- A loop that pushes an entry for each member of a set behind the entries of a class.
-use Rattle.std.proofs.Common.{◌≡◌, ◌⊎◌, ℕ, List, [], ◌∷◌, ◌++◌, map, append_assoc, append-nil, refl, sym, ◌∙◌, ap, subst, inl, inr}
+use Rattle.std.proofs.Common.{◌≡◌, ℕ, List, [], ◌∷◌, ◌++◌, map, append_assoc, append-nil, refl, sym, ◌∙◌, ap, subst, inl, inr}
 use Rattle.std.specs.Map.{keys_of}
 use Rattle.md_graph.specs.declared.TheConstants.{NAMES}
-use Rattle.md_graph.specs.NameSet.{NameSet, Member as Has, ascending}
+use Rattle.md_graph.specs.Sets.{NameSet, Has}
+use Rattle.md_graph.specs.NameSet.{ascending}
 use Rattle.md_forcing.specs.declared.arc.Arc.{Arc}
 use Rattle.md_forcing.specs.Lists.{Holds, NoRepeats}
 use Rattle.md_forcing.proofs.ListLemmas.{of_append, keys-append}
@@ -33,9 +34,9 @@ module _ (entry : ℕ → Arc × ℕ) (names : NameSet) (start : List (Arc × �
         fresh = λ w h k. elim (of_append (keys_of now) ((entry x).0 ∷ []) (entry w).0 (subst (λ l. Holds l (entry w).0) (ap keys_of made ∙ keys-append now (entry x ∷ [])) k)) [
           | inl old ↦ before.fresh w (subst (λ l. Holds l w) (sym is) (inr h)) old
           | inr last ↦ elim last [
-              | inl e ↦ whole_once.0 (subst (Holds rest) (same w x e) h)
-              | inr none ↦ none
-            ]
+            | inl e ↦ whole_once.0 (subst (Holds rest) (same w x e) h)
+            | inr none ↦ none
+          ]
         ];
         once = whole_once.1;
       }

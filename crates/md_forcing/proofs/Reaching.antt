@@ -1,7 +1,7 @@
 -- Direct forcing and reaching.
-use Rattle.std.proofs.Common.{◌≡◌, ◌≢◌, ◌⊎◌, ℕ, Bool, true, false, List, [], ◌∷◌, ◌++◌, refl, sym, ◌∙◌, ap, subst, inl, inr}
+use Rattle.std.proofs.Common.{◌≡◌, ℕ, Bool, List, [], ◌∷◌, ◌++◌, refl, sym, ◌∙◌, subst, inl, inr}
 use Rattle.md_forcing.specs.declared.arc.Arc.{Arc}
-use Rattle.md_forcing.specs.Forcing.{arc, reverse, IsArc, ForceAtTail, ForceAtHead, ForcesDirectly, Leads, Reaches}
+use Rattle.md_forcing.specs.Forcing.{reverse, IsArc, ForcesDirectly, Leads, Reaches}
 
 abbrev pub Symmetric : (ℕ → ℕ → Bool) → Type 0
 Symmetric e = (u v : ℕ) → e u v ≡ e v u

@@ -1,20 +1,18 @@
 -- Rows of arcs after more arcs are taken in.
-use Rattle.std.proofs.Common.{◌≡◌, ◌≢◌, ◌⊎◌, ◌↔◌, ℕ, ◌<◌, ◌≤◌, Bool, true, false, cond, ◌&&◌, ◌||◌, ◌==◌, List, length, get_or, take, drop, ◌++◌, set, refl, sym, ◌∙◌, ap, subst, inl, inr, arith}
+use Rattle.std.proofs.Common.{◌≡◌, ◌⊎◌, ◌↔◌, ℕ, ◌<◌, ◌≤◌, Bool, true, false, cond, ◌&&◌, ◌||◌, ◌==◌, List, length, get_or, set, refl, sym, ◌∙◌, ap, subst, inl, inr, arith}
 use Rattle.std.proofs.lemmas.Bool.{cases_Bool, cases_eq, cases_lt, eq-eqb, ne_eqb, eqb-true, and_parts, or_left, or_right}
 use Rattle.std.proofs.lemmas.List.{get_or_read, get_or_past, length-set}
 use Rattle.std.specs.List.{refill}
 use Rattle.std.specs.FinSet as set
 use Rattle.md_graph.specs.declared.TheConstants.{NAMES}
-use Rattle.md_graph.specs.NameSet.{NameSet, Member as Has}
+use Rattle.md_graph.specs.Sets.{NameSet, Has}
 use Rattle.md_graph.specs.Rows.{row_of}
 use Rattle.md_graph.proofs.RowLemmas.{contains-set_row, refilled}
 use Rattle.md_graph.proofs.SetLaws.{contains-empty, contains-insert, contains-union}
+use Rattle.md_graph.proofs.SetLemmas.{clash}
 use Rattle.md_forcing.specs.declared.arc.Arc.{Arc}
 use Rattle.md_forcing.specs.Forcing.{arc}
 use Rattle.md_forcing.specs.Seen.{IsSeen, AreTurned}
-
-clash : {A : Type 0} (b : Bool) → b ≡ true → b ≡ false → A
-clash b x y = cc
 
 or_none : (b : Bool) → (b || false) ≡ b
 or_none true = refl
@@ -69,15 +67,15 @@ turned_added t a b a_new b_new is a_len b_len more more_turned = record {
 
 seen_added : (t : ℕ → ℕ → Bool) (P : Arc → Type 0) → ((x : Arc) → (t x.tail x.head ≡ true) ↔ P x) → (a now new : List NameSet) → a ≡ now → Adds a t new → (x : Arc) → IsSeen new x ↔ (IsSeen now x ⊎ P x)
 seen_added t P same a now new is more x = (
-    λ h. elim (of_or _ _ (sym (more x.tail x.head) ∙ h)) [
-      | inl old ↦ inl (subst (λ r. IsSeen r x) is old)
-      | inr added ↦ inr ((same x).0 added)
-    ],
-    λ h. more x.tail x.head ∙ elim h [
-      | inl old ↦ or_left _ _ (subst (λ r. IsSeen r x) (sym is) old)
-      | inr added ↦ or_right _ _ ((same x).1 added)
-    ],
-  )
+  λ h. elim (of_or _ _ (sym (more x.tail x.head) ∙ h)) [
+    | inl old ↦ inl (subst (λ r. IsSeen r x) is old)
+    | inr added ↦ inr ((same x).0 added)
+  ],
+  λ h. more x.tail x.head ∙ elim h [
+    | inl old ↦ or_left _ _ (subst (λ r. IsSeen r x) (sym is) old)
+    | inr added ↦ or_right _ _ ((same x).1 added)
+  ],
+)
 
 -- ---- one arc
 
@@ -94,9 +92,9 @@ put_head rows u v new old below is read y x =
 
 put_same : (u v : ℕ) (x : Arc) → (put_test u v x.tail x.head ≡ true) ↔ (x ≡ arc u v)
 put_same u v x = (
-    λ h. let parts = and_parts (x.tail == u) (x.head == v) h in λ i. record { tail = eqb-true x.tail u parts.0 i; head = eqb-true x.head v parts.1 i },
-    λ e. rw (eq-eqb x.tail u (ap (λ a. a.tail) e), eq-eqb x.head v (ap (λ a. a.head) e)) refl,
-  )
+  λ h. let parts = and_parts (x.tail == u) (x.head == v) h in λ i. record { tail = eqb-true x.tail u parts.0 i; head = eqb-true x.head v parts.1 i },
+  λ e. rw (eq-eqb x.tail u (ap (λ a. a.tail) e), eq-eqb x.head v (ap (λ a. a.head) e)) refl,
+)
 
 pub put_turned : (a b now : List NameSet) (u v : ℕ) → AreTurned a b → a ≡ now → u < length now → v < length now → (new_u old_u new_v old_v : NameSet) → new_u ≡ set.insert old_u v → old_u ≡ get_or a u old_u → new_v ≡ set.insert old_v u → old_v ≡ get_or b v old_v → AreTurned (set a u new_u) (set b v new_v)
 put_turned a b now u v is same room_u room_v new_u old_u new_v old_v is_u read_u is_v read_v =
@@ -128,9 +126,9 @@ turned_row n rows old ws names k len same kept each =
 
 row_same : (k : ℕ) (names : NameSet) (u v : ℕ) → (row_test k names u v ≡ true) ↔ ((u ≡ k) × Has names v)
 row_same k names u v = (
-    λ h. let parts = and_parts (u == k) (set.contains names v) h in (eqb-true u k parts.0, parts.1),
-    λ p. rw (eq-eqb u k p.0, p.1) refl,
-  )
+  λ h. let parts = and_parts (u == k) (set.contains names v) h in (eqb-true u k parts.0, parts.1),
+  λ p. rw (eq-eqb u k p.0, p.1) refl,
+)
 
 module _ (a b now : List NameSet) (k : ℕ) (names : NameSet) (is : AreTurned a b) (same : a ≡ now) (room : k < length now) (new old : NameSet) (made : new ≡ set.union old names) where
   module _ (read : old ≡ get_or a k old) where
@@ -167,7 +165,7 @@ turned_none a b n few len_a len_b none_a none_b = record {
 }
 
 pub none_seen : (rows : List NameSet) → ((v : ℕ) → row_of rows v ≡ set.empty) → (a : Arc) → IsSeen rows a → ⊥
-none_seen rows none a h = clash (set.contains (row_of rows a.tail) a.head) h (ap (λ s. set.contains s a.head) (none a.tail) ∙ contains-empty a.head)
+none_seen rows none a h = clash h (ap (λ s. set.contains s a.head) (none a.tail) ∙ contains-empty a.head)
 
 -- ---- where seen arcs end
 
@@ -175,7 +173,7 @@ row_within : (rows : List NameSet) (u v : ℕ) → Has (row_of rows u) v → u <
 row_within rows u v h =
     elim (cases_lt u (length rows)) [
       | inl below ↦ below
-      | inr past ↦ clash (set.contains (row_of rows u) v) h (ap (λ s. set.contains s v) (get_or_past rows u set.empty past) ∙ contains-empty v)
+      | inr past ↦ clash h (ap (λ s. set.contains s v) (get_or_past rows u set.empty past) ∙ contains-empty v)
     ]
 
 pub tail_within : (rows : List NameSet) (a : Arc) → IsSeen rows a → a.tail < length rows

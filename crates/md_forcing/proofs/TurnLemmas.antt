@@ -1,9 +1,10 @@
 -- A turn of the exploration: what the arc at hand forces and isn't seen is pushed, and taken in.
-use Rattle.std.proofs.Common.{◌≡◌, ◌≢◌, ◌⊎◌, ◌↔◌, ℕ, ◌<◌, Bool, true, false, List, [], ◌∷◌, ◌++◌, map, append_assoc, slice_get, Some, refl, sym, ◌∙◌, ap, subst, inl, inr}
+use Rattle.std.proofs.Common.{◌≡◌, ◌⊎◌, ◌↔◌, ℕ, ◌<◌, Bool, true, List, [], ◌∷◌, ◌++◌, map, append_assoc, slice_get, Some, refl, sym, ◌∙◌, ap, subst, inl, inr}
 use Rattle.std.proofs.lemmas.List.{map-append}
 use Rattle.std.specs.Map.{keys_of}
 use Rattle.md_graph.specs.declared.TheConstants.{NAMES}
-use Rattle.md_graph.specs.NameSet.{NameSet, Member as Has, ascending}
+use Rattle.md_graph.specs.Sets.{NameSet, Has}
+use Rattle.md_graph.specs.NameSet.{ascending}
 use Rattle.md_forcing.specs.declared.arc.Arc.{Arc}
 use Rattle.md_forcing.specs.Lists.{Holds, NoRepeats}
 use Rattle.md_forcing.specs.Forcing.{arc, IsArc, ForceAtTail, ForceAtHead, ForcesDirectly}
@@ -82,31 +83,31 @@ module _ (e : ℕ → ℕ → Bool) (names : (u v : ℕ) → e u v ≡ true → 
 
   found_exactly : (b : Arc) → Holds found_arcs b ↔ IsNew b
   found_exactly b = (
-      λ h. elim (of_append from_tail to_head b h) [
-        | inl l ↦
-            let p = of_heads b l in
-            let same : arc by.tail b.head ≡ b = λ i. record { tail = sym p.0 i; head = b.head } in
-            let w = (is_heads b.head).0 p.1 in
-            subst IsNew same (w.0, inl w.1, w.2)
-        | inr r ↦
-            let p = of_tails b r in
-            let same : arc b.tail by.head ≡ b = λ i. record { tail = b.tail; head = sym p.0 i } in
-            let w = (is_tails b.tail).0 p.1 in
-            subst IsNew same (w.0, inr w.1, w.2)
-      ],
-      λ n. elim n.1 as (λ _. Holds found_arcs b) [
-        | inl f ↦
-            let same : b ≡ arc by.tail b.head = λ i. record { tail = sym f.0 i; head = b.head } in
-            let P : Arc → Type 0 = λ x. IsArc e x × ForceAtTail e by x × (IsSeen seen x → ⊥) in
-            let at_tail : P (arc by.tail b.head) = subst P same (n.0, f, n.2) in
-            holds_left from_tail to_head b (in_heads b (sym f.0, (is_heads b.head).1 at_tail))
-        | inr f ↦
-            let same : b ≡ arc b.tail by.head = λ i. record { tail = b.tail; head = sym f.0 i } in
-            let P : Arc → Type 0 = λ x. IsArc e x × ForceAtHead e by x × (IsSeen seen x → ⊥) in
-            let at_head : P (arc b.tail by.head) = subst P same (n.0, f, n.2) in
-            holds_right from_tail to_head b (in_tails b (sym f.0, (is_tails b.tail).1 at_head))
-      ],
-    )
+    λ h. elim (of_append from_tail to_head b h) [
+      | inl l ↦
+          let p = of_heads b l in
+          let same : arc by.tail b.head ≡ b = λ i. record { tail = sym p.0 i; head = b.head } in
+          let w = (is_heads b.head).0 p.1 in
+          subst IsNew same (w.0, inl w.1, w.2)
+      | inr r ↦
+          let p = of_tails b r in
+          let same : arc b.tail by.head ≡ b = λ i. record { tail = b.tail; head = sym p.0 i } in
+          let w = (is_tails b.tail).0 p.1 in
+          subst IsNew same (w.0, inr w.1, w.2)
+    ],
+    λ n. elim n.1 as (λ _. Holds found_arcs b) [
+      | inl f ↦
+          let same : b ≡ arc by.tail b.head = λ i. record { tail = sym f.0 i; head = b.head } in
+          let P : Arc → Type 0 = λ x. IsArc e x × ForceAtTail e by x × (IsSeen seen x → ⊥) in
+          let at_tail : P (arc by.tail b.head) = subst P same (n.0, f, n.2) in
+          holds_left from_tail to_head b (in_heads b (sym f.0, (is_heads b.head).1 at_tail))
+      | inr f ↦
+          let same : b ≡ arc b.tail by.head = λ i. record { tail = b.tail; head = sym f.0 i } in
+          let P : Arc → Type 0 = λ x. IsArc e x × ForceAtHead e by x × (IsSeen seen x → ⊥) in
+          let at_head : P (arc b.tail by.head) = subst P same (n.0, f, n.2) in
+          holds_right from_tail to_head b (in_tails b (sym f.0, (is_tails b.tail).1 at_head))
+    ],
+  )
 
   found_longer : (place : ℕ) (old mid new : List (Arc × ℕ)) → mid ≡ old ++ map (tail_entry by.tail place) (ascending heads) → new ≡ mid ++ map (head_entry by.head place) (ascending tails) → new ≡ old ++ map (placed_at place) found_arcs
   found_longer place old mid new first second =
@@ -118,21 +119,21 @@ module _ (e : ℕ → ℕ → Bool) (names : (u v : ℕ) → e u v ≡ true → 
 
   found_taken : (mid new : List NameSet) → ((a : Arc) → IsSeen mid a ↔ (IsSeen seen a ⊎ ((a.tail ≡ by.tail) × Has heads a.head))) → ((a : Arc) → IsSeen new a ↔ (IsSeen mid a ⊎ ((a.head ≡ by.head) × Has tails a.tail))) → (b : Arc) → IsSeen new b ↔ (IsSeen seen b ⊎ Holds found_arcs b)
   found_taken mid new first second b = (
-      λ h. elim ((second b).0 h) [
-        | inl m ↦ elim ((first b).0 m) [
-            | inl old ↦ inl old
-            | inr p ↦ inr (holds_left from_tail to_head b (in_heads b p))
-          ]
-        | inr p ↦ inr (holds_right from_tail to_head b (in_tails b p))
-      ],
-      λ h. elim h [
-        | inl old ↦ (second b).1 (inl ((first b).1 (inl old)))
-        | inr more ↦ elim (of_append from_tail to_head b more) [
-            | inl l ↦ (second b).1 (inl ((first b).1 (inr (of_heads b l))))
-            | inr r ↦ (second b).1 (inr (of_tails b r))
-          ]
-      ],
-    )
+    λ h. elim ((second b).0 h) [
+      | inl m ↦ elim ((first b).0 m) [
+        | inl old ↦ inl old
+        | inr p ↦ inr (holds_left from_tail to_head b (in_heads b p))
+      ]
+      | inr p ↦ inr (holds_right from_tail to_head b (in_tails b p))
+    ],
+    λ h. elim h [
+      | inl old ↦ (second b).1 (inl ((first b).1 (inl old)))
+      | inr more ↦ elim (of_append from_tail to_head b more) [
+        | inl l ↦ (second b).1 (inl ((first b).1 (inr (of_heads b l))))
+        | inr r ↦ (second b).1 (inr (of_tails b r))
+      ]
+    ],
+  )
 
   pub found_turn : (place its_place : ℕ) (old mid new : List (Arc × ℕ)) (mid_seen new_seen : List NameSet) → slice_get old place ≡ Some (by, its_place) → mid ≡ old ++ map (tail_entry by.tail place) (ascending heads) → new ≡ mid ++ map (head_entry by.head place) (ascending tails) → ((a : Arc) → IsSeen mid_seen a ↔ (IsSeen seen a ⊎ ((a.tail ≡ by.tail) × Has heads a.head))) → ((a : Arc) → IsSeen new_seen a ↔ (IsSeen mid_seen a ⊎ ((a.head ≡ by.head) × Has tails a.tail))) → IsTurn e place seen old new_seen new
   found_turn place its_place old mid new mid_seen new_seen stands first second taken_first taken_second = record {

@@ -2,7 +2,7 @@
 -- Source: Golumbic, Algorithmic Graph Theory and Perfect Graphs, chapter 5.
 use Rattle.std.specs.Prelude.{◌≡◌, ◌<◌, ◌⊎◌, ◌↔◌, ℕ, Bool, List, Some, slice_get}
 use Rattle.std.specs.Map.{keys_of}
-use Rattle.md_graph.specs.NameSet.{NameSet}
+use Rattle.md_graph.specs.Sets.{NameSet}
 use Rattle.md_forcing.specs.declared.arc.Arc.{Arc}
 use Rattle.md_forcing.specs.Lists.{Holds, NoRepeats}
 use Rattle.md_forcing.specs.Forcing.{ForcesDirectly, Reaches}

@@ -135,3 +135,84 @@ pub fn chain_of(alloc: Global, class: &Class) -> Result<Option<Chain>, Memory>
     list.reverse();
     Ok(Some(Chain { list }))
 }
+
+#[cfg(test)]
+mod tests {
+    use super::*;
+    use crate::close;
+    use std::process::Abort;
+    use std::test::Fail;
+
+    // The graph on the names below `n` with these edges.
+    fn made(rt: &impl Abort, alloc: Global, n: u32, edges: &[(u32, u32)]) -> Result<Graph, Memory> {
+        let mut graph = Graph::new(alloc)?;
+        for v in 0..n {
+            assert!(rt; v < 4096 && !graph.has_vertex(v));
+            graph.add_vertex(v);
+        }
+        for (u, v) in edges {
+            assert!(rt; *u != *v);
+            assert!(rt; graph.has_vertex(*u));
+            assert!(rt; graph.has_vertex(*v));
+            assert!(rt; !graph.has_edge(*u, *v));
+            graph.add_edge(*u, *v);
+        }
+        Ok(graph)
+    }
+
+    // Sees how many arcs 0>1 reaches, what the second of them is, and how long the list to 1>0 is: 0 where there is none.
+    fn expect(
+        rt: &impl Abort,
+        alloc: Global,
+        edges: &[(u32, u32)],
+        arcs: u64,
+        second: Arc,
+        steps: u64,
+    ) -> Result<(), Memory> {
+        let graph = made(rt, alloc, 6, edges)?;
+        assert!(rt; graph.has_edge(0, 1));
+        let first = Arc { tail: 0, head: 1 };
+        let class = close(alloc, &graph, first)?;
+        assert_eq!(rt; class.len(), arcs);
+        if arcs > 1 {
+            assert_eq!(rt; class.get(1), second);
+        }
+        match chain_to_reverse(alloc, &graph, &class)? {
+            Some(chain) => {
+                assert_eq!(rt; chain.len(), steps);
+                assert!(rt; steps > 0);
+                assert_eq!(rt; chain.get(0), first);
+                assert_eq!(rt; chain.get(steps - 1), Arc { tail: 1, head: 0 });
+            }
+            None => assert_eq!(rt; steps, 0),
+        }
+        Ok(())
+    }
+
+    #[test]
+    fn classes_and_chains(rt: HostRuntime) -> Result<(), Fail> {
+        let path = [(0, 1), (1, 2)];
+        let triangle = [(0, 1), (1, 2), (0, 2)];
+        let cycle = [(0, 1), (1, 2), (2, 3), (3, 4), (0, 4)];
+        let tail = [(0, 2), (2, 4), (4, 5), (3, 5), (0, 3), (0, 1)];
+        let none = Arc { tail: 0, head: 0 };
+        expect(&rt, rt.alloc(), &path, 2, Arc { tail: 2, head: 1 }, 0)?;
+        expect(&rt, rt.alloc(), &triangle, 1, none, 0)?;
+        expect(&rt, rt.alloc(), &cycle, 10, Arc { tail: 0, head: 4 }, 6)?;
+        expect(&rt, rt.alloc(), &tail, 12, Arc { tail: 0, head: 2 }, 7)?;
+        Ok(())
+    }
+
+    #[test]
+    fn lists_of_arcs(rt: HostRuntime) -> Result<(), Fail> {
+        let a = Arc { tail: 0, head: 1 };
+        let b = Arc { tail: 2, head: 1 };
+        let arcs = Arcs::from_list(vec![in rt.alloc(); a, b]?);
+        assert_eq!(rt; arcs.len(), 2);
+        assert_eq!(rt; arcs.get(1), b);
+        let chain = Chain::from_list(vec![in rt.alloc(); b, a]?);
+        assert_eq!(rt; chain.len(), 2);
+        assert_eq!(rt; chain.get(1), a);
+        Ok(())
+    }
+}

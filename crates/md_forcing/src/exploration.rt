@@ -1,7 +1,8 @@
 //! The exploration of a class.
 ghost use Rattle.std.specs.Prelude.{◌≡◌, ◌++◌, ℕ, ◌<◌, ◌≤◌, ◌^◌, length, map, IfOk, OnOk};
 ghost use Rattle.std.specs.Map.{keys_of};
-ghost use Rattle.md_graph.specs.NameSet.{Member as Has, ascending};
+ghost use Rattle.md_graph.specs.Sets.{Has};
+ghost use Rattle.md_graph.specs.NameSet.{ascending};
 ghost use Rattle.md_graph.specs.PlainGraph.{adjacent};
 ghost use Rattle.md_forcing.specs.declared.arc.Arc.{Arc};
 ghost use Rattle.md_forcing.specs.Lists.{Holds};

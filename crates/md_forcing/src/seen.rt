@@ -1,7 +1,7 @@
 //! Sets of arcs, as rows of heads and rows of tails.
 ghost use Rattle.std.specs.Prelude.{◌≡◌, ℕ, ◌<◌, ◌≤◌, ◌⊎◌, ◌↔◌, true, false, length, IfOk};
 ghost use Rattle.std.specs.FinSet as set;
-ghost use Rattle.md_graph.specs.NameSet.{Member as Has};
+ghost use Rattle.md_graph.specs.Sets.{Has};
 ghost use Rattle.md_graph.specs.Rows.{row_of};
 ghost use Rattle.md_forcing.specs.declared.arc.Arc.{Arc};
 ghost use Rattle.md_forcing.specs.Forcing.{arc, IsArc, ForceAtTail, ForceAtHead};
@@ -30,7 +30,7 @@ pub struct Seen {
 
 impl Model for Seen {
     ghost use Rattle.std.specs.Prelude.{List};
-    ghost use Rattle.md_graph.specs.NameSet.{NameSet};
+    ghost use Rattle.md_graph.specs.Sets.{NameSet};
 
     ghost Value = { List NameSet };
 
@@ -185,14 +185,7 @@ fn size_over(graph: &Graph) -> u32
 
 // Puts into `into` the names outside `known` that, on this side, `here` is adjacent to and `there` isn't. Conditions:
 // `here` and `there` are adjacent, and `there` is known.
-fn apart(
-    graph: &Graph,
-    side: Side,
-    here: u32,
-    there: u32,
-    known: &Names,
-    into: &mut Names,
-)
+fn apart(graph: &Graph, side: Side, here: u32, there: u32, known: &Names, into: &mut Names)
     requires adjacent { adjacent_on side graph.now here there ≡ true }
     requires known { Has known.now there }
     ensures { (w : ℕ) → Has into.new w ↔ ((adjacent_on side graph.now here w ≡ true)

@@ -1,6 +1,6 @@
 use Rattle.std.proofs.Common.{◌∙◌, ap, sym, subst, refl, arith, reverse as back_to_front}
 use Rattle.md_forcing.specs.Forcing.{reverse}
-use Rattle.md_forcing.proofs.Following.{Following, following_start, following_more, followed, not_held, has_first}
+use Rattle.md_forcing.proofs.Following.{Following, following_start, following_more, followed, has_first}
 use Rattle.md_forcing.proofs.chain.chain_of.Goals as goal
 
 pub entry-requires : goal.entry-requires

@@ -1,5 +1,4 @@
-use Rattle.std.proofs.Common.{◌∙◌, ◌<◌, ◌*◌, ◌++◌, ◌∷◌, [], ap, length, arith}
-use Rattle.md_graph.specs.declared.TheConstants.{NAMES}
+use Rattle.std.proofs.Common.{◌∙◌, ◌++◌, ◌∷◌, [], ap, arith}
 use Rattle.md_forcing.specs.Sides.{adjacent_on}
 use Rattle.md_forcing.proofs.Limits.{names_squared}
 use Rattle.md_forcing.proofs.OneSide.{arc_within, side_names, side_symmetric}

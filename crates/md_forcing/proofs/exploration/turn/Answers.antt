@@ -1,9 +1,6 @@
-use Rattle.std.proofs.Common.{ℕ, ◌≡◌, ◌∙◌, ◌<◌, sym, subst, true, length}
-use Rattle.md_graph.specs.declared.TheConstants.{NAMES}
-use Rattle.md_forcing.specs.declared.arc.Arc.{Arc}
-use Rattle.md_forcing.specs.Forcing.{arc, IsArc}
+use Rattle.std.proofs.Common.{◌∙◌, ◌<◌, sym, subst}
+use Rattle.md_forcing.specs.Forcing.{arc}
 use Rattle.md_forcing.specs.Sides.{adjacent_on}
-use Rattle.md_forcing.specs.Seen.{IsSeen}
 use Rattle.md_forcing.proofs.ListLemmas.{key_at}
 use Rattle.md_forcing.proofs.OneSide.{side_names, arc_within}
 use Rattle.md_forcing.proofs.TurnLemmas.{found_turn, heads_fresh, tails_fresh}

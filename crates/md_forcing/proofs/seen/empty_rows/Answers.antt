@@ -1,6 +1,5 @@
 use Rattle.std.proofs.Common.{◌∙◌, ap, length, arith}
 use Rattle.std.proofs.lemmas.List.{length-replicate}
-use Rattle.std.specs.FinSet as set
 use Rattle.md_graph.specs.Rows.{row_of}
 use Rattle.md_graph.proofs.RowLemmas.{row_of-replicate}
 use Rattle.md_forcing.proofs.seen.empty_rows.Goals as goal

@@ -1,5 +1,5 @@
 use Rattle.std.proofs.Common.{sym, subst}
-use Rattle.md_graph.specs.NameSet.{Member as Has}
+use Rattle.md_graph.specs.Sets.{Has}
 use Rattle.md_forcing.specs.Sides.{adjacent_on}
 use Rattle.md_forcing.proofs.SeenRows.{tail_within}
 use Rattle.md_forcing.proofs.OneSide.{unseen_at_tail}
