@@ -7,3 +7,6 @@ pub mod Chosen
 pub mod Cutting
 pub mod Alternative
 pub mod OneList
+pub mod Near
+pub mod Choosing
+pub mod WalkLemmas

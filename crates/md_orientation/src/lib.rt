@@ -2,4 +2,7 @@
 //! edge.
 #![tactic(auto)]
 
+mod edge_walk;
 pub mod laws;
+
+pub use edge_walk::{Ending, walk};
