@@ -1,6 +1,6 @@
 use Rattle.md_script.proofs.ChangeLemmas.{vertex_added}
-use Rattle.md_session.proofs.BackLemmas.{added_is_there, deleted_is_absent, added_edge_back, deleted_edge_back, added_is_vertex, added_vertex_back, deleted_is_no_vertex, row_are_vertices, row_has_no_loop, deleted_vertex_back}
-use Rattle.md_session.proofs.undo.take_back.Goals as goal
+use Rattle.md_script.proofs.BackLemmas.{added_is_there, deleted_is_absent, added_edge_back, deleted_edge_back, added_is_vertex, added_vertex_back, deleted_is_no_vertex, row_are_vertices, row_has_no_loop, deleted_vertex_back}
+use Rattle.md_script.proofs.undo.take_back.Goals as goal
 
 pub remove_edge-requires : goal.remove_edge-requires
 remove_edge-requires c = added_is_there _ _ c.args.row.now _ _ c.in-AddEdge.is c.requires

@@ -18,7 +18,7 @@ use Rattle.md_script.specs.declared.edit.Edit.TheVariants.{AddEdge, DelEdge, Add
 use Rattle.md_script.specs.declared.edit.EditReason.{EditReason}
 use Rattle.md_script.specs.Edit.{reason_of}
 use Rattle.md_script.proofs.ChangeLemmas.{neighbours_are_vertices, after_is_graph, vertex_added}
-use Rattle.md_session.specs.TakenBack.{Led}
+use Rattle.md_script.specs.TakenBack.{Led}
 
 -- ---- sets
 

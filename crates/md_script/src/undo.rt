@@ -2,13 +2,14 @@
 ghost use Rattle.std.specs.Prelude.{◌≡◌};
 ghost use Rattle.md_graph.specs.PlainGraph.{PlainGraph, IsGraph};
 ghost use Rattle.md_script.specs.Edit.{HasNames};
-ghost use Rattle.md_session.specs.TakenBack.{lost_row, Led};
+ghost use Rattle.md_script.specs.TakenBack.{lost_row, Led};
 
+use crate::Edit;
 use md_graph::{Graph, Names};
-use md_script::Edit;
 
-// The neighbours of the vertex that an edit leaves out, none where it leaves out no vertex.
-pub(crate) fn row_at(graph: &Graph, edit: &Edit) -> Names
+/// The neighbours of the vertex that an edit leaves out, none where it leaves out no vertex: what
+/// `take_back` wants to know once the edit is applied.
+pub fn lost_row(graph: &Graph, edit: &Edit) -> Names
     requires { HasNames edit.now }
     ensures row { result ≡ lost_row graph.now edit.now }
     ensures graph { IsGraph graph.now }
@@ -20,8 +21,9 @@ pub(crate) fn row_at(graph: &Graph, edit: &Edit) -> Names
     }
 }
 
-// Takes an edit back that led from some graph to this one. Condition: `row` is the row that the edit took away.
-pub(crate) fn take_back(graph: &mut Graph, edit: &Edit, row: &Names)
+/// Takes an edit back that led from some graph to this one: the graph is then that one. Takes no
+/// memory. Condition: `row` is what `lost_row` gave before the edit.
+pub fn take_back(graph: &mut Graph, edit: &Edit, row: &Names)
     requires { (g : PlainGraph) × Led g edit.now row.now graph.old }
     ensures { (g : PlainGraph) → Led g edit.now row.now graph.old → graph.new ≡ g }
 {
