@@ -1,16 +1,17 @@
 -- Facts of graphs that callers may cite.
-use Rattle.std.specs.Prelude.{◌≡◌, ℕ, zero, suc, ◌<◌, ◌≢◌, min, max, Bool, true, false, not, ◌&&◌, ◌||◌, ◌==◌, nat_lt, nat_le, List, [], ◌∷◌, ◌++◌, map, length, refl}
+use Rattle.std.specs.Prelude.{◌≡◌, ℕ, zero, suc, ◌+◌, ◌<◌, ◌≤◌, ◌≢◌, min, max, Bool, true, false, not, ◌&&◌, ◌||◌, ◌==◌, nat_lt, nat_le, List, [], ◌∷◌, ◌++◌, map, length, refl}
 use Rattle.std.proofs.Common.{subst, ap, sym, ◌∙◌, arith, inl, inr}
-use Rattle.std.proofs.lemmas.Bool.{true≢false, or_right, cases_Bool, cases_lt, cases_order, and_parts, and_from, or_cases, le-leb, ltb-true, eqb-true, false_from_ne_true}
+use Rattle.std.proofs.lemmas.Bool.{true≢false, or_left, or_right, cases_Bool, cases_lt, cases_order, and_parts, and_from, or_cases, le-leb, ltb-true, eqb-true, false_from_ne_true}
 use Rattle.std.proofs.lemmas.Bool.Decides.{nat_tests}
 use Rattle.std.proofs.lemmas.List.{map-append, append-nil}
 use Rattle.std.specs.FinSet as set
 use Rattle.md_graph.specs.declared.TheConstants.{NAMES}
 use Rattle.md_graph.specs.Sets.{NameSet, Has}
-use Rattle.md_graph.specs.NameSet.{ascending, ascending_between}
-use Rattle.md_graph.specs.PlainGraph.{PairSet, PlainGraph, IsGraph, pairs_at, pairs_where, edge, adjacent, neighbours, empty_graph, with_vertex, with_edge, star, with_edges, complement, induced, without_vertex, without_edge}
+use Rattle.md_graph.specs.NameSet.{ascending, ascending_between, range}
+use Rattle.md_graph.specs.PlainGraph.{PairSet, PlainGraph, IsGraph, pairs_at, pairs_where, edge, adjacent, neighbours, empty_graph, with_vertex, with_range, with_edge, star, with_edges, complement, induced, without_vertex, without_edge}
 use Rattle.md_graph.specs.Rows.{row_of, edges_of, graph_of, AreRows}
-use Rattle.md_graph.proofs.SetLaws.{contains-empty, contains-insert, contains-remove, contains-intersection, contains-retain, same_set}
+use Rattle.md_graph.proofs.SetLaws.{contains-empty, contains-insert, contains-remove, contains-union, contains-intersection, contains-retain, same_set}
+use Rattle.md_graph.proofs.Ranges.{contains-range}
 use Rattle.md_graph.proofs.PairLaws.{pairs-empty, pairs-insert, pairs-remove, pairs-union, pairs-retain, pairs-from_list_push, same_pairs}
 
 -- ---- the pairs for which a test is true
@@ -169,6 +170,11 @@ pub adjacent-empty_graph : (u v : ℕ) → adjacent empty_graph u v ≡ false
 unfolding adjacent
 adjacent-empty_graph u v = pairs-empty (min u v) (max u v)
 
+-- a graph without vertices is the empty graph
+pub empty_without_vertices : (g : PlainGraph) → IsGraph g → g.vertices ≡ set.empty → g ≡ empty_graph
+empty_without_vertices g is none = same_graph is IsGraph-empty_graph none (λ u v.
+    false_from_ne_true _ (λ h. true≢false (sym (adjacent_ends is u v h).0 ∙ ap (λ s. set.contains s u) none ∙ contains-empty u)) ∙ sym (adjacent-empty_graph u v))
+
 pub IsGraph-with_vertex : {g : PlainGraph} → IsGraph g → (v : ℕ) → v < NAMES → IsGraph (with_vertex g v)
 IsGraph-with_vertex {g} is v name =
     let kept = λ (w : ℕ) (h : Has g.vertices w). contains-insert g.vertices v w ∙ or_right (w == v) _ h in
@@ -182,6 +188,20 @@ IsGraph-with_vertex {g} is v name =
 pub adjacent-with_vertex : (g : PlainGraph) (v a b : ℕ) → adjacent (with_vertex g v) a b ≡ adjacent g a b
 unfolding adjacent
 adjacent-with_vertex g v a b = refl
+
+pub IsGraph-with_range : {g : PlainGraph} → IsGraph g → (from count : ℕ) → from + count ≤ NAMES → IsGraph (with_range g from count)
+IsGraph-with_range {g} is from count names =
+    let kept = λ (w : ℕ) (h : Has g.vertices w). contains-union g.vertices (range from count) w ∙ or_left _ _ h in
+    IsGraph_by
+    (λ w h. elim (or_cases _ _ (sym (contains-union g.vertices (range from count) w) ∙ h)) [
+      | inl old ↦ is.names w old
+      | inr new ↦ let below : w < from + count = ltb-true w (from + count) (and_parts (nat_le from w) (nat_lt w (from + count)) (sym (contains-range from count w) ∙ new)).1 in omega arith
+    ])
+    (λ a b h. (is.ordered a b h, kept a (is.low_end a b h), kept b (is.high_end a b h)))
+
+pub adjacent-with_range : (g : PlainGraph) (from count a b : ℕ) → adjacent (with_range g from count) a b ≡ adjacent g a b
+unfolding adjacent
+adjacent-with_range g from count a b = refl
 
 -- the two ends of the edge between u and v, whichever is the smaller
 edge_has : (u v : ℕ) (s : NameSet) → u ≢ v → Has s u → Has s v → (min u v < max u v) × Has s (min u v) × Has s (max u v)

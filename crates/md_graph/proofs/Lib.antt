@@ -13,3 +13,5 @@ pub mod SetLaws
 pub mod Transposing
 pub mod BlockRows
 pub mod LastPlace
+pub mod Comparing
+pub mod Ranges

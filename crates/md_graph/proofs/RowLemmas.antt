@@ -10,14 +10,14 @@ use Rattle.std.specs.List.{refill}
 use Rattle.std.specs.FinSet as set
 use Rattle.md_graph.specs.declared.TheConstants.{NAMES}
 use Rattle.md_graph.specs.Sets.{NameSet, Has}
-use Rattle.md_graph.specs.NameSet.{AllBelow, ascending}
-use Rattle.md_graph.specs.PlainGraph.{PlainGraph, IsGraph, adjacent, neighbours, empty_graph, with_vertex, with_edge, with_edges, without_vertex, without_edge, induced, complement}
+use Rattle.md_graph.specs.NameSet.{AllBelow, ascending, range}
+use Rattle.md_graph.specs.PlainGraph.{PlainGraph, IsGraph, adjacent, neighbours, empty_graph, with_vertex, with_range, with_edge, with_edges, without_vertex, without_edge, induced, complement}
 use Rattle.md_graph.specs.Rows.{row_of, edges_of, graph_of, AreRows}
 use Rattle.md_graph.proofs.Counting.{rows_twice, rows_le}
 use Rattle.md_graph.proofs.EachRow.{Lists, Lists-ascending, Lists-head, Lists-rest}
 use Rattle.md_graph.proofs.Limits.{NAMES-lt}
 use Rattle.md_graph.proofs.SetLaws.{contains-empty, contains-insert, contains-remove, contains-union, contains-difference, contains-intersection, same_set}
-use Rattle.md_graph.proofs.GraphLemmas.{rows_of_graph, IsGraph-graph_of, adjacent-graph_of, neighbours-graph_of, adjacent_ends, IsGraph-empty_graph, adjacent-empty_graph, IsGraph-with_vertex, adjacent-with_vertex, IsGraph-with_edge, adjacent-with_edge, IsGraph-with_edges, adjacent-with_edges, IsGraph-without_vertex, adjacent-without_vertex, IsGraph-without_edge, adjacent-without_edge, contains-neighbours, IsGraph-induced, IsGraph-complement, adjacent-induced, adjacent-complement}
+use Rattle.md_graph.proofs.GraphLemmas.{rows_of_graph, IsGraph-graph_of, adjacent-graph_of, neighbours-graph_of, adjacent_ends, IsGraph-empty_graph, adjacent-empty_graph, IsGraph-with_vertex, adjacent-with_vertex, IsGraph-with_range, adjacent-with_range, IsGraph-with_edge, adjacent-with_edge, IsGraph-with_edges, adjacent-with_edges, IsGraph-without_vertex, adjacent-without_vertex, IsGraph-without_edge, adjacent-without_edge, contains-neighbours, IsGraph-induced, IsGraph-complement, adjacent-induced, adjacent-complement}
 
 -- what `rows[v]` gives
 pub row_read : {live : NameSet} {rows : List NameSet} → AreRows live rows → (v : ℕ) → v < NAMES → (x : NameSet) → x ≡ get_or rows v x → x ≡ row_of rows v
@@ -58,6 +58,12 @@ rows_add_vertex {live} {rows} {g} a e v name {new} is_new =
     let is : IsGraph g = subst IsGraph e (IsGraph-graph_of a) in
     let law = λ (x y : ℕ). sym (adjacent-graph_of a x y) ∙ ap (λ h. adjacent h x y) e ∙ sym (adjacent-with_vertex g v x y) in
     rows_of_graph (IsGraph-with_vertex is v name) (is_new ∙ ap (λ h. set.insert h.vertices v) e) a.one_each law
+
+pub rows_add_range : {live : NameSet} {rows : List NameSet} {g : PlainGraph} → AreRows live rows → graph_of live rows ≡ g → (from count : ℕ) → from + count ≤ NAMES → {new : NameSet} → new ≡ set.union live (range from count) → AreRows new rows × (graph_of new rows ≡ with_range g from count)
+rows_add_range {live} {rows} {g} a e from count names {new} is_new =
+    let is : IsGraph g = subst IsGraph e (IsGraph-graph_of a) in
+    let law = λ (x y : ℕ). sym (adjacent-graph_of a x y) ∙ ap (λ h. adjacent h x y) e ∙ sym (adjacent-with_range g from count x y) in
+    rows_of_graph (IsGraph-with_range is from count names) (is_new ∙ ap (λ h. set.union h.vertices (range from count)) e) a.one_each law
 
 -- the rows after one is replaced
 contains-set_row : (rows : List NameSet) (u : ℕ) (new : NameSet) (a b : ℕ) → u < length rows → set.contains (row_of (set rows u new) a) b ≡ cond (a == u) (set.contains new b) (set.contains (row_of rows a) b)

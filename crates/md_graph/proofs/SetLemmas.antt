@@ -1,6 +1,6 @@
 -- What `contains` answers of each set of names, one way and back, and the orders of sets.
-use Rattle.std.proofs.Common.{◌≡◌, ℕ, Bool, true, false, not, ◌&&◌, ◌||◌, ◌≢◌, ◌⊎◌, refl, sym, ◌∙◌, ap, subst, inl, inr, true≢false, eqb-true, eq-eqb}
-use Rattle.std.proofs.lemmas.Bool.{cases_Bool, true_from_ne_false, false_from_ne_true, or_cases, or_parts, or_left, or_right, or_from, and_parts, and_cases, and_from, and_left, and_right, not-true, not-false, not_from_false, not_from_true}
+use Rattle.std.proofs.Common.{◌≡◌, ℕ, Bool, true, false, ◌≢◌, ◌⊎◌, refl, sym, ◌∙◌, ap, subst, inl, inr, true≢false, eqb-true, eq-eqb}
+use Rattle.std.proofs.lemmas.Bool.{cases_Bool, false_from_ne_true, or_cases, or_parts, or_left, or_right, or_from, and_parts, and_cases, and_from, and_left, and_right, not-true, not-false, not_from_false, not_from_true}
 use Rattle.std.specs.FinSet.{empty, insert, remove, retain, union, intersection, difference, contains-empty, contains-insert, contains-remove, contains-retain, contains-union, contains-intersection, contains-difference, same_set, nat_cmp-IsAntisymmetric}
 use Rattle.std.specs.Cmp.{nat_cmp_total, unsigned_tied}
 use Rattle.std.specs.Ordering.{nat_cmp, eq_by_cmp}

@@ -4,3 +4,4 @@ pub mod Words
 pub mod PlainGraph
 pub mod Rows
 pub mod Blocks
+pub mod Laws

@@ -43,6 +43,11 @@ ascending_from s low = ascending_between s low NAMES
 abbrev pub ascending : NameSet → List ℕ
 ascending s = ascending_from s 0
 
+-- the names from `from` on, `count` of them
+unfoldable pub range : ℕ → ℕ → NameSet
+range from zero = set.empty
+range from (suc count) = set.insert (range from count) (from + count)
+
 -- the names first + k, k < bound, for which bit k of `bits` is 1
 unfoldable pub block_below : ℕ → ℕ → ℕ → NameSet
 block_below first bits zero = set.empty

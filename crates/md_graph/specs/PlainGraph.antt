@@ -7,7 +7,7 @@ use Rattle.std.specs.FinSet as set
 use Rattle.std.specs.Coded.{Coded, code_by, coded×, coded_ℕ}
 use Rattle.md_graph.specs.declared.TheConstants.{NAMES}
 use Rattle.md_graph.specs.Sets.{NameSet, Has}
-use Rattle.md_graph.specs.NameSet.{ascending}
+use Rattle.md_graph.specs.NameSet.{ascending, range}
 
 -- pairs in lexicographic order: by the first number, then by the second
 abbrev pub pair_cmp : ℕ × ℕ → ℕ × ℕ → Ordering
@@ -65,6 +65,10 @@ empty_graph = record { vertices = set.empty; edges = set.empty }
 -- g with the vertex v, and no new edge
 abbrev pub with_vertex : PlainGraph → ℕ → PlainGraph
 with_vertex g v = record { vertices = set.insert g.vertices v; edges = g.edges }
+
+-- g with the vertices from `from` on, `count` of them, and no new edge
+abbrev pub with_range : PlainGraph → ℕ → ℕ → PlainGraph
+with_range g from count = record { vertices = set.union g.vertices (range from count); edges = g.edges }
 
 -- g with an edge between u and v
 abbrev pub with_edge : PlainGraph → ℕ → ℕ → PlainGraph

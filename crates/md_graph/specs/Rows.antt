@@ -1,9 +1,9 @@
 -- The edges that rows of neighbours keep, and what holds of the rows of a graph.
 -- Source: the adjacency matrix of a graph, as in any textbook.
-use Rattle.std.specs.Prelude.{◌≡◌, ℕ, ◌<◌, List, length, get_or, false}
+use Rattle.std.specs.Prelude.{◌≡◌, ℕ, ◌<◌, List, length, get_or}
 use Rattle.std.specs.FinSet as set
 use Rattle.md_graph.specs.declared.TheConstants.{NAMES}
-use Rattle.md_graph.specs.Sets.{NameSet, Has}
+use Rattle.md_graph.specs.Sets.{NameSet, Has, Lacks}
 use Rattle.md_graph.specs.PlainGraph.{PairSet, PlainGraph, pairs_where}
 
 -- the row of name v
@@ -23,6 +23,6 @@ graph_of live rows = record { vertices = live; edges = edges_of rows }
 pub record AreRows (live : NameSet) (rows : List NameSet) : Type 0 where
   pub one_each : length rows ≡ NAMES
   pub both_ways : (u v : ℕ) → set.contains (row_of rows u) v ≡ set.contains (row_of rows v) u
-  pub no_loop : (v : ℕ) → set.contains (row_of rows v) v ≡ false
+  pub no_loop : (v : ℕ) → Lacks (row_of rows v) v
   pub inside : (u v : ℕ) → Has (row_of rows u) v → Has live v
   pub names : (v : ℕ) → Has live v → v < NAMES

@@ -1,21 +1,21 @@
 //! Undirected graphs without loops and parallel edges.
-ghost use Rattle.std.specs.Prelude.{◌≡◌, ℕ, ◌<◌, ◌≢◌, true, false, IfOk, IfSome, IfNone, length, if◌then◌else◌, ◌/◌, ◌%◌, ◌==◌, ◌&&◌, ◌||◌};
+ghost use Rattle.std.specs.Prelude.{◌≡◌, ℕ, ◌+◌, ◌<◌, ◌≤◌, ◌≢◌, true, false, IfOk, IfSome, IfNone, length, if◌then◌else◌, ◌/◌, ◌%◌, ◌==◌, ◌&&◌, ◌||◌};
 ghost use Rattle.std.specs.Int.{bit_at};
 ghost use Rattle.std.specs.FinSet as set;
-ghost use Rattle.md_graph.specs.Sets.{Has};
+ghost use Rattle.md_graph.specs.Sets.{Has, Lacks};
 ghost use Rattle.md_graph.specs.NameSet.{IsLeastFrom, NoneFrom};
-ghost use Rattle.md_graph.specs.PlainGraph.{adjacent, neighbours, IsGraph, empty_graph, with_vertex, with_edge, with_edges, complement, induced, without_vertex, without_edge};
+ghost use Rattle.md_graph.specs.PlainGraph.{adjacent, neighbours, IsGraph, empty_graph, with_vertex, with_range, with_edge, with_edges, complement, induced, without_vertex, without_edge};
 ghost use Rattle.md_graph.specs.Rows.{row_of};
 ghost use Rattle.md_graph.specs.Blocks.{in_block, IsWithBlock};
 
-use crate::names::are_all_zero;
 use crate::transposition::transposed;
+use crate::words::are_all_zero;
 use crate::{Memory, NAMES, Names};
 use std::alloc::Global;
 use std::marker::Model;
 
-/// A graph: its vertices are names, and each name has a row, the set of its neighbours. All rows are taken
-/// when the graph is made, and the row of a name that is no vertex is empty.
+/// A graph: its vertices are names, and each name has a row, the set of its neighbours. All rows
+/// are taken when the graph is made, and the row of a name that is no vertex is empty.
 #[derive(Drop)]
 pub struct Graph {
     live: Names,
@@ -121,13 +121,24 @@ impl Graph {
     /// Takes in the vertex `v`, without edges. Condition: it is a name and no vertex yet.
     pub fn add_vertex(&mut self, v: u32)
         requires name { v < NAMES }
-        requires absent { set.contains self.old.vertices v ≡ false }
+        requires absent { Lacks self.old.vertices v }
         ensures { self.new ≡ with_vertex self.old v }
     {
         self.live.insert(v);
     }
 
-    /// Takes in the edge between `u` and `v`. Condition: both are vertices and differ, and the edge is absent.
+    /// Takes in the `count` vertices from `from` on, without edges. Condition: they are names, and
+    /// none is a vertex yet.
+    pub fn add_range(&mut self, from: u32, count: u32)
+        requires names { from + count ≤ NAMES }
+        requires absent { (v : ℕ) → from ≤ v → v < from + count → Lacks self.old.vertices v }
+        ensures { self.new ≡ with_range self.old from count }
+    {
+        self.live.insert_range(from, count);
+    }
+
+    /// Takes in the edge between `u` and `v`. Condition: both are vertices and differ, and the edge
+    /// is absent.
     pub fn add_edge(&mut self, u: u32, v: u32)
         requires first { Has self.old.vertices u }
         requires second { Has self.old.vertices v }
@@ -139,21 +150,21 @@ impl Graph {
         self.rows[v as usize].insert(u);
     }
 
-    /// Takes in the edges between `v` and each member of `others`. Condition: all are vertices, and `v` is
-    /// no member. An edge that is there already stays.
+    /// Takes in the edges between `v` and each member of `others`. Condition: all are vertices, and
+    /// `v` is no member. An edge that is there already stays.
     pub fn add_edges(&mut self, v: u32, others: &Names)
         requires vertex { Has self.old.vertices v }
         requires vertices { (u : ℕ) → Has others.now u → Has self.old.vertices u }
-        requires differ { set.contains others.now v ≡ false }
+        requires differ { Lacks others.now v }
         ensures { self.new ≡ with_edges self.old v others.now }
     {
         self.rows[v as usize].take_in(others);
         insert_in_rows(&mut self.rows, others, v);
     }
 
-    /// Takes in 64 by 64 edges at once, for readers: one between `high + r` and `low + k` for each bit k of word r that is 1.
-    /// Condition: `low` and `high` are names and multiples of 64, and the ends of each such edge are vertices and differ. An
-    /// edge that is there already stays.
+    /// Takes in 64 by 64 edges at once, for readers: one between `high + r` and `low + k` for each
+    /// bit k of word r that is 1. Condition: `low` and `high` are names and multiples of 64, and
+    /// the ends of each such edge are vertices and differ. An edge that is there already stays.
     pub fn add_block(&mut self, low: u32, high: u32, block: &[u64; 64])
         requires low { low < NAMES }
         requires low_aligned { low % 64 ≡ 0 }
@@ -208,7 +219,8 @@ impl Graph {
         })
     }
 
-    /// The complement: the same vertices, and an edge between two of them where this graph has none.
+    /// The complement: the same vertices, and an edge between two of them where this graph has
+    /// none.
     pub fn complement(&self, alloc: Global) -> Result<Graph, Memory>
         ensures { IfOk result (λ g. g ≡ complement self.now) }
     {
@@ -222,7 +234,8 @@ impl Graph {
         })
     }
 
-    /// The graph that this graph induces on `names`: the vertices among them, and the edges between these.
+    /// The graph that this graph induces on `names`: the vertices among them, and the edges between
+    /// these.
     pub fn induced(&self, alloc: Global, names: &Names) -> Result<Graph, Memory>
         ensures { IfOk result (λ g. g ≡ induced self.now names.now) }
     {
@@ -280,7 +293,8 @@ fn join_block(rows: &mut [Names], low: u32, high: u32, block: &[u64; 64])
     join_rows(rows, low, high, &transposed(block));
 }
 
-// Takes the names from `first` on whose bits are 1 in word r of the block into the row of `from + r`.
+// Takes the names from `first` on whose bits are 1 in word r of the block into the row of `from +
+// r`.
 fn join_rows(rows: &mut [Names], from: u32, first: u32, block: &[u64; 64])
     requires rows { length rows.old ≡ NAMES }
     requires from { from < NAMES }
@@ -310,8 +324,8 @@ fn join_row(rows: &mut [Names], at: usize, first: u32, bits: u64)
     rows[at].insert_block(first, bits);
 }
 
-// Takes `v` into the row of each member of `names`.
-fn insert_in_rows(rows: &mut [Names], names: &Names, v: u32)
+/// Takes `v` into the row of each member of `names`. Conditions: `v` is a name, and the members have rows.
+pub fn insert_in_rows(rows: &mut [Names], names: &Names, v: u32)
     requires name { v < NAMES }
     requires in_rows { (u : ℕ) → Has names.now u → u < length rows.old }
     ensures { (u : ℕ) → row_of rows.new u
@@ -355,7 +369,7 @@ mod tests {
     use std::process::Abort;
     use std::test::Fail;
 
-    /// The graph with these vertices and edges.
+    // The graph with these vertices and edges.
     fn made(
         rt: &impl Abort,
         alloc: Global,
@@ -394,7 +408,7 @@ mod tests {
         g.add_edges(v, others);
     }
 
-    /// Sees that the graph has these vertices and edges, and no others.
+    // Sees that the graph has these vertices and edges, and no others.
     fn expect(rt: &impl Abort, g: &Graph, names: &[u32], edges: &[(u32, u32)]) {
         assert_eq!(rt; g.count() as usize, names.len());
         assert_eq!(rt; g.edge_count() as usize, edges.len());

@@ -1,20 +1,25 @@
-//! Names and graphs: sets of names as bit words in place, and undirected graphs without loops and parallel
-//! edges as one row of neighbours a name.
+//! Names and graphs: sets of names as bit words in place, and undirected graphs without loops and
+//! parallel edges as one row of neighbours a name.
 #![tactic(auto)]
 
 mod graph;
+pub mod laws;
+mod members;
 mod names;
 mod transposition;
+mod words;
 
-pub use graph::Graph;
-pub use names::{Members, Names, lowest};
+pub use graph::{Graph, insert_in_rows};
+pub use members::Members;
+pub use names::Names;
 use std::alloc::{AllocError, AllocFailed};
+pub use words::lowest;
 
 /// How many names there are: a name is a number below it.
 pub const NAMES: u32 = 4096;
 
-/// How many words of 64 bits hold one bit a name.
-pub const WORDS: usize = 64;
+// How many words of 64 bits hold one bit a name.
+pub(crate) const WORDS: usize = 64;
 
 /// Want of memory. `?` makes it of what a `Vec` answers then.
 #[derive(Clone, Copy, Debug, PartialEq, Eq)]

@@ -1,17 +1,23 @@
 //! Sets of names.
-ghost use Rattle.std.specs.Prelude.{◌≡◌, nat_le, if◌then◌else◌, ◌≢◌, ◌∷◌, ℕ, length, slice_index, bit_and, bit_or, bit_xor, ◌+◌, ◌*◌, ◌/◌, ◌%◌, ◌^◌, ◌<◌, ◌≤◌, ◌↔◌, IsTrue, IsNone, IfSome, IfNone, ◌==◌};
+ghost use Rattle.std.specs.Prelude.{◌≡◌, ℕ, ◌+◌, ◌%◌, ◌<◌, ◌≤◌, ◌↔◌, IsTrue, IfSome, IfNone, ◌==◌};
 ghost use Rattle.std.specs.Int.{bit_at};
 ghost use Rattle.std.specs.FinSet as set;
-ghost use Rattle.md_graph.specs.Sets.{Has};
-ghost use Rattle.md_graph.specs.NameSet.{IsLeastFrom, IsGreatest, NoneFrom, AllBelow, ascending, ascending_from, block, told_apart};
-ghost use Rattle.md_graph.specs.Words.{IsWithout, bit_of, names_below, bits_between, bit_apart};
+ghost use Rattle.md_graph.specs.Sets.{Has, Within};
+ghost use Rattle.md_graph.specs.NameSet.{IsLeastFrom, IsGreatest, NoneFrom, AllBelow, ascending, ascending_from, block, range, told_apart};
 
+use crate::members::Members;
+use crate::words::{
+    are_all_zero, are_equal, are_within, bits_of_range, both, count_bits, either, first_alone,
+    first_apart, flip_bits, from_place, join_in, keep_alone, last_place, move_alone, move_apart,
+    move_both, no_words, wipe,
+};
 use crate::{NAMES, WORDS};
 use std::marker::Model;
 
 /// A set of names below `NAMES`, kept in place as one bit a name. No call on it takes memory.
 ///
-/// The first `used` words hold all members: the words behind them are 0, and no call passes over them.
+/// The first `used` words hold all members: the words behind them are 0, and no call passes over
+/// them.
 #[derive(Drop)]
 pub struct Names {
     words: [u64; WORDS],
@@ -69,6 +75,17 @@ impl Names {
         }
     }
 
+    /// Takes in the `count` names from `from` on, 64 at once. Condition: all are names.
+    pub fn insert_range(&mut self, from: u32, count: u32)
+        requires { from + count ≤ NAMES }
+        ensures { self.new ≡ set.union self.old (range from count) }
+    {
+        let to = from + count;
+        for at in from / 64..to.div_ceil(64) {
+            self.insert_block(64 * at, bits_of_range(64 * at, from, to));
+        }
+    }
+
     /// Leaves `v` out. Condition: it is a name.
     pub fn remove(&mut self, v: u32)
         requires { v < NAMES }
@@ -93,8 +110,8 @@ impl Names {
         self.used = self.used.max(other.used);
     }
 
-    /// Takes in the members of `other` that it doesn't have, and leaves out those that it has. It passes over the words
-    /// that `other` uses.
+    /// Takes in the members of `other` that it doesn't have, and leaves out those that it has. It
+    /// passes over the words that `other` uses.
     pub fn flip(&mut self, other: &Names)
         ensures { self.new ≡ told_apart self.old other.now }
     {
@@ -120,7 +137,8 @@ impl Names {
         to.used = to.used.max(self.used);
     }
 
-    /// Moves the members that exactly one of `first` and `second` has to `to`. It passes over the words in use.
+    /// Moves the members that exactly one of `first` and `second` has to `to`. It passes over the
+    /// words in use.
     pub fn move_told_apart(&mut self, first: &Names, second: &Names, to: &mut Names)
         ensures rest { self.new ≡ set.difference self.old (told_apart first.now second.now) }
         ensures moved { to.new
@@ -136,7 +154,8 @@ impl Names {
         to.used = to.used.max(self.used);
     }
 
-    /// The least member that exactly one of `first` and `second` has; `None` exactly where there is none.
+    /// The least member that exactly one of `first` and `second` has; `None` exactly where there is
+    /// none.
     pub fn first_told_apart(&self, first: &Names, second: &Names) -> Option<u32>
         ensures found { IfSome result (IsLeastFrom
             (set.intersection self.now (told_apart first.now second.now)) 0) }
@@ -145,6 +164,21 @@ impl Names {
         ensures name { IfSome result (λ least. least < NAMES) }
     {
         first_apart(&self.words, &first.words, &second.words, self.used)
+    }
+
+    /// Becomes the members of `of` that neither `first` nor `second` has. It passes over the words in use of both.
+    pub fn become_alone(&mut self, of: &Names, first: &Names, second: &Names)
+        ensures { self.new ≡ set.difference of.now (set.union first.now second.now) }
+    {
+        wipe(&mut self.words, self.used);
+        keep_alone(
+            &mut self.words,
+            &of.words,
+            &first.words,
+            &second.words,
+            of.used,
+        );
+        self.used = of.used;
     }
 
     /// Whether `v`, any number, is a member.
@@ -218,6 +252,20 @@ impl Names {
         are_all_zero(&self.words, self.used)
     }
 
+    /// Whether `other` has the same members.
+    pub fn is_same(&self, other: &Names) -> bool
+        ensures { IsTrue result ↔ (self.now ≡ other.now) }
+    {
+        are_equal(&self.words, &other.words, self.used.max(other.used))
+    }
+
+    /// Whether `other` has each member.
+    pub fn is_subset(&self, other: &Names) -> bool
+        ensures { IsTrue result ↔ Within self.now other.now }
+    {
+        are_within(&self.words, &other.words, self.used)
+    }
+
     /// The members, ascending.
     pub fn members(&self) -> Members<'_>
         ensures list { result ≡ ascending self.now }
@@ -248,9 +296,9 @@ impl Names {
         }
     }
 
-    /// Takes in each name `first + k` for which bit k of `bits` is 1: 64 names at once, for readers.
-    /// Condition: `first` is a name and a multiple of 64.
-    pub fn insert_block(&mut self, first: u32, bits: u64)
+    // Takes in each name `first + k` for which bit k of `bits` is 1: 64 names at once.
+    // Condition: `first` is a name and a multiple of 64.
+    pub(crate) fn insert_block(&mut self, first: u32, bits: u64)
         requires name { first < NAMES }
         requires aligned { first % 64 ≡ 0 }
         ensures { self.new ≡ set.union self.old (block first bits) }
@@ -262,8 +310,8 @@ impl Names {
         }
     }
 
-    /// Which of the names `first + k`, k below 64, are members: bit k of the answer is 1 exactly for these.
-    /// For writers. Condition: `first` is a name and a multiple of 64.
+    /// Which of the names `first + k`, k below 64, are members: bit k of the answer is 1 exactly
+    /// for these. For writers. Condition: `first` is a name and a multiple of 64.
     pub fn block(&self, first: u32) -> u64
         requires name { first < NAMES }
         requires aligned { first % 64 ≡ 0 }
@@ -273,297 +321,11 @@ impl Names {
     }
 }
 
-/// Words that are all 0.
-fn no_words() -> [u64; WORDS]
-    ensures size { length result ≡ WORDS }
-    ensures zeros { (k : ℕ) → slice_index result k ≡ 0 }
-{
-    [0; WORDS]
-}
-
-/// The first `used` words become 0.
-fn wipe(words: &mut [u64; WORDS], used: usize)
-    requires { used ≤ WORDS }
-    ensures first { (k : ℕ) → k < used → slice_index words.new k ≡ 0 }
-    ensures rest { (k : ℕ) → used ≤ k → slice_index words.new k ≡ slice_index words.old k }
-{
-    for i in 0..used {
-        words[i] = 0;
-    }
-}
-
-/// Takes the bits of the first `used` words of `other` in.
-fn join_in(words: &mut [u64; WORDS], other: &[u64; WORDS], used: usize)
-    requires { used ≤ WORDS }
-    ensures first { (k : ℕ) → k < used
-        → slice_index words.new k ≡ bit_or (slice_index words.old k) (slice_index other.now k) }
-    ensures rest { (k : ℕ) → used ≤ k → slice_index words.new k ≡ slice_index words.old k }
-{
-    for i in 0..used {
-        words[i] |= other[i];
-    }
-}
-
-/// Changes the bits that `other` has in its first `used` words.
-fn flip_bits(words: &mut [u64; WORDS], other: &[u64; WORDS], used: usize)
-    requires { used ≤ WORDS }
-    ensures first { (k : ℕ) → k < used
-        → slice_index words.new k ≡ bit_xor (slice_index words.old k) (slice_index other.now k) }
-    ensures rest { (k : ℕ) → used ≤ k → slice_index words.new k ≡ slice_index words.old k }
-{
-    for i in 0..used {
-        words[i] ^= other[i];
-    }
-}
-
-/// In the first `used` words the bits that `row` has go to `to`.
-fn move_both(words: &mut [u64; WORDS], row: &[u64; WORDS], to: &mut [u64; WORDS], used: usize)
-    requires { used ≤ WORDS }
-    ensures first { (k : ℕ) → k < used → slice_index words.new k
-        ≡ bit_xor (slice_index words.old k) (bit_and (slice_index words.old k) (slice_index row.now k)) }
-    ensures rest { (k : ℕ) → used ≤ k → slice_index words.new k ≡ slice_index words.old k }
-    ensures moved { (k : ℕ) → k < used → slice_index to.new k
-        ≡ bit_or (slice_index to.old k) (bit_and (slice_index words.old k) (slice_index row.now k)) }
-    ensures others { (k : ℕ) → used ≤ k → slice_index to.new k ≡ slice_index to.old k }
-{
-    for i in 0..used {
-        let moved = words[i] & row[i];
-        words[i] ^= moved;
-        to[i] |= moved;
-    }
-}
-
-/// In the first `used` words the bits that `row` lacks go to `to`.
-fn move_alone(words: &mut [u64; WORDS], row: &[u64; WORDS], to: &mut [u64; WORDS], used: usize)
-    requires { used ≤ WORDS }
-    ensures first { (k : ℕ) → k < used → slice_index words.new k
-        ≡ bit_and (slice_index words.old k) (slice_index row.now k) }
-    ensures rest { (k : ℕ) → used ≤ k → slice_index words.new k ≡ slice_index words.old k }
-    ensures moved { (k : ℕ) → k < used → slice_index to.new k ≡ bit_or (slice_index to.old k)
-        (bit_xor (slice_index words.old k) (bit_and (slice_index words.old k) (slice_index row.now k))) }
-    ensures others { (k : ℕ) → used ≤ k → slice_index to.new k ≡ slice_index to.old k }
-{
-    for i in 0..used {
-        let stay = words[i] & row[i];
-        to[i] |= words[i] ^ stay;
-        words[i] = stay;
-    }
-}
-
-/// In the first `used` words the bits that exactly one of `first` and `second` has go to `to`.
-fn move_apart(
-    words: &mut [u64; WORDS],
-    first: &[u64; WORDS],
-    second: &[u64; WORDS],
-    to: &mut [u64; WORDS],
-    used: usize,
-)
-    requires { used ≤ WORDS }
-    ensures first { (k : ℕ) → k < used → slice_index words.new k ≡ bit_xor (slice_index words.old k)
-        (bit_and (slice_index words.old k) (bit_xor (slice_index first.now k) (slice_index second.now k))) }
-    ensures rest { (k : ℕ) → used ≤ k → slice_index words.new k ≡ slice_index words.old k }
-    ensures moved { (k : ℕ) → k < used → slice_index to.new k ≡ bit_or (slice_index to.old k)
-        (bit_and (slice_index words.old k) (bit_xor (slice_index first.now k) (slice_index second.now k))) }
-    ensures others { (k : ℕ) → used ≤ k → slice_index to.new k ≡ slice_index to.old k }
-{
-    for i in 0..used {
-        let moved = words[i] & (first[i] ^ second[i]);
-        words[i] ^= moved;
-        to[i] |= moved;
-    }
-}
-
-/// The place of the lowest bit in the first `used` words that exactly one of `first` and `second` has.
-fn first_apart(
-    words: &[u64],
-    first: &[u64; WORDS],
-    second: &[u64; WORDS],
-    used: usize,
-) -> Option<u32>
-    requires few { used ≤ WORDS }
-    requires used { used ≤ length words.now }
-    ensures found { IfSome result (λ least. (least < 64 * used)
-        × (bit_apart words.now first.now second.now least ≡ 1)
-        × ((q : ℕ) → q < least → bit_apart words.now first.now second.now q ≡ 0)) }
-    ensures none { IfNone result ((q : ℕ) → q < 64 * used
-        → bit_apart words.now first.now second.now q ≡ 0) }
-{
-    for i in 0..used {
-        let apart = words[i] & (first[i] ^ second[i]);
-        if apart != 0 {
-            return Some(64 * i as u32 + apart.trailing_zeros());
-        }
-    }
-    None
-}
-
-/// The bits that both have in the first `used` words.
-fn both(first: &[u64; WORDS], second: &[u64; WORDS], used: usize) -> [u64; WORDS]
-    requires { used ≤ WORDS }
-    ensures first { (k : ℕ) → k < used
-        → slice_index result k ≡ bit_and (slice_index first.now k) (slice_index second.now k) }
-    ensures rest { (k : ℕ) → used ≤ k → slice_index result k ≡ 0 }
-{
-    let mut words = no_words();
-    for i in 0..used {
-        words[i] = first[i] & second[i];
-    }
-    words
-}
-
-/// The bits that either has in the first `used` words.
-fn either(first: &[u64; WORDS], second: &[u64; WORDS], used: usize) -> [u64; WORDS]
-    requires { used ≤ WORDS }
-    ensures first { (k : ℕ) → k < used
-        → slice_index result k ≡ bit_or (slice_index first.now k) (slice_index second.now k) }
-    ensures rest { (k : ℕ) → used ≤ k → slice_index result k ≡ 0 }
-{
-    let mut words = no_words();
-    for i in 0..used {
-        words[i] = first[i] | second[i];
-    }
-    words
-}
-
-/// The bits of `first` that `second` doesn't have, in the first `used` words.
-fn first_alone(first: &[u64; WORDS], second: &[u64; WORDS], used: usize) -> [u64; WORDS]
-    requires { used ≤ WORDS }
-    ensures first { (k : ℕ) → k < used
-        → IsWithout (slice_index result k) (slice_index first.now k) (slice_index second.now k) }
-    ensures rest { (k : ℕ) → used ≤ k → slice_index result k ≡ 0 }
-{
-    let mut words = no_words();
-    for i in 0..used {
-        words[i] = first[i] & !second[i];
-    }
-    words
-}
-
-/// The place of the highest bit in the first `used` words.
-fn last_place(words: &[u64], used: usize) -> Option<u32>
-    requires few { used ≤ WORDS }
-    requires used { used ≤ length words.now }
-    ensures found { IfSome result (λ greatest. (greatest < 64 * used)
-        × (bit_of words.now greatest ≡ 1)
-        × ((q : ℕ) → greatest < q → q < 64 * used → bit_of words.now q ≡ 0)) }
-    ensures none { IfNone result ((q : ℕ) → q < 64 * used → bit_of words.now q ≡ 0) }
-{
-    for i in (0..used).rev() {
-        if words[i] != 0 {
-            return Some(64 * i as u32 + highest(words[i]));
-        }
-    }
-    None
-}
-
-/// The place of the highest 1 of `bits`.
-fn highest(bits: u64) -> u32
-    requires { bits ≢ 0 }
-    ensures place { result < 64 }
-    ensures here { bit_at bits result ≡ 1 }
-    ensures above { (k : ℕ) → result < k → bit_at bits k ≡ 0 }
-{
-    63 - bits.leading_zeros()
-}
-
-/// How many bits of the first `used` words are 1.
-fn count_bits(words: &[u64], used: usize) -> u32
-    requires few { used ≤ WORDS }
-    requires used { used ≤ length words.now }
-    ensures { result ≡ set.len (names_below words.now (64 * used)) }
-{
-    let mut count = 0;
-    for i in 0..used {
-        count += words[i].count_ones();
-    }
-    count
-}
-
-/// Whether the first `used` words are 0.
-pub(crate) fn are_all_zero(words: &[u64], used: usize) -> bool
-    requires { used ≤ length words.now }
-    ensures { IsTrue result
-        ↔ ((k i : ℕ) → k < used → i < 64 → bit_at (slice_index words.now k) i ≡ 0) }
-{
-    for i in 0..used {
-        if words[i] != 0 {
-            return false;
-        }
-    }
-    true
-}
-
-/// The bits of `word` from `place` on.
-fn from_place(word: u64, place: u32) -> u64
-    requires { place < 64 }
-    ensures { (k : ℕ) → k < 64 → bit_at result k ≡ (if nat_le place k then bit_at word k else 0) }
-{
-    word >> place << place
-}
-
-/// The place of the lowest 1 of `bits`, and `bits` without it: for writers that take 64 names at once by `Names::block`.
-/// Condition: there is a 1.
-pub fn lowest(bits: u64) -> (u32, u64)
-    requires { bits ≢ 0 }
-    ensures place { result.0 < 64 }
-    ensures rest { (first : ℕ)
-        → bits_between first bits 64 ≡ (first + result.0) ∷ bits_between first result.1 64 }
-{
-    (bits.trailing_zeros(), bits & (bits - 1))
-}
-
-/// The members of a set that are still to come, ascending: word by word, and in a word from bit to bit. Those of the word at
-/// hand are the bits of `left`, counted from the name `first`.
-#[derive(Drop)]
-pub struct Members<'a> {
-    words: &'a [u64; WORDS],
-    used: usize,
-    first: u32,
-    left: u64,
-}
-
-impl<'a> Model for Members<'a> {
-    ghost use Rattle.std.specs.Prelude.{ℕ, List, ◌≡◌, ◌≤◌, ◌*◌, ◌/◌};
-    ghost use Rattle.md_graph.specs.declared.TheConstants.{WORDS};
-
-    ghost Value = { List ℕ };
-
-    ghost use Rattle.md_graph.specs.Words.{members_left};
-
-    ghost view = { λ m. members_left m.words.now m.used (m.first / 64) m.left };
-
-    ghost invariant = { λ m. (m.used ≤ WORDS) × (m.first / 64 ≤ WORDS) × (64 * (m.first / 64) ≡ m.first) };
-}
-
-impl<'a> Iterator for Members<'a> {
-    type Item = u32;
-
-    ghost use Rattle.std.specs.Iterator.{YieldsFirst, item_count};
-
-    ghost next_gives = { YieldsFirst (λ s. s) };
-
-    ghost remaining = { item_count (λ s. s) };
-
-    fn next(&mut self) -> Option<u32> {
-        while self.left == 0 {
-            let at = self.first as usize / 64 + 1;
-            if self.used <= at {
-                return None;
-            }
-            self.first += 64;
-            self.left = self.words[at];
-        }
-        let (place, left) = lowest(self.left);
-        self.left = left;
-        Some(self.first + place)
-    }
-}
-
 #[cfg(test)]
 mod tests {
     use super::*;
 
-    /// The set of 63, 64, 127 and the last name: members on both sides of the borders between words.
+    // The set of 63, 64, 127 and the last name: members on both sides of the borders between words.
     fn borders() -> Names {
         let mut names = Names::none();
         names.insert(NAMES - 1);
@@ -625,6 +387,24 @@ mod tests {
     }
 
     #[test]
+    fn compared(rt: HostRuntime) {
+        let mut names = borders();
+        let mut more = Names::none();
+        more.insert_range(63, 66);
+        assert!(rt; more.count() == 66 && more.has(63) && more.has(128) && !more.has(62));
+        assert!(rt; !more.has(129) && !more.is_same(&names) && !names.is_subset(&more));
+        names.remove(NAMES - 1);
+        assert!(rt; names.is_subset(&more) && !more.is_subset(&names) && !names.is_same(&more));
+        names.insert_range(62, 67);
+        names.insert_range(NAMES, 0);
+        assert!(rt; !names.is_same(&more));
+        names.remove(62);
+        assert!(rt; names.is_same(&more) && names.is_subset(&more));
+        more.insert_range(0, NAMES);
+        assert_eq!(rt; more.count(), 4096);
+    }
+
+    #[test]
     fn moves(rt: HostRuntime) {
         let mut second = Names::none();
         second.insert_block(64, (1 << 63) | 2);
@@ -644,5 +424,10 @@ mod tests {
         left.flip(&names);
         left.flip(&second);
         assert!(rt; left.count() == 3 && left.has(64) && !left.has(65) && !left.has(127));
+        names.become_alone(&borders(), &left, &second);
+        assert!(rt; names.is_empty());
+        left.remove(NAMES - 1);
+        names.become_alone(&borders(), &left, &second);
+        assert!(rt; names.count() == 1 && names.has(NAMES - 1));
     }
 }

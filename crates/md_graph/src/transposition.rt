@@ -3,7 +3,7 @@ ghost use Rattle.std.specs.Prelude.{◌≡◌, ℕ, ◌+◌, ◌-◌, ◌*◌, �
 ghost use Rattle.std.specs.Int.{bit_at};
 ghost use Rattle.md_graph.specs.Blocks.{IsFirstHalf, IsRound};
 
-/// The words transposed: bit k of word r is bit r of word k.
+// The words transposed: bit k of word r is bit r of word k.
 pub(crate) fn transposed(words: &[u64; 64]) -> [u64; 64]
     ensures { (r k : ℕ) → r < 64 → k < 64
         → bit_at (slice_index result r) k ≡ bit_at (slice_index words.now k) r }
@@ -16,8 +16,9 @@ pub(crate) fn transposed(words: &[u64; 64]) -> [u64; 64]
     round(&by_2, 1, 0x5555_5555_5555_5555)
 }
 
-/// One round: the highest bit of the word's number becomes the bit of weight `width` of the bit's number, which becomes the
-/// lowest bit of the word's number. In `firsts` are the bits whose number has no bit of that weight.
+// One round: the highest bit of the word's number becomes the bit of weight `width` of the bit's
+// number, which becomes the lowest bit of the word's number. In `firsts` are the bits whose number
+// has no bit of that weight.
 fn round(words: &[u64; 64], width: u32, firsts: u64) -> [u64; 64]
     requires some { 0 < width }
     requires few { width < 64 }
@@ -32,7 +33,7 @@ fn round(words: &[u64; 64], width: u32, firsts: u64) -> [u64; 64]
     new
 }
 
-/// The first halves of words i and i + 32.
+// The first halves of words i and i + 32.
 #[inline]
 fn first_halves(words: &[u64; 64], i: usize, width: u32, firsts: u64) -> u64
     requires inside { i < 32 }
@@ -40,12 +41,13 @@ fn first_halves(words: &[u64; 64], i: usize, width: u32, firsts: u64) -> u64
     requires few { width < 64 }
     requires halves { IsFirstHalf width firsts }
     ensures { (k : ℕ) → k < 64
-        → bit_at result k ≡ bit_at (slice_index words.now (i + 32 * (k / width % 2))) (k - width * (k / width % 2)) }
+        → bit_at result k ≡ bit_at (slice_index words.now (i + 32 * (k / width % 2)))
+        (k - width * (k / width % 2)) }
 {
     words[i] & firsts | words[i + 32] << width & !firsts
 }
 
-/// The second halves of words i and i + 32.
+// The second halves of words i and i + 32.
 #[inline]
 fn second_halves(words: &[u64; 64], i: usize, width: u32, firsts: u64) -> u64
     requires inside { i < 32 }
@@ -53,7 +55,8 @@ fn second_halves(words: &[u64; 64], i: usize, width: u32, firsts: u64) -> u64
     requires few { width < 64 }
     requires halves { IsFirstHalf width firsts }
     ensures { (k : ℕ) → k < 64
-        → bit_at result k ≡ bit_at (slice_index words.now (i + 32 * (k / width % 2))) (k - width * (k / width % 2) + width) }
+        → bit_at result k ≡ bit_at (slice_index words.now (i + 32 * (k / width % 2)))
+        (k - width * (k / width % 2) + width) }
 {
     words[i] >> width & firsts | words[i + 32] & !firsts
 }

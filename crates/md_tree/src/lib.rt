@@ -6,11 +6,9 @@ ghost use Rattle.std.specs.Prelude.{◌≡◌, ◌<◌, length, vec_len, slice_i
 ghost use Rattle.md_tree.specs.Plain.{trees_of};
 
 pub mod laws;
+mod pair_writer;
 mod parts;
-mod quotient;
-mod start;
 mod tree_graph;
-mod workspace;
 mod writer;
 
 pub use parts::{Part, build};

@@ -4,8 +4,7 @@ ghost use Rattle.md_tree.specs.Trees.{node};
 ghost use Rattle.md_tree.specs.Plain.{plain, plain_option, row_of};
 ghost use Rattle.md_tree.specs.TreeTexts.{letter, tree_text, row_text, text_of};
 
-use crate::quotient::push_pairs;
-use crate::workspace::{CHUNK, Workspace};
+use crate::pair_writer::{Workspace, push_pairs};
 use crate::{Children, Kind, QuotientEdges, Tree};
 use md_graph::Memory;
 use md_text::push_number;
@@ -33,10 +32,7 @@ pub fn push_text(alloc: Global, text: &mut Vec<u8>, tree: &Option<Tree>) -> Resu
         text.extend_from_slice(b"empty")?;
         return Ok(());
     };
-    let mut space = Workspace {
-        positions: Vec::new(alloc),
-        chunk: [0; CHUNK],
-    };
+    let mut space = Workspace::new(alloc);
     push_tree(text, tree, &mut space)
 }
 

@@ -1,0 +1,15 @@
+//! The laws of names and graphs, each the contract of a function that does nothing.
+ghost use Rattle.std.specs.Prelude.{◌≡◌};
+ghost use Rattle.md_graph.specs.Laws.{GraphWithoutVerticesIsEmpty};
+
+use crate::NAMES;
+
+/// There are 4,096 names.
+pub fn number_of_names()
+    ensures { NAMES ≡ 4096 }
+{}
+
+/// A graph without vertices is the empty graph.
+pub fn graph_without_vertices_is_empty()
+    ensures { GraphWithoutVerticesIsEmpty }
+{}

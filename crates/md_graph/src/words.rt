@@ -1,0 +1,334 @@
+//! Words of bits: bit v % 64 of word v / 64 stands for the name v.
+ghost use Rattle.std.specs.Prelude.{◌≡◌, nat_le, nat_lt, ◌&&◌, if◌then◌else◌, ◌≢◌, ◌∷◌, ℕ, length, slice_index, bit_and, bit_or, bit_xor, ◌+◌, ◌*◌, ◌^◌, ◌<◌, ◌≤◌, ◌↔◌, IsTrue, IfSome, IfNone, ◌==◌};
+ghost use Rattle.std.specs.Int.{bit_at};
+ghost use Rattle.std.specs.FinSet as set;
+ghost use Rattle.md_graph.specs.Words.{IsWithout, bit_of, names_below, bits_between, bit_apart};
+
+use crate::{NAMES, WORDS};
+
+// Words that are all 0.
+pub(crate) fn no_words() -> [u64; WORDS]
+    ensures size { length result ≡ WORDS }
+    ensures zeros { (k : ℕ) → slice_index result k ≡ 0 }
+{
+    [0; WORDS]
+}
+
+// The first `used` words become 0.
+pub(crate) fn wipe(words: &mut [u64; WORDS], used: usize)
+    requires { used ≤ WORDS }
+    ensures first { (k : ℕ) → k < used → slice_index words.new k ≡ 0 }
+    ensures rest { (k : ℕ) → used ≤ k → slice_index words.new k ≡ slice_index words.old k }
+{
+    for i in 0..used {
+        words[i] = 0;
+    }
+}
+
+// Takes the bits of the first `used` words of `other` in.
+pub(crate) fn join_in(words: &mut [u64; WORDS], other: &[u64; WORDS], used: usize)
+    requires { used ≤ WORDS }
+    ensures first { (k : ℕ) → k < used
+        → slice_index words.new k ≡ bit_or (slice_index words.old k) (slice_index other.now k) }
+    ensures rest { (k : ℕ) → used ≤ k → slice_index words.new k ≡ slice_index words.old k }
+{
+    for i in 0..used {
+        words[i] |= other[i];
+    }
+}
+
+// Changes the bits that `other` has in its first `used` words.
+pub(crate) fn flip_bits(words: &mut [u64; WORDS], other: &[u64; WORDS], used: usize)
+    requires { used ≤ WORDS }
+    ensures first { (k : ℕ) → k < used
+        → slice_index words.new k ≡ bit_xor (slice_index words.old k) (slice_index other.now k) }
+    ensures rest { (k : ℕ) → used ≤ k → slice_index words.new k ≡ slice_index words.old k }
+{
+    for i in 0..used {
+        words[i] ^= other[i];
+    }
+}
+
+// In the first `used` words the bits that `row` has go to `to`.
+pub(crate) fn move_both(
+    words: &mut [u64; WORDS],
+    row: &[u64; WORDS],
+    to: &mut [u64; WORDS],
+    used: usize,
+)
+    requires { used ≤ WORDS }
+    ensures first { (k : ℕ) → k < used → slice_index words.new k
+        ≡ bit_xor (slice_index words.old k)
+        (bit_and (slice_index words.old k) (slice_index row.now k)) }
+    ensures rest { (k : ℕ) → used ≤ k → slice_index words.new k ≡ slice_index words.old k }
+    ensures moved { (k : ℕ) → k < used → slice_index to.new k
+        ≡ bit_or (slice_index to.old k)
+        (bit_and (slice_index words.old k) (slice_index row.now k)) }
+    ensures others { (k : ℕ) → used ≤ k → slice_index to.new k ≡ slice_index to.old k }
+{
+    for i in 0..used {
+        let moved = words[i] & row[i];
+        words[i] ^= moved;
+        to[i] |= moved;
+    }
+}
+
+// In the first `used` words the bits that `row` lacks go to `to`.
+pub(crate) fn move_alone(
+    words: &mut [u64; WORDS],
+    row: &[u64; WORDS],
+    to: &mut [u64; WORDS],
+    used: usize,
+)
+    requires { used ≤ WORDS }
+    ensures first { (k : ℕ) → k < used → slice_index words.new k
+        ≡ bit_and (slice_index words.old k) (slice_index row.now k) }
+    ensures rest { (k : ℕ) → used ≤ k → slice_index words.new k ≡ slice_index words.old k }
+    ensures moved { (k : ℕ) → k < used → slice_index to.new k ≡ bit_or (slice_index to.old k)
+        (bit_xor (slice_index words.old k)
+        (bit_and (slice_index words.old k) (slice_index row.now k))) }
+    ensures others { (k : ℕ) → used ≤ k → slice_index to.new k ≡ slice_index to.old k }
+{
+    for i in 0..used {
+        let stay = words[i] & row[i];
+        to[i] |= words[i] ^ stay;
+        words[i] = stay;
+    }
+}
+
+// In the first `used` words the bits that exactly one of `first` and `second` has go to `to`.
+pub(crate) fn move_apart(
+    words: &mut [u64; WORDS],
+    first: &[u64; WORDS],
+    second: &[u64; WORDS],
+    to: &mut [u64; WORDS],
+    used: usize,
+)
+    requires { used ≤ WORDS }
+    ensures first { (k : ℕ) → k < used → slice_index words.new k ≡ bit_xor (slice_index words.old k)
+        (bit_and (slice_index words.old k)
+        (bit_xor (slice_index first.now k) (slice_index second.now k))) }
+    ensures rest { (k : ℕ) → used ≤ k → slice_index words.new k ≡ slice_index words.old k }
+    ensures moved { (k : ℕ) → k < used → slice_index to.new k ≡ bit_or (slice_index to.old k)
+        (bit_and (slice_index words.old k)
+        (bit_xor (slice_index first.now k) (slice_index second.now k))) }
+    ensures others { (k : ℕ) → used ≤ k → slice_index to.new k ≡ slice_index to.old k }
+{
+    for i in 0..used {
+        let moved = words[i] & (first[i] ^ second[i]);
+        words[i] ^= moved;
+        to[i] |= moved;
+    }
+}
+
+// The first `used` words become the bits of `of` that neither `first` nor `second` has.
+pub(crate) fn keep_alone(
+    words: &mut [u64; WORDS],
+    of: &[u64; WORDS],
+    first: &[u64; WORDS],
+    second: &[u64; WORDS],
+    used: usize,
+)
+    requires { used ≤ WORDS }
+    ensures first { (k : ℕ) → k < used → slice_index words.new k ≡ bit_xor (slice_index of.now k)
+        (bit_and (slice_index of.now k) (bit_or (slice_index first.now k) (slice_index second.now k))) }
+    ensures rest { (k : ℕ) → used ≤ k → slice_index words.new k ≡ slice_index words.old k }
+{
+    for i in 0..used {
+        words[i] = of[i] ^ (of[i] & (first[i] | second[i]));
+    }
+}
+
+// The place of the lowest bit in the first `used` words that exactly one of `first` and `second`
+// has.
+pub(crate) fn first_apart(
+    words: &[u64],
+    first: &[u64; WORDS],
+    second: &[u64; WORDS],
+    used: usize,
+) -> Option<u32>
+    requires few { used ≤ WORDS }
+    requires used { used ≤ length words.now }
+    ensures found { IfSome result (λ least. (least < 64 * used)
+        × (bit_apart words.now first.now second.now least ≡ 1)
+        × ((q : ℕ) → q < least → bit_apart words.now first.now second.now q ≡ 0)) }
+    ensures none { IfNone result ((q : ℕ) → q < 64 * used
+        → bit_apart words.now first.now second.now q ≡ 0) }
+{
+    for i in 0..used {
+        let apart = words[i] & (first[i] ^ second[i]);
+        if apart != 0 {
+            return Some(64 * i as u32 + apart.trailing_zeros());
+        }
+    }
+    None
+}
+
+// The bits that both have in the first `used` words.
+pub(crate) fn both(first: &[u64; WORDS], second: &[u64; WORDS], used: usize) -> [u64; WORDS]
+    requires { used ≤ WORDS }
+    ensures first { (k : ℕ) → k < used
+        → slice_index result k ≡ bit_and (slice_index first.now k) (slice_index second.now k) }
+    ensures rest { (k : ℕ) → used ≤ k → slice_index result k ≡ 0 }
+{
+    let mut words = no_words();
+    for i in 0..used {
+        words[i] = first[i] & second[i];
+    }
+    words
+}
+
+// The bits that either has in the first `used` words.
+pub(crate) fn either(first: &[u64; WORDS], second: &[u64; WORDS], used: usize) -> [u64; WORDS]
+    requires { used ≤ WORDS }
+    ensures first { (k : ℕ) → k < used
+        → slice_index result k ≡ bit_or (slice_index first.now k) (slice_index second.now k) }
+    ensures rest { (k : ℕ) → used ≤ k → slice_index result k ≡ 0 }
+{
+    let mut words = no_words();
+    for i in 0..used {
+        words[i] = first[i] | second[i];
+    }
+    words
+}
+
+// The bits of `first` that `second` doesn't have, in the first `used` words.
+pub(crate) fn first_alone(first: &[u64; WORDS], second: &[u64; WORDS], used: usize) -> [u64; WORDS]
+    requires { used ≤ WORDS }
+    ensures first { (k : ℕ) → k < used
+        → IsWithout (slice_index result k) (slice_index first.now k) (slice_index second.now k) }
+    ensures rest { (k : ℕ) → used ≤ k → slice_index result k ≡ 0 }
+{
+    let mut words = no_words();
+    for i in 0..used {
+        words[i] = first[i] & !second[i];
+    }
+    words
+}
+
+// The place of the highest bit in the first `used` words.
+pub(crate) fn last_place(words: &[u64], used: usize) -> Option<u32>
+    requires few { used ≤ WORDS }
+    requires used { used ≤ length words.now }
+    ensures found { IfSome result (λ greatest. (greatest < 64 * used)
+        × (bit_of words.now greatest ≡ 1)
+        × ((q : ℕ) → greatest < q → q < 64 * used → bit_of words.now q ≡ 0)) }
+    ensures none { IfNone result ((q : ℕ) → q < 64 * used → bit_of words.now q ≡ 0) }
+{
+    for i in (0..used).rev() {
+        if words[i] != 0 {
+            return Some(64 * i as u32 + highest(words[i]));
+        }
+    }
+    None
+}
+
+// The place of the highest 1 of `bits`.
+fn highest(bits: u64) -> u32
+    requires { bits ≢ 0 }
+    ensures place { result < 64 }
+    ensures here { bit_at bits result ≡ 1 }
+    ensures above { (k : ℕ) → result < k → bit_at bits k ≡ 0 }
+{
+    63 - bits.leading_zeros()
+}
+
+// How many bits of the first `used` words are 1.
+pub(crate) fn count_bits(words: &[u64], used: usize) -> u32
+    requires few { used ≤ WORDS }
+    requires used { used ≤ length words.now }
+    ensures { result ≡ set.len (names_below words.now (64 * used)) }
+{
+    let mut count = 0;
+    for i in 0..used {
+        count += words[i].count_ones();
+    }
+    count
+}
+
+// Whether the first `used` words are 0.
+pub(crate) fn are_all_zero(words: &[u64], used: usize) -> bool
+    requires { used ≤ length words.now }
+    ensures { IsTrue result
+        ↔ ((k i : ℕ) → k < used → i < 64 → bit_at (slice_index words.now k) i ≡ 0) }
+{
+    for i in 0..used {
+        if words[i] != 0 {
+            return false;
+        }
+    }
+    true
+}
+
+// Whether the first `used` words are equal.
+pub(crate) fn are_equal(first: &[u64], second: &[u64], used: usize) -> bool
+    requires first { used ≤ length first.now }
+    requires second { used ≤ length second.now }
+    ensures { IsTrue result ↔ ((k i : ℕ) → k < used → i < 64
+        → bit_at (slice_index first.now k) i ≡ bit_at (slice_index second.now k) i) }
+{
+    for i in 0..used {
+        if first[i] != second[i] {
+            return false;
+        }
+    }
+    true
+}
+
+// Whether `second` has each bit of the first `used` words.
+pub(crate) fn are_within(first: &[u64], second: &[u64], used: usize) -> bool
+    requires first { used ≤ length first.now }
+    requires second { used ≤ length second.now }
+    ensures { IsTrue result ↔ ((k i : ℕ) → k < used → i < 64
+        → bit_at (slice_index first.now k) i ≤ bit_at (slice_index second.now k) i) }
+{
+    for i in 0..used {
+        if first[i] | second[i] != second[i] {
+            return false;
+        }
+    }
+    true
+}
+
+// Which of the names `first + k`, k below 64, are from `from` on and below `to`. Condition: one of
+// them is below `to`, and one isn't below `from`.
+pub(crate) fn bits_of_range(first: u32, from: u32, to: u32) -> u64
+    requires some { first < to }
+    requires within { from < first + 64 }
+    requires name { first < NAMES }
+    ensures { (k : ℕ) → k < 64
+        → (bit_at result k == 1) ≡ (nat_le from (first + k) && nat_lt (first + k) to) }
+{
+    from_place(
+        below_place((to - first).min(64)),
+        from.saturating_sub(first),
+    )
+}
+
+// The bits below `place` alone.
+fn below_place(place: u32) -> u64
+    requires some { 0 < place }
+    requires within { place ≤ 64 }
+    ensures { (k : ℕ) → k < 64 → bit_at result k ≡ (if nat_lt k place then 1 else 0) }
+{
+    u64::MAX >> (64 - place)
+}
+
+// The bits of `word` from `place` on.
+pub(crate) fn from_place(word: u64, place: u32) -> u64
+    requires { place < 64 }
+    ensures { (k : ℕ) → k < 64 → bit_at result k ≡ (if nat_le place k then bit_at word k else 0) }
+{
+    word >> place << place
+}
+
+/// The place of the lowest 1 of `bits`, and `bits` without it: for writers that take 64 names at
+/// once by `Names::block`. Condition: there is a 1.
+pub fn lowest(bits: u64) -> (u32, u64)
+    requires { bits ≢ 0 }
+    ensures place { result.0 < 64 }
+    ensures rest { (first : ℕ)
+        → bits_between first bits 64 ≡ (first + result.0) ∷ bits_between first result.1 64 }
+{
+    (bits.trailing_zeros(), bits & (bits - 1))
+}
