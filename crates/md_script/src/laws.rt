@@ -1,6 +1,14 @@
 //! What holds of scripts and edits. Each function has an empty body, and its contract is the law: the statement stands
 //! in `specs/Laws.antt`.
+ghost use Rattle.std.specs.Prelude.{◌≡◌};
 ghost use Rattle.md_script.specs.Laws.{SpelledOrFaulty, SpelledHasNoFault, SpelledHasNames, GivesGraph, NamesLeast};
+
+use crate::EDITS;
+
+/// How many edits a script may have.
+pub fn edits_of_a_script()
+    ensures { EDITS ≡ 200000 }
+{}
 
 /// Bytes either spell exactly one script or have a first fault, and not both; the names of a script that is
 /// spelled are below `NAMES`.
