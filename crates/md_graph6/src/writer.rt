@@ -5,7 +5,8 @@ ghost use Rattle.std.specs.FinSet as set;
 ghost use Rattle.md_graph.specs.NameSet.{ascending};
 ghost use Rattle.md_graph6.specs.Bits.{bit, pair_number, body_length};
 ghost use Rattle.md_graph6.specs.Size.{size_text};
-ghost use Rattle.md_graph6.specs.File.{SpellsOnly, first_fault, graphs_of};
+ghost use Rattle.md_text.specs.Spelling.{SpellsOnly};
+ghost use Rattle.md_graph6.specs.File.{Spells, first_fault, graphs_of};
 ghost use Rattle.md_graph6.specs.Window.{AreGroups, IsPut};
 ghost use Rattle.md_graph6.specs.Written.{bit_if, nth, renumbered, IsWritten, IsTextOf};
 ghost use Rattle.md_graph6.specs.Text.{graph6_text};
@@ -298,7 +299,7 @@ fn blank_line(alloc: Global, n: u32, size: usize) -> Result<Vec<u8>, Memory>
 pub fn write(alloc: Global, graph: &Graph) -> Result<Vec<u8>, Memory>
     ensures bytes { IfOk result (λ text. text.items ≡ graph6_text graph.now) }
     ensures text { IfOk result (λ text. IsTextOf text.items graph.now) }
-    ensures spells { IfOk result (λ text. SpellsOnly text.items (renumbered graph.now ∷ [])) }
+    ensures spells { IfOk result (λ text. SpellsOnly Spells text.items (renumbered graph.now ∷ [])) }
     ensures no_fault { IfOk result (λ text. first_fault text.items ≡ None) }
     ensures graphs { IfOk result (λ text. graphs_of text.items ≡ renumbered graph.now ∷ []) }
 {
