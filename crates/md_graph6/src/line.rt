@@ -14,7 +14,7 @@ use md_graph::{Graph, NAMES};
 const LONG: u8 = 126;
 
 /// The greatest size that one byte spells.
-const MOST_IN_ONE_BYTE: u64 = 62;
+pub(crate) const MOST_IN_ONE_BYTE: u32 = 62;
 
 /// The greatest size that four bytes spell.
 const MOST_IN_FOUR_BYTES: u64 = 258_047;
@@ -58,7 +58,7 @@ fn size(line: &[u8]) -> Option<(usize, u64)>
 fn is_too_long(taken: usize, n: u64) -> bool
     ensures { result ≡ is_too_long taken n }
 {
-    taken == 4 && n <= MOST_IN_ONE_BYTE || taken == 8 && n <= MOST_IN_FOUR_BYTES
+    taken == 4 && n <= u64::from(MOST_IN_ONE_BYTE) || taken == 8 && n <= MOST_IN_FOUR_BYTES
 }
 
 /// The number of pairs of n vertices.
@@ -68,6 +68,14 @@ fn pair_count(n: u64) -> usize
     ensures below { result < 4294967296 }
 {
     (n * n.saturating_sub(1) / 2) as usize
+}
+
+/// How many bytes hold a bit for each pair of n vertices.
+pub(crate) fn body_length(n: u64) -> usize
+    requires { n ≤ NAMES }
+    ensures { result ≡ body_length n }
+{
+    pair_count(n).div_ceil(6)
 }
 
 /// Whether a bit behind those of the pairs is 1. They stand in the last byte.
@@ -96,7 +104,7 @@ fn body_fault(line: &[u8], taken: usize, n: u64) -> Option<G6Kind>
     if n > u64::from(NAMES) {
         return Some(G6Kind::TooManyVertices);
     }
-    let end = taken + pair_count(n).div_ceil(6);
+    let end = taken + body_length(n);
     if line.len() < end {
         return Some(G6Kind::Truncated);
     }

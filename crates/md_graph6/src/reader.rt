@@ -3,8 +3,9 @@ ghost use Rattle.std.specs.Prelude.{◌≡◌, ◌<◌, ◌≤◌, [], ◌∷◌
 ghost use Rattle.std.specs.Bool.{OnTrue, OnFalse};
 ghost use Rattle.md_graph.specs.PlainGraph.{empty_graph};
 ghost use Rattle.md_graph6.specs.Line.{line_fault, graph_of_line};
-ghost use Rattle.md_graph6.specs.File.{without_header, stripped_lines, graphs_in, HasNoFault, first_fault, graphs_of};
+ghost use Rattle.md_graph6.specs.File.{stripped_lines, graphs_in, HasNoFault, first_fault, graphs_of};
 
+use crate::file::without_header;
 use crate::line::fill_line;
 use md_graph::Graph;
 use md_text::{split_line, without_return};
@@ -60,14 +61,6 @@ impl<'a> Lines<'a> {
         fill_line(graph, line);
         true
     }
-}
-
-/// The file without its header, if it has one.
-pub fn without_header(bytes: &[u8]) -> &[u8]
-    ensures value { result.now ≡ without_header bytes.now }
-    ensures shorter { length result.now ≤ length bytes.now }
-{
-    bytes.strip_prefix(b">>graph6<<").unwrap_or(bytes)
 }
 
 /// The first line that isn't empty, and what stands behind it; an empty one where there is none.

@@ -5,20 +5,19 @@ ghost use Rattle.std.specs.FinSet as set;
 ghost use Rattle.md_graph.specs.NameSet.{ascending};
 ghost use Rattle.md_graph6.specs.Bits.{bit, pair_number, body_length};
 ghost use Rattle.md_graph6.specs.Size.{size_text};
-ghost use Rattle.md_graph6.specs.File.{SpellsOnly, first_fault, graphs_of};
+ghost use Rattle.md_text.specs.Spelling.{SpellsOnly};
+ghost use Rattle.md_graph6.specs.File.{Spells, first_fault, graphs_of};
 ghost use Rattle.md_graph6.specs.Window.{AreGroups, IsPut};
 ghost use Rattle.md_graph6.specs.Written.{bit_if, nth, renumbered, IsWritten, IsTextOf};
 ghost use Rattle.md_graph6.specs.Text.{graph6_text};
 
 use crate::body::{bits_of, column_place, low_bits, turned};
+use crate::line::{MOST_IN_ONE_BYTE, body_length};
 use md_graph::{Graph, Memory, NAMES, Names};
 use std::alloc::Global;
 
 /// The byte of six bits that are 0.
 const NO_BITS: u8 = 63;
-
-/// The greatest size that one byte spells.
-const MOST_IN_ONE_BYTE: u32 = 62;
 
 /// The byte of the lowest six bits of a word, the first bit in the lowest place.
 #[inline]
@@ -269,14 +268,6 @@ fn push_size(text: &mut Vec<u8>, n: u32)
     text.push_reserved((n % 64) as u8 + NO_BITS);
 }
 
-/// How many bytes hold a bit for each pair of n vertices.
-fn body_length(n: u32) -> usize
-    requires { n ≤ NAMES }
-    ensures { result ≡ body_length n }
-{
-    (n as usize * (n as usize).saturating_sub(1) / 2 + 5) / 6
-}
-
 /// The line of n vertices without edges, and room for one byte more.
 fn blank_line(alloc: Global, n: u32, size: usize) -> Result<Vec<u8>, Memory>
     requires few { n ≤ NAMES }
@@ -284,7 +275,7 @@ fn blank_line(alloc: Global, n: u32, size: usize) -> Result<Vec<u8>, Memory>
     ensures items { IfOk result (λ text. text.items ≡ size_text n ++ replicate (body_length n) 63) }
     ensures room { IfOk result (λ text. vec_len text < vec_capacity text) }
 {
-    let end = size + body_length(n);
+    let end = size + body_length(u64::from(n));
     let mut text = Vec::with_capacity(alloc, end + 1)?;
     push_size(&mut text, n);
     text.resize(end, NO_BITS)?;
@@ -298,7 +289,7 @@ fn blank_line(alloc: Global, n: u32, size: usize) -> Result<Vec<u8>, Memory>
 pub fn write(alloc: Global, graph: &Graph) -> Result<Vec<u8>, Memory>
     ensures bytes { IfOk result (λ text. text.items ≡ graph6_text graph.now) }
     ensures text { IfOk result (λ text. IsTextOf text.items graph.now) }
-    ensures spells { IfOk result (λ text. SpellsOnly text.items (renumbered graph.now ∷ [])) }
+    ensures spells { IfOk result (λ text. SpellsOnly Spells text.items (renumbered graph.now ∷ [])) }
     ensures no_fault { IfOk result (λ text. first_fault text.items ≡ None) }
     ensures graphs { IfOk result (λ text. graphs_of text.items ≡ renumbered graph.now ∷ []) }
 {

@@ -1,12 +1,22 @@
 //! What holds of scripts and edits. Each function has an empty body, and its contract is the law: the statement stands
 //! in `specs/Laws.antt`.
-ghost use Rattle.md_script.specs.Laws.{SpelledOrFaulty, SpelledHasNoFault, SpelledHasNames, GivesGraph, NamesLeast};
+ghost use Rattle.std.specs.Prelude.{◌≡◌};
+ghost use Rattle.md_text.specs.Spelling.{SpelledOrFaulty, SpelledHasNoFault};
+ghost use Rattle.md_script.specs.File.{SpellsScript, first_fault};
+ghost use Rattle.md_script.specs.Laws.{SpelledHasNames, GivesGraph, NamesLeast};
+
+use crate::EDITS;
+
+/// How many edits a script may have.
+pub fn edits_of_a_script()
+    ensures { EDITS ≡ 200000 }
+{}
 
 /// Bytes either spell exactly one script or have a first fault, and not both; the names of a script that is
 /// spelled are below `NAMES`.
 pub fn scripts_are_spelled_or_faulty()
-    ensures either { SpelledOrFaulty }
-    ensures spelled { SpelledHasNoFault }
+    ensures either { SpelledOrFaulty SpellsScript first_fault }
+    ensures spelled { SpelledHasNoFault SpellsScript first_fault }
     ensures names { SpelledHasNames }
 {}
 
