@@ -1,7 +1,8 @@
 //! Writes the pairs of a node.
-ghost use Rattle.std.specs.Prelude.{◌≡◌, ◌^◌, ◌<◌, ◌≤◌, [], ◌∷◌, ◌++◌, length, drop, IsTrue, OnOk};
+ghost use Rattle.std.specs.Prelude.{◌≡◌, ◌^◌, ◌<◌, ◌≤◌, [], ◌∷◌, ◌++◌, length, drop, IsTrue, OnOk, OnErr};
 ghost use Rattle.md_text.specs.Numbers.{decimal};
 ghost use Rattle.md_text.specs.Pieces.{piece_text};
+ghost use Rattle.md_tree.specs.Fronts.{BeginsWith};
 ghost use Rattle.md_tree.specs.Positions.{ArePositions};
 ghost use Rattle.md_tree.specs.TreeTexts.{pairs_text};
 
@@ -49,7 +50,9 @@ pub(crate) fn push_pairs(
     count: usize,
     space: &mut Workspace,
 ) -> Result<(), Memory>
-    ensures { OnOk result (text.new.items ≡ text.old.items ++ pairs_text 59 edges.now.list.items) }
+    ensures written { OnOk result (text.new.items
+        ≡ text.old.items ++ pairs_text 59 edges.now.list.items) }
+    ensures begun { OnErr result (BeginsWith text.new.items text.old.items) }
 {
     if edges.list.is_empty() {
         return Ok(());
@@ -81,7 +84,8 @@ fn push_more(
     chunk: &mut Chunk,
 ) -> Result<(), Memory>
     requires { ArePositions positions.now }
-    ensures { OnOk result (text.new.items ≡ text.old.items ++ pairs_text 44 pairs.now) }
+    ensures written { OnOk result (text.new.items ≡ text.old.items ++ pairs_text 44 pairs.now) }
+    ensures begun { OnErr result (BeginsWith text.new.items text.old.items) }
 {
     chunk.clear();
     let mut start = start_at(0);
@@ -122,7 +126,7 @@ fn put_run(
     end
 }
 
-// Gathers a pair; a chunk that is more than half full goes to the text first.
+// Gathers a pair; a chunk that is more than half full goes to the text first. The text only grows.
 fn put_pair(
     text: &mut Vec<u8>,
     pair: Pair,
@@ -131,14 +135,17 @@ fn put_pair(
     chunk: &mut Chunk,
 ) -> Result<(), Memory>
     requires { ArePositions positions.now }
-    ensures { OnOk result (text.new.items ++ chunk.new
+    ensures written { OnOk result (text.new.items ++ chunk.new
         ≡ (text.old.items ++ chunk.old) ++ 44 ∷ (decimal pair.low ++ 45 ∷ decimal pair.high)) }
+    ensures begun { BeginsWith text.new.items text.old.items }
 {
     if pair.high as usize >= positions.len() || !move_to(start, pair.low) {
         chunk.flush(text)?;
         return push_pair(text, b',', pair);
     }
-    chunk.make_room(CHUNK_SIZE / 2, text)?;
+    if chunk.room() < CHUNK_SIZE / 2 {
+        chunk.flush(text)?;
+    }
     chunk.put_both(start.piece, positions[pair.high as usize]);
     Ok(())
 }
@@ -168,8 +175,9 @@ fn start_at(low: u32) -> Start
 }
 
 fn push_pair(text: &mut Vec<u8>, mark: u8, pair: Pair) -> Result<(), Memory>
-    ensures { OnOk result (text.new.items
+    ensures written { OnOk result (text.new.items
         ≡ text.old.items ++ mark ∷ (decimal pair.low ++ 45 ∷ decimal pair.high)) }
+    ensures begun { OnErr result (BeginsWith text.new.items text.old.items) }
 {
     text.push(mark)?;
     push_number(text, u64::from(pair.low))?;
