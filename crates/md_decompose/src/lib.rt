@@ -10,7 +10,6 @@ mod node;
 mod ordered;
 mod pairs;
 mod part;
-mod partition;
 mod prime;
 
 pub use decomposition::decompose;
