@@ -15,7 +15,7 @@ abbrev pub class : NameSet → (ℕ → ℕ) → ℕ → NameSet
 class s rep p = retain s (λ x. nat_eq (rep x) p)
 
 -- s is partitioned into modules, r has one name of each class, and rep leads each name to that of its class
-pub record IsPartition (e : ℕ → ℕ → Bool) (s r : NameSet) (rep : ℕ → ℕ) : Type 0 where
+pub record IsModularPartition (e : ℕ → ℕ → Bool) (s r : NameSet) (rep : ℕ → ℕ) : Type 0 where
   pub inside : Within r s
   pub leads : (x : ℕ) → Has s x → Has r (rep x)
   pub own : (p : ℕ) → Has r p → rep p ≡ p
