@@ -69,6 +69,31 @@ fn texts_are_written(rt: HostRuntime) -> Result<(), Fail> {
     Ok(())
 }
 
+/// The line of the graph on 63 vertices with the edges 0-1, 0-62 and 61-62.
+fn line_of_63(alloc: Global) -> Result<Vec<u8>, Fail> {
+    let mut text = Vec::new(alloc);
+    text.extend_from_slice(b"~??~_")?;
+    text.resize(319, b'?')?;
+    text.push(b'O')?;
+    text.resize(329, b'?')?;
+    text.extend_from_slice(b"G\n")?;
+    Ok(text)
+}
+
+#[test]
+fn four_bytes_of_size_are_written(rt: HostRuntime) -> Result<(), Fail> {
+    let mut graph = Graph::new(rt.alloc())?;
+    for v in 0..63 {
+        take(&mut graph, v);
+    }
+    for (u, v) in [(0, 1), (0, 62), (61, 62)] {
+        join(&mut graph, u, v);
+    }
+    let written = write(rt.alloc(), &graph)?;
+    assert_eq!(rt; written.as_slice(), line_of_63(rt.alloc())?.as_slice());
+    Ok(())
+}
+
 /// An edge of the graphs on many vertices.
 fn runs_between(i: u32, j: u32) -> bool {
     (i ^ j) % 2 == 1 || j % 7 == i % 5
