@@ -1,5 +1,6 @@
 -- Partitions of a set of names, and the parts of a prime set that its modules lie in.
--- Source: Habib and Paul, A survey of the algorithmic aspects of modular decomposition (partition refinement).
+-- Source: Habib and Paul, A survey of the algorithmic aspects of modular decomposition (partition
+-- refinement).
 use Rattle.std.specs.Prelude.{◌≡◌, ◌<◌, ◌⊎◌, ℕ, Bool, true, false, List, length, get_or}
 use Rattle.std.specs.FinSet.{empty, difference}
 use Rattle.md_graph.specs.Sets.{NameSet, Has, Lacks, Within, Disjoint, HasSome}
@@ -40,7 +41,8 @@ pub record IsPartition (b : NameSet) (cs : List NameSet) : Type 0 where
 -- the sets partition b, and each module of s that is a part of b lies in one of them
 pub record HoldsModules (e : ℕ → ℕ → Bool) (s b : NameSet) (cs : List NameSet) : Type 0 where
   pub partition : IsPartition b cs
-  pub whole : (m : NameSet) → IsModule e s m → Within m b → (k x : ℕ) → Has (class_at cs k) x → Has m x → Within m (class_at cs k)
+  pub whole : (m : NameSet) → IsModule e s m → Within m b → (k x : ℕ) → Has (class_at cs k) x →
+      Has m x → Within m (class_at cs k)
 
 -- the list has exactly the maximal ones among the modules of s that are parts of b
 pub record AreMaximalInside (e : ℕ → ℕ → Bool) (s b : NameSet) (cs : List NameSet) : Type 0 where

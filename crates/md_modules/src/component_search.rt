@@ -1,5 +1,6 @@
-//! The search for a component, of a graph or of its complement. It keeps what it hasn't taken yet and what it took and hasn't
-//! looked at, and needs no memory: a fixed number of operations on rows for each name that it takes.
+//! The search for a component, of a graph or of its complement. It keeps what it hasn't taken yet
+//! and what it took and hasn't looked at, and needs no memory: a fixed number of operations on rows
+//! for each name that it takes.
 ghost use Rattle.std.specs.Prelude.{◌≡◌, ℕ, ◌<◌, ◌≤◌, ◌+◌, ◌↔◌, IsTrue, true, false};
 ghost use Rattle.std.specs.FinSet.{difference, len};
 ghost use Rattle.md_graph.specs.PlainGraph.{adjacent};
@@ -25,8 +26,8 @@ pub fn co_connected(graph: &Graph) -> bool
     is_whole(graph, true)
 }
 
-/// Puts into `into` the component of `x` in the graph on `within`. Condition: `within` is a set of vertices, and `x` a
-/// member.
+/// Puts into `into` the component of `x` in the graph on `within`. Condition: `within` is a set of
+/// vertices, and `x` a member.
 pub fn component(graph: &Graph, within: &Names, x: u32, into: &mut Names)
     requires inside { Within within.now graph.now.vertices }
     requires member { Has within.now x }
@@ -36,8 +37,8 @@ pub fn component(graph: &Graph, within: &Names, x: u32, into: &mut Names)
     into.flip(within);
 }
 
-/// Puts into `into` the component of `x` in the complement of the graph on `within`. Condition: `within` is a set of
-/// vertices, and `x` a member.
+/// Puts into `into` the component of `x` in the complement of the graph on `within`. Condition:
+/// `within` is a set of vertices, and `x` a member.
 pub fn co_component(graph: &Graph, within: &Names, x: u32, into: &mut Names)
     requires inside { Within within.now graph.now.vertices }
     requires member { Has within.now x }
@@ -47,8 +48,8 @@ pub fn co_component(graph: &Graph, within: &Names, x: u32, into: &mut Names)
     into.flip(within);
 }
 
-/// Whether `w` is adjacent to one of `among` (`value` is true), or not adjacent to one (`value` is false). Conditions: `w` is a
-/// name, and `apart` is a set without a member of `among`.
+/// Whether `w` is adjacent to one of `among` (`value` is true), or not adjacent to one (`value` is
+/// false). Conditions: `w` is a name, and `apart` is a set without a member of `among`.
 pub fn sees(graph: &Graph, w: u32, value: bool, among: &Names, apart: &Names) -> bool
     requires name { w < NAMES }
     requires apart { Disjoint among.now apart.now }
@@ -75,13 +76,14 @@ fn is_whole(graph: &Graph, value: bool) -> bool
     left.is_empty()
 }
 
-// Puts into `left` what the component of `x` leaves of `within`, in the graph (`value` is false) or its complement (`value` is
-// true).
+// Puts into `left` what the component of `x` leaves of `within`, in the graph (`value` is false) or
+// its complement (`value` is true).
 fn unreached(graph: &Graph, within: &Names, x: u32, value: bool, left: &mut Names)
     requires inside { Within within.now graph.now.vertices }
     requires member { Has within.now x }
     ensures part { Within left.new within.now }
-    ensures taken { IsComponent (adjacent graph.now) within.now x (difference within.now left.new) value }
+    ensures taken { IsComponent (adjacent graph.now) within.now x
+        (difference within.now left.new) value }
 {
     let _vertices = graph.vertices();
     left.clear();
@@ -89,11 +91,14 @@ fn unreached(graph: &Graph, within: &Names, x: u32, value: bool, left: &mut Name
     left.remove(x);
     let mut todo = Names::none();
     todo.insert(x);
-    // Each name is taken once. Then a turn looks at it, at six operations on rows or fewer beside those at the names left in a
-    // look back; or a look back, which costs one for each name left, saves the turns of as many names or more. So a search
-    // costs at most six operations on rows for each name that it takes. The searches of one node take each name of its set
-    // once, and a search that finds one component alone once more. The nodes of one depth share no name, and n vertices leave
-    // room for n depths, whose sets shrink by a name at least: some 6n² operations in all, within 8n².
+    // Each name is taken once. Then a turn looks at it, at some six operations on rows beside those
+    // at the names left in a look back; or a look back, which costs one for each name left, saves
+    // the turns of as many names or more. So a search of k names costs some 6k + 4 operations on
+    // rows: ten for one name. The searches of one node take each name of its set once, and a search
+    // that finds one component alone once more. The nodes of one depth share no name, and n vertices
+    // leave room for n depths, whose sets shrink by a name at least. So the searches for components
+    // take some n² names and 6n² operations at most, where n is large; what `grow`, `back` and
+    // `maximal_modules` cost at prime nodes comes beside.
     let mut from_end = false;
     while let Some(w) = next(left, &todo, from_end) {
         turn(graph, within, value, w, left, &mut todo);
@@ -101,8 +106,8 @@ fn unreached(graph: &Graph, within: &Names, x: u32, value: bool, left: &mut Name
     }
 }
 
-// One turn of the search for a component: what is left and adjacent to `w` is taken. Where nothing is, the search looks back,
-// unless more names are left than are to be looked at.
+// One turn of the search for a component: what is left and adjacent to `w` is taken. Where nothing
+// is, the search looks back, unless more names are left than are to be looked at.
 fn turn(graph: &Graph, within: &Names, value: bool, w: u32, left: &mut Names, todo: &mut Names)
     requires member { Has todo.old w }
     requires name { w < NAMES }
@@ -122,8 +127,8 @@ fn turn(graph: &Graph, within: &Names, value: bool, w: u32, left: &mut Names, to
     }
 }
 
-// What is left and adjacent to a name taken is taken, and nothing else is to be looked at: no name taken before is adjacent to
-// one that is still left.
+// What is left and adjacent to a name taken is taken, and nothing else is to be looked at: no name
+// taken before is adjacent to one that is still left.
 fn look_back(graph: &Graph, within: &Names, value: bool, left: &mut Names, todo: &mut Names)
     ensures kept { (x : ℕ) → IsReaching (adjacent graph.now) within.now value x left.old todo.old
         → IsReaching (adjacent graph.now) within.now value x left.new todo.new }
@@ -136,7 +141,8 @@ fn look_back(graph: &Graph, within: &Names, value: bool, left: &mut Names, todo:
     left.move_shared(&new, todo);
 }
 
-// The members of `left` that are adjacent to one of `taken` (`value` is true), or that aren't (`value` is false).
+// The members of `left` that are adjacent to one of `taken` (`value` is true), or that aren't
+// (`value` is false).
 fn seeing(graph: &Graph, value: bool, left: &Names, taken: &Names) -> Names
     requires { Disjoint taken.now left.now }
     ensures { (y : ℕ) → Has result y ↔ (Has left.now y

@@ -1,6 +1,6 @@
-//! The search for the least module that holds a set, and for the names that no smaller module holds with one. It keeps what it
-//! hasn't taken yet and what it took and hasn't looked at, and needs no memory: a fixed number of operations on rows for each
-//! name that it takes.
+//! The search for the least module that holds a set, and for the names that no smaller module holds
+//! with one. It keeps what it hasn't taken yet and what it took and hasn't looked at, and needs no
+//! memory: a fixed number of operations on rows for each name that it takes.
 ghost use Rattle.std.specs.Prelude.{◌≡◌, ◌≢◌, ℕ, ◌<◌, ◌↔◌, IsTrue, true, false};
 ghost use Rattle.std.specs.FinSet.{difference};
 ghost use Rattle.md_graph.specs.PlainGraph.{adjacent};
@@ -10,8 +10,9 @@ ghost use Rattle.md_modules.specs.Modules.{IsModule, IsLeastModule, IsLeastModul
 use crate::shared::{move_seen, next};
 use md_graph::{Graph, NAMES, Names};
 
-/// Whether `names` is a module of the graph: a nonempty set of vertices, to all of which or to none of which each other
-/// vertex is adjacent. It is false for the empty set, and for a set with a name that is no vertex.
+/// Whether `names` is a module of the graph: a nonempty set of vertices, to all of which or to none
+/// of which each other vertex is adjacent. It is false for the empty set, and for a set with a name
+/// that is no vertex.
 pub fn is_module(graph: &Graph, names: &Names) -> bool
     ensures { IsTrue result ↔ IsModule (adjacent graph.now) graph.now.vertices names.now }
 {
@@ -25,8 +26,8 @@ pub fn is_module(graph: &Graph, names: &Names) -> bool
     are_alike(graph, v, names, &vertices.minus(names))
 }
 
-/// Puts into `into` the least module of the graph that holds `u` and `v`: `u` alone where they are equal. Condition: both
-/// are vertices.
+/// Puts into `into` the least module of the graph that holds `u` and `v`: `u` alone where they are
+/// equal. Condition: both are vertices.
 pub fn closure(graph: &Graph, u: u32, v: u32, into: &mut Names)
     requires first { Has graph.now.vertices u }
     requires second { Has graph.now.vertices v }
@@ -35,8 +36,8 @@ pub fn closure(graph: &Graph, u: u32, v: u32, into: &mut Names)
     closure_in(graph, graph.vertices(), u, v, into);
 }
 
-/// Puts into `into` the least module of the graph on `within` that holds `u` and `v`: `u` alone where they are equal.
-/// Condition: `within` is a set of vertices, and both are members.
+/// Puts into `into` the least module of the graph on `within` that holds `u` and `v`: `u` alone
+/// where they are equal. Condition: `within` is a set of vertices, and both are members.
 pub fn closure_in(graph: &Graph, within: &Names, u: u32, v: u32, into: &mut Names)
     requires inside { Within within.now graph.now.vertices }
     requires first { Has within.now u }
@@ -55,15 +56,17 @@ pub fn closure_in(graph: &Graph, within: &Names, u: u32, v: u32, into: &mut Name
     grow(graph, within, u, into, todo);
 }
 
-/// Grows `into` to the least module of the graph on `within` that holds it. Condition: `within` is a set of vertices,
-/// `into` a part of it that holds `v`, and `todo` a part of `into`; for each member of `into` outside `todo`, each name of
-/// `within` outside `into` is adjacent to both that member and `v` or to neither.
+/// Grows `into` to the least module of the graph on `within` that holds it. Condition: `within` is
+/// a set of vertices, `into` a part of it that holds `v`, and `todo` a part of `into`; for each
+/// member of `into` outside `todo`, each name of `within` outside `into` is adjacent to both that
+/// member and `v` or to neither.
 pub fn grow(graph: &Graph, within: &Names, v: u32, into: &mut Names, todo: Names)
     requires inside { Within within.now graph.now.vertices }
     requires part { Within into.old within.now }
     requires fixed { Has into.old v }
     requires among { Within todo into.old }
-    requires seen { (w : ℕ) → Has into.old w → Lacks todo w → (y : ℕ) → Has within.now y → Lacks into.old y
+    requires seen { (w : ℕ) → Has into.old w → Lacks todo w
+        → (y : ℕ) → Has within.now y → Lacks into.old y
         → adjacent graph.now v y ≡ adjacent graph.now w y }
     ensures { IsLeastModuleOver (adjacent graph.now) within.now into.old into.new }
 {
@@ -71,15 +74,17 @@ pub fn grow(graph: &Graph, within: &Names, v: u32, into: &mut Names, todo: Names
     into.flip(within);
 }
 
-/// Puts into `into` the names of `within` other than `v` that no module holds with `v` but `within` itself; the rest of
-/// `within` is a module that holds `v`. Condition: `within` is a set of vertices, `v` and `j` are different members, and
-/// the least module of the graph on `within` that holds both is `within`.
+/// Puts into `into` the names of `within` other than `v` that no module holds with `v` but `within`
+/// itself; the rest of `within` is a module that holds `v`. Condition: `within` is a set of
+/// vertices, `v` and `j` are different members, and the least module of the graph on `within` that
+/// holds both is `within`.
 pub fn back(graph: &Graph, within: &Names, v: u32, j: u32, into: &mut Names)
     requires inside { Within within.now graph.now.vertices }
     requires differ { v ≢ j }
     requires whole { IsLeastModule (adjacent graph.now) within.now v j within.now }
     ensures names { (i : ℕ) → Has into.new i
-        ↔ (Has within.now i × (i ≢ v) × IsLeastModule (adjacent graph.now) within.now v i within.now) }
+        ↔ (Has within.now i × (i ≢ v)
+        × IsLeastModule (adjacent graph.now) within.now v i within.now) }
     ensures rest { IsModule (adjacent graph.now) within.now (difference within.now into.new) }
     ensures fixed { Has (difference within.now into.new) v }
 {
@@ -105,23 +110,27 @@ fn are_alike(graph: &Graph, v: u32, names: &Names, others: &Names) -> bool
 fn see_alike(graph: &Graph, v: u32, w: u32, others: &Names) -> bool
     requires left { v < NAMES }
     requires right { w < NAMES }
-    ensures { IsTrue result ↔ ((y : ℕ) → Has others.now y → adjacent graph.now v y ≡ adjacent graph.now w y) }
+    ensures { IsTrue result ↔ ((y : ℕ) → Has others.now y
+        → adjacent graph.now v y ≡ adjacent graph.now w y) }
 {
     others
         .first_told_apart(graph.row(v), graph.row(w))
         .is_none()
 }
 
-// Puts into `left`, in place of its members, what the least module that holds them leaves of `within`.
+// Puts into `left`, in place of its members, what the least module that holds them leaves of
+// `within`.
 fn not_grown(graph: &Graph, within: &Names, v: u32, left: &mut Names, mut todo: Names)
     requires inside { Within within.now graph.now.vertices }
     requires part { Within left.old within.now }
     requires fixed { Has left.old v }
     requires among { Within todo left.old }
-    requires seen { (w : ℕ) → Has left.old w → Lacks todo w → (y : ℕ) → Has within.now y → Lacks left.old y
+    requires seen { (w : ℕ) → Has left.old w → Lacks todo w
+        → (y : ℕ) → Has within.now y → Lacks left.old y
         → adjacent graph.now v y ≡ adjacent graph.now w y }
     ensures part { Within left.new within.now }
-    ensures grown { IsLeastModuleOver (adjacent graph.now) within.now left.old (difference within.now left.new) }
+    ensures grown { IsLeastModuleOver (adjacent graph.now) within.now left.old
+        (difference within.now left.new) }
 {
     let _vertices = graph.vertices();
     left.flip(within);
@@ -133,7 +142,8 @@ fn not_grown(graph: &Graph, within: &Names, v: u32, left: &mut Names, mut todo: 
     }
 }
 
-// Puts into `left` the names of `within` that a module smaller than `within` holds with `v`, and `v`.
+// Puts into `left` the names of `within` that a module smaller than `within` holds with `v`, and
+// `v`.
 fn not_back(graph: &Graph, within: &Names, v: u32, j: u32, left: &mut Names)
     requires inside { Within within.now graph.now.vertices }
     requires differ { v ≢ j }

@@ -11,11 +11,11 @@ use md_graph::{Graph, Memory, NAMES, Names};
 use std::alloc::Global;
 use std::mem::swap;
 
-/// Room for so many classes is taken at once, and a class of so many names is small.
+// Room for so many classes is taken at once, and a class of so many names is small.
 const FEW: u32 = 64;
 
-/// The maximal ones among the modules of `set` that are parts of `rest`, in any order; they partition `rest`. Condition:
-/// `rest` is a nonempty part of `set`.
+/// The maximal ones among the modules of `set` that are parts of `rest`, in any order; they
+/// partition `rest`. Condition: `rest` is a nonempty part of `set`.
 pub fn maximal_modules(
     alloc: Global,
     graph: &Graph,
@@ -32,9 +32,10 @@ pub fn maximal_modules(
     classes.push(rest.copy())?;
     let mut left = set.minus(rest);
     let mut at = 0;
-    // A large class is seen to be final, or to be cut, at two passes over it for each name left that is looked at, and what stays
-    // in its place looks at none of these again but the one that cut it. A small class takes one pass over the names left for
-    // each member, and there are at most two such looks a class. So k classes in a set of m names cost about 4km passes at most.
+    // A large class is seen to be final, or to be cut, at two passes over it for each name left
+    // that is looked at, and what stays in its place looks at none of these again but the one that
+    // cut it. A small class takes one pass over the names left for each member, and there are at
+    // most two such looks a class. So k classes in a set of m names cost about 4km passes at most.
     while at < classes.len() {
         if let Some(p) = splitter(graph, &classes[at], &mut left) {
             split(&mut classes, at, graph.row(p), &mut left)?;
@@ -46,7 +47,7 @@ pub fn maximal_modules(
     Ok(classes)
 }
 
-/// Puts into `left` the names of `set` outside the class at a place, if there is one.
+// Puts into `left` the names of `set` outside the class at a place, if there is one.
 fn begin(set: &Names, classes: &[Names], at: usize, left: &mut Names)
     requires { at < length classes.now → Within (class_at classes.now at) set.now }
     ensures { at < length classes.now → left.new ≡ difference set.now (class_at classes.now at) }
@@ -58,13 +59,14 @@ fn begin(set: &Names, classes: &[Names], at: usize, left: &mut Names)
     }
 }
 
-/// The class at a place becomes one of its two parts, in `row` and outside it, and the other one is a new class, the last
-/// one; `left` takes in its names.
+// The class at a place becomes one of its two parts, in `row` and outside it, and the other one is
+// a new class, the last one; `left` takes in its names.
 fn split(classes: &mut Vec<Names>, at: usize, row: &Names, left: &mut Names) -> Result<(), Memory>
     requires { at < vec_len classes.old }
     ensures { IfOk result (λ _. (part : NameSet)
         × IsSideOf part (class_at classes.old.items at) row.now
-        × (classes.new.items ≡ slice_set classes.old.items at (intersection (class_at classes.old.items at) part)
+        × (classes.new.items
+        ≡ slice_set classes.old.items at (intersection (class_at classes.old.items at) part)
         ++ difference (class_at classes.old.items at) part ∷ [])
         × (left.new ≡ union left.old (difference (class_at classes.old.items at) part))) }
 {
@@ -75,7 +77,8 @@ fn split(classes: &mut Vec<Names>, at: usize, row: &Names, left: &mut Names) -> 
     Ok(())
 }
 
-/// Moves one of the two parts of a class, in `row` and outside it, to the empty set `other`: of a large class the smaller part.
+// Moves one of the two parts of a class, in `row` and outside it, to the empty set `other`: of a
+// large class the smaller part.
 fn divide(class: &mut Names, row: &Names, other: &mut Names)
     requires { other.old ≡ empty }
     ensures { (part : NameSet) × IsSideOf part class.old row.now
@@ -87,13 +90,14 @@ fn divide(class: &mut Names, row: &Names, other: &mut Names)
     }
 }
 
-/// A name of `left` that is adjacent to some of `class` and not to all; none exactly where there is none. Other names
-/// may go from `left`.
+// A name of `left` that is adjacent to some of `class` and not to all; none exactly where there is
+// none. Other names may go from `left`.
 fn splitter(graph: &Graph, class: &Names, left: &mut Names) -> Option<u32>
     requires some { HasSome class.now }
     requires apart { Disjoint class.now left.old }
     ensures found { IfSome result (IsSplitter (adjacent graph.now) left.new class.now) }
-    ensures none { IfNone result ((p : ℕ) → IsSplitter (adjacent graph.now) left.old class.now p → ⊥) }
+    ensures none { IfNone result ((p : ℕ)
+        → IsSplitter (adjacent graph.now) left.old class.now p → ⊥) }
     ensures less { Within left.new left.old }
     ensures kept { (p : ℕ) → IsSplitter (adjacent graph.now) left.old class.now p → Has left.new p }
     ensures name { IfSome result (λ p. p < NAMES) }
@@ -104,12 +108,13 @@ fn splitter(graph: &Graph, class: &Names, left: &mut Names) -> Option<u32>
     splitter_of_many(graph, class, left)
 }
 
-/// The same by a look at each member of the class.
+// The same by a look at each member of the class.
 fn splitter_of_few(graph: &Graph, class: &Names, left: &Names) -> Option<u32>
     requires some { HasSome class.now }
     requires apart { Disjoint class.now left.now }
     ensures found { IfSome result (IsSplitter (adjacent graph.now) left.now class.now) }
-    ensures none { IfNone result ((p : ℕ) → IsSplitter (adjacent graph.now) left.now class.now p → ⊥) }
+    ensures none { IfNone result ((p : ℕ)
+        → IsSplitter (adjacent graph.now) left.now class.now p → ⊥) }
     ensures name { IfSome result (λ p. p < NAMES) }
 {
     let _vertices = graph.vertices();
@@ -124,11 +129,12 @@ fn splitter_of_few(graph: &Graph, class: &Names, left: &Names) -> Option<u32>
     None
 }
 
-/// The same by a look at each name left, which goes where it doesn't cut the class.
+// The same by a look at each name left, which goes where it doesn't cut the class.
 fn splitter_of_many(graph: &Graph, class: &Names, left: &mut Names) -> Option<u32>
     requires apart { Disjoint class.now left.old }
     ensures found { IfSome result (IsSplitter (adjacent graph.now) left.new class.now) }
-    ensures none { IfNone result ((p : ℕ) → IsSplitter (adjacent graph.now) left.old class.now p → ⊥) }
+    ensures none { IfNone result ((p : ℕ)
+        → IsSplitter (adjacent graph.now) left.old class.now p → ⊥) }
     ensures less { Within left.new left.old }
     ensures kept { (p : ℕ) → IsSplitter (adjacent graph.now) left.old class.now p → Has left.new p }
     ensures name { IfSome result (λ p. p < NAMES) }
@@ -142,7 +148,8 @@ fn splitter_of_many(graph: &Graph, class: &Names, left: &mut Names) -> Option<u3
     None
 }
 
-/// Whether `p`, a member of `left`, is adjacent to some of a class and not to all. Condition: the class and `left` don't meet.
+// Whether `p`, a member of `left`, is adjacent to some of a class and not to all. Condition: the
+// class and `left` don't meet.
 fn is_splitter(graph: &Graph, p: u32, class: &Names, left: &Names) -> bool
     requires name { p < NAMES }
     requires member { Has left.now p }

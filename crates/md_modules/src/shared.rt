@@ -6,9 +6,9 @@ ghost use Rattle.md_modules.specs.Seen.{seen_as};
 
 use md_graph::{Graph, NAMES, Names};
 
-// A name to look at, as long as a name is left: the greatest or the least (`from_end` or not); none where nothing is left, or
-// nothing is to be looked at. A search takes both in turn: of vertices each of which is adjacent to those before it, or to those
-// behind it, one end sees most.
+// A name to look at, as long as a name is left: the greatest or the least (`from_end` or not); none
+// where nothing is left, or nothing is to be looked at. A search takes both in turn: of vertices
+// each of which is adjacent to those before it, or to those behind it, one end sees most.
 pub(crate) fn next(left: &Names, todo: &Names, from_end: bool) -> Option<u32>
     ensures found { IfSome result (λ w. Has todo.now w × (w < NAMES)) }
     ensures none { IfNone result (((y : ℕ) → Lacks left.now y) ⊎ ((y : ℕ) → Lacks todo.now y)) }
@@ -22,7 +22,8 @@ pub(crate) fn next(left: &Names, todo: &Names, from_end: bool) -> Option<u32>
     todo.first_from(0)
 }
 
-// Moves the members of `left` that are adjacent to `w` (`value` is true), or that aren't (`value` is false), to `todo`.
+// Moves the members of `left` that are adjacent to `w` (`value` is true), or that aren't (`value`
+// is false), to `todo`.
 pub(crate) fn move_seen(graph: &Graph, w: u32, value: bool, left: &mut Names, todo: &mut Names)
     requires { w < NAMES }
     ensures left { left.new ≡ difference left.old (seen_as graph.now w value left.old) }

@@ -2,19 +2,15 @@
 
 use crate::{
     back, closure, closure_in, co_component, co_connected, component, connected, is_module,
+    maximal_modules,
 };
 use md_graph::{Graph, Memory, NAMES, Names};
 use std::alloc::Global;
 use std::process::Abort;
 use std::test::Fail;
 
-/// The graph with the vertices below `count` and these edges.
-fn made(
-    rt: &impl Abort,
-    alloc: Global,
-    count: u32,
-    edges: &[(u32, u32)],
-) -> Result<Graph, Memory> {
+// The graph with the vertices below `count` and these edges.
+fn made(rt: &impl Abort, alloc: Global, count: u32, edges: &[(u32, u32)]) -> Result<Graph, Memory> {
     let mut g = Graph::new(alloc)?;
     for v in 0..count {
         assert!(rt; v < NAMES && !g.has_vertex(v));
@@ -43,7 +39,7 @@ fn set(rt: &impl Abort, list: &[u32]) -> Names {
     names
 }
 
-/// Sees that the set has these members, and no others.
+// Sees that the set has these members, and no others.
 fn expect(rt: &impl Abort, names: &Names, list: &[u32]) {
     assert_eq!(rt; names.count() as usize, list.len());
     for v in list {
@@ -51,7 +47,7 @@ fn expect(rt: &impl Abort, names: &Names, list: &[u32]) {
     }
 }
 
-/// Sees what the least module of `u` and `v` is.
+// Sees what the least module of `u` and `v` is.
 fn closed(rt: &impl Abort, g: &Graph, u: u32, v: u32, list: &[u32]) {
     assert!(rt; g.has_vertex(u));
     assert!(rt; g.has_vertex(v));
@@ -60,7 +56,8 @@ fn closed(rt: &impl Abort, g: &Graph, u: u32, v: u32, list: &[u32]) {
     expect(rt, &into, list);
 }
 
-/// Sees what the component of `x`, that of the complement, and the least module of `x` and `y` in a part are.
+// Sees what the component of `x`, that of the complement, and the least module of `x` and `y` in a
+// part are.
 fn parted(rt: &impl Abort, g: &Graph, part: &[u32], x: u32, y: u32, lists: [&[u32]; 3]) {
     let within = set(rt, part).and(g.vertices());
     assert!(rt; within.has(x));
@@ -74,7 +71,8 @@ fn parted(rt: &impl Abort, g: &Graph, part: &[u32], x: u32, y: u32, lists: [&[u3
     expect(rt, &into, lists[2]);
 }
 
-/// Sees which names no smaller module holds with `v`, in a part that is the least module of `v` and `j`.
+// Sees which names no smaller module holds with `v`, in a part that is the least module of `v` and
+// `j`.
 fn turned(rt: &impl Abort, g: &Graph, part: &[u32], v: u32, j: u32, list: &[u32]) {
     let within = set(rt, part).and(g.vertices());
     assert!(rt; v != j);
@@ -89,7 +87,26 @@ fn turned(rt: &impl Abort, g: &Graph, part: &[u32], v: u32, j: u32, list: &[u32]
     expect(rt, &into, list);
 }
 
-/// The path 0-1-2-3, with 4 beside 0.
+// Sees what the maximal ones among the modules of the graph inside a part with `x` are.
+fn refined(
+    rt: &impl Abort,
+    alloc: Global,
+    g: &Graph,
+    part: &[u32],
+    x: u32,
+    lists: [&[u32]; 2],
+) -> Result<(), Memory> {
+    let rest = set(rt, part);
+    assert!(rt; rest.is_subset(g.vertices()));
+    assert!(rt; rest.has(x));
+    let classes = maximal_modules(alloc, g, g.vertices(), &rest)?;
+    assert_eq!(rt; classes.len(), 2);
+    expect(rt, &classes[0], lists[0]);
+    expect(rt, &classes[1], lists[1]);
+    Ok(())
+}
+
+// The path 0-1-2-3, with 4 beside 0.
 const EDGES: [(u32, u32); 4] = [(0, 1), (1, 2), (2, 3), (1, 4)];
 
 #[test]
@@ -116,6 +133,7 @@ fn modules(rt: HostRuntime) -> Result<(), Fail> {
     parted(&rt, &g, &[0, 1, 4], 0, 4, [&[0, 1, 4], &[0, 4], &[0, 4]]);
     turned(&rt, &g, &[0, 1, 2, 3, 4], 0, 1, &[1, 2, 3]);
     turned(&rt, &g, &[0, 3], 3, 0, &[0]);
+    refined(&rt, rt.alloc(), &g, &[0, 3, 4], 3, [&[0, 4], &[3]])?;
     Ok(())
 }
 
