@@ -1,7 +1,7 @@
 //! Scripts of edits: read from bytes, and applied to a graph one edit after the other.
 //!
-//! `read_script` reads a whole script, or names its first fault; `reason` says why an edit can't be applied
-//! to a graph, and `apply` applies one that can.
+//! `read_script` reads a whole script, or names its first fault; `reason` says why an edit can't be
+//! applied to a graph, and `apply` applies one that can.
 #![tactic(auto)]
 
 mod changes;

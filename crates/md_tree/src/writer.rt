@@ -11,9 +11,10 @@ use md_graph::Memory;
 use md_text::push_number;
 use std::alloc::Global;
 
-/// The text of a tree: a name in digits, and a node as `P`, `S` or `R`, then in brackets its children with commas between
-/// them, and where the node is prime a semicolon and its pairs, as `0-2`, with commas between them. The text `empty`
-/// where there is no tree. Errors: want of memory.
+/// The text of a tree: a name in digits, and a node as `P`, `S` or `R`, then in brackets its
+/// children with commas between them, and where the node is prime a semicolon and its pairs, as
+/// `0-2`, with commas between them. The text `empty` where there is no tree. Errors: want of
+/// memory.
 pub fn text(alloc: Global, tree: &Option<Tree>) -> Result<Vec<u8>, Memory>
     ensures { IfOk result (λ v. v.items ≡ text_of (plain_option tree.now)) }
 {
@@ -22,10 +23,11 @@ pub fn text(alloc: Global, tree: &Option<Tree>) -> Result<Vec<u8>, Memory>
     Ok(text)
 }
 
-/// Appends the text of a tree: the one that `text` makes. Errors: want of memory; nothing is then said of what the
-/// text holds.
+/// Appends the text of a tree: the one that `text` makes. Errors: want of memory; nothing is then
+/// said of what the text holds.
 pub fn push_text(alloc: Global, text: &mut Vec<u8>, tree: &Option<Tree>) -> Result<(), Memory>
-    ensures { IfOk result (λ _. text.new.items ≡ text.old.items ++ text_of (plain_option tree.now)) }
+    ensures { IfOk result (λ _. text.new.items
+        ≡ text.old.items ++ text_of (plain_option tree.now)) }
 {
     let Some(tree) = tree else {
         text.extend_from_slice(b"empty")?;
