@@ -1,5 +1,6 @@
-//! Files with the graphs that they spell or their faults, and graphs with their texts. A copy of a line is in
-//! both directions where colouring files have it so; the last file is the Mycielski graph on 11 vertices.
+//! Files with the graphs that they spell or their faults, and graphs with their texts. A copy of a
+//! line is in both directions where colouring files have it so; the last file is the Mycielski
+//! graph on 11 vertices.
 use super::*;
 use DimacsKind::*;
 use md_graph::{Graph, Memory};

@@ -6,8 +6,8 @@ use crate::fault::G6Fault;
 use crate::line::line_fault;
 use md_text::{split_line, without_return};
 
-/// The number of graphs in a file. It refuses exactly where the file has a fault, and names the first one:
-/// the first faulty line, and of its faults the first in the order that `G6Kind` gives.
+/// The number of graphs in a file. It refuses exactly where the file has a fault, and names the
+/// first one: the first faulty line, and of its faults the first in the order that `G6Kind` gives.
 ///
 /// Source: B. McKay, "Description of graph6, sparse6 and digraph6 encodings".
 pub fn scan(bytes: &[u8]) -> Result<u64, G6Fault>
@@ -31,8 +31,8 @@ pub fn scan(bytes: &[u8]) -> Result<u64, G6Fault>
     Ok(count)
 }
 
-/// The file without its header, if it has one.
-pub fn without_header(bytes: &[u8]) -> &[u8]
+// The file without its header, if it has one.
+pub(crate) fn without_header(bytes: &[u8]) -> &[u8]
     ensures value { result.now ≡ without_header bytes.now }
     ensures shorter { length result.now ≤ length bytes.now }
 {

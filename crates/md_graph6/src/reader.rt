@@ -43,9 +43,9 @@ impl<'a> Lines<'a> {
         }
     }
 
-    /// Fills the graph with the first of the graphs, takes that off, and answers true. It answers false
-    /// exactly where no graph is left, and the graph then stays without vertices.
-    /// Condition: the graph has no vertices.
+    /// Fills the graph with the first of the graphs, takes that off, and answers true. It answers
+    /// false exactly where no graph is left, and the graph then stays without vertices. Condition:
+    /// the graph has no vertices.
     pub fn next(&mut self, graph: &mut Graph) -> bool
         requires { graph.old ≡ empty_graph }
         ensures first { OnTrue result (self.old ≡ graph.new ∷ self.new) }
@@ -63,7 +63,7 @@ impl<'a> Lines<'a> {
     }
 }
 
-/// The first line that isn't empty, and what stands behind it; an empty one where there is none.
+// The first line that isn't empty, and what stands behind it; an empty one where there is none.
 fn next_line(text: &[u8]) -> (&[u8], &[u8])
     requires { HasNoFault (stripped_lines text.now) }
     ensures first { 0 < length result.0.now →

@@ -7,10 +7,10 @@ use md_graph::Graph;
 use std::process::Abort;
 use std::test::Fail;
 
-/// The number of vertices and the edges of a graph.
+// The number of vertices and the edges of a graph.
 type Wanted = (u32, &'static [(u32, u32)]);
 
-/// The next graph of the file has these vertices and edges.
+// The next graph of the file has these vertices and edges.
 fn gives(rt: &impl Abort, lines: &mut Lines, graph: &mut Graph, n: u32, edges: &[(u32, u32)])
     requires { graph.old ≡ empty_graph }
     ensures { graph.new ≡ empty_graph }
@@ -24,7 +24,7 @@ fn gives(rt: &impl Abort, lines: &mut Lines, graph: &mut Graph, n: u32, edges: &
     graph.clear();
 }
 
-/// The file spells these graphs.
+// The file spells these graphs.
 fn spells(rt: &impl Abort, graph: &mut Graph, bytes: &[u8], graphs: &[Wanted])
     requires { graph.old ≡ empty_graph }
     ensures { graph.new ≡ empty_graph }
@@ -40,7 +40,7 @@ fn spells(rt: &impl Abort, graph: &mut Graph, bytes: &[u8], graphs: &[Wanted])
     assert!(rt; !lines.next(graph));
 }
 
-/// The file has this first fault.
+// The file has this first fault.
 fn refuses(rt: &impl Abort, bytes: &[u8], kind: G6Kind, line: u64) {
     assert_eq!(rt; scan(bytes), Err(G6Fault { kind, line }));
 }

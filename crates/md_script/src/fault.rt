@@ -2,7 +2,8 @@
 
 use thiserror::Error;
 
-/// What is wrong with a line. Of a line the first fault is named, in the order of `specs/Line.antt`.
+/// What is wrong with a line. Of a line the first fault is named, in the order of
+/// `specs/Line.antt`.
 #[derive(Clone, Copy, Debug, PartialEq, Eq)]
 pub enum ScriptKind {
     /// The first field is none of `+e`, `-e`, `+v` and `-v`.

@@ -1,5 +1,5 @@
-//! What holds of lines, fields and numbers. Each function has an empty body, and its contract is the
-//! law: the statement stands in `specs/Laws.antt`.
+//! What holds of lines, fields and numbers. Each function has an empty body, and its contract is
+//! the law: the statement stands in `specs/Laws.antt`.
 ghost use Rattle.std.specs.Prelude.{◌≡◌};
 ghost use Rattle.md_text.specs.Laws.{NoLines, LineThenRest, LastLine, LinesOfEnded, LinesOfEndedThenRest, LinesAreTheCut, ReturnTakenOff, OtherEndStays, LineWithoutReturnStays, NoFields, BlankThenFields, LastField, FieldThenRest, FieldsOfJoined, FieldsAreWords, DecimalIsCanonical, DecimalOfValue, DecimalIsInjective, NumberOfDecimal, LengthOfDecimal, DecimalIsWord, DecimalIsDigits, DecimalByDigits, ValueByDigits, DecimalIsDisplayed};
 
@@ -18,7 +18,8 @@ pub fn lines_of_written()
     ensures front { LinesOfEndedThenRest }
 {}
 
-/// `lines` is the one way to cut a text after each byte 10, where a last line without one has some byte.
+/// `lines` is the one way to cut a text after each byte 10, where a last line without one has some
+/// byte.
 pub fn lines_are_the_cut()
     ensures { LinesAreTheCut }
 {}

@@ -67,7 +67,10 @@ fn chunks(rt: HostRuntime) -> Result<(), Fail> {
     let mut text = Vec::new(rt.alloc());
     text.push(b'+')?;
     let mut chunk = Chunk::new();
-    chunk.put_both(piece_behind(b'e', digits_piece(7)), number_piece(99_999, b'\n'));
+    chunk.put_both(
+        piece_behind(b'e', digits_piece(7)),
+        number_piece(99_999, b'\n'),
+    );
     chunk.make_room(CHUNK_SIZE - 8, &mut text)?;
     assert_eq!(rt; text.as_slice(), b"+".as_slice());
     chunk.make_room(CHUNK_SIZE, &mut text)?;

@@ -18,7 +18,7 @@ use Rattle.md_tree.specs.WellFormed.{IsCanonicalNode}
 use Rattle.md_tree.specs.TreeGraph.{adjacent_in}
 use Rattle.md_tree.specs.StrongTrees.{IsTreeOf, IsTree}
 use Rattle.md_tree.specs.Laws.{OneTree, TreeIsCanonical, TreeIsWellFormed, TreeTellsGraph, GraphOfTheTree, NoInducedPathIfNoPrimeNode}
-use Rattle.md_tree.proofs.Lists.{to_contains}
+use Rattle.md_text.proofs.Lists.{to_contains}
 use Rattle.md_tree.proofs.Nodes.{own_set}
 use Rattle.md_tree.proofs.Built.{tree_names, tree_built}
 use Rattle.md_tree.proofs.Unique.{same_tree}

@@ -3,7 +3,7 @@ use Rattle.std.proofs.Common.{◌≡◌, ℕ, zero, suc, ◌+◌, ◌<◌, ◌�
 use Rattle.std.proofs.lemmas.Bool.{cases_lt}
 use Rattle.md_tree.specs.declared.Pair.{Pair}
 use Rattle.md_tree.specs.StrongTrees.{IsPairBefore}
-use Rattle.md_tree.proofs.Lists.{In, Later, in_left, in_right, of_append, later_append}
+use Rattle.md_text.proofs.Lists.{In, Later, in_left, in_right, of_append, later_append}
 
 abbrev pub pair : ℕ → ℕ → Pair
 pair i j = record { low = i; high = j }

@@ -17,8 +17,8 @@ const MOST_POSITIONS: usize = 100_000;
 // So many bytes have room for a pair of two of them.
 const PAIR_ROOM: usize = 16;
 
-/// What a writer of pairs needs beside the text: the positions of children as pieces, and a chunk in which
-/// pairs are gathered.
+// What a writer of pairs needs beside the text: the positions of children as pieces, and a chunk in
+// which pairs are gathered.
 #[derive(Drop)]
 pub(crate) struct Workspace {
     positions: Vec<Piece>,
@@ -35,7 +35,8 @@ impl Workspace {
     }
 }
 
-// What stands before the second position of a pair: a comma, the first position in digits, and a hyphen.
+// What stands before the second position of a pair: a comma, the first position in digits, and a
+// hyphen.
 #[derive(Clone, Copy)]
 struct Start {
     low: u32,
@@ -98,8 +99,8 @@ fn push_more(
     Ok(())
 }
 
-// Gathers pairs, from the one at `from` on, as long as they have the position of the start and there is
-// room. Says where the others begin.
+// Gathers pairs, from the one at `from` on, as long as they have the position of the start and
+// there is room. Says where the others begin.
 #[inline(never)]
 fn put_run(
     pairs: &[Pair],
@@ -150,7 +151,8 @@ fn put_pair(
     Ok(())
 }
 
-// Gives the start another position, if it has at most five digits; says whether the start then has it.
+// Gives the start another position, if it has at most five digits; says whether the start then has
+// it.
 fn move_to(start: &mut Start, low: u32) -> bool
     ensures { IsTrue result → start.new.low ≡ low }
 {
