@@ -531,10 +531,10 @@ apart_member a f g n s r t is is_r is_t q =
     rw (contains-intersection s (told_apart r t) q, keeps_words a n s is q, keeps_apart f g n r t is_r is_t q)
     (and_within _ _ _ _ (ap (λ x. min (bit_of a q) x == 1) (sym (bit_at_xor _ _ _)) ∙ and_bits _ _ (bit_at-lt _ _) (bit_at-lt _ _)))
 
-member_bit : (n q x : ℕ) (b : Bool) → b ≡ (ltb q n && (x == 1)) → b ≡ true → x ≡ 1
+pub member_bit : (n q x : ℕ) (b : Bool) → b ≡ (ltb q n && (x == 1)) → b ≡ true → x ≡ 1
 member_bit n q x b is h = grind (arith, nat_tests)
 
-member_here : (n q x : ℕ) → q < n → x ≡ 1 → (ltb q n && (x == 1)) ≡ true
+pub member_here : (n q x : ℕ) → q < n → x ≡ 1 → (ltb q n && (x == 1)) ≡ true
 member_here n q x h e = grind (arith, nat_tests)
 
 pub least_apart : (a f g : List ℕ) (n w u : ℕ) (s r t : NameSet) (least : ℕ) → n ≡ 64 * w → u ≤ w → names_below a n ≡ s → names_below f n ≡ r → names_below g n ≡ t → IsFirstApart a f g u least → (IsLeastFrom (set.intersection s (told_apart r t)) 0 least) × (least < n)

@@ -46,12 +46,6 @@ range_bit first from to low high k x y is_low is_high inside some is_x is_y = gr
 abbrev pub Filled : NameSet → NameSet → ℕ → ℕ → ℕ → Type 0
 Filled old now from to at = (q : ℕ) → set.contains now q ≡ (set.contains old q || (in_range from to q && ltb q (64 * at)))
 
-none_before : (from to q : ℕ) (b : Bool) → b ≡ (b || (in_range from to q && ltb q (64 * (from / 64))))
-none_before from to q b = let low : 64 * (from / 64) ≤ from = omega arith in grind (arith, nat_tests)
-
-pub filled_begins : (s : NameSet) (from to : ℕ) → Filled s s from to (from / 64)
-filled_begins s from to q = none_before from to q _
-
 word_here : (from to at q : ℕ) (a x : Bool) → (64 * at ≤ q → q < 64 * at + 64 → x ≡ in_range from to q) → ((a || (in_range from to q && ltb q (64 * at))) || (leb (64 * at) q && (ltb (q - 64 * at) 64 && x))) ≡ (a || (in_range from to q && ltb q (64 * (at + 1))))
 word_here from to at q a x is = grind (arith, nat_tests)
 
