@@ -1,17 +1,17 @@
 -- The first fault of a file, and the graph that it spells.
-use Rattle.std.specs.Prelude.{◌≡◌, ℕ, zero, suc, ◌+◌, ◌<◌, ◌≤◌, ◌≢◌, ◌⊎◌, Bool, true, false, cond, not, ◌&&◌, ◌||◌, ◌==◌, nat_lt, nat_le, List, [], ◌∷◌, ◌++◌, length, Option, Some, None, MatchOption, refl}
+use Rattle.std.specs.Prelude.{◌≡◌, ℕ, ◌+◌, ◌<◌, ◌≤◌, ◌≢◌, ◌⊎◌, Bool, true, false, cond, not, ◌&&◌, ◌||◌, ◌==◌, nat_lt, nat_le, List, [], ◌∷◌, ◌++◌, length, Option, Some, None, MatchOption, refl}
 use Rattle.std.specs.List.{All, list_any}
 use Rattle.std.proofs.Common.{subst, ap, sym, ◌∙◌, arith, inl, inr}
-use Rattle.std.proofs.lemmas.Bool.{true≢false, and_parts, eqb-false, ne_eqb, leb-true, leb-false, lt-leb}
+use Rattle.std.proofs.lemmas.Bool.{and_parts, eqb-false, ne_eqb, leb-true, leb-false, lt-leb}
 use Rattle.std.proofs.lemmas.Bool.Decides.{nat_tests}
 use Rattle.std.proofs.lemmas.List.Elements.{All-nil, All-cons, All-head, All-tail}
 use Rattle.std.specs.FinSet as set
 use Rattle.md_graph.specs.declared.TheConstants.{NAMES}
 use Rattle.md_graph.specs.Sets.{Has}
 use Rattle.md_graph.specs.PlainGraph.{PlainGraph, IsGraph, adjacent, with_edge}
-use Rattle.md_graph.proofs.SetLaws.{contains-empty, contains-insert, same_set}
+use Rattle.md_graph.proofs.SetLaws.{same_set}
 use Rattle.md_graph.proofs.PairLaws.{pairs-empty}
-use Rattle.md_graph.proofs.GraphLemmas.{same_graph, IsGraph-with_edge, adjacent-with_edge}
+use Rattle.md_graph.proofs.GraphLemmas.{same_graph, IsGraph-with_edge, IsGraph-without_edges, adjacent-with_edge}
 use Rattle.md_text.specs.Lines.{lines}
 use Rattle.md_text.specs.Numbers.{number_of}
 use Rattle.md_text.specs.Spelling.{SpellsOnly, SpellsOne, SpellsNone, fault_or, words, fault_behind as first_fault_behind}
@@ -22,7 +22,9 @@ use Rattle.md_dimacs.specs.declared.line.LineClass.{LineClass}
 use Rattle.md_dimacs.specs.declared.line.LineClass.TheVariants.{Passed, Problem, Edge, Unknown}
 use Rattle.md_dimacs.specs.Line.{class_of_field, class_of, is_form, both, sizes_in, ends_in, sizes_by, ends_by, sizes_of, ends_of, sizes_fault, problem_fault, is_vertex, ends_fault, edge_fault, fault_by, fault_of_words, fault_of_line}
 use Rattle.md_dimacs.specs.File.{IsPassed, AreSizes, AreEnds, IsProblemLine, IsPassedOrEdge, are_ends, joins, Spells, seen_after, first_number, fault_behind, first_fault, fault_at}
-use Rattle.md_dimacs.specs.Read.{IsBeforeProblem, IsBehindProblem, HasVertices, names_to, edgeless, with_ends, with_line, with_lines}
+use Rattle.md_graph.specs.NameSet.{range}
+use Rattle.md_graph.proofs.Ranges.{contains-range}
+use Rattle.md_dimacs.specs.Read.{IsBeforeProblem, IsBehindProblem, HasVertices, edgeless, with_ends, with_line, with_lines}
 
 -- ---- one line behind the problem line
 
@@ -303,23 +305,15 @@ IsGraph-with_lines {g} n (line ∷ more) is has all =
     (λ v. ap (λ s. set.contains s v) (vertices-with_ends g (ends_of (words line))) ∙ has v)
     (All-tail (IsPassedOrEdge n) line more all)
 
-pub contains-names_to : (n v : ℕ) → set.contains (names_to n) v ≡ is_vertex n v
-unfolding names_to
-contains-names_to zero v = contains-empty v ∙ grind (arith, nat_tests)
-contains-names_to (suc n) v =
-    contains-insert (names_to n) (n + 1) v ∙ ap (λ b. (v == n + 1) || b) (contains-names_to n v) ∙ grind (arith, nat_tests)
+pub contains-vertices : (n v : ℕ) → set.contains (range 1 n) v ≡ is_vertex n v
+contains-vertices n v = contains-range 1 n v ∙ grind (arith, nat_tests)
 
 -- the graph without edges is one
 IsGraph-edgeless : (n : ℕ) → n < NAMES → IsGraph (edgeless n)
-IsGraph-edgeless n named = record {
-  names = λ v member.
-      let inside = and_parts (nat_lt 0 v) (nat_le v n) (sym (contains-names_to n v) ∙ member) in
-      let below : v ≤ n = leb-true v n inside.1 in
-      omega arith;
-  ordered = λ u v h. absurd (true≢false (sym h ∙ pairs-empty u v));
-  low_end = λ u v h. absurd (true≢false (sym h ∙ pairs-empty u v));
-  high_end = λ u v h. absurd (true≢false (sym h ∙ pairs-empty u v));
-}
+IsGraph-edgeless n named = IsGraph-without_edges (range 1 n) (λ v member.
+    let inside = and_parts (nat_lt 0 v) (nat_le v n) (sym (contains-vertices n v) ∙ member) in
+    let below : v ≤ n = leb-true v n inside.1 in
+    omega arith)
 
 or_nothing : (a b c : Bool) → c ≡ false → a ≡ (b || c) → a ≡ b
 or_nothing a b c h e = grind arith
@@ -330,7 +324,7 @@ adjacent-edgeless n u v = pairs-empty _ _
 
 -- the graph that the lines behind the problem line name
 pub vertices_read : (n : ℕ) (behind : List (List ℕ)) (v : ℕ) → set.contains (with_lines (edgeless n) behind).vertices v ≡ is_vertex n v
-vertices_read n behind v = ap (λ s. set.contains s v) (vertices-with_lines (edgeless n) behind) ∙ contains-names_to n v
+vertices_read n behind v = ap (λ s. set.contains s v) (vertices-with_lines (edgeless n) behind) ∙ contains-vertices n v
 
 pub edges_read : (n : ℕ) (behind : List (List ℕ)) (u v : ℕ) → adjacent (with_lines (edgeless n) behind) u v ≡ list_any (joins u v) behind
 edges_read n behind u v = or_nothing _ _ _ (adjacent-edgeless n u v) (adjacent-with_lines (edgeless n) behind u v)
@@ -395,7 +389,7 @@ spelled_by_parts bytes n before problem_of behind whole are_passed is_problem ar
   edge_lines = are_edges;
   vertices = vertices_read n behind;
   edges = edges_read n behind;
-  graph = IsGraph-with_lines n behind (IsGraph-edgeless n is_problem.named) (contains-names_to n) are_edges;
+  graph = IsGraph-with_lines n behind (IsGraph-edgeless n is_problem.named) (contains-vertices n) are_edges;
 }
 
 -- ---- no other graph

@@ -1,11 +1,11 @@
 -- The graph that the text spells is the graph with each vertex named by its place.
 use Rattle.std.specs.Prelude.{◌≡◌, ℕ, ◌+◌, ◌<◌, ◌≤◌, ◌⊎◌, Bool, true, ◌||◌, List, [], ◌∷◌, map, Some, refl}
-use Rattle.std.specs.List.{All, list_any, flat_map}
+use Rattle.std.specs.List.{list_any}
 use Rattle.std.specs.Cmp.{both_ways}
 use Rattle.std.proofs.Common.{ap, sym, ◌∙◌, arith, inl, inr}
 use Rattle.std.proofs.lemmas.Bool.{cases_order, and_parts, and_from, or_cases, or_left, or_right, eqb-true, eq-eqb}
-use Rattle.std.proofs.lemmas.List.Elements.{All-contains, All-head, All-tail, All-weaker}
-use Rattle.std.proofs.lemmas.List.Folds.{list_any-append, Any-from_list_any, list_any-from_Any}
+use Rattle.std.proofs.lemmas.List.Elements.{All-contains, All-weaker}
+use Rattle.std.proofs.lemmas.List.Folds.{Any-from_list_any, list_any-from_Any}
 use Rattle.std.specs.FinSet as set
 use Rattle.md_graph.specs.declared.TheConstants.{NAMES}
 use Rattle.md_graph.specs.Sets.{NameSet, Has}

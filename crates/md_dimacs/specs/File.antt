@@ -1,6 +1,6 @@
 -- A DIMACS edge file: the graph that it spells, and its first fault.
 -- Source: DIMACS, "Clique and coloring problems: graph format" (1993); the faults are this project's.
-use Rattle.std.specs.Prelude.{◌≡◌, ℕ, ◌+◌, ◌<◌, ◌≢◌, ◌==◌, ◌&&◌, ◌||◌, ◌⊎◌, Bool, false, List, [], ◌∷◌, ◌++◌, Option, None, Some, IsTrue}
+use Rattle.std.specs.Prelude.{◌≡◌, ℕ, ◌+◌, ◌<◌, ◌≢◌, ◌==◌, ◌&&◌, ◌||◌, ◌⊎◌, Bool, false, List, ◌∷◌, ◌++◌, Option, None, Some, IsTrue}
 use Rattle.std.specs.List.{All, list_any}
 use Rattle.std.specs.FinSet as set
 use Rattle.md_graph.specs.declared.TheConstants.{NAMES}

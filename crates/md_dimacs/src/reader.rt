@@ -30,7 +30,7 @@ pub fn read(bytes: &[u8], graph: &mut Graph) -> Result<(), DimacsFault>
     ensures refused { OnErr result (graph.new ≡ empty_graph) }
 {
     let (n, count, rest) = find_problem(bytes)?;
-    add_vertices(n, graph);
+    graph.add_range(1, n);
     let outcome = read_edges(n, rest, count, graph);
     if outcome.is_err() {
         graph.clear();
@@ -82,17 +82,6 @@ fn read_first(line: &[u8]) -> Result<Option<u32>, DimacsKind>
         }
         LineClass::Edge => Err(DimacsKind::EdgeBeforeProblem),
         LineClass::Unknown => Err(DimacsKind::UnknownLine),
-    }
-}
-
-// Takes in the vertices 1 to n.
-fn add_vertices(n: u32, graph: &mut Graph)
-    requires named { n < NAMES }
-    requires empty { graph.old ≡ empty_graph }
-    ensures { graph.new ≡ edgeless n }
-{
-    for v in 0..n {
-        graph.add_vertex(v + 1);
     }
 }
 

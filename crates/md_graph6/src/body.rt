@@ -7,7 +7,7 @@ ghost use Rattle.md_graph.specs.PlainGraph.{empty_graph};
 ghost use Rattle.md_graph6.specs.Bits.{bit, pair_number, IsBodyOf};
 ghost use Rattle.md_graph6.specs.Line.{is_group};
 ghost use Rattle.md_graph6.specs.Window.{AreGroups, IsWindow};
-ghost use Rattle.md_graph6.specs.Filled.{HasVertices, IsBlock, IsFilled};
+ghost use Rattle.md_graph6.specs.Filled.{IsBlock, IsFilled};
 
 use md_graph::{Graph, NAMES};
 
@@ -166,17 +166,6 @@ fn block_bits(body: &[u8], n: u32, low: u32, high: u32) -> [u64; 64]
     block
 }
 
-// Takes in the numbers below n as vertices.
-fn add_vertices(graph: &mut Graph, n: u32)
-    requires empty { graph.old ≡ empty_graph }
-    requires few { n ≤ NAMES }
-    ensures { HasVertices n graph.new }
-{
-    for v in 0..n {
-        graph.add_vertex(v);
-    }
-}
-
 // Takes in the edges whose larger end is one of the 64 numbers from 64 `h` on.
 fn fill_columns(graph: &mut Graph, n: u32, body: &[u8], h: u32)
     requires few { n ≤ NAMES }
@@ -199,7 +188,7 @@ pub fn fill(graph: &mut Graph, n: u32, body: &[u8])
     requires groups { AllPass is_group body.now }
     ensures { IsBodyOf body.now n graph.new }
 {
-    add_vertices(graph, n);
+    graph.add_range(0, n);
     for h in 0..(n + 63) / 64 {
         fill_columns(graph, n, body, h);
     }
