@@ -1,5 +1,11 @@
-//! The program `mdt`: the top call over the files of the system, standard output and standard error.
+//! The program `mdt`: the top call over the files of the system, standard output and standard
+//! error.
 #![tactic(auto)]
+
+ghost use Rattle.std.specs.Prelude.{◌≡◌};
+ghost use Rattle.std.specs.Process.{exit_status};
+ghost use Rattle.md_top.specs.declared.stop.Status.{Status};
+ghost use Rattle.md_top.specs.Ending.{number_of};
 
 use md_io::{DirFiles, StdSink};
 use md_top::{Status, run};
@@ -7,22 +13,31 @@ use std::env;
 use std::io::ErrorKind;
 use std::process::ExitCode;
 
-/// Ends with the number of the status of `run` over the words behind the program's name. Where the words can't be
-/// had, it writes nothing and ends as at a reading fault, or as at want of memory.
+#[cfg(test)]
+mod tests;
+
 fn main(rt: HostRuntime) -> ExitCode {
-    let status = match words(&rt) {
+    end(&rt)
+}
+
+// Ends with the number of the status of `run` over the words behind the program's name. Where the
+// words can't be had, it writes nothing and ends as at a reading fault, or as at want of memory.
+fn end(rt: &HostRuntime) -> ExitCode
+    ensures { (status : Status) × (exit_status result ≡ number_of status) }
+{
+    let status = match words(rt) {
         Ok(words) => {
-            let mut files = DirFiles::new(&rt, rt.alloc());
+            let mut files = DirFiles::new(rt, rt.alloc());
             let mut out = StdSink::new(rt.stdout());
             let mut err = StdSink::new(rt.stderr());
             run(rt.alloc(), &words, &mut files, &mut out, &mut err)
         }
         Err(status) => status,
     };
-    ExitCode::from(status as u8)
+    status.exit_code()
 }
 
-/// The words behind the program's name.
+// The words behind the program's name.
 fn words(rt: &HostRuntime) -> Result<Vec<String>, Status> {
     let args = match env::args(rt) {
         Ok(args) => args,

@@ -17,7 +17,7 @@ use Rattle.md_modules.proofs.Strong.{children_meet}
 use Rattle.md_modules.proofs.Children.{component_child}
 use Rattle.md_modules.proofs.PathSearch.{adjacency}
 use Rattle.md_tree.specs.StrongTrees.{IsBefore}
-use Rattle.md_tree.proofs.Lists.{In, Later, in_left, in_right, of_append, later_append, of_contains, to_contains, to_pairs}
+use Rattle.md_text.proofs.Lists.{In, Later, in_left, in_right, of_append, later_append, of_contains, to_contains, to_pairs}
 use Rattle.md_decompose.specs.Children.{AreChildren, Splits}
 
 -- the list has the children of s outside rest, in order, and no child is in part outside rest

@@ -1,7 +1,5 @@
 pub mod OrderLemmas
 pub mod ChildLemmas
-pub mod Folding
-pub mod Stacking
 pub mod Joining
 pub mod Opened
 pub mod Components

@@ -13,12 +13,12 @@ use Rattle.md_tree.specs.declared.Kind.TheVariants.{Parallel, Series, Prime}
 use Rattle.md_tree.specs.declared.Pair.{Pair}
 use Rattle.md_tree.specs.Trees.{PlainTree, leaf, node, PlainTrees, names, row, count, EachNode, EachNodeBelow}
 use Rattle.md_tree.specs.StrongTrees.{HasKind, IsTreeOf}
-use Rattle.md_tree.proofs.Lists.{In, of_append, in_left, in_right}
+use Rattle.md_text.proofs.Lists.{In, of_append, in_left, in_right}
 use Rattle.md_tree.proofs.Built.{IsBuilt}
 use Rattle.md_tree.proofs.Unique.{two_of_kind}
 use Rattle.md_tree.proofs.Canonical.{built_tree}
-use Rattle.md_decompose.specs.declared.part.Open.{Open}
-use Rattle.md_decompose.specs.Parts.{PlainPart, name, inner, parts_of, parts_backward}
+use Rattle.md_decompose.specs.declared.decomposition.Open.{Open}
+use Rattle.md_tree.specs.Parts.{PlainPart, name, inner, parts_of, parts_backward}
 use Rattle.md_decompose.specs.Children.{FitsBelow}
 use Rattle.md_decompose.specs.Turns.{open_below, IsPartOf, IsTurn}
 use Rattle.md_decompose.proofs.Joining.{all_names, node_built, weights, weights-append, child_maximal, children_fall}

@@ -6,8 +6,8 @@ use Rattle.md_tree.specs.declared.Kind.{Kind}
 use Rattle.md_tree.specs.declared.Kind.TheVariants.{Parallel, Series, Prime}
 use Rattle.md_tree.specs.declared.Pair.{Pair}
 use Rattle.md_tree.specs.StrongTrees.{HasKind}
-use Rattle.md_decompose.specs.declared.part.Open.{Open}
-use Rattle.md_decompose.specs.Parts.{PlainPart, name, inner}
+use Rattle.md_decompose.specs.declared.decomposition.Open.{Open}
+use Rattle.md_tree.specs.Parts.{PlainPart, name, inner}
 use Rattle.md_decompose.specs.Children.{AreChildren, ListsPairs}
 
 -- the set c below a node of kind k, still to be taken apart

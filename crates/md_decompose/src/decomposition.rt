@@ -1,30 +1,40 @@
-//! The tree of a graph: the sets that are still to be taken apart are taken from the end of a vector, one node each turn.
+//! The tree of a graph: the sets that are still to be taken apart are taken from the end of a
+//! vector, one node each turn.
 ghost use Rattle.std.specs.Prelude.{◌≡◌, [], ◌∷◌, ◌++◌, map, IfOk, IfSome, IfNone};
 ghost use Rattle.md_graph.specs.PlainGraph.{adjacent};
 ghost use Rattle.md_graph.specs.Sets.{Within, HasSome, HasTwo, only_name};
 ghost use Rattle.md_tree.specs.Trees.{PlainTree};
-ghost use Rattle.md_tree.specs.StrongTrees.{HasKind, IsTreeOf, IsTree};
+ghost use Rattle.md_tree.specs.StrongTrees.{IsTreeOf, IsTree};
+ghost use Rattle.md_tree.specs.TreeGraph.{graph_of_tree};
+ghost use Rattle.md_tree.specs.WellFormed.{IsWellFormed};
 ghost use Rattle.md_tree.specs.Plain.{plain_option};
-ghost use Rattle.md_decompose.specs.Children.{AreChildren, FitsBelow};
-ghost use Rattle.md_decompose.specs.Parts.{plain_part, parts_of};
-ghost use Rattle.md_decompose.specs.Turns.{open_below, ListsForKind, IsTurn};
+ghost use Rattle.md_decompose.specs.Children.{FitsBelow};
+ghost use Rattle.md_tree.specs.Parts.{plain_part, parts_of};
+ghost use Rattle.md_decompose.specs.Turns.{open_below, IsTurn};
 
-use crate::build::build;
-use crate::node::children;
-use crate::pairs::quotient_edges;
-use crate::part::{Open, Part};
+use crate::children::children;
 use md_graph::{Graph, Memory, Names};
-use md_tree::{Kind, QuotientEdges, Tree};
+use md_tree::{Kind, Part, Tree, build};
 use std::alloc::Global;
 
-/// The tree of the strong modules of a graph, none exactly for the graph without vertices: the leaf sets of its nodes are
-/// exactly the strong modules, each once, each node has the kind of its leaf set, children stand in ascending order of
-/// their least names, and a prime node lists exactly the pairs of children between which edges run. So the tree is
-/// well-formed, and the graph that it denotes is this one. Errors: want of memory.
+// A set of vertices whose tree is to come, and the kind of the node above it.
+#[derive(Drop)]
+struct Open {
+    names: Names,
+    parent: Option<Kind>,
+}
+
+/// The tree of the strong modules of a graph, none exactly for the graph without vertices: the leaf
+/// sets of its nodes are exactly the strong modules, each once, each node has the kind of its leaf
+/// set, children stand in ascending order of their least names, and a prime node lists exactly the
+/// pairs of children between which edges run. Errors: want of memory.
 pub fn decompose(alloc: Global, graph: &Graph) -> Result<Option<Tree>, Memory>
-    ensures { IfOk result (λ tree.
+    ensures tree { IfOk result (λ tree.
         IsTree (adjacent graph.now) graph.now.vertices (plain_option tree)) }
+    ensures well_formed { IfOk result (λ tree. IsWellFormed (plain_option tree)) }
+    ensures denotes { IfOk result (λ tree. graph_of_tree (plain_option tree) ≡ graph.now) }
 {
+    let _vertices = graph.vertices();
     let Some(_) = graph.next_vertex(0) else {
         return Ok(None);
     };
@@ -32,7 +42,7 @@ pub fn decompose(alloc: Global, graph: &Graph) -> Result<Option<Tree>, Memory>
     Ok(Some(build(alloc, parts)?))
 }
 
-/// The parts of the tree of a graph with a vertex.
+// The parts of the tree of a graph with a vertex.
 fn parts(alloc: Global, graph: &Graph) -> Result<Vec<Part>, Memory>
     requires { HasSome graph.now.vertices }
     ensures { IfOk result (λ parts. (t : PlainTree)
@@ -51,7 +61,8 @@ fn parts(alloc: Global, graph: &Graph) -> Result<Vec<Part>, Memory>
     Ok(parts)
 }
 
-// The part of a set comes behind the parts so far, and the sets of its children behind the waiting ones.
+// The part of a set comes behind the parts so far, and the sets of its children behind the waiting
+// ones.
 fn take_apart(
     alloc: Global,
     graph: &Graph,
@@ -70,8 +81,7 @@ fn take_apart(
         parts.push(Part::Leaf(name))?;
         return Ok(());
     }
-    let (kind, sets) = children(alloc, graph, &set.names, set.parent)?;
-    let edges = edges_between(alloc, graph, kind, &set.names, &sets)?;
+    let (kind, sets, edges) = children(alloc, graph, &set.names, set.parent)?;
     parts.push(Part::Node(kind, sets.len() as u64, edges))?;
     push_open(waiting, kind, sets)
 }
@@ -88,28 +98,6 @@ pub(crate) fn only_member(set: &Names) -> Option<u32>
     match set.first_from(first + 1) {
         Some(_) => None,
         None => Some(first),
-    }
-}
-
-// The pairs that a node lists: those of a prime node alone.
-fn edges_between(
-    alloc: Global,
-    graph: &Graph,
-    kind: Kind,
-    set: &Names,
-    sets: &[Names],
-) -> Result<QuotientEdges, Memory>
-    requires inside { Within set.now graph.now.vertices }
-    requires kind { HasKind (adjacent graph.now) set.now kind }
-    requires children { AreChildren (adjacent graph.now) set.now sets.now }
-    ensures { IfOk result (λ edges.
-        ListsForKind (adjacent graph.now) kind sets.now edges.list.items) }
-{
-    match kind {
-        Kind::Prime => quotient_edges(alloc, graph, set, sets),
-        Kind::Parallel | Kind::Series => Ok(QuotientEdges {
-            list: Vec::new(alloc),
-        }),
     }
 }
 

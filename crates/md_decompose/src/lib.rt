@@ -1,20 +1,16 @@
 //! Modular decomposition: the tree of strong modules of a graph, computed.
 //!
-//! The sets that are still to be taken apart are kept in a vector, and so are the parts of the tree, from which it is put
-//! together at the end: no call nests as deep as the tree.
+//! The sets that are still to be taken apart are kept in a vector, and so are the parts of the
+//! tree, from which it is put together at the end: no call nests as deep as the tree.
 #![tactic(auto)]
 
-mod build;
+mod children;
 mod decomposition;
-mod node;
 mod ordered;
-mod pairs;
-mod part;
 mod prime;
+mod quotient;
 
 pub use decomposition::decompose;
 
-#[cfg(test)]
-mod plain;
 #[cfg(test)]
 mod tests;

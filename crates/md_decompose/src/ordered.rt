@@ -9,15 +9,15 @@ ghost use Rattle.md_decompose.specs.Marks.{AreMarks, ListsInOrder};
 use md_graph::{Memory, Names};
 use std::alloc::Global;
 
-/// The least name of a class, and the place of the class in its list.
+// The least name of a class, and the place of the class in its list.
 #[derive(Clone, Copy)]
 struct Mark {
     least: u32,
     place: usize,
 }
 
-/// `first` and then the classes, in ascending order of their least names. Condition: no two classes meet, none is empty,
-/// and `first` has a name below all of theirs.
+// `first` and then the classes, in ascending order of their least names. Condition: no two classes
+// meet, none is empty, and `first` has a name below all of theirs.
 pub(crate) fn in_order(alloc: Global, first: Names, classes: &[Names]) -> Result<Vec<Names>, Memory>
     requires apart { AreApart classes.now }
     requires lowest { (k : ℕ) → k < length classes.now → IsBefore first (set_at classes.now k) }
@@ -32,7 +32,7 @@ pub(crate) fn in_order(alloc: Global, first: Names, classes: &[Names]) -> Result
     Ok(sets)
 }
 
-/// One mark of each class, in ascending order of their least names.
+// One mark of each class, in ascending order of their least names.
 fn marks(alloc: Global, classes: &[Names]) -> Result<Vec<Mark>, Memory>
     requires { AreApart classes.now }
     ensures { IfOk result (λ marks. AreMarks classes.now marks.items) }

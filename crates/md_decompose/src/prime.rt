@@ -12,7 +12,7 @@ use md_graph::{Graph, Memory, Names};
 use md_modules::{back, grow, maximal_modules};
 use std::alloc::Global;
 
-/// The maximal proper modules of a prime set of vertices, in ascending order of their least names.
+// The maximal proper modules of a prime set of vertices, in ascending order of their least names.
 pub(crate) fn prime_children(
     alloc: Global,
     graph: &Graph,
@@ -33,7 +33,7 @@ pub(crate) fn prime_children(
     in_order(alloc, set.minus(&rest), &classes)
 }
 
-/// A member of a prime set that no proper module holds with its member `v`.
+// A member of a prime set that no proper module holds with its member `v`.
 fn far_from(graph: &Graph, set: &Names, v: u32) -> u32
     requires inside { Within set.now graph.now.vertices }
     requires prime { IsPrime (adjacent graph.now) set.now }
@@ -52,8 +52,8 @@ fn far_from(graph: &Graph, set: &Names, v: u32) -> u32
     last
 }
 
-/// Grows a module that holds `v` to the least one that has `j` too. Condition: `set` is a set of vertices, and `j` a member
-/// outside the module.
+// Grows a module that holds `v` to the least one that has `j` too. Condition: `set` is a set of
+// vertices, and `j` a member outside the module.
 fn hold(graph: &Graph, set: &Names, v: u32, j: u32, held: &mut Names)
     requires inside { Within set.now graph.now.vertices }
     requires begun { IsModule (adjacent graph.now) set.now held.old }
@@ -77,7 +77,7 @@ mod tests {
     use std::process::Abort;
     use std::test::Fail;
 
-    /// The graph with the vertices below `count` and these edges.
+    // The graph with the vertices below `count` and these edges.
     fn made(
         rt: &impl Abort,
         alloc: Global,
@@ -103,7 +103,7 @@ mod tests {
         g.add_edge(u, v);
     }
 
-    /// Sees what the children of the whole graph are.
+    // Sees what the children of the whole graph are.
     fn divided(rt: &impl Abort, alloc: Global, g: &Graph, lists: &[&[u32]]) -> Result<(), Memory> {
         assert!(rt; g.has_vertex(0));
         assert!(rt; g.has_vertex(1));
@@ -123,11 +123,11 @@ mod tests {
     const PATH: [(u32, u32); 3] = [(0, 1), (1, 2), (2, 3)];
 
     const BULL: [(u32, u32); 5] = [(0, 1), (1, 2), (2, 3), (4, 1), (4, 2)];
-    /// The path 3-0-1-2, with 4 beside 3 and 5 in the place of 1.
+    // The path 3-0-1-2, with 4 beside 3 and 5 in the place of 1.
     const TWINS: [(u32, u32); 6] = [(3, 0), (4, 0), (0, 1), (0, 5), (1, 2), (5, 2)];
 
     #[test]
-    fn children(rt: HostRuntime) -> Result<(), Fail> {
+    fn of_primes(rt: HostRuntime) -> Result<(), Fail> {
         let path = made(&rt, rt.alloc(), 4, &PATH)?;
         divided(&rt, rt.alloc(), &path, &[&[0], &[1], &[2], &[3]])?;
         let bull = made(&rt, rt.alloc(), 5, &BULL)?;

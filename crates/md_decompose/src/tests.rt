@@ -1,7 +1,9 @@
-//! Trees of small graphs, each found from the definitions by going through all sets of names, and a tree as deep as one can be.
+//! Trees of small graphs, each found from the definitions by going through all sets of names, and a
+//! tree as deep as one can be.
+mod by_closures;
+
 use super::*;
 use md_graph::{Graph, Memory, NAMES, Names};
-use md_tree::laws::tree_is_well_formed;
 use md_tree::{graph_of, text};
 use std::alloc::{AllocError, Global};
 use std::process::Abort;
@@ -24,7 +26,7 @@ fn made(
     Ok(graph)
 }
 
-pub(crate) fn join(rt: &impl Abort, graph: &mut Graph, u: u32, v: u32) {
+fn join(rt: &impl Abort, graph: &mut Graph, u: u32, v: u32) {
     assert!(rt; u != v);
     assert!(rt; graph.has_vertex(u));
     assert!(rt; graph.has_vertex(v));
@@ -32,7 +34,7 @@ pub(crate) fn join(rt: &impl Abort, graph: &mut Graph, u: u32, v: u32) {
     graph.add_edge(u, v);
 }
 
-pub(crate) fn is_same_set(left: &Names, right: &Names) -> bool {
+fn is_same_set(left: &Names, right: &Names) -> bool {
     left.minus(right).is_empty() && right.minus(left).is_empty()
 }
 
@@ -43,7 +45,6 @@ fn check(rt: &impl Abort, alloc: Global, graph: &Graph, expected: &[u8]) -> Resu
     assert_eq!(rt; written.as_slice(), expected);
     let mut again = Graph::new(alloc)?;
     let vertices = graph.vertices();
-    tree_is_well_formed();
     graph_of(&tree, &mut again);
     assert!(rt; is_same_set(vertices, again.vertices()));
     for v in 0..NAMES {
@@ -120,7 +121,8 @@ fn prime_graphs_below(rt: HostRuntime) -> Result<(), Fail> {
     Ok(())
 }
 
-// Each vertex with an even name is adjacent to all lower ones, and each other vertex to none of them.
+// Each vertex with an even name is adjacent to all lower ones, and each other vertex to none of
+// them.
 fn threshold(rt: &impl Abort, alloc: Global) -> Result<Graph, Memory> {
     let mut graph = Graph::new(alloc)?;
     for v in 0..NAMES {

@@ -11,11 +11,12 @@ use Rattle.md_graph.proofs.PairLaws.{pairs-insert, same_pairs}
 use Rattle.md_text.specs.Lines.{lines, without_return}
 use Rattle.md_text.specs.Fields.{fields}
 use Rattle.md_text.proofs.LineLemmas.{no_lines}
+use Rattle.md_text.specs.Spelling.{words, fault_behind as first_fault_behind}
 use Rattle.md_dimacs.specs.declared.fault.DimacsFault.{DimacsFault}
 use Rattle.md_dimacs.specs.declared.fault.DimacsKind.{DimacsKind}
 use Rattle.md_dimacs.specs.declared.fault.DimacsKind.TheVariants.{NoProblemLine}
 use Rattle.md_dimacs.specs.declared.line.LineClass.TheVariants.{Passed}
-use Rattle.md_dimacs.specs.Line.{words, class_of, ends_of, fault_of_words}
+use Rattle.md_dimacs.specs.Line.{class_of, ends_of, fault_of_words}
 use Rattle.md_dimacs.specs.File.{IsPassed, Spells, first_fault, fault_behind}
 use Rattle.md_dimacs.specs.Read.{IsBeforeProblem, IsBehindProblem, HasVertices, names_to, edgeless, with_ends, with_line, with_lines}
 use Rattle.md_dimacs.proofs.FileLemmas.{fault_before, fault-behind_problem, contains-names_to, vertices-with_ends, lines_behind, spelled_by_parts}
@@ -68,14 +69,14 @@ one_passed all count rest line stripped more b cut e class = record {
 pub refused_before : (all : List (List ℕ)) (count : ℕ) (rest : List (List ℕ)) (line stripped : List ℕ) (more : List (List ℕ)) (kind : DimacsKind) → IsBeforeProblem all count rest
     → rest ≡ line ∷ more → stripped ≡ without_return line → fault_of_words None (fields stripped) ≡ Some kind
     → fault_behind None 0 all ≡ Some (record { kind = kind; line = count + 1 })
-unfolding fault_behind
+unfolding first_fault_behind
 refused_before all count rest line stripped more kind b cut e fault =
     let here : fault_of_words None (words line) ≡ Some kind = ap (λ s. fault_of_words None (fields s)) (sym e) ∙ fault in
     fault_before all count rest b ∙ ap (fault_behind None count) cut ∙ rw here refl
 
 pub no_problem : (all : List (List ℕ)) (count : ℕ) (rest : List ℕ) (number : ℕ) → IsBeforeProblem all count (lines rest) → (length rest == 0) ≡ true
     → number ≡ count + 1 → fault_behind None 0 all ≡ Some (record { kind = NoProblemLine; line = number })
-unfolding fault_behind
+unfolding first_fault_behind
 no_problem all count rest number b empty e =
     fault_before all count (lines rest) b ∙ ap (fault_behind None count) (no_lines rest empty)
     ∙ ap (λ k. Some (record { kind = NoProblemLine; line = k })) (sym e)
@@ -85,7 +86,7 @@ no_problem all count rest number b empty e =
 pub refused_behind : (n start count : ℕ) (all rest : List (List ℕ)) (line stripped : List ℕ) (more : List (List ℕ)) (kind : DimacsKind)
     → fault_behind (Some n) start all ≡ fault_behind (Some n) count rest → rest ≡ line ∷ more → stripped ≡ without_return line
     → fault_of_words (Some n) (fields stripped) ≡ Some kind → fault_behind (Some n) start all ≡ Some (record { kind = kind; line = count + 1 })
-unfolding fault_behind
+unfolding first_fault_behind
 refused_behind n start count all rest line stripped more kind same cut e fault =
     let here : fault_of_words (Some n) (words line) ≡ Some kind = ap (λ s. fault_of_words (Some n) (fields s)) (sym e) ∙ fault in
     same ∙ ap (fault_behind (Some n) count) cut ∙ rw here refl
@@ -104,7 +105,7 @@ one_added g h start all rest line stripped more same cut e added =
 pub one_faultless : (n start count : ℕ) (all rest : List (List ℕ)) (line stripped : List ℕ) (more : List (List ℕ))
     → fault_behind (Some n) start all ≡ fault_behind (Some n) count rest → rest ≡ line ∷ more → stripped ≡ without_return line
     → fault_of_words (Some n) (fields stripped) ≡ None → fault_behind (Some n) start all ≡ fault_behind (Some n) (count + 1) more
-unfolding fault_behind
+unfolding first_fault_behind
 one_faultless n start count all rest line stripped more same cut e fault =
     let here : fault_of_words (Some n) (words line) ≡ None = ap (λ s. fault_of_words (Some n) (fields s)) (sym e) ∙ fault in
     same ∙ ap (fault_behind (Some n) count) cut ∙ rw here refl
@@ -115,7 +116,7 @@ all_added g start all rest same empty = sym (same ∙ ap (with_lines g) (no_line
 
 pub all_faultless : (n start count : ℕ) (all : List (List ℕ)) (rest : List ℕ) → fault_behind (Some n) start all ≡ fault_behind (Some n) count (lines rest)
     → (length rest == 0) ≡ true → fault_behind (Some n) start all ≡ None
-unfolding fault_behind
+unfolding first_fault_behind
 all_faultless n start count all rest same empty = same ∙ ap (fault_behind (Some n) count) (no_lines rest empty)
 
 -- ---- the whole file

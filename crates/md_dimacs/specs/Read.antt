@@ -4,7 +4,8 @@ use Rattle.std.specs.List.{All}
 use Rattle.std.specs.FinSet as set
 use Rattle.md_graph.specs.Sets.{NameSet}
 use Rattle.md_graph.specs.PlainGraph.{PlainGraph, with_edge}
-use Rattle.md_dimacs.specs.Line.{words, ends_of, is_vertex}
+use Rattle.md_text.specs.Spelling.{words}
+use Rattle.md_dimacs.specs.Line.{ends_of, is_vertex}
 use Rattle.md_dimacs.specs.File.{IsPassed, IsProblemLine}
 
 -- behind `count` of all lines, none of which is a problem line or an edge line, the rest is to be read

@@ -1,5 +1,5 @@
 //! Writes the lines of the edges of one vertex, 64 names at a time.
-ghost use Rattle.std.specs.Prelude.{◌≡◌, ℕ, ◌+◌, ◌*◌, ◌^◌, ◌<◌, ◌≤◌, ◌++◌, length, take, nat_le, if◌then◌else◌};
+ghost use Rattle.std.specs.Prelude.{◌≡◌, ℕ, ◌+◌, ◌*◌, ◌^◌, ◌<◌, ◌≤◌, ◌++◌, length, nat_le, if◌then◌else◌};
 ghost use Rattle.std.specs.Int.{bit_at};
 ghost use Rattle.std.specs.List.{All};
 ghost use Rattle.md_graph.specs.Words.{bits_between};
@@ -7,40 +7,29 @@ ghost use Rattle.md_text.specs.Pieces.{piece_text};
 ghost use Rattle.md_dimacs.specs.Places.{lines_at};
 
 use md_graph::lowest;
-use md_text::{Piece, put_piece};
+use md_text::{CHUNK_SIZE, Chunk, Piece};
 
-// Writes, for each 1 in `bits`, a line of `start` and of the piece at its place behind `first`; the lines
-// stand behind the first `at` bytes, and the result says how many these then are.
-pub(crate) fn write_block(
-    first: u32,
-    bits: u64,
-    start: Piece,
-    places: &[Piece],
-    chunk: &mut [u8],
-    at: usize,
-) -> usize
+// Gathers, for each 1 in `bits`, a line of `start` and of the piece at its place behind `first`.
+pub(crate) fn write_block(first: u32, bits: u64, start: Piece, places: &[Piece], chunk: &mut Chunk)
     requires there { All (λ w. w < length places.now) (bits_between first bits 64) }
     requires fits { first + 64 < 2 ^ 32 }
-    requires room { at + 16 * 64 ≤ length chunk.old }
-    ensures text { take result chunk.new
-        ≡ take at chunk.old ++ lines_at places.now (piece_text start) (bits_between first bits 64) }
-    ensures within { result ≤ at + 16 * 64 }
+    requires room { length chunk.old + 16 * 64 ≤ CHUNK_SIZE }
+    ensures { chunk.new
+        ≡ chunk.old ++ lines_at places.now (piece_text start) (bits_between first bits 64) }
 {
     let mut left = bits;
-    let mut at = at;
     while left != 0 {
         let (place, others) = lowest(left);
         left = others;
-        at = put_piece(chunk, at, start);
-        at = put_piece(chunk, at, places[(first + place) as usize]);
+        chunk.put_both(start, places[(first + place) as usize]);
     }
-    at
 }
 
 // The bits for names at or above `from`, where bit k is for the name `first + k`.
 pub(crate) fn bits_from(bits: u64, first: u32, from: u32) -> u64
     requires { from < first + 64 }
-    ensures { (k : ℕ) → k < 64 → bit_at result k ≡ (if nat_le from (first + k) then bit_at bits k else 0) }
+    ensures { (k : ℕ) → k < 64
+        → bit_at result k ≡ (if nat_le from (first + k) then bit_at bits k else 0) }
 {
     if from <= first {
         return bits;

@@ -1,21 +1,5 @@
 //! Writes a DIMACS edge file.
-ghost use Rattle.std.specs.Prelude.{
-  ◌≡◌,
-  ℕ,
-  ◌+◌,
-  ◌*◌,
-  ◌<◌,
-  ◌≤◌,
-  [],
-  ◌∷◌,
-  ◌++◌,
-  length,
-  take,
-  replicate,
-  vec_len,
-  IfOk,
-  OnOk,
-};
+ghost use Rattle.std.specs.Prelude.{◌≡◌, ℕ, ◌+◌, ◌<◌, ◌≤◌, [], ◌∷◌, ◌++◌, replicate, vec_len, IfOk, OnOk};
 ghost use Rattle.md_dimacs.specs.Text.{dimacs_text, problem_line};
 ghost use Rattle.md_text.specs.Pieces.{piece_text};
 ghost use Rattle.md_dimacs.specs.Places.{ArePlaces, line_start, row_text, edges_text};
@@ -23,15 +7,12 @@ ghost use Rattle.md_dimacs.specs.Places.{ArePlaces, line_start, row_text, edges_
 use crate::blocks::{bits_from, write_block};
 use crate::spelling::start_piece;
 use md_graph::{Graph, Memory, NAMES};
-use md_text::{Piece, make_room, number_piece, push_number};
+use md_text::{Chunk, Piece, number_piece, push_number};
 use std::alloc::Global;
 
-// How many bytes of lines are gathered before they are appended to the text.
-const CHUNK: usize = 2000;
-
-/// The DIMACS text of a graph: `p edge n m`, and for each edge a line `e i j`, i < j, ascending by i, then
-/// by j, where i and j are the places of its ends among the vertices in ascending order, counted from 1.
-/// Each line is ended by a line feed.
+/// The DIMACS text of a graph: `p edge n m`, and for each edge a line `e i j`, i < j, ascending by
+/// i, then by j, where i and j are the places of its ends among the vertices in ascending order,
+/// counted from 1. Each line is ended by a line feed.
 ///
 /// # Errors
 ///
@@ -77,7 +58,8 @@ fn spell_places(alloc: Global, graph: &Graph) -> Result<Vec<Piece>, Memory>
 fn fill_up(places: &mut Vec<Piece>, v: usize, piece: Piece) -> Result<(), Memory>
     requires { vec_len places.old ≤ v }
     ensures count { OnOk result (vec_len places.new ≡ v + 1) }
-    ensures items { OnOk result ((k : ℕ) × (places.new.items ≡ places.old.items ++ replicate k piece)) }
+    ensures items { OnOk result ((k : ℕ) × (places.new.items
+        ≡ places.old.items ++ replicate k piece)) }
 {
     while places.len() <= v {
         places.push(piece)?;
@@ -90,46 +72,40 @@ fn write_edges(graph: &Graph, places: &[Piece], text: &mut Vec<u8>) -> Result<()
     requires { ArePlaces graph.now places.now }
     ensures { OnOk result (text.new.items ≡ text.old.items ++ edges_text graph.now) }
 {
-    let mut chunk = [0; CHUNK];
-    let mut at = 0;
+    let mut chunk = Chunk::new();
     let mut place = 0;
     for v in graph.vertices().members() {
         place += 1;
-        at = write_row(graph, v, start_piece(place), places, &mut chunk, at, text)?;
+        write_row(graph, v, start_piece(place), places, &mut chunk, text)?;
     }
-    text.extend_from_slice(&chunk[..at])?;
+    chunk.flush(text)?;
     Ok(())
 }
 
-// Writes the lines of the edges of v to the vertices above it behind the first `at` bytes of the chunk, and
-// says how many are then gathered there. A chunk with no room for 64 lines of 16 bytes goes to the text.
+// Gathers the lines of the edges of v to the vertices above it. A chunk with no room for 64 lines
+// of 16 bytes goes to the text.
 fn write_row(
     graph: &Graph,
     v: u32,
     start: Piece,
     places: &[Piece],
-    chunk: &mut [u8],
-    at: usize,
+    chunk: &mut Chunk,
     text: &mut Vec<u8>,
-) -> Result<usize, Memory>
+) -> Result<(), Memory>
     requires name { v < NAMES }
     requires start { piece_text start ≡ line_start graph.now v }
     requires places { ArePlaces graph.now places.now }
-    requires chunk { length chunk.old ≡ CHUNK }
-    requires at { at ≤ CHUNK }
-    ensures within { IfOk result (λ after. after ≤ CHUNK) }
-    ensures written { IfOk result (λ after. text.new.items ++ take after chunk.new
-        ≡ (text.old.items ++ take at chunk.old) ++ row_text graph.now v) }
+    ensures { OnOk result (text.new.items ++ chunk.new
+        ≡ (text.old.items ++ chunk.old) ++ row_text graph.now v) }
 {
     let row = graph.row(v);
     let from = v + 1;
     let mut first = from / 64 * 64;
-    let mut at = at;
     while (first as usize) < places.len() {
-        at = make_room(chunk, at, 16 * 64, text)?;
+        chunk.make_room(16 * 64, text)?;
         let bits = bits_from(row.block(first), first, from);
-        at = write_block(first, bits, start, places, chunk, at);
+        write_block(first, bits, start, places, chunk);
         first += 64;
     }
-    Ok(at)
+    Ok(())
 }

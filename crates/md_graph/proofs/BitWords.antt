@@ -406,6 +406,11 @@ keeps_apart f g n s t is_s is_t q =
     rw (contains-union (set.difference s t) (set.difference t s) q, contains-difference s t q, contains-difference t s q, keeps_words f n s is_s q, keeps_words g n t is_t q)
     (apart_test (ltb q n) _ _ _ (bit_at-lt _ _) (bit_at-lt _ _) (bit_at_xor (get_or f (q / 64) 0) (get_or g (q / 64) 0) (q % 64)))
 
+pub keeps_either : (f g : List ℕ) (n : ℕ) (s t : NameSet) → names_below f n ≡ s → names_below g n ≡ t → Keeps (λ k. bit_or (get_or f k 0) (get_or g k 0)) n (set.union s t)
+keeps_either f g n s t is_s is_t q =
+    rw (contains-union s t q, keeps_words f n s is_s q, keeps_words g n t is_t q)
+    (or_within _ _ _ _ (ap (λ x. x == 1) (bit_at_or (get_or f (q / 64) 0) (get_or g (q / 64) 0) (q % 64)) ∙ or_bits _ _ (bit_at-lt _ _) (bit_at-lt _ _)))
+
 away : (x y : ℕ) → x < 2 → y < 2 → (x + min x y) % 2 ≡ min x (1 - y)
 away x y p q = omega arith
 
@@ -425,6 +430,11 @@ rest_of_moved a c m n u s r is keeps ra first rest =
     (λ k h. rw (zero_bit _ (q % 64) (rest k h ∙ ra k h), zero_bit _ (q % 64) (ra k h)) (omega arith))
     (q / 64))
     ∙ without_bits _ _ (bit_at-lt _ _) (bit_at-lt _ _))))
+
+-- words that become what is left of others, where their own bits went
+pub became_rest : (w v a c : List ℕ) (m : ℕ → ℕ) (n w_used u : ℕ) (s r : NameSet) → names_below a n ≡ s → Keeps m n r → InUse a u → InUse w w_used → ((k : ℕ) → k < w_used → get_or v k 0 ≡ 0) → ((k : ℕ) → w_used ≤ k → get_or v k 0 ≡ get_or w k 0) → ((k : ℕ) → k < u → get_or c k 0 ≡ bit_xor (get_or a k 0) (bit_and (get_or a k 0) (m k))) → ((k : ℕ) → u ≤ k → get_or c k 0 ≡ get_or v k 0) → names_below c n ≡ set.difference s r
+became_rest w v a c m n w_used u s r is keeps ra rw_used wiped wiped_rest first rest =
+    rest_of_moved a c m n u s r is keeps ra first (λ k h. rest k h ∙ cleared w v w_used rw_used wiped wiped_rest k ∙ sym (ra k h))
 
 -- what stays behind where the others go
 pub rest_of_others : (a c : List ℕ) (m : ℕ → ℕ) (n u : ℕ) (s r : NameSet) → names_below a n ≡ s → Keeps m n r → InUse a u → ((k : ℕ) → k < u → get_or c k 0 ≡ bit_and (get_or a k 0) (m k)) → ((k : ℕ) → u ≤ k → get_or c k 0 ≡ get_or a k 0) → names_below c n ≡ set.intersection s r

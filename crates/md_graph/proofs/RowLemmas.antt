@@ -37,7 +37,7 @@ no_edge {live} {rows} {g} a e u v past =
     let is : IsGraph g = subst IsGraph e (IsGraph-graph_of a) in
     false_from_ne_true _ (λ h. let name = is.names u (adjacent_ends is u v h).0 in omega arith)
 
-row_of-replicate : (n v : ℕ) → row_of (replicate n set.empty) v ≡ set.empty
+pub row_of-replicate : (n v : ℕ) → row_of (replicate n set.empty) v ≡ set.empty
 row_of-replicate n v =
     elim (cases_lt v n) [
       | inl below ↦ get_or-replicate n v set.empty set.empty below
@@ -66,7 +66,7 @@ rows_add_range {live} {rows} {g} a e from count names {new} is_new =
     rows_of_graph (IsGraph-with_range is from count names) (is_new ∙ ap (λ h. set.union h.vertices (range from count)) e) a.one_each law
 
 -- the rows after one is replaced
-contains-set_row : (rows : List NameSet) (u : ℕ) (new : NameSet) (a b : ℕ) → u < length rows → set.contains (row_of (set rows u new) a) b ≡ cond (a == u) (set.contains new b) (set.contains (row_of rows a) b)
+pub contains-set_row : (rows : List NameSet) (u : ℕ) (new : NameSet) (a b : ℕ) → u < length rows → set.contains (row_of (set rows u new) a) b ≡ cond (a == u) (set.contains new b) (set.contains (row_of rows a) b)
 contains-set_row rows u new a b below =
     elim (cases_eq a u) [
       | inl same ↦ rw (same, eq-eqb u u refl, get_or-set_same rows u new set.empty below) refl

@@ -324,8 +324,8 @@ fn join_row(rows: &mut [Names], at: usize, first: u32, bits: u64)
     rows[at].insert_block(first, bits);
 }
 
-// Takes `v` into the row of each member of `names`.
-fn insert_in_rows(rows: &mut [Names], names: &Names, v: u32)
+/// Takes `v` into the row of each member of `names`. Conditions: `v` is a name, and the members have rows.
+pub fn insert_in_rows(rows: &mut [Names], names: &Names, v: u32)
     requires name { v < NAMES }
     requires in_rows { (u : ℕ) → Has names.now u → u < length rows.old }
     ensures { (u : ℕ) → row_of rows.new u

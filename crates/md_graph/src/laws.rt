@@ -5,7 +5,7 @@ ghost use Rattle.md_graph.specs.Laws.{GraphWithoutVerticesIsEmpty};
 use crate::NAMES;
 
 /// There are 4,096 names.
-pub fn names_are_4096()
+pub fn number_of_names()
     ensures { NAMES ≡ 4096 }
 {}
 

@@ -9,7 +9,7 @@ mod names;
 mod transposition;
 mod words;
 
-pub use graph::Graph;
+pub use graph::{Graph, insert_in_rows};
 pub use members::Members;
 pub use names::Names;
 use std::alloc::{AllocError, AllocFailed};

@@ -8,8 +8,8 @@ ghost use Rattle.md_graph.specs.NameSet.{IsLeastFrom, IsGreatest, NoneFrom, AllB
 use crate::members::Members;
 use crate::words::{
     are_all_zero, are_equal, are_within, bits_of_range, both, count_bits, either, first_alone,
-    first_apart, flip_bits, from_place, join_in, last_place, move_alone, move_apart, move_both,
-    no_words, wipe,
+    first_apart, flip_bits, from_place, join_in, keep_alone, last_place, move_alone, move_apart,
+    move_both, no_words, wipe,
 };
 use crate::{NAMES, WORDS};
 use std::marker::Model;
@@ -164,6 +164,21 @@ impl Names {
         ensures name { IfSome result (λ least. least < NAMES) }
     {
         first_apart(&self.words, &first.words, &second.words, self.used)
+    }
+
+    /// Becomes the members of `of` that neither `first` nor `second` has. It passes over the words in use of both.
+    pub fn become_alone(&mut self, of: &Names, first: &Names, second: &Names)
+        ensures { self.new ≡ set.difference of.now (set.union first.now second.now) }
+    {
+        wipe(&mut self.words, self.used);
+        keep_alone(
+            &mut self.words,
+            &of.words,
+            &first.words,
+            &second.words,
+            of.used,
+        );
+        self.used = of.used;
     }
 
     /// Whether `v`, any number, is a member.
@@ -409,5 +424,10 @@ mod tests {
         left.flip(&names);
         left.flip(&second);
         assert!(rt; left.count() == 3 && left.has(64) && !left.has(65) && !left.has(127));
+        names.become_alone(&borders(), &left, &second);
+        assert!(rt; names.is_empty());
+        left.remove(NAMES - 1);
+        names.become_alone(&borders(), &left, &second);
+        assert!(rt; names.count() == 1 && names.has(NAMES - 1));
     }
 }

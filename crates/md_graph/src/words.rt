@@ -121,6 +121,24 @@ pub(crate) fn move_apart(
     }
 }
 
+// The first `used` words become the bits of `of` that neither `first` nor `second` has.
+pub(crate) fn keep_alone(
+    words: &mut [u64; WORDS],
+    of: &[u64; WORDS],
+    first: &[u64; WORDS],
+    second: &[u64; WORDS],
+    used: usize,
+)
+    requires { used ≤ WORDS }
+    ensures first { (k : ℕ) → k < used → slice_index words.new k ≡ bit_xor (slice_index of.now k)
+        (bit_and (slice_index of.now k) (bit_or (slice_index first.now k) (slice_index second.now k))) }
+    ensures rest { (k : ℕ) → used ≤ k → slice_index words.new k ≡ slice_index words.old k }
+{
+    for i in 0..used {
+        words[i] = of[i] ^ (of[i] & (first[i] | second[i]));
+    }
+}
+
 // The place of the lowest bit in the first `used` words that exactly one of `first` and `second`
 // has.
 pub(crate) fn first_apart(

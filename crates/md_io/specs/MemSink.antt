@@ -1,7 +1,7 @@
 -- What a sink in memory is to a contract.
 use Rattle.std.specs.Prelude.{◌≡◌, ℕ, ◌+◌, List, ◌++◌, length, take, Bool, ◌&&◌, ◌==◌, not, if◌then◌else◌, Result, IsTrue, IsErrOf, ◌⊎◌}
 use Rattle.std.specs.List.{list_any}
-use Rattle.md_io.specs.declared.memory.MemSink.{MemSink}
+use Rattle.md_io.specs.declared.mem_sink.MemSink.{MemSink}
 use Rattle.md_io.specs.declared.PutFault.{PutFault}
 use Rattle.md_io.specs.declared.PutFault.TheVariants.{Failed, Memory}
 use Rattle.md_io.specs.Count.{count_up}
@@ -21,17 +21,23 @@ part_of_put sink = sink.part
 
 -- the next put of the piece fails: it is no empty piece, and its number is among the failing ones
 abbrev pub next_put_fails : MemSink → List ℕ → Bool
-next_put_fails sink piece = not (length piece == 0) && list_any (λ number. number == put_count sink + 1) (failing_puts sink)
+next_put_fails sink piece =
+    not (length piece == 0)
+    && list_any (λ number. number == put_count sink + 1) (failing_puts sink)
 
 -- a put to a sink in memory: the failing puts fail and take their part, no other put fails,
 -- and want of memory goes before. Source: a device may take a part of a piece and then fail.
-pub record IsMemPut (old : MemSink) (piece : List ℕ) (answer : Result (Unit {0}) PutFault) (new : MemSink) : Type 0 where
+pub record IsMemPut (old : MemSink) (piece : List ℕ)
+    (answer : Result (Unit {0}) PutFault) (new : MemSink) : Type 0 where
   pub failed_only : IsErrOf answer Failed → IsTrue (next_put_fails old piece)
-  pub failed_always : IsTrue (next_put_fails old piece) → IsErrOf answer Failed ⊎ IsErrOf answer Memory
-  pub failed_part : IsErrOf answer Failed → new.content.items ≡ old.content.items ++ take (part_of_put old) piece
+  pub failed_always : IsTrue (next_put_fails old piece)
+      → IsErrOf answer Failed ⊎ IsErrOf answer Memory
+  pub failed_part : IsErrOf answer Failed
+      → new.content.items ≡ old.content.items ++ take (part_of_put old) piece
   pub fault : IsErrOf answer Failed → new.faults ≡ count_up old.faults 1
   pub no_fault : ¬ IsErrOf answer Failed → new.faults ≡ old.faults
   pub want : IsErrOf answer Memory → new.wants ≡ count_up old.wants 1
-  pub counted : put_count new ≡ (if length piece == 0 then put_count old else count_up (put_count old) 1)
+  pub counted : put_count new
+      ≡ (if length piece == 0 then put_count old else count_up (put_count old) 1)
   pub same_failing : failing_puts new ≡ failing_puts old
   pub same_part : part_of_put new ≡ part_of_put old

@@ -2,7 +2,8 @@
 use Rattle.std.specs.Prelude.{◌≡◌, ℕ, ◌<◌, List, length}
 
 -- nothing is told of the name, or it has no file, or its file has these bytes.
--- Source: a file system as a partial function from names to contents, of which a part may be unknown.
+-- Source: a file system as a partial function from names to contents, of which a part may be
+-- unknown.
 pub data Told : Type 0 where
   untold : Told
   absent : Told

@@ -1,8 +1,8 @@
 //! The outside of the program: where it loads files from, and where it puts its output.
 //!
-//! [`Files`] and [`Sink`] are all that the program knows of the outside. What is in memory tells its
-//! content to contracts; a folder, standard output and standard error tell only their counts and
-//! the names asked for.
+//! [`Files`] and [`Sink`] are all that the program knows of the outside. What is in memory tells
+//! its content to contracts; a folder, standard output and standard error tell only their counts
+//! and the names asked for.
 #![tactic(auto)]
 
 ghost use Rattle.std.specs.Prelude.{◌≡◌, ◌⊎◌, ℕ, ◌+◌, ◌-◌, ◌^◌, ◌<◌, ◌≤◌, List, [], ◌∷◌, ◌++◌, Bool, Option, Result, Vec, length, IsTrue, IsOk, IfOk, OnOk, IsErrOf};
@@ -18,12 +18,18 @@ use std::alloc::Global;
 use thiserror::Error;
 
 mod asked;
-mod memory;
+mod failing;
+pub mod laws;
+mod mem_files;
+mod mem_sink;
+mod safe_sink;
 mod system;
 #[cfg(test)]
 mod tests;
 
-pub use memory::{MemFiles, MemSink, SafeSink};
+pub use mem_files::MemFiles;
+pub use mem_sink::MemSink;
+pub use safe_sink::SafeSink;
 pub use system::{DirFiles, StdSink};
 
 /// The most bytes of one file that the program takes: 256 MiB.

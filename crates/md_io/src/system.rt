@@ -6,7 +6,7 @@ ghost use Rattle.md_io.specs.Told.{untold};
 ghost use Rattle.md_io.specs.Count.{count_up};
 ghost use Rattle.md_io.specs.Front.{AppendsFront};
 ghost use Rattle.md_io.specs.Asked.{names};
-ghost use Rattle.md_io.specs.DirFiles.{IsSystemLoad};
+ghost use Rattle.md_io.specs.DirFiles.{IsSystemLoad, IsCountedRead};
 ghost use Rattle.md_io.specs.StdSink.{IsWriterPut};
 
 use crate::asked::note;
@@ -123,6 +123,35 @@ fn read_up_to<T: Read>(reader: &mut T, bytes: &mut Vec<u8>, limit: u64) -> Resul
     Err(LoadFault::TooLong)
 }
 
+// Reads a whole file, or refuses it where it has more bytes than the limit. Every byte that was
+// read is counted, whatever the answer.
+pub(crate) fn read_whole<T: Read>(
+    alloc: Global,
+    reader: &mut T,
+    limit: u64,
+    taken: &mut u64,
+) -> Result<Vec<u8>, LoadFault>
+    ensures whole { IfOk result (λ bytes.
+        Consumes (T.remaining reader.old) (T.remaining reader.new) bytes.items) }
+    ensures end { OnOk result (IsAtEnd (T.remaining reader.new)) }
+    ensures within { IfOk result (λ bytes. length bytes.items ≤ limit) }
+    ensures counted { IfOk result (λ bytes. taken.new ≡ count_up taken.old (length bytes.items)) }
+    ensures read { IsCountedRead (T.remaining reader.old) (T.remaining reader.new)
+        taken.old taken.new }
+    ensures too_long { IsErrOf result LoadFault.TooLong
+        → taken.new ≡ count_up taken.old (limit + 1) }
+    ensures stops { taken.new ≤ taken.old + (limit + 1) }
+    ensures never_falls { taken.old ≤ taken.new }
+{
+    let mut bytes = Vec::new(alloc);
+    let end = read_up_to(reader, &mut bytes, limit);
+    *taken = taken.saturating_add(bytes.len() as u64);
+    match end {
+        Ok(()) => Ok(bytes),
+        Err(fault) => Err(fault),
+    }
+}
+
 impl<'a, R: rt::Files> DirFiles<'a, R> {
     /// Files of the system that `rt` stands for. Nothing is asked for yet.
     pub fn new(rt: &'a R, alloc: Global) -> DirFiles<'a, R>
@@ -168,11 +197,8 @@ impl<'a, R: rt::Files> Files for DirFiles<'a, R> {
             self.faults = self.faults.saturating_add(1);
             return Err(LoadFault::Failed);
         };
-        let mut bytes = Vec::new(alloc);
-        let end = read_up_to(&mut file, &mut bytes, limit);
-        self.taken = self.taken.saturating_add(bytes.len() as u64);
-        match end {
-            Ok(()) => Ok(bytes),
+        match read_whole(alloc, &mut file, limit, &mut self.taken) {
+            Ok(bytes) => Ok(bytes),
             Err(LoadFault::Failed) => {
                 self.faults = self.faults.saturating_add(1);
                 Err(LoadFault::Failed)

@@ -1,11 +1,13 @@
 //! What every text format shares: lines, fields, numbers and decimal digits.
 //!
 //! A text is a slice of bytes. `split_line` and `split_field` take one line or one field off the
-//! front, `number` reads a field, and `push_number` writes a number. A `Piece` is a text of a few bytes
-//! that is made once and then copied whole, many times; pieces are gathered in a chunk, which `make_room`
-//! appends to a text when it is full. Only `push_number` and `make_room` take memory.
+//! front, `number` reads a field, and `push_number` writes a number. A `Piece` is a text of a few
+//! bytes that is made once and then copied whole, many times; pieces are gathered in a `Chunk`,
+//! which is appended to a text when it is full. Only `push_number` and what appends a chunk take
+//! memory.
 #![tactic(auto)]
 
+mod chunk;
 mod cut;
 mod digits;
 mod fields;
@@ -13,11 +15,12 @@ pub mod laws;
 mod piece;
 mod spelling;
 
+pub use chunk::{CHUNK_SIZE, Chunk};
 pub use cut::{split_field, split_line, split_number, without_return};
 pub use digits::{DIGITS, number, push_decimal, push_number};
 pub use fields::{one_field, three_fields, two_fields};
 pub use piece::Piece;
-pub use spelling::{digits_piece, make_room, number_piece, piece_behind, put_piece};
+pub use spelling::{digits_piece, number_piece, piece_behind};
 
 #[cfg(test)]
 mod tests;

@@ -30,6 +30,16 @@ abbrev pub status_of : Result Verdict Stop → Status
 status_of (Ok verdicts.Done) = Done
 status_of (Err stop) = status_of_stop stop
 
+-- the exit code of the program, by the status. Source: 0 is success, other small numbers tell why.
+abbrev pub number_of : Status → ℕ
+number_of Done = 0
+number_of Usage = 2
+number_of BadInput = 3
+number_of ReadFault = 4
+number_of WriteFault = 5
+number_of Memory = 6
+number_of TooLong = 7
+
 -- a kind of fault by its name
 abbrev pub g6_name : G6Kind → List ℕ
 g6_name g6.BadByte = codes "BadByte"

@@ -2,11 +2,11 @@
 #![tactic(auto)]
 
 mod convert;
+mod err_line;
 mod form;
+mod in_memory;
 pub mod laws;
-mod line;
 mod load;
-mod memory;
 mod put;
 mod report;
 mod session;
@@ -14,7 +14,7 @@ mod short;
 mod stop;
 mod top;
 
-pub use memory::run_in_memory;
+pub use in_memory::run_in_memory;
 pub use stop::Status;
 pub use top::run;
 

@@ -6,6 +6,7 @@ use md_dimacs::DimacsFault;
 use md_graph::Memory;
 use md_graph6::G6Fault;
 use md_script::ScriptKind;
+use std::process::ExitCode;
 
 /// What is wrong with the input, its first fault in the order of work.
 #[derive(Clone, Copy, Debug, PartialEq, Eq)]
@@ -52,7 +53,7 @@ impl From<Memory> for Stop {
     }
 }
 
-/// How a run ended. Its number is the exit code of the program.
+/// How a run ended.
 #[derive(Clone, Copy, Debug, PartialEq, Eq)]
 pub enum Status {
     /// The whole output was put.
@@ -86,5 +87,24 @@ impl Stop {
             Stop::Memory => Status::Memory,
             Stop::TooLong => Status::TooLong,
         }
+    }
+}
+
+impl Status {
+    ghost use Rattle.std.specs.Process.{exit_status};
+    ghost use Rattle.md_top.specs.Ending.{number_of};
+
+    /// The exit code of the program, as a number.
+    pub fn number(self) -> u8
+        ensures { result ≡ number_of self }
+    {
+        self as u8
+    }
+
+    /// The exit code of the program.
+    pub fn exit_code(self) -> ExitCode
+        ensures { exit_status result ≡ number_of self }
+    {
+        ExitCode::from(self.number())
     }
 }

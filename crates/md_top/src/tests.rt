@@ -1,14 +1,18 @@
 //! Worked runs over files and sinks in memory.
+mod refusing;
+
 use super::*;
 use md_io::{MemFiles, MemSink};
+use refusing::RefusingFiles;
 use std::alloc::Global;
+use std::process::ExitCode;
 use std::test::Fail;
 
-/// The graph of Mycielski on 11 vertices, which has no triangle and four colours at least.
+// The graph of Mycielski on 11 vertices, which has no triangle and four colours at least.
 const MYCIELSKI: &[u8] =
     b"c Mycielski\np edge 11 20\ne 1 2\ne 1 4\ne 1 7\ne 1 9\ne 2 3\ne 2 6\ne 2 8\ne 3 5\ne 3 7\ne 3 10\ne 4 5\ne 4 6\ne 4 10\ne 5 8\ne 5 9\ne 6 11\ne 7 11\ne 8 11\ne 9 11\ne 10 11\n";
 
-/// The words of a line, cut at spaces.
+// The words of a line, cut at spaces.
 fn words_of(alloc: Global, line: &str) -> Result<Vec<String>, Fail> {
     let mut words = Vec::new(alloc);
     for word in line.split(' ') {
@@ -19,8 +23,22 @@ fn words_of(alloc: Global, line: &str) -> Result<Vec<String>, Fail> {
     Ok(words)
 }
 
-/// A run over the files `g` and `s`: its status, and what stands on `out` and on `err`. The put of this number fails on `out`,
-/// after a part of it, and the load of this number fails.
+// The number of a status, and what stands on `out` and on `err`.
+fn shown(alloc: Global, status: Status, out: &MemSink, err: &MemSink) -> Result<String, Fail> {
+    let number = status.number();
+    let mut shown = format!(in alloc; "{number}|")?;
+    for byte in out.bytes() {
+        shown.push(char::from(*byte))?;
+    }
+    shown.push('|')?;
+    for byte in err.bytes() {
+        shown.push(char::from(*byte))?;
+    }
+    Ok(shown)
+}
+
+// A run over the files `g` and `s`: its status, and what stands on `out` and on `err`. The put of
+// this number fails on `out`, after a part of it, and the load of this number fails.
 fn run_over(
     alloc: Global,
     line: &str,
@@ -36,16 +54,8 @@ fn run_over(
     files.add("s", script)?;
     let mut out = MemSink::new(alloc, vec![in alloc; put]?, part);
     let mut err = MemSink::new(alloc, Vec::new(alloc), 0);
-    let status = run(alloc, &words, &mut files, &mut out, &mut err) as u8;
-    let mut shown = format!(in alloc; "{status}|")?;
-    for byte in out.bytes() {
-        shown.push(char::from(*byte))?;
-    }
-    shown.push('|')?;
-    for byte in err.bytes() {
-        shown.push(char::from(*byte))?;
-    }
-    Ok(shown)
+    let status = run(alloc, &words, &mut files, &mut out, &mut err);
+    shown(alloc, status, &out, &err)
 }
 
 #[test]
@@ -286,7 +296,7 @@ fn runs_that_fail(rt: HostRuntime) -> Result<(), Fail> {
     let mut files = MemFiles::new(alloc, Vec::new(alloc));
     let mut out = MemSink::new(alloc, Vec::new(alloc), 0);
     let mut err = MemSink::new(alloc, vec![in alloc; 1]?, 4);
-    let status = run(alloc, &words, &mut files, &mut out, &mut err) as u8;
+    let status = run(alloc, &words, &mut files, &mut out, &mut err).number();
     assert!(rt; status == 2 && out.bytes().is_empty() && err.bytes() == b"mdt:".as_slice());
     let table = [
         (1, 0, "5||mdt: write fault\n"),
@@ -311,6 +321,27 @@ fn runs_that_fail(rt: HostRuntime) -> Result<(), Fail> {
     for (put, part, want) in table {
         let shown = run_over(alloc, "edges g6 g", b"@\nA?\n", b"", 0, put, part)?;
         assert_eq!(rt; shown.as_str(), want, "put {put}");
+    }
+    Ok(())
+}
+
+#[test]
+fn runs_over_files_that_refuse(rt: HostRuntime) -> Result<(), Fail> {
+    let alloc = rt.alloc();
+    let table = [
+        ("tree g6 g", false, 6, "6||mdt: memory\n"),
+        ("tree g6 g", true, 7, "7||mdt: too long\n"),
+        ("edit dimacs g s", true, 7, "7||mdt: too long\n"),
+    ];
+    for (line, too_long, code, want) in table {
+        let words = words_of(alloc, line)?;
+        let mut files = RefusingFiles::new(alloc, too_long);
+        let mut out = MemSink::new(alloc, Vec::new(alloc), 0);
+        let mut err = MemSink::new(alloc, Vec::new(alloc), 0);
+        let status = run(alloc, &words, &mut files, &mut out, &mut err);
+        let shown = shown(alloc, status, &out, &err)?;
+        assert_eq!(rt; shown.as_str(), want, "{line}");
+        assert!(rt; status.exit_code() == ExitCode::from(code), "{line}");
     }
     Ok(())
 }

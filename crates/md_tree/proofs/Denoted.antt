@@ -1,7 +1,7 @@
 -- The graph that a tree denotes, from its edges; pairs of trees that a node lists.
 use Rattle.std.proofs.Common.{◌≡◌, ℕ, ◌+◌, ◌-◌, ◌<◌, Bool, true, false, ◌&&◌, ◌||◌, List, length, get_or, drop, take, map, Contains, nat_lt, Option, Some, refl, sym, ◌∙◌, ap, subst, inl, inr, arith}
 use Rattle.std.proofs.lemmas.List.{at_drop_more, length-drop}
-use Rattle.std.proofs.lemmas.Bool.{lt-ltb, false_from_ne_true}
+use Rattle.std.proofs.lemmas.Bool.{lt-ltb, false_from_ne_true, and_parts}
 use Rattle.std.proofs.Math.Seq.{take-length}
 use Rattle.std.specs.FinSet.{contains, empty, union}
 use Rattle.md_graph.specs.declared.TheConstants.{NAMES}
@@ -18,9 +18,9 @@ use Rattle.md_tree.specs.Plain.{plain, plain_option}
 use Rattle.md_tree.specs.WellFormed.{AreApart, IsCanonical}
 use Rattle.md_tree.specs.TreeGraph.{position_of, adjacent_in, graph_of_tree}
 use Rattle.md_tree.specs.TreeEdges.{crosses, in_listed, has_edge_in}
-use Rattle.md_tree.proofs.Lists.{in_get, to_contains}
+use Rattle.md_text.proofs.Lists.{in_get, to_contains}
 use Rattle.md_tree.proofs.Graph.{at_inside, position_at}
-use Rattle.md_tree.proofs.Edges.{edges_are, and_true}
+use Rattle.md_tree.proofs.Edges.{edges_are}
 use Rattle.md_tree.proofs.Loops.{or_moved, count_row, names_at_row}
 
 -- the children from a position on
@@ -29,7 +29,7 @@ later_items zs xs from same =
     ap (λ n. take n (drop from zs)) (sym (length-drop from zs)) ∙ take-length (drop from zs) ∙ ap (drop from) same
 
 -- a pair that is listed, and its trees
-pub listed_at : (zs qs : List Pair) (i : ℕ) (d : Pair) → zs ≡ qs → i < length zs → Contains qs (get_or zs i d)
+listed_at : (zs qs : List Pair) (i : ℕ) (d : Pair) → zs ≡ qs → i < length zs → Contains qs (get_or zs i d)
 listed_at zs qs i d same less = subst (λ l. Contains l (get_or zs i d)) same (to_contains zs (get_or zs i d) (in_get zs i d less))
 
 pub at_listed : (xs : List Tree) (i : ℕ) (r : Tree) → r ≡ get_or xs i r → i < length xs → names_at (row (map plain xs)) i ≡ names (plain r)
@@ -80,17 +80,25 @@ tree_graph g t is canonical below same edges n = record { vertices = same n; edg
   same_edges = same_pairs g.edges (pairs_where (joined_names t) NAMES) (λ u v.
       contains-edges is u v ∙ ap (λ w. nat_lt u v && w) (edges u v ∙ edges_are t canonical u v)
       ∙ within_limit (nat_lt u v) (nat_lt v NAMES) (joined_names t u v)
-      (λ h. lt-ltb v NAMES (below v (and_true (contains (names t) u) (contains (names t) v)
-      (and_true (contains (names t) u && contains (names t) v) (adjacent_in t u v) h).0).1))
+      (λ h. lt-ltb v NAMES (below v (and_parts (contains (names t) u) (contains (names t) v)
+      (and_parts (contains (names t) u && contains (names t) v) (adjacent_in t u v) h).0).1))
       ∙ sym (contains-pairs_where (joined_names t) NAMES u v))
 
--- the trees of a listed pair
-pub places : (xs : List Tree) (p : Pair) → (p.low < p.high) × (p.high < count (row (map plain xs))) → (p.low < length xs) × (p.high < length xs)
-places xs p h =
+-- a pair that is listed: its positions are those of two trees
+pub record PairHere (xs : List Tree) (p : Pair) : Type 0 where
+  pub ordered : p.low < p.high
+  pub low : p.low < length xs
+  pub high : p.high < length xs
+
+pub pair_here : {xs : List Tree} {zs qs : List Pair} {i : ℕ} (d : Pair) →
+    ((p : Pair) → Contains qs p → (p.low < p.high) × (p.high < count (row (map plain xs)))) → zs ≡ qs → i < length zs → PairHere xs (get_or zs i d)
+pair_here {xs} {zs} {qs} {i} d positions same less =
+    let p : Pair = get_or zs i d in
+    let h : (p.low < p.high) × (p.high < count (row (map plain xs))) = positions p (listed_at zs qs i d same less) in
     let a : p.low < p.high = h.0 in
     let b : p.high < count (row (map plain xs)) = h.1 in
     let c : count (row (map plain xs)) ≡ length xs = count_row xs in
-    (omega arith, omega arith)
+    record { ordered = a; low = omega arith; high = omega arith }
 
 union_empty_left : (s a : NameSet) → s ≡ empty → union s a ≡ a
 union_empty_left s a none = same_members (union s a) a

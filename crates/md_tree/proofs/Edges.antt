@@ -1,8 +1,9 @@
 -- The edges of a tree's nodes are those of the graph that it denotes.
-use Rattle.std.proofs.Common.{◌≡◌, ◌≢◌, ℕ, suc, ◌<◌, Bool, true, false, cond, eqb, min, max, ◌&&◌, ◌||◌, ◌==◌, ◌⊎◌, List, [], ◌∷◌, refl, sym, ◌∙◌, ap, subst, inl, inr, true≢false, eqb-true, eq-eqb, arith}
+use Rattle.std.proofs.Common.{◌≡◌, ◌≢◌, ℕ, suc, ◌<◌, true, false, cond, eqb, min, max, ◌&&◌, ◌||◌, ◌==◌, ◌⊎◌, List, [], ◌∷◌, refl, sym, ◌∙◌, ap, subst, inl, inr, true≢false, eqb-true, eq-eqb, arith}
 use Rattle.std.specs.FinSet.{contains, empty, insert, union}
 use Rattle.md_graph.specs.Sets.{NameSet, Has, Lacks, Disjoint, only_name}
-use Rattle.std.proofs.lemmas.Bool.{cases_Bool, false_from_ne_true}
+use Rattle.std.proofs.lemmas.Bool.{cases_Bool, false_from_ne_true, or_cases, or_left, or_right, and_parts, and_from}
+use Rattle.std.specs.Cmp.{both_ways}
 use Rattle.md_graph.proofs.SetLemmas.{clash, only_has, of_only, empty_lacks, union_left, union_right, of_union}
 use Rattle.md_graph.specs.PlainGraph.{PlainGraph, adjacent, edge, with_edge}
 use Rattle.md_graph.proofs.GraphLemmas.{adjacent-with_edge}
@@ -14,39 +15,21 @@ use Rattle.md_tree.specs.Trees.{PlainTree, leaf, node, PlainTrees, no_tree, one_
 use Rattle.md_tree.specs.WellFormed.{AreApart, IsCanonicalNode, IsPrimeNode}
 use Rattle.md_tree.specs.TreeGraph.{position_of, lists_pair, joins, adjacent_in, adjacent_below}
 use Rattle.md_tree.specs.TreeEdges.{crosses, in_two, in_listed, edge_across, has_edge_in, has_edge_below}
-use Rattle.md_tree.proofs.Lists.{In, to_contains}
+use Rattle.md_text.proofs.Lists.{In, to_contains}
 use Rattle.md_tree.proofs.Pairs.{pair}
-use Rattle.md_tree.proofs.Graph.{at_position, at_inside, position_at, of_lists, to_lists, less_or_more, same_test}
-
-or_true : (a b : Bool) → (a || b) ≡ true → (a ≡ true) ⊎ (b ≡ true)
-or_true true b h = inl refl
-or_true false b h = inr h
-
-or_first : (a b : Bool) → a ≡ true → (a || b) ≡ true
-or_first a b h = ap (λ w. w || b) h
-
-or_second : (a b : Bool) → b ≡ true → (a || b) ≡ true
-or_second true b h = refl
-or_second false b h = h
-
-pub and_true : (a b : Bool) → (a && b) ≡ true → (a ≡ true) × (b ≡ true)
-and_true true b h = (refl, h)
-and_true false b h = absurd (true≢false (sym h))
-
-pub and_both : (a b : Bool) → a ≡ true → b ≡ true → (a && b) ≡ true
-and_both a b p q = ap (λ w. w && b) p ∙ q
+use Rattle.md_tree.proofs.Graph.{at_position, at_inside, position_at, of_lists, to_lists, less_or_more}
 
 pub of_crosses : (a b : NameSet) (x y : ℕ) → crosses a b x y ≡ true → (Has a x × Has b y) ⊎ (Has a y × Has b x)
 unfolding crosses
-of_crosses a b x y h = elim (or_true (contains a x && contains b y) (contains a y && contains b x) h) [
-  | inl l ↦ inl (and_true (contains a x) (contains b y) l)
-  | inr r ↦ inr (and_true (contains a y) (contains b x) r)
+of_crosses a b x y h = elim (or_cases (contains a x && contains b y) (contains a y && contains b x) h) [
+  | inl l ↦ inl (and_parts (contains a x) (contains b y) l)
+  | inr r ↦ inr (and_parts (contains a y) (contains b x) r)
 ]
 
 pub to_crosses : (a b : NameSet) (x y : ℕ) → (Has a x × Has b y) ⊎ (Has a y × Has b x) → crosses a b x y ≡ true
 unfolding crosses
-to_crosses a b x y (inl l) = or_first (contains a x && contains b y) (contains a y && contains b x) (and_both (contains a x) (contains b y) l.0 l.1)
-to_crosses a b x y (inr r) = or_second (contains a x && contains b y) (contains a y && contains b x) (and_both (contains a y) (contains b x) r.0 r.1)
+to_crosses a b x y (inl l) = or_left (contains a x && contains b y) (contains a y && contains b x) (and_from (contains a x) (contains b y) l.0 l.1)
+to_crosses a b x y (inr r) = or_right (contains a x && contains b y) (contains a y && contains b x) (and_from (contains a y) (contains b x) r.0 r.1)
 
 -- two names of a row, at different positions
 record InTwo (cs : PlainTrees) (x y : ℕ) : Type 0 where
@@ -73,7 +56,7 @@ two_here t ts x y apart hx hy same =
 
 of_two : (cs : PlainTrees) (x y : ℕ) → AreApart cs → in_two cs x y ≡ true → InTwo cs x y
 of_two no_tree x y apart h = absurd (true≢false (sym h))
-of_two (one_more t ts) x y apart h = elim (or_true (crosses (names t) (names_below ts) x y) (in_two ts x y) h) [
+of_two (one_more t ts) x y apart h = elim (or_cases (crosses (names t) (names_below ts) x y) (in_two ts x y) h) [
   | inl l ↦ elim (of_crosses (names t) (names_below ts) x y l) [
     | inl w ↦ record {
       first = union_left (names t) (names_below ts) x w.0;
@@ -102,13 +85,13 @@ to_two no_tree x y i = clash i.first (empty_lacks x)
 to_two (one_more t ts) x y i = elim (cases_Bool (contains (names t) x)) [
   | inl hx ↦ elim (cases_Bool (contains (names t) y)) [
     | inl hy ↦ absurd (i.differ (here t ts x hx ∙ sym (here t ts y hy)))
-    | inr ly ↦ or_first (crosses (names t) (names_below ts) x y) (in_two ts x y)
+    | inr ly ↦ or_left (crosses (names t) (names_below ts) x y) (in_two ts x y)
         (to_crosses (names t) (names_below ts) x y (inl (hx, elim (of_union (names t) (names_below ts) y i.second) [ inl k ↦ clash k ly | inr j ↦ j ])))
   ]
   | inr lx ↦ elim (cases_Bool (contains (names t) y)) [
-    | inl hy ↦ or_first (crosses (names t) (names_below ts) x y) (in_two ts x y)
+    | inl hy ↦ or_left (crosses (names t) (names_below ts) x y) (in_two ts x y)
         (to_crosses (names t) (names_below ts) x y (inr (hy, elim (of_union (names t) (names_below ts) x i.first) [ inl k ↦ clash k lx | inr j ↦ j ])))
-    | inr ly ↦ or_second (crosses (names t) (names_below ts) x y) (in_two ts x y) (to_two ts x y (record {
+    | inr ly ↦ or_right (crosses (names t) (names_below ts) x y) (in_two ts x y) (to_two ts x y (record {
       first = elim (of_union (names t) (names_below ts) x i.first) [ inl k ↦ clash k lx | inr j ↦ j ];
       second = elim (of_union (names t) (names_below ts) y i.second) [ inl k ↦ clash k ly | inr j ↦ j ];
       differ = λ same. i.differ (later t ts x lx ∙ ap (λ n. suc n) same ∙ sym (later t ts y ly));
@@ -119,7 +102,7 @@ to_two (one_more t ts) x y i = elim (cases_Bool (contains (names t) x)) [
 -- two names at the positions of a listed pair
 of_listed : (cs : PlainTrees) (ps : List Pair) (x y : ℕ) → in_listed cs ps x y ≡ true → (p : Pair) × In ps p × (crosses (names_at cs p.low) (names_at cs p.high) x y ≡ true)
 of_listed cs [] x y h = absurd (true≢false (sym h))
-of_listed cs (p ∷ ps) x y h = elim (or_true (crosses (names_at cs p.low) (names_at cs p.high) x y) (in_listed cs ps x y) h) [
+of_listed cs (p ∷ ps) x y h = elim (or_cases (crosses (names_at cs p.low) (names_at cs p.high) x y) (in_listed cs ps x y) h) [
   | inl l ↦ (p, inl refl, l)
   | inr r ↦ (let q : (p : Pair) × In ps p × (crosses (names_at cs p.low) (names_at cs p.high) x y ≡ true) = of_listed cs ps x y r in (q.0, inr q.1, q.2))
 ]
@@ -127,8 +110,8 @@ of_listed cs (p ∷ ps) x y h = elim (or_true (crosses (names_at cs p.low) (name
 to_listed : (cs : PlainTrees) (ps : List Pair) (x y : ℕ) (p : Pair) → In ps p → crosses (names_at cs p.low) (names_at cs p.high) x y ≡ true → in_listed cs ps x y ≡ true
 to_listed cs [] x y p i h = absurd i
 to_listed cs (q ∷ ps) x y p (inl e) h =
-    or_first (crosses (names_at cs q.low) (names_at cs q.high) x y) (in_listed cs ps x y) (subst (λ r. crosses (names_at cs r.low) (names_at cs r.high) x y ≡ true) e h)
-to_listed cs (q ∷ ps) x y p (inr i) h = or_second (crosses (names_at cs q.low) (names_at cs q.high) x y) (in_listed cs ps x y) (to_listed cs ps x y p i h)
+    or_left (crosses (names_at cs q.low) (names_at cs q.high) x y) (in_listed cs ps x y) (subst (λ r. crosses (names_at cs r.low) (names_at cs r.high) x y ≡ true) e h)
+to_listed cs (q ∷ ps) x y p (inr i) h = or_right (crosses (names_at cs q.low) (names_at cs q.high) x y) (in_listed cs ps x y) (to_listed cs ps x y p i h)
 
 -- the edges between the children of a node
 record AcrossEdge (k : Kind) (cs : PlainTrees) (ps : List Pair) (x y : ℕ) : Type 0 where
@@ -209,7 +192,7 @@ record IsEdgeBelow (cs : PlainTrees) (x y : ℕ) : Type 0 where
 mutual
   of_edge : (t : PlainTree) → EachNode IsCanonicalNode t → (x y : ℕ) → has_edge_in t x y ≡ true → IsEdge t x y
   of_edge (leaf v) each x y h = absurd (true≢false (sym h))
-  of_edge (node k cs ps) each x y h = elim (or_true (has_edge_below cs x y) (edge_across k cs ps x y) h) [
+  of_edge (node k cs ps) each x y h = elim (or_cases (has_edge_below cs x y) (edge_across k cs ps x y) h) [
     | inl l ↦ (
         let i : IsEdgeBelow cs x y = of_edge_below cs each.1 each.0.apart x y l in
         record {
@@ -229,7 +212,7 @@ mutual
 
   of_edge_below : (cs : PlainTrees) → EachNodeBelow IsCanonicalNode cs → AreApart cs → (x y : ℕ) → has_edge_below cs x y ≡ true → IsEdgeBelow cs x y
   of_edge_below no_tree each apart x y h = absurd (true≢false (sym h))
-  of_edge_below (one_more t ts) each apart x y h = elim (or_true (has_edge_in t x y) (has_edge_below ts x y) h) [
+  of_edge_below (one_more t ts) each apart x y h = elim (or_cases (has_edge_in t x y) (has_edge_below ts x y) h) [
     | inl l ↦ (
         let i : IsEdge t x y = of_edge t each.0 x y l in
         record {
@@ -253,13 +236,13 @@ mutual
   to_edge : (t : PlainTree) → (x y : ℕ) → IsEdge t x y → has_edge_in t x y ≡ true
   to_edge (leaf v) x y is = is.adjacent
   to_edge (node k cs ps) x y is = elim (cases_Bool (eqb (position_of cs x) (position_of cs y))) [
-    | inl e ↦ or_first (has_edge_below cs x y) (edge_across k cs ps x y) (to_edge_below cs x y (record {
+    | inl e ↦ or_left (has_edge_below cs x y) (edge_across k cs ps x y) (to_edge_below cs x y (record {
       first = is.first;
       second = is.second;
       same = eqb-true (position_of cs x) (position_of cs y) e;
       adjacent = sym (ap (λ w. cond w (adjacent_below cs x y) (joins k ps (position_of cs x) (position_of cs y))) e) ∙ is.adjacent;
     }))
-    | inr n ↦ or_second (has_edge_below cs x y) (edge_across k cs ps x y) (to_across k cs ps x y (record {
+    | inr n ↦ or_right (has_edge_below cs x y) (edge_across k cs ps x y) (to_across k cs ps x y (record {
       two = record { first = is.first; second = is.second; differ = λ same. clash (eq-eqb (position_of cs x) (position_of cs y) same) n };
       joined = sym (ap (λ w. cond w (adjacent_below cs x y) (joins k ps (position_of cs x) (position_of cs y))) n) ∙ is.adjacent;
     }))
@@ -269,7 +252,7 @@ mutual
   to_edge_below no_tree x y is = clash is.first (empty_lacks x)
   to_edge_below (one_more t ts) x y is = elim (cases_Bool (contains (names t) x)) [
     | inl hx ↦ elim (cases_Bool (contains (names t) y)) [
-      | inl hy ↦ or_first (has_edge_in t x y) (has_edge_below ts x y) (to_edge t x y (record {
+      | inl hy ↦ or_left (has_edge_in t x y) (has_edge_below ts x y) (to_edge t x y (record {
         first = hx;
         second = hy;
         adjacent = sym (ap (λ w. cond w (adjacent_in t x y) (adjacent_below ts x y)) hx) ∙ is.adjacent;
@@ -278,7 +261,7 @@ mutual
     ]
     | inr lx ↦ elim (cases_Bool (contains (names t) y)) [
       | inl hy ↦ (let r : suc (position_of ts x) ≡ 0 = sym (later t ts x lx) ∙ is.same ∙ here t ts y hy in absurd (omega arith))
-      | inr ly ↦ or_second (has_edge_in t x y) (has_edge_below ts x y) (to_edge_below ts x y (record {
+      | inr ly ↦ or_right (has_edge_in t x y) (has_edge_below ts x y) (to_edge_below ts x y (record {
         first = elim (of_union (names t) (names_below ts) x is.first) [ inl k ↦ clash k lx | inr j ↦ j ];
         second = elim (of_union (names t) (names_below ts) y is.second) [ inl k ↦ clash k ly | inr j ↦ j ];
         same = (let r : suc (position_of ts x) ≡ suc (position_of ts y) = sym (later t ts x lx) ∙ is.same ∙ later t ts y ly in omega arith);
@@ -289,30 +272,30 @@ mutual
 
 -- the edges of the nodes are the pairs of names that are adjacent in the tree
 pub edges_are : (t : PlainTree) → EachNode IsCanonicalNode t → (x y : ℕ) → has_edge_in t x y ≡ ((contains (names t) x && contains (names t) y) && adjacent_in t x y)
-edges_are t each x y = same_test (has_edge_in t x y) ((contains (names t) x && contains (names t) y) && adjacent_in t x y)
+edges_are t each x y = both_ways (has_edge_in t x y) ((contains (names t) x && contains (names t) y) && adjacent_in t x y)
     (λ h. let i : IsEdge t x y = of_edge t each x y h in
-    and_both (contains (names t) x && contains (names t) y) (adjacent_in t x y) (and_both (contains (names t) x) (contains (names t) y) i.first i.second) i.adjacent)
+    and_from (contains (names t) x && contains (names t) y) (adjacent_in t x y) (and_from (contains (names t) x) (contains (names t) y) i.first i.second) i.adjacent)
     (λ h.
-    let a : (contains (names t) x && contains (names t) y ≡ true) × (adjacent_in t x y ≡ true) = and_true (contains (names t) x && contains (names t) y) (adjacent_in t x y) h in
-    let b : Has (names t) x × Has (names t) y = and_true (contains (names t) x) (contains (names t) y) a.0 in
+    let a : (contains (names t) x && contains (names t) y ≡ true) × (adjacent_in t x y ≡ true) = and_parts (contains (names t) x && contains (names t) y) (adjacent_in t x y) h in
+    let b : Has (names t) x × Has (names t) y = and_parts (contains (names t) x) (contains (names t) y) a.0 in
     to_edge t x y (record { first = b.0; second = b.1; adjacent = a.1 }))
 
 -- the edges across a union
 pub crosses_right : (a : NameSet) (t : PlainTree) (ts : PlainTrees) (x y : ℕ) →
     crosses a (names_below (one_more t ts)) x y ≡ (crosses a (names t) x y || crosses a (names_below ts) x y)
 crosses_right a t ts x y =
-    same_test (crosses a (union (names t) (names_below ts)) x y) (crosses a (names t) x y || crosses a (names_below ts) x y)
+    both_ways (crosses a (union (names t) (names_below ts)) x y) (crosses a (names t) x y || crosses a (names_below ts) x y)
     (λ h. elim (of_crosses a (union (names t) (names_below ts)) x y h) [
       | inl w ↦ elim (of_union (names t) (names_below ts) y w.1) [
-        | inl i ↦ or_first (crosses a (names t) x y) (crosses a (names_below ts) x y) (to_crosses a (names t) x y (inl (w.0, i)))
-        | inr i ↦ or_second (crosses a (names t) x y) (crosses a (names_below ts) x y) (to_crosses a (names_below ts) x y (inl (w.0, i)))
+        | inl i ↦ or_left (crosses a (names t) x y) (crosses a (names_below ts) x y) (to_crosses a (names t) x y (inl (w.0, i)))
+        | inr i ↦ or_right (crosses a (names t) x y) (crosses a (names_below ts) x y) (to_crosses a (names_below ts) x y (inl (w.0, i)))
       ]
       | inr w ↦ elim (of_union (names t) (names_below ts) x w.1) [
-        | inl i ↦ or_first (crosses a (names t) x y) (crosses a (names_below ts) x y) (to_crosses a (names t) x y (inr (w.0, i)))
-        | inr i ↦ or_second (crosses a (names t) x y) (crosses a (names_below ts) x y) (to_crosses a (names_below ts) x y (inr (w.0, i)))
+        | inl i ↦ or_left (crosses a (names t) x y) (crosses a (names_below ts) x y) (to_crosses a (names t) x y (inr (w.0, i)))
+        | inr i ↦ or_right (crosses a (names t) x y) (crosses a (names_below ts) x y) (to_crosses a (names_below ts) x y (inr (w.0, i)))
       ]
     ])
-    (λ h. elim (or_true (crosses a (names t) x y) (crosses a (names_below ts) x y) h) [
+    (λ h. elim (or_cases (crosses a (names t) x y) (crosses a (names_below ts) x y) h) [
       | inl l ↦ elim (of_crosses a (names t) x y l) [
         | inl w ↦ to_crosses a (union (names t) (names_below ts)) x y (inl (w.0, union_left (names t) (names_below ts) y w.1))
         | inr w ↦ to_crosses a (union (names t) (names_below ts)) x y (inr (w.0, union_left (names t) (names_below ts) x w.1))
@@ -324,7 +307,7 @@ crosses_right a t ts x y =
     ])
 
 crosses_turn : (a b : NameSet) (x y : ℕ) → crosses a b x y ≡ crosses b a x y
-crosses_turn a b x y = same_test (crosses a b x y) (crosses b a x y)
+crosses_turn a b x y = both_ways (crosses a b x y) (crosses b a x y)
     (λ h. to_crosses b a x y (elim (of_crosses a b x y h) [ inl w ↦ inr (w.1, w.0) | inr w ↦ inl (w.1, w.0) ]))
     (λ h. to_crosses a b x y (elim (of_crosses b a x y h) [ inl w ↦ inr (w.1, w.0) | inr w ↦ inl (w.1, w.0) ]))
 
@@ -344,27 +327,27 @@ none_crosses b x y = crosses_turn empty b x y ∙ crosses_none b x y
 pub joined_two : (g h : PlainGraph) (u v : ℕ) → h ≡ with_edge g u v → (x y : ℕ) → adjacent h x y ≡ (adjacent g x y || crosses (only_name u) (only_name v) x y)
 joined_two g h u v same x y =
     ap (λ k. adjacent k x y) same ∙ adjacent-with_edge g u v x y
-    ∙ same_test ((((x == u) && (y == v)) || ((x == v) && (y == u))) || adjacent g x y) (adjacent g x y || crosses (only_name u) (only_name v) x y) forth back
+    ∙ both_ways ((((x == u) && (y == v)) || ((x == v) && (y == u))) || adjacent g x y) (adjacent g x y || crosses (only_name u) (only_name v) x y) forth back
   where
     forth : ((((x == u) && (y == v)) || ((x == v) && (y == u))) || adjacent g x y) ≡ true → (adjacent g x y || crosses (only_name u) (only_name v) x y) ≡ true
-    forth h = elim (or_true (((x == u) && (y == v)) || ((x == v) && (y == u))) (adjacent g x y) h) [
-      | inl l ↦ or_second (adjacent g x y) (crosses (only_name u) (only_name v) x y) (to_crosses (only_name u) (only_name v) x y
-          (elim (or_true ((x == u) && (y == v)) ((x == v) && (y == u)) l) [
-            | inl w ↦ (let p : ((x == u) ≡ true) × ((y == v) ≡ true) = and_true (x == u) (y == v) w in
+    forth h = elim (or_cases (((x == u) && (y == v)) || ((x == v) && (y == u))) (adjacent g x y) h) [
+      | inl l ↦ or_right (adjacent g x y) (crosses (only_name u) (only_name v) x y) (to_crosses (only_name u) (only_name v) x y
+          (elim (or_cases ((x == u) && (y == v)) ((x == v) && (y == u)) l) [
+            | inl w ↦ (let p : ((x == u) ≡ true) × ((y == v) ≡ true) = and_parts (x == u) (y == v) w in
                 inl (subst (Has (only_name u)) (sym (eqb-true x u p.0)) (only_has u), subst (Has (only_name v)) (sym (eqb-true y v p.1)) (only_has v)))
-            | inr w ↦ (let p : ((x == v) ≡ true) × ((y == u) ≡ true) = and_true (x == v) (y == u) w in
+            | inr w ↦ (let p : ((x == v) ≡ true) × ((y == u) ≡ true) = and_parts (x == v) (y == u) w in
                 inr (subst (Has (only_name u)) (sym (eqb-true y u p.1)) (only_has u), subst (Has (only_name v)) (sym (eqb-true x v p.0)) (only_has v)))
           ]))
-      | inr r ↦ or_first (adjacent g x y) (crosses (only_name u) (only_name v) x y) r
+      | inr r ↦ or_left (adjacent g x y) (crosses (only_name u) (only_name v) x y) r
     ]
 
     back : (adjacent g x y || crosses (only_name u) (only_name v) x y) ≡ true → ((((x == u) && (y == v)) || ((x == v) && (y == u))) || adjacent g x y) ≡ true
-    back h = elim (or_true (adjacent g x y) (crosses (only_name u) (only_name v) x y) h) [
-      | inl l ↦ or_second (((x == u) && (y == v)) || ((x == v) && (y == u))) (adjacent g x y) l
-      | inr r ↦ or_first (((x == u) && (y == v)) || ((x == v) && (y == u))) (adjacent g x y)
+    back h = elim (or_cases (adjacent g x y) (crosses (only_name u) (only_name v) x y) h) [
+      | inl l ↦ or_right (((x == u) && (y == v)) || ((x == v) && (y == u))) (adjacent g x y) l
+      | inr r ↦ or_left (((x == u) && (y == v)) || ((x == v) && (y == u))) (adjacent g x y)
           (elim (of_crosses (only_name u) (only_name v) x y r) [
-            | inl w ↦ or_first ((x == u) && (y == v)) ((x == v) && (y == u)) (and_both (x == u) (y == v) (eq-eqb x u (of_only u x w.0)) (eq-eqb y v (of_only v y w.1)))
-            | inr w ↦ or_second ((x == u) && (y == v)) ((x == v) && (y == u)) (and_both (x == v) (y == u) (eq-eqb x v (of_only v x w.1)) (eq-eqb y u (of_only u y w.0)))
+            | inl w ↦ or_left ((x == u) && (y == v)) ((x == v) && (y == u)) (and_from (x == u) (y == v) (eq-eqb x u (of_only u x w.0)) (eq-eqb y v (of_only v y w.1)))
+            | inr w ↦ or_right ((x == u) && (y == v)) ((x == v) && (y == u)) (and_from (x == v) (y == u) (eq-eqb x v (of_only v x w.1)) (eq-eqb y u (of_only u y w.0)))
           ])
     ]
 
@@ -373,10 +356,10 @@ unfolding adjacent
 edge_known g u v h n = record { vertices = g.vertices; edges = same_edges n } where
   same_edges : g.edges ≡ insert g.edges (edge u v)
   same_edges = same_pair_sets g.edges (insert g.edges (edge u v)) (λ a b.
-      same_test (contains g.edges (a, b)) (((a == min u v) && (b == max u v)) || contains g.edges (a, b))
-      (λ k. or_second ((a == min u v) && (b == max u v)) (contains g.edges (a, b)) k)
-      (λ k. elim (or_true ((a == min u v) && (b == max u v)) (contains g.edges (a, b)) k) [
-        | inl w ↦ (let p : ((a == min u v) ≡ true) × ((b == max u v) ≡ true) = and_true (a == min u v) (b == max u v) w in
+      both_ways (contains g.edges (a, b)) (((a == min u v) && (b == max u v)) || contains g.edges (a, b))
+      (λ k. or_right ((a == min u v) && (b == max u v)) (contains g.edges (a, b)) k)
+      (λ k. elim (or_cases ((a == min u v) && (b == max u v)) (contains g.edges (a, b)) k) [
+        | inl w ↦ (let p : ((a == min u v) ≡ true) × ((b == max u v) ≡ true) = and_parts (a == min u v) (b == max u v) w in
             subst (λ z. contains g.edges (z, b) ≡ true) (sym (eqb-true a (min u v) p.0)) (subst (λ z. contains g.edges (min u v, z) ≡ true) (sym (eqb-true b (max u v) p.1)) h))
         | inr w ↦ w
       ])

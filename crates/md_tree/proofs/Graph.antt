@@ -7,6 +7,7 @@ use Rattle.md_modules.specs.Kinds.{IsSplit, IsPrime}
 use Rattle.md_modules.specs.InducedPaths.{HasInducedPath}
 use Rattle.md_modules.specs.Laws.{MaximalModules}
 use Rattle.std.proofs.lemmas.Bool.{cases_Bool, false_from_ne_true}
+use Rattle.std.specs.Cmp.{both_ways}
 use Rattle.md_graph.proofs.SetLemmas.{clash, of_only, empty_lacks, Has-along, union_left, union_right, of_union}
 use Rattle.md_modules.proofs.Children.{child_component, child_maximal}
 use Rattle.md_modules.proofs.Quotients.{maximal_modules_proof}
@@ -19,7 +20,7 @@ use Rattle.md_tree.specs.Trees.{PlainTree, leaf, node, PlainTrees, no_tree, one_
 use Rattle.md_tree.specs.StrongTrees.{HasKind, IsJoined, ListsJoined, IsNodeOf, IsTreeOf}
 use Rattle.md_tree.specs.WellFormed.{AreApart, HasNoPrimeNode}
 use Rattle.md_tree.specs.TreeGraph.{position_of, lists_pair, joins, adjacent_in, adjacent_below}
-use Rattle.md_tree.proofs.Lists.{In, of_append, in_left, in_right, of_contains, to_contains}
+use Rattle.md_text.proofs.Lists.{In, of_append, in_left, in_right, of_contains, to_contains}
 use Rattle.md_tree.proofs.Nodes.{IsChild}
 use Rattle.md_tree.proofs.Built.{IsBuilt}
 use Rattle.md_tree.proofs.Pairs.{pair}
@@ -80,11 +81,6 @@ to_lists (q ∷ ps) p (inr i) = elim (cases_Bool (eqb q.low p.low && eqb q.high 
   | inr a ↦ ap (λ w. w || lists_pair ps p.low p.high) a ∙ to_lists ps p i
 ]
 
-pub same_test : (a b : Bool) → (a ≡ true → b ≡ true) → (b ≡ true → a ≡ true) → a ≡ b
-same_test true b f g = sym (f refl)
-same_test false true f g = g refl
-same_test false false f g = refl
-
 pub less_or_more : (i j : ℕ) → i ≢ j → (i < j) ⊎ (j < i)
 less_or_more zero zero n = absurd (n refl)
 less_or_more zero (suc j) n = inl (omega arith)
@@ -118,7 +114,7 @@ module _ (e : ℕ → ℕ → Bool) (adj : IsAdjacency e) where
 
     listed : IsPrime e s → ListsJoined e cs ps → (a b : ℕ) → Has s a → Has s b → position_of cs a < position_of cs b →
         lists_pair ps (position_of cs a) (position_of cs b) ≡ e a b
-    listed prime lists a b ha hb less = same_test _ _ edge_if_listed listed_if_edge where
+    listed prime lists a b ha hb less = both_ways _ _ edge_if_listed listed_if_edge where
       i : ℕ
       i = position_of cs a
 

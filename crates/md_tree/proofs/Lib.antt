@@ -1,4 +1,3 @@
-pub mod Lists
 pub mod Loops
 pub mod Nodes
 pub mod Built
@@ -13,3 +12,5 @@ pub mod Plain
 pub mod Written
 pub mod Edges
 pub mod Denoted
+pub mod Folding
+pub mod Stacking

@@ -1,28 +1,31 @@
 -- Each set of names has exactly one tree of strong modules, or none where it is empty; and what that tree tells.
 use Rattle.std.proofs.Common.{◌≡◌, ℕ, Bool, true, ◌&&◌, Option, Some, None, refl, sym, ◌∙◌, ap, subst, inl, inr}
+use Rattle.std.proofs.lemmas.Bool.{and_parts, and_from}
+use Rattle.std.specs.Cmp.{both_ways}
 use Rattle.std.specs.FinSet.{contains, empty}
 use Rattle.md_graph.specs.declared.TheConstants.{NAMES}
 use Rattle.md_graph.specs.NameSet.{AllBelow}
 use Rattle.md_graph.specs.PlainGraph.{PlainGraph, IsGraph, adjacent}
-use Rattle.md_graph.proofs.GraphLemmas.{adjacent_sym, adjacent_self, adjacent_ends}
+use Rattle.md_graph.proofs.GraphLemmas.{adjacent_ends}
 use Rattle.md_graph.specs.Sets.{NameSet, Has, HasSome}
 use Rattle.md_modules.specs.Adjacency.{IsAdjacency}
 use Rattle.md_modules.specs.Modules.{IsStrong}
 use Rattle.md_graph.proofs.SetLemmas.{clash, empty_lacks, Has-along, same_members}
 use Rattle.md_graph.proofs.Search.{decide_has_some}
+use Rattle.md_modules.proofs.Turns.{graph_adjacency}
 use Rattle.md_tree.specs.Trees.{PlainTree, names, node_sets, EachNode}
 use Rattle.md_tree.specs.WellFormed.{IsCanonicalNode}
 use Rattle.md_tree.specs.TreeGraph.{adjacent_in}
 use Rattle.md_tree.specs.StrongTrees.{IsTreeOf, IsTree}
 use Rattle.md_tree.specs.Laws.{OneTree, TreeIsCanonical, TreeIsWellFormed, TreeTellsGraph, GraphOfTheTree, NoInducedPathIfNoPrimeNode}
-use Rattle.md_tree.proofs.Lists.{to_contains}
+use Rattle.md_text.proofs.Lists.{to_contains}
 use Rattle.md_tree.proofs.Nodes.{own_set}
 use Rattle.md_tree.proofs.Built.{tree_names, tree_built}
 use Rattle.md_tree.proofs.Unique.{same_tree}
 use Rattle.md_tree.proofs.Exists.{HasTree, some_tree}
 use Rattle.md_tree.proofs.Canonical.{built_tree, canonical_of}
-use Rattle.md_tree.proofs.Graph.{adjacent_right, no_path_tree, same_test}
-use Rattle.md_tree.proofs.Edges.{edges_are, and_true, and_both}
+use Rattle.md_tree.proofs.Graph.{adjacent_right, no_path_tree}
+use Rattle.md_tree.proofs.Edges.{edges_are}
 use Rattle.md_tree.proofs.Denoted.{no_vertices_empty, tree_graph}
 
 module _ (e : ℕ → ℕ → Bool) where
@@ -74,23 +77,20 @@ well_formed_proof e adj s (Some t) is below =
     let c : (names t ≡ s) × EachNode IsCanonicalNode t = canonical_proof e adj s t is in
     (subst (λ w. AllBelow w NAMES) (sym c.0) below, c.1)
 
-graph_adjacency : (g : PlainGraph) → IsGraph g → IsAdjacency (adjacent g)
-graph_adjacency g is = record { symmetric = adjacent_sym g; irreflexive = adjacent_self is }
-
 pub graph_proof : GraphOfTheTree
 graph_proof g is None none = sym (no_vertices_empty g is none)
 graph_proof g is (Some t) tree =
-    let adj : IsAdjacency (adjacent g) = graph_adjacency g is in
+    let adj : IsAdjacency (adjacent g) = graph_adjacency is in
     let c : (names t ≡ g.vertices) × EachNode IsCanonicalNode t = canonical_proof (adjacent g) adj g.vertices t tree in
     sym (tree_graph g t is c.1 (subst (λ w. AllBelow w NAMES) (sym c.0) is.names) (sym c.0) (λ x y.
-    same_test (adjacent g x y) ((contains (names t) x && contains (names t) y) && adjacent_in t x y)
+    both_ways (adjacent g x y) ((contains (names t) x && contains (names t) y) && adjacent_in t x y)
     (λ h.
     let ends : (_ : _) × _ × _ = adjacent_ends is x y h in
-    and_both (contains (names t) x && contains (names t) y) (adjacent_in t x y)
-    (and_both (contains (names t) x) (contains (names t) y) (Has-along g.vertices (names t) (sym c.0) x ends.0) (Has-along g.vertices (names t) (sym c.0) y ends.1))
+    and_from (contains (names t) x && contains (names t) y) (adjacent_in t x y)
+    (and_from (contains (names t) x) (contains (names t) y) (Has-along g.vertices (names t) (sym c.0) x ends.0) (Has-along g.vertices (names t) (sym c.0) y ends.1))
     (tells_proof (adjacent g) adj g.vertices t tree x y ends.0 ends.1 ∙ h))
     (λ h.
-    let a : (contains (names t) x && contains (names t) y ≡ true) × (adjacent_in t x y ≡ true) = and_true (contains (names t) x && contains (names t) y) (adjacent_in t x y) h in
-    let b : Has (names t) x × Has (names t) y = and_true (contains (names t) x) (contains (names t) y) a.0 in
+    let a : (contains (names t) x && contains (names t) y ≡ true) × (adjacent_in t x y ≡ true) = and_parts (contains (names t) x && contains (names t) y) (adjacent_in t x y) h in
+    let b : Has (names t) x × Has (names t) y = and_parts (contains (names t) x) (contains (names t) y) a.0 in
     sym (tells_proof (adjacent g) adj g.vertices t tree x y (Has-along (names t) g.vertices c.0 x b.0) (Has-along (names t) g.vertices c.0 y b.1)) ∙ a.1)
     ∙ sym (edges_are t c.1 x y)))

@@ -7,3 +7,6 @@ pub mod TreeEdges
 pub mod TreeTexts
 pub mod Laws
 pub mod Positions
+pub mod Parts
+pub mod Stacks
+pub mod Fronts

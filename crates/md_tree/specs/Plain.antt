@@ -1,7 +1,8 @@
 -- The plain tree that a tree of the program is.
-use Rattle.std.specs.Prelude.{Option, option_map}
+use Rattle.std.specs.Prelude.{ℕ, List, map, drop, Option, option_map}
+use Rattle.md_tree.specs.declared.Children.{Children, out-Children}
 use Rattle.md_tree.specs.declared.Tree.{Tree, Leaf, Node', Row_of-Tree, end_of-Tree, more_of-Tree}
-use Rattle.md_tree.specs.Trees.{PlainTree, leaf, node, PlainTrees, no_tree, one_more}
+use Rattle.md_tree.specs.Trees.{PlainTree, leaf, node, PlainTrees, no_tree, one_more, row}
 
 unfoldable mutual
   -- the tree with its children and its pairs as lists
@@ -16,3 +17,15 @@ unfoldable mutual
 -- none, or the plain tree
 abbrev pub plain_option : Option Tree → Option PlainTree
 plain_option = option_map plain
+
+-- the children of a node, as a list
+abbrev pub trees_of : Children → List Tree
+trees_of children = (out-Children children).list.items
+
+-- the children of a node in a row
+abbrev pub row_of : Children → PlainTrees
+row_of children = row (map plain (trees_of children))
+
+-- its children from a position on, in a row
+abbrev pub row_from : Children → ℕ → PlainTrees
+row_from children from = row (map plain (drop from (trees_of children)))

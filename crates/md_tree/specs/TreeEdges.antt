@@ -1,4 +1,5 @@
--- The edges of the graph that a tree denotes, node by node.
+-- The loop's view of the graph that a tree denotes (TreeGraph is its meaning): its edges in the order in which the nodes are
+-- gone through.
 -- Source: Habib and Paul, A survey of the algorithmic aspects of modular decomposition.
 use Rattle.std.specs.Prelude.{ℕ, Bool, false, ◌&&◌, ◌||◌, List, [], ◌∷◌}
 use Rattle.std.specs.FinSet.{contains}

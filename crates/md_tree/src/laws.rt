@@ -1,9 +1,10 @@
-//! The laws of trees, each the contract of a function that does nothing. They speak of any set of names with a test of
-//! adjacency, and stand on no call that computes a tree.
+//! The laws of trees, each the contract of a function that does nothing. They speak of any set of
+//! names with a test of adjacency, and stand on no call that computes a tree.
 
 ghost use Rattle.md_tree.specs.Laws.{OneTree, TreeIsCanonical, TreeIsWellFormed, TreeTellsGraph, GraphOfTheTree, NoInducedPathIfNoPrimeNode, OneTreeOneText};
 
-/// Each graph has exactly one tree of strong modules; the graph without vertices has none in its place.
+/// Each graph has exactly one tree of strong modules; the graph without vertices has none in its
+/// place.
 pub fn one_tree()
     ensures { OneTree }
 {}
@@ -23,8 +24,8 @@ pub fn graph_of_the_tree()
     ensures { GraphOfTheTree }
 {}
 
-/// Two vertices are adjacent in a graph exactly as its tree says: where their least common node is series, or is
-/// prime and lists the pair of the children that hold them.
+/// Two vertices are adjacent in a graph exactly as its tree says: where their least common node is
+/// series, or is prime and lists the pair of the children that hold them.
 pub fn tree_tells_graph()
     ensures { TreeTellsGraph }
 {}

@@ -1,20 +1,22 @@
-//! The tree of strong modules of a graph: its types, its text, the graph that it denotes, and their laws.
+//! The tree of strong modules of a graph: its types, its text, the graph that it denotes, and
+//! their laws.
 #![tactic(auto)]
 
-ghost use Rattle.std.specs.Prelude.{◌≡◌, ◌<◌, vec_len, slice_index_or};
-ghost use Rattle.md_tree.specs.declared.Children.{out-Children};
+ghost use Rattle.std.specs.Prelude.{◌≡◌, ◌<◌, length, vec_len, slice_index_or};
+ghost use Rattle.md_tree.specs.Plain.{trees_of};
 
-mod graphs;
 pub mod laws;
-mod quotient;
-mod start;
-mod workspace;
+mod pair_writer;
+mod parts;
+mod tree_graph;
 mod writer;
 
-pub use graphs::graph_of;
+pub use parts::{Part, build};
+pub use tree_graph::graph_of;
 pub use writer::{push_text, text};
 
-/// The kind of a node of a tree: its leaf set has no edge across some split, every edge across some split, or neither.
+/// The kind of a node of a tree: its leaf set has no edge across some split, every edge across some
+/// split, or neither.
 #[derive(Clone, Copy, PartialEq, Eq, Debug)]
 pub enum Kind {
     Parallel,
@@ -22,14 +24,16 @@ pub enum Kind {
     Prime,
 }
 
-/// Two children of a prime node, by their positions from 0, between which edges run; the lower position first.
+/// Two children of a prime node, by their positions from 0, between which edges run; the lower
+/// position first.
 #[derive(Clone, Copy, PartialEq, Eq, Debug)]
 pub struct Pair {
     pub low: u32,
     pub high: u32,
 }
 
-/// A tree over names: a name, or a node with its kind, its children, and the pairs of children that it lists.
+/// A tree over names: a name, or a node with its kind, its children, and the pairs of children that
+/// it lists.
 #[cycle(tree)]
 #[derive(Drop)]
 pub enum Tree {
@@ -53,15 +57,15 @@ pub struct QuotientEdges {
 impl Children {
     /// How many children there are.
     pub fn len(&self) -> u64
-        ensures { result ≡ vec_len (out-Children self.now).list }
+        ensures { result ≡ length (trees_of self.now) }
     {
         self.list.len() as u64
     }
 
     /// The child at a position, counted from 0.
     pub fn get(&self, i: u64) -> &Tree
-        requires { i < vec_len (out-Children self.now).list }
-        ensures { result.now ≡ slice_index_or (out-Children self.now).list.items i result.now }
+        requires { i < length (trees_of self.now) }
+        ensures { result.now ≡ slice_index_or (trees_of self.now) i result.now }
     {
         &self.list[i as usize]
     }

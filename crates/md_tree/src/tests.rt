@@ -1,4 +1,5 @@
-//! Texts of trees as the format and its worked examples give them, and the smallest graphs of trees.
+//! Texts of trees as the format and its worked examples give them, and the smallest graphs of
+//! trees.
 use super::*;
 use md_graph::Graph;
 use std::alloc::{AllocError, Global};

@@ -2,7 +2,7 @@ use Rattle.std.proofs.Common.{[], ◌∷◌, ◌++◌, map, None, refl, sym, ◌
 use Rattle.std.proofs.lemmas.List.{nil_from_length}
 use Rattle.md_graph.specs.PlainGraph.{adjacent}
 use Rattle.md_modules.proofs.Turns.{graph_adjacency}
-use Rattle.md_decompose.specs.Parts.{plain_part}
+use Rattle.md_tree.specs.Parts.{plain_part}
 use Rattle.md_decompose.proofs.Opened.{IsReady, opened_begin, next_ready, turn_falls, opened_more, opened_end}
 use Rattle.md_decompose.proofs.decomposition.parts.Goals as goal
 

@@ -1,9 +1,9 @@
 use Rattle.std.proofs.Common.{[], map, refl, sym, ◌∙◌, subst, append-nil}
 use Rattle.md_graph.specs.PlainGraph.{adjacent}
-use Rattle.md_decompose.specs.declared.part.Part.TheVariants.{Leaf, Node}
-use Rattle.md_decompose.specs.Parts.{plain_part, name, inner}
+use Rattle.md_tree.specs.declared.parts.Part.TheVariants.{Leaf, Node}
+use Rattle.md_tree.specs.Parts.{plain_part, name, inner}
 use Rattle.md_decompose.specs.Turns.{open_below, ListsForKind}
-use Rattle.md_decompose.proofs.Stacking.{map_one_more, if_ok}
+use Rattle.md_tree.proofs.Stacking.{map_one_more, if_ok}
 use Rattle.md_decompose.proofs.decomposition.take_apart.Goals as goal
 
 pub returns-in-Some : goal.returns-in-Some
@@ -18,7 +18,7 @@ returns-in-Some c = (
 pub returns : goal.returns
 returns c =
     if_ok c.push_open.result (λ _ grown. (
-      inner c.in_ok-kind.kind c.len.result c.in_ok-edges.edges.list.items,
+      inner c.in_ok-kind.kind c.len.result c.in_ok-kind.edges.list.items,
       map (open_below c.in_ok-kind.kind) c.in_ok-kind.sets.items,
       (
         c.in_ok-kind.sets.items,
@@ -26,10 +26,10 @@ returns c =
           kind = c.in_ok-kind.ensures.kind;
           children = c.in_ok-kind.ensures.sets;
           number = c.len.ensures ∙ c.in_ok-kind.sets.ok.0;
-          pairs = subst (λ cs. ListsForKind (adjacent c.args.graph.now) c.in_ok-kind.kind cs c.in_ok-edges.edges.list.items) c.deref.ensures.value c.in_ok-edges.ensures;
+          pairs = c.in_ok-kind.ensures.pairs;
         },
         refl,
       ),
-      map_one_more plain_part c.push-2.new.self.items c.args.parts.now.items (Node c.in_ok-kind.kind c.len.result c.in_ok-edges.edges) c.in_ok-push-2.ensures.items,
+      map_one_more plain_part c.push-2.new.self.items c.args.parts.now.items (Node c.in_ok-kind.kind c.len.result c.in_ok-kind.edges) c.in_ok-push-2.ensures.items,
       grown,
     )) c.push_open.ensures

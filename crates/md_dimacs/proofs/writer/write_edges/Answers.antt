@@ -10,9 +10,8 @@ pub loop-v-init : goal.loop-v-init
 loop-v-init c =
     let list = c.into_iter-v-iterator.ensures.into_iter_gives ∙ c.members-v-items.ensures.list ∙ ap ascending c.vertices.ensures.set in
     record {
-      within = omega arith;
       coming = (0, coming_all c.args.graph.now.vertices _ list);
-      written = ap (λ l. l ++ rows_lines c.args.graph.now c.into_iter-v-iterator.result) (append-nil c.args.text.now.items) ∙ ap (λ l. c.args.text.now.items ++ l) (edges_text_is c.args.graph.now _ list);
+      written = ap (λ l. (c.args.text.now.items ++ l) ++ rows_lines c.args.graph.now c.into_iter-v-iterator.result) c.new-chunk.ensures ∙ ap (λ l. l ++ rows_lines c.args.graph.now c.into_iter-v-iterator.result) (append-nil c.args.text.now.items) ∙ ap (λ l. c.args.text.now.items ++ l) (edges_text_is c.args.graph.now _ list);
     }
 
 pub overflow_add-place : goal.overflow_add-place
@@ -37,11 +36,10 @@ pub loop-v-preserved : goal.loop-v-preserved
 loop-v-preserved c =
     let up = next_up c.args.graph.now.vertices c.loop-v.invariant.coming.0 c.loop-v.place _ c.in-Some.v _ c.loop-v.invariant.coming.1 c.in-Some.ensures.steps in
     record {
-      within = c.in_ok-at.ensures.within;
       coming = (c.in-Some.v + 1, up.after);
-      written = rows_step c.args.graph.now c.in-Some.v _ _ _ _ _ c.loop-v.invariant.written c.in-Some.ensures.steps c.in_ok-at.ensures.written;
+      written = rows_step c.args.graph.now c.in-Some.v _ _ _ _ _ c.loop-v.invariant.written c.in-Some.ensures.steps c.in_ok-write_row.ensures;
     }
 
 pub returns : goal.returns
 returns c =
-    c.in_ok-extend_from_slice.ensures.items ∙ rows_end c.args.graph.now _ _ _ c.loop-v.invariant.written c.in-None.ensures.steps.0
+    c.in_ok-flush.ensures.appended ∙ rows_end c.args.graph.now _ _ _ c.loop-v.invariant.written c.in-None.ensures.steps.0

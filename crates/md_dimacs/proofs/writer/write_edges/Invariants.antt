@@ -1,5 +1,4 @@
-use Rattle.std.proofs.Common.{◌≡◌, ℕ, ◌≤◌, ◌++◌, take}
-use Rattle.md_dimacs.specs.declared.writer.TheConstants.{CHUNK}
+use Rattle.std.proofs.Common.{◌≡◌, ℕ, ◌++◌}
 use Rattle.md_dimacs.specs.Places.{edges_text}
 use Rattle.md_dimacs.proofs.AscendingLemmas.{Coming}
 use Rattle.md_dimacs.proofs.TextLemmas.{rows_lines}
@@ -7,7 +6,6 @@ use Rattle.md_dimacs.proofs.writer.write_edges.Given as goal
 
 abbrev pub invariant-loop-v : goal.invariant-loop-v
 invariant-loop-v l = record {
-  within : l.at ≤ CHUNK;
   coming : (low : ℕ) × Coming l.graph.vertices low l.place l.v-iterator;
-  written : (l.text.items ++ take l.at l.chunk) ++ rows_lines l.graph l.v-iterator ≡ l.fn.text.items ++ edges_text l.graph;
+  written : (l.text.items ++ l.chunk) ++ rows_lines l.graph l.v-iterator ≡ l.fn.text.items ++ edges_text l.graph;
 }

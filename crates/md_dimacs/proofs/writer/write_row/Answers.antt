@@ -1,4 +1,4 @@
-use Rattle.std.proofs.Common.{arith, ap, sym, ◌∙◌, ◌+◌, ◌++◌, take, ℕ, ◌<◌}
+use Rattle.std.proofs.Common.{arith, ap, sym, ◌∙◌, ◌+◌, ◌++◌, ℕ, ◌<◌}
 use Rattle.std.specs.FinSet as set
 use Rattle.md_graph.specs.PlainGraph.{neighbours}
 use Rattle.md_graph.specs.Words.{bits_between}
@@ -8,16 +8,14 @@ use Rattle.md_dimacs.proofs.writer.write_row.Goals as goal
 
 pub loop-first-init : goal.loop-first-init
 loop-first-init c = record {
-  size = c.requires.chunk;
-  within = c.requires.at;
   aligned = omega arith;
   named = names_after c.args.v c.requires.name;
   near = omega arith;
-  written = ap (λ l. (c.args.text.now.items ++ take c.args.at c.args.chunk.now) ++ l) (block_start c.args.graph.now c.args.v (c.args.v + 1) _ (omega arith) (omega arith));
+  written = ap (λ l. (c.args.text.now.items ++ c.args.chunk.now) ++ l) (block_start c.args.graph.now c.args.v (c.args.v + 1) _ (omega arith) (omega arith));
 }
 
-pub write_block-at-requires-clause-there : goal.write_block-at-requires-clause-there
-write_block-at-requires-clause-there c =
+pub write_block-requires-clause-there : goal.write_block-requires-clause-there
+write_block-requires-clause-there c =
     let fits = word_fits c.loop-first.first c.loop-first.invariant.aligned (omega (arith, c.requires.places.named)) in
     let has = λ (k : ℕ) (h : k < 64). ap (λ s. set.contains s (c.loop-first.first + k)) (sym c.row-row.ensures.set) ∙ c.block.ensures k h in
     let cut = block_split (neighbours c.args.graph.now c.args.v) (c.args.v + 1) c.loop-first.first c.block.result c.bits_from-bits.result c.loop-first.invariant.near fits has c.bits_from-bits.ensures in
@@ -30,16 +28,14 @@ loop-first-preserved c =
     let cut = block_split (neighbours c.args.graph.now c.args.v) (c.args.v + 1) c.loop-first.first c.block.result c.bits_from-bits.result c.loop-first.invariant.near fits has c.bits_from-bits.ensures in
     let places = block_places c.args.graph.now c.row-row.ensures.graph c.args.v c.args.places.now c.requires.places _ _ _ cut in
     record {
-      size = omega arith;
-      within = omega (arith, c.in_ok-at.ensures.room);
       aligned = omega (arith, c.loop-first.invariant.aligned);
       named = fits;
       near = omega (arith, c.loop-first.invariant.near);
       written =
-          block_step c.args.graph.now c.args.v (c.args.v + 1) c.loop-first.first c.args.places.now (bits_between c.loop-first.first c.bits_from-bits.result 64) c.loop-first.text.items (take c.loop-first.at c.loop-first.chunk) c.make_room.new.text.items
-          (take c.in_ok-at.at c.loop-first.chunk) (take c.write_block-at.result c.write_block-at.new.chunk) (piece_text c.args.start) _ c.loop-first.invariant.written cut places c.requires.start c.in_ok-at.ensures.same c.write_block-at.ensures.text;
+          block_step c.args.graph.now c.args.v (c.args.v + 1) c.loop-first.first c.args.places.now (bits_between c.loop-first.first c.bits_from-bits.result 64) c.loop-first.text.items c.loop-first.chunk c.make_room.new.text.items
+          c.make_room.new.self c.write_block.new.chunk (piece_text c.args.start) _ c.loop-first.invariant.written cut places c.requires.start c.in_ok-make_room.ensures.same c.write_block.ensures;
     }
 
-pub returns-clause-written : goal.returns-clause-written
-returns-clause-written c =
+pub returns : goal.returns
+returns c =
     block_end c.args.graph.now c.row-row.ensures.graph c.args.v (c.args.v + 1) c.loop-first.first c.args.places.now _ _ c.requires.places c.loop-first-test.false c.loop-first.invariant.written

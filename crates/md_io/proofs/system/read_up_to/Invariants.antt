@@ -1,4 +1,5 @@
--- What was taken stands in the vector, at most one byte more than the limit; each read takes a byte or ends.
+-- What was taken stands in the vector, at most one byte more than the limit; each read takes a byte
+-- or ends.
 use Rattle.std.proofs.Common.{◌+◌, ◌-◌, ◌≤◌, length}
 use Rattle.std.specs.Io.KnownBytes.{Consumes}
 use Rattle.md_io.proofs.system.read_up_to.Given as goal

@@ -1,0 +1,207 @@
+//! The children of prime sets by the closures of pairs, a slow program, beside the fast one: on all
+//! graphs of up to five vertices, and on larger ones of many kinds.
+use super::{is_same_set, join};
+use crate::children::children;
+use crate::decomposition::only_member;
+use md_graph::{Graph, Memory, NAMES, Names};
+use md_modules::closure_in;
+use md_tree::Kind;
+use std::alloc::Global;
+use std::process::Abort;
+use std::test::Fail;
+
+// The graph on the vertices below `count` without edges.
+fn edgeless(rt: &impl Abort, alloc: Global, count: u32) -> Result<Graph, Memory> {
+    let mut graph = Graph::new(alloc)?;
+    for v in 0..count {
+        assert!(rt; v < NAMES && !graph.has_vertex(v));
+        graph.add_vertex(v);
+    }
+    Ok(graph)
+}
+
+// Joins `v` to the lower vertices whose bits are 1, and gives the bits behind these.
+fn join_by_bits(rt: &impl Abort, graph: &mut Graph, v: u32, bits: u32) -> u32 {
+    let mut left = bits;
+    for u in 0..v {
+        if left % 2 == 1 {
+            join(rt, graph, u, v);
+        }
+        left /= 2;
+    }
+    left
+}
+
+// The graph of the pairs whose bits are 1, column by column.
+fn by_bits(rt: &impl Abort, alloc: Global, count: u32, bits: u32) -> Result<Graph, Memory> {
+    let mut graph = edgeless(rt, alloc, count)?;
+    let mut left = bits;
+    for v in 0..count {
+        left = join_by_bits(rt, &mut graph, v, left);
+    }
+    Ok(graph)
+}
+
+// Small graphs of many kinds as graph6 lines of up to 30 vertices: random ones, sparse ones,
+// cographs, permutation graphs, bipartite ones, and paths and random graphs that are put in the
+// places of one another's vertices.
+const DRAWN: [&[u8]; 16] = [
+    b"Kz]QOMQSJx}_",
+    b"WvKNjVDboLB@ZJuoVpZCVeXh|Lgkv?`uJKb]]|xX~JGE@sZ",
+    b"O@G?B??O????hG?AYGO?@",
+    b"W?PA???@?OW?G????C_QOW?????????@?g?OC@G??G?????",
+    b"K_o@@FG?@E??",
+    b"W@N@oID??sOc`HE_?coHK@??C???_?H?BDe|oXnW?_CWkvi",
+    b"K^{??DF?oM_?",
+    b"WGCOg?^VwAAHV~CRB|i~ZCR?VLGAOF~~|^l}?Q??A??B|lr",
+    b"Krc?GAPOB?HC",
+    b"W??L?R_u???A?GSA?MGD_@SPGAGD_@OSCD?@?S??I_I?cG?",
+    b"Kb~I]\\HQqPD?",
+    b"WGAWWjzGGHR{ererakwHN@H|?_?JNcu\\sEf`fr]kHUA_E??",
+    b"]QhOA_Oa?CPAa?aD?CAn@aCQ_?COA?_?aGTIa?o?_?aP?gCa?_?a?O_A_A?EnPaPTOCAKO?P?O",
+    b"KwjhF~~j\\B\\m",
+    b"WVTYf|V~yaiIzn~~J}~~z~z|PZ^~^~~z~~|~znNf~~^^~fp",
+    b"]A??LQ@@????@?iZ?a???iZO?@DRYWRAUH`IiYQw?AS?o??Dck@iZQ{TKH]G?AK?iYQ{XEQoC?",
+];
+
+// The bit of a pair in a graph6 line, by the place of the pair.
+fn is_one(rt: &impl Abort, line: &[u8], place: usize) -> bool {
+    let at = 1 + place / 6;
+    assert!(rt; at < line.len() && line[at] >= 63);
+    (line[at] - 63) >> (5 - place % 6) & 1 == 1
+}
+
+// Joins `v` to the lower vertices whose bits are 1, from a place of a graph6 line on, and gives the
+// place behind these.
+fn join_by_line(rt: &impl Abort, graph: &mut Graph, v: u32, line: &[u8], place: usize) -> usize {
+    let mut next = place;
+    for u in 0..v {
+        if is_one(rt, line, next) {
+            join(rt, graph, u, v);
+        }
+        next = next.wrapping_add(1);
+    }
+    next
+}
+
+// The graph of a graph6 line.
+fn by_line(rt: &impl Abort, alloc: Global, line: &[u8]) -> Result<Graph, Memory> {
+    assert!(rt; !line.is_empty() && line[0] >= 63);
+    let count = u32::from(line[0] - 63);
+    let mut graph = edgeless(rt, alloc, count)?;
+    let mut place = 0;
+    for v in 0..count {
+        place = join_by_line(rt, &mut graph, v, line, place);
+    }
+    Ok(graph)
+}
+
+// Takes in the least module of `u` and `v` in the graph on `set`, unless it is the whole set.
+fn take_closure(rt: &impl Abort, graph: &Graph, set: &Names, u: u32, v: u32, block: &mut Names) {
+    let within = set.and(graph.vertices());
+    assert!(rt; within.has(u));
+    assert!(rt; within.has(v));
+    let mut closure = Names::none();
+    closure_in(graph, &within, u, v, &mut closure);
+    if !is_same_set(&closure, set) {
+        block.take_in(&closure);
+    }
+}
+
+// The maximal proper module of `u` in a prime set.
+fn block(rt: &impl Abort, graph: &Graph, set: &Names, rest: &Names, u: u32) -> Names {
+    let mut block = Names::none();
+    for v in rest.members() {
+        if !block.has(v) {
+            take_closure(rt, graph, set, u, v, &mut block);
+        }
+    }
+    block
+}
+
+// The maximal proper modules of a prime set, in order.
+fn slow_children(
+    rt: &impl Abort,
+    alloc: Global,
+    graph: &Graph,
+    set: &Names,
+) -> Result<Vec<Names>, Memory> {
+    let mut sets = Vec::new(alloc);
+    let mut rest = set.copy();
+    for _ in 0..NAMES {
+        let Some(u) = rest.first_from(0) else {
+            return Ok(sets);
+        };
+        let next = block(rt, graph, set, &rest, u);
+        rest = rest.minus(&next);
+        sets.push(next)?;
+    }
+    Ok(sets)
+}
+
+// Sees that two lists have the same sets.
+fn expect_same(rt: &impl Abort, left: &[Names], right: &[Names]) {
+    assert_eq!(rt; left.len(), right.len());
+    for (first, second) in left.iter().zip(right) {
+        assert!(rt; is_same_set(first, second));
+    }
+}
+
+// Sees that both programs give a set the same children, which come behind the waiting sets.
+fn divide(
+    rt: &impl Abort,
+    alloc: Global,
+    graph: &Graph,
+    set: &Names,
+    waiting: &mut Vec<Names>,
+) -> Result<(), Memory> {
+    let within = set.and(graph.vertices());
+    let Some(_) = within.first_from(0) else {
+        return Ok(());
+    };
+    if only_member(&within).is_some() {
+        return Ok(());
+    }
+    let (kind, sets, _) = children(alloc, graph, &within, None)?;
+    if matches!(kind, Kind::Prime) {
+        expect_same(rt, &sets, &slow_children(rt, alloc, graph, set)?);
+    }
+    for names in sets {
+        waiting.push(names)?;
+    }
+    Ok(())
+}
+
+// Sees that both programs take a graph apart in the same way.
+fn compare(rt: &impl Abort, alloc: Global, graph: &Graph) -> Result<(), Memory> {
+    let mut waiting = Vec::new(alloc);
+    waiting.push(graph.vertices().copy())?;
+    for _ in 0..2 * NAMES {
+        let Some(set) = waiting.pop() else {
+            return Ok(());
+        };
+        divide(rt, alloc, graph, &set, &mut waiting)?;
+    }
+    Ok(())
+}
+
+// All graphs on the vertices below `count`, which are so many.
+fn compare_all(rt: &impl Abort, alloc: Global, count: u32, graphs: u32) -> Result<(), Memory> {
+    for bits in 0..graphs {
+        let graph = by_bits(rt, alloc, count, bits)?;
+        compare(rt, alloc, &graph)?;
+    }
+    Ok(())
+}
+
+#[test]
+fn both_programs(rt: HostRuntime) -> Result<(), Fail> {
+    for (count, graphs) in [(1, 1), (2, 2), (3, 8), (4, 64), (5, 1024)] {
+        compare_all(&rt, rt.alloc(), count, graphs)?;
+    }
+    for line in DRAWN {
+        let graph = by_line(&rt, rt.alloc(), line)?;
+        compare(&rt, rt.alloc(), &graph)?;
+    }
+    Ok(())
+}

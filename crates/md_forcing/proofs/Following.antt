@@ -1,0 +1,94 @@
+-- The places of a class followed from an arc back to the first.
+use Rattle.std.proofs.Common.{◌≡◌, ℕ, ◌<◌, Bool, List, [], ◌∷◌, ◌++◌, length, slice_get, Some, None, Option, IfNone, Result, Ok, Err, IfOk, sym, ◌∙◌, ap, subst, inl, inr, arith, reverse as back_to_front}
+use Rattle.std.proofs.lemmas.List.{reverse-append}
+use Rattle.std.specs.Map.{keys_of}
+use Rattle.md_forcing.specs.declared.arc.Arc.{Arc}
+use Rattle.md_forcing.specs.Lists.{Holds, NoRepeats}
+use Rattle.md_forcing.specs.Forcing.{reverse, ForcesDirectly, Leads, IsListToReverse}
+use Rattle.md_forcing.specs.Classes.{IsClass}
+use Rattle.md_forcing.proofs.ListLemmas.{key_at, one_place, place_within, same_some}
+use Rattle.md_forcing.proofs.Reaching.{reached_arc}
+
+-- The collected arcs, the last first, lead from the arc at the place to the target, and stand behind that place.
+pub record Following (es : List (Arc × ℕ)) (target : Arc) (place : ℕ) (list : List Arc) : Type 0 where
+  pub leads : (e : ℕ → ℕ → Bool) (first : Arc) → IsClass e first es → (a : Arc) (p : ℕ) → slice_get es place ≡ Some (a, p) → Leads e a (back_to_front list) target
+  pub later : (y : Arc) → Holds (back_to_front list) y → (j : ℕ) × (q : ℕ) × (place < j) × (slice_get es j ≡ Some (y, q))
+  pub once : NoRepeats (back_to_front list)
+  pub within : place < length es
+
+pushed_back : (list : List Arc) (a : Arc) → back_to_front (list ++ a ∷ []) ≡ a ∷ back_to_front list
+pushed_back list a = reverse-append list (a ∷ [])
+
+entry_parts : (a b : Arc) (p q : ℕ) (x : Option (Arc × ℕ)) → x ≡ Some (a, p) → x ≡ Some (b, q) → (a ≡ b) × (p ≡ q)
+entry_parts a b p q x s t = let same = same_some (a, p) (b, q) (sym s ∙ t) in (ap (λ y. y.0) same, ap (λ y. y.1) same)
+
+pub following_start : (es : List (Arc × ℕ)) (target : Arc) (place p : ℕ) → slice_get es place ≡ Some (target, p) → Following es target place []
+following_start es target place p stands = record {
+  leads = λ e first is a q s. (entry_parts a target q p _ s stands).0;
+  later = λ y h. absurd h;
+  once = tt;
+  within = place_within es place _ stands;
+}
+
+module _ (es : List (Arc × ℕ)) (target : Arc) (place : ℕ) (list : List Arc) (before : Following es target place list) where
+  -- no collected arc stands at the place
+  not_there : (e : ℕ → ℕ → Bool) (first : Arc) → IsClass e first es → (a : Arc) (p : ℕ) → slice_get es place ≡ Some (a, p) → Holds (back_to_front list) a → ⊥
+  not_there e first is a p s h =
+      let w = before.later a h in
+      let same = one_place es place w.0 a p w.1 is.once s w.3 in
+      let behind = w.2 in
+      omega arith
+
+  pub following_more : (e : ℕ → ℕ → Bool) (first : Arc) → IsClass e first es → 0 < place → (a : Arc) (p : ℕ) → slice_get es place ≡ Some (a, p) → (p < place) × Following es target p (list ++ a ∷ [])
+  following_more e first is above a p s =
+      let own = is.forced place p a above s in
+      let less = own.before in (
+        own.before,
+        record {
+          leads = λ f other is_other b q t.
+              let forced = is_other.forced place p a above s in
+              let by_same = (entry_parts forced.by b forced.its_place q _ forced.stands t).0 in
+              let P : List Arc → Type 0 = λ l. Leads f b l target in
+              subst P (sym (pushed_back list a)) (
+                reached_arc f other a ((is_other.reached a).0 (key_at es place a p s)),
+                subst (λ x. ForcesDirectly f x a) by_same forced.forces,
+                before.leads f other is_other a p s,
+              );
+          later = λ y h.
+              elim (subst (λ l. Holds l y) (pushed_back list a) h) [
+                | inl same ↦ (place, p, own.before, subst (λ x. slice_get es place ≡ Some (x, p)) (sym same) s)
+                | inr rest ↦ let w = before.later y rest in let behind = w.2 in (w.0, w.1, omega arith, w.3)
+              ];
+          once = subst NoRepeats (sym (pushed_back list a)) (not_there e first is a p s, before.once);
+          within = (let w = before.within in omega arith);
+        },
+      )
+
+  -- at the first place the list is whole
+  pub followed : (chain : List Arc) (a : Arc) (p : ℕ) → place ≡ 0 → target ≡ reverse a → slice_get es 0 ≡ Some (a, p) → chain ≡ back_to_front (list ++ a ∷ []) → (e : ℕ → ℕ → Bool) (first : Arc) → IsClass e first es → IsListToReverse e first chain
+  followed chain a p here turned s is_chain e first is =
+      let same = (entry_parts a first p 0 _ s is.begins).0 in
+      let stands : slice_get es place ≡ Some (a, p) = ap (slice_get es) here ∙ s in
+      let whole : chain ≡ a ∷ back_to_front list = is_chain ∙ pushed_back list a in
+      let P : Arc → Type 0 = λ x. IsListToReverse e x chain in
+      subst P same (record {
+        rest = back_to_front list;
+        begins = whole;
+        starts = reached_arc e first a ((is.reached a).0 (key_at es 0 a p s));
+        leads = subst (Leads e a (back_to_front list)) turned (before.leads e first is a p stands);
+        no_repeats = subst NoRepeats (sym whole) (not_there e first is a p stands, before.once);
+      })
+
+pub not_held : (es : List (Arc × ℕ)) (a : Arc) (p : ℕ) → slice_get es 0 ≡ Some (a, p) → (Holds (keys_of es) (reverse a) → ⊥) → (e : ℕ → ℕ → Bool) (first : Arc) → IsClass e first es → Holds (keys_of es) (reverse first) → ⊥
+not_held es a p s none e first is h =
+    let same = (entry_parts first a 0 p _ is.begins s).0 in
+    none (subst (λ x. Holds (keys_of es) (reverse x)) same h)
+
+pub has_first : (e : ℕ → ℕ → Bool) (first : Arc) (es : List (Arc × ℕ)) → IsClass e first es → 0 < length es
+has_first e first es is = place_within es 0 _ is.begins
+
+-- what no answer tells of each graph it tells of one
+pub at_none : {C E : Type 0} (r : Result (Option C) E) (P Q : Type 0) → (P → Q) → IfOk r (λ answer. IfNone answer P) → IfOk r (λ answer. IfNone answer Q)
+at_none (Ok (Some x)) P Q f h = tt
+at_none (Ok None) P Q f h = f h
+at_none (Err x) P Q f h = tt

@@ -1,0 +1,8 @@
+use Rattle.md_forcing.proofs.SeenRows.{none_seen}
+use Rattle.md_forcing.proofs.exploration.close.Goals as goal
+
+pub explore-requires-clause-fresh : goal.explore-requires-clause-fresh
+explore-requires-clause-fresh c = none_seen _ c.in_ok-seen.ensures.none c.args.first
+
+pub explore-requires-clause-closed : goal.explore-requires-clause-closed
+explore-requires-clause-closed c = λ a b h _ _. absurd (none_seen _ c.in_ok-seen.ensures.none a h)

@@ -1,0 +1,31 @@
+-- The class of an arc: the arcs that it reaches, each with the place of one before it that forces it directly.
+-- Source: Golumbic, Algorithmic Graph Theory and Perfect Graphs, chapter 5.
+use Rattle.std.specs.Prelude.{◌≡◌, ◌<◌, ◌⊎◌, ◌↔◌, ℕ, Bool, List, Some, slice_get}
+use Rattle.std.specs.Map.{keys_of}
+use Rattle.md_graph.specs.Sets.{NameSet}
+use Rattle.md_forcing.specs.declared.arc.Arc.{Arc}
+use Rattle.md_forcing.specs.Lists.{Holds, NoRepeats}
+use Rattle.md_forcing.specs.Forcing.{ForcesDirectly, Reaches}
+use Rattle.md_forcing.specs.Seen.{IsSeen}
+
+-- p is the place of an arc before place i that forces a directly
+pub record IsForcedAt (e : ℕ → ℕ → Bool) (entries : List (Arc × ℕ)) (i p : ℕ) (a : Arc) : Type 0 where
+  pub before : p < i
+  pub by : Arc
+  pub its_place : ℕ
+  pub stands : slice_get entries p ≡ Some (by, its_place)
+  pub forces : ForcesDirectly e by a
+
+-- the entries are the class of `first`
+pub record IsClass (e : ℕ → ℕ → Bool) (first : Arc) (entries : List (Arc × ℕ)) : Type 0 where
+  -- the first entry is `first`, with its own place
+  pub begins : slice_get entries 0 ≡ Some (first, 0)
+  -- the arcs are exactly those that `first` reaches, each once
+  pub once : NoRepeats (keys_of entries)
+  pub reached : (a : Arc) → Holds (keys_of entries) a ↔ Reaches e first a
+  -- each later one has a smaller place than its own, and the arc there forces it directly
+  pub forced : (i p : ℕ) (a : Arc) → 0 < i → slice_get entries i ≡ Some (a, p) → IsForcedAt e entries i p a
+
+-- the set holds the arcs that it held and those of the class
+abbrev pub TakesClass : List NameSet → List (Arc × ℕ) → List NameSet → Type 0
+TakesClass old entries new = (a : Arc) → IsSeen new a ↔ (IsSeen old a ⊎ Holds (keys_of entries) a)

@@ -1,0 +1,218 @@
+//! Lists of arcs, and the list by which an arc reaches its reverse.
+ghost use Rattle.std.specs.Prelude.{◌≡◌, ℕ, ◌<◌, Bool, length, slice_get, Some, IfOk, IfSome, IfNone};
+ghost use Rattle.std.specs.Map.{keys_of};
+ghost use Rattle.md_graph.specs.PlainGraph.{adjacent};
+ghost use Rattle.md_forcing.specs.declared.arc.Arc.{Arc};
+ghost use Rattle.md_forcing.specs.Lists.{Holds};
+ghost use Rattle.md_forcing.specs.Forcing.{reverse, IsListToReverse};
+ghost use Rattle.md_forcing.specs.Classes.{IsClass};
+
+use crate::{Arc, Class};
+use md_graph::{Graph, Memory};
+use std::alloc::Global;
+use std::marker::Model;
+
+/// A list of arcs.
+#[derive(Drop)]
+pub struct Arcs {
+    list: Vec<Arc>,
+}
+
+impl Model for Arcs {
+    ghost use Rattle.std.specs.Prelude.{List};
+    ghost use Rattle.md_forcing.specs.declared.arc.Arc.{Arc};
+
+    ghost Value = { List Arc };
+
+    ghost view = { λ a. a.list.items };
+}
+
+impl Arcs {
+    /// These arcs.
+    pub fn from_list(list: Vec<Arc>) -> Arcs
+        ensures { result ≡ list.items }
+    {
+        Arcs { list }
+    }
+
+    /// The number of arcs.
+    pub fn len(&self) -> u64
+        ensures { result ≡ length self.now }
+    {
+        self.list.len() as u64
+    }
+
+    /// The arc at a place, counted from 0. Condition: there are more.
+    pub fn get(&self, i: u64) -> Arc
+        requires { i < length self.now }
+        ensures { slice_get self.now i ≡ Some result }
+    {
+        self.list[i as usize]
+    }
+}
+
+/// A list of arcs in which neighbours are to force each other directly.
+#[derive(Drop)]
+pub struct Chain {
+    list: Vec<Arc>,
+}
+
+impl Model for Chain {
+    ghost use Rattle.std.specs.Prelude.{List};
+    ghost use Rattle.md_forcing.specs.declared.arc.Arc.{Arc};
+
+    ghost Value = { List Arc };
+
+    ghost view = { λ c. c.list.items };
+}
+
+impl Chain {
+    /// These arcs.
+    pub fn from_list(list: Vec<Arc>) -> Chain
+        ensures { result ≡ list.items }
+    {
+        Chain { list }
+    }
+
+    /// The number of arcs.
+    pub fn len(&self) -> u64
+        ensures { result ≡ length self.now }
+    {
+        self.list.len() as u64
+    }
+
+    /// The arc at a place, counted from 0. Condition: there are more.
+    pub fn get(&self, i: u64) -> Arc
+        requires { i < length self.now }
+        ensures { slice_get self.now i ≡ Some result }
+    {
+        self.list[i as usize]
+    }
+}
+
+/// A list without repeats from the first arc of a class to its reverse, in which neighbours force each other directly;
+/// `None` exactly where the class doesn't hold the reverse. Condition: it is the class of an arc of the graph. Errors:
+/// want of memory.
+pub fn chain_to_reverse(
+    alloc: Global,
+    graph: &Graph,
+    class: &Class,
+) -> Result<Option<Chain>, Memory>
+    requires { (first : Arc) × IsClass (adjacent graph.now) first class.now }
+    ensures found { IfOk result (λ answer. IfSome answer (λ chain. (first : Arc)
+        → IsClass (adjacent graph.now) first class.now
+        → IsListToReverse (adjacent graph.now) first chain)) }
+    ensures none { IfOk result (λ answer. IfNone answer ((first : Arc)
+        → IsClass (adjacent graph.now) first class.now → Holds (keys_of class.now) (reverse first) → ⊥)) }
+{
+    chain_of(alloc, class)
+}
+
+/// The same of a class of any graph, so of the complement of one.
+pub fn chain_of(alloc: Global, class: &Class) -> Result<Option<Chain>, Memory>
+    requires { (e : ℕ → ℕ → Bool) × (first : Arc) × IsClass e first class.now }
+    ensures found { IfOk result (λ answer. IfSome answer (λ chain. (e : ℕ → ℕ → Bool) (first : Arc)
+        → IsClass e first class.now → IsListToReverse e first chain)) }
+    ensures none { IfOk result (λ answer. IfNone answer ((e : ℕ → ℕ → Bool) (first : Arc)
+        → IsClass e first class.now → Holds (keys_of class.now) (reverse first) → ⊥)) }
+{
+    let (first, _) = class.entry(0);
+    let turned = Arc {
+        tail: first.head,
+        head: first.tail,
+    };
+    let Some(last) = class.place_of(turned) else {
+        return Ok(None);
+    };
+    let mut list = Vec::new(alloc);
+    let mut at = last;
+    while at > 0 {
+        let (by, place) = class.entry(at);
+        list.push(by)?;
+        at = place as usize;
+    }
+    list.push(first)?;
+    list.reverse();
+    Ok(Some(Chain { list }))
+}
+
+#[cfg(test)]
+mod tests {
+    use super::*;
+    use crate::close;
+    use std::process::Abort;
+    use std::test::Fail;
+
+    // The graph on the names below `n` with these edges.
+    fn made(rt: &impl Abort, alloc: Global, n: u32, edges: &[(u32, u32)]) -> Result<Graph, Memory> {
+        let mut graph = Graph::new(alloc)?;
+        for v in 0..n {
+            assert!(rt; v < 4096 && !graph.has_vertex(v));
+            graph.add_vertex(v);
+        }
+        for (u, v) in edges {
+            assert!(rt; *u != *v);
+            assert!(rt; graph.has_vertex(*u));
+            assert!(rt; graph.has_vertex(*v));
+            assert!(rt; !graph.has_edge(*u, *v));
+            graph.add_edge(*u, *v);
+        }
+        Ok(graph)
+    }
+
+    // Sees how many arcs 0>1 reaches, what the second of them is, and how long the list to 1>0 is: 0 where there is none.
+    fn expect(
+        rt: &impl Abort,
+        alloc: Global,
+        edges: &[(u32, u32)],
+        arcs: u64,
+        second: Arc,
+        steps: u64,
+    ) -> Result<(), Memory> {
+        let graph = made(rt, alloc, 6, edges)?;
+        assert!(rt; graph.has_edge(0, 1));
+        let first = Arc { tail: 0, head: 1 };
+        let class = close(alloc, &graph, first)?;
+        assert_eq!(rt; class.len(), arcs);
+        if arcs > 1 {
+            assert_eq!(rt; class.get(1), second);
+        }
+        match chain_to_reverse(alloc, &graph, &class)? {
+            Some(chain) => {
+                assert_eq!(rt; chain.len(), steps);
+                assert!(rt; steps > 0);
+                assert_eq!(rt; chain.get(0), first);
+                assert_eq!(rt; chain.get(steps - 1), Arc { tail: 1, head: 0 });
+            }
+            None => assert_eq!(rt; steps, 0),
+        }
+        Ok(())
+    }
+
+    #[test]
+    fn classes_and_chains(rt: HostRuntime) -> Result<(), Fail> {
+        let path = [(0, 1), (1, 2)];
+        let triangle = [(0, 1), (1, 2), (0, 2)];
+        let cycle = [(0, 1), (1, 2), (2, 3), (3, 4), (0, 4)];
+        let tail = [(0, 2), (2, 4), (4, 5), (3, 5), (0, 3), (0, 1)];
+        let none = Arc { tail: 0, head: 0 };
+        expect(&rt, rt.alloc(), &path, 2, Arc { tail: 2, head: 1 }, 0)?;
+        expect(&rt, rt.alloc(), &triangle, 1, none, 0)?;
+        expect(&rt, rt.alloc(), &cycle, 10, Arc { tail: 0, head: 4 }, 6)?;
+        expect(&rt, rt.alloc(), &tail, 12, Arc { tail: 0, head: 2 }, 7)?;
+        Ok(())
+    }
+
+    #[test]
+    fn lists_of_arcs(rt: HostRuntime) -> Result<(), Fail> {
+        let a = Arc { tail: 0, head: 1 };
+        let b = Arc { tail: 2, head: 1 };
+        let arcs = Arcs::from_list(vec![in rt.alloc(); a, b]?);
+        assert_eq!(rt; arcs.len(), 2);
+        assert_eq!(rt; arcs.get(1), b);
+        let chain = Chain::from_list(vec![in rt.alloc(); b, a]?);
+        assert_eq!(rt; chain.len(), 2);
+        assert_eq!(rt; chain.get(1), a);
+        Ok(())
+    }
+}

@@ -1,0 +1,15 @@
+//! Forcing: arcs of a graph or of its complement, the arcs that an arc reaches by direct forcings, and lists of arcs in
+//! which neighbours force each other.
+#![tactic(auto)]
+
+mod arc;
+mod chain;
+mod class;
+mod exploration;
+mod seen;
+
+pub use arc::Arc;
+pub use chain::{Arcs, Chain, chain_of, chain_to_reverse};
+pub use class::Class;
+pub use exploration::{close, explore};
+pub use seen::{Seen, Side};

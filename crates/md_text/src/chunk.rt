@@ -1,0 +1,112 @@
+//! The end of a text, gathered before it is appended.
+ghost use Rattle.std.specs.Prelude.{◌≡◌, ◌+◌, ◌≤◌, [], ◌++◌, length, take, OnOk, OnErr};
+ghost use Rattle.md_text.specs.Pieces.{piece_text};
+
+use crate::piece::Piece;
+use std::alloc::AllocError;
+use std::marker::Model;
+
+/// How many bytes a chunk holds at most.
+pub const CHUNK_SIZE: usize = 1920;
+
+/// Bytes that are gathered, to be appended to a text together.
+// How many are used stands before the bytes and has 32 bits: so the compiler sees that no byte is
+// written over it, and keeps it in a register while a loop gathers pieces.
+#[derive(Drop)]
+pub struct Chunk {
+    used: u32,
+    bytes: [u8; CHUNK_SIZE],
+}
+
+impl Model for Chunk {
+    ghost use Rattle.std.specs.Prelude.{List, ℕ, ◌≤◌, take};
+    ghost use Rattle.md_text.specs.declared.chunk.TheConstants.{CHUNK_SIZE};
+
+    ghost Value = { List ℕ };
+
+    ghost view = { λ c. take c.used c.bytes };
+
+    ghost invariant = { λ c. c.used ≤ CHUNK_SIZE };
+}
+
+impl Chunk {
+    /// A chunk without bytes.
+    pub fn new() -> Self
+        ensures { result ≡ [] }
+    {
+        Chunk {
+            used: 0,
+            bytes: [0; CHUNK_SIZE],
+        }
+    }
+
+    /// For how many bytes more there is room.
+    #[inline]
+    pub fn room(&self) -> usize
+        ensures { length self.now + result ≡ CHUNK_SIZE }
+    {
+        CHUNK_SIZE - self.used as usize
+    }
+
+    /// Lets the bytes go.
+    #[inline]
+    pub fn clear(&mut self)
+        ensures { self.new ≡ [] }
+    {
+        self.used = 0;
+    }
+
+    /// Gathers two pieces behind the others. There has to be room for sixteen bytes: up to so many
+    /// are written.
+    #[inline]
+    pub fn put_both(&mut self, first: Piece, second: Piece)
+        requires { length self.old + 16 ≤ CHUNK_SIZE }
+        ensures text { self.new ≡ (self.old ++ piece_text first) ++ piece_text second }
+        ensures within { length self.new ≤ length self.old + 16 }
+    {
+        let at = put_piece(&mut self.bytes, self.used, first);
+        self.used = put_piece(&mut self.bytes, at, second);
+    }
+
+    /// Appends the bytes to a text, so that none are gathered. Errors: want of memory; both then
+    /// stay.
+    pub fn flush(&mut self, text: &mut Vec<u8>) -> Result<(), AllocError>
+        ensures appended { OnOk result (text.new.items ≡ text.old.items ++ self.old) }
+        ensures emptied { OnOk result (self.new ≡ []) }
+        ensures text_stays { OnErr result (text.new.items ≡ text.old.items) }
+        ensures stays { OnErr result (self.new ≡ self.old) }
+    {
+        text.extend_from_slice(&self.bytes[..self.used as usize])?;
+        self.used = 0;
+        Ok(())
+    }
+
+    /// Appends the bytes to a text if there is no room for `more` behind them. Errors: want of
+    /// memory; both then stay.
+    #[inline(always)]
+    pub fn make_room(&mut self, more: usize, text: &mut Vec<u8>) -> Result<(), AllocError>
+        requires { more ≤ CHUNK_SIZE }
+        ensures room { OnOk result (length self.new + more ≤ CHUNK_SIZE) }
+        ensures same { OnOk result (text.new.items ++ self.new ≡ text.old.items ++ self.old) }
+        ensures text_stays { OnErr result (text.new.items ≡ text.old.items) }
+        ensures stays { OnErr result (self.new ≡ self.old) }
+    {
+        if self.room() < more {
+            self.flush(text)?;
+        }
+        Ok(())
+    }
+}
+
+// Writes a piece behind the first `at` bytes, and says how many they then are. Eight bytes are
+// written, so that what stood behind the piece is lost.
+#[inline(always)]
+fn put_piece(chunk: &mut [u8; CHUNK_SIZE], at: u32, piece: Piece) -> u32
+    requires { at + 8 ≤ CHUNK_SIZE }
+    ensures text { take result chunk.new ≡ take at chunk.old ++ piece_text piece }
+    ensures within { result ≤ at + 8 }
+{
+    let at = at as usize;
+    chunk[at..at + 8].copy_from_slice(&piece.bytes);
+    (at + piece.used) as u32
+}

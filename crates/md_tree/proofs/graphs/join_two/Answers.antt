@@ -1,6 +1,0 @@
-use Rattle.std.proofs.Common.{sym, ◌∙◌}
-use Rattle.md_tree.proofs.Edges.{edge_known}
-use Rattle.md_tree.proofs.graphs.join_two.Goals as goal
-
-pub returns-then-has_edge : goal.returns-then-has_edge
-returns-then-has_edge c = edge_known c.args.graph.now c.args.name c.args.other (sym c.has_edge.ensures ∙ c.if-has_edge.true)
