@@ -351,9 +351,6 @@ names_in_use words n w used rest whole within =
 pub zero_from_bits : (w : ℕ) → w < 2 ^ 64 → ((i : ℕ) → i < 64 → bit_at w i ≡ 0) → w ≡ 0
 zero_from_bits w fits none = same_from_bits_below 64 w 0 fits (lit< tt) (λ i h. none i h ∙ sym (bit_at-zero i))
 
-pub zero_has_no_bits : (w i : ℕ) → w ≡ 0 → bit_at w i ≡ 0
-zero_has_no_bits w i e = zero_bit w i e
-
 -- the words of a set without names have no bits
 pub bits_of_empty : (words : List ℕ) (n w : ℕ) → n ≡ 64 * w → names_below words n ≡ set.empty → (k i : ℕ) → k < w → i < 64 → bit_at (get_or words k 0) i ≡ 0
 bits_of_empty words n w whole is k i h below =
