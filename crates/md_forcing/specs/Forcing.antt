@@ -28,8 +28,8 @@ ForceAtHead e a b = (a.head ≡ b.head) × (a.tail ≢ b.tail) × (e a.tail b.ta
 abbrev pub ForcesDirectly : (ℕ → ℕ → Bool) → Arc → Arc → Type 0
 ForcesDirectly e a b = ForceAtTail e a b ⊎ ForceAtHead e a b
 
--- The arcs of the list, behind a, lead to b, the last of them: neighbours force each other directly. No arc leads
--- from a to a.
+-- The arcs of the list, behind a, lead to b, the last of them: neighbours force each other directly. The empty list
+-- leads from a to a alone.
 abbrev pub Leads : (ℕ → ℕ → Bool) → Arc → List Arc → Arc → Type 0
 Leads e a [] b = a ≡ b
 Leads e a (c ∷ list) b = IsArc e c × ForcesDirectly e a c × Leads e c list b

@@ -250,8 +250,8 @@ impl Graph {
         })
     }
 
-    // The row of `v` in the complement.
-    fn complement_row(&self, v: u32) -> Names
+    /// The neighbours of `v` in the complement: none for a name that is no vertex. Condition: `v` is a name.
+    pub fn complement_row(&self, v: u32) -> Names
         requires { v < NAMES }
         ensures { result ≡ neighbours (complement self.now) v }
     {

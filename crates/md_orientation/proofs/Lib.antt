@@ -1,0 +1,12 @@
+pub mod Reached
+pub mod Triangles
+pub mod Deciding
+pub mod Classes
+pub mod Least
+pub mod Chosen
+pub mod Cutting
+pub mod Alternative
+pub mod OneList
+pub mod Near
+pub mod Choosing
+pub mod WalkLemmas

@@ -1,0 +1,38 @@
+-- Reaching is an equivalence that reversal keeps; and both sides of a graph meet what the laws ask.
+use Rattle.std.proofs.Common.{◌≡◌, ◌⊎◌, ℕ, Bool, true, false, refl, sym, ◌∙◌, ap, subst, inl, inr}
+use Rattle.std.proofs.lemmas.Bool.{false_from_ne_true}
+use Rattle.md_graph.specs.PlainGraph.{PlainGraph, IsGraph}
+use Rattle.md_modules.specs.Adjacency.{IsAdjacency}
+use Rattle.md_forcing.specs.declared.arc.Arc.{Arc}
+use Rattle.md_forcing.specs.declared.seen.Side.{Side}
+use Rattle.md_forcing.specs.Forcing.{arc, reverse, IsArc, ForcesDirectly, Reaches}
+use Rattle.md_forcing.specs.Sides.{adjacent_on}
+use Rattle.md_forcing.proofs.OneSide.{side_ends, side_symmetric, side_names}
+use Rattle.md_forcing.proofs.Reaching.{forces_back, forces_turned, arc_turned, reaches_itself, reaches_step, reaches_on, over_reached, reached_arc}
+use Rattle.md_orientation.specs.Laws.{MeetsPremises, SidesMeetPremises}
+
+module _ (e : ℕ → ℕ → Bool) (is : IsAdjacency e) where
+  pub reaches_back : (a b : Arc) → Reaches e a b → Reaches e b a
+  reaches_back a b r =
+      over_reached e (λ x. Reaches e x a) (λ x y x_is here y_is f. reaches_on e y x a (reaches_step e y y x (reaches_itself e y y_is) x_is (forces_back e is.symmetric x y f)) here) a b (reaches_itself e a r.0) r
+
+  pub reaches_turned : (a b : Arc) → Reaches e a b → Reaches e (reverse a) (reverse b)
+  reaches_turned a b r =
+      over_reached e (λ x. Reaches e (reverse a) (reverse x)) (λ x y x_is here y_is f. reaches_step e (reverse a) (reverse x) (reverse y) here (arc_turned e is.symmetric y y_is) (forces_turned e is.symmetric x y f)) a b (reaches_itself e (reverse a) (arc_turned e is.symmetric a r.0)) r
+
+  -- a class that holds an arc and its reverse holds the reverse of each
+  pub both_turned : (a x : Arc) → Reaches e a x → Reaches e a (reverse x) → Reaches e a (reverse a)
+  both_turned a x r s = reaches_on e a (reverse x) (reverse a) s (reaches_back (reverse a) (reverse x) (reaches_turned a x r))
+
+  pub own_turned : (a x : Arc) → Reaches e a x → Reaches e a (reverse a) → Reaches e x (reverse x)
+  own_turned a x r s =
+      reaches_on e x a (reverse x) (reaches_back a x r) (reaches_on e a (reverse a) (reverse x) s (reaches_turned a x r))
+
+pub sides_proof : SidesMeetPremises
+sides_proof g is side = record {
+  adjacency = record {
+    symmetric = side_symmetric side g;
+    irreflexive = λ a. false_from_ne_true _ (λ h. (side_ends is side a a h).2 refl);
+  };
+  below = side_names is side;
+}

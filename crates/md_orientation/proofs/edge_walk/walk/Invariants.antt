@@ -1,0 +1,12 @@
+use Rattle.std.proofs.Common.{◌≡◌, ◌<◌, ℕ, length}
+use Rattle.md_graph.specs.Sets.{Has}
+use Rattle.md_forcing.specs.Sides.{adjacent_on}
+use Rattle.md_orientation.specs.Walking.{IsWalked}
+use Rattle.md_orientation.proofs.edge_walk.walk.Given as goal
+
+abbrev pub invariant-loop-u : goal.invariant-loop-u
+invariant-loop-u l = record {
+  walked : IsWalked (adjacent_on l.side l.graph) l.u l.seen l.chosen;
+  room : length l.seen ≡ length l.initial.seen;
+  same_room : length l.chosen ≡ length l.initial.seen;
+}

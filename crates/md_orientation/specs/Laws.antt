@@ -1,0 +1,75 @@
+-- The laws of forcing chains and orientations.
+-- Source: Golumbic, Algorithmic Graph Theory and Perfect Graphs, chapter 5.
+use Rattle.std.specs.Prelude.{◌≡◌, ◌<◌, ◌⊎◌, ◌↔◌, ℕ, Bool, true, List}
+use Rattle.md_graph.specs.declared.TheConstants.{NAMES}
+use Rattle.md_graph.specs.PlainGraph.{PlainGraph, IsGraph}
+use Rattle.md_modules.specs.Adjacency.{IsAdjacency}
+use Rattle.md_forcing.specs.declared.arc.Arc.{Arc}
+use Rattle.md_forcing.specs.declared.seen.Side.{Side}
+use Rattle.md_forcing.specs.Forcing.{arc, reverse, Reaches}
+use Rattle.md_forcing.specs.Sides.{adjacent_on}
+use Rattle.md_orientation.specs.Chains.{HasForcingChain}
+use Rattle.md_orientation.specs.Orientations.{IsTransitiveOrientation, HasTransitiveOrientation, IsChosen, IsLeastEdgeOrientation}
+
+-- the triangle of a, u and v stands, and a>b and a>c reach a>u and a>v
+pub record IsMoved (e : ℕ → ℕ → Bool) (a b c u v : ℕ) : Type 0 where
+  pub first : e a u ≡ true
+  pub second : e a v ≡ true
+  pub left : Reaches e (arc a b) (arc a u)
+  pub right : Reaches e (arc a c) (arc a v)
+
+-- Let a, b, c be a triangle, and let b>c reach neither a>c nor b>a. If b>c reaches u>v, then a, u, v is a triangle,
+-- a>b reaches a>u, and a>c reaches a>v.
+abbrev pub TriangleLemma : Type 0
+TriangleLemma =
+    (e : ℕ → ℕ → Bool) → IsAdjacency e → (a b c u v : ℕ) → e a b ≡ true → e a c ≡ true →
+    ¬ Reaches e (arc b c) (arc a c) → ¬ Reaches e (arc b c) (arc b a) → Reaches e (arc b c) (arc u v) → IsMoved e a b c u v
+
+-- the ends of each edge are below n
+abbrev pub IsBelow : (ℕ → ℕ → Bool) → ℕ → Type 0
+IsBelow e n = (u v : ℕ) → e u v ≡ true → (u < n) × (v < n)
+
+-- A class that doesn't hold the reverse of its arc is transitive.
+abbrev pub ClassesAreTransitive : Type 0
+ClassesAreTransitive =
+    (e : ℕ → ℕ → Bool) → IsAdjacency e → (n : ℕ) → IsBelow e n → (a : Arc) → ¬ Reaches e a (reverse a) →
+    (u v w : ℕ) → Reaches e a (arc u v) → Reaches e a (arc v w) → Reaches e a (arc u w)
+
+-- the test is true exactly for the arcs of the least-edge orientation
+abbrev pub IsTestOfChosen : (ℕ → ℕ → Bool) → (ℕ → ℕ → Bool) → Type 0
+IsTestOfChosen e f = (u v : ℕ) → (f u v ≡ true) ↔ IsChosen e (arc u v)
+
+-- The least-edge orientation has a test; and where no arc reaches its reverse, it is a transitive orientation.
+pub record HasLeastEdgeOrientation (e : ℕ → ℕ → Bool) : Type 0 where
+  pub test : (f : ℕ → ℕ → Bool) × IsTestOfChosen e f
+  pub transitive : (f : ℕ → ℕ → Bool) → IsTestOfChosen e f → ((a : Arc) → ¬ Reaches e a (reverse a)) → IsTransitiveOrientation e f
+
+abbrev pub LeastEdgeIsTransitive : Type 0
+LeastEdgeIsTransitive = (e : ℕ → ℕ → Bool) → IsAdjacency e → (n : ℕ) → IsBelow e n → HasLeastEdgeOrientation e
+
+-- A graph has a forcing chain or a transitive orientation, and not both; it has a chain exactly where an arc reaches its
+-- reverse.
+pub record HasChainOrOrientation (e : ℕ → ℕ → Bool) : Type 0 where
+  pub one : HasForcingChain e ⊎ HasTransitiveOrientation e
+  pub not_both : HasForcingChain e → HasTransitiveOrientation e → ⊥
+  pub chain : HasForcingChain e ↔ ((a : Arc) × Reaches e a (reverse a))
+
+abbrev pub ChainOrOrientation : Type 0
+ChainOrOrientation = (e : ℕ → ℕ → Bool) → IsAdjacency e → (n : ℕ) → IsBelow e n → HasChainOrOrientation e
+
+-- There is one list of the arcs of the least-edge orientation in ascending order, and one alone.
+pub record HasOneList (e : ℕ → ℕ → Bool) : Type 0 where
+  pub some : (list : List Arc) × IsLeastEdgeOrientation e list
+  pub one : (list other : List Arc) → IsLeastEdgeOrientation e list → IsLeastEdgeOrientation e other → list ≡ other
+
+abbrev pub OneLeastEdgeOrientation : Type 0
+OneLeastEdgeOrientation = (e : ℕ → ℕ → Bool) → IsAdjacency e → (n : ℕ) → IsBelow e n → HasOneList e
+
+-- what a side of a graph has
+pub record MeetsPremises (e : ℕ → ℕ → Bool) : Type 0 where
+  pub adjacency : IsAdjacency e
+  pub below : IsBelow e NAMES
+
+-- Each side of a graph meets the premises of the laws.
+abbrev pub SidesMeetPremises : Type 0
+SidesMeetPremises = (g : PlainGraph) → IsGraph g → (side : Side) → MeetsPremises (adjacent_on side g)

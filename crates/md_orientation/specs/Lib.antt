@@ -1,0 +1,4 @@
+pub mod Chains
+pub mod Orientations
+pub mod Laws
+pub mod Walking
