@@ -7,16 +7,15 @@ use Rattle.md_modules.specs.Adjacency.{IsAdjacency}
 use Rattle.md_modules.specs.Modules.{IsModule, IsLeastModule, IsLeastModuleOver, IsMaximalModule, IsMaximalStrong}
 use Rattle.md_modules.specs.Kinds.{IsPrime}
 use Rattle.std.proofs.lemmas.Bool.{cases_Bool, true_from_ne_false, false_from_ne_true}
-use Rattle.md_graph.proofs.SetLemmas.{clash, only_has, of_only, insert_new, insert_old, of_insert, union_left, union_right, of_union, minus_has, of_minus, minus_lacks, Has-along, same_members}
+use Rattle.md_graph.proofs.SetLemmas.{clash, only_has, of_only, insert_new, insert_old, of_insert, union_left, union_right, of_union, minus_has, of_minus, minus_lacks, Has-along, same_members, none_lacks}
 use Rattle.md_graph.proofs.Search.{decide_same, len_proper}
 use Rattle.md_modules.proofs.Modules.{single_module, join_module}
 use Rattle.md_modules.proofs.Children.{in_maximal, maximal_leaves, maximal_meet, maximal_child, child_maximal}
-use Rattle.md_modules.proofs.Turns.{none_lacks}
 use Rattle.md_decompose.specs.Children.{set_at, AreChildren}
-use Rattle.md_decompose.specs.Classes.{AreMaximalInside}
+use Rattle.md_modules.specs.Classes.{AreMaximalInside}
 use Rattle.md_decompose.specs.Marks.{ListsInOrder}
 use Rattle.md_decompose.proofs.OrderLemmas.{contains_at, at_contained}
-use Rattle.md_decompose.proofs.ClassLists.{at_known}
+use Rattle.md_modules.proofs.ClassLists.{at_known}
 
 -- held is a module that holds v; where it is all of s, no other module holds v and j
 pub record IsHeld (e : ℕ → ℕ → Bool) (s : NameSet) (v j : ℕ) (held : NameSet) : Type 0 where

@@ -1,6 +1,6 @@
 -- The components of a set that splits, one after the other, in ascending order of their least names.
 use Rattle.std.proofs.Common.{◌≡◌, ℕ, ◌<◌, ◌≤◌, ◌≢◌, ◌⊎◌, ◌↔◌, Bool, true, false, not, Option, Some, None, IfSome, IfNone, refl, List, [], ◌∷◌, ◌++◌, sym, ◌∙◌, subst, inl, inr, arith, ap}
-use Rattle.std.specs.FinSet.{contains, empty, difference, intersection, len}
+use Rattle.std.specs.FinSet.{empty, difference, intersection}
 use Rattle.std.specs.Option.{is_some}
 use Rattle.md_graph.specs.NameSet.{IsLeastFrom, NoneFrom, told_apart}
 use Rattle.md_graph.specs.PlainGraph.{PlainGraph, IsGraph, adjacent}
@@ -10,15 +10,14 @@ use Rattle.md_modules.specs.Modules.{IsMaximalStrong}
 use Rattle.md_modules.specs.Kinds.{IsSplit}
 use Rattle.md_modules.specs.Components.{IsClosed, IsComponent}
 use Rattle.std.proofs.lemmas.Bool.{false_from_ne_true}
-use Rattle.md_graph.proofs.SetLemmas.{clash, empty_lacks, of_union, union_left, union_right, meet_has, of_meet, of_meet_lacks, minus_has, of_minus, minus_lacks, Has-along, same_members}
-use Rattle.md_graph.proofs.Search.{decide_same, len_proper, larger_or_same}
+use Rattle.md_graph.proofs.SetLemmas.{clash, empty_lacks, meet_has, of_meet, of_meet_lacks, minus_has, of_minus, Has-along, same_members, none_lacks, if_empty, lacks_along, rest_told}
+use Rattle.md_graph.proofs.Search.{decide_same, larger_or_same}
 use Rattle.md_modules.proofs.Components.{closed_of_closed, closed_whole, closed_rest, closed_split, component_unsplit}
 use Rattle.md_modules.proofs.Strong.{children_meet}
 use Rattle.md_modules.proofs.Children.{component_child}
 use Rattle.md_modules.proofs.PathSearch.{adjacency}
-use Rattle.md_modules.proofs.Turns.{none_lacks, if_empty, lacks_along}
 use Rattle.md_tree.specs.StrongTrees.{IsBefore}
-use Rattle.md_tree.proofs.Lists.{In, Later, in_left, in_right, of_append, later_append, of_contains, to_contains, to_pairs}
+use Rattle.md_text.proofs.Lists.{In, Later, in_left, in_right, of_append, later_append, of_contains, to_contains, to_pairs}
 use Rattle.md_decompose.specs.Children.{AreChildren, Splits}
 
 -- the list has the children of s outside rest, in order, and no child is in part outside rest
@@ -121,29 +120,6 @@ module _ {g : PlainGraph} (is_graph : IsGraph g) where
 
 pub listing_end : {e : ℕ → ℕ → Bool} (s rest : NameSet) (v : Bool) (cs : List NameSet) → IsListing e s v rest cs → NoneFrom rest 0 → AreChildren e s cs
 listing_end s rest v cs listing none = listing_whole s rest v cs listing (λ w. let below : w.0 < 0 = none w.0 w.1 in omega arith)
-
-pub rest_falls : (rest c rest' : NameSet) (x : ℕ) → Has rest x → Has c x → rest' ≡ difference rest c → len rest' < len rest
-rest_falls rest c rest' x h k is =
-    len_proper rest' rest x (λ y l. (of_minus rest c y (Has-along rest' (difference rest c) is y l)).0) h
-    (ap (λ s. contains s x) is ∙ minus_lacks rest c x k)
-
--- what exactly one of a set and another one has, in the first, is what the other one leaves of it
-pub rest_told : (s c : NameSet) → intersection s (told_apart c s) ≡ difference s c
-rest_told s c = same_members _ _
-    (λ y h. let two : Has s y × Has (told_apart c s) y = of_meet s (told_apart c s) y h in elim (of_union (difference c s) (difference s c) y two.1) [
-      | inl o ↦ clash two.0 (of_minus c s y o).1
-      | inr i ↦ i
-    ])
-    (λ y h. meet_has s (told_apart c s) y (of_minus s c y h).0 (union_right (difference c s) (difference s c) y h))
-
--- a set without a part of it
-pub flipped_off : (rest c rest' : NameSet) → Within c rest → rest' ≡ told_apart rest c → rest' ≡ difference rest c
-flipped_off rest c rest' inside is = is ∙ same_members _ _
-    (λ y h. elim (of_union (difference rest c) (difference c rest) y h) [
-      | inl i ↦ i
-      | inr o ↦ let two : Has c y × Lacks rest y = of_minus c rest y o in clash (inside y two.0) two.1
-    ])
-    (λ y h. union_left (difference rest c) (difference c rest) y h)
 
 -- no first name is left exactly where nothing is left
 pub rest_test : (s c : NameSet) (found : Option ℕ) (r : Bool) → IfSome found (IsLeastFrom (intersection s (told_apart c s)) 0) → IfNone found (NoneFrom (intersection s (told_apart c s)) 0) →

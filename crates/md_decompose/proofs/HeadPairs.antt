@@ -17,7 +17,7 @@ use Rattle.md_modules.proofs.Quotients.{maximal_modules_proof}
 use Rattle.md_modules.proofs.PathSearch.{adjacency}
 use Rattle.md_tree.specs.StrongTrees.{IsBefore, IsPairBefore}
 use Rattle.md_tree.specs.declared.Pair.{Pair}
-use Rattle.md_tree.proofs.Lists.{In, of_contains, to_contains, in_get, in_left, in_right, of_append, of_pairs, to_pairs, later_append}
+use Rattle.md_text.proofs.Lists.{In, of_contains, to_contains, in_get, in_left, in_right, of_append, of_pairs, to_pairs, later_append}
 use Rattle.md_decompose.specs.Children.{AreChildren, ListsPairs, AreJoined, set_at}
 use Rattle.md_decompose.specs.Heads.{AreHeads, RisesOn, AreNear, ComesBefore, pair_at, ListsHeadPairs}
 use Rattle.md_decompose.proofs.Heads.{head_below, heads_rise}

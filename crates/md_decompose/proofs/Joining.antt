@@ -12,7 +12,7 @@ use Rattle.md_tree.specs.declared.Kind.TheVariants.{Parallel, Series, Prime}
 use Rattle.md_tree.specs.declared.Pair.{Pair}
 use Rattle.md_tree.specs.Trees.{PlainTree, names, names_below, names_at, row}
 use Rattle.md_tree.specs.StrongTrees.{HasKind, IsBefore, IsInOrder, IsJoined, HasPairs}
-use Rattle.md_tree.proofs.Lists.{In, Later, of_contains, to_contains, of_pairs}
+use Rattle.md_text.proofs.Lists.{In, Later, of_contains, to_contains, of_pairs}
 use Rattle.md_tree.proofs.Nodes.{IsChild, child_inside, child_of_name}
 use Rattle.md_tree.proofs.Built.{IsChildSet, IsBuilt}
 use Rattle.md_decompose.specs.Children.{AreChildren, set_at, AreJoined, ListsPairs}

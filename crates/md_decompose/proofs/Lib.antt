@@ -1,5 +1,3 @@
-pub mod ClassLists
-pub mod ClassLemmas
 pub mod OrderLemmas
 pub mod ChildLemmas
 pub mod Joining

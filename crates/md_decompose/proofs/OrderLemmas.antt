@@ -15,7 +15,7 @@ use Rattle.md_graph.proofs.SetLemmas.{same_name}
 use Rattle.md_tree.specs.StrongTrees.{IsBefore}
 use Rattle.md_decompose.specs.declared.ordered.Mark.{Mark}
 use Rattle.md_decompose.specs.Children.{set_at}
-use Rattle.md_decompose.specs.Classes.{AreApart}
+use Rattle.md_modules.specs.Classes.{AreApart}
 use Rattle.md_decompose.specs.Marks.{IsMark, AreMarks, ListsInOrder}
 
 pub contains_at : (cs : List NameSet) (k : ℕ) → k < length cs → Contains cs (set_at cs k)

@@ -7,7 +7,6 @@
 mod children;
 mod decomposition;
 mod ordered;
-mod partition;
 mod prime;
 mod quotient;
 

@@ -3,7 +3,7 @@ ghost use Rattle.std.specs.Prelude.{◌<◌, ℕ, IfOk, length};
 ghost use Rattle.md_graph.specs.Sets.{NameSet};
 ghost use Rattle.md_tree.specs.StrongTrees.{IsBefore};
 ghost use Rattle.md_decompose.specs.Children.{set_at};
-ghost use Rattle.md_decompose.specs.Classes.{AreApart};
+ghost use Rattle.md_modules.specs.Classes.{AreApart};
 ghost use Rattle.md_decompose.specs.Marks.{AreMarks, ListsInOrder};
 
 use md_graph::{Memory, Names};

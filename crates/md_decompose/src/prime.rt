@@ -8,9 +8,8 @@ ghost use Rattle.md_modules.specs.Kinds.{IsPrime};
 ghost use Rattle.md_decompose.specs.Children.{AreChildren};
 
 use crate::ordered::in_order;
-use crate::partition::cut;
 use md_graph::{Graph, Memory, Names};
-use md_modules::{back, grow};
+use md_modules::{back, grow, maximal_modules};
 use std::alloc::Global;
 
 // The maximal proper modules of a prime set of vertices, in ascending order of their least names.
@@ -30,7 +29,7 @@ pub(crate) fn prime_children(
     let j = far_from(graph, set, v);
     let mut rest = Names::none();
     back(graph, set, v, j, &mut rest);
-    let classes = cut(alloc, graph, set, &rest)?;
+    let classes = maximal_modules(alloc, graph, set, &rest)?;
     in_order(alloc, set.minus(&rest), &classes)
 }
 

@@ -106,7 +106,8 @@ fn push_near(
     requires rising { RisesOn heads.now places.now }
     requires member { Has heads.now head }
     requires name { head < NAMES }
-    requires before { ListsHeadPairs (adjacent graph.now) heads.now places.now head 0 edges.old.items }
+    requires before { ListsHeadPairs (adjacent graph.now) heads.now places.now
+        head 0 edges.old.items }
     ensures { IfOk result (λ _.
         ListsHeadPairs (adjacent graph.now) heads.now places.now (head + 1) 0 edges.new.items) }
 {

@@ -6,7 +6,7 @@ use Rattle.std.specs.Option.{option_map_or}
 use Rattle.std.proofs.Common.{subst, ap, sym, ◌∙◌, arith, inl, inr, append_assoc}
 use Rattle.std.proofs.lemmas.Bool.{cases_lt, le-leb, lt-leb, false_from_ne_true}
 use Rattle.std.proofs.lemmas.List.{append-nil}
-use Rattle.std.proofs.lemmas.List.Elements.{All-nil, All-cons, All-head, All-tail, All-weaker}
+use Rattle.std.proofs.lemmas.List.Elements.{All-head, All-tail, All-weaker}
 use Rattle.std.proofs.lemmas.Option.{slice_get-get_or}
 use Rattle.std.specs.FinSet as set
 use Rattle.md_graph.specs.declared.TheConstants.{NAMES}
@@ -18,6 +18,7 @@ use Rattle.md_graph.proofs.Limits.{NAMES-is}
 use Rattle.md_graph.proofs.MemberLists.{ascending_word, no_bits_of_zero}
 use Rattle.md_graph.proofs.NameLemmas.{IsItem, ascending_items, ascending_none, ascending_split}
 use Rattle.md_text.specs.Numbers.{decimal}
+use Rattle.md_text.proofs.ListLemmas.{All-front}
 use Rattle.md_text.specs.declared.piece.Piece.{Piece}
 use Rattle.md_dimacs.specs.Text.{position}
 use Rattle.md_text.specs.Pieces.{piece_text}
@@ -73,10 +74,6 @@ lines_are g v places [] all = sym (row_lines-nil g v)
 lines_are g v places (w ∷ ws) all =
     (λ i. (line_start g v ++ text_at_is g places w (All-head (IsPlaceOf g places) w ws all) i) ++ lines_are g v places ws (All-tail (IsPlaceOf g places) w ws all) i)
     ∙ sym (row_lines-cons g v w ws)
-
-All-front : {X : Type 0} (P : X → Type 0) (xs ys : List X) → All P (xs ++ ys) → All P xs
-All-front P [] ys all = All-nil P
-All-front P (x ∷ xs) ys all = All-cons P x xs (All-head P x (xs ++ ys) all) (All-front P xs ys (All-tail P x (xs ++ ys) all))
 
 -- the pieces of the neighbours in a word are there
 pub block_places : (g : PlainGraph) → IsGraph g → (v : ℕ) (places : List Piece) → ArePlaces g places → (low : ℕ) (xs rest : List ℕ)

@@ -1,27 +1,30 @@
 -- The first fault of a file, and the graph that it spells.
-use Rattle.std.specs.Prelude.{◌≡◌, ℕ, zero, suc, ◌+◌, ◌<◌, ◌≤◌, ◌≢◌, ◌⊎◌, Bool, true, false, cond, not, ◌&&◌, ◌||◌, ◌==◌, nat_lt, nat_le, List, [], ◌∷◌, ◌++◌, length, Option, Some, None, MatchOption, refl}
+use Rattle.std.specs.Prelude.{◌≡◌, ℕ, ◌+◌, ◌<◌, ◌≤◌, ◌≢◌, ◌⊎◌, Bool, true, false, cond, not, ◌&&◌, ◌||◌, ◌==◌, nat_lt, nat_le, List, [], ◌∷◌, ◌++◌, length, Option, Some, None, MatchOption, refl}
 use Rattle.std.specs.List.{All, list_any}
 use Rattle.std.proofs.Common.{subst, ap, sym, ◌∙◌, arith, inl, inr}
-use Rattle.std.proofs.lemmas.Bool.{true≢false, and_parts, eqb-false, ne_eqb, leb-true, leb-false, lt-leb}
+use Rattle.std.proofs.lemmas.Bool.{and_parts, eqb-false, ne_eqb, leb-true, leb-false, lt-leb}
 use Rattle.std.proofs.lemmas.Bool.Decides.{nat_tests}
 use Rattle.std.proofs.lemmas.List.Elements.{All-nil, All-cons, All-head, All-tail}
 use Rattle.std.specs.FinSet as set
 use Rattle.md_graph.specs.declared.TheConstants.{NAMES}
 use Rattle.md_graph.specs.Sets.{Has}
 use Rattle.md_graph.specs.PlainGraph.{PlainGraph, IsGraph, adjacent, with_edge}
-use Rattle.md_graph.proofs.SetLaws.{contains-empty, contains-insert, same_set}
+use Rattle.md_graph.proofs.SetLaws.{same_set}
 use Rattle.md_graph.proofs.PairLaws.{pairs-empty}
-use Rattle.md_graph.proofs.GraphLemmas.{same_graph, IsGraph-with_edge, adjacent-with_edge}
+use Rattle.md_graph.proofs.GraphLemmas.{same_graph, IsGraph-with_edge, IsGraph-without_edges, adjacent-with_edge}
 use Rattle.md_text.specs.Lines.{lines}
 use Rattle.md_text.specs.Numbers.{number_of}
+use Rattle.md_text.specs.Spelling.{SpellsOnly, SpellsOne, SpellsNone, fault_or, words, fault_behind as first_fault_behind}
 use Rattle.md_dimacs.specs.declared.fault.DimacsFault.{DimacsFault}
 use Rattle.md_dimacs.specs.declared.fault.DimacsKind.{DimacsKind}
 use Rattle.md_dimacs.specs.declared.fault.DimacsKind.TheVariants.{VertexOutOfRange, Loop, UnknownLine, TooManyVertices}
 use Rattle.md_dimacs.specs.declared.line.LineClass.{LineClass}
 use Rattle.md_dimacs.specs.declared.line.LineClass.TheVariants.{Passed, Problem, Edge, Unknown}
-use Rattle.md_dimacs.specs.Line.{words, class_of_field, class_of, is_form, both, sizes_in, ends_in, sizes_by, ends_by, sizes_of, ends_of, sizes_fault, problem_fault, is_vertex, ends_fault, edge_fault, fault_by, fault_of_words, fault_of_line}
-use Rattle.md_dimacs.specs.File.{IsPassed, AreSizes, AreEnds, IsProblemLine, IsPassedOrEdge, are_ends, joins, Spells, SpellsOnly, SpellsOne, SpellsNone, seen_after, first_number, fault_or, fault_behind, first_fault}
-use Rattle.md_dimacs.specs.Read.{IsBeforeProblem, IsBehindProblem, HasVertices, names_to, edgeless, with_ends, with_line, with_lines}
+use Rattle.md_dimacs.specs.Line.{class_of_field, class_of, is_form, both, sizes_in, ends_in, sizes_by, ends_by, sizes_of, ends_of, sizes_fault, problem_fault, is_vertex, ends_fault, edge_fault, fault_by, fault_of_words, fault_of_line}
+use Rattle.md_dimacs.specs.File.{IsPassed, AreSizes, AreEnds, IsProblemLine, IsPassedOrEdge, are_ends, joins, Spells, seen_after, first_number, fault_behind, first_fault, fault_at}
+use Rattle.md_graph.specs.NameSet.{range}
+use Rattle.md_graph.proofs.Ranges.{contains-range}
+use Rattle.md_dimacs.specs.Read.{IsBeforeProblem, IsBehindProblem, HasVertices, edgeless, with_ends, with_line, with_lines}
 
 -- ---- one line behind the problem line
 
@@ -108,22 +111,22 @@ line_has_no_fault n line (inr edge) = edge_words n (words line) edge
 
 -- ---- the lines behind the problem line
 
-pub no_fault : (kind : Option DimacsKind) (number : ℕ) (later : Option DimacsFault) → fault_or kind number later ≡ None → (kind ≡ None) × (later ≡ None)
+pub no_fault : (kind : Option DimacsKind) (number : ℕ) (later : Option DimacsFault) → fault_or fault_at kind number later ≡ None → (kind ≡ None) × (later ≡ None)
 no_fault None number later h = (refl, h)
 no_fault (Some kind) number later h = absurd (cc)
 
 pub lines_behind : (n count : ℕ) (more : List (List ℕ)) → fault_behind (Some n) count more ≡ None → All (IsPassedOrEdge n) more
-unfolding fault_behind
+unfolding first_fault_behind
 lines_behind n count [] h = All-nil _
 lines_behind n count (line ∷ more) h =
     let parts = no_fault _ _ _ h in
     All-cons (IsPassedOrEdge n) line more (line_behind n line parts.0) (lines_behind n (count + 1) more parts.1)
 
 pub behind_has_no_fault : (n count : ℕ) (more : List (List ℕ)) → All (IsPassedOrEdge n) more → fault_behind (Some n) count more ≡ None
-unfolding fault_behind
+unfolding first_fault_behind
 behind_has_no_fault n count [] all = refl
 behind_has_no_fault n count (line ∷ more) all =
-    ap (λ kind. fault_or kind (count + 1) (fault_behind (Some n) (count + 1) more)) (line_has_no_fault n line (All-head (IsPassedOrEdge n) line more all))
+    ap (λ kind. fault_or fault_at kind (count + 1) (fault_behind (Some n) (count + 1) more)) (line_has_no_fault n line (All-head (IsPassedOrEdge n) line more all))
     ∙ behind_has_no_fault n (count + 1) more (All-tail (IsPassedOrEdge n) line more all)
 
 -- ---- one line before the problem line
@@ -215,7 +218,7 @@ problem_words n (first ∷ rest) a = sizes_by_class n (class_of_field first) res
 
 passed_first : (count : ℕ) (line : List ℕ) (more : List (List ℕ)) → IsPassed line
     → fault_behind None count (line ∷ more) ≡ fault_behind None (count + 1) more
-unfolding fault_behind
+unfolding first_fault_behind
 passed_first count line more h =
     let fault = passed_has_no_fault None (words line) h in
     let sizes = (passed_names_none (words line) h).0 in
@@ -223,7 +226,7 @@ passed_first count line more h =
 
 problem_first : (n count : ℕ) (line : List ℕ) (more : List (List ℕ)) → IsProblemLine n line
     → fault_behind None count (line ∷ more) ≡ fault_behind (Some n) (count + 1) more
-unfolding fault_behind
+unfolding first_fault_behind
 problem_first n count line more p =
     let fault = (problem_words n (words line) p).0 in
     let sizes = p.numbers in
@@ -302,23 +305,15 @@ IsGraph-with_lines {g} n (line ∷ more) is has all =
     (λ v. ap (λ s. set.contains s v) (vertices-with_ends g (ends_of (words line))) ∙ has v)
     (All-tail (IsPassedOrEdge n) line more all)
 
-pub contains-names_to : (n v : ℕ) → set.contains (names_to n) v ≡ is_vertex n v
-unfolding names_to
-contains-names_to zero v = contains-empty v ∙ grind (arith, nat_tests)
-contains-names_to (suc n) v =
-    contains-insert (names_to n) (n + 1) v ∙ ap (λ b. (v == n + 1) || b) (contains-names_to n v) ∙ grind (arith, nat_tests)
+pub contains-vertices : (n v : ℕ) → set.contains (range 1 n) v ≡ is_vertex n v
+contains-vertices n v = contains-range 1 n v ∙ grind (arith, nat_tests)
 
 -- the graph without edges is one
 IsGraph-edgeless : (n : ℕ) → n < NAMES → IsGraph (edgeless n)
-IsGraph-edgeless n named = record {
-  names = λ v member.
-      let inside = and_parts (nat_lt 0 v) (nat_le v n) (sym (contains-names_to n v) ∙ member) in
-      let below : v ≤ n = leb-true v n inside.1 in
-      omega arith;
-  ordered = λ u v h. absurd (true≢false (sym h ∙ pairs-empty u v));
-  low_end = λ u v h. absurd (true≢false (sym h ∙ pairs-empty u v));
-  high_end = λ u v h. absurd (true≢false (sym h ∙ pairs-empty u v));
-}
+IsGraph-edgeless n named = IsGraph-without_edges (range 1 n) (λ v member.
+    let inside = and_parts (nat_lt 0 v) (nat_le v n) (sym (contains-vertices n v) ∙ member) in
+    let below : v ≤ n = leb-true v n inside.1 in
+    omega arith)
 
 or_nothing : (a b c : Bool) → c ≡ false → a ≡ (b || c) → a ≡ b
 or_nothing a b c h e = grind arith
@@ -329,7 +324,7 @@ adjacent-edgeless n u v = pairs-empty _ _
 
 -- the graph that the lines behind the problem line name
 pub vertices_read : (n : ℕ) (behind : List (List ℕ)) (v : ℕ) → set.contains (with_lines (edgeless n) behind).vertices v ≡ is_vertex n v
-vertices_read n behind v = ap (λ s. set.contains s v) (vertices-with_lines (edgeless n) behind) ∙ contains-names_to n v
+vertices_read n behind v = ap (λ s. set.contains s v) (vertices-with_lines (edgeless n) behind) ∙ contains-vertices n v
 
 pub edges_read : (n : ℕ) (behind : List (List ℕ)) (u v : ℕ) → adjacent (with_lines (edgeless n) behind) u v ≡ list_any (joins u v) behind
 edges_read n behind u v = or_nothing _ _ _ (adjacent-edgeless n u v) (adjacent-with_lines (edgeless n) behind u v)
@@ -374,7 +369,7 @@ parts_by_first count line more (names_size n sizes) h later =
     }
 
 parts_without_fault : (count : ℕ) (all : List (List ℕ)) → fault_behind None count all ≡ None → Parts all
-unfolding fault_behind
+unfolding first_fault_behind
 parts_without_fault count [] h = absurd (cc)
 parts_without_fault count (line ∷ more) h =
     let parts = no_fault _ _ _ h in
@@ -394,7 +389,7 @@ spelled_by_parts bytes n before problem_of behind whole are_passed is_problem ar
   edge_lines = are_edges;
   vertices = vertices_read n behind;
   edges = edges_read n behind;
-  graph = IsGraph-with_lines n behind (IsGraph-edgeless n is_problem.named) (contains-names_to n) are_edges;
+  graph = IsGraph-with_lines n behind (IsGraph-edgeless n is_problem.named) (contains-vertices n) are_edges;
 }
 
 -- ---- no other graph
@@ -431,15 +426,15 @@ one_graph bytes g h s t =
     (same_set g.vertices h.vertices (λ v. s.vertices v ∙ ap (λ n. is_vertex n v) same_n ∙ sym (t.vertices v)))
     (λ u v. s.edges u v ∙ ap (list_any (joins u v)) split.1 ∙ sym (t.edges u v))
 
-pub spelled_only : (bytes : List ℕ) (g : PlainGraph) → Spells bytes g → SpellsOnly bytes g
+pub spelled_only : (bytes : List ℕ) (g : PlainGraph) → Spells bytes g → SpellsOnly Spells bytes g
 spelled_only bytes g s = record { spells = s; only = λ other t. one_graph bytes other g t s }
 
-by_fault : (bytes : List ℕ) (fault : Option DimacsFault) → first_fault bytes ≡ fault → MatchOption fault (SpellsOne bytes) (λ _. SpellsNone bytes)
+by_fault : (bytes : List ℕ) (fault : Option DimacsFault) → first_fault bytes ≡ fault → MatchOption fault (SpellsOne Spells bytes) (λ _. SpellsNone Spells bytes)
 by_fault bytes None h =
     let parts = parts_without_fault 0 (lines bytes) h in
     let g = with_lines (edgeless parts.n) parts.behind in
     (g, spelled_only bytes g (spelled_by_parts bytes parts.n parts.before parts.problem_of parts.behind parts.whole parts.are_passed parts.is_problem parts.are_edges))
 by_fault bytes (Some fault) h = λ g s. let none = spelled_has_no_fault bytes g s in cc
 
-pub spelled_or_faulty : (bytes : List ℕ) → MatchOption (first_fault bytes) (SpellsOne bytes) (λ _. SpellsNone bytes)
+pub spelled_or_faulty : (bytes : List ℕ) → MatchOption (first_fault bytes) (SpellsOne Spells bytes) (λ _. SpellsNone Spells bytes)
 spelled_or_faulty bytes = by_fault bytes (first_fault bytes) refl

@@ -1,37 +1,32 @@
 -- The steps of the reader.
 use Rattle.std.specs.Prelude.{◌≡◌, ℕ, ◌+◌, min, max, Bool, true, false, ◌==◌, ◌||◌, ◌&&◌, List, [], ◌∷◌, ◌++◌, length, Some, None, Result, Ok, Err, OnOk, OnErr, IfErr, refl}
 use Rattle.std.specs.Result.{is_err}
-use Rattle.std.proofs.Common.{subst, ap, sym, ◌∙◌, arith, add-one, append_assoc, length-append}
+use Rattle.std.proofs.Common.{subst, ap, sym, ◌∙◌, append_assoc, length-append}
 use Rattle.std.proofs.lemmas.Bool.{and_parts, eqb-true}
-use Rattle.std.proofs.lemmas.Bool.Decides.{nat_tests}
 use Rattle.std.proofs.lemmas.List.Elements.{All-push}
 use Rattle.std.specs.FinSet as set
-use Rattle.md_graph.specs.PlainGraph.{PlainGraph, adjacent, edge, empty_graph, with_vertex, with_edge}
+use Rattle.md_graph.specs.PlainGraph.{PlainGraph, adjacent, edge, empty_graph, with_edge}
 use Rattle.md_graph.proofs.PairLaws.{pairs-insert, same_pairs}
 use Rattle.md_text.specs.Lines.{lines, without_return}
 use Rattle.md_text.specs.Fields.{fields}
 use Rattle.md_text.proofs.LineLemmas.{no_lines}
+use Rattle.md_text.specs.Spelling.{words, fault_behind as first_fault_behind}
 use Rattle.md_dimacs.specs.declared.fault.DimacsFault.{DimacsFault}
 use Rattle.md_dimacs.specs.declared.fault.DimacsKind.{DimacsKind}
 use Rattle.md_dimacs.specs.declared.fault.DimacsKind.TheVariants.{NoProblemLine}
 use Rattle.md_dimacs.specs.declared.line.LineClass.TheVariants.{Passed}
-use Rattle.md_dimacs.specs.Line.{words, class_of, ends_of, fault_of_words}
+use Rattle.md_dimacs.specs.Line.{class_of, ends_of, fault_of_words}
+use Rattle.md_graph.specs.PlainGraph.{with_range}
+use Rattle.md_graph.proofs.Ranges.{range_alone}
 use Rattle.md_dimacs.specs.File.{IsPassed, Spells, first_fault, fault_behind}
-use Rattle.md_dimacs.specs.Read.{IsBeforeProblem, IsBehindProblem, HasVertices, names_to, edgeless, with_ends, with_line, with_lines}
-use Rattle.md_dimacs.proofs.FileLemmas.{fault_before, fault-behind_problem, contains-names_to, vertices-with_ends, lines_behind, spelled_by_parts}
+use Rattle.md_dimacs.specs.Read.{IsBeforeProblem, IsBehindProblem, HasVertices, edgeless, with_ends, with_line, with_lines}
+use Rattle.md_dimacs.proofs.FileLemmas.{fault_before, fault-behind_problem, contains-vertices, vertices-with_ends, lines_behind, spelled_by_parts}
 
 -- ---- vertices and edges
 
-pub edgeless-zero : empty_graph ≡ edgeless 0
-unfolding names_to
-edgeless-zero = refl
-
-pub edgeless-step : (g : PlainGraph) (n : ℕ) → g ≡ edgeless n → with_vertex g (n + 1) ≡ edgeless (n + 1)
-unfolding names_to
-edgeless-step g n e = ap (λ h. with_vertex h (n + 1)) e ∙ ap edgeless (sym (add-one n))
-
-pub next_name_absent : (g : PlainGraph) (n : ℕ) → g ≡ edgeless n → set.contains g.vertices (n + 1) ≡ false
-next_name_absent g n e = ap (λ (h : PlainGraph). set.contains h.vertices (n + 1)) e ∙ contains-names_to n (n + 1) ∙ grind (arith, nat_tests)
+-- what the vertices of the problem line make of the graph without vertices
+pub edgeless_by_range : {g h : PlainGraph} (n : ℕ) → g ≡ empty_graph → h ≡ with_range g 1 n → h ≡ edgeless n
+edgeless_by_range n none is = range_alone 1 n none is
 
 there_already : (same there : Bool) → (same ≡ true → there ≡ true) → there ≡ (same || there)
 there_already true there h = h refl
@@ -68,14 +63,14 @@ one_passed all count rest line stripped more b cut e class = record {
 pub refused_before : (all : List (List ℕ)) (count : ℕ) (rest : List (List ℕ)) (line stripped : List ℕ) (more : List (List ℕ)) (kind : DimacsKind) → IsBeforeProblem all count rest
     → rest ≡ line ∷ more → stripped ≡ without_return line → fault_of_words None (fields stripped) ≡ Some kind
     → fault_behind None 0 all ≡ Some (record { kind = kind; line = count + 1 })
-unfolding fault_behind
+unfolding first_fault_behind
 refused_before all count rest line stripped more kind b cut e fault =
     let here : fault_of_words None (words line) ≡ Some kind = ap (λ s. fault_of_words None (fields s)) (sym e) ∙ fault in
     fault_before all count rest b ∙ ap (fault_behind None count) cut ∙ rw here refl
 
 pub no_problem : (all : List (List ℕ)) (count : ℕ) (rest : List ℕ) (number : ℕ) → IsBeforeProblem all count (lines rest) → (length rest == 0) ≡ true
     → number ≡ count + 1 → fault_behind None 0 all ≡ Some (record { kind = NoProblemLine; line = number })
-unfolding fault_behind
+unfolding first_fault_behind
 no_problem all count rest number b empty e =
     fault_before all count (lines rest) b ∙ ap (fault_behind None count) (no_lines rest empty)
     ∙ ap (λ k. Some (record { kind = NoProblemLine; line = k })) (sym e)
@@ -85,7 +80,7 @@ no_problem all count rest number b empty e =
 pub refused_behind : (n start count : ℕ) (all rest : List (List ℕ)) (line stripped : List ℕ) (more : List (List ℕ)) (kind : DimacsKind)
     → fault_behind (Some n) start all ≡ fault_behind (Some n) count rest → rest ≡ line ∷ more → stripped ≡ without_return line
     → fault_of_words (Some n) (fields stripped) ≡ Some kind → fault_behind (Some n) start all ≡ Some (record { kind = kind; line = count + 1 })
-unfolding fault_behind
+unfolding first_fault_behind
 refused_behind n start count all rest line stripped more kind same cut e fault =
     let here : fault_of_words (Some n) (words line) ≡ Some kind = ap (λ s. fault_of_words (Some n) (fields s)) (sym e) ∙ fault in
     same ∙ ap (fault_behind (Some n) count) cut ∙ rw here refl
@@ -104,7 +99,7 @@ one_added g h start all rest line stripped more same cut e added =
 pub one_faultless : (n start count : ℕ) (all rest : List (List ℕ)) (line stripped : List ℕ) (more : List (List ℕ))
     → fault_behind (Some n) start all ≡ fault_behind (Some n) count rest → rest ≡ line ∷ more → stripped ≡ without_return line
     → fault_of_words (Some n) (fields stripped) ≡ None → fault_behind (Some n) start all ≡ fault_behind (Some n) (count + 1) more
-unfolding fault_behind
+unfolding first_fault_behind
 one_faultless n start count all rest line stripped more same cut e fault =
     let here : fault_of_words (Some n) (words line) ≡ None = ap (λ s. fault_of_words (Some n) (fields s)) (sym e) ∙ fault in
     same ∙ ap (fault_behind (Some n) count) cut ∙ rw here refl
@@ -115,7 +110,7 @@ all_added g start all rest same empty = sym (same ∙ ap (with_lines g) (no_line
 
 pub all_faultless : (n start count : ℕ) (all : List (List ℕ)) (rest : List ℕ) → fault_behind (Some n) start all ≡ fault_behind (Some n) count (lines rest)
     → (length rest == 0) ≡ true → fault_behind (Some n) start all ≡ None
-unfolding fault_behind
+unfolding first_fault_behind
 all_faultless n start count all rest same empty = same ∙ ap (fault_behind (Some n) count) (no_lines rest empty)
 
 -- ---- the whole file
@@ -160,4 +155,4 @@ always_on_err (Ok x) P h = tt
 always_on_err (Err e) P h = h
 
 pub vertices-edgeless : (g : PlainGraph) (n : ℕ) → g ≡ edgeless n → HasVertices n g
-vertices-edgeless g n e v = ap (λ (h : PlainGraph). set.contains h.vertices v) e ∙ contains-names_to n v
+vertices-edgeless g n e v = ap (λ (h : PlainGraph). set.contains h.vertices v) e ∙ contains-vertices n v

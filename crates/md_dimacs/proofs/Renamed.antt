@@ -1,11 +1,11 @@
 -- The graph that the text spells is the graph with each vertex named by its place.
 use Rattle.std.specs.Prelude.{◌≡◌, ℕ, ◌+◌, ◌<◌, ◌≤◌, ◌⊎◌, Bool, true, ◌||◌, List, [], ◌∷◌, map, Some, refl}
-use Rattle.std.specs.List.{All, list_any, flat_map}
+use Rattle.std.specs.List.{list_any}
 use Rattle.std.specs.Cmp.{both_ways}
 use Rattle.std.proofs.Common.{ap, sym, ◌∙◌, arith, inl, inr}
 use Rattle.std.proofs.lemmas.Bool.{cases_order, and_parts, and_from, or_cases, or_left, or_right, eqb-true, eq-eqb}
-use Rattle.std.proofs.lemmas.List.Elements.{All-contains, All-head, All-tail, All-weaker}
-use Rattle.std.proofs.lemmas.List.Folds.{list_any-append, Any-from_list_any, list_any-from_Any}
+use Rattle.std.proofs.lemmas.List.Elements.{All-contains, All-weaker}
+use Rattle.std.proofs.lemmas.List.Folds.{Any-from_list_any, list_any-from_Any}
 use Rattle.std.specs.FinSet as set
 use Rattle.md_graph.specs.declared.TheConstants.{NAMES}
 use Rattle.md_graph.specs.Sets.{NameSet, Has}
@@ -13,6 +13,7 @@ use Rattle.md_graph.specs.NameSet.{ascending, ascending_from, ascending_between}
 use Rattle.md_graph.specs.PlainGraph.{PlainGraph, IsGraph, adjacent, neighbours}
 use Rattle.md_graph.proofs.GraphLemmas.{adjacent_sym, adjacent_ends, contains-neighbours}
 use Rattle.md_graph.proofs.NameLemmas.{IsItem, ascending_items, ascending_appears}
+use Rattle.md_text.proofs.ListLemmas.{any_map, any_flat_map, any_alike}
 use Rattle.md_dimacs.specs.File.{are_ends, joins}
 use Rattle.md_dimacs.specs.Text.{position, edges_above, edge_places, edge_line, dimacs_text, IsRenamed}
 use Rattle.md_dimacs.specs.Laws.{SpellsRenamed}
@@ -37,18 +38,6 @@ any_to : (p : ℕ → Bool) (s : NameSet) (low n w : ℕ) → low ≤ w → w < 
 any_to p s low n w from below m passes =
     let (k, inside, is) = ascending_appears s low n w m from below in
     list_any-from_Any p (ascending_between s low n) (k, w, inside, is, passes)
-
-any_map : {X Y : Type 0} (p : Y → Bool) (f : X → Y) (xs : List X) → list_any p (map f xs) ≡ list_any (λ x. p (f x)) xs
-any_map p f [] = refl
-any_map p f (x ∷ xs) = ap (λ b. p (f x) || b) (any_map p f xs)
-
-any_flat_map : {X Y : Type 0} (p : Y → Bool) (f : X → List Y) (xs : List X) → list_any p (flat_map f xs) ≡ list_any (λ x. list_any p (f x)) xs
-any_flat_map p f [] = refl
-any_flat_map p f (x ∷ xs) = list_any-append p (f x) (flat_map f xs) ∙ ap (λ b. list_any p (f x) || b) (any_flat_map p f xs)
-
-any_alike : {X : Type 0} (p q : X → Bool) (xs : List X) → All (λ x. p x ≡ q x) xs → list_any p xs ≡ list_any q xs
-any_alike p q [] all = refl
-any_alike p q (x ∷ xs) all = λ i. All-head (λ x. p x ≡ q x) x xs all i || any_alike p q xs (All-tail (λ x. p x ≡ q x) x xs all) i
 
 -- ---- the edges
 

@@ -21,7 +21,8 @@ use Rattle.md_text.specs.Numbers.{decimal, number_of}
 use Rattle.md_text.proofs.LineLemmas.{lines-ended, without_return-stays}
 use Rattle.md_text.proofs.FieldLemmas.{fields-joined}
 use Rattle.md_text.proofs.NumberLemmas.{number_of-decimal, decimal_is_word, decimal_is_digits}
-use Rattle.md_dimacs.specs.Line.{words, class_of_field, is_form, both, sizes_in, ends_in, sizes_of, ends_of}
+use Rattle.md_text.specs.Spelling.{words}
+use Rattle.md_dimacs.specs.Line.{class_of_field, is_form, both, sizes_in, ends_in, sizes_of, ends_of}
 use Rattle.md_dimacs.specs.File.{AreSizes, IsPassed, IsPassedOrEdge, Spells}
 use Rattle.md_dimacs.specs.Read.{edgeless, with_lines}
 use Rattle.md_dimacs.specs.Text.{position, edges_above, edge_places, edge_line, problem_line, dimacs_text}

@@ -8,15 +8,9 @@ use Rattle.md_graph.specs.NameSet.{ascending, ascending_from}
 use Rattle.md_graph.specs.PlainGraph.{PlainGraph, neighbours}
 use Rattle.md_text.specs.Lines.{ended}
 use Rattle.md_text.specs.Numbers.{decimal}
-use Rattle.md_text.proofs.LineLemmas.{ended-nil, ended-cons}
+use Rattle.md_text.proofs.LineLemmas.{ended-nil, ended-cons, ended-append}
 use Rattle.md_dimacs.specs.Text.{position, edges_above, edge_places, edge_line, problem_line, dimacs_text}
 use Rattle.md_dimacs.specs.Places.{line_start, row_text, edges_text}
-
-pub ended-append : (xs ys : List (List ℕ)) → ended (xs ++ ys) ≡ ended xs ++ ended ys
-ended-append [] ys = ap (λ l. l ++ ended ys) (sym ended-nil)
-ended-append (x ∷ xs) ys =
-    ended-cons x (xs ++ ys) ∙ ap (λ l. (x ++ 10 ∷ []) ++ l) (ended-append xs ys)
-    ∙ sym (append_assoc (x ++ 10 ∷ []) (ended xs) (ended ys)) ∙ ap (λ l. l ++ ended ys) (sym (ended-cons x xs))
 
 -- ---- one row
 

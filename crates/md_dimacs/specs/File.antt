@@ -1,16 +1,17 @@
 -- A DIMACS edge file: the graph that it spells, and its first fault.
 -- Source: DIMACS, "Clique and coloring problems: graph format" (1993); the faults are this project's.
-use Rattle.std.specs.Prelude.{◌≡◌, ℕ, ◌+◌, ◌<◌, ◌≢◌, ◌==◌, ◌&&◌, ◌||◌, ◌⊎◌, Bool, false, List, [], ◌∷◌, ◌++◌, Option, None, Some, IsTrue}
+use Rattle.std.specs.Prelude.{◌≡◌, ℕ, ◌+◌, ◌<◌, ◌≢◌, ◌==◌, ◌&&◌, ◌||◌, ◌⊎◌, Bool, false, List, ◌∷◌, ◌++◌, Option, None, Some, IsTrue}
 use Rattle.std.specs.List.{All, list_any}
 use Rattle.std.specs.FinSet as set
 use Rattle.md_graph.specs.declared.TheConstants.{NAMES}
 use Rattle.md_graph.specs.PlainGraph.{PlainGraph, IsGraph, adjacent}
 use Rattle.md_text.specs.Lines.{lines}
+use Rattle.md_text.specs.Spelling.{words, fault_behind as first_fault_behind}
 use Rattle.md_dimacs.specs.declared.fault.DimacsFault.{DimacsFault}
 use Rattle.md_dimacs.specs.declared.fault.DimacsKind.{DimacsKind}
 use Rattle.md_dimacs.specs.declared.fault.DimacsKind.TheVariants.{NoProblemLine}
 use Rattle.md_dimacs.specs.declared.line.LineClass.TheVariants.{Passed}
-use Rattle.md_dimacs.specs.Line.{words, class_of, sizes_of, ends_of, is_vertex, fault_of_line}
+use Rattle.md_dimacs.specs.Line.{class_of, sizes_of, ends_of, is_vertex, fault_of_line}
 
 -- a line that is read past: it has no field, is a comment, or begins with `n`, `d`, `v` or `x`
 abbrev pub IsPassed : List ℕ → Type 0
@@ -67,19 +68,6 @@ pub record Spells (bytes : List ℕ) (g : PlainGraph) : Type 0 where
   pub edges : (u v : ℕ) → adjacent g u v ≡ list_any (joins u v) behind
   pub graph : IsGraph g
 
--- the bytes spell this graph and no other
-pub record SpellsOnly (bytes : List ℕ) (g : PlainGraph) : Type 0 where
-  pub spells : Spells bytes g
-  pub only : (other : PlainGraph) → Spells bytes other → other ≡ g
-
--- the bytes spell exactly one graph
-abbrev pub SpellsOne : List ℕ → Type 0
-SpellsOne bytes = (g : PlainGraph) × SpellsOnly bytes g
-
--- the bytes spell no graph
-abbrev pub SpellsNone : List ℕ → Type 0
-SpellsNone bytes = (g : PlainGraph) → Spells bytes g → ⊥
-
 -- the number of vertices of the first of the two numbers, if there are any
 abbrev pub first_number : Option (ℕ × ℕ) → Option ℕ
 first_number None = None
@@ -95,16 +83,13 @@ abbrev pub end_fault : Option ℕ → ℕ → Option DimacsFault
 end_fault None count = Some (record { kind = NoProblemLine; line = count + 1 })
 end_fault (Some n) count = None
 
--- the kind, if there is one, as the fault of line `number`, or else what comes later
-abbrev pub fault_or : Option DimacsKind → ℕ → Option DimacsFault → Option DimacsFault
-fault_or None number later = later
-fault_or (Some kind) number later = Some (record { kind = kind; line = number })
+-- a kind as the fault of a line
+abbrev pub fault_at : DimacsKind → ℕ → DimacsFault
+fault_at kind line = record { kind = kind; line = line }
 
 -- the first fault of lines behind `count` others, which count too
-unfoldable pub fault_behind : Option ℕ → ℕ → List (List ℕ) → Option DimacsFault
-fault_behind seen count [] = end_fault seen count
-fault_behind seen count (line ∷ more) =
-    fault_or (fault_of_line seen line) (count + 1) (fault_behind (seen_after seen line) (count + 1) more)
+abbrev pub fault_behind : Option ℕ → ℕ → List (List ℕ) → Option DimacsFault
+fault_behind = first_fault_behind fault_at fault_of_line seen_after end_fault
 
 -- the first fault of a file: that of its first faulty line, with the number of the line, counted from 1
 abbrev pub first_fault : List ℕ → Option DimacsFault

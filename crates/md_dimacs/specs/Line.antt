@@ -3,17 +3,12 @@
 use Rattle.std.specs.Prelude.{ℕ, ◌==◌, ◌&&◌, ◌||◌, nat_eq, nat_lt, nat_le, Bool, not, List, [], ◌∷◌, length, slice_index, if◌then◌else◌, Option, None, Some, codes}
 use Rattle.std.specs.Cmp.Lexicographic.{pointwise}
 use Rattle.md_graph.specs.declared.TheConstants.{NAMES}
-use Rattle.md_text.specs.Lines.{without_return}
-use Rattle.md_text.specs.Fields.{fields}
 use Rattle.md_text.specs.Numbers.{number_of}
+use Rattle.md_text.specs.Spelling.{words}
 use Rattle.md_dimacs.specs.declared.fault.DimacsKind.{DimacsKind}
 use Rattle.md_dimacs.specs.declared.fault.DimacsKind.TheVariants.{SecondProblemLine, EdgeBeforeProblem, BadNumber, VertexOutOfRange, Loop, UnknownLine, TooManyVertices, FieldCount}
 use Rattle.md_dimacs.specs.declared.line.LineClass.{LineClass}
 use Rattle.md_dimacs.specs.declared.line.LineClass.TheVariants.{Passed, Problem, Edge, Unknown}
-
--- the fields of a line, of which one byte 13 at its end is no part
-abbrev pub words : List ℕ → List (List ℕ)
-words line = fields (without_return line)
 
 -- the class of a line whose first field is this letter: `p`, `e`, and `n`, `d`, `v`, `x`, which are read past
 abbrev pub class_of_letter : ℕ → LineClass

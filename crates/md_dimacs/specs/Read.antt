@@ -1,10 +1,11 @@
 -- What a reader of a DIMACS edge file has read: the lines before and behind the problem line.
-use Rattle.std.specs.Prelude.{◌≡◌, ℕ, zero, suc, ◌+◌, List, [], ◌∷◌, ◌++◌, length, Option, None, Some}
+use Rattle.std.specs.Prelude.{◌≡◌, ℕ, ◌+◌, List, [], ◌∷◌, ◌++◌, length, Option, None, Some}
 use Rattle.std.specs.List.{All}
 use Rattle.std.specs.FinSet as set
-use Rattle.md_graph.specs.Sets.{NameSet}
+use Rattle.md_graph.specs.NameSet.{range}
 use Rattle.md_graph.specs.PlainGraph.{PlainGraph, with_edge}
-use Rattle.md_dimacs.specs.Line.{words, ends_of, is_vertex}
+use Rattle.md_text.specs.Spelling.{words}
+use Rattle.md_dimacs.specs.Line.{ends_of, is_vertex}
 use Rattle.md_dimacs.specs.File.{IsPassed, IsProblemLine}
 
 -- behind `count` of all lines, none of which is a problem line or an edge line, the rest is to be read
@@ -27,14 +28,9 @@ pub record IsBehindProblem (all : List (List ℕ)) (n count : ℕ) (rest : List 
 abbrev pub HasVertices : ℕ → PlainGraph → Type 0
 HasVertices n g = (v : ℕ) → set.contains g.vertices v ≡ is_vertex n v
 
--- the names 1 to n
-unfoldable pub names_to : ℕ → NameSet
-names_to zero = set.empty
-names_to (suc n) = set.insert (names_to n) (n + 1)
-
 -- the graph on the vertices 1 to n without edges
 abbrev pub edgeless : ℕ → PlainGraph
-edgeless n = record { vertices = names_to n; edges = set.empty }
+edgeless n = record { vertices = range 1 n; edges = set.empty }
 
 -- the graph with one more edge, if its ends are there
 abbrev pub with_ends : PlainGraph → Option (ℕ × ℕ) → PlainGraph

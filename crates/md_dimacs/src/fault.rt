@@ -1,7 +1,7 @@
 //! What may be wrong with a DIMACS edge file.
 
-/// What is wrong with a line, or with the whole file. Of a line the first fault is named, in the order in
-/// which its class of lines lists them (`specs/Line.antt`).
+/// What is wrong with a line, or with the whole file. Of a line the first fault is named, in the
+/// order in which its class of lines lists them (`specs/Line.antt`).
 #[derive(Clone, Copy, Debug, PartialEq, Eq)]
 pub enum DimacsKind {
     /// No line is a problem line. The number of the line is then one more than the number of lines.

@@ -1,15 +1,17 @@
-//! What holds of DIMACS edge files. Each function has an empty body, and its contract is the law: the
-//! statement stands in `specs/Laws.antt`.
-ghost use Rattle.md_dimacs.specs.Laws.{SpelledOrFaulty, SpelledHasNoFault, TextIsRead};
+//! What holds of DIMACS edge files. Each function has an empty body, and its contract is the law:
+//! the statement stands in `specs/Laws.antt`.
+ghost use Rattle.md_text.specs.Spelling.{SpelledOrFaulty, SpelledHasNoFault};
+ghost use Rattle.md_dimacs.specs.File.{Spells, first_fault};
+ghost use Rattle.md_dimacs.specs.Laws.{TextIsRead};
 
 /// A file has either a first fault or exactly one graph that it spells.
 pub fn files_are_spelled_or_faulty()
-    ensures either { SpelledOrFaulty }
-    ensures spelled { SpelledHasNoFault }
+    ensures either { SpelledOrFaulty Spells first_fault }
+    ensures spelled { SpelledHasNoFault Spells first_fault }
 {}
 
-/// The text that is written for a graph with fewer vertices than names is read as that graph, its vertices
-/// named by their places from 1 on.
+/// The text that is written for a graph with fewer vertices than names is read as that graph, its
+/// vertices named by their places from 1 on.
 pub fn written_text_is_read()
     ensures { TextIsRead }
 {}

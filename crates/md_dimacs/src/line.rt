@@ -1,34 +1,23 @@
 //! One line of a DIMACS edge file.
 ghost use Rattle.std.specs.Prelude.{◌≡◌, ◌≢◌, ◌<◌, length, None, Some, IfOk, IfErr, OnOk, IsTrue};
 ghost use Rattle.md_text.specs.Fields.{fields};
-ghost use Rattle.md_dimacs.specs.Line.{
-  class_of_field,
-  is_form,
-  both,
-  sizes_in,
-  ends_in,
-  is_vertex,
-  sizes_fault,
-  problem_fault,
-  ends_fault,
-  edge_fault,
-};
+ghost use Rattle.md_dimacs.specs.Line.{class_of_field, is_form, both, sizes_in, ends_in, is_vertex, sizes_fault, problem_fault, ends_fault, edge_fault};
 ghost use Rattle.md_dimacs.specs.File.{AreSizes};
 
 use crate::DimacsKind;
 use md_graph::NAMES;
 use md_text::{number, three_fields, two_fields};
 
-/// The class of a line, by its first field.
+// The class of a line, by its first field.
 #[derive(Clone, Copy)]
 pub(crate) enum LineClass {
-    /// Read past: no field, a comment, or a line of `n`, `d`, `v` or `x`.
+    // Read past: no field, a comment, or a line of `n`, `d`, `v` or `x`.
     Passed,
-    /// A problem line, `p`.
+    // A problem line, `p`.
     Problem,
-    /// An edge line, `e`.
+    // An edge line, `e`.
     Edge,
-    /// Of no class.
+    // Of no class.
     Unknown,
 }
 

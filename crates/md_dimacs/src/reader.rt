@@ -1,20 +1,5 @@
 //! Reads a DIMACS edge file.
-ghost use Rattle.std.specs.Prelude.{
-  ◌≡◌,
-  ◌≢◌,
-  ◌<◌,
-  ◌≤◌,
-  ◌+◌,
-  ◌^◌,
-  length,
-  None,
-  Some,
-  MatchOption,
-  IfOk,
-  IfErr,
-  OnOk,
-  OnErr,
-};
+ghost use Rattle.std.specs.Prelude.{◌≡◌, ◌≢◌, ◌<◌, ◌≤◌, ◌+◌, ◌^◌, length, None, Some, MatchOption, IfOk, IfErr, OnOk, OnErr};
 ghost use Rattle.md_graph.specs.PlainGraph.{empty_graph, with_edge};
 ghost use Rattle.md_graph.specs.Sets.{Has};
 ghost use Rattle.md_text.specs.Lines.{lines};
@@ -29,12 +14,14 @@ use crate::{DimacsFault, DimacsKind};
 use md_graph::{Graph, NAMES};
 use md_text::{split_field, split_line, without_return};
 
-/// Reads the graph that the bytes of a DIMACS edge file spell: the vertices 1 to N of its problem line, and
-/// the edges of its edge lines, each once. It takes no memory. Condition: the graph has no vertices.
+/// Reads the graph that the bytes of a DIMACS edge file spell: the vertices 1 to N of its problem
+/// line, and the edges of its edge lines, each once. It takes no memory. Condition: the graph has
+/// no vertices.
 ///
 /// # Errors
 ///
-/// It refuses exactly where the file has a fault, and names the first; the graph then has no vertices.
+/// It refuses exactly where the file has a fault, and names the first; the graph then has no
+/// vertices.
 pub fn read(bytes: &[u8], graph: &mut Graph) -> Result<(), DimacsFault>
     requires { graph.old ≡ empty_graph }
     ensures spells { OnOk result (Spells bytes.now graph.new) }
@@ -43,7 +30,7 @@ pub fn read(bytes: &[u8], graph: &mut Graph) -> Result<(), DimacsFault>
     ensures refused { OnErr result (graph.new ≡ empty_graph) }
 {
     let (n, count, rest) = find_problem(bytes)?;
-    add_vertices(n, graph);
+    graph.add_range(1, n);
     let outcome = read_edges(n, rest, count, graph);
     if outcome.is_err() {
         graph.clear();
@@ -51,8 +38,8 @@ pub fn read(bytes: &[u8], graph: &mut Graph) -> Result<(), DimacsFault>
     outcome
 }
 
-// Reads the lines up to the problem line: the number of vertices, how many lines that were, and what
-// stands behind them.
+// Reads the lines up to the problem line: the number of vertices, how many lines that were, and
+// what stands behind them.
 fn find_problem(bytes: &[u8]) -> Result<(u32, u64, &[u8]), DimacsFault>
     ensures found { IfOk result (λ p. IsBehindProblem (lines bytes.now) p.0 p.1 (lines p.2.now)) }
     ensures room { IfOk result (λ p. p.1 + length p.2.now ≤ length bytes.now) }
@@ -76,8 +63,8 @@ fn find_problem(bytes: &[u8]) -> Result<(u32, u64, &[u8]), DimacsFault>
     })
 }
 
-// Reads a line before which no problem line stood: the number of vertices if it is one, and none if it is
-// read past.
+// Reads a line before which no problem line stood: the number of vertices if it is one, and none if
+// it is read past.
 #[tactic(auto, unfolding(crate::specs::Line::edge_fault))]
 fn read_first(line: &[u8]) -> Result<Option<u32>, DimacsKind>
     ensures read { IfOk result (λ size. MatchOption size (class_of (fields line.now) ≡ Passed)
@@ -98,24 +85,14 @@ fn read_first(line: &[u8]) -> Result<Option<u32>, DimacsKind>
     }
 }
 
-// Takes in the vertices 1 to n.
-fn add_vertices(n: u32, graph: &mut Graph)
-    requires named { n < NAMES }
-    requires empty { graph.old ≡ empty_graph }
-    ensures { graph.new ≡ edgeless n }
-{
-    for v in 0..n {
-        graph.add_vertex(v + 1);
-    }
-}
-
 // Reads the lines behind the problem line, before which `count` lines stood.
 fn read_edges(n: u32, bytes: &[u8], count: u64, graph: &mut Graph) -> Result<(), DimacsFault>
     requires vertices { HasVertices n graph.old }
     requires room { count + length bytes.now < 2 ^ 64 }
     ensures added { OnOk result (graph.new ≡ with_lines graph.old (lines bytes.now)) }
     ensures faultless { OnOk result (fault_behind (Some n) count (lines bytes.now) ≡ None) }
-    ensures fault { IfErr result (λ fault. fault_behind (Some n) count (lines bytes.now) ≡ Some fault) }
+    ensures fault { IfErr result (λ fault. fault_behind (Some n) count (lines bytes.now)
+        ≡ Some fault) }
 {
     let mut rest = bytes;
     let mut count = count;

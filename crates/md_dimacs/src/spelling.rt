@@ -5,7 +5,8 @@ ghost use Rattle.md_text.specs.Pieces.{piece_text};
 
 use md_text::{Piece, number_piece, piece_behind};
 
-// What stands before the second number of a line: the letter `e`, the first number, and a space after each.
+// What stands before the second number of a line: the letter `e`, the first number, and a space
+// after each.
 pub(crate) fn start_piece(n: u32) -> Piece
     requires { n < 10 ^ 5 }
     ensures { piece_text result ≡ codes "e " ++ (decimal n ++ 32 ∷ []) }

@@ -1,5 +1,6 @@
-//! Files with the graphs that they spell or their faults, and graphs with their texts. A copy of a line is in
-//! both directions where colouring files have it so; the last file is the Mycielski graph on 11 vertices.
+//! Files with the graphs that they spell or their faults, and graphs with their texts. A copy of a
+//! line is in both directions where colouring files have it so; the last file is the Mycielski
+//! graph on 11 vertices.
 use super::*;
 use DimacsKind::*;
 use md_graph::{Graph, Memory};
@@ -46,6 +47,11 @@ fn files(rt: HostRuntime) -> Result<(), Fail> {
         ("p edge 4096 0\n", TooManyVertices, 1),
         ("p edge 3\n", FieldCount, 1),
         ("p edge 2 1\ne 1 2 5\n", FieldCount, 2),
+        ("p col x\n", FieldCount, 1),
+        ("p foo 1 0\n", UnknownLine, 1),
+        ("p edge 2 1\ne 1 x\n", BadNumber, 2),
+        ("p edge 2 1\ne 0 1\n", VertexOutOfRange, 2),
+        ("p edge 2 1\ne 9 9\n", VertexOutOfRange, 2),
     ] {
         check_fault(&rt, rt.alloc(), file, kind, line)?;
     }
@@ -55,6 +61,14 @@ fn files(rt: HostRuntime) -> Result<(), Fail> {
         ("p edge 0 0\n", "p edge 0 0\n"),
         ("p edge 3 999999999999999999\n", "p edge 3 0\n"),
         ("p edge 3 2\ne 1 2\ne 2 3\n", "p edge 3 2\ne 1 2\ne 2 3\n"),
+        ("p edge 4095 0\n", "p edge 4095 0\n"),
+        ("p edge 2 1\r\ne 1 2\r\n", "p edge 2 1\ne 1 2\n"),
+        ("\tp edge 2 1\n  e 1 2", "p edge 2 1\ne 1 2\n"),
+        ("comment\np edge 2 0\n", "p edge 2 0\n"),
+        (
+            "n 1 2\np edge 2 1\nd 1\nv 2\nx 1 2 3\ne 2 1\n",
+            "p edge 2 1\ne 1 2\n",
+        ),
         (
             "c queen part\np col 3 4\ne 1 2\ne 2 1\ne 2 3\ne 3 2\n",
             "p edge 3 2\ne 1 2\ne 2 3\n",

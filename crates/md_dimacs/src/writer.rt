@@ -10,9 +10,9 @@ use md_graph::{Graph, Memory, NAMES};
 use md_text::{Chunk, Piece, number_piece, push_number};
 use std::alloc::Global;
 
-/// The DIMACS text of a graph: `p edge n m`, and for each edge a line `e i j`, i < j, ascending by i, then
-/// by j, where i and j are the places of its ends among the vertices in ascending order, counted from 1.
-/// Each line is ended by a line feed.
+/// The DIMACS text of a graph: `p edge n m`, and for each edge a line `e i j`, i < j, ascending by
+/// i, then by j, where i and j are the places of its ends among the vertices in ascending order,
+/// counted from 1. Each line is ended by a line feed.
 ///
 /// # Errors
 ///
@@ -58,7 +58,8 @@ fn spell_places(alloc: Global, graph: &Graph) -> Result<Vec<Piece>, Memory>
 fn fill_up(places: &mut Vec<Piece>, v: usize, piece: Piece) -> Result<(), Memory>
     requires { vec_len places.old ≤ v }
     ensures count { OnOk result (vec_len places.new ≡ v + 1) }
-    ensures items { OnOk result ((k : ℕ) × (places.new.items ≡ places.old.items ++ replicate k piece)) }
+    ensures items { OnOk result ((k : ℕ) × (places.new.items
+        ≡ places.old.items ++ replicate k piece)) }
 {
     while places.len() <= v {
         places.push(piece)?;
@@ -81,8 +82,8 @@ fn write_edges(graph: &Graph, places: &[Piece], text: &mut Vec<u8>) -> Result<()
     Ok(())
 }
 
-// Gathers the lines of the edges of v to the vertices above it. A chunk with no room for 64 lines of 16
-// bytes goes to the text.
+// Gathers the lines of the edges of v to the vertices above it. A chunk with no room for 64 lines
+// of 16 bytes goes to the text.
 fn write_row(
     graph: &Graph,
     v: u32,

@@ -351,9 +351,6 @@ names_in_use words n w used rest whole within =
 pub zero_from_bits : (w : ℕ) → w < 2 ^ 64 → ((i : ℕ) → i < 64 → bit_at w i ≡ 0) → w ≡ 0
 zero_from_bits w fits none = same_from_bits_below 64 w 0 fits (lit< tt) (λ i h. none i h ∙ sym (bit_at-zero i))
 
-pub zero_has_no_bits : (w i : ℕ) → w ≡ 0 → bit_at w i ≡ 0
-zero_has_no_bits w i e = zero_bit w i e
-
 -- the words of a set without names have no bits
 pub bits_of_empty : (words : List ℕ) (n w : ℕ) → n ≡ 64 * w → names_below words n ≡ set.empty → (k i : ℕ) → k < w → i < 64 → bit_at (get_or words k 0) i ≡ 0
 bits_of_empty words n w whole is k i h below =
@@ -531,10 +528,10 @@ apart_member a f g n s r t is is_r is_t q =
     rw (contains-intersection s (told_apart r t) q, keeps_words a n s is q, keeps_apart f g n r t is_r is_t q)
     (and_within _ _ _ _ (ap (λ x. min (bit_of a q) x == 1) (sym (bit_at_xor _ _ _)) ∙ and_bits _ _ (bit_at-lt _ _) (bit_at-lt _ _)))
 
-member_bit : (n q x : ℕ) (b : Bool) → b ≡ (ltb q n && (x == 1)) → b ≡ true → x ≡ 1
+pub member_bit : (n q x : ℕ) (b : Bool) → b ≡ (ltb q n && (x == 1)) → b ≡ true → x ≡ 1
 member_bit n q x b is h = grind (arith, nat_tests)
 
-member_here : (n q x : ℕ) → q < n → x ≡ 1 → (ltb q n && (x == 1)) ≡ true
+pub member_here : (n q x : ℕ) → q < n → x ≡ 1 → (ltb q n && (x == 1)) ≡ true
 member_here n q x h e = grind (arith, nat_tests)
 
 pub least_apart : (a f g : List ℕ) (n w u : ℕ) (s r t : NameSet) (least : ℕ) → n ≡ 64 * w → u ≤ w → names_below a n ≡ s → names_below f n ≡ r → names_below g n ≡ t → IsFirstApart a f g u least → (IsLeastFrom (set.intersection s (told_apart r t)) 0 least) × (least < n)

@@ -7,7 +7,7 @@ use Rattle.std.proofs.lemmas.List.{map-append, append-nil}
 use Rattle.std.specs.FinSet as set
 use Rattle.md_graph.specs.declared.TheConstants.{NAMES}
 use Rattle.md_graph.specs.Sets.{NameSet, Has}
-use Rattle.md_graph.specs.NameSet.{ascending, ascending_between, range}
+use Rattle.md_graph.specs.NameSet.{AllBelow, ascending, ascending_between, range}
 use Rattle.md_graph.specs.PlainGraph.{PairSet, PlainGraph, IsGraph, pairs_at, pairs_where, edge, adjacent, neighbours, empty_graph, with_vertex, with_range, with_edge, star, with_edges, complement, induced, without_vertex, without_edge}
 use Rattle.md_graph.specs.Rows.{row_of, edges_of, graph_of, AreRows}
 use Rattle.md_graph.proofs.SetLaws.{contains-empty, contains-insert, contains-remove, contains-union, contains-intersection, contains-retain, same_set}
@@ -169,6 +169,14 @@ IsGraph-empty_graph =
 pub adjacent-empty_graph : (u v : ℕ) → adjacent empty_graph u v ≡ false
 unfolding adjacent
 adjacent-empty_graph u v = pairs-empty (min u v) (max u v)
+
+-- a graph without edges
+pub adjacent-without_edges : (s : NameSet) (u v : ℕ) → adjacent (record { vertices = s; edges = set.empty }) u v ≡ false
+unfolding adjacent
+adjacent-without_edges s u v = pairs-empty (min u v) (max u v)
+
+pub IsGraph-without_edges : (s : NameSet) → AllBelow s NAMES → IsGraph (record { vertices = s; edges = set.empty })
+IsGraph-without_edges s names = IsGraph_by names (λ u v h. absurd (true≢false (sym h ∙ pairs-empty u v)))
 
 -- a graph without vertices is the empty graph
 pub empty_without_vertices : (g : PlainGraph) → IsGraph g → g.vertices ≡ set.empty → g ≡ empty_graph

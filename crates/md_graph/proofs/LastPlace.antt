@@ -1,6 +1,5 @@
 -- The highest bit of words, and the greatest member of the set that they keep.
-use Rattle.std.proofs.Common.{◌≡◌, ◌≢◌, ℕ, suc, ◌+◌, ◌-◌, ◌*◌, ◌/◌, ◌%◌, ◌^◌, ◌<◌, ◌≤◌, ◌==◌, ◌&&◌, ltb, Bool, true, List, get_or, Option, Some, None, IfSome, IfNone, refl, arith, ap, sym, ◌∙◌}
-use Rattle.std.proofs.lemmas.Bool.Decides.{nat_tests}
+use Rattle.std.proofs.Common.{◌≡◌, ◌≢◌, ℕ, suc, ◌+◌, ◌-◌, ◌*◌, ◌/◌, ◌%◌, ◌^◌, ◌<◌, ◌≤◌, ◌==◌, ◌&&◌, ltb, List, Option, Some, None, IfSome, IfNone, refl, arith, ap, sym, ◌∙◌}
 use Rattle.std.specs.Int.{bit_at}
 use Rattle.std.specs.FinSet as set
 use Rattle.std.proofs.Math.Nat.{div-eq_of_lt, div-eq_of_lt-le, pow-suc, pow-le-pow_right}
@@ -9,7 +8,7 @@ use lib.Count.{count_leading_zeros}
 use Rattle.md_graph.specs.Sets.{NameSet}
 use Rattle.md_graph.specs.NameSet.{IsGreatest, NoneFrom}
 use Rattle.md_graph.specs.Words.{bit_of, names_below}
-use Rattle.md_graph.proofs.BitWords.{InUse, from_both, zero_bit, contains-names_below}
+use Rattle.md_graph.proofs.BitWords.{InUse, from_both, zero_bit, contains-names_below, member_bit, member_here}
 
 -- ---- one word
 
@@ -38,12 +37,6 @@ none_above a fits some k up =
 
 -- ---- words from the last to the first
 
-word_bit : (words : List ℕ) (i j : ℕ) → j < 64 → bit_of words (64 * i + j) ≡ bit_at (get_or words i 0) j
-word_bit words i j h =
-    let word : (64 * i + j) / 64 ≡ i = omega arith in
-    let place : (64 * i + j) % 64 ≡ j = omega arith in
-    rw (word, place) refl
-
 -- no bit of the words from i on, below u, is 1
 abbrev pub NoneBehind : List ℕ → ℕ → ℕ → Type 0
 NoneBehind words i u = (q : ℕ) → 64 * i ≤ q → q < 64 * u → bit_of words q ≡ 0
@@ -55,12 +48,6 @@ pub record IsLastBit (words : List ℕ) (u place : ℕ) : Type 0 where
 
 -- ---- the set
 
-is_one : (n q x : ℕ) (b : Bool) → b ≡ (ltb q n && (x == 1)) → b ≡ true → x ≡ 1
-is_one n q x b is h = grind (arith, nat_tests)
-
-is_there : (n q x : ℕ) → q < n → x ≡ 1 → (ltb q n && (x == 1)) ≡ true
-is_there n q x h e = grind (arith, nat_tests)
-
 unused : (words : List ℕ) (u q : ℕ) → InUse words u → 64 * u ≤ q → bit_of words q ≡ 0
 unused words u q rest h = zero_bit _ (q % 64) (rest (q / 64) (omega arith))
 
@@ -71,7 +58,7 @@ pub greatest_or_none : (words : List ℕ) (n w u : ℕ) (s : NameSet) (found : O
 greatest_or_none words n w u s None whole few rest is some none = (
   tt,
   (λ q m.
-      let one = is_one n q _ _ (kept words n s is q) m in
+      let one = member_bit n q _ _ (kept words n s is q) m in
       let nothing : bit_of words q ≡ 0 = from_both (λ x. bit_of words x ≡ 0) (64 * u) none (λ x l. unused words u x rest l) q in
       absurd (omega arith)),
   tt,
@@ -80,10 +67,10 @@ greatest_or_none words n w u s (Some place) whole few rest is some none =
     let within = some.0 in
     let below : place < n = omega arith in (
       record {
-        member = kept words n s is place ∙ is_there n place _ below some.1;
+        member = kept words n s is place ∙ member_here n place _ below some.1;
         last = λ q m. from_both (λ x. x ≡ q → x ≤ place) (place + 1) (λ x l _. omega arith)
             (λ x l e.
-            let one : bit_of words x ≡ 1 = ap (bit_of words) e ∙ is_one n q _ _ (kept words n s is q) m in
+            let one : bit_of words x ≡ 1 = ap (bit_of words) e ∙ member_bit n q _ _ (kept words n s is q) m in
             let nothing : bit_of words x ≡ 0 = from_both (λ y. place < y → bit_of words y ≡ 0) (64 * u) (λ y k h. some.2 y h k) (λ y k h. unused words u y rest k) x (omega arith) in
             absurd (omega arith)) q refl;
       },

@@ -15,3 +15,4 @@ pub mod BlockRows
 pub mod LastPlace
 pub mod Comparing
 pub mod Ranges
+pub mod Walks

@@ -8,7 +8,7 @@ use Rattle.md_graph.specs.Sets.{NameSet}
 use Rattle.md_graph.specs.NameSet.{AllBelow, ascending_between}
 use Rattle.md_graph.specs.Words.{bit_of, names_below, bits_between, names_of_words, members_left}
 use Rattle.md_graph.proofs.NameLemmas.{not_both, ascending_none}
-use Rattle.md_graph.proofs.BitWords.{InUse, contains-names_below, zero_has_no_bits}
+use Rattle.md_graph.proofs.BitWords.{InUse, contains-names_below, zero_bit}
 use Rattle.std.specs.FinSet as set
 
 -- ---- the bits of one word
@@ -191,7 +191,7 @@ ascending_words s words low from (suc count) same low_enough =
 
 pub absent_past : (words : List ℕ) (n w used v : ℕ) → n ≡ 64 * w → InUse words used → 64 * used ≤ v → set.contains (names_below words n) v ≡ false
 absent_past words n w used v whole rest past =
-    let none : bit_of words v ≡ 0 = zero_has_no_bits _ (v % 64) (rest (v / 64) (omega arith)) in
+    let none : bit_of words v ≡ 0 = zero_bit _ (v % 64) (rest (v / 64) (omega arith)) in
     contains-names_below words n v ∙ no_member n v _ none
 
 -- the word of v is in use

@@ -6,7 +6,8 @@ use Rattle.std.proofs.lemmas.Nat.{shr-shr}
 use Rattle.std.proofs.lemmas.Nat.Bits.{bit_at_ones, bit_at_ones_above}
 use Rattle.std.specs.Int.{bit_at, div_ceil}
 use Rattle.std.specs.FinSet as set
-use Rattle.md_graph.specs.Sets.{NameSet}
+use Rattle.md_graph.specs.Sets.{NameSet, Lacks}
+use Rattle.md_graph.specs.PlainGraph.{PlainGraph, empty_graph, with_range}
 use Rattle.md_graph.specs.NameSet.{range, block}
 use Rattle.md_graph.proofs.BitWords.{contains-block_below}
 use Rattle.md_graph.proofs.SetLaws.{contains-empty, contains-insert, contains-union, same_set}
@@ -25,6 +26,17 @@ unfolding range
 contains-range from zero q = contains-empty q ∙ range_none from q
 contains-range from (suc count) q =
     contains-insert (range from count) (from + count) q ∙ ap (λ b. (q == (from + count)) || b) (contains-range from count q) ∙ range_step from count q
+
+-- a graph without vertices, with a range of them
+union_none : (s : NameSet) → set.union set.empty s ≡ s
+union_none s = same_set _ s (λ q. contains-union set.empty s q ∙ ap (λ b. b || set.contains s q) (contains-empty q))
+
+pub range_alone : {g h : PlainGraph} (from count : ℕ) → g ≡ empty_graph → h ≡ with_range g from count → h ≡ record { vertices = range from count; edges = set.empty }
+range_alone from count none is = is ∙ ap (λ g. with_range g from count) none ∙ ap (λ s. record { vertices = s; edges = set.empty }) (union_none (range from count))
+
+-- no name is a vertex yet
+pub none_there : {g : PlainGraph} → g ≡ empty_graph → (v : ℕ) → Lacks g.vertices v
+none_there none v = ap (λ (g : PlainGraph). set.contains g.vertices v) none ∙ contains-empty v
 
 -- ---- the bits of a word
 
@@ -45,12 +57,6 @@ range_bit first from to low high k x y is_low is_high inside some is_x is_y = gr
 -- what is taken in before word `at`
 abbrev pub Filled : NameSet → NameSet → ℕ → ℕ → ℕ → Type 0
 Filled old now from to at = (q : ℕ) → set.contains now q ≡ (set.contains old q || (in_range from to q && ltb q (64 * at)))
-
-none_before : (from to q : ℕ) (b : Bool) → b ≡ (b || (in_range from to q && ltb q (64 * (from / 64))))
-none_before from to q b = let low : 64 * (from / 64) ≤ from = omega arith in grind (arith, nat_tests)
-
-pub filled_begins : (s : NameSet) (from to : ℕ) → Filled s s from to (from / 64)
-filled_begins s from to q = none_before from to q _
 
 word_here : (from to at q : ℕ) (a x : Bool) → (64 * at ≤ q → q < 64 * at + 64 → x ≡ in_range from to q) → ((a || (in_range from to q && ltb q (64 * at))) || (leb (64 * at) q && (ltb (q - 64 * at) 64 && x))) ≡ (a || (in_range from to q && ltb q (64 * (at + 1))))
 word_here from to at q a x is = grind (arith, nat_tests)

@@ -5,7 +5,7 @@ use Rattle.std.specs.Cmp.{nat_cmp_total}
 use Rattle.std.specs.Ordering.{nat_cmp}
 use Rattle.md_graph.specs.Sets.{NameSet, Has, Lacks, Within, HasTwo, only_name}
 use Rattle.std.proofs.lemmas.Bool.{cases_Bool}
-use Rattle.md_graph.proofs.SetLemmas.{clash, same_name, empty_lacks, insert_new, insert_old, of_insert, insert_lacks, remove_left, of_remove, same_members, Within-refl, Within-trans, remove_insert, insert_within, insert_known, Has-along, of_meet, of_union, union_left, union_right, of_minus, minus_has, minus_lacks, lacks_within}
+use Rattle.md_graph.proofs.SetLemmas.{Has-along, along_two, only_new, minus_lacks, clash, same_name, empty_lacks, insert_new, insert_old, of_insert, insert_lacks, remove_left, of_remove, same_members, Within-refl, Within-trans, remove_insert, insert_within, insert_known, of_meet, of_union, union_left, union_right, of_minus, minus_has, lacks_within}
 
 -- each set is the set of a list
 of_items : (s : NameSet) → s ≡ from_list (items s)
@@ -416,3 +416,32 @@ search_falls left todo new w h inside =
     let q : len (union (remove todo w) new) ≤ len (remove todo w) + len new = len_union (remove todo w) new in
     let r : len (remove todo w) + 1 ≡ len todo = len_fewer todo w h in
     omega arith
+
+-- tests that don't differ are equal
+pub alike_unless : (a b : Bool) → ((a ≡ b → ⊥) → ⊥) → a ≡ b
+alike_unless a b n = elim (decide_test a b) [ inl same ↦ same | inr differ ↦ absurd (n differ) ]
+
+-- ---- a search takes names and looks at them, so fewer are left
+
+pub rest_falls : (rest c rest' : NameSet) (x : ℕ) → Has rest x → Has c x → rest' ≡ difference rest c → len rest' < len rest
+rest_falls rest c rest' x h k is =
+    len_proper rest' rest x (λ y l. (of_minus rest c y (Has-along rest' (difference rest c) is y l)).0) h
+    (ap (λ s. contains s x) is ∙ minus_lacks rest c x k)
+
+pub turn_falls : (left todo new left' todo' : NameSet) (w : ℕ) → Has todo w → Within new left → left' ≡ difference left new → todo' ≡ union (remove todo w) new →
+    len left' + len todo' < len left + len todo
+turn_falls left todo new left' todo' w h inside is_left is_todo =
+    along_two (λ a b. len a + len b < len left + len todo) _ _ left' todo' is_left is_todo (search_falls left todo new w h inside)
+
+pub idle_falls : (left todo todo' : NameSet) (w : ℕ) → Has todo w → todo' ≡ remove todo w → len left + len todo' < len left + len todo
+idle_falls left todo todo' w h is =
+    let r : len (remove todo w) + 1 ≡ len todo = len_fewer todo w h in
+    subst (λ (t : NameSet). len left + len t < len left + len todo) (sym is) (omega arith)
+
+-- fewer names are left and to be looked at
+pub back_falls : (left new none left' todo' : NameSet) → none ≡ empty → Within new left → left' ≡ difference left new → todo' ≡ union none (intersection left new) → len left' + len todo' ≤ len left
+back_falls left new none left' todo' is inside is_left is_todo =
+    along_two (λ a b. len a + len b ≤ len left) _ _ left' todo' is_left (is_todo ∙ only_new left new none is inside) (len_minus left new inside)
+
+pub back_shorter : (left todo left' todo' : NameSet) (w : ℕ) → Has todo w → len left' + len todo' ≤ len left → len left' + len todo' < len left + len todo
+back_shorter left todo left' todo' w h is = let r : 1 ≤ len todo = some_len todo w h in omega arith

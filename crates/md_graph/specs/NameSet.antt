@@ -25,7 +25,7 @@ NoneFrom s v = (w : ℕ) → Has s w → w < v
 abbrev pub AllBelow : NameSet → ℕ → Type 0
 AllBelow s n = (w : ℕ) → Has s w → w < n
 
--- the numbers that exactly one of `a` and `b` has
+-- the symmetric difference: the numbers that exactly one of `a` and `b` has
 abbrev pub told_apart : NameSet → NameSet → NameSet
 told_apart a b = set.union (set.difference a b) (set.difference b a)
 
@@ -35,11 +35,11 @@ ascending_between s low zero = []
 ascending_between s low (suc n) =
     ascending_between s low n ++ (if nat_le low n && set.contains s n then n ∷ [] else [])
 
--- the members of a set of names at or above `low`, ascending
+-- the members of a set of names at or above `low`, ascending: those below NAMES
 abbrev pub ascending_from : NameSet → ℕ → List ℕ
 ascending_from s low = ascending_between s low NAMES
 
--- the members of a set of names, ascending
+-- the members of a set of names, ascending: those below NAMES
 abbrev pub ascending : NameSet → List ℕ
 ascending s = ascending_from s 0
 

@@ -1,5 +1,6 @@
--- A graph without loops and parallel edges, as contracts see it: a finite set of vertices and a finite set
--- of edges, each edge the pair of its two ends with the smaller first. Source: any textbook on graphs.
+-- A graph without loops and parallel edges, as contracts see it: a finite set of vertices and a
+-- finite set of edges, each edge the pair of its two ends with the smaller first. Source: any
+-- textbook on graphs.
 use Rattle.std.specs.Prelude.{ℕ, zero, suc, ◌<◌, min, max, Bool, not, ◌&&◌, ◌==◌, if◌then◌else◌, List, map, IsTrue, refl}
 use Rattle.std.specs.declared.cmp.Ordering.{Ordering}
 use Rattle.std.specs.Ordering.{nat_cmp, then_cmp, on}
@@ -50,8 +51,8 @@ adjacent g u v = set.contains g.edges (edge u v)
 unfoldable pub neighbours : PlainGraph → ℕ → NameSet
 neighbours g v = set.retain g.vertices (adjacent g v)
 
--- What holds of every graph: its vertices are names, and an edge has two different ends, both of them
--- vertices, the smaller first.
+-- What holds of every graph: its vertices are names, and an edge has two different ends, both of
+-- them vertices, the smaller first.
 pub record IsGraph (g : PlainGraph) : Type 0 where
   pub names : (v : ℕ) → Has g.vertices v → v < NAMES
   pub ordered : (u v : ℕ) → IsTrue (set.contains g.edges (u, v)) → u < v
@@ -82,7 +83,8 @@ star v others = set.from_list (map (edge v) others)
 abbrev pub with_edges : PlainGraph → ℕ → NameSet → PlainGraph
 with_edges g v others = record { vertices = g.vertices; edges = set.union g.edges (star v (ascending others)) }
 
--- the complement of g: the same vertices, and an edge between two of them where g has none
+-- the complement of g, for vertices below NAMES: the same vertices, and an edge between two of them
+-- where g has none
 abbrev pub complement : PlainGraph → PlainGraph
 complement g = record {
   vertices = g.vertices;

@@ -18,8 +18,8 @@ edges_of rows = pairs_where (λ u v. set.contains (row_of rows v) u) NAMES
 abbrev pub graph_of : NameSet → List NameSet → PlainGraph
 graph_of live rows = record { vertices = live; edges = edges_of rows }
 
--- What holds of the rows of a graph: one for each name; an edge stands in the rows of both its ends, which
--- are live and differ.
+-- What holds of the rows of a graph: one for each name; an edge stands in the rows of both its
+-- ends, which are live and differ.
 pub record AreRows (live : NameSet) (rows : List NameSet) : Type 0 where
   pub one_each : length rows ≡ NAMES
   pub both_ways : (u v : ℕ) → set.contains (row_of rows u) v ≡ set.contains (row_of rows v) u

@@ -15,7 +15,8 @@ bit_apart words first second v = min (bit_of words v) ((bit_of first v + bit_of 
 
 -- the low 64 bits of `word` are those of `first` that `second` doesn't have
 abbrev pub IsWithout : ℕ → ℕ → ℕ → Type 0
-IsWithout word first second = (k : ℕ) → k < 64 → bit_at word k ≡ min (bit_at first k) (1 - bit_at second k)
+IsWithout word first second = (k : ℕ) → k < 64 →
+    bit_at word k ≡ min (bit_at first k) (1 - bit_at second k)
 
 -- the names below `bound` whose bit is 1
 unfoldable pub names_below : List ℕ → ℕ → NameSet
@@ -34,6 +35,7 @@ names_of_words words from zero = []
 names_of_words words from (suc count) =
     bits_between (64 * from) (get_or words from 0) 64 ++ names_of_words words (from + 1) count
 
--- what an iterator over the first `used` words has left at word `at`, of which the bits of `left` are still to come
+-- what an iterator over the first `used` words has left at word `at`, of which the bits of `left`
+-- are still to come
 abbrev pub members_left : List ℕ → ℕ → ℕ → ℕ → List ℕ
 members_left words used at left = bits_between (64 * at) left 64 ++ names_of_words words (at + 1) (used - (at + 1))

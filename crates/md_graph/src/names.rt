@@ -16,8 +16,8 @@ use std::marker::Model;
 
 /// A set of names below `NAMES`, kept in place as one bit a name. No call on it takes memory.
 ///
-/// The first `used` words hold all members: the words behind them are 0, and no call passes over
-/// them.
+/// The first `used` words hold all members: the words behind them are 0. Only `none`, `copy`, `and`,
+/// `or` and `minus`, which make a set, write those too.
 #[derive(Drop)]
 pub struct Names {
     words: [u64; WORDS],

@@ -1,22 +1,22 @@
 -- The graph that a body spells: there is one, and it is the one that is decoded.
-use Rattle.std.proofs.Common.{◌≡◌, ℕ, zero, suc, ◌<◌, ◌≤◌, ◌&&◌, Bool, true, nat_lt, List, inl, inr, refl, sym, ◌∙◌, arith}
+use Rattle.std.proofs.Common.{◌≡◌, ℕ, ◌<◌, ◌≤◌, ◌&&◌, Bool, true, nat_lt, List, inl, inr, refl, sym, ◌∙◌, arith}
 use Rattle.std.specs.FinSet as set
 use Rattle.std.proofs.lemmas.Bool.Decides.{nat_tests}
 use Rattle.std.proofs.lemmas.Bool.{cases_Bool, ltb-true, lt-ltb}
 use Rattle.md_graph.specs.declared.TheConstants.{NAMES}
 use Rattle.md_graph.specs.Sets.{Has}
 use Rattle.md_graph.specs.PlainGraph.{PlainGraph, IsGraph, adjacent}
-use Rattle.md_graph.proofs.SetLaws.{contains-empty, contains-insert, same_set}
+use Rattle.md_graph.proofs.SetLaws.{same_set}
 use Rattle.md_graph.proofs.PairLaws.{same_pairs}
 use Rattle.md_graph.proofs.GraphLemmas.{contains-pairs_where, adjacent_up}
+use Rattle.md_graph.specs.NameSet.{range}
+use Rattle.md_graph.proofs.Ranges.{contains-range}
 use Rattle.md_graph6.specs.Bits.{IsBodyOf}
-use Rattle.md_graph6.specs.Line.{numbers_below, is_edge, graph_of_body}
+use Rattle.md_graph6.specs.Line.{is_edge, graph_of_body}
 
 -- the members of the numbers below n
-pub contains-numbers_below : (n v : ℕ) → set.contains (numbers_below n) v ≡ nat_lt v n
-unfolding numbers_below
-contains-numbers_below zero v = rw contains-empty (grind (arith, nat_tests))
-contains-numbers_below (suc n) v = rw (contains-insert, contains-numbers_below n v) (grind (arith, nat_tests))
+pub contains-numbers_below : (n v : ℕ) → set.contains (range 0 n) v ≡ nat_lt v n
+contains-numbers_below n v = contains-range 0 n v ∙ grind (arith, nat_tests)
 
 -- the pairs of a decoded graph
 contains-decoded : (body : List ℕ) (n u v : ℕ)
@@ -29,7 +29,7 @@ edge_parts : (u v n : ℕ) (b : Bool) → ((nat_lt u v && nat_lt v n) && b) ≡ 
 edge_parts u v n b e = (grind (arith, nat_tests), grind (arith, nat_tests))
 
 -- a number below n is a member, and no other
-below_is_member : (n v : ℕ) → v < n → Has (numbers_below n) v
+below_is_member : (n v : ℕ) → v < n → Has (range 0 n) v
 below_is_member n v small = contains-numbers_below n v ∙ lt-ltb v n small
 
 -- what is decoded is a graph

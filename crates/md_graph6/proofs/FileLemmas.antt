@@ -7,9 +7,10 @@ use Rattle.std.proofs.lemmas.Bool.{ne_eqb}
 use Rattle.md_graph.specs.PlainGraph.{PlainGraph, IsGraph}
 use Rattle.md_text.specs.Lines.{ended, LacksFeed, without_return}
 use Rattle.md_text.proofs.LineLemmas.{lines-ended, without_return-stays}
+use Rattle.md_text.specs.Spelling.{SpellsOnly, SpellsNone, fault_behind}
 use Rattle.md_graph6.specs.declared.fault.G6Fault.{G6Fault}
 use Rattle.md_graph6.specs.Line.{SpellsLine, line_fault, graph_of_line}
-use Rattle.md_graph6.specs.File.{without_header, file_lines, SpellEach, Spells, SpellsOnly, SpellsNone, fault_after, first_fault, graphs_of_lines, graphs_of}
+use Rattle.md_graph6.specs.File.{without_header, file_lines, SpellEach, Spells, fault_after, first_fault, graphs_of_lines, graphs_of}
 use Rattle.md_graph6.specs.Written.{renumbered, IsTextOf}
 use Rattle.md_graph6.specs.Laws.{SpelledOrFaulty, SpelledHasNoFault, GraphsAreGraphs, AllSpell, EndedLinesSpell, EndedLineSpells, TextSpells}
 use Rattle.md_graph6.proofs.SizeLemmas.{is_group-range}
@@ -19,7 +20,7 @@ use Rattle.md_graph6.proofs.ReadLemmas.{fault_or-none}
 -- lines that spell graphs have no fault, and are decoded to these graphs
 each_sound : (all : List (List ℕ)) (graphs : List PlainGraph) (before : ℕ) → SpellEach all graphs
     → (fault_after before all ≡ None) × (graphs_of_lines all ≡ graphs)
-unfolding SpellEach fault_after graphs_of_lines line_fault
+unfolding SpellEach fault_behind graphs_of_lines line_fault
 each_sound [] graphs before spells = (refl, sym spells)
 each_sound ([] ∷ more) graphs before spells = each_sound more graphs (before + 1) spells
 each_sound ((byte ∷ line) ∷ more) [] before spells = absurd spells
@@ -30,7 +31,7 @@ each_sound ((byte ∷ line) ∷ more) (g ∷ graphs) before spells =
 
 -- lines without fault spell the graphs that are decoded
 sound_each : (all : List (List ℕ)) (before : ℕ) → fault_after before all ≡ None → SpellEach all (graphs_of_lines all)
-unfolding SpellEach fault_after graphs_of_lines line_fault
+unfolding SpellEach fault_behind graphs_of_lines line_fault
 sound_each [] before sound = refl
 sound_each ([] ∷ more) before sound = sound_each more (before + 1) sound
 sound_each ((byte ∷ line) ∷ more) before sound =
@@ -47,7 +48,7 @@ pub spelled_has_no_fault : SpelledHasNoFault
 spelled_has_no_fault = λ bytes graphs spells. each_sound (file_lines bytes) graphs 0 spells
 
 pub spelled_or_faulty : SpelledOrFaulty
-spelled_or_faulty = λ bytes. by_fault (first_fault bytes) (SpellsOnly bytes (graphs_of bytes)) (SpellsNone bytes)
+spelled_or_faulty = λ bytes. by_fault (first_fault bytes) (SpellsOnly Spells bytes (graphs_of bytes)) (SpellsNone Spells bytes)
     (λ sound. record {
       spells = sound_each (file_lines bytes) 0 sound;
       only = λ others spells. sym (spelled_has_no_fault bytes others spells).1;
@@ -133,7 +134,7 @@ ended_lines-each all graphs spells =
     (all_spell-each all graphs spells)
 
 -- a file spells one list of graphs
-only_one : (bytes : List ℕ) (graphs : List PlainGraph) → Spells bytes graphs → SpellsOnly bytes graphs
+only_one : (bytes : List ℕ) (graphs : List PlainGraph) → Spells bytes graphs → SpellsOnly Spells bytes graphs
 only_one bytes graphs spells = record {
   spells = spells;
   only = λ others spelt.

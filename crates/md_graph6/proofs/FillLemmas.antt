@@ -8,37 +8,25 @@ use Rattle.std.specs.FinSet as set
 use Rattle.md_graph.specs.Sets.{Has}
 use Rattle.md_graph.specs.Blocks.{in_block, IsWithBlock}
 use Rattle.md_graph.proofs.BitWords.{get_or-zeros}
-use Rattle.md_graph.proofs.SetLaws.{contains-empty, contains-insert}
-use Rattle.md_graph.specs.PlainGraph.{PlainGraph, empty_graph, with_vertex}
+use Rattle.md_graph.specs.PlainGraph.{PlainGraph, empty_graph, with_range}
 use Rattle.md_graph.specs.declared.TheConstants.{NAMES}
-use Rattle.md_graph.proofs.GraphLemmas.{IsGraph-empty_graph, adjacent-empty_graph, IsGraph-with_vertex, adjacent-with_vertex}
+use Rattle.md_graph.specs.NameSet.{range}
+use Rattle.md_graph.proofs.Ranges.{contains-range, range_alone}
+use Rattle.md_graph.proofs.GraphLemmas.{IsGraph-without_edges, adjacent-without_edges}
 use Rattle.md_graph6.specs.Bits.{bit, pair_number, IsBodyOf}
 use Rattle.md_graph6.specs.Filled.{HasVertices, IsBlock, is_before, IsFilled}
 
 -- ---- the vertices
 
-pub vertices_none : {g : PlainGraph} → g ≡ empty_graph → HasVertices 0 g
-vertices_none {g} e = rw e (record {
-  vertices = λ v. contains-empty v ∙ (let none : false ≡ nat_lt v 0 = grind (arith, nat_tests) in none);
-  graph = IsGraph-empty_graph;
-  no_edge = λ a b. adjacent-empty_graph a b;
+pub vertices_ranged : {g h : PlainGraph} (n : ℕ) → n ≤ NAMES → g ≡ empty_graph → h ≡ with_range g 0 n → HasVertices n h
+vertices_ranged {g} {h} n few none is = rw (range_alone {g = g} {h = h} 0 n none is) (record {
+  vertices = members;
+  graph = IsGraph-without_edges (range 0 n) (λ v member. omega (arith, few, ltb-true v n (sym (members v) ∙ member)));
+  no_edge = adjacent-without_edges (range 0 n);
 })
-
-pub vertices_more : {g : PlainGraph} (i : ℕ) → i < NAMES → HasVertices i g → HasVertices (i + 1) (with_vertex g i)
-vertices_more {g} i name has = record {
-  vertices = λ v. contains-insert g.vertices i v ∙ ap (λ b. (v == i) || b) (has.vertices v) ∙ below v;
-  graph = IsGraph-with_vertex has.graph i name;
-  no_edge = λ a b. adjacent-with_vertex g i a b ∙ has.no_edge a b;
-}
   where
-    below : (v : ℕ) → ((v == i) || nat_lt v i) ≡ nat_lt v (i + 1)
-    below v = grind (arith, nat_tests)
-
-pub vertices_absent : {g : PlainGraph} (v : ℕ) → HasVertices v g → set.contains g.vertices v ≡ false
-vertices_absent {g} v has = has.vertices v ∙ (let not_below : nat_lt v v ≡ false = grind (arith, nat_tests) in not_below)
-
-pub vertices_more_is : {g h : PlainGraph} (i : ℕ) → i < NAMES → HasVertices i g → h ≡ with_vertex g i → HasVertices (i + 1) h
-vertices_more_is {g} {h} i name has e = rw e (vertices_more i name has)
+    members : (v : ℕ) → set.contains (range 0 n) v ≡ nat_lt v n
+    members v = contains-range 0 n v ∙ grind (arith, nat_tests)
 
 -- ---- one column and one block
 

@@ -5,10 +5,11 @@ use Rattle.std.proofs.lemmas.Bool.{eq-eqb}
 use Rattle.std.proofs.lemmas.Bool.Decides.{eqb_tells}
 use Rattle.md_text.specs.Lines.{lines, without_return}
 use Rattle.md_text.proofs.LineLemmas.{no_lines}
+use Rattle.md_text.specs.Spelling.{fault_or, fault_behind}
 use Rattle.md_graph6.specs.declared.fault.G6Fault.{G6Fault}
 use Rattle.md_graph6.specs.declared.fault.G6Kind.{G6Kind}
 use Rattle.md_graph6.specs.Line.{line_fault, graph_of_line}
-use Rattle.md_graph6.specs.File.{stripped_lines, fault_after, fault_or, HasNoFault, graphs_of_lines, first_fault, graphs_of}
+use Rattle.md_graph6.specs.File.{stripped_lines, fault_after, HasNoFault, graphs_of_lines, first_fault, graphs_of, fault_at}
 
 -- a text without bytes has no lines
 stripped_lines-empty : (text : List ℕ) → length text ≡ 0 → stripped_lines text ≡ []
@@ -21,7 +22,7 @@ stripped_lines-cut text line rest cut = rw cut refl
 
 -- no lines have no fault
 pub fault_after-end : (before : ℕ) (text : List ℕ) → length text ≡ 0 → fault_after before (stripped_lines text) ≡ None
-unfolding fault_after
+unfolding fault_behind
 fault_after-end before text none = rw (stripped_lines-empty text none) refl
 
 -- no lines give no graphs
@@ -32,8 +33,8 @@ graphs_of_lines-end text none = rw (stripped_lines-empty text none) refl
 -- the fault of the first line, or of a later one
 pub fault_after-cut : (before : ℕ) (text line rest : List ℕ) → lines text ≡ line ∷ lines rest
     → fault_after before (stripped_lines text)
-    ≡ fault_or (line_fault (without_return line)) (before + 1) (fault_after (before + 1) (stripped_lines rest))
-unfolding fault_after
+    ≡ fault_or fault_at (line_fault (without_return line)) (before + 1) (fault_after (before + 1) (stripped_lines rest))
+unfolding fault_behind
 fault_after-cut before text line rest cut = rw (stripped_lines-cut text line rest cut) refl
 
 -- the graphs behind an empty line
@@ -128,7 +129,7 @@ IsRead-count bytes rest number count before end =
     omega arith
 
 -- no fault is found where the line has none and none comes later
-pub fault_or-none : (kind : Option G6Kind) (number : ℕ) (later : Option G6Fault) → fault_or kind number later ≡ None
+pub fault_or-none : (kind : Option G6Kind) (number : ℕ) (later : Option G6Fault) → fault_or fault_at kind number later ≡ None
     → (kind ≡ None) × (later ≡ None)
 fault_or-none None number later e = (refl, e)
 fault_or-none (Some kind) number later e = cc
@@ -136,7 +137,7 @@ fault_or-none (Some kind) number later e = cc
 -- whether there is a fault doesn't depend on the numbers of the lines
 fault_after-renumbered : (all : List (List ℕ)) (before other : ℕ) → fault_after before all ≡ None
     → fault_after other all ≡ None
-unfolding fault_after
+unfolding fault_behind
 fault_after-renumbered [] before other sound = refl
 fault_after-renumbered (line ∷ more) before other sound =
     let parts = fault_or-none (line_fault line) (before + 1) (fault_after (before + 1) more) sound in

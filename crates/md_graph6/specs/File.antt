@@ -1,9 +1,10 @@
 -- A graph6 file: its lines, the graphs that it spells, and its first fault.
 -- Source: B. McKay, "Description of graph6, sparse6 and digraph6 encodings"; the faults are this project's.
-use Rattle.std.specs.Prelude.{◌≡◌, ℕ, ◌+◌, List, [], ◌∷◌, length, map, drop, if◌then◌else◌, nat_eq, Option, None, Some, codes}
+use Rattle.std.specs.Prelude.{◌≡◌, ℕ, List, [], ◌∷◌, length, map, drop, if◌then◌else◌, nat_eq, Option, None, codes}
 use Rattle.std.specs.List.{starts_with}
 use Rattle.md_graph.specs.PlainGraph.{PlainGraph}
 use Rattle.md_text.specs.Lines.{lines, without_return}
+use Rattle.md_text.specs.Spelling.{fault_behind}
 use Rattle.md_graph6.specs.declared.fault.G6Fault.{G6Fault}
 use Rattle.md_graph6.specs.declared.fault.G6Kind.{G6Kind}
 use Rattle.md_graph6.specs.Line.{SpellsLine, line_fault, graph_of_line}
@@ -35,25 +36,13 @@ SpellEach ((byte ∷ line) ∷ more) (g ∷ graphs) = SpellsLine (byte ∷ line)
 abbrev pub Spells : List ℕ → List PlainGraph → Type 0
 Spells bytes graphs = SpellEach (file_lines bytes) graphs
 
--- the bytes spell these graphs and no others
-pub record SpellsOnly (bytes : List ℕ) (graphs : List PlainGraph) : Type 0 where
-  pub spells : Spells bytes graphs
-  pub only : (others : List PlainGraph) → Spells bytes others → others ≡ graphs
-
--- the bytes spell no list of graphs
-abbrev pub SpellsNone : List ℕ → Type 0
-SpellsNone bytes = (graphs : List PlainGraph) → Spells bytes graphs → ⊥
-
--- the kind, if there is one, as the fault of line `number`, or else what comes later
-abbrev pub fault_or : Option G6Kind → ℕ → Option G6Fault → Option G6Fault
-fault_or None number later = later
-fault_or (Some kind) number later = Some (record { kind = kind; line = number })
+-- a kind as the fault of a line
+abbrev pub fault_at : G6Kind → ℕ → G6Fault
+fault_at kind line = record { kind = kind; line = line }
 
 -- the first fault of lines behind `before` others
-unfoldable pub fault_after : ℕ → List (List ℕ) → Option G6Fault
-fault_after before [] = None
-fault_after before (line ∷ more) =
-    fault_or (line_fault line) (before + 1) (fault_after (before + 1) more)
+abbrev pub fault_after : ℕ → List (List ℕ) → Option G6Fault
+fault_after = fault_behind {S = Unit {0}} fault_at (λ _ line. line_fault line) (λ seen _. seen) (λ _ _. None) tt
 
 -- the first fault of a file: that of its first faulty line, with the number of the line, counted from 1
 abbrev pub first_fault : List ℕ → Option G6Fault

@@ -3,14 +3,15 @@ use Rattle.std.specs.Prelude.{◌≡◌, ℕ, List, [], ◌∷◌, ◌++◌, Non
 use Rattle.std.specs.List.{All}
 use Rattle.md_graph.specs.PlainGraph.{PlainGraph, IsGraph}
 use Rattle.md_text.specs.Lines.{ended}
+use Rattle.md_text.specs.Spelling.{SpellsOnly, SpellsNone}
 use Rattle.md_graph6.specs.Line.{SpellsLine}
 use Rattle.md_graph6.specs.Written.{IsTextOf, renumbered}
-use Rattle.md_graph6.specs.File.{Spells, SpellsOnly, SpellsNone, first_fault, graphs_of}
+use Rattle.md_graph6.specs.File.{Spells, first_fault, graphs_of}
 
 -- a file either has no fault and spells one list of graphs, or has a first fault and spells none
 abbrev pub SpelledOrFaulty : Type 0
 SpelledOrFaulty = (bytes : List ℕ)
-    → MatchOption (first_fault bytes) (SpellsOnly bytes (graphs_of bytes)) (λ _. SpellsNone bytes)
+    → MatchOption (first_fault bytes) (SpellsOnly Spells bytes (graphs_of bytes)) (λ _. SpellsNone Spells bytes)
 
 -- a file that spells some graphs has no fault, and they are its graphs
 abbrev pub SpelledHasNoFault : Type 0
@@ -30,14 +31,14 @@ AllSpell _ _ = ⊥
 -- lines that spell graphs, each ended by a line feed, are a file that spells these graphs and no others
 abbrev pub EndedLinesSpell : Type 0
 EndedLinesSpell = (all : List (List ℕ)) (graphs : List PlainGraph) → AllSpell all graphs
-    → SpellsOnly (ended all) graphs
+    → SpellsOnly Spells (ended all) graphs
 
 -- a line that spells a graph and a line feed are a file that spells this graph and no other
 abbrev pub EndedLineSpells : Type 0
 EndedLineSpells =
-    (line : List ℕ) (g : PlainGraph) → SpellsLine line g → SpellsOnly (line ++ 10 ∷ []) (g ∷ [])
+    (line : List ℕ) (g : PlainGraph) → SpellsLine line g → SpellsOnly Spells (line ++ 10 ∷ []) (g ∷ [])
 
 -- the text of a graph is a file that spells this graph, its vertices renumbered, and no other
 abbrev pub TextSpells : Type 0
 TextSpells =
-    (text : List ℕ) (g : PlainGraph) → IsTextOf text g → SpellsOnly text (renumbered g ∷ [])
+    (text : List ℕ) (g : PlainGraph) → IsTextOf text g → SpellsOnly Spells text (renumbered g ∷ [])

@@ -2,9 +2,8 @@
 -- Source: B. McKay, "Description of graph6, sparse6 and digraph6 encodings"; the faults are this project's.
 use Rattle.std.specs.Prelude.{◌≡◌, ℕ, zero, suc, ◌+◌, ◌-◌, ◌*◌, ◌/◌, ◌<◌, ◌≤◌, ◌==◌, ◌&&◌, ◌||◌, nat_lt, nat_le, Bool, false, not, List, [], ◌∷◌, ◌++◌, length, drop, if◌then◌else◌, Option, None, Some}
 use Rattle.std.specs.List.{AllPass, list_all}
-use Rattle.std.specs.FinSet as set
 use Rattle.md_graph.specs.declared.TheConstants.{NAMES}
-use Rattle.md_graph.specs.Sets.{NameSet}
+use Rattle.md_graph.specs.NameSet.{range}
 use Rattle.md_graph.specs.PlainGraph.{PlainGraph, pairs_where}
 use Rattle.md_graph6.specs.declared.fault.G6Kind.{G6Kind}
 use Rattle.md_graph6.specs.declared.fault.G6Kind.TheVariants.{BadByte, BadSize, TooManyVertices, Truncated, TrailingBytes, BadPadding, OtherFormat}
@@ -65,18 +64,13 @@ line_fault (byte ∷ rest) =
     if not (list_all is_group (byte ∷ rest)) then Some BadByte else
     size_fault (byte ∷ rest) (size_of (byte ∷ rest))
 
--- the numbers below n
-unfoldable pub numbers_below : ℕ → NameSet
-numbers_below zero = set.empty
-numbers_below (suc n) = set.insert (numbers_below n) n
-
 -- whether the bit of the pair i < j is 1
 abbrev pub is_edge : List ℕ → ℕ → ℕ → Bool
 is_edge body i j = bit body (pair_number i j) == 1
 
 -- the graph of n vertices that a body spells
 unfoldable pub graph_of_body : List ℕ → ℕ → PlainGraph
-graph_of_body body n = record { vertices = numbers_below n; edges = pairs_where (is_edge body) n }
+graph_of_body body n = record { vertices = range 0 n; edges = pairs_where (is_edge body) n }
 
 -- the same, of a size as `size_of` gives it; the graph without vertices where there is none
 unfoldable pub graph_of_sized : List ℕ → Option (ℕ × ℕ) → PlainGraph

@@ -1,10 +1,10 @@
 -- The graph6 text of a graph.
 -- Source: B. McKay, "Description of graph6, sparse6 and digraph6 encodings".
 use Rattle.std.specs.Prelude.{◌≡◌, ℕ, ◌<◌, ◌≤◌, Bool, List, [], ◌∷◌, ◌++◌, length, get_or, if◌then◌else◌}
-use Rattle.md_graph.specs.NameSet.{ascending}
+use Rattle.md_graph.specs.NameSet.{ascending, range}
 use Rattle.md_graph.specs.PlainGraph.{PlainGraph, adjacent, pairs_where}
 use Rattle.md_graph6.specs.Bits.{bit, pair_number}
-use Rattle.md_graph6.specs.Line.{SpellsLine, numbers_below}
+use Rattle.md_graph6.specs.Line.{SpellsLine}
 use Rattle.md_graph6.specs.Window.{AreGroups}
 
 -- the i-th vertex in ascending order, counted from 0
@@ -18,7 +18,7 @@ are_adjacent g i j = adjacent g (nth g i) (nth g j)
 -- the graph with the i-th vertex renamed to i
 abbrev pub renumbered : PlainGraph → PlainGraph
 renumbered g = record {
-  vertices = numbers_below (length (ascending g.vertices));
+  vertices = range 0 (length (ascending g.vertices));
   edges = pairs_where (are_adjacent g) (length (ascending g.vertices));
 }
 

@@ -1,5 +1,5 @@
-//! The bits of a graph6 line, one for each pair of vertices, read into a graph: 64 bits of 64 columns
-//! at once.
+//! The bits of a graph6 line, one for each pair of vertices, read into a graph: 64 bits of 64
+//! columns at once.
 ghost use Rattle.std.specs.Prelude.{◌≡◌, ℕ, ◌+◌, ◌-◌, ◌*◌, ◌/◌, ◌%◌, ◌^◌, ◌<◌, ◌≤◌, ◌&&◌, nat_lt, length, get_or, if◌then◌else◌};
 ghost use Rattle.std.specs.Int.{bit_at};
 ghost use Rattle.std.specs.List.{AllPass};
@@ -7,18 +7,18 @@ ghost use Rattle.md_graph.specs.PlainGraph.{empty_graph};
 ghost use Rattle.md_graph6.specs.Bits.{bit, pair_number, IsBodyOf};
 ghost use Rattle.md_graph6.specs.Line.{is_group};
 ghost use Rattle.md_graph6.specs.Window.{AreGroups, IsWindow};
-ghost use Rattle.md_graph6.specs.Filled.{HasVertices, IsBlock, IsFilled};
+ghost use Rattle.md_graph6.specs.Filled.{IsBlock, IsFilled};
 
 use md_graph::{Graph, NAMES};
 
-/// Each number below 64 with its six bits turned round.
+// Each number below 64 with its six bits turned round.
 const TURNED: [u8; 64] = [
     0, 32, 16, 48, 8, 40, 24, 56, 4, 36, 20, 52, 12, 44, 28, 60, 2, 34, 18, 50, 10, 42, 26, 58, 6,
     38, 22, 54, 14, 46, 30, 62, 1, 33, 17, 49, 9, 41, 25, 57, 5, 37, 21, 53, 13, 45, 29, 61, 3, 35,
     19, 51, 11, 43, 27, 59, 7, 39, 23, 55, 15, 47, 31, 63,
 ];
 
-/// Six bits turned round.
+// Six bits turned round.
 #[inline]
 pub(crate) fn turned(group: u64) -> u8
     requires { group < 64 }
@@ -28,7 +28,7 @@ pub(crate) fn turned(group: u64) -> u8
     TURNED[group as usize]
 }
 
-/// The six bits of a byte, the first in the lowest place.
+// The six bits of a byte, the first in the lowest place.
 #[inline]
 pub(crate) fn bits_of(byte: u8) -> u64
     requires low { 63 ≤ byte }
@@ -39,7 +39,7 @@ pub(crate) fn bits_of(byte: u8) -> u64
     turned((byte - 63) as u64) as u64
 }
 
-/// The bits of `low`, n of them, and those of `high` behind them.
+// The bits of `low`, n of them, and those of `high` behind them.
 #[inline]
 fn joined(low: u64, high: u64, n: u32) -> u64
     requires low { low < 2 ^ n }
@@ -50,7 +50,7 @@ fn joined(low: u64, high: u64, n: u32) -> u64
     low | high << n
 }
 
-/// The twelve bits of two bytes.
+// The twelve bits of two bytes.
 #[inline]
 fn two_groups(body: &[u8], at: usize) -> u64
     requires groups { AreGroups body.now }
@@ -60,7 +60,7 @@ fn two_groups(body: &[u8], at: usize) -> u64
     joined(bits_of(body[at]), bits_of(body[at + 1]), 6)
 }
 
-/// The sixty bits of ten bytes.
+// The sixty bits of ten bytes.
 #[inline]
 fn ten_groups(body: &[u8], at: usize) -> u64
     requires groups { AreGroups body.now }
@@ -73,7 +73,7 @@ fn ten_groups(body: &[u8], at: usize) -> u64
     joined(word, two_groups(body, at + 8), 48)
 }
 
-/// 64 bits of the body from bit `shift` of byte `at` on.
+// 64 bits of the body from bit `shift` of byte `at` on.
 #[inline]
 fn bits_inside(body: &[u8], at: usize, shift: u32) -> u64
     requires groups { AreGroups body.now }
@@ -86,7 +86,7 @@ fn bits_inside(body: &[u8], at: usize, shift: u32) -> u64
     first >> shift | second << (60 - shift)
 }
 
-/// Twelve bytes of the body from `at` on; behind its end they have no bit.
+// Twelve bytes of the body from `at` on; behind its end they have no bit.
 fn padded(body: &[u8], at: usize) -> [u8; 12]
     requires groups { AreGroups body.now }
     requires place { at < 2 ^ 62 }
@@ -103,7 +103,7 @@ fn padded(body: &[u8], at: usize) -> [u8; 12]
     twelve
 }
 
-/// 64 bits of the body from bit `place` on; behind the body they are 0.
+// 64 bits of the body from bit `place` on; behind the body they are 0.
 #[inline]
 pub(crate) fn bits_from(body: &[u8], place: usize) -> u64
     requires { AreGroups body.now }
@@ -117,7 +117,7 @@ pub(crate) fn bits_from(body: &[u8], place: usize) -> u64
     bits_inside(&padded(body, at), 0, shift)
 }
 
-/// The lowest `count` bits.
+// The lowest `count` bits.
 #[inline]
 pub(crate) fn low_bits(bits: u64, count: u32) -> u64
     ensures { (k : ℕ) → k < 64 → bit_at result k ≡ (if nat_lt k count then bit_at bits k else 0) }
@@ -128,7 +128,7 @@ pub(crate) fn low_bits(bits: u64, count: u32) -> u64
     bits
 }
 
-/// The place of the first bit of column j.
+// The place of the first bit of column j.
 #[inline]
 pub(crate) fn column_place(j: u32) -> usize
     requires { j < NAMES }
@@ -137,20 +137,21 @@ pub(crate) fn column_place(j: u32) -> usize
     j as usize * (j as usize).saturating_sub(1) / 2
 }
 
-/// The bits of column j from row `low` on, 64 at most: those of the rows above row j.
+// The bits of column j from row `low` on, 64 at most: those of the rows above row j.
 #[inline]
 fn column_bits(body: &[u8], j: u32, low: u32) -> u64
     requires name { j < NAMES }
     requires above { low ≤ j }
     requires groups { AreGroups body.now }
     ensures { (k : ℕ) → k < 64
-        → bit_at result k ≡ (if nat_lt (low + k) j then bit body.now (pair_number (low + k) j) else 0) }
+        → bit_at result k
+        ≡ (if nat_lt (low + k) j then bit body.now (pair_number (low + k) j) else 0) }
 {
     let bits = bits_from(body, column_place(j) + low as usize);
     low_bits(bits, j - low)
 }
 
-/// The bits of the columns from `high` on, 64 at most and those below n, each from row `low` on.
+// The bits of the columns from `high` on, 64 at most and those below n, each from row `low` on.
 fn block_bits(body: &[u8], n: u32, low: u32, high: u32) -> [u64; 64]
     requires few { n ≤ NAMES }
     requires inside { high < n }
@@ -165,18 +166,7 @@ fn block_bits(body: &[u8], n: u32, low: u32, high: u32) -> [u64; 64]
     block
 }
 
-/// Takes in the numbers below n as vertices.
-fn add_vertices(graph: &mut Graph, n: u32)
-    requires empty { graph.old ≡ empty_graph }
-    requires few { n ≤ NAMES }
-    ensures { HasVertices n graph.new }
-{
-    for v in 0..n {
-        graph.add_vertex(v);
-    }
-}
-
-/// Takes in the edges whose larger end is one of the 64 numbers from 64 `h` on.
+// Takes in the edges whose larger end is one of the 64 numbers from 64 `h` on.
 fn fill_columns(graph: &mut Graph, n: u32, body: &[u8], h: u32)
     requires few { n ≤ NAMES }
     requires inside { 64 * h < n }
@@ -190,15 +180,15 @@ fn fill_columns(graph: &mut Graph, n: u32, body: &[u8], h: u32)
     }
 }
 
-/// Fills the graph with the numbers below n as vertices and the edges whose bits are 1.
-/// Conditions: the graph has no vertices, n is at most the number of names, and each byte is from 63 to 126.
+// Fills the graph with the numbers below n as vertices and the edges whose bits are 1. Conditions:
+// the graph has no vertices, n is at most the number of names, and each byte is from 63 to 126.
 pub fn fill(graph: &mut Graph, n: u32, body: &[u8])
     requires empty { graph.old ≡ empty_graph }
     requires few { n ≤ NAMES }
     requires groups { AllPass is_group body.now }
     ensures { IsBodyOf body.now n graph.new }
 {
-    add_vertices(graph, n);
+    graph.add_range(0, n);
     for h in 0..(n + 63) / 64 {
         fill_columns(graph, n, body, h);
     }

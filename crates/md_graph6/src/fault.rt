@@ -1,8 +1,8 @@
 //! What may be wrong with a graph6 file.
 
-/// What is wrong with a line. A line's first fault is named, in the order: another format, a bad byte, a
-/// size that isn't all there, a size that is spelt too long, too many vertices, too few bytes, too many
-/// bytes, padding that isn't zero.
+/// What is wrong with a line. A line's first fault is named, in the order: another format, a bad
+/// byte, a size that isn't all there, a size that is spelt too long, too many vertices, too few
+/// bytes, too many bytes, padding that isn't zero.
 #[derive(Clone, Copy, Debug, PartialEq, Eq)]
 pub enum G6Kind {
     /// A byte is below 63 or above 126.

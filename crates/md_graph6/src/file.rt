@@ -1,14 +1,13 @@
-//! Whether a whole file is without fault.
-ghost use Rattle.std.specs.Prelude.{◌≡◌, length, IfOk, IfErr, None, Some};
-ghost use Rattle.md_graph6.specs.File.{first_fault, graphs_of};
+//! A whole file: its header, and whether it is without fault.
+ghost use Rattle.std.specs.Prelude.{◌≡◌, ◌≤◌, length, IfOk, IfErr, None, Some};
+ghost use Rattle.md_graph6.specs.File.{without_header, first_fault, graphs_of};
 
 use crate::fault::G6Fault;
 use crate::line::line_fault;
-use crate::reader::without_header;
 use md_text::{split_line, without_return};
 
-/// The number of graphs in a file. It refuses exactly where the file has a fault, and names the first one:
-/// the first faulty line, and of its faults the first in the order that `G6Kind` gives.
+/// The number of graphs in a file. It refuses exactly where the file has a fault, and names the
+/// first one: the first faulty line, and of its faults the first in the order that `G6Kind` gives.
 ///
 /// Source: B. McKay, "Description of graph6, sparse6 and digraph6 encodings".
 pub fn scan(bytes: &[u8]) -> Result<u64, G6Fault>
@@ -30,4 +29,12 @@ pub fn scan(bytes: &[u8]) -> Result<u64, G6Fault>
         rest = more;
     }
     Ok(count)
+}
+
+// The file without its header, if it has one.
+pub(crate) fn without_header(bytes: &[u8]) -> &[u8]
+    ensures value { result.now ≡ without_header bytes.now }
+    ensures shorter { length result.now ≤ length bytes.now }
+{
+    bytes.strip_prefix(b">>graph6<<").unwrap_or(bytes)
 }

@@ -10,16 +10,16 @@ use crate::body;
 use crate::fault::G6Kind;
 use md_graph::{Graph, NAMES};
 
-/// The byte that begins a size of four or of eight bytes.
+// The byte that begins a size of four or of eight bytes.
 const LONG: u8 = 126;
 
-/// The greatest size that one byte spells.
-const MOST_IN_ONE_BYTE: u64 = 62;
+// The greatest size that one byte spells.
+pub(crate) const MOST_IN_ONE_BYTE: u32 = 62;
 
-/// The greatest size that four bytes spell.
+// The greatest size that four bytes spell.
 const MOST_IN_FOUR_BYTES: u64 = 258_047;
 
-/// The 18 bits of the three bytes from `place` on.
+// The 18 bits of the three bytes from `place` on.
 fn eighteen(line: &[u8], place: usize) -> u64
     requires groups { AllPass is_group line.now }
     requires inside { place + 2 < length line.now }
@@ -32,7 +32,7 @@ fn eighteen(line: &[u8], place: usize) -> u64
     (high * 64 + middle) * 64 + low
 }
 
-/// How many bytes of a line spell its size, and the size; `None` where not all of them are there.
+// How many bytes of a line spell its size, and the size; `None` where not all of them are there.
 fn size(line: &[u8]) -> Option<(usize, u64)>
     requires some { 0 < length line.now }
     requires groups { AllPass is_group line.now }
@@ -54,14 +54,14 @@ fn size(line: &[u8]) -> Option<(usize, u64)>
     Some((8, eighteen(line, 2) * 262_144 + eighteen(line, 5)))
 }
 
-/// Whether fewer bytes would spell the size.
+// Whether fewer bytes would spell the size.
 fn is_too_long(taken: usize, n: u64) -> bool
     ensures { result ≡ is_too_long taken n }
 {
-    taken == 4 && n <= MOST_IN_ONE_BYTE || taken == 8 && n <= MOST_IN_FOUR_BYTES
+    taken == 4 && n <= u64::from(MOST_IN_ONE_BYTE) || taken == 8 && n <= MOST_IN_FOUR_BYTES
 }
 
-/// The number of pairs of n vertices.
+// The number of pairs of n vertices.
 fn pair_count(n: u64) -> usize
     requires { n ≤ NAMES }
     ensures value { result ≡ pair_count n }
@@ -70,7 +70,15 @@ fn pair_count(n: u64) -> usize
     (n * n.saturating_sub(1) / 2) as usize
 }
 
-/// Whether a bit behind those of the pairs is 1. They stand in the last byte.
+// How many bytes hold a bit for each pair of n vertices.
+pub(crate) fn body_length(n: u64) -> usize
+    requires { n ≤ NAMES }
+    ensures { result ≡ body_length n }
+{
+    pair_count(n).div_ceil(6)
+}
+
+// Whether a bit behind those of the pairs is 1. They stand in the last byte.
 fn is_padding_set(body: &[u8], n: u64) -> bool
     requires few { n ≤ NAMES }
     requires groups { AllPass is_group body.now }
@@ -84,7 +92,7 @@ fn is_padding_set(body: &[u8], n: u64) -> bool
     }
 }
 
-/// The first fault of a line of which `taken` bytes spell the size.
+// The first fault of a line of which `taken` bytes spell the size.
 fn body_fault(line: &[u8], taken: usize, n: u64) -> Option<G6Kind>
     requires groups { AllPass is_group line.now }
     requires short { taken ≤ 8 }
@@ -96,7 +104,7 @@ fn body_fault(line: &[u8], taken: usize, n: u64) -> Option<G6Kind>
     if n > u64::from(NAMES) {
         return Some(G6Kind::TooManyVertices);
     }
-    let end = taken + pair_count(n).div_ceil(6);
+    let end = taken + body_length(n);
     if line.len() < end {
         return Some(G6Kind::Truncated);
     }
@@ -109,14 +117,15 @@ fn body_fault(line: &[u8], taken: usize, n: u64) -> Option<G6Kind>
     None
 }
 
-/// Whether a line with this first byte is of another format.
+// Whether a line with this first byte is of another format.
 fn begins_other(first: u8) -> bool
     ensures { result ≡ begins_other first }
 {
     first == b':' || first == b';' || first == b'&'
 }
 
-/// Whether each byte is 63 with six bits added. The least and the greatest byte are found 16 bytes at a time.
+// Whether each byte is 63 with six bits added. The least and the greatest byte are found 16 bytes
+// at a time.
 fn are_groups(line: &[u8]) -> bool
     ensures { result ≡ list_all is_group line.now }
 {
@@ -129,7 +138,7 @@ fn are_groups(line: &[u8]) -> bool
     63 <= least && greatest <= 126
 }
 
-/// The first fault of a line; an empty one has none.
+// The first fault of a line; an empty one has none.
 pub fn line_fault(line: &[u8]) -> Option<G6Kind>
     ensures { result ≡ line_fault line.now }
 {
@@ -148,8 +157,8 @@ pub fn line_fault(line: &[u8]) -> Option<G6Kind>
     }
 }
 
-/// Fills the graph with the one that a line spells. Conditions: the line isn't empty and has no fault, and
-/// the graph has no vertices.
+// Fills the graph with the one that a line spells. Conditions: the line isn't empty and has no
+// fault, and the graph has no vertices.
 pub fn fill_line(graph: &mut Graph, line: &[u8])
     requires empty { graph.old ≡ empty_graph }
     requires some { 0 < length line.now }

@@ -3,8 +3,9 @@ ghost use Rattle.std.specs.Prelude.{◌≡◌, ◌<◌, ◌≤◌, [], ◌∷◌
 ghost use Rattle.std.specs.Bool.{OnTrue, OnFalse};
 ghost use Rattle.md_graph.specs.PlainGraph.{empty_graph};
 ghost use Rattle.md_graph6.specs.Line.{line_fault, graph_of_line};
-ghost use Rattle.md_graph6.specs.File.{without_header, stripped_lines, graphs_in, HasNoFault, first_fault, graphs_of};
+ghost use Rattle.md_graph6.specs.File.{stripped_lines, graphs_in, HasNoFault, first_fault, graphs_of};
 
+use crate::file::without_header;
 use crate::line::fill_line;
 use md_graph::Graph;
 use md_text::{split_line, without_return};
@@ -42,9 +43,9 @@ impl<'a> Lines<'a> {
         }
     }
 
-    /// Fills the graph with the first of the graphs, takes that off, and answers true. It answers false
-    /// exactly where no graph is left, and the graph then stays without vertices.
-    /// Condition: the graph has no vertices.
+    /// Fills the graph with the first of the graphs, takes that off, and answers true. It answers
+    /// false exactly where no graph is left, and the graph then stays without vertices. Condition:
+    /// the graph has no vertices.
     pub fn next(&mut self, graph: &mut Graph) -> bool
         requires { graph.old ≡ empty_graph }
         ensures first { OnTrue result (self.old ≡ graph.new ∷ self.new) }
@@ -62,15 +63,7 @@ impl<'a> Lines<'a> {
     }
 }
 
-/// The file without its header, if it has one.
-pub fn without_header(bytes: &[u8]) -> &[u8]
-    ensures value { result.now ≡ without_header bytes.now }
-    ensures shorter { length result.now ≤ length bytes.now }
-{
-    bytes.strip_prefix(b">>graph6<<").unwrap_or(bytes)
-}
-
-/// The first line that isn't empty, and what stands behind it; an empty one where there is none.
+// The first line that isn't empty, and what stands behind it; an empty one where there is none.
 fn next_line(text: &[u8]) -> (&[u8], &[u8])
     requires { HasNoFault (stripped_lines text.now) }
     ensures first { 0 < length result.0.now →

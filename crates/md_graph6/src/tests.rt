@@ -7,10 +7,10 @@ use md_graph::Graph;
 use std::process::Abort;
 use std::test::Fail;
 
-/// The number of vertices and the edges of a graph.
+// The number of vertices and the edges of a graph.
 type Wanted = (u32, &'static [(u32, u32)]);
 
-/// The next graph of the file has these vertices and edges.
+// The next graph of the file has these vertices and edges.
 fn gives(rt: &impl Abort, lines: &mut Lines, graph: &mut Graph, n: u32, edges: &[(u32, u32)])
     requires { graph.old ≡ empty_graph }
     ensures { graph.new ≡ empty_graph }
@@ -24,7 +24,7 @@ fn gives(rt: &impl Abort, lines: &mut Lines, graph: &mut Graph, n: u32, edges: &
     graph.clear();
 }
 
-/// The file spells these graphs.
+// The file spells these graphs.
 fn spells(rt: &impl Abort, graph: &mut Graph, bytes: &[u8], graphs: &[Wanted])
     requires { graph.old ≡ empty_graph }
     ensures { graph.new ≡ empty_graph }
@@ -40,7 +40,7 @@ fn spells(rt: &impl Abort, graph: &mut Graph, bytes: &[u8], graphs: &[Wanted])
     assert!(rt; !lines.next(graph));
 }
 
-/// The file has this first fault.
+// The file has this first fault.
 fn refuses(rt: &impl Abort, bytes: &[u8], kind: G6Kind, line: u64) {
     assert_eq!(rt; scan(bytes), Err(G6Fault { kind, line }));
 }
@@ -52,6 +52,7 @@ fn files_spell(rt: HostRuntime) -> Result<(), Fail> {
     spells(&rt, g, b"", &[]);
     spells(&rt, g, b">>graph6<<", &[]);
     spells(&rt, g, b"?\n", &[(0, &[])]);
+    spells(&rt, g, b"\r\n", &[]);
     spells(&rt, g, b"DQc\n", &[(5, &[(0, 2), (0, 4), (1, 3), (3, 4)])]);
     spells(&rt, g, b"DhO\n", &[(5, &[(0, 1), (1, 2), (2, 3), (1, 4)])]);
     spells(&rt, g, b">>graph6<<Ch\n", &[(4, &[(0, 1), (1, 2), (2, 3)])]);
@@ -74,6 +75,10 @@ fn files_spell(rt: HostRuntime) -> Result<(), Fail> {
 fn long_sizes_are_read(rt: HostRuntime) -> Result<(), Fail> {
     let mut graph = Graph::new(rt.alloc())?;
     let mut file = Vec::new(rt.alloc());
+    file.push(b'}')?;
+    file.resize(317, b'?')?;
+    spells(&rt, &mut graph, &file, &[(62, &[])]);
+    file.clear();
     file.extend_from_slice(b"~??~")?;
     file.resize(330, b'?')?;
     file.push(b'\n')?;
@@ -95,7 +100,11 @@ fn faults_are_named(rt: HostRuntime) {
     refuses(&rt, b"A__\n", G6Kind::TrailingBytes, 1);
     refuses(&rt, b"@\nB!\n", G6Kind::BadByte, 2);
     refuses(&rt, b":Fa@x^\n", G6Kind::OtherFormat, 1);
+    refuses(&rt, b";Fa@x^\n", G6Kind::OtherFormat, 1);
+    refuses(&rt, b"&DI?AO?\n", G6Kind::OtherFormat, 1);
     refuses(&rt, b"~~??????\n", G6Kind::BadSize, 1);
+    refuses(&rt, b"~~???}~~\n", G6Kind::BadSize, 1);
+    refuses(&rt, b"~~???~??\n", G6Kind::TooManyVertices, 1);
     refuses(&rt, b"~~~~~~~~\n", G6Kind::TooManyVertices, 1);
     refuses(&rt, b"~~?\n", G6Kind::Truncated, 1);
     refuses(&rt, b">>graph6<\n", G6Kind::BadByte, 1);

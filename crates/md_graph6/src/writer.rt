@@ -5,22 +5,21 @@ ghost use Rattle.std.specs.FinSet as set;
 ghost use Rattle.md_graph.specs.NameSet.{ascending};
 ghost use Rattle.md_graph6.specs.Bits.{bit, pair_number, body_length};
 ghost use Rattle.md_graph6.specs.Size.{size_text};
-ghost use Rattle.md_graph6.specs.File.{SpellsOnly, first_fault, graphs_of};
+ghost use Rattle.md_text.specs.Spelling.{SpellsOnly};
+ghost use Rattle.md_graph6.specs.File.{Spells, first_fault, graphs_of};
 ghost use Rattle.md_graph6.specs.Window.{AreGroups, IsPut};
 ghost use Rattle.md_graph6.specs.Written.{bit_if, nth, renumbered, IsWritten, IsTextOf};
 ghost use Rattle.md_graph6.specs.Text.{graph6_text};
 
 use crate::body::{bits_of, column_place, low_bits, turned};
+use crate::line::{MOST_IN_ONE_BYTE, body_length};
 use md_graph::{Graph, Memory, NAMES, Names};
 use std::alloc::Global;
 
-/// The byte of six bits that are 0.
+// The byte of six bits that are 0.
 const NO_BITS: u8 = 63;
 
-/// The greatest size that one byte spells.
-const MOST_IN_ONE_BYTE: u32 = 62;
-
-/// The byte of the lowest six bits of a word, the first bit in the lowest place.
+// The byte of the lowest six bits of a word, the first bit in the lowest place.
 #[inline]
 fn byte_of(bits: u64) -> u8
     ensures low { 63 ≤ result }
@@ -30,7 +29,7 @@ fn byte_of(bits: u64) -> u8
     NO_BITS + turned(bits & 63)
 }
 
-/// Sets one byte.
+// Sets one byte.
 #[inline]
 fn set_group(body: &mut [u8], at: usize, bits: u64)
     requires groups { AreGroups body.old }
@@ -40,7 +39,7 @@ fn set_group(body: &mut [u8], at: usize, bits: u64)
     body[at] = byte_of(bits);
 }
 
-/// Sets two bytes.
+// Sets two bytes.
 #[inline]
 fn set_two(body: &mut [u8], at: usize, bits: u64)
     requires groups { AreGroups body.old }
@@ -51,7 +50,7 @@ fn set_two(body: &mut [u8], at: usize, bits: u64)
     set_group(body, at + 1, bits >> 6);
 }
 
-/// Sets ten bytes.
+// Sets ten bytes.
 #[inline]
 fn set_ten(body: &mut [u8], at: usize, bits: u64)
     requires groups { AreGroups body.old }
@@ -65,7 +64,7 @@ fn set_ten(body: &mut [u8], at: usize, bits: u64)
     set_two(body, at + 8, bits >> 48);
 }
 
-/// Sets twelve bytes, to the lowest sixty bits of `low` and the lowest twelve of `high`.
+// Sets twelve bytes, to the lowest sixty bits of `low` and the lowest twelve of `high`.
 #[inline]
 fn set_twelve(body: &mut [u8], at: usize, low: u64, high: u64)
     requires groups { AreGroups body.old }
@@ -76,25 +75,27 @@ fn set_twelve(body: &mut [u8], at: usize, low: u64, high: u64)
     set_two(body, at + 10, high);
 }
 
-/// Copies what fits of twelve bytes to the end of the body, from `at` on.
+// Copies what fits of twelve bytes to the end of the body, from `at` on.
 fn copy_end(body: &mut [u8], at: usize, twelve: &[u8])
     requires inside { at < length body.old }
     requires end { length body.old ≤ at + 12 }
     requires twelve { length twelve.now ≡ 12 }
     ensures before { (k : ℕ) → k < at → get_or body.new k 63 ≡ get_or body.old k 63 }
-    ensures from { (k : ℕ) → at + k < length body.old → get_or body.new (at + k) 63 ≡ get_or twelve.now k 63 }
+    ensures from { (k : ℕ) → at + k < length body.old
+        → get_or body.new (at + k) 63 ≡ get_or twelve.now k 63 }
 {
     for i in at..body.len() {
         body[i] = twelve[i - at];
     }
 }
 
-/// Sets the last bytes of the body, as `set_twelve` does. Condition: bits behind its end are 0.
+// Sets the last bytes of the body, as `set_twelve` does. Condition: bits behind its end are 0.
 fn set_end(body: &mut [u8], at: usize, low: u64, high: u64)
     requires groups { AreGroups body.old }
     requires inside { at < length body.old }
     requires end { length body.old ≤ at + 12 }
-    requires room { (i : ℕ) → 6 * length body.old ≤ 6 * at + i → bit_at (high * 2 ^ 60 + low % 2 ^ 60) i ≡ 0 }
+    requires room { (i : ℕ) → 6 * length body.old ≤ 6 * at + i
+        → bit_at (high * 2 ^ 60 + low % 2 ^ 60) i ≡ 0 }
     ensures { IsPut body.old body.new at 12 (high * 2 ^ 60 + low % 2 ^ 60) }
 {
     let mut twelve = [NO_BITS; 12];
@@ -110,7 +111,8 @@ pub(crate) fn put_bits(body: &mut [u8], place: usize, bits: u64)
     requires blank { (k : ℕ) → place ≤ k → bit body.old k ≡ 0 }
     requires room { (k : ℕ) → 6 * length body.old ≤ place + k → bit_at bits k ≡ 0 }
     ensures groups { AreGroups body.new }
-    ensures bits { (k : ℕ) → bit body.new k ≡ (if nat_lt k place then bit body.old k else bit_at bits (k - place)) }
+    ensures bits { (k : ℕ)
+        → bit body.new k ≡ (if nat_lt k place then bit body.old k else bit_at bits (k - place)) }
 {
     let at = place / 6;
     let shift = (place % 6) as u32;
@@ -123,7 +125,8 @@ pub(crate) fn put_bits(body: &mut [u8], place: usize, bits: u64)
     set_end(body, at, low, high);
 }
 
-/// Puts column j behind the columns before it: its bits say which of the numbers below j are members.
+// Puts column j behind the columns before it: its bits say which of the numbers below j are
+// members.
 fn put_column(body: &mut [u8], j: u32, column: &Names)
     requires name { j < NAMES }
     requires groups { AreGroups body.old }
@@ -131,7 +134,8 @@ fn put_column(body: &mut [u8], j: u32, column: &Names)
     requires blank { (k : ℕ) → pair_number 0 j ≤ k → bit body.old k ≡ 0 }
     ensures groups { AreGroups body.new }
     ensures before { (k : ℕ) → k < pair_number 0 j → bit body.new k ≡ bit body.old k }
-    ensures column { (i : ℕ) → bit body.new (pair_number i j) ≡ bit_if (nat_lt i j && set.contains column.now i) }
+    ensures column { (i : ℕ)
+        → bit body.new (pair_number i j) ≡ bit_if (nat_lt i j && set.contains column.now i) }
 {
     let place = column_place(j);
     for w in 0..(j + 63) / 64 {
@@ -144,7 +148,7 @@ fn put_column(body: &mut [u8], j: u32, column: &Names)
     }
 }
 
-/// The number of vertices, and whether they are the numbers below it.
+// The number of vertices, and whether they are the numbers below it.
 fn shape(graph: &Graph) -> (u32, bool)
     ensures count { result.0 ≡ length (ascending graph.now.vertices) }
     ensures few { result.0 ≤ NAMES }
@@ -159,20 +163,22 @@ fn shape(graph: &Graph) -> (u32, bool)
     (count, numbered)
 }
 
-/// Takes i in if it is wanted.
+// Takes i in if it is wanted.
 fn insert_if(column: &mut Names, i: u32, wanted: bool)
     requires { i < NAMES }
-    ensures { (k : ℕ) → set.contains column.new k ≡ (((k == i) && wanted) || set.contains column.old k) }
+    ensures { (k : ℕ)
+        → set.contains column.new k ≡ (((k == i) && wanted) || set.contains column.old k) }
 {
     if wanted {
         column.insert(i);
     }
 }
 
-/// Makes `column` the set of the numbers i < j for which the i-th vertex is in the row.
+// Makes `column` the set of the numbers i < j for which the i-th vertex is in the row.
 fn gather(graph: &Graph, row: &Names, j: u32, column: &mut Names)
     requires { j ≤ length (ascending graph.now.vertices) }
-    ensures { (i : ℕ) → set.contains column.new i ≡ (nat_lt i j && set.contains row.now (nth graph.now i)) }
+    ensures { (i : ℕ)
+        → set.contains column.new i ≡ (nat_lt i j && set.contains row.now (nth graph.now i)) }
 {
     column.clear();
     let mut i = 0;
@@ -185,7 +191,7 @@ fn gather(graph: &Graph, row: &Names, j: u32, column: &mut Names)
     }
 }
 
-/// Puts the bits of a graph whose vertices are the numbers below n.
+// Puts the bits of a graph whose vertices are the numbers below n.
 fn put_numbered(body: &mut [u8], graph: &Graph, n: u32)
     requires count { n ≡ length (ascending graph.now.vertices) }
     requires few { n ≤ NAMES }
@@ -199,7 +205,7 @@ fn put_numbered(body: &mut [u8], graph: &Graph, n: u32)
     }
 }
 
-/// Puts the bits of any graph, the i-th vertex taken as i.
+// Puts the bits of any graph, the i-th vertex taken as i.
 fn put_any(body: &mut [u8], graph: &Graph)
     requires blank { IsWritten body.old graph.now 0 }
     requires room { pair_number 0 (length (ascending graph.now.vertices)) ≤ 6 * length body.old }
@@ -214,7 +220,7 @@ fn put_any(body: &mut [u8], graph: &Graph)
     }
 }
 
-/// Puts the bits of a graph of n vertices.
+// Puts the bits of a graph of n vertices.
 fn put_body(body: &mut [u8], graph: &Graph, n: u32, numbered: bool)
     requires count { n ≡ length (ascending graph.now.vertices) }
     requires few { n ≤ NAMES }
@@ -230,7 +236,7 @@ fn put_body(body: &mut [u8], graph: &Graph, n: u32, numbered: bool)
     put_any(body, graph);
 }
 
-/// Puts the bits of a graph of n vertices behind the size of a line.
+// Puts the bits of a graph of n vertices behind the size of a line.
 fn put_behind(line: &mut [u8], size: usize, graph: &Graph, n: u32, numbered: bool)
     requires count { n ≡ length (ascending graph.now.vertices) }
     requires few { n ≤ NAMES }
@@ -244,7 +250,7 @@ fn put_behind(line: &mut [u8], size: usize, graph: &Graph, n: u32, numbered: boo
     put_body(&mut line[size..], graph, n, numbered);
 }
 
-/// How many bytes spell the size n in its shortest spelling.
+// How many bytes spell the size n in its shortest spelling.
 fn size_length(n: u32) -> usize
     requires { n ≤ NAMES }
     ensures { result ≡ length (size_text n) }
@@ -252,7 +258,7 @@ fn size_length(n: u32) -> usize
     if n <= MOST_IN_ONE_BYTE { 1 } else { 4 }
 }
 
-/// Puts the size n in its shortest spelling behind a text that has room for it.
+// Puts the size n in its shortest spelling behind a text that has room for it.
 fn push_size(text: &mut Vec<u8>, n: u32)
     requires few { n ≤ NAMES }
     requires room { vec_len text.old + length (size_text n) ≤ vec_capacity text.old }
@@ -269,36 +275,29 @@ fn push_size(text: &mut Vec<u8>, n: u32)
     text.push_reserved((n % 64) as u8 + NO_BITS);
 }
 
-/// How many bytes hold a bit for each pair of n vertices.
-fn body_length(n: u32) -> usize
-    requires { n ≤ NAMES }
-    ensures { result ≡ body_length n }
-{
-    (n as usize * (n as usize).saturating_sub(1) / 2 + 5) / 6
-}
-
-/// The line of n vertices without edges, and room for one byte more.
+// The line of n vertices without edges, and room for one byte more.
 fn blank_line(alloc: Global, n: u32, size: usize) -> Result<Vec<u8>, Memory>
     requires few { n ≤ NAMES }
     requires size { size ≡ length (size_text n) }
     ensures items { IfOk result (λ text. text.items ≡ size_text n ++ replicate (body_length n) 63) }
     ensures room { IfOk result (λ text. vec_len text < vec_capacity text) }
 {
-    let end = size + body_length(n);
+    let end = size + body_length(u64::from(n));
     let mut text = Vec::with_capacity(alloc, end + 1)?;
     push_size(&mut text, n);
     text.resize(end, NO_BITS)?;
     Ok(text)
 }
 
-/// The graph6 line of the graph in the shortest spelling, and a line feed. The i-th vertex in ascending
-/// order, counted from 0, is i. As a file the text has no fault, and spells the graph so renumbered and no
-/// other. Error: want of memory.
-/// Source: B. McKay, "Description of graph6, sparse6 and digraph6 encodings".
+/// The graph6 line of the graph in the shortest spelling, and a line feed. The i-th vertex in
+/// ascending order, counted from 0, is i. As a file the text has no fault, and spells the graph so
+/// renumbered and no other. Error: want of memory. Source: B. McKay, "Description of graph6,
+/// sparse6 and digraph6 encodings".
 pub fn write(alloc: Global, graph: &Graph) -> Result<Vec<u8>, Memory>
     ensures bytes { IfOk result (λ text. text.items ≡ graph6_text graph.now) }
     ensures text { IfOk result (λ text. IsTextOf text.items graph.now) }
-    ensures spells { IfOk result (λ text. SpellsOnly text.items (renumbered graph.now ∷ [])) }
+    ensures spells { IfOk result (λ text.
+        SpellsOnly Spells text.items (renumbered graph.now ∷ [])) }
     ensures no_fault { IfOk result (λ text. first_fault text.items ≡ None) }
     ensures graphs { IfOk result (λ text. graphs_of text.items ≡ renumbered graph.now ∷ []) }
 {

@@ -1,11 +1,12 @@
 -- The children of a set of each kind: its components, those of its complement, or its maximal proper modules.
-use Rattle.std.proofs.Common.{◌≡◌, ℕ, Bool, true, false, not, ◌≢◌, sym, ◌∙◌, subst, inl, inr}
+use Rattle.std.proofs.Common.{◌≡◌, ◌↔◌, ℕ, Bool, true, false, not, ◌≢◌, sym, ◌∙◌, subst, inl, inr}
 use Rattle.std.specs.FinSet.{contains, union}
 use Rattle.md_graph.specs.Sets.{NameSet, Has, Lacks, Within, HasTwo, only_name}
 use Rattle.md_modules.specs.Adjacency.{IsAdjacency}
 use Rattle.md_modules.specs.Modules.{IsModule, Overlap, IsStrong, IsLeastModule, IsMaximalModule, IsMaximalStrong}
 use Rattle.md_modules.specs.Kinds.{IsSplit, IsPrime}
 use Rattle.md_modules.specs.Components.{IsComponent}
+use Rattle.md_modules.specs.Laws.{ChildrenByKind}
 use Rattle.std.proofs.lemmas.Bool.{cases_Bool, false_from_ne_true}
 use Rattle.md_graph.proofs.SetLemmas.{clash, only_has, Has-along, same_members, union_left, union_right, union_lacks}
 use Rattle.md_graph.proofs.Search.{decide_both, decide_not, decide_same, outside_or_within, larger_or_same, largest}
@@ -149,3 +150,19 @@ module _ {e : ℕ → ℕ → Bool} where
   pub least_proper_if_together : (s k m : NameSet) (u v : ℕ) → IsLeastModule e s u v k → IsMaximalModule e s m → Has m u → Has m v → k ≢ s
   least_proper_if_together s k m u v is max p q same =
       max.proper (same_members m s max.is_module.inside (λ x h. is.least m max.is_module p q x (Has-along s k (sym same) x h)))
+
+-- a child of a set that splits is a component, and a component is a child
+split_children : {e : ℕ → ℕ → Bool} → IsAdjacency e → (s part c : NameSet) (v : Bool) → IsSplit e s part v → IsMaximalStrong e s c ↔ ((x : ℕ) × IsComponent e s x c v)
+split_children adj s part c v split = (
+  λ child.
+      let member : (x : ℕ) × Has c x = child.is_strong.is_module.some in
+      (member.0, child_component adj s c part v member.0 split child member.1),
+  λ found. component_child adj s c part v found.0 split found.1,
+)
+
+pub children_of_kinds : {e : ℕ → ℕ → Bool} → IsAdjacency e → (s : NameSet) → ChildrenByKind e s
+children_of_kinds adj s = record {
+  parallel = λ split c. split_children adj s split.0 c false split.1;
+  series = λ split c. split_children adj s split.0 c true split.1;
+  prime = λ prime c. (child_maximal adj s c prime, maximal_child adj s c prime);
+}

@@ -8,35 +8,9 @@ use Rattle.md_modules.specs.Modules.{IsModule, IsLeastModule, IsLeastModuleOver}
 use Rattle.md_modules.specs.Components.{IsComponent}
 use Rattle.md_modules.specs.Searches.{IsReaching}
 use Rattle.std.proofs.lemmas.Bool.{false_from_ne_true, true_from_ne_false}
-use Rattle.md_graph.proofs.SetLemmas.{clash, only_has, of_only, only_lacks, same_name, remove_left, of_remove, of_union_lacks, of_union, minus_has, of_minus, minus_lacks, of_minus_lacks, lacks_within}
-use Rattle.md_graph.proofs.Search.{decide_test}
+use Rattle.md_graph.proofs.SetLemmas.{clash, only_has, of_only, only_lacks, same_name, remove_left, of_remove, minus_has, of_minus, minus_lacks, of_minus_lacks, looked_at, rest_lacks, taken_then}
+use Rattle.md_graph.proofs.Search.{alike_unless}
 use Rattle.md_modules.proofs.Components.{other_value, closed_follow}
-
--- a name that is out of the new todo is out of the old one, or was looked at, and wasn't taken in this turn
-looked_at : (todo new : NameSet) (w y : ℕ) → Lacks (union (remove todo w) new) y → Lacks new y × ((y ≡ w) ⊎ Lacks todo y)
-looked_at todo new w y l =
-    let two : Lacks (remove todo w) y × Lacks new y = of_union_lacks (remove todo w) new y l in
-    (two.1, elim (same_name y w) [ inl same ↦ inl same | inr differs ↦ inr (false_from_ne_true _ (λ h. clash (remove_left todo w y differs h) two.0)) ])
-
--- what the rest of left is without new
-left_before : (left new : NameSet) (y : ℕ) → Lacks (difference left new) y → Lacks left y ⊎ Has new y
-left_before left new y l = of_minus_lacks left new y l
-
--- the parts that a turn leaves
-rest_lacks : (left new : NameSet) (y : ℕ) → Lacks left y → Lacks (difference left new) y
-rest_lacks left new y l = lacks_within (difference left new) left (λ z h. (of_minus left new z h).0) y l
-
-taken_then : (s left todo new : NameSet) (w : ℕ) → Within left s → ((y : ℕ) → Has todo y → Has s y × Lacks left y) → ((y : ℕ) → Has new y → Has left y) →
-    (y : ℕ) → Has (union (remove todo w) new) y → Has s y × Lacks (difference left new) y
-taken_then s left todo new w inside taken of_new y h =
-    elim (of_union (remove todo w) new y h) [
-      | inl i ↦ let t : Has s y × Lacks left y = taken y (of_remove todo w y i).1 in (t.0, rest_lacks left new y t.1)
-      | inr j ↦ (inside y (of_new y j), minus_lacks left new y j)
-    ]
-
--- tests that don't differ are equal
-pub alike_unless : (a b : Bool) → ((a ≡ b → ⊥) → ⊥) → a ≡ b
-alike_unless a b n = elim (decide_test a b) [ inl same ↦ same | inr differ ↦ absurd (n differ) ]
 
 -- The least module that holds begun, a member v of which is fixed: each turn takes the names left that tell v and w apart.
 pub record IsGrowing (e : ℕ → ℕ → Bool) (s : NameSet) (v : ℕ) (begun left todo : NameSet) : Type 0 where
@@ -75,7 +49,7 @@ module _ {e : ℕ → ℕ → Bool} where
     start = (is.start.0, rest_lacks left new x is.start.1);
     inside = λ y k. is.inside y (of_minus left new y k).0;
     taken = taken_then s left todo new w is.inside is.taken (λ y k. (of_new y k).0);
-    least = λ part closed k y hs l. elim (left_before left new y l) [
+    least = λ part closed k y hs l. elim (of_minus_lacks left new y l) [
       | inl o ↦ is.least part closed k y hs o
       | inr i ↦ closed_follow s part v closed w y (is.least part closed k w (is.taken w hw).0 (is.taken w hw).1) hs (of_new y i).1
     ];
@@ -84,7 +58,7 @@ module _ {e : ℕ → ℕ → Bool} where
         let z : Has left y × Lacks new y = of_minus left new y k in
         elim out.1 [
           | inl same ↦ ap (λ b. e b y) same ∙ other_value (e w y) v (λ c. clash (new_has y z.0 c) z.1)
-          | inr o ↦ is.looked a hs (elim (left_before left new a l) [ inl p ↦ p | inr i ↦ clash i out.0 ]) o y z.0
+          | inr o ↦ is.looked a hs (elim (of_minus_lacks left new a l) [ inl p ↦ p | inr i ↦ clash i out.0 ]) o y z.0
         ];
   }
 
@@ -110,7 +84,7 @@ module _ {e : ℕ → ℕ → Bool} where
     start = (is.start.0, rest_lacks left new x is.start.1);
     inside = λ y k. is.inside y (of_minus left new y k).0;
     taken = λ y k. (is.inside y ((sees y).0 k).0, minus_lacks left new y k);
-    least = λ part closed k y hs l. elim (left_before left new y l) [
+    least = λ part closed k y hs l. elim (of_minus_lacks left new y l) [
       | inl o ↦ is.least part closed k y hs o
       | inr i ↦
           let seen : (t : ℕ) × Has (difference s left) t × (e y t ≡ not v) = ((sees y).0 i).1 in
@@ -119,7 +93,7 @@ module _ {e : ℕ → ℕ → Bool} where
     ];
     looked = λ a hs l t y k.
         let z : Has left y × Lacks new y = of_minus left new y k in
-        elim (left_before left new a l) [
+        elim (of_minus_lacks left new a l) [
           | inl o ↦ other_value (e a y) v (λ c. clash ((sees y).1 (z.0, (a, minus_has s left a hs o, adj.symmetric y a ∙ c))) z.1)
           | inr i ↦ clash i t
         ];
@@ -172,7 +146,7 @@ module _ {e : ℕ → ℕ → Bool} where
     start = minus_has left new v is.start (false_from_ne_true _ (λ k. (of_new v k).1 refl));
     inside = λ y k. is.inside y (of_minus left new y k).0;
     taken = taken_then s left todo new w is.inside is.taken (λ y k. (of_new y k).0);
-    whole = λ y hs l m module_is mv my. elim (left_before left new y l) [
+    whole = λ y hs l m module_is mv my. elim (of_minus_lacks left new y l) [
       | inl o ↦ is.whole y hs o m module_is mv my
       | inr i ↦ is.whole w (is.taken w hw).0 (is.taken w hw).1 m module_is mv
           (true_from_ne_false _ (λ out. (of_new y i).1 (module_is.alike y v w my mv (is.taken w hw).0 out)))
@@ -182,7 +156,7 @@ module _ {e : ℕ → ℕ → Bool} where
         let z : Has left y × Lacks new y = of_minus left new y k in
         elim out.1 [
           | inl same ↦ ap (λ b. e b y) same ∙ alike_unless (e w y) (e w v) (λ c. clash (new_has y z.0 c) z.1) ∙ ap (λ b. e b v) (sym same)
-          | inr o ↦ is.looked a hs (elim (left_before left new a l) [ inl p ↦ p | inr i ↦ clash i out.0 ]) o y z.0
+          | inr o ↦ is.looked a hs (elim (of_minus_lacks left new a l) [ inl p ↦ p | inr i ↦ clash i out.0 ]) o y z.0
         ];
   }
 
@@ -203,7 +177,7 @@ module _ {e : ℕ → ℕ → Bool} where
       begins = λ y k. let t : Has s y × Lacks left y = is.begins y k in (t.0, rest_lacks left new y t.1);
       inside = λ y k. is.inside y (of_minus left new y k).0;
       taken = taken_then s left todo new w is.inside is.taken (λ y k. (of_new y k).0);
-      least = λ m module_is holds y hs l. elim (left_before left new y l) [
+      least = λ m module_is holds y hs l. elim (of_minus_lacks left new y l) [
         | inl o ↦ is.least m module_is holds y hs o
         | inr i ↦ true_from_ne_false _ (λ out. (of_new y i).1 (adj.symmetric v y
             ∙ module_is.alike v w y (holds v is.start) (is.least m module_is holds w (is.taken w hw).0 (is.taken w hw).1) hs out ∙ adj.symmetric y w))
@@ -213,7 +187,7 @@ module _ {e : ℕ → ℕ → Bool} where
           let z : Has left y × Lacks new y = of_minus left new y k in
           elim out.1 [
             | inl same ↦ alike_unless (e v y) (e w y) (λ c. clash (new_has y z.0 c) z.1) ∙ ap (λ b. e b y) (sym same)
-            | inr o ↦ is.looked a hs (elim (left_before left new a l) [ inl p ↦ p | inr i ↦ clash i out.0 ]) o y z.0
+            | inr o ↦ is.looked a hs (elim (of_minus_lacks left new a l) [ inl p ↦ p | inr i ↦ clash i out.0 ]) o y z.0
           ];
     }
 

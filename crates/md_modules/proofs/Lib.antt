@@ -6,6 +6,7 @@ pub mod Paths
 pub mod Quotients
 pub mod Complement
 pub mod Growth
-pub mod Walks
 pub mod PathSearch
 pub mod Turns
+pub mod ClassLists
+pub mod ClassLemmas

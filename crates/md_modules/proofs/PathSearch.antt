@@ -2,7 +2,7 @@
 use Rattle.std.proofs.Common.{◌≡◌, ℕ, ◌<◌, ◌≤◌, Bool, true, false, not, IsTrue, ◌↔◌, ◌≢◌, List, ◌∷◌, refl, sym, ◌∙◌, ap, subst, inl, inr, arith}
 use Rattle.std.proofs.lemmas.Bool.{cases_lt, false_from_ne_true}
 use Rattle.std.specs.Prelude.{Option, Some, None, IfSome, IfNone}
-use Rattle.std.specs.FinSet.{contains, empty, union, difference, intersection, len}
+use Rattle.std.specs.FinSet.{contains, empty, union, difference, intersection}
 use Rattle.md_graph.specs.NameSet.{NoneFrom, IsLeastFrom}
 use Rattle.md_graph.specs.PlainGraph.{PlainGraph, IsGraph, adjacent, neighbours}
 use Rattle.md_graph.proofs.GraphLemmas.{adjacent_sym, adjacent_self, adjacent_ends, contains-neighbours}
@@ -13,10 +13,9 @@ use Rattle.md_modules.specs.Components.{IsComponent}
 use Rattle.md_modules.specs.InducedPaths.{IsInducedPath, HasPathEdges, IsOneOf, IsInducedPathWith}
 use Rattle.md_modules.specs.PathSearch.{ToldApart, IsPathOf}
 use Rattle.md_modules.specs.declared.induced_paths.P4.{P4}
-use Rattle.md_graph.proofs.SetLemmas.{clash, empty_lacks, union_left, union_right, of_union, meet_has, of_meet, of_meet_lacks, minus_has, of_minus, of_minus_lacks, minus_lacks, Has-along}
-use Rattle.md_graph.proofs.Search.{len_proper}
+use Rattle.md_graph.proofs.SetLemmas.{clash, empty_lacks, union_left, union_right, of_union, meet_has, of_meet, of_meet_lacks, minus_has, of_minus, of_minus_lacks, Has-along, none_lacks}
 use Rattle.md_modules.proofs.Components.{closed_follow, component_unsplit, crossing_pair}
-use Rattle.md_modules.proofs.Walks.{Walked, Walked-more, Walked-map}
+use Rattle.md_graph.proofs.Walks.{Walked, Walked-more, Walked-map}
 
 -- ---- options
 
@@ -193,14 +192,6 @@ Searched-more g names others value left part rest y before is is_rest none = rec
 pub none_here : (s : NameSet) → NoneFrom s 0 → (w : ℕ) → Has s w → ⊥
 none_here s none w h = let low : w < 0 = none w h in omega arith
 
-pub none_left : (s : NameSet) → NoneFrom s 0 → (w : ℕ) → Lacks s w
-none_left s none w = false_from_ne_true _ (none_here s none w)
-
-pub left_smaller : (left part rest : NameSet) (y : ℕ) → Has left y → Has part y → rest ≡ difference left part → len rest < len left
-left_smaller left part rest y hl hp is_rest =
-    len_proper rest left y (λ z h. (of_minus left part z (Has-along rest _ is_rest z h)).0) hl
-    (ap (λ s. contains s y) is_rest ∙ minus_lacks left part y hp)
-
 -- ---- who tells members of a part apart
 
 -- o is in some where m sees it, and not in all where m doesn't
@@ -287,7 +278,7 @@ module _ {g : PlainGraph} (is_graph : IsGraph g) (m : ℕ) (row rest both : Name
 
   pub none_apart : (value : Bool) → value ≡ true → both ≡ difference rest row → NoneFrom both 0 → (z : ℕ) → Has rest z → adjacent g m z ≡ not value → ⊥
   none_apart value is is_both none z h mz =
-      clash (Has-along _ both (sym is_both) z (minus_has rest row z h (near_is is_graph m row is_row z ∙ mz ∙ ap not is))) (none_left both none z)
+      clash (Has-along _ both (sym is_both) z (minus_has rest row z h (near_is is_graph m row is_row z ∙ mz ∙ ap not is))) (none_lacks both none z)
 
   pub found_joined : (value : Bool) → value ≡ false → both ≡ intersection rest row → (z : ℕ) → IsLeastFrom both 0 z → Has rest z × (adjacent g m z ≡ not value)
   found_joined value is is_both z least =
@@ -296,4 +287,4 @@ module _ {g : PlainGraph} (is_graph : IsGraph g) (m : ℕ) (row rest both : Name
 
   pub none_joined : (value : Bool) → value ≡ false → both ≡ intersection rest row → NoneFrom both 0 → (z : ℕ) → Has rest z → adjacent g m z ≡ not value → ⊥
   none_joined value is is_both none z h mz =
-      clash (Has-along _ both (sym is_both) z (meet_has rest row z h (near_is is_graph m row is_row z ∙ mz ∙ ap not is))) (none_left both none z)
+      clash (Has-along _ both (sym is_both) z (meet_has rest row z h (near_is is_graph m row is_row z ∙ mz ∙ ap not is))) (none_lacks both none z)

@@ -5,7 +5,7 @@ use Rattle.md_graph.specs.Sets.{NameSet, Has, Lacks, Within, Disjoint, HasSome, 
 use Rattle.md_modules.specs.Adjacency.{IsAdjacency}
 use Rattle.md_modules.specs.Modules.{IsModule, IsMaximalModule, HasTrivialModulesAlone}
 use Rattle.md_modules.specs.Kinds.{IsSplit, IsPrime}
-use Rattle.md_modules.specs.Quotients.{IsQuotient, IsPartition, class}
+use Rattle.md_modules.specs.Quotients.{IsQuotient, IsModularPartition, class}
 use Rattle.md_modules.specs.InducedPaths.{IsInducedPath, HasInducedPath}
 use Rattle.md_modules.specs.Laws.{MaximalModules, PrimeHasMaximalModules}
 use Rattle.std.proofs.lemmas.Bool.{cases_Bool, false_from_ne_true}
@@ -32,7 +32,7 @@ lifted s rep k = retain s (λ x. contains k (rep x))
 pub not_same_in : (k : NameSet) (x y : ℕ) → Has k x → Lacks k y → x ≢ y
 not_same_in k x y h l same = clash (subst (Has k) same h) l
 
-module _ {e : ℕ → ℕ → Bool} (adj : IsAdjacency e) (s r : NameSet) (rep : ℕ → ℕ) (part : IsPartition e s r rep) where
+module _ {e : ℕ → ℕ → Bool} (adj : IsAdjacency e) (s r : NameSet) (rep : ℕ → ℕ) (part : IsModularPartition e s r rep) where
   own_class : (p : ℕ) → Has r p → Has (class s rep p) p
   own_class p h = class_has s rep p p (part.inside p h) (part.own p h)
 
@@ -268,7 +268,7 @@ module _ (e : ℕ → ℕ → Bool) (s : NameSet) where
             let m : (m : NameSet) × IsMaximalModule e s m × Has m p = maximal_of s p prime.two (quotient.inside p h) in
             subst (IsMaximalModule e s) (sym (class_same p m.0 h m.1 m.2)) m.1
 
-        partition : IsPartition e s r rep
+        partition : IsModularPartition e s r rep
         partition = record {
           inside = quotient.inside;
           leads = λ x h. (fits x h).0;
@@ -324,7 +324,7 @@ module _ (e : ℕ → ℕ → Bool) (s : NameSet) where
           y = maximal_leaves s (class s rep (rep x)) cx
 
       -- each quotient of a prime set is a partition into its maximal proper modules
-      pub quotient_partition : (rep : ℕ → ℕ) × IsPartition e s r rep × ((p : ℕ) → Has r p → IsMaximalModule e s (class s rep p))
+      pub quotient_partition : (rep : ℕ → ℕ) × IsModularPartition e s r rep × ((p : ℕ) → Has r p → IsMaximalModule e s (class s rep p))
       quotient_partition = (represent.0, partition represent.0 represent.1, class_maximal represent.0 represent.1)
 
       pub quotient_trivial : HasTrivialModulesAlone e r

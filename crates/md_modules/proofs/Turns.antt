@@ -1,10 +1,8 @@
 -- What the functions that search answer, from what they call: sets by their members, adjacency by rows, and the turns of a search.
-use Rattle.std.proofs.Common.{◌≡◌, ◌<◌, ◌≤◌, ◌+◌, ◌↔◌, List, [], ◌∷◌, ℕ, Bool, true, false, not, ◌≢◌, ◌⊎◌, refl, sym, ◌∙◌, ap, ap₂, subst, inl, inr, arith, Option, Some, None, IfSome, IfNone}
+use Rattle.std.proofs.Common.{◌≡◌, ◌↔◌, ℕ, Bool, true, false, not, ◌≢◌, ◌⊎◌, refl, sym, ◌∙◌, ap, ap₂, subst, inl, inr, Option, Some, None, IfSome, IfNone}
 use Rattle.std.specs.Option.{is_some}
-use Rattle.std.specs.FinSet.{contains, empty, insert, remove, union, intersection, difference, len}
-use Rattle.md_graph.specs.declared.TheConstants.{NAMES}
-use Rattle.md_graph.specs.NameSet.{NoneFrom, IsLeastFrom, AllBelow, ascending, ascending_from, told_apart}
-use Rattle.md_graph.proofs.NameLemmas.{walk_turn, walk_more, walk_end}
+use Rattle.std.specs.FinSet.{contains, empty, insert, remove, union, intersection, difference}
+use Rattle.md_graph.specs.NameSet.{NoneFrom, IsLeastFrom, told_apart}
 use Rattle.md_graph.specs.PlainGraph.{PlainGraph, IsGraph, adjacent, neighbours}
 use Rattle.md_graph.proofs.GraphLemmas.{adjacent_sym, adjacent_self, contains-neighbours}
 use Rattle.md_graph.specs.Sets.{NameSet, Has, Lacks, Within, Disjoint, only_name}
@@ -15,51 +13,11 @@ use Rattle.md_modules.specs.Components.{IsComponent}
 use Rattle.md_modules.specs.Searches.{IsReaching}
 use Rattle.md_modules.specs.Seen.{seen_as}
 use Rattle.std.proofs.lemmas.Bool.{cases_Bool, true_from_ne_false, false_from_ne_true, not-true, not-false}
-use Rattle.md_graph.proofs.SetLemmas.{clash, empty_lacks, insert_new, insert_old, of_insert, remove_left, of_remove, meet_has, of_meet, union_left, union_right, of_union, only_has, of_only, only_lacks, minus_has, of_minus, minus_lacks, same_members, lacks_within, Has-along}
-use Rattle.md_graph.proofs.Search.{search_falls, len_minus, len_fewer, some_len}
+use Rattle.md_graph.proofs.SetLemmas.{clash, empty_lacks, insert_new, insert_old, of_insert, meet_has, of_meet, union_left, union_right, of_union, only_has, of_only, minus_has, of_minus, minus_lacks, same_members, Has-along, remove_is, none_lacks, empty_if, if_empty, lacks_along, along_two, minus_shared, meet_unshared, minus_twice, only_new, told_value, value_told}
+use Rattle.md_graph.proofs.Search.{alike_unless}
 use Rattle.md_modules.proofs.Modules.{single_module}
 use Rattle.md_modules.proofs.Components.{component_unsplit, unsplit_component}
-use Rattle.md_modules.proofs.Growth.{alike_unless, IsGrowing, IsGoingBack, reach_start, reach_turn, reach_idle, reach_back, reach_end, grow_start, grow_turn, grow_end, back_start, back_turn, back_end, least_of_two}
-
--- ---- sets
-
-pub remove_is : (s : NameSet) (x : ℕ) → remove s x ≡ difference s (only_name x)
-remove_is s x = same_members _ _
-    (λ q h. minus_has s (only_name x) q (of_remove s x q h).1 (only_lacks x q (of_remove s x q h).0))
-    (λ q h. remove_left s x q (λ e. clash (subst (Has (only_name x)) (sym e) (only_has x)) (of_minus s (only_name x) q h).1) (of_minus s (only_name x) q h).0)
-
-pub none_lacks : (s : NameSet) → NoneFrom s 0 → (y : ℕ) → Lacks s y
-none_lacks s none y = false_from_ne_true _ (λ h. let b : y < 0 = none y h in omega arith)
-
-pub empty_if : (s : NameSet) → s ≡ empty → (y : ℕ) → Lacks s y
-empty_if s e y = ap (λ t. contains t y) e ∙ empty_lacks y
-
-pub if_empty : (s : NameSet) → ((y : ℕ) → Lacks s y) → s ≡ empty
-if_empty s none = same_members s empty (λ y h. clash h (none y)) (λ y h. clash h (empty_lacks y))
-
--- a set that took in another one, and had no member before
-pub taken_whole : (s none t : NameSet) → none ≡ empty → t ≡ union none s → t ≡ s
-taken_whole s none t is_none is = is ∙ same_members _ _
-    (λ y h. elim (of_union none s y h) [ inl o ↦ clash o (empty_if none is_none y) | inr i ↦ i ])
-    (λ y h. union_right none s y h)
-
--- what is told apart from a set is the rest of it, for a part
-pub flipped_part : (s t : NameSet) → Within t s → told_apart t s ≡ difference s t
-flipped_part s t inside = same_members _ _
-    (λ y h. elim (of_union (difference t s) (difference s t) y h) [
-      | inl o ↦ let two : Has t y × Lacks s y = of_minus t s y o in clash (inside y two.0) two.1
-      | inr i ↦ i
-    ])
-    (λ y h. union_right (difference t s) (difference s t) y h)
-
-pub flipped_along : (s t u : NameSet) → Within t s → u ≡ told_apart t s → u ≡ difference s t
-flipped_along s t u inside is = is ∙ flipped_part s t inside
-
-pub lacks_along : (s t : NameSet) → s ≡ t → (y : ℕ) → Lacks t y → Lacks s y
-lacks_along s t e y l = ap (λ w. contains w y) e ∙ l
-
-pub along_two : (P : NameSet → NameSet → Type 0) (a b a' b' : NameSet) → a' ≡ a → b' ≡ b → P a b → P a' b'
-along_two P a b a' b' ea eb p = subst (P a') (sym eb) (subst (λ t. P t b) (sym ea) p)
+use Rattle.md_modules.proofs.Growth.{IsGrowing, IsGoingBack, reach_start, reach_turn, reach_idle, reach_back, reach_end, grow_start, grow_turn, grow_end, back_start, back_turn, back_end, least_of_two}
 
 -- ---- adjacency
 
@@ -130,18 +88,6 @@ module _ {g : PlainGraph} (graph : IsGraph g) where
 
 -- ---- moves
 
--- to leave out t is to leave out what is in t
-minus_shared : (s t : NameSet) → difference s t ≡ difference s (intersection s t)
-minus_shared s t = same_members _ _
-    (λ q h. let two : Has s q × Lacks t q = of_minus s t q h in minus_has s (intersection s t) q two.0 (false_from_ne_true _ (λ k. clash (of_meet s t q k).1 two.1)))
-    (λ q h. let two : Has s q × Lacks (intersection s t) q = of_minus s (intersection s t) q h in minus_has s t q two.0 (false_from_ne_true _ (λ k. clash (meet_has s t q two.0 k) two.1)))
-
--- to keep what is in t is to leave out the rest
-meet_unshared : (s t : NameSet) → intersection s t ≡ difference s (difference s t)
-meet_unshared s t = same_members _ _
-    (λ q h. let two : Has s q × Has t q = of_meet s t q h in minus_has s (difference s t) q two.0 (false_from_ne_true _ (λ k. clash two.1 (of_minus s t q k).1)))
-    (λ q h. let two : Has s q × Lacks (difference s t) q = of_minus s (difference s t) q h in meet_has s t q two.0 (true_from_ne_false _ (λ l. clash (minus_has s t q two.0 l) two.1)))
-
 pub moved_shared : (g : PlainGraph) (w : ℕ) (v : Bool) (left row left' todo todo' : NameSet) → v ≡ true → row ≡ neighbours g w → left' ≡ difference left row → todo' ≡ union todo (intersection left row) →
     (left' ≡ difference left (seen_as g w v left)) × (todo' ≡ union todo (seen_as g w v left))
 moved_shared g w v left row left' todo todo' is_true is_row is_left is_todo = (
@@ -155,9 +101,6 @@ moved_unshared g w v left row left' todo todo' is_false is_row is_left is_todo =
   is_left ∙ meet_unshared left row ∙ ap (λ r. difference left (difference left r)) is_row ∙ ap (λ b. difference left (seen_as g w b left)) (sym is_false),
   is_todo ∙ ap (λ r. union todo (difference left r)) is_row ∙ ap (λ b. union todo (seen_as g w b left)) (sym is_false),
 )
-
-pub union_along : (a b new t : NameSet) → b ≡ a → t ≡ union b new → t ≡ union a new
-union_along a b new t is e = e ∙ ap (λ s. union s new) is
 
 -- the rest of those that are told apart
 pub rest_apart : (g : PlainGraph) (v w : ℕ) (left first second left' : NameSet) → first ≡ neighbours g v → second ≡ neighbours g w → left' ≡ difference left (told_apart first second) → left' ≡ difference left (apart_in g v w left)
@@ -182,28 +125,8 @@ of_not_like true false p q = clash refl q
 of_not_like false true p q = clash q refl
 of_not_like false false p q = clash p refl
 
-minus_twice : (s left into : NameSet) → Within left s → into ≡ difference s left → difference s into ≡ left
-minus_twice s left into part is = same_members _ _
-    (λ y h.
-    let two : Has s y × Lacks into y = of_minus s into y h in
-    true_from_ne_false _ (λ l. clash (Has-along _ _ (sym is) y (minus_has s left y two.0 l)) two.1))
-    (λ y h. minus_has s into y (part y h) (lacks_along into _ is y (minus_lacks s left y h)))
-
 pub back_fixed : (s left into : NameSet) (v : ℕ) → Within left s → into ≡ difference s left → Has left v → Has (difference s into) v
 back_fixed s left into v part is h = Has-along _ _ (sym (minus_twice s left into part is)) v h
-
-pub pair_within : (s begun : NameSet) (u v : ℕ) → begun ≡ insert (only_name u) v → Has s u → Has s v → Within begun s
-pair_within s begun u v is hu hv y h = elim (of_insert (only_name u) v y (Has-along _ _ is y h)) [
-  | inl same ↦ subst (Has s) (sym same) hv
-  | inr old ↦ subst (Has s) (sym (of_only u y old)) hu
-]
-
-pub pair_among : (begun todo : NameSet) (u v : ℕ) → begun ≡ insert (only_name u) v → todo ≡ only_name v → Within todo begun
-pair_among begun todo u v is is_todo y h =
-    Has-along _ _ (sym is) y (subst (Has (insert (only_name u) v)) (sym (of_only v y (Has-along _ _ is_todo y h))) (insert_new (only_name u) v))
-
-pub pair_first : (begun : NameSet) (u v : ℕ) → begun ≡ insert (only_name u) v → Has begun u
-pair_first begun u v is = Has-along _ _ (sym is) u (insert_old (only_name u) v u (only_has u))
 
 -- where nothing is to be looked at but v itself, and the members of begun are u and v
 pub pair_seen : (e : ℕ → ℕ → Bool) (begun todo : NameSet) (u v : ℕ) → begun ≡ insert (only_name u) v → todo ≡ only_name v → (w : ℕ) → Has begun w → Lacks todo w → (y : ℕ) → e u y ≡ e w y
@@ -212,32 +135,9 @@ pair_seen e begun todo u v is is_todo w h l y = elim (of_insert (only_name u) v 
   | inr old ↦ ap (λ b. e b y) (sym (of_only u w old))
 ]
 
--- what is taken anew, where nothing else is kept
-only_new : (left new none : NameSet) → none ≡ empty → Within new left → union none (intersection left new) ≡ new
-only_new left new none is inside = same_members _ _
-    (λ y h. elim (of_union none (intersection left new) y h) [ inl o ↦ clash o (empty_if none is y) | inr i ↦ (of_meet left new y i).1 ])
-    (λ y h. union_right none (intersection left new) y (meet_has left new y (inside y h) h))
-
--- fewer names are left and to be looked at
-pub back_falls : (left new none left' todo' : NameSet) → none ≡ empty → Within new left → left' ≡ difference left new → todo' ≡ union none (intersection left new) → len left' + len todo' ≤ len left
-back_falls left new none left' todo' is inside is_left is_todo =
-    along_two (λ a b. len a + len b ≤ len left) _ _ left' todo' is_left (is_todo ∙ only_new left new none is inside) (len_minus left new inside)
-
-pub idle_falls : (left todo todo' : NameSet) (w : ℕ) → Has todo w → todo' ≡ remove todo w → len left + len todo' < len left + len todo
-idle_falls left todo todo' w h is =
-    let r : len (remove todo w) + 1 ≡ len todo = len_fewer todo w h in
-    subst (λ (t : NameSet). len left + len t < len left + len todo) (sym is) (omega arith)
-
-pub back_shorter : (left todo left' todo' : NameSet) (w : ℕ) → Has todo w → len left' + len todo' ≤ len left → len left' + len todo' < len left + len todo
-back_shorter left todo left' todo' w h is = let r : 1 ≤ len todo = some_len todo w h in omega arith
-
 -- w sees none of those left
 pub not_seen : (g : PlainGraph) (left : NameSet) (w : ℕ) (v : Bool) (r : Bool) → r ≡ false → ((r ≡ true) ↔ ((t : ℕ) × Has left t × (adjacent g w t ≡ v))) → (y : ℕ) → Has left y → adjacent g w y ≡ v → ⊥
 not_seen g left w v r is test y h same = clash (test.1 (y, h, same)) is
-
-pub rest_apart_from : (left todo todo' : NameSet) (w : ℕ) → todo' ≡ remove todo w → Disjoint left todo → Disjoint left todo'
-rest_apart_from left todo todo' w is apart y h =
-    lacks_along todo' _ is y (lacks_within (remove todo w) todo (λ z k. (of_remove todo w z k).1) y (apart y h))
 
 module _ {e : ℕ → ℕ → Bool} where
   pub reach_begin : (s left todo : NameSet) (v : Bool) (x : ℕ) → Has s x → left ≡ remove s x → todo ≡ insert empty x → IsReaching e s v x left todo
@@ -342,10 +242,6 @@ module _ {e : ℕ → ℕ → Bool} where
       (Has-along _ _ (sym is) u (insert_old (only_name u) v u (only_has u)))
       (Has-along _ _ (sym is) v (insert_new (only_name u) v)) least
 
-  pub strange_no_module : (s m strange : NameSet) → strange ≡ difference m s → IsModule e s m → strange ≡ empty
-  strange_no_module s m strange is module_is =
-      if_empty strange (λ y. lacks_along strange _ is y (false_from_ne_true _ (λ h. clash (module_is.inside y (of_minus m s y h).0) (of_minus m s y h).1)))
-
   module _ (adj : IsAdjacency e) where
     pub grow_more : (s begun left todo new left' todo' : NameSet) (v w : ℕ) → IsGrowing e s v begun left todo → Has todo w →
         ((y : ℕ) → Has left y → e v y ≢ e w y → Has new y) → ((y : ℕ) → Has new y → Has left y × (e v y ≢ e w y)) →
@@ -395,20 +291,6 @@ module _ {e : ℕ → ℕ → Bool} where
 
 -- ---- whether a name sees one of a set
 
-told_value : (row mark : NameSet) (value : Bool) (y : ℕ) → contains mark y ≡ not value → Has (told_apart row mark) y → contains row y ≡ value
-told_value row mark true y is h = elim (of_union (difference row mark) (difference mark row) y h) [
-  | inl i ↦ (of_minus row mark y i).0
-  | inr i ↦ clash (of_minus mark row y i).0 is
-]
-told_value row mark false y is h = elim (of_union (difference row mark) (difference mark row) y h) [
-  | inl i ↦ clash is (of_minus row mark y i).1
-  | inr i ↦ (of_minus mark row y i).1
-]
-
-value_told : (row mark : NameSet) (value : Bool) (y : ℕ) → contains mark y ≡ not value → contains row y ≡ value → Has (told_apart row mark) y
-value_told row mark true y is here = union_left (difference row mark) (difference mark row) y (minus_has row mark y here is)
-value_told row mark false y is here = union_right (difference row mark) (difference mark row) y (minus_has mark row y is here)
-
 abbrev pub Sees : PlainGraph → ℕ → Bool → NameSet → Type 0
 Sees g w v among = (t : ℕ) × Has among t × (adjacent g w t ≡ v)
 
@@ -442,30 +324,6 @@ pub sees_unseen : {g : PlainGraph} → IsGraph g → (w : ℕ) (value : Bool) (a
 sees_unseen {g} graph w value among row found r is_value is_row some none is =
     sees_test graph w value among among row found r is_row (λ y h. h ∙ ap not (sym is_value)) some none is
 
--- ---- the walk over the members of a set of names
-
-abbrev pub Walked : NameSet → List ℕ → (ℕ → Type 0) → Type 0
-Walked s xs Done = AllBelow s NAMES × ((low : ℕ) × (xs ≡ ascending_from s low) × ((w : ℕ) → Has s w → w < low → Done w))
-
-pub walked_start : (s : NameSet) (xs : List ℕ) (Done : ℕ → Type 0) → AllBelow s NAMES → xs ≡ ascending s → Walked s xs Done
-walked_start s xs Done below is = (below, (0, is, λ w h l. absurd (omega arith)))
-
-pub walked_member : (s : NameSet) (xs rest : List ℕ) (x : ℕ) (Done : ℕ → Type 0) → Walked s xs Done → xs ≡ x ∷ rest → Has s x × (x < NAMES)
-walked_member s xs rest x Done is steps =
-    let item = (walk_turn s is.1.0 NAMES x xs rest is.1.1 steps).item in
-    (item.member, item.below)
-
-pub walked_turn : (s : NameSet) (xs rest : List ℕ) (x : ℕ) (Done : ℕ → Type 0) → Walked s xs Done → xs ≡ x ∷ rest → Done x → Walked s rest Done
-walked_turn s xs rest x Done is steps here =
-    let turn = walk_turn s is.1.0 NAMES x xs rest is.1.1 steps in
-    (is.0, (x + 1, turn.left, walk_more s is.1.0 NAMES x Done turn.item is.1.2 here))
-
-pub walked_weaker : (s : NameSet) (xs : List ℕ) (Done Later : ℕ → Type 0) → ((w : ℕ) → Done w → Later w) → Walked s xs Done → Walked s xs Later
-walked_weaker s xs Done Later more is = (is.0, (is.1.0, is.1.1, λ w h l. more w (is.1.2 w h l)))
-
-pub walked_all : (s : NameSet) (xs rest : List ℕ) (Done : ℕ → Type 0) → Walked s xs Done → (xs ≡ []) × (rest ≡ []) → (w : ℕ) → Has s w → Done w
-walked_all s xs rest Done is steps w h = is.1.2 w h (walk_end s is.1.0 NAMES xs rest is.0 is.1.1 steps w h)
-
 -- ---- names told apart
 
 -- no first name is told apart exactly where all are alike
@@ -486,27 +344,14 @@ alike_test {g} graph v w others first second None r is_first is_second some none
   λ alike. not-false r (sym is),
 )
 
-pub module_not_strange : {e : ℕ → ℕ → Bool} (s vertices m strange : NameSet) (r : Bool) → vertices ≡ s → strange ≡ difference m vertices → (r ≡ true) ↔ (strange ≡ empty) → r ≡ false → IsModule e s m → false ≡ true
-module_not_strange {e} s vertices m strange r same is empty_is h module_is =
-    clash (empty_is.1 (strange_no_module vertices m strange is (subst (λ t. IsModule e t m) (sym same) module_is))) h
-
-pub no_strange : (s m strange : NameSet) (r : Bool) → strange ≡ difference m s → (r ≡ true) ↔ (strange ≡ empty) → r ≡ true → Within m s
-no_strange s m strange r is empty_is h y k =
-    true_from_ne_false _ (λ l. clash (Has-along _ _ (sym is) y (minus_has m s y k l)) (empty_if strange (empty_is.0 h) y))
-
-pub module_test : {e : ℕ → ℕ → Bool} → IsAdjacency e → (s vertices m strange others : NameSet) (v : ℕ) (r b : Bool) → vertices ≡ s → Has m v → strange ≡ difference m vertices → (r ≡ true) ↔ (strange ≡ empty) → r ≡ true →
-    others ≡ difference vertices m → (b ≡ true) ↔ ((w : ℕ) → Has m w → (y : ℕ) → Has others y → e v y ≡ e w y) → (b ≡ true) ↔ IsModule e s m
-module_test {e} adj s vertices m strange others v r b same hv is empty_is h is_others alike =
-    subst (λ t. (b ≡ true) ↔ IsModule e t m) same
-    (let if_alike = module_if_alike adj vertices m others v hv (no_strange vertices m strange r is empty_is h) is_others in
-    (λ t. if_alike.0 (alike.0 t), λ module_is. alike.1 (if_alike.1 module_is)))
-
 -- ---- a search ends
 
-pub turn_falls : (left todo new left' todo' : NameSet) (w : ℕ) → Has todo w → Within new left → left' ≡ difference left new → todo' ≡ union (remove todo w) new →
-    len left' + len todo' < len left + len todo
-turn_falls left todo new left' todo' w h inside is_left is_todo =
-    along_two (λ a b. len a + len b < len left + len todo) _ _ left' todo' is_left is_todo (search_falls left todo new w h inside)
+pub module_test : {e : ℕ → ℕ → Bool} → IsAdjacency e → (s vertices m others : NameSet) (v : ℕ) (b : Bool) → vertices ≡ s → Has m v → Within m vertices →
+    others ≡ difference vertices m → (b ≡ true) ↔ ((w : ℕ) → Has m w → (y : ℕ) → Has others y → e v y ≡ e w y) → (b ≡ true) ↔ IsModule e s m
+module_test {e} adj s vertices m others v b same hv inside is_others alike =
+    subst (λ t. (b ≡ true) ↔ IsModule e t m) same
+    (let if_alike = module_if_alike adj vertices m others v hv inside is_others in
+    (λ t. if_alike.0 (alike.0 t), λ module_is. alike.1 (if_alike.1 module_is)))
 
 -- ---- whether a graph splits
 
@@ -518,9 +363,6 @@ whole_test {e} adj s vertices left v x r same part is test =
     (λ t. whole.0 (test.0 t), λ no_split. test.1 (whole.1 no_split)))
 
 -- ---- for the tests
-
-pub meet_inside : (part live vertices within : NameSet) → live ≡ vertices → within ≡ intersection part live → Within within vertices
-meet_inside part live vertices within same is y h = Has-along _ _ same y (of_meet part live y (Has-along _ _ is y h)).1
 
 pub least_whole : {e : ℕ → ℕ → Bool} (s k rest : NameSet) (u v : ℕ) → IsLeastModule e s u v k → rest ≡ difference s k → rest ≡ empty → IsLeastModule e s u v s
 least_whole {e} s k rest u v is rest_is none =

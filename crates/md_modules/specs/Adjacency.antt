@@ -1,4 +1,5 @@
--- A graph as a set of names with one test of adjacency. The graph on a part of the names has the same test.
+-- A graph as a set of names with one test of adjacency. The graph on a part of the names has the
+-- same test.
 -- Source: any textbook of graph theory.
 use Rattle.std.specs.Prelude.{◌≡◌, ℕ, Bool, false, not, ◌&&◌, nat_eq}
 

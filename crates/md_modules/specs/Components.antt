@@ -3,13 +3,16 @@
 use Rattle.std.specs.Prelude.{◌≡◌, ℕ, Bool}
 use Rattle.md_graph.specs.Sets.{NameSet, Has, Lacks, Within}
 
--- no edge leads from part to the rest of s (v is false), or no edge of the complement does (v is true)
-pub record IsClosed (e : ℕ → ℕ → Bool) (s part : NameSet) (v : Bool) : Type 0 where
+-- no edge leads from part to the rest of s (`joined` is false), or no edge of the complement does
+-- (`joined` is true)
+pub record IsClosed (e : ℕ → ℕ → Bool) (s part : NameSet) (joined : Bool) : Type 0 where
   pub inside : Within part s
-  pub across : (a b : ℕ) → Has part a → Has s b → Lacks part b → e a b ≡ v
+  pub across : (a b : ℕ) → Has part a → Has s b → Lacks part b → e a b ≡ joined
 
--- c is the component of x in the graph on s (v is false) or in its complement (v is true): the least closed part that holds x
-pub record IsComponent (e : ℕ → ℕ → Bool) (s : NameSet) (x : ℕ) (c : NameSet) (v : Bool) : Type 0 where
+-- c is the component of x in the graph on s (`joined` is false) or in its complement (`joined` is
+-- true): the least closed part that holds x
+pub record IsComponent (e : ℕ → ℕ → Bool) (s : NameSet) (x : ℕ) (c : NameSet) (joined : Bool)
+    : Type 0 where
   pub holds : Has c x
-  pub closed : IsClosed e s c v
-  pub least : (part : NameSet) → IsClosed e s part v → Has part x → Within c part
+  pub closed : IsClosed e s c joined
+  pub least : (part : NameSet) → IsClosed e s part joined → Has part x → Within c part

@@ -3,7 +3,8 @@
 use Rattle.std.specs.Prelude.{◌≡◌, ◌≢◌, ◌<◌, ◌⊎◌, ℕ, Bool, true, false}
 use Rattle.md_graph.specs.Sets.{NameSet, Has}
 
--- a, b, c, d are four different names of s, the edges among them are exactly ab, bc and cd, and the ends ascend
+-- a, b, c, d are four different names of s, the edges among them are exactly ab, bc and cd, and the
+-- ends ascend
 pub record IsInducedPath (e : ℕ → ℕ → Bool) (s : NameSet) (a b c d : ℕ) : Type 0 where
   pub inside : Has s a × Has s b × Has s c × Has s d
   pub different : (a ≢ b) × (a ≢ c) × (b ≢ c) × (b ≢ d) × (c ≢ d)

@@ -3,12 +3,13 @@
 use Rattle.std.specs.Prelude.{◌≡◌, ℕ, Bool, true, false}
 use Rattle.md_graph.specs.Sets.{NameSet, Has, Lacks, Within, HasSome, HasTwo}
 
--- part and the rest of s are both nonempty, and every pair across is adjacent (v is true), or no pair across is (v is false)
-pub record IsSplit (e : ℕ → ℕ → Bool) (s part : NameSet) (v : Bool) : Type 0 where
+-- part and the rest of s are both nonempty, and every pair across is adjacent (`joined` is true),
+-- or no pair across is (`joined` is false)
+pub record IsSplit (e : ℕ → ℕ → Bool) (s part : NameSet) (joined : Bool) : Type 0 where
   pub some : HasSome part
   pub inside : Within part s
   pub rest : (x : ℕ) × Has s x × Lacks part x
-  pub across : (a b : ℕ) → Has part a → Has s b → Lacks part b → e a b ≡ v
+  pub across : (a b : ℕ) → Has part a → Has s b → Lacks part b → e a b ≡ joined
 
 -- s splits into two nonempty parts with no edge across
 abbrev pub IsParallel : (ℕ → ℕ → Bool) → NameSet → Type 0
@@ -26,7 +27,8 @@ IsConnected e s = ¬ (IsParallel e s)
 abbrev pub IsCoConnected : (ℕ → ℕ → Bool) → NameSet → Type 0
 IsCoConnected e s = ¬ (IsSeries e s)
 
--- s has two members, and neither split
+-- The kind of a node: s has two members, and neither split. (A prime graph, whose modules are
+-- trivial, is another thing: `HasTrivialModulesAlone`. Of a node of this kind the quotient is one.)
 pub record IsPrime (e : ℕ → ℕ → Bool) (s : NameSet) : Type 0 where
   pub two : HasTwo s
   pub connected : IsConnected e s

@@ -1,10 +1,11 @@
 -- The laws of modules.
-use Rattle.std.specs.Prelude.{◌≡◌, ◌≢◌, ◌≤◌, ◌⊎◌, ◌↔◌, ℕ, Bool}
+use Rattle.std.specs.Prelude.{◌≡◌, ◌≢◌, ◌≤◌, ◌⊎◌, ◌↔◌, ℕ, Bool, true, false}
 use Rattle.std.specs.FinSet.{len}
 use Rattle.md_graph.specs.Sets.{NameSet, Has, Within, Disjoint, HasSome, HasTwo, Proper, only_name}
 use Rattle.md_modules.specs.Adjacency.{IsAdjacency, co}
 use Rattle.md_modules.specs.Modules.{IsModule, IsStrong, IsLeastModule, IsMaximalModule, IsMaximalStrong, IsParent, HasTrivialModulesAlone}
 use Rattle.md_modules.specs.Kinds.{IsParallel, IsSeries, IsPrime}
+use Rattle.md_modules.specs.Components.{IsComponent}
 use Rattle.md_modules.specs.Quotients.{IsQuotient}
 use Rattle.md_modules.specs.InducedPaths.{HasInducedPath}
 
@@ -17,7 +18,8 @@ pub record ExactlyOne (P Q R : Type 0) : Type 0 where
 
 -- a set with two or more members has exactly one kind
 abbrev pub HasOneKind : Type 0
-HasOneKind = (e : ℕ → ℕ → Bool) → IsAdjacency e → (s : NameSet) → HasTwo s → ExactlyOne (IsParallel e s) (IsSeries e s) (IsPrime e s)
+HasOneKind = (e : ℕ → ℕ → Bool) → IsAdjacency e → (s : NameSet) → HasTwo s →
+    ExactlyOne (IsParallel e s) (IsSeries e s) (IsPrime e s)
 
 -- the strong modules of s are a tree under inclusion, with root s and the single names as leaves
 pub record AreTree (e : ℕ → ℕ → Bool) (s : NameSet) : Type 0 where
@@ -25,27 +27,47 @@ pub record AreTree (e : ℕ → ℕ → Bool) (s : NameSet) : Type 0 where
   pub root : IsStrong e s s
   pub below_root : (m : NameSet) → IsStrong e s m → Within m s
   -- two strong modules don't meet, or one holds the other
-  pub nested : (m n : NameSet) → IsStrong e s m → IsStrong e s n → Disjoint m n ⊎ Within m n ⊎ Within n m
+  pub nested : (m n : NameSet) → IsStrong e s m → IsStrong e s n →
+      Disjoint m n ⊎ Within m n ⊎ Within n m
   -- each strong module but the root has a parent, and one alone
   pub parent : (m : NameSet) → IsStrong e s m → m ≢ s → (p : NameSet) × IsParent e s m p
   pub one_parent : (m p q : NameSet) → IsParent e s m p → IsParent e s m q → p ≡ q
   -- each single name is a strong module, and these are those that hold no other one
   pub singles : (v : ℕ) → Has s v → IsStrong e s (only_name v)
-  pub leaves : (m : NameSet) → IsStrong e s m → ((v : ℕ) × (m ≡ only_name v)) ↔ ((n : NameSet) → IsStrong e s n → ¬ (Proper n m))
+  pub leaves : (m : NameSet) → IsStrong e s m →
+      ((v : ℕ) × (m ≡ only_name v)) ↔ ((n : NameSet) → IsStrong e s n → ¬ (Proper n m))
 
 -- the strong modules of a set with a member are a tree
 abbrev pub StrongModulesAreTree : Type 0
 StrongModulesAreTree = (e : ℕ → ℕ → Bool) → (s : NameSet) → HasSome s → AreTree e s
 
--- the strong modules of a set with a member are the set and the strong modules of each maximal proper strong module
+-- the strong modules of a set with a member are the set and the strong modules of each maximal
+-- proper strong module
 abbrev pub StrongModulesDescend : Type 0
 StrongModulesDescend =
     (e : ℕ → ℕ → Bool) → (s : NameSet) → HasSome s → (m : NameSet) →
     IsStrong e s m ↔ ((m ≡ s) ⊎ ((c : NameSet) × IsMaximalStrong e s c × IsStrong e c m))
 
--- a set with two or more members that is connected and whose complement is connected has an induced path on four names
+-- the children of s in the tree of strong modules, by the kind of s
+pub record ChildrenByKind (e : ℕ → ℕ → Bool) (s : NameSet) : Type 0 where
+  -- of a parallel set they are exactly its components
+  pub parallel : IsParallel e s → (c : NameSet) → IsMaximalStrong e s c
+      ↔ ((x : ℕ) × IsComponent e s x c false)
+  -- of a series set they are exactly the components of its complement
+  pub series : IsSeries e s → (c : NameSet) → IsMaximalStrong e s c
+      ↔ ((x : ℕ) × IsComponent e s x c true)
+  -- of a prime set they are exactly its maximal proper modules
+  pub prime : IsPrime e s → (c : NameSet) → IsMaximalStrong e s c ↔ IsMaximalModule e s c
+
+-- what the children of a set of each kind are
+abbrev pub ChildrenAreByKind : Type 0
+ChildrenAreByKind = (e : ℕ → ℕ → Bool) → IsAdjacency e → (s : NameSet) → ChildrenByKind e s
+
+-- a set with two or more members that is connected and whose complement is connected has an induced
+-- path on four names
 abbrev pub PrimeHasInducedPath : Type 0
-PrimeHasInducedPath = (e : ℕ → ℕ → Bool) → IsAdjacency e → (s : NameSet) → IsPrime e s → HasInducedPath e s
+PrimeHasInducedPath = (e : ℕ → ℕ → Bool) → IsAdjacency e → (s : NameSet) → IsPrime e s →
+    HasInducedPath e s
 
 -- no induced path on four names exactly where no strong module is prime
 abbrev pub NoInducedPathIfNonePrime : Type 0
@@ -55,22 +77,29 @@ NoInducedPathIfNonePrime =
 
 -- the maximal proper modules of s, and their quotient
 pub record MaximalModules (e : ℕ → ℕ → Bool) (s : NameSet) : Type 0 where
-  -- each two names have a least module, and they lie in one maximal proper module exactly where that isn't s
+  -- each two names have a least module, and they lie in one maximal proper module exactly where
+  -- that isn't s
   pub least : (u v : ℕ) → Has s u → Has s v → (k : NameSet) × IsLeastModule e s u v k
-  pub together : (u v : ℕ) (k : NameSet) → IsLeastModule e s u v k → ((m : NameSet) × IsMaximalModule e s m × Has m u × Has m v) ↔ (k ≢ s)
+  pub together : (u v : ℕ) (k : NameSet) → IsLeastModule e s u v k →
+      ((m : NameSet) × IsMaximalModule e s m × Has m u × Has m v) ↔ (k ≢ s)
   -- each name lies in a maximal proper module, and different ones are disjoint
   pub covered : (u : ℕ) → Has s u → (m : NameSet) × IsMaximalModule e s m × Has m u
-  pub disjoint : (m n : NameSet) → IsMaximalModule e s m → IsMaximalModule e s n → m ≢ n → Disjoint m n
-  -- between two of them all pairs are alike, so that the names of a quotient tell the adjacency of their modules
-  pub alike : (m n : NameSet) (a b p q : ℕ) → IsMaximalModule e s m → IsMaximalModule e s n → m ≢ n → Has m a → Has m p → Has n b → Has n q → e a b ≡ e p q
+  pub disjoint : (m n : NameSet) → IsMaximalModule e s m → IsMaximalModule e s n → m ≢ n →
+      Disjoint m n
+  -- between two of them all pairs are alike, so that the names of a quotient tell the adjacency of
+  -- their modules
+  pub alike : (m n : NameSet) (a b p q : ℕ) → IsMaximalModule e s m → IsMaximalModule e s n →
+      m ≢ n → Has m a → Has m p → Has n b → Has n q → e a b ≡ e p q
   -- there is a quotient; each has trivial modules alone, and four names or more
   pub quotient : (r : NameSet) × IsQuotient e s r
   pub trivial : (r : NameSet) → IsQuotient e s r → HasTrivialModulesAlone e r
   pub four : (r : NameSet) → IsQuotient e s r → 4 ≤ len r
 
--- what holds of the maximal proper modules of each set that is prime: with two or more members, connected and co-connected
+-- what holds of the maximal proper modules of each set that is prime: with two or more members,
+-- connected and co-connected
 abbrev pub PrimeHasMaximalModules : Type 0
-PrimeHasMaximalModules = (e : ℕ → ℕ → Bool) → IsAdjacency e → (s : NameSet) → IsPrime e s → MaximalModules e s
+PrimeHasMaximalModules = (e : ℕ → ℕ → Bool) → IsAdjacency e → (s : NameSet) → IsPrime e s →
+    MaximalModules e s
 
 -- what the complement has of the graph on s
 pub record ComplementTurns (e : ℕ → ℕ → Bool) (s : NameSet) : Type 0 where

@@ -8,3 +8,4 @@ pub mod Laws
 pub mod PathSearch
 pub mod Seen
 pub mod Searches
+pub mod Classes

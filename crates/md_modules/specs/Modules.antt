@@ -39,18 +39,21 @@ pub record IsMaximalModule (e : ℕ → ℕ → Bool) (s m : NameSet) : Type 0 w
   pub proper : m ≢ s
   pub maximal : (n : NameSet) → IsModule e s n → n ≢ s → Within m n → n ≡ m
 
--- a strong module other than s that lies in no other strong module but s: a child of s in the tree of strong modules
+-- a strong module other than s that lies in no other strong module but s: a child of s in the tree
+-- of strong modules
 pub record IsMaximalStrong (e : ℕ → ℕ → Bool) (s m : NameSet) : Type 0 where
   pub is_strong : IsStrong e s m
   pub proper : m ≢ s
   pub maximal : (n : NameSet) → IsStrong e s n → n ≢ s → Within m n → n ≡ m
 
--- p is the parent of m in the tree of strong modules: the least strong module that holds m and is another set
+-- p is the parent of m in the tree of strong modules: the least strong module that holds m and is
+-- another set
 pub record IsParent (e : ℕ → ℕ → Bool) (s m p : NameSet) : Type 0 where
   pub is_strong : IsStrong e s p
   pub above : Proper m p
   pub least : (n : NameSet) → IsStrong e s n → Proper m n → Within p n
 
--- each module is one name or the whole
+-- a prime graph: each module is trivial, one name or the whole
 abbrev pub HasTrivialModulesAlone : (ℕ → ℕ → Bool) → NameSet → Type 0
-HasTrivialModulesAlone e s = (m : NameSet) → IsModule e s m → ((x : ℕ) × ((y : ℕ) → Has m y → y ≡ x)) ⊎ (m ≡ s)
+HasTrivialModulesAlone e s =
+    (m : NameSet) → IsModule e s m → ((x : ℕ) × ((y : ℕ) → Has m y → y ≡ x)) ⊎ (m ≡ s)

@@ -1,5 +1,6 @@
 -- What the search for an induced path says of its steps.
--- Source: an induced path with a given vertex, by the components of its neighbours and of the other vertices.
+-- Source: an induced path with a given vertex, by the components of its neighbours and of the other
+-- vertices.
 use Rattle.std.specs.Prelude.{◌≡◌, ◌<◌, ◌≤◌, ℕ, true, false}
 use Rattle.md_graph.specs.PlainGraph.{PlainGraph, adjacent}
 use Rattle.md_modules.specs.declared.induced_paths.P4.{P4}

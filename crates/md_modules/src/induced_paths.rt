@@ -19,8 +19,8 @@ pub struct P4 {
     pub d: u32,
 }
 
-/// Whether `p`, any four numbers, is an induced path of the graph: four different vertices, the edges among them
-/// exactly a-b, b-c and c-d, and `a < d`.
+/// Whether `p`, any four numbers, is an induced path of the graph: four different vertices, the
+/// edges among them exactly a-b, b-c and c-d, and `a < d`.
 pub fn is_p4(graph: &Graph, p: &P4) -> bool
     ensures { IsTrue result
         ↔ IsInducedPath (adjacent graph.now) graph.now.vertices p.now.a p.now.b p.now.c p.now.d }
@@ -29,8 +29,8 @@ pub fn is_p4(graph: &Graph, p: &P4) -> bool
     p.a < p.d && vertices.has(p.a) && has_path_edges(graph, p.a, p.b, p.c, p.d)
 }
 
-/// An induced path on four vertices that holds `x`; `None` exactly where there is none. It takes no memory, and a fixed
-/// number of row operations for each vertex. Condition: `x` is a vertex.
+/// An induced path on four vertices that holds `x`; `None` exactly where there is none. It takes no
+/// memory, and a fixed number of row operations for each vertex. Condition: `x` is a vertex.
 pub fn find_p4_with(graph: &Graph, x: u32) -> Option<P4>
     requires { Has graph.now.vertices x }
     ensures found { IfSome result (λ p.
@@ -48,7 +48,7 @@ pub fn find_p4_with(graph: &Graph, x: u32) -> Option<P4>
     path_by_parts(graph, x, near, &far, true)
 }
 
-/// Whether the edges among `a`, `b`, `c` and `d`, any numbers, are exactly a-b, b-c and c-d.
+// Whether the edges among `a`, `b`, `c` and `d`, any numbers, are exactly a-b, b-c and c-d.
 fn has_path_edges(graph: &Graph, a: u32, b: u32, c: u32, d: u32) -> bool
     ensures { IsTrue result ↔ HasPathEdges (adjacent graph.now) a b c d }
 {
@@ -57,9 +57,10 @@ fn has_path_edges(graph: &Graph, a: u32, b: u32, c: u32, d: u32) -> bool
     edges && !chords
 }
 
-/// An induced path with `x`, one of `others`, and two of one part of `names`, of which the one of `others` sees only one.
-/// The parts are the components of `names`, none of which `x` sees (`value` is false), or the components of its complement,
-/// all of which `x` sees (`value` is true); `x` sees all of `others`, or none.
+// An induced path with `x`, one of `others`, and two of one part of `names`, of which the one of
+// `others` sees only one. The parts are the components of `names`, none of which `x` sees (`value`
+// is false), or the components of its complement, all of which `x` sees (`value` is true); `x` sees
+// all of `others`, or none.
 fn path_by_parts(graph: &Graph, x: u32, names: &Names, others: &Names, value: bool) -> Option<P4>
     requires graph { IsGraph graph.now }
     requires inside { Within names.now graph.now.vertices }
@@ -82,7 +83,8 @@ fn path_by_parts(graph: &Graph, x: u32, names: &Names, others: &Names, value: bo
     None
 }
 
-/// The component of `y` in the graph on `within` (`value` is false), or in its complement (`value` is true).
+// The component of `y` in the graph on `within` (`value` is false), or in its complement (`value`
+// is true).
 fn part_of(graph: &Graph, within: &Names, y: u32, value: bool, into: &mut Names)
     requires inside { Within within.now graph.now.vertices }
     requires member { Has within.now y }
@@ -95,7 +97,7 @@ fn part_of(graph: &Graph, within: &Names, y: u32, value: bool, into: &mut Names)
     }
 }
 
-/// An induced path with `x`, one of `others` and two of `part`. Condition: `part` doesn't split.
+// An induced path with `x`, one of `others` and two of `part`. Condition: `part` doesn't split.
 fn path_by_part(graph: &Graph, x: u32, part: &Names, others: &Names, value: bool) -> Option<P4>
     requires graph { IsGraph graph.now }
     requires whole { (a : NameSet) → IsSplit (adjacent graph.now) part.now a value → ⊥ }
@@ -113,7 +115,7 @@ fn path_by_part(graph: &Graph, x: u32, part: &Names, others: &Names, value: bool
     None
 }
 
-/// The names of `others` that see one of `part` and not all.
+// The names of `others` that see one of `part` and not all.
 fn that_tell(graph: &Graph, part: &Names, others: &Names) -> Names
     ensures only { (o : ℕ) → Has result o → Has others.now o
         × ((m : ℕ) × Has part.now m × (adjacent graph.now m o ≡ true))
@@ -131,7 +133,7 @@ fn that_tell(graph: &Graph, part: &Names, others: &Names) -> Names
     others.and(&some).minus(&all)
 }
 
-/// An induced path with `x`, `o` and two of `part`, of which `o` sees only one.
+// An induced path with `x`, `o` and two of `part`, of which `o` sees only one.
 fn path_over(graph: &Graph, x: u32, o: u32, part: &Names, value: bool) -> Option<P4>
     requires name { o < NAMES }
     requires alike { (z : ℕ) → Has part.now z → adjacent graph.now x z ≡ value }
@@ -152,11 +154,12 @@ fn path_over(graph: &Graph, x: u32, o: u32, part: &Names, value: bool) -> Option
     None
 }
 
-/// The first of `rest` that isn't to `m` as `value` says.
+// The first of `rest` that isn't to `m` as `value` says.
 fn first_across(graph: &Graph, m: u32, rest: &Names, value: bool) -> Option<u32>
     requires { m < NAMES }
     ensures found { IfSome result (λ z. Has rest.now z × (adjacent graph.now m z ≡ not value)) }
-    ensures none { IfNone result ((z : ℕ) → Has rest.now z → adjacent graph.now m z ≡ not value → ⊥) }
+    ensures none { IfNone result ((z : ℕ) → Has rest.now z
+        → adjacent graph.now m z ≡ not value → ⊥) }
 {
     let row = graph.row(m);
     if value {
@@ -165,7 +168,8 @@ fn first_across(graph: &Graph, m: u32, rest: &Names, value: bool) -> Option<u32>
     rest.and(row).first_from(0)
 }
 
-/// The path from `x` over `o` and `m` to `z` (`value` is false), or from `z` over `x` and `m` to `o` (`value` is true).
+// The path from `x` over `o` and `m` to `z` (`value` is false), or from `z` over `x` and `m` to `o`
+// (`value` is true).
 fn path_through(x: u32, o: u32, m: u32, z: u32, value: bool) -> P4
     ensures begun { value ≡ false → IsPathOf result x o m z }
     ensures passed { value ≡ true → IsPathOf result z x m o }
@@ -176,7 +180,7 @@ fn path_through(x: u32, o: u32, m: u32, z: u32, value: bool) -> P4
     ascending(x, o, m, z)
 }
 
-/// The four in this order, or turned round where `d` is the smaller end.
+// The four in this order, or turned round where `d` is the smaller end.
 fn ascending(a: u32, b: u32, c: u32, d: u32) -> P4
     ensures { IsPathOf result a b c d }
 {
@@ -200,7 +204,7 @@ mod tests {
     use std::process::Abort;
     use std::test::Fail;
 
-    /// The graph with the vertices 0 to 4 and these edges.
+    // The graph with the vertices 0 to 4 and these edges.
     fn made(rt: &impl Abort, alloc: Global, edges: &[(u32, u32)]) -> Result<Graph, Memory> {
         let mut g = Graph::new(alloc)?;
         for v in 0..5 {
@@ -217,7 +221,7 @@ mod tests {
         Ok(g)
     }
 
-    /// Sees that the path with `x` is this one, or that there is none.
+    // Sees that the path with `x` is this one, or that there is none.
     fn expect(rt: &impl Abort, g: &Graph, x: u32, want: Option<(u32, u32, u32, u32)>) {
         assert!(rt; g.has_vertex(x));
         let found = find_p4_with(g, x).map(|p| (p.a, p.b, p.c, p.d));

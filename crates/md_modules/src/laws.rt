@@ -1,41 +1,43 @@
-//! The laws of modules, each the contract of a function that does nothing. They speak of any set of names with a
-//! test of adjacency, so of a graph, of the graph on a part of its names, and of the complement of each.
+//! The laws of modules, each the contract of a function that does nothing. They speak of any set of
+//! names with a test of adjacency, so of a graph, of the graph on a part of its names, and of the
+//! complement of each.
+ghost use Rattle.md_modules.specs.Laws.{ChildrenAreByKind, ComplementTurnsKinds, HasOneKind, StrongModulesAreTree, StrongModulesDescend, PrimeHasMaximalModules, PrimeHasInducedPath, NoInducedPathIfNonePrime};
 
-ghost use Rattle.md_modules.specs.Laws.{
-  ComplementTurnsKinds,
-  HasOneKind,
-  StrongModulesAreTree,
-  StrongModulesDescend,
-  PrimeHasMaximalModules,
-  PrimeHasInducedPath,
-  NoInducedPathIfNonePrime,
-};
-
-/// The strong modules of a graph with a vertex are a tree under inclusion, whose root is the set of all vertices and
-/// whose leaves are the single vertices.
+/// The strong modules of a graph with a vertex are a tree under inclusion, whose root is the set of
+/// all vertices and whose leaves are the single vertices.
 pub fn strong_modules_are_tree()
     ensures { StrongModulesAreTree }
 {}
 
-/// A set with two or more members, so each strong module with two or more, is exactly one of parallel, series and prime.
+/// A set with two or more members, so each strong module with two or more, is exactly one of
+/// parallel, series and prime.
 pub fn one_kind()
     ensures { HasOneKind }
 {}
 
-/// The strong modules of a graph with a vertex are the set of all vertices and the strong modules of the graph on each
-/// maximal strong module properly inside it.
+/// The strong modules of a graph with a vertex are the set of all vertices and the strong modules
+/// of the graph on each maximal strong module properly inside it.
 pub fn strong_modules_descend()
     ensures { StrongModulesDescend }
 {}
 
-/// In a graph with two or more vertices that is connected, as its complement is: two vertices lie in one maximal proper
-/// module exactly where the least module that holds both isn't the set of all; different maximal proper modules are
-/// disjoint; their quotient has trivial modules alone, and four vertices or more.
+/// The children of a set in the tree of strong modules, its maximal proper strong modules, are
+/// exactly its components where it is parallel, the components of its complement where it is
+/// series, and its maximal proper modules where it is prime.
+pub fn children_by_kind()
+    ensures { ChildrenAreByKind }
+{}
+
+/// In a graph with two or more vertices that is connected, as its complement is: two vertices lie
+/// in one maximal proper module exactly where the least module that holds both isn't the set of
+/// all; different maximal proper modules are disjoint; their quotient has trivial modules alone,
+/// and four vertices or more.
 pub fn prime_has_maximal_modules()
     ensures { PrimeHasMaximalModules }
 {}
 
-/// A graph with two or more vertices that is connected, as its complement is, has an induced path on four vertices.
+/// A graph with two or more vertices that is connected, as its complement is, has an induced path
+/// on four vertices.
 pub fn prime_has_induced_path()
     ensures { PrimeHasInducedPath }
 {}
@@ -45,8 +47,9 @@ pub fn no_induced_path_if_none_prime()
     ensures { NoInducedPathIfNonePrime }
 {}
 
-/// The complement of a graph has the same modules and the same strong modules, with parallel and series the other way
-/// round. So a graph's complement is connected exactly where the graph has no split with every edge across.
+/// The complement of a graph has the same modules and the same strong modules, with parallel and
+/// series the other way round. So a graph's complement is connected exactly where the graph has no
+/// split with every edge across.
 pub fn complement_turns_kinds()
     ensures { ComplementTurnsKinds }
 {}

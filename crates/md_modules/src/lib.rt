@@ -1,12 +1,16 @@
 //! Modules of an undirected graph: their definitions and laws, and the searches for them.
 #![tactic(auto)]
 
+mod component_search;
 mod induced_paths;
 pub mod laws;
-mod searches;
+mod module_search;
+mod refinement;
+mod shared;
+#[cfg(test)]
+mod tests;
 
+pub use component_search::{co_component, co_connected, component, connected, sees};
 pub use induced_paths::{P4, find_p4_with, is_p4};
-pub use searches::{
-    back, closure, closure_in, co_component, co_connected, component, connected, grow, is_module,
-    sees,
-};
+pub use module_search::{back, closure, closure_in, grow, is_module};
+pub use refinement::maximal_modules;

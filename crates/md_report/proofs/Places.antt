@@ -17,7 +17,7 @@ use Rattle.md_report.specs.declared.line.Mode.TheVariants.{Edit}
 use Rattle.md_report.specs.Lines.{PlainLine, mode_of, head, tree, applied, refused, end}
 use Rattle.md_report.specs.Sessions.{HasTreeLine, IsLineBy, state_by, IsStepLine, state_after, SessionRun}
 use Rattle.md_report.specs.Places.{Place, before_head, at_graphs, before_session, at_state, at_edits, after_end, Reports, next_place, Lead}
-use Rattle.md_report.specs.Laws.{AreGraphs, IsSound, LinesLeadIfFirst, IsSessionReport, SessionReportsAreRuns}
+use Rattle.md_report.specs.Laws.{AreGraphs, IsSound, LinesLeadIfFirst, ReportEach, IsGraphReport, GraphReportsHaveLines, IsSessionReport, SessionReportsAreRuns}
 
 pub lead_append : (p q r : Place) (lines more : List PlainLine) → Lead p lines q → Lead q more r → Lead p (lines ++ more) r
 lead_append p q r [] more leads on = subst (λ z. Lead z more r) (sym leads) on
@@ -110,6 +110,35 @@ lines_lead_proof p sound lines = (
       let rest : (more : List PlainLine) × Lead leads.0 more after_end = completion leads.0 (lead_sound p leads.0 lines sound leads.1) in
       (rest.0, lead_append p leads.0 after_end lines rest.0 leads.1 rest.1)),
   λ whole. let s : (q : Place) × Lead p lines q × Lead q whole.0 after_end = lead_split p after_end lines whole.0 whole.1 in (s.0, s.1),
+)
+
+-- the lines of graphs are one for each, and the end
+graphs_each : (mode : GraphMode) (graphs : List PlainGraph) (lines : List PlainLine) → Lead (at_graphs mode graphs) lines after_end →
+    (run : List PlainLine) × ReportEach mode graphs run × (lines ≡ run ++ end ∷ [])
+graphs_each mode [] [] leads = absurd (cc)
+graphs_each mode [] (line ∷ []) leads = ([], refl, cc)
+graphs_each mode [] (line ∷ more ∷ lines) leads = absurd leads.1.0
+graphs_each mode (g ∷ graphs) [] leads = absurd (cc)
+graphs_each mode (g ∷ graphs) (line ∷ lines) leads =
+    let on : (run : List PlainLine) × ReportEach mode graphs run × (lines ≡ run ++ end ∷ []) = graphs_each mode graphs lines leads.1 in
+    (line ∷ on.0, (leads.0, on.1), ap (λ l. line ∷ l) on.2)
+
+each_graphs : (mode : GraphMode) (graphs : List PlainGraph) (run : List PlainLine) → ReportEach mode graphs run → Lead (at_graphs mode graphs) (run ++ end ∷ []) after_end
+each_graphs mode [] [] each = (refl, refl)
+each_graphs mode [] (line ∷ run) each = absurd (cc)
+each_graphs mode (g ∷ graphs) [] each = absurd each
+each_graphs mode (g ∷ graphs) (line ∷ run) each = (each.0, each_graphs mode graphs run each.1)
+
+graph_report : (mode : GraphMode) (graphs : List PlainGraph) (lines : List PlainLine) → Lead (before_head mode graphs) lines after_end → IsGraphReport mode graphs lines
+graph_report mode graphs [] leads = absurd (cc)
+graph_report mode graphs (line ∷ lines) leads =
+    let on : (run : List PlainLine) × ReportEach mode graphs run × (lines ≡ run ++ end ∷ []) = graphs_each mode graphs lines leads.1 in
+    record { run = on.0; each = on.1; whole = ap₂ (λ (l : PlainLine) (m : List PlainLine). l ∷ m) leads.0 on.2 }
+
+pub graph_reports_proof : GraphReportsHaveLines
+graph_reports_proof mode graphs lines = (
+  graph_report mode graphs lines,
+  λ is. subst (λ l. Lead (before_head mode graphs) l after_end) (sym is.whole) (refl, each_graphs mode graphs is.run is.each),
 )
 
 -- the lines of edits are a run and the end

@@ -4,10 +4,11 @@ use Rattle.md_graph.specs.PlainGraph.{PlainGraph, IsGraph}
 use Rattle.std.specs.List.{All}
 use Rattle.md_script.specs.declared.edit.Edit.{Edit}
 use Rattle.md_script.specs.Edit.{HasNames}
+use Rattle.md_report.specs.declared.line.GraphMode.{GraphMode}
 use Rattle.md_report.specs.declared.line.Mode.TheVariants as modes
-use Rattle.md_report.specs.Lines.{PlainLine, head, tree, end}
+use Rattle.md_report.specs.Lines.{PlainLine, mode_of, head, tree, end}
 use Rattle.md_report.specs.Sessions.{HasTreeLine, SessionRun}
-use Rattle.md_report.specs.Places.{Place, before_head, at_graphs, before_session, at_state, at_edits, after_end, Lead}
+use Rattle.md_report.specs.Places.{Place, before_head, at_graphs, before_session, at_state, at_edits, after_end, Reports, Lead}
 use Rattle.md_report.specs.Reports.{IsReport, IsFront}
 
 -- each of the list is a graph on names
@@ -29,6 +30,24 @@ abbrev pub LinesLeadIfFirst : Type 0
 LinesLeadIfFirst =
     (p : Place) → IsSound p → (lines : List PlainLine) →
     ((q : Place) × Lead p lines q) ↔ ((more : List PlainLine) × Lead p (lines ++ more) after_end)
+
+-- one line for each graph, in their order
+abbrev pub ReportEach : GraphMode → List PlainGraph → List PlainLine → Type 0
+ReportEach mode [] lines = lines ≡ []
+ReportEach mode (g ∷ graphs) [] = ⊥
+ReportEach mode (g ∷ graphs) (line ∷ lines) = Reports mode g line × ReportEach mode graphs lines
+
+-- A whole report over graphs: the head, one line for each graph, and the end.
+pub record IsGraphReport (mode : GraphMode) (graphs : List PlainGraph) (lines : List PlainLine) : Type 0 where
+  pub run : List PlainLine
+  pub each : ReportEach mode graphs run
+  pub whole : lines ≡ head (mode_of mode) ∷ (run ++ end ∷ [])
+
+-- Lines lead from before the head of a report over graphs to the end exactly where they are such a report.
+abbrev pub GraphReportsHaveLines : Type 0
+GraphReportsHaveLines =
+    (mode : GraphMode) (graphs : List PlainGraph) (lines : List PlainLine) →
+    Lead (before_head mode graphs) lines after_end ↔ IsGraphReport mode graphs lines
 
 -- A whole report of a session over a script: the head, the tree of the first state, the lines of the run, and the end.
 pub record IsSessionReport (g : PlainGraph) (edits : List Edit) (lines : List PlainLine) : Type 0 where

@@ -1,19 +1,26 @@
 //! The laws of reports, each the contract of a function that does nothing.
 
-ghost use Rattle.md_report.specs.Laws.{LinesLeadIfFirst, SessionReportsAreRuns, FrontsBeginReports};
+ghost use Rattle.md_report.specs.Laws.{LinesLeadIfFirst, GraphReportsHaveLines, SessionReportsAreRuns, FrontsBeginReports};
 
-/// Lines are the first lines of a whole report exactly where each may come at the place to which those before it lead.
+/// Lines are the first lines of a whole report exactly where each may come at the place to which
+/// those before it lead.
 pub fn lines_lead_if_first()
     ensures { LinesLeadIfFirst }
 {}
 
-/// A whole report of a session is the head, the tree of the first state, the lines of the run over the script, and the end.
+/// A whole report over graphs is the head, one line for each graph, in their order, and the end.
+pub fn graph_reports_have_lines()
+    ensures { GraphReportsHaveLines }
+{}
+
+/// A whole report of a session is the head, the tree of the first state, the lines of the run over
+/// the script, and the end.
 pub fn session_reports_are_runs()
     ensures { SessionReportsAreRuns }
 {}
 
-/// A text begins a whole report exactly where it is a front by places: the text of lines that lead to a place, and the
-/// beginning of a line that may come there.
+/// A text begins a whole report exactly where it is a front by places: the text of lines that lead
+/// to a place, and the beginning of a line that may come there.
 pub fn fronts_begin_reports()
     ensures { FrontsBeginReports }
 {}

@@ -7,12 +7,13 @@ use Rattle.std.proofs.lemmas.List.Elements.{All-nil, All-cons}
 use Rattle.md_text.specs.Lines.{lines, without_return}
 use Rattle.md_text.specs.Fields.{fields}
 use Rattle.md_text.proofs.LineLemmas.{no_lines}
+use Rattle.md_text.specs.Spelling.{SpellsOne, SpellsNone, fault_or, words, fault_behind as first_fault_behind}
 use Rattle.md_script.specs.declared.TheConstants.{EDITS}
 use Rattle.md_script.specs.declared.edit.Edit.{Edit}
 use Rattle.md_script.specs.declared.fault.ScriptKind.{ScriptKind}
 use Rattle.md_script.specs.Edit.{HasNames}
-use Rattle.md_script.specs.Line.{words, is_skipped, edit_of, fault_of_words}
-use Rattle.md_script.specs.File.{edit_lines, SpellsScript, SpellsOne, SpellsNone, FaultyLine, fault_or, edits_after, fault_behind, first_fault}
+use Rattle.md_script.specs.Line.{is_skipped, edit_of, fault_of_words}
+use Rattle.md_script.specs.File.{edit_lines, SpellsScript, FaultyLine, edits_after, fault_behind, first_fault, fault_at}
 use Rattle.md_script.specs.declared.line.Refusal.{Refusal}
 use Rattle.md_script.specs.declared.line.Refusal.TheVariants.{Bad}
 use Rattle.md_script.specs.Read.{IsRefusal, edits_in}
@@ -37,18 +38,18 @@ edits_after-edit n ws h = ap (λ b. cond b n (n + 1)) h
 -- a line without fault is passed
 fault-passed : (n m count : ℕ) (line : List ℕ) (more : List (List ℕ)) → fault_of_words n (words line) ≡ None → edits_after n (words line) ≡ m
     → fault_behind n count (line ∷ more) ≡ fault_behind m (count + 1) more
-unfolding fault_behind
+unfolding first_fault_behind
 fault-passed n m count line more none is =
-    ap (λ kind. fault_or kind (count + 1) (fault_behind (edits_after n (words line)) (count + 1) more)) none
+    ap (λ kind. fault_or fault_at kind (count + 1) (fault_behind (edits_after n (words line)) (count + 1) more)) none
     ∙ ap (λ k. fault_behind k (count + 1) more) is
 
 fault-named : (n count : ℕ) (line : List ℕ) (more : List (List ℕ)) (kind : ScriptKind) → fault_of_words n (words line) ≡ Some kind
     → fault_behind n count (line ∷ more) ≡ Some (record { kind = kind; line = count + 1 })
-unfolding fault_behind
-fault-named n count line more kind is = ap (λ k. fault_or k (count + 1) (fault_behind (edits_after n (words line)) (count + 1) more)) is
+unfolding first_fault_behind
+fault-named n count line more kind is = ap (λ k. fault_or fault_at k (count + 1) (fault_behind (edits_after n (words line)) (count + 1) more)) is
 
 fault-nil : (n count : ℕ) → fault_behind n count [] ≡ None
-unfolding fault_behind
+unfolding first_fault_behind
 fault-nil n count = refl
 
 -- a first line has no fault, and neither have those behind it
@@ -57,9 +58,9 @@ record NoFault (n count : ℕ) (line : List ℕ) (more : List (List ℕ)) : Type
   behind : fault_behind (edits_after n (words line)) (count + 1) more ≡ None
 
 no_fault : (n count : ℕ) (line : List ℕ) (more : List (List ℕ)) → fault_behind n count (line ∷ more) ≡ None → NoFault n count line more
-unfolding fault_behind
+unfolding first_fault_behind
 no_fault n count line more h = by_kind (fault_of_words n (words line)) refl h where
-  by_kind : (kind : Option ScriptKind) → fault_of_words n (words line) ≡ kind → fault_or kind (count + 1) (fault_behind (edits_after n (words line)) (count + 1) more) ≡ None → NoFault n count line more
+  by_kind : (kind : Option ScriptKind) → fault_of_words n (words line) ≡ kind → fault_or fault_at kind (count + 1) (fault_behind (edits_after n (words line)) (count + 1) more) ≡ None → NoFault n count line more
   by_kind None e h = record { here = e; behind = h }
   by_kind (Some kind) e h = absurd (cc)
 
@@ -136,9 +137,9 @@ same_edits (x ∷ xs) (y ∷ ys) h =
 pub script_has_no_fault : (bytes : List ℕ) (edits : List Edit) → SpellsScript bytes edits → first_fault bytes ≡ None
 script_has_no_fault bytes edits s = spelled_has_no_fault 0 0 (lines bytes) edits s.each (let few = s.few in omega arith)
 
-pub script_spelled_or_faulty : (bytes : List ℕ) → MatchOption (first_fault bytes) (SpellsOne bytes) (λ _. SpellsNone bytes)
+pub script_spelled_or_faulty : (bytes : List ℕ) → MatchOption (first_fault bytes) (SpellsOne SpellsScript bytes) (λ _. SpellsNone SpellsScript bytes)
 script_spelled_or_faulty bytes = by_fault (first_fault bytes) refl where
-  by_fault : (fault : Option FaultyLine) → first_fault bytes ≡ fault → MatchOption fault (SpellsOne bytes) (λ _. SpellsNone bytes)
+  by_fault : (fault : Option FaultyLine) → first_fault bytes ≡ fault → MatchOption fault (SpellsOne SpellsScript bytes) (λ _. SpellsNone SpellsScript bytes)
   by_fault None e =
       let found = spelled_without_fault 0 0 (lines bytes) (omega arith) e in (
         found.0,

@@ -3,3 +3,4 @@ pub mod LineLemmas
 pub mod ChangeLemmas
 pub mod EditLemmas
 pub mod FileLemmas
+pub mod BackLemmas

@@ -13,9 +13,9 @@ use Rattle.md_script.specs.declared.fault.ScriptKind.{ScriptKind}
 use Rattle.md_script.specs.Line.{name_in, number_fault, before_names, names_of, names_fault, count_fault, vertex_fault}
 use Rattle.md_script.specs.Read.{NamesSet, NamesVertex}
 
-or_none : {T : Type 0} (o : Option T) → option_or o None ≡ o
-or_none None = refl
-or_none (Some x) = refl
+option_or-none : {T : Type 0} (o : Option T) → option_or o None ≡ o
+option_or-none None = refl
+option_or-none (Some x) = refl
 
 -- ---- any number of names
 
@@ -111,11 +111,11 @@ names_two rest a b u v cut first second =
 
 fault_one : (rest : List (List ℕ)) (a : List ℕ) → rest ≡ a ∷ [] → count_fault 1 rest ≡ number_fault (number_of a)
 unfolding names_fault
-fault_one rest a cut = ap (count_fault 1) cut ∙ or_none (number_fault (number_of a))
+fault_one rest a cut = ap (count_fault 1) cut ∙ option_or-none (number_fault (number_of a))
 
 fault_two : (rest : List (List ℕ)) (a b : List ℕ) → rest ≡ a ∷ b ∷ [] → count_fault 2 rest ≡ option_or (number_fault (number_of a)) (number_fault (number_of b))
 unfolding names_fault
-fault_two rest a b cut = ap (count_fault 2) cut ∙ ap (option_or (number_fault (number_of a))) (or_none (number_fault (number_of b)))
+fault_two rest a b cut = ap (count_fault 2) cut ∙ ap (option_or (number_fault (number_of a))) (option_or-none (number_fault (number_of b)))
 
 -- what a result says of two numbers, it says of the fields that write them
 pub ends_named : (r : Result (ℕ × ℕ) ScriptKind) (rest : List (List ℕ)) (a b : List ℕ) (u v : Option ℕ) → rest ≡ a ∷ b ∷ [] → u ≡ number_of a → v ≡ number_of b

@@ -1,11 +1,12 @@
 -- A script: the edits that it spells, and its first fault.
 -- Source: the format and its faults are this project's.
-use Rattle.std.specs.Prelude.{◌≡◌, ℕ, ◌+◌, ◌≤◌, not, List, [], ◌∷◌, length, map, filter, Option, None, Some, if◌then◌else◌}
+use Rattle.std.specs.Prelude.{◌≡◌, ℕ, ◌+◌, ◌≤◌, not, List, length, map, filter, Option, None, Some, if◌then◌else◌}
 use Rattle.md_text.specs.Lines.{lines}
+use Rattle.md_text.specs.Spelling.{words, fault_behind as first_fault_behind}
 use Rattle.md_script.specs.declared.TheConstants.{EDITS}
 use Rattle.md_script.specs.declared.edit.Edit.{Edit}
 use Rattle.md_script.specs.declared.fault.ScriptKind.{ScriptKind}
-use Rattle.md_script.specs.Line.{words, is_skipped, edit_of, fault_of_words}
+use Rattle.md_script.specs.Line.{is_skipped, edit_of, fault_of_words}
 
 -- the fields of each line that isn't skipped
 abbrev pub edit_lines : List (List ℕ) → List (List (List ℕ))
@@ -17,39 +18,23 @@ pub record SpellsScript (bytes : List ℕ) (edits : List Edit) : Type 0 where
   pub each : map edit_of (edit_lines (lines bytes)) ≡ map Some edits
   pub few : length edits ≤ EDITS
 
--- the bytes spell this script and no other
-pub record SpellsOnly (bytes : List ℕ) (edits : List Edit) : Type 0 where
-  pub spells : SpellsScript bytes edits
-  pub only : (other : List Edit) → SpellsScript bytes other → other ≡ edits
-
--- the bytes spell exactly one script
-abbrev pub SpellsOne : List ℕ → Type 0
-SpellsOne bytes = (edits : List Edit) × SpellsOnly bytes edits
-
--- the bytes spell no script
-abbrev pub SpellsNone : List ℕ → Type 0
-SpellsNone bytes = (edits : List Edit) → SpellsScript bytes edits → ⊥
-
 -- what is wrong with a line, and the number of the line
 pub record FaultyLine : Type 0 where
   pub kind : ScriptKind
   pub line : ℕ
 
--- the kind, if there is one, as the fault of line `number`, or else what comes later
-abbrev pub fault_or : Option ScriptKind → ℕ → Option FaultyLine → Option FaultyLine
-fault_or None number later = later
-fault_or (Some kind) number later = Some (record { kind = kind; line = number })
+-- a kind as the fault of a line
+abbrev pub fault_at : ScriptKind → ℕ → FaultyLine
+fault_at kind line = record { kind = kind; line = line }
 
 -- how many edits stood before the next line, once a line with these fields has stood there too
 abbrev pub edits_after : ℕ → List (List ℕ) → ℕ
 edits_after edits ws = if is_skipped ws then edits else edits + 1
 
 -- the first fault of lines behind `count` others, which count too, with `edits` edits among them
-unfoldable pub fault_behind : ℕ → ℕ → List (List ℕ) → Option FaultyLine
-fault_behind edits count [] = None
-fault_behind edits count (line ∷ more) =
-    fault_or (fault_of_words edits (words line)) (count + 1)
-    (fault_behind (edits_after edits (words line)) (count + 1) more)
+abbrev pub fault_behind : ℕ → ℕ → List (List ℕ) → Option FaultyLine
+fault_behind = first_fault_behind fault_at
+    (λ edits line. fault_of_words edits (words line)) (λ edits line. edits_after edits (words line)) (λ _ _. None)
 
 -- the first fault of a script: that of its first faulty line, with the number of the line, counted from 1
 abbrev pub first_fault : List ℕ → Option FaultyLine

@@ -6,8 +6,6 @@ use Rattle.std.specs.Cmp.Lexicographic.{pointwise}
 use Rattle.std.specs.FinSet as set
 use Rattle.md_graph.specs.declared.TheConstants.{NAMES}
 use Rattle.md_graph.specs.NameSet.{ascending}
-use Rattle.md_text.specs.Lines.{without_return}
-use Rattle.md_text.specs.Fields.{fields}
 use Rattle.md_text.specs.Numbers.{number_of}
 use Rattle.md_script.specs.declared.TheConstants.{EDITS}
 use Rattle.md_script.specs.declared.edit.Edit.{Edit}
@@ -16,10 +14,6 @@ use Rattle.md_script.specs.declared.fault.ScriptKind.{ScriptKind}
 use Rattle.md_script.specs.declared.fault.ScriptKind.TheVariants.{UnknownEdit, FieldCount, BadNumber, NameTooLarge, TooManyEdits}
 use Rattle.md_script.specs.declared.line.EditWord.{EditWord}
 use Rattle.md_script.specs.declared.line.EditWord.TheVariants.{PlusEdge, MinusEdge, PlusVertex, MinusVertex}
-
--- the fields of a line, of which one byte 13 at its end is no part
-abbrev pub words : List ℕ → List (List ℕ)
-words line = fields (without_return line)
 
 -- whether a line with these fields is skipped: it has none, or the first begins with `#`
 abbrev pub is_skipped : List (List ℕ) → Bool

@@ -7,8 +7,8 @@ use crate::neighbours::set_of;
 use crate::{Edit, EditReason};
 use md_graph::Graph;
 
-/// Why an edit can't be applied to a graph: the first reason that holds, in the order of `reason_of`. `None`
-/// exactly where it can.
+/// Why an edit can't be applied to a graph: the first reason that holds, in the order of
+/// `reason_of`. `None` exactly where it can.
 pub fn reason(graph: &Graph, edit: &Edit) -> Option<EditReason>
     ensures { result ≡ reason_of graph.now edit.now }
 {
@@ -54,7 +54,8 @@ fn first_absent(graph: &Graph, names: &[u32]) -> Option<u32>
     names.iter().copied().find(|v| !graph.has_vertex(*v))
 }
 
-/// Applies an edit to a graph. Condition: no reason speaks against it, and its names are below `NAMES`.
+/// Applies an edit to a graph. Condition: no reason speaks against it, and its names are below
+/// `NAMES`.
 pub fn apply(graph: &mut Graph, edit: &Edit)
     requires applies { reason_of graph.old edit.now ≡ None }
     requires names { HasNames edit.now }

@@ -1,6 +1,9 @@
 //! What may be wrong with a script.
 
-/// What is wrong with a line. Of a line the first fault is named, in the order of `specs/Line.antt`.
+use thiserror::Error;
+
+/// What is wrong with a line. Of a line the first fault is named, in the order of
+/// `specs/Line.antt`.
 #[derive(Clone, Copy, Debug, PartialEq, Eq)]
 pub enum ScriptKind {
     /// The first field is none of `+e`, `-e`, `+v` and `-v`.
@@ -16,9 +19,10 @@ pub enum ScriptKind {
 }
 
 /// Why a script isn't read.
-#[derive(Clone, Copy, Debug, PartialEq, Eq)]
+#[derive(Clone, Copy, Debug, PartialEq, Eq, Error)]
 pub enum ScriptFault {
     /// The first fault of the script.
+    #[error("line {line} is faulty")]
     Bad {
         /// What is wrong.
         kind: ScriptKind,
@@ -26,5 +30,6 @@ pub enum ScriptFault {
         line: u64,
     },
     /// Want of memory.
+    #[error("out of memory")]
     Memory,
 }

@@ -3,17 +3,7 @@ ghost use Rattle.std.specs.Prelude.{◌≡◌, ◌<◌, ◌∷◌, [], None, Som
 ghost use Rattle.std.specs.Option.{option_or};
 ghost use Rattle.md_text.specs.Fields.{fields};
 ghost use Rattle.md_script.specs.declared.line.Refusal.TheVariants.{Bad, Memory as NoMemory};
-ghost use Rattle.md_script.specs.Line.{
-  word_of,
-  name_in,
-  number_fault,
-  names_of,
-  names_fault,
-  count_fault,
-  vertex_fault,
-  edit_by,
-  fault_by,
-};
+ghost use Rattle.md_script.specs.Line.{word_of, name_in, number_fault, names_of, names_fault, count_fault, vertex_fault, edit_by, fault_by};
 ghost use Rattle.md_script.specs.Read.{NamesSet, NamesVertex, IsRefusal};
 
 use crate::{Edit, Neighbours, ScriptKind};
@@ -21,25 +11,25 @@ use md_graph::{Memory, NAMES, Names};
 use md_text::{number, one_field, split_number, two_fields};
 use std::alloc::{AllocFailed, Global};
 
-/// The first field of an edit's line.
+// The first field of an edit's line.
 #[derive(Clone, Copy)]
 pub(crate) enum EditWord {
-    /// `+e`
+    // `+e`
     PlusEdge,
-    /// `-e`
+    // `-e`
     MinusEdge,
-    /// `+v`
+    // `+v`
     PlusVertex,
-    /// `-v`
+    // `-v`
     MinusVertex,
 }
 
-/// Why a line isn't read. `?` makes it of a fault, and of want of memory.
+// Why a line isn't read. `?` makes it of a fault, and of want of memory.
 #[derive(Clone, Copy)]
 pub(crate) enum Refusal {
-    /// Its first fault.
+    // Its first fault.
     Bad(ScriptKind),
-    /// Want of memory.
+    // Want of memory.
     Memory,
 }
 
@@ -87,8 +77,8 @@ fn edit_word(field: &[u8]) -> Option<EditWord>
     None
 }
 
-// Reads the line of an edit by its first field and what stands behind it. Only the neighbours of a new
-// vertex take memory. They are gathered in `names`; what it held is lost.
+// Reads the line of an edit by its first field and what stands behind it. Only the neighbours of a
+// new vertex take memory. They are gathered in `names`; what it held is lost.
 pub(crate) fn read_edit(
     alloc: Global,
     first: &[u8],

@@ -11,8 +11,8 @@ use md_graph::Names;
 use md_text::{split_field, split_line, without_return};
 use std::alloc::Global;
 
-/// Reads the script that bytes spell: one edit for each line that isn't skipped. Besides the script, only the
-/// neighbours of new vertices take memory.
+/// Reads the script that bytes spell: one edit for each line that isn't skipped. Besides the
+/// script, only the neighbours of new vertices take memory.
 ///
 /// # Errors
 ///
@@ -39,8 +39,8 @@ pub fn read_script(alloc: Global, bytes: &[u8]) -> Result<Script, ScriptFault>
     Ok(Script::from_list(edits))
 }
 
-// Reads one line, and puts its edit behind the others, unless it is skipped. Neighbours are gathered in
-// `names`; what it held is lost.
+// Reads one line, and puts its edit behind the others, unless it is skipped. Neighbours are
+// gathered in `names`; what it held is lost.
 fn read_line(
     alloc: Global,
     line: &[u8],
@@ -51,7 +51,8 @@ fn read_line(
     ensures read { OnOk result (edits.new.items ≡ edits.old.items ++ edits_in (fields line.now)) }
     ensures few { OnOk result (vec_len edits.new ≤ EDITS) }
     ensures faultless { OnOk result (fault_of_words (vec_len edits.old) (fields line.now) ≡ None) }
-    ensures fault { IfErr result (IsRefusal (fault_of_words (vec_len edits.old) (fields line.now))) }
+    ensures fault { IfErr result
+        (IsRefusal (fault_of_words (vec_len edits.old) (fields line.now))) }
 {
     let Some((first, rest)) = split_field(line) else {
         return Ok(());

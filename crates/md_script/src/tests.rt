@@ -14,7 +14,7 @@ fn check_fault(rt: &impl Abort, alloc: Global, file: &str, kind: ScriptKind, lin
     }
 }
 
-/// An edit as plain numbers: its word, its first two names, and the list of neighbours.
+// An edit as plain numbers: its word, its first two names, and the list of neighbours.
 fn check_edit(rt: &impl Abort, edit: &Edit, word: &str, first: u32, others: &[u32]) {
     match edit {
         Edit::AddEdge { u, v } => {
@@ -91,7 +91,7 @@ fn scripts(rt: HostRuntime) -> Result<(), Fail> {
     Ok(())
 }
 
-/// As many edits as a script may have, and then one more.
+// As many edits as a script may have, and then one more.
 #[test]
 fn longest_script(rt: HostRuntime) -> Result<(), Fail> {
     let mut text = Vec::new(rt.alloc());
@@ -113,7 +113,7 @@ fn longest_script(rt: HostRuntime) -> Result<(), Fail> {
     Ok(())
 }
 
-/// Applies each edit that can be applied, and compares the reasons against the others.
+// Applies each edit that can be applied, and compares the reasons against the others.
 fn check_run(
     rt: &impl Abort,
     alloc: Global,

@@ -7,11 +7,10 @@ ghost use Rattle.md_script.specs.Edit.{HasNames};
 ghost use Rattle.md_report.specs.Lines.{plain_line};
 ghost use Rattle.md_report.specs.Sessions.{SessionStep};
 
-use crate::undo::{row_at, take_back};
 use md_decompose::decompose;
 use md_graph::{Graph, Memory};
 use md_report::Line;
-use md_script::{Edit, reason};
+use md_script::{Edit, lost_row, reason, take_back};
 use md_tree::Tree;
 use std::alloc::Global;
 use std::marker::Model;
@@ -40,24 +39,28 @@ impl GeneralSession {
         GeneralSession { graph }
     }
 
-    /// The tree of strong modules of the graph, none where it has no vertices. Errors: want of memory.
+    /// The tree of strong modules of the graph, none where it has no vertices. Errors: want of
+    /// memory.
     pub fn tree(&self, alloc: Global) -> Result<Option<Tree>, Memory>
-        ensures { IfOk result (λ tree. IsTree (adjacent self.now) self.now.vertices (plain_option tree)) }
+        ensures { IfOk result (λ tree.
+            IsTree (adjacent self.now) self.now.vertices (plain_option tree)) }
     {
         decompose(alloc, &self.graph)
     }
 
-    /// Answers an edit: refuses it where there is a reason against it, and the graph stays; else changes the graph, and
-    /// gives its tree. Condition: the names in the edit are names. Errors: want of memory; the graph then stays.
+    /// Answers an edit: refuses it where there is a reason against it, and the graph stays; else
+    /// changes the graph, and gives its tree. Condition: the names in the edit are names. Errors:
+    /// want of memory; the graph then stays.
     pub fn apply(&mut self, alloc: Global, edit: &Edit) -> Result<Line, Memory>
         requires { HasNames edit.now }
-        ensures step { IfOk result (λ line. SessionStep self.old edit.now (plain_line line) self.new) }
+        ensures step { IfOk result (λ line.
+            SessionStep self.old edit.now (plain_line line) self.new) }
         ensures stays { IsErr result → self.new ≡ self.old }
     {
         if let Some(reason) = reason(&self.graph, edit) {
             return Ok(Line::Refused(reason));
         }
-        let row = row_at(&self.graph, edit);
+        let row = lost_row(&self.graph, edit);
         md_script::apply(&mut self.graph, edit);
         if let Ok(tree) = decompose(alloc, &self.graph) {
             return Ok(Line::Applied(tree));

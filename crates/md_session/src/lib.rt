@@ -2,7 +2,6 @@
 #![tactic(auto)]
 
 mod general;
-mod undo;
 
 pub use general::GeneralSession;
 

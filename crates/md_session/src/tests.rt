@@ -7,7 +7,8 @@ use std::alloc::Global;
 use std::process::Abort;
 use std::test::Fail;
 
-// Applies a script to the graph without vertices, and compares the line of each edit and of the tree at the end.
+// Applies a script to the graph without vertices, and compares the line of each edit and of the
+// tree at the end.
 fn check(
     rt: &impl Abort,
     alloc: Global,

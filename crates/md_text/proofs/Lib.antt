@@ -1,4 +1,5 @@
 pub mod ListLemmas
+pub mod Lists
 pub mod LineLemmas
 pub mod FieldLemmas
 pub mod NumberLemmas

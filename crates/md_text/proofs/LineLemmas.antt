@@ -1,16 +1,16 @@
 -- The laws of lines.
-use Rattle.std.proofs.Common.{◌≡◌, ◌≢◌, ℕ, suc, ◌+◌, ◌-◌, ◌<◌, ◌≤◌, ◌==◌, ◌⊎◌, min, true, false, cond, List, [], ◌∷◌, ◌++◌, length, get_or, take, drop, map, refl, sym, ap, ◌∙◌, inl, inr, ⊎_elim, subst, arith}
+use Rattle.std.proofs.Common.{◌≡◌, ◌≢◌, ℕ, suc, ◌+◌, ◌-◌, ◌<◌, ◌≤◌, ◌==◌, ◌⊎◌, min, true, false, cond, List, [], ◌∷◌, ◌++◌, length, get_or, take, drop, map, refl, sym, ap, ◌∙◌, inl, inr, ⊎_elim, subst, arith, length-append}
 use Rattle.std.specs.List.{All, onto_first, position_or_len, before_first, after_first}
 use Rattle.std.proofs.lemmas.Bool.{ne_eqb, eqb-true, eqb-false, cases_eq, cases_lt}
 use Rattle.std.proofs.lemmas.Grind.{common_steps}
-use Rattle.std.proofs.lemmas.List.{append_assoc, append-nil, length-take, get_or-take, take_all, drop_all, take_rest, drop_min}
+use Rattle.std.proofs.lemmas.List.{append_assoc, append-nil, append_cancel_right, length-take, get_or-take, take_all, drop_all, take_rest, drop_min}
 use Rattle.std.proofs.lemmas.List.Elements.{All-nil, All-cons, All-head, All-tail}
 use Rattle.std.proofs.lemmas.List.Sums.{fails_before_first, passes_at_first, split_at_first, position_or_len_is}
 use Rattle.std.specs.Simd.Lanes.{mask_l}
 use Rattle.std.proofs.lemmas.Simd.{leading_from_mask_l, trailing_mask_l, run_in_chunk_fails}
 use lib.Count.{count_trailing_zeros}
-use Rattle.md_text.proofs.ListLemmas.{All-onto_first}
-use Rattle.md_text.specs.Lines.{lines, ended, LacksFeed, is_feed, without_return}
+use Rattle.md_text.proofs.ListLemmas.{All-onto_first, All-front, All-behind}
+use Rattle.md_text.specs.Lines.{lines, ended, LacksFeed, IsCut, is_feed, without_return}
 
 abbrev IsOther : ℕ → Type 0
 IsOther byte = byte ≢ 10
@@ -66,35 +66,99 @@ pub lines-ended : (all : List (List ℕ)) → All LacksFeed all → lines (ended
 lines-ended all lacks =
     ap lines (sym (append-nil (ended all))) ∙ lines-ended_append all [] lacks ∙ ap (λ (tail : List (List ℕ)). all ++ tail) lines-nil ∙ append-nil all
 
--- a byte put before the first line, where the lines and the text agree up to the last end of line
-abbrev pub IsCut : List ℕ → List (List ℕ) → Type 0
-IsCut text all = (ended all ≡ text) ⊎ (ended all ≡ text ++ 10 ∷ [])
+-- the lines and the text agree up to the last end of line
+abbrev Agree : List ℕ → List (List ℕ) → Type 0
+Agree text all = (ended all ≡ text) ⊎ (ended all ≡ text ++ 10 ∷ [])
 
 ended-onto_first : (byte : ℕ) (line : List ℕ) (more : List (List ℕ)) → ended (onto_first byte (line ∷ more)) ≡ byte ∷ ended (line ∷ more)
 ended-onto_first byte line more = ended-cons (byte ∷ line) more ∙ ap (λ (tail : List ℕ). byte ∷ tail) (sym (ended-cons line more))
 
-cut_feed : (byte : ℕ) (rest : List ℕ) (all : List (List ℕ)) → byte ≡ 10 → IsCut rest all → IsCut (byte ∷ rest) ([] ∷ all)
+cut_feed : (byte : ℕ) (rest : List ℕ) (all : List (List ℕ)) → byte ≡ 10 → Agree rest all → Agree (byte ∷ rest) ([] ∷ all)
 cut_feed byte rest all is (inl same) = inl (ended-cons [] all ∙ cc)
 cut_feed byte rest all is (inr same) = inr (ended-cons [] all ∙ cc)
 
-cut_onto : (byte : ℕ) (rest : List ℕ) (all : List (List ℕ)) → IsCut rest all → IsCut (byte ∷ rest) (onto_first byte all)
+cut_onto : (byte : ℕ) (rest : List ℕ) (all : List (List ℕ)) → Agree rest all → Agree (byte ∷ rest) (onto_first byte all)
 cut_onto byte [] [] cut = inr (ended-cons (byte ∷ []) [] ∙ ap (λ (tail : List ℕ). byte ∷ 10 ∷ tail) ended-nil)
 cut_onto byte (next ∷ rest) [] (inl same) = absurd (let e = sym ended-nil ∙ same in cc)
 cut_onto byte (next ∷ rest) [] (inr same) = absurd (let e = sym ended-nil ∙ same in cc)
 cut_onto byte rest (line ∷ more) (inl same) = inl (ended-onto_first byte line more ∙ ap (λ (tail : List ℕ). byte ∷ tail) same)
 cut_onto byte rest (line ∷ more) (inr same) = inr (ended-onto_first byte line more ∙ ap (λ (tail : List ℕ). byte ∷ tail) same)
 
-abbrev IsCutOf : List ℕ → List (List ℕ) → Type 0
-IsCutOf text all = All LacksFeed all × IsCut text all
+abbrev LackAndAgree : List ℕ → List (List ℕ) → Type 0
+LackAndAgree text all = All LacksFeed all × Agree text all
 
-pub lines_are_the_cut_lem : (text : List ℕ) → All LacksFeed (lines text) × IsCut text (lines text)
-lines_are_the_cut_lem [] = subst (IsCutOf []) (sym lines-nil) (All-nil LacksFeed, inl ended-nil)
-lines_are_the_cut_lem (byte ∷ rest) =
-    let so_far = lines_are_the_cut_lem rest in
+lines_agree : (text : List ℕ) → All LacksFeed (lines text) × Agree text (lines text)
+lines_agree [] = subst (LackAndAgree []) (sym lines-nil) (All-nil LacksFeed, inl ended-nil)
+lines_agree (byte ∷ rest) =
+    let so_far = lines_agree rest in
     ⊎_elim
-    (λ (is : byte ≡ 10). subst (IsCutOf (byte ∷ rest)) (sym (ap (λ (b : ℕ). lines (b ∷ rest)) is ∙ lines-feed rest)) (All-cons LacksFeed [] (lines rest) (All-nil IsOther) so_far.0, cut_feed byte rest (lines rest) is so_far.1))
-    (λ (other : byte ≢ 10). subst (IsCutOf (byte ∷ rest)) (sym (lines-other byte rest other)) (All-onto_first IsOther byte (lines rest) other so_far.0, cut_onto byte rest (lines rest) so_far.1))
+    (λ (is : byte ≡ 10). subst (LackAndAgree (byte ∷ rest)) (sym (ap (λ (b : ℕ). lines (b ∷ rest)) is ∙ lines-feed rest)) (All-cons LacksFeed [] (lines rest) (All-nil IsOther) so_far.0, cut_feed byte rest (lines rest) is so_far.1))
+    (λ (other : byte ≢ 10). subst (LackAndAgree (byte ∷ rest)) (sym (lines-other byte rest other)) (All-onto_first IsOther byte (lines rest) other so_far.0, cut_onto byte rest (lines rest) so_far.1))
     (cases_eq byte 10)
+
+pub ended-append : (xs ys : List (List ℕ)) → ended (xs ++ ys) ≡ ended xs ++ ended ys
+ended-append [] ys = ap (λ (front : List ℕ). front ++ ended ys) (sym ended-nil)
+ended-append (line ∷ more) ys =
+    ended-cons line (more ++ ys) ∙ ap (λ (tail : List ℕ). (line ++ 10 ∷ []) ++ tail) (ended-append more ys)
+    ∙ sym (append_assoc (line ++ 10 ∷ []) (ended more) (ended ys)) ∙ ap (λ (front : List ℕ). front ++ ended ys) (sym (ended-cons line more))
+
+ended-last : (before : List (List ℕ)) (last : List ℕ) → ended (before ++ last ∷ []) ≡ (ended before ++ last) ++ 10 ∷ []
+ended-last before last =
+    ended-append before (last ∷ []) ∙ ap (λ (tail : List ℕ). ended before ++ tail) (ended-cons last [] ∙ ap (λ (tail : List ℕ). (last ++ 10 ∷ []) ++ tail) ended-nil ∙ append-nil (last ++ 10 ∷ []))
+    ∙ sym (append_assoc (ended before) last (10 ∷ []))
+
+-- the text in front of the byte 10 that ends the last line
+text_before_last : (text : List ℕ) (before : List (List ℕ)) (last : List ℕ) → ended (before ++ last ∷ []) ≡ text ++ 10 ∷ [] → text ≡ ended before ++ last
+text_before_last text before last whole = append_cancel_right text (ended before ++ last) (10 ∷ []) (sym whole ∙ ended-last before last)
+
+longer : (before : List (List ℕ)) (last : List ℕ) → before ≡ before ++ last ∷ [] → ⊥
+longer before last e = let counted : length before ≡ length before + 1 = ap length e ∙ length-append before (last ∷ []) in omega arith
+
+-- a last line that lacks its end isn't empty
+open_line : (text : List ℕ) → ended (lines text) ≡ text ++ 10 ∷ [] → (before : List (List ℕ)) → lines text ≢ before ++ [] ∷ []
+open_line text whole before is =
+    let lacks : All LacksFeed (before ++ [] ∷ []) = subst (All LacksFeed) is (lines_agree text).0 in
+    let shorter : text ≡ ended before = text_before_last text before [] (sym (ap ended is) ∙ whole) ∙ append-nil (ended before) in
+    longer before [] (sym (ap lines shorter ∙ lines-ended before (All-front LacksFeed before ([] ∷ []) lacks)) ∙ is)
+
+lines_are_a_cut : (text : List ℕ) → IsCut text (lines text)
+lines_are_a_cut text = record {
+  no_feed = (lines_agree text).0;
+  whole = elim (lines_agree text).1 [ inl same ↦ inl same | inr same ↦ inr (same, open_line text same) ];
+}
+
+-- a list of lines is empty, or has a last one
+data Ending (cut : List (List ℕ)) : Type 0 where
+  nothing : cut ≡ [] → Ending cut
+  ending : (before : List (List ℕ)) (last : List ℕ) → cut ≡ before ++ last ∷ [] → Ending cut
+
+ending_after : (line : List ℕ) (more : List (List ℕ)) → Ending more → Ending (line ∷ more)
+ending_after line more (nothing e) = ending [] line (ap (λ (tail : List (List ℕ)). line ∷ tail) e)
+ending_after line more (ending before last e) = ending (line ∷ before) last (ap (λ (tail : List (List ℕ)). line ∷ tail) e)
+
+ending_of : (cut : List (List ℕ)) → Ending cut
+ending_of [] = nothing refl
+ending_of (line ∷ more) = ending_after line more (ending_of more)
+
+open_cut : (text : List ℕ) (cut : List (List ℕ)) → All LacksFeed cut → ended cut ≡ text ++ 10 ∷ [] → ((before : List (List ℕ)) → cut ≢ before ++ [] ∷ []) → Ending cut → cut ≡ lines text
+open_cut text cut lacks whole full (nothing e) = absurd (no_bytes text (sym whole ∙ ap ended e ∙ ended-nil)) where
+  no_bytes : (text : List ℕ) → text ++ 10 ∷ [] ≡ [] → ⊥
+  no_bytes text e = let counted : length text + 1 ≡ 0 = sym (length-append text (10 ∷ [])) ∙ ap length e in omega arith
+open_cut text cut lacks whole full (ending before [] e) = absurd (full before e)
+open_cut text cut lacks whole full (ending before (byte ∷ last) e) =
+    let all : All LacksFeed (before ++ (byte ∷ last) ∷ []) = subst (All LacksFeed) e lacks in
+    let is : text ≡ ended before ++ byte ∷ last = text_before_last text before (byte ∷ last) (sym (ap ended e) ∙ whole) in
+    e ∙ sym (ap lines is ∙ lines-ended_append before (byte ∷ last) (All-front LacksFeed before ((byte ∷ last) ∷ []) all)
+    ∙ ap (λ (tail : List (List ℕ)). before ++ tail) (lines-last (byte ∷ last) (All-head LacksFeed (byte ∷ last) [] (All-behind LacksFeed before ((byte ∷ last) ∷ []) all)) (omega arith)))
+
+one_cut : (text : List ℕ) (cut : List (List ℕ)) → IsCut text cut → cut ≡ lines text
+one_cut text cut is = elim is.whole [
+  | inl same ↦ sym (ap lines (sym same) ∙ lines-ended cut is.no_feed)
+  | inr same ↦ open_cut text cut is.no_feed same.0 same.1 (ending_of cut)
+]
+
+pub lines_are_the_cut_lem : (text : List ℕ) → IsCut text (lines text) × ((cut : List (List ℕ)) → IsCut text cut → cut ≡ lines text)
+lines_are_the_cut_lem text = (lines_are_a_cut text, one_cut text)
 
 pub without_return-stays : (line : List ℕ) → All (λ byte. byte ≢ 13) line → without_return line ≡ line
 without_return-stays line lacks = grind (arith, common_steps)

@@ -1,9 +1,9 @@
 -- What holds of lines, fields and numbers: the statements of the laws of `src/laws.rt`.
-use Rattle.std.specs.Prelude.{◌≡◌, ◌≢◌, ℕ, ◌+◌, ◌-◌, ◌*◌, ◌<◌, ◌≤◌, ◌/◌, ◌%◌, ◌^◌, ◌⊎◌, true, List, [], ◌∷◌, ◌++◌, length, Some}
+use Rattle.std.specs.Prelude.{◌≡◌, ◌≢◌, ℕ, ◌+◌, ◌-◌, ◌*◌, ◌<◌, ◌≤◌, ◌/◌, ◌%◌, ◌^◌, true, List, [], ◌∷◌, ◌++◌, length, Some}
 use Rattle.std.specs.List.{All, join_with_byte}
 use Rattle.std.specs.Fmt.{decimal as displayed}
 use Rattle.md_text.specs.declared.digits.TheConstants.{DIGITS}
-use Rattle.md_text.specs.Lines.{lines, ended, LacksFeed, without_return}
+use Rattle.md_text.specs.Lines.{lines, ended, LacksFeed, IsCut, without_return}
 use Rattle.md_text.specs.Fields.{fields, is_blank, IsWord}
 use Rattle.md_text.specs.Numbers.{value, number_of, decimal, IsCanonical}
 
@@ -29,10 +29,10 @@ abbrev pub LinesOfEndedThenRest : Type 0
 LinesOfEndedThenRest = (all : List (List ℕ)) (rest : List ℕ) → All LacksFeed all
     → lines (ended all ++ rest) ≡ all ++ lines rest
 
--- a text is its lines, each ended by a byte 10, which the last may lack; no line holds one
+-- a text is cut into its lines, and into no others
 abbrev pub LinesAreTheCut : Type 0
-LinesAreTheCut = (text : List ℕ) → All LacksFeed (lines text)
-    × ((ended (lines text) ≡ text) ⊎ (ended (lines text) ≡ text ++ 10 ∷ []))
+LinesAreTheCut = (text : List ℕ) → IsCut text (lines text)
+    × ((cut : List (List ℕ)) → IsCut text cut → cut ≡ lines text)
 
 -- one byte 13 at the end is taken off
 abbrev pub ReturnTakenOff : Type 0

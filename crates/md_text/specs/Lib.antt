@@ -2,4 +2,5 @@ pub mod Lines
 pub mod Fields
 pub mod Numbers
 pub mod Pieces
+pub mod Spelling
 pub mod Laws

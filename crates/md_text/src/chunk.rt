@@ -10,8 +10,8 @@ use std::marker::Model;
 pub const CHUNK_SIZE: usize = 1920;
 
 /// Bytes that are gathered, to be appended to a text together.
-// How many are used stands before the bytes and has 32 bits: so the compiler sees that no byte is written over
-// it, and keeps it in a register while a loop gathers pieces.
+// How many are used stands before the bytes and has 32 bits: so the compiler sees that no byte is
+// written over it, and keeps it in a register while a loop gathers pieces.
 #[derive(Drop)]
 pub struct Chunk {
     used: u32,
@@ -56,7 +56,8 @@ impl Chunk {
         self.used = 0;
     }
 
-    /// Gathers two pieces behind the others. There has to be room for sixteen bytes: up to so many are written.
+    /// Gathers two pieces behind the others. There has to be room for sixteen bytes: up to so many
+    /// are written.
     #[inline]
     pub fn put_both(&mut self, first: Piece, second: Piece)
         requires { length self.old + 16 ≤ CHUNK_SIZE }
@@ -67,7 +68,8 @@ impl Chunk {
         self.used = put_piece(&mut self.bytes, at, second);
     }
 
-    /// Appends the bytes to a text, so that none are gathered. Errors: want of memory; both then stay.
+    /// Appends the bytes to a text, so that none are gathered. Errors: want of memory; both then
+    /// stay.
     pub fn flush(&mut self, text: &mut Vec<u8>) -> Result<(), AllocError>
         ensures appended { OnOk result (text.new.items ≡ text.old.items ++ self.old) }
         ensures emptied { OnOk result (self.new ≡ []) }
@@ -79,8 +81,8 @@ impl Chunk {
         Ok(())
     }
 
-    /// Appends the bytes to a text if there is no room for `more` behind them. Errors: want of memory;
-    /// both then stay.
+    /// Appends the bytes to a text if there is no room for `more` behind them. Errors: want of
+    /// memory; both then stay.
     #[inline(always)]
     pub fn make_room(&mut self, more: usize, text: &mut Vec<u8>) -> Result<(), AllocError>
         requires { more ≤ CHUNK_SIZE }
@@ -96,8 +98,8 @@ impl Chunk {
     }
 }
 
-// Writes a piece behind the first `at` bytes, and says how many they then are. Eight bytes are written, so that
-// what stood behind the piece is lost.
+// Writes a piece behind the first `at` bytes, and says how many they then are. Eight bytes are
+// written, so that what stood behind the piece is lost.
 #[inline(always)]
 fn put_piece(chunk: &mut [u8; CHUNK_SIZE], at: u32, piece: Piece) -> u32
     requires { at + 8 ≤ CHUNK_SIZE }

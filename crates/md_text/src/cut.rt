@@ -31,7 +31,8 @@ pub fn split_line(text: &[u8]) -> (&[u8], &[u8])
     (&text[..end], &text[next..])
 }
 
-// The place of the first byte 10, or the length where there is none. It looks at 16 bytes at a time.
+// The place of the first byte 10, or the length where there is none. It looks at 16 bytes at a
+// time.
 #[inline]
 fn first_feed(text: &[u8]) -> usize
     ensures within { result ≤ length text.now }
@@ -107,8 +108,8 @@ pub fn split_field(line: &[u8]) -> Option<(&[u8], &[u8])>
     Some(rest.split_at(end))
 }
 
-/// The number that the first field of a line writes, if it is one, and what stands behind the field;
-/// none if the line has no field. The same as `split_field` and `number`, in one pass.
+/// The number that the first field of a line writes, if it is one, and what stands behind the
+/// field; none if the line has no field. The same as `split_field` and `number`, in one pass.
 pub fn split_number(line: &[u8]) -> Option<(Option<u64>, &[u8])>
     ensures number { IfSome result (λ p. BeginsWithNumber line.now p.0 p.1.now) }
     ensures none { IfNone result (fields line.now ≡ []) }
@@ -131,7 +132,8 @@ pub fn split_number(line: &[u8]) -> Option<(Option<u64>, &[u8])>
 #[inline(always)]
 fn is_end(line: &[u8], place: usize) -> bool
     requires { place ≤ length line.now }
-    ensures { IsTrue result → place < length line.now → is_blank (slice_index line.now place) ≡ true }
+    ensures { IsTrue result → place < length line.now
+        → is_blank (slice_index line.now place) ≡ true }
 {
     place == line.len() || is_space_or_tab(line[place])
 }

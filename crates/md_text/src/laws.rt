@@ -1,6 +1,9 @@
-//! What holds of lines, fields and numbers. Each function has an empty body, and its contract is the
-//! law: the statement stands in `specs/Laws.antt`.
+//! What holds of lines, fields and numbers. Each function has an empty body, and its contract is
+//! the law: the statement stands in `specs/Laws.antt`.
+ghost use Rattle.std.specs.Prelude.{◌≡◌};
 ghost use Rattle.md_text.specs.Laws.{NoLines, LineThenRest, LastLine, LinesOfEnded, LinesOfEndedThenRest, LinesAreTheCut, ReturnTakenOff, OtherEndStays, LineWithoutReturnStays, NoFields, BlankThenFields, LastField, FieldThenRest, FieldsOfJoined, FieldsAreWords, DecimalIsCanonical, DecimalOfValue, DecimalIsInjective, NumberOfDecimal, LengthOfDecimal, DecimalIsWord, DecimalIsDigits, DecimalByDigits, ValueByDigits, DecimalIsDisplayed};
+
+use crate::DIGITS;
 
 /// How a text is cut into lines, from the front.
 pub fn lines_by_front()
@@ -15,7 +18,8 @@ pub fn lines_of_written()
     ensures front { LinesOfEndedThenRest }
 {}
 
-/// `lines` is the one way to cut a text after each byte 10.
+/// `lines` is the one way to cut a text after each byte 10, where a last line without one has some
+/// byte.
 pub fn lines_are_the_cut()
     ensures { LinesAreTheCut }
 {}
@@ -54,6 +58,11 @@ pub fn number_of_written()
     ensures word { DecimalIsWord }
     ensures digits { DecimalIsDigits }
     ensures len { LengthOfDecimal }
+{}
+
+/// How many digits a number that is read has at most.
+pub fn digits_of_a_number()
+    ensures { DIGITS ≡ 18 }
 {}
 
 /// Digits and values, a digit at a time; and `{n}` displays the same digits.

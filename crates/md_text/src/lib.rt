@@ -1,9 +1,10 @@
 //! What every text format shares: lines, fields, numbers and decimal digits.
 //!
 //! A text is a slice of bytes. `split_line` and `split_field` take one line or one field off the
-//! front, `number` reads a field, and `push_number` writes a number. A `Piece` is a text of a few bytes
-//! that is made once and then copied whole, many times; pieces are gathered in a `Chunk`, which is
-//! appended to a text when it is full. Only `push_number` and what appends a chunk take memory.
+//! front, `number` reads a field, and `push_number` writes a number. A `Piece` is a text of a few
+//! bytes that is made once and then copied whole, many times; pieces are gathered in a `Chunk`,
+//! which is appended to a text when it is full. Only `push_number` and what appends a chunk take
+//! memory.
 #![tactic(auto)]
 
 mod chunk;

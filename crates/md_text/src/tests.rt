@@ -52,6 +52,37 @@ fn check_split_number(rt: &impl Abort, line: &[u8], n: Option<u64>, behind: &[u8
     assert_eq!(rt; rest, behind);
 }
 
+fn check_counts(rt: &impl Abort) {
+    let (one, two): (&[u8], &[u8]) = (b"1", b"2");
+    assert_eq!(rt; one_field(b" 1 "), Some(one));
+    assert_eq!(rt; one_field(b"1 2"), None);
+    assert_eq!(rt; two_fields(b"1 2"), Some((one, two)));
+    assert_eq!(rt; two_fields(b"1 2 1"), None);
+    assert_eq!(rt; three_fields(b"2 1 1"), Some((two, one, one)));
+    assert_eq!(rt; three_fields(b"2 1"), None);
+}
+
+#[test]
+fn chunks(rt: HostRuntime) -> Result<(), Fail> {
+    let mut text = Vec::new(rt.alloc());
+    text.push(b'+')?;
+    let mut chunk = Chunk::new();
+    chunk.put_both(
+        piece_behind(b'e', digits_piece(7)),
+        number_piece(99_999, b'\n'),
+    );
+    chunk.make_room(CHUNK_SIZE - 8, &mut text)?;
+    assert_eq!(rt; text.as_slice(), b"+".as_slice());
+    chunk.make_room(CHUNK_SIZE, &mut text)?;
+    assert_eq!(rt; text.as_slice(), b"+e799999\n".as_slice());
+    chunk.put_both(digits_piece(0), digits_piece(10));
+    assert_eq!(rt; chunk.room(), CHUNK_SIZE - 3);
+    chunk.flush(&mut text)?;
+    assert_eq!(rt; text.as_slice(), b"+e799999\n010".as_slice());
+    assert_eq!(rt; chunk.room(), CHUNK_SIZE);
+    Ok(())
+}
+
 #[test]
 fn texts(rt: HostRuntime) -> Result<(), Fail> {
     check_lines(&rt, b"", &[]);
@@ -67,10 +98,7 @@ fn texts(rt: HostRuntime) -> Result<(), Fail> {
     );
     check_fields(&rt, b" \t", &[]);
     check_fields(&rt, b"\te\t10  2\r ", &[b"e", b"10", b"2\r"]);
-    assert!(rt; one_field(b" e ").is_some());
-    assert!(rt; two_fields(b"e 1").is_some());
-    assert!(rt; three_fields(b"e 1 2").is_some());
-    assert!(rt; two_fields(b"e 1 2").is_none());
+    check_counts(&rt);
     check_number(&rt, rt.alloc(), 0, b"0")?;
     check_number(&rt, rt.alloc(), 10, b"10")?;
     check_number(&rt, rt.alloc(), 4_095, b"4095")?;

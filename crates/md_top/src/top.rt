@@ -11,8 +11,8 @@ ghost use Rattle.md_top.specs.Clauses.{CanBeBad, CanBeGood, Puts, TakesLineOf};
 ghost use Rattle.md_top.specs.Ends.{Ends};
 
 use crate::convert::convert;
-use crate::form::{Form, format_of, graph_form, script_form};
 use crate::err_line::put_line;
+use crate::form::{Form, format_of, graph_form, script_form};
 use crate::load::load;
 use crate::report::report;
 use crate::session::edit;

@@ -9,7 +9,7 @@ use Rattle.md_tree.specs.declared.Kind.{Kind}
 use Rattle.md_tree.specs.declared.Pair.{Pair}
 use Rattle.md_tree.specs.Trees.{PlainTree, leaf, node, PlainTrees, no_tree, one_more, names, names_below, node_sets, EachNode, EachNodeBelow}
 use Rattle.md_tree.specs.StrongTrees.{IsNodeOf, IsTreeOf}
-use Rattle.md_tree.proofs.Lists.{In, Later, of_contains, to_contains, of_pairs}
+use Rattle.md_text.proofs.Lists.{In, Later, of_contains, to_contains, of_pairs}
 use Rattle.md_tree.proofs.Nodes.{IsChild, Differ, own_set, set_inside, single_in, child_inside, child_set_in, child_of_set, child_once, one_child}
 
 -- m is the leaf set of one of the trees

@@ -20,7 +20,7 @@ use Rattle.md_tree.specs.declared.Pair.{Pair}
 use Rattle.md_tree.specs.Trees.{PlainTree, leaf, node, PlainTrees, no_tree, one_more, names, names_below, names_at, node_sets, node_sets_below, count, EachNode, EachNodeBelow}
 use Rattle.md_tree.specs.StrongTrees.{HasKind, IsInOrder, IsJoined, ListsJoined, IsNodeOf, IsTreeOf}
 use Rattle.md_tree.specs.WellFormed.{IsOfKind, NoneOfKind, AreApart, IsPlainNode, HasShape, IsCanonicalNode}
-use Rattle.md_tree.proofs.Lists.{In, Later, of_append, in_left, in_right, of_contains, to_contains, to_pairs, later_append}
+use Rattle.md_text.proofs.Lists.{In, Later, of_append, in_left, in_right, of_contains, to_contains, to_pairs, later_append}
 use Rattle.md_tree.proofs.Nodes.{IsChild, Differ, set_inside, sets_inside, child_inside, child_of_name, child_of_set}
 use Rattle.md_tree.proofs.Built.{IsChildSet, IsBuilt}
 use Rattle.md_tree.proofs.Unique.{two_of_kind}

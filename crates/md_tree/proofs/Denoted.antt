@@ -18,7 +18,7 @@ use Rattle.md_tree.specs.Plain.{plain, plain_option}
 use Rattle.md_tree.specs.WellFormed.{AreApart, IsCanonical}
 use Rattle.md_tree.specs.TreeGraph.{position_of, adjacent_in, graph_of_tree}
 use Rattle.md_tree.specs.TreeEdges.{crosses, in_listed, has_edge_in}
-use Rattle.md_tree.proofs.Lists.{in_get, to_contains}
+use Rattle.md_text.proofs.Lists.{in_get, to_contains}
 use Rattle.md_tree.proofs.Graph.{at_inside, position_at}
 use Rattle.md_tree.proofs.Edges.{edges_are}
 use Rattle.md_tree.proofs.Loops.{or_moved, count_row, names_at_row}

@@ -15,7 +15,7 @@ use Rattle.md_tree.specs.Trees.{PlainTree, leaf, node, PlainTrees, no_tree, one_
 use Rattle.md_tree.specs.WellFormed.{AreApart, IsCanonicalNode, IsPrimeNode}
 use Rattle.md_tree.specs.TreeGraph.{position_of, lists_pair, joins, adjacent_in, adjacent_below}
 use Rattle.md_tree.specs.TreeEdges.{crosses, in_two, in_listed, edge_across, has_edge_in, has_edge_below}
-use Rattle.md_tree.proofs.Lists.{In, to_contains}
+use Rattle.md_text.proofs.Lists.{In, to_contains}
 use Rattle.md_tree.proofs.Pairs.{pair}
 use Rattle.md_tree.proofs.Graph.{at_position, at_inside, position_at, of_lists, to_lists, less_or_more}
 

@@ -13,7 +13,7 @@ use Rattle.md_tree.specs.declared.Kind.TheVariants.{Parallel, Series, Prime}
 use Rattle.md_tree.specs.declared.Pair.{Pair}
 use Rattle.md_tree.specs.Trees.{PlainTree, leaf, node, PlainTrees, no_tree, one_more, names, names_below, names_at, count, EachNode, EachNodeBelow}
 use Rattle.md_tree.specs.StrongTrees.{HasKind, IsInOrder, IsJoined, IsPairBefore, ListsJoined, HasPairs}
-use Rattle.md_tree.proofs.Lists.{of_contains, to_contains, to_pairs}
+use Rattle.md_text.proofs.Lists.{of_contains, to_contains, to_pairs}
 use Rattle.md_tree.proofs.Nodes.{IsChild}
 use Rattle.md_tree.proofs.Built.{IsChildSet, IsBuilt}
 use Rattle.md_tree.proofs.Pairs.{passing, passing_ascends, of_passing, to_passing}

@@ -20,7 +20,7 @@ use Rattle.md_tree.specs.Trees.{PlainTree, leaf, node, PlainTrees, no_tree, one_
 use Rattle.md_tree.specs.StrongTrees.{HasKind, IsJoined, ListsJoined, IsNodeOf, IsTreeOf}
 use Rattle.md_tree.specs.WellFormed.{AreApart, HasNoPrimeNode}
 use Rattle.md_tree.specs.TreeGraph.{position_of, lists_pair, joins, adjacent_in, adjacent_below}
-use Rattle.md_tree.proofs.Lists.{In, of_append, in_left, in_right, of_contains, to_contains}
+use Rattle.md_text.proofs.Lists.{In, of_append, in_left, in_right, of_contains, to_contains}
 use Rattle.md_tree.proofs.Nodes.{IsChild}
 use Rattle.md_tree.proofs.Built.{IsBuilt}
 use Rattle.md_tree.proofs.Pairs.{pair}

@@ -1,4 +1,3 @@
-pub mod Lists
 pub mod Loops
 pub mod Nodes
 pub mod Built

@@ -3,7 +3,7 @@ use Rattle.std.proofs.Common.{◌≡◌, ◌≢◌, ℕ, ◌⊎◌, refl, sym, �
 use Rattle.md_graph.specs.Sets.{NameSet, Has, Within, only_name}
 use Rattle.md_graph.proofs.SetLemmas.{clash, of_only, empty_lacks, union_left, union_right, of_union}
 use Rattle.md_tree.specs.Trees.{PlainTree, leaf, node, PlainTrees, no_tree, one_more, names, names_below, node_sets, node_sets_below}
-use Rattle.md_tree.proofs.Lists.{In, Later, in_left, in_right, of_append, later_left, later_right, later_across}
+use Rattle.md_text.proofs.Lists.{In, Later, in_left, in_right, of_append, later_left, later_right, later_across}
 
 -- c is one of the trees
 abbrev pub IsChild : PlainTrees → PlainTree → Type 0

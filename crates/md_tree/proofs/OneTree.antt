@@ -6,18 +6,19 @@ use Rattle.std.specs.FinSet.{contains, empty}
 use Rattle.md_graph.specs.declared.TheConstants.{NAMES}
 use Rattle.md_graph.specs.NameSet.{AllBelow}
 use Rattle.md_graph.specs.PlainGraph.{PlainGraph, IsGraph, adjacent}
-use Rattle.md_graph.proofs.GraphLemmas.{adjacent_sym, adjacent_self, adjacent_ends}
+use Rattle.md_graph.proofs.GraphLemmas.{adjacent_ends}
 use Rattle.md_graph.specs.Sets.{NameSet, Has, HasSome}
 use Rattle.md_modules.specs.Adjacency.{IsAdjacency}
 use Rattle.md_modules.specs.Modules.{IsStrong}
 use Rattle.md_graph.proofs.SetLemmas.{clash, empty_lacks, Has-along, same_members}
 use Rattle.md_graph.proofs.Search.{decide_has_some}
+use Rattle.md_modules.proofs.Turns.{graph_adjacency}
 use Rattle.md_tree.specs.Trees.{PlainTree, names, node_sets, EachNode}
 use Rattle.md_tree.specs.WellFormed.{IsCanonicalNode}
 use Rattle.md_tree.specs.TreeGraph.{adjacent_in}
 use Rattle.md_tree.specs.StrongTrees.{IsTreeOf, IsTree}
 use Rattle.md_tree.specs.Laws.{OneTree, TreeIsCanonical, TreeIsWellFormed, TreeTellsGraph, GraphOfTheTree, NoInducedPathIfNoPrimeNode}
-use Rattle.md_tree.proofs.Lists.{to_contains}
+use Rattle.md_text.proofs.Lists.{to_contains}
 use Rattle.md_tree.proofs.Nodes.{own_set}
 use Rattle.md_tree.proofs.Built.{tree_names, tree_built}
 use Rattle.md_tree.proofs.Unique.{same_tree}
@@ -76,13 +77,10 @@ well_formed_proof e adj s (Some t) is below =
     let c : (names t ≡ s) × EachNode IsCanonicalNode t = canonical_proof e adj s t is in
     (subst (λ w. AllBelow w NAMES) (sym c.0) below, c.1)
 
-graph_adjacency : (g : PlainGraph) → IsGraph g → IsAdjacency (adjacent g)
-graph_adjacency g is = record { symmetric = adjacent_sym g; irreflexive = adjacent_self is }
-
 pub graph_proof : GraphOfTheTree
 graph_proof g is None none = sym (no_vertices_empty g is none)
 graph_proof g is (Some t) tree =
-    let adj : IsAdjacency (adjacent g) = graph_adjacency g is in
+    let adj : IsAdjacency (adjacent g) = graph_adjacency is in
     let c : (names t ≡ g.vertices) × EachNode IsCanonicalNode t = canonical_proof (adjacent g) adj g.vertices t tree in
     sym (tree_graph g t is c.1 (subst (λ w. AllBelow w NAMES) (sym c.0) is.names) (sym c.0) (λ x y.
     both_ways (adjacent g x y) ((contains (names t) x && contains (names t) y) && adjacent_in t x y)

@@ -1,8 +1,9 @@
 -- The list of the pairs of positions that pass a test.
 use Rattle.std.proofs.Common.{◌≡◌, ℕ, zero, suc, ◌+◌, ◌<◌, ◌≤◌, Bool, true, false, ◌⊎◌, List, [], ◌∷◌, ◌++◌, refl, sym, subst, inl, inr, true≢false, arith}
+use Rattle.std.proofs.lemmas.Bool.{cases_lt}
 use Rattle.md_tree.specs.declared.Pair.{Pair}
 use Rattle.md_tree.specs.StrongTrees.{IsPairBefore}
-use Rattle.md_tree.proofs.Lists.{In, Later, in_left, in_right, of_append, later_append}
+use Rattle.md_text.proofs.Lists.{In, Later, in_left, in_right, of_append, later_append}
 
 abbrev pub pair : ℕ → ℕ → Pair
 pair i j = record { low = i; high = j }
@@ -28,6 +29,9 @@ put_rest false p q ps i = i
 later_put : (b : Bool) (p : Pair) (ps : List Pair) → Later IsPairBefore ps → ((q : Pair) → In ps q → IsPairBefore p q) → Later IsPairBefore (put b p ps)
 later_put true p ps l f = (f, l)
 later_put false p ps l f = l
+
+same_or_later : (j k : ℕ) → j ≤ k → (j ≡ k) ⊎ (j < k)
+same_or_later j k l = elim (cases_lt j k) [ inl m ↦ inr m | inr m ↦ inl (omega arith) ]
 
 module _ (test : ℕ → ℕ → Bool) where
   -- those of the n pairs (i, j), (i, j + 1), .. that pass
@@ -57,12 +61,7 @@ module _ (test : ℕ → ℕ → Bool) where
   to_row i j (suc n) k a b h = elim (same_or_later j k a) [
     | inl e ↦ subst (λ w. In (row i j (suc n)) (pair i w)) e (put_first (test i j) (pair i j) (row i (suc j) n) (subst (λ w. test i w ≡ true) (sym e) h))
     | inr l ↦ put_rest (test i j) (pair i j) (pair i k) (row i (suc j) n) (to_row i (suc j) n k (omega arith) (omega arith) h)
-  ] where
-    same_or_later : (j k : ℕ) → j ≤ k → (j ≡ k) ⊎ (j < k)
-    same_or_later zero zero l = inl refl
-    same_or_later zero (suc k) l = inr (omega arith)
-    same_or_later (suc j) zero l = absurd (omega arith)
-    same_or_later (suc j) (suc k) l = elim (same_or_later j k (omega arith)) [ inl e ↦ inl (omega arith) | inr m ↦ inr (omega arith) ]
+  ]
 
   row_ascends : (i j n : ℕ) → Later IsPairBefore (row i j n)
   row_ascends i j zero = tt
@@ -96,16 +95,11 @@ module _ (test : ℕ → ℕ → Bool) where
 
   to_rows : (i n m j k : ℕ) → i ≤ j → j < i + n → k < m → test j k ≡ true → In (rows i n m) (pair j k)
   to_rows i zero m j k a b c h = absurd (omega arith)
-  to_rows i (suc n) m j k a b c h = elim (same_or_above i j a) [
+  to_rows i (suc n) m j k a b c h = elim (same_or_later i j a) [
     | inl e ↦ in_left (row i 0 m) (rows (suc i) n m) (pair j k)
         (subst (λ w. In (row i 0 m) (pair w k)) e (to_row i 0 m k (omega arith) (omega arith) (subst (λ w. test w k ≡ true) (sym e) h)))
     | inr l ↦ in_right (row i 0 m) (rows (suc i) n m) (pair j k) (to_rows (suc i) n m j k (omega arith) (omega arith) c h)
-  ] where
-    same_or_above : (i j : ℕ) → i ≤ j → (i ≡ j) ⊎ (i < j)
-    same_or_above zero zero l = inl refl
-    same_or_above zero (suc k) l = inr (omega arith)
-    same_or_above (suc j) zero l = absurd (omega arith)
-    same_or_above (suc j) (suc k) l = elim (same_or_above j k (omega arith)) [ inl e ↦ inl (omega arith) | inr m ↦ inr (omega arith) ]
+  ]
 
   rows_ascend : (i n m : ℕ) → Later IsPairBefore (rows i n m)
   rows_ascend i zero m = tt

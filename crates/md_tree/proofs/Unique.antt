@@ -13,7 +13,7 @@ use Rattle.md_tree.specs.declared.Kind.TheVariants.{Parallel, Series, Prime}
 use Rattle.md_tree.specs.declared.Pair.{Pair}
 use Rattle.md_tree.specs.Trees.{PlainTree, leaf, node, PlainTrees, no_tree, one_more, names, names_below, EachNode, EachNodeBelow}
 use Rattle.md_tree.specs.StrongTrees.{HasKind, IsBefore, IsInOrder, IsPairBefore, ListsJoined, HasPairs}
-use Rattle.md_tree.proofs.Lists.{In, Later, of_contains, to_contains, of_pairs}
+use Rattle.md_text.proofs.Lists.{In, Later, of_contains, to_contains, of_pairs}
 use Rattle.md_tree.proofs.Nodes.{IsChild, child_inside}
 use Rattle.md_tree.proofs.Built.{IsChildSet, IsBuilt}
 

@@ -5,6 +5,7 @@ use Rattle.md_text.specs.Numbers.{decimal}
 use Rattle.md_tree.specs.declared.Kind.{Kind}
 use Rattle.md_tree.specs.declared.Pair.{Pair}
 use Rattle.md_tree.specs.Trees.{PlainTree, PlainTrees, node}
+use Rattle.md_tree.specs.Fronts.{BeginsWith}
 use Rattle.md_tree.specs.TreeTexts.{letter, pairs_text, tree_text, row_text}
 
 pub node_written : (k : Kind) (cs : PlainTrees) (ps : List Pair) (t : PlainTree) (a b c d f : List ℕ) → t ≡ node k cs ps →
@@ -28,3 +29,10 @@ run_written pairs place next d text held new_text one more total within before p
     append_assoc new_text more (pairs_text 44 (drop next pairs)) ∙ ap (λ z. new_text ++ z) run ∙ sym (append_assoc new_text one rest) ∙ ap (λ z. z ++ rest) pair
     ∙ append_assoc (text ++ held) (44 ∷ (decimal p.low ++ 45 ∷ decimal p.high)) rest
     ∙ ap (λ z. (text ++ held) ++ z) (ap (λ z. 44 ∷ z) (append_assoc (decimal p.low) (45 ∷ decimal p.high) rest) ∙ sym (ap (pairs_text 44) cut)) ∙ before
+
+-- what is appended to a text that begins with another one
+pub begins_on : {a b c : List ℕ} → BeginsWith b a → BeginsWith c b → BeginsWith c a
+begins_on {a} {b} {c} first second = record {
+  rest = first.rest ++ second.rest;
+  whole = second.whole ∙ ap (λ l. l ++ second.rest) first.whole ∙ append_assoc a first.rest second.rest;
+}

@@ -9,3 +9,4 @@ pub mod Laws
 pub mod Positions
 pub mod Parts
 pub mod Stacks
+pub mod Fronts

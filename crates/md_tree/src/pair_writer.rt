@@ -1,7 +1,8 @@
 //! Writes the pairs of a node.
-ghost use Rattle.std.specs.Prelude.{◌≡◌, ◌^◌, ◌<◌, ◌≤◌, [], ◌∷◌, ◌++◌, length, drop, IsTrue, OnOk};
+ghost use Rattle.std.specs.Prelude.{◌≡◌, ◌^◌, ◌<◌, ◌≤◌, [], ◌∷◌, ◌++◌, length, drop, IsTrue, OnOk, OnErr};
 ghost use Rattle.md_text.specs.Numbers.{decimal};
 ghost use Rattle.md_text.specs.Pieces.{piece_text};
+ghost use Rattle.md_tree.specs.Fronts.{BeginsWith};
 ghost use Rattle.md_tree.specs.Positions.{ArePositions};
 ghost use Rattle.md_tree.specs.TreeTexts.{pairs_text};
 
@@ -16,8 +17,8 @@ const MOST_POSITIONS: usize = 100_000;
 // So many bytes have room for a pair of two of them.
 const PAIR_ROOM: usize = 16;
 
-/// What a writer of pairs needs beside the text: the positions of children as pieces, and a chunk in which
-/// pairs are gathered.
+// What a writer of pairs needs beside the text: the positions of children as pieces, and a chunk in
+// which pairs are gathered.
 #[derive(Drop)]
 pub(crate) struct Workspace {
     positions: Vec<Piece>,
@@ -34,7 +35,8 @@ impl Workspace {
     }
 }
 
-// What stands before the second position of a pair: a comma, the first position in digits, and a hyphen.
+// What stands before the second position of a pair: a comma, the first position in digits, and a
+// hyphen.
 #[derive(Clone, Copy)]
 struct Start {
     low: u32,
@@ -49,7 +51,9 @@ pub(crate) fn push_pairs(
     count: usize,
     space: &mut Workspace,
 ) -> Result<(), Memory>
-    ensures { OnOk result (text.new.items ≡ text.old.items ++ pairs_text 59 edges.now.list.items) }
+    ensures written { OnOk result (text.new.items
+        ≡ text.old.items ++ pairs_text 59 edges.now.list.items) }
+    ensures begun { OnErr result (BeginsWith text.new.items text.old.items) }
 {
     if edges.list.is_empty() {
         return Ok(());
@@ -81,7 +85,8 @@ fn push_more(
     chunk: &mut Chunk,
 ) -> Result<(), Memory>
     requires { ArePositions positions.now }
-    ensures { OnOk result (text.new.items ≡ text.old.items ++ pairs_text 44 pairs.now) }
+    ensures written { OnOk result (text.new.items ≡ text.old.items ++ pairs_text 44 pairs.now) }
+    ensures begun { OnErr result (BeginsWith text.new.items text.old.items) }
 {
     chunk.clear();
     let mut start = start_at(0);
@@ -94,8 +99,8 @@ fn push_more(
     Ok(())
 }
 
-// Gathers pairs, from the one at `from` on, as long as they have the position of the start and there is
-// room. Says where the others begin.
+// Gathers pairs, from the one at `from` on, as long as they have the position of the start and
+// there is room. Says where the others begin.
 #[inline(never)]
 fn put_run(
     pairs: &[Pair],
@@ -122,7 +127,7 @@ fn put_run(
     end
 }
 
-// Gathers a pair; a chunk that is more than half full goes to the text first.
+// Gathers a pair; a chunk that is more than half full goes to the text first. The text only grows.
 fn put_pair(
     text: &mut Vec<u8>,
     pair: Pair,
@@ -131,19 +136,23 @@ fn put_pair(
     chunk: &mut Chunk,
 ) -> Result<(), Memory>
     requires { ArePositions positions.now }
-    ensures { OnOk result (text.new.items ++ chunk.new
+    ensures written { OnOk result (text.new.items ++ chunk.new
         ≡ (text.old.items ++ chunk.old) ++ 44 ∷ (decimal pair.low ++ 45 ∷ decimal pair.high)) }
+    ensures begun { BeginsWith text.new.items text.old.items }
 {
     if pair.high as usize >= positions.len() || !move_to(start, pair.low) {
         chunk.flush(text)?;
         return push_pair(text, b',', pair);
     }
-    chunk.make_room(CHUNK_SIZE / 2, text)?;
+    if chunk.room() < CHUNK_SIZE / 2 {
+        chunk.flush(text)?;
+    }
     chunk.put_both(start.piece, positions[pair.high as usize]);
     Ok(())
 }
 
-// Gives the start another position, if it has at most five digits; says whether the start then has it.
+// Gives the start another position, if it has at most five digits; says whether the start then has
+// it.
 fn move_to(start: &mut Start, low: u32) -> bool
     ensures { IsTrue result → start.new.low ≡ low }
 {
@@ -168,8 +177,9 @@ fn start_at(low: u32) -> Start
 }
 
 fn push_pair(text: &mut Vec<u8>, mark: u8, pair: Pair) -> Result<(), Memory>
-    ensures { OnOk result (text.new.items
+    ensures written { OnOk result (text.new.items
         ≡ text.old.items ++ mark ∷ (decimal pair.low ++ 45 ∷ decimal pair.high)) }
+    ensures begun { OnErr result (BeginsWith text.new.items text.old.items) }
 {
     text.push(mark)?;
     push_number(text, u64::from(pair.low))?;

@@ -1,5 +1,6 @@
 //! Writes the text of a tree.
-ghost use Rattle.std.specs.Prelude.{◌≡◌, [], ◌∷◌, ◌++◌, IfOk};
+ghost use Rattle.std.specs.Prelude.{◌≡◌, [], ◌∷◌, ◌++◌, IfOk, OnOk, OnErr};
+ghost use Rattle.md_tree.specs.Fronts.{BeginsWith};
 ghost use Rattle.md_tree.specs.Trees.{node};
 ghost use Rattle.md_tree.specs.Plain.{plain, plain_option, row_of};
 ghost use Rattle.md_tree.specs.TreeTexts.{letter, tree_text, row_text, text_of};
@@ -22,18 +23,24 @@ pub fn text(alloc: Global, tree: &Option<Tree>) -> Result<Vec<u8>, Memory>
     Ok(text)
 }
 
-/// Appends the text of a tree: the one that `text` makes. Errors: want of memory; nothing is then
-/// said of what the text holds.
+/// Appends the text of a tree: the one that `text` makes. Errors: want of memory; the text to which
+/// it was to be appended then stays.
 pub fn push_text(alloc: Global, text: &mut Vec<u8>, tree: &Option<Tree>) -> Result<(), Memory>
-    ensures { IfOk result (λ _. text.new.items
+    ensures written { OnOk result (text.new.items
         ≡ text.old.items ++ text_of (plain_option tree.now)) }
+    ensures stays { OnErr result (text.new.items ≡ text.old.items) }
 {
     let Some(tree) = tree else {
         text.extend_from_slice(b"empty")?;
         return Ok(());
     };
+    let before = text.len();
     let mut space = Workspace::new(alloc);
-    push_tree(text, tree, &mut space)
+    if push_tree(text, tree, &mut space).is_err() {
+        text.truncate(before);
+        return Err(Memory);
+    }
+    Ok(())
 }
 
 fn letter(kind: Kind) -> u8
@@ -49,7 +56,9 @@ fn letter(kind: Kind) -> u8
 #[cycle(write)]
 #[tactic(auto, using(crate::proofs::Plain::plain_is_leaf, crate::proofs::Plain::plain_is_node))]
 fn push_tree(text: &mut Vec<u8>, tree: &Tree, space: &mut Workspace) -> Result<(), Memory>
-    ensures { IfOk result (λ _. text.new.items ≡ text.old.items ++ tree_text (plain tree.now)) }
+    ensures written { OnOk result (text.new.items
+        ≡ text.old.items ++ tree_text (plain tree.now)) }
+    ensures begun { OnErr result (BeginsWith text.new.items text.old.items) }
 {
     match tree {
         Tree::Leaf(name) => Ok(push_number(text, u64::from(*name))?),
@@ -66,8 +75,9 @@ fn push_node(
     edges: &QuotientEdges,
     space: &mut Workspace,
 ) -> Result<(), Memory>
-    ensures { IfOk result (λ _. text.new.items
+    ensures written { OnOk result (text.new.items
         ≡ text.old.items ++ tree_text (node kind (row_of children.now) edges.now.list.items)) }
+    ensures begun { OnErr result (BeginsWith text.new.items text.old.items) }
 {
     text.push(letter(kind))?;
     push_children(text, children, space)?;
@@ -83,8 +93,9 @@ fn push_children(
     children: &Children,
     space: &mut Workspace,
 ) -> Result<(), Memory>
-    ensures { IfOk result (λ _. text.new.items
+    ensures written { OnOk result (text.new.items
         ≡ text.old.items ++ row_text 40 (row_of children.now)) }
+    ensures begun { OnErr result (BeginsWith text.new.items text.old.items) }
 {
     let mut mark = b'(';
     for child in &children.list {

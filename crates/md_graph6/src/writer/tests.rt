@@ -9,21 +9,21 @@ use std::alloc::Global;
 use std::process::Abort;
 use std::test::Fail;
 
-/// Takes in a vertex that isn't there yet.
+// Takes in a vertex that isn't there yet.
 fn take(graph: &mut Graph, v: u32) {
     if v < NAMES && !graph.has_vertex(v) {
         graph.add_vertex(v);
     }
 }
 
-/// Takes in an edge between two vertices.
+// Takes in an edge between two vertices.
 fn join(graph: &mut Graph, u: u32, v: u32) {
     if u != v && graph.has_vertex(u) && graph.has_vertex(v) && !graph.has_edge(u, v) {
         graph.add_edge(u, v);
     }
 }
 
-/// The graph on these vertices with these edges is written so.
+// The graph on these vertices with these edges is written so.
 fn gives(
     rt: &impl Abort,
     alloc: Global,
@@ -69,12 +69,37 @@ fn texts_are_written(rt: HostRuntime) -> Result<(), Fail> {
     Ok(())
 }
 
-/// An edge of the graphs on many vertices.
+// The line of the graph on 63 vertices with the edges 0-1, 0-62 and 61-62.
+fn line_of_63(alloc: Global) -> Result<Vec<u8>, Fail> {
+    let mut text = Vec::new(alloc);
+    text.extend_from_slice(b"~??~_")?;
+    text.resize(319, b'?')?;
+    text.push(b'O')?;
+    text.resize(329, b'?')?;
+    text.extend_from_slice(b"G\n")?;
+    Ok(text)
+}
+
+#[test]
+fn four_bytes_of_size_are_written(rt: HostRuntime) -> Result<(), Fail> {
+    let mut graph = Graph::new(rt.alloc())?;
+    for v in 0..63 {
+        take(&mut graph, v);
+    }
+    for (u, v) in [(0, 1), (0, 62), (61, 62)] {
+        join(&mut graph, u, v);
+    }
+    let written = write(rt.alloc(), &graph)?;
+    assert_eq!(rt; written.as_slice(), line_of_63(rt.alloc())?.as_slice());
+    Ok(())
+}
+
+// An edge of the graphs on many vertices.
 fn runs_between(i: u32, j: u32) -> bool {
     (i ^ j) % 2 == 1 || j % 7 == i % 5
 }
 
-/// Takes in a vertex and the edges to those before it.
+// Takes in a vertex and the edges to those before it.
 fn take_joined(graph: &mut Graph, j: u32) {
     take(graph, j);
     for i in 0..j {
@@ -84,7 +109,7 @@ fn take_joined(graph: &mut Graph, j: u32) {
     }
 }
 
-/// The graph has the edges of the rule between its first n vertices.
+// The graph has the edges of the rule between its first n vertices.
 fn has_edges(rt: &impl Abort, graph: &Graph, n: u32) {
     assert_eq!(rt; graph.count(), n);
     for j in 0..n {
@@ -94,7 +119,7 @@ fn has_edges(rt: &impl Abort, graph: &Graph, n: u32) {
     }
 }
 
-/// The text spells the graph of the rule on n vertices.
+// The text spells the graph of the rule on n vertices.
 fn spells(rt: &impl Abort, graph: &mut Graph, text: &[u8], n: u32)
     requires empty { graph.old ≡ empty_graph }
     requires sound { first_fault text.now ≡ None }

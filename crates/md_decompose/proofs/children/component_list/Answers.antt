@@ -1,4 +1,6 @@
-use Rattle.md_decompose.proofs.Components.{flipped_off, listing_begin, listing_turn, listing_end, rest_falls}
+use Rattle.md_decompose.proofs.Components.{listing_begin, listing_turn, listing_end}
+use Rattle.md_graph.proofs.Search.{rest_falls}
+use Rattle.md_graph.proofs.SetLemmas.{flipped_off}
 use Rattle.md_decompose.proofs.children.component_list.Goals as goal
 
 pub loop-v-init : goal.loop-v-init

@@ -1,10 +1,11 @@
 use Rattle.std.proofs.Common.{Some, None, sym, subst}
 use Rattle.md_graph.specs.PlainGraph.{adjacent}
-use Rattle.md_modules.proofs.Turns.{none_lacks, if_empty, graph_adjacency}
+use Rattle.md_modules.proofs.Turns.{graph_adjacency}
 use Rattle.md_tree.specs.Plain.{plain}
 use Rattle.md_tree.specs.StrongTrees.{IsTreeOf}
 use Rattle.md_tree.proofs.OneTree.{well_formed_proof, graph_proof}
 use Rattle.md_decompose.proofs.decomposition.decompose.Goals as goal
+use Rattle.md_graph.proofs.SetLemmas.{none_lacks, if_empty}
 
 pub returns-in_default-clause-tree : goal.returns-in_default-clause-tree
 returns-in_default-clause-tree c = if_empty c.args.graph.now.vertices (none_lacks c.args.graph.now.vertices c.in_default.ensures.none)

@@ -3,8 +3,7 @@ use Rattle.std.proofs.lemmas.List.{get_or_read}
 use Rattle.std.proofs.lemmas.List.Sorted.{IsNonDecreasingBy-from_sort_by_key}
 use Rattle.std.specs.FinSet.{empty}
 use Rattle.md_graph.specs.Sets.{HasSome}
-use Rattle.md_graph.proofs.SetLemmas.{clash}
-use Rattle.md_modules.proofs.Turns.{none_lacks}
+use Rattle.md_graph.proofs.SetLemmas.{clash, none_lacks}
 use Rattle.md_decompose.specs.declared.ordered.Mark.{Mark}
 use Rattle.md_decompose.specs.Children.{set_at}
 use Rattle.md_decompose.proofs.OrderLemmas.{AreFirstMarks, marks_sorted}

@@ -1,8 +1,7 @@
 use Rattle.std.proofs.Common.{◌∙◌, ap}
 use Rattle.std.specs.FinSet.{insert, intersection}
 use Rattle.md_graph.specs.NameSet.{told_apart}
-use Rattle.md_decompose.proofs.Components.{rest_told}
-use Rattle.md_graph.proofs.SetLemmas.{of_minus, Has-along}
+use Rattle.md_graph.proofs.SetLemmas.{of_minus, Has-along, rest_told}
 use Rattle.md_modules.proofs.Turns.{graph_adjacency}
 use Rattle.md_decompose.proofs.ChildLemmas.{held_begins, held_falls, held_more, held_ends}
 use Rattle.md_decompose.proofs.prime.far_from.Goals as goal

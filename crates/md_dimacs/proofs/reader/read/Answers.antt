@@ -1,13 +1,17 @@
-use Rattle.std.proofs.Common.{sym, ◌∙◌}
+use Rattle.std.proofs.Common.{sym, ◌∙◌, arith}
+use Rattle.md_graph.proofs.Ranges.{none_there}
 use Rattle.md_text.specs.Lines.{lines}
-use Rattle.md_dimacs.proofs.ReadLemmas.{outcome_spells, outcome_faultless, outcome_fault, nothing_on_ok, nothing_on_err, always_on_err, vertices-edgeless}
+use Rattle.md_dimacs.proofs.ReadLemmas.{outcome_spells, outcome_faultless, outcome_fault, nothing_on_ok, nothing_on_err, always_on_err, vertices-edgeless, edgeless_by_range}
 use Rattle.md_dimacs.proofs.reader.read.Goals as goal
 
-pub add_vertices-requires-clause-named : goal.add_vertices-requires-clause-named
-add_vertices-requires-clause-named c = c.in_ok-n.ensures.found.problem_line.named
+pub add_range-requires-clause-names : goal.add_range-requires-clause-names
+add_range-requires-clause-names c = omega (arith, c.in_ok-n.ensures.found.problem_line.named)
+
+pub add_range-requires-clause-absent : goal.add_range-requires-clause-absent
+add_range-requires-clause-absent c v low high = none_there c.requires v
 
 pub read_edges-outcome-requires-clause-vertices : goal.read_edges-outcome-requires-clause-vertices
-read_edges-outcome-requires-clause-vertices c = vertices-edgeless c.add_vertices.new.graph c.in_ok-n.n c.add_vertices.ensures
+read_edges-outcome-requires-clause-vertices c = vertices-edgeless c.add_range.new.self c.in_ok-n.n (edgeless_by_range c.in_ok-n.n c.requires c.add_range.ensures)
 
 pub returns-then-is_err-clause-spells : goal.returns-then-is_err-clause-spells
 returns-then-is_err-clause-spells c = nothing_on_ok c.read_edges-outcome.result _ (sym c.is_err.ensures.value ∙ c.if-is_err.true)
@@ -24,8 +28,8 @@ returns-then-is_err-clause-refused c = always_on_err c.read_edges-outcome.result
 
 pub returns-else-is_err-clause-spells : goal.returns-else-is_err-clause-spells
 returns-else-is_err-clause-spells c =
-    outcome_spells c.read_edges-outcome.result c.args.bytes.now c.in_ok-n.n c.in_ok-n.count (lines c.in_ok-n.rest.now) c.add_vertices.new.graph c.read_edges-outcome.new.graph
-    c.in_ok-n.ensures.found c.add_vertices.ensures c.read_edges-outcome.ensures.faultless c.read_edges-outcome.ensures.added
+    outcome_spells c.read_edges-outcome.result c.args.bytes.now c.in_ok-n.n c.in_ok-n.count (lines c.in_ok-n.rest.now) c.add_range.new.self c.read_edges-outcome.new.graph
+    c.in_ok-n.ensures.found (edgeless_by_range c.in_ok-n.n c.requires c.add_range.ensures) c.read_edges-outcome.ensures.faultless c.read_edges-outcome.ensures.added
 
 pub returns-else-is_err-clause-faultless : goal.returns-else-is_err-clause-faultless
 returns-else-is_err-clause-faultless c =

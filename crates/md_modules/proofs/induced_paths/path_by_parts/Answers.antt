@@ -1,4 +1,5 @@
-use Rattle.md_modules.proofs.PathSearch.{part_whole, left_smaller, Searched-more}
+use Rattle.md_modules.proofs.PathSearch.{part_whole, Searched-more}
+use Rattle.md_graph.proofs.Search.{rest_falls}
 use Rattle.md_modules.proofs.induced_paths.path_by_parts.Goals as goal
 
 pub path_by_part-requires-clause-whole : goal.path_by_part-requires-clause-whole
@@ -7,7 +8,7 @@ path_by_part-requires-clause-whole c =
 
 pub loop-y-smaller : goal.loop-y-smaller
 loop-y-smaller c =
-    left_smaller c.loop-y.left c.part_of.new.into c.minus-left.result c.in-Some.y c.in-Some.ensures.found.member c.part_of.ensures.holds c.minus-left.ensures
+    rest_falls c.loop-y.left c.part_of.new.into c.minus-left.result c.in-Some.y c.in-Some.ensures.found.member c.part_of.ensures.holds c.minus-left.ensures
 
 pub loop-y-preserved : goal.loop-y-preserved
 loop-y-preserved c =

@@ -1,7 +1,7 @@
 use Rattle.std.proofs.Common.{◌∙◌, ap}
 use Rattle.std.specs.FinSet.{intersection}
 use Rattle.md_modules.proofs.PathSearch.{path_found, of_seen, seen_has, of_rest, NothingAcross-if}
-use Rattle.md_modules.proofs.Walks.{Walked-start, Walked-along, Walked-item, Walked-more, Walked-end}
+use Rattle.md_graph.proofs.Walks.{Walked-start, Walked-along, Walked-item, Walked-more, Walked-end}
 use Rattle.md_modules.proofs.induced_paths.path_over.Goals as goal
 
 pub loop-m-init : goal.loop-m-init

@@ -1,7 +1,7 @@
 use Rattle.std.specs.FinSet.{intersection}
 use Rattle.md_graph.specs.PlainGraph.{neighbours}
 use Rattle.md_modules.proofs.PathSearch.{NothingAcross}
-use Rattle.md_modules.proofs.Walks.{Walked}
+use Rattle.md_graph.proofs.Walks.{Walked}
 use Rattle.md_modules.proofs.induced_paths.path_over.Given as goal
 
 abbrev pub invariant-loop-m : goal.invariant-loop-m

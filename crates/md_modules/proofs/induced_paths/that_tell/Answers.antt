@@ -1,7 +1,7 @@
 use Rattle.std.proofs.Common.{◌∙◌, ap}
 use Rattle.std.specs.FinSet.{difference}
 use Rattle.md_modules.proofs.PathSearch.{Telling-start, Telling-more, of_told, told_has}
-use Rattle.md_modules.proofs.Walks.{Walked-start, Walked-item, Walked-end}
+use Rattle.md_graph.proofs.Walks.{Walked-start, Walked-item, Walked-end}
 use Rattle.md_modules.proofs.induced_paths.that_tell.Goals as goal
 
 pub loop-m-init : goal.loop-m-init

@@ -1,0 +1,17 @@
+use Rattle.md_graph.proofs.SetLemmas.{Has-along, of_minus}
+use Rattle.md_graph.proofs.Search.{back_falls}
+use Rattle.md_modules.proofs.Turns.{graph_adjacency, reach_backed}
+use Rattle.md_modules.proofs.component_search.look_back.Goals as goal
+
+pub seeing-new-requires : goal.seeing-new-requires
+seeing-new-requires c y h = (of_minus c.args.within.now c.args.left.now y (Has-along _ _ c.minus-taken.ensures y h)).1
+
+pub returns-clause-kept : goal.returns-clause-kept
+returns-clause-kept c x is =
+    reach_backed (graph_adjacency c.vertices-vertices.ensures.graph) c.args.within.now c.args.left.now c.args.todo.now c.minus-taken.result c.seeing-new.result c.clear.new.self
+    c.move_shared.new.self c.move_shared.new.to c.args.value x is c.minus-taken.ensures c.seeing-new.ensures c.clear.ensures c.move_shared.ensures.rest c.move_shared.ensures.moved
+
+pub returns-clause-fewer : goal.returns-clause-fewer
+returns-clause-fewer c =
+    back_falls c.args.left.now c.seeing-new.result c.clear.new.self c.move_shared.new.self c.move_shared.new.to c.clear.ensures
+    (λ y h. ((c.seeing-new.ensures y).0 h).0) c.move_shared.ensures.rest c.move_shared.ensures.moved

@@ -1,0 +1,11 @@
+use Rattle.std.proofs.Common.{◌+◌}
+use Rattle.std.specs.FinSet.{len}
+use Rattle.md_graph.specs.PlainGraph.{adjacent}
+use Rattle.md_modules.proofs.Growth.{IsGrowing}
+use Rattle.md_modules.proofs.module_search.not_grown.Given as goal
+
+abbrev pub invariant-loop-w : goal.invariant-loop-w
+invariant-loop-w l = IsGrowing (adjacent l.graph) l.within l.v l.fn.left l.left l.todo
+
+abbrev pub decreases-loop-w : goal.decreases-loop-w
+decreases-loop-w l = len l.left + len l.todo

@@ -1,0 +1,16 @@
+use Rattle.std.proofs.Common.{◌<◌, length}
+use Rattle.md_graph.specs.PlainGraph.{adjacent}
+use Rattle.md_modules.specs.Classes.{class_at}
+use Rattle.md_modules.specs.Classes.{HoldsSplitters}
+use Rattle.md_modules.proofs.ClassLists.{work}
+use Rattle.md_modules.proofs.ClassLemmas.{IsCutting}
+use Rattle.md_modules.proofs.refinement.maximal_modules.Given as goal
+
+abbrev pub invariant-loop-at : goal.invariant-loop-at
+invariant-loop-at l = record {
+  cutting : IsCutting (adjacent l.graph) l.set l.rest l.classes.items l.at;
+  left : l.at < length l.classes.items → HoldsSplitters (adjacent l.graph) l.set (class_at l.classes.items l.at) l.left;
+}
+
+abbrev pub decreases-loop-at : goal.decreases-loop-at
+decreases-loop-at l = work l.classes.items l.at

@@ -1,8 +1,0 @@
-use Rattle.std.specs.FinSet.{difference}
-use Rattle.md_modules.proofs.Turns.{flipped_along, least_over_along}
-use Rattle.md_modules.proofs.searches.grow.Goals as goal
-
-pub returns : goal.returns
-returns c =
-    least_over_along c.args.within.now c.args.into.now (difference c.args.within.now c.not_grown.new.left) c.flip.new.self
-    (flipped_along c.args.within.now c.not_grown.new.left c.flip.new.self c.not_grown.ensures.part c.flip.ensures) c.not_grown.ensures.grown

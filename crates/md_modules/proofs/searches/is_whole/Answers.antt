@@ -1,7 +1,0 @@
-use Rattle.md_modules.proofs.Turns.{graph_adjacency, whole_test}
-use Rattle.md_modules.proofs.searches.is_whole.Goals as goal
-
-pub returns : goal.returns
-returns c =
-    whole_test (graph_adjacency c.vertices-vertices.ensures.graph) c.vertices-vertices.result.now _ c.unreached.new.left c.args.value c.in-Some.x c.is_empty.result
-    c.vertices-vertices.ensures.set c.unreached.ensures.part c.unreached.ensures.taken c.is_empty.ensures

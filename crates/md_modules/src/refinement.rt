@@ -1,0 +1,160 @@
+//! The maximal ones among the modules inside a part of a set, by partition refinement.
+ghost use Rattle.std.specs.Prelude.{◌≡◌, ◌<◌, ◌++◌, ◌∷◌, ◌↔◌, ℕ, IfOk, IfSome, IfNone, IsTrue, [], length, slice_set, vec_len};
+ghost use Rattle.std.specs.FinSet.{empty, union, intersection, difference};
+ghost use Rattle.md_graph.specs.PlainGraph.{adjacent};
+ghost use Rattle.md_graph.specs.Sets.{NameSet, Has, Within, Disjoint, HasSome};
+ghost use Rattle.md_modules.specs.Classes.{class_at};
+ghost use Rattle.md_modules.specs.Classes.{IsSplitter, IsSideOf, AreMaximalInside};
+
+use crate::sees;
+use md_graph::{Graph, Memory, NAMES, Names};
+use std::alloc::Global;
+use std::mem::swap;
+
+// Room for so many classes is taken at once, and a class of so many names is small.
+const FEW: u32 = 64;
+
+/// The maximal ones among the modules of `set` that are parts of `rest`, in any order; they
+/// partition `rest`. Condition: `rest` is a nonempty part of `set`.
+pub fn maximal_modules(
+    alloc: Global,
+    graph: &Graph,
+    set: &Names,
+    rest: &Names,
+) -> Result<Vec<Names>, Memory>
+    requires inside { Within set.now graph.now.vertices }
+    requires part { Within rest.now set.now }
+    requires some { HasSome rest.now }
+    ensures { IfOk result
+        (λ classes. AreMaximalInside (adjacent graph.now) set.now rest.now classes.items) }
+{
+    let mut classes = Vec::with_capacity(alloc, rest.count().min(FEW) as usize)?;
+    classes.push(rest.copy())?;
+    let mut left = set.minus(rest);
+    let mut at = 0;
+    // A large class is seen to be final, or to be cut, at two passes over it for each name left
+    // that is looked at, and what stays in its place looks at none of these again but the one that
+    // cut it. A small class takes one pass over the names left for each member, and there are at
+    // most two such looks a class. So k classes in a set of m names cost about 4km passes at most.
+    while at < classes.len() {
+        if let Some(p) = splitter(graph, &classes[at], &mut left) {
+            split(&mut classes, at, graph.row(p), &mut left)?;
+        } else {
+            at += 1;
+            begin(set, &classes, at, &mut left);
+        }
+    }
+    Ok(classes)
+}
+
+// Puts into `left` the names of `set` outside the class at a place, if there is one.
+fn begin(set: &Names, classes: &[Names], at: usize, left: &mut Names)
+    requires { at < length classes.now → Within (class_at classes.now at) set.now }
+    ensures { at < length classes.now → left.new ≡ difference set.now (class_at classes.now at) }
+{
+    if at < classes.len() {
+        left.clear();
+        left.take_in(set);
+        left.flip(&classes[at]);
+    }
+}
+
+// The class at a place becomes one of its two parts, in `row` and outside it, and the other one is
+// a new class, the last one; `left` takes in its names.
+fn split(classes: &mut Vec<Names>, at: usize, row: &Names, left: &mut Names) -> Result<(), Memory>
+    requires { at < vec_len classes.old }
+    ensures { IfOk result (λ _. (part : NameSet)
+        × IsSideOf part (class_at classes.old.items at) row.now
+        × (classes.new.items
+        ≡ slice_set classes.old.items at (intersection (class_at classes.old.items at) part)
+        ++ difference (class_at classes.old.items at) part ∷ [])
+        × (left.new ≡ union left.old (difference (class_at classes.old.items at) part))) }
+{
+    let mut other = Names::none();
+    divide(&mut classes[at], row, &mut other);
+    left.take_in(&other);
+    classes.push(other)?;
+    Ok(())
+}
+
+// Moves one of the two parts of a class, in `row` and outside it, to the empty set `other`: of a
+// large class the smaller part.
+fn divide(class: &mut Names, row: &Names, other: &mut Names)
+    requires { other.old ≡ empty }
+    ensures { (part : NameSet) × IsSideOf part class.old row.now
+        × (class.new ≡ intersection class.old part) × (other.new ≡ difference class.old part) }
+{
+    class.move_unshared(row, other);
+    if other.count() > FEW && other.count() > class.count() {
+        swap(class, other);
+    }
+}
+
+// A name of `left` that is adjacent to some of `class` and not to all; none exactly where there is
+// none. Other names may go from `left`.
+fn splitter(graph: &Graph, class: &Names, left: &mut Names) -> Option<u32>
+    requires some { HasSome class.now }
+    requires apart { Disjoint class.now left.old }
+    ensures found { IfSome result (IsSplitter (adjacent graph.now) left.new class.now) }
+    ensures none { IfNone result ((p : ℕ)
+        → IsSplitter (adjacent graph.now) left.old class.now p → ⊥) }
+    ensures less { Within left.new left.old }
+    ensures kept { (p : ℕ) → IsSplitter (adjacent graph.now) left.old class.now p → Has left.new p }
+    ensures name { IfSome result (λ p. p < NAMES) }
+{
+    if class.count() <= FEW {
+        return splitter_of_few(graph, class, left);
+    }
+    splitter_of_many(graph, class, left)
+}
+
+// The same by a look at each member of the class.
+fn splitter_of_few(graph: &Graph, class: &Names, left: &Names) -> Option<u32>
+    requires some { HasSome class.now }
+    requires apart { Disjoint class.now left.now }
+    ensures found { IfSome result (IsSplitter (adjacent graph.now) left.now class.now) }
+    ensures none { IfNone result ((p : ℕ)
+        → IsSplitter (adjacent graph.now) left.now class.now p → ⊥) }
+    ensures name { IfSome result (λ p. p < NAMES) }
+{
+    let _vertices = graph.vertices();
+    let Some(first) = class.first_from(0) else {
+        unreachable!();
+    };
+    for x in class.members_from(first + 1) {
+        if let Some(p) = left.first_told_apart(graph.row(first), graph.row(x)) {
+            return Some(p);
+        }
+    }
+    None
+}
+
+// The same by a look at each name left, which goes where it doesn't cut the class.
+fn splitter_of_many(graph: &Graph, class: &Names, left: &mut Names) -> Option<u32>
+    requires apart { Disjoint class.now left.old }
+    ensures found { IfSome result (IsSplitter (adjacent graph.now) left.new class.now) }
+    ensures none { IfNone result ((p : ℕ)
+        → IsSplitter (adjacent graph.now) left.old class.now p → ⊥) }
+    ensures less { Within left.new left.old }
+    ensures kept { (p : ℕ) → IsSplitter (adjacent graph.now) left.old class.now p → Has left.new p }
+    ensures name { IfSome result (λ p. p < NAMES) }
+{
+    while let Some(p) = left.first_from(0) {
+        if is_splitter(graph, p, class, left) {
+            return Some(p);
+        }
+        left.remove(p);
+    }
+    None
+}
+
+// Whether `p`, a member of `left`, is adjacent to some of a class and not to all. Condition: the
+// class and `left` don't meet.
+fn is_splitter(graph: &Graph, p: u32, class: &Names, left: &Names) -> bool
+    requires name { p < NAMES }
+    requires member { Has left.now p }
+    requires apart { Disjoint class.now left.now }
+    ensures { IsTrue result ↔ IsSplitter (adjacent graph.now) left.now class.now p }
+{
+    sees(graph, p, true, class, left) && sees(graph, p, false, class, left)
+}

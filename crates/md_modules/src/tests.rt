@@ -1,0 +1,156 @@
+//! The searches on small graphs.
+
+use crate::{
+    back, closure, closure_in, co_component, co_connected, component, connected, is_module,
+    maximal_modules,
+};
+use md_graph::{Graph, Memory, NAMES, Names};
+use std::alloc::Global;
+use std::process::Abort;
+use std::test::Fail;
+
+// The graph with the vertices below `count` and these edges.
+fn made(rt: &impl Abort, alloc: Global, count: u32, edges: &[(u32, u32)]) -> Result<Graph, Memory> {
+    let mut g = Graph::new(alloc)?;
+    for v in 0..count {
+        assert!(rt; v < NAMES && !g.has_vertex(v));
+        g.add_vertex(v);
+    }
+    for (u, v) in edges {
+        join(rt, &mut g, *u, *v);
+    }
+    Ok(g)
+}
+
+fn join(rt: &impl Abort, g: &mut Graph, u: u32, v: u32) {
+    assert!(rt; u != v);
+    assert!(rt; g.has_vertex(u));
+    assert!(rt; g.has_vertex(v));
+    assert!(rt; !g.has_edge(u, v));
+    g.add_edge(u, v);
+}
+
+fn set(rt: &impl Abort, list: &[u32]) -> Names {
+    let mut names = Names::none();
+    for v in list {
+        assert!(rt; *v < NAMES);
+        names.insert(*v);
+    }
+    names
+}
+
+// Sees that the set has these members, and no others.
+fn expect(rt: &impl Abort, names: &Names, list: &[u32]) {
+    assert_eq!(rt; names.count() as usize, list.len());
+    for v in list {
+        assert!(rt; names.has(*v), "member {v}");
+    }
+}
+
+// Sees what the least module of `u` and `v` is.
+fn closed(rt: &impl Abort, g: &Graph, u: u32, v: u32, list: &[u32]) {
+    assert!(rt; g.has_vertex(u));
+    assert!(rt; g.has_vertex(v));
+    let mut into = Names::none();
+    closure(g, u, v, &mut into);
+    expect(rt, &into, list);
+}
+
+// Sees what the component of `x`, that of the complement, and the least module of `x` and `y` in a
+// part are.
+fn parted(rt: &impl Abort, g: &Graph, part: &[u32], x: u32, y: u32, lists: [&[u32]; 3]) {
+    let within = set(rt, part).and(g.vertices());
+    assert!(rt; within.has(x));
+    assert!(rt; within.has(y));
+    let mut into = Names::none();
+    component(g, &within, x, &mut into);
+    expect(rt, &into, lists[0]);
+    co_component(g, &within, x, &mut into);
+    expect(rt, &into, lists[1]);
+    closure_in(g, &within, x, y, &mut into);
+    expect(rt, &into, lists[2]);
+}
+
+// Sees which names no smaller module holds with `v`, in a part that is the least module of `v` and
+// `j`.
+fn turned(rt: &impl Abort, g: &Graph, part: &[u32], v: u32, j: u32, list: &[u32]) {
+    let within = set(rt, part).and(g.vertices());
+    assert!(rt; v != j);
+    assert!(rt; within.has(v));
+    assert!(rt; within.has(j));
+    let mut least = Names::none();
+    closure_in(g, &within, v, j, &mut least);
+    let rest = within.minus(&least);
+    assert!(rt; rest.is_empty());
+    let mut into = Names::none();
+    back(g, &within, v, j, &mut into);
+    expect(rt, &into, list);
+}
+
+// Sees what the maximal ones among the modules of the graph inside a part with `x` are.
+fn refined(
+    rt: &impl Abort,
+    alloc: Global,
+    g: &Graph,
+    part: &[u32],
+    x: u32,
+    lists: [&[u32]; 2],
+) -> Result<(), Memory> {
+    let rest = set(rt, part);
+    assert!(rt; rest.is_subset(g.vertices()));
+    assert!(rt; rest.has(x));
+    let classes = maximal_modules(alloc, g, g.vertices(), &rest)?;
+    assert_eq!(rt; classes.len(), 2);
+    expect(rt, &classes[0], lists[0]);
+    expect(rt, &classes[1], lists[1]);
+    Ok(())
+}
+
+// The path 0-1-2-3, with 4 beside 0.
+const EDGES: [(u32, u32); 4] = [(0, 1), (1, 2), (2, 3), (1, 4)];
+
+#[test]
+fn modules(rt: HostRuntime) -> Result<(), Fail> {
+    let g = made(&rt, rt.alloc(), 5, &EDGES)?;
+    closed(&rt, &g, 0, 4, &[0, 4]);
+    closed(&rt, &g, 1, 2, &[0, 1, 2, 3, 4]);
+    closed(&rt, &g, 3, 3, &[3]);
+    assert!(rt; is_module(&g, &set(&rt, &[0, 4])));
+    assert!(rt; is_module(&g, &set(&rt, &[0, 1, 2, 3, 4])));
+    assert!(rt; !is_module(&g, &set(&rt, &[0, 1])));
+    assert!(rt; !is_module(&g, &set(&rt, &[])));
+    assert!(rt; !is_module(&g, &set(&rt, &[9])));
+    assert!(rt; !is_module(&g, &set(&rt, &[0, 1, 2, 3, 4, 9])));
+    parted(&rt, &g, &[0, 2, 3, 9], 2, 3, [&[2, 3], &[0, 2, 3], &[2, 3]]);
+    parted(
+        &rt,
+        &g,
+        &[0, 1, 2, 3],
+        1,
+        2,
+        [&[0, 1, 2, 3], &[0, 1, 2, 3], &[0, 1, 2, 3]],
+    );
+    parted(&rt, &g, &[0, 1, 4], 0, 4, [&[0, 1, 4], &[0, 4], &[0, 4]]);
+    turned(&rt, &g, &[0, 1, 2, 3, 4], 0, 1, &[1, 2, 3]);
+    turned(&rt, &g, &[0, 3], 3, 0, &[0]);
+    refined(&rt, rt.alloc(), &g, &[0, 3, 4], 3, [&[0, 4], &[3]])?;
+    Ok(())
+}
+
+#[test]
+fn connectedness(rt: HostRuntime) -> Result<(), Fail> {
+    let table: [(u32, &[(u32, u32)], bool, bool); 6] = [
+        (0, &[], true, true),
+        (1, &[], true, true),
+        (2, &[], false, true),
+        (3, &[(0, 1), (1, 2), (0, 2)], true, false),
+        (4, &[(0, 1), (1, 2), (2, 3)], true, true),
+        (4, &[(0, 2), (1, 2), (0, 3), (1, 3)], true, false),
+    ];
+    for (count, edges, whole, co_whole) in table {
+        let g = made(&rt, rt.alloc(), count, edges)?;
+        assert_eq!(rt; connected(&g), whole, "{count} vertices");
+        assert_eq!(rt; co_connected(&g), co_whole, "{count} vertices");
+    }
+    Ok(())
+}

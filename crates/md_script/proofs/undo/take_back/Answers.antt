@@ -1,0 +1,36 @@
+use Rattle.md_script.proofs.ChangeLemmas.{vertex_added}
+use Rattle.md_script.proofs.BackLemmas.{added_is_there, deleted_is_absent, added_edge_back, deleted_edge_back, added_is_vertex, added_vertex_back, deleted_is_no_vertex, row_are_vertices, row_has_no_loop, deleted_vertex_back}
+use Rattle.md_script.proofs.undo.take_back.Goals as goal
+
+pub remove_edge-requires : goal.remove_edge-requires
+remove_edge-requires c = added_is_there _ _ c.args.row.now _ _ c.in-AddEdge.is c.requires
+
+pub add_edge-requires-clause-absent : goal.add_edge-requires-clause-absent
+add_edge-requires-clause-absent c = deleted_is_absent _ _ c.args.row.now _ _ c.in-DelEdge.is c.requires
+
+pub remove_vertex-requires : goal.remove_vertex-requires
+remove_vertex-requires c = added_is_vertex _ _ c.args.row.now _ _ c.in-AddVertex.is c.requires
+
+pub add_vertex-requires-clause-absent : goal.add_vertex-requires-clause-absent
+add_vertex-requires-clause-absent c = deleted_is_no_vertex _ _ c.args.row.now _ c.in-DelVertex.is c.requires
+
+pub add_edges-requires-clause-vertex : goal.add_edges-requires-clause-vertex
+add_edges-requires-clause-vertex c = vertex_added c.args.graph.now c.add_vertex.new.self c.in-DelVertex.x c.add_vertex.ensures
+
+pub add_edges-requires-clause-vertices : goal.add_edges-requires-clause-vertices
+add_edges-requires-clause-vertices c = row_are_vertices _ _ _ _ _ c.in-DelVertex.is c.add_vertex.ensures c.requires
+
+pub add_edges-requires-clause-differ : goal.add_edges-requires-clause-differ
+add_edges-requires-clause-differ c = row_has_no_loop _ _ _ _ c.in-DelVertex.is c.requires
+
+pub returns-in-AddEdge : goal.returns-in-AddEdge
+returns-in-AddEdge c = added_edge_back _ _ _ _ _ _ c.in-AddEdge.is c.remove_edge.ensures
+
+pub returns-in-DelEdge : goal.returns-in-DelEdge
+returns-in-DelEdge c = deleted_edge_back _ _ _ _ _ _ c.in-DelEdge.is c.add_edge.ensures
+
+pub returns-in-AddVertex : goal.returns-in-AddVertex
+returns-in-AddVertex c = added_vertex_back _ _ _ _ _ _ c.in-AddVertex.is c.remove_vertex.ensures
+
+pub returns-in-DelVertex : goal.returns-in-DelVertex
+returns-in-DelVertex c = deleted_vertex_back _ _ _ _ _ _ c.in-DelVertex.is c.add_vertex.ensures c.add_edges.ensures
