@@ -140,6 +140,7 @@ pub fn chain_of(alloc: Global, class: &Class) -> Result<Option<Chain>, Memory>
 mod tests {
     use super::*;
     use crate::close;
+    use md_graph::NAMES;
     use std::process::Abort;
     use std::test::Fail;
 
@@ -147,7 +148,7 @@ mod tests {
     fn made(rt: &impl Abort, alloc: Global, n: u32, edges: &[(u32, u32)]) -> Result<Graph, Memory> {
         let mut graph = Graph::new(alloc)?;
         for v in 0..n {
-            assert!(rt; v < 4096 && !graph.has_vertex(v));
+            assert!(rt; v < NAMES && !graph.has_vertex(v));
             graph.add_vertex(v);
         }
         for (u, v) in edges {

@@ -59,6 +59,7 @@ fn list_row(list: &mut Vec<Arc>, tail: u32, heads: &Names) -> Result<(), Memory>
 #[cfg(test)]
 mod tests {
     use super::*;
+    use md_graph::NAMES;
     use std::process::Abort;
     use std::test::Fail;
 
@@ -66,7 +67,7 @@ mod tests {
     fn made(rt: &impl Abort, alloc: Global, n: u32, edges: &[(u32, u32)]) -> Result<Graph, Memory> {
         let mut graph = Graph::new(alloc)?;
         for v in 0..n {
-            assert!(rt; v < 4096 && !graph.has_vertex(v));
+            assert!(rt; v < NAMES && !graph.has_vertex(v));
             graph.add_vertex(v);
         }
         for (u, v) in edges {
@@ -104,6 +105,112 @@ mod tests {
                     assert_eq!(rt; chain.get(i as u64), Arc { tail, head });
                 }
             }
+        }
+        Ok(())
+    }
+
+    // Whether a set of the ten pairs of the names below five has this pair.
+    fn has_pair(pairs: u32, u: u32, v: u32) -> bool {
+        let low = u.min(v);
+        let place = match u.max(v) {
+            1 => low,
+            2 => low.wrapping_add(1),
+            3 => low.wrapping_add(3),
+            4 => low.wrapping_add(6),
+            _ => 31,
+        };
+        u != v && (pairs >> (place % 32)) & 1 == 1
+    }
+
+    // Whether the graph has this edge, and the choice directs it from `u` to `v`: upwards where it has the pair.
+    fn directs(edges: u32, choice: u32, u: u32, v: u32) -> bool {
+        has_pair(edges, u, v) && has_pair(choice, u, v) == (u < v)
+    }
+
+    fn is_transitive(edges: u32, choice: u32) -> bool {
+        for u in 0..5 {
+            for v in 0..5 {
+                for w in 0..5 {
+                    let on = directs(edges, choice, u, v) && directs(edges, choice, v, w);
+                    if on && !directs(edges, choice, u, w) {
+                        return false;
+                    }
+                }
+            }
+        }
+        true
+    }
+
+    // Tries each choice of directions.
+    fn has_orientation(edges: u32) -> bool {
+        for choice in 0..1024 {
+            if choice & edges == choice && is_transitive(edges, choice) {
+                return true;
+            }
+        }
+        false
+    }
+
+    fn fill(rt: &impl Abort, graph: &mut Graph, edges: u32) {
+        for v in 0..5 {
+            assert!(rt; !graph.has_vertex(v));
+            graph.add_vertex(v);
+        }
+        for u in 0..5 {
+            for v in 0..u {
+                if has_pair(edges, u, v) {
+                    assert!(rt; graph.has_vertex(u));
+                    assert!(rt; graph.has_vertex(v));
+                    assert!(rt; !graph.has_edge(u, v));
+                    graph.add_edge(u, v);
+                }
+            }
+        }
+    }
+
+    fn has_arc(list: &Arcs, tail: u32, head: u32) -> bool {
+        for i in 0..list.len() {
+            if list.get(i) == (Arc { tail, head }) {
+                return true;
+            }
+        }
+        false
+    }
+
+    // Sees that the arcs are one of each edge, and transitive.
+    fn expect_orientation(rt: &impl Abort, edges: u32, list: &Arcs) {
+        for u in 0..5 {
+            for v in 0..5 {
+                let here = has_arc(list, u, v);
+                assert_eq!(rt;
+                    here != has_arc(list, v, u),
+                    has_pair(edges, u, v),
+                    "{edges} {u} {v}"
+                );
+                for w in 0..5 {
+                    assert!(rt;
+                        !(here && has_arc(list, v, w)) || has_arc(list, u, w),
+                        "{edges} {u} {v} {w}"
+                    );
+                }
+            }
+        }
+    }
+
+    #[test]
+    fn all_graphs_on_five_names(rt: HostRuntime) -> Result<(), Fail> {
+        let mut graph = Graph::new(rt.alloc())?;
+        for edges in 0..1024 {
+            graph.clear();
+            fill(&rt, &mut graph, edges);
+            let forced = match orient(rt.alloc(), &graph)? {
+                Verdict::Transitive(list) => {
+                    expect_orientation(&rt, edges, &list);
+                    false
+                }
+                Verdict::Forced(_) => true,
+            };
+            assert_eq!(rt; forced, !has_orientation(edges), "{edges}");
         }
         Ok(())
     }
