@@ -5,7 +5,7 @@ use Rattle.std.proofs.lemmas.Bool.Decides.{nat_tests}
 use Rattle.std.specs.Int.{bit_at, bit_not, w64, trailing_zeros}
 use Rattle.std.proofs.Common.{set as set_at, below_more, get_or-set_other, get_or-set_same}
 use Rattle.std.proofs.lemmas.Nat.Bits.{same_from_bits_below, bit_at-lt, bit_at-zero, bit_at_or, bit_at_and, bit_at_xor, bit_at_not, bit_at-trailing_zeros, shr_and_one, bit_at_set_same, bit_at_set_other, bit_at_clear_same, bit_at_clear_other}
-use Rattle.std.proofs.lemmas.Nat.{mod-pow-add, ones_cat, and_le_l}
+use Rattle.std.proofs.lemmas.Nat.{mod-pow-add, ones_cat, and_le_l, le_or_l, le_or_r}
 use lib.Count.{ones}
 use Rattle.std.specs.FinSet as set
 use Rattle.md_graph.specs.Sets.{NameSet}
@@ -146,6 +146,13 @@ done_more P words i x within done here =
     below_more (λ k. P k (get_or (set_at words i x) k 0)) i
     (λ k h. let other : k ≢ i = omega arith in rw get_or-set_other (done k h))
     (rw get_or-set_same here)
+
+-- words that are all 0, where a word that is 0 joins them
+pub none_more : (any x : ℕ) (words : List ℕ) (i : ℕ) → i < length words → (any ≡ 0 → (k : ℕ) → k < i → get_or words k 0 ≡ 0) → bit_or any x ≡ 0 → (k : ℕ) → k < i + 1 → get_or (set_at words i x) k 0 ≡ 0
+none_more any x words i below before none =
+    let left = le_or_l any x in
+    let right = le_or_r any x in
+    done_more (λ k y. y ≡ 0) words i x below (before (omega arith)) (omega arith)
 
 pub rest_more : (words : List ℕ) (i x : ℕ) → ((k : ℕ) → i ≤ k → get_or words k 0 ≡ 0) → (k : ℕ) → i + 1 ≤ k → get_or (set_at words i x) k 0 ≡ 0
 rest_more words i x rest k h = let other : k ≢ i = omega arith in rw get_or-set_other (rest k (omega arith))
@@ -432,6 +439,13 @@ rest_of_moved a c m n u s r is keeps ra first rest =
 pub became_rest : (w v a c : List ℕ) (m : ℕ → ℕ) (n w_used u : ℕ) (s r : NameSet) → names_below a n ≡ s → Keeps m n r → InUse a u → InUse w w_used → ((k : ℕ) → k < w_used → get_or v k 0 ≡ 0) → ((k : ℕ) → w_used ≤ k → get_or v k 0 ≡ get_or w k 0) → ((k : ℕ) → k < u → get_or c k 0 ≡ bit_xor (get_or a k 0) (bit_and (get_or a k 0) (m k))) → ((k : ℕ) → u ≤ k → get_or c k 0 ≡ get_or v k 0) → names_below c n ≡ set.difference s r
 became_rest w v a c m n w_used u s r is keeps ra rw_used wiped wiped_rest first rest =
     rest_of_moved a c m n u s r is keeps ra first (λ k h. rest k h ∙ cleared w v w_used rw_used wiped wiped_rest k ∙ sym (ra k h))
+
+-- and how many of them are in use: none where all are 0
+pub became_in_use : (w v c : List ℕ) (w_used u used any : ℕ) → InUse w w_used → ((k : ℕ) → k < w_used → get_or v k 0 ≡ 0) → ((k : ℕ) → w_used ≤ k → get_or v k 0 ≡ get_or w k 0) → ((k : ℕ) → u ≤ k → get_or c k 0 ≡ get_or v k 0) → (any ≡ 0 → (k : ℕ) → k < u → get_or c k 0 ≡ 0) → (any ≡ 0 → used ≡ 0) → (any ≢ 0 → used ≡ u) → InUse c used
+became_in_use w v c w_used u used any rw_used wiped wiped_rest rest none is_none is_some k above =
+    from_both (λ x. x ≡ k → get_or c x 0 ≡ 0) u
+    (λ x below same. cases_eq (get_or c x 0 ≡ 0) any 0 (λ zero_it. none zero_it x below) (λ some. let all = is_some some in absurd (omega arith)))
+    (λ x past _. rest x past ∙ cleared w v w_used rw_used wiped wiped_rest x) k refl
 
 -- what stays behind where the others go
 pub rest_of_others : (a c : List ℕ) (m : ℕ → ℕ) (n u : ℕ) (s r : NameSet) → names_below a n ≡ s → Keeps m n r → InUse a u → ((k : ℕ) → k < u → get_or c k 0 ≡ bit_and (get_or a k 0) (m k)) → ((k : ℕ) → u ≤ k → get_or c k 0 ≡ get_or a k 0) → names_below c n ≡ set.intersection s r

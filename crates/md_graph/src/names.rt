@@ -9,7 +9,7 @@ use crate::members::Members;
 use crate::words::{
     are_all_zero, are_equal, are_within, bits_of_range, both, count_bits, either, first_alone,
     first_apart, flip_bits, from_place, join_in, keep_alone, last_place, move_alone, move_apart,
-    move_both, no_words, wipe,
+    move_both, no_words, used_if, wipe,
 };
 use crate::{NAMES, WORDS};
 use std::marker::Model;
@@ -171,14 +171,14 @@ impl Names {
         ensures { self.new ≡ set.difference of.now (set.union first.now second.now) }
     {
         wipe(&mut self.words, self.used);
-        keep_alone(
+        let any = keep_alone(
             &mut self.words,
             &of.words,
             &first.words,
             &second.words,
             of.used,
         );
-        self.used = of.used;
+        self.used = used_if(any, of.used);
     }
 
     /// Whether `v`, any number, is a member.

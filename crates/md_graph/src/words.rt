@@ -121,22 +121,37 @@ pub(crate) fn move_apart(
     }
 }
 
-// The first `used` words become the bits of `of` that neither `first` nor `second` has.
+// The first `used` words become the bits of `of` that neither `first` nor `second` has. The answer is 0 only where there
+// are none.
 pub(crate) fn keep_alone(
     words: &mut [u64; WORDS],
     of: &[u64; WORDS],
     first: &[u64; WORDS],
     second: &[u64; WORDS],
     used: usize,
-)
+) -> u64
     requires { used ≤ WORDS }
     ensures first { (k : ℕ) → k < used → slice_index words.new k ≡ bit_xor (slice_index of.now k)
         (bit_and (slice_index of.now k) (bit_or (slice_index first.now k) (slice_index second.now k))) }
     ensures rest { (k : ℕ) → used ≤ k → slice_index words.new k ≡ slice_index words.old k }
+    ensures none { result ≡ 0 → (k : ℕ) → k < used → slice_index words.new k ≡ 0 }
 {
+    let mut any = 0;
     for i in 0..used {
-        words[i] = of[i] ^ (of[i] & (first[i] | second[i]));
+        let alone = of[i] ^ (of[i] & (first[i] | second[i]));
+        words[i] = alone;
+        any |= alone;
     }
+    any
+}
+
+// How many words are in use: none where `any` is 0.
+pub(crate) fn used_if(any: u64, used: usize) -> usize
+    ensures none { any ≡ 0 → result ≡ 0 }
+    ensures some { any ≢ 0 → result ≡ used }
+    ensures few { result ≤ used }
+{
+    if any == 0 { 0 } else { used }
 }
 
 // The place of the lowest bit in the first `used` words that exactly one of `first` and `second`
