@@ -1,11 +1,11 @@
 -- A graph has a forcing chain or a transitive orientation, and not both.
-use Rattle.std.proofs.Common.{◌≡◌, ◌⊎◌, ◌↔◌, ℕ, ◌<◌, Bool, true, false, refl, sym, ◌∙◌, ap, subst, inl, inr}
+use Rattle.std.proofs.Common.{◌≡◌, ◌⊎◌, ℕ, ◌<◌, Bool, true, false, sym, ◌∙◌, subst, inl, inr}
 use Rattle.md_graph.proofs.SetLemmas.{clash}
 use Rattle.md_modules.specs.Adjacency.{IsAdjacency}
 use Rattle.md_forcing.specs.declared.arc.Arc.{Arc}
 use Rattle.md_forcing.specs.Forcing.{arc, reverse, IsArc, ForcesDirectly, Reaches}
 use Rattle.md_forcing.proofs.Reaching.{over_reached}
-use Rattle.md_orientation.specs.Chains.{IsForcingChain, HasForcingChain, Precedes}
+use Rattle.md_orientation.specs.Chains.{HasForcingChain, Precedes}
 use Rattle.md_orientation.specs.Orientations.{IsTransitiveOrientation, HasTransitiveOrientation}
 use Rattle.md_orientation.specs.Laws.{ChainOrOrientation, IsBelow}
 use Rattle.md_orientation.proofs.Reached.{reaches_turned}

@@ -1,5 +1,5 @@
 -- The arcs that the least edges choose.
-use Rattle.std.proofs.Common.{◌≡◌, ◌≢◌, ◌⊎◌, ◌↔◌, ℕ, ◌<◌, ◌≤◌, Bool, true, false, refl, sym, ◌∙◌, ap, subst, inl, inr, arith}
+use Rattle.std.proofs.Common.{◌≡◌, ◌≢◌, ◌⊎◌, ℕ, ◌<◌, Bool, true, false, refl, sym, ◌∙◌, subst, inl, inr, arith}
 use Rattle.std.proofs.lemmas.Bool.{cases_Bool, cases_lt}
 use Rattle.md_graph.proofs.SetLemmas.{clash}
 use Rattle.md_graph.proofs.Search.{Decided, test_of, test_holds, of_test}
@@ -13,7 +13,7 @@ use Rattle.md_orientation.specs.Laws.{LeastEdgeIsTransitive, IsBelow, IsTestOfCh
 use Rattle.md_orientation.proofs.Reached.{reaches_back, reaches_turned}
 use Rattle.md_orientation.proofs.Triangles.{moved}
 use Rattle.md_orientation.proofs.Deciding.{decide_either, decide_is_arc, decide_reaches}
-use Rattle.md_orientation.proofs.Least.{IsLeastPair, least_pair, precedes_on, precedes_one_way, decide_precedes, precedes_or_same}
+use Rattle.md_orientation.proofs.Least.{least_pair, precedes_on, precedes_one_way, decide_precedes, precedes_or_same}
 
 -- no edge w p, w < p, is st or greater where st is not less than pq
 below_first : (w p s t q : ℕ) → w < p → (Precedes w p s t → ⊥) → (Precedes s t p q → ⊥) → ⊥
@@ -37,11 +37,11 @@ module _ (e : ℕ → ℕ → Bool) (is : IsAdjacency e) where
       elim (cases_lt u v) [
         | inl l ↦ inl l
         | inr above ↦ elim (cases_lt v u) [
-            | inl l ↦ inr l
-            | inr at_most ↦
-                let same : u ≡ v = omega arith in
-                absurd (clash h (subst (λ x. e u x ≡ false) same (is.irreflexive u)))
-          ]
+          | inl l ↦ inr l
+          | inr at_most ↦
+              let same : u ≡ v = omega arith in
+              absurd (clash h (subst (λ x. e u x ≡ false) same (is.irreflexive u)))
+        ]
       ]
 
   edge_along : (a b : Arc) → Reaches e a b → (x y : ℕ) → ReachesEdge e b x y → ReachesEdge e a x y
@@ -72,9 +72,9 @@ module _ (e : ℕ → ℕ → Bool) (is : IsAdjacency e) where
       elim (precedes_or_same u v x y) [
         | inl before ↦ absurd (m.least u v l.ascending l.reached before)
         | inr other ↦ elim other [
-            | inl before ↦ absurd (l.least x y m.ascending m.reached before)
-            | inr same ↦ same
-          ]
+          | inl before ↦ absurd (l.least x y m.ascending m.reached before)
+          | inr same ↦ same
+        ]
       ]
 
   pub chosen_arc : (a : Arc) → IsChosen e a → IsArc e a
@@ -128,8 +128,8 @@ module _ (e : ℕ → ℕ → Bool) (is : IsAdjacency e) where
               elim (decide_reaches e n below a (arc l.0 l.1)) [
                 | inl r ↦ inl (l.0, l.1, l.2, r)
                 | inr missing ↦ inr (λ c.
-                  let same = one_least a c.0 c.1 l.0 l.1 c.2 l.2 in
-                  missing (subst (Reaches e a) (λ i. arc (same.0 i) (same.1 i)) c.3))
+                    let same = one_least a c.0 c.1 l.0 l.1 c.2 l.2 in
+                    missing (subst (Reaches e a) (λ i. arc (same.0 i) (same.1 i)) c.3))
               ]
         ]
 
@@ -148,9 +148,9 @@ module _ (e : ℕ → ℕ → Bool) (is : IsAdjacency e) where
           let s = d.0 in
           let t = d.1 in
           let m = moved e is w u v (chosen_arc (arc w u) d) (is.symmetric w v ∙ chosen_arc (arc v w) b)
-              (λ r. not_both (arc v w) b (chosen_along (arc u v) (arc w v) r c))
-              (λ r. not_both (arc w u) d (chosen_along (arc u v) (arc u w) r c))
-              p q c.3 in
+          (λ r. not_both (arc v w) b (chosen_along (arc u v) (arc w v) r c))
+          (λ r. not_both (arc w u) d (chosen_along (arc u v) (arc u w) r c))
+          p q c.3 in
           let pq : IsChosen e (arc p q) = chosen_along (arc u v) (arc p q) c.3 c in
           let qw : IsChosen e (arc q w) = chosen_along (arc v w) (arc q w) (reaches_turned e is (arc w v) (arc w q) m.right) b in
           let wp : IsChosen e (arc w p) = chosen_along (arc w u) (arc w p) m.left d in
@@ -164,9 +164,9 @@ module _ (e : ℕ → ℕ → Bool) (is : IsAdjacency e) where
           let same : s ≡ p = same_first p w s t q (least.least p w up (inr (reaches_itself e (arc w p) wp_arc))) not_less in
           let to_pt : Reaches e (arc w p) (arc p t) = subst (λ k. Reaches e (arc w p) (arc k t)) same to_st in
           let second = moved e is q w p (chosen_arc (arc q w) qw) (is.symmetric q p ∙ chosen_arc (arc p q) pq)
-              (λ r. not_both (arc p q) pq (chosen_along (arc w p) (arc q p) r wp))
-              (λ r. not_both (arc q w) qw (chosen_along (arc w p) (arc w q) r wp))
-              p t to_pt in
+          (λ r. not_both (arc p q) pq (chosen_along (arc w p) (arc q p) r wp))
+          (λ r. not_both (arc q w) qw (chosen_along (arc w p) (arc w q) r wp))
+          p t to_pt in
           not_both (arc p q) pq (chosen_along (arc q w) (arc q p) second.left qw)
 
       pub no_cycle : (u v w : ℕ) → IsChosen e (arc u v) → IsChosen e (arc v w) → IsChosen e (arc w u) → ⊥
@@ -174,12 +174,12 @@ module _ (e : ℕ → ℕ → Bool) (is : IsAdjacency e) where
           elim (decide_precedes d.0 d.1 c.0 c.1) [
             | inr first ↦ cycle_at u v w c b d first
             | inl dc ↦ elim (decide_precedes c.0 c.1 b.0 b.1) [
-                | inr second ↦ cycle_at v w u b d c second
-                | inl cb ↦ elim (decide_precedes b.0 b.1 d.0 d.1) [
-                    | inr third ↦ cycle_at w u v d c b third
-                    | inl bd ↦ precedes_one_way d.0 d.1 b.0 b.1 (precedes_on d.0 d.1 c.0 c.1 b.0 b.1 dc cb) bd
-                  ]
+              | inr second ↦ cycle_at v w u b d c second
+              | inl cb ↦ elim (decide_precedes b.0 b.1 d.0 d.1) [
+                | inr third ↦ cycle_at w u v d c b third
+                | inl bd ↦ precedes_one_way d.0 d.1 b.0 b.1 (precedes_on d.0 d.1 c.0 c.1 b.0 b.1 dc cb) bd
               ]
+            ]
           ]
 
       chosen_on : (u v w : ℕ) → IsChosen e (arc u v) → IsChosen e (arc v w) → IsChosen e (arc u w)

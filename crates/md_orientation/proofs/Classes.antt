@@ -1,12 +1,11 @@
 -- A class that doesn't meet its reverse is transitive.
-use Rattle.std.proofs.Common.{◌≡◌, ◌≢◌, ◌⊎◌, ℕ, Bool, true, false, refl, sym, ◌∙◌, ap, subst, inl, inr}
+use Rattle.std.proofs.Common.{◌≡◌, ◌≢◌, true, refl, sym, ◌∙◌, subst, inl, inr}
 use Rattle.std.proofs.lemmas.Bool.{cases_Bool}
-use Rattle.md_graph.proofs.SetLemmas.{clash, same_name}
-use Rattle.md_modules.specs.Adjacency.{IsAdjacency}
+use Rattle.md_graph.proofs.SetLemmas.{clash}
 use Rattle.md_forcing.specs.declared.arc.Arc.{Arc}
-use Rattle.md_forcing.specs.Forcing.{arc, reverse, IsArc, Reaches}
+use Rattle.md_forcing.specs.Forcing.{arc, Reaches}
 use Rattle.md_forcing.proofs.Reaching.{reaches_step, reaches_on, reached_arc}
-use Rattle.md_orientation.specs.Laws.{ClassesAreTransitive, IsBelow}
+use Rattle.md_orientation.specs.Laws.{ClassesAreTransitive}
 use Rattle.md_orientation.proofs.Reached.{reaches_back, both_turned}
 use Rattle.md_orientation.proofs.Triangles.{moved}
 use Rattle.md_orientation.proofs.Deciding.{decide_reaches}

@@ -1,5 +1,5 @@
 -- Whether an arc reaches another is decided.
-use Rattle.std.proofs.Common.{◌≡◌, ◌≢◌, ◌⊎◌, ℕ, zero, suc, ◌<◌, Bool, true, false, List, [], ◌∷◌, ◌++◌, refl, sym, ◌∙◌, ap, subst, inl, inr, arith}
+use Rattle.std.proofs.Common.{◌≡◌, ◌⊎◌, ℕ, zero, suc, ◌<◌, Bool, true, false, List, [], ◌∷◌, ◌++◌, sym, ap, subst, inl, inr, arith}
 use Rattle.std.proofs.lemmas.Bool.{cases_lt}
 use Rattle.md_graph.proofs.SetLemmas.{same_name}
 use Rattle.md_graph.proofs.Search.{Decided, decide_test, decide_both, decide_not, decide_like}
@@ -7,7 +7,7 @@ use Rattle.md_forcing.specs.declared.arc.Arc.{Arc}
 use Rattle.md_forcing.specs.Lists.{Holds}
 use Rattle.md_forcing.specs.Forcing.{arc, IsArc, ForcesDirectly, Leads, Reaches}
 use Rattle.md_forcing.proofs.ListLemmas.{holds_left, holds_right}
-use Rattle.md_forcing.proofs.Reaching.{reaches_itself, reaches_step, reaches_on, reached_arc}
+use Rattle.md_forcing.proofs.Reaching.{reaches_itself, reaches_step, reaches_on}
 use Rattle.md_orientation.specs.Laws.{IsBelow}
 
 pub decide_either : {P Q : Type 0} → Decided P → Decided Q → Decided (P ⊎ Q)

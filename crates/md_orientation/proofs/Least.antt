@@ -1,7 +1,6 @@
 -- The least edge with a property that is decided.
-use Rattle.std.proofs.Common.{◌≡◌, ◌≢◌, ◌⊎◌, ℕ, zero, suc, ◌<◌, ◌≤◌, refl, sym, ◌∙◌, ap, subst, inl, inr, arith}
+use Rattle.std.proofs.Common.{◌≡◌, ◌⊎◌, ℕ, zero, suc, ◌<◌, ◌≤◌, sym, ◌∙◌, subst, inl, inr, arith}
 use Rattle.std.proofs.lemmas.Bool.{cases_lt}
-use Rattle.md_graph.proofs.SetLemmas.{same_name}
 use Rattle.md_graph.proofs.Search.{Decided, decide_both, decide_below}
 use Rattle.md_orientation.specs.Chains.{Precedes}
 use Rattle.md_orientation.proofs.Deciding.{decide_either, decide_name}
@@ -17,9 +16,9 @@ search_below P decided (suc n) =
     elim (search_below P decided n) [
       | inl found ↦ let below = found.1 in inl (found.0, omega arith, found.2)
       | inr none ↦ elim (decided n) [
-          | inl here ↦ inl (n, omega arith, record { has = here; least = λ y p. elim (cases_lt y n) [ inl l ↦ absurd (none y l p) | inr above ↦ above ] })
-          | inr not_here ↦ inr (λ y l p. elim (cases_lt y n) [ inl less ↦ none y less p | inr above ↦ not_here (subst P (let same : y ≡ n = omega arith in same) p) ])
-        ]
+        | inl here ↦ inl (n, omega arith, record { has = here; least = λ y p. elim (cases_lt y n) [ inl l ↦ absurd (none y l p) | inr above ↦ above ] })
+        | inr not_here ↦ inr (λ y l p. elim (cases_lt y n) [ inl less ↦ none y less p | inr above ↦ not_here (subst P (let same : y ≡ n = omega arith in same) p) ])
+      ]
     ]
 
 -- the least edge with a property
@@ -52,19 +51,23 @@ module _ (P : ℕ → ℕ → Type 0) (decided : (x y : ℕ) → Decided (P x y)
       elim (search_below Row decide_row n) [
         | inr none ↦ inr (λ x y l p. none x (below x y p).0 (y, (l, p)))
         | inl row ↦ elim (search_below (Up row.0) (decide_up row.0) n) [
-            | inr none ↦ absurd (none row.2.has.0 (below row.0 row.2.has.0 row.2.has.1.1).1 row.2.has.1)
-            | inl place ↦ inl (row.0, place.0, record {
-                ascending = place.2.has.0;
-                has = place.2.has.1;
-                least = λ x y l p before. elim before [
-                  | inl less ↦ let at_most = row.2.least x (y, (l, p)) in omega arith
-                  | inr same ↦
-                      let at_most = place.2.least y (subst (λ k. Up k y) same.0 (l, p)) in
-                      let less = same.1 in
-                      omega arith
-                ];
-              })
-          ]
+          | inr none ↦ absurd (none row.2.has.0 (below row.0 row.2.has.0 row.2.has.1.1).1 row.2.has.1)
+          | inl place ↦ inl (
+            row.0,
+            place.0,
+            record {
+              ascending = place.2.has.0;
+              has = place.2.has.1;
+              least = λ x y l p before. elim before [
+                | inl less ↦ let at_most = row.2.least x (y, (l, p)) in omega arith
+                | inr same ↦
+                    let at_most = place.2.least y (subst (λ k. Up k y) same.0 (l, p)) in
+                    let less = same.1 in
+                    omega arith
+              ];
+            },
+          )
+        ]
       ]
 
 -- ---- the order of edges
@@ -94,15 +97,15 @@ precedes_or_same x y u v =
     elim (cases_lt x u) [
       | inl l ↦ inl (inl l)
       | inr above ↦ elim (cases_lt u x) [
-          | inl l ↦ inr (inl (inl l))
-          | inr at_most ↦
-              let same : x ≡ u = omega arith in
-              elim (cases_lt y v) [
-                | inl l ↦ inl (inr (same, l))
-                | inr above_too ↦ elim (cases_lt v y) [
-                    | inl l ↦ inr (inl (inr (sym same, l)))
-                    | inr at_most_too ↦ inr (inr (same, omega arith))
-                  ]
+        | inl l ↦ inr (inl (inl l))
+        | inr at_most ↦
+            let same : x ≡ u = omega arith in
+            elim (cases_lt y v) [
+              | inl l ↦ inl (inr (same, l))
+              | inr above_too ↦ elim (cases_lt v y) [
+                | inl l ↦ inr (inl (inr (sym same, l)))
+                | inr at_most_too ↦ inr (inr (same, omega arith))
               ]
-        ]
+            ]
+      ]
     ]

@@ -10,3 +10,5 @@ pub mod OneList
 pub mod Near
 pub mod Choosing
 pub mod WalkLemmas
+pub mod Sorted
+pub mod OrderLaws

@@ -1,15 +1,14 @@
 -- The list of the arcs of the least-edge orientation.
-use Rattle.std.proofs.Common.{◌≡◌, ◌⊎◌, ◌↔◌, ℕ, zero, suc, ◌<◌, ◌≤◌, Bool, List, [], ◌∷◌, ◌++◌, refl, sym, ◌∙◌, ap, subst, inl, inr, arith}
+use Rattle.std.proofs.Common.{◌≡◌, ◌↔◌, ℕ, zero, suc, ◌<◌, List, [], ◌∷◌, ◌++◌, refl, sym, ◌∙◌, ap, subst, inl, inr, arith}
 use Rattle.std.proofs.lemmas.Bool.{cases_lt}
 use Rattle.md_graph.proofs.Search.{Decided}
-use Rattle.md_modules.specs.Adjacency.{IsAdjacency}
 use Rattle.md_forcing.specs.declared.arc.Arc.{Arc}
 use Rattle.md_forcing.specs.Lists.{Holds}
 use Rattle.md_forcing.specs.Forcing.{arc}
 use Rattle.md_forcing.proofs.ListLemmas.{holds_left, holds_right, of_append}
 use Rattle.md_orientation.specs.Chains.{Precedes}
-use Rattle.md_orientation.specs.Orientations.{IsChosen, AreAscending, IsLeastEdgeOrientation}
-use Rattle.md_orientation.specs.Laws.{OneLeastEdgeOrientation, IsBelow}
+use Rattle.md_orientation.specs.Orientations.{IsChosen, AreAscending}
+use Rattle.md_orientation.specs.Laws.{OneLeastEdgeOrientation}
 use Rattle.md_orientation.proofs.Least.{precedes_itself, precedes_one_way}
 use Rattle.md_orientation.proofs.Chosen.{chosen_arc, decide_chosen}
 
@@ -19,9 +18,9 @@ Comes a b = Precedes a.tail a.head b.tail b.head
 pub ascending_append : (l k : List Arc) → AreAscending l → AreAscending k → ((a b : Arc) → Holds l a → Holds k b → Comes a b) → AreAscending (l ++ k)
 ascending_append [] k up up_too before = up_too
 ascending_append (a ∷ l) k up up_too before = (
-    λ b h. elim (of_append l k b h) [ inl in_l ↦ up.0 b in_l | inr in_k ↦ before a b (inl refl) in_k ],
-    ascending_append l k up.1 up_too (λ x y h i. before x y (inr h) i),
-  )
+  λ b h. elim (of_append l k b h) [ inl in_l ↦ up.0 b in_l | inr in_k ↦ before a b (inl refl) in_k ],
+  ascending_append l k up.1 up_too (λ x y h i. before x y (inr h) i),
+)
 
 -- ---- two ascending lists of the same arcs are equal
 
@@ -43,8 +42,8 @@ same_list (a ∷ l) [] up up_too to back = absurd (to a (inl refl))
 same_list (a ∷ l) (b ∷ k) up up_too to back =
     let same = first_same a b l k up up_too (to a (inl refl)) (back b (inl refl)) in
     let rest = same_list l k up.1 up_too.1
-        (λ x h. rest_same a b l k up up_too same x h (to x (inr h)))
-        (λ x h. rest_same b a k l up_too up (sym same) x h (back x (inr h))) in
+    (λ x h. rest_same a b l k up up_too same x h (to x (inr h)))
+    (λ x h. rest_same b a k l up_too up (sym same) x h (back x (inr h))) in
     λ i. same i ∷ rest i
 
 -- ---- the list
@@ -151,10 +150,10 @@ module _ (P : Arc → Type 0) (decided : (a : Arc) → Decided (P a)) where
 
   pub has_list : (n : ℕ) → ((a : Arc) → P a → (a.tail < n) × (a.head < n)) → (list : List Arc) × ((a : Arc) → Holds list a ↔ P a) × AreAscending list
   has_list n below = (
-      whole_list n n,
-      λ a. (λ h. (of_whole n n a h).1, λ p. in_whole n n a.tail a.head (below a p).0 (below a p).1 p),
-      whole_ascends n n,
-    )
+    whole_list n n,
+    λ a. (λ h. (of_whole n n a h).1, λ p. in_whole n n a.tail a.head (below a p).0 (below a p).1 p),
+    whole_ascends n n,
+  )
 
 pub one_list_proof : OneLeastEdgeOrientation
 one_list_proof e is n below = record {

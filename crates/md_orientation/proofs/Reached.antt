@@ -1,14 +1,17 @@
 -- Reaching is an equivalence that reversal keeps; and both sides of a graph meet what the laws ask.
-use Rattle.std.proofs.Common.{◌≡◌, ◌⊎◌, ℕ, Bool, true, false, refl, sym, ◌∙◌, ap, subst, inl, inr}
-use Rattle.std.proofs.lemmas.Bool.{false_from_ne_true}
+use Rattle.std.proofs.Common.{◌≡◌, ◌↔◌, ◌&&◌, not, ℕ, Bool, true, false, refl}
+use Rattle.std.proofs.lemmas.Bool.{false_from_ne_true, ne_eqb}
 use Rattle.md_graph.specs.PlainGraph.{PlainGraph, IsGraph}
+use Rattle.md_graph.proofs.SetLemmas.{clash}
+use Rattle.md_graph.proofs.GraphLemmas.{adjacent-complement}
 use Rattle.md_modules.specs.Adjacency.{IsAdjacency}
 use Rattle.md_forcing.specs.declared.arc.Arc.{Arc}
 use Rattle.md_forcing.specs.declared.seen.Side.{Side}
-use Rattle.md_forcing.specs.Forcing.{arc, reverse, IsArc, ForcesDirectly, Reaches}
+use Rattle.md_forcing.specs.declared.seen.Side.TheVariants.{Edges, NonEdges}
+use Rattle.md_forcing.specs.Forcing.{reverse, Reaches}
 use Rattle.md_forcing.specs.Sides.{adjacent_on}
 use Rattle.md_forcing.proofs.OneSide.{side_ends, side_symmetric, side_names}
-use Rattle.md_forcing.proofs.Reaching.{forces_back, forces_turned, arc_turned, reaches_itself, reaches_step, reaches_on, over_reached, reached_arc}
+use Rattle.md_forcing.proofs.Reaching.{forces_back, forces_turned, arc_turned, reaches_itself, reaches_step, reaches_on, over_reached}
 use Rattle.md_orientation.specs.Laws.{MeetsPremises, SidesMeetPremises}
 
 module _ (e : ℕ → ℕ → Bool) (is : IsAdjacency e) where
@@ -28,11 +31,28 @@ module _ (e : ℕ → ℕ → Bool) (is : IsAdjacency e) where
   own_turned a x r s =
       reaches_on e x a (reverse x) (reaches_back a x r) (reaches_on e a (reverse a) (reverse x) s (reaches_turned a x r))
 
-pub sides_proof : SidesMeetPremises
-sides_proof g is side = record {
+pub side_premises : {g : PlainGraph} → IsGraph g → (side : Side) → MeetsPremises (adjacent_on side g)
+side_premises {g} is side = record {
   adjacency = record {
     symmetric = side_symmetric side g;
     irreflexive = λ a. false_from_ne_true _ (λ h. (side_ends is side a a h).2 refl);
   };
   below = side_names is side;
+}
+
+co_true : (x y z b c : Bool) → c ≡ ((x && y) && (not z && not b)) → x ≡ true → y ≡ true → z ≡ false → (c ≡ true) ↔ (b ≡ false)
+co_true true true false true c is p q r = (λ h. clash h is, λ h. cc)
+co_true true true false false c is p q r = (λ h. refl, λ h. is)
+co_true true true true b c is p q r = absurd (cc)
+co_true true false z b c is p q r = absurd (cc)
+co_true false y z b c is p q r = absurd (cc)
+
+pub sides_proof : SidesMeetPremises
+sides_proof g is = record {
+  side = side_premises is;
+  complement = record {
+    apart = λ u v in_u in_v differ. co_true _ _ _ _ _ (adjacent-complement is u v) in_u in_v (ne_eqb u v differ);
+    ends = λ u v h. let w = side_ends is Edges u v h in (w.0, w.1);
+    other_ends = λ u v h. let w = side_ends is NonEdges u v h in (w.0, w.1);
+  };
 }

@@ -1,11 +1,11 @@
 -- The triangle lemma.
-use Rattle.std.proofs.Common.{◌≡◌, ◌≢◌, ◌⊎◌, ℕ, Bool, true, false, refl, sym, ◌∙◌, ap, subst, inl, inr}
+use Rattle.std.proofs.Common.{◌≡◌, ◌≢◌, ℕ, Bool, true, false, refl, sym, ◌∙◌, subst, inl, inr}
 use Rattle.std.proofs.lemmas.Bool.{cases_Bool}
 use Rattle.md_graph.proofs.SetLemmas.{clash}
 use Rattle.md_modules.specs.Adjacency.{IsAdjacency}
 use Rattle.md_forcing.specs.declared.arc.Arc.{Arc}
-use Rattle.md_forcing.specs.Forcing.{arc, reverse, IsArc, ForcesDirectly, Reaches}
-use Rattle.md_forcing.proofs.Reaching.{reaches_itself, reaches_step, reaches_on, over_reached, reached_arc}
+use Rattle.md_forcing.specs.Forcing.{arc, IsArc, ForcesDirectly, Reaches}
+use Rattle.md_forcing.proofs.Reaching.{reaches_itself, reaches_step, reaches_on, over_reached}
 use Rattle.md_orientation.specs.Laws.{TriangleLemma, IsMoved}
 use Rattle.md_orientation.proofs.Reached.{reaches_back, reaches_turned}
 
@@ -16,11 +16,11 @@ module _ (e : ℕ → ℕ → Bool) (is : IsAdjacency e) (a b c : ℕ) (across :
   tail_step u v d moved r apart none =
       elim (cases_Bool (e a d)) [
         | inl there ↦ record {
-            first = moved.first;
-            second = there;
-            left = moved.left;
-            right = reaches_step e (arc a c) (arc a v) (arc a d) moved.right there (inl (refl, apart, none));
-          }
+          first = moved.first;
+          second = there;
+          left = moved.left;
+          right = reaches_step e (arc a c) (arc a v) (arc a d) moved.right there (inl (refl, apart, none));
+        }
         | inr missing ↦
             let other : d ≢ a = λ same. clash moved.second (is.symmetric a v ∙ subst (λ x. e v x ≡ false) same none) in
             let on : Reaches e (arc b c) (arc u a) = reaches_step e (arc b c) (arc u d) (arc u a) r (is.symmetric u a ∙ moved.first) (inl (refl, other, is.symmetric d a ∙ missing)) in
@@ -32,11 +32,11 @@ module _ (e : ℕ → ℕ → Bool) (is : IsAdjacency e) (a b c : ℕ) (across :
   head_step u v d moved r apart none =
       elim (cases_Bool (e a d)) [
         | inl there ↦ record {
-            first = there;
-            second = moved.second;
-            left = reaches_step e (arc a b) (arc a u) (arc a d) moved.left there (inl (refl, apart, none));
-            right = moved.right;
-          }
+          first = there;
+          second = moved.second;
+          left = reaches_step e (arc a b) (arc a u) (arc a d) moved.left there (inl (refl, apart, none));
+          right = moved.right;
+        }
         | inr missing ↦
             let other : d ≢ a = λ same. clash moved.first (is.symmetric a u ∙ subst (λ x. e u x ≡ false) same none) in
             let on : Reaches e (arc b c) (arc a v) = reaches_step e (arc b c) (arc d v) (arc a v) r moved.second (inr (refl, other, is.symmetric d a ∙ missing)) in

@@ -1,17 +1,17 @@
 -- A turn of the walk through the edges, its row, and its end.
-use Rattle.std.proofs.Common.{◌≡◌, ◌⊎◌, ◌↔◌, ℕ, ◌+◌, ◌<◌, ◌≤◌, Bool, true, false, List, length, refl, sym, ◌∙◌, ap, subst, inl, inr, arith}
+use Rattle.std.proofs.Common.{◌≡◌, ◌⊎◌, ◌↔◌, ℕ, ◌+◌, ◌<◌, Bool, true, List, sym, ◌∙◌, subst, inl, inr, arith}
 use Rattle.std.proofs.lemmas.Bool.{cases_lt}
 use Rattle.std.specs.Map.{keys_of}
 use Rattle.md_graph.specs.Sets.{NameSet}
 use Rattle.md_modules.specs.Adjacency.{IsAdjacency}
 use Rattle.md_forcing.specs.declared.arc.Arc.{Arc}
 use Rattle.md_forcing.specs.Lists.{Holds}
-use Rattle.md_forcing.specs.Forcing.{arc, reverse, IsArc, ForcesDirectly, Reaches}
+use Rattle.md_forcing.specs.Forcing.{arc, reverse, IsArc, Reaches}
 use Rattle.md_forcing.specs.Seen.{IsSeen, IsClosed}
 use Rattle.md_forcing.specs.Classes.{IsClass, TakesClass}
 use Rattle.md_forcing.proofs.Reaching.{forces_turned, arc_turned, reaches_itself, reaches_step, reaches_on, reached_arc, over_reached}
 use Rattle.md_orientation.specs.Chains.{Precedes}
-use Rattle.md_orientation.specs.Orientations.{ReachesEdge, IsLeastEdge, IsChosen}
+use Rattle.md_orientation.specs.Orientations.{ReachesEdge, IsChosen}
 use Rattle.md_orientation.specs.Walking.{IsWalked, IsStopped, IsWhole}
 use Rattle.md_orientation.proofs.Reached.{reaches_back, reaches_turned, both_turned}
 use Rattle.md_orientation.proofs.Chosen.{ends_apart, chosen_arc, chosen_along, chosen_one_way}
@@ -136,9 +136,9 @@ module _ (e : ℕ → ℕ → Bool) (is : IsAdjacency e) (u : ℕ) (seen chosen 
             elim (of_new a h) [
               | inl old ↦ walked.arcs a old
               | inr more ↦ elim more [
-                  | inl k ↦ reached_arc e (arc u v) a (key_reached a k)
-                  | inr k ↦ arc_turned e is.symmetric (reverse a) (reached_arc e (arc u v) (reverse a) (key_reached (reverse a) k))
-                ]
+                | inl k ↦ reached_arc e (arc u v) a (key_reached a k)
+                | inr k ↦ arc_turned e is.symmetric (reverse a) (reached_arc e (arc u v) (reverse a) (key_reached (reverse a) k))
+              ]
             ]
 
         new_closed : IsClosed e new_seen
@@ -153,9 +153,9 @@ module _ (e : ℕ → ℕ → Bool) (is : IsAdjacency e) (u : ℕ) (seen chosen 
             elim (of_new a h) [
               | inl old ↦ in_old (reverse a) (walked.turned a old)
               | inr more ↦ elim more [
-                  | inl k ↦ in_turned (reverse a) k
-                  | inr k ↦ in_class (reverse a) k
-                ]
+                | inl k ↦ in_turned (reverse a) k
+                | inr k ↦ in_class (reverse a) k
+              ]
             ]
 
         new_free : (a : Arc) → IsSeen new_seen a → Reaches e a (reverse a) → ⊥
@@ -163,25 +163,25 @@ module _ (e : ℕ → ℕ → Bool) (is : IsAdjacency e) (u : ℕ) (seen chosen 
             elim (of_new a h) [
               | inl old ↦ walked.free a old r
               | inr more ↦ elim more [
-                  | inl k ↦ not_turned a (key_reached a k) r
-                  | inr k ↦ not_turned (reverse a) (key_reached (reverse a) k) (reaches_turned e is a (reverse a) r)
-                ]
+                | inl k ↦ not_turned a (key_reached a k) r
+                | inr k ↦ not_turned (reverse a) (key_reached (reverse a) k) (reaches_turned e is a (reverse a) r)
+              ]
             ]
 
         new_kept : (a : Arc) → IsSeen new_chosen a ↔ (IsSeen new_seen a × IsChosen e a)
         new_kept a = (
-            λ h. elim ((chosen_more a).0 h) [
-              | inl old ↦ let k = (walked.kept a).0 old in (in_old a k.0, k.1)
-              | inr k ↦ (in_class a k, key_chosen a (key_reached a k))
-            ],
-            λ h. elim (of_new a h.0) [
-              | inl old ↦ (chosen_more a).1 (inl ((walked.kept a).1 (old, h.1)))
-              | inr more ↦ elim more [
-                  | inl k ↦ (chosen_more a).1 (inr k)
-                  | inr k ↦ absurd (new_free a h.0 (chosen_one_way e is a h.1 (key_chosen (reverse a) (key_reached (reverse a) k))))
-                ]
-            ],
-          )
+          λ h. elim ((chosen_more a).0 h) [
+            | inl old ↦ let k = (walked.kept a).0 old in (in_old a k.0, k.1)
+            | inr k ↦ (in_class a k, key_chosen a (key_reached a k))
+          ],
+          λ h. elim (of_new a h.0) [
+            | inl old ↦ (chosen_more a).1 (inl ((walked.kept a).1 (old, h.1)))
+            | inr more ↦ elim more [
+              | inl k ↦ (chosen_more a).1 (inr k)
+              | inr k ↦ absurd (new_free a h.0 (chosen_one_way e is a h.1 (key_chosen (reverse a) (key_reached (reverse a) k))))
+            ]
+          ],
+        )
 
         pub walked_on : IsWalked e u new_seen new_chosen
         walked_on = record {

@@ -1,15 +1,18 @@
 -- The laws of forcing chains and orientations.
 -- Source: Golumbic, Algorithmic Graph Theory and Perfect Graphs, chapter 5.
-use Rattle.std.specs.Prelude.{◌≡◌, ◌<◌, ◌⊎◌, ◌↔◌, ℕ, Bool, true, List}
+use Rattle.std.specs.Prelude.{◌≡◌, ◌≢◌, ◌<◌, ◌⊎◌, ◌↔◌, ℕ, Bool, true, false, List}
 use Rattle.md_graph.specs.declared.TheConstants.{NAMES}
 use Rattle.md_graph.specs.PlainGraph.{PlainGraph, IsGraph}
+use Rattle.md_graph.specs.Sets.{NameSet, Has}
 use Rattle.md_modules.specs.Adjacency.{IsAdjacency}
 use Rattle.md_forcing.specs.declared.arc.Arc.{Arc}
 use Rattle.md_forcing.specs.declared.seen.Side.{Side}
+use Rattle.md_forcing.specs.declared.seen.Side.TheVariants.{Edges, NonEdges}
 use Rattle.md_forcing.specs.Forcing.{arc, reverse, Reaches}
 use Rattle.md_forcing.specs.Sides.{adjacent_on}
 use Rattle.md_orientation.specs.Chains.{HasForcingChain}
 use Rattle.md_orientation.specs.Orientations.{IsTransitiveOrientation, HasTransitiveOrientation, IsChosen, IsLeastEdgeOrientation}
+use Rattle.md_orientation.specs.Orders.{Realise}
 
 -- the triangle of a, u and v stands, and a>b and a>c reach a>u and a>v
 pub record IsMoved (e : ℕ → ℕ → Bool) (a b c u v : ℕ) : Type 0 where
@@ -65,11 +68,35 @@ pub record HasOneList (e : ℕ → ℕ → Bool) : Type 0 where
 abbrev pub OneLeastEdgeOrientation : Type 0
 OneLeastEdgeOrientation = (e : ℕ → ℕ → Bool) → IsAdjacency e → (n : ℕ) → IsBelow e n → HasOneList e
 
+-- the complement of the graph on s: different names of s that e has apart
+pub record IsComplementOn (s : NameSet) (e other : ℕ → ℕ → Bool) : Type 0 where
+  pub apart : (u v : ℕ) → Has s u → Has s v → u ≢ v → (other u v ≡ true) ↔ (e u v ≡ false)
+  pub ends : (u v : ℕ) → e u v ≡ true → Has s u × Has s v
+  pub other_ends : (u v : ℕ) → other u v ≡ true → Has s u × Has s v
+
+-- Transitive orientations of a graph and of its complement give two orders that realise the graph.
+abbrev pub OrientationsGiveOrders : Type 0
+OrientationsGiveOrders =
+    (e other f g : ℕ → ℕ → Bool) (s : NameSet) → IsAdjacency e → IsAdjacency other → IsComplementOn s e other →
+    IsTransitiveOrientation e f → IsTransitiveOrientation other g → (p : List ℕ) × (q : List ℕ) × Realise e s p q
+
+-- Two orders realise a graph exactly where neither it nor its complement has a forcing chain.
+abbrev pub OrdersIfNoChain : Type 0
+OrdersIfNoChain =
+    (e other : ℕ → ℕ → Bool) (s : NameSet) → IsAdjacency e → IsAdjacency other → IsComplementOn s e other →
+    (n : ℕ) → IsBelow e n → IsBelow other n →
+    ((p : List ℕ) × (q : List ℕ) × Realise e s p q) ↔ (¬ HasForcingChain e × ¬ HasForcingChain other)
+
 -- what a side of a graph has
 pub record MeetsPremises (e : ℕ → ℕ → Bool) : Type 0 where
   pub adjacency : IsAdjacency e
   pub below : IsBelow e NAMES
 
--- Each side of a graph meets the premises of the laws.
+-- what both sides of a graph have
+pub record HasTwoSides (g : PlainGraph) : Type 0 where
+  pub side : (side : Side) → MeetsPremises (adjacent_on side g)
+  pub complement : IsComplementOn g.vertices (adjacent_on Edges g) (adjacent_on NonEdges g)
+
+-- Both sides of each graph meet the premises of the laws.
 abbrev pub SidesMeetPremises : Type 0
-SidesMeetPremises = (g : PlainGraph) → IsGraph g → (side : Side) → MeetsPremises (adjacent_on side g)
+SidesMeetPremises = (g : PlainGraph) → IsGraph g → HasTwoSides g

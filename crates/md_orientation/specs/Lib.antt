@@ -1,4 +1,5 @@
 pub mod Chains
 pub mod Orientations
+pub mod Orders
 pub mod Laws
 pub mod Walking

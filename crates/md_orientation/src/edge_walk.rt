@@ -101,3 +101,82 @@ fn choose(class: &Class, seen: &mut Seen, chosen: &mut Seen)
         });
     }
 }
+
+#[cfg(test)]
+mod tests {
+    use super::*;
+    use std::process::Abort;
+    use std::test::Fail;
+
+    // The graph on the names below `n` with these edges.
+    fn made(rt: &impl Abort, alloc: Global, n: u32, edges: &[(u32, u32)]) -> Result<Graph, Memory> {
+        let mut graph = Graph::new(alloc)?;
+        for v in 0..n {
+            assert!(rt; v < NAMES && !graph.has_vertex(v));
+            graph.add_vertex(v);
+        }
+        for (u, v) in edges {
+            assert!(rt; *u != *v);
+            assert!(rt; graph.has_vertex(*u));
+            assert!(rt; graph.has_vertex(*v));
+            assert!(rt; !graph.has_edge(*u, *v));
+            graph.add_edge(*u, *v);
+        }
+        Ok(graph)
+    }
+
+    // Sees whether the walk stops, how many arcs its class has, or how many it chooses, and that these are the listed ones.
+    fn expect(
+        rt: &impl Abort,
+        alloc: Global,
+        n: u32,
+        edges: &[(u32, u32)],
+        side: Side,
+        stopped: u64,
+        arcs: &[(u32, u32)],
+    ) -> Result<(), Memory> {
+        let graph = made(rt, alloc, n, edges)?;
+        match walk(alloc, &graph, side)? {
+            Ending::Stopped(class) => assert_eq!(rt; class.len(), stopped),
+            Ending::Whole(chosen) => {
+                assert_eq!(rt; stopped, 0);
+                let mut count = 0u64;
+                for u in 0..chosen.size() {
+                    let here = chosen.heads(u).count() as u64;
+                    assert!(rt; here < 10 && count < 10);
+                    count += here;
+                }
+                assert_eq!(rt; count, arcs.len() as u64);
+                for (tail, head) in arcs {
+                    assert!(rt; *tail < chosen.size() && *head < chosen.size());
+                    assert!(rt;
+                        chosen.has(Arc {
+                            tail: *tail,
+                            head: *head
+                        })
+                    );
+                    assert!(rt; chosen.tails(*head).has(*tail));
+                }
+            }
+        }
+        Ok(())
+    }
+
+    #[test]
+    fn both_sides(rt: HostRuntime) -> Result<(), Fail> {
+        let path = [(0, 1), (1, 2), (2, 3)];
+        let triangle = [(0, 1), (1, 2), (0, 2)];
+        let cycle = [(0, 1), (1, 2), (2, 3), (3, 4), (0, 4)];
+        let chosen = [(0, 1), (2, 1), (2, 3)];
+        let others = [(0, 2), (0, 3), (1, 3)];
+        let ordered = [(0, 1), (0, 2), (1, 2)];
+        expect(&rt, rt.alloc(), 4, &path, Side::Edges, 0, &chosen)?;
+        expect(&rt, rt.alloc(), 4, &path, Side::NonEdges, 0, &others)?;
+        expect(&rt, rt.alloc(), 3, &triangle, Side::Edges, 0, &ordered)?;
+        expect(&rt, rt.alloc(), 3, &triangle, Side::NonEdges, 0, &[])?;
+        expect(&rt, rt.alloc(), 5, &cycle, Side::Edges, 10, &[])?;
+        expect(&rt, rt.alloc(), 5, &cycle, Side::NonEdges, 10, &[])?;
+        expect(&rt, rt.alloc(), 0, &[], Side::Edges, 0, &[])?;
+        Ok(())
+    }
+}

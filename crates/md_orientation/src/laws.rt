@@ -7,6 +7,8 @@ ghost use Rattle.md_orientation.specs.Laws.{
   LeastEdgeIsTransitive,
   ChainOrOrientation,
   OneLeastEdgeOrientation,
+  OrientationsGiveOrders,
+  OrdersIfNoChain,
   SidesMeetPremises,
 };
 
@@ -34,6 +36,16 @@ pub fn chain_or_orientation()
 /// There is one list of the arcs of the least-edge orientation in ascending order, and one alone.
 pub fn one_least_edge_orientation()
     ensures { OneLeastEdgeOrientation }
+{}
+
+/// Transitive orientations of a graph and of its complement give two orders that realise the graph.
+pub fn orientations_give_orders()
+    ensures { OrientationsGiveOrders }
+{}
+
+/// Two orders realise a graph exactly where neither it nor its complement has a forcing chain.
+pub fn orders_if_no_chain()
+    ensures { OrdersIfNoChain }
 {}
 
 /// The adjacency of each graph and of its complement meets the premises of the laws.

@@ -1,4 +1,4 @@
-use Rattle.std.proofs.Common.{◌≡◌, ◌∙◌, ◌<◌, sym, subst, refl, arith}
+use Rattle.std.proofs.Common.{◌∙◌, ◌<◌, sym, subst, refl, arith}
 use Rattle.md_forcing.specs.Forcing.{reverse}
 use Rattle.md_forcing.proofs.ListLemmas.{key_at}
 use Rattle.md_orientation.proofs.Choosing.{taken_none, taken_more, taken_all}

@@ -1,8 +1,8 @@
-use Rattle.std.proofs.Common.{◌∙◌, ◌<◌, ◌≤◌, refl, sym, arith}
+use Rattle.std.proofs.Common.{◌∙◌, refl, arith}
 use Rattle.md_forcing.specs.Sides.{adjacent_on}
 use Rattle.md_forcing.proofs.OneSide.{side_ends}
 use Rattle.md_forcing.proofs.SeenRows.{none_seen}
-use Rattle.md_orientation.proofs.Reached.{sides_proof}
+use Rattle.md_orientation.proofs.Reached.{side_premises}
 use Rattle.md_orientation.proofs.WalkLemmas.{walked_start, walked_whole}
 use Rattle.md_orientation.proofs.edge_walk.walk.Goals as goal
 
@@ -15,7 +15,7 @@ loop-u-init c = record {
 
 pub returns-clause-ending : goal.returns-clause-ending
 returns-clause-ending c =
-    walked_whole (adjacent_on c.args.side c.args.graph.now) (sides_proof c.args.graph.now c.vertices-vertices.ensures.graph c.args.side).adjacency c.loop-u.u _ _ c.loop-u.invariant.walked (λ x y h.
+    walked_whole (adjacent_on c.args.side c.args.graph.now) (side_premises c.vertices-vertices.ensures.graph c.args.side).adjacency c.loop-u.u _ _ c.loop-u.invariant.walked (λ x y h.
     let room = c.in_ok-seen.ensures.room x (side_ends c.vertices-vertices.ensures.graph c.args.side x y h).0 in
     let size = c.size-u-end.ensures.size in
     omega arith)

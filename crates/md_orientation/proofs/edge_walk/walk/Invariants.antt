@@ -1,5 +1,4 @@
-use Rattle.std.proofs.Common.{◌≡◌, ◌<◌, ℕ, length}
-use Rattle.md_graph.specs.Sets.{Has}
+use Rattle.std.proofs.Common.{◌≡◌, length}
 use Rattle.md_forcing.specs.Sides.{adjacent_on}
 use Rattle.md_orientation.specs.Walking.{IsWalked}
 use Rattle.md_orientation.proofs.edge_walk.walk.Given as goal

@@ -4,7 +4,7 @@ use Rattle.md_forcing.specs.Forcing.{arc}
 use Rattle.md_forcing.specs.Sides.{adjacent_on}
 use Rattle.md_forcing.proofs.OneSide.{arc_within}
 use Rattle.md_forcing.proofs.Reaching.{reached_arc}
-use Rattle.md_orientation.proofs.Reached.{sides_proof}
+use Rattle.md_orientation.proofs.Reached.{side_premises}
 use Rattle.md_orientation.proofs.Near.{first_unseen, none_unseen, fewer_new}
 use Rattle.md_orientation.proofs.WalkLemmas.{walked_row, walk_stops, walked_on, still_seen, first_seen}
 use Rattle.md_orientation.proofs.edge_walk.walk_at.Goals as goal
@@ -29,7 +29,7 @@ pub returns-then-has-clause-stopped : goal.returns-then-has-clause-stopped
 returns-then-has-clause-stopped c =
     let n = first_unseen c.neighbours_on-near.result _ _ c.in-Some.v c.heads.ensures c.in-Some.ensures.found in
     let there = (c.neighbours_on-near.ensures c.in-Some.v).0 n.near_it in
-    walk_stops (adjacent_on c.args.side c.args.graph.now) (sides_proof c.args.graph.now c.vertices-vertices.ensures.graph c.args.side).adjacency c.args.u _ _ c.loop-v.invariant.walked c.in-Some.v there (λ s. clash s n.new) (λ y t less. n.passed y ((c.neighbours_on-near.ensures y).1 t) less) _ c.in_ok-class.ensures.class _ c.in_ok-class.ensures.taken (sym c.has.ensures ∙ c.if-has.true)
+    walk_stops (adjacent_on c.args.side c.args.graph.now) (side_premises c.vertices-vertices.ensures.graph c.args.side).adjacency c.args.u _ _ c.loop-v.invariant.walked c.in-Some.v there (λ s. clash s n.new) (λ y t less. n.passed y ((c.neighbours_on-near.ensures y).1 t) less) _ c.in_ok-class.ensures.class _ c.in_ok-class.ensures.taken (sym c.has.ensures ∙ c.if-has.true)
 
 pub choose-requires-clause-room : goal.choose-requires-clause-room
 choose-requires-clause-room c =
@@ -43,7 +43,7 @@ loop-v-preserved c =
     let n = first_unseen c.neighbours_on-near.result _ _ c.in-Some.v c.heads.ensures c.in-Some.ensures.found in
     let there = (c.neighbours_on-near.ensures c.in-Some.v).0 n.near_it in
     record {
-      walked = walked_on (adjacent_on c.args.side c.args.graph.now) (sides_proof c.args.graph.now c.vertices-vertices.ensures.graph c.args.side).adjacency c.args.u _ _ c.loop-v.invariant.walked c.in-Some.v there (λ s. clash s n.new) (λ y t less. n.passed y ((c.neighbours_on-near.ensures y).1 t) less) _ c.in_ok-class.ensures.class _ c.in_ok-class.ensures.taken (λ s. clash s (sym c.has.ensures ∙ c.if-has.false)) c.in_ok-class.ensures.closed _ _ c.choose.ensures.seen c.choose.ensures.chosen;
+      walked = walked_on (adjacent_on c.args.side c.args.graph.now) (side_premises c.vertices-vertices.ensures.graph c.args.side).adjacency c.args.u _ _ c.loop-v.invariant.walked c.in-Some.v there (λ s. clash s n.new) (λ y t less. n.passed y ((c.neighbours_on-near.ensures y).1 t) less) _ c.in_ok-class.ensures.class _ c.in_ok-class.ensures.taken (λ s. clash s (sym c.has.ensures ∙ c.if-has.false)) c.in_ok-class.ensures.closed _ _ c.choose.ensures.seen c.choose.ensures.chosen;
       room = c.choose.ensures.room ∙ c.explore.ensures.room ∙ c.loop-v.invariant.room;
       same_room = c.choose.ensures.same_room ∙ c.explore.ensures.room ∙ c.loop-v.invariant.room;
     }
@@ -53,11 +53,11 @@ loop-v-smaller c =
     let n = first_unseen c.neighbours_on-near.result _ _ c.in-Some.v c.heads.ensures c.in-Some.ensures.found in
     let there = (c.neighbours_on-near.ensures c.in-Some.v).0 n.near_it in
     fewer_new c.neighbours_on-near.result _ _ c.in-Some.v
-    (λ x h. still_seen (adjacent_on c.args.side c.args.graph.now) (sides_proof c.args.graph.now c.vertices-vertices.ensures.graph c.args.side).adjacency c.args.u _ _ c.loop-v.invariant.walked c.in-Some.v there (λ s. clash s n.new) (λ y t less. n.passed y ((c.neighbours_on-near.ensures y).1 t) less) _ c.in_ok-class.ensures.class _ c.in_ok-class.ensures.taken (λ s. clash s (sym c.has.ensures ∙ c.if-has.false)) c.in_ok-class.ensures.closed _ _ c.choose.ensures.seen c.choose.ensures.chosen (arc c.args.u x) h)
+    (λ x h. still_seen (adjacent_on c.args.side c.args.graph.now) (side_premises c.vertices-vertices.ensures.graph c.args.side).adjacency c.args.u _ _ c.loop-v.invariant.walked c.in-Some.v there (λ s. clash s n.new) (λ y t less. n.passed y ((c.neighbours_on-near.ensures y).1 t) less) _ c.in_ok-class.ensures.class _ c.in_ok-class.ensures.taken (λ s. clash s (sym c.has.ensures ∙ c.if-has.false)) c.in_ok-class.ensures.closed _ _ c.choose.ensures.seen c.choose.ensures.chosen (arc c.args.u x) h)
     n.near_it n.new
-    (first_seen (adjacent_on c.args.side c.args.graph.now) (sides_proof c.args.graph.now c.vertices-vertices.ensures.graph c.args.side).adjacency c.args.u _ _ c.loop-v.invariant.walked c.in-Some.v there (λ s. clash s n.new) (λ y t less. n.passed y ((c.neighbours_on-near.ensures y).1 t) less) _ c.in_ok-class.ensures.class _ c.in_ok-class.ensures.taken (λ s. clash s (sym c.has.ensures ∙ c.if-has.false)) c.in_ok-class.ensures.closed _ _ c.choose.ensures.seen c.choose.ensures.chosen)
+    (first_seen (adjacent_on c.args.side c.args.graph.now) (side_premises c.vertices-vertices.ensures.graph c.args.side).adjacency c.args.u _ _ c.loop-v.invariant.walked c.in-Some.v there (λ s. clash s n.new) (λ y t less. n.passed y ((c.neighbours_on-near.ensures y).1 t) less) _ c.in_ok-class.ensures.class _ c.in_ok-class.ensures.taken (λ s. clash s (sym c.has.ensures ∙ c.if-has.false)) c.in_ok-class.ensures.closed _ _ c.choose.ensures.seen c.choose.ensures.chosen)
 
 pub returns-clause-walked : goal.returns-clause-walked
 returns-clause-walked c =
-    walked_row (adjacent_on c.args.side c.args.graph.now) (sides_proof c.args.graph.now c.vertices-vertices.ensures.graph c.args.side).adjacency c.args.u _ _ c.loop-v.invariant.walked
+    walked_row (adjacent_on c.args.side c.args.graph.now) (side_premises c.vertices-vertices.ensures.graph c.args.side).adjacency c.args.u _ _ c.loop-v.invariant.walked
     (λ y t. none_unseen c.neighbours_on-near.result _ _ c.heads.ensures c.in_default.ensures.none y ((c.neighbours_on-near.ensures y).1 t))

@@ -1,0 +1,6 @@
+//! Answers on orientations: the transitive orientation that the least edges choose, or a forcing chain.
+#![tactic(auto)]
+
+mod orientation;
+
+pub use orientation::{Verdict, orient};

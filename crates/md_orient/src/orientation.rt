@@ -1,0 +1,125 @@
+//! Transitive orientations.
+ghost use Rattle.std.specs.Prelude.{◌≡◌, ◌++◌, length, map, IfOk, OnOk};
+ghost use Rattle.md_graph.specs.NameSet.{ascending};
+ghost use Rattle.md_graph.specs.PlainGraph.{adjacent};
+ghost use Rattle.md_forcing.specs.Forcing.{arc};
+ghost use Rattle.md_orient.specs.Verdicts.{IsVerdict, arcs_below};
+
+use md_forcing::{Arc, Arcs, Chain, Seen, Side, chain_of};
+use md_graph::{Graph, Memory, Names};
+use md_orientation::{Ending, walk};
+use std::alloc::Global;
+
+/// A transitive orientation, or a forcing chain.
+#[derive(Drop)]
+pub enum Verdict {
+    Transitive(Arcs),
+    Forced(Chain),
+}
+
+/// The arcs of the least-edge orientation, in ascending order of tail, then head, where the graph has a transitive
+/// orientation; else a forcing chain. Errors: want of memory.
+pub fn orient(alloc: Global, graph: &Graph) -> Result<Verdict, Memory>
+    ensures { IfOk result (IsVerdict (adjacent graph.now)) }
+{
+    let _vertices = graph.vertices();
+    match walk(alloc, graph, Side::Edges)? {
+        Ending::Stopped(class) => match chain_of(alloc, &class)? {
+            Some(chain) => Ok(Verdict::Forced(chain)),
+            None => unreachable!(),
+        },
+        Ending::Whole(chosen) => {
+            let list = listed(alloc, &chosen)?;
+            Ok(Verdict::Transitive(Arcs::from_list(list)))
+        }
+    }
+}
+
+// The arcs of a set, in ascending order of tail, then head.
+fn listed(alloc: Global, arcs: &Seen) -> Result<Vec<Arc>, Memory>
+    ensures { IfOk result (λ list. list.items ≡ arcs_below arcs.now (length arcs.now)) }
+{
+    let mut list = Vec::new(alloc);
+    for tail in 0..arcs.size() {
+        list_row(&mut list, tail, arcs.heads(tail))?;
+    }
+    Ok(list)
+}
+
+// Takes in the arcs from `tail` to each of `heads`, ascending.
+fn list_row(list: &mut Vec<Arc>, tail: u32, heads: &Names) -> Result<(), Memory>
+    ensures { OnOk result (list.new.items ≡ list.old.items ++ map (arc tail) (ascending heads.now)) }
+{
+    for head in heads.members() {
+        list.push(Arc { tail, head })?;
+    }
+    Ok(())
+}
+
+#[cfg(test)]
+mod tests {
+    use super::*;
+    use std::process::Abort;
+    use std::test::Fail;
+
+    // The graph on the names below `n` with these edges.
+    fn made(rt: &impl Abort, alloc: Global, n: u32, edges: &[(u32, u32)]) -> Result<Graph, Memory> {
+        let mut graph = Graph::new(alloc)?;
+        for v in 0..n {
+            assert!(rt; v < 4096 && !graph.has_vertex(v));
+            graph.add_vertex(v);
+        }
+        for (u, v) in edges {
+            assert!(rt; *u != *v);
+            assert!(rt; graph.has_vertex(*u));
+            assert!(rt; graph.has_vertex(*v));
+            assert!(rt; !graph.has_edge(*u, *v));
+            graph.add_edge(*u, *v);
+        }
+        Ok(graph)
+    }
+
+    // Sees that these are the arcs of the orientation, in this order, or those of the chain.
+    fn expect(
+        rt: &impl Abort,
+        alloc: Global,
+        n: u32,
+        edges: &[(u32, u32)],
+        forced: bool,
+        arcs: &[(u32, u32)],
+    ) -> Result<(), Memory> {
+        let graph = made(rt, alloc, n, edges)?;
+        match orient(alloc, &graph)? {
+            Verdict::Transitive(list) => {
+                assert!(rt; !forced && list.len() == arcs.len() as u64);
+                for i in 0..arcs.len() {
+                    let (tail, head) = arcs[i];
+                    assert_eq!(rt; list.get(i as u64), Arc { tail, head });
+                }
+            }
+            Verdict::Forced(chain) => {
+                assert!(rt; forced && chain.len() == arcs.len() as u64);
+                for i in 0..arcs.len() {
+                    let (tail, head) = arcs[i];
+                    assert_eq!(rt; chain.get(i as u64), Arc { tail, head });
+                }
+            }
+        }
+        Ok(())
+    }
+
+    #[test]
+    fn orientations_and_chains(rt: HostRuntime) -> Result<(), Fail> {
+        let path = [(0, 1), (1, 2), (2, 3)];
+        let triangle = [(0, 1), (1, 2), (0, 2)];
+        let cycle = [(0, 1), (1, 2), (2, 3), (3, 4), (0, 4)];
+        let chosen = [(0, 1), (2, 1), (2, 3)];
+        let ordered = [(0, 1), (0, 2), (1, 2)];
+        let chain = [(0, 1), (0, 4), (3, 4), (3, 2), (1, 2), (1, 0)];
+        expect(&rt, rt.alloc(), 4, &path, false, &chosen)?;
+        expect(&rt, rt.alloc(), 3, &triangle, false, &ordered)?;
+        expect(&rt, rt.alloc(), 0, &[], false, &[])?;
+        expect(&rt, rt.alloc(), 5, &cycle, true, &chain)?;
+        Ok(())
+    }
+}
