@@ -1,7 +1,6 @@
 -- The places of a class followed from an arc back to the first.
 use Rattle.std.proofs.Common.{◌≡◌, ℕ, ◌<◌, Bool, List, [], ◌∷◌, ◌++◌, length, slice_get, Some, None, Option, IfNone, Result, Ok, Err, IfOk, sym, ◌∙◌, ap, subst, inl, inr, arith, reverse as back_to_front}
 use Rattle.std.proofs.lemmas.List.{reverse-append}
-use Rattle.std.specs.Map.{keys_of}
 use Rattle.md_forcing.specs.declared.arc.Arc.{Arc}
 use Rattle.md_forcing.specs.Lists.{Holds, NoRepeats}
 use Rattle.md_forcing.specs.Forcing.{reverse, ForcesDirectly, Leads, IsListToReverse}
@@ -78,11 +77,6 @@ module _ (es : List (Arc × ℕ)) (target : Arc) (place : ℕ) (list : List Arc)
         leads = subst (Leads e a (back_to_front list)) turned (before.leads e first is a p stands);
         no_repeats = subst NoRepeats (sym whole) (not_there e first is a p stands, before.once);
       })
-
-pub not_held : (es : List (Arc × ℕ)) (a : Arc) (p : ℕ) → slice_get es 0 ≡ Some (a, p) → (Holds (keys_of es) (reverse a) → ⊥) → (e : ℕ → ℕ → Bool) (first : Arc) → IsClass e first es → Holds (keys_of es) (reverse first) → ⊥
-not_held es a p s none e first is h =
-    let same = (entry_parts first a 0 p _ is.begins s).0 in
-    none (subst (λ x. Holds (keys_of es) (reverse x)) same h)
 
 pub has_first : (e : ℕ → ℕ → Bool) (first : Arc) (es : List (Arc × ℕ)) → IsClass e first es → 0 < length es
 has_first e first es is = place_within es 0 _ is.begins

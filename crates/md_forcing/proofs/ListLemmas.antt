@@ -18,9 +18,6 @@ module _ {X : Type 0} where
   of_append (y ∷ xs) ys x (inl e) = inl (inl e)
   of_append (y ∷ xs) ys x (inr h) = elim (of_append xs ys x h) [ inl l ↦ inl (inr l) | inr r ↦ inr r ]
 
-  pub holds_last : (xs : List X) (x : X) → Holds (xs ++ x ∷ []) x
-  holds_last xs x = holds_right xs (x ∷ []) x (inl refl)
-
   pub once_append : (xs ys : List X) → NoRepeats xs → NoRepeats ys → ((x : X) → Holds xs x → Holds ys x → ⊥) → NoRepeats (xs ++ ys)
   once_append [] ys a b apart = b
   once_append (x ∷ xs) ys a b apart = (

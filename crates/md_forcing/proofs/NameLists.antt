@@ -17,9 +17,6 @@ use Rattle.md_forcing.proofs.ListLemmas.{holds_left, holds_right, of_append, of_
 last_in : (s : NameSet) (n : ℕ) → (nat_le 0 n && set.contains s n) ≡ true → Has s n
 last_in s n h = grind (arith, nat_tests)
 
-last_out : (s : NameSet) (n : ℕ) → (nat_le 0 n && set.contains s n) ≡ false → set.contains s n ≡ false
-last_out s n h = grind (arith, nat_tests)
-
 last_has : (s : NameSet) (n : ℕ) → Has s n → (nat_le 0 n && set.contains s n) ≡ true
 last_has s n h = grind (arith, nat_tests)
 

@@ -30,7 +30,7 @@ and_turned true false = refl
 and_turned false true = refl
 and_turned false false = refl
 
-of_or : (a b : Bool) → (a || b) ≡ true → (a ≡ true) ⊎ (b ≡ true)
+pub of_or : (a b : Bool) → (a || b) ≡ true → (a ≡ true) ⊎ (b ≡ true)
 of_or true b h = inl refl
 of_or false b h = inr h
 

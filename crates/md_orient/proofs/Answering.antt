@@ -22,9 +22,6 @@ use Rattle.md_orient.specs.Verdicts.{arcs_below}
 use Rattle.md_orient.proofs.Listing.{arcs_are, arcs_up}
 
 module _ (e : ℕ → ℕ → Bool) (class : List (Arc × ℕ)) (stopped : IsStopped e class) where
-  pub its_class : (f : ℕ → ℕ → Bool) × (first : Arc) × IsClass f first class
-  its_class = (e, arc stopped.u stopped.v, stopped.is)
-
   pub forced : (chain : List Arc) → ((f : ℕ → ℕ → Bool) (first : Arc) → IsClass f first class → IsListToReverse f first chain) → IsForcingChain e chain
   forced chain found = record {
     u = stopped.u;

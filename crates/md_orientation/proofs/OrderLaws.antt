@@ -1,20 +1,17 @@
 -- Orientations of both sides of a graph give two orders that realise it, and two such orders give orientations.
-use Rattle.std.proofs.Common.{◌≡◌, ◌≢◌, ◌⊎◌, ◌↔◌, ℕ, Bool, true, false, ◌||◌, List, refl, sym, ◌∙◌, subst, inl, inr}
+use Rattle.std.proofs.Common.{◌≡◌, ◌≢◌, ◌⊎◌, ◌↔◌, ℕ, Bool, true, false, ◌||◌, List, sym, ◌∙◌, subst, inl, inr}
 use Rattle.std.proofs.lemmas.Bool.{cases_Bool, or_left, or_right, false_from_ne_true}
 use Rattle.md_graph.specs.Sets.{NameSet, Has}
 use Rattle.md_graph.proofs.SetLemmas.{clash}
 use Rattle.md_graph.proofs.Search.{Decided, decide_test, decide_both, test_of, test_holds, of_test}
 use Rattle.md_modules.specs.Adjacency.{IsAdjacency}
+use Rattle.md_forcing.proofs.SeenRows.{of_or}
 use Rattle.md_orientation.specs.Chains.{HasForcingChain}
 use Rattle.md_orientation.specs.Orientations.{IsTransitiveOrientation, HasTransitiveOrientation}
 use Rattle.md_orientation.specs.Orders.{IsOrder, Before, Realise, IsLinear}
 use Rattle.md_orientation.specs.Laws.{OrientationsGiveOrders, OrdersIfNoChain, IsComplementOn, IsBelow}
 use Rattle.md_orientation.proofs.Sorted.{before_one_way, before_on, before_one, decide_before, sorted_before, before_sorted, sorted_order}
 use Rattle.md_orientation.proofs.Alternative.{chain_or_free, chain_has_no_orientation, free_orientation}
-
-either_of : (a b : Bool) → (a || b) ≡ true → (a ≡ true) ⊎ (b ≡ true)
-either_of true b h = inl refl
-either_of false b h = inr h
 
 -- an orientation and one of the complement, merged
 abbrev pub merged : (ℕ → ℕ → Bool) → (ℕ → ℕ → Bool) → ℕ → ℕ → Bool
@@ -29,17 +26,14 @@ module _ (e other : ℕ → ℕ → Bool) (s : NameSet) (is : IsAdjacency e) (is
       clash h ((sides.apart u v ends.0 ends.1 apart).0 k)
 
   module _ (f g : ℕ → ℕ → Bool) (o : IsTransitiveOrientation e f) (o_other : IsTransitiveOrientation other g) where
-    apart_along : (u v : ℕ) → f u v ≡ true → g u v ≡ true → ⊥
-    apart_along u v h k = one_side u v (o.arcs u v h) (o_other.arcs u v k)
-
     apart_back : (u v : ℕ) → f u v ≡ true → g v u ≡ true → ⊥
     apart_back u v h k = one_side u v (o.arcs u v h) (is_other.symmetric u v ∙ o_other.arcs v u k)
 
     merged_one_way : (u v : ℕ) → merged f g u v ≡ true → merged f g v u ≡ true → ⊥
     merged_one_way u v h k =
-        elim (either_of (f u v) (g u v) h) [
-          | inl a ↦ elim (either_of (f v u) (g v u) k) [ inl b ↦ o.not_both u v a b | inr b ↦ apart_back u v a b ]
-          | inr a ↦ elim (either_of (f v u) (g v u) k) [ inl b ↦ apart_back v u b a | inr b ↦ o_other.not_both u v a b ]
+        elim (of_or (f u v) (g u v) h) [
+          | inl a ↦ elim (of_or (f v u) (g v u) k) [ inl b ↦ o.not_both u v a b | inr b ↦ apart_back u v a b ]
+          | inr a ↦ elim (of_or (f v u) (g v u) k) [ inl b ↦ apart_back v u b a | inr b ↦ o_other.not_both u v a b ]
         ]
 
     merged_one : (u v : ℕ) → Has s u → Has s v → u ≢ v → (merged f g u v ≡ true) ⊎ (merged f g v u ≡ true)
@@ -55,7 +49,7 @@ module _ (e other : ℕ → ℕ → Bool) (s : NameSet) (is : IsAdjacency e) (is
         let apart : u ≢ w = λ same. apart_back u v a (subst (λ k. g v k ≡ true) (sym same) b) in
         elim (merged_one u w in_u in_w apart) [
           | inl on ↦ on
-          | inr back ↦ elim (either_of (f w u) (g w u) back) [
+          | inr back ↦ elim (of_or (f w u) (g w u) back) [
             | inl c ↦ absurd (apart_back w v (o.transitive w u v c a) b)
             | inr c ↦ absurd (apart_back u v a (o_other.transitive v w u b c))
           ]
@@ -66,7 +60,7 @@ module _ (e other : ℕ → ℕ → Bool) (s : NameSet) (is : IsAdjacency e) (is
         let apart : u ≢ w = λ same. apart_back v u (subst (λ k. f v k ≡ true) (sym same) b) a in
         elim (merged_one u w in_u in_w apart) [
           | inl on ↦ on
-          | inr back ↦ elim (either_of (f w u) (g w u) back) [
+          | inr back ↦ elim (of_or (f w u) (g w u) back) [
             | inl c ↦ absurd (apart_back v u (o.transitive v w u b c) a)
             | inr c ↦ absurd (apart_back v w b (o_other.transitive w u v c a))
           ]
@@ -76,12 +70,12 @@ module _ (e other : ℕ → ℕ → Bool) (s : NameSet) (is : IsAdjacency e) (is
     merged_linear = record {
       one = merged_one;
       one_way = merged_one_way;
-      transitive = λ u v w in_u in_v in_w h k. elim (either_of (f u v) (g u v) h) [
-        | inl a ↦ elim (either_of (f v w) (g v w) k) [
+      transitive = λ u v w in_u in_v in_w h k. elim (of_or (f u v) (g u v) h) [
+        | inl a ↦ elim (of_or (f v w) (g v w) k) [
           | inl b ↦ or_left _ _ (o.transitive u v w a b)
           | inr b ↦ mixed u v w in_u in_w a b
         ]
-        | inr a ↦ elim (either_of (f v w) (g v w) k) [
+        | inr a ↦ elim (of_or (f v w) (g v w) k) [
           | inl b ↦ mixed_too u v w in_u in_w a b
           | inr b ↦ or_right _ _ (o_other.transitive u v w a b)
         ]
@@ -108,8 +102,8 @@ module _ (e other : ℕ → ℕ → Bool) (s : NameSet) (is : IsAdjacency e) (is
         let q = sorted_order (merged back_f g) s linear_too in
         let in_p : (u v : ℕ) → Has s u → Has s v → merged f g u v ≡ true → Before p.0 u v = λ u v in_u in_v t. before_sorted (merged f g) linear.one_way p.0 u v p.2 ((p.1.members u).1 in_u) ((p.1.members v).1 in_v) t in
         let in_q : (u v : ℕ) → Has s u → Has s v → merged back_f g u v ≡ true → Before q.0 u v = λ u v in_u in_v t. before_sorted (merged back_f g) linear_too.one_way q.0 u v q.2 ((q.1.members u).1 in_u) ((q.1.members v).1 in_v) t in
-        let of_p : (u v : ℕ) → Before p.0 u v → (f u v ≡ true) ⊎ (g u v ≡ true) = λ u v b. either_of (f u v) (g u v) (sorted_before (merged f g) p.0 u v p.2 b) in
-        let of_q : (u v : ℕ) → Before q.0 u v → (f v u ≡ true) ⊎ (g u v ≡ true) = λ u v b. either_of (f v u) (g u v) (sorted_before (merged back_f g) q.0 u v q.2 b) in
+        let of_p : (u v : ℕ) → Before p.0 u v → (f u v ≡ true) ⊎ (g u v ≡ true) = λ u v b. of_or (f u v) (g u v) (sorted_before (merged f g) p.0 u v p.2 b) in
+        let of_q : (u v : ℕ) → Before q.0 u v → (f v u ≡ true) ⊎ (g u v ≡ true) = λ u v b. of_or (f v u) (g u v) (sorted_before (merged back_f g) q.0 u v q.2 b) in
         let told : (u v : ℕ) → Before p.0 u v → Before q.0 v u → e u v ≡ true = λ u v b c. elim (of_p u v b) [
           | inl a ↦ o.arcs u v a
           | inr a ↦ elim (of_q v u c) [ inl d ↦ o.arcs u v d | inr d ↦ absurd (o_other.not_both u v a d) ]

@@ -27,10 +27,6 @@ module _ (e : ℕ → ℕ → Bool) (is : IsAdjacency e) where
   pub both_turned : (a x : Arc) → Reaches e a x → Reaches e a (reverse x) → Reaches e a (reverse a)
   both_turned a x r s = reaches_on e a (reverse x) (reverse a) s (reaches_back (reverse a) (reverse x) (reaches_turned a x r))
 
-  pub own_turned : (a x : Arc) → Reaches e a x → Reaches e a (reverse a) → Reaches e x (reverse x)
-  own_turned a x r s =
-      reaches_on e x a (reverse x) (reaches_back a x r) (reaches_on e a (reverse a) (reverse x) s (reaches_turned a x r))
-
 pub side_premises : {g : PlainGraph} → IsGraph g → (side : Side) → MeetsPremises (adjacent_on side g)
 side_premises {g} is side = record {
   adjacency = record {
