@@ -11,7 +11,7 @@ use Rattle.std.specs.List.{IsDistinct}
 use Rattle.std.specs.List.Sorted.{IsPermutation, IsNonDecreasingBy}
 use Rattle.md_graph.specs.NameSet.{IsLeastFrom}
 use Rattle.md_graph.specs.Sets.{NameSet, Has}
-use Rattle.md_graph.proofs.SetLemmas.{same_name}
+use Rattle.md_graph.proofs.SetLemmas.{same_name, same_turned}
 use Rattle.md_tree.specs.StrongTrees.{IsBefore}
 use Rattle.md_decompose.specs.declared.ordered.Mark.{Mark}
 use Rattle.md_decompose.specs.Children.{set_at}
@@ -28,12 +28,6 @@ at_contained cs m has = (has.0, has.1, get_or_default cs has.0 empty m has.1 ∙
 
 abbrev least_of : Mark → ℕ
 least_of m = m.least
-
-eqb_flips : (x y : ℕ) → eqb x y ≡ eqb y x
-eqb_flips x y = elim (same_name x y) [
-  | inl same ↦ ap (eqb x) (sym same) ∙ ap (λ t. eqb t x) same
-  | inr differ ↦ ne_eqb x y differ ∙ sym (ne_eqb y x (λ e. differ (sym e)))
-]
 
 -- the marks of the first sets, place by place
 pub record AreFirstMarks (cs : List NameSet) (ms : List Mark) (n : ℕ) : Type 0 where
@@ -75,7 +69,7 @@ module _ (cs : List NameSet) (ms sorted : List Mark) (apart : AreApart cs) (is :
         let mapped : length (map least_of sorted) ≡ length sorted = length-map sorted least_of in
         let apart_keys : eqb (get_or (map least_of sorted) i 0) (get_or (map least_of sorted) j 0) ≡ false =
         apart_from_distinct eqb (map least_of sorted) i j 0
-        (IsDistinct-IsPermutation eqb eqb_flips (map least_of ms) (map least_of sorted) (IsPermutation-map least_of ms sorted moved) distinct) before (omega arith)
+        (IsDistinct-IsPermutation eqb same_turned (map least_of ms) (map least_of sorted) (IsPermutation-map least_of ms sorted moved) distinct) before (omega arith)
         in
         let first : get_or (map least_of sorted) i 0 ≡ (get_or sorted i d).least = get_or-map least_of sorted i d 0 (omega arith) in
         let second : get_or (map least_of sorted) j 0 ≡ (get_or sorted j d).least = get_or-map least_of sorted j d 0 known in

@@ -1,12 +1,10 @@
 -- The steps of the reader.
-use Rattle.std.specs.Prelude.{◌≡◌, ℕ, ◌+◌, min, max, Bool, true, false, ◌==◌, ◌||◌, ◌&&◌, List, [], ◌∷◌, ◌++◌, length, Some, None, Result, Ok, Err, OnOk, OnErr, IfErr, refl}
+use Rattle.std.specs.Prelude.{◌≡◌, ℕ, ◌+◌, true, false, ◌==◌, List, [], ◌∷◌, ◌++◌, length, Some, None, Result, Ok, Err, OnOk, OnErr, IfErr, refl}
 use Rattle.std.specs.Result.{is_err}
 use Rattle.std.proofs.Common.{subst, ap, sym, ◌∙◌, append_assoc, length-append}
-use Rattle.std.proofs.lemmas.Bool.{and_parts, eqb-true}
 use Rattle.std.proofs.lemmas.List.Elements.{All-push}
 use Rattle.std.specs.FinSet as set
-use Rattle.md_graph.specs.PlainGraph.{PlainGraph, adjacent, edge, empty_graph, with_edge}
-use Rattle.md_graph.proofs.PairLaws.{pairs-insert, same_pairs}
+use Rattle.md_graph.specs.PlainGraph.{PlainGraph, empty_graph}
 use Rattle.md_text.specs.Lines.{lines, without_return}
 use Rattle.md_text.specs.Fields.{fields}
 use Rattle.md_text.proofs.LineLemmas.{no_lines}
@@ -27,27 +25,6 @@ use Rattle.md_dimacs.proofs.FileLemmas.{fault_before, fault-behind_problem, cont
 -- what the vertices of the problem line make of the graph without vertices
 pub edgeless_by_range : {g h : PlainGraph} (n : ℕ) → g ≡ empty_graph → h ≡ with_range g 1 n → h ≡ edgeless n
 edgeless_by_range n none is = range_alone 1 n none is
-
-there_already : (same there : Bool) → (same ≡ true → there ≡ true) → there ≡ (same || there)
-there_already true there h = h refl
-there_already false there h = refl
-
--- an edge that is there stays alone
-pub with_edge_there : (g : PlainGraph) (u v : ℕ) → adjacent g u v ≡ true → g ≡ with_edge g u v
-unfolding adjacent
-with_edge_there g u v h =
-    let same : g.edges ≡ set.insert g.edges (edge u v) =
-    same_pairs g.edges (set.insert g.edges (edge u v)) (λ a b.
-    there_already ((a == min u v) && (b == max u v)) (set.contains g.edges (a, b)) (λ t. at_edge a b t)
-    ∙ sym (pairs-insert g.edges (min u v) (max u v) a b)) in
-    λ i. record { vertices = g.vertices; edges = same i }
-  where
-    at_edge : (a b : ℕ) → ((a == min u v) && (b == max u v)) ≡ true → set.contains g.edges (a, b) ≡ true
-    at_edge a b t =
-        let parts = and_parts (a == min u v) (b == max u v) t in
-        let low = eqb-true a (min u v) parts.0 in
-        let high = eqb-true b (max u v) parts.1 in
-        ap (λ p. set.contains g.edges p) (λ i. (low i, high i)) ∙ h
 
 -- ---- the lines before the problem line
 

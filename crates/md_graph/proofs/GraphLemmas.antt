@@ -178,6 +178,27 @@ adjacent-without_edges s u v = pairs-empty (min u v) (max u v)
 pub IsGraph-without_edges : (s : NameSet) → AllBelow s NAMES → IsGraph (record { vertices = s; edges = set.empty })
 IsGraph-without_edges s names = IsGraph_by names (λ u v h. absurd (true≢false (sym h ∙ pairs-empty u v)))
 
+there_already : (same there : Bool) → (same ≡ true → there ≡ true) → there ≡ (same || there)
+there_already true there h = h refl
+there_already false there h = refl
+
+-- an edge that is there stays alone
+pub with_edge_there : (g : PlainGraph) (u v : ℕ) → adjacent g u v ≡ true → g ≡ with_edge g u v
+unfolding adjacent
+with_edge_there g u v h =
+    let same : g.edges ≡ set.insert g.edges (edge u v) =
+    same_pairs g.edges (set.insert g.edges (edge u v)) (λ a b.
+    there_already ((a == min u v) && (b == max u v)) (set.contains g.edges (a, b)) (λ t. at_edge a b t)
+    ∙ sym (pairs-insert g.edges (min u v) (max u v) a b)) in
+    λ i. record { vertices = g.vertices; edges = same i }
+  where
+    at_edge : (a b : ℕ) → ((a == min u v) && (b == max u v)) ≡ true → set.contains g.edges (a, b) ≡ true
+    at_edge a b t =
+        let parts = and_parts (a == min u v) (b == max u v) t in
+        let low = eqb-true a (min u v) parts.0 in
+        let high = eqb-true b (max u v) parts.1 in
+        ap (λ p. set.contains g.edges p) (λ i. (low i, high i)) ∙ h
+
 -- a graph without vertices is the empty graph
 pub empty_without_vertices : (g : PlainGraph) → IsGraph g → g.vertices ≡ set.empty → g ≡ empty_graph
 empty_without_vertices g is none = same_graph is IsGraph-empty_graph none (λ u v.

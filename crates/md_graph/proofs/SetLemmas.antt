@@ -1,5 +1,5 @@
 -- What `contains` answers of each set of names, one way and back, and the orders of sets.
-use Rattle.std.proofs.Common.{◌≡◌, ℕ, ◌<◌, not, arith, Bool, true, false, ◌≢◌, ◌⊎◌, refl, sym, ◌∙◌, ap, subst, inl, inr, true≢false, eqb-true, eq-eqb}
+use Rattle.std.proofs.Common.{◌≡◌, ℕ, ◌<◌, not, arith, Bool, true, false, ◌≢◌, ◌⊎◌, refl, sym, ◌∙◌, ap, subst, inl, inr, true≢false, eqb-true, eq-eqb, ltb, ltb-true, ltb-false, ◌≤◌, nat_eq}
 use Rattle.std.proofs.lemmas.Bool.{cases_Bool, true_from_ne_false, false_from_ne_true, or_cases, or_parts, or_left, or_right, or_from, and_parts, and_cases, and_from, and_left, and_right, not-true, not-false, not_from_false, not_from_true}
 use Rattle.std.specs.FinSet.{contains, empty, insert, remove, retain, union, intersection, difference, contains-empty, contains-insert, contains-remove, contains-retain, contains-union, contains-intersection, contains-difference, same_set, nat_cmp-IsAntisymmetric}
 use Rattle.std.specs.Cmp.{nat_cmp_total, unsigned_tied}
@@ -20,6 +20,20 @@ tie q k h = unsigned_tied q k ∙ eq-eqb q k h
 -- two numbers are equal or not
 pub same_name : (x y : ℕ) → (x ≡ y) ⊎ (x ≢ y)
 same_name x y = elim (cases_Bool (eq_by_cmp nat_cmp x y)) [ inl h ↦ inl (tied x y h) | inr h ↦ inr (λ e. clash (tie x y e) h) ]
+
+pub ascending_or_not : (a d : ℕ) → a ≢ d → (a < d) ⊎ (d < a)
+ascending_or_not a d n =
+    elim (cases_Bool (ltb a d)) [
+      | inl h ↦ inl (ltb-true a d h)
+      | inr h ↦ let le : d ≤ a = ltb-false a d h in inr (omega arith)
+    ]
+
+pub same_turned : (x y : ℕ) → nat_eq x y ≡ nat_eq y x
+same_turned x y =
+    elim (cases_Bool (nat_eq x y)) [
+      | inl h ↦ h ∙ sym (eq-eqb y x (sym (eqb-true x y h)))
+      | inr l ↦ l ∙ sym (false_from_ne_true (nat_eq y x) (λ h. clash (eq-eqb x y (sym (eqb-true y x h))) l))
+    ]
 
 -- the empty set
 pub empty_lacks : (q : ℕ) → Lacks empty q

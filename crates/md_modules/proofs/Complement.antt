@@ -1,19 +1,12 @@
 -- The complement: the same modules, with parallel and series the other way round.
-use Rattle.std.proofs.Common.{◌≡◌, ℕ, Bool, true, false, not, ◌&&◌, nat_eq, ◌≢◌, refl, sym, ◌∙◌, ap, subst, inl, inr, eqb-true, eq-eqb}
+use Rattle.std.proofs.Common.{◌≡◌, ℕ, Bool, true, false, not, ◌&&◌, nat_eq, ◌≢◌, refl, sym, ◌∙◌, ap, subst, eqb-true, eq-eqb}
 use Rattle.md_graph.specs.Sets.{NameSet, Has, Lacks}
 use Rattle.md_modules.specs.Adjacency.{IsAdjacency, co}
 use Rattle.md_modules.specs.Modules.{IsModule, IsStrong}
 use Rattle.md_modules.specs.Kinds.{IsSplit}
 use Rattle.md_modules.specs.Laws.{ComplementTurns, ComplementTurnsKinds}
-use Rattle.std.proofs.lemmas.Bool.{cases_Bool, false_from_ne_true}
-use Rattle.md_graph.proofs.SetLemmas.{clash}
-
-same_turned : (x y : ℕ) → nat_eq x y ≡ nat_eq y x
-same_turned x y =
-    elim (cases_Bool (nat_eq x y)) [
-      | inl h ↦ h ∙ sym (eq-eqb y x (sym (eqb-true x y h)))
-      | inr l ↦ l ∙ sym (false_from_ne_true (nat_eq y x) (λ h. clash (eq-eqb x y (sym (eqb-true y x h))) l))
-    ]
+use Rattle.std.proofs.lemmas.Bool.{false_from_ne_true}
+use Rattle.md_graph.proofs.SetLemmas.{clash, same_turned}
 
 -- at two different names the complement says the other value
 pub co_value : (e : ℕ → ℕ → Bool) (a b : ℕ) → a ≢ b → co e a b ≡ not (e a b)

@@ -1,5 +1,5 @@
 -- Induced paths on four names: each prime set has one, and where a set has one some strong module is prime.
-use Rattle.std.proofs.Common.{◌≡◌, ℕ, ◌+◌, ◌<◌, ◌≤◌, zero, suc, Bool, true, false, not, ltb, ◌≢◌, ◌⊎◌, refl, sym, ◌∙◌, ap, subst, inl, inr, arith, ltb-true, ltb-false}
+use Rattle.std.proofs.Common.{◌≡◌, ℕ, ◌+◌, ◌<◌, zero, suc, Bool, true, false, not, ◌≢◌, ◌⊎◌, refl, sym, ◌∙◌, ap, subst, inl, inr, arith}
 use Rattle.std.specs.FinSet.{contains, difference, remove, len}
 use Rattle.md_graph.specs.Sets.{NameSet, Has, Lacks, Within, HasSome, HasTwo, only_name}
 use Rattle.md_modules.specs.Adjacency.{IsAdjacency}
@@ -8,8 +8,8 @@ use Rattle.md_modules.specs.Kinds.{IsSplit, IsPrime}
 use Rattle.md_modules.specs.Components.{IsClosed, IsComponent}
 use Rattle.md_modules.specs.InducedPaths.{IsInducedPath, HasInducedPath}
 use Rattle.md_modules.specs.Laws.{PrimeHasInducedPath, NoInducedPathIfNonePrime}
-use Rattle.std.proofs.lemmas.Bool.{cases_Bool, false_from_ne_true}
-use Rattle.md_graph.proofs.SetLemmas.{clash, same_name, only_has, of_only, only_lacks, remove_gone, remove_left, of_remove, minus_has, of_minus}
+use Rattle.std.proofs.lemmas.Bool.{false_from_ne_true}
+use Rattle.md_graph.proofs.SetLemmas.{clash, same_name, only_has, of_only, only_lacks, remove_gone, remove_left, of_remove, minus_has, of_minus, ascending_or_not}
 use Rattle.md_graph.proofs.Search.{Decided, decide_test, decide_both, decide_like, search_members, larger_or_same, smallest, len_proper}
 use Rattle.md_modules.proofs.Components.{closed_rest, closed_follow, decide_split, component_of, crossing_pair, component_unsplit}
 use Rattle.md_modules.proofs.Strong.{whole_strong, strong_of_strong}
@@ -48,13 +48,6 @@ tells_own : (v b : Bool) → is_other v b ≡ false → b ≡ v
 tells_own true true p = refl
 tells_own true false p = sym p
 tells_own false b p = p
-
-ascending_or_not : (a d : ℕ) → a ≢ d → (a < d) ⊎ (d < a)
-ascending_or_not a d n =
-    elim (cases_Bool (ltb a d)) [
-      | inl h ↦ inl (ltb-true a d h)
-      | inr h ↦ let le : d ≤ a = ltb-false a d h in inr (omega arith)
-    ]
 
 module _ {e : ℕ → ℕ → Bool} where
   pub path_within : (s t : NameSet) → Within s t → HasInducedPath e s → HasInducedPath e t

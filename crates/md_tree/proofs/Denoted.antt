@@ -6,9 +6,9 @@ use Rattle.std.proofs.Math.Seq.{take-length}
 use Rattle.std.specs.FinSet.{contains, empty, union}
 use Rattle.md_graph.specs.declared.TheConstants.{NAMES}
 use Rattle.md_graph.specs.NameSet.{AllBelow}
-use Rattle.md_graph.specs.PlainGraph.{PlainGraph, IsGraph, adjacent, edge, pairs_where, empty_graph}
-use Rattle.md_graph.proofs.GraphLemmas.{contains-pairs_where, contains-edges, adjacent-empty_graph}
-use Rattle.md_graph.proofs.PairLaws.{pairs-empty, same_pairs}
+use Rattle.md_graph.specs.PlainGraph.{PlainGraph, IsGraph, adjacent, edge, pairs_where}
+use Rattle.md_graph.proofs.GraphLemmas.{contains-pairs_where, contains-edges, adjacent-empty_graph, empty_without_vertices}
+use Rattle.md_graph.proofs.PairLaws.{same_pairs}
 use Rattle.md_graph.specs.Sets.{NameSet, Within, Disjoint}
 use Rattle.md_graph.proofs.SetLemmas.{clash, empty_lacks, Has-along, same_members, union_right, of_union}
 use Rattle.md_tree.specs.declared.Pair.{Pair}
@@ -56,13 +56,6 @@ pair_step cs zs qs i d start g h a b same less p q more before x y =
     ∙ ap (λ r. crosses (names_at cs r.low) (names_at cs r.high) x y || in_listed cs (drop (i + 1) qs) x y) (ap (λ l. get_or l i d) (sym same))
     ∙ ap (λ s. crosses s (names_at cs (get_or zs i d).high) x y || in_listed cs (drop (i + 1) qs) x y) p
     ∙ ap (λ s. crosses a s x y || in_listed cs (drop (i + 1) qs) x y) q)
-
--- the graph without vertices
-pub no_vertices_empty : (g : PlainGraph) → IsGraph g → g.vertices ≡ empty → g ≡ empty_graph
-no_vertices_empty g is none n = record { vertices = none n; edges = no_edges n } where
-  no_edges : g.edges ≡ empty
-  no_edges = same_pairs g.edges empty (λ u v.
-      false_from_ne_true _ (λ h. clash (Has-along g.vertices empty none u (is.low_end u v h)) (empty_lacks u)) ∙ sym (pairs-empty u v))
 
 within_limit : (a b t : Bool) → (t ≡ true → b ≡ true) → (a && t) ≡ ((a && b) && t)
 within_limit false b t f = refl
@@ -113,5 +106,5 @@ unfolding adjacent
 filled_graph start named g o t some is_start is none canonical below vertices edges kept more =
     tree_graph g (plain t) is canonical below (kept ∙ vertices ∙ union_empty_left start.vertices (names (plain t)) none)
     (λ x y. more x y ∙ ap (λ w. w || has_edge_in (plain t) x y)
-    (ap (λ s. contains s (edge x y)) (edges ∙ ap (λ h. h.edges) (no_vertices_empty start is_start none)) ∙ adjacent-empty_graph x y))
+    (ap (λ s. contains s (edge x y)) (edges ∙ ap (λ h. h.edges) (empty_without_vertices start is_start none)) ∙ adjacent-empty_graph x y))
     ∙ sym (ap (λ p. graph_of_tree (plain_option p)) some)

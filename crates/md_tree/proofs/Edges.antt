@@ -1,13 +1,12 @@
 -- The edges of a tree's nodes are those of the graph that it denotes.
 use Rattle.std.proofs.Common.{◌≡◌, ◌≢◌, ℕ, suc, ◌<◌, true, false, cond, eqb, min, max, ◌&&◌, ◌||◌, ◌==◌, ◌⊎◌, List, [], ◌∷◌, refl, sym, ◌∙◌, ap, subst, inl, inr, true≢false, eqb-true, eq-eqb, arith}
-use Rattle.std.specs.FinSet.{contains, empty, insert, union}
+use Rattle.std.specs.FinSet.{contains, empty, union}
 use Rattle.md_graph.specs.Sets.{NameSet, Has, Lacks, Disjoint, only_name}
 use Rattle.std.proofs.lemmas.Bool.{cases_Bool, false_from_ne_true, or_cases, or_left, or_right, and_parts, and_from}
 use Rattle.std.specs.Cmp.{both_ways}
-use Rattle.md_graph.proofs.SetLemmas.{clash, only_has, of_only, empty_lacks, union_left, union_right, of_union}
-use Rattle.md_graph.specs.PlainGraph.{PlainGraph, adjacent, edge, with_edge}
+use Rattle.md_graph.proofs.SetLemmas.{clash, only_has, of_only, empty_lacks, union_left, union_right, of_union, ascending_or_not}
+use Rattle.md_graph.specs.PlainGraph.{PlainGraph, adjacent, with_edge}
 use Rattle.md_graph.proofs.GraphLemmas.{adjacent-with_edge}
-use Rattle.md_graph.proofs.PairLaws.{pairs-insert, same_pairs as same_pair_sets}
 use Rattle.md_tree.specs.declared.Kind.{Kind}
 use Rattle.md_tree.specs.declared.Kind.TheVariants.{Parallel, Series, Prime}
 use Rattle.md_tree.specs.declared.Pair.{Pair}
@@ -17,7 +16,7 @@ use Rattle.md_tree.specs.TreeGraph.{position_of, lists_pair, joins, adjacent_in,
 use Rattle.md_tree.specs.TreeEdges.{crosses, in_two, in_listed, edge_across, has_edge_in, has_edge_below}
 use Rattle.md_text.proofs.Lists.{In, to_contains}
 use Rattle.md_tree.proofs.Pairs.{pair}
-use Rattle.md_tree.proofs.Graph.{at_position, at_inside, position_at, of_lists, to_lists, less_or_more}
+use Rattle.md_tree.proofs.Graph.{at_position, at_inside, position_at, of_lists, to_lists}
 
 pub of_crosses : (a b : NameSet) (x y : ℕ) → crosses a b x y ≡ true → (Has a x × Has b y) ⊎ (Has a y × Has b x)
 unfolding crosses
@@ -150,7 +149,7 @@ of_across_prime cs ps x y apart shape h =
     ]
 
 to_across_prime : (cs : PlainTrees) (ps : List Pair) (x y : ℕ) → AcrossEdge Prime cs ps x y → in_listed cs ps x y ≡ true
-to_across_prime cs ps x y is = elim (less_or_more (position_of cs x) (position_of cs y) is.two.differ) [
+to_across_prime cs ps x y is = elim (ascending_or_not (position_of cs x) (position_of cs y) is.two.differ) [
   | inl l ↦ (
       let a : min (position_of cs x) (position_of cs y) ≡ position_of cs x = omega arith in
       let b : max (position_of cs x) (position_of cs y) ≡ position_of cs y = omega arith in
@@ -350,17 +349,3 @@ joined_two g h u v same x y =
             | inr w ↦ or_right ((x == u) && (y == v)) ((x == v) && (y == u)) (and_from (x == v) (y == u) (eq-eqb x v (of_only v x w.1)) (eq-eqb y u (of_only u y w.0)))
           ])
     ]
-
-pub edge_known : (g : PlainGraph) (u v : ℕ) → adjacent g u v ≡ true → g ≡ with_edge g u v
-unfolding adjacent
-edge_known g u v h n = record { vertices = g.vertices; edges = same_edges n } where
-  same_edges : g.edges ≡ insert g.edges (edge u v)
-  same_edges = same_pair_sets g.edges (insert g.edges (edge u v)) (λ a b.
-      both_ways (contains g.edges (a, b)) (((a == min u v) && (b == max u v)) || contains g.edges (a, b))
-      (λ k. or_right ((a == min u v) && (b == max u v)) (contains g.edges (a, b)) k)
-      (λ k. elim (or_cases ((a == min u v) && (b == max u v)) (contains g.edges (a, b)) k) [
-        | inl w ↦ (let p : ((a == min u v) ≡ true) × ((b == max u v) ≡ true) = and_parts (a == min u v) (b == max u v) w in
-            subst (λ z. contains g.edges (z, b) ≡ true) (sym (eqb-true a (min u v) p.0)) (subst (λ z. contains g.edges (min u v, z) ≡ true) (sym (eqb-true b (max u v) p.1)) h))
-        | inr w ↦ w
-      ])
-      ∙ sym (pairs-insert g.edges (min u v) (max u v) a b))

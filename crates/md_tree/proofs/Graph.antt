@@ -1,5 +1,5 @@
 -- The graph of the tree of strong modules is the graph itself, and its prime nodes tell of induced paths.
-use Rattle.std.proofs.Common.{◌≡◌, ◌≢◌, ℕ, zero, suc, ◌<◌, Bool, true, false, cond, eqb, min, max, ◌&&◌, ◌||◌, ◌⊎◌, ◌↔◌, List, [], ◌∷◌, refl, sym, ◌∙◌, ap, subst, inl, inr, true≢false, eqb-true, eq-eqb, arith}
+use Rattle.std.proofs.Common.{◌≡◌, ◌≢◌, ℕ, zero, suc, ◌<◌, Bool, true, false, cond, eqb, min, max, ◌&&◌, ◌||◌, ◌↔◌, List, [], ◌∷◌, refl, sym, ◌∙◌, ap, subst, inl, inr, true≢false, eqb-true, eq-eqb, arith}
 use Rattle.std.specs.FinSet.{contains}
 use Rattle.md_graph.specs.Sets.{NameSet, Has, Lacks, Within}
 use Rattle.md_modules.specs.Adjacency.{IsAdjacency}
@@ -8,7 +8,7 @@ use Rattle.md_modules.specs.InducedPaths.{HasInducedPath}
 use Rattle.md_modules.specs.Laws.{MaximalModules}
 use Rattle.std.proofs.lemmas.Bool.{cases_Bool, false_from_ne_true}
 use Rattle.std.specs.Cmp.{both_ways}
-use Rattle.md_graph.proofs.SetLemmas.{clash, of_only, empty_lacks, Has-along, union_left, union_right, of_union}
+use Rattle.md_graph.proofs.SetLemmas.{clash, of_only, empty_lacks, Has-along, union_left, union_right, of_union, ascending_or_not}
 use Rattle.md_modules.proofs.Children.{child_component, child_maximal}
 use Rattle.md_modules.proofs.Quotients.{maximal_modules_proof}
 use Rattle.md_modules.proofs.Strong.{larger_than_single}
@@ -81,12 +81,6 @@ to_lists (q ∷ ps) p (inr i) = elim (cases_Bool (eqb q.low p.low && eqb q.high 
   | inr a ↦ ap (λ w. w || lists_pair ps p.low p.high) a ∙ to_lists ps p i
 ]
 
-pub less_or_more : (i j : ℕ) → i ≢ j → (i < j) ⊎ (j < i)
-less_or_more zero zero n = absurd (n refl)
-less_or_more zero (suc j) n = inl (omega arith)
-less_or_more (suc i) zero n = inr (omega arith)
-less_or_more (suc i) (suc j) n = elim (less_or_more i j (λ e. n (ap (λ k. suc k) e))) [ inl l ↦ inl (omega arith) | inr l ↦ inr (omega arith) ]
-
 module _ (e : ℕ → ℕ → Bool) (adj : IsAdjacency e) where
   -- two names of different children
   module _ (k : Kind) (cs : PlainTrees) (ps : List Pair) (built : IsBuilt e k cs ps) where
@@ -142,7 +136,7 @@ module _ (e : ℕ → ℕ → Bool) (adj : IsAdjacency e) where
 
     listed_either_way : IsPrime e s → ListsJoined e cs ps → (a b : ℕ) → Has s a → Has s b → position_of cs a ≢ position_of cs b →
         lists_pair ps (min (position_of cs a) (position_of cs b)) (max (position_of cs a) (position_of cs b)) ≡ e a b
-    listed_either_way prime lists a b ha hb differ = elim (less_or_more (position_of cs a) (position_of cs b) differ) [
+    listed_either_way prime lists a b ha hb differ = elim (ascending_or_not (position_of cs a) (position_of cs b) differ) [
       | inl l ↦ (
           let p : min (position_of cs a) (position_of cs b) ≡ position_of cs a = omega arith in
           let q : max (position_of cs a) (position_of cs b) ≡ position_of cs b = omega arith in

@@ -5,8 +5,8 @@ use Rattle.std.specs.Cmp.{both_ways}
 use Rattle.std.specs.FinSet.{contains, empty}
 use Rattle.md_graph.specs.declared.TheConstants.{NAMES}
 use Rattle.md_graph.specs.NameSet.{AllBelow}
-use Rattle.md_graph.specs.PlainGraph.{PlainGraph, IsGraph, adjacent}
-use Rattle.md_graph.proofs.GraphLemmas.{adjacent_ends}
+use Rattle.md_graph.specs.PlainGraph.{adjacent}
+use Rattle.md_graph.proofs.GraphLemmas.{adjacent_ends, empty_without_vertices}
 use Rattle.md_graph.specs.Sets.{NameSet, Has, HasSome}
 use Rattle.md_modules.specs.Adjacency.{IsAdjacency}
 use Rattle.md_modules.specs.Modules.{IsStrong}
@@ -26,7 +26,7 @@ use Rattle.md_tree.proofs.Exists.{HasTree, some_tree}
 use Rattle.md_tree.proofs.Canonical.{built_tree, canonical_of}
 use Rattle.md_tree.proofs.Graph.{adjacent_right, no_path_tree}
 use Rattle.md_tree.proofs.Edges.{edges_are}
-use Rattle.md_tree.proofs.Denoted.{no_vertices_empty, tree_graph}
+use Rattle.md_tree.proofs.Denoted.{tree_graph}
 
 module _ (e : ℕ → ℕ → Bool) where
   -- a tree has a leaf
@@ -78,7 +78,7 @@ well_formed_proof e adj s (Some t) is below =
     (subst (λ w. AllBelow w NAMES) (sym c.0) below, c.1)
 
 pub graph_proof : GraphOfTheTree
-graph_proof g is None none = sym (no_vertices_empty g is none)
+graph_proof g is None none = sym (empty_without_vertices g is none)
 graph_proof g is (Some t) tree =
     let adj : IsAdjacency (adjacent g) = graph_adjacency is in
     let c : (names t ≡ g.vertices) × EachNode IsCanonicalNode t = canonical_proof (adjacent g) adj g.vertices t tree in

@@ -1,8 +1,7 @@
-use Rattle.std.proofs.Common.{[], map, refl, sym, ◌∙◌, subst, append-nil}
-use Rattle.md_graph.specs.PlainGraph.{adjacent}
+use Rattle.std.proofs.Common.{[], map, refl, sym, ◌∙◌, append-nil}
 use Rattle.md_tree.specs.declared.parts.Part.TheVariants.{Leaf, Node}
 use Rattle.md_tree.specs.Parts.{plain_part, name, inner}
-use Rattle.md_decompose.specs.Turns.{open_below, ListsForKind}
+use Rattle.md_decompose.specs.Turns.{open_below}
 use Rattle.md_tree.proofs.Stacking.{map_one_more, if_ok}
 use Rattle.md_decompose.proofs.decomposition.take_apart.Goals as goal
 

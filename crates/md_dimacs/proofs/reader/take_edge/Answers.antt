@@ -1,5 +1,5 @@
 use Rattle.std.proofs.Common.{sym, ◌∙◌}
-use Rattle.md_dimacs.proofs.ReadLemmas.{with_edge_there}
+use Rattle.md_graph.proofs.GraphLemmas.{with_edge_there}
 use Rattle.md_dimacs.proofs.reader.take_edge.Goals as goal
 
 pub returns-else-not-has_edge : goal.returns-else-not-has_edge

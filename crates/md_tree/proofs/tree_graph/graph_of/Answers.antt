@@ -6,8 +6,9 @@ use Rattle.md_tree.specs.Trees.{names}
 use Rattle.md_tree.specs.Plain.{plain, plain_option}
 use Rattle.md_tree.specs.TreeGraph.{graph_of_tree}
 use Rattle.md_tree.specs.WellFormed.{IsWellFormed}
-use Rattle.md_tree.proofs.Denoted.{no_vertices_empty, filled_graph}
+use Rattle.md_tree.proofs.Denoted.{filled_graph}
 use Rattle.md_tree.proofs.tree_graph.graph_of.Goals as goal
+use Rattle.md_graph.proofs.GraphLemmas.{empty_without_vertices}
 use Rattle.md_tree.proofs.tree_graph.graph_of.Goals.{in-Some, in_default}
 
 pub add_names-requires-clause-absent : goal.add_names-requires-clause-absent
@@ -25,6 +26,6 @@ returns c = elim c.match-tree.branch [
       c.requires.no_vertices well.1 well.0 w.add_names.ensures.vertices w.add_names.ensures.edges
       (ap (λ g. g.vertices) w.graph-is ∙ w.add_tree_edges.ensures.vertices)
       (λ x y. ap (λ g. adjacent g x y) w.graph-is ∙ w.add_tree_edges.ensures.edges x y))
-  | in_default w ↦ w.graph-is ∙ no_vertices_empty c.args.graph.now c.vertices-vertices.ensures.graph c.requires.no_vertices
+  | in_default w ↦ w.graph-is ∙ empty_without_vertices c.args.graph.now c.vertices-vertices.ensures.graph c.requires.no_vertices
       ∙ sym (ap (λ o. graph_of_tree (plain_option o)) w.in_default.is)
 ]
