@@ -90,9 +90,9 @@ impl Chain {
     }
 }
 
-/// A list without repeats from the first arc of a class to its reverse, in which neighbours force each other directly;
-/// `None` exactly where the class doesn't hold the reverse. Condition: it is the class of an arc of the graph. Errors:
-/// want of memory.
+/// A list without repeats from the first arc of a class to its reverse, in which neighbours force
+/// each other directly; `None` exactly where the class doesn't hold the reverse. Condition: it is
+/// the class of an arc of the graph. Errors: want of memory.
 pub fn chain_to_reverse(
     alloc: Global,
     graph: &Graph,
@@ -103,7 +103,8 @@ pub fn chain_to_reverse(
         → IsClass (adjacent graph.now) first class.now
         → IsListToReverse (adjacent graph.now) first chain)) }
     ensures none { IfOk result (λ answer. IfNone answer ((first : Arc)
-        → IsClass (adjacent graph.now) first class.now → Holds (keys_of class.now) (reverse first) → ⊥)) }
+        → IsClass (adjacent graph.now) first class.now
+        → Holds (keys_of class.now) (reverse first) → ⊥)) }
 {
     chain_of(alloc, class)
 }
@@ -161,7 +162,8 @@ mod tests {
         Ok(graph)
     }
 
-    // Sees how many arcs 0>1 reaches, what the second of them is, and how long the list to 1>0 is: 0 where there is none.
+    // Sees how many arcs 0>1 reaches, what the second of them is, and how long the list to 1>0 is:
+    // 0 where there is none.
     fn expect(
         rt: &impl Abort,
         alloc: Global,

@@ -9,8 +9,8 @@ use md_graph::Memory;
 use std::alloc::Global;
 use std::marker::Model;
 
-/// The arcs that an arc reaches, each with the place of an arc before it that forces it directly; the first has its
-/// own place.
+/// The arcs that an arc reaches, each with the place of an arc before it that forces it directly;
+/// the first has its own place.
 #[derive(Drop)]
 pub struct Class {
     places: IndexMap<Arc, u32>,

@@ -23,8 +23,8 @@ struct Found {
     tails: Names,
 }
 
-/// The class of `first`: the arcs that it reaches by direct forcings. Condition: it is an arc of the graph. Errors:
-/// want of memory.
+/// The class of `first`: the arcs that it reaches by direct forcings. Condition: it is an arc of
+/// the graph. Errors: want of memory.
 pub fn close(alloc: Global, graph: &Graph, first: Arc) -> Result<Class, Memory>
     requires { IsArc (adjacent graph.now) first }
     ensures { IfOk result (IsClass (adjacent graph.now) first) }
@@ -33,9 +33,10 @@ pub fn close(alloc: Global, graph: &Graph, first: Arc) -> Result<Class, Memory>
     explore(alloc, graph, Side::Edges, first, &mut seen)
 }
 
-/// The class of `first` in the graph or in its complement, which joins the seen arcs. Conditions: `first` is an arc of
-/// this side that isn't seen; the seen arcs have room for the vertices, and with an arc all that it forces are seen.
-/// Errors: want of memory; nothing is promised of the seen arcs then.
+/// The class of `first` in the graph or in its complement, which joins the seen arcs. Conditions:
+/// `first` is an arc of this side that isn't seen; the seen arcs have room for the vertices, and
+/// with an arc all that it forces are seen. Errors: want of memory; nothing is promised of the seen
+/// arcs then.
 pub fn explore(
     alloc: Global,
     graph: &Graph,
@@ -68,8 +69,8 @@ pub fn explore(
     Ok(class)
 }
 
-// Takes in the arcs that the arc at a place forces directly and that aren't seen. Condition: the arcs of the class are
-// seen, and are arcs of this side; the seen arcs have room for the vertices.
+// Takes in the arcs that the arc at a place forces directly and that aren't seen. Condition: the
+// arcs of the class are seen, and are arcs of this side; the seen arcs have room for the vertices.
 fn turn(
     graph: &Graph,
     side: Side,
@@ -83,7 +84,8 @@ fn turn(
     requires few { at < 2 ^ 32 }
     requires arcs { (a : Arc) → Holds (keys_of class.old) a → IsArc (adjacent_on side graph.now) a }
     requires seen { (a : Arc) → Holds (keys_of class.old) a → IsSeen seen.old a }
-    ensures taken { OnOk result (IsTurn (adjacent_on side graph.now) at seen.old class.old seen.new class.new) }
+    ensures taken { OnOk result
+        (IsTurn (adjacent_on side graph.now) at seen.old class.old seen.new class.new) }
     ensures room { length seen.new ≡ length seen.old }
 {
     let _vertices = graph.vertices();
@@ -98,10 +100,12 @@ fn turn(
     Ok(())
 }
 
-// Takes in the arcs from `tail` to each of `heads`, ascending, with a place. Condition: none of them is there.
+// Takes in the arcs from `tail` to each of `heads`, ascending, with a place. Condition: none of
+// them is there.
 fn push_heads(class: &mut Class, tail: u32, heads: &Names, place: u32) -> Result<(), Memory>
     requires { (w : ℕ) → Has heads.now w → Holds (keys_of class.old) (arc tail w) → ⊥ }
-    ensures { OnOk result (class.new ≡ class.old ++ map (tail_entry tail place) (ascending heads.now)) }
+    ensures { OnOk result
+        (class.new ≡ class.old ++ map (tail_entry tail place) (ascending heads.now)) }
 {
     for head in heads.members() {
         class.push(Arc { tail, head }, place)?;
@@ -109,10 +113,12 @@ fn push_heads(class: &mut Class, tail: u32, heads: &Names, place: u32) -> Result
     Ok(())
 }
 
-// Takes in the arcs from each of `tails`, ascending, to `head`, with a place. Condition: none of them is there.
+// Takes in the arcs from each of `tails`, ascending, to `head`, with a place. Condition: none of
+// them is there.
 fn push_tails(class: &mut Class, tails: &Names, head: u32, place: u32) -> Result<(), Memory>
     requires { (w : ℕ) → Has tails.now w → Holds (keys_of class.old) (arc w head) → ⊥ }
-    ensures { OnOk result (class.new ≡ class.old ++ map (head_entry head place) (ascending tails.now)) }
+    ensures { OnOk result
+        (class.new ≡ class.old ++ map (head_entry head place) (ascending tails.now)) }
 {
     for tail in tails.members() {
         class.push(Arc { tail, head }, place)?;

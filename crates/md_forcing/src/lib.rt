@@ -1,5 +1,5 @@
-//! Forcing: arcs of a graph or of its complement, the arcs that an arc reaches by direct forcings, and lists of arcs in
-//! which neighbours force each other.
+//! Forcing: arcs of a graph or of its complement, the arcs that an arc reaches by direct forcings,
+//! and lists of arcs in which neighbours force each other.
 #![tactic(auto)]
 
 mod arc;

@@ -20,8 +20,8 @@ pub enum Side {
     NonEdges,
 }
 
-/// A set of arcs on the names below some number, as the heads of the arcs with each tail, and the tails of those with
-/// each head.
+/// A set of arcs on the names below some number, as the heads of the arcs with each tail, and the
+/// tails of those with each head.
 #[derive(Drop)]
 pub struct Seen {
     by_tail: Vec<Names>,
@@ -47,7 +47,8 @@ impl Model for Seen {
 }
 
 impl Seen {
-    /// No arc, with room for the arcs on the vertices of the graph and of its complement. Errors: want of memory.
+    /// No arc, with room for the arcs on the vertices of the graph and of its complement. Errors:
+    /// want of memory.
     pub fn new(alloc: Global, graph: &Graph) -> Result<Seen, Memory>
         ensures room { IfOk result (λ s. (v : ℕ) → Has graph.now.vertices v → v < length s) }
         ensures none { IfOk result (λ s. (v : ℕ) → row_of s v ≡ set.empty) }
@@ -55,7 +56,8 @@ impl Seen {
         Seen::with_size(alloc, size_over(graph))
     }
 
-    /// No arc, with room for the arcs on the names below `size`. Condition: these are names. Errors: want of memory.
+    /// No arc, with room for the arcs on the names below `size`. Condition: these are names.
+    /// Errors: want of memory.
     pub fn with_size(alloc: Global, size: u32) -> Result<Seen, Memory>
         requires { size ≤ NAMES }
         ensures room { IfOk result (λ s. length s ≡ size) }
@@ -134,8 +136,8 @@ impl Seen {
         insert_in_rows(&mut self.by_tail, tails, head);
     }
 
-    /// Puts into `into` the heads of the arcs that `by` forces directly at its tail and that aren't in the set.
-    /// Condition: `by` is an arc of this side, and in the set.
+    /// Puts into `into` the heads of the arcs that `by` forces directly at its tail and that aren't
+    /// in the set. Condition: `by` is an arc of this side, and in the set.
     pub fn unseen_heads(&self, graph: &Graph, side: Side, by: Arc, into: &mut Names)
         requires is_arc { IsArc (adjacent_on side graph.now) by }
         requires seen { IsSeen self.now by }
@@ -146,8 +148,8 @@ impl Seen {
         apart(graph, side, by.tail, by.head, self.heads(by.tail), into);
     }
 
-    /// Puts into `into` the tails of the arcs that `by` forces directly at its head and that aren't in the set.
-    /// Condition: `by` is an arc of this side, and in the set.
+    /// Puts into `into` the tails of the arcs that `by` forces directly at its head and that aren't
+    /// in the set. Condition: `by` is an arc of this side, and in the set.
     pub fn unseen_tails(&self, graph: &Graph, side: Side, by: Arc, into: &mut Names)
         requires is_arc { IsArc (adjacent_on side graph.now) by }
         requires seen { IsSeen self.now by }
@@ -183,8 +185,8 @@ fn size_over(graph: &Graph) -> u32
     }
 }
 
-// Puts into `into` the names outside `known` that, on this side, `here` is adjacent to and `there` isn't. Conditions:
-// `here` and `there` are adjacent, and `there` is known.
+// Puts into `into` the names outside `known` that, on this side, `here` is adjacent to and `there`
+// isn't. Conditions: `here` and `there` are adjacent, and `there` is known.
 fn apart(graph: &Graph, side: Side, here: u32, there: u32, known: &Names, into: &mut Names)
     requires adjacent { adjacent_on side graph.now here there ≡ true }
     requires known { Has known.now there }

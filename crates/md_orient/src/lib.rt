@@ -1,4 +1,5 @@
-//! Answers on orientations: the transitive orientation that the least edges choose, or a forcing chain.
+//! Answers on orientations: the transitive orientation that the least edges choose, or a forcing
+//! chain.
 #![tactic(auto)]
 
 mod orientation;

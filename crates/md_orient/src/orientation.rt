@@ -17,8 +17,8 @@ pub enum Verdict {
     Forced(Chain),
 }
 
-/// The arcs of the least-edge orientation, in ascending order of tail, then head, where the graph has a transitive
-/// orientation; else a forcing chain. Errors: want of memory.
+/// The arcs of the least-edge orientation, in ascending order of tail, then head, where the graph
+/// has a transitive orientation; else a forcing chain. Errors: want of memory.
 pub fn orient(alloc: Global, graph: &Graph) -> Result<Verdict, Memory>
     ensures { IfOk result (IsVerdict (adjacent graph.now)) }
 {
@@ -48,7 +48,8 @@ fn listed(alloc: Global, arcs: &Seen) -> Result<Vec<Arc>, Memory>
 
 // Takes in the arcs from `tail` to each of `heads`, ascending.
 fn list_row(list: &mut Vec<Arc>, tail: u32, heads: &Names) -> Result<(), Memory>
-    ensures { OnOk result (list.new.items ≡ list.old.items ++ map (arc tail) (ascending heads.now)) }
+    ensures { OnOk result
+        (list.new.items ≡ list.old.items ++ map (arc tail) (ascending heads.now)) }
 {
     for head in heads.members() {
         list.push(Arc { tail, head })?;
@@ -122,7 +123,8 @@ mod tests {
         u != v && (pairs >> (place % 32)) & 1 == 1
     }
 
-    // Whether the graph has this edge, and the choice directs it from `u` to `v`: upwards where it has the pair.
+    // Whether the graph has this edge, and the choice directs it from `u` to `v`: upwards where it
+    // has the pair.
     fn directs(edges: u32, choice: u32, u: u32, v: u32) -> bool {
         has_pair(edges, u, v) && has_pair(choice, u, v) == (u < v)
     }

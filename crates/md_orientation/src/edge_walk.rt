@@ -20,9 +20,9 @@ pub enum Ending {
     Whole(Seen),
 }
 
-/// Walks through the edges of a graph or of its complement, smaller ends first: to the first edge that reaches its own
-/// reverse, with its class; or, where there is none, through all edges, with the arcs of the least-edge orientation. Each
-/// arc is explored once. Errors: want of memory.
+/// Walks through the edges of a graph or of its complement, smaller ends first: to the first edge
+/// that reaches its own reverse, with its class; or, where there is none, through all edges, with
+/// the arcs of the least-edge orientation. Each arc is explored once. Errors: want of memory.
 pub fn walk(alloc: Global, graph: &Graph, side: Side) -> Result<Ending, Memory>
     ensures ending { IfOk result (IsEnding (adjacent_on side graph.now)) }
     ensures room { IfOk result (HasRoom graph.now.vertices) }
@@ -52,7 +52,8 @@ fn walk_at(
     requires room { (v : ℕ) → Has graph.now.vertices v → v < length seen.old }
     requires same_room { length chosen.old ≡ length seen.old }
     requires walked { IsWalked (adjacent_on side graph.now) u seen.old chosen.old }
-    ensures stopped { IfOk result (λ answer. IfSome answer (IsStopped (adjacent_on side graph.now))) }
+    ensures stopped { IfOk result (λ answer. IfSome answer
+        (IsStopped (adjacent_on side graph.now))) }
     ensures walked { IfOk result (λ answer. IfNone answer
         (IsWalked (adjacent_on side graph.now) (u + 1) seen.new chosen.new)) }
     ensures room { length seen.new ≡ length seen.old }
@@ -82,13 +83,16 @@ fn neighbours_on(graph: &Graph, side: Side, u: u32) -> Names
     }
 }
 
-// Takes in the arcs of a class as chosen, and their reverses as seen. Condition: their ends have room.
+// Takes in the arcs of a class as chosen, and their reverses as seen. Condition: their ends have
+// room.
 fn choose(class: &Class, seen: &mut Seen, chosen: &mut Seen)
     requires room { (a : Arc) → Holds (keys_of class.now) a
         → (a.tail < length seen.old) × (a.head < length seen.old) }
     requires same_room { length chosen.old ≡ length seen.old }
-    ensures seen { (a : Arc) → IsSeen seen.new a ↔ (IsSeen seen.old a ⊎ Holds (keys_of class.now) (reverse a)) }
-    ensures chosen { (a : Arc) → IsSeen chosen.new a ↔ (IsSeen chosen.old a ⊎ Holds (keys_of class.now) a) }
+    ensures seen { (a : Arc) → IsSeen seen.new a
+        ↔ (IsSeen seen.old a ⊎ Holds (keys_of class.now) (reverse a)) }
+    ensures chosen { (a : Arc) → IsSeen chosen.new a
+        ↔ (IsSeen chosen.old a ⊎ Holds (keys_of class.now) a) }
     ensures room { length seen.new ≡ length seen.old }
     ensures same_room { length chosen.new ≡ length seen.old }
 {
@@ -125,7 +129,8 @@ mod tests {
         Ok(graph)
     }
 
-    // Sees whether the walk stops, how many arcs its class has, or how many it chooses, and that these are the listed ones.
+    // Sees whether the walk stops, how many arcs its class has, or how many it chooses, and that
+    // these are the listed ones.
     fn expect(
         rt: &impl Abort,
         alloc: Global,

@@ -1,5 +1,5 @@
-//! The laws of forcing chains and orientations, each the contract of a function that does nothing. They speak of any test
-//! of adjacency on finitely many names, so of a graph and of its complement.
+//! The laws of forcing chains and orientations, each the contract of a function that does nothing.
+//! They speak of any test of adjacency on finitely many names, so of a graph and of its complement.
 
 ghost use Rattle.md_orientation.specs.Laws.{
   TriangleLemma,
@@ -12,8 +12,8 @@ ghost use Rattle.md_orientation.specs.Laws.{
   SidesMeetPremises,
 };
 
-/// Let a, b, c be a triangle, and let b>c reach neither a>c nor b>a. Each arc u>v that b>c reaches makes a triangle with a,
-/// where a>b reaches a>u and a>c reaches a>v.
+/// Let a, b, c be a triangle, and let b>c reach neither a>c nor b>a. Each arc u>v that b>c reaches
+/// makes a triangle with a, where a>b reaches a>u and a>c reaches a>v.
 pub fn triangle_lemma()
     ensures { TriangleLemma }
 {}

@@ -1,5 +1,5 @@
-//! Transitive orientations: their laws, and the walk through the edges of a graph that finds each class of arcs at its least
-//! edge.
+//! Transitive orientations: their laws, and the walk through the edges of a graph that finds each
+//! class of arcs at its least edge.
 #![tactic(auto)]
 
 mod edge_walk;
