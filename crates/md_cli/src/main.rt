@@ -5,7 +5,7 @@
 ghost use Rattle.std.specs.Prelude.{◌≡◌};
 ghost use Rattle.std.specs.Process.{exit_status};
 ghost use Rattle.md_top.specs.declared.stop.Status.{Status};
-ghost use Rattle.md_top.specs.Ending.{number_of};
+ghost use Rattle.md_top.specs.Status.{number_of};
 
 use md_io::{DirFiles, StdSink};
 use md_top::{Status, run};

@@ -1,30 +1,30 @@
--- What an ending says of the fault of its input.
-use Rattle.std.proofs.Common.{◌≡◌, ◌≢◌, ◌⊎◌, ℕ, ◌-◌, ◌^◌, ◌<◌, ◌≤◌, length, Bool, true, false, ◌&&◌, nat_lt, IsTrue, List, [], ◌∷◌, ◌++◌, Option, None, Some, Result, IsErrAnd, Ok, Err, refl, sym, ◌∙◌, ap, ap₂, subst, inl, inr, append-nil, append_assoc, arith}
+-- What an ending says of a run, behind its loads.
+use Rattle.std.proofs.Common.{◌≡◌, ◌≢◌, ℕ, ◌-◌, ◌^◌, ◌<◌, ◌≤◌, Bool, true, false, ◌&&◌, nat_lt, IsTrue, List, [], ◌∷◌, ◌++◌, Option, None, Some, Result, IsErrAnd, Ok, Err, refl, sym, ◌∙◌, ap, ap₂, subst, inl, inr, append-nil, append_assoc, arith}
 use Rattle.std.proofs.lemmas.Bool.{ltb-true}
+use Rattle.std.specs.Io.KnownBytes.{Keeps}
 use Rattle.md_io.specs.Count.{Rose}
 use Rattle.md_io.specs.Told.{Told, IsToldAs, IsToldFile, IsToldLonger}
-use Rattle.md_top.specs.declared.stop.Fault.{Fault}
+use Rattle.md_io.specs.declared.TheConstants.{LIMIT}
+use Rattle.md_io.specs.declared.LoadFault.{LoadFault}
+use Rattle.md_io.specs.declared.LoadFault.TheVariants as loads
+use Rattle.md_input.specs.declared.fault.Fault.{Fault}
+use Rattle.md_top.specs.declared.request.Request.{Request}
 use Rattle.md_top.specs.declared.stop.Stop.{Stop}
 use Rattle.md_top.specs.declared.stop.Stop.TheVariants.{Usage, BadInput, ReadFault, WriteFault, Memory, TooLong}
 use Rattle.md_top.specs.declared.stop.Status.TheVariants as statuses
-use Rattle.std.specs.declared.alloc.Global.{Global}
-use Rattle.std.specs.declared.string.String.{String}
-use Rattle.md_io.specs.declared.TheConstants.{LIMIT}
-use Rattle.md_top.specs.Form.{Request, texts, request_of}
-use Rattle.md_top.specs.Input.{AreToldAs, AreFiles, AllToldFiles, IsInput, AsksInOrder, names_of}
-use Rattle.md_top.specs.Answer.{fault_of}
 use Rattle.md_top.specs.declared.stop.Verdict.{Verdict}
 use Rattle.md_top.specs.declared.stop.Verdict.TheVariants.{Done}
-use Rattle.std.specs.Io.KnownBytes.{Keeps}
-use Rattle.md_top.specs.Load.{IsLoadStop}
+use Rattle.md_top.specs.Request.{files_of, with_files}
+use Rattle.md_top.specs.Input.{FilesRun, AreToldAs, AreFiles, AllToldFiles, CanBeInput, IsInput, AsksInOrder, names_of, LoadEnds}
+use Rattle.md_top.specs.Answer.{fault_of}
+use Rattle.md_top.specs.Sinks.{SinkRun}
 use Rattle.md_top.specs.Command.{CommandEnds}
-use Rattle.md_top.specs.Command as command
-use Rattle.md_top.specs.Ending.{status_of_stop}
-use Rattle.md_top.specs.Clauses.{CanBeBad, CanBeGood, PutsFront}
-use Rattle.md_top.specs.Ends.{Ends, FilesRun, SinkRun}
+use Rattle.md_top.specs.Status.{status_of_stop, stop_of_load}
+use Rattle.md_top.specs.Promise.{CanBeBad, Ends}
+use Rattle.md_top.proofs.Loads.{Loads, onwards, both, all_before, all_at, none_past}
 
 -- a run that stops at bad input names a fault
-pub stops_at_fault : (stop : Stop) (request : Option Request) (f : FilesRun) (o : SinkRun) → Ends request (Err stop) f o → status_of_stop stop ≡ statuses.BadInput → (fault : Fault) × CanBeBad f.holds request fault
+pub stops_at_fault : (stop : Stop) (request : Option (Request (List ℕ))) (f : FilesRun) (o : SinkRun) → Ends request (Err stop) f o → status_of_stop stop ≡ statuses.BadInput → (fault : Fault) × CanBeBad f.holds request fault
 stops_at_fault Usage request f o ends is = cc
 stops_at_fault (BadInput fault) request f o ends is = (fault, ends.bad_input fault refl)
 stops_at_fault ReadFault request f o ends is = cc
@@ -39,9 +39,9 @@ told_files holds (name ∷ names) [] files = absurd files
 told_files holds (name ∷ names) (bytes ∷ contents) files = (subst IsToldFile (sym files.0) tt, told_files holds names contents files.2)
 
 -- the files of an input are told
-pub told_input : (holds : List ℕ → Told) (request : Option Request) (asked : Request) (contents : List (List ℕ)) → IsInput holds request asked contents → AllToldFiles holds (names_of request)
-told_input holds request asked contents input =
-    subst (λ r. AllToldFiles holds (names_of r)) (sym input.is) (told_files holds asked.names contents input.files)
+pub told_input : (holds : List ℕ → Told) (request : Option (Request (List ℕ))) (input : Request (List ℕ)) → IsInput holds request input → AllToldFiles holds (names_of request)
+told_input holds request input is =
+    subst (λ r. AllToldFiles holds (names_of r)) (sym is.is) (told_files holds (files_of is.asked) is.contents is.files)
 
 -- a count below its last value that stays didn't rise
 pub unrisen : (before now : ℕ) (other : Bool) → (nat_lt before (2 ^ 64 - 1) && other) ≡ true → now ≡ before → ¬ (Rose before now)
@@ -65,226 +65,163 @@ same_contents holds (name ∷ names) (bytes ∷ contents) (other ∷ others) tol
     (subst (λ t. IsToldAs t bytes) files.0 told.0)
     (same_contents holds names contents others told.2 files.2)
 
+-- a count that rose behind another moment
+rose_behind : (old now new : ℕ) → old ≤ now → Rose now new → Rose old new
+rose_behind old now new below rose = omega (arith, rose)
+
 -- an ending behind the loads of all files of a request
-module _ (asked : Request) (contents : List (List ℕ)) (f : FilesRun) (o : SinkRun) (told : AreToldAs f.holds asked.names contents)
-    (grown : f.asked_new ≡ f.asked_old ++ asked.names)
-    (sure : IsTrue f.sure_old → AllToldFiles f.holds asked.names → (f.faults_new ≡ f.faults_old) × IsTrue f.sure_new) where
-  same_fault : (a : Request) (others : List (List ℕ)) → IsInput f.holds (Some asked) a others → fault_of a.form others ≡ fault_of asked.form contents
-  same_fault a others is =
-      let same : asked ≡ a = cc in
-      let input : AreFiles f.holds asked.names others = subst (λ (r : Request). AreFiles f.holds r.names others) (sym same) is.files in
-      ap₂ (λ (r : Request) (c : List (List ℕ)). fault_of r.form c) (sym same) (sym (same_contents f.holds asked.names contents others told input))
+module _ (asked : Request (List ℕ)) (contents : List (List ℕ)) (input : Request (List ℕ)) (filled : with_files asked contents ≡ Some input)
+    (f : FilesRun) (o : SinkRun) (loaded : Loads f (files_of asked) contents) where
+  same_fault : (other : Request (List ℕ)) → IsInput f.holds (Some asked) other → fault_of other ≡ fault_of input
+  same_fault other is =
+      let same : asked ≡ is.asked = cc in
+      let files : AreFiles f.holds (files_of asked) is.contents = subst (λ (r : Request (List ℕ)). AreFiles f.holds (files_of r) is.contents) (sym same) is.files in
+      let alike : contents ≡ is.contents = same_contents f.holds (files_of asked) contents is.contents loaded.told files in
+      let equal : with_files asked contents ≡ with_files is.asked is.contents =
+      ap₂ (λ (r : Request (List ℕ)) (c : List (List ℕ)). with_files r c) same alike in
+      let one : other ≡ input = cc in
+      ap (λ (r : Request (List ℕ)). fault_of r) one
 
-  in_order : AsksInOrder f.asked_old f.asked_new asked.names
-  in_order = record { part = asked.names; rest = []; whole = sym (append-nil asked.names); grown = grown }
+  can_be : CanBeInput f.holds (Some asked) input
+  can_be = record { asked = asked; contents = contents; is = refl; told = loaded.told; filled = filled }
 
-  can_be_good : fault_of asked.form contents ≡ None → CanBeGood f.holds (Some asked)
-  can_be_good faultless = record { asked = asked; contents = contents; input = record { is = refl; told = told }; faultless = faultless }
-
-  puts_front : command.PutsFront asked.form contents o.old o.new → PutsFront f.holds (Some asked) o.old o.new
-  puts_front front = record { asked = asked; contents = contents; input = record { is = refl; told = told }; puts = front }
+  in_order : AsksInOrder f.asked_old f.asked_new (files_of asked)
+  in_order = record { part = files_of asked; rest = []; whole = sym (append-nil (files_of asked)); grown = loaded.asked }
 
   not_none : {fault : Fault} → ◌≡◌ {A = Option Fault} None (Some fault) → ⊥
   not_none is = cc
 
-  pub ends_of_command : (ending : Result Verdict Stop) → CommandEnds asked.form contents ending o.old o.new o.faults_old o.faults_new → Ends (Some asked) ending f o
+  pub ends_of_command : (ending : Result Verdict Stop) → CommandEnds input ending o → Ends (Some asked) ending f o
   ends_of_command (Ok Done) ends = record {
     usage = ((λ u. cc), (λ n. cc));
     asked = in_order;
     bad_input = λ fault is. cc;
-    bad_input_always = λ a others fault input faulty. absurd (not_none (sym ends.faultless ∙ sym (same_fault a others input) ∙ faulty));
-    good_input = λ s. can_be_good ends.faultless;
+    bad_input_always = λ other fault is faulty. absurd (not_none (sym ends.faultless ∙ sym (same_fault other is) ∙ faulty));
+    good_input = λ s. (input, can_be, ends.faultless);
     read_fault = λ s. cc;
     write_fault = λ s. cc;
     too_long = λ s. cc;
-    sure = λ s all. ((sure s all).0, (sure s all).1, λ r. cc);
-    out = record { asked = asked; contents = contents; input = record { is = refl; told = told }; puts = ends };
-    complete = λ a others input faultless no_read no_write. inl refl;
+    sure = λ s all. ((loaded.sure s all).0, (loaded.sure s all).1, λ r. cc);
+    out = (input, can_be, ends);
+    complete = λ other is faultless no_read no_write. inl refl;
   }
   ends_of_command (Err Usage) ends = absurd ends
   ends_of_command (Err (BadInput fault)) ends = record {
     usage = ((λ u. cc), (λ n. cc));
     asked = in_order;
-    bad_input = λ named is. record { asked = asked; contents = contents; input = record { is = refl; told = told }; faulty = cc };
-    bad_input_always = λ a others named input faulty. inl refl;
+    bad_input = λ named is. (input, can_be, cc);
+    bad_input_always = λ other named is faulty. inl refl;
     good_input = λ s. elim s [ inl d ↦ cc | inr w ↦ cc ];
     read_fault = λ s. cc;
     write_fault = λ s. cc;
     too_long = λ s. cc;
-    sure = λ s all. ((sure s all).0, (sure s all).1, λ r. cc);
+    sure = λ s all. ((loaded.sure s all).0, (loaded.sure s all).1, λ r. cc);
     out = ends.1;
-    complete = λ a others input faultless no_read no_write. absurd (not_none (sym faultless ∙ same_fault a others input ∙ ends.0));
+    complete = λ other is faultless no_read no_write. absurd (not_none (sym faultless ∙ same_fault other is ∙ ends.0));
   }
   ends_of_command (Err ReadFault) ends = absurd ends
   ends_of_command (Err WriteFault) ends = record {
     usage = ((λ u. cc), (λ n. cc));
     asked = in_order;
     bad_input = λ fault is. cc;
-    bad_input_always = λ a others fault input faulty. absurd (not_none (sym ends.0.faultless ∙ sym (same_fault a others input) ∙ faulty));
-    good_input = λ s. can_be_good ends.0.faultless;
+    bad_input_always = λ other fault is faulty. absurd (not_none (sym ends.0.faultless ∙ sym (same_fault other is) ∙ faulty));
+    good_input = λ s. (input, can_be, ends.0.faultless);
     read_fault = λ s. cc;
     write_fault = λ s. ends.1;
     too_long = λ s. cc;
-    sure = λ s all. ((sure s all).0, (sure s all).1, λ r. cc);
-    out = puts_front ends.0;
-    complete = λ a others input faultless no_read no_write. absurd (no_write ends.1);
+    sure = λ s all. ((loaded.sure s all).0, (loaded.sure s all).1, λ r. cc);
+    out = (input, can_be, ends.0);
+    complete = λ other is faultless no_read no_write. absurd (no_write ends.1);
   }
   ends_of_command (Err Memory) ends = record {
     usage = ((λ u. cc), (λ n. cc));
     asked = in_order;
     bad_input = λ fault is. cc;
-    bad_input_always = λ a others fault input faulty. inr (inr refl);
+    bad_input_always = λ other fault is faulty. inr (inr refl);
     good_input = λ s. elim s [ inl d ↦ cc | inr w ↦ cc ];
     read_fault = λ s. cc;
     write_fault = λ s. cc;
     too_long = λ s. cc;
-    sure = λ s all. ((sure s all).0, (sure s all).1, λ r. cc);
-    out = elim ends [ inl kept ↦ inl kept | inr front ↦ inr (puts_front front) ];
-    complete = λ a others input faultless no_read no_write. inr refl;
+    sure = λ s all. ((loaded.sure s all).0, (loaded.sure s all).1, λ r. cc);
+    out = elim ends [ inl kept ↦ inl kept | inr front ↦ inr (input, can_be, front) ];
+    complete = λ other is faultless no_read no_write. inr refl;
   }
   ends_of_command (Err TooLong) ends = absurd ends
 
--- an ending at a load, behind the loads of some of the files
-module _ (asked : Request) (f : FilesRun) (o : SinkRun) (in_order : AsksInOrder f.asked_old f.asked_new asked.names) (keeps : Keeps o.old o.new) where
-  pub ends_at_load : (stop : Stop) → IsLoadStop stop → (stop ≡ ReadFault → Rose f.faults_old f.faults_new) → (stop ≡ TooLong → Rose f.overs_old f.overs_new) →
-      (stop ≡ TooLong → (contents : List (List ℕ)) → AreFiles f.holds asked.names contents → ⊥) →
-      (IsTrue f.sure_old → AllToldFiles f.holds asked.names → (f.faults_new ≡ f.faults_old) × IsTrue f.sure_new × (stop ≢ ReadFault)) → Ends (Some asked) (Err stop) f o
-  ends_at_load Usage is read over longer sure = absurd is
-  ends_at_load (BadInput fault) is read over longer sure = absurd is
-  ends_at_load ReadFault is read over longer sure = record {
+-- an ending at a load, behind the loads of the files before
+module _ (asked : Request (List ℕ)) (f : FilesRun) (names contents : List (List ℕ)) (loaded : Loads f names contents) (name : List ℕ) (rest : List (List ℕ)) (files : files_of asked ≡ names ++ name ∷ rest)
+    (mid : List ℕ → Told) (same : mid ≡ f.holds) (notes : List (List ℕ)) (faults overs : ℕ) (sure : Bool) (o : SinkRun) (keeps : Keeps o.old o.new) where
+  noted : (fault : LoadFault) → LoadEnds name (Err fault) (onwards f mid notes faults overs sure) → AsksInOrder f.asked_old notes (files_of asked)
+  noted fault load = elim load.asked [
+    | inl new ↦ record {
+      part = names ++ name ∷ [];
+      rest = rest;
+      whole = files ∙ sym (append_assoc names (name ∷ []) rest);
+      grown = new ∙ ap (λ l. l ++ name ∷ []) loaded.asked ∙ append_assoc f.asked_old names (name ∷ []);
+    }
+    | inr kept ↦ record { part = names; rest = name ∷ rest; whole = files; grown = kept.1 ∙ loaded.asked }
+  ]
+
+  all_of : AllToldFiles f.holds (files_of asked) → AllToldFiles f.holds (names ++ name ∷ rest)
+  all_of all = subst (AllToldFiles f.holds) files all
+
+  surely : (fault : LoadFault) → LoadEnds name (Err fault) (onwards f mid notes faults overs sure) → IsTrue f.sure_old → AllToldFiles f.holds (files_of asked) → (faults ≡ f.faults_old) × IsTrue sure × (fault ≢ loads.Failed)
+  surely fault load s all =
+      let so_far = loaded.sure s (all_before f.holds names name rest (all_of all)) in
+      let more = load.sure so_far.1 (subst (λ (h : List ℕ → Told). IsToldFile (h name)) (sym same) (all_at f.holds names name rest (all_of all))) in
+      (more.0 ∙ so_far.0, more.1, λ is. more.2 (cc))
+
+  no_input : IsToldLonger (mid name) LIMIT → (other : Request (List ℕ)) → IsInput f.holds (Some asked) other → ⊥
+  no_input longer other is =
+      let one : asked ≡ is.asked = cc in
+      none_past f.holds names name rest is.contents (subst (λ (h : List ℕ → Told). IsToldLonger (h name) LIMIT) same longer)
+      (subst (AreFiles' is.contents) files (subst (λ (r : Request (List ℕ)). AreFiles f.holds (files_of r) is.contents) (sym one) is.files))
+    where
+      AreFiles' : List (List ℕ) → List (List ℕ) → Type 0
+      AreFiles' contents names = AreFiles f.holds names contents
+
+  ends_at_load : (fault : LoadFault) → LoadEnds name (Err fault) (onwards f mid notes faults overs sure) → Ends (Some asked) (Err (stop_of_load fault)) (both f notes faults overs sure) o
+  ends_at_load loads.Failed load = record {
     usage = ((λ u. cc), (λ n. cc));
-    asked = in_order;
-    bad_input = λ fault same. cc;
-    bad_input_always = λ a others fault input faulty. inr (inl refl);
+    asked = noted loads.Failed load;
+    bad_input = λ fault is. cc;
+    bad_input_always = λ other fault is faulty. inr (inl refl);
     good_input = λ s. elim s [ inl d ↦ cc | inr w ↦ cc ];
-    read_fault = λ s. read refl;
+    read_fault = λ s. rose_behind f.faults_old f.faults_new faults loaded.faults (load.failed refl);
     write_fault = λ s. cc;
     too_long = λ s. cc;
-    sure = λ s all. ((sure s all).0, (sure s all).1, λ r. (sure s all).2 refl);
+    sure = λ s all. ((surely loads.Failed load s all).0, (surely loads.Failed load s all).1, λ r. (surely loads.Failed load s all).2 refl);
     out = keeps;
-    complete = λ a others input faultless no_read no_write. absurd (no_read (read refl));
+    complete = λ other is faultless no_read no_write. absurd (no_read (rose_behind f.faults_old f.faults_new faults loaded.faults (load.failed refl)));
   }
-  ends_at_load WriteFault is read over longer sure = absurd is
-  ends_at_load Memory is read over longer sure = record {
+  ends_at_load loads.Memory load = record {
     usage = ((λ u. cc), (λ n. cc));
-    asked = in_order;
-    bad_input = λ fault same. cc;
-    bad_input_always = λ a others fault input faulty. inr (inr refl);
+    asked = noted loads.Memory load;
+    bad_input = λ fault is. cc;
+    bad_input_always = λ other fault is faulty. inr (inr refl);
     good_input = λ s. elim s [ inl d ↦ cc | inr w ↦ cc ];
     read_fault = λ s. cc;
     write_fault = λ s. cc;
     too_long = λ s. cc;
-    sure = λ s all. ((sure s all).0, (sure s all).1, λ r. cc);
+    sure = λ s all. ((surely loads.Memory load s all).0, (surely loads.Memory load s all).1, λ r. cc);
     out = inl keeps;
-    complete = λ a others input faultless no_read no_write. inr refl;
+    complete = λ other is faultless no_read no_write. inr refl;
   }
-  ends_at_load TooLong is read over longer sure = record {
+  ends_at_load loads.TooLong load = record {
     usage = ((λ u. cc), (λ n. cc));
-    asked = in_order;
-    bad_input = λ fault same. cc;
-    bad_input_always = λ a others fault input faulty. absurd (no_input a others input);
+    asked = noted loads.TooLong load;
+    bad_input = λ fault is. cc;
+    bad_input_always = λ other fault is faulty. absurd (no_input (load.too_long refl).1 other is);
     good_input = λ s. elim s [ inl d ↦ cc | inr w ↦ cc ];
     read_fault = λ s. cc;
     write_fault = λ s. cc;
-    too_long = λ s. over refl;
-    sure = λ s all. ((sure s all).0, (sure s all).1, λ r. cc);
+    too_long = λ s. rose_behind f.overs_old f.overs_new overs loaded.overs (load.too_long refl).0;
+    sure = λ s all. ((surely loads.TooLong load s all).0, (surely loads.TooLong load s all).1, λ r. cc);
     out = keeps;
-    complete = λ a others input faultless no_read no_write. absurd (no_input a others input);
-  } where
-    no_input : (a : Request) (others : List (List ℕ)) → IsInput f.holds (Some asked) a others → ⊥
-    no_input a others input =
-        let same : asked ≡ a = cc in
-        longer refl others (subst (λ (r : Request). AreFiles f.holds r.names others) (sym same) input.files)
-
-pub keeps_same : (held : Option (List ℕ)) → Keeps held held
-keeps_same None = tt
-keeps_same (Some bytes) = refl
-
--- an ending that is handed on
-pub ends_handed_on : (request : Option Request) (ending : Result Verdict Stop) (stop : Stop) (f : FilesRun) (o : SinkRun) → IsErrAnd ending (λ named. named ≡ stop) → Ends request (Err stop) f o → Ends request ending f o
-ends_handed_on request (Ok verdict) stop f o is ends = absurd is
-ends_handed_on request (Err named) stop f o is ends = subst (λ (s : Stop). Ends request (Err s) f o) (sym is) ends
-
--- words in no form
-pub ends_with_usage : (request : Option Request) (holds : List ℕ → Told) (asked : List (List ℕ)) (faults overs : ℕ) (sure : Bool) (held : Option (List ℕ)) (out_faults : ℕ) → request ≡ None →
-    Ends request (Err Usage)
-    (record { holds = holds; asked_old = asked; asked_new = asked; faults_old = faults; faults_new = faults; overs_old = overs; overs_new = overs; sure_old = sure; sure_new = sure })
-    (record { old = held; new = held; faults_old = out_faults; faults_new = out_faults })
-ends_with_usage request holds asked faults overs sure held out_faults none = record {
-  usage = ((λ u. none), (λ n. refl));
-  asked = record { part = []; rest = names_of request; whole = refl; grown = sym (append-nil asked) };
-  bad_input = λ fault same. cc;
-  bad_input_always = λ a others fault input faulty. absurd (no_request (sym none ∙ input.is));
-  good_input = λ s. elim s [ inl d ↦ cc | inr w ↦ cc ];
-  read_fault = λ s. cc;
-  write_fault = λ s. cc;
-  too_long = λ s. cc;
-  sure = λ s all. (refl, s, λ r. cc);
-  out = keeps_same held;
-  complete = λ a others input faultless no_read no_write. absurd (no_request (sym none ∙ input.is));
-} where
-  no_request : {a : Request} → ◌≡◌ {A = Option Request} None (Some a) → ⊥
-  no_request is = cc
-
--- words that are fewer than three or more than four are in no form
-pub too_few_words : (words : List (String Global)) → length words < 3 → request_of (texts words) ≡ None
-too_few_words [] few = refl
-too_few_words (a ∷ []) few = refl
-too_few_words (a ∷ b ∷ []) few = refl
-too_few_words (a ∷ b ∷ c ∷ rest) few = absurd (omega arith)
-
-pub too_many_words : (words : List (String Global)) → 5 ≤ length words → request_of (texts words) ≡ None
-too_many_words [] many = absurd (omega arith)
-too_many_words (a ∷ []) many = absurd (omega arith)
-too_many_words (a ∷ b ∷ []) many = absurd (omega arith)
-too_many_words (a ∷ b ∷ c ∷ []) many = absurd (omega arith)
-too_many_words (a ∷ b ∷ c ∷ d ∷ []) many = absurd (omega arith)
-too_many_words (a ∷ b ∷ c ∷ d ∷ e ∷ rest) many = refl
-
-keeps_all : {A B C : Type 0} → ¬ B → A ⊎ (B × C) → A
-keeps_all none (inl a) = a
-keeps_all none (inr b) = absurd (none b.0)
-
--- ---- a request over two files
-
-module _ (holds mid : List ℕ → Told) (same : mid ≡ holds) (first second : List ℕ) where
-  pub two_told : (bytes more loaded other : List ℕ) → IsToldAs (holds first) bytes → length bytes ≤ LIMIT → IsToldAs (mid second) more → length more ≤ LIMIT →
-      loaded ≡ bytes → other ≡ more → AreToldAs holds (first ∷ second ∷ []) (loaded ∷ other ∷ [])
-  two_told bytes more loaded other told within told_second within_second is_bytes is_more =
-      subst (λ (b : List ℕ). AreToldAs holds (first ∷ second ∷ []) (b ∷ other ∷ [])) (sym is_bytes)
-      (subst (λ (m : List ℕ). AreToldAs holds (first ∷ second ∷ []) (bytes ∷ m ∷ [])) (sym is_more)
-      (told, within, (subst (λ (h : List ℕ → Told). IsToldAs (h second) more) same told_second, within_second, tt)))
-
-  second_told : AllToldFiles holds (first ∷ second ∷ []) → IsToldFile (mid second)
-  second_told all = subst (λ (h : List ℕ → Told). IsToldFile (h second)) (sym same) all.1.0
-
-  pub two_asked : (old now new : List (List ℕ)) {B C D E : Type 0} → ¬ B → ¬ D → (now ≡ old ++ first ∷ []) ⊎ (B × C) → (new ≡ now ++ second ∷ []) ⊎ (D × E) → new ≡ old ++ first ∷ second ∷ []
-  two_asked old now new no_first no_second one two = keeps_all no_second two ∙ ap (λ l. l ++ second ∷ []) (keeps_all no_first one) ∙ append_assoc old (first ∷ []) (second ∷ [])
-
-  pub asked_in_order : (old now new : List (List ℕ)) {B C D : Type 0} → ¬ B → (now ≡ old ++ first ∷ []) ⊎ (B × C) → (new ≡ now ++ second ∷ []) ⊎ (D × (new ≡ now)) → AsksInOrder old new (first ∷ second ∷ [])
-  asked_in_order old now new none one (inl two) = record {
-    part = first ∷ second ∷ [];
-    rest = [];
-    whole = refl;
-    grown = two ∙ ap (λ l. l ++ second ∷ []) (keeps_all none one) ∙ append_assoc old (first ∷ []) (second ∷ []);
+    complete = λ other is faultless no_read no_write. absurd (no_input (load.too_long refl).1 other is);
   }
-  asked_in_order old now new none one (inr kept) = record { part = first ∷ []; rest = second ∷ []; whole = refl; grown = kept.1 ∙ keeps_all none one }
 
-  -- no contents fit a second file that is too long
-  pub too_long_second : IsToldLonger (mid second) LIMIT → (contents : List (List ℕ)) → AreFiles holds (first ∷ second ∷ []) contents → ⊥
-  too_long_second longer [] files = files
-  too_long_second longer (bytes ∷ []) files = files.2
-  too_long_second longer (bytes ∷ more ∷ []) files =
-      let past : LIMIT < length more = subst (λ t. IsToldLonger t LIMIT) files.2.0 (subst (λ (h : List ℕ → Told). IsToldLonger (h second) LIMIT) same longer) in
-      omega (arith, past, files.2.1)
-  too_long_second longer (bytes ∷ more ∷ other ∷ rest) files = files.2.2
-
-  pub two_sure : (a b c : ℕ) (Q R S : Type 0) {P : Type 0} → (IsToldFile (holds first) → (b ≡ a) × Q × P) → (Q → IsToldFile (mid second) → (c ≡ b) × R × S) →
-      AllToldFiles holds (first ∷ second ∷ []) → (c ≡ a) × R × S
-  two_sure a b c Q R S one two all =
-      let before = one all.0 in
-      let behind = two before.1 (second_told all) in
-      (behind.0 ∙ before.0, behind.1, behind.2)
-
-pub rose_behind : (a b c : ℕ) → a ≤ b → Rose b c → Rose a c
-rose_behind a b c le rose = omega (arith, rose)
+  -- the same, handed on
+  pub ends_at_next_load : (ending : Result Verdict Stop) (fault : LoadFault) → IsErrAnd ending (λ named. named ≡ stop_of_load fault) → LoadEnds name (Err fault) (onwards f mid notes faults overs sure) → Ends (Some asked) ending (both f notes faults overs sure) o
+  ends_at_next_load (Ok verdict) fault is load = absurd is
+  ends_at_next_load (Err named) fault is load = subst (λ (s : Stop). Ends (Some asked) (Err s) (both f notes faults overs sure) o) (sym is) (ends_at_load fault load)

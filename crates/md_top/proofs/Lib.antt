@@ -1,6 +1,7 @@
-pub mod Progress
-pub mod ConvertLemmas
+pub mod Pieces
+pub mod Lines
+pub mod Edits
+pub mod Outputs
+pub mod Loads
 pub mod EndsLemmas
-pub mod ReportLemmas
 pub mod Fronts
-pub mod SessionLemmas

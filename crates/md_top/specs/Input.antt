@@ -1,8 +1,40 @@
 -- What a run can read, by what the files tell.
-use Rattle.std.specs.Prelude.{◌≡◌, ℕ, ◌≤◌, Option, Some, None, List, [], ◌∷◌, ◌++◌, length}
-use Rattle.md_io.specs.Told.{Told, file, IsToldAs, IsToldFile}
+use Rattle.std.specs.Prelude.{◌≡◌, ◌⊎◌, ℕ, ◌≤◌, Bool, IsTrue, Option, Some, None, List, [], ◌∷◌, ◌++◌, length, Vec, Result, IfOk, IsErrOf}
+use Rattle.std.specs.Global.{Global}
+use Rattle.md_io.specs.declared.Files as files
+use Rattle.md_io.specs.declared.LoadFault.{LoadFault}
+use Rattle.md_io.specs.declared.LoadFault.TheVariants as loads
+use Rattle.md_io.specs.Count.{Rose}
+use Rattle.md_io.specs.Told.{Told, file, IsToldAs, IsToldFile, IsToldLonger}
 use Rattle.md_io.specs.declared.TheConstants.{LIMIT}
-use Rattle.md_top.specs.Form.{Request}
+use Rattle.md_top.specs.declared.request.Request.{Request}
+use Rattle.md_top.specs.Request.{files_of, with_files}
+
+-- what is told of the files, and their counts before and after
+pub record FilesRun : Type 0 where
+  pub holds : List ℕ → Told
+  pub asked_old : List (List ℕ)
+  pub asked_new : List (List ℕ)
+  pub faults_old : ℕ
+  pub faults_new : ℕ
+  pub overs_old : ℕ
+  pub overs_new : ℕ
+  pub sure_old : Bool
+  pub sure_new : Bool
+
+-- the same of files of any kind
+abbrev pub files_run : {F : Type 0} → files.Ghosts F → F → F → FilesRun
+files_run g old new = record {
+  holds = g.holds old;
+  asked_old = g.asked old;
+  asked_new = g.asked new;
+  faults_old = g.faults old;
+  faults_new = g.faults new;
+  overs_old = g.overs old;
+  overs_new = g.overs new;
+  sure_old = g.sure old;
+  sure_new = g.sure new;
+}
 
 -- the files of these names can have these contents, and none is past the limit
 abbrev pub AreToldAs : (List ℕ → Told) → List (List ℕ) → List (List ℕ) → Type 0
@@ -26,20 +58,26 @@ AllToldFiles holds [] = Unit {0}
 AllToldFiles holds (name ∷ names) = IsToldFile (holds name) × AllToldFiles holds names
 
 -- What is asked, and what is told lets its files have these contents. Where all of them are told there is one
--- such list of contents at most.
-pub record CanBeInput (holds : List ℕ → Told) (request : Option Request) (asked : Request) (contents : List (List ℕ)) : Type 0 where
+-- such input at most.
+pub record CanBeInput (holds : List ℕ → Told) (request : Option (Request (List ℕ))) (input : Request (List ℕ)) : Type 0 where
+  pub asked : Request (List ℕ)
+  pub contents : List (List ℕ)
   pub is : request ≡ Some asked
-  pub told : AreToldAs holds asked.names contents
+  pub told : AreToldAs holds (files_of asked) contents
+  pub filled : with_files asked contents ≡ Some input
 
 -- what is asked, and its files are told with these contents
-pub record IsInput (holds : List ℕ → Told) (request : Option Request) (asked : Request) (contents : List (List ℕ)) : Type 0 where
+pub record IsInput (holds : List ℕ → Told) (request : Option (Request (List ℕ))) (input : Request (List ℕ)) : Type 0 where
+  pub asked : Request (List ℕ)
+  pub contents : List (List ℕ)
   pub is : request ≡ Some asked
-  pub files : AreFiles holds asked.names contents
+  pub files : AreFiles holds (files_of asked) contents
+  pub filled : with_files asked contents ≡ Some input
 
 -- the names of the files of a request, none where the words are in no form
-abbrev pub names_of : Option Request → List (List ℕ)
+abbrev pub names_of : Option (Request (List ℕ)) → List (List ℕ)
 names_of None = []
-names_of (Some asked) = asked.names
+names_of (Some asked) = files_of asked
 
 -- the names asked for grew by the first of these names, in their order: by none, some or all of them
 pub record AsksInOrder (old new names : List (List ℕ)) : Type 0 where
@@ -47,3 +85,16 @@ pub record AsksInOrder (old new names : List (List ℕ)) : Type 0 where
   pub rest : List (List ℕ)
   pub whole : names ≡ part ++ rest
   pub grown : new ≡ old ++ part
+
+-- A load of the file of a name: its bytes, within the limit; or a fault, each where its count rose; or want of memory.
+pub record LoadEnds (name : List ℕ) (result : Result (Vec ℕ Global) LoadFault) (f : FilesRun) : Type 0 where
+  pub told : IfOk result (λ bytes. IsToldAs (f.holds name) bytes.items)
+  pub within : IfOk result (λ bytes. length bytes.items ≤ LIMIT)
+  pub failed : IsErrOf result loads.Failed → Rose f.faults_old f.faults_new
+  pub too_long : IsErrOf result loads.TooLong → Rose f.overs_old f.overs_new × IsToldLonger (f.holds name) LIMIT
+  pub asked : (f.asked_new ≡ f.asked_old ++ name ∷ [])
+      ⊎ (IsErrOf result loads.Memory × (f.asked_new ≡ f.asked_old))
+  pub sure : IsTrue f.sure_old → IsToldFile (f.holds name)
+      → (f.faults_new ≡ f.faults_old) × IsTrue f.sure_new × ¬ (IsErrOf result loads.Failed)
+  pub faults : f.faults_old ≤ f.faults_new
+  pub overs : f.overs_old ≤ f.overs_new

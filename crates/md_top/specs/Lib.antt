@@ -1,12 +1,8 @@
-pub mod Form
+pub mod Request
 pub mod Input
-pub mod Load
-pub mod Output
-pub mod Reported
-pub mod Session
-pub mod Ending
 pub mod Answer
+pub mod Sinks
 pub mod Command
-pub mod Clauses
-pub mod Ends
+pub mod Status
+pub mod Promise
 pub mod Laws

@@ -1,13 +1,14 @@
 //! The line on standard error.
 ghost use Rattle.std.specs.Prelude.{◌≡◌, ◌≤◌, length};
-ghost use Rattle.md_top.specs.Ending.{g6_name, dimacs_name, script_name, graph_fault_line, script_fault_line, fault_line, line_of_stop};
-ghost use Rattle.md_top.specs.declared.stop.Fault.{Fault};
-ghost use Rattle.md_top.specs.Output.{TakesLine};
+ghost use Rattle.md_top.specs.Status.{g6_name, dimacs_name, script_name, graph_fault_line, script_fault_line, fault_line, line_of_stop};
+ghost use Rattle.md_input.specs.declared.fault.Fault.{Fault};
+ghost use Rattle.md_top.specs.Sinks.{sink_run, TakesLine};
 
 use crate::short::ShortText;
-use crate::stop::{Fault, Stop};
+use crate::stop::Stop;
 use md_dimacs::DimacsKind;
 use md_graph6::G6Kind;
+use md_input::Fault;
 use md_io::Sink;
 use md_script::ScriptKind;
 
@@ -124,8 +125,8 @@ fn line_of_stop(stop: Stop) -> ShortText
 
 /// Puts the line of what stopped a run, in one put. A refused put is left at that.
 pub fn put_line<E: Sink>(err: &mut E, stop: Stop)
-    ensures { TakesLine (line_of_stop stop) (E.holds err.old) (E.holds err.new)
-        (E.faults err.old) (E.faults err.new) (E.wants err.old) (E.wants err.new) }
+    ensures { TakesLine (line_of_stop stop) (sink_run E.Sink err.old err.new)
+        (E.wants err.old) (E.wants err.new) }
 {
     let line = line_of_stop(stop);
     let _ = err.put(line.as_slice());

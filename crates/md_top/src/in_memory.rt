@@ -1,11 +1,13 @@
 //! The top call over files and sinks in memory.
 ghost use Rattle.std.specs.Prelude.{◌≡◌, ◌≢◌, ◌↔◌, ◌⊎◌, ℕ, List, None, Some, IsTrue};
 ghost use Rattle.md_io.specs.Count.{Rose};
-ghost use Rattle.md_top.specs.declared.stop.Fault.{Fault};
-ghost use Rattle.md_top.specs.Form.{Request, texts, request_of};
+ghost use Rattle.md_input.specs.declared.fault.Fault.{Fault};
+ghost use Rattle.md_top.specs.declared.request.Request.{Request};
+ghost use Rattle.md_top.specs.Request.{texts, request_of};
 ghost use Rattle.md_top.specs.Input.{IsInput, AllToldFiles, AsksInOrder, names_of};
 ghost use Rattle.md_top.specs.Answer.{fault_of};
-ghost use Rattle.md_top.specs.Clauses.{CanBeBad, Puts, TakesLineOf};
+ghost use Rattle.md_top.specs.Sinks.{sink_run};
+ghost use Rattle.md_top.specs.Promise.{CanBeBad, Puts, TakesLineOf};
 
 use crate::stop::Status;
 use crate::top::run;
@@ -34,21 +36,20 @@ pub fn run_in_memory(
     ensures no_read_fault { IsTrue (⟦<MemFiles as Files>⟧.sure files.old)
         → AllToldFiles (⟦<MemFiles as Files>⟧.holds files.old) (names_of (request_of (texts words.now)))
         → result ≢ Status.ReadFault }
-    ensures good { (asked : Request) (contents : List (List ℕ))
-        → IsInput (⟦<MemFiles as Files>⟧.holds files.old) (request_of (texts words.now)) asked contents
-        → fault_of asked.form contents ≡ None
+    ensures good { (input : Request (List ℕ))
+        → IsInput (⟦<MemFiles as Files>⟧.holds files.old) (request_of (texts words.now)) input
+        → fault_of input ≡ None
         → IsTrue (⟦<MemFiles as Files>⟧.sure files.old)
         → (result ≡ Status.Done) ⊎ (result ≡ Status.Memory) }
-    ensures bad { (asked : Request) (contents : List (List ℕ)) (fault : Fault)
-        → IsInput (⟦<MemFiles as Files>⟧.holds files.old) (request_of (texts words.now)) asked contents
-        → fault_of asked.form contents ≡ Some fault
+    ensures bad { (input : Request (List ℕ)) (fault : Fault)
+        → IsInput (⟦<MemFiles as Files>⟧.holds files.old) (request_of (texts words.now)) input
+        → fault_of input ≡ Some fault
         → IsTrue (⟦<MemFiles as Files>⟧.sure files.old)
         → (result ≡ Status.BadInput) ⊎ (result ≡ Status.Memory) }
     ensures out { Puts (⟦<MemFiles as Files>⟧.holds files.old) (request_of (texts words.now)) result
-        (⟦<SafeSink as Sink>⟧.holds out.old) (⟦<SafeSink as Sink>⟧.holds out.new) }
+        (sink_run ⟦<SafeSink as Sink>⟧ out.old out.new) }
     ensures err { TakesLineOf (⟦<MemFiles as Files>⟧.holds files.old) (request_of (texts words.now)) result
-        (⟦<SafeSink as Sink>⟧.holds err.old) (⟦<SafeSink as Sink>⟧.holds err.new)
-        (⟦<SafeSink as Sink>⟧.faults err.old) (⟦<SafeSink as Sink>⟧.faults err.new)
+        (sink_run ⟦<SafeSink as Sink>⟧ err.old err.new)
         (⟦<SafeSink as Sink>⟧.wants err.old) (⟦<SafeSink as Sink>⟧.wants err.new) }
     ensures told { ⟦<MemFiles as Files>⟧.holds files.new ≡ ⟦<MemFiles as Files>⟧.holds files.old }
 {

@@ -3,12 +3,12 @@
 
 mod convert;
 mod err_line;
-mod form;
 mod in_memory;
 pub mod laws;
 mod load;
 mod put;
 mod report;
+mod request;
 mod session;
 mod short;
 mod stop;

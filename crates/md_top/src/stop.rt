@@ -1,25 +1,12 @@
 //! How a run ends: with a verdict, or at what stops it.
 ghost use Rattle.std.specs.Prelude.{◌≡◌};
-ghost use Rattle.md_top.specs.declared.stop.Stop.TheVariants.{Memory as NoMemory};
+ghost use Rattle.md_top.specs.declared.stop.PutStop.TheVariants.{Memory as NoMemory};
+ghost use Rattle.md_top.specs.Status.{stop_of_fault, stop_of_load, stop_of_input, stop_of_put};
 
-use md_dimacs::DimacsFault;
 use md_graph::Memory;
-use md_graph6::G6Fault;
-use md_script::ScriptKind;
+use md_input::{Fault, InputStop};
+use md_io::{LoadFault, PutFault};
 use std::process::ExitCode;
-
-/// What is wrong with the input, its first fault in the order of work.
-#[derive(Clone, Copy, Debug, PartialEq, Eq)]
-pub enum Fault {
-    /// The graph6 file has a fault.
-    Graph6(G6Fault),
-    /// The DIMACS file has a fault.
-    Dimacs(DimacsFault),
-    /// The graph file has this many graphs, where one is needed.
-    NotOneGraph(u64),
-    /// A line of the script, counted from 1, has a fault.
-    Script(ScriptKind, u64),
-}
 
 /// What the whole output says.
 #[derive(Clone, Copy, Debug, PartialEq, Eq)]
@@ -28,7 +15,7 @@ pub enum Verdict {
     Done,
 }
 
-/// What ends a run before its output is whole. `?` makes it of want of memory.
+/// What ends a run before its output is whole. `?` makes it of what stops a load, an input or a put.
 #[derive(Clone, Copy, Debug, PartialEq, Eq)]
 pub enum Stop {
     /// The words are in no form.
@@ -45,11 +32,65 @@ pub enum Stop {
     TooLong,
 }
 
-impl From<Memory> for Stop {
+impl From<LoadFault> for Stop {
+    ghost from_gives = { λ fault stop. stop ≡ stop_of_load fault };
+
+    fn from(fault: LoadFault) -> Stop {
+        match fault {
+            LoadFault::Failed => Stop::ReadFault,
+            LoadFault::TooLong => Stop::TooLong,
+            LoadFault::Memory => Stop::Memory,
+        }
+    }
+}
+
+impl From<InputStop> for Stop {
+    ghost from_gives = { λ input stop. stop ≡ stop_of_input input };
+
+    fn from(input: InputStop) -> Stop {
+        match input {
+            InputStop::BadInput(fault) => Stop::BadInput(fault),
+            InputStop::Memory => Stop::Memory,
+        }
+    }
+}
+
+impl From<PutStop> for Stop {
+    ghost from_gives = { λ put stop. stop ≡ stop_of_put put };
+
+    fn from(put: PutStop) -> Stop {
+        match put {
+            PutStop::WriteFault => Stop::WriteFault,
+            PutStop::Memory => Stop::Memory,
+        }
+    }
+}
+
+/// What ends the putting of an output. `?` makes it of what a sink answers, and of want of memory.
+#[derive(Clone, Copy, Debug, PartialEq, Eq)]
+pub enum PutStop {
+    /// The output could not be written.
+    WriteFault,
+    /// Memory ran out.
+    Memory,
+}
+
+impl From<PutFault> for PutStop {
+    ghost from_gives = { λ fault stop. stop ≡ stop_of_fault fault };
+
+    fn from(fault: PutFault) -> PutStop {
+        match fault {
+            PutFault::Failed => PutStop::WriteFault,
+            PutFault::Memory => PutStop::Memory,
+        }
+    }
+}
+
+impl From<Memory> for PutStop {
     ghost from_gives = { λ _ stop. stop ≡ NoMemory };
 
-    fn from(_memory: Memory) -> Stop {
-        Stop::Memory
+    fn from(_memory: Memory) -> PutStop {
+        PutStop::Memory
     }
 }
 
@@ -73,7 +114,7 @@ pub enum Status {
 }
 
 impl Stop {
-    ghost use Rattle.md_top.specs.Ending.{status_of_stop};
+    ghost use Rattle.md_top.specs.Status.{status_of_stop};
 
     /// The status of a run that stopped so.
     pub fn status(self) -> Status
@@ -92,7 +133,7 @@ impl Stop {
 
 impl Status {
     ghost use Rattle.std.specs.Process.{exit_status};
-    ghost use Rattle.md_top.specs.Ending.{number_of};
+    ghost use Rattle.md_top.specs.Status.{number_of};
 
     /// The exit code of the program, as a number.
     pub fn number(self) -> u8

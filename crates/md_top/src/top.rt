@@ -1,22 +1,22 @@
 //! The top call: all that the program does.
-ghost use Rattle.std.specs.Prelude.{◌≡◌, ◌≢◌, ◌↔◌, ◌⊎◌, ℕ, List, Option, [], ◌∷◌, None, Some, IsTrue};
+ghost use Rattle.std.specs.Prelude.{◌≡◌, ◌≢◌, ◌↔◌, ◌⊎◌, ℕ, List, None, Some, IsTrue};
 ghost use Rattle.md_io.specs.Count.{Rose};
-ghost use Rattle.md_top.specs.declared.form.Form.{Form};
-ghost use Rattle.md_top.specs.declared.stop.Fault.{Fault};
-ghost use Rattle.md_top.specs.Form.{Request, texts, format_of, graph_request, script_request, request_of, IsOverGraph, IsOverScript};
-ghost use Rattle.md_top.specs.Input.{IsInput, AllToldFiles, AsksInOrder, names_of};
+ghost use Rattle.md_input.specs.declared.fault.Fault.{Fault};
+ghost use Rattle.md_top.specs.declared.request.Request.{Request};
+ghost use Rattle.md_top.specs.Request.{texts, request_of};
+ghost use Rattle.md_top.specs.Input.{IsInput, AllToldFiles, AsksInOrder, names_of, files_run};
 ghost use Rattle.md_top.specs.Answer.{fault_of};
-ghost use Rattle.md_top.specs.Command.{CommandEnds};
-ghost use Rattle.md_top.specs.Clauses.{CanBeBad, CanBeGood, Puts, TakesLineOf};
-ghost use Rattle.md_top.specs.Ends.{Ends};
+ghost use Rattle.md_top.specs.Sinks.{sink_run};
+ghost use Rattle.md_top.specs.Promise.{CanBeBad, CanBeGood, Puts, TakesLineOf, Ends};
 
 use crate::convert::convert;
 use crate::err_line::put_line;
-use crate::form::{Form, format_of, graph_form, script_form};
 use crate::load::load;
 use crate::report::report;
+use crate::request::{GraphForm, Request, request_of};
 use crate::session::edit;
 use crate::stop::{Status, Stop, Verdict};
+use md_input::Format;
 use md_io::{Files, Sink};
 use std::alloc::Global;
 
@@ -41,9 +41,9 @@ pub fn run<F: Files, O: Sink, E: Sink>(
     // Bad input comes exactly where the input has a fault. A reading fault or want of memory may come first.
     ensures bad_input { result ≡ Status.BadInput
         → (fault : Fault) × CanBeBad (F.holds files.old) (request_of (texts words.now)) fault }
-    ensures bad_input_always { (asked : Request) (contents : List (List ℕ)) (fault : Fault)
-        → IsInput (F.holds files.old) (request_of (texts words.now)) asked contents
-        → fault_of asked.form contents ≡ Some fault
+    ensures bad_input_always { (input : Request (List ℕ)) (fault : Fault)
+        → IsInput (F.holds files.old) (request_of (texts words.now)) input
+        → fault_of input ≡ Some fault
         → (result ≡ Status.BadInput) ⊎ (result ≡ Status.ReadFault) ⊎ (result ≡ Status.Memory) }
 
     // Done and a writing fault come only over well-formed input.
@@ -63,17 +63,16 @@ pub fn run<F: Files, O: Sink, E: Sink>(
 
     // What is put, by the status: a whole valid output, the beginning of one, or nothing.
     ensures out { Puts (F.holds files.old) (request_of (texts words.now)) result
-        (O.holds out.old) (O.holds out.new) }
+        (sink_run O.Sink out.old out.new) }
 
     // The line of the status, or a beginning of it where a count of `err` rose.
     ensures err { TakesLineOf (F.holds files.old) (request_of (texts words.now)) result
-        (E.holds err.old) (E.holds err.new)
-        (E.faults err.old) (E.faults err.new) (E.wants err.old) (E.wants err.new) }
+        (sink_run E.Sink err.old err.new) (E.wants err.old) (E.wants err.new) }
 
     // Well-formed input that is told, and no fault of the outside: the whole output, or want of memory.
-    ensures complete { (asked : Request) (contents : List (List ℕ))
-        → IsInput (F.holds files.old) (request_of (texts words.now)) asked contents
-        → fault_of asked.form contents ≡ None
+    ensures complete { (input : Request (List ℕ))
+        → IsInput (F.holds files.old) (request_of (texts words.now)) input
+        → fault_of input ≡ None
         → ¬ Rose (F.faults files.old) (F.faults files.new)
         → ¬ Rose (O.faults out.old) (O.faults out.new)
         → (result ≡ Status.Done) ⊎ (result ≡ Status.Memory) }
@@ -88,7 +87,7 @@ pub fn run<F: Files, O: Sink, E: Sink>(
     Status::Done
 }
 
-/// Does what the words ask for, but for the line on `err`.
+// Does what the words ask for, but for the line on `err`.
 fn end<F: Files, O: Sink>(
     alloc: Global,
     words: &[String],
@@ -96,224 +95,54 @@ fn end<F: Files, O: Sink>(
     out: &mut O,
 ) -> Result<Verdict, Stop>
     ensures ends { Ends (request_of (texts words.now)) result
-        (record {
-          holds = F.holds files.old;
-          asked_old = F.asked files.old;
-          asked_new = F.asked files.new;
-          faults_old = F.faults files.old;
-          faults_new = F.faults files.new;
-          overs_old = F.overs files.old;
-          overs_new = F.overs files.new;
-          sure_old = F.sure files.old;
-          sure_new = F.sure files.new;
-        })
-        (record {
-          old = O.holds out.old;
-          new = O.holds out.new;
-          faults_old = O.faults out.old;
-          faults_new = O.faults out.new;
-        }) }
+        (files_run F.Files files.old files.new) (sink_run O.Sink out.old out.new) }
     ensures told { F.holds files.new ≡ F.holds files.old }
 {
-    match words {
-        [command, format, graph] => over_graph(
-            alloc,
-            command.as_str(),
-            format.as_str(),
-            graph.as_str(),
-            files,
-            out,
-        ),
-        [command, format, graph, script] => over_script(
-            alloc,
-            command.as_str(),
-            format.as_str(),
-            graph.as_str(),
-            script.as_str(),
-            files,
-            out,
-        ),
-        _ => Err(Stop::Usage),
+    let Some(request) = request_of(words) else {
+        return Err(Stop::Usage);
+    };
+    match request {
+        Request::Graphs(form, from, graph) => end_graphs(alloc, form, from, graph, files, out),
+        Request::Session(from, graph, script) => {
+            end_session(alloc, from, graph, script, files, out)
+        }
     }
 }
 
-/// Does what a command over one graph file asks for.
-fn over_graph<F: Files, O: Sink>(
+// Loads the graph file, and does what the form asks for over its graphs.
+fn end_graphs<F: Files, O: Sink>(
     alloc: Global,
-    command: &str,
-    format: &str,
+    form: GraphForm,
+    from: Format,
     graph: &str,
     files: &mut F,
     out: &mut O,
 ) -> Result<Verdict, Stop>
-    ensures ends { Ends (graph_request command.now (format_of format.now) graph.now) result
-        (record {
-          holds = F.holds files.old;
-          asked_old = F.asked files.old;
-          asked_new = F.asked files.new;
-          faults_old = F.faults files.old;
-          faults_new = F.faults files.new;
-          overs_old = F.overs files.old;
-          overs_new = F.overs files.new;
-          sure_old = F.sure files.old;
-          sure_new = F.sure files.new;
-        })
-        (record {
-          old = O.holds out.old;
-          new = O.holds out.new;
-          faults_old = O.faults out.old;
-          faults_new = O.faults out.new;
-        }) }
+    ensures ends { Ends (Some (Request.Graphs form from graph.now)) result
+        (files_run F.Files files.old files.new) (sink_run O.Sink out.old out.new) }
     ensures told { F.holds files.new ≡ F.holds files.old }
 {
-    let Some(format) = format_of(format) else {
-        return Err(Stop::Usage);
-    };
-    let Some(form) = graph_form(command, format) else {
-        return Err(Stop::Usage);
-    };
-    end_over_graph(alloc, form, graph, files, out)
+    let file = load(alloc, files, graph)?;
+    match form {
+        GraphForm::Convert(to) => convert(alloc, from, to, &file, out),
+        GraphForm::Report(mode) => report(alloc, mode, from, &file, out),
+    }
 }
 
-/// Does what a command over a graph file and a script asks for.
-fn over_script<F: Files, O: Sink>(
+// Loads the graph file and the script, and runs the session.
+fn end_session<F: Files, O: Sink>(
     alloc: Global,
-    command: &str,
-    format: &str,
+    from: Format,
     graph: &str,
     script: &str,
     files: &mut F,
     out: &mut O,
 ) -> Result<Verdict, Stop>
-    ensures ends { Ends (script_request command.now (format_of format.now) graph.now script.now) result
-        (record {
-          holds = F.holds files.old;
-          asked_old = F.asked files.old;
-          asked_new = F.asked files.new;
-          faults_old = F.faults files.old;
-          faults_new = F.faults files.new;
-          overs_old = F.overs files.old;
-          overs_new = F.overs files.new;
-          sure_old = F.sure files.old;
-          sure_new = F.sure files.new;
-        })
-        (record {
-          old = O.holds out.old;
-          new = O.holds out.new;
-          faults_old = O.faults out.old;
-          faults_new = O.faults out.new;
-        }) }
+    ensures ends { Ends (Some (Request.Session from graph.now script.now)) result
+        (files_run F.Files files.old files.new) (sink_run O.Sink out.old out.new) }
     ensures told { F.holds files.new ≡ F.holds files.old }
 {
-    let Some(format) = format_of(format) else {
-        return Err(Stop::Usage);
-    };
-    let Some(form) = script_form(command, format) else {
-        return Err(Stop::Usage);
-    };
-    end_over_script(alloc, form, graph, script, files, out)
-}
-
-/// Loads the graph file of a form, and does what the form asks for.
-fn end_over_graph<F: Files, O: Sink>(
-    alloc: Global,
-    form: Form,
-    name: &str,
-    files: &mut F,
-    out: &mut O,
-) -> Result<Verdict, Stop>
-    requires { IsOverGraph form }
-    ensures ends { Ends (Some (record { form = form; names = name.now ∷ [] })) result
-        (record {
-          holds = F.holds files.old;
-          asked_old = F.asked files.old;
-          asked_new = F.asked files.new;
-          faults_old = F.faults files.old;
-          faults_new = F.faults files.new;
-          overs_old = F.overs files.old;
-          overs_new = F.overs files.new;
-          sure_old = F.sure files.old;
-          sure_new = F.sure files.new;
-        })
-        (record {
-          old = O.holds out.old;
-          new = O.holds out.new;
-          faults_old = O.faults out.old;
-          faults_new = O.faults out.new;
-        }) }
-    ensures told { F.holds files.new ≡ F.holds files.old }
-{
-    let graph = load(alloc, files, name)?;
-    end_over_contents(alloc, form, &graph, out)
-}
-
-/// Loads the graph file and the script of a form, and does what the form asks for.
-fn end_over_script<F: Files, O: Sink>(
-    alloc: Global,
-    form: Form,
-    graph_name: &str,
-    script_name: &str,
-    files: &mut F,
-    out: &mut O,
-) -> Result<Verdict, Stop>
-    requires { IsOverScript form }
-    ensures ends { Ends (Some (record { form = form; names = graph_name.now ∷ script_name.now ∷ [] })) result
-        (record {
-          holds = F.holds files.old;
-          asked_old = F.asked files.old;
-          asked_new = F.asked files.new;
-          faults_old = F.faults files.old;
-          faults_new = F.faults files.new;
-          overs_old = F.overs files.old;
-          overs_new = F.overs files.new;
-          sure_old = F.sure files.old;
-          sure_new = F.sure files.new;
-        })
-        (record {
-          old = O.holds out.old;
-          new = O.holds out.new;
-          faults_old = O.faults out.old;
-          faults_new = O.faults out.new;
-        }) }
-    ensures told { F.holds files.new ≡ F.holds files.old }
-{
-    let graph = load(alloc, files, graph_name)?;
-    let script = load(alloc, files, script_name)?;
-    end_over_two(alloc, form, &graph, &script, out)
-}
-
-/// Does what a form over one graph file asks for.
-fn end_over_contents<O: Sink>(
-    alloc: Global,
-    form: Form,
-    graph: &[u8],
-    out: &mut O,
-) -> Result<Verdict, Stop>
-    requires { IsOverGraph form }
-    ensures ends { CommandEnds form (graph.now ∷ []) result (O.holds out.old) (O.holds out.new)
-        (O.faults out.old) (O.faults out.new) }
-{
-    match form {
-        Form::Convert(from, to) => convert(alloc, from, to, graph, out),
-        Form::Report(mode, from) => report(alloc, mode, from, graph, out),
-        Form::Edit(_) => unreachable!(),
-    }
-}
-
-/// Does what a form over a graph file and a script asks for.
-fn end_over_two<O: Sink>(
-    alloc: Global,
-    form: Form,
-    graph: &[u8],
-    script: &[u8],
-    out: &mut O,
-) -> Result<Verdict, Stop>
-    requires { IsOverScript form }
-    ensures ends { CommandEnds form (graph.now ∷ script.now ∷ []) result (O.holds out.old) (O.holds out.new)
-        (O.faults out.old) (O.faults out.new) }
-{
-    match form {
-        Form::Edit(from) => edit(alloc, from, graph, script, out),
-        _ => unreachable!(),
-    }
+    let graph_file = load(alloc, files, graph)?;
+    let script_file = load(alloc, files, script)?;
+    edit(alloc, from, &graph_file, &script_file, out)
 }

@@ -1,6 +1,6 @@
-use Rattle.std.proofs.Common.{rules, get_or, bit_and, bit_or, bit_xor, ◌≡◌, refl, arith}
+use Rattle.std.proofs.Common.{rules, arith}
 use Rattle.std.proofs.lemmas.Grind.{common_steps}
-use Rattle.md_graph.proofs.BitWords.{none_more, done_more}
+use Rattle.md_graph.proofs.BitWords.{none_more}
 use Rattle.md_graph.proofs.words.keep_alone.Goals as goal
 
 pub loop-i-preserved : goal.loop-i-preserved

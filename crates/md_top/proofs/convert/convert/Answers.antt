@@ -1,7 +1,27 @@
--- The graphs of a graph6 file without fault are those that it spells.
-use Rattle.md_top.proofs.ConvertLemmas.{command_of_lines}
+-- The texts of the graphs that the file spells, or the stop.
+use Rattle.std.proofs.Common.{refl}
+use Rattle.md_top.specs.declared.request.Request.TheVariants.{Graphs}
+use Rattle.md_top.specs.declared.request.GraphForm.TheVariants.{Convert}
+use Rattle.md_top.specs.Answer.{over_graphs}
+use Rattle.md_top.proofs.Outputs.{command_done, command_stopped, command_refused}
 use Rattle.md_top.proofs.convert.convert.Goals as goal
 
-pub returns-in-Ok-clause-ends : goal.returns-in-Ok-clause-ends
-returns-in-Ok-clause-ends g c =
-    command_of_lines _ _ c.in-G6.is _ c.in-Ok.ensures.sound _ _ _ _ _ c.put_lines.ensures.puts _ c.verdict_of.ensures
+pub returns-in_err-graphs : goal.returns-in_err-graphs
+returns-in_err-graphs g c = record {
+  ends =
+      command_refused (Graphs (Convert c.args.to) c.args.from c.args.file.now) _ _ _ _ _ (λ named is. is) c.in_err-graphs.ensures.stops c.from_residual.ensures.1;
+}
+
+pub returns-in_err-put_texts : goal.returns-in_err-put_texts
+returns-in_err-put_texts g c = record {
+  ends =
+      command_stopped _ (over_graphs (Convert c.args.to) c.in_ok-graphs.graphs) (c.in_ok-graphs.graphs, c.in_ok-graphs.ensures.spells, refl) c.in_ok-graphs.ensures.faultless _ _ _
+      c.in_err-put_texts.ensures.puts c.from_residual-in_err-put_texts.ensures.1;
+}
+
+pub returns : goal.returns
+returns g c = record {
+  ends =
+      command_done _ (over_graphs (Convert c.args.to) c.in_ok-graphs.graphs) (c.in_ok-graphs.graphs, c.in_ok-graphs.ensures.spells, refl) c.in_ok-graphs.ensures.faultless _
+      c.in_ok-put_texts.ensures.puts;
+}

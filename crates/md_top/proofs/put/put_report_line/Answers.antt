@@ -1,6 +1,6 @@
 use Rattle.std.proofs.Common.{◌∙◌}
 use Rattle.md_report.specs.Lines.{plain_line}
-use Rattle.md_top.proofs.ReportLemmas.{one_line}
+use Rattle.md_top.proofs.Lines.{one_line}
 use Rattle.md_top.proofs.put.put_report_line.Goals as goal
 
 pub returns-clause-puts : goal.returns-clause-puts

@@ -1,8 +1,27 @@
--- The graphs of a graph6 file without fault are those that it spells.
-use Rattle.md_top.proofs.ReportLemmas.{command_of_report_lines}
+-- The report of the graphs that the file spells, or the stop.
+use Rattle.std.proofs.Common.{refl}
+use Rattle.md_top.specs.declared.request.Request.TheVariants.{Graphs}
+use Rattle.md_top.specs.declared.request.GraphForm.TheVariants.{Report}
+use Rattle.md_top.specs.Answer.{over_graphs}
+use Rattle.md_top.proofs.Outputs.{command_done, command_stopped, command_refused}
 use Rattle.md_top.proofs.report.report.Goals as goal
 
-pub returns-in-Ok : goal.returns-in-Ok
-returns-in-Ok g c = record {
-  ends = command_of_report_lines _ _ c.in-G6.is _ c.in-Ok.ensures.sound _ _ _ _ _ c.report_lines.ensures.puts _ c.verdict_of.ensures;
+pub returns-in_err-graphs : goal.returns-in_err-graphs
+returns-in_err-graphs g c = record {
+  ends =
+      command_refused (Graphs (Report c.args.mode) c.args.from c.args.file.now) _ _ _ _ _ (λ named is. is) c.in_err-graphs.ensures.stops c.from_residual.ensures.1;
+}
+
+pub returns-in_err-put_report : goal.returns-in_err-put_report
+returns-in_err-put_report g c = record {
+  ends =
+      command_stopped _ (over_graphs (Report c.args.mode) c.in_ok-graphs.graphs) (c.in_ok-graphs.graphs, c.in_ok-graphs.ensures.spells, refl) c.in_ok-graphs.ensures.faultless _ _ _
+      c.in_err-put_report.ensures.puts c.from_residual-in_err-put_report.ensures.1;
+}
+
+pub returns : goal.returns
+returns g c = record {
+  ends =
+      command_done _ (over_graphs (Report c.args.mode) c.in_ok-graphs.graphs) (c.in_ok-graphs.graphs, c.in_ok-graphs.ensures.spells, refl) c.in_ok-graphs.ensures.faultless _
+      c.in_ok-put_report.ensures.puts;
 }

@@ -4,14 +4,14 @@ use Rattle.std.proofs.lemmas.List.{drop_all}
 use Rattle.md_script.specs.declared.edit.Edit.{Edit}
 use Rattle.md_graph.specs.PlainGraph.{PlainGraph}
 use Rattle.md_report.specs.Places.{at_edits, after_end}
-use Rattle.md_top.specs.Reported.{AppendsLines}
-use Rattle.md_top.proofs.ReportLemmas.{stop_handed_on, puts_behind, lines_behind}
-use Rattle.md_top.proofs.SessionLemmas.{next_edit}
+use Rattle.md_top.specs.Sinks.{AppendsLines}
+use Rattle.md_top.proofs.Lines.{stopped_behind, puts_behind, lines_behind}
+use Rattle.md_top.proofs.Edits.{next_edit}
 use Rattle.md_top.proofs.session.put_edits.Goals as goal
 
 pub returns-in_err-put_report_line-clause-puts : goal.returns-in_err-put_report_line-clause-puts
 returns-in_err-put_report_line-clause-puts g c =
-    stop_handed_on _ (at_edits c.loop-i.session (c.get.result.now ∷ drop (c.loop-i.i + 1) c.args.script.now)) _ _ _ _ _ _ _ _ _ c.from_residual-in_err-put_report_line.ensures.1
+    stopped_behind _ (at_edits c.loop-i.session (c.get.result.now ∷ drop (c.loop-i.i + 1) c.args.script.now)) _ _ _ _ _ _ _ _ _ c.from_residual-in_err-put_report_line.ensures.1
     (subst (λ (edits : List Edit). AppendsLines (at_edits c.args.session c.args.script.now) (at_edits c.loop-i.session edits) (g.O.Sink.holds c.args.out.now) (g.O.Sink.holds c.loop-i.out))
     (next_edit c.args.script.now c.loop-i.i c.get.result.now c.get.ensures.edit) c.loop-i.invariant.progress)
     c.loop-i.invariant.faults

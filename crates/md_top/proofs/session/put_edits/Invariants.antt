@@ -1,6 +1,6 @@
 use Rattle.std.proofs.Common.{◌≤◌, drop}
 use Rattle.md_report.specs.Places.{at_edits}
-use Rattle.md_top.specs.Reported.{AppendsLines}
+use Rattle.md_top.specs.Sinks.{AppendsLines}
 use Rattle.md_top.proofs.session.put_edits.Given as goal
 
 abbrev pub invariant-loop-i : goal.invariant-loop-i

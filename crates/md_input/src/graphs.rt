@@ -1,0 +1,77 @@
+//! The graphs of a file, one after the other.
+ghost use Rattle.std.specs.Prelude.{◌≡◌, [], ◌∷◌, None, IfOk, IfErr};
+ghost use Rattle.std.specs.Bool.{OnTrue, OnFalse};
+ghost use Rattle.md_graph.specs.PlainGraph.{empty_graph};
+ghost use Rattle.md_input.specs.Spelling.{SpellsGraphs};
+ghost use Rattle.md_input.specs.Faults.{graph_fault, IsStopAt};
+
+use crate::fault::InputStop;
+use crate::format::Format;
+use md_graph::Graph;
+use md_graph6::{Lines, scan};
+use std::alloc::Global;
+use std::marker::Model;
+
+/// The graphs of a file that aren't handed over yet, whatever the format of the file.
+#[derive(Drop)]
+pub struct Graphs<'a> {
+    first: Option<Graph>,
+    lines: Lines<'a>,
+}
+
+impl<'a> Model for Graphs<'a> {
+    ghost use Rattle.std.specs.Prelude.{List, ◌++◌};
+    ghost use Rattle.std.specs.Coded.{coded_list};
+    ghost use Rattle.md_graph.specs.PlainGraph.{PlainGraph, graph_code};
+    ghost use Rattle.md_input.specs.Graphs.{first_of};
+
+    ghost Value = { List PlainGraph };
+
+    ghost coded = { coded_list graph_code };
+
+    ghost view = { λ g. first_of g.first ++ g.lines };
+}
+
+impl<'a> Graphs<'a> {
+    /// The graphs of a file, which is read whole; or its first fault; or want of memory.
+    pub fn read(alloc: Global, from: Format, file: &'a [u8]) -> Result<Graphs<'a>, InputStop>
+        ensures spells { IfOk result (SpellsGraphs from file.now) }
+        ensures faultless { IfOk result (λ _. graph_fault from file.now ≡ None) }
+        ensures stops { IfErr result (IsStopAt (graph_fault from file.now)) }
+    {
+        match from {
+            Format::G6 => {
+                scan(file)?;
+                Ok(Graphs {
+                    first: None,
+                    lines: Lines::new(file),
+                })
+            }
+            Format::Dimacs => {
+                let mut graph = Graph::new(alloc)?;
+                md_dimacs::read(file, &mut graph)?;
+                Ok(Graphs {
+                    first: Some(graph),
+                    lines: Lines::new(&[]),
+                })
+            }
+        }
+    }
+
+    /// Makes the graph the first of the graphs, takes that off, and answers true. It answers false
+    /// exactly where no graph is left, and the graph then stays without vertices.
+    /// Condition: the graph has no vertices.
+    pub fn next(&mut self, graph: &mut Graph) -> bool
+        requires { graph.old ≡ empty_graph }
+        ensures first { OnTrue result (self.old ≡ graph.new ∷ self.new) }
+        ensures none { OnFalse result (self.old ≡ []) }
+        ensures none_left { OnFalse result (self.new ≡ []) }
+        ensures stays { OnFalse result (graph.new ≡ empty_graph) }
+    {
+        if let Some(first) = self.first.take() {
+            *graph = first;
+            return true;
+        }
+        self.lines.next(graph)
+    }
+}

@@ -1,0 +1,15 @@
+//! The inputs of the program: a graph file in one of its formats, and a script; what each spells,
+//! and its first fault.
+#![tactic(auto)]
+
+mod fault;
+mod format;
+mod graphs;
+mod inputs;
+#[cfg(test)]
+mod tests;
+
+pub use fault::{Fault, InputStop};
+pub use format::Format;
+pub use graphs::Graphs;
+pub use inputs::{one_graph, read_script};

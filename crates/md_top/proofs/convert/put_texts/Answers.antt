@@ -1,0 +1,27 @@
+-- One more text is put, or the call stopped within it.
+use Rattle.std.proofs.Common.{List, subst, arith}
+use Rattle.std.specs.List.{flat_map}
+use Rattle.md_graph.specs.PlainGraph.{PlainGraph}
+use Rattle.md_top.specs.Answer.{graph_text}
+use Rattle.md_top.proofs.Pieces.{Progress, progress_step, piece_stopped}
+use Rattle.md_top.proofs.convert.put_texts.Goals as goal
+
+pub returns-in_err-put_text : goal.returns-in_err-put_text
+returns-in_err-put_text g c = record {
+  puts =
+      piece_stopped _ _ _ _ _ _ _ _ _ _ _ c.from_residual-in_err-put_text.ensures.1
+      (subst (λ (lines : List PlainGraph). Progress (g.O.Sink.holds c.args.out.now) (g.O.Sink.holds c.loop-alloc.out) (flat_map (graph_text c.args.to) c.args.graphs) (flat_map (graph_text c.args.to) lines))
+      (c.loop-alloc-test.ensures.first) c.loop-alloc.invariant.progress)
+      c.loop-alloc.invariant.faults
+      c.in_err-put_text.ensures.puts;
+}
+
+pub loop-alloc-preserved : goal.loop-alloc-preserved
+loop-alloc-preserved g c = record {
+  progress = progress_step _ _ _ _ (graph_text c.args.to c.next.new.graph) _
+      (subst (λ (lines : List PlainGraph). Progress (g.O.Sink.holds c.args.out.now) (g.O.Sink.holds c.loop-alloc.out) (flat_map (graph_text c.args.to) c.args.graphs) (flat_map (graph_text c.args.to) lines))
+      (c.loop-alloc-test.ensures.first) c.loop-alloc.invariant.progress)
+      (c.in_ok-put_text.ensures.puts);
+  no_vertex = c.clear.ensures;
+  faults = omega (arith, c.loop-alloc.invariant.faults, c.put_text.ensures.faults_never_fall);
+}

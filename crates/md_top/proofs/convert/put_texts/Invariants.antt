@@ -1,0 +1,16 @@
+use Rattle.std.proofs.Common.{◌≡◌, ◌≤◌, length}
+use Rattle.std.specs.List.{flat_map}
+use Rattle.md_graph.specs.PlainGraph.{empty_graph}
+use Rattle.md_top.specs.Answer.{graph_text}
+use Rattle.md_top.proofs.Pieces.{Progress}
+use Rattle.md_top.proofs.convert.put_texts.Given as goal
+
+abbrev pub invariant-loop-alloc : goal.invariant-loop-alloc
+invariant-loop-alloc g l = record {
+  progress : Progress (g.O.Sink.holds l.fn.out) (g.O.Sink.holds l.out) (flat_map (graph_text l.to) l.fn.graphs) (flat_map (graph_text l.to) l.graphs);
+  no_vertex : l.graph ≡ empty_graph;
+  faults : g.O.Sink.faults l.fn.out ≤ g.O.Sink.faults l.out;
+}
+
+abbrev pub decreases-loop-alloc : goal.decreases-loop-alloc
+decreases-loop-alloc g l = length l.graphs

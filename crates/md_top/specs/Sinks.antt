@@ -1,0 +1,59 @@
+-- What a sink takes of a line, a piece or a report, by how the call ends.
+use Rattle.std.specs.Prelude.{◌⊎◌, ℕ, List, Option, Result, Ok, Err}
+use Rattle.std.specs.Io.KnownBytes.{Appends}
+use Rattle.md_io.specs.declared.Sink as sinks
+use Rattle.md_io.specs.Front.{AppendsFront}
+use Rattle.md_io.specs.Count.{Rose}
+use Rattle.md_report.specs.Lines.{PlainLine, lines_text}
+use Rattle.md_report.specs.Places.{Place, Lead}
+use Rattle.md_report.specs.Reports.{IsFront}
+use Rattle.md_top.specs.declared.stop.PutStop.{PutStop}
+use Rattle.md_top.specs.declared.stop.PutStop.TheVariants.{WriteFault, Memory}
+
+-- what a sink holds and its count of faults, before and after
+pub record SinkRun : Type 0 where
+  pub old : Option (List ℕ)
+  pub new : Option (List ℕ)
+  pub faults_old : ℕ
+  pub faults_new : ℕ
+
+abbrev pub sink : Option (List ℕ) → Option (List ℕ) → ℕ → ℕ → SinkRun
+sink old new faults_old faults_new =
+    record { old = old; new = new; faults_old = faults_old; faults_new = faults_new }
+
+-- the same of a sink of any kind
+abbrev pub sink_run : {O : Type 0} → sinks.Ghosts O → O → O → SinkRun
+sink_run g old new = sink (g.holds old) (g.holds new) (g.faults old) (g.faults new)
+
+-- A sink grew by the whole line, or by the beginning of it where its count of faults or of wants rose.
+abbrev pub TakesLine : List ℕ → SinkRun → ℕ → ℕ → Type 0
+TakesLine line o wants_old wants_new =
+    Appends o.old o.new line
+    ⊎ (AppendsFront o.old o.new line × (Rose o.faults_old o.faults_new ⊎ Rose wants_old wants_new))
+
+-- A sink grew by a front, and the count of faults rose where a write is named as the fault.
+abbrev pub Stops : Type 0 → PutStop → ℕ → ℕ → Type 0
+Stops Front WriteFault faults_old faults_new = Front × Rose faults_old faults_new
+Stops Front Memory faults_old faults_new = Front
+
+-- A sink grew by the whole, or by a beginning of it, by nothing at least, where the call stopped.
+abbrev pub PutsWhole : List ℕ → Result (Unit {0}) PutStop → SinkRun → Type 0
+PutsWhole whole (Ok done) o = Appends o.old o.new whole
+PutsWhole whole (Err stop) o = Stops (AppendsFront o.old o.new whole) stop o.faults_old o.faults_new
+
+-- A sink grew by lines that lead from p to q.
+pub record AppendsLines (p q : Place) (old new : Option (List ℕ)) : Type 0 where
+  pub lines : List PlainLine
+  pub leads : Lead p lines q
+  pub put : Appends old new (lines_text lines)
+
+-- A sink grew by the front of a report from p on.
+pub record AppendsFrontFrom (p : Place) (old new : Option (List ℕ)) : Type 0 where
+  pub bytes : List ℕ
+  pub front : IsFront p bytes
+  pub put : Appends old new bytes
+
+-- A sink grew by lines that lead from p to q, or by the front of such a report where the call stopped.
+abbrev pub PutsLines : Place → Place → Result (Unit {0}) PutStop → SinkRun → Type 0
+PutsLines p q (Ok done) o = AppendsLines p q o.old o.new
+PutsLines p q (Err stop) o = Stops (AppendsFrontFrom p o.old o.new) stop o.faults_old o.faults_new

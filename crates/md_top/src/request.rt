@@ -1,0 +1,70 @@
+//! What the program can be asked: the request that words make.
+ghost use Rattle.std.specs.Prelude.{◌≡◌};
+ghost use Rattle.std.specs.Option.{option_map};
+ghost use Rattle.md_top.specs.Request.{texts, format_of, graph_form, request_of, seen};
+
+use md_input::Format;
+use md_report::GraphMode;
+
+/// What is made of the graphs of a file.
+#[derive(Clone, Copy, Debug, PartialEq, Eq)]
+pub enum GraphForm {
+    /// The text of each graph, in the format that is written.
+    Convert(Format),
+    /// The report of a mode over the graphs.
+    Report(GraphMode),
+}
+
+/// What is asked for, by what stands for each file: its name, or its bytes. The format is that of
+/// the graph file.
+#[derive(Clone, Copy, Debug, PartialEq, Eq)]
+pub enum Request<F> {
+    /// A form over the graphs of a graph file.
+    Graphs(GraphForm, Format, F),
+    /// The report of a session on the graph of a graph file, over a script.
+    Session(Format, F, F),
+}
+
+/// The request that the words make, with the names of files; none where they are in no form.
+pub fn request_of(words: &[String]) -> Option<Request<&str>>
+    ensures { option_map seen result ≡ request_of (texts words.now) }
+{
+    match words {
+        [command, format, graph] => {
+            let form = graph_form(command.as_str())?;
+            let from = format_of(format.as_str())?;
+            Some(Request::Graphs(form, from, graph.as_str()))
+        }
+        [command, format, graph, script] => {
+            if command.as_str() != "edit" {
+                return None;
+            }
+            let from = format_of(format.as_str())?;
+            Some(Request::Session(from, graph.as_str(), script.as_str()))
+        }
+        _ => None,
+    }
+}
+
+// The format that a word names; none for any other word.
+fn format_of(word: &str) -> Option<Format>
+    ensures { result ≡ format_of word.now }
+{
+    match word {
+        "g6" => Some(Format::G6),
+        "dimacs" => Some(Format::Dimacs),
+        _ => None,
+    }
+}
+
+// The form of a command over the graphs of a file; none for any other word.
+fn graph_form(command: &str) -> Option<GraphForm>
+    ensures { result ≡ graph_form command.now }
+{
+    match command {
+        "edges" => Some(GraphForm::Convert(Format::Dimacs)),
+        "graph6" => Some(GraphForm::Convert(Format::G6)),
+        "tree" => Some(GraphForm::Report(GraphMode::Tree)),
+        _ => None,
+    }
+}
