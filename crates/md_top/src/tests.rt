@@ -326,6 +326,18 @@ fn runs_that_fail(rt: HostRuntime) -> Result<(), Fail> {
 }
 
 #[test]
+fn runs_over_a_size_in_four_bytes(rt: HostRuntime) -> Result<(), Fail> {
+    let alloc = rt.alloc();
+    let mut file = Vec::new(alloc);
+    file.extend_from_slice(b"~??~")?;
+    file.resize(330, b'?')?;
+    file.push(b'\n')?;
+    let shown = run_over(alloc, "edges g6 g", &file, b"", 0, 0, 0)?;
+    assert_eq!(rt; shown.as_str(), "0|p edge 63 0\n|");
+    Ok(())
+}
+
+#[test]
 fn runs_over_files_that_refuse(rt: HostRuntime) -> Result<(), Fail> {
     let alloc = rt.alloc();
     let table = [
