@@ -24,7 +24,7 @@ begun_begins p sound begun (inl none) =
     let whole : (lines : List PlainLine) × Lead p lines after_end = completion p sound in
     (lines_text whole.0, record { lines = whole.0; leads = whole.1; text = ap (λ b. b ++ lines_text whole.0) none })
 begun_begins p sound begun (inr line) =
-    let whole : (lines : List PlainLine) × Lead (next_place p) lines after_end = completion (next_place p) (lead_sound p (next_place p) (line.0 ∷ []) sound (line.1, refl)) in (
+    let whole : (lines : List PlainLine) × Lead (next_place p line.0) lines after_end = completion (next_place p line.0) (lead_sound p (next_place p line.0) (line.0 ∷ []) sound (line.1, refl)) in (
       line.2 ++ lines_text whole.0,
       record {
         lines = line.0 ∷ whole.0;
@@ -57,7 +57,7 @@ to_front p (line ∷ lines) leads bytes rest text =
     elim (nested bytes rest (fed_line line) (lines_text lines) text) [
       | inl w ↦ record { lines = []; place = p; leads = refl; begun = bytes; begins = inr (line, leads.0, w.0, w.1); text = refl }
       | inr w ↦
-          let on : IsFront (next_place p) w.0 = to_front (next_place p) lines leads.1 w.0 rest (sym w.2) in
+          let on : IsFront (next_place p line) w.0 = to_front (next_place p line) lines leads.1 w.0 rest (sym w.2) in
           record {
             lines = line ∷ on.lines;
             place = on.place;

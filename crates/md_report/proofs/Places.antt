@@ -13,20 +13,21 @@ use Rattle.md_script.specs.Edit.{HasNames, reason_of, after}
 use Rattle.md_script.proofs.ChangeLemmas.{after_is_graph}
 use Rattle.md_report.specs.declared.line.GraphMode.{GraphMode}
 use Rattle.md_report.specs.declared.line.GraphMode.TheVariants.{Tree}
-use Rattle.md_report.specs.declared.line.Mode.TheVariants.{Edit}
-use Rattle.md_report.specs.Lines.{PlainLine, mode_of, head, tree, applied, refused, end}
-use Rattle.md_report.specs.Sessions.{HasTreeLine, IsLineBy, state_by, IsStepLine, state_after, SessionRun}
-use Rattle.md_report.specs.Places.{Place, before_head, at_graphs, before_session, at_state, at_edits, after_end, Reports, next_place, Lead}
-use Rattle.md_report.specs.Laws.{AreGraphs, IsSound, LinesLeadIfFirst, ReportEach, IsGraphReport, GraphReportsHaveLines, IsSessionReport, SessionReportsAreRuns}
+use Rattle.md_report.specs.declared.line.SessionMode.{SessionMode}
+use Rattle.md_report.specs.declared.line.SessionMode.TheVariants.{Edit}
+use Rattle.md_report.specs.Lines.{PlainLine, mode_of, session_mode_of, head, tree, applied, refused, end}
+use Rattle.md_report.specs.Sessions.{HasTreeLine, IsLineBy, state_by, IsStepLine, state_after, state_behind, SessionRun}
+use Rattle.md_report.specs.Places.{Place, before_head, at_graphs, before_session, at_state, at_edits, after_end, Reports, ReportsState, MayCome, next_place, Lead}
+use Rattle.md_report.specs.Laws.{AreGraphs, IsSound, LinesLeadIfFirst, ReportEach, IsGraphReport, GraphReportsHaveLines, AnswerEach, IsSessionReport, SessionReportsAreRuns}
 
 pub lead_append : (p q r : Place) (lines more : List PlainLine) → Lead p lines q → Lead q more r → Lead p (lines ++ more) r
 lead_append p q r [] more leads on = subst (λ z. Lead z more r) (sym leads) on
-lead_append p q r (line ∷ lines) more leads on = (leads.0, lead_append (next_place p) q r lines more leads.1 on)
+lead_append p q r (line ∷ lines) more leads on = (leads.0, lead_append (next_place p line) q r lines more leads.1 on)
 
 pub lead_split : (p r : Place) (lines more : List PlainLine) → Lead p (lines ++ more) r → (q : Place) × Lead p lines q × Lead q more r
 lead_split p r [] more leads = (p, refl, leads)
 lead_split p r (line ∷ lines) more leads =
-    let s : (q : Place) × Lead (next_place p) lines q × Lead q more r = lead_split (next_place p) r lines more leads.1 in
+    let s : (q : Place) × Lead (next_place p line) lines q × Lead q more r = lead_split (next_place p line) r lines more leads.1 in
     (s.0, (leads.0, s.1), s.2)
 
 -- the state after an edit is a graph
@@ -36,20 +37,28 @@ state_sound g edit is names = by_reason (reason_of g edit) refl where
   by_reason (Some reason) same = is
   by_reason None same = after_is_graph g edit is names same
 
+-- the state behind the line of an edit is the one after the edit
+pub state_is : (g : PlainGraph) (edit : script.Edit) (line : PlainLine) → IsStepLine g edit line → state_behind g edit line ≡ state_after g edit
+state_is g edit line step = by_reason (reason_of g edit) step where
+  by_reason : (o : Option EditReason) → IsLineBy o g edit line → state_behind g edit line ≡ state_by o g edit
+  by_reason (Some reason) is = ap (state_behind g edit) is
+  by_reason None is = ap (state_behind g edit) is.2
+
 -- the place behind a sound one is sound
-next_sound : (p : Place) → IsSound p → IsSound (next_place p)
-next_sound (before_head mode graphs) sound = sound
-next_sound (at_graphs mode []) sound = tt
-next_sound (at_graphs mode (g ∷ graphs)) sound = sound.1
-next_sound (before_session g edits) sound = sound
-next_sound (at_state g edits) sound = sound
-next_sound (at_edits g []) sound = tt
-next_sound (at_edits g (edit ∷ edits)) sound = (state_sound g edit sound.0 (All-head HasNames edit edits sound.1), All-tail HasNames edit edits sound.1)
-next_sound after_end sound = tt
+next_sound : (p : Place) (line : PlainLine) → IsSound p → MayCome p line → IsSound (next_place p line)
+next_sound (before_head mode graphs) line sound may = sound
+next_sound (at_graphs mode []) line sound may = tt
+next_sound (at_graphs mode (g ∷ graphs)) line sound may = sound.1
+next_sound (before_session mode g edits) line sound may = sound
+next_sound (at_state mode g edits) line sound may = sound
+next_sound (at_edits mode g []) line sound may = tt
+next_sound (at_edits Edit g (edit ∷ edits)) line sound may =
+    (subst IsGraph (sym (state_is g edit line may)) (state_sound g edit sound.0 (All-head HasNames edit edits sound.1)), All-tail HasNames edit edits sound.1)
+next_sound after_end line sound may = tt
 
 pub lead_sound : (p q : Place) (lines : List PlainLine) → IsSound p → Lead p lines q → IsSound q
 lead_sound p q [] sound leads = subst IsSound leads sound
-lead_sound p q (line ∷ lines) sound leads = lead_sound (next_place p) q lines (next_sound p sound) leads.1
+lead_sound p q (line ∷ lines) sound leads = lead_sound (next_place p line) q lines (next_sound p line sound leads.0) leads.1
 
 -- each graph has a line with its tree
 tree_line : (made : Option PlainTree → PlainLine) (g : PlainGraph) → IsGraph g → (line : PlainLine) × HasTreeLine made g line
@@ -76,19 +85,26 @@ reported mode (g ∷ graphs) sound =
     let rest : (lines : List PlainLine) × Lead (at_graphs mode graphs) lines after_end = reported mode graphs sound.1 in
     (line.0 ∷ rest.0, (line.1, rest.1))
 
--- lines lead from edits to the end
-answered : (edits : List script.Edit) (g : PlainGraph) → IsGraph g → All HasNames edits → (lines : List PlainLine) × Lead (at_edits g edits) lines after_end
-answered [] g is names = (end ∷ [], (refl, refl))
-answered (edit ∷ edits) g is names =
-    let line : (line : PlainLine) × IsStepLine g edit line = step_line g edit is (All-head HasNames edit edits names) in
-    let rest : (lines : List PlainLine) × Lead (at_edits (state_after g edit) edits) lines after_end =
-    answered edits (state_after g edit) (state_sound g edit is (All-head HasNames edit edits names)) (All-tail HasNames edit edits names) in
-    (line.0 ∷ rest.0, (line.1, rest.1))
+-- the line of an edit leads to the state after it
+on_from : (edits : List script.Edit) (g : PlainGraph) (edit : script.Edit) (line : PlainLine) (lines : List PlainLine) → IsStepLine g edit line → Lead (at_edits Edit (state_after g edit) edits) lines after_end → Lead (at_edits Edit (state_behind g edit line) edits) lines after_end
+on_from edits g edit line lines step leads = subst (λ (s : PlainGraph). Lead (at_edits Edit s edits) lines after_end) (sym (state_is g edit line step)) leads
 
-from_state : (g : PlainGraph) (edits : List script.Edit) → IsGraph g → All HasNames edits → (lines : List PlainLine) × Lead (at_state g edits) lines after_end
-from_state g edits is names =
-    let line : (line : PlainLine) × HasTreeLine tree g line = tree_line tree g is in
-    let rest : (lines : List PlainLine) × Lead (at_edits g edits) lines after_end = answered edits g is names in
+-- lines lead from edits to the end
+answered : (mode : SessionMode) (edits : List script.Edit) (g : PlainGraph) → IsGraph g → All HasNames edits → (lines : List PlainLine) × Lead (at_edits mode g edits) lines after_end
+answered mode [] g is names = (end ∷ [], (refl, refl))
+answered Edit (edit ∷ edits) g is names =
+    let line : (line : PlainLine) × IsStepLine g edit line = step_line g edit is (All-head HasNames edit edits names) in
+    let rest : (lines : List PlainLine) × Lead (at_edits Edit (state_after g edit) edits) lines after_end =
+    answered Edit edits (state_after g edit) (state_sound g edit is (All-head HasNames edit edits names)) (All-tail HasNames edit edits names) in
+    (line.0 ∷ rest.0, (line.1, on_from edits g edit line.0 rest.0 line.1 rest.1))
+
+state_line : (mode : SessionMode) (g : PlainGraph) → IsGraph g → (line : PlainLine) × ReportsState mode g line
+state_line Edit g is = tree_line tree g is
+
+from_state : (mode : SessionMode) (g : PlainGraph) (edits : List script.Edit) → IsGraph g → All HasNames edits → (lines : List PlainLine) × Lead (at_state mode g edits) lines after_end
+from_state mode g edits is names =
+    let line : (line : PlainLine) × ReportsState mode g line = state_line mode g is in
+    let rest : (lines : List PlainLine) × Lead (at_edits mode g edits) lines after_end = answered mode edits g is names in
     (line.0 ∷ rest.0, (line.1, rest.1))
 
 -- lines lead from each sound place to the end
@@ -97,11 +113,11 @@ completion (before_head mode graphs) sound =
     let rest : (lines : List PlainLine) × Lead (at_graphs mode graphs) lines after_end = reported mode graphs sound in
     (head (mode_of mode) ∷ rest.0, (refl, rest.1))
 completion (at_graphs mode graphs) sound = reported mode graphs sound
-completion (before_session g edits) sound =
-    let rest : (lines : List PlainLine) × Lead (at_state g edits) lines after_end = from_state g edits sound.0 sound.1 in
-    (head Edit ∷ rest.0, (refl, rest.1))
-completion (at_state g edits) sound = from_state g edits sound.0 sound.1
-completion (at_edits g edits) sound = answered edits g sound.0 sound.1
+completion (before_session mode g edits) sound =
+    let rest : (lines : List PlainLine) × Lead (at_state mode g edits) lines after_end = from_state mode g edits sound.0 sound.1 in
+    (head (session_mode_of mode) ∷ rest.0, (refl, rest.1))
+completion (at_state mode g edits) sound = from_state mode g edits sound.0 sound.1
+completion (at_edits mode g edits) sound = answered mode edits g sound.0 sound.1
 completion after_end sound = ([], refl)
 
 pub lines_lead_proof : LinesLeadIfFirst
@@ -141,31 +157,36 @@ graph_reports_proof mode graphs lines = (
   λ is. subst (λ l. Lead (before_head mode graphs) l after_end) (sym is.whole) (refl, each_graphs mode graphs is.run is.each),
 )
 
--- the lines of edits are a run and the end
-edits_run : (edits : List script.Edit) (g : PlainGraph) (lines : List PlainLine) → Lead (at_edits g edits) lines after_end → (run : List PlainLine) × SessionRun g edits run × (lines ≡ run ++ end ∷ [])
+-- the lines of edits are one for each, and the end
+edits_run : (edits : List script.Edit) (g : PlainGraph) (lines : List PlainLine) → Lead (at_edits Edit g edits) lines after_end → (run : List PlainLine) × SessionRun g edits run × (lines ≡ run ++ end ∷ [])
 edits_run [] g [] leads = absurd (cc)
 edits_run [] g (line ∷ []) leads = ([], refl, cc)
 edits_run [] g (line ∷ more ∷ lines) leads = absurd leads.1.0
 edits_run (edit ∷ edits) g [] leads = absurd (cc)
 edits_run (edit ∷ edits) g (line ∷ lines) leads =
-    let on : (run : List PlainLine) × SessionRun (state_after g edit) edits run × (lines ≡ run ++ end ∷ []) = edits_run edits (state_after g edit) lines leads.1 in
+    let on : (run : List PlainLine) × SessionRun (state_after g edit) edits run × (lines ≡ run ++ end ∷ []) = edits_run edits (state_after g edit) lines
+    (subst (λ (s : PlainGraph). Lead (at_edits Edit s edits) lines after_end) (state_is g edit line leads.0) leads.1) in
     (line ∷ on.0, (leads.0, on.1), ap (λ l. line ∷ l) on.2)
 
-run_edits : (edits : List script.Edit) (g : PlainGraph) (run : List PlainLine) → SessionRun g edits run → Lead (at_edits g edits) (run ++ end ∷ []) after_end
+run_edits : (edits : List script.Edit) (g : PlainGraph) (run : List PlainLine) → SessionRun g edits run → Lead (at_edits Edit g edits) (run ++ end ∷ []) after_end
 run_edits [] g [] runs = (refl, refl)
 run_edits [] g (line ∷ run) runs = absurd (cc)
 run_edits (edit ∷ edits) g [] runs = absurd runs
-run_edits (edit ∷ edits) g (line ∷ run) runs = (runs.0, run_edits edits (state_after g edit) run runs.1)
+run_edits (edit ∷ edits) g (line ∷ run) runs =
+    (runs.0, on_from edits g edit line (run ++ end ∷ []) runs.0 (run_edits edits (state_after g edit) run runs.1))
 
-session_report : (g : PlainGraph) (edits : List script.Edit) (lines : List PlainLine) → Lead (before_session g edits) lines after_end → IsSessionReport g edits lines
-session_report g edits [] leads = absurd (cc)
-session_report g edits (line ∷ []) leads = absurd (cc)
-session_report g edits (line ∷ first ∷ lines) leads =
+session_report : (mode : SessionMode) (g : PlainGraph) (edits : List script.Edit) (lines : List PlainLine) → Lead (before_session mode g edits) lines after_end → IsSessionReport mode g edits lines
+session_report mode g edits [] leads = absurd (cc)
+session_report mode g edits (line ∷ []) leads = absurd (cc)
+session_report Edit g edits (line ∷ first ∷ lines) leads =
     let on : (run : List PlainLine) × SessionRun g edits run × (lines ≡ run ++ end ∷ []) = edits_run edits g lines leads.1.1 in
-    record { first = first; run = on.0; tree_line = leads.1.0; runs = on.1; whole = ap₂ (λ (l : PlainLine) (m : List PlainLine). l ∷ first ∷ m) leads.0 on.2 }
+    record { first = first; run = on.0; state_line = leads.1.0; runs = on.1; whole = ap₂ (λ (l : PlainLine) (m : List PlainLine). l ∷ first ∷ m) leads.0 on.2 }
+
+report_leads : (mode : SessionMode) (g : PlainGraph) (edits : List script.Edit) (run : List PlainLine) → AnswerEach mode g edits run → Lead (at_edits mode g edits) (run ++ end ∷ []) after_end
+report_leads Edit g edits run runs = run_edits edits g run runs
 
 pub session_reports_proof : SessionReportsAreRuns
-session_reports_proof g edits lines = (
-  session_report g edits lines,
-  λ is. subst (λ l. Lead (before_session g edits) l after_end) (sym is.whole) (refl, (is.tree_line, run_edits edits g is.run is.runs)),
+session_reports_proof mode g edits lines = (
+  session_report mode g edits lines,
+  λ is. subst (λ l. Lead (before_session mode g edits) l after_end) (sym is.whole) (refl, (is.state_line, report_leads mode g edits is.run is.runs)),
 )

@@ -5,10 +5,11 @@ use Rattle.std.specs.List.{All}
 use Rattle.md_script.specs.declared.edit.Edit.{Edit}
 use Rattle.md_script.specs.Edit.{HasNames}
 use Rattle.md_report.specs.declared.line.GraphMode.{GraphMode}
-use Rattle.md_report.specs.declared.line.Mode.TheVariants as modes
-use Rattle.md_report.specs.Lines.{PlainLine, mode_of, head, tree, end}
-use Rattle.md_report.specs.Sessions.{HasTreeLine, SessionRun}
-use Rattle.md_report.specs.Places.{Place, before_head, at_graphs, before_session, at_state, at_edits, after_end, Reports, Lead}
+use Rattle.md_report.specs.declared.line.SessionMode.{SessionMode}
+use Rattle.md_report.specs.declared.line.SessionMode.TheVariants as session_modes
+use Rattle.md_report.specs.Lines.{PlainLine, mode_of, session_mode_of, head, end}
+use Rattle.md_report.specs.Sessions.{SessionRun}
+use Rattle.md_report.specs.Places.{Place, before_head, at_graphs, before_session, at_state, at_edits, after_end, Reports, ReportsState, Lead}
 use Rattle.md_report.specs.Reports.{IsReport, IsFront}
 
 -- each of the list is a graph on names
@@ -20,9 +21,9 @@ AreGraphs (g ∷ graphs) = IsGraph g × AreGraphs graphs
 abbrev pub IsSound : Place → Type 0
 IsSound (before_head mode graphs) = AreGraphs graphs
 IsSound (at_graphs mode graphs) = AreGraphs graphs
-IsSound (before_session g edits) = IsGraph g × All HasNames edits
-IsSound (at_state g edits) = IsGraph g × All HasNames edits
-IsSound (at_edits g edits) = IsGraph g × All HasNames edits
+IsSound (before_session mode g edits) = IsGraph g × All HasNames edits
+IsSound (at_state mode g edits) = IsGraph g × All HasNames edits
+IsSound (at_edits mode g edits) = IsGraph g × All HasNames edits
 IsSound after_end = ⊤
 
 -- Lines lead somewhere exactly where they are the first lines of a whole report.
@@ -49,19 +50,23 @@ GraphReportsHaveLines =
     (mode : GraphMode) (graphs : List PlainGraph) (lines : List PlainLine) →
     Lead (before_head mode graphs) lines after_end ↔ IsGraphReport mode graphs lines
 
--- A whole report of a session over a script: the head, the tree of the first state, the lines of the run, and the end.
-pub record IsSessionReport (g : PlainGraph) (edits : List Edit) (lines : List PlainLine) : Type 0 where
+-- the lines answer the edits of a script, one each
+abbrev pub AnswerEach : SessionMode → PlainGraph → List Edit → List PlainLine → Type 0
+AnswerEach session_modes.Edit g edits lines = SessionRun g edits lines
+
+-- A whole report of a session over a script: the head, the line of the first state, the lines of the edits, and the end.
+pub record IsSessionReport (mode : SessionMode) (g : PlainGraph) (edits : List Edit) (lines : List PlainLine) : Type 0 where
   pub first : PlainLine
   pub run : List PlainLine
-  pub tree_line : HasTreeLine tree g first
-  pub runs : SessionRun g edits run
-  pub whole : lines ≡ head modes.Edit ∷ first ∷ (run ++ end ∷ [])
+  pub state_line : ReportsState mode g first
+  pub runs : AnswerEach mode g edits run
+  pub whole : lines ≡ head (session_mode_of mode) ∷ first ∷ (run ++ end ∷ [])
 
 -- Lines lead from before a session to the end exactly where they are such a report.
 abbrev pub SessionReportsAreRuns : Type 0
 SessionReportsAreRuns =
-    (g : PlainGraph) (edits : List Edit) (lines : List PlainLine) →
-    Lead (before_session g edits) lines after_end ↔ IsSessionReport g edits lines
+    (mode : SessionMode) (g : PlainGraph) (edits : List Edit) (lines : List PlainLine) →
+    Lead (before_session mode g edits) lines after_end ↔ IsSessionReport mode g edits lines
 
 -- Bytes are the front of a report by places exactly where a whole report begins with them.
 abbrev pub FrontsBeginReports : Type 0

@@ -10,6 +10,8 @@ use Rattle.md_script.specs.declared.edit.EditReason.{EditReason}
 use Rattle.md_script.specs.declared.edit.EditReason.TheVariants.{Same, NoVertex, NameTaken, EdgeThere, EdgeAbsent}
 use Rattle.md_report.specs.declared.line.GraphMode.{GraphMode}
 use Rattle.md_report.specs.declared.line.GraphMode.TheVariants as graph_modes
+use Rattle.md_report.specs.declared.line.SessionMode.{SessionMode}
+use Rattle.md_report.specs.declared.line.SessionMode.TheVariants as session_modes
 use Rattle.md_report.specs.declared.line.Mode.{Mode}
 use Rattle.md_report.specs.declared.line.Mode.TheVariants as modes
 use Rattle.md_report.specs.declared.line.Line.{Line}
@@ -34,6 +36,10 @@ plain_line lines.End = end
 -- what a report over graphs is about
 abbrev pub mode_of : GraphMode → Mode
 mode_of graph_modes.Tree = modes.Tree
+
+-- what a report of a session is about
+abbrev pub session_mode_of : SessionMode → Mode
+session_mode_of session_modes.Edit = modes.Edit
 
 -- the word of a mode
 abbrev pub mode_word : Mode → List ℕ

@@ -7,7 +7,7 @@ use Rattle.md_tree.specs.StrongTrees.{IsTree}
 use Rattle.md_script.specs.declared.edit.Edit.{Edit}
 use Rattle.md_script.specs.declared.edit.EditReason.{EditReason}
 use Rattle.md_script.specs.Edit.{reason_of, after}
-use Rattle.md_report.specs.Lines.{PlainLine, applied, refused}
+use Rattle.md_report.specs.Lines.{PlainLine, head, tree, applied, refused, end}
 
 -- the line is one with the tree of strong modules of g
 abbrev pub HasTreeLine : (Option PlainTree → PlainLine) → PlainGraph → PlainLine → Type 0
@@ -30,6 +30,14 @@ IsStepLine g edit line = IsLineBy (reason_of g edit) g edit line
 -- the state after an edit at g
 abbrev pub state_after : PlainGraph → Edit → PlainGraph
 state_after g edit = state_by (reason_of g edit) g edit
+
+-- the state behind a line that came for an edit at g: the graph after the edit where it was applied, else g
+abbrev pub state_behind : PlainGraph → Edit → PlainLine → PlainGraph
+state_behind g edit (applied t) = after g edit
+state_behind g edit (refused reason) = g
+state_behind g edit (head mode) = g
+state_behind g edit (tree t) = g
+state_behind g edit end = g
 
 -- one step of a session: the line of the edit, and the state that it leaves
 pub record SessionStep (g : PlainGraph) (edit : Edit) (line : PlainLine) (next : PlainGraph) : Type 0 where

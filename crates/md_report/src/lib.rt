@@ -4,7 +4,7 @@
 pub mod laws;
 mod line;
 
-pub use line::{GraphMode, Line, Mode, write_line};
+pub use line::{GraphMode, Line, Mode, SessionMode, write_line};
 
 #[cfg(test)]
 mod tests;

@@ -39,6 +39,27 @@ impl GraphMode {
     }
 }
 
+/// What a report of a session says of each state.
+#[derive(Clone, Copy, Debug, PartialEq, Eq)]
+pub enum SessionMode {
+    /// Its tree of strong modules.
+    Edit,
+}
+
+impl SessionMode {
+    ghost use Rattle.std.specs.Prelude.{◌≡◌};
+    ghost use Rattle.md_report.specs.Lines.{session_mode_of};
+
+    /// What the whole report is about.
+    pub fn mode(self) -> Mode
+        ensures { result ≡ session_mode_of self }
+    {
+        match self {
+            SessionMode::Edit => Mode::Edit,
+        }
+    }
+}
+
 /// A line of a report.
 #[derive(Drop)]
 pub enum Line {

@@ -11,10 +11,6 @@ use Rattle.md_top.specs.declared.stop.PutStop.{PutStop}
 use Rattle.md_top.specs.Sinks.{sink, PutsWhole, AppendsLines, AppendsFrontFrom, PutsLines}
 use Rattle.md_top.proofs.Pieces.{stops_on}
 
--- nothing is put yet
-pub no_lines : (p : Place) (old : Option (List ℕ)) → AppendsLines p p old old
-no_lines p old = record { lines = []; leads = refl; put = Appends-nil old }
-
 -- the beginning of a line that may come
 begun_line : (p : Place) (line : PlainLine) (old new : Option (List ℕ)) → MayCome p line → AppendsFront old new (fed_line line) → AppendsFrontFrom p old new
 begun_line p line old new may front = record {
@@ -24,7 +20,7 @@ begun_line p line old new may front = record {
 }
 
 -- a line that may come is put whole, or the call stopped within it
-pub one_line : (p : Place) (line : PlainLine) (result : Result (Unit {0}) PutStop) (old new : Option (List ℕ)) (faults_old faults_new : ℕ) → MayCome p line → PutsWhole (fed_line line) result (sink old new faults_old faults_new) → PutsLines p (next_place p) result (sink old new faults_old faults_new)
+pub one_line : (p : Place) (line : PlainLine) (result : Result (Unit {0}) PutStop) (old new : Option (List ℕ)) (faults_old faults_new : ℕ) → MayCome p line → PutsWhole (fed_line line) result (sink old new faults_old faults_new) → PutsLines p (next_place p line) result (sink old new faults_old faults_new)
 one_line p line (Ok done) old new faults_old faults_new may put =
     record { lines = line ∷ []; leads = (may, refl); put = subst (Appends old new) (sym (append-nil (fed_line line))) put }
 one_line p line (Err stop) old new faults_old faults_new may put =

@@ -6,13 +6,14 @@ use Rattle.std.specs.List.{flat_map}
 use Rattle.md_graph.specs.PlainGraph.{PlainGraph}
 use Rattle.md_graph6.specs.Text.{graph6_text}
 use Rattle.md_dimacs.specs.Text.{dimacs_text}
-use Rattle.md_script.specs.declared.edit.Edit.{Edit}
+use Rattle.md_script.specs.declared.edit.Edit as script_edits
 use Rattle.md_script.specs.File.{SpellsScript}
 use Rattle.md_input.specs.declared.format.Format.{Format}
 use Rattle.md_input.specs.declared.format.Format.TheVariants.{G6, Dimacs}
 use Rattle.md_input.specs.declared.fault.Fault.{Fault}
 use Rattle.md_input.specs.Spelling.{SpellsGraphs}
 use Rattle.md_input.specs.Faults.{graph_fault, one_graph_fault, script_fault}
+use Rattle.md_report.specs.declared.line.SessionMode.TheVariants.{Edit}
 use Rattle.md_report.specs.Places.{Place, before_head, before_session}
 use Rattle.md_report.specs.Reports.{IsReport, IsFront}
 use Rattle.md_top.specs.declared.request.GraphForm.{GraphForm}
@@ -47,8 +48,8 @@ abbrev pub Gives : Request (List ℕ) → Output → Type 0
 Gives (Graphs form from graph) output =
     (graphs : List PlainGraph) × SpellsGraphs from graph graphs × (output ≡ over_graphs form graphs)
 Gives (Session from graph script) output =
-    (g : PlainGraph) × (edits : List Edit) × SpellsGraphs from graph (g ∷ []) × SpellsScript script edits
-    × (output ≡ report (before_session g edits))
+    (g : PlainGraph) × (edits : List script_edits.Edit) × SpellsGraphs from graph (g ∷ []) × SpellsScript script edits
+    × (output ≡ report (before_session Edit g edits))
 
 -- the bytes are the whole output, with its verdict
 abbrev pub IsWhole : Output → Verdict → List ℕ → Type 0

@@ -15,7 +15,7 @@ use md_io::Sink;
 use std::alloc::Global;
 
 /// Puts the text of each graph of a graph file, in their order. The file is read whole before the
-/// first put, or its graphs are known to be without fault.
+/// first put.
 pub fn convert<O: Sink>(
     alloc: Global,
     from: Format,

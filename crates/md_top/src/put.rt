@@ -22,7 +22,7 @@ pub fn put_piece<O: Sink>(out: &mut O, piece: &[u8]) -> Result<(), PutStop>
 /// Puts a line of a report, with its line feed.
 pub fn put_report_line<O: Sink>(alloc: Global, line: Line, out: &mut O) -> Result<(), PutStop>
     ensures puts { (p : Place) → MayCome p (plain_line line)
-        → PutsLines p (next_place p) result (sink_run O.Sink out.old out.new) }
+        → PutsLines p (next_place p (plain_line line)) result (sink_run O.Sink out.old out.new) }
     ensures faults_never_fall { O.faults out.old ≤ O.faults out.new }
 {
     let text = fed_text(alloc, &line)?;

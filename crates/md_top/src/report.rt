@@ -1,5 +1,5 @@
 //! Reports over graphs: line by line, each with its line feed in one put. The graph file is read
-//! whole before the first put, or its graphs are known to be without fault.
+//! whole before the first put.
 ghost use Rattle.std.specs.Prelude.{◌≡◌, ◌≤◌, List, [], ◌∷◌};
 ghost use Rattle.md_graph.specs.PlainGraph.{PlainGraph};
 ghost use Rattle.md_report.specs.Places.{before_head, at_graphs, after_end};

@@ -1,5 +1,6 @@
 //! Sessions on the one graph of a file: both files are read whole before the first put.
 ghost use Rattle.std.specs.Prelude.{◌≡◌, ◌≤◌};
+ghost use Rattle.md_report.specs.declared.line.SessionMode.{SessionMode};
 ghost use Rattle.md_report.specs.Places.{before_session, at_edits, after_end};
 ghost use Rattle.md_top.specs.declared.request.Request.{Request};
 ghost use Rattle.md_top.specs.Command.{CommandEnds};
@@ -10,7 +11,7 @@ use crate::stop::{PutStop, Stop, Verdict};
 use md_graph::Graph;
 use md_input::{Format, one_graph, read_script};
 use md_io::Sink;
-use md_report::{Line, Mode};
+use md_report::{Line, SessionMode};
 use md_script::Script;
 use md_session::GeneralSession;
 use std::alloc::Global;
@@ -39,10 +40,10 @@ fn put_session<O: Sink>(
     script: &Script,
     out: &mut O,
 ) -> Result<(), PutStop>
-    ensures puts { PutsLines (before_session graph script.now) after_end result
+    ensures puts { PutsLines (before_session SessionMode.Edit graph script.now) after_end result
         (sink_run O.Sink out.old out.new) }
 {
-    put_report_line(alloc, Line::Head(Mode::Edit), out)?;
+    put_report_line(alloc, Line::Head(SessionMode::Edit.mode()), out)?;
     let session = GeneralSession::new(graph);
     let tree = session.tree(alloc)?;
     put_report_line(alloc, Line::Tree(tree), out)?;
@@ -56,7 +57,7 @@ fn put_edits<O: Sink>(
     script: &Script,
     out: &mut O,
 ) -> Result<(), PutStop>
-    ensures puts { PutsLines (at_edits session script.now) after_end result
+    ensures puts { PutsLines (at_edits SessionMode.Edit session script.now) after_end result
         (sink_run O.Sink out.old out.new) }
     ensures faults_never_fall { O.faults out.old ≤ O.faults out.new }
 {
