@@ -5,7 +5,7 @@ use super::*;
 use md_io::{MemFiles, MemSink};
 use refusing::RefusingFiles;
 use std::alloc::Global;
-use std::process::ExitCode;
+use std::process::{Abort, ExitCode};
 use std::test::Fail;
 
 // The graph of Mycielski on 11 vertices, which has no triangle and four colours at least.
@@ -56,6 +56,15 @@ fn run_over(
     let mut err = MemSink::new(alloc, Vec::new(alloc), 0);
     let status = run(alloc, &words, &mut files, &mut out, &mut err);
     shown(alloc, status, &out, &err)
+}
+
+// Sees that each run over the file `g` of its bytes ends as it is to be.
+fn expect(rt: &impl Abort, alloc: Global, table: &[(&str, &[u8], &str)]) -> Result<(), Fail> {
+    for (line, file, want) in table {
+        let shown = run_over(alloc, line, file, b"", 0, 0, 0)?;
+        assert_eq!(rt; shown.as_str(), *want, "{line}");
+    }
+    Ok(())
 }
 
 #[test]
@@ -128,11 +137,7 @@ fn runs(rt: HostRuntime) -> Result<(), Fail> {
             "3||mdt: graph OtherFormat line 1\n",
         ),
     ];
-    for (line, file, want) in table {
-        let shown = run_over(alloc, line, file, b"", 0, 0, 0)?;
-        assert_eq!(rt; shown.as_str(), want, "{line}");
-    }
-    Ok(())
+    expect(&rt, alloc, &table)
 }
 
 #[test]
@@ -215,11 +220,7 @@ fn runs_over_other_words(rt: HostRuntime) -> Result<(), Fail> {
             "3||mdt: graph BadByte line 1\n",
         ),
     ];
-    for (line, file, want) in table {
-        let shown = run_over(alloc, line, file, b"", 0, 0, 0)?;
-        assert_eq!(rt; shown.as_str(), want, "{line}");
-    }
-    Ok(())
+    expect(&rt, alloc, &table)
 }
 
 #[test]
@@ -278,11 +279,7 @@ fn trees(rt: HostRuntime) -> Result<(), Fail> {
         ("tree png x", b"DQc\n", "2||mdt: usage\n"),
         ("trees g6 g", b"DQc\n", "2||mdt: usage\n"),
     ];
-    for (line, file, want) in table {
-        let shown = run_over(alloc, line, file, b"", 0, 0, 0)?;
-        assert_eq!(rt; shown.as_str(), want, "{line}");
-    }
-    Ok(())
+    expect(&rt, alloc, &table)
 }
 
 #[test]
