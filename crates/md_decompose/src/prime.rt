@@ -72,36 +72,9 @@ fn hold(graph: &Graph, set: &Names, v: u32, j: u32, held: &mut Names)
 #[cfg(test)]
 mod tests {
     use super::*;
-    use md_graph::NAMES;
     use md_modules::{co_connected, connected};
     use std::process::Abort;
     use std::test::Fail;
-
-    // The graph with the vertices below `count` and these edges.
-    fn made(
-        rt: &impl Abort,
-        alloc: Global,
-        count: u32,
-        edges: &[(u32, u32)],
-    ) -> Result<Graph, Memory> {
-        let mut g = Graph::new(alloc)?;
-        for v in 0..count {
-            assert!(rt; v < NAMES && !g.has_vertex(v));
-            g.add_vertex(v);
-        }
-        for (u, v) in edges {
-            join(rt, &mut g, *u, *v);
-        }
-        Ok(g)
-    }
-
-    fn join(rt: &impl Abort, g: &mut Graph, u: u32, v: u32) {
-        assert!(rt; u != v);
-        assert!(rt; g.has_vertex(u));
-        assert!(rt; g.has_vertex(v));
-        assert!(rt; !g.has_edge(u, v));
-        g.add_edge(u, v);
-    }
 
     // Sees what the children of the whole graph are.
     fn divided(rt: &impl Abort, alloc: Global, g: &Graph, lists: &[&[u32]]) -> Result<(), Memory> {
@@ -128,11 +101,11 @@ mod tests {
 
     #[test]
     fn of_primes(rt: HostRuntime) -> Result<(), Fail> {
-        let path = made(&rt, rt.alloc(), 4, &PATH)?;
+        let path = Graph::from_edges(rt.alloc(), 4, &PATH)?.expect(&rt, "edges");
         divided(&rt, rt.alloc(), &path, &[&[0], &[1], &[2], &[3]])?;
-        let bull = made(&rt, rt.alloc(), 5, &BULL)?;
+        let bull = Graph::from_edges(rt.alloc(), 5, &BULL)?.expect(&rt, "edges");
         divided(&rt, rt.alloc(), &bull, &[&[0], &[1], &[2], &[3], &[4]])?;
-        let twins = made(&rt, rt.alloc(), 6, &TWINS)?;
+        let twins = Graph::from_edges(rt.alloc(), 6, &TWINS)?.expect(&rt, "edges");
         divided(&rt, rt.alloc(), &twins, &[&[0], &[1, 5], &[2], &[3, 4]])?;
         Ok(())
     }

@@ -36,15 +36,15 @@ of_ascending s (suc n) w h =
       ] refl r
     ]
 
-w_cases : (w n : ℕ) → w < suc n → (w < n) ⊎ (w ≡ n)
-w_cases w n h = elim (cases_lt w n) [ inl below ↦ inl below | inr above ↦ inr (omega arith) ]
+pub less_or_last : (w n : ℕ) → w < suc n → (w < n) ⊎ (w ≡ n)
+less_or_last w n h = elim (cases_lt w n) [ inl below ↦ inl below | inr above ↦ inr (omega arith) ]
 
 -- and each member below it is an item
 pub in_ascending : (s : NameSet) (n w : ℕ) → Has s w → w < n → Holds (ascending_between s 0 n) w
 unfolding ascending_between
 in_ascending s zero w m h = absurd (omega arith)
 in_ascending s (suc n) w m h =
-    elim (w_cases w n h) [
+    elim (less_or_last w n h) [
       | inl below ↦ holds_left _ _ w (in_ascending s n w m below)
       | inr same ↦
           let here : (nat_le 0 n && set.contains s n) ≡ true = last_has s n (subst (Has s) same m) in

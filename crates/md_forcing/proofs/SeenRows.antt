@@ -1,6 +1,7 @@
 -- Rows of arcs after more arcs are taken in.
 use Rattle.std.proofs.Common.{◌≡◌, ◌⊎◌, ◌↔◌, ℕ, ◌<◌, ◌≤◌, Bool, true, false, cond, ◌&&◌, ◌||◌, ◌==◌, List, length, get_or, set, refl, sym, ◌∙◌, ap, subst, inl, inr, arith}
 use Rattle.std.proofs.lemmas.Bool.{cases_Bool, cases_eq, cases_lt, eq-eqb, ne_eqb, eqb-true, and_parts, or_left, or_right}
+use Rattle.std.proofs.Math.Bool.{or-false, or_comm, and_comm}
 use Rattle.std.proofs.lemmas.List.{get_or_read, get_or_past, length-set}
 use Rattle.std.specs.List.{refill}
 use Rattle.std.specs.FinSet as set
@@ -13,22 +14,6 @@ use Rattle.md_graph.proofs.SetLemmas.{clash}
 use Rattle.md_forcing.specs.declared.arc.Arc.{Arc}
 use Rattle.md_forcing.specs.Forcing.{arc}
 use Rattle.md_forcing.specs.Seen.{IsSeen, AreTurned}
-
-or_none : (b : Bool) → (b || false) ≡ b
-or_none true = refl
-or_none false = refl
-
-or_turned : (a b : Bool) → (a || b) ≡ (b || a)
-or_turned true true = refl
-or_turned true false = refl
-or_turned false true = refl
-or_turned false false = refl
-
-and_turned : (a b : Bool) → (a && b) ≡ (b && a)
-and_turned true true = refl
-and_turned true false = refl
-and_turned false true = refl
-and_turned false false = refl
 
 pub of_or : (a b : Bool) → (a || b) ≡ true → (a ≡ true) ⊎ (b ≡ true)
 of_or true b h = inl refl
@@ -46,7 +31,7 @@ joined_row rows k new old t below read gives u v =
       | inl same ↦
           rw (eq-eqb u k same)
           (gives v ∙ ap (λ s. set.contains s v || t v) (get_or_read rows k old below read set.empty ∙ ap (row_of rows) (sym same)))
-      | inr other ↦ rw (ne_eqb u k other) (sym (or_none (set.contains (row_of rows u) v)))
+      | inr other ↦ rw (ne_eqb u k other) (sym (or-false (set.contains (row_of rows u) v)))
     ]
 
 -- each row of some names takes one name in
@@ -54,8 +39,8 @@ each_row : (rows ws : List NameSet) (names : NameSet) (v : ℕ) → ((u : ℕ) �
 each_row rows ws names v each u w =
     ap (λ s. set.contains s w) (each u)
     ∙ elim (cases_Bool (set.contains names u)) [
-      | inl t ↦ rw t (contains-insert (row_of rows u) v w ∙ or_turned (w == v) (set.contains (row_of rows u) w))
-      | inr f ↦ rw f (sym (or_none (set.contains (row_of rows u) w)))
+      | inl t ↦ rw t (contains-insert (row_of rows u) v w ∙ or_comm (w == v) (set.contains (row_of rows u) w))
+      | inr f ↦ rw f (sym (or-false (set.contains (row_of rows u) w)))
     ]
 
 turned_added : (t : ℕ → ℕ → Bool) (a b a_new b_new : List NameSet) → AreTurned a b → length a_new ≡ length a → length b_new ≡ length b → Adds a t a_new → Adds b (λ v u. t u v) b_new → AreTurned a_new b_new
@@ -84,11 +69,11 @@ put_test u v x y = (x == u) && (y == v)
 
 put_tail : (rows : List NameSet) (u v : ℕ) (new old : NameSet) → u < length rows → new ≡ set.insert old v → old ≡ get_or rows u old → Adds rows (put_test u v) (set rows u new)
 put_tail rows u v new old below is read =
-    joined_row rows u new old (λ y. y == v) below read (λ q. ap (λ s. set.contains s q) is ∙ contains-insert old v q ∙ or_turned (q == v) (set.contains old q))
+    joined_row rows u new old (λ y. y == v) below read (λ q. ap (λ s. set.contains s q) is ∙ contains-insert old v q ∙ or_comm (q == v) (set.contains old q))
 
 put_head : (rows : List NameSet) (u v : ℕ) (new old : NameSet) → v < length rows → new ≡ set.insert old u → old ≡ get_or rows v old → Adds rows (λ y x. put_test u v x y) (set rows v new)
 put_head rows u v new old below is read y x =
-    put_tail rows v u new old below is read y x ∙ ap (λ b. set.contains (row_of rows y) x || b) (and_turned (y == v) (x == u))
+    put_tail rows v u new old below is read y x ∙ ap (λ b. set.contains (row_of rows y) x || b) (and_comm (y == v) (x == u))
 
 put_same : (u v : ℕ) (x : Arc) → (put_test u v x.tail x.head ≡ true) ↔ (x ≡ arc u v)
 put_same u v x = (
@@ -121,7 +106,7 @@ turned_row n rows old ws names k len same kept each =
     let same_len = ap length same in
     let whole = refilled n rows ws (omega arith) in (
       ap length whole ∙ kept ∙ same_len,
-      λ v u. ap (λ r. set.contains (row_of r v) u) whole ∙ each_row old ws names k each v u ∙ ap (λ r. set.contains (row_of r v) u || (set.contains names v && (u == k))) same ∙ ap (λ b. set.contains (row_of rows v) u || b) (and_turned (set.contains names v) (u == k)),
+      λ v u. ap (λ r. set.contains (row_of r v) u) whole ∙ each_row old ws names k each v u ∙ ap (λ r. set.contains (row_of r v) u || (set.contains names v && (u == k))) same ∙ ap (λ b. set.contains (row_of rows v) u || b) (and_comm (set.contains names v) (u == k)),
     )
 
 row_same : (k : ℕ) (names : NameSet) (u v : ℕ) → (row_test k names u v ≡ true) ↔ ((u ≡ k) × Has names v)

@@ -141,26 +141,8 @@ pub fn chain_of(alloc: Global, class: &Class) -> Result<Option<Chain>, Memory>
 mod tests {
     use super::*;
     use crate::close;
-    use md_graph::NAMES;
     use std::process::Abort;
     use std::test::Fail;
-
-    // The graph on the names below `n` with these edges.
-    fn made(rt: &impl Abort, alloc: Global, n: u32, edges: &[(u32, u32)]) -> Result<Graph, Memory> {
-        let mut graph = Graph::new(alloc)?;
-        for v in 0..n {
-            assert!(rt; v < NAMES && !graph.has_vertex(v));
-            graph.add_vertex(v);
-        }
-        for (u, v) in edges {
-            assert!(rt; *u != *v);
-            assert!(rt; graph.has_vertex(*u));
-            assert!(rt; graph.has_vertex(*v));
-            assert!(rt; !graph.has_edge(*u, *v));
-            graph.add_edge(*u, *v);
-        }
-        Ok(graph)
-    }
 
     // Sees how many arcs 0>1 reaches, what the second of them is, and how long the list to 1>0 is:
     // 0 where there is none.
@@ -172,7 +154,7 @@ mod tests {
         second: Arc,
         steps: u64,
     ) -> Result<(), Memory> {
-        let graph = made(rt, alloc, 6, edges)?;
+        let graph = Graph::from_edges(alloc, 6, edges)?.expect(rt, "edges");
         assert!(rt; graph.has_edge(0, 1));
         let first = Arc { tail: 0, head: 1 };
         let class = close(alloc, &graph, first)?;

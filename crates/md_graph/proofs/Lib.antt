@@ -15,4 +15,5 @@ pub mod BlockRows
 pub mod LastPlace
 pub mod Comparing
 pub mod Ranges
+mod ListedLemmas
 pub mod Walks

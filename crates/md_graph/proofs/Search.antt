@@ -41,6 +41,12 @@ decide_both (inl p) (inl q) = inl (p, q)
 decide_both (inl p) (inr n) = inr (λ w. n w.1)
 decide_both (inr n) d = inr (λ w. n w.0)
 
+pub decide_three : {P Q R : Type 0} → Decided P → Decided Q → Decided R → Decided (P × Q × R)
+decide_three (inl p) (inl q) (inl r) = inl (p, q, r)
+decide_three (inl p) (inl q) (inr n) = inr (λ w. n w.2)
+decide_three (inl p) (inr n) d = inr (λ w. n w.1)
+decide_three (inr n) c d = inr (λ w. n w.0)
+
 pub decide_not : {P : Type 0} → Decided P → Decided (P → ⊥)
 decide_not (inl p) = inr (λ n. n p)
 decide_not (inr n) = inl n
@@ -242,12 +248,6 @@ module _ (P : NameSet → Type 0) where
         | inr none ↦
             (a, Within-refl a, w, p, λ t u v q. elim (larger_or_same a t u) [ inl f ↦ absurd (none (t, v, (u, q, f))) | inr e ↦ sym e ])
       ]
-    where
-      decide_three : {X Y Z : Type 0} → Decided X → Decided Y → Decided Z → Decided (X × Y × Z)
-      decide_three (inl x) (inl y) (inl z) = inl (x, y, z)
-      decide_three (inr n) y z = inr (λ w. n w.0)
-      decide_three (inl x) (inr n) z = inr (λ w. n w.1)
-      decide_three (inl x) (inl y) (inr n) = inr (λ w. n w.2)
 
   -- a largest set with P that holds a, inside s
   pub largest : (s a : NameSet) → Within a s → P a → ((b : NameSet) → Within b s → Decided (P b)) → Largest a s

@@ -4,6 +4,7 @@
 
 mod graph;
 pub mod laws;
+mod listed;
 mod members;
 mod names;
 mod transposition;

@@ -12,7 +12,7 @@ use Rattle.md_graph6.specs.declared.fault.G6Fault.{G6Fault}
 use Rattle.md_graph6.specs.Line.{SpellsLine, line_fault, graph_of_line}
 use Rattle.md_graph6.specs.File.{without_header, file_lines, SpellEach, Spells, fault_after, first_fault, graphs_of_lines, graphs_of}
 use Rattle.md_graph6.specs.Written.{renumbered, IsTextOf}
-use Rattle.md_graph6.specs.Laws.{SpelledOrFaulty, SpelledHasNoFault, GraphsAreGraphs, AllSpell, EndedLinesSpell, EndedLineSpells, TextSpells}
+use Rattle.md_graph6.specs.Laws.{SpellsItsGraphsOrNothing, SpelledAreItsGraphs, GraphsAreGraphs, AllSpell, EndedLinesSpell, EndedLineSpells, TextSpells}
 use Rattle.md_graph6.proofs.SizeLemmas.{is_group-range}
 use Rattle.md_graph6.proofs.SpellLemmas.{spells-some, spells-sound, spells-graph, spells-groups, sound-spells}
 use Rattle.md_graph6.proofs.ReadLemmas.{fault_or-none}
@@ -44,10 +44,10 @@ by_fault : (fault : Option G6Fault) (P Q : Type 0) → (fault ≡ None → P) �
 by_fault None P Q sound faulty = sound refl
 by_fault (Some f) P Q sound faulty = faulty f refl
 
-pub spelled_has_no_fault : SpelledHasNoFault
+pub spelled_has_no_fault : SpelledAreItsGraphs
 spelled_has_no_fault = λ bytes graphs spells. each_sound (file_lines bytes) graphs 0 spells
 
-pub spelled_or_faulty : SpelledOrFaulty
+pub spelled_or_faulty : SpellsItsGraphsOrNothing
 spelled_or_faulty = λ bytes. by_fault (first_fault bytes) (SpellsOnly Spells bytes (graphs_of bytes)) (SpellsNone Spells bytes)
     (λ sound. record {
       spells = sound_each (file_lines bytes) 0 sound;

@@ -9,13 +9,13 @@ use Rattle.md_graph6.specs.Written.{IsTextOf, renumbered}
 use Rattle.md_graph6.specs.File.{Spells, first_fault, graphs_of}
 
 -- a file either has no fault and spells one list of graphs, or has a first fault and spells none
-abbrev pub SpelledOrFaulty : Type 0
-SpelledOrFaulty = (bytes : List ℕ)
+abbrev pub SpellsItsGraphsOrNothing : Type 0
+SpellsItsGraphsOrNothing = (bytes : List ℕ)
     → MatchOption (first_fault bytes) (SpellsOnly Spells bytes (graphs_of bytes)) (λ _. SpellsNone Spells bytes)
 
 -- a file that spells some graphs has no fault, and they are its graphs
-abbrev pub SpelledHasNoFault : Type 0
-SpelledHasNoFault = (bytes : List ℕ) (graphs : List PlainGraph) → Spells bytes graphs
+abbrev pub SpelledAreItsGraphs : Type 0
+SpelledAreItsGraphs = (bytes : List ℕ) (graphs : List PlainGraph) → Spells bytes graphs
     → (first_fault bytes ≡ None) × (graphs_of bytes ≡ graphs)
 
 -- what a file without fault spells are graphs

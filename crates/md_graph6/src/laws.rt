@@ -1,11 +1,11 @@
 //! What holds of graph6 files. Each function has an empty body, and its contract is the law: the
 //! statement stands in `specs/Laws.antt`.
-ghost use Rattle.md_graph6.specs.Laws.{SpelledOrFaulty, SpelledHasNoFault, GraphsAreGraphs, EndedLinesSpell, EndedLineSpells, TextSpells};
+ghost use Rattle.md_graph6.specs.Laws.{SpellsItsGraphsOrNothing, SpelledAreItsGraphs, GraphsAreGraphs, EndedLinesSpell, EndedLineSpells, TextSpells};
 
 /// A file has either a first fault or one list of graphs that it spells.
 pub fn files_are_spelled_or_faulty()
-    ensures either { SpelledOrFaulty }
-    ensures spelled { SpelledHasNoFault }
+    ensures either { SpellsItsGraphsOrNothing }
+    ensures spelled { SpelledAreItsGraphs }
     ensures graphs { GraphsAreGraphs }
 {}
 

@@ -206,19 +206,7 @@ mod tests {
 
     // The graph with the vertices 0 to 4 and these edges.
     fn made(rt: &impl Abort, alloc: Global, edges: &[(u32, u32)]) -> Result<Graph, Memory> {
-        let mut g = Graph::new(alloc)?;
-        for v in 0..5 {
-            assert!(rt; !g.has_vertex(v));
-            g.add_vertex(v);
-        }
-        for (u, v) in edges {
-            assert!(rt; *u != *v);
-            assert!(rt; g.has_vertex(*u));
-            assert!(rt; g.has_vertex(*v));
-            assert!(rt; !g.has_edge(*u, *v));
-            g.add_edge(*u, *v);
-        }
-        Ok(g)
+        Ok(Graph::from_edges(alloc, 5, edges)?.expect(rt, "edges"))
     }
 
     // Sees that the path with `x` is this one, or that there is none.

@@ -9,27 +9,6 @@ use std::alloc::Global;
 use std::process::Abort;
 use std::test::Fail;
 
-// The graph with the vertices below `count` and these edges.
-fn made(rt: &impl Abort, alloc: Global, count: u32, edges: &[(u32, u32)]) -> Result<Graph, Memory> {
-    let mut g = Graph::new(alloc)?;
-    for v in 0..count {
-        assert!(rt; v < NAMES && !g.has_vertex(v));
-        g.add_vertex(v);
-    }
-    for (u, v) in edges {
-        join(rt, &mut g, *u, *v);
-    }
-    Ok(g)
-}
-
-fn join(rt: &impl Abort, g: &mut Graph, u: u32, v: u32) {
-    assert!(rt; u != v);
-    assert!(rt; g.has_vertex(u));
-    assert!(rt; g.has_vertex(v));
-    assert!(rt; !g.has_edge(u, v));
-    g.add_edge(u, v);
-}
-
 fn set(rt: &impl Abort, list: &[u32]) -> Names {
     let mut names = Names::none();
     for v in list {
@@ -111,7 +90,7 @@ const EDGES: [(u32, u32); 4] = [(0, 1), (1, 2), (2, 3), (1, 4)];
 
 #[test]
 fn modules(rt: HostRuntime) -> Result<(), Fail> {
-    let g = made(&rt, rt.alloc(), 5, &EDGES)?;
+    let g = Graph::from_edges(rt.alloc(), 5, &EDGES)?.expect(&rt, "edges");
     closed(&rt, &g, 0, 4, &[0, 4]);
     closed(&rt, &g, 1, 2, &[0, 1, 2, 3, 4]);
     closed(&rt, &g, 3, 3, &[3]);
@@ -148,7 +127,8 @@ fn connectedness(rt: HostRuntime) -> Result<(), Fail> {
         (4, &[(0, 2), (1, 2), (0, 3), (1, 3)], true, false),
     ];
     for (count, edges, whole, co_whole) in table {
-        let g = made(&rt, rt.alloc(), count, edges)?;
+        assert!(rt; count <= NAMES);
+        let g = Graph::from_edges(rt.alloc(), count, edges)?.expect(&rt, "edges");
         assert_eq!(rt; connected(&g), whole, "{count} vertices");
         assert_eq!(rt; co_connected(&g), co_whole, "{count} vertices");
     }

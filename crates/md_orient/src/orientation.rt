@@ -64,23 +64,6 @@ mod tests {
     use std::process::Abort;
     use std::test::Fail;
 
-    // The graph on the names below `n` with these edges.
-    fn made(rt: &impl Abort, alloc: Global, n: u32, edges: &[(u32, u32)]) -> Result<Graph, Memory> {
-        let mut graph = Graph::new(alloc)?;
-        for v in 0..n {
-            assert!(rt; v < NAMES && !graph.has_vertex(v));
-            graph.add_vertex(v);
-        }
-        for (u, v) in edges {
-            assert!(rt; *u != *v);
-            assert!(rt; graph.has_vertex(*u));
-            assert!(rt; graph.has_vertex(*v));
-            assert!(rt; !graph.has_edge(*u, *v));
-            graph.add_edge(*u, *v);
-        }
-        Ok(graph)
-    }
-
     // Sees that these are the arcs of the orientation, in this order, or those of the chain.
     fn expect(
         rt: &impl Abort,
@@ -90,7 +73,8 @@ mod tests {
         forced: bool,
         arcs: &[(u32, u32)],
     ) -> Result<(), Memory> {
-        let graph = made(rt, alloc, n, edges)?;
+        assert!(rt; n <= NAMES);
+        let graph = Graph::from_edges(alloc, n, edges)?.expect(rt, "edges");
         match orient(alloc, &graph)? {
             Verdict::Transitive(list) => {
                 assert!(rt; !forced && list.len() == arcs.len() as u64);

@@ -1,12 +1,12 @@
 -- Whether an arc reaches another is decided.
 use Rattle.std.proofs.Common.{◌≡◌, ◌⊎◌, ℕ, zero, suc, ◌<◌, Bool, true, false, List, [], ◌∷◌, ◌++◌, sym, ap, subst, inl, inr, arith}
-use Rattle.std.proofs.lemmas.Bool.{cases_lt}
 use Rattle.md_graph.proofs.SetLemmas.{same_name}
-use Rattle.md_graph.proofs.Search.{Decided, decide_test, decide_both, decide_not, decide_like}
+use Rattle.md_graph.proofs.Search.{Decided, decide_test, decide_both, decide_three, decide_not, decide_like}
 use Rattle.md_forcing.specs.declared.arc.Arc.{Arc}
 use Rattle.md_forcing.specs.Lists.{Holds}
 use Rattle.md_forcing.specs.Forcing.{arc, IsArc, ForcesDirectly, Leads, Reaches}
 use Rattle.md_forcing.proofs.ListLemmas.{holds_left, holds_right}
+use Rattle.md_forcing.proofs.NameLists.{less_or_last}
 use Rattle.md_forcing.proofs.Reaching.{reaches_itself, reaches_step, reaches_on}
 use Rattle.md_orientation.specs.Laws.{IsBelow}
 
@@ -17,12 +17,6 @@ decide_either (inr n) (inr m) = inr (λ h. elim h [ inl p ↦ n p | inr q ↦ m 
 
 pub decide_name : (u v : ℕ) → Decided (u ≡ v)
 decide_name u v = same_name u v
-
-decide_three : {P Q R : Type 0} → Decided P → Decided Q → Decided R → Decided (P × Q × R)
-decide_three (inl p) (inl q) (inl r) = inl (p, q, r)
-decide_three (inl p) (inl q) (inr n) = inr (λ w. n w.2)
-decide_three (inl p) (inr n) d = inr (λ w. n w.1)
-decide_three (inr n) c d = inr (λ w. n w.0)
 
 pub decide_arc : (a b : Arc) → Decided (a ≡ b)
 decide_arc a b =
@@ -93,9 +87,6 @@ row_of_arcs u (suc m) = arc u m ∷ row_of_arcs u m
 all_arcs : ℕ → ℕ → List Arc
 all_arcs zero m = []
 all_arcs (suc k) m = row_of_arcs k m ++ all_arcs k m
-
-less_or_last : (v m : ℕ) → v < suc m → (v < m) ⊎ (v ≡ m)
-less_or_last v m h = elim (cases_lt v m) [ inl l ↦ inl l | inr n ↦ inr (omega arith) ]
 
 in_row : (u m v : ℕ) → v < m → Holds (row_of_arcs u m) (arc u v)
 unfolding row_of_arcs

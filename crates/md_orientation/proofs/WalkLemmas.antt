@@ -114,8 +114,9 @@ module _ (e : ℕ → ℕ → Bool) (is : IsAdjacency e) (u : ℕ) (seen chosen 
       module _ (closed : IsClosed e mid) (new_seen new_chosen : List NameSet)
           (seen_more : (a : Arc) → IsSeen new_seen a ↔ (IsSeen mid a ⊎ Holds (keys_of class) (reverse a)))
           (chosen_more : (a : Arc) → IsSeen new_chosen a ↔ (IsSeen chosen a ⊎ Holds (keys_of class) a)) where
-        in_old : (a : Arc) → IsSeen seen a → IsSeen new_seen a
-        in_old a h = (seen_more a).1 (inl ((takes a).1 (inl h)))
+        -- what was seen stays seen
+        pub still_seen : (a : Arc) → IsSeen seen a → IsSeen new_seen a
+        still_seen a h = (seen_more a).1 (inl ((takes a).1 (inl h)))
 
         in_class : (a : Arc) → Holds (keys_of class) a → IsSeen new_seen a
         in_class a h = (seen_more a).1 (inl ((takes a).1 (inr h)))
@@ -151,7 +152,7 @@ module _ (e : ℕ → ℕ → Bool) (is : IsAdjacency e) (u : ℕ) (seen chosen 
         new_turned : (a : Arc) → IsSeen new_seen a → IsSeen new_seen (reverse a)
         new_turned a h =
             elim (of_new a h) [
-              | inl old ↦ in_old (reverse a) (walked.turned a old)
+              | inl old ↦ still_seen (reverse a) (walked.turned a old)
               | inr more ↦ elim more [
                 | inl k ↦ in_turned (reverse a) k
                 | inr k ↦ in_class (reverse a) k
@@ -171,7 +172,7 @@ module _ (e : ℕ → ℕ → Bool) (is : IsAdjacency e) (u : ℕ) (seen chosen 
         new_kept : (a : Arc) → IsSeen new_chosen a ↔ (IsSeen new_seen a × IsChosen e a)
         new_kept a = (
           λ h. elim ((chosen_more a).0 h) [
-            | inl old ↦ let k = (walked.kept a).0 old in (in_old a k.0, k.1)
+            | inl old ↦ let k = (walked.kept a).0 old in (still_seen a k.0, k.1)
             | inr k ↦ (in_class a k, key_chosen a (key_reached a k))
           ],
           λ h. elim (of_new a h.0) [
@@ -189,13 +190,9 @@ module _ (e : ℕ → ℕ → Bool) (is : IsAdjacency e) (u : ℕ) (seen chosen 
           closed = new_closed;
           turned = new_turned;
           free = new_free;
-          done = λ x y up there_too less. in_old (arc x y) (walked.done x y up there_too less);
+          done = λ x y up there_too less. still_seen (arc x y) (walked.done x y up there_too less);
           kept = new_kept;
         }
-
-        -- what was seen stays seen
-        pub still_seen : (a : Arc) → IsSeen seen a → IsSeen new_seen a
-        still_seen = in_old
 
         pub first_seen : IsSeen new_seen (arc u v)
         first_seen = in_class (arc u v) ((its.reached (arc u v)).1 (reaches_itself e (arc u v) there))

@@ -112,23 +112,6 @@ mod tests {
     use std::process::Abort;
     use std::test::Fail;
 
-    // The graph on the names below `n` with these edges.
-    fn made(rt: &impl Abort, alloc: Global, n: u32, edges: &[(u32, u32)]) -> Result<Graph, Memory> {
-        let mut graph = Graph::new(alloc)?;
-        for v in 0..n {
-            assert!(rt; v < NAMES && !graph.has_vertex(v));
-            graph.add_vertex(v);
-        }
-        for (u, v) in edges {
-            assert!(rt; *u != *v);
-            assert!(rt; graph.has_vertex(*u));
-            assert!(rt; graph.has_vertex(*v));
-            assert!(rt; !graph.has_edge(*u, *v));
-            graph.add_edge(*u, *v);
-        }
-        Ok(graph)
-    }
-
     // Sees whether the walk stops, how many arcs its class has, or how many it chooses, and that
     // these are the listed ones.
     fn expect(
@@ -140,7 +123,8 @@ mod tests {
         stopped: u64,
         arcs: &[(u32, u32)],
     ) -> Result<(), Memory> {
-        let graph = made(rt, alloc, n, edges)?;
+        assert!(rt; n <= NAMES);
+        let graph = Graph::from_edges(alloc, n, edges)?.expect(rt, "edges");
         match walk(alloc, &graph, side)? {
             Ending::Stopped(class) => assert_eq!(rt; class.len(), stopped),
             Ending::Whole(chosen) => {

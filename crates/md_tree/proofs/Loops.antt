@@ -1,4 +1,5 @@
 -- Loops over the children of a node that change a graph: what the trees from a position on have still to add.
+use Rattle.std.proofs.Math.Bool.{or-false}
 use Rattle.std.proofs.Common.{◌≡◌, ℕ, zero, suc, ◌+◌, ◌<◌, ◌≤◌, Bool, true, false, ◌||◌, List, [], ◌∷◌, length, get_or, drop, map, refl, sym, ◌∙◌, ap, subst, inl, inr, arith}
 use Rattle.std.proofs.lemmas.List.{at_drop_more}
 use Rattle.std.proofs.Math.ListN.{drop_of_length-le}
@@ -39,10 +40,6 @@ pub or_moved : (a b g f r w : Bool) → b ≡ (a || g) → (a || f) ≡ w → f 
 or_moved true b g f r w p q e = ap (λ z. z || r) p ∙ q
 or_moved false b g f r w p q e = ap (λ z. z || r) p ∙ sym e ∙ q
 
-pub or_none : (a : Bool) → (a || false) ≡ a
-or_none true = refl
-or_none false = refl
-
 module _ (F : PlainTrees → ℕ → ℕ → Bool) (P : PlainTrees → Type 0) where
   module _ (start g : PlainGraph) (xs : List Tree) (i : ℕ) (loop : EdgeLoop F P start g xs i) where
     module _ (ys : List Tree) (same : ys ≡ xs) (r : Tree) (is : r ≡ get_or ys i r) (less : i < length ys) where
@@ -72,7 +69,7 @@ module _ (F : PlainTrees → ℕ → ℕ → Bool) (P : PlainTrees → Type 0) w
 
     pub loop_end : ((x y : ℕ) → F no_tree x y ≡ false) → (ys : List Tree) → ys ≡ xs → length ys ≤ i → (x y : ℕ) → adjacent g x y ≡ (adjacent start x y || F (row (map plain xs)) x y)
     loop_end none ys same past x y =
-        sym (or_none (adjacent g x y)) ∙ sym (ap (λ f. adjacent g x y || f) (ap (λ ts. F ts x y) (rest_end xs i (subst (λ l. length l ≤ i) same past)) ∙ none x y)) ∙ loop.edges x y
+        sym (or-false (adjacent g x y)) ∙ sym (ap (λ f. adjacent g x y || f) (ap (λ ts. F ts x y) (rest_end xs i (subst (λ l. length l ≤ i) same past)) ∙ none x y)) ∙ loop.edges x y
 
 -- a loop that adds the names of the trees
 pub record NameLoop (start g : PlainGraph) (xs : List Tree) (i : ℕ) : Type 0 where

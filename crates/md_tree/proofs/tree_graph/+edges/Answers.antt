@@ -1,3 +1,4 @@
+use Rattle.std.proofs.Math.Bool.{or-false}
 use Rattle.std.proofs.Common.{rules, ◌||◌, refl, sym, ◌∙◌, ap, subst}
 use Rattle.md_graph.specs.PlainGraph.{adjacent}
 use Rattle.md_graph.specs.Sets.{Has, Within}
@@ -6,7 +7,7 @@ use Rattle.md_tree.specs.WellFormed.{IsCanonicalNode}
 use Rattle.md_tree.specs.TreeEdges.{has_edge_in, has_edge_below}
 use Rattle.md_tree.specs.declared.Tree.{the_lemmas}
 use Rattle.md_tree.proofs.Plain.{plain_is_leaf, plain_is_node, names_node}
-use Rattle.md_tree.proofs.Loops.{loop_child, loop_others, loop_step, loop_end, or_chain, or_none}
+use Rattle.md_tree.proofs.Loops.{loop_child, loop_others, loop_step, loop_end, or_chain}
 use Rattle.md_tree.proofs.tree_graph.+edges.Goals as goal
 
 pub add_tree_edges-add_edges_below-requires : goal.add_tree_edges-add_edges_below-requires
@@ -57,5 +58,5 @@ add_edges_below-returns-clause-edges t c =
 
 pub add_tree_edges-returns-in-Leaf-clause-edges : goal.add_tree_edges-returns-in-Leaf-clause-edges
 add_tree_edges-returns-in-Leaf-clause-edges t c x y =
-    sym (or_none (adjacent c.args.graph.now x y))
+    sym (or-false (adjacent c.args.graph.now x y))
     ∙ sym (ap (λ w. adjacent c.args.graph.now x y || has_edge_in w x y) (plain_is_leaf c.args.tree.now c.in-Leaf.field-0 c.in-Leaf.is))

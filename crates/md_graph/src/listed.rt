@@ -1,0 +1,86 @@
+//! Graphs from lists of edges.
+ghost use Rattle.std.specs.Prelude.{◌≡◌, ◌≤◌, false, IfOk, IfSome, IfNone, IsTrue};
+ghost use Rattle.md_graph.specs.Sets.{Has};
+ghost use Rattle.md_graph.specs.PlainGraph.{empty_graph, with_edge};
+ghost use Rattle.md_graph.specs.Listed.{AreEnds, AreEdgesBelow, graph_of_list};
+
+use crate::{Graph, Memory, NAMES};
+use std::alloc::Global;
+
+impl Graph {
+    /// The graph with the vertices below `count` and these edges. An edge is given by its two ends
+    /// in either order, and may stand twice. None exactly where the ends of a pair are equal or one
+    /// of them isn't below `count`. Condition: `count` is at most `NAMES`. Error: want of memory.
+    pub fn from_edges(
+        alloc: Global,
+        count: u32,
+        edges: &[(u32, u32)],
+    ) -> Result<Option<Graph>, Memory>
+        requires { count ≤ NAMES }
+        ensures made { IfOk result (λ found. IfSome found (λ g. g ≡ graph_of_list count edges.now)) }
+        ensures sound { IfOk result (λ found. IfSome found (λ _. AreEdgesBelow count edges.now)) }
+        ensures none { IfOk result (λ found. IfNone found (AreEdgesBelow count edges.now → ⊥)) }
+    {
+        let mut graph = Graph::new(alloc)?;
+        graph.add_range(0, count);
+        for pair in edges {
+            if !join(&mut graph, pair.0, pair.1) {
+                return Ok(None);
+            }
+        }
+        Ok(Some(graph))
+    }
+}
+
+// Takes in the edge between `u` and `v`, which may be there, if they are different vertices. Says
+// whether they are.
+fn join(graph: &mut Graph, u: u32, v: u32) -> bool
+    ensures ends { IsTrue result → AreEnds graph.old.vertices (u, v) }
+    ensures joined { IsTrue result → graph.new ≡ with_edge graph.old u v }
+    ensures refused { result ≡ false → AreEnds graph.old.vertices (u, v) → ⊥ }
+{
+    if u == v || !graph.has_vertex(u) || !graph.has_vertex(v) {
+        return false;
+    }
+    if !graph.has_edge(u, v) {
+        graph.add_edge(u, v);
+    }
+    true
+}
+
+#[cfg(test)]
+mod tests {
+    use super::*;
+    use std::process::Abort;
+    use std::test::Fail;
+
+    // Sees how many edges the graph on four vertices has that the list makes, or that it makes none.
+    fn counts(
+        rt: &impl Abort,
+        alloc: Global,
+        edges: &[(u32, u32)],
+        count: Option<u32>,
+    ) -> Result<(), Memory> {
+        let made = Graph::from_edges(alloc, 4, edges)?;
+        let found = made.as_ref().map(|graph| graph.edge_count());
+        assert_eq!(rt; found, count);
+        if let Some(graph) = made {
+            assert_eq!(rt; graph.count(), 4);
+            for (u, v) in edges {
+                assert!(rt; graph.has_edge(*u, *v), "edge {u} {v}");
+            }
+        }
+        Ok(())
+    }
+
+    #[test]
+    fn lists_make_graphs(rt: HostRuntime) -> Result<(), Fail> {
+        let a = rt.alloc();
+        counts(&rt, a, &[], Some(0))?;
+        counts(&rt, a, &[(0, 1), (3, 1), (1, 0)], Some(2))?;
+        counts(&rt, a, &[(0, 1), (2, 2)], None)?;
+        counts(&rt, a, &[(0, 4), (0, 1)], None)?;
+        counts(&rt, a, &[(4, 0)], None)?;
+        Ok(())
+    }
+}
