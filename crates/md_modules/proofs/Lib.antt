@@ -7,6 +7,8 @@ pub mod Quotients
 pub mod Complement
 pub mod Growth
 pub mod PathSearch
+pub mod BothPaths
+pub mod DecidedPaths
 pub mod Turns
 pub mod ClassLists
 pub mod ClassLemmas

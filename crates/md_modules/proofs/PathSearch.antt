@@ -42,11 +42,11 @@ turned_one x a b c d (inr (inl p)) = inr (inr (inl p))
 turned_one x a b c d (inr (inr (inl p))) = inr (inl p)
 turned_one x a b c d (inr (inr (inr p))) = inl p
 
-told_apart : (e : ℕ → ℕ → Bool) (a b c : ℕ) → e a c ≡ true → e b c ≡ false → a ≢ b
+pub told_apart : (e : ℕ → ℕ → Bool) (a b c : ℕ) → e a c ≡ true → e b c ≡ false → a ≢ b
 told_apart e a b c p q same = clash p (ap (λ z. e z c) same ∙ q)
 
 module _ {g : PlainGraph} (is_graph : IsGraph g) where
-  ends_differ : (a b c d : ℕ) → HasPathEdges (adjacent g) a b c d → a ≢ d
+  pub ends_differ : (a b c d : ℕ) → HasPathEdges (adjacent g) a b c d → a ≢ d
   ends_differ a b c d is same =
       told_apart (adjacent g) d a c (adjacent_sym g d c ∙ is.edges.2) is.apart.0 (sym same)
 
@@ -115,7 +115,7 @@ module _ {g : PlainGraph} (is_graph : IsGraph g) where
         | inr (inr (inr at_d)) ↦ no_end c b a (turned_edges g a b c x (subst (λ z. HasPathEdges (adjacent g) a b c z) (sym at_d) edges))
       ]
 
-  near_is : (x : ℕ) (row : NameSet) → row ≡ neighbours g x → (z : ℕ) → contains row z ≡ adjacent g x z
+  pub near_is : (x : ℕ) (row : NameSet) → row ≡ neighbours g x → (z : ℕ) → contains row z ≡ adjacent g x z
   near_is x row is z = ap (λ s. contains s z) is ∙ contains-neighbours is_graph x z
 
   vertex : (u v : ℕ) → adjacent g u v ≡ true → Has g.vertices v

@@ -29,3 +29,9 @@ IsOneOf x a b c d = (x ≡ a) ⊎ (x ≡ b) ⊎ (x ≡ c) ⊎ (x ≡ d)
 pub record IsInducedPathWith (e : ℕ → ℕ → Bool) (s : NameSet) (x a b c d : ℕ) : Type 0 where
   pub path : IsInducedPath e s a b c d
   pub holds : IsOneOf x a b c d
+
+-- a, b, c, d are an induced path of s, and both x and y are among them
+pub record IsInducedPathWithBoth (e : ℕ → ℕ → Bool) (s : NameSet) (x y a b c d : ℕ) : Type 0 where
+  pub path : IsInducedPath e s a b c d
+  pub first : IsOneOf x a b c d
+  pub second : IsOneOf y a b c d

@@ -75,6 +75,11 @@ NoInducedPathIfNonePrime =
     (e : ℕ → ℕ → Bool) → IsAdjacency e → (s : NameSet) →
     (¬ (HasInducedPath e s)) ↔ ((m : NameSet) → IsStrong e s m → ¬ (IsPrime e m))
 
+-- whether a set has an induced path on four names is decided
+abbrev pub InducedPathsAreDecided : Type 0
+InducedPathsAreDecided =
+    (e : ℕ → ℕ → Bool) → IsAdjacency e → (s : NameSet) → HasInducedPath e s ⊎ (¬ (HasInducedPath e s))
+
 -- the maximal proper modules of s, and their quotient
 pub record MaximalModules (e : ℕ → ℕ → Bool) (s : NameSet) : Type 0 where
   -- each two names have a least module, and they lie in one maximal proper module exactly where

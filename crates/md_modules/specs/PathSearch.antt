@@ -1,7 +1,8 @@
 -- What the search for an induced path says of its steps.
 -- Source: an induced path with a given vertex, by the components of its neighbours and of the other
 -- vertices.
-use Rattle.std.specs.Prelude.{◌≡◌, ◌<◌, ◌≤◌, ℕ, true, false}
+use Rattle.std.specs.Prelude.{◌≡◌, ◌≢◌, ◌<◌, ◌≤◌, ℕ, Bool, not, true, false}
+use Rattle.md_graph.specs.Sets.{Has}
 use Rattle.md_graph.specs.PlainGraph.{PlainGraph, adjacent}
 use Rattle.md_modules.specs.declared.induced_paths.P4.{P4}
 
@@ -14,3 +15,15 @@ pub record ToldApart (g : PlainGraph) (o m z : ℕ) : Type 0 where
 pub record IsPathOf (p : P4) (a b c d : ℕ) : Type 0 where
   pub kept : a < d → p ≡ record { a = a; b = b; c = c; d = d }
   pub turned : d ≤ a → p ≡ record { a = d; b = c; c = b; d = a }
+
+-- u sees z and v doesn't, and z isn't v
+pub record IsSeenAlone (g : PlainGraph) (u v z : ℕ) : Type 0 where
+  pub sees : adjacent g u z ≡ true
+  pub misses : adjacent g v z ≡ false
+  pub other : z ≢ v
+
+-- z is a vertex, and to both u and v as `joined` doesn't say
+pub record IsSeenAlike (g : PlainGraph) (u v : ℕ) (joined : Bool) (z : ℕ) : Type 0 where
+  pub vertex : Has g.vertices z
+  pub first : adjacent g u z ≡ not joined
+  pub second : adjacent g v z ≡ not joined

@@ -155,7 +155,7 @@ fn path_over(graph: &Graph, x: u32, o: u32, part: &Names, value: bool) -> Option
 }
 
 // The first of `rest` that isn't to `m` as `value` says.
-fn first_across(graph: &Graph, m: u32, rest: &Names, value: bool) -> Option<u32>
+pub(crate) fn first_across(graph: &Graph, m: u32, rest: &Names, value: bool) -> Option<u32>
     requires { m < NAMES }
     ensures found { IfSome result (λ z. Has rest.now z × (adjacent graph.now m z ≡ not value)) }
     ensures none { IfNone result ((z : ℕ) → Has rest.now z
@@ -181,7 +181,7 @@ fn path_through(x: u32, o: u32, m: u32, z: u32, value: bool) -> P4
 }
 
 // The four in this order, or turned round where `d` is the smaller end.
-fn ascending(a: u32, b: u32, c: u32, d: u32) -> P4
+pub(crate) fn ascending(a: u32, b: u32, c: u32, d: u32) -> P4
     ensures { IsPathOf result a b c d }
 {
     if a < d {

@@ -1,7 +1,7 @@
 //! The laws of modules, each the contract of a function that does nothing. They speak of any set of
 //! names with a test of adjacency, so of a graph, of the graph on a part of its names, and of the
 //! complement of each.
-ghost use Rattle.md_modules.specs.Laws.{ChildrenAreByKind, ComplementTurnsKinds, HasOneKind, StrongModulesAreTree, StrongModulesDescend, PrimeHasMaximalModules, PrimeHasInducedPath, NoInducedPathIfNonePrime};
+ghost use Rattle.md_modules.specs.Laws.{ChildrenAreByKind, ComplementTurnsKinds, HasOneKind, StrongModulesAreTree, StrongModulesDescend, PrimeHasMaximalModules, PrimeHasInducedPath, NoInducedPathIfNonePrime, InducedPathsAreDecided};
 
 /// The strong modules of a graph with a vertex are a tree under inclusion, whose root is the set of
 /// all vertices and whose leaves are the single vertices.
@@ -45,6 +45,11 @@ pub fn prime_has_induced_path()
 /// A graph has no induced path on four vertices exactly where none of its strong modules is prime.
 pub fn no_induced_path_if_none_prime()
     ensures { NoInducedPathIfNonePrime }
+{}
+
+/// A graph has an induced path on four vertices, or it has none.
+pub fn induced_paths_are_decided()
+    ensures { InducedPathsAreDecided }
 {}
 
 /// The complement of a graph has the same modules and the same strong modules, with parallel and

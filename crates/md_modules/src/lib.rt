@@ -5,6 +5,7 @@ mod component_search;
 mod induced_paths;
 pub mod laws;
 mod module_search;
+mod paths_with_both;
 mod refinement;
 mod shared;
 #[cfg(test)]
@@ -13,4 +14,5 @@ mod tests;
 pub use component_search::{co_component, co_connected, component, connected, sees};
 pub use induced_paths::{P4, find_p4_with, is_p4};
 pub use module_search::{back, closure, closure_in, grow, is_module};
+pub use paths_with_both::find_p4_with_both;
 pub use refinement::maximal_modules;
