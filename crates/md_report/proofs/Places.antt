@@ -1,5 +1,5 @@
 -- Lines that lead from place to place, and on to the end.
-use Rattle.std.proofs.Common.{◌≡◌, ◌⊎◌, List, [], ◌∷◌, ◌++◌, Option, None, Some, refl, sym, ap, ap₂, subst, inl, inr}
+use Rattle.std.proofs.Common.{◌≡◌, List, [], ◌∷◌, ◌++◌, Option, None, Some, refl, sym, ap, ap₂, subst, inl, inr}
 use Rattle.md_graph.specs.declared.TheConstants.{NAMES}
 use Rattle.md_graph.specs.PlainGraph.{PlainGraph, IsGraph, adjacent}
 use Rattle.md_graph.proofs.GraphLemmas.{adjacent_sym, adjacent_self}
@@ -7,8 +7,6 @@ use Rattle.md_tree.specs.Trees.{PlainTree}
 use Rattle.md_tree.specs.StrongTrees.{IsTree}
 use Rattle.md_tree.proofs.OneTree.{one_tree_proof}
 use Rattle.md_forcing.specs.declared.seen.Side.TheVariants.{Edges}
-use Rattle.md_orientation.specs.Chains.{HasForcingChain}
-use Rattle.md_orientation.specs.Orientations.{HasTransitiveOrientation}
 use Rattle.md_orientation.specs.Laws.{MeetsPremises}
 use Rattle.md_orientation.proofs.Reached.{side_premises}
 use Rattle.md_orientation.proofs.Alternative.{alternative_proof}
