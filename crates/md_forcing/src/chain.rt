@@ -35,6 +35,13 @@ impl Arcs {
         Arcs { list }
     }
 
+    /// The arcs, in their order.
+    pub fn as_slice(&self) -> &[Arc]
+        ensures { result.now ≡ self.now }
+    {
+        self.list.as_slice()
+    }
+
     /// The number of arcs.
     pub fn len(&self) -> u64
         ensures { result ≡ length self.now }
@@ -72,6 +79,13 @@ impl Chain {
         ensures { result ≡ list.items }
     {
         Chain { list }
+    }
+
+    /// The arcs, in their order.
+    pub fn as_slice(&self) -> &[Arc]
+        ensures { result.now ≡ self.now }
+    {
+        self.list.as_slice()
     }
 
     /// The number of arcs.

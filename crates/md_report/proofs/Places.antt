@@ -1,10 +1,16 @@
 -- Lines that lead from place to place, and on to the end.
-use Rattle.std.proofs.Common.{◌≡◌, List, [], ◌∷◌, ◌++◌, Option, None, Some, refl, sym, ap, ap₂, subst}
+use Rattle.std.proofs.Common.{◌≡◌, List, [], ◌∷◌, ◌++◌, Option, None, Some, refl, sym, ap, ap₂, subst, inl, inr}
+use Rattle.md_graph.specs.declared.TheConstants.{NAMES}
 use Rattle.md_graph.specs.PlainGraph.{PlainGraph, IsGraph, adjacent}
 use Rattle.md_graph.proofs.GraphLemmas.{adjacent_sym, adjacent_self}
 use Rattle.md_tree.specs.Trees.{PlainTree}
 use Rattle.md_tree.specs.StrongTrees.{IsTree}
 use Rattle.md_tree.proofs.OneTree.{one_tree_proof}
+use Rattle.md_forcing.specs.declared.seen.Side.TheVariants.{Edges}
+use Rattle.md_orientation.specs.Laws.{MeetsPremises}
+use Rattle.md_orientation.proofs.Reached.{side_premises}
+use Rattle.md_orientation.proofs.Alternative.{alternative_proof}
+use Rattle.md_orientation.proofs.OneList.{one_list_proof}
 use Rattle.std.specs.List.{All}
 use Rattle.std.proofs.lemmas.List.Elements.{All-head, All-tail}
 use Rattle.md_script.specs.declared.edit.Edit as script
@@ -12,10 +18,11 @@ use Rattle.md_script.specs.declared.edit.EditReason.{EditReason}
 use Rattle.md_script.specs.Edit.{HasNames, reason_of, after}
 use Rattle.md_script.proofs.ChangeLemmas.{after_is_graph}
 use Rattle.md_report.specs.declared.line.GraphMode.{GraphMode}
-use Rattle.md_report.specs.declared.line.GraphMode.TheVariants.{Tree}
+use Rattle.md_report.specs.declared.line.GraphMode.TheVariants.{Tree, Compare}
 use Rattle.md_report.specs.declared.line.SessionMode.{SessionMode}
 use Rattle.md_report.specs.declared.line.SessionMode.TheVariants.{Edit}
-use Rattle.md_report.specs.Lines.{PlainLine, mode_of, session_mode_of, head, tree, applied, refused, end}
+use Rattle.md_report.specs.Lines.{PlainLine, mode_of, session_mode_of, head, tree, applied, refused, oriented, forced, end}
+use Rattle.md_report.specs.Orientations.{IsOrientationLine}
 use Rattle.md_report.specs.Sessions.{HasTreeLine, IsLineBy, state_by, IsStepLine, state_after, state_behind, SessionRun}
 use Rattle.md_report.specs.Places.{Place, before_head, at_graphs, before_session, at_state, at_edits, after_end, Reports, ReportsState, MayCome, next_place, Lead}
 use Rattle.md_report.specs.Laws.{AreGraphs, IsSound, LinesLeadIfFirst, ReportEach, IsGraphReport, GraphReportsHaveLines, AnswerEach, IsSessionReport, SessionReportsAreRuns}
@@ -67,8 +74,20 @@ tree_line made g is =
     one_tree_proof (adjacent g) (record { symmetric = adjacent_sym g; irreflexive = adjacent_self is }) g.vertices in
     (made o.0, (o.0, o.1, refl))
 
+-- each graph has a line with its least-edge orientation, or with a forcing chain
+orientation_line : (g : PlainGraph) → IsGraph g → (line : PlainLine) × IsOrientationLine (adjacent g) line
+orientation_line g is =
+    let side : MeetsPremises (adjacent g) = side_premises is Edges in
+    elim ((alternative_proof (adjacent g) side.adjacency NAMES side.below).one) [
+      | inl chain ↦ (forced chain.0, chain.1)
+      | inr has ↦
+          let list = (one_list_proof (adjacent g) side.adjacency NAMES side.below).some in
+          (oriented list.0, (has, list.1))
+    ]
+
 some_line : (mode : GraphMode) (g : PlainGraph) → IsGraph g → (line : PlainLine) × Reports mode g line
 some_line Tree g is = tree_line tree g is
+some_line Compare g is = orientation_line g is
 
 -- each edit has a line
 step_line : (g : PlainGraph) (edit : script.Edit) → IsGraph g → HasNames edit → (line : PlainLine) × IsStepLine g edit line

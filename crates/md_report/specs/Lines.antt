@@ -3,6 +3,7 @@
 use Rattle.std.specs.Prelude.{ℕ, List, ◌∷◌, [], ◌++◌, codes, Option}
 use Rattle.std.specs.List.{flat_map}
 use Rattle.md_text.specs.Numbers.{decimal}
+use Rattle.md_forcing.specs.declared.arc.Arc.{Arc}
 use Rattle.md_tree.specs.Trees.{PlainTree}
 use Rattle.md_tree.specs.Plain.{plain_option}
 use Rattle.md_tree.specs.TreeTexts.{text_of}
@@ -23,6 +24,8 @@ pub data PlainLine : Type 0 where
   tree : Option PlainTree → PlainLine
   applied : Option PlainTree → PlainLine
   refused : EditReason → PlainLine
+  oriented : List Arc → PlainLine
+  forced : List Arc → PlainLine
   end : PlainLine
 
 -- the plain line that a line of the program is
@@ -31,11 +34,14 @@ plain_line (lines.Head mode) = head mode
 plain_line (lines.Tree t) = tree (plain_option t)
 plain_line (lines.Applied t) = applied (plain_option t)
 plain_line (lines.Refused reason) = refused reason
+plain_line (lines.Oriented arcs) = oriented arcs
+plain_line (lines.Forced chain) = forced chain
 plain_line lines.End = end
 
 -- what a report over graphs is about
 abbrev pub mode_of : GraphMode → Mode
 mode_of graph_modes.Tree = modes.Tree
+mode_of graph_modes.Compare = modes.Compare
 
 -- what a report of a session is about
 abbrev pub session_mode_of : SessionMode → Mode
@@ -45,6 +51,7 @@ session_mode_of session_modes.Edit = modes.Edit
 abbrev pub mode_word : Mode → List ℕ
 mode_word modes.Tree = codes "tree"
 mode_word modes.Edit = codes "edit"
+mode_word modes.Compare = codes "compare"
 
 -- the words of a reason
 abbrev pub reason_words : EditReason → List ℕ
@@ -54,12 +61,22 @@ reason_words (NameTaken v) = codes "taken " ++ decimal v
 reason_words EdgeThere = codes "edge-there"
 reason_words EdgeAbsent = codes "edge-absent"
 
+-- the text of an arc: its tail, its mark and its head
+abbrev pub arc_text : Arc → List ℕ
+arc_text a = decimal a.tail ++ codes ">" ++ decimal a.head
+
+-- a space and an arc, for each arc
+abbrev pub arcs_text : List Arc → List ℕ
+arcs_text = flat_map (λ a. codes " " ++ arc_text a)
+
 -- the text of a line, without a line feed
 abbrev pub line_text : PlainLine → List ℕ
 line_text (head mode) = codes "mdt " ++ mode_word mode
 line_text (tree t) = codes "t " ++ text_of t
 line_text (applied t) = codes "ok " ++ text_of t
 line_text (refused reason) = codes "no " ++ reason_words reason
+line_text (oriented arcs) = codes "yes" ++ arcs_text arcs
+line_text (forced chain) = codes "no" ++ arcs_text chain
 line_text end = codes "end"
 
 -- a line with its line feed

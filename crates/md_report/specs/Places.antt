@@ -1,13 +1,14 @@
 -- The places of a report: which line is due, and what is still to be reported.
 -- Source: this project's own format of reports.
 use Rattle.std.specs.Prelude.{◌≡◌, List, [], ◌∷◌}
-use Rattle.md_graph.specs.PlainGraph.{PlainGraph}
+use Rattle.md_graph.specs.PlainGraph.{PlainGraph, adjacent}
 use Rattle.md_script.specs.declared.edit.Edit as script
 use Rattle.md_report.specs.declared.line.GraphMode.{GraphMode}
-use Rattle.md_report.specs.declared.line.GraphMode.TheVariants.{Tree}
+use Rattle.md_report.specs.declared.line.GraphMode.TheVariants.{Tree, Compare}
 use Rattle.md_report.specs.declared.line.SessionMode.{SessionMode}
 use Rattle.md_report.specs.declared.line.SessionMode.TheVariants.{Edit}
 use Rattle.md_report.specs.Lines.{PlainLine, mode_of, session_mode_of, head, tree, end}
+use Rattle.md_report.specs.Orientations.{IsOrientationLine}
 use Rattle.md_report.specs.Sessions.{HasTreeLine, IsStepLine, state_behind}
 
 -- Before the head of a report over graphs, and at the graphs that are still to be reported, one line each; before the head
@@ -20,9 +21,11 @@ pub data Place : Type 0 where
   at_edits : SessionMode → PlainGraph → List script.Edit → Place
   after_end : Place
 
--- the line that reports one graph: in mode tree its tree of strong modules
+-- the line that reports one graph: in mode tree its tree of strong modules, in mode compare its least-edge orientation
+-- or a forcing chain of it
 abbrev pub Reports : GraphMode → PlainGraph → PlainLine → Type 0
 Reports Tree g line = HasTreeLine tree g line
+Reports Compare g line = IsOrientationLine (adjacent g) line
 
 -- the line that reports the first state of a session: in mode edit its tree of strong modules
 abbrev pub ReportsState : SessionMode → PlainGraph → PlainLine → Type 0

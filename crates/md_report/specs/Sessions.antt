@@ -7,7 +7,7 @@ use Rattle.md_tree.specs.StrongTrees.{IsTree}
 use Rattle.md_script.specs.declared.edit.Edit.{Edit}
 use Rattle.md_script.specs.declared.edit.EditReason.{EditReason}
 use Rattle.md_script.specs.Edit.{reason_of, after}
-use Rattle.md_report.specs.Lines.{PlainLine, head, tree, applied, refused, end}
+use Rattle.md_report.specs.Lines.{PlainLine, head, tree, applied, refused, oriented, forced, end}
 
 -- the line is one with the tree of strong modules of g
 abbrev pub HasTreeLine : (Option PlainTree → PlainLine) → PlainGraph → PlainLine → Type 0
@@ -37,6 +37,8 @@ state_behind g edit (applied t) = after g edit
 state_behind g edit (refused reason) = g
 state_behind g edit (head mode) = g
 state_behind g edit (tree t) = g
+state_behind g edit (oriented arcs) = g
+state_behind g edit (forced chain) = g
 state_behind g edit end = g
 
 -- one step of a session: the line of the edit, and the state that it leaves

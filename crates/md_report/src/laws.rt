@@ -2,6 +2,13 @@
 
 ghost use Rattle.md_report.specs.Laws.{LinesLeadIfFirst, GraphReportsHaveLines, SessionReportsAreRuns, FrontsBeginReports};
 
+// What is known of the lines of orientations, for readers of reports.
+pub use md_orientation::laws::{
+    chain_or_orientation, classes_are_transitive, least_edge_is_transitive,
+    one_least_edge_orientation, orders_if_no_chain, orientations_give_orders, sides_meet_premises,
+    triangle_lemma,
+};
+
 /// Lines are the first lines of a whole report exactly where each may come at the place to which
 /// those before it lead.
 pub fn lines_lead_if_first()

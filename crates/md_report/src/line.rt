@@ -1,8 +1,9 @@
 //! The lines of a report.
-ghost use Rattle.std.specs.Prelude.{◌≡◌, ◌++◌, IfOk};
+ghost use Rattle.std.specs.Prelude.{◌≡◌, ◌++◌, IfOk, OnOk, codes};
 ghost use Rattle.md_text.specs.Numbers.{decimal};
-ghost use Rattle.md_report.specs.Lines.{plain_line, mode_word, reason_words, line_text};
+ghost use Rattle.md_report.specs.Lines.{plain_line, mode_word, reason_words, arc_text, arcs_text, line_text};
 
+use md_forcing::{Arc, Arcs, Chain};
 use md_graph::Memory;
 use md_script::EditReason;
 use md_text::push_number;
@@ -16,6 +17,8 @@ pub enum Mode {
     Tree,
     /// The tree of a graph, and of the graph that each edit of a script leaves.
     Edit,
+    /// Transitive orientations of graphs, or forcing chains.
+    Compare,
 }
 
 /// What a report over the graphs of a file says of each of them.
@@ -23,6 +26,8 @@ pub enum Mode {
 pub enum GraphMode {
     /// Its tree of strong modules.
     Tree,
+    /// Its least-edge orientation, or a forcing chain where it has no transitive orientation.
+    Compare,
 }
 
 impl GraphMode {
@@ -35,6 +40,7 @@ impl GraphMode {
     {
         match self {
             GraphMode::Tree => Mode::Tree,
+            GraphMode::Compare => Mode::Compare,
         }
     }
 }
@@ -71,6 +77,10 @@ pub enum Line {
     Applied(Option<Tree>),
     /// The edit was refused, and the graph stays.
     Refused(EditReason),
+    /// The graph has a transitive orientation: these arcs.
+    Oriented(Arcs),
+    /// The graph has no transitive orientation, since this chain forces an arc to its reverse.
+    Forced(Chain),
     /// The last line.
     End,
 }
@@ -97,6 +107,14 @@ pub fn write_line(alloc: Global, line: &Line) -> Result<Vec<u8>, Memory>
             text.extend_from_slice(b"no ")?;
             push_reason(&mut text, *reason)?;
         }
+        Line::Oriented(arcs) => {
+            text.extend_from_slice(b"yes")?;
+            push_arcs(&mut text, arcs.as_slice())?;
+        }
+        Line::Forced(chain) => {
+            text.extend_from_slice(b"no")?;
+            push_arcs(&mut text, chain.as_slice())?;
+        }
         Line::End => text.extend_from_slice(b"end")?,
     }
     Ok(text)
@@ -108,6 +126,7 @@ fn mode_word(mode: Mode) -> &'static str
     match mode {
         Mode::Tree => "tree",
         Mode::Edit => "edit",
+        Mode::Compare => "compare",
     }
 }
 
@@ -129,5 +148,25 @@ fn push_named(text: &mut Vec<u8>, word: &[u8], name: u32) -> Result<(), Memory>
 {
     text.extend_from_slice(word)?;
     push_number(text, u64::from(name))?;
+    Ok(())
+}
+
+// Appends a space and an arc for each arc.
+fn push_arcs(text: &mut Vec<u8>, arcs: &[Arc]) -> Result<(), Memory>
+    ensures { OnOk result (text.new.items ≡ text.old.items ++ arcs_text arcs.now) }
+{
+    for by in arcs {
+        push_arc(text, *by)?;
+    }
+    Ok(())
+}
+
+fn push_arc(text: &mut Vec<u8>, by: Arc) -> Result<(), Memory>
+    ensures { OnOk result (text.new.items ≡ text.old.items ++ (codes " " ++ arc_text by)) }
+{
+    text.push(b' ')?;
+    push_number(text, u64::from(by.tail))?;
+    text.push(b'>')?;
+    push_number(text, u64::from(by.head))?;
     Ok(())
 }

@@ -1,8 +1,10 @@
 //! Reports over graphs: line by line, each with its line feed in one put. The graph file is read
 //! whole before the first put.
-ghost use Rattle.std.specs.Prelude.{◌≡◌, ◌≤◌, List, [], ◌∷◌};
-ghost use Rattle.md_graph.specs.PlainGraph.{PlainGraph};
-ghost use Rattle.md_report.specs.Places.{before_head, at_graphs, after_end};
+ghost use Rattle.std.specs.Prelude.{◌≡◌, ◌≤◌, List, [], ◌∷◌, IfOk};
+ghost use Rattle.md_graph.specs.PlainGraph.{PlainGraph, adjacent};
+ghost use Rattle.md_report.specs.Lines.{plain_line};
+ghost use Rattle.md_report.specs.Orientations.{IsOrientationLine};
+ghost use Rattle.md_report.specs.Places.{before_head, at_graphs, after_end, Reports};
 ghost use Rattle.md_top.specs.declared.request.GraphForm.{GraphForm};
 ghost use Rattle.md_top.specs.declared.request.Request.{Request};
 ghost use Rattle.md_top.specs.Command.{CommandEnds};
@@ -11,9 +13,10 @@ ghost use Rattle.md_top.specs.Sinks.{sink_run, PutsLines};
 use crate::put::put_report_line;
 use crate::stop::{PutStop, Stop, Verdict};
 use md_decompose::decompose;
-use md_graph::Graph;
+use md_graph::{Graph, Memory};
 use md_input::{Format, Graphs};
 use md_io::Sink;
+use md_orient::{Verdict as Orientation, orient};
 use md_report::{GraphMode, Line};
 use std::alloc::Global;
 
@@ -79,10 +82,29 @@ fn put_graph_line<O: Sink>(
         (sink_run O.Sink out.old out.new) }
     ensures faults_never_fall { O.faults out.old ≤ O.faults out.new }
 {
+    let line = graph_line(alloc, mode, graph)?;
+    put_report_line(alloc, line, out)
+}
+
+// The line that reports a graph.
+fn graph_line(alloc: Global, mode: GraphMode, graph: &Graph) -> Result<Line, Memory>
+    ensures { IfOk result (λ line. Reports mode graph.now (plain_line line)) }
+{
     match mode {
         GraphMode::Tree => {
             let tree = decompose(alloc, graph)?;
-            put_report_line(alloc, Line::Tree(tree), out)
+            Ok(Line::Tree(tree))
         }
+        GraphMode::Compare => orientation_line(alloc, graph),
+    }
+}
+
+// The line of the least-edge orientation of a graph, or of a forcing chain of it.
+fn orientation_line(alloc: Global, graph: &Graph) -> Result<Line, Memory>
+    ensures { IfOk result (λ line. IsOrientationLine (adjacent graph.now) (plain_line line)) }
+{
+    match orient(alloc, graph)? {
+        Orientation::Transitive(arcs) => Ok(Line::Oriented(arcs)),
+        Orientation::Forced(chain) => Ok(Line::Forced(chain)),
     }
 }

@@ -65,6 +65,7 @@ fn graph_form(command: &str) -> Option<GraphForm>
         "edges" => Some(GraphForm::Convert(Format::Dimacs)),
         "graph6" => Some(GraphForm::Convert(Format::G6)),
         "tree" => Some(GraphForm::Report(GraphMode::Tree)),
+        "compare" => Some(GraphForm::Report(GraphMode::Compare)),
         _ => None,
     }
 }

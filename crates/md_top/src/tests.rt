@@ -283,6 +283,31 @@ fn trees(rt: HostRuntime) -> Result<(), Fail> {
 }
 
 #[test]
+fn orientations(rt: HostRuntime) -> Result<(), Fail> {
+    let alloc = rt.alloc();
+    let table: [(&str, &[u8], &str); 5] = [
+        (
+            "compare g6 g",
+            b"Dhc\n",
+            "0|mdt compare\nno 0>1 0>4 3>4 3>2 1>2 1>0\nend\n|",
+        ),
+        (
+            "compare g6 g",
+            b"Ch\nBw\n?\n",
+            "0|mdt compare\nyes 0>1 2>1 2>3\nyes 0>1 0>2 1>2\nyes\nend\n|",
+        ),
+        ("compare g6 g", b"", "0|mdt compare\nend\n|"),
+        (
+            "compare dimacs g",
+            b"p edge 3 2\ne 1 2\ne 2 3\n",
+            "0|mdt compare\nyes 1>2 3>2\nend\n|",
+        ),
+        ("compare g6 g s", b"Dhc\n", "2||mdt: usage\n"),
+    ];
+    expect(&rt, alloc, &table)
+}
+
+#[test]
 fn runs_that_fail(rt: HostRuntime) -> Result<(), Fail> {
     let alloc = rt.alloc();
     let shown = run_over(alloc, "edges g6 g", b"DQc\n", b"", 1, 0, 0)?;

@@ -1,0 +1,16 @@
+-- The line that says whether a graph has a transitive orientation.
+-- Source: Golumbic, Algorithmic Graph Theory and Perfect Graphs, chapter 5; the rule of the least edge is this project's.
+use Rattle.std.specs.Prelude.{ℕ, Bool}
+use Rattle.md_orientation.specs.Chains.{IsForcingChain}
+use Rattle.md_orientation.specs.Orientations.{HasTransitiveOrientation, IsLeastEdgeOrientation}
+use Rattle.md_report.specs.Lines.{PlainLine, head, tree, applied, refused, oriented, forced, end}
+
+-- the arcs of the least-edge orientation, in ascending order, where there is a transitive orientation; or a forcing chain
+abbrev pub IsOrientationLine : (ℕ → ℕ → Bool) → PlainLine → Type 0
+IsOrientationLine e (oriented arcs) = HasTransitiveOrientation e × IsLeastEdgeOrientation e arcs
+IsOrientationLine e (forced chain) = IsForcingChain e chain
+IsOrientationLine e (head mode) = ⊥
+IsOrientationLine e (tree t) = ⊥
+IsOrientationLine e (applied t) = ⊥
+IsOrientationLine e (refused reason) = ⊥
+IsOrientationLine e end = ⊥
