@@ -1,7 +1,7 @@
 -- The three searches, over sets: what stays true in each turn, and what holds at the end.
 -- left is what a search hasn't taken, todo what it took and hasn't looked at.
 use Rattle.std.proofs.Common.{◌≡◌, ◌↔◌, ℕ, Bool, not, ◌≢◌, ◌⊎◌, refl, sym, ◌∙◌, ap, subst, inl, inr}
-use Rattle.std.specs.FinSet.{remove, union, difference}
+use Rattle.std.specs.FinSet.{insert, remove, union, difference}
 use Rattle.md_graph.specs.Sets.{NameSet, Has, Lacks, Within, only_name}
 use Rattle.md_modules.specs.Adjacency.{IsAdjacency}
 use Rattle.md_modules.specs.Modules.{IsModule, IsLeastModule, IsLeastModuleOver}
@@ -28,6 +28,12 @@ pub record IsGoingBack (e : ℕ → ℕ → Bool) (s : NameSet) (v : ℕ) (left 
   pub taken : (y : ℕ) → Has todo y → Has s y × Lacks left y
   pub whole : (y : ℕ) → Has s y → Lacks left y → (m : NameSet) → IsModule e s m → Has m v → Has m y → Within s m
   pub looked : (w : ℕ) → Has s w → Lacks left w → Lacks todo w → (y : ℕ) → Has left y → e w y ≡ e w v
+
+-- The same where v is kept out of what is left, and j isn't left.
+pub record IsBackFrom (e : ℕ → ℕ → Bool) (s : NameSet) (v j : ℕ) (left todo : NameSet) : Type 0 where
+  pub going : IsGoingBack e s v (insert left v) todo
+  pub without : Lacks left v
+  pub begun : Lacks left j
 
 module _ {e : ℕ → ℕ → Bool} where
   pub reach_start : (s : NameSet) (v : Bool) (x : ℕ) → Has s x → IsReaching e s v x (difference s (only_name x)) (only_name x)

@@ -13,11 +13,11 @@ use Rattle.md_modules.specs.Components.{IsComponent}
 use Rattle.md_modules.specs.Searches.{IsReaching}
 use Rattle.md_modules.specs.Seen.{seen_as}
 use Rattle.std.proofs.lemmas.Bool.{cases_Bool, true_from_ne_false, false_from_ne_true, not-true, not-false}
-use Rattle.md_graph.proofs.SetLemmas.{clash, empty_lacks, insert_new, insert_old, of_insert, meet_has, of_meet, union_left, union_right, of_union, only_has, of_only, minus_has, of_minus, minus_lacks, same_members, Has-along, remove_is, none_lacks, empty_if, if_empty, lacks_along, along_two, minus_shared, meet_unshared, minus_twice, only_new, told_value, value_told}
+use Rattle.md_graph.proofs.SetLemmas.{clash, empty_lacks, insert_new, insert_old, of_insert, meet_has, of_meet, union_left, union_right, of_union, only_has, of_only, minus_has, of_minus, same_members, Has-along, remove_is, none_lacks, empty_if, if_empty, lacks_along, along_two, remove_insert, remove_left, remove_gone, of_remove, insert_lacks, minus_shared, meet_unshared, minus_twice, only_new, told_value, value_told}
 use Rattle.md_graph.proofs.Search.{alike_unless}
 use Rattle.md_modules.proofs.Modules.{single_module}
 use Rattle.md_modules.proofs.Components.{component_unsplit, unsplit_component}
-use Rattle.md_modules.proofs.Growth.{IsGrowing, IsGoingBack, reach_start, reach_turn, reach_idle, reach_back, reach_end, grow_start, grow_turn, grow_end, back_start, back_turn, back_end, least_of_two}
+use Rattle.md_modules.proofs.Growth.{IsGrowing, IsGoingBack, IsBackFrom, reach_start, reach_turn, reach_idle, reach_back, reach_end, grow_start, grow_turn, grow_end, back_start, back_turn, back_end, least_of_two}
 
 -- ---- adjacency
 
@@ -113,6 +113,19 @@ taken_apart g v w left first second todo todo' is_first is_second is_todo =
 
 -- ---- turns
 
+insert_minus : (s new : NameSet) (v : ℕ) → Lacks new v → insert (difference s new) v ≡ difference (insert s v) new
+insert_minus s new v out = same_members _ _
+    (λ y h. elim (of_insert (difference s new) v y h) [
+      | inl same ↦ subst (Has (difference (insert s v) new)) (sym same) (minus_has (insert s v) new v (insert_new s v) out)
+      | inr old ↦ let two : Has s y × Lacks new y = of_minus s new y old in minus_has (insert s v) new y (insert_old s v y two.0) two.1
+    ])
+    (λ y h.
+    let two : Has (insert s v) y × Lacks new y = of_minus (insert s v) new y h in
+    elim (of_insert s v y two.0) [
+      | inl same ↦ subst (Has (insert (difference s new) v)) (sym same) (insert_new (difference s new) v)
+      | inr old ↦ insert_old (difference s new) v y (minus_has s new y old two.1)
+    ])
+
 not_like : (a b : Bool) → a ≢ b → a ≡ not b
 not_like true true n = absurd (n refl)
 not_like true false n = refl
@@ -183,21 +196,46 @@ module _ {e : ℕ → ℕ → Bool} where
       ((w : ℕ) → Has begun w → Lacks todo w → (y : ℕ) → Has s y → Lacks begun y → e v y ≡ e w y) → left ≡ difference s begun → IsGrowing e s v begun left todo
   grow_begin s begun todo left v hv inside among seen is = subst (λ t. IsGrowing e s v begun t todo) (sym is) (grow_start s begun todo v hv inside among seen)
 
-  pub back_begin : (s left todo : NameSet) (v j : ℕ) → v ≢ j → IsLeastModule e s v j s → left ≡ remove s j → todo ≡ insert empty j → IsGoingBack e s v left todo × Lacks left j
-  back_begin s left todo v j differ whole is_left is_todo = (
-    along_two (IsGoingBack e s v) _ _ left todo (is_left ∙ remove_is s j) is_todo (back_start s v j whole.has_left whole.has_right differ whole.least),
-    lacks_along left _ (is_left ∙ remove_is s j) j (minus_lacks s (only_name j) j (only_has j)),
-  )
+  pub back_begin : (s left todo : NameSet) (v j : ℕ) → v ≢ j → IsLeastModule e s v j s → left ≡ remove (remove s j) v → todo ≡ insert empty j → IsBackFrom e s v j left todo
+  back_begin s left todo v j differ whole is_left is_todo = record {
+    going = along_two (IsGoingBack e s v) _ _ (insert left v) todo
+        (ap (λ t. insert t v) is_left ∙ remove_insert (remove s j) v (remove_left s j v differ whole.has_left) ∙ remove_is s j) is_todo
+        (back_start s v j whole.has_left whole.has_right differ whole.least);
+    without = lacks_along left _ is_left v (remove_gone (remove s j) v);
+    begun = lacks_along left _ is_left j (false_from_ne_true _ (λ h. clash (of_remove (remove s j) v j h).1 (remove_gone s j)));
+  }
 
-  pub back_more : (s left todo new left' todo' : NameSet) (v j w : ℕ) (value : Bool) → IsGoingBack e s v left todo × Lacks left j → Has todo w → value ≡ e w v →
+  pub back_more : (s left todo new left' todo' : NameSet) (v j w : ℕ) (value : Bool) → IsBackFrom e s v j left todo → Has todo w → value ≡ e w v →
       ((y : ℕ) → Has left y → e w y ≡ not value → Has new y) → ((y : ℕ) → Has new y → Has left y × (e w y ≡ not value)) →
-      left' ≡ difference left new → todo' ≡ union (remove todo w) new → IsGoingBack e s v left' todo' × Lacks left' j
-  back_more s left todo new left' todo' v j w value is h same has only is_left is_todo = (
-    along_two (IsGoingBack e s v) _ _ left' todo' is_left is_todo
-        (back_turn s left todo new v w is.0 h
-        (λ y k differ. has y k (not_like (e w y) value (λ p. differ (p ∙ same))))
-        (λ y k. ((only y k).0, λ p. of_not_like (e w y) value (only y k).1 (p ∙ sym same)))),
-    lacks_along left' _ is_left j (false_from_ne_true _ (λ k. clash (of_minus left new j k).0 is.1)),
+      left' ≡ difference left new → todo' ≡ union (remove todo w) new → IsBackFrom e s v j left' todo'
+  back_more s left todo new left' todo' v j w value is h same has only is_left is_todo = record {
+    going = along_two (IsGoingBack e s v) _ _ (insert left' v) todo'
+        (ap (λ t. insert t v) is_left ∙ insert_minus left new v (false_from_ne_true _ (λ k. clash (only v k).0 is.without))) is_todo
+        (back_turn s (insert left v) todo new v w is.going h
+        (λ y k differ. elim (of_insert left v y k) [
+          | inl same_v ↦ absurd (differ (ap (e w) same_v))
+          | inr old ↦ has y old (not_like (e w y) value (λ p. differ (p ∙ same)))
+        ])
+        (λ y k. (insert_old left v y (only y k).0, λ p. of_not_like (e w y) value (only y k).1 (p ∙ sym same))));
+    without = lacks_along left' _ is_left v (false_from_ne_true _ (λ k. clash (of_minus left new v k).0 is.without));
+    begun = lacks_along left' _ is_left j (false_from_ne_true _ (λ k. clash (of_minus left new j k).0 is.begun));
+  }
+
+  -- where nothing is left, or nothing is to be looked at, v is put back
+  pub back_stop : (s left todo back : NameSet) (v j : ℕ) → v ≢ j → IsBackFrom e s v j left todo → ((y : ℕ) → Lacks left y) ⊎ ((y : ℕ) → Lacks todo y) → back ≡ insert left v →
+      IsGoingBack e s v back empty × Lacks back j
+  back_stop s left todo back v j differ is ends is_back = (
+    subst (λ t. IsGoingBack e s v t empty) (sym is_back) (record {
+      start = is.going.start;
+      inside = is.going.inside;
+      taken = λ y h. clash h (empty_lacks y);
+      whole = is.going.whole;
+      looked = λ w hs l t y k. elim ends [
+        | inl all ↦ elim (of_insert left v y k) [ inl same ↦ ap (e w) same | inr old ↦ clash old (all y) ]
+        | inr none ↦ is.going.looked w hs l (none w) y k
+      ];
+    }),
+    lacks_along back _ is_back j (insert_lacks left v j (λ same. differ (sym same)) is.begun),
   )
 
   pub back_names : (s left todo : NameSet) (v j : ℕ) → IsGoingBack e s v left todo × Lacks left j → IsLeastModule e s v j s → ((y : ℕ) → Lacks todo y) →

@@ -158,10 +158,15 @@ fn not_back(graph: &Graph, within: &Names, v: u32, j: u32, left: &mut Names)
     left.clear();
     left.take_in(within);
     left.remove(j);
+    // Without `v`, so that the search ends where nothing else is left.
+    left.remove(v);
     let mut todo = Names::none();
     todo.insert(j);
-    while let Some(w) = todo.first_from(0) {
-        todo.remove(w);
-        move_seen(graph, w, !graph.has_edge(w, v), left, &mut todo);
+    let mut from_end = false;
+    while let Some(b) = next(left, &todo, from_end) {
+        todo.remove(b);
+        move_seen(graph, b, !graph.has_edge(b, v), left, &mut todo);
+        from_end = !from_end;
     }
+    left.insert(v);
 }

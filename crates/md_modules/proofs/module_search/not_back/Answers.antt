@@ -1,32 +1,40 @@
 use Rattle.std.proofs.Common.{◌∙◌, ap, not}
 use Rattle.md_graph.proofs.Search.{turn_falls}
-use Rattle.md_graph.proofs.SetLemmas.{taken_whole, none_lacks, union_along}
-use Rattle.std.specs.FinSet.{remove, insert}
+use Rattle.md_graph.proofs.SetLemmas.{taken_whole, empty_lacks, union_along}
+use Rattle.std.specs.FinSet.{empty, remove, insert}
 use Rattle.md_modules.specs.Seen.{seen_as}
 use Rattle.md_modules.proofs.Growth.{back_end}
-use Rattle.md_modules.proofs.Turns.{back_begin, back_more, back_names, seen_all}
+use Rattle.md_modules.proofs.Turns.{back_begin, back_more, back_stop, back_names, seen_all}
 use Rattle.md_modules.proofs.module_search.not_back.Goals as goal
 
-pub loop-w-init : goal.loop-w-init
-loop-w-init c =
-    back_begin c.args.within.now c.remove.new.self c.insert.new.self c.args.v c.args.j c.requires.differ c.requires.whole
-    (c.remove.ensures ∙ ap (λ s. remove s c.args.j) (taken_whole c.args.within.now c.clear.new.self c.take_in.new.self c.clear.ensures c.take_in.ensures)) (c.insert.ensures ∙ ap (λ s. insert s c.args.j) c.none-todo.ensures)
+pub loop-b-init : goal.loop-b-init
+loop-b-init c =
+    back_begin c.args.within.now c.remove-2.new.self c.insert.new.self c.args.v c.args.j c.requires.differ c.requires.whole
+    (c.remove-2.ensures ∙ ap (λ s. remove s c.args.v) (c.remove.ensures ∙ ap (λ s. remove s c.args.j) (taken_whole c.args.within.now c.clear.new.self c.take_in.new.self c.clear.ensures c.take_in.ensures))) (c.insert.ensures ∙ ap (λ s. insert s c.args.j) c.none-todo.ensures)
 
-pub loop-w-smaller : goal.loop-w-smaller
-loop-w-smaller c =
-    turn_falls c.loop-w.left c.loop-w.todo (seen_as c.args.graph.now c.in-Some.w (not c.has_edge.result) c.loop-w.left) c.move_seen.new.left c.move_seen.new.todo c.in-Some.w c.in-Some.ensures.found.member
-    (λ y h. ((seen_all c.vertices-vertices.ensures.graph c.in-Some.w (not c.has_edge.result) c.loop-w.left).1 y h).0) c.move_seen.ensures.left (union_along _ _ _ _ c.remove-in-Some.ensures c.move_seen.ensures.todo)
+pub loop-b-smaller : goal.loop-b-smaller
+loop-b-smaller c =
+    turn_falls c.loop-b.left c.loop-b.todo (seen_as c.args.graph.now c.in-Some.b (not c.has_edge.result) c.loop-b.left) c.move_seen.new.left c.move_seen.new.todo c.in-Some.b c.in-Some.ensures.found.0
+    (λ y h. ((seen_all c.vertices-vertices.ensures.graph c.in-Some.b (not c.has_edge.result) c.loop-b.left).1 y h).0) c.move_seen.ensures.left (union_along _ _ _ _ c.remove-in-Some.ensures c.move_seen.ensures.todo)
 
-pub loop-w-preserved : goal.loop-w-preserved
-loop-w-preserved c =
-    let seen = seen_all c.vertices-vertices.ensures.graph c.in-Some.w (not c.has_edge.result) c.loop-w.left in
-    back_more c.args.within.now c.loop-w.left c.loop-w.todo (seen_as c.args.graph.now c.in-Some.w (not c.has_edge.result) c.loop-w.left) c.move_seen.new.left c.move_seen.new.todo c.args.v c.args.j c.in-Some.w c.has_edge.result
-    c.loop-w.invariant c.in-Some.ensures.found.member c.has_edge.ensures seen.0 seen.1 c.move_seen.ensures.left (union_along _ _ _ _ c.remove-in-Some.ensures c.move_seen.ensures.todo)
+pub loop-b-preserved : goal.loop-b-preserved
+loop-b-preserved c =
+    let seen = seen_all c.vertices-vertices.ensures.graph c.in-Some.b (not c.has_edge.result) c.loop-b.left in
+    back_more c.args.within.now c.loop-b.left c.loop-b.todo (seen_as c.args.graph.now c.in-Some.b (not c.has_edge.result) c.loop-b.left) c.move_seen.new.left c.move_seen.new.todo c.args.v c.args.j c.in-Some.b c.has_edge.result
+    c.loop-b.invariant c.in-Some.ensures.found.0 c.has_edge.ensures seen.0 seen.1 c.move_seen.ensures.left (union_along _ _ _ _ c.remove-in-Some.ensures c.move_seen.ensures.todo)
+
+pub returns-clause-part : goal.returns-clause-part
+returns-clause-part c = (back_stop c.args.within.now c.loop-b.left c.loop-b.todo c.insert-2.new.self c.args.v c.args.j c.requires.differ c.loop-b.invariant c.in_default.ensures.none c.insert-2.ensures).0.inside
 
 pub returns-clause-names : goal.returns-clause-names
 returns-clause-names c =
-    back_names c.args.within.now c.loop-w.left c.loop-w.todo c.args.v c.args.j c.loop-w.invariant c.requires.whole (none_lacks c.loop-w.todo c.in_default.ensures.none)
+    back_names c.args.within.now c.insert-2.new.self empty c.args.v c.args.j
+    (back_stop c.args.within.now c.loop-b.left c.loop-b.todo c.insert-2.new.self c.args.v c.args.j c.requires.differ c.loop-b.invariant c.in_default.ensures.none c.insert-2.ensures) c.requires.whole empty_lacks
 
 pub returns-clause-rest : goal.returns-clause-rest
 returns-clause-rest c =
-    back_end c.args.within.now c.loop-w.left c.loop-w.todo c.args.v c.loop-w.invariant.0 (none_lacks c.loop-w.todo c.in_default.ensures.none)
+    back_end c.args.within.now c.insert-2.new.self empty c.args.v
+    (back_stop c.args.within.now c.loop-b.left c.loop-b.todo c.insert-2.new.self c.args.v c.args.j c.requires.differ c.loop-b.invariant c.in_default.ensures.none c.insert-2.ensures).0 empty_lacks
+
+pub returns-clause-fixed : goal.returns-clause-fixed
+returns-clause-fixed c = (back_stop c.args.within.now c.loop-b.left c.loop-b.todo c.insert-2.new.self c.args.v c.args.j c.requires.differ c.loop-b.invariant c.in_default.ensures.none c.insert-2.ensures).0.start
