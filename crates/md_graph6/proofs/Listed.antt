@@ -35,12 +35,13 @@ at_end {items} {rest} {i} at_i e =
 
 -- ---- the loops of the writer
 
--- whether the i-th item is i, as far as the loop has come
-pub numbered_more : (f : ℕ → ℕ) (count v : ℕ) → v ≡ f count → v ≡ count → ((i : ℕ) → i < count → f i ≡ i) → (i : ℕ) → i < count + 1 → f i ≡ i
-numbered_more f count v is same before i h =
+-- whether the i-th item is `least + i`, as far as the loop has come
+pub consecutive_more : (f : ℕ → ℕ) (least count v : ℕ) → v ≡ f count → v ≡ least + count → ((i : ℕ) → i < count → f i ≡ least + i)
+    → (i : ℕ) → i < count + 1 → f i ≡ least + i
+consecutive_more f least count v is same before i h =
     elim (cases_lt i count) [
       | inl less ↦ before i less
-      | inr more ↦ let e : i ≡ count = omega arith in ap f e ∙ sym is ∙ same ∙ sym e
+      | inr more ↦ let e : i ≡ count = omega arith in ap f e ∙ sym is ∙ same ∙ ap (λ k. least + k) (sym e)
     ]
 
 pub gathered_none : (s : NameSet) (f : ℕ → Bool) → s ≡ set.empty → (k : ℕ) → set.contains s k ≡ (nat_lt k 0 && f k)

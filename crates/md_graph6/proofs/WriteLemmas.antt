@@ -1,13 +1,15 @@
 -- The columns of a body, written one after the other.
-use Rattle.std.proofs.Common.{◌≡◌, ℕ, zero, suc, ◌+◌, ◌-◌, ◌*◌, ◌/◌, ◌^◌, ◌<◌, ◌≤◌, Bool, true, false, ◌&&◌, ◌==◌, List, ◌++◌, IsTrue, take, drop, length-append, length, replicate, refl, sym, ap, ◌∙◌, subst, arith, nat_lt, if◌then◌else◌, inl, inr}
+use Rattle.std.proofs.Common.{◌≡◌, ℕ, zero, suc, ◌+◌, ◌-◌, ◌*◌, ◌/◌, ◌%◌, ◌^◌, ◌<◌, ◌≤◌, Bool, true, false, ◌&&◌, ◌==◌, List, ◌++◌, IsTrue, take, drop, length-append, length, replicate, refl, sym, ap, ◌∙◌, subst, arith, bit_or, nat_lt, if◌then◌else◌, inl, inr}
 use Rattle.std.specs.Int.{bit_at}
-use Rattle.std.proofs.lemmas.Nat.Bits.{bit_at_above, bit_at-lt}
+use Rattle.std.proofs.lemmas.Nat.Bits.{bit_at_above, bit_at_or, bit_at-lt}
 use Rattle.std.proofs.lemmas.Bool.{cases_Bool, cases_lt, eqb-true, ltb-true, lt-ltb, le-ltb, and_parts}
 use Rattle.std.proofs.lemmas.List.{take-append-drop, get_or_default, length-replicate, length-drop}
 use Rattle.std.proofs.Math.Seq.{take-append_seam}
 use Rattle.std.specs.List.{AllPass}
 use Rattle.md_graph.specs.declared.TheConstants.{NAMES}
 use Rattle.md_graph.proofs.NameLemmas.{few_below}
+use Rattle.md_graph.proofs.Transposing.{bit_at_shl, bit_at_shr}
+use Rattle.md_graph6.proofs.BitLemmas.{bit_at_mod, bit_at_shl_low}
 use Rattle.md_graph6.specs.Size.{size_text}
 use Rattle.md_graph6.specs.Line.{SpellsLine, is_group}
 use Rattle.md_graph6.proofs.DecodeLemmas.{contains-numbers_below}
@@ -17,7 +19,7 @@ use Rattle.md_graph.specs.Sets.{NameSet}
 use Rattle.md_graph.specs.NameSet.{ascending}
 use Rattle.md_graph6.specs.Bits.{bit, pair_number, body_length, IsBodyOf}
 use Rattle.md_graph6.specs.Window.{AreGroups}
-use Rattle.md_graph6.specs.Written.{bit_if, nth, are_adjacent, renumbered, IsWritten}
+use Rattle.md_graph6.specs.Written.{bit_if, nth, are_adjacent, renumbered, AreFrom, IsWritten}
 use Rattle.md_graph.specs.PlainGraph.{PlainGraph, IsGraph, adjacent, neighbours}
 use Rattle.md_graph.proofs.GraphLemmas.{contains-neighbours, contains-pairs_where, adjacent_sym, adjacent_up}
 
@@ -39,15 +41,47 @@ low_none bits low count k fits cut past =
       | inr outside ↦ bit_at_above low 64 k fits outside
     ]
 
+-- ---- 64 names from any on
+
+-- bits of the word in which the first of the names stands
+pub low_block : (s : NameSet) (from first shift bits k : ℕ) → from ≡ first + shift → k + shift < 64
+    → ((k : ℕ) → k < 64 → set.contains s (first + k) ≡ (bit_at bits k == 1))
+    → set.contains s (from + k) ≡ (bit_at (bits / 2 ^ shift) k == 1)
+low_block s from first shift bits k is inside block =
+    let e : from + k ≡ first + (k + shift) = omega arith in
+    rw (e, bit_at_shr bits shift k) (block (k + shift) inside)
+
+-- bits of two neighbouring words
+pub two_blocks : (s : NameSet) (from first next shift low high k : ℕ) → from ≡ first + shift → next ≡ first + 64 → shift < 64 → k < 64 → low < 2 ^ 64
+    → ((k : ℕ) → k < 64 → set.contains s (first + k) ≡ (bit_at low k == 1))
+    → ((k : ℕ) → k < 64 → set.contains s (next + k) ≡ (bit_at high k == 1))
+    → set.contains s (from + k) ≡ (bit_at (bit_or (low / 2 ^ shift) (high * 2 ^ (64 - shift) % 2 ^ 64)) k == 1)
+two_blocks s from first next shift low high k is follows small inside fits block behind =
+    let both = bit_at_or (low / 2 ^ shift) (high * 2 ^ (64 - shift) % 2 ^ 64) k in
+    elim (cases_lt (k + shift) 64) [
+      | inl here ↦
+          let none : bit_at (high * 2 ^ (64 - shift) % 2 ^ 64) k ≡ 0 = bit_at_mod (high * 2 ^ (64 - shift)) 64 k inside ∙ bit_at_shl_low high (64 - shift) k (omega arith) in
+          let one : bit_at (bit_or (low / 2 ^ shift) (high * 2 ^ (64 - shift) % 2 ^ 64)) k ≡ bit_at (low / 2 ^ shift) k = omega (arith, both, none) in
+          rw one (low_block s from first shift low k is here block)
+      | inr there ↦
+          let none : bit_at (low / 2 ^ shift) k ≡ 0 = bit_at_shr low shift k ∙ bit_at_above low 64 (k + shift) fits there in
+          let moved : bit_at (high * 2 ^ (64 - shift) % 2 ^ 64) k ≡ bit_at high (k - (64 - shift)) = bit_at_shl high (64 - shift) k inside (omega arith) in
+          let one : bit_at (bit_or (low / 2 ^ shift) (high * 2 ^ (64 - shift) % 2 ^ 64)) k ≡ bit_at high (k - (64 - shift)) = omega (arith, both, none, moved) in
+          let e : from + k ≡ next + (k - (64 - shift)) = omega arith in
+          rw (one, e) (behind (k - (64 - shift)) (omega arith))
+    ]
+
+-- ---- the words of a column
+
 -- a word of a column, cut to the rows above the diagonal
-column_bit : (column : NameSet) (first j bits low k : ℕ) → k < 64 → first ≤ j
-    → set.contains column (first + k) ≡ (bit_at bits k == 1)
+column_bit : (f : ℕ → Bool) (first j bits low k : ℕ) → first ≤ j
+    → (first + k < j → f (first + k) ≡ (bit_at bits k == 1))
     → bit_at low k ≡ (if nat_lt k (j - first) then bit_at bits k else 0)
-    → bit_at low k ≡ bit_if (nat_lt (first + k) j && set.contains column (first + k))
-column_bit column first j bits low k inside started is cut =
-    let b = bit_by_test (bit_at bits k) (set.contains column (first + k)) (bit_at-lt bits k) is in
+    → bit_at low k ≡ bit_if (nat_lt (first + k) j && f (first + k))
+column_bit f first j bits low k started is cut =
     elim (cases_lt k (j - first)) [
       | inl below ↦
+          let b = bit_by_test (bit_at bits k) (f (first + k)) (bit_at-lt bits k) (is (omega arith)) in
           let t : nat_lt k (j - first) ≡ true = grind (arith, nat_tests) in
           let u : nat_lt (first + k) j ≡ true = grind (arith, nat_tests) in
           cut ∙ rw (t, u) b
@@ -58,13 +92,13 @@ column_bit column first j bits low k inside started is cut =
     ]
 
 -- one more word of a column
-pub written_more : (old mid new : List ℕ) (column : NameSet) (place j first next bits low k : ℕ) → next ≡ first + 64 → first ≤ j → low < 2 ^ 64
-    → ((k : ℕ) → bit mid k ≡ (if nat_lt k place then bit old k else bit_if (nat_lt (k - place) first && (nat_lt (k - place) j && set.contains column (k - place)))))
-    → ((k : ℕ) → k < 64 → set.contains column (first + k) ≡ (bit_at bits k == 1))
+pub written_more : (old mid new : List ℕ) (f : ℕ → Bool) (place j first next bits low k : ℕ) → next ≡ first + 64 → first ≤ j → low < 2 ^ 64
+    → ((k : ℕ) → bit mid k ≡ (if nat_lt k place then bit old k else bit_if (nat_lt (k - place) first && (nat_lt (k - place) j && f (k - place)))))
+    → ((k : ℕ) → k < 64 → first + k < j → f (first + k) ≡ (bit_at bits k == 1))
     → ((k : ℕ) → k < 64 → bit_at low k ≡ (if nat_lt k (j - first) then bit_at bits k else 0))
     → ((k : ℕ) → bit new k ≡ (if nat_lt k (place + first) then bit mid k else bit_at low (k - (place + first))))
-    → bit new k ≡ (if nat_lt k place then bit old k else bit_if (nat_lt (k - place) next && (nat_lt (k - place) j && set.contains column (k - place))))
-written_more old mid new column place j first next bits low k after started fits before is cut put =
+    → bit new k ≡ (if nat_lt k place then bit old k else bit_if (nat_lt (k - place) next && (nat_lt (k - place) j && f (k - place))))
+written_more old mid new f place j first next bits low k after started fits before is cut put =
     put k ∙ elim (cases_lt k (place + first)) [
       | inl done ↦
           let t : nat_lt k (place + first) ≡ true = grind (arith, nat_tests) in
@@ -82,14 +116,22 @@ written_more old mid new column place j first next bits low k after started fits
           rw (t, u) (elim (cases_lt (k - (place + first)) 64) [
             | inl inside ↦
                 let v : nat_lt (k - place) next ≡ true = grind (arith, nat_tests) in
-                column_bit column first j bits low (k - (place + first)) inside started (is (k - (place + first)) inside) (cut (k - (place + first)) inside)
-                ∙ ap (λ i. bit_if (nat_lt i j && set.contains column i)) e
+                column_bit f first j bits low (k - (place + first)) started (is (k - (place + first)) inside) (cut (k - (place + first)) inside)
+                ∙ ap (λ i. bit_if (nat_lt i j && f i)) e
                 ∙ rw v refl
             | inr outside ↦
                 let v : nat_lt (k - place) next ≡ false = grind (arith, nat_tests) in
                 bit_at_above low 64 (k - (place + first)) fits outside ∙ rw v refl
           ])
     ]
+
+-- the 64 names from `least + first` on, seen from the least
+pub seen_from : (s : NameSet) (least first j from bits : ℕ) → from ≡ least + first → least + j < NAMES
+    → ((k : ℕ) → k < 64 → from + k < NAMES → set.contains s (from + k) ≡ (bit_at bits k == 1))
+    → (k : ℕ) → k < 64 → first + k < j → set.contains s (least + (first + k)) ≡ (bit_at bits k == 1)
+seen_from s least first j from bits is inside block k h below =
+    let e : from + k ≡ least + (first + k) = omega arith in
+    ap (set.contains s) (sym e) ∙ block k h (omega arith)
 
 -- ---- pair numbers
 
@@ -122,12 +164,12 @@ pair_before a b j up less =
     omega (arith, next, mono, here)
 
 -- one column more
-pub IsWritten-more : {old new : List ℕ} {g : PlainGraph} {j : ℕ} (column : NameSet) → IsWritten old g j → AreGroups new
+pub IsWritten-more : {old new : List ℕ} {g : PlainGraph} {j : ℕ} (f : ℕ → Bool) → IsWritten old g j → AreGroups new
     → ((k : ℕ) → k < pair_number 0 j → bit new k ≡ bit old k)
-    → ((i : ℕ) → bit new (pair_number i j) ≡ bit_if (nat_lt i j && set.contains column i))
-    → ((i : ℕ) → i < j → set.contains column i ≡ are_adjacent g i j)
+    → ((i : ℕ) → bit new (pair_number i j) ≡ bit_if (nat_lt i j && f i))
+    → ((i : ℕ) → i < j → f i ≡ are_adjacent g i j)
     → IsWritten new g (j + 1)
-IsWritten-more {old} {new} {g} {j} column written groups before here is = record {
+IsWritten-more {old} {new} {g} {j} f written groups before here is = record {
   groups = groups;
   bits = λ a b up inside. elim (cases_lt b j) [
     | inl less ↦ before (pair_number a b) (pair_before a b j up less) ∙ written.bits a b up less
@@ -149,21 +191,22 @@ IsWritten-more {old} {new} {g} {j} column written groups before here is = record
 row_at : {g : PlainGraph} (row : NameSet) (v u : ℕ) → IsGraph g → row ≡ neighbours g v → set.contains row u ≡ adjacent g u v
 row_at {g} row v u is e = ap (λ s. set.contains s u) e ∙ contains-neighbours is v u ∙ adjacent_sym g v u
 
--- where the i-th vertex is i, a row is a column
-pub numbered_column : {g : PlainGraph} (row : NameSet) (n j : ℕ) → IsGraph g → row ≡ neighbours g j
-    → ((i : ℕ) → i < n → nth g i ≡ i) → j < n → (i : ℕ) → i < j → set.contains row i ≡ are_adjacent g i j
-numbered_column {g} row n j is e numbered inside i up =
-    let here = numbered i (omega arith) in
-    let there = numbered j inside in
-    row_at row j i is e ∙ sym (ap (λ x. adjacent g x (nth g j)) here ∙ ap (adjacent g i) there)
+-- where the vertices are consecutive numbers, a row is a column
+pub consecutive_column : {g : PlainGraph} (row : NameSet) (least n j v : ℕ) → IsGraph g → v ≡ least + j → row ≡ neighbours g v
+    → AreFrom g least n → j < n → (i : ℕ) → i < j → set.contains row (least + i) ≡ are_adjacent g i j
+consecutive_column {g} row least n j v is place e consecutive inside i up =
+    let here = consecutive i (omega arith) in
+    let there = consecutive j inside ∙ sym place in
+    row_at row v (least + i) is e ∙ sym (ap (λ x. adjacent g x (nth g j)) here ∙ ap (adjacent g (least + i)) there)
 
 -- a column that was gathered from a row
 pub gathered_column : {g : PlainGraph} (row column : NameSet) (v j : ℕ) → IsGraph g → row ≡ neighbours g v → v ≡ nth g j
     → ((i : ℕ) → set.contains column i ≡ (nat_lt i j && set.contains row (nth g i)))
-    → (i : ℕ) → i < j → set.contains column i ≡ are_adjacent g i j
+    → (i : ℕ) → i < j → set.contains column (0 + i) ≡ are_adjacent g i j
 gathered_column {g} row column v j is e vertex gathered i up =
     let t : nat_lt i j ≡ true = grind (arith, nat_tests) in
-    gathered i ∙ rw t (row_at row v (nth g i) is e ∙ ap (adjacent g (nth g i)) vertex)
+    let z : 0 + i ≡ i = omega arith in
+    ap (set.contains column) z ∙ gathered i ∙ rw t (row_at row v (nth g i) is e ∙ ap (adjacent g (nth g i)) vertex)
 
 -- ---- the whole text
 

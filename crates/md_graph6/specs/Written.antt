@@ -1,6 +1,6 @@
 -- The graph6 text of a graph.
 -- Source: B. McKay, "Description of graph6, sparse6 and digraph6 encodings".
-use Rattle.std.specs.Prelude.{◌≡◌, ℕ, ◌<◌, ◌≤◌, Bool, List, [], ◌∷◌, ◌++◌, length, get_or, if◌then◌else◌}
+use Rattle.std.specs.Prelude.{◌≡◌, ℕ, ◌+◌, ◌<◌, ◌≤◌, Bool, List, [], ◌∷◌, ◌++◌, length, get_or, if◌then◌else◌}
 use Rattle.md_graph.specs.NameSet.{ascending, range}
 use Rattle.md_graph.specs.PlainGraph.{PlainGraph, adjacent, pairs_where}
 use Rattle.md_graph6.specs.Bits.{bit, pair_number}
@@ -10,6 +10,10 @@ use Rattle.md_graph6.specs.Window.{AreGroups}
 -- the i-th vertex in ascending order, counted from 0
 abbrev pub nth : PlainGraph → ℕ → ℕ
 nth g i = get_or (ascending g.vertices) i 0
+
+-- the first n vertices are consecutive numbers: the i-th is `least + i`
+abbrev pub AreFrom : PlainGraph → ℕ → ℕ → Type 0
+AreFrom g least n = (i : ℕ) → i < n → nth g i ≡ least + i
 
 -- whether the i-th and the j-th vertex are adjacent
 abbrev pub are_adjacent : PlainGraph → ℕ → ℕ → Bool

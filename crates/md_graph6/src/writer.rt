@@ -1,5 +1,5 @@
 //! The text of a graph in graph6, 64 bits of a column at once.
-ghost use Rattle.std.specs.Prelude.{None, [], ◌∷◌, IfOk, ◌++◌, true, vec_len, vec_capacity, replicate, take, drop, ◌≡◌, ℕ, ◌+◌, ◌-◌, ◌*◌, ◌/◌, ◌%◌, ◌^◌, ◌<◌, ◌≤◌, ◌==◌, ◌&&◌, ◌||◌, nat_lt, length, get_or, if◌then◌else◌};
+ghost use Rattle.std.specs.Prelude.{None, [], ◌∷◌, IfOk, IfSome, ◌++◌, vec_len, vec_capacity, replicate, take, drop, ◌≡◌, ℕ, ◌+◌, ◌-◌, ◌*◌, ◌/◌, ◌%◌, ◌^◌, ◌<◌, ◌≤◌, ◌==◌, ◌&&◌, ◌||◌, nat_lt, length, get_or, if◌then◌else◌};
 ghost use Rattle.std.specs.Int.{bit_at};
 ghost use Rattle.std.specs.FinSet as set;
 ghost use Rattle.md_graph.specs.NameSet.{ascending};
@@ -8,7 +8,7 @@ ghost use Rattle.md_graph6.specs.Size.{size_text};
 ghost use Rattle.md_text.specs.Spelling.{SpellsOnly};
 ghost use Rattle.md_graph6.specs.File.{Spells, first_fault, graphs_of};
 ghost use Rattle.md_graph6.specs.Window.{AreGroups, IsPut};
-ghost use Rattle.md_graph6.specs.Written.{bit_if, nth, renumbered, IsWritten, IsTextOf};
+ghost use Rattle.md_graph6.specs.Written.{bit_if, nth, renumbered, AreFrom, IsWritten, IsTextOf};
 ghost use Rattle.md_graph6.specs.Text.{graph6_text};
 
 use crate::body::{bits_of, column_place, low_bits, turned};
@@ -125,17 +125,33 @@ pub(crate) fn put_bits(body: &mut [u8], place: usize, bits: u64)
     set_end(body, at, low, high);
 }
 
-// Puts column j behind the columns before it: its bits say which of the numbers below j are
-// members.
-fn put_column(body: &mut [u8], j: u32, column: &Names)
-    requires name { j < NAMES }
+// Which of the 64 names from `from` on are members: bit k says it of the name `from + k`.
+#[inline]
+fn block_from(names: &Names, from: u32) -> u64
+    requires { from < NAMES }
+    ensures { (k : ℕ) → k < 64 → from + k < NAMES
+        → set.contains names.now (from + k) ≡ (bit_at result k == 1) }
+{
+    let shift = from % 64;
+    let first = from - shift;
+    let low = names.block(first) >> shift;
+    if shift == 0 || NAMES <= first + 64 {
+        return low;
+    }
+    low | names.block(first + 64) << (64 - shift)
+}
+
+// Puts column j behind the columns before it: bit i, for i < j, says whether the name `least + i`
+// is a member.
+fn put_column(body: &mut [u8], j: u32, column: &Names, least: u32)
+    requires names { least + j < NAMES }
     requires groups { AreGroups body.old }
     requires room { pair_number j j ≤ 6 * length body.old }
     requires blank { (k : ℕ) → pair_number 0 j ≤ k → bit body.old k ≡ 0 }
     ensures groups { AreGroups body.new }
     ensures before { (k : ℕ) → k < pair_number 0 j → bit body.new k ≡ bit body.old k }
-    ensures column { (i : ℕ)
-        → bit body.new (pair_number i j) ≡ bit_if (nat_lt i j && set.contains column.now i) }
+    ensures column { (i : ℕ) → bit body.new (pair_number i j)
+        ≡ bit_if (nat_lt i j && set.contains column.now (least + i)) }
 {
     let place = column_place(j);
     for w in 0..(j + 63) / 64 {
@@ -143,24 +159,32 @@ fn put_column(body: &mut [u8], j: u32, column: &Names)
         put_bits(
             body,
             place + first as usize,
-            low_bits(column.block(first), j - first),
+            low_bits(block_from(column, least + first), j - first),
         );
     }
 }
 
-// The number of vertices, and whether they are the numbers below it.
-fn shape(graph: &Graph) -> (u32, bool)
+// The least vertex, or 0 where there is none.
+fn least_vertex(graph: &Graph) -> u32
+    ensures { result ≤ NAMES }
+{
+    graph.vertices().first_from(0).unwrap_or(0)
+}
+
+// The number of vertices, and the least of them if they are consecutive numbers.
+fn shape(graph: &Graph) -> (u32, Option<u32>)
     ensures count { result.0 ≡ length (ascending graph.now.vertices) }
     ensures few { result.0 ≤ NAMES }
-    ensures numbered { result.1 ≡ true → (i : ℕ) → i < result.0 → nth graph.now i ≡ i }
+    ensures consecutive { IfSome result.1 (λ least. AreFrom graph.now least result.0) }
 {
+    let least = least_vertex(graph);
     let mut count = 0;
-    let mut numbered = true;
+    let mut consecutive = true;
     for v in graph.vertices().members() {
-        numbered = v == count && numbered;
+        consecutive = v == least + count && consecutive;
         count += 1;
     }
-    (count, numbered)
+    (count, consecutive.then_some(least))
 }
 
 // Takes i in if it is wanted.
@@ -191,17 +215,16 @@ fn gather(graph: &Graph, row: &Names, j: u32, column: &mut Names)
     }
 }
 
-// Puts the bits of a graph whose vertices are the numbers below n.
-fn put_numbered(body: &mut [u8], graph: &Graph, n: u32)
+// Puts the bits of a graph whose vertices are the n numbers from `least` on.
+fn put_consecutive(body: &mut [u8], graph: &Graph, n: u32, least: u32)
     requires count { n ≡ length (ascending graph.now.vertices) }
-    requires few { n ≤ NAMES }
-    requires numbered { (i : ℕ) → i < n → nth graph.now i ≡ i }
+    requires consecutive { AreFrom graph.now least n }
     requires blank { IsWritten body.old graph.now 0 }
     requires room { pair_number 0 n ≤ 6 * length body.old }
     ensures { IsWritten body.new graph.now n }
 {
     for j in 0..n {
-        put_column(body, j, graph.row(j));
+        put_column(body, j, graph.row(least + j), least);
     }
 }
 
@@ -215,39 +238,38 @@ fn put_any(body: &mut [u8], graph: &Graph)
     let mut j = 0;
     for v in graph.vertices().members() {
         gather(graph, graph.row(v), j, &mut column);
-        put_column(body, j, &column);
+        put_column(body, j, &column, 0);
         j += 1;
     }
 }
 
-// Puts the bits of a graph of n vertices.
-fn put_body(body: &mut [u8], graph: &Graph, n: u32, numbered: bool)
+// Puts the bits of a graph of n vertices; `least` is the least of them if they are consecutive.
+fn put_body(body: &mut [u8], graph: &Graph, n: u32, least: Option<u32>)
     requires count { n ≡ length (ascending graph.now.vertices) }
-    requires few { n ≤ NAMES }
-    requires numbered { numbered ≡ true → (i : ℕ) → i < n → nth graph.now i ≡ i }
+    requires consecutive { IfSome least (λ least. AreFrom graph.now least n) }
     requires blank { IsWritten body.old graph.now 0 }
     requires room { pair_number 0 n ≤ 6 * length body.old }
     ensures { IsWritten body.new graph.now n }
 {
-    if numbered {
-        put_numbered(body, graph, n);
+    if let Some(least) = least {
+        put_consecutive(body, graph, n, least);
         return;
     }
     put_any(body, graph);
 }
 
-// Puts the bits of a graph of n vertices behind the size of a line.
-fn put_behind(line: &mut [u8], size: usize, graph: &Graph, n: u32, numbered: bool)
+// Puts the bits of a graph of n vertices behind the size of a line; `least` is the least of them if
+// they are consecutive.
+fn put_behind(line: &mut [u8], size: usize, graph: &Graph, n: u32, least: Option<u32>)
     requires count { n ≡ length (ascending graph.now.vertices) }
-    requires few { n ≤ NAMES }
-    requires numbered { numbered ≡ true → (i : ℕ) → i < n → nth graph.now i ≡ i }
+    requires consecutive { IfSome least (λ least. AreFrom graph.now least n) }
     requires inside { size ≤ length line.old }
     requires blank { IsWritten (drop size line.old) graph.now 0 }
     requires room { pair_number 0 n ≤ 6 * (length line.old - size) }
     ensures size { take size line.new ≡ take size line.old }
     ensures body { IsWritten (drop size line.new) graph.now n }
 {
-    put_body(&mut line[size..], graph, n, numbered);
+    put_body(&mut line[size..], graph, n, least);
 }
 
 // How many bytes spell the size n in its shortest spelling.
@@ -301,10 +323,10 @@ pub fn write(alloc: Global, graph: &Graph) -> Result<Vec<u8>, Memory>
     ensures no_fault { IfOk result (λ text. first_fault text.items ≡ None) }
     ensures graphs { IfOk result (λ text. graphs_of text.items ≡ renumbered graph.now ∷ []) }
 {
-    let (n, numbered) = shape(graph);
+    let (n, least) = shape(graph);
     let size = size_length(n);
     let mut text = blank_line(alloc, n, size)?;
-    put_behind(text.as_mut_slice(), size, graph, n, numbered);
+    put_behind(text.as_mut_slice(), size, graph, n, least);
     text.push_reserved(b'\n');
     Ok(text)
 }

@@ -1,5 +1,5 @@
 //! Texts of graphs: outside vectors, and graphs whose columns cross words.
-ghost use Rattle.std.specs.Prelude.{◌≡◌, None};
+ghost use Rattle.std.specs.Prelude.{◌≡◌, ◌^◌, ◌<◌, None};
 ghost use Rattle.md_graph.specs.PlainGraph.{empty_graph};
 ghost use Rattle.md_graph6.specs.File.{first_fault};
 
@@ -50,6 +50,7 @@ fn texts_are_written(rt: HostRuntime) -> Result<(), Fail> {
     gives(&rt, alloc, &[7], &[], b"@\n")?;
     gives(&rt, alloc, &[0, 1], &[(0, 1)], b"A_\n")?;
     gives(&rt, alloc, &[2, 5, 9], &[(2, 9)], b"BO\n")?;
+    gives(&rt, alloc, &[1, 2, 3], &[(1, 2), (2, 3)], b"Bg\n")?;
     gives(
         &rt,
         alloc,
@@ -80,17 +81,27 @@ fn line_of_63(alloc: Global) -> Result<Vec<u8>, Fail> {
     Ok(text)
 }
 
+// So is written that graph with its vertices numbered from `least` on.
+fn gives_line_of_63(rt: &impl Abort, alloc: Global, least: u32) -> Result<(), Fail>
+    requires { least < 2 ^ 31 }
+{
+    let mut graph = Graph::new(alloc)?;
+    for v in 0..63 {
+        take(&mut graph, least + v);
+    }
+    join(&mut graph, least, least + 1);
+    join(&mut graph, least, least + 62);
+    join(&mut graph, least + 61, least + 62);
+    let written = write(alloc, &graph)?;
+    assert_eq!(rt; written.as_slice(), line_of_63(alloc)?.as_slice());
+    Ok(())
+}
+
 #[test]
 fn four_bytes_of_size_are_written(rt: HostRuntime) -> Result<(), Fail> {
-    let mut graph = Graph::new(rt.alloc())?;
-    for v in 0..63 {
-        take(&mut graph, v);
-    }
-    for (u, v) in [(0, 1), (0, 62), (61, 62)] {
-        join(&mut graph, u, v);
-    }
-    let written = write(rt.alloc(), &graph)?;
-    assert_eq!(rt; written.as_slice(), line_of_63(rt.alloc())?.as_slice());
+    gives_line_of_63(&rt, rt.alloc(), 0)?;
+    gives_line_of_63(&rt, rt.alloc(), 1)?;
+    gives_line_of_63(&rt, rt.alloc(), NAMES - 63)?;
     Ok(())
 }
 

@@ -1,4 +1,5 @@
 use Rattle.std.proofs.Common.{◌+◌, length, arith, ◌∙◌, ap, subst}
+use Rattle.std.specs.FinSet as set
 use Rattle.md_graph.specs.declared.TheConstants.{NAMES}
 use Rattle.md_graph.specs.NameSet.{ascending}
 use Rattle.md_graph6.specs.Written.{IsWritten}
@@ -23,8 +24,8 @@ row-requires c =
 pub gather-requires : goal.gather-requires
 gather-requires c = c.loop-v.invariant.place.inside
 
-pub put_column-requires-clause-name : goal.put_column-requires-clause-name
-put_column-requires-clause-name c =
+pub put_column-requires-clause-names : goal.put_column-requires-clause-names
+put_column-requires-clause-names c =
     let turn = at_turn c.loop-v.invariant.place c.in-Some.v c.next.new.self c.in-Some.ensures.steps in
     omega (arith, turn.0, few_below c.args.graph.now.vertices 0 NAMES)
 
@@ -45,7 +46,7 @@ loop-v-preserved c =
     record {
       place = turn.2;
       written =
-          IsWritten-more c.gather.new.column c.loop-v.invariant.written c.put_column.ensures.groups c.put_column.ensures.before c.put_column.ensures.column
+          IsWritten-more (λ i. set.contains c.gather.new.column (0 + i)) c.loop-v.invariant.written c.put_column.ensures.groups c.put_column.ensures.before c.put_column.ensures.column
           (gathered_column c.row.result.now c.gather.new.column c.in-Some.v c.loop-v.j c.row.ensures.graph c.row.ensures.set turn.1 c.gather.ensures);
     }
 
