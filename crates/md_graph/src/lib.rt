@@ -6,6 +6,7 @@ mod graph;
 pub mod laws;
 mod members;
 mod names;
+mod steps;
 mod transposition;
 mod words;
 
@@ -13,6 +14,7 @@ pub use graph::{Graph, insert_in_rows};
 pub use members::Members;
 pub use names::Names;
 use std::alloc::{AllocError, AllocFailed};
+pub use steps::Steps;
 pub use words::lowest;
 
 /// How many names there are: a name is a number below it.
