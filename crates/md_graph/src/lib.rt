@@ -7,6 +7,7 @@ pub mod laws;
 mod listed;
 mod members;
 mod names;
+mod steps;
 mod transposition;
 mod words;
 
@@ -14,6 +15,7 @@ pub use graph::{Graph, insert_in_rows};
 pub use members::Members;
 pub use names::Names;
 use std::alloc::{AllocError, AllocFailed};
+pub use steps::Steps;
 pub use words::lowest;
 
 /// How many names there are: a name is a number below it.
