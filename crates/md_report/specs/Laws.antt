@@ -9,6 +9,7 @@ use Rattle.md_report.specs.declared.line.SessionMode.{SessionMode}
 use Rattle.md_report.specs.declared.line.SessionMode.TheVariants as session_modes
 use Rattle.md_report.specs.Lines.{PlainLine, mode_of, session_mode_of, head, end}
 use Rattle.md_report.specs.Sessions.{SessionRun}
+use Rattle.md_report.specs.Cographs.{CographRun, edits_behind}
 use Rattle.md_report.specs.Places.{Place, before_head, at_graphs, before_session, at_state, at_edits, after_end, Reports, ReportsState, Lead}
 use Rattle.md_report.specs.Reports.{IsReport, IsFront}
 
@@ -53,13 +54,15 @@ GraphReportsHaveLines =
 -- the lines answer the edits of a script, one each
 abbrev pub AnswerEach : SessionMode → PlainGraph → List Edit → List PlainLine → Type 0
 AnswerEach session_modes.Edit g edits lines = SessionRun g edits lines
+AnswerEach session_modes.Cograph g edits lines = CographRun g edits lines
 
--- A whole report of a session over a script: the head, the line of the first state, the lines of the edits, and the end.
+-- A whole report of a session over a script: the head, the line of the first state, the lines of the edits that are answered
+-- behind it, and the end.
 pub record IsSessionReport (mode : SessionMode) (g : PlainGraph) (edits : List Edit) (lines : List PlainLine) : Type 0 where
   pub first : PlainLine
   pub run : List PlainLine
   pub state_line : ReportsState mode g first
-  pub runs : AnswerEach mode g edits run
+  pub runs : AnswerEach mode g (edits_behind first edits) run
   pub whole : lines ≡ head (session_mode_of mode) ∷ first ∷ (run ++ end ∷ [])
 
 -- Lines lead from before a session to the end exactly where they are such a report.

@@ -4,6 +4,7 @@ use Rattle.std.specs.Prelude.{ℕ, List, ◌∷◌, [], ◌++◌, codes, Option}
 use Rattle.std.specs.List.{flat_map}
 use Rattle.md_text.specs.Numbers.{decimal}
 use Rattle.md_forcing.specs.declared.arc.Arc.{Arc}
+use Rattle.md_modules.specs.declared.induced_paths.P4.{P4}
 use Rattle.md_tree.specs.Trees.{PlainTree}
 use Rattle.md_tree.specs.Plain.{plain_option}
 use Rattle.md_tree.specs.TreeTexts.{text_of}
@@ -24,6 +25,8 @@ pub data PlainLine : Type 0 where
   tree : Option PlainTree → PlainLine
   applied : Option PlainTree → PlainLine
   refused : EditReason → PlainLine
+  refused_p4 : P4 → PlainLine
+  not_cograph : P4 → PlainLine
   oriented : List Arc → PlainLine
   forced : List Arc → PlainLine
   end : PlainLine
@@ -34,6 +37,8 @@ plain_line (lines.Head mode) = head mode
 plain_line (lines.Tree t) = tree (plain_option t)
 plain_line (lines.Applied t) = applied (plain_option t)
 plain_line (lines.Refused reason) = refused reason
+plain_line (lines.RefusedP4 p) = refused_p4 p
+plain_line (lines.NotCograph p) = not_cograph p
 plain_line (lines.Oriented arcs) = oriented arcs
 plain_line (lines.Forced chain) = forced chain
 plain_line lines.End = end
@@ -46,11 +51,13 @@ mode_of graph_modes.Compare = modes.Compare
 -- what a report of a session is about
 abbrev pub session_mode_of : SessionMode → Mode
 session_mode_of session_modes.Edit = modes.Edit
+session_mode_of session_modes.Cograph = modes.Cograph
 
 -- the word of a mode
 abbrev pub mode_word : Mode → List ℕ
 mode_word modes.Tree = codes "tree"
 mode_word modes.Edit = codes "edit"
+mode_word modes.Cograph = codes "cograph"
 mode_word modes.Compare = codes "compare"
 
 -- the words of a reason
@@ -60,6 +67,14 @@ reason_words (NoVertex v) = codes "vertex " ++ decimal v
 reason_words (NameTaken v) = codes "taken " ++ decimal v
 reason_words EdgeThere = codes "edge-there"
 reason_words EdgeAbsent = codes "edge-absent"
+
+-- a space and a name, for each name
+abbrev pub names_text : List ℕ → List ℕ
+names_text = flat_map (λ v. codes " " ++ decimal v)
+
+-- the four names of an induced P4, in their order
+abbrev pub p4_text : P4 → List ℕ
+p4_text p = names_text (p.a ∷ p.b ∷ p.c ∷ p.d ∷ [])
 
 -- the text of an arc: its tail, its mark and its head
 abbrev pub arc_text : Arc → List ℕ
@@ -75,6 +90,8 @@ line_text (head mode) = codes "mdt " ++ mode_word mode
 line_text (tree t) = codes "t " ++ text_of t
 line_text (applied t) = codes "ok " ++ text_of t
 line_text (refused reason) = codes "no " ++ reason_words reason
+line_text (refused_p4 p) = codes "no p4" ++ p4_text p
+line_text (not_cograph p) = codes "p4" ++ p4_text p
 line_text (oriented arcs) = codes "yes" ++ arcs_text arcs
 line_text (forced chain) = codes "no" ++ arcs_text chain
 line_text end = codes "end"

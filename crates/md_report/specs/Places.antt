@@ -6,10 +6,11 @@ use Rattle.md_script.specs.declared.edit.Edit as script
 use Rattle.md_report.specs.declared.line.GraphMode.{GraphMode}
 use Rattle.md_report.specs.declared.line.GraphMode.TheVariants.{Tree, Compare}
 use Rattle.md_report.specs.declared.line.SessionMode.{SessionMode}
-use Rattle.md_report.specs.declared.line.SessionMode.TheVariants.{Edit}
+use Rattle.md_report.specs.declared.line.SessionMode.TheVariants.{Edit, Cograph}
 use Rattle.md_report.specs.Lines.{PlainLine, mode_of, session_mode_of, head, tree, end}
 use Rattle.md_report.specs.Orientations.{IsOrientationLine}
 use Rattle.md_report.specs.Sessions.{HasTreeLine, IsStepLine, state_behind}
+use Rattle.md_report.specs.Cographs.{IsOpeningLine, IsCographLine, edits_behind}
 
 -- Before the head of a report over graphs, and at the graphs that are still to be reported, one line each; before the head
 -- of a session, at its first state, and at the edits that are still to be answered, one line each; and after the end.
@@ -27,13 +28,16 @@ abbrev pub Reports : GraphMode → PlainGraph → PlainLine → Type 0
 Reports Tree g line = HasTreeLine tree g line
 Reports Compare g line = IsOrientationLine (adjacent g) line
 
--- the line that reports the first state of a session: in mode edit its tree of strong modules
+-- the line that reports the first state of a session: in mode edit its tree of strong modules, in mode cograph that tree or an
+-- induced P4
 abbrev pub ReportsState : SessionMode → PlainGraph → PlainLine → Type 0
 ReportsState Edit g line = HasTreeLine tree g line
+ReportsState Cograph g line = IsOpeningLine g line
 
 -- the line that answers an edit at g
 abbrev pub AnswersEdit : SessionMode → PlainGraph → script.Edit → PlainLine → Type 0
 AnswersEdit Edit g edit line = IsStepLine g edit line
+AnswersEdit Cograph g edit line = IsCographLine g edit line
 
 -- the line may come at the place
 abbrev pub MayCome : Place → PlainLine → Type 0
@@ -52,7 +56,7 @@ next_place (before_head mode graphs) line = at_graphs mode graphs
 next_place (at_graphs mode (g ∷ graphs)) line = at_graphs mode graphs
 next_place (at_graphs mode []) line = after_end
 next_place (before_session mode g edits) line = at_state mode g edits
-next_place (at_state mode g edits) line = at_edits mode g edits
+next_place (at_state mode g edits) line = at_edits mode g (edits_behind line edits)
 next_place (at_edits mode g (edit ∷ edits)) line = at_edits mode (state_behind g edit line) edits
 next_place (at_edits mode g []) line = after_end
 next_place after_end line = after_end

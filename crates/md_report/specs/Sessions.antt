@@ -7,7 +7,7 @@ use Rattle.md_tree.specs.StrongTrees.{IsTree}
 use Rattle.md_script.specs.declared.edit.Edit.{Edit}
 use Rattle.md_script.specs.declared.edit.EditReason.{EditReason}
 use Rattle.md_script.specs.Edit.{reason_of, after}
-use Rattle.md_report.specs.Lines.{PlainLine, head, tree, applied, refused, oriented, forced, end}
+use Rattle.md_report.specs.Lines.{PlainLine, head, tree, applied, refused, refused_p4, not_cograph, oriented, forced, end}
 
 -- the line is one with the tree of strong modules of g
 abbrev pub HasTreeLine : (Option PlainTree → PlainLine) → PlainGraph → PlainLine → Type 0
@@ -35,6 +35,8 @@ state_after g edit = state_by (reason_of g edit) g edit
 abbrev pub state_behind : PlainGraph → Edit → PlainLine → PlainGraph
 state_behind g edit (applied t) = after g edit
 state_behind g edit (refused reason) = g
+state_behind g edit (refused_p4 p) = g
+state_behind g edit (not_cograph p) = g
 state_behind g edit (head mode) = g
 state_behind g edit (tree t) = g
 state_behind g edit (oriented arcs) = g

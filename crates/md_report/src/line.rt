@@ -1,10 +1,11 @@
 //! The lines of a report.
 ghost use Rattle.std.specs.Prelude.{◌≡◌, ◌++◌, IfOk, OnOk, codes};
 ghost use Rattle.md_text.specs.Numbers.{decimal};
-ghost use Rattle.md_report.specs.Lines.{plain_line, mode_word, reason_words, arc_text, arcs_text, line_text};
+ghost use Rattle.md_report.specs.Lines.{plain_line, mode_word, reason_words, names_text, p4_text, arc_text, arcs_text, line_text};
 
 use md_forcing::{Arc, Arcs, Chain};
 use md_graph::Memory;
+use md_modules::P4;
 use md_script::EditReason;
 use md_text::push_number;
 use md_tree::{Tree, push_text};
@@ -17,6 +18,8 @@ pub enum Mode {
     Tree,
     /// The tree of a graph, and of the graph that each edit of a script leaves.
     Edit,
+    /// The tree of a cograph, and of the cograph that each edit of a script leaves.
+    Cograph,
     /// Transitive orientations of graphs, or forcing chains.
     Compare,
 }
@@ -50,6 +53,9 @@ impl GraphMode {
 pub enum SessionMode {
     /// Its tree of strong modules.
     Edit,
+    /// Its tree of strong modules; no state has an induced P4, and an edit that would make one is
+    /// refused.
+    Cograph,
 }
 
 impl SessionMode {
@@ -62,6 +68,7 @@ impl SessionMode {
     {
         match self {
             SessionMode::Edit => Mode::Edit,
+            SessionMode::Cograph => Mode::Cograph,
         }
     }
 }
@@ -77,6 +84,10 @@ pub enum Line {
     Applied(Option<Tree>),
     /// The edit was refused, and the graph stays.
     Refused(EditReason),
+    /// The edit was refused, since the graph after it has this induced P4, and the graph stays.
+    RefusedP4(P4),
+    /// The first graph of a session on cographs has this induced P4.
+    NotCograph(P4),
     /// The graph has a transitive orientation: these arcs.
     Oriented(Arcs),
     /// The graph has no transitive orientation, since this chain forces an arc to its reverse.
@@ -107,6 +118,14 @@ pub fn write_line(alloc: Global, line: &Line) -> Result<Vec<u8>, Memory>
             text.extend_from_slice(b"no ")?;
             push_reason(&mut text, *reason)?;
         }
+        Line::RefusedP4(p) => {
+            text.extend_from_slice(b"no p4")?;
+            push_p4(&mut text, p)?;
+        }
+        Line::NotCograph(p) => {
+            text.extend_from_slice(b"p4")?;
+            push_p4(&mut text, p)?;
+        }
         Line::Oriented(arcs) => {
             text.extend_from_slice(b"yes")?;
             push_arcs(&mut text, arcs.as_slice())?;
@@ -126,6 +145,7 @@ fn mode_word(mode: Mode) -> &'static str
     match mode {
         Mode::Tree => "tree",
         Mode::Edit => "edit",
+        Mode::Cograph => "cograph",
         Mode::Compare => "compare",
     }
 }
@@ -148,6 +168,23 @@ fn push_named(text: &mut Vec<u8>, word: &[u8], name: u32) -> Result<(), Memory>
 {
     text.extend_from_slice(word)?;
     push_number(text, u64::from(name))?;
+    Ok(())
+}
+
+// Appends a space and a name, for each of the four names.
+fn push_p4(text: &mut Vec<u8>, p: &P4) -> Result<(), Memory>
+    ensures { OnOk result (text.new.items ≡ text.old.items ++ p4_text p.now) }
+{
+    push_names(text, &[p.a, p.b, p.c, p.d])
+}
+
+// Appends a space and a name for each name.
+fn push_names(text: &mut Vec<u8>, names: &[u32]) -> Result<(), Memory>
+    ensures { OnOk result (text.new.items ≡ text.old.items ++ names_text names.now) }
+{
+    for v in names {
+        push_named(text, b" ", *v)?;
+    }
     Ok(())
 }
 

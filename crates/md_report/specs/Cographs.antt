@@ -1,0 +1,56 @@
+-- Sessions on cographs: an edit that would make an induced P4 is refused with it, and the graph stays.
+-- Source: Corneil, Perl and Stewart, A linear recognition algorithm for cographs; the lines are this project's.
+use Rattle.std.specs.Prelude.{◌≡◌, ◌⊎◌, List, [], ◌∷◌, Option, Some, None}
+use Rattle.md_graph.specs.PlainGraph.{PlainGraph, adjacent}
+use Rattle.md_modules.specs.declared.induced_paths.P4.{P4}
+use Rattle.md_modules.specs.InducedPaths.{IsInducedPath, HasInducedPath}
+use Rattle.md_script.specs.declared.edit.Edit.{Edit}
+use Rattle.md_script.specs.declared.edit.EditReason.{EditReason}
+use Rattle.md_script.specs.Edit.{reason_of, after}
+use Rattle.md_report.specs.Lines.{PlainLine, head, tree, applied, refused, refused_p4, not_cograph, oriented, forced, end}
+use Rattle.md_report.specs.Sessions.{HasTreeLine, state_behind}
+
+-- the four names are an induced P4 of g
+abbrev pub IsP4Of : PlainGraph → P4 → Type 0
+IsP4Of g p = IsInducedPath (adjacent g) g.vertices p.a p.b p.c p.d
+
+-- g is a cograph: it has no induced P4
+abbrev pub IsCograph : PlainGraph → Type 0
+IsCograph g = HasInducedPath (adjacent g) g.vertices → ⊥
+
+-- the line is one with an induced P4 of g
+abbrev pub HasP4Line : (P4 → PlainLine) → PlainGraph → PlainLine → Type 0
+HasP4Line made g line = (p : P4) × IsP4Of g p × (line ≡ made p)
+
+-- the line of the first state: an induced P4 of it, or its tree of strong modules where it is a cograph
+abbrev pub IsOpeningLine : PlainGraph → PlainLine → Type 0
+IsOpeningLine g line = HasP4Line not_cograph g line ⊎ (IsCograph g × HasTreeLine tree g line)
+
+-- the line of an edit at g, by the reason against it: the reason; or an induced P4 of the graph after the edit; or that graph's
+-- tree where it is a cograph
+abbrev pub IsCographLineBy : Option EditReason → PlainGraph → Edit → PlainLine → Type 0
+IsCographLineBy (Some reason) g edit line = line ≡ refused reason
+IsCographLineBy None g edit line =
+    HasP4Line refused_p4 (after g edit) line ⊎ (IsCograph (after g edit) × HasTreeLine applied (after g edit) line)
+
+-- the line of an edit at g
+abbrev pub IsCographLine : PlainGraph → Edit → PlainLine → Type 0
+IsCographLine g edit line = IsCographLineBy (reason_of g edit) g edit line
+
+-- what is still to be answered behind the line of the first state: nothing where that has an induced P4
+abbrev pub edits_behind : PlainLine → List Edit → List Edit
+edits_behind (not_cograph p) edits = []
+edits_behind (head mode) edits = edits
+edits_behind (tree t) edits = edits
+edits_behind (applied t) edits = edits
+edits_behind (refused reason) edits = edits
+edits_behind (refused_p4 p) edits = edits
+edits_behind (oriented arcs) edits = edits
+edits_behind (forced chain) edits = edits
+edits_behind end edits = edits
+
+-- the run of a session over a script: one line for each edit, each at the state that those before it leave
+abbrev pub CographRun : PlainGraph → List Edit → List PlainLine → Type 0
+CographRun g [] lines = lines ≡ []
+CographRun g (edit ∷ edits) [] = ⊥
+CographRun g (edit ∷ edits) (line ∷ lines) = IsCographLine g edit line × CographRun (state_behind g edit line) edits lines
