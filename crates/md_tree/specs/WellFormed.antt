@@ -7,7 +7,7 @@ use Rattle.md_graph.specs.NameSet.{AllBelow}
 use Rattle.md_tree.specs.declared.Kind.{Kind}
 use Rattle.md_tree.specs.declared.Kind.TheVariants.{Parallel, Series, Prime}
 use Rattle.md_tree.specs.declared.Pair.{Pair}
-use Rattle.md_tree.specs.Trees.{PlainTree, leaf, node, PlainTrees, no_tree, one_more, names, names_below, count, EachNode}
+use Rattle.md_tree.specs.Trees.{PlainTree, leaf, node, PlainTrees, no_tree, one_more, names, names_below, count, EachNode, EachNodeBelow}
 use Rattle.md_tree.specs.StrongTrees.{IsInOrder, IsPairBefore}
 
 -- the tree is a node of kind k
@@ -56,6 +56,10 @@ IsCanonical = EachNode IsCanonicalNode
 -- no node of the tree is prime
 abbrev pub HasNoPrimeNode : PlainTree → Type 0
 HasNoPrimeNode = EachNode (λ k cs ps. k ≢ Prime)
+
+-- no node of any of the trees is prime
+abbrev pub HaveNoPrimeNode : PlainTrees → Type 0
+HaveNoPrimeNode = EachNodeBelow (λ k cs ps. k ≢ Prime)
 
 -- a tree is well-formed: its names are below the limit, and each node is as well-formed trees have it; so is no tree
 abbrev pub IsWellFormed : Option PlainTree → Type 0

@@ -5,12 +5,14 @@
 ghost use Rattle.std.specs.Prelude.{◌≡◌, ◌<◌, length, vec_len, slice_index_or};
 ghost use Rattle.md_tree.specs.Plain.{trees_of};
 
+mod cotree;
 pub mod laws;
 mod pair_writer;
 mod parts;
 mod tree_graph;
 mod writer;
 
+pub use cotree::is_cotree;
 pub use parts::{Part, build};
 pub use tree_graph::graph_of;
 pub use writer::{push_text, text};

@@ -1,0 +1,41 @@
+//! Whether a tree is one of a cograph.
+ghost use Rattle.std.specs.Prelude.{◌≡◌, ◌≢◌, ◌↔◌, true, false, IsTrue};
+ghost use Rattle.md_tree.specs.declared.Kind.TheVariants.{Prime};
+ghost use Rattle.md_tree.specs.Plain.{plain, row_of};
+ghost use Rattle.md_tree.specs.WellFormed.{HasNoPrimeNode, HaveNoPrimeNode};
+
+use crate::{Children, Kind, Tree};
+
+/// Whether no node of a tree is prime: the tree is a cotree then, and its graph a cograph.
+#[cycle(look)]
+#[tactic(auto, using(crate::proofs::Plain::plain_is_leaf, crate::proofs::Plain::plain_is_node))]
+pub fn is_cotree(tree: &Tree) -> bool
+    ensures { IsTrue result ↔ HasNoPrimeNode (plain tree.now) }
+{
+    match tree {
+        Tree::Leaf(_) => true,
+        Tree::Node(kind, children, _) => !is_prime(*kind) && are_cotrees(children),
+    }
+}
+
+#[cycle(look)]
+fn are_cotrees(children: &Children) -> bool
+    ensures { IsTrue result ↔ HaveNoPrimeNode (row_of children.now) }
+{
+    for child in &children.list {
+        if !is_cotree(child) {
+            return false;
+        }
+    }
+    true
+}
+
+fn is_prime(kind: Kind) -> bool
+    ensures yes { result ≡ true → kind ≡ Prime }
+    ensures no { result ≡ false → kind ≢ Prime }
+{
+    match kind {
+        Kind::Prime => true,
+        Kind::Parallel | Kind::Series => false,
+    }
+}
