@@ -73,33 +73,30 @@ module _ {e : ℕ → ℕ → Bool} where
   }
 
   module _ (adj : IsAdjacency e) where
-    pub held_more : (s held more left : NameSet) (v last j : ℕ) → IsPrime e s → IsHeld e s v last held → left ≡ difference s held → IsLeastFrom left 0 j →
+    pub held_grown : (s held more : NameSet) (v j : ℕ) → IsPrime e s → IsModule e s held → Has held v → Has s j → Lacks held j →
         IsLeastModuleOver e s (insert held j) more → IsHeld e s v j more
-    held_more s held more left v last j prime is same least over = record {
+    held_grown s held more v j prime is start inside out over = record {
       is_module = over.is_module;
-      start = over.holds v (insert_old held j v is.start);
+      start = over.holds v (insert_old held j v start);
       whole = λ all. (
-        λ e_same. clash (subst (Has held) e_same is.start) out.1,
+        λ e_same. clash (subst (Has held) e_same start) out,
         record {
           is_module = subst (IsModule e s) (same_members more s over.is_module.inside all) over.is_module;
-          has_left = is.is_module.inside v is.start;
-          has_right = out.0;
+          has_left = is.inside v start;
+          has_right = inside;
           least = λ m module_is hv hj. elim (decide_same m s) [ inl m_all ↦ Has-along s m (sym m_all) | inr differs ↦ absurd (covered all m module_is hv hj differs) ];
         },
       );
     } where
-      out : Has s j × Lacks held j
-      out = of_minus s held j (Has-along left _ same j least.member)
-
       -- two proper modules that hold v don't cover s
       covered : Within s more → (m : NameSet) → IsModule e s m → Has m v → Has m j → m ≢ s → ⊥
       covered all m module_is hv hj differs =
-          let held_differs : held ≢ s = λ q. clash (Has-along s held (sym q) j out.0) out.1 in
-          let x : (x : NameSet) × IsMaximalModule e s x × Within held x = in_maximal s held is.is_module held_differs in
+          let held_differs : held ≢ s = λ q. clash (Has-along s held (sym q) j inside) out in
+          let x : (x : NameSet) × IsMaximalModule e s x × Within held x = in_maximal s held is held_differs in
           let y : (y : NameSet) × IsMaximalModule e s y × Within m y = in_maximal s m module_is differs in
-          let one : x.0 ≡ y.0 = maximal_meet adj s x.0 y.0 v prime x.1 y.1 (x.2 v is.start) (y.2 v hv) in
+          let one : x.0 ≡ y.0 = maximal_meet adj s x.0 y.0 v prime x.1 y.1 (x.2 v start) (y.2 v hv) in
           let t : (t : ℕ) × Has s t × Lacks x.0 t = maximal_leaves s x.0 x.1 in
-          let joined : IsModule e s (union held m) = join_module s held m v is.is_module module_is is.start hv in
+          let joined : IsModule e s (union held m) = join_module s held m v is module_is start hv in
           let in_join : Has (union held m) t.0 =
           over.least (union held m) joined
           (λ z h. elim (of_insert held j z h) [ inl new ↦ union_right held m z (subst (Has m) (sym new) hj) | inr old ↦ union_left held m z old ])

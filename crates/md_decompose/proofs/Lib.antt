@@ -1,5 +1,6 @@
 pub mod OrderLemmas
 pub mod ChildLemmas
+pub mod ChainLemmas
 pub mod Joining
 pub mod Opened
 pub mod Components

@@ -1,39 +1,37 @@
 -- The sets that wait to be taken apart, and the parts so far: whatever trees the sets have, with them the parts are those of a tree.
-use Rattle.std.proofs.Common.{◌≡◌, ℕ, suc, ◌+◌, ◌-◌, ◌*◌, ◌<◌, ◌≤◌, Bool, true, false, List, [], ◌∷◌, ◌++◌, length, map, Some, None, refl, sym, ◌∙◌, ap, subst, inl, inr, arith, append_assoc, append-nil}
+use Rattle.std.proofs.Common.{◌≡◌, ℕ, suc, ◌+◌, ◌-◌, ◌*◌, ◌<◌, ◌≤◌, Bool, true, false, List, [], ◌∷◌, ◌++◌, length, map, Contains, Some, None, refl, sym, ◌∙◌, ap, subst, inl, inr, arith, append_assoc, append-nil}
 use Rattle.std.proofs.lemmas.List.{map-append}
 use Rattle.std.specs.FinSet.{len}
-use Rattle.md_graph.specs.Sets.{NameSet, Within, HasSome, HasTwo}
+use Rattle.md_graph.specs.NameSet.{IsLeastFrom}
+use Rattle.md_graph.specs.Sets.{NameSet, Has, Within, HasSome, HasTwo}
 use Rattle.md_modules.specs.Adjacency.{IsAdjacency}
 use Rattle.md_modules.specs.Modules.{IsMaximalStrong}
 use Rattle.md_graph.proofs.SetLemmas.{Has-along}
 use Rattle.md_modules.proofs.Children.{child_unsplit}
-use Rattle.md_graph.proofs.Search.{some_len}
+use Rattle.md_modules.proofs.Strong.{child_of}
+use Rattle.md_graph.proofs.Search.{some_len, first_member}
 use Rattle.md_tree.specs.declared.Kind.{Kind}
 use Rattle.md_tree.specs.declared.Kind.TheVariants.{Parallel, Series, Prime}
 use Rattle.md_tree.specs.declared.Pair.{Pair}
 use Rattle.md_tree.specs.Trees.{PlainTree, leaf, node, PlainTrees, names, row, count, EachNode, EachNodeBelow}
-use Rattle.md_tree.specs.StrongTrees.{HasKind, IsTreeOf}
-use Rattle.md_text.proofs.Lists.{In, of_append, in_left, in_right}
+use Rattle.md_tree.specs.StrongTrees.{HasKind, IsBefore, IsTreeOf}
+use Rattle.md_text.proofs.Lists.{In, of_append, in_left, in_right, of_contains, to_contains, of_pairs}
 use Rattle.md_tree.proofs.Built.{IsBuilt}
 use Rattle.md_tree.proofs.Unique.{two_of_kind}
 use Rattle.md_tree.proofs.Canonical.{built_tree}
 use Rattle.md_decompose.specs.declared.decomposition.Open.{Open}
 use Rattle.md_tree.specs.Parts.{PlainPart, name, inner, parts_of, parts_backward}
-use Rattle.md_decompose.specs.Children.{FitsBelow}
-use Rattle.md_decompose.specs.Turns.{open_below, IsPartOf, IsTurn}
+use Rattle.md_decompose.specs.Children.{FitsBelow, AreChildren}
+use Rattle.md_decompose.specs.declared.chains.Chain.{Chain}
+use Rattle.md_decompose.specs.Chains.{step_at, AreSteps, IsChainOf}
+use Rattle.md_decompose.specs.Turns.{sets_of, AreBare, IsFirstOpen, AreOpen, IsPartOf, IsTurn}
+use Rattle.md_decompose.proofs.ChainLemmas.{steps_none, steps_inside}
 use Rattle.md_decompose.proofs.Joining.{all_names, node_built, weights, weights-append, child_maximal, children_fall}
 
-abbrev pub sets_of : List Open → List NameSet
-sets_of os = map (λ o. o.names) os
-
-sets_below : (k : Kind) (cs : List NameSet) → sets_of (map (open_below k) cs) ≡ cs
-sets_below k [] = refl
-sets_below k (c ∷ cs) = ap (λ ds. c ∷ ds) (sets_below k cs)
-
-below_in : (k : Kind) (cs : List NameSet) (o : Open) → In (map (open_below k) cs) o → (c : NameSet) × In cs c × (o ≡ open_below k c)
-below_in k [] o i = absurd i
-below_in k (c ∷ cs) o (inl same) = (c, inl refl, same)
-below_in k (c ∷ cs) o (inr i) = let r : (c : NameSet) × In cs c × (o ≡ open_below k c) = below_in k cs o i in (r.0, inr r.1, r.2)
+in_sets : (os : List Open) (o : Open) → In os o → In (sets_of os) o.names
+in_sets [] o i = absurd i
+in_sets (q ∷ os) o (inl same) = inl (ap (λ (p : Open). p.names) same)
+in_sets (q ∷ os) o (inr i) = inr (in_sets os o i)
 
 no_trees : (ts : List PlainTree) → map names ts ≡ [] → ts ≡ []
 no_trees [] e = refl
@@ -73,11 +71,99 @@ count_trees : (ts : List PlainTree) → count (row ts) ≡ length (map names ts)
 count_trees [] = refl
 count_trees (t ∷ ts) = ap (λ n. suc n) (count_trees ts)
 
--- a set that waits: a part of all the names, whose kind fits that of the node above
+-- ---- the sets of a node's children
+
+-- sets without chains behind the others
+abbrev pub AreBehind : Kind → List Open → List Open → List NameSet → Type 0
+AreBehind k begun now cs = (os : List Open) × (now ≡ begun ++ os) × AreBare k cs os
+
+pub behind_none : (k : Kind) (os : List Open) (cs : List NameSet) → cs ≡ [] → AreBehind k os os cs
+behind_none k os cs none = ([], sym (append-nil os), (sym none, λ o c. absurd (of_contains [] o c)))
+
+pub behind_more : (k : Kind) (begun now now' : List Open) (cs cs' : List NameSet) (o : Open) → AreBehind k begun now cs → o.parent ≡ Some k → o.chain.taken.items ≡ [] →
+    o.chain.steps.items ≡ [] → now' ≡ now ++ o ∷ [] → cs' ≡ cs ++ o.names ∷ [] → AreBehind k begun now' cs'
+behind_more k begun now now' cs cs' o is below no_names no_steps is_now is_cs = (
+  is.0 ++ o ∷ [],
+  is_now ∙ ap (λ os. os ++ o ∷ []) is.1 ∙ append_assoc begun is.0 (o ∷ []),
+  (
+    map-append (λ (q : Open). q.names) is.0 (o ∷ []) ∙ ap (λ ss. ss ++ o.names ∷ []) is.2.0 ∙ sym is_cs,
+    λ q known. elim (of_append is.0 (o ∷ []) q (of_contains (is.0 ++ o ∷ []) q known)) [
+      | inl i ↦ is.2.1 q (to_contains is.0 q i)
+      | inr i ↦ elim i [
+        | inl same ↦ subst (λ (p : Open). (p.parent ≡ Some k) × (p.chain.taken.items ≡ []) × (p.chain.steps.items ≡ [])) (sym same) (below, no_names, no_steps)
+        | inr none ↦ absurd none
+      ]
+    ],
+  ),
+)
+
+pub opened_all : (k : Kind) (c : NameSet) (cs all : List NameSet) (chain : Chain) (begun begun' now : List Open) (o : Open) → all ≡ c ∷ cs → IsFirstOpen k c chain o →
+    begun' ≡ begun ++ o ∷ [] → AreBehind k begun' now cs → (os : List Open) × (now ≡ begun ++ os) × AreOpen k all chain os
+opened_all k c cs all chain begun begun' now o is_all first is_begun is = (
+  o ∷ is.0,
+  is.1 ∙ ap (λ os. os ++ is.0) is_begun ∙ append_assoc begun (o ∷ []) is.0,
+  subst (λ ss. AreOpen k ss chain (o ∷ is.0)) (sym is_all) (o, is.0, refl, first, is.2),
+)
+
+module _ {e : ℕ → ℕ → Bool} where
+  -- the first child has the least name
+  least_in_first : (s c : NameSet) (cs : List NameSet) → AreChildren e s (c ∷ cs) → HasTwo s → (v : ℕ) → IsLeastFrom c 0 v → IsLeastFrom s 0 v
+  least_in_first s c cs are two v least = record {
+    member = child.is_strong.is_module.inside v least.member;
+    above = least.above;
+    first = λ w h l. let a : z.0 ≤ w = z.2 w h in let b : v ≤ z.0 = least.first z.0 inside (omega arith) in omega arith;
+  } where
+    z : (z : ℕ) × Has s z × ((y : ℕ) → Has s y → z ≤ y)
+    z = first_member s two.0 two.2
+
+    child : IsMaximalStrong e s c
+    child = (are.exactly c).1 (to_contains (c ∷ cs) c (inl refl))
+
+    inside : Has c z.0
+    inside =
+        let m : (m : NameSet) × IsMaximalStrong e s m × Has m z.0 = child_of s z.0 two z.1 in
+        elim (of_contains (c ∷ cs) m.0 ((are.exactly m.0).0 m.1)) [
+          | inl same ↦ Has-along m.0 c same z.0 m.2
+          | inr later ↦
+              let b : IsBefore c m.0 = (of_pairs IsBefore (c ∷ cs) are.order).0 m.0 later in
+              let p : b.0 < z.0 = b.2 z.0 m.2 in
+              let q : z.0 ≤ b.0 = z.2 b.0 (child.is_strong.is_module.inside b.0 b.1) in
+              absurd (omega arith)
+        ]
+
+  -- each child has modules of it
+  pub opened_children : (s : NameSet) (k : Kind) (cs : List NameSet) (chain : Chain) (os : List Open) → AreChildren e s cs → HasTwo s → IsChainOf e s chain → AreOpen k cs chain os →
+      (sets_of os ≡ cs) × ((o : Open) → Contains os o → (o.parent ≡ Some k) × IsChainOf e o.names o.chain)
+  opened_children s k [] chain os are two chained is = (ap sets_of is, λ o c. absurd (of_contains [] o (subst (λ ws. Contains ws o) is c)))
+  opened_children s k (c ∷ cs) chain os are two chained is = (
+    ap sets_of is.2 ∙ ap (λ n. n ∷ sets_of is.1) is.3.is ∙ ap (λ ss. c ∷ ss) is.4.0,
+    λ q known. elim (of_contains (is.0 ∷ is.1) q (subst (λ ws. Contains ws q) is.2 known)) [
+      | inl same ↦ subst (λ (p : Open). (p.parent ≡ Some k) × IsChainOf e p.names p.chain) (sym same) (is.3.below, first_chain)
+      | inr i ↦
+          let bare : (q.parent ≡ Some k) × (q.chain.taken.items ≡ []) × (q.chain.steps.items ≡ []) = is.4.1 q (to_contains is.1 q i) in
+          (bare.0, λ v least. steps_none q.names v q.chain.taken.items q.chain.steps.items bare.1 bare.2)
+    ],
+  ) where
+    first_chain : IsChainOf e is.0.names is.0.chain
+    first_chain v least =
+        let in_c : IsLeastFrom c 0 v = subst (λ n. IsLeastFrom n 0 v) is.3.is least in
+        let child : IsMaximalStrong e s c = (are.exactly c).1 (to_contains (c ∷ cs) c (inl refl)) in
+        subst (λ n. AreSteps e n v is.0.chain.taken.items is.0.chain.steps.items) (sym is.3.is)
+        (steps_inside s c v (len c) chain is.0.chain (chained v (least_in_first s c cs are two v in_c)) child.is_strong in_c.member is.3.front refl)
+
+  pub chain_known : (s : NameSet) (chain : Chain) → HasSome s → IsChainOf e s chain → (k : ℕ) → k < length chain.steps.items → (step_at chain.steps.items k).to ≤ length chain.taken.items
+  chain_known s chain some chained k l =
+      let z : (z : ℕ) × Has s z × ((y : ℕ) → Has s y → z ≤ y) = first_member s some.0 some.1 in
+      ((chained z.0 (record { member = z.1; above = (let same : z.0 ≡ z.0 = refl in omega arith); first = λ w h b. z.2 w h })).each k l).known
+
+-- ---- what waits
+
+-- a set that waits: a part of all the names, whose kind fits that of the node above, with modules of it
 pub record IsReady (e : ℕ → ℕ → Bool) (all : NameSet) (o : Open) : Type 0 where
   pub some : HasSome o.names
   pub inside : Within o.names all
   pub below : FitsBelow e o.names o.parent
+  pub chain : IsChainOf e o.names o.chain
 
 -- the parts are the first ones of a tree of all the names
 abbrev pub IsBegun : (ℕ → ℕ → Bool) → NameSet → List PlainPart → Type 0
@@ -97,13 +183,18 @@ module _ {e : ℕ → ℕ → Bool} (adj : IsAdjacency e) where
     begun_as : {ps qs : List PlainPart} → ps ≡ qs → IsBegun e all ps → IsBegun e all qs
     begun_as same b = (b.0, b.1, b.2, sym same ∙ b.3)
 
-    whole_ready : (o : Open) → HasSome all → o.names ≡ all → o.parent ≡ None → IsReady e all o
-    whole_ready o some same top = record { some = subst HasSome (sym same) some; inside = Has-along o.names all same; below = subst (FitsBelow e o.names) (sym top) tt }
+    whole_ready : (o : Open) → HasSome all → o.names ≡ all → o.parent ≡ None → o.chain.taken.items ≡ [] → o.chain.steps.items ≡ [] → IsReady e all o
+    whole_ready o some same top no_names no_steps = record {
+      some = subst HasSome (sym same) some;
+      inside = Has-along o.names all same;
+      below = subst (FitsBelow e o.names) (sym top) tt;
+      chain = λ v least. steps_none o.names v o.chain.taken.items o.chain.steps.items no_names no_steps;
+    }
 
-    pub opened_begin : (o : Open) (os : List Open) (parts : List PlainPart) → HasSome all → o.names ≡ all → o.parent ≡ None → os ≡ o ∷ [] → parts ≡ [] →
-        IsOpened e all parts os
-    opened_begin o os parts some same top alone none = record {
-      ready = λ q i. elim (subst (λ ws. In ws q) alone i) [ inl is ↦ subst (IsReady e all) (sym is) (whole_ready o some same top) | inr j ↦ absurd j ];
+    pub opened_begin : (o : Open) (os : List Open) (parts : List PlainPart) → HasSome all → o.names ≡ all → o.parent ≡ None → o.chain.taken.items ≡ [] → o.chain.steps.items ≡ [] →
+        os ≡ o ∷ [] → parts ≡ [] → IsOpened e all parts os
+    opened_begin o os parts some same top no_names no_steps alone none = record {
+      ready = λ q i. elim (subst (λ ws. In ws q) alone i) [ inl is ↦ subst (IsReady e all) (sym is) (whole_ready o some same top no_names no_steps) | inr j ↦ absurd j ];
       goes_on = λ ts sets each.
           let r : (t : PlainTree) × (ts ≡ t ∷ []) × (names t ≡ o.names) = one_tree ts o.names (sets ∙ ap sets_of alone) in (
             r.0,
@@ -124,19 +215,21 @@ module _ {e : ℕ → ℕ → Bool} (adj : IsAdjacency e) where
           omega arith
       part_falls (inner k n ps) added part =
           let a : weights part.0 < 2 * len o.names - 1 = children_fall o.names part.0 part.1.children (two_of_kind e o.names k part.1.kind) in
-          let b : weights (sets_of added) ≡ weights part.0 = ap (λ ws. weights (sets_of ws)) part.2 ∙ ap weights (sets_below k part.0) in
+          let b : weights (sets_of added) ≡ weights part.0 = ap weights part.2 in
           omega arith
 
       part_ready : (p : PlainPart) (added : List Open) → IsPartOf e o.names p added → (q : Open) → In added q → IsReady e all q
       part_ready (name v) added part q i = absurd (subst (λ ws. In ws q) part.1 i)
       part_ready (inner k n ps) added part q i =
-          let c : (c : NameSet) × In part.0 c × (q ≡ open_below k c) = below_in k part.0 q (subst (λ ws. In ws q) part.2 i) in
-          let max : IsMaximalStrong e o.names c.0 = child_maximal o.names part.0 part.1.children c.0 c.1 in
-          subst (IsReady e all) (sym c.2) (record {
+          let child : In part.0 q.names = subst (λ ws. In ws q.names) part.2 (in_sets added q i) in
+          let below : (q.parent ≡ Some k) × IsChainOf e q.names q.chain = part.3 q (to_contains added q i) in
+          let max : IsMaximalStrong e o.names q.names = child_maximal o.names part.0 part.1.children q.names child in
+          record {
             some = max.is_strong.is_module.some;
             inside = λ x h. next_ready.inside x (max.is_strong.is_module.inside x h);
-            below = child_fits o.names c.0 k part.1.kind max;
-          })
+            below = subst (FitsBelow e q.names) (sym below.0) (child_fits o.names q.names k part.1.kind max);
+            chain = below.1;
+          }
 
       -- the tree of o over those of its children
       abbrev HasTreeOver : PlainPart → List PlainTree → Type 0
@@ -147,7 +240,7 @@ module _ {e : ℕ → ℕ → Bool} (adj : IsAdjacency e) where
       tree_over (name v) added part us sets each =
           (leaf v, sym part.0, tt, ap (λ ts. name v ∷ parts_backward (row ts)) (sym (no_trees us (sets ∙ ap sets_of part.1))))
       tree_over (inner k n ps) added part us sets each =
-          let same : map names us ≡ part.0 = sets ∙ ap sets_of part.2 ∙ sets_below k part.0 in
+          let same : map names us ≡ part.0 = sets ∙ part.2 in
           let two : HasTwo o.names = two_of_kind e o.names k part.1.kind in (
             node k (row us) ps,
             all_names e us part.0 same o.names part.1.children two,

@@ -1,4 +1,5 @@
 pub mod Children
 pub mod Marks
+pub mod Chains
 pub mod Turns
 pub mod Heads

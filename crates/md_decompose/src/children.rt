@@ -7,7 +7,9 @@ ghost use Rattle.md_modules.specs.Components.{IsComponent};
 ghost use Rattle.md_tree.specs.StrongTrees.{HasKind};
 ghost use Rattle.md_decompose.specs.Children.{AreChildren, FitsBelow, Splits};
 ghost use Rattle.md_decompose.specs.Turns.{ListsForKind};
+ghost use Rattle.md_decompose.specs.Chains.{IsChainOf};
 
+use crate::chains::Chain;
 use crate::prime::prime_children;
 use crate::quotient::quotient_edges;
 use md_graph::{Graph, Memory, Names};
@@ -18,20 +20,23 @@ use std::alloc::Global;
 // The kind of a set of two vertices or more, the leaf sets of its children, in ascending order of
 // their least names, and the pairs of them that it lists. `parent` is the kind of the node above,
 // if there is one: below a parallel node nothing is parallel, and below a series node nothing
-// series.
+// series. `chain` has modules of the set, and may get more.
 pub(crate) fn children(
     alloc: Global,
     graph: &Graph,
     set: &Names,
     parent: Option<Kind>,
+    chain: &mut Chain,
 ) -> Result<(Kind, Vec<Names>, QuotientEdges), Memory>
     requires inside { Within set.now graph.now.vertices }
     requires two { HasTwo set.now }
     requires below { FitsBelow (adjacent graph.now) set.now parent }
+    requires chain { IsChainOf (adjacent graph.now) set.now chain.old }
     ensures kind { IfOk result (λ r. HasKind (adjacent graph.now) set.now r.0) }
     ensures sets { IfOk result (λ r. AreChildren (adjacent graph.now) set.now r.1.items) }
     ensures pairs { IfOk result (λ r.
         ListsForKind (adjacent graph.now) r.0 r.1.items r.2.list.items) }
+    ensures chain { IfOk result (λ _. IsChainOf (adjacent graph.now) set.now chain.new) }
 {
     let _vertices = graph.vertices();
     let below_parallel = matches!(parent, Some(Kind::Parallel));
@@ -42,7 +47,7 @@ pub(crate) fn children(
     if let Some(sets) = components(alloc, graph, set, below_series, true)? {
         return Ok((Kind::Series, sets, no_pairs(alloc)));
     }
-    let sets = prime_children(alloc, graph, set)?;
+    let sets = prime_children(alloc, graph, set, chain)?;
     let edges = quotient_edges(alloc, graph, set, &sets)?;
     Ok((Kind::Prime, sets, edges))
 }

@@ -1,6 +1,6 @@
 //! The tree of a graph: the sets that are still to be taken apart are taken from the end of a
 //! vector, one node each turn.
-ghost use Rattle.std.specs.Prelude.{◌≡◌, [], ◌∷◌, ◌++◌, map, IfOk, IfSome, IfNone};
+ghost use Rattle.std.specs.Prelude.{◌≡◌, ◌<◌, ◌≤◌, ℕ, List, [], ◌∷◌, ◌++◌, length, map, IfOk, IfSome, IfNone};
 ghost use Rattle.md_graph.specs.PlainGraph.{adjacent};
 ghost use Rattle.md_graph.specs.Sets.{Within, HasSome, HasTwo, only_name};
 ghost use Rattle.md_tree.specs.Trees.{PlainTree};
@@ -10,18 +10,23 @@ ghost use Rattle.md_tree.specs.WellFormed.{IsWellFormed};
 ghost use Rattle.md_tree.specs.Plain.{plain_option};
 ghost use Rattle.md_decompose.specs.Children.{FitsBelow};
 ghost use Rattle.md_tree.specs.Parts.{plain_part, parts_of};
-ghost use Rattle.md_decompose.specs.Turns.{open_below, IsTurn};
+ghost use Rattle.md_decompose.specs.Turns.{AreOpen, IsTurn};
+ghost use Rattle.md_decompose.specs.Chains.{IsChainOf, step_at};
+ghost use Rattle.md_decompose.specs.declared.decomposition.Open.{Open};
 
+use crate::chains::Chain;
 use crate::children::children;
 use md_graph::{Graph, Memory, Names};
 use md_tree::{Kind, Part, Tree, build};
 use std::alloc::Global;
 
-// A set of vertices whose tree is to come, and the kind of the node above it.
+// A set of vertices whose tree is to come, the kind of the node above it, and modules of the set
+// that hold its least name.
 #[derive(Drop)]
 struct Open {
     names: Names,
     parent: Option<Kind>,
+    chain: Chain,
 }
 
 /// The tree of the strong modules of a graph, none exactly for the graph without vertices: the leaf
@@ -54,9 +59,10 @@ fn parts(alloc: Global, graph: &Graph) -> Result<Vec<Part>, Memory>
     waiting.push(Open {
         names: graph.vertices().copy(),
         parent: None,
+        chain: Chain::none(alloc),
     })?;
     while let Some(next) = waiting.pop() {
-        take_apart(alloc, graph, &next, &mut parts, &mut waiting)?;
+        take_apart(alloc, graph, next, &mut parts, &mut waiting)?;
     }
     Ok(parts)
 }
@@ -66,24 +72,30 @@ fn parts(alloc: Global, graph: &Graph) -> Result<Vec<Part>, Memory>
 fn take_apart(
     alloc: Global,
     graph: &Graph,
-    set: &Open,
+    set: Open,
     parts: &mut Vec<Part>,
     waiting: &mut Vec<Open>,
 ) -> Result<(), Memory>
-    requires some { HasSome set.now.names }
-    requires inside { Within set.now.names graph.now.vertices }
-    requires below { FitsBelow (adjacent graph.now) set.now.names set.now.parent }
-    ensures { IfOk result (λ _. IsTurn (adjacent graph.now) set.now.names
+    requires some { HasSome set.names }
+    requires inside { Within set.names graph.now.vertices }
+    requires below { FitsBelow (adjacent graph.now) set.names set.parent }
+    requires chain { IsChainOf (adjacent graph.now) set.names set.chain }
+    ensures { IfOk result (λ _. IsTurn (adjacent graph.now) set.names
         (map plain_part parts.old.items) waiting.old.items
         (map plain_part parts.new.items) waiting.new.items) }
 {
-    if let Some(name) = only_member(&set.names) {
+    let Open {
+        names,
+        parent,
+        mut chain,
+    } = set;
+    if let Some(name) = only_member(&names) {
         parts.push(Part::Leaf(name))?;
         return Ok(());
     }
-    let (kind, sets, edges) = children(alloc, graph, &set.names, set.parent)?;
+    let (kind, sets, edges) = children(alloc, graph, &names, parent, &mut chain)?;
     parts.push(Part::Node(kind, sets.len() as u64, edges))?;
-    push_open(waiting, kind, sets)
+    push_open(alloc, waiting, kind, sets, &chain)
 }
 
 // The member of a set with one member.
@@ -101,16 +113,37 @@ pub(crate) fn only_member(set: &Names) -> Option<u32>
     }
 }
 
-// The children's sets in order, so that the last one is taken apart first.
-fn push_open(waiting: &mut Vec<Open>, kind: Kind, sets: Vec<Names>) -> Result<(), Memory>
-    ensures { IfOk result (λ _. waiting.new.items
-        ≡ waiting.old.items ++ map (open_below kind) sets.items) }
+// The children's sets in order, so that the last one is taken apart first. The first one gets the
+// modules of the chain that lie in it.
+fn push_open(
+    alloc: Global,
+    waiting: &mut Vec<Open>,
+    kind: Kind,
+    sets: Vec<Names>,
+    chain: &Chain,
+) -> Result<(), Memory>
+    requires { (k : ℕ) → k < length chain.now.steps.items
+        → (step_at chain.now.steps.items k).to ≤ length chain.now.taken.items }
+    ensures { IfOk result (λ _. (os : List Open)
+        × (waiting.new.items ≡ waiting.old.items ++ os)
+        × AreOpen kind sets.items chain.now os) }
 {
     waiting.reserve(sets.len())?;
-    for names in sets {
+    let mut rest = sets.into_iter();
+    let Some(first) = rest.next() else {
+        return Ok(());
+    };
+    let chain = chain.within(alloc, first.count() as usize)?;
+    waiting.push_reserved(Open {
+        names: first,
+        parent: Some(kind),
+        chain,
+    });
+    for names in rest {
         waiting.push_reserved(Open {
             names,
             parent: Some(kind),
+            chain: Chain::none(alloc),
         });
     }
     Ok(())

@@ -4,6 +4,7 @@
 //! tree, from which it is put together at the end: no call nests as deep as the tree.
 #![tactic(auto)]
 
+mod chains;
 mod children;
 mod decomposition;
 mod ordered;

@@ -6,50 +6,67 @@ ghost use Rattle.md_graph.specs.Sets.{Has, Lacks, Within};
 ghost use Rattle.md_modules.specs.Modules.{IsModule, IsLeastModule, IsLeastModuleOver};
 ghost use Rattle.md_modules.specs.Kinds.{IsPrime};
 ghost use Rattle.md_decompose.specs.Children.{AreChildren};
+ghost use Rattle.md_decompose.specs.Chains.{IsChainOf, AreSteps};
 
+use crate::chains::Chain;
 use crate::ordered::in_order;
 use md_graph::{Graph, Memory, Names};
 use md_modules::{back, grow, maximal_modules};
 use std::alloc::Global;
 
 // The maximal proper modules of a prime set of vertices, in ascending order of their least names.
+// `chain` has modules of the set, and may get more.
 pub(crate) fn prime_children(
     alloc: Global,
     graph: &Graph,
     set: &Names,
+    chain: &mut Chain,
 ) -> Result<Vec<Names>, Memory>
     requires inside { Within set.now graph.now.vertices }
     requires prime { IsPrime (adjacent graph.now) set.now }
-    ensures { IfOk result (λ sets. AreChildren (adjacent graph.now) set.now sets.items) }
+    requires chain { IsChainOf (adjacent graph.now) set.now chain.old }
+    ensures children { IfOk result (λ sets.
+        AreChildren (adjacent graph.now) set.now sets.items) }
+    ensures chain { IfOk result (λ _. IsChainOf (adjacent graph.now) set.now chain.new) }
 {
     let _vertices = graph.vertices();
     let Some(v) = set.first_from(0) else {
         unreachable!();
     };
-    let j = far_from(graph, set, v);
+    let j = far_from(graph, set, v, chain)?;
     let mut rest = Names::none();
     back(graph, set, v, j, &mut rest);
     let classes = maximal_modules(alloc, graph, set, &rest)?;
     in_order(alloc, set.minus(&rest), &classes)
 }
 
-// A member of a prime set that no proper module holds with its member `v`.
-fn far_from(graph: &Graph, set: &Names, v: u32) -> u32
+// A member of a prime set that no proper module holds with its member `v`. The search begins with
+// the last module of the chain, and puts those that it grows behind it, but for the whole set.
+fn far_from(graph: &Graph, set: &Names, v: u32, chain: &mut Chain) -> Result<u32, Memory>
     requires inside { Within set.now graph.now.vertices }
     requires prime { IsPrime (adjacent graph.now) set.now }
     requires member { Has set.now v }
-    ensures differ { v ≢ result }
-    ensures whole { IsLeastModule (adjacent graph.now) set.now v result set.now }
+    requires steps { AreSteps (adjacent graph.now) set.now v
+        chain.old.taken.items chain.old.steps.items }
+    ensures differ { IfOk result (λ j. v ≢ j) }
+    ensures whole { IfOk result (λ j. IsLeastModule (adjacent graph.now) set.now v j set.now) }
+    ensures steps { IfOk result (λ _. AreSteps (adjacent graph.now) set.now v
+        chain.new.taken.items chain.new.steps.items) }
 {
     let _vertices = graph.vertices();
-    let mut held = Names::none();
-    held.insert(v);
-    let mut last = v;
-    while let Some(j) = set.first_told_apart(&held, set) {
-        last = j;
+    let mut begun = chain.names(v);
+    let mut last = chain.last_led(v);
+    while let Some(j) = set.first_told_apart(&begun, set) {
+        let mut held = begun.copy();
         hold(graph, set, v, j, &mut held);
+        if held.is_same(set) {
+            return Ok(j);
+        }
+        chain.push(&begun, &held, j)?;
+        begun = held;
+        last = j;
     }
-    last
+    Ok(last)
 }
 
 // Grows a module that holds `v` to the least one that has `j` too. Condition: `set` is a set of
@@ -82,7 +99,7 @@ mod tests {
         assert!(rt; g.has_vertex(1));
         assert!(rt; connected(g));
         assert!(rt; co_connected(g));
-        let sets = prime_children(alloc, g, g.vertices())?;
+        let sets = prime_children(alloc, g, g.vertices(), &mut Chain::none(alloc))?;
         assert_eq!(rt; sets.len(), lists.len());
         for (set, list) in sets.iter().zip(lists) {
             assert_eq!(rt; set.count() as usize, list.len());

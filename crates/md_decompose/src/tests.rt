@@ -1,6 +1,7 @@
 //! Trees of small graphs, each found from the definitions by going through all sets of names, and a
 //! tree as deep as one can be.
 mod by_closures;
+mod nested;
 
 use super::*;
 use md_graph::{Graph, Memory, NAMES, Names};

@@ -1,11 +1,14 @@
 //! The children of prime sets by the closures of pairs, a slow program, beside the fast one: on all
-//! graphs of up to five vertices, and on larger ones of many kinds.
+//! graphs of up to five vertices, and on larger ones of many kinds. The slow program writes the text
+//! of its tree, too, which is that of the fast one.
 use super::{is_same_set, join};
+use crate::chains::Chain;
 use crate::children::children;
+use crate::decompose;
 use crate::decomposition::only_member;
 use md_graph::{Graph, Memory, NAMES, Names};
 use md_modules::closure_in;
-use md_tree::Kind;
+use md_tree::{Kind, QuotientEdges, text};
 use std::alloc::Global;
 use std::process::Abort;
 use std::test::Fail;
@@ -147,41 +150,113 @@ fn expect_same(rt: &impl Abort, left: &[Names], right: &[Names]) {
     }
 }
 
-// Sees that both programs give a set the same children, which come behind the waiting sets.
+// What is still to be written of a tree.
+#[derive(Drop)]
+enum Piece {
+    Set(Names),
+    Word(String),
+}
+
+// Sees that both programs give a set the same children, and writes its name, or how the text of its
+// node begins; the rest waits.
 fn divide(
     rt: &impl Abort,
     alloc: Global,
     graph: &Graph,
     set: &Names,
-    waiting: &mut Vec<Names>,
+    waiting: &mut Vec<Piece>,
+    written: &mut String,
 ) -> Result<(), Memory> {
     let within = set.and(graph.vertices());
     let Some(_) = within.first_from(0) else {
         return Ok(());
     };
-    if only_member(&within).is_some() {
+    if let Some(name) = only_member(&within) {
+        let word = format!(in alloc; "{name}")?;
+        written.push_str(word.as_str())?;
         return Ok(());
     }
-    let (kind, sets, _) = children(alloc, graph, &within, None)?;
+    let (kind, sets, edges) = children(alloc, graph, &within, None, &mut Chain::none(alloc))?;
     if matches!(kind, Kind::Prime) {
         expect_same(rt, &sets, &slow_children(rt, alloc, graph, set)?);
     }
-    for names in sets {
-        waiting.push(names)?;
+    written.push_str(letter(kind))?;
+    waiting.push(Piece::Word(behind(alloc, &edges)?))?;
+    push_sets(alloc, sets, waiting)
+}
+
+fn letter(kind: Kind) -> &'static str {
+    match kind {
+        Kind::Parallel => "P(",
+        Kind::Series => "S(",
+        Kind::Prime => "R(",
+    }
+}
+
+// How the text of a node ends.
+fn behind(alloc: Global, edges: &QuotientEdges) -> Result<String, Memory> {
+    let mut word = String::new(alloc);
+    for (place, pair) in edges.list.iter().enumerate() {
+        word.push_str(if place == 0 { ";" } else { "," })?;
+        let next = format!(in alloc; "{}-{}", pair.low, pair.high)?;
+        word.push_str(next.as_str())?;
+    }
+    word.push(')')?;
+    Ok(word)
+}
+
+// The sets wait, the first one at the end, with commas between.
+fn push_sets(alloc: Global, sets: Vec<Names>, waiting: &mut Vec<Piece>) -> Result<(), Memory> {
+    let mut left = sets;
+    for _ in 0..NAMES {
+        let Some(names) = left.pop() else {
+            return Ok(());
+        };
+        waiting.push(Piece::Set(names))?;
+        if !left.is_empty() {
+            waiting.push(Piece::Word(format!(in alloc; ",")?))?;
+        }
     }
     Ok(())
 }
 
-// Sees that both programs take a graph apart in the same way.
-fn compare(rt: &impl Abort, alloc: Global, graph: &Graph) -> Result<(), Memory> {
-    let mut waiting = Vec::new(alloc);
-    waiting.push(graph.vertices().copy())?;
-    for _ in 0..2 * NAMES {
-        let Some(set) = waiting.pop() else {
-            return Ok(());
-        };
-        divide(rt, alloc, graph, &set, &mut waiting)?;
+fn put(
+    rt: &impl Abort,
+    alloc: Global,
+    graph: &Graph,
+    piece: &Piece,
+    waiting: &mut Vec<Piece>,
+    written: &mut String,
+) -> Result<(), Memory> {
+    match piece {
+        Piece::Set(names) => divide(rt, alloc, graph, names, waiting, written),
+        Piece::Word(word) => {
+            written.push_str(word.as_str())?;
+            Ok(())
+        }
     }
+}
+
+// The text of the tree by the slow program.
+fn slow_text(rt: &impl Abort, alloc: Global, graph: &Graph) -> Result<String, Memory> {
+    let mut written = String::new(alloc);
+    let mut waiting = Vec::new(alloc);
+    waiting.push(Piece::Set(graph.vertices().copy()))?;
+    for _ in 0..8 * NAMES {
+        let Some(piece) = waiting.pop() else {
+            return Ok(written);
+        };
+        put(rt, alloc, graph, &piece, &mut waiting, &mut written)?;
+    }
+    Ok(written)
+}
+
+// Sees that both programs take a graph apart in the same way.
+pub(super) fn compare(rt: &impl Abort, alloc: Global, graph: &Graph) -> Result<(), Memory> {
+    let slow = slow_text(rt, alloc, graph)?;
+    let tree = decompose(alloc, graph)?;
+    let fast = text(alloc, &tree)?;
+    assert_eq!(rt; fast.as_slice(), slow.as_bytes());
     Ok(())
 }
 

@@ -8,9 +8,9 @@ use Rattle.md_decompose.proofs.decomposition.parts.Goals as goal
 
 pub loop-next-init : goal.loop-next-init
 loop-next-init c =
-    opened_begin (graph_adjacency c.vertices.ensures.graph) c.args.graph.now.vertices (record { names = c.copy.result; parent = None }) c.push.new.self.items
-    (map plain_part c.new-parts.result.items) c.requires (c.copy.ensures ∙ c.vertices.ensures.set) refl
-    (c.in_ok-push.ensures.items ∙ ap (λ os. os ++ record { names = c.copy.result; parent = None } ∷ []) c.new-waiting.ensures.items)
+    opened_begin (graph_adjacency c.vertices.ensures.graph) c.args.graph.now.vertices (record { names = c.copy.result; parent = None; chain = c.none.result }) c.push.new.self.items
+    (map plain_part c.new-parts.result.items) c.requires (c.copy.ensures ∙ c.vertices.ensures.set) refl c.none.ensures.taken c.none.ensures.steps
+    (c.in_ok-push.ensures.items ∙ ap (λ os. os ++ record { names = c.copy.result; parent = None; chain = c.none.result } ∷ []) c.new-waiting.ensures.items)
     (ap (map plain_part) c.new-parts.ensures.items)
 
 pub take_apart-requires : goal.take_apart-requires
@@ -18,7 +18,7 @@ take_apart-requires c =
     let ready : IsReady (adjacent c.args.graph.now) c.args.graph.now.vertices c.in-Some.next =
     next_ready (graph_adjacency c.vertices.ensures.graph) c.args.graph.now.vertices (map plain_part c.loop-next.parts.items) c.loop-next.waiting.items c.pop.new.self.items c.in-Some.next c.loop-next.invariant
     c.in-Some.ensures.items in
-    record { some = ready.some; inside = ready.inside; below = ready.below }
+    record { some = ready.some; inside = ready.inside; below = ready.below; chain = ready.chain }
 
 pub loop-next-smaller : goal.loop-next-smaller
 loop-next-smaller c =

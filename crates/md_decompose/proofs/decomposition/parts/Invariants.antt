@@ -2,7 +2,8 @@ use Rattle.std.proofs.Common.{map}
 use Rattle.md_graph.specs.PlainGraph.{adjacent}
 use Rattle.md_tree.specs.Parts.{plain_part}
 use Rattle.md_decompose.proofs.Joining.{weights}
-use Rattle.md_decompose.proofs.Opened.{IsOpened, sets_of}
+use Rattle.md_decompose.specs.Turns.{sets_of}
+use Rattle.md_decompose.proofs.Opened.{IsOpened}
 use Rattle.md_decompose.proofs.decomposition.parts.Given as goal
 
 abbrev pub invariant-loop-next : goal.invariant-loop-next

@@ -1,37 +1,74 @@
-use Rattle.std.proofs.Common.{◌∙◌, ap}
-use Rattle.std.specs.FinSet.{insert, intersection}
-use Rattle.md_graph.specs.NameSet.{told_apart}
-use Rattle.md_graph.proofs.SetLemmas.{of_minus, Has-along, rest_told}
+use Rattle.std.proofs.Common.{subst, sym}
 use Rattle.md_modules.proofs.Turns.{graph_adjacency}
-use Rattle.md_decompose.proofs.ChildLemmas.{held_begins, held_falls, held_more, held_ends}
+use Rattle.md_graph.specs.PlainGraph.{adjacent}
+use Rattle.md_graph.specs.declared.TheConstants.{NAMES}
+use Rattle.md_graph.specs.Sets.{Lacks}
+use Rattle.md_decompose.proofs.ChildLemmas.{IsHeld}
+use Rattle.md_decompose.proofs.ChainLemmas.{steps_held, steps_within, told_out, turn_held, turn_grown, turn_falls, turn_whole, turn_names, search_ends, steps_pushed}
 use Rattle.md_decompose.proofs.prime.far_from.Goals as goal
 
-pub insert-requires : goal.insert-requires
-insert-requires c = c.vertices-vertices.ensures.graph.names c.args.v (c.requires.inside c.args.v c.requires.member)
+pub names-begun-requires-clause-names : goal.names-begun-requires-clause-names
+names-begun-requires-clause-names c x known =
+    let graph = c.vertices-vertices.ensures.graph in
+    graph.names x (c.requires.inside x (steps_within (graph_adjacency graph) c.args.set.now c.args.v c.requires.prime c.requires.member c.args.chain.now.taken.items c.args.chain.now.steps.items c.requires.steps x known))
 
 pub loop-j-init : goal.loop-j-init
-loop-j-init c =
-    held_begins c.args.set.now c.insert.new.self c.args.v c.requires.prime c.requires.member (c.insert.ensures ∙ ap (λ s. insert s c.args.v) c.none-held.ensures)
+loop-j-init c = record {
+  is_held = subst (IsHeld (adjacent c.args.graph.now) c.args.set.now c.args.v c.last_led-last.result) (sym c.names-begun.ensures)
+      (steps_held (graph_adjacency c.vertices-vertices.ensures.graph) c.args.set.now c.args.v c.requires.prime c.requires.member c.args.chain.now.taken.items c.args.chain.now.steps.items
+      c.last_led-last.result c.requires.steps c.last_led-last.ensures.none c.last_led-last.ensures.some);
+  is_last = c.names-begun.ensures;
+  steps = c.requires.steps;
+}
 
 pub hold-requires-clause-member : goal.hold-requires-clause-member
-hold-requires-clause-member c = (of_minus c.args.set.now c.loop-j.held c.in-Some.j (Has-along _ _ (rest_told c.args.set.now c.loop-j.held) c.in-Some.j c.in-Some.ensures.found.member)).0
+hold-requires-clause-member c = (told_out c.args.set.now c.loop-j.begun c.in-Some.j c.in-Some.ensures.found).0
 
 pub hold-requires-clause-new : goal.hold-requires-clause-new
-hold-requires-clause-new c = (of_minus c.args.set.now c.loop-j.held c.in-Some.j (Has-along _ _ (rest_told c.args.set.now c.loop-j.held) c.in-Some.j c.in-Some.ensures.found.member)).1
+hold-requires-clause-new c = subst (λ s. Lacks s c.in-Some.j) (sym c.copy-held.ensures) (told_out c.args.set.now c.loop-j.begun c.in-Some.j c.in-Some.ensures.found).1
+
+pub returns-then-is_same-clause-differ : goal.returns-then-is_same-clause-differ
+returns-then-is_same-clause-differ c =
+    (turn_whole (graph_adjacency c.vertices-vertices.ensures.graph) c.args.set.now c.args.v c.requires.prime c.requires.member c.loop-j.begun c.copy-held.result c.hold.new.held c.loop-j.last c.in-Some.j
+    c.loop-j.invariant.is_held c.in-Some.ensures.found c.copy-held.ensures c.hold.ensures (c.is_same.ensures.0 c.if-is_same.true)).0
+
+pub returns-then-is_same-clause-whole : goal.returns-then-is_same-clause-whole
+returns-then-is_same-clause-whole c =
+    (turn_whole (graph_adjacency c.vertices-vertices.ensures.graph) c.args.set.now c.args.v c.requires.prime c.requires.member c.loop-j.begun c.copy-held.result c.hold.new.held c.loop-j.last c.in-Some.j
+    c.loop-j.invariant.is_held c.in-Some.ensures.found c.copy-held.ensures c.hold.ensures (c.is_same.ensures.0 c.if-is_same.true)).1
 
 pub loop-j-smaller : goal.loop-j-smaller
 loop-j-smaller c =
-    held_falls c.args.set.now c.loop-j.held c.hold.new.held (intersection c.args.set.now (told_apart c.loop-j.held c.args.set.now)) c.in-Some.j (rest_told c.args.set.now c.loop-j.held) c.in-Some.ensures.found c.hold.ensures
+    turn_falls (graph_adjacency c.vertices-vertices.ensures.graph) c.args.set.now c.args.v c.requires.prime c.requires.member c.loop-j.begun c.copy-held.result c.hold.new.held c.loop-j.last c.in-Some.j
+    c.loop-j.invariant.is_held c.in-Some.ensures.found c.copy-held.ensures c.hold.ensures
 
 pub loop-j-preserved : goal.loop-j-preserved
 loop-j-preserved c =
-    held_more (graph_adjacency c.vertices-vertices.ensures.graph) c.args.set.now c.loop-j.held c.hold.new.held (intersection c.args.set.now (told_apart c.loop-j.held c.args.set.now)) c.args.v c.loop-j.last c.in-Some.j
-    c.requires.prime c.loop-j.invariant (rest_told c.args.set.now c.loop-j.held) c.in-Some.ensures.found c.hold.ensures
+    let graph = c.vertices-vertices.ensures.graph in
+    let adj = graph_adjacency graph in
+    let s = c.args.set.now in
+    let v = c.args.v in
+    let begun = c.loop-j.begun in
+    let held = c.hold.new.held in
+    let j = c.in-Some.j in
+    let is = c.loop-j.invariant.is_held in
+    let found = c.in-Some.ensures.found in
+    let pushed =
+    steps_pushed s v c.loop-j.chain.taken.items c.push.new.self.taken.items c.loop-j.chain.steps.items c.push.new.self.steps.items begun held j c.loop-j.invariant.steps c.loop-j.invariant.is_last
+    (turn_grown adj s v c.requires.prime c.requires.member begun c.copy-held.result held c.loop-j.last j is found c.copy-held.ensures c.hold.ensures)
+    (turn_names adj s v c.requires.prime c.requires.member begun c.copy-held.result held c.loop-j.last j is found c.copy-held.ensures c.hold.ensures NAMES (λ x h. graph.names x (c.requires.inside x h)))
+    c.in_ok-push.ensures.taken c.in_ok-push.ensures.steps
+    in
+    record {
+      is_held = turn_held adj s v c.requires.prime c.requires.member begun c.copy-held.result held c.loop-j.last j is found c.copy-held.ensures c.hold.ensures;
+      is_last = pushed.1;
+      steps = pushed.0;
+    }
 
 pub returns-clause-differ : goal.returns-clause-differ
 returns-clause-differ c =
-    (held_ends c.args.set.now c.loop-j.held (intersection c.args.set.now (told_apart c.loop-j.held c.args.set.now)) c.args.v c.loop-j.last (rest_told c.args.set.now c.loop-j.held) c.in_default.ensures.none c.loop-j.invariant).0
+    (search_ends (graph_adjacency c.vertices-vertices.ensures.graph) c.args.set.now c.args.v c.requires.prime c.requires.member c.loop-j.begun c.loop-j.last c.loop-j.invariant.is_held c.in_default.ensures.none).0
 
 pub returns-clause-whole : goal.returns-clause-whole
 returns-clause-whole c =
-    (held_ends c.args.set.now c.loop-j.held (intersection c.args.set.now (told_apart c.loop-j.held c.args.set.now)) c.args.v c.loop-j.last (rest_told c.args.set.now c.loop-j.held) c.in_default.ensures.none c.loop-j.invariant).1
+    (search_ends (graph_adjacency c.vertices-vertices.ensures.graph) c.args.set.now c.args.v c.requires.prime c.requires.member c.loop-j.begun c.loop-j.last c.loop-j.invariant.is_held c.in_default.ensures.none).1

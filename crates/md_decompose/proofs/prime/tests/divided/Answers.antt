@@ -2,6 +2,7 @@ use Rattle.std.proofs.Common.{◌≡◌, true, subst, sym, ◌∙◌, rules, ari
 use Rattle.md_graph.specs.PlainGraph.{adjacent}
 use Rattle.md_graph.specs.Sets.{NameSet}
 use Rattle.md_modules.specs.Kinds.{IsPrime}
+use Rattle.md_decompose.proofs.ChainLemmas.{steps_none}
 use Rattle.md_decompose.proofs.prime.tests.divided.Goals as goal
 
 pub prime_children-requires-clause-prime : goal.prime_children-requires-clause-prime
@@ -15,3 +16,6 @@ prime_children-requires-clause-prime g c =
       connected = c.connected.ensures.0 whole;
       co_connected = c.co_connected.ensures.0 co_whole;
     })
+
+pub prime_children-requires-clause-chain : goal.prime_children-requires-clause-chain
+prime_children-requires-clause-chain g c v least = steps_none c.vertices.result.now v c.none.result.taken.items c.none.result.steps.items c.none.ensures.taken c.none.ensures.steps

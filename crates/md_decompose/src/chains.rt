@@ -1,0 +1,144 @@
+//! The modules of a set that hold its least name, each inside the next, by which a search grew: the
+//! first child of the set has the same least name, and need not grow them again.
+ghost use Rattle.std.specs.Prelude.{◌≡◌, ◌<◌, ◌≤◌, ◌-◌, ◌++◌, ◌∷◌, [], ℕ, Contains, IfOk, length};
+ghost use Rattle.std.specs.FinSet.{difference, from_list};
+ghost use Rattle.md_graph.specs.NameSet.{ascending};
+ghost use Rattle.md_graph.specs.declared.TheConstants.{NAMES};
+ghost use Rattle.md_decompose.specs.Chains.{with_names, step_at, taken_with, IsFront};
+
+use md_graph::{Memory, NAMES, Names};
+use std::alloc::Global;
+
+// A module of the chain: how many names were taken before it and with it, beside the least name,
+// and the name that led to it.
+#[derive(Clone, Copy)]
+pub(crate) struct Step {
+    from: usize,
+    to: usize,
+    led: u32,
+}
+
+// The names in the order in which they were taken, and the modules.
+#[derive(Drop)]
+pub(crate) struct Chain {
+    taken: Vec<u32>,
+    steps: Vec<Step>,
+}
+
+impl Chain {
+    // No module but the least name alone.
+    pub(crate) fn none(alloc: Global) -> Chain
+        ensures taken { result.taken.items ≡ [] }
+        ensures steps { result.steps.items ≡ [] }
+    {
+        Chain {
+            taken: Vec::new(alloc),
+            steps: Vec::new(alloc),
+        }
+    }
+
+    // The last module of a chain whose least name is `v`.
+    pub(crate) fn names(&self, v: u32) -> Names
+        requires least { v < NAMES }
+        requires names { (x : ℕ) → Contains self.now.taken.items x → x < NAMES }
+        ensures { result ≡ with_names v self.now.taken.items }
+    {
+        let mut names = listed(&self.taken);
+        names.insert(v);
+        names
+    }
+
+    // The name that led to the last module; `v` where none did.
+    pub(crate) fn last_led(&self, v: u32) -> u32
+        ensures none { length self.now.steps.items ≡ 0 → result ≡ v }
+        ensures some { 0 < length self.now.steps.items
+            → result ≡ (step_at self.now.steps.items (length self.now.steps.items - 1)).led }
+    {
+        match self.steps.last() {
+            Some(step) => step.led,
+            None => v,
+        }
+    }
+
+    // One more module, which grew from the last one, `begun`, after `led`.
+    pub(crate) fn push(&mut self, begun: &Names, held: &Names, led: u32) -> Result<(), Memory>
+        ensures taken { IfOk result (λ _. self.new.taken.items
+            ≡ self.old.taken.items ++ ascending (difference held.now begun.now)) }
+        ensures steps { IfOk result (λ _. self.new.steps.items ≡ self.old.steps.items
+            ++ record {
+              from = length self.old.taken.items;
+              to = length self.new.taken.items;
+              led = led;
+            } ∷ []) }
+    {
+        let from = self.taken.len();
+        take_members(&mut self.taken, &held.minus(begun))?;
+        let to = self.taken.len();
+        self.steps.push(Step { from, to, led })?;
+        Ok(())
+    }
+
+    // The modules with at most `most` names. They are copied, so that no chain keeps more room than
+    // for the names of its set.
+    pub(crate) fn within(&self, alloc: Global, most: usize) -> Result<Chain, Memory>
+        requires { (k : ℕ) → k < length self.now.steps.items
+            → (step_at self.now.steps.items k).to ≤ length self.now.taken.items }
+        ensures { IfOk result (λ front. IsFront self.now most front) }
+    {
+        let count = count_within(&self.steps, most);
+        let to = end_of(&self.steps, count);
+        Ok(Chain {
+            taken: Vec::from_slice(alloc, &self.taken[..to])?,
+            steps: Vec::from_slice(alloc, &self.steps[..count])?,
+        })
+    }
+}
+
+// The set of the names of a list.
+fn listed(taken: &[u32]) -> Names
+    requires { (x : ℕ) → Contains taken.now x → x < NAMES }
+    ensures { result ≡ from_list taken.now }
+{
+    let mut names = Names::none();
+    for name in taken {
+        names.insert(*name);
+    }
+    names
+}
+
+// Takes the members of a set, in ascending order.
+fn take_members(taken: &mut Vec<u32>, names: &Names) -> Result<(), Memory>
+    ensures { IfOk result (λ _. taken.new.items ≡ taken.old.items ++ ascending names.now) }
+{
+    for name in names.members() {
+        taken.push(name)?;
+    }
+    Ok(())
+}
+
+// How many of the first modules end within `most` names, the least one among them.
+fn count_within(steps: &[Step], most: usize) -> usize
+    ensures known { result ≤ length steps.now }
+    ensures inside { 0 < result → taken_with steps.now result < most }
+    ensures beyond { (k : ℕ) → result ≤ k → k < length steps.now → most ≤ (step_at steps.now k).to }
+{
+    let mut count = steps.len();
+    while count > 0 {
+        if steps[count - 1].to < most {
+            return count;
+        }
+        count -= 1;
+    }
+    0
+}
+
+// How many names are taken with the first `count` modules.
+fn end_of(steps: &[Step], count: usize) -> usize
+    requires { count ≤ length steps.now }
+    ensures { result ≡ taken_with steps.now count }
+{
+    if count == 0 {
+        return 0;
+    }
+    steps[count - 1].to
+}
