@@ -1,11 +1,10 @@
 -- The members of a set, 64 names at a time.
-use Rattle.std.specs.Prelude.{◌≡◌, ℕ, zero, suc, ◌+◌, ◌-◌, ◌*◌, ◌/◌, ◌%◌, ◌<◌, ◌≤◌, max, cond, ◌&&◌, ◌==◌, nat_le, List, [], ◌∷◌, ◌++◌, length, get_or, refl}
+use Rattle.std.specs.Prelude.{◌≡◌, ℕ, zero, suc, ◌+◌, ◌-◌, ◌*◌, ◌/◌, ◌%◌, ◌<◌, ◌≤◌, max, cond, ◌&&◌, ◌==◌, nat_le, List, [], ◌∷◌, ◌++◌, length, refl}
 use Rattle.std.specs.Int.{bit_at}
 use Rattle.std.specs.List.{All}
 use Rattle.std.specs.Option.{option_map_or}
 use Rattle.std.proofs.Common.{subst, ap, sym, ◌∙◌, arith, inl, inr, append_assoc}
 use Rattle.std.proofs.lemmas.Bool.{cases_lt, le-leb, lt-leb, false_from_ne_true}
-use Rattle.std.proofs.lemmas.List.{append-nil}
 use Rattle.std.proofs.lemmas.List.Elements.{All-head, All-tail, All-weaker}
 use Rattle.std.proofs.lemmas.Option.{slice_get-get_or}
 use Rattle.std.specs.FinSet as set
@@ -21,8 +20,8 @@ use Rattle.md_text.specs.Numbers.{decimal}
 use Rattle.md_text.proofs.ListLemmas.{All-front}
 use Rattle.md_text.specs.declared.piece.Piece.{Piece}
 use Rattle.md_dimacs.specs.Text.{position}
-use Rattle.md_text.specs.Pieces.{piece_text}
-use Rattle.md_dimacs.specs.Places.{IsPlaceOf, ArePlaces, text_at, lines_at, line_start, row_text}
+use Rattle.md_text.specs.Pieces.{piece_text, text_at, texts_at}
+use Rattle.md_dimacs.specs.Places.{IsPlaceOf, ArePlaces, line_start, row_text}
 use Rattle.md_dimacs.proofs.AscendingLemmas.{at_most_one_more, nothing_below, neighbour_is_vertex}
 use Rattle.md_dimacs.proofs.TextLemmas.{row_lines, row_lines-nil, row_lines-cons, row_lines-append, row_text_is, row_end}
 
@@ -63,16 +62,16 @@ word_fits first aligned below = let whole = NAMES-is in omega arith
 
 -- ---- the lines of a word
 
-text_at_is : (g : PlainGraph) (places : List Piece) (w : ℕ) → IsPlaceOf g places w → text_at places w ≡ decimal (position g w) ++ 10 ∷ []
-text_at_is g places w is =
+place_text : (g : PlainGraph) (places : List Piece) (w : ℕ) → IsPlaceOf g places w → text_at places w ≡ decimal (position g w) ++ 10 ∷ []
+place_text g places w is =
     let any : Piece = record { bytes = []; used = 0; within = omega arith } in
     ap (λ o. option_map_or piece_text o []) (slice_get-get_or places w any is.there) ∙ is.text any
 
-pub lines_are : (g : PlainGraph) (v : ℕ) (places : List Piece) (ws : List ℕ) → All (IsPlaceOf g places) ws → lines_at places (line_start g v) ws ≡ row_lines g v ws
-unfolding lines_at
+pub lines_are : (g : PlainGraph) (v : ℕ) (places : List Piece) (ws : List ℕ) → All (IsPlaceOf g places) ws → texts_at places (line_start g v) ws ≡ row_lines g v ws
+unfolding texts_at
 lines_are g v places [] all = sym (row_lines-nil g v)
 lines_are g v places (w ∷ ws) all =
-    (λ i. (line_start g v ++ text_at_is g places w (All-head (IsPlaceOf g places) w ws all) i) ++ lines_are g v places ws (All-tail (IsPlaceOf g places) w ws all) i)
+    (λ i. (line_start g v ++ place_text g places w (All-head (IsPlaceOf g places) w ws all) i) ++ lines_are g v places ws (All-tail (IsPlaceOf g places) w ws all) i)
     ∙ sym (row_lines-cons g v w ws)
 
 -- the pieces of the neighbours in a word are there
@@ -89,11 +88,11 @@ all_there g places xs all = All-weaker (IsPlaceOf g places) (λ w. w < length pl
 pub block_step : (g : PlainGraph) (v from first : ℕ) (places : List Piece) (xs text held new_text roomed placed start total : List ℕ)
     → ((text ++ held) ++ row_lines g v (ascending_between (neighbours g v) (max from first) NAMES)) ≡ total
     → ascending_between (neighbours g v) (max from first) NAMES ≡ xs ++ ascending_between (neighbours g v) (max from (first + 64)) NAMES
-    → All (IsPlaceOf g places) xs → start ≡ line_start g v → new_text ++ roomed ≡ text ++ held → placed ≡ roomed ++ lines_at places start xs
+    → All (IsPlaceOf g places) xs → start ≡ line_start g v → new_text ++ roomed ≡ text ++ held → placed ≡ roomed ++ texts_at places start xs
     → ((new_text ++ placed) ++ row_lines g v (ascending_between (neighbours g v) (max from (first + 64)) NAMES)) ≡ total
 block_step g v from first places xs text held new_text roomed placed start total before cut all is_start room more =
     let rest = ascending_between (neighbours g v) (max from (first + 64)) NAMES in
-    let lines : lines_at places start xs ≡ row_lines g v xs = ap (λ s. lines_at places s xs) is_start ∙ lines_are g v places xs all in
+    let lines : texts_at places start xs ≡ row_lines g v xs = ap (λ s. texts_at places s xs) is_start ∙ lines_are g v places xs all in
     ap (λ l. (new_text ++ l) ++ row_lines g v rest) (more ∙ ap (λ l. roomed ++ l) lines)
     ∙ ap (λ l. l ++ row_lines g v rest) (sym (append_assoc new_text roomed (row_lines g v xs)) ∙ ap (λ l. l ++ row_lines g v xs) room)
     ∙ append_assoc (text ++ held) (row_lines g v xs) (row_lines g v rest)
@@ -114,22 +113,6 @@ block_start g v from first is within =
     row_text_is g v (ascending_between (neighbours g v) (max from first) NAMES) (ap (λ k. ascending_between (neighbours g v) k NAMES) low)
 
 -- ---- the loop over the bits of a word
-
-pub bit_step : (first left others place : ℕ) (places : List Piece) (start held started placed total : List ℕ) (piece : Piece)
-    → (held ++ lines_at places start (bits_between first left 64)) ≡ total → bits_between first left 64 ≡ (first + place) ∷ bits_between first others 64
-    → started ≡ held ++ start → placed ≡ started ++ piece_text piece → piece ≡ get_or places (first + place) piece → first + place < length places
-    → (placed ++ lines_at places start (bits_between first others 64)) ≡ total
-unfolding lines_at
-bit_step first left others place places start held started placed total piece before cut one two is there =
-    let rest = lines_at places start (bits_between first others 64) in
-    let text : piece_text piece ≡ text_at places (first + place) = ap piece_text is ∙ sym (ap (λ o. option_map_or piece_text o []) (slice_get-get_or places (first + place) piece there)) in
-    ap (λ l. l ++ rest) (two ∙ ap (λ l. l ++ piece_text piece) one ∙ append_assoc held start (piece_text piece) ∙ ap (λ l. held ++ (start ++ l)) text)
-    ∙ append_assoc held (start ++ text_at places (first + place)) rest
-    ∙ ap (λ l. held ++ l) (sym (ap (lines_at places start) cut)) ∙ before
-
-pub bit_end : (first : ℕ) (places : List Piece) (start held total xs : List ℕ) → (held ++ lines_at places start xs) ≡ total → xs ≡ [] → held ≡ total
-unfolding lines_at
-bit_end first places start held total xs before e = sym (append-nil held) ∙ ap (λ l. held ++ l) (sym (ap (lines_at places start) e)) ∙ before
 
 pub rest_there : (n : ℕ) (x : ℕ) (xs ys : List ℕ) → ys ≡ x ∷ xs → All (λ w. w < n) ys → All (λ w. w < n) xs
 rest_there n x xs ys e all = All-tail (λ w. w < n) x xs (subst (All (λ w. w < n)) e all)

@@ -1,6 +1,5 @@
 -- The places of vertices, spelled as pieces of text.
-use Rattle.std.specs.Prelude.{◌≡◌, ℕ, ◌<◌, ◌≤◌, List, [], ◌∷◌, ◌++◌, length, map, slice_get, slice_index_or, codes}
-use Rattle.std.specs.Option.{option_map_or}
+use Rattle.std.specs.Prelude.{◌≡◌, ℕ, ◌<◌, ◌≤◌, List, [], ◌∷◌, ◌++◌, length, map, slice_index_or, codes}
 use Rattle.md_graph.specs.declared.TheConstants.{NAMES}
 use Rattle.md_graph.specs.Sets.{Has}
 use Rattle.md_graph.specs.PlainGraph.{PlainGraph}
@@ -19,15 +18,6 @@ pub record IsPlaceOf (g : PlainGraph) (places : List Piece) (w : ℕ) : Type 0 w
 pub record ArePlaces (g : PlainGraph) (places : List Piece) : Type 0 where
   pub place_of : (w : ℕ) → Has g.vertices w → IsPlaceOf g places w
   pub named : length places ≤ NAMES
-
--- the text of the piece at an index, if there is one
-abbrev pub text_at : List Piece → ℕ → List ℕ
-text_at places w = option_map_or piece_text (slice_get places w) []
-
--- for each index the text `start` and that of its piece, one after the other
-unfoldable pub lines_at : List Piece → List ℕ → List ℕ → List ℕ
-lines_at places start [] = []
-lines_at places start (w ∷ ws) = (start ++ text_at places w) ++ lines_at places start ws
 
 -- `e i `, which begins each line of the edges of v to the vertices above it
 abbrev pub line_start : PlainGraph → ℕ → List ℕ

@@ -3,8 +3,7 @@ ghost use Rattle.std.specs.Prelude.{◌≡◌, ℕ, ◌+◌, ◌*◌, ◌^◌, �
 ghost use Rattle.std.specs.Int.{bit_at};
 ghost use Rattle.std.specs.List.{All};
 ghost use Rattle.md_graph.specs.Words.{bits_between};
-ghost use Rattle.md_text.specs.Pieces.{piece_text};
-ghost use Rattle.md_dimacs.specs.Places.{lines_at};
+ghost use Rattle.md_text.specs.Pieces.{piece_text, texts_at};
 
 use md_graph::lowest;
 use md_text::{CHUNK_SIZE, Chunk, Piece};
@@ -15,7 +14,7 @@ pub(crate) fn write_block(first: u32, bits: u64, start: Piece, places: &[Piece],
     requires fits { first + 64 < 2 ^ 32 }
     requires room { length chunk.old + 16 * 64 ≤ CHUNK_SIZE }
     ensures { chunk.new
-        ≡ chunk.old ++ lines_at places.now (piece_text start) (bits_between first bits 64) }
+        ≡ chunk.old ++ texts_at places.now (piece_text start) (bits_between first bits 64) }
 {
     let mut left = bits;
     while left != 0 {

@@ -1,7 +1,11 @@
 -- Pieces of text, and bytes that are gathered in front of others.
 use Rattle.std.specs.Prelude.{◌≡◌, ℕ, suc, ◌+◌, ◌/◌, ◌%◌, ◌^◌, ◌<◌, ◌≤◌, List, [], ◌∷◌, ◌++◌, length, take}
-use Rattle.std.proofs.Common.{ap, sym, ◌∙◌, arith, length-append, set}
-use Rattle.std.proofs.lemmas.List.{take-append-le, length-take, take_more_set}
+use Rattle.std.proofs.Common.{ap, sym, ◌∙◌, arith, length-append, append_assoc, get_or, set}
+use Rattle.std.proofs.lemmas.List.{take-append-le, length-take, take_more_set, append-nil}
+use Rattle.std.proofs.lemmas.Option.{slice_get-get_or}
+use Rattle.std.specs.Option.{option_map_or}
+use Rattle.md_text.specs.declared.piece.Piece.{Piece}
+use Rattle.md_text.specs.Pieces.{piece_text, text_at, texts_at}
 use Rattle.md_text.specs.Numbers.{decimal}
 use Rattle.md_text.proofs.NumberLemmas.{decimal_digit, decimal_step, length-decimal-le}
 use borrow.Rule.Slice.PartMut.{put_mid, post_of}
@@ -35,3 +39,23 @@ next_count n at large e = ap (λ k. k + 1) e ∙ sym (ap length (decimal_step n 
 
 pub at_most_five : (n count : ℕ) → n < 10 ^ 5 → count ≡ length (decimal n) → count ≤ 5
 at_most_five n count small e = let most = length-decimal-le 5 n (omega arith) small in omega arith
+
+-- ---- the texts of pieces at indices
+
+-- the text at an index is that of the piece which stands there
+pub text_at_is : (pieces : List Piece) (i : ℕ) (piece : Piece) → piece ≡ get_or pieces i piece → i < length pieces → piece_text piece ≡ text_at pieces i
+text_at_is pieces i piece is there = ap piece_text is ∙ sym (ap (λ o. option_map_or piece_text o []) (slice_get-get_or pieces i piece there))
+
+-- one index more
+pub texts_more : (pieces : List Piece) (first held started placed total xs rest : List ℕ) (i : ℕ) (piece : Piece) → held ++ texts_at pieces first xs ≡ total → xs ≡ i ∷ rest
+    → started ≡ held ++ first → placed ≡ started ++ piece_text piece → piece ≡ get_or pieces i piece → i < length pieces → placed ++ texts_at pieces first rest ≡ total
+unfolding texts_at
+texts_more pieces first held started placed total xs rest i piece before cut one two is there =
+    ap (λ l. l ++ texts_at pieces first rest) (two ∙ ap (λ l. l ++ piece_text piece) one ∙ append_assoc held first (piece_text piece) ∙ ap (λ l. held ++ (first ++ l)) (text_at_is pieces i piece is there))
+    ∙ append_assoc held (first ++ text_at pieces i) (texts_at pieces first rest)
+    ∙ ap (λ l. held ++ l) (sym (ap (texts_at pieces first) cut)) ∙ before
+
+-- no index more
+pub texts_end : (pieces : List Piece) (first held total xs : List ℕ) → held ++ texts_at pieces first xs ≡ total → xs ≡ [] → held ≡ total
+unfolding texts_at
+texts_end pieces first held total xs before e = sym (append-nil held) ∙ ap (λ l. held ++ l) (sym (ap (texts_at pieces first) e)) ∙ before

@@ -1,7 +1,17 @@
 -- Short texts that are copied whole.
-use Rattle.std.specs.Prelude.{ℕ, List, take}
+use Rattle.std.specs.Prelude.{ℕ, List, [], ◌∷◌, ◌++◌, take, slice_get}
+use Rattle.std.specs.Option.{option_map_or}
 use Rattle.md_text.specs.declared.piece.Piece.{Piece}
 
 -- the text of a piece
 abbrev pub piece_text : Piece → List ℕ
 piece_text piece = take piece.used piece.bytes
+
+-- the text of the piece at an index, if there is one
+abbrev pub text_at : List Piece → ℕ → List ℕ
+text_at pieces i = option_map_or piece_text (slice_get pieces i) []
+
+-- for each index the text `first` and that of its piece, one after the other
+unfoldable pub texts_at : List Piece → List ℕ → List ℕ → List ℕ
+texts_at pieces first [] = []
+texts_at pieces first (i ∷ indices) = (first ++ text_at pieces i) ++ texts_at pieces first indices

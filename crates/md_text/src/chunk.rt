@@ -1,6 +1,7 @@
 //! The end of a text, gathered before it is appended.
-ghost use Rattle.std.specs.Prelude.{◌≡◌, ◌+◌, ◌≤◌, [], ◌++◌, length, take, OnOk, OnErr};
-ghost use Rattle.md_text.specs.Pieces.{piece_text};
+ghost use Rattle.std.specs.Prelude.{◌≡◌, ◌+◌, ◌*◌, ◌<◌, ◌≤◌, [], ◌++◌, length, take, OnOk, OnErr};
+ghost use Rattle.std.specs.List.{All};
+ghost use Rattle.md_text.specs.Pieces.{piece_text, texts_at};
 
 use crate::piece::Piece;
 use std::alloc::AllocError;
@@ -68,6 +69,18 @@ impl Chunk {
         self.used = put_piece(&mut self.bytes, at, second);
     }
 
+    /// Gathers, for each of the indices, the first piece and behind it the one at that index. There
+    /// has to be room for sixteen bytes each.
+    #[inline(always)]
+    pub fn put_each(&mut self, first: Piece, pieces: &[Piece], indices: &[u32])
+        requires there { All (λ i. i < length pieces.now) indices.now }
+        requires room { length self.old + 16 * length indices.now ≤ CHUNK_SIZE }
+        ensures text { self.new ≡ self.old ++ texts_at pieces.now (piece_text first) indices.now }
+        ensures within { length self.new ≤ length self.old + 16 * length indices.now }
+    {
+        self.used = put_pieces(&mut self.bytes, self.used, first, pieces, indices);
+    }
+
     /// Appends the bytes to a text, so that none are gathered. Errors: want of memory; both then
     /// stay.
     pub fn flush(&mut self, text: &mut Vec<u8>) -> Result<(), AllocError>
@@ -96,6 +109,30 @@ impl Chunk {
         }
         Ok(())
     }
+}
+
+// Writes, for each of the indices, the first piece and the one at that index behind the first `at`
+// bytes, and says how many they then are.
+#[inline(always)]
+fn put_pieces(
+    chunk: &mut [u8; CHUNK_SIZE],
+    at: u32,
+    first: Piece,
+    pieces: &[Piece],
+    indices: &[u32],
+) -> u32
+    requires there { All (λ i. i < length pieces.now) indices.now }
+    requires room { at + 16 * length indices.now ≤ CHUNK_SIZE }
+    ensures text { take result chunk.new
+        ≡ take at chunk.old ++ texts_at pieces.now (piece_text first) indices.now }
+    ensures within { result ≤ at + 16 * length indices.now }
+{
+    let mut end = at;
+    for i in indices {
+        let middle = put_piece(chunk, end, first);
+        end = put_piece(chunk, middle, pieces[*i as usize]);
+    }
+    end
 }
 
 // Writes a piece behind the first `at` bytes, and says how many they then are. Eight bytes are

@@ -77,8 +77,11 @@ fn chunks(rt: HostRuntime) -> Result<(), Fail> {
     assert_eq!(rt; text.as_slice(), b"+e799999\n".as_slice());
     chunk.put_both(digits_piece(0), digits_piece(10));
     assert_eq!(rt; chunk.room(), CHUNK_SIZE - 3);
+    let pieces = [digits_piece(5), digits_piece(67), digits_piece(8)];
+    chunk.put_each(digits_piece(4), &pieces, &[0, 1, 2]);
+    assert_eq!(rt; chunk.room(), CHUNK_SIZE - 10);
     chunk.flush(&mut text)?;
-    assert_eq!(rt; text.as_slice(), b"+e799999\n010".as_slice());
+    assert_eq!(rt; text.as_slice(), b"+e799999\n0104546748".as_slice());
     assert_eq!(rt; chunk.room(), CHUNK_SIZE);
     Ok(())
 }

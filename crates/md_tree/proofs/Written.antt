@@ -1,11 +1,17 @@
 -- One item more of a text.
-use Rattle.std.proofs.Common.{◌≡◌, ℕ, suc, ◌+◌, ◌<◌, List, [], ◌∷◌, ◌++◌, length, drop, get_or, append_assoc, sym, ◌∙◌, ap, arith}
+use Rattle.std.proofs.Common.{◌≡◌, ℕ, suc, ◌+◌, ◌<◌, ◌≤◌, List, [], ◌∷◌, ◌++◌, length, drop, get_or, append_assoc, refl, sym, ◌∙◌, ap, arith}
 use Rattle.std.proofs.Math.Seq.{drop-cons}
+use Rattle.std.specs.Option.{option_map_or}
+use Rattle.std.proofs.lemmas.Option.{slice_get-get_or}
+use Rattle.std.proofs.lemmas.List.Elements.{All-cons, All-nil}
 use Rattle.md_text.specs.Numbers.{decimal}
+use Rattle.md_text.specs.declared.piece.Piece.{Piece}
+use Rattle.md_text.specs.Pieces.{piece_text, text_at, texts_at}
 use Rattle.md_tree.specs.declared.Kind.{Kind}
 use Rattle.md_tree.specs.declared.Pair.{Pair}
 use Rattle.md_tree.specs.Trees.{PlainTree, PlainTrees, node}
 use Rattle.md_tree.specs.Fronts.{BeginsWith}
+use Rattle.md_tree.specs.Positions.{ArePositions, AreSeconds, IsSecond}
 use Rattle.md_tree.specs.TreeTexts.{letter, pairs_text, tree_text, row_text}
 
 pub node_written : (k : Kind) (cs : PlainTrees) (ps : List Pair) (t : PlainTree) (a b c d f : List ℕ) → t ≡ node k cs ps →
@@ -36,3 +42,51 @@ begins_on {a} {b} {c} first second = record {
   rest = first.rest ++ second.rest;
   whole = second.whole ∙ ap (λ l. l ++ second.rest) first.whole ∙ append_assoc a first.rest second.rest;
 }
+
+-- a position is spelled by the piece at its index
+pub second_is : (pieces : List Piece) (first : Piece) (low second : ℕ) (pair : Pair) → ArePositions pieces → piece_text first ≡ 44 ∷ (decimal low ++ 45 ∷ []) →
+    (pair.low ≡ low) × (second ≡ pair.high) × (second < length pieces) → IsSecond pieces first pair second
+second_is pieces first low second pair are start is = record {
+  there = is.2;
+  text =
+      (λ i. start i ++ option_map_or piece_text (slice_get-get_or pieces second first is.2 i) [])
+      ∙ ap (λ l. (44 ∷ (decimal low ++ 45 ∷ [])) ++ l) (are.text second first is.2)
+      ∙ ap (λ l. 44 ∷ l) (append_assoc (decimal low) (45 ∷ []) (decimal second))
+      ∙ (λ i. 44 ∷ (decimal (sym is.0 i) ++ 45 ∷ decimal (is.1 i)));
+}
+
+module _ (pieces : List Piece) (first : Piece) (pairs : List Pair) (d : Pair) where
+  -- an index more, and the pairs behind it
+  second_written : (second place next : ℕ) (indices : List ℕ) (others : List ℕ) → place < length pairs → next ≡ place + 1 → IsSecond pieces first (get_or pairs place d) second →
+      texts_at pieces (piece_text first) indices ++ others ≡ pairs_text 44 (drop next pairs) →
+      texts_at pieces (piece_text first) (second ∷ indices) ++ others ≡ pairs_text 44 (drop place pairs)
+  unfolding texts_at
+  second_written second place next indices others within follows is rest =
+      let p = get_or pairs place d in
+      let after : suc place ≡ next = omega arith in
+      append_assoc (piece_text first ++ text_at pieces second) (texts_at pieces (piece_text first) indices) others
+      ∙ (λ i. is.text i ++ rest i)
+      ∙ ap (λ z. 44 ∷ z) (append_assoc (decimal p.low) (45 ∷ decimal p.high) (pairs_text 44 (drop next pairs)))
+      ∙ sym (ap (pairs_text 44) (drop-cons pairs place d within ∙ ap (λ k. p ∷ drop k pairs) after))
+
+  abbrev IsThere : ℕ → Type 0
+  IsThere k = k < length pieces
+
+  none_written : (others : List ℕ) → texts_at pieces (piece_text first) [] ++ others ≡ others
+  unfolding texts_at
+  none_written others = refl
+
+  -- four pairs written so
+  pub four_written : (x y z w place : ℕ) → place + 4 ≤ length pairs →
+      IsSecond pieces first (get_or pairs place d) x → IsSecond pieces first (get_or pairs (place + 1) d) y →
+      IsSecond pieces first (get_or pairs (place + 2) d) z → IsSecond pieces first (get_or pairs (place + 3) d) w →
+      AreSeconds pieces first (x ∷ y ∷ z ∷ w ∷ []) (drop place pairs) (drop (place + 4) pairs)
+  four_written x y z w place within one two three four = record {
+    count = refl;
+    there = All-cons IsThere x (y ∷ z ∷ w ∷ []) one.there (All-cons IsThere y (z ∷ w ∷ []) two.there (All-cons IsThere z (w ∷ []) three.there (All-cons IsThere w [] four.there (All-nil IsThere))));
+    text =
+        second_written x place (place + 1) (y ∷ z ∷ w ∷ []) _ (omega arith) (omega arith) one
+        (second_written y (place + 1) (place + 2) (z ∷ w ∷ []) _ (omega arith) (omega arith) two
+        (second_written z (place + 2) (place + 3) (w ∷ []) _ (omega arith) (omega arith) three
+        (second_written w (place + 3) (place + 4) [] _ (omega arith) (omega arith) four (none_written _))));
+  }

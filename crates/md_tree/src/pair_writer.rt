@@ -1,9 +1,9 @@
 //! Writes the pairs of a node.
-ghost use Rattle.std.specs.Prelude.{◌≡◌, ◌^◌, ◌<◌, ◌≤◌, [], ◌∷◌, ◌++◌, length, drop, IsTrue, OnOk, OnErr};
+ghost use Rattle.std.specs.Prelude.{◌≡◌, ◌+◌, ◌-◌, ◌*◌, ◌^◌, ◌<◌, ◌≤◌, [], ◌∷◌, ◌++◌, length, drop, IsTrue, IfSome, OnOk, OnErr};
 ghost use Rattle.md_text.specs.Numbers.{decimal};
 ghost use Rattle.md_text.specs.Pieces.{piece_text};
 ghost use Rattle.md_tree.specs.Fronts.{BeginsWith};
-ghost use Rattle.md_tree.specs.Positions.{ArePositions};
+ghost use Rattle.md_tree.specs.Positions.{ArePositions, AreSeconds};
 ghost use Rattle.md_tree.specs.TreeTexts.{pairs_text};
 
 use crate::{Pair, QuotientEdges};
@@ -13,6 +13,9 @@ use std::alloc::Global;
 
 // So many positions have at most five digits.
 const MOST_POSITIONS: usize = 100_000;
+
+// No position has more digits.
+const MOST_DIGITS: usize = 10;
 
 // So many bytes have room for a pair of two of them.
 const PAIR_ROOM: usize = 16;
@@ -59,9 +62,23 @@ pub(crate) fn push_pairs(
         return Ok(());
     }
     spell_positions(&mut space.positions, count)?;
-    text.reserve(edges.list.len().saturating_mul(12))?;
+    text.reserve(
+        edges
+            .list
+            .len()
+            .saturating_mul(pair_room(&space.positions, count)),
+    )?;
     push_pair(text, b';', edges.list[0])?;
     push_more(text, &edges.list[1..], &space.positions, &mut space.chunk)
+}
+
+// How many bytes a pair of positions below `count` has at most, with the mark before it.
+fn pair_room(positions: &[Piece], count: usize) -> usize {
+    let digits = match positions.get(count.saturating_sub(1)) {
+        Some(last) => last.used,
+        None => MOST_DIGITS,
+    };
+    2 * digits + 2
 }
 
 // Appends positions until there are `count` of them, or as many as have five digits.
@@ -117,12 +134,95 @@ fn put_run(
         ≡ chunk.old ++ pairs_text 44 (drop from pairs.now) }
 {
     let end = from + (pairs.len() - from).min(chunk.room() / PAIR_ROOM);
-    for place in from..end {
-        let pair = pairs[place];
-        if pair.low != start.low || pair.high as usize >= positions.len() {
+    let place = put_fours(pairs, from, end, positions, start, chunk);
+    put_others(pairs, place, end, positions, start, chunk)
+}
+
+// Gathers four pairs at a time, as long as four of those before `end` have the position of the
+// start. Says where the others begin.
+#[inline(always)]
+fn put_fours(
+    pairs: &[Pair],
+    from: usize,
+    end: usize,
+    positions: &[Piece],
+    start: Start,
+    chunk: &mut Chunk,
+) -> usize
+    requires positions { ArePositions positions.now }
+    requires from { from ≤ end }
+    requires end { end ≤ length pairs.now }
+    requires room { length chunk.old + PAIR_ROOM * (end - from) ≤ CHUNK_SIZE }
+    ensures behind { from ≤ result }
+    ensures place { result ≤ end }
+    ensures room { length chunk.new + PAIR_ROOM * (end - result) ≤ CHUNK_SIZE }
+    ensures written { chunk.new ++ pairs_text 44 (drop result pairs.now)
+        ≡ chunk.old ++ pairs_text 44 (drop from pairs.now) }
+{
+    let mut place = from;
+    while end - place >= 4 {
+        let Some(seconds) = four_seconds(pairs, place, positions, start) else {
             return place;
-        }
-        chunk.put_both(start.piece, positions[pair.high as usize]);
+        };
+        chunk.put_each(start.piece, positions, &seconds);
+        place += 4;
+    }
+    place
+}
+
+// The second positions of the four pairs from `place` on, if the first ones are that of the start
+// and there is a piece for each.
+#[inline(always)]
+fn four_seconds(pairs: &[Pair], place: usize, positions: &[Piece], start: Start) -> Option<[u32; 4]>
+    requires positions { ArePositions positions.now }
+    requires place { place + 4 ≤ length pairs.now }
+    ensures { IfSome result (λ seconds. AreSeconds positions.now start.piece seconds
+        (drop place pairs.now) (drop (place + 4) pairs.now)) }
+{
+    let first = second_of(pairs[place], positions, start)?;
+    let second = second_of(pairs[place + 1], positions, start)?;
+    let third = second_of(pairs[place + 2], positions, start)?;
+    let fourth = second_of(pairs[place + 3], positions, start)?;
+    Some([first, second, third, fourth])
+}
+
+// The second position of a pair, if the first one is that of the start and there is a piece for it.
+#[inline(always)]
+fn second_of(pair: Pair, positions: &[Piece], start: Start) -> Option<u32>
+    ensures { IfSome result (λ second. (pair.low ≡ start.low) × (second ≡ pair.high)
+        × (second < length positions.now)) }
+{
+    if pair.low != start.low || pair.high as usize >= positions.len() {
+        return None;
+    }
+    Some(pair.high)
+}
+
+// Gathers pairs before `end` one by one, as long as they have the position of the start. Says where
+// the others begin.
+#[inline(always)]
+fn put_others(
+    pairs: &[Pair],
+    from: usize,
+    end: usize,
+    positions: &[Piece],
+    start: Start,
+    chunk: &mut Chunk,
+) -> usize
+    requires positions { ArePositions positions.now }
+    requires from { from ≤ end }
+    requires end { end ≤ length pairs.now }
+    requires room { length chunk.old + PAIR_ROOM * (end - from) ≤ CHUNK_SIZE }
+    ensures behind { from ≤ result }
+    ensures place { result ≤ length pairs.now }
+    ensures written { chunk.new ++ pairs_text 44 (drop result pairs.now)
+        ≡ chunk.old ++ pairs_text 44 (drop from pairs.now) }
+{
+    for place in from..end {
+        let Some(second) = second_of(pairs[place], positions, start) else {
+            return place;
+        };
+        chunk.put_both(start.piece, positions[second as usize]);
     }
     end
 }

@@ -50,6 +50,29 @@ fn graph_without_vertices(rt: HostRuntime) -> Result<(), Fail> {
     Ok(())
 }
 
+// The pairs of position 0 and each other one below n, and that of 1 and 2.
+fn star(alloc: Global, n: u32) -> Result<QuotientEdges, AllocError> {
+    let mut list = Vec::new(alloc);
+    for high in 1..n {
+        list.push(Pair { low: 0, high })?;
+    }
+    list.push(Pair { low: 1, high: 2 })?;
+    Ok(QuotientEdges { list })
+}
+
+#[test]
+fn runs_of_pairs(rt: HostRuntime) -> Result<(), Fail> {
+    let alloc = rt.alloc();
+    let row = leaves(alloc, &[0, 1, 2, 3, 4, 5, 6, 7, 8, 9, 10, 11])?;
+    check_text(
+        &rt,
+        alloc,
+        Some(Tree::Node(Kind::Prime, row, star(alloc, 12)?)),
+        b"R(0,1,2,3,4,5,6,7,8,9,10,11;0-1,0-2,0-3,0-4,0-5,0-6,0-7,0-8,0-9,0-10,0-11,1-2)",
+    );
+    Ok(())
+}
+
 #[test]
 fn texts(rt: HostRuntime) -> Result<(), Fail> {
     let alloc = rt.alloc();

@@ -1,6 +1,7 @@
 use Rattle.std.proofs.Common.{arith, refl}
 use Rattle.md_text.specs.Pieces.{piece_text}
-use Rattle.md_dimacs.proofs.BlockLemmas.{bits_count, bit_step, bit_end, no_bits_left, shorter, first_there, rest_there}
+use Rattle.md_text.proofs.PieceLemmas.{texts_more, texts_end}
+use Rattle.md_dimacs.proofs.BlockLemmas.{bits_count, no_bits_left, shorter, first_there, rest_there}
 use Rattle.md_dimacs.proofs.blocks.write_block.Goals as goal
 
 pub loop-left-init : goal.loop-left-init
@@ -17,9 +18,9 @@ loop-left-preserved c =
       there = rest_there _ _ _ _ cut c.loop-left.invariant.there;
       room = let less = shorter _ _ _ cut in omega (arith, c.loop-left.invariant.room);
       written =
-          bit_step c.args.first c.loop-left.left c.lowest-place.result.1 c.lowest-place.result.0 c.args.places.now (piece_text c.args.start) c.loop-left.chunk _ _ _ c.index-places-first.result
+          texts_more c.args.places.now (piece_text c.args.start) c.loop-left.chunk _ _ _ _ _ _ c.index-places-first.result
           c.loop-left.invariant.written cut refl c.put_both.ensures.text c.index-places-first.is (first_there _ _ _ _ cut c.loop-left.invariant.there);
     }
 
 pub returns : goal.returns
-returns c = bit_end c.args.first c.args.places.now (piece_text c.args.start) _ _ _ c.loop-left.invariant.written (no_bits_left c.args.first c.loop-left.left c.loop-left-test.false)
+returns c = texts_end c.args.places.now (piece_text c.args.start) _ _ _ c.loop-left.invariant.written (no_bits_left c.args.first c.loop-left.left c.loop-left-test.false)

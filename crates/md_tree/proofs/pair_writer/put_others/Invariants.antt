@@ -2,7 +2,7 @@ use Rattle.std.proofs.Common.{◌≡◌, ◌+◌, ◌*◌, ◌-◌, ◌≤◌, �
 use Rattle.md_tree.specs.declared.pair_writer.TheConstants.{PAIR_ROOM}
 use Rattle.md_text.specs.declared.chunk.TheConstants.{CHUNK_SIZE}
 use Rattle.md_tree.specs.TreeTexts.{pairs_text}
-use Rattle.md_tree.proofs.pair_writer.put_run.Given as goal
+use Rattle.md_tree.proofs.pair_writer.put_others.Given as goal
 
 abbrev pub invariant-loop-place : goal.invariant-loop-place
 invariant-loop-place l = record {
