@@ -288,3 +288,9 @@ module _ {g : PlainGraph} (is_graph : IsGraph g) (m : ℕ) (row rest both : Name
   pub none_joined : (value : Bool) → value ≡ false → both ≡ intersection rest row → NoneFrom both 0 → (z : ℕ) → Has rest z → adjacent g m z ≡ not value → ⊥
   none_joined value is is_both none z h mz =
       clash (Has-along _ both (sym is_both) z (meet_has rest row z h (near_is is_graph m row is_row z ∙ mz ∙ ap not is))) (none_lacks both none z)
+
+-- ---- the search over all vertices
+
+-- no induced path holds x
+pub record NoPathWith (g : PlainGraph) (x : ℕ) : Type 0 where
+  pub none : (a b c d : ℕ) → IsInducedPathWith (adjacent g) g.vertices x a b c d → ⊥

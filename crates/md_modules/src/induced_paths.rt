@@ -4,7 +4,7 @@ ghost use Rattle.md_graph.specs.Sets.{NameSet, Has, Within};
 ghost use Rattle.md_graph.specs.PlainGraph.{adjacent, IsGraph};
 ghost use Rattle.md_modules.specs.Kinds.{IsSplit};
 ghost use Rattle.md_modules.specs.Components.{IsComponent};
-ghost use Rattle.md_modules.specs.InducedPaths.{IsInducedPath, HasPathEdges, IsInducedPathWith};
+ghost use Rattle.md_modules.specs.InducedPaths.{IsInducedPath, HasInducedPath, HasPathEdges, IsInducedPathWith};
 ghost use Rattle.md_modules.specs.PathSearch.{ToldApart, IsPathOf};
 
 use crate::{co_component, component};
@@ -46,6 +46,23 @@ pub fn find_p4_with(graph: &Graph, x: u32) -> Option<P4>
         return Some(p);
     }
     path_by_parts(graph, x, near, &far, true)
+}
+
+/// An induced path on four vertices; `None` exactly where there is none, for cographs. It takes no
+/// memory, and for each vertex that lies in none as many row operations as `find_p4_with`: where a
+/// tree is at hand, `md_tree::is_cotree` says sooner that there is none.
+pub fn find_p4(graph: &Graph) -> Option<P4>
+    ensures found { IfSome result (λ p.
+        IsInducedPath (adjacent graph.now) graph.now.vertices p.a p.b p.c p.d) }
+    ensures none { IfNone result (HasInducedPath (adjacent graph.now) graph.now.vertices → ⊥) }
+{
+    let vertices = graph.vertices();
+    for x in vertices.members() {
+        if let Some(p) = find_p4_with(graph, x) {
+            return Some(p);
+        }
+    }
+    None
 }
 
 // Whether the edges among `a`, `b`, `c` and `d`, any numbers, are exactly a-b, b-c and c-d.
@@ -239,6 +256,7 @@ mod tests {
         expect(&rt, &bull, 4, None);
         expect(&rt, &bull, 0, Some((0, 1, 2, 3)));
         expect(&rt, &bull, 2, Some((0, 1, 2, 3)));
+        assert_eq!(rt; find_p4(&bull).map(|p| p.a), Some(0));
         for (a, b, c, d, want) in [
             (0, 1, 2, 3, true),
             (3, 2, 1, 0, false),
