@@ -82,7 +82,7 @@ no_own_neighbour g edit x neighbours others is none made =
 
 -- ---- the graph after an edit
 
-ends_by_tests : (u v : ℕ) (same first second : Bool) (last : Option EditReason)
+pub ends_by_tests : (u v : ℕ) (same first second : Bool) (last : Option EditReason)
     → option_or (cond same (Some Same) (cond (not first) (Some (NoVertex u)) (cond (not second) (Some (NoVertex v)) None))) last ≡ None → (same ≡ false) × (first ≡ true) × (second ≡ true)
 ends_by_tests u v true first second last h = absurd (cc)
 ends_by_tests u v false false second last h = absurd (cc)

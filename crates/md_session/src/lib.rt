@@ -1,8 +1,10 @@
 //! Sessions: a graph that is kept under edits.
 #![tactic(auto)]
 
+mod cograph;
 mod general;
 
+pub use cograph::{Answer, CographSession, Opened};
 pub use general::GeneralSession;
 
 #[cfg(test)]
