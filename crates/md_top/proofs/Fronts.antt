@@ -36,7 +36,7 @@ IsSoundOutput (report p) = IsSound p
 given_sound : (input : Request (List ℕ)) (output : Output) → Gives input output → IsSoundOutput output
 given_sound (Graphs (Convert to) from graph) output gives = subst IsSoundOutput (sym gives.2) tt
 given_sound (Graphs (Report mode) from graph) output gives = subst IsSoundOutput (sym gives.2) (are_graphs from graph gives.0 gives.1)
-given_sound (Session from graph script) output gives =
+given_sound (Session mode from graph script) output gives =
     subst IsSoundOutput (sym gives.4) ((are_graphs from graph (gives.0 ∷ []) gives.2).0, script_has_names script gives.1 gives.3)
 
 whole_of : (output : Output) → IsSoundOutput output → (bytes : List ℕ) → IsBeginning output bytes → (rest : List ℕ) × IsWhole output Done (bytes ++ rest)

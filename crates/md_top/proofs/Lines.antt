@@ -34,6 +34,10 @@ stopped_before p old = record {
   put = Appends-nil old;
 }
 
+-- no line, which leads nowhere else
+pub no_lines : (p : Place) (old : Option (List ℕ)) → AppendsLines p p old old
+no_lines p old = record { lines = []; leads = refl; put = Appends-nil old }
+
 -- a front behind lines
 front_behind : (p q : Place) (old now new : Option (List ℕ)) → AppendsLines p q old now → AppendsFrontFrom q now new → AppendsFrontFrom p old new
 front_behind p q old now new so_far more = record {

@@ -13,7 +13,6 @@ use Rattle.md_input.specs.declared.format.Format.TheVariants.{G6, Dimacs}
 use Rattle.md_input.specs.declared.fault.Fault.{Fault}
 use Rattle.md_input.specs.Spelling.{SpellsGraphs}
 use Rattle.md_input.specs.Faults.{graph_fault, one_graph_fault, script_fault}
-use Rattle.md_report.specs.declared.line.SessionMode.TheVariants.{Edit}
 use Rattle.md_report.specs.Places.{Place, before_head, before_session}
 use Rattle.md_report.specs.Reports.{IsReport, IsFront}
 use Rattle.md_top.specs.declared.request.GraphForm.{GraphForm}
@@ -26,7 +25,7 @@ use Rattle.md_top.specs.declared.stop.Verdict.TheVariants.{Done}
 -- the first cause of bad input, none where the input is well-formed
 abbrev pub fault_of : Request (List ℕ) → Option Fault
 fault_of (Graphs form from graph) = graph_fault from graph
-fault_of (Session from graph script) = option_or (one_graph_fault from graph) (script_fault script)
+fault_of (Session mode from graph script) = option_or (one_graph_fault from graph) (script_fault script)
 
 -- the text of a graph in a format
 abbrev pub graph_text : Format → PlainGraph → List ℕ
@@ -47,9 +46,9 @@ over_graphs (Report mode) graphs = report (before_head mode graphs)
 abbrev pub Gives : Request (List ℕ) → Output → Type 0
 Gives (Graphs form from graph) output =
     (graphs : List PlainGraph) × SpellsGraphs from graph graphs × (output ≡ over_graphs form graphs)
-Gives (Session from graph script) output =
+Gives (Session mode from graph script) output =
     (g : PlainGraph) × (edits : List script_edits.Edit) × SpellsGraphs from graph (g ∷ []) × SpellsScript script edits
-    × (output ≡ report (before_session Edit g edits))
+    × (output ≡ report (before_session mode g edits))
 
 -- the bytes are the whole output, with its verdict
 abbrev pub IsWhole : Output → Verdict → List ℕ → Type 0

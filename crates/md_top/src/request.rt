@@ -1,10 +1,10 @@
 //! What the program can be asked: the request that words make.
 ghost use Rattle.std.specs.Prelude.{◌≡◌};
 ghost use Rattle.std.specs.Option.{option_map};
-ghost use Rattle.md_top.specs.Request.{texts, format_of, graph_form, request_of, seen};
+ghost use Rattle.md_top.specs.Request.{texts, format_of, graph_form, session_mode, request_of, seen};
 
 use md_input::Format;
-use md_report::GraphMode;
+use md_report::{GraphMode, SessionMode};
 
 /// What is made of the graphs of a file.
 #[derive(Clone, Copy, Debug, PartialEq, Eq)]
@@ -21,8 +21,8 @@ pub enum GraphForm {
 pub enum Request<F> {
     /// A form over the graphs of a graph file.
     Graphs(GraphForm, Format, F),
-    /// The report of a session on the graph of a graph file, over a script.
-    Session(Format, F, F),
+    /// The report of a session of a mode on the graph of a graph file, over a script.
+    Session(SessionMode, Format, F, F),
 }
 
 /// The request that the words make, with the names of files; none where they are in no form.
@@ -36,11 +36,9 @@ pub fn request_of(words: &[String]) -> Option<Request<&str>>
             Some(Request::Graphs(form, from, graph.as_str()))
         }
         [command, format, graph, script] => {
-            if command.as_str() != "edit" {
-                return None;
-            }
+            let mode = session_mode(command.as_str())?;
             let from = format_of(format.as_str())?;
-            Some(Request::Session(from, graph.as_str(), script.as_str()))
+            Some(Request::Session(mode, from, graph.as_str(), script.as_str()))
         }
         _ => None,
     }
@@ -66,6 +64,17 @@ fn graph_form(command: &str) -> Option<GraphForm>
         "graph6" => Some(GraphForm::Convert(Format::G6)),
         "tree" => Some(GraphForm::Report(GraphMode::Tree)),
         "compare" => Some(GraphForm::Report(GraphMode::Compare)),
+        _ => None,
+    }
+}
+
+// The mode of a command over a graph and a script; none for any other word.
+fn session_mode(command: &str) -> Option<SessionMode>
+    ensures { result ≡ session_mode command.now }
+{
+    match command {
+        "edit" => Some(SessionMode::Edit),
+        "cograph" => Some(SessionMode::Cograph),
         _ => None,
     }
 }

@@ -14,10 +14,11 @@ use crate::err_line::put_line;
 use crate::load::load;
 use crate::report::report;
 use crate::request::{GraphForm, Request, request_of};
-use crate::session::edit;
+use crate::session::session_report;
 use crate::stop::{Status, Stop, Verdict};
 use md_input::Format;
 use md_io::{Files, Sink};
+use md_report::SessionMode;
 use std::alloc::Global;
 
 /// Does what the words ask for: loads the files that they name, in their order, puts the whole output to `out`,
@@ -103,8 +104,8 @@ fn end<F: Files, O: Sink>(
     };
     match request {
         Request::Graphs(form, from, graph) => end_graphs(alloc, form, from, graph, files, out),
-        Request::Session(from, graph, script) => {
-            end_session(alloc, from, graph, script, files, out)
+        Request::Session(mode, from, graph, script) => {
+            end_session(alloc, mode, from, graph, script, files, out)
         }
     }
 }
@@ -132,17 +133,18 @@ fn end_graphs<F: Files, O: Sink>(
 // Loads the graph file and the script, and runs the session.
 fn end_session<F: Files, O: Sink>(
     alloc: Global,
+    mode: SessionMode,
     from: Format,
     graph: &str,
     script: &str,
     files: &mut F,
     out: &mut O,
 ) -> Result<Verdict, Stop>
-    ensures ends { Ends (Some (Request.Session from graph.now script.now)) result
+    ensures ends { Ends (Some (Request.Session mode from graph.now script.now)) result
         (files_run F.Files files.old files.new) (sink_run O.Sink out.old out.new) }
     ensures told { F.holds files.new ≡ F.holds files.old }
 {
     let graph_file = load(alloc, files, graph)?;
     let script_file = load(alloc, files, script)?;
-    edit(alloc, from, &graph_file, &script_file, out)
+    session_report(alloc, mode, from, &graph_file, &script_file, out)
 }

@@ -20,8 +20,8 @@ returns-in_err-script_file-clause-ends g c =
 
 pub returns-clause-ends : goal.returns-clause-ends
 returns-clause-ends g c =
-    ends_of_command (Session c.args.from c.args.graph.now c.args.script.now) (c.deref.result.now ∷ c.deref-2.result.now ∷ []) _ refl _ _
+    ends_of_command (Session c.args.mode c.args.from c.args.graph.now c.args.script.now) (c.deref.result.now ∷ c.deref-2.result.now ∷ []) _ refl _ _
     (one_more_load _ (c.args.graph.now ∷ []) (c.deref.result.now ∷ [])
     (one_more_load _ [] [] (no_loads _ _ _ _ _) _ refl _ _ _ _ _ c.in_ok-graph_file.graph_file _ c.deref.ensures.value c.in_ok-graph_file.ensures.ends)
     _ c.load.ensures.holds _ _ _ _ _ c.in_ok-script_file.script_file _ c.deref-2.ensures.value c.in_ok-script_file.ensures.ends)
-    _ c.edit.ensures.ends
+    _ c.session_report.ensures.ends

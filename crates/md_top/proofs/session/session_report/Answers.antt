@@ -1,15 +1,14 @@
 -- The report of the session on what the files spell, or the stop.
 use Rattle.std.proofs.Common.{refl}
-use Rattle.md_report.specs.declared.line.SessionMode.TheVariants as modes
 use Rattle.md_report.specs.Places.{before_session}
 use Rattle.md_top.specs.Answer.{report}
 use Rattle.md_top.proofs.Outputs.{command_done, command_stopped}
-use Rattle.md_top.proofs.session.edit.Goals as goal
+use Rattle.md_top.proofs.session.session_report.Goals as goal
 
 pub returns-in_err-put_session : goal.returns-in_err-put_session
 returns-in_err-put_session g c = record {
   ends =
-      command_stopped _ (report (before_session modes.Edit c.in_ok-graph.graph c.in_ok-script.script))
+      command_stopped _ (report (before_session c.args.mode c.in_ok-graph.graph c.in_ok-script.script))
       (c.in_ok-graph.graph, c.in_ok-script.script, c.in_ok-graph.ensures.spells, c.in_ok-script.ensures.spells, refl)
       (rw (c.in_ok-graph.ensures.faultless, c.in_ok-script.ensures.faultless) refl) _ _ _
       c.in_err-put_session.ensures.puts c.from_residual-in_err-put_session.ensures.1;
@@ -18,7 +17,7 @@ returns-in_err-put_session g c = record {
 pub returns : goal.returns
 returns g c = record {
   ends =
-      command_done _ (report (before_session modes.Edit c.in_ok-graph.graph c.in_ok-script.script))
+      command_done _ (report (before_session c.args.mode c.in_ok-graph.graph c.in_ok-script.script))
       (c.in_ok-graph.graph, c.in_ok-script.script, c.in_ok-graph.ensures.spells, c.in_ok-script.ensures.spells, refl)
       (rw (c.in_ok-graph.ensures.faultless, c.in_ok-script.ensures.faultless) refl) _
       c.in_ok-put_session.ensures.puts;
