@@ -61,8 +61,9 @@ fn parts(alloc: Global, graph: &Graph) -> Result<Vec<Part>, Memory>
         parent: None,
         chain: Chain::none(alloc),
     })?;
+    let mut places = Vec::new(alloc);
     while let Some(next) = waiting.pop() {
-        take_apart(alloc, graph, next, &mut parts, &mut waiting)?;
+        take_apart(alloc, graph, next, &mut parts, &mut waiting, &mut places)?;
     }
     Ok(parts)
 }
@@ -75,6 +76,7 @@ fn take_apart(
     set: Open,
     parts: &mut Vec<Part>,
     waiting: &mut Vec<Open>,
+    places: &mut Vec<u32>,
 ) -> Result<(), Memory>
     requires some { HasSome set.names }
     requires inside { Within set.names graph.now.vertices }
@@ -93,7 +95,7 @@ fn take_apart(
         parts.push(Part::Leaf(name))?;
         return Ok(());
     }
-    let (kind, sets, edges) = children(alloc, graph, &names, parent, &mut chain)?;
+    let (kind, sets, edges) = children(alloc, graph, &names, parent, &mut chain, places)?;
     parts.push(Part::Node(kind, sets.len() as u64, edges))?;
     push_open(alloc, waiting, kind, sets, &chain)
 }
