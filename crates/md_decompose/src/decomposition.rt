@@ -94,10 +94,7 @@ fn take_apart(
             parts.push(Part::Leaf(name))?;
             Ok(())
         }
-        Open::Several(set) => {
-            let set = Box::into_inner(set);
-            take_set_apart(alloc, graph, set, parts, waiting, places)
-        }
+        Open::Several(mut set) => take_set_apart(alloc, graph, &mut set, parts, waiting, places),
     }
 }
 
@@ -105,31 +102,33 @@ fn take_apart(
 fn take_set_apart(
     alloc: Global,
     graph: &Graph,
-    set: OpenSet,
+    set: &mut OpenSet,
     parts: &mut Vec<Part>,
     waiting: &mut Vec<Open>,
     places: &mut Vec<u32>,
 ) -> Result<(), Memory>
-    requires some { HasSome set.names }
-    requires inside { Within set.names graph.now.vertices }
-    requires below { FitsBelow (adjacent graph.now) set.names set.parent }
-    requires chain { IsChainOf (adjacent graph.now) set.names set.chain }
-    ensures { IfOk result (λ _. IsTurn (adjacent graph.now) set.names
+    requires some { HasSome set.old.names }
+    requires inside { Within set.old.names graph.now.vertices }
+    requires below { FitsBelow (adjacent graph.now) set.old.names set.old.parent }
+    requires chain { IsChainOf (adjacent graph.now) set.old.names set.old.chain }
+    ensures { IfOk result (λ _. IsTurn (adjacent graph.now) set.old.names
         (map plain_part parts.old.items) waiting.old.items
         (map plain_part parts.new.items) waiting.new.items) }
 {
-    let OpenSet {
-        names,
-        parent,
-        mut chain,
-    } = set;
-    if let Some(name) = only_member(&names) {
+    if let Some(name) = only_member(&set.names) {
         parts.push(Part::Leaf(name))?;
         return Ok(());
     }
-    let (kind, sets, edges) = children(alloc, graph, &names, parent, &mut chain, places)?;
+    let (kind, sets, edges) = children(
+        alloc,
+        graph,
+        &set.names,
+        set.parent,
+        &mut set.chain,
+        places,
+    )?;
     parts.push(Part::Node(kind, sets.len() as u64, edges))?;
-    push_open(alloc, waiting, kind, sets, &chain)
+    push_open(alloc, waiting, kind, sets, &set.chain)
 }
 
 // The member of a set with one member.

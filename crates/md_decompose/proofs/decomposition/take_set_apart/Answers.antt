@@ -18,7 +18,7 @@ pub returns : goal.returns
 returns c =
     if_ok c.push_open.result (λ _ grown.
     let two = c.in_default.ensures.more c.requires.some in
-    let opened = opened_children c.args.set.names c.in_ok-kind.kind c.in_ok-kind.sets.items c.children.new.chain grown.0 c.in_ok-kind.ensures.sets two c.in_ok-kind.ensures.chain grown.2 in (
+    let opened = opened_children c.args.set.now.names c.in_ok-kind.kind c.in_ok-kind.sets.items c.children.new.chain grown.0 c.in_ok-kind.ensures.sets two c.in_ok-kind.ensures.chain grown.2 in (
       inner c.in_ok-kind.kind c.len.result c.in_ok-kind.edges.list.items,
       grown.0,
       (
@@ -37,4 +37,4 @@ returns c =
     )) c.push_open.ensures
 
 pub push_open-requires : goal.push_open-requires
-push_open-requires c = chain_known c.args.set.names c.children.new.chain c.requires.some c.in_ok-kind.ensures.chain
+push_open-requires c = chain_known c.args.set.now.names c.children.new.chain c.requires.some c.in_ok-kind.ensures.chain
