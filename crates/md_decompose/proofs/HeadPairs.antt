@@ -1,17 +1,17 @@
 -- The adjacent pairs of heads, put down one head after the other, and for each head one later head after the other.
-use Rattle.std.proofs.Common.{◌≡◌, ◌≢◌, ℕ, ◌+◌, ◌<◌, ◌≤◌, Bool, true, List, [], ◌∷◌, ◌++◌, Contains, length, length-append, get_or, refl, sym, ◌∙◌, ap, subst, inl, inr, arith}
+use Rattle.std.proofs.Common.{◌≡◌, ◌≢◌, ℕ, ◌+◌, ◌<◌, ◌≤◌, Bool, true, List, [], ◌∷◌, ◌++◌, ◌↔◌, Contains, length, get_or, map, refl, sym, ◌∙◌, ap, subst, inl, inr, arith, append_assoc, append-nil}
 use Rattle.std.proofs.Math.ListN.{get_or-eq_default}
-use Rattle.std.proofs.lemmas.Bool.{cases_lt}
-use Rattle.std.specs.FinSet.{empty, intersection, len}
+use Rattle.std.proofs.lemmas.Bool.{cases_lt, cases_Bool, false_from_ne_true}
+use Rattle.std.specs.FinSet.{contains, empty, remove, intersection}
 use Rattle.md_graph.specs.declared.TheConstants.{NAMES}
-use Rattle.md_graph.specs.NameSet.{AllBelow, IsLeastFrom, ascending_between, ascending_from}
+use Rattle.md_graph.specs.NameSet.{AllBelow, IsLeastFrom, ascending, ascending_between, ascending_from}
 use Rattle.md_graph.specs.PlainGraph.{PlainGraph, IsGraph, adjacent, neighbours}
-use Rattle.md_graph.proofs.NameLemmas.{IsTurn, walk_turn, walk_end, ascending_split, length-ascending}
+use Rattle.md_graph.proofs.NameLemmas.{IsTurn, walk_turn, walk_end, ascending_split, ascending_none, ascending_same}
 use Rattle.md_graph.proofs.GraphLemmas.{adjacent_ends, contains-neighbours}
 use Rattle.md_graph.specs.Sets.{NameSet, Has, HasSome}
 use Rattle.md_modules.specs.Modules.{IsMaximalModule}
 use Rattle.md_modules.specs.Kinds.{IsPrime}
-use Rattle.md_graph.proofs.SetLemmas.{of_meet, meet_has, clash, empty_lacks, Has-along}
+use Rattle.md_graph.proofs.SetLemmas.{of_meet, meet_has, of_remove, remove_left, clash, empty_lacks, Has-along}
 use Rattle.md_modules.proofs.Children.{child_maximal}
 use Rattle.md_modules.proofs.Quotients.{maximal_modules_proof}
 use Rattle.md_modules.proofs.PathSearch.{adjacency}
@@ -142,14 +142,6 @@ module _ {e : ℕ → ℕ → Bool} {heads : NameSet} {places : List ℕ} where
           | inr w ↦ inr (ap (λ z. get_or places z 0) w.0, rising r.1 x r.2.second other (let k : r.1 < low = w.1 in omega arith))
         ])
 
--- no more names are left than the set has
-pub left_few : (near : NameSet) (h : ℕ) (items left : List ℕ) → h < NAMES → AllBelow near NAMES → items ≡ ascending_from near (h + 1) → left ≡ items → length left ≤ len near
-left_few near h items left name names is_items is_left =
-    let same : length left ≡ length (ascending_from near (h + 1)) = ap length (is_left ∙ is_items) in
-    let parts = ap length (ascending_split near 0 (h + 1) NAMES (omega arith) (omega arith)) ∙ length-append (ascending_between near 0 (h + 1)) (ascending_from near (h + 1)) in
-    let all = length-ascending near NAMES names in
-    omega arith
-
 -- the turns for one head
 module _ {g : PlainGraph} (is_graph : IsGraph g) (heads : NameSet) (places : List ℕ) (h : ℕ) where
   abbrev near_heads : NameSet
@@ -163,25 +155,8 @@ module _ {g : PlainGraph} (is_graph : IsGraph g) (heads : NameSet) (places : Lis
       let two : Has (neighbours g h) b × Has heads b = of_meet (neighbours g h) heads b k in
       (two.1, sym (contains-neighbours is_graph h b) ∙ two.0)
 
-  pub pushing_begin : (row near : NameSet) (items left : List ℕ) (ps : List Pair) → row ≡ neighbours g h → near ≡ intersection row heads → items ≡ ascending_from near (h + 1) →
-      AllBelow near NAMES → left ≡ items → ListsHeadPairs (adjacent g) heads places h 0 ps → IsPushing (adjacent g) heads places h near_heads left ps
-  pushing_begin row near items left ps is_row is_near is_items names is_left lists = record {
-    low = h + 1;
-    above = omega arith;
-    is = is_left ∙ is_items ∙ ap (λ s. ascending_from s (h + 1)) same;
-    names = subst (λ s. AllBelow s NAMES) same names;
-    lists = lists_begin h ps lists;
-  } where
-    same : near ≡ near_heads
-    same = is_near ∙ ap (λ s. intersection s heads) is_row
-
   module _ (left : List ℕ) (ps : List Pair) (pushing : IsPushing (adjacent g) heads places h near_heads left ps) where
-    pub pushing_head : (x : ℕ) (rest : List ℕ) → left ≡ x ∷ rest → Has heads x
-    pushing_head x rest steps =
-        let turn : IsTurn near_heads pushing.low NAMES x rest = walk_turn near_heads pushing.low NAMES x left rest pushing.is steps in
-        (of_near x turn.item.member).0
-
-    pub pushing_more : (x : ℕ) (rest : List ℕ) (qs : List Pair) → RisesOn heads places → Has heads h → left ≡ x ∷ rest → qs ≡ ps ++ pair_at places h x ∷ [] →
+    pushing_more : (x : ℕ) (rest : List ℕ) (qs : List Pair) → RisesOn heads places → Has heads h → left ≡ x ∷ rest → qs ≡ ps ++ pair_at places h x ∷ [] →
         IsPushing (adjacent g) heads places h near_heads rest qs
     pushing_more x rest qs rising head steps is_qs =
         let turn : IsTurn near_heads pushing.low NAMES x rest = walk_turn near_heads pushing.low NAMES x left rest pushing.is steps in
@@ -198,9 +173,67 @@ module _ {g : PlainGraph} (is_graph : IsGraph g) (heads : NameSet) (places : Lis
               (λ b near from. turn.item.first b (near_has b near) from (pushing.names b (near_has b near))) pushing.lists);
         }
 
-    pub pushing_end : (rest : List ℕ) → (left ≡ []) × (rest ≡ []) → ListsHeadPairs (adjacent g) heads places (h + 1) 0 ps
+    pushing_end : (rest : List ℕ) → (left ≡ []) × (rest ≡ []) → ListsHeadPairs (adjacent g) heads places (h + 1) 0 ps
     pushing_end rest steps =
         lists_end h pushing.low ps (λ b near. walk_end near_heads pushing.low NAMES left rest pushing.names pushing.is steps b (near_has b near)) pushing.lists
+
+  pushing_all : (left : List ℕ) (ps : List Pair) → RisesOn heads places → Has heads h → IsPushing (adjacent g) heads places h near_heads left ps →
+      ListsHeadPairs (adjacent g) heads places (h + 1) 0 (ps ++ map (pair_at places h) left)
+  pushing_all [] ps rising head pushing = subst (ListsHeadPairs (adjacent g) heads places (h + 1) 0) (sym (append-nil ps)) (pushing_end [] ps pushing [] (refl, refl))
+  pushing_all (x ∷ rest) ps rising head pushing =
+      subst (ListsHeadPairs (adjacent g) heads places (h + 1) 0) (append_assoc ps (pair_at places h x ∷ []) (map (pair_at places h) rest))
+      (pushing_all rest (ps ++ pair_at places h x ∷ []) rising head (pushing_more (x ∷ rest) ps pushing x rest (ps ++ pair_at places h x ∷ []) rising head refl refl))
+
+  abbrev near_in : NameSet → NameSet
+  near_in later = intersection (neighbours g h) later
+
+  -- the later heads that are adjacent, where later has the heads behind h
+  near_later : (later : NameSet) → h < NAMES → ((b : ℕ) → Has later b ↔ (Has heads b × (h + 1 ≤ b))) →
+      ascending (intersection (neighbours g h) later) ≡ ascending_from near_heads (h + 1)
+  near_later later name is =
+      ascending_split (near_in later) 0 (h + 1) NAMES (omega arith) (omega arith)
+      ∙ ap (λ xs. xs ++ ascending_between (near_in later) (h + 1) NAMES) (ascending_none (near_in later) 0 (h + 1) (λ b low high. false_from_ne_true _ (λ k. behind b k high)))
+      ∙ ascending_same (near_in later) near_heads (h + 1) NAMES (λ b low high. alike b low)
+    where
+      later_only : (b : ℕ) → Has (near_in later) b → Has later b
+      later_only b k = (of_meet (neighbours g h) later b k).1
+
+      behind : (b : ℕ) → Has (near_in later) b → b < h + 1 → ⊥
+      behind b k high = let l : h + 1 ≤ b = ((is b).0 (later_only b k)).1 in omega arith
+
+      alike : (b : ℕ) → h + 1 ≤ b → contains (near_in later) b ≡ contains near_heads b
+      alike b low = elim (cases_Bool (contains near_heads b)) [
+        | inl k ↦ (let two : Has (neighbours g h) b × Has heads b = of_meet (neighbours g h) heads b k in meet_has (neighbours g h) later b two.0 ((is b).1 (two.1, low)) ∙ sym k)
+        | inr l ↦ false_from_ne_true _ (λ k.
+            let two : Has (neighbours g h) b × Has later b = of_meet (neighbours g h) later b k in
+            clash (meet_has (neighbours g h) heads b two.0 ((is b).0 two.1).0) l) ∙ sym l
+      ]
+
+  -- the pairs of one head
+  pub pairs_pushed : (later : NameSet) (ps qs : List Pair) → RisesOn heads places → Has heads h → h < NAMES → AllBelow heads NAMES → ((b : ℕ) → Has later b ↔ (Has heads b × (h + 1 ≤ b))) →
+      ListsHeadPairs (adjacent g) heads places h 0 ps → qs ≡ ps ++ map (pair_at places h) (ascending (intersection (neighbours g h) later)) →
+      ListsHeadPairs (adjacent g) heads places (h + 1) 0 qs
+  pairs_pushed later ps qs rising head name names is lists is_qs =
+      subst (ListsHeadPairs (adjacent g) heads places (h + 1) 0) (sym (is_qs ∙ ap (λ xs. ps ++ map (pair_at places h) xs) (near_later later name is)))
+      (pushing_all (ascending_from near_heads (h + 1)) ps rising head (record {
+        low = h + 1;
+        above = omega arith;
+        is = refl;
+        names = λ b k. names b (of_near b k).0;
+        lists = lists_begin h ps lists;
+      }))
+
+-- the pairs of the heads below a number are put down, the other heads are left, and later has those
+pub record IsListingLater (e : ℕ → ℕ → Bool) (heads : NameSet) (places : List ℕ) (later : NameSet) (left : List ℕ) (ps : List Pair) : Type 0 where
+  pub listing : IsListingPairs e heads places left ps
+  pub is : (b : ℕ) → Has later b ↔ (Has heads b × (listing.low ≤ b))
+
+pub later_begin : {e : ℕ → ℕ → Bool} (heads : NameSet) (places : List ℕ) (later : NameSet) (left : List ℕ) (ps : List Pair) → later ≡ heads → left ≡ ascending heads → AllBelow heads NAMES → ps ≡ [] →
+    IsListingLater e heads places later left ps
+later_begin {e} heads places later left ps same is names none = record {
+  listing = record { low = 0; is = is; names = names; lists = subst (ListsHeadPairs e heads places 0 0) (sym none) lists_none };
+  is = λ b. (λ h. (Has-along _ _ same b h, (let own : b ≡ b = refl in omega arith)), λ w. Has-along _ _ (sym same) b w.0);
+}
 
 module _ {e : ℕ → ℕ → Bool} (heads : NameSet) (places : List ℕ) (left : List ℕ) (ps : List Pair) (listing : IsListingPairs e heads places left ps) where
   turn_of : (x : ℕ) (rest : List ℕ) → left ≡ x ∷ rest → IsTurn heads listing.low NAMES x rest
@@ -220,8 +253,25 @@ module _ {e : ℕ → ℕ → Bool} (heads : NameSet) (places : List ℕ) (left 
   pub pairs_whole : (rest : List ℕ) → (left ≡ []) × (rest ≡ []) → ListsHeadPairs e heads places NAMES 0 ps
   pairs_whole rest steps = lists_whole listing.low NAMES ps (walk_end heads listing.low NAMES left rest listing.names listing.is steps) listing.names listing.lists
 
-  pub pairs_more : (x : ℕ) (rest : List ℕ) (qs : List Pair) → left ≡ x ∷ rest → ListsHeadPairs e heads places (x + 1) 0 qs → IsListingPairs e heads places rest qs
-  pairs_more x rest qs steps lists = record { low = x + 1; is = (turn_of x rest steps).left; names = listing.names; lists = lists }
+  -- what is behind x, where later has what is left
+  pub later_behind : (later later' : NameSet) (x : ℕ) (rest : List ℕ) → left ≡ x ∷ rest → ((b : ℕ) → Has later b ↔ (Has heads b × (listing.low ≤ b))) → later' ≡ remove later x →
+      (b : ℕ) → Has later' b ↔ (Has heads b × (x + 1 ≤ b))
+  later_behind later later' x rest steps is same b = (
+    λ h.
+        let two : (b ≢ x) × Has later b = of_remove later x b (Has-along _ _ same b h) in
+        let old : Has heads b × (listing.low ≤ b) = (is b).0 two.1 in
+        let from : x ≤ b = (turn_of x rest steps).item.first b old.0 old.1 (listing.names b old.0) in
+        let differs : b ≢ x = two.0 in
+        (old.0, (omega arith)),
+    λ w.
+        let low : listing.low ≤ x = (turn_of x rest steps).item.above in
+        let up : x + 1 ≤ b = w.1 in
+        Has-along _ _ (sym same) b (remove_left later x b (omega arith) ((is b).1 (w.0, (omega arith)))),
+  )
+
+  pub pairs_more : (later' : NameSet) (x : ℕ) (rest : List ℕ) (qs : List Pair) → left ≡ x ∷ rest → ((b : ℕ) → Has later' b ↔ (Has heads b × (x + 1 ≤ b))) →
+      ListsHeadPairs e heads places (x + 1) 0 qs → IsListingLater e heads places later' rest qs
+  pairs_more later' x rest qs steps is lists = record { listing = record { low = x + 1; is = (turn_of x rest steps).left; names = listing.names; lists = lists }; is = is }
 
 -- the pairs of all heads are those of the sets between which an edge runs
 module _ {g : PlainGraph} (is_graph : IsGraph g) (s : NameSet) (cs : List NameSet) (prime : IsPrime (adjacent g) s) (children : AreChildren (adjacent g) s cs) where

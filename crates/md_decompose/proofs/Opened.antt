@@ -1,5 +1,5 @@
 -- The sets that wait to be taken apart, and the parts so far: whatever trees the sets have, with them the parts are those of a tree.
-use Rattle.std.proofs.Common.{◌≡◌, ℕ, suc, ◌+◌, ◌-◌, ◌*◌, ◌<◌, ◌≤◌, Bool, true, false, List, [], ◌∷◌, ◌++◌, length, map, Contains, Some, None, refl, sym, ◌∙◌, ap, subst, inl, inr, arith, append_assoc, append-nil}
+use Rattle.std.proofs.Common.{◌≡◌, ℕ, suc, ◌+◌, ◌-◌, ◌*◌, ◌<◌, ◌≤◌, Bool, true, false, List, [], ◌∷◌, ◌++◌, length, map, Contains, Option, Some, None, refl, sym, ◌∙◌, ap, subst, inl, inr, arith, append_assoc, append-nil}
 use Rattle.std.proofs.lemmas.List.{map-append}
 use Rattle.std.specs.FinSet.{len}
 use Rattle.md_graph.specs.NameSet.{IsLeastFrom}
@@ -20,17 +20,19 @@ use Rattle.md_tree.proofs.Built.{IsBuilt}
 use Rattle.md_tree.proofs.Unique.{two_of_kind}
 use Rattle.md_tree.proofs.Canonical.{built_tree}
 use Rattle.md_decompose.specs.declared.decomposition.Open.{Open}
+use Rattle.md_decompose.specs.declared.decomposition.Open.TheVariants.{One, Several}
+use Rattle.md_decompose.specs.declared.decomposition.OpenSet.{OpenSet}
 use Rattle.md_tree.specs.Parts.{PlainPart, name, inner, parts_of, parts_backward}
 use Rattle.md_decompose.specs.Children.{FitsBelow, AreChildren}
 use Rattle.md_decompose.specs.declared.chains.Chain.{Chain}
-use Rattle.md_decompose.specs.Chains.{step_at, AreSteps, IsChainOf}
-use Rattle.md_decompose.specs.Turns.{sets_of, AreBare, IsFirstOpen, AreOpen, IsPartOf, IsTurn}
+use Rattle.md_decompose.specs.Chains.{step_at, AreSteps, IsChainOf, IsFront}
+use Rattle.md_decompose.specs.Turns.{open_names, IsOpenOf, IsBelow, FitsOpen, HasChain, HasNoChain, HasFront, sets_of, AreBare, IsFirstOpen, AreOpen, IsPartOf, IsTurn}
 use Rattle.md_decompose.proofs.ChainLemmas.{steps_none, steps_inside}
 use Rattle.md_decompose.proofs.Joining.{all_names, node_built, weights, weights-append, child_maximal, children_fall}
 
-in_sets : (os : List Open) (o : Open) → In os o → In (sets_of os) o.names
+in_sets : (os : List Open) (o : Open) → In os o → In (sets_of os) (open_names o)
 in_sets [] o i = absurd i
-in_sets (q ∷ os) o (inl same) = inl (ap (λ (p : Open). p.names) same)
+in_sets (q ∷ os) o (inl same) = inl (ap open_names same)
 in_sets (q ∷ os) o (inr i) = inr (in_sets os o i)
 
 no_trees : (ts : List PlainTree) → map names ts ≡ [] → ts ≡ []
@@ -80,22 +82,40 @@ AreBehind k begun now cs = (os : List Open) × (now ≡ begun ++ os) × AreBare 
 pub behind_none : (k : Kind) (os : List Open) (cs : List NameSet) → cs ≡ [] → AreBehind k os os cs
 behind_none k os cs none = ([], sym (append-nil os), (sym none, λ o c. absurd (of_contains [] o c)))
 
-pub behind_more : (k : Kind) (begun now now' : List Open) (cs cs' : List NameSet) (o : Open) → AreBehind k begun now cs → o.parent ≡ Some k → o.chain.taken.items ≡ [] →
-    o.chain.steps.items ≡ [] → now' ≡ now ++ o ∷ [] → cs' ≡ cs ++ o.names ∷ [] → AreBehind k begun now' cs'
-behind_more k begun now now' cs cs' o is below no_names no_steps is_now is_cs = (
+pub behind_more : (k : Kind) (begun now now' : List Open) (cs cs' : List NameSet) (c : NameSet) (o : Open) → AreBehind k begun now cs → open_names o ≡ c → IsBelow (Some k) o →
+    HasNoChain o → now' ≡ now ++ o ∷ [] → cs' ≡ cs ++ c ∷ [] → AreBehind k begun now' cs'
+behind_more k begun now now' cs cs' c o is same_names below bare is_now is_cs = (
   is.0 ++ o ∷ [],
   is_now ∙ ap (λ os. os ++ o ∷ []) is.1 ∙ append_assoc begun is.0 (o ∷ []),
   (
-    map-append (λ (q : Open). q.names) is.0 (o ∷ []) ∙ ap (λ ss. ss ++ o.names ∷ []) is.2.0 ∙ sym is_cs,
+    map-append open_names is.0 (o ∷ []) ∙ ap (λ ss. ss ++ open_names o ∷ []) is.2.0 ∙ ap (λ s. cs ++ s ∷ []) same_names ∙ sym is_cs,
     λ q known. elim (of_append is.0 (o ∷ []) q (of_contains (is.0 ++ o ∷ []) q known)) [
       | inl i ↦ is.2.1 q (to_contains is.0 q i)
       | inr i ↦ elim i [
-        | inl same ↦ subst (λ (p : Open). (p.parent ≡ Some k) × (p.chain.taken.items ≡ []) × (p.chain.steps.items ≡ [])) (sym same) (below, no_names, no_steps)
+        | inl same ↦ subst (λ (p : Open). IsBelow (Some k) p × HasNoChain p) (sym same) (below, bare)
         | inr none ↦ absurd none
       ]
     ],
   ),
 )
+
+-- ---- what is opened
+
+pub opened_names : (s : NameSet) (p : Option Kind) (chain : Chain) (o : Open) → IsOpenOf s p chain o → open_names o ≡ s
+opened_names s p chain (One v) is = sym is
+opened_names s p chain (Several b) is = ap (λ (x : OpenSet). x.names) is
+
+pub opened_below : (s : NameSet) (p : Option Kind) (chain : Chain) (o : Open) → IsOpenOf s p chain o → IsBelow p o
+opened_below s p chain (One v) is = tt
+opened_below s p chain (Several b) is = ap (λ (x : OpenSet). x.parent) is
+
+pub opened_bare : (s : NameSet) (p : Option Kind) (chain : Chain) (o : Open) → chain.taken.items ≡ [] → chain.steps.items ≡ [] → IsOpenOf s p chain o → HasNoChain o
+opened_bare s p chain (One v) no_names no_steps is = tt
+opened_bare s p chain (Several b) no_names no_steps is = (ap (λ (x : OpenSet). x.chain.taken.items) is ∙ no_names, ap (λ (x : OpenSet). x.chain.steps.items) is ∙ no_steps)
+
+pub opened_front : (s : NameSet) (p : Option Kind) (chain whole : Chain) (n : ℕ) (o : Open) → IsFront whole n chain → IsOpenOf s p chain o → HasFront whole n o
+opened_front s p chain whole n (One v) front is = tt
+opened_front s p chain whole n (Several b) front is = subst (IsFront whole n) (sym (ap (λ (x : OpenSet). x.chain) is)) front
 
 pub opened_all : (k : Kind) (c : NameSet) (cs all : List NameSet) (chain : Chain) (begun begun' now : List Open) (o : Open) → all ≡ c ∷ cs → IsFirstOpen k c chain o →
     begun' ≡ begun ++ o ∷ [] → AreBehind k begun' now cs → (os : List Open) × (now ≡ begun ++ os) × AreOpen k all chain os
@@ -104,6 +124,10 @@ opened_all k c cs all chain begun begun' now o is_all first is_begun is = (
   is.1 ∙ ap (λ os. os ++ is.0) is_begun ∙ append_assoc begun (o ∷ []) is.0,
   subst (λ ss. AreOpen k ss chain (o ∷ is.0)) (sym is_all) (o, is.0, refl, first, is.2),
 )
+
+bare_chain : (e : ℕ → ℕ → Bool) (o : Open) → HasNoChain o → HasChain e o
+bare_chain e (One v) bare = tt
+bare_chain e (Several b) bare = λ v least. steps_none b.value.names v b.value.chain.taken.items b.value.chain.steps.items bare.0 bare.1
 
 module _ {e : ℕ → ℕ → Bool} where
   -- the first child has the least name
@@ -131,25 +155,25 @@ module _ {e : ℕ → ℕ → Bool} where
               absurd (omega arith)
         ]
 
+  first_chain : (s c : NameSet) (cs : List NameSet) (chain : Chain) (o : Open) → AreChildren e s (c ∷ cs) → HasTwo s → IsChainOf e s chain → open_names o ≡ c → HasFront chain (len c) o → HasChain e o
+  first_chain s c cs chain (One v) are two chained is front = tt
+  first_chain s c cs chain (Several b) are two chained is front = λ v least.
+      let in_c : IsLeastFrom c 0 v = subst (λ n. IsLeastFrom n 0 v) is least in
+      let child : IsMaximalStrong e s c = (are.exactly c).1 (to_contains (c ∷ cs) c (inl refl)) in
+      subst (λ n. AreSteps e n v b.value.chain.taken.items b.value.chain.steps.items) (sym is)
+      (steps_inside s c v (len c) chain b.value.chain (chained v (least_in_first s c cs are two v in_c)) child.is_strong in_c.member front refl)
+
   -- each child has modules of it
   pub opened_children : (s : NameSet) (k : Kind) (cs : List NameSet) (chain : Chain) (os : List Open) → AreChildren e s cs → HasTwo s → IsChainOf e s chain → AreOpen k cs chain os →
-      (sets_of os ≡ cs) × ((o : Open) → Contains os o → (o.parent ≡ Some k) × IsChainOf e o.names o.chain)
+      (sets_of os ≡ cs) × ((o : Open) → Contains os o → IsBelow (Some k) o × HasChain e o)
   opened_children s k [] chain os are two chained is = (ap sets_of is, λ o c. absurd (of_contains [] o (subst (λ ws. Contains ws o) is c)))
   opened_children s k (c ∷ cs) chain os are two chained is = (
     ap sets_of is.2 ∙ ap (λ n. n ∷ sets_of is.1) is.3.is ∙ ap (λ ss. c ∷ ss) is.4.0,
     λ q known. elim (of_contains (is.0 ∷ is.1) q (subst (λ ws. Contains ws q) is.2 known)) [
-      | inl same ↦ subst (λ (p : Open). (p.parent ≡ Some k) × IsChainOf e p.names p.chain) (sym same) (is.3.below, first_chain)
-      | inr i ↦
-          let bare : (q.parent ≡ Some k) × (q.chain.taken.items ≡ []) × (q.chain.steps.items ≡ []) = is.4.1 q (to_contains is.1 q i) in
-          (bare.0, λ v least. steps_none q.names v q.chain.taken.items q.chain.steps.items bare.1 bare.2)
+      | inl same ↦ subst (λ (p : Open). IsBelow (Some k) p × HasChain e p) (sym same) (is.3.below, first_chain s c cs chain is.0 are two chained is.3.is is.3.front)
+      | inr i ↦ (let bare : IsBelow (Some k) q × HasNoChain q = is.4.1 q (to_contains is.1 q i) in (bare.0, bare_chain e q bare.1))
     ],
-  ) where
-    first_chain : IsChainOf e is.0.names is.0.chain
-    first_chain v least =
-        let in_c : IsLeastFrom c 0 v = subst (λ n. IsLeastFrom n 0 v) is.3.is least in
-        let child : IsMaximalStrong e s c = (are.exactly c).1 (to_contains (c ∷ cs) c (inl refl)) in
-        subst (λ n. AreSteps e n v is.0.chain.taken.items is.0.chain.steps.items) (sym is.3.is)
-        (steps_inside s c v (len c) chain is.0.chain (chained v (least_in_first s c cs are two v in_c)) child.is_strong in_c.member is.3.front refl)
+  )
 
   pub chain_known : (s : NameSet) (chain : Chain) → HasSome s → IsChainOf e s chain → (k : ℕ) → k < length chain.steps.items → (step_at chain.steps.items k).to ≤ length chain.taken.items
   chain_known s chain some chained k l =
@@ -160,10 +184,10 @@ module _ {e : ℕ → ℕ → Bool} where
 
 -- a set that waits: a part of all the names, whose kind fits that of the node above, with modules of it
 pub record IsReady (e : ℕ → ℕ → Bool) (all : NameSet) (o : Open) : Type 0 where
-  pub some : HasSome o.names
-  pub inside : Within o.names all
-  pub below : FitsBelow e o.names o.parent
-  pub chain : IsChainOf e o.names o.chain
+  pub some : HasSome (open_names o)
+  pub inside : Within (open_names o) all
+  pub below : FitsOpen e o
+  pub chain : HasChain e o
 
 -- the parts are the first ones of a tree of all the names
 abbrev pub IsBegun : (ℕ → ℕ → Bool) → NameSet → List PlainPart → Type 0
@@ -179,24 +203,31 @@ module _ {e : ℕ → ℕ → Bool} (adj : IsAdjacency e) where
   child_fits s c Series kind max = λ inner. child_unsplit adj s c kind.0 true kind.1 max inner.0 inner.1
   child_fits s c Prime kind max = tt
 
+  fits_open : (q : Open) (k : Kind) → IsBelow (Some k) q → FitsBelow e (open_names q) (Some k) → FitsOpen e q
+  fits_open (One v) k below fits = tt
+  fits_open (Several b) k below fits = subst (FitsBelow e b.value.names) (sym below) fits
+
   module _ (all : NameSet) where
     begun_as : {ps qs : List PlainPart} → ps ≡ qs → IsBegun e all ps → IsBegun e all qs
     begun_as same b = (b.0, b.1, b.2, sym same ∙ b.3)
 
-    whole_ready : (o : Open) → HasSome all → o.names ≡ all → o.parent ≡ None → o.chain.taken.items ≡ [] → o.chain.steps.items ≡ [] → IsReady e all o
-    whole_ready o some same top no_names no_steps = record {
+    whole_fits : (o : Open) → IsBelow None o → FitsOpen e o
+    whole_fits (One v) top = tt
+    whole_fits (Several b) top = subst (FitsBelow e b.value.names) (sym top) tt
+
+    whole_ready : (o : Open) → HasSome all → open_names o ≡ all → IsBelow None o → HasNoChain o → IsReady e all o
+    whole_ready o some same top bare = record {
       some = subst HasSome (sym same) some;
-      inside = Has-along o.names all same;
-      below = subst (FitsBelow e o.names) (sym top) tt;
-      chain = λ v least. steps_none o.names v o.chain.taken.items o.chain.steps.items no_names no_steps;
+      inside = Has-along (open_names o) all same;
+      below = whole_fits o top;
+      chain = bare_chain e o bare;
     }
 
-    pub opened_begin : (o : Open) (os : List Open) (parts : List PlainPart) → HasSome all → o.names ≡ all → o.parent ≡ None → o.chain.taken.items ≡ [] → o.chain.steps.items ≡ [] →
-        os ≡ o ∷ [] → parts ≡ [] → IsOpened e all parts os
-    opened_begin o os parts some same top no_names no_steps alone none = record {
-      ready = λ q i. elim (subst (λ ws. In ws q) alone i) [ inl is ↦ subst (IsReady e all) (sym is) (whole_ready o some same top no_names no_steps) | inr j ↦ absurd j ];
+    pub opened_begin : (o : Open) (os : List Open) (parts : List PlainPart) → HasSome all → open_names o ≡ all → IsBelow None o → HasNoChain o → os ≡ o ∷ [] → parts ≡ [] → IsOpened e all parts os
+    opened_begin o os parts some same top bare alone none = record {
+      ready = λ q i. elim (subst (λ ws. In ws q) alone i) [ inl is ↦ subst (IsReady e all) (sym is) (whole_ready o some same top bare) | inr j ↦ absurd j ];
       goes_on = λ ts sets each.
-          let r : (t : PlainTree) × (ts ≡ t ∷ []) × (names t ≡ o.names) = one_tree ts o.names (sets ∙ ap sets_of alone) in (
+          let r : (t : PlainTree) × (ts ≡ t ∷ []) × (names t ≡ (open_names o)) = one_tree ts (open_names o) (sets ∙ ap sets_of alone) in (
             r.0,
             r.2 ∙ same,
             (subst (λ us. EachNodeBelow (IsBuilt e) (row us)) r.1 each).0,
@@ -208,57 +239,57 @@ module _ {e : ℕ → ℕ → Bool} (adj : IsAdjacency e) where
       pub next_ready : IsReady e all o
       next_ready = is.ready o (subst (λ ws. In ws o) (sym popped) (in_right waiting (o ∷ []) o (inl refl)))
 
-      part_falls : (p : PlainPart) (added : List Open) → IsPartOf e o.names p added → weights (sets_of added) < 2 * len o.names - 1
+      part_falls : (p : PlainPart) (added : List Open) → IsPartOf e (open_names o) p added → weights (sets_of added) < 2 * len (open_names o) - 1
       part_falls (name v) added part =
-          let a : 1 ≤ len o.names = some_len o.names next_ready.some.0 next_ready.some.1 in
+          let a : 1 ≤ len (open_names o) = some_len (open_names o) next_ready.some.0 next_ready.some.1 in
           let b : weights (sets_of added) ≡ 0 = ap (λ ws. weights (sets_of ws)) part.1 in
           omega arith
       part_falls (inner k n ps) added part =
-          let a : weights part.0 < 2 * len o.names - 1 = children_fall o.names part.0 part.1.children (two_of_kind e o.names k part.1.kind) in
+          let a : weights part.0 < 2 * len (open_names o) - 1 = children_fall (open_names o) part.0 part.1.children (two_of_kind e (open_names o) k part.1.kind) in
           let b : weights (sets_of added) ≡ weights part.0 = ap weights part.2 in
           omega arith
 
-      part_ready : (p : PlainPart) (added : List Open) → IsPartOf e o.names p added → (q : Open) → In added q → IsReady e all q
+      part_ready : (p : PlainPart) (added : List Open) → IsPartOf e (open_names o) p added → (q : Open) → In added q → IsReady e all q
       part_ready (name v) added part q i = absurd (subst (λ ws. In ws q) part.1 i)
       part_ready (inner k n ps) added part q i =
-          let child : In part.0 q.names = subst (λ ws. In ws q.names) part.2 (in_sets added q i) in
-          let below : (q.parent ≡ Some k) × IsChainOf e q.names q.chain = part.3 q (to_contains added q i) in
-          let max : IsMaximalStrong e o.names q.names = child_maximal o.names part.0 part.1.children q.names child in
+          let child : In part.0 (open_names q) = subst (λ ws. In ws (open_names q)) part.2 (in_sets added q i) in
+          let below : IsBelow (Some k) q × HasChain e q = part.3 q (to_contains added q i) in
+          let max : IsMaximalStrong e (open_names o) (open_names q) = child_maximal (open_names o) part.0 part.1.children (open_names q) child in
           record {
             some = max.is_strong.is_module.some;
             inside = λ x h. next_ready.inside x (max.is_strong.is_module.inside x h);
-            below = subst (FitsBelow e q.names) (sym below.0) (child_fits o.names q.names k part.1.kind max);
+            below = fits_open q k below.0 (child_fits (open_names o) (open_names q) k part.1.kind max);
             chain = below.1;
           }
 
       -- the tree of o over those of its children
       abbrev HasTreeOver : PlainPart → List PlainTree → Type 0
-      HasTreeOver p us = (t : PlainTree) × (names t ≡ o.names) × EachNode (IsBuilt e) t × (parts_of t ≡ p ∷ parts_backward (row us))
+      HasTreeOver p us = (t : PlainTree) × (names t ≡ (open_names o)) × EachNode (IsBuilt e) t × (parts_of t ≡ p ∷ parts_backward (row us))
 
-      tree_over : (p : PlainPart) (added : List Open) → IsPartOf e o.names p added → (us : List PlainTree) → map names us ≡ sets_of added →
+      tree_over : (p : PlainPart) (added : List Open) → IsPartOf e (open_names o) p added → (us : List PlainTree) → map names us ≡ sets_of added →
           EachNodeBelow (IsBuilt e) (row us) → HasTreeOver p us
       tree_over (name v) added part us sets each =
           (leaf v, sym part.0, tt, ap (λ ts. name v ∷ parts_backward (row ts)) (sym (no_trees us (sets ∙ ap sets_of part.1))))
       tree_over (inner k n ps) added part us sets each =
           let same : map names us ≡ part.0 = sets ∙ part.2 in
-          let two : HasTwo o.names = two_of_kind e o.names k part.1.kind in (
+          let two : HasTwo (open_names o) = two_of_kind e (open_names o) k part.1.kind in (
             node k (row us) ps,
-            all_names e us part.0 same o.names part.1.children two,
-            (node_built e us part.0 same o.names part.1.children two k ps part.1.kind part.1.pairs, each),
+            all_names e us part.0 same (open_names o) part.1.children two,
+            (node_built e us part.0 same (open_names o) part.1.children two k ps part.1.kind part.1.pairs, each),
             ap (λ m. inner k m ps ∷ parts_backward (row us)) (count_trees us ∙ ap (λ cs. length cs) same ∙ sym part.1.number),
           )
 
       module _ (parts' : List PlainPart) (os' : List Open) where
-        pub turn_falls : IsTurn e o.names parts waiting parts' os' → weights (sets_of os') < weights (sets_of os)
+        pub turn_falls : IsTurn e (open_names o) parts waiting parts' os' → weights (sets_of os') < weights (sets_of os)
         turn_falls turn =
             let a : weights (sets_of os') ≡ weights (sets_of waiting) + weights (sets_of turn.1) =
-            ap weights (ap sets_of turn.4 ∙ map-append (λ (q : Open). q.names) waiting turn.1) ∙ weights-append (sets_of waiting) (sets_of turn.1) in
-            let b : weights (sets_of os) ≡ weights (sets_of waiting) + ((2 * len o.names - 1) + 0) =
-            ap weights (ap sets_of popped ∙ map-append (λ (q : Open). q.names) waiting (o ∷ [])) ∙ weights-append (sets_of waiting) (o.names ∷ []) in
-            let c : weights (sets_of turn.1) < 2 * len o.names - 1 = part_falls turn.0 turn.1 turn.2 in
+            ap weights (ap sets_of turn.4 ∙ map-append open_names waiting turn.1) ∙ weights-append (sets_of waiting) (sets_of turn.1) in
+            let b : weights (sets_of os) ≡ weights (sets_of waiting) + ((2 * len (open_names o) - 1) + 0) =
+            ap weights (ap sets_of popped ∙ map-append open_names waiting (o ∷ [])) ∙ weights-append (sets_of waiting) ((open_names o) ∷ []) in
+            let c : weights (sets_of turn.1) < 2 * len (open_names o) - 1 = part_falls turn.0 turn.1 turn.2 in
             omega arith
 
-        module _ (p : PlainPart) (added : List Open) (part : IsPartOf e o.names p added) (later : parts' ≡ parts ++ p ∷ []) (left : os' ≡ waiting ++ added) where
+        module _ (p : PlainPart) (added : List Open) (part : IsPartOf e (open_names o) p added) (later : parts' ≡ parts ++ p ∷ []) (left : os' ≡ waiting ++ added) where
           moved : (ts xs ys : List PlainTree) (t : PlainTree) → ts ≡ xs ++ ys → parts_of t ≡ p ∷ parts_backward (row ys) →
               parts ++ parts_backward (row (xs ++ t ∷ [])) ≡ parts' ++ parts_backward (row ts)
           moved ts xs ys t cut own =
@@ -272,7 +303,7 @@ module _ {e : ℕ → ℕ → Bool} (adj : IsAdjacency e) where
               begun_as (moved ts r.0 r.1 t.0 r.2 t.3)
               (is.goes_on (r.0 ++ t.0 ∷ [])
               (map-append names r.0 (t.0 ∷ []) ∙ ap (λ ss. ss ++ names t.0 ∷ []) r.3 ∙ ap (λ s. sets_of waiting ++ s ∷ []) t.1
-              ∙ sym (ap sets_of popped ∙ map-append (λ (q : Open). q.names) waiting (o ∷ [])))
+              ∙ sym (ap sets_of popped ∙ map-append open_names waiting (o ∷ [])))
               (each_append (IsBuilt e) r.0 (t.0 ∷ []) each (t.2, tt)))
 
           with_parts : (ts : List PlainTree) (r : Parted ts (sets_of waiting) (sets_of added)) →
@@ -290,10 +321,10 @@ module _ {e : ℕ → ℕ → Bool} (adj : IsAdjacency e) where
               | inr b ↦ part_ready p added part q b
             ];
             goes_on = λ ts sets each. with_sets ts each
-                (parted ts (sets_of waiting) (sets_of added) (sets ∙ ap sets_of left ∙ map-append (λ (q : Open). q.names) waiting added));
+                (parted ts (sets_of waiting) (sets_of added) (sets ∙ ap sets_of left ∙ map-append open_names waiting added));
           }
 
-        pub opened_more : IsTurn e o.names parts waiting parts' os' → IsOpened e all parts' os'
+        pub opened_more : IsTurn e (open_names o) parts waiting parts' os' → IsOpened e all parts' os'
         opened_more turn = opened_by turn.0 turn.1 turn.2 turn.3 turn.4
 
     pub opened_end : (parts : List PlainPart) (os : List Open) → IsOpened e all parts os → os ≡ [] → (t : PlainTree) × IsTreeOf e all t × (parts ≡ parts_of t)

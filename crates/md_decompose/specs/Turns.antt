@@ -1,6 +1,6 @@
 -- One turn of a decomposition: a set is taken apart, which gives one part of the tree and the sets of its children.
 -- Source: top-down modular decomposition, as in Habib and Paul, A survey of the algorithmic aspects of modular decomposition.
-use Rattle.std.specs.Prelude.{◌≡◌, ℕ, Bool, List, [], ◌∷◌, ◌++◌, map, length, Contains, Some}
+use Rattle.std.specs.Prelude.{◌≡◌, ℕ, Bool, List, [], ◌∷◌, ◌++◌, map, length, Contains, Option, Some, ⊤}
 use Rattle.std.specs.FinSet.{len}
 use Rattle.md_graph.specs.Sets.{NameSet, only_name}
 use Rattle.md_tree.specs.declared.Kind.{Kind}
@@ -8,25 +8,60 @@ use Rattle.md_tree.specs.declared.Kind.TheVariants.{Parallel, Series, Prime}
 use Rattle.md_tree.specs.declared.Pair.{Pair}
 use Rattle.md_tree.specs.StrongTrees.{HasKind}
 use Rattle.md_decompose.specs.declared.decomposition.Open.{Open}
+use Rattle.md_decompose.specs.declared.decomposition.Open.TheVariants.{One, Several}
 use Rattle.md_tree.specs.Parts.{PlainPart, name, inner}
-use Rattle.md_decompose.specs.Children.{AreChildren, ListsPairs}
+use Rattle.md_decompose.specs.Children.{AreChildren, ListsPairs, FitsBelow}
 use Rattle.md_decompose.specs.declared.chains.Chain.{Chain}
 use Rattle.md_decompose.specs.Chains.{IsChainOf, IsFront}
 
+-- the names of what waits
+abbrev pub open_names : Open → NameSet
+open_names (One v) = only_name v
+open_names (Several b) = b.value.names
+
+-- the set s below a node of kind p, if there is one, with a chain
+abbrev pub IsOpenOf : NameSet → Option Kind → Chain → Open → Type 0
+IsOpenOf s p chain (One v) = s ≡ only_name v
+IsOpenOf s p chain (Several b) = b.value ≡ record { names = s; parent = p; chain = chain }
+
+-- a set below a node of kind p, or a vertex alone
+abbrev pub IsBelow : Option Kind → Open → Type 0
+IsBelow p (One v) = ⊤
+IsBelow p (Several b) = b.value.parent ≡ p
+
+-- the kind of a set fits that of the node above
+abbrev pub FitsOpen : (ℕ → ℕ → Bool) → Open → Type 0
+FitsOpen e (One v) = ⊤
+FitsOpen e (Several b) = FitsBelow e b.value.names b.value.parent
+
+-- the chain of a set has modules of it
+abbrev pub HasChain : (ℕ → ℕ → Bool) → Open → Type 0
+HasChain e (One v) = ⊤
+HasChain e (Several b) = IsChainOf e b.value.names b.value.chain
+
+-- the chain of a set has no module
+abbrev pub HasNoChain : Open → Type 0
+HasNoChain (One v) = ⊤
+HasNoChain (Several b) = (b.value.chain.taken.items ≡ []) × (b.value.chain.steps.items ≡ [])
+
+-- the chain of a set is a front of another one, with modules of at most n names
+abbrev pub HasFront : Chain → ℕ → Open → Type 0
+HasFront chain n (One v) = ⊤
+HasFront chain n (Several b) = IsFront chain n b.value.chain
+
 -- the sets that are to be taken apart
 abbrev pub sets_of : List Open → List NameSet
-sets_of os = map (λ o. o.names) os
+sets_of os = map open_names os
 
 -- os are the sets cs below a node of kind k, with chains without modules
 abbrev pub AreBare : Kind → List NameSet → List Open → Type 0
-AreBare k cs os =
-    (sets_of os ≡ cs) × ((o : Open) → Contains os o → (o.parent ≡ Some k) × (o.chain.taken.items ≡ []) × (o.chain.steps.items ≡ []))
+AreBare k cs os = (sets_of os ≡ cs) × ((o : Open) → Contains os o → IsBelow (Some k) o × HasNoChain o)
 
 -- o is the set c below a node of kind k, with a front of a chain: modules with at most as many names as c
 pub record IsFirstOpen (k : Kind) (c : NameSet) (chain : Chain) (o : Open) : Type 0 where
-  pub is : o.names ≡ c
-  pub below : o.parent ≡ Some k
-  pub front : IsFront chain (len c) o.chain
+  pub is : open_names o ≡ c
+  pub below : IsBelow (Some k) o
+  pub front : HasFront chain (len c) o
 
 -- os are the sets cs below a node of kind k; the first one has a front of a chain, and the others have none
 abbrev pub AreOpen : Kind → List NameSet → Chain → List Open → Type 0
@@ -52,7 +87,7 @@ abbrev pub IsPartOf : (ℕ → ℕ → Bool) → NameSet → PlainPart → List 
 IsPartOf e s (name v) os = (s ≡ only_name v) × (os ≡ [])
 IsPartOf e s (inner k n ps) os =
     (cs : List NameSet) × IsNode e s k n ps cs × (sets_of os ≡ cs) ×
-    ((o : Open) → Contains os o → (o.parent ≡ Some k) × IsChainOf e o.names o.chain)
+    ((o : Open) → Contains os o → IsBelow (Some k) o × HasChain e o)
 
 -- when s is taken apart, its part comes behind the parts so far, and the sets of its children behind the waiting ones
 abbrev pub IsTurn : (ℕ → ℕ → Bool) → NameSet → List PlainPart → List Open → List PlainPart → List Open → Type 0

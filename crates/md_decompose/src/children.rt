@@ -20,13 +20,15 @@ use std::alloc::Global;
 // The kind of a set of two vertices or more, the leaf sets of its children, in ascending order of
 // their least names, and the pairs of them that it lists. `parent` is the kind of the node above,
 // if there is one: below a parallel node nothing is parallel, and below a series node nothing
-// series. `chain` has modules of the set, and may get more.
+// series. `chain` has modules of the set, and may get more; `places` is room that
+// all nodes use.
 pub(crate) fn children(
     alloc: Global,
     graph: &Graph,
     set: &Names,
     parent: Option<Kind>,
     chain: &mut Chain,
+    places: &mut Vec<u32>,
 ) -> Result<(Kind, Vec<Names>, QuotientEdges), Memory>
     requires inside { Within set.now graph.now.vertices }
     requires two { HasTwo set.now }
@@ -48,7 +50,7 @@ pub(crate) fn children(
         return Ok((Kind::Series, sets, no_pairs(alloc)));
     }
     let sets = prime_children(alloc, graph, set, chain)?;
-    let edges = quotient_edges(alloc, graph, set, &sets)?;
+    let edges = quotient_edges(alloc, graph, set, &sets, places)?;
     Ok((Kind::Prime, sets, edges))
 }
 

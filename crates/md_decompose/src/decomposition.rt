@@ -10,7 +10,7 @@ ghost use Rattle.md_tree.specs.WellFormed.{IsWellFormed};
 ghost use Rattle.md_tree.specs.Plain.{plain_option};
 ghost use Rattle.md_decompose.specs.Children.{FitsBelow};
 ghost use Rattle.md_tree.specs.Parts.{plain_part, parts_of};
-ghost use Rattle.md_decompose.specs.Turns.{AreOpen, IsTurn};
+ghost use Rattle.md_decompose.specs.Turns.{open_names, FitsOpen, HasChain, IsOpenOf, AreOpen, IsTurn};
 ghost use Rattle.md_decompose.specs.Chains.{IsChainOf, step_at};
 ghost use Rattle.md_decompose.specs.declared.decomposition.Open.{Open};
 
@@ -20,10 +20,17 @@ use md_graph::{Graph, Memory, Names};
 use md_tree::{Kind, Part, Tree, build};
 use std::alloc::Global;
 
+// What waits to be taken apart: a vertex alone, or a set of vertices.
+#[derive(Drop)]
+enum Open {
+    One(u32),
+    Several(Box<OpenSet>),
+}
+
 // A set of vertices whose tree is to come, the kind of the node above it, and modules of the set
 // that hold its least name.
 #[derive(Drop)]
-struct Open {
+struct OpenSet {
     names: Names,
     parent: Option<Kind>,
     chain: Chain,
@@ -56,61 +63,99 @@ fn parts(alloc: Global, graph: &Graph) -> Result<Vec<Part>, Memory>
 {
     let mut parts = Vec::new(alloc);
     let mut waiting = Vec::new(alloc);
-    waiting.push(Open {
-        names: graph.vertices().copy(),
-        parent: None,
-        chain: Chain::none(alloc),
-    })?;
+    let whole = opened(alloc, graph.vertices().copy(), None, Chain::none(alloc))?;
+    waiting.push(whole)?;
+    let mut places = Vec::new(alloc);
     while let Some(next) = waiting.pop() {
-        take_apart(alloc, graph, next, &mut parts, &mut waiting)?;
+        take_apart(alloc, graph, next, &mut parts, &mut waiting, &mut places)?;
     }
     Ok(parts)
 }
 
-// The part of a set comes behind the parts so far, and the sets of its children behind the waiting
-// ones.
+// The part of what waited comes behind the parts so far, and its children behind what waits.
 fn take_apart(
     alloc: Global,
     graph: &Graph,
-    set: Open,
+    next: Open,
     parts: &mut Vec<Part>,
     waiting: &mut Vec<Open>,
+    places: &mut Vec<u32>,
 ) -> Result<(), Memory>
-    requires some { HasSome set.names }
-    requires inside { Within set.names graph.now.vertices }
-    requires below { FitsBelow (adjacent graph.now) set.names set.parent }
-    requires chain { IsChainOf (adjacent graph.now) set.names set.chain }
-    ensures { IfOk result (λ _. IsTurn (adjacent graph.now) set.names
+    requires some { HasSome (open_names next) }
+    requires inside { Within (open_names next) graph.now.vertices }
+    requires below { FitsOpen (adjacent graph.now) next }
+    requires chain { HasChain (adjacent graph.now) next }
+    ensures { IfOk result (λ _. IsTurn (adjacent graph.now) (open_names next)
         (map plain_part parts.old.items) waiting.old.items
         (map plain_part parts.new.items) waiting.new.items) }
 {
-    let Open {
-        names,
-        parent,
-        mut chain,
-    } = set;
-    if let Some(name) = only_member(&names) {
+    match next {
+        Open::One(name) => {
+            parts.push(Part::Leaf(name))?;
+            Ok(())
+        }
+        Open::Several(mut set) => take_set_apart(alloc, graph, &mut set, parts, waiting, places),
+    }
+}
+
+// The same of a set.
+fn take_set_apart(
+    alloc: Global,
+    graph: &Graph,
+    set: &mut OpenSet,
+    parts: &mut Vec<Part>,
+    waiting: &mut Vec<Open>,
+    places: &mut Vec<u32>,
+) -> Result<(), Memory>
+    requires some { HasSome set.old.names }
+    requires inside { Within set.old.names graph.now.vertices }
+    requires below { FitsBelow (adjacent graph.now) set.old.names set.old.parent }
+    requires chain { IsChainOf (adjacent graph.now) set.old.names set.old.chain }
+    ensures { IfOk result (λ _. IsTurn (adjacent graph.now) set.old.names
+        (map plain_part parts.old.items) waiting.old.items
+        (map plain_part parts.new.items) waiting.new.items) }
+{
+    if let Some(name) = only_member(&set.names) {
         parts.push(Part::Leaf(name))?;
         return Ok(());
     }
-    let (kind, sets, edges) = children(alloc, graph, &names, parent, &mut chain)?;
+    let (kind, sets, edges) = children(
+        alloc,
+        graph,
+        &set.names,
+        set.parent,
+        &mut set.chain,
+        places,
+    )?;
     parts.push(Part::Node(kind, sets.len() as u64, edges))?;
-    push_open(alloc, waiting, kind, sets, &chain)
+    push_open(alloc, waiting, kind, sets, &set.chain)
 }
 
 // The member of a set with one member.
 pub(crate) fn only_member(set: &Names) -> Option<u32>
-    requires { HasSome set.now }
     ensures one { IfSome result (λ name. set.now ≡ only_name name) }
-    ensures more { IfNone result (HasTwo set.now) }
+    ensures more { IfNone result (HasSome set.now → HasTwo set.now) }
 {
-    let Some(first) = set.first_from(0) else {
-        unreachable!();
-    };
+    let first = set.first_from(0)?;
     match set.first_from(first + 1) {
         Some(_) => None,
         None => Some(first),
     }
+}
+
+// A set that is to be taken apart, with its chain.
+fn opened(alloc: Global, names: Names, parent: Option<Kind>, chain: Chain) -> Result<Open, Memory>
+    ensures { IfOk result (IsOpenOf names parent chain) }
+{
+    if let Some(vertex) = only_member(&names) {
+        return Ok(Open::One(vertex));
+    }
+    let set = OpenSet {
+        names,
+        parent,
+        chain,
+    };
+    Ok(Open::Several(Box::new(alloc, set)?))
 }
 
 // The children's sets in order, so that the last one is taken apart first. The first one gets the
@@ -134,17 +179,11 @@ fn push_open(
         return Ok(());
     };
     let chain = chain.within(alloc, first.count() as usize)?;
-    waiting.push_reserved(Open {
-        names: first,
-        parent: Some(kind),
-        chain,
-    });
+    let next = opened(alloc, first, Some(kind), chain)?;
+    waiting.push_reserved(next);
     for names in rest {
-        waiting.push_reserved(Open {
-            names,
-            parent: Some(kind),
-            chain: Chain::none(alloc),
-        });
+        let next = opened(alloc, names, Some(kind), Chain::none(alloc))?;
+        waiting.push_reserved(next);
     }
     Ok(())
 }

@@ -1,27 +1,27 @@
 //! The pairs of children that a prime node lists: the edges of its quotient.
-ghost use Rattle.std.specs.Prelude.{◌≡◌, ◌+◌, ◌<◌, ◌++◌, ◌∷◌, [], ℕ, IfOk, AllPairs, length, slice_index};
-ghost use Rattle.md_graph.specs.PlainGraph.{adjacent};
+ghost use Rattle.std.specs.Prelude.{◌≡◌, ◌<◌, ◌≤◌, ◌++◌, ◌∷◌, [], ℕ, IfOk, AllPairs, length, map, slice_index};
+ghost use Rattle.std.specs.FinSet.{intersection};
+ghost use Rattle.md_graph.specs.NameSet.{ascending};
+ghost use Rattle.md_graph.specs.PlainGraph.{adjacent, neighbours};
 ghost use Rattle.md_graph.specs.Sets.{NameSet, Has, Within, HasSome};
 ghost use Rattle.md_modules.specs.Kinds.{IsPrime};
 ghost use Rattle.md_tree.specs.StrongTrees.{IsBefore};
 ghost use Rattle.md_decompose.specs.Children.{AreChildren, ListsPairs, set_at};
-ghost use Rattle.md_decompose.specs.Heads.{AreHeads, RisesOn, ListsHeadPairs};
+ghost use Rattle.md_decompose.specs.Heads.{AreHeads, RisesOn, pair_at, ListsHeadPairs};
 
 use md_graph::{Graph, Memory, NAMES, Names};
 use md_tree::{Pair, QuotientEdges};
 use std::alloc::Global;
 
-// In a set of names below this the places of names are kept in a small array, which costs less to
-// make.
-const LOW: u32 = 64;
-
 // The pairs of children of a prime set between which an edge runs, by their positions. The first
-// names of two children are adjacent exactly where an edge runs between them.
+// names of two children are adjacent exactly where an edge runs between them. `places` is where the
+// positions are kept meanwhile, whatever it has: one for all nodes.
 pub(crate) fn quotient_edges(
     alloc: Global,
     graph: &Graph,
     set: &Names,
     sets: &[Names],
+    places: &mut Vec<u32>,
 ) -> Result<QuotientEdges, Memory>
     requires inside { Within set.now graph.now.vertices }
     requires prime { IsPrime (adjacent graph.now) set.now }
@@ -29,10 +29,20 @@ pub(crate) fn quotient_edges(
     ensures { IfOk result (λ edges. ListsPairs (adjacent graph.now) sets.now edges.list.items) }
 {
     let _vertices = graph.vertices();
-    if set.first_from(LOW).is_none() {
-        return pairs_by_places(alloc, graph, set, sets, &mut [0; LOW as usize]);
+    let Some(last) = set.last() else {
+        unreachable!();
+    };
+    make_room(places, last as usize + 1)?;
+    pairs_by_places(alloc, graph, set, sets, places)
+}
+
+fn make_room(places: &mut Vec<u32>, size: usize) -> Result<(), Memory>
+    ensures { IfOk result (λ _. size ≤ length places.new.items) }
+{
+    if places.len() < size {
+        places.resize(size, 0)?;
     }
-    pairs_by_places(alloc, graph, set, sets, &mut [0; NAMES as usize])
+    Ok(())
 }
 
 // The same, with room for a place at each name of the set.
@@ -75,7 +85,7 @@ fn heads_of(sets: &[Names], places: &mut [u32]) -> Names
     heads
 }
 
-// The pairs of adjacent heads, by their places.
+// The pairs of adjacent heads, by their places. Room is taken for all of them at once.
 fn head_pairs(
     alloc: Global,
     graph: &Graph,
@@ -87,34 +97,44 @@ fn head_pairs(
     ensures { IfOk result (λ edges.
         ListsHeadPairs (adjacent graph.now) heads.now places.now NAMES 0 edges.items) }
 {
-    let mut edges = Vec::new(alloc);
+    let _vertices = graph.vertices();
+    let mut edges = Vec::with_capacity(alloc, count_pairs(graph, heads))?;
+    let mut later = heads.copy();
     for head in heads.members() {
-        push_near(graph, heads, places, head, &mut edges)?;
+        later.remove(head);
+        push_near(graph, &later, places, head, &mut edges)?;
     }
     Ok(edges)
 }
 
-// The pairs of `head` and each later one that is adjacent to it, by their places.
+// How many pairs of heads are adjacent.
+fn count_pairs(graph: &Graph, heads: &Names) -> usize {
+    let mut ends: usize = 0;
+    for head in heads.members() {
+        ends = ends.wrapping_add(graph.row(head).and(heads).count() as usize);
+    }
+    ends / 2
+}
+
+// The pairs of `head` and each one of `later` that is adjacent to it, by their places.
 fn push_near(
     graph: &Graph,
-    heads: &Names,
+    later: &Names,
     places: &[u32],
     head: u32,
     edges: &mut Vec<Pair>,
 ) -> Result<(), Memory>
-    requires room { (v : ℕ) → Has heads.now v → v < length places.now }
-    requires rising { RisesOn heads.now places.now }
-    requires member { Has heads.now head }
     requires name { head < NAMES }
-    requires before { ListsHeadPairs (adjacent graph.now) heads.now places.now
-        head 0 edges.old.items }
-    ensures { IfOk result (λ _.
-        ListsHeadPairs (adjacent graph.now) heads.now places.now (head + 1) 0 edges.new.items) }
+    requires own { head < length places.now }
+    requires room { (v : ℕ) → Has later.now v → v < length places.now }
+    ensures { IfOk result (λ _. edges.new.items ≡ edges.old.items
+        ++ map (pair_at places.now head)
+        (ascending (intersection (neighbours graph.now head) later.now))) }
 {
     let low = places[head as usize];
-    let near = graph.row(head).and(heads);
+    let near = graph.row(head).and(later);
     edges.reserve(near.count() as usize)?;
-    for other in near.members_from(head + 1) {
+    for other in near.members() {
         edges.push_reserved(Pair {
             low,
             high: places[other as usize],

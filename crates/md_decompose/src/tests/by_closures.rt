@@ -1,6 +1,6 @@
 //! The children of prime sets by the closures of pairs, a slow program, beside the fast one: on all
-//! graphs of up to five vertices, and on larger ones of many kinds. The slow program writes the text
-//! of its tree, too, which is that of the fast one.
+//! graphs of up to five vertices, and on larger ones of many kinds. The slow program also writes the
+//! text of its tree, which is that of the fast one.
 use super::{is_same_set, join};
 use crate::chains::Chain;
 use crate::children::children;
@@ -176,7 +176,9 @@ fn divide(
         written.push_str(word.as_str())?;
         return Ok(());
     }
-    let (kind, sets, edges) = children(alloc, graph, &within, None, &mut Chain::none(alloc))?;
+    let mut chain = Chain::none(alloc);
+    let mut places = Vec::new(alloc);
+    let (kind, sets, edges) = children(alloc, graph, &within, None, &mut chain, &mut places)?;
     if matches!(kind, Kind::Prime) {
         expect_same(rt, &sets, &slow_children(rt, alloc, graph, set)?);
     }

@@ -1,16 +1,19 @@
-use Rattle.std.proofs.Common.{[], ◌∷◌, ◌++◌, map, None, refl, sym, ◌∙◌, ap}
+use Rattle.std.proofs.Common.{[], ◌∷◌, ◌++◌, map, None, sym, ◌∙◌, ap}
 use Rattle.std.proofs.lemmas.List.{nil_from_length}
 use Rattle.md_graph.specs.PlainGraph.{adjacent}
 use Rattle.md_modules.proofs.Turns.{graph_adjacency}
 use Rattle.md_tree.specs.Parts.{plain_part}
-use Rattle.md_decompose.proofs.Opened.{IsReady, opened_begin, next_ready, turn_falls, opened_more, opened_end}
+use Rattle.md_decompose.proofs.Opened.{opened_names, opened_below, opened_bare, IsReady, opened_begin, next_ready, turn_falls, opened_more, opened_end}
 use Rattle.md_decompose.proofs.decomposition.parts.Goals as goal
 
 pub loop-next-init : goal.loop-next-init
 loop-next-init c =
-    opened_begin (graph_adjacency c.vertices.ensures.graph) c.args.graph.now.vertices (record { names = c.copy.result; parent = None; chain = c.none.result }) c.push.new.self.items
-    (map plain_part c.new-parts.result.items) c.requires (c.copy.ensures ∙ c.vertices.ensures.set) refl c.none.ensures.taken c.none.ensures.steps
-    (c.in_ok-push.ensures.items ∙ ap (λ os. os ++ record { names = c.copy.result; parent = None; chain = c.none.result } ∷ []) c.new-waiting.ensures.items)
+    let whole = c.in_ok-whole.whole in
+    let is = c.in_ok-whole.ensures in
+    opened_begin (graph_adjacency c.vertices.ensures.graph) c.args.graph.now.vertices whole c.push.new.self.items
+    (map plain_part c.new-parts.result.items) c.requires (opened_names c.copy.result None c.none.result whole is ∙ c.copy.ensures ∙ c.vertices.ensures.set)
+    (opened_below c.copy.result None c.none.result whole is) (opened_bare c.copy.result None c.none.result whole c.none.ensures.taken c.none.ensures.steps is)
+    (c.in_ok-push.ensures.items ∙ ap (λ os. os ++ whole ∷ []) c.new-waiting.ensures.items)
     (ap (map plain_part) c.new-parts.ensures.items)
 
 pub take_apart-requires : goal.take_apart-requires

@@ -1,7 +1,7 @@
 use Rattle.std.proofs.Common.{◌≡◌, [], ◌∷◌, ◌++◌, length, Some, refl, sym, ◌∙◌, ap, subst, arith, append_assoc, append-nil}
 use Rattle.std.proofs.lemmas.List.{nil_from_length}
-use Rattle.md_decompose.specs.Chains.{IsFront}
-use Rattle.md_decompose.proofs.Opened.{behind_none, behind_more, opened_all}
+use Rattle.md_decompose.specs.Turns.{HasFront}
+use Rattle.md_decompose.proofs.Opened.{behind_none, behind_more, opened_all, opened_names, opened_below, opened_bare, opened_front}
 use Rattle.md_decompose.proofs.decomposition.push_open.Goals as goal
 
 pub loop-names-init : goal.loop-names-init
@@ -25,10 +25,12 @@ loop-names-preserved c =
     let steps = c.in-Some-names.ensures.steps in
     let yielded = c.loop-names.yielded in
     let names = c.in-Some-names.names in
+    let next = c.in_ok-next-2.next in
+    let is = c.in_ok-next-2.ensures in
     record {
-      behind = behind_more c.args.kind c.push_reserved.new.self.items c.loop-names.waiting.items c.push_reserved-in-loop-names.new.self.items yielded (yielded ++ names ∷ [])
-          (record { names = names; parent = Some c.args.kind; chain = c.none.result }) c.loop-names.invariant.behind refl c.none.ensures.taken c.none.ensures.steps
-          c.push_reserved-in-loop-names.ensures.items refl;
+      behind = behind_more c.args.kind c.push_reserved.new.self.items c.loop-names.waiting.items c.push_reserved-in-loop-names.new.self.items yielded (yielded ++ names ∷ []) names
+          next c.loop-names.invariant.behind (opened_names names (Some c.args.kind) c.none.result next is) (opened_below names (Some c.args.kind) c.none.result next is)
+          (opened_bare names (Some c.args.kind) c.none.result next c.none.ensures.taken c.none.ensures.steps is) c.push_reserved-in-loop-names.ensures.items refl;
       left = append_assoc yielded (names ∷ []) c.next-in-loop-names.new.self.rest.items ∙ ap (λ ns. yielded ++ ns) (sym steps.0) ∙ c.loop-names.invariant.left;
       room = (
           let room = c.loop-names.invariant.room in
@@ -48,8 +50,14 @@ returns c =
     sym c.into_iter-rest.ensures.rest ∙ c.in-Some.ensures.items
     ∙ ap (λ ns. c.in-Some.first ∷ ns) (sym (ap (λ (r : _). r.rest.items) c.into_iter-names-iterator.ensures.into_iter_gives) ∙ others)
     in
+    let next = c.in_ok-next.next in
+    let is = c.in_ok-next.ensures in
     opened_all c.args.kind c.in-Some.first yielded c.args.sets.items c.args.chain.now c.args.waiting.now.items c.push_reserved.new.self.items c.loop-names.waiting.items
-    (record { names = c.in-Some.first; parent = Some c.args.kind; chain = c.in_ok-chain.chain }) all
-    (record { is = refl; below = refl; front = subst (λ m. IsFront c.args.chain.now m c.in_ok-chain.chain) c.count.ensures c.in_ok-chain.ensures })
-    (c.push_reserved.ensures.items ∙ ap (λ os. os ++ record { names = c.in-Some.first; parent = Some c.args.kind; chain = c.in_ok-chain.chain } ∷ []) c.in_ok-reserve.ensures.items)
+    next all
+    (record {
+      is = opened_names c.in-Some.first (Some c.args.kind) c.in_ok-chain.chain next is;
+      below = opened_below c.in-Some.first (Some c.args.kind) c.in_ok-chain.chain next is;
+      front = subst (λ m. HasFront c.args.chain.now m next) c.count.ensures (opened_front c.in-Some.first (Some c.args.kind) c.in_ok-chain.chain c.args.chain.now c.count.result next c.in_ok-chain.ensures is);
+    })
+    (c.push_reserved.ensures.items ∙ ap (λ os. os ++ next ∷ []) c.in_ok-reserve.ensures.items)
     c.loop-names.invariant.behind

@@ -1,39 +1,48 @@
-use Rattle.std.proofs.Common.{length, subst, sym, ap, arith}
-use Rattle.md_graph.specs.PlainGraph.{adjacent}
-use Rattle.md_decompose.specs.Heads.{ListsHeadPairs}
-use Rattle.md_decompose.proofs.HeadPairs.{left_few, pushing_begin, pushing_head, pushing_more, pushing_end}
+use Rattle.std.proofs.Common.{◌≡◌, ◌∷◌, [], ◌++◌, length, map, subst, sym, ◌∙◌, ap, arith, append_assoc}
+use Rattle.std.specs.FinSet.{intersection}
+use Rattle.md_graph.specs.declared.TheConstants.{NAMES}
+use Rattle.md_graph.specs.NameSet.{AllBelow, ascending}
+use Rattle.md_graph.specs.PlainGraph.{neighbours}
+use Rattle.md_graph.proofs.NameLemmas.{length-ascending}
+use Rattle.md_graph.proofs.SetLemmas.{of_meet}
+use Rattle.md_graph.proofs.Walks.{Walked-start, Walked-item, Walked-more}
+use Rattle.md_decompose.specs.Heads.{pair_at}
 use Rattle.md_decompose.proofs.quotient.push_near.Goals as goal
 
 pub loop-other-init : goal.loop-other-init
 loop-other-init c =
-    let items = c.members_from-other-items.ensures.list in
-    let names = c.members_from-other-items.ensures.names in
-    let few = left_few c.and-near.result c.args.head c.members_from-other-items.result c.into_iter-other-iterator.result c.requires.name names items c.into_iter-other-iterator.ensures.into_iter_gives in
-    let same = c.in_ok-reserve.ensures.items in
+    let later = c.args.later.now in
+    let row = neighbours c.args.graph.now c.args.head in
+    let near : c.and-near.result ≡ intersection row later = c.and-near.ensures ∙ ap (λ s. intersection s later) c.row.ensures.set in
+    let listed : c.into_iter-other-iterator.result ≡ ascending c.and-near.result = c.into_iter-other-iterator.ensures.into_iter_gives ∙ c.members-other-items.ensures.list in
+    let same : c.into_iter-other-iterator.result ≡ ascending (intersection row later) = listed ∙ ap ascending near in
     record {
-      pushing = pushing_begin c.row.ensures.graph c.args.heads.now c.args.places.now c.args.head c.row.result.now c.and-near.result c.members_from-other-items.result c.into_iter-other-iterator.result
-          c.reserve.new.self.items c.row.ensures.set c.and-near.ensures items names c.into_iter-other-iterator.ensures.into_iter_gives
-          (subst (ListsHeadPairs (adjacent c.args.graph.now) c.args.heads.now c.args.places.now c.args.head 0) (sym same) c.requires.before);
-      room = (let ok = c.in_ok-reserve.ensures.ok in let count = c.count.ensures in omega arith);
+      pushed = ap (λ xs. c.reserve.new.self.items ++ map (pair_at c.args.places.now c.args.head) xs) same;
+      walked = Walked-start same (subst (λ s. AllBelow s NAMES) near c.members-other-items.ensures.names);
+      room = (
+          let size = ap length listed ∙ length-ascending c.and-near.result NAMES c.members-other-items.ensures.names in
+          let ok = c.in_ok-reserve.ensures.ok in
+          let count = c.count.ensures in
+          omega arith);
     }
 
 pub bounds-places-other : goal.bounds-places-other
 bounds-places-other c =
     c.requires.room c.in-Some.other
-    (pushing_head c.row.ensures.graph c.args.heads.now c.args.places.now c.args.head c.loop-other.other-iterator c.loop-other.edges.items c.loop-other.invariant.pushing c.in-Some.other _ c.in-Some.ensures.steps)
+    (of_meet (neighbours c.args.graph.now c.args.head) c.args.later.now c.in-Some.other (Walked-item c.loop-other.invariant.walked c.in-Some.other _ c.in-Some.ensures.steps)).1
 
 pub loop-other-preserved : goal.loop-other-preserved
-loop-other-preserved c = record {
-  pushing = pushing_more c.row.ensures.graph c.args.heads.now c.args.places.now c.args.head c.loop-other.other-iterator c.loop-other.edges.items c.loop-other.invariant.pushing c.in-Some.other _ c.push_reserved.new.self.items
-      c.requires.rising c.requires.member c.in-Some.ensures.steps c.push_reserved.ensures.items;
-  room = (
-      let room = c.loop-other.invariant.room in
-      let one_less = ap length c.in-Some.ensures.steps in
-      let longer = c.push_reserved.ensures.len in
-      let same = c.push_reserved.ensures.capacity in
-      omega arith);
-}
-
-pub returns : goal.returns
-returns c =
-    pushing_end c.row.ensures.graph c.args.heads.now c.args.places.now c.args.head c.loop-other.other-iterator c.loop-other.edges.items c.loop-other.invariant.pushing _ c.in-None.ensures.steps
+loop-other-preserved c =
+    let pair = pair_at c.args.places.now c.args.head c.in-Some.other in
+    let rest = map (pair_at c.args.places.now c.args.head) c.next.new.self in
+    record {
+      pushed = ap (λ ps. ps ++ rest) c.push_reserved.ensures.items ∙ append_assoc c.loop-other.edges.items (pair ∷ []) rest
+          ∙ ap (λ xs. c.loop-other.edges.items ++ map (pair_at c.args.places.now c.args.head) xs) (sym c.in-Some.ensures.steps) ∙ c.loop-other.invariant.pushed;
+      walked = Walked-more c.loop-other.invariant.walked c.in-Some.other _ c.in-Some.ensures.steps tt;
+      room = (
+          let room = c.loop-other.invariant.room in
+          let one_less = ap length c.in-Some.ensures.steps in
+          let longer = c.push_reserved.ensures.len in
+          let same = c.push_reserved.ensures.capacity in
+          omega arith);
+    }

@@ -11,4 +11,4 @@ children-requires-clause-inside g c x h =
     (of_meet c.args.set.now c.vertices.result.now x (Has-along c.and-within.result (intersection c.args.set.now c.vertices.result.now) c.and-within.ensures x h)).1
 
 pub children-requires-clause-chain : goal.children-requires-clause-chain
-children-requires-clause-chain g c v least = steps_none c.and-within.result v c.none.result.taken.items c.none.result.steps.items c.none.ensures.taken c.none.ensures.steps
+children-requires-clause-chain g c v least = steps_none c.and-within.result v c.none-chain.result.taken.items c.none-chain.result.steps.items c.none-chain.ensures.taken c.none-chain.ensures.steps
