@@ -133,9 +133,12 @@ fn block_from(names: &Names, from: u32) -> u64
         → set.contains names.now (from + k) ≡ (bit_at result k == 1) }
 {
     let shift = from % 64;
+    if shift == 0 {
+        return names.block(from);
+    }
     let first = from - shift;
     let low = names.block(first) >> shift;
-    if shift == 0 || NAMES <= first + 64 {
+    if NAMES <= first + 64 {
         return low;
     }
     low | names.block(first + 64) << (64 - shift)
