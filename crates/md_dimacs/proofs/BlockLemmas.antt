@@ -3,7 +3,7 @@ use Rattle.std.specs.Prelude.{◌≡◌, ℕ, zero, suc, ◌+◌, ◌-◌, ◌*�
 use Rattle.std.specs.Int.{bit_at}
 use Rattle.std.specs.List.{All}
 use Rattle.std.specs.Option.{option_map_or}
-use Rattle.std.proofs.Common.{subst, ap, sym, ◌∙◌, arith, inl, inr, append_assoc}
+use Rattle.std.proofs.Common.{subst, ap, sym, ◌∙◌, arith, inl, inr, append_assoc, length-append}
 use Rattle.std.proofs.lemmas.Bool.{cases_lt, le-leb, lt-leb, false_from_ne_true}
 use Rattle.std.proofs.lemmas.List.Elements.{All-head, All-tail, All-weaker}
 use Rattle.std.proofs.lemmas.Option.{slice_get-get_or}
@@ -125,6 +125,23 @@ no_bits_left first left e = ap (λ b. bits_between first b 64) e ∙ no_bits_of_
 
 pub shorter : (x : ℕ) (xs ys : List ℕ) → ys ≡ x ∷ xs → length ys ≡ length xs + 1
 shorter x xs ys e = let l = ap length e in omega arith
+
+-- ---- four lines at a time
+
+texts_append : (pieces : List Piece) (first xs ys : List ℕ) → texts_at pieces first (xs ++ ys) ≡ texts_at pieces first xs ++ texts_at pieces first ys
+unfolding texts_at
+texts_append pieces first [] ys = refl
+texts_append pieces first (x ∷ xs) ys =
+    ap (λ l. (first ++ text_at pieces x) ++ l) (texts_append pieces first xs ys) ∙ sym (append_assoc (first ++ text_at pieces x) (texts_at pieces first xs) (texts_at pieces first ys))
+
+pub four_more : (pieces : List Piece) (start held placed total xs four rest : List ℕ) → held ++ texts_at pieces start xs ≡ total → xs ≡ four ++ rest →
+    placed ≡ held ++ texts_at pieces start four → placed ++ texts_at pieces start rest ≡ total
+four_more pieces start held placed total xs four rest before cut more =
+    ap (λ l. l ++ texts_at pieces start rest) more ∙ append_assoc held (texts_at pieces start four) (texts_at pieces start rest)
+    ∙ ap (λ l. held ++ l) (sym (ap (texts_at pieces start) cut ∙ texts_append pieces start four rest)) ∙ before
+
+pub four_shorter : (xs four rest : List ℕ) → length four ≡ 4 → xs ≡ four ++ rest → length xs ≡ 4 + length rest
+four_shorter xs four rest long cut = let l = ap length cut ∙ length-append four rest in omega arith
 
 pub same_part : (bits first from k : ℕ) → first < from → cond (nat_le (from - first) k) (bit_at bits k) 0 ≡ cond (nat_le from (first + k)) (bit_at bits k) 0
 same_part bits first from k h =

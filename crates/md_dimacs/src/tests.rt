@@ -3,7 +3,7 @@
 //! graph on 11 vertices.
 use super::*;
 use DimacsKind::*;
-use md_graph::{Graph, Memory};
+use md_graph::{Graph, Memory, NAMES};
 use std::alloc::Global;
 use std::process::Abort;
 use std::test::Fail;
@@ -77,6 +77,30 @@ fn files(rt: HostRuntime) -> Result<(), Fail> {
     ] {
         check_text(&rt, rt.alloc(), file, text)?;
     }
+    Ok(())
+}
+
+// Takes in a vertex and its edge to the vertex 0.
+fn take_ray(graph: &mut Graph, v: u32) {
+    if v < NAMES && !graph.has_vertex(v) {
+        graph.add_vertex(v);
+    }
+    if v != 0 && graph.has_vertex(0) && graph.has_vertex(v) && !graph.has_edge(0, v) {
+        graph.add_edge(0, v);
+    }
+}
+
+#[test]
+fn rows(rt: HostRuntime) -> Result<(), Fail> {
+    let mut graph = Graph::new(rt.alloc())?;
+    for v in 0..7 {
+        take_ray(&mut graph, v);
+    }
+    let text = write(rt.alloc(), &graph)?;
+    assert_eq!(rt;
+        text.as_slice(),
+        b"p edge 7 6\ne 1 2\ne 1 3\ne 1 4\ne 1 5\ne 1 6\ne 1 7\n".as_slice()
+    );
     Ok(())
 }
 

@@ -133,9 +133,12 @@ fn block_from(names: &Names, from: u32) -> u64
         → set.contains names.now (from + k) ≡ (bit_at result k == 1) }
 {
     let shift = from % 64;
+    if shift == 0 {
+        return names.block(from);
+    }
     let first = from - shift;
     let low = names.block(first) >> shift;
-    if shift == 0 || NAMES <= first + 64 {
+    if NAMES <= first + 64 {
         return low;
     }
     low | names.block(first + 64) << (64 - shift)
@@ -143,6 +146,7 @@ fn block_from(names: &Names, from: u32) -> u64
 
 // Puts column j behind the columns before it: bit i, for i < j, says whether the name `least + i`
 // is a member.
+#[inline(always)]
 fn put_column(body: &mut [u8], j: u32, column: &Names, least: u32)
     requires names { least + j < NAMES }
     requires groups { AreGroups body.old }
@@ -216,6 +220,7 @@ fn gather(graph: &Graph, row: &Names, j: u32, column: &mut Names)
 }
 
 // Puts the bits of a graph whose vertices are the n numbers from `least` on.
+#[inline(always)]
 fn put_consecutive(body: &mut [u8], graph: &Graph, n: u32, least: u32)
     requires count { n ≡ length (ascending graph.now.vertices) }
     requires consecutive { AreFrom graph.now least n }
@@ -243,7 +248,8 @@ fn put_any(body: &mut [u8], graph: &Graph)
     }
 }
 
-// Puts the bits of a graph of n vertices; `least` is the least of them if they are consecutive.
+// Puts the bits of a graph of n vertices; `least` is the least of them if they are consecutive. The
+// loop is compiled for 0 by itself, since no word is shifted there.
 fn put_body(body: &mut [u8], graph: &Graph, n: u32, least: Option<u32>)
     requires count { n ≡ length (ascending graph.now.vertices) }
     requires consecutive { IfSome least (λ least. AreFrom graph.now least n) }
@@ -251,11 +257,11 @@ fn put_body(body: &mut [u8], graph: &Graph, n: u32, least: Option<u32>)
     requires room { pair_number 0 n ≤ 6 * length body.old }
     ensures { IsWritten body.new graph.now n }
 {
-    if let Some(least) = least {
-        put_consecutive(body, graph, n, least);
-        return;
+    match least {
+        Some(0) => put_consecutive(body, graph, n, 0),
+        Some(least) => put_consecutive(body, graph, n, least),
+        None => put_any(body, graph),
     }
-    put_any(body, graph);
 }
 
 // Puts the bits of a graph of n vertices behind the size of a line; `least` is the least of them if

@@ -43,7 +43,7 @@ at_most_five n count small e = let most = length-decimal-le 5 n (omega arith) sm
 -- ---- the texts of pieces at indices
 
 -- the text at an index is that of the piece which stands there
-pub text_at_is : (pieces : List Piece) (i : ℕ) (piece : Piece) → piece ≡ get_or pieces i piece → i < length pieces → piece_text piece ≡ text_at pieces i
+text_at_is : (pieces : List Piece) (i : ℕ) (piece : Piece) → piece ≡ get_or pieces i piece → i < length pieces → piece_text piece ≡ text_at pieces i
 text_at_is pieces i piece is there = ap piece_text is ∙ sym (ap (λ o. option_map_or piece_text o []) (slice_get-get_or pieces i piece there))
 
 -- one index more

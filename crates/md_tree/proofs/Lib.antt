@@ -14,3 +14,4 @@ pub mod Edges
 pub mod Denoted
 pub mod Folding
 pub mod Stacking
+pub mod Opened

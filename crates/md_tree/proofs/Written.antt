@@ -7,20 +7,10 @@ use Rattle.std.proofs.lemmas.List.Elements.{All-cons, All-nil}
 use Rattle.md_text.specs.Numbers.{decimal}
 use Rattle.md_text.specs.declared.piece.Piece.{Piece}
 use Rattle.md_text.specs.Pieces.{piece_text, text_at, texts_at}
-use Rattle.md_tree.specs.declared.Kind.{Kind}
 use Rattle.md_tree.specs.declared.Pair.{Pair}
-use Rattle.md_tree.specs.Trees.{PlainTree, PlainTrees, node}
 use Rattle.md_tree.specs.Fronts.{BeginsWith}
 use Rattle.md_tree.specs.Positions.{ArePositions, AreSeconds, IsSecond}
-use Rattle.md_tree.specs.TreeTexts.{letter, pairs_text, tree_text, row_text}
-
-pub node_written : (k : Kind) (cs : PlainTrees) (ps : List Pair) (t : PlainTree) (a b c d f : List ℕ) → t ≡ node k cs ps →
-    b ≡ a ++ letter k ∷ [] → c ≡ b ++ row_text 40 cs → d ≡ c ++ pairs_text 59 ps → f ≡ d ++ 41 ∷ [] → f ≡ a ++ tree_text t
-node_written k cs ps t a b c d f same p q r s =
-    s ∙ ap (λ z. z ++ 41 ∷ []) r ∙ append_assoc c (pairs_text 59 ps) (41 ∷ [])
-    ∙ ap (λ z. z ++ (pairs_text 59 ps ++ 41 ∷ [])) q ∙ append_assoc b (row_text 40 cs) (pairs_text 59 ps ++ 41 ∷ [])
-    ∙ ap (λ z. z ++ (row_text 40 cs ++ (pairs_text 59 ps ++ 41 ∷ []))) p ∙ append_assoc a (letter k ∷ []) (row_text 40 cs ++ (pairs_text 59 ps ++ 41 ∷ []))
-    ∙ sym (ap (λ z. a ++ tree_text z) same)
+use Rattle.md_tree.specs.TreeTexts.{pairs_text}
 
 -- a pair behind gathered bytes, and then those that were gathered after it
 pub run_written : (pairs : List Pair) (place next : ℕ) (d : Pair) (text held new_text one more total : List ℕ) → place < length pairs →
@@ -42,6 +32,9 @@ begins_on {a} {b} {c} first second = record {
   rest = first.rest ++ second.rest;
   whole = second.whole ∙ ap (λ l. l ++ second.rest) first.whole ∙ append_assoc a first.rest second.rest;
 }
+
+pub begins_more : {a b c : List ℕ} → BeginsWith b a → (more : List ℕ) → c ≡ b ++ more → BeginsWith c a
+begins_more first more e = begins_on first (record { rest = more; whole = e })
 
 -- a position is spelled by the piece at its index
 pub second_is : (pieces : List Piece) (first : Piece) (low second : ℕ) (pair : Pair) → ArePositions pieces → piece_text first ≡ 44 ∷ (decimal low ++ 45 ∷ []) →

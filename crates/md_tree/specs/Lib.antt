@@ -10,3 +10,4 @@ pub mod Positions
 pub mod Parts
 pub mod Stacks
 pub mod Fronts
+pub mod OpenNodes

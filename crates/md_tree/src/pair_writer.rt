@@ -62,12 +62,8 @@ pub(crate) fn push_pairs(
         return Ok(());
     }
     spell_positions(&mut space.positions, count)?;
-    text.reserve(
-        edges
-            .list
-            .len()
-            .saturating_mul(pair_room(&space.positions, count)),
-    )?;
+    let room = pair_room(&space.positions, count);
+    text.reserve(edges.list.len().saturating_mul(room))?;
     push_pair(text, b';', edges.list[0])?;
     push_more(text, &edges.list[1..], &space.positions, &mut space.chunk)
 }

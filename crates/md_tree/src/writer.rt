@@ -1,12 +1,12 @@
 //! Writes the text of a tree.
-ghost use Rattle.std.specs.Prelude.{◌≡◌, [], ◌∷◌, ◌++◌, IfOk, OnOk, OnErr};
+ghost use Rattle.std.specs.Prelude.{◌≡◌, ◌<◌, [], ◌++◌, length, IfOk, OnOk, OnErr};
 ghost use Rattle.md_tree.specs.Fronts.{BeginsWith};
-ghost use Rattle.md_tree.specs.Trees.{node};
-ghost use Rattle.md_tree.specs.Plain.{plain, plain_option, row_of};
-ghost use Rattle.md_tree.specs.TreeTexts.{letter, tree_text, row_text, text_of};
+ghost use Rattle.md_tree.specs.Plain.{plain, plain_option};
+ghost use Rattle.md_tree.specs.OpenNodes.{open_text, rest_text};
+ghost use Rattle.md_tree.specs.TreeTexts.{letter, tree_text, text_of};
 
 use crate::pair_writer::{Workspace, push_pairs};
-use crate::{Children, Kind, QuotientEdges, Tree};
+use crate::{Kind, QuotientEdges, Tree};
 use md_graph::Memory;
 use md_text::push_number;
 use std::alloc::Global;
@@ -36,7 +36,7 @@ pub fn push_text(alloc: Global, text: &mut Vec<u8>, tree: &Option<Tree>) -> Resu
     };
     let before = text.len();
     let mut space = Workspace::new(alloc);
-    if push_tree(text, tree, &mut space).is_err() {
+    if push_tree(alloc, text, tree, &mut space).is_err() {
         text.truncate(before);
         return Err(Memory);
     }
@@ -53,55 +53,120 @@ fn letter(kind: Kind) -> u8
     }
 }
 
-#[cycle(write)]
-#[tactic(auto, using(crate::proofs::Plain::plain_is_leaf, crate::proofs::Plain::plain_is_node))]
-fn push_tree(text: &mut Vec<u8>, tree: &Tree, space: &mut Workspace) -> Result<(), Memory>
-    ensures written { OnOk result (text.new.items
-        ≡ text.old.items ++ tree_text (plain tree.now)) }
-    ensures begun { OnErr result (BeginsWith text.new.items text.old.items) }
-{
-    match tree {
-        Tree::Leaf(name) => Ok(push_number(text, u64::from(*name))?),
-        Tree::Node(kind, children, edges) => push_node(text, *kind, children, edges, space),
-    }
+// A node whose letter stands in the text: its children that are still to come, the mark before the
+// first of them, and its pairs.
+#[derive(Drop)]
+struct Open<'a> {
+    mark: u8,
+    children: &'a [Tree],
+    count: usize,
+    edges: &'a QuotientEdges,
 }
 
-#[cycle(write)]
-#[tactic(auto, using(crate::proofs::Written::node_written))]
-fn push_node(
+// The open nodes stand on a stack of their own, the innermost last, so that no call nests as deep as
+// the tree.
+fn push_tree(
+    alloc: Global,
     text: &mut Vec<u8>,
-    kind: Kind,
-    children: &Children,
-    edges: &QuotientEdges,
+    tree: &Tree,
     space: &mut Workspace,
 ) -> Result<(), Memory>
     ensures written { OnOk result (text.new.items
-        ≡ text.old.items ++ tree_text (node kind (row_of children.now) edges.now.list.items)) }
-    ensures begun { OnErr result (BeginsWith text.new.items text.old.items) }
+        ≡ text.old.items ++ tree_text (plain tree.now)) }
+    ensures begun { BeginsWith text.new.items text.old.items }
 {
-    text.push(letter(kind))?;
-    push_children(text, children, space)?;
-    push_pairs(text, edges, children.list.len(), space)?;
-    text.push(b')')?;
+    let mut open = Vec::new(alloc);
+    push_begin(text, tree, &mut open)?;
+    while let Some(node) = open.pop() {
+        push_some(text, node, &mut open, space)?;
+    }
     Ok(())
 }
 
-// The opening bracket and the children.
-#[cycle(write)]
-fn push_children(
+// A name, or the letter of a node, which then is open.
+#[tactic(auto, using(crate::proofs::Plain::plain_is_leaf, crate::proofs::Plain::plain_is_node))]
+fn push_begin<'a>(
     text: &mut Vec<u8>,
-    children: &Children,
+    tree: &'a Tree,
+    open: &mut Vec<Open<'a>>,
+) -> Result<(), Memory>
+    ensures written { OnOk result (text.new.items ++ rest_text open.new.items
+        ≡ text.old.items ++ (tree_text (plain tree.now) ++ rest_text open.old.items)) }
+    ensures begun { BeginsWith text.new.items text.old.items }
+{
+    match tree {
+        Tree::Leaf(name) => push_number(text, u64::from(*name))?,
+        Tree::Node(kind, children, edges) => {
+            text.push(letter(*kind))?;
+            open.push(Open {
+                mark: b'(',
+                children: &children.list,
+                count: children.list.len(),
+                edges,
+            })?;
+        }
+    }
+    Ok(())
+}
+
+// What comes next of a node that was open: its children up to the beginning of one that is a node,
+// or its end.
+fn push_some<'a>(
+    text: &mut Vec<u8>,
+    node: Open<'a>,
+    open: &mut Vec<Open<'a>>,
     space: &mut Workspace,
 ) -> Result<(), Memory>
-    ensures written { OnOk result (text.new.items
-        ≡ text.old.items ++ row_text 40 (row_of children.now)) }
-    ensures begun { OnErr result (BeginsWith text.new.items text.old.items) }
+    ensures written { OnOk result (text.new.items ++ rest_text open.new.items
+        ≡ text.old.items ++ (open_text node.entry ++ rest_text open.old.items)) }
+    ensures begun { BeginsWith text.new.items text.old.items }
+    ensures longer { OnOk result (length text.old.items < length text.new.items) }
 {
-    let mut mark = b'(';
-    for child in &children.list {
+    let node = push_leaves(text, node)?;
+    let Some((child, others)) = node.children.split_first() else {
+        return push_end(text, node, space);
+    };
+    text.push(node.mark)?;
+    open.push(Open {
+        mark: b',',
+        children: others,
+        count: node.count,
+        edges: node.edges,
+    })?;
+    push_begin(text, child, open)?;
+    Ok(())
+}
+
+// The children that are names, up to the first that is none: the node has the others left.
+fn push_leaves<'a>(text: &mut Vec<u8>, node: Open<'a>) -> Result<Open<'a>, Memory>
+    ensures written { IfOk result (λ left. text.new.items ++ open_text left
+        ≡ text.old.items ++ open_text node.entry) }
+    ensures begun { BeginsWith text.new.items text.old.items }
+{
+    let mut mark = node.mark;
+    let mut children = node.children;
+    while let Some((Tree::Leaf(name), others)) = children.split_first() {
         text.push(mark)?;
-        push_tree(text, child, space)?;
+        push_number(text, u64::from(*name))?;
         mark = b',';
+        children = others;
     }
+    Ok(Open {
+        mark,
+        children,
+        count: node.count,
+        edges: node.edges,
+    })
+}
+
+// The pairs and the closing bracket of a node without children left.
+fn push_end(text: &mut Vec<u8>, node: Open, space: &mut Workspace) -> Result<(), Memory>
+    requires { node.children.now ≡ [] }
+    ensures written { OnOk result (text.new.items ≡ text.old.items ++ open_text node.entry) }
+    ensures begun { BeginsWith text.new.items text.old.items }
+    ensures longer { OnOk result (length text.old.items < length text.new.items) }
+{
+    push_pairs(text, node.edges, node.count, space)?;
+    text.push(b')')?;
     Ok(())
 }
