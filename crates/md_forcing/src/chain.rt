@@ -227,9 +227,11 @@ mod tests {
         let arcs = Arcs::from_list(vec![in rt.alloc(); a, b]?);
         assert_eq!(rt; arcs.len(), 2);
         assert_eq!(rt; arcs.get(1), b);
+        assert!(rt; arcs.as_slice() == [a, b].as_slice());
         let chain = Chain::from_list(vec![in rt.alloc(); b, a]?);
         assert_eq!(rt; chain.len(), 2);
         assert_eq!(rt; chain.get(1), a);
+        assert!(rt; chain.as_slice() == [b, a].as_slice());
         Ok(())
     }
 }
