@@ -1,7 +1,9 @@
 //! Trails: the arcs that an arc reaches, in the order in which an exploration finds them.
-ghost use Rattle.std.specs.Prelude.{◌≡◌, ◌++◌, ◌∷◌, [], ◌<◌, length, slice_get, Some, OnOk};
+ghost use Rattle.std.specs.Prelude.{◌≡◌, ◌++◌, ◌∷◌, [], ℕ, ◌<◌, length, slice_get, Some, IfOk, OnOk, IfSome, IfNone};
+ghost use Rattle.std.specs.Map.{keys_of};
+ghost use Rattle.md_forcing.specs.Lists.{Holds};
 
-use crate::Arc;
+use crate::{Arc, Class};
 use md_graph::Memory;
 use std::alloc::Global;
 use std::marker::Model;
@@ -32,6 +34,18 @@ impl Trail {
         }
     }
 
+    // The arcs of a class, with their places.
+    pub(crate) fn of_class(alloc: Global, class: &Class) -> Result<Trail, Memory>
+        ensures { IfOk result (λ trail. trail ≡ class.now) }
+    {
+        let mut trail = Trail::new(alloc);
+        for i in 0..class.len() {
+            let (by, place) = class.entry(i as usize);
+            trail.push(by, place)?;
+        }
+        Ok(trail)
+    }
+
     // Lets all arcs go, and keeps the memory.
     pub(crate) fn clear(&mut self)
         ensures { self.new ≡ [] }
@@ -60,5 +74,19 @@ impl Trail {
         ensures { slice_get self.now i ≡ Some result }
     {
         self.entries[i]
+    }
+
+    // The place of an arc; `None` exactly where it isn't there.
+    pub(crate) fn place_of(&self, by: Arc) -> Option<usize>
+        ensures found { IfSome result (λ i. (p : ℕ) × (slice_get self.now i ≡ Some (by, p))) }
+        ensures none { IfNone result (Holds (keys_of self.now) by → ⊥) }
+    {
+        for i in 0..self.len() {
+            let (other, _) = self.entry(i as usize);
+            if other == by {
+                return Some(i as usize);
+            }
+        }
+        None
     }
 }

@@ -1,5 +1,5 @@
 -- The edges at a vertex in a walk: those that have no chosen arc yet.
-use Rattle.std.proofs.Common.{◌≡◌, ◌⊎◌, ◌↔◌, ℕ, zero, suc, ◌+◌, ◌<◌, Bool, true, false, ◌&&◌, nat_le, if◌then◌else◌, List, [], ◌∷◌, ◌++◌, append-nil, refl, sym, ◌∙◌, ap, subst, inl, inr, arith}
+use Rattle.std.proofs.Common.{◌≡◌, ◌⊎◌, ◌↔◌, ℕ, zero, suc, ◌<◌, Bool, true, false, ◌&&◌, nat_le, if◌then◌else◌, List, [], ◌∷◌, ◌++◌, append-nil, refl, sym, ◌∙◌, ap, subst, inl, inr, arith}
 use Rattle.std.proofs.lemmas.Bool.{cases_Bool}
 use Rattle.std.specs.FinSet as set
 use Rattle.md_graph.specs.declared.TheConstants.{NAMES}
@@ -9,15 +9,14 @@ use Rattle.md_graph.specs.Rows.{row_of}
 use Rattle.md_graph.specs.PlainGraph.{PlainGraph, IsGraph, neighbours, complement}
 use Rattle.md_graph.proofs.SetLemmas.{clash, union_left, union_right, of_union, minus_has, of_minus}
 use Rattle.md_graph.proofs.GraphLemmas.{contains-neighbours, IsGraph-complement}
-use Rattle.md_modules.specs.Adjacency.{IsAdjacency}
 use Rattle.md_forcing.specs.declared.seen.Side.{Side}
 use Rattle.md_forcing.specs.declared.seen.Side.TheVariants.{Edges, NonEdges}
 use Rattle.md_forcing.specs.Lists.{Holds}
 use Rattle.md_forcing.specs.Sides.{adjacent_on}
 use Rattle.md_forcing.proofs.ListLemmas.{of_append}
 use Rattle.md_forcing.proofs.NameLists.{of_ascending, in_ascending}
-use Rattle.md_orientation.specs.Walking.{IsJoined, JoinsAlso, IsWalked}
-use Rattle.md_orientation.proofs.WalkLemmas.{apart_if, walked_row}
+use Rattle.md_orientation.specs.Walking.{IsJoined, IsWalked}
+use Rattle.md_orientation.proofs.WalkLemmas.{apart_if}
 
 -- numbers in ascending order
 abbrev pub AreUp : List ℕ → Type 0
@@ -74,44 +73,6 @@ module _ (e : ℕ → ℕ → Bool) (u : ℕ) (chosen : List NameSet) where
         edges = λ y h. ((has y).0 (of_ascending s NAMES y h).0).0;
         up = ascending_up s NAMES;
       })
-
-  module _ (left more : List ℕ) (v : ℕ) (row : IsRow e u chosen left) (steps : left ≡ v ∷ more) where
-    own : IsRow e u chosen (v ∷ more)
-    own = let P : List ℕ → Type 0 = λ l. IsRow e u chosen l in subst P steps row
-
-    pub row_edge : e u v ≡ true
-    row_edge = own.edges v (inl refl)
-
-    pub row_passed : (y : ℕ) → e u y ≡ true → y < v → IsJoined chosen u y
-    row_passed y t less =
-        elim (own.rest y t) [
-          | inl j ↦ j
-          | inr h ↦ elim h [
-            | inl same ↦ absurd (omega arith)
-            | inr later ↦ let above = own.up.0 y later in absurd (omega arith)
-          ]
-        ]
-
-    pub row_more : (new : List NameSet) → IsWalked e u new → JoinsAlso u v chosen new → IsRow e u new more
-    row_more new walked joins = record {
-      walked = walked;
-      rest = λ y t. elim (own.rest y t) [
-        | inl j ↦ inl (joins y (inl j))
-        | inr h ↦ elim h [
-          | inl same ↦ inl (joins y (inr same))
-          | inr later ↦ inr later
-        ]
-      ];
-      edges = λ y h. own.edges y (inr h);
-      up = own.up.1;
-    }
-
-  pub row_end : IsAdjacency e → (left : List ℕ) → IsRow e u chosen left → left ≡ [] → IsWalked e (u + 1) chosen
-  row_end is left row none =
-      walked_row e is u chosen row.walked (λ y t. elim (row.rest y t) [
-        | inl j ↦ j
-        | inr h ↦ absurd (subst (λ l. Holds l y) none h)
-      ])
 
 -- the neighbours of u that no arc of the set joins to it
 pub unjoined_are : (e : ℕ → ℕ → Bool) (u : ℕ) (arcs : List NameSet) (near heads tails left : NameSet) → ((v : ℕ) → Has near v ↔ (e u v ≡ true)) → heads ≡ row_of arcs u → ((w : ℕ) → set.contains tails w ≡ set.contains (row_of arcs w) u) → left ≡ set.difference near (set.union heads tails) → (v : ℕ) → Has left v ↔ ((e u v ≡ true) × (IsJoined arcs u v → ⊥))

@@ -1,6 +1,5 @@
 -- A turn of the walk through the edges, its row, and its end.
-use Rattle.std.proofs.Common.{◌≡◌, ◌⊎◌, ℕ, ◌+◌, ◌<◌, Bool, true, false, List, sym, ◌∙◌, subst, inl, inr, arith}
-use Rattle.std.proofs.lemmas.Bool.{cases_lt}
+use Rattle.std.proofs.Common.{◌≡◌, ◌⊎◌, ℕ, ◌<◌, Bool, true, false, List, sym, ◌∙◌, subst, inl, inr, arith}
 use Rattle.std.specs.FinSet as set
 use Rattle.std.specs.Map.{keys_of}
 use Rattle.md_graph.specs.Sets.{NameSet}
@@ -45,20 +44,6 @@ module _ (e : ℕ → ℕ → Bool) (is : IsAdjacency e) (u : ℕ) (chosen : Lis
         | inl up ↦ up
         | inr down ↦ absurd (new (joined_turned chosen v u (walked.done v u down (is.symmetric v u ∙ there) down)))
       ]
-
-  -- all edges at u have an arc
-  pub walked_row : ((y : ℕ) → e u y ≡ true → IsJoined chosen u y) → IsWalked e (u + 1) chosen
-  walked_row all = record {
-    kept = walked.kept;
-    closed = walked.closed;
-    free = walked.free;
-    done = λ x y up there less. elim (cases_lt x u) [
-      | inl below ↦ walked.done x y up there below
-      | inr above ↦
-          let same : x ≡ u = omega arith in
-          subst (λ k. IsJoined chosen k y) (sym same) (all y (subst (λ k. e k y ≡ true) same there))
-    ];
-  }
 
   -- all edges have an arc
   pub walked_whole : ((x y : ℕ) → e x y ≡ true → x < u) → IsWhole e chosen

@@ -1,23 +1,24 @@
 //! The walk through the edges of a graph.
-ghost use Rattle.std.specs.Prelude.{◌≡◌, ℕ, ◌+◌, ◌<◌, ◌↔◌, true, length, IfOk, IfSome, IfNone};
+ghost use Rattle.std.specs.Prelude.{◌≡◌, ℕ, ◌+◌, ◌<◌, ◌↔◌, true, false, length, IfOk};
 ghost use Rattle.md_graph.specs.Sets.{Has};
 ghost use Rattle.md_forcing.specs.Forcing.{IsArc};
 ghost use Rattle.md_forcing.specs.Sides.{adjacent_on};
 ghost use Rattle.md_orientation.specs.Walking.{IsJoined, JoinsAlso, IsWalked, IsStopped, IsEnding, HasRoom};
 
-use md_forcing::{Arc, Class, Seen, Side, Trail, explore};
+use md_forcing::{Arc, Seen, Side, Trail, explore};
 use md_graph::{Graph, Memory, NAMES, Names};
 use std::alloc::Global;
 
-/// Where a walk ends: at a class that holds the reverse of its first arc, or with the chosen arcs.
+/// Where a walk ends: at a class that holds the reverse of its first arc, with its trail, or with
+/// the chosen arcs.
 #[derive(Drop)]
 pub enum Ending {
-    Stopped(Class),
+    Stopped(Trail),
     Whole(Seen),
 }
 
 /// Walks through the edges of a graph or of its complement, smaller ends first: to the first edge
-/// that reaches its own reverse, with its class; or, where there is none, through all edges, with
+/// that reaches its own reverse, with its trail; or, where there is none, through all edges, with
 /// the arcs of the least-edge orientation. Each arc is explored once. Errors: want of memory.
 pub fn walk(alloc: Global, graph: &Graph, side: Side) -> Result<Ending, Memory>
     ensures ending { IfOk result (IsEnding (adjacent_on side graph.now)) }
@@ -27,64 +28,63 @@ pub fn walk(alloc: Global, graph: &Graph, side: Side) -> Result<Ending, Memory>
     let mut chosen = Seen::new(alloc, graph)?;
     let mut trail = Trail::new(alloc);
     for u in 0..chosen.size() {
-        if let Some(class) = walk_at(alloc, graph, side, u, &mut chosen, &mut trail)? {
-            return Ok(Ending::Stopped(class));
+        if walk_at(graph, side, u, &mut chosen, &mut trail)? {
+            return Ok(Ending::Stopped(trail));
         }
     }
     Ok(Ending::Whole(chosen))
 }
 
-// Walks through the edges whose smaller end is `u`.
+// Walks through the edges whose smaller end is `u`. Says whether it stopped, at the class of the
+// trail.
 fn walk_at(
-    alloc: Global,
     graph: &Graph,
     side: Side,
     u: u32,
     chosen: &mut Seen,
     trail: &mut Trail,
-) -> Result<Option<Class>, Memory>
+) -> Result<bool, Memory>
     requires name { u < NAMES }
     requires size { u < length chosen.old }
     requires room { (v : ℕ) → Has graph.now.vertices v → v < length chosen.old }
     requires walked { IsWalked (adjacent_on side graph.now) u chosen.old }
-    ensures stopped { IfOk result (λ answer. IfSome answer
-        (IsStopped (adjacent_on side graph.now))) }
-    ensures walked { IfOk result (λ answer. IfNone answer
-        (IsWalked (adjacent_on side graph.now) (u + 1) chosen.new)) }
+    ensures stopped { IfOk result (λ stopped. stopped ≡ true
+        → IsStopped (adjacent_on side graph.now) trail.new) }
+    ensures walked { IfOk result (λ stopped. stopped ≡ false
+        → IsWalked (adjacent_on side graph.now) (u + 1) chosen.new) }
     ensures room { length chosen.new ≡ length chosen.old }
 {
     let _vertices = graph.vertices();
     let left = unjoined(graph, side, u, chosen);
     for v in left.members() {
         let first = Arc { tail: u, head: v };
-        if let Some(class) = walk_edge(alloc, graph, side, first, chosen, trail)? {
-            return Ok(Some(class));
+        if walk_edge(graph, side, first, chosen, trail)? {
+            return Ok(true);
         }
     }
-    Ok(None)
+    Ok(false)
 }
 
-// Explores the class of an arc, unless its edge has a chosen arc. The answer is the class, where it
-// holds the reverse of the arc. Condition: the edges that are less are walked through.
+// Explores the class of an arc, unless its edge has a chosen arc. Says whether the class holds the
+// reverse of the arc. Condition: the edges that are less are walked through.
 fn walk_edge(
-    alloc: Global,
     graph: &Graph,
     side: Side,
     first: Arc,
     chosen: &mut Seen,
     trail: &mut Trail,
-) -> Result<Option<Class>, Memory>
+) -> Result<bool, Memory>
     requires is_arc { IsArc (adjacent_on side graph.now) first }
     requires room { (v : ℕ) → Has graph.now.vertices v → v < length chosen.old }
     requires walked { IsWalked (adjacent_on side graph.now) first.tail chosen.old }
     requires passed { (y : ℕ) → adjacent_on side graph.now first.tail y ≡ true → y < first.head
         → IsJoined chosen.old first.tail y }
-    ensures stopped { IfOk result (λ answer. IfSome answer
-        (IsStopped (adjacent_on side graph.now))) }
-    ensures walked { IfOk result (λ answer. IfNone answer
-        (IsWalked (adjacent_on side graph.now) first.tail chosen.new)) }
-    ensures joined { IfOk result (λ answer. IfNone answer
-        (JoinsAlso first.tail first.head chosen.old chosen.new)) }
+    ensures stopped { IfOk result (λ stopped. stopped ≡ true
+        → IsStopped (adjacent_on side graph.now) trail.new) }
+    ensures walked { IfOk result (λ stopped. stopped ≡ false
+        → IsWalked (adjacent_on side graph.now) first.tail chosen.new) }
+    ensures joined { IfOk result (λ stopped. stopped ≡ false
+        → JoinsAlso first.tail first.head chosen.old chosen.new) }
     ensures room { length chosen.new ≡ length chosen.old }
 {
     let _vertices = graph.vertices();
@@ -93,14 +93,10 @@ fn walk_edge(
         head: first.tail,
     };
     if chosen.has(first) || chosen.has(back) {
-        return Ok(None);
+        return Ok(false);
     }
     explore(graph, side, first, chosen, trail)?;
-    if chosen.has(back) {
-        let class = Class::from_trail(alloc, trail)?;
-        return Ok(Some(class));
-    }
-    Ok(None)
+    Ok(chosen.has(back))
 }
 
 // The names that `u` is adjacent to on this side by edges of which no arc is in the set.
@@ -164,7 +160,7 @@ mod tests {
     ) -> Result<(), Memory> {
         let graph = made(rt, alloc, n, edges)?;
         match walk(alloc, &graph, side)? {
-            Ending::Stopped(class) => assert_eq!(rt; class.len(), stopped),
+            Ending::Stopped(trail) => assert_eq!(rt; trail.len(), stopped),
             Ending::Whole(chosen) => {
                 assert_eq!(rt; stopped, 0);
                 let mut count = 0u64;
