@@ -1,5 +1,5 @@
 -- The entries of the map of a class, as `insert` and `get_index_of` of the map leave and find them.
-use Rattle.std.proofs.Common.{◌≡◌, ℕ, zero, suc, ◌<◌, Bool, true, cond, ◌&&◌, nat_eq, nat_lt, List, [], ◌∷◌, ◌++◌, length, slice_get, get_or, position, Option, Some, None, IfSome, IfNone, refl, sym, ◌∙◌, ap, subst, inl, inr, arith}
+use Rattle.std.proofs.Common.{◌≡◌, ℕ, zero, suc, ◌+◌, ◌<◌, ◌≤◌, Bool, true, cond, ◌&&◌, nat_eq, nat_lt, List, [], ◌∷◌, ◌++◌, length, take, slice_get, get_or, position, Option, Some, None, IfSome, IfNone, refl, sym, ◌∙◌, ap, subst, inl, inr, arith}
 use Rattle.std.proofs.lemmas.Bool.{cases_Bool, and_parts, eqb-true}
 use Rattle.std.proofs.lemmas.Bool.Decides.{nat_tests}
 use Rattle.std.proofs.lemmas.List.Quantifiers.{position-Some}
@@ -8,7 +8,8 @@ use Rattle.std.specs.Map.{keys_of}
 use Rattle.indexmap.specs.IndexMap.{insert_entry}
 use Rattle.md_graph.proofs.SetLemmas.{clash}
 use Rattle.md_forcing.specs.declared.arc.Arc.{Arc}
-use Rattle.md_forcing.specs.Lists.{Holds}
+use Rattle.md_forcing.specs.Lists.{Holds, NoRepeats}
+use Rattle.md_forcing.proofs.ListLemmas.{key_at, place_of_key, place_within, same_some}
 use Rattle.md_forcing.specs.contracts.arc.ArcPartialEq.TheImpl as arc_eq
 
 pub same_arc : (a b : Arc) → arc_eq.eq-value.it a b ≡ true → a ≡ b
@@ -68,3 +69,44 @@ pub place_none : (es now : List (Arc × ℕ)) (k : Arc) (r : Option ℕ) → es 
 place_none es now k None is e =
     λ h. none_found (arc_eq.eq-value.it k) (keys_of es) (sym e) k (arc_itself k) (subst (λ xs. Holds (keys_of xs) k) (sym is) h)
 place_none es now k (Some i) is e = tt
+
+-- ---- a class made of a trail
+
+-- the key of an entry isn't among those before it
+pub none_before : (es now : List (Arc × ℕ)) (i p : ℕ) (k : Arc) → now ≡ take i es → NoRepeats (keys_of es) → slice_get es i ≡ Some (k, p) → Holds (keys_of now) k → ⊥
+none_before es now i p k is once stands h = before es i once stands (subst (λ xs. Holds (keys_of xs) k) is h) where
+  before : (es : List (Arc × ℕ)) (i : ℕ) → NoRepeats (keys_of es) → slice_get es i ≡ Some (k, p) → Holds (keys_of (take i es)) k → ⊥
+  before [] zero once stands h = h
+  before [] (suc i) once stands h = h
+  before (x ∷ es) zero once stands h = h
+  before (x ∷ es) (suc i) once stands h =
+      elim h [
+        | inl same ↦ once.0 (subst (Holds (keys_of es)) same (key_at es i k p stands))
+        | inr rest ↦ before es i once.1 stands rest
+      ]
+
+-- one entry more
+pub one_more : (es now new : List (Arc × ℕ)) (i p : ℕ) (k : Arc) → now ≡ take i es → slice_get es i ≡ Some (k, p) → new ≡ now ++ (k, p) ∷ [] → new ≡ take (i + 1) es
+one_more es now new i p k is stands made = made ∙ ap (λ xs. xs ++ (k, p) ∷ []) is ∙ more es i stands ∙ ap (λ n. take n es) next where
+  next : suc i ≡ i + 1
+  next = omega arith
+
+  more : (es : List (Arc × ℕ)) (i : ℕ) → slice_get es i ≡ Some (k, p) → take i es ++ (k, p) ∷ [] ≡ take (suc i) es
+  more [] i stands = cc
+  more (x ∷ es) zero stands = ap (λ y. y ∷ []) (sym (same_some x (k, p) stands))
+  more (x ∷ es) (suc i) stands = ap (λ ys. x ∷ ys) (more es i stands)
+
+-- ---- the place of a key in a trail
+
+-- the key stands at none of the first i places
+pub record NoneBefore (es : List (Arc × ℕ)) (k : Arc) (i : ℕ) : Type 0 where
+  pub none : (j p : ℕ) → j < i → slice_get es j ≡ Some (k, p) → ⊥
+
+pub none_at_first : (es : List (Arc × ℕ)) (k : Arc) → NoneBefore es k 0
+none_at_first es k = record { none = λ j p less _. absurd (omega arith) }
+
+pub none_there : (es : List (Arc × ℕ)) (k : Arc) (i : ℕ) → length es ≤ i → NoneBefore es k i → Holds (keys_of es) k → ⊥
+none_there es k i all before h =
+    let place = place_of_key es k h in
+    let within = place_within es place.0 _ place.2 in
+    before.none place.0 place.1 (omega arith) place.2

@@ -1,10 +1,10 @@
 -- The places of a class followed from an arc back to the first.
-use Rattle.std.proofs.Common.{◌≡◌, ℕ, ◌<◌, Bool, List, [], ◌∷◌, ◌++◌, length, slice_get, Some, None, Option, IfNone, Result, Ok, Err, IfOk, sym, ◌∙◌, ap, subst, inl, inr, arith, reverse as back_to_front}
+use Rattle.std.proofs.Common.{◌≡◌, ℕ, ◌<◌, Bool, List, [], ◌∷◌, ◌++◌, length, slice_get, Some, Option, sym, ◌∙◌, ap, subst, inl, inr, arith, reverse as back_to_front}
 use Rattle.std.proofs.lemmas.List.{reverse-append}
 use Rattle.md_forcing.specs.declared.arc.Arc.{Arc}
 use Rattle.md_forcing.specs.Lists.{Holds, NoRepeats}
 use Rattle.md_forcing.specs.Forcing.{reverse, ForcesDirectly, Leads, IsListToReverse}
-use Rattle.md_forcing.specs.Classes.{IsClass}
+use Rattle.md_forcing.specs.Classes.{IsClass, TurnsAt}
 use Rattle.md_forcing.proofs.ListLemmas.{key_at, one_place, place_within, same_some}
 use Rattle.md_forcing.proofs.Reaching.{reached_arc}
 
@@ -20,6 +20,22 @@ pushed_back list a = reverse-append list (a ∷ [])
 
 entry_parts : (a b : Arc) (p q : ℕ) (x : Option (Arc × ℕ)) → x ≡ Some (a, p) → x ≡ Some (b, q) → (a ≡ b) × (p ≡ q)
 entry_parts a b p q x s t = let same = same_some (a, p) (b, q) (sym s ∙ t) in (ap (λ y. y.0) same, ap (λ y. y.1) same)
+
+-- the reverse of the first arc stands at the place
+pub turns_there : (es : List (Arc × ℕ)) (place p q : ℕ) (first turned : Arc) → slice_get es 0 ≡ Some (first, p) → turned ≡ reverse first → slice_get es place ≡ Some (turned, q) → TurnsAt es place
+turns_there es place p q first turned begins is stands = record {
+  first = first;
+  first_place = p;
+  its_place = q;
+  begins = begins;
+  stands = subst (λ x. slice_get es place ≡ Some (x, q)) is stands;
+}
+
+-- and it does however the first is read
+pub turned_first : (es : List (Arc × ℕ)) (place : ℕ) (turns : TurnsAt es place) (a : Arc) (p : ℕ) → slice_get es 0 ≡ Some (a, p) → slice_get es place ≡ Some (reverse a, turns.its_place)
+turned_first es place turns a p s =
+    let same = (entry_parts turns.first a turns.first_place p _ turns.begins s).0 in
+    subst (λ x. slice_get es place ≡ Some (reverse x, turns.its_place)) same turns.stands
 
 pub following_start : (es : List (Arc × ℕ)) (target : Arc) (place p : ℕ) → slice_get es place ≡ Some (target, p) → Following es target place []
 following_start es target place p stands = record {
@@ -80,9 +96,3 @@ module _ (es : List (Arc × ℕ)) (target : Arc) (place : ℕ) (list : List Arc)
 
 pub has_first : (e : ℕ → ℕ → Bool) (first : Arc) (es : List (Arc × ℕ)) → IsClass e first es → 0 < length es
 has_first e first es is = place_within es 0 _ is.begins
-
--- what no answer tells of each graph it tells of one
-pub at_none : {C E : Type 0} (r : Result (Option C) E) (P Q : Type 0) → (P → Q) → IfOk r (λ answer. IfNone answer P) → IfOk r (λ answer. IfNone answer Q)
-at_none (Ok (Some x)) P Q f h = tt
-at_none (Ok None) P Q f h = f h
-at_none (Err x) P Q f h = tt

@@ -1,7 +1,6 @@
 -- A turn of the exploration: what the arc at hand forces and isn't seen is pushed, and taken in.
 use Rattle.std.proofs.Common.{◌≡◌, ◌⊎◌, ◌↔◌, ℕ, ◌<◌, Bool, true, List, [], ◌∷◌, ◌++◌, map, append_assoc, slice_get, Some, refl, sym, ◌∙◌, ap, subst, inl, inr}
 use Rattle.std.proofs.lemmas.List.{map-append}
-use Rattle.std.specs.Map.{keys_of}
 use Rattle.md_graph.specs.declared.TheConstants.{NAMES}
 use Rattle.md_graph.specs.Sets.{NameSet, Has}
 use Rattle.md_graph.specs.NameSet.{ascending}
@@ -10,7 +9,7 @@ use Rattle.md_forcing.specs.Lists.{Holds, NoRepeats}
 use Rattle.md_forcing.specs.Forcing.{arc, IsArc, ForceAtTail, ForceAtHead, ForcesDirectly}
 use Rattle.md_forcing.specs.Seen.{IsSeen}
 use Rattle.md_forcing.specs.Turns.{IsTurn, tail_entry, head_entry, placed_at}
-use Rattle.md_forcing.proofs.ListLemmas.{holds_left, holds_right, of_append, once_append, holds_map, of_map, once_map, keys-append}
+use Rattle.md_forcing.proofs.ListLemmas.{holds_left, holds_right, of_append, once_append, holds_map, of_map, once_map}
 use Rattle.md_forcing.proofs.NameLists.{of_ascending, in_ascending, ascending_once}
 
 -- the arc from w to `head`
@@ -30,10 +29,6 @@ tail_entries tail place (x ∷ xs) = ap (λ l. tail_entry tail place x ∷ l) (t
 head_entries : (head place : ℕ) (xs : List ℕ) → map (head_entry head place) xs ≡ map (placed_at place) (map (arc_to head) xs)
 head_entries head place [] = refl
 head_entries head place (x ∷ xs) = ap (λ l. head_entry head place x ∷ l) (head_entries head place xs)
-
-tail_keys : (tail place : ℕ) (xs : List ℕ) → keys_of (map (tail_entry tail place) xs) ≡ map (arc tail) xs
-tail_keys tail place [] = refl
-tail_keys tail place (x ∷ xs) = ap (λ l. arc tail x ∷ l) (tail_keys tail place xs)
 
 module _ (e : ℕ → ℕ → Bool) (names : (u v : ℕ) → e u v ≡ true → (u < NAMES) × (v < NAMES)) (seen : List NameSet) (by : Arc) (heads tails : NameSet) (is_heads : NewHeads e seen by heads) (is_tails : NewTails e seen by tails) where
   abbrev from_tail : List Arc
@@ -146,16 +141,3 @@ module _ (e : ℕ → ℕ → Bool) (names : (u v : ℕ) → e u v ≡ true → 
     exactly = found_exactly;
     taken = found_taken mid_seen new_seen taken_first taken_second;
   }
-
-  -- what is pushed isn't there
-  module _ (old : List (Arc × ℕ)) (known : (a : Arc) → Holds (keys_of old) a → IsSeen seen a) where
-    pub heads_fresh : (w : ℕ) → Has heads w → Holds (keys_of old) (arc by.tail w) → ⊥
-    heads_fresh w h there = ((is_heads w).0 h).2 (known (arc by.tail w) there)
-
-    pub tails_fresh : (place : ℕ) (mid : List (Arc × ℕ)) → mid ≡ old ++ map (tail_entry by.tail place) (ascending heads) → (w : ℕ) → Has tails w → Holds (keys_of mid) (arc w by.head) → ⊥
-    tails_fresh place mid first w h there =
-        let keys : keys_of mid ≡ keys_of old ++ from_tail = ap keys_of first ∙ keys-append old _ ∙ ap (λ l. keys_of old ++ l) (tail_keys by.tail place (ascending heads)) in
-        elim (of_append (keys_of old) from_tail (arc w by.head) (subst (λ l. Holds l (arc w by.head)) keys there)) [
-          | inl before ↦ ((is_tails w).0 h).2 (known (arc w by.head) before)
-          | inr new ↦ not_both (arc w by.head) (of_heads (arc w by.head) new) refl
-        ]

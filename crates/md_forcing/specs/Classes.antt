@@ -5,7 +5,7 @@ use Rattle.std.specs.Map.{keys_of}
 use Rattle.md_graph.specs.Sets.{NameSet}
 use Rattle.md_forcing.specs.declared.arc.Arc.{Arc}
 use Rattle.md_forcing.specs.Lists.{Holds, NoRepeats}
-use Rattle.md_forcing.specs.Forcing.{ForcesDirectly, Reaches}
+use Rattle.md_forcing.specs.Forcing.{reverse, ForcesDirectly, Reaches}
 use Rattle.md_forcing.specs.Seen.{IsSeen}
 
 -- p is the place of an arc before place i that forces a directly
@@ -29,3 +29,11 @@ pub record IsClass (e : ℕ → ℕ → Bool) (first : Arc) (entries : List (Arc
 -- the set holds the arcs that it held and those of the class
 abbrev pub TakesClass : List NameSet → List (Arc × ℕ) → List NameSet → Type 0
 TakesClass old entries new = (a : Arc) → IsSeen new a ↔ (IsSeen old a ⊎ Holds (keys_of entries) a)
+
+-- the arc at the place is the reverse of the first
+pub record TurnsAt (entries : List (Arc × ℕ)) (place : ℕ) : Type 0 where
+  pub first : Arc
+  pub first_place : ℕ
+  pub its_place : ℕ
+  pub begins : slice_get entries 0 ≡ Some (first, first_place)
+  pub stands : slice_get entries place ≡ Some (reverse first, its_place)

@@ -5,9 +5,9 @@ ghost use Rattle.md_graph.specs.PlainGraph.{adjacent};
 ghost use Rattle.md_forcing.specs.declared.arc.Arc.{Arc};
 ghost use Rattle.md_forcing.specs.Lists.{Holds};
 ghost use Rattle.md_forcing.specs.Forcing.{reverse, IsListToReverse};
-ghost use Rattle.md_forcing.specs.Classes.{IsClass};
+ghost use Rattle.md_forcing.specs.Classes.{IsClass, TurnsAt};
 
-use crate::{Arc, Class};
+use crate::{Arc, Class, Trail};
 use md_graph::{Graph, Memory};
 use std::alloc::Global;
 use std::marker::Model;
@@ -120,35 +120,59 @@ pub fn chain_to_reverse(
         → IsClass (adjacent graph.now) first class.now
         → Holds (keys_of class.now) (reverse first) → ⊥)) }
 {
-    chain_of(alloc, class)
-}
-
-/// The same of a class of any graph, so of the complement of one.
-pub fn chain_of(alloc: Global, class: &Class) -> Result<Option<Chain>, Memory>
-    requires { (e : ℕ → ℕ → Bool) × (first : Arc) × IsClass e first class.now }
-    ensures found { IfOk result (λ answer. IfSome answer (λ chain. (e : ℕ → ℕ → Bool) (first : Arc)
-        → IsClass e first class.now → IsListToReverse e first chain)) }
-    ensures none { IfOk result (λ answer. IfNone answer ((e : ℕ → ℕ → Bool) (first : Arc)
-        → IsClass e first class.now → Holds (keys_of class.now) (reverse first) → ⊥)) }
-{
     let (first, _) = class.entry(0);
-    let turned = Arc {
-        tail: first.head,
-        head: first.tail,
-    };
-    let Some(last) = class.place_of(turned) else {
+    let Some(last) = class.place_of(turned(first)) else {
         return Ok(None);
     };
+    let trail = Trail::of_class(alloc, class)?;
+    let chain = follow(alloc, &trail, last)?;
+    Ok(Some(chain))
+}
+
+/// The same of a trail, of any graph, so of the complement of one.
+pub fn chain_of(alloc: Global, trail: &Trail) -> Result<Option<Chain>, Memory>
+    requires { (e : ℕ → ℕ → Bool) × (first : Arc) × IsClass e first trail.now }
+    ensures found { IfOk result (λ answer. IfSome answer (λ chain. (e : ℕ → ℕ → Bool) (first : Arc)
+        → IsClass e first trail.now → IsListToReverse e first chain)) }
+    ensures none { IfOk result (λ answer. IfNone answer ((e : ℕ → ℕ → Bool) (first : Arc)
+        → IsClass e first trail.now → Holds (keys_of trail.now) (reverse first) → ⊥)) }
+{
+    let (first, _) = trail.entry(0);
+    let Some(last) = trail.place_of(turned(first)) else {
+        return Ok(None);
+    };
+    let chain = follow(alloc, trail, last)?;
+    Ok(Some(chain))
+}
+
+// The same edge in the other direction.
+fn turned(by: Arc) -> Arc
+    ensures { result ≡ reverse by }
+{
+    Arc {
+        tail: by.head,
+        head: by.tail,
+    }
+}
+
+// The list from the first arc of a trail to the one at a place, which is its reverse.
+fn follow(alloc: Global, trail: &Trail, last: usize) -> Result<Chain, Memory>
+    requires class { (e : ℕ → ℕ → Bool) × (first : Arc) × IsClass e first trail.now }
+    requires turns { TurnsAt trail.now last }
+    ensures { IfOk result (λ chain. (e : ℕ → ℕ → Bool) (first : Arc)
+        → IsClass e first trail.now → IsListToReverse e first chain) }
+{
+    let (first, _) = trail.entry(0);
     let mut list = Vec::new(alloc);
     let mut at = last;
     while at > 0 {
-        let (by, place) = class.entry(at);
+        let (by, place) = trail.entry(at);
         list.push(by)?;
         at = place as usize;
     }
     list.push(first)?;
     list.reverse();
-    Ok(Some(Chain { list }))
+    Ok(Chain { list })
 }
 
 #[cfg(test)]
@@ -209,9 +233,11 @@ mod tests {
         let arcs = Arcs::from_list(vec![in rt.alloc(); a, b]?);
         assert_eq!(rt; arcs.len(), 2);
         assert_eq!(rt; arcs.get(1), b);
+        assert!(rt; arcs.as_slice() == [a, b].as_slice());
         let chain = Chain::from_list(vec![in rt.alloc(); b, a]?);
         assert_eq!(rt; chain.len(), 2);
         assert_eq!(rt; chain.get(1), a);
+        assert!(rt; chain.as_slice() == [b, a].as_slice());
         Ok(())
     }
 }

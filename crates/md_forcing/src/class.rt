@@ -1,9 +1,9 @@
 //! Classes: the arcs that an arc reaches.
 ghost use Rattle.std.specs.Prelude.{◌≡◌, ◌++◌, ◌∷◌, [], ℕ, ◌<◌, length, slice_get, Some, IfOk, OnOk, IfSome, IfNone};
 ghost use Rattle.std.specs.Map.{keys_of};
-ghost use Rattle.md_forcing.specs.Lists.{Holds};
+ghost use Rattle.md_forcing.specs.Lists.{Holds, NoRepeats};
 
-use crate::Arc;
+use crate::{Arc, Trail};
 use indexmap::IndexMap;
 use md_graph::Memory;
 use std::alloc::Global;
@@ -27,7 +27,7 @@ impl Model for Class {
 
 impl Class {
     // No arc.
-    pub(crate) fn new(alloc: Global) -> Class
+    fn new(alloc: Global) -> Class
         ensures { result ≡ [] }
     {
         Class {
@@ -35,8 +35,22 @@ impl Class {
         }
     }
 
+    /// The arcs that a trail lists, with their places. Condition: each is listed once. Errors: want
+    /// of memory.
+    pub fn from_trail(alloc: Global, trail: &Trail) -> Result<Class, Memory>
+        requires { NoRepeats (keys_of trail.now) }
+        ensures { IfOk result (λ class. class ≡ trail.now) }
+    {
+        let mut class = Class::new(alloc);
+        for i in 0..trail.len() {
+            let (by, place) = trail.entry(i as usize);
+            class.push(by, place)?;
+        }
+        Ok(class)
+    }
+
     // Takes in an arc with a place. Condition: it isn't there.
-    pub(crate) fn push(&mut self, by: Arc, place: u32) -> Result<(), Memory>
+    fn push(&mut self, by: Arc, place: u32) -> Result<(), Memory>
         requires { Holds (keys_of self.old) by → ⊥ }
         ensures { OnOk result (self.new ≡ self.old ++ (by, place) ∷ []) }
     {

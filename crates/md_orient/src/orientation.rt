@@ -24,7 +24,7 @@ pub fn orient(alloc: Global, graph: &Graph) -> Result<Verdict, Memory>
 {
     let _vertices = graph.vertices();
     match walk(alloc, graph, Side::Edges)? {
-        Ending::Stopped(class) => match chain_of(alloc, &class)? {
+        Ending::Stopped(trail) => match chain_of(alloc, &trail)? {
             Some(chain) => Ok(Verdict::Forced(chain)),
             None => unreachable!(),
         },

@@ -7,8 +7,7 @@ pub mod Chosen
 pub mod Cutting
 pub mod Alternative
 pub mod OneList
-pub mod Near
-pub mod Choosing
 pub mod WalkLemmas
+pub mod Near
 pub mod Sorted
 pub mod OrderLaws

@@ -1,70 +1,102 @@
--- The names that a vertex is adjacent to, and those of them that aren't seen from it.
-use Rattle.std.proofs.Common.{◌≡◌, ◌⊎◌, ◌↔◌, ℕ, ◌<◌, true, sym, ◌∙◌, ap, subst, inl, inr, arith}
+-- The edges at a vertex in a walk: those that have no chosen arc yet.
+use Rattle.std.proofs.Common.{◌≡◌, ◌⊎◌, ◌↔◌, ℕ, zero, suc, ◌<◌, Bool, true, false, ◌&&◌, nat_le, if◌then◌else◌, List, [], ◌∷◌, ◌++◌, append-nil, refl, sym, ◌∙◌, ap, subst, inl, inr, arith}
 use Rattle.std.proofs.lemmas.Bool.{cases_Bool}
 use Rattle.std.specs.FinSet as set
-use Rattle.md_graph.specs.Sets.{NameSet, Has, Lacks, Within}
-use Rattle.md_graph.specs.NameSet.{IsLeastFrom, NoneFrom, told_apart}
+use Rattle.md_graph.specs.declared.TheConstants.{NAMES}
+use Rattle.md_graph.specs.Sets.{NameSet, Has, Lacks}
+use Rattle.md_graph.specs.NameSet.{ascending, ascending_between}
+use Rattle.md_graph.specs.Rows.{row_of}
 use Rattle.md_graph.specs.PlainGraph.{PlainGraph, IsGraph, neighbours, complement}
-use Rattle.md_graph.proofs.SetLemmas.{clash, meet_has, of_meet, union_left, of_union, minus_has, of_minus}
-use Rattle.md_graph.proofs.Search.{len_proper}
+use Rattle.md_graph.proofs.SetLemmas.{clash, union_left, union_right, of_union, minus_has, of_minus}
 use Rattle.md_graph.proofs.GraphLemmas.{contains-neighbours, IsGraph-complement}
 use Rattle.md_forcing.specs.declared.seen.Side.{Side}
 use Rattle.md_forcing.specs.declared.seen.Side.TheVariants.{Edges, NonEdges}
+use Rattle.md_forcing.specs.Lists.{Holds}
 use Rattle.md_forcing.specs.Sides.{adjacent_on}
+use Rattle.md_forcing.proofs.ListLemmas.{of_append}
+use Rattle.md_forcing.proofs.NameLists.{of_ascending, in_ascending}
+use Rattle.md_orientation.specs.Walking.{IsJoined, IsWalked}
+use Rattle.md_orientation.proofs.WalkLemmas.{apart_if}
 
--- the members of near that heads lacks
-abbrev rest : NameSet → NameSet → NameSet
-rest near heads = set.intersection near (told_apart near heads)
+-- numbers in ascending order
+abbrev pub AreUp : List ℕ → Type 0
+AreUp [] = Unit {0}
+AreUp (x ∷ xs) = ((y : ℕ) → Holds xs y → x < y) × AreUp xs
 
-in_rest : (near heads : NameSet) (y : ℕ) → Has near y → Lacks heads y → Has (rest near heads) y
-in_rest near heads y h l = meet_has near (told_apart near heads) y h (union_left (set.difference near heads) (set.difference heads near) y (minus_has near heads y h l))
+up_append : (xs ys : List ℕ) → AreUp xs → AreUp ys → ((a b : ℕ) → Holds xs a → Holds ys b → a < b) → AreUp (xs ++ ys)
+up_append [] ys a b apart = b
+up_append (x ∷ xs) ys a b apart = (
+  λ y h. elim (of_append xs ys y h) [ inl l ↦ a.0 y l | inr r ↦ apart x y (inl refl) r ],
+  up_append xs ys a.1 b (λ p q l r. apart p q (inr l) r),
+)
 
-of_rest : (near heads : NameSet) (y : ℕ) → Has (rest near heads) y → Has near y × Lacks heads y
-of_rest near heads y h =
-    let both = of_meet near (told_apart near heads) y h in
-    elim (of_union (set.difference near heads) (set.difference heads near) y both.1) [
-      | inl alone ↦ of_minus near heads y alone
-      | inr other ↦ clash both.0 (of_minus heads near y other).1
+last_up : (s : NameSet) (n a b : ℕ) → Holds (ascending_between s 0 n) a → Holds (n ∷ []) b → a < b
+last_up s n a b h (inl same) = let below = (of_ascending s n a h).1 in omega arith
+last_up s n a b h (inr none) = absurd none
+
+ascending_up : (s : NameSet) (n : ℕ) → AreUp (ascending_between s 0 n)
+unfolding ascending_between
+ascending_up s zero = tt
+ascending_up s (suc n) =
+    elim (nat_le 0 n && set.contains s n) as (λ b. AreUp (ascending_between s 0 n ++ (if b then n ∷ [] else []))) [
+      | true ↦ up_append (ascending_between s 0 n) (n ∷ []) (ascending_up s n) (λ y h. absurd h, tt) (last_up s n)
+      | false ↦ rw append-nil (ascending_up s n)
     ]
 
-pub record IsFirstNew (near heads : NameSet) (v : ℕ) : Type 0 where
-  pub near_it : Has near v
-  pub new : Lacks heads v
-  pub passed : (y : ℕ) → Has near y → y < v → Has heads y
+-- Of the edges at u, at most those to the listed names have no chosen arc. The list is ascending.
+pub record IsRow (e : ℕ → ℕ → Bool) (u : ℕ) (chosen : List NameSet) (left : List ℕ) : Type 0 where
+  pub walked : IsWalked e u chosen
+  pub rest : (y : ℕ) → e u y ≡ true → IsJoined chosen u y ⊎ Holds left y
+  pub edges : (y : ℕ) → Holds left y → e u y ≡ true
+  pub up : AreUp left
 
-pub first_new : (near heads : NameSet) (v : ℕ) → IsLeastFrom (rest near heads) 0 v → IsFirstNew near heads v
-first_new near heads v is =
-    let here = of_rest near heads v is.member in
-    record {
-      near_it = here.0;
-      new = here.1;
-      passed = λ y h less. elim (cases_Bool (set.contains heads y)) [
-        | inl t ↦ t
-        | inr none ↦ let least = is.first y (in_rest near heads y h none) (omega arith) in absurd (omega arith)
-      ];
-    }
+module _ (e : ℕ → ℕ → Bool) (u : ℕ) (chosen : List NameSet) where
+  decide_joined : (y : ℕ) → IsJoined chosen u y ⊎ (IsJoined chosen u y → ⊥)
+  decide_joined y =
+      elim (cases_Bool (set.contains (row_of chosen u) y)) [
+        | inl h ↦ inl (inl h)
+        | inr none ↦ elim (cases_Bool (set.contains (row_of chosen y) u)) [
+          | inl h ↦ inl (inr h)
+          | inr no_back ↦ inr (apart_if chosen u y none no_back)
+        ]
+      ]
 
-pub none_new : (near heads : NameSet) → NoneFrom (rest near heads) 0 → (y : ℕ) → Has near y → Has heads y
-none_new near heads none y h =
-    elim (cases_Bool (set.contains heads y)) [
-      | inl t ↦ t
-      | inr missing ↦ let less = none y (in_rest near heads y h missing) in absurd (omega arith)
-    ]
+  pub row_start : ((y : ℕ) → e u y ≡ true → y < NAMES) → IsWalked e u chosen → (s : NameSet) → ((y : ℕ) → Has s y ↔ ((e u y ≡ true) × (IsJoined chosen u y → ⊥))) → (left : List ℕ) → left ≡ ascending s → IsRow e u chosen left
+  row_start names walked s has left is =
+      let P : List ℕ → Type 0 = λ l. IsRow e u chosen l in
+      subst P (sym is) (record {
+        walked = walked;
+        rest = λ y t. elim (decide_joined y) [
+          | inl j ↦ inl j
+          | inr apart ↦ inr (in_ascending s NAMES y ((has y).1 (t, apart)) (names y t))
+        ];
+        edges = λ y h. ((has y).0 (of_ascending s NAMES y h).0).0;
+        up = ascending_up s NAMES;
+      })
 
--- the same of what the row of a vertex keeps
-pub first_unseen : (near heads row : NameSet) (v : ℕ) → heads ≡ row → IsLeastFrom (rest near heads) 0 v → IsFirstNew near row v
-first_unseen near heads row v same is = subst (λ h. IsFirstNew near h v) same (first_new near heads v is)
-
-pub none_unseen : (near heads row : NameSet) → heads ≡ row → NoneFrom (rest near heads) 0 → (y : ℕ) → Has near y → Has row y
-none_unseen near heads row same none y h = subst (λ s. Has s y) same (none_new near heads none y h)
-
--- what is new gets less
-pub fewer_new : (near heads more : NameSet) (v : ℕ) → Within heads more → Has near v → Lacks heads v → Has more v → set.len (set.difference near more) < set.len (set.difference near heads)
-fewer_new near heads more v grows here new taken =
-    len_proper (set.difference near more) (set.difference near heads) v
-    (λ x h. let w = of_minus near more x h in minus_has near heads x w.0 (elim (cases_Bool (set.contains heads x)) [ inl t ↦ clash (grows x t) w.1 | inr none ↦ none ]))
-    (minus_has near heads v here new)
-    (elim (cases_Bool (set.contains (set.difference near more) v)) [ inl t ↦ clash taken (of_minus near more v t).1 | inr none ↦ none ])
+-- the neighbours of u that no arc of the set joins to it
+pub unjoined_are : (e : ℕ → ℕ → Bool) (u : ℕ) (arcs : List NameSet) (near heads tails left : NameSet) → ((v : ℕ) → Has near v ↔ (e u v ≡ true)) → heads ≡ row_of arcs u → ((w : ℕ) → set.contains tails w ≡ set.contains (row_of arcs w) u) → left ≡ set.difference near (set.union heads tails) → (v : ℕ) → Has left v ↔ ((e u v ≡ true) × (IsJoined arcs u v → ⊥))
+unjoined_are e u arcs near heads tails left is_near is_heads is_tails is_left v = (
+  λ h.
+      let w = of_minus near (set.union heads tails) v (subst (λ s. Has s v) is_left h) in (
+        (is_near v).0 w.0,
+        λ j. elim j [
+          | inl a ↦ clash (union_left heads tails v (subst (λ s. Has s v) (sym is_heads) a)) w.1
+          | inr b ↦ clash (union_right heads tails v (is_tails v ∙ b)) w.1
+        ],
+      ),
+  λ p. subst (λ s. Has s v) (sym is_left) (minus_has near (set.union heads tails) v ((is_near v).1 p.0) (lacks p.1)),
+)
+  where
+    lacks : (IsJoined arcs u v → ⊥) → Lacks (set.union heads tails) v
+    lacks apart =
+        elim (cases_Bool (set.contains (set.union heads tails) v)) [
+          | inl t ↦ elim (of_union heads tails v t) [
+            | inl a ↦ absurd (apart (inl (subst (λ s. Has s v) is_heads a)))
+            | inr b ↦ absurd (apart (inr (sym (is_tails v) ∙ b)))
+          ]
+          | inr none ↦ none
+        ]
 
 -- the row of a side
 pub side_row : {g : PlainGraph} → IsGraph g → (side : Side) (u : ℕ) (row : NameSet) → ((side ≡ Edges) × (row ≡ neighbours g u)) ⊎ ((side ≡ NonEdges) × (row ≡ neighbours (complement g) u)) → (v : ℕ) → Has row v ↔ (adjacent_on side g u v ≡ true)

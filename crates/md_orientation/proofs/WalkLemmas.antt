@@ -1,76 +1,80 @@
 -- A turn of the walk through the edges, its row, and its end.
-use Rattle.std.proofs.Common.{◌≡◌, ◌⊎◌, ◌↔◌, ℕ, ◌+◌, ◌<◌, Bool, true, List, sym, ◌∙◌, subst, inl, inr, arith}
-use Rattle.std.proofs.lemmas.Bool.{cases_lt}
+use Rattle.std.proofs.Common.{◌≡◌, ◌⊎◌, ℕ, ◌<◌, Bool, true, false, List, sym, ◌∙◌, subst, inl, inr, arith}
+use Rattle.std.specs.FinSet as set
 use Rattle.std.specs.Map.{keys_of}
 use Rattle.md_graph.specs.Sets.{NameSet}
+use Rattle.md_graph.specs.Rows.{row_of}
+use Rattle.md_graph.proofs.SetLemmas.{clash}
 use Rattle.md_modules.specs.Adjacency.{IsAdjacency}
 use Rattle.md_forcing.specs.declared.arc.Arc.{Arc}
 use Rattle.md_forcing.specs.Lists.{Holds}
 use Rattle.md_forcing.specs.Forcing.{arc, reverse, IsArc, Reaches}
 use Rattle.md_forcing.specs.Seen.{IsSeen, IsClosed}
 use Rattle.md_forcing.specs.Classes.{IsClass, TakesClass}
-use Rattle.md_forcing.proofs.Reaching.{forces_turned, arc_turned, reaches_itself, reaches_step, reaches_on, reached_arc, over_reached}
+use Rattle.md_forcing.proofs.Reaching.{reaches_itself, reaches_on, reached_arc, over_reached}
 use Rattle.md_orientation.specs.Chains.{Precedes}
 use Rattle.md_orientation.specs.Orientations.{ReachesEdge, IsChosen}
-use Rattle.md_orientation.specs.Walking.{IsWalked, IsStopped, IsWhole}
+use Rattle.md_orientation.specs.Walking.{IsJoined, JoinsAlso, IsWalked, IsStopped, IsWhole}
 use Rattle.md_orientation.proofs.Reached.{reaches_back, reaches_turned, both_turned}
 use Rattle.md_orientation.proofs.Chosen.{ends_apart, chosen_arc, chosen_along, chosen_one_way}
 
-pub walked_start : (e : ℕ → ℕ → Bool) (seen chosen : List NameSet) → ((a : Arc) → IsSeen seen a → ⊥) → ((a : Arc) → IsSeen chosen a → ⊥) → IsWalked e 0 seen chosen
-walked_start e seen chosen none no_choice = record {
-  arcs = λ a h. absurd (none a h);
+pub walked_start : (e : ℕ → ℕ → Bool) (chosen : List NameSet) → ((a : Arc) → IsSeen chosen a → ⊥) → IsWalked e 0 chosen
+walked_start e chosen none = record {
+  kept = λ a h. absurd (none a h);
   closed = λ a b h _ _. absurd (none a h);
-  turned = λ a h. absurd (none a h);
   free = λ a h. absurd (none a h);
   done = λ x y _ _ less. absurd (omega arith);
-  kept = λ a. (λ h. absurd (no_choice a h), λ h. absurd (none a h.0));
 }
 
-module _ (e : ℕ → ℕ → Bool) (is : IsAdjacency e) (u : ℕ) (seen chosen : List NameSet) (walked : IsWalked e u seen chosen) where
+-- an edge has an arc whichever end is named first
+joined_turned : (chosen : List NameSet) (x y : ℕ) → IsJoined chosen x y → IsJoined chosen y x
+joined_turned chosen x y (inl h) = inr h
+joined_turned chosen x y (inr h) = inl h
+
+-- and none where neither of its two arcs is there
+pub apart_if : (chosen : List NameSet) (x y : ℕ) → set.contains (row_of chosen x) y ≡ false → set.contains (row_of chosen y) x ≡ false → IsJoined chosen x y → ⊥
+apart_if chosen x y none no_back (inl h) = clash h none
+apart_if chosen x y none no_back (inr h) = clash h no_back
+
+module _ (e : ℕ → ℕ → Bool) (is : IsAdjacency e) (u : ℕ) (chosen : List NameSet) (walked : IsWalked e u chosen) where
   -- a new arc goes up
-  pub goes_up : (v : ℕ) → e u v ≡ true → (IsSeen seen (arc u v) → ⊥) → u < v
+  pub goes_up : (v : ℕ) → e u v ≡ true → (IsJoined chosen u v → ⊥) → u < v
   goes_up v there new =
       elim (ends_apart e is u v there) [
         | inl up ↦ up
-        | inr down ↦ absurd (new (walked.turned (arc v u) (walked.done v u down (is.symmetric v u ∙ there) down)))
+        | inr down ↦ absurd (new (joined_turned chosen v u (walked.done v u down (is.symmetric v u ∙ there) down)))
       ]
 
-  -- all edges at u are seen
-  pub walked_row : ((y : ℕ) → e u y ≡ true → IsSeen seen (arc u y)) → IsWalked e (u + 1) seen chosen
-  walked_row all = record {
-    arcs = walked.arcs;
-    closed = walked.closed;
-    turned = walked.turned;
-    free = walked.free;
-    done = λ x y up there less. elim (cases_lt x u) [
-      | inl below ↦ walked.done x y up there below
-      | inr above ↦
-          let same : x ≡ u = omega arith in
-          subst (λ k. IsSeen seen (arc k y)) (sym same) (all y (subst (λ k. e k y ≡ true) same there))
-    ];
-    kept = walked.kept;
-  }
-
-  -- all edges are seen
+  -- all edges have an arc
   pub walked_whole : ((x y : ℕ) → e x y ≡ true → x < u) → IsWhole e chosen
   walked_whole all =
-      let seen_all : (a : Arc) → IsArc e a → IsSeen seen a = λ a h. elim (ends_apart e is a.tail a.head h) [
+      let joined_all : (a : Arc) → IsArc e a → IsSeen chosen a ⊎ IsSeen chosen (reverse a) = λ a h. elim (ends_apart e is a.tail a.head h) [
         | inl up ↦ walked.done a.tail a.head up h (all a.tail a.head h)
         | inr down ↦
             let back = is.symmetric a.head a.tail ∙ h in
-            walked.turned (reverse a) (walked.done a.head a.tail down back (all a.head a.tail back))
+            joined_turned chosen a.head a.tail (walked.done a.head a.tail down back (all a.head a.tail back))
+      ] in
+      let free : (a : Arc) → Reaches e a (reverse a) → ⊥ = λ a r. elim (joined_all a r.0) [
+        | inl h ↦ walked.free a h r
+        | inr h ↦ walked.free (reverse a) h (reaches_turned e is a (reverse a) r)
       ] in
       record {
-        free = λ a r. walked.free a (seen_all a r.0) r;
-        all = λ a. (λ h. ((walked.kept a).0 h).1, λ c. (walked.kept a).1 (seen_all a (chosen_arc e is a c), c));
+        free = free;
+        all = λ a. (
+          walked.kept a,
+          λ c. elim (joined_all a (chosen_arc e is a c)) [
+            | inl h ↦ h
+            | inr h ↦ absurd (free a (chosen_one_way e is a c (walked.kept (reverse a) h)))
+          ],
+        );
       }
 
-  module _ (v : ℕ) (there : e u v ≡ true) (new : IsSeen seen (arc u v) → ⊥) (passed : (y : ℕ) → e u y ≡ true → y < v → IsSeen seen (arc u y))
-      (class : List (Arc × ℕ)) (its : IsClass e (arc u v) class) (mid : List NameSet) (takes : TakesClass seen class mid) where
-    -- each lesser edge is seen
-    lesser_seen : (x y : ℕ) → x < y → e x y ≡ true → Precedes x y u v → IsSeen seen (arc x y)
-    lesser_seen x y up there_too (inl less) = walked.done x y up there_too less
-    lesser_seen x y up there_too (inr p) = subst (λ k. IsSeen seen (arc k y)) (sym p.0) (passed y (subst (λ k. e k y ≡ true) p.0 there_too) p.1)
+  module _ (v : ℕ) (there : e u v ≡ true) (new : IsJoined chosen u v → ⊥) (passed : (y : ℕ) → e u y ≡ true → y < v → IsJoined chosen u y)
+      (class : List (Arc × ℕ)) (its : IsClass e (arc u v) class) (mid : List NameSet) (takes : TakesClass chosen class mid) where
+    -- each lesser edge has an arc
+    lesser_joined : (x y : ℕ) → x < y → e x y ≡ true → Precedes x y u v → IsJoined chosen x y
+    lesser_joined x y up there_too (inl less) = walked.done x y up there_too less
+    lesser_joined x y up there_too (inr p) = subst (λ k. IsJoined chosen k y) (sym p.0) (passed y (subst (λ k. e k y ≡ true) p.0 there_too) p.1)
 
     pub walk_stops : IsSeen mid (arc v u) → IsStopped e class
     walk_stops back = record {
@@ -79,10 +83,13 @@ module _ (e : ℕ → ℕ → Bool) (is : IsAdjacency e) (u : ℕ) (seen chosen 
       ascending = goes_up v there new;
       is = its;
       turns = elim ((takes (arc v u)).0 back) [
-        | inl old ↦ absurd (new (walked.turned (arc v u) old))
+        | inl old ↦ absurd (new (inr old))
         | inr h ↦ h
       ];
-      least = λ x y up r before. walked.free (arc x y) (lesser_seen x y up r.0 before) r;
+      least = λ x y up r before. elim (lesser_joined x y up r.0 before) [
+        | inl h ↦ walked.free (arc x y) h r
+        | inr h ↦ walked.free (arc y x) h (reaches_turned e is (arc x y) (arc y x) r)
+      ];
     }
 
     module _ (no_turn : IsSeen mid (arc v u) → ⊥) where
@@ -95,15 +102,28 @@ module _ (e : ℕ → ℕ → Bool) (is : IsAdjacency e) (u : ℕ) (seen chosen 
       not_turned : (a : Arc) → Reaches e (arc u v) a → Reaches e a (reverse a) → ⊥
       not_turned a r s = no_return (both_turned e is (arc u v) a r (reaches_on e (arc u v) a (reverse a) r s))
 
-      -- no seen arc is reached
-      unseen : (z : Arc) → IsSeen seen z → Reaches e (arc u v) z → ⊥
-      unseen z h r =
-          new (over_reached e (IsSeen seen) (λ x y _ here is_arc f. walked.closed x y here is_arc f) z (arc u v) h (reaches_back e is (arc u v) z r))
+      -- what reaches from a chosen arc is chosen
+      chosen_on : (z b : Arc) → IsSeen chosen z → Reaches e z b → IsSeen chosen b
+      chosen_on z b h r = over_reached e (IsSeen chosen) (λ x y _ here is_arc f. walked.closed x y here is_arc f) z b h r
+
+      -- no chosen arc is reached, nor is the reverse of one
+      unseen : (z : Arc) → IsSeen chosen z → Reaches e (arc u v) z → ⊥
+      unseen z h r = new (inl (chosen_on z (arc u v) h (reaches_back e is (arc u v) z r)))
+
+      unseen_turned : (z : Arc) → IsSeen chosen (reverse z) → Reaches e (arc u v) z → ⊥
+      unseen_turned z h r = new (inr (chosen_on (reverse z) (arc v u) h (reaches_back e is (arc v u) (reverse z) (reaches_turned e is (arc u v) z r))))
 
       edge_unseen : (x y : ℕ) → x < y → ReachesEdge e (arc u v) x y → Precedes x y u v → ⊥
-      edge_unseen x y up (inl r) before = unseen (arc x y) (lesser_seen x y up (reached_arc e (arc u v) (arc x y) r) before) r
+      edge_unseen x y up (inl r) before =
+          elim (lesser_joined x y up (reached_arc e (arc u v) (arc x y) r) before) [
+            | inl h ↦ unseen (arc x y) h r
+            | inr h ↦ unseen_turned (arc x y) h r
+          ]
       edge_unseen x y up (inr r) before =
-          unseen (arc y x) (walked.turned (arc x y) (lesser_seen x y up (is.symmetric x y ∙ reached_arc e (arc u v) (arc y x) r) before)) r
+          elim (lesser_joined x y up (is.symmetric x y ∙ reached_arc e (arc u v) (arc y x) r) before) [
+            | inl h ↦ unseen_turned (arc y x) h r
+            | inr h ↦ unseen (arc y x) h r
+          ]
 
       first_chosen : IsChosen e (arc u v)
       first_chosen = (u, v, record { ascending = goes_up v there new; reached = inl (reaches_itself e (arc u v) there); least = edge_unseen }, reaches_itself e (arc u v) there)
@@ -111,88 +131,21 @@ module _ (e : ℕ → ℕ → Bool) (is : IsAdjacency e) (u : ℕ) (seen chosen 
       key_chosen : (a : Arc) → Reaches e (arc u v) a → IsChosen e a
       key_chosen a r = chosen_along e is (arc u v) a r first_chosen
 
-      module _ (closed : IsClosed e mid) (new_seen new_chosen : List NameSet)
-          (seen_more : (a : Arc) → IsSeen new_seen a ↔ (IsSeen mid a ⊎ Holds (keys_of class) (reverse a)))
-          (chosen_more : (a : Arc) → IsSeen new_chosen a ↔ (IsSeen chosen a ⊎ Holds (keys_of class) a)) where
-        -- what was seen stays seen
-        pub still_seen : (a : Arc) → IsSeen seen a → IsSeen new_seen a
-        still_seen a h = (seen_more a).1 (inl ((takes a).1 (inl h)))
+      in_mid : (a : Arc) → IsSeen chosen a → IsSeen mid a
+      in_mid a h = (takes a).1 (inl h)
 
-        in_class : (a : Arc) → Holds (keys_of class) a → IsSeen new_seen a
-        in_class a h = (seen_more a).1 (inl ((takes a).1 (inr h)))
+      still_joined : (x y : ℕ) → IsJoined chosen x y → IsJoined mid x y
+      still_joined x y (inl h) = inl (in_mid (arc x y) h)
+      still_joined x y (inr h) = inr (in_mid (arc y x) h)
 
-        in_turned : (a : Arc) → Holds (keys_of class) (reverse a) → IsSeen new_seen a
-        in_turned a h = (seen_more a).1 (inr h)
+      pub walked_on : IsClosed e mid → IsWalked e u mid
+      walked_on closed = record {
+        kept = λ a h. elim ((takes a).0 h) [ inl old ↦ walked.kept a old | inr k ↦ key_chosen a (key_reached a k) ];
+        closed = closed;
+        free = λ a h r. elim ((takes a).0 h) [ inl old ↦ walked.free a old r | inr k ↦ not_turned a (key_reached a k) r ];
+        done = λ x y up there_too less. still_joined x y (walked.done x y up there_too less);
+      }
 
-        -- where a seen arc comes from
-        of_new : (a : Arc) → IsSeen new_seen a → IsSeen seen a ⊎ (Holds (keys_of class) a ⊎ Holds (keys_of class) (reverse a))
-        of_new a h =
-            elim ((seen_more a).0 h) [
-              | inl m ↦ elim ((takes a).0 m) [ inl old ↦ inl old | inr k ↦ inr (inl k) ]
-              | inr k ↦ inr (inr k)
-            ]
-
-        new_arcs : (a : Arc) → IsSeen new_seen a → IsArc e a
-        new_arcs a h =
-            elim (of_new a h) [
-              | inl old ↦ walked.arcs a old
-              | inr more ↦ elim more [
-                | inl k ↦ reached_arc e (arc u v) a (key_reached a k)
-                | inr k ↦ arc_turned e is.symmetric (reverse a) (reached_arc e (arc u v) (reverse a) (key_reached (reverse a) k))
-              ]
-            ]
-
-        new_closed : IsClosed e new_seen
-        new_closed a b h is_arc f =
-            elim ((seen_more a).0 h) [
-              | inl m ↦ (seen_more b).1 (inl (closed a b m is_arc f))
-              | inr k ↦ in_turned b ((its.reached (reverse b)).1 (reaches_step e (arc u v) (reverse a) (reverse b) (key_reached (reverse a) k) (arc_turned e is.symmetric b is_arc) (forces_turned e is.symmetric a b f)))
-            ]
-
-        new_turned : (a : Arc) → IsSeen new_seen a → IsSeen new_seen (reverse a)
-        new_turned a h =
-            elim (of_new a h) [
-              | inl old ↦ still_seen (reverse a) (walked.turned a old)
-              | inr more ↦ elim more [
-                | inl k ↦ in_turned (reverse a) k
-                | inr k ↦ in_class (reverse a) k
-              ]
-            ]
-
-        new_free : (a : Arc) → IsSeen new_seen a → Reaches e a (reverse a) → ⊥
-        new_free a h r =
-            elim (of_new a h) [
-              | inl old ↦ walked.free a old r
-              | inr more ↦ elim more [
-                | inl k ↦ not_turned a (key_reached a k) r
-                | inr k ↦ not_turned (reverse a) (key_reached (reverse a) k) (reaches_turned e is a (reverse a) r)
-              ]
-            ]
-
-        new_kept : (a : Arc) → IsSeen new_chosen a ↔ (IsSeen new_seen a × IsChosen e a)
-        new_kept a = (
-          λ h. elim ((chosen_more a).0 h) [
-            | inl old ↦ let k = (walked.kept a).0 old in (still_seen a k.0, k.1)
-            | inr k ↦ (in_class a k, key_chosen a (key_reached a k))
-          ],
-          λ h. elim (of_new a h.0) [
-            | inl old ↦ (chosen_more a).1 (inl ((walked.kept a).1 (old, h.1)))
-            | inr more ↦ elim more [
-              | inl k ↦ (chosen_more a).1 (inr k)
-              | inr k ↦ absurd (new_free a h.0 (chosen_one_way e is a h.1 (key_chosen (reverse a) (key_reached (reverse a) k))))
-            ]
-          ],
-        )
-
-        pub walked_on : IsWalked e u new_seen new_chosen
-        walked_on = record {
-          arcs = new_arcs;
-          closed = new_closed;
-          turned = new_turned;
-          free = new_free;
-          done = λ x y up there_too less. still_seen (arc x y) (walked.done x y up there_too less);
-          kept = new_kept;
-        }
-
-        pub first_seen : IsSeen new_seen (arc u v)
-        first_seen = in_class (arc u v) ((its.reached (arc u v)).1 (reaches_itself e (arc u v) there))
+      pub joins_also : JoinsAlso u v chosen mid
+      joins_also y (inl old) = still_joined u y old
+      joins_also y (inr same) = subst (IsJoined mid u) (sym same) (inl ((takes (arc u v)).1 (inr ((its.reached (arc u v)).1 (reaches_itself e (arc u v) there)))))

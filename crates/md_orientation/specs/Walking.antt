@@ -1,11 +1,11 @@
--- The walk through the edges of a graph, smaller ends first: which arcs it has seen, and which of them it has chosen.
+-- The walk through the edges of a graph, smaller ends first: which arcs it has chosen.
 -- Source: the rule of the least edge, as the definition of the least-edge orientation has it.
-use Rattle.std.specs.Prelude.{◌≡◌, ◌<◌, ◌↔◌, ℕ, Bool, true, List, length}
+use Rattle.std.specs.Prelude.{◌≡◌, ◌<◌, ◌⊎◌, ◌↔◌, ℕ, Bool, true, List, length}
 use Rattle.std.specs.Map.{keys_of}
 use Rattle.md_graph.specs.Sets.{NameSet, Has}
 use Rattle.md_forcing.specs.declared.arc.Arc.{Arc}
 use Rattle.md_forcing.specs.Lists.{Holds}
-use Rattle.md_forcing.specs.Forcing.{arc, reverse, IsArc, Reaches}
+use Rattle.md_forcing.specs.Forcing.{arc, reverse, Reaches}
 use Rattle.md_forcing.specs.Seen.{IsSeen, IsClosed}
 use Rattle.md_forcing.specs.Classes.{IsClass}
 use Rattle.md_orientation.specs.declared.edge_walk.Ending.{Ending}
@@ -13,17 +13,22 @@ use Rattle.md_orientation.specs.declared.edge_walk.Ending.TheVariants.{Stopped, 
 use Rattle.md_orientation.specs.Chains.{Precedes}
 use Rattle.md_orientation.specs.Orientations.{IsChosen}
 
+-- the set has an arc of the edge xy
+abbrev pub IsJoined : List NameSet → ℕ → ℕ → Type 0
+IsJoined arcs x y = IsSeen arcs (arc x y) ⊎ IsSeen arcs (arc y x)
+
+-- the new set has an arc of each edge at u of which the old one has one, and of the edge uv
+abbrev pub JoinsAlso : ℕ → ℕ → List NameSet → List NameSet → Type 0
+JoinsAlso u v old new = (y : ℕ) → IsJoined old u y ⊎ (y ≡ v) → IsJoined new u y
+
 -- the edges whose smaller end is below u have been looked at
-pub record IsWalked (e : ℕ → ℕ → Bool) (u : ℕ) (seen chosen : List NameSet) : Type 0 where
-  -- what is seen are arcs, with each arc all that it forces, and its reverse; none reaches its reverse
-  pub arcs : (a : Arc) → IsSeen seen a → IsArc e a
-  pub closed : IsClosed e seen
-  pub turned : (a : Arc) → IsSeen seen a → IsSeen seen (reverse a)
-  pub free : (a : Arc) → IsSeen seen a → ¬ Reaches e a (reverse a)
-  -- each edge whose smaller end is below u is seen
-  pub done : (x y : ℕ) → x < y → e x y ≡ true → x < u → IsSeen seen (arc x y)
-  -- of the seen arcs, those of the least-edge orientation are chosen
-  pub kept : (a : Arc) → IsSeen chosen a ↔ (IsSeen seen a × IsChosen e a)
+pub record IsWalked (e : ℕ → ℕ → Bool) (u : ℕ) (chosen : List NameSet) : Type 0 where
+  -- what is chosen are arcs of the least-edge orientation, with each all that it forces; none reaches its reverse
+  pub kept : (a : Arc) → IsSeen chosen a → IsChosen e a
+  pub closed : IsClosed e chosen
+  pub free : (a : Arc) → IsSeen chosen a → ¬ Reaches e a (reverse a)
+  -- an arc of each edge whose smaller end is below u is chosen
+  pub done : (x y : ℕ) → x < y → e x y ≡ true → x < u → IsJoined chosen x y
 
 -- the class of the least edge that reaches its own reverse
 pub record IsStopped (e : ℕ → ℕ → Bool) (class : List (Arc × ℕ)) : Type 0 where

@@ -1,74 +1,115 @@
 //! The walk through the edges of a graph.
-ghost use Rattle.std.specs.Prelude.{◌≡◌, ℕ, ◌+◌, ◌<◌, ◌⊎◌, ◌↔◌, true, length, IfOk, OnOk, IfSome, IfNone};
-ghost use Rattle.std.specs.Map.{keys_of};
+ghost use Rattle.std.specs.Prelude.{◌≡◌, ℕ, ◌+◌, ◌<◌, ◌↔◌, true, false, length, IfOk};
 ghost use Rattle.md_graph.specs.Sets.{Has};
-ghost use Rattle.md_forcing.specs.declared.arc.Arc.{Arc};
-ghost use Rattle.md_forcing.specs.Lists.{Holds};
-ghost use Rattle.md_forcing.specs.Forcing.{reverse};
+ghost use Rattle.md_forcing.specs.Forcing.{IsArc};
 ghost use Rattle.md_forcing.specs.Sides.{adjacent_on};
-ghost use Rattle.md_forcing.specs.Seen.{IsSeen};
-ghost use Rattle.md_orientation.specs.Walking.{IsWalked, IsStopped, IsEnding, HasRoom};
+ghost use Rattle.md_orientation.specs.Walking.{IsJoined, JoinsAlso, IsWalked, IsStopped, IsEnding, HasRoom};
 
-use md_forcing::{Arc, Class, Seen, Side, explore};
+use md_forcing::{Arc, Seen, Side, Trail, explore};
 use md_graph::{Graph, Memory, NAMES, Names};
 use std::alloc::Global;
 
-/// Where a walk ends: at a class that holds the reverse of its first arc, or with the chosen arcs.
+/// Where a walk ends: at a class that holds the reverse of its first arc, with its trail, or with
+/// the chosen arcs.
 #[derive(Drop)]
 pub enum Ending {
-    Stopped(Class),
+    Stopped(Trail),
     Whole(Seen),
 }
 
 /// Walks through the edges of a graph or of its complement, smaller ends first: to the first edge
-/// that reaches its own reverse, with its class; or, where there is none, through all edges, with
+/// that reaches its own reverse, with its trail; or, where there is none, through all edges, with
 /// the arcs of the least-edge orientation. Each arc is explored once. Errors: want of memory.
 pub fn walk(alloc: Global, graph: &Graph, side: Side) -> Result<Ending, Memory>
     ensures ending { IfOk result (IsEnding (adjacent_on side graph.now)) }
     ensures room { IfOk result (HasRoom graph.now.vertices) }
 {
     let _vertices = graph.vertices();
-    let mut seen = Seen::new(alloc, graph)?;
-    let mut chosen = Seen::with_size(alloc, seen.size())?;
-    for u in 0..seen.size() {
-        if let Some(class) = walk_at(alloc, graph, side, u, &mut seen, &mut chosen)? {
-            return Ok(Ending::Stopped(class));
+    let mut chosen = Seen::new(alloc, graph)?;
+    let mut trail = Trail::new(alloc);
+    for u in 0..chosen.size() {
+        if walk_at(graph, side, u, &mut chosen, &mut trail)? {
+            return Ok(Ending::Stopped(trail));
         }
     }
     Ok(Ending::Whole(chosen))
 }
 
-// Walks through the edges whose smaller end is `u`.
+// Walks through the edges whose smaller end is `u`. Says whether it stopped, at the class of the
+// trail.
 fn walk_at(
-    alloc: Global,
     graph: &Graph,
     side: Side,
     u: u32,
-    seen: &mut Seen,
     chosen: &mut Seen,
-) -> Result<Option<Class>, Memory>
+    trail: &mut Trail,
+) -> Result<bool, Memory>
     requires name { u < NAMES }
-    requires size { u < length seen.old }
-    requires room { (v : ℕ) → Has graph.now.vertices v → v < length seen.old }
-    requires same_room { length chosen.old ≡ length seen.old }
-    requires walked { IsWalked (adjacent_on side graph.now) u seen.old chosen.old }
-    ensures stopped { IfOk result (λ answer. IfSome answer
-        (IsStopped (adjacent_on side graph.now))) }
-    ensures walked { IfOk result (λ answer. IfNone answer
-        (IsWalked (adjacent_on side graph.now) (u + 1) seen.new chosen.new)) }
-    ensures room { length seen.new ≡ length seen.old }
-    ensures same_room { length chosen.new ≡ length seen.old }
+    requires size { u < length chosen.old }
+    requires room { (v : ℕ) → Has graph.now.vertices v → v < length chosen.old }
+    requires walked { IsWalked (adjacent_on side graph.now) u chosen.old }
+    ensures stopped { IfOk result (λ stopped. stopped ≡ true
+        → IsStopped (adjacent_on side graph.now) trail.new) }
+    ensures walked { IfOk result (λ stopped. stopped ≡ false
+        → IsWalked (adjacent_on side graph.now) (u + 1) chosen.new) }
+    ensures room { length chosen.new ≡ length chosen.old }
 {
     let _vertices = graph.vertices();
-    let near = neighbours_on(graph, side, u);
-    while let Some(v) = near.first_told_apart(&near, seen.heads(u)) {
-        let class = explore(alloc, graph, side, Arc { tail: u, head: v }, seen)?;
-        if seen.has(Arc { tail: v, head: u }) {
-            return Ok(Some(class));
+    let left = unjoined(graph, side, u, chosen);
+    for v in left.members() {
+        let first = Arc { tail: u, head: v };
+        if walk_edge(graph, side, first, chosen, trail)? {
+            return Ok(true);
         }
-        choose(&class, seen, chosen);
     }
-    Ok(None)
+    Ok(false)
+}
+
+// Explores the class of an arc, unless its edge has a chosen arc. Says whether the class holds the
+// reverse of the arc. Condition: the edges that are less are walked through.
+fn walk_edge(
+    graph: &Graph,
+    side: Side,
+    first: Arc,
+    chosen: &mut Seen,
+    trail: &mut Trail,
+) -> Result<bool, Memory>
+    requires is_arc { IsArc (adjacent_on side graph.now) first }
+    requires room { (v : ℕ) → Has graph.now.vertices v → v < length chosen.old }
+    requires walked { IsWalked (adjacent_on side graph.now) first.tail chosen.old }
+    requires passed { (y : ℕ) → adjacent_on side graph.now first.tail y ≡ true → y < first.head
+        → IsJoined chosen.old first.tail y }
+    ensures stopped { IfOk result (λ stopped. stopped ≡ true
+        → IsStopped (adjacent_on side graph.now) trail.new) }
+    ensures walked { IfOk result (λ stopped. stopped ≡ false
+        → IsWalked (adjacent_on side graph.now) first.tail chosen.new) }
+    ensures joined { IfOk result (λ stopped. stopped ≡ false
+        → JoinsAlso first.tail first.head chosen.old chosen.new) }
+    ensures room { length chosen.new ≡ length chosen.old }
+{
+    let _vertices = graph.vertices();
+    let back = Arc {
+        tail: first.head,
+        head: first.tail,
+    };
+    if chosen.has(first) || chosen.has(back) {
+        return Ok(false);
+    }
+    explore(graph, side, first, chosen, trail)?;
+    Ok(chosen.has(back))
+}
+
+// The names that `u` is adjacent to on this side by edges of which no arc is in the set.
+fn unjoined(graph: &Graph, side: Side, u: u32, arcs: &Seen) -> Names
+    requires name { u < NAMES }
+    requires size { u < length arcs.now }
+    ensures { (v : ℕ) → Has result v
+        ↔ ((adjacent_on side graph.now u v ≡ true) × (IsJoined arcs.now u v → ⊥)) }
+{
+    let near = neighbours_on(graph, side, u);
+    let mut left = Names::none();
+    left.become_alone(&near, arcs.heads(u), arcs.tails(u));
+    left
 }
 
 // The names that `u` is adjacent to on this side.
@@ -80,29 +121,6 @@ fn neighbours_on(graph: &Graph, side: Side, u: u32) -> Names
     match side {
         Side::Edges => graph.row(u).copy(),
         Side::NonEdges => graph.complement_row(u),
-    }
-}
-
-// Takes in the arcs of a class as chosen, and their reverses as seen. Condition: their ends have
-// room.
-fn choose(class: &Class, seen: &mut Seen, chosen: &mut Seen)
-    requires room { (a : Arc) → Holds (keys_of class.now) a
-        → (a.tail < length seen.old) × (a.head < length seen.old) }
-    requires same_room { length chosen.old ≡ length seen.old }
-    ensures seen { (a : Arc) → IsSeen seen.new a
-        ↔ (IsSeen seen.old a ⊎ Holds (keys_of class.now) (reverse a)) }
-    ensures chosen { (a : Arc) → IsSeen chosen.new a
-        ↔ (IsSeen chosen.old a ⊎ Holds (keys_of class.now) a) }
-    ensures room { length seen.new ≡ length seen.old }
-    ensures same_room { length chosen.new ≡ length seen.old }
-{
-    for i in 0..class.len() {
-        let by = class.get(i);
-        chosen.put(by);
-        seen.put(Arc {
-            tail: by.head,
-            head: by.tail,
-        });
     }
 }
 
@@ -126,12 +144,12 @@ mod tests {
         assert!(rt; n <= NAMES);
         let graph = Graph::from_edges(alloc, n, edges)?.expect(rt, "edges");
         match walk(alloc, &graph, side)? {
-            Ending::Stopped(class) => assert_eq!(rt; class.len(), stopped),
+            Ending::Stopped(trail) => assert_eq!(rt; trail.len(), stopped),
             Ending::Whole(chosen) => {
                 assert_eq!(rt; stopped, 0);
                 let mut count = 0u64;
-                for u in 0..chosen.size() {
-                    let here = chosen.heads(u).count() as u64;
+                for tail in 0..chosen.size() {
+                    let here = chosen.heads(tail).count() as u64;
                     assert!(rt; here < 10 && count < 10);
                     count += here;
                 }

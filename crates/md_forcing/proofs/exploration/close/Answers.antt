@@ -6,3 +6,6 @@ explore-requires-clause-fresh c = none_seen _ c.in_ok-seen.ensures.none c.args.f
 
 pub explore-requires-clause-closed : goal.explore-requires-clause-closed
 explore-requires-clause-closed c = λ a b h _ _. absurd (none_seen _ c.in_ok-seen.ensures.none a h)
+
+pub from_trail-requires : goal.from_trail-requires
+from_trail-requires c = c.in_ok-explore.ensures.class.once

@@ -17,7 +17,7 @@ put-requires-clause-head c =
 pub loop-at-init : goal.loop-at-init
 loop-at-init c = record {
   explored =
-      exploring_start (adjacent_on c.args.side c.args.graph.now) c.args.first _ c.requires.is_arc c.requires.fresh _ _ c.put.ensures.taken (c.in_ok-push.ensures ∙ ap (λ l. l ++ (c.args.first, 0) ∷ []) c.new-class.ensures);
+      exploring_start (adjacent_on c.args.side c.args.graph.now) c.args.first _ c.requires.is_arc c.requires.fresh _ _ c.put.ensures.taken (c.in_ok-push.ensures ∙ ap (λ l. l ++ (c.args.first, 0) ∷ []) c.clear.ensures);
   room = c.put.ensures.room;
 }
 

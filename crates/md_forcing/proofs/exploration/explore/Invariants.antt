@@ -6,7 +6,7 @@ use Rattle.md_forcing.proofs.exploration.explore.Given as goal
 
 abbrev pub invariant-loop-at : goal.invariant-loop-at
 invariant-loop-at l = record {
-  explored : Exploring (adjacent_on l.side l.graph) l.fn.first l.fn.seen l.seen l.class l.at;
+  explored : Exploring (adjacent_on l.side l.graph) l.fn.first l.fn.seen l.seen l.trail l.at;
   room : length l.seen ≡ length l.fn.seen;
 }
 

@@ -3,7 +3,7 @@ use Rattle.md_forcing.specs.Forcing.{arc}
 use Rattle.md_forcing.specs.Sides.{adjacent_on}
 use Rattle.md_forcing.proofs.ListLemmas.{key_at}
 use Rattle.md_forcing.proofs.OneSide.{side_names, arc_within}
-use Rattle.md_forcing.proofs.TurnLemmas.{found_turn, heads_fresh, tails_fresh}
+use Rattle.md_forcing.proofs.TurnLemmas.{found_turn}
 use Rattle.md_forcing.proofs.exploration.turn.Goals as goal
 
 pub unseen_heads-requires-clause-is_arc : goal.unseen_heads-requires-clause-is_arc
@@ -34,14 +34,6 @@ take_tails-requires-clause-room c =
 pub take_tails-requires-clause-tails_room : goal.take_tails-requires-clause-tails_room
 take_tails-requires-clause-tails_room c =
     λ w h. subst (λ n. w < n) (sym c.take_heads.ensures.room) (arc_within c.vertices-vertices.ensures.graph c.args.side _ c.requires.room (arc w c.entry.result.0.head) ((c.unseen_tails.ensures w).0 h).0).0
-
-pub push_heads-requires : goal.push_heads-requires
-push_heads-requires c =
-    heads_fresh (adjacent_on c.args.side c.args.graph.now) (side_names c.vertices-vertices.ensures.graph c.args.side) _ c.entry.result.0 _ _ c.unseen_heads.ensures c.unseen_tails.ensures _ c.requires.seen
-
-pub push_tails-requires : goal.push_tails-requires
-push_tails-requires c =
-    tails_fresh (adjacent_on c.args.side c.args.graph.now) (side_names c.vertices-vertices.ensures.graph c.args.side) _ c.entry.result.0 _ _ c.unseen_heads.ensures c.unseen_tails.ensures _ c.requires.seen c.args.at _ c.in_ok-push_heads.ensures
 
 pub returns : goal.returns
 returns c = record {

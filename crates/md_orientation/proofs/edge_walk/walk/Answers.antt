@@ -1,4 +1,4 @@
-use Rattle.std.proofs.Common.{◌∙◌, refl, arith}
+use Rattle.std.proofs.Common.{refl, arith}
 use Rattle.md_forcing.specs.Sides.{adjacent_on}
 use Rattle.md_forcing.proofs.OneSide.{side_ends}
 use Rattle.md_forcing.proofs.SeenRows.{none_seen}
@@ -8,14 +8,13 @@ use Rattle.md_orientation.proofs.edge_walk.walk.Goals as goal
 
 pub loop-u-init : goal.loop-u-init
 loop-u-init c = record {
-  walked = walked_start (adjacent_on c.args.side c.args.graph.now) _ _ (none_seen _ c.in_ok-seen.ensures.none) (none_seen _ c.in_ok-chosen.ensures.none);
+  walked = walked_start (adjacent_on c.args.side c.args.graph.now) _ (none_seen _ c.in_ok-chosen.ensures.none);
   room = refl;
-  same_room = c.in_ok-chosen.ensures.room ∙ c.size.ensures.size;
 }
 
 pub returns-clause-ending : goal.returns-clause-ending
 returns-clause-ending c =
-    walked_whole (adjacent_on c.args.side c.args.graph.now) (side_premises c.vertices-vertices.ensures.graph c.args.side).adjacency c.loop-u.u _ _ c.loop-u.invariant.walked (λ x y h.
-    let room = c.in_ok-seen.ensures.room x (side_ends c.vertices-vertices.ensures.graph c.args.side x y h).0 in
+    walked_whole (adjacent_on c.args.side c.args.graph.now) (side_premises c.vertices-vertices.ensures.graph c.args.side).adjacency c.loop-u.u _ c.loop-u.invariant.walked (λ x y h.
+    let room = c.in_ok-chosen.ensures.room x (side_ends c.vertices-vertices.ensures.graph c.args.side x y h).0 in
     let size = c.size-u-end.ensures.size in
     omega arith)
