@@ -10,8 +10,8 @@ use Rattle.md_lists.specs.declared.kinds.PlaceKind.{PlaceKind}
 use Rattle.md_lists.specs.declared.TheConstants.{PLACES}
 use Rattle.md_lists.specs.Words.{times, holds_once, first_or, last_or, without, exchanged, joined}
 use Rattle.md_lists.specs.Spans.{span_of, linked, Follow, Precede}
-use Rattle.md_lists.specs.Links.{Links, kind_at, parent_at, children_at, tally_at, note_at, IsLive, IsBare, all_free, with_kind, attached, detached, replaced, raised, noted, unmarked_first}
-use Rattle.md_lists.specs.Store.{Store, Shows, alive}
+use Rattle.md_lists.specs.Links.{Links, alive, kind_at, parent_at, children_at, tally_at, note_at, IsLive, IsBare, all_free, with_kind, attached, detached, replaced, raised, noted, unmarked_first}
+use Rattle.md_lists.specs.Store.{Store, Shows}
 use Rattle.md_lists.proofs.ListLaws.{times-split, first_in, last_in, first_low, last_low, without-split, exchanged-split, SplitsAt, split_once}
 use Rattle.md_lists.proofs.Following.{linked-other, length-linked, follow_same, follow_apart, follow_together, precede_same, precede_apart, relinked, repreceded}
 use Rattle.md_lists.proofs.LinkLaws.{get_or-set, live_within, parent_within, owner_within, child_once, child_within, parent_child, loose_child, mark_once, mark_within, attached_parent, attached_children, attached_links, detached_parent, detached_children, detached_links, replaced_differ, replaced_parent, replaced_children, replaced_links, kind-with_kind, with_kind_links, raised_links, noted_links, unmarked_links}

@@ -1,6 +1,6 @@
 -- What is kept of places: their kinds, parents, children, tallies and notes, and the list of those that are marked.
 -- Source: ordered forests and lists, as in any textbook; the tally, the note and the mark are this project's.
-use Rattle.std.specs.Prelude.{Option, Some, None, ◌≡◌, ℕ, ◌+◌, min, List, [], ◌∷◌, ◌++◌, length, replicate, slice_index_or, slice_set, is_none, IsSome}
+use Rattle.std.specs.Prelude.{Option, Some, None, ◌≡◌, ℕ, ◌+◌, min, List, [], ◌∷◌, ◌++◌, length, replicate, slice_index_or, slice_set, cond, is_some, is_none, IsSome}
 use Rattle.std.specs.List.{count_by}
 use Rattle.md_lists.specs.declared.kinds.PlaceKind.{PlaceKind}
 use Rattle.md_lists.specs.declared.TheConstants.{PLACES}
@@ -46,6 +46,10 @@ IsMarked l p = times p l.marked ≡ 1
 -- the number of free places
 abbrev pub spare_count : Links → ℕ
 spare_count l = count_by is_none l.kinds
+
+-- 1 where the place isn't free, else 0
+abbrev pub alive : Links → ℕ → ℕ
+alive l p = cond (is_some (kind_at l p)) 1 0
 
 -- the list that a place with this parent stands in: none stands in no list
 abbrev pub siblings : Links → Option ℕ → List ℕ

@@ -1,11 +1,11 @@
 -- How linked lists keep what contracts see of them.
 -- Source: doubly linked lists and a stack of free places, as in any textbook.
-use Rattle.std.specs.Prelude.{Option, None, ◌≡◌, ℕ, ◌+◌, ◌<◌, ◌≤◌, cond, List, [], map, length, slice_index_or, is_some}
+use Rattle.std.specs.Prelude.{Option, None, ◌≡◌, ℕ, ◌+◌, ◌<◌, ◌≤◌, List, [], map, length, slice_index_or}
 use Rattle.md_lists.specs.declared.kinds.PlaceKind.{PlaceKind}
 use Rattle.md_lists.specs.declared.span.Span.{Span}
 use Rattle.md_lists.specs.declared.TheConstants.{PLACES}
 use Rattle.md_lists.specs.Words.{times}
-use Rattle.md_lists.specs.Links.{Links, kind_at, parent_at, children_at, spare_count, AreLinks}
+use Rattle.md_lists.specs.Links.{Links, parent_at, children_at, spare_count, alive, AreLinks}
 use Rattle.md_lists.specs.Spans.{span_of, span_list, Follow, Precede}
 
 -- what the lists keep, one item a place, but for `marks`, the ends of the list of marked places, and `free`, the free places
@@ -31,10 +31,6 @@ links_of f = record {
   notes = f.notes;
   marked = span_list f.mark_nexts f.marks;
 }
-
--- 1 where the place isn't free, else 0
-abbrev pub alive : Links → ℕ → ℕ
-alive l p = cond (is_some (kind_at l p)) 1 0
 
 -- the fields keep these links
 pub record Shows (f : Store) (l : Links) : Type 0 where

@@ -10,7 +10,7 @@ mod span;
 mod tests;
 
 pub use kinds::PlaceKind;
-pub use lists::Lists;
+pub use lists::{Lists, filled};
 
 /// How many places there are: a place is a number below it.
 pub const PLACES: u32 = 8200;

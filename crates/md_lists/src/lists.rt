@@ -51,15 +51,15 @@ impl Lists {
         ensures links { IfOk result AreLinks }
     {
         Ok(Lists {
-            kinds: filled(alloc, None)?,
-            parents: filled(alloc, None)?,
-            spans: filled(alloc, Span::empty())?,
-            nexts: filled(alloc, None)?,
-            previous: filled(alloc, None)?,
-            tallies: filled(alloc, 0)?,
-            notes: filled(alloc, 0)?,
+            kinds: filled(alloc, PLACES, None)?,
+            parents: filled(alloc, PLACES, None)?,
+            spans: filled(alloc, PLACES, Span::empty())?,
+            nexts: filled(alloc, PLACES, None)?,
+            previous: filled(alloc, PLACES, None)?,
+            tallies: filled(alloc, PLACES, 0)?,
+            notes: filled(alloc, PLACES, 0)?,
             marks: Span::empty(),
-            mark_nexts: filled(alloc, None)?,
+            mark_nexts: filled(alloc, PLACES, None)?,
             free: all_places(alloc)?,
         })
     }
@@ -367,12 +367,12 @@ fn join(marks: Span, nexts: &mut Vec<Option<u32>>, place: u32, tally: u32, note:
     marks.with_last(place)
 }
 
-// An item for each place.
-fn filled<T: Copy>(alloc: Global, item: T) -> Result<Vec<T>, Memory>
-    ensures { IfOk result (λ v. v.items ≡ replicate PLACES item) }
+/// One item, `count` times. Errors: want of memory.
+pub fn filled<T: Copy>(alloc: Global, count: u32, item: T) -> Result<Vec<T>, Memory>
+    ensures { IfOk result (λ v. v.items ≡ replicate count item) }
 {
-    let mut items = Vec::with_capacity(alloc, PLACES as usize)?;
-    for _ in 0..PLACES {
+    let mut items = Vec::with_capacity(alloc, count as usize)?;
+    for _ in 0..count {
         items.push_reserved(item);
     }
     Ok(items)
