@@ -1,0 +1,3 @@
+pub mod TreeGraphs
+pub mod Cographs
+pub mod Kept

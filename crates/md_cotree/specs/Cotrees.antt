@@ -1,0 +1,38 @@
+-- Sound cotrees, and the graph that one denotes.
+-- Source: Corneil, Perl and Stewart, A linear recognition algorithm for cographs.
+use Rattle.std.specs.Prelude.{◌≡◌, ℕ, [], length, slice_index_or, Option, Some, None}
+use Rattle.std.specs.Option.{option_map}
+use Rattle.md_graph.specs.declared.TheConstants.{NAMES}
+use Rattle.md_graph.specs.PlainGraph.{PlainGraph}
+use Rattle.md_lists.specs.Words.{holds_once}
+use Rattle.md_tree.specs.TreeGraph.{graph_of_tree}
+use Rattle.md_cotree.specs.declared.cotree.Cotree.{Cotree}
+use Rattle.md_cotree.specs.PlaceTrees.{PlaceTree, PlaceTrees, no_more, then, place_of, leaves_among, leaf_counts, AllAlternate, shape, Fits}
+
+-- the tree that there is, in a row
+abbrev pub trees_of : Option PlaceTree → PlaceTrees
+trees_of None = no_more
+trees_of (Some t) = then t no_more
+
+-- the place that is kept for a name, or none
+abbrev pub place_at : Cotree → ℕ → Option ℕ
+place_at c v = slice_index_or c.places.items v None
+
+-- the cotree keeps this tree, or none: its places are the live ones, its root is the root that is kept, the place kept for a name is
+-- its leaf and none is kept for another name, its leaves are counted, its kinds alternate, and nothing is marked
+pub record IsKeptAs (c : Cotree) (o : Option PlaceTree) : Type 0 where
+  pub fits : Fits c.lists (trees_of o)
+  pub root : c.root ≡ option_map place_of o
+  pub entries : length c.places.items ≡ NAMES
+  pub names : (v p : ℕ) → leaves_among p v (trees_of o) ≡ holds_once (place_at c v) p
+  pub leaves : c.leaves ≡ leaf_counts (trees_of o)
+  pub alternates : AllAlternate (trees_of o)
+  pub unmarked : c.lists.marked ≡ []
+
+-- the cotree keeps some tree, or none
+abbrev pub IsSound : Cotree → Type 0
+IsSound c = (o : Option PlaceTree) × IsKeptAs c o
+
+-- the cotree is sound, and the graph is that of its tree
+abbrev pub Denotes : Cotree → PlainGraph → Type 0
+Denotes c g = (o : Option PlaceTree) × IsKeptAs c o × (graph_of_tree (option_map shape o) ≡ g)

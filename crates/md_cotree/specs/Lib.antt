@@ -1,0 +1,4 @@
+pub mod Laws
+pub mod PlaceTrees
+pub mod Cotrees
+pub mod CotreeLaws

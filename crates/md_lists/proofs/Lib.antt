@@ -1,0 +1,10 @@
+pub mod Limits
+pub mod ListLaws
+pub mod Following
+pub mod LinkLaws
+pub mod Splicing
+pub mod Showing
+pub mod Changing
+pub mod Beside
+pub mod Marks
+pub mod Loose

@@ -1,0 +1,84 @@
+-- Store that keep links: what is read of them.
+use Rattle.std.proofs.Common.{vec_len, ◌≡◌, ℕ, ◌<◌, List, [], map, length, get_or, Option, Some, None, refl, sym, ◌∙◌, ap, subst, arith}
+use Rattle.std.proofs.lemmas.List.{ext_get_or, get_or-map, length-map, get_or_read}
+use Rattle.md_lists.specs.declared.span.Span.{Span}
+use Rattle.md_lists.specs.declared.TheConstants.{PLACES}
+use Rattle.md_lists.specs.declared.lists.Lists.TheInside.{Inside}
+use Rattle.md_lists.specs.Words.{behind}
+use Rattle.md_lists.specs.Spans.{span_of, span_list}
+use Rattle.md_lists.specs.Links.{Links, parent_at, children_at, siblings, AreLinks}
+use Rattle.md_lists.specs.Store.{Store, links_of, Shows}
+use Rattle.md_lists.specs.Kept.{store_of, links_kept, IsKept}
+use Rattle.md_lists.proofs.Following.{follow_behind, span_list-is}
+use Rattle.md_lists.proofs.LinkLaws.{parent_child}
+
+-- fields show one value
+pub shown : (f : Store) (l : Links) → Shows f l → links_of f ≡ l
+unfolding links_of
+shown f l s = λ i. record {
+  kinds = s.kinds i;
+  parents = s.parents i;
+  children = children i;
+  tallies = s.tallies i;
+  notes = s.notes i;
+  marked = span_list-is f.mark_nexts f.marks l.marked s.marks s.mark_forward i;
+}
+  where
+    children : map (span_list f.nexts) f.spans ≡ l.children
+    children =
+        ext_get_or [] (map (span_list f.nexts) f.spans) l.children (length-map f.spans (span_list f.nexts) ∙ s.spans_len ∙ sym s.links.children_len)
+        (λ p within.
+        get_or-map (span_list f.nexts) f.spans p (span_of []) [] (let e = length-map f.spans (span_list f.nexts) in omega arith)
+        ∙ span_list-is f.nexts (get_or f.spans p (span_of [])) (children_at l p) (s.spans p) (s.forward p))
+
+pub links_shown : (f : Store) (l : Links) → Shows f l → AreLinks (links_of f)
+links_shown f l s = subst AreLinks (sym (shown f l s)) s.links
+
+-- what kept fields show
+pub opened : (a : Inside) (l : Links) → IsKept a → links_kept a ≡ l → Shows (store_of a) l
+opened a l kept is = let was = kept.1 in subst (Shows (store_of a)) (sym (shown (store_of a) was.0 was.1) ∙ is) was.1
+
+-- how long each field is
+pub record Sizes (a : Inside) : Type 0 where
+  pub kinds_size : vec_len a.kinds ≡ PLACES
+  pub parents_size : vec_len a.parents ≡ PLACES
+  pub spans_size : vec_len a.spans ≡ PLACES
+  pub nexts_size : vec_len a.nexts ≡ PLACES
+  pub previous_size : vec_len a.previous ≡ PLACES
+  pub tallies_size : vec_len a.tallies ≡ PLACES
+  pub notes_size : vec_len a.notes ≡ PLACES
+  pub mark_nexts_size : vec_len a.mark_nexts ≡ PLACES
+
+pub sizes : (a : Inside) (l : Links) → Shows (store_of a) l → Sizes a
+sizes a l s = record {
+  kinds_size = a.kinds.ok.0 ∙ ap length s.kinds ∙ s.links.kinds_len;
+  parents_size = a.parents.ok.0 ∙ ap length s.parents ∙ s.links.parents_len;
+  spans_size = a.spans.ok.0 ∙ s.spans_len;
+  nexts_size = a.nexts.ok.0 ∙ s.nexts_len;
+  previous_size = a.previous.ok.0 ∙ s.previous_len;
+  tallies_size = a.tallies.ok.0 ∙ ap length s.tallies ∙ s.links.tallies_len;
+  notes_size = a.notes.ok.0 ∙ ap length s.notes ∙ s.links.notes_len;
+  mark_nexts_size = a.mark_nexts.ok.0 ∙ s.mark_nexts_len;
+}
+
+-- an item that is read, where the list is another by an equation
+pub read_as : {X : Type 0} → (xs ys : List X) (p n : ℕ) (x d : X) → xs ≡ ys → length ys ≡ n → p < n → x ≡ get_or xs p x → x ≡ get_or ys p d
+read_as xs ys p n x d same long within is =
+    let e = ap length same in
+    get_or_read xs p x (omega arith) is d ∙ ap (λ l. get_or l p d) same
+
+module _ (a : Inside) (l : Links) (kept : IsKept a) (is : links_kept a ≡ l) (p : ℕ) where
+  pub span_read : p < PLACES → (r : Span) → r ≡ get_or a.spans.items p r → r ≡ span_of (children_at l p)
+  span_read within r read = let s = opened a l kept is in let e = s.spans_len in get_or_read a.spans.items p r (omega arith) read (span_of []) ∙ s.spans p
+
+  pub next_read : p < PLACES → (o : Option ℕ) → o ≡ get_or a.nexts.items p o → o ≡ behind p (siblings l (parent_at l p))
+  next_read within o read =
+      let s = opened a l kept is in
+      let e = s.nexts_len in
+      get_or_read a.nexts.items p o (omega arith) read None ∙ go (parent_at l p) refl
+    where
+      go : (q : Option ℕ) → parent_at l p ≡ q → get_or a.nexts.items p None ≡ behind p (siblings l q)
+      go None none = (opened a l kept is).loose p none
+      go (Some q) some =
+          let s = opened a l kept is in
+          follow_behind a.nexts.items (children_at l q) p (s.forward q) (let one = parent_child l s.links q p some in omega arith)

@@ -1,0 +1,5 @@
+pub mod Words
+pub mod Links
+pub mod Spans
+pub mod Store
+pub mod Kept
