@@ -1,8 +1,9 @@
 //! Sessions over scripts, by the lines that they give.
 use super::*;
 use md_graph::{Graph, Memory};
+use md_modules::P4;
 use md_report::{Line, write_line};
-use md_script::{Script, read_script};
+use md_script::{EditReason, Script, read_script};
 use std::alloc::Global;
 use std::process::Abort;
 use std::test::Fail;
@@ -65,5 +66,57 @@ fn sessions(rt: HostRuntime) -> Result<(), Fail> {
         let script = read_script(rt.alloc(), file.as_bytes())?;
         check(&rt, rt.alloc(), &script, &lines, last)?;
     }
+    Ok(())
+}
+
+// Applies a script to the graph without vertices, in a session on cographs.
+fn answers(
+    rt: &impl Abort,
+    alloc: Global,
+    script: &Script,
+    expected: &[Answer],
+) -> Result<(), Memory> {
+    let Opened::Session(mut session) = CographSession::new(alloc, Graph::new(alloc)?)? else {
+        panic!(rt; "no session");
+    };
+    assert_eq!(rt; script.len() as usize, expected.len());
+    for (i, answer) in expected.iter().enumerate() {
+        assert!(rt; (i as u64) < script.len());
+        assert_eq!(rt; session.apply(script.get(i as u64)), *answer, "edit {i}");
+    }
+    let tree = session.tree(alloc)?;
+    let text = write_line(alloc, &Line::Tree(tree))?;
+    assert_eq!(rt; text.as_slice(), "t S(P(0,2),1)".as_bytes());
+    Ok(())
+}
+
+#[test]
+fn sessions_on_cographs(rt: HostRuntime) -> Result<(), Fail> {
+    let path = P4 {
+        a: 0,
+        b: 1,
+        c: 2,
+        d: 3,
+    };
+    let script = read_script(rt.alloc(), b"+v 0\n+v 1 0\n+v 2 1\n+v 3 2\n+v 2\n+e 0 1\n")?;
+    answers(
+        &rt,
+        rt.alloc(),
+        &script,
+        &[
+            Answer::Applied,
+            Answer::Applied,
+            Answer::Applied,
+            Answer::RefusedP4(path),
+            Answer::Refused(EditReason::NameTaken(2)),
+            Answer::Refused(EditReason::EdgeThere),
+        ],
+    )?;
+    let edges = [(0, 1), (1, 2), (2, 3)];
+    let graph = Graph::from_edges(rt.alloc(), 4, &edges)?.expect(&rt, "edges");
+    let Opened::NotCograph(found) = CographSession::new(rt.alloc(), graph)? else {
+        panic!(&rt; "a session on a path");
+    };
+    assert_eq!(&rt; found, path);
     Ok(())
 }

@@ -381,6 +381,61 @@ fn runs_over_files_that_refuse(rt: HostRuntime) -> Result<(), Fail> {
 }
 
 #[test]
+fn sessions_on_cographs(rt: HostRuntime) -> Result<(), Fail> {
+    let alloc = rt.alloc();
+    let table: [(&str, &[u8], &[u8], &str); 8] = [
+        (
+            "cograph g6 g s",
+            b"Cg\n",
+            b"+e 2 3\n+e 1 3\n",
+            "0|mdt cograph\nt P(S(P(0,2),1),3)\nno p4 0 1 2 3\nok S(P(0,2,3),1)\nend\n|",
+        ),
+        (
+            "cograph g6 g s",
+            b"Bg\n",
+            b"+v 3 2\n+v 3 2 0 2\n-e 0 3\n",
+            "0|mdt cograph\nt S(P(0,2),1)\nno p4 0 1 2 3\nok S(P(0,2),P(1,3))\nno p4 0 1 2 3\nend\n|",
+        ),
+        (
+            "cograph g6 g s",
+            b"@\n",
+            b"# all goes\n-v 0\n+v 0\n+v 1 1\n",
+            "0|mdt cograph\nt 0\nok empty\nok 0\nno vertex 1\nend\n|",
+        ),
+        (
+            "cograph g6 g s",
+            b"Ch\n",
+            b"",
+            "0|mdt cograph\np4 0 1 2 3\nend\n|",
+        ),
+        (
+            "cograph g6 g s",
+            b"Ch\n",
+            b"-v 0\n",
+            "0|mdt cograph\np4 0 1 2 3\nend\n|",
+        ),
+        (
+            "cograph dimacs g s",
+            b"p edge 4 3\ne 1 2\ne 2 3\ne 1 3\n",
+            b"+e 3 4\n+e 2 4\n-e 1 2\n-v 3\n",
+            "0|mdt cograph\nt P(S(1,2,3),4)\nok S(P(S(1,2),4),3)\nok S(P(1,4),2,3)\nok S(P(1,S(2,4)),3)\nok P(1,S(2,4))\nend\n|",
+        ),
+        (
+            "cograph g6 g s",
+            b"Ch\n",
+            b"*e 0 1\n",
+            "3||mdt: script UnknownEdit line 1\n",
+        ),
+        ("cograph g6 g", b"@\n", b"", "2||mdt: usage\n"),
+    ];
+    for (line, file, script, want) in table {
+        let shown = run_over(alloc, line, file, script, 0, 0, 0)?;
+        assert_eq!(rt; shown.as_str(), want, "{line}");
+    }
+    Ok(())
+}
+
+#[test]
 fn sessions(rt: HostRuntime) -> Result<(), Fail> {
     let alloc = rt.alloc();
     let table: [(&str, &[u8], &[u8], &str); 15] = [
