@@ -29,7 +29,7 @@ use Rattle.md_tree.proofs.OneTree.{one_tree_proof, no_path_proof}
 use Rattle.md_cotree.specs.Laws.{TreeOfItsGraph, OneTreeOfAGraph, NoPathInItsGraph}
 use Rattle.md_cotree.proofs.TreeGraphs.{first_place, later_place, graph_tells, tree_denotes}
 
-abbrev NotPrime : Kind → PlainTrees → List Pair → Type 0
+abbrev pub NotPrime : Kind → PlainTrees → List Pair → Type 0
 NotPrime k cs ps = k ≢ Prime
 
 -- whether a node of this kind joins its children

@@ -80,6 +80,16 @@ abbrev mutual
   leaf_counts no_more = 0
   leaf_counts (then t ts) = leaf_count t + leaf_counts ts
 
+abbrev mutual
+  -- the number of nodes, leaves among them
+  pub node_count : PlaceTree → ℕ
+  node_count (tip p v) = 1
+  node_count (inner p k ts) = 1 + node_counts ts
+
+  pub node_counts : PlaceTrees → ℕ
+  node_counts no_more = 0
+  node_counts (then t ts) = node_count t + node_counts ts
+
 -- how many trees stand in a row
 abbrev pub row_length : PlaceTrees → ℕ
 row_length no_more = 0

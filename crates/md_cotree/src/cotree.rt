@@ -1,6 +1,10 @@
 //! Cotrees over linked lists.
+ghost use Rattle.std.specs.Prelude.{◌≡◌, Option, IfOk};
+ghost use Rattle.md_graph.specs.PlainGraph.{empty_graph};
 
-use md_lists::Lists;
+use md_graph::{Memory, NAMES};
+use md_lists::{Lists, PLACES, filled};
+use std::alloc::Global;
 
 /// A tree without prime nodes over places: its linked lists, a place or none for each name, the place
 /// of its root or none, and the number of its leaves.
@@ -10,4 +14,45 @@ pub struct Cotree {
     pub places: Vec<Option<u32>>,
     pub root: Option<u32>,
     pub leaves: u32,
+}
+
+impl Cotree {
+    ghost use Rattle.md_cotree.specs.PlaceTrees.{PlaceTree, node_counts};
+    ghost use Rattle.md_cotree.specs.Cotrees.{trees_of, IsKeptAs, IsSound, Denotes};
+
+    /// No vertex. Errors: want of memory.
+    pub fn new(alloc: Global) -> Result<Cotree, Memory>
+        ensures { IfOk result (λ cotree. Denotes cotree empty_graph) }
+    {
+        Ok(Cotree {
+            lists: Lists::new(alloc)?,
+            places: filled(alloc, NAMES, None)?,
+            root: None,
+            leaves: 0,
+        })
+    }
+
+    /// The number of nodes of the tree, leaves among them. Condition: the cotree is sound.
+    pub fn node_count(&self) -> u64
+        requires { IsSound self.now }
+        ensures { (o : Option PlaceTree) → IsKeptAs self.now o →
+            result ≡ node_counts (trees_of o) }
+    {
+        u64::from(PLACES - self.lists.spare())
+    }
+}
+
+#[cfg(test)]
+mod tests {
+    use super::*;
+    use std::test::Fail;
+
+    #[test]
+    fn no_vertex(rt: HostRuntime) -> Result<(), Fail> {
+        let cotree = Cotree::new(rt.alloc())?;
+        assert_eq!(rt; cotree.node_count(), 0);
+        assert_eq!(rt; cotree.leaves, 0);
+        assert_eq!(rt; cotree.root, None);
+        Ok(())
+    }
 }

@@ -1,7 +1,7 @@
 //! The laws of trees without prime nodes and of cotrees, each the contract of a function that does
 //! nothing.
 ghost use Rattle.md_cotree.specs.Laws.{TreeOfItsGraph, OneTreeOfAGraph, NoPathInItsGraph};
-ghost use Rattle.md_cotree.specs.CotreeLaws.{OneTreeOfACotree, OneGraphOfACotree};
+ghost use Rattle.md_cotree.specs.CotreeLaws.{OneTreeOfACotree, OneGraphOfACotree, CotreeDenotesGraph, NoPathInACotree};
 
 /// A well-formed tree without prime nodes is the tree of strong modules of the graph that it
 /// denotes.
@@ -27,4 +27,14 @@ pub fn one_tree_of_a_cotree()
 /// A cotree denotes one graph at most.
 pub fn one_graph_of_a_cotree()
     ensures { OneGraphOfACotree }
+{}
+
+/// What a cotree denotes is a graph on names.
+pub fn cotree_denotes_graph()
+    ensures { CotreeDenotesGraph }
+{}
+
+/// What a cotree denotes has no induced path on four vertices.
+pub fn no_path_in_a_cotree()
+    ensures { NoPathInACotree }
 {}

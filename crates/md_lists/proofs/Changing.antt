@@ -674,7 +674,7 @@ module _ (f : Store) (l : Links) (s : Shows f l) where
 none_marked : (t n : ℕ) → t ≡ 0 → n ≡ 0 → 0 ≡ min 1 (t + n)
 none_marked t n a b = omega arith
 
-get_or-all : {X : Type 0} → (n i : ℕ) (d : X) → get_or (replicate n d) i d ≡ d
+pub get_or-all : {X : Type 0} → (n i : ℕ) (d : X) → get_or (replicate n d) i d ≡ d
 get_or-all n i d = elim (cases_lt i n) [ inl low ↦ get_or-replicate n i d d low | inr high ↦ get_or_past (replicate n d) i d (let e = length-replicate n d in omega arith) ]
 
 count-all : (n : ℕ) → count_by is_none (all_none n) ≡ n

@@ -41,7 +41,7 @@ holds-once-same q = rw (eq-eqb q q refl) refl
 pub holds-once-other : (q p : ℕ) → q ≢ p → holds_once (Some q) p ≡ 0
 holds-once-other q p other = rw (ne_eqb q p other) refl
 
-held : (o : Option ℕ) (p : ℕ) → 0 < holds_once o p → o ≡ Some p
+pub held : (o : Option ℕ) (p : ℕ) → 0 < holds_once o p → o ≡ Some p
 held None p some = absurd (omega arith)
 held (Some q) p some = elim (cases_eq q p) [ inl same ↦ ap Some same | inr other ↦ absurd (let e = holds-once-other q p other in omega arith) ]
 
