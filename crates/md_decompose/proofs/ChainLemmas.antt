@@ -20,7 +20,7 @@ use Rattle.md_modules.proofs.Strong.{nested_if_meet}
 use Rattle.md_text.proofs.Lists.{In, of_contains}
 use Rattle.md_decompose.specs.declared.chains.Step.{Step}
 use Rattle.md_decompose.specs.declared.chains.Chain.{Chain}
-use Rattle.md_decompose.specs.Chains.{with_names, no_step, step_at, taken_with, IsGrown, IsStepOf, AreSteps, IsChainOf, IsFront}
+use Rattle.md_decompose.specs.Chains.{with_names, no_step, step_at, taken_with, IsGrown, IsStepOf, AreSteps, IsChainOf, IsChainFront}
 use Rattle.md_decompose.proofs.ChildLemmas.{IsHeld, held_begins, held_grown, held_falls, held_ends}
 
 -- ---- the names of a list
@@ -213,7 +213,7 @@ module _ {e : ℕ → ℕ → Bool} where
   ]
 
   module _ (s y : NameSet) (v most : ℕ) (c front : Chain) (are : AreSteps e s v c.taken.items c.steps.items) (strong : IsStrong e s y) (hv : Has y v)
-      (is : IsFront c most front) (size : most ≡ len y) where
+      (is : IsChainFront c most front) (size : most ≡ len y) where
     abbrev taken : List ℕ
     taken = c.taken.items
 

@@ -25,8 +25,8 @@ use Rattle.md_decompose.specs.declared.decomposition.OpenSet.{OpenSet}
 use Rattle.md_tree.specs.Parts.{PlainPart, name, inner, parts_of, parts_backward}
 use Rattle.md_decompose.specs.Children.{FitsBelow, AreChildren}
 use Rattle.md_decompose.specs.declared.chains.Chain.{Chain}
-use Rattle.md_decompose.specs.Chains.{step_at, AreSteps, IsChainOf, IsFront}
-use Rattle.md_decompose.specs.Turns.{open_names, IsOpenOf, IsBelow, FitsOpen, HasChain, HasNoChain, HasFront, sets_of, AreBare, IsFirstOpen, AreOpen, IsPartOf, IsTurn}
+use Rattle.md_decompose.specs.Chains.{step_at, AreSteps, IsChainOf, IsChainFront}
+use Rattle.md_decompose.specs.Turns.{open_names, IsOpenOf, IsUnder, FitsOpen, HasChain, HasNoChain, HasFront, sets_of, AreBare, IsFirstOpen, AreOpen, IsPartOf, IsTurn}
 use Rattle.md_decompose.proofs.ChainLemmas.{steps_none, steps_inside}
 use Rattle.md_decompose.proofs.Joining.{all_names, node_built, weights, weights-append, child_maximal, children_fall}
 
@@ -82,7 +82,7 @@ AreBehind k begun now cs = (os : List Open) × (now ≡ begun ++ os) × AreBare 
 pub behind_none : (k : Kind) (os : List Open) (cs : List NameSet) → cs ≡ [] → AreBehind k os os cs
 behind_none k os cs none = ([], sym (append-nil os), (sym none, λ o c. absurd (of_contains [] o c)))
 
-pub behind_more : (k : Kind) (begun now now' : List Open) (cs cs' : List NameSet) (c : NameSet) (o : Open) → AreBehind k begun now cs → open_names o ≡ c → IsBelow (Some k) o →
+pub behind_more : (k : Kind) (begun now now' : List Open) (cs cs' : List NameSet) (c : NameSet) (o : Open) → AreBehind k begun now cs → open_names o ≡ c → IsUnder (Some k) o →
     HasNoChain o → now' ≡ now ++ o ∷ [] → cs' ≡ cs ++ c ∷ [] → AreBehind k begun now' cs'
 behind_more k begun now now' cs cs' c o is same_names below bare is_now is_cs = (
   is.0 ++ o ∷ [],
@@ -92,7 +92,7 @@ behind_more k begun now now' cs cs' c o is same_names below bare is_now is_cs = 
     λ q known. elim (of_append is.0 (o ∷ []) q (of_contains (is.0 ++ o ∷ []) q known)) [
       | inl i ↦ is.2.1 q (to_contains is.0 q i)
       | inr i ↦ elim i [
-        | inl same ↦ subst (λ (p : Open). IsBelow (Some k) p × HasNoChain p) (sym same) (below, bare)
+        | inl same ↦ subst (λ (p : Open). IsUnder (Some k) p × HasNoChain p) (sym same) (below, bare)
         | inr none ↦ absurd none
       ]
     ],
@@ -105,7 +105,7 @@ pub opened_names : (s : NameSet) (p : Option Kind) (chain : Chain) (o : Open) �
 opened_names s p chain (One v) is = sym is
 opened_names s p chain (Several b) is = ap (λ (x : OpenSet). x.names) is
 
-pub opened_below : (s : NameSet) (p : Option Kind) (chain : Chain) (o : Open) → IsOpenOf s p chain o → IsBelow p o
+pub opened_below : (s : NameSet) (p : Option Kind) (chain : Chain) (o : Open) → IsOpenOf s p chain o → IsUnder p o
 opened_below s p chain (One v) is = tt
 opened_below s p chain (Several b) is = ap (λ (x : OpenSet). x.parent) is
 
@@ -113,9 +113,9 @@ pub opened_bare : (s : NameSet) (p : Option Kind) (chain : Chain) (o : Open) →
 opened_bare s p chain (One v) no_names no_steps is = tt
 opened_bare s p chain (Several b) no_names no_steps is = (ap (λ (x : OpenSet). x.chain.taken.items) is ∙ no_names, ap (λ (x : OpenSet). x.chain.steps.items) is ∙ no_steps)
 
-pub opened_front : (s : NameSet) (p : Option Kind) (chain whole : Chain) (n : ℕ) (o : Open) → IsFront whole n chain → IsOpenOf s p chain o → HasFront whole n o
+pub opened_front : (s : NameSet) (p : Option Kind) (chain whole : Chain) (n : ℕ) (o : Open) → IsChainFront whole n chain → IsOpenOf s p chain o → HasFront whole n o
 opened_front s p chain whole n (One v) front is = tt
-opened_front s p chain whole n (Several b) front is = subst (IsFront whole n) (sym (ap (λ (x : OpenSet). x.chain) is)) front
+opened_front s p chain whole n (Several b) front is = subst (IsChainFront whole n) (sym (ap (λ (x : OpenSet). x.chain) is)) front
 
 pub opened_all : (k : Kind) (c : NameSet) (cs all : List NameSet) (chain : Chain) (begun begun' now : List Open) (o : Open) → all ≡ c ∷ cs → IsFirstOpen k c chain o →
     begun' ≡ begun ++ o ∷ [] → AreBehind k begun' now cs → (os : List Open) × (now ≡ begun ++ os) × AreOpen k all chain os
@@ -165,13 +165,13 @@ module _ {e : ℕ → ℕ → Bool} where
 
   -- each child has modules of it
   pub opened_children : (s : NameSet) (k : Kind) (cs : List NameSet) (chain : Chain) (os : List Open) → AreChildren e s cs → HasTwo s → IsChainOf e s chain → AreOpen k cs chain os →
-      (sets_of os ≡ cs) × ((o : Open) → Contains os o → IsBelow (Some k) o × HasChain e o)
+      (sets_of os ≡ cs) × ((o : Open) → Contains os o → IsUnder (Some k) o × HasChain e o)
   opened_children s k [] chain os are two chained is = (ap sets_of is, λ o c. absurd (of_contains [] o (subst (λ ws. Contains ws o) is c)))
   opened_children s k (c ∷ cs) chain os are two chained is = (
     ap sets_of is.2 ∙ ap (λ n. n ∷ sets_of is.1) is.3.is ∙ ap (λ ss. c ∷ ss) is.4.0,
     λ q known. elim (of_contains (is.0 ∷ is.1) q (subst (λ ws. Contains ws q) is.2 known)) [
-      | inl same ↦ subst (λ (p : Open). IsBelow (Some k) p × HasChain e p) (sym same) (is.3.below, first_chain s c cs chain is.0 are two chained is.3.is is.3.front)
-      | inr i ↦ (let bare : IsBelow (Some k) q × HasNoChain q = is.4.1 q (to_contains is.1 q i) in (bare.0, bare_chain e q bare.1))
+      | inl same ↦ subst (λ (p : Open). IsUnder (Some k) p × HasChain e p) (sym same) (is.3.below, first_chain s c cs chain is.0 are two chained is.3.is is.3.front)
+      | inr i ↦ (let bare : IsUnder (Some k) q × HasNoChain q = is.4.1 q (to_contains is.1 q i) in (bare.0, bare_chain e q bare.1))
     ],
   )
 
@@ -203,7 +203,7 @@ module _ {e : ℕ → ℕ → Bool} (adj : IsAdjacency e) where
   child_fits s c Series kind max = λ inner. child_unsplit adj s c kind.0 true kind.1 max inner.0 inner.1
   child_fits s c Prime kind max = tt
 
-  fits_open : (q : Open) (k : Kind) → IsBelow (Some k) q → FitsBelow e (open_names q) (Some k) → FitsOpen e q
+  fits_open : (q : Open) (k : Kind) → IsUnder (Some k) q → FitsBelow e (open_names q) (Some k) → FitsOpen e q
   fits_open (One v) k below fits = tt
   fits_open (Several b) k below fits = subst (FitsBelow e b.value.names) (sym below) fits
 
@@ -211,11 +211,11 @@ module _ {e : ℕ → ℕ → Bool} (adj : IsAdjacency e) where
     begun_as : {ps qs : List PlainPart} → ps ≡ qs → IsBegun e all ps → IsBegun e all qs
     begun_as same b = (b.0, b.1, b.2, sym same ∙ b.3)
 
-    whole_fits : (o : Open) → IsBelow None o → FitsOpen e o
+    whole_fits : (o : Open) → IsUnder None o → FitsOpen e o
     whole_fits (One v) top = tt
     whole_fits (Several b) top = subst (FitsBelow e b.value.names) (sym top) tt
 
-    whole_ready : (o : Open) → HasSome all → open_names o ≡ all → IsBelow None o → HasNoChain o → IsReady e all o
+    whole_ready : (o : Open) → HasSome all → open_names o ≡ all → IsUnder None o → HasNoChain o → IsReady e all o
     whole_ready o some same top bare = record {
       some = subst HasSome (sym same) some;
       inside = Has-along (open_names o) all same;
@@ -223,7 +223,7 @@ module _ {e : ℕ → ℕ → Bool} (adj : IsAdjacency e) where
       chain = bare_chain e o bare;
     }
 
-    pub opened_begin : (o : Open) (os : List Open) (parts : List PlainPart) → HasSome all → open_names o ≡ all → IsBelow None o → HasNoChain o → os ≡ o ∷ [] → parts ≡ [] → IsOpened e all parts os
+    pub opened_begin : (o : Open) (os : List Open) (parts : List PlainPart) → HasSome all → open_names o ≡ all → IsUnder None o → HasNoChain o → os ≡ o ∷ [] → parts ≡ [] → IsOpened e all parts os
     opened_begin o os parts some same top bare alone none = record {
       ready = λ q i. elim (subst (λ ws. In ws q) alone i) [ inl is ↦ subst (IsReady e all) (sym is) (whole_ready o some same top bare) | inr j ↦ absurd j ];
       goes_on = λ ts sets each.
@@ -253,7 +253,7 @@ module _ {e : ℕ → ℕ → Bool} (adj : IsAdjacency e) where
       part_ready (name v) added part q i = absurd (subst (λ ws. In ws q) part.1 i)
       part_ready (inner k n ps) added part q i =
           let child : In part.0 (open_names q) = subst (λ ws. In ws (open_names q)) part.2 (in_sets added q i) in
-          let below : IsBelow (Some k) q × HasChain e q = part.3 q (to_contains added q i) in
+          let below : IsUnder (Some k) q × HasChain e q = part.3 q (to_contains added q i) in
           let max : IsMaximalStrong e (open_names o) (open_names q) = child_maximal (open_names o) part.0 part.1.children (open_names q) child in
           record {
             some = max.is_strong.is_module.some;

@@ -51,7 +51,7 @@ abbrev pub IsChainOf : (ℕ → ℕ → Bool) → NameSet → Chain → Type 0
 IsChainOf e s c = (v : ℕ) → IsLeastFrom s 0 v → AreSteps e s v c.taken.items c.steps.items
 
 -- the front has the first steps of a chain, those that end before `most` names are taken, and the names taken in them
-pub record IsFront (c : Chain) (most : ℕ) (front : Chain) : Type 0 where
+pub record IsChainFront (c : Chain) (most : ℕ) (front : Chain) : Type 0 where
   pub count : ℕ
   pub known : count ≤ length c.steps.items
   pub steps : front.steps.items ≡ take count c.steps.items

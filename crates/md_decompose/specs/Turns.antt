@@ -12,7 +12,7 @@ use Rattle.md_decompose.specs.declared.decomposition.Open.TheVariants.{One, Seve
 use Rattle.md_tree.specs.Parts.{PlainPart, name, inner}
 use Rattle.md_decompose.specs.Children.{AreChildren, ListsPairs, FitsBelow}
 use Rattle.md_decompose.specs.declared.chains.Chain.{Chain}
-use Rattle.md_decompose.specs.Chains.{IsChainOf, IsFront}
+use Rattle.md_decompose.specs.Chains.{IsChainOf, IsChainFront}
 
 -- the names of what waits
 abbrev pub open_names : Open → NameSet
@@ -25,9 +25,9 @@ IsOpenOf s p chain (One v) = s ≡ only_name v
 IsOpenOf s p chain (Several b) = b.value ≡ record { names = s; parent = p; chain = chain }
 
 -- a set below a node of kind p, or a vertex alone
-abbrev pub IsBelow : Option Kind → Open → Type 0
-IsBelow p (One v) = ⊤
-IsBelow p (Several b) = b.value.parent ≡ p
+abbrev pub IsUnder : Option Kind → Open → Type 0
+IsUnder p (One v) = ⊤
+IsUnder p (Several b) = b.value.parent ≡ p
 
 -- the kind of a set fits that of the node above
 abbrev pub FitsOpen : (ℕ → ℕ → Bool) → Open → Type 0
@@ -47,7 +47,7 @@ HasNoChain (Several b) = (b.value.chain.taken.items ≡ []) × (b.value.chain.st
 -- the chain of a set is a front of another one, with modules of at most n names
 abbrev pub HasFront : Chain → ℕ → Open → Type 0
 HasFront chain n (One v) = ⊤
-HasFront chain n (Several b) = IsFront chain n b.value.chain
+HasFront chain n (Several b) = IsChainFront chain n b.value.chain
 
 -- the sets that are to be taken apart
 abbrev pub sets_of : List Open → List NameSet
@@ -55,12 +55,12 @@ sets_of os = map open_names os
 
 -- os are the sets cs below a node of kind k, with chains without modules
 abbrev pub AreBare : Kind → List NameSet → List Open → Type 0
-AreBare k cs os = (sets_of os ≡ cs) × ((o : Open) → Contains os o → IsBelow (Some k) o × HasNoChain o)
+AreBare k cs os = (sets_of os ≡ cs) × ((o : Open) → Contains os o → IsUnder (Some k) o × HasNoChain o)
 
 -- o is the set c below a node of kind k, with a front of a chain: modules with at most as many names as c
 pub record IsFirstOpen (k : Kind) (c : NameSet) (chain : Chain) (o : Open) : Type 0 where
   pub is : open_names o ≡ c
-  pub below : IsBelow (Some k) o
+  pub below : IsUnder (Some k) o
   pub front : HasFront chain (len c) o
 
 -- os are the sets cs below a node of kind k; the first one has a front of a chain, and the others have none
@@ -87,7 +87,7 @@ abbrev pub IsPartOf : (ℕ → ℕ → Bool) → NameSet → PlainPart → List 
 IsPartOf e s (name v) os = (s ≡ only_name v) × (os ≡ [])
 IsPartOf e s (inner k n ps) os =
     (cs : List NameSet) × IsNode e s k n ps cs × (sets_of os ≡ cs) ×
-    ((o : Open) → Contains os o → IsBelow (Some k) o × HasChain e o)
+    ((o : Open) → Contains os o → IsUnder (Some k) o × HasChain e o)
 
 -- when s is taken apart, its part comes behind the parts so far, and the sets of its children behind the waiting ones
 abbrev pub IsTurn : (ℕ → ℕ → Bool) → NameSet → List PlainPart → List Open → List PlainPart → List Open → Type 0

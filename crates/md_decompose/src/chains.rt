@@ -4,7 +4,7 @@ ghost use Rattle.std.specs.Prelude.{◌≡◌, ◌<◌, ◌≤◌, ◌-◌, ◌+
 ghost use Rattle.std.specs.FinSet.{difference, from_list};
 ghost use Rattle.md_graph.specs.NameSet.{ascending};
 ghost use Rattle.md_graph.specs.declared.TheConstants.{NAMES};
-ghost use Rattle.md_decompose.specs.Chains.{with_names, step_at, taken_with, IsFront};
+ghost use Rattle.md_decompose.specs.Chains.{with_names, step_at, taken_with, IsChainFront};
 
 use md_graph::{Memory, NAMES, Names};
 use std::alloc::Global;
@@ -83,7 +83,7 @@ impl Chain {
     pub(crate) fn within(&self, alloc: Global, most: usize) -> Result<Chain, Memory>
         requires { (k : ℕ) → k < length self.now.steps.items
             → (step_at self.now.steps.items k).to ≤ length self.now.taken.items }
-        ensures { IfOk result (λ front. IsFront self.now most front) }
+        ensures { IfOk result (λ front. IsChainFront self.now most front) }
     {
         let count = count_within(&self.steps, most);
         let to = end_of(&self.steps, count);
