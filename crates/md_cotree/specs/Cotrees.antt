@@ -30,8 +30,8 @@ pub record IsKeptAs (c : Cotree) (o : Option PlaceTree) : Type 0 where
   pub unmarked : c.lists.marked ≡ []
 
 -- the cotree keeps some tree, or none
-abbrev pub IsSound : Cotree → Type 0
-IsSound c = (o : Option PlaceTree) × IsKeptAs c o
+abbrev pub IsSoundCotree : Cotree → Type 0
+IsSoundCotree c = (o : Option PlaceTree) × IsKeptAs c o
 
 -- the cotree is sound, and the graph is that of its tree
 abbrev pub Denotes : Cotree → PlainGraph → Type 0

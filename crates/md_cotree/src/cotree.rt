@@ -18,7 +18,7 @@ pub struct Cotree {
 
 impl Cotree {
     ghost use Rattle.md_cotree.specs.PlaceTrees.{PlaceTree, node_counts};
-    ghost use Rattle.md_cotree.specs.Cotrees.{trees_of, IsKeptAs, IsSound, Denotes};
+    ghost use Rattle.md_cotree.specs.Cotrees.{trees_of, IsKeptAs, IsSoundCotree, Denotes};
 
     /// No vertex. Errors: want of memory.
     pub fn new(alloc: Global) -> Result<Cotree, Memory>
@@ -34,7 +34,7 @@ impl Cotree {
 
     /// The number of nodes of the tree, leaves among them. Condition: the cotree is sound.
     pub fn node_count(&self) -> u64
-        requires { IsSound self.now }
+        requires { IsSoundCotree self.now }
         ensures { (o : Option PlaceTree) → IsKeptAs self.now o →
             result ≡ node_counts (trees_of o) }
     {

@@ -159,9 +159,6 @@ module _ (f : Store) (l : Links) (s : Shows f l) where
     apart : (x : ℕ) → 0 < times x right → times x left ≡ 0
     apart x some = let o = child_once l s.links q x in let e = ap (times x) split_child.2.whole ∙ times-split x c left right in omega arith
 
-    apart_left : (x : ℕ) → 0 < times x left → times x right ≡ 0
-    apart_left x some = let o = child_once l s.links q x in let e = ap (times x) split_child.2.whole ∙ times-split x c left right in omega arith
-
     in_left : (x : ℕ) → 0 < times x left → x ≢ c
     in_left x some same = let e = split_child.2.left in let h : 0 < times c left = subst (λ z. 0 < times z left) same some in omega arith
 
@@ -388,6 +385,9 @@ module _ (f : Store) (l : Links) (s : Shows f l) where
 
   -- ---- places live and free
 
+  alive-with_kind : (p x : ℕ) (k : Option PlaceKind) → p < PLACES → alive (with_kind l p k) x ≡ cond (is_some (cond (x == p) k (kind_at l x))) 1 0
+  alive-with_kind p x k within = ap (λ (o : Option PlaceKind). cond (is_some o) 1 0) (kind-with_kind l s.links p x k within)
+
   pub makes : (fs : List ℕ) (p : ℕ) (k : PlaceKind) → f.free ≡ fs ++ p ∷ [] → (p < PLACES) × (kind_at l p ≡ None) × Shows (record f { kinds = set f.kinds p (Some k); free = fs }) (with_kind l p (Some k))
   makes fs p k popped = (
     within,
@@ -411,12 +411,12 @@ module _ (f : Store) (l : Links) (s : Shows f l) where
       free_once = λ x low. elim (cases_eq x p) [
         | inl same ↦
             let none : times x fs ≡ 0 = ap (λ z. times z fs) same ∙ left_out in
-            let one : alive (with_kind l p (Some k)) x ≡ 1 = alive_at x ∙ rw (eq-eqb x p same) refl in
+            let one : alive (with_kind l p (Some k)) x ≡ 1 = alive-with_kind p x (Some k) within ∙ rw (eq-eqb x p same) refl in
             omega arith
         | inr other ↦
             let was = s.free_once x low in
             let e : times x f.free ≡ times x fs + 0 = counted x ∙ rw (ne_eqb p x (λ i. other (sym i))) refl in
-            let a : alive (with_kind l p (Some k)) x ≡ alive l x = alive_at x ∙ rw (ne_eqb x p other) refl in
+            let a : alive (with_kind l p (Some k)) x ≡ alive l x = alive-with_kind p x (Some k) within ∙ rw (ne_eqb x p other) refl in
             omega arith
       ];
       free_within = λ x high. let was = s.free_within x high in let e = counted x in omega arith;
@@ -443,9 +443,6 @@ module _ (f : Store) (l : Links) (s : Shows f l) where
 
       is_free : kind_at l p ≡ None
       is_free = dead (kind_at l p) (let once = s.free_once p within in let e = counted_p in omega arith)
-
-      alive_at : (x : ℕ) → alive (with_kind l p (Some k)) x ≡ cond (is_some (cond (x == p) (Some k) (kind_at l x))) 1 0
-      alive_at x = ap (λ (o : Option PlaceKind). cond (is_some o) 1 0) (kind-with_kind l s.links p x (Some k) within)
 
   -- a live place is among no free ones
   pub live_alive : (p : ℕ) → IsLive l p → alive l p ≡ 1
@@ -486,12 +483,12 @@ module _ (f : Store) (l : Links) (s : Shows f l) where
               let was = s.free_once p within in
               let one = live_alive p live in
               let e : times x fs ≡ times p f.free + (1 + 0) = ap (λ z. times z fs) same ∙ counted p ∙ rw (eq-eqb p p refl) refl in
-              let a : alive (with_kind l p None) x ≡ 0 = alive_at x ∙ rw (eq-eqb x p same) refl in
+              let a : alive (with_kind l p None) x ≡ 0 = alive-with_kind p x None within ∙ rw (eq-eqb x p same) refl in
               omega arith
           | inr other ↦
               let was = s.free_once x low in
               let e : times x fs ≡ times x f.free + 0 = counted x ∙ rw (ne_eqb p x (λ i. other (sym i))) refl in
-              let a : alive (with_kind l p None) x ≡ alive l x = alive_at x ∙ rw (ne_eqb x p other) refl in
+              let a : alive (with_kind l p None) x ≡ alive l x = alive-with_kind p x None within ∙ rw (ne_eqb x p other) refl in
               omega arith
         ];
         free_within = λ x high.
@@ -513,9 +510,6 @@ module _ (f : Store) (l : Links) (s : Shows f l) where
       counted : (x : ℕ) → times x fs ≡ times x f.free + (cond (p == x) 1 0 + 0)
       counted x = ap (times x) pushed ∙ times-split x p f.free []
 
-      alive_at : (x : ℕ) → alive (with_kind l p None) x ≡ cond (is_some (cond (x == p) None (kind_at l x))) 1 0
-      alive_at x = ap (λ (o : Option PlaceKind). cond (is_some o) 1 0) (kind-with_kind l s.links p x None within)
-
   pub renames : (p : ℕ) (k : PlaceKind) → IsLive l p → Shows (record f { kinds = set f.kinds p (Some k) }) (with_kind l p (Some k))
   renames p k live =
       record {
@@ -536,7 +530,7 @@ module _ (f : Store) (l : Links) (s : Shows f l) where
         mark_forward = s.mark_forward;
         free_once = λ x low.
             let was = s.free_once x low in
-            let a : alive (with_kind l p (Some k)) x ≡ alive l x = alive_at x ∙ elim (cases_eq x p) [
+            let a : alive (with_kind l p (Some k)) x ≡ alive l x = alive-with_kind p x (Some k) within ∙ elim (cases_eq x p) [
               | inl same ↦ rw (eq-eqb x p same) (sym (ap (alive l) same ∙ live_alive p live))
               | inr other ↦ rw (ne_eqb x p other) refl
             ] in
@@ -551,9 +545,6 @@ module _ (f : Store) (l : Links) (s : Shows f l) where
     where
       within : p < PLACES
       within = live_within l s.links p live
-
-      alive_at : (x : ℕ) → alive (with_kind l p (Some k)) x ≡ cond (is_some (cond (x == p) (Some k) (kind_at l x))) 1 0
-      alive_at x = ap (λ (o : Option PlaceKind). cond (is_some o) 1 0) (kind-with_kind l s.links p x (Some k) within)
 
   -- ---- marks
 

@@ -100,14 +100,6 @@ module _ (l : Links) (ok : AreLinks l) where
         | inr none ↦ omega arith
       ])
 
-  -- a place with a parent isn't free
-  pub parent_live : (c q : ℕ) → parent_at l c ≡ Some q → IsLive l c
-  parent_live c q is = go (kind_at l c) refl
-    where
-      go : (k : Option PlaceKind) → kind_at l c ≡ k → IsSome (kind_at l c)
-      go (Some k) e = ap is_some e
-      go None e = absurd (none-some q (sym (ok.bare c e).no_parent ∙ is))
-
   -- a place is live, and another free
   pub live_not_free : (p x : ℕ) → IsLive l p → kind_at l x ≡ None → x ≢ p
   live_not_free p x live free = λ e. false≢true (sym (ap is_some free) ∙ subst (λ z. IsLive l z) (sym e) live)
@@ -123,6 +115,14 @@ module _ (l : Links) (ok : AreLinks l) where
             let zero_times = ap (times c) none in
             absurd (omega arith)
       ]
+
+  -- a parent isn't free
+  owner_not_free : (q c : ℕ) → parent_at l c ≡ Some q → (p : ℕ) → kind_at l p ≡ None → p ≡ q → ⊥
+  owner_not_free q c is p free same =
+      let none = (ok.bare p free).no_children in
+      let one = parent_child q c is in
+      let zero_times = ap (times c) (ap (λ z. children_at l z) (sym same) ∙ none) in
+      omega arith
 
   -- ---- a place becomes the last child of another
 
@@ -210,7 +210,7 @@ module _ (l : Links) (ok : AreLinks l) where
       marks = ok.marks;
       bare = λ p free.
           let was = ok.bare p free in
-          let not_parent : p ≢ q = λ e. owner_not_free p free e in
+          let not_parent : p ≢ q = owner_not_free q c is p free in
           record {
             no_parent = detached_parent p ∙ none_either (p == c) None (parent_at l p) was.no_parent;
             no_children = detached_children p ∙ rw (ne_eqb p q not_parent) was.no_children;
@@ -218,13 +218,6 @@ module _ (l : Links) (ok : AreLinks l) where
             no_note = was.no_note;
           };
     }
-      where
-        owner_not_free : (p : ℕ) → kind_at l p ≡ None → p ≡ q → ⊥
-        owner_not_free p free same =
-            let none = (ok.bare p free).no_children in
-            let one = parent_child q c is in
-            let zero_times = ap (times c) (ap (λ z. children_at l z) (sym same) ∙ none) in
-            omega arith
 
   -- ---- a place stands where another stood
 
@@ -296,18 +289,11 @@ module _ (l : Links) (ok : AreLinks l) where
           let was = ok.bare p free in
           record {
             no_parent = replaced_parent p ∙ rw (ne_eqb p n (live_not_free n p live free)) (none_either (p == c) None (parent_at l p) was.no_parent);
-            no_children = replaced_children p ∙ rw (ne_eqb p q (owner_not_free p free)) was.no_children;
+            no_children = replaced_children p ∙ rw (ne_eqb p q (owner_not_free q c is p free)) was.no_children;
             no_tally = was.no_tally;
             no_note = was.no_note;
           };
     }
-      where
-        owner_not_free : (p : ℕ) → kind_at l p ≡ None → p ≡ q → ⊥
-        owner_not_free p free same =
-            let none = (ok.bare p free).no_children in
-            let one = parent_child q c is in
-            let zero_times = ap (times c) (ap (λ z. children_at l z) (sym same) ∙ none) in
-            omega arith
 
   -- ---- a place has another kind, or is free
 
