@@ -27,7 +27,8 @@ use Rattle.md_tree.proofs.Canonical.{built_tree}
 use Rattle.md_tree.proofs.Graph.{at_position}
 use Rattle.md_tree.proofs.OneTree.{one_tree_proof, no_path_proof}
 use Rattle.md_cotree.specs.Laws.{TreeOfItsGraph, OneTreeOfAGraph, NoPathInItsGraph}
-use Rattle.md_cotree.proofs.TreeGraphs.{first_place, later_place, graph_tells, tree_denotes}
+use Rattle.md_tree.proofs.Edges.{here as first_place, later as later_place}
+use Rattle.md_cotree.proofs.TreeGraphs.{graph_tells, tree_denotes}
 
 abbrev pub NotPrime : Kind → PlainTrees → List Pair → Type 0
 NotPrime k cs ps = k ≢ Prime

@@ -21,7 +21,8 @@ use Rattle.md_cotree.specs.PlaceTrees.{PlaceTree, tip, inner, PlaceTrees, no_mor
 use Rattle.md_cotree.specs.Cotrees.{IsKeptAs, place_at}
 use Rattle.md_cotree.specs.CotreeLaws.{NoPathInACotree, CotreeDenotesGraph}
 use Rattle.md_cotree.proofs.Cographs.{NotPrime}
-use Rattle.md_cotree.proofs.TreeGraphs.{first_place, later_place, some_graph, graph_tells}
+use Rattle.md_tree.proofs.Edges.{here as first_place, later as later_place}
+use Rattle.md_cotree.proofs.TreeGraphs.{some_graph, graph_tells}
 
 -- four names at one position
 record OnePlace (cs : PlainTrees) (a b c d : ℕ) : Type 0 where

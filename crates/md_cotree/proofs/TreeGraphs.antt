@@ -1,24 +1,20 @@
 -- The graph that a tree denotes: adjacency in a tree has no direction and no loops, and it is that of the graph.
-use Rattle.std.proofs.Common.{◌≡◌, ℕ, suc, ◌<◌, Bool, true, false, cond, min, max, ◌&&◌, nat_lt, List, Option, Some, None, refl, sym, ◌∙◌, ap, inl, inr, arith}
+use Rattle.std.proofs.Common.{◌≡◌, ℕ, suc, ◌<◌, Bool, true, false, min, max, ◌&&◌, nat_lt, List, Option, Some, None, refl, sym, ◌∙◌, ap, inl, inr, arith}
 use Rattle.std.proofs.lemmas.Bool.{cases_Bool, cases_eq, cases_order, eq-eqb, ne_eqb, lt-ltb, ltb-true, and_parts}
 use Rattle.std.specs.FinSet.{contains}
 use Rattle.md_graph.specs.declared.TheConstants.{NAMES}
-use Rattle.md_graph.specs.Sets.{Has, Lacks}
+use Rattle.md_graph.specs.Sets.{Has}
 use Rattle.md_graph.specs.NameSet.{AllBelow}
 use Rattle.md_graph.specs.PlainGraph.{IsGraph, adjacent, pairs_where}
 use Rattle.md_graph.proofs.GraphLemmas.{contains-pairs_where, adjacent_sym, adjacent_up, adjacent_self, IsGraph-empty_graph}
+use Rattle.md_tree.proofs.Edges.{here, later}
+use Rattle.md_tree.proofs.Denoted.{joined_names}
 use Rattle.md_tree.specs.declared.Kind.{Kind}
 use Rattle.md_tree.specs.declared.Kind.TheVariants.{Parallel, Series, Prime}
 use Rattle.md_tree.specs.declared.Pair.{Pair}
 use Rattle.md_tree.specs.Trees.{PlainTree, leaf, node, PlainTrees, no_tree, one_more, names}
 use Rattle.md_tree.specs.WellFormed.{IsWellFormed}
 use Rattle.md_tree.specs.TreeGraph.{position_of, lists_pair, joins, adjacent_in, adjacent_below, graph_of_tree}
-
-pub first_place : (t : PlainTree) (ts : PlainTrees) (x : ℕ) → Has (names t) x → position_of (one_more t ts) x ≡ 0
-first_place t ts x h = ap (λ w. cond w 0 (suc (position_of ts x))) h
-
-pub later_place : (t : PlainTree) (ts : PlainTrees) (x : ℕ) → Lacks (names t) x → position_of (one_more t ts) x ≡ suc (position_of ts x)
-later_place t ts x l = ap (λ w. cond w 0 (suc (position_of ts x))) l
 
 joins_turned : (k : Kind) (ps : List Pair) (i j : ℕ) → joins k ps i j ≡ joins k ps j i
 joins_turned Parallel ps i j = refl
@@ -43,12 +39,12 @@ mutual
       elim (cases_Bool (contains (names t) a)) [
         | inl ha ↦ elim (cases_Bool (contains (names t) b)) [
           | inl hb ↦ rw (ha, hb) (adjacent_turned t a b)
-          | inr lb ↦ absurd (let p : 0 ≡ suc (position_of ts b) = sym (first_place t ts a ha) ∙ same ∙ later_place t ts b lb in omega arith)
+          | inr lb ↦ absurd (let p : 0 ≡ suc (position_of ts b) = sym (here t ts a ha) ∙ same ∙ later t ts b lb in omega arith)
         ]
         | inr la ↦ elim (cases_Bool (contains (names t) b)) [
-          | inl hb ↦ absurd (let p : suc (position_of ts a) ≡ 0 = sym (later_place t ts a la) ∙ same ∙ first_place t ts b hb in omega arith)
+          | inl hb ↦ absurd (let p : suc (position_of ts a) ≡ 0 = sym (later t ts a la) ∙ same ∙ here t ts b hb in omega arith)
           | inr lb ↦
-              let p : suc (position_of ts a) ≡ suc (position_of ts b) = sym (later_place t ts a la) ∙ same ∙ later_place t ts b lb in
+              let p : suc (position_of ts a) ≡ suc (position_of ts b) = sym (later t ts a la) ∙ same ∙ later t ts b lb in
               rw (la, lb) (below_turned ts a b (omega arith))
         ]
       ]
@@ -65,9 +61,6 @@ mutual
         | inl h ↦ rw h (adjacent_no_loop t a)
         | inr l ↦ rw l (below_no_loop ts a)
       ]
-
-abbrev joined_names : PlainTree → ℕ → ℕ → Bool
-joined_names t a b = (contains (names t) a && contains (names t) b) && adjacent_in t a b
 
 pub some_graph : (t : PlainTree) → AllBelow (names t) NAMES → IsGraph (graph_of_tree (Some t))
 some_graph t below = record {

@@ -8,7 +8,7 @@ use Rattle.md_modules.specs.InducedPaths.{HasPathEdges, IsOneOf, IsInducedPathWi
 use Rattle.md_modules.specs.PathSearch.{IsPathOf, IsSeenAlone, IsSeenAlike}
 use Rattle.md_modules.specs.declared.induced_paths.P4.{P4}
 use Rattle.md_graph.proofs.SetLemmas.{Has-along, minus_has, of_minus, meet_has, of_meet, remove_left, of_remove}
-use Rattle.md_modules.proofs.PathSearch.{turned_edges, turned_one, told_apart, ends_differ, path_of_order, near_is}
+use Rattle.md_modules.proofs.PathSearch.{turned_edges, turned_one, told_apart, ends_differ, path_of_order, near_is, vertex}
 
 -- no one of the set is to m as value doesn't say
 pub record NoneAcross (g : PlainGraph) (seconds : NameSet) (value : Bool) (m : ℕ) : Type 0 where
@@ -126,9 +126,6 @@ module _ {g : PlainGraph} (is_graph : IsGraph g) (u v : ℕ) (differ : u ≢ v) 
     (no_pair : (b c : ℕ) → IsSeenAlone g u v b → IsSeenAlone g v u c → adjacent g b c ≡ not joined → ⊥)
     (none_past_v : (m z : ℕ) → IsSeenAlone g v u m → IsSeenAlike g u v joined z → adjacent g m z ≡ joined → ⊥)
     (none_past_u : (m z : ℕ) → IsSeenAlone g u v m → IsSeenAlike g u v joined z → adjacent g m z ≡ joined → ⊥) where
-  vertex : (x y : ℕ) → adjacent g x y ≡ true → Has g.vertices y
-  vertex x y h = (adjacent_ends is_graph x y h).1
-
   -- u as an end
   no_end : (b c d : ℕ) → HasPathEdges (adjacent g) u b c d → IsOneOf v u b c d → ⊥
   no_end b c d path (inl same) = differ (sym same)
@@ -141,7 +138,7 @@ module _ {g : PlainGraph} (is_graph : IsGraph g) (u v : ℕ) (differ : u ≢ v) 
         other = told_apart (adjacent g) c u d path.edges.2 path.apart.1;
       })
       (record {
-        vertex = vertex c d path.edges.2;
+        vertex = vertex is_graph c d path.edges.2;
         first = path.apart.1 ∙ sym (ap not there);
         second = ap (λ x. adjacent g x d) same ∙ path.apart.2 ∙ sym (ap not there);
       })
@@ -155,7 +152,7 @@ module _ {g : PlainGraph} (is_graph : IsGraph g) (u v : ℕ) (differ : u ≢ v) 
         other = λ back. ends_differ is_graph u b c d path (sym back);
       })
       (record {
-        vertex = vertex u b path.edges.0;
+        vertex = vertex is_graph u b path.edges.0;
         first = path.edges.0 ∙ sym (ap not absent);
         second = ap (λ x. adjacent g x b) same ∙ adjacent_sym g c b ∙ path.edges.1 ∙ sym (ap not absent);
       })
@@ -186,7 +183,7 @@ module _ {g : PlainGraph} (is_graph : IsGraph g) (u v : ℕ) (differ : u ≢ v) 
         other = λ back. told_apart (adjacent g) c a d path.edges.2 path.apart.1 (back ∙ same);
       })
       (record {
-        vertex = vertex c d path.edges.2;
+        vertex = vertex is_graph c d path.edges.2;
         first = path.apart.2 ∙ sym (ap not there);
         second = ap (λ x. adjacent g x d) same ∙ path.apart.1 ∙ sym (ap not there);
       })
@@ -215,7 +212,7 @@ module _ {g : PlainGraph} (is_graph : IsGraph g) (u v : ℕ) (differ : u ≢ v) 
         other = λ back. ends_differ is_graph a u c d path (back ∙ same);
       })
       (record {
-        vertex = vertex u c path.edges.1;
+        vertex = vertex is_graph u c path.edges.1;
         first = path.edges.1 ∙ sym (ap not absent);
         second = ap (λ x. adjacent g x c) same ∙ adjacent_sym g d c ∙ path.edges.2 ∙ sym (ap not absent);
       })

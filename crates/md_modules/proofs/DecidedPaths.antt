@@ -1,26 +1,23 @@
 -- Whether a set has an induced path is decided.
-use Rattle.std.proofs.Common.{◌≡◌, ℕ, ◌<◌, Bool, true, false, ◌≢◌, sym, ◌∙◌, ap}
+use Rattle.std.proofs.Common.{◌≡◌, ℕ, ◌<◌, Bool, true, false, sym, ◌∙◌}
 use Rattle.md_graph.specs.Sets.{NameSet, Has}
-use Rattle.md_graph.proofs.SetLemmas.{clash}
 use Rattle.md_graph.proofs.Search.{Decided, decide_test, decide_both, decide_three, decide_below, decide_like, decide_some}
 use Rattle.md_modules.specs.Adjacency.{IsAdjacency}
 use Rattle.md_modules.specs.InducedPaths.{IsInducedPath, HasInducedPath, HasPathEdges}
 use Rattle.md_modules.specs.Laws.{InducedPathsAreDecided}
+use Rattle.md_modules.proofs.Paths.{different_if_adjacent}
 use Rattle.md_modules.proofs.PathSearch.{told_apart}
 
 module _ {e : ℕ → ℕ → Bool} (is : IsAdjacency e) (s : NameSet) where
-  edge_differs : (a b : ℕ) → e a b ≡ true → a ≢ b
-  edge_differs a b h same = clash h (ap (λ x. e a x) (sym same) ∙ is.irreflexive a)
-
   path_in : (a b c d : ℕ) → Has s a → Has s b → Has s c → Has s d → HasPathEdges e a b c d → a < d → IsInducedPath e s a b c d
   path_in a b c d ha hb hc hd path up = record {
     inside = (ha, hb, hc, hd);
     different = (
-      edge_differs a b path.edges.0,
+      different_if_adjacent is a b path.edges.0,
       (λ same. told_apart e c a d path.edges.2 path.apart.1 (sym same)),
-      edge_differs b c path.edges.1,
+      different_if_adjacent is b c path.edges.1,
       told_apart e b d a (is.symmetric b a ∙ path.edges.0) (is.symmetric d a ∙ path.apart.1),
-      edge_differs c d path.edges.2,
+      different_if_adjacent is c d path.edges.2,
     );
     edges = path.edges;
     apart = path.apart;

@@ -118,7 +118,7 @@ module _ {g : PlainGraph} (is_graph : IsGraph g) where
   pub near_is : (x : ℕ) (row : NameSet) → row ≡ neighbours g x → (z : ℕ) → contains row z ≡ adjacent g x z
   near_is x row is z = ap (λ s. contains s z) is ∙ contains-neighbours is_graph x z
 
-  vertex : (u v : ℕ) → adjacent g u v ≡ true → Has g.vertices v
+  pub vertex : (u v : ℕ) → adjacent g u v ≡ true → Has g.vertices v
   vertex u v h = (adjacent_ends is_graph u v h).1
 
   module _ (x : ℕ) (vertices near far : NameSet) (is_vertices : vertices ≡ g.vertices) (is_near : near ≡ neighbours g x) (is_far : far ≡ difference vertices near) where

@@ -67,7 +67,7 @@ module _ {e : ℕ → ℕ → Bool} where
       )
 
   module _ (adj : IsAdjacency e) where
-    different_if_adjacent : (a b : ℕ) → e a b ≡ true → a ≢ b
+    pub different_if_adjacent : (a b : ℕ) → e a b ≡ true → a ≢ b
     different_if_adjacent a b p same = clash p (ap (e a) (sym same) ∙ adj.irreflexive a)
 
     different_if_told : (a b c : ℕ) → e a c ≡ true → e b c ≡ false → a ≢ b

@@ -3,7 +3,6 @@ use Rattle.std.proofs.Common.{◌≡◌, List, [], ◌∷◌, ◌++◌, Option, 
 use Rattle.md_graph.specs.declared.TheConstants.{NAMES}
 use Rattle.md_graph.specs.PlainGraph.{PlainGraph, IsGraph, adjacent}
 use Rattle.md_graph.proofs.GraphLemmas.{adjacent_sym, adjacent_self}
-use Rattle.md_modules.specs.Adjacency.{IsAdjacency}
 use Rattle.md_modules.proofs.DecidedPaths.{decide_path}
 use Rattle.md_modules.specs.declared.induced_paths.P4.{P4}
 use Rattle.md_tree.specs.Trees.{PlainTree}
@@ -27,7 +26,7 @@ use Rattle.md_report.specs.declared.line.SessionMode.TheVariants.{Edit, Cograph}
 use Rattle.md_report.specs.Lines.{PlainLine, mode_of, session_mode_of, head, tree, applied, refused, refused_p4, not_cograph, oriented, forced, end}
 use Rattle.md_report.specs.Orientations.{IsOrientationLine}
 use Rattle.md_report.specs.Sessions.{HasTreeLine, IsLineBy, state_by, IsStepLine, state_after, state_behind, SessionRun}
-use Rattle.md_report.specs.Cographs.{IsP4Of, IsCograph, HasP4Line, IsOpeningLine, IsCographLineBy, IsCographLine, edits_behind, CographRun}
+use Rattle.md_report.specs.Cographs.{IsP4Of, IsCograph, IsOpeningLine, IsCographLineBy, IsCographLine, edits_behind, CographRun}
 use Rattle.md_report.specs.Places.{Place, before_head, at_graphs, before_session, at_state, at_edits, after_end, Reports, ReportsState, MayCome, next_place, Lead}
 use Rattle.md_report.specs.Laws.{AreGraphs, IsSound, LinesLeadIfFirst, ReportEach, IsGraphReport, GraphReportsHaveLines, AnswerEach, IsSessionReport, SessionReportsAreRuns}
 

@@ -1,5 +1,5 @@
 -- An induced P4 of the graph after an edit holds the change, where the graph before had none.
-use Rattle.std.proofs.Common.{◌≡◌, ◌≢◌, ℕ, ◌<◌, Bool, true, false, not, ◌&&◌, ◌||◌, ◌==◌, List, ◌⊎◌, Option, Some, None, IfNone, IsTrue, ◌↔◌, refl, sym, ◌∙◌, ap, subst, inl, inr}
+use Rattle.std.proofs.Common.{◌≡◌, ℕ, ◌<◌, Bool, true, false, not, ◌&&◌, ◌||◌, ◌==◌, Option, Some, None, IfNone, IsTrue, ◌↔◌, refl, sym, ◌∙◌, subst, inl, inr}
 use Rattle.std.proofs.lemmas.Bool.{eqb-false, ne_eqb}
 use Rattle.std.specs.FinSet as set
 use Rattle.md_graph.specs.declared.TheConstants.{NAMES}
@@ -9,7 +9,7 @@ use Rattle.md_graph.proofs.GraphLemmas.{adjacent_sym, adjacent_self, IsGraph-wit
 use Rattle.md_graph.proofs.SetLemmas.{clash, empty_lacks, same_name, of_insert, of_remove}
 use Rattle.md_graph.proofs.Search.{Decided}
 use Rattle.md_modules.specs.declared.induced_paths.P4.{P4}
-use Rattle.md_modules.specs.InducedPaths.{IsInducedPath, IsOneOf, IsInducedPathWith, IsInducedPathWithBoth}
+use Rattle.md_modules.specs.InducedPaths.{IsInducedPath, IsOneOf, IsInducedPathWithBoth}
 use Rattle.md_modules.proofs.PathSearch.{if_none_map}
 use Rattle.md_script.specs.declared.edit.Edit.{Edit}
 use Rattle.md_script.specs.declared.edit.Edit.TheVariants.{AddEdge, DelEdge, AddVertex, DelVertex}

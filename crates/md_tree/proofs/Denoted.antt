@@ -63,7 +63,7 @@ within_limit true b true f = sym (ap (λ w. w && true) (f refl))
 within_limit true true false f = refl
 within_limit true false false f = refl
 
-abbrev joined_names : PlainTree → ℕ → ℕ → Bool
+abbrev pub joined_names : PlainTree → ℕ → ℕ → Bool
 joined_names t a b = (contains (names t) a && contains (names t) b) && adjacent_in t a b
 
 pub tree_graph : (g : PlainGraph) (t : PlainTree) → IsGraph g → IsCanonical t → AllBelow (names t) NAMES → g.vertices ≡ names t →

@@ -36,10 +36,10 @@ record InTwo (cs : PlainTrees) (x y : ℕ) : Type 0 where
   second : Has (names_below cs) y
   differ : position_of cs x ≢ position_of cs y
 
-here : (t : PlainTree) (ts : PlainTrees) (x : ℕ) → Has (names t) x → position_of (one_more t ts) x ≡ 0
+pub here : (t : PlainTree) (ts : PlainTrees) (x : ℕ) → Has (names t) x → position_of (one_more t ts) x ≡ 0
 here t ts x h = ap (λ w. cond w 0 (suc (position_of ts x))) h
 
-later : (t : PlainTree) (ts : PlainTrees) (x : ℕ) → Lacks (names t) x → position_of (one_more t ts) x ≡ suc (position_of ts x)
+pub later : (t : PlainTree) (ts : PlainTrees) (x : ℕ) → Lacks (names t) x → position_of (one_more t ts) x ≡ suc (position_of ts x)
 later t ts x l = ap (λ w. cond w 0 (suc (position_of ts x))) l
 
 below_lacks : (t : PlainTree) (ts : PlainTrees) (x : ℕ) → Disjoint (names t) (names_below ts) → Has (names_below ts) x → Lacks (names t) x
