@@ -81,6 +81,41 @@ def half_graph(n):
     return rows_of(n, [(i, n // 2 + j) for i in range(n // 2) for j in range(i, n // 2)])
 
 
+def nested_p4(n, names):
+    """A P4 whose end is replaced by such a graph again, as long as there are names; from the inmost vertex on they are taken
+    in the order of the list. The number of vertices is one more than a multiple of three."""
+    edges = []
+    for a in range(1, n, 3):
+        edges += [(names[v], names[a]) for v in range(a)]
+        edges += [(names[a], names[a + 1]), (names[a + 1], names[a + 2])]
+    return rows_of(n, edges)
+
+
+def oldest_lowest(n):
+    return list(range(n))
+
+
+def oldest_highest(n):
+    return list(range(n))[::-1]
+
+
+def in_any_order(n):
+    return random.Random(n).sample(range(n), n)
+
+
+def path_complement(n):
+    """The complement of a path: prime, and its tree lists nearly all pairs."""
+    return [(1 << v) - 1 & ~(1 << v - 1) if v else 0 for v in range(n)]
+
+
+def complete(n):
+    return [(1 << v) - 1 for v in range(n)]
+
+
+def complete_bipartite(n):
+    return [(1 << n // 2) - 1 if v >= n // 2 else 0 for v in range(n)]
+
+
 def cograph(n, seed):
     """Disjoint unions and joins in turn, over parts of random sizes."""
     r = random.Random(seed)
@@ -123,7 +158,16 @@ INPUTS = {
     "cograph4096.g6": lambda: g6(cograph(4096, 5)),
     "dense256.g6": lambda: g6(dense(256, 6)),
     "script300.txt": lambda: script(256, 300, 7),
+    "sparse4095.col": lambda: dimacs(sparse(4095, 8, 9)),
+    "copath4096.g6": lambda: g6(path_complement(4096)),
+    "cograph256.g6": lambda: g6(cograph(256, 10)),
+    "cograph1024.g6": lambda: g6(cograph(1024, 11)),
+    "complete4096.g6": lambda: g6(complete(4096)),
+    "bipartite4096.g6": lambda: g6(complete_bipartite(4096)),
 }
+for order in (oldest_lowest, oldest_highest, in_any_order):
+    for n in (1024, 2047, 4096):
+        INPUTS["p4_%s_%d.g6" % (order.__name__, n)] = lambda n=n, order=order: g6(nested_p4(n, order(n)))
 
 CASES = [
     ("edges", "g6", "none.g6"),
@@ -145,7 +189,14 @@ CASES = [
     ("tree", "g6", "threshold4096.g6"),
     ("tree", "g6", "small5000.g6"),
     ("edit", "g6", "dense256.g6", "script300.txt"),
-]
+    ("graph6", "dimacs", "sparse4095.col"),
+    ("tree", "g6", "copath4096.g6"),
+    ("cograph", "g6", "cograph256.g6", "script300.txt"),
+    ("compare", "g6", "dense256.g6"),
+    ("compare", "g6", "cograph1024.g6"),
+    ("compare", "g6", "bipartite4096.g6"),
+    ("compare", "g6", "complete4096.g6"),
+] + [("tree", "g6", name) for name in INPUTS if name.startswith("p4_")]
 
 
 def measure(binary, words, where):
