@@ -157,9 +157,9 @@ module _ {e : ℕ → ℕ → Bool} where
       }
 
     -- what is found from the names that no proper module holds with v
-    pub children_found : (s rest first : NameSet) (v j : ℕ) (cs listed done : List NameSet) → IsPrime e s → v ≢ j → IsLeastModule e s v j s → IsRest e s v rest →
-        IsModule e s (difference s rest) → Has (difference s rest) v → AreMaximalInside e s rest cs → listed ≡ cs → first ≡ difference s rest →
-        ListsInOrder first listed done → AreChildren e s done
-    children_found s rest first v j cs listed done prime differ whole names is hv max same is_first in_order =
+    pub children_found : (s rest first : NameSet) (v j : ℕ) (cs done : List NameSet) → IsPrime e s → v ≢ j → IsLeastModule e s v j s → IsRest e s v rest →
+        IsModule e s (difference s rest) → Has (difference s rest) v → AreMaximalInside e s rest cs → first ≡ difference s rest →
+        ListsInOrder first cs done → AreChildren e s done
+    children_found s rest first v j cs done prime differ whole names is hv max is_first in_order =
         children_are s rest v cs done prime (rest_maximal s rest v j differ whole names is hv) hv max
-        (subst (λ t. ListsInOrder t cs done) is_first (subst (λ t. ListsInOrder first t done) same in_order))
+        (subst (λ t. ListsInOrder t cs done) is_first in_order)

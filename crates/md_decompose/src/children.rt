@@ -13,7 +13,7 @@ use crate::chains::Chain;
 use crate::prime::prime_children;
 use crate::quotient::quotient_edges;
 use md_graph::{Graph, Memory, Names};
-use md_modules::{co_component, component};
+use md_modules::{Block, co_component, component};
 use md_tree::{Kind, QuotientEdges};
 use std::alloc::Global;
 
@@ -29,7 +29,7 @@ pub(crate) fn children(
     parent: Option<Kind>,
     chain: &mut Chain,
     places: &mut Vec<u32>,
-) -> Result<(Kind, Vec<Names>, QuotientEdges), Memory>
+) -> Result<(Kind, Vec<Block>, QuotientEdges), Memory>
     requires inside { Within set.now graph.now.vertices }
     requires two { HasTwo set.now }
     requires below { FitsBelow (adjacent graph.now) set.now parent }
@@ -71,7 +71,7 @@ fn components(
     set: &Names,
     whole: bool,
     value: bool,
-) -> Result<Option<Vec<Names>>, Memory>
+) -> Result<Option<Vec<Block>>, Memory>
     requires graph { IsGraph graph.now }
     requires inside { Within set.now graph.now.vertices }
     requires some { HasSome set.now }
@@ -101,7 +101,7 @@ fn component_list(
     set: &Names,
     first: Names,
     value: bool,
-) -> Result<Vec<Names>, Memory>
+) -> Result<Vec<Block>, Memory>
     requires graph { IsGraph graph.now }
     requires inside { Within set.now graph.now.vertices }
     requires split { Splits (adjacent graph.now) set.now value }
@@ -111,11 +111,11 @@ fn component_list(
 {
     let mut rest = set.minus(&first);
     let mut sets = Vec::new(alloc);
-    sets.push(first)?;
+    sets.push(Block::of(alloc, &first)?)?;
     while let Some(v) = rest.first_from(0) {
         let next = component_at(graph, &rest, v, value);
         rest.flip(&next);
-        sets.push(next)?;
+        sets.push(Block::of(alloc, &next)?)?;
     }
     Ok(sets)
 }

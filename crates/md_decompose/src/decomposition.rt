@@ -16,7 +16,8 @@ ghost use Rattle.md_decompose.specs.declared.decomposition.Open.{Open};
 
 use crate::chains::Chain;
 use crate::children::children;
-use md_graph::{Graph, Memory, Names};
+use md_graph::{Graph, Memory};
+use md_modules::{Block, only_member};
 use md_tree::{Kind, Part, Tree, build};
 use std::alloc::Global;
 
@@ -31,7 +32,7 @@ enum Open {
 // that hold its least name.
 #[derive(Drop)]
 struct OpenSet {
-    names: Names,
+    names: Block,
     parent: Option<Kind>,
     chain: Chain,
 }
@@ -54,17 +55,19 @@ pub fn decompose(alloc: Global, graph: &Graph) -> Result<Option<Tree>, Memory>
     Ok(Some(build(alloc, parts)?))
 }
 
-// The parts of the tree of a graph with a vertex.
+// The parts of the tree of a graph with a vertex. A prime graph has one more than vertices; room for
+// so many is taken at once.
 fn parts(alloc: Global, graph: &Graph) -> Result<Vec<Part>, Memory>
     requires { HasSome graph.now.vertices }
     ensures { IfOk result (λ parts. (t : PlainTree)
         × IsTreeOf (adjacent graph.now) graph.now.vertices t
         × (map plain_part parts.items ≡ parts_of t)) }
 {
-    let mut parts = Vec::new(alloc);
+    let vertices = graph.vertices();
+    let mut parts = Vec::with_capacity(alloc, vertices.count() as usize + 1)?;
     let mut waiting = Vec::new(alloc);
-    let whole = opened(alloc, graph.vertices().copy(), None, Chain::none(alloc))?;
-    waiting.push(whole)?;
+    let whole = Block::of(alloc, vertices)?;
+    waiting.push(opened(alloc, whole, None, Chain::none(alloc))?)?;
     let mut places = Vec::new(alloc);
     while let Some(next) = waiting.pop() {
         take_apart(alloc, graph, next, &mut parts, &mut waiting, &mut places)?;
@@ -94,7 +97,9 @@ fn take_apart(
             parts.push(Part::Leaf(name))?;
             Ok(())
         }
-        Open::Several(mut set) => take_set_apart(alloc, graph, &mut set, parts, waiting, places),
+        Open::Several(set) => {
+            take_set_apart(alloc, graph, Box::into_inner(set), parts, waiting, places)
+        }
     }
 }
 
@@ -102,52 +107,39 @@ fn take_apart(
 fn take_set_apart(
     alloc: Global,
     graph: &Graph,
-    set: &mut OpenSet,
+    set: OpenSet,
     parts: &mut Vec<Part>,
     waiting: &mut Vec<Open>,
     places: &mut Vec<u32>,
 ) -> Result<(), Memory>
-    requires some { HasSome set.old.names }
-    requires inside { Within set.old.names graph.now.vertices }
-    requires below { FitsBelow (adjacent graph.now) set.old.names set.old.parent }
-    requires chain { IsChainOf (adjacent graph.now) set.old.names set.old.chain }
-    ensures { IfOk result (λ _. IsTurn (adjacent graph.now) set.old.names
+    requires some { HasSome set.names }
+    requires inside { Within set.names graph.now.vertices }
+    requires below { FitsBelow (adjacent graph.now) set.names set.parent }
+    requires chain { IsChainOf (adjacent graph.now) set.names set.chain }
+    ensures { IfOk result (λ _. IsTurn (adjacent graph.now) set.names
         (map plain_part parts.old.items) waiting.old.items
         (map plain_part parts.new.items) waiting.new.items) }
 {
-    if let Some(name) = only_member(&set.names) {
+    let OpenSet {
+        names,
+        parent,
+        mut chain,
+    } = set;
+    let names = names.into_box(alloc)?;
+    if let Some(name) = only_member(&names) {
         parts.push(Part::Leaf(name))?;
         return Ok(());
     }
-    let (kind, sets, edges) = children(
-        alloc,
-        graph,
-        &set.names,
-        set.parent,
-        &mut set.chain,
-        places,
-    )?;
+    let (kind, sets, edges) = children(alloc, graph, &names, parent, &mut chain, places)?;
     parts.push(Part::Node(kind, sets.len() as u64, edges))?;
-    push_open(alloc, waiting, kind, sets, &set.chain)
-}
-
-// The member of a set with one member.
-pub(crate) fn only_member(set: &Names) -> Option<u32>
-    ensures one { IfSome result (λ name. set.now ≡ only_name name) }
-    ensures more { IfNone result (HasSome set.now → HasTwo set.now) }
-{
-    let first = set.first_from(0)?;
-    match set.first_from(first + 1) {
-        Some(_) => None,
-        None => Some(first),
-    }
+    push_open(alloc, waiting, kind, sets, &chain)
 }
 
 // A set that is to be taken apart, with its chain.
-fn opened(alloc: Global, names: Names, parent: Option<Kind>, chain: Chain) -> Result<Open, Memory>
+fn opened(alloc: Global, names: Block, parent: Option<Kind>, chain: Chain) -> Result<Open, Memory>
     ensures { IfOk result (IsOpenOf names parent chain) }
 {
-    if let Some(vertex) = only_member(&names) {
+    if let Some(vertex) = names.alone() {
         return Ok(Open::One(vertex));
     }
     let set = OpenSet {
@@ -164,7 +156,7 @@ fn push_open(
     alloc: Global,
     waiting: &mut Vec<Open>,
     kind: Kind,
-    sets: Vec<Names>,
+    sets: Vec<Block>,
     chain: &Chain,
 ) -> Result<(), Memory>
     requires { (k : ℕ) → k < length chain.now.steps.items

@@ -11,7 +11,7 @@ ghost use Rattle.md_decompose.specs.Chains.{IsChainOf, AreSteps};
 use crate::chains::Chain;
 use crate::ordered::in_order;
 use md_graph::{Graph, Memory, Names};
-use md_modules::{back, grow, maximal_modules};
+use md_modules::{Block, back, grow, maximal_modules};
 use std::alloc::Global;
 
 // The maximal proper modules of a prime set of vertices, in ascending order of their least names.
@@ -21,7 +21,7 @@ pub(crate) fn prime_children(
     graph: &Graph,
     set: &Names,
     chain: &mut Chain,
-) -> Result<Vec<Names>, Memory>
+) -> Result<Vec<Block>, Memory>
     requires inside { Within set.now graph.now.vertices }
     requires prime { IsPrime (adjacent graph.now) set.now }
     requires chain { IsChainOf (adjacent graph.now) set.now chain.old }
@@ -37,7 +37,8 @@ pub(crate) fn prime_children(
     let mut rest = Names::none();
     back(graph, set, v, j, &mut rest);
     let classes = maximal_modules(alloc, graph, set, &rest)?;
-    in_order(alloc, set.minus(&rest), &classes)
+    let first = Block::of(alloc, &set.minus(&rest))?;
+    in_order(alloc, first, classes)
 }
 
 // A member of a prime set that no proper module holds with its member `v`. The search begins with
@@ -101,7 +102,8 @@ mod tests {
         assert!(rt; co_connected(g));
         let sets = prime_children(alloc, g, g.vertices(), &mut Chain::none(alloc))?;
         assert_eq!(rt; sets.len(), lists.len());
-        for (set, list) in sets.iter().zip(lists) {
+        for (set, list) in sets.into_iter().zip(lists) {
+            let set = set.into_box(alloc)?;
             assert_eq!(rt; set.count() as usize, list.len());
             for v in *list {
                 assert!(rt; set.has(*v), "member {v}");

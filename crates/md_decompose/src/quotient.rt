@@ -10,6 +10,7 @@ ghost use Rattle.md_decompose.specs.Children.{AreChildren, ListsPairs, set_at};
 ghost use Rattle.md_decompose.specs.Heads.{AreHeads, RisesOn, pair_at, ListsHeadPairs};
 
 use md_graph::{Graph, Memory, NAMES, Names};
+use md_modules::Block;
 use md_tree::{Pair, QuotientEdges};
 use std::alloc::Global;
 
@@ -20,7 +21,7 @@ pub(crate) fn quotient_edges(
     alloc: Global,
     graph: &Graph,
     set: &Names,
-    sets: &[Names],
+    sets: &[Block],
     places: &mut Vec<u32>,
 ) -> Result<QuotientEdges, Memory>
     requires inside { Within set.now graph.now.vertices }
@@ -50,7 +51,7 @@ fn pairs_by_places(
     alloc: Global,
     graph: &Graph,
     set: &Names,
-    sets: &[Names],
+    sets: &[Block],
     places: &mut [u32],
 ) -> Result<QuotientEdges, Memory>
     requires inside { Within set.now graph.now.vertices }
@@ -66,7 +67,7 @@ fn pairs_by_places(
 }
 
 // The least name of each set, and at its place the position of the set.
-fn heads_of(sets: &[Names], places: &mut [u32]) -> Names
+fn heads_of(sets: &[Block], places: &mut [u32]) -> Names
     requires room { (k v : ℕ) → k < length sets.now → Has (set_at sets.now k) v
         → v < length places.old }
     requires some { (k : ℕ) → k < length sets.now → HasSome (set_at sets.now k) }
@@ -76,7 +77,7 @@ fn heads_of(sets: &[Names], places: &mut [u32]) -> Names
 {
     let mut heads = Names::none();
     for (place, set) in sets.iter().enumerate() {
-        let Some(head) = set.first_from(0) else {
+        let Some(head) = set.first() else {
             return heads;
         };
         heads.insert(head);

@@ -1,14 +1,14 @@
 -- Classes that are cut until they are modules.
 use Rattle.std.proofs.Common.{◌≡◌, ℕ, ◌+◌, ◌<◌, ◌≤◌, ◌≢◌, ◌⊎◌, Bool, List, [], ◌∷◌, length, refl, sym, ◌∙◌, ap, ap₂, subst, inl, inr, arith}
 use Rattle.md_graph.proofs.Search.{alike_unless}
-use Rattle.std.specs.FinSet.{contains, union, intersection, difference}
+use Rattle.std.specs.FinSet.{contains, empty, union, intersection, difference}
 use Rattle.md_graph.specs.NameSet.{IsLeastFrom, NoneFrom, told_apart}
 use Rattle.md_graph.specs.PlainGraph.{PlainGraph, IsGraph, adjacent, neighbours}
 use Rattle.md_graph.proofs.GraphLemmas.{adjacent_sym}
-use Rattle.md_graph.specs.Sets.{NameSet, Has, Lacks, Within, Disjoint, HasSome}
+use Rattle.md_graph.specs.Sets.{NameSet, Has, Lacks, Within, Disjoint, HasSome, only_name}
 use Rattle.md_modules.specs.Modules.{IsModule}
 use Rattle.std.proofs.lemmas.Bool.{cases_Bool, true_from_ne_false, false_from_ne_true}
-use Rattle.md_graph.proofs.SetLemmas.{clash, same_name, Has-along, meet_has, of_meet, minus_has, of_minus, minus_lacks, union_left, union_right, of_union, union_lacks, lacks_within, none_lacks}
+use Rattle.md_graph.proofs.SetLemmas.{clash, same_name, of_only, empty_if, Has-along, meet_has, of_meet, minus_has, of_minus, minus_lacks, union_left, union_right, of_union, union_lacks, lacks_within, none_lacks}
 use Rattle.md_modules.proofs.Turns.{ToldApart, told_all}
 use Rattle.md_modules.specs.Classes.{class_at}
 use Rattle.md_modules.specs.Classes.{IsSplitter, HoldsSplitters, IsSideOf, IsPartition, HoldsModules, AreMaximalInside}
@@ -51,6 +51,23 @@ module _ {g : PlainGraph} (graph : IsGraph g) where
   no_splitter c left first alike p tells =
       let same : adjacent g tells.sees.0 p ≡ adjacent g tells.misses.0 p = sym (alike tells.sees.0 tells.sees.1 p tells.inside) ∙ alike tells.misses.0 tells.misses.1 p tells.inside in
       clash (adjacent_sym g tells.sees.0 p ∙ tells.sees.2) (same ∙ adjacent_sym g tells.misses.0 p ∙ tells.misses.2)
+
+-- ---- a name alone, which nothing cuts
+
+module _ (e : ℕ → ℕ → Bool) (s c : NameSet) (v : ℕ) (alone : c ≡ only_name v) where
+  is_it : (x : ℕ) → Has c x → x ≡ v
+  is_it x h = of_only v x (Has-along c (only_name v) alone x h)
+
+  pub alone_uncut : (p : ℕ) → IsSplitter e s c p → ⊥
+  alone_uncut p tells =
+      clash tells.sees.2 (ap (e p) (is_it tells.sees.0 tells.sees.1 ∙ sym (is_it tells.misses.0 tells.misses.1)) ∙ tells.misses.2)
+
+  pub alone_begins : (left : NameSet) → left ≡ empty → HoldsSplitters e s c left
+  alone_begins left none = record {
+    inside = λ x h. clash h (empty_if left none x);
+    outside = λ x h. empty_if left none x;
+    all = λ p tells. absurd (alone_uncut p tells);
+  }
 
 -- ---- the names left, which may cut a class
 

@@ -9,3 +9,5 @@ pub mod PathSearch
 pub mod Seen
 pub mod Searches
 pub mod Classes
+pub mod Few
+pub mod Blocks

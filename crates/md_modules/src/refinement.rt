@@ -1,15 +1,15 @@
 //! The maximal ones among the modules inside a part of a set, by partition refinement.
-ghost use Rattle.std.specs.Prelude.{◌≡◌, ◌<◌, ◌++◌, ◌∷◌, ◌↔◌, ℕ, IfOk, IfSome, IfNone, IsTrue, [], length, slice_set, vec_len};
+ghost use Rattle.std.specs.Prelude.{◌≡◌, ◌<◌, ◌++◌, ◌∷◌, ◌↔◌, ℕ, Bool, IfOk, IfSome, IfNone, IsTrue, [], length, slice_set, vec_len};
 ghost use Rattle.std.specs.FinSet.{empty, union, intersection, difference};
 ghost use Rattle.md_graph.specs.PlainGraph.{adjacent};
 ghost use Rattle.md_graph.specs.Sets.{NameSet, Has, Within, Disjoint, HasSome};
 ghost use Rattle.md_modules.specs.Classes.{class_at};
-ghost use Rattle.md_modules.specs.Classes.{IsSplitter, IsSideOf, AreMaximalInside};
+ghost use Rattle.md_modules.specs.Classes.{IsSplitter, IsSideOf, HoldsSplitters, AreMaximalInside};
 
-use crate::sees;
+use crate::{Block, sees};
 use md_graph::{Graph, Memory, NAMES, Names};
 use std::alloc::Global;
-use std::mem::swap;
+use std::mem::{replace, swap};
 
 // Room for so many classes is taken at once, and a class of so many names is small.
 const FEW: u32 = 64;
@@ -21,7 +21,7 @@ pub fn maximal_modules(
     graph: &Graph,
     set: &Names,
     rest: &Names,
-) -> Result<Vec<Names>, Memory>
+) -> Result<Vec<Block>, Memory>
     requires inside { Within set.now graph.now.vertices }
     requires part { Within rest.now set.now }
     requires some { HasSome rest.now }
@@ -29,7 +29,7 @@ pub fn maximal_modules(
         (λ classes. AreMaximalInside (adjacent graph.now) set.now rest.now classes.items) }
 {
     let mut classes = Vec::with_capacity(alloc, rest.count().min(FEW) as usize)?;
-    classes.push(rest.copy())?;
+    classes.push(Block::of(alloc, rest)?)?;
     let mut left = set.minus(rest);
     let mut at = 0;
     // A large class is seen to be final, or to be cut, at two passes over it for each name left
@@ -38,7 +38,7 @@ pub fn maximal_modules(
     // most two such looks a class. So k classes in a set of m names cost about 4km passes at most.
     while at < classes.len() {
         if let Some(p) = splitter(graph, &classes[at], &mut left) {
-            split(&mut classes, at, graph.row(p), &mut left)?;
+            split(alloc, &mut classes, at, graph.row(p), &mut left)?;
         } else {
             at += 1;
             begin(set, &classes, at, &mut left);
@@ -47,21 +47,31 @@ pub fn maximal_modules(
     Ok(classes)
 }
 
-// Puts into `left` the names of `set` outside the class at a place, if there is one.
-fn begin(set: &Names, classes: &[Names], at: usize, left: &mut Names)
+// Puts into `left` the names of `set` outside the class at a place, if there is one. Nothing cuts a
+// name alone.
+fn begin(set: &Names, classes: &[Block], at: usize, left: &mut Names)
     requires { at < length classes.now → Within (class_at classes.now at) set.now }
-    ensures { at < length classes.now → left.new ≡ difference set.now (class_at classes.now at) }
+    ensures { at < length classes.now → (e : ℕ → ℕ → Bool)
+        → HoldsSplitters e set.now (class_at classes.now at) left.new }
 {
     if at < classes.len() {
         left.clear();
-        left.take_in(set);
-        left.flip(&classes[at]);
+        if let Some(names) = classes[at].spread() {
+            left.take_in(set);
+            left.flip(&names);
+        }
     }
 }
 
 // The class at a place becomes one of its two parts, in `row` and outside it, and the other one is
 // a new class, the last one; `left` takes in its names.
-fn split(classes: &mut Vec<Names>, at: usize, row: &Names, left: &mut Names) -> Result<(), Memory>
+fn split(
+    alloc: Global,
+    classes: &mut Vec<Block>,
+    at: usize,
+    row: &Names,
+    left: &mut Names,
+) -> Result<(), Memory>
     requires { at < vec_len classes.old }
     ensures { IfOk result (λ _. (part : NameSet)
         × IsSideOf part (class_at classes.old.items at) row.now
@@ -71,15 +81,26 @@ fn split(classes: &mut Vec<Names>, at: usize, row: &Names, left: &mut Names) -> 
         × (left.new ≡ union left.old (difference (class_at classes.old.items at) part))) }
 {
     let mut other = Names::none();
-    divide(&mut classes[at], row, &mut other);
+    divide(alloc, &mut classes[at], row, &mut other)?;
     left.take_in(&other);
-    classes.push(other)?;
+    classes.push(Block::of(alloc, &other)?)?;
     Ok(())
 }
 
-// Moves one of the two parts of a class, in `row` and outside it, to the empty set `other`: of a
-// large class the smaller part.
-fn divide(class: &mut Names, row: &Names, other: &mut Names)
+// Moves one of the two parts of a class, in `row` and outside it, to the empty set `other`.
+fn divide(alloc: Global, class: &mut Block, row: &Names, other: &mut Names) -> Result<(), Memory>
+    requires { other.old ≡ empty }
+    ensures { IfOk result (λ _. (part : NameSet) × IsSideOf part class.old row.now
+        × (class.new ≡ intersection class.old part) × (other.new ≡ difference class.old part)) }
+{
+    let mut names = replace(class, Block::one(0)).into_box(alloc)?;
+    move_part(&mut names, row, other);
+    *class = Block::of_box(names);
+    Ok(())
+}
+
+// The same of a set: of a large one the smaller part goes.
+fn move_part(class: &mut Names, row: &Names, other: &mut Names)
     requires { other.old ≡ empty }
     ensures { (part : NameSet) × IsSideOf part class.old row.now
         × (class.new ≡ intersection class.old part) × (other.new ≡ difference class.old part) }
@@ -92,7 +113,7 @@ fn divide(class: &mut Names, row: &Names, other: &mut Names)
 
 // A name of `left` that is adjacent to some of `class` and not to all; none exactly where there is
 // none. Other names may go from `left`.
-fn splitter(graph: &Graph, class: &Names, left: &mut Names) -> Option<u32>
+fn splitter(graph: &Graph, class: &Block, left: &mut Names) -> Option<u32>
     requires some { HasSome class.now }
     requires apart { Disjoint class.now left.old }
     ensures found { IfSome result (IsSplitter (adjacent graph.now) left.new class.now) }
@@ -102,10 +123,16 @@ fn splitter(graph: &Graph, class: &Names, left: &mut Names) -> Option<u32>
     ensures kept { (p : ℕ) → IsSplitter (adjacent graph.now) left.old class.now p → Has left.new p }
     ensures name { IfSome result (λ p. p < NAMES) }
 {
-    if class.count() <= FEW {
-        return splitter_of_few(graph, class, left);
+    if let Some(names) = class.several() {
+        if names.count() > FEW {
+            return splitter_of_many(graph, names, left);
+        }
+        return splitter_of_few(graph, names, left);
     }
-    splitter_of_many(graph, class, left)
+    let Some(names) = class.spread() else {
+        return None;
+    };
+    splitter_of_few(graph, &names, left)
 }
 
 // The same by a look at each member of the class.

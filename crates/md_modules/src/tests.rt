@@ -80,8 +80,13 @@ fn refined(
     assert!(rt; rest.has(x));
     let classes = maximal_modules(alloc, g, g.vertices(), &rest)?;
     assert_eq!(rt; classes.len(), 2);
-    expect(rt, &classes[0], lists[0]);
-    expect(rt, &classes[1], lists[1]);
+    for (class, list) in classes.into_iter().zip(lists) {
+        assert_eq!(rt; class.count() as usize, list.len());
+        assert_eq!(rt; class.alone().is_some(), list.len() == 1);
+        assert_eq!(rt; class.first(), list.first().copied());
+        let names = class.into_box(alloc)?;
+        expect(rt, &names, list);
+    }
     Ok(())
 }
 

@@ -5,9 +5,8 @@ use super::{is_same_set, join};
 use crate::chains::Chain;
 use crate::children::children;
 use crate::decompose;
-use crate::decomposition::only_member;
 use md_graph::{Graph, Memory, NAMES, Names};
-use md_modules::closure_in;
+use md_modules::{Block, closure_in, only_member};
 use md_tree::{Kind, QuotientEdges, text};
 use std::alloc::Global;
 use std::process::Abort;
@@ -179,12 +178,21 @@ fn divide(
     let mut chain = Chain::none(alloc);
     let mut places = Vec::new(alloc);
     let (kind, sets, edges) = children(alloc, graph, &within, None, &mut chain, &mut places)?;
+    let sets = unpacked(alloc, sets)?;
     if matches!(kind, Kind::Prime) {
         expect_same(rt, &sets, &slow_children(rt, alloc, graph, set)?);
     }
     written.push_str(letter(kind))?;
     waiting.push(Piece::Word(behind(alloc, &edges)?))?;
     push_sets(alloc, sets, waiting)
+}
+
+fn unpacked(alloc: Global, blocks: Vec<Block>) -> Result<Vec<Names>, Memory> {
+    let mut sets = Vec::new(alloc);
+    for block in blocks {
+        sets.push(Box::into_inner(block.into_box(alloc)?))?;
+    }
+    Ok(sets)
 }
 
 fn letter(kind: Kind) -> &'static str {

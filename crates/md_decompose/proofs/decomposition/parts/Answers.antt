@@ -8,32 +8,33 @@ use Rattle.md_decompose.proofs.decomposition.parts.Goals as goal
 
 pub loop-next-init : goal.loop-next-init
 loop-next-init c =
-    let whole = c.in_ok-whole.whole in
-    let is = c.in_ok-whole.ensures in
-    opened_begin (graph_adjacency c.vertices.ensures.graph) c.args.graph.now.vertices whole c.push.new.self.items
-    (map plain_part c.new-parts.result.items) c.requires (opened_names c.copy.result None c.none.result whole is ∙ c.copy.ensures ∙ c.vertices.ensures.set)
-    (opened_below c.copy.result None c.none.result whole is) (opened_bare c.copy.result None c.none.result whole c.none.ensures.taken c.none.ensures.steps is)
+    let names = c.in_ok-whole.whole in
+    let whole = c.in_ok-opened.field-0 in
+    let is = c.in_ok-opened.ensures in
+    opened_begin (graph_adjacency c.vertices-vertices.ensures.graph) c.args.graph.now.vertices whole c.push.new.self.items
+    (map plain_part c.in_ok-parts.parts.items) c.requires (opened_names names None c.none.result whole is ∙ c.in_ok-whole.ensures ∙ c.vertices-vertices.ensures.set)
+    (opened_below names None c.none.result whole is) (opened_bare names None c.none.result whole c.none.ensures.taken c.none.ensures.steps is)
     (c.in_ok-push.ensures.items ∙ ap (λ os. os ++ whole ∷ []) c.new-waiting.ensures.items)
-    (ap (map plain_part) c.new-parts.ensures.items)
+    (ap (map plain_part) c.in_ok-parts.ensures.items)
 
 pub take_apart-requires : goal.take_apart-requires
 take_apart-requires c =
     let ready : IsReady (adjacent c.args.graph.now) c.args.graph.now.vertices c.in-Some.next =
-    next_ready (graph_adjacency c.vertices.ensures.graph) c.args.graph.now.vertices (map plain_part c.loop-next.parts.items) c.loop-next.waiting.items c.pop.new.self.items c.in-Some.next c.loop-next.invariant
+    next_ready (graph_adjacency c.vertices-vertices.ensures.graph) c.args.graph.now.vertices (map plain_part c.loop-next.parts.items) c.loop-next.waiting.items c.pop.new.self.items c.in-Some.next c.loop-next.invariant
     c.in-Some.ensures.items in
     record { some = ready.some; inside = ready.inside; below = ready.below; chain = ready.chain }
 
 pub loop-next-smaller : goal.loop-next-smaller
 loop-next-smaller c =
-    turn_falls (graph_adjacency c.vertices.ensures.graph) c.args.graph.now.vertices (map plain_part c.loop-next.parts.items) c.loop-next.waiting.items c.pop.new.self.items
+    turn_falls (graph_adjacency c.vertices-vertices.ensures.graph) c.args.graph.now.vertices (map plain_part c.loop-next.parts.items) c.loop-next.waiting.items c.pop.new.self.items
     c.in-Some.next c.loop-next.invariant c.in-Some.ensures.items _ c.take_apart.new.waiting.items c.in_ok-take_apart.ensures
 
 pub loop-next-preserved : goal.loop-next-preserved
 loop-next-preserved c =
-    opened_more (graph_adjacency c.vertices.ensures.graph) c.args.graph.now.vertices _ c.loop-next.waiting.items c.pop.new.self.items
+    opened_more (graph_adjacency c.vertices-vertices.ensures.graph) c.args.graph.now.vertices _ c.loop-next.waiting.items c.pop.new.self.items
     c.in-Some.next c.loop-next.invariant c.in-Some.ensures.items _ c.take_apart.new.waiting.items c.in_ok-take_apart.ensures
 
 pub returns : goal.returns
 returns c =
-    opened_end (graph_adjacency c.vertices.ensures.graph) c.args.graph.now.vertices (map plain_part c.loop-next.parts.items) c.loop-next.waiting.items c.loop-next.invariant
+    opened_end (graph_adjacency c.vertices-vertices.ensures.graph) c.args.graph.now.vertices (map plain_part c.loop-next.parts.items) c.loop-next.waiting.items c.loop-next.invariant
     (nil_from_length c.loop-next.waiting.items (sym c.loop-next.waiting.ok.0 ∙ c.in_default.ensures.cases.0))

@@ -1,8 +1,10 @@
-use Rattle.std.proofs.Common.{[], refl, sym, ap, append-nil}
+use Rattle.std.proofs.Common.{◌≡◌, [], map, IfOk, refl, sym, ◌∙◌, ap, subst, append-nil}
+use Rattle.md_graph.specs.PlainGraph.{adjacent}
 use Rattle.md_tree.specs.declared.parts.Part.TheVariants.{Leaf}
 use Rattle.md_tree.specs.Parts.{plain_part, name}
 use Rattle.md_tree.proofs.Stacking.{map_one_more}
-use Rattle.md_decompose.specs.Turns.{open_names}
+use Rattle.md_decompose.specs.Turns.{open_names, IsTurn}
+use Rattle.md_decompose.specs.declared.decomposition.OpenSet.{OpenSet}
 use Rattle.md_decompose.proofs.decomposition.take_apart.Goals as goal
 
 pub returns-in_ok-push-in-One : goal.returns-in_ok-push-in-One
@@ -13,3 +15,10 @@ returns-in_ok-push-in-One c = (
   map_one_more plain_part c.push.new.self.items c.args.parts.now.items (Leaf c.in-One.name) c.in_ok-push-in-One.ensures.items,
   sym (append-nil c.args.waiting.now.items),
 )
+
+pub returns-in-Several : goal.returns-in-Several
+returns-in-Several c =
+    let same : c.into_inner.result.names ≡ open_names c.args.next = ap (λ (x : OpenSet). x.names) c.into_inner.ensures ∙ sym (ap open_names c.in-Several.is) in
+    subst
+    (λ s. IfOk c.take_set_apart.result (λ _. IsTurn (adjacent c.args.graph.now) s (map plain_part c.args.parts.now.items) c.args.waiting.now.items
+    (map plain_part c.take_set_apart.new.parts.items) c.take_set_apart.new.waiting.items)) same c.take_set_apart.ensures

@@ -1,4 +1,9 @@
-use Rattle.std.proofs.Common.{[], refl, sym, ◌∙◌, append-nil}
+use Rattle.std.proofs.Common.{◌≡◌, [], refl, sym, ◌∙◌, subst, append-nil}
+use Rattle.md_graph.specs.PlainGraph.{adjacent}
+use Rattle.md_graph.specs.Sets.{HasSome, HasTwo}
+use Rattle.md_tree.specs.StrongTrees.{HasKind}
+use Rattle.md_decompose.specs.Children.{AreChildren}
+use Rattle.md_decompose.specs.Chains.{IsChainOf}
 use Rattle.md_tree.specs.declared.parts.Part.TheVariants.{Leaf, Node}
 use Rattle.md_tree.specs.Parts.{plain_part, name, inner}
 use Rattle.md_decompose.proofs.Opened.{opened_children, chain_known}
@@ -9,7 +14,7 @@ pub returns-in-Some : goal.returns-in-Some
 returns-in-Some c = (
   name c.in-Some.name,
   [],
-  (c.in-Some.ensures.one, refl),
+  (sym c.in_ok-names.ensures ∙ sym c.deref.ensures ∙ c.in-Some.ensures.one, refl),
   map_one_more plain_part c.push.new.self.items c.args.parts.now.items (Leaf c.in-Some.name) c.in_ok-push.ensures.items,
   sym (append-nil c.args.waiting.now.items),
 )
@@ -17,15 +22,21 @@ returns-in-Some c = (
 pub returns : goal.returns
 returns c =
     if_ok c.push_open.result (λ _ grown.
-    let two = c.in_default.ensures.more c.requires.some in
-    let opened = opened_children c.args.set.now.names c.in_ok-kind.kind c.in_ok-kind.sets.items c.children.new.chain grown.0 c.in_ok-kind.ensures.sets two c.in_ok-kind.ensures.chain grown.2 in (
+    let s = c.args.set.names in
+    let e = adjacent c.args.graph.now in
+    let first : c.deref.result.now ≡ s = c.deref.ensures ∙ c.in_ok-names.ensures in
+    let second : c.deref-2.result.now ≡ s = c.deref-2.ensures ∙ c.in_ok-names.ensures in
+    let two : HasTwo s = subst HasTwo first (c.in_default.ensures.more (subst HasSome (sym first) c.requires.some)) in
+    let sets : AreChildren e s c.in_ok-kind.sets.items = subst (λ t. AreChildren e t c.in_ok-kind.sets.items) second c.in_ok-kind.ensures.sets in
+    let chain : IsChainOf e s c.children.new.chain = subst (λ t. IsChainOf e t c.children.new.chain) second c.in_ok-kind.ensures.chain in
+    let opened = opened_children s c.in_ok-kind.kind c.in_ok-kind.sets.items c.children.new.chain grown.0 sets two chain grown.2 in (
       inner c.in_ok-kind.kind c.len.result c.in_ok-kind.edges.list.items,
       grown.0,
       (
         c.in_ok-kind.sets.items,
         record {
-          kind = c.in_ok-kind.ensures.kind;
-          children = c.in_ok-kind.ensures.sets;
+          kind = subst (λ t. HasKind e t c.in_ok-kind.kind) second c.in_ok-kind.ensures.kind;
+          children = sets;
           number = c.len.ensures ∙ c.in_ok-kind.sets.ok.0;
           pairs = c.in_ok-kind.ensures.pairs;
         },
@@ -37,4 +48,6 @@ returns c =
     )) c.push_open.ensures
 
 pub push_open-requires : goal.push_open-requires
-push_open-requires c = chain_known c.args.set.now.names c.children.new.chain c.requires.some c.in_ok-kind.ensures.chain
+push_open-requires c =
+    let same : c.deref-2.result.now ≡ c.args.set.names = c.deref-2.ensures ∙ c.in_ok-names.ensures in
+    chain_known c.args.set.names c.children.new.chain c.requires.some (subst (λ t. IsChainOf (adjacent c.args.graph.now) t c.children.new.chain) same c.in_ok-kind.ensures.chain)

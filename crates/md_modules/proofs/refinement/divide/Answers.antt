@@ -1,20 +1,15 @@
-use Rattle.std.proofs.Common.{◌∙◌, refl, inl, inr}
-use Rattle.md_graph.proofs.SetLemmas.{taken_whole, rest_in, meet_unshared}
-use Rattle.std.specs.FinSet.{difference}
+use Rattle.std.proofs.Common.{◌≡◌, ◌∙◌, ap, subst}
+use Rattle.std.specs.FinSet.{intersection, difference}
+use Rattle.md_graph.specs.Sets.{NameSet}
+use Rattle.md_modules.specs.Classes.{IsSideOf}
 use Rattle.md_modules.proofs.refinement.divide.Goals as goal
 
-pub returns-then-count : goal.returns-then-count
-returns-then-count c = (
-  difference c.args.class.now c.args.row.now,
-  inr refl,
-  c.swap.ensures.x_after ∙ taken_whole _ _ _ c.requires c.move_unshared.ensures.moved ∙ rest_in c.args.class.now c.args.row.now,
-  c.swap.ensures.y_after ∙ c.move_unshared.ensures.rest ∙ meet_unshared c.args.class.now c.args.row.now,
-)
-
-pub returns-else-count-gt-FEW : goal.returns-else-count-gt-FEW
-returns-else-count-gt-FEW c = (
-  c.args.row.now,
-  inl refl,
-  c.move_unshared.ensures.rest,
-  taken_whole _ _ _ c.requires c.move_unshared.ensures.moved,
-)
+pub returns : goal.returns
+returns c =
+    let same : c.deref_mut.result.now ≡ c.args.class.now = c.deref_mut.ensures.value ∙ c.in_ok-names.ensures ∙ c.replace.ensures.value in
+    let part : NameSet = c.move_part.ensures.0 in (
+      part,
+      subst (λ (s : NameSet). IsSideOf part s c.args.row.now) same c.move_part.ensures.1,
+      c.of_box.ensures ∙ c.move_part.ensures.2 ∙ ap (λ (s : NameSet). intersection s part) same,
+      c.move_part.ensures.3 ∙ ap (λ (s : NameSet). difference s part) same,
+    )

@@ -23,10 +23,11 @@ use Rattle.md_modules.proofs.refinement.maximal_modules.Goals as goal
 
 pub loop-at-init : goal.loop-at-init
 loop-at-init c =
-    let pushed : c.push.new.self.items ≡ c.copy.result ∷ [] = search rules in
-    let first : class_at c.push.new.self.items 0 ≡ c.args.rest.now = ap (λ cs. class_at cs 0) pushed ∙ c.copy.ensures in
+    let block = c.in_ok-of.field-0 in
+    let pushed : c.push.new.self.items ≡ block ∷ [] = search rules in
+    let first : class_at c.push.new.self.items 0 ≡ c.args.rest.now = ap (λ cs. class_at cs 0) pushed ∙ c.in_ok-of.ensures in
     record {
-      cutting = cutting_begins c.args.set.now c.args.rest.now c.copy.result c.push.new.self.items c.requires.some c.copy.ensures pushed;
+      cutting = cutting_begins c.args.set.now c.args.rest.now block c.push.new.self.items c.requires.some c.in_ok-of.ensures pushed;
       left = λ _. left_begins c.args.set.now (class_at c.push.new.self.items 0) c.minus-left.result (c.minus-left.ensures ∙ ap (difference c.args.set.now) (sym first));
     }
 
@@ -37,8 +38,8 @@ splitter-requires-clause-some c =
     let class : c.index.result.now ≡ class_at cs c.loop-at.at = get_or_read cs c.loop-at.at _ known c.index.ensures empty in
     subst HasSome (sym class) (c.loop-at.invariant.cutting.holds.partition.are_apart.some c.loop-at.at known)
 
-pub loop-at-smaller-in-Continue-branch-3 : goal.loop-at-smaller-in-Continue-branch-3
-loop-at-smaller-in-Continue-branch-3 c =
+pub loop-at-smaller-in_ok-split : goal.loop-at-smaller-in_ok-split
+loop-at-smaller-in_ok-split c =
     let cs = c.loop-at.classes.items in
     let part : NameSet = c.in_ok-split.ensures.0 in
     let known : c.loop-at.at < length cs = omega (arith, c.loop-at.classes.ok.0) in
@@ -51,8 +52,8 @@ loop-at-smaller-in-Continue-branch-3 c =
     (sees_some c.args.set.now c.row.result.now part cs c.loop-at.at c.in-Some.p rows told.1 c.in_ok-split.ensures.1)
     (misses_some c.args.set.now c.row.result.now part cs c.loop-at.at c.in-Some.p rows told.1 c.in_ok-split.ensures.1) c.in_ok-split.ensures.2
 
-pub loop-at-preserved-in-Continue-branch-3 : goal.loop-at-preserved-in-Continue-branch-3
-loop-at-preserved-in-Continue-branch-3 c =
+pub loop-at-preserved-in_ok-split : goal.loop-at-preserved-in_ok-split
+loop-at-preserved-in_ok-split c =
     let cs = c.loop-at.classes.items in
     let e = adjacent c.args.graph.now in
     let part : NameSet = c.in_ok-split.ensures.0 in
@@ -90,8 +91,9 @@ loop-at-preserved c =
       cutting = cutting_passes c.args.set.now c.args.rest.now cs c.loop-at.at c.loop-at.invariant.cutting
           (module_unless_cut c.args.set.now (class_at cs c.loop-at.at) c.index.result.now c.loop-at.left class (c.loop-at.invariant.left known) (partition.are_apart.some c.loop-at.at known)
           (λ x h. c.requires.part x (partition.inside c.loop-at.at x h)) c.in_default.ensures.none);
-      left = λ more. left_begins c.args.set.now (class_at cs (c.loop-at.at + 1)) c.begin.new.left
-          (subst (λ (ds : List NameSet). c.loop-at.at + 1 < length ds → c.begin.new.left ≡ difference c.args.set.now (class_at ds (c.loop-at.at + 1))) c.deref.ensures.value c.begin.ensures more);
+      left = λ more.
+          subst (λ (ds : List NameSet). c.loop-at.at + 1 < length ds → HoldsSplitters e c.args.set.now (class_at ds (c.loop-at.at + 1)) c.begin.new.left) c.deref.ensures.value
+          (λ known. c.begin.ensures known e) more;
     }
 
 pub returns : goal.returns
