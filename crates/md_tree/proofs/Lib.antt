@@ -15,3 +15,10 @@ pub mod Denoted
 pub mod Folding
 pub mod Stacking
 pub mod Opened
+pub mod Residuals
+pub mod Leaving
+pub mod Places
+pub mod Holding
+pub mod Coming
+pub mod Numerals
+pub mod ReadBack

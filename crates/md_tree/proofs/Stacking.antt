@@ -1,6 +1,6 @@
 -- One part put on the program's stack of trees.
 use Rattle.std.proofs.Common.{◌≡◌, ℕ, ◌-◌, List, [], ◌∷◌, ◌++◌, length, take, drop, map, Vec, Global, Result, Ok, Err, IfOk, refl, sym, ◌∙◌, ap}
-use Rattle.std.proofs.lemmas.List.{map-append, take-map, drop-map, length-map}
+use Rattle.std.proofs.lemmas.List.{map-append, take-map, drop-map, take_rest, length-map}
 use Rattle.md_tree.specs.declared.Kind.{Kind}
 use Rattle.md_tree.specs.declared.QuotientEdges.{QuotientEdges}
 use Rattle.md_tree.specs.declared.Children.{roll-Children}
@@ -21,17 +21,30 @@ leaf_put v xs ys part is e =
     map_one_more plain ys xs (Leaf v) e ∙ ap (λ t. map plain xs ++ t ∷ []) (plain_is_leaf (Leaf v) v refl)
     ∙ sym (ap (λ p. with_part (plain_part p) (map plain xs)) is)
 
-pub node_put : (k : Kind) (n below : ℕ) (es : QuotientEdges) (list : Vec Tree Global) (xs front ys : List Tree) (part : Part) → part ≡ NodePart k n es →
-    below ≡ length xs - n → front ≡ take below xs → list.items ≡ drop below xs → ys ≡ front ++ Node k (roll-Children (record { list = list })) es ∷ [] →
-    map plain ys ≡ with_part (plain_part part) (map plain xs)
-node_put k n below es list xs front ys part is at kept taken e =
+-- a node over the trees from a place on, in their place
+pub node_closed : (k : Kind) (below : ℕ) (es : QuotientEdges) (list : Vec Tree Global) (xs front ys : List Tree) → front ≡ take below xs → list.items ≡ drop below xs →
+    ys ≡ front ++ Node k (roll-Children (record { list = list })) es ∷ [] → map plain ys ≡ take below (map plain xs) ++ node k (row (drop below (map plain xs))) es.list.items ∷ []
+node_closed k below es list xs front ys kept taken e =
     map_one_more plain ys front (Node k (roll-Children (record { list = list })) es) e
     ∙ ap (λ t. map plain front ++ t ∷ []) (plain-node k (roll-Children (record { list = list })) es)
     ∙ ap (λ zs. zs ++ node k (row (map plain list.items)) es.list.items ∷ []) (ap (map plain) kept ∙ sym (take-map plain below xs))
     ∙ ap (λ zs. take below (map plain xs) ++ node k (row zs) es.list.items ∷ []) (ap (map plain) taken ∙ sym (drop-map plain below xs))
+
+pub node_put : (k : Kind) (n below : ℕ) (es : QuotientEdges) (list : Vec Tree Global) (xs front ys : List Tree) (part : Part) → part ≡ NodePart k n es →
+    below ≡ length xs - n → front ≡ take below xs → list.items ≡ drop below xs → ys ≡ front ++ Node k (roll-Children (record { list = list })) es ∷ [] →
+    map plain ys ≡ with_part (plain_part part) (map plain xs)
+node_put k n below es list xs front ys part is at kept taken e =
+    node_closed k below es list xs front ys kept taken e
     ∙ ap (λ i. take i (map plain xs) ++ node k (row (drop i (map plain xs))) es.list.items ∷ []) (at ∙ sym (ap (λ l. l - n) (length-map xs plain)))
     ∙ sym (ap (λ p. with_part (plain_part p) (map plain xs)) is)
 
 pub if_ok : {A E : Type 0} {P Q : A → Type 0} (r : Result A E) → ((x : A) → P x → Q x) → IfOk r P → IfOk r Q
 if_ok (Ok x) f h = f x h
 if_ok (Err e) f h = h
+
+-- the plain trees of those from a place on
+pub plain_from : (ds xs : List Tree) (first : ℕ) → ds ≡ xs → map plain (take (length ds - first) (drop first ds)) ≡ drop first (map plain xs)
+plain_from ds xs first e = ap (map plain) (take_rest ds first ∙ ap (drop first) e) ∙ sym (drop-map plain first xs)
+
+pub numbers_from : (ds xs : List ℕ) (first : ℕ) → ds ≡ xs → take (length ds - first) (drop first ds) ≡ drop first xs
+numbers_from ds xs first e = take_rest ds first ∙ ap (drop first) e

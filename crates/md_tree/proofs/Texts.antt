@@ -9,17 +9,10 @@ use Rattle.md_tree.specs.declared.Pair.{Pair}
 use Rattle.md_tree.specs.Trees.{PlainTree, leaf, node, PlainTrees, no_tree, one_more}
 use Rattle.md_tree.specs.TreeTexts.{letter, pairs_text, tree_text, row_text}
 use Rattle.md_tree.specs.Laws.{OneTreeOneText}
-
-abbrev IsDigit : ℕ → Type 0
-IsDigit b = (48 ≤ b) × (b ≤ 57)
-
--- the text is empty or begins with a byte that is no digit
-abbrev pub Stops : List ℕ → Type 0
-Stops [] = ⊤
-Stops (b ∷ r) = ¬ (IsDigit b)
+use Rattle.md_tree.specs.Residual.{IsDigit, Stops}
 
 -- the text begins with the byte that ends a row of trees
-abbrev Ends : List ℕ → Type 0
+abbrev pub Ends : List ℕ → Type 0
 Ends [] = ⊥
 Ends (b ∷ r) = (b ≡ 41) ⊎ (b ≡ 59)
 
@@ -58,7 +51,7 @@ same_digits (x ∷ xs) (y ∷ ys) r s a b p q e =
     let j : xs ≡ ys = i.0 in
     (cc, i.1)
 
-same_number : (m n : ℕ) (r s : List ℕ) → Stops r → Stops s → decimal m ++ r ≡ decimal n ++ s → (m ≡ n) × (r ≡ s)
+pub same_number : (m n : ℕ) (r s : List ℕ) → Stops r → Stops s → decimal m ++ r ≡ decimal n ++ s → (m ≡ n) × (r ≡ s)
 same_number m n r s p q e =
     let i : (decimal m ≡ decimal n) × (r ≡ s) = same_digits (decimal m) (decimal n) r s (digits_of m) (digits_of n) p q e in
     (decimal_injective m n i.0, i.1)
@@ -71,10 +64,10 @@ first_digit (x ∷ xs) r b s some a e =
     let g : x ≡ b = cc in
     subst IsDigit g a.0
 
-number_first : (n : ℕ) (r : List ℕ) (b : ℕ) (s : List ℕ) → decimal n ++ r ≡ b ∷ s → IsDigit b
+pub number_first : (n : ℕ) (r : List ℕ) (b : ℕ) (s : List ℕ) → decimal n ++ r ≡ b ∷ s → IsDigit b
 number_first n r b s e = first_digit (decimal n) r b s (decimal_is_canonical n).0.some_digit (digits_of n) e
 
-same_letter : (k l : Kind) → letter k ≡ letter l → k ≡ l
+pub same_letter : (k l : Kind) → letter k ≡ letter l → k ≡ l
 same_letter Parallel Parallel e = refl
 same_letter Parallel Series e = let f : ◌≡◌ {A = ℕ} 80 83 = e in absurd (omega arith)
 same_letter Parallel Prime e = let f : ◌≡◌ {A = ℕ} 80 82 = e in absurd (omega arith)
@@ -85,32 +78,32 @@ same_letter Prime Parallel e = let f : ◌≡◌ {A = ℕ} 82 80 = e in absurd (
 same_letter Prime Series e = let f : ◌≡◌ {A = ℕ} 82 83 = e in absurd (omega arith)
 same_letter Prime Prime e = refl
 
-letter_large : (k : Kind) → 80 ≤ letter k
+pub letter_large : (k : Kind) → 80 ≤ letter k
 letter_large Parallel = omega arith
 letter_large Series = omega arith
 letter_large Prime = omega arith
 
-letter_below : (k : Kind) → letter k < 90
+pub letter_below : (k : Kind) → letter k < 90
 letter_below Parallel = omega arith
 letter_below Series = omega arith
 letter_below Prime = omega arith
 
-stops_at : (b : ℕ) (r : List ℕ) → (b < 48) ⊎ (57 < b) → Stops (b ∷ r)
+pub stops_at : (b : ℕ) (r : List ℕ) → (b < 48) ⊎ (57 < b) → Stops (b ∷ r)
 stops_at b r (inl l) d = let p : 48 ≤ b = d.0 in omega arith
 stops_at b r (inr l) d = let p : b ≤ 57 = d.1 in omega arith
 
 -- pairs before a closing bracket
-pairs_stop : (ps : List Pair) (r : List ℕ) → Stops (pairs_text 44 ps ++ 41 ∷ r)
+pub pairs_stop : (ps : List Pair) (r : List ℕ) → Stops (pairs_text 44 ps ++ 41 ∷ r)
 pairs_stop [] r = stops_at 41 r (inl (omega arith))
 pairs_stop (p ∷ ps) r = stops_at 44 ((decimal p.low ++ 45 ∷ (decimal p.high ++ pairs_text 44 ps)) ++ 41 ∷ r) (inl (omega arith))
 
-pair_spelled : (mark : ℕ) (p : Pair) (ps : List Pair) (r : List ℕ) →
+pub pair_spelled : (mark : ℕ) (p : Pair) (ps : List Pair) (r : List ℕ) →
     pairs_text mark (p ∷ ps) ++ r ≡ mark ∷ (decimal p.low ++ 45 ∷ (decimal p.high ++ (pairs_text 44 ps ++ r)))
 pair_spelled mark p ps r =
     ap (λ w. mark ∷ w) (append_assoc (decimal p.low) (45 ∷ (decimal p.high ++ pairs_text 44 ps)) r
     ∙ ap (λ w. decimal p.low ++ 45 ∷ w) (append_assoc (decimal p.high) (pairs_text 44 ps) r))
 
-same_pairs : (mark : ℕ) (ps qs : List Pair) (r s : List ℕ) → mark ≢ 41 → pairs_text mark ps ++ 41 ∷ r ≡ pairs_text mark qs ++ 41 ∷ s → (ps ≡ qs) × (r ≡ s)
+pub same_pairs : (mark : ℕ) (ps qs : List Pair) (r s : List ℕ) → mark ≢ 41 → pairs_text mark ps ++ 41 ∷ r ≡ pairs_text mark qs ++ 41 ∷ s → (ps ≡ qs) × (r ≡ s)
 same_pairs mark [] [] r s n e = let f : 41 ∷ r ≡ 41 ∷ s = e in (refl, cc)
 same_pairs mark [] (q ∷ qs) r s n e =
     let f : 41 ∷ r ≡ mark ∷ (decimal q.low ++ 45 ∷ (decimal q.high ++ (pairs_text 44 qs ++ 41 ∷ s))) = e ∙ pair_spelled mark q qs (41 ∷ s) in
@@ -137,7 +130,7 @@ same_pairs mark (p ∷ ps) (q ∷ qs) r s n e =
     (cc, others.1)
 
 -- trees before a semicolon or a closing bracket
-row_stops : (ts : PlainTrees) (r : List ℕ) → Ends r → Stops (row_text 44 ts ++ r)
+pub row_stops : (ts : PlainTrees) (r : List ℕ) → Ends r → Stops (row_text 44 ts ++ r)
 row_stops no_tree [] ends = absurd ends
 row_stops no_tree (b ∷ r) (inl e) = stops_at b r (inl (omega arith))
 row_stops no_tree (b ∷ r) (inr e) = stops_at b r (inr (omega arith))
@@ -152,20 +145,20 @@ mark_is_no_end mark (b ∷ r) xs m ends e =
       | inr p ↦ elim ends [ inl q ↦ omega arith | inr q ↦ omega arith ]
     ]
 
-pairs_end : (ps : List Pair) (r : List ℕ) → Ends (pairs_text 59 ps ++ 41 ∷ r)
+pub pairs_end : (ps : List Pair) (r : List ℕ) → Ends (pairs_text 59 ps ++ 41 ∷ r)
 pairs_end [] r = inl refl
 pairs_end (p ∷ ps) r = inr refl
 
-node_spelled : (k : Kind) (cs : PlainTrees) (ps : List Pair) (r : List ℕ) →
+pub node_spelled : (k : Kind) (cs : PlainTrees) (ps : List Pair) (r : List ℕ) →
     tree_text (node k cs ps) ++ r ≡ letter k ∷ (row_text 40 cs ++ (pairs_text 59 ps ++ 41 ∷ r))
 node_spelled k cs ps r =
     ap (λ w. letter k ∷ w) (append_assoc (row_text 40 cs) (pairs_text 59 ps ++ 41 ∷ []) r
     ∙ ap (λ w. row_text 40 cs ++ w) (append_assoc (pairs_text 59 ps) (41 ∷ []) r))
 
-row_spelled : (mark : ℕ) (t : PlainTree) (ts : PlainTrees) (r : List ℕ) → row_text mark (one_more t ts) ++ r ≡ mark ∷ (tree_text t ++ (row_text 44 ts ++ r))
+pub row_spelled : (mark : ℕ) (t : PlainTree) (ts : PlainTrees) (r : List ℕ) → row_text mark (one_more t ts) ++ r ≡ mark ∷ (tree_text t ++ (row_text 44 ts ++ r))
 row_spelled mark t ts r = ap (λ w. mark ∷ w) (append_assoc (tree_text t) (row_text 44 ts) r)
 
-leaf_is_no_node : (v : ℕ) (k : Kind) (r xs : List ℕ) → decimal v ++ r ≡ letter k ∷ xs → ⊥
+pub leaf_is_no_node : (v : ℕ) (k : Kind) (r xs : List ℕ) → decimal v ++ r ≡ letter k ∷ xs → ⊥
 leaf_is_no_node v k r xs e =
     let d : IsDigit (letter k) = number_first v r (letter k) xs e in
     let a : letter k ≤ 57 = d.1 in
@@ -190,7 +183,7 @@ mutual
       let b : ps ≡ qs = lists.0 in
       (cc, lists.1)
 
-  same_row : (mark : ℕ) (ts us : PlainTrees) (r s : List ℕ) → (mark ≡ 40) ⊎ (mark ≡ 44) → Ends r → Ends s → row_text mark ts ++ r ≡ row_text mark us ++ s → (ts ≡ us) × (r ≡ s)
+  pub same_row : (mark : ℕ) (ts us : PlainTrees) (r s : List ℕ) → (mark ≡ 40) ⊎ (mark ≡ 44) → Ends r → Ends s → row_text mark ts ++ r ≡ row_text mark us ++ s → (ts ≡ us) × (r ≡ s)
   same_row mark no_tree no_tree r s m p q e = (refl, e)
   same_row mark no_tree (one_more u us) r s m p q e =
       absurd (mark_is_no_end mark r (tree_text u ++ (row_text 44 us ++ s)) m p (e ∙ row_spelled mark u us s))
@@ -207,7 +200,7 @@ mutual
       (cc, others.1)
 
 -- the word `empty` is no tree's text
-not_empty : (t : PlainTree) → tree_text t ≡ codes "empty" → ⊥
+pub not_empty : (t : PlainTree) → tree_text t ≡ codes "empty" → ⊥
 not_empty (leaf v) e =
     let d : IsDigit 101 = number_first v [] 101 (codes "mpty") (append-nil (decimal v) ∙ e) in
     let b : 101 ≤ 57 = d.1 in

@@ -1,5 +1,5 @@
 -- The laws of trees.
-use Rattle.std.specs.Prelude.{◌≡◌, ◌↔◌, ℕ, Bool, Option}
+use Rattle.std.specs.Prelude.{◌≡◌, ◌↔◌, ◌⊎◌, ℕ, Bool, Option, Result, Ok, Err}
 use Rattle.md_graph.specs.declared.TheConstants.{NAMES}
 use Rattle.md_graph.specs.NameSet.{AllBelow}
 use Rattle.md_graph.specs.PlainGraph.{PlainGraph, IsGraph, adjacent}
@@ -11,6 +11,11 @@ use Rattle.md_tree.specs.StrongTrees.{IsTreeOf, IsTree}
 use Rattle.md_tree.specs.WellFormed.{IsCanonical, IsWellFormed, HasNoPrimeNode}
 use Rattle.md_tree.specs.TreeGraph.{adjacent_in, graph_of_tree}
 use Rattle.md_tree.specs.TreeTexts.{text_of}
+use Rattle.md_tree.specs.declared.Tree.{Tree}
+use Rattle.md_tree.specs.declared.reader.TreeFault.{TreeFault}
+use Rattle.md_tree.specs.declared.reader.TreeFault.TheVariants.{Memory}
+use Rattle.md_tree.specs.Plain.{plain_option}
+use Rattle.md_tree.specs.Reading.{IsTreeReading}
 
 -- each graph has exactly one tree, none where it has no vertex
 abbrev pub OneTree : Type 0
@@ -47,3 +52,12 @@ NoInducedPathIfNoPrimeNode =
 -- different trees have different texts
 abbrev pub OneTreeOneText : Type 0
 OneTreeOneText = (o p : Option PlainTree) → text_of o ≡ text_of p → o ≡ p
+
+-- the answer is the tree, or out of memory
+abbrev pub IsReadAs : Option PlainTree → Result (Option Tree) TreeFault → Type 0
+IsReadAs o answer = ((r : Option Tree) × (answer ≡ Ok r) × (plain_option r ≡ o)) ⊎ (answer ≡ Err Memory)
+
+-- the text of each well-formed tree is read as that tree
+abbrev pub WrittenTreesAreRead : Type 0
+WrittenTreesAreRead =
+    (o : Option PlainTree) → IsWellFormed o → (answer : Result (Option Tree) TreeFault) → IsTreeReading (text_of o) answer → IsReadAs o answer

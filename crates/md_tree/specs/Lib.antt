@@ -11,3 +11,8 @@ pub mod Parts
 pub mod Stacks
 pub mod Fronts
 pub mod OpenNodes
+pub mod Grammar
+pub mod Reading
+pub mod Residual
+pub mod Languages
+pub mod Held

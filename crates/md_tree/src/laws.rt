@@ -1,7 +1,7 @@
 //! The laws of trees, each the contract of a function that does nothing. They speak of any set of
 //! names with a test of adjacency, and stand on no call that computes a tree.
 
-ghost use Rattle.md_tree.specs.Laws.{OneTree, TreeIsCanonical, TreeIsWellFormed, TreeTellsGraph, GraphOfTheTree, NoInducedPathIfNoPrimeNode, OneTreeOneText};
+ghost use Rattle.md_tree.specs.Laws.{OneTree, TreeIsCanonical, TreeIsWellFormed, TreeTellsGraph, GraphOfTheTree, NoInducedPathIfNoPrimeNode, OneTreeOneText, WrittenTreesAreRead};
 
 /// Each graph has exactly one tree of strong modules; the graph without vertices has none in its
 /// place.
@@ -38,4 +38,9 @@ pub fn no_induced_path_if_no_prime_node()
 /// Different trees have different texts, and no tree has the text of a graph without vertices.
 pub fn one_tree_one_text()
     ensures { OneTreeOneText }
+{}
+
+/// The text of a well-formed tree is read as that tree, if memory suffices.
+pub fn written_trees_are_read()
+    ensures { WrittenTreesAreRead }
 {}

@@ -5,15 +5,21 @@
 ghost use Rattle.std.specs.Prelude.{◌≡◌, ◌<◌, length, vec_len, slice_index_or};
 ghost use Rattle.md_tree.specs.Plain.{trees_of};
 
+mod builder;
 mod cotree;
+mod grammar;
 pub mod laws;
+mod numbers;
+mod pair_reader;
 mod pair_writer;
 mod parts;
+mod reader;
 mod tree_graph;
 mod writer;
 
 pub use cotree::is_cotree;
 pub use parts::{Part, build};
+pub use reader::{TreeFault, read_tree};
 pub use tree_graph::graph_of;
 pub use writer::{push_text, text};
 
@@ -90,5 +96,7 @@ impl QuotientEdges {
     }
 }
 
+#[cfg(test)]
+mod reader_tests;
 #[cfg(test)]
 mod tests;

@@ -1,0 +1,253 @@
+-- Numbers and pairs read from their digits.
+use Rattle.std.proofs.Common.{◌≡◌, ◌≢◌, ℕ, zero, suc, ◌+◌, ◌-◌, ◌*◌, ◌/◌, ◌%◌, ◌^◌, ◌<◌, ◌≤◌, Bool, true, false, List, [], ◌∷◌, ◌++◌, length, get_or, append_assoc, length-append, refl, sym, ◌∙◌, ap, subst, inl, inr, arith}
+use Rattle.std.proofs.lemmas.Bool.{cases_lt}
+use Rattle.std.proofs.lemmas.Grind.{pow_more}
+use Rattle.std.proofs.Math.Nat.{pow-le-pow_right}
+use Rattle.md_graph.specs.declared.TheConstants.{NAMES}
+use Rattle.md_graph.proofs.Limits.{NAMES-lt}
+use Rattle.md_text.specs.Numbers.{decimal}
+use Rattle.md_text.proofs.NumberLemmas.{decimal_digit, decimal_step, decimal_is_canonical}
+use Rattle.md_text.proofs.Lists.{In, to_contains, to_pairs, Later}
+use Rattle.md_tree.specs.declared.Kind.TheVariants.{Prime}
+use Rattle.md_tree.specs.declared.Pair.{Pair}
+use Rattle.md_tree.specs.TreeTexts.{pairs_text}
+use Rattle.md_tree.specs.StrongTrees.{IsPairBefore}
+use Rattle.md_tree.specs.Residual.{IsDigit, Stops}
+use Rattle.md_tree.specs.Languages.{LacksFirst}
+use Rattle.md_tree.specs.Held.{MayList, AreSmall, mark_of, pair_before, ArePairsRead, LacksNumber, LacksPair, IsNumberSplit, LacksPairs, LacksEnd, AreListed}
+use Rattle.md_tree.proofs.Texts.{same_number, stops_at, pairs_stop, pair_spelled, same_pairs}
+use Rattle.md_tree.proofs.Leaving.{number_no_stop, zero_alone}
+
+-- one digit more
+pub digit_more : (text rest tail : List ℕ) (v d : ℕ) → 0 < v → d < 10 → text ≡ decimal v ++ rest → rest ≡ (48 + d) ∷ tail → text ≡ decimal (v * 10 + d) ++ tail
+digit_more text rest tail v d above small e f =
+    let front : (v * 10 + d) / 10 ≡ v = omega arith in
+    let last : (v * 10 + d) % 10 ≡ d = omega arith in
+    e ∙ ap (λ w. decimal v ++ w) f ∙ sym (append_assoc (decimal v) ((48 + d) ∷ []) tail)
+    ∙ ap (λ w. w ++ tail) (ap (λ n. decimal n ++ (48 + d) ∷ []) (sym front) ∙ ap (λ n. decimal ((v * 10 + d) / 10) ++ (48 + n) ∷ []) (sym last) ∙ sym (decimal_step (v * 10 + d) (omega arith)))
+
+pub digit_first : (text tail : List ℕ) (d : ℕ) → d < 10 → text ≡ (48 + d) ∷ tail → text ≡ decimal d ++ tail
+digit_first text tail d small e = e ∙ ap (λ w. w ++ tail) (sym (decimal_digit d small))
+
+-- a number whose first digits are those of v is at least v
+digits_grow : (text rest : List ℕ) (v n : ℕ) (tail : List ℕ) → 0 < v → text ≡ decimal v ++ rest → Stops tail → text ≡ decimal n ++ tail → v ≤ n
+digits_grow text [] v n tail above e s f = let same : (v ≡ n) × ([] ≡ tail) = same_number v n [] tail tt s (sym e ∙ f) in omega (arith, same.0)
+digits_grow text (b ∷ rest) v n tail above e s f = elim (cases_lt b 48) [
+  | inl low ↦ (let same : (v ≡ n) × (b ∷ rest ≡ tail) = same_number v n (b ∷ rest) tail (stops_at b rest (inl low)) s (sym e ∙ f) in omega (arith, same.0))
+  | inr from ↦ elim (cases_lt 57 b) [
+    | inl high ↦ (let same : (v ≡ n) × (b ∷ rest ≡ tail) = same_number v n (b ∷ rest) tail (stops_at b rest (inr high)) s (sym e ∙ f) in omega (arith, same.0))
+    | inr to ↦ (
+        let is : b ≡ 48 + (b - 48) = omega arith in
+        let g : v * 10 + (b - 48) ≤ n = digits_grow text rest (v * 10 + (b - 48)) n tail (omega arith) (digit_more text (b ∷ rest) rest v (b - 48) above (omega arith) e (ap (λ w. w ∷ rest) is)) s f in
+        omega arith)
+  ]
+]
+
+pub too_long : (text rest tail : List ℕ) (v d : ℕ) → 10000 ≤ v → d < 10 → text ≡ decimal v ++ rest → rest ≡ (48 + d) ∷ tail → LacksNumber text
+too_long text rest tail v d large small e f n behind below s g =
+    let grown : v * 10 + d ≤ n = digits_grow text tail (v * 10 + d) n behind (omega arith) (digit_more text rest tail v d (omega arith) small e f) s g in
+    let limit : NAMES < 2 ^ 16 = NAMES-lt in
+    omega arith
+
+pub no_digit_lacks : (text : List ℕ) → Stops text → LacksNumber text
+no_digit_lacks text s n tail below t e = number_no_stop n tail text e s
+
+pub zero_lacks : (text behind tail : List ℕ) (d : ℕ) → d < 10 → text ≡ 48 ∷ behind → behind ≡ (48 + d) ∷ tail → LacksNumber text
+zero_lacks text behind tail d small e f n t below s g =
+    let stop : Stops behind = zero_alone n t behind s (sym g ∙ e) in
+    let no : ¬ (IsDigit (48 + d)) = subst Stops f stop in
+    no (omega arith, omega arith)
+
+-- pairs
+hyphen_stops : (x : List ℕ) → Stops (45 ∷ x)
+hyphen_stops x = stops_at 45 x (inl (omega arith))
+
+mark_stops : (more : Bool) (x : List ℕ) → Stops (mark_of more ∷ x)
+mark_stops true x = stops_at 44 x (inl (omega arith))
+mark_stops false x = stops_at 41 x (inl (omega arith))
+
+behind_low : (text hyphen : List ℕ) (low : ℕ) → IsNumberSplit text low hyphen → (p : Pair) (more : Bool) (tail : List ℕ) → text ≡ pair_before p more tail →
+    (low ≡ p.low) × (hyphen ≡ 45 ∷ (decimal p.high ++ mark_of more ∷ tail))
+behind_low text hyphen low n p more tail e =
+    same_number low p.low hyphen (45 ∷ (decimal p.high ++ mark_of more ∷ tail)) n.1 (hyphen_stops (decimal p.high ++ mark_of more ∷ tail)) (sym n.0 ∙ e)
+
+pub lacks_hyphen : (text hyphen : List ℕ) (low : ℕ) → IsNumberSplit text low hyphen → LacksFirst 45 hyphen → LacksPair text
+lacks_hyphen text hyphen low n lacks p more tail small e = lacks (decimal p.high ++ mark_of more ∷ tail) (behind_low text hyphen low n p more tail e).1
+
+behind_hyphen : (text hyphen second : List ℕ) (low : ℕ) → IsNumberSplit text low hyphen → hyphen ≡ 45 ∷ second → (p : Pair) (more : Bool) (tail : List ℕ) → text ≡ pair_before p more tail →
+    second ≡ decimal p.high ++ mark_of more ∷ tail
+behind_hyphen text hyphen second low n h p more tail e =
+    let f : 45 ∷ second ≡ 45 ∷ (decimal p.high ++ mark_of more ∷ tail) = sym h ∙ (behind_low text hyphen low n p more tail e).1 in
+    cc
+
+pub lacks_high : (text hyphen second : List ℕ) (low : ℕ) → IsNumberSplit text low hyphen → hyphen ≡ 45 ∷ second → LacksNumber second → LacksPair text
+lacks_high text hyphen second low n h lacks p more tail small e =
+    lacks p.high (mark_of more ∷ tail) small.1 (mark_stops more tail) (behind_hyphen text hyphen second low n h p more tail e)
+
+pub lacks_mark : (text hyphen second mark : List ℕ) (low high : ℕ) → IsNumberSplit text low hyphen → hyphen ≡ 45 ∷ second → IsNumberSplit second high mark →
+    LacksFirst 44 mark → LacksFirst 41 mark → LacksPair text
+lacks_mark text hyphen second mark low high n h m comma bracket p true tail small e =
+    comma tail (same_number high p.high mark (44 ∷ tail) m.1 (mark_stops true tail) (sym m.0 ∙ behind_hyphen text hyphen second low n h p true tail e)).1
+lacks_mark text hyphen second mark low high n h m comma bracket p false tail small e =
+    bracket tail (same_number high p.high mark (41 ∷ tail) m.1 (mark_stops false tail) (sym m.0 ∙ behind_hyphen text hyphen second low n h p false tail e)).1
+
+-- pairs in a row
+pub pairs_start : (text : List ℕ) → ArePairsRead text text []
+pairs_start text = record { forth = λ others r e. e; back = λ ps r small e. (ps, small, e) }
+
+pair_put : (mark : ℕ) (p : Pair) (others : List Pair) (rest r : List ℕ) → rest ≡ decimal p.low ++ 45 ∷ (decimal p.high ++ (pairs_text 44 others ++ 41 ∷ r)) → mark ∷ rest ≡ pairs_text mark (p ∷ others) ++ 41 ∷ r
+pair_put mark p others rest r e = ap (λ w. mark ∷ w) e ∙ sym (pair_spelled mark p others (41 ∷ r))
+
+comma_for : (mark : ℕ) (others : List Pair) (tail r : List ℕ) → 59 ∷ tail ≡ pairs_text 59 others ++ 41 ∷ r → 44 ∷ tail ≡ pairs_text 44 others ++ 41 ∷ r
+comma_for mark [] tail r e = let f : 59 ∷ tail ≡ 41 ∷ r = e in let g : ◌≡◌ {A = ℕ} 59 41 = cc in absurd (omega arith)
+comma_for mark (p ∷ others) tail r e =
+    let f : 59 ∷ tail ≡ 59 ∷ ((decimal p.low ++ 45 ∷ (decimal p.high ++ pairs_text 44 others)) ++ 41 ∷ r) = e in
+    let g : tail ≡ (decimal p.low ++ 45 ∷ (decimal p.high ++ pairs_text 44 others)) ++ 41 ∷ r = cc in
+    ap (λ w. 44 ∷ w) g
+
+semicolon_for : (others : List Pair) (tail r : List ℕ) → 44 ∷ tail ≡ pairs_text 44 others ++ 41 ∷ r → 59 ∷ tail ≡ pairs_text 59 others ++ 41 ∷ r
+semicolon_for [] tail r e = let f : 44 ∷ tail ≡ 41 ∷ r = e in let g : ◌≡◌ {A = ℕ} 44 41 = cc in absurd (omega arith)
+semicolon_for (p ∷ others) tail r e =
+    let f : 44 ∷ tail ≡ 44 ∷ ((decimal p.low ++ 45 ∷ (decimal p.high ++ pairs_text 44 others)) ++ 41 ∷ r) = e in
+    let g : tail ≡ (decimal p.low ++ 45 ∷ (decimal p.high ++ pairs_text 44 others)) ++ 41 ∷ r = cc in
+    ap (λ w. 59 ∷ w) g
+
+-- the first of the pairs that stand there is the one that was read
+same_first : (rest x r : List ℕ) (p q : Pair) (others : List Pair) → Stops x → rest ≡ decimal p.low ++ 45 ∷ (decimal p.high ++ x) → 59 ∷ rest ≡ pairs_text 59 (q ∷ others) ++ 41 ∷ r →
+    x ≡ pairs_text 44 others ++ 41 ∷ r
+same_first rest x r p q others s e f =
+    let g : 59 ∷ rest ≡ 59 ∷ (decimal q.low ++ 45 ∷ (decimal q.high ++ (pairs_text 44 others ++ 41 ∷ r))) = f ∙ pair_spelled 59 q others (41 ∷ r) in
+    let h : rest ≡ decimal q.low ++ 45 ∷ (decimal q.high ++ (pairs_text 44 others ++ 41 ∷ r)) = cc in
+    let low : (p.low ≡ q.low) × (45 ∷ (decimal p.high ++ x) ≡ 45 ∷ (decimal q.high ++ (pairs_text 44 others ++ 41 ∷ r))) =
+    same_number p.low q.low (45 ∷ (decimal p.high ++ x)) (45 ∷ (decimal q.high ++ (pairs_text 44 others ++ 41 ∷ r))) (hyphen_stops (decimal p.high ++ x)) (hyphen_stops (decimal q.high ++ (pairs_text 44 others ++ 41 ∷ r))) (sym e ∙ h) in
+    let i : 45 ∷ (decimal p.high ++ x) ≡ 45 ∷ (decimal q.high ++ (pairs_text 44 others ++ 41 ∷ r)) = low.1 in
+    let j : decimal p.high ++ x ≡ decimal q.high ++ (pairs_text 44 others ++ 41 ∷ r) = cc in
+    (same_number p.high q.high x (pairs_text 44 others ++ 41 ∷ r) s (pairs_stop others r) j).1
+
+rest_small : (rest tail : List ℕ) (p : Pair) (others : List Pair) (r : List ℕ) → rest ≡ pair_before p true tail → AreSmall others → 59 ∷ rest ≡ pairs_text 59 others ++ 41 ∷ r →
+    (os : List Pair) × AreSmall os × (59 ∷ tail ≡ pairs_text 59 os ++ 41 ∷ r)
+rest_small rest tail p [] r e small f = let g : 59 ∷ rest ≡ 41 ∷ r = f in let h : ◌≡◌ {A = ℕ} 59 41 = cc in absurd (omega arith)
+rest_small rest tail p (q ∷ others) r e small f = (others, small.1, semicolon_for others tail r (same_first rest (44 ∷ tail) r p q others (mark_stops true tail) e f))
+
+pub pairs_more : (text rest tail : List ℕ) (qs : List Pair) (p : Pair) → ArePairsRead text rest qs → rest ≡ pair_before p true tail → ArePairsRead text tail (qs ++ p ∷ [])
+pairs_more text rest tail qs p a e = record {
+  forth = λ others r f.
+      a.forth (p ∷ others) r (pair_put 59 p others rest r (e ∙ ap (λ w. decimal p.low ++ 45 ∷ (decimal p.high ++ w)) (comma_for 59 others tail r f)))
+      ∙ ap (λ w. pairs_text 59 w ++ 41 ∷ r) (sym (append_assoc qs (p ∷ []) others));
+  back = λ ps r small f. let b = a.back ps r small f in rest_small rest tail p b.0 r e b.1 b.2;
+}
+
+pub pairs_whole : (text rest tail : List ℕ) (qs : List Pair) (p : Pair) → ArePairsRead text rest qs → rest ≡ pair_before p false tail → 59 ∷ text ≡ pairs_text 59 (qs ++ p ∷ []) ++ 41 ∷ tail
+pairs_whole text rest tail qs p a e = a.forth (p ∷ []) tail (pair_put 59 p [] rest tail e)
+
+lacks_others : (rest : List ℕ) (others : List Pair) (r : List ℕ) → LacksPair rest → AreSmall others → 59 ∷ rest ≡ pairs_text 59 others ++ 41 ∷ r → ⊥
+lacks_others rest [] r lacks small e = let g : 59 ∷ rest ≡ 41 ∷ r = e in let h : ◌≡◌ {A = ℕ} 59 41 = cc in omega arith
+lacks_others rest (p ∷ []) r lacks small e =
+    let g : 59 ∷ rest ≡ 59 ∷ (decimal p.low ++ 45 ∷ (decimal p.high ++ 41 ∷ r)) = e ∙ pair_spelled 59 p [] (41 ∷ r) in
+    lacks p false r small.0 cc
+lacks_others rest (p ∷ q ∷ others) r lacks small e =
+    let g : 59 ∷ rest ≡ 59 ∷ (decimal p.low ++ 45 ∷ (decimal p.high ++ (pairs_text 44 (q ∷ others) ++ 41 ∷ r))) = e ∙ pair_spelled 59 p (q ∷ others) (41 ∷ r) in
+    lacks p true ((decimal q.low ++ 45 ∷ (decimal q.high ++ pairs_text 44 others)) ++ 41 ∷ r) small.0 cc
+
+pub pairs_lack : (text rest : List ℕ) (qs : List Pair) → ArePairsRead text rest qs → LacksPair rest → LacksPairs text
+pairs_lack text rest qs a lacks ps r small e = let b = a.back ps r small e in lacks_others rest b.0 r lacks b.1 b.2
+
+-- the pairs that a prime node may list
+before_then : (p q r : Pair) → IsPairBefore p q → IsPairBefore q r → IsPairBefore p r
+before_then p q r (inl a) (inl b) = inl (omega arith)
+before_then p q r (inl a) (inr b) = let e : q.low ≡ r.low = b.0 in inl (omega arith)
+before_then p q r (inr a) (inl b) = let e : p.low ≡ q.low = a.0 in inl (omega arith)
+before_then p q r (inr a) (inr b) = let e : p.low ≡ q.low = a.0 in let f : q.low ≡ r.low = b.0 in let g : p.high < q.high = a.1 in let h : q.high < r.high = b.1 in inr (omega arith, omega arith)
+
+all_later : (p : Pair) (ps : List Pair) → ((k : ℕ) (d : Pair) → suc k < length (p ∷ ps) → IsPairBefore (get_or (p ∷ ps) k d) (get_or (p ∷ ps) (suc k) d)) → (q : Pair) → In ps q → IsPairBefore p q
+all_later p [] a q i = absurd i
+all_later p (r ∷ ps) a q (inl e) = subst (IsPairBefore p) (sym e) (a 0 p (let l : 1 < suc (suc (length ps)) = omega arith in l))
+all_later p (r ∷ ps) a q (inr i) =
+    before_then p r q (a 0 p (let l : 1 < suc (suc (length ps)) = omega arith in l))
+    (all_later r ps (λ k d h. a (suc k) d (let l : suc (suc k) < suc (suc (length ps)) = (let m : suc k < suc (length ps) = h in omega arith) in l)) q i)
+
+to_later : (ps : List Pair) → ((k : ℕ) (d : Pair) → suc k < length ps → IsPairBefore (get_or ps k d) (get_or ps (suc k) d)) → Later IsPairBefore ps
+to_later [] a = tt
+to_later (p ∷ ps) a = (all_later p ps a, to_later ps (λ k d h. a (suc k) d (let l : suc (suc k) < suc (length ps) = omega arith in l)))
+
+pub to_listed : (ps : List Pair) (n : ℕ) → AreListed ps n → ps ≢ [] → MayList Prime n ps
+to_listed ps n l some = (
+  some,
+  to_pairs IsPairBefore ps (to_later ps l.ascending),
+  λ p c.
+      let q = l.positions c.0 p c.1 in
+      subst (λ (w : Pair). (w.low < w.high) × (w.high < n)) c.2 q,
+)
+
+pub of_listed : (ps : List Pair) (n : ℕ) → MayList Prime n ps → AreListed ps n
+of_listed ps n l = record {
+  ascending = λ k d h. l.1 k (suc k) d (omega arith) h;
+  positions = λ k d h. l.2 (get_or ps k d) (k, h, get_same ps k d h);
+} where
+  get_same : (xs : List Pair) (k : ℕ) (d : Pair) → k < length xs → get_or xs k (get_or xs k d) ≡ get_or xs k d
+  get_same [] k d h = let g : k < 0 = h in absurd (omega arith)
+  get_same (x ∷ xs) zero d h = refl
+  get_same (x ∷ xs) (suc k) d h = get_same xs k d (let g : suc k < suc (length xs) = h in omega arith)
+
+small_if : (n : ℕ) → n ≤ NAMES → (ps : List Pair) → ((p : Pair) → In ps p → (p.low < p.high) × (p.high < n)) → AreSmall ps
+small_if n few [] a = tt
+small_if n few (p ∷ ps) a =
+    let b = a p (inl refl) in
+    let low : p.low < p.high = b.0 in let high : p.high < n = b.1 in
+    ((omega arith, omega arith), small_if n few ps (λ q i. a q (inr i)))
+
+pub listed_small : (n : ℕ) (ps : List Pair) → n ≤ NAMES → MayList Prime n ps → AreSmall ps
+listed_small n ps few l = small_if n few ps (λ p i. l.2 p (to_contains ps p i))
+
+-- the ends of nodes
+
+pub lacks_semicolon : (n : ℕ) (text : List ℕ) → LacksFirst 59 text → LacksEnd Prime n text
+lacks_semicolon n text lacks [] r l e = l.0 refl
+lacks_semicolon n text lacks (p ∷ ps) r l e = lacks ((decimal p.low ++ 45 ∷ (decimal p.high ++ pairs_text 44 ps)) ++ 41 ∷ r) e
+
+pub lacks_pairs : (n : ℕ) (text behind : List ℕ) → n ≤ NAMES → text ≡ 59 ∷ behind → LacksPairs behind → LacksEnd Prime n text
+lacks_pairs n text behind few is lacks ps r l e = lacks ps r (listed_small n ps few l) (sym is ∙ e)
+
+pub lacks_listed : (n : ℕ) (text behind tail : List ℕ) (qs : List Pair) → text ≡ 59 ∷ behind → 59 ∷ behind ≡ pairs_text 59 qs ++ 41 ∷ tail → (AreListed qs n → ⊥) → LacksEnd Prime n text
+lacks_listed n text behind tail qs is f bad ps r l e =
+    let same : (ps ≡ qs) × (r ≡ tail) = same_pairs 59 ps qs r tail (λ w. omega arith) (sym e ∙ is ∙ f) in
+    bad (of_listed qs n (subst (MayList Prime n) same.0 l))
+
+pub snoc_some : (qs : List Pair) (p : Pair) → qs ++ p ∷ [] ≢ []
+snoc_some [] p e = cc
+snoc_some (q ∷ qs) p e = let f : q ∷ (qs ++ p ∷ []) ≡ [] = e in cc
+
+pub empty_lacks_first : (b : ℕ) (x : List ℕ) → length x ≡ 0 → LacksFirst b x
+empty_lacks_first b x none y e = let l : length x ≡ suc (length y) = ap length e in omega arith
+
+pub other_first : (b c : ℕ) (x tail : List ℕ) → x ≡ c ∷ tail → (c ≡ b → ⊥) → LacksFirst b x
+other_first b c x tail e n y f = let g : c ∷ tail ≡ b ∷ y = sym e ∙ f in let h : c ≡ b = cc in n h
+
+-- what the loop over digits knows
+pub more_from : (v d i : ℕ) → 1 ≤ i → 10 ^ (i - 1) ≤ v → 10 ^ (i + 1 - 1) ≤ v * 10 + d
+more_from v d i some from =
+    let e : i + 1 - 1 ≡ (i - 1) + 1 = omega arith in
+    omega (arith, pow_more 10 (i - 1), ap (λ n. 10 ^ n) e)
+
+pub pair_shorter : (text tail : List ℕ) (p : Pair) (more : Bool) → text ≡ pair_before p more tail → length tail < length text
+pair_shorter text tail p more e =
+    let a : length text ≡ length (decimal p.low) + suc (length (decimal p.high ++ mark_of more ∷ tail)) = ap length e ∙ length-append (decimal p.low) (45 ∷ (decimal p.high ++ mark_of more ∷ tail)) in
+    let b : length (decimal p.high ++ mark_of more ∷ tail) ≡ length (decimal p.high) + suc (length tail) = length-append (decimal p.high) (mark_of more ∷ tail) in
+    omega arith
+
+pub number_shorter : (text tail : List ℕ) (n : ℕ) → IsNumberSplit text n tail → length tail < length text
+number_shorter text tail n s =
+    let a : length text ≡ length (decimal n) + length tail = ap length s.0 ∙ length-append (decimal n) tail in
+    let b = (decimal_is_canonical n).0.some_digit in
+    omega arith
+
+pub end_shorter : (text tail : List ℕ) (ps : List Pair) → text ≡ pairs_text 59 ps ++ 41 ∷ tail → length tail < length text
+end_shorter text tail ps e =
+    let a : length text ≡ length (pairs_text 59 ps) + suc (length tail) = ap length e ∙ length-append (pairs_text 59 ps) (41 ∷ tail) in
+    omega arith
+
+pub pow_some : (i : ℕ) → 1 ≤ 10 ^ i
+pow_some i = let a : 10 ^ 0 ≤ 10 ^ i = pow-le-pow_right {n = 10} (omega arith) {i = 0} {j = i} (omega arith) in a
+
+pub large_after : (v i : ℕ) → 5 ≤ i → 10 ^ (i - 1) ≤ v → 10000 ≤ v
+large_after v i last from = let a : 10 ^ 4 ≤ 10 ^ (i - 1) = pow-le-pow_right {n = 10} (omega arith) {i = 4} {j = i - 1} (omega arith) in omega arith

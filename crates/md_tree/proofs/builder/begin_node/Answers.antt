@@ -1,0 +1,30 @@
+use Rattle.std.proofs.Common.{◌≡◌, [], ◌∷◌, ◌++◌, length, map, sym, ◌∙◌, ap, subst, arith}
+use Rattle.std.proofs.lemmas.List.{length-map}
+use Rattle.md_tree.specs.TreeTexts.{letter}
+use Rattle.md_tree.specs.Plain.{plain}
+use Rattle.md_tree.specs.Held.{IsDue}
+use Rattle.md_tree.proofs.Coming.{due_node, useless_deep, useless_letter}
+use Rattle.md_tree.proofs.Leaving.{shorter_tail}
+use Rattle.md_tree.proofs.builder.begin_node.Goals as goal
+
+pub returns-then-len : goal.returns-then-len
+returns-then-len c bytes h =
+    let count = c.len.ensures in let all = c.args.held.now.opens.ok.0 in let many = c.if-len.true in
+    useless_deep bytes _ _ _ h.comes (omega arith)
+
+pub returns-in_ok-push-in-Ok : goal.returns-in_ok-push-in-Ok
+returns-in_ok-push-in-Ok c bytes h =
+    let ts = map plain c.args.held.now.trees.items in
+    let first : length ts ≡ c.len-first.result = length-map c.args.held.now.trees.items plain ∙ sym c.args.held.now.trees.ok.0 ∙ sym c.len-first.ensures in
+    let text = c.requires ∙ ap (λ w. letter c.args.kind ∷ w) c.in-Ok.ensures.on in (
+      record {
+        kept = h.kept;
+        comes = subst (λ os. IsDue bytes c.in-Ok.tail.now os ts)
+            (ap (λ n. c.args.held.now.opens.items ++ record { kind = c.args.kind; first = n } ∷ []) first ∙ sym c.in_ok-push-in-Ok.ensures.items)
+            (due_node bytes c.args.text.now c.args.held.now.opens.items ts c.args.kind c.in-Ok.tail.now h.comes text);
+      },
+      (let a = shorter_tail (letter c.args.kind) _ _ c.requires in let b = shorter_tail 40 _ _ c.in-Ok.ensures.on in omega arith),
+    )
+
+pub returns-in-Err : goal.returns-in-Err
+returns-in-Err c bytes h = useless_letter bytes _ _ _ c.args.kind c.args.behind.now h.comes c.requires c.in-Err.ensures.other

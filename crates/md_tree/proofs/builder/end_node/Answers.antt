@@ -1,0 +1,86 @@
+use Rattle.std.proofs.Common.{◌≡◌, ◌≤◌, ◌<◌, ◌+◌, ◌-◌, ◌∷◌, ◌++◌, [], length, map, take, drop, sym, ◌∙◌, ap, subst, arith}
+use Rattle.std.proofs.lemmas.List.{length-map, length-drop}
+use Rattle.std.specs.Prelude.{IsTrue}
+use Rattle.md_graph.specs.declared.TheConstants.{NAMES}
+use Rattle.md_tree.specs.Plain.{plain}
+use Rattle.md_tree.specs.Trees.{row, node}
+use Rattle.md_tree.specs.Held.{MayHave, MayList, Ascends, AreKept, IsBehind, LacksEnd}
+use Rattle.md_tree.proofs.Stacking.{plain_from, numbers_from}
+use Rattle.md_tree.proofs.Holding.{kept_closed, least_length}
+use Rattle.md_tree.proofs.Coming.{inside_end, inside_first, useless_children, useless_order, useless_end, few_held}
+use Rattle.md_tree.proofs.Numerals.{end_shorter}
+use Rattle.md_tree.proofs.builder.end_node.Goals as goal
+
+pub returns-then-not-may_have : goal.returns-then-not-may_have
+returns-then-not-may_have c bytes h =
+    let held = c.args.held.now in let inner = c.args.inner in
+    let e = plain_from c.deref.result.now held.trees.items inner.first c.deref.ensures.value in
+    useless_children bytes c.args.text.now inner held.opens.items (map plain held.trees.items) h.comes c.requires.no_comma
+    (λ m. let yes = c.may_have.ensures.1 (subst (λ us. MayHave inner.kind (row us)) (sym e) m) in let no_one = c.if-not-may_have.true in grind arith)
+
+pub slice_bounds-ascends-count : goal.slice_bounds-ascends-count
+slice_bounds-ascends-count c =
+    let held = c.args.held.now in
+    let h = c.requires.inside.1 in
+    let a : c.args.inner.first < length (map plain held.trees.items) = inside_first _ _ c.args.inner _ _ h.comes in
+    let b : length (map plain held.trees.items) ≡ length held.least.items = least_length _ _ h.kept.least in
+    let d : length c.deref-2.result.now ≡ length held.least.items = ap length c.deref-2.ensures.value in
+    omega arith
+
+pub slice_bounds-ascends-start : goal.slice_bounds-ascends-start
+slice_bounds-ascends-start c =
+    let held = c.args.held.now in
+    let h = c.requires.inside.1 in
+    let a : c.args.inner.first < length (map plain held.trees.items) = inside_first _ _ c.args.inner _ _ h.comes in
+    let b : length (map plain held.trees.items) ≡ length held.least.items = least_length _ _ h.kept.least in
+    let d : length c.deref-2.result.now ≡ length held.least.items = ap length c.deref-2.ensures.value in
+    let f : c.args.inner.first ≤ length c.deref-2.result.now = omega arith in
+    f
+
+pub returns-then-not-ascends : goal.returns-then-not-ascends
+returns-then-not-ascends c bytes h =
+    let held = c.args.held.now in let inner = c.args.inner in
+    let e = numbers_from c.deref-2.result.now held.least.items inner.first c.deref-2.ensures.value in
+    useless_order bytes c.args.text.now inner held.opens.items (map plain held.trees.items) h.comes c.requires.no_comma held.least.items h.kept.least
+    (λ a. let yes = c.ascends.ensures.1 (subst Ascends (sym e) a) in let no_one = c.if-not-ascends.true in grind arith)
+
+pub read_end-requires : goal.read_end-requires
+read_end-requires c =
+    let held = c.args.held.now in
+    let few : length (map plain held.trees.items) ≤ NAMES = few_held _ _ _ c.requires.inside.1.kept in
+    let count : length (map plain held.trees.items) ≡ c.len.result = length-map held.trees.items plain ∙ sym held.trees.ok.0 ∙ sym c.len.ensures in
+    omega arith
+
+pub returns-in_ok-close-in-Some : goal.returns-in_ok-close-in-Some
+returns-in_ok-close-in-Some c bytes h =
+    let held = c.args.held.now in let inner = c.args.inner in let ts = map plain held.trees.items in
+    let new = c.close.new.held in let s = c.in_ok-close-in-Some.ensures in
+    let is = c.in-Some.is in let p = c.in_ok-pairs.ensures in let q = rw is at p in
+    let ps = c.in-Some.pairs.items in
+    let count : c.len.result ≡ length ts = c.len.ensures ∙ held.trees.ok.0 ∙ sym (length-map held.trees.items plain) in
+    let e = plain_from c.deref.result.now held.trees.items inner.first c.deref.ensures.value in
+    let f = numbers_from c.deref-2.result.now held.least.items inner.first c.deref-2.ensures.value in
+    let yes : IsTrue c.may_have.result = (let y = c.if-not-may_have.false in grind arith) in
+    let up : IsTrue c.ascends.result = (let y = c.if-not-ascends.false in grind arith) in
+    let has : MayHave inner.kind (row (drop inner.first ts)) = subst (λ us. MayHave inner.kind (row us)) e (c.may_have.ensures.0 yes) in
+    let ascend : Ascends (drop inner.first held.least.items) = subst Ascends f (c.ascends.ensures.0 up) in
+    let inside : inner.first < length ts = inside_first _ _ inner _ _ h.comes in (
+      record {
+        kept = subst (λ us. AreKept us new.least.items new.seen) (sym s.trees)
+            (subst (λ ms. AreKept (take inner.first ts ++ node inner.kind (row (drop inner.first ts)) ps ∷ []) ms new.seen) (sym s.least)
+            (subst (AreKept (take inner.first ts ++ node inner.kind (row (drop inner.first ts)) ps ∷ []) (take (inner.first + 1) held.least.items)) (sym s.seen)
+            (kept_closed ts held.least.items held.seen inner.first inner.kind ps inside h.kept has (subst (λ n. MayList inner.kind (n - inner.first) ps) count q.0) ascend)));
+        comes = subst (λ us. IsBehind bytes c.in-Some.tail.now new.opens.items us) (sym s.trees)
+            (subst (λ os. IsBehind bytes c.in-Some.tail.now os (take inner.first ts ++ node inner.kind (row (drop inner.first ts)) ps ∷ [])) (sym s.opens)
+            (inside_end bytes c.args.text.now inner held.opens.items ts h.comes ps c.in-Some.tail.now q.1));
+      },
+      end_shorter _ _ ps q.1,
+    )
+
+pub returns-in-None : goal.returns-in-None
+returns-in-None c bytes h =
+    let held = c.args.held.now in let inner = c.args.inner in let ts = map plain held.trees.items in
+    let is = c.in-None.is in let p = c.in_ok-pairs.ensures in let q = rw is at p in
+    let count : c.len.result ≡ length ts = c.len.ensures ∙ held.trees.ok.0 ∙ sym (length-map held.trees.items plain) in
+    let size : c.len.result - inner.first ≡ length (drop inner.first ts) = ap (λ n. n - inner.first) count ∙ sym (length-drop inner.first ts) in
+    useless_end bytes c.args.text.now inner held.opens.items ts h.comes c.requires.no_comma (subst (λ n. LacksEnd inner.kind n c.args.text.now) size q)

@@ -1,0 +1,33 @@
+use Rattle.std.proofs.Common.{[], ◌∷◌, ◌++◌, map, inl, inr, sym, refl, ◌∙◌, ap, subst}
+use Rattle.md_tree.specs.declared.Tree.{Leaf}
+use Rattle.md_tree.specs.Trees.{leaf}
+use Rattle.md_tree.specs.Plain.{plain}
+use Rattle.md_tree.specs.Held.{AreKept, IsBehind}
+use Rattle.md_tree.proofs.Plain.{plain_is_leaf}
+use Rattle.md_tree.proofs.Stacking.{map_one_more}
+use Rattle.md_tree.proofs.Holding.{kept_name}
+use Rattle.md_tree.proofs.Coming.{due_name, useless_name}
+use Rattle.md_tree.proofs.Numerals.{number_shorter}
+use Rattle.md_tree.proofs.builder.take_name.Goals as goal
+
+pub returns-then-name-ge-NAMES : goal.returns-then-name-ge-NAMES
+returns-then-name-ge-NAMES c bytes h = useless_name bytes _ _ _ _ _ c.args.name _ h.kept h.comes c.requires (inl c.if-name-ge-NAMES.true)
+
+pub returns-then-has : goal.returns-then-has
+returns-then-has c bytes h = useless_name bytes _ _ _ _ _ c.args.name _ h.kept h.comes c.requires (inr (sym c.has.ensures ∙ c.if-has.true))
+
+pub returns : goal.returns
+returns c bytes h =
+    let v = c.args.name in
+    let held = c.args.held.now in
+    let ts = map plain held.trees.items in
+    let trees = map_one_more plain c.push-2.new.self.items held.trees.items (Leaf v) c.in_ok-push-2.ensures.items ∙ ap (λ t. ts ++ t ∷ []) (plain_is_leaf (Leaf v) v refl) in (
+      record {
+        kept = subst (λ us. AreKept us c.push.new.self.items c.insert.new.self) (sym trees)
+            (subst (λ ms. AreKept (ts ++ leaf v ∷ []) ms c.insert.new.self) (sym c.in_ok-push.ensures.items)
+            (subst (AreKept (ts ++ leaf v ∷ []) (held.least.items ++ v ∷ [])) (sym c.insert.ensures)
+            (kept_name ts held.least.items held.seen v h.kept c.if-name-ge-NAMES.false (sym c.has.ensures ∙ c.if-has.false))));
+        comes = subst (IsBehind bytes c.args.tail.now held.opens.items) (sym trees) (due_name bytes _ _ ts v _ h.comes c.requires);
+      },
+      number_shorter _ _ v c.requires,
+    )

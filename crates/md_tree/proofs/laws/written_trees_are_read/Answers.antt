@@ -1,0 +1,5 @@
+use Rattle.md_tree.proofs.ReadBack.{read_back_proof}
+use Rattle.md_tree.proofs.laws.written_trees_are_read.Goals as goal
+
+pub returns : goal.returns
+returns c = read_back_proof

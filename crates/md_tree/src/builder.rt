@@ -1,0 +1,272 @@
+//! Builds the tree whose text is read, and gives up where the text is no well-formed tree's.
+ghost use Rattle.std.specs.Prelude.{◌≡◌, ◌≤◌, ◌↔◌, ◌+◌, ℕ, List, true, false, [], ◌∷◌, ◌++◌, take, drop, vec_len, map, IfOk, MatchOption, IsTrue, Some};
+ghost use Rattle.md_tree.specs.Plain.{plain};
+ghost use Rattle.md_tree.specs.Trees.{node, row};
+ghost use Rattle.md_tree.specs.TreeTexts.{letter, tree_text};
+ghost use Rattle.md_tree.specs.WellFormed.{IsWellFormed, IsOfKind, NoneOfKind};
+ghost use Rattle.md_tree.specs.Languages.{LacksFirst};
+ghost use Rattle.md_tree.specs.Held.{IsNumberSplit, HasBuilt, HasBuiltInside, IsStep, AreUseless, Ascends, MayHave, trees_held};
+
+use crate::grammar::{skip_byte, split_letter};
+use crate::numbers::small_number;
+use crate::pair_reader::read_end;
+use crate::{Children, Kind, Pair, QuotientEdges, Tree};
+use md_graph::{Memory, NAMES, Names};
+use std::alloc::Global;
+
+// A node of which a part is read: its kind, and how many trees stand before its first child.
+#[derive(Clone, Copy)]
+struct Opened {
+    kind: Kind,
+    first: usize,
+}
+
+// The trees that are read, with their least names, the nodes that are open, and all names.
+#[derive(Drop)]
+struct Held {
+    trees: Vec<Tree>,
+    least: Vec<u32>,
+    opens: Vec<Opened>,
+    seen: Names,
+}
+
+// What a step comes to: what is left, and whether it stands behind a tree; or the end of the text;
+// or that the text is no well-formed tree's.
+#[derive(Clone, Copy)]
+enum Step<'a> {
+    Onward(&'a [u8], bool),
+    Useless,
+    End,
+}
+
+// The well-formed tree with this text; none if there is no such tree. No call nests as deep as the
+// tree. Errors: out of memory.
+pub(crate) fn built(alloc: Global, bytes: &[u8]) -> Result<Option<Tree>, Memory>
+    ensures { IfOk result (λ o. MatchOption o (AreUseless bytes.now)
+        (λ t. IsWellFormed (Some (plain t)) × (bytes.now ≡ tree_text (plain t)))) }
+{
+    let mut held = Held {
+        trees: Vec::new(alloc),
+        least: Vec::new(alloc),
+        opens: Vec::new(alloc),
+        seen: Names::none(),
+    };
+    let mut rest = bytes;
+    let mut behind = false;
+    loop {
+        match take_step(alloc, rest, behind, &mut held)? {
+            Step::Onward(tail, now_behind) => {
+                rest = tail;
+                behind = now_behind;
+            }
+            Step::Useless => return Ok(None),
+            Step::End => return Ok(held.trees.pop()),
+        }
+    }
+}
+
+fn take_step<'a>(
+    alloc: Global,
+    text: &'a [u8],
+    behind: bool,
+    held: &mut Held,
+) -> Result<Step<'a>, Memory>
+    requires { (bytes : List ℕ) × HasBuilt bytes text.now behind held.old }
+    ensures { IfOk result (λ step. (bytes : List ℕ) → HasBuilt bytes text.now behind held.old
+        → IsStep bytes text.now step held.new) }
+{
+    if behind {
+        return step_behind(alloc, text, held);
+    }
+    step_due(text, held)
+}
+
+// Where a tree is due: a name, or the beginning of a node.
+fn step_due<'a>(text: &'a [u8], held: &mut Held) -> Result<Step<'a>, Memory>
+    ensures { IfOk result (λ step. (bytes : List ℕ) → HasBuilt bytes text.now false held.old
+        → IsStep bytes text.now step held.new) }
+{
+    if let Some((kind, behind)) = split_letter(text) {
+        return begin_node(text, kind, behind, held);
+    }
+    match small_number(text) {
+        Some((name, tail)) => take_name(text, name, tail, held),
+        None => Ok(Step::Useless),
+    }
+}
+
+// A name, if it is below the limit and new.
+fn take_name<'a>(
+    text: &'a [u8],
+    name: u32,
+    tail: &'a [u8],
+    held: &mut Held,
+) -> Result<Step<'a>, Memory>
+    requires { IsNumberSplit text.now name tail.now }
+    ensures { IfOk result (λ step. (bytes : List ℕ) → HasBuilt bytes text.now false held.old
+        → IsStep bytes text.now step held.new) }
+{
+    if name >= NAMES {
+        return Ok(Step::Useless);
+    }
+    if held.seen.has(name) {
+        return Ok(Step::Useless);
+    }
+    held.seen.insert(name);
+    held.least.push(name)?;
+    held.trees.push(Tree::Leaf(name))?;
+    Ok(Step::Onward(tail, true))
+}
+
+// The letter of a node is read. In the text of a well-formed tree fewer nodes are open than there
+// are names.
+fn begin_node<'a>(
+    text: &'a [u8],
+    kind: Kind,
+    behind: &'a [u8],
+    held: &mut Held,
+) -> Result<Step<'a>, Memory>
+    requires { text.now ≡ letter kind ∷ behind.now }
+    ensures { IfOk result (λ step. (bytes : List ℕ) → HasBuilt bytes text.now false held.old
+        → IsStep bytes text.now step held.new) }
+{
+    if held.opens.len() >= NAMES as usize {
+        return Ok(Step::Useless);
+    }
+    match skip_byte(behind, b'(') {
+        Ok(tail) => {
+            let first = held.trees.len();
+            held.opens.push(Opened { kind, first })?;
+            Ok(Step::Onward(tail, false))
+        }
+        Err(_) => Ok(Step::Useless),
+    }
+}
+
+// Behind a tree: a comma, or the end of the innermost open node, or of the text.
+fn step_behind<'a>(alloc: Global, text: &'a [u8], held: &mut Held) -> Result<Step<'a>, Memory>
+    requires { (bytes : List ℕ) × HasBuilt bytes text.now true held.old }
+    ensures { IfOk result (λ step. (bytes : List ℕ) → HasBuilt bytes text.now true held.old
+        → IsStep bytes text.now step held.new) }
+{
+    match held.opens.pop() {
+        Some(inner) => step_inside(alloc, text, inner, held),
+        None => {
+            if text.is_empty() {
+                return Ok(Step::End);
+            }
+            Ok(Step::Useless)
+        }
+    }
+}
+
+// The same in a node, which is taken off the open ones.
+fn step_inside<'a>(
+    alloc: Global,
+    text: &'a [u8],
+    inner: Opened,
+    held: &mut Held,
+) -> Result<Step<'a>, Memory>
+    requires { (bytes : List ℕ) × HasBuiltInside bytes text.now inner held.old }
+    ensures { IfOk result (λ step. (bytes : List ℕ) → HasBuiltInside bytes text.now inner held.old
+        → IsStep bytes text.now step held.new) }
+{
+    if let Ok(tail) = skip_byte(text, b',') {
+        held.opens.push(inner)?;
+        return Ok(Step::Onward(tail, false));
+    }
+    end_node(alloc, text, inner, held)
+}
+
+// The end of a node: its children have to be such as its kind asks, and in order.
+fn end_node<'a>(
+    alloc: Global,
+    text: &'a [u8],
+    inner: Opened,
+    held: &mut Held,
+) -> Result<Step<'a>, Memory>
+    requires inside { (bytes : List ℕ) × HasBuiltInside bytes text.now inner held.old }
+    requires no_comma { LacksFirst 44 text.now }
+    ensures { IfOk result (λ step. (bytes : List ℕ) → HasBuiltInside bytes text.now inner held.old
+        → IsStep bytes text.now step held.new) }
+{
+    if !may_have(inner.kind, &held.trees[inner.first..]) {
+        return Ok(Step::Useless);
+    }
+    if !ascends(&held.least[inner.first..]) {
+        return Ok(Step::Useless);
+    }
+    let count = held.trees.len() - inner.first;
+    match read_end(alloc, text, inner.kind, count)? {
+        Some((pairs, tail)) => {
+            close(inner, pairs, held)?;
+            Ok(Step::Onward(tail, true))
+        }
+        None => Ok(Step::Useless),
+    }
+}
+
+// A node of the trees from its first child on takes their place.
+fn close(inner: Opened, pairs: Vec<Pair>, held: &mut Held) -> Result<(), Memory>
+    requires { inner.first ≤ vec_len held.old.trees }
+    ensures trees { IfOk result (λ _. trees_held held.new
+        ≡ take inner.first (trees_held held.old)
+        ++ node inner.kind (row (drop inner.first (trees_held held.old))) pairs.items ∷ []) }
+    ensures least { IfOk result (λ _. held.new.least.items
+        ≡ take (inner.first + 1) held.old.least.items) }
+    ensures opens { held.new.opens.items ≡ held.old.opens.items }
+    ensures seen { held.new.seen ≡ held.old.seen }
+{
+    let list = held.trees.split_off(inner.first)?;
+    let node = Tree::Node(inner.kind, Children { list }, QuotientEdges { list: pairs });
+    held.trees.push(node)?;
+    held.least.truncate(inner.first + 1);
+    Ok(())
+}
+
+// Whether a node of the kind may have the children.
+fn may_have(kind: Kind, children: &[Tree]) -> bool
+    ensures { IsTrue result ↔ MayHave kind (row (map plain children.now)) }
+{
+    match kind {
+        Kind::Parallel => children.len() >= 2 && none_of_kind(children, Kind::Parallel),
+        Kind::Series => children.len() >= 2 && none_of_kind(children, Kind::Series),
+        Kind::Prime => children.len() >= 4,
+    }
+}
+
+// Whether no tree is a node of the kind.
+fn none_of_kind(trees: &[Tree], kind: Kind) -> bool
+    ensures { IsTrue result ↔ NoneOfKind (row (map plain trees.now)) kind }
+{
+    let mut rest = trees;
+    while let Some((tree, others)) = rest.split_first() {
+        if is_of_kind(tree, kind) {
+            return false;
+        }
+        rest = others;
+    }
+    true
+}
+
+#[tactic(auto, using(crate::proofs::Plain::plain_is_leaf, crate::proofs::Plain::plain_is_node))]
+fn is_of_kind(tree: &Tree, kind: Kind) -> bool
+    ensures { IsTrue result ↔ IsOfKind (plain tree.now) kind }
+{
+    match tree {
+        Tree::Leaf(_) => false,
+        Tree::Node(own, _, _) => *own == kind,
+    }
+}
+
+// Whether each number is below the next one.
+fn ascends(numbers: &[u32]) -> bool
+    ensures { IsTrue result ↔ Ascends numbers.now }
+{
+    for i in 1..numbers.len() {
+        if numbers[i - 1] >= numbers[i] {
+            return false;
+        }
+    }
+    true
+}

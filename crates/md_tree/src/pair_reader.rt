@@ -1,0 +1,147 @@
+//! Reads the end of a node: the pairs of a prime one, and the bracket.
+ghost use Rattle.std.specs.Prelude.{◌≡◌, ◌≢◌, ◌<◌, ◌≤◌, ◌↔◌, ℕ, List, [], ◌∷◌, ◌++◌, IfOk, OnOk, MatchOption, IsTrue};
+ghost use Rattle.md_graph.specs.declared.TheConstants.{NAMES};
+ghost use Rattle.md_tree.specs.declared.Pair.{Pair};
+ghost use Rattle.md_tree.specs.TreeTexts.{pairs_text};
+ghost use Rattle.md_tree.specs.declared.Kind.TheVariants.{Prime};
+ghost use Rattle.md_tree.specs.StrongTrees.{IsPairBefore};
+ghost use Rattle.md_tree.specs.Languages.{LacksFirst};
+ghost use Rattle.md_tree.specs.Held.{LacksEnd, IsEnd, LacksPairs, LacksPair, pair_before, AreListed};
+
+use crate::grammar::skip_byte;
+use crate::numbers::small_number;
+use crate::{Kind, Pair};
+use md_graph::Memory;
+use std::alloc::Global;
+
+// The pairs of a node of the kind with so many children, and what stands behind its bracket; none if
+// no pairs that it may list stand there, with the bracket behind them.
+pub(crate) fn read_end<'a>(
+    alloc: Global,
+    text: &'a [u8],
+    kind: Kind,
+    count: usize,
+) -> Result<Option<(Vec<Pair>, &'a [u8])>, Memory>
+    requires { count ≤ NAMES }
+    ensures { IfOk result (λ o. MatchOption o (LacksEnd kind count text.now)
+        (λ p. IsEnd kind count text.now p.0.items p.1.now)) }
+{
+    match kind {
+        Kind::Parallel => Ok(read_bracket(alloc, text)),
+        Kind::Series => Ok(read_bracket(alloc, text)),
+        Kind::Prime => read_prime_end(alloc, text, count),
+    }
+}
+
+// The bracket of a node without pairs.
+fn read_bracket<'a>(alloc: Global, text: &'a [u8]) -> Option<(Vec<Pair>, &'a [u8])>
+    ensures { MatchOption result (LacksFirst 41 text.now)
+        (λ p. (p.0.items ≡ []) × (text.now ≡ 41 ∷ p.1.now)) }
+{
+    match skip_byte(text, b')') {
+        Ok(tail) => Some((Vec::new(alloc), tail)),
+        Err(_) => None,
+    }
+}
+
+// The end of a prime node.
+fn read_prime_end<'a>(
+    alloc: Global,
+    text: &'a [u8],
+    count: usize,
+) -> Result<Option<(Vec<Pair>, &'a [u8])>, Memory>
+    requires { count ≤ NAMES }
+    ensures { IfOk result (λ o. MatchOption o (LacksEnd Prime count text.now)
+        (λ p. IsEnd Prime count text.now p.0.items p.1.now)) }
+{
+    let Ok(behind) = skip_byte(text, b';') else {
+        return Ok(None);
+    };
+    match read_pairs(alloc, behind)? {
+        Some((pairs, tail)) => {
+            if !may_list(&pairs, count) {
+                return Ok(None);
+            }
+            Ok(Some((pairs, tail)))
+        }
+        None => Ok(None),
+    }
+}
+
+// The pairs behind a semicolon, and what stands behind the bracket.
+fn read_pairs<'a>(alloc: Global, text: &'a [u8]) -> Result<Option<(Vec<Pair>, &'a [u8])>, Memory>
+    ensures { IfOk result (λ o. MatchOption o (LacksPairs text.now)
+        (λ p. (p.0.items ≢ []) × (59 ∷ text.now ≡ pairs_text 59 p.0.items ++ 41 ∷ p.1.now))) }
+{
+    let mut pairs = Vec::new(alloc);
+    let mut rest = text;
+    loop {
+        let Some((pair, more, tail)) = read_pair(rest) else {
+            return Ok(None);
+        };
+        push_pair(&mut pairs, pair)?;
+        if !more {
+            return Ok(Some((pairs, tail)));
+        }
+        rest = tail;
+    }
+}
+
+// Appends a pair. A full vector grows by an eighth, so that a long one takes little more memory than
+// its pairs.
+fn push_pair(pairs: &mut Vec<Pair>, pair: Pair) -> Result<(), Memory>
+    ensures { OnOk result (pairs.new.items ≡ pairs.old.items ++ pair ∷ []) }
+{
+    if pairs.len() == pairs.capacity() {
+        pairs.reserve_exact(pairs.len() / 8 + 64)?;
+    }
+    pairs.push(pair)?;
+    Ok(())
+}
+
+// A pair, whether another one follows, and what stands behind the mark that tells it.
+fn read_pair<'a>(text: &'a [u8]) -> Option<(Pair, bool, &'a [u8])>
+    ensures { MatchOption result (LacksPair text.now)
+        (λ p. text.now ≡ pair_before p.0 p.1 p.2.now) }
+{
+    let (low, hyphen) = small_number(text)?;
+    let Ok(second) = skip_byte(hyphen, b'-') else {
+        return None;
+    };
+    let (high, mark) = small_number(second)?;
+    let (first, tail) = mark.split_first()?;
+    if *first == b',' {
+        return Some((Pair { low, high }, true, tail));
+    }
+    if *first == b')' {
+        return Some((Pair { low, high }, false, tail));
+    }
+    None
+}
+
+// Whether the pairs ascend, and are of two positions below `count`, the lower first.
+fn may_list(pairs: &[Pair], count: usize) -> bool
+    ensures { IsTrue result ↔ AreListed pairs.now count }
+{
+    for i in 0..pairs.len() {
+        if i > 0 && !is_before(pairs[i - 1], pairs[i]) {
+            return false;
+        }
+        if !is_of_positions(pairs[i], count) {
+            return false;
+        }
+    }
+    true
+}
+
+fn is_before(first: Pair, second: Pair) -> bool
+    ensures { IsTrue result ↔ IsPairBefore first second }
+{
+    first.low < second.low || first.low == second.low && first.high < second.high
+}
+
+fn is_of_positions(pair: Pair, count: usize) -> bool
+    ensures { IsTrue result ↔ ((pair.low < pair.high) × (pair.high < count)) }
+{
+    pair.low < pair.high && (pair.high as usize) < count
+}

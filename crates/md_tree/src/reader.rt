@@ -1,0 +1,65 @@
+//! Reads the text of a tree.
+ghost use Rattle.std.specs.Prelude.{◌≡◌, ◌≢◌, codes};
+ghost use Rattle.md_tree.specs.declared.reader.TreeFault.TheVariants.{Memory as NoMemory};
+ghost use Rattle.md_tree.specs.Held.{AreUseless};
+ghost use Rattle.md_tree.specs.Reading.{IsTreeReading};
+
+use crate::Tree;
+use crate::builder::built;
+use crate::grammar::leaves_grammar_at;
+use md_graph::Memory;
+use std::alloc::Global;
+use thiserror::Error;
+
+/// Why a text is not read as a tree.
+#[derive(Clone, Copy, Debug, PartialEq, Eq, Error)]
+pub enum TreeFault {
+    /// The bytes are not in the grammar of trees' texts.
+    #[error("byte {place} is not one that a tree's text may have there")]
+    Syntax {
+        /// How many bytes at the beginning still begin a text of the grammar.
+        place: u64,
+    },
+    /// The bytes are in the grammar, but are the text of no well-formed tree.
+    #[error("the text is not that of a well-formed tree")]
+    NotCanonical,
+    /// Out of memory.
+    #[error("out of memory")]
+    Memory,
+}
+
+impl From<Memory> for TreeFault {
+    ghost from_gives = { λ _ fault. fault ≡ NoMemory };
+
+    fn from(_error: Memory) -> TreeFault {
+        TreeFault::Memory
+    }
+}
+
+/// The tree with this text, none for the word `empty`. A well-formed tree is built while its text is
+/// read, once; where that is given up, the text is gone through by the grammar alone, of each open
+/// node its kind. No call nests as deep as the tree. Errors: where the bytes leave the grammar; or
+/// they are the text of no well-formed tree; or want of memory.
+pub fn read_tree(alloc: Global, bytes: &[u8]) -> Result<Option<Tree>, TreeFault>
+    ensures { IsTreeReading bytes.now result }
+{
+    if bytes == b"empty".as_slice() {
+        return Ok(None);
+    }
+    if let Some(tree) = built(alloc, bytes)? {
+        return Ok(Some(tree));
+    }
+    refuse(alloc, bytes)
+}
+
+// Why bytes are not read that are no well-formed tree's text.
+fn refuse(alloc: Global, bytes: &[u8]) -> Result<Option<Tree>, TreeFault>
+    requires tree { AreUseless bytes.now }
+    requires word { bytes.now ≢ codes "empty" }
+    ensures { IsTreeReading bytes.now result }
+{
+    match leaves_grammar_at(alloc, bytes)? {
+        Some(place) => Err(TreeFault::Syntax { place }),
+        None => Err(TreeFault::NotCanonical),
+    }
+}
