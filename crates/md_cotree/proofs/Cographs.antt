@@ -34,19 +34,19 @@ abbrev pub NotPrime : Kind → PlainTrees → List Pair → Type 0
 NotPrime k cs ps = k ≢ Prime
 
 -- whether a node of this kind joins its children
-abbrev value : Kind → Bool
+abbrev pub value : Kind → Bool
 value Parallel = false
 value Series = true
 value Prime = true
 
 -- ---- children
 
-each_child : (P : Kind → PlainTrees → List Pair → Type 0) (cs : PlainTrees) (c : PlainTree) → EachNodeBelow P cs → IsChild cs c → EachNode P c
+pub each_child : (P : Kind → PlainTrees → List Pair → Type 0) (cs : PlainTrees) (c : PlainTree) → EachNodeBelow P cs → IsChild cs c → EachNode P c
 each_child P no_tree c each i = absurd i
 each_child P (one_more t ts) c each (inl e) = subst (EachNode P) (sym e) each.0
 each_child P (one_more t ts) c each (inr i) = each_child P ts c each.1 i
 
-child_other_kind : (cs : PlainTrees) (k : Kind) (c : PlainTree) → NoneOfKind cs k → IsChild cs c → IsOfKind c k → ⊥
+pub child_other_kind : (cs : PlainTrees) (k : Kind) (c : PlainTree) → NoneOfKind cs k → IsChild cs c → IsOfKind c k → ⊥
 child_other_kind no_tree k c none i = absurd i
 child_other_kind (one_more t ts) k c none (inl e) = λ is. none.0 (subst (λ w. IsOfKind w k) e is)
 child_other_kind (one_more t ts) k c none (inr i) = child_other_kind ts k c none.1 i
@@ -55,7 +55,7 @@ first_child : (cs : PlainTrees) → 2 ≤ count cs → (c : PlainTree) × IsChil
 first_child no_tree two = absurd (omega arith)
 first_child (one_more t ts) two = (t, inl refl)
 
-plain_shape : (k : Kind) (cs : PlainTrees) (ps : List Pair) → k ≢ Prime → HasShape k cs ps → IsPlainNode k cs ps
+pub plain_shape : (k : Kind) (cs : PlainTrees) (ps : List Pair) → k ≢ Prime → HasShape k cs ps → IsPlainNode k cs ps
 plain_shape Parallel cs ps not shape = shape
 plain_shape Series cs ps not shape = shape
 plain_shape Prime cs ps not shape = absurd (not refl)
@@ -65,7 +65,7 @@ no_pairs e Parallel cs ps not none = none
 no_pairs e Series cs ps not none = none
 no_pairs e Prime cs ps not none = absurd (not refl)
 
-joins_value : (k : Kind) (ps : List Pair) (i j : ℕ) → k ≢ Prime → joins k ps i j ≡ value k
+pub joins_value : (k : Kind) (ps : List Pair) (i j : ℕ) → k ≢ Prime → joins k ps i j ≡ value k
 joins_value Parallel ps i j not = refl
 joins_value Series ps i j not = refl
 joins_value Prime ps i j not = absurd (not refl)
@@ -86,7 +86,7 @@ some_name (node k (one_more t ts) ps) each not =
 below_lacks : (t : PlainTree) (ts : PlainTrees) (x : ℕ) → AreApart (one_more t ts) → Has (names_below ts) x → Lacks (names t) x
 below_lacks t ts x apart h = false_from_ne_true _ (λ k. clash h (apart.0 x k))
 
-same_position : (cs : PlainTrees) (c : PlainTree) → AreApart cs → IsChild cs c → (a b : ℕ) → Has (names c) a → Has (names c) b → position_of cs a ≡ position_of cs b
+pub same_position : (cs : PlainTrees) (c : PlainTree) → AreApart cs → IsChild cs c → (a b : ℕ) → Has (names c) a → Has (names c) b → position_of cs a ≡ position_of cs b
 same_position no_tree c apart i a b ha hb = absurd i
 same_position (one_more t ts) c apart (inl e) a b ha hb =
     first_place t ts a (Has-along (names c) (names t) (ap names e) a ha) ∙ sym (first_place t ts b (Has-along (names c) (names t) (ap names e) b hb))
@@ -95,7 +95,7 @@ same_position (one_more t ts) c apart (inr i) a b ha hb =
     ∙ ap (λ n. suc n) (same_position ts c apart.1 i a b ha hb)
     ∙ sym (later_place t ts b (below_lacks t ts b apart (child_inside ts c i b hb)))
 
-below_is : (cs : PlainTrees) (c : PlainTree) → AreApart cs → IsChild cs c → (a b : ℕ) → Has (names c) a → Has (names c) b → adjacent_below cs a b ≡ adjacent_in c a b
+pub below_is : (cs : PlainTrees) (c : PlainTree) → AreApart cs → IsChild cs c → (a b : ℕ) → Has (names c) a → Has (names c) b → adjacent_below cs a b ≡ adjacent_in c a b
 below_is no_tree c apart i a b ha hb = absurd i
 below_is (one_more t ts) c apart (inl e) a b ha hb =
     ap (λ w. cond w (adjacent_in t a b) (adjacent_below ts a b)) (Has-along (names c) (names t) (ap names e) a ha) ∙ ap (λ w. adjacent_in w a b) (sym e)
@@ -111,7 +111,7 @@ child_position (one_more t ts) c apart (inl e) a ha =
 child_position (one_more t ts) c apart (inr i) a ha =
     ap (names_at (one_more t ts)) (later_place t ts a (below_lacks t ts a apart (child_inside ts c i a ha))) ∙ child_position ts c apart.1 i a ha
 
-other_position : (cs : PlainTrees) (c : PlainTree) → AreApart cs → IsChild cs c → (a b : ℕ) → Has (names c) a → Has (names_below cs) b → Lacks (names c) b → position_of cs a ≢ position_of cs b
+pub other_position : (cs : PlainTrees) (c : PlainTree) → AreApart cs → IsChild cs c → (a b : ℕ) → Has (names c) a → Has (names_below cs) b → Lacks (names c) b → position_of cs a ≢ position_of cs b
 other_position cs c apart i a b ha hb lb same =
     clash (Has-along (names_at cs (position_of cs b)) (names c) (ap (names_at cs) (sym same) ∙ child_position cs c apart i a ha) b (at_position cs b hb)) lb
 

@@ -9,14 +9,14 @@ use Rattle.md_tree.specs.TreeGraph.{graph_of_tree}
 use Rattle.md_cotree.specs.PlaceTrees.{PlaceTree, tip, inner, PlaceTrees, no_more, then, place_of, roots, place_kind, Stands, StandsBelow, shape}
 use Rattle.md_cotree.specs.CotreeLaws.{OneTreeOfACotree, OneGraphOfACotree}
 
-same_leaf : (v w : ℕ) → ◌≡◌ {A = Option PlaceKind} (Some (Leaf v)) (Some (Leaf w)) → v ≡ w
+pub same_leaf : (v w : ℕ) → ◌≡◌ {A = Option PlaceKind} (Some (Leaf v)) (Some (Leaf w)) → v ≡ w
 same_leaf v w e = cc
 
-no_leaf : (v : ℕ) (k : Bool) → ◌≡◌ {A = Option PlaceKind} (Some (Leaf v)) (Some (place_kind k)) → ⊥
+pub no_leaf : (v : ℕ) (k : Bool) → ◌≡◌ {A = Option PlaceKind} (Some (Leaf v)) (Some (place_kind k)) → ⊥
 no_leaf v true e = cc
 no_leaf v false e = cc
 
-same_kind : (k j : Bool) → ◌≡◌ {A = Option PlaceKind} (Some (place_kind k)) (Some (place_kind j)) → k ≡ j
+pub same_kind : (k j : Bool) → ◌≡◌ {A = Option PlaceKind} (Some (place_kind k)) (Some (place_kind j)) → k ≡ j
 same_kind true true e = refl
 same_kind true false e = cc
 same_kind false true e = cc

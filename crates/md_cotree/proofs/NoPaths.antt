@@ -73,21 +73,21 @@ path_below k cs ps a b c d at path = record {
   );
 }
 
-here_too : (t : PlainTree) (ts : PlainTrees) (x y : ℕ) → Has (names t) x → position_of (one_more t ts) x ≡ position_of (one_more t ts) y → Has (names t) y
+pub here_too : (t : PlainTree) (ts : PlainTrees) (x y : ℕ) → Has (names t) x → position_of (one_more t ts) x ≡ position_of (one_more t ts) y → Has (names t) y
 here_too t ts x y h same =
     elim (cases_Bool (contains (names t) y)) [
       | inl k ↦ k
       | inr l ↦ absurd (let e : 0 ≡ suc (position_of ts y) = sym (first_place t ts x h) ∙ same ∙ later_place t ts y l in omega arith)
     ]
 
-there_too : (t : PlainTree) (ts : PlainTrees) (x y : ℕ) → Lacks (names t) x → position_of (one_more t ts) x ≡ position_of (one_more t ts) y → Lacks (names t) y
+pub there_too : (t : PlainTree) (ts : PlainTrees) (x y : ℕ) → Lacks (names t) x → position_of (one_more t ts) x ≡ position_of (one_more t ts) y → Lacks (names t) y
 there_too t ts x y l same =
     elim (cases_Bool (contains (names t) y)) [
       | inl h ↦ absurd (let e : suc (position_of ts x) ≡ 0 = sym (later_place t ts x l) ∙ same ∙ first_place t ts y h in omega arith)
       | inr k ↦ k
     ]
 
-later_same : (t : PlainTree) (ts : PlainTrees) (x y : ℕ) → Lacks (names t) x → position_of (one_more t ts) x ≡ position_of (one_more t ts) y → position_of ts x ≡ position_of ts y
+pub later_same : (t : PlainTree) (ts : PlainTrees) (x y : ℕ) → Lacks (names t) x → position_of (one_more t ts) x ≡ position_of (one_more t ts) y → position_of ts x ≡ position_of ts y
 later_same t ts x y l same =
     let e : suc (position_of ts x) ≡ suc (position_of ts y) = sym (later_place t ts x l) ∙ same ∙ later_place t ts y (there_too t ts x y l same) in
     omega arith
@@ -129,7 +129,7 @@ mutual
 
 -- ---- the tree of a cotree
 
-kind_not_prime : (k : Bool) → kind_of k ≢ Prime
+pub kind_not_prime : (k : Bool) → kind_of k ≢ Prime
 kind_not_prime true = λ e. cc
 kind_not_prime false = λ e. cc
 
@@ -137,7 +137,7 @@ cond_one : (p w v : ℕ) → w ≡ v → ◌≡◌ {A = ℕ} (cond ((p == p) && 
 cond_one p w v same = λ i. cond (eq-eqb p p refl i && eq-eqb w v same i) 1 0
 
 mutual
-  shape_not_prime : (t : PlaceTree) → EachNode NotPrime (shape t)
+  pub shape_not_prime : (t : PlaceTree) → EachNode NotPrime (shape t)
   shape_not_prime (tip p v) = tt
   shape_not_prime (inner p k ts) = (kind_not_prime k, shapes_not_prime ts)
 
@@ -147,12 +147,12 @@ mutual
 
 mutual
   -- a name of the tree stands at a leaf
-  name_stands : (t : PlaceTree) (v : ℕ) → Has (names (shape t)) v → (p : ℕ) × (0 < leaves_in p v t)
+  pub name_stands : (t : PlaceTree) (v : ℕ) → Has (names (shape t)) v → (p : ℕ) × (0 < leaves_in p v t)
   name_stands (tip p w) v h =
       (p, let same = of_only w v h in let one = cond_one p w v (sym same) in omega arith)
   name_stands (inner p k ts) v h = name_below ts v h
 
-  name_below : (ts : PlaceTrees) (v : ℕ) → Has (names_below (shapes ts)) v → (p : ℕ) × (0 < leaves_among p v ts)
+  pub name_below : (ts : PlaceTrees) (v : ℕ) → Has (names_below (shapes ts)) v → (p : ℕ) × (0 < leaves_among p v ts)
   name_below no_more v h = clash h (empty_lacks v)
   name_below (then t ts) v h =
       elim (of_union (names (shape t)) (names_below (shapes ts)) v h) [
@@ -161,7 +161,7 @@ mutual
       ]
 
 -- the names of a kept tree are names
-kept_below : (c : Cotree) (t : PlaceTree) → IsKeptAs c (Some t) → AllBelow (names (shape t)) NAMES
+pub kept_below : (c : Cotree) (t : PlaceTree) → IsKeptAs c (Some t) → AllBelow (names (shape t)) NAMES
 kept_below c t kept v h =
     let at = name_stands t v h in
     let e = kept.names v at.0 in

@@ -1,5 +1,5 @@
 -- The graph that a tree denotes: adjacency in a tree has no direction and no loops, and it is that of the graph.
-use Rattle.std.proofs.Common.{◌≡◌, ℕ, suc, ◌<◌, Bool, true, false, min, max, ◌&&◌, nat_lt, List, Option, Some, None, refl, sym, ◌∙◌, ap, inl, inr, arith}
+use Rattle.std.proofs.Common.{◌≡◌, ℕ, suc, ◌<◌, true, false, min, max, ◌&&◌, nat_lt, List, Option, Some, None, refl, sym, ◌∙◌, ap, inl, inr, arith}
 use Rattle.std.proofs.lemmas.Bool.{cases_Bool, cases_eq, cases_order, eq-eqb, ne_eqb, lt-ltb, ltb-true, and_parts}
 use Rattle.std.specs.FinSet.{contains}
 use Rattle.md_graph.specs.declared.TheConstants.{NAMES}

@@ -1,4 +1,7 @@
 pub mod Laws
 pub mod PlaceTrees
+pub mod Forests
+pub mod Climbs
+pub mod Orders
 pub mod Cotrees
 pub mod CotreeLaws

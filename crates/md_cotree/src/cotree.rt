@@ -45,6 +45,8 @@ impl Cotree {
 #[cfg(test)]
 mod tests {
     use super::*;
+    use crate::from_tree;
+    use md_tree::Tree;
     use std::test::Fail;
 
     #[test]
@@ -53,6 +55,17 @@ mod tests {
         assert_eq!(rt; cotree.node_count(), 0);
         assert_eq!(rt; cotree.leaves, 0);
         assert_eq!(rt; cotree.root, None);
+        Ok(())
+    }
+
+    #[test]
+    fn one_vertex(rt: HostRuntime) -> Result<(), Fail> {
+        let alloc = rt.alloc();
+        let cotree = from_tree(alloc, &Some(Tree::Leaf(7)))?;
+        assert_eq!(rt; cotree.node_count(), 1);
+        assert_eq!(rt; cotree.adjacent(7, 7), false);
+        let back = cotree.to_tree(alloc)?;
+        assert!(rt; matches!(back, Some(Tree::Leaf(7))));
         Ok(())
     }
 }

@@ -1,7 +1,14 @@
 //! Cotrees: trees without prime nodes, over linked lists.
 #![tactic(auto)]
 
+mod adjacency;
 mod cotree;
 pub mod laws;
+mod ordering;
+mod planting;
 
 pub use cotree::Cotree;
+pub use planting::from_tree;
+
+#[cfg(test)]
+mod tests;

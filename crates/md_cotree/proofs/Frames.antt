@@ -1,0 +1,225 @@
+-- Trees stay where they stand while other places change.
+use Rattle.std.proofs.Common.{◌≡◌, ◌≢◌, ℕ, ◌+◌, ◌<◌, ◌≤◌, Bool, true, false, cond, ◌==◌, [], ◌∷◌, ◌++◌, Option, Some, None, is_some, refl, sym, ◌∙◌, ap, inl, inr, arith}
+use Rattle.std.proofs.lemmas.Bool.{cases_eq, eq-eqb, ne_eqb}
+use Rattle.md_lists.specs.declared.kinds.PlaceKind.{PlaceKind}
+use Rattle.md_lists.specs.declared.TheConstants.{PLACES}
+use Rattle.md_lists.specs.Links.{Links, kind_at, parent_at, children_at, alive, IsLive, AreLinks, with_kind, attached}
+use Rattle.md_lists.proofs.LinkLaws.{attached_parent, attached_children, kind-with_kind}
+use Rattle.md_cotree.specs.PlaceTrees.{PlaceTree, tip, inner, PlaceTrees, no_more, then, place_of, Stands, StandsBelow, StandLoose, times_in, times_among, Fits}
+use Rattle.md_cotree.specs.Forests.{joined}
+use Rattle.md_cotree.proofs.Rows.{roots-joined, times-joined}
+
+-- the places below the root of a tree
+abbrev pub times_under : ℕ → PlaceTree → ℕ
+times_under p (tip q v) = 0
+times_under p (inner q k ts) = times_among p ts
+
+pub under_in : (p : ℕ) (t : PlaceTree) → times_in p t ≡ cond (place_of t == p) 1 0 + times_under p t
+under_in p (tip q v) = omega arith
+under_in p (inner q k ts) = refl
+
+pub hit : (q p : ℕ) → q ≡ p → ◌≡◌ {A = ℕ} (cond (q == p) 1 0) 1
+hit q p same = rw (eq-eqb q p same) refl
+
+pub miss : (q p : ℕ) → (q ≡ p → ⊥) → ◌≡◌ {A = ℕ} (cond (q == p) 1 0) 0
+miss q p differ = rw (ne_eqb q p differ) refl
+
+pub root_in : (t : PlaceTree) → times_in (place_of t) t ≡ 1 + times_under (place_of t) t
+root_in t = let e = under_in (place_of t) t in let h = hit (place_of t) (place_of t) refl in omega arith
+
+module _ (l m : Links) where
+  -- the place has the same kind and the same children
+  record Same (p : ℕ) : Type 0 where
+    kind : kind_at m p ≡ kind_at l p
+    children : children_at m p ≡ children_at l p
+
+  mutual
+    still_in : (t : PlaceTree) → ((p : ℕ) → 0 < times_in p t → Same p) → ((p : ℕ) → 0 < times_under p t → parent_at m p ≡ parent_at l p) → Stands l t → Stands m t
+    still_in (tip p v) same parent is =
+        let at = same p (let e = root_in (tip p v) in omega arith) in
+        (at.kind ∙ is.0, at.children ∙ is.1)
+    still_in (inner p k ts) same parent is =
+        let at = same p (let e = root_in (inner p k ts) in omega arith) in
+        (at.kind ∙ is.0, at.children ∙ is.1, still_below p ts (λ q some. same q (let e = under_in q (inner p k ts) in omega arith)) parent is.2)
+
+    still_below : (r : ℕ) (ts : PlaceTrees) → ((p : ℕ) → 0 < times_among p ts → Same p) → ((p : ℕ) → 0 < times_among p ts → parent_at m p ≡ parent_at l p) → StandsBelow l r ts → StandsBelow m r ts
+    still_below r no_more same parent is = tt
+    still_below r (then t ts) same parent is = (
+      parent (place_of t) (let e = root_in t in omega arith) ∙ is.0,
+      still_in t (λ q some. same q (omega arith)) (λ q some. parent q (let e = under_in q t in omega arith)) is.1,
+      still_below r ts (λ q some. same q (omega arith)) (λ q some. parent q (omega arith)) is.2,
+    )
+
+  still_loose : (ts : PlaceTrees) → ((p : ℕ) → 0 < times_among p ts → Same p) → ((p : ℕ) → 0 < times_among p ts → parent_at m p ≡ parent_at l p) → StandLoose l ts → StandLoose m ts
+  still_loose no_more same parent is = tt
+  still_loose (then t ts) same parent is = (
+    parent (place_of t) (let e = root_in t in omega arith) ∙ is.0,
+    still_in t (λ q some. same q (omega arith)) (λ q some. parent q (let e = under_in q t in omega arith)) is.1,
+    still_loose ts (λ q some. same q (omega arith)) (λ q some. parent q (omega arith)) is.2,
+  )
+
+-- ---- rows
+
+loose_both : (l : Links) (ts us : PlaceTrees) → StandLoose l ts → StandLoose l us → StandLoose l (joined ts us)
+loose_both l no_more us a b = b
+loose_both l (then t ts) us a b = (a.0, a.1, loose_both l ts us a.2 b)
+
+loose_first : (l : Links) (ts us : PlaceTrees) → StandLoose l (joined ts us) → StandLoose l ts
+loose_first l no_more us a = tt
+loose_first l (then t ts) us a = (a.0, a.1, loose_first l ts us a.2)
+
+loose_rest : (l : Links) (ts us : PlaceTrees) → StandLoose l (joined ts us) → StandLoose l us
+loose_rest l no_more us a = a
+loose_rest l (then t ts) us a = loose_rest l ts us a.2
+
+below_both : (l : Links) (r : ℕ) (ts us : PlaceTrees) → StandsBelow l r ts → StandsBelow l r us → StandsBelow l r (joined ts us)
+below_both l r no_more us a b = b
+below_both l r (then t ts) us a b = (a.0, a.1, below_both l r ts us a.2 b)
+
+-- the first tree becomes the last
+pub fits_last : (l : Links) (t : PlaceTree) (ts : PlaceTrees) → Fits l (then t ts) → Fits l (joined ts (then t no_more))
+fits_last l t ts fits = record {
+  stand = loose_both l ts (then t no_more) fits.stand.2 (fits.stand.0, fits.stand.1, tt);
+  each = λ p. let e = times-joined p ts (then t no_more) in let f = fits.each p in omega arith;
+}
+
+-- each place of the trees is live, and stands in them once
+pub place_live : (l : Links) (ts : PlaceTrees) → Fits l ts → (p : ℕ) → 0 < times_among p ts → IsLive l p
+place_live l ts fits p some = go (is_some (kind_at l p)) (fits.each p)
+  where
+    go : (b : Bool) → times_among p ts ≡ cond b 1 0 → b ≡ true
+    go true e = refl
+    go false e = absurd (omega arith)
+
+pub place_once : (l : Links) (ts : PlaceTrees) → Fits l ts → (p : ℕ) → times_among p ts ≤ 1
+place_once l ts fits p = go (is_some (kind_at l p)) (fits.each p)
+  where
+    go : (b : Bool) → times_among p ts ≡ cond b 1 0 → times_among p ts ≤ 1
+    go true e = omega arith
+    go false e = omega arith
+
+-- ---- a place that was free
+
+module _ (l : Links) (ok : AreLinks l) (p : ℕ) (free : kind_at l p ≡ None) (within : p < PLACES) where
+  made_kind : (k : PlaceKind) (x : ℕ) → kind_at (with_kind l p (Some k)) x ≡ cond (x == p) (Some k) (kind_at l x)
+  made_kind k x = kind-with_kind l ok p x (Some k) within
+
+  -- a tree of one place more
+  pub fits_made : (ts : PlaceTrees) (t : PlaceTree) (k : PlaceKind) → Fits l ts → place_of t ≡ p → ((q : ℕ) → times_under q t ≡ 0) →
+      (kind_at (with_kind l p (Some k)) p ≡ Some k → children_at l p ≡ [] → Stands (with_kind l p (Some k)) t) → Fits (with_kind l p (Some k)) (then t ts)
+  fits_made ts t k fits at alone stands = record {
+    stand = (
+      ap (parent_at l) at ∙ (ok.bare p free).no_parent,
+      stands (made_kind k p ∙ ap (λ b. cond b (Some k) (kind_at l p)) (eq-eqb p p refl)) (ok.bare p free).no_children,
+      still_loose l (with_kind l p (Some k)) ts
+          (λ q some. record { kind = made_kind k q ∙ ap (λ b. cond b (Some k) (kind_at l q)) (ne_eqb q p (other q some)); children = refl })
+          (λ q some. refl) fits.stand,
+    );
+    each = λ q. elim (cases_eq q p) [
+      | inl same ↦ here q same
+      | inr differ ↦ there q differ
+    ];
+  }
+    where
+      none : times_among p ts ≡ 0
+      none = fits.each p ∙ ap (λ (o : Option PlaceKind). cond (is_some o) 1 0) free
+
+      other : (q : ℕ) → 0 < times_among q ts → q ≡ p → ⊥
+      other q some same = let e = ap (λ z. times_among z ts) same in let n = none in omega arith
+
+      here : (q : ℕ) → q ≡ p → times_in q t + times_among q ts ≡ alive (with_kind l p (Some k)) q
+      here q same =
+          let one : times_in q t ≡ 1 = let e = under_in q t in let h = hit (place_of t) q (at ∙ sym same) in let a = alone q in omega arith in
+          let rest : times_among q ts ≡ 0 = ap (λ z. times_among z ts) same ∙ none in
+          let live : alive (with_kind l p (Some k)) q ≡ 1 = ap (λ (o : Option PlaceKind). cond (is_some o) 1 0) (made_kind k q ∙ ap (λ b. cond b (Some k) (kind_at l q)) (eq-eqb q p same)) in
+          omega arith
+
+      there : (q : ℕ) → (q ≡ p → ⊥) → times_in q t + times_among q ts ≡ alive (with_kind l p (Some k)) q
+      there q differ =
+          let one : times_in q t ≡ 0 = let e = under_in q t in let h = miss (place_of t) q (λ z. differ (sym z ∙ at)) in let a = alone q in omega arith in
+          let rest = fits.each q in
+          let live : alive (with_kind l p (Some k)) q ≡ alive l q = ap (λ (o : Option PlaceKind). cond (is_some o) 1 0) (made_kind k q ∙ ap (λ b. cond b (Some k) (kind_at l q)) (ne_eqb q p differ)) in
+          omega arith
+
+-- ---- a tree becomes the last child of another
+
+module _ (l : Links) (ok : AreLinks l) (q : ℕ) (k : Bool) (done ts left : PlaceTrees) (t : PlaceTree) (fits : Fits l (then (inner q k done) (joined ts (then t left)))) where
+  abbrev all : PlaceTrees
+  all = then (inner q k done) (joined ts (then t left))
+
+  abbrev c : ℕ
+  c = place_of t
+
+  parts : (p : ℕ) → times_among p all ≡ (cond (q == p) 1 0 + times_among p done) + (times_among p ts + (times_in p t + times_among p left))
+  parts p = let e = times-joined p ts (then t left) in omega arith
+
+  at_parent : 1 ≤ times_among q all
+  at_parent = let e = parts q in let one = hit q q refl in omega arith
+
+  at_child : 1 ≤ times_among c all
+  at_child = let e = parts c in let one = root_in t in omega arith
+
+  pub attach_parent : IsLive l q
+  attach_parent = place_live l all fits q at_parent
+
+  pub attach_child : IsLive l c
+  attach_child = place_live l all fits c at_child
+
+  pub attach_loose : parent_at l c ≡ None
+  attach_loose = (loose_rest l ts (then t left) fits.stand.2).0
+
+  -- the parent stands in none of the other trees, and the child in none but its own
+  once_parent : (times_among q done ≡ 0) × (times_among q ts ≡ 0) × (times_in q t ≡ 0) × (times_among q left ≡ 0)
+  once_parent =
+      let e = parts q in let one = hit q q refl in let low = place_once l all fits q in
+      (omega arith, omega arith, omega arith, omega arith)
+
+  once_child : (times_among c done ≡ 0) × (times_among c ts ≡ 0) × (times_under c t ≡ 0) × (times_among c left ≡ 0)
+  once_child =
+      let e = parts c in let one = root_in t in let low = place_once l all fits c in
+      (omega arith, omega arith, omega arith, omega arith)
+
+  pub attach_differ : q ≢ c
+  attach_differ same = let none = once_parent.2 in let one = root_in t in let e = ap (λ z. times_in z t) same in omega arith
+
+  abbrev m : Links
+  m = attached l q c
+
+  other_parent : (x : ℕ) → x ≢ c → parent_at m x ≡ parent_at l x
+  other_parent x differ = attached_parent l ok q c attach_parent attach_child attach_loose x ∙ ap (λ b. cond b (Some q) (parent_at l x)) (ne_eqb x c differ)
+
+  child_parent : parent_at m c ≡ Some q
+  child_parent = attached_parent l ok q c attach_parent attach_child attach_loose c ∙ ap (λ b. cond b (Some q) (parent_at l c)) (eq-eqb c c refl)
+
+  other_same : (x : ℕ) → x ≢ q → Same l m x
+  other_same x differ = record {
+    kind = refl;
+    children = attached_children l ok q c attach_parent attach_child attach_loose x ∙ ap (λ b. cond b (children_at l q ++ c ∷ []) (children_at l x)) (ne_eqb x q differ);
+  }
+
+  apart : (f : ℕ → ℕ) (z x : ℕ) → f z ≡ 0 → 0 < f x → x ≢ z
+  apart f z x none some same = let e = ap f same in omega arith
+
+  pub fits_attached : Fits m (then (inner q k (joined done (then t no_more))) (joined ts left))
+  fits_attached = record {
+    stand = (
+      other_parent q attach_differ ∙ fits.stand.0,
+      (
+        fits.stand.1.0,
+        attached_children l ok q c attach_parent attach_child attach_loose q ∙ ap (λ b. cond b (children_at l q ++ c ∷ []) (children_at l q)) (eq-eqb q q refl)
+            ∙ ap (λ xs. xs ++ c ∷ []) fits.stand.1.1 ∙ sym (roots-joined done (then t no_more)),
+        below_both m q done (then t no_more)
+            (still_below l m q done (λ x some. other_same x (apart (λ z. times_among z done) q x once_parent.0 some)) (λ x some. other_parent x (apart (λ z. times_among z done) c x once_child.0 some)) fits.stand.1.2)
+            (child_parent, still_in l m t (λ x some. other_same x (apart (λ z. times_in z t) q x once_parent.2 some)) (λ x some. other_parent x (apart (λ z. times_under z t) c x once_child.2 some)) child.1, tt),
+      ),
+      loose_both m ts left
+          (still_loose l m ts (λ x some. other_same x (apart (λ z. times_among z ts) q x once_parent.1 some)) (λ x some. other_parent x (apart (λ z. times_among z ts) c x once_child.1 some)) (loose_first l ts (then t left) fits.stand.2))
+          (still_loose l m left (λ x some. other_same x (apart (λ z. times_among z left) q x once_parent.3 some)) (λ x some. other_parent x (apart (λ z. times_among z left) c x once_child.3 some)) child.2),
+    );
+    each = λ p.
+        let e = parts p in let f = fits.each p in let a = times-joined p done (then t no_more) in let b = times-joined p ts left in
+        omega arith;
+  }
+    where
+      child : (parent_at l c ≡ None) × Stands l t × StandLoose l left
+      child = loose_rest l ts (then t left) fits.stand.2

@@ -1,0 +1,44 @@
+-- Ways up from a place, from each place to its parent.
+-- Source: ancestors in rooted trees, as in any textbook of graph theory.
+use Rattle.std.specs.Prelude.{◌≡◌, ◌≢◌, ◌<◌, ◌+◌, ℕ, zero, suc, Bool, Some, None}
+use Rattle.md_lists.specs.declared.TheConstants.{PLACES}
+use Rattle.md_lists.specs.Links.{Links, kind_at, parent_at}
+use Rattle.md_cotree.specs.PlaceTrees.{place_kind}
+
+-- n steps up from p lead to a
+abbrev pub Climbs : Links → ℕ → ℕ → ℕ → Type 0
+Climbs l zero p a = p ≡ a
+Climbs l (suc n) p a = (q : ℕ) × (parent_at l p ≡ Some q) × Climbs l n q a
+
+-- n steps up from p and from q lead to different children of one place, which is series or not
+pub record Meet (l : Links) (p q n : ℕ) (series : Bool) : Type 0 where
+  pub left : ℕ
+  pub right : ℕ
+  pub top : ℕ
+  pub from_left : Climbs l n p left
+  pub from_right : Climbs l n q right
+  pub differ : left ≢ right
+  pub left_top : parent_at l left ≡ Some top
+  pub right_top : parent_at l right ≡ Some top
+  pub kind : kind_at l top ≡ Some (place_kind series)
+
+-- ways up from p and from q end at one place without a parent, and meet where they lead to different children of one place, which is
+-- series or not
+pub record Meets (l : Links) (p q : ℕ) (series : Bool) : Type 0 where
+  pub left : ℕ
+  pub right : ℕ
+  pub top : ℕ
+  pub root : ℕ
+  pub left_steps : ℕ
+  pub right_steps : ℕ
+  pub steps_on : ℕ
+  pub from_left : Climbs l left_steps p left
+  pub from_right : Climbs l right_steps q right
+  pub differ : left ≢ right
+  pub left_top : parent_at l left ≡ Some top
+  pub right_top : parent_at l right ≡ Some top
+  pub on : Climbs l steps_on top root
+  pub no_parent : parent_at l root ≡ None
+  pub kind : kind_at l top ≡ Some (place_kind series)
+  pub left_few : suc (left_steps + steps_on) < PLACES
+  pub right_few : suc (right_steps + steps_on) < PLACES
