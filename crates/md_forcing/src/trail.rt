@@ -68,8 +68,8 @@ impl Trail {
         self.entries.len() as u64
     }
 
-    // The arc at a place, and the place of the arc that forced it. Condition: there are more.
-    pub(crate) fn entry(&self, i: usize) -> (Arc, u32)
+    /// The arc at a place, and the place of the arc that forced it. Condition: there are more.
+    pub fn entry(&self, i: usize) -> (Arc, u32)
         requires { i < length self.now }
         ensures { slice_get self.now i ≡ Some result }
     {

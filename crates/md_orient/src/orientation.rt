@@ -1,11 +1,14 @@
 //! Transitive orientations.
-ghost use Rattle.std.specs.Prelude.{◌≡◌, ◌++◌, length, map, IfOk, OnOk};
+ghost use Rattle.std.specs.Prelude.{◌≡◌, ◌++◌, ℕ, Bool, length, map, IfOk, OnOk};
 ghost use Rattle.md_graph.specs.NameSet.{ascending};
 ghost use Rattle.md_graph.specs.PlainGraph.{adjacent};
 ghost use Rattle.md_forcing.specs.Forcing.{arc};
-ghost use Rattle.md_orient.specs.Verdicts.{IsVerdict, arcs_below};
+ghost use Rattle.md_orientation.specs.Chains.{IsForcingChain};
+ghost use Rattle.md_orientation.specs.Listed.{arcs_below};
+ghost use Rattle.md_orientation.specs.Walking.{IsStopped};
+ghost use Rattle.md_orient.specs.Verdicts.{IsVerdict};
 
-use md_forcing::{Arc, Arcs, Chain, Seen, Side, chain_of};
+use md_forcing::{Arc, Arcs, Chain, Seen, Side, Trail, chain_of};
 use md_graph::{Graph, Memory, Names};
 use md_orientation::{Ending, walk};
 use std::alloc::Global;
@@ -24,14 +27,26 @@ pub fn orient(alloc: Global, graph: &Graph) -> Result<Verdict, Memory>
 {
     let _vertices = graph.vertices();
     match walk(alloc, graph, Side::Edges)? {
-        Ending::Stopped(trail) => match chain_of(alloc, &trail)? {
-            Some(chain) => Ok(Verdict::Forced(chain)),
-            None => unreachable!(),
-        },
+        Ending::Stopped(trail) => {
+            let chain = chain_along(alloc, &trail)?;
+            Ok(Verdict::Forced(chain))
+        }
         Ending::Whole(chosen) => {
             let list = listed(alloc, &chosen)?;
             Ok(Verdict::Transitive(Arcs::from_list(list)))
         }
+    }
+}
+
+// The forcing chain along a trail. Condition: a walk through some graph stopped with the trail.
+pub(crate) fn chain_along(alloc: Global, trail: &Trail) -> Result<Chain, Memory>
+    requires { (e : ℕ → ℕ → Bool) × IsStopped e trail.now }
+    ensures { IfOk result (λ chain. (e : ℕ → ℕ → Bool)
+        → IsStopped e trail.now → IsForcingChain e chain) }
+{
+    match chain_of(alloc, trail)? {
+        Some(chain) => Ok(chain),
+        None => unreachable!(),
     }
 }
 

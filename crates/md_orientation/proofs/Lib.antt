@@ -11,3 +11,5 @@ pub mod WalkLemmas
 pub mod Near
 pub mod Sorted
 pub mod OrderLaws
+pub mod Placed
+pub mod Listing

@@ -10,7 +10,7 @@ use Rattle.md_orientation.specs.Chains.{HasForcingChain}
 use Rattle.md_orientation.specs.Orientations.{IsTransitiveOrientation, HasTransitiveOrientation}
 use Rattle.md_orientation.specs.Orders.{IsOrder, Before, Realise, IsLinear}
 use Rattle.md_orientation.specs.Laws.{OrientationsGiveOrders, OrdersIfNoChain, IsComplementOn, IsBelow}
-use Rattle.md_orientation.proofs.Sorted.{before_one_way, before_on, before_one, decide_before, sorted_before, before_sorted, sorted_order}
+use Rattle.md_orientation.proofs.Sorted.{before_one_way, before_on, before_one, decide_before, IsSortedBy, sorted_before, before_sorted, sorted_order}
 use Rattle.md_orientation.proofs.Alternative.{chain_or_free, chain_has_no_orientation, free_orientation}
 
 -- an orientation and one of the complement, merged
@@ -19,7 +19,7 @@ merged f g u v = f u v || g u v
 
 module _ (e other : ℕ → ℕ → Bool) (s : NameSet) (is : IsAdjacency e) (is_other : IsAdjacency other) (sides : IsComplementOn s e other) where
   -- no edge of one side is one of the other
-  one_side : (u v : ℕ) → e u v ≡ true → other u v ≡ true → ⊥
+  pub one_side : (u v : ℕ) → e u v ≡ true → other u v ≡ true → ⊥
   one_side u v h k =
       let ends = sides.ends u v h in
       let apart : u ≢ v = λ same. clash h (subst (λ x. e u x ≡ false) same (is.irreflexive u)) in
@@ -94,34 +94,37 @@ module _ (e other : ℕ → ℕ → Bool) (s : NameSet) (is : IsAdjacency e) (is
     abbrev back_f : ℕ → ℕ → Bool
     back_f u v = f v u
 
-    pub orders : (p : List ℕ) × (q : List ℕ) × Realise e s p q
-    orders =
+    pub back_linear : IsLinear (merged back_f g) s
+    back_linear = merged_linear back_f g (turned_orientation f o) o_other
+
+    pub realised : (p q : List ℕ) → IsOrder s p → IsSortedBy (merged f g) p → IsOrder s q → IsSortedBy (merged back_f g) q → Realise e s p q
+    realised p q is_p sorted_p is_q sorted_q =
         let linear = merged_linear f g o o_other in
-        let linear_too = merged_linear back_f g (turned_orientation f o) o_other in
-        let p = sorted_order (merged f g) s linear in
-        let q = sorted_order (merged back_f g) s linear_too in
-        let in_p : (u v : ℕ) → Has s u → Has s v → merged f g u v ≡ true → Before p.0 u v = λ u v in_u in_v t. before_sorted (merged f g) linear.one_way p.0 u v p.2 ((p.1.members u).1 in_u) ((p.1.members v).1 in_v) t in
-        let in_q : (u v : ℕ) → Has s u → Has s v → merged back_f g u v ≡ true → Before q.0 u v = λ u v in_u in_v t. before_sorted (merged back_f g) linear_too.one_way q.0 u v q.2 ((q.1.members u).1 in_u) ((q.1.members v).1 in_v) t in
-        let of_p : (u v : ℕ) → Before p.0 u v → (f u v ≡ true) ⊎ (g u v ≡ true) = λ u v b. of_or (f u v) (g u v) (sorted_before (merged f g) p.0 u v p.2 b) in
-        let of_q : (u v : ℕ) → Before q.0 u v → (f v u ≡ true) ⊎ (g u v ≡ true) = λ u v b. of_or (f v u) (g u v) (sorted_before (merged back_f g) q.0 u v q.2 b) in
-        let told : (u v : ℕ) → Before p.0 u v → Before q.0 v u → e u v ≡ true = λ u v b c. elim (of_p u v b) [
+        let in_p : (u v : ℕ) → Has s u → Has s v → merged f g u v ≡ true → Before p u v = λ u v in_u in_v t. before_sorted (merged f g) linear.one_way p u v sorted_p ((is_p.members u).1 in_u) ((is_p.members v).1 in_v) t in
+        let in_q : (u v : ℕ) → Has s u → Has s v → merged back_f g u v ≡ true → Before q u v = λ u v in_u in_v t. before_sorted (merged back_f g) back_linear.one_way q u v sorted_q ((is_q.members u).1 in_u) ((is_q.members v).1 in_v) t in
+        let of_p : (u v : ℕ) → Before p u v → (f u v ≡ true) ⊎ (g u v ≡ true) = λ u v b. of_or (f u v) (g u v) (sorted_before (merged f g) p u v sorted_p b) in
+        let of_q : (u v : ℕ) → Before q u v → (f v u ≡ true) ⊎ (g u v ≡ true) = λ u v b. of_or (f v u) (g u v) (sorted_before (merged back_f g) q u v sorted_q b) in
+        let told : (u v : ℕ) → Before p u v → Before q v u → e u v ≡ true = λ u v b c. elim (of_p u v b) [
           | inl a ↦ o.arcs u v a
           | inr a ↦ elim (of_q v u c) [ inl d ↦ o.arcs u v d | inr d ↦ absurd (o_other.not_both u v a d) ]
-        ] in (
-          p.0,
-          q.0,
-          record {
-            first = p.1;
-            second = q.1;
-            edges = λ u v in_u in_v apart. (
-              λ h. elim (o.one u v h) [
-                | inl a ↦ inl (in_p u v in_u in_v (or_left _ _ a), in_q v u in_v in_u (or_left _ _ a))
-                | inr a ↦ inr (in_p v u in_v in_u (or_left _ _ a), in_q u v in_u in_v (or_left _ _ a))
-              ],
-              λ d. elim d [ inl w ↦ told u v w.0 w.1 | inr w ↦ is.symmetric u v ∙ told v u w.0 w.1 ],
-            );
-          },
-        )
+        ] in
+        record {
+          first = is_p;
+          second = is_q;
+          edges = λ u v in_u in_v apart. (
+            λ h. elim (o.one u v h) [
+              | inl a ↦ inl (in_p u v in_u in_v (or_left _ _ a), in_q v u in_v in_u (or_left _ _ a))
+              | inr a ↦ inr (in_p v u in_v in_u (or_left _ _ a), in_q u v in_u in_v (or_left _ _ a))
+            ],
+            λ d. elim d [ inl w ↦ told u v w.0 w.1 | inr w ↦ is.symmetric u v ∙ told v u w.0 w.1 ],
+          );
+        }
+
+    pub orders : (p : List ℕ) × (q : List ℕ) × Realise e s p q
+    orders =
+        let p = sorted_order (merged f g) s (merged_linear f g o o_other) in
+        let q = sorted_order (merged back_f g) s back_linear in
+        (p.0, q.0, realised p.0 q.0 p.1 p.2 q.1 q.2)
 
 pub orders_proof : OrientationsGiveOrders
 orders_proof e other f g s is is_other sides o o_other = orders e other s is is_other sides f g o o_other

@@ -3,3 +3,4 @@ pub mod Orientations
 pub mod Orders
 pub mod Laws
 pub mod Walking
+pub mod Listed

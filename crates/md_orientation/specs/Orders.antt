@@ -1,6 +1,7 @@
 -- Orders of the vertices, and two that realise a graph.
 -- Source: Golumbic, Algorithmic Graph Theory and Perfect Graphs, chapter 7.
 use Rattle.std.specs.Prelude.{◌≡◌, ◌≢◌, ◌⊎◌, ◌↔◌, ℕ, Bool, true, List, [], ◌∷◌}
+use Rattle.std.specs.FinSet as set
 use Rattle.md_graph.specs.Sets.{NameSet, Has}
 use Rattle.md_forcing.specs.Lists.{Holds, NoRepeats}
 
@@ -29,3 +30,7 @@ pub record IsLinear (r : ℕ → ℕ → Bool) (s : NameSet) : Type 0 where
   pub one : (u v : ℕ) → Has s u → Has s v → u ≢ v → (r u v ≡ true) ⊎ (r v u ≡ true)
   pub one_way : (u v : ℕ) → r u v ≡ true → r v u ≡ true → ⊥
   pub transitive : (u v w : ℕ) → Has s u → Has s v → Has s w → r u v ≡ true → r v w ≡ true → r u w ≡ true
+
+-- the place of v in an order of s, by its test, counted from 0: how many members of s come before v
+abbrev pub place_in : (ℕ → ℕ → Bool) → NameSet → ℕ → ℕ
+place_in r s v = set.len (set.retain s (λ u. r u v))

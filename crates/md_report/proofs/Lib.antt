@@ -1,2 +1,6 @@
 pub mod Places
+pub mod Cutting
+pub mod Named
+pub mod Behind
 pub mod Fronts
+pub mod OneLine

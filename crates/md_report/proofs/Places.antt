@@ -8,11 +8,13 @@ use Rattle.md_modules.specs.declared.induced_paths.P4.{P4}
 use Rattle.md_tree.specs.Trees.{PlainTree}
 use Rattle.md_tree.specs.StrongTrees.{IsTree}
 use Rattle.md_tree.proofs.OneTree.{one_tree_proof}
-use Rattle.md_forcing.specs.declared.seen.Side.TheVariants.{Edges}
-use Rattle.md_orientation.specs.Laws.{MeetsPremises}
-use Rattle.md_orientation.proofs.Reached.{side_premises}
+use Rattle.md_forcing.specs.declared.seen.Side.TheVariants.{Edges, NonEdges}
+use Rattle.md_forcing.specs.Sides.{adjacent_on}
+use Rattle.md_orientation.specs.Laws.{MeetsPremises, HasTwoSides, HasChainOrOrientation}
+use Rattle.md_orientation.proofs.Reached.{side_premises, sides_proof}
 use Rattle.md_orientation.proofs.Alternative.{alternative_proof}
 use Rattle.md_orientation.proofs.OneList.{one_list_proof}
+use Rattle.md_orientation.proofs.OrderLaws.{orders_proof}
 use Rattle.std.specs.List.{All}
 use Rattle.std.proofs.lemmas.List.Elements.{All-nil, All-head, All-tail}
 use Rattle.md_script.specs.declared.edit.Edit as script
@@ -20,11 +22,12 @@ use Rattle.md_script.specs.declared.edit.EditReason.{EditReason}
 use Rattle.md_script.specs.Edit.{HasNames, reason_of, after}
 use Rattle.md_script.proofs.ChangeLemmas.{after_is_graph}
 use Rattle.md_report.specs.declared.line.GraphMode.{GraphMode}
-use Rattle.md_report.specs.declared.line.GraphMode.TheVariants.{Tree, Compare}
+use Rattle.md_report.specs.declared.line.GraphMode.TheVariants.{Tree, Compare, Permute}
 use Rattle.md_report.specs.declared.line.SessionMode.{SessionMode}
 use Rattle.md_report.specs.declared.line.SessionMode.TheVariants.{Edit, Cograph}
-use Rattle.md_report.specs.Lines.{PlainLine, mode_of, session_mode_of, head, tree, applied, refused, refused_p4, not_cograph, oriented, forced, end}
+use Rattle.md_report.specs.Lines.{PlainLine, mode_of, session_mode_of, head, tree, applied, refused, refused_p4, not_cograph, oriented, forced, orders, forced_in, forced_in_complement, end}
 use Rattle.md_report.specs.Orientations.{IsOrientationLine}
+use Rattle.md_report.specs.Models.{IsModelLine}
 use Rattle.md_report.specs.Sessions.{HasTreeLine, IsLineBy, state_by, IsStepLine, state_after, state_behind, SessionRun}
 use Rattle.md_report.specs.Cographs.{IsP4Of, IsCograph, IsOpeningLine, IsCographLineBy, IsCographLine, edits_behind, CographRun}
 use Rattle.md_report.specs.Places.{Place, before_head, at_graphs, before_session, at_state, at_edits, after_end, Reports, ReportsState, MayCome, next_place, Lead}
@@ -71,6 +74,9 @@ names_behind (refused reason) edits names = names
 names_behind (refused_p4 p) edits names = names
 names_behind (oriented arcs) edits names = names
 names_behind (forced chain) edits names = names
+names_behind (orders first second) edits names = names
+names_behind (forced_in chain) edits names = names
+names_behind (forced_in_complement chain) edits names = names
 names_behind end edits names = names
 
 -- the place behind a sound one is sound
@@ -109,9 +115,29 @@ orientation_line g is =
           (oriented list.0, (has, list.1))
     ]
 
+-- each graph has a line with two orders that realise it, or with a forcing chain of it or of its complement
+model_line : (g : PlainGraph) → IsGraph g → (line : PlainLine) × IsModelLine g line
+model_line g is =
+    let two : HasTwoSides g = sides_proof g is in
+    let near : MeetsPremises (adjacent g) = two.side Edges in
+    let apart : MeetsPremises (adjacent_on NonEdges g) = two.side NonEdges in
+    let edges : HasChainOrOrientation (adjacent g) = alternative_proof (adjacent g) near.adjacency NAMES near.below in
+    let others : HasChainOrOrientation (adjacent_on NonEdges g) = alternative_proof (adjacent_on NonEdges g) apart.adjacency NAMES apart.below in
+    elim edges.one [
+      | inl chain ↦ (forced_in chain.0, chain.1)
+      | inr has ↦
+          elim others.one [
+            | inl chain ↦ (forced_in_complement chain.0, ((λ c. edges.not_both c has), chain.1))
+            | inr other_has ↦
+                let o = orders_proof (adjacent g) (adjacent_on NonEdges g) has.0 other_has.0 g.vertices near.adjacency apart.adjacency two.complement has.1 other_has.1 in
+                (orders o.0 o.1, o.2)
+          ]
+    ]
+
 some_line : (mode : GraphMode) (g : PlainGraph) → IsGraph g → (line : PlainLine) × Reports mode g line
 some_line Tree g is = tree_line tree g is
 some_line Compare g is = orientation_line g is
+some_line Permute g is = model_line g is
 
 -- each edit has a line
 step_line : (g : PlainGraph) (edit : script.Edit) → IsGraph g → HasNames edit → (line : PlainLine) × IsStepLine g edit line

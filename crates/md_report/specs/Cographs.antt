@@ -7,7 +7,7 @@ use Rattle.md_modules.specs.InducedPaths.{IsInducedPath, HasInducedPath}
 use Rattle.md_script.specs.declared.edit.Edit.{Edit}
 use Rattle.md_script.specs.declared.edit.EditReason.{EditReason}
 use Rattle.md_script.specs.Edit.{reason_of, after}
-use Rattle.md_report.specs.Lines.{PlainLine, head, tree, applied, refused, refused_p4, not_cograph, oriented, forced, end}
+use Rattle.md_report.specs.Lines.{PlainLine, head, tree, applied, refused, refused_p4, not_cograph, oriented, forced, orders, forced_in, forced_in_complement, end}
 use Rattle.md_report.specs.Sessions.{HasTreeLine, state_behind}
 
 -- the four names are an induced P4 of g
@@ -47,6 +47,9 @@ edits_behind (refused reason) edits = edits
 edits_behind (refused_p4 p) edits = edits
 edits_behind (oriented arcs) edits = edits
 edits_behind (forced chain) edits = edits
+edits_behind (orders first second) edits = edits
+edits_behind (forced_in chain) edits = edits
+edits_behind (forced_in_complement chain) edits = edits
 edits_behind end edits = edits
 
 -- the run of a session over a script: one line for each edit, each at the state that those before it leave

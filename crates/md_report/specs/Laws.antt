@@ -7,7 +7,7 @@ use Rattle.md_script.specs.Edit.{HasNames}
 use Rattle.md_report.specs.declared.line.GraphMode.{GraphMode}
 use Rattle.md_report.specs.declared.line.SessionMode.{SessionMode}
 use Rattle.md_report.specs.declared.line.SessionMode.TheVariants as session_modes
-use Rattle.md_report.specs.Lines.{PlainLine, mode_of, session_mode_of, head, end}
+use Rattle.md_report.specs.Lines.{PlainLine, mode_of, session_mode_of, line_text, head, end}
 use Rattle.md_report.specs.Sessions.{SessionRun}
 use Rattle.md_report.specs.Cographs.{CographRun, edits_behind}
 use Rattle.md_report.specs.Places.{Place, before_head, at_graphs, before_session, at_state, at_edits, after_end, Reports, ReportsState, Lead}
@@ -76,3 +76,7 @@ abbrev pub FrontsBeginReports : Type 0
 FrontsBeginReports =
     (p : Place) → IsSound p → (bytes : List ℕ) →
     IsFront p bytes ↔ ((rest : List ℕ) × IsReport p (bytes ++ rest))
+
+-- Each text is of one line at most.
+abbrev pub OneLineOneText : Type 0
+OneLineOneText = (k l : PlainLine) → line_text k ≡ line_text l → k ≡ l

@@ -2,6 +2,10 @@ pub mod Lines
 pub mod Sessions
 pub mod Cographs
 pub mod Orientations
+pub mod Models
 pub mod Places
 pub mod Reports
+pub mod WellFormedLines
+pub mod Cuts
+pub mod Words
 pub mod Laws

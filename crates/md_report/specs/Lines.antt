@@ -29,6 +29,9 @@ pub data PlainLine : Type 0 where
   not_cograph : P4 → PlainLine
   oriented : List Arc → PlainLine
   forced : List Arc → PlainLine
+  orders : List ℕ → List ℕ → PlainLine
+  forced_in : List Arc → PlainLine
+  forced_in_complement : List Arc → PlainLine
   end : PlainLine
 
 -- the plain line that a line of the program is
@@ -41,12 +44,16 @@ plain_line (lines.RefusedP4 p) = refused_p4 p
 plain_line (lines.NotCograph p) = not_cograph p
 plain_line (lines.Oriented arcs) = oriented arcs
 plain_line (lines.Forced chain) = forced chain
+plain_line (lines.Orders first second) = orders first second
+plain_line (lines.ForcedIn chain) = forced_in chain
+plain_line (lines.ForcedInComplement chain) = forced_in_complement chain
 plain_line lines.End = end
 
 -- what a report over graphs is about
 abbrev pub mode_of : GraphMode → Mode
 mode_of graph_modes.Tree = modes.Tree
 mode_of graph_modes.Compare = modes.Compare
+mode_of graph_modes.Permute = modes.Permute
 
 -- what a report of a session is about
 abbrev pub session_mode_of : SessionMode → Mode
@@ -59,6 +66,7 @@ mode_word modes.Tree = codes "tree"
 mode_word modes.Edit = codes "edit"
 mode_word modes.Cograph = codes "cograph"
 mode_word modes.Compare = codes "compare"
+mode_word modes.Permute = codes "permute"
 
 -- the words of a reason
 abbrev pub reason_words : EditReason → List ℕ
@@ -78,7 +86,7 @@ p4_text p = names_text (p.a ∷ p.b ∷ p.c ∷ p.d ∷ [])
 
 -- the text of an arc: its tail, its mark and its head
 abbrev pub arc_text : Arc → List ℕ
-arc_text a = decimal a.tail ++ codes ">" ++ decimal a.head
+arc_text a = decimal a.tail ++ (codes ">" ++ decimal a.head)
 
 -- a space and an arc, for each arc
 abbrev pub arcs_text : List Arc → List ℕ
@@ -94,6 +102,9 @@ line_text (refused_p4 p) = codes "no p4" ++ p4_text p
 line_text (not_cograph p) = codes "p4" ++ p4_text p
 line_text (oriented arcs) = codes "yes" ++ arcs_text arcs
 line_text (forced chain) = codes "no" ++ arcs_text chain
+line_text (orders first second) = codes "yes" ++ (names_text first ++ (codes " /" ++ names_text second))
+line_text (forced_in chain) = codes "no g" ++ arcs_text chain
+line_text (forced_in_complement chain) = codes "no c" ++ arcs_text chain
 line_text end = codes "end"
 
 -- a line with its line feed

@@ -3,7 +3,7 @@
 use Rattle.std.specs.Prelude.{ℕ, Bool}
 use Rattle.md_orientation.specs.Chains.{IsForcingChain}
 use Rattle.md_orientation.specs.Orientations.{HasTransitiveOrientation, IsLeastEdgeOrientation}
-use Rattle.md_report.specs.Lines.{PlainLine, head, tree, applied, refused, refused_p4, not_cograph, oriented, forced, end}
+use Rattle.md_report.specs.Lines.{PlainLine, head, tree, applied, refused, refused_p4, not_cograph, oriented, forced, orders, forced_in, forced_in_complement, end}
 
 -- the arcs of the least-edge orientation, in ascending order, where there is a transitive orientation; or a forcing chain
 abbrev pub IsOrientationLine : (ℕ → ℕ → Bool) → PlainLine → Type 0
@@ -15,4 +15,7 @@ IsOrientationLine e (applied t) = ⊥
 IsOrientationLine e (refused reason) = ⊥
 IsOrientationLine e (refused_p4 p) = ⊥
 IsOrientationLine e (not_cograph p) = ⊥
+IsOrientationLine e (orders first second) = ⊥
+IsOrientationLine e (forced_in chain) = ⊥
+IsOrientationLine e (forced_in_complement chain) = ⊥
 IsOrientationLine e end = ⊥

@@ -4,11 +4,12 @@ use Rattle.std.specs.Prelude.{◌≡◌, List, [], ◌∷◌}
 use Rattle.md_graph.specs.PlainGraph.{PlainGraph, adjacent}
 use Rattle.md_script.specs.declared.edit.Edit as script
 use Rattle.md_report.specs.declared.line.GraphMode.{GraphMode}
-use Rattle.md_report.specs.declared.line.GraphMode.TheVariants.{Tree, Compare}
+use Rattle.md_report.specs.declared.line.GraphMode.TheVariants.{Tree, Compare, Permute}
 use Rattle.md_report.specs.declared.line.SessionMode.{SessionMode}
 use Rattle.md_report.specs.declared.line.SessionMode.TheVariants.{Edit, Cograph}
 use Rattle.md_report.specs.Lines.{PlainLine, mode_of, session_mode_of, head, tree, end}
 use Rattle.md_report.specs.Orientations.{IsOrientationLine}
+use Rattle.md_report.specs.Models.{IsModelLine}
 use Rattle.md_report.specs.Sessions.{HasTreeLine, IsStepLine, state_behind}
 use Rattle.md_report.specs.Cographs.{IsOpeningLine, IsCographLine, edits_behind}
 
@@ -23,10 +24,11 @@ pub data Place : Type 0 where
   after_end : Place
 
 -- the line that reports one graph: in mode tree its tree of strong modules, in mode compare its least-edge orientation
--- or a forcing chain of it
+-- or a forcing chain of it, in mode permute two orders that realise it or a forcing chain of it or of its complement
 abbrev pub Reports : GraphMode → PlainGraph → PlainLine → Type 0
 Reports Tree g line = HasTreeLine tree g line
 Reports Compare g line = IsOrientationLine (adjacent g) line
+Reports Permute g line = IsModelLine g line
 
 -- the line that reports the first state of a session: in mode edit its tree of strong modules, in mode cograph that tree or an
 -- induced P4

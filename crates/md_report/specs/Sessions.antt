@@ -7,7 +7,7 @@ use Rattle.md_tree.specs.StrongTrees.{IsTree}
 use Rattle.md_script.specs.declared.edit.Edit.{Edit}
 use Rattle.md_script.specs.declared.edit.EditReason.{EditReason}
 use Rattle.md_script.specs.Edit.{reason_of, after}
-use Rattle.md_report.specs.Lines.{PlainLine, head, tree, applied, refused, refused_p4, not_cograph, oriented, forced, end}
+use Rattle.md_report.specs.Lines.{PlainLine, head, tree, applied, refused, refused_p4, not_cograph, oriented, forced, orders, forced_in, forced_in_complement, end}
 
 -- the line is one with the tree of strong modules of g
 abbrev pub HasTreeLine : (Option PlainTree → PlainLine) → PlainGraph → PlainLine → Type 0
@@ -41,6 +41,9 @@ state_behind g edit (head mode) = g
 state_behind g edit (tree t) = g
 state_behind g edit (oriented arcs) = g
 state_behind g edit (forced chain) = g
+state_behind g edit (orders first second) = g
+state_behind g edit (forced_in chain) = g
+state_behind g edit (forced_in_complement chain) = g
 state_behind g edit end = g
 
 -- one step of a session: the line of the edit, and the state that it leaves

@@ -1,6 +1,6 @@
 //! The laws of reports, each the contract of a function that does nothing.
 
-ghost use Rattle.md_report.specs.Laws.{LinesLeadIfFirst, GraphReportsHaveLines, SessionReportsAreRuns, FrontsBeginReports};
+ghost use Rattle.md_report.specs.Laws.{LinesLeadIfFirst, GraphReportsHaveLines, SessionReportsAreRuns, FrontsBeginReports, OneLineOneText};
 
 // What is known of the lines of orientations, for readers of reports.
 pub use md_orientation::laws::{
@@ -30,4 +30,9 @@ pub fn session_reports_are_runs()
 /// to a place, and the beginning of a line that may come there.
 pub fn fronts_begin_reports()
     ensures { FrontsBeginReports }
+{}
+
+/// Each text is of one line at most.
+pub fn one_line_one_text()
+    ensures { OneLineOneText }
 {}

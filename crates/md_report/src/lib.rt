@@ -3,8 +3,16 @@
 
 pub mod laws;
 mod line;
+mod order;
+mod pieces;
+mod reader;
+mod words;
+mod writer;
 
-pub use line::{GraphMode, Line, Mode, SessionMode, write_line};
+pub use line::{GraphMode, Line, Mode, SessionMode};
+pub use order::Order;
+pub use reader::{LineFault, read_line};
+pub use writer::write_line;
 
 #[cfg(test)]
 mod tests;

@@ -1,4 +1,4 @@
-//! Lines and their texts.
+//! Lines and their texts, there and back.
 use super::*;
 use md_forcing::{Arc, Arcs, Chain};
 use md_modules::P4;
@@ -16,6 +16,12 @@ fn lines(rt: HostRuntime) -> Result<(), Fail> {
     };
     let arcs = vec![in alloc; first, last]?;
     let chain = vec![in alloc; Arc { tail: 2, head: 1 }]?;
+    let of_graph = vec![in alloc; Arc { tail: 2, head: 1 }]?;
+    let back = Arc {
+        tail: 0,
+        head: 4095,
+    };
+    let of_complement = vec![in alloc; back]?;
     let path = P4 {
         a: 0,
         b: 10,
@@ -27,6 +33,7 @@ fn lines(rt: HostRuntime) -> Result<(), Fail> {
         (Line::Head(Mode::Edit), "mdt edit"),
         (Line::Head(Mode::Cograph), "mdt cograph"),
         (Line::Head(Mode::Compare), "mdt compare"),
+        (Line::Head(Mode::Permute), "mdt permute"),
         (Line::Tree(None), "t empty"),
         (Line::Tree(Some(Tree::Leaf(12))), "t 12"),
         (Line::Applied(Some(Tree::Leaf(0))), "ok 0"),
@@ -40,11 +47,73 @@ fn lines(rt: HostRuntime) -> Result<(), Fail> {
         (Line::Oriented(Arcs::from_list(Vec::new(alloc))), "yes"),
         (Line::Oriented(Arcs::from_list(arcs)), "yes 0>1 4095>12"),
         (Line::Forced(Chain::from_list(chain)), "no 2>1"),
+        (
+            Line::Orders(Order::new(alloc, &[])?, Order::new(alloc, &[])?),
+            "yes /",
+        ),
+        (
+            Line::Orders(Order::new(alloc, &[1, 0])?, Order::new(alloc, &[0, 1])?),
+            "yes 1 0 / 0 1",
+        ),
+        (Line::ForcedIn(Chain::from_list(of_graph)), "no g 2>1"),
+        (
+            Line::ForcedInComplement(Chain::from_list(of_complement)),
+            "no c 0>4095",
+        ),
         (Line::End, "end"),
     ];
     for (line, expected) in &table {
         let text = write_line(alloc, line)?;
         assert!(rt; text.as_slice() == expected.as_bytes(), "{expected}");
+        let again = write_line(alloc, &read_line(alloc, expected.as_bytes())?)?;
+        assert!(rt; again.as_slice() == expected.as_bytes(), "{expected}");
+    }
+    Ok(())
+}
+
+#[test]
+fn texts_of_no_line(rt: HostRuntime) -> Result<(), Fail> {
+    let alloc = rt.alloc();
+    let table = [
+        "",
+        "okay",
+        "ok",
+        "mdt",
+        "mdt edits",
+        "t 01",
+        "t empty ",
+        "t  7",
+        "ok P(1,0)",
+        "p4 0 1 2 3 4",
+        "p4 0 1 1 3",
+        "end ",
+        "yes/",
+        "yes 1 0 /0 1",
+        "yes 0>0",
+        "yes 0>4096",
+        "yes 0>1 2",
+    ];
+    for text in &table {
+        let read = read_line(alloc, text.as_bytes());
+        assert!(rt; matches!(read, Err(LineFault::Syntax)), "{text}");
+    }
+    let refusals = [
+        "no",
+        "no ",
+        "no same ",
+        "no vertex 4096",
+        "no vertex 01",
+        "no taken",
+        "no edge",
+        "no p4 3 2 1 0",
+        "no g",
+        "no gc 0>1",
+        "no c 0>1 ",
+        "no 0>1,1>2",
+    ];
+    for text in &refusals {
+        let read = read_line(alloc, text.as_bytes());
+        assert!(rt; matches!(read, Err(LineFault::Syntax)), "{text}");
     }
     Ok(())
 }

@@ -51,7 +51,8 @@ graph_form command =
     if bytes_eq command (codes "edges") then Some (Convert Dimacs)
     else (if bytes_eq command (codes "graph6") then Some (Convert G6)
     else (if bytes_eq command (codes "tree") then Some (Report modes.Tree)
-    else (if bytes_eq command (codes "compare") then Some (Report modes.Compare) else None)))
+    else (if bytes_eq command (codes "compare") then Some (Report modes.Compare)
+    else (if bytes_eq command (codes "permute") then Some (Report modes.Permute) else None))))
 
 -- a request over the graphs of a file, if the words name a form and a format
 abbrev pub graph_request : Option GraphForm → Option Format → List ℕ → Option (Request (List ℕ))

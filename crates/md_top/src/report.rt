@@ -4,6 +4,7 @@ ghost use Rattle.std.specs.Prelude.{◌≡◌, ◌≤◌, List, [], ◌∷◌, I
 ghost use Rattle.md_graph.specs.PlainGraph.{PlainGraph, adjacent};
 ghost use Rattle.md_report.specs.Lines.{plain_line};
 ghost use Rattle.md_report.specs.Orientations.{IsOrientationLine};
+ghost use Rattle.md_report.specs.Models.{IsModelLine};
 ghost use Rattle.md_report.specs.Places.{before_head, at_graphs, after_end, Reports};
 ghost use Rattle.md_top.specs.declared.request.GraphForm.{GraphForm};
 ghost use Rattle.md_top.specs.declared.request.Request.{Request};
@@ -16,7 +17,7 @@ use md_decompose::decompose;
 use md_graph::{Graph, Memory};
 use md_input::{Format, Graphs};
 use md_io::Sink;
-use md_orient::{Verdict as Orientation, orient};
+use md_orient::{PermVerdict, Verdict as Orientation, model, orient};
 use md_report::{GraphMode, Line};
 use std::alloc::Global;
 
@@ -96,6 +97,7 @@ fn graph_line(alloc: Global, mode: GraphMode, graph: &Graph) -> Result<Line, Mem
             Ok(Line::Tree(tree))
         }
         GraphMode::Compare => orientation_line(alloc, graph),
+        GraphMode::Permute => model_line(alloc, graph),
     }
 }
 
@@ -106,5 +108,16 @@ fn orientation_line(alloc: Global, graph: &Graph) -> Result<Line, Memory>
     match orient(alloc, graph)? {
         Orientation::Transitive(arcs) => Ok(Line::Oriented(arcs)),
         Orientation::Forced(chain) => Ok(Line::Forced(chain)),
+    }
+}
+
+// The line of two orders that realise a graph, or of a forcing chain of it or of its complement.
+fn model_line(alloc: Global, graph: &Graph) -> Result<Line, Memory>
+    ensures { IfOk result (λ line. IsModelLine graph.now (plain_line line)) }
+{
+    match model(alloc, graph)? {
+        PermVerdict::Orders(first, second) => Ok(Line::Orders(first, second)),
+        PermVerdict::ForcedIn(chain) => Ok(Line::ForcedIn(chain)),
+        PermVerdict::ForcedInComplement(chain) => Ok(Line::ForcedInComplement(chain)),
     }
 }

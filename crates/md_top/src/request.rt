@@ -64,6 +64,7 @@ fn graph_form(command: &str) -> Option<GraphForm>
         "graph6" => Some(GraphForm::Convert(Format::G6)),
         "tree" => Some(GraphForm::Report(GraphMode::Tree)),
         "compare" => Some(GraphForm::Report(GraphMode::Compare)),
+        "permute" => Some(GraphForm::Report(GraphMode::Permute)),
         _ => None,
     }
 }

@@ -308,6 +308,31 @@ fn orientations(rt: HostRuntime) -> Result<(), Fail> {
 }
 
 #[test]
+fn models(rt: HostRuntime) -> Result<(), Fail> {
+    let alloc = rt.alloc();
+    let table: [(&str, &[u8], &str); 5] = [
+        (
+            "permute g6 g",
+            b"Ch\nEhEG\nDhc\n?\nA?\n",
+            "0|mdt permute\nyes 0 2 1 3 / 1 0 3 2\nno c 0>2 0>3 0>4 1>4 1>5 2>5 2>0\nno g 0>1 0>4 3>4 3>2 1>2 1>0\nyes /\nyes 0 1 / 0 1\nend\n|",
+        ),
+        (
+            "permute g6 g",
+            b"EUxo\n@\n",
+            "0|mdt permute\nno g 0>2 0>3 0>4 1>4 1>5 2>5 2>0\nyes 0 / 0\nend\n|",
+        ),
+        ("permute g6 g", b"", "0|mdt permute\nend\n|"),
+        (
+            "permute dimacs g",
+            b"p edge 3 2\ne 1 2\ne 2 3\n",
+            "0|mdt permute\nyes 1 3 2 / 2 1 3\nend\n|",
+        ),
+        ("permute g6 g s", b"Dhc\n", "2||mdt: usage\n"),
+    ];
+    expect(&rt, alloc, &table)
+}
+
+#[test]
 fn runs_that_fail(rt: HostRuntime) -> Result<(), Fail> {
     let alloc = rt.alloc();
     let shown = run_over(alloc, "edges g6 g", b"DQc\n", b"", 1, 0, 0)?;

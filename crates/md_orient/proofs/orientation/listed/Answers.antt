@@ -1,6 +1,6 @@
 use Rattle.std.proofs.Common.{◌∙◌, sym, ap, arith}
-use Rattle.md_orient.specs.Verdicts.{arcs_below}
-use Rattle.md_orient.proofs.Listing.{arcs_none, arcs_more}
+use Rattle.md_orientation.specs.Listed.{arcs_below}
+use Rattle.md_orientation.proofs.Listing.{arcs_none, arcs_more}
 use Rattle.md_orient.proofs.orientation.listed.Goals as goal
 
 pub loop-tail-init : goal.loop-tail-init

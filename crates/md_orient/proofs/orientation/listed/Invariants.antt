@@ -1,5 +1,5 @@
 use Rattle.std.proofs.Common.{◌≡◌}
-use Rattle.md_orient.specs.Verdicts.{arcs_below}
+use Rattle.md_orientation.specs.Listed.{arcs_below}
 use Rattle.md_orient.proofs.orientation.listed.Given as goal
 
 abbrev pub invariant-loop-tail : goal.invariant-loop-tail

@@ -1,0 +1,370 @@
+//! Whether a chain, an orientation or two orders are what a report may say of a graph.
+ghost use Rattle.std.specs.Prelude.{◌≡◌, ℕ, List, ◌∷◌, ◌<◌, ◌≤◌, ◌↔◌, ◌++◌, length, take, map, IfOk, IfSome, IfNone, IsTrue};
+ghost use Rattle.std.specs.FinSet as set;
+ghost use Rattle.md_graph.specs.declared.TheConstants.{NAMES};
+ghost use Rattle.md_graph.specs.NameSet.{ascending};
+ghost use Rattle.md_graph.specs.PlainGraph.{adjacent, neighbours, complement};
+ghost use Rattle.md_graph.specs.Rows.{row_of};
+ghost use Rattle.md_graph.specs.Sets.{Has};
+ghost use Rattle.md_forcing.specs.declared.arc.Arc.{Arc};
+ghost use Rattle.md_forcing.specs.Forcing.{arc, IsArc, ForcesDirectly, IsListToReverse};
+ghost use Rattle.md_forcing.specs.Lists.{Holds, NoRepeats};
+ghost use Rattle.md_forcing.specs.Sides.{adjacent_on};
+ghost use Rattle.md_orientation.specs.Chains.{IsForcingChain};
+ghost use Rattle.md_orientation.specs.Orientations.{HasTransitiveOrientation, IsLeastEdgeOrientation};
+ghost use Rattle.md_orientation.specs.Listed.{arcs_below};
+ghost use Rattle.md_orientation.specs.Orders.{IsOrder, Realise};
+ghost use Rattle.md_checker.specs.Flips.{AreFlipped};
+
+use md_forcing::{Arc, Arcs, Chain, Seen, Side};
+use md_graph::{Graph, Memory, NAMES, Names};
+use md_orientation::{Ending, walk};
+use md_report::Order;
+use std::alloc::Global;
+
+/// Whether the list is a forcing chain of the graph, or of its complement. Errors: want of memory.
+pub fn is_forcing_chain(
+    alloc: Global,
+    graph: &Graph,
+    side: Side,
+    chain: &Chain,
+) -> Result<bool, Memory>
+    ensures { IfOk result (λ is. IsTrue is
+        ↔ IsForcingChain (adjacent_on side graph.now) chain.now) }
+{
+    let _vertices = graph.vertices();
+    match walk(alloc, graph, side)? {
+        Ending::Whole(_) => Ok(false),
+        Ending::Stopped(trail) => {
+            let (first, _) = trail.entry(0);
+            let list = chain.as_slice();
+            if !begins_with(list, first) {
+                return Ok(false);
+            }
+            let back = leads_back(alloc, graph, side, first, &list[1..])?;
+            Ok(back)
+        }
+    }
+}
+
+// Whether the list begins with the arc.
+fn begins_with(list: &[Arc], first: Arc) -> bool
+    ensures { IsTrue result ↔ ((rest : List Arc) × (list.now ≡ first ∷ rest)) }
+{
+    !list.is_empty() && list[0] == first
+}
+
+// Whether an arc and those behind it lead to its reverse, without repeats. Condition: it is an arc
+// of this side.
+fn leads_back(
+    alloc: Global,
+    graph: &Graph,
+    side: Side,
+    first: Arc,
+    rest: &[Arc],
+) -> Result<bool, Memory>
+    requires { IsArc (adjacent_on side graph.now) first }
+    ensures { IfOk result (λ is. IsTrue is
+        ↔ IsListToReverse (adjacent_on side graph.now) first (first ∷ rest.now)) }
+{
+    let _vertices = graph.vertices();
+    let mut seen = Seen::new(alloc, graph)?;
+    seen.put(first);
+    let mut last = first;
+    for next in rest {
+        if !is_forced(graph, side, last, *next) || seen.has(*next) {
+            return Ok(false);
+        }
+        seen.put(*next);
+        last = *next;
+    }
+    let back = Arc {
+        tail: first.head,
+        head: first.tail,
+    };
+    Ok(last == back)
+}
+
+// Whether `next` is an arc of this side that `last` forces directly.
+fn is_forced(graph: &Graph, side: Side, last: Arc, next: Arc) -> bool
+    ensures { IsTrue result ↔ (IsArc (adjacent_on side graph.now) next
+        × ForcesDirectly (adjacent_on side graph.now) last next) }
+{
+    if !are_adjacent(graph, side, next.tail, next.head) {
+        return false;
+    }
+    if last.tail == next.tail {
+        last.head != next.head && !are_adjacent(graph, side, last.head, next.head)
+    } else {
+        last.head == next.head && !are_adjacent(graph, side, last.tail, next.tail)
+    }
+}
+
+// Whether two names, any numbers, are adjacent on this side.
+fn are_adjacent(graph: &Graph, side: Side, u: u32, v: u32) -> bool
+    ensures { result ≡ adjacent_on side graph.now u v }
+{
+    let _vertices = graph.vertices();
+    match side {
+        Side::Edges => graph.has_edge(u, v),
+        Side::NonEdges => are_apart(graph, u, v),
+    }
+}
+
+// Whether two names, any numbers, are different vertices without an edge between them.
+fn are_apart(graph: &Graph, u: u32, v: u32) -> bool
+    ensures { result ≡ adjacent (complement graph.now) u v }
+{
+    let _vertices = graph.vertices();
+    if u == v {
+        return false;
+    }
+    if graph.has_edge(u, v) {
+        return false;
+    }
+    graph.has_vertex(u) && graph.has_vertex(v)
+}
+
+/// Whether the graph has a transitive orientation, and the list is the least-edge one, in ascending
+/// order. Errors: want of memory.
+pub fn is_least_edge_orientation(alloc: Global, graph: &Graph, arcs: &Arcs) -> Result<bool, Memory>
+    ensures { IfOk result (λ is. IsTrue is ↔ (HasTransitiveOrientation (adjacent graph.now)
+        × IsLeastEdgeOrientation (adjacent graph.now) arcs.now)) }
+{
+    let _vertices = graph.vertices();
+    match walk(alloc, graph, Side::Edges)? {
+        Ending::Stopped(_) => Ok(false),
+        Ending::Whole(chosen) => Ok(are_listed(&chosen, arcs.as_slice())),
+    }
+}
+
+// Whether the list has the arcs of the set in ascending order of tail, then head, and nothing else.
+fn are_listed(set: &Seen, list: &[Arc]) -> bool
+    ensures { IsTrue result ↔ (list.now ≡ arcs_below set.now (length set.now)) }
+{
+    let mut at = 0;
+    for tail in 0..set.size() {
+        let Some(next) = behind_row(list, at, tail, set.heads(tail)) else {
+            return false;
+        };
+        at = next;
+    }
+    at == list.len()
+}
+
+// The place behind the arcs from `tail` to each of `heads`, ascending, where these stand in the
+// list from the place `at` on.
+fn behind_row(list: &[Arc], at: usize, tail: u32, heads: &Names) -> Option<usize>
+    requires { at ≤ length list.now }
+    ensures within { IfSome result (λ next. next ≤ length list.now) }
+    ensures found { IfSome result (λ next. take next list.now
+        ≡ take at list.now ++ map (arc tail) (ascending heads.now)) }
+    ensures none { IfNone result ((rest : List Arc) → list.now
+        ≡ (take at list.now ++ map (arc tail) (ascending heads.now)) ++ rest → ⊥) }
+{
+    let mut next = at;
+    for head in heads.members() {
+        if next == list.len() {
+            return None;
+        }
+        if list[next] != (Arc { tail, head }) {
+            return None;
+        }
+        next += 1;
+    }
+    Some(next)
+}
+
+/// Whether the two orders realise the graph. Errors: want of memory.
+pub fn realise(alloc: Global, graph: &Graph, first: &Order, second: &Order) -> Result<bool, Memory>
+    ensures { IfOk result (λ is. IsTrue is
+        ↔ Realise (adjacent graph.now) graph.now.vertices first.now second.now) }
+{
+    let _vertices = graph.vertices();
+    if !is_order(graph, first.as_slice()) || !is_order(graph, second.as_slice()) {
+        return Ok(false);
+    }
+    let mut rows = empty_rows(alloc, size_over(graph))?;
+    flip_before(&mut rows, first.as_slice());
+    flip_before(&mut rows, second.as_slice());
+    Ok(are_neighbours(graph, &rows))
+}
+
+// Whether the list holds each vertex once, and nothing else.
+fn is_order(graph: &Graph, list: &[u32]) -> bool
+    ensures { IsTrue result ↔ IsOrder graph.now.vertices list.now }
+{
+    let vertices = graph.vertices();
+    let mut seen = Names::none();
+    for v in list {
+        if !vertices.has(*v) || seen.has(*v) {
+            return false;
+        }
+        seen.insert(*v);
+    }
+    seen.is_same(vertices)
+}
+
+// A number that is greater than each vertex.
+fn size_over(graph: &Graph) -> u32
+    ensures room { (v : ℕ) → Has graph.now.vertices v → v < result }
+{
+    match graph.vertices().last() {
+        Some(last) => last + 1,
+        None => 0,
+    }
+}
+
+// As many rows without members.
+fn empty_rows(alloc: Global, size: u32) -> Result<Vec<Names>, Memory>
+    ensures size { IfOk result (λ rows. length rows.items ≡ size) }
+    ensures none { IfOk result (λ rows. (v : ℕ) → row_of rows.items v ≡ set.empty) }
+{
+    let mut rows = Vec::with_capacity(alloc, size as usize)?;
+    for _ in 0..size {
+        rows.push(Names::none())?;
+    }
+    Ok(rows)
+}
+
+// Flips, in the row of each name of the list, the names that stand before it. Condition: no name
+// stands there twice.
+fn flip_before(rows: &mut [Names], list: &[u32])
+    requires names { (v : ℕ) → Holds list.now v → v < NAMES }
+    requires room { (v : ℕ) → Holds list.now v → v < length rows.old }
+    requires once { NoRepeats list.now }
+    ensures room { length rows.new ≡ length rows.old }
+    ensures flipped { AreFlipped list.now rows.old rows.new }
+{
+    let mut before = Names::none();
+    for v in list {
+        rows[*v as usize].flip(&before);
+        before.insert(*v);
+    }
+}
+
+// Whether the row of each vertex has its neighbours, and nothing else.
+fn are_neighbours(graph: &Graph, rows: &[Names]) -> bool
+    requires { (v : ℕ) → Has graph.now.vertices v → v < length rows.now }
+    ensures { IsTrue result ↔ ((v : ℕ) → Has graph.now.vertices v
+        → row_of rows.now v ≡ neighbours graph.now v) }
+{
+    for v in graph.vertices().members() {
+        if !rows[v as usize].is_same(graph.row(v)) {
+            return false;
+        }
+    }
+    true
+}
+
+#[cfg(test)]
+mod tests {
+    use super::*;
+    use std::process::Abort;
+    use std::test::Fail;
+
+    const PATH: [(u32, u32); 3] = [(0, 1), (1, 2), (2, 3)];
+
+    const CYCLE: [(u32, u32); 5] = [(0, 1), (1, 2), (2, 3), (3, 4), (0, 4)];
+
+    fn graph_of(
+        rt: &impl Abort,
+        alloc: Global,
+        n: u32,
+        edges: &[(u32, u32)],
+    ) -> Result<Graph, Memory> {
+        assert!(rt; n <= NAMES);
+        Ok(Graph::from_edges(alloc, n, edges)?.expect(rt, "edges"))
+    }
+
+    fn arcs_of(alloc: Global, pairs: &[(u32, u32)]) -> Result<Vec<Arc>, Memory> {
+        let mut list = Vec::new(alloc);
+        for (tail, head) in pairs {
+            list.push(Arc {
+                tail: *tail,
+                head: *head,
+            })?;
+        }
+        Ok(list)
+    }
+
+    #[test]
+    fn orders(rt: HostRuntime) -> Result<(), Fail> {
+        let path = graph_of(&rt, rt.alloc(), 4, &PATH)?;
+        let cases: [(&[u32], &[u32], bool); 7] = [
+            (&[0, 2, 1, 3], &[1, 0, 3, 2], true),
+            (&[1, 0, 3, 2], &[0, 2, 1, 3], true),
+            (&[0, 1, 2, 3], &[0, 1, 2, 3], false),
+            (&[0, 2, 1, 3], &[2, 3, 0, 1], false),
+            (&[0, 2, 1], &[1, 0, 3, 2], false),
+            (&[0, 2, 1, 3, 3], &[1, 0, 3, 2], false),
+            (&[0, 2, 1, 4], &[1, 0, 3, 2], false),
+        ];
+        for (first, second, want) in &cases {
+            let first = Order::new(rt.alloc(), *first)?;
+            let second = Order::new(rt.alloc(), *second)?;
+            assert_eq!(rt; realise(rt.alloc(), &path, &first, &second)?, *want);
+        }
+        Ok(())
+    }
+
+    #[test]
+    fn chains(rt: HostRuntime) -> Result<(), Fail> {
+        let cycle = graph_of(&rt, rt.alloc(), 5, &CYCLE)?;
+        let cases: [(&[(u32, u32)], Side, bool); 6] = [
+            (
+                &[(0, 1), (0, 4), (3, 4), (3, 2), (1, 2), (1, 0)],
+                Side::Edges,
+                true,
+            ),
+            (
+                &[(0, 1), (0, 4), (3, 4), (3, 2), (1, 2), (1, 0)],
+                Side::NonEdges,
+                false,
+            ),
+            (
+                &[(0, 4), (3, 4), (3, 2), (1, 2), (1, 0)],
+                Side::Edges,
+                false,
+            ),
+            (
+                &[(0, 1), (0, 4), (3, 4), (3, 2), (1, 2)],
+                Side::Edges,
+                false,
+            ),
+            (
+                &[(1, 2), (1, 0), (4, 0), (4, 3), (2, 3), (2, 1)],
+                Side::Edges,
+                false,
+            ),
+            (&[], Side::Edges, false),
+        ];
+        for (pairs, side, want) in &cases {
+            let chain = Chain::from_list(arcs_of(rt.alloc(), *pairs)?);
+            assert_eq!(rt; is_forcing_chain(rt.alloc(), &cycle, *side, &chain)?, *want);
+        }
+        Ok(())
+    }
+
+    #[test]
+    fn orientations(rt: HostRuntime) -> Result<(), Fail> {
+        let path = graph_of(&rt, rt.alloc(), 4, &PATH)?;
+        let cycle = graph_of(&rt, rt.alloc(), 5, &CYCLE)?;
+        let cases: [(&Graph, &[(u32, u32)], bool); 6] = [
+            (&path, &[(0, 1), (2, 1), (2, 3)], true),
+            (&path, &[(1, 0), (1, 2), (3, 2)], false),
+            (&path, &[(0, 1), (2, 1)], false),
+            (&path, &[(2, 1), (0, 1), (2, 3)], false),
+            (&cycle, &[(0, 1), (0, 4), (2, 1), (2, 3), (4, 3)], false),
+            (&cycle, &[], false),
+        ];
+        for (graph, pairs, want) in &cases {
+            let arcs = Arcs::from_list(arcs_of(rt.alloc(), *pairs)?);
+            assert_eq!(rt;
+                is_least_edge_orientation(rt.alloc(), *graph, &arcs)?,
+                *want
+            );
+        }
+        Ok(())
+    }
+}

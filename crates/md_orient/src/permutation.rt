@@ -1,0 +1,274 @@
+//! Permutation models.
+ghost use Rattle.std.specs.Prelude.{◌≡◌, ◌<◌, length, IfOk};
+ghost use Rattle.md_graph.specs.Sets.{NameSet};
+ghost use Rattle.md_graph.specs.PlainGraph.{adjacent};
+ghost use Rattle.md_orientation.specs.Orders.{IsLinear, place_in};
+ghost use Rattle.md_orientation.specs.Walking.{IsWhole, HasRoom};
+ghost use Rattle.md_orientation.specs.declared.edge_walk.Ending.TheVariants.{Whole};
+ghost use Rattle.md_orient.specs.Models.{IsModel, AreSides, ArePlaced, comes_before};
+
+use crate::orientation::chain_along;
+use md_forcing::{Chain, Seen, Side};
+use md_graph::{Graph, Memory};
+use md_orientation::{Ending, walk};
+use md_report::Order;
+use std::alloc::Global;
+
+/// Two orders that realise a graph, or a forcing chain of it or of its complement.
+#[derive(Drop)]
+pub enum PermVerdict {
+    Orders(Order, Order),
+    ForcedIn(Chain),
+    ForcedInComplement(Chain),
+}
+
+/// A forcing chain of the graph, if it has one; else one of its complement, if that has one; else
+/// two orders that realise the graph. The three exclude each other: a chain of the complement comes
+/// only where the graph has none, and two orders realise a graph exactly where neither it nor its
+/// complement has a chain (`md_orientation::laws::orders_if_no_chain`). Errors: want of memory.
+pub fn model(alloc: Global, graph: &Graph) -> Result<PermVerdict, Memory>
+    ensures { IfOk result (IsModel graph.now) }
+{
+    let _vertices = graph.vertices();
+    match walk(alloc, graph, Side::Edges)? {
+        Ending::Stopped(trail) => {
+            let chain = chain_along(alloc, &trail)?;
+            Ok(PermVerdict::ForcedIn(chain))
+        }
+        Ending::Whole(edges) => model_of_oriented(alloc, graph, &edges),
+    }
+}
+
+// The answer on a graph by its least-edge orientation. Condition: it has one, and these are its
+// arcs.
+fn model_of_oriented(alloc: Global, graph: &Graph, edges: &Seen) -> Result<PermVerdict, Memory>
+    requires whole { IsWhole (adjacent graph.now) edges.now }
+    requires room { HasRoom graph.now.vertices (Whole edges.now) }
+    ensures { IfOk result (IsModel graph.now) }
+{
+    let _vertices = graph.vertices();
+    match walk(alloc, graph, Side::NonEdges)? {
+        Ending::Stopped(trail) => {
+            let chain = chain_along(alloc, &trail)?;
+            Ok(PermVerdict::ForcedInComplement(chain))
+        }
+        Ending::Whole(others) => {
+            let first = in_order(alloc, graph, edges, &others, false)?;
+            let second = in_order(alloc, graph, edges, &others, true)?;
+            Ok(PermVerdict::Orders(first, second))
+        }
+    }
+}
+
+// The vertices in the order of the arcs of two sets, those of the first one turned or not.
+// Condition: this is a linear order.
+fn in_order(
+    alloc: Global,
+    graph: &Graph,
+    edges: &Seen,
+    others: &Seen,
+    turned: bool,
+) -> Result<Order, Memory>
+    requires sides { AreSides graph.now.vertices edges.now others.now }
+    requires linear { IsLinear (comes_before edges.now others.now turned) graph.now.vertices }
+    ensures { IfOk result (ArePlaced (comes_before edges.now others.now turned)
+        graph.now.vertices) }
+{
+    let vertices = graph.vertices();
+    let mut list = vec![in alloc; 0; vertices.count() as usize]?;
+    for v in vertices.members() {
+        let place = place_of(edges, others, turned, v);
+        list[place] = v;
+    }
+    Ok(Order::from_list(list))
+}
+
+// The number of names that come before `v`: those with an arc to it, where the arcs of the first
+// set are turned or not.
+fn place_of(edges: &Seen, others: &Seen, turned: bool, v: u32) -> usize
+    requires room { v < length edges.now }
+    requires other_room { v < length others.now }
+    ensures { (s : NameSet) → AreSides s edges.now others.now
+        → result ≡ place_in (comes_before edges.now others.now turned) s v }
+{
+    let others_before = others.tails(v).count() as usize;
+    if turned {
+        edges.heads(v).count() as usize + others_before
+    } else {
+        edges.tails(v).count() as usize + others_before
+    }
+}
+
+#[cfg(test)]
+mod tests {
+    use super::*;
+    use crate::{Verdict, orient};
+    use md_forcing::Arc;
+    use md_graph::NAMES;
+    use md_report::{Line, write_line};
+    use std::process::Abort;
+    use std::test::Fail;
+
+    // Sees that the answer on the graph of these edges has this text as a line of a report.
+    fn expect(
+        rt: &impl Abort,
+        alloc: Global,
+        n: u32,
+        edges: &[(u32, u32)],
+        want: &str,
+    ) -> Result<(), Fail> {
+        assert!(rt; n <= NAMES);
+        let graph = Graph::from_edges(alloc, n, edges)?.expect(rt, "edges");
+        let line = match model(alloc, &graph)? {
+            PermVerdict::Orders(first, second) => Line::Orders(first, second),
+            PermVerdict::ForcedIn(chain) => Line::ForcedIn(chain),
+            PermVerdict::ForcedInComplement(chain) => Line::ForcedInComplement(chain),
+        };
+        let text = write_line(alloc, &line)?;
+        assert!(rt; text.as_slice() == want.as_bytes(), "{want}");
+        Ok(())
+    }
+
+    #[test]
+    fn orders_and_chains(rt: HostRuntime) -> Result<(), Fail> {
+        let path = [(0, 1), (1, 2), (2, 3)];
+        let five = [(0, 1), (1, 2), (2, 3), (3, 4), (0, 4)];
+        let six = [(0, 1), (1, 2), (2, 3), (3, 4), (4, 5), (0, 5)];
+        let prism = [
+            (0, 2),
+            (0, 3),
+            (0, 4),
+            (1, 3),
+            (1, 4),
+            (1, 5),
+            (2, 4),
+            (2, 5),
+            (3, 5),
+        ];
+        let cases: [(u32, &[(u32, u32)], &str); 6] = [
+            (4, &path, "yes 0 2 1 3 / 1 0 3 2"),
+            (5, &five, "no g 0>1 0>4 3>4 3>2 1>2 1>0"),
+            (6, &six, "no c 0>2 0>3 0>4 1>4 1>5 2>5 2>0"),
+            (6, &prism, "no g 0>2 0>3 0>4 1>4 1>5 2>5 2>0"),
+            (0, &[], "yes /"),
+            (1, &[], "yes 0 / 0"),
+        ];
+        for (n, edges, want) in &cases {
+            expect(&rt, rt.alloc(), *n, *edges, *want)?;
+        }
+        Ok(())
+    }
+
+    // Puts the vertices below `n` and the edges of these pairs into an empty graph.
+    fn fill(rt: &impl Abort, graph: &mut Graph, n: u32, pairs: u32) {
+        let mut left = pairs;
+        for v in 0..n {
+            assert!(rt; v < NAMES && !graph.has_vertex(v));
+            graph.add_vertex(v);
+            for u in 0..v {
+                if left & 1 == 1 {
+                    assert!(rt; graph.has_vertex(u) && graph.has_vertex(v));
+                    assert!(rt; !graph.has_edge(v, u));
+                    graph.add_edge(v, u);
+                }
+                left = left >> 1;
+            }
+        }
+    }
+
+    // The place of a name in an order, or its length.
+    fn place(order: &Order, v: u32) -> u64 {
+        for i in 0..order.len() {
+            if order.get(i) == v {
+                return i;
+            }
+        }
+        order.len()
+    }
+
+    // Sees that the orders hold the names below `n`, and disagree exactly on the edges.
+    fn expect_orders(rt: &impl Abort, graph: &Graph, n: u32, first: &Order, second: &Order) {
+        let count = n as u64;
+        assert!(rt; first.len() == count && second.len() == count);
+        for u in 0..n {
+            assert!(rt; place(first, u) < count && place(second, u) < count);
+            for v in 0..u {
+                let ahead = place(first, u) < place(first, v);
+                let ahead_too = place(second, u) < place(second, v);
+                assert_eq!(rt; ahead != ahead_too, graph.has_edge(u, v), "{u} {v}");
+            }
+        }
+    }
+
+    // Whether two different names are adjacent, or, where `edges` is false, aren't.
+    fn joined(graph: &Graph, edges: bool, u: u32, v: u32) -> bool {
+        u != v && graph.has_edge(u, v) == edges
+    }
+
+    fn forces(graph: &Graph, edges: bool, a: Arc, b: Arc) -> bool {
+        let at_tail = a.tail == b.tail && a.head != b.head && !joined(graph, edges, a.head, b.head);
+        let at_head = a.head == b.head && a.tail != b.tail && !joined(graph, edges, a.tail, b.tail);
+        at_tail || at_head
+    }
+
+    // Sees that the arcs of one side lead from an arc to its reverse, each once.
+    fn expect_chain(rt: &impl Abort, graph: &Graph, edges: bool, chain: &Chain) {
+        assert!(rt; chain.len() > 1);
+        let first = chain.get(0);
+        let mut last = first;
+        assert!(rt; first.tail < first.head);
+        for i in 0..chain.len() {
+            let by = chain.get(i);
+            assert!(rt; joined(graph, edges, by.tail, by.head));
+            assert!(rt; i == 0 || forces(graph, edges, last, by));
+            for j in 0..i {
+                assert!(rt; chain.get(j) != by);
+            }
+            last = by;
+        }
+        assert!(rt; last.tail == first.head && last.head == first.tail);
+    }
+
+    fn is_forced(alloc: Global, graph: &Graph) -> Result<bool, Memory> {
+        match orient(alloc, graph)? {
+            Verdict::Transitive(_) => Ok(false),
+            Verdict::Forced(_) => Ok(true),
+        }
+    }
+
+    // Sees that the answer is one of the graph, and of the kind that the orientations of both sides
+    // ask for.
+    fn expect_answer(rt: &impl Abort, alloc: Global, graph: &Graph, n: u32) -> Result<(), Fail> {
+        let forced = is_forced(alloc, graph)?;
+        let complement = graph.complement(alloc)?;
+        let complement_forced = is_forced(alloc, &complement)?;
+        match model(alloc, graph)? {
+            PermVerdict::Orders(first, second) => {
+                assert!(rt; !forced && !complement_forced);
+                expect_orders(rt, graph, n, &first, &second);
+            }
+            PermVerdict::ForcedIn(chain) => {
+                assert!(rt; forced);
+                expect_chain(rt, graph, true, &chain);
+            }
+            PermVerdict::ForcedInComplement(chain) => {
+                assert!(rt; !forced && complement_forced);
+                expect_chain(rt, graph, false, &chain);
+            }
+        }
+        Ok(())
+    }
+
+    #[test]
+    fn all_graphs_on_up_to_five_names(rt: HostRuntime) -> Result<(), Fail> {
+        let mut graph = Graph::new(rt.alloc())?;
+        for (n, graphs) in [(0, 1), (1, 1), (2, 2), (3, 8), (4, 64), (5, 1024)] {
+            for pairs in 0..graphs {
+                graph.clear();
+                fill(&rt, &mut graph, n, pairs);
+                expect_answer(&rt, rt.alloc(), &graph, n)?;
+            }
+        }
+        Ok(())
+    }
+}

@@ -1,0 +1,220 @@
+//! Reads a line of a report.
+ghost use Rattle.std.specs.Prelude.{◌≡◌, ◌≢◌, [], ◌∷◌, IfOk, IfErr, MatchOption};
+ghost use Rattle.md_report.specs.declared.line.Mode.{Mode};
+ghost use Rattle.md_report.specs.declared.reader.LineFault.TheVariants.{Syntax};
+ghost use Rattle.md_report.specs.declared.words.Word.TheVariants as words;
+ghost use Rattle.md_report.specs.Lines.{plain_line, mode_word, refused};
+ghost use Rattle.md_report.specs.WellFormedLines.{IsLineReading};
+ghost use Rattle.md_report.specs.Words.{ReadsBehind, ReadsRefusal, ReadsOrders, ReadsArcs, ReadsTree};
+
+use crate::pieces::{
+    arcs, behind_space, chain, name_behind, names, path, split_before, split_piece,
+};
+use crate::words::{Refusal, Word, first_word, refusal_word};
+use crate::{Line, Mode, Order};
+use md_forcing::Arcs;
+use md_graph::Memory;
+use md_script::EditReason;
+use md_tree::{Tree, TreeFault, read_tree};
+use std::alloc::Global;
+use thiserror::Error;
+
+/// Why a line isn't read.
+#[derive(Clone, Copy, Debug, PartialEq, Eq, Error)]
+pub enum LineFault {
+    /// No well-formed line has this text.
+    #[error("no line of a report")]
+    Syntax,
+    /// Want of memory.
+    #[error("out of memory")]
+    Memory,
+}
+
+impl From<Memory> for LineFault {
+    ghost use Rattle.std.specs.Prelude.{◌≡◌};
+    ghost use Rattle.md_report.specs.declared.reader.LineFault.TheVariants.{Memory as NoMemory};
+
+    ghost from_gives = { λ _ fault. fault ≡ NoMemory };
+
+    fn from(_memory: Memory) -> LineFault {
+        LineFault::Memory
+    }
+}
+
+/// The line with this text. Errors: `Syntax` exactly where no well-formed line has it; want of
+/// memory.
+pub fn read_line(alloc: Global, bytes: &[u8]) -> Result<Line, LineFault>
+    ensures { IsLineReading bytes.now result }
+{
+    let (first, rest) = split_before(bytes, b' ');
+    match first_word(first) {
+        Some(word) => line_behind(alloc, word, rest),
+        None => Err(LineFault::Syntax),
+    }
+}
+
+// The line by its first word, and what stands behind it.
+fn line_behind(alloc: Global, word: Word, rest: &[u8]) -> Result<Line, LineFault>
+    ensures { ReadsBehind word rest.now result }
+{
+    match word {
+        Word::Head => head_line(rest),
+        Word::Tree => Ok(Line::Tree(tree_behind(alloc, rest)?)),
+        Word::Applied => Ok(Line::Applied(tree_behind(alloc, rest)?)),
+        Word::Path => match path(alloc, rest)? {
+            Some(p) => Ok(Line::NotCograph(p)),
+            None => Err(LineFault::Syntax),
+        },
+        Word::Yes => yes_line(alloc, rest),
+        Word::No => no_line(alloc, rest),
+        Word::End => end_line(rest),
+    }
+}
+
+fn head_line(rest: &[u8]) -> Result<Line, LineFault>
+    ensures { ReadsBehind words.Head rest.now result }
+{
+    match mode_behind(rest) {
+        Some(mode) => Ok(Line::Head(mode)),
+        None => Err(LineFault::Syntax),
+    }
+}
+
+fn mode_behind(rest: &[u8]) -> Option<Mode>
+    ensures { MatchOption result ((mode : Mode) → rest.now ≢ 32 ∷ mode_word mode)
+        (λ mode. rest.now ≡ 32 ∷ mode_word mode) }
+{
+    if rest == b" tree".as_slice() {
+        return Some(Mode::Tree);
+    }
+    if rest == b" edit".as_slice() {
+        return Some(Mode::Edit);
+    }
+    if rest == b" cograph".as_slice() {
+        return Some(Mode::Cograph);
+    }
+    if rest == b" compare".as_slice() {
+        return Some(Mode::Compare);
+    }
+    if rest == b" permute".as_slice() {
+        return Some(Mode::Permute);
+    }
+    None
+}
+
+fn end_line(rest: &[u8]) -> Result<Line, LineFault>
+    ensures { ReadsBehind words.End rest.now result }
+{
+    if rest.is_empty() {
+        return Ok(Line::End);
+    }
+    Err(LineFault::Syntax)
+}
+
+// The tree whose text stands behind a space.
+fn tree_behind(alloc: Global, rest: &[u8]) -> Result<Option<Tree>, LineFault>
+    ensures { ReadsTree rest.now result }
+{
+    let Some(text) = behind_space(rest) else {
+        return Err(LineFault::Syntax);
+    };
+    match read_tree(alloc, text) {
+        Ok(tree) => Ok(tree),
+        Err(TreeFault::Syntax { .. }) => Err(LineFault::Syntax),
+        Err(TreeFault::NotCanonical) => Err(LineFault::Syntax),
+        Err(TreeFault::Memory) => Err(LineFault::Memory),
+    }
+}
+
+// A line that says yes: two orders, between which a slash stands, or arcs.
+fn yes_line(alloc: Global, rest: &[u8]) -> Result<Line, LineFault>
+    ensures { ReadsBehind words.Yes rest.now result }
+{
+    let (front, behind) = split_before(rest, b'/');
+    match behind {
+        [_, back @ ..] => orders_line(alloc, front, back),
+        _ => oriented_line(alloc, rest),
+    }
+}
+
+fn orders_line(alloc: Global, front: &[u8], back: &[u8]) -> Result<Line, LineFault>
+    ensures { ReadsOrders front.now back.now result }
+{
+    let [before @ .., b' '] = front else {
+        return Err(LineFault::Syntax);
+    };
+    let Some(first) = names(alloc, before)? else {
+        return Err(LineFault::Syntax);
+    };
+    let Some(second) = names(alloc, back)? else {
+        return Err(LineFault::Syntax);
+    };
+    Ok(Line::Orders(Order::from_list(first), Order::from_list(second)))
+}
+
+fn oriented_line(alloc: Global, rest: &[u8]) -> Result<Line, LineFault>
+    ensures { ReadsArcs rest.now result }
+{
+    match arcs(alloc, rest)? {
+        Some(list) => Ok(Line::Oriented(Arcs::from_list(list))),
+        None => Err(LineFault::Syntax),
+    }
+}
+
+// A line that says no: a word and what stands behind it, or a chain.
+fn no_line(alloc: Global, rest: &[u8]) -> Result<Line, LineFault>
+    ensures { ReadsBehind words.No rest.now result }
+{
+    let Some((piece, behind)) = split_piece(rest) else {
+        return Err(LineFault::Syntax);
+    };
+    if let Some(word) = refusal_word(piece) {
+        return refusal_line(alloc, word, behind);
+    }
+    match chain(alloc, rest)? {
+        Some(chain) => Ok(Line::Forced(chain)),
+        None => Err(LineFault::Syntax),
+    }
+}
+
+// The line by the word behind `no`, and what stands behind that.
+fn refusal_line(alloc: Global, word: Refusal, behind: &[u8]) -> Result<Line, LineFault>
+    ensures { ReadsRefusal word behind.now result }
+{
+    match word {
+        Refusal::Same => reason_line(behind, EditReason::Same),
+        Refusal::There => reason_line(behind, EditReason::EdgeThere),
+        Refusal::Absent => reason_line(behind, EditReason::EdgeAbsent),
+        Refusal::Vertex => match name_behind(behind) {
+            Some(v) => Ok(Line::Refused(EditReason::NoVertex(v))),
+            None => Err(LineFault::Syntax),
+        },
+        Refusal::Taken => match name_behind(behind) {
+            Some(v) => Ok(Line::Refused(EditReason::NameTaken(v))),
+            None => Err(LineFault::Syntax),
+        },
+        Refusal::Path => match path(alloc, behind)? {
+            Some(p) => Ok(Line::RefusedP4(p)),
+            None => Err(LineFault::Syntax),
+        },
+        Refusal::Graph => match chain(alloc, behind)? {
+            Some(chain) => Ok(Line::ForcedIn(chain)),
+            None => Err(LineFault::Syntax),
+        },
+        Refusal::Complement => match chain(alloc, behind)? {
+            Some(chain) => Ok(Line::ForcedInComplement(chain)),
+            None => Err(LineFault::Syntax),
+        },
+    }
+}
+
+// The refusal for a reason, where nothing is left.
+fn reason_line(behind: &[u8], reason: EditReason) -> Result<Line, LineFault>
+    ensures line { IfOk result (λ line. (behind.now ≡ []) × (plain_line line ≡ refused reason)) }
+    ensures fault { IfErr result (λ fault. (fault ≡ Syntax) × (behind.now ≢ [])) }
+{
+    if behind.is_empty() {
+        return Ok(Line::Refused(reason));
+    }
+    Err(LineFault::Syntax)
+}
