@@ -135,6 +135,12 @@ def cograph(n, seed):
     return rows
 
 
+def permutation_graph(n, seed):
+    """Two vertices are adjacent where a permutation turns them round."""
+    place = random.Random(seed).sample(range(n), n)
+    return rows_of(n, [(u, v) for v in range(n) for u in range(v) if place[u] > place[v]])
+
+
 def script(n, count, seed):
     r = random.Random(seed)
     lines = []
@@ -164,6 +170,7 @@ INPUTS = {
     "cograph1024.g6": lambda: g6(cograph(1024, 11)),
     "complete4096.g6": lambda: g6(complete(4096)),
     "bipartite4096.g6": lambda: g6(complete_bipartite(4096)),
+    "permutation1024.g6": lambda: g6(permutation_graph(1024, 12)),
 }
 for order in (oldest_lowest, oldest_highest, in_any_order):
     for n in (1024, 2047, 4096):
@@ -196,6 +203,9 @@ CASES = [
     ("compare", "g6", "cograph1024.g6"),
     ("compare", "g6", "bipartite4096.g6"),
     ("compare", "g6", "complete4096.g6"),
+    ("permute", "g6", "dense256.g6"),
+    ("permute", "g6", "cograph1024.g6"),
+    ("permute", "g6", "permutation1024.g6"),
 ] + [("tree", "g6", name) for name in INPUTS if name.startswith("p4_")]
 
 
