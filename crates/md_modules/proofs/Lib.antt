@@ -12,4 +12,3 @@ pub mod DecidedPaths
 pub mod Turns
 pub mod ClassLists
 pub mod ClassLemmas
-pub mod FewLemmas

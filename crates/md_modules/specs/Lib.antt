@@ -9,5 +9,4 @@ pub mod PathSearch
 pub mod Seen
 pub mod Searches
 pub mod Classes
-pub mod Few
 pub mod Blocks

@@ -3,23 +3,19 @@ ghost use Rattle.std.specs.Prelude.{◌≡◌, ℕ, ◌<◌, IfOk, IfSome, IfNon
 ghost use Rattle.std.specs.FinSet.{len};
 ghost use Rattle.md_graph.specs.NameSet.{IsLeastFrom, NoneFrom};
 ghost use Rattle.md_graph.specs.Sets.{HasSome, HasTwo, only_name};
-ghost use Rattle.md_modules.specs.Few.{IsBehind, four_names};
-ghost use Rattle.md_modules.specs.Blocks.{held_names, IsName};
 
 use md_graph::{Memory, NAMES, Names};
 use std::alloc::Global;
 use std::marker::Model;
 
-// What a block holds: a name alone, two to four names in ascending order, the greatest one again in
-// the places that are left, or a set.
+// What a block holds: a name alone, or a set.
 #[derive(Drop)]
 enum Held {
     One(u32),
-    Few(u32, u32, u32, u32),
     Several(Box<Names>),
 }
 
-/// A set of names: up to four names take no memory, and another set is kept in a box.
+/// A set of names: a name alone takes no memory, and another set is kept in a box.
 #[derive(Drop)]
 pub struct Block {
     held: Held,
@@ -56,26 +52,26 @@ impl Block {
     pub fn of(alloc: Global, names: &Names) -> Result<Block, Memory>
         ensures { IfOk result (λ block. block ≡ names.now) }
     {
-        if let Some(held) = small(names) {
-            return Ok(Block { held });
+        if let Some(name) = only_member(names) {
+            return Ok(Block::one(name));
         }
         let held = Held::Several(Box::new(alloc, names.copy())?);
         Ok(Block { held })
     }
 
-    /// The set of a box, which is kept where the set has more than four names.
+    /// The set of a box, which is kept where the set isn't a name alone.
     pub fn of_box(names: Box<Names>) -> Block
         ensures { result ≡ names.value }
     {
-        if let Some(held) = small(&names) {
-            return Block { held };
+        if let Some(name) = only_member(&names) {
+            return Block::one(name);
         }
         Block {
             held: Held::Several(names),
         }
     }
 
-    /// The set in a box; that of up to four names takes memory.
+    /// The set in a box; only that of a name alone takes memory.
     pub fn into_box(self, alloc: Global) -> Result<Box<Names>, Memory>
         ensures { IfOk result (λ names. names.value ≡ self) }
     {
@@ -85,7 +81,6 @@ impl Block {
                 names.insert(name);
                 Ok(Box::new(alloc, names)?)
             }
-            Held::Few(a, b, c, d) => Ok(Box::new(alloc, four(a, b, c, d))?),
             Held::Several(names) => Ok(names),
         }
     }
@@ -97,7 +92,6 @@ impl Block {
     {
         match &self.held {
             Held::One(name) => Some(*name),
-            Held::Few(_, _, _, _) => None,
             Held::Several(names) => only_member(names),
         }
     }
@@ -110,7 +104,6 @@ impl Block {
     {
         match &self.held {
             Held::One(name) => Some(*name),
-            Held::Few(name, _, _, _) => Some(*name),
             Held::Several(names) => names.first_from(0),
         }
     }
@@ -121,75 +114,20 @@ impl Block {
     {
         match &self.held {
             Held::One(_) => 1,
-            Held::Few(a, b, c, d) => four(*a, *b, *c, *d).count(),
             Held::Several(names) => names.count(),
         }
     }
 
-    // The set of a box.
+    // The set, unless it is kept as a name alone.
     pub(crate) fn several(&self) -> Option<&Names>
-        ensures { IfSome result (λ names. names.now ≡ self.now) }
-    {
-        match &self.held {
-            Held::Several(names) => Some(&**names),
-            _ => None,
-        }
-    }
-
-    // An equal set, unless it is kept as a name alone.
-    pub(crate) fn spread(&self) -> Option<Names>
-        ensures kept { IfSome result (λ names. names ≡ self.now) }
+        ensures kept { IfSome result (λ names. names.now ≡ self.now) }
         ensures one { IfNone result ((v : ℕ) × (self.now ≡ only_name v)) }
     {
         match &self.held {
             Held::One(_) => None,
-            Held::Few(a, b, c, d) => Some(four(*a, *b, *c, *d)),
-            Held::Several(names) => Some(names.copy()),
+            Held::Several(names) => Some(&**names),
         }
     }
-}
-
-// The set of four names, some of them maybe the same.
-fn four(a: u32, b: u32, c: u32, d: u32) -> Names
-    requires first { a < NAMES }
-    requires second { b < NAMES }
-    requires third { c < NAMES }
-    requires fourth { d < NAMES }
-    ensures { result ≡ four_names a b c d }
-{
-    let mut names = Names::none();
-    names.insert(a);
-    names.insert(b);
-    names.insert(c);
-    names.insert(d);
-    names
-}
-
-// What a block holds of a set with up to four members; none where it has more, or none.
-fn small(names: &Names) -> Option<Held>
-    ensures held { IfSome result (λ held. held_names held ≡ names.now) }
-    ensures fit { IfSome result IsName }
-{
-    let a = names.first_from(0)?;
-    let b = behind(names, a);
-    if b == a {
-        return Some(Held::One(a));
-    }
-    let c = behind(names, b);
-    let d = behind(names, c);
-    if behind(names, d) == d {
-        return Some(Held::Few(a, b, c, d));
-    }
-    None
-}
-
-// The next member behind a member, or that one again where there is none.
-fn behind(names: &Names, member: u32) -> u32
-    requires name { member < NAMES }
-    ensures next { IsBehind names.now member result }
-    ensures name { result < NAMES }
-{
-    names.first_from(member + 1).unwrap_or(member)
 }
 
 /// The member of a set with one member.

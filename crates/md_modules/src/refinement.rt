@@ -56,9 +56,9 @@ fn begin(set: &Names, classes: &[Block], at: usize, left: &mut Names)
 {
     if at < classes.len() {
         left.clear();
-        if let Some(names) = classes[at].spread() {
+        if let Some(names) = classes[at].several() {
             left.take_in(set);
-            left.flip(&names);
+            left.flip(names);
         }
     }
 }
@@ -123,16 +123,13 @@ fn splitter(graph: &Graph, class: &Block, left: &mut Names) -> Option<u32>
     ensures kept { (p : ℕ) → IsSplitter (adjacent graph.now) left.old class.now p → Has left.new p }
     ensures name { IfSome result (λ p. p < NAMES) }
 {
-    if let Some(names) = class.several() {
-        if names.count() > FEW {
-            return splitter_of_many(graph, names, left);
-        }
-        return splitter_of_few(graph, names, left);
-    }
-    let Some(names) = class.spread() else {
+    let Some(names) = class.several() else {
         return None;
     };
-    splitter_of_few(graph, &names, left)
+    if names.count() <= FEW {
+        return splitter_of_few(graph, names, left);
+    }
+    splitter_of_many(graph, names, left)
 }
 
 // The same by a look at each member of the class.

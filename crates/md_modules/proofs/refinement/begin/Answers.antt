@@ -10,13 +10,13 @@ use Rattle.md_modules.proofs.refinement.begin.Goals as goal
 pub returns-in-Some : goal.returns-in-Some
 returns-in-Some c known e =
     let class = get_or_read c.args.classes.now c.args.at c.index-classes-at.result known c.index-classes-at.is empty in
-    let names : c.in-Some.names ≡ class_at c.args.classes.now c.args.at = c.in-Some.ensures.kept ∙ class in
+    let names : c.in-Some.names.now ≡ class_at c.args.classes.now c.args.at = c.in-Some.ensures.kept ∙ class in
     let all : c.take_in.new.self ≡ c.args.set.now = taken_whole _ _ _ c.clear.ensures c.take_in.ensures in
-    let inside : Within c.in-Some.names c.take_in.new.self =
-    along_two Within (class_at c.args.classes.now c.args.at) c.args.set.now c.in-Some.names c.take_in.new.self names all (c.requires known)
+    let inside : Within c.in-Some.names.now c.take_in.new.self =
+    along_two Within (class_at c.args.classes.now c.args.at) c.args.set.now c.in-Some.names.now c.take_in.new.self names all (c.requires known)
     in
     left_begins c.args.set.now (class_at c.args.classes.now c.args.at) c.flip.new.self
-    (flipped_off c.take_in.new.self c.in-Some.names c.flip.new.self inside c.flip.ensures ∙ ap (λ (s : NameSet). difference s c.in-Some.names) all ∙ ap (difference c.args.set.now) names)
+    (flipped_off c.take_in.new.self c.in-Some.names.now c.flip.new.self inside c.flip.ensures ∙ ap (λ (s : NameSet). difference s c.in-Some.names.now) all ∙ ap (difference c.args.set.now) names)
 
 pub returns-in_default : goal.returns-in_default
 returns-in_default c known e =
