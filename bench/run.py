@@ -5,6 +5,7 @@
     python3 bench/run.py --bin PATH      measures a program that is built already
     python3 bench/run.py --peer PATH     measures another program with the same commands beside it
     python3 bench/run.py --only many     measures the cases whose name holds a word
+    python3 bench/run.py --checks        measures `check` over the reports of the same cases, beside the reports
 
 Inputs are made with fixed seeds, in a temporary folder. Instructions are counted by valgrind's callgrind, peak
 memory is told by GNU time, each where it is there. Instructions hardly change from run to run, as times do.
@@ -176,6 +177,8 @@ for order in (oldest_lowest, oldest_highest, in_any_order):
     for n in (1024, 2047, 4096):
         INPUTS["p4_%s_%d.g6" % (order.__name__, n)] = lambda n=n, order=order: g6(nested_p4(n, order(n)))
 
+MODES = ("tree", "compare", "permute", "edit", "cograph")
+
 CASES = [
     ("edges", "g6", "none.g6"),
     ("edges", "g6", "dense1024.g6"),
@@ -231,6 +234,24 @@ def measure(binary, words, where):
     return seconds, count, peak / 1024
 
 
+def measure_checks(binary, only):
+    print("| run | seconds | million instructions | peak MB | the report's seconds | its million instructions | ratio |")
+    print("|---|---|---|---|---|---|---|")
+    with tempfile.TemporaryDirectory() as where:
+        for name, make in INPUTS.items():
+            with open(os.path.join(where, name), "wb") as file:
+                file.write(make())
+        for words in CASES:
+            if words[0] not in MODES or only not in " ".join(words):
+                continue
+            with open(os.path.join(where, "report"), "wb") as report:
+                subprocess.run([binary, *words], cwd=where, stdout=report, check=True)
+            before, answer, _ = measure(binary, words, where)
+            seconds, count, peak = measure(binary, ["check", *words, "report"], where)
+            print("| `check %s` | %.3f | %.1f | %.1f | %.3f | %.1f | %.2f |" %
+                  (" ".join(words), seconds, count / 1e6, peak, before, answer / 1e6, count / max(answer, 1)), flush=True)
+
+
 def build():
     folder = os.path.join(TOP, "crates", "md_cli")
     subprocess.run(["rt", "run", "--", "edges", "g6", "data/graph.g6"], cwd=folder, stdout=subprocess.DEVNULL, check=True)
@@ -242,9 +263,12 @@ def main():
     options.add_argument("--bin")
     options.add_argument("--peer")
     options.add_argument("--only", default="")
+    options.add_argument("--checks", action="store_true")
     chosen = options.parse_args()
     binary = os.path.abspath(chosen.bin or build())
     peer = os.path.abspath(chosen.peer) if chosen.peer else None
+    if chosen.checks:
+        return measure_checks(binary, chosen.only)
     print("| run | seconds | million instructions | peak MB |" + (" the other's | ratio | its peak MB |" if peer else ""))
     print("|---|---|---|---|" + ("---|---|---|" if peer else ""))
     with tempfile.TemporaryDirectory() as where:

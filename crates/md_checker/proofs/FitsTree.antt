@@ -92,7 +92,7 @@ module _ {e : ℕ → ℕ → Bool} (adj : IsAdjacency e) (s : NameSet) where
   tree_module (leaf v) fit w = single_module s v (w v (only_has v))
   tree_module (node k cs ps) fit w = fit.0.is_module
 
-  child_modules : (cs : PlainTrees) → EachNodeBelow (IsFitNode e s) cs → Within (names_below cs) s → (c : PlainTree) → IsChild cs c → IsModule e s (names c)
+  pub child_modules : (cs : PlainTrees) → EachNodeBelow (IsFitNode e s) cs → Within (names_below cs) s → (c : PlainTree) → IsChild cs c → IsModule e s (names c)
   child_modules no_tree fit w c i = absurd i
   child_modules (one_more t ts) fit w c (inl same) =
       subst (λ d. IsModule e s (names d)) (sym same) (tree_module t fit.0 (λ x h. w x (union_left (names t) (names_below ts) x h)))

@@ -13,7 +13,7 @@ use Rattle.md_forcing.specs.Lists.{Holds, NoRepeats}
 use Rattle.md_forcing.specs.Forcing.{arc, reverse, IsArc, ForcesDirectly, Leads, Reaches, IsListToReverse}
 use Rattle.md_forcing.specs.Seen.{IsSeen}
 use Rattle.md_forcing.proofs.ListLemmas.{holds_left, holds_right, of_append, once_push, same_some}
-use Rattle.md_orientation.specs.Chains.{IsForcingChain}
+use Rattle.md_orientation.specs.Chains.{IsForcingChain, HasForcingChain}
 use Rattle.md_orientation.specs.Walking.{IsStopped, IsWhole}
 use Rattle.md_orientation.proofs.Cutting.{list_to_reverse, list_reaches}
 use Rattle.md_orientation.proofs.Least.{precedes_or_same}
@@ -133,6 +133,11 @@ module _ (e : ℕ → ℕ → Bool) (class : List (Arc × ℕ)) (stopped : IsSto
           ]
         ],
   )
+
+  -- such a class has a chain
+  pub stopped_has_one : HasForcingChain e
+  stopped_has_one =
+      let l = list_to_reverse e (arc stopped.u stopped.v) turns in (l.0, (chain_from l.0).0 l.1)
 
   module _ (chain list : List Arc) (first : Arc) (list_is : list ≡ chain) (first_is_least : first ≡ arc stopped.u stopped.v) where
     pub not_begun : ((rest : List Arc) × (list ≡ first ∷ rest) → ⊥) → IsForcingChain e chain → ⊥

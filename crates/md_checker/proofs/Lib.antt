@@ -6,3 +6,15 @@ mod Heads
 mod Listed
 mod Fitting
 mod FitsTree
+mod OneAnswer
+mod Applying
+mod LineFeeds
+pub mod Spelled
+mod Judging
+mod Coming
+mod Moves
+mod Cutting
+mod Trivial
+mod FitRows
+mod FitNodes
+mod FitStacks

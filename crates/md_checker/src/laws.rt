@@ -1,6 +1,8 @@
-//! The laws by which a given tree is judged, each the contract of a function that does nothing. They
-//! speak of any set of names with a test of adjacency, and stand on no call that computes a tree.
+//! The laws by which a given tree is judged, and of the answer of a check, each the contract of a
+//! function that does nothing. Those of trees speak of any set of names with a test of adjacency; they
+//! stand on no call that computes a tree.
 
+ghost use Rattle.md_checker.specs.Answers.{OneAnswer};
 ghost use Rattle.md_checker.specs.Fits.{FitsIfTree, HeadsAreLeast};
 
 /// A tree as well-formed trees are is the tree of strong modules of a graph exactly where its leaves
@@ -14,4 +16,9 @@ pub fn fits_if_tree()
 /// The first leaf of a tree as well-formed trees are is the least of its names.
 pub fn heads_are_least()
     ensures { HeadsAreLeast }
+{}
+
+/// Bytes have one answer at most, as a report from a place on.
+pub fn one_answer()
+    ensures { OneAnswer }
 {}

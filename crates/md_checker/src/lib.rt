@@ -2,7 +2,22 @@
 //! the answers.
 #![tactic(auto)]
 
+mod answer;
 mod certificates;
+mod check;
+mod checker;
+mod fixed_lines;
+mod graph_checker;
+mod judgements;
 pub mod laws;
+mod session_checker;
+mod tree_fit;
 
+pub use answer::CheckAnswer;
 pub use certificates::{is_forcing_chain, is_least_edge_orientation, realise};
+pub use check::{check_graphs, check_session};
+pub use checker::Checker;
+pub use tree_fit::fits;
+
+#[cfg(test)]
+mod tests;

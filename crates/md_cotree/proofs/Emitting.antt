@@ -15,7 +15,7 @@ use Rattle.md_cotree.specs.Forests.{joined, shape_list}
 use Rattle.md_cotree.specs.Orders.{AllLive, part_of_kind, part_at}
 use Rattle.md_cotree.proofs.Rows.{roots-joined, shape_list-joined, row_shapes, length_roots}
 use Rattle.md_cotree.proofs.Rooted.{node_parts, count_shapes}
-use Rattle.md_cotree.proofs.Listing.{backward-append}
+use Rattle.md_tree.proofs.Listing.{backward-append}
 
 -- ---- the children of a place
 

@@ -18,11 +18,11 @@ use Rattle.md_tree.specs.declared.Tree.{Tree, Leaf as LeafTree, Node as NodeTree
 use Rattle.md_tree.specs.Plain.{plain}
 use Rattle.md_tree.proofs.Plain.{plain_is_leaf, plain_is_node}
 use Rattle.md_tree.specs.Trees.{PlainTree, node, row, count}
-use Rattle.md_tree.specs.Parts.{name, inner as inner_part}
+use Rattle.md_tree.specs.Parts.{name, inner as inner_part, part_of}
 use Rattle.md_tree.specs.Stacks.{with_part, HasChildrenOf}
 use Rattle.md_cotree.specs.declared.cotree.Cotree.{Cotree}
 use Rattle.md_cotree.specs.PlaceTrees.{tip, inner, PlaceTrees, no_more, then, roots, row_length, place_kind, kind_of, leaves_among, node_counts, Fits}
-use Rattle.md_cotree.specs.Forests.{head_of, joined, shape_list, IsForest, IsReady}
+use Rattle.md_cotree.specs.Forests.{joined, shape_list, IsForest, IsReady}
 use Rattle.md_cotree.proofs.Rows.{roots-joined, shape_list-joined, leaves-joined, leaf_counts-joined, row_shapes, length_shapes, length_roots, Split, split_row, some_nodes}
 use Rattle.md_cotree.proofs.Frames.{fits_made, fits_last}
 use Rattle.md_cotree.proofs.Room.{room}
@@ -170,11 +170,11 @@ node_seen c m stack p count below k kind is free within made at seen shown ts us
 
 -- ---- one node
 
-pub leaf_ready : (c : Cotree) (t : Tree) (v : ℕ) → t ≡ LeafTree v → IsReady c (head_of (plain t)) → (v < NAMES) × (get_or c.places.items v None ≡ None)
-leaf_ready c t v is ready = subst (λ p. IsReady c (head_of p)) (plain_is_leaf t v is) ready
+pub leaf_ready : (c : Cotree) (t : Tree) (v : ℕ) → t ≡ LeafTree v → IsReady c (part_of (plain t)) → (v < NAMES) × (get_or c.places.items v None ≡ None)
+leaf_ready c t v is ready = subst (λ p. IsReady c (part_of p)) (plain_is_leaf t v is) ready
 
-pub leaf_put : (t : Tree) (v p : ℕ) (ts : PlaceTrees) → t ≡ LeafTree v → shape_list (joined ts (then (tip p v) no_more)) ≡ with_part (head_of (plain t)) (shape_list ts)
-leaf_put t v p ts is = leaf_shown ts p v ∙ sym (ap (λ z. with_part (head_of z) (shape_list ts)) (plain_is_leaf t v is))
+pub leaf_put : (t : Tree) (v p : ℕ) (ts : PlaceTrees) → t ≡ LeafTree v → shape_list (joined ts (then (tip p v) no_more)) ≡ with_part (part_of (plain t)) (shape_list ts)
+leaf_put t v p ts is = leaf_shown ts p v ∙ sym (ap (λ z. with_part (part_of z) (shape_list ts)) (plain_is_leaf t v is))
 
 -- the number of the children of a node that is told
 abbrev children_of : Children → ℕ
@@ -188,17 +188,17 @@ counted : (cs : Children) (n : ℕ) → n ≡ length (out-Children cs).list.item
 counted cs n e = e ∙ sym (length-map (out-Children cs).list.items plain) ∙ sym (count_row (map plain (out-Children cs).list.items))
 
 module _ (c : Cotree) (t : Tree) (k : Kind) (cs : Children) (es : QuotientEdges) (is : t ≡ NodeTree k cs es) (n : ℕ) (long : n ≡ length (out-Children cs).list.items) where
-  pub node_ready : IsReady c (head_of (plain t)) → (k ≢ Prime) × (es.list.items ≡ [])
-  node_ready ready = subst (λ p. IsReady c (head_of p)) (plain_is_node t k cs es is) ready
+  pub node_ready : IsReady c (part_of (plain t)) → (k ≢ Prime) × (es.list.items ≡ [])
+  node_ready ready = subst (λ p. IsReady c (part_of p)) (plain_is_node t k cs es is) ready
 
-  pub node_split : (ts : PlaceTrees) → HasChildrenOf (head_of (plain t)) (shape_list ts) → Split ts n
+  pub node_split : (ts : PlaceTrees) → HasChildrenOf (part_of (plain t)) (shape_list ts) → Split ts n
   node_split ts has =
-      let low : children_of cs ≤ length (shape_list ts) = subst (λ p. HasChildrenOf (head_of p) (shape_list ts)) (plain_is_node t k cs es is) has in
+      let low : children_of cs ≤ length (shape_list ts) = subst (λ p. HasChildrenOf (part_of p) (shape_list ts)) (plain_is_node t k cs es is) has in
       split_row ts n (let e = counted cs n long in let f = length_shapes ts in omega arith)
 
-  pub node_put : (j : Bool) (p : ℕ) (ts us : PlaceTrees) → k ≡ kind_of j → IsReady c (head_of (plain t)) → row_length us ≡ n →
-      shape_list (joined ts (then (inner p j us) no_more)) ≡ with_part (head_of (plain t)) (shape_list (joined ts us))
+  pub node_put : (j : Bool) (p : ℕ) (ts us : PlaceTrees) → k ≡ kind_of j → IsReady c (part_of (plain t)) → row_length us ≡ n →
+      shape_list (joined ts (then (inner p j us) no_more)) ≡ with_part (part_of (plain t)) (shape_list (joined ts us))
   node_put j p ts us kind ready count_is =
       node_shown ts us p n j count_is
-      ∙ sym (ap (λ z. with_part (head_of z) (shape_list (joined ts us))) (plain_is_node t k cs es is)
+      ∙ sym (ap (λ z. with_part (part_of z) (shape_list (joined ts us))) (plain_is_node t k cs es is)
       ∙ (λ i. with_part (inner_part (kind i) (sym (counted cs n long) i) ((node_ready ready).1 i)) (shape_list (joined ts us))))

@@ -8,7 +8,6 @@ pub mod Rows
 pub mod Frames
 pub mod Attaching
 pub mod Growing
-pub mod Listing
 pub mod Naming
 pub mod Rooted
 pub mod Ways

@@ -15,7 +15,7 @@ use Rattle.md_tree.specs.Parts.{PlainPart, name, inner as inner_part, parts_of, 
 use Rattle.md_tree.specs.Stacks.{with_part, HasChildrenOf}
 use Rattle.md_tree.specs.TreeGraph.{graph_of_tree}
 use Rattle.md_tree.specs.WellFormed.{NoneOfKind, IsCanonicalNode, IsCanonical, IsWellFormed, HasNoPrimeNode}
-use Rattle.md_tree.proofs.Folding.{folded, Finds, IsFolding, fold_begin, fold_finds, fold_more, fold_top, fold_some}
+use Rattle.md_tree.proofs.Folding.{count_row, folded, Finds, IsFolding, fold_begin, fold_finds, fold_more, fold_end}
 use Rattle.md_cotree.specs.declared.cotree.Cotree.{Cotree}
 use Rattle.md_cotree.specs.PlaceTrees.{PlaceTree, tip, inner, PlaceTrees, no_more, then, place_of, row_length, kind_of, leaves_in, leaves_among, node_count, node_counts, NoneInner, Alternates, AllAlternate, shape, shapes, Fits}
 use Rattle.md_cotree.specs.Forests.{shape_list, IsForest, IsReady}
@@ -23,14 +23,10 @@ use Rattle.md_cotree.specs.Cotrees.{IsKeptAs, Denotes}
 use Rattle.md_cotree.proofs.Cographs.{plain_shape}
 use Rattle.md_cotree.proofs.Rows.{row_shapes}
 use Rattle.md_cotree.proofs.Frames.{hit}
-use Rattle.md_cotree.proofs.Listing.{backward-append}
+use Rattle.md_tree.proofs.Listing.{backward-append}
 use Rattle.md_cotree.proofs.Naming.{named, times-named, name_has, name_once, few_names, few_parts, ArePlain, plain_rest, plain_parts}
 
 -- ---- parts
-
-count_row : (ts : List PlainTree) → count (row ts) ≡ length ts
-count_row [] = refl
-count_row (t ∷ ts) = let rest = count_row ts in omega arith
 
 parts_put : (p : PlainPart) (zs : List PlainTree) → HasChildrenOf p zs → parts_backward (row (with_part p zs)) ≡ p ∷ parts_backward (row zs)
 parts_put (name v) zs has = backward-append zs (leaf v ∷ [])
@@ -143,30 +139,8 @@ module _ (t : PlainTree) (is_well : IsWellFormed (Some t)) (not : HasNoPrimeNode
 
 -- ---- at the end
 
-last_split : (z : PlainTree) (zs : List PlainTree) → (us : List PlainTree) × (u : PlainTree) × (z ∷ zs ≡ us ++ u ∷ [])
-last_split z [] = ([], z, refl)
-last_split z (y ∷ zs) = let rest = last_split y zs in (z ∷ rest.0, rest.1, ap (λ l. z ∷ l) rest.2)
-
-some_part : (t : PlainTree) → 0 < length (parts_of t)
-some_part (leaf v) = omega arith
-some_part (node k cs ps) = omega arith
-
-no_parts : (us : List PlainTree) → length (parts_backward (row us)) ≡ 0 → us ≡ []
-no_parts [] none = refl
-no_parts (u ∷ us) none =
-    absurd (let some = some_part u in let e = length-append (parts_backward (row us)) (parts_of u) in omega arith)
-
 pub one_tree : (t : PlainTree) (zs : List PlainTree) → IsFolding (parts_of t) [] zs → zs ≡ t ∷ []
-one_tree t [] is = absurd (fold_some (parts_of t) [] [] is refl refl t refl)
-one_tree t (z ∷ zs) is =
-    let cut = last_split z zs in
-    let top : cut.1 ≡ t = fold_top (parts_of t) [] (z ∷ zs) cut.0 cut.1 is refl cut.2 t refl in
-    let all : parts_of cut.1 ++ parts_backward (row cut.0) ≡ parts_of t =
-    sym (backward-append cut.0 (cut.1 ∷ [])) ∙ ap (λ l. parts_backward (row l)) (sym cut.2) ∙ all_parts t [] (z ∷ zs) is in
-    let e = ap length all in
-    let a = length-append (parts_of cut.1) (parts_backward (row cut.0)) in
-    let b = ap (λ u. length (parts_of u)) top in
-    cut.2 ∙ (λ i. no_parts cut.0 (omega arith) i ++ top i ∷ [])
+one_tree t zs is = fold_end (parts_of t) [] zs is refl t refl
 
 none_inner : (ts : PlaceTrees) (k : Bool) → NoneOfKind (shapes ts) (kind_of k) → NoneInner ts k
 none_inner no_more k none = tt

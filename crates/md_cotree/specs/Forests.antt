@@ -1,36 +1,14 @@
 -- Loose trees over places on a stack, as a cotree is put together from the nodes of a tree.
 -- Source: the evaluation of prefix notation, read from right to left.
 use Rattle.std.specs.Prelude.{◌≡◌, ◌≢◌, ◌<◌, ℕ, List, [], ◌∷◌, length, slice_index_or, None}
-use Rattle.std.specs.Borrow.{Bor}
 use Rattle.md_graph.specs.declared.TheConstants.{NAMES}
 use Rattle.md_lists.specs.Links.{AreLinks}
 use Rattle.md_lists.specs.Words.{holds_once}
 use Rattle.md_tree.specs.declared.Kind.TheVariants.{Prime}
-use Rattle.md_tree.specs.declared.Tree.{Tree}
 use Rattle.md_tree.specs.Parts.{PlainPart, name, inner as inner_part}
-use Rattle.md_tree.specs.Plain.{plain}
-use Rattle.md_tree.specs.Trees.{PlainTree, leaf, node, PlainTrees, no_tree, one_more, count}
+use Rattle.md_tree.specs.Trees.{PlainTree}
 use Rattle.md_cotree.specs.declared.cotree.Cotree.{Cotree}
 use Rattle.md_cotree.specs.PlaceTrees.{PlaceTrees, no_more, then, roots, leaves_among, leaf_counts, shape, Fits}
-
--- the part of a tree that is its root
-abbrev pub head_of : PlainTree → PlainPart
-head_of (leaf v) = name v
-head_of (node k cs ps) = inner_part k (count cs) ps
-
--- the trees of a row
-abbrev pub listed : PlainTrees → List PlainTree
-listed no_tree = []
-listed (one_more t ts) = t ∷ listed ts
-
--- the children of a node
-abbrev pub below_node : PlainTree → List PlainTree
-below_node (leaf v) = []
-below_node (node k cs ps) = listed cs
-
--- what stands behind a reference
-abbrev pub plain_at : Bor Tree → PlainTree
-plain_at r = plain r.now
 
 -- two rows, one behind the other
 abbrev pub joined : PlaceTrees → PlaceTrees → PlaceTrees

@@ -1,21 +1,21 @@
 //! The cotree of a tree.
-ghost use Rattle.std.specs.Prelude.{◌≡◌, ◌≢◌, ◌++◌, ℕ, ◌<◌, Bool, Option, None, Some, map, slice_index_or, IfOk};
+ghost use Rattle.std.specs.Prelude.{◌≡◌, ◌≢◌, ℕ, ◌<◌, Bool, Option, None, Some, slice_index_or, IfOk};
 ghost use Rattle.md_lists.specs.Links.{AreLinks};
 ghost use Rattle.md_tree.specs.declared.Kind.TheVariants.{Prime};
-ghost use Rattle.md_tree.specs.Parts.{parts_of};
+ghost use Rattle.md_tree.specs.Parts.{part_of};
 ghost use Rattle.md_tree.specs.Plain.{plain, plain_option};
 ghost use Rattle.md_tree.specs.Stacks.{with_part, HasChildrenOf};
 ghost use Rattle.md_tree.specs.TreeGraph.{graph_of_tree};
 ghost use Rattle.md_tree.specs.WellFormed.{IsWellFormed};
 ghost use Rattle.md_cotree.specs.Cotrees.{Denotes};
-ghost use Rattle.md_cotree.specs.Forests.{head_of, plain_at, below_node, joined, shape_list, IsForest, IsReady};
+ghost use Rattle.md_cotree.specs.Forests.{joined, shape_list, IsForest, IsReady};
 ghost use Rattle.md_cotree.specs.Laws.{HasNoPrime};
 ghost use Rattle.md_cotree.specs.PlaceTrees.{PlaceTrees, no_more, then, tip, inner, roots, row_length, node_counts, place_kind, kind_of, Fits};
 
 use crate::Cotree;
 use md_graph::{Memory, NAMES, Steps};
 use md_lists::{Lists, PLACES, PlaceKind};
-use md_tree::{Kind, Tree};
+use md_tree::{Kind, Tree, nodes_of};
 use std::alloc::Global;
 use std::marker::Brand;
 use std::sync::ledger::{Blank, Ledger};
@@ -42,7 +42,7 @@ fn planted<L: Ledger>(alloc: Global, tree: &Tree, blank: Blank) -> Result<Cotree
     requires no_prime { HasNoPrime (Some (plain tree.now)) }
     ensures { IfOk result (λ cotree. Denotes cotree (graph_of_tree (Some (plain tree.now)))) }
 {
-    let mut nodes = nodes(alloc, tree)?;
+    let mut nodes = nodes_of(alloc, tree)?;
     let mut cotree = Cotree::new(alloc)?;
     let _spare = cotree.lists.spare();
     let mut steps = Steps::<L>::new(blank);
@@ -54,34 +54,6 @@ fn planted<L: Ledger>(alloc: Global, tree: &Tree, blank: Blank) -> Result<Cotree
     Ok(cotree)
 }
 
-// The nodes of a tree: each before those below it, and the children from the last to the first.
-fn nodes(alloc: Global, tree: &Tree) -> Result<Vec<&Tree>, Memory>
-    ensures { IfOk result (λ nodes. map (λ r. head_of (plain_at r)) nodes.items
-        ≡ parts_of (plain tree.now)) }
-{
-    let mut nodes = Vec::new(alloc);
-    let mut waiting = Vec::new(alloc);
-    waiting.push(tree)?;
-    while let Some(node) = waiting.pop() {
-        nodes.push(node)?;
-        push_children(node, &mut waiting)?;
-    }
-    Ok(nodes)
-}
-
-// Appends the children of a node.
-fn push_children<'a>(node: &'a Tree, waiting: &mut Vec<&'a Tree>) -> Result<(), Memory>
-    ensures { IfOk result (λ _. map plain_at waiting.new.items
-        ≡ map plain_at waiting.old.items ++ below_node (plain node.now)) }
-{
-    if let Tree::Node(_, children, _) = node {
-        for child in &children.list {
-            waiting.push(child)?;
-        }
-    }
-    Ok(())
-}
-
 // A node takes its children off the stack and comes on top of it. Condition: there is room, and the
 // stack has the node's children.
 fn put<L: Ledger>(
@@ -91,12 +63,12 @@ fn put<L: Ledger>(
     steps: &mut Steps<L>,
 ) -> Result<(), Memory>
     requires forest { (ts : PlaceTrees) × IsForest cotree.old stack.old.items ts
-        × (node_counts ts < PLACES) × HasChildrenOf (head_of (plain node.now)) (shape_list ts) }
-    requires ready { IsReady cotree.old (head_of (plain node.now)) }
+        × (node_counts ts < PLACES) × HasChildrenOf (part_of (plain node.now)) (shape_list ts) }
+    requires ready { IsReady cotree.old (part_of (plain node.now)) }
     ensures { IfOk result (λ _. (ts : PlaceTrees) → IsForest cotree.old stack.old.items ts →
-        HasChildrenOf (head_of (plain node.now)) (shape_list ts) →
+        HasChildrenOf (part_of (plain node.now)) (shape_list ts) →
         (us : PlaceTrees) × IsForest cotree.new stack.new.items us
-        × (shape_list us ≡ with_part (head_of (plain node.now)) (shape_list ts))) }
+        × (shape_list us ≡ with_part (part_of (plain node.now)) (shape_list ts))) }
 {
     match node {
         Tree::Leaf(name) => put_leaf(cotree, stack, *name, steps),

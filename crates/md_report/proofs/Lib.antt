@@ -4,3 +4,4 @@ pub mod Named
 pub mod Behind
 pub mod Fronts
 pub mod OneLine
+pub mod ByTrees

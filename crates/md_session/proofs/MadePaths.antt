@@ -19,12 +19,6 @@ use Rattle.md_report.specs.Cographs.{IsP4Of, IsCograph}
 use Rattle.md_session.specs.Made.{Shows, HoldsChange, HasNoneMade}
 use Rattle.md_session.specs.Answers.{IsAnsweredBy, IsAnswered}
 use Rattle.md_session.specs.declared.cograph.Answer.TheVariants.{Applied, RefusedP4}
-use Rattle.md_modules.specs.Adjacency.{IsAdjacency}
-use Rattle.md_tree.specs.declared.Tree.{Tree}
-use Rattle.md_tree.specs.Plain.{plain, plain_option}
-use Rattle.md_tree.specs.StrongTrees.{IsTree}
-use Rattle.md_tree.specs.WellFormed.{HasNoPrimeNode}
-use Rattle.md_tree.proofs.OneTree.{no_path_proof}
 
 decide_one : (x a b c d : ℕ) → Decided (IsOneOf x a b c d)
 decide_one x a b c d =
@@ -236,19 +230,3 @@ module _ (g : PlainGraph) (edit : Edit) (none : reason_of g edit ≡ None) where
 
   pub applied_to : (next : PlainGraph) → next ≡ after g edit → IsCograph next → IsAnswered g edit Applied next
   applied_to next is free = subst (λ o. IsAnsweredBy o g edit Applied next) (sym none) (inr (subst IsCograph is free, refl, is))
-
--- ---- the tree tells whether a graph is a cograph
-
-adjacency : {g : PlainGraph} → IsGraph g → IsAdjacency (adjacent g)
-adjacency {g} is = record { symmetric = adjacent_sym g; irreflexive = adjacent_self is }
-
-pub cograph_by_tree : (g : PlainGraph) → IsGraph g → (tree : Option Tree) (t : Tree) (told : Bool) → tree ≡ Some t → IsTree (adjacent g) g.vertices (plain_option tree) →
-    (IsTrue told ↔ HasNoPrimeNode (plain t)) → IsTrue told ↔ IsCograph g
-cograph_by_tree g is tree t told some made by =
-    let law = no_path_proof (adjacent g) (adjacency is) g.vertices (plain t) (subst (λ o. IsTree (adjacent g) g.vertices (plain_option o)) some made) in
-    ((λ h. law.1 (by.0 h)), (λ free. by.1 (law.0 free)))
-
-pub cograph_without_vertices : (g : PlainGraph) → (tree : Option Tree) → tree ≡ None → IsTree (adjacent g) g.vertices (plain_option tree) → IsTrue true ↔ IsCograph g
-cograph_without_vertices g tree none made =
-    let empty : g.vertices ≡ set.empty = subst (λ o. IsTree (adjacent g) g.vertices (plain_option o)) none made in
-    ((λ _ path. clash (subst (λ s. Has s path.0) empty path.4.inside.0) (empty_lacks path.0)), (λ _. refl))

@@ -1,5 +1,5 @@
 -- What an ending says of a run, behind its loads.
-use Rattle.std.proofs.Common.{◌≡◌, ◌≢◌, ℕ, ◌-◌, ◌^◌, ◌<◌, ◌≤◌, Bool, true, false, ◌&&◌, nat_lt, IsTrue, List, [], ◌∷◌, ◌++◌, Option, None, Some, Result, IsErrAnd, Ok, Err, refl, sym, ◌∙◌, ap, ap₂, subst, inl, inr, append-nil, append_assoc, arith}
+use Rattle.std.proofs.Common.{◌≡◌, ◌≢◌, ◌⊎◌, ℕ, ◌-◌, ◌^◌, ◌<◌, ◌≤◌, Bool, true, false, ◌&&◌, nat_lt, IsTrue, List, [], ◌∷◌, ◌++◌, Option, None, Some, Result, IsErrAnd, Ok, Err, refl, sym, ◌∙◌, ap, ap₂, subst, inl, inr, append-nil, append_assoc, arith}
 use Rattle.std.proofs.lemmas.Bool.{ltb-true}
 use Rattle.std.specs.Io.KnownBytes.{Keeps}
 use Rattle.md_io.specs.Count.{Rose}
@@ -11,16 +11,19 @@ use Rattle.md_input.specs.declared.fault.Fault.{Fault}
 use Rattle.md_top.specs.declared.request.Request.{Request}
 use Rattle.md_top.specs.declared.stop.Stop.{Stop}
 use Rattle.md_top.specs.declared.stop.Stop.TheVariants.{Usage, BadInput, ReadFault, WriteFault, Memory, TooLong}
+use Rattle.md_top.specs.declared.stop.Status.{Status}
 use Rattle.md_top.specs.declared.stop.Status.TheVariants as statuses
 use Rattle.md_top.specs.declared.stop.Verdict.{Verdict}
-use Rattle.md_top.specs.declared.stop.Verdict.TheVariants.{Done}
+use Rattle.md_top.specs.declared.stop.Verdict.TheVariants.{Done, Rejected}
+use Rattle.md_checker.specs.declared.answer.CheckAnswer.TheVariants as answers
 use Rattle.md_top.specs.Request.{files_of, with_files}
 use Rattle.md_top.specs.Input.{FilesRun, AreToldAs, AreFiles, AllToldFiles, CanBeInput, IsInput, AsksInOrder, names_of, LoadEnds}
-use Rattle.md_top.specs.Answer.{fault_of}
+use Rattle.md_top.specs.Answer.{fault_of, HasAnswer}
 use Rattle.md_top.specs.Sinks.{SinkRun}
 use Rattle.md_top.specs.Command.{CommandEnds}
-use Rattle.md_top.specs.Status.{status_of_stop, stop_of_load}
-use Rattle.md_top.specs.Promise.{CanBeBad, Ends}
+use Rattle.md_top.specs.Status.{status_of, status_of_verdict, status_of_stop, line_of_stop, stop_of_load}
+use Rattle.md_top.specs.Promise.{CanBeBad, IsLine, Ends}
+use Rattle.md_top.proofs.OneOutput.{not_done, rejected_answer}
 use Rattle.md_top.proofs.Loads.{Loads, onwards, both, all_before, all_at, none_past}
 
 -- a run that stops at bad input names a fault
@@ -31,6 +34,39 @@ stops_at_fault ReadFault request f o ends is = cc
 stops_at_fault WriteFault request f o ends is = cc
 stops_at_fault Memory request f o ends is = cc
 stops_at_fault TooLong request f o ends is = cc
+
+-- its line is that of what stopped it
+stop_line : (stop : Stop) (request : Option (Request (List ℕ))) (f : FilesRun) (o : SinkRun) → Ends request (Err stop) f o → IsLine f.holds request (status_of_stop stop) (line_of_stop stop)
+stop_line Usage request f o ends = refl
+stop_line (BadInput fault) request f o ends = record { fault = fault; bad = ends.bad_input fault refl; named = refl }
+stop_line ReadFault request f o ends = refl
+stop_line WriteFault request f o ends = refl
+stop_line Memory request f o ends = refl
+stop_line TooLong request f o ends = refl
+
+pub line_told : (stop : Stop) (request : Option (Request (List ℕ))) (f : FilesRun) (o : SinkRun) → Ends request (Err stop) f o → (status : Status) → status ≡ status_of_stop stop → IsLine f.holds request status (line_of_stop stop)
+line_told stop request f o ends status same = subst (λ s. IsLine f.holds request s (line_of_stop stop)) (sym same) (stop_line stop request f o ends)
+
+-- a whole output has no line
+no_line : (verdict : Verdict) (holds : List ℕ → Told) (request : Option (Request (List ℕ))) → IsLine holds request (status_of_verdict verdict) []
+no_line Done holds request = refl
+no_line Rejected holds request = refl
+
+pub no_line_told : (verdict : Verdict) (holds : List ℕ → Told) (request : Option (Request (List ℕ))) (status : Status) → status ≡ status_of_verdict verdict → IsLine holds request status []
+no_line_told verdict holds request status same = subst (λ s. IsLine holds request s []) (sym same) (no_line verdict holds request)
+
+-- what always comes of an ending, told of its status
+module _ (request : Option (Request (List ℕ))) (ending : Result Verdict Stop) (f : FilesRun) (o : SinkRun) (ends : Ends request ending f o) (status : Status) (same : status ≡ status_of ending) where
+  pub bad_always : (input : Request (List ℕ)) (fault : Fault) → IsInput f.holds request input → fault_of input ≡ Some fault →
+      (status ≡ statuses.BadInput) ⊎ (status ≡ statuses.ReadFault) ⊎ (status ≡ statuses.Memory)
+  bad_always input fault is faulty =
+      subst (λ s. (s ≡ statuses.BadInput) ⊎ (s ≡ statuses.ReadFault) ⊎ (s ≡ statuses.Memory)) (sym same) (ends.bad_input_always input fault is faulty)
+
+  pub rejected_always : (input : Request (List ℕ)) (line : ℕ) → IsInput f.holds request input → fault_of input ≡ None → HasAnswer input (answers.Rejected line) →
+      (status ≡ statuses.Rejected) ⊎ (status ≡ statuses.ReadFault) ⊎ (status ≡ statuses.WriteFault) ⊎ (status ≡ statuses.Memory)
+  rejected_always input line is faultless has =
+      subst (λ s. (s ≡ statuses.Rejected) ⊎ (s ≡ statuses.ReadFault) ⊎ (s ≡ statuses.WriteFault) ⊎ (s ≡ statuses.Memory)) (sym same)
+      (ends.rejected_always input line is faultless has)
 
 -- files that are told with contents are told as files
 told_files : (holds : List ℕ → Told) (names contents : List (List ℕ)) → AreFiles holds names contents → AllToldFiles holds names
@@ -72,15 +108,17 @@ rose_behind old now new below rose = omega (arith, rose)
 -- an ending behind the loads of all files of a request
 module _ (asked : Request (List ℕ)) (contents : List (List ℕ)) (input : Request (List ℕ)) (filled : with_files asked contents ≡ Some input)
     (f : FilesRun) (o : SinkRun) (loaded : Loads f (files_of asked) contents) where
-  same_fault : (other : Request (List ℕ)) → IsInput f.holds (Some asked) other → fault_of other ≡ fault_of input
-  same_fault other is =
+  one_input : (other : Request (List ℕ)) → IsInput f.holds (Some asked) other → other ≡ input
+  one_input other is =
       let same : asked ≡ is.asked = cc in
       let files : AreFiles f.holds (files_of asked) is.contents = subst (λ (r : Request (List ℕ)). AreFiles f.holds (files_of r) is.contents) (sym same) is.files in
       let alike : contents ≡ is.contents = same_contents f.holds (files_of asked) contents is.contents loaded.told files in
       let equal : with_files asked contents ≡ with_files is.asked is.contents =
       ap₂ (λ (r : Request (List ℕ)) (c : List (List ℕ)). with_files r c) same alike in
-      let one : other ≡ input = cc in
-      ap (λ (r : Request (List ℕ)). fault_of r) one
+      cc
+
+  same_fault : (other : Request (List ℕ)) → IsInput f.holds (Some asked) other → fault_of other ≡ fault_of input
+  same_fault other is = ap (λ (r : Request (List ℕ)). fault_of r) (one_input other is)
 
   can_be : CanBeInput f.holds (Some asked) input
   can_be = record { asked = asked; contents = contents; is = refl; told = loaded.told; filled = filled }
@@ -98,6 +136,9 @@ module _ (asked : Request (List ℕ)) (contents : List (List ℕ)) (input : Requ
     bad_input = λ fault is. cc;
     bad_input_always = λ other fault is faulty. absurd (not_none (sym ends.faultless ∙ sym (same_fault other is) ∙ faulty));
     good_input = λ s. (input, can_be, ends.faultless);
+    rejected = λ s. cc;
+    rejected_always = λ other line is faultless has.
+        absurd (not_done input line ends.bytes (subst (λ (r : Request (List ℕ)). HasAnswer r (answers.Rejected line)) (one_input other is) has) ends.answer);
     read_fault = λ s. cc;
     write_fault = λ s. cc;
     too_long = λ s. cc;
@@ -105,13 +146,30 @@ module _ (asked : Request (List ℕ)) (contents : List (List ℕ)) (input : Requ
     out = (input, can_be, ends);
     complete = λ other is faultless no_read no_write. inl refl;
   }
+  ends_of_command (Ok Rejected) ends = record {
+    usage = ((λ u. cc), (λ n. cc));
+    asked = in_order;
+    bad_input = λ fault is. cc;
+    bad_input_always = λ other fault is faulty. absurd (not_none (sym ends.faultless ∙ sym (same_fault other is) ∙ faulty));
+    good_input = λ s. (input, can_be, ends.faultless);
+    rejected = λ s. (input, can_be, rejected_answer input ends.bytes ends.answer);
+    rejected_always = λ other line is faultless has. inl refl;
+    read_fault = λ s. cc;
+    write_fault = λ s. cc;
+    too_long = λ s. cc;
+    sure = λ s all. ((loaded.sure s all).0, (loaded.sure s all).1, λ r. cc);
+    out = (input, can_be, ends);
+    complete = λ other is faultless no_read no_write. inr (inl refl);
+  }
   ends_of_command (Err Usage) ends = absurd ends
   ends_of_command (Err (BadInput fault)) ends = record {
     usage = ((λ u. cc), (λ n. cc));
     asked = in_order;
     bad_input = λ named is. (input, can_be, cc);
     bad_input_always = λ other named is faulty. inl refl;
-    good_input = λ s. elim s [ inl d ↦ cc | inr w ↦ cc ];
+    good_input = λ s. elim s [ inl d ↦ cc | inr (inl r) ↦ cc | inr (inr w) ↦ cc ];
+    rejected = λ s. cc;
+    rejected_always = λ other line is faultless has. absurd (not_none (sym faultless ∙ same_fault other is ∙ ends.0));
     read_fault = λ s. cc;
     write_fault = λ s. cc;
     too_long = λ s. cc;
@@ -126,6 +184,8 @@ module _ (asked : Request (List ℕ)) (contents : List (List ℕ)) (input : Requ
     bad_input = λ fault is. cc;
     bad_input_always = λ other fault is faulty. absurd (not_none (sym ends.0.faultless ∙ sym (same_fault other is) ∙ faulty));
     good_input = λ s. (input, can_be, ends.0.faultless);
+    rejected = λ s. cc;
+    rejected_always = λ other line is faultless has. inr (inr (inl refl));
     read_fault = λ s. cc;
     write_fault = λ s. ends.1;
     too_long = λ s. cc;
@@ -138,13 +198,15 @@ module _ (asked : Request (List ℕ)) (contents : List (List ℕ)) (input : Requ
     asked = in_order;
     bad_input = λ fault is. cc;
     bad_input_always = λ other fault is faulty. inr (inr refl);
-    good_input = λ s. elim s [ inl d ↦ cc | inr w ↦ cc ];
+    good_input = λ s. elim s [ inl d ↦ cc | inr (inl r) ↦ cc | inr (inr w) ↦ cc ];
+    rejected = λ s. cc;
+    rejected_always = λ other line is faultless has. inr (inr (inr refl));
     read_fault = λ s. cc;
     write_fault = λ s. cc;
     too_long = λ s. cc;
     sure = λ s all. ((loaded.sure s all).0, (loaded.sure s all).1, λ r. cc);
     out = elim ends [ inl kept ↦ inl kept | inr front ↦ inr (input, can_be, front) ];
-    complete = λ other is faultless no_read no_write. inr refl;
+    complete = λ other is faultless no_read no_write. inr (inr refl);
   }
   ends_of_command (Err TooLong) ends = absurd ends
 
@@ -186,7 +248,9 @@ module _ (asked : Request (List ℕ)) (f : FilesRun) (names contents : List (Lis
     asked = noted loads.Failed load;
     bad_input = λ fault is. cc;
     bad_input_always = λ other fault is faulty. inr (inl refl);
-    good_input = λ s. elim s [ inl d ↦ cc | inr w ↦ cc ];
+    good_input = λ s. elim s [ inl d ↦ cc | inr (inl r) ↦ cc | inr (inr w) ↦ cc ];
+    rejected = λ s. cc;
+    rejected_always = λ other line is faultless has. inr (inl refl);
     read_fault = λ s. rose_behind f.faults_old f.faults_new faults loaded.faults (load.failed refl);
     write_fault = λ s. cc;
     too_long = λ s. cc;
@@ -199,20 +263,24 @@ module _ (asked : Request (List ℕ)) (f : FilesRun) (names contents : List (Lis
     asked = noted loads.Memory load;
     bad_input = λ fault is. cc;
     bad_input_always = λ other fault is faulty. inr (inr refl);
-    good_input = λ s. elim s [ inl d ↦ cc | inr w ↦ cc ];
+    good_input = λ s. elim s [ inl d ↦ cc | inr (inl r) ↦ cc | inr (inr w) ↦ cc ];
+    rejected = λ s. cc;
+    rejected_always = λ other line is faultless has. inr (inr (inr refl));
     read_fault = λ s. cc;
     write_fault = λ s. cc;
     too_long = λ s. cc;
     sure = λ s all. ((surely loads.Memory load s all).0, (surely loads.Memory load s all).1, λ r. cc);
     out = inl keeps;
-    complete = λ other is faultless no_read no_write. inr refl;
+    complete = λ other is faultless no_read no_write. inr (inr refl);
   }
   ends_at_load loads.TooLong load = record {
     usage = ((λ u. cc), (λ n. cc));
     asked = noted loads.TooLong load;
     bad_input = λ fault is. cc;
     bad_input_always = λ other fault is faulty. absurd (no_input (load.too_long refl).1 other is);
-    good_input = λ s. elim s [ inl d ↦ cc | inr w ↦ cc ];
+    good_input = λ s. elim s [ inl d ↦ cc | inr (inl r) ↦ cc | inr (inr w) ↦ cc ];
+    rejected = λ s. cc;
+    rejected_always = λ other line is faultless has. absurd (no_input (load.too_long refl).1 other is);
     read_fault = λ s. cc;
     write_fault = λ s. cc;
     too_long = λ s. rose_behind f.overs_old f.overs_new overs loaded.overs (load.too_long refl).0;

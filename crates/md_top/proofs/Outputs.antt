@@ -12,49 +12,76 @@ use Rattle.md_top.specs.declared.stop.PutStop.{PutStop}
 use Rattle.md_top.specs.declared.stop.PutStop.TheVariants.{WriteFault, Memory}
 use Rattle.md_top.specs.declared.stop.Stop.{Stop}
 use Rattle.md_top.specs.declared.stop.Verdict.{Verdict}
-use Rattle.md_top.specs.declared.stop.Verdict.TheVariants.{Done}
-use Rattle.md_top.specs.Answer.{fault_of, Output, text, report, Gives}
+use Rattle.md_top.specs.declared.stop.Verdict.TheVariants.{Done, Rejected}
+use Rattle.md_checker.specs.declared.answer.CheckAnswer.{CheckAnswer}
+use Rattle.md_checker.specs.Answers.{IsCheckAnswer}
+use Rattle.md_top.specs.Answer.{fault_of, Output, text, report, answer, answer_text, verdict_of, Gives}
 use Rattle.md_top.specs.Sinks.{SinkRun, sink, PutsWhole, PutsLines}
 use Rattle.md_top.specs.Status.{stop_of_put, stop_of_input}
 use Rattle.md_top.specs.Command.{CommandEnds, PutsFront}
 
--- an output is put whole, or the call stopped within it
-abbrev pub PutsOutput : Output → Result (Unit {0}) PutStop → SinkRun → Type 0
-PutsOutput (text whole) result o = PutsWhole whole result o
-PutsOutput (report p) result o = PutsLines p after_end result o
+-- an output with this verdict is put whole, or the call stopped within it
+abbrev pub PutsOutput : Output → Verdict → Result (Unit {0}) PutStop → SinkRun → Type 0
+PutsOutput (text whole) Done result o = PutsWhole whole result o
+PutsOutput (text whole) Rejected result o = ⊥
+PutsOutput (report p) Done result o = PutsLines p after_end result o
+PutsOutput (report p) Rejected result o = ⊥
+PutsOutput (answer p bytes) verdict result o =
+    (told : CheckAnswer) × IsCheckAnswer p bytes told × (verdict ≡ verdict_of told) × PutsWhole (answer_text told) result o
 
 module _ (input : Request (List ℕ)) (output : Output) (gives : Gives input output) (faultless : fault_of input ≡ None) (o : SinkRun) where
   -- the whole output is put
-  pub command_done : PutsOutput output (Ok tt) o → CommandEnds input (Ok Done) o
+  pub command_done : (verdict : Verdict) → PutsOutput output verdict (Ok tt) o → CommandEnds input (Ok verdict) o
   command_done = done_by output gives
     where
-      done_by : (output : Output) → Gives input output → PutsOutput output (Ok tt) o → CommandEnds input (Ok Done) o
-      done_by (text whole) gives put =
+      done_by : (output : Output) → Gives input output → (verdict : Verdict) → PutsOutput output verdict (Ok tt) o → CommandEnds input (Ok verdict) o
+      done_by (text whole) gives Done put =
           record { faultless = faultless; bytes = whole; answer = record { output = text whole; gives = gives; whole = refl }; put = put }
-      done_by (report p) gives put = record {
+      done_by (text whole) gives Rejected put = absurd put
+      done_by (report p) gives Done put = record {
         faultless = faultless;
         bytes = lines_text put.lines;
         answer = record { output = report p; gives = gives; whole = record { lines = put.lines; leads = put.leads; text = refl } };
         put = put.put;
       }
+      done_by (report p) gives Rejected put = absurd put
+      done_by (answer p bytes) gives verdict put = record {
+        faultless = faultless;
+        bytes = answer_text put.0;
+        answer = record { output = answer p bytes; gives = gives; whole = (put.0, put.1, put.2, refl) };
+        put = put.3;
+      }
 
-  front_of : (output : Output) → Gives input output → PutsOutput output (Err Memory) o → PutsFront input o
-  front_of (text whole) gives front =
+  front_of : (output : Output) → Gives input output → (verdict : Verdict) → PutsOutput output verdict (Err Memory) o → PutsFront input o
+  front_of (text whole) gives Done front =
       record { faultless = faultless; bytes = front.part; front = record { output = text whole; gives = gives; begun = (front.rest, front.whole) }; put = front.appended }
-  front_of (report p) gives front =
+  front_of (text whole) gives Rejected front = absurd front
+  front_of (report p) gives Done front =
       record { faultless = faultless; bytes = front.bytes; front = record { output = report p; gives = gives; begun = front.front }; put = front.put }
+  front_of (report p) gives Rejected front = absurd front
+  front_of (answer p bytes) gives verdict front = record {
+    faultless = faultless;
+    bytes = front.3.part;
+    front = record { output = answer p bytes; gives = gives; begun = (front.0, front.1, front.3.rest, front.3.whole) };
+    put = front.3.appended;
+  }
 
-  stops_by : (output : Output) → Gives input output → (stop : PutStop) → PutsOutput output (Err stop) o → CommandEnds input (Err (stop_of_put stop)) o
-  stops_by (text whole) gives WriteFault put = (front_of (text whole) gives put.0, put.1)
-  stops_by (text whole) gives Memory put = inr (front_of (text whole) gives put)
-  stops_by (report p) gives WriteFault put = (front_of (report p) gives put.0, put.1)
-  stops_by (report p) gives Memory put = inr (front_of (report p) gives put)
+  stops_by : (output : Output) → Gives input output → (verdict : Verdict) (stop : PutStop) → PutsOutput output verdict (Err stop) o → CommandEnds input (Err (stop_of_put stop)) o
+  stops_by (text whole) gives Done WriteFault put = (front_of (text whole) gives Done put.0, put.1)
+  stops_by (text whole) gives Done Memory put = inr (front_of (text whole) gives Done put)
+  stops_by (text whole) gives Rejected stop put = absurd put
+  stops_by (report p) gives Done WriteFault put = (front_of (report p) gives Done put.0, put.1)
+  stops_by (report p) gives Done Memory put = inr (front_of (report p) gives Done put)
+  stops_by (report p) gives Rejected stop put = absurd put
+  stops_by (answer p bytes) gives verdict WriteFault put =
+      (front_of (answer p bytes) gives verdict (put.0, put.1, put.2, put.3.0), put.3.1)
+  stops_by (answer p bytes) gives verdict Memory put = inr (front_of (answer p bytes) gives verdict put)
 
   -- the call that puts the output stopped, and its stop is handed on
-  pub command_stopped : (stop : PutStop) (ending : Result Verdict Stop) → PutsOutput output (Err stop) o → IsErrAnd ending (λ named. named ≡ stop_of_put stop) → CommandEnds input ending o
-  command_stopped stop (Ok verdict) put is = absurd is
-  command_stopped stop (Err named) put is =
-      subst (λ (s : Stop). CommandEnds input (Err s) o) (sym is) (stops_by output gives stop put)
+  pub command_stopped : (verdict : Verdict) (stop : PutStop) (ending : Result Verdict Stop) → PutsOutput output verdict (Err stop) o → IsErrAnd ending (λ named. named ≡ stop_of_put stop) → CommandEnds input ending o
+  command_stopped verdict stop (Ok said) put is = absurd is
+  command_stopped verdict stop (Err named) put is =
+      subst (λ (s : Stop). CommandEnds input (Err s) o) (sym is) (stops_by output gives verdict stop put)
 
 -- an input isn't read, and its stop is handed on
 pub command_refused : (input : Request (List ℕ)) (fault : Option Fault) (stop : InputStop) (ending : Result Verdict Stop) (old : Option (List ℕ)) (faults : ℕ) → ((named : Fault) → fault ≡ Some named → fault_of input ≡ Some named) → IsStopAt fault stop → IsErrAnd ending (λ named. named ≡ stop_of_input stop) → CommandEnds input ending (sink old old faults faults)

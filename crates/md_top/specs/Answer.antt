@@ -1,8 +1,9 @@
 -- The output of a request over given contents, whole or begun, and what is wrong with the contents.
 -- Here the contents stand in the request in place of the names. Source: the formats and reports of docs/FORMATS.md.
-use Rattle.std.specs.Prelude.{◌≡◌, ℕ, Option, List, [], ◌∷◌, ◌++◌}
+use Rattle.std.specs.Prelude.{◌≡◌, ℕ, Option, List, [], ◌∷◌, ◌++◌, codes}
 use Rattle.std.specs.Option.{option_or}
 use Rattle.std.specs.List.{flat_map}
+use Rattle.md_text.specs.Numbers.{decimal}
 use Rattle.md_graph.specs.PlainGraph.{PlainGraph}
 use Rattle.md_graph6.specs.Text.{graph6_text}
 use Rattle.md_dimacs.specs.Text.{dimacs_text}
@@ -15,27 +16,43 @@ use Rattle.md_input.specs.Spelling.{SpellsGraphs}
 use Rattle.md_input.specs.Faults.{graph_fault, one_graph_fault, script_fault}
 use Rattle.md_report.specs.Places.{Place, before_head, before_session}
 use Rattle.md_report.specs.Reports.{IsReport, IsFront}
+use Rattle.md_checker.specs.declared.answer.CheckAnswer.{CheckAnswer}
+use Rattle.md_checker.specs.declared.answer.CheckAnswer.TheVariants as answers
+use Rattle.md_checker.specs.Answers.{IsCheckAnswer}
 use Rattle.md_top.specs.declared.request.GraphForm.{GraphForm}
 use Rattle.md_top.specs.declared.request.GraphForm.TheVariants.{Convert, Report}
 use Rattle.md_top.specs.declared.request.Request.{Request}
-use Rattle.md_top.specs.declared.request.Request.TheVariants.{Graphs, Session}
+use Rattle.md_top.specs.declared.request.Request.TheVariants.{Graphs, Session, CheckGraphs, CheckSession}
 use Rattle.md_top.specs.declared.stop.Verdict.{Verdict}
-use Rattle.md_top.specs.declared.stop.Verdict.TheVariants.{Done}
+use Rattle.md_top.specs.declared.stop.Verdict.TheVariants.{Done, Rejected}
 
 -- the first cause of bad input, none where the input is well-formed
 abbrev pub fault_of : Request (List ℕ) → Option Fault
 fault_of (Graphs form from graph) = graph_fault from graph
 fault_of (Session mode from graph script) = option_or (one_graph_fault from graph) (script_fault script)
+fault_of (CheckGraphs mode from graph report) = graph_fault from graph
+fault_of (CheckSession mode from graph script report) = option_or (one_graph_fault from graph) (script_fault script)
 
 -- the text of a graph in a format
 abbrev pub graph_text : Format → PlainGraph → List ℕ
 graph_text G6 g = graph6_text g
 graph_text Dimacs g = dimacs_text g
 
--- What is put: a text, or a report from a place on to the end.
+-- the text of the answer of a check
+abbrev pub answer_text : CheckAnswer → List ℕ
+answer_text answers.Accepted = codes "accepted\n"
+answer_text (answers.Rejected line) = codes "rejected line " ++ decimal line ++ codes "\n"
+
+-- what the answer of a check says of the run
+abbrev pub verdict_of : CheckAnswer → Verdict
+verdict_of answers.Accepted = Done
+verdict_of (answers.Rejected line) = Rejected
+
+-- What is put: a text; or a report from a place on to the end; or the answer of checking bytes as such a report.
 pub data Output : Type 0 where
   text : List ℕ → Output
   report : Place → Output
+  answer : Place → List ℕ → Output
 
 -- what a form puts over graphs: the texts of them, one after the other, or their report
 abbrev pub over_graphs : GraphForm → List PlainGraph → Output
@@ -49,16 +66,31 @@ Gives (Graphs form from graph) output =
 Gives (Session mode from graph script) output =
     (g : PlainGraph) × (edits : List script_edits.Edit) × SpellsGraphs from graph (g ∷ []) × SpellsScript script edits
     × (output ≡ report (before_session mode g edits))
+Gives (CheckGraphs mode from graph bytes) output =
+    (graphs : List PlainGraph) × SpellsGraphs from graph graphs × (output ≡ answer (before_head mode graphs) bytes)
+Gives (CheckSession mode from graph script bytes) output =
+    (g : PlainGraph) × (edits : List script_edits.Edit) × SpellsGraphs from graph (g ∷ []) × SpellsScript script edits
+    × (output ≡ answer (before_session mode g edits) bytes)
+
+-- the request over these contents is a check with this answer
+abbrev pub HasAnswer : Request (List ℕ) → CheckAnswer → Type 0
+HasAnswer input told = (p : Place) × (bytes : List ℕ) × Gives input (answer p bytes) × IsCheckAnswer p bytes told
 
 -- the bytes are the whole output, with its verdict
 abbrev pub IsWhole : Output → Verdict → List ℕ → Type 0
 IsWhole (text whole) Done bytes = bytes ≡ whole
+IsWhole (text whole) Rejected bytes = ⊥
 IsWhole (report p) Done bytes = IsReport p bytes
+IsWhole (report p) Rejected bytes = ⊥
+IsWhole (answer p judged) verdict bytes =
+    (told : CheckAnswer) × IsCheckAnswer p judged told × (verdict ≡ verdict_of told) × (bytes ≡ answer_text told)
 
 -- the bytes are a beginning of the output; of a report by its lines
 abbrev pub IsBeginning : Output → List ℕ → Type 0
 IsBeginning (text whole) bytes = (rest : List ℕ) × (whole ≡ bytes ++ rest)
 IsBeginning (report p) bytes = IsFront p bytes
+IsBeginning (answer p judged) bytes =
+    (told : CheckAnswer) × IsCheckAnswer p judged told × (rest : List ℕ) × (answer_text told ≡ bytes ++ rest)
 
 -- a whole valid output with its verdict
 pub record IsAnswer (input : Request (List ℕ)) (verdict : Verdict) (bytes : List ℕ) : Type 0 where

@@ -4,15 +4,16 @@ use Rattle.std.specs.Io.KnownBytes.{Keeps}
 use Rattle.md_io.specs.Told.{Told}
 use Rattle.md_io.specs.Count.{Rose}
 use Rattle.md_input.specs.declared.fault.Fault.{Fault}
+use Rattle.md_checker.specs.declared.answer.CheckAnswer.TheVariants as answers
 use Rattle.md_top.specs.declared.request.Request.{Request}
 use Rattle.md_top.specs.declared.stop.Verdict.{Verdict}
 use Rattle.md_top.specs.declared.stop.Verdict.TheVariants as verdicts
 use Rattle.md_top.specs.declared.stop.Stop.{Stop}
 use Rattle.md_top.specs.declared.stop.Stop.TheVariants as stops
 use Rattle.md_top.specs.declared.stop.Status.{Status}
-use Rattle.md_top.specs.declared.stop.Status.TheVariants.{Done, Usage, BadInput, ReadFault, WriteFault, Memory, TooLong}
+use Rattle.md_top.specs.declared.stop.Status.TheVariants.{Done, Rejected, Usage, BadInput, ReadFault, WriteFault, Memory, TooLong}
 use Rattle.md_top.specs.Input.{FilesRun, CanBeInput, IsInput, AllToldFiles, AsksInOrder, names_of}
-use Rattle.md_top.specs.Answer.{fault_of}
+use Rattle.md_top.specs.Answer.{fault_of, HasAnswer}
 use Rattle.md_top.specs.Command.{PutsAnswer, PutsFront}
 use Rattle.md_top.specs.Sinks.{SinkRun, TakesLine}
 use Rattle.md_top.specs.Status.{status_of, fault_line, line_of_stop}
@@ -29,10 +30,15 @@ CanBeBad holds request fault = CanBe holds request (λ input. fault_of input ≡
 abbrev pub CanBeGood : (List ℕ → Told) → Option (Request (List ℕ)) → Type 0
 CanBeGood holds request = CanBe holds request (λ input. fault_of input ≡ None)
 
+-- what is told lets the input be a check that rejects its report at a line
+abbrev pub CanBeRejected : (List ℕ → Told) → Option (Request (List ℕ)) → Type 0
+CanBeRejected holds request = CanBe holds request (λ input. (line : ℕ) × HasAnswer input (answers.Rejected line))
+
 -- What `out` took, by the status: a whole valid output of input that is told, or can be; or the beginning of one;
 -- or nothing.
 abbrev pub Puts : (List ℕ → Told) → Option (Request (List ℕ)) → Status → SinkRun → Type 0
 Puts holds request Done o = CanBe holds request (λ input. PutsAnswer input verdicts.Done o)
+Puts holds request Rejected o = CanBe holds request (λ input. PutsAnswer input verdicts.Rejected o)
 Puts holds request WriteFault o = CanBe holds request (λ input. PutsFront input o)
 Puts holds request Memory o = Keeps o.old o.new ⊎ CanBe holds request (λ input. PutsFront input o)
 Puts holds request Usage o = Keeps o.old o.new
@@ -49,6 +55,7 @@ pub record NamesFault (holds : List ℕ → Told) (request : Option (Request (Li
 -- the line that `err` is given, by the status
 abbrev pub IsLine : (List ℕ → Told) → Option (Request (List ℕ)) → Status → List ℕ → Type 0
 IsLine holds request Done line = line ≡ []
+IsLine holds request Rejected line = line ≡ []
 IsLine holds request BadInput line = NamesFault holds request line
 IsLine holds request Usage line = line ≡ line_of_stop stops.Usage
 IsLine holds request ReadFault line = line ≡ line_of_stop stops.ReadFault
@@ -70,7 +77,13 @@ pub record Ends (request : Option (Request (List ℕ))) (ending : Result Verdict
   pub bad_input_always : (input : Request (List ℕ)) (fault : Fault)
       → IsInput f.holds request input → fault_of input ≡ Some fault
       → (status_of ending ≡ BadInput) ⊎ (status_of ending ≡ ReadFault) ⊎ (status_of ending ≡ Memory)
-  pub good_input : (status_of ending ≡ Done) ⊎ (status_of ending ≡ WriteFault) → CanBeGood f.holds request
+  pub good_input : (status_of ending ≡ Done) ⊎ (status_of ending ≡ Rejected) ⊎ (status_of ending ≡ WriteFault)
+      → CanBeGood f.holds request
+  pub rejected : status_of ending ≡ Rejected → CanBeRejected f.holds request
+  pub rejected_always : (input : Request (List ℕ)) (line : ℕ)
+      → IsInput f.holds request input → fault_of input ≡ None → HasAnswer input (answers.Rejected line)
+      → (status_of ending ≡ Rejected) ⊎ (status_of ending ≡ ReadFault) ⊎ (status_of ending ≡ WriteFault)
+      ⊎ (status_of ending ≡ Memory)
   pub read_fault : status_of ending ≡ ReadFault → Rose f.faults_old f.faults_new
   pub write_fault : status_of ending ≡ WriteFault → Rose o.faults_old o.faults_new
   pub too_long : status_of ending ≡ TooLong → Rose f.overs_old f.overs_new
@@ -80,4 +93,4 @@ pub record Ends (request : Option (Request (List ℕ))) (ending : Result Verdict
   pub complete : (input : Request (List ℕ))
       → IsInput f.holds request input → fault_of input ≡ None
       → ¬ Rose f.faults_old f.faults_new → ¬ Rose o.faults_old o.faults_new
-      → (status_of ending ≡ Done) ⊎ (status_of ending ≡ Memory)
+      → (status_of ending ≡ Done) ⊎ (status_of ending ≡ Rejected) ⊎ (status_of ending ≡ Memory)

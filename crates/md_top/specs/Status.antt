@@ -22,7 +22,7 @@ use Rattle.md_top.specs.declared.stop.Stop.TheVariants as stops
 use Rattle.md_top.specs.declared.stop.Verdict.{Verdict}
 use Rattle.md_top.specs.declared.stop.Verdict.TheVariants as verdicts
 use Rattle.md_top.specs.declared.stop.Status.{Status}
-use Rattle.md_top.specs.declared.stop.Status.TheVariants.{Done, Usage, BadInput, ReadFault, WriteFault, Memory, TooLong}
+use Rattle.md_top.specs.declared.stop.Status.TheVariants.{Done, Rejected, Usage, BadInput, ReadFault, WriteFault, Memory, TooLong}
 
 -- what stops a put, by the sink's own fault
 abbrev pub stop_of_fault : PutFault → PutStop
@@ -52,14 +52,20 @@ status_of_stop stops.WriteFault = WriteFault
 status_of_stop stops.Memory = Memory
 status_of_stop stops.TooLong = TooLong
 
+-- the status of what a whole output says
+abbrev pub status_of_verdict : Verdict → Status
+status_of_verdict verdicts.Done = Done
+status_of_verdict verdicts.Rejected = Rejected
+
 -- the status of an ending
 abbrev pub status_of : Result Verdict Stop → Status
-status_of (Ok verdicts.Done) = Done
+status_of (Ok verdict) = status_of_verdict verdict
 status_of (Err stop) = status_of_stop stop
 
 -- the exit code of the program, by the status. Source: 0 is success, other small numbers tell why.
 abbrev pub number_of : Status → ℕ
 number_of Done = 0
+number_of Rejected = 1
 number_of Usage = 2
 number_of BadInput = 3
 number_of ReadFault = 4

@@ -101,7 +101,7 @@ fn script_fault_line(name: &str, line: u64) -> ShortText
     text
 }
 
-fn fixed_line(line: &[u8]) -> ShortText
+pub(crate) fn fixed_line(line: &[u8]) -> ShortText
     requires { length line.now ≤ 32 }
     ensures { result ≡ line.now }
 {

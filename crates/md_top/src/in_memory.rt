@@ -7,7 +7,7 @@ ghost use Rattle.md_top.specs.Request.{texts, request_of};
 ghost use Rattle.md_top.specs.Input.{IsInput, AllToldFiles, AsksInOrder, names_of};
 ghost use Rattle.md_top.specs.Answer.{fault_of};
 ghost use Rattle.md_top.specs.Sinks.{sink_run};
-ghost use Rattle.md_top.specs.Promise.{CanBeBad, Puts, TakesLineOf};
+ghost use Rattle.md_top.specs.Promise.{CanBeBad, CanBeRejected, Puts, TakesLineOf};
 
 use crate::stop::Status;
 use crate::top::run;
@@ -40,12 +40,14 @@ pub fn run_in_memory(
         → IsInput (⟦<MemFiles as Files>⟧.holds files.old) (request_of (texts words.now)) input
         → fault_of input ≡ None
         → IsTrue (⟦<MemFiles as Files>⟧.sure files.old)
-        → (result ≡ Status.Done) ⊎ (result ≡ Status.Memory) }
+        → (result ≡ Status.Done) ⊎ (result ≡ Status.Rejected) ⊎ (result ≡ Status.Memory) }
     ensures bad { (input : Request (List ℕ)) (fault : Fault)
         → IsInput (⟦<MemFiles as Files>⟧.holds files.old) (request_of (texts words.now)) input
         → fault_of input ≡ Some fault
         → IsTrue (⟦<MemFiles as Files>⟧.sure files.old)
         → (result ≡ Status.BadInput) ⊎ (result ≡ Status.Memory) }
+    ensures rejected { result ≡ Status.Rejected
+        → CanBeRejected (⟦<MemFiles as Files>⟧.holds files.old) (request_of (texts words.now)) }
     ensures out { Puts (⟦<MemFiles as Files>⟧.holds files.old) (request_of (texts words.now)) result
         (sink_run ⟦<SafeSink as Sink>⟧ out.old out.new) }
     ensures err { TakesLineOf (⟦<MemFiles as Files>⟧.holds files.old) (request_of (texts words.now)) result

@@ -1,8 +1,13 @@
 //! The laws of valid outputs, each the contract of a function that does nothing.
 
-ghost use Rattle.md_top.specs.Laws.{FrontsBeginAnswers};
+ghost use Rattle.md_top.specs.Laws.{FrontsBeginAnswers, OneOutput};
 
 /// What may be put before a fault is exactly the beginning of a whole valid output.
 pub fn fronts_begin_answers()
     ensures { FrontsBeginAnswers }
+{}
+
+/// A request over given contents gives one output at most.
+pub fn one_output()
+    ensures { OneOutput }
 {}

@@ -1,6 +1,7 @@
 //! The one call that does all that the program does.
 #![tactic(auto)]
 
+mod check;
 mod convert;
 mod err_line;
 mod in_memory;

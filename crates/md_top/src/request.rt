@@ -1,7 +1,7 @@
 //! What the program can be asked: the request that words make.
 ghost use Rattle.std.specs.Prelude.{◌≡◌};
 ghost use Rattle.std.specs.Option.{option_map};
-ghost use Rattle.md_top.specs.Request.{texts, format_of, graph_form, session_mode, request_of, seen};
+ghost use Rattle.md_top.specs.Request.{texts, format_of, graph_form, graph_mode, session_mode, is_check, request_of, seen};
 
 use md_input::Format;
 use md_report::{GraphMode, SessionMode};
@@ -23,6 +23,10 @@ pub enum Request<F> {
     Graphs(GraphForm, Format, F),
     /// The report of a session of a mode on the graph of a graph file, over a script.
     Session(SessionMode, Format, F, F),
+    /// The check of a report of a mode over the graphs of a graph file.
+    CheckGraphs(GraphMode, Format, F, F),
+    /// The check of a report of a session of a mode on the graph of a graph file, over a script.
+    CheckSession(SessionMode, Format, F, F, F),
 }
 
 /// The request that the words make, with the names of files; none where they are in no form.
@@ -40,8 +44,32 @@ pub fn request_of(words: &[String]) -> Option<Request<&str>>
             let from = format_of(format.as_str())?;
             Some(Request::Session(mode, from, graph.as_str(), script.as_str()))
         }
+        [check, mode, format, graph, report] => {
+            if !is_check(check.as_str()) {
+                return None;
+            }
+            let mode = graph_mode(mode.as_str())?;
+            let from = format_of(format.as_str())?;
+            Some(Request::CheckGraphs(mode, from, graph.as_str(), report.as_str()))
+        }
+        [check, mode, format, graph, script, report] => {
+            if !is_check(check.as_str()) {
+                return None;
+            }
+            let mode = session_mode(mode.as_str())?;
+            let from = format_of(format.as_str())?;
+            let (graph, script, report) = (graph.as_str(), script.as_str(), report.as_str());
+            Some(Request::CheckSession(mode, from, graph, script, report))
+        }
         _ => None,
     }
+}
+
+// Whether a word asks for a check.
+fn is_check(word: &str) -> bool
+    ensures { result ≡ is_check word.now }
+{
+    word == "check"
 }
 
 // The format that a word names; none for any other word.
@@ -62,18 +90,27 @@ fn graph_form(command: &str) -> Option<GraphForm>
     match command {
         "edges" => Some(GraphForm::Convert(Format::Dimacs)),
         "graph6" => Some(GraphForm::Convert(Format::G6)),
-        "tree" => Some(GraphForm::Report(GraphMode::Tree)),
-        "compare" => Some(GraphForm::Report(GraphMode::Compare)),
-        "permute" => Some(GraphForm::Report(GraphMode::Permute)),
+        mode => Some(GraphForm::Report(graph_mode(mode)?)),
+    }
+}
+
+// The mode of a report over the graphs of a file; none for any other word.
+fn graph_mode(word: &str) -> Option<GraphMode>
+    ensures { result ≡ graph_mode word.now }
+{
+    match word {
+        "tree" => Some(GraphMode::Tree),
+        "compare" => Some(GraphMode::Compare),
+        "permute" => Some(GraphMode::Permute),
         _ => None,
     }
 }
 
-// The mode of a command over a graph and a script; none for any other word.
-fn session_mode(command: &str) -> Option<SessionMode>
-    ensures { result ≡ session_mode command.now }
+// The mode of a report over a graph and a script; none for any other word.
+fn session_mode(word: &str) -> Option<SessionMode>
+    ensures { result ≡ session_mode word.now }
 {
-    match command {
+    match word {
         "edit" => Some(SessionMode::Edit),
         "cograph" => Some(SessionMode::Cograph),
         _ => None,

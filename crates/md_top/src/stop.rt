@@ -11,8 +11,24 @@ use std::process::ExitCode;
 /// What the whole output says.
 #[derive(Clone, Copy, Debug, PartialEq, Eq)]
 pub enum Verdict {
-    /// The whole output was put.
+    /// The whole output was put, and where it is the answer of a check, the report is valid.
     Done,
+    /// The whole output was put, and it says that a report isn't valid.
+    Rejected,
+}
+
+impl Verdict {
+    ghost use Rattle.md_top.specs.Status.{status_of_verdict};
+
+    /// The status of a run whose whole output says so.
+    pub fn status(self) -> Status
+        ensures { result ≡ status_of_verdict self }
+    {
+        match self {
+            Verdict::Done => Status::Done,
+            Verdict::Rejected => Status::Rejected,
+        }
+    }
 }
 
 /// What ends a run before its output is whole. `?` makes it of what stops a load, an input or a put.
@@ -97,8 +113,10 @@ impl From<Memory> for PutStop {
 /// How a run ended.
 #[derive(Clone, Copy, Debug, PartialEq, Eq)]
 pub enum Status {
-    /// The whole output was put.
+    /// The whole output was put; of a check: the report is valid.
     Done = 0,
+    /// The report that was to be checked isn't valid.
+    Rejected = 1,
     /// The words are in no form.
     Usage = 2,
     /// The input is malformed.

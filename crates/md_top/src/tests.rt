@@ -1,4 +1,5 @@
 //! Worked runs over files and sinks in memory.
+mod checks;
 mod refusing;
 
 use super::*;
@@ -391,6 +392,7 @@ fn runs_over_files_that_refuse(rt: HostRuntime) -> Result<(), Fail> {
         ("tree g6 g", false, 6, "6||mdt: memory\n"),
         ("tree g6 g", true, 7, "7||mdt: too long\n"),
         ("edit dimacs g s", true, 7, "7||mdt: too long\n"),
+        ("check tree g6 g r", true, 7, "7||mdt: too long\n"),
     ];
     for (line, too_long, code, want) in table {
         let words = words_of(alloc, line)?;

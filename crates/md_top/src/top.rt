@@ -5,10 +5,12 @@ ghost use Rattle.md_input.specs.declared.fault.Fault.{Fault};
 ghost use Rattle.md_top.specs.declared.request.Request.{Request};
 ghost use Rattle.md_top.specs.Request.{texts, request_of};
 ghost use Rattle.md_top.specs.Input.{IsInput, AllToldFiles, AsksInOrder, names_of, files_run};
-ghost use Rattle.md_top.specs.Answer.{fault_of};
+ghost use Rattle.md_top.specs.Answer.{fault_of, HasAnswer};
 ghost use Rattle.md_top.specs.Sinks.{sink_run};
-ghost use Rattle.md_top.specs.Promise.{CanBeBad, CanBeGood, Puts, TakesLineOf, Ends};
+ghost use Rattle.md_checker.specs.declared.answer.CheckAnswer.{CheckAnswer};
+ghost use Rattle.md_top.specs.Promise.{CanBeBad, CanBeGood, CanBeRejected, Puts, TakesLineOf, Ends};
 
+use crate::check::{graphs_check, session_check};
 use crate::convert::convert;
 use crate::err_line::put_line;
 use crate::load::load;
@@ -18,7 +20,7 @@ use crate::session::session_report;
 use crate::stop::{Status, Stop, Verdict};
 use md_input::Format;
 use md_io::{Files, Sink};
-use md_report::SessionMode;
+use md_report::{GraphMode, SessionMode};
 use std::alloc::Global;
 
 /// Does what the words ask for: loads the files that they name, in their order, puts the whole output to `out`,
@@ -47,9 +49,20 @@ pub fn run<F: Files, O: Sink, E: Sink>(
         → fault_of input ≡ Some fault
         → (result ≡ Status.BadInput) ⊎ (result ≡ Status.ReadFault) ⊎ (result ≡ Status.Memory) }
 
-    // Done and a writing fault come only over well-formed input.
-    ensures good_input { (result ≡ Status.Done) ⊎ (result ≡ Status.WriteFault)
+    // Done, Rejected and a writing fault come only over well-formed input.
+    ensures good_input { (result ≡ Status.Done) ⊎ (result ≡ Status.Rejected) ⊎ (result ≡ Status.WriteFault)
         → CanBeGood (F.holds files.old) (request_of (texts words.now)) }
+
+    // Rejected comes exactly where a report is to be checked and isn't valid. A fault of the outside or want
+    // of memory may come first.
+    ensures rejected { result ≡ Status.Rejected
+        → CanBeRejected (F.holds files.old) (request_of (texts words.now)) }
+    ensures rejected_always { (input : Request (List ℕ)) (line : ℕ)
+        → IsInput (F.holds files.old) (request_of (texts words.now)) input
+        → fault_of input ≡ None
+        → HasAnswer input (CheckAnswer.Rejected line)
+        → (result ≡ Status.Rejected) ⊎ (result ≡ Status.ReadFault) ⊎ (result ≡ Status.WriteFault)
+        ⊎ (result ≡ Status.Memory) }
 
     // A fault of the outside is answered only where its count rose.
     ensures read_fault { result ≡ Status.ReadFault → Rose (F.faults files.old) (F.faults files.new) }
@@ -76,16 +89,18 @@ pub fn run<F: Files, O: Sink, E: Sink>(
         → fault_of input ≡ None
         → ¬ Rose (F.faults files.old) (F.faults files.new)
         → ¬ Rose (O.faults out.old) (O.faults out.new)
-        → (result ≡ Status.Done) ⊎ (result ≡ Status.Memory) }
+        → (result ≡ Status.Done) ⊎ (result ≡ Status.Rejected) ⊎ (result ≡ Status.Memory) }
 
     // What is told of the files stays.
     ensures told { F.holds files.new ≡ F.holds files.old }
 {
-    if let Err(stop) = end(alloc, words, files, out) {
-        put_line(err, stop);
-        return stop.status();
+    match end(alloc, words, files, out) {
+        Ok(verdict) => verdict.status(),
+        Err(stop) => {
+            put_line(err, stop);
+            stop.status()
+        }
     }
-    Status::Done
 }
 
 // Does what the words ask for, but for the line on `err`.
@@ -106,6 +121,12 @@ fn end<F: Files, O: Sink>(
         Request::Graphs(form, from, graph) => end_graphs(alloc, form, from, graph, files, out),
         Request::Session(mode, from, graph, script) => {
             end_session(alloc, mode, from, graph, script, files, out)
+        }
+        Request::CheckGraphs(mode, from, graph, report) => {
+            end_graphs_check(alloc, mode, from, graph, report, files, out)
+        }
+        Request::CheckSession(mode, from, graph, script, report) => {
+            end_session_check(alloc, mode, from, graph, script, report, files, out)
         }
     }
 }
@@ -147,4 +168,52 @@ fn end_session<F: Files, O: Sink>(
     let graph_file = load(alloc, files, graph)?;
     let script_file = load(alloc, files, script)?;
     session_report(alloc, mode, from, &graph_file, &script_file, out)
+}
+
+// Loads the graph file and the report, and checks the report.
+fn end_graphs_check<F: Files, O: Sink>(
+    alloc: Global,
+    mode: GraphMode,
+    from: Format,
+    graph: &str,
+    report: &str,
+    files: &mut F,
+    out: &mut O,
+) -> Result<Verdict, Stop>
+    ensures ends { Ends (Some (Request.CheckGraphs mode from graph.now report.now)) result
+        (files_run F.Files files.old files.new) (sink_run O.Sink out.old out.new) }
+    ensures told { F.holds files.new ≡ F.holds files.old }
+{
+    let graph_file = load(alloc, files, graph)?;
+    let report_file = load(alloc, files, report)?;
+    graphs_check(alloc, mode, from, &graph_file, &report_file, out)
+}
+
+// Loads the graph file, the script and the report, and checks the report.
+fn end_session_check<F: Files, O: Sink>(
+    alloc: Global,
+    mode: SessionMode,
+    from: Format,
+    graph: &str,
+    script: &str,
+    report: &str,
+    files: &mut F,
+    out: &mut O,
+) -> Result<Verdict, Stop>
+    ensures ends { Ends (Some (Request.CheckSession mode from graph.now script.now report.now)) result
+        (files_run F.Files files.old files.new) (sink_run O.Sink out.old out.new) }
+    ensures told { F.holds files.new ≡ F.holds files.old }
+{
+    let graph_file = load(alloc, files, graph)?;
+    let script_file = load(alloc, files, script)?;
+    let report_file = load(alloc, files, report)?;
+    session_check(
+        alloc,
+        mode,
+        from,
+        &graph_file,
+        &script_file,
+        &report_file,
+        out,
+    )
 }

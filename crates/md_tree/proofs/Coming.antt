@@ -13,12 +13,15 @@ use Rattle.md_tree.specs.declared.Kind.{Kind}
 use Rattle.md_tree.specs.declared.Kind.TheVariants.{Parallel, Series, Prime}
 use Rattle.md_tree.specs.declared.Pair.{Pair}
 use Rattle.md_tree.specs.declared.builder.Opened.{Opened}
+use Rattle.md_tree.specs.declared.builder.Held.{Held}
+use Rattle.md_tree.specs.declared.builder.Step.{Step}
+use Rattle.md_tree.specs.declared.builder.Step.TheVariants.{Onward, Useless, End}
 use Rattle.md_tree.specs.Trees.{PlainTree, leaf, node, PlainTrees, no_tree, one_more, names, names_below, count, row, EachNode, EachNodeBelow}
 use Rattle.md_tree.specs.TreeTexts.{letter, pairs_text, tree_text, row_text}
 use Rattle.md_tree.specs.WellFormed.{AreApart, IsCanonicalNode, IsWellFormed, IsCanonical}
 use Rattle.md_tree.specs.Residual.{OpenNode, ahead, closed, with_child, Follows, Due}
 use Rattle.md_tree.specs.Languages.{LacksFirst}
-use Rattle.md_tree.specs.Held.{AreLeast, Ascends, AreKept, MayHave, MayList, IsDue, IsBehind, IsInside, befores, opened, opened_node, AreUseless, IsBuilt, LacksNumber, LacksEnd, IsNumberSplit}
+use Rattle.md_tree.specs.Held.{AreLeast, Ascends, AreKept, MayHave, MayList, IsDue, IsBehind, IsInside, befores, opened, opened_node, AreUseless, IsBuilt, IsStep, LacksNumber, LacksEnd, IsNumberSplit}
 use Rattle.std.specs.Ordering.{nat_cmp}
 use Rattle.md_tree.proofs.Texts.{leaf_is_no_node, node_spelled, row_spelled}
 use Rattle.md_tree.proofs.Residuals.{ahead_row, follows_stops, tree_step, open_step, comma_step, end_step, each_follows}
@@ -69,7 +72,7 @@ pub behind_inside : (bytes rest : List ℕ) (opens others : List Opened) (inner 
 behind_inside bytes rest opens others inner ts b e = of_behind bytes rest opens others inner ts b.nodes b.tree b.open_is b.trees_are b.means e
 
 -- a comma read
-pub inside_comma : (bytes rest : List ℕ) (inner : Opened) (opens : List Opened) (ts : List PlainTree) (tail : List ℕ) → IsInside bytes rest inner opens ts → rest ≡ 44 ∷ tail →
+inside_comma : (bytes rest : List ℕ) (inner : Opened) (opens : List Opened) (ts : List PlainTree) (tail : List ℕ) → IsInside bytes rest inner opens ts → rest ≡ 44 ∷ tail →
     IsDue bytes tail (opens ++ inner ∷ []) ts
 inside_comma bytes rest inner opens ts tail i e = record {
   nodes = with_child i.node i.tree ∷ i.nodes;
@@ -80,6 +83,23 @@ inside_comma bytes rest inner opens ts tail i e = record {
     (λ f. (i.means w).1 (subst (λ y. Follows (i.node ∷ i.nodes) i.tree y w) (sym e) ((comma_step i.node i.nodes i.tree tail w).1 f))),
   );
 }
+
+-- a comma read in a node that stays open
+comma_in : (bytes rest : List ℕ) (opens : List Opened) (ts : List PlainTree) (tail : List ℕ) (s : List OpenNode) (t : PlainTree) →
+    opens ≡ opened s → ts ≡ befores s ++ t ∷ [] → ((w : PlainTree) → (bytes ≡ tree_text w) ↔ Follows s t rest w) → 0 < length opens → rest ≡ 44 ∷ tail → IsDue bytes tail opens ts
+comma_in bytes rest opens ts tail [] t a b m some e = let none : length opens ≡ 0 = ap length a in absurd (omega arith)
+comma_in bytes rest opens ts tail (o ∷ s) t a b m some e =
+    subst (λ os. IsDue bytes tail os ts) (sym a)
+    (inside_comma bytes rest (opened_node o s) (opened s) ts tail (record { node = o; nodes = s; tree = t; inner_is = refl; open_is = refl; trees_are = b; means = m }) e)
+
+pub behind_comma : (bytes rest : List ℕ) (opens : List Opened) (ts : List PlainTree) (tail : List ℕ) → IsBehind bytes rest opens ts → 0 < length opens → rest ≡ 44 ∷ tail → IsDue bytes tail opens ts
+behind_comma bytes rest opens ts tail b some e = comma_in bytes rest opens ts tail b.nodes b.tree b.open_is b.trees_are b.means some e
+
+-- a step from a later place is one from an earlier place
+pub step_from : (bytes text tail : List ℕ) (step : Step) (held : Held) → length tail < length text → IsStep bytes tail step held → IsStep bytes text step held
+step_from bytes text tail (Onward rest behind) held l s = (s.0, (let m = s.1 in omega arith))
+step_from bytes text tail Useless held l s = s
+step_from bytes text tail End held l s = s
 
 -- the children of the innermost node
 module _ (bytes rest : List ℕ) (inner : Opened) (opens : List Opened) (ts : List PlainTree) (i : IsInside bytes rest inner opens ts) where

@@ -6,7 +6,7 @@ use Rattle.std.specs.Prelude.{⊤}
 use Rattle.md_tree.specs.declared.Kind.{Kind}
 use Rattle.md_tree.specs.declared.Pair.{Pair}
 use Rattle.md_tree.specs.Trees.{PlainTree, leaf, node, PlainTrees, no_tree, one_more, count, row}
-use Rattle.md_tree.specs.Parts.{PlainPart, inner, parts_of, parts_backward}
+use Rattle.md_tree.specs.Parts.{PlainPart, inner, parts_of, parts_backward, listed}
 use Rattle.md_tree.specs.Stacks.{with_part, HasChildrenOf}
 
 -- the stack after these parts, from the last to the first
@@ -33,14 +33,13 @@ of_finds (p ∷ ps) qs ts h =
     let r : Finds ps (folded qs ts) × Finds qs ts = of_finds ps qs ts h.0 in
     ((r.0, subst (HasChildrenOf p) (folded-append ps qs ts) h.1), r.1)
 
--- the trees of a row
-abbrev listed : PlainTrees → List PlainTree
-listed no_tree = []
-listed (one_more t ts) = t ∷ listed ts
-
-row_listed : (ts : PlainTrees) → row (listed ts) ≡ ts
+pub row_listed : (ts : PlainTrees) → row (listed ts) ≡ ts
 row_listed no_tree = refl
 row_listed (one_more t ts) = ap (one_more t) (row_listed ts)
+
+pub count_row : (ts : List PlainTree) → count (row ts) ≡ length ts
+count_row [] = refl
+count_row (t ∷ ts) = ap (λ n. suc n) (count_row ts)
 
 length_listed : (ts : PlainTrees) → length (listed ts) ≡ count ts
 length_listed no_tree = refl
@@ -57,7 +56,7 @@ over_children k cs ps ts =
     ∙ ap (λ xs. ts ++ node k xs ps ∷ []) (row_listed cs)
 
 mutual
-  folded_tree : (t : PlainTree) (ts : List PlainTree) → folded (parts_of t) ts ≡ ts ++ t ∷ []
+  pub folded_tree : (t : PlainTree) (ts : List PlainTree) → folded (parts_of t) ts ≡ ts ++ t ∷ []
   folded_tree (leaf v) ts = refl
   folded_tree (node k cs ps) ts = ap (with_part (inner k (count cs) ps)) (folded_trees cs ts) ∙ over_children k cs ps ts
 
@@ -98,7 +97,8 @@ fold_more all ps qs p ts us is e made = record {
   finds = subst (Finds qs) (sym made) (of_finds qs (p ∷ []) ts (subst (λ xs. Finds xs ts) e is.finds)).0;
 }
 
-fold_end : (all ps : List PlainPart) (ts : List PlainTree) → IsFolding all ps ts → ps ≡ [] → (t : PlainTree) → all ≡ parts_of t → ts ≡ t ∷ []
+-- nothing is left but the tree
+pub fold_end : (all ps : List PlainPart) (ts : List PlainTree) → IsFolding all ps ts → ps ≡ [] → (t : PlainTree) → all ≡ parts_of t → ts ≡ t ∷ []
 fold_end all ps ts is none t e = sym (ap (λ xs. folded xs ts) none) ∙ is.goes_on ∙ ap (λ xs. folded xs []) e ∙ folded_tree t []
 
 -- the last of the trees that are left is the tree

@@ -21,4 +21,6 @@ pub mod Places
 pub mod Holding
 pub mod Coming
 pub mod Numerals
+pub mod Alike
 pub mod ReadBack
+pub mod Listing

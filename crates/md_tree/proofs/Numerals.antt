@@ -1,20 +1,21 @@
 -- Numbers and pairs read from their digits.
-use Rattle.std.proofs.Common.{◌≡◌, ◌≢◌, ℕ, zero, suc, ◌+◌, ◌-◌, ◌*◌, ◌/◌, ◌%◌, ◌^◌, ◌<◌, ◌≤◌, Bool, true, false, List, [], ◌∷◌, ◌++◌, length, get_or, append_assoc, length-append, refl, sym, ◌∙◌, ap, subst, inl, inr, arith}
+use Rattle.std.proofs.Common.{◌≡◌, ◌≢◌, ℕ, suc, ◌+◌, ◌-◌, ◌*◌, ◌/◌, ◌%◌, ◌^◌, ◌<◌, ◌≤◌, Bool, true, false, List, [], ◌∷◌, ◌++◌, length, get_or, take, drop, append_assoc, length-append, refl, sym, ◌∙◌, ap, subst, inl, inr, arith}
 use Rattle.std.proofs.lemmas.Bool.{cases_lt}
 use Rattle.std.proofs.lemmas.Grind.{pow_more}
+use Rattle.std.proofs.lemmas.List.{drop_more, take_rest}
 use Rattle.std.proofs.Math.Nat.{pow-le-pow_right}
 use Rattle.md_graph.specs.declared.TheConstants.{NAMES}
 use Rattle.md_graph.proofs.Limits.{NAMES-lt}
 use Rattle.md_text.specs.Numbers.{decimal}
 use Rattle.md_text.proofs.NumberLemmas.{decimal_digit, decimal_step, decimal_is_canonical}
-use Rattle.md_text.proofs.Lists.{In, to_contains, to_pairs, Later}
+use Rattle.md_text.proofs.Lists.{In, of_contains, to_contains, of_pairs, to_pairs, Later}
 use Rattle.md_tree.specs.declared.Kind.TheVariants.{Prime}
 use Rattle.md_tree.specs.declared.Pair.{Pair}
 use Rattle.md_tree.specs.TreeTexts.{pairs_text}
 use Rattle.md_tree.specs.StrongTrees.{IsPairBefore}
 use Rattle.md_tree.specs.Residual.{IsDigit, Stops}
 use Rattle.md_tree.specs.Languages.{LacksFirst}
-use Rattle.md_tree.specs.Held.{MayList, AreSmall, mark_of, pair_before, ArePairsRead, LacksNumber, LacksPair, IsNumberSplit, LacksPairs, LacksEnd, AreListed}
+use Rattle.md_tree.specs.Held.{MayList, AreSmall, mark_of, pair_before, ArePairsRead, LacksNumber, LacksPair, IsNumberSplit, LacksPairs, LacksEnd, EachMayFollow, no_pair, AreListed}
 use Rattle.md_tree.proofs.Texts.{same_number, stops_at, pairs_stop, pair_spelled, same_pairs}
 use Rattle.md_tree.proofs.Leaving.{number_no_stop, zero_alone}
 
@@ -57,6 +58,25 @@ zero_lacks text behind tail d small e f n t below s g =
     let stop : Stops behind = zero_alone n t behind s (sym g ∙ e) in
     let no : ¬ (IsDigit (48 + d)) = subst Stops f stop in
     no (omega arith, omega arith)
+
+-- at a place of a text
+at_place : (text : List ℕ) (k : ℕ) → k < length text → drop k text ≡ get_or text k 0 ∷ drop (k + 1) text
+at_place text k h = drop_more text k 0 h
+
+no_digit_at : (text : List ℕ) (k : ℕ) → k < length text → ¬ (IsDigit (get_or text k 0)) → Stops (drop k text)
+no_digit_at text k h n = subst Stops (sym (at_place text k h)) n
+
+pub digit_at : (text : List ℕ) (k d : ℕ) → k < length text → get_or text k 0 ≡ 48 + d → drop k text ≡ (48 + d) ∷ drop (k + 1) text
+digit_at text k d h e = at_place text k h ∙ ap (λ b. b ∷ drop (k + 1) text) e
+
+pub lacks_at_once : (text : List ℕ) → 0 < length text → ¬ (IsDigit (get_or text 0 0)) → LacksNumber text
+lacks_at_once text h n = no_digit_lacks text (no_digit_at text 0 h n)
+
+pub number_at : (text : List ℕ) (k n : ℕ) → text ≡ decimal n ++ drop k text → k < length text → ¬ (IsDigit (get_or text k 0)) → IsNumberSplit text n (take (length text - k) (drop k text))
+number_at text k n read h e = (
+  read ∙ ap (λ w. decimal n ++ w) (sym (take_rest text k)),
+  subst Stops (sym (take_rest text k)) (no_digit_at text k h e),
+)
 
 -- pairs
 hyphen_stops : (x : List ℕ) → Stops (45 ∷ x)
@@ -159,35 +179,37 @@ before_then p q r (inl a) (inr b) = let e : q.low ≡ r.low = b.0 in inl (omega 
 before_then p q r (inr a) (inl b) = let e : p.low ≡ q.low = a.0 in inl (omega arith)
 before_then p q r (inr a) (inr b) = let e : p.low ≡ q.low = a.0 in let f : q.low ≡ r.low = b.0 in let g : p.high < q.high = a.1 in let h : q.high < r.high = b.1 in inr (omega arith, omega arith)
 
-all_later : (p : Pair) (ps : List Pair) → ((k : ℕ) (d : Pair) → suc k < length (p ∷ ps) → IsPairBefore (get_or (p ∷ ps) k d) (get_or (p ∷ ps) (suc k) d)) → (q : Pair) → In ps q → IsPairBefore p q
-all_later p [] a q i = absurd i
-all_later p (r ∷ ps) a q (inl e) = subst (IsPairBefore p) (sym e) (a 0 p (let l : 1 < suc (suc (length ps)) = omega arith in l))
-all_later p (r ∷ ps) a q (inr i) =
-    before_then p r q (a 0 p (let l : 1 < suc (suc (length ps)) = omega arith in l))
-    (all_later r ps (λ k d h. a (suc k) d (let l : suc (suc k) < suc (suc (length ps)) = (let m : suc k < suc (length ps) = h in omega arith) in l)) q i)
+all_later : (n : ℕ) (p : Pair) (ps : List Pair) → EachMayFollow n p ps → (q : Pair) → In ps q → IsPairBefore p q
+all_later n p [] f q i = absurd i
+all_later n p (r ∷ ps) f q (inl e) = subst (IsPairBefore p) (sym e) f.0.0
+all_later n p (r ∷ ps) f q (inr i) = before_then p r q f.0.0 (all_later n r ps f.1 q i)
 
-to_later : (ps : List Pair) → ((k : ℕ) (d : Pair) → suc k < length ps → IsPairBefore (get_or ps k d) (get_or ps (suc k) d)) → Later IsPairBefore ps
-to_later [] a = tt
-to_later (p ∷ ps) a = (all_later p ps a, to_later ps (λ k d h. a (suc k) d (let l : suc (suc k) < suc (length ps) = omega arith in l)))
+to_later : (n : ℕ) (p : Pair) (ps : List Pair) → EachMayFollow n p ps → Later IsPairBefore ps
+to_later n p [] f = tt
+to_later n p (r ∷ ps) f = (all_later n r ps f.1, to_later n r ps f.1)
 
-pub to_listed : (ps : List Pair) (n : ℕ) → AreListed ps n → ps ≢ [] → MayList Prime n ps
-to_listed ps n l some = (
-  some,
-  to_pairs IsPairBefore ps (to_later ps l.ascending),
-  λ p c.
-      let q = l.positions c.0 p c.1 in
-      subst (λ (w : Pair). (w.low < w.high) × (w.high < n)) c.2 q,
-)
+positions_of : (n : ℕ) (p : Pair) (ps : List Pair) → EachMayFollow n p ps → (q : Pair) → In ps q → (q.low < q.high) × (q.high < n)
+positions_of n p [] f q i = absurd i
+positions_of n p (r ∷ ps) f q (inl e) = subst (λ (w : Pair). (w.low < w.high) × (w.high < n)) (sym e) f.0.1
+positions_of n p (r ∷ ps) f q (inr i) = positions_of n r ps f.1 q i
 
-pub of_listed : (ps : List Pair) (n : ℕ) → MayList Prime n ps → AreListed ps n
-of_listed ps n l = record {
-  ascending = λ k d h. l.1 k (suc k) d (omega arith) h;
-  positions = λ k d h. l.2 (get_or ps k d) (k, h, get_same ps k d h);
-} where
-  get_same : (xs : List Pair) (k : ℕ) (d : Pair) → k < length xs → get_or xs k (get_or xs k d) ≡ get_or xs k d
-  get_same [] k d h = let g : k < 0 = h in absurd (omega arith)
-  get_same (x ∷ xs) zero d h = refl
-  get_same (x ∷ xs) (suc k) d h = get_same xs k d (let g : suc k < suc (length xs) = h in omega arith)
+pub to_listed : (n : ℕ) (ps : List Pair) → AreListed n ps → ps ≢ [] → MayList Prime n ps
+to_listed n ps l some = (some, to_pairs IsPairBefore ps (to_later n no_pair ps l), λ p c. positions_of n no_pair ps l p (of_contains ps p c))
+
+each_follows_on : (n : ℕ) (p : Pair) (ps : List Pair) → ((q : Pair) → In ps q → IsPairBefore p q) → Later IsPairBefore ps → ((q : Pair) → In ps q → (q.low < q.high) × (q.high < n)) → EachMayFollow n p ps
+each_follows_on n p [] a l b = tt
+each_follows_on n p (r ∷ ps) a l b = ((a r (inl refl), b r (inl refl)), each_follows_on n r ps l.0 l.1 (λ q i. b q (inr i)))
+
+behind_none : (n : ℕ) (p : Pair) → (p.low < p.high) × (p.high < n) → IsPairBefore no_pair p
+behind_none n p a = elim (cases_lt 0 p.low) [
+  | inl some ↦ inl some
+  | inr none ↦ (let h = a.0 in inr (omega arith, omega arith))
+]
+
+pub of_listed : (n : ℕ) (ps : List Pair) → MayList Prime n ps → AreListed n ps
+of_listed n ps l =
+    let b : (q : Pair) → In ps q → (q.low < q.high) × (q.high < n) = λ q i. l.2 q (to_contains ps q i) in
+    each_follows_on n no_pair ps (λ q i. behind_none n q (b q i)) (of_pairs IsPairBefore ps l.1) b
 
 small_if : (n : ℕ) → n ≤ NAMES → (ps : List Pair) → ((p : Pair) → In ps p → (p.low < p.high) × (p.high < n)) → AreSmall ps
 small_if n few [] a = tt
@@ -208,10 +230,10 @@ lacks_semicolon n text lacks (p ∷ ps) r l e = lacks ((decimal p.low ++ 45 ∷ 
 pub lacks_pairs : (n : ℕ) (text behind : List ℕ) → n ≤ NAMES → text ≡ 59 ∷ behind → LacksPairs behind → LacksEnd Prime n text
 lacks_pairs n text behind few is lacks ps r l e = lacks ps r (listed_small n ps few l) (sym is ∙ e)
 
-pub lacks_listed : (n : ℕ) (text behind tail : List ℕ) (qs : List Pair) → text ≡ 59 ∷ behind → 59 ∷ behind ≡ pairs_text 59 qs ++ 41 ∷ tail → (AreListed qs n → ⊥) → LacksEnd Prime n text
+pub lacks_listed : (n : ℕ) (text behind tail : List ℕ) (qs : List Pair) → text ≡ 59 ∷ behind → 59 ∷ behind ≡ pairs_text 59 qs ++ 41 ∷ tail → (AreListed n qs → ⊥) → LacksEnd Prime n text
 lacks_listed n text behind tail qs is f bad ps r l e =
     let same : (ps ≡ qs) × (r ≡ tail) = same_pairs 59 ps qs r tail (λ w. omega arith) (sym e ∙ is ∙ f) in
-    bad (of_listed qs n (subst (MayList Prime n) same.0 l))
+    bad (of_listed n qs (subst (MayList Prime n) same.0 l))
 
 pub snoc_some : (qs : List Pair) (p : Pair) → qs ++ p ∷ [] ≢ []
 snoc_some [] p e = cc

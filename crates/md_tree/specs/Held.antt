@@ -1,6 +1,7 @@
 -- What is held while a tree is built from its text: the finished children of the nodes that are open.
 -- Source: bottom-up parsing on a stack, as in any textbook of compilers.
-use Rattle.std.specs.Prelude.{◌≡◌, ◌≢◌, ◌↔◌, ◌<◌, ◌≤◌, ℕ, suc, Bool, true, false, List, [], ◌∷◌, ◌++◌, length, get_or, map, AllPairs, Contains, Some, ⊤}
+use Rattle.std.specs.Prelude.{◌≡◌, ◌≢◌, ◌↔◌, ◌+◌, ◌-◌, ◌<◌, ◌≤◌, ℕ, suc, Bool, true, false, List, [], ◌∷◌, ◌++◌, length, get_or, take, drop, map, AllPairs, Contains, Some, ⊤, IsTrue}
+use Rattle.std.specs.Int.{w32, to_le_bytes}
 use Rattle.md_graph.specs.declared.TheConstants.{NAMES}
 use Rattle.md_graph.specs.NameSet.{AllBelow}
 use Rattle.md_graph.specs.Sets.{NameSet, Has}
@@ -8,6 +9,7 @@ use Rattle.md_text.specs.Numbers.{decimal}
 use Rattle.md_tree.specs.declared.Kind.{Kind}
 use Rattle.md_tree.specs.declared.Kind.TheVariants.{Parallel, Series, Prime}
 use Rattle.md_tree.specs.declared.Pair.{Pair}
+use Rattle.md_tree.specs.declared.pair_reader.Low.{Low}
 use Rattle.md_tree.specs.declared.builder.Opened.{Opened}
 use Rattle.md_tree.specs.declared.builder.Held.{Held}
 use Rattle.md_tree.specs.declared.builder.Step.{Step}
@@ -179,7 +181,50 @@ LacksEnd k n text = (ps : List Pair) (r : List ℕ) → MayList k n ps → text 
 abbrev pub IsEnd : Kind → ℕ → List ℕ → List Pair → List ℕ → Type 0
 IsEnd k n text ps tail = MayList k n ps × (text ≡ pairs_text 59 ps ++ 41 ∷ tail)
 
+-- the pair comes behind the one before it, and is of two positions below n, the lower first
+abbrev pub MayFollow : ℕ → Pair → Pair → Type 0
+MayFollow n last p = IsPairBefore last p × ((p.low < p.high) × (p.high < n))
+
+-- behind the pair `last`, each of the pairs may follow the one before it
+abbrev pub EachMayFollow : ℕ → Pair → List Pair → Type 0
+EachMayFollow n last [] = ⊤
+EachMayFollow n last (p ∷ ps) = MayFollow n last p × EachMayFollow n p ps
+
+-- comes before each pair of two positions, the lower first
+abbrev pub no_pair : Pair
+no_pair = record { low = 0; high = 0 }
+
 -- the pairs ascend, and are of two positions below n, the lower first
-pub record AreListed (ps : List Pair) (n : ℕ) : Type 0 where
-  pub ascending : (k : ℕ) (d : Pair) → suc k < length ps → IsPairBefore (get_or ps k d) (get_or ps (suc k) d)
-  pub positions : (k : ℕ) (d : Pair) → k < length ps → ((get_or ps k d).low < (get_or ps k d).high) × ((get_or ps k d).high < n)
+abbrev pub AreListed : ℕ → List Pair → Type 0
+AreListed n ps = EachMayFollow n no_pair ps
+
+-- the last of the pairs behind a pair
+abbrev pub last_behind : Pair → List Pair → Pair
+last_behind last [] = last
+last_behind last (p ∷ ps) = last_behind p ps
+
+-- the pairs before the rest are read, the last of them is told, and whether they may be listed
+pub record HasRead (n : ℕ) (text rest : List ℕ) (read : List Pair) (last : Pair) (listed : Bool) : Type 0 where
+  pub pairs : ArePairsRead text rest read
+  pub last_is : last ≡ last_behind no_pair read
+  pub may : IsTrue listed ↔ AreListed n read
+
+-- more pairs are read, which may be listed if those before them may
+pub record ReadsOn (n : ℕ) (rest : List ℕ) (read : List Pair) (last : Pair) (far : List ℕ) (all : List Pair) (next : Pair) : Type 0 where
+  pub on : (text : List ℕ) (listed : Bool) → HasRead n text rest read last listed → HasRead n text far all next listed
+  pub shorter : length far ≤ length rest
+
+-- the four bytes that a number of 32 bits has
+abbrev pub word_bytes : ℕ → List ℕ
+word_bytes n = to_le_bytes w32 n
+
+-- if digits of a lower position are told, they are at most four, and are the first of the four bytes
+abbrev pub IsLow : Low → Type 0
+IsLow low = 0 < low.digits → (low.digits ≤ 4) × (take low.digits (word_bytes low.begin) ≡ decimal low.number)
+
+-- two digits and a comma stand behind the first `front` bytes of a text, of which the first and the last four are told
+pub record IsAlike (text : List ℕ) (front begin end tens ones : ℕ) (behind : List ℕ) : Type 0 where
+  pub small : (tens < 10) × (ones < 10)
+  pub begins : word_bytes begin ≡ take 4 (drop 0 text)
+  pub ends : word_bytes end ≡ take 4 (drop (front - 4) text)
+  pub then : drop front text ≡ (48 + tens) ∷ (48 + ones) ∷ 44 ∷ behind

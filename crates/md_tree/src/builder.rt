@@ -13,6 +13,7 @@ use crate::pair_reader::read_end;
 use crate::{Children, Kind, Pair, QuotientEdges, Tree};
 use md_graph::{Memory, NAMES, Names};
 use std::alloc::Global;
+use std::mem;
 
 // A node of which a part is read: its kind, and how many trees stand before its first child.
 #[derive(Clone, Copy)]
@@ -45,10 +46,11 @@ pub(crate) fn built(alloc: Global, bytes: &[u8]) -> Result<Option<Tree>, Memory>
     ensures { IfOk result (λ o. MatchOption o (AreUseless bytes.now)
         (λ t. IsWellFormed (Some (plain t)) × (bytes.now ≡ tree_text (plain t)))) }
 {
+    let room = (bytes.len() / 4).min(NAMES as usize);
     let mut held = Held {
-        trees: Vec::new(alloc),
-        least: Vec::new(alloc),
-        opens: Vec::new(alloc),
+        trees: Vec::with_capacity(alloc, room)?,
+        least: Vec::with_capacity(alloc, room)?,
+        opens: Vec::with_capacity(alloc, room)?,
         seen: Names::none(),
     };
     let mut rest = bytes;
@@ -65,6 +67,7 @@ pub(crate) fn built(alloc: Global, bytes: &[u8]) -> Result<Option<Tree>, Memory>
     }
 }
 
+#[inline(always)]
 fn take_step<'a>(
     alloc: Global,
     text: &'a [u8],
@@ -82,6 +85,7 @@ fn take_step<'a>(
 }
 
 // Where a tree is due: a name, or the beginning of a node.
+#[inline(always)]
 fn step_due<'a>(text: &'a [u8], held: &mut Held) -> Result<Step<'a>, Memory>
     ensures { IfOk result (λ step. (bytes : List ℕ) → HasBuilt bytes text.now false held.old
         → IsStep bytes text.now step held.new) }
@@ -96,6 +100,7 @@ fn step_due<'a>(text: &'a [u8], held: &mut Held) -> Result<Step<'a>, Memory>
 }
 
 // A name, if it is below the limit and new.
+#[inline(always)]
 fn take_name<'a>(
     text: &'a [u8],
     name: u32,
@@ -144,13 +149,40 @@ fn begin_node<'a>(
 }
 
 // Behind a tree: a comma, or the end of the innermost open node, or of the text.
+#[inline(always)]
 fn step_behind<'a>(alloc: Global, text: &'a [u8], held: &mut Held) -> Result<Step<'a>, Memory>
     requires { (bytes : List ℕ) × HasBuilt bytes text.now true held.old }
     ensures { IfOk result (λ step. (bytes : List ℕ) → HasBuilt bytes text.now true held.old
         → IsStep bytes text.now step held.new) }
 {
+    match skip_byte(text, b',') {
+        Ok(tail) => step_comma(text, tail, held),
+        Err(_) => step_end(alloc, text, held),
+    }
+}
+
+// A comma, behind which a tree is due.
+#[inline(always)]
+fn step_comma<'a>(text: &'a [u8], tail: &'a [u8], held: &mut Held) -> Result<Step<'a>, Memory>
+    requires { text.now ≡ 44 ∷ tail.now }
+    ensures { IfOk result (λ step. (bytes : List ℕ) → HasBuilt bytes text.now true held.old
+        → IsStep bytes text.now step held.new) }
+{
+    if held.opens.is_empty() {
+        return Ok(Step::Useless);
+    }
+    step_due(tail, held)
+}
+
+// The end of the innermost open node, or of the text.
+fn step_end<'a>(alloc: Global, text: &'a [u8], held: &mut Held) -> Result<Step<'a>, Memory>
+    requires built { (bytes : List ℕ) × HasBuilt bytes text.now true held.old }
+    requires no_comma { LacksFirst 44 text.now }
+    ensures { IfOk result (λ step. (bytes : List ℕ) → HasBuilt bytes text.now true held.old
+        → IsStep bytes text.now step held.new) }
+{
     match held.opens.pop() {
-        Some(inner) => step_inside(alloc, text, inner, held),
+        Some(inner) => end_node(alloc, text, inner, held),
         None => {
             if text.is_empty() {
                 return Ok(Step::End);
@@ -158,24 +190,6 @@ fn step_behind<'a>(alloc: Global, text: &'a [u8], held: &mut Held) -> Result<Ste
             Ok(Step::Useless)
         }
     }
-}
-
-// The same in a node, which is taken off the open ones.
-fn step_inside<'a>(
-    alloc: Global,
-    text: &'a [u8],
-    inner: Opened,
-    held: &mut Held,
-) -> Result<Step<'a>, Memory>
-    requires { (bytes : List ℕ) × HasBuiltInside bytes text.now inner held.old }
-    ensures { IfOk result (λ step. (bytes : List ℕ) → HasBuiltInside bytes text.now inner held.old
-        → IsStep bytes text.now step held.new) }
-{
-    if let Ok(tail) = skip_byte(text, b',') {
-        held.opens.push(inner)?;
-        return Ok(Step::Onward(tail, false));
-    }
-    end_node(alloc, text, inner, held)
 }
 
 // The end of a node: its children have to be such as its kind asks, and in order.
@@ -199,7 +213,7 @@ fn end_node<'a>(
     let count = held.trees.len() - inner.first;
     match read_end(alloc, text, inner.kind, count)? {
         Some((pairs, tail)) => {
-            close(inner, pairs, held)?;
+            close(alloc, inner, pairs, held)?;
             Ok(Step::Onward(tail, true))
         }
         None => Ok(Step::Useless),
@@ -207,7 +221,7 @@ fn end_node<'a>(
 }
 
 // A node of the trees from its first child on takes their place.
-fn close(inner: Opened, pairs: Vec<Pair>, held: &mut Held) -> Result<(), Memory>
+fn close(alloc: Global, inner: Opened, pairs: Vec<Pair>, held: &mut Held) -> Result<(), Memory>
     requires { inner.first ≤ vec_len held.old.trees }
     ensures trees { IfOk result (λ _. trees_held held.new
         ≡ take inner.first (trees_held held.old)
@@ -217,11 +231,30 @@ fn close(inner: Opened, pairs: Vec<Pair>, held: &mut Held) -> Result<(), Memory>
     ensures opens { held.new.opens.items ≡ held.old.opens.items }
     ensures seen { held.new.seen ≡ held.old.seen }
 {
-    let list = held.trees.split_off(inner.first)?;
+    let outermost = held.opens.is_empty();
+    let list = take_from(alloc, inner.first, outermost, &mut held.trees)?;
     let node = Tree::Node(inner.kind, Children { list }, QuotientEdges { list: pairs });
     held.trees.push(node)?;
     held.least.truncate(inner.first + 1);
     Ok(())
+}
+
+// Takes off the trees from a place on. All trees are handed over where they lie if no others come.
+fn take_from(
+    alloc: Global,
+    first: usize,
+    outermost: bool,
+    trees: &mut Vec<Tree>,
+) -> Result<Vec<Tree>, Memory>
+    requires { first ≤ vec_len trees.old }
+    ensures items { IfOk result (λ _. trees.new.items ≡ take first trees.old.items) }
+    ensures tail { IfOk result (λ list. list.items ≡ drop first trees.old.items) }
+{
+    if outermost && first == 0 {
+        return Ok(mem::replace(trees, Vec::new(alloc)));
+    }
+    let list = trees.split_off(first)?;
+    Ok(list)
 }
 
 // Whether a node of the kind may have the children.

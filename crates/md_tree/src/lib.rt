@@ -18,7 +18,7 @@ mod tree_graph;
 mod writer;
 
 pub use cotree::is_cotree;
-pub use parts::{Part, build};
+pub use parts::{Part, build, nodes_of};
 pub use reader::{TreeFault, read_tree};
 pub use tree_graph::graph_of;
 pub use writer::{push_text, text};

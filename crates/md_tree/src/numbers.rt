@@ -1,15 +1,54 @@
 //! Reads names and positions, which have one spelling each.
-ghost use Rattle.std.specs.Prelude.{◌≡◌, ◌+◌, ◌<◌, ◌∷◌, MatchOption};
-ghost use Rattle.md_tree.specs.Residual.{Stops};
+ghost use Rattle.std.specs.Prelude.{◌≡◌, ◌+◌, ◌<◌, ◌∷◌, length, MatchOption};
+ghost use Rattle.md_tree.specs.Residual.{IsDigit, Stops};
 ghost use Rattle.md_tree.specs.Held.{LacksNumber, IsNumberSplit};
 
 // No name and no position has more digits.
-const MOST_DIGITS: u32 = 5;
+const MOST_DIGITS: usize = 5;
 
 // The number that a text begins with, and what stands behind it, which begins with no digit; none if
 // there is no number that a name or a position may be.
 #[inline(always)]
 pub(crate) fn small_number<'a>(text: &'a [u8]) -> Option<(u32, &'a [u8])>
+    ensures { MatchOption result (LacksNumber text.now)
+        (λ p. IsNumberSplit text.now p.0 p.1.now) }
+{
+    if text.len() > MOST_DIGITS {
+        return quick_number(text);
+    }
+    number_near_end(text)
+}
+
+// The same where so many bytes are left that no digit of a number is sought behind them.
+#[inline(always)]
+fn quick_number<'a>(text: &'a [u8]) -> Option<(u32, &'a [u8])>
+    requires { MOST_DIGITS < length text.now }
+    ensures { MatchOption result (LacksNumber text.now)
+        (λ p. IsNumberSplit text.now p.0 p.1.now) }
+{
+    let first = digit(text[0])?;
+    if first == 0 {
+        return match digit(text[1]) {
+            Some(_) => None,
+            None => Some((0, &text[1..])),
+        };
+    }
+    let mut value = first;
+    for place in 1..MOST_DIGITS {
+        let Some(next) = digit(text[place]) else {
+            return Some((value, &text[place..]));
+        };
+        value = value * 10 + next;
+    }
+    match digit(text[MOST_DIGITS]) {
+        Some(_) => None,
+        None => Some((value, &text[MOST_DIGITS..])),
+    }
+}
+
+// The same at any text, a byte at a time.
+#[inline(never)]
+fn number_near_end<'a>(text: &'a [u8]) -> Option<(u32, &'a [u8])>
     ensures { MatchOption result (LacksNumber text.now)
         (λ p. IsNumberSplit text.now p.0 p.1.now) }
 {
@@ -24,7 +63,6 @@ pub(crate) fn small_number<'a>(text: &'a [u8]) -> Option<(u32, &'a [u8])>
 }
 
 // The same behind a first digit that is not 0.
-#[inline(always)]
 fn more_digits<'a>(text: &'a [u8], first: u32, behind: &'a [u8]) -> Option<(u32, &'a [u8])>
     requires above { 0 < first }
     requires digit { first < 10 }
@@ -48,17 +86,26 @@ fn more_digits<'a>(text: &'a [u8], first: u32, behind: &'a [u8]) -> Option<(u32,
 }
 
 // The digit that a text begins with, and what stands behind it.
-#[inline(always)]
 fn split_digit<'a>(text: &'a [u8]) -> Option<(u32, &'a [u8])>
     ensures { MatchOption result (Stops text.now)
         (λ p. (p.0 < 10) × (text.now ≡ (48 + p.0) ∷ p.1.now)) }
 {
     let (first, tail) = text.split_first()?;
-    if *first < b'0' {
+    let value = digit(*first)?;
+    Some((value, tail))
+}
+
+// The digit that a byte is.
+#[inline(always)]
+pub(crate) fn digit(byte: u8) -> Option<u32>
+    ensures { MatchOption result (¬ (IsDigit byte))
+        (λ d. (d < 10) × (byte ≡ 48 + d)) }
+{
+    if byte < b'0' {
         return None;
     }
-    if *first > b'9' {
+    if byte > b'9' {
         return None;
     }
-    Some((u32::from(*first - b'0'), tail))
+    Some(u32::from(byte) - u32::from(b'0'))
 }

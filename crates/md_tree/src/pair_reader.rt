@@ -1,18 +1,28 @@
 //! Reads the end of a node: the pairs of a prime one, and the bracket.
-ghost use Rattle.std.specs.Prelude.{◌≡◌, ◌≢◌, ◌<◌, ◌≤◌, ◌↔◌, ℕ, List, [], ◌∷◌, ◌++◌, IfOk, OnOk, MatchOption, IsTrue};
+ghost use Rattle.std.specs.Prelude.{◌≡◌, ◌≢◌, ◌+◌, ◌<◌, ◌≤◌, ◌↔◌, ℕ, List, [], ◌∷◌, ◌++◌, true, length, take, drop, vec_len, vec_capacity, IfOk, IfSome, OnOk, MatchOption, IsTrue};
 ghost use Rattle.md_graph.specs.declared.TheConstants.{NAMES};
+ghost use Rattle.md_text.specs.Numbers.{decimal};
 ghost use Rattle.md_tree.specs.declared.Pair.{Pair};
 ghost use Rattle.md_tree.specs.TreeTexts.{pairs_text};
 ghost use Rattle.md_tree.specs.declared.Kind.TheVariants.{Prime};
 ghost use Rattle.md_tree.specs.StrongTrees.{IsPairBefore};
 ghost use Rattle.md_tree.specs.Languages.{LacksFirst};
-ghost use Rattle.md_tree.specs.Held.{LacksEnd, IsEnd, LacksPairs, LacksPair, pair_before, AreListed};
+ghost use Rattle.md_tree.specs.Held.{LacksEnd, IsEnd, LacksPairs, LacksPair, LacksNumber, IsNumberSplit, IsLow, pair_before, AreListed, MayFollow, ReadsOn, IsAlike, word_bytes};
 
 use crate::grammar::skip_byte;
-use crate::numbers::small_number;
+use crate::numbers::{digit, small_number};
 use crate::{Kind, Pair};
 use md_graph::Memory;
 use std::alloc::Global;
+
+// The lower position of a pair as it is spelled: how many digits it has, if three or four, and then
+// the first four bytes of the pair; else no digits are told.
+#[derive(Clone, Copy)]
+struct Low {
+    number: u32,
+    digits: usize,
+    begin: u32,
+}
 
 // The pairs of a node of the kind with so many children, and what stands behind its bracket; none if
 // no pairs that it may list stand there, with the bracket behind them.
@@ -57,9 +67,9 @@ fn read_prime_end<'a>(
     let Ok(behind) = skip_byte(text, b';') else {
         return Ok(None);
     };
-    match read_pairs(alloc, behind)? {
-        Some((pairs, tail)) => {
-            if !may_list(&pairs, count) {
+    match read_pairs(alloc, behind, count)? {
+        Some((pairs, listed, tail)) => {
+            if !listed {
                 return Ok(None);
             }
             Ok(Some((pairs, tail)))
@@ -68,43 +78,75 @@ fn read_prime_end<'a>(
     }
 }
 
-// The pairs behind a semicolon, and what stands behind the bracket.
-fn read_pairs<'a>(alloc: Global, text: &'a [u8]) -> Result<Option<(Vec<Pair>, &'a [u8])>, Memory>
+// The pairs behind a semicolon, whether a node with so many children may list them, and what stands
+// behind the bracket. Not inlined, so that the loop over a tree's text stays small.
+#[inline(never)]
+fn read_pairs<'a>(
+    alloc: Global,
+    text: &'a [u8],
+    count: usize,
+) -> Result<Option<(Vec<Pair>, bool, &'a [u8])>, Memory>
+    requires { count ≤ NAMES }
     ensures { IfOk result (λ o. MatchOption o (LacksPairs text.now)
-        (λ p. (p.0.items ≢ []) × (59 ∷ text.now ≡ pairs_text 59 p.0.items ++ 41 ∷ p.1.now))) }
+        (λ p. (p.0.items ≢ []) × (IsTrue p.1 ↔ AreListed count p.0.items)
+        × (59 ∷ text.now ≡ pairs_text 59 p.0.items ++ 41 ∷ p.2.now))) }
 {
     let mut pairs = Vec::new(alloc);
     let mut rest = text;
+    let mut last = Pair { low: 0, high: 0 };
+    let mut listed = true;
+    let mut low = Low {
+        number: 0,
+        digits: 0,
+        begin: 0,
+    };
     loop {
-        let Some((pair, more, tail)) = read_pair(rest) else {
+        let Some((pair, more, tail)) = read_pair(rest, low) else {
             return Ok(None);
         };
+        listed = still_listed(listed, last, pair, count);
         push_pair(&mut pairs, pair)?;
         if !more {
-            return Ok(Some((pairs, tail)));
+            return Ok(Some((pairs, listed, tail)));
         }
-        rest = tail;
+        low = low_of(rest, pair.low, low);
+        let (next, far) = read_alike(rest, pair, tail, count, &mut pairs)?;
+        last = next;
+        rest = far;
     }
 }
 
-// Appends a pair. A full vector grows by an eighth, so that a long one takes little more memory than
-// its pairs.
+// Appends a pair. A full vector grows by an eighth, so that a long one takes little more memory
+// than its pairs.
+#[inline(always)]
 fn push_pair(pairs: &mut Vec<Pair>, pair: Pair) -> Result<(), Memory>
     ensures { OnOk result (pairs.new.items ≡ pairs.old.items ++ pair ∷ []) }
 {
     if pairs.len() == pairs.capacity() {
-        pairs.reserve_exact(pairs.len() / 8 + 64)?;
+        grow(pairs)?;
     }
-    pairs.push(pair)?;
+    pairs.push_reserved(pair);
+    Ok(())
+}
+
+// Makes room for more pairs.
+#[inline(never)]
+fn grow(pairs: &mut Vec<Pair>) -> Result<(), Memory>
+    ensures items { OnOk result (pairs.new.items ≡ pairs.old.items) }
+    ensures room { OnOk result (vec_len pairs.new < vec_capacity pairs.new) }
+{
+    pairs.reserve_exact(pairs.len() / 8 + 64)?;
     Ok(())
 }
 
 // A pair, whether another one follows, and what stands behind the mark that tells it.
-fn read_pair<'a>(text: &'a [u8]) -> Option<(Pair, bool, &'a [u8])>
+#[inline(always)]
+fn read_pair<'a>(text: &'a [u8], before: Low) -> Option<(Pair, bool, &'a [u8])>
+    requires { IsLow before }
     ensures { MatchOption result (LacksPair text.now)
         (λ p. text.now ≡ pair_before p.0 p.1 p.2.now) }
 {
-    let (low, hyphen) = small_number(text)?;
+    let (low, hyphen) = read_low(text, before)?;
     let Ok(second) = skip_byte(hyphen, b'-') else {
         return None;
     };
@@ -119,29 +161,178 @@ fn read_pair<'a>(text: &'a [u8]) -> Option<(Pair, bool, &'a [u8])>
     None
 }
 
-// Whether the pairs ascend, and are of two positions below `count`, the lower first.
-fn may_list(pairs: &[Pair], count: usize) -> bool
-    ensures { IsTrue result ↔ AreListed pairs.now count }
+// The lower position of a pair; mostly it is that of the pair before.
+#[inline(always)]
+fn read_low<'a>(text: &'a [u8], before: Low) -> Option<(u32, &'a [u8])>
+    requires { IsLow before }
+    ensures { MatchOption result (LacksNumber text.now)
+        (λ p. IsNumberSplit text.now p.0 p.1.now) }
 {
-    for i in 0..pairs.len() {
-        if i > 0 && !is_before(pairs[i - 1], pairs[i]) {
-            return false;
-        }
-        if !is_of_positions(pairs[i], count) {
-            return false;
-        }
+    if begins_with_low(text, before) {
+        return Some((before.number, &text[before.digits..]));
     }
-    true
+    small_number(text)
 }
 
+// Whether a text begins with this position and a hyphen, as far as four bytes tell it.
+#[inline(always)]
+fn begins_with_low(text: &[u8], low: Low) -> bool
+    requires { IsLow low }
+    ensures { IsTrue result → (low.digits < length text.now)
+        × IsNumberSplit text.now low.number (drop low.digits text.now) }
+{
+    if low.digits == 0 || text.len() < 5 {
+        return false;
+    }
+    if word(text, 0) != low.begin {
+        return false;
+    }
+    text[low.digits] == b'-'
+}
+
+// The lower position of the pair that a text begins with; `before` is that of the pair before.
+#[inline(always)]
+fn low_of(text: &[u8], number: u32, before: Low) -> Low
+    requires low { IsLow before }
+    requires begins { (x : List ℕ) × (text.now ≡ decimal number ++ 45 ∷ x) }
+    ensures { IsLow result }
+{
+    if number == before.number {
+        return before;
+    }
+    let digits = digits_of(number);
+    if digits == 0 || text.len() < 4 {
+        return Low {
+            number,
+            digits: 0,
+            begin: 0,
+        };
+    }
+    Low {
+        number,
+        digits,
+        begin: word(text, 0),
+    }
+}
+
+// How many digits a number has, if three or four; else 0.
+fn digits_of(number: u32) -> usize
+    ensures { 0 < result → (result ≤ 4) × (result ≡ length (decimal number)) }
+{
+    if number < 100 || number >= 10_000 {
+        return 0;
+    }
+    if number < 1000 {
+        return 3;
+    }
+    4
+}
+
+// Whether pairs may be listed with one more behind the last of them.
+#[inline(always)]
+fn still_listed(listed: bool, last: Pair, pair: Pair, count: usize) -> bool
+    ensures { IsTrue result ↔ (IsTrue listed × MayFollow count last pair) }
+{
+    listed && is_before(last, pair) && is_of_positions(pair, count)
+}
+
+#[inline(always)]
 fn is_before(first: Pair, second: Pair) -> bool
     ensures { IsTrue result ↔ IsPairBefore first second }
 {
     first.low < second.low || first.low == second.low && first.high < second.high
 }
 
+#[inline(always)]
 fn is_of_positions(pair: Pair, count: usize) -> bool
     ensures { IsTrue result ↔ ((pair.low < pair.high) × (pair.high < count)) }
 {
     pair.low < pair.high && (pair.high as usize) < count
+}
+
+// Goes on past the pairs that are spelled as the one before but for the last two digits, as long as
+// they ascend. Nearly all are; what is no such pair is left to be read as any other. Never inlined,
+// so that its loop has the registers to itself.
+#[inline(never)]
+fn read_alike<'a>(
+    text: &'a [u8],
+    pair: Pair,
+    tail: &'a [u8],
+    count: usize,
+    pairs: &mut Vec<Pair>,
+) -> Result<(Pair, &'a [u8]), Memory>
+    requires few { count ≤ NAMES }
+    requires read { text.now ≡ pair_before pair true tail.now }
+    ensures { IfOk result
+        (λ r. ReadsOn count tail.now pairs.old.items pair r.1.now pairs.new.items r.0) }
+{
+    let used = text.len() - tail.len();
+    if used < 7 || used > 11 || pair.high < 100 || pair.high <= pair.low {
+        return Ok((pair, tail));
+    }
+    if pair.high as usize >= count {
+        return Ok((pair, tail));
+    }
+    let front = used - 3;
+    let hundred = pair.high - pair.high % 100;
+    let begin = word(text, 0);
+    let end = word(text, front - 4);
+    let mut rest = tail;
+    let mut high = pair.high;
+    loop {
+        let Some((tens, ones, behind)) = last_digits(rest, front, begin, end) else {
+            break;
+        };
+        let next = hundred + (tens * 10 + ones);
+        if next <= high || next as usize >= count {
+            break;
+        }
+        high = next;
+        push_pair(
+            pairs,
+            Pair {
+                low: pair.low,
+                high,
+            },
+        )?;
+        rest = behind;
+    }
+    Ok((
+        Pair {
+            low: pair.low,
+            high,
+        },
+        rest,
+    ))
+}
+
+// The two digits and the comma behind the first `front` bytes, where those are the ones wanted.
+#[inline(always)]
+fn last_digits<'a>(
+    text: &'a [u8],
+    front: usize,
+    begin: u32,
+    end: u32,
+) -> Option<(u32, u32, &'a [u8])>
+    requires { (4 ≤ front) × (front ≤ 8) }
+    ensures { IfSome result (λ p. IsAlike text.now front begin end p.0 p.1 p.2.now) }
+{
+    if text.len() < front + 3 {
+        return None;
+    }
+    if word(text, 0) != begin || word(text, front - 4) != end || text[front + 2] != b',' {
+        return None;
+    }
+    let tens = digit(text[front])?;
+    let ones = digit(text[front + 1])?;
+    Some((tens, ones, &text[front + 3..]))
+}
+
+// Four bytes of a text as one number.
+#[inline(always)]
+fn word(text: &[u8], at: usize) -> u32
+    requires { at + 4 ≤ length text.now }
+    ensures { word_bytes result ≡ take 4 (drop at text.now) }
+{
+    u32::from_le_bytes([text[at], text[at + 1], text[at + 2], text[at + 3]])
 }

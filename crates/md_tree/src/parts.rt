@@ -2,7 +2,7 @@
 ghost use Rattle.std.specs.Prelude.{◌≡◌, [], ◌∷◌, ◌++◌, map, IfOk};
 ghost use Rattle.md_tree.specs.Trees.{PlainTree};
 ghost use Rattle.md_tree.specs.Plain.{plain};
-ghost use Rattle.md_tree.specs.Parts.{plain_part, parts_of};
+ghost use Rattle.md_tree.specs.Parts.{plain_part, part_of, parts_of, plain_at, below_node};
 ghost use Rattle.md_tree.specs.Stacks.{with_part, HasChildrenOf};
 
 use crate::{Children, Kind, QuotientEdges, Tree};
@@ -46,6 +46,35 @@ fn put_part(stack: &mut Vec<Tree>, part: Part) -> Result<(), Memory>
             let below = stack.len() - number as usize;
             let list = stack.split_off(below)?;
             stack.push(Tree::Node(kind, Children { list }, edges))?;
+        }
+    }
+    Ok(())
+}
+
+/// The nodes of a tree: each before its children, and these from the last to the first. No call
+/// nests as deep as the tree. Errors: want of memory.
+pub fn nodes_of(alloc: Global, tree: &Tree) -> Result<Vec<&Tree>, Memory>
+    ensures { IfOk result (λ nodes. map (λ r. part_of (plain_at r)) nodes.items
+        ≡ parts_of (plain tree.now)) }
+{
+    let mut nodes = Vec::new(alloc);
+    let mut waiting = Vec::new(alloc);
+    waiting.push(tree)?;
+    while let Some(node) = waiting.pop() {
+        nodes.push(node)?;
+        push_children(node, &mut waiting)?;
+    }
+    Ok(nodes)
+}
+
+// Appends the children of a node.
+fn push_children<'a>(node: &'a Tree, waiting: &mut Vec<&'a Tree>) -> Result<(), Memory>
+    ensures { IfOk result (λ _. map plain_at waiting.new.items
+        ≡ map plain_at waiting.old.items ++ below_node (plain node.now)) }
+{
+    if let Tree::Node(_, children, _) = node {
+        for child in &children.list {
+            waiting.push(child)?;
         }
     }
     Ok(())

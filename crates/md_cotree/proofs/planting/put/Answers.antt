@@ -2,7 +2,8 @@ use Rattle.std.proofs.Common.{◌<◌, sym, ◌∙◌, ap, subst}
 use Rattle.md_lists.specs.declared.TheConstants.{PLACES}
 use Rattle.md_tree.proofs.Stacking.{if_ok}
 use Rattle.md_cotree.specs.PlaceTrees.{node_counts}
-use Rattle.md_cotree.specs.Forests.{head_of, shape_list, IsForest}
+use Rattle.md_cotree.specs.Forests.{shape_list, IsForest}
+use Rattle.md_tree.specs.Parts.{part_of}
 use Rattle.md_tree.specs.Plain.{plain}
 use Rattle.md_tree.specs.Stacks.{with_part}
 use Rattle.md_cotree.proofs.Growing.{leaf_ready, leaf_put, node_ready, node_split, node_put}
@@ -40,6 +41,6 @@ returns-in-Node g c =
       _,
       made.3 cut.before cut.after (subst (IsForest c.args.cotree.now c.args.stack.now.items) cut.whole forest) cut.count,
       node_put c.args.cotree.now c.args.node.now c.in-Node.kind c.in-Node.children c.in-Node.field-2 c.in-Node.is c.len.result c.len.ensures made.1 made.0 cut.before cut.after made.2 c.requires.ready cut.count
-          ∙ ap (λ us. with_part (head_of (plain c.args.node.now)) (shape_list us)) (sym cut.whole),
+          ∙ ap (λ us. with_part (part_of (plain c.args.node.now)) (shape_list us)) (sym cut.whole),
     ))
     c.put_node.ensures

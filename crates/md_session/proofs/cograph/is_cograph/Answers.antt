@@ -1,4 +1,4 @@
-use Rattle.md_session.proofs.MadePaths.{cograph_by_tree, cograph_without_vertices}
+use Rattle.md_report.proofs.ByTrees.{cograph_by_tree, cograph_without_vertices}
 use Rattle.md_session.proofs.cograph.is_cograph.Goals as goal
 
 pub returns-in-Some : goal.returns-in-Some

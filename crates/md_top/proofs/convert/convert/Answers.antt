@@ -3,6 +3,7 @@ use Rattle.std.proofs.Common.{refl}
 use Rattle.md_top.specs.declared.request.Request.TheVariants.{Graphs}
 use Rattle.md_top.specs.declared.request.GraphForm.TheVariants.{Convert}
 use Rattle.md_top.specs.Answer.{over_graphs}
+use Rattle.md_top.specs.declared.stop.Verdict.TheVariants.{Done}
 use Rattle.md_top.proofs.Outputs.{command_done, command_stopped, command_refused}
 use Rattle.md_top.proofs.convert.convert.Goals as goal
 
@@ -15,13 +16,13 @@ returns-in_err-graphs g c = record {
 pub returns-in_err-put_texts : goal.returns-in_err-put_texts
 returns-in_err-put_texts g c = record {
   ends =
-      command_stopped _ (over_graphs (Convert c.args.to) c.in_ok-graphs.graphs) (c.in_ok-graphs.graphs, c.in_ok-graphs.ensures.spells, refl) c.in_ok-graphs.ensures.faultless _ _ _
+      command_stopped _ (over_graphs (Convert c.args.to) c.in_ok-graphs.graphs) (c.in_ok-graphs.graphs, c.in_ok-graphs.ensures.spells, refl) c.in_ok-graphs.ensures.faultless _ Done _ _
       c.in_err-put_texts.ensures.puts c.from_residual-in_err-put_texts.ensures.1;
 }
 
 pub returns : goal.returns
 returns g c = record {
   ends =
-      command_done _ (over_graphs (Convert c.args.to) c.in_ok-graphs.graphs) (c.in_ok-graphs.graphs, c.in_ok-graphs.ensures.spells, refl) c.in_ok-graphs.ensures.faultless _
+      command_done _ (over_graphs (Convert c.args.to) c.in_ok-graphs.graphs) (c.in_ok-graphs.graphs, c.in_ok-graphs.ensures.spells, refl) c.in_ok-graphs.ensures.faultless _ Done
       c.in_ok-put_texts.ensures.puts;
 }

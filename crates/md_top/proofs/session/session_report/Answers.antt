@@ -2,6 +2,7 @@
 use Rattle.std.proofs.Common.{refl}
 use Rattle.md_report.specs.Places.{before_session}
 use Rattle.md_top.specs.Answer.{report}
+use Rattle.md_top.specs.declared.stop.Verdict.TheVariants.{Done}
 use Rattle.md_top.proofs.Outputs.{command_done, command_stopped}
 use Rattle.md_top.proofs.session.session_report.Goals as goal
 
@@ -10,7 +11,7 @@ returns-in_err-put_session g c = record {
   ends =
       command_stopped _ (report (before_session c.args.mode c.in_ok-graph.graph c.in_ok-script.script))
       (c.in_ok-graph.graph, c.in_ok-script.script, c.in_ok-graph.ensures.spells, c.in_ok-script.ensures.spells, refl)
-      (rw (c.in_ok-graph.ensures.faultless, c.in_ok-script.ensures.faultless) refl) _ _ _
+      (rw (c.in_ok-graph.ensures.faultless, c.in_ok-script.ensures.faultless) refl) _ Done _ _
       c.in_err-put_session.ensures.puts c.from_residual-in_err-put_session.ensures.1;
 }
 
@@ -19,6 +20,6 @@ returns g c = record {
   ends =
       command_done _ (report (before_session c.args.mode c.in_ok-graph.graph c.in_ok-script.script))
       (c.in_ok-graph.graph, c.in_ok-script.script, c.in_ok-graph.ensures.spells, c.in_ok-script.ensures.spells, refl)
-      (rw (c.in_ok-graph.ensures.faultless, c.in_ok-script.ensures.faultless) refl) _
+      (rw (c.in_ok-graph.ensures.faultless, c.in_ok-script.ensures.faultless) refl) _ Done
       c.in_ok-put_session.ensures.puts;
 }

@@ -11,15 +11,14 @@ returns-in-None c =
     lacks_pairs c.args.count c.args.text.now c.in-Ok.behind.now c.requires c.in-Ok.ensures.on
     (let e = c.in-None.is in let p = c.in_ok-pairs.ensures in rw e at p)
 
-pub returns-then-not-may_list : goal.returns-then-not-may_list
-returns-then-not-may_list c =
+pub returns-then-not-listed : goal.returns-then-not-listed
+returns-then-not-listed c =
     let e = c.in-Some.is in let p = c.in_ok-pairs.ensures in let q = rw e at p in
-    lacks_listed c.args.count c.args.text.now c.in-Ok.behind.now c.in-Some.tail.now c.in-Some.pairs.items c.in-Ok.ensures.on q.1
-    (λ l. let v = c.deref.ensures.value in let m = c.may_list.ensures.1 (rw v l) in let f = c.if-not-may_list.true in grind arith)
+    lacks_listed c.args.count c.args.text.now c.in-Ok.behind.now c.in-Some.tail.now c.in-Some.pairs.items c.in-Ok.ensures.on q.2
+    (λ l. let m = q.1.1 l in let f = c.if-not-listed.true in grind arith)
 
-pub returns-else-not-may_list : goal.returns-else-not-may_list
-returns-else-not-may_list c =
+pub returns-else-not-listed : goal.returns-else-not-listed
+returns-else-not-listed c =
     let e = c.in-Some.is in let p = c.in_ok-pairs.ensures in let q = rw e at p in
-    let v = c.deref.ensures.value in
-    let yes : IsTrue c.may_list.result = (let f = c.if-not-may_list.false in grind arith) in
-    (to_listed c.in-Some.pairs.items c.args.count (rw v at c.may_list.ensures.0 yes) q.0, c.in-Ok.ensures.on ∙ q.1)
+    let yes : IsTrue c.in-Some.listed = (let f = c.if-not-listed.false in grind arith) in
+    (to_listed c.args.count c.in-Some.pairs.items (q.1.0 yes) q.0, c.in-Ok.ensures.on ∙ q.2)

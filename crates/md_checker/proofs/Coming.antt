@@ -1,0 +1,196 @@
+-- A line that may come where graphs and edits with names are left is well-formed.
+use Rattle.std.proofs.Common.{◌≡◌, ℕ, ◌<◌, Bool, true, false, not, cond, List, [], ◌∷◌, find, Option, None, Some, option_map, sym, ◌∙◌, subst, inl, inr, refl}
+use Rattle.std.specs.Prelude.{◌==◌, ⊤}
+use Rattle.std.specs.Bool.{then_some}
+use Rattle.std.specs.Option.{option_or}
+use Rattle.std.specs.List.{All}
+use Rattle.std.specs.FinSet as set
+use Rattle.std.proofs.lemmas.List.Elements.{All-nil, All-cons, All-head, All-tail}
+use Rattle.md_graph.specs.declared.TheConstants.{NAMES}
+use Rattle.md_graph.specs.PlainGraph.{PlainGraph, IsGraph, adjacent}
+use Rattle.md_graph.proofs.SetLemmas.{clash}
+use Rattle.md_modules.specs.declared.induced_paths.P4.{P4}
+use Rattle.md_modules.proofs.Turns.{graph_adjacency}
+use Rattle.md_forcing.specs.declared.arc.Arc.{Arc}
+use Rattle.md_forcing.specs.declared.seen.Side.TheVariants.{Edges, NonEdges}
+use Rattle.md_forcing.specs.Forcing.{arc, IsArc, Leads}
+use Rattle.md_forcing.specs.Lists.{Holds}
+use Rattle.md_forcing.specs.Sides.{adjacent_on}
+use Rattle.md_orientation.specs.Chains.{IsForcingChain}
+use Rattle.md_orientation.specs.Orders.{IsOrder}
+use Rattle.md_orientation.specs.Laws.{MeetsPremises}
+use Rattle.md_orientation.proofs.Reached.{side_premises}
+use Rattle.md_tree.specs.Trees.{PlainTree}
+use Rattle.md_tree.specs.WellFormed.{IsWellFormed}
+use Rattle.md_tree.proofs.OneTree.{well_formed_proof}
+use Rattle.md_script.specs.declared.edit.Edit as script
+use Rattle.md_script.specs.declared.edit.Edit.TheVariants.{AddEdge, DelEdge, AddVertex, DelVertex}
+use Rattle.md_script.specs.declared.edit.EditReason.{EditReason}
+use Rattle.md_script.specs.declared.edit.EditReason.TheVariants.{Same, NoVertex, NameTaken, EdgeThere, EdgeAbsent}
+use Rattle.md_script.specs.Edit.{HasNames, ends_reason, least_absent, reason_of, after}
+use Rattle.md_script.proofs.ChangeLemmas.{after_is_graph}
+use Rattle.md_report.specs.declared.line.GraphMode.{GraphMode}
+use Rattle.md_report.specs.declared.line.GraphMode.TheVariants.{Tree, Compare, Permute}
+use Rattle.md_report.specs.declared.line.SessionMode.{SessionMode}
+use Rattle.md_report.specs.declared.line.SessionMode.TheVariants.{Edit, Cograph}
+use Rattle.md_report.specs.Lines.{PlainLine, head, tree, applied, refused, refused_p4, not_cograph, oriented, forced, orders, forced_in, forced_in_complement, end}
+use Rattle.md_report.specs.WellFormedLines.{IsVertexName, IsNamedArc, IsNamedChain, IsNamedP4, IsNamedReason, IsWellFormedLine}
+use Rattle.md_report.specs.Orientations.{IsOrientationLine}
+use Rattle.md_report.specs.Models.{IsModelLine}
+use Rattle.md_report.specs.Sessions.{HasTreeLine, IsLineBy}
+use Rattle.md_report.specs.Cographs.{IsP4Of, HasP4Line, IsCographLineBy}
+use Rattle.md_report.specs.Places.{Place, before_head, at_graphs, before_session, at_state, at_edits, after_end, Reports, ReportsState, AnswersEdit, MayCome}
+use Rattle.md_report.specs.Laws.{IsSound}
+
+-- a line with the tree of a graph
+tree_good : (made : Option PlainTree → PlainLine) → ((o : Option PlainTree) → IsWellFormed o → IsWellFormedLine (made o)) → (g : PlainGraph) → IsGraph g → (line : PlainLine) → HasTreeLine made g line → IsWellFormedLine line
+tree_good made good g is line has =
+    subst IsWellFormedLine (sym has.2) (good has.0 (well_formed_proof (adjacent g) (graph_adjacency is) g.vertices has.0 has.1 is.names))
+
+-- an arc along an edge
+arc_good : (e : ℕ → ℕ → Bool) → MeetsPremises e → (a : Arc) → IsArc e a → IsNamedArc a
+arc_good e side a along = record {
+  tail = (side.below a.tail a.head along).0;
+  head = (side.below a.tail a.head along).1;
+  differ = λ same. clash (subst (λ v. e a.tail v ≡ true) (sym same) along) (side.adjacency.irreflexive a.tail);
+}
+
+leads_good : (e : ℕ → ℕ → Bool) → MeetsPremises e → (a b : Arc) (list : List Arc) → Leads e a list b → All IsNamedArc list
+leads_good e side a b [] leads = All-nil IsNamedArc
+leads_good e side a b (c ∷ list) leads = All-cons IsNamedArc c list (arc_good e side c leads.0) (leads_good e side c b list leads.2)
+
+chain_good : (e : ℕ → ℕ → Bool) → MeetsPremises e → (chain : List Arc) → IsForcingChain e chain → IsNamedChain chain
+chain_good e side chain is = record {
+  some = λ none. let f : [] ≡ arc is.u is.v ∷ is.turns.rest = sym none ∙ is.turns.begins in cc;
+  arcs =
+      subst (All IsNamedArc) (sym is.turns.begins)
+      (All-cons IsNamedArc (arc is.u is.v) is.turns.rest (arc_good e side (arc is.u is.v) is.turns.starts) (leads_good e side (arc is.u is.v) (arc is.v is.u) is.turns.rest is.turns.leads));
+}
+
+held : {X : Type 0} (P : X → Type 0) (list : List X) → ((x : X) → Holds list x → P x) → All P list
+held P [] each = All-nil P
+held P (x ∷ list) each = All-cons P x list (each x (inl refl)) (held P list (λ y has. each y (inr has)))
+
+order_good : (g : PlainGraph) → IsGraph g → (list : List ℕ) → IsOrder g.vertices list → All IsVertexName list
+order_good g is list order = held IsVertexName list (λ v has. is.names v ((order.members v).0 has))
+
+-- an induced P4
+path_good : (g : PlainGraph) → IsGraph g → (p : P4) → IsP4Of g p → IsNamedP4 p
+path_good g is p path = record {
+  names =
+      All-cons IsVertexName p.a (p.b ∷ p.c ∷ p.d ∷ []) (is.names p.a path.inside.0)
+      (All-cons IsVertexName p.b (p.c ∷ p.d ∷ []) (is.names p.b path.inside.1)
+      (All-cons IsVertexName p.c (p.d ∷ []) (is.names p.c path.inside.2)
+      (All-cons IsVertexName p.d [] (is.names p.d path.inside.3) (All-nil IsVertexName))));
+  four = ((path.different.0, path.different.1, path.ascending), (path.different.2, path.different.3, path.different.4));
+}
+
+p4_good : (made : P4 → PlainLine) → ((p : P4) → IsNamedP4 p → IsWellFormedLine (made p)) → (g : PlainGraph) → IsGraph g → (line : PlainLine) → HasP4Line made g line → IsWellFormedLine line
+p4_good made good g is line has = subst IsWellFormedLine (sym has.2) (good has.0 (path_good g is has.0 has.1))
+
+-- the reason against an edit with names, if there is one, names a name
+abbrev IsNamedOption : Option EditReason → Type 0
+IsNamedOption None = ⊤
+IsNamedOption (Some reason) = IsNamedReason reason
+
+named_or : (o p : Option EditReason) → IsNamedOption o → IsNamedOption p → IsNamedOption (option_or o p)
+named_or None p first second = second
+named_or (Some reason) p first second = first
+
+named_if : (b : Bool) (o p : Option EditReason) → IsNamedOption o → IsNamedOption p → IsNamedOption (cond b o p)
+named_if true o p first second = first
+named_if false o p first second = second
+
+named_then : (b : Bool) (reason : EditReason) → IsNamedReason reason → IsNamedOption (then_some b reason)
+named_then true reason is = is
+named_then false reason is = tt
+
+named_ends : (g : PlainGraph) (u v : ℕ) → u < NAMES → v < NAMES → IsNamedOption (ends_reason g u v)
+named_ends g u v is_u is_v =
+    named_if (u == v) (Some Same) _ tt
+    (named_if (not (set.contains g.vertices u)) (Some (NoVertex u)) _ is_u (named_if (not (set.contains g.vertices v)) (Some (NoVertex v)) None is_v tt))
+
+named_absent : (test : ℕ → Bool) (names : List ℕ) → All (λ v. v < NAMES) names → IsNamedOption (option_map NoVertex (find test names))
+named_absent test [] all = tt
+named_absent test (v ∷ names) all =
+    found (test v) (All-head (λ w. w < NAMES) v names all) (named_absent test names (All-tail (λ w. w < NAMES) v names all))
+  where
+    found : (b : Bool) → v < NAMES → IsNamedOption (option_map NoVertex (find test names)) → IsNamedOption (option_map NoVertex (cond b (Some v) (find test names)))
+    found true is later = is
+    found false is later = later
+
+named_reason : (g : PlainGraph) (edit : script.Edit) → HasNames edit → IsNamedOption (reason_of g edit)
+named_reason g (AddEdge u v) names = named_or (ends_reason g u v) _ (named_ends g u v names.0 names.1) (named_then (adjacent g u v) EdgeThere tt)
+named_reason g (DelEdge u v) names = named_or (ends_reason g u v) _ (named_ends g u v names.0 names.1) (named_then (not (adjacent g u v)) EdgeAbsent tt)
+named_reason g (AddVertex x neighbours) names =
+    named_or (option_map NoVertex (least_absent g neighbours)) _ (named_absent (λ v. not (set.contains g.vertices v)) neighbours names.1) (named_then (set.contains g.vertices x) (NameTaken x) names.0)
+named_reason g (DelVertex x) names = named_then (not (set.contains g.vertices x)) (NoVertex x) names
+
+-- the lines of graphs, of first states and of edits
+module _ (g : PlainGraph) (is : IsGraph g) where
+  near : MeetsPremises (adjacent g)
+  near = side_premises is Edges
+
+  apart : MeetsPremises (adjacent_on NonEdges g)
+  apart = side_premises is NonEdges
+
+  orientation_good : (line : PlainLine) → IsOrientationLine (adjacent g) line → IsWellFormedLine line
+  orientation_good (oriented arcs) may = held IsNamedArc arcs (λ a has. arc_good (adjacent g) near a ((may.1.arcs a).0 has).3.0)
+  orientation_good (forced chain) may = chain_good (adjacent g) near chain may
+  orientation_good (head mode) may = absurd may
+  orientation_good (tree t) may = absurd may
+  orientation_good (applied t) may = absurd may
+  orientation_good (refused reason) may = absurd may
+  orientation_good (refused_p4 p) may = absurd may
+  orientation_good (not_cograph p) may = absurd may
+  orientation_good (orders first second) may = absurd may
+  orientation_good (forced_in chain) may = absurd may
+  orientation_good (forced_in_complement chain) may = absurd may
+  orientation_good end may = absurd may
+
+  model_good : (line : PlainLine) → IsModelLine g line → IsWellFormedLine line
+  model_good (orders first second) may = (order_good g is first may.first, order_good g is second may.second)
+  model_good (forced_in chain) may = chain_good (adjacent g) near chain may
+  model_good (forced_in_complement chain) may = chain_good (adjacent_on NonEdges g) apart chain may.1
+  model_good (head mode) may = absurd may
+  model_good (tree t) may = absurd may
+  model_good (applied t) may = absurd may
+  model_good (refused reason) may = absurd may
+  model_good (refused_p4 p) may = absurd may
+  model_good (not_cograph p) may = absurd may
+  model_good (oriented arcs) may = absurd may
+  model_good (forced chain) may = absurd may
+  model_good end may = absurd may
+
+  graph_good : (mode : GraphMode) (line : PlainLine) → Reports mode g line → IsWellFormedLine line
+  graph_good Tree line may = tree_good tree (λ o w. w) g is line may
+  graph_good Compare line may = orientation_good line may
+  graph_good Permute line may = model_good line may
+
+  state_good : (mode : SessionMode) (line : PlainLine) → ReportsState mode g line → IsWellFormedLine line
+  state_good Edit line may = tree_good tree (λ o w. w) g is line may
+  state_good Cograph line (inl path) = p4_good not_cograph (λ p w. w) g is line path
+  state_good Cograph line (inr whole) = tree_good tree (λ o w. w) g is line whole.1
+
+  step_good : (edit : script.Edit) → HasNames edit → (o : Option EditReason) → reason_of g edit ≡ o → (line : PlainLine) → IsLineBy o g edit line → IsWellFormedLine line
+  step_good edit names (Some reason) same line may = subst IsWellFormedLine (sym may) (subst IsNamedOption same (named_reason g edit names))
+  step_good edit names None same line may = tree_good applied (λ o w. w) (after g edit) (after_is_graph g edit is names same) line may
+
+  cograph_good : (edit : script.Edit) → HasNames edit → (o : Option EditReason) → reason_of g edit ≡ o → (line : PlainLine) → IsCographLineBy o g edit line → IsWellFormedLine line
+  cograph_good edit names (Some reason) same line may = subst IsWellFormedLine (sym may) (subst IsNamedOption same (named_reason g edit names))
+  cograph_good edit names None same line (inl path) = p4_good refused_p4 (λ p w. w) (after g edit) (after_is_graph g edit is names same) line path
+  cograph_good edit names None same line (inr whole) = tree_good applied (λ o w. w) (after g edit) (after_is_graph g edit is names same) line whole.1
+
+  edit_good : (mode : SessionMode) (edit : script.Edit) → HasNames edit → (line : PlainLine) → AnswersEdit mode g edit line → IsWellFormedLine line
+  edit_good Edit edit names line may = step_good edit names (reason_of g edit) refl line may
+  edit_good Cograph edit names line may = cograph_good edit names (reason_of g edit) refl line may
+
+pub coming_good : (p : Place) → IsSound p → (line : PlainLine) → MayCome p line → IsWellFormedLine line
+coming_good (before_head mode graphs) sound line may = subst IsWellFormedLine (sym may) tt
+coming_good (at_graphs mode (g ∷ graphs)) sound line may = graph_good g sound.0 mode line may
+coming_good (at_graphs mode []) sound line may = subst IsWellFormedLine (sym may) tt
+coming_good (before_session mode g edits) sound line may = subst IsWellFormedLine (sym may) tt
+coming_good (at_state mode g edits) sound line may = state_good g sound.0 mode line may
+coming_good (at_edits mode g (edit ∷ edits)) sound line may = edit_good g sound.0 mode edit (All-head HasNames edit edits sound.1) line may
+coming_good (at_edits mode g []) sound line may = subst IsWellFormedLine (sym may) tt
+coming_good after_end sound line may = absurd may

@@ -1,0 +1,147 @@
+-- A node of modules fits the graph exactly where its heads, its names and its pairs do.
+use Rattle.std.proofs.Common.{◌≡◌, ℕ, zero, suc, ◌<◌, ◌≤◌, Bool, List, [], ◌∷◌, length, get_or, map, refl, sym, ◌∙◌, ap, subst, inl, inr, arith}
+use Rattle.std.proofs.lemmas.Bool.{false_from_ne_true}
+use Rattle.std.proofs.lemmas.List.{length-map}
+use Rattle.std.proofs.lemmas.List.Elements.{Contains-get_or}
+use Rattle.std.specs.FinSet.{insert, union}
+use Rattle.md_graph.specs.Sets.{NameSet, Has, Lacks, Within}
+use Rattle.md_graph.proofs.SetLemmas.{clash, of_minus, minus_has}
+use Rattle.md_modules.specs.Adjacency.{IsAdjacency}
+use Rattle.md_modules.specs.Modules.{IsModule, HasTrivialModulesAlone}
+use Rattle.md_tree.specs.declared.Kind.{Kind}
+use Rattle.md_tree.specs.declared.Kind.TheVariants.{Parallel, Series, Prime}
+use Rattle.md_tree.specs.declared.Pair.{Pair}
+use Rattle.md_tree.specs.Trees.{PlainTree, PlainTrees, no_tree, one_more, names, names_below, names_at, count, row, EachNodeBelow}
+use Rattle.md_tree.specs.StrongTrees.{IsInOrder}
+use Rattle.md_tree.specs.WellFormed.{HasShape, IsCanonicalNode}
+use Rattle.md_tree.proofs.Folding.{count_row}
+use Rattle.md_tree.proofs.Nodes.{IsChild, child_inside, child_of_name}
+use Rattle.md_checker.specs.Fits.{head, head_at, heads, IsFitNode}
+use Rattle.md_checker.specs.FitTests.{name_set, union_all, AreHeads, IsFit}
+use Rattle.md_checker.proofs.Heads.{two_of_shape, HaveHeads, have_heads, child_here, least_proof}
+
+-- ---- lists of heads and sets
+
+pub head_item : (ts : List PlainTree) (i : ℕ) → get_or (map head ts) i 0 ≡ head_at (row ts) i
+head_item [] i = refl
+head_item (t ∷ ts) zero = refl
+head_item (t ∷ ts) (suc i) = head_item ts i
+
+heads_set : (ts : List PlainTree) → heads (row ts) ≡ name_set (map head ts)
+heads_set [] = refl
+heads_set (t ∷ ts) = ap (λ s. insert s (head t)) (heads_set ts)
+
+pub names_union : (ts : List PlainTree) → names_below (row ts) ≡ union_all (map names ts)
+names_union [] = refl
+names_union (t ∷ ts) = ap (union (names t)) (names_union ts)
+
+position_of_child : (cs : PlainTrees) (c : PlainTree) → IsChild cs c → (i : ℕ) × (i < count cs) × (head_at cs i ≡ head c)
+position_of_child no_tree c is = absurd is
+position_of_child (one_more t ts) c (inl same) = (0, (let b : 0 < suc (count ts) = omega arith in b), ap (λ w. head w) (sym same))
+position_of_child (one_more t ts) c (inr is) =
+    let i : (i : ℕ) × (i < count ts) × (head_at ts i ≡ head c) = position_of_child ts c is in
+    (suc i.0, (let b : i.0 < count ts = i.1 in let d : suc i.0 < suc (count ts) = omega arith in d), i.2)
+
+-- the heads ascend
+ascend : (cs : PlainTrees) → IsInOrder cs → EachNodeBelow IsCanonicalNode cs → (i j : ℕ) → i < j → j < count cs → head_at cs i < head_at cs j
+ascend no_tree order each i j less below = let b : j < 0 = below in absurd (omega arith)
+ascend (one_more t ts) order each i zero less below = absurd (omega arith)
+ascend (one_more t ts) order each zero (suc j) less below =
+    let b : suc j < suc (count ts) = below in
+    let c : (c : PlainTree) × IsChild ts c × (names_at ts j ≡ names c) × (head_at ts j ≡ head c) = child_here ts j (omega arith) in
+    let low : head t ≤ order.0.0 = (least_proof t each.0).first order.0.0 order.0.1 in
+    let high : order.0.0 < head c.0 = order.0.2 (head c.0) (child_inside ts c.0 c.1 (head c.0) (have_heads ts each.1 c.0 c.1)) in
+    let same : head_at ts j ≡ head c.0 = c.3 in
+    let all : head t < head_at ts j = omega arith in
+    all
+ascend (one_more t ts) order each (suc i) (suc j) less below =
+    let b : suc j < suc (count ts) = below in
+    let l : suc i < suc j = less in
+    ascend ts order.1 each.1 i j (omega arith) (omega arith)
+
+positions_of : (k : Kind) (cs : PlainTrees) (ps : List Pair) → HasShape k cs ps → (i : ℕ) (d : Pair) → i < length ps → ((get_or ps i d).low < count cs) × ((get_or ps i d).high < count cs)
+positions_of Parallel cs ps shape i d below = let e = ap length shape.no_pairs in absurd (omega arith)
+positions_of Series cs ps shape i d below = let e = ap length shape.no_pairs in absurd (omega arith)
+positions_of Prime cs ps shape i d below =
+    let two = shape.positions (get_or ps i d) (Contains-get_or ps i d below) in
+    let a : (get_or ps i d).low < (get_or ps i d).high = two.0 in
+    let b : (get_or ps i d).high < count cs = two.1 in
+    (omega arith, b)
+
+-- ---- a node of modules
+
+module _ {e : ℕ → ℕ → Bool} (adj : IsAdjacency e) (s : NameSet) (k : Kind) (ts : List PlainTree) (ps : List Pair) (canon : IsCanonicalNode k (row ts) ps) (each : EachNodeBelow IsCanonicalNode (row ts))
+    (mods : (c : PlainTree) → IsChild (row ts) c → IsModule e s (names c)) where
+  abbrev cs : PlainTrees
+  cs = row ts
+
+  abbrev list : List ℕ
+  list = map head ts
+
+  own : HaveHeads cs
+  own = have_heads cs each
+
+  size : length list ≡ count cs
+  size = length-map ts head ∙ sym (count_row ts)
+
+  some : 0 < length list
+  some = let two = two_of_shape k cs ps canon.shape in let e = size in omega arith
+
+  child_at : (i : ℕ) → i < length list → (c : PlainTree) × IsChild cs c × (get_or list i 0 ≡ head c)
+  child_at i below =
+      let e = size in
+      let c : (c : PlainTree) × IsChild cs c × (names_at cs i ≡ names c) × (head_at cs i ≡ head c) = child_here cs i (omega arith) in
+      (c.0, c.1, head_item ts i ∙ c.3)
+
+  pub node_heads : AreHeads s ps list
+  node_heads = record {
+    some = some;
+    vertices = λ i below. let c = child_at i below in subst (Has s) (sym c.2) ((mods c.0 c.1).inside (head c.0) (own c.0 c.1));
+    ascending = λ i j less below.
+        let e = size in
+        let l = ascend cs canon.order each i j less (omega arith) in
+        let a = head_item ts i in
+        let b = head_item ts j in
+        omega arith;
+    positions = λ i d below. subst (λ n. ((get_or ps i d).low < n) × ((get_or ps i d).high < n)) (sym size) (positions_of k cs ps canon.shape i d below);
+  }
+
+  inside : Within (names_below cs) s
+  inside x h = let c = child_of_name cs x h in (mods c.0 c.1).inside x c.2
+
+  pub fit_node : IsFit e s (names_below cs) k ps list → IsFitNode e s k cs ps
+  fit_node fit = record {
+    is_module = record {
+      some = (let c = child_at 0 some in (head c.0, child_inside cs c.0 c.1 (head c.0) (own c.0 c.1)));
+      inside = inside;
+      alike = λ a b x ha hb hx l. first_like a x ha hx l ∙ sym (first_like b x hb hx l);
+    };
+    joined = λ i j less below.
+        let n = size in
+        sym (λ w. e (head_item ts i w) (head_item ts j w)) ∙ fit.joined i j less (omega arith);
+    trivial = λ prime. subst (HasTrivialModulesAlone e) (sym (heads_set ts)) (fit.trivial prime);
+  } where
+    first_like : (a x : ℕ) → Has (names_below cs) a → Has s x → Lacks (names_below cs) x → e x a ≡ e (get_or list 0 0) x
+    first_like a x ha hx l =
+        let c : (c : PlainTree) × IsChild cs c × Has (names c) a = child_of_name cs a ha in
+        let i : (i : ℕ) × (i < count cs) × (head_at cs i ≡ head c.0) = position_of_child cs c.0 c.1 in
+        let out : Lacks (names c.0) x = false_from_ne_true _ (λ h. clash (child_inside cs c.0 c.1 x h) l) in
+        let n = size in
+        let b : i.0 < count cs = i.1 in
+        (mods c.0 c.1).alike a (head c.0) x c.2 (own c.0 c.1) hx out
+        ∙ adj.symmetric x (head c.0) ∙ ap (λ h. e h x) (sym (head_item ts i.0 ∙ i.2)) ∙ sym (fit.alike i.0 x (omega arith) (minus_has s (names_below cs) x hx l))
+
+  pub node_fit : IsFitNode e s k cs ps → IsFit e s (names_below cs) k ps list
+  node_fit fit = record {
+    alike = λ i y below h.
+        let c = child_at 0 some in
+        let d = child_at i below in
+        let two = of_minus s (names_below cs) y h in
+        ap (λ w. e w y) c.2 ∙ adj.symmetric (head c.0) y
+        ∙ fit.is_module.alike (head c.0) (head d.0) y (child_inside cs c.0 c.1 (head c.0) (own c.0 c.1)) (child_inside cs d.0 d.1 (head d.0) (own d.0 d.1)) two.0 two.1
+        ∙ adj.symmetric y (head d.0) ∙ ap (λ w. e w y) (sym d.2);
+    joined = λ i j less below.
+        let n = size in
+        (λ w. e (head_item ts i w) (head_item ts j w)) ∙ fit.joined i j less (omega arith);
+    trivial = λ prime. subst (HasTrivialModulesAlone e) (heads_set ts) (fit.trivial prime);
+  }

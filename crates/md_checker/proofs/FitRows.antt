@@ -1,0 +1,256 @@
+-- The rows that tell which heads a node joins, and the sets of lists.
+use Rattle.std.proofs.Common.{◌≡◌, ◌≢◌, ◌↔◌, ℕ, zero, suc, ◌+◌, ◌-◌, ◌<◌, ◌≤◌, Bool, true, false, cond, eqb, ◌&&◌, ◌||◌, not, List, [], ◌∷◌, ◌++◌, length, get_or, set, take, drop, replicate, Option, Some, None, is_some, IfSome, IfNone, refl, sym, ◌∙◌, ap, ap₂, subst, inl, inr, eqb-true, eq-eqb, length-drop, arith}
+use Rattle.std.proofs.lemmas.Bool.{cases_Bool, cases_eq, or_cases, or_left, or_right, and_parts, and_from, not-true, not-false, false_from_ne_true}
+use Rattle.std.proofs.lemmas.List.{take_more, drop_more, get_or-drop, get_or-replicate, get_or_default}
+use Rattle.std.specs.Cmp.{both_ways}
+use Rattle.std.specs.FinSet.{contains, empty, insert, union, intersection}
+use Rattle.md_graph.specs.NameSet.{IsLeastFrom, NoneFrom, told_apart}
+use Rattle.md_graph.specs.PlainGraph.{PlainGraph, IsGraph, adjacent, neighbours}
+use Rattle.md_graph.specs.Rows.{row_of}
+use Rattle.md_graph.specs.Sets.{NameSet, Has, Within}
+use Rattle.md_graph.proofs.GraphLemmas.{contains-neighbours}
+use Rattle.md_graph.proofs.RowLemmas.{contains-set_row}
+use Rattle.md_graph.proofs.SetLemmas.{clash, same_name, empty_lacks, insert_new, insert_old, of_insert, union_left, union_right, of_union, of_meet, meet_has, minus_has, of_minus, same_members, Has-along, none_lacks, ascending_or_not}
+use Rattle.md_tree.specs.declared.Pair.{Pair}
+use Rattle.md_tree.specs.TreeGraph.{lists_pair}
+use Rattle.md_checker.specs.FitTests.{name_set, union_all, AreHeads}
+
+-- ---- sets of lists
+
+pub union-push : (xs : List NameSet) (x : NameSet) → union_all (xs ++ x ∷ []) ≡ union (union_all xs) x
+union-push [] x = same_members (union x empty) (union empty x)
+    (λ y h. elim (of_union x empty y h) [ inl a ↦ union_right empty x y a | inr none ↦ clash none (empty_lacks y) ])
+    (λ y h. elim (of_union empty x y h) [ inl none ↦ clash none (empty_lacks y) | inr a ↦ union_left x empty y a ])
+union-push (s ∷ xs) x =
+    ap (union s) (union-push xs x)
+    ∙ same_members (union s (union (union_all xs) x)) (union (union s (union_all xs)) x)
+    (λ y h. elim (of_union s (union (union_all xs) x) y h) [
+      | inl a ↦ union_left (union s (union_all xs)) x y (union_left s (union_all xs) y a)
+      | inr b ↦ elim (of_union (union_all xs) x y b) [
+        | inl c ↦ union_left (union s (union_all xs)) x y (union_right s (union_all xs) y c)
+        | inr d ↦ union_right (union s (union_all xs)) x y d
+      ]
+    ])
+    (λ y h. elim (of_union (union s (union_all xs)) x y h) [
+      | inl a ↦ elim (of_union s (union_all xs) y a) [
+        | inl b ↦ union_left s (union (union_all xs) x) y b
+        | inr c ↦ union_right s (union (union_all xs) x) y (union_left (union_all xs) x y c)
+      ]
+      | inr d ↦ union_right s (union (union_all xs) x) y (union_right (union_all xs) x y d)
+    ])
+
+pub union_more : (xs : List NameSet) (i : ℕ) (d all new one : NameSet) → i < length xs → all ≡ union_all (take i xs) → one ≡ get_or xs i d → new ≡ union all one →
+    new ≡ union_all (take (i + 1) xs)
+union_more xs i d all new one below so is made =
+    made ∙ ap₂ union so is ∙ sym (union-push (take i xs) (get_or xs i d)) ∙ ap union_all (sym (take_more xs i d below))
+
+pub name_set-push : (xs : List ℕ) (x : ℕ) → name_set (xs ++ x ∷ []) ≡ insert (name_set xs) x
+name_set-push [] x = refl
+name_set-push (v ∷ xs) x =
+    ap (λ s. insert s v) (name_set-push xs x)
+    ∙ same_members (insert (insert (name_set xs) x) v) (insert (insert (name_set xs) v) x) (swapped (name_set xs) x v) (swapped (name_set xs) v x)
+  where
+    swapped : (s : NameSet) (a b : ℕ) → Within (insert (insert s a) b) (insert (insert s b) a)
+    swapped s a b y h = elim (of_insert (insert s a) b y h) [
+      | inl same ↦ insert_old (insert s b) a y (subst (Has (insert s b)) (sym same) (insert_new s b))
+      | inr r ↦ elim (of_insert s a y r) [
+        | inl same ↦ subst (Has (insert (insert s b) a)) (sym same) (insert_new (insert s b) a)
+        | inr old ↦ insert_old (insert s b) a y (insert_old s b y old)
+      ]
+    ]
+
+pub name_set_more : (xs : List ℕ) (i : ℕ) (all new : NameSet) → i < length xs → all ≡ name_set (take i xs) → new ≡ insert all (get_or xs i 0) → new ≡ name_set (take (i + 1) xs)
+name_set_more xs i all new below so made =
+    made ∙ ap (λ s. insert s (get_or xs i 0)) so ∙ sym (name_set-push (take i xs) (get_or xs i 0)) ∙ ap name_set (sym (take_more xs i 0 below))
+
+pub in_name_set : (xs : List ℕ) (i : ℕ) → i < length xs → Has (name_set xs) (get_or xs i 0)
+in_name_set [] i below = let b : i < 0 = below in absurd (omega arith)
+in_name_set (x ∷ xs) zero below = insert_new (name_set xs) x
+in_name_set (x ∷ xs) (suc i) below =
+    let b : suc i < suc (length xs) = below in
+    insert_old (name_set xs) x (get_or xs i 0) (in_name_set xs i (omega arith))
+
+pub of_name_set : (xs : List ℕ) (y : ℕ) → Has (name_set xs) y → (i : ℕ) × (i < length xs) × (y ≡ get_or xs i 0)
+of_name_set [] y h = clash h (empty_lacks y)
+of_name_set (x ∷ xs) y h = elim (of_insert (name_set xs) x y h) [
+  | inl same ↦ (0, (let b : 0 < suc (length xs) = omega arith in b), same)
+  | inr r ↦
+      let i : (i : ℕ) × (i < length xs) × (y ≡ get_or xs i 0) = of_name_set xs y r in
+      (suc i.0, (let b : i.0 < length xs = i.1 in let c : suc i.0 < suc (length xs) = omega arith in c), i.2)
+]
+
+pub name_set_within : (s : NameSet) (xs : List ℕ) → ((i : ℕ) → i < length xs → Has s (get_or xs i 0)) → Within (name_set xs) s
+name_set_within s xs each y h =
+    let i = of_name_set xs y h in subst (Has s) (sym i.2) (each i.0 i.1)
+
+-- ---- rows that agree on a set
+
+pub agree_test : (s first second : NameSet) (found : Option ℕ) (r : Bool) →
+    IfSome found (IsLeastFrom (intersection s (told_apart first second)) 0) → IfNone found (NoneFrom (intersection s (told_apart first second)) 0) →
+    is_some found ≡ not r → (r ≡ true) ↔ ((y : ℕ) → Has s y → contains first y ≡ contains second y)
+agree_test s first second (Some least) r some none is = (
+  λ t. clash t (not-true r (sym is)),
+  λ agree.
+      let two = of_meet s (told_apart first second) least some.member in
+      elim (of_union _ _ least two.1) [
+        | inl a ↦ (let l = of_minus first second least a in clash (sym (agree least two.0) ∙ l.0) l.1)
+        | inr b ↦ (let l = of_minus second first least b in clash (agree least two.0 ∙ l.0) l.1)
+      ],
+)
+agree_test s first second None r some none is = (
+  λ t y h. both_ways (contains first y) (contains second y)
+      (λ f. elim (cases_Bool (contains second y)) [
+        | inl g ↦ g
+        | inr l ↦ clash (meet_has s (told_apart first second) y h (union_left _ _ y (minus_has first second y f l))) (none_lacks _ none y)
+      ])
+      (λ g. elim (cases_Bool (contains first y)) [
+        | inl f ↦ f
+        | inr l ↦ clash (meet_has s (told_apart first second) y h (union_right _ _ y (minus_has second first y g l))) (none_lacks _ none y)
+      ]),
+  λ agree. not-false r (sym is),
+)
+
+-- the same of the rows of two vertices
+pub neighbours_agree : {g : PlainGraph} → IsGraph g → (v w : ℕ) (others first second : NameSet) → first ≡ neighbours g v → second ≡ neighbours g w →
+    ((y : ℕ) → Has others y → contains first y ≡ contains second y) ↔ ((y : ℕ) → Has others y → adjacent g v y ≡ adjacent g w y)
+neighbours_agree graph v w others first second is_first is_second = (
+  λ agree y h. sym (ap (λ s. contains s y) is_first ∙ contains-neighbours graph v y) ∙ agree y h ∙ ap (λ s. contains s y) is_second ∙ contains-neighbours graph w y,
+  λ alike y h. ap (λ s. contains s y) is_first ∙ contains-neighbours graph v y ∙ alike y h ∙ sym (ap (λ s. contains s y) is_second ∙ contains-neighbours graph w y),
+)
+
+pub alike_more : (g : PlainGraph) (others : NameSet) (list : List ℕ) (n : ℕ) →
+    ((i y : ℕ) → i < n → Has others y → adjacent g (get_or list 0 0) y ≡ adjacent g (get_or list i 0) y) →
+    ((y : ℕ) → Has others y → adjacent g (get_or list 0 0) y ≡ adjacent g (get_or list n 0) y) →
+    (i y : ℕ) → i < n + 1 → Has others y → adjacent g (get_or list 0 0) y ≡ adjacent g (get_or list i 0) y
+alike_more g others list n so here i y below h = elim (cases_eq i n) [
+  | inl same ↦ subst (λ k. adjacent g (get_or list 0 0) y ≡ adjacent g (get_or list k 0) y) (sym same) (here y h)
+  | inr differ ↦ (let less : i < n = omega arith in so i y less h)
+]
+
+-- ---- the pairs that are listed
+
+lists-push : (ps : List Pair) (p : Pair) (i j : ℕ) → lists_pair (ps ++ p ∷ []) i j ≡ (lists_pair ps i j || (eqb p.low i && eqb p.high j))
+lists-push [] p i j = or_false (eqb p.low i && eqb p.high j)
+  where
+    or_false : (b : Bool) → (b || false) ≡ b
+    or_false true = refl
+    or_false false = refl
+lists-push (q ∷ ps) p i j = ap (λ b. (eqb q.low i && eqb q.high j) || b) (lists-push ps p i j) ∙ or_three (eqb q.low i && eqb q.high j) (lists_pair ps i j) (eqb p.low i && eqb p.high j)
+  where
+    or_three : (a b c : Bool) → (a || (b || c)) ≡ ((a || b) || c)
+    or_three true b c = refl
+    or_three false b c = refl
+
+-- the rows have, of the names of the list, those that the pairs list
+abbrev pub HaveListed : List ℕ → List NameSet → List Pair → Type 0
+HaveListed list rows ps = (i j : ℕ) → i < length list → j < length list → contains (row_of rows i) (get_or list j 0) ≡ lists_pair ps i j
+
+pub none_listed : (list : List ℕ) (rows : List NameSet) (n : ℕ) (none : NameSet) → none ≡ empty → rows ≡ replicate n none → n ≡ length list → HaveListed list rows []
+none_listed list rows n none is made size i j bi bj =
+    let below : i < n = omega arith in
+    ap (λ r. contains (row_of r i) (get_or list j 0)) made ∙ ap (λ s. contains s (get_or list j 0)) (get_or-replicate n i none empty below ∙ is) ∙ empty_lacks (get_or list j 0)
+
+pub none_joined : (list : List ℕ) (rows : List NameSet) (n : ℕ) (none : NameSet) → none ≡ empty → rows ≡ replicate n none → n ≡ length list → (i j : ℕ) → i < j → j < length list →
+    contains (row_of rows i) (get_or list j 0) ≡ false
+none_joined list rows n none is made size i j less below = none_listed list rows n none is made size i j (omega arith) below
+
+pub more_listed : (list : List ℕ) (rows : List NameSet) (ps : List Pair) (n : ℕ) (p d : Pair) (old new s : NameSet) → AreHeads s ps list → length rows ≡ length list → n < length ps →
+    p ≡ get_or ps n d → old ≡ get_or rows p.low old → new ≡ insert old (get_or list p.high 0) → HaveListed list rows (take n ps) → HaveListed list (set rows p.low new) (take (n + 1) ps)
+more_listed list rows ps n p d old new s heads size below item is_old made so i j bi bj =
+    contains-set_row rows p.low new i (get_or list j 0) low ∙ elim (cases_eq i p.low) [
+      | inl same ↦ ap (λ b. cond b (contains new (get_or list j 0)) (contains (row_of rows i) (get_or list j 0))) (eq-eqb i p.low same) ∙ here same ∙ sym listed
+      | inr differ ↦
+          ap (λ b. cond b (contains new (get_or list j 0)) (contains (row_of rows i) (get_or list j 0))) (false_from_ne_true (eqb i p.low) (λ h. differ (eqb-true i p.low h)))
+          ∙ so i j bi bj ∙ sym (or_right_false (lists_pair (take n ps) i j) (eqb p.low i && eqb p.high j) (not_both differ)) ∙ sym listed
+    ]
+  where
+    bounds : (p.low < length list) × (p.high < length list)
+    bounds = subst (λ q. (q.low < length list) × (q.high < length list)) (sym item) (heads.positions n d below)
+
+    low : p.low < length rows
+    low = let b : p.low < length list = bounds.0 in omega arith
+
+    listed : lists_pair (take (n + 1) ps) i j ≡ (lists_pair (take n ps) i j || (eqb p.low i && eqb p.high j))
+    listed = ap (λ l. lists_pair l i j) (take_more ps n d below ∙ ap (λ q. take n ps ++ q ∷ []) (sym item)) ∙ lists-push (take n ps) p i j
+
+    or_right_false : (a b : Bool) → b ≡ false → (a || b) ≡ a
+    or_right_false true b f = refl
+    or_right_false false b f = f
+
+    not_both : i ≢ p.low → (eqb p.low i && eqb p.high j) ≡ false
+    not_both differ = false_from_ne_true _ (λ h. differ (sym (eqb-true p.low i (and_parts (eqb p.low i) (eqb p.high j) h).0)))
+
+    row_there : i ≡ p.low → row_of rows i ≡ old
+    row_there same = ap (row_of rows) same ∙ get_or_default rows p.low empty old low ∙ sym is_old
+
+    one_position : get_or list j 0 ≡ get_or list p.high 0 → j ≡ p.high
+    one_position same = elim (same_name j p.high) [
+      | inl is ↦ is
+      | inr differ ↦ elim (ascending_or_not j p.high differ) [
+        | inl less ↦ (let l = heads.ascending j p.high less bounds.1 in absurd (omega arith))
+        | inr more ↦ (let l = heads.ascending p.high j more bj in absurd (omega arith))
+      ]
+    ]
+
+    here : i ≡ p.low → contains new (get_or list j 0) ≡ (lists_pair (take n ps) i j || (eqb p.low i && eqb p.high j))
+    here same = both_ways (contains new (get_or list j 0)) (lists_pair (take n ps) i j || (eqb p.low i && eqb p.high j))
+        (λ h. elim (of_insert old (get_or list p.high 0) (get_or list j 0) (Has-along new _ made (get_or list j 0) h)) [
+          | inl e ↦ or_right _ _ (and_from _ _ (eq-eqb p.low i (sym same)) (eq-eqb p.high j (sym (one_position e))))
+          | inr o ↦ or_left _ _ (sym (so i j bi bj) ∙ Has-along old (row_of rows i) (sym (row_there same)) (get_or list j 0) o)
+        ])
+        (λ h. Has-along _ new (sym made) (get_or list j 0) (elim (or_cases (lists_pair (take n ps) i j) (eqb p.low i && eqb p.high j) h) [
+          | inl a ↦ insert_old old (get_or list p.high 0) (get_or list j 0) (Has-along (row_of rows i) old (row_there same) (get_or list j 0) (so i j bi bj ∙ a))
+          | inr b ↦ subst (Has (insert old (get_or list p.high 0))) (ap (λ k. get_or list k 0) (eqb-true p.high j (and_parts (eqb p.low i) (eqb p.high j) b).1)) (insert_new old (get_or list p.high 0))
+        ]))
+
+-- ---- names that are joined as their rows say
+
+-- the names from a position on are adjacent to those later ones that their rows have
+abbrev pub AreJoinedFrom : ℕ → PlainGraph → List ℕ → List NameSet → Type 0
+AreJoinedFrom at_least g list rows =
+    (i j : ℕ) → at_least ≤ i → i < j → j < length list → adjacent g (get_or list i 0) (get_or list j 0) ≡ contains (row_of rows i) (get_or list j 0)
+
+abbrev pub AgreesAt : ℕ → PlainGraph → List ℕ → List NameSet → Type 0
+AgreesAt n g list rows =
+    (j : ℕ) → n < j → j < length list → adjacent g (get_or list n 0) (get_or list j 0) ≡ contains (row_of rows n) (get_or list j 0)
+
+pub later_more : (list : List ℕ) (n m : ℕ) (later new : NameSet) → n < length list → m ≡ n + 1 → later ≡ name_set (drop m list) → new ≡ insert later (get_or list n 0) → new ≡ name_set (drop n list)
+later_more list n m later new below next so made =
+    made ∙ ap (λ s. insert s (get_or list n 0)) (so ∙ ap (λ k. name_set (drop k list)) next) ∙ ap name_set (sym (drop_more list n 0 below))
+
+module _ {g : PlainGraph} (graph : IsGraph g) (list : List ℕ) (rows : List NameSet) (n : ℕ) (below : n < length list) (later first row : NameSet) (so : later ≡ name_set (drop (n + 1) list))
+    (is_first : first ≡ neighbours g (get_or list n 0)) (is_row : row ≡ row_of rows n) where
+  pub agreed_at : ((y : ℕ) → Has later y → contains first y ≡ contains row y) → AgreesAt n g list rows
+  agreed_at agree j less bound =
+      let size : length (drop (n + 1) list) ≡ length list - (n + 1) = length-drop (n + 1) list in
+      let sum : (n + 1) + (j - (n + 1)) ≡ j = omega arith in
+      let here : Has later (get_or list j 0) = Has-along (name_set (drop (n + 1) list)) later (sym so) (get_or list j 0)
+      (subst (Has (name_set (drop (n + 1) list))) (get_or-drop (n + 1) list (j - (n + 1)) 0 ∙ ap (λ i. get_or list i 0) sum) (in_name_set (drop (n + 1) list) (j - (n + 1)) (omega arith))) in
+      sym (contains-neighbours graph (get_or list n 0) (get_or list j 0)) ∙ ap (λ s. contains s (get_or list j 0)) (sym is_first) ∙ agree (get_or list j 0) here ∙ ap (λ s. contains s (get_or list j 0)) is_row
+
+  pub agree_if : AgreesAt n g list rows → (y : ℕ) → Has later y → contains first y ≡ contains row y
+  agree_if each y h =
+      let size : length (drop (n + 1) list) ≡ length list - (n + 1) = length-drop (n + 1) list in
+      let k : (i : ℕ) × (i < length (drop (n + 1) list)) × (y ≡ get_or (drop (n + 1) list) i 0) = of_name_set (drop (n + 1) list) y (Has-along later (name_set (drop (n + 1) list)) so y h) in
+      let b : k.0 < length (drop (n + 1) list) = k.1 in
+      let is : y ≡ get_or list ((n + 1) + k.0) 0 = k.2 ∙ get_or-drop (n + 1) list k.0 0 in
+      ap (λ s. contains s y) is_first ∙ contains-neighbours graph (get_or list n 0) y ∙ ap (adjacent g (get_or list n 0)) is
+      ∙ each ((n + 1) + k.0) (omega arith) (omega arith) ∙ ap (contains (row_of rows n)) (sym is) ∙ ap (λ s. contains s y) (sym is_row)
+
+pub joined_more : (n m : ℕ) (g : PlainGraph) (list : List ℕ) (rows : List NameSet) → m ≡ n + 1 → AreJoinedFrom m g list rows → AgreesAt n g list rows → AreJoinedFrom n g list rows
+joined_more n m g list rows next so here i j from less below = elim (cases_eq i n) [
+  | inl same ↦
+      let l : n < j = omega arith in
+      subst (λ k. adjacent g (get_or list k 0) (get_or list j 0) ≡ contains (row_of rows k) (get_or list j 0)) (sym same) (here j l below)
+  | inr differ ↦ (let more : m ≤ i = omega arith in so i j more less below)
+]
+
+-- one position back
+pub one_back : (m : ℕ) → 0 < m → m ≡ (m - 1) + 1
+one_back m some = omega arith
+
+pub back_below : (m size : ℕ) → 0 < m → m ≤ size → m - 1 < size
+back_below m size some within = omega arith
+
+pub row_at : (rows : List NameSet) (n : ℕ) (row : NameSet) → n < length rows → row ≡ get_or rows n row → row ≡ row_of rows n
+row_at rows n row below is = is ∙ get_or_default rows n row empty below

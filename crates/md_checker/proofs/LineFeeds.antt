@@ -1,0 +1,119 @@
+-- No line's text has a line feed, so that lines are cut out of a text in one way.
+use Rattle.std.proofs.Common.{◌≡◌, ◌≢◌, ℕ, List, [], ◌∷◌, ◌++◌, Option, None, Some, codes, inl, sym, ◌∙◌, refl, arith, append_assoc}
+use Rattle.md_text.specs.Numbers.{decimal}
+use Rattle.md_forcing.specs.declared.arc.Arc.{Arc}
+use Rattle.md_tree.specs.declared.Kind.{Kind}
+use Rattle.md_tree.specs.declared.Kind.TheVariants.{Parallel, Series, Prime}
+use Rattle.md_tree.specs.declared.Pair.{Pair}
+use Rattle.md_tree.specs.Trees.{PlainTree, leaf, node, PlainTrees, no_tree, one_more}
+use Rattle.md_tree.specs.TreeTexts.{letter, pairs_text, tree_text, row_text, text_of}
+use Rattle.md_script.specs.declared.edit.EditReason.{EditReason}
+use Rattle.md_script.specs.declared.edit.EditReason.TheVariants.{Same, NoVertex, NameTaken, EdgeThere, EdgeAbsent}
+use Rattle.md_report.specs.declared.line.Mode.{Mode}
+use Rattle.md_report.specs.declared.line.Mode.TheVariants as modes
+use Rattle.md_report.specs.Cuts.{LacksByte}
+use Rattle.md_report.specs.Lines.{PlainLine, mode_word, reason_words, names_text, arc_text, arcs_text, line_text, fed_line, head, tree, applied, refused, refused_p4, not_cograph, oriented, forced, orders, forced_in, forced_in_complement, end}
+use Rattle.md_report.proofs.Cutting.{one_cut, lacks_when, lacks_append}
+use Rattle.md_report.proofs.Named.{lacks_number, lacks_arc}
+use Rattle.md_report.proofs.OneLine.{one_line_proof}
+
+no_feed : (v : ℕ) → LacksByte 10 (decimal v)
+no_feed v = lacks_number 10 v (inl (omega arith))
+
+lacks_pairs : (mark : ℕ) (ps : List Pair) → mark ≢ 10 → LacksByte 10 (pairs_text mark ps)
+lacks_pairs mark [] other = tt
+lacks_pairs mark (p ∷ ps) other =
+    let rest : LacksByte 10 (pairs_text 44 ps) = lacks_pairs 44 ps (λ e. omega arith) in (
+      other,
+      lacks_append 10 (decimal p.low) (45 ∷ (decimal p.high ++ pairs_text 44 ps)) (no_feed p.low)
+          ((λ e. omega arith), lacks_append 10 (decimal p.high) (pairs_text 44 ps) (no_feed p.high) rest),
+    )
+
+other_letter : (k : Kind) → letter k ≢ 10
+other_letter Parallel e = omega arith
+other_letter Series e = omega arith
+other_letter Prime e = omega arith
+
+mutual
+  lacks_tree : (t : PlainTree) → LacksByte 10 (tree_text t)
+  lacks_tree (leaf v) = no_feed v
+  lacks_tree (node k cs ps) = (
+    other_letter k,
+    lacks_append 10 (row_text 40 cs) (pairs_text 59 ps ++ 41 ∷ []) (lacks_row 40 cs (λ e. omega arith))
+        (lacks_append 10 (pairs_text 59 ps) (41 ∷ []) (lacks_pairs 59 ps (λ e. omega arith)) ((λ e. omega arith), tt)),
+  )
+
+  lacks_row : (mark : ℕ) (ts : PlainTrees) → mark ≢ 10 → LacksByte 10 (row_text mark ts)
+  lacks_row mark no_tree other = tt
+  lacks_row mark (one_more t ts) other = (other, lacks_append 10 (tree_text t) (row_text 44 ts) (lacks_tree t) (lacks_row 44 ts (λ e. omega arith)))
+
+lacks_option : (o : Option PlainTree) → LacksByte 10 (text_of o)
+lacks_option None = lacks_when 10 (codes "empty") refl
+lacks_option (Some t) = lacks_tree t
+
+lacks_mode : (m : Mode) → LacksByte 10 (mode_word m)
+lacks_mode modes.Tree = lacks_when 10 (codes "tree") refl
+lacks_mode modes.Edit = lacks_when 10 (codes "edit") refl
+lacks_mode modes.Cograph = lacks_when 10 (codes "cograph") refl
+lacks_mode modes.Compare = lacks_when 10 (codes "compare") refl
+lacks_mode modes.Permute = lacks_when 10 (codes "permute") refl
+
+lacks_reason : (r : EditReason) → LacksByte 10 (reason_words r)
+lacks_reason Same = lacks_when 10 (codes "same") refl
+lacks_reason (NoVertex v) = lacks_append 10 (codes "vertex ") (decimal v) (lacks_when 10 (codes "vertex ") refl) (no_feed v)
+lacks_reason (NameTaken v) = lacks_append 10 (codes "taken ") (decimal v) (lacks_when 10 (codes "taken ") refl) (no_feed v)
+lacks_reason EdgeThere = lacks_when 10 (codes "edge-there") refl
+lacks_reason EdgeAbsent = lacks_when 10 (codes "edge-absent") refl
+
+lacks_arcs : (arcs : List Arc) → LacksByte 10 (arcs_text arcs)
+lacks_arcs [] = tt
+lacks_arcs (a ∷ arcs) = ((λ e. omega arith), lacks_append 10 (arc_text a) (arcs_text arcs) (lacks_arc 10 a (omega arith)) (lacks_arcs arcs))
+
+lacks_names : (names : List ℕ) → LacksByte 10 (names_text names)
+lacks_names [] = tt
+lacks_names (v ∷ names) = ((λ e. omega arith), lacks_append 10 (decimal v) (names_text names) (no_feed v) (lacks_names names))
+
+lacks_line : (line : PlainLine) → LacksByte 10 (line_text line)
+lacks_line (head m) = lacks_append 10 (codes "mdt ") (mode_word m) (lacks_when 10 (codes "mdt ") refl) (lacks_mode m)
+lacks_line (tree t) = lacks_append 10 (codes "t ") (text_of t) (lacks_when 10 (codes "t ") refl) (lacks_option t)
+lacks_line (applied t) = lacks_append 10 (codes "ok ") (text_of t) (lacks_when 10 (codes "ok ") refl) (lacks_option t)
+lacks_line (refused r) = lacks_append 10 (codes "no ") (reason_words r) (lacks_when 10 (codes "no ") refl) (lacks_reason r)
+lacks_line (refused_p4 p) =
+    lacks_append 10 (codes "no p4") (names_text (p.a ∷ p.b ∷ p.c ∷ p.d ∷ [])) (lacks_when 10 (codes "no p4") refl) (lacks_names (p.a ∷ p.b ∷ p.c ∷ p.d ∷ []))
+lacks_line (not_cograph p) =
+    lacks_append 10 (codes "p4") (names_text (p.a ∷ p.b ∷ p.c ∷ p.d ∷ [])) (lacks_when 10 (codes "p4") refl) (lacks_names (p.a ∷ p.b ∷ p.c ∷ p.d ∷ []))
+lacks_line (oriented arcs) = lacks_append 10 (codes "yes") (arcs_text arcs) (lacks_when 10 (codes "yes") refl) (lacks_arcs arcs)
+lacks_line (forced chain) = lacks_append 10 (codes "no") (arcs_text chain) (lacks_when 10 (codes "no") refl) (lacks_arcs chain)
+lacks_line (orders first second) =
+    lacks_append 10 (codes "yes") (names_text first ++ (codes " /" ++ names_text second)) (lacks_when 10 (codes "yes") refl)
+    (lacks_append 10 (names_text first) (codes " /" ++ names_text second) (lacks_names first)
+    (lacks_append 10 (codes " /") (names_text second) (lacks_when 10 (codes " /") refl) (lacks_names second)))
+lacks_line (forced_in chain) = lacks_append 10 (codes "no g") (arcs_text chain) (lacks_when 10 (codes "no g") refl) (lacks_arcs chain)
+lacks_line (forced_in_complement chain) = lacks_append 10 (codes "no c") (arcs_text chain) (lacks_when 10 (codes "no c") refl) (lacks_arcs chain)
+lacks_line end = lacks_when 10 (codes "end") refl
+
+fed_front : (line : PlainLine) (r : List ℕ) → fed_line line ++ r ≡ line_text line ++ 10 ∷ r
+fed_front line r = append_assoc (line_text line) (10 ∷ []) r
+
+-- of two texts that begin with a line and its line feed, the lines and what stands behind them are the same where the
+-- texts are
+pub first_line : (k l : PlainLine) (r s : List ℕ) → fed_line k ++ r ≡ fed_line l ++ s → (k ≡ l) × (r ≡ s)
+first_line k l r s e =
+    let i : (line_text k ≡ line_text l) × (10 ∷ r ≡ 10 ∷ s) =
+    one_cut 10 (line_text k) (line_text l) (10 ∷ r) (10 ∷ s) (lacks_line k) (lacks_line l) refl refl (sym (fed_front k r) ∙ e ∙ fed_front l s) in
+    let f : 10 ∷ r ≡ 10 ∷ s = i.1 in
+    (one_line_proof k l i.0, cc)
+
+-- what stands before the first line feed of a text that begins with a line is that line's text
+pub line_before : (line : PlainLine) (r text behind : List ℕ) → LacksByte 10 text → text ++ 10 ∷ behind ≡ fed_line line ++ r → text ≡ line_text line
+line_before line r text behind lacks e =
+    (one_cut 10 text (line_text line) (10 ∷ behind) (10 ∷ r) lacks (lacks_line line) refl refl (e ∙ fed_front line r)).0
+
+-- a text without line feed begins with no line
+pub no_line : (line : PlainLine) (r text : List ℕ) → LacksByte 10 text → text ≢ fed_line line ++ r
+no_line line r text lacks e = has (line_text line) text lacks (e ∙ fed_front line r) where
+  has : (xs text : List ℕ) → LacksByte 10 text → text ≡ xs ++ 10 ∷ r → ⊥
+  has [] [] lacks e = let f : [] ≡ 10 ∷ r = e in cc
+  has [] (y ∷ text) lacks e = let f : y ∷ text ≡ 10 ∷ r = e in lacks.0 (cc)
+  has (x ∷ xs) [] lacks e = let f : [] ≡ x ∷ (xs ++ 10 ∷ r) = e in cc
+  has (x ∷ xs) (y ∷ text) lacks e = let f : y ∷ text ≡ x ∷ (xs ++ 10 ∷ r) = e in has xs text lacks.1 (cc)

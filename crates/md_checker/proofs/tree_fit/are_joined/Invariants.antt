@@ -1,0 +1,14 @@
+use Rattle.std.proofs.Common.{◌≡◌, ◌≤◌, length, drop}
+use Rattle.md_checker.specs.FitTests.{name_set}
+use Rattle.md_checker.proofs.FitRows.{AreJoinedFrom}
+use Rattle.md_checker.proofs.tree_fit.are_joined.Given as goal
+
+abbrev pub invariant-loop-at : goal.invariant-loop-at
+invariant-loop-at l = record {
+  within : l.at ≤ length l.list;
+  later : l.later ≡ name_set (drop l.at l.list);
+  joined : AreJoinedFrom l.at l.graph l.list l.rows;
+}
+
+abbrev pub decreases-loop-at : goal.decreases-loop-at
+decreases-loop-at l = l.at

@@ -1,0 +1,28 @@
+use Rattle.std.proofs.Common.{get_or, sym, ◌∙◌, ap, subst}
+use Rattle.std.specs.FinSet.{contains, difference}
+use Rattle.md_graph.specs.PlainGraph.{adjacent}
+use Rattle.md_graph.specs.Rows.{row_of}
+use Rattle.md_graph.specs.Sets.{Within}
+use Rattle.md_modules.specs.Modules.{HasTrivialModulesAlone}
+use Rattle.md_tree.proofs.Stacking.{if_ok}
+use Rattle.md_checker.specs.FitTests.{AreAlike}
+use Rattle.md_checker.proofs.FitRows.{name_set_within}
+use Rattle.md_checker.proofs.tree_fit.is_fit.Goals as goal
+
+pub has_trivial_modules_alone-requires : goal.has_trivial_modules_alone-requires
+has_trivial_modules_alone-requires c =
+    subst (λ s. Within s c.args.graph.now.vertices) (sym c.set_of.ensures) (name_set_within c.args.graph.now.vertices c.args.heads.now c.requires.vertices)
+
+pub returns : goal.returns
+returns c =
+    let others = c.minus-others.ensures ∙ ap (λ s. difference s c.args.names.now) c.vertices.ensures.set in
+    if_ok c.has_trivial_modules_alone.result
+    (λ fit same. (
+      λ t. record {
+        alike = subst (λ s. AreAlike (adjacent c.args.graph.now) s c.args.heads.now) others (c.are_alike.ensures.0 c.if-not-are_alike.false);
+        joined = λ i j less below. c.are_joined.ensures.0 c.if-not-are_joined.false i j less below ∙ ap (λ rows. contains (row_of rows i) (get_or c.args.heads.now j 0)) c.deref.ensures.value ∙ c.in_ok-rows.ensures.joined i j less below;
+        trivial = λ prime. subst (HasTrivialModulesAlone (adjacent c.args.graph.now)) c.set_of.ensures (same.0 t);
+      },
+      λ is. same.1 (subst (HasTrivialModulesAlone (adjacent c.args.graph.now)) (sym c.set_of.ensures) (is.trivial c.in-Prime.is)),
+    ))
+    c.has_trivial_modules_alone.ensures

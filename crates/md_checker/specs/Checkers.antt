@@ -1,0 +1,10 @@
+-- The place of a report at which a checker stands, whatever the report is about.
+-- Source: this project's own format of reports.
+use Rattle.md_report.specs.Places.{Place}
+use Rattle.md_checker.specs.declared.checker.Inner.{Inner}
+use Rattle.md_checker.specs.declared.checker.Inner.TheVariants.{OverGraphs, OverSession}
+
+-- the place of the checker inside
+abbrev pub place_of : Inner → Place
+place_of (OverGraphs p) = p
+place_of (OverSession p) = p

@@ -1,0 +1,122 @@
+-- The code of a place, by which proofs tell places apart: a sum of the parts of each variant.
+-- Source: this project's own format of reports.
+use Rattle.std.specs.Prelude.{◌≡◌, ◌⊎◌, ℕ, zero, suc, List, refl}
+use Rattle.std.specs.Coded.{Coded, code_by, coded_ℕ, coded_list, coded×, coded⊎}
+use Rattle.std.proofs.Common.{inl, inr}
+use base.Stored.{coded_unit}
+use Rattle.md_graph.specs.PlainGraph.{PlainGraph, graph_code}
+use Rattle.md_script.specs.declared.edit.Edit as script
+use Rattle.md_script.specs.declared.edit.Edit.TheVariants.{AddEdge, DelEdge, AddVertex, DelVertex}
+use Rattle.md_report.specs.declared.line.GraphMode.{GraphMode}
+use Rattle.md_report.specs.declared.line.GraphMode.TheVariants.{Tree, Compare, Permute}
+use Rattle.md_report.specs.declared.line.SessionMode.{SessionMode}
+use Rattle.md_report.specs.declared.line.SessionMode.TheVariants.{Edit, Cograph}
+use Rattle.md_report.specs.Places.{Place, before_head, at_graphs, before_session, at_state, at_edits, after_end}
+
+-- a mode over graphs as a number, and back
+abbrev pub graph_mode_number : GraphMode → ℕ
+graph_mode_number Tree = 0
+graph_mode_number Compare = 1
+graph_mode_number Permute = 2
+
+abbrev pub graph_mode_at : ℕ → GraphMode
+graph_mode_at zero = Tree
+graph_mode_at (suc zero) = Compare
+graph_mode_at (suc (suc n)) = Permute
+
+pub graph_mode_back : (mode : GraphMode) → graph_mode_at (graph_mode_number mode) ≡ mode
+graph_mode_back Tree = refl
+graph_mode_back Compare = refl
+graph_mode_back Permute = refl
+
+abbrev pub graph_mode_code : Coded GraphMode
+graph_mode_code = code_by ℕ coded_ℕ graph_mode_number graph_mode_at graph_mode_back
+
+-- a mode of a session as a number, and back
+abbrev pub session_mode_number : SessionMode → ℕ
+session_mode_number Edit = 0
+session_mode_number Cograph = 1
+
+abbrev pub session_mode_at : ℕ → SessionMode
+session_mode_at zero = Edit
+session_mode_at (suc n) = Cograph
+
+pub session_mode_back : (mode : SessionMode) → session_mode_at (session_mode_number mode) ≡ mode
+session_mode_back Edit = refl
+session_mode_back Cograph = refl
+
+abbrev pub session_mode_code : Coded SessionMode
+session_mode_code = code_by ℕ coded_ℕ session_mode_number session_mode_at session_mode_back
+
+-- an edit by its parts, and back
+abbrev pub EditParts : Type 0
+EditParts = (ℕ × ℕ) ⊎ ((ℕ × ℕ) ⊎ ((ℕ × List ℕ) ⊎ ℕ))
+
+abbrev pub edit_parts : script.Edit → EditParts
+edit_parts (AddEdge u v) = inl (u, v)
+edit_parts (DelEdge u v) = inr (inl (u, v))
+edit_parts (AddVertex x neighbours) = inr (inr (inl (x, neighbours)))
+edit_parts (DelVertex x) = inr (inr (inr x))
+
+abbrev pub edit_of : EditParts → script.Edit
+edit_of (inl p) = AddEdge p.0 p.1
+edit_of (inr (inl p)) = DelEdge p.0 p.1
+edit_of (inr (inr (inl p))) = AddVertex p.0 p.1
+edit_of (inr (inr (inr x))) = DelVertex x
+
+pub edit_back : (edit : script.Edit) → edit_of (edit_parts edit) ≡ edit
+edit_back (AddEdge u v) = refl
+edit_back (DelEdge u v) = refl
+edit_back (AddVertex x neighbours) = refl
+edit_back (DelVertex x) = refl
+
+abbrev pub edit_code : Coded script.Edit
+edit_code =
+    code_by EditParts (coded⊎ (coded× coded_ℕ coded_ℕ) (coded⊎ (coded× coded_ℕ coded_ℕ) (coded⊎ (coded× coded_ℕ (coded_list coded_ℕ)) coded_ℕ)))
+    edit_parts edit_of edit_back
+
+-- what is left of a report over graphs, and of a session
+abbrev pub GraphParts : Type 0
+GraphParts = GraphMode × List PlainGraph
+
+abbrev pub graph_parts_code : Coded GraphParts
+graph_parts_code = coded× graph_mode_code (coded_list graph_code)
+
+abbrev pub SessionParts : Type 0
+SessionParts = SessionMode × (PlainGraph × List script.Edit)
+
+abbrev pub session_parts_code : Coded SessionParts
+session_parts_code = coded× session_mode_code (coded× graph_code (coded_list edit_code))
+
+-- a place by its parts, and back
+abbrev pub PlaceParts : Type 0
+PlaceParts = GraphParts ⊎ (GraphParts ⊎ (SessionParts ⊎ (SessionParts ⊎ (SessionParts ⊎ Unit {0}))))
+
+abbrev pub place_parts : Place → PlaceParts
+place_parts (before_head mode graphs) = inl (mode, graphs)
+place_parts (at_graphs mode graphs) = inr (inl (mode, graphs))
+place_parts (before_session mode g edits) = inr (inr (inl (mode, (g, edits))))
+place_parts (at_state mode g edits) = inr (inr (inr (inl (mode, (g, edits)))))
+place_parts (at_edits mode g edits) = inr (inr (inr (inr (inl (mode, (g, edits))))))
+place_parts after_end = inr (inr (inr (inr (inr tt))))
+
+abbrev pub place_of_parts : PlaceParts → Place
+place_of_parts (inl p) = before_head p.0 p.1
+place_of_parts (inr (inl p)) = at_graphs p.0 p.1
+place_of_parts (inr (inr (inl p))) = before_session p.0 p.1.0 p.1.1
+place_of_parts (inr (inr (inr (inl p)))) = at_state p.0 p.1.0 p.1.1
+place_of_parts (inr (inr (inr (inr (inl p))))) = at_edits p.0 p.1.0 p.1.1
+place_of_parts (inr (inr (inr (inr (inr _))))) = after_end
+
+pub place_back : (p : Place) → place_of_parts (place_parts p) ≡ p
+place_back (before_head mode graphs) = refl
+place_back (at_graphs mode graphs) = refl
+place_back (before_session mode g edits) = refl
+place_back (at_state mode g edits) = refl
+place_back (at_edits mode g edits) = refl
+place_back after_end = refl
+
+abbrev pub place_code : Coded Place
+place_code =
+    code_by PlaceParts (coded⊎ graph_parts_code (coded⊎ graph_parts_code (coded⊎ session_parts_code (coded⊎ session_parts_code (coded⊎ session_parts_code coded_unit)))))
+    place_parts place_of_parts place_back

@@ -1,0 +1,81 @@
+-- What the test of a given tree looks at, node by node, and what it keeps of the trees that it has gone through.
+-- Source: our own; the parts of a tree are put on a stack, as prefix notation is read from right to left.
+use Rattle.std.specs.Prelude.{◌≡◌, ◌<◌, ℕ, Bool, true, false, List, [], ◌∷◌, length, get_or, map, ⊤}
+use Rattle.std.specs.FinSet.{empty, insert, union, difference}
+use Rattle.md_graph.specs.PlainGraph.{PlainGraph, adjacent}
+use Rattle.md_graph.specs.Sets.{NameSet, Has, Within, only_name}
+use Rattle.md_modules.specs.Modules.{HasTrivialModulesAlone}
+use Rattle.md_tree.specs.declared.Kind.{Kind}
+use Rattle.md_tree.specs.declared.Kind.TheVariants.{Prime}
+use Rattle.md_tree.specs.declared.Pair.{Pair}
+use Rattle.md_tree.specs.Parts.{PlainPart}
+use Rattle.md_tree.specs.Stacks.{with_part, HasChildrenOf}
+use Rattle.md_tree.specs.TreeGraph.{joins}
+use Rattle.md_tree.specs.Trees.{PlainTree, names, names_below, row, EachNodeBelow}
+use Rattle.md_tree.specs.WellFormed.{IsCanonicalNode}
+use Rattle.md_checker.specs.Fits.{head, IsFitNode}
+
+-- the set has one member
+abbrev pub IsSingle : NameSet → Type 0
+IsSingle s = (v : ℕ) × (s ≡ only_name v)
+
+-- each of the sets has one member
+abbrev pub AreSingle : List NameSet → Type 0
+AreSingle [] = ⊤
+AreSingle (s ∷ rest) = IsSingle s × AreSingle rest
+
+-- the set of the names of a list
+abbrev pub name_set : List ℕ → NameSet
+name_set [] = empty
+name_set (v ∷ rest) = insert (name_set rest) v
+
+-- the union of sets
+abbrev pub union_all : List NameSet → NameSet
+union_all [] = empty
+union_all (s ∷ rest) = union s (union_all rest)
+
+-- each of the others is adjacent to all names of the list or to none
+abbrev pub AreAlike : (ℕ → ℕ → Bool) → NameSet → List ℕ → Type 0
+AreAlike e others list = (i y : ℕ) → i < length list → Has others y → e (get_or list 0 0) y ≡ e (get_or list i 0) y
+
+-- two names of the list are adjacent where a node of kind k that lists ps joins their positions
+abbrev pub AreJoined : (ℕ → ℕ → Bool) → Kind → List Pair → List ℕ → Type 0
+AreJoined e k ps list =
+    (i j : ℕ) → i < j → j < length list → e (get_or list i 0) (get_or list j 0) ≡ joins k ps i j
+
+-- what heads of the children of a node are: vertices in ascending order, and the node's pairs are positions of them
+pub record AreHeads (s : NameSet) (ps : List Pair) (list : List ℕ) : Type 0 where
+  pub some : 0 < length list
+  pub vertices : (i : ℕ) → i < length list → Has s (get_or list i 0)
+  pub ascending : (i j : ℕ) → i < j → j < length list → get_or list i 0 < get_or list j 0
+  pub positions : (i : ℕ) (d : Pair) → i < length ps →
+      ((get_or ps i d).low < length list) × ((get_or ps i d).high < length list)
+
+-- a node of kind k with the leaf set m, the pairs ps and these heads fits the graph on s, where its children do
+pub record IsFit (e : ℕ → ℕ → Bool) (s m : NameSet) (k : Kind) (ps : List Pair) (list : List ℕ) : Type 0 where
+  pub alike : AreAlike e (difference s m) list
+  pub joined : AreJoined e k ps list
+  pub trivial : k ≡ Prime → HasTrivialModulesAlone e (name_set list)
+
+-- each node of the trees fits the graph, and their names are its vertices
+pub record AreFit (g : PlainGraph) (ts : List PlainTree) : Type 0 where
+  pub fit : EachNodeBelow (IsFitNode (adjacent g) g.vertices) (row ts)
+  pub within : Within (names_below (row ts)) g.vertices
+
+-- the sets and the heads are those of the trees, which fit the graph
+pub record AreFinished (g : PlainGraph) (sets : List NameSet) (list : List ℕ) (ts : List PlainTree) : Type 0 where
+  pub sets_are : sets ≡ map names ts
+  pub heads_are : list ≡ map head ts
+  pub are_fit : AreFit g ts
+
+-- the part may come next: its children are there, and it is as well-formed trees have it
+pub record MayPut (g : PlainGraph) (sets : List NameSet) (list : List ℕ) (p : PlainPart) (ts : List PlainTree)
+    : Type 0 where
+  pub finished : AreFinished g sets list ts
+  pub has : HasChildrenOf p ts
+  pub canonical : EachNodeBelow IsCanonicalNode (row (with_part p ts))
+
+-- what the test of one more tree came to: it is finished, or doesn't fit
+abbrev pub IsTested : PlainGraph → Bool → List NameSet → List ℕ → List PlainTree → Type 0
+IsTested g true sets list ts = AreFinished g sets list ts
+IsTested g false sets list ts = AreFit g ts → ⊥

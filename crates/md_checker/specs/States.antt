@@ -1,0 +1,20 @@
+-- What may be the state of a session, and what answers an edit that can be applied.
+-- Source: this project's own format of reports.
+use Rattle.std.specs.Prelude.{Option}
+use Rattle.md_graph.specs.PlainGraph.{PlainGraph, adjacent}
+use Rattle.md_modules.specs.declared.induced_paths.P4.{P4}
+use Rattle.md_tree.specs.Trees.{PlainTree}
+use Rattle.md_tree.specs.StrongTrees.{IsTree}
+use Rattle.md_report.specs.declared.line.SessionMode.{SessionMode}
+use Rattle.md_report.specs.declared.line.SessionMode.TheVariants.{Edit, Cograph}
+use Rattle.md_report.specs.Cographs.{IsCograph, IsP4Of}
+
+-- the graph may be a state of a session of the mode, and t is its tree: in mode cograph it is a cograph
+abbrev pub IsStateTree : SessionMode → PlainGraph → Option PlainTree → Type 0
+IsStateTree Edit g t = IsTree (adjacent g) g.vertices t
+IsStateTree Cograph g t = IsCograph g × IsTree (adjacent g) g.vertices t
+
+-- the graph may be no state of a session of the mode, since it has this induced P4
+abbrev pub IsRefusedPath : SessionMode → PlainGraph → P4 → Type 0
+IsRefusedPath Edit g p = ⊥
+IsRefusedPath Cograph g p = IsP4Of g p

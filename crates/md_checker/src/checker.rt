@@ -1,0 +1,158 @@
+//! Checks the lines of a report, one after the other.
+ghost use Rattle.std.specs.Prelude.{◌≡◌, ◌↔◌, List, [], ◌∷◌, None, if◌then◌else◌, IfOk, IfErr, IsErr, IsTrue};
+ghost use Rattle.std.specs.Option.{option_or};
+ghost use Rattle.md_graph.specs.PlainGraph.{PlainGraph};
+ghost use Rattle.md_script.specs.declared.edit.Edit.{Edit};
+ghost use Rattle.md_script.specs.File.{SpellsScript};
+ghost use Rattle.md_input.specs.Spelling.{SpellsGraphs};
+ghost use Rattle.md_input.specs.Faults.{graph_fault, one_graph_fault, script_fault, IsStopAt};
+ghost use Rattle.md_report.specs.Lines.{PlainLine, plain_line, line_text};
+ghost use Rattle.md_report.specs.WellFormedLines.{IsWellFormedLine};
+ghost use Rattle.md_report.specs.Places.{before_head, before_session, after_end, MayCome, next_place};
+ghost use Rattle.md_checker.specs.Checkers.{place_of};
+
+use crate::graph_checker::GraphChecker;
+use crate::session_checker::SessionChecker;
+use md_graph::Memory;
+use md_input::{Format, Graphs, InputStop, one_graph, read_script};
+use md_report::{GraphMode, Line, LineFault, SessionMode, read_line};
+use std::alloc::Global;
+use std::marker::Model;
+
+/// What may still come of a report: it is seen as a place of the report.
+#[derive(Drop)]
+pub struct Checker<'a> {
+    inner: Inner<'a>,
+}
+
+// A checker by what the report is about.
+#[derive(Drop)]
+enum Inner<'a> {
+    // The report is over the graphs of a file.
+    OverGraphs(GraphChecker<'a>),
+    // The report is of a session.
+    OverSession(SessionChecker),
+}
+
+impl<'a> Model for Checker<'a> {
+    ghost use Rattle.md_report.specs.Places.{Place};
+    ghost use Rattle.md_checker.specs.Codes.{place_code};
+
+    ghost Value = { Place };
+
+    ghost coded = { place_code };
+
+    ghost use Rattle.md_report.specs.Laws.{IsSound};
+    ghost use Rattle.md_checker.specs.Checkers.{place_of};
+
+    ghost view = { λ c. place_of c.inner };
+
+    ghost invariant = { λ c. IsSound (place_of c.inner) };
+}
+
+impl<'a> Checker<'a> {
+    /// The checker of a report of a mode over the graphs of a graph file, before its head. The file
+    /// is read whole first. Errors: the first fault of the graph file; want of memory.
+    pub fn over_graphs(
+        alloc: Global,
+        mode: GraphMode,
+        from: Format,
+        file: &'a [u8],
+    ) -> Result<Checker<'a>, InputStop>
+        ensures first { IfOk result (λ c. (graphs : List PlainGraph)
+            × SpellsGraphs from file.now graphs × (c ≡ before_head mode graphs)) }
+        ensures faultless { IfOk result (λ _. graph_fault from file.now ≡ None) }
+        ensures stops { IfErr result (IsStopAt (graph_fault from file.now)) }
+    {
+        let graphs = Graphs::read(alloc, from, file)?;
+        let checker = GraphChecker::new(alloc, mode, graphs)?;
+        Ok(Checker {
+            inner: Inner::OverGraphs(checker),
+        })
+    }
+
+    /// The checker of a report of a session of a mode on the one graph of a graph file, over a
+    /// script, before its head. Both are read whole first. Errors: the first fault of the graph
+    /// file, or its number of graphs, or the first fault of the script; want of memory.
+    pub fn over_session(
+        alloc: Global,
+        mode: SessionMode,
+        from: Format,
+        file: &[u8],
+        script: &[u8],
+    ) -> Result<Checker<'a>, InputStop>
+        ensures first { IfOk result (λ c. (g : PlainGraph) × (edits : List Edit)
+            × SpellsGraphs from file.now (g ∷ []) × SpellsScript script.now edits
+            × (c ≡ before_session mode g edits)) }
+        ensures faultless { IfOk result (λ _.
+            option_or (one_graph_fault from file.now) (script_fault script.now) ≡ None) }
+        ensures stops { IfErr result (IsStopAt
+            (option_or (one_graph_fault from file.now) (script_fault script.now))) }
+    {
+        let graph = one_graph(alloc, from, file)?;
+        let edits = read_script(alloc, script)?;
+        Ok(Checker {
+            inner: Inner::OverSession(SessionChecker::new(mode, graph, edits)),
+        })
+    }
+
+    /// Whether the report is at its end.
+    pub fn complete(&self) -> bool
+        ensures { IsTrue result ↔ self.now ≡ after_end }
+    {
+        match &self.inner {
+            Inner::OverGraphs(checker) => checker.complete(),
+            Inner::OverSession(checker) => checker.complete(),
+        }
+    }
+
+    /// Whether the line may come: it is then taken, and else nothing changes. Condition: the line
+    /// is well-formed. Errors: want of memory; nothing changes then.
+    pub fn feed(&mut self, alloc: Global, line: &Line) -> Result<bool, Memory>
+        requires { IsWellFormedLine (plain_line line.now) }
+        ensures may { IfOk result (λ taken.
+            IsTrue taken ↔ MayCome self.old (plain_line line.now)) }
+        ensures next { IfOk result (λ taken. self.new
+            ≡ (if taken then next_place self.old (plain_line line.now) else self.old)) }
+        ensures stays { IsErr result → self.new ≡ self.old }
+    {
+        self.inner.feed(alloc, line)
+    }
+
+    // Whether a line with this text may come: it is then taken, and else nothing changes. Errors:
+    // want of memory; nothing changes then.
+    pub(crate) fn feed_text(&mut self, alloc: Global, text: &[u8]) -> Result<bool, Memory>
+        ensures may { IfOk result (λ taken. IsTrue taken
+            ↔ ((line : PlainLine) × MayCome self.old line × (text.now ≡ line_text line))) }
+        ensures next { IfOk result (λ taken. IsTrue taken
+            → (line : PlainLine) × MayCome self.old line × (text.now ≡ line_text line)
+            × (self.new ≡ next_place self.old line)) }
+        ensures refused { IfOk result (λ taken. ¬ IsTrue taken → self.new ≡ self.old) }
+        ensures stays { IsErr result → self.new ≡ self.old }
+    {
+        let _inner = &self.inner;
+        match read_line(alloc, text) {
+            Ok(line) => self.feed(alloc, &line),
+            Err(LineFault::Syntax) => Ok(false),
+            Err(LineFault::Memory) => Err(Memory),
+        }
+    }
+}
+
+impl<'a> Inner<'a> {
+    // Whether the line may come; it is then taken, and else nothing changes.
+    fn feed(&mut self, alloc: Global, line: &Line) -> Result<bool, Memory>
+        requires { IsWellFormedLine (plain_line line.now) }
+        ensures may { IfOk result (λ taken.
+            IsTrue taken ↔ MayCome (place_of self.old) (plain_line line.now)) }
+        ensures next { IfOk result (λ taken. place_of self.new
+            ≡ (if taken then next_place (place_of self.old) (plain_line line.now)
+            else place_of self.old)) }
+        ensures stays { IsErr result → place_of self.new ≡ place_of self.old }
+    {
+        match self {
+            Inner::OverGraphs(checker) => checker.feed(alloc, line),
+            Inner::OverSession(checker) => checker.feed(alloc, line),
+        }
+    }
+}

@@ -1,0 +1,112 @@
+//! Checks the lines of a report over graphs, one after the other.
+ghost use Rattle.std.specs.Prelude.{◌≡◌, ◌↔◌, if◌then◌else◌, IfOk, IsErr, IsTrue};
+ghost use Rattle.md_report.specs.Lines.{plain_line};
+ghost use Rattle.md_report.specs.WellFormedLines.{IsWellFormedLine};
+ghost use Rattle.md_report.specs.Places.{before_head, after_end, MayCome, next_place};
+
+use crate::fixed_lines::{is_end, is_head};
+use crate::judgements::reports;
+use md_graph::{Graph, Memory};
+use md_input::Graphs;
+use md_report::{GraphMode, Line};
+use std::alloc::Global;
+use std::marker::Model;
+
+// Which line of a report over graphs is due.
+#[derive(Clone, Copy, Debug, PartialEq, Eq)]
+enum GraphDue {
+    // The head.
+    Head,
+    // The line of the next graph; the last line where no graph is left.
+    Graphs,
+    // None.
+    Nothing,
+}
+
+// What may still come of a report over graphs: it is seen as a place of the report. It keeps the
+// first graph that is left, where `one` says that there is one, and those behind it.
+#[derive(Drop)]
+pub(crate) struct GraphChecker<'a> {
+    mode: GraphMode,
+    due: GraphDue,
+    one: bool,
+    graph: Graph,
+    behind: Graphs<'a>,
+}
+
+impl<'a> Model for GraphChecker<'a> {
+    ghost use Rattle.md_report.specs.Places.{Place};
+    ghost use Rattle.md_checker.specs.Codes.{place_code};
+    ghost use Rattle.md_checker.specs.Standing.{graphs_left, graph_place};
+
+    ghost Value = { Place };
+
+    ghost coded = { place_code };
+
+    ghost view = { λ c. graph_place c.due c.mode (graphs_left c.one c.graph c.behind) };
+}
+
+impl<'a> GraphChecker<'a> {
+    // The checker of a report over these graphs, before its head.
+    pub(crate) fn new(
+        alloc: Global,
+        mode: GraphMode,
+        graphs: Graphs<'a>,
+    ) -> Result<GraphChecker<'a>, Memory>
+        ensures { IfOk result (λ c. c ≡ before_head mode graphs.entry) }
+    {
+        let mut behind = graphs;
+        let mut graph = Graph::new(alloc)?;
+        let one = behind.next(&mut graph);
+        Ok(GraphChecker {
+            mode,
+            due: GraphDue::Head,
+            one,
+            graph,
+            behind,
+        })
+    }
+
+    // Whether the report is at its end.
+    pub(crate) fn complete(&self) -> bool
+        ensures { IsTrue result ↔ self.now ≡ after_end }
+    {
+        self.due == GraphDue::Nothing
+    }
+
+    // Whether the line may come; it is then taken, and else nothing changes.
+    pub(crate) fn feed(&mut self, alloc: Global, line: &Line) -> Result<bool, Memory>
+        requires { IsWellFormedLine (plain_line line.now) }
+        ensures may { IfOk result (λ taken.
+            IsTrue taken ↔ MayCome self.old (plain_line line.now)) }
+        ensures next { IfOk result (λ taken. self.new
+            ≡ (if taken then next_place self.old (plain_line line.now) else self.old)) }
+        ensures stays { IsErr result → self.new ≡ self.old }
+    {
+        match self.due {
+            GraphDue::Head => {
+                if !is_head(line, self.mode.mode()) {
+                    return Ok(false);
+                }
+                self.due = GraphDue::Graphs;
+                Ok(true)
+            }
+            GraphDue::Graphs => {
+                if !self.one {
+                    if !is_end(line) {
+                        return Ok(false);
+                    }
+                    self.due = GraphDue::Nothing;
+                    return Ok(true);
+                }
+                if !reports(alloc, self.mode, &self.graph, line)? {
+                    return Ok(false);
+                }
+                self.graph.clear();
+                self.one = self.behind.next(&mut self.graph);
+                Ok(true)
+            }
+            GraphDue::Nothing => Ok(false),
+        }
+    }
+}

@@ -1,0 +1,274 @@
+//! Whether a line is one that may report a graph, or answer an edit.
+ghost use Rattle.std.specs.Prelude.{◌≡◌, ◌↔◌, None, Ok, true, if◌then◌else◌, IfOk, IsErr, IsTrue};
+ghost use Rattle.md_graph.specs.PlainGraph.{PlainGraph, IsGraph, adjacent};
+ghost use Rattle.md_modules.specs.declared.induced_paths.P4.{P4};
+ghost use Rattle.md_orientation.specs.Chains.{HasForcingChain, IsForcingChain};
+ghost use Rattle.md_forcing.specs.declared.seen.Side.TheVariants.{NonEdges};
+ghost use Rattle.md_forcing.specs.Sides.{adjacent_on};
+ghost use Rattle.md_tree.specs.Plain.{plain_option};
+ghost use Rattle.md_tree.specs.StrongTrees.{IsTree};
+ghost use Rattle.md_tree.specs.WellFormed.{IsWellFormed};
+ghost use Rattle.md_script.specs.Edit.{HasNames, reason_of, after};
+ghost use Rattle.md_report.specs.Lines.{plain_line, tree, applied, refused, not_cograph};
+ghost use Rattle.md_report.specs.WellFormedLines.{IsWellFormedLine};
+ghost use Rattle.md_report.specs.Places.{Reports, ReportsState, AnswersEdit};
+ghost use Rattle.md_report.specs.Sessions.{HasTreeLine, state_behind};
+ghost use Rattle.md_report.specs.Orientations.{IsOrientationLine};
+ghost use Rattle.md_report.specs.Models.{IsModelLine};
+ghost use Rattle.md_report.specs.Cographs.{IsCograph, IsP4Of, IsOpeningLine};
+ghost use Rattle.md_checker.specs.States.{IsStateTree, IsRefusedPath};
+
+use crate::certificates::{is_forcing_chain, is_least_edge_orientation, realise};
+use crate::tree_fit::fits;
+use md_forcing::{Chain, Side};
+use md_graph::{Graph, Memory};
+use md_modules::{P4, is_p4};
+use md_orientation::{Ending, walk};
+use md_report::{GraphMode, Line, SessionMode};
+use md_script::{Edit, EditReason, apply, lost_row, reason, take_back};
+use md_tree::{Tree, is_cotree};
+use std::alloc::Global;
+
+// Whether the line reports the graph. Condition: the line is well-formed.
+pub(crate) fn reports(
+    alloc: Global,
+    mode: GraphMode,
+    graph: &Graph,
+    line: &Line,
+) -> Result<bool, Memory>
+    requires { IsWellFormedLine (plain_line line.now) }
+    ensures { IfOk result (λ fit. IsTrue fit ↔ Reports mode graph.now (plain_line line.now)) }
+{
+    match mode {
+        GraphMode::Tree => is_tree_line(alloc, graph, line),
+        GraphMode::Compare => is_orientation_line(alloc, graph, line),
+        GraphMode::Permute => is_model_line(alloc, graph, line),
+    }
+}
+
+// Whether the line is that of the tree of the graph.
+fn is_tree_line(alloc: Global, graph: &Graph, line: &Line) -> Result<bool, Memory>
+    requires { IsWellFormedLine (plain_line line.now) }
+    ensures { IfOk result (λ fit. IsTrue fit ↔ HasTreeLine tree graph.now (plain_line line.now)) }
+{
+    match line {
+        Line::Tree(tree) => fits(alloc, graph, tree),
+        _ => Ok(false),
+    }
+}
+
+// Whether the line tells of the least-edge orientation of the graph, or of a forcing chain.
+fn is_orientation_line(alloc: Global, graph: &Graph, line: &Line) -> Result<bool, Memory>
+    ensures { IfOk result (λ fit. IsTrue fit
+        ↔ IsOrientationLine (adjacent graph.now) (plain_line line.now)) }
+{
+    match line {
+        Line::Oriented(arcs) => is_least_edge_orientation(alloc, graph, arcs),
+        Line::Forced(chain) => is_forcing_chain(alloc, graph, Side::Edges, chain),
+        _ => Ok(false),
+    }
+}
+
+// Whether the line tells of two orders that realise the graph, or of a forcing chain of it or of its
+// complement.
+fn is_model_line(alloc: Global, graph: &Graph, line: &Line) -> Result<bool, Memory>
+    ensures { IfOk result (λ fit. IsTrue fit ↔ IsModelLine graph.now (plain_line line.now)) }
+{
+    match line {
+        Line::Orders(first, second) => realise(alloc, graph, first, second),
+        Line::ForcedIn(chain) => is_forcing_chain(alloc, graph, Side::Edges, chain),
+        Line::ForcedInComplement(chain) => is_forced_in_complement(alloc, graph, chain),
+        _ => Ok(false),
+    }
+}
+
+// Whether the graph has no forcing chain, and the chain is one of its complement.
+fn is_forced_in_complement(alloc: Global, graph: &Graph, chain: &Chain) -> Result<bool, Memory>
+    ensures { IfOk result (λ fit. IsTrue fit ↔ ((¬ HasForcingChain (adjacent graph.now))
+        × IsForcingChain (adjacent_on NonEdges graph.now) chain.now)) }
+{
+    if has_forcing_chain(alloc, graph)? {
+        return Ok(false);
+    }
+    is_forcing_chain(alloc, graph, Side::NonEdges, chain)
+}
+
+// Whether the graph has a forcing chain.
+fn has_forcing_chain(alloc: Global, graph: &Graph) -> Result<bool, Memory>
+    ensures { IfOk result (λ has. IsTrue has ↔ HasForcingChain (adjacent graph.now)) }
+{
+    let _vertices = graph.vertices();
+    match walk(alloc, graph, Side::Edges)? {
+        Ending::Whole(_) => Ok(false),
+        Ending::Stopped(_) => Ok(true),
+    }
+}
+
+// Whether the line reports the first state of a session. Condition: the line is well-formed.
+pub(crate) fn reports_state(
+    alloc: Global,
+    mode: SessionMode,
+    graph: &Graph,
+    line: &Line,
+) -> Result<bool, Memory>
+    requires { IsWellFormedLine (plain_line line.now) }
+    ensures { IfOk result (λ fit. IsTrue fit ↔ ReportsState mode graph.now (plain_line line.now)) }
+{
+    match mode {
+        SessionMode::Edit => is_tree_line(alloc, graph, line),
+        SessionMode::Cograph => is_opening_line(alloc, graph, line),
+    }
+}
+
+// Whether the line tells of an induced P4 of the graph, or of its tree where it is a cograph.
+fn is_opening_line(alloc: Global, graph: &Graph, line: &Line) -> Result<bool, Memory>
+    requires { IsWellFormedLine (plain_line line.now) }
+    ensures { IfOk result (λ fit. IsTrue fit ↔ IsOpeningLine graph.now (plain_line line.now)) }
+{
+    match line {
+        Line::Tree(tree) => is_state_tree(alloc, SessionMode::Cograph, graph, tree),
+        Line::NotCograph(p) => Ok(is_p4(graph, p)),
+        _ => Ok(false),
+    }
+}
+
+// Whether the tree is that of the graph, which may be a state of a session of the mode.
+fn is_state_tree(
+    alloc: Global,
+    mode: SessionMode,
+    graph: &Graph,
+    tree: &Option<Tree>,
+) -> Result<bool, Memory>
+    requires { IsWellFormed (plain_option tree.now) }
+    ensures { IfOk result (λ fit. IsTrue fit
+        ↔ IsStateTree mode graph.now (plain_option tree.now)) }
+{
+    match mode {
+        SessionMode::Edit => fits(alloc, graph, tree),
+        SessionMode::Cograph => is_tree_of_cograph(alloc, graph, tree),
+    }
+}
+
+// Whether the graph is a cograph, and the tree is that of it.
+fn is_tree_of_cograph(alloc: Global, graph: &Graph, tree: &Option<Tree>) -> Result<bool, Memory>
+    requires { IsWellFormed (plain_option tree.now) }
+    ensures { IfOk result (λ fit. IsTrue fit ↔ (IsCograph graph.now
+        × IsTree (adjacent graph.now) graph.now.vertices (plain_option tree.now))) }
+{
+    let _vertices = graph.vertices();
+    if !is_of_cograph(tree) {
+        return Ok(false);
+    }
+    fits(alloc, graph, tree)
+}
+
+// Whether a graph with this tree is a cograph.
+fn is_of_cograph(tree: &Option<Tree>) -> bool
+    ensures { (g : PlainGraph) → IsGraph g
+        → IsTree (adjacent g) g.vertices (plain_option tree.now) → IsTrue result ↔ IsCograph g }
+{
+    match tree {
+        Some(tree) => is_cotree(tree),
+        None => true,
+    }
+}
+
+// Whether the line answers the edit at the graph, which then is the state behind it; else, and for
+// want of memory, it stays. Condition: the line is well-formed, and the names in the edit are names.
+pub(crate) fn answers_edit(
+    alloc: Global,
+    mode: SessionMode,
+    graph: &mut Graph,
+    edit: &Edit,
+    line: &Line,
+) -> Result<bool, Memory>
+    requires line { IsWellFormedLine (plain_line line.now) }
+    requires names { HasNames edit.now }
+    ensures may { IfOk result (λ taken.
+        IsTrue taken ↔ AnswersEdit mode graph.old edit.now (plain_line line.now)) }
+    ensures next { IfOk result (λ taken. graph.new
+        ≡ (if taken then state_behind graph.old edit.now (plain_line line.now) else graph.old)) }
+    ensures stays { IsErr result → graph.new ≡ graph.old }
+{
+    if let Some(reason) = reason(graph, edit) {
+        return Ok(is_refusal(line, reason));
+    }
+    match line {
+        Line::Applied(tree) => is_applied(alloc, mode, graph, edit, tree),
+        Line::RefusedP4(p) => Ok(is_refused_p4(mode, graph, edit, p)),
+        _ => Ok(false),
+    }
+}
+
+// Whether the line refuses an edit for the reason.
+fn is_refusal(line: &Line, reason: EditReason) -> bool
+    ensures { IsTrue result ↔ (plain_line line.now ≡ refused reason) }
+{
+    match line {
+        Line::Refused(named) => *named == reason,
+        _ => false,
+    }
+}
+
+// Whether the tree is that of the graph after the edit, which may be a state of a session of the
+// mode: the graph is that one then; else, and for want of memory, it stays. Condition: there is no
+// reason against the edit.
+fn is_applied(
+    alloc: Global,
+    mode: SessionMode,
+    graph: &mut Graph,
+    edit: &Edit,
+    tree: &Option<Tree>,
+) -> Result<bool, Memory>
+    requires applies { reason_of graph.old edit.now ≡ None }
+    requires names { HasNames edit.now }
+    requires tree { IsWellFormed (plain_option tree.now) }
+    ensures may { IfOk result (λ fit. IsTrue fit
+        ↔ IsStateTree mode (after graph.old edit.now) (plain_option tree.now)) }
+    ensures next { IfOk result (λ fit. graph.new
+        ≡ (if fit then after graph.old edit.now else graph.old)) }
+    ensures stays { IsErr result → graph.new ≡ graph.old }
+{
+    let row = lost_row(graph, edit);
+    apply(graph, edit);
+    let fit = is_state_tree(alloc, mode, graph, tree);
+    if !is_true(&fit) {
+        take_back(graph, edit, &row);
+    }
+    fit
+}
+
+// Whether an answer is that something is so.
+fn is_true(answer: &Result<bool, Memory>) -> bool
+    ensures { IsTrue result ↔ (answer.now ≡ Ok true) }
+{
+    match answer {
+        Ok(yes) => *yes,
+        Err(_) => false,
+    }
+}
+
+// Whether the mode refuses the edit since the graph after it has the induced P4. The graph stays.
+// Condition: there is no reason against the edit.
+fn is_refused_p4(mode: SessionMode, graph: &mut Graph, edit: &Edit, p: &P4) -> bool
+    requires applies { reason_of graph.old edit.now ≡ None }
+    requires names { HasNames edit.now }
+    ensures is { IsTrue result ↔ IsRefusedPath mode (after graph.old edit.now) p.now }
+    ensures stays { graph.new ≡ graph.old }
+{
+    let row = lost_row(graph, edit);
+    apply(graph, edit);
+    let is = is_path_of_state(mode, graph, p);
+    take_back(graph, edit, &row);
+    is
+}
+
+// Whether no state of a session of the mode may have an induced P4, and the graph has this one.
+fn is_path_of_state(mode: SessionMode, graph: &Graph, p: &P4) -> bool
+    ensures { IsTrue result ↔ IsRefusedPath mode graph.now p.now }
+{
+    match mode {
+        SessionMode::Edit => false,
+        SessionMode::Cograph => is_p4(graph, p),
+    }
+}

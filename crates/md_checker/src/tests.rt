@@ -1,0 +1,183 @@
+//! Reports and their answers.
+use super::*;
+use md_input::{Format, InputStop};
+use md_report::{GraphMode, Line, Mode, SessionMode};
+use std::alloc::Global;
+use std::process::Abort;
+use std::test::Fail;
+
+// The answer of a report over the graphs of a file of lines.
+fn answer_of(
+    rt: &impl Abort,
+    alloc: Global,
+    mode: GraphMode,
+    file: &[u8],
+    report: &[u8],
+) -> CheckAnswer {
+    let Ok(answer) = check_graphs(alloc, mode, Format::G6, file, report) else {
+        panic!(rt; "stopped");
+    };
+    answer
+}
+
+#[test]
+fn reports_over_graphs(rt: HostRuntime) {
+    let accepted = CheckAnswer::Accepted;
+    let cases: [(GraphMode, &[u8], &[u8], CheckAnswer); 14] = [
+        (
+            GraphMode::Tree,
+            b"Bw\n",
+            b"mdt tree\nt S(0,1,2)\nend\n",
+            accepted,
+        ),
+        (
+            GraphMode::Tree,
+            b"Bw\n",
+            b"mdt tree\nt S(0,1,2)\n",
+            CheckAnswer::Rejected(3),
+        ),
+        (
+            GraphMode::Tree,
+            b"Bw\n",
+            b"mdt tree\nt S(0,1,2)\nend",
+            CheckAnswer::Rejected(3),
+        ),
+        (
+            GraphMode::Tree,
+            b"Bw\n",
+            b"mdt tree\nt S(0,1,2)\nend\nend\n",
+            CheckAnswer::Rejected(4),
+        ),
+        (
+            GraphMode::Tree,
+            b"Bw\n",
+            b"mdt tree\nt P(0,1,2)\nend\n",
+            CheckAnswer::Rejected(2),
+        ),
+        (
+            GraphMode::Tree,
+            b"Bw\n",
+            b"mdt tree\nt S(0,1,2)\nt S(0,1,2)\nend\n",
+            CheckAnswer::Rejected(3),
+        ),
+        (
+            GraphMode::Tree,
+            b"Bw\n",
+            b"mdt edit\nt S(0,1,2)\nend\n",
+            CheckAnswer::Rejected(1),
+        ),
+        (
+            GraphMode::Tree,
+            b"Bw\n",
+            b"mdt tree\r\nt S(0,1,2)\nend\n",
+            CheckAnswer::Rejected(1),
+        ),
+        (GraphMode::Tree, b"Bw\n", b"", CheckAnswer::Rejected(1)),
+        (GraphMode::Tree, b"", b"mdt tree\nend\n", accepted),
+        (
+            GraphMode::Compare,
+            b"Bw\n",
+            b"mdt compare\nyes 0>1 0>2 1>2\nend\n",
+            accepted,
+        ),
+        (
+            GraphMode::Compare,
+            b"Bw\n",
+            b"mdt compare\nyes 0>1 0>2 2>1\nend\n",
+            CheckAnswer::Rejected(2),
+        ),
+        (
+            GraphMode::Permute,
+            b"Bw\n",
+            b"mdt permute\nyes 0 1 2 / 2 1 0\nend\n",
+            accepted,
+        ),
+        (
+            GraphMode::Permute,
+            b"Bw\n",
+            b"mdt permute\nyes 0 1 2 / 2 0 1\nend\n",
+            CheckAnswer::Rejected(2),
+        ),
+    ];
+    for (mode, file, report, want) in &cases {
+        let got = answer_of(&rt, rt.alloc(), *mode, *file, *report);
+        assert!(&rt; got == *want);
+    }
+}
+
+// The answer of a report of a session on the one graph of a file of lines.
+fn session_answer(
+    rt: &impl Abort,
+    alloc: Global,
+    mode: SessionMode,
+    files: (&[u8], &[u8]),
+    report: &[u8],
+) -> CheckAnswer {
+    let (file, script) = files;
+    let Ok(answer) = check_session(alloc, mode, Format::G6, file, script, report) else {
+        panic!(rt; "stopped");
+    };
+    answer
+}
+
+#[test]
+fn reports_of_sessions(rt: HostRuntime) {
+    let accepted = CheckAnswer::Accepted;
+    let grown: (&[u8], &[u8]) = (b"@\n", b"+v 1 0\n+v 1\n");
+    let path: (&[u8], &[u8]) = (b"Ch\n", b"+e 0 2\n");
+    let cases: [(SessionMode, (&[u8], &[u8]), &[u8], CheckAnswer); 6] = [
+        (
+            SessionMode::Edit,
+            grown,
+            b"mdt edit\nt 0\nok S(0,1)\nno taken 1\nend\n",
+            accepted,
+        ),
+        (
+            SessionMode::Edit,
+            grown,
+            b"mdt edit\nt 0\nok S(0,1)\nend\n",
+            CheckAnswer::Rejected(4),
+        ),
+        (
+            SessionMode::Edit,
+            grown,
+            b"mdt edit\nt 0\nok P(0,1)\nno taken 1\nend\n",
+            CheckAnswer::Rejected(3),
+        ),
+        (
+            SessionMode::Cograph,
+            path,
+            b"mdt cograph\np4 0 1 2 3\nend\n",
+            accepted,
+        ),
+        (
+            SessionMode::Cograph,
+            path,
+            b"mdt cograph\np4 0 1 2 3\nok S(2,P(0,1,3))\nend\n",
+            CheckAnswer::Rejected(3),
+        ),
+        (
+            SessionMode::Cograph,
+            path,
+            b"mdt cograph\np4 0 2 1 3\nend\n",
+            CheckAnswer::Rejected(2),
+        ),
+    ];
+    for (mode, files, report, want) in &cases {
+        let got = session_answer(&rt, rt.alloc(), *mode, *files, *report);
+        assert!(&rt; got == *want);
+    }
+}
+
+#[test]
+fn lines_fed(rt: HostRuntime) -> Result<(), Fail> {
+    let Ok(mut checker) = Checker::over_graphs(rt.alloc(), GraphMode::Tree, Format::G6, b"") else {
+        panic!(&rt; "stopped");
+    };
+    assert!(&rt; !checker.feed(rt.alloc(), &Line::End)?);
+    assert!(&rt; checker.feed(rt.alloc(), &Line::Head(Mode::Tree))?);
+    assert!(&rt; !checker.complete());
+    assert!(&rt; checker.feed(rt.alloc(), &Line::End)?);
+    assert!(&rt; checker.complete());
+    Ok(())
+}

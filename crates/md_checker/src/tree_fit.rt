@@ -1,0 +1,401 @@
+//! Whether a given tree is the tree of strong modules of a graph. No tree is computed.
+ghost use Rattle.std.specs.Prelude.{◌≡◌, ◌↔◌, ◌<◌, ℕ, Bool, List, length, get_or, replicate, IfOk, IsTrue, Some};
+ghost use Rattle.std.specs.FinSet.{contains};
+ghost use Rattle.md_graph.specs.PlainGraph.{adjacent};
+ghost use Rattle.md_graph.specs.Rows.{row_of};
+ghost use Rattle.md_graph.specs.Sets.{Has, Within};
+ghost use Rattle.md_graph.specs.declared.TheConstants.{NAMES};
+ghost use Rattle.md_modules.specs.Modules.{HasTrivialModulesAlone};
+ghost use Rattle.md_tree.specs.Parts.{name as leaf_part, inner, part_of};
+ghost use Rattle.md_tree.specs.Plain.{plain, plain_option};
+ghost use Rattle.md_tree.specs.Stacks.{with_part};
+ghost use Rattle.md_tree.specs.StrongTrees.{IsTree, IsTreeOf};
+ghost use Rattle.md_tree.specs.TreeGraph.{joins, lists_pair};
+ghost use Rattle.md_tree.specs.Trees.{PlainTree};
+ghost use Rattle.md_tree.specs.WellFormed.{IsWellFormed};
+ghost use Rattle.md_checker.specs.FitTests.{IsSingle, AreSingle, name_set, union_all, AreAlike, AreHeads, IsFit, AreFinished, MayPut, IsTested};
+
+use md_graph::{Graph, Memory, Names};
+use md_modules::{Block, back, closure_in, maximal_modules};
+use md_tree::{Kind, Pair, Tree, nodes_of};
+use std::alloc::Global;
+
+/// Whether the tree is the tree of strong modules of the graph, or there is none and the graph has
+/// no vertex. Nothing is decomposed: each node takes a few operations on rows for each child, and a
+/// prime node three searches over the heads of its children. No call nests as deep as the tree.
+/// Condition: the tree is well-formed. Errors: want of memory.
+pub fn fits(alloc: Global, graph: &Graph, tree: &Option<Tree>) -> Result<bool, Memory>
+    requires { IsWellFormed (plain_option tree.now) }
+    ensures { IfOk result (λ fit. IsTrue fit
+        ↔ IsTree (adjacent graph.now) graph.now.vertices (plain_option tree.now)) }
+{
+    match tree {
+        Some(tree) => tree_fits(alloc, graph, tree),
+        None => Ok(graph.vertices().is_empty()),
+    }
+}
+
+// Whether a tree is the tree of strong modules. Its nodes are put, from the last to the first, on a
+// stack of finished trees, of each of which its set of names and its head, the least of them, are
+// kept.
+fn tree_fits(alloc: Global, graph: &Graph, tree: &Tree) -> Result<bool, Memory>
+    requires { IsWellFormed (Some (plain tree.now)) }
+    ensures { IfOk result (λ fit. IsTrue fit
+        ↔ IsTreeOf (adjacent graph.now) graph.now.vertices (plain tree.now)) }
+{
+    let vertices = graph.vertices();
+    let mut nodes = nodes_of(alloc, tree)?;
+    let mut sets = Vec::new(alloc);
+    let mut heads = Vec::new(alloc);
+    while let Some(node) = nodes.pop() {
+        if !put(alloc, graph, node, &mut sets, &mut heads)? {
+            return Ok(false);
+        }
+    }
+    match sets.pop() {
+        Some(names) => Ok(names.is_same(vertices)),
+        None => unreachable!(),
+    }
+}
+
+// A node takes its children off the stack and comes on top of it, if it fits.
+fn put(
+    alloc: Global,
+    graph: &Graph,
+    node: &Tree,
+    sets: &mut Vec<Names>,
+    heads: &mut Vec<u32>,
+) -> Result<bool, Memory>
+    requires { (ts : List PlainTree) × MayPut graph.now sets.old.items heads.old.items
+        (part_of (plain node.now)) ts }
+    ensures { IfOk result (λ fit. (ts : List PlainTree)
+        → MayPut graph.now sets.old.items heads.old.items (part_of (plain node.now)) ts
+        → IsTested graph.now fit sets.new.items heads.new.items
+        (with_part (part_of (plain node.now)) ts)) }
+{
+    match node {
+        Tree::Leaf(name) => put_leaf(graph, *name, sets, heads),
+        Tree::Node(kind, children, edges) => {
+            put_node(
+                alloc,
+                graph,
+                *kind,
+                children.len(),
+                &edges.list,
+                sets,
+                heads,
+            )
+        }
+    }
+}
+
+// A leaf fits if it is a vertex.
+fn put_leaf(
+    graph: &Graph,
+    name: u32,
+    sets: &mut Vec<Names>,
+    heads: &mut Vec<u32>,
+) -> Result<bool, Memory>
+    ensures { IfOk result (λ fit. (ts : List PlainTree)
+        → MayPut graph.now sets.old.items heads.old.items (leaf_part name) ts
+        → IsTested graph.now fit sets.new.items heads.new.items (with_part (leaf_part name) ts)) }
+{
+    let _vertices = graph.vertices();
+    if !graph.has_vertex(name) {
+        return Ok(false);
+    }
+    let mut names = Names::none();
+    names.insert(name);
+    sets.push(names)?;
+    heads.push(name)?;
+    Ok(true)
+}
+
+// A node with as many children, which are the last trees of the stack.
+fn put_node(
+    alloc: Global,
+    graph: &Graph,
+    kind: Kind,
+    count: u64,
+    pairs: &[Pair],
+    sets: &mut Vec<Names>,
+    heads: &mut Vec<u32>,
+) -> Result<bool, Memory>
+    requires { (ts : List PlainTree) × MayPut graph.now sets.old.items heads.old.items
+        (inner kind count pairs.now) ts }
+    ensures { IfOk result (λ fit. (ts : List PlainTree)
+        → MayPut graph.now sets.old.items heads.old.items (inner kind count pairs.now) ts
+        → IsTested graph.now fit sets.new.items heads.new.items
+        (with_part (inner kind count pairs.now) ts)) }
+{
+    let _vertices = graph.vertices();
+    let below = sets.len() - count as usize;
+    let names = union_of(&sets[below..]);
+    if !is_fit(alloc, graph, &names, kind, pairs, &heads[below..])? {
+        return Ok(false);
+    }
+    sets.truncate(below);
+    sets.push(names)?;
+    heads.truncate(below + 1);
+    Ok(true)
+}
+
+// The union of sets.
+fn union_of(sets: &[Names]) -> Names
+    ensures { result ≡ union_all sets.now }
+{
+    let mut all = Names::none();
+    for set in sets {
+        all.take_in(set);
+    }
+    all
+}
+
+// Whether a node with these names, pairs and heads of its children fits, where the children do.
+fn is_fit(
+    alloc: Global,
+    graph: &Graph,
+    names: &Names,
+    kind: Kind,
+    pairs: &[Pair],
+    heads: &[u32],
+) -> Result<bool, Memory>
+    requires { AreHeads graph.now.vertices pairs.now heads.now }
+    ensures { IfOk result (λ fit. IsTrue fit
+        ↔ IsFit (adjacent graph.now) graph.now.vertices names.now kind pairs.now heads.now) }
+{
+    let others = graph.vertices().minus(names);
+    if !are_alike(graph, heads, &others) {
+        return Ok(false);
+    }
+    let rows = joined_rows(alloc, graph, kind, pairs, heads)?;
+    if !are_joined(graph, heads, &rows) {
+        return Ok(false);
+    }
+    match kind {
+        Kind::Parallel => Ok(true),
+        Kind::Series => Ok(true),
+        Kind::Prime => has_trivial_modules_alone(alloc, graph, &set_of(heads)),
+    }
+}
+
+// Whether each of the others is adjacent to all names of the list, or to none of them.
+fn are_alike(graph: &Graph, list: &[u32], others: &Names) -> bool
+    requires some { 0 < length list.now }
+    requires names { (i : ℕ) → i < length list.now → get_or list.now i 0 < NAMES }
+    ensures { IsTrue result ↔ AreAlike (adjacent graph.now) others.now list.now }
+{
+    let first = graph.row(list[0]);
+    for v in list {
+        if !agree(others, first, graph.row(*v)) {
+            return false;
+        }
+    }
+    true
+}
+
+// Whether two rows have the same members of a set.
+fn agree(set: &Names, first: &Names, second: &Names) -> bool
+    ensures { IsTrue result ↔ ((y : ℕ) → Has set.now y
+        → contains first.now y ≡ contains second.now y) }
+{
+    set.first_told_apart(first, second).is_none()
+}
+
+// A row for each position: of the names at later positions it has those that the node joins to the
+// one at its own.
+fn joined_rows(
+    alloc: Global,
+    graph: &Graph,
+    kind: Kind,
+    pairs: &[Pair],
+    heads: &[u32],
+) -> Result<Vec<Names>, Memory>
+    requires { AreHeads graph.now.vertices pairs.now heads.now }
+    ensures size { IfOk result (λ rows. length rows.items ≡ length heads.now) }
+    ensures joined { IfOk result (λ rows. (i j : ℕ) → i < j → j < length heads.now
+        → contains (row_of rows.items i) (get_or heads.now j 0) ≡ joins kind pairs.now i j) }
+{
+    match kind {
+        Kind::Parallel => same_rows(alloc, heads.len(), &Names::none()),
+        Kind::Series => same_rows(alloc, heads.len(), graph.vertices()),
+        Kind::Prime => listed_rows(alloc, graph, pairs, heads),
+    }
+}
+
+// As many equal rows.
+fn same_rows(alloc: Global, count: usize, row: &Names) -> Result<Vec<Names>, Memory>
+    ensures { IfOk result (λ rows. rows.items ≡ replicate count row.now) }
+{
+    let mut rows = Vec::with_capacity(alloc, count)?;
+    for _ in 0..count {
+        rows.push(row.copy())?;
+    }
+    Ok(rows)
+}
+
+// The rows of a prime node, which joins the pairs that it lists.
+fn listed_rows(
+    alloc: Global,
+    graph: &Graph,
+    pairs: &[Pair],
+    heads: &[u32],
+) -> Result<Vec<Names>, Memory>
+    requires { AreHeads graph.now.vertices pairs.now heads.now }
+    ensures size { IfOk result (λ rows. length rows.items ≡ length heads.now) }
+    ensures listed { IfOk result (λ rows. (i j : ℕ) → i < length heads.now → j < length heads.now
+        → contains (row_of rows.items i) (get_or heads.now j 0) ≡ lists_pair pairs.now i j) }
+{
+    let _vertices = graph.vertices();
+    let mut rows = same_rows(alloc, heads.len(), &Names::none())?;
+    for pair in pairs {
+        rows[pair.low as usize].insert(heads[pair.high as usize]);
+    }
+    Ok(rows)
+}
+
+// Whether each name of the list is adjacent to those later ones that its row has, and to no others.
+fn are_joined(graph: &Graph, list: &[u32], rows: &[Names]) -> bool
+    requires names { (i : ℕ) → i < length list.now → get_or list.now i 0 < NAMES }
+    requires rows { length rows.now ≡ length list.now }
+    ensures { IsTrue result ↔ ((i j : ℕ) → i < j → j < length list.now
+        → adjacent graph.now (get_or list.now i 0) (get_or list.now j 0)
+        ≡ contains (row_of rows.now i) (get_or list.now j 0)) }
+{
+    let mut later = Names::none();
+    let mut at = list.len();
+    while at > 0 {
+        at -= 1;
+        if !agree(&later, graph.row(list[at]), &rows[at]) {
+            return false;
+        }
+        later.insert(list[at]);
+    }
+    true
+}
+
+// The set of the names of a list.
+fn set_of(list: &[u32]) -> Names
+    requires { (i : ℕ) → i < length list.now → get_or list.now i 0 < NAMES }
+    ensures { result ≡ name_set list.now }
+{
+    let mut set = Names::none();
+    for v in list {
+        set.insert(*v);
+    }
+    set
+}
+
+// Whether each module of the graph on `names` is a name alone, or all of them: all is the least
+// module with the first two, no smaller module holds the first one with another, and the maximal
+// ones that don't hold it are names alone.
+fn has_trivial_modules_alone(alloc: Global, graph: &Graph, names: &Names) -> Result<bool, Memory>
+    requires { Within names.now graph.now.vertices }
+    ensures { IfOk result (λ alone. IsTrue alone
+        ↔ HasTrivialModulesAlone (adjacent graph.now) names.now) }
+{
+    let Some(v) = names.first_from(0) else {
+        return Ok(true);
+    };
+    let Some(j) = names.first_from(v + 1) else {
+        return Ok(true);
+    };
+    let mut held = Names::none();
+    closure_in(graph, names, v, j, &mut held);
+    if !held.is_same(names) {
+        return Ok(false);
+    }
+    back(graph, names, v, j, &mut held);
+    let mut others = names.copy();
+    others.remove(v);
+    if !held.is_same(&others) {
+        return Ok(false);
+    }
+    let classes = maximal_modules(alloc, graph, names, &others)?;
+    Ok(are_alone(&classes))
+}
+
+// Whether each of the sets has one member.
+fn are_alone(sets: &[Block]) -> bool
+    ensures { IsTrue result ↔ AreSingle sets.now }
+{
+    let mut rest = sets;
+    while let Some((set, others)) = rest.split_first() {
+        if !is_alone(set) {
+            return false;
+        }
+        rest = others;
+    }
+    true
+}
+
+fn is_alone(set: &Block) -> bool
+    ensures { IsTrue result ↔ IsSingle set.now }
+{
+    match set.alone() {
+        Some(_) => true,
+        None => false,
+    }
+}
+
+#[cfg(test)]
+mod tests {
+    use super::*;
+    use md_graph::NAMES;
+    use md_tree::read_tree;
+    use std::process::Abort;
+    use std::test::Fail;
+
+    const PATH: [(u32, u32); 3] = [(0, 1), (1, 2), (2, 3)];
+
+    // The path on four names, with a twin of its first end.
+    const TWINS: [(u32, u32); 4] = [(0, 1), (1, 2), (1, 4), (2, 3)];
+
+    const CYCLE: [(u32, u32); 5] = [(0, 1), (1, 2), (2, 3), (3, 4), (0, 4)];
+
+    fn check_fit(
+        rt: &impl Abort,
+        alloc: Global,
+        graph: (u32, &[(u32, u32)]),
+        text: &[u8],
+        want: bool,
+    ) -> Result<(), Memory> {
+        let (n, edges) = graph;
+        assert!(rt; n <= NAMES);
+        let graph = Graph::from_edges(alloc, n, edges)?.expect(rt, "edges");
+        let Ok(tree) = read_tree(alloc, text) else {
+            panic!(rt; "not read");
+        };
+        assert_eq!(rt; fits(alloc, &graph, &tree)?, want);
+        Ok(())
+    }
+
+    #[test]
+    fn trees(rt: HostRuntime) -> Result<(), Fail> {
+        let alloc = rt.alloc();
+        let cases: [(u32, &[(u32, u32)], &[u8], bool); 17] = [
+            (0, &[], b"empty", true),
+            (1, &[], b"empty", false),
+            (1, &[], b"0", true),
+            (1, &[], b"1", false),
+            (2, &[], b"0", false),
+            (2, &[(0, 1)], b"S(0,1)", true),
+            (2, &[], b"S(0,1)", false),
+            (2, &[(0, 1)], b"P(0,1)", false),
+            (3, &[(1, 2)], b"P(0,S(1,2))", true),
+            (3, &[(0, 1)], b"P(0,S(1,2))", false),
+            (3, &[(0, 1), (1, 2)], b"P(0,S(1,2))", false),
+            (4, &PATH, b"R(0,1,2,3;0-1,1-2,2-3)", true),
+            (4, &PATH, b"R(0,1,2,3;0-1,1-2)", false),
+            (5, &TWINS, b"R(P(0,4),1,2,3;0-1,1-2,2-3)", true),
+            // The twins are a module that this tree leaves out.
+            (5, &TWINS, b"R(0,1,2,3,4;0-1,1-2,1-4,2-3)", false),
+            (5, &CYCLE, b"R(0,1,2,3,4;0-1,0-4,1-2,2-3,3-4)", true),
+            (5, &CYCLE, b"R(0,1,2,3;0-1,1-2,2-3)", false),
+        ];
+        for (n, edges, text, want) in &cases {
+            check_fit(&rt, alloc, (*n, *edges), *text, *want)?;
+        }
+        Ok(())
+    }
+}

@@ -1,0 +1,37 @@
+use Rattle.std.proofs.Common.{◌≡◌, Result, Ok, Err, OnOk, OnErr, sym, ◌∙◌, subst}
+use Rattle.md_graph.specs.PlainGraph.{PlainGraph}
+use Rattle.md_cotree.specs.declared.cotree.Cotree.{Cotree}
+use Rattle.md_cotree.specs.Cotrees.{IsSoundCotree, Denotes}
+use Rattle.md_cotree_edit.proofs.tests.turned.Goals as goal
+
+still_sound : {A B : Type 0} (r : Result A B) (old new : Cotree) (g h : PlainGraph) → Denotes old g → OnOk r (Denotes new h) → OnErr r (new ≡ old) → IsSoundCotree new
+still_sound (Ok x) old new g h is done same = (done.0, done.1)
+still_sound (Err e) old new g h is done same = subst IsSoundCotree (sym same) (is.0, is.1)
+
+pub del_edge-requires : goal.del_edge-requires
+del_edge-requires g c = (
+  c.args.graph.now,
+  c.requires.denotes,
+  sym c.has_vertex.ensures ∙ c.if-not-has_vertex.false,
+  sym c.has_vertex-else-not-has_vertex.ensures ∙ c.if-not-has_vertex-2.false,
+  c.if-u-v.false,
+  sym c.has_edge.ensures ∙ c.if-has_edge.true,
+)
+
+pub returns-then-has_edge : goal.returns-then-has_edge
+returns-then-has_edge g c =
+    still_sound c.del_edge.result c.args.cotree.now c.del_edge.new.tree c.args.graph.now _ c.requires.denotes (c.del_edge.ensures.done c.args.graph.now c.requires.denotes) c.del_edge.ensures.same
+
+pub add_edge-requires : goal.add_edge-requires
+add_edge-requires g c = (
+  c.args.graph.now,
+  c.requires.denotes,
+  sym c.has_vertex.ensures ∙ c.if-not-has_vertex.false,
+  sym c.has_vertex-else-not-has_vertex.ensures ∙ c.if-not-has_vertex-2.false,
+  c.if-u-v.false,
+  sym c.has_edge.ensures ∙ c.if-has_edge.false,
+)
+
+pub returns : goal.returns
+returns g c =
+    still_sound c.add_edge.result c.args.cotree.now c.add_edge.new.tree c.args.graph.now _ c.requires.denotes (c.add_edge.ensures.done c.args.graph.now c.requires.denotes) c.add_edge.ensures.same

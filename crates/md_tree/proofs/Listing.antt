@@ -1,0 +1,79 @@
+-- The nodes of a tree, listed: each before those below it, the children from the last to the first.
+use Rattle.std.proofs.Common.{◌≡◌, ℕ, ◌+◌, ◌<◌, ◌≤◌, List, [], ◌∷◌, ◌++◌, length, get_or, take, map, refl, sym, ◌∙◌, ap, append_assoc, append-nil, arith}
+use Rattle.std.proofs.lemmas.List.{map-append, take_all, take_more}
+use Rattle.std.specs.Borrow.{Bor}
+use Rattle.md_tree.specs.declared.Kind.{Kind}
+use Rattle.md_tree.specs.declared.Children.{Children, out-Children}
+use Rattle.md_tree.specs.declared.QuotientEdges.{QuotientEdges}
+use Rattle.md_tree.specs.declared.Tree.{Tree, Leaf, Node}
+use Rattle.md_tree.specs.Plain.{plain}
+use Rattle.md_tree.proofs.Plain.{plain_is_leaf, plain_is_node}
+use Rattle.md_tree.specs.Trees.{PlainTree, leaf, node, row}
+use Rattle.md_tree.specs.Parts.{PlainPart, parts_of, parts_backward, part_of, plain_at, listed, below_node}
+use Rattle.md_tree.proofs.Folding.{row_listed}
+
+pub backward-append : (xs ys : List PlainTree) → parts_backward (row (xs ++ ys)) ≡ parts_backward (row ys) ++ parts_backward (row xs)
+backward-append [] ys = sym (append-nil (parts_backward (row ys)))
+backward-append (x ∷ xs) ys = ap (λ l. l ++ parts_of x) (backward-append xs ys) ∙ append_assoc (parts_backward (row ys)) (parts_backward (row xs)) (parts_of x)
+
+-- a node and what is below it are its parts
+head_below : (t : PlainTree) → part_of t ∷ parts_backward (row (below_node t)) ≡ parts_of t
+head_below (leaf v) = refl
+head_below (node k cs ps) = ap (λ ts. part_of (node k cs ps) ∷ parts_backward ts) (row_listed cs)
+
+-- the parts of the nodes that are listed, and those of the trees that wait
+abbrev pub parts_listed : List (Bor Tree) → List (Bor Tree) → List PlainPart
+parts_listed nodes waiting = map (λ r. part_of (plain_at r)) nodes ++ parts_backward (row (map plain_at waiting))
+
+pub list_begin : (tree : PlainTree) (nodes waiting : List (Bor Tree)) → nodes ≡ [] → map plain_at waiting ≡ tree ∷ [] → parts_listed nodes waiting ≡ parts_of tree
+list_begin tree nodes waiting none one =
+    ap (λ ns. map (λ r. part_of (plain_at r)) ns ++ parts_backward (row (map plain_at waiting))) none
+    ∙ ap (λ ts. parts_backward (row ts)) one
+
+pub list_waiting : (one : Bor Tree) (waiting popped more : List (Bor Tree)) → waiting ≡ popped ++ one ∷ [] →
+    map plain_at more ≡ map plain_at popped ++ below_node (plain_at one) → parts_backward (row (map plain_at waiting)) ≡ part_of (plain_at one) ∷ parts_backward (row (map plain_at more))
+list_waiting one waiting popped more pop below =
+    ap (λ ws. parts_backward (row (map plain_at ws))) pop ∙ ap (λ ts. parts_backward (row ts)) (map-append plain_at popped (one ∷ []))
+    ∙ backward-append (map plain_at popped) (plain_at one ∷ [])
+    ∙ ap (λ l. l ++ parts_backward (row (map plain_at popped))) (sym (head_below (plain_at one)))
+    ∙ ap (λ l. part_of (plain_at one) ∷ l) (sym (backward-append (map plain_at popped) (below_node (plain_at one))) ∙ ap (λ ts. parts_backward (row ts)) (sym below))
+
+pub list_more : (all : List PlainPart) (nodes listed : List (Bor Tree)) (one : Bor Tree) (waiting popped more : List (Bor Tree)) → waiting ≡ popped ++ one ∷ [] → listed ≡ nodes ++ one ∷ [] →
+    map plain_at more ≡ map plain_at popped ++ below_node (plain_at one) → parts_listed nodes waiting ≡ all → parts_listed listed more ≡ all
+list_more all nodes listed one waiting popped more pop push below so =
+    ap (λ ns. map (λ r. part_of (plain_at r)) ns ++ parts_backward (row (map plain_at more))) push
+    ∙ ap (λ l. l ++ parts_backward (row (map plain_at more))) (map-append (λ (r : Bor Tree). part_of (plain_at r)) nodes (one ∷ []))
+    ∙ append_assoc (map (λ (r : Bor Tree). part_of (plain_at r)) nodes) (part_of (plain_at one) ∷ []) (parts_backward (row (map plain_at more)))
+    ∙ ap (λ l. map (λ (r : Bor Tree). part_of (plain_at r)) nodes ++ l) (sym (list_waiting one waiting popped more pop below)) ∙ so
+
+pub list_less : (one : Bor Tree) (waiting popped more : List (Bor Tree)) → waiting ≡ popped ++ one ∷ [] → map plain_at more ≡ map plain_at popped ++ below_node (plain_at one) →
+    length (parts_backward (row (map plain_at more))) < length (parts_backward (row (map plain_at waiting)))
+list_less one waiting popped more pop below = let e = ap length (list_waiting one waiting popped more pop below) in omega arith
+
+pub list_end : (all : List PlainPart) (nodes waiting : List (Bor Tree)) → waiting ≡ [] → parts_listed nodes waiting ≡ all → map (λ r. part_of (plain_at r)) nodes ≡ all
+list_end all nodes waiting none so =
+    sym (append-nil (map (λ r. part_of (plain_at r)) nodes)) ∙ ap (λ ws. parts_listed nodes ws) (sym none) ∙ so
+
+-- ---- the children of a node
+
+listed_row : (ts : List PlainTree) → listed (row ts) ≡ ts
+listed_row [] = refl
+listed_row (t ∷ ts) = ap (λ l. t ∷ l) (listed_row ts)
+
+pub leaf_below : (t : Tree) (v : ℕ) (xs : List PlainTree) → t ≡ Leaf v → xs ≡ xs ++ below_node (plain t)
+leaf_below t v xs is = sym (ap (λ p. xs ++ below_node p) (plain_is_leaf t v is) ∙ append-nil xs)
+
+pub children_begin : (xs : List PlainTree) (ts : List Tree) → xs ≡ xs ++ map plain (take 0 ts)
+children_begin xs ts = sym (append-nil xs)
+
+pub children_more : (xs : List PlainTree) (now more : List (Bor Tree)) (ts : List Tree) (i : ℕ) (r : Bor Tree) → map plain_at now ≡ xs ++ map plain (take i ts) → i < length ts → r.now ≡ get_or ts i r.now →
+    more ≡ now ++ r ∷ [] → map plain_at more ≡ xs ++ map plain (take (i + 1) ts)
+children_more xs now more ts i r so less is push =
+    ap (map plain_at) push ∙ map-append plain_at now (r ∷ []) ∙ ap (λ l. l ++ plain r.now ∷ []) so ∙ append_assoc xs (map plain (take i ts)) (plain r.now ∷ [])
+    ∙ ap (λ l. xs ++ l) (sym (map-append plain (take i ts) (r.now ∷ [])) ∙ ap (map plain) (sym (take_more ts i r.now less ∙ ap (λ t. take i ts ++ t ∷ []) (sym is))))
+
+pub children_end : (xs : List PlainTree) (t : Tree) (k : Kind) (cs : Children) (es : QuotientEdges) (now : List (Bor Tree)) (ts : List Tree) (i : ℕ) → t ≡ Node k cs es → ts ≡ cs.list.items → length ts ≤ i →
+    map plain_at now ≡ xs ++ map plain (take i ts) → map plain_at now ≡ xs ++ below_node (plain t)
+children_end xs t k cs es now ts i is all past so =
+    so ∙ ap (λ l. xs ++ map plain l) (take_all i ts past ∙ all)
+    ∙ ap (λ l. xs ++ l) (sym (ap below_node (plain_is_node t k cs es is) ∙ listed_row (map plain (out-Children cs).list.items)))
