@@ -151,6 +151,30 @@ def script(n, count, seed):
     return "".join(lines).encode()
 
 
+def twins(n, count, seed):
+    """Vertices of the graph without edges on n names that go and come again, as twins of others, with or without an
+    edge between the two: each of the graphs is a cograph."""
+    r = random.Random(seed)
+    beside = {v: set() for v in range(n)}
+    free, lines = [], []
+    for _ in range(count):
+        if not free or len(beside) > n // 2 and r.random() < .5:
+            x = r.choice(sorted(beside))
+            for v in beside.pop(x):
+                beside[v].discard(x)
+            free.append(x)
+            lines.append("-v %d\n" % x)
+            continue
+        x = free.pop(r.randrange(len(free)))
+        twin = r.choice(sorted(beside))
+        row = set(beside[twin]) | ({twin} if r.random() < .3 else set())
+        for v in row:
+            beside[v].add(x)
+        beside[x] = row
+        lines.append("+v %d%s\n" % (x, "".join(" %d" % v for v in sorted(row))))
+    return "".join(lines).encode()
+
+
 INPUTS = {
     "none.g6": lambda: b"",
     "dense1024.g6": lambda: g6(dense(1024, 1)),
@@ -168,6 +192,8 @@ INPUTS = {
     "sparse4095.col": lambda: dimacs(sparse(4095, 8, 9)),
     "copath4096.g6": lambda: g6(path_complement(4096)),
     "cograph256.g6": lambda: g6(cograph(256, 10)),
+    "empty512.g6": lambda: g6(rows_of(512, [])),
+    "twins20000.txt": lambda: twins(512, 20000, 13),
     "cograph1024.g6": lambda: g6(cograph(1024, 11)),
     "complete4096.g6": lambda: g6(complete(4096)),
     "bipartite4096.g6": lambda: g6(complete_bipartite(4096)),
@@ -177,7 +203,7 @@ for order in (oldest_lowest, oldest_highest, in_any_order):
     for n in (1024, 2047, 4096):
         INPUTS["p4_%s_%d.g6" % (order.__name__, n)] = lambda n=n, order=order: g6(nested_p4(n, order(n)))
 
-MODES = ("tree", "compare", "permute", "edit", "cograph")
+MODES = ("tree", "compare", "permute", "edit", "cograph", "quiet")
 
 CASES = [
     ("edges", "g6", "none.g6"),
@@ -202,6 +228,8 @@ CASES = [
     ("graph6", "dimacs", "sparse4095.col"),
     ("tree", "g6", "copath4096.g6"),
     ("cograph", "g6", "cograph256.g6", "script300.txt"),
+    ("quiet", "g6", "empty512.g6", "twins20000.txt"),
+    ("big", "4096"),
     ("compare", "g6", "dense256.g6"),
     ("compare", "g6", "cograph1024.g6"),
     ("compare", "g6", "bipartite4096.g6"),

@@ -32,14 +32,14 @@ use Rattle.md_script.proofs.ChangeLemmas.{after_is_graph}
 use Rattle.md_report.specs.declared.line.GraphMode.{GraphMode}
 use Rattle.md_report.specs.declared.line.GraphMode.TheVariants.{Tree, Compare, Permute}
 use Rattle.md_report.specs.declared.line.SessionMode.{SessionMode}
-use Rattle.md_report.specs.declared.line.SessionMode.TheVariants.{Edit, Cograph}
-use Rattle.md_report.specs.Lines.{PlainLine, head, tree, applied, refused, refused_p4, not_cograph, oriented, forced, orders, forced_in, forced_in_complement, end}
+use Rattle.md_report.specs.declared.line.SessionMode.TheVariants.{Edit, Cograph, Quiet}
+use Rattle.md_report.specs.Lines.{PlainLine, head, tree, applied, applied_quiet, refused, refused_p4, not_cograph, oriented, forced, orders, forced_in, forced_in_complement, end}
 use Rattle.md_report.specs.WellFormedLines.{IsVertexName, IsNamedArc, IsNamedChain, IsNamedP4, IsNamedReason, IsWellFormedLine}
 use Rattle.md_report.specs.Orientations.{IsOrientationLine}
 use Rattle.md_report.specs.Models.{IsModelLine}
 use Rattle.md_report.specs.Sessions.{HasTreeLine, IsLineBy}
-use Rattle.md_report.specs.Cographs.{IsP4Of, HasP4Line, IsCographLineBy}
-use Rattle.md_report.specs.Places.{Place, before_head, at_graphs, before_session, at_state, at_edits, after_end, Reports, ReportsState, AnswersEdit, MayCome}
+use Rattle.md_report.specs.Cographs.{IsP4Of, HasP4Line, IsCographLineBy, IsQuietLineBy}
+use Rattle.md_report.specs.Places.{Place, before_head, at_graphs, before_session, at_state, at_edits, at_end, after_end, Reports, ReportsState, AnswersEdit, ClosesEdits, ComesAtEdits, OpensSession, MayCome}
 use Rattle.md_report.specs.Laws.{IsSound}
 
 -- a line with the tree of a graph
@@ -140,6 +140,7 @@ module _ (g : PlainGraph) (is : IsGraph g) where
   orientation_good (head mode) may = absurd may
   orientation_good (tree t) may = absurd may
   orientation_good (applied t) may = absurd may
+  orientation_good applied_quiet may = absurd may
   orientation_good (refused reason) may = absurd may
   orientation_good (refused_p4 p) may = absurd may
   orientation_good (not_cograph p) may = absurd may
@@ -155,6 +156,7 @@ module _ (g : PlainGraph) (is : IsGraph g) where
   model_good (head mode) may = absurd may
   model_good (tree t) may = absurd may
   model_good (applied t) may = absurd may
+  model_good applied_quiet may = absurd may
   model_good (refused reason) may = absurd may
   model_good (refused_p4 p) may = absurd may
   model_good (not_cograph p) may = absurd may
@@ -171,6 +173,7 @@ module _ (g : PlainGraph) (is : IsGraph g) where
   state_good Edit line may = tree_good tree (λ o w. w) g is line may
   state_good Cograph line (inl path) = p4_good not_cograph (λ p w. w) g is line path
   state_good Cograph line (inr whole) = tree_good tree (λ o w. w) g is line whole.1
+  state_good Quiet line path = p4_good not_cograph (λ p w. w) g is line path
 
   step_good : (edit : script.Edit) → HasNames edit → (o : Option EditReason) → reason_of g edit ≡ o → (line : PlainLine) → IsLineBy o g edit line → IsWellFormedLine line
   step_good edit names (Some reason) same line may = subst IsWellFormedLine (sym may) (subst IsNamedOption same (named_reason g edit names))
@@ -181,16 +184,37 @@ module _ (g : PlainGraph) (is : IsGraph g) where
   cograph_good edit names None same line (inl path) = p4_good refused_p4 (λ p w. w) (after g edit) (after_is_graph g edit is names same) line path
   cograph_good edit names None same line (inr whole) = tree_good applied (λ o w. w) (after g edit) (after_is_graph g edit is names same) line whole.1
 
+  quiet_good : (edit : script.Edit) → HasNames edit → (o : Option EditReason) → reason_of g edit ≡ o → (line : PlainLine) → IsQuietLineBy o g edit line → IsWellFormedLine line
+  quiet_good edit names (Some reason) same line may = subst IsWellFormedLine (sym may) (subst IsNamedOption same (named_reason g edit names))
+  quiet_good edit names None same line (inl path) = p4_good refused_p4 (λ p w. w) (after g edit) (after_is_graph g edit is names same) line path
+  quiet_good edit names None same line (inr whole) = subst IsWellFormedLine (sym whole.1) tt
+
   edit_good : (mode : SessionMode) (edit : script.Edit) → HasNames edit → (line : PlainLine) → AnswersEdit mode g edit line → IsWellFormedLine line
   edit_good Edit edit names line may = step_good edit names (reason_of g edit) refl line may
   edit_good Cograph edit names line may = cograph_good edit names (reason_of g edit) refl line may
+  edit_good Quiet edit names line may = quiet_good edit names (reason_of g edit) refl line may
+
+  last_good : (mode : SessionMode) (line : PlainLine) → ClosesEdits mode g line → IsWellFormedLine line
+  last_good Edit line may = subst IsWellFormedLine (sym may) tt
+  last_good Cograph line may = subst IsWellFormedLine (sym may) tt
+  last_good Quiet line may = tree_good tree (λ o w. w) g is line may
+
+  edits_good : (mode : SessionMode) (edits : List script.Edit) → All HasNames edits → (line : PlainLine) → ComesAtEdits mode g edits line → IsWellFormedLine line
+  edits_good mode (edit ∷ edits) names line may = edit_good mode edit (All-head HasNames edit edits names) line may
+  edits_good mode [] names line may = last_good mode line may
+
+  opening_good : (mode : SessionMode) (edits : List script.Edit) → All HasNames edits → (line : PlainLine) → OpensSession mode g edits line → IsWellFormedLine line
+  opening_good Edit edits names line may = state_good Edit line may
+  opening_good Cograph edits names line may = state_good Cograph line may
+  opening_good Quiet edits names line (inl path) = state_good Quiet line path
+  opening_good Quiet edits names line (inr whole) = edits_good Quiet edits names line whole.1
 
 pub coming_good : (p : Place) → IsSound p → (line : PlainLine) → MayCome p line → IsWellFormedLine line
 coming_good (before_head mode graphs) sound line may = subst IsWellFormedLine (sym may) tt
 coming_good (at_graphs mode (g ∷ graphs)) sound line may = graph_good g sound.0 mode line may
 coming_good (at_graphs mode []) sound line may = subst IsWellFormedLine (sym may) tt
 coming_good (before_session mode g edits) sound line may = subst IsWellFormedLine (sym may) tt
-coming_good (at_state mode g edits) sound line may = state_good g sound.0 mode line may
-coming_good (at_edits mode g (edit ∷ edits)) sound line may = edit_good g sound.0 mode edit (All-head HasNames edit edits sound.1) line may
-coming_good (at_edits mode g []) sound line may = subst IsWellFormedLine (sym may) tt
+coming_good (at_state mode g edits) sound line may = opening_good g sound.0 mode edits sound.1 line may
+coming_good (at_edits mode g edits) sound line may = edits_good g sound.0 mode edits sound.1 line may
+coming_good at_end sound line may = subst IsWellFormedLine (sym may) tt
 coming_good after_end sound line may = absurd may

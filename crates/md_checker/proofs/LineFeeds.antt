@@ -12,7 +12,7 @@ use Rattle.md_script.specs.declared.edit.EditReason.TheVariants.{Same, NoVertex,
 use Rattle.md_report.specs.declared.line.Mode.{Mode}
 use Rattle.md_report.specs.declared.line.Mode.TheVariants as modes
 use Rattle.md_report.specs.Cuts.{LacksByte}
-use Rattle.md_report.specs.Lines.{PlainLine, mode_word, reason_words, names_text, arc_text, arcs_text, line_text, fed_line, head, tree, applied, refused, refused_p4, not_cograph, oriented, forced, orders, forced_in, forced_in_complement, end}
+use Rattle.md_report.specs.Lines.{PlainLine, mode_word, reason_words, names_text, arc_text, arcs_text, line_text, fed_line, head, tree, applied, applied_quiet, refused, refused_p4, not_cograph, oriented, forced, orders, forced_in, forced_in_complement, end}
 use Rattle.md_report.proofs.Cutting.{one_cut, lacks_when, lacks_append}
 use Rattle.md_report.proofs.Named.{lacks_number, lacks_arc}
 use Rattle.md_report.proofs.OneLine.{one_line_proof}
@@ -55,6 +55,7 @@ lacks_mode : (m : Mode) → LacksByte 10 (mode_word m)
 lacks_mode modes.Tree = lacks_when 10 (codes "tree") refl
 lacks_mode modes.Edit = lacks_when 10 (codes "edit") refl
 lacks_mode modes.Cograph = lacks_when 10 (codes "cograph") refl
+lacks_mode modes.Quiet = lacks_when 10 (codes "quiet") refl
 lacks_mode modes.Compare = lacks_when 10 (codes "compare") refl
 lacks_mode modes.Permute = lacks_when 10 (codes "permute") refl
 
@@ -76,6 +77,7 @@ lacks_names (v ∷ names) = ((λ e. omega arith), lacks_append 10 (decimal v) (n
 lacks_line : (line : PlainLine) → LacksByte 10 (line_text line)
 lacks_line (head m) = lacks_append 10 (codes "mdt ") (mode_word m) (lacks_when 10 (codes "mdt ") refl) (lacks_mode m)
 lacks_line (tree t) = lacks_append 10 (codes "t ") (text_of t) (lacks_when 10 (codes "t ") refl) (lacks_option t)
+lacks_line applied_quiet = lacks_when 10 (codes "ok") refl
 lacks_line (applied t) = lacks_append 10 (codes "ok ") (text_of t) (lacks_when 10 (codes "ok ") refl) (lacks_option t)
 lacks_line (refused r) = lacks_append 10 (codes "no ") (reason_words r) (lacks_when 10 (codes "no ") refl) (lacks_reason r)
 lacks_line (refused_p4 p) =

@@ -1,5 +1,5 @@
 -- Bytes have one answer as a report.
-use Rattle.std.proofs.Common.{◌≡◌, ℕ, suc, ◌≤◌, refl, sym, ◌∙◌, ap, arith}
+use Rattle.std.proofs.Common.{◌≡◌, ℕ, suc, ◌≤◌, refl, ap, arith}
 use Rattle.md_checker.specs.declared.answer.CheckAnswer.TheVariants.{Accepted, Rejected}
 use Rattle.md_checker.specs.Answers.{OneAnswer}
 

@@ -10,8 +10,8 @@ use Rattle.md_script.specs.declared.edit.Edit.TheVariants.{AddEdge, DelEdge, Add
 use Rattle.md_report.specs.declared.line.GraphMode.{GraphMode}
 use Rattle.md_report.specs.declared.line.GraphMode.TheVariants.{Tree, Compare, Permute}
 use Rattle.md_report.specs.declared.line.SessionMode.{SessionMode}
-use Rattle.md_report.specs.declared.line.SessionMode.TheVariants.{Edit, Cograph}
-use Rattle.md_report.specs.Places.{Place, before_head, at_graphs, before_session, at_state, at_edits, after_end}
+use Rattle.md_report.specs.declared.line.SessionMode.TheVariants.{Edit, Cograph, Quiet}
+use Rattle.md_report.specs.Places.{Place, before_head, at_graphs, before_session, at_state, at_edits, at_end, after_end}
 
 -- a mode over graphs as a number, and back
 abbrev pub graph_mode_number : GraphMode → ℕ
@@ -36,14 +36,17 @@ graph_mode_code = code_by ℕ coded_ℕ graph_mode_number graph_mode_at graph_mo
 abbrev pub session_mode_number : SessionMode → ℕ
 session_mode_number Edit = 0
 session_mode_number Cograph = 1
+session_mode_number Quiet = 2
 
 abbrev pub session_mode_at : ℕ → SessionMode
 session_mode_at zero = Edit
-session_mode_at (suc n) = Cograph
+session_mode_at (suc zero) = Cograph
+session_mode_at (suc (suc n)) = Quiet
 
 pub session_mode_back : (mode : SessionMode) → session_mode_at (session_mode_number mode) ≡ mode
 session_mode_back Edit = refl
 session_mode_back Cograph = refl
+session_mode_back Quiet = refl
 
 abbrev pub session_mode_code : Coded SessionMode
 session_mode_code = code_by ℕ coded_ℕ session_mode_number session_mode_at session_mode_back
@@ -90,7 +93,7 @@ session_parts_code = coded× session_mode_code (coded× graph_code (coded_list e
 
 -- a place by its parts, and back
 abbrev pub PlaceParts : Type 0
-PlaceParts = GraphParts ⊎ (GraphParts ⊎ (SessionParts ⊎ (SessionParts ⊎ (SessionParts ⊎ Unit {0}))))
+PlaceParts = GraphParts ⊎ (GraphParts ⊎ (SessionParts ⊎ (SessionParts ⊎ (SessionParts ⊎ (Unit {0} ⊎ Unit {0})))))
 
 abbrev pub place_parts : Place → PlaceParts
 place_parts (before_head mode graphs) = inl (mode, graphs)
@@ -98,7 +101,8 @@ place_parts (at_graphs mode graphs) = inr (inl (mode, graphs))
 place_parts (before_session mode g edits) = inr (inr (inl (mode, (g, edits))))
 place_parts (at_state mode g edits) = inr (inr (inr (inl (mode, (g, edits)))))
 place_parts (at_edits mode g edits) = inr (inr (inr (inr (inl (mode, (g, edits))))))
-place_parts after_end = inr (inr (inr (inr (inr tt))))
+place_parts at_end = inr (inr (inr (inr (inr (inl tt)))))
+place_parts after_end = inr (inr (inr (inr (inr (inr tt)))))
 
 abbrev pub place_of_parts : PlaceParts → Place
 place_of_parts (inl p) = before_head p.0 p.1
@@ -106,7 +110,8 @@ place_of_parts (inr (inl p)) = at_graphs p.0 p.1
 place_of_parts (inr (inr (inl p))) = before_session p.0 p.1.0 p.1.1
 place_of_parts (inr (inr (inr (inl p)))) = at_state p.0 p.1.0 p.1.1
 place_of_parts (inr (inr (inr (inr (inl p))))) = at_edits p.0 p.1.0 p.1.1
-place_of_parts (inr (inr (inr (inr (inr _))))) = after_end
+place_of_parts (inr (inr (inr (inr (inr (inl _)))))) = at_end
+place_of_parts (inr (inr (inr (inr (inr (inr _)))))) = after_end
 
 pub place_back : (p : Place) → place_of_parts (place_parts p) ≡ p
 place_back (before_head mode graphs) = refl
@@ -114,9 +119,10 @@ place_back (at_graphs mode graphs) = refl
 place_back (before_session mode g edits) = refl
 place_back (at_state mode g edits) = refl
 place_back (at_edits mode g edits) = refl
+place_back at_end = refl
 place_back after_end = refl
 
 abbrev pub place_code : Coded Place
 place_code =
-    code_by PlaceParts (coded⊎ graph_parts_code (coded⊎ graph_parts_code (coded⊎ session_parts_code (coded⊎ session_parts_code (coded⊎ session_parts_code coded_unit)))))
+    code_by PlaceParts (coded⊎ graph_parts_code (coded⊎ graph_parts_code (coded⊎ session_parts_code (coded⊎ session_parts_code (coded⊎ session_parts_code (coded⊎ coded_unit coded_unit))))))
     place_parts place_of_parts place_back

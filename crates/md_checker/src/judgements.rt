@@ -9,22 +9,24 @@ ghost use Rattle.md_tree.specs.Plain.{plain_option};
 ghost use Rattle.md_tree.specs.StrongTrees.{IsTree};
 ghost use Rattle.md_tree.specs.WellFormed.{IsWellFormed};
 ghost use Rattle.md_script.specs.Edit.{HasNames, reason_of, after};
+ghost use Rattle.md_report.specs.declared.line.SessionMode.TheVariants.{Quiet};
 ghost use Rattle.md_report.specs.Lines.{plain_line, tree, applied, refused, not_cograph};
 ghost use Rattle.md_report.specs.WellFormedLines.{IsWellFormedLine};
-ghost use Rattle.md_report.specs.Places.{Reports, ReportsState, AnswersEdit};
+ghost use Rattle.md_report.specs.Places.{Reports, ReportsState, AnswersEdit, ClosesEdits};
 ghost use Rattle.md_report.specs.Sessions.{HasTreeLine, state_behind};
 ghost use Rattle.md_report.specs.Orientations.{IsOrientationLine};
 ghost use Rattle.md_report.specs.Models.{IsModelLine};
-ghost use Rattle.md_report.specs.Cographs.{IsCograph, IsP4Of, IsOpeningLine};
-ghost use Rattle.md_checker.specs.States.{IsStateTree, IsRefusedPath};
+ghost use Rattle.md_report.specs.Cographs.{IsCograph, IsP4Of, HasP4Line, IsOpeningLine};
+ghost use Rattle.md_checker.specs.States.{IsStateTree, IsStateAlone, IsRefusedPath};
 
 use crate::certificates::{is_forcing_chain, is_least_edge_orientation, realise};
+use crate::fixed_lines::is_end;
 use crate::tree_fit::fits;
 use md_forcing::{Chain, Side};
 use md_graph::{Graph, Memory};
 use md_modules::{P4, is_p4};
 use md_orientation::{Ending, walk};
-use md_report::{GraphMode, Line, SessionMode};
+use md_report::{GraphMode, Line, SessionMode, made_p4};
 use md_script::{Edit, EditReason, apply, lost_row, reason, take_back};
 use md_tree::{Tree, is_cotree};
 use std::alloc::Global;
@@ -117,6 +119,35 @@ pub(crate) fn reports_state(
     match mode {
         SessionMode::Edit => is_tree_line(alloc, graph, line),
         SessionMode::Cograph => is_opening_line(alloc, graph, line),
+        SessionMode::Quiet => Ok(is_path_line(graph, line)),
+    }
+}
+
+// Whether the line tells of an induced P4 of the graph.
+fn is_path_line(graph: &Graph, line: &Line) -> bool
+    ensures { IsTrue result ↔ HasP4Line not_cograph graph.now (plain_line line.now) }
+{
+    match line {
+        Line::NotCograph(p) => is_p4(graph, p),
+        _ => false,
+    }
+}
+
+// Whether the line is the one behind all answers, where the graph is the last state. Condition: the
+// line is well-formed.
+pub(crate) fn closes_edits(
+    alloc: Global,
+    mode: SessionMode,
+    graph: &Graph,
+    line: &Line,
+) -> Result<bool, Memory>
+    requires { IsWellFormedLine (plain_line line.now) }
+    ensures { IfOk result (λ fit. IsTrue fit ↔ ClosesEdits mode graph.now (plain_line line.now)) }
+{
+    match mode {
+        SessionMode::Edit => Ok(is_end(line)),
+        SessionMode::Cograph => Ok(is_end(line)),
+        SessionMode::Quiet => is_tree_line(alloc, graph, line),
     }
 }
 
@@ -146,6 +177,7 @@ fn is_state_tree(
     match mode {
         SessionMode::Edit => fits(alloc, graph, tree),
         SessionMode::Cograph => is_tree_of_cograph(alloc, graph, tree),
+        SessionMode::Quiet => Ok(false),
     }
 }
 
@@ -174,7 +206,8 @@ fn is_of_cograph(tree: &Option<Tree>) -> bool
 }
 
 // Whether the line answers the edit at the graph, which then is the state behind it; else, and for
-// want of memory, it stays. Condition: the line is well-formed, and the names in the edit are names.
+// want of memory, it stays. Conditions: the line is well-formed, and the names in the edit are names;
+// in mode quiet the graph is a cograph.
 pub(crate) fn answers_edit(
     alloc: Global,
     mode: SessionMode,
@@ -184,6 +217,7 @@ pub(crate) fn answers_edit(
 ) -> Result<bool, Memory>
     requires line { IsWellFormedLine (plain_line line.now) }
     requires names { HasNames edit.now }
+    requires cograph { mode ≡ Quiet → IsCograph graph.old }
     ensures may { IfOk result (λ taken.
         IsTrue taken ↔ AnswersEdit mode graph.old edit.now (plain_line line.now)) }
     ensures next { IfOk result (λ taken. graph.new
@@ -195,6 +229,7 @@ pub(crate) fn answers_edit(
     }
     match line {
         Line::Applied(tree) => is_applied(alloc, mode, graph, edit, tree),
+        Line::AppliedQuiet => Ok(is_applied_alone(mode, graph, edit)),
         Line::RefusedP4(p) => Ok(is_refused_p4(mode, graph, edit, p)),
         _ => Ok(false),
     }
@@ -238,6 +273,41 @@ fn is_applied(
     fit
 }
 
+// Whether the graph after the edit may be a state of a session of the mode, of which no tree is told:
+// the graph is that one then, and else stays. Conditions: there is no reason against the edit, and in
+// mode quiet the graph is a cograph.
+fn is_applied_alone(mode: SessionMode, graph: &mut Graph, edit: &Edit) -> bool
+    requires applies { reason_of graph.old edit.now ≡ None }
+    requires names { HasNames edit.now }
+    requires cograph { mode ≡ Quiet → IsCograph graph.old }
+    ensures may { IsTrue result ↔ IsStateAlone mode (after graph.old edit.now) }
+    ensures next { graph.new ≡ (if result then after graph.old edit.now else graph.old) }
+{
+    match mode {
+        SessionMode::Edit => false,
+        SessionMode::Cograph => false,
+        SessionMode::Quiet => keeps_cograph(graph, edit),
+    }
+}
+
+// Whether the graph after the edit is a cograph: the graph is that one then, and else stays.
+// Conditions: there is no reason against the edit, and the graph is a cograph.
+fn keeps_cograph(graph: &mut Graph, edit: &Edit) -> bool
+    requires applies { reason_of graph.old edit.now ≡ None }
+    requires names { HasNames edit.now }
+    requires cograph { IsCograph graph.old }
+    ensures may { IsTrue result ↔ IsCograph (after graph.old edit.now) }
+    ensures next { graph.new ≡ (if result then after graph.old edit.now else graph.old) }
+{
+    let row = lost_row(graph, edit);
+    apply(graph, edit);
+    if let Some(_) = made_p4(graph, edit) {
+        take_back(graph, edit, &row);
+        return false;
+    }
+    true
+}
+
 // Whether an answer is that something is so.
 fn is_true(answer: &Result<bool, Memory>) -> bool
     ensures { IsTrue result ↔ (answer.now ≡ Ok true) }
@@ -270,5 +340,6 @@ fn is_path_of_state(mode: SessionMode, graph: &Graph, p: &P4) -> bool
     match mode {
         SessionMode::Edit => false,
         SessionMode::Cograph => is_p4(graph, p),
+        SessionMode::Quiet => is_p4(graph, p),
     }
 }

@@ -1,14 +1,19 @@
 //! Checks the lines of a report of a session, one after the other.
-ghost use Rattle.std.specs.Prelude.{◌≡◌, ◌↔◌, List, [], if◌then◌else◌, IfOk, IsErr, IsTrue};
+ghost use Rattle.std.specs.Prelude.{◌≡◌, ◌≤◌, ◌↔◌, List, [], if◌then◌else◌, length, drop, IfOk, IfSome, IfNone, IsErr, IsTrue};
+ghost use Rattle.md_graph.specs.PlainGraph.{PlainGraph};
 ghost use Rattle.md_script.specs.declared.edit.Edit as script;
+ghost use Rattle.md_report.specs.declared.line.SessionMode.TheVariants.{Quiet};
 ghost use Rattle.md_report.specs.Lines.{plain_line};
 ghost use Rattle.md_report.specs.WellFormedLines.{IsWellFormedLine};
-ghost use Rattle.md_report.specs.Cographs.{edits_behind};
-ghost use Rattle.md_report.specs.Places.{before_session, after_end, MayCome, next_place};
+ghost use Rattle.md_report.specs.Cographs.{IsCograph, edits_behind};
+ghost use Rattle.md_report.specs.Places.{before_session, at_state, at_edits, after_end, closed_place, MayCome, next_place};
+ghost use Rattle.md_checker.specs.declared.session_checker.SessionDue.TheVariants.{Edits};
+ghost use Rattle.md_checker.specs.Standing.{session_place, IsStep};
 
 use crate::fixed_lines::{is_end, is_head};
-use crate::judgements::{answers_edit, reports_state};
+use crate::judgements::{answers_edit, closes_edits, reports_state};
 use md_graph::{Graph, Memory};
+use md_modules::find_p4;
 use md_report::{Line, SessionMode};
 use md_script::Script;
 use std::alloc::Global;
@@ -21,10 +26,19 @@ enum SessionDue {
     Head,
     // The line of the first state.
     State,
-    // The answer to the next edit; the last line where no edit is left.
+    // The answer to the next edit; the line behind all answers where no edit is left.
     Edits,
+    // The last line.
+    End,
     // None.
     Nothing,
+}
+
+// Where a line that came leads: which line is due, and how many edits are answered or need no answer.
+#[derive(Clone, Copy, Debug, PartialEq, Eq)]
+struct Step {
+    due: SessionDue,
+    answered: u64,
 }
 
 // What may still come of a report of a session: it is seen as a place of the report. It keeps the
@@ -42,7 +56,7 @@ impl Model for SessionChecker {
     ghost use Rattle.std.specs.Prelude.{◌≤◌, length, drop};
     ghost use Rattle.md_report.specs.Places.{Place};
     ghost use Rattle.md_checker.specs.Codes.{place_code};
-    ghost use Rattle.md_checker.specs.Standing.{session_place};
+    ghost use Rattle.md_checker.specs.Standing.{session_place, StaysCograph};
 
     ghost Value = { Place };
 
@@ -50,7 +64,7 @@ impl Model for SessionChecker {
 
     ghost view = { λ c. session_place c.due c.mode c.graph (drop c.answered c.script) };
 
-    ghost invariant = { λ c. c.answered ≤ length c.script };
+    ghost invariant = { λ c. (c.answered ≤ length c.script) × StaysCograph c.due c.mode c.graph };
 }
 
 impl SessionChecker {
@@ -92,32 +106,189 @@ impl SessionChecker {
                 Ok(true)
             }
             SessionDue::State => {
-                if !reports_state(alloc, self.mode, &self.graph, line)? {
+                let (mode, answered) = (self.mode, self.answered);
+                let first = opens(alloc, mode, &mut self.graph, &self.script, answered, line)?;
+                let Some(step) = first else {
                     return Ok(false);
-                }
-                if ends_session(line) {
-                    self.answered = self.script.len();
-                }
-                self.due = SessionDue::Edits;
+                };
+                self.due = step.due;
+                self.answered = step.answered;
                 Ok(true)
             }
             SessionDue::Edits => {
-                if self.answered == self.script.len() {
-                    if !is_end(line) {
-                        return Ok(false);
-                    }
-                    self.due = SessionDue::Nothing;
-                    return Ok(true);
-                }
-                let edit = self.script.get(self.answered);
-                if !answers_edit(alloc, self.mode, &mut self.graph, edit, line)? {
+                let (mode, answered) = (self.mode, self.answered);
+                let next = comes(alloc, mode, &mut self.graph, &self.script, answered, line)?;
+                let Some(step) = next else {
+                    return Ok(false);
+                };
+                self.due = step.due;
+                self.answered = step.answered;
+                Ok(true)
+            }
+            SessionDue::End => {
+                if !is_end(line) {
                     return Ok(false);
                 }
-                self.answered += 1;
+                self.due = SessionDue::Nothing;
                 Ok(true)
             }
             SessionDue::Nothing => Ok(false),
         }
+    }
+}
+
+// Where the line leads behind the head of a session, the graph being the first state; the graph is
+// then the state behind the line. None where the line may not come; the graph stays then, and for
+// want of memory. Condition: the line is well-formed.
+fn opens(
+    alloc: Global,
+    mode: SessionMode,
+    graph: &mut Graph,
+    script: &Script,
+    answered: u64,
+    line: &Line,
+) -> Result<Option<Step>, Memory>
+    requires line { IsWellFormedLine (plain_line line.now) }
+    requires room { answered ≤ length script.now }
+    ensures leads { IfOk result (λ next. IfSome next (λ step. IsStep
+        (at_state mode graph.old (drop answered script.now)) (plain_line line.now) step mode
+        graph.new script.now)) }
+    ensures none { IfOk result (λ next. IfNone next ((MayCome
+        (at_state mode graph.old (drop answered script.now)) (plain_line line.now) → ⊥)
+        × (graph.new ≡ graph.old))) }
+    ensures stays { IsErr result → graph.new ≡ graph.old }
+{
+    match mode {
+        SessionMode::Edit => opens_told(alloc, mode, graph, script, answered, line),
+        SessionMode::Cograph => opens_told(alloc, mode, graph, script, answered, line),
+        SessionMode::Quiet => opens_quiet(alloc, graph, script, answered, line),
+    }
+}
+
+// The same in a mode whose reports tell of the first state. Condition: the line is well-formed, and
+// the mode is not quiet.
+fn opens_told(
+    alloc: Global,
+    mode: SessionMode,
+    graph: &Graph,
+    script: &Script,
+    answered: u64,
+    line: &Line,
+) -> Result<Option<Step>, Memory>
+    requires line { IsWellFormedLine (plain_line line.now) }
+    requires room { answered ≤ length script.now }
+    requires told { mode ≡ Quiet → ⊥ }
+    ensures leads { IfOk result (λ next. IfSome next (λ step. IsStep
+        (at_state mode graph.now (drop answered script.now)) (plain_line line.now) step mode
+        graph.now script.now)) }
+    ensures none { IfOk result (λ next. IfNone next (MayCome
+        (at_state mode graph.now (drop answered script.now)) (plain_line line.now) → ⊥)) }
+{
+    if !reports_state(alloc, mode, graph, line)? {
+        return Ok(None);
+    }
+    Ok(Some(Step {
+        due: SessionDue::Edits,
+        answered: answered_behind(script, answered, line),
+    }))
+}
+
+// How many edits are answered or need no answer behind the line of the first state.
+fn answered_behind(script: &Script, answered: u64, line: &Line) -> u64
+    requires { answered ≤ length script.now }
+    ensures room { result ≤ length script.now }
+    ensures left { drop result script.now
+        ≡ edits_behind (plain_line line.now) (drop answered script.now) }
+{
+    if ends_session(line) {
+        return script.len();
+    }
+    answered
+}
+
+// The same in mode quiet, where a cograph has no line of its own. Condition: the line is
+// well-formed.
+fn opens_quiet(
+    alloc: Global,
+    graph: &mut Graph,
+    script: &Script,
+    answered: u64,
+    line: &Line,
+) -> Result<Option<Step>, Memory>
+    requires line { IsWellFormedLine (plain_line line.now) }
+    requires room { answered ≤ length script.now }
+    ensures leads { IfOk result (λ next. IfSome next (λ step. IsStep
+        (at_state Quiet graph.old (drop answered script.now)) (plain_line line.now) step Quiet
+        graph.new script.now)) }
+    ensures none { IfOk result (λ next. IfNone next ((MayCome
+        (at_state Quiet graph.old (drop answered script.now)) (plain_line line.now) → ⊥)
+        × (graph.new ≡ graph.old))) }
+    ensures stays { IsErr result → graph.new ≡ graph.old }
+{
+    let mode = SessionMode::Quiet;
+    if reports_state(alloc, mode, graph, line)? {
+        return Ok(Some(Step {
+            due: SessionDue::End,
+            answered,
+        }));
+    }
+    if find_p4(graph).is_some() {
+        return Ok(None);
+    }
+    comes(alloc, mode, graph, script, answered, line)
+}
+
+// Where the line leads at the edits, the graph being the state; the graph is then the state behind
+// the line. None where the line may not come; the graph stays then, and for want of memory.
+// Conditions: the line is well-formed; in mode quiet the graph is a cograph.
+fn comes(
+    alloc: Global,
+    mode: SessionMode,
+    graph: &mut Graph,
+    script: &Script,
+    answered: u64,
+    line: &Line,
+) -> Result<Option<Step>, Memory>
+    requires line { IsWellFormedLine (plain_line line.now) }
+    requires room { answered ≤ length script.now }
+    requires cograph { mode ≡ Quiet → IsCograph graph.old }
+    ensures leads { IfOk result (λ next. IfSome next (λ step. IsStep
+        (at_edits mode graph.old (drop answered script.now)) (plain_line line.now) step mode
+        graph.new script.now)) }
+    ensures none { IfOk result (λ next. IfNone next ((MayCome
+        (at_edits mode graph.old (drop answered script.now)) (plain_line line.now) → ⊥)
+        × (graph.new ≡ graph.old))) }
+    ensures stays { IsErr result → graph.new ≡ graph.old }
+{
+    if answered == script.len() {
+        if !closes_edits(alloc, mode, graph, line)? {
+            return Ok(None);
+        }
+        return Ok(Some(Step {
+            due: due_behind_edits(mode),
+            answered,
+        }));
+    }
+    let edit = script.get(answered);
+    if !answers_edit(alloc, mode, graph, edit, line)? {
+        return Ok(None);
+    }
+    Ok(Some(Step {
+        due: SessionDue::Edits,
+        answered: answered + 1,
+    }))
+}
+
+// Which line is due behind the one that came behind all answers.
+fn due_behind_edits(mode: SessionMode) -> SessionDue
+    ensures due { (g : PlainGraph) (edits : List script.Edit)
+        → session_place result mode g edits ≡ closed_place mode }
+    ensures none { result ≡ Edits → ⊥ }
+{
+    match mode {
+        SessionMode::Edit => SessionDue::Nothing,
+        SessionMode::Cograph => SessionDue::Nothing,
+        SessionMode::Quiet => SessionDue::End,
     }
 }
 

@@ -170,6 +170,78 @@ fn reports_of_sessions(rt: HostRuntime) {
 }
 
 #[test]
+fn reports_in_mode_quiet(rt: HostRuntime) {
+    let accepted = CheckAnswer::Accepted;
+    let alone: (&[u8], &[u8]) = (b"@\n", b"");
+    let path: (&[u8], &[u8]) = (b"Ch\n", b"+e 0 2\n");
+    let grown: (&[u8], &[u8]) = (b"C?\n", b"+e 0 1\n+e 1 2\n+e 2 3\n+e 0 1\n");
+    let cases: [((&[u8], &[u8]), &[u8], CheckAnswer); 14] = [
+        (alone, b"mdt quiet\nt 0\nend\n", accepted),
+        (path, b"mdt quiet\np4 0 1 2 3\nend\n", accepted),
+        (path, b"mdt quiet\nok\n", CheckAnswer::Rejected(2)),
+        (
+            grown,
+            b"mdt quiet\nok\nok\nno p4 0 1 2 3\nno edge-there\nt P(S(P(0,2),1),3)\nend\n",
+            accepted,
+        ),
+        (
+            grown,
+            b"ok\nok\nno p4 0 1 2 3\nno edge-there\nt P(S(P(0,2),1),3)\nend\n",
+            CheckAnswer::Rejected(1),
+        ),
+        (
+            grown,
+            b"mdt quiet\nok\nno p4 0 1 2 3\nno edge-there\nt P(S(P(0,2),1),3)\nend\n",
+            CheckAnswer::Rejected(3),
+        ),
+        (
+            grown,
+            b"mdt quiet\nok\nok\nno edge-there\nt P(S(P(0,2),1),3)\nend\n",
+            CheckAnswer::Rejected(4),
+        ),
+        (
+            grown,
+            b"mdt quiet\nok\nok\nno p4 0 1 2 3\nt P(S(P(0,2),1),3)\nend\n",
+            CheckAnswer::Rejected(5),
+        ),
+        (
+            grown,
+            b"mdt quiet\nok\nok\nno p4 0 1 2 3\nno edge-there\nend\n",
+            CheckAnswer::Rejected(6),
+        ),
+        (
+            grown,
+            b"mdt quiet\nok\nok\nno p4 0 1 2 3\nno edge-there\nt P(S(P(0,2),1),3)\n",
+            CheckAnswer::Rejected(7),
+        ),
+        (
+            grown,
+            b"mdt quiet\nok\nok\nok\nno edge-there\nt P(0,1,2,3)\nend\n",
+            CheckAnswer::Rejected(4),
+        ),
+        (
+            grown,
+            b"mdt quiet\nok P(S(0,1),2,3)\n",
+            CheckAnswer::Rejected(2),
+        ),
+        (
+            grown,
+            b"mdt quiet\nok\nt P(S(0,1),2,3)\n",
+            CheckAnswer::Rejected(3),
+        ),
+        (
+            grown,
+            b"mdt quiet\np4 0 1 2 3\nend\n",
+            CheckAnswer::Rejected(2),
+        ),
+    ];
+    for (files, report, want) in &cases {
+        let got = session_answer(&rt, rt.alloc(), SessionMode::Quiet, *files, *report);
+        assert!(&rt; got == *want);
+    }
+}
+
+#[test]
 fn lines_fed(rt: HostRuntime) -> Result<(), Fail> {
     let Ok(mut checker) = Checker::over_graphs(rt.alloc(), GraphMode::Tree, Format::G6, b"") else {
         panic!(&rt; "stopped");

@@ -29,7 +29,7 @@ pub record IsWalk (kids start now : List ℕ) (next : Option ℕ) : Type 0 where
 pub walk_begin : (kids start : List ℕ) (next : Option ℕ) → next ≡ first_or kids None → IsWalk kids start start next
 walk_begin kids start next is = record { done = []; left = kids; whole = refl; reached = sym (append-nil start); at = is }
 
-behind_front : (c : ℕ) (done left : List ℕ) → times c done ≡ 0 → behind c (done ++ c ∷ left) ≡ first_or left None
+pub behind_front : (c : ℕ) (done left : List ℕ) → times c done ≡ 0 → behind c (done ++ c ∷ left) ≡ first_or left None
 behind_front c [] left none = ap (λ b. cond b (first_or left None) (behind c left)) (eq-eqb c c refl)
 behind_front c (x ∷ done) left none =
     ap (λ b. cond b (first_or (done ++ c ∷ left) None) (behind c (done ++ c ∷ left))) (ne_eqb x c (λ e. let one = times-first c done in let f = ap (λ z. times c (z ∷ done)) e in omega arith))

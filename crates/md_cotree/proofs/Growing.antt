@@ -38,7 +38,7 @@ module _ (xs : List (Option ℕ)) (v p : ℕ) (long : length xs ≡ NAMES) (low 
   set_at : (w : ℕ) → get_or (set xs v (Some p)) w None ≡ cond (w == v) (Some p) (get_or xs w None)
   set_at w = get_or-set xs v w (Some p) None (let e = long in omega arith)
 
-  leaf_named : (ts : PlaceTrees) → ((w q : ℕ) → leaves_among q w ts ≡ holds_once (get_or xs w None) q) → (w q : ℕ) →
+  pub leaf_named : (ts : PlaceTrees) → ((w q : ℕ) → leaves_among q w ts ≡ holds_once (get_or xs w None) q) → (w q : ℕ) →
       leaves_among q w (joined ts (then (tip p v) no_more)) ≡ holds_once (get_or (set xs v (Some p)) w None) q
   leaf_named ts names w q =
       leaves-joined q w ts (then (tip p v) no_more) ∙ elim (cases_eq w v) [ inl same ↦ here same | inr differ ↦ there differ ]

@@ -58,11 +58,11 @@ mutual
 -- ---- names in a list
 
 abbrev mutual
-  name_list : PlaceTree → List ℕ
+  pub name_list : PlaceTree → List ℕ
   name_list (tip p v) = v ∷ []
   name_list (inner p k ts) = names_list ts
 
-  names_list : PlaceTrees → List ℕ
+  pub names_list : PlaceTrees → List ℕ
   names_list no_more = []
   names_list (then t ts) = name_list t ++ names_list ts
 
@@ -71,7 +71,7 @@ mutual
   list_times x (tip p v) = omega arith
   list_times x (inner p k ts) = lists_times x ts
 
-  lists_times : (x : ℕ) (ts : PlaceTrees) → times x (names_list ts) ≡ name_row x ts
+  pub lists_times : (x : ℕ) (ts : PlaceTrees) → times x (names_list ts) ≡ name_row x ts
   lists_times x no_more = refl
   lists_times x (then t ts) = let e = times-append x (name_list t) (names_list ts) in let a = list_times x t in let b = lists_times x ts in omega arith
 
@@ -80,11 +80,11 @@ mutual
   list_long (tip p v) = refl
   list_long (inner p k ts) = lists_long ts
 
-  lists_long : (ts : PlaceTrees) → length (names_list ts) ≡ leaf_counts ts
+  pub lists_long : (ts : PlaceTrees) → length (names_list ts) ≡ leaf_counts ts
   lists_long no_more = refl
   lists_long (then t ts) = let e = length-append (name_list t) (names_list ts) in let a = list_long t in let b = lists_long ts in omega arith
 
-few_leaves : (t : PlaceTree) → AreNamed t → leaf_count t ≤ NAMES
+pub few_leaves : (t : PlaceTree) → AreNamed t → leaf_count t ≤ NAMES
 few_leaves t is =
     subst (λ n. n ≤ NAMES) (list_long t)
     (few NAMES (name_list t) (λ x. let o = is.once x in let e = list_times x t in omega arith) (λ x high.
@@ -98,7 +98,7 @@ mutual
   few_nodes (tip p v) is = omega arith
   few_nodes (inner p k ts) is = let rest = few_below ts is.2 in let two = is.0 in omega arith
 
-  few_below : (ts : PlaceTrees) → AllAlternate ts → node_counts ts + row_length ts ≤ 2 * leaf_counts ts
+  pub few_below : (ts : PlaceTrees) → AllAlternate ts → node_counts ts + row_length ts ≤ 2 * leaf_counts ts
   few_below no_more is = omega arith
   few_below (then t ts) is = let first = few_nodes t is.0 in let rest = few_below ts is.1 in omega arith
 
@@ -120,7 +120,7 @@ module _ (c : Cotree) (t : PlaceTree) (kept : IsKeptAs c (Some t)) where
           let h = hit a a refl in
           omega arith
 
-  pub kept_room : AreLinks c.lists → 1 < spare_count c.lists
+  pub kept_room : AreLinks c.lists → 3 < spare_count c.lists
   kept_room ok =
       let all = room c.lists (then t no_more) ok kept.fits in
       let nodes = few_nodes t kept.alternates.0 in

@@ -1,5 +1,5 @@
 -- One edit of an edge, from the cotree to the cotree.
-use Rattle.std.proofs.Common.{◌≡◌, ◌≢◌, ℕ, ◌<◌, Bool, true, false, cond, [], Option, ◌↔◌, Some, None, is_some, refl, sym, ◌∙◌, ap, subst}
+use Rattle.std.proofs.Common.{◌≡◌, ◌≢◌, ℕ, ◌<◌, Bool, true, false, cond, [], Option, ◌↔◌, Some, None, is_some, refl, sym, ◌∙◌, ap, subst, arith}
 use Rattle.std.proofs.lemmas.Bool.{false≢true}
 use Rattle.md_graph.specs.Sets.{Has}
 use Rattle.md_graph.specs.PlainGraph.{PlainGraph, adjacent}
@@ -58,7 +58,7 @@ module _ (c : Cotree) (ok : AreLinks c.lists) (u v : ℕ) (k : Bool) (can : CanT
   right_there = there v can.3
 
   pub turn_room : 1 < spare_count c.lists
-  turn_room = kept_room c t kept ok
+  turn_room = let room = kept_room c t kept ok in omega arith
 
   module _ (a b : ℕ) (at_a : place_at c u ≡ Some a) (at_b : place_at c v ≡ Some b) where
     pub is_site : Site c.lists t k u v a b

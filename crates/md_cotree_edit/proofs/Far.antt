@@ -23,11 +23,11 @@ use Rattle.md_cotree_edit.proofs.Told.{AreNamed, graph_in, told_graph, same_valu
 -- ---- names
 
 mutual
-  some_name : (t : PlaceTree) → Alternates t → (x : ℕ) × (0 < name_in x t)
+  pub some_name : (t : PlaceTree) → Alternates t → (x : ℕ) × (0 < name_in x t)
   some_name (tip p v) is = (v, let h = hit v v refl in omega arith)
   some_name (inner p k ts) is = names_some ts is.2 (let two = is.0 in omega arith)
 
-  names_some : (ts : PlaceTrees) → AllAlternate ts → 0 < row_length ts → (x : ℕ) × (0 < name_row x ts)
+  pub names_some : (ts : PlaceTrees) → AllAlternate ts → 0 < row_length ts → (x : ℕ) × (0 < name_row x ts)
   names_some no_more is some = absurd (omega arith)
   names_some (then t ts) is some = let first = some_name t is.0 in (first.0, let low = first.1 in omega arith)
 

@@ -59,7 +59,7 @@ same_root t s a =
       | inr other ↦ absurd (let e = a.roots_same (place_of t) in let h = hit (place_of t) (place_of t) refl in let m = miss (place_of s) (place_of t) other in omega arith)
     ]
 
-no_parent : (o : Option ℕ) → ((p : ℕ) → holds_once o p ≡ 0) → o ≡ None
+pub no_parent : (o : Option ℕ) → ((p : ℕ) → holds_once o p ≡ 0) → o ≡ None
 no_parent None none = refl
 no_parent (Some q) none = absurd (let e = none q in let h = holds-once-same q in omega arith)
 

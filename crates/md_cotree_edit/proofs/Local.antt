@@ -96,7 +96,7 @@ pub pair_turned : (x y : ℕ) (ts : PlaceTrees) → pair_row x y ts ≡ pair_row
 pair_turned x y no_more = refl
 pair_turned x y (then t ts) = let rest = pair_turned x y ts in omega arith
 
-cond_zero : (k : Bool) (n : ℕ) → n ≡ 0 → ◌≡◌ {A = ℕ} (cond k n 0) 0
+pub cond_zero : (k : Bool) (n : ℕ) → n ≡ 0 → ◌≡◌ {A = ℕ} (cond k n 0) 0
 cond_zero true n e = e
 cond_zero false n e = refl
 

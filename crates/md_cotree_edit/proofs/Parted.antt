@@ -26,7 +26,7 @@ turned_sym true g u v = let low : min v u ≡ min u v = omega arith in let high 
 turned_sym false g u v = let low : min v u ≡ min u v = omega arith in let high : max v u ≡ max u v = omega arith in λ i. record { vertices = g.vertices; edges = set.insert g.edges (low i, high i) }
 
 mutual
-  leaf_name : (p x : ℕ) (t : PlaceTree) → leaves_in p x t ≤ name_in x t
+  pub leaf_name : (p x : ℕ) (t : PlaceTree) → leaves_in p x t ≤ name_in x t
   leaf_name p x (tip q w) = go (q == p) (w == x)
     where
       go : (a b : Bool) → cond (a && b) 1 0 ≤ cond b 1 0

@@ -95,7 +95,7 @@ same_rest t ts us a = record {
   alternates = λ n. (n.0, a.alternates n.1);
 }
 
-plus_none : (m n : ℕ) → m + 0 ≡ n + 0 → m ≡ n
+pub plus_none : (m n : ℕ) → m + 0 ≡ n + 0 → m ≡ n
 plus_none m n e = omega arith
 
 -- what one tree in place of another has

@@ -1,5 +1,5 @@
 -- The cotree after an edit.
-use Rattle.std.proofs.Common.{◌≡◌, ◌≢◌, ℕ, ◌+◌, Bool, true, false, cond, [], Option, Some, None, sym, ◌∙◌, ap, subst, arith}
+use Rattle.std.proofs.Common.{◌≡◌, ◌≢◌, ℕ, ◌+◌, Bool, true, false, cond, [], Option, Some, None, Result, Ok, Err, OnOk, OnErr, sym, ◌∙◌, ap, subst, arith}
 use Rattle.std.specs.Option.{option_map}
 use Rattle.md_graph.specs.Sets.{Has}
 use Rattle.md_graph.specs.PlainGraph.{PlainGraph}
@@ -9,7 +9,7 @@ use Rattle.md_tree.specs.Trees.{names}
 use Rattle.md_tree.specs.TreeGraph.{graph_of_tree}
 use Rattle.md_cotree.specs.declared.cotree.Cotree.{Cotree}
 use Rattle.md_cotree.specs.PlaceTrees.{PlaceTree, tip, no_more, then, shape, Fits}
-use Rattle.md_cotree.specs.Cotrees.{IsKeptAs, Denotes}
+use Rattle.md_cotree.specs.Cotrees.{IsKeptAs, IsSoundCotree, Denotes}
 use Rattle.md_cotree_edit.specs.Counts.{name_in, edge_in, crossing}
 use Rattle.md_cotree_edit.specs.Turns.{IsLifted, turned_graph}
 use Rattle.md_cotree_edit.proofs.Same.{SameTree, tree_name, tree_edge}
@@ -67,3 +67,8 @@ module _ (c : Cotree) (t : PlaceTree) (kept : IsKeptAs c (Some t)) (whole : Plac
     settled_kept,
     settled_graph (subst (λ k. Has k.vertices u) (sym is) hu) (subst (λ k. Has k.vertices v) (sym is) hv) differ ∙ ap (λ k. turned_graph series k u v) is,
   )
+
+-- done or refused, a cotree is sound
+pub still_sound : {A B : Type 0} (r : Result A B) (old new : Cotree) (g h : PlainGraph) → Denotes old g → OnOk r (Denotes new h) → OnErr r (new ≡ old) → IsSoundCotree new
+still_sound (Ok x) old new g h is done same = (done.0, done.1)
+still_sound (Err e) old new g h is done same = subst IsSoundCotree (sym same) (is.0, is.1)

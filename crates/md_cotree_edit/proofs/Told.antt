@@ -234,7 +234,7 @@ module _ (t s : PlaceTree) (is : AreNamed t) (same : (x : ℕ) → name_in x s �
   }
 
   -- the same graph where each pair is told as there
-  graph_by_pairs : (h : PlainGraph) → IsGraph h → h.vertices ≡ names (shape t) → ((x y : ℕ) → Has (names (shape t)) x → Has (names (shape t)) y → adjacent (graph_in s) x y ≡ adjacent h x y) → graph_in s ≡ h
+  pub graph_by_pairs : (h : PlainGraph) → IsGraph h → h.vertices ≡ names (shape t) → ((x y : ℕ) → Has (names (shape t)) x → Has (names (shape t)) y → adjacent (graph_in s) x y ≡ adjacent h x y) → graph_in s ≡ h
   graph_by_pairs h graph vertices pairs =
       same_graph (some_graph (shape s) turned_named.low) graph (turned_names ∙ sym vertices) (λ x y. go x y (contains (names (shape t)) x) (contains (names (shape t)) y) refl refl)
     where

@@ -143,7 +143,12 @@ pub(crate) fn join<L: Ledger>(
 }
 
 // Whether a place is a node of a kind.
-fn is_of<L: Ledger>(lists: &Lists, place: u32, series: bool, steps: &mut Steps<L>) -> bool
+pub(crate) fn is_of<L: Ledger>(
+    lists: &Lists,
+    place: u32,
+    series: bool,
+    steps: &mut Steps<L>,
+) -> bool
     requires live { IsLive lists.now place }
     ensures kind { IsTrue result ↔ (kind_at lists.now place ≡ Some (place_kind series)) }
     ensures steps { steps.new ≡ steps.old + 1 }

@@ -17,7 +17,7 @@ use std::sync::ledger::{Blank, Ledger};
 use std::test::Fail;
 
 // The tree with this text, which has no prime node.
-fn read(rt: &impl Abort, alloc: Global, bytes: &[u8]) -> Option<Tree>
+pub(crate) fn read(rt: &impl Abort, alloc: Global, bytes: &[u8]) -> Option<Tree>
     ensures { IsWellFormed (plain_option result) × HasNoPrime (plain_option result) }
 {
     let tree = read_tree(alloc, bytes).ok().expect(rt, "text");
@@ -95,7 +95,7 @@ fn edited(
 }
 
 // The graph of the tree with this text.
-fn plain(rt: &impl Abort, alloc: Global, bytes: &[u8]) -> Result<Graph, Fail> {
+pub(crate) fn plain(rt: &impl Abort, alloc: Global, bytes: &[u8]) -> Result<Graph, Fail> {
     let tree = read(rt, alloc, bytes);
     let mut graph = Graph::new(alloc)?;
     graph_of(&tree, &mut graph);

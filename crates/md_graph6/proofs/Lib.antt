@@ -8,6 +8,8 @@ pub mod FileLemmas
 pub mod BitLemmas
 pub mod PutLemmas
 pub mod FillLemmas
+pub mod ShortLemmas
+pub mod PutShort
 pub mod Listed
 pub mod SizeText
 pub mod WriteLemmas

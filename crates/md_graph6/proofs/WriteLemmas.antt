@@ -24,7 +24,7 @@ use Rattle.md_graph.specs.PlainGraph.{PlainGraph, IsGraph, adjacent, neighbours}
 use Rattle.md_graph.proofs.GraphLemmas.{contains-neighbours, contains-pairs_where, adjacent_sym, adjacent_up}
 
 -- a bit by its test
-bit_by_test : (b : ℕ) (t : Bool) → b < 2 → t ≡ (b == 1) → b ≡ bit_if t
+pub bit_by_test : (b : ℕ) (t : Bool) → b < 2 → t ≡ (b == 1) → b ≡ bit_if t
 bit_by_test b t two e =
     elim (cases_Bool t) [
       | inl is_one ↦ rw is_one (eqb-true b 1 (sym e ∙ is_one))

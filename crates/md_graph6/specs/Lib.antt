@@ -5,5 +5,6 @@ pub mod File
 pub mod Laws
 pub mod Window
 pub mod Filled
+pub mod Short
 pub mod Written
 pub mod Text

@@ -1,13 +1,15 @@
-//! The bits of a graph6 line, one for each pair of vertices, read into a graph: 64 bits of 64
-//! columns at once.
-ghost use Rattle.std.specs.Prelude.{◌≡◌, ℕ, ◌+◌, ◌-◌, ◌*◌, ◌/◌, ◌%◌, ◌^◌, ◌<◌, ◌≤◌, ◌&&◌, nat_lt, length, get_or, if◌then◌else◌};
+//! The bits of a graph6 line, one for each pair of vertices, read into a graph: bit by bit from a
+//! short line, 64 bits of 64 columns at once from a long one.
+ghost use Rattle.std.specs.Prelude.{◌≡◌, ℕ, false, ◌+◌, ◌-◌, ◌*◌, ◌/◌, ◌%◌, ◌^◌, ◌<◌, ◌≤◌, ◌&&◌, nat_lt, length, get_or, if◌then◌else◌};
 ghost use Rattle.std.specs.Int.{bit_at};
 ghost use Rattle.std.specs.List.{AllPass};
-ghost use Rattle.md_graph.specs.PlainGraph.{empty_graph};
+ghost use Rattle.md_graph.specs.Sets.{Has};
+ghost use Rattle.md_graph.specs.PlainGraph.{IsGraph, adjacent, empty_graph};
 ghost use Rattle.md_graph6.specs.Bits.{bit, pair_number, IsBodyOf};
 ghost use Rattle.md_graph6.specs.Line.{is_group};
 ghost use Rattle.md_graph6.specs.Window.{AreGroups, IsWindow};
 ghost use Rattle.md_graph6.specs.Filled.{IsBlock, IsFilled};
+ghost use Rattle.md_graph6.specs.Short.{IsUnread, IsWithPair, IsWithColumn, IsFilledTo};
 
 use md_graph::{Graph, NAMES};
 
@@ -17,6 +19,10 @@ const TURNED: [u8; 64] = [
     38, 22, 54, 14, 46, 30, 62, 1, 33, 17, 49, 9, 41, 25, 57, 5, 37, 21, 53, 13, 45, 29, 61, 3, 35,
     19, 51, 11, 43, 27, 59, 7, 39, 23, 55, 15, 47, 31, 63,
 ];
+
+// A line of at most so many vertices is read bit by bit. The bits of a column and of one byte more
+// fit in a word up to 58, but from 25 on 64 bits at once take less.
+const MOST_SHORT: u32 = 24;
 
 // Six bits turned round.
 #[inline]
@@ -180,6 +186,109 @@ fn fill_columns(graph: &mut Graph, n: u32, body: &[u8], h: u32)
     }
 }
 
+// Bits of a short line that were taken from its bytes and belong to no column yet: `held` of them,
+// the first in the lowest place. `at` is the number of the next byte.
+#[derive(Clone, Copy)]
+struct Unread {
+    bits: u64,
+    held: u32,
+    at: usize,
+}
+
+// The six bits of byte `at`; behind the body they are 0.
+#[inline]
+fn group_at(body: &[u8], at: usize) -> u64
+    requires { AreGroups body.now }
+    ensures { IsWindow body.now (6 * at) 6 result }
+{
+    if at < body.len() {
+        return bits_of(body[at]);
+    }
+    0
+}
+
+// The unread bits, with as many bytes more as column j needs.
+#[inline]
+fn with_column(body: &[u8], unread: Unread, j: u32) -> Unread
+    requires groups { AreGroups body.now }
+    requires short { j < 58 }
+    requires unread { IsUnread body.now (pair_number 0 j) unread.bits unread.held unread.at }
+    ensures unread { IsUnread body.now (pair_number 0 j) result.bits result.held result.at }
+    ensures enough { j ≤ result.held }
+{
+    let mut bits = unread.bits;
+    let mut held = unread.held;
+    let mut at = unread.at;
+    while held < j {
+        bits |= group_at(body, at) << held;
+        held += 6;
+        at += 1;
+    }
+    Unread { bits, held, at }
+}
+
+// The unread bits without those of column j.
+#[inline]
+fn behind_column(body: &[u8], unread: Unread, j: u32) -> Unread
+    requires short { j < 58 }
+    requires enough { j ≤ unread.held }
+    requires unread { IsUnread body.now (pair_number 0 j) unread.bits unread.held unread.at }
+    ensures { IsUnread body.now (pair_number 0 (j + 1)) result.bits result.held result.at }
+{
+    Unread {
+        bits: unread.bits >> j,
+        held: unread.held - j,
+        at: unread.at,
+    }
+}
+
+// Takes in the edge between i and j if it is wanted.
+#[inline]
+fn add_if(graph: &mut Graph, i: u32, j: u32, wanted: bool)
+    requires graph { IsGraph graph.old }
+    requires up { i < j }
+    requires ends { Has graph.old.vertices i × Has graph.old.vertices j }
+    requires absent { adjacent graph.old i j ≡ false }
+    ensures { IsWithPair graph.old i j wanted graph.new }
+{
+    if wanted {
+        graph.add_edge(i, j);
+    }
+}
+
+// Takes in an edge between j and each i < j for which bit i is 1.
+#[inline]
+fn add_column(graph: &mut Graph, j: u32, bits: u64)
+    requires short { j < 58 }
+    requires graph { IsGraph graph.old }
+    requires ends { (v : ℕ) → v ≤ j → Has graph.old.vertices v }
+    requires absent { (a : ℕ) → a < j → adjacent graph.old a j ≡ false }
+    ensures { IsWithColumn graph.old j j bits graph.new }
+{
+    for i in 0..j {
+        add_if(graph, i, j, (bits >> i) % 2 == 1);
+    }
+}
+
+// Takes in the edges of a short line, column by column.
+fn fill_short(graph: &mut Graph, n: u32, body: &[u8])
+    requires short { n ≤ 58 }
+    requires groups { AreGroups body.now }
+    requires before { IsFilledTo body.now n 0 graph.old }
+    ensures { IsBodyOf body.now n graph.new }
+{
+    let mut unread = Unread {
+        bits: 0,
+        held: 0,
+        at: 0,
+    };
+    for j in 0..n {
+        unread = with_column(body, unread, j);
+        add_column(graph, j, unread.bits);
+        unread = behind_column(body, unread, j);
+    }
+}
+
 // Fills the graph with the numbers below n as vertices and the edges whose bits are 1. Conditions:
 // the graph has no vertices, n is at most the number of names, and each byte is from 63 to 126.
 pub fn fill(graph: &mut Graph, n: u32, body: &[u8])
@@ -189,6 +298,9 @@ pub fn fill(graph: &mut Graph, n: u32, body: &[u8])
     ensures { IsBodyOf body.now n graph.new }
 {
     graph.add_range(0, n);
+    if n <= MOST_SHORT {
+        return fill_short(graph, n, body);
+    }
     for h in 0..(n + 63) / 64 {
         fill_columns(graph, n, body, h);
     }

@@ -1,4 +1,4 @@
-//! The text of a graph in graph6, 64 bits of a column at once.
+//! The text of a graph in graph6: a short line byte by byte, a long one by 64 bits of a column.
 ghost use Rattle.std.specs.Prelude.{None, [], ◌∷◌, IfOk, IfSome, ◌++◌, vec_len, vec_capacity, replicate, take, drop, ◌≡◌, ℕ, ◌+◌, ◌-◌, ◌*◌, ◌/◌, ◌%◌, ◌^◌, ◌<◌, ◌≤◌, ◌==◌, ◌&&◌, ◌||◌, nat_lt, length, get_or, if◌then◌else◌};
 ghost use Rattle.std.specs.Int.{bit_at};
 ghost use Rattle.std.specs.FinSet as set;
@@ -8,6 +8,7 @@ ghost use Rattle.md_graph6.specs.Size.{size_text};
 ghost use Rattle.md_text.specs.Spelling.{SpellsOnly};
 ghost use Rattle.md_graph6.specs.File.{Spells, first_fault, graphs_of};
 ghost use Rattle.md_graph6.specs.Window.{AreGroups, IsPut};
+ghost use Rattle.md_graph6.specs.Short.{put_bit, IsUnput};
 ghost use Rattle.md_graph6.specs.Written.{bit_if, nth, renumbered, AreFrom, IsWritten, IsTextOf};
 ghost use Rattle.md_graph6.specs.Text.{graph6_text};
 
@@ -15,6 +16,9 @@ use crate::body::{bits_of, column_place, low_bits, turned};
 use crate::line::{MOST_IN_ONE_BYTE, body_length};
 use md_graph::{Graph, Memory, NAMES, Names};
 use std::alloc::Global;
+
+// A column of a line of at most so many vertices fits in a word behind the bits of a byte.
+const MOST_SHORT: u32 = 58;
 
 // The byte of six bits that are 0.
 const NO_BITS: u8 = 63;
@@ -168,6 +172,72 @@ fn put_column(body: &mut [u8], j: u32, column: &Names, least: u32)
     }
 }
 
+// Bits of a short line that stand in no byte yet: `held` of them, the first in the lowest place.
+// `at` is the number of their byte.
+#[derive(Clone, Copy)]
+struct Unput {
+    bits: u64,
+    held: u32,
+    at: usize,
+}
+
+// The unput bits, and those of column j behind them.
+#[inline]
+fn with_column(unput: Unput, j: u32, column: &Names, least: u32) -> Unput
+    requires short { j < 58 }
+    requires names { least + j < NAMES }
+    requires few { unput.held < 6 }
+    requires above { (k : ℕ) → unput.held ≤ k → bit_at unput.bits k ≡ 0 }
+    ensures before { (k : ℕ) → k < unput.held → bit_at result.bits k ≡ bit_at unput.bits k }
+    ensures column { (i : ℕ) → bit_at result.bits (unput.held + i)
+        ≡ bit_if (nat_lt i j && set.contains column.now (least + i)) }
+    ensures held { result.held ≡ unput.held + j }
+    ensures at { result.at ≡ unput.at }
+{
+    let bits = low_bits(block_from(column, least), j);
+    Unput {
+        bits: unput.bits | bits << unput.held,
+        held: unput.held + j,
+        at: unput.at,
+    }
+}
+
+// Puts the whole bytes of the unput bits.
+#[inline]
+fn put_whole(body: &mut [u8], unput: Unput) -> Unput
+    requires unput { IsUnput body.old unput.bits unput.held unput.at }
+    requires room { 6 * unput.at + unput.held ≤ 6 * length body.old }
+    ensures unput { IsUnput body.new result.bits result.held result.at }
+    ensures place { 6 * result.at + result.held ≡ 6 * unput.at + unput.held }
+    ensures few { result.held < 6 }
+    ensures same { (k : ℕ) → put_bit body.new result.bits result.at k
+        ≡ put_bit body.old unput.bits unput.at k }
+{
+    let mut bits = unput.bits;
+    let mut held = unput.held;
+    let mut at = unput.at;
+    while held >= 6 {
+        set_group(body, at, bits);
+        bits >>= 6;
+        held -= 6;
+        at += 1;
+    }
+    Unput { bits, held, at }
+}
+
+// Puts the unput bits, fewer than fill a byte.
+fn put_rest(body: &mut [u8], unput: Unput)
+    requires unput { IsUnput body.old unput.bits unput.held unput.at }
+    requires room { 6 * unput.at + unput.held ≤ 6 * length body.old }
+    requires few { unput.held < 6 }
+    ensures groups { AreGroups body.new }
+    ensures bits { (k : ℕ) → bit body.new k ≡ put_bit body.old unput.bits unput.at k }
+{
+    if unput.held > 0 {
+        set_group(body, unput.at, unput.bits);
+    }
+}
+
 // The least vertex, or 0 where there is none.
 fn least_vertex(graph: &Graph) -> u32
     ensures { result ≤ NAMES }
@@ -233,6 +303,27 @@ fn put_consecutive(body: &mut [u8], graph: &Graph, n: u32, least: u32)
     }
 }
 
+// Puts the bits of a graph whose vertices are the n numbers from `least` on, n being at most 58.
+fn put_few_columns(body: &mut [u8], graph: &Graph, n: u32, least: u32)
+    requires short { n ≤ 58 }
+    requires count { n ≡ length (ascending graph.now.vertices) }
+    requires consecutive { AreFrom graph.now least n }
+    requires blank { IsWritten body.old graph.now 0 }
+    requires room { pair_number 0 n ≤ 6 * length body.old }
+    ensures { IsWritten body.new graph.now n }
+{
+    let mut unput = Unput {
+        bits: 0,
+        held: 0,
+        at: 0,
+    };
+    for j in 0..n {
+        unput = with_column(unput, j, graph.row(least + j), least);
+        unput = put_whole(body, unput);
+    }
+    put_rest(body, unput);
+}
+
 // Puts the bits of any graph, the i-th vertex taken as i.
 fn put_any(body: &mut [u8], graph: &Graph)
     requires blank { IsWritten body.old graph.now 0 }
@@ -249,7 +340,7 @@ fn put_any(body: &mut [u8], graph: &Graph)
 }
 
 // Puts the bits of a graph of n vertices; `least` is the least of them if they are consecutive. The
-// loop is compiled for 0 by itself, since no word is shifted there.
+// loop over long lines is compiled for 0 by itself, since no word is shifted there.
 fn put_body(body: &mut [u8], graph: &Graph, n: u32, least: Option<u32>)
     requires count { n ≡ length (ascending graph.now.vertices) }
     requires consecutive { IfSome least (λ least. AreFrom graph.now least n) }
@@ -258,6 +349,7 @@ fn put_body(body: &mut [u8], graph: &Graph, n: u32, least: Option<u32>)
     ensures { IsWritten body.new graph.now n }
 {
     match least {
+        Some(least) if n <= MOST_SHORT => put_few_columns(body, graph, n, least),
         Some(0) => put_consecutive(body, graph, n, 0),
         Some(least) => put_consecutive(body, graph, n, least),
         None => put_any(body, graph),

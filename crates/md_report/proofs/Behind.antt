@@ -22,7 +22,7 @@ use Rattle.md_report.specs.declared.words.Word.TheVariants.{Head, Tree as TreeWo
 use Rattle.md_report.specs.declared.words.Refusal.{Refusal}
 use Rattle.md_report.specs.declared.words.Refusal.TheVariants as refusals
 use Rattle.md_report.specs.Cuts.{LacksByte, Opens, IsCutAt, IsPiece}
-use Rattle.md_report.specs.Lines.{PlainLine, mode_word, reason_words, names_text, p4_text, arc_text, arcs_text, line_text, head, tree, applied, refused, refused_p4, not_cograph, oriented, forced, orders, forced_in, forced_in_complement, end}
+use Rattle.md_report.specs.Lines.{PlainLine, mode_word, reason_words, names_text, p4_text, arc_text, arcs_text, line_text, head, tree, applied, applied_quiet, refused, refused_p4, not_cograph, oriented, forced, orders, forced_in, forced_in_complement, end}
 use Rattle.md_report.specs.WellFormedLines.{IsVertexName, IsNamedArc, IsNamedChain, IsNamedP4, AreFour, IsWellFormedLine, IsLineReading}
 use Rattle.md_report.specs.Words.{word_text, refusal_text, NoRefusal, NoNo, NoYes, NoLine, Reads}
 use Rattle.md_report.proofs.Cutting.{one_cut, one_row, lacks_when, lacks_append}
@@ -58,6 +58,7 @@ abbrev word_of : PlainLine → Word
 word_of (head mode) = Head
 word_of (tree t) = TreeWord
 word_of (applied t) = Applied
+word_of applied_quiet = Applied
 word_of (refused reason) = No
 word_of (refused_p4 p) = No
 word_of (not_cograph p) = Path
@@ -72,6 +73,7 @@ abbrev tail_of : PlainLine → List ℕ
 tail_of (head mode) = 32 ∷ mode_word mode
 tail_of (tree t) = 32 ∷ text_of t
 tail_of (applied t) = 32 ∷ text_of t
+tail_of applied_quiet = []
 tail_of (refused reason) = 32 ∷ reason_words reason
 tail_of (refused_p4 p) = codes " p4" ++ p4_text p
 tail_of (not_cograph p) = p4_text p
@@ -86,6 +88,7 @@ by_word : (l : PlainLine) → line_text l ≡ word_text (word_of l) ++ tail_of l
 by_word (head mode) = refl
 by_word (tree t) = refl
 by_word (applied t) = refl
+by_word applied_quiet = refl
 by_word (refused reason) = refl
 by_word (refused_p4 p) = refl
 by_word (not_cograph p) = refl
@@ -104,6 +107,7 @@ tail_opens : (l : PlainLine) → Opens 32 (tail_of l)
 tail_opens (head mode) = refl
 tail_opens (tree t) = refl
 tail_opens (applied t) = refl
+tail_opens applied_quiet = tt
 tail_opens (refused reason) = refl
 tail_opens (refused_p4 p) = refl
 tail_opens (not_cograph p) = refl
@@ -197,7 +201,8 @@ no_arc w a e =
 no_tail : (text : List ℕ) (l : PlainLine) → NoLine (word_of l) text → IsWellFormedLine l → text ≢ tail_of l
 no_tail text (head mode) none is e = none mode e
 no_tail text (tree t) none is e = none t is e
-no_tail text (applied t) none is e = none t is e
+no_tail text (applied t) none is e = none.trees t is e
+no_tail text applied_quiet none is e = none.some e
 no_tail text (refused Same) none is e = none.words refusals.Same [] tt e refl
 no_tail text (refused (NoVertex v)) none is e = none.words refusals.Vertex (32 ∷ decimal v) refl e v is refl
 no_tail text (refused (NameTaken v)) none is e = none.words refusals.Taken (32 ∷ decimal v) refl e v is refl

@@ -5,3 +5,4 @@ pub mod Behind
 pub mod Fronts
 pub mod OneLine
 pub mod ByTrees
+pub mod MadePaths

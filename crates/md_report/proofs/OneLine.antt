@@ -14,7 +14,7 @@ use Rattle.md_script.specs.declared.edit.EditReason.TheVariants.{Same, NoVertex,
 use Rattle.md_report.specs.declared.line.Mode.{Mode}
 use Rattle.md_report.specs.declared.line.Mode.TheVariants as modes
 use Rattle.md_report.specs.Cuts.{LacksByte}
-use Rattle.md_report.specs.Lines.{PlainLine, mode_word, names_text, p4_text, arc_text, arcs_text, line_text, head, tree, applied, refused, refused_p4, not_cograph, oriented, forced, orders, forced_in, forced_in_complement, end}
+use Rattle.md_report.specs.Lines.{PlainLine, mode_word, names_text, p4_text, arc_text, arcs_text, line_text, head, tree, applied, applied_quiet, refused, refused_p4, not_cograph, oriented, forced, orders, forced_in, forced_in_complement, end}
 use Rattle.md_report.specs.Laws.{OneLineOneText}
 use Rattle.md_report.proofs.Cutting.{one_cut, one_row, lacks_append}
 use Rattle.md_report.proofs.Named.{lacks_number, lacks_arc, one_arc}
@@ -25,6 +25,7 @@ data Variant : Type 0 where
   a_head : Variant
   a_tree : Variant
   applied_tree : Variant
+  an_ok : Variant
   a_p4 : Variant
   a_yes : Variant
   an_end : Variant
@@ -43,6 +44,7 @@ abbrev variant : PlainLine → Variant
 variant (head mode) = a_head
 variant (tree t) = a_tree
 variant (applied t) = applied_tree
+variant applied_quiet = an_ok
 variant (not_cograph p) = a_p4
 variant (oriented arcs) = a_yes
 variant (orders first second) = a_yes
@@ -61,6 +63,7 @@ abbrev IsVariant : Variant → PlainLine → Type 0
 IsVariant a_head l = (mode : Mode) × (l ≡ head mode)
 IsVariant a_tree l = (t : Option PlainTree) × (l ≡ tree t)
 IsVariant applied_tree l = (t : Option PlainTree) × (l ≡ applied t)
+IsVariant an_ok l = l ≡ applied_quiet
 IsVariant a_p4 l = (p : P4) × (l ≡ not_cograph p)
 IsVariant a_yes l = ((arcs : List Arc) × (l ≡ oriented arcs)) ⊎ ((first : List ℕ) × (second : List ℕ) × (l ≡ orders first second))
 IsVariant an_end l = l ≡ end
@@ -78,6 +81,7 @@ is_variant : (l : PlainLine) → IsVariant (variant l) l
 is_variant (head mode) = (mode, refl)
 is_variant (tree t) = (t, refl)
 is_variant (applied t) = (t, refl)
+is_variant applied_quiet = refl
 is_variant (not_cograph p) = (p, refl)
 is_variant (oriented arcs) = inl (arcs, refl)
 is_variant (orders first second) = inr (first, second, refl)
@@ -100,13 +104,14 @@ refused_at b c =
 -- the variant of a line, by its text
 abbrev variant_at : List ℕ → Variant
 variant_at t =
-    cond (get_or t 0 0 == 109) a_head (cond (get_or t 0 0 == 116) a_tree (cond (get_or t 0 0 == 111) applied_tree (cond (get_or t 0 0 == 112) a_p4
+    cond (get_or t 0 0 == 109) a_head (cond (get_or t 0 0 == 116) a_tree (cond (get_or t 0 0 == 111) (cond (get_or t 2 0 == 32) applied_tree an_ok) (cond (get_or t 0 0 == 112) a_p4
     (cond (get_or t 0 0 == 121) a_yes (cond (get_or t 0 0 == 101) an_end (refused_at (get_or t 3 0) (get_or t 8 0)))))))
 
 variant_is : (l : PlainLine) → variant_at (line_text l) ≡ variant l
 variant_is (head mode) = refl
 variant_is (tree t) = refl
 variant_is (applied t) = refl
+variant_is applied_quiet = refl
 variant_is (not_cograph p) = refl
 variant_is (oriented arcs) = refl
 variant_is (orders first second) = refl
@@ -148,7 +153,7 @@ one_p4 p q e =
     λ i. record { a = a i; b = b i; c = c i; d = d i }
 
 abbrev mode_at : ℕ → ℕ → Mode
-mode_at b c = cond (b == 116) modes.Tree (cond (b == 101) modes.Edit (cond (b == 112) modes.Permute (cond (c == 103) modes.Cograph modes.Compare)))
+mode_at b c = cond (b == 116) modes.Tree (cond (b == 101) modes.Edit (cond (b == 112) modes.Permute (cond (b == 113) modes.Quiet (cond (c == 103) modes.Cograph modes.Compare))))
 
 mode_is : (m : Mode) → mode_at (get_or (mode_word m) 0 0) (get_or (mode_word m) 2 0) ≡ m
 mode_is modes.Tree = refl
@@ -156,6 +161,7 @@ mode_is modes.Edit = refl
 mode_is modes.Cograph = refl
 mode_is modes.Compare = refl
 mode_is modes.Permute = refl
+mode_is modes.Quiet = refl
 
 one_mode : (m n : Mode) → mode_word m ≡ mode_word n → m ≡ n
 one_mode m n e = sym (mode_is m) ∙ ap (λ (t : List ℕ). mode_at (get_or t 0 0) (get_or t 2 0)) e ∙ mode_is n
@@ -190,6 +196,7 @@ same_line (tree t) l is e =
 same_line (applied t) l is e =
     let f : codes "ok " ++ text_of t ≡ codes "ok " ++ text_of is.0 = e ∙ ap line_text is.1 in
     ap applied (one_text_proof t is.0 (cc)) ∙ sym is.1
+same_line applied_quiet l is e = sym is
 same_line (not_cograph p) l is e =
     let f : codes "p4" ++ p4_text p ≡ codes "p4" ++ p4_text is.0 = e ∙ ap line_text is.1 in
     ap not_cograph (one_p4 p is.0 (cc)) ∙ sym is.1

@@ -24,14 +24,14 @@ use Rattle.md_script.proofs.ChangeLemmas.{after_is_graph}
 use Rattle.md_report.specs.declared.line.GraphMode.{GraphMode}
 use Rattle.md_report.specs.declared.line.GraphMode.TheVariants.{Tree, Compare, Permute}
 use Rattle.md_report.specs.declared.line.SessionMode.{SessionMode}
-use Rattle.md_report.specs.declared.line.SessionMode.TheVariants.{Edit, Cograph}
-use Rattle.md_report.specs.Lines.{PlainLine, mode_of, session_mode_of, head, tree, applied, refused, refused_p4, not_cograph, oriented, forced, orders, forced_in, forced_in_complement, end}
+use Rattle.md_report.specs.declared.line.SessionMode.TheVariants.{Edit, Cograph, Quiet}
+use Rattle.md_report.specs.Lines.{PlainLine, mode_of, session_mode_of, head, tree, applied, applied_quiet, refused, refused_p4, not_cograph, oriented, forced, orders, forced_in, forced_in_complement, end}
 use Rattle.md_report.specs.Orientations.{IsOrientationLine}
 use Rattle.md_report.specs.Models.{IsModelLine}
-use Rattle.md_report.specs.Sessions.{HasTreeLine, IsLineBy, state_by, IsStepLine, state_after, state_behind, SessionRun}
-use Rattle.md_report.specs.Cographs.{IsP4Of, IsCograph, IsOpeningLine, IsCographLineBy, IsCographLine, edits_behind, CographRun}
-use Rattle.md_report.specs.Places.{Place, before_head, at_graphs, before_session, at_state, at_edits, after_end, Reports, ReportsState, MayCome, next_place, Lead}
-use Rattle.md_report.specs.Laws.{AreGraphs, IsSound, LinesLeadIfFirst, ReportEach, IsGraphReport, GraphReportsHaveLines, AnswerEach, IsSessionReport, SessionReportsAreRuns}
+use Rattle.md_report.specs.Sessions.{HasTreeLine, IsLineBy, state_by, IsStepLine, state_after, state_behind, last_state, SessionRun}
+use Rattle.md_report.specs.Cographs.{IsP4Of, IsCograph, HasP4Line, IsOpeningLine, IsCographLineBy, IsCographLine, IsQuietLineBy, IsQuietLine, edits_behind, CographRun, QuietRun}
+use Rattle.md_report.specs.Places.{Place, before_head, at_graphs, before_session, at_state, at_edits, at_end, after_end, Reports, ReportsState, ComesAtEdits, place_behind, quiet_place, MayCome, next_place, Lead}
+use Rattle.md_report.specs.Laws.{AreGraphs, IsSound, LinesLeadIfFirst, ReportEach, IsGraphReport, GraphReportsHaveLines, AnswerEach, IsSessionReport, IsWholeSession, SessionReportsAreRuns}
 
 pub lead_append : (p q r : Place) (lines more : List PlainLine) → Lead p lines q → Lead q more r → Lead p (lines ++ more) r
 lead_append p q r [] more leads on = subst (λ z. Lead z more r) (sym leads) on
@@ -65,11 +65,32 @@ cograph_sound g edit line is names step = by_reason (reason_of g edit) refl step
   by_reason None same (inl path) = subst (λ l. IsGraph (state_behind g edit l)) (sym path.2) is
   by_reason None same (inr whole) = subst (λ l. IsGraph (state_behind g edit l)) (sym whole.1.2) (after_is_graph g edit is names same)
 
+-- the state behind the line of an edit in mode quiet is a graph
+quiet_sound : (g : PlainGraph) (edit : script.Edit) (line : PlainLine) → IsGraph g → HasNames edit → IsQuietLine g edit line → IsGraph (state_behind g edit line)
+quiet_sound g edit line is names step = by_reason (reason_of g edit) refl step where
+  by_reason : (o : Option EditReason) → reason_of g edit ≡ o → IsQuietLineBy o g edit line → IsGraph (state_behind g edit line)
+  by_reason (Some reason) same told = subst (λ l. IsGraph (state_behind g edit l)) (sym told) is
+  by_reason None same (inl path) = subst (λ l. IsGraph (state_behind g edit l)) (sym path.2) is
+  by_reason None same (inr whole) = subst (λ l. IsGraph (state_behind g edit l)) (sym whole.1) (after_is_graph g edit is names same)
+
+-- the place behind the first line in mode quiet, by that line
+pub stopped_place : (g : PlainGraph) (edits : List script.Edit) (line : PlainLine) → HasP4Line not_cograph g line → quiet_place g edits line ≡ at_end
+stopped_place g edits line path = ap (quiet_place g edits) path.2
+
+pub first_place : (g : PlainGraph) (edits : List script.Edit) (line : PlainLine) → ComesAtEdits Quiet g edits line → quiet_place g edits line ≡ place_behind Quiet g edits line
+first_place g [] line last = subst (λ l. quiet_place g [] l ≡ place_behind Quiet g [] l) (sym last.2) refl
+first_place g (edit ∷ edits) line step = by_reason (reason_of g edit) step where
+  by_reason : (o : Option EditReason) → IsQuietLineBy o g edit line → quiet_place g (edit ∷ edits) line ≡ place_behind Quiet g (edit ∷ edits) line
+  by_reason (Some reason) told = subst (λ l. quiet_place g (edit ∷ edits) l ≡ place_behind Quiet g (edit ∷ edits) l) (sym told) refl
+  by_reason None (inl path) = subst (λ l. quiet_place g (edit ∷ edits) l ≡ place_behind Quiet g (edit ∷ edits) l) (sym path.2) refl
+  by_reason None (inr whole) = subst (λ l. quiet_place g (edit ∷ edits) l ≡ place_behind Quiet g (edit ∷ edits) l) (sym whole.1) refl
+
 names_behind : (line : PlainLine) (edits : List script.Edit) → All HasNames edits → All HasNames (edits_behind line edits)
 names_behind (not_cograph p) edits names = All-nil HasNames
 names_behind (head mode) edits names = names
 names_behind (tree t) edits names = names
 names_behind (applied t) edits names = names
+names_behind applied_quiet edits names = names
 names_behind (refused reason) edits names = names
 names_behind (refused_p4 p) edits names = names
 names_behind (oriented arcs) edits names = names
@@ -79,18 +100,30 @@ names_behind (forced_in chain) edits names = names
 names_behind (forced_in_complement chain) edits names = names
 names_behind end edits names = names
 
+-- the place behind the edits, or behind the line of the first one, is sound
+edits_sound : (mode : SessionMode) (g : PlainGraph) (edits : List script.Edit) (line : PlainLine) → IsSound (at_edits mode g edits) → ComesAtEdits mode g edits line → IsSound (place_behind mode g edits line)
+edits_sound Edit g [] line sound may = tt
+edits_sound Cograph g [] line sound may = tt
+edits_sound Quiet g [] line sound may = tt
+edits_sound Edit g (edit ∷ edits) line sound may =
+    (subst IsGraph (sym (state_is g edit line may)) (state_sound g edit sound.0 (All-head HasNames edit edits sound.1)), All-tail HasNames edit edits sound.1)
+edits_sound Cograph g (edit ∷ edits) line sound may =
+    (cograph_sound g edit line sound.0 (All-head HasNames edit edits sound.1) may, All-tail HasNames edit edits sound.1)
+edits_sound Quiet g (edit ∷ edits) line sound may =
+    (quiet_sound g edit line sound.0 (All-head HasNames edit edits sound.1) may, All-tail HasNames edit edits sound.1)
+
 -- the place behind a sound one is sound
 next_sound : (p : Place) (line : PlainLine) → IsSound p → MayCome p line → IsSound (next_place p line)
 next_sound (before_head mode graphs) line sound may = sound
 next_sound (at_graphs mode []) line sound may = tt
 next_sound (at_graphs mode (g ∷ graphs)) line sound may = sound.1
 next_sound (before_session mode g edits) line sound may = sound
-next_sound (at_state mode g edits) line sound may = (sound.0, names_behind line edits sound.1)
-next_sound (at_edits mode g []) line sound may = tt
-next_sound (at_edits Edit g (edit ∷ edits)) line sound may =
-    (subst IsGraph (sym (state_is g edit line may)) (state_sound g edit sound.0 (All-head HasNames edit edits sound.1)), All-tail HasNames edit edits sound.1)
-next_sound (at_edits Cograph g (edit ∷ edits)) line sound may =
-    (cograph_sound g edit line sound.0 (All-head HasNames edit edits sound.1) may, All-tail HasNames edit edits sound.1)
+next_sound (at_state Edit g edits) line sound may = (sound.0, names_behind line edits sound.1)
+next_sound (at_state Cograph g edits) line sound may = (sound.0, names_behind line edits sound.1)
+next_sound (at_state Quiet g edits) line sound (inl path) = subst IsSound (sym (stopped_place g edits line path)) tt
+next_sound (at_state Quiet g edits) line sound (inr first) = subst IsSound (sym (first_place g edits line first.1)) (edits_sound Quiet g edits line sound first.1)
+next_sound (at_edits mode g edits) line sound may = edits_sound mode g edits line sound may
+next_sound at_end line sound may = tt
 next_sound after_end line sound may = tt
 
 pub lead_sound : (p q : Place) (lines : List PlainLine) → IsSound p → Lead p lines q → IsSound q
@@ -174,6 +207,17 @@ cograph_line g edit is names = by_reason (reason_of g edit) refl where
         | inr none ↦ let line = tree_line applied (after g edit) next in (line.0, inr (none, line.1))
       ]
 
+-- each edit has a line in mode quiet
+quiet_line : (g : PlainGraph) (edit : script.Edit) → IsGraph g → HasNames edit → (line : PlainLine) × IsQuietLine g edit line
+quiet_line g edit is names = by_reason (reason_of g edit) refl where
+  by_reason : (o : Option EditReason) → reason_of g edit ≡ o → (line : PlainLine) × IsQuietLineBy o g edit line
+  by_reason (Some reason) same = (refused reason, refl)
+  by_reason None same =
+      elim (some_p4 (after g edit) (after_is_graph g edit is names same)) [
+        | inl path ↦ (refused_p4 path.0, inl (path.0, path.1, refl))
+        | inr none ↦ (applied_quiet, inr (none, refl))
+      ]
+
 -- lines lead from graphs to the end
 reported : (mode : GraphMode) (graphs : List PlainGraph) → AreGraphs graphs → (lines : List PlainLine) × Lead (at_graphs mode graphs) lines after_end
 reported mode [] sound = (end ∷ [], (refl, refl))
@@ -188,7 +232,9 @@ on_from edits g edit line lines step leads = subst (λ (s : PlainGraph). Lead (a
 
 -- lines lead from edits to the end
 answered : (mode : SessionMode) (edits : List script.Edit) (g : PlainGraph) → IsGraph g → All HasNames edits → (lines : List PlainLine) × Lead (at_edits mode g edits) lines after_end
-answered mode [] g is names = (end ∷ [], (refl, refl))
+answered Edit [] g is names = (end ∷ [], (refl, refl))
+answered Cograph [] g is names = (end ∷ [], (refl, refl))
+answered Quiet [] g is names = let line = tree_line tree g is in (line.0 ∷ end ∷ [], (line.1, (refl, refl)))
 answered Edit (edit ∷ edits) g is names =
     let line : (line : PlainLine) × IsStepLine g edit line = step_line g edit is (All-head HasNames edit edits names) in
     let rest : (lines : List PlainLine) × Lead (at_edits Edit (state_after g edit) edits) lines after_end =
@@ -199,17 +245,36 @@ answered Cograph (edit ∷ edits) g is names =
     let rest : (lines : List PlainLine) × Lead (at_edits Cograph (state_behind g edit line.0) edits) lines after_end =
     answered Cograph edits (state_behind g edit line.0) (cograph_sound g edit line.0 is (All-head HasNames edit edits names) line.1) (All-tail HasNames edit edits names) in
     (line.0 ∷ rest.0, (line.1, rest.1))
+answered Quiet (edit ∷ edits) g is names =
+    let line : (line : PlainLine) × IsQuietLine g edit line = quiet_line g edit is (All-head HasNames edit edits names) in
+    let rest : (lines : List PlainLine) × Lead (at_edits Quiet (state_behind g edit line.0) edits) lines after_end =
+    answered Quiet edits (state_behind g edit line.0) (quiet_sound g edit line.0 is (All-head HasNames edit edits names) line.1) (All-tail HasNames edit edits names) in
+    (line.0 ∷ rest.0, (line.1, rest.1))
 
-state_line : (mode : SessionMode) (g : PlainGraph) → IsGraph g → (line : PlainLine) × ReportsState mode g line
-state_line Edit g is = tree_line tree g is
-state_line Cograph g is = opening_line g is
+-- lines that lead on from the edits lead on from the first state of a cograph in mode quiet
+pub from_cograph : (g : PlainGraph) (edits : List script.Edit) (lines : List PlainLine) → IsCograph g → Lead (at_edits Quiet g edits) lines after_end → Lead (at_state Quiet g edits) lines after_end
+from_cograph g edits [] none leads = absurd (cc)
+from_cograph g edits (line ∷ lines) none leads =
+    (inr (none, leads.0), subst (λ (p : Place). Lead p lines after_end) (sym (first_place g edits line leads.0)) leads.1)
 
 from_state : (mode : SessionMode) (g : PlainGraph) (edits : List script.Edit) → IsGraph g → All HasNames edits → (lines : List PlainLine) × Lead (at_state mode g edits) lines after_end
-from_state mode g edits is names =
-    let line : (line : PlainLine) × ReportsState mode g line = state_line mode g is in
-    let rest : (lines : List PlainLine) × Lead (at_edits mode g (edits_behind line.0 edits)) lines after_end =
-    answered mode (edits_behind line.0 edits) g is (names_behind line.0 edits names) in
+from_state Edit g edits is names =
+    let line : (line : PlainLine) × HasTreeLine tree g line = tree_line tree g is in
+    let rest : (lines : List PlainLine) × Lead (at_edits Edit g (edits_behind line.0 edits)) lines after_end =
+    answered Edit (edits_behind line.0 edits) g is (names_behind line.0 edits names) in
     (line.0 ∷ rest.0, (line.1, rest.1))
+from_state Cograph g edits is names =
+    let line : (line : PlainLine) × IsOpeningLine g line = opening_line g is in
+    let rest : (lines : List PlainLine) × Lead (at_edits Cograph g (edits_behind line.0 edits)) lines after_end =
+    answered Cograph (edits_behind line.0 edits) g is (names_behind line.0 edits names) in
+    (line.0 ∷ rest.0, (line.1, rest.1))
+from_state Quiet g edits is names =
+    elim (some_p4 g is) [
+      | inl path ↦ (not_cograph path.0 ∷ end ∷ [], (inl (path.0, path.1, refl), (refl, refl)))
+      | inr none ↦
+          let rest : (lines : List PlainLine) × Lead (at_edits Quiet g edits) lines after_end = answered Quiet edits g is names in
+          (rest.0, from_cograph g edits rest.0 none rest.1)
+    ]
 
 -- lines lead from each sound place to the end
 pub completion : (p : Place) → IsSound p → (lines : List PlainLine) × Lead p lines after_end
@@ -222,6 +287,7 @@ completion (before_session mode g edits) sound =
     (head (session_mode_of mode) ∷ rest.0, (refl, rest.1))
 completion (at_state mode g edits) sound = from_state mode g edits sound.0 sound.1
 completion (at_edits mode g edits) sound = answered mode edits g sound.0 sound.1
+completion at_end sound = (end ∷ [], (refl, refl))
 completion after_end sound = ([], refl)
 
 pub lines_lead_proof : LinesLeadIfFirst
@@ -294,25 +360,67 @@ run_cographs [] g (line ∷ run) runs = absurd (cc)
 run_cographs (edit ∷ edits) g [] runs = absurd runs
 run_cographs (edit ∷ edits) g (line ∷ run) runs = (runs.0, run_cographs edits (state_behind g edit line) run runs.1)
 
--- the lines of edits are the run of the mode, and the end
-edits_each : (mode : SessionMode) (edits : List script.Edit) (g : PlainGraph) (lines : List PlainLine) → Lead (at_edits mode g edits) lines after_end →
-    (run : List PlainLine) × AnswerEach mode g edits run × (lines ≡ run ++ end ∷ [])
-edits_each Edit edits g lines leads = edits_run edits g lines leads
-edits_each Cograph edits g lines leads = cographs_run edits g lines leads
+-- the lines of edits in mode quiet are one for each, the tree of the last state, and the end
+abbrev IsQuietRest : PlainGraph → List script.Edit → List PlainLine → Type 0
+IsQuietRest g edits lines =
+    (run : List PlainLine) × (last : PlainLine) × QuietRun g edits run × HasTreeLine tree (last_state g edits run) last × (lines ≡ run ++ last ∷ end ∷ [])
 
-each_edits : (mode : SessionMode) (edits : List script.Edit) (g : PlainGraph) (run : List PlainLine) → AnswerEach mode g edits run → Lead (at_edits mode g edits) (run ++ end ∷ []) after_end
-each_edits Edit edits g run runs = run_edits edits g run runs
-each_edits Cograph edits g run runs = run_cographs edits g run runs
+quiet_run : (edits : List script.Edit) (g : PlainGraph) (lines : List PlainLine) → Lead (at_edits Quiet g edits) lines after_end → IsQuietRest g edits lines
+quiet_run [] g [] leads = absurd (cc)
+quiet_run [] g (line ∷ []) leads = absurd (cc)
+quiet_run [] g (line ∷ last ∷ []) leads = ([], line, refl, leads.0, ap (λ (l : PlainLine). line ∷ l ∷ []) leads.1.0)
+quiet_run [] g (line ∷ last ∷ more ∷ lines) leads = absurd leads.1.1.0
+quiet_run (edit ∷ edits) g [] leads = absurd (cc)
+quiet_run (edit ∷ edits) g (line ∷ lines) leads =
+    let on : IsQuietRest (state_behind g edit line) edits lines = quiet_run edits (state_behind g edit line) lines leads.1 in
+    (line ∷ on.0, on.1, (leads.0, on.2), on.3, ap (λ l. line ∷ l) on.4)
 
-session_report : (mode : SessionMode) (g : PlainGraph) (edits : List script.Edit) (lines : List PlainLine) → Lead (before_session mode g edits) lines after_end → IsSessionReport mode g edits lines
+run_quiet : (edits : List script.Edit) (g : PlainGraph) (run : List PlainLine) (last : PlainLine) → QuietRun g edits run → HasTreeLine tree (last_state g edits run) last →
+    Lead (at_edits Quiet g edits) (run ++ last ∷ end ∷ []) after_end
+run_quiet [] g [] last runs is = (is, (refl, refl))
+run_quiet [] g (line ∷ run) last runs is = absurd (cc)
+run_quiet (edit ∷ edits) g [] last runs is = absurd runs
+run_quiet (edit ∷ edits) g (line ∷ run) last runs is = (runs.0, run_quiet edits (state_behind g edit line) run last runs.1 is)
+
+-- a report of a session in mode edit or cograph, by its lines
+listed : (mode : SessionMode) (g : PlainGraph) (edits : List script.Edit) (line first : PlainLine) (lines : List PlainLine) → line ≡ head (session_mode_of mode) → ReportsState mode g first →
+    ((run : List PlainLine) × AnswerEach mode g (edits_behind first edits) run × (lines ≡ run ++ end ∷ [])) → IsSessionReport mode g edits (line ∷ first ∷ lines)
+listed mode g edits line first lines is state on =
+    record { first = first; run = on.0; state_line = state; runs = on.1; whole = ap₂ (λ (l : PlainLine) (m : List PlainLine). l ∷ first ∷ m) is on.2 }
+
+-- the lines from the first state on in mode quiet: an induced P4 and the end, or those of a cograph
+quiet_report : (g : PlainGraph) (edits : List script.Edit) (line : PlainLine) (lines : List PlainLine) → line ≡ head (session_mode_of Quiet) → Lead (at_state Quiet g edits) lines after_end →
+    IsWholeSession Quiet g edits (line ∷ lines)
+quiet_report g edits line [] is leads = absurd (cc)
+quiet_report g edits line (first ∷ lines) is (inl path, leads) =
+    inl (record { p = path.0; path = path.1; whole = ap₂ (λ (l : PlainLine) (m : List PlainLine). l ∷ m) is (ap₂ (λ (l : PlainLine) (m : List PlainLine). l ∷ m) path.2 (only_end lines (subst (λ (p : Place). Lead p lines after_end) (stopped_place g edits first path) leads))) })
+  where
+    only_end : (lines : List PlainLine) → Lead at_end lines after_end → lines ≡ end ∷ []
+    only_end [] leads = absurd (cc)
+    only_end (last ∷ []) leads = ap (λ (l : PlainLine). l ∷ []) leads.0
+    only_end (last ∷ more ∷ lines) leads = absurd leads.1.0
+quiet_report g edits line (first ∷ lines) is (inr whole, leads) =
+    let on : IsQuietRest g edits (first ∷ lines) = quiet_run edits g (first ∷ lines) (whole.1, subst (λ (p : Place). Lead p lines after_end) (first_place g edits first whole.1) leads) in
+    inr (record { run = on.0; last = on.1; cograph = whole.0; runs = on.2; last_line = on.3; whole = ap₂ (λ (l : PlainLine) (m : List PlainLine). l ∷ m) is on.4 })
+
+session_report : (mode : SessionMode) (g : PlainGraph) (edits : List script.Edit) (lines : List PlainLine) → Lead (before_session mode g edits) lines after_end → IsWholeSession mode g edits lines
 session_report mode g edits [] leads = absurd (cc)
-session_report mode g edits (line ∷ []) leads = absurd (cc)
-session_report mode g edits (line ∷ first ∷ lines) leads =
-    let on : (run : List PlainLine) × AnswerEach mode g (edits_behind first edits) run × (lines ≡ run ++ end ∷ []) = edits_each mode (edits_behind first edits) g lines leads.1.1 in
-    record { first = first; run = on.0; state_line = leads.1.0; runs = on.1; whole = ap₂ (λ (l : PlainLine) (m : List PlainLine). l ∷ first ∷ m) leads.0 on.2 }
+session_report Edit g edits (line ∷ []) leads = absurd (cc)
+session_report Edit g edits (line ∷ first ∷ lines) leads = listed Edit g edits line first lines leads.0 leads.1.0 (edits_run (edits_behind first edits) g lines leads.1.1)
+session_report Cograph g edits (line ∷ []) leads = absurd (cc)
+session_report Cograph g edits (line ∷ first ∷ lines) leads = listed Cograph g edits line first lines leads.0 leads.1.0 (cographs_run (edits_behind first edits) g lines leads.1.1)
+session_report Quiet g edits (line ∷ lines) leads = quiet_report g edits line lines leads.0 leads.1
+
+report_session : (mode : SessionMode) (g : PlainGraph) (edits : List script.Edit) (lines : List PlainLine) → IsWholeSession mode g edits lines → Lead (before_session mode g edits) lines after_end
+report_session Edit g edits lines is =
+    subst (λ l. Lead (before_session Edit g edits) l after_end) (sym is.whole) (refl, (is.state_line, run_edits (edits_behind is.first edits) g is.run is.runs))
+report_session Cograph g edits lines is =
+    subst (λ l. Lead (before_session Cograph g edits) l after_end) (sym is.whole) (refl, (is.state_line, run_cographs (edits_behind is.first edits) g is.run is.runs))
+report_session Quiet g edits lines (inl stopped) =
+    subst (λ l. Lead (before_session Quiet g edits) l after_end) (sym stopped.whole) (refl, (inl (stopped.p, stopped.path, refl), (refl, refl)))
+report_session Quiet g edits lines (inr is) =
+    subst (λ l. Lead (before_session Quiet g edits) l after_end) (sym is.whole)
+    (refl, from_cograph g edits (is.run ++ is.last ∷ end ∷ []) is.cograph (run_quiet edits g is.run is.last is.runs is.last_line))
 
 pub session_reports_proof : SessionReportsAreRuns
-session_reports_proof mode g edits lines = (
-  session_report mode g edits lines,
-  λ is. subst (λ l. Lead (before_session mode g edits) l after_end) (sym is.whole) (refl, (is.state_line, each_edits mode (edits_behind is.first edits) g is.run is.runs)),
-)
+session_reports_proof mode g edits lines = (session_report mode g edits lines, report_session mode g edits lines)

@@ -1,4 +1,5 @@
--- Sessions on cographs: an edit that would make an induced P4 is refused with it, and the graph stays.
+-- Sessions on cographs: an edit that would make an induced P4 is refused with it, and the graph stays. In mode quiet the line of an
+-- edit that is applied has no tree.
 -- Source: Corneil, Perl and Stewart, A linear recognition algorithm for cographs; the lines are this project's.
 use Rattle.std.specs.Prelude.{◌≡◌, ◌⊎◌, List, [], ◌∷◌, Option, Some, None}
 use Rattle.md_graph.specs.PlainGraph.{PlainGraph, adjacent}
@@ -7,7 +8,7 @@ use Rattle.md_modules.specs.InducedPaths.{IsInducedPath, HasInducedPath}
 use Rattle.md_script.specs.declared.edit.Edit.{Edit}
 use Rattle.md_script.specs.declared.edit.EditReason.{EditReason}
 use Rattle.md_script.specs.Edit.{reason_of, after}
-use Rattle.md_report.specs.Lines.{PlainLine, head, tree, applied, refused, refused_p4, not_cograph, oriented, forced, orders, forced_in, forced_in_complement, end}
+use Rattle.md_report.specs.Lines.{PlainLine, head, tree, applied, applied_quiet, refused, refused_p4, not_cograph, oriented, forced, orders, forced_in, forced_in_complement, end}
 use Rattle.md_report.specs.Sessions.{HasTreeLine, state_behind}
 
 -- the four names are an induced P4 of g
@@ -37,12 +38,24 @@ IsCographLineBy None g edit line =
 abbrev pub IsCographLine : PlainGraph → Edit → PlainLine → Type 0
 IsCographLine g edit line = IsCographLineBy (reason_of g edit) g edit line
 
+-- the line of an edit at g in mode quiet, by the reason against it: the reason; or an induced P4 of the graph after the edit; or that
+-- the edit was applied, where that graph is a cograph
+abbrev pub IsQuietLineBy : Option EditReason → PlainGraph → Edit → PlainLine → Type 0
+IsQuietLineBy (Some reason) g edit line = line ≡ refused reason
+IsQuietLineBy None g edit line =
+    HasP4Line refused_p4 (after g edit) line ⊎ (IsCograph (after g edit) × (line ≡ applied_quiet))
+
+-- the line of an edit at g in mode quiet
+abbrev pub IsQuietLine : PlainGraph → Edit → PlainLine → Type 0
+IsQuietLine g edit line = IsQuietLineBy (reason_of g edit) g edit line
+
 -- what is still to be answered behind the line of the first state: nothing where that has an induced P4
 abbrev pub edits_behind : PlainLine → List Edit → List Edit
 edits_behind (not_cograph p) edits = []
 edits_behind (head mode) edits = edits
 edits_behind (tree t) edits = edits
 edits_behind (applied t) edits = edits
+edits_behind applied_quiet edits = edits
 edits_behind (refused reason) edits = edits
 edits_behind (refused_p4 p) edits = edits
 edits_behind (oriented arcs) edits = edits
@@ -57,3 +70,9 @@ abbrev pub CographRun : PlainGraph → List Edit → List PlainLine → Type 0
 CographRun g [] lines = lines ≡ []
 CographRun g (edit ∷ edits) [] = ⊥
 CographRun g (edit ∷ edits) (line ∷ lines) = IsCographLine g edit line × CographRun (state_behind g edit line) edits lines
+
+-- the same in mode quiet
+abbrev pub QuietRun : PlainGraph → List Edit → List PlainLine → Type 0
+QuietRun g [] lines = lines ≡ []
+QuietRun g (edit ∷ edits) [] = ⊥
+QuietRun g (edit ∷ edits) (line ∷ lines) = IsQuietLine g edit line × QuietRun (state_behind g edit line) edits lines

@@ -1,16 +1,18 @@
 -- The laws of reports.
-use Rattle.std.specs.Prelude.{◌≡◌, ◌↔◌, ℕ, List, [], ◌∷◌, ◌++◌, ⊤}
+use Rattle.std.specs.Prelude.{◌≡◌, ◌↔◌, ◌⊎◌, ℕ, List, [], ◌∷◌, ◌++◌, ⊤}
 use Rattle.md_graph.specs.PlainGraph.{PlainGraph, IsGraph}
 use Rattle.std.specs.List.{All}
+use Rattle.md_modules.specs.declared.induced_paths.P4.{P4}
 use Rattle.md_script.specs.declared.edit.Edit.{Edit}
 use Rattle.md_script.specs.Edit.{HasNames}
 use Rattle.md_report.specs.declared.line.GraphMode.{GraphMode}
 use Rattle.md_report.specs.declared.line.SessionMode.{SessionMode}
 use Rattle.md_report.specs.declared.line.SessionMode.TheVariants as session_modes
-use Rattle.md_report.specs.Lines.{PlainLine, mode_of, session_mode_of, line_text, head, end}
-use Rattle.md_report.specs.Sessions.{SessionRun}
-use Rattle.md_report.specs.Cographs.{CographRun, edits_behind}
-use Rattle.md_report.specs.Places.{Place, before_head, at_graphs, before_session, at_state, at_edits, after_end, Reports, ReportsState, Lead}
+use Rattle.md_report.specs.declared.line.Mode.TheVariants as modes
+use Rattle.md_report.specs.Lines.{PlainLine, mode_of, session_mode_of, line_text, head, tree, not_cograph, end}
+use Rattle.md_report.specs.Sessions.{HasTreeLine, last_state, SessionRun}
+use Rattle.md_report.specs.Cographs.{IsP4Of, IsCograph, CographRun, QuietRun, edits_behind}
+use Rattle.md_report.specs.Places.{Place, before_head, at_graphs, before_session, at_state, at_edits, at_end, after_end, Reports, ReportsState, Lead}
 use Rattle.md_report.specs.Reports.{IsReport, IsFront}
 
 -- each of the list is a graph on names
@@ -25,6 +27,7 @@ IsSound (at_graphs mode graphs) = AreGraphs graphs
 IsSound (before_session mode g edits) = IsGraph g × All HasNames edits
 IsSound (at_state mode g edits) = IsGraph g × All HasNames edits
 IsSound (at_edits mode g edits) = IsGraph g × All HasNames edits
+IsSound at_end = ⊤
 IsSound after_end = ⊤
 
 -- Lines lead somewhere exactly where they are the first lines of a whole report.
@@ -55,9 +58,10 @@ GraphReportsHaveLines =
 abbrev pub AnswerEach : SessionMode → PlainGraph → List Edit → List PlainLine → Type 0
 AnswerEach session_modes.Edit g edits lines = SessionRun g edits lines
 AnswerEach session_modes.Cograph g edits lines = CographRun g edits lines
+AnswerEach session_modes.Quiet g edits lines = QuietRun g edits lines
 
--- A whole report of a session over a script: the head, the line of the first state, the lines of the edits that are answered
--- behind it, and the end.
+-- A whole report of a session over a script in mode edit or cograph: the head, the line of the first state, the lines of the edits
+-- that are answered behind it, and the end.
 pub record IsSessionReport (mode : SessionMode) (g : PlainGraph) (edits : List Edit) (lines : List PlainLine) : Type 0 where
   pub first : PlainLine
   pub run : List PlainLine
@@ -65,11 +69,33 @@ pub record IsSessionReport (mode : SessionMode) (g : PlainGraph) (edits : List E
   pub runs : AnswerEach mode g (edits_behind first edits) run
   pub whole : lines ≡ head (session_mode_of mode) ∷ first ∷ (run ++ end ∷ [])
 
+-- A whole report in mode quiet of a session on a graph with an induced P4: the head, the induced P4, and the end.
+pub record IsStoppedReport (g : PlainGraph) (lines : List PlainLine) : Type 0 where
+  pub p : P4
+  pub path : IsP4Of g p
+  pub whole : lines ≡ head modes.Quiet ∷ not_cograph p ∷ end ∷ []
+
+-- A whole report in mode quiet of a session on a cograph over a script: the head, the lines of the edits, the tree of the last
+-- state, and the end.
+pub record IsQuietReport (g : PlainGraph) (edits : List Edit) (lines : List PlainLine) : Type 0 where
+  pub run : List PlainLine
+  pub last : PlainLine
+  pub cograph : IsCograph g
+  pub runs : QuietRun g edits run
+  pub last_line : HasTreeLine tree (last_state g edits run) last
+  pub whole : lines ≡ head modes.Quiet ∷ (run ++ last ∷ end ∷ [])
+
+-- A whole report of a session over a script, by its mode.
+abbrev pub IsWholeSession : SessionMode → PlainGraph → List Edit → List PlainLine → Type 0
+IsWholeSession session_modes.Edit g edits lines = IsSessionReport session_modes.Edit g edits lines
+IsWholeSession session_modes.Cograph g edits lines = IsSessionReport session_modes.Cograph g edits lines
+IsWholeSession session_modes.Quiet g edits lines = IsStoppedReport g lines ⊎ IsQuietReport g edits lines
+
 -- Lines lead from before a session to the end exactly where they are such a report.
 abbrev pub SessionReportsAreRuns : Type 0
 SessionReportsAreRuns =
     (mode : SessionMode) (g : PlainGraph) (edits : List Edit) (lines : List PlainLine) →
-    Lead (before_session mode g edits) lines after_end ↔ IsSessionReport mode g edits lines
+    Lead (before_session mode g edits) lines after_end ↔ IsWholeSession mode g edits lines
 
 -- Bytes are the front of a report by places exactly where a whole report begins with them.
 abbrev pub FrontsBeginReports : Type 0

@@ -1,6 +1,7 @@
 pub mod Lines
 pub mod Sessions
 pub mod Cographs
+pub mod Made
 pub mod Orientations
 pub mod Models
 pub mod Places

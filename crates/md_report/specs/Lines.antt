@@ -24,6 +24,7 @@ pub data PlainLine : Type 0 where
   head : Mode → PlainLine
   tree : Option PlainTree → PlainLine
   applied : Option PlainTree → PlainLine
+  applied_quiet : PlainLine
   refused : EditReason → PlainLine
   refused_p4 : P4 → PlainLine
   not_cograph : P4 → PlainLine
@@ -39,6 +40,7 @@ abbrev pub plain_line : Line → PlainLine
 plain_line (lines.Head mode) = head mode
 plain_line (lines.Tree t) = tree (plain_option t)
 plain_line (lines.Applied t) = applied (plain_option t)
+plain_line lines.AppliedQuiet = applied_quiet
 plain_line (lines.Refused reason) = refused reason
 plain_line (lines.RefusedP4 p) = refused_p4 p
 plain_line (lines.NotCograph p) = not_cograph p
@@ -59,6 +61,7 @@ mode_of graph_modes.Permute = modes.Permute
 abbrev pub session_mode_of : SessionMode → Mode
 session_mode_of session_modes.Edit = modes.Edit
 session_mode_of session_modes.Cograph = modes.Cograph
+session_mode_of session_modes.Quiet = modes.Quiet
 
 -- the word of a mode
 abbrev pub mode_word : Mode → List ℕ
@@ -67,6 +70,7 @@ mode_word modes.Edit = codes "edit"
 mode_word modes.Cograph = codes "cograph"
 mode_word modes.Compare = codes "compare"
 mode_word modes.Permute = codes "permute"
+mode_word modes.Quiet = codes "quiet"
 
 -- the words of a reason
 abbrev pub reason_words : EditReason → List ℕ
@@ -97,6 +101,7 @@ abbrev pub line_text : PlainLine → List ℕ
 line_text (head mode) = codes "mdt " ++ mode_word mode
 line_text (tree t) = codes "t " ++ text_of t
 line_text (applied t) = codes "ok " ++ text_of t
+line_text applied_quiet = codes "ok"
 line_text (refused reason) = codes "no " ++ reason_words reason
 line_text (refused_p4 p) = codes "no p4" ++ p4_text p
 line_text (not_cograph p) = codes "p4" ++ p4_text p

@@ -5,7 +5,7 @@ use Rattle.md_forcing.specs.declared.seen.Side.TheVariants.{NonEdges}
 use Rattle.md_forcing.specs.Sides.{adjacent_on}
 use Rattle.md_orientation.specs.Chains.{IsForcingChain, HasForcingChain}
 use Rattle.md_orientation.specs.Orders.{Realise}
-use Rattle.md_report.specs.Lines.{PlainLine, head, tree, applied, refused, refused_p4, not_cograph, oriented, forced, orders, forced_in, forced_in_complement, end}
+use Rattle.md_report.specs.Lines.{PlainLine, head, tree, applied, applied_quiet, refused, refused_p4, not_cograph, oriented, forced, orders, forced_in, forced_in_complement, end}
 
 -- a forcing chain of the graph; where it has none, a forcing chain of its complement; or two orders that realise the graph, which
 -- there are exactly where neither has a chain
@@ -16,6 +16,7 @@ IsModelLine g (forced_in_complement chain) = (¬ HasForcingChain (adjacent g)) �
 IsModelLine g (head mode) = ⊥
 IsModelLine g (tree t) = ⊥
 IsModelLine g (applied t) = ⊥
+IsModelLine g applied_quiet = ⊥
 IsModelLine g (refused reason) = ⊥
 IsModelLine g (refused_p4 p) = ⊥
 IsModelLine g (not_cograph p) = ⊥

@@ -3,7 +3,7 @@
 use Rattle.std.specs.Prelude.{ℕ, Bool}
 use Rattle.md_orientation.specs.Chains.{IsForcingChain}
 use Rattle.md_orientation.specs.Orientations.{HasTransitiveOrientation, IsLeastEdgeOrientation}
-use Rattle.md_report.specs.Lines.{PlainLine, head, tree, applied, refused, refused_p4, not_cograph, oriented, forced, orders, forced_in, forced_in_complement, end}
+use Rattle.md_report.specs.Lines.{PlainLine, head, tree, applied, applied_quiet, refused, refused_p4, not_cograph, oriented, forced, orders, forced_in, forced_in_complement, end}
 
 -- the arcs of the least-edge orientation, in ascending order, where there is a transitive orientation; or a forcing chain
 abbrev pub IsOrientationLine : (ℕ → ℕ → Bool) → PlainLine → Type 0
@@ -12,6 +12,7 @@ IsOrientationLine e (forced chain) = IsForcingChain e chain
 IsOrientationLine e (head mode) = ⊥
 IsOrientationLine e (tree t) = ⊥
 IsOrientationLine e (applied t) = ⊥
+IsOrientationLine e applied_quiet = ⊥
 IsOrientationLine e (refused reason) = ⊥
 IsOrientationLine e (refused_p4 p) = ⊥
 IsOrientationLine e (not_cograph p) = ⊥

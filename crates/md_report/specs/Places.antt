@@ -1,26 +1,27 @@
 -- The places of a report: which line is due, and what is still to be reported.
 -- Source: this project's own format of reports.
-use Rattle.std.specs.Prelude.{◌≡◌, List, [], ◌∷◌}
+use Rattle.std.specs.Prelude.{◌≡◌, ◌⊎◌, List, [], ◌∷◌}
 use Rattle.md_graph.specs.PlainGraph.{PlainGraph, adjacent}
 use Rattle.md_script.specs.declared.edit.Edit as script
 use Rattle.md_report.specs.declared.line.GraphMode.{GraphMode}
 use Rattle.md_report.specs.declared.line.GraphMode.TheVariants.{Tree, Compare, Permute}
 use Rattle.md_report.specs.declared.line.SessionMode.{SessionMode}
-use Rattle.md_report.specs.declared.line.SessionMode.TheVariants.{Edit, Cograph}
-use Rattle.md_report.specs.Lines.{PlainLine, mode_of, session_mode_of, head, tree, end}
+use Rattle.md_report.specs.declared.line.SessionMode.TheVariants.{Edit, Cograph, Quiet}
+use Rattle.md_report.specs.Lines.{PlainLine, mode_of, session_mode_of, head, tree, applied, applied_quiet, refused, refused_p4, not_cograph, oriented, forced, orders, forced_in, forced_in_complement, end}
 use Rattle.md_report.specs.Orientations.{IsOrientationLine}
 use Rattle.md_report.specs.Models.{IsModelLine}
 use Rattle.md_report.specs.Sessions.{HasTreeLine, IsStepLine, state_behind}
-use Rattle.md_report.specs.Cographs.{IsOpeningLine, IsCographLine, edits_behind}
+use Rattle.md_report.specs.Cographs.{IsCograph, HasP4Line, IsOpeningLine, IsCographLine, IsQuietLine, edits_behind}
 
 -- Before the head of a report over graphs, and at the graphs that are still to be reported, one line each; before the head
--- of a session, at its first state, and at the edits that are still to be answered, one line each; and after the end.
+-- of a session, at its first state, and at the edits that are still to be answered, one line each; and before and after the end.
 pub data Place : Type 0 where
   before_head : GraphMode → List PlainGraph → Place
   at_graphs : GraphMode → List PlainGraph → Place
   before_session : SessionMode → PlainGraph → List script.Edit → Place
   at_state : SessionMode → PlainGraph → List script.Edit → Place
   at_edits : SessionMode → PlainGraph → List script.Edit → Place
+  at_end : Place
   after_end : Place
 
 -- the line that reports one graph: in mode tree its tree of strong modules, in mode compare its least-edge orientation
@@ -31,15 +32,68 @@ Reports Compare g line = IsOrientationLine (adjacent g) line
 Reports Permute g line = IsModelLine g line
 
 -- the line that reports the first state of a session: in mode edit its tree of strong modules, in mode cograph that tree or an
--- induced P4
+-- induced P4, in mode quiet an induced P4
 abbrev pub ReportsState : SessionMode → PlainGraph → PlainLine → Type 0
 ReportsState Edit g line = HasTreeLine tree g line
 ReportsState Cograph g line = IsOpeningLine g line
+ReportsState Quiet g line = HasP4Line not_cograph g line
 
 -- the line that answers an edit at g
 abbrev pub AnswersEdit : SessionMode → PlainGraph → script.Edit → PlainLine → Type 0
 AnswersEdit Edit g edit line = IsStepLine g edit line
 AnswersEdit Cograph g edit line = IsCographLine g edit line
+AnswersEdit Quiet g edit line = IsQuietLine g edit line
+
+-- the line behind the answers to all edits, where g is the last state: in modes edit and cograph the end, in mode quiet the tree of g
+abbrev pub ClosesEdits : SessionMode → PlainGraph → PlainLine → Type 0
+ClosesEdits Edit g line = line ≡ end
+ClosesEdits Cograph g line = line ≡ end
+ClosesEdits Quiet g line = HasTreeLine tree g line
+
+-- the place behind that line
+abbrev pub closed_place : SessionMode → Place
+closed_place Edit = after_end
+closed_place Cograph = after_end
+closed_place Quiet = at_end
+
+-- the line may come where the state is g and these edits are still to be answered
+abbrev pub ComesAtEdits : SessionMode → PlainGraph → List script.Edit → PlainLine → Type 0
+ComesAtEdits mode g (edit ∷ edits) line = AnswersEdit mode g edit line
+ComesAtEdits mode g [] line = ClosesEdits mode g line
+
+-- the place behind that line
+abbrev pub place_behind : SessionMode → PlainGraph → List script.Edit → PlainLine → Place
+place_behind mode g (edit ∷ edits) line = at_edits mode (state_behind g edit line) edits
+place_behind mode g [] line = closed_place mode
+
+-- the line may come behind the head of a session: it reports the first state; in mode quiet a cograph has no such line, and the
+-- line is the first one that may come at the edits
+abbrev pub OpensSession : SessionMode → PlainGraph → List script.Edit → PlainLine → Type 0
+OpensSession Edit g edits line = ReportsState Edit g line
+OpensSession Cograph g edits line = ReportsState Cograph g line
+OpensSession Quiet g edits line = ReportsState Quiet g line ⊎ (IsCograph g × ComesAtEdits Quiet g edits line)
+
+-- the place behind the first line of a session in mode quiet: before the end where the line tells of an induced P4
+abbrev pub quiet_place : PlainGraph → List script.Edit → PlainLine → Place
+quiet_place g edits (not_cograph p) = at_end
+quiet_place g edits (head mode) = place_behind Quiet g edits (head mode)
+quiet_place g edits (tree t) = place_behind Quiet g edits (tree t)
+quiet_place g edits (applied t) = place_behind Quiet g edits (applied t)
+quiet_place g edits applied_quiet = place_behind Quiet g edits applied_quiet
+quiet_place g edits (refused reason) = place_behind Quiet g edits (refused reason)
+quiet_place g edits (refused_p4 p) = place_behind Quiet g edits (refused_p4 p)
+quiet_place g edits (oriented arcs) = place_behind Quiet g edits (oriented arcs)
+quiet_place g edits (forced chain) = place_behind Quiet g edits (forced chain)
+quiet_place g edits (orders first second) = place_behind Quiet g edits (orders first second)
+quiet_place g edits (forced_in chain) = place_behind Quiet g edits (forced_in chain)
+quiet_place g edits (forced_in_complement chain) = place_behind Quiet g edits (forced_in_complement chain)
+quiet_place g edits end = place_behind Quiet g edits end
+
+-- the place behind the line that came behind the head of a session
+abbrev pub opened_place : SessionMode → PlainGraph → List script.Edit → PlainLine → Place
+opened_place Edit g edits line = at_edits Edit g (edits_behind line edits)
+opened_place Cograph g edits line = at_edits Cograph g (edits_behind line edits)
+opened_place Quiet g edits line = quiet_place g edits line
 
 -- the line may come at the place
 abbrev pub MayCome : Place → PlainLine → Type 0
@@ -47,9 +101,9 @@ MayCome (before_head mode graphs) line = line ≡ head (mode_of mode)
 MayCome (at_graphs mode (g ∷ graphs)) line = Reports mode g line
 MayCome (at_graphs mode []) line = line ≡ end
 MayCome (before_session mode g edits) line = line ≡ head (session_mode_of mode)
-MayCome (at_state mode g edits) line = ReportsState mode g line
-MayCome (at_edits mode g (edit ∷ edits)) line = AnswersEdit mode g edit line
-MayCome (at_edits mode g []) line = line ≡ end
+MayCome (at_state mode g edits) line = OpensSession mode g edits line
+MayCome (at_edits mode g edits) line = ComesAtEdits mode g edits line
+MayCome at_end line = line ≡ end
 MayCome after_end line = ⊥
 
 -- the place behind a line that came at a place
@@ -58,9 +112,9 @@ next_place (before_head mode graphs) line = at_graphs mode graphs
 next_place (at_graphs mode (g ∷ graphs)) line = at_graphs mode graphs
 next_place (at_graphs mode []) line = after_end
 next_place (before_session mode g edits) line = at_state mode g edits
-next_place (at_state mode g edits) line = at_edits mode g (edits_behind line edits)
-next_place (at_edits mode g (edit ∷ edits)) line = at_edits mode (state_behind g edit line) edits
-next_place (at_edits mode g []) line = after_end
+next_place (at_state mode g edits) line = opened_place mode g edits line
+next_place (at_edits mode g edits) line = place_behind mode g edits line
+next_place at_end line = after_end
 next_place after_end line = after_end
 
 -- the lines lead from one place to another: each may come where those before it lead

@@ -11,7 +11,7 @@ use Rattle.md_script.specs.declared.edit.EditReason.TheVariants.{Same, NoVertex,
 use Rattle.md_report.specs.declared.line.Line.{Line}
 use Rattle.md_report.specs.declared.reader.LineFault.{LineFault}
 use Rattle.md_report.specs.declared.reader.LineFault.TheVariants.{Syntax, Memory}
-use Rattle.md_report.specs.Lines.{PlainLine, plain_line, line_text, head, tree, applied, refused, refused_p4, not_cograph, oriented, forced, orders, forced_in, forced_in_complement, end}
+use Rattle.md_report.specs.Lines.{PlainLine, plain_line, line_text, head, tree, applied, applied_quiet, refused, refused_p4, not_cograph, oriented, forced, orders, forced_in, forced_in_complement, end}
 
 -- the number is a name
 abbrev pub IsVertexName : ℕ → Type 0
@@ -51,6 +51,7 @@ abbrev pub IsWellFormedLine : PlainLine → Type 0
 IsWellFormedLine (head mode) = ⊤
 IsWellFormedLine (tree t) = IsWellFormed t
 IsWellFormedLine (applied t) = IsWellFormed t
+IsWellFormedLine applied_quiet = ⊤
 IsWellFormedLine (refused reason) = IsNamedReason reason
 IsWellFormedLine (refused_p4 p) = IsNamedP4 p
 IsWellFormedLine (not_cograph p) = IsNamedP4 p

@@ -64,11 +64,16 @@ pub record NoYes (text : List ℕ) : Type 0 where
   pub arcs : (arcs : List Arc) → All IsNamedArc arcs → text ≢ arcs_text arcs
   pub orders : (first second : List ℕ) → All IsVertexName first → All IsVertexName second → text ≢ names_text first ++ (codes " /" ++ names_text second)
 
+-- nothing that may stand behind `ok` is this text
+pub record NoOk (text : List ℕ) : Type 0 where
+  pub some : text ≢ []
+  pub trees : (o : Option PlainTree) → IsWellFormed o → text ≢ 32 ∷ text_of o
+
 -- nothing that may stand behind a first word is this text
 abbrev pub NoLine : Word → List ℕ → Type 0
 NoLine Head text = (mode : Mode) → text ≢ 32 ∷ mode_word mode
 NoLine TreeWord text = (o : Option PlainTree) → IsWellFormed o → text ≢ 32 ∷ text_of o
-NoLine Applied text = (o : Option PlainTree) → IsWellFormed o → text ≢ 32 ∷ text_of o
+NoLine Applied text = NoOk text
 NoLine Path text = (p : P4) → IsNamedP4 p → text ≢ p4_text p
 NoLine Yes text = NoYes text
 NoLine No text = NoNo text

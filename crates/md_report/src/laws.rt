@@ -20,8 +20,9 @@ pub fn graph_reports_have_lines()
     ensures { GraphReportsHaveLines }
 {}
 
-/// A whole report of a session is the head, the tree of the first state, the lines of the run over
-/// the script, and the end.
+/// A whole report of a session is the head, the line of the first state, the lines of the run over
+/// the script, and the end; in mode quiet the head, the lines of the run, the tree of the last
+/// state, and the end, or, where the first state has an induced P4, the head, that, and the end.
 pub fn session_reports_are_runs()
     ensures { SessionReportsAreRuns }
 {}

@@ -3,6 +3,7 @@
 
 pub mod laws;
 mod line;
+mod made;
 mod order;
 mod pieces;
 mod reader;
@@ -10,6 +11,7 @@ mod words;
 mod writer;
 
 pub use line::{GraphMode, Line, Mode, SessionMode};
+pub use made::made_p4;
 pub use order::Order;
 pub use reader::{LineFault, read_line};
 pub use writer::write_line;

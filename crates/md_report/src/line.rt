@@ -18,6 +18,8 @@ pub enum Mode {
     Compare,
     /// Permutation models of graphs, or forcing chains of them or of their complements.
     Permute,
+    /// Which edits of a script a cograph takes, and the tree of the last cograph.
+    Quiet,
 }
 
 /// What a report over the graphs of a file says of each of them.
@@ -55,6 +57,9 @@ pub enum SessionMode {
     /// Its tree of strong modules; no state has an induced P4, and an edit that would make one is
     /// refused.
     Cograph,
+    /// Of the last state its tree of strong modules, of the others nothing; no state has an induced
+    /// P4, and an edit that would make one is refused.
+    Quiet,
 }
 
 impl SessionMode {
@@ -68,6 +73,7 @@ impl SessionMode {
         match self {
             SessionMode::Edit => Mode::Edit,
             SessionMode::Cograph => Mode::Cograph,
+            SessionMode::Quiet => Mode::Quiet,
         }
     }
 }
@@ -81,6 +87,8 @@ pub enum Line {
     Tree(Option<Tree>),
     /// The edit was applied, and this is the tree of the graph that it left.
     Applied(Option<Tree>),
+    /// The edit was applied.
+    AppliedQuiet,
     /// The edit was refused, and the graph stays.
     Refused(EditReason),
     /// The edit was refused, since the graph after it has this induced P4, and the graph stays.

@@ -60,7 +60,7 @@ fn line_behind(alloc: Global, word: Word, rest: &[u8]) -> Result<Line, LineFault
     match word {
         Word::Head => head_line(rest),
         Word::Tree => Ok(Line::Tree(tree_behind(alloc, rest)?)),
-        Word::Applied => Ok(Line::Applied(tree_behind(alloc, rest)?)),
+        Word::Applied => ok_line(alloc, rest),
         Word::Path => match path(alloc, rest)? {
             Some(p) => Ok(Line::NotCograph(p)),
             None => Err(LineFault::Syntax),
@@ -99,6 +99,9 @@ fn mode_behind(rest: &[u8]) -> Option<Mode>
     if rest == b" permute".as_slice() {
         return Some(Mode::Permute);
     }
+    if rest == b" quiet".as_slice() {
+        return Some(Mode::Quiet);
+    }
     None
 }
 
@@ -109,6 +112,16 @@ fn end_line(rest: &[u8]) -> Result<Line, LineFault>
         return Ok(Line::End);
     }
     Err(LineFault::Syntax)
+}
+
+// A line that says that an edit was applied: no more, or a tree.
+fn ok_line(alloc: Global, rest: &[u8]) -> Result<Line, LineFault>
+    ensures { ReadsBehind words.Applied rest.now result }
+{
+    match rest {
+        [] => Ok(Line::AppliedQuiet),
+        _ => Ok(Line::Applied(tree_behind(alloc, rest)?)),
+    }
 }
 
 // The tree whose text stands behind a space.

@@ -30,6 +30,7 @@ pub fn write_line(alloc: Global, line: &Line) -> Result<Vec<u8>, Memory>
             text.extend_from_slice(b"ok ")?;
             push_text(alloc, &mut text, tree)?;
         }
+        Line::AppliedQuiet => text.extend_from_slice(b"ok")?,
         Line::Refused(reason) => {
             text.extend_from_slice(b"no ")?;
             push_reason(&mut text, *reason)?;
@@ -78,6 +79,7 @@ fn mode_word(mode: Mode) -> &'static str
         Mode::Cograph => "cograph",
         Mode::Compare => "compare",
         Mode::Permute => "permute",
+        Mode::Quiet => "quiet",
     }
 }
 

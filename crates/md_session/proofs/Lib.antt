@@ -1,1 +1,3 @@
 mod MadePaths
+mod Changed
+mod Counted

@@ -1,25 +1,35 @@
 //! Sessions on cographs: an edit that would make an induced P4 is refused with it.
-ghost use Rattle.std.specs.Prelude.{◌≡◌, ◌↔◌, IfOk, IfSome, IfNone, IsTrue};
-ghost use Rattle.md_graph.specs.PlainGraph.{adjacent};
+ghost use Rattle.std.specs.Prelude.{◌≡◌, ◌+◌, ◌≤◌, ◌↔◌, Bool, true, false, Option, None, IfOk, IsTrue};
+ghost use Rattle.std.specs.FinSet as set;
+ghost use Rattle.md_graph.specs.PlainGraph.{PlainGraph, adjacent};
+ghost use Rattle.md_modules.specs.InducedPaths.{HasInducedPath};
 ghost use Rattle.md_tree.specs.StrongTrees.{IsTree};
+ghost use Rattle.md_tree.specs.Trees.{PlainTree};
 ghost use Rattle.md_tree.specs.Plain.{plain_option};
-ghost use Rattle.md_script.specs.Edit.{HasNames};
-ghost use Rattle.md_report.specs.Cographs.{IsP4Of, IsCograph};
+ghost use Rattle.md_cotree.specs.Cotrees.{Denotes};
+ghost use Rattle.md_cotree.specs.Laws.{HasNoPrime};
+ghost use Rattle.md_script.specs.Edit.{HasNames, reason_of, after};
+ghost use Rattle.md_report.specs.Cographs.{IsCograph};
 ghost use Rattle.md_session.specs.Answers.{IsOpened, IsAnswered};
-ghost use Rattle.md_session.specs.Made.{Shows, HasNoneMade};
+ghost use Rattle.md_session.specs.Costs.{edit_cost, nodes_in};
 
+use md_cotree::{Cotree, from_tree};
+use md_cotree_edit::{add_edge, add_vertex, del_edge, del_vertex};
 use md_decompose::decompose;
-use md_graph::{Graph, Memory};
-use md_modules::{P4, find_p4, find_p4_with, find_p4_with_both};
+use md_graph::{Graph, Memory, Steps};
+use md_modules::{P4, find_p4};
+use md_report::made_p4;
 use md_script::{Edit, EditReason, lost_row, reason, take_back};
 use md_tree::{Tree, is_cotree};
 use std::alloc::Global;
 use std::marker::Model;
+use std::sync::ledger::Ledger;
 
-/// A session on a cograph. It keeps the graph alone.
+/// A session on a cograph. It keeps the graph and its cotree, which an edit changes in place.
 #[derive(Drop)]
 pub struct CographSession {
     graph: Graph,
+    tree: Cotree,
 }
 
 impl Model for CographSession {
@@ -32,8 +42,9 @@ impl Model for CographSession {
     ghost view = { λ s. s.graph };
 
     ghost use Rattle.md_report.specs.Cographs.{IsCograph};
+    ghost use Rattle.md_cotree.specs.Cotrees.{Denotes};
 
-    ghost invariant = { λ s. IsCograph s.graph };
+    ghost invariant = { λ s. IsCograph s.graph × Denotes s.tree s.graph };
 }
 
 /// What comes of a graph that a session on cographs is to begin with.
@@ -62,12 +73,15 @@ impl CographSession {
     pub fn new(alloc: Global, graph: Graph) -> Result<Opened, Memory>
         ensures { IfOk result (λ opened. IsOpened graph opened) }
     {
-        if is_cograph(alloc, &graph)? {
-            return Ok(Opened::Session(CographSession { graph }));
+        let _vertices = graph.vertices();
+        let tree = decompose(alloc, &graph)?;
+        if has_no_prime(&tree) {
+            let tree = from_tree(alloc, &tree)?;
+            return Ok(Opened::Session(CographSession { graph, tree }));
         }
         match find_p4(&graph) {
             Some(p) => Ok(Opened::NotCograph(p)),
-            None => Ok(Opened::Session(CographSession { graph })),
+            None => unreachable!(),
         }
     }
 
@@ -77,51 +91,91 @@ impl CographSession {
         ensures tree { IfOk result (λ tree.
             IsTree (adjacent self.now) self.now.vertices (plain_option tree)) }
     {
-        decompose(alloc, &self.graph)
+        self.tree.to_tree(alloc)
+    }
+
+    /// The cotree of the graph.
+    pub fn cotree(&self) -> &Cotree
+        ensures denotes { Denotes result.now self.now }
+    {
+        &self.tree
+    }
+
+    /// The number of vertices of the graph.
+    pub fn vertex_count(&self) -> u32
+        ensures { result ≡ set.len self.now.vertices }
+    {
+        self.graph.count()
+    }
+
+    /// The number of nodes of the tree of strong modules of the graph, leaves among them.
+    pub fn node_count(&self) -> u64
+        ensures count { (o : Option PlainTree) → IsTree (adjacent self.now) self.now.vertices o →
+            result ≡ nodes_in o }
+    {
+        self.tree.node_count()
     }
 
     /// Answers an edit: refuses it where there is a reason against it, or where the graph after it
     /// would have an induced P4, and the graph then stays; else changes the graph. It takes no
     /// memory. Condition: the names in the edit are names.
-    pub fn apply(&mut self, edit: &Edit) -> Answer
+    pub fn apply<L: Ledger>(&mut self, edit: &Edit, steps: &mut Steps<L>) -> Answer
         requires { HasNames edit.now }
-        ensures { IsAnswered self.old edit.now result self.new }
+        ensures answer { IsAnswered self.old edit.now result self.new }
+        ensures bound { steps.new ≤ steps.old + edit_cost self.old edit.now }
     {
         if let Some(reason) = reason(&self.graph, edit) {
             return Answer::Refused(reason);
         }
         let row = lost_row(&self.graph, edit);
+        let done = change(&mut self.tree, edit, steps);
         md_script::apply(&mut self.graph, edit);
-        if let Some(p) = made_p4(&self.graph, edit) {
-            take_back(&mut self.graph, edit, &row);
-            return Answer::RefusedP4(p);
+        if done {
+            return Answer::Applied;
         }
-        Answer::Applied
+        match made_p4(&self.graph, edit) {
+            Some(p) => {
+                take_back(&mut self.graph, edit, &row);
+                Answer::RefusedP4(p)
+            }
+            None => unreachable!(),
+        }
     }
 }
 
-// Whether a graph has no induced P4: whether its tree has no prime node.
-fn is_cograph(alloc: Global, graph: &Graph) -> Result<bool, Memory>
-    ensures { IfOk result (λ yes. IsTrue yes ↔ IsCograph graph.now) }
+// Whether no node of a tree is prime.
+fn has_no_prime(tree: &Option<Tree>) -> bool
+    ensures { IsTrue result ↔ HasNoPrime (plain_option tree.now) }
 {
-    let _vertices = graph.vertices();
-    match decompose(alloc, graph)? {
-        Some(tree) => Ok(is_cotree(&tree)),
-        None => Ok(true),
+    match tree {
+        Some(tree) => is_cotree(tree),
+        None => true,
     }
 }
 
-// An induced P4 that holds both ends of the edge of an edit, or its new vertex; none exactly where
-// there is none. Condition: the edit led to the graph.
-fn made_p4(graph: &Graph, edit: &Edit) -> Option<P4>
-    requires { Shows graph.now edit.now }
-    ensures found { IfSome result (λ p. IsP4Of graph.now p) }
-    ensures none { IfNone result (HasNoneMade graph.now edit.now) }
+// Changes the cotree of a graph as an edit changes the graph; whether that was done. Where it wasn't,
+// the graph after the edit has an induced P4, and the cotree stays. Condition: no reason speaks
+// against the edit, and its names are names.
+fn change<L: Ledger>(tree: &mut Cotree, edit: &Edit, steps: &mut Steps<L>) -> bool
+    requires denotes { (g : PlainGraph) × Denotes tree.old g × (reason_of g edit.now ≡ None) }
+    requires names { HasNames edit.now }
+    ensures done { (g : PlainGraph) → Denotes tree.old g → reason_of g edit.now ≡ None →
+        result ≡ true → Denotes tree.new (after g edit.now) }
+    ensures refused { (g : PlainGraph) → Denotes tree.old g → reason_of g edit.now ≡ None →
+        result ≡ false → HasInducedPath (adjacent (after g edit.now)) (after g edit.now).vertices }
+    ensures same { result ≡ false → tree.new ≡ tree.old }
+    ensures bound { (g : PlainGraph) → Denotes tree.old g → reason_of g edit.now ≡ None →
+        steps.new ≤ steps.old + edit_cost g edit.now }
 {
     match edit {
-        Edit::AddEdge { u, v } => find_p4_with_both(graph, *u, *v),
-        Edit::DelEdge { u, v } => find_p4_with_both(graph, *u, *v),
-        Edit::AddVertex { x, .. } => find_p4_with(graph, *x),
-        Edit::DelVertex { .. } => None,
+        Edit::AddEdge { u, v } => add_edge(tree, *u, *v, steps).is_ok(),
+        Edit::DelEdge { u, v } => del_edge(tree, *u, *v, steps).is_ok(),
+        Edit::AddVertex { x, neighbours } => {
+            add_vertex(tree, *x, neighbours.as_slice(), steps).is_ok()
+        }
+        Edit::DelVertex { x } => {
+            del_vertex(tree, *x, steps);
+            true
+        }
     }
 }

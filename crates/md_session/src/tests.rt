@@ -1,11 +1,15 @@
 //! Sessions over scripts, by the lines that they give.
+ghost use Rattle.std.specs.Prelude.{◌≡◌, ◌<◌};
+
 use super::*;
-use md_graph::{Graph, Memory};
+use md_graph::{Graph, Memory, Steps};
 use md_modules::P4;
 use md_report::{Line, write_line};
 use md_script::{EditReason, Script, read_script};
 use std::alloc::Global;
+use std::marker::Brand;
 use std::process::Abort;
+use std::sync::ledger::{Blank, Ledger};
 use std::test::Fail;
 
 // Applies a script to the graph without vertices, and compares the line of each edit and of the
@@ -70,23 +74,35 @@ fn sessions(rt: HostRuntime) -> Result<(), Fail> {
 }
 
 // Applies a script to the graph without vertices, in a session on cographs.
-fn answers(
+fn answers<L: Ledger>(
     rt: &impl Abort,
     alloc: Global,
     script: &Script,
     expected: &[Answer],
-) -> Result<(), Memory> {
+    blank: Blank,
+) -> Result<(), Memory>
+    requires name { blank.name ≡ L.name }
+    requires parts { blank.parts ≡ L.parts }
+    requires some { 0 < blank.parts }
+{
+    let mut steps = Steps::<L>::new(blank);
     let Opened::Session(mut session) = CographSession::new(alloc, Graph::new(alloc)?)? else {
         panic!(rt; "no session");
     };
     assert_eq!(rt; script.len() as usize, expected.len());
     for (i, answer) in expected.iter().enumerate() {
         assert!(rt; (i as u64) < script.len());
-        assert_eq!(rt; session.apply(script.get(i as u64)), *answer, "edit {i}");
+        assert_eq!(rt;
+            session.apply(script.get(i as u64), &mut steps),
+            *answer,
+            "edit {i}"
+        );
     }
     let tree = session.tree(alloc)?;
     let text = write_line(alloc, &Line::Tree(tree))?;
     assert_eq!(rt; text.as_slice(), "t S(P(0,2),1)".as_bytes());
+    assert_eq!(rt; session.node_count(), 5);
+    assert_eq!(rt; session.cotree().leaves, 3);
     Ok(())
 }
 
@@ -99,7 +115,7 @@ fn sessions_on_cographs(rt: HostRuntime) -> Result<(), Fail> {
         d: 3,
     };
     let script = read_script(rt.alloc(), b"+v 0\n+v 1 0\n+v 2 1\n+v 3 2\n+v 2\n+e 0 1\n")?;
-    answers(
+    answers::<Brand>(
         &rt,
         rt.alloc(),
         &script,
@@ -111,6 +127,7 @@ fn sessions_on_cographs(rt: HostRuntime) -> Result<(), Fail> {
             Answer::Refused(EditReason::NameTaken(2)),
             Answer::Refused(EditReason::EdgeThere),
         ],
+        Blank::new(1),
     )?;
     let edges = [(0, 1), (1, 2), (2, 3)];
     let graph = Graph::from_edges(rt.alloc(), 4, &edges)?.expect(&rt, "edges");

@@ -6,7 +6,7 @@ use Rattle.md_script.proofs.FileLemmas.{script_has_names}
 use Rattle.md_checker.proofs.Spelled.{are_graphs}
 use Rattle.md_top.specs.declared.request.GraphForm.TheVariants.{Convert, Report}
 use Rattle.md_top.specs.declared.request.Request.{Request}
-use Rattle.md_top.specs.declared.request.Request.TheVariants.{Graphs, Session, CheckGraphs, CheckSession}
+use Rattle.md_top.specs.declared.request.Request.TheVariants.{Graphs, Session, CheckGraphs, CheckSession, Big}
 use Rattle.md_top.specs.declared.stop.Verdict.{Verdict}
 use Rattle.md_top.specs.declared.stop.Verdict.TheVariants.{Done, Rejected}
 use Rattle.md_top.specs.Answer.{Output, text, report, answer, verdict_of, Gives, IsWhole, IsBeginning, IsAnswer, IsAnswerFront}
@@ -25,6 +25,7 @@ given_sound (Session mode from graph script) output gives =
     subst IsSoundOutput (sym gives.4) ((are_graphs from graph (gives.0 ∷ []) gives.2).0, script_has_names script gives.1 gives.3)
 given_sound (CheckGraphs mode from graph bytes) output gives = subst IsSoundOutput (sym gives.2) tt
 given_sound (CheckSession mode from graph script bytes) output gives = subst IsSoundOutput (sym gives.4) tt
+given_sound (Big size) output gives = subst IsSoundOutput (sym gives.2) tt
 
 whole_of : (output : Output) → IsSoundOutput output → (bytes : List ℕ) → IsBeginning output bytes → (verdict : Verdict) × (rest : List ℕ) × IsWhole output verdict (bytes ++ rest)
 whole_of (text whole) sound bytes begun = (Done, begun.0, sym begun.1)

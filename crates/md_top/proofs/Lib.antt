@@ -2,7 +2,10 @@ pub mod Pieces
 pub mod Lines
 pub mod Edits
 pub mod Outputs
+mod Alike
 mod OneOutput
 pub mod Loads
 pub mod EndsLemmas
 pub mod Fronts
+pub mod FromCographs
+pub mod Runs

@@ -1,5 +1,5 @@
 -- Contents are spelled in one way, so that a request over contents gives one output; and what a check says by its verdict.
-use Rattle.std.proofs.Common.{◌≡◌, ℕ, List, [], ◌∷◌, MatchOption, refl, sym, ◌∙◌, ap, ap₂, subst}
+use Rattle.std.proofs.Common.{◌≡◌, ℕ, List, [], ◌∷◌, MatchOption, sym, ◌∙◌, ap, ap₂, subst}
 use Rattle.md_graph.specs.PlainGraph.{PlainGraph}
 use Rattle.md_text.specs.Spelling.{SpellsOne, SpellsNone}
 use Rattle.md_graph6.proofs.FileLemmas.{spelled_has_no_fault}
@@ -14,12 +14,14 @@ use Rattle.md_report.specs.Places.{Place, before_head, before_session}
 use Rattle.md_checker.specs.declared.answer.CheckAnswer.{CheckAnswer}
 use Rattle.md_checker.specs.declared.answer.CheckAnswer.TheVariants as answers
 use Rattle.md_checker.specs.Answers.{IsCheckAnswer}
+use Rattle.md_top.specs.declared.big.Numbers.{Numbers}
 use Rattle.md_top.specs.declared.request.Request.{Request}
-use Rattle.md_top.specs.declared.request.Request.TheVariants.{Graphs, Session, CheckGraphs, CheckSession}
-use Rattle.md_top.specs.declared.stop.Verdict.{Verdict}
+use Rattle.md_top.specs.declared.request.Request.TheVariants.{Graphs, Session, CheckGraphs, CheckSession, Big}
 use Rattle.md_top.specs.declared.stop.Verdict.TheVariants.{Done, Rejected}
-use Rattle.md_top.specs.Answer.{Output, text, report, answer, answer_text, verdict_of, over_graphs, Gives, HasAnswer, IsWhole, IsAnswer}
+use Rattle.md_top.specs.Answer.{Output, text, report, answer, verdict_of, over_graphs, Gives, HasAnswer, IsWhole, IsAnswer}
+use Rattle.md_top.specs.Big.{numbers_line}
 use Rattle.md_top.specs.Laws.{OneOutput}
+use Rattle.md_top.proofs.Alike.{numbers_alike}
 
 -- a file spells one list of graphs
 graphs_alike : (from : Format) (bytes : List ℕ) (g h : List PlainGraph) → SpellsGraphs from bytes g → SpellsGraphs from bytes h → g ≡ h
@@ -51,6 +53,8 @@ one_output (CheckGraphs mode from graph bytes) a b ga gb =
 one_output (CheckSession mode from graph script bytes) a b ga gb =
     ga.4 ∙ ap₂ (λ (g : PlainGraph) (edits : List Edit). answer (before_session mode g edits) bytes)
     (graph_alike from graph ga.0 gb.0 ga.2 gb.2) (script_alike script ga.1 gb.1 ga.3 gb.3) ∙ sym gb.4
+one_output (Big size) a b ga gb =
+    ga.2 ∙ ap (λ (n : Numbers). text (numbers_line n)) (numbers_alike size ga.0 gb.0 ga.1 gb.1) ∙ sym gb.2
 
 -- where a report is rejected, Done isn't what a whole output says
 accepted_not_rejected : (p : Place) (bytes : List ℕ) (line : ℕ) (told : CheckAnswer) → IsCheckAnswer p bytes (answers.Rejected line) → IsCheckAnswer p bytes told → Done ≡ verdict_of told → ⊥

@@ -1,6 +1,6 @@
 -- The output of a request over given contents, whole or begun, and what is wrong with the contents.
 -- Here the contents stand in the request in place of the names. Source: the formats and reports of docs/FORMATS.md.
-use Rattle.std.specs.Prelude.{◌≡◌, ℕ, Option, List, [], ◌∷◌, ◌++◌, codes}
+use Rattle.std.specs.Prelude.{◌≡◌, ℕ, Option, None, List, [], ◌∷◌, ◌++◌, codes}
 use Rattle.std.specs.Option.{option_or}
 use Rattle.std.specs.List.{flat_map}
 use Rattle.md_text.specs.Numbers.{decimal}
@@ -19,12 +19,14 @@ use Rattle.md_report.specs.Reports.{IsReport, IsFront}
 use Rattle.md_checker.specs.declared.answer.CheckAnswer.{CheckAnswer}
 use Rattle.md_checker.specs.declared.answer.CheckAnswer.TheVariants as answers
 use Rattle.md_checker.specs.Answers.{IsCheckAnswer}
+use Rattle.md_top.specs.declared.big.Numbers.{Numbers}
 use Rattle.md_top.specs.declared.request.GraphForm.{GraphForm}
 use Rattle.md_top.specs.declared.request.GraphForm.TheVariants.{Convert, Report}
 use Rattle.md_top.specs.declared.request.Request.{Request}
-use Rattle.md_top.specs.declared.request.Request.TheVariants.{Graphs, Session, CheckGraphs, CheckSession}
+use Rattle.md_top.specs.declared.request.Request.TheVariants.{Graphs, Session, CheckGraphs, CheckSession, Big}
 use Rattle.md_top.specs.declared.stop.Verdict.{Verdict}
 use Rattle.md_top.specs.declared.stop.Verdict.TheVariants.{Done, Rejected}
+use Rattle.md_top.specs.Big.{AreNumbersOf, numbers_line}
 
 -- the first cause of bad input, none where the input is well-formed
 abbrev pub fault_of : Request (List ℕ) → Option Fault
@@ -32,6 +34,7 @@ fault_of (Graphs form from graph) = graph_fault from graph
 fault_of (Session mode from graph script) = option_or (one_graph_fault from graph) (script_fault script)
 fault_of (CheckGraphs mode from graph report) = graph_fault from graph
 fault_of (CheckSession mode from graph script report) = option_or (one_graph_fault from graph) (script_fault script)
+fault_of (Big size) = None
 
 -- the text of a graph in a format
 abbrev pub graph_text : Format → PlainGraph → List ℕ
@@ -71,6 +74,7 @@ Gives (CheckGraphs mode from graph bytes) output =
 Gives (CheckSession mode from graph script bytes) output =
     (g : PlainGraph) × (edits : List script_edits.Edit) × SpellsGraphs from graph (g ∷ []) × SpellsScript script edits
     × (output ≡ answer (before_session mode g edits) bytes)
+Gives (Big size) output = (n : Numbers) × AreNumbersOf size n × (output ≡ text (numbers_line n))
 
 -- the request over these contents is a check with this answer
 abbrev pub HasAnswer : Request (List ℕ) → CheckAnswer → Type 0

@@ -1,5 +1,6 @@
 pub mod Request
 pub mod Input
+pub mod Big
 pub mod Answer
 pub mod Sinks
 pub mod Command

@@ -1,10 +1,12 @@
 -- What the program can be asked: each list of words makes one request, or none.
 -- Source: the command words of docs/FORMATS.md. A word is seen as the bytes of its text.
-use Rattle.std.specs.Prelude.{ℕ, Bool, true, Option, Some, None, List, [], ◌∷◌, if◌then◌else◌, codes, map, option_map, string_bytes}
+use Rattle.std.specs.Prelude.{ℕ, ◌≤◌, ◌&&◌, nat_le, Bool, true, Option, Some, None, List, [], ◌∷◌, if◌then◌else◌, codes, map, option_map, string_bytes}
 use Rattle.std.specs.Borrow.{Bor}
 use Rattle.std.specs.declared.alloc.Global.{Global}
 use Rattle.std.specs.declared.string.String.{String}
 use Rattle.std.specs.Str.{bytes_eq}
+use Rattle.md_text.specs.Numbers.{number_of}
+use Rattle.md_graph.specs.declared.TheConstants.{NAMES}
 use Rattle.md_input.specs.declared.format.Format.{Format}
 use Rattle.md_input.specs.declared.format.Format.TheVariants.{G6, Dimacs}
 use Rattle.md_report.specs.declared.line.GraphMode.{GraphMode}
@@ -14,7 +16,7 @@ use Rattle.md_report.specs.declared.line.SessionMode.TheVariants as session_mode
 use Rattle.md_top.specs.declared.request.GraphForm.{GraphForm}
 use Rattle.md_top.specs.declared.request.GraphForm.TheVariants.{Convert, Report}
 use Rattle.md_top.specs.declared.request.Request.{Request}
-use Rattle.md_top.specs.declared.request.Request.TheVariants.{Graphs, Session, CheckGraphs, CheckSession}
+use Rattle.md_top.specs.declared.request.Request.TheVariants.{Graphs, Session, CheckGraphs, CheckSession, Big}
 
 -- the request with another thing in place of each file
 abbrev pub over : {A B : Type 0} → (A → B) → Request A → Request B
@@ -22,6 +24,7 @@ over f (Graphs form from graph) = Graphs form from (f graph)
 over f (Session mode from graph script) = Session mode from (f graph) (f script)
 over f (CheckGraphs mode from graph report) = CheckGraphs mode from (f graph) (f report)
 over f (CheckSession mode from graph script report) = CheckSession mode from (f graph) (f script) (f report)
+over f (Big size) = Big size
 
 -- the request with the bytes of its names
 abbrev pub seen : Request (Bor (List ℕ)) → Request (List ℕ)
@@ -33,6 +36,7 @@ files_of (Graphs form from graph) = graph ∷ []
 files_of (Session mode from graph script) = graph ∷ script ∷ []
 files_of (CheckGraphs mode from graph report) = graph ∷ report ∷ []
 files_of (CheckSession mode from graph script report) = graph ∷ script ∷ report ∷ []
+files_of (Big size) = []
 
 -- the request with these in place of its files, where they are as many
 abbrev pub with_files : {A B : Type 0} → Request A → List B → Option (Request B)
@@ -40,6 +44,7 @@ with_files (Graphs form from name) (graph ∷ []) = Some (Graphs form from graph
 with_files (Session mode from name other) (graph ∷ script ∷ []) = Some (Session mode from graph script)
 with_files (CheckGraphs mode from name other) (graph ∷ report ∷ []) = Some (CheckGraphs mode from graph report)
 with_files (CheckSession mode from name other last) (graph ∷ script ∷ report ∷ []) = Some (CheckSession mode from graph script report)
+with_files (Big size) [] = Some (Big size)
 with_files asked files = None
 
 -- the texts of the words
@@ -75,7 +80,8 @@ graph_request form from graph = None
 abbrev pub session_mode : List ℕ → Option SessionMode
 session_mode word =
     if bytes_eq word (codes "edit") then Some session_modes.Edit
-    else (if bytes_eq word (codes "cograph") then Some session_modes.Cograph else None)
+    else (if bytes_eq word (codes "cograph") then Some session_modes.Cograph
+    else (if bytes_eq word (codes "quiet") then Some session_modes.Quiet else None))
 
 -- a request of a session, if the words name a mode and a format
 abbrev pub session_request : Option SessionMode → Option Format → List ℕ → List ℕ → Option (Request (List ℕ))
@@ -96,8 +102,35 @@ abbrev pub session_check_request : Bool → Option SessionMode → Option Format
 session_check_request true (Some mode) (Some from) graph script report = Some (CheckSession mode from graph script report)
 session_check_request check mode from graph script report = None
 
+-- whether the word asks for the session over the edits that a number gives
+abbrev pub is_big : List ℕ → Bool
+is_big word = bytes_eq word (codes "big")
+
+-- a number of names, if it is one: from 1 to NAMES
+abbrev pub size_within : Option ℕ → Option ℕ
+size_within (Some n) = if nat_le 1 n && nat_le n NAMES then Some n else None
+size_within None = None
+
+-- the number of names that a word writes: 1 to 18 decimal digits, leading zeros among them
+abbrev pub size_of : List ℕ → Option ℕ
+size_of word = size_within (number_of word)
+
+-- a request of such a session, if the words ask for it and write a number of names
+abbrev pub big_request : Bool → Option ℕ → Option (Request (List ℕ))
+big_request true (Some size) = Some (Big size)
+big_request big size = None
+
+-- the number of names in a request is one
+abbrev pub HasSize : {A : Type 0} → Request A → Type 0
+HasSize (Graphs form from graph) = Unit {0}
+HasSize (Session mode from graph script) = Unit {0}
+HasSize (CheckGraphs mode from graph report) = Unit {0}
+HasSize (CheckSession mode from graph script report) = Unit {0}
+HasSize (Big size) = size ≤ NAMES
+
 -- the request that the words make
 abbrev pub request_of : List (List ℕ) → Option (Request (List ℕ))
+request_of (command ∷ size ∷ []) = big_request (is_big command) (size_of size)
 request_of (command ∷ format ∷ graph ∷ []) = graph_request (graph_form command) (format_of format) graph
 request_of (command ∷ format ∷ graph ∷ script ∷ []) = session_request (session_mode command) (format_of format) graph script
 request_of (check ∷ mode ∷ format ∷ graph ∷ report ∷ []) =

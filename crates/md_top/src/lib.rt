@@ -1,6 +1,7 @@
 //! The one call that does all that the program does.
 #![tactic(auto)]
 
+mod big;
 mod check;
 mod convert;
 mod err_line;
@@ -8,6 +9,7 @@ mod in_memory;
 pub mod laws;
 mod load;
 mod put;
+mod quiet;
 mod report;
 mod request;
 mod session;

@@ -1,10 +1,13 @@
 //! What the program can be asked: the request that words make.
-ghost use Rattle.std.specs.Prelude.{◌≡◌};
+ghost use Rattle.std.specs.Prelude.{◌≡◌, ◌≤◌, IfSome};
 ghost use Rattle.std.specs.Option.{option_map};
-ghost use Rattle.md_top.specs.Request.{texts, format_of, graph_form, graph_mode, session_mode, is_check, request_of, seen};
+ghost use Rattle.md_graph.specs.declared.TheConstants.{NAMES as names};
+ghost use Rattle.md_top.specs.Request.{texts, format_of, graph_form, graph_mode, session_mode, is_check, is_big, size_of, HasSize, request_of, seen};
 
+use md_graph::NAMES;
 use md_input::Format;
 use md_report::{GraphMode, SessionMode};
+use md_text::number;
 
 /// What is made of the graphs of a file.
 #[derive(Clone, Copy, Debug, PartialEq, Eq)]
@@ -27,13 +30,23 @@ pub enum Request<F> {
     CheckGraphs(GraphMode, Format, F, F),
     /// The check of a report of a session of a mode on the graph of a graph file, over a script.
     CheckSession(SessionMode, Format, F, F, F),
+    /// The numbers of a session on cographs over the edits that a number of names gives.
+    Big(u32),
 }
 
 /// The request that the words make, with the names of files; none where they are in no form.
 pub fn request_of(words: &[String]) -> Option<Request<&str>>
-    ensures { option_map seen result ≡ request_of (texts words.now) }
+    ensures request { option_map seen result ≡ request_of (texts words.now) }
+    ensures size { IfSome result (λ request. HasSize request) }
 {
     match words {
+        [command, size] => {
+            if !is_big(command.as_str()) {
+                return None;
+            }
+            let size = size_of(size.as_str())?;
+            Some(Request::Big(size))
+        }
         [command, format, graph] => {
             let form = graph_form(command.as_str())?;
             let from = format_of(format.as_str())?;
@@ -70,6 +83,25 @@ fn is_check(word: &str) -> bool
     ensures { result ≡ is_check word.now }
 {
     word == "check"
+}
+
+// Whether a word asks for the session over the edits that a number gives.
+fn is_big(word: &str) -> bool
+    ensures { result ≡ is_big word.now }
+{
+    word == "big"
+}
+
+// The number of names that a word writes; none for any other word.
+fn size_of(word: &str) -> Option<u32>
+    ensures size { result ≡ size_of word.now }
+    ensures within { IfSome result (λ size. size ≤ names) }
+{
+    let size = number(word.as_bytes())?;
+    if 1 <= size && size <= NAMES as u64 {
+        return Some(size as u32);
+    }
+    None
 }
 
 // The format that a word names; none for any other word.
@@ -113,6 +145,7 @@ fn session_mode(word: &str) -> Option<SessionMode>
     match word {
         "edit" => Some(SessionMode::Edit),
         "cograph" => Some(SessionMode::Cograph),
+        "quiet" => Some(SessionMode::Quiet),
         _ => None,
     }
 }

@@ -1,24 +1,28 @@
 //! Sessions on the one graph of a file: both files are read whole before the first put.
-ghost use Rattle.std.specs.Prelude.{◌≡◌, ◌≤◌, IfOk};
+ghost use Rattle.std.specs.Prelude.{◌≡◌, ◌<◌, ◌≤◌, IfOk};
 ghost use Rattle.md_report.specs.declared.line.SessionMode.{SessionMode};
 ghost use Rattle.md_report.specs.Places.{before_session, at_state, at_edits, after_end};
 ghost use Rattle.md_report.specs.Lines.{plain_line};
 ghost use Rattle.md_report.specs.Sessions.{state_behind};
 ghost use Rattle.md_report.specs.Cographs.{IsCograph, IsCographLine};
 ghost use Rattle.md_script.specs.Edit.{HasNames};
+ghost use Rattle.md_session.specs.Answers.{IsAnswered};
 ghost use Rattle.md_top.specs.declared.request.Request.{Request};
 ghost use Rattle.md_top.specs.Command.{CommandEnds};
 ghost use Rattle.md_top.specs.Sinks.{sink_run, PutsLines};
 
 use crate::put::put_report_line;
+use crate::quiet::put_quiet;
 use crate::stop::{PutStop, Stop, Verdict};
-use md_graph::{Graph, Memory};
+use md_graph::{Graph, Memory, Steps};
 use md_input::{Format, one_graph, read_script};
 use md_io::Sink;
 use md_report::{Line, SessionMode};
 use md_script::{Edit, Script};
 use md_session::{Answer, CographSession, GeneralSession, Opened};
 use std::alloc::Global;
+use std::marker::Brand;
+use std::sync::ledger::{Blank, Ledger};
 
 /// Puts the report of a session on the one graph of a graph file over a script.
 pub fn session_report<O: Sink>(
@@ -53,6 +57,7 @@ fn put_session<O: Sink>(
     match mode {
         SessionMode::Edit => put_states(alloc, graph, script, out),
         SessionMode::Cograph => put_cographs(alloc, graph, script, out),
+        SessionMode::Quiet => put_quiet(alloc, graph, script, out),
     }
 }
 
@@ -151,7 +156,7 @@ fn answer_line(alloc: Global, session: &mut CographSession, edit: &Edit) -> Resu
     ensures state { IfOk result (λ line.
         session.new ≡ state_behind session.old edit.now (plain_line line)) }
 {
-    match session.apply(edit) {
+    match answer(session, edit) {
         Answer::Applied => {
             let tree = session.tree(alloc)?;
             Ok(Line::Applied(tree))
@@ -159,4 +164,24 @@ fn answer_line(alloc: Global, session: &mut CographSession, edit: &Edit) -> Resu
         Answer::Refused(reason) => Ok(Line::Refused(reason)),
         Answer::RefusedP4(p) => Ok(Line::RefusedP4(p)),
     }
+}
+
+// The answer to an edit. Condition: the names in the edit are names.
+pub(crate) fn answer(session: &mut CographSession, edit: &Edit) -> Answer
+    requires { HasNames edit.now }
+    ensures { IsAnswered session.old edit.now result session.new }
+{
+    counted::<Brand>(session, edit, Blank::new(1))
+}
+
+// The answer to an edit; nobody reads the steps. Condition: the names in the edit are names.
+fn counted<L: Ledger>(session: &mut CographSession, edit: &Edit, blank: Blank) -> Answer
+    requires name { blank.name ≡ L.name }
+    requires parts { blank.parts ≡ L.parts }
+    requires some { 0 < blank.parts }
+    requires names { HasNames edit.now }
+    ensures { IsAnswered session.old edit.now result session.new }
+{
+    let mut steps = Steps::<L>::new(blank);
+    session.apply(edit, &mut steps)
 }

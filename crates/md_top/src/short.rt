@@ -6,7 +6,7 @@ ghost use Rattle.md_top.specs.declared.short.TheConstants.{ROOM};
 use std::marker::Model;
 
 /// How many bytes a short text may have.
-pub const ROOM: usize = 96;
+pub const ROOM: usize = 144;
 
 /// A text of at most `ROOM` bytes, kept in place.
 #[derive(Drop)]

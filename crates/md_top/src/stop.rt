@@ -1,6 +1,7 @@
 //! How a run ends: with a verdict, or at what stops it.
 ghost use Rattle.std.specs.Prelude.{◌≡◌};
 ghost use Rattle.md_top.specs.declared.stop.PutStop.TheVariants.{Memory as NoMemory};
+ghost use Rattle.md_top.specs.declared.stop.Stop.TheVariants.{Memory as WantsMemory};
 ghost use Rattle.md_top.specs.Status.{stop_of_fault, stop_of_load, stop_of_input, stop_of_put};
 
 use md_graph::Memory;
@@ -79,6 +80,14 @@ impl From<PutStop> for Stop {
             PutStop::WriteFault => Stop::WriteFault,
             PutStop::Memory => Stop::Memory,
         }
+    }
+}
+
+impl From<Memory> for Stop {
+    ghost from_gives = { λ _ stop. stop ≡ WantsMemory };
+
+    fn from(_memory: Memory) -> Stop {
+        Stop::Memory
     }
 }
 

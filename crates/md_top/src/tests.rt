@@ -334,6 +334,56 @@ fn models(rt: HostRuntime) -> Result<(), Fail> {
 }
 
 #[test]
+fn sessions_of_a_size(rt: HostRuntime) -> Result<(), Fail> {
+    let alloc = rt.alloc();
+    let table: [(&str, &[u8], &str); 14] = [
+        (
+            "big 1",
+            b"",
+            "0|inserted 1 refused 0 nodes 1 left 0 nodes 0\n|",
+        ),
+        (
+            "big 2",
+            b"",
+            "0|inserted 2 refused 0 nodes 3 left 1 nodes 1\n|",
+        ),
+        (
+            "big 4",
+            b"",
+            "0|inserted 4 refused 1 nodes 7 left 2 nodes 3\n|",
+        ),
+        (
+            "big 5",
+            b"",
+            "0|inserted 5 refused 1 nodes 9 left 2 nodes 3\n|",
+        ),
+        (
+            "big 0005",
+            b"",
+            "0|inserted 5 refused 1 nodes 9 left 2 nodes 3\n|",
+        ),
+        (
+            "big 000000000000000005",
+            b"",
+            "0|inserted 5 refused 1 nodes 9 left 2 nodes 3\n|",
+        ),
+        (
+            "big 1000",
+            b"",
+            "0|inserted 1000 refused 499 nodes 1999 left 500 nodes 501\n|",
+        ),
+        ("big 0", b"", "2||mdt: usage\n"),
+        ("big 4097", b"", "2||mdt: usage\n"),
+        ("big x", b"", "2||mdt: usage\n"),
+        ("big", b"", "2||mdt: usage\n"),
+        ("big 0000000000000000005", b"", "2||mdt: usage\n"),
+        ("big 5 g", b"", "2||mdt: usage\n"),
+        ("bigger 5", b"", "2||mdt: usage\n"),
+    ];
+    expect(&rt, alloc, &table)
+}
+
+#[test]
 fn runs_that_fail(rt: HostRuntime) -> Result<(), Fail> {
     let alloc = rt.alloc();
     let shown = run_over(alloc, "edges g6 g", b"DQc\n", b"", 1, 0, 0)?;
@@ -454,6 +504,49 @@ fn sessions_on_cographs(rt: HostRuntime) -> Result<(), Fail> {
             "3||mdt: script UnknownEdit line 1\n",
         ),
         ("cograph g6 g", b"@\n", b"", "2||mdt: usage\n"),
+    ];
+    for (line, file, script, want) in table {
+        let shown = run_over(alloc, line, file, script, 0, 0, 0)?;
+        assert_eq!(rt; shown.as_str(), want, "{line}");
+    }
+    Ok(())
+}
+
+#[test]
+fn quiet_sessions(rt: HostRuntime) -> Result<(), Fail> {
+    let alloc = rt.alloc();
+    let table: [(&str, &[u8], &[u8], &str); 6] = [
+        (
+            "quiet g6 g s",
+            b"Cg\n",
+            b"+e 2 3\n+e 1 3\n",
+            "0|mdt quiet\nno p4 0 1 2 3\nok\nt S(P(0,2,3),1)\nend\n|",
+        ),
+        (
+            "quiet g6 g s",
+            b"Cg\n",
+            b"",
+            "0|mdt quiet\nt P(S(P(0,2),1),3)\nend\n|",
+        ),
+        (
+            "quiet g6 g s",
+            b"Ch\n",
+            b"-v 0\n",
+            "0|mdt quiet\np4 0 1 2 3\nend\n|",
+        ),
+        (
+            "quiet g6 g s",
+            b"@\n",
+            b"-v 0\n-v 0\n",
+            "0|mdt quiet\nok\nno vertex 0\nt empty\nend\n|",
+        ),
+        (
+            "quiet g6 g s",
+            b"Ch\n",
+            b"*e 0 1\n",
+            "3||mdt: script UnknownEdit line 1\n",
+        ),
+        ("quiet g6 g", b"@\n", b"", "2||mdt: usage\n"),
     ];
     for (line, file, script, want) in table {
         let shown = run_over(alloc, line, file, script, 0, 0, 0)?;

@@ -1,5 +1,6 @@
 //! The top call: all that the program does.
-ghost use Rattle.std.specs.Prelude.{◌≡◌, ◌≢◌, ◌↔◌, ◌⊎◌, ℕ, List, None, Some, IsTrue};
+ghost use Rattle.std.specs.Prelude.{◌≡◌, ◌≢◌, ◌↔◌, ◌⊎◌, ◌≤◌, ℕ, List, None, Some, IsTrue};
+ghost use Rattle.md_graph.specs.declared.TheConstants.{NAMES as names};
 ghost use Rattle.md_io.specs.Count.{Rose};
 ghost use Rattle.md_input.specs.declared.fault.Fault.{Fault};
 ghost use Rattle.md_top.specs.declared.request.Request.{Request};
@@ -10,6 +11,7 @@ ghost use Rattle.md_top.specs.Sinks.{sink_run};
 ghost use Rattle.md_checker.specs.declared.answer.CheckAnswer.{CheckAnswer};
 ghost use Rattle.md_top.specs.Promise.{CanBeBad, CanBeGood, CanBeRejected, Puts, TakesLineOf, Ends};
 
+use crate::big::big;
 use crate::check::{graphs_check, session_check};
 use crate::convert::convert;
 use crate::err_line::put_line;
@@ -128,7 +130,24 @@ fn end<F: Files, O: Sink>(
         Request::CheckSession(mode, from, graph, script, report) => {
             end_session_check(alloc, mode, from, graph, script, report, files, out)
         }
+        Request::Big(size) => end_big(alloc, size, files, out),
     }
+}
+
+// Runs the session over the edits that a number of names gives; no file is asked for.
+// Condition: the number is one of names.
+fn end_big<F: Files, O: Sink>(
+    alloc: Global,
+    size: u32,
+    _files: &mut F,
+    out: &mut O,
+) -> Result<Verdict, Stop>
+    requires { size ≤ names }
+    ensures ends { Ends (Some (Request.Big size)) result
+        (files_run F.Files _files.old _files.new) (sink_run O.Sink out.old out.new) }
+    ensures told { F.holds _files.new ≡ F.holds _files.old }
+{
+    big(alloc, size, out)
 }
 
 // Loads the graph file, and does what the form asks for over its graphs.

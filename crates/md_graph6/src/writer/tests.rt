@@ -3,7 +3,7 @@ ghost use Rattle.std.specs.Prelude.{◌≡◌, ◌^◌, ◌<◌, None};
 ghost use Rattle.md_graph.specs.PlainGraph.{empty_graph};
 ghost use Rattle.md_graph6.specs.File.{first_fault};
 
-use crate::{Lines, write};
+use crate::{Lines, scan, write};
 use md_graph::{Graph, NAMES};
 use std::alloc::Global;
 use std::process::Abort;
@@ -151,5 +151,66 @@ fn what_is_written_is_read(rt: HostRuntime) -> Result<(), Fail> {
         let mut other = Graph::new(rt.alloc())?;
         spells(&rt, &mut other, &text, n);
     }
+    Ok(())
+}
+
+// Puts the line of the graph of the rule on n vertices behind the file.
+fn push_line(alloc: Global, file: &mut Vec<u8>, n: u32) -> Result<(), Fail> {
+    let mut graph = Graph::new(alloc)?;
+    for j in 0..n {
+        take_joined(&mut graph, j);
+    }
+    let line = write(alloc, &graph)?;
+    file.extend_from_slice(line.as_slice())?;
+    Ok(())
+}
+
+// The lines of the graphs of the rule on these numbers of vertices.
+fn file_of(alloc: Global, sizes: &[u32]) -> Result<Vec<u8>, Fail> {
+    let mut file = Vec::new(alloc);
+    for n in sizes {
+        push_line(alloc, &mut file, *n)?;
+    }
+    Ok(file)
+}
+
+// The next graph is that of the rule on n vertices; its line is put behind the text.
+fn copies(
+    rt: &impl Abort,
+    alloc: Global,
+    lines: &mut Lines,
+    graph: &mut Graph,
+    n: u32,
+    text: &mut Vec<u8>,
+) -> Result<(), Fail>
+    requires { graph.old ≡ empty_graph }
+    ensures { graph.new ≡ empty_graph }
+{
+    assert!(rt; lines.next(graph));
+    has_edges(rt, graph, n);
+    let line = write(alloc, graph);
+    graph.clear();
+    text.extend_from_slice(line?.as_slice())?;
+    Ok(())
+}
+
+// The file of these graphs is read and written back, all by one graph.
+fn comes_back(rt: &impl Abort, alloc: Global, sizes: &[u32]) -> Result<(), Fail> {
+    let file = file_of(alloc, sizes)?;
+    assert_eq!(rt; scan(&file), Ok(sizes.len() as u64));
+    let mut lines = Lines::new(&file);
+    let mut graph = Graph::new(alloc)?;
+    let mut text = Vec::new(alloc);
+    for n in sizes {
+        copies(rt, alloc, &mut lines, &mut graph, *n, &mut text)?;
+    }
+    assert_eq!(rt; text.as_slice(), file.as_slice());
+    Ok(())
+}
+
+#[test]
+fn short_and_long_lines_share_a_file(rt: HostRuntime) -> Result<(), Fail> {
+    comes_back(&rt, rt.alloc(), &[0, 1, 24, 25, 58, 59, 62, 63, 64])?;
+    comes_back(&rt, rt.alloc(), &[64, 63, 62, 59, 58, 25, 24, 1, 0])?;
     Ok(())
 }

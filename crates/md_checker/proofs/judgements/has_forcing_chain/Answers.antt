@@ -1,6 +1,5 @@
 use Rattle.std.proofs.Common.{subst}
 use Rattle.md_graph.specs.PlainGraph.{adjacent}
-use Rattle.md_graph.proofs.SetLemmas.{clash}
 use Rattle.md_orientation.specs.Walking.{IsEnding}
 use Rattle.md_checker.proofs.Leading.{whole_has_none, stopped_has_one}
 use Rattle.md_checker.proofs.judgements.has_forcing_chain.Goals as goal

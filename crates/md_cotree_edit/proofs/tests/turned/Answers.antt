@@ -1,12 +1,6 @@
-use Rattle.std.proofs.Common.{◌≡◌, Result, Ok, Err, OnOk, OnErr, sym, ◌∙◌, subst}
-use Rattle.md_graph.specs.PlainGraph.{PlainGraph}
-use Rattle.md_cotree.specs.declared.cotree.Cotree.{Cotree}
-use Rattle.md_cotree.specs.Cotrees.{IsSoundCotree, Denotes}
+use Rattle.std.proofs.Common.{sym, ◌∙◌}
+use Rattle.md_cotree_edit.proofs.Settled.{still_sound}
 use Rattle.md_cotree_edit.proofs.tests.turned.Goals as goal
-
-still_sound : {A B : Type 0} (r : Result A B) (old new : Cotree) (g h : PlainGraph) → Denotes old g → OnOk r (Denotes new h) → OnErr r (new ≡ old) → IsSoundCotree new
-still_sound (Ok x) old new g h is done same = (done.0, done.1)
-still_sound (Err e) old new g h is done same = subst IsSoundCotree (sym same) (is.0, is.1)
 
 pub del_edge-requires : goal.del_edge-requires
 del_edge-requires g c = (

@@ -22,3 +22,12 @@ returns g c = record {
       c.put_report_line.ensures.faults_never_fall
       c.put_answers.ensures.puts;
 }
+
+pub returns-in_err-put_report_line : goal.returns-in_err-put_report_line
+returns-in_err-put_report_line g c = record {
+  puts =
+      stopped_behind _ (at_state modes.Cograph c.args.session c.args.script.now) _ _ _ _ _ _ _ _ _ c.from_residual-in_err-put_report_line.ensures.1
+      (no_lines _ _) (let still : g.O.Sink.faults c.args.out.now ≤ g.O.Sink.faults c.args.out.now = omega arith in still)
+      (c.in_err-put_report_line.ensures.puts (at_state modes.Cograph c.args.session c.args.script.now)
+      (inr (c.requires, (plain_option c.in_ok-tree.tree, c.in_ok-tree.ensures.tree, refl))));
+}

@@ -1,0 +1,28 @@
+use Rattle.std.proofs.Common.{sym, subst}
+use Rattle.md_report.specs.Made.{Shows}
+use Rattle.md_report.proofs.MadePaths.{shown}
+use Rattle.md_checker.proofs.Applying.{path_made, none_made}
+use Rattle.md_checker.proofs.judgements.keeps_cograph.Goals as goal
+
+pub made_p4-requires : goal.made_p4-requires
+made_p4-requires c = subst (λ h. Shows h c.args.edit.now) (sym c.apply.ensures) (shown c.args.graph.now c.args.edit.now c.requires.applies)
+
+pub take_back-requires : goal.take_back-requires
+take_back-requires c = (
+  c.args.graph.now,
+  record {
+    is_graph = c.lost_row-row.ensures.graph;
+    names = c.requires.names;
+    no_reason = c.requires.applies;
+    row_is = c.lost_row-row.ensures.row;
+    next_is = c.apply.ensures;
+  },
+)
+
+pub returns-in-Some-clause-may : goal.returns-in-Some-clause-may
+returns-in-Some-clause-may c =
+    path_made c.args.graph.now c.apply.new.graph c.args.edit.now c.in-Some.field-0 c.apply.ensures c.in-Some.ensures.found
+
+pub returns-clause-may : goal.returns-clause-may
+returns-clause-may c =
+    none_made c.args.graph.now c.apply.new.graph c.args.edit.now c.lost_row-row.ensures.graph c.requires.cograph c.requires.names c.requires.applies c.apply.ensures c.in_default.ensures.none

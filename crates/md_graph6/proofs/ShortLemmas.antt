@@ -1,0 +1,96 @@
+-- Short lines: the unread bits, and the graph that grows column by column.
+use Rattle.std.proofs.Common.{◌≡◌, ℕ, ◌+◌, ◌-◌, ◌*◌, ◌/◌, ◌%◌, ◌^◌, ◌<◌, ◌≤◌, ◌≢◌, Bool, true, false, ◌&&◌, ◌||◌, ◌==◌, nat_lt, List, refl, ap, ◌∙◌, arith, bit_or, inl, inr}
+use Rattle.std.specs.Int.{bit_at}
+use Rattle.std.specs.FinSet as set
+use Rattle.std.proofs.lemmas.Bool.{cases_eq}
+use Rattle.std.proofs.lemmas.Bool.Decides.{nat_tests}
+use Rattle.std.proofs.lemmas.Nat.{shr-shr, shr_below, shl_whole, or_comm, or_shifted}
+use Rattle.md_graph.specs.Sets.{Has}
+use Rattle.md_graph.specs.PlainGraph.{PlainGraph, IsGraph, adjacent, with_edge}
+use Rattle.md_graph.proofs.GraphLemmas.{IsGraph-with_edge, adjacent-with_edge}
+use Rattle.md_graph6.specs.Bits.{bit, pair_number}
+use Rattle.md_graph6.specs.Window.{IsWindow}
+use Rattle.md_graph6.specs.Filled.{HasVertices}
+use Rattle.md_graph6.specs.Short.{IsUnread, IsWithPair, IsWithColumn, IsFilledTo}
+use Rattle.md_graph6.proofs.BitLemmas.{joined_window}
+use Rattle.md_graph6.proofs.WriteLemmas.{pair_next}
+
+-- ---- the unread bits
+
+-- `low | high << n`, of six bits
+or_group : (low high n : ℕ) → low < 2 ^ n → high < 2 ^ 6 → n ≤ 58 → bit_or low (high * 2 ^ n % 2 ^ 64) ≡ high * 2 ^ n + low
+or_group low high n fits few room =
+    ap (bit_or low) (shl_whole high 6 n 64 few (omega arith)) ∙ or_comm low (high * 2 ^ n) ∙ or_shifted high n low fits
+
+pub unread_more : (body : List ℕ) (place word held at group : ℕ) → held ≤ 58 → IsUnread body place word held at → IsWindow body (6 * at) 6 group
+    → IsUnread body place (bit_or word (group * 2 ^ held % 2 ^ 64)) (held + 6) (at + 1)
+unread_more body place word held at group room unread more = record {
+  window =
+      joined_window body place held (6 * at) 6 (held + 6) word group _ unread.window more unread.next refl
+      (or_group word group held unread.window.below more.below room);
+  next = omega (arith, unread.next);
+}
+
+pub unread_behind : (body : List ℕ) (j word held at : ℕ) → j ≤ held → IsUnread body (pair_number 0 j) word held at
+    → IsUnread body (pair_number 0 (j + 1)) (word / 2 ^ j) (held - j) at
+unread_behind body j word held at enough unread = record {
+  window = record {
+    below =
+        let split : held - j + j ≡ held = omega arith in
+        let fits : word < 2 ^ (held - j + j) = rw split unread.window.below in
+        shr_below word (held - j) j fits;
+    bits = λ k h.
+        let e : pair_number 0 j + (j + k) ≡ pair_number 0 (j + 1) + k = omega (arith, pair_next j) in
+        ap (λ x. x % 2) (shr-shr word j k) ∙ unread.window.bits (j + k) (omega arith) ∙ ap (bit body) e;
+  };
+  next = omega (arith, unread.next, pair_next j);
+}
+
+-- ---- one pair
+
+pub pair_wanted : {g new : PlainGraph} (i j : ℕ) (wanted : Bool) → IsGraph g → i < j → Has g.vertices i × Has g.vertices j → new ≡ with_edge g i j
+    → wanted ≡ true → IsWithPair g i j wanted new
+pair_wanted {g} {new} i j wanted is up ends e told = rw (e, told) (record {
+  vertices = refl;
+  graph = IsGraph-with_edge is i j ends.0 ends.1 (λ (same : i ≡ j). omega arith);
+  pairs = λ a b less. adjacent-with_edge g i j a b ∙ one_way a b less (adjacent g a b);
+})
+  where
+    one_way : (a b : ℕ) → a < b → (x : Bool) → ((((a == i) && (b == j)) || ((a == j) && (b == i))) || x) ≡ (x || (((b == j) && (a == i)) && true))
+    one_way a b less x = grind (arith, nat_tests)
+
+-- ---- the columns
+
+pub filled_no_column : {body : List ℕ} {n : ℕ} {g : PlainGraph} → HasVertices n g → IsFilledTo body n 0 g
+filled_no_column {body} {n} {g} has = record {
+  vertices = has.vertices;
+  graph = has.graph;
+  pairs = λ a b up. has.no_edge a b ∙ none b (bit body (pair_number a b) == 1);
+}
+  where
+    none : (b : ℕ) (x : Bool) → false ≡ (nat_lt b 0 && x)
+    none b x = grind (arith, nat_tests)
+
+pub filled_column : {body : List ℕ} {n j word held at : ℕ} {g new : PlainGraph} → IsFilledTo body n j g → IsUnread body (pair_number 0 j) word held at → j ≤ held
+    → IsWithColumn g j j word new → IsFilledTo body n (j + 1) new
+filled_column {body} {n} {j} {word} {held} {at} {g} {new} filled unread enough column = record {
+  vertices = λ v. ap (λ s. set.contains s v) column.vertices ∙ filled.vertices v;
+  graph = column.graph;
+  pairs = λ a b up. column.pairs a b up ∙ rw (filled.pairs a b up) (more a b up);
+}
+  where
+    earlier : (a b : ℕ) (x y : Bool) → b ≢ j → ((nat_lt b j && x) || (((b == j) && nat_lt a j) && y)) ≡ (nat_lt b (j + 1) && x)
+    earlier a b x y ne = grind (arith, nat_tests)
+
+    last : (a : ℕ) (x : Bool) → a < j → ((nat_lt j j && x) || (((j == j) && nat_lt a j) && x)) ≡ (nat_lt j (j + 1) && x)
+    last a x up = grind (arith, nat_tests)
+
+    more : (a b : ℕ) → a < b → ((nat_lt b j && (bit body (pair_number a b) == 1)) || (((b == j) && nat_lt a j) && (bit_at word a == 1))) ≡ (nat_lt b (j + 1) && (bit body (pair_number a b) == 1))
+    more a b up = elim (cases_eq b j) [
+      | inl same ↦
+          let below : a < j = omega arith in
+          let e : pair_number 0 j + a ≡ pair_number a j = omega arith in
+          let its_bit : bit_at word a ≡ bit body (pair_number a j) = unread.window.bits a (omega arith) ∙ ap (bit body) e in
+          rw (same, its_bit) (last a (bit body (pair_number a j) == 1) below)
+      | inr other ↦ earlier a b _ _ other
+    ]

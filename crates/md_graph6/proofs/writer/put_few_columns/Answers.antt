@@ -1,0 +1,45 @@
+use Rattle.std.proofs.Common.{◌≡◌, ◌+◌, ◌∙◌, ap, subst, refl, arith}
+use Rattle.std.specs.FinSet as set
+use Rattle.md_graph.specs.declared.TheConstants.{NAMES}
+use Rattle.md_graph.proofs.Limits.{NAMES-lt}
+use Rattle.md_graph.proofs.NameLemmas.{ascending_items}
+use Rattle.md_graph6.proofs.WriteLemmas.{consecutive_column}
+use Rattle.md_graph6.specs.Short.{put_bit}
+use Rattle.md_graph6.specs.Written.{IsWritten}
+use Rattle.md_graph6.proofs.PutShort.{written_none, unput_column, written_column, written_all}
+use Rattle.md_graph6.proofs.writer.put_few_columns.Goals as goal
+
+pub row-requires : goal.row-requires
+row-requires c =
+    let below = (ascending_items c.args.graph.now.vertices 0 NAMES c.loop-j.j 0 (omega arith)).below in
+    omega (arith, below, c.requires.consecutive c.loop-j.j c.loop-j-test.true)
+
+pub with_column-unput-requires-clause-names : goal.with_column-unput-requires-clause-names
+with_column-unput-requires-clause-names c =
+    let below = (ascending_items c.args.graph.now.vertices 0 NAMES c.loop-j.j 0 (omega arith)).below in
+    omega (arith, below, c.requires.consecutive c.loop-j.j c.loop-j-test.true)
+
+pub overflow_add-least : goal.overflow_add-least
+overflow_add-least c =
+    let below = (ascending_items c.args.graph.now.vertices 0 NAMES c.loop-j.j 0 (omega arith)).below in
+    omega (arith, below, c.requires.consecutive c.loop-j.j c.loop-j-test.true, NAMES-lt)
+
+pub loop-j-init : goal.loop-j-init
+loop-j-init c = written_none c.requires.blank
+
+pub put_whole-unput-requires-clause-unput : goal.put_whole-unput-requires-clause-unput
+put_whole-unput-requires-clause-unput c =
+    unput_column (λ i. set.contains c.row.result.now (c.args.least + i)) _ _ _ c.loop-j.invariant c.with_column-unput.ensures.column c.with_column-unput.ensures.held c.with_column-unput.ensures.at
+
+pub loop-j-preserved : goal.loop-j-preserved
+loop-j-preserved c =
+    written_column (λ i. set.contains c.row.result.now (c.args.least + i)) c.with_column-unput.result.bits c.with_column-unput.result.held _ _ _ c.loop-j.invariant
+    c.with_column-unput.ensures.before c.with_column-unput.ensures.column c.with_column-unput.ensures.held
+    (consecutive_column c.row.result.now c.args.least c.args.n c.loop-j.j (c.args.least + c.loop-j.j) c.row.ensures.graph refl c.row.ensures.set c.requires.consecutive c.loop-j-test.true)
+    c.put_whole-unput.ensures.unput (omega (arith, c.put_whole-unput.ensures.place, c.with_column-unput.ensures.at)) c.put_whole-unput.ensures.few
+    (λ k. c.put_whole-unput.ensures.same k ∙ ap (λ at. put_bit c.loop-j.body c.with_column-unput.result.bits at k) c.with_column-unput.ensures.at)
+
+pub returns : goal.returns
+returns c =
+    let all : c.loop-j.j ≡ c.args.n = omega arith in
+    subst (IsWritten c.put_rest.new.body c.args.graph.now) all (written_all c.loop-j.invariant c.put_rest.ensures.groups c.put_rest.ensures.bits)

@@ -1,0 +1,220 @@
+-- An induced P4 of the graph after an edit holds the change, where the graph before had none.
+use Rattle.std.proofs.Common.{◌≡◌, ℕ, ◌<◌, Bool, true, false, not, ◌&&◌, ◌||◌, ◌==◌, Option, None, IfNone, refl, sym, ◌∙◌, subst, inl, inr}
+use Rattle.std.proofs.lemmas.Bool.{eqb-false, ne_eqb}
+use Rattle.std.specs.FinSet as set
+use Rattle.md_graph.specs.declared.TheConstants.{NAMES}
+use Rattle.md_graph.specs.Sets.{NameSet, Has}
+use Rattle.md_graph.specs.PlainGraph.{PlainGraph, IsGraph, adjacent, with_vertex, with_edge, with_edges, without_edge, without_vertex}
+use Rattle.md_graph.proofs.GraphLemmas.{IsGraph-with_vertex, adjacent-with_vertex, adjacent-with_edge, adjacent-with_edges, adjacent-without_edge, adjacent-without_vertex}
+use Rattle.md_graph.proofs.SetLemmas.{same_name, of_insert, of_remove}
+use Rattle.md_graph.proofs.Search.{Decided}
+use Rattle.md_modules.specs.declared.induced_paths.P4.{P4}
+use Rattle.md_modules.specs.InducedPaths.{IsInducedPath, IsOneOf, IsInducedPathWithBoth}
+use Rattle.md_modules.proofs.PathSearch.{if_none_map}
+use Rattle.md_script.specs.declared.edit.Edit.{Edit}
+use Rattle.md_script.specs.declared.edit.Edit.TheVariants.{AddEdge, DelEdge, AddVertex, DelVertex}
+use Rattle.md_script.specs.Edit.{HasNames, reason_of, after}
+use Rattle.md_script.proofs.ChangeLemmas.{ends_by_tests, vertex_added, neighbours_are_vertices}
+use Rattle.md_report.specs.Cographs.{IsCograph}
+use Rattle.md_report.specs.Made.{Shows, HoldsChange, HasNoneMade}
+
+decide_one : (x a b c d : ℕ) → Decided (IsOneOf x a b c d)
+decide_one x a b c d =
+    elim (same_name x a) [
+      | inl e ↦ inl (inl e)
+      | inr na ↦ elim (same_name x b) [
+        | inl e ↦ inl (inr (inl e))
+        | inr nb ↦ elim (same_name x c) [
+          | inl e ↦ inl (inr (inr (inl e)))
+          | inr nc ↦ elim (same_name x d) [
+            | inl e ↦ inl (inr (inr (inr e)))
+            | inr nd ↦ inr (λ h. elim h [ inl e ↦ na e | inr (inl e) ↦ nb e | inr (inr (inl e)) ↦ nc e | inr (inr (inr e)) ↦ nd e ])
+          ]
+        ]
+      ]
+    ]
+
+-- a name that isn't among the four is none of them
+away : (a b c d x : ℕ) → (IsOneOf x a b c d → ⊥) → (y : ℕ) → IsOneOf y a b c d → (y == x) ≡ false
+away a b c d x none y one = ne_eqb y x (λ same. none (subst (λ w. IsOneOf w a b c d) same one))
+
+module _ {f : ℕ → ℕ → Bool} {t : NameSet} (a b c d : ℕ) (is : IsInducedPath f t a b c d) where
+  inside : (y : ℕ) → IsOneOf y a b c d → Has t y
+  inside y (inl same) = subst (Has t) (sym same) is.inside.0
+  inside y (inr (inl same)) = subst (Has t) (sym same) is.inside.1
+  inside y (inr (inr (inl same))) = subst (Has t) (sym same) is.inside.2
+  inside y (inr (inr (inr same))) = subst (Has t) (sym same) is.inside.3
+
+  -- where another graph is the same on the four names, they are a path of it
+  carried : (e : ℕ → ℕ → Bool) (s : NameSet) → ((y : ℕ) → IsOneOf y a b c d → Has s y) → ((y z : ℕ) → IsOneOf y a b c d → IsOneOf z a b c d → f y z ≡ e y z) → IsInducedPath e s a b c d
+  carried e s has same =
+      let at_a : IsOneOf a a b c d = inl refl in
+      let at_b : IsOneOf b a b c d = inr (inl refl) in
+      let at_c : IsOneOf c a b c d = inr (inr (inl refl)) in
+      let at_d : IsOneOf d a b c d = inr (inr (inr refl)) in
+      record {
+        inside = (has a at_a, has b at_b, has c at_c, has d at_d);
+        different = is.different;
+        edges = (sym (same a b at_a at_b) ∙ is.edges.0, sym (same b c at_b at_c) ∙ is.edges.1, sym (same c d at_c at_d) ∙ is.edges.2);
+        apart = (sym (same a c at_a at_c) ∙ is.apart.0, sym (same a d at_a at_d) ∙ is.apart.1, sym (same b d at_b at_d) ∙ is.apart.2);
+        ascending = is.ascending;
+      }
+
+-- ---- tests of a changed edge, where one end isn't there
+
+first_absent : (p q r t g : Bool) → p ≡ false → t ≡ false → (((p && q) || (r && t)) || g) ≡ g
+first_absent p q r t g hp ht = rw (hp, ht) (by_test r) where
+  by_test : (r : Bool) → (((false && q) || (r && false)) || g) ≡ g
+  by_test true = refl
+  by_test false = refl
+
+second_absent : (p q r t g : Bool) → q ≡ false → r ≡ false → (((p && q) || (r && t)) || g) ≡ g
+second_absent p q r t g hq hr = rw (hq, hr) (by_test p) where
+  by_test : (p : Bool) → (((p && false) || (false && t)) || g) ≡ g
+  by_test true = refl
+  by_test false = refl
+
+first_kept : (p q r t g : Bool) → p ≡ false → t ≡ false → (not ((p && q) || (r && t)) && g) ≡ g
+first_kept p q r t g hp ht = rw (hp, ht) (by_test r) where
+  by_test : (r : Bool) → (not ((false && q) || (r && false)) && g) ≡ g
+  by_test true = refl
+  by_test false = refl
+
+second_kept : (p q r t g : Bool) → q ≡ false → r ≡ false → (not ((p && q) || (r && t)) && g) ≡ g
+second_kept p q r t g hq hr = rw (hq, hr) (by_test p) where
+  by_test : (p : Bool) → (not ((p && false) || (false && t)) && g) ≡ g
+  by_test true = refl
+  by_test false = refl
+
+no_star : (p q r t g : Bool) → p ≡ false → r ≡ false → (((p && q) || (r && t)) || g) ≡ g
+no_star p q r t g hp hr = rw (hp, hr) refl
+
+none_gone : (p q g : Bool) → p ≡ false → q ≡ false → (g && (not p && not q)) ≡ g
+none_gone p q g hp hq = rw (hp, hq) (by_test g) where
+  by_test : (g : Bool) → (g && (not false && not false)) ≡ g
+  by_test true = refl
+  by_test false = refl
+
+-- ---- what an edit shows
+
+pub shown : (g : PlainGraph) (edit : Edit) → reason_of g edit ≡ None → Shows (after g edit) edit
+shown g (AddEdge u v) none =
+    let ends = ends_by_tests u v (u == v) (set.contains g.vertices u) (set.contains g.vertices v) _ none in (ends.1, ends.2, eqb-false u v ends.0)
+shown g (DelEdge u v) none =
+    let ends = ends_by_tests u v (u == v) (set.contains g.vertices u) (set.contains g.vertices v) _ none in (ends.1, ends.2, eqb-false u v ends.0)
+shown g (AddVertex x neighbours) none = vertex_added g (with_vertex g x) x refl
+shown g (DelVertex x) none = tt
+
+-- ---- each path holds the change
+
+module _ (g : PlainGraph) (is_graph : IsGraph g) (free : IsCograph g) where
+  edge_added : (u v a b c d : ℕ) → IsInducedPath (adjacent (with_edge g u v)) g.vertices a b c d → IsOneOf u a b c d × IsOneOf v a b c d
+  edge_added u v a b c d is =
+      elim (decide_one u a b c d) [
+        | inl hu ↦ elim (decide_one v a b c d) [
+          | inl hv ↦ (hu, hv)
+          | inr nv ↦ absurd (free (
+            a,
+            b,
+            c,
+            d,
+            carried a b c d is (adjacent g) g.vertices (inside a b c d is) (λ y z hy hz.
+                adjacent-with_edge g u v y z ∙ second_absent (y == u) (z == v) (y == v) (z == u) _ (away a b c d v nv z hz) (away a b c d v nv y hy)),
+          ))
+        ]
+        | inr nu ↦ absurd (free (
+          a,
+          b,
+          c,
+          d,
+          carried a b c d is (adjacent g) g.vertices (inside a b c d is) (λ y z hy hz.
+              adjacent-with_edge g u v y z ∙ first_absent (y == u) (z == v) (y == v) (z == u) _ (away a b c d u nu y hy) (away a b c d u nu z hz)),
+        ))
+      ]
+
+  edge_gone : (u v a b c d : ℕ) → IsInducedPath (adjacent (without_edge g u v)) g.vertices a b c d → IsOneOf u a b c d × IsOneOf v a b c d
+  edge_gone u v a b c d is =
+      elim (decide_one u a b c d) [
+        | inl hu ↦ elim (decide_one v a b c d) [
+          | inl hv ↦ (hu, hv)
+          | inr nv ↦ absurd (free (
+            a,
+            b,
+            c,
+            d,
+            carried a b c d is (adjacent g) g.vertices (inside a b c d is) (λ y z hy hz.
+                adjacent-without_edge g u v y z ∙ second_kept (y == u) (z == v) (y == v) (z == u) _ (away a b c d v nv z hz) (away a b c d v nv y hy)),
+          ))
+        ]
+        | inr nu ↦ absurd (free (
+          a,
+          b,
+          c,
+          d,
+          carried a b c d is (adjacent g) g.vertices (inside a b c d is) (λ y z hy hz.
+              adjacent-without_edge g u v y z ∙ first_kept (y == u) (z == v) (y == v) (z == u) _ (away a b c d u nu y hy) (away a b c d u nu z hz)),
+        ))
+      ]
+
+  vertex_made : (x a b c d : ℕ) (others : NameSet) → ((w : ℕ) → Has others w → w < NAMES) →
+      IsInducedPath (adjacent (with_edges (with_vertex g x) x others)) (set.insert g.vertices x) a b c d → IsOneOf x a b c d
+  vertex_made x a b c d others names is =
+      elim (decide_one x a b c d) [
+        | inl hx ↦ hx
+        | inr nx ↦ absurd (free (
+          a,
+          b,
+          c,
+          d,
+          carried a b c d is (adjacent g) g.vertices
+              (λ y hy. elim (of_insert g.vertices x y (inside a b c d is y hy)) [
+                | inl same ↦ absurd (nx (subst (λ w. IsOneOf w a b c d) same hy))
+                | inr old ↦ old
+              ])
+              (λ y z hy hz.
+              adjacent-with_edges (with_vertex g x) x others names y z
+              ∙ no_star (y == x) (set.contains others z) (z == x) (set.contains others y) _ (away a b c d x nx y hy) (away a b c d x nx z hz)
+              ∙ adjacent-with_vertex g x y z),
+        ))
+      ]
+
+  vertex_gone : (x a b c d : ℕ) → IsInducedPath (adjacent (without_vertex g x)) (set.remove g.vertices x) a b c d → ⊥
+  vertex_gone x a b c d is =
+      free (
+        a,
+        b,
+        c,
+        d,
+        carried a b c d is (adjacent g) g.vertices (λ y hy. (of_remove g.vertices x y (inside a b c d is y hy)).1) (λ y z hy hz.
+            adjacent-without_vertex g x y z
+            ∙ none_gone (y == x) (z == x) _ (ne_eqb y x (of_remove g.vertices x y (inside a b c d is y hy)).0) (ne_eqb z x (of_remove g.vertices x z (inside a b c d is z hz)).0)),
+      )
+
+  holds_change : (edit : Edit) → HasNames edit → reason_of g edit ≡ None → (a b c d : ℕ) →
+      IsInducedPath (adjacent (after g edit)) (after g edit).vertices a b c d → HoldsChange edit a b c d
+  holds_change (AddEdge u v) names none a b c d is = edge_added u v a b c d is
+  holds_change (DelEdge u v) names none a b c d is = edge_gone u v a b c d is
+  holds_change (AddVertex x neighbours) names none a b c d is =
+      let h = with_vertex g x in
+      let graph : IsGraph h = IsGraph-with_vertex is_graph x names.0 in
+      vertex_made x a b c d (set.from_list neighbours)
+      (λ w member. graph.names w (neighbours_are_vertices g h (AddVertex x neighbours) x neighbours (set.from_list neighbours) refl none refl refl w member)) is
+  holds_change (DelVertex x) names none a b c d is = vertex_gone x a b c d is
+
+  pub still_cograph : (edit : Edit) → HasNames edit → reason_of g edit ≡ None → HasNoneMade (after g edit) edit → IsCograph (after g edit)
+  still_cograph edit names none made path = made path.0 path.1 path.2 path.3 path.4 (holds_change edit names none path.0 path.1 path.2 path.3 path.4)
+
+-- ---- what a search doesn't find
+
+module _ (g : PlainGraph) (edit : Edit) (u v : ℕ) (found : Option P4)
+    (none : IfNone found ((a b c d : ℕ) → IsInducedPathWithBoth (adjacent g) g.vertices u v a b c d → ⊥)) where
+  none_of_ends : ((a b c d : ℕ) → HoldsChange edit a b c d → IsOneOf u a b c d × IsOneOf v a b c d) → IfNone found (HasNoneMade g edit)
+  none_of_ends ends =
+      if_none_map found _ (HasNoneMade g edit) (λ no a b c d path holds.
+      no a b c d (record { path = path; first = (ends a b c d holds).0; second = (ends a b c d holds).1 })) none
+
+  pub none_made_added : edit ≡ AddEdge u v → IfNone found (HasNoneMade g edit)
+  none_made_added is = none_of_ends (λ a b c d holds. subst (λ e. HoldsChange e a b c d) is holds)
+
+  pub none_made_gone : edit ≡ DelEdge u v → IfNone found (HasNoneMade g edit)
+  none_made_gone is = none_of_ends (λ a b c d holds. subst (λ e. HoldsChange e a b c d) is holds)

@@ -1,0 +1,25 @@
+//! The induced P4s that an edit makes.
+ghost use Rattle.std.specs.Prelude.{IfSome, IfNone};
+ghost use Rattle.md_report.specs.Cographs.{IsP4Of};
+ghost use Rattle.md_report.specs.Made.{Shows, HasNoneMade};
+
+use md_graph::Graph;
+use md_modules::{P4, find_p4_with, find_p4_with_both};
+use md_script::Edit;
+
+/// An induced P4 that holds both ends of the edge of an edit, or its new vertex; `None` exactly where
+/// there is none: then the graph is a cograph if the one before the edit was. It takes no memory, and
+/// a few row operations; for a new vertex a fixed number for each vertex. Condition: the edit led to
+/// the graph.
+pub fn made_p4(graph: &Graph, edit: &Edit) -> Option<P4>
+    requires { Shows graph.now edit.now }
+    ensures found { IfSome result (λ p. IsP4Of graph.now p) }
+    ensures none { IfNone result (HasNoneMade graph.now edit.now) }
+{
+    match edit {
+        Edit::AddEdge { u, v } => find_p4_with_both(graph, *u, *v),
+        Edit::DelEdge { u, v } => find_p4_with_both(graph, *u, *v),
+        Edit::AddVertex { x, .. } => find_p4_with(graph, *x),
+        Edit::DelVertex { .. } => None,
+    }
+}

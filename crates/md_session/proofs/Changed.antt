@@ -1,0 +1,102 @@
+-- What an edit of a cotree needs to know of the graph, and what its answer says of the graph after the edit.
+use Rattle.std.proofs.Common.{◌≡◌, ◌≢◌, ℕ, Bool, true, false, not, cond, ◌==◌, find, is_ok, List, [], ◌∷◌, All, Option, Some, None, option_map, Result, Ok, Err, IfOk, IsErr, OnOk, ◌↔◌, refl, sym, ◌∙◌, subst}
+use Rattle.std.proofs.lemmas.Bool.{eqb-false}
+use Rattle.std.proofs.lemmas.List.Elements.{All-nil, All-cons}
+use Rattle.std.specs.Bool.{then_some}
+use Rattle.std.specs.Option.{option_or}
+use Rattle.std.specs.FinSet as set
+use Rattle.md_graph.specs.Sets.{NameSet, Has, Lacks}
+use Rattle.md_graph.specs.PlainGraph.{PlainGraph, IsGraph, adjacent}
+use Rattle.md_modules.specs.InducedPaths.{HasInducedPath}
+use Rattle.md_modules.proofs.Turns.{graph_adjacency}
+use Rattle.md_tree.specs.declared.Tree.{Tree}
+use Rattle.md_tree.specs.Plain.{plain_option}
+use Rattle.md_tree.specs.Trees.{PlainTree}
+use Rattle.md_tree.specs.StrongTrees.{IsTree}
+use Rattle.md_tree.proofs.OneTree.{no_path_proof}
+use Rattle.md_cotree.specs.declared.cotree.Cotree.{Cotree}
+use Rattle.md_cotree.specs.Cotrees.{Denotes}
+use Rattle.md_cotree.specs.Laws.{HasNoPrime}
+use Rattle.md_script.specs.declared.edit.Edit.{Edit}
+use Rattle.md_script.specs.declared.edit.Edit.TheVariants.{AddEdge, DelEdge, AddVertex, DelVertex}
+use Rattle.md_script.specs.declared.edit.EditReason.{EditReason}
+use Rattle.md_script.specs.declared.edit.EditReason.TheVariants.{NoVertex, NameTaken}
+use Rattle.md_script.specs.Edit.{least_absent, reason_of, after}
+use Rattle.md_script.proofs.ChangeLemmas.{ends_by_tests}
+use Rattle.md_report.specs.Cographs.{IsCograph}
+
+-- ---- no reason speaks against the edit
+
+last_none : (o l : Option EditReason) → option_or o l ≡ None → l ≡ None
+last_none None l none = none
+last_none (Some r) l none = absurd (cc)
+
+not_so : (b : Bool) (r : EditReason) → then_some b r ≡ None → b ≡ false
+not_so true r none = absurd (cc)
+not_so false r none = refl
+
+so : (b : Bool) (r : EditReason) → then_some (not b) r ≡ None → b ≡ true
+so true r none = refl
+so false r none = absurd (cc)
+
+pub edge_may_come : (g : PlainGraph) (u v : ℕ) → reason_of g (AddEdge u v) ≡ None → Has g.vertices u × Has g.vertices v × (u ≢ v) × (adjacent g u v ≡ false)
+edge_may_come g u v none =
+    let told = ends_by_tests u v (u == v) (set.contains g.vertices u) (set.contains g.vertices v) _ none in
+    (told.1, told.2, eqb-false u v told.0, not_so (adjacent g u v) _ (last_none _ _ none))
+
+pub edge_may_go : (g : PlainGraph) (u v : ℕ) → reason_of g (DelEdge u v) ≡ None → Has g.vertices u × Has g.vertices v × (u ≢ v) × (adjacent g u v ≡ true)
+edge_may_go g u v none =
+    let told = ends_by_tests u v (u == v) (set.contains g.vertices u) (set.contains g.vertices v) _ none in
+    (told.1, told.2, eqb-false u v told.0, so (adjacent g u v) _ (last_none _ _ none))
+
+by_parts : (least : Option ℕ) (taken : Bool) (x : ℕ) → option_or (option_map NoVertex least) (then_some taken (NameTaken x)) ≡ None → (taken ≡ false) × (least ≡ None)
+by_parts None true x none = absurd (cc)
+by_parts None false x none = (refl, refl)
+by_parts (Some v) taken x none = absurd (cc)
+
+one_there : (s : NameSet) (v : ℕ) (rest : List ℕ) (there : Bool) → set.contains s v ≡ there → cond (not there) (Some v) (find (λ w. not (set.contains s w)) rest) ≡ None →
+    (find (λ w. not (set.contains s w)) rest ≡ None → All (Has s) rest) → All (Has s) (v ∷ rest)
+one_there s v rest true has none before = All-cons (Has s) v rest has (before none)
+one_there s v rest false has none before = absurd (cc)
+
+all_there : (s : NameSet) (list : List ℕ) → find (λ w. not (set.contains s w)) list ≡ None → All (Has s) list
+all_there s [] none = All-nil (Has s)
+all_there s (v ∷ rest) none = one_there s v rest (set.contains s v) refl none (all_there s rest)
+
+pub vertex_may_come : (g : PlainGraph) (x : ℕ) (list : List ℕ) → reason_of g (AddVertex x list) ≡ None → Lacks g.vertices x × All (Has g.vertices) list
+vertex_may_come g x list none =
+    let told = by_parts (least_absent g list) (set.contains g.vertices x) x none in
+    (told.0, all_there g.vertices list told.1)
+
+pub vertex_may_go : (g : PlainGraph) (x : ℕ) → reason_of g (DelVertex x) ≡ None → Has g.vertices x
+vertex_may_go g x none = so (set.contains g.vertices x) _ none
+
+-- ---- what the answer says
+
+on_ok : {A B : Type 0} (P : Type 0) (r : Result A B) → is_ok r ≡ true → OnOk r P → P
+on_ok P (Ok x) fine done = done
+on_ok P (Err e) fine done = absurd (cc)
+
+is_error : {A B : Type 0} (r : Result A B) → is_ok r ≡ false → IsErr r
+is_error (Ok x) fails = absurd (cc)
+is_error (Err e) fails = refl
+
+module _ {A B : Type 0} (edit form : Edit) (is : edit ≡ form) (r : Result A B) (ok : Bool) (told : ok ≡ is_ok r) (g : PlainGraph) where
+  pub done_by : (new : Cotree) → OnOk r (Denotes new (after g form)) → ok ≡ true → Denotes new (after g edit)
+  done_by new done fine = subst (λ e. Denotes new (after g e)) (sym is) (on_ok (Denotes new (after g form)) r (sym told ∙ fine) done)
+
+  pub refused_by : (IsErr r ↔ HasInducedPath (adjacent (after g form)) (after g form).vertices) → ok ≡ false → HasInducedPath (adjacent (after g edit)) (after g edit).vertices
+  refused_by refused fails = subst (λ e. HasInducedPath (adjacent (after g e)) (after g e).vertices) (sym is) (refused.0 (is_error r (sym told ∙ fails)))
+
+-- ---- a cograph's tree has no prime node
+
+pub no_prime_of : (g : PlainGraph) → IsGraph g → (o : Option PlainTree) → IsTree (adjacent g) g.vertices o → IsCograph g → HasNoPrime o
+no_prime_of g is None tree free = tt
+no_prime_of g is (Some t) tree free = (no_path_proof (adjacent g) (graph_adjacency is) g.vertices t tree).0 free
+
+-- ---- the tree that is told of the cotree
+
+module _ {E : Type 0} (c : Cotree) (g h : PlainGraph) (den : Denotes c g) (same : g ≡ h) where
+  pub told_of : (r : Result (Option Tree) E) → IfOk r (λ tree. (k : PlainGraph) → Denotes c k → IsTree (adjacent k) k.vertices (plain_option tree)) → IfOk r (λ tree. IsTree (adjacent h) h.vertices (plain_option tree))
+  told_of (Ok tree) told = subst (λ k. IsTree (adjacent k) k.vertices (plain_option tree)) same (told g den)
+  told_of (Err e) told = told

@@ -1,0 +1,113 @@
+-- Runs of sessions on cographs, one behind the other.
+use Rattle.std.proofs.Common.{◌≡◌, ℕ, suc, ◌+◌, ◌-◌, ◌%◌, Bool, not, length, List, [], ◌∷◌, ◌++◌, Option, Some, None, refl, sym, ◌∙◌, ap, subst, inl, inr, arith, length-append}
+use Rattle.std.proofs.lemmas.List.Elements.{filter-append}
+use Rattle.std.specs.List.{filter}
+use Rattle.std.specs.FinSet.{empty, union}
+use Rattle.md_graph.specs.PlainGraph.{PlainGraph, empty_graph}
+use Rattle.md_graph.specs.NameSet.{range}
+use Rattle.md_graph.specs.Sets.{NameSet, Has}
+use Rattle.md_graph.proofs.SetLemmas.{clash, empty_lacks, of_union, union_right, same_members}
+use Rattle.md_modules.specs.declared.induced_paths.P4.{P4}
+use Rattle.md_script.specs.declared.edit.Edit.{Edit}
+use Rattle.md_script.specs.declared.edit.Edit.TheVariants.{DelVertex}
+use Rattle.md_script.specs.declared.edit.EditReason.{EditReason}
+use Rattle.md_script.specs.Edit.{reason_of}
+use Rattle.md_report.specs.Lines.{PlainLine, applied_quiet, refused, refused_p4}
+use Rattle.md_report.specs.Sessions.{state_behind, last_state}
+use Rattle.md_report.specs.Cographs.{IsP4Of, IsQuietLine, IsQuietLineBy, QuietRun}
+use Rattle.md_session.specs.declared.cograph.Answer as answers
+use Rattle.md_session.specs.declared.cograph.Answer.TheVariants.{Applied, Refused, RefusedP4}
+use Rattle.md_session.specs.Answers.{IsOpened, IsAnswered, IsAnsweredBy}
+use Rattle.md_session.specs.declared.cograph.Opened as opened
+use Rattle.md_session.specs.declared.cograph.Opened.TheVariants.{NotCograph}
+use Rattle.md_top.specs.Big.{edits_below, neighbours_before, deletions_at, is_applied, RunsTo}
+
+-- no edit
+pub runs_none : (g : PlainGraph) → RunsTo g [] 0 0 g
+runs_none g = record { lines = []; run = refl; done_is = refl; undone_is = refl; last = refl }
+
+-- the line of an answer in mode quiet
+abbrev line_of_answer : answers.Answer → PlainLine
+line_of_answer Applied = applied_quiet
+line_of_answer (Refused reason) = refused reason
+line_of_answer (RefusedP4 p) = refused_p4 p
+
+answered_line : (r : Option EditReason) (g h : PlainGraph) (edit : Edit) (answer : answers.Answer) → IsAnsweredBy r g edit answer h →
+    IsQuietLineBy r g edit (line_of_answer answer) × (h ≡ state_behind g edit (line_of_answer answer))
+answered_line (Some reason) g h edit answer a =
+    (ap line_of_answer a.0, a.1 ∙ sym (ap (λ (x : answers.Answer). state_behind g edit (line_of_answer x)) a.0))
+answered_line None g h edit answer (inl a) =
+    (inl (a.0, a.1, ap line_of_answer a.2), a.3 ∙ sym (ap (λ (x : answers.Answer). state_behind g edit (line_of_answer x)) a.2))
+answered_line None g h edit answer (inr a) =
+    (inr (a.0, ap line_of_answer a.1), a.2 ∙ sym (ap (λ (x : answers.Answer). state_behind g edit (line_of_answer x)) a.1))
+
+-- how many edits an answer says to be applied: one, or none
+abbrev pub done_by : answers.Answer → ℕ
+done_by Applied = 1
+done_by (Refused reason) = 0
+done_by (RefusedP4 p) = 0
+
+-- one edit
+runs_one : (g h : PlainGraph) (edit : Edit) (answer : answers.Answer) → IsAnswered g edit answer h → RunsTo g (edit ∷ []) (done_by answer) (1 - done_by answer) h
+runs_one g h edit answer a = by_answer answer (answered_line (reason_of g edit) g h edit answer a) where
+  by_answer : (answer : answers.Answer) → IsQuietLine g edit (line_of_answer answer) × (h ≡ state_behind g edit (line_of_answer answer)) → RunsTo g (edit ∷ []) (done_by answer) (1 - done_by answer) h
+  by_answer Applied b = record { lines = applied_quiet ∷ []; run = (b.0, refl); done_is = refl; undone_is = refl; last = b.1 }
+  by_answer (Refused reason) b = record { lines = refused reason ∷ []; run = (b.0, refl); done_is = refl; undone_is = refl; last = b.1 }
+  by_answer (RefusedP4 p) b = record { lines = refused_p4 p ∷ []; run = (b.0, refl); done_is = refl; undone_is = refl; last = b.1 }
+
+-- the same by what the answer is
+pub runs_named : (g h : PlainGraph) (edit : Edit) (answer named : answers.Answer) → answer ≡ named → IsAnswered g edit answer h → RunsTo g (edit ∷ []) (done_by named) (1 - done_by named) h
+runs_named g h edit answer named is a = runs_one g h edit named (subst (λ (x : answers.Answer). IsAnswered g edit x h) is a)
+
+quiet_append : (g : PlainGraph) (xs ys : List Edit) (ls ms : List PlainLine) → QuietRun g xs ls → QuietRun (last_state g xs ls) ys ms → QuietRun g (xs ++ ys) (ls ++ ms)
+quiet_append g [] ys [] ms a b = b
+quiet_append g [] ys (l ∷ ls) ms a b = absurd (cc)
+quiet_append g (x ∷ xs) ys [] ms a b = absurd a
+quiet_append g (x ∷ xs) ys (l ∷ ls) ms a b = (a.0, quiet_append (state_behind g x l) xs ys ls ms a.1 b)
+
+last_append : (g : PlainGraph) (xs ys : List Edit) (ls ms : List PlainLine) → QuietRun g xs ls → last_state g (xs ++ ys) (ls ++ ms) ≡ last_state (last_state g xs ls) ys ms
+last_append g [] ys [] ms a = refl
+last_append g [] ys (l ∷ ls) ms a = absurd (cc)
+last_append g (x ∷ xs) ys [] ms a = absurd a
+last_append g (x ∷ xs) ys (l ∷ ls) ms a = last_append (state_behind g x l) xs ys ls ms a.1
+
+count_append : (p : PlainLine → Bool) (ls ms : List PlainLine) → length (filter p (ls ++ ms)) ≡ length (filter p ls) + length (filter p ms)
+count_append p ls ms = ap length (filter-append p ls ms) ∙ length-append (filter p ls) (filter p ms)
+
+-- a run behind a run
+runs_append : (g h k : PlainGraph) (xs ys : List Edit) (a b c d : ℕ) → RunsTo g xs a b h → RunsTo h ys c d k → RunsTo g (xs ++ ys) (a + c) (b + d) k
+runs_append g h k xs ys a b c d r s = record {
+  lines = r.lines ++ s.lines;
+  run = quiet_append g xs ys r.lines s.lines r.run (subst (λ (x : PlainGraph). QuietRun x ys s.lines) r.last s.run);
+  done_is = let one = r.done_is in let two = s.done_is in let sum = count_append is_applied r.lines s.lines in omega arith;
+  undone_is =
+      let one = r.undone_is in let two = s.undone_is in let sum = count_append (λ line. not (is_applied line)) r.lines s.lines in omega arith;
+  last = s.last ∙ ap (λ (x : PlainGraph). last_state x ys s.lines) r.last ∙ sym (last_append g xs ys r.lines s.lines r.run);
+}
+
+-- the edits at one name more
+pub runs_next : (edits_at : ℕ → List Edit) (v : ℕ) (g h k : PlainGraph) (a b c d : ℕ) → RunsTo g (edits_below edits_at v) a b h → RunsTo h (edits_at v) c d k → RunsTo g (edits_below edits_at (v + 1)) (a + c) (b + d) k
+runs_next edits_at v g h k a b c d r s =
+    let same : suc v ≡ v + 1 = omega arith in
+    subst (λ (n : ℕ). RunsTo g (edits_below edits_at n) (a + c) (b + d) k) same
+    (runs_append g h k (edits_below edits_at v) (edits_at v) a b c d r s)
+
+-- the graph without vertices has no induced P4
+pub no_p4 : (g : PlainGraph) (o : opened.Opened) (p : P4) → o ≡ NotCograph p → g ≡ empty_graph → IsOpened g o → ⊥
+no_p4 g o p is none told =
+    let path : IsP4Of g p = subst (IsOpened g) is told in
+    clash (subst (λ (x : PlainGraph). Has x.vertices p.a) none path.inside.0) (empty_lacks p.a)
+
+none_union : (a : NameSet) → union empty a ≡ a
+none_union a = same_members (union empty a) a
+    (λ x h. elim (of_union empty a x h) [ inl i ↦ clash i (empty_lacks x) | inr i ↦ i ]) (union_right empty a)
+
+-- the neighbours of an odd name
+pub odd_before : (v : ℕ) (old new : NameSet) → v % 2 ≡ 1 → old ≡ empty → new ≡ union old (range 0 v) → new ≡ neighbours_before v
+odd_before v old new odd none is =
+    let one : neighbours_before v ≡ range 0 v = rw odd refl in
+    is ∙ ap (λ (x : NameSet). union x (range 0 v)) none ∙ none_union (range 0 v) ∙ sym one
+
+-- an even name is left out
+pub even_left_out : (v : ℕ) (g h : PlainGraph) (a b : ℕ) → v % 2 ≡ 0 → RunsTo g (DelVertex v ∷ []) a b h → RunsTo g (deletions_at v) a b h
+even_left_out v g h a b even runs = rw even runs

@@ -1,0 +1,6 @@
+-- An even name is left out.
+use Rattle.md_top.proofs.Runs.{even_left_out}
+use Rattle.md_top.proofs.big.delete.Goals as goal
+
+pub returns-then-v-eq0 : goal.returns-then-v-eq0
+returns-then-v-eq0 c = record { run = (_, _, even_left_out c.args.v _ _ _ _ c.if-v-eq0.true c.done.ensures.run) }

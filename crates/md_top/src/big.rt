@@ -1,0 +1,198 @@
+//! A session on cographs over the edits that a number gives, told in five numbers.
+ghost use Rattle.std.specs.Prelude.{◌≡◌, ◌<◌, ◌≤◌, ◌+◌, ◌-◌, ℕ, [], ◌∷◌, ◌++◌, length, IfOk};
+ghost use Rattle.md_graph.specs.declared.TheConstants.{NAMES as names};
+ghost use Rattle.md_graph.specs.PlainGraph.{empty_graph};
+ghost use Rattle.md_text.specs.Numbers.{decimal};
+ghost use Rattle.md_script.specs.Edit.{HasNames};
+ghost use Rattle.md_top.specs.declared.request.Request.{Request};
+ghost use Rattle.md_top.specs.declared.short.TheConstants.{ROOM};
+ghost use Rattle.md_top.specs.Big.{neighbours_before, insertion, cuts_at, deletions_at, inserts, cuts, deletions, RunsTo, AreNumbersOf, numbers_line};
+ghost use Rattle.md_top.specs.Sinks.{sink_run};
+ghost use Rattle.md_top.specs.Command.{CommandEnds};
+
+use crate::put::put_piece;
+use crate::session::answer;
+use crate::short::ShortText;
+use crate::stop::{Stop, Verdict};
+use md_graph::{Graph, Memory, Names};
+use md_io::Sink;
+use md_script::{Edit, Neighbours};
+use md_session::{Answer, CographSession, Opened};
+use std::alloc::Global;
+
+/// What is told of the session.
+#[derive(Clone, Copy, Debug, PartialEq, Eq)]
+pub struct Numbers {
+    /// How many names were taken in.
+    pub inserted: u32,
+    /// How many edges could not be left out.
+    pub refused: u32,
+    /// The nodes of the tree then.
+    pub nodes: u64,
+    /// The names that are left at the end.
+    pub left: u32,
+    /// The nodes of the tree at the end.
+    pub left_nodes: u64,
+}
+
+/// Puts the numbers of the session for a size, in one put. Condition: the size is one of a graph.
+pub fn big<O: Sink>(alloc: Global, size: u32, out: &mut O) -> Result<Verdict, Stop>
+    requires { size ≤ names }
+    ensures ends { CommandEnds (Request.Big size) result (sink_run O.Sink out.old out.new) }
+{
+    let told = run_session(alloc, size)?;
+    let line = numbers_line(&told);
+    put_piece(out, line.as_slice())?;
+    Ok(Verdict::Done)
+}
+
+// The session for a size, told in numbers. Condition: the size is one of a graph.
+fn run_session(alloc: Global, size: u32) -> Result<Numbers, Memory>
+    requires { size ≤ names }
+    ensures told { IfOk result (λ n. AreNumbersOf size n) }
+{
+    let mut session = first_session(alloc)?;
+    let inserted = insert_all(alloc, &mut session, size)?;
+    let refused = cut_all(&mut session, size);
+    let nodes = session.node_count();
+    delete_all(&mut session, size);
+    Ok(Numbers {
+        inserted,
+        refused,
+        nodes,
+        left: session.vertex_count(),
+        left_nodes: session.node_count(),
+    })
+}
+
+// A session on the graph without vertices.
+fn first_session(alloc: Global) -> Result<CographSession, Memory>
+    ensures first { IfOk result (λ session. session ≡ empty_graph) }
+{
+    let graph = Graph::new(alloc)?;
+    match CographSession::new(alloc, graph)? {
+        Opened::Session(session) => Ok(session),
+        Opened::NotCograph(_) => unreachable!(),
+    }
+}
+
+// Takes in each name below a size; how many were taken in.
+fn insert_all(alloc: Global, session: &mut CographSession, size: u32) -> Result<u32, Memory>
+    requires { size ≤ names }
+    ensures run { IfOk result (λ done.
+        (undone : ℕ) × RunsTo session.old (inserts size) done undone session.new) }
+{
+    let mut inserted = 0;
+    for v in 0..size {
+        inserted += insert(alloc, session, v)?;
+    }
+    Ok(inserted)
+}
+
+// Takes in a name; how many edits were applied.
+fn insert(alloc: Global, session: &mut CographSession, v: u32) -> Result<u32, Memory>
+    requires { v < names }
+    ensures run { IfOk result (λ done.
+        (undone : ℕ) × RunsTo session.old (insertion v ∷ []) done undone session.new) }
+    ensures few { IfOk result (λ done. done ≤ 1) }
+{
+    let neighbours = Neighbours::new(alloc, &neighbours_before(v))?;
+    let edit = Edit::AddVertex { x: v, neighbours };
+    Ok(done(session, &edit))
+}
+
+// The neighbours of a new name.
+fn neighbours_before(v: u32) -> Names
+    requires { v < names }
+    ensures { result ≡ neighbours_before v }
+{
+    let mut before = Names::none();
+    if v % 2 == 1 {
+        before.insert_range(0, v);
+    }
+    before
+}
+
+// Tries to leave out the edges between 1 and the names below a size; how many could not be.
+fn cut_all(session: &mut CographSession, size: u32) -> u32
+    requires { size ≤ names }
+    ensures run { (done : ℕ) × RunsTo session.old (cuts size) done result session.new }
+{
+    let mut refused = 0;
+    for v in 0..size {
+        refused += cut(session, v);
+    }
+    refused
+}
+
+// Tries to leave out the edge between 1 and a name; how many edits were refused.
+fn cut(session: &mut CographSession, v: u32) -> u32
+    requires { v < names }
+    ensures run { (done : ℕ) × RunsTo session.old (cuts_at v) done result session.new }
+    ensures few { result ≤ 1 }
+{
+    if 3 <= v && v % 2 == 1 {
+        return 1 - done(session, &Edit::DelEdge { u: 1, v });
+    }
+    0
+}
+
+// Leaves out the even names below a size.
+fn delete_all(session: &mut CographSession, size: u32)
+    requires { size ≤ names }
+    ensures run { (done : ℕ) × (undone : ℕ)
+        × RunsTo session.old (deletions size) done undone session.new }
+{
+    for v in 0..size {
+        delete(session, v);
+    }
+}
+
+// Leaves out a name if it is even.
+fn delete(session: &mut CographSession, v: u32)
+    requires { v < names }
+    ensures run { (done : ℕ) × (undone : ℕ)
+        × RunsTo session.old (deletions_at v) done undone session.new }
+{
+    if v % 2 == 0 {
+        done(session, &Edit::DelVertex { x: v });
+    }
+}
+
+// How many edits are applied of one that the session answers. Condition: the names in the edit are
+// names.
+fn done(session: &mut CographSession, edit: &Edit) -> u32
+    requires { HasNames edit.now }
+    ensures run { RunsTo session.old (edit.now ∷ []) result (1 - result) session.new }
+    ensures few { result ≤ 1 }
+{
+    match answer(session, edit) {
+        Answer::Applied => 1,
+        Answer::Refused(_) => 0,
+        Answer::RefusedP4(_) => 0,
+    }
+}
+
+// The line that tells numbers.
+fn numbers_line(numbers: &Numbers) -> ShortText
+    ensures { result ≡ numbers_line numbers.now }
+{
+    let mut line = ShortText::new();
+    push_number(&mut line, b"inserted ", numbers.inserted as u64);
+    push_number(&mut line, b" refused ", numbers.refused as u64);
+    push_number(&mut line, b" nodes ", numbers.nodes);
+    push_number(&mut line, b" left ", numbers.left as u64);
+    push_number(&mut line, b" nodes ", numbers.left_nodes);
+    line.push(b"\n");
+    line
+}
+
+// Appends a word and a number. Condition: there is room for them.
+fn push_number(line: &mut ShortText, word: &[u8], n: u64)
+    requires { length line.old + length word.now + 20 ≤ ROOM }
+    ensures items { line.new ≡ line.old ++ (word.now ++ decimal n) }
+    ensures len { length line.new ≤ length line.old + length word.now + 20 }
+{
+    line.push(word);
+    line.push_decimal(n);
+}
