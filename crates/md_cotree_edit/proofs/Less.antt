@@ -12,7 +12,7 @@ use Rattle.md_graph.proofs.GraphLemmas.{same_graph, adjacent_ends, IsGraph-empty
 use Rattle.md_lists.specs.Words.{times}
 use Rattle.md_tree.specs.Trees.{names}
 use Rattle.md_tree.specs.TreeGraph.{graph_of_tree}
-use Rattle.md_cotree.specs.PlaceTrees.{PlaceTree, shape}
+use Rattle.md_cotree.specs.PlaceTrees.{PlaceTree, no_more, then, leaf_count, shape}
 use Rattle.md_cotree.specs.Cotrees.{trees_of}
 use Rattle.md_cotree.proofs.Frames.{hit, miss}
 use Rattle.md_cotree.proofs.TreeGraphs.{some_graph}
@@ -123,6 +123,14 @@ listed_few (x ∷ xs) s once has =
     let some = has_len s x here in
     let rest = listed_few xs (set.remove s x) (λ v. (let o = once v in omega arith)) (λ v more.
     remove_left s x v (λ same. (let h = hit x v (sym same) in let o = once v in omega arith)) (has v (omega arith))) in
+    omega arith
+
+-- a tree has no more leaves than names
+pub leaves_few : (t : PlaceTree) → AreNamed t → leaf_count t ≤ set.len (names (shape t))
+leaves_few t is =
+    let e = lists_long (then t no_more) in
+    let f = listed_few (names_list (then t no_more)) (names (shape t)) (λ v. (let o = is.once v in let e = lists_times v (then t no_more) in omega arith))
+    (λ v some. counted_has t v (let e = lists_times v (then t no_more) in omega arith)) in
     omega arith
 
 yes_of : (b : Bool) → ◌<◌ 0 (cond b 1 0) → b ≡ true

@@ -20,7 +20,7 @@ Found m t =
 
 module _ (l k : Links) (top : Option ℕ) (x : ℕ) (d : ClimbView) (can : CanSettle l top x d) (still : AreStill l k) (ok_k : AreLinks k) (told : AreTold k d.marks (marked_walked k) d.tree) (takes : CanTake d.marks d.tree) where
   abbrev found : Found d.marks d.tree
-  found = find_lowest d.marks d.tree can.take.climb.marks can.take.climb.alternates takes can.some can.not_all
+  found = find_lowest d.marks d.tree can.take.climb.marks can.take.climb.alternates takes can.some can.take.not_all
 
   abbrev pub lowest_view : LowestView
   lowest_view = record { marks = d.marks; walked = marked_walked k; frames = found.0; place = found.1; series = found.2; children = found.3 }

@@ -1,12 +1,12 @@
 -- Names that are marked in a tree, and names that aren't.
 use Rattle.std.proofs.Common.{◌≡◌, ◌⊎◌, ℕ, zero, suc, ◌+◌, ◌*◌, ◌<◌, ◌≤◌, true, false, refl, inl, inr, arith}
 use Rattle.std.proofs.lemmas.Bool.{cases_lt}
-use Rattle.md_cotree.specs.PlaceTrees.{PlaceTree, tip, inner, PlaceTrees, no_more, then, row_length, Alternates, AllAlternate}
+use Rattle.md_cotree.specs.PlaceTrees.{PlaceTree, tip, inner, PlaceTrees, no_more, then, leaf_count, leaf_counts, row_length, Alternates, AllAlternate}
 use Rattle.md_cotree.proofs.Frames.{hit}
 use Rattle.md_cotree_edit.specs.Counts.{name_in, name_row, pair_row, edge_in, edge_row}
 use Rattle.md_cotree_edit.specs.Marks.{AreMarks, hits_in, hits_row, full_in, full_row}
 use Rattle.md_cotree_edit.proofs.Holes.{full_low, fulls_low}
-use Rattle.md_cotree_edit.proofs.Inserted.{one_left}
+use Rattle.md_cotree_edit.proofs.Inserted.{one_left, one_right}
 
 pub some_product : (a b : ℕ) → 0 < a → 0 < b → 0 < a * b
 some_product zero b e f = absurd (omega arith)
@@ -19,7 +19,50 @@ no_product zero b e = inl refl
 no_product (suc a) zero e = inr refl
 no_product (suc a) (suc b) e = absurd (omega arith)
 
+-- what is 1 at most and isn't 1 is 0
+pub none_of_low : (n : ℕ) → n ≤ 1 → (n ≡ 1 → ⊥) → n ≡ 0
+none_of_low zero low other = refl
+none_of_low (suc zero) low other = absurd (other refl)
+none_of_low (suc (suc n)) low other = absurd (omega arith)
+
 module _ (m : ℕ → ℕ) (marks : AreMarks m) where
+  mutual
+    pub few_hits : (t : PlaceTree) → hits_in m t ≤ leaf_count t
+    few_hits (tip p v) = marks v
+    few_hits (inner p k ts) = few_hits_among ts
+
+    few_hits_among : (ts : PlaceTrees) → hits_row m ts ≤ leaf_counts ts
+    few_hits_among no_more = omega arith
+    few_hits_among (then t ts) = let first = few_hits t in let rest = few_hits_among ts in omega arith
+
+  mutual
+    -- a tree with as many hits as leaves is full
+    pub full_of_hits : (t : PlaceTree) → hits_in m t ≡ leaf_count t → full_in m t ≡ 1
+    full_of_hits (tip p v) all = all
+    full_of_hits (inner p k ts) all = fulls_of_hits ts all
+
+    fulls_of_hits : (ts : PlaceTrees) → hits_row m ts ≡ leaf_counts ts → full_row m ts ≡ 1
+    fulls_of_hits no_more all = refl
+    fulls_of_hits (then t ts) all =
+        let low = few_hits t in
+        let rest = few_hits_among ts in
+        let first : full_in m t ≡ 1 = full_of_hits t (omega arith) in
+        let others : full_row m ts ≡ 1 = fulls_of_hits ts (omega arith) in
+        λ i. first i * others i
+
+  mutual
+    -- a full tree has as many hits as leaves
+    pub hits_of_full : (t : PlaceTree) → full_in m t ≡ 1 → hits_in m t ≡ leaf_count t
+    hits_of_full (tip p v) full = full
+    hits_of_full (inner p k ts) full = hits_of_fulls ts full
+
+    hits_of_fulls : (ts : PlaceTrees) → full_row m ts ≡ 1 → hits_row m ts ≡ leaf_counts ts
+    hits_of_fulls no_more full = refl
+    hits_of_fulls (then t ts) full =
+        let first = hits_of_full t (one_left (full_in m t) (full_row m ts) full) in
+        let rest = hits_of_fulls ts (one_right (full_in m t) (full_row m ts) full) in
+        omega arith
+
   mutual
     -- a tree that isn't full has a name that isn't marked
     pub unmarked_name : (t : PlaceTree) → full_in m t ≡ 0 → (z : ℕ) × (0 < name_in z t) × (m z ≡ 0)
@@ -84,16 +127,11 @@ module _ (m : ℕ → ℕ) (marks : AreMarks m) where
             turned b.0 z.0 b.2 z.2 (some_product (name_in z.0 t) (name_row b.0 ts) z.1 b.1)
       ]
     where
-      low_is : (n : ℕ) → n ≤ 1 → (n ≡ 1 → ⊥) → n ≡ 0
-      low_is zero low other = refl
-      low_is (suc zero) low other = absurd (other refl)
-      low_is (suc (suc n)) low other = absurd (omega arith)
-
       no_hit : (t : PlaceTree) → Alternates t → hits_in m t ≡ 0 → full_in m t ≡ 0
-      no_hit t is e = low_is (full_in m t) (full_low m marks t) (λ full. let some = full_hits t is full in omega arith)
+      no_hit t is e = none_of_low (full_in m t) (full_low m marks t) (λ full. let some = full_hits t is full in omega arith)
 
       no_hits : (ts : PlaceTrees) → AllAlternate ts → 0 < row_length ts → hits_row m ts ≡ 0 → full_row m ts ≡ 0
-      no_hits ts is long e = low_is (full_row m ts) (fulls_low m marks ts) (λ full. let some = fulls_hit ts is long full in omega arith)
+      no_hits ts is long e = none_of_low (full_row m ts) (fulls_low m marks ts) (λ full. let some = fulls_hit ts is long full in omega arith)
 
       straight : (a z : ℕ) → m a ≡ 1 → m z ≡ 0 → 0 < name_in a t * name_row z ts → (a : ℕ) × (z : ℕ) × (m a ≡ 1) × (m z ≡ 0) × (0 < pair_row a z (then t ts))
       straight a z e f low = (a, z, e, f, omega arith)

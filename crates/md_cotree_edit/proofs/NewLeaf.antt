@@ -5,23 +5,23 @@ use Rattle.std.specs.Prelude.{IsTrue}
 use Rattle.std.proofs.lemmas.Option.{same_Some}
 use Rattle.md_lists.specs.declared.kinds.PlaceKind.TheVariants.{Leaf}
 use Rattle.md_lists.specs.declared.TheConstants.{PLACES}
-use Rattle.md_lists.specs.Links.{Links, kind_at, note_at, AreLinks, with_kind}
-use Rattle.md_cotree.specs.PlaceTrees.{PlaceTree, tip, inner, no_more, then, place_of}
-use Rattle.md_cotree.proofs.Frames.{hit}
+use Rattle.md_lists.specs.Links.{Links, kind_at, AreLinks, with_kind}
+use Rattle.md_cotree.specs.PlaceTrees.{PlaceTree, tip, no_more, then, place_of, Alternates}
 use Rattle.md_cotree_edit.specs.Counts.{name_in, edge_in, crossing}
 use Rattle.md_cotree_edit.specs.Contexts.{AreKept}
 use Rattle.md_cotree_edit.specs.Turns.{IsBeside}
-use Rattle.md_cotree_edit.specs.Marks.{AreMarks, hits_in, full_in, full_row, walked_count, none_walked, AreTold, AreStill, IsInserted, IsTaken, ClimbView, CanTakeIn, CanSettle}
+use Rattle.md_cotree_edit.specs.Marks.{AreMarks, hits_in, full_in, none_walked, AreStill, IsInserted, IsTaken, ClimbView, CanTakeIn, CanSettle}
 use Rattle.md_cotree_edit.proofs.Same.{SameTree, same_swap, tree_name, tree_edge}
-use Rattle.md_cotree_edit.proofs.Local.{cond_yes}
-use Rattle.md_cotree_edit.proofs.Keeping.{kept_once}
 use Rattle.md_cotree_edit.proofs.Surgery.{kept_same}
 use Rattle.md_cotree_edit.proofs.Still.{kept_still}
 use Rattle.md_cotree_edit.proofs.Counting.{few_marked}
-use Rattle.md_cotree_edit.proofs.Holes.{full_low, walked_none, notes_none}
 use Rattle.md_cotree_edit.proofs.Inserted.{full_name, none_name}
 use Rattle.md_cotree_edit.proofs.Relinked.{kept_leaf}
 use Rattle.md_cotree_edit.proofs.Walking.{none_walks}
+
+-- a leaf beside a tree, both below one node of a kind, in the lists from their root on
+abbrev pub WholeBeside : Bool → PlaceTree → Links → Option ℕ → ℕ → ℕ → Type 0
+WholeBeside k t l r leaf x = (s : PlaceTree) × AreKept l (then s no_more) × (r ≡ Some (place_of s)) × IsBeside k t (tip leaf x) s
 
 module _ (m : ℕ → ℕ) (marks : AreMarks m) where
   -- ---- beside the whole tree
@@ -57,6 +57,21 @@ module _ (m : ℕ → ℕ) (marks : AreMarks m) where
           add_up : (e c p q f g : ℕ) → c ≡ q + p → f ≡ p → g ≡ q → (e + 0) + c ≡ e + (f + g)
           add_up e c p q f g h i j = omega arith
 
+  taken_beside : (k : Bool) (t : PlaceTree) → Alternates t → ((b : ℕ) → m b * name_in b t ≡ cond k (name_in b t) 0) → (l : Links) (r : Option ℕ) (leaf x : ℕ) → WholeBeside k t l r leaf x → IsTaken l r m x leaf t
+  taken_beside k t alternates told l r leaf x is = record {
+    tree = is.0;
+    kept = is.1;
+    root = is.2;
+    alternates = is.3.alternates alternates tt (λ i. i);
+    inserted = beside_inserted k t leaf x is.0 told is.3;
+  }
+
+  pub taken_none : (t : PlaceTree) → Alternates t → hits_in m t ≡ 0 → (l : Links) (r : Option ℕ) (leaf x : ℕ) → WholeBeside false t l r leaf x → IsTaken l r m x leaf t
+  taken_none t alternates none = taken_beside false t alternates (λ b. none_name m b t none)
+
+  pub taken_all : (t : PlaceTree) → Alternates t → full_in m t ≡ 1 → (l : Links) (r : Option ℕ) (leaf x : ℕ) → WholeBeside true t l r leaf x → IsTaken l r m x leaf t
+  taken_all t alternates full = taken_beside true t alternates (λ b. full_name m b t full)
+
   -- ---- the same tree in another order
 
   pub inserted_same : (t whole s : PlaceTree) (leaf x : ℕ) → SameTree t whole → IsInserted m leaf x whole s → IsInserted m leaf x t s
@@ -69,19 +84,6 @@ module _ (m : ℕ → ℕ) (marks : AreMarks m) where
     leaves = let e = is.leaves in let f = same.leaves in omega arith;
   }
 
--- ---- the note of the root says whether all names are marked
-
-pub root_note : (l : Links) (m : ℕ → ℕ) (t : PlaceTree) → AreKept l (then t no_more) → AreTold l m none_walked t → note_at l (place_of t) ≡ full_in m t
-root_note l m (tip p v) kept told = told.notes p ∙ cond_yes p p (m v) refl
-root_note l m (inner p k ts) kept told =
-    let once = kept_once l (then (inner p k ts) no_more) kept p in
-    let h = hit p p refl in
-    let note = told.notes p in
-    let here = cond_yes p p (full_row m ts + 2 * walked_count m none_walked ts) refl in
-    let below = notes_none m none_walked p ts (omega arith) in
-    let none = walked_none m ts in
-    omega arith
-
 -- ---- a leaf beside a tree
 
 -- a leaf is made beside a tree
@@ -90,50 +92,19 @@ leaf_beside l k m still ok_k ok_m p x free within made t kept =
     kept_same m ok_m (then (tip p x) (then t no_more)) (then t (then (tip p x) no_more)) (same_swap (tip p x) t no_more)
     (kept_leaf k ok_k p (Leaf x) free within m made x (then t no_more) refl (kept_still l k (then t no_more) still kept))
 
--- ---- a leaf beside a tree that is marked all over, or nowhere
+-- ---- a leaf in a tree that isn't marked all over
 
 module _ (l : Links) (top : Option ℕ) (x : ℕ) (d : ClimbView) (can : CanTakeIn l top x d) where
   -- few places are marked
   pub few_told : AreLinks l → length l.marked ≤ 4 * hits_in d.marks d.tree
   few_told ok = few_marked l d.marks none_walked d.tree ok can.climb.kept can.climb.told (none_walks d.marks d.tree) can.climb.marks can.climb.alternates (λ p. omega arith)
 
-  taken_beside : (k : Bool) → ((b : ℕ) → d.marks b * name_in b d.tree ≡ cond k (name_in b d.tree) 0) → (m : Links) (r : Option ℕ) (leaf : ℕ) →
-      (s : PlaceTree) × AreKept m (then s no_more) × (r ≡ Some (place_of s)) × IsBeside k d.tree (tip leaf x) s → IsTaken m r d.marks x leaf d.tree
-  taken_beside k told m r leaf is = record {
-    tree = is.0;
-    kept = is.1;
-    root = is.2;
-    alternates = is.3.alternates can.climb.alternates tt (λ i. i);
-    inserted = beside_inserted d.marks can.climb.marks k d.tree leaf x is.0 told is.3;
-  }
-
-  pub taken_none : hits_in d.marks d.tree ≡ 0 → (m : Links) (r : Option ℕ) (leaf : ℕ) →
-      (s : PlaceTree) × AreKept m (then s no_more) × (r ≡ Some (place_of s)) × IsBeside false d.tree (tip leaf x) s → IsTaken m r d.marks x leaf d.tree
-  taken_none none = taken_beside false (λ b. none_name d.marks b d.tree none)
-
-  pub taken_all : full_in d.marks d.tree ≡ 1 → (m : Links) (r : Option ℕ) (leaf : ℕ) →
-      (s : PlaceTree) × AreKept m (then s no_more) × (r ≡ Some (place_of s)) × IsBeside true d.tree (tip leaf x) s → IsTaken m r d.marks x leaf d.tree
-  taken_all full = taken_beside true (λ b. full_name d.marks b d.tree full)
-
   pub tree_at : (p : ℕ) → top ≡ Some p → place_of d.tree ≡ p
   tree_at p is = same_Some (place_of d.tree) p (sym can.root ∙ is)
 
-  -- the root's note
-  pub top_note : (p : ℕ) → top ≡ Some p → note_at l p ≡ full_in d.marks d.tree
-  top_note p is = ap (note_at l) (sym (tree_at p is)) ∙ root_note l d.marks d.tree can.climb.kept can.climb.told
-
-  pub can_settle : (p n : ℕ) → top ≡ Some p → n ≡ note_at l p → n ≢ 1 → (none : Bool) → none ≡ false → (IsTrue none ↔ (hits_in d.marks d.tree ≡ 0)) → CanSettle l top x d
-  can_settle p n is note not_full none some told = record {
-    take = can;
-    some = some_of_none (hits_in d.marks d.tree) (λ e. absurd (false≢true (sym some ∙ told.1 e)));
-    not_all = low_none (full_in d.marks d.tree) (full_low d.marks can.climb.marks d.tree) (λ e. not_full (note ∙ top_note p is ∙ e));
-  }
+  pub can_settle : (none : Bool) → none ≡ false → (IsTrue none ↔ (hits_in d.marks d.tree ≡ 0)) → CanSettle l top x d
+  can_settle none some told = record { take = can; some = some_of_none (hits_in d.marks d.tree) (λ e. absurd (false≢true (sym some ∙ told.1 e))) }
     where
       some_of_none : (n : ℕ) → n ≢ 0 → 0 < n
       some_of_none zero e = absurd (e refl)
       some_of_none (suc n) e = omega arith
-
-      low_none : (n : ℕ) → n ≤ 1 → n ≢ 1 → n ≡ 0
-      low_none zero low e = refl
-      low_none (suc zero) low e = absurd (e refl)
-      low_none (suc (suc n)) low e = absurd (omega arith)

@@ -1,8 +1,9 @@
 -- A vertex more of a cotree: the first, or one beside others.
-use Rattle.std.proofs.Common.{◌≡◌, ℕ, ◌+◌, ◌<◌, ◌≤◌, ◌^◌, ◌↔◌, Bool, true, false, cond, ◌&&◌, ◌||◌, ◌==◌, List, [], ◌∷◌, length, set, slice_index_or, get_or, add-one, Result, Ok, Err, Option, Some, None, refl, sym, ◌∙◌, ap, subst, inl, inr, arith}
+use Rattle.std.proofs.Common.{◌≡◌, ◌≢◌, ℕ, ◌+◌, ◌<◌, ◌≤◌, ◌^◌, ◌↔◌, Bool, true, false, cond, ◌&&◌, ◌||◌, ◌==◌, List, [], ◌∷◌, length, set, slice_index_or, get_or, add-one, Result, Ok, Err, Option, Some, None, refl, sym, ◌∙◌, ap, subst, inl, inr, arith}
 use Rattle.std.proofs.lemmas.Bool.{cases_eq, cases_lt, false_from_ne_true, eq-eqb, eqb-true}
 use Rattle.std.proofs.lemmas.List.{length-set}
 use Rattle.std.proofs.lemmas.List.Elements.{All-head, All-tail}
+use Rattle.std.proofs.lemmas.Option.{same_Some}
 use Rattle.std.specs.Result.{OnOk, IsErr}
 use Rattle.std.specs.List.{All}
 use Rattle.std.specs.List.Sorted.{IsStrictlyIncreasing}
@@ -20,7 +21,7 @@ use Rattle.md_lists.specs.Words.{times, holds_once}
 use Rattle.md_lists.specs.Links.{Links, kind_at, AreLinks, with_kind, spare_count}
 use Rattle.md_tree.specs.TreeGraph.{graph_of_tree}
 use Rattle.md_cotree.specs.declared.cotree.Cotree.{Cotree}
-use Rattle.md_cotree.specs.PlaceTrees.{PlaceTree, tip, no_more, then, leaves_in, shape, Fits}
+use Rattle.md_cotree.specs.PlaceTrees.{PlaceTree, tip, no_more, then, place_of, leaves_in, leaf_count, shape, Fits}
 use Rattle.md_cotree.specs.Cotrees.{place_at, IsKeptAs, Denotes}
 use Rattle.md_cotree.specs.Forests.{IsForest}
 use Rattle.md_cotree.proofs.Frames.{hit, miss}
@@ -33,7 +34,7 @@ use Rattle.md_cotree.proofs.Rows.{leaves-joined}
 use Rattle.md_cotree.proofs.TreeGraphs.{some_graph}
 use Rattle.md_cotree_edit.specs.Counts.{name_in}
 use Rattle.md_cotree_edit.specs.Contexts.{AreKept}
-use Rattle.md_cotree_edit.specs.Marks.{CanTake, hits_in, none_walked, AreTold, AreStill, ClimbView, CanMarkAll, CanTakeIn, CanGrow, IsTaken, joined_graph}
+use Rattle.md_cotree_edit.specs.Marks.{CanTake, hits_in, full_in, none_walked, AreTold, AreStill, ClimbView, CanMarkAll, CanTakeIn, CanGrow, IsTaken, joined_graph}
 use Rattle.md_cotree_edit.proofs.Same.{SameTree, tree_name, tree_edge}
 use Rattle.md_cotree_edit.proofs.Keeping.{no_parent, same_root, from_fits, to_fits}
 use Rattle.md_cotree_edit.proofs.Told.{AreNamed, graph_in, counted_has, has_counted}
@@ -43,6 +44,10 @@ use Rattle.md_cotree_edit.proofs.Base.{few_leaves, kept_tips, kept_named, kept_r
 use Rattle.md_cotree_edit.proofs.Parted.{leaf_name}
 use Rattle.md_cotree_edit.proofs.Still.{kept_still, still_spare, still_same}
 use Rattle.md_cotree_edit.proofs.MarkedAll.{hits_none, hits_more}
+use Rattle.md_cotree_edit.proofs.Holes.{full_low}
+use Rattle.md_cotree_edit.proofs.Marked.{none_of_low, few_hits, full_of_hits, hits_of_full}
+use Rattle.md_cotree_edit.proofs.NewLeaf.{WholeBeside, taken_all}
+use Rattle.md_cotree_edit.proofs.Less.{leaves_few}
 
 -- ---- the first vertex
 
@@ -126,7 +131,7 @@ hits_listed (n ∷ ns) t there =
     omega arith
 
 module _ (c : Cotree) (x : ℕ) (ns : List ℕ) (t : PlaceTree) (can : CanGrow c x ns t) (ok : AreLinks c.lists) where
-  kept_lists : AreKept c.lists (then t no_more)
+  pub kept_lists : AreKept c.lists (then t no_more)
   kept_lists = from_fits c.lists t ok can.kept.fits
 
   pub grow_marks : (places : List (Option ℕ)) → places ≡ c.places.items → CanMarkAll c.lists places ns t
@@ -149,12 +154,31 @@ module _ (c : Cotree) (x : ℕ) (ns : List ℕ) (t : PlaceTree) (can : CanGrow c
   pub grow_fits : c.leaves + 1 < 2 ^ 32
   grow_fits = let e = can.kept.leaves in let low = few_leaves t (kept_named c t can.kept) in omega arith
 
+  pub grow_hits : hits_in (λ v. times v ns) t ≡ length ns
+  grow_hits = hits_listed ns t can.there
+
+  -- as many neighbours as leaves are all names
+  grow_all : length ns ≡ c.leaves → full_in (λ v. times v ns) t ≡ 1
+  grow_all all = full_of_hits (λ v. times v ns) can.different t (let e = grow_hits in let f = can.kept.leaves in omega arith)
+
+  grow_not_all : length ns ≢ c.leaves → full_in (λ v. times v ns) t ≡ 0
+  grow_not_all other =
+      none_of_low (full_in (λ v. times v ns) t) (full_low (λ v. times v ns) can.different t) (λ full. other
+      (let e = grow_hits in let f = can.kept.leaves in let g = hits_of_full (λ v. times v ns) can.different t full in omega arith))
+
+  pub grow_top : (top : ℕ) → c.root ≡ Some top → place_of t ≡ top
+  grow_top top is = same_Some (place_of t) top (sym can.kept.root ∙ is)
+
+  pub grow_joined : length ns ≡ c.leaves → (l : Links) (r : Option ℕ) (leaf : ℕ) →
+      WholeBeside true t l r leaf x → IsTaken l r (λ v. times v ns) x leaf t
+  grow_joined all l r leaf is = taken_all (λ v. times v ns) can.different t can.kept.alternates.0 (grow_all all) l r leaf x is
+
   module _ (k : Links) (still : AreStill c.lists k) (told : AreTold k (λ v. times v ns) none_walked t) where
     abbrev pub grow_view : ClimbView
     grow_view = record { marks = λ v. times v ns; tree = t }
 
-    pub grow_take : CanTakeIn k c.root x grow_view
-    grow_take = record {
+    pub grow_take : length ns ≢ c.leaves → CanTakeIn k c.root x grow_view
+    grow_take other = record {
       climb = record {
         kept = kept_still c.lists k (then t no_more) still kept_lists;
         told = told;
@@ -163,13 +187,11 @@ module _ (c : Cotree) (x : ℕ) (ns : List ℕ) (t : PlaceTree) (can : CanGrow c
       };
       root = can.kept.root;
       fresh = can.fresh;
+      not_all = grow_not_all other;
     }
 
     pub marked_room : 3 < spare_count k
     marked_room = subst (λ n. 3 < n) (sym (still_spare c.lists k still)) grow_room
-
-  pub grow_hits : hits_in (λ v. times v ns) t ≡ length ns
-  grow_hits = hits_listed ns t can.there
 
   pub grow_none : (none : Bool) → (none ≡ true) ↔ (length ns ≡ 0) → (none ≡ true) ↔ (hits_in (λ v. times v ns) t ≡ 0)
   grow_none none is = ((λ e. grow_hits ∙ is.0 e), (λ e. is.1 (sym grow_hits ∙ e)))
@@ -318,6 +340,15 @@ module _ (c : Cotree) (x : ℕ) (ns : List ℕ) (can : CanAdd c x ns) where
 
     to_graph : (g : PlainGraph) → Denotes c g → graph_in old_tree ≡ g
     to_graph g den = kept_t.2 ∙ one_graph c can.0 g can.1 den
+
+    -- as many neighbours as vertices are as many as leaves
+    pub all_leaves : (g : PlainGraph) → Denotes c g → length ns ≡ set_of.len g.vertices → length ns ≡ c.leaves
+    all_leaves g den all =
+        let few : leaf_count old_tree ≤ set_of.len g.vertices = subst (λ h. leaf_count old_tree ≤ set_of.len h.vertices) (to_graph g den) (leaves_few old_tree named) in
+        let low = few_hits (λ v. times v ns) can_grow.different old_tree in
+        let hits = hits_listed ns old_tree can_grow.there in
+        let leaves = kept_t.1.leaves in
+        omega arith
 
     pub grow_done : (d : Cotree) → Denotes d (joined_graph (graph_in old_tree) x ns) → (g : PlainGraph) → Denotes c g → Denotes d (joined_graph g x ns)
     grow_done d is g den = subst (λ h. Denotes d (joined_graph h x ns)) (to_graph g den) is

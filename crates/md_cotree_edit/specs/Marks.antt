@@ -246,17 +246,18 @@ pub record IsTaken (l : Links) (top : Option ℕ) (m : ℕ → ℕ) (x leaf : �
 
 -- ---- a new leaf below the lowest mixed node, or none
 
--- the lists keep a tree whose kinds alternate, from its root on, and tell which of its names are marked; x doesn't stand there
+-- the lists keep a tree whose kinds alternate, from its root on, and tell which of its names are marked, not all of them; x doesn't
+-- stand there
 pub record CanTakeIn (l : Links) (top : Option ℕ) (x : ℕ) (d : ClimbView) : Type 0 where
   pub climb : CanClimb l d
   pub root : top ≡ Some (place_of d.tree)
   pub fresh : name_in x d.tree ≡ 0
+  pub not_all : full_in d.marks d.tree ≡ 0
 
--- some of the names are marked, and not all
+-- some of the names are marked too
 pub record CanSettle (l : Links) (top : Option ℕ) (x : ℕ) (d : ClimbView) : Type 0 where
   pub take : CanTakeIn l top x d
   pub some : 0 < hits_in d.marks d.tree
-  pub not_all : full_in d.marks d.tree ≡ 0
 
 -- the cotree keeps the tree; a name isn't there, and others are, each once in a list
 pub record CanGrow (c : Cotree) (x : ℕ) (ns : List ℕ) (t : PlaceTree) : Type 0 where

@@ -1,5 +1,6 @@
 //! A vertex of the graph that a cotree denotes, added in place with its edges.
-ghost use Rattle.std.specs.Prelude.{◌≡◌, ℕ, ◌+◌, ◌*◌, ◌<◌, ◌≤◌, ◌↔◌, [], length, Some, None, IfSome, IsTrue, IsErr, OnOk, OnErr};
+ghost use Rattle.std.specs.Prelude.{◌≡◌, ◌≢◌, ℕ, ◌+◌, ◌*◌, ◌<◌, ◌≤◌, ◌↔◌, List, [], length, Some, None, IfSome, IsTrue, IsErr, OnOk, OnErr};
+ghost use Rattle.std.specs.FinSet as set;
 ghost use Rattle.std.specs.List.{All};
 ghost use Rattle.std.specs.List.Sorted.{IsStrictlyIncreasing};
 ghost use Rattle.md_graph.specs.declared.TheConstants.{NAMES};
@@ -18,7 +19,7 @@ ghost use Rattle.md_cotree_edit.specs.Marks.{ClimbView, CanSettle, CanTakeIn, Ca
 use crate::climbing::{climb, lowest};
 use crate::edges::NotCograph;
 use crate::lifting::join;
-use crate::marking::{FULL, clear, mark_all};
+use crate::marking::{clear, mark_all};
 use crate::relinking::relink;
 use md_cotree::Cotree;
 use md_graph::Steps;
@@ -43,6 +44,8 @@ pub fn add_vertex<L: Ledger>(
         (joined_graph g x neighbours.now).vertices }
     ensures same { OnErr result (tree.new ≡ tree.old) }
     ensures bound { steps.new ≤ steps.old + 23 + 74 * length neighbours.now }
+    ensures bound_all { (g : PlainGraph) → Denotes tree.old g →
+        length neighbours.now ≡ set.len g.vertices → steps.new ≤ steps.old + 6 }
 {
     match tree.root {
         None => {
@@ -83,6 +86,49 @@ fn grow<L: Ledger>(
         IsErr result → CanTake (λ v. times v neighbours.now) t → ⊥ }
     ensures same { OnErr result (tree.new ≡ tree.old) }
     ensures bound { steps.new ≤ steps.old + 23 + 74 * length neighbours.now }
+    ensures bound_all { length neighbours.now ≡ tree.old.leaves → steps.new ≤ steps.old + 6 }
+{
+    if neighbours.len() == tree.leaves as usize {
+        join_all(tree, top, x, steps);
+        return Ok(());
+    }
+    join_listed(tree, top, x, neighbours, steps)
+}
+
+// Adds a vertex joined to all that there are. No name is marked for that.
+fn join_all<L: Ledger>(tree: &mut Cotree, top: u32, x: u32, steps: &mut Steps<L>)
+    requires tree { (ns : List ℕ) × (t : PlaceTree) × CanGrow tree.old x ns t
+        × (length ns ≡ tree.old.leaves) }
+    requires top { tree.old.root ≡ Some top }
+    ensures done { (ns : List ℕ) (t : PlaceTree) → CanGrow tree.old x ns t →
+        length ns ≡ tree.old.leaves →
+        Denotes tree.new (joined_graph (graph_of_tree (Some (shape t))) x ns) }
+    ensures steps { steps.new ≤ steps.old + 6 }
+{
+    let _spare = tree.lists.spare();
+    let leaf = over_root(&mut tree.lists, &mut tree.root, top, x, true, steps);
+    tree.places[x as usize] = Some(leaf);
+    tree.leaves += 1;
+}
+
+// Adds a vertex joined to some of those that there are, or to none.
+fn join_listed<L: Ledger>(
+    tree: &mut Cotree,
+    top: u32,
+    x: u32,
+    neighbours: &[u32],
+    steps: &mut Steps<L>,
+) -> Result<(), NotCograph>
+    requires tree { (t : PlaceTree) × CanGrow tree.old x neighbours.now t }
+    requires top { tree.old.root ≡ Some top }
+    requires not_all { length neighbours.now ≢ tree.old.leaves }
+    ensures done { (t : PlaceTree) → CanGrow tree.old x neighbours.now t →
+        OnOk result (Denotes tree.new
+        (joined_graph (graph_of_tree (Some (shape t))) x neighbours.now)) }
+    ensures refused { (t : PlaceTree) → CanGrow tree.old x neighbours.now t →
+        IsErr result → CanTake (λ v. times v neighbours.now) t → ⊥ }
+    ensures same { OnErr result (tree.new ≡ tree.old) }
+    ensures bound { steps.new ≤ steps.old + 23 + 74 * length neighbours.now }
 {
     let _spare = tree.lists.spare();
     mark_all(&mut tree.lists, &tree.places, neighbours, steps);
@@ -95,9 +141,9 @@ fn grow<L: Ledger>(
     Ok(())
 }
 
-// A new leaf, joined to the marked names: beside the whole tree where none is marked or all are,
-// else below the lowest mixed node; none where the tree can't take it in, and then it stays. Nothing
-// is marked then.
+// A new leaf, joined to the marked names: beside the whole tree where none is marked, else below the
+// lowest mixed node; none where the tree can't take it in, and then it stays. Nothing is marked
+// then. Condition: not all names are marked.
 fn take_in<L: Ledger>(
     lists: &mut Lists,
     root: &mut Option<u32>,
@@ -127,9 +173,6 @@ fn take_in<L: Ledger>(
 {
     if none {
         return Some(over_root(lists, root, top, x, false, steps));
-    }
-    if lists.note(top, steps) == FULL {
-        return Some(over_root(lists, root, top, x, true, steps));
     }
     settle(lists, root, x, steps)
 }

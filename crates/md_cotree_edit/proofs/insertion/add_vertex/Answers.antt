@@ -1,6 +1,6 @@
 use Rattle.std.proofs.lemmas.Bool.{false≢true}
 use Rattle.std.proofs.lemmas.Result.{on_ok_weaker}
-use Rattle.md_cotree_edit.proofs.NewVertex.{err_of_not_ok, first_done, old_tree, can_grow, grow_done, refused_path, done_no_path}
+use Rattle.md_cotree_edit.proofs.NewVertex.{err_of_not_ok, first_done, old_tree, can_grow, grow_done, refused_path, done_no_path, all_leaves}
 use Rattle.md_cotree_edit.proofs.insertion.add_vertex.Goals as goal
 
 pub returns-in-None-clause-done : goal.returns-in-None-clause-done
@@ -32,3 +32,7 @@ returns-in-Some-clause-refused g c = λ h den.
           (on_ok_weaker c.grow.result (λ is. done_no_path c.grow.new.tree h c.args.x c.args.neighbours.now (grow_done c.args.tree.now c.args.x c.args.neighbours.now c.requires c.in-Some.top c.in-Some.is c.grow.new.tree is h den) path)
           (c.grow.ensures.done t can))),
     )
+
+pub returns-in-Some-clause-bound_all : goal.returns-in-Some-clause-bound_all
+returns-in-Some-clause-bound_all g c = λ h den all.
+    c.grow.ensures.bound_all (all_leaves c.args.tree.now c.args.x c.args.neighbours.now c.requires c.in-Some.top c.in-Some.is h den all)
