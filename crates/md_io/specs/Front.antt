@@ -15,13 +15,6 @@ pub record AppendsFront (old new : Option (List ℕ)) (piece : List ℕ) : Type 
 abbrev pub Begins : Option (List ℕ) → Option (List ℕ) → Type 0
 Begins front whole = (rest : List ℕ) × Appends front whole rest
 
--- known bytes grew by a piece but for its rest.
--- Source: a device that takes a part of a piece takes its beginning.
-pub record AppendsButRest (old new : Option (List ℕ)) (piece rest : List ℕ) : Type 0 where
-  pub part : List ℕ
-  pub whole : piece ≡ part ++ rest
-  pub appended : Appends old new part
-
 -- known bytes begin themselves with more behind
 pub begins_more : (front : Option (List ℕ)) (rest : List ℕ) → Begins front (append_known front rest)
 begins_more None rest = (rest, tt)

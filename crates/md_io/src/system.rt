@@ -4,7 +4,7 @@ ghost use Rattle.std.specs.Io.{ReadsAtMost, appended_bytes};
 ghost use Rattle.std.specs.Io.KnownBytes.{Appends, Keeps, Consumes, IsAtEnd};
 ghost use Rattle.md_io.specs.Told.{untold};
 ghost use Rattle.md_io.specs.Count.{count_up};
-ghost use Rattle.md_io.specs.Front.{AppendsFront, AppendsButRest, Begins};
+ghost use Rattle.md_io.specs.Front.{AppendsFront, Begins};
 ghost use Rattle.md_io.specs.Asked.{names};
 ghost use Rattle.md_io.specs.DirFiles.{IsSystemLoad, IsCountedRead};
 ghost use Rattle.md_io.specs.StdSink.{IsWriterPut};
@@ -237,21 +237,6 @@ fn write_once<W: Write>(writer: &mut W, piece: &[u8]) -> Option<usize>
     None
 }
 
-// Writes a piece until all of it is written or a write fails, and gives what is left of it.
-pub(crate) fn write_out<'a, W: Write>(writer: &mut W, piece: &'a [u8]) -> &'a [u8]
-    ensures written { AppendsButRest (W.contents writer.old) (W.contents writer.new) piece.now
-        result.now }
-{
-    let mut rest = piece;
-    while !rest.is_empty() {
-        let Some(n) = write_once(writer, rest) else {
-            return rest;
-        };
-        rest = &rest[n..];
-    }
-    rest
-}
-
 // Writes a whole piece, and says whether it was written.
 pub(crate) fn write_whole<W: Write>(writer: &mut W, piece: &[u8]) -> bool
     ensures whole { IsTrue result
@@ -259,7 +244,14 @@ pub(crate) fn write_whole<W: Write>(writer: &mut W, piece: &[u8]) -> bool
     ensures front { AppendsFront (W.contents writer.old) (W.contents writer.new) piece.now }
     ensures empty { length piece.now ≡ 0 → IsTrue result }
 {
-    write_out(writer, piece).is_empty()
+    let mut rest = piece;
+    while !rest.is_empty() {
+        let Some(n) = write_once(writer, rest) else {
+            return false;
+        };
+        rest = &rest[n..];
+    }
+    true
 }
 
 impl<W: Write + Drop> StdSink<W> {

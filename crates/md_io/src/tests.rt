@@ -230,9 +230,9 @@ impl Write for NotingWriter<'_> {
 }
 
 // How many of so many puts of ten bytes to a gathering sink are refused, and what its flush and a
-// put behind that answer, as text.
+// put of one byte behind that answer, as text.
 fn gathered(alloc: Global, writer: NotingWriter<'_>, puts: u64) -> Result<String, Fail> {
-    let mut sink = GatheringSink::new(alloc, writer);
+    let mut sink = GatheringSink::new(alloc, writer)?;
     let mut refused = 0u64;
     for _ in 0..puts {
         if sink.put(b"0123456789").is_err() {
@@ -240,7 +240,7 @@ fn gathered(alloc: Global, writer: NotingWriter<'_>, puts: u64) -> Result<String
         }
     }
     let flush = sink.flush();
-    let put = sink.put(b"a");
+    let put = sink.put(b"0");
     Ok(format!(in alloc; "{refused} {flush:?} {put:?}")?)
 }
 
@@ -249,14 +249,14 @@ fn gathers_small_puts(rt: HostRuntime) -> Result<(), Fail> {
     let alloc = rt.alloc();
     // Puts, writes that the writer takes; what they answer, the lengths of the writes.
     let table = [
-        (0, 9, "0 Ok(()) Ok(())", vec![in alloc; 0usize; 0]?),
-        (1, 9, "0 Ok(()) Ok(())", vec![in alloc; 10]?),
-        (3_276, 9, "0 Ok(()) Ok(())", vec![in alloc; 32_760]?),
+        (0, 9, "0 Ok(()) Ok(())", vec![in alloc; 1usize]?),
+        (1, 9, "0 Ok(()) Ok(())", vec![in alloc; 10, 1]?),
+        (3_276, 9, "0 Ok(()) Ok(())", vec![in alloc; 32_760, 1]?),
         (
             10_000,
             9,
             "0 Ok(()) Ok(())",
-            vec![in alloc; 32_760, 32_760, 32_760, 1_720]?,
+            vec![in alloc; 32_760, 32_760, 32_760, 1_720, 1]?,
         ),
         (
             1,
@@ -315,7 +315,7 @@ fn passes_large_puts_through(rt: HostRuntime) -> Result<(), Fail> {
             lengths: &mut lengths,
             most: 9,
         },
-    );
+    )?;
     sink.put(b"ab")?;
     sink.put(&vec![in alloc; b'c'; 40_000]?)?;
     sink.put(b"d")?;
