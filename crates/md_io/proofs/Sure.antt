@@ -19,6 +19,10 @@ sure-more faults loads now failing low e h =
 pub neither-fails : {X : Type 0} (by_number : Bool) (found : Option X) (x : X) → by_number ≡ false → Some x ≡ found → (by_number || is_none found) ≡ true → ⊥
 neither-fails by_number found x quiet is fails = grind (arith, quiet, is, fails)
 
--- a put whose number is not among the failing ones does not fail
-pub put-quiet : (some_byte by_number : Bool) → by_number ≡ false → (some_byte && by_number) ≡ true → ⊥
-put-quiet some_byte by_number quiet fails = grind (arith, quiet, fails)
+-- a put whose number is not among the failing ones does not fail where no flush failed
+pub put-quiet : (some_byte by_number broken : Bool) → by_number ≡ false → broken ≡ false → (some_byte && (by_number || broken)) ≡ true → ⊥
+put-quiet some_byte by_number broken quiet good fails = grind (arith, quiet, good, fails)
+
+-- nor does such a flush
+pub flush-quiet : (by_number broken : Bool) → by_number ≡ false → broken ≡ false → (by_number || broken) ≡ true → ⊥
+flush-quiet by_number broken quiet good fails = grind (arith, quiet, good, fails)

@@ -5,20 +5,21 @@
 //! and the names asked for.
 #![tactic(auto)]
 
-ghost use Rattle.std.specs.Prelude.{◌≡◌, ◌⊎◌, ℕ, ◌+◌, ◌-◌, ◌^◌, ◌<◌, ◌≤◌, List, [], ◌∷◌, ◌++◌, Bool, Option, Result, Vec, length, IsTrue, IsOk, IfOk, OnOk, IsErrOf};
+ghost use Rattle.std.specs.Prelude.{◌≡◌, ◌⊎◌, ℕ, ◌+◌, ◌-◌, ◌^◌, ◌<◌, ◌≤◌, List, [], ◌∷◌, ◌++◌, Bool, Option, Result, Vec, length, IsTrue, IsOk, IfOk, OnOk, OnErr, IsErrOf, IsOkUnless};
 ghost use Rattle.std.specs.Io.KnownBytes.{Appends, Keeps};
 ghost use Rattle.std.specs.Global.{Global};
 ghost use Rattle.md_io.specs.declared.LoadFault.{LoadFault};
 ghost use Rattle.md_io.specs.declared.PutFault.{PutFault};
 ghost use Rattle.md_io.specs.Told.{Told, IsToldAs, IsToldLonger, IsToldFile};
 ghost use Rattle.md_io.specs.Count.{count_up, Rose, RoseBy};
-ghost use Rattle.md_io.specs.Front.{AppendsFront};
+ghost use Rattle.md_io.specs.Front.{AppendsFront, Begins};
 
 use std::alloc::Global;
 use thiserror::Error;
 
 mod asked;
 mod failing;
+mod gathering_sink;
 pub mod laws;
 mod mem_files;
 mod mem_sink;
@@ -27,6 +28,7 @@ mod system;
 #[cfg(test)]
 mod tests;
 
+pub use gathering_sink::GatheringSink;
 pub use mem_files::MemFiles;
 pub use mem_sink::MemSink;
 pub use safe_sink::SafeSink;
@@ -49,10 +51,10 @@ pub enum LoadFault {
     Memory,
 }
 
-/// Why a put did not take its whole piece.
+/// Why a put did not take its whole piece, or a flush did not hand over all that was taken.
 #[derive(Debug, Drop, Error)]
 pub enum PutFault {
-    /// The device refused the piece, or took only a part of it.
+    /// The device refused the bytes, or took only a part of them.
     #[error("the output could not be written")]
     Failed,
     /// The sink's own memory ran out.
@@ -133,11 +135,15 @@ pub trait Files {
 
 /// Where output goes, piece by piece.
 ///
-/// Every count stands still at the last value of a `u64`; there "rose" says that it rose or stands
-/// at that value.
+/// A sink may keep bytes that it took, and hand them to its device later: after a flush the device
+/// has them all. Every count stands still at the last value of a `u64`; there "rose" says that it
+/// rose or stands at that value.
 pub trait Sink {
     // The bytes taken so far, where they are told.
     ghost holds: { Self → Option (List ℕ) };
+
+    // The bytes that have reached the device, where they are told.
+    ghost reached: { Self → Option (List ℕ) };
 
     // How often the device failed.
     ghost faults: { Self → ℕ };
@@ -145,12 +151,19 @@ pub trait Sink {
     // How often the sink's own memory ran out.
     ghost wants: { Self → ℕ };
 
+    // A flush failed: no byte that is put from here on is said to be taken.
+    ghost broken: { Self → Bool };
+
     // What else is known of a put at this type: before, the piece, the answer, after.
     ghost put_gives: { Self → List ℕ → Result (Unit {0}) PutFault → Self → Type 0 } = { λ _ _ _ _. Unit {0} };
 
+    // What else is known of a flush at this type: before, the answer, after.
+    ghost flush_gives: { Self → Result (Unit {0}) PutFault → Self → Type 0 } = { λ _ _ _. Unit {0} };
+
     /// Takes a whole piece, or as much of it as goes before the device fails.
     ///
-    /// An empty piece is no put: it is taken, and nothing is counted.
+    /// An empty piece is no put: it is taken, and nothing is counted. After a failed flush every
+    /// other piece is refused.
     fn put(&mut self, piece: &[u8]) -> Result<(), PutFault>
         // The whole piece, a beginning of it, or nothing.
         ensures ok { OnOk result (Appends (holds self.old) (holds self.new) piece.now) }
@@ -173,5 +186,33 @@ pub trait Sink {
 
         ensures empty { length piece.now ≡ 0 → IsOk result
             × (faults self.new ≡ faults self.old) × (wants self.new ≡ wants self.old) }
+
+        // A put neither makes a failed flush good nor is one.
+        ensures broken { IsTrue (broken self.old) → 0 < length piece.now → ¬ IsOk result }
+        ensures broken_stays { IsTrue (broken self.old) → IsTrue (broken self.new) }
         ensures gives { put_gives self.old piece.now result self.new };
+
+    /// Hands all that was taken to the device. It is no put.
+    ///
+    /// Where it fails, what has reached the device is a beginning of what was taken, and no later
+    /// put or flush makes that good.
+    fn flush(&mut self) -> Result<(), PutFault>
+        // Nothing is taken and nothing lost, and where it succeeds the device has it all.
+        ensures keeps { Keeps (holds self.old) (holds self.new) }
+        ensures ok { OnOk result (reached self.new ≡ holds self.new) }
+
+        // The device alone can fail, and a fault comes only where its count rose.
+        ensures only_failed { IsOkUnless result PutFault.Failed }
+        ensures failed { OnErr result (Rose (faults self.old) (faults self.new)) }
+        ensures faults_never_fall { faults self.old ≤ faults self.new }
+        ensures ok_faults { OnOk result (faults self.new ≡ faults self.old) }
+        ensures wants { wants self.new ≡ wants self.old }
+
+        // It fails for good.
+        ensures broken { OnErr result (IsTrue (broken self.new)) }
+        ensures broken_stays { IsTrue (broken self.old) → ¬ IsOk result }
+        ensures gives { flush_gives self.old result self.new };
+
+    // What has reached the device is a beginning of what was taken.
+    ghost begun: { (sink : Self) → Begins (reached sink) (holds sink) };
 }

@@ -1,14 +1,15 @@
 //! A sink in memory that never fails.
-ghost use Rattle.std.specs.Prelude.{◌≡◌, ℕ, ◌≤◌, List, [], ◌++◌, Option, None, Some, length, IsOk, OnOk, OnErr, IsErrOf, IsOkUnless};
+ghost use Rattle.std.specs.Prelude.{◌≡◌, ℕ, ◌<◌, ◌≤◌, List, [], ◌++◌, Bool, false, Option, None, Some, length, IsTrue, IsOk, OnOk, OnErr, IsErrOf, IsOkUnless};
 ghost use Rattle.std.specs.Io.KnownBytes.{Appends, Keeps};
 ghost use Rattle.md_io.specs.Count.{count_up, Rose};
-ghost use Rattle.md_io.specs.Front.{AppendsFront};
+ghost use Rattle.md_io.specs.Front.{AppendsFront, Begins};
 ghost use Rattle.md_io.specs.SafeSink.{IsSafePut};
 
 use crate::{PutFault, Sink};
 use std::alloc::Global;
 
-/// A sink in memory that never fails: every put takes its whole piece, or memory runs out.
+/// A sink in memory that never fails: every put takes its whole piece, or memory runs out. It keeps
+/// nothing back, so that every flush succeeds.
 #[derive(Drop)]
 pub struct SafeSink {
     content: Vec<u8>,
@@ -55,16 +56,30 @@ impl SafeSink {
 impl Sink for SafeSink {
     ghost holds = { λ sink. Some sink.content.items };
 
+    ghost reached = { λ sink. Some sink.content.items };
+
     ghost faults = { λ _. 0 };
 
     ghost wants = { λ sink. sink.wants };
 
+    ghost broken = { λ _. false };
+
     ghost put_gives = { IsSafePut };
+
+    ghost flush_gives = { λ _ answer _. IsOk answer };
+
+    ghost use Rattle.std.proofs.KnownBytes.{Appends-nil};
+
+    ghost begun = { λ sink. ([], Appends-nil (Some sink.content.items)) };
 
     fn put(&mut self, piece: &[u8]) -> Result<(), PutFault> {
         if piece.is_empty() {
             return Ok(());
         }
         append(&mut self.content, &mut self.wants, piece)
+    }
+
+    fn flush(&mut self) -> Result<(), PutFault> {
+        Ok(())
     }
 }

@@ -1,10 +1,10 @@
 //! Files of the system, and a sink over a writer.
-ghost use Rattle.std.specs.Prelude.{◌≡◌, ℕ, ◌+◌, ◌-◌, ◌^◌, ◌<◌, ◌≤◌, List, [], ◌++◌, Bool, false, Option, None, Some, length, take, drop, IsTrue, IfOk, OnOk, OnErr, IfSome, OnSome, IfNone, IsErrOf};
+ghost use Rattle.std.specs.Prelude.{◌≡◌, ℕ, ◌+◌, ◌-◌, ◌^◌, ◌<◌, ◌≤◌, List, [], ◌++◌, Bool, false, Option, None, Some, length, take, drop, IsTrue, IsOk, IfOk, OnOk, OnErr, IfSome, OnSome, IfNone, IsErrOf, IsOkUnless};
 ghost use Rattle.std.specs.Io.{ReadsAtMost, appended_bytes};
 ghost use Rattle.std.specs.Io.KnownBytes.{Appends, Keeps, Consumes, IsAtEnd};
 ghost use Rattle.md_io.specs.Told.{untold};
 ghost use Rattle.md_io.specs.Count.{count_up};
-ghost use Rattle.md_io.specs.Front.{AppendsFront};
+ghost use Rattle.md_io.specs.Front.{AppendsFront, Begins};
 ghost use Rattle.md_io.specs.Asked.{names};
 ghost use Rattle.md_io.specs.DirFiles.{IsSystemLoad, IsCountedRead};
 ghost use Rattle.md_io.specs.StdSink.{IsWriterPut};
@@ -31,13 +31,14 @@ pub struct DirFiles<'a, R> {
     overs: u64,
 }
 
-/// A sink over a writer, as standard output.
+/// A sink over a writer, as standard error: each put is written at once.
 ///
-/// It holds what its writer tells to hold, which is nothing for standard output.
+/// It holds what its writer tells to hold, which is nothing for standard error.
 #[derive(Drop)]
 pub struct StdSink<W> {
     writer: W,
     faults: u64,
+    broken: bool,
 }
 
 // One read, tried again where a signal interrupts it; none where it fails.
@@ -237,7 +238,7 @@ fn write_once<W: Write>(writer: &mut W, piece: &[u8]) -> Option<usize>
 }
 
 // Writes a whole piece, and says whether it was written.
-fn write_whole<W: Write>(writer: &mut W, piece: &[u8]) -> bool
+pub(crate) fn write_whole<W: Write>(writer: &mut W, piece: &[u8]) -> bool
     ensures whole { IsTrue result
         → Appends (W.contents writer.old) (W.contents writer.new) piece.now }
     ensures front { AppendsFront (W.contents writer.old) (W.contents writer.new) piece.now }
@@ -259,24 +260,49 @@ impl<W: Write + Drop> StdSink<W> {
         ensures holds { ⟦<StdSink<W> as Sink>⟧.holds result ≡ W.contents writer }
         ensures faults { ⟦<StdSink<W> as Sink>⟧.faults result ≡ 0 }
         ensures wants { ⟦<StdSink<W> as Sink>⟧.wants result ≡ 0 }
+        ensures broken { ⟦<StdSink<W> as Sink>⟧.broken result ≡ false }
     {
-        StdSink { writer, faults: 0 }
+        StdSink {
+            writer,
+            faults: 0,
+            broken: false,
+        }
     }
 }
 
 impl<W: Write + Drop> Sink for StdSink<W> {
     ghost holds = { λ sink. W.contents sink.writer };
 
+    ghost reached = { λ sink. W.contents sink.writer };
+
     ghost faults = { λ sink. sink.faults };
 
     ghost wants = { λ _. 0 };
 
+    ghost broken = { λ sink. sink.broken };
+
     ghost put_gives = { λ old _ answer new. IsWriterPut answer old.faults new.faults };
 
+    ghost use Rattle.std.proofs.KnownBytes.{Appends-nil};
+
+    ghost begun = { λ sink. ([], Appends-nil (W.contents sink.writer)) };
+
     fn put(&mut self, piece: &[u8]) -> Result<(), PutFault> {
-        if write_whole(&mut self.writer, piece) {
+        if piece.is_empty() {
             return Ok(());
         }
+        if !self.broken && write_whole(&mut self.writer, piece) {
+            return Ok(());
+        }
+        self.faults = self.faults.saturating_add(1);
+        Err(PutFault::Failed)
+    }
+
+    fn flush(&mut self) -> Result<(), PutFault> {
+        if !self.broken && self.writer.flush().is_ok() {
+            return Ok(());
+        }
+        self.broken = true;
         self.faults = self.faults.saturating_add(1);
         Err(PutFault::Failed)
     }

@@ -205,3 +205,142 @@ fn puts_to_a_writer(rt: HostRuntime) -> Result<(), Fail> {
     assert_eq!(rt; written.as_slice(), b"abcde".as_slice());
     Ok(())
 }
+
+// A writer that notes the length of each write, and fails once it took as many as it takes.
+#[derive(Drop)]
+struct NotingWriter<'a> {
+    written: &'a mut Vec<u8>,
+    lengths: &'a mut Vec<usize>,
+    most: usize,
+}
+
+impl Write for NotingWriter<'_> {
+    fn write(&mut self, piece: &[u8]) -> std::io::Result<usize> {
+        if self.lengths.len() >= self.most {
+            return Err(Error::from(ErrorKind::StorageFull));
+        }
+        self.lengths.push(piece.len())?;
+        self.written.extend_from_slice(piece)?;
+        Ok(piece.len())
+    }
+
+    fn flush(&mut self) -> std::io::Result<()> {
+        Ok(())
+    }
+}
+
+// How many of so many puts of ten bytes to a gathering sink are refused, and what its flush and a
+// put of one byte behind that answer, as text.
+fn gathered(alloc: Global, writer: NotingWriter<'_>, puts: u64) -> Result<String, Fail> {
+    let mut sink = GatheringSink::new(alloc, writer)?;
+    let mut refused = 0u64;
+    for _ in 0..puts {
+        if sink.put(b"0123456789").is_err() {
+            refused = refused.saturating_add(1);
+        }
+    }
+    let flush = sink.flush();
+    let put = sink.put(b"0");
+    Ok(format!(in alloc; "{refused} {flush:?} {put:?}")?)
+}
+
+#[test]
+fn gathers_small_puts(rt: HostRuntime) -> Result<(), Fail> {
+    let alloc = rt.alloc();
+    // Puts, writes that the writer takes; what they answer, the lengths of the writes.
+    let table = [
+        (0, 9, "0 Ok(()) Ok(())", vec![in alloc; 1usize]?),
+        (1, 9, "0 Ok(()) Ok(())", vec![in alloc; 10, 1]?),
+        (3_276, 9, "0 Ok(()) Ok(())", vec![in alloc; 32_760, 1]?),
+        (
+            10_000,
+            9,
+            "0 Ok(()) Ok(())",
+            vec![in alloc; 32_760, 32_760, 32_760, 1_720, 1]?,
+        ),
+        (
+            1,
+            0,
+            "0 Err(Failed) Err(Failed)",
+            vec![in alloc; 0usize; 0]?,
+        ),
+        (
+            3_300,
+            1,
+            "0 Err(Failed) Err(Failed)",
+            vec![in alloc; 32_760]?,
+        ),
+        (
+            6_553,
+            1,
+            "1 Err(Failed) Err(Failed)",
+            vec![in alloc; 32_760]?,
+        ),
+    ];
+    for (puts, most, answers, want) in table {
+        let mut written = Vec::new(alloc);
+        let mut lengths = Vec::new(alloc);
+        let writer = NotingWriter {
+            written: &mut written,
+            lengths: &mut lengths,
+            most,
+        };
+        let got = gathered(alloc, writer, puts)?;
+        assert_eq!(rt; got.as_str(), answers, "{puts} puts, {most} writes");
+        assert_eq!(rt;
+            lengths.as_slice(),
+            want.as_slice(),
+            "{puts} puts, {most} writes"
+        );
+        for (i, byte) in written.as_slice().iter().enumerate() {
+            assert_eq!(rt;
+                u64::from(*byte),
+                48 + i as u64 % 10,
+                "byte {i} of {puts} puts"
+            );
+        }
+    }
+    Ok(())
+}
+
+#[test]
+fn passes_large_puts_through(rt: HostRuntime) -> Result<(), Fail> {
+    let alloc = rt.alloc();
+    let mut written = Vec::new(alloc);
+    let mut lengths = Vec::new(alloc);
+    let mut sink = GatheringSink::new(
+        alloc,
+        NotingWriter {
+            written: &mut written,
+            lengths: &mut lengths,
+            most: 9,
+        },
+    )?;
+    sink.put(b"ab")?;
+    sink.put(&vec![in alloc; b'c'; 40_000]?)?;
+    sink.put(b"d")?;
+    sink.flush()?;
+    drop(sink);
+    assert_eq!(rt; lengths.as_slice(), [2, 40_000, 1].as_slice());
+    assert_eq!(rt; written.len(), 40_003);
+    assert_eq!(rt; &written[1..4], b"bcc".as_slice());
+    Ok(())
+}
+
+#[test]
+fn flushes_fail_for_good(rt: HostRuntime) -> Result<(), Fail> {
+    let alloc = rt.alloc();
+    let mut sink = MemSink::new(alloc, Vec::new(alloc), 0);
+    sink.fail_flushes(vec![in alloc; 2]?);
+    sink.put(b"ab")?;
+    sink.flush()?;
+    sink.put(b"c")?;
+    let second = sink.flush();
+    let put = sink.put(b"d");
+    let empty = sink.put(b"");
+    let third = sink.flush();
+    let got = format!(in alloc; "{second:?} {put:?} {empty:?} {third:?}")?;
+    assert_eq!(rt; got.as_str(), "Err(Failed) Err(Failed) Ok(()) Err(Failed)");
+    assert_eq!(rt; sink.bytes(), b"abc".as_slice());
+    Ok(())
+}

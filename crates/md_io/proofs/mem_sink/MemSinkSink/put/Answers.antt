@@ -4,10 +4,10 @@ use Rattle.std.proofs.Common.{rules, sym, take, drop, take-append-drop}
 use Rattle.md_io.proofs.Sure.{put-quiet}
 use Rattle.md_io.proofs.mem_sink.MemSinkSink.put.Goals as goal
 
-pub returns-then-not-fails-clause-gives : goal.returns-then-not-fails-clause-gives
-returns-then-not-fails-clause-gives c = record {
+pub returns-then-not-self-clause-gives : goal.returns-then-not-self-clause-gives
+returns-then-not-self-clause-gives c = record {
   failed_only = search rules;
-  failed_always = λ fails. absurd (put-quiet _ _ (rw c.as_slice.ensures.value at (sym c.if-not-fails.ensures)) fails);
+  failed_always = λ fails. absurd (put-quiet _ _ _ (rw c.as_slice.ensures.value at (sym c.if-not-fails.ensures)) c.if-not-self.true fails);
   failed_part = search rules;
   fault = search rules;
   no_fault = search rules;
@@ -15,6 +15,9 @@ returns-then-not-fails-clause-gives c = record {
   counted = search rules;
   same_failing = search rules;
   same_part = search rules;
+  same_failing_flushes = search rules;
+  same_flushes = search rules;
+  same_broken = search rules;
 }
 
 pub returns-clause-failed_front : goal.returns-clause-failed_front
