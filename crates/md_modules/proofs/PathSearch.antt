@@ -1,21 +1,24 @@
 -- The search for an induced path with a given vertex.
-use Rattle.std.proofs.Common.{◌≡◌, ℕ, ◌<◌, ◌≤◌, Bool, true, false, not, IsTrue, ◌↔◌, ◌≢◌, List, ◌∷◌, refl, sym, ◌∙◌, ap, subst, inl, inr, arith}
-use Rattle.std.proofs.lemmas.Bool.{cases_lt, false_from_ne_true}
+use Rattle.std.proofs.Common.{◌≡◌, ℕ, ◌<◌, ◌≤◌, Bool, true, false, not, IsTrue, ◌↔◌, ◌≢◌, ◌⊎◌, List, [], ◌∷◌, refl, sym, ◌∙◌, ap, subst, inl, inr, arith}
+use Rattle.std.proofs.lemmas.Bool.{cases_lt, cases_Bool, false_from_ne_true}
 use Rattle.std.specs.Prelude.{Option, Some, None, IfSome, IfNone}
-use Rattle.std.specs.FinSet.{contains, empty, union, difference, intersection}
+use Rattle.std.specs.FinSet.{contains, empty, remove, union, difference, intersection}
 use Rattle.md_graph.specs.NameSet.{NoneFrom, IsLeastFrom}
 use Rattle.md_graph.specs.PlainGraph.{PlainGraph, IsGraph, adjacent, neighbours}
 use Rattle.md_graph.proofs.GraphLemmas.{adjacent_sym, adjacent_self, adjacent_ends, contains-neighbours}
-use Rattle.md_graph.specs.Sets.{NameSet, Has, Lacks, Within}
+use Rattle.md_graph.specs.Sets.{NameSet, Has, Lacks, Within, Disjoint}
 use Rattle.md_modules.specs.Adjacency.{IsAdjacency}
 use Rattle.md_modules.specs.Kinds.{IsSplit}
 use Rattle.md_modules.specs.Components.{IsComponent}
 use Rattle.md_modules.specs.InducedPaths.{IsInducedPath, HasPathEdges, IsOneOf, IsInducedPathWith}
-use Rattle.md_modules.specs.PathSearch.{ToldApart, IsPathOf}
+use Rattle.md_modules.specs.PathSearch.{ToldApart, IsPathOf, IsSide, IsMet}
+use Rattle.md_modules.specs.Classes.{IsSplitter}
+use Rattle.md_modules.specs.Seen.{seen_as}
 use Rattle.md_modules.specs.declared.induced_paths.P4.{P4}
-use Rattle.md_graph.proofs.SetLemmas.{clash, empty_lacks, union_left, union_right, of_union, meet_has, of_meet, of_meet_lacks, minus_has, of_minus, of_minus_lacks, Has-along, none_lacks}
-use Rattle.md_modules.proofs.Components.{closed_follow, component_unsplit, crossing_pair}
-use Rattle.md_graph.proofs.Walks.{Walked, Walked-more, Walked-map}
+use Rattle.md_graph.proofs.SetLemmas.{clash, empty_if, union_left, union_right, of_union, meet_has, of_meet, minus_has, of_minus, of_minus_lacks, remove_left, of_remove, Has-along, none_lacks}
+use Rattle.md_modules.proofs.Components.{not_own, closed_follow, component_unsplit, crossing_pair}
+use Rattle.md_modules.proofs.Turns.{SeenAs, seen_all}
+use Rattle.md_graph.proofs.Walks.{Walked, Walked-item, Walked-more, Walked-map, Walked-end}
 
 -- ---- options
 
@@ -121,41 +124,58 @@ module _ {g : PlainGraph} (is_graph : IsGraph g) where
   pub vertex : (u v : ℕ) → adjacent g u v ≡ true → Has g.vertices v
   vertex u v h = (adjacent_ends is_graph u v h).1
 
-  module _ (x : ℕ) (vertices near far : NameSet) (is_vertices : vertices ≡ g.vertices) (is_near : near ≡ neighbours g x) (is_far : far ≡ difference vertices near) where
-    of_far : (z : ℕ) → Has far z → Has g.vertices z × (adjacent g x z ≡ false)
-    of_far z h =
-        let parts = of_minus vertices near z (Has-along far _ is_far z h) in
-        (Has-along vertices g.vertices is_vertices z parts.0, sym (near_is x near is_near z) ∙ parts.1)
+  -- ---- the two sides of x
 
-    far_has : (z : ℕ) → Has g.vertices z → adjacent g x z ≡ false → Has far z
-    far_has z h apart =
-        Has-along _ far (sym is_far) z (minus_has vertices near z (Has-along g.vertices vertices (sym is_vertices) z h) (near_is x near is_near z ∙ apart))
+  pub near_side : (x : ℕ) (near : NameSet) → near ≡ neighbours g x → IsSide g x true near
+  near_side x near is_near = record {
+    inside = λ z h. vertex x z (sym (near_is x near is_near z) ∙ h);
+    alike = λ z h. sym (near_is x near is_near z) ∙ h;
+    all = λ z h other sees. near_is x near is_near z ∙ sees;
+  }
 
-    pub far_inside : Within far g.vertices
-    far_inside z h = (of_far z h).0
+  pub far_side : (x : ℕ) (vertices near others far : NameSet) → vertices ≡ g.vertices → near ≡ neighbours g x → others ≡ difference vertices near → far ≡ remove others x → IsSide g x false far
+  far_side x vertices near others far is_vertices is_near is_others is_far = record {
+    inside = λ z h. Has-along vertices g.vertices is_vertices z (parts z h).0;
+    alike = λ z h. sym (near_is x near is_near z) ∙ (parts z h).1;
+    all = λ z h other misses.
+        Has-along _ far (sym is_far) z (remove_left others x z other (Has-along _ others (sym is_others) z
+        (minus_has vertices near z (Has-along g.vertices vertices (sym is_vertices) z h) (near_is x near is_near z ∙ misses))));
+  }
+    where
+      parts : (z : ℕ) → Has far z → Has vertices z × Lacks near z
+      parts z h = of_minus vertices near z (Has-along others _ is_others z (of_remove others x z (Has-along far _ is_far z h)).1)
 
-    pub far_apart : (z : ℕ) → Has far z → adjacent g x z ≡ false
-    far_apart z h = (of_far z h).1
+  pub sides_apart : (x : ℕ) (value : Bool) (part others : NameSet) → ((z : ℕ) → Has part z → adjacent g x z ≡ value) → ((o : ℕ) → Has others o → adjacent g x o ≡ not value) → Disjoint part others
+  sides_apart x value part others alike across z h = false_from_ne_true _ (λ k. not_own (adjacent g x z) value (alike z h) (across z k))
 
-    pub near_seen : (z : ℕ) → Has near z → adjacent g x z ≡ true
-    near_seen z h = sym (near_is x near is_near z) ∙ h
+  -- no one of others tells apart two of names that are to each other as value doesn't say
+  abbrev NoneTold : Bool → NameSet → NameSet → Type 0
+  NoneTold value names others =
+      (o m z : ℕ) → Has others o → Has names m → Has names z → adjacent g m z ≡ not value → ToldApart g o m z → ⊥
 
-    pub near_inside : Within near g.vertices
-    near_inside z h = vertex x z (near_seen z h)
+  abbrev NoPath : ℕ → Type 0
+  NoPath x = (a b c d : ℕ) → IsInducedPathWith (adjacent g) g.vertices x a b c d → ⊥
 
-    near_has : (z : ℕ) → adjacent g x z ≡ true → Has near z
-    near_has z h = near_is x near is_near z ∙ h
+  no_path_at : (x : ℕ) (near far : NameSet) → IsSide g x true near → IsSide g x false far → NoneTold false far near → NoneTold true near far → NoPath x
+  no_path_at x near far is_near is_far outer inner =
+      no_path_with x
+      (λ b c d is. outer b c d (near_has b is.edges.0)
+      (is_far.all c (vertex b c is.edges.1) (told_apart (adjacent g) c x d is.edges.2 is.apart.1) is.apart.0)
+      (is_far.all d (vertex c d is.edges.2) (told_apart (adjacent g) d x c (adjacent_sym g d c ∙ is.edges.2) is.apart.0) is.apart.1)
+      is.edges.2 (record { sees = is.edges.1; misses = is.apart.2 }))
+      (λ a b c is. inner c b a
+      (is_far.all c (vertex b c is.edges.2) (λ same. told_apart (adjacent g) x c a (adjacent_sym g x a ∙ is.edges.0) (adjacent_sym g c a ∙ is.apart.1) (sym same)) is.apart.2)
+      (near_has b is.edges.1) (near_has a (adjacent_sym g x a ∙ is.edges.0)) (adjacent_sym g b a ∙ is.apart.0)
+      (record { sees = adjacent_sym g c b ∙ is.edges.2; misses = adjacent_sym g c a ∙ is.apart.1 }))
+    where
+      near_has : (z : ℕ) → adjacent g x z ≡ true → Has near z
+      near_has z sees = is_near.all z (vertex x z sees) (λ same. (adjacent_ends is_graph x z sees).2 (sym same)) sees
 
-    -- where no neighbour of x tells apart two others that are adjacent, and no other two neighbours that aren't, no path holds x
-    pub no_path_at : ((o m z : ℕ) → Has near o → Has far m → Has far z → adjacent g m z ≡ true → ToldApart g o m z → ⊥) →
-        ((o m z : ℕ) → Has far o → Has near m → Has near z → adjacent g m z ≡ false → ToldApart g o m z → ⊥) →
-        (a b c d : ℕ) → IsInducedPathWith (adjacent g) g.vertices x a b c d → ⊥
-    no_path_at first second =
-        no_path_with x
-        (λ b c d is. first b c d (near_has b is.edges.0) (far_has c (vertex b c is.edges.1) is.apart.0) (far_has d (vertex c d is.edges.2) is.apart.1) is.edges.2
-        (record { sees = is.edges.1; misses = is.apart.2 }))
-        (λ a b c is. second c b a (far_has c (vertex b c is.edges.2) is.apart.2) (near_has b is.edges.1) (near_has a (adjacent_sym g x a ∙ is.edges.0)) (adjacent_sym g b a ∙ is.apart.0)
-        (record { sees = adjacent_sym g c b ∙ is.edges.2; misses = adjacent_sym g c a ∙ is.apart.1 }))
+  -- where neither side tells apart two of one part of the other side, no path holds x
+  pub no_path_by_sides : (x : ℕ) (value : Bool) (first second : NameSet) → IsSide g x value first → IsSide g x (not value) second →
+      NoneTold value first second → NoneTold (not value) second first → NoPath x
+  no_path_by_sides x true first second is_first is_second by_first by_second = no_path_at x first second is_first is_second by_second by_first
+  no_path_by_sides x false first second is_first is_second by_first by_second = no_path_at x second first is_second is_first by_first by_second
 
   pub adjacency : IsAdjacency (adjacent g)
   adjacency = record { symmetric = adjacent_sym g; irreflexive = adjacent_self is_graph }
@@ -164,85 +184,114 @@ module _ {g : PlainGraph} (is_graph : IsGraph g) where
   part_whole names part value y is = component_unsplit adjacency names part value y is
 
   -- a name that tells two of a part apart tells two apart that are to each other as value doesn't say
-  pub no_telling : (part : NameSet) (value : Bool) (o : ℕ) → ((a : NameSet) → IsSplit (adjacent g) part a value → ⊥) →
-      (m : ℕ) × Has part m × (adjacent g m o ≡ true) → (z : ℕ) × Has part z × (adjacent g z o ≡ false) →
+  pub no_telling : (part others : NameSet) (value : Bool) (o : ℕ) → ((a : NameSet) → IsSplit (adjacent g) part a value → ⊥) → IsSplitter (adjacent g) others part o →
       ((m z : ℕ) → Has part m → Has part z → adjacent g m z ≡ not value → ToldApart g o m z → ⊥) → ⊥
-  no_telling part value o whole one other none =
-      let pair = crossing_pair part value (λ z. adjacent g o z) one.0 other.0 whole one.1 other.1 (adjacent_sym g o one.0 ∙ one.2) (adjacent_sym g o other.0 ∙ other.2) in
+  no_telling part others value o whole tells none =
+      let pair = crossing_pair part value (λ z. adjacent g o z) tells.sees.0 tells.misses.0 whole tells.sees.1 tells.misses.1 tells.sees.2 tells.misses.2 in
       none pair.0 pair.1 pair.2 pair.3 pair.6 (record { sees = pair.4; misses = pair.5 })
+
+  -- where no name tells two of a part apart
+  pub none_tells : (part others : NameSet) → Disjoint part others → ((o : ℕ) → IsSplitter (adjacent g) others part o → ⊥) →
+      (o m z : ℕ) → Has others o → Has part m → Has part z → ToldApart g o m z → ⊥
+  none_tells part others apart none o m z ho hm hz told = none o (record {
+    inside = ho;
+    outside = false_from_ne_true _ (λ h. clash ho (apart o h));
+    sees = (m, hm, told.sees);
+    misses = (z, hz, told.misses);
+  })
 
 -- ---- the search over the parts
 
--- no one of others tells apart two names, the first of them searched, that are to each other as value doesn't say
+-- no one of others tells apart two names in parts searched that are to each other as value doesn't say
 pub record Searched (g : PlainGraph) (names others : NameSet) (value : Bool) (left : NameSet) : Type 0 where
   pub inside : Within left names
-  pub done : (o m z : ℕ) → Has others o → Has names m → Lacks left m → Has names z → adjacent g m z ≡ not value → ToldApart g o m z → ⊥
+  pub done : (o m z : ℕ) → Has others o → Has names m → Lacks left m → Has names z → Lacks left z → adjacent g m z ≡ not value → ToldApart g o m z → ⊥
+
+-- one of two names that are told apart is met
+pub Searched-start : (g : PlainGraph) (names others : NameSet) (value : Bool) (left : NameSet) → Within left names → ((z : ℕ) → IsMet g names others value z → Has left z) →
+    Searched g names others value left
+Searched-start g names others false left inside met = record {
+  inside = inside;
+  done = λ o m z ho hm lacks hz other mz told. clash (met m (record { inside = hm; by = (o, ho, told.sees) })) lacks;
+}
+Searched-start g names others true left inside met = record {
+  inside = inside;
+  done = λ o m z ho hm other hz lacks mz told. clash (met z (record { inside = hz; by = (o, ho, told.misses) })) lacks;
+}
 
 pub Searched-more : (g : PlainGraph) (names others : NameSet) (value : Bool) (left part rest : NameSet) (y : ℕ) → Searched g names others value left →
     IsComponent (adjacent g) names y part value → rest ≡ difference left part →
     ((o m z : ℕ) → Has others o → Has part m → Has part z → ToldApart g o m z → ⊥) → Searched g names others value rest
 Searched-more g names others value left part rest y before is is_rest none = record {
   inside = λ z h. before.inside z (of_minus left part z (Has-along rest _ is_rest z h)).0;
-  done = λ o m z ho hm lacks hz mz told. elim (of_minus_lacks left part m (ap (λ s. contains s m) (sym is_rest) ∙ lacks)) [
-    | inl old ↦ before.done o m z ho hm old hz mz told
+  done = λ o m z ho hm lacks_m hz lacks_z mz told. elim (gone m lacks_m) [
+    | inl old ↦ elim (gone z lacks_z) [
+      | inl same ↦ before.done o m z ho hm old hz same mz told
+      | inr new ↦ none o m z ho (closed_follow names part value is.closed z m new hm (adjacent_sym g z m ∙ mz)) new told
+    ]
     | inr new ↦ none o m z ho new (closed_follow names part value is.closed m z new hz mz) told
   ];
 }
+  where
+    gone : (w : ℕ) → Lacks rest w → Lacks left w ⊎ Has part w
+    gone w lacks = of_minus_lacks left part w (ap (λ s. contains s w) (sym is_rest) ∙ lacks)
 
-pub none_here : (s : NameSet) → NoneFrom s 0 → (w : ℕ) → Has s w → ⊥
-none_here s none w h = let low : w < 0 = none w h in omega arith
+-- ---- the names that are met
 
--- ---- who tells members of a part apart
+-- those that an earlier one of others meets have gone from left to met
+pub record Meeting (g : PlainGraph) (names others : NameSet) (value : Bool) (left met : NameSet) (to_come : List ℕ) : Type 0 where
+  pub walked : Walked others to_come (λ o. (z : ℕ) → Has left z → adjacent g o z ≡ not value → ⊥)
+  pub whole : (z : ℕ) → Has names z → Has left z ⊎ Has met z
+  pub inside : Within left names
+  pub only : (z : ℕ) → Has met z → IsMet g names others value z
 
--- o is in some where m sees it, and not in all where m doesn't
-pub record IsCounted (g : PlainGraph) (some all : NameSet) (m : ℕ) : Type 0 where
-  pub seen : (o : ℕ) → adjacent g m o ≡ true → Has some o
-  pub missed : (o : ℕ) → adjacent g m o ≡ false → Lacks all o
-
-pub record Telling (g : PlainGraph) (part others some all : NameSet) (left : List ℕ) : Type 0 where
-  pub walked : Walked part left (IsCounted g some all)
-  pub some_of : (o : ℕ) → Has some o → (m : ℕ) × Has part m × (adjacent g m o ≡ true)
-  pub all_of : (o : ℕ) → Has others o → Lacks all o → (z : ℕ) × Has part z × (adjacent g z o ≡ false)
-
-pub Telling-start : (g : PlainGraph) (part others some all : NameSet) (left : List ℕ) → some ≡ empty → all ≡ others → Walked part left (IsCounted g some all) → Telling g part others some all left
-Telling-start g part others some all left is_some is_all walked = record {
+pub Meeting-start : (g : PlainGraph) (names others : NameSet) (value : Bool) (left met : NameSet) (to_come : List ℕ) → left ≡ names → met ≡ empty → Walked others to_come (λ o. (z : ℕ) → Has left z → adjacent g o z ≡ not value → ⊥) →
+    Meeting g names others value left met to_come
+Meeting-start g names others value left met to_come is_left is_met walked = record {
   walked = walked;
-  some_of = λ o h. clash (Has-along some empty is_some o h) (empty_lacks o);
-  all_of = λ o h l. clash (Has-along others all (sym is_all) o h) l;
+  whole = λ z h. inl (Has-along names left (sym is_left) z h);
+  inside = Has-along left names is_left;
+  only = λ z h. clash h (empty_if met is_met z);
 }
 
-pub Telling-more : {g : PlainGraph} → IsGraph g → (part others some all some' all' row : NameSet) (left : List ℕ) → Telling g part others some all left →
-    (m : ℕ) (rest : List ℕ) → left ≡ m ∷ rest → Has part m → row ≡ neighbours g m → some' ≡ union some row → all' ≡ intersection all row → Telling g part others some' all' rest
-Telling-more {g} is_graph part others some all some' all' row left before m rest steps hm is_row is_some is_all = record {
-  walked = Walked-more (Walked-map before.walked (λ w counted. record {
-    seen = λ o h. Has-along _ some' (sym is_some) o (union_left some row o (counted.seen o h));
-    missed = λ o h. all_lacks o (λ k. clash k.0 (counted.missed o h));
-  })) m rest steps (record {
-    seen = λ o h. Has-along _ some' (sym is_some) o (union_right some row o (near_is is_graph m row is_row o ∙ h));
-    missed = λ o h. all_lacks o (λ k. clash k.1 (near_is is_graph m row is_row o ∙ h));
-  });
-  some_of = λ o h. elim (of_union some row o (Has-along some' _ is_some o h)) [
-    | inl old ↦ before.some_of o old
-    | inr new ↦ (m, hm, sym (near_is is_graph m row is_row o) ∙ new)
+pub Meeting-more : {g : PlainGraph} → IsGraph g → (names others : NameSet) (value : Bool) (left met left' met' : NameSet) (to_come : List ℕ) → Meeting g names others value left met to_come →
+    (o : ℕ) (rest : List ℕ) → to_come ≡ o ∷ rest → left' ≡ difference left (seen_as g o (not value) left) → met' ≡ union met (seen_as g o (not value) left) →
+    Meeting g names others value left' met' rest
+Meeting-more {g} is_graph names others value left met left' met' to_come before o rest steps is_left is_met = record {
+  walked = Walked-more (Walked-map before.walked (λ w none z h. none z (of_left z h).0)) o rest steps
+      (λ z h sees. clash (seen.0 z (of_left z h).0 sees) (of_left z h).1);
+  whole = λ z h. elim (before.whole z h) [
+    | inl stays ↦ elim (cases_Bool (contains (seen_as g o (not value) left) z)) [
+      | inl t ↦ inr (Has-along _ met' (sym is_met) z (union_right met (seen_as g o (not value) left) z t))
+      | inr f ↦ inl (Has-along _ left' (sym is_left) z (minus_has left (seen_as g o (not value) left) z stays f))
+    ]
+    | inr old ↦ inr (Has-along _ met' (sym is_met) z (union_left met (seen_as g o (not value) left) z old))
   ];
-  all_of = λ o h l. elim (of_meet_lacks all row o (ap (λ s. contains s o) (sym is_all) ∙ l)) [
-    | inl old ↦ before.all_of o h old
-    | inr new ↦ (m, hm, sym (near_is is_graph m row is_row o) ∙ new)
+  inside = λ z h. before.inside z (of_left z h).0;
+  only = λ z h. elim (of_union met (seen_as g o (not value) left) z (Has-along met' _ is_met z h)) [
+    | inl old ↦ before.only z old
+    | inr new ↦ record {
+      inside = before.inside z (seen.1 z new).0;
+      by = (o, Walked-item before.walked o rest steps, (seen.1 z new).1);
+    }
   ];
 }
   where
-    all_lacks : (o : ℕ) → (Has all o × Has row o → ⊥) → Lacks all' o
-    all_lacks o none = false_from_ne_true _ (λ h. none (of_meet all row o (Has-along all' _ is_all o h)))
+    seen : SeenAs is_graph o (not value) left (seen_as g o (not value) left)
+    seen = seen_all is_graph o (not value) left
 
-module _ (others some all told : NameSet) (is_told : told ≡ difference (intersection others some) all) where
-  pub of_told : (o : ℕ) → Has told o → Has others o × Has some o × Lacks all o
-  of_told o h =
-      let outer = of_minus (intersection others some) all o (Has-along told _ is_told o h) in
-      let inner = of_meet others some o outer.0 in
-      (inner.0, inner.1, outer.1)
+    of_left : (z : ℕ) → Has left' z → Has left z × Lacks (seen_as g o (not value) left) z
+    of_left z h = of_minus left (seen_as g o (not value) left) z (Has-along left' _ is_left z h)
 
-  pub told_has : (o : ℕ) → Has others o → Has some o → Lacks all o → Has told o
-  told_has o h k l = Has-along _ told (sym is_told) o (minus_has (intersection others some) all o (meet_has others some o h k) l)
+pub Meeting-end : (g : PlainGraph) (names others : NameSet) (value : Bool) (left met : NameSet) (to_come : List ℕ) → Meeting g names others value left met to_come →
+    (rest : List ℕ) → (to_come ≡ []) × (rest ≡ []) → (z : ℕ) → Has met z ↔ IsMet g names others value z
+Meeting-end g names others value left met to_come is rest steps z = (
+  is.only z,
+  λ met_by. elim (is.whole z met_by.inside) [
+    | inl stays ↦ absurd (Walked-end is.walked rest steps met_by.by.0 met_by.by.1 z stays met_by.by.2)
+    | inr has ↦ has
+  ],
+)
 
 -- ---- the members that one name sees
 

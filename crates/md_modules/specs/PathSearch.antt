@@ -2,7 +2,7 @@
 -- Source: an induced path with a given vertex, by the components of its neighbours and of the other
 -- vertices.
 use Rattle.std.specs.Prelude.{◌≡◌, ◌≢◌, ◌<◌, ◌≤◌, ℕ, Bool, not, true, false}
-use Rattle.md_graph.specs.Sets.{Has}
+use Rattle.md_graph.specs.Sets.{NameSet, Has, Within}
 use Rattle.md_graph.specs.PlainGraph.{PlainGraph, adjacent}
 use Rattle.md_modules.specs.declared.induced_paths.P4.{P4}
 
@@ -10,6 +10,17 @@ use Rattle.md_modules.specs.declared.induced_paths.P4.{P4}
 pub record ToldApart (g : PlainGraph) (o m z : ℕ) : Type 0 where
   pub sees : adjacent g o m ≡ true
   pub misses : adjacent g o z ≡ false
+
+-- side has the vertices other than x that x sees (the value is true), or that it doesn't see
+pub record IsSide (g : PlainGraph) (x : ℕ) (value : Bool) (side : NameSet) : Type 0 where
+  pub inside : Within side g.vertices
+  pub alike : (z : ℕ) → Has side z → adjacent g x z ≡ value
+  pub all : (z : ℕ) → Has g.vertices z → z ≢ x → adjacent g x z ≡ value → Has side z
+
+-- z is one of names, and one of others is to it as the value doesn't say
+pub record IsMet (g : PlainGraph) (names others : NameSet) (value : Bool) (z : ℕ) : Type 0 where
+  pub inside : Has names z
+  pub by : (o : ℕ) × Has others o × (adjacent g o z ≡ not value)
 
 -- p is a, b, c, d in this order, or turned round where d is the smaller end
 pub record IsPathOf (p : P4) (a b c d : ℕ) : Type 0 where

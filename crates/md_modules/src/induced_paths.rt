@@ -1,12 +1,14 @@
 //! Induced paths on four vertices.
 ghost use Rattle.std.specs.Prelude.{◌≡◌, ℕ, ◌<◌, ◌↔◌, true, false, not, IsTrue, IfSome, IfNone};
-ghost use Rattle.md_graph.specs.Sets.{NameSet, Has, Within};
+ghost use Rattle.md_graph.specs.Sets.{NameSet, Has, Within, HasSome};
 ghost use Rattle.md_graph.specs.PlainGraph.{adjacent, IsGraph};
 ghost use Rattle.md_modules.specs.Kinds.{IsSplit};
 ghost use Rattle.md_modules.specs.Components.{IsComponent};
 ghost use Rattle.md_modules.specs.InducedPaths.{IsInducedPath, HasInducedPath, HasPathEdges, IsInducedPathWith};
-ghost use Rattle.md_modules.specs.PathSearch.{ToldApart, IsPathOf};
+ghost use Rattle.md_modules.specs.PathSearch.{ToldApart, IsPathOf, IsSide, IsMet};
 
+use crate::refinement::splitter_of_few;
+use crate::shared::move_seen;
 use crate::{co_component, component};
 use md_graph::{Graph, NAMES, Names};
 
@@ -30,7 +32,9 @@ pub fn is_p4(graph: &Graph, p: &P4) -> bool
 }
 
 /// An induced path on four vertices that holds `x`; `None` exactly where there is none. It takes no
-/// memory, and a fixed number of row operations for each vertex. Condition: `x` is a vertex.
+/// memory, and at most a fixed number of row operations for each vertex: some for each vertex of the
+/// smaller side, those that `x` sees or the others, and of the other side for each in a part that
+/// one of the smaller side meets. Condition: `x` is a vertex.
 pub fn find_p4_with(graph: &Graph, x: u32) -> Option<P4>
     requires { Has graph.now.vertices x }
     ensures found { IfSome result (λ p.
@@ -41,11 +45,12 @@ pub fn find_p4_with(graph: &Graph, x: u32) -> Option<P4>
 {
     let vertices = graph.vertices();
     let near = graph.row(x);
-    let far = vertices.minus(near);
-    if let Some(p) = path_by_parts(graph, x, &far, near, false) {
-        return Some(p);
+    let mut far = vertices.minus(near);
+    far.remove(x);
+    if near.count() < far.count() {
+        return path_by_sides(graph, x, near, &far, true);
     }
-    path_by_parts(graph, x, near, &far, true)
+    path_by_sides(graph, x, &far, near, false)
 }
 
 /// An induced path on four vertices; `None` exactly where there is none, for cographs. It takes no
@@ -74,6 +79,24 @@ fn has_path_edges(graph: &Graph, a: u32, b: u32, c: u32, d: u32) -> bool
     edges && !chords
 }
 
+// An induced path with `x`: two of it lie on one side of `x`, in one part, and one on the other side.
+// `x` sees all of `first` and none of `second` (`value` is true), or the other way round.
+fn path_by_sides(graph: &Graph, x: u32, first: &Names, second: &Names, value: bool) -> Option<P4>
+    requires graph { IsGraph graph.now }
+    requires first { IsSide graph.now x value first.now }
+    requires second { IsSide graph.now x (not value) second.now }
+    ensures found { IfSome result (λ p.
+        IsInducedPathWith (adjacent graph.now) graph.now.vertices x p.a p.b p.c p.d) }
+    ensures none { IfNone result ((a b c d : ℕ)
+        → IsInducedPathWith (adjacent graph.now) graph.now.vertices x a b c d
+        → ⊥) }
+{
+    if let Some(p) = path_by_parts(graph, x, first, second, value) {
+        return Some(p);
+    }
+    path_by_parts(graph, x, second, first, !value)
+}
+
 // An induced path with `x`, one of `others`, and two of one part of `names`, of which the one of
 // `others` sees only one. The parts are the components of `names`, none of which `x` sees (`value`
 // is false), or the components of its complement, all of which `x` sees (`value` is true); `x` sees
@@ -88,7 +111,7 @@ fn path_by_parts(graph: &Graph, x: u32, names: &Names, others: &Names, value: bo
     ensures none { IfNone result ((o m z : ℕ) → Has others.now o → Has names.now m → Has names.now z
         → adjacent graph.now m z ≡ not value → ToldApart graph.now o m z → ⊥) }
 {
-    let mut left = names.copy();
+    let mut left = to_begin_from(graph, names, others, value);
     let mut part = Names::none();
     while let Some(y) = left.first_from(0) {
         part_of(graph, names, y, value, &mut part);
@@ -98,6 +121,33 @@ fn path_by_parts(graph: &Graph, x: u32, names: &Names, others: &Names, value: bo
         left = left.minus(&part);
     }
     None
+}
+
+// Names of `names` to begin parts from: a part without one has no name that one of `others` meets,
+// so that none of `others` tells two of the part apart. All of `names`, where `others` is no smaller.
+fn to_begin_from(graph: &Graph, names: &Names, others: &Names, value: bool) -> Names
+    requires { IsGraph graph.now }
+    ensures inside { Within result names.now }
+    ensures met { (z : ℕ) → IsMet graph.now names.now others.now value z → Has result z }
+{
+    if others.count() < names.count() {
+        return met_by(graph, names, others, value);
+    }
+    names.copy()
+}
+
+// The names of `names` that one of `others` sees (`value` is false), or doesn't see (`value` is
+// true).
+fn met_by(graph: &Graph, names: &Names, others: &Names, value: bool) -> Names
+    requires { IsGraph graph.now }
+    ensures { (z : ℕ) → Has result z ↔ IsMet graph.now names.now others.now value z }
+{
+    let mut left = names.copy();
+    let mut met = Names::none();
+    for o in others.members() {
+        move_seen(graph, o, !value, &mut left, &mut met);
+    }
+    met
 }
 
 // The component of `y` in the graph on `within` (`value` is false), or in its complement (`value`
@@ -114,9 +164,11 @@ fn part_of(graph: &Graph, within: &Names, y: u32, value: bool, into: &mut Names)
     }
 }
 
-// An induced path with `x`, one of `others` and two of `part`. Condition: `part` doesn't split.
+// An induced path with `x`, one of `others` and two of `part`. Conditions: `part` has a name, and
+// doesn't split.
 fn path_by_part(graph: &Graph, x: u32, part: &Names, others: &Names, value: bool) -> Option<P4>
     requires graph { IsGraph graph.now }
+    requires some { HasSome part.now }
     requires whole { (a : NameSet) → IsSplit (adjacent graph.now) part.now a value → ⊥ }
     requires alike { (z : ℕ) → Has part.now z → adjacent graph.now x z ≡ value }
     requires across { (o : ℕ) → Has others.now o → adjacent graph.now x o ≡ not value }
@@ -125,29 +177,10 @@ fn path_by_part(graph: &Graph, x: u32, part: &Names, others: &Names, value: bool
     ensures none { IfNone result ((o m z : ℕ) → Has others.now o → Has part.now m → Has part.now z
         → ToldApart graph.now o m z → ⊥) }
 {
-    let telling = that_tell(graph, part, others);
-    if let Some(o) = telling.first_from(0) {
+    if let Some(o) = splitter_of_few(graph, part, others) {
         return path_over(graph, x, o, part, value);
     }
     None
-}
-
-// The names of `others` that see one of `part` and not all.
-fn that_tell(graph: &Graph, part: &Names, others: &Names) -> Names
-    ensures only { (o : ℕ) → Has result o → Has others.now o
-        × ((m : ℕ) × Has part.now m × (adjacent graph.now m o ≡ true))
-        × ((z : ℕ) × Has part.now z × (adjacent graph.now z o ≡ false)) }
-    ensures all { (o m z : ℕ) → Has others.now o → Has part.now m → Has part.now z
-        → adjacent graph.now m o ≡ true → adjacent graph.now z o ≡ false → Has result o }
-{
-    let mut some = Names::none();
-    let mut all = others.copy();
-    for m in part.members() {
-        let row = graph.row(m);
-        some.take_in(row);
-        all = all.and(row);
-    }
-    others.and(&some).minus(&all)
 }
 
 // An induced path with `x`, `o` and two of `part`, of which `o` sees only one.

@@ -133,7 +133,7 @@ fn splitter(graph: &Graph, class: &Block, left: &mut Names) -> Option<u32>
 }
 
 // The same by a look at each member of the class.
-fn splitter_of_few(graph: &Graph, class: &Names, left: &Names) -> Option<u32>
+pub(crate) fn splitter_of_few(graph: &Graph, class: &Names, left: &Names) -> Option<u32>
     requires some { HasSome class.now }
     requires apart { Disjoint class.now left.now }
     ensures found { IfSome result (IsSplitter (adjacent graph.now) left.now class.now) }

@@ -1,6 +1,10 @@
-use Rattle.md_modules.proofs.PathSearch.{part_whole, Searched-more}
+use Rattle.md_modules.proofs.PathSearch.{part_whole, Searched-start, Searched-more}
 use Rattle.md_graph.proofs.Search.{rest_falls}
 use Rattle.md_modules.proofs.induced_paths.path_by_parts.Goals as goal
+
+pub loop-y-init : goal.loop-y-init
+loop-y-init c =
+    Searched-start c.args.graph.now c.args.names.now c.args.others.now c.args.value c.to_begin_from-left.result c.to_begin_from-left.ensures.inside c.to_begin_from-left.ensures.met
 
 pub path_by_part-requires-clause-whole : goal.path_by_part-requires-clause-whole
 path_by_part-requires-clause-whole c =
