@@ -13,11 +13,12 @@ ghost use Rattle.md_report.specs.Cographs.{IsP4Of, IsCograph};
 ghost use Rattle.md_session.specs.Answers.{IsOpened, IsAnswered};
 ghost use Rattle.md_session.specs.Costs.{edit_cost, nodes_in};
 
+use crate::first_path::any_p4;
 use md_cotree::{Cotree, from_tree};
 use md_cotree_edit::{add_edge, add_vertex, del_edge, del_vertex};
 use md_decompose::decompose;
 use md_graph::{Graph, Memory, Steps};
-use md_modules::{P4, find_p4};
+use md_modules::P4;
 use md_report::made_p4;
 use md_script::{Edit, EditReason, lost_row, reason, take_back};
 use md_tree::{Tree, is_cotree};
@@ -69,7 +70,8 @@ pub enum Answer {
 
 impl CographSession {
     /// The session whose graph is the one handed in; `NotCograph` exactly where that has an induced
-    /// P4, with one. Errors: want of memory.
+    /// P4, with one. It decomposes the graph, and looks for a P4 from the names of a prime node's
+    /// children. Errors: want of memory.
     pub fn new(alloc: Global, graph: Graph) -> Result<Opened, Memory>
         ensures { IfOk result (λ opened. IsOpened graph opened) }
     {
@@ -79,7 +81,7 @@ impl CographSession {
             let tree = from_tree(alloc, &tree)?;
             return Ok(Opened::Session(CographSession { graph, tree }));
         }
-        match find_p4(&graph) {
+        match any_p4(&graph, &tree) {
             Some(p) => Ok(Opened::NotCograph(p)),
             None => unreachable!(),
         }

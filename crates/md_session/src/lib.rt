@@ -2,6 +2,7 @@
 #![tactic(auto)]
 
 mod cograph;
+mod first_path;
 mod general;
 
 pub use cograph::{Answer, CographSession, Opened};
