@@ -323,10 +323,6 @@ module _ (e : ℕ → ℕ → Bool) (s : NameSet) where
           y : (z : ℕ) × Has s z × Lacks (class s rep (rep x)) z
           y = maximal_leaves s (class s rep (rep x)) cx
 
-      -- each quotient of a prime set is a partition into its maximal proper modules
-      pub quotient_partition : (rep : ℕ → ℕ) × IsModularPartition e s r rep × ((p : ℕ) → Has r p → IsMaximalModule e s (class s rep p))
-      quotient_partition = (represent.0, partition represent.0 represent.1, class_maximal represent.0 represent.1)
-
       pub quotient_trivial : HasTrivialModulesAlone e r
       quotient_trivial = trivial_from represent.0 represent.1
 

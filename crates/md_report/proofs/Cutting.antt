@@ -102,9 +102,6 @@ module _ {A : Type 0} (spelled : A → List ℕ) (Fits : A → Type 0) (words : 
     pub opens : (list ≡ []) ⊎ Opens 32 rest
     pub ways : (whole : List A) → All Fits whole → text ≡ row_text whole → (more : List A) × All Fits more × (rest ≡ row_text more)
 
-  pub read_none : (text : List ℕ) → IsRead text [] text
-  read_none text = record { all = All-nil Fits; whole = refl; opens = inl refl; ways = λ whole all e. (whole, all, e) }
-
   pub read_more : (text : List ℕ) (list longer : List A) (rest : List ℕ) (a : A) (behind : List ℕ) → IsRead text list rest → IsItem spelled Fits rest a behind → longer ≡ list ++ a ∷ [] → IsRead text longer behind
   read_more text list longer rest a behind so item is = record {
     all = subst (All Fits) (sym is) (All-push Fits list a so.all item.fits);

@@ -38,10 +38,6 @@ one_read n text rest tail ps last q listed now h e f = record {
   may = listed_more n ps last q listed now h.last_is h.may f;
 }
 
--- nothing more is read
-pub reads_none : (n : ℕ) (rest : List ℕ) (ps : List Pair) (last : Pair) → ReadsOn n rest ps last rest ps last
-reads_none n rest ps last = record { on = λ text listed h. h; shorter = omega arith }
-
 -- a pair more is read, with the same lower position and a larger higher one
 pub reads_more : (n : ℕ) (start rest behind : List ℕ) (ps qs : List Pair) (first : Pair) (low high next : ℕ) → ReadsOn n start ps first rest qs (record { low = low; high = high }) →
     low < high → high < next → next < n → rest ≡ pair_before (record { low = low; high = next }) true behind →

@@ -12,7 +12,7 @@ use Rattle.md_tree.specs.declared.Pair.{Pair}
 use Rattle.md_tree.specs.Trees.{PlainTree, leaf, node, PlainTrees, no_tree, one_more, count, EachNode, EachNodeBelow}
 use Rattle.md_tree.specs.TreeTexts.{letter, pairs_text, tree_text, row_text}
 use Rattle.md_tree.specs.Grammar.{HasPairsIfPrime, IsSpelledNode}
-use Rattle.md_tree.specs.Residual.{IsDigit, Stops}
+use Rattle.md_tree.specs.Residual.{IsDigit, IsPastDigits}
 use Rattle.md_tree.specs.Languages.{HeadsAgree, Tail, TreeThen, NumberThen, ByteThen, PairsThen, PairThen, GoesOn, IsStuck, IsNumberBefore, IsNoNumber, LacksFirst, outermost_first}
 use Rattle.md_tree.proofs.Texts.{same_number, number_first, same_letter, letter_large, stops_at, pairs_stop, pair_spelled, row_stops, pairs_end, node_spelled, row_spelled}
 
@@ -20,13 +20,13 @@ agree_more : (tail front x : List ℕ) → HeadsAgree tail x → HeadsAgree (fro
 agree_more tail [] x h = h
 agree_more tail (b ∷ front) x h = (front ++ x, refl)
 
-agree_stops : (r z : List ℕ) → HeadsAgree r z → Stops r → Stops z
-agree_stops [] z h s = subst Stops (sym h) tt
-agree_stops (b ∷ r) z h s = subst Stops (sym h.1) s
+agree_stops : (r z : List ℕ) → HeadsAgree r z → IsPastDigits r → IsPastDigits z
+agree_stops [] z h s = subst IsPastDigits (sym h) tt
+agree_stops (b ∷ r) z h s = subst IsPastDigits (sym h.1) s
 
-agree_digit : (r z : List ℕ) → HeadsAgree r z → ¬ (Stops r) → ¬ (Stops z)
+agree_digit : (r z : List ℕ) → HeadsAgree r z → ¬ (IsPastDigits r) → ¬ (IsPastDigits z)
 agree_digit [] z h n s = n tt
-agree_digit (b ∷ r) z h n s = let t : Stops (b ∷ h.0) = subst Stops h.1 s in n t
+agree_digit (b ∷ r) z h n s = let t : IsPastDigits (b ∷ h.0) = subst IsPastDigits h.1 s in n t
 
 agree_lacks : (b : ℕ) (r z : List ℕ) → HeadsAgree r z → LacksFirst b r → LacksFirst b z
 agree_lacks b [] z h n x e = let f : [] ≡ b ∷ x = sym h ∙ e in cc
@@ -67,19 +67,19 @@ digits_before (d ∷ c ∷ ds) behind x some alone e =
     let l : suc (suc (length ds)) ≡ 1 = alone g in
     absurd (omega arith)
 
-pub zero_alone : (n : ℕ) (behind x : List ℕ) → Stops behind → decimal n ++ behind ≡ 48 ∷ x → Stops x
+pub zero_alone : (n : ℕ) (behind x : List ℕ) → IsPastDigits behind → decimal n ++ behind ≡ 48 ∷ x → IsPastDigits x
 zero_alone n behind x s e =
     let c = (decimal_is_canonical n).0 in
-    subst Stops (digits_before (decimal n) behind x c.some_digit c.no_leading_zero e) s
+    subst IsPastDigits (digits_before (decimal n) behind x c.some_digit c.no_leading_zero e) s
 
-pub number_no_stop : (n : ℕ) (behind x : List ℕ) → x ≡ decimal n ++ behind → Stops x → ⊥
+pub number_no_stop : (n : ℕ) (behind x : List ℕ) → x ≡ decimal n ++ behind → IsPastDigits x → ⊥
 number_no_stop n behind [] e s =
     let l : 0 ≡ length (decimal n) + length behind = ap length e ∙ length-append (decimal n) behind in
     let c = (decimal_is_canonical n).0.some_digit in
     absurd (omega arith)
 number_no_stop n behind (b ∷ x) e s = s (number_first n behind b x (sym e))
 
-module _ (P : List ℕ → Type 0) (stops : (x : List ℕ) → P x → Stops x) where
+module _ (P : List ℕ → Type 0) (stops : (x : List ℕ) → P x → IsPastDigits x) where
   pub number_goes : (text tail : List ℕ) → IsNumberBefore text tail → GoesOn (NumberThen P) text P tail
   number_goes text tail b = record {
     front = decimal b.0;
@@ -139,15 +139,15 @@ some_tail (k ∷ ks) =
     let r = some_tail ks in
     (pairs_text 59 (some_pairs k) ++ 41 ∷ r.0, record { others = no_tree; pairs = some_pairs k; behind = r.0; spelled = tt; right = some_right k; text = refl; then = r.1 })
 
-pub tail_stops : (ks : List Kind) (x : List ℕ) → Tail ks x → Stops x
-tail_stops [] x t = subst Stops (sym t) tt
-tail_stops (k ∷ ks) x t = subst Stops (sym t.text) (row_stops t.others (pairs_text 59 t.pairs ++ 41 ∷ t.behind) (pairs_end t.pairs t.behind))
+pub tail_stops : (ks : List Kind) (x : List ℕ) → Tail ks x → IsPastDigits x
+tail_stops [] x t = subst IsPastDigits (sym t) tt
+tail_stops (k ∷ ks) x t = subst IsPastDigits (sym t.text) (row_stops t.others (pairs_text 59 t.pairs ++ 41 ∷ t.behind) (pairs_end t.pairs t.behind))
 
-pub pairs_then_stops : (ks : List Kind) (x : List ℕ) → PairsThen ks x → Stops x
-pairs_then_stops ks x p = subst Stops (sym p.text) (pairs_stop p.pairs p.behind)
+pub pairs_then_stops : (ks : List Kind) (x : List ℕ) → PairsThen ks x → IsPastDigits x
+pairs_then_stops ks x p = subst IsPastDigits (sym p.text) (pairs_stop p.pairs p.behind)
 
-pub hyphen_stops : (P : List ℕ → Type 0) (x : List ℕ) → ByteThen 45 P x → Stops x
-hyphen_stops P x p = subst Stops (sym p.text) (stops_at 45 p.behind (inl (omega arith)))
+pub hyphen_stops : (P : List ℕ → Type 0) (x : List ℕ) → ByteThen 45 P x → IsPastDigits x
+hyphen_stops P x p = subst IsPastDigits (sym p.text) (stops_at 45 p.behind (inl (omega arith)))
 
 pub some_pairs_then : (ks : List Kind) → (x : List ℕ) × PairsThen ks x
 some_pairs_then ks = let r = some_tail ks in (41 ∷ r.0, record { pairs = []; behind = r.0; text = refl; then = r.1 })
@@ -370,7 +370,7 @@ tail_over [] some = absurd (omega arith)
 tail_over (b ∷ text) some = stuck_here (Tail []) (b ∷ text) [] refl (λ x h l. let f : b ∷ h.0 ≡ [] = sym h.1 ∙ l in cc)
 
 -- digits at the beginning of a text
-stops_drop : (text : List ℕ) (end : ℕ) → (end < length text → is_ascii_digit (get_or text end 0) ≡ false) → Stops (drop end text)
+stops_drop : (text : List ℕ) (end : ℕ) → (end < length text → is_ascii_digit (get_or text end 0) ≡ false) → IsPastDigits (drop end text)
 stops_drop [] zero h = tt
 stops_drop [] (suc end) h = tt
 stops_drop (b ∷ text) zero h = λ d.
@@ -393,7 +393,7 @@ pub number_before : (text tail : List ℕ) (end : ℕ) → end ≤ length text �
 number_before text tail end within all some none stops is = (
   value (take end text),
   sym (take-append-drop end text) ∙ ap (λ w. w ++ drop end text) (sym (decimal-value (take end text) (canonical_front text end within all some none))) ∙ ap (λ w. decimal (value (take end text)) ++ w) (sym is),
-  subst Stops (sym is) (stops_drop text end stops),
+  subst IsPastDigits (sym is) (stops_drop text end stops),
 )
 
 pub zero_before : (text tail : List ℕ) (end : ℕ) → end ≤ length text → list_all is_ascii_digit (take end text) ≡ true → 1 < end → get_or text 0 0 ≡ 48 → tail ≡ drop 1 text → IsNoNumber text tail
@@ -404,7 +404,7 @@ zero_before (b ∷ c ∷ text) tail end within all some first is =
     let same : get_or (take end (b ∷ c ∷ text)) 1 0 ≡ c = get_or-take end (b ∷ c ∷ text) 1 0 some in
     let is_digit : IsDigit c = digit_bounds c (ap is_ascii_digit (sym same) ∙ d) in
     let head : b ≡ 48 = first in
-    inr (cc, subst (λ w. ¬ (Stops w)) (sym is) (λ s. s is_digit))
+    inr (cc, subst (λ w. ¬ (IsPastDigits w)) (sym is) (λ s. s is_digit))
 
 -- the open nodes
 pub opened_again : (k : Kind) (ks : List Kind) (opens : List Kind) → opens ≡ outermost_first ks → opens ++ k ∷ [] ≡ outermost_first (k ∷ ks)

@@ -13,7 +13,7 @@ use Rattle.md_tree.specs.declared.Kind.TheVariants.{Prime}
 use Rattle.md_tree.specs.declared.Pair.{Pair}
 use Rattle.md_tree.specs.TreeTexts.{pairs_text}
 use Rattle.md_tree.specs.StrongTrees.{IsPairBefore}
-use Rattle.md_tree.specs.Residual.{IsDigit, Stops}
+use Rattle.md_tree.specs.Residual.{IsDigit, IsPastDigits}
 use Rattle.md_tree.specs.Languages.{LacksFirst}
 use Rattle.md_tree.specs.Held.{MayList, AreSmall, mark_of, pair_before, ArePairsRead, LacksNumber, LacksPair, IsNumberSplit, LacksPairs, LacksEnd, EachMayFollow, no_pair, AreListed}
 use Rattle.md_tree.proofs.Texts.{same_number, stops_at, pairs_stop, pair_spelled, same_pairs}
@@ -31,7 +31,7 @@ pub digit_first : (text tail : List ℕ) (d : ℕ) → d < 10 → text ≡ (48 +
 digit_first text tail d small e = e ∙ ap (λ w. w ++ tail) (sym (decimal_digit d small))
 
 -- a number whose first digits are those of v is at least v
-digits_grow : (text rest : List ℕ) (v n : ℕ) (tail : List ℕ) → 0 < v → text ≡ decimal v ++ rest → Stops tail → text ≡ decimal n ++ tail → v ≤ n
+digits_grow : (text rest : List ℕ) (v n : ℕ) (tail : List ℕ) → 0 < v → text ≡ decimal v ++ rest → IsPastDigits tail → text ≡ decimal n ++ tail → v ≤ n
 digits_grow text [] v n tail above e s f = let same : (v ≡ n) × ([] ≡ tail) = same_number v n [] tail tt s (sym e ∙ f) in omega (arith, same.0)
 digits_grow text (b ∷ rest) v n tail above e s f = elim (cases_lt b 48) [
   | inl low ↦ (let same : (v ≡ n) × (b ∷ rest ≡ tail) = same_number v n (b ∷ rest) tail (stops_at b rest (inl low)) s (sym e ∙ f) in omega (arith, same.0))
@@ -50,21 +50,21 @@ too_long text rest tail v d large small e f n behind below s g =
     let limit : NAMES < 2 ^ 16 = NAMES-lt in
     omega arith
 
-pub no_digit_lacks : (text : List ℕ) → Stops text → LacksNumber text
+pub no_digit_lacks : (text : List ℕ) → IsPastDigits text → LacksNumber text
 no_digit_lacks text s n tail below t e = number_no_stop n tail text e s
 
 pub zero_lacks : (text behind tail : List ℕ) (d : ℕ) → d < 10 → text ≡ 48 ∷ behind → behind ≡ (48 + d) ∷ tail → LacksNumber text
 zero_lacks text behind tail d small e f n t below s g =
-    let stop : Stops behind = zero_alone n t behind s (sym g ∙ e) in
-    let no : ¬ (IsDigit (48 + d)) = subst Stops f stop in
+    let stop : IsPastDigits behind = zero_alone n t behind s (sym g ∙ e) in
+    let no : ¬ (IsDigit (48 + d)) = subst IsPastDigits f stop in
     no (omega arith, omega arith)
 
 -- at a place of a text
 at_place : (text : List ℕ) (k : ℕ) → k < length text → drop k text ≡ get_or text k 0 ∷ drop (k + 1) text
 at_place text k h = drop_more text k 0 h
 
-no_digit_at : (text : List ℕ) (k : ℕ) → k < length text → ¬ (IsDigit (get_or text k 0)) → Stops (drop k text)
-no_digit_at text k h n = subst Stops (sym (at_place text k h)) n
+no_digit_at : (text : List ℕ) (k : ℕ) → k < length text → ¬ (IsDigit (get_or text k 0)) → IsPastDigits (drop k text)
+no_digit_at text k h n = subst IsPastDigits (sym (at_place text k h)) n
 
 pub digit_at : (text : List ℕ) (k d : ℕ) → k < length text → get_or text k 0 ≡ 48 + d → drop k text ≡ (48 + d) ∷ drop (k + 1) text
 digit_at text k d h e = at_place text k h ∙ ap (λ b. b ∷ drop (k + 1) text) e
@@ -75,14 +75,14 @@ lacks_at_once text h n = no_digit_lacks text (no_digit_at text 0 h n)
 pub number_at : (text : List ℕ) (k n : ℕ) → text ≡ decimal n ++ drop k text → k < length text → ¬ (IsDigit (get_or text k 0)) → IsNumberSplit text n (take (length text - k) (drop k text))
 number_at text k n read h e = (
   read ∙ ap (λ w. decimal n ++ w) (sym (take_rest text k)),
-  subst Stops (sym (take_rest text k)) (no_digit_at text k h e),
+  subst IsPastDigits (sym (take_rest text k)) (no_digit_at text k h e),
 )
 
 -- pairs
-hyphen_stops : (x : List ℕ) → Stops (45 ∷ x)
+hyphen_stops : (x : List ℕ) → IsPastDigits (45 ∷ x)
 hyphen_stops x = stops_at 45 x (inl (omega arith))
 
-mark_stops : (more : Bool) (x : List ℕ) → Stops (mark_of more ∷ x)
+mark_stops : (more : Bool) (x : List ℕ) → IsPastDigits (mark_of more ∷ x)
 mark_stops true x = stops_at 44 x (inl (omega arith))
 mark_stops false x = stops_at 41 x (inl (omega arith))
 
@@ -133,7 +133,7 @@ semicolon_for (p ∷ others) tail r e =
     ap (λ w. 59 ∷ w) g
 
 -- the first of the pairs that stand there is the one that was read
-same_first : (rest x r : List ℕ) (p q : Pair) (others : List Pair) → Stops x → rest ≡ decimal p.low ++ 45 ∷ (decimal p.high ++ x) → 59 ∷ rest ≡ pairs_text 59 (q ∷ others) ++ 41 ∷ r →
+same_first : (rest x r : List ℕ) (p q : Pair) (others : List Pair) → IsPastDigits x → rest ≡ decimal p.low ++ 45 ∷ (decimal p.high ++ x) → 59 ∷ rest ≡ pairs_text 59 (q ∷ others) ++ 41 ∷ r →
     x ≡ pairs_text 44 others ++ 41 ∷ r
 same_first rest x r p q others s e f =
     let g : 59 ∷ rest ≡ 59 ∷ (decimal q.low ++ 45 ∷ (decimal q.high ++ (pairs_text 44 others ++ 41 ∷ r))) = f ∙ pair_spelled 59 q others (41 ∷ r) in

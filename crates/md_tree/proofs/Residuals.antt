@@ -5,7 +5,7 @@ use Rattle.md_tree.specs.declared.Kind.{Kind}
 use Rattle.md_tree.specs.declared.Pair.{Pair}
 use Rattle.md_tree.specs.Trees.{PlainTree, leaf, node, PlainTrees, no_tree, one_more, EachNode, EachNodeBelow, row}
 use Rattle.md_tree.specs.TreeTexts.{letter, pairs_text, tree_text, row_text}
-use Rattle.md_tree.specs.Residual.{OpenNode, ahead, closed, with_child, Follows, Due, Stops}
+use Rattle.md_tree.specs.Residual.{OpenNode, ahead, closed, with_child, Follows, Due, IsPastDigits}
 use Rattle.md_tree.proofs.Texts.{same_text, same_row, same_pairs, row_stops, pairs_end, row_spelled, node_spelled, leaf_is_no_node, same_letter}
 
 pub ahead_more : (xs : List PlainTree) (t : PlainTree) (cs : PlainTrees) → ahead (xs ++ t ∷ []) cs ≡ ahead xs (one_more t cs)
@@ -17,12 +17,12 @@ ahead_row [] t = refl
 ahead_row (x ∷ xs) t = ap (one_more x) (ahead_row xs t)
 
 -- what follows a tree begins with no digit
-pub follows_stops : (s : List OpenNode) (t : PlainTree) (r : List ℕ) (w : PlainTree) → Follows s t r w → Stops r
-follows_stops [] t r w f = subst Stops (sym f.0) tt
-follows_stops (o ∷ s) t r w f = subst Stops (sym f.text) (row_stops f.others (pairs_text 59 f.pairs ++ 41 ∷ f.behind) (pairs_end f.pairs f.behind))
+pub follows_stops : (s : List OpenNode) (t : PlainTree) (r : List ℕ) (w : PlainTree) → Follows s t r w → IsPastDigits r
+follows_stops [] t r w f = subst IsPastDigits (sym f.0) tt
+follows_stops (o ∷ s) t r w f = subst IsPastDigits (sym f.text) (row_stops f.others (pairs_text 59 f.pairs ++ 41 ∷ f.behind) (pairs_end f.pairs f.behind))
 
 -- a tree's text, behind which no digit stands
-pub tree_step : (s : List OpenNode) (t : PlainTree) (r : List ℕ) (w : PlainTree) → Stops r → Due s (tree_text t ++ r) w ↔ Follows s t r w
+pub tree_step : (s : List OpenNode) (t : PlainTree) (r : List ℕ) (w : PlainTree) → IsPastDigits r → Due s (tree_text t ++ r) w ↔ Follows s t r w
 tree_step s t r w stops = (
   (λ d.
       let same : (t ≡ d.tree) × (r ≡ d.behind) = same_text t d.tree r d.behind stops (follows_stops s d.tree d.behind w d.follows) d.text in

@@ -9,7 +9,7 @@ use Rattle.md_tree.specs.declared.Pair.{Pair}
 use Rattle.md_tree.specs.Trees.{PlainTree, leaf, node, PlainTrees, no_tree, one_more}
 use Rattle.md_tree.specs.TreeTexts.{letter, pairs_text, tree_text, row_text}
 use Rattle.md_tree.specs.Laws.{OneTreeOneText}
-use Rattle.md_tree.specs.Residual.{IsDigit, Stops}
+use Rattle.md_tree.specs.Residual.{IsDigit, IsPastDigits}
 
 -- the text begins with the byte that ends a row of trees
 abbrev pub Ends : List ℕ → Type 0
@@ -31,7 +31,7 @@ digits_of : (n : ℕ) → AllDigits (decimal n)
 digits_of n = to_digits (decimal n) (decimal_is_digits n)
 
 -- digits before what is no digit
-same_digits : (xs ys r s : List ℕ) → AllDigits xs → AllDigits ys → Stops r → Stops s → xs ++ r ≡ ys ++ s → (xs ≡ ys) × (r ≡ s)
+same_digits : (xs ys r s : List ℕ) → AllDigits xs → AllDigits ys → IsPastDigits r → IsPastDigits s → xs ++ r ≡ ys ++ s → (xs ≡ ys) × (r ≡ s)
 same_digits [] [] r s a b p q e = (refl, e)
 same_digits [] (y ∷ ys) [] s a b p q e = let f : [] ≡ y ∷ (ys ++ s) = e in cc
 same_digits [] (y ∷ ys) (c ∷ r) s a b p q e =
@@ -51,7 +51,7 @@ same_digits (x ∷ xs) (y ∷ ys) r s a b p q e =
     let j : xs ≡ ys = i.0 in
     (cc, i.1)
 
-pub same_number : (m n : ℕ) (r s : List ℕ) → Stops r → Stops s → decimal m ++ r ≡ decimal n ++ s → (m ≡ n) × (r ≡ s)
+pub same_number : (m n : ℕ) (r s : List ℕ) → IsPastDigits r → IsPastDigits s → decimal m ++ r ≡ decimal n ++ s → (m ≡ n) × (r ≡ s)
 same_number m n r s p q e =
     let i : (decimal m ≡ decimal n) × (r ≡ s) = same_digits (decimal m) (decimal n) r s (digits_of m) (digits_of n) p q e in
     (decimal_injective m n i.0, i.1)
@@ -88,12 +88,12 @@ letter_below Parallel = omega arith
 letter_below Series = omega arith
 letter_below Prime = omega arith
 
-pub stops_at : (b : ℕ) (r : List ℕ) → (b < 48) ⊎ (57 < b) → Stops (b ∷ r)
+pub stops_at : (b : ℕ) (r : List ℕ) → (b < 48) ⊎ (57 < b) → IsPastDigits (b ∷ r)
 stops_at b r (inl l) d = let p : 48 ≤ b = d.0 in omega arith
 stops_at b r (inr l) d = let p : b ≤ 57 = d.1 in omega arith
 
 -- pairs before a closing bracket
-pub pairs_stop : (ps : List Pair) (r : List ℕ) → Stops (pairs_text 44 ps ++ 41 ∷ r)
+pub pairs_stop : (ps : List Pair) (r : List ℕ) → IsPastDigits (pairs_text 44 ps ++ 41 ∷ r)
 pairs_stop [] r = stops_at 41 r (inl (omega arith))
 pairs_stop (p ∷ ps) r = stops_at 44 ((decimal p.low ++ 45 ∷ (decimal p.high ++ pairs_text 44 ps)) ++ 41 ∷ r) (inl (omega arith))
 
@@ -130,7 +130,7 @@ same_pairs mark (p ∷ ps) (q ∷ qs) r s n e =
     (cc, others.1)
 
 -- trees before a semicolon or a closing bracket
-pub row_stops : (ts : PlainTrees) (r : List ℕ) → Ends r → Stops (row_text 44 ts ++ r)
+pub row_stops : (ts : PlainTrees) (r : List ℕ) → Ends r → IsPastDigits (row_text 44 ts ++ r)
 row_stops no_tree [] ends = absurd ends
 row_stops no_tree (b ∷ r) (inl e) = stops_at b r (inl (omega arith))
 row_stops no_tree (b ∷ r) (inr e) = stops_at b r (inr (omega arith))
@@ -166,7 +166,7 @@ leaf_is_no_node v k r xs e =
     omega arith
 
 mutual
-  pub same_text : (t u : PlainTree) (r s : List ℕ) → Stops r → Stops s → tree_text t ++ r ≡ tree_text u ++ s → (t ≡ u) × (r ≡ s)
+  pub same_text : (t u : PlainTree) (r s : List ℕ) → IsPastDigits r → IsPastDigits s → tree_text t ++ r ≡ tree_text u ++ s → (t ≡ u) × (r ≡ s)
   same_text (leaf v) (leaf w) r s p q e = let i : (v ≡ w) × (r ≡ s) = same_number v w r s p q e in (ap leaf i.0, i.1)
   same_text (leaf v) (node l ds qs) r s p q e = absurd (leaf_is_no_node v l r (row_text 40 ds ++ (pairs_text 59 qs ++ 41 ∷ s)) (e ∙ node_spelled l ds qs s))
   same_text (node k cs ps) (leaf w) r s p q e = absurd (leaf_is_no_node w k s (row_text 40 cs ++ (pairs_text 59 ps ++ 41 ∷ r)) (sym e ∙ node_spelled k cs ps r))

@@ -19,7 +19,7 @@ use Rattle.md_tree.specs.Plain.{plain}
 use Rattle.md_tree.specs.StrongTrees.{IsPairBefore}
 use Rattle.md_tree.specs.TreeTexts.{pairs_text, tree_text}
 use Rattle.md_tree.specs.WellFormed.{AreApart, IsCanonicalNode, IsWellFormed, NoneOfKind}
-use Rattle.md_tree.specs.Residual.{OpenNode, Due, Follows, Stops}
+use Rattle.md_tree.specs.Residual.{OpenNode, Due, Follows, IsPastDigits}
 
 -- the least member of s
 pub record IsLeast (s : NameSet) (least : ℕ) : Type 0 where
@@ -159,7 +159,7 @@ pub record ArePairsRead (text rest : List ℕ) (read : List Pair) : Type 0 where
 
 -- no small number stands before what is no digit
 abbrev pub LacksNumber : List ℕ → Type 0
-LacksNumber text = (n : ℕ) (tail : List ℕ) → n < NAMES → Stops tail → text ≢ decimal n ++ tail
+LacksNumber text = (n : ℕ) (tail : List ℕ) → n < NAMES → IsPastDigits tail → text ≢ decimal n ++ tail
 
 -- no small pair stands there
 abbrev pub LacksPair : List ℕ → Type 0
@@ -167,7 +167,7 @@ LacksPair text = (p : Pair) (more : Bool) (tail : List ℕ) → IsSmall p → te
 
 -- a number stands before the tail, and no digit at its beginning
 abbrev pub IsNumberSplit : List ℕ → ℕ → List ℕ → Type 0
-IsNumberSplit text n tail = (text ≡ decimal n ++ tail) × Stops tail
+IsNumberSplit text n tail = (text ≡ decimal n ++ tail) × IsPastDigits tail
 
 -- no small pairs stand behind a semicolon, with the bracket behind them
 abbrev pub LacksPairs : List ℕ → Type 0

@@ -9,7 +9,7 @@ use Rattle.md_tree.specs.declared.grammar.Turn.TheVariants.{Onward, Blocked, End
 use Rattle.md_tree.specs.Trees.{PlainTree, PlainTrees, EachNode, EachNodeBelow}
 use Rattle.md_tree.specs.TreeTexts.{pairs_text, row_text, tree_text}
 use Rattle.md_tree.specs.Grammar.{HasPairsIfPrime, IsSpelledNode}
-use Rattle.md_tree.specs.Residual.{Stops}
+use Rattle.md_tree.specs.Residual.{IsPastDigits}
 
 -- the texts begin alike: both are empty, or their first bytes are the same
 abbrev pub HeadsAgree : List ℕ → List ℕ → Type 0
@@ -84,11 +84,11 @@ pub record IsStuck (L : List ℕ → Type 0) (text tail : List ℕ) : Type 0 whe
 
 -- a number stands before the tail, and no digit at its beginning
 abbrev pub IsNumberBefore : List ℕ → List ℕ → Type 0
-IsNumberBefore text tail = (n : ℕ) × (text ≡ decimal n ++ tail) × Stops tail
+IsNumberBefore text tail = (n : ℕ) × (text ≡ decimal n ++ tail) × IsPastDigits tail
 
 -- no digit stands at the beginning of the text; or a digit stands at that of the tail, behind a zero
 abbrev pub IsNoNumber : List ℕ → List ℕ → Type 0
-IsNoNumber text tail = ((text ≡ tail) × Stops tail) ⊎ ((text ≡ 48 ∷ tail) × (¬ (Stops tail)))
+IsNoNumber text tail = ((text ≡ tail) × IsPastDigits tail) ⊎ ((text ≡ 48 ∷ tail) × (¬ (IsPastDigits tail)))
 
 -- the text does not begin with the byte
 abbrev pub LacksFirst : ℕ → List ℕ → Type 0

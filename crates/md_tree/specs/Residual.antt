@@ -11,9 +11,9 @@ abbrev pub IsDigit : ℕ → Type 0
 IsDigit b = (48 ≤ b) × (b ≤ 57)
 
 -- the text is empty or begins with a byte that is no digit
-abbrev pub Stops : List ℕ → Type 0
-Stops [] = ⊤
-Stops (b ∷ r) = ¬ (IsDigit b)
+abbrev pub IsPastDigits : List ℕ → Type 0
+IsPastDigits [] = ⊤
+IsPastDigits (b ∷ r) = ¬ (IsDigit b)
 
 -- a node of which a part is read: its kind, and its children so far
 pub record OpenNode : Type 0 where

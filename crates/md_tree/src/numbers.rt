@@ -1,6 +1,6 @@
 //! Reads names and positions, which have one spelling each.
 ghost use Rattle.std.specs.Prelude.{◌≡◌, ◌+◌, ◌<◌, ◌∷◌, length, MatchOption};
-ghost use Rattle.md_tree.specs.Residual.{IsDigit, Stops};
+ghost use Rattle.md_tree.specs.Residual.{IsDigit, IsPastDigits};
 ghost use Rattle.md_tree.specs.Held.{LacksNumber, IsNumberSplit};
 
 // No name and no position has more digits.
@@ -87,7 +87,7 @@ fn more_digits<'a>(text: &'a [u8], first: u32, behind: &'a [u8]) -> Option<(u32,
 
 // The digit that a text begins with, and what stands behind it.
 fn split_digit<'a>(text: &'a [u8]) -> Option<(u32, &'a [u8])>
-    ensures { MatchOption result (Stops text.now)
+    ensures { MatchOption result (IsPastDigits text.now)
         (λ p. (p.0 < 10) × (text.now ≡ (48 + p.0) ∷ p.1.now)) }
 {
     let (first, tail) = text.split_first()?;
