@@ -6,6 +6,7 @@
     python3 bench/run.py --peer PATH     measures another program with the same commands beside it
     python3 bench/run.py --only many     measures the cases whose name holds a word
     python3 bench/run.py --checks        measures `check` over the reports of the same cases, beside the reports
+    python3 bench/run.py --sizes         seconds and peak memory by command at two sizes, sparse and dense, in one table
 
 Inputs are made with fixed seeds, in a temporary folder. Instructions are counted by valgrind's callgrind, peak
 memory is told by GNU time, each where it is there. Instructions hardly change from run to run, as times do.
@@ -134,6 +135,11 @@ def cograph(n, seed):
 
     build(0, n, True)
     return rows
+
+
+def sparse_cograph(n):
+    """Copies of one cograph on eight vertices: two of them are adjacent to each other and to all others."""
+    return rows_of(n, [(v - v % 8 + i, v) for v in range(n) for i in range(min(2, v % 8))])
 
 
 def permutation_graph(n, seed):
@@ -280,6 +286,51 @@ def measure_checks(binary, only):
                   (" ".join(words), seconds, count / 1e6, peak, before, answer / 1e6, count / max(answer, 1)), flush=True)
 
 
+def measure_sizes(binary):
+    """One row a command: seconds and peak megabytes on 1,024 and 4,096 vertices, on sparse graphs (average degree 8; for
+    sessions on cographs and `permute` a cograph with few edges) and dense ones (half of all pairs; a cograph, or a
+    permutation graph), each with 300 edits where the command takes them."""
+    graphs = {}
+    for n in (1024, 4096):
+        graphs["any", n] = (g6(sparse(n, 8, n)), g6(dense(n, n)))
+        graphs["cograph", n] = (g6(sparse_cograph(n)), g6(cograph(n, n)))
+        graphs["permutation", n] = (g6(sparse_cograph(n)), g6(permutation_graph(n, n)))
+        graphs["script", n] = script(n, 300, n)
+    rows = [("edges", "any"), ("graph6", "any"), ("tree", "any"), ("compare", "any"), ("permute", "permutation"),
+            ("edit", "any"), ("cograph", "cograph"), ("quiet", "cograph")]
+    heads = ["%s, %s" % (n, kind) for n in ("1,024", "4,096") for kind in ("sparse", "dense")]
+    print("| command | " + " | ".join(heads) + " |")
+    print("|---|" + "---|" * len(heads))
+    with tempfile.TemporaryDirectory() as where:
+        for command, kind in rows:
+            report, check = "| `%s` |" % command, "| `check %s` |" % command
+            for n in (1024, 4096):
+                for graph in graphs[kind, n]:
+                    for name, text in (("graph", graph), ("script", graphs["script", n])):
+                        with open(os.path.join(where, name), "wb") as file:
+                            file.write(text)
+                    words = [command, "g6", "graph"] + (["script"] if command in ("edit", "cograph", "quiet") else [])
+                    report += " %.3f s, %.0f MB |" % timed(binary, words, where)
+                    if command in MODES:
+                        with open(os.path.join(where, "report"), "wb") as file:
+                            subprocess.run([binary, *words], cwd=where, stdout=file, check=True)
+                        check += " %.3f s, %.0f MB |" % timed(binary, ["check", *words, "report"], where)
+            print(report, flush=True)
+            if command in MODES:
+                print(check, flush=True)
+        print("| `big` |" + "".join(" %.3f s, %.0f MB | |" % timed(binary, ["big", str(n)], where) for n in (1024, 4096)))
+
+
+def timed(binary, words, where):
+    """Seconds of processor time, and peak megabytes, of one run."""
+    run = subprocess.run(["time", "-f", "%U %S %M", binary, *words], cwd=where, stdout=subprocess.DEVNULL,
+                         stderr=subprocess.PIPE)
+    if run.returncode != 0:
+        sys.exit("%s ended with status %d" % (" ".join(words), run.returncode))
+    user, system, peak = run.stderr.split()[-3:]
+    return float(user) + float(system), int(peak) / 1024
+
+
 def build():
     folder = os.path.join(TOP, "crates", "md_cli")
     subprocess.run(["rt", "run", "--", "edges", "g6", "data/graph.g6"], cwd=folder, stdout=subprocess.DEVNULL, check=True)
@@ -292,11 +343,14 @@ def main():
     options.add_argument("--peer")
     options.add_argument("--only", default="")
     options.add_argument("--checks", action="store_true")
+    options.add_argument("--sizes", action="store_true")
     chosen = options.parse_args()
     binary = os.path.abspath(chosen.bin or build())
     peer = os.path.abspath(chosen.peer) if chosen.peer else None
     if chosen.checks:
         return measure_checks(binary, chosen.only)
+    if chosen.sizes:
+        return measure_sizes(binary)
     print("| run | seconds | million instructions | peak MB |" + (" the other's | ratio | its peak MB |" if peer else ""))
     print("|---|---|---|---|" + ("---|---|---|" if peer else ""))
     with tempfile.TemporaryDirectory() as where:

@@ -1,0 +1,48 @@
+//! An example over the public calls: reads graph6 from standard input, and prints of each graph its
+//! tree of strong modules, and an induced P4 or that it is a cograph.
+#![tactic(auto)]
+
+use md_decompose::decompose;
+use md_graph::{Graph, Memory};
+use md_graph6::{Lines, scan};
+use md_modules::find_p4;
+use md_tree::push_text;
+use std::alloc::Global;
+use std::io::{self, Read, Write};
+
+fn main(rt: HostRuntime) -> io::Result<()> {
+    let mut file = Vec::new(rt.alloc());
+    rt.stdin().read_to_end(&mut file)?;
+    let answer = match scan(&file) {
+        Ok(count) => {
+            let mut answer = Vec::new(rt.alloc());
+            let mut lines = Lines::new(&file);
+            for _ in 0..count {
+                let Ok(mut graph) = Graph::new(rt.alloc()) else {
+                    return println!(rt; "out of memory");
+                };
+                lines.next(&mut graph);
+                if describe(rt.alloc(), &graph, &mut answer).is_err() {
+                    return println!(rt; "out of memory");
+                }
+            }
+            answer
+        }
+        Err(fault) => return println!(rt; "line {}: {:?}", fault.line, fault.kind),
+    };
+    rt.stdout().write_all(&answer)
+}
+
+// Appends the line of a graph.
+fn describe(alloc: Global, graph: &Graph, answer: &mut Vec<u8>) -> Result<(), Memory> {
+    let tree = decompose(alloc, graph)?;
+    push_text(alloc, answer, &tree)?;
+    match find_p4(graph) {
+        Some(p) => {
+            let path = format!(in alloc; " has the P4 {} {} {} {}\n", p.a, p.b, p.c, p.d)?;
+            answer.extend_from_slice(path.as_bytes())?;
+        }
+        None => answer.extend_from_slice(b" is a cograph\n")?,
+    }
+    Ok(())
+}
