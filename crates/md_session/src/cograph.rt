@@ -9,7 +9,7 @@ ghost use Rattle.md_tree.specs.Plain.{plain_option};
 ghost use Rattle.md_cotree.specs.Cotrees.{Denotes};
 ghost use Rattle.md_cotree.specs.Laws.{HasNoPrime};
 ghost use Rattle.md_script.specs.Edit.{HasNames, reason_of, after};
-ghost use Rattle.md_report.specs.Cographs.{IsCograph};
+ghost use Rattle.md_report.specs.Cographs.{IsP4Of, IsCograph};
 ghost use Rattle.md_session.specs.Answers.{IsOpened, IsAnswered};
 ghost use Rattle.md_session.specs.Costs.{edit_cost, nodes_in};
 
@@ -127,19 +127,11 @@ impl CographSession {
         if let Some(reason) = reason(&self.graph, edit) {
             return Answer::Refused(reason);
         }
-        let row = lost_row(&self.graph, edit);
-        let done = change(&mut self.tree, edit, steps);
-        md_script::apply(&mut self.graph, edit);
-        if done {
+        if change(&mut self.tree, edit, steps) {
+            md_script::apply(&mut self.graph, edit);
             return Answer::Applied;
         }
-        match made_p4(&self.graph, edit) {
-            Some(p) => {
-                take_back(&mut self.graph, edit, &row);
-                Answer::RefusedP4(p)
-            }
-            None => unreachable!(),
-        }
+        Answer::RefusedP4(p4_behind(&mut self.graph, edit))
     }
 }
 
@@ -177,5 +169,26 @@ fn change<L: Ledger>(tree: &mut Cotree, edit: &Edit, steps: &mut Steps<L>) -> bo
             del_vertex(tree, *x, steps);
             true
         }
+    }
+}
+
+// An induced P4 of the graph after an edit; the graph stays. Conditions: the graph is a cograph, and
+// the one after the edit isn't; no reason speaks against the edit, and its names are names.
+fn p4_behind(graph: &mut Graph, edit: &Edit) -> P4
+    requires cograph { IsCograph graph.old }
+    requires applies { reason_of graph.old edit.now ≡ None }
+    requires names { HasNames edit.now }
+    requires made { HasInducedPath (adjacent (after graph.old edit.now))
+        (after graph.old edit.now).vertices }
+    ensures path { IsP4Of (after graph.old edit.now) result }
+    ensures same { graph.new ≡ graph.old }
+{
+    let row = lost_row(graph, edit);
+    md_script::apply(graph, edit);
+    let found = made_p4(graph, edit);
+    take_back(graph, edit, &row);
+    match found {
+        Some(p) => p,
+        None => unreachable!(),
     }
 }
