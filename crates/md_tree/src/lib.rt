@@ -43,10 +43,21 @@ pub struct Pair {
 /// A tree over names: a name, or a node with its kind, its children, and the pairs of children that
 /// it lists.
 #[cycle(tree)]
-#[derive(Drop)]
 pub enum Tree {
     Leaf(u32),
     Node(Kind, Children, QuotientEdges),
+}
+
+// Each drop of a tree is written into the code that drops a list of trees: a level of a deep tree
+// takes one frame of it, where a derived drop takes a second one.
+impl Drop for Tree {
+    #[inline(always)]
+    fn drop(self) {
+        match self {
+            Tree::Leaf(_) => {}
+            Tree::Node(_, _, _) => {}
+        }
+    }
 }
 
 /// The children of a node, in their order.
