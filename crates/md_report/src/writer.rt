@@ -12,11 +12,14 @@ use md_text::push_number;
 use md_tree::push_text;
 use std::alloc::Global;
 
+// Room for so many bytes is taken at once: a line of words and four names, and its line feed, fit.
+const SHORT: usize = 32;
+
 /// The text of a line, without a line feed. Errors: want of memory.
 pub fn write_line(alloc: Global, line: &Line) -> Result<Vec<u8>, Memory>
     ensures { IfOk result (λ text. text.items ≡ line_text (plain_line line.now)) }
 {
-    let mut text = Vec::new(alloc);
+    let mut text = Vec::with_capacity(alloc, SHORT)?;
     match line {
         Line::Head(mode) => {
             text.extend_from_slice(b"mdt ")?;
