@@ -1,6 +1,6 @@
 -- One turn of the program that puts trees in order.
-use Rattle.std.proofs.Common.{◌≡◌, ℕ, ◌-◌, ◌<◌, ◌≤◌, List, [], ◌∷◌, ◌++◌, length, get_or, take, drop, map, Vec, Global, Some, refl, sym, ◌∙◌, ap, subst, arith, length-drop}
-use Rattle.std.proofs.lemmas.List.{map-append, take-map, drop-map, length-map, get_or-map}
+use Rattle.std.proofs.Common.{◌≡◌, ℕ, ◌+◌, ◌-◌, ◌<◌, ◌≤◌, List, [], ◌∷◌, ◌++◌, length, get_or, take, drop, map, reverse, Vec, Global, Some, refl, sym, ◌∙◌, ap, subst, arith, length-append, length-drop, append_assoc}
+use Rattle.std.proofs.lemmas.List.{map-append, take-map, drop-map, length-map, get_or-map, take_all, drop_all, take-append-le, length-take, append-nil, append_cancel_left, reverse-append, reverse-reverse, length-reverse, get_or-append_right, get_or-reverse}
 use Rattle.std.proofs.lemmas.List.Sorted.{IsPermutation-map, length_permutation}
 use Rattle.std.specs.List.Sorted.{IsPermutation, IsNonDecreasingBy}
 use Rattle.md_lists.specs.declared.kinds.PlaceKind.TheVariants.{Leaf as LeafKind}
@@ -13,7 +13,7 @@ use Rattle.md_tree.specs.Trees.{node, row}
 use Rattle.md_tree.specs.Plain.{plain}
 use Rattle.md_tree.proofs.Plain.{plain_is_leaf, plain-node}
 use Rattle.md_cotree.specs.declared.ordering.Keyed.{Keyed}
-use Rattle.md_cotree.specs.Orders.{part_of_kind, part_at, plain_keyed, tree_of, key_of, first_key, IsPutOver, IsPut}
+use Rattle.md_cotree.specs.Orders.{part_of_kind, part_at, plain_keyed, tree_of, key_of, first_key, IsPutOver, IsPut, AreFalling, AreTaken}
 
 -- ---- trees without their keys
 
@@ -22,6 +22,61 @@ pub trees_more : (now more : List Tree) (seen : List Keyed) (k : Keyed) → map 
 trees_more now more seen k so push =
     ap (map plain) push ∙ map-append plain now (k.tree ∷ []) ∙ ap (λ l. l ++ plain k.tree ∷ []) so
     ∙ sym (ap (map tree_of) (map-append plain_keyed seen (k ∷ [])) ∙ map-append tree_of (map plain_keyed seen) (plain_keyed k ∷ []))
+
+-- ---- trees on the stack, the last ones from the greatest least name down
+
+pub falling : (below long : ℕ) (stack front back sorted new : List Keyed) → below ≤ length stack → long ≡ length stack → front ≡ take below stack → back ≡ drop below stack →
+    IsPermutation back sorted → IsNonDecreasingBy (λ (k : Keyed). k.least) sorted → new ≡ take long (front ++ reverse sorted ++ drop (length (front ++ reverse sorted)) stack) → AreFalling below stack new
+falling below long stack front back sorted new low is_long is_front is_back moved rising is = record {
+  sorted = sorted;
+  moved = subst (λ xs. IsPermutation xs sorted) is_back moved;
+  rising = rising;
+  whole =
+      is ∙ ap (λ l. take long (front ++ reverse sorted ++ l)) (drop_all (length (front ++ reverse sorted)) stack (omega (arith, same_long)))
+      ∙ ap (take long) (append-nil (front ++ reverse sorted)) ∙ take_all long (front ++ reverse sorted) (omega (arith, same_long)) ∙ ap (λ l. l ++ reverse sorted) is_front;
+}
+  where
+    same_long : length (front ++ reverse sorted) ≡ length stack
+    same_long =
+        let a = length-append front (reverse sorted) in
+        let b = ap length is_front in
+        let c = length-take below stack in
+        let d = length_permutation back sorted moved in
+        let e = ap length is_back in
+        let f = length-drop below stack in
+        let g = length-reverse sorted in
+        omega arith
+
+pub falling_long : (below : ℕ) (stack fallen : List Keyed) → below ≤ length stack → AreFalling below stack fallen → length fallen ≡ length stack
+falling_long below stack fallen low is =
+    let a = ap length is.whole in
+    let b = length-append (take below stack) (reverse is.sorted) in
+    let c = length-take below stack in
+    let d = length-reverse is.sorted in
+    let e = length_permutation (drop below stack) is.sorted is.moved in
+    let f = length-drop below stack in
+    omega arith
+
+-- ---- trees that leave the stack
+
+pub taken_none : (zs : List Keyed) (ts : List Tree) → ts ≡ [] → AreTaken zs zs ts
+taken_none zs ts none = record { rest = []; whole = sym (append-nil zs); told = ap (map plain) none }
+
+pub taken_more : (zs ws vs : List Keyed) (ts us : List Tree) (k : Keyed) → AreTaken zs ws ts → ws ≡ vs ++ k ∷ [] → us ≡ ts ++ k.tree ∷ [] → AreTaken zs vs us
+taken_more zs ws vs ts us k taken pop push = record {
+  rest = k ∷ taken.rest;
+  whole = taken.whole ∙ ap (λ l. l ++ taken.rest) pop ∙ append_assoc vs (k ∷ []) taken.rest;
+  told = trees_more ts us (reverse taken.rest) k taken.told push ∙ ap (λ l. map tree_of (map plain_keyed l)) (sym (reverse-append (k ∷ []) taken.rest));
+}
+
+same_halves : {X : Type 0} (n : ℕ) (xs us ys vs : List X) → length xs ≡ n → length us ≡ n → xs ++ ys ≡ us ++ vs → (xs ≡ us) × (ys ≡ vs)
+same_halves {X = X} n xs us ys vs a b e = (first, append_cancel_left us ys vs (ap (λ l. l ++ ys) (sym first) ∙ e))
+  where
+    front : (ws zs : List X) → length ws ≡ n → take n (ws ++ zs) ≡ ws
+    front ws zs long = take-append-le n ws zs (omega arith) ∙ take_all n ws (omega arith)
+
+    first : xs ≡ us
+    first = sym (front xs ys a) ∙ ap (take n) e ∙ front us vs b
 
 -- ---- a leaf
 
@@ -76,3 +131,31 @@ module _ (kind : Kind) (count below : ℕ) (stack kept children sorted new : Lis
               tree = (plain-node kind (roll-Children (record { list = list })) edges ∙ (λ j. node kind (row (is_list j)) (none j))) i;
             } ∷ []);
       }
+
+-- the trees were put in order, and have left the stack
+module _ (count below : ℕ) (stack fallen left : List Keyed) (list : Vec Tree Global) (at : below ≡ length stack - count) (some : 0 < count) (few : count ≤ length stack)
+    (is : AreFalling below stack fallen) (taken : AreTaken fallen left list.items) (long : length left ≡ below) where
+  kept_long : length (take below stack) ≡ below
+  kept_long = let e = length-take below stack in omega arith
+
+  parts : (left ≡ take below stack) × (taken.rest ≡ reverse is.sorted)
+  parts = same_halves below left (take below stack) taken.rest (reverse is.sorted) long kept_long (sym taken.whole ∙ is.whole)
+
+  sorted_some : 0 < length is.sorted
+  sorted_some = over_some count below stack (drop below stack) is.sorted at some few refl is.moved
+
+  last_first : (first : Keyed) → first ≡ get_or fallen (length fallen - 1) first → first ≡ get_or is.sorted 0 first
+  last_first first last =
+      last ∙ ap (λ l. get_or l (length l - 1) first) is.whole
+      ∙ get_or-append_right (take below stack) (reverse is.sorted) below (length (take below stack ++ reverse is.sorted) - 1) first kept_long (omega (arith, all, sorted_some))
+      ∙ get_or-reverse is.sorted (length (take below stack ++ reverse is.sorted) - 1 - below) first (omega (arith, all, sorted_some))
+      ∙ ap (λ n. get_or is.sorted n first) (omega (arith, all, sorted_some))
+    where
+      all : length (take below stack ++ reverse is.sorted) ≡ below + length is.sorted
+      all = let e = length-append (take below stack) (reverse is.sorted) in let f = length-reverse is.sorted in let g = kept_long in omega arith
+
+  pub taken_is_put : (kind : Kind) (new : List Keyed) (first : Keyed) (edges : QuotientEdges) → first ≡ get_or fallen (length fallen - 1) first → edges.list.items ≡ [] →
+      new ≡ left ++ record { least = first.least; tree = Node kind (roll-Children (record { list = list })) edges } ∷ [] → IsPutOver kind count (map plain_keyed stack) (map plain_keyed new)
+  taken_is_put kind new first edges last none push =
+      over_is_put kind count below stack left (drop below stack) is.sorted new first list edges at parts.0 refl is.moved is.rising sorted_some (last_first first last)
+      (taken.told ∙ ap (λ l. map tree_of (map plain_keyed l)) (ap reverse parts.1 ∙ reverse-reverse is.sorted)) none push

@@ -1,6 +1,6 @@
 -- Trees put in order: each node's children in ascending order of their least names.
 -- Source: the evaluation of prefix notation, read from right to left; the order of the children is this project's.
-use Rattle.std.specs.Prelude.{◌≡◌, ◌≢◌, ℕ, ◌-◌, ◌<◌, ◌≤◌, List, [], ◌∷◌, ◌++◌, length, take, drop, map, Option, Some, None, ⊤}
+use Rattle.std.specs.Prelude.{◌≡◌, ◌≢◌, ℕ, ◌-◌, ◌<◌, ◌≤◌, List, [], ◌∷◌, ◌++◌, length, take, drop, map, reverse, Option, Some, None, ⊤}
 use Rattle.std.specs.List.Sorted.{IsPermutation, IsNonDecreasingBy}
 use Rattle.md_graph.specs.Sets.{Has}
 use Rattle.md_lists.specs.declared.kinds.PlaceKind.{PlaceKind}
@@ -10,6 +10,7 @@ use Rattle.md_lists.specs.Links.{Links, kind_at, children_at, IsLive}
 use Rattle.md_tree.specs.declared.Kind.{Kind}
 use Rattle.md_tree.specs.declared.Kind.TheVariants.{Prime, Parallel as ParallelKind, Series as SeriesKind}
 use Rattle.md_tree.specs.declared.Pair.{Pair}
+use Rattle.md_tree.specs.declared.Tree.{Tree}
 use Rattle.md_tree.specs.Parts.{PlainPart, name, inner as inner_part}
 use Rattle.md_tree.specs.Plain.{plain}
 use Rattle.md_tree.specs.TreeGraph.{adjacent_in}
@@ -78,6 +79,19 @@ pub record IsPutOver (k : Kind) (n : ℕ) (zs ws : List PlainKeyed) : Type 0 whe
   pub moved : IsPermutation (drop (length zs - n) zs) sorted
   pub rising : IsNonDecreasingBy key_of sorted
   pub whole : ws ≡ take (length zs - n) zs ++ record { least = first_key sorted; tree = node k (row (map tree_of sorted)) [] } ∷ []
+
+-- the trees from a place on come in descending order of their least names
+pub record AreFalling (below : ℕ) (zs ws : List Keyed) : Type 0 where
+  pub sorted : List Keyed
+  pub moved : IsPermutation (drop below zs) sorted
+  pub rising : IsNonDecreasingBy (λ (k : Keyed). k.least) sorted
+  pub whole : ws ≡ take below zs ++ reverse sorted
+
+-- trees were taken off the end, the last first
+pub record AreTaken (zs ws : List Keyed) (ts : List Tree) : Type 0 where
+  pub rest : List Keyed
+  pub whole : zs ≡ ws ++ rest
+  pub told : map plain ts ≡ map tree_of (map plain_keyed (reverse rest))
 
 -- the stack after one more part
 abbrev pub IsPut : PlainPart → List PlainKeyed → List PlainKeyed → Type 0

@@ -11,7 +11,7 @@ ghost use Rattle.md_tree.specs.Trees.{PlainTree};
 ghost use Rattle.md_tree.specs.WellFormed.{IsWellFormed, HasNoPrimeNode};
 ghost use Rattle.md_cotree.specs.Cotrees.{IsSoundCotree, Denotes};
 ghost use Rattle.md_cotree.specs.Laws.{HasNoPrime};
-ghost use Rattle.md_cotree.specs.Orders.{AllLive, part_at, PlainKeyed, plain_keyed, tree_of, HasTree, IsLoose, IsOrdered, IsPut, IsPutOver, HasBelow};
+ghost use Rattle.md_cotree.specs.Orders.{AllLive, part_at, PlainKeyed, plain_keyed, tree_of, HasTree, IsLoose, IsOrdered, IsPut, IsPutOver, AreFalling, AreTaken, HasBelow};
 ghost use Rattle.md_cotree.specs.PlaceTrees.{PlaceTree, place_of, node_count, shape, Stands};
 
 use crate::Cotree;
@@ -158,10 +158,9 @@ fn put_over(alloc: Global, kind: Kind, count: u32, stack: &mut Vec<Keyed>) -> Re
         (map plain_keyed stack.old.items) (map plain_keyed stack.new.items)) }
 {
     let below = stack.len() - count as usize;
-    let mut children = stack.split_off(below)?;
-    children.sort_unstable_by_key(|child| child.least);
-    let least = children[0].least;
-    let list = trees(alloc, children)?;
+    arrange(stack, below);
+    let least = stack[stack.len() - 1].least;
+    let list = trees(alloc, stack, below)?;
     let edges = QuotientEdges {
         list: Vec::new(alloc),
     };
@@ -172,14 +171,29 @@ fn put_over(alloc: Global, kind: Kind, count: u32, stack: &mut Vec<Keyed>) -> Re
     Ok(())
 }
 
-// Trees without their least names.
-fn trees(alloc: Global, children: Vec<Keyed>) -> Result<Vec<Tree>, Memory>
-    ensures { IfOk result (λ trees. map plain trees.items
-        ≡ map tree_of (map plain_keyed children.items)) }
+// Puts the trees from `below` on in descending order of their least names, the least on top.
+fn arrange(stack: &mut Vec<Keyed>, below: usize)
+    requires { below ≤ length stack.old.items }
+    ensures { AreFalling below stack.old.items stack.new.items }
 {
-    let mut trees = Vec::new(alloc);
-    for child in children {
-        trees.push(child.tree)?;
+    let (_, children) = stack.as_mut_slice().split_at_mut(below);
+    children.sort_unstable_by_key(|child| child.least);
+    children.reverse();
+}
+
+// Takes the trees from `below` on off the stack, the last first, without their least names.
+fn trees(alloc: Global, stack: &mut Vec<Keyed>, below: usize) -> Result<Vec<Tree>, Memory>
+    requires { below ≤ length stack.old.items }
+    ensures taken { IfOk result (λ trees. AreTaken
+        stack.old.items stack.new.items trees.items) }
+    ensures below { IfOk result (λ _. length stack.new.items ≡ below) }
+{
+    let mut trees = Vec::with_capacity(alloc, stack.len() - below)?;
+    while stack.len() > below {
+        match stack.pop() {
+            Some(child) => trees.push_reserved(child.tree),
+            None => unreachable!(),
+        }
     }
     Ok(trees)
 }

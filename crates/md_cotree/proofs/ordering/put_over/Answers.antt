@@ -1,16 +1,29 @@
-use Rattle.std.proofs.Common.{◌∙◌, ap, rules, ◌-◌}
-use Rattle.std.proofs.lemmas.List.Sorted.{IsNonDecreasingBy-from_sort_by_key}
-use Rattle.md_cotree.specs.declared.ordering.Keyed.{Keyed}
-use Rattle.md_cotree.proofs.Sorting.{over_is_put, over_some}
+use Rattle.std.proofs.Common.{◌-◌, ◌∙◌, ap, get_or, arith}
+use Rattle.md_cotree.proofs.Sorting.{falling_long, taken_is_put}
 use Rattle.md_cotree.proofs.ordering.put_over.Goals as goal
+
+pub overflow_sub-len : goal.overflow_sub-len
+overflow_sub-len c =
+    let at = c.len.ensures ∙ c.args.stack.now.ok.0 in
+    let long = falling_long (c.len.result - c.args.count) c.args.stack.now.items c.arrange.new.stack.items (omega arith) c.arrange.ensures in
+    let len = c.len-2.ensures ∙ c.arrange.new.stack.ok.0 in
+    let some = c.requires.some in
+    let few = c.requires.count in
+    omega arith
+
+pub index-requires : goal.index-requires
+index-requires c =
+    let at = c.len.ensures ∙ c.args.stack.now.ok.0 in
+    let long = falling_long (c.len.result - c.args.count) c.args.stack.now.items c.arrange.new.stack.items (omega arith) c.arrange.ensures in
+    let len = c.len-2.ensures in
+    let all = c.arrange.new.stack.ok.0 in
+    let some = c.requires.some in
+    let few = c.requires.count in
+    omega arith
 
 pub returns : goal.returns
 returns c =
-    let at = ap (λ n. n - c.args.count) (c.len.ensures ∙ c.args.stack.now.ok.0) in
-    over_is_put c.args.kind c.args.count (c.len.result - c.args.count) c.args.stack.now.items c.split_off.new.self.items c.in_ok-children.children.items c.sort_unstable_by_key.new.self.items
-    c.push.new.self.items c.index.result.now c.in_ok-list.list (record { list = c.new.result }) at c.in_ok-children.ensures.items c.in_ok-children.ensures.tail
-    c.sort_unstable_by_key.ensures.permutation
-    (IsNonDecreasingBy-from_sort_by_key (λ (k : Keyed). k.least) _ c.sort_unstable_by_key.ensures.sorted (λ a r q k. search rules))
-    (over_some c.args.count (c.len.result - c.args.count) c.args.stack.now.items c.in_ok-children.children.items c.sort_unstable_by_key.new.self.items at c.requires.some c.requires.count
-    c.in_ok-children.ensures.tail c.sort_unstable_by_key.ensures.permutation)
-    c.index.ensures c.in_ok-list.ensures c.new.ensures.items c.in_ok-push.ensures.items
+    taken_is_put c.args.count (c.len.result - c.args.count) c.args.stack.now.items c.arrange.new.stack.items c.trees.new.stack.items c.in_ok-list.list
+    (ap (λ n. n - c.args.count) (c.len.ensures ∙ c.args.stack.now.ok.0)) c.requires.some c.requires.count c.arrange.ensures c.in_ok-list.ensures.taken c.in_ok-list.ensures.below
+    c.args.kind c.push.new.self.items c.index.result.now (record { list = c.new.result })
+    (c.index.ensures ∙ ap (λ n. get_or c.arrange.new.stack.items (n - 1) c.index.result.now) (c.len-2.ensures ∙ c.arrange.new.stack.ok.0)) c.new.ensures.items c.in_ok-push.ensures.items

@@ -1,26 +1,28 @@
-use Rattle.std.proofs.Common.{◌≡◌, refl, ◌++◌, ◌∷◌, [], sym, ◌∙◌, ap, map, append_assoc, append-nil}
-use Rattle.std.proofs.lemmas.List.{nil_from_length}
-use Rattle.md_cotree.specs.Orders.{tree_of, plain_keyed}
-use Rattle.md_tree.specs.Plain.{plain}
-use Rattle.md_cotree.proofs.Sorting.{trees_more}
+use Rattle.std.proofs.Common.{◌≤◌, vec_len, arith}
+use Rattle.md_cotree.proofs.Sorting.{taken_none, taken_more}
 use Rattle.md_cotree.proofs.ordering.trees.Goals as goal
 
-pub loop-child-init : goal.loop-child-init
-loop-child-init c = record { told = ap (map plain) c.new-trees.ensures.items; left = refl }
-
-pub loop-child-preserved : goal.loop-child-preserved
-loop-child-preserved c =
-    let steps = c.in-Some.ensures.steps in
+pub loop-stack-init : goal.loop-stack-init
+loop-stack-init c =
+    let long = c.args.stack.now.ok.0 in
+    let low : c.args.below ≤ vec_len c.args.stack.now = (let r = c.requires in omega arith) in
     record {
-      told = trees_more c.loop-child.trees.items c.push.new.self.items c.loop-child.yielded c.in-Some.child c.loop-child.invariant.told c.in_ok-push.ensures.items;
-      left = append_assoc c.loop-child.yielded (c.in-Some.child ∷ []) c.next.new.self.rest.items ∙ ap (λ ns. c.loop-child.yielded ++ ns) (sym steps.0) ∙ c.loop-child.invariant.left;
+      taken = taken_none c.args.stack.now.items c.in_ok-trees.trees.items c.in_ok-trees.ensures.items;
+      low = low;
+      room = let a = c.in_ok-trees.ensures.len in let b = c.in_ok-trees.ensures.exact in let e = c.len.ensures in omega arith;
     }
 
-pub returns : goal.returns
-returns c =
-    let left = c.loop-child.child-iterator.rest in
-    let none : left.items ≡ [] = nil_from_length left.items (sym left.ok.0 ∙ c.in-None.ensures.steps.0) in
-    let whole : c.loop-child.yielded ≡ c.args.children.items =
-    sym (append-nil c.loop-child.yielded) ∙ sym (ap (λ ns. c.loop-child.yielded ++ ns) none) ∙ c.loop-child.invariant.left ∙ c.into_iter-child-iterator.ensures.into_iter_gives.0
-    in
-    c.loop-child.invariant.told ∙ ap (λ ks. map tree_of (map plain_keyed ks)) whole
+pub loop-stack-preserved : goal.loop-stack-preserved
+loop-stack-preserved c =
+    let pop = c.in-Some.ensures.cases in
+    let more = c.loop-stack-test.true in
+    let len = c.len-in-loop-stack.ensures in
+    record {
+      taken = taken_more c.args.stack.now.items c.loop-stack.stack.items c.pop.new.self.items c.loop-stack.trees.items c.push_reserved.new.self.items c.in-Some.child c.loop-stack.invariant.taken
+          c.in-Some.ensures.items c.push_reserved.ensures.items;
+      low = omega arith;
+      room = let a = c.push_reserved.ensures.len in let b = c.push_reserved.ensures.capacity in let e = c.loop-stack.invariant.room in omega arith;
+    }
+
+pub returns-clause-taken : goal.returns-clause-taken
+returns-clause-taken c = c.loop-stack.invariant.taken
