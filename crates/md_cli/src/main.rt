@@ -7,7 +7,7 @@ ghost use Rattle.std.specs.Process.{exit_status};
 ghost use Rattle.md_top.specs.declared.stop.Status.{Status};
 ghost use Rattle.md_top.specs.Status.{number_of};
 
-use md_io::{DirFiles, StdSink};
+use md_io::{DirFiles, GatheringSink, StdSink};
 use md_top::{Status, run};
 use std::env;
 use std::io::ErrorKind;
@@ -28,7 +28,7 @@ fn end(rt: &HostRuntime) -> ExitCode
     let status = match words(rt) {
         Ok(words) => {
             let mut files = DirFiles::new(rt, rt.alloc());
-            let mut out = StdSink::new(rt.stdout());
+            let mut out = GatheringSink::new(rt.alloc(), rt.stdout());
             let mut err = StdSink::new(rt.stderr());
             run(rt.alloc(), &words, &mut files, &mut out, &mut err)
         }

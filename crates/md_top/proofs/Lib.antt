@@ -9,3 +9,4 @@ pub mod EndsLemmas
 pub mod Fronts
 pub mod FromCographs
 pub mod Runs
+mod Flushed

@@ -39,6 +39,7 @@ pub struct Numbers {
 pub fn big<O: Sink>(alloc: Global, size: u32, out: &mut O) -> Result<Verdict, Stop>
     requires { size ≤ names }
     ensures ends { CommandEnds (Request.Big size) result (sink_run O.Sink out.old out.new) }
+    ensures faults_never_fall { O.faults out.old ≤ O.faults out.new }
 {
     let told = run_session(alloc, size)?;
     let line = numbers_line(&told);

@@ -1,5 +1,5 @@
 //! Checks of reports: all files are read whole, and the answer is one put.
-ghost use Rattle.std.specs.Prelude.{◌≡◌};
+ghost use Rattle.std.specs.Prelude.{◌≡◌, ◌≤◌};
 ghost use Rattle.md_checker.specs.declared.answer.CheckAnswer.{CheckAnswer};
 ghost use Rattle.md_top.specs.declared.request.Request.{Request};
 ghost use Rattle.md_top.specs.Answer.{answer_text, verdict_of};
@@ -27,6 +27,7 @@ pub fn graphs_check<O: Sink>(
 ) -> Result<Verdict, Stop>
     ensures ends { CommandEnds (Request.CheckGraphs mode from file.now report.now) result
         (sink_run O.Sink out.old out.new) }
+    ensures faults_never_fall { O.faults out.old ≤ O.faults out.new }
 {
     let answer = check_graphs(alloc, mode, from, file, report)?;
     put_answer(answer, out)?;
@@ -45,6 +46,7 @@ pub fn session_check<O: Sink>(
 ) -> Result<Verdict, Stop>
     ensures ends { CommandEnds (Request.CheckSession mode from file.now script.now report.now) result
         (sink_run O.Sink out.old out.new) }
+    ensures faults_never_fall { O.faults out.old ≤ O.faults out.new }
 {
     let answer = check_session(alloc, mode, from, file, script, report)?;
     put_answer(answer, out)?;
@@ -54,6 +56,7 @@ pub fn session_check<O: Sink>(
 // Puts the answer of a check, in one put.
 fn put_answer<O: Sink>(answer: CheckAnswer, out: &mut O) -> Result<(), PutStop>
     ensures puts { PutsWhole (answer_text answer) result (sink_run O.Sink out.old out.new) }
+    ensures faults_never_fall { O.faults out.old ≤ O.faults out.new }
 {
     let text = answer_text(answer);
     put_piece(out, text.as_slice())

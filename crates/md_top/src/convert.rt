@@ -25,6 +25,7 @@ pub fn convert<O: Sink>(
 ) -> Result<Verdict, Stop>
     ensures ends { CommandEnds (Request.Graphs (GraphForm.Convert to) from file.now) result
         (sink_run O.Sink out.old out.new) }
+    ensures faults_never_fall { O.faults out.old ≤ O.faults out.new }
 {
     let graphs = Graphs::read(alloc, from, file)?;
     put_texts(alloc, to, graphs, out)?;
@@ -40,6 +41,7 @@ fn put_texts<O: Sink>(
 ) -> Result<(), PutStop>
     ensures puts { PutsWhole (flat_map (graph_text to) graphs.entry) result
         (sink_run O.Sink out.old out.new) }
+    ensures faults_never_fall { O.faults out.old ≤ O.faults out.new }
 {
     let mut graph = Graph::new(alloc)?;
     while graphs.next(&mut graph) {

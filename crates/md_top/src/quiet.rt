@@ -28,6 +28,7 @@ pub fn put_quiet<O: Sink>(
 ) -> Result<(), PutStop>
     ensures puts { PutsLines (at_state SessionMode.Quiet graph script.now) after_end result
         (sink_run O.Sink out.old out.new) }
+    ensures faults_never_fall { O.faults out.old ≤ O.faults out.new }
 {
     match CographSession::new(alloc, graph)? {
         Opened::Session(session) => put_quiet_answers(alloc, session, script, out),
@@ -47,6 +48,7 @@ fn put_quiet_answers<O: Sink>(
 ) -> Result<(), PutStop>
     ensures puts { PutsLines (at_edits SessionMode.Quiet session script.now) after_end result
         (sink_run O.Sink out.old out.new) }
+    ensures faults_never_fall { O.faults out.old ≤ O.faults out.new }
 {
     for i in 0..script.len() {
         let line = quiet_line(&mut session, script.get(i));
@@ -59,6 +61,7 @@ fn put_quiet_answers<O: Sink>(
 fn put_last<O: Sink>(alloc: Global, session: &CographSession, out: &mut O) -> Result<(), PutStop>
     ensures puts { PutsLines (at_edits SessionMode.Quiet session.now []) after_end result
         (sink_run O.Sink out.old out.new) }
+    ensures faults_never_fall { O.faults out.old ≤ O.faults out.new }
 {
     let tree = session.tree(alloc)?;
     put_report_line(alloc, Line::Tree(tree), out)?;

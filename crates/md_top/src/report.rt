@@ -31,6 +31,7 @@ pub fn report<O: Sink>(
 ) -> Result<Verdict, Stop>
     ensures ends { CommandEnds (Request.Graphs (GraphForm.Report mode) from file.now) result
         (sink_run O.Sink out.old out.new) }
+    ensures faults_never_fall { O.faults out.old ≤ O.faults out.new }
 {
     let graphs = Graphs::read(alloc, from, file)?;
     put_report(alloc, mode, graphs, out)?;
@@ -46,6 +47,7 @@ fn put_report<O: Sink>(
 ) -> Result<(), PutStop>
     ensures puts { PutsLines (before_head mode graphs.entry) after_end result
         (sink_run O.Sink out.old out.new) }
+    ensures faults_never_fall { O.faults out.old ≤ O.faults out.new }
 {
     put_report_line(alloc, Line::Head(mode.mode()), out)?;
     put_graph_lines(alloc, mode, graphs, out)?;

@@ -35,6 +35,7 @@ pub fn session_report<O: Sink>(
 ) -> Result<Verdict, Stop>
     ensures ends { CommandEnds (Request.Session mode from file.now script.now) result
         (sink_run O.Sink out.old out.new) }
+    ensures faults_never_fall { O.faults out.old ≤ O.faults out.new }
 {
     let graph = one_graph(alloc, from, file)?;
     let script = read_script(alloc, script)?;
@@ -52,6 +53,7 @@ fn put_session<O: Sink>(
 ) -> Result<(), PutStop>
     ensures puts { PutsLines (before_session mode graph script.now) after_end result
         (sink_run O.Sink out.old out.new) }
+    ensures faults_never_fall { O.faults out.old ≤ O.faults out.new }
 {
     put_report_line(alloc, Line::Head(mode.mode()), out)?;
     match mode {
@@ -70,6 +72,7 @@ fn put_states<O: Sink>(
 ) -> Result<(), PutStop>
     ensures puts { PutsLines (at_state SessionMode.Edit graph script.now) after_end result
         (sink_run O.Sink out.old out.new) }
+    ensures faults_never_fall { O.faults out.old ≤ O.faults out.new }
 {
     let session = GeneralSession::new(graph);
     let tree = session.tree(alloc)?;
@@ -105,6 +108,7 @@ fn put_cographs<O: Sink>(
 ) -> Result<(), PutStop>
     ensures puts { PutsLines (at_state SessionMode.Cograph graph script.now) after_end result
         (sink_run O.Sink out.old out.new) }
+    ensures faults_never_fall { O.faults out.old ≤ O.faults out.new }
 {
     match CographSession::new(alloc, graph)? {
         Opened::Session(session) => put_opened(alloc, session, script, out),
@@ -125,6 +129,7 @@ fn put_opened<O: Sink>(
     requires { IsCograph session }
     ensures puts { PutsLines (at_state SessionMode.Cograph session script.now) after_end result
         (sink_run O.Sink out.old out.new) }
+    ensures faults_never_fall { O.faults out.old ≤ O.faults out.new }
 {
     let tree = session.tree(alloc)?;
     put_report_line(alloc, Line::Tree(tree), out)?;

@@ -1,5 +1,5 @@
 //! The top call: all that the program does.
-ghost use Rattle.std.specs.Prelude.{◌≡◌, ◌≢◌, ◌↔◌, ◌⊎◌, ◌≤◌, ℕ, List, None, Some, IsTrue};
+ghost use Rattle.std.specs.Prelude.{◌≡◌, ◌≢◌, ◌↔◌, ◌⊎◌, ◌≤◌, ℕ, List, None, Some, IsTrue, OnOk};
 ghost use Rattle.md_graph.specs.declared.TheConstants.{NAMES as names};
 ghost use Rattle.md_io.specs.Count.{Rose};
 ghost use Rattle.md_input.specs.declared.fault.Fault.{Fault};
@@ -28,7 +28,9 @@ use std::alloc::Global;
 /// Does what the words ask for: loads the files that they name, in their order, puts the whole output to `out`,
 /// and answers how that ended. Where the output isn't whole, one line on `err` says why.
 ///
-/// All files are loaded and the input is read whole before the first byte is put.
+/// All files are loaded and the input is read whole before the first byte is put. The output is
+/// flushed before the line on `err` is put and before the answer: where that would be Done or
+/// Rejected, a flush that fails makes it WriteFault; else the first cause stays.
 pub fn run<F: Files, O: Sink, E: Sink>(
     alloc: Global,
     words: &[String],
@@ -81,6 +83,13 @@ pub fn run<F: Files, O: Sink, E: Sink>(
     ensures out { Puts (F.holds files.old) (request_of (texts words.now)) result
         (sink_run O.Sink out.old out.new) }
 
+    // With Done and Rejected all that was put has reached the device, where `out` tells it; with
+    // another status it has, or the count of faults rose.
+    ensures flushed { (result ≡ Status.Done) ⊎ (result ≡ Status.Rejected)
+        → O.reached out.new ≡ O.holds out.new }
+    ensures flushed_or_failed { (O.reached out.new ≡ O.holds out.new)
+        ⊎ Rose (O.faults out.old) (O.faults out.new) }
+
     // The line of the status, or a beginning of it where a count of `err` rose.
     ensures err { TakesLineOf (F.holds files.old) (request_of (texts words.now)) result
         (sink_run E.Sink err.old err.new) (E.wants err.old) (E.wants err.new) }
@@ -96,7 +105,7 @@ pub fn run<F: Files, O: Sink, E: Sink>(
     // What is told of the files stays.
     ensures told { F.holds files.new ≡ F.holds files.old }
 {
-    match end(alloc, words, files, out) {
+    match end_flushed(alloc, words, files, out) {
         Ok(verdict) => verdict.status(),
         Err(stop) => {
             put_line(err, stop);
@@ -105,7 +114,30 @@ pub fn run<F: Files, O: Sink, E: Sink>(
     }
 }
 
-// Does what the words ask for, but for the line on `err`.
+// Does what the words ask for and flushes the output, but for the line on `err`. A flush that fails
+// is a writing fault, where nothing else stopped the run before.
+fn end_flushed<F: Files, O: Sink>(
+    alloc: Global,
+    words: &[String],
+    files: &mut F,
+    out: &mut O,
+) -> Result<Verdict, Stop>
+    ensures ends { Ends (request_of (texts words.now)) result
+        (files_run F.Files files.old files.new) (sink_run O.Sink out.old out.new) }
+    ensures told { F.holds files.new ≡ F.holds files.old }
+    ensures flushed { OnOk result (O.reached out.new ≡ O.holds out.new) }
+    ensures flushed_or_failed { (O.reached out.new ≡ O.holds out.new)
+        ⊎ Rose (O.faults out.old) (O.faults out.new) }
+{
+    let ending = end(alloc, words, files, out);
+    let flush = out.flush();
+    if ending.is_ok() && flush.is_err() {
+        return Err(Stop::WriteFault);
+    }
+    ending
+}
+
+// Does what the words ask for, but for the flush and the line on `err`.
 fn end<F: Files, O: Sink>(
     alloc: Global,
     words: &[String],
@@ -115,6 +147,7 @@ fn end<F: Files, O: Sink>(
     ensures ends { Ends (request_of (texts words.now)) result
         (files_run F.Files files.old files.new) (sink_run O.Sink out.old out.new) }
     ensures told { F.holds files.new ≡ F.holds files.old }
+    ensures faults_never_fall { O.faults out.old ≤ O.faults out.new }
 {
     let Some(request) = request_of(words) else {
         return Err(Stop::Usage);
@@ -146,6 +179,7 @@ fn end_big<F: Files, O: Sink>(
     ensures ends { Ends (Some (Request.Big size)) result
         (files_run F.Files _files.old _files.new) (sink_run O.Sink out.old out.new) }
     ensures told { F.holds _files.new ≡ F.holds _files.old }
+    ensures faults_never_fall { O.faults out.old ≤ O.faults out.new }
 {
     big(alloc, size, out)
 }
@@ -162,6 +196,7 @@ fn end_graphs<F: Files, O: Sink>(
     ensures ends { Ends (Some (Request.Graphs form from graph.now)) result
         (files_run F.Files files.old files.new) (sink_run O.Sink out.old out.new) }
     ensures told { F.holds files.new ≡ F.holds files.old }
+    ensures faults_never_fall { O.faults out.old ≤ O.faults out.new }
 {
     let file = load(alloc, files, graph)?;
     match form {
@@ -183,6 +218,7 @@ fn end_session<F: Files, O: Sink>(
     ensures ends { Ends (Some (Request.Session mode from graph.now script.now)) result
         (files_run F.Files files.old files.new) (sink_run O.Sink out.old out.new) }
     ensures told { F.holds files.new ≡ F.holds files.old }
+    ensures faults_never_fall { O.faults out.old ≤ O.faults out.new }
 {
     let graph_file = load(alloc, files, graph)?;
     let script_file = load(alloc, files, script)?;
@@ -202,6 +238,7 @@ fn end_graphs_check<F: Files, O: Sink>(
     ensures ends { Ends (Some (Request.CheckGraphs mode from graph.now report.now)) result
         (files_run F.Files files.old files.new) (sink_run O.Sink out.old out.new) }
     ensures told { F.holds files.new ≡ F.holds files.old }
+    ensures faults_never_fall { O.faults out.old ≤ O.faults out.new }
 {
     let graph_file = load(alloc, files, graph)?;
     let report_file = load(alloc, files, report)?;
@@ -222,6 +259,7 @@ fn end_session_check<F: Files, O: Sink>(
     ensures ends { Ends (Some (Request.CheckSession mode from graph.now script.now report.now)) result
         (files_run F.Files files.old files.new) (sink_run O.Sink out.old out.new) }
     ensures told { F.holds files.new ≡ F.holds files.old }
+    ensures faults_never_fall { O.faults out.old ≤ O.faults out.new }
 {
     let graph_file = load(alloc, files, graph)?;
     let script_file = load(alloc, files, script)?;

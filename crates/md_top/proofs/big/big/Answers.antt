@@ -7,20 +7,14 @@ use Rattle.md_top.specs.Big.{numbers_line}
 use Rattle.md_top.proofs.Outputs.{command_done, command_stopped}
 use Rattle.md_top.proofs.big.big.Goals as goal
 
-pub returns-in_err-put_piece : goal.returns-in_err-put_piece
-returns-in_err-put_piece g c =
+pub returns-in_err-put_piece-clause-ends : goal.returns-in_err-put_piece-clause-ends
+returns-in_err-put_piece-clause-ends g c =
     let same = c.as_slice.ensures ∙ c.numbers_line-line.ensures in
-    record {
-      ends =
-          command_stopped (Big c.args.size) (text (numbers_line c.in_ok-told.told)) (c.in_ok-told.told, c.in_ok-told.ensures.told, refl) refl _ Done _ _
-          (rw same at c.in_err-put_piece.ensures.puts) c.from_residual-in_err-put_piece.ensures.1;
-    }
+    command_stopped (Big c.args.size) (text (numbers_line c.in_ok-told.told)) (c.in_ok-told.told, c.in_ok-told.ensures.told, refl) refl _ Done _ _
+    (rw same at c.in_err-put_piece.ensures.puts) c.from_residual-in_err-put_piece.ensures.1
 
-pub returns : goal.returns
-returns g c =
+pub returns-clause-ends : goal.returns-clause-ends
+returns-clause-ends g c =
     let same = c.as_slice.ensures ∙ c.numbers_line-line.ensures in
-    record {
-      ends =
-          command_done (Big c.args.size) (text (numbers_line c.in_ok-told.told)) (c.in_ok-told.told, c.in_ok-told.ensures.told, refl) refl _ Done
-          (rw same at c.in_ok-put_piece.ensures.puts);
-    }
+    command_done (Big c.args.size) (text (numbers_line c.in_ok-told.told)) (c.in_ok-told.told, c.in_ok-told.ensures.told, refl) refl _ Done
+    (rw same at c.in_ok-put_piece.ensures.puts)

@@ -7,22 +7,16 @@ use Rattle.md_top.specs.declared.stop.Verdict.TheVariants.{Done}
 use Rattle.md_top.proofs.Outputs.{command_done, command_stopped, command_refused}
 use Rattle.md_top.proofs.convert.convert.Goals as goal
 
-pub returns-in_err-graphs : goal.returns-in_err-graphs
-returns-in_err-graphs g c = record {
-  ends =
-      command_refused (Graphs (Convert c.args.to) c.args.from c.args.file.now) _ _ _ _ _ (λ named is. is) c.in_err-graphs.ensures.stops c.from_residual.ensures.1;
-}
+pub returns-in_err-graphs-clause-ends : goal.returns-in_err-graphs-clause-ends
+returns-in_err-graphs-clause-ends g c =
+    command_refused (Graphs (Convert c.args.to) c.args.from c.args.file.now) _ _ _ _ _ (λ named is. is) c.in_err-graphs.ensures.stops c.from_residual.ensures.1
 
-pub returns-in_err-put_texts : goal.returns-in_err-put_texts
-returns-in_err-put_texts g c = record {
-  ends =
-      command_stopped _ (over_graphs (Convert c.args.to) c.in_ok-graphs.graphs) (c.in_ok-graphs.graphs, c.in_ok-graphs.ensures.spells, refl) c.in_ok-graphs.ensures.faultless _ Done _ _
-      c.in_err-put_texts.ensures.puts c.from_residual-in_err-put_texts.ensures.1;
-}
+pub returns-in_err-put_texts-clause-ends : goal.returns-in_err-put_texts-clause-ends
+returns-in_err-put_texts-clause-ends g c =
+    command_stopped _ (over_graphs (Convert c.args.to) c.in_ok-graphs.graphs) (c.in_ok-graphs.graphs, c.in_ok-graphs.ensures.spells, refl) c.in_ok-graphs.ensures.faultless _ Done _ _
+    c.in_err-put_texts.ensures.puts c.from_residual-in_err-put_texts.ensures.1
 
-pub returns : goal.returns
-returns g c = record {
-  ends =
-      command_done _ (over_graphs (Convert c.args.to) c.in_ok-graphs.graphs) (c.in_ok-graphs.graphs, c.in_ok-graphs.ensures.spells, refl) c.in_ok-graphs.ensures.faultless _ Done
-      c.in_ok-put_texts.ensures.puts;
-}
+pub returns-clause-ends : goal.returns-clause-ends
+returns-clause-ends g c =
+    command_done _ (over_graphs (Convert c.args.to) c.in_ok-graphs.graphs) (c.in_ok-graphs.graphs, c.in_ok-graphs.ensures.spells, refl) c.in_ok-graphs.ensures.faultless _ Done
+    c.in_ok-put_texts.ensures.puts

@@ -6,15 +6,13 @@ use Rattle.md_top.specs.Answer.{graph_text}
 use Rattle.md_top.proofs.Pieces.{Progress, progress_step, piece_stopped}
 use Rattle.md_top.proofs.convert.put_texts.Goals as goal
 
-pub returns-in_err-put_text : goal.returns-in_err-put_text
-returns-in_err-put_text g c = record {
-  puts =
-      piece_stopped _ _ _ _ _ _ _ _ _ _ _ c.from_residual-in_err-put_text.ensures.1
-      (subst (λ (lines : List PlainGraph). Progress (g.O.Sink.holds c.args.out.now) (g.O.Sink.holds c.loop-alloc.out) (flat_map (graph_text c.args.to) c.args.graphs) (flat_map (graph_text c.args.to) lines))
-      (c.loop-alloc-test.ensures.first) c.loop-alloc.invariant.progress)
-      c.loop-alloc.invariant.faults
-      c.in_err-put_text.ensures.puts;
-}
+pub returns-in_err-put_text-clause-puts : goal.returns-in_err-put_text-clause-puts
+returns-in_err-put_text-clause-puts g c =
+    piece_stopped _ _ _ _ _ _ _ _ _ _ _ c.from_residual-in_err-put_text.ensures.1
+    (subst (λ (lines : List PlainGraph). Progress (g.O.Sink.holds c.args.out.now) (g.O.Sink.holds c.loop-alloc.out) (flat_map (graph_text c.args.to) c.args.graphs) (flat_map (graph_text c.args.to) lines))
+    (c.loop-alloc-test.ensures.first) c.loop-alloc.invariant.progress)
+    c.loop-alloc.invariant.faults
+    c.in_err-put_text.ensures.puts
 
 pub loop-alloc-preserved : goal.loop-alloc-preserved
 loop-alloc-preserved g c = record {

@@ -10,15 +10,13 @@ use Rattle.md_top.proofs.Lines.{stopped_behind, puts_behind, lines_behind}
 use Rattle.md_top.proofs.Edits.{next_edit}
 use Rattle.md_top.proofs.quiet.put_quiet_answers.Goals as goal
 
-pub returns-in_err-put_report_line : goal.returns-in_err-put_report_line
-returns-in_err-put_report_line g c = record {
-  puts =
-      stopped_behind _ (at_edits modes.Quiet c.loop-i.session (c.get.result.now ∷ drop (c.loop-i.i + 1) c.args.script.now)) _ _ _ _ _ _ _ _ _ c.from_residual.ensures.1
-      (subst (λ (edits : List Edit). AppendsLines (at_edits modes.Quiet c.args.session c.args.script.now) (at_edits modes.Quiet c.loop-i.session edits) (g.O.Sink.holds c.args.out.now) (g.O.Sink.holds c.loop-i.out))
-      (next_edit c.args.script.now c.loop-i.i c.get.result.now c.get.ensures.edit) c.loop-i.invariant.progress)
-      c.loop-i.invariant.faults
-      (c.in_err-put_report_line.ensures.puts (at_edits modes.Quiet c.loop-i.session (c.get.result.now ∷ drop (c.loop-i.i + 1) c.args.script.now)) c.quiet_line-line.ensures.line);
-}
+pub returns-in_err-put_report_line-clause-puts : goal.returns-in_err-put_report_line-clause-puts
+returns-in_err-put_report_line-clause-puts g c =
+    stopped_behind _ (at_edits modes.Quiet c.loop-i.session (c.get.result.now ∷ drop (c.loop-i.i + 1) c.args.script.now)) _ _ _ _ _ _ _ _ _ c.from_residual.ensures.1
+    (subst (λ (edits : List Edit). AppendsLines (at_edits modes.Quiet c.args.session c.args.script.now) (at_edits modes.Quiet c.loop-i.session edits) (g.O.Sink.holds c.args.out.now) (g.O.Sink.holds c.loop-i.out))
+    (next_edit c.args.script.now c.loop-i.i c.get.result.now c.get.ensures.edit) c.loop-i.invariant.progress)
+    c.loop-i.invariant.faults
+    (c.in_err-put_report_line.ensures.puts (at_edits modes.Quiet c.loop-i.session (c.get.result.now ∷ drop (c.loop-i.i + 1) c.args.script.now)) c.quiet_line-line.ensures.line)
 
 pub loop-i-preserved : goal.loop-i-preserved
 loop-i-preserved g c = record {
@@ -31,12 +29,10 @@ loop-i-preserved g c = record {
   faults = omega (arith, c.loop-i.invariant.faults, c.put_report_line.ensures.faults_never_fall);
 }
 
-pub returns : goal.returns
-returns g c = record {
-  puts =
-      puts_behind _ (at_edits modes.Quiet c.loop-i.session []) after_end _ _ _ _ _ _ _
-      (subst (λ (edits : List Edit). AppendsLines (at_edits modes.Quiet c.args.session c.args.script.now) (at_edits modes.Quiet c.loop-i.session edits) (g.O.Sink.holds c.args.out.now) (g.O.Sink.holds c.loop-i.out))
-      (drop_all c.loop-i.i c.args.script.now (omega arith)) c.loop-i.invariant.progress)
-      c.loop-i.invariant.faults
-      c.put_last.ensures.puts;
-}
+pub returns-clause-puts : goal.returns-clause-puts
+returns-clause-puts g c =
+    puts_behind _ (at_edits modes.Quiet c.loop-i.session []) after_end _ _ _ _ _ _ _
+    (subst (λ (edits : List Edit). AppendsLines (at_edits modes.Quiet c.args.session c.args.script.now) (at_edits modes.Quiet c.loop-i.session edits) (g.O.Sink.holds c.args.out.now) (g.O.Sink.holds c.loop-i.out))
+    (drop_all c.loop-i.i c.args.script.now (omega arith)) c.loop-i.invariant.progress)
+    c.loop-i.invariant.faults
+    c.put_last.ensures.puts

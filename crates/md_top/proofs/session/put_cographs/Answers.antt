@@ -6,12 +6,10 @@ use Rattle.md_session.specs.Answers.{IsOpened}
 use Rattle.md_top.proofs.Lines.{puts_behind}
 use Rattle.md_top.proofs.session.put_cographs.Goals as goal
 
-pub returns-in_ok-put_report_line-in-NotCograph : goal.returns-in_ok-put_report_line-in-NotCograph
-returns-in_ok-put_report_line-in-NotCograph g c = record {
-  puts =
-      puts_behind _ (at_edits modes.Cograph c.args.graph []) after_end _ _ _ _ _ _ _
-      (c.in_ok-put_report_line-in-NotCograph.ensures.puts (at_state modes.Cograph c.args.graph c.args.script.now)
-      (inl (c.in-NotCograph.p, subst (IsOpened c.args.graph) c.in-NotCograph.is c.in_ok-session.ensures, refl)))
-      c.put_report_line.ensures.faults_never_fall
-      (c.put_report_line-in-NotCograph.ensures.puts (at_edits modes.Cograph c.args.graph []) refl);
-}
+pub returns-in_ok-put_report_line-in-NotCograph-clause-puts : goal.returns-in_ok-put_report_line-in-NotCograph-clause-puts
+returns-in_ok-put_report_line-in-NotCograph-clause-puts g c =
+    puts_behind _ (at_edits modes.Cograph c.args.graph []) after_end _ _ _ _ _ _ _
+    (c.in_ok-put_report_line-in-NotCograph.ensures.puts (at_state modes.Cograph c.args.graph c.args.script.now)
+    (inl (c.in-NotCograph.p, subst (IsOpened c.args.graph) c.in-NotCograph.is c.in_ok-session.ensures, refl)))
+    c.put_report_line.ensures.faults_never_fall
+    (c.put_report_line-in-NotCograph.ensures.puts (at_edits modes.Cograph c.args.graph []) refl)

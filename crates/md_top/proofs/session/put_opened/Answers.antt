@@ -6,28 +6,22 @@ use Rattle.md_report.specs.Places.{at_state, at_edits, after_end}
 use Rattle.md_top.proofs.Lines.{puts_behind, stopped_behind, stopped_before, no_lines}
 use Rattle.md_top.proofs.session.put_opened.Goals as goal
 
-pub returns-in_err-tree : goal.returns-in_err-tree
-returns-in_err-tree g c = record {
-  puts =
-      stopped_behind _ (at_state modes.Cograph c.args.session c.args.script.now) _ _ _ _ _ _ _ _ _ c.from_residual.ensures.1
-      (no_lines _ _) (let still : g.O.Sink.faults c.args.out.now ≤ g.O.Sink.faults c.args.out.now = omega arith in still) (stopped_before _ _);
-}
+pub returns-in_err-tree-clause-puts : goal.returns-in_err-tree-clause-puts
+returns-in_err-tree-clause-puts g c =
+    stopped_behind _ (at_state modes.Cograph c.args.session c.args.script.now) _ _ _ _ _ _ _ _ _ c.from_residual.ensures.1
+    (no_lines _ _) (let still : g.O.Sink.faults c.args.out.now ≤ g.O.Sink.faults c.args.out.now = omega arith in still) (stopped_before _ _)
 
-pub returns : goal.returns
-returns g c = record {
-  puts =
-      puts_behind _ (at_edits modes.Cograph c.args.session c.args.script.now) after_end _ _ _ _ _ _ _
-      (c.in_ok-put_report_line.ensures.puts (at_state modes.Cograph c.args.session c.args.script.now)
-      (inr (c.requires, (plain_option c.in_ok-tree.tree, c.in_ok-tree.ensures.tree, refl))))
-      c.put_report_line.ensures.faults_never_fall
-      c.put_answers.ensures.puts;
-}
+pub returns-clause-puts : goal.returns-clause-puts
+returns-clause-puts g c =
+    puts_behind _ (at_edits modes.Cograph c.args.session c.args.script.now) after_end _ _ _ _ _ _ _
+    (c.in_ok-put_report_line.ensures.puts (at_state modes.Cograph c.args.session c.args.script.now)
+    (inr (c.requires, (plain_option c.in_ok-tree.tree, c.in_ok-tree.ensures.tree, refl))))
+    c.put_report_line.ensures.faults_never_fall
+    c.put_answers.ensures.puts
 
-pub returns-in_err-put_report_line : goal.returns-in_err-put_report_line
-returns-in_err-put_report_line g c = record {
-  puts =
-      stopped_behind _ (at_state modes.Cograph c.args.session c.args.script.now) _ _ _ _ _ _ _ _ _ c.from_residual-in_err-put_report_line.ensures.1
-      (no_lines _ _) (let still : g.O.Sink.faults c.args.out.now ≤ g.O.Sink.faults c.args.out.now = omega arith in still)
-      (c.in_err-put_report_line.ensures.puts (at_state modes.Cograph c.args.session c.args.script.now)
-      (inr (c.requires, (plain_option c.in_ok-tree.tree, c.in_ok-tree.ensures.tree, refl))));
-}
+pub returns-in_err-put_report_line-clause-puts : goal.returns-in_err-put_report_line-clause-puts
+returns-in_err-put_report_line-clause-puts g c =
+    stopped_behind _ (at_state modes.Cograph c.args.session c.args.script.now) _ _ _ _ _ _ _ _ _ c.from_residual-in_err-put_report_line.ensures.1
+    (no_lines _ _) (let still : g.O.Sink.faults c.args.out.now ≤ g.O.Sink.faults c.args.out.now = omega arith in still)
+    (c.in_err-put_report_line.ensures.puts (at_state modes.Cograph c.args.session c.args.script.now)
+    (inr (c.requires, (plain_option c.in_ok-tree.tree, c.in_ok-tree.ensures.tree, refl))))

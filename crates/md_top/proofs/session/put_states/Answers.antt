@@ -9,14 +9,12 @@ use Rattle.md_top.specs.Sinks.{sink_run, PutsLines}
 use Rattle.md_top.proofs.Lines.{puts_behind}
 use Rattle.md_top.proofs.session.put_states.Goals as goal
 
-pub returns : goal.returns
-returns g c = record {
-  puts =
-      puts_behind _ (at_edits modes.Edit c.args.graph c.args.script.now) after_end _ _ _ _ _ _ _
-      (c.in_ok-put_report_line.ensures.puts (at_state modes.Edit c.args.graph c.args.script.now)
-      (plain_option c.in_ok-tree.tree, subst (λ (s : PlainGraph). IsTree (adjacent s) s.vertices (plain_option c.in_ok-tree.tree)) c.new-session.ensures c.in_ok-tree.ensures, refl))
-      c.put_report_line.ensures.faults_never_fall
-      (subst (λ (s : PlainGraph). PutsLines (at_edits modes.Edit s c.args.script.now) after_end c.put_edits.result
-      (sink_run g.O.Sink c.put_report_line.new.out c.put_edits.new.out))
-      c.new-session.ensures c.put_edits.ensures.puts);
-}
+pub returns-clause-puts : goal.returns-clause-puts
+returns-clause-puts g c =
+    puts_behind _ (at_edits modes.Edit c.args.graph c.args.script.now) after_end _ _ _ _ _ _ _
+    (c.in_ok-put_report_line.ensures.puts (at_state modes.Edit c.args.graph c.args.script.now)
+    (plain_option c.in_ok-tree.tree, subst (λ (s : PlainGraph). IsTree (adjacent s) s.vertices (plain_option c.in_ok-tree.tree)) c.new-session.ensures c.in_ok-tree.ensures, refl))
+    c.put_report_line.ensures.faults_never_fall
+    (subst (λ (s : PlainGraph). PutsLines (at_edits modes.Edit s c.args.script.now) after_end c.put_edits.result
+    (sink_run g.O.Sink c.put_report_line.new.out c.put_edits.new.out))
+    c.new-session.ensures c.put_edits.ensures.puts)

@@ -5,8 +5,5 @@ use Rattle.md_top.proofs.Loads.{no_loads}
 use Rattle.md_top.proofs.EndsLemmas.{ends_of_command}
 use Rattle.md_top.proofs.top.end_big.Goals as goal
 
-pub returns : goal.returns
-returns g c = record {
-  ends = ends_of_command (Big c.args.size) [] (Big c.args.size) refl _ _ (no_loads _ _ _ _ _) _ c.big.ensures.ends;
-  told = refl;
-}
+pub returns-clause-ends : goal.returns-clause-ends
+returns-clause-ends g c = ends_of_command (Big c.args.size) [] (Big c.args.size) refl _ _ (no_loads _ _ _ _ _) _ c.big.ensures.ends
