@@ -26,15 +26,21 @@ fn end(rt: &HostRuntime) -> ExitCode
     ensures { (status : Status) × (exit_status result ≡ number_of status) }
 {
     let status = match words(rt) {
-        Ok(words) => {
-            let mut files = DirFiles::new(rt, rt.alloc());
-            let mut out = GatheringSink::new(rt.alloc(), rt.stdout());
-            let mut err = StdSink::new(rt.stderr());
-            run(rt.alloc(), &words, &mut files, &mut out, &mut err)
-        }
+        Ok(words) => run_here(rt, &words),
         Err(status) => status,
     };
     status.exit_code()
+}
+
+// The status of `run` over the files of the system, standard output, which gathers small pieces, and
+// standard error. Where there is no memory to gather in, it writes nothing.
+fn run_here(rt: &HostRuntime, words: &[String]) -> Status {
+    let Ok(mut out) = GatheringSink::new(rt.alloc(), rt.stdout()) else {
+        return Status::Memory;
+    };
+    let mut files = DirFiles::new(rt, rt.alloc());
+    let mut err = StdSink::new(rt.stderr());
+    run(rt.alloc(), words, &mut files, &mut out, &mut err)
 }
 
 // The words behind the program's name.

@@ -125,7 +125,7 @@ fn runs_into_a_full_writer(rt: HostRuntime) -> Result<(), Fail> {
                 written: &mut written,
                 writes,
             },
-        );
+        )?;
         let mut err = MemSink::new(alloc, Vec::new(alloc), 0);
         let status = run(alloc, &words, &mut files, &mut out, &mut err).number();
         drop(out);
