@@ -107,6 +107,9 @@ ssize_t write(int to, const void *bytes, size_t size)
     return syscall(SYS_write, to, bytes, size);
 }
 
+/* The name by which the C library calls it itself. */
+ssize_t __write(int to, const void *bytes, size_t size) { return write(to, bytes, size); }
+
 ssize_t writev(int to, const struct iovec *parts, int count)
 {
     if (to == descriptor && is_refused(&writes)) {
