@@ -9,9 +9,9 @@ each vertex that comes, for its list of neighbours. One that built the tree anew
 inner node of each tree at least, 499,500 while the vertices come, and would end with the status Memory.
 
 `quiet` is run over a script whose edits of edges are all applied, and over one with as many edits that are all refused
-before anything is looked at, since each names one vertex twice. Both leave the same graph, reading either takes the same
-memory, and both reports have one short line an edit: so where both runs make as many requests, applying edits makes
-none. It is tried with scripts twice as long too, which take more for their reading and for the lines alone.
+before anything is looked at, since each names one vertex twice. Both leave the same graph, reading either takes the
+same memory, and both reports have one short line an edit: so where both runs make as many requests, applying edits
+makes none. It is tried with scripts twice as long too, which take more for their reading and for the lines alone.
 
 The last line is `no difference`, or the number of the differences, and then the exit status is 1.
 """

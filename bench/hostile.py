@@ -195,7 +195,8 @@ def spread(most, count):
     if most <= count:
         return list(range(1, most + 1))
     first = count // 2
-    return sorted(set(range(1, first + 1)) | {first + (most - first) * i // (count - first) for i in range(1, count - first + 1)})
+    rest = count - first
+    return list(range(1, first + 1)) + [first + (most - first) * i // rest for i in range(1, rest + 1)]
 
 
 def refusals(at, case, most, limits=()):

@@ -26,7 +26,7 @@ class Ended:
 
     def __str__(self):
         how = "signal %d" % self.signal if self.signal else "status %d" % self.status
-        return "%s, %d bytes out%s, err %r" % (how, len(self.out), " .." + repr(self.out[-30:]) if self.out else "", self.err[:80])
+        return "%s, %d bytes out, at the end %r, err %r" % (how, len(self.out), self.out[-30:], self.err[:80])
 
 
 class Program:
