@@ -1,0 +1,59 @@
+"""Runs the program with requests for memory and writes that are refused, by the counter of refuse.c."""
+import os
+import re
+import resource
+import subprocess
+
+BENCH = os.path.dirname(os.path.abspath(__file__))
+
+
+def compile_counter(folder):
+    """Compiles the counter into a folder, and answers its path."""
+    path = os.path.join(folder, "refuse.so")
+    subprocess.run(["cc", "-O2", "-shared", "-fPIC", "-o", path, os.path.join(BENCH, "refuse.c")], check=True)
+    return path
+
+
+class Ended:
+    """How a run ended: its status, the number of the signal that ended it (0: none), and what it wrote."""
+
+    def __init__(self, code, out, err):
+        self.status, self.signal = (code, 0) if code >= 0 else (None, -code)
+        self.out, self.err = out, err
+
+    def __eq__(self, other):
+        return (self.status, self.signal, self.out, self.err) == (other.status, other.signal, other.out, other.err)
+
+    def __str__(self):
+        how = "signal %d" % self.signal if self.signal else "status %d" % self.status
+        return "%s, %d bytes out, at the end %r, err %r" % (how, len(self.out), self.out[-30:], self.err[:80])
+
+
+class Program:
+    def __init__(self, binary, counter, where):
+        self.binary, self.counter, self.where = binary, counter, where
+
+    def run(self, words, refuse=None, limits=(), out=subprocess.PIPE, stdin=subprocess.DEVNULL):
+        """One run in the folder. `refuse` holds the counter's variables, without their beginning; `limits` are pairs of
+        a limit of the system and a number."""
+        variables = {"PATH": os.defpath}
+        if refuse is not None:
+            variables["LD_PRELOAD"] = self.counter
+            variables.update(("REFUSE_" + name, str(value)) for name, value in refuse.items())
+
+        def before():
+            for limit, number in limits:
+                resource.setrlimit(limit, (number, number))
+
+        run = subprocess.run([self.binary, *words], cwd=self.where, env=variables, stdin=stdin, stdout=out,
+                             stderr=subprocess.PIPE, preexec_fn=before if limits else None)
+        return Ended(run.returncode, run.stdout or b"", run.stderr)
+
+    def counts(self, words, refuse=None):
+        """How many requests for memory and how many writes to a descriptor a run takes."""
+        path = os.path.join(self.where, "counts.%d" % os.getpid())
+        self.run(words, {"COUNTS": path, **(refuse or {})})
+        with open(path) as file:
+            found = re.fullmatch(r"requests (\d+) writes (\d+)\n", file.read())
+        os.remove(path)
+        return int(found[1]), int(found[2])
