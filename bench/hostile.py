@@ -15,7 +15,8 @@ For one run of every command over small inputs, for wrong words and wrong input,
     each is interrupted by a signal in turn, and each takes one byte alone in turn;
   * the address space is limited, from 2 to 60 MB.
 
-Trees of depth 4,095 are tried with a stack of 512 KB, with requests refused that are spread over the run.
+Trees of depth 4,095 are tried with a stack of 512 KB, with requests refused that are spread over the run. Checks of
+quiet reports over deep trees are slow, and tried with few requests refused.
 
 A run in which nothing is refused says what is right; where it is a report, `check` has to accept it. A run in which
 memory is refused has to end as that one, or with the status Memory, its line, and a beginning of the same output, or
