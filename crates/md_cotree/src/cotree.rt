@@ -65,7 +65,7 @@ mod tests {
         assert_eq!(rt; cotree.node_count(), 1);
         assert_eq!(rt; cotree.adjacent(7, 7), false);
         let back = cotree.to_tree(alloc)?;
-        assert!(rt; matches!(back, Some(Tree::Leaf(7))));
+        assert!(rt; matches!(&back, Some(Tree::Leaf(7))));
         Ok(())
     }
 }
