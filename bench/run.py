@@ -310,25 +310,29 @@ def measure_sizes(binary):
                         with open(os.path.join(where, name), "wb") as file:
                             file.write(text)
                     words = [command, "g6", "graph"] + (["script"] if command in ("edit", "cograph", "quiet") else [])
-                    report += " %.3f s, %.0f MB |" % timed(binary, words, where)
+                    report += " %s |" % timed(binary, words, where)
                     if command in MODES:
                         with open(os.path.join(where, "report"), "wb") as file:
                             subprocess.run([binary, *words], cwd=where, stdout=file, check=True)
-                        check += " %.3f s, %.0f MB |" % timed(binary, ["check", *words, "report"], where)
+                        check += " %s |" % timed(binary, ["check", *words, "report"], where)
             print(report, flush=True)
             if command in MODES:
                 print(check, flush=True)
-        print("| `big` |" + "".join(" %.3f s, %.0f MB | |" % timed(binary, ["big", str(n)], where) for n in (1024, 4096)))
+        print("| `big` |" + "".join(" | %s |" % timed(binary, ["big", str(n)], where) for n in (1024, 4096)))
 
 
 def timed(binary, words, where):
-    """Seconds of processor time, and peak megabytes, of one run."""
-    run = subprocess.run(["time", "-f", "%U %S %M", binary, *words], cwd=where, stdout=subprocess.DEVNULL,
-                         stderr=subprocess.PIPE)
+    """Seconds of processor time and peak megabytes of one run, as text; a report may be too long for a check."""
+    with subprocess.Popen(["time", "-f", "%M", binary, *words], cwd=where, stdout=subprocess.DEVNULL,
+                          stderr=subprocess.PIPE) as run:
+        told = run.stderr.read()
+        _, status, usage = os.wait4(run.pid, 0)
+        run.returncode = os.waitstatus_to_exitcode(status)
+    if run.returncode == 7:
+        return "too long"
     if run.returncode != 0:
         sys.exit("%s ended with status %d" % (" ".join(words), run.returncode))
-    user, system, peak = run.stderr.split()[-3:]
-    return float(user) + float(system), int(peak) / 1024
+    return "%.3f s, %.0f MB" % (usage.ru_utime + usage.ru_stime, int(told.split()[-1]) / 1024)
 
 
 def build():
