@@ -22,7 +22,7 @@ import re
 import sys
 
 KINDS = {"P": "parallel", "S": "series", "R": "prime"}
-TOKEN = re.compile(r"([PSR])\(|([0-9]+)|([,;)-])")
+TOKEN = re.compile(r"([PSR])\(|([0-9]+)|([,)])|;((?:[0-9]+-[0-9]+,)*[0-9]+-[0-9]+)(?=\))")
 
 
 class ReportError(ValueError):
@@ -108,44 +108,34 @@ def parse_tree(text):
     """The tree of a text, `None` for `empty`."""
     if text == "empty":
         return None
-    root, open_nodes, place = None, [], 0
-    number, pair = None, None
+    root, open_nodes, place, due = None, [], 0, True
     while place < len(text):
         token = TOKEN.match(text, place)
         if token is None:
             raise ReportError("no tree from byte %d on" % place)
+        kind, digits, mark, pairs = token.groups()
+        begins = kind is not None or digits is not None
+        if begins != due or (not begins and not open_nodes):
+            raise ReportError("%r doesn't belong at byte %d" % (token.group(), place))
         place = token.end()
-        kind, digits, mark = token.groups()
-        if root is not None and not open_nodes:
-            raise ReportError("more than a tree at byte %d" % token.start())
-        node = None
-        if kind:
-            node = Node(KINDS[kind])
-        elif digits:
-            if pair is None:
-                node = Node("leaf", int(digits))
-            else:
-                pair.append(int(digits))
-        elif not open_nodes:
-            raise ReportError("%r outside a node at byte %d" % (mark, token.start()))
-        elif mark == ";":
-            pair = []
-        elif mark in ",)" and pair is not None:
-            if len(pair) != 2:
-                raise ReportError("no pair before byte %d" % token.start())
-            open_nodes[-1].pairs.append(tuple(pair))
-            pair = []
-        if node is not None:
+        if begins:
+            node = Node(KINDS[kind]) if kind else Node("leaf", int(digits))
             if open_nodes:
                 open_nodes[-1].children.append(node)
             else:
                 root = node
             if kind:
                 open_nodes.append(node)
-        if mark == ")":
+            due = kind is not None
+        elif pairs:
+            if open_nodes[-1].kind != "prime":
+                raise ReportError("pairs of a node that isn't prime at byte %d" % token.start())
+            open_nodes[-1].pairs = [tuple(map(int, pair.split("-"))) for pair in pairs.split(",")]
+        elif mark == ",":
+            due = True
+        else:
             open_nodes.pop()
-            pair = None
-    if root is None or open_nodes:
+    if due or open_nodes:
         raise ReportError("the text ends inside a tree")
     return root
 

@@ -50,7 +50,8 @@ class Trees(unittest.TestCase):
         self.assertIsNone(mdt_report.parse_tree("empty"))
 
     def test_faults(self):
-        for text in ["", "P(", "P(0", "P(0,1))", "0,1", "x", "R(0,1;0", "R(0,1;0)", "P(0,1)2"]:
+        for text in ["", "P(", "P(0", "P(0,1))", "0,1", "x", "R(0,1;0", "R(0,1;0)", "P(0,1)2", "P(0-1)", "P(,0)", "P(0,)",
+                     "P(0,1;0-1)", "R(0,1;0-1,)", "R(0,1;0-1;0-1)", "P()", ")", "P(0 1)", "P(0P(1,2))"]:
             with self.assertRaises(mdt_report.ReportError, msg=text):
                 mdt_report.parse_tree(text)
 
