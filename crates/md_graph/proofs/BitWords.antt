@@ -154,8 +154,8 @@ none_more any x words i below before none =
     let right = le_or_r any x in
     done_more (λ k y. y ≡ 0) words i x below (before (omega arith)) (omega arith)
 
-pub rest_more : (words : List ℕ) (i x : ℕ) → ((k : ℕ) → i ≤ k → get_or words k 0 ≡ 0) → (k : ℕ) → i + 1 ≤ k → get_or (set_at words i x) k 0 ≡ 0
-rest_more words i x rest k h = let other : k ≢ i = omega arith in rw get_or-set_other (rest k (omega arith))
+pub rest_more : (words old : List ℕ) (i x : ℕ) → ((k : ℕ) → i ≤ k → get_or words k 0 ≡ get_or old k 0) → (k : ℕ) → i + 1 ≤ k → get_or (set_at words i x) k 0 ≡ get_or old k 0
+rest_more words old i x rest k h = let other : k ≢ i = omega arith in rw get_or-set_other (rest k (omega arith))
 
 -- the bits of `a & !b`
 pub without_word : (a b : ℕ) → b < 2 ^ 64 → IsWithout (bit_and a (bit_not w64 b)) a b

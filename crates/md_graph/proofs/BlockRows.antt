@@ -141,18 +141,19 @@ or_swap a b c = grind arith
 neither : (a b : Bool) → a ≡ false → b ≡ false → (a || (b || b)) ≡ false
 neither a b e f = grind arith
 
-pub rows_add_block : {live : NameSet} {rows : List NameSet} {g : PlainGraph} → AreRows live rows → graph_of live rows ≡ g → (low high : ℕ) (words : List ℕ)
+pub rows_add_block : {limit : ℕ} {live : NameSet} {rows : List NameSet} {g : PlainGraph} → AreRows limit live rows → graph_of live rows ≡ g → (low high : ℕ) (words : List ℕ)
     → ((u v : ℕ) → in_block words high low u v ≡ true → Has g.vertices u × Has g.vertices v × (u ≢ v))
     → (n : ℕ) (old ws : List NameSet) → n ≡ length rows → old ≡ rows → length ws ≡ length old
     → ((u v : ℕ) → set.contains (row_of ws u) v ≡ (set.contains (row_of old u) v || (in_block words high low u v || in_block words high low v u)))
-    → AreRows live (refill n rows ws) × IsWithBlock g high low words (graph_of live (refill n rows ws))
-rows_add_block {live} {rows} {g} a e low high words ends n old ws len same kept each =
+    → AreRows limit live (refill n rows ws) × IsWithBlock g high low words (graph_of live (refill n rows ws))
+rows_add_block {limit} {live} {rows} {g} a e low high words ends n old ws len same kept each =
     let same_len = ap length same in
     let whole = refilled n rows ws (omega arith) in
     let live_is = λ (q : ℕ). ap (λ h. set.contains h.vertices q) e in
     let law = λ (x y : ℕ). ap (λ r. set.contains (row_of r x) y) whole ∙ each x y ∙ ap (λ r. set.contains (row_of r x) y || (in_block words high low x y || in_block words high low y x)) same in
-    let made : AreRows live (refill n rows ws) = record {
+    let made : AreRows limit live (refill n rows ws) = record {
       one_each = ap length whole ∙ kept ∙ same_len ∙ a.one_each;
+      few = a.few;
       both_ways = λ u v. law u v ∙ ap (λ b. b || (in_block words high low u v || in_block words high low v u)) (a.both_ways u v) ∙ or_swap (set.contains (row_of rows v) u) (in_block words high low u v) (in_block words high low v u) ∙ sym (law v u);
       no_loop = λ v. law v v ∙ neither _ _ (a.no_loop v) (false_from_ne_true _ (λ h. (ends v v h).2 refl));
       inside = λ u v h. elim (or_cases _ _ (sym (law u v) ∙ h)) [

@@ -107,45 +107,46 @@ edge_parts rows u v h =
     let parts = and_parts _ _ (sym (contains-edges_of rows u v) ∙ h) in
     ((and_parts _ _ parts.0).0, parts.1)
 
-pub IsGraph-graph_of : {live : NameSet} {rows : List NameSet} → AreRows live rows → IsGraph (graph_of live rows)
-IsGraph-graph_of {live} {rows} a = record {
-  names = a.names;
+pub IsGraph-graph_of : {limit : ℕ} {live : NameSet} {rows : List NameSet} → AreRows limit live rows → IsGraph (graph_of live rows)
+IsGraph-graph_of {limit} {live} {rows} a = record {
+  names = λ v m. let name = a.names v m in let few = a.few in omega arith;
   ordered = λ u v h. ltb-true u v (edge_parts rows u v h).0;
   low_end = λ u v h. a.inside v u (edge_parts rows u v h).1;
   high_end = λ u v h. a.inside u v (a.both_ways u v ∙ (edge_parts rows u v h).1);
 }
 
-adjacent_by_row : {live : NameSet} {rows : List NameSet} → AreRows live rows → (u v : ℕ) → u < v → adjacent (graph_of live rows) u v ≡ set.contains (row_of rows v) u
-adjacent_by_row {live} {rows} a u v up =
+adjacent_by_row : {limit : ℕ} {live : NameSet} {rows : List NameSet} → AreRows limit live rows → (u v : ℕ) → u < v → adjacent (graph_of live rows) u v ≡ set.contains (row_of rows v) u
+adjacent_by_row {limit} {live} {rows} a u v up =
     adjacent_up (graph_of live rows) u v up
     ∙ contains-edges_of rows u v
     ∙ elim (cases_Bool (set.contains (row_of rows v) u)) [
-      | inl t ↦ let name = a.names v (a.inside u v (a.both_ways u v ∙ t)) in grind (arith, nat_tests)
+      | inl t ↦ let name = a.names v (a.inside u v (a.both_ways u v ∙ t)) in let few = a.few in grind (arith, nat_tests)
       | inr f ↦ grind (arith, nat_tests)
     ]
 
-pub adjacent-graph_of : {live : NameSet} {rows : List NameSet} → AreRows live rows → (u v : ℕ) → adjacent (graph_of live rows) u v ≡ set.contains (row_of rows u) v
-adjacent-graph_of {live} {rows} a u v =
+pub adjacent-graph_of : {limit : ℕ} {live : NameSet} {rows : List NameSet} → AreRows limit live rows → (u v : ℕ) → adjacent (graph_of live rows) u v ≡ set.contains (row_of rows u) v
+adjacent-graph_of {limit} {live} {rows} a u v =
     elim (cases_order u v) [
       | inl same ↦ rw (same, a.no_loop v) (adjacent_self (IsGraph-graph_of a) v)
       | inr (inl up) ↦ adjacent_by_row a u v up ∙ a.both_ways v u
       | inr (inr down) ↦ adjacent_sym (graph_of live rows) u v ∙ adjacent_by_row a v u down
     ]
 
-pub neighbours-graph_of : {live : NameSet} {rows : List NameSet} → AreRows live rows → (v : ℕ) → neighbours (graph_of live rows) v ≡ row_of rows v
-neighbours-graph_of {live} {rows} a v =
+pub neighbours-graph_of : {limit : ℕ} {live : NameSet} {rows : List NameSet} → AreRows limit live rows → (v : ℕ) → neighbours (graph_of live rows) v ≡ row_of rows v
+neighbours-graph_of {limit} {live} {rows} a v =
     same_set _ _ (λ u. contains-neighbours (IsGraph-graph_of a) v u ∙ adjacent-graph_of a v u)
 
 -- rows that hold what is adjacent in a graph are its rows
-pub rows_of_graph : {live : NameSet} {rows : List NameSet} {g : PlainGraph} → IsGraph g → live ≡ g.vertices → length rows ≡ NAMES → ((u v : ℕ) → set.contains (row_of rows u) v ≡ adjacent g u v) → AreRows live rows × (graph_of live rows ≡ g)
-rows_of_graph {live} {rows} {g} is ev n law =
+pub rows_of_graph : {limit : ℕ} {live : NameSet} {rows : List NameSet} {g : PlainGraph} → IsGraph g → AllBelow g.vertices limit → limit ≤ NAMES → live ≡ g.vertices → length rows ≡ limit → ((u v : ℕ) → set.contains (row_of rows u) v ≡ adjacent g u v) → AreRows limit live rows × (graph_of live rows ≡ g)
+rows_of_graph {limit} {live} {rows} {g} is below few ev n law =
     let member = λ (u : ℕ). ap (λ s. set.contains s u) ev in
-    let a : AreRows live rows = record {
+    let a : AreRows limit live rows = record {
       one_each = n;
+      few = few;
       both_ways = λ u v. law u v ∙ adjacent_sym g u v ∙ sym (law v u);
       no_loop = λ v. law v v ∙ adjacent_self is v;
       inside = λ u v h. member v ∙ (adjacent_ends is u v (sym (law u v) ∙ h)).1;
-      names = λ v h. is.names v (sym (member v) ∙ h);
+      names = λ v h. below v (sym (member v) ∙ h);
     } in
     (a, same_graph (IsGraph-graph_of a) is ev (λ u v. adjacent-graph_of a u v ∙ law u v))
 

@@ -5,7 +5,10 @@ use Rattle.std.specs.Int.{bit_at, w64, trailing_zeros}
 use Rattle.std.proofs.lemmas.Nat.{shr_split}
 use Rattle.std.proofs.lemmas.Nat.Bits.{bit_at-zero, bit_at_and, bit_at-trailing_zeros, same_from_bits_below, bit_at-suc, bit_at_lowest, bit_at_cat_low, bit_at_cat_high}
 use Rattle.md_graph.specs.Sets.{NameSet}
-use Rattle.md_graph.specs.NameSet.{AllBelow, ascending_between}
+use Rattle.md_graph.specs.NameSet.{AllBelow, ascending_between, ascending_from}
+use Rattle.md_graph.specs.declared.TheConstants.{NAMES, WORDS}
+use Rattle.md_graph.proofs.Limits.{words_few}
+use Rattle.std.proofs.lemmas.Bool.{false_from_ne_true}
 use Rattle.md_graph.specs.Words.{bit_of, names_below, bits_between, names_of_words, members_left}
 use Rattle.md_graph.proofs.NameLemmas.{not_both, ascending_none}
 use Rattle.md_graph.proofs.BitWords.{InUse, contains-names_below, zero_bit}
@@ -222,3 +225,23 @@ members_left_past words n w used v whole rest past =
 
 pub all_below : (words : List ℕ) (n : ℕ) → AllBelow (names_below words n) n
 all_below words n v member = member_below v n _ (sym (contains-names_below words n v) ∙ member)
+
+-- the members of a set of small numbers, listed as those of any set
+ascending_beyond : (s : NameSet) (low n more : ℕ) → AllBelow s n → ascending_between s low (more + n) ≡ ascending_between s low n
+unfolding ascending_between
+ascending_beyond s low n zero below = let same : 0 + n ≡ n = omega arith in ap (ascending_between s low) same
+ascending_beyond s low n (suc more) below =
+    let none : set.contains s (more + n) ≡ false = false_from_ne_true _ (λ m. let h = below (more + n) m in omega arith) in
+    let out : (nat_le low (more + n) && set.contains s (more + n)) ≡ false = not_both low (more + n) _ (λ _. none) in
+    let goal : ascending_between s low (more + n) ++ (if nat_le low (more + n) && set.contains s (more + n) then (more + n) ∷ [] else []) ≡ ascending_between s low n =
+    rw out (append-nil (ascending_between s low (more + n)) ∙ ascending_beyond s low n more below) in
+    let next : suc more + n ≡ suc (more + n) = omega arith in
+    ap (ascending_between s low) next ∙ goal
+
+pub ascending_limit : (s : NameSet) (low n : ℕ) → AllBelow s n → n ≤ NAMES → ascending_between s low n ≡ ascending_from s low
+ascending_limit s low n below few =
+    let whole : (NAMES - n) + n ≡ NAMES = omega arith in
+    sym (ascending_beyond s low n (NAMES - n) below) ∙ ap (ascending_between s low) whole
+
+pub all_names : (words : List ℕ) (w : ℕ) → w ≤ WORDS → AllBelow (names_below words (64 * w)) NAMES
+all_names words w few v member = let below = all_below words (64 * w) v member in let names = words_few w few in omega arith

@@ -1,6 +1,6 @@
 -- The edges that rows of neighbours keep, and what holds of the rows of a graph.
 -- Source: the adjacency matrix of a graph, as in any textbook.
-use Rattle.std.specs.Prelude.{◌≡◌, ℕ, ◌<◌, List, length, get_or}
+use Rattle.std.specs.Prelude.{◌≡◌, ℕ, ◌<◌, ◌≤◌, List, length, get_or}
 use Rattle.std.specs.FinSet as set
 use Rattle.md_graph.specs.declared.TheConstants.{NAMES}
 use Rattle.md_graph.specs.Sets.{NameSet, Has, Lacks}
@@ -18,11 +18,12 @@ edges_of rows = pairs_where (λ u v. set.contains (row_of rows v) u) NAMES
 abbrev pub graph_of : NameSet → List NameSet → PlainGraph
 graph_of live rows = record { vertices = live; edges = edges_of rows }
 
--- What holds of the rows of a graph: one for each name; an edge stands in the rows of both its
--- ends, which are live and differ.
-pub record AreRows (live : NameSet) (rows : List NameSet) : Type 0 where
-  pub one_each : length rows ≡ NAMES
+-- What holds of the rows of a graph on names below `limit`: one for each of these; an edge stands
+-- in the rows of both its ends, which are live and differ.
+pub record AreRows (limit : ℕ) (live : NameSet) (rows : List NameSet) : Type 0 where
+  pub one_each : length rows ≡ limit
+  pub few : limit ≤ NAMES
   pub both_ways : (u v : ℕ) → set.contains (row_of rows u) v ≡ set.contains (row_of rows v) u
   pub no_loop : (v : ℕ) → Lacks (row_of rows v) v
   pub inside : (u v : ℕ) → Has (row_of rows u) v → Has live v
-  pub names : (v : ℕ) → Has live v → v < NAMES
+  pub names : (v : ℕ) → Has live v → v < limit

@@ -1,52 +1,58 @@
 //! Undirected graphs without loops and parallel edges.
-ghost use Rattle.std.specs.Prelude.{◌≡◌, ℕ, ◌+◌, ◌<◌, ◌≤◌, ◌≢◌, true, false, IfOk, IfSome, IfNone, length, if◌then◌else◌, ◌/◌, ◌%◌, ◌==◌, ◌&&◌, ◌||◌};
+ghost use Rattle.std.specs.Prelude.{◌≡◌, ℕ, ◌+◌, ◌*◌, ◌<◌, ◌≤◌, ◌≢◌, true, false, IfOk, IfSome, IfNone, length, if◌then◌else◌, ◌/◌, ◌%◌, ◌==◌, ◌&&◌, ◌||◌};
 ghost use Rattle.std.specs.Int.{bit_at};
 ghost use Rattle.std.specs.FinSet as set;
 ghost use Rattle.md_graph.specs.Sets.{Has, Lacks};
-ghost use Rattle.md_graph.specs.NameSet.{IsLeastFrom, NoneFrom};
+ghost use Rattle.md_graph.specs.NameSet.{IsLeastFrom, NoneFrom, AllBelow};
 ghost use Rattle.md_graph.specs.PlainGraph.{adjacent, neighbours, IsGraph, empty_graph, with_vertex, with_range, with_edge, with_edges, complement, induced, without_vertex, without_edge};
 ghost use Rattle.md_graph.specs.Rows.{row_of};
 ghost use Rattle.md_graph.specs.Blocks.{in_block, IsWithBlock};
 
 use crate::transposition::transposed;
 use crate::words::are_all_zero;
-use crate::{Memory, NAMES, Names};
+use crate::{Memory, NAMES, Set, WORDS};
 use std::alloc::Global;
 use std::marker::Model;
 
-/// A graph: its vertices are names, and each name has a row, the set of its neighbours. All rows
-/// are taken when the graph is made, and the row of a name that is no vertex is empty.
+/// A graph on names below `64 * W`: each of these names has a row, the set of its neighbours. All
+/// rows are taken when the graph is made, and the row of a name that is no vertex is empty. Its value
+/// is a plain graph whatever `W`, which is at most `WORDS`.
 #[derive(Drop)]
-pub struct Graph {
-    live: Names,
-    rows: Vec<Names>,
+pub struct GraphOf<const W: usize> {
+    live: Set<W>,
+    rows: Vec<Set<W>>,
 }
 
-impl Model for Graph {
+/// A graph on names.
+pub type Graph = GraphOf<WORDS>;
+
+impl<const W: usize> Model for GraphOf<W> {
     ghost use Rattle.md_graph.specs.PlainGraph.{PlainGraph, graph_code};
 
     ghost Value = { PlainGraph };
 
     ghost coded = { graph_code };
 
+    ghost use Rattle.std.specs.Prelude.{◌*◌};
     ghost use Rattle.md_graph.specs.Rows.{graph_of, AreRows};
 
     ghost view = { λ g. graph_of g.live g.rows.items };
 
-    ghost invariant = { λ g. AreRows g.live g.rows.items };
+    ghost invariant = { λ g. AreRows (64 * W) g.live g.rows.items };
 }
 
-impl Graph {
-    /// The graph without vertices.
-    pub fn new(alloc: Global) -> Result<Graph, Memory>
+impl<const W: usize> GraphOf<W> {
+    /// The graph without vertices. Condition: `W` is at most `WORDS`.
+    pub fn new(alloc: Global) -> Result<GraphOf<W>, Memory>
+        requires { W ≤ WORDS }
         ensures { IfOk result (λ g. g ≡ empty_graph) }
     {
-        let mut rows = Vec::with_capacity(alloc, NAMES as usize)?;
-        for _ in 0..NAMES {
-            rows.push(Names::none())?;
+        let mut rows = Vec::with_capacity(alloc, 64 * W)?;
+        for _ in 0..64 * W {
+            rows.push(Set::none())?;
         }
-        Ok(Graph {
-            live: Names::none(),
+        Ok(GraphOf {
+            live: Set::none(),
             rows,
         })
     }
@@ -62,7 +68,8 @@ impl Graph {
     pub fn has_edge(&self, u: u32, v: u32) -> bool
         ensures { result ≡ adjacent self.now u v }
     {
-        u < NAMES && self.rows[u as usize].has(v)
+        let row = u as usize;
+        row < self.rows.len() && self.rows[row].has(v)
     }
 
     /// The number of neighbours of `v`. Condition: it is a vertex.
@@ -93,9 +100,11 @@ impl Graph {
     }
 
     /// The vertices.
-    pub fn vertices(&self) -> &Names
+    pub fn vertices(&self) -> &Set<W>
         ensures set { result.now ≡ self.now.vertices }
         ensures graph { IsGraph self.now }
+        ensures below { AllBelow self.now.vertices (64 * W) }
+        ensures limit { W ≤ WORDS }
     {
         &self.live
     }
@@ -105,32 +114,33 @@ impl Graph {
         ensures found { IfSome result (IsLeastFrom self.now.vertices from) }
         ensures none { IfNone result (NoneFrom self.now.vertices from) }
         ensures name { IfSome result (λ v. v < NAMES) }
+        ensures below { IfSome result (λ v. v < 64 * W) }
     {
         self.live.first_from(from)
     }
 
-    /// The neighbours of `v`: none for a name that is no vertex. Condition: `v` is a name.
-    pub fn row(&self, v: u32) -> &Names
-        requires { v < NAMES }
+    /// The neighbours of `v`: none for a name that is no vertex. Condition: `v` is a name below `64 * W`.
+    pub fn row(&self, v: u32) -> &Set<W>
+        requires { v < 64 * W }
         ensures set { result.now ≡ neighbours self.now v }
         ensures graph { IsGraph self.now }
     {
         &self.rows[v as usize]
     }
 
-    /// Takes in the vertex `v`, without edges. Condition: it is a name and no vertex yet.
+    /// Takes in the vertex `v`, without edges. Condition: it is a name below `64 * W` and no vertex yet.
     pub fn add_vertex(&mut self, v: u32)
-        requires name { v < NAMES }
+        requires name { v < 64 * W }
         requires absent { Lacks self.old.vertices v }
         ensures { self.new ≡ with_vertex self.old v }
     {
         self.live.insert(v);
     }
 
-    /// Takes in the `count` vertices from `from` on, without edges. Condition: they are names, and
-    /// none is a vertex yet.
+    /// Takes in the `count` vertices from `from` on, without edges. Condition: they are names below
+    /// `64 * W`, and none is a vertex yet.
     pub fn add_range(&mut self, from: u32, count: u32)
-        requires names { from + count ≤ NAMES }
+        requires names { from + count ≤ 64 * W }
         requires absent { (v : ℕ) → from ≤ v → v < from + count → Lacks self.old.vertices v }
         ensures { self.new ≡ with_range self.old from count }
     {
@@ -152,7 +162,7 @@ impl Graph {
 
     /// Takes in the edges between `v` and each member of `others`. Condition: all are vertices, and
     /// `v` is no member. An edge that is there already stays.
-    pub fn add_edges(&mut self, v: u32, others: &Names)
+    pub fn add_edges(&mut self, v: u32, others: &Set<W>)
         requires vertex { Has self.old.vertices v }
         requires vertices { (u : ℕ) → Has others.now u → Has self.old.vertices u }
         requires differ { Lacks others.now v }
@@ -163,12 +173,12 @@ impl Graph {
     }
 
     /// Takes in 64 by 64 edges at once, for readers: one between `high + r` and `low + k` for each
-    /// bit k of word r that is 1. Condition: `low` and `high` are names and multiples of 64, and
+    /// bit k of word r that is 1. Condition: `low` and `high` are names below `64 * W` and multiples of 64, and
     /// the ends of each such edge are vertices and differ. An edge that is there already stays.
     pub fn add_block(&mut self, low: u32, high: u32, block: &[u64; 64])
-        requires low { low < NAMES }
+        requires low { low < 64 * W }
         requires low_aligned { low % 64 ≡ 0 }
-        requires high { high < NAMES }
+        requires high { high < 64 * W }
         requires high_aligned { high % 64 ≡ 0 }
         requires ends { (u v : ℕ) → in_block block.now high low u v ≡ true
             → Has self.old.vertices u × Has self.old.vertices v × (u ≢ v) }
@@ -206,14 +216,14 @@ impl Graph {
     }
 
     /// An equal graph.
-    pub fn copy(&self, alloc: Global) -> Result<Graph, Memory>
+    pub fn copy(&self, alloc: Global) -> Result<GraphOf<W>, Memory>
         ensures { IfOk result (λ g. g ≡ self.now) }
     {
-        let mut rows = Vec::with_capacity(alloc, NAMES as usize)?;
-        for v in 0..NAMES {
-            rows.push(self.rows[v as usize].copy())?;
+        let mut rows = Vec::with_capacity(alloc, self.rows.len())?;
+        for v in 0..self.rows.len() {
+            rows.push(self.rows[v].copy())?;
         }
-        Ok(Graph {
+        Ok(GraphOf {
             live: self.live.copy(),
             rows,
         })
@@ -221,14 +231,14 @@ impl Graph {
 
     /// The complement: the same vertices, and an edge between two of them where this graph has
     /// none.
-    pub fn complement(&self, alloc: Global) -> Result<Graph, Memory>
+    pub fn complement(&self, alloc: Global) -> Result<GraphOf<W>, Memory>
         ensures { IfOk result (λ g. g ≡ complement self.now) }
     {
-        let mut rows = Vec::with_capacity(alloc, NAMES as usize)?;
-        for v in 0..NAMES {
+        let mut rows = Vec::with_capacity(alloc, self.rows.len())?;
+        for v in 0..self.rows.len() as u32 {
             rows.push(self.complement_row(v))?;
         }
-        Ok(Graph {
+        Ok(GraphOf {
             live: self.live.copy(),
             rows,
         })
@@ -236,27 +246,27 @@ impl Graph {
 
     /// The graph that this graph induces on `names`: the vertices among them, and the edges between
     /// these.
-    pub fn induced(&self, alloc: Global, names: &Names) -> Result<Graph, Memory>
+    pub fn induced(&self, alloc: Global, names: &Set<W>) -> Result<GraphOf<W>, Memory>
         ensures { IfOk result (λ g. g ≡ induced self.now names.now) }
     {
         let live = &self.live;
-        let mut rows = Vec::with_capacity(alloc, NAMES as usize)?;
-        for v in 0..NAMES {
+        let mut rows = Vec::with_capacity(alloc, self.rows.len())?;
+        for v in 0..self.rows.len() as u32 {
             rows.push(self.induced_row(v, names))?;
         }
-        Ok(Graph {
+        Ok(GraphOf {
             live: live.and(names),
             rows,
         })
     }
 
-    /// The neighbours of `v` in the complement: none for a name that is no vertex. Condition: `v` is a name.
-    pub fn complement_row(&self, v: u32) -> Names
-        requires { v < NAMES }
+    /// The neighbours of `v` in the complement: none for a name that is no vertex. Condition: `v` is a name below `64 * W`.
+    pub fn complement_row(&self, v: u32) -> Set<W>
+        requires { v < 64 * W }
         ensures { result ≡ neighbours (complement self.now) v }
     {
         if !self.live.has(v) {
-            return Names::none();
+            return Set::none();
         }
         let mut others = self.live.minus(&self.rows[v as usize]);
         others.remove(v);
@@ -264,24 +274,25 @@ impl Graph {
     }
 
     // The row of `v` in the graph that this graph induces on `names`.
-    fn induced_row(&self, v: u32, names: &Names) -> Names
-        requires { v < NAMES }
+    fn induced_row(&self, v: u32, names: &Set<W>) -> Set<W>
+        requires { v < 64 * W }
         ensures { result ≡ neighbours (induced self.now names.now) v }
     {
         let row = &self.rows[v as usize];
         if !names.has(v) {
-            return Names::none();
+            return Set::none();
         }
         row.and(names)
     }
 }
 
 // Takes a block into the rows of both ends of its edges.
-fn join_block(rows: &mut [Names], low: u32, high: u32, block: &[u64; 64])
-    requires rows { length rows.old ≡ NAMES }
-    requires low { low < NAMES }
+fn join_block<const W: usize>(rows: &mut [Set<W>], low: u32, high: u32, block: &[u64; 64])
+    requires limit { W ≤ WORDS }
+    requires rows { length rows.old ≡ 64 * W }
+    requires low { low < 64 * W }
     requires low_aligned { low % 64 ≡ 0 }
-    requires high { high < NAMES }
+    requires high { high < 64 * W }
     requires high_aligned { high % 64 ≡ 0 }
     ensures { (u v : ℕ) → set.contains (row_of rows.new u) v ≡ (set.contains (row_of rows.old u) v
         || (in_block block.now high low u v || in_block block.now high low v u)) }
@@ -295,11 +306,12 @@ fn join_block(rows: &mut [Names], low: u32, high: u32, block: &[u64; 64])
 
 // Takes the names from `first` on whose bits are 1 in word r of the block into the row of `from +
 // r`.
-fn join_rows(rows: &mut [Names], from: u32, first: u32, block: &[u64; 64])
-    requires rows { length rows.old ≡ NAMES }
-    requires from { from < NAMES }
+fn join_rows<const W: usize>(rows: &mut [Set<W>], from: u32, first: u32, block: &[u64; 64])
+    requires limit { W ≤ WORDS }
+    requires rows { length rows.old ≡ 64 * W }
+    requires from { from < 64 * W }
     requires from_aligned { from % 64 ≡ 0 }
-    requires first { first < NAMES }
+    requires first { first < 64 * W }
     requires first_aligned { first % 64 ≡ 0 }
     ensures { (u v : ℕ) → set.contains (row_of rows.new u) v
         ≡ (set.contains (row_of rows.old u) v || in_block block.now from first u v) }
@@ -311,9 +323,10 @@ fn join_rows(rows: &mut [Names], from: u32, first: u32, block: &[u64; 64])
 
 // Takes the names from `first` on whose bits are 1 into the row of `at`.
 #[inline]
-fn join_row(rows: &mut [Names], at: usize, first: u32, bits: u64)
+fn join_row<const W: usize>(rows: &mut [Set<W>], at: usize, first: u32, bits: u64)
+    requires limit { W ≤ WORDS }
     requires inside { at < length rows.old }
-    requires first { first < NAMES }
+    requires first { first < 64 * W }
     requires aligned { first % 64 ≡ 0 }
     ensures { (u v : ℕ) → set.contains (row_of rows.new u) v ≡ (set.contains (row_of rows.old u) v
         || ((u == at) && ((v / 64 == first / 64) && (bit_at bits (v % 64) == 1)))) }
@@ -324,9 +337,9 @@ fn join_row(rows: &mut [Names], at: usize, first: u32, bits: u64)
     rows[at].insert_block(first, bits);
 }
 
-/// Takes `v` into the row of each member of `names`. Conditions: `v` is a name, and the members have rows.
-pub fn insert_in_rows(rows: &mut [Names], names: &Names, v: u32)
-    requires name { v < NAMES }
+/// Takes `v` into the row of each member of `names`. Conditions: `v` is a name below `64 * W`, and the members have rows.
+pub fn insert_in_rows<const W: usize>(rows: &mut [Set<W>], names: &Set<W>, v: u32)
+    requires name { v < 64 * W }
     requires in_rows { (u : ℕ) → Has names.now u → u < length rows.old }
     ensures { (u : ℕ) → row_of rows.new u
         ≡ (if set.contains names.now u
@@ -339,8 +352,8 @@ pub fn insert_in_rows(rows: &mut [Names], names: &Names, v: u32)
 }
 
 // Leaves `v` out of the row of each member of `names`.
-fn remove_from_rows(rows: &mut [Names], names: &Names, v: u32)
-    requires name { v < NAMES }
+fn remove_from_rows<const W: usize>(rows: &mut [Set<W>], names: &Set<W>, v: u32)
+    requires name { v < 64 * W }
     requires in_rows { (u : ℕ) → Has names.now u → u < length rows.old }
     ensures { (u : ℕ) → row_of rows.new u
         ≡ (if set.contains names.now u
@@ -353,7 +366,7 @@ fn remove_from_rows(rows: &mut [Names], names: &Names, v: u32)
 }
 
 // All members of the row of each member of `names` go.
-fn clear_rows(rows: &mut [Names], names: &Names)
+fn clear_rows<const W: usize>(rows: &mut [Set<W>], names: &Set<W>)
     requires { (u : ℕ) → Has names.now u → u < length rows.old }
     ensures { (u : ℕ) → row_of rows.new u
         ≡ (if set.contains names.now u then set.empty else row_of rows.old u) }
@@ -366,6 +379,7 @@ fn clear_rows(rows: &mut [Names], names: &Names)
 #[cfg(test)]
 mod tests {
     use super::*;
+    use crate::Names;
     use std::process::Abort;
     use std::test::Fail;
 

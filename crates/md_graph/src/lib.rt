@@ -11,9 +11,9 @@ mod steps;
 mod transposition;
 mod words;
 
-pub use graph::{Graph, insert_in_rows};
+pub use graph::{Graph, GraphOf, insert_in_rows};
 pub use members::Members;
-pub use names::Names;
+pub use names::{Names, Set};
 use std::alloc::{AllocError, AllocFailed};
 pub use steps::Steps;
 pub use words::lowest;
@@ -21,8 +21,8 @@ pub use words::lowest;
 /// How many names there are: a name is a number below it.
 pub const NAMES: u32 = 4096;
 
-// How many words of 64 bits hold one bit a name.
-pub(crate) const WORDS: usize = 64;
+/// How many words of 64 bits hold one bit a name.
+pub const WORDS: usize = 64;
 
 /// Want of memory. `?` makes it of what a `Vec` answers then.
 #[derive(Clone, Copy, Debug, PartialEq, Eq)]

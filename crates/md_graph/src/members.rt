@@ -1,7 +1,6 @@
 //! The members of a set of names, one after the other.
 ghost use Rattle.std.specs.Prelude.{◌≡◌, ℕ};
 
-use crate::WORDS;
 use crate::words::lowest;
 use std::marker::Model;
 
@@ -9,14 +8,14 @@ use std::marker::Model;
 /// bit. Those of the word at hand are the bits of `left`, counted from the name `first`.
 #[derive(Drop)]
 pub struct Members<'a> {
-    pub(crate) words: &'a [u64; WORDS],
+    pub(crate) words: &'a [u64],
     pub(crate) used: usize,
     pub(crate) first: u32,
     pub(crate) left: u64,
 }
 
 impl<'a> Model for Members<'a> {
-    ghost use Rattle.std.specs.Prelude.{ℕ, List, ◌≡◌, ◌≤◌, ◌*◌, ◌/◌};
+    ghost use Rattle.std.specs.Prelude.{ℕ, List, length, ◌≡◌, ◌≤◌, ◌*◌, ◌/◌};
     ghost use Rattle.md_graph.specs.declared.TheConstants.{WORDS};
 
     ghost Value = { List ℕ };
@@ -25,8 +24,8 @@ impl<'a> Model for Members<'a> {
 
     ghost view = { λ m. members_left m.words.now m.used (m.first / 64) m.left };
 
-    ghost invariant = { λ m. (m.used ≤ WORDS) × (m.first / 64 ≤ WORDS)
-        × (64 * (m.first / 64) ≡ m.first) };
+    ghost invariant = { λ m. (m.used ≤ length m.words.now) × (m.used ≤ WORDS)
+        × (m.first / 64 ≤ WORDS) × (64 * (m.first / 64) ≡ m.first) };
 }
 
 impl<'a> Iterator for Members<'a> {

@@ -1,5 +1,5 @@
 //! Sets of names.
-ghost use Rattle.std.specs.Prelude.{◌≡◌, ℕ, ◌+◌, ◌%◌, ◌<◌, ◌≤◌, ◌↔◌, IsTrue, IfSome, IfNone, ◌==◌};
+ghost use Rattle.std.specs.Prelude.{◌≡◌, ℕ, ◌+◌, ◌*◌, ◌%◌, ◌<◌, ◌≤◌, ◌↔◌, IsTrue, IfSome, IfNone, ◌==◌};
 ghost use Rattle.std.specs.Int.{bit_at};
 ghost use Rattle.std.specs.FinSet as set;
 ghost use Rattle.md_graph.specs.Sets.{Has, Within};
@@ -7,25 +7,30 @@ ghost use Rattle.md_graph.specs.NameSet.{IsLeastFrom, IsGreatest, NoneFrom, AllB
 
 use crate::members::Members;
 use crate::words::{
-    are_all_zero, are_equal, are_within, bits_of_range, both, count_bits, either, first_alone,
-    first_apart, flip_bits, from_place, join_in, keep_alone, last_place, move_alone, move_apart,
-    move_both, no_words, used_if, wipe,
+    are_all_zero, are_equal, are_within, become_both, become_either, become_first_alone,
+    bits_of_range, count_bits, first_apart, flip_bits, from_place, join_in, keep_alone, last_place,
+    move_alone, move_apart, move_both, no_words, used_if, wipe,
 };
 use crate::{NAMES, WORDS};
 use std::marker::Model;
 
-/// A set of names below `NAMES`, kept in place as one bit a name. No call on it takes memory.
+/// A set of names below `64 * W`, kept in place as one bit a name in `W` words. No call on it takes
+/// memory. Sets of fewer words are for graphs of fewer vertices: their value is a finite set
+/// whatever `W`, which is at most `WORDS`.
 ///
 /// The first `used` words hold all members: the words behind them are 0. Only `none`, `copy`, `and`,
 /// `or` and `minus`, which make a set, write those too.
 #[derive(Drop)]
-pub struct Names {
-    words: [u64; WORDS],
+pub struct Set<const W: usize> {
+    words: [u64; W],
     used: usize,
 }
 
-impl Model for Names {
-    ghost use Rattle.std.specs.Prelude.{ℕ, ◌≡◌, ◌≤◌, get_or};
+/// A set of names below `NAMES`.
+pub type Names = Set<WORDS>;
+
+impl<const W: usize> Model for Set<W> {
+    ghost use Rattle.std.specs.Prelude.{ℕ, ◌≡◌, ◌≤◌, ◌*◌, get_or};
     ghost use Rattle.std.specs.Ordering.{nat_cmp};
     ghost use Rattle.std.specs.FinSet as set;
     ghost use Rattle.std.specs.Coded.{coded_ℕ};
@@ -35,37 +40,39 @@ impl Model for Names {
     ghost coded = { set.code coded_ℕ };
 
     ghost use Rattle.md_graph.specs.Words.{names_below};
-    ghost use Rattle.md_graph.specs.declared.TheConstants.{NAMES, WORDS};
+    ghost use Rattle.md_graph.specs.declared.TheConstants.{WORDS};
 
-    ghost view = { λ s. names_below s.words NAMES };
+    ghost view = { λ s. names_below s.words (64 * W) };
 
-    ghost invariant = { λ s. (s.used ≤ WORDS) × ((k : ℕ) → s.used ≤ k → get_or s.words k 0 ≡ 0) };
+    ghost invariant = { λ s. (s.used ≤ W) × ((k : ℕ) → s.used ≤ k → get_or s.words k 0 ≡ 0)
+        × (W ≤ WORDS) };
 }
 
-impl Names {
-    /// The empty set.
-    pub fn none() -> Names
+impl<const W: usize> Set<W> {
+    /// The empty set. Condition: `W` is at most `WORDS`.
+    pub fn none() -> Set<W>
+        requires { W ≤ WORDS }
         ensures { result ≡ set.empty }
     {
-        Names {
+        Set {
             words: no_words(),
             used: 0,
         }
     }
 
     /// An equal set.
-    pub fn copy(&self) -> Names
+    pub fn copy(&self) -> Set<W>
         ensures { result ≡ self.now }
     {
-        Names {
+        Set {
             words: self.words,
             used: self.used,
         }
     }
 
-    /// Takes `v` in. Condition: it is a name.
+    /// Takes `v` in. Condition: it is a name below `64 * W`.
     pub fn insert(&mut self, v: u32)
-        requires { v < NAMES }
+        requires { v < 64 * W }
         ensures { self.new ≡ set.insert self.old v }
     {
         let word = v as usize / 64;
@@ -75,20 +82,21 @@ impl Names {
         }
     }
 
-    /// Takes in the `count` names from `from` on, 64 at once. Condition: all are names.
+    /// Takes in the `count` names from `from` on, 64 at once. Condition: all are names below `64 * W`.
     pub fn insert_range(&mut self, from: u32, count: u32)
-        requires { from + count ≤ NAMES }
+        requires { from + count ≤ 64 * W }
         ensures { self.new ≡ set.union self.old (range from count) }
     {
+        let _used = self.used;
         let to = from + count;
         for at in from / 64..to.div_ceil(64) {
             self.insert_block(64 * at, bits_of_range(64 * at, from, to));
         }
     }
 
-    /// Leaves `v` out. Condition: it is a name.
+    /// Leaves `v` out. Condition: it is a name below `64 * W`.
     pub fn remove(&mut self, v: u32)
-        requires { v < NAMES }
+        requires { v < 64 * W }
         ensures { self.new ≡ set.remove self.old v }
     {
         self.words[v as usize / 64] &= !(1 << (v % 64));
@@ -103,7 +111,7 @@ impl Names {
     }
 
     /// Takes in the members of `other`. It passes over the words that `other` uses.
-    pub fn take_in(&mut self, other: &Names)
+    pub fn take_in(&mut self, other: &Set<W>)
         ensures { self.new ≡ set.union self.old other.now }
     {
         join_in(&mut self.words, &other.words, other.used);
@@ -112,7 +120,7 @@ impl Names {
 
     /// Takes in the members of `other` that it doesn't have, and leaves out those that it has. It
     /// passes over the words that `other` uses.
-    pub fn flip(&mut self, other: &Names)
+    pub fn flip(&mut self, other: &Set<W>)
         ensures { self.new ≡ told_apart self.old other.now }
     {
         flip_bits(&mut self.words, &other.words, other.used);
@@ -120,7 +128,7 @@ impl Names {
     }
 
     /// Moves the members that `row` has to `to`. It passes over the words in use.
-    pub fn move_shared(&mut self, row: &Names, to: &mut Names)
+    pub fn move_shared(&mut self, row: &Set<W>, to: &mut Set<W>)
         ensures rest { self.new ≡ set.difference self.old row.now }
         ensures moved { to.new ≡ set.union to.old (set.intersection self.old row.now) }
     {
@@ -129,7 +137,7 @@ impl Names {
     }
 
     /// Moves the members that `row` lacks to `to`. It passes over the words in use.
-    pub fn move_unshared(&mut self, row: &Names, to: &mut Names)
+    pub fn move_unshared(&mut self, row: &Set<W>, to: &mut Set<W>)
         ensures rest { self.new ≡ set.intersection self.old row.now }
         ensures moved { to.new ≡ set.union to.old (set.difference self.old row.now) }
     {
@@ -139,7 +147,7 @@ impl Names {
 
     /// Moves the members that exactly one of `first` and `second` has to `to`. It passes over the
     /// words in use.
-    pub fn move_told_apart(&mut self, first: &Names, second: &Names, to: &mut Names)
+    pub fn move_told_apart(&mut self, first: &Set<W>, second: &Set<W>, to: &mut Set<W>)
         ensures rest { self.new ≡ set.difference self.old (told_apart first.now second.now) }
         ensures moved { to.new
             ≡ set.union to.old (set.intersection self.old (told_apart first.now second.now)) }
@@ -156,18 +164,19 @@ impl Names {
 
     /// The least member that exactly one of `first` and `second` has; `None` exactly where there is
     /// none.
-    pub fn first_told_apart(&self, first: &Names, second: &Names) -> Option<u32>
+    pub fn first_told_apart(&self, first: &Set<W>, second: &Set<W>) -> Option<u32>
         ensures found { IfSome result (IsLeastFrom
             (set.intersection self.now (told_apart first.now second.now)) 0) }
         ensures none { IfNone result (NoneFrom
             (set.intersection self.now (told_apart first.now second.now)) 0) }
         ensures name { IfSome result (λ least. least < NAMES) }
+        ensures below { IfSome result (λ least. least < 64 * W) }
     {
         first_apart(&self.words, &first.words, &second.words, self.used)
     }
 
     /// Becomes the members of `of` that neither `first` nor `second` has. It passes over the words in use of both.
-    pub fn become_alone(&mut self, of: &Names, first: &Names, second: &Names)
+    pub fn become_alone(&mut self, of: &Set<W>, first: &Set<W>, second: &Set<W>)
         ensures { self.new ≡ set.difference of.now (set.union first.now second.now) }
     {
         wipe(&mut self.words, self.used);
@@ -185,37 +194,38 @@ impl Names {
     pub fn has(&self, v: u32) -> bool
         ensures { result ≡ set.contains self.now v }
     {
-        v < NAMES && (self.words[v as usize / 64] >> (v % 64)) & 1 == 1
+        let word = v as usize / 64;
+        word < W && (self.words[word] >> (v % 64)) & 1 == 1
     }
 
     /// The members of both.
-    pub fn and(&self, other: &Names) -> Names
+    pub fn and(&self, other: &Set<W>) -> Set<W>
         ensures { result ≡ set.intersection self.now other.now }
     {
         let used = self.used.min(other.used);
-        Names {
-            words: both(&self.words, &other.words, used),
-            used,
-        }
+        let mut words = no_words();
+        become_both(&mut words, &self.words, &other.words, used);
+        Set { words, used }
     }
 
     /// The members of either.
-    pub fn or(&self, other: &Names) -> Names
+    pub fn or(&self, other: &Set<W>) -> Set<W>
         ensures { result ≡ set.union self.now other.now }
     {
         let used = self.used.max(other.used);
-        Names {
-            words: either(&self.words, &other.words, used),
-            used,
-        }
+        let mut words = no_words();
+        become_either(&mut words, &self.words, &other.words, used);
+        Set { words, used }
     }
 
     /// The members that `other` doesn't have.
-    pub fn minus(&self, other: &Names) -> Names
+    pub fn minus(&self, other: &Set<W>) -> Set<W>
         ensures { result ≡ set.difference self.now other.now }
     {
-        Names {
-            words: first_alone(&self.words, &other.words, self.used),
+        let mut words = no_words();
+        become_first_alone(&mut words, &self.words, &other.words, self.used);
+        Set {
+            words,
             used: self.used,
         }
     }
@@ -225,6 +235,7 @@ impl Names {
         ensures found { IfSome result (IsLeastFrom self.now v) }
         ensures none { IfNone result (NoneFrom self.now v) }
         ensures name { IfSome result (λ least. least < NAMES) }
+        ensures below { IfSome result (λ least. least < 64 * W) }
     {
         self.members_from(v).next()
     }
@@ -234,6 +245,7 @@ impl Names {
         ensures found { IfSome result (IsGreatest self.now) }
         ensures none { IfNone result (NoneFrom self.now 0) }
         ensures name { IfSome result (λ greatest. greatest < NAMES) }
+        ensures below { IfSome result (λ greatest. greatest < 64 * W) }
     {
         last_place(&self.words, self.used)
     }
@@ -253,14 +265,14 @@ impl Names {
     }
 
     /// Whether `other` has the same members.
-    pub fn is_same(&self, other: &Names) -> bool
+    pub fn is_same(&self, other: &Set<W>) -> bool
         ensures { IsTrue result ↔ (self.now ≡ other.now) }
     {
         are_equal(&self.words, &other.words, self.used.max(other.used))
     }
 
     /// Whether `other` has each member.
-    pub fn is_subset(&self, other: &Names) -> bool
+    pub fn is_subset(&self, other: &Set<W>) -> bool
         ensures { IsTrue result ↔ Within self.now other.now }
     {
         are_within(&self.words, &other.words, self.used)
@@ -270,6 +282,8 @@ impl Names {
     pub fn members(&self) -> Members<'_>
         ensures list { result ≡ ascending self.now }
         ensures names { AllBelow self.now NAMES }
+        ensures below { AllBelow self.now (64 * W) }
+        ensures limit { W ≤ WORDS }
     {
         self.members_from(0)
     }
@@ -278,6 +292,8 @@ impl Names {
     pub fn members_from(&self, v: u32) -> Members<'_>
         ensures list { result ≡ ascending_from self.now v }
         ensures names { AllBelow self.now NAMES }
+        ensures below { AllBelow self.now (64 * W) }
+        ensures limit { W ≤ WORDS }
     {
         let at = v as usize / 64;
         if self.used <= at {
@@ -297,9 +313,9 @@ impl Names {
     }
 
     // Takes in each name `first + k` for which bit k of `bits` is 1: 64 names at once.
-    // Condition: `first` is a name and a multiple of 64.
+    // Condition: `first` is a name below `64 * W` and a multiple of 64.
     pub(crate) fn insert_block(&mut self, first: u32, bits: u64)
-        requires name { first < NAMES }
+        requires name { first < 64 * W }
         requires aligned { first % 64 ≡ 0 }
         ensures { self.new ≡ set.union self.old (block first bits) }
     {
@@ -311,9 +327,9 @@ impl Names {
     }
 
     /// Which of the names `first + k`, k below 64, are members: bit k of the answer is 1 exactly
-    /// for these. For writers. Condition: `first` is a name and a multiple of 64.
+    /// for these. For writers. Condition: `first` is a name below `64 * W` and a multiple of 64.
     pub fn block(&self, first: u32) -> u64
-        requires name { first < NAMES }
+        requires name { first < 64 * W }
         requires aligned { first % 64 ≡ 0 }
         ensures { (k : ℕ) → k < 64 → set.contains self.now (first + k) ≡ (bit_at result k == 1) }
     {

@@ -7,16 +7,16 @@ ghost use Rattle.md_graph.specs.Words.{IsWithout, bit_of, names_below, bits_betw
 use crate::{NAMES, WORDS};
 
 // Words that are all 0.
-pub(crate) fn no_words() -> [u64; WORDS]
-    ensures size { length result ≡ WORDS }
+pub(crate) fn no_words<const W: usize>() -> [u64; W]
+    ensures size { length result ≡ W }
     ensures zeros { (k : ℕ) → slice_index result k ≡ 0 }
 {
-    [0; WORDS]
+    [0; W]
 }
 
 // The first `used` words become 0.
-pub(crate) fn wipe(words: &mut [u64; WORDS], used: usize)
-    requires { used ≤ WORDS }
+pub(crate) fn wipe(words: &mut [u64], used: usize)
+    requires words_hold { used ≤ length words.old }
     ensures first { (k : ℕ) → k < used → slice_index words.new k ≡ 0 }
     ensures rest { (k : ℕ) → used ≤ k → slice_index words.new k ≡ slice_index words.old k }
 {
@@ -26,8 +26,9 @@ pub(crate) fn wipe(words: &mut [u64; WORDS], used: usize)
 }
 
 // Takes the bits of the first `used` words of `other` in.
-pub(crate) fn join_in(words: &mut [u64; WORDS], other: &[u64; WORDS], used: usize)
-    requires { used ≤ WORDS }
+pub(crate) fn join_in(words: &mut [u64], other: &[u64], used: usize)
+    requires words_hold { used ≤ length words.old }
+    requires other_hold { used ≤ length other.now }
     ensures first { (k : ℕ) → k < used
         → slice_index words.new k ≡ bit_or (slice_index words.old k) (slice_index other.now k) }
     ensures rest { (k : ℕ) → used ≤ k → slice_index words.new k ≡ slice_index words.old k }
@@ -38,8 +39,9 @@ pub(crate) fn join_in(words: &mut [u64; WORDS], other: &[u64; WORDS], used: usiz
 }
 
 // Changes the bits that `other` has in its first `used` words.
-pub(crate) fn flip_bits(words: &mut [u64; WORDS], other: &[u64; WORDS], used: usize)
-    requires { used ≤ WORDS }
+pub(crate) fn flip_bits(words: &mut [u64], other: &[u64], used: usize)
+    requires words_hold { used ≤ length words.old }
+    requires other_hold { used ≤ length other.now }
     ensures first { (k : ℕ) → k < used
         → slice_index words.new k ≡ bit_xor (slice_index words.old k) (slice_index other.now k) }
     ensures rest { (k : ℕ) → used ≤ k → slice_index words.new k ≡ slice_index words.old k }
@@ -50,13 +52,10 @@ pub(crate) fn flip_bits(words: &mut [u64; WORDS], other: &[u64; WORDS], used: us
 }
 
 // In the first `used` words the bits that `row` has go to `to`.
-pub(crate) fn move_both(
-    words: &mut [u64; WORDS],
-    row: &[u64; WORDS],
-    to: &mut [u64; WORDS],
-    used: usize,
-)
-    requires { used ≤ WORDS }
+pub(crate) fn move_both(words: &mut [u64], row: &[u64], to: &mut [u64], used: usize)
+    requires words_hold { used ≤ length words.old }
+    requires to_hold { used ≤ length to.old }
+    requires row_hold { used ≤ length row.now }
     ensures first { (k : ℕ) → k < used → slice_index words.new k
         ≡ bit_xor (slice_index words.old k)
         (bit_and (slice_index words.old k) (slice_index row.now k)) }
@@ -74,13 +73,10 @@ pub(crate) fn move_both(
 }
 
 // In the first `used` words the bits that `row` lacks go to `to`.
-pub(crate) fn move_alone(
-    words: &mut [u64; WORDS],
-    row: &[u64; WORDS],
-    to: &mut [u64; WORDS],
-    used: usize,
-)
-    requires { used ≤ WORDS }
+pub(crate) fn move_alone(words: &mut [u64], row: &[u64], to: &mut [u64], used: usize)
+    requires words_hold { used ≤ length words.old }
+    requires to_hold { used ≤ length to.old }
+    requires row_hold { used ≤ length row.now }
     ensures first { (k : ℕ) → k < used → slice_index words.new k
         ≡ bit_and (slice_index words.old k) (slice_index row.now k) }
     ensures rest { (k : ℕ) → used ≤ k → slice_index words.new k ≡ slice_index words.old k }
@@ -98,13 +94,16 @@ pub(crate) fn move_alone(
 
 // In the first `used` words the bits that exactly one of `first` and `second` has go to `to`.
 pub(crate) fn move_apart(
-    words: &mut [u64; WORDS],
-    first: &[u64; WORDS],
-    second: &[u64; WORDS],
-    to: &mut [u64; WORDS],
+    words: &mut [u64],
+    first: &[u64],
+    second: &[u64],
+    to: &mut [u64],
     used: usize,
 )
-    requires { used ≤ WORDS }
+    requires words_hold { used ≤ length words.old }
+    requires to_hold { used ≤ length to.old }
+    requires first_hold { used ≤ length first.now }
+    requires second_hold { used ≤ length second.now }
     ensures first { (k : ℕ) → k < used → slice_index words.new k ≡ bit_xor (slice_index words.old k)
         (bit_and (slice_index words.old k)
         (bit_xor (slice_index first.now k) (slice_index second.now k))) }
@@ -124,13 +123,16 @@ pub(crate) fn move_apart(
 // The first `used` words become the bits of `of` that neither `first` nor `second` has. The answer is 0 only where there
 // are none.
 pub(crate) fn keep_alone(
-    words: &mut [u64; WORDS],
-    of: &[u64; WORDS],
-    first: &[u64; WORDS],
-    second: &[u64; WORDS],
+    words: &mut [u64],
+    of: &[u64],
+    first: &[u64],
+    second: &[u64],
     used: usize,
 ) -> u64
-    requires { used ≤ WORDS }
+    requires words_hold { used ≤ length words.old }
+    requires of_hold { used ≤ length of.now }
+    requires first_hold { used ≤ length first.now }
+    requires second_hold { used ≤ length second.now }
     ensures first { (k : ℕ) → k < used → slice_index words.new k ≡ bit_xor (slice_index of.now k)
         (bit_and (slice_index of.now k) (bit_or (slice_index first.now k) (slice_index second.now k))) }
     ensures rest { (k : ℕ) → used ≤ k → slice_index words.new k ≡ slice_index words.old k }
@@ -156,14 +158,11 @@ pub(crate) fn used_if(any: u64, used: usize) -> usize
 
 // The place of the lowest bit in the first `used` words that exactly one of `first` and `second`
 // has.
-pub(crate) fn first_apart(
-    words: &[u64],
-    first: &[u64; WORDS],
-    second: &[u64; WORDS],
-    used: usize,
-) -> Option<u32>
+pub(crate) fn first_apart(words: &[u64], first: &[u64], second: &[u64], used: usize) -> Option<u32>
     requires few { used ≤ WORDS }
     requires used { used ≤ length words.now }
+    requires first { used ≤ length first.now }
+    requires second { used ≤ length second.now }
     ensures found { IfSome result (λ least. (least < 64 * used)
         × (bit_apart words.now first.now second.now least ≡ 1)
         × ((q : ℕ) → q < least → bit_apart words.now first.now second.now q ≡ 0)) }
@@ -179,46 +178,46 @@ pub(crate) fn first_apart(
     None
 }
 
-// The bits that both have in the first `used` words.
-pub(crate) fn both(first: &[u64; WORDS], second: &[u64; WORDS], used: usize) -> [u64; WORDS]
-    requires { used ≤ WORDS }
+// The first `used` words become the bits that both have.
+pub(crate) fn become_both(words: &mut [u64], first: &[u64], second: &[u64], used: usize)
+    requires words_hold { used ≤ length words.old }
+    requires first_hold { used ≤ length first.now }
+    requires second_hold { used ≤ length second.now }
     ensures first { (k : ℕ) → k < used
-        → slice_index result k ≡ bit_and (slice_index first.now k) (slice_index second.now k) }
-    ensures rest { (k : ℕ) → used ≤ k → slice_index result k ≡ 0 }
+        → slice_index words.new k ≡ bit_and (slice_index first.now k) (slice_index second.now k) }
+    ensures rest { (k : ℕ) → used ≤ k → slice_index words.new k ≡ slice_index words.old k }
 {
-    let mut words = no_words();
     for i in 0..used {
         words[i] = first[i] & second[i];
     }
-    words
 }
 
-// The bits that either has in the first `used` words.
-pub(crate) fn either(first: &[u64; WORDS], second: &[u64; WORDS], used: usize) -> [u64; WORDS]
-    requires { used ≤ WORDS }
+// The first `used` words become the bits that either has.
+pub(crate) fn become_either(words: &mut [u64], first: &[u64], second: &[u64], used: usize)
+    requires words_hold { used ≤ length words.old }
+    requires first_hold { used ≤ length first.now }
+    requires second_hold { used ≤ length second.now }
     ensures first { (k : ℕ) → k < used
-        → slice_index result k ≡ bit_or (slice_index first.now k) (slice_index second.now k) }
-    ensures rest { (k : ℕ) → used ≤ k → slice_index result k ≡ 0 }
+        → slice_index words.new k ≡ bit_or (slice_index first.now k) (slice_index second.now k) }
+    ensures rest { (k : ℕ) → used ≤ k → slice_index words.new k ≡ slice_index words.old k }
 {
-    let mut words = no_words();
     for i in 0..used {
         words[i] = first[i] | second[i];
     }
-    words
 }
 
-// The bits of `first` that `second` doesn't have, in the first `used` words.
-pub(crate) fn first_alone(first: &[u64; WORDS], second: &[u64; WORDS], used: usize) -> [u64; WORDS]
-    requires { used ≤ WORDS }
+// The first `used` words become the bits of `first` that `second` doesn't have.
+pub(crate) fn become_first_alone(words: &mut [u64], first: &[u64], second: &[u64], used: usize)
+    requires words_hold { used ≤ length words.old }
+    requires first_hold { used ≤ length first.now }
+    requires second_hold { used ≤ length second.now }
     ensures first { (k : ℕ) → k < used
-        → IsWithout (slice_index result k) (slice_index first.now k) (slice_index second.now k) }
-    ensures rest { (k : ℕ) → used ≤ k → slice_index result k ≡ 0 }
+        → IsWithout (slice_index words.new k) (slice_index first.now k) (slice_index second.now k) }
+    ensures rest { (k : ℕ) → used ≤ k → slice_index words.new k ≡ slice_index words.old k }
 {
-    let mut words = no_words();
     for i in 0..used {
         words[i] = first[i] & !second[i];
     }
-    words
 }
 
 // The place of the highest bit in the first `used` words.

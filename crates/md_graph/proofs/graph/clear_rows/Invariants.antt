@@ -4,7 +4,7 @@ use Rattle.md_graph.proofs.EachRow.{Lists, listed, changed}
 use Rattle.md_graph.proofs.graph.clear_rows.Given as goal
 
 abbrev pub invariant-loop-u : goal.invariant-loop-u
-invariant-loop-u l = record {
+invariant-loop-u g l = record {
   left : Lists l.names l.u-iterator;
   result : (u : ℕ) → changed (λ _. set.empty) (listed l.u-iterator) l.rows u ≡ changed (λ _. set.empty) l.names l.initial.rows u;
 }

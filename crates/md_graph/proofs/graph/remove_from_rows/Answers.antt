@@ -1,10 +1,10 @@
-use Rattle.std.proofs.Common.{arith, ◌∙◌, ap, sym}
+use Rattle.std.proofs.Common.{rules, ◌<◌, length, arith, ◌∙◌, ap, sym}
 use Rattle.std.specs.FinSet as set
 use Rattle.md_graph.proofs.EachRow.{Lists-ascending, Lists-head, Lists-rest, each_start, each_step, each_end, remove_twice}
 use Rattle.md_graph.proofs.graph.remove_from_rows.Goals as goal
 
 pub loop-u-init : goal.loop-u-init
-loop-u-init c =
+loop-u-init g c =
     let list = c.into_iter-u-iterator.ensures.into_iter_gives ∙ c.members-u-items.ensures.list in
     record {
       left = Lists-ascending _ list c.members-u-items.ensures.names;
@@ -12,11 +12,11 @@ loop-u-init c =
     }
 
 pub bounds-rows-u : goal.bounds-rows-u
-bounds-rows-u c =
+bounds-rows-u g c =
     omega (arith, c.requires.in_rows c.in-Some.u (Lists-head c.loop-u.invariant.left _ _ c.in-Some.ensures.steps))
 
 pub loop-u-preserved : goal.loop-u-preserved
-loop-u-preserved c =
+loop-u-preserved g c =
     let below = c.requires.in_rows c.in-Some.u (Lists-head c.loop-u.invariant.left _ _ c.in-Some.ensures.steps) in
     record {
       left = Lists-rest c.loop-u.invariant.left _ _ c.in-Some.ensures.steps;
@@ -24,5 +24,10 @@ loop-u-preserved c =
     }
 
 pub returns : goal.returns
-returns c =
+returns g c =
     λ u. each_end (λ s. set.remove s c.args.v) c.loop-u.rows _ c.in-None.ensures.steps.0 u ∙ c.loop-u.invariant.result u
+
+pub offset_bounds-rows-u : goal.offset_bounds-rows-u
+offset_bounds-rows-u g c =
+    let below : c.in-Some.u < length c.loop-u.rows = omega (arith, c.requires.in_rows c.in-Some.u (Lists-head c.loop-u.invariant.left _ _ c.in-Some.ensures.steps)) in
+    search rules

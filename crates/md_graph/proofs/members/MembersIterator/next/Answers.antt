@@ -13,6 +13,7 @@ loop-self-preserved c =
     let inside = c.loop-self.self-inside in
     let next_at : (inside.first + 64) / 64 ≡ inside.first / 64 + 1 = omega arith in
     record {
+      in_words = c.loop-self.invariant.in_words;
       used = c.loop-self.invariant.used;
       at_most = omega arith;
       whole = omega arith;

@@ -1,8 +1,0 @@
-use Rattle.md_graph.proofs.RowLemmas.{rows_add_range}
-use Rattle.md_graph.proofs.graph.Graph.add_range.Goals as goal
-
-pub invariant_of-self : goal.invariant_of-self
-invariant_of-self c = (rows_add_range c.self.invariant c.self.view_is c.args.from c.args.count c.requires.names c.insert_range.ensures).0
-
-pub returns : goal.returns
-returns c = (rows_add_range c.self.invariant c.self.view_is c.args.from c.args.count c.requires.names c.insert_range.ensures).1

@@ -1,6 +1,0 @@
-use Rattle.md_graph.specs.PlainGraph.{induced}
-use Rattle.md_graph.proofs.RowLemmas.{Made}
-use Rattle.md_graph.proofs.graph.Graph.induced.Given as goal
-
-abbrev pub invariant-loop-v : goal.invariant-loop-v
-invariant-loop-v l = Made (induced l.self l.names) l.v l.rows.items

@@ -1,9 +1,0 @@
-use Rattle.std.proofs.Common.{arith}
-use Rattle.md_graph.proofs.RowLemmas.{rows_replicated}
-use Rattle.md_graph.proofs.graph.Graph.new.Goals as goal
-
-pub invariant_of-result : goal.invariant_of-result
-invariant_of-result c = (rows_replicated c.loop.counter c.none-2.ensures c.loop.invariant (omega arith)).0
-
-pub returns : goal.returns
-returns c = (rows_replicated c.loop.counter c.none-2.ensures c.loop.invariant (omega arith)).1

@@ -1,0 +1,6 @@
+use Rattle.md_graph.specs.PlainGraph.{induced}
+use Rattle.md_graph.proofs.RowLemmas.{Made}
+use Rattle.md_graph.proofs.graph.GraphOf.induced.Given as goal
+
+abbrev pub invariant-loop-v : goal.invariant-loop-v
+invariant-loop-v g l = Made (induced l.self l.names) l.v l.rows.items

@@ -1,7 +1,0 @@
-use Rattle.md_graph.specs.declared.TheConstants.{NAMES}
-use Rattle.md_graph.proofs.BitWords.{flipped_words}
-use Rattle.md_graph.proofs.names.Names.flip.Goals as goal
-
-pub returns : goal.returns
-returns c =
-    flipped_words c.self.inside.words c.other.inside.words _ NAMES _ _ _ c.self.view_is c.other.view_is c.other.invariant.1 c.flip_bits.ensures.first c.flip_bits.ensures.rest

@@ -1,0 +1,6 @@
+use Rattle.std.proofs.Common.{◌≡◌, ℕ, get_or, bit_and, ◌<◌, ◌≤◌}
+use Rattle.md_graph.proofs.words.become_both.Given as goal
+
+abbrev pub invariant-loop-i : goal.invariant-loop-i
+invariant-loop-i l =
+    record { done : (k : ℕ) → k < l.i → get_or l.words k 0 ≡ bit_and (get_or l.first k 0) (get_or l.second k 0); rest : (k : ℕ) → l.i ≤ k → get_or l.words k 0 ≡ get_or l.initial.words k 0 }

@@ -1,7 +1,0 @@
-use Rattle.std.proofs.Common.{◌≡◌, ℕ, get_or, length, bit_or, ◌<◌, ◌≤◌}
-use Rattle.md_graph.specs.declared.TheConstants.{WORDS}
-use Rattle.md_graph.proofs.words.either.Given as goal
-
-abbrev pub invariant-loop-i : goal.invariant-loop-i
-invariant-loop-i l =
-    record { size : length l.words ≡ WORDS; done : (k : ℕ) → k < l.i → get_or l.words k 0 ≡ bit_or (get_or l.first k 0) (get_or l.second k 0); rest : (k : ℕ) → l.i ≤ k → get_or l.words k 0 ≡ 0 }

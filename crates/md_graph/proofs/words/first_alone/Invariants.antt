@@ -1,8 +1,0 @@
-use Rattle.std.proofs.Common.{◌≡◌, ℕ, get_or, length, ◌<◌, ◌≤◌}
-use Rattle.md_graph.specs.Words.{IsWithout}
-use Rattle.md_graph.specs.declared.TheConstants.{WORDS}
-use Rattle.md_graph.proofs.words.first_alone.Given as goal
-
-abbrev pub invariant-loop-i : goal.invariant-loop-i
-invariant-loop-i l =
-    record { size : length l.words ≡ WORDS; done : (k : ℕ) → k < l.i → IsWithout (get_or l.words k 0) (get_or l.first k 0) (get_or l.second k 0); rest : (k : ℕ) → l.i ≤ k → get_or l.words k 0 ≡ 0 }
