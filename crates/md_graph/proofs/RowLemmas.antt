@@ -58,10 +58,6 @@ pub rows_new : {limit : ℕ} {live : NameSet} {rows : List NameSet} → limit �
 rows_new {limit} {live} {rows} few none n empty =
     rows_of_graph IsGraph-empty_graph (λ v m. absurd (true≢false (sym m ∙ contains-empty v))) few none n (λ u v. ap (λ s. set.contains s v) (empty u) ∙ contains-empty v ∙ sym (adjacent-empty_graph u v))
 
-pub rows_replicated : {limit : ℕ} {live : NameSet} {rows : List NameSet} (n : ℕ) → limit ≤ NAMES → live ≡ set.empty → rows ≡ replicate n set.empty → n ≡ limit → AreRows limit live rows × (graph_of live rows ≡ empty_graph)
-rows_replicated n few none e is =
-    rows_new few none (ap length e ∙ length-replicate n set.empty ∙ is) (λ v. ap (λ r. row_of r v) e ∙ row_of-replicate n v)
-
 below_with_vertex : {limit : ℕ} {live : NameSet} {rows : List NameSet} {g : PlainGraph} → AreRows limit live rows → graph_of live rows ≡ g → (v : ℕ) → v < limit → AllBelow (with_vertex g v).vertices limit
 below_with_vertex {limit} a e v name w m =
     elim (of_insert _ v w m) [

@@ -47,13 +47,9 @@ impl<const W: usize> GraphOf<W> {
         requires { W ≤ WORDS }
         ensures { IfOk result (λ g. g ≡ empty_graph) }
     {
-        let mut rows = Vec::with_capacity(alloc, 64 * W)?;
-        for _ in 0..64 * W {
-            rows.push(Set::none())?;
-        }
         Ok(GraphOf {
             live: Set::none(),
-            rows,
+            rows: empty_rows(alloc, 64 * W as u32)?,
         })
     }
 
@@ -107,6 +103,19 @@ impl<const W: usize> GraphOf<W> {
         ensures limit { W ≤ WORDS }
     {
         &self.live
+    }
+
+    /// The least number above all vertices: one more than the greatest, or 0 where there is none.
+    pub fn bound(&self) -> u32
+        ensures above { (v : ℕ) → Has self.now.vertices v → v < result }
+        ensures least { (n : ℕ) → ((v : ℕ) → Has self.now.vertices v → v < n) → result ≤ n }
+        ensures few { result ≤ NAMES }
+        ensures within { result ≤ 64 * W }
+    {
+        match self.live.last() {
+            Some(last) => last + 1,
+            None => 0,
+        }
     }
 
     /// The least vertex at or above `from`, any number; `None` exactly where there is none.
@@ -260,7 +269,8 @@ impl<const W: usize> GraphOf<W> {
         })
     }
 
-    /// The neighbours of `v` in the complement: none for a name that is no vertex. Condition: `v` is a name below `64 * W`.
+    /// The neighbours of `v` in the complement: none for a name that is no vertex. Condition: `v`
+    /// is a name below `64 * W`.
     pub fn complement_row(&self, v: u32) -> Set<W>
         requires { v < 64 * W }
         ensures { result ≡ neighbours (complement self.now) v }
@@ -337,7 +347,21 @@ fn join_row<const W: usize>(rows: &mut [Set<W>], at: usize, first: u32, bits: u6
     rows[at].insert_block(first, bits);
 }
 
-/// Takes `v` into the row of each member of `names`. Conditions: `v` is a name below `64 * W`, and the members have rows.
+/// As many rows without members. Condition: `W` is at most `WORDS`. Errors: want of memory.
+pub fn empty_rows<const W: usize>(alloc: Global, size: u32) -> Result<Vec<Set<W>>, Memory>
+    requires { W ≤ WORDS }
+    ensures size { IfOk result (λ rows. length rows.items ≡ size) }
+    ensures none { IfOk result (λ rows. (v : ℕ) → row_of rows.items v ≡ set.empty) }
+{
+    let mut rows = Vec::with_capacity(alloc, size as usize)?;
+    for _ in 0..size {
+        rows.push(Set::none())?;
+    }
+    Ok(rows)
+}
+
+/// Takes `v` into the row of each member of `names`. Conditions: `v` is a name below `64 * W`, and
+/// the members have rows.
 pub fn insert_in_rows<const W: usize>(rows: &mut [Set<W>], names: &Set<W>, v: u32)
     requires name { v < 64 * W }
     requires in_rows { (u : ℕ) → Has names.now u → u < length rows.old }
@@ -495,9 +519,16 @@ mod tests {
         assert!(rt; g.has_vertex(last));
         g.remove_vertex(last);
         expect(&rt, &g, &[5, 64, 200], &[(200, 5)]);
+        assert_eq!(rt; g.bound(), 201);
         g.clear();
         expect(&rt, &g, &[], &[]);
+        assert_eq!(rt; g.bound(), 0);
         assert!(rt; !g.has_vertex(5) && g.row(200).is_empty());
+        let rows = empty_rows(rt.alloc(), 3)?;
+        assert_eq!(rt; rows.len(), 3);
+        for row in &rows {
+            assert!(rt; row.is_empty());
+        }
         Ok(())
     }
 }

@@ -11,7 +11,7 @@ mod steps;
 mod transposition;
 mod words;
 
-pub use graph::{Graph, GraphOf, insert_in_rows};
+pub use graph::{Graph, GraphOf, empty_rows, insert_in_rows};
 pub use members::Members;
 pub use names::{Names, Set};
 use std::alloc::{AllocError, AllocFailed};

@@ -18,8 +18,8 @@ use std::marker::Model;
 /// memory. Sets of fewer words are for graphs of fewer vertices: their value is a finite set
 /// whatever `W`, which is at most `WORDS`.
 ///
-/// The first `used` words hold all members: the words behind them are 0. Only `none`, `copy`, `and`,
-/// `or` and `minus`, which make a set, write those too.
+/// The first `used` words hold all members: the words behind them are 0. Only `none`, `copy`,
+/// `and`, `or` and `minus`, which make a set, write those too.
 #[derive(Drop)]
 pub struct Set<const W: usize> {
     words: [u64; W],
@@ -175,7 +175,8 @@ impl<const W: usize> Set<W> {
         first_apart(&self.words, &first.words, &second.words, self.used)
     }
 
-    /// Becomes the members of `of` that neither `first` nor `second` has. It passes over the words in use of both.
+    /// Becomes the members of `of` that neither `first` nor `second` has. It passes over the words
+    /// in use of both.
     pub fn become_alone(&mut self, of: &Set<W>, first: &Set<W>, second: &Set<W>)
         ensures { self.new ≡ set.difference of.now (set.union first.now second.now) }
     {

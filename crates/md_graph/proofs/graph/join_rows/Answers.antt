@@ -1,5 +1,4 @@
 use Rattle.std.proofs.Common.{rules, arith}
-use Rattle.md_graph.proofs.Limits.{NAMES-is}
 use Rattle.md_graph.proofs.BlockRows.{no_rows, more_rows, all_rows}
 use Rattle.md_graph.proofs.graph.join_rows.Goals as goal
 
