@@ -1,14 +1,11 @@
-use Rattle.std.proofs.Common.{sym, ◌∙◌, arith}
+use Rattle.std.proofs.Common.{sym, ◌∙◌, arith, rules}
 use Rattle.md_graph.proofs.Ranges.{none_there}
 use Rattle.md_text.specs.Lines.{lines}
 use Rattle.md_dimacs.proofs.ReadLemmas.{outcome_spells, outcome_faultless, outcome_fault, nothing_on_ok, nothing_on_err, always_on_err, vertices-edgeless, edgeless_by_range}
 use Rattle.md_dimacs.proofs.reader.read.Goals as goal
 
-pub add_range-requires-clause-names : goal.add_range-requires-clause-names
-add_range-requires-clause-names c = omega (arith, c.in_ok-n.ensures.found.problem_line.named)
-
-pub add_range-requires-clause-absent : goal.add_range-requires-clause-absent
-add_range-requires-clause-absent c v low high = none_there c.requires v
+pub add_range-requires : goal.add_range-requires
+add_range-requires c = (search rules, (omega (arith, c.in_ok-n.ensures.found.problem_line.named), λ v low high. none_there c.requires v))
 
 pub read_edges-outcome-requires-clause-vertices : goal.read_edges-outcome-requires-clause-vertices
 read_edges-outcome-requires-clause-vertices c = vertices-edgeless c.add_range.new.self c.in_ok-n.n (edgeless_by_range c.in_ok-n.n c.requires c.add_range.ensures)

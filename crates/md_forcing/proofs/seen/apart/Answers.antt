@@ -1,17 +1,18 @@
+use Rattle.std.proofs.Common.{rules}
 use Rattle.md_forcing.proofs.OneSide.{side_names, apart_at_edges, apart_at_non_edges}
 use Rattle.md_forcing.proofs.seen.apart.Goals as goal
 
 pub row-requires : goal.row-requires
-row-requires c = (side_names c.vertices-vertices.ensures.graph c.args.side _ _ c.requires.adjacent).0
+row-requires c = (search rules, (search rules, (side_names c.vertices-vertices.ensures.graph c.args.side _ _ c.requires.adjacent).0))
 
 pub row-requires-in-Edges : goal.row-requires-in-Edges
-row-requires-in-Edges c = (side_names c.vertices-vertices.ensures.graph c.args.side _ _ c.requires.adjacent).1
+row-requires-in-Edges c = (search rules, (search rules, (side_names c.vertices-vertices.ensures.graph c.args.side _ _ c.requires.adjacent).1))
 
 pub row-requires-in-NonEdges : goal.row-requires-in-NonEdges
-row-requires-in-NonEdges c = (side_names c.vertices-vertices.ensures.graph c.args.side _ _ c.requires.adjacent).1
+row-requires-in-NonEdges c = (search rules, (search rules, (side_names c.vertices-vertices.ensures.graph c.args.side _ _ c.requires.adjacent).1))
 
 pub row-requires-in-NonEdges-2 : goal.row-requires-in-NonEdges-2
-row-requires-in-NonEdges-2 c = (side_names c.vertices-vertices.ensures.graph c.args.side _ _ c.requires.adjacent).0
+row-requires-in-NonEdges-2 c = (search rules, (search rules, (side_names c.vertices-vertices.ensures.graph c.args.side _ _ c.requires.adjacent).0))
 
 pub returns-in-Edges : goal.returns-in-Edges
 returns-in-Edges c =

@@ -1,11 +1,11 @@
-use Rattle.std.proofs.Common.{arith}
+use Rattle.std.proofs.Common.{arith, rules}
 use Rattle.md_graph.proofs.Ranges.{none_there}
 use Rattle.md_graph6.proofs.FillLemmas.{vertices_ranged, filled_none, filled_all}
 use Rattle.md_graph6.proofs.ShortLemmas.{filled_no_column}
 use Rattle.md_graph6.proofs.body.fill.Goals as goal
 
-pub add_range-requires-clause-absent : goal.add_range-requires-clause-absent
-add_range-requires-clause-absent c v low high = none_there c.requires.empty v
+pub add_range-requires : goal.add_range-requires
+add_range-requires c = (search rules, (omega (arith, c.requires.few), λ v low high. none_there c.requires.empty v))
 
 pub fill_short-requires-clause-before : goal.fill_short-requires-clause-before
 fill_short-requires-clause-before c = filled_no_column (vertices_ranged c.args.n c.requires.few c.requires.empty c.add_range.ensures)
