@@ -16,6 +16,7 @@ use Rattle.md_tree.specs.Trees.{PlainTree, leaf, node, PlainTrees, names, names_
 use Rattle.md_tree.specs.StrongTrees.{IsInOrder}
 use Rattle.md_tree.specs.TreeGraph.{position_of, joins, adjacent_in, adjacent_below}
 use Rattle.md_tree.specs.WellFormed.{IsOfKind, NoneOfKind, AreApart, IsPlainNode, HasShape, IsCanonicalNode, IsCanonical, HasNoPrimeNode}
+use Rattle.md_tree.proofs.Folding.{count_row}
 use Rattle.md_tree.proofs.Nodes.{IsChild, child_inside, child_of_name}
 use Rattle.md_cotree.specs.Orders.{IsLooseNode, IsOrdered, PlainKeyed, tree_of, key_of, first_key}
 use Rattle.md_cotree.proofs.Cographs.{value, joins_value, same_position, below_is, other_position, child_other_kind}
@@ -265,15 +266,11 @@ module _ (k : Kind) (ss : List PlainTree) (loose : IsLooseNode k (row ss) []) (z
     apart = apart;
     order = in_order ys rising apart (λ y h. let s = to y h in (s.0, s.2));
     shape = plain_has_shape k (row (map tree_of ys)) [] loose.not_prime (record {
-      two = let two = loose.plain.two in let a = count_map ys in let b = long in let e = count_list ss in omega arith;
+      two = let two = loose.plain.two in let a = count_map ys in let b = long in let e = count_row ss in omega arith;
       other_kinds = none_kind ys k (λ y h is. let s = to y h in child_other_kind (row ss) k s.0 loose.plain.other_kinds s.1 (s.2.kind k is));
       no_pairs = refl;
     });
   }
-    where
-      count_list : (ts : List PlainTree) → count (row ts) ≡ length ts
-      count_list [] = refl
-      count_list (t ∷ ts) = let rest = count_list ts in omega arith
 
   first : (x : PlainKeyed) → Contains ys x → first_key ys ≤ x.least
   first x h = go ys rising h

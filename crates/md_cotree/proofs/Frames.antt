@@ -1,6 +1,6 @@
 -- Trees stay where they stand while other places change.
-use Rattle.std.proofs.Common.{◌≡◌, ◌≢◌, ℕ, ◌+◌, ◌<◌, ◌≤◌, Bool, true, false, cond, ◌==◌, [], ◌∷◌, ◌++◌, Option, Some, None, is_some, refl, sym, ◌∙◌, ap, inl, inr, arith}
-use Rattle.std.proofs.lemmas.Bool.{cases_eq, eq-eqb, ne_eqb}
+use Rattle.std.proofs.Common.{◌≡◌, ◌≢◌, ℕ, ◌+◌, ◌<◌, ◌≤◌, Bool, true, false, cond, ◌&&◌, ◌==◌, [], ◌∷◌, ◌++◌, Option, Some, None, is_some, refl, sym, ◌∙◌, ap, inl, inr, arith}
+use Rattle.std.proofs.lemmas.Bool.{cases_eq, eq-eqb, ne_eqb, and_right}
 use Rattle.md_lists.specs.declared.kinds.PlaceKind.{PlaceKind}
 use Rattle.md_lists.specs.declared.TheConstants.{PLACES}
 use Rattle.md_lists.specs.Links.{Links, kind_at, parent_at, children_at, alive, IsLive, AreLinks, with_kind, attached}
@@ -23,6 +23,19 @@ hit q p same = rw (eq-eqb q p same) refl
 
 pub miss : (q p : ℕ) → (q ≡ p → ⊥) → ◌≡◌ {A = ℕ} (cond (q == p) 1 0) 0
 miss q p differ = rw (ne_eqb q p differ) refl
+
+-- two tests, counted as one
+pub some_of : (a b : Bool) → ◌<◌ 0 (cond (a && b) 1 0) → (a ≡ true) × (b ≡ true)
+some_of true true some = (refl, refl)
+some_of true false some = absurd (omega arith)
+some_of false b some = absurd (omega arith)
+
+pub test_both : (a b : Bool) → b ≡ true → ◌≡◌ {A = ℕ} (cond (a && b) 1 0) (cond a 1 0)
+test_both true b e = ap (λ z. cond z 1 0) e
+test_both false b e = refl
+
+pub test_none : (a b : Bool) → b ≡ false → ◌≡◌ {A = ℕ} (cond (a && b) 1 0) 0
+test_none a b e = ap (λ z. cond z 1 0) (and_right a b e)
 
 pub root_in : (t : PlaceTree) → times_in (place_of t) t ≡ 1 + times_under (place_of t) t
 root_in t = let e = under_in (place_of t) t in let h = hit (place_of t) (place_of t) refl in omega arith

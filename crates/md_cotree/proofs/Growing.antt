@@ -1,5 +1,5 @@
 -- One node more of a cotree that is put together.
-use Rattle.std.proofs.Common.{◌≡◌, ◌≢◌, ℕ, ◌+◌, ◌-◌, ◌<◌, ◌≤◌, Bool, true, false, cond, ◌&&◌, ◌==◌, List, [], ◌∷◌, ◌++◌, length, get_or, set, take, drop, map, Option, Some, None, refl, sym, ◌∙◌, ap, subst, inl, inr, arith, length-append, length-drop}
+use Rattle.std.proofs.Common.{◌≡◌, ◌≢◌, ℕ, ◌+◌, ◌-◌, ◌<◌, ◌≤◌, Bool, cond, ◌&&◌, ◌==◌, List, [], ◌∷◌, ◌++◌, length, get_or, set, take, drop, map, Option, Some, None, refl, sym, ◌∙◌, ap, subst, inl, inr, arith, length-append, length-drop}
 use Rattle.std.proofs.Math.Seq.{take-append_seam, drop-append_seam}
 use Rattle.std.proofs.lemmas.Bool.{cases_eq, eq-eqb, ne_eqb}
 use Rattle.std.proofs.lemmas.List.{length-set, length-map, take_all}
@@ -16,15 +16,16 @@ use Rattle.md_tree.specs.declared.Children.{Children, out-Children}
 use Rattle.md_tree.specs.declared.QuotientEdges.{QuotientEdges}
 use Rattle.md_tree.specs.declared.Tree.{Tree, Leaf as LeafTree, Node as NodeTree}
 use Rattle.md_tree.specs.Plain.{plain}
+use Rattle.md_tree.proofs.Folding.{count_row}
 use Rattle.md_tree.proofs.Plain.{plain_is_leaf, plain_is_node}
-use Rattle.md_tree.specs.Trees.{PlainTree, node, row, count}
+use Rattle.md_tree.specs.Trees.{node, row, count}
 use Rattle.md_tree.specs.Parts.{name, inner as inner_part, part_of}
 use Rattle.md_tree.specs.Stacks.{with_part, HasChildrenOf}
 use Rattle.md_cotree.specs.declared.cotree.Cotree.{Cotree}
 use Rattle.md_cotree.specs.PlaceTrees.{tip, inner, PlaceTrees, no_more, then, roots, row_length, place_kind, kind_of, leaves_among, node_counts, Fits}
 use Rattle.md_cotree.specs.Forests.{joined, shape_list, IsForest, IsReady}
 use Rattle.md_cotree.proofs.Rows.{roots-joined, shape_list-joined, leaves-joined, leaf_counts-joined, row_shapes, length_shapes, length_roots, Split, split_row, some_nodes}
-use Rattle.md_cotree.proofs.Frames.{fits_made, fits_last}
+use Rattle.md_cotree.proofs.Frames.{test_both, test_none, fits_made, fits_last}
 use Rattle.md_cotree.proofs.Room.{room}
 
 pub forest_spare : (c : Cotree) (stack : List ℕ) (ts : PlaceTrees) → IsForest c stack ts → node_counts ts < PLACES → 0 < spare_count c.lists
@@ -43,20 +44,12 @@ module _ (xs : List (Option ℕ)) (v p : ℕ) (long : length xs ≡ NAMES) (low 
   leaf_named ts names w q =
       leaves-joined q w ts (then (tip p v) no_more) ∙ elim (cases_eq w v) [ inl same ↦ here same | inr differ ↦ there differ ]
     where
-      kept : (a b : Bool) → b ≡ true → ◌≡◌ {A = ℕ} (cond (a && b) 1 0) (cond a 1 0)
-      kept true b e = ap (λ z. cond z 1 0) e
-      kept false b e = refl
-
-      gone : (a b : Bool) → b ≡ false → ◌≡◌ {A = ℕ} (cond (a && b) 1 0) 0
-      gone true b e = ap (λ z. cond z 1 0) e
-      gone false b e = refl
-
       here : w ≡ v → leaves_among q w ts + (cond ((p == q) && (v == w)) 1 0 + 0) ≡ holds_once (get_or (set xs v (Some p)) w None) q
       here same =
           let none : leaves_among q w ts ≡ 0 = names w q ∙ ap (λ z. holds_once (get_or xs z None) q) same ∙ ap (λ o. holds_once o q) absent in
           let is : holds_once (get_or (set xs v (Some p)) w None) q ≡ cond (p == q) 1 0 =
           ap (λ o. holds_once o q) (set_at w ∙ ap (λ b. cond b (Some p) (get_or xs w None)) (eq-eqb w v same)) in
-          let one : ◌≡◌ {A = ℕ} (cond ((p == q) && (v == w)) 1 0) (cond (p == q) 1 0) = kept (p == q) (v == w) (eq-eqb v w (sym same)) in
+          let one : ◌≡◌ {A = ℕ} (cond ((p == q) && (v == w)) 1 0) (cond (p == q) 1 0) = test_both (p == q) (v == w) (eq-eqb v w (sym same)) in
           omega arith
 
       there : (w ≡ v → ⊥) → leaves_among q w ts + (cond ((p == q) && (v == w)) 1 0 + 0) ≡ holds_once (get_or (set xs v (Some p)) w None) q
@@ -64,7 +57,7 @@ module _ (xs : List (Option ℕ)) (v p : ℕ) (long : length xs ≡ NAMES) (low 
           let was = names w q in
           let is : holds_once (get_or (set xs v (Some p)) w None) q ≡ holds_once (get_or xs w None) q =
           ap (λ o. holds_once o q) (set_at w ∙ ap (λ b. cond b (Some p) (get_or xs w None)) (ne_eqb w v differ)) in
-          let none : ◌≡◌ {A = ℕ} (cond ((p == q) && (v == w)) 1 0) 0 = gone (p == q) (v == w) (ne_eqb v w (λ e. differ (sym e))) in
+          let none : ◌≡◌ {A = ℕ} (cond ((p == q) && (v == w)) 1 0) 0 = test_none (p == q) (v == w) (ne_eqb v w (λ e. differ (sym e))) in
           omega arith
 
 -- a leaf on top of the stack
@@ -179,10 +172,6 @@ leaf_put t v p ts is = leaf_shown ts p v ∙ sym (ap (λ z. with_part (part_of z
 -- the number of the children of a node that is told
 abbrev children_of : Children → ℕ
 children_of cs = count (row (map plain (out-Children cs).list.items))
-
-count_row : (ts : List PlainTree) → count (row ts) ≡ length ts
-count_row [] = refl
-count_row (t ∷ ts) = let rest = count_row ts in omega arith
 
 counted : (cs : Children) (n : ℕ) → n ≡ length (out-Children cs).list.items → n ≡ children_of cs
 counted cs n e = e ∙ sym (length-map (out-Children cs).list.items plain) ∙ sym (count_row (map plain (out-Children cs).list.items))

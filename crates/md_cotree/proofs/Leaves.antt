@@ -1,6 +1,6 @@
 -- The leaves of a kept tree, and the places that are kept for names.
-use Rattle.std.proofs.Common.{◌≡◌, ◌≢◌, ℕ, ◌<◌, Bool, true, false, cond, ◌&&◌, ◌==◌, Option, Some, None, is_some, refl, sym, ◌∙◌, ap, subst, inl, inr, arith}
-use Rattle.std.proofs.lemmas.Bool.{cases_eq, cases_lt, eq-eqb, ne_eqb, false_from_ne_true}
+use Rattle.std.proofs.Common.{◌≡◌, ◌≢◌, ℕ, ◌<◌, false, cond, ◌&&◌, ◌==◌, Option, Some, None, is_some, sym, ◌∙◌, ap, subst, inl, inr, arith}
+use Rattle.std.proofs.lemmas.Bool.{cases_eq, cases_lt, eqb-true, eq-eqb, false_from_ne_true}
 use Rattle.std.proofs.lemmas.Option.{same_Some}
 use Rattle.std.specs.Option.{option_map}
 use Rattle.md_graph.specs.Sets.{Has, Lacks}
@@ -22,16 +22,8 @@ use Rattle.md_cotree.proofs.Kept.{same_leaf, no_leaf}
 use Rattle.md_cotree.proofs.NoPaths.{name_stands, kept_below, cotree_graph}
 use Rattle.md_cotree.proofs.TreeGraphs.{graph_tells}
 use Rattle.md_cotree.proofs.Room.{room}
-use Rattle.md_cotree.proofs.Frames.{hit, miss}
+use Rattle.md_cotree.proofs.Frames.{hit, miss, some_of}
 use Rattle.md_cotree.proofs.Meeting.{stands_hangs, OneLeaf, meet_in}
-
-some_of : (a b : Bool) → ◌<◌ 0 (cond (a && b) 1 0) → (a ≡ true) × (b ≡ true)
-some_of true true some = (refl, refl)
-some_of true false some = absurd (omega arith)
-some_of false b some = absurd (omega arith)
-
-from_test : (q p : ℕ) → (q == p) ≡ true → q ≡ p
-from_test q p e = elim (cases_eq q p) [ inl same ↦ same | inr other ↦ absurd (let f = ne_eqb q p other in let bad : true ≡ false = sym e ∙ f in cc) ]
 
 -- a leaf of a tree that stands
 pub record LeafStands (l : Links) (t : PlaceTree) (p v : ℕ) : Type 0 where
@@ -43,8 +35,8 @@ mutual
   pub leaf_stands : (l : Links) (t : PlaceTree) (p v : ℕ) → Stands l t → 0 < leaves_in p v t → LeafStands l t p v
   leaf_stands l (tip q w) p v is some =
       let both = some_of (q == p) (w == v) some in
-      let place : q ≡ p = from_test q p both.0 in
-      let name : w ≡ v = from_test w v both.1 in
+      let place : q ≡ p = eqb-true q p both.0 in
+      let name : w ≡ v = eqb-true w v both.1 in
       record {
         kind = ap (kind_at l) (sym place) ∙ is.0 ∙ ap (λ z. Some (Leaf z)) name;
         has = subst (λ z. Has (names (shape (tip q w))) z) name (only_has w);
@@ -124,21 +116,9 @@ module _ (c : Cotree) (t : PlaceTree) (kept : IsKeptAs c (Some t)) where
       let all = room c.lists (then t no_more) ok kept.fits in
       subst (Meets c.lists p q) (graph_tells (shape t) (kept_below c t kept) u v a.has b.has)
       (record {
-        left = m.left;
-        right = m.right;
-        top = m.top;
         root = place_of t;
-        left_steps = m.left_steps;
-        right_steps = m.right_steps;
-        steps_on = m.steps_on;
-        from_left = m.from_left;
-        from_right = m.from_right;
-        differ = m.differ;
-        left_top = m.left_top;
-        right_top = m.right_top;
-        on = m.on;
         no_parent = kept.fits.stand.0;
-        kind = m.kind;
+        below = m.below;
         left_few = let few = m.left_few in omega arith;
         right_few = let few = m.right_few in omega arith;
       })

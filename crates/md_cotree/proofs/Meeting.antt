@@ -13,7 +13,7 @@ use Rattle.md_tree.specs.Trees.{names, names_below}
 use Rattle.md_tree.specs.TreeGraph.{position_of, joins, adjacent_in, adjacent_below}
 use Rattle.md_tree.proofs.Edges.{here as first_place, later as later_place}
 use Rattle.md_cotree.specs.PlaceTrees.{PlaceTree, tip, inner, PlaceTrees, no_more, then, place_of, roots, place_kind, kind_of, node_count, node_counts, shape, shapes, Stands, StandsBelow}
-use Rattle.md_cotree.specs.Climbs.{Climbs}
+use Rattle.md_cotree.specs.Climbs.{Climbs, MeetBelow}
 use Rattle.md_cotree.proofs.Frames.{hit}
 use Rattle.md_cotree.proofs.NoPaths.{here_too, there_too, later_same}
 use Rattle.md_cotree.proofs.Ways.{climb_more}
@@ -36,6 +36,14 @@ mutual
   stand_hang : (l : Links) (q : ℕ) (ts : PlaceTrees) → StandsBelow l q ts → HangBelow l q ts
   stand_hang l q no_more is = tt
   stand_hang l q (then t ts) is = (is.0, stands_hangs l t is.1, stand_hang l q ts is.2)
+
+-- a name of a row that isn't in its first tree is in the others
+in_rest : (t : PlaceTree) (ts : PlaceTrees) (x : ℕ) → Has (names_below (shapes (then t ts))) x → Lacks (names (shape t)) x → Has (names_below (shapes ts)) x
+in_rest t ts x h j = elim (of_union (names (shape t)) (names_below (shapes ts)) x h) [ inl i ↦ absurd (clash i j) | inr k ↦ k ]
+
+pub joins_kind : (k : Bool) (i j : ℕ) → joins (kind_of k) [] i j ≡ k
+joins_kind true i j = refl
+joins_kind false i j = refl
 
 -- each name has one leaf
 abbrev pub OneLeaf : Links → Type 0
@@ -121,15 +129,15 @@ module _ (l : Links) (one : OneLeaf l) (once : (r c : ℕ) → times c (children
           | inl iv ↦ absurd (differ (first_place (shape t) (shapes ts) u iu ∙ sym (first_place (shape t) (shapes ts) v iv)))
           | inr jv ↦
               two_ways r p q (node_counts (then t ts)) ts t is.0 (wider p (place_of t) (node_count t) (node_counts (then t ts)) (omega arith) (way_up t is.1 u p iu leaf_u)) few
-              (wide (child_way ts r is.2 v q (rest v hv jv) leaf_v))
+              (wide (child_way ts r is.2 v q (in_rest t ts v hv jv) leaf_v))
         ]
         | inr ju ↦ elim (cases_Bool (contains (names (shape t)) v)) [
           | inl iv ↦
               turned r q p (node_counts (then t ts))
               (two_ways r q p (node_counts (then t ts)) ts t is.0 (wider q (place_of t) (node_count t) (node_counts (then t ts)) (omega arith) (way_up t is.1 v q iv leaf_v)) few
-              (wide (child_way ts r is.2 u p (rest u hu ju) leaf_u)))
+              (wide (child_way ts r is.2 u p (in_rest t ts u hu ju) leaf_u)))
           | inr jv ↦
-              let below = apart ts r is.2 (λ c. let e = few c in omega arith) u v p q (rest u hu ju) (rest v hv jv)
+              let below = apart ts r is.2 (λ c. let e = few c in omega arith) u v p q (in_rest t ts u hu ju) (in_rest t ts v hv jv)
               (λ e. differ (later_place (shape t) (shapes ts) u ju ∙ ap (λ z. suc z) e ∙ sym (later_place (shape t) (shapes ts) v jv))) leaf_u leaf_v in
               record {
                 left = below.left;
@@ -143,49 +151,33 @@ module _ (l : Links) (one : OneLeaf l) (once : (r c : ℕ) → times c (children
         ]
       ]
     where
-      rest : (x : ℕ) → Has (names_below (shapes (then t ts))) x → Lacks (names (shape t)) x → Has (names_below (shapes ts)) x
-      rest x h j = elim (of_union (names (shape t)) (names_below (shapes ts)) x h) [ inl i ↦ absurd (clash i j) | inr k ↦ k ]
-
       wide : {x : ℕ} → ChildWay r x (node_counts ts) ts → ChildWay r x (node_counts (then t ts)) ts
       wide w = record { child = w.child; way = wider _ w.child (node_counts ts) (node_counts (then t ts)) (omega arith) w.way; parent = w.parent; some = w.some }
 
   -- where the ways up from two leaves meet, in a tree
   pub record MeetIn (root p q n : ℕ) (b : Bool) : Type 0 where
-    pub left : ℕ
-    pub right : ℕ
-    pub top : ℕ
-    pub left_steps : ℕ
-    pub right_steps : ℕ
-    pub steps_on : ℕ
-    pub from_left : Climbs l left_steps p left
-    pub from_right : Climbs l right_steps q right
-    pub differ : left ≢ right
-    pub left_top : parent_at l left ≡ Some top
-    pub right_top : parent_at l right ≡ Some top
-    pub on : Climbs l steps_on top root
-    pub kind : kind_at l top ≡ Some (place_kind b)
+    pub below : MeetBelow l root p q b
+    pub open below use *
     pub left_few : suc (left_steps + steps_on) < n
     pub right_few : suc (right_steps + steps_on) < n
 
-  joins_kind : (k : Bool) (i j : ℕ) → joins (kind_of k) [] i j ≡ k
-  joins_kind true i j = refl
-  joins_kind false i j = refl
-
   higher : (t : PlaceTree) (r p q n m : ℕ) (b : Bool) → parent_at l (place_of t) ≡ Some r → n < m → MeetIn (place_of t) p q n b → MeetIn r p q m b
   higher t r p q n m b is less at = record {
-    left = at.left;
-    right = at.right;
-    top = at.top;
-    left_steps = at.left_steps;
-    right_steps = at.right_steps;
-    steps_on = suc at.steps_on;
-    from_left = at.from_left;
-    from_right = at.from_right;
-    differ = at.differ;
-    left_top = at.left_top;
-    right_top = at.right_top;
-    on = climb_more l at.steps_on at.top (place_of t) r at.on is;
-    kind = at.kind;
+    below = record {
+      left = at.left;
+      right = at.right;
+      top = at.top;
+      left_steps = at.left_steps;
+      right_steps = at.right_steps;
+      steps_on = suc at.steps_on;
+      from_left = at.from_left;
+      from_right = at.from_right;
+      differ = at.differ;
+      left_top = at.left_top;
+      right_top = at.right_top;
+      on = climb_more l at.steps_on at.top (place_of t) r at.on is;
+      kind = at.kind;
+    };
     left_few = let few = at.left_few in omega arith;
     right_few = let few = at.right_few in omega arith;
   }
@@ -205,19 +197,21 @@ module _ (l : Links) (one : OneLeaf l) (once : (r c : ℕ) → times c (children
               subst (MeetIn r p q (node_count (inner r k ts)))
               (sym (ap (λ w. cond w (adjacent_below (shapes ts) u v) (joins (kind_of k) [] (position_of (shapes ts) u) (position_of (shapes ts) v))) (ne_eqb _ _ other) ∙ joins_kind k _ _))
               (record {
-                left = ways.left;
-                right = ways.right;
-                top = r;
-                left_steps = ways.left_way.steps;
-                right_steps = ways.right_way.steps;
-                steps_on = 0;
-                from_left = ways.left_way.climbs;
-                from_right = ways.right_way.climbs;
-                differ = ways.differ;
-                left_top = ways.left_parent;
-                right_top = ways.right_parent;
-                on = refl;
-                kind = is.0;
+                below = record {
+                  left = ways.left;
+                  right = ways.right;
+                  top = r;
+                  left_steps = ways.left_way.steps;
+                  right_steps = ways.right_way.steps;
+                  steps_on = 0;
+                  from_left = ways.left_way.climbs;
+                  from_right = ways.right_way.climbs;
+                  differ = ways.differ;
+                  left_top = ways.left_parent;
+                  right_top = ways.right_parent;
+                  on = refl;
+                  kind = is.0;
+                };
                 left_few = let few = ways.left_way.few in omega arith;
                 right_few = let few = ways.right_way.few in omega arith;
               })
@@ -235,8 +229,5 @@ module _ (l : Links) (one : OneLeaf l) (once : (r c : ℕ) → times c (children
           | inr ju ↦
               let jv = there_too (shape t) (shapes ts) u v ju same in
               subst (MeetIn r p q m) (sym (ap (λ w. cond w (adjacent_in (shape t) u v) (adjacent_below (shapes ts) u v)) ju))
-              (meet_below ts r m (omega arith) is.2 u v p q differ (rest u hu ju) (rest v hv jv) (later_same (shape t) (shapes ts) u v ju same) leaf_u leaf_v)
+              (meet_below ts r m (omega arith) is.2 u v p q differ (in_rest t ts u hu ju) (in_rest t ts v hv jv) (later_same (shape t) (shapes ts) u v ju same) leaf_u leaf_v)
         ]
-      where
-        rest : (x : ℕ) → Has (names_below (shapes (then t ts))) x → Lacks (names (shape t)) x → Has (names_below (shapes ts)) x
-        rest x h j = elim (of_union (names (shape t)) (names_below (shapes ts)) x h) [ inl i ↦ absurd (clash i j) | inr k ↦ k ]

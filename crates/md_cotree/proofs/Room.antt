@@ -85,7 +85,7 @@ mutual
 abbrev some_one : Option PlaceKind → ℕ
 some_one o = cond (is_some o) 1 0
 
-abbrev none_one : Option PlaceKind → ℕ
+abbrev pub none_one : Option PlaceKind → ℕ
 none_one o = cond (is_none o) 1 0
 
 either_one : (o : Option PlaceKind) → some_one o + none_one o ≡ 1

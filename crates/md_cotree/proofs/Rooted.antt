@@ -1,5 +1,5 @@
 -- The loose trees that the nodes of a tree have become: what is left of its parts, and the parts of the loose trees, are its parts.
-use Rattle.std.proofs.Common.{◌≡◌, ◌≢◌, ℕ, ◌+◌, ◌-◌, ◌<◌, ◌≤◌, Bool, true, false, cond, ◌&&◌, ◌==◌, List, [], ◌∷◌, ◌++◌, length, get_or, take, drop, Option, Some, None, refl, sym, ◌∙◌, ap, subst, arith, append_assoc, append-nil, length-append, length-drop}
+use Rattle.std.proofs.Common.{◌≡◌, ℕ, ◌+◌, ◌-◌, ◌<◌, ◌≤◌, Bool, true, false, cond, ◌&&◌, ◌==◌, List, [], ◌∷◌, ◌++◌, length, get_or, take, drop, Option, Some, None, refl, sym, ◌∙◌, ap, subst, arith, append_assoc, append-nil, length-append, length-drop}
 use Rattle.std.proofs.lemmas.List.{take-append-drop}
 use Rattle.std.specs.Option.{option_map}
 use Rattle.md_graph.specs.PlainGraph.{empty_graph}
@@ -9,7 +9,6 @@ use Rattle.md_lists.specs.declared.TheConstants.{PLACES}
 use Rattle.md_lists.specs.Words.{times, holds_once}
 use Rattle.md_lists.specs.Links.{Links, AreLinks}
 use Rattle.md_lists.proofs.LinkLaws.{holds-once-same}
-use Rattle.md_tree.specs.declared.Kind.TheVariants.{Prime}
 use Rattle.md_tree.specs.Trees.{PlainTree, leaf, node, names, names_below, count, row, EachNodeBelow}
 use Rattle.md_tree.specs.Parts.{PlainPart, name, inner as inner_part, parts_of, parts_backward}
 use Rattle.md_tree.specs.Stacks.{with_part, HasChildrenOf}
@@ -24,6 +23,7 @@ use Rattle.md_cotree.proofs.Cographs.{plain_shape}
 use Rattle.md_cotree.proofs.Rows.{row_shapes}
 use Rattle.md_cotree.proofs.Frames.{hit}
 use Rattle.md_tree.proofs.Listing.{backward-append}
+use Rattle.md_cotree.proofs.NoPaths.{kind_not_prime}
 use Rattle.md_cotree.proofs.Naming.{named, times-named, name_has, name_once, few_names, few_parts, ArePlain, plain_rest, plain_parts}
 
 -- ---- parts
@@ -151,15 +151,11 @@ pub count_shapes : (ts : PlaceTrees) → count (shapes ts) ≡ row_length ts
 count_shapes no_more = refl
 count_shapes (then t ts) = let rest = count_shapes ts in omega arith
 
-not_prime : (k : Bool) → kind_of k ≢ Prime
-not_prime true = λ e. cc
-not_prime false = λ e. cc
-
 mutual
   alternates_of : (t : PlaceTree) → IsCanonical (shape t) → Alternates t
   alternates_of (tip p v) each = tt
   alternates_of (inner p k ts) each =
-      let plain = plain_shape (kind_of k) (shapes ts) [] (not_prime k) each.0.shape in
+      let plain = plain_shape (kind_of k) (shapes ts) [] (kind_not_prime k) each.0.shape in
       (let e = count_shapes ts in let two = plain.two in omega arith, none_inner ts k plain.other_kinds, all_alternate ts each.1)
 
   all_alternate : (ts : PlaceTrees) → EachNodeBelow IsCanonicalNode (shapes ts) → AllAlternate ts

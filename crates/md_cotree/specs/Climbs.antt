@@ -22,13 +22,11 @@ pub record Meet (l : Links) (p q n : ℕ) (series : Bool) : Type 0 where
   pub right_top : parent_at l right ≡ Some top
   pub kind : kind_at l top ≡ Some (place_kind series)
 
--- ways up from p and from q end at one place without a parent, and meet where they lead to different children of one place, which is
--- series or not
-pub record Meets (l : Links) (p q : ℕ) (series : Bool) : Type 0 where
+-- ways up from p and from q lead to one place, and meet where they lead to different children of one place, which is series or not
+pub record MeetBelow (l : Links) (root p q : ℕ) (series : Bool) : Type 0 where
   pub left : ℕ
   pub right : ℕ
   pub top : ℕ
-  pub root : ℕ
   pub left_steps : ℕ
   pub right_steps : ℕ
   pub steps_on : ℕ
@@ -38,7 +36,13 @@ pub record Meets (l : Links) (p q : ℕ) (series : Bool) : Type 0 where
   pub left_top : parent_at l left ≡ Some top
   pub right_top : parent_at l right ≡ Some top
   pub on : Climbs l steps_on top root
-  pub no_parent : parent_at l root ≡ None
   pub kind : kind_at l top ≡ Some (place_kind series)
+
+-- ways up from p and from q end at one place without a parent, and meet below it, in fewer steps than there are places
+pub record Meets (l : Links) (p q : ℕ) (series : Bool) : Type 0 where
+  pub root : ℕ
+  pub no_parent : parent_at l root ≡ None
+  pub below : MeetBelow l root p q series
+  pub open below use *
   pub left_few : suc (left_steps + steps_on) < PLACES
   pub right_few : suc (right_steps + steps_on) < PLACES

@@ -4,77 +4,67 @@ use Rattle.std.proofs.lemmas.Bool.{cases_lt}
 use Rattle.md_cotree.specs.PlaceTrees.{PlaceTree, tip, inner, PlaceTrees, no_more, then, row_length, IsInner, NoneInner, Alternates, AllAlternate}
 use Rattle.md_cotree_edit.specs.Counts.{name_in, name_row, pair_row, edge_in, edge_row}
 use Rattle.md_cotree_edit.specs.Marks.{AreMarks, hits_in, hits_row, full_in, full_row, full_count, mixed_in, mixed_count, CanTake, AllCanTake}
-use Rattle.md_cotree_edit.proofs.Local.{edge_none, edges_none, edge_turned, edges_turned, pair_none, pair_turned}
+use Rattle.md_cotree_edit.proofs.Local.{cond_zero, edge_none, edges_none, edge_turned, edges_turned, pair_none, pair_turned}
 use Rattle.md_cotree_edit.proofs.Turning.{other_kind}
 use Rattle.md_cotree_edit.proofs.Marked.{unmarked_name, marked_name, full_hits, two_names, edges_low}
-use Rattle.md_cotree_edit.proofs.Holes.{full_low, fulls_low}
+use Rattle.md_cotree_edit.proofs.Holes.{low_product, full_low, fulls_low}
 use Rattle.md_cotree_edit.proofs.Lowest.{mixed_parts}
 use Rattle.md_cotree_edit.proofs.Reaching.{left_zero}
+
+-- a marked name and one that isn't, of those that are there, neighbours if the node above is parallel
+pub record Two (m : ℕ → ℕ) (k : Bool) (there : ℕ → ℕ) (edge : ℕ → ℕ → ℕ) : Type 0 where
+  pub a : ℕ
+  pub z : ℕ
+  pub mark_a : m a ≡ 1
+  pub mark_z : m z ≡ 0
+  pub in_a : 0 < there a
+  pub in_z : 0 < there z
+  pub az : edge a z ≡ cond k 0 1
+
+-- the two among others, where they are neighbours or not as before
+abbrev two_elsewhere : {m : ℕ → ℕ} {k : Bool} {there others : ℕ → ℕ} {edge edges : ℕ → ℕ → ℕ} (w : Two m k there edge) → ((x : ℕ) → 0 < there x → 0 < others x) → edges w.a w.z ≡ cond k 0 1 → Two m k others edges
+two_elsewhere w more az = record { a = w.a; z = w.z; mark_a = w.mark_a; mark_z = w.mark_z; in_a = more w.a w.in_a; in_z = more w.z w.in_z; az = az }
+
+abbrev pub TreeTwo : (ℕ → ℕ) → Bool → PlaceTree → Type 0
+TreeTwo m k t = Two m k (λ x. name_in x t) (λ x y. edge_in x y t)
 
 -- three names of a tree: the first is marked and the second isn't; the third is the neighbour of both and isn't marked, and the two
 -- aren't neighbours; or it is marked and the neighbour of neither, and the two are neighbours
 pub record Witness (m : ℕ → ℕ) (t : PlaceTree) : Type 0 where
-  pub a : ℕ
-  pub z : ℕ
-  pub r : ℕ
   pub k : Bool
-  pub mark_a : m a ≡ 1
-  pub mark_z : m z ≡ 0
+  pub two : TreeTwo m k t
+  pub open two use *
+  pub r : ℕ
   pub mark_r : m r ≡ cond k 0 1
-  pub in_a : 0 < name_in a t
-  pub in_z : 0 < name_in z t
   pub in_r : 0 < name_in r t
-  pub az : edge_in a z t ≡ cond k 0 1
   pub ar : edge_in a r t ≡ cond k 1 0
   pub rz : edge_in r z t ≡ cond k 1 0
 
+-- two names of one tree of a row
+record RowTwo (m : ℕ → ℕ) (k : Bool) (ts : PlaceTrees) : Type 0 where
+  two : Two m k (λ x. name_row x ts) (λ x y. edge_row x y ts)
+  open two use *
+  az_pair : pair_row a z ts ≡ 0
+
+-- and a third, with as many edges to both in one tree, and as many pairs with both in two
+record RowThree (m : ℕ → ℕ) (k : Bool) (e n : ℕ) (ts : PlaceTrees) : Type 0 where
+  row_two : RowTwo m k ts
+  open row_two use *
+  r : ℕ
+  mark_r : m r ≡ cond k 0 1
+  in_r : 0 < name_row r ts
+  ar : edge_row a r ts ≡ e
+  rz : edge_row r z ts ≡ e
+  ar_pair : pair_row a r ts ≡ n
+  rz_pair : pair_row r z ts ≡ n
+
 -- three such names of a tree of a row
-record RowWitness (m : ℕ → ℕ) (ts : PlaceTrees) : Type 0 where
-  a : ℕ
-  z : ℕ
-  r : ℕ
-  k : Bool
-  mark_a : m a ≡ 1
-  mark_z : m z ≡ 0
-  mark_r : m r ≡ cond k 0 1
-  in_a : 0 < name_row a ts
-  in_z : 0 < name_row z ts
-  in_r : 0 < name_row r ts
-  az : edge_row a z ts ≡ cond k 0 1
-  ar : edge_row a r ts ≡ cond k 1 0
-  rz : edge_row r z ts ≡ cond k 1 0
-  az_pair : pair_row a z ts ≡ 0
-  ar_pair : pair_row a r ts ≡ 0
-  rz_pair : pair_row r z ts ≡ 0
+abbrev RowWitness : (ℕ → ℕ) → PlaceTrees → Type 0
+RowWitness m ts = (k : Bool) × RowThree m k (cond k 1 0) 0 ts
 
--- a marked name and one that isn't in a tree of a row, neighbours if the node above is parallel
-record RowMixed (m : ℕ → ℕ) (k : Bool) (ts : PlaceTrees) : Type 0 where
-  a : ℕ
-  z : ℕ
-  mark_a : m a ≡ 1
-  mark_z : m z ≡ 0
-  in_a : 0 < name_row a ts
-  in_z : 0 < name_row z ts
-  az : edge_row a z ts ≡ cond k 0 1
-  az_pair : pair_row a z ts ≡ 0
-
--- two such names, and a third in another tree of the row
-record RowBreach (m : ℕ → ℕ) (k : Bool) (ts : PlaceTrees) : Type 0 where
-  a : ℕ
-  z : ℕ
-  r : ℕ
-  mark_a : m a ≡ 1
-  mark_z : m z ≡ 0
-  mark_r : m r ≡ cond k 0 1
-  in_a : 0 < name_row a ts
-  in_z : 0 < name_row z ts
-  in_r : 0 < name_row r ts
-  az : edge_row a z ts ≡ cond k 0 1
-  ar : edge_row a r ts ≡ 0
-  rz : edge_row r z ts ≡ 0
-  az_pair : pair_row a z ts ≡ 0
-  ar_pair : pair_row a r ts ≡ 1
-  rz_pair : pair_row r z ts ≡ 1
+-- two such names of a tree, and a third of another tree of the row
+abbrev RowBreach : (ℕ → ℕ) → Bool → PlaceTrees → Type 0
+RowBreach m k ts = RowThree m k 0 1 ts
 
 -- ---- pairs of a row with one tree more
 
@@ -94,120 +84,99 @@ later_pair x y t ts n e no_x no_y = (λ i. (no_x i * name_row y ts + no_y i * na
 across_edge : (x y : ℕ) (t : PlaceTree) (ts : PlaceTrees) → name_row x ts ≡ 0 → name_in y t ≡ 0 → edge_row x y (then t ts) ≡ 0
 across_edge x y t ts no_x no_y = let e = edge_turned x y t ∙ edge_none y x t no_y in let f = edges_none x y ts no_x in omega arith
 
-across_pair : (x y : ℕ) (t : PlaceTree) (ts : PlaceTrees) → name_in x t ≡ 1 → name_row y ts ≡ 1 → name_row x ts ≡ 0 → name_in y t ≡ 0 → pair_row x y (then t ts) ≡ 1
-across_pair x y t ts one_x one_y no_x no_y = (λ i. (one_x i * one_y i + no_y i * no_x i) + pair_none x y ts no_x i)
+across_pair : (x y : ℕ) (t : PlaceTree) (ts : PlaceTrees) → ((v : ℕ) → name_row v (then t ts) ≤ 1) → 0 < name_in x t → 0 < name_row y ts → pair_row x y (then t ts) ≡ 1
+across_pair x y t ts once some_x some_y =
+    let o = once x in
+    let e = once y in
+    let one_x : name_in x t ≡ 1 = omega arith in
+    let one_y : name_row y ts ≡ 1 = omega arith in
+    let no_x : name_row x ts ≡ 0 = omega arith in
+    let no_y : name_in y t ≡ 0 = omega arith in
+    λ i. (one_x i * one_y i + no_y i * no_x i) + pair_none x y ts no_x i
 
-cond_none : (k : Bool) (n : ℕ) → n ≡ 0 → ◌≡◌ {A = ℕ} (cond k n 0) 0
-cond_none true n e = e
-cond_none false n e = refl
+-- the names of a row with one tree more
+module _ (m : ℕ → ℕ) (t : PlaceTree) (ts : PlaceTrees) (once : (x : ℕ) → name_row x (then t ts) ≤ 1) where
+  not_behind : (x : ℕ) → 0 < name_in x t → name_row x ts ≡ 0
+  not_behind x some = let o = once x in omega arith
+
+  not_first : (x : ℕ) → 0 < name_row x ts → name_in x t ≡ 0
+  not_first x some = let o = once x in omega arith
+
+  abbrev two_first : (k : Bool) → TreeTwo m k t → RowTwo m k (then t ts)
+  two_first k w = record {
+    two = two_elsewhere w (λ x some. omega arith) (front_edge w.a w.z t ts (cond k 0 1) w.az (not_behind w.a w.in_a));
+    az_pair = front_pair w.a w.z t ts (not_behind w.a w.in_a) (not_behind w.z w.in_z);
+  }
+
+  abbrev two_rest : (k : Bool) → RowTwo m k ts → RowTwo m k (then t ts)
+  two_rest k w = record {
+    two = two_elsewhere w.two (λ x some. omega arith) (later_edge w.a w.z t ts (cond k 0 1) w.az (not_first w.a w.in_a));
+    az_pair = later_pair w.a w.z t ts 0 w.az_pair (not_first w.a w.in_a) (not_first w.z w.in_z);
+  }
+
+  three_rest : (k : Bool) (e n : ℕ) → RowThree m k e n ts → RowThree m k e n (then t ts)
+  three_rest k e n w =
+      let no_a = not_first w.a w.in_a in
+      let no_r = not_first w.r w.in_r in
+      record {
+        row_two = two_rest k w.row_two;
+        r = w.r;
+        mark_r = w.mark_r;
+        in_r = let some = w.in_r in omega arith;
+        ar = later_edge w.a w.r t ts e w.ar no_a;
+        rz = later_edge w.r w.z t ts e w.rz no_r;
+        ar_pair = later_pair w.a w.r t ts n w.ar_pair no_a no_r;
+        rz_pair = later_pair w.r w.z t ts n w.rz_pair no_r (not_first w.z w.in_z);
+      }
 
 module _ (m : ℕ → ℕ) (marks : AreMarks m) where
-  from_row : (p : ℕ) (k : Bool) (ts : PlaceTrees) → RowWitness m ts → Witness m (inner p k ts)
-  from_row p k ts w = record {
-    a = w.a;
-    z = w.z;
+  -- three names of a row, below a node
+  below_node : (p : ℕ) (j k : Bool) (e n : ℕ) (ts : PlaceTrees) → cond j n 0 + e ≡ cond k 1 0 → RowThree m k e n ts → Witness m (inner p j ts)
+  below_node p j k e n ts is w = record {
+    k = k;
+    two = two_elsewhere w.two (λ x some. some) ((λ i. cond_zero j (pair_row w.a w.z ts) w.az_pair i + w.az i) ∙ omega arith);
     r = w.r;
-    k = w.k;
-    mark_a = w.mark_a;
-    mark_z = w.mark_z;
     mark_r = w.mark_r;
-    in_a = w.in_a;
-    in_z = w.in_z;
     in_r = w.in_r;
-    az = (λ i. cond_none k (pair_row w.a w.z ts) w.az_pair i + w.az i) ∙ omega arith;
-    ar = (λ i. cond_none k (pair_row w.a w.r ts) w.ar_pair i + w.ar i) ∙ omega arith;
-    rz = (λ i. cond_none k (pair_row w.r w.z ts) w.rz_pair i + w.rz i) ∙ omega arith;
+    ar = (λ i. cond j (w.ar_pair i) 0 + w.ar i) ∙ is;
+    rz = (λ i. cond j (w.rz_pair i) 0 + w.rz i) ∙ is;
   }
+
+  from_row : (p : ℕ) (k : Bool) (ts : PlaceTrees) → RowWitness m ts → Witness m (inner p k ts)
+  from_row p k ts w = let none = cond_zero k 0 refl in below_node p k w.0 (cond w.0 1 0) 0 ts (omega arith) w.1
+
+  from_breach : (p : ℕ) (k : Bool) (ts : PlaceTrees) → RowBreach m k ts → Witness m (inner p k ts)
+  from_breach p k ts w = below_node p k k 0 1 ts (omega arith) w
 
   from_first : (t : PlaceTree) (ts : PlaceTrees) → ((x : ℕ) → name_row x (then t ts) ≤ 1) → Witness m t → RowWitness m (then t ts)
   from_first t ts once w =
-      let some_a = w.in_a in
-      let some_z = w.in_z in
-      let some_r = w.in_r in
-      let no_a : name_row w.a ts ≡ 0 = (let o = once w.a in omega arith) in
-      let no_z : name_row w.z ts ≡ 0 = (let o = once w.z in omega arith) in
-      let no_r : name_row w.r ts ≡ 0 = (let o = once w.r in omega arith) in
-      record {
-        a = w.a;
-        z = w.z;
-        r = w.r;
-        k = w.k;
-        mark_a = w.mark_a;
-        mark_z = w.mark_z;
-        mark_r = w.mark_r;
-        in_a = omega arith;
-        in_z = omega arith;
-        in_r = omega arith;
-        az = front_edge w.a w.z t ts (cond w.k 0 1) w.az no_a;
-        ar = front_edge w.a w.r t ts (cond w.k 1 0) w.ar no_a;
-        rz = front_edge w.r w.z t ts (cond w.k 1 0) w.rz no_r;
-        az_pair = front_pair w.a w.z t ts no_a no_z;
-        ar_pair = front_pair w.a w.r t ts no_a no_r;
-        rz_pair = front_pair w.r w.z t ts no_r no_z;
-      }
+      let no_a = not_behind m t ts once w.a w.in_a in
+      let no_r = not_behind m t ts once w.r w.in_r in (
+        w.k,
+        record {
+          row_two = two_first m t ts once w.k w.two;
+          r = w.r;
+          mark_r = w.mark_r;
+          in_r = let some = w.in_r in omega arith;
+          ar = front_edge w.a w.r t ts (cond w.k 1 0) w.ar no_a;
+          rz = front_edge w.r w.z t ts (cond w.k 1 0) w.rz no_r;
+          ar_pair = front_pair w.a w.r t ts no_a no_r;
+          rz_pair = front_pair w.r w.z t ts no_r (not_behind m t ts once w.z w.in_z);
+        },
+      )
 
   from_rest : (t : PlaceTree) (ts : PlaceTrees) → ((x : ℕ) → name_row x (then t ts) ≤ 1) → RowWitness m ts → RowWitness m (then t ts)
-  from_rest t ts once w =
-      let some_a = w.in_a in
-      let some_z = w.in_z in
-      let some_r = w.in_r in
-      let no_a : name_in w.a t ≡ 0 = (let o = once w.a in omega arith) in
-      let no_z : name_in w.z t ≡ 0 = (let o = once w.z in omega arith) in
-      let no_r : name_in w.r t ≡ 0 = (let o = once w.r in omega arith) in
-      record {
-        a = w.a;
-        z = w.z;
-        r = w.r;
-        k = w.k;
-        mark_a = w.mark_a;
-        mark_z = w.mark_z;
-        mark_r = w.mark_r;
-        in_a = omega arith;
-        in_z = omega arith;
-        in_r = omega arith;
-        az = later_edge w.a w.z t ts (cond w.k 0 1) w.az no_a;
-        ar = later_edge w.a w.r t ts (cond w.k 1 0) w.ar no_a;
-        rz = later_edge w.r w.z t ts (cond w.k 1 0) w.rz no_r;
-        az_pair = later_pair w.a w.z t ts 0 w.az_pair no_a no_z;
-        ar_pair = later_pair w.a w.r t ts 0 w.ar_pair no_a no_r;
-        rz_pair = later_pair w.r w.z t ts 0 w.rz_pair no_r no_z;
-      }
-
-  from_breach : (p : ℕ) (k : Bool) (ts : PlaceTrees) → RowBreach m k ts → Witness m (inner p k ts)
-  from_breach p k ts w = record {
-    a = w.a;
-    z = w.z;
-    r = w.r;
-    k = k;
-    mark_a = w.mark_a;
-    mark_z = w.mark_z;
-    mark_r = w.mark_r;
-    in_a = w.in_a;
-    in_z = w.in_z;
-    in_r = w.in_r;
-    az = (λ i. cond_none k (pair_row w.a w.z ts) w.az_pair i + w.az i) ∙ omega arith;
-    ar = (λ i. cond k (w.ar_pair i) 0 + w.ar i) ∙ omega arith;
-    rz = (λ i. cond k (w.rz_pair i) 0 + w.rz i) ∙ omega arith;
-  }
+  from_rest t ts once w = (w.0, three_rest m t ts once w.0 (cond w.0 1 0) 0 w.1)
 
   -- a marked name and one that isn't, of a mixed tree
-  record MixedNames (k : Bool) (t : PlaceTree) : Type 0 where
-    a : ℕ
-    z : ℕ
-    mark_a : m a ≡ 1
-    mark_z : m z ≡ 0
-    in_a : 0 < name_in a t
-    in_z : 0 < name_in z t
-    az : edge_in a z t ≡ cond k 0 1
-
-  mixed_names : (k : Bool) (t : PlaceTree) → Alternates t → (IsInner t k → ⊥) → ((x : ℕ) → name_in x t ≤ 1) → 0 < mixed_in m t → MixedNames k t
+  mixed_names : (k : Bool) (t : PlaceTree) → Alternates t → (IsInner t k → ⊥) → ((x : ℕ) → name_in x t ≤ 1) → 0 < mixed_in m t → TreeTwo m k t
   mixed_names k (tip p v) is other once some = absurd (let parts = mixed_parts (m v) (m v) (marks v) some in let none = parts.0 in let hit = parts.1 in omega arith)
   mixed_names k (inner p j ts) is other once some =
       let parts = mixed_parts (full_row m ts) (hits_row m ts) (fulls_low m marks ts) some in
       let two = two_names m marks ts is.2 is.0 parts.1 parts.0 in
       let low = edges_low two.0 two.1 ts in
       let pair = two.4 in
-      let names = unit (name_row two.0 ts) (name_row two.1 ts) (once two.0) (once two.1) in
+      let names = low_product (name_row two.0 ts) (name_row two.1 ts) (once two.0) (once two.1) in
       let some_a = positive_left (name_row two.0 ts) (name_row two.1 ts) (omega arith) in
       let some_z = positive_left (name_row two.1 ts) (name_row two.0 ts) (let e = pair in omega arith) in
       let none : edge_row two.0 two.1 ts ≡ 0 = omega arith in
@@ -223,11 +192,6 @@ module _ (m : ℕ → ℕ) (marks : AreMarks m) where
         az = (λ i. cond (kind i) (one i) 0 + none i) ∙ value k;
       }
     where
-      unit : (x y : ℕ) → x ≤ 1 → y ≤ 1 → x * y ≤ 1
-      unit zero y e f = omega arith
-      unit (suc zero) y e f = omega arith
-      unit (suc (suc x)) y e f = absurd (omega arith)
-
       positive_left : (x y : ℕ) → 0 < x * y → 0 < x
       positive_left zero y some = absurd (omega arith)
       positive_left (suc x) y some = omega arith
@@ -236,42 +200,12 @@ module _ (m : ℕ → ℕ) (marks : AreMarks m) where
       value true = refl
       value false = refl
 
-  row_mixed : (k : Bool) (ts : PlaceTrees) → AllAlternate ts → NoneInner ts k → ((x : ℕ) → name_row x ts ≤ 1) → 0 < mixed_count m ts → RowMixed m k ts
+  row_mixed : (k : Bool) (ts : PlaceTrees) → AllAlternate ts → NoneInner ts k → ((x : ℕ) → name_row x ts ≤ 1) → 0 < mixed_count m ts → RowTwo m k ts
   row_mixed k no_more is none once some = absurd (omega arith)
   row_mixed k (then t ts) is none once some =
       elim (cases_lt 0 (mixed_in m t)) [
-        | inl here ↦
-            let w = mixed_names k t is.0 none.0 (λ x. let o = once x in omega arith) here in
-            let some_a = w.in_a in
-            let some_z = w.in_z in
-            let no_a : name_row w.a ts ≡ 0 = (let o = once w.a in omega arith) in
-            let no_z : name_row w.z ts ≡ 0 = (let o = once w.z in omega arith) in
-            record {
-              a = w.a;
-              z = w.z;
-              mark_a = w.mark_a;
-              mark_z = w.mark_z;
-              in_a = omega arith;
-              in_z = omega arith;
-              az = front_edge w.a w.z t ts (cond k 0 1) w.az no_a;
-              az_pair = front_pair w.a w.z t ts no_a no_z;
-            }
-        | inr not ↦
-            let w = row_mixed k ts is.1 none.1 (λ x. let o = once x in omega arith) (omega arith) in
-            let some_a = w.in_a in
-            let some_z = w.in_z in
-            let no_a : name_in w.a t ≡ 0 = (let o = once w.a in omega arith) in
-            let no_z : name_in w.z t ≡ 0 = (let o = once w.z in omega arith) in
-            record {
-              a = w.a;
-              z = w.z;
-              mark_a = w.mark_a;
-              mark_z = w.mark_z;
-              in_a = omega arith;
-              in_z = omega arith;
-              az = later_edge w.a w.z t ts (cond k 0 1) w.az no_a;
-              az_pair = later_pair w.a w.z t ts 0 w.az_pair no_a no_z;
-            }
+        | inl here ↦ two_first m t ts once k (mixed_names k t is.0 none.0 (λ x. let o = once x in omega arith) here)
+        | inr not ↦ two_rest m t ts once k (row_mixed k ts is.1 none.1 (λ x. let o = once x in omega arith) (omega arith))
       ]
 
   -- ---- trees that a node with a mixed child may not have beside it
@@ -321,87 +255,39 @@ module _ (m : ℕ → ℕ) (marks : AreMarks m) where
             let w = mixed_names k t is.0 none.0 (λ x. let o = once x in omega arith) here in
             let low = off_low k t in
             let r = off_among k ts (omega arith) in
-            let some_a = w.in_a in
-            let some_z = w.in_z in
             let some_r = r.1 in
-            let one_a = once w.a in
-            let one_z = once w.z in
-            let one_r = once r.0 in
-            let no_a : name_row w.a ts ≡ 0 = omega arith in
-            let no_z : name_row w.z ts ≡ 0 = omega arith in
-            let no_r : name_in r.0 t ≡ 0 = omega arith in
+            let no_a = not_behind m t ts once w.a w.in_a in
+            let no_z = not_behind m t ts once w.z w.in_z in
+            let no_r = not_first m t ts once r.0 r.1 in
             record {
-              a = w.a;
-              z = w.z;
+              row_two = two_first m t ts once k w;
               r = r.0;
-              mark_a = w.mark_a;
-              mark_z = w.mark_z;
               mark_r = r.2;
-              in_a = omega arith;
-              in_z = omega arith;
               in_r = omega arith;
-              az = front_edge w.a w.z t ts (cond k 0 1) w.az no_a;
               ar = across_edge w.a r.0 t ts no_a no_r;
               rz = edges_turned r.0 w.z (then t ts) ∙ across_edge w.z r.0 t ts no_z no_r;
-              az_pair = front_pair w.a w.z t ts no_a no_z;
-              ar_pair = across_pair w.a r.0 t ts (omega arith) (omega arith) no_a no_r;
-              rz_pair = pair_turned r.0 w.z (then t ts) ∙ across_pair w.z r.0 t ts (omega arith) (omega arith) no_z no_r;
+              ar_pair = across_pair w.a r.0 t ts once w.in_a r.1;
+              rz_pair = pair_turned r.0 w.z (then t ts) ∙ across_pair w.z r.0 t ts once w.in_z r.1;
             }
         | inr not ↦ elim (cases_lt 0 (off_in k t)) [
           | inl off ↦
               let w = row_mixed k ts is.1 none.1 (λ x. let o = once x in omega arith) (omega arith) in
               let r = off_name k t off in
-              let some_a = w.in_a in
-              let some_z = w.in_z in
               let some_r = r.1 in
-              let one_a = once w.a in
-              let one_z = once w.z in
-              let one_r = once r.0 in
-              let no_a : name_in w.a t ≡ 0 = omega arith in
-              let no_z : name_in w.z t ≡ 0 = omega arith in
-              let no_r : name_row r.0 ts ≡ 0 = omega arith in
+              let no_a = not_first m t ts once w.a w.in_a in
+              let no_z = not_first m t ts once w.z w.in_z in
+              let no_r = not_behind m t ts once r.0 r.1 in
               record {
-                a = w.a;
-                z = w.z;
+                row_two = two_rest m t ts once k w;
                 r = r.0;
-                mark_a = w.mark_a;
-                mark_z = w.mark_z;
                 mark_r = r.2;
-                in_a = omega arith;
-                in_z = omega arith;
                 in_r = omega arith;
-                az = later_edge w.a w.z t ts (cond k 0 1) w.az no_a;
                 ar = edges_turned w.a r.0 (then t ts) ∙ across_edge r.0 w.a t ts no_r no_a;
                 rz = across_edge r.0 w.z t ts no_r no_z;
-                az_pair = later_pair w.a w.z t ts 0 w.az_pair no_a no_z;
-                ar_pair = pair_turned w.a r.0 (then t ts) ∙ across_pair r.0 w.a t ts (omega arith) (omega arith) no_r no_a;
-                rz_pair = across_pair r.0 w.z t ts (omega arith) (omega arith) no_r no_z;
+                ar_pair = pair_turned w.a r.0 (then t ts) ∙ across_pair r.0 w.a t ts once r.1 w.in_a;
+                rz_pair = across_pair r.0 w.z t ts once r.1 w.in_z;
               }
-          | inr on ↦
-              let w = row_breach k ts is.1 none.1 (λ x. let o = once x in omega arith) (omega arith) (omega arith) in
-              let some_a = w.in_a in
-              let some_z = w.in_z in
-              let some_r = w.in_r in
-              let no_a : name_in w.a t ≡ 0 = (let o = once w.a in omega arith) in
-              let no_z : name_in w.z t ≡ 0 = (let o = once w.z in omega arith) in
-              let no_r : name_in w.r t ≡ 0 = (let o = once w.r in omega arith) in
-              record {
-                a = w.a;
-                z = w.z;
-                r = w.r;
-                mark_a = w.mark_a;
-                mark_z = w.mark_z;
-                mark_r = w.mark_r;
-                in_a = omega arith;
-                in_z = omega arith;
-                in_r = omega arith;
-                az = later_edge w.a w.z t ts (cond k 0 1) w.az no_a;
-                ar = later_edge w.a w.r t ts 0 w.ar no_a;
-                rz = later_edge w.r w.z t ts 0 w.rz no_r;
-                az_pair = later_pair w.a w.z t ts 0 w.az_pair no_a no_z;
-                ar_pair = later_pair w.a w.r t ts 1 w.ar_pair no_a no_r;
-                rz_pair = later_pair w.r w.z t ts 1 w.rz_pair no_r no_z;
-              }
+          | inr on ↦ three_rest m t ts once k 0 1 (row_breach k ts is.1 none.1 (λ x. let o = once x in omega arith) (omega arith) (omega arith))
         ]
       ]
 

@@ -112,6 +112,9 @@ module _ (m w : ℕ → ℕ) where
   root_backed (tip p v) is = is
   root_backed (inner p k ts) is = is.0
 
+  rest_back : (a b c e f : ℕ) → a ≤ min 1 ((b + e) + (c + f)) → b ≡ 0 → c ≡ 0 → a ≤ min 1 (e + f)
+  rest_back a b c e f low none_b none_c = omega arith
+
   mutual
     backed_in : (t : PlaceTree) → ((p : ℕ) → times_in p t ≤ 1) → ((p : ℕ) → 0 < times_in p t → w p ≤ min 1 (tally_in m p t + note_in m w p t)) → IsBacked t
     backed_in (tip q v) one low = let h = hit q q refl in tip_back _ _ _ (low q (omega arith)) (cond_yes q q (m v) refl)
@@ -126,14 +129,11 @@ module _ (m w : ℕ → ℕ) where
       all_backed ts (λ p. let o = one p in omega arith) (λ p some.
           let o = one p in
           let other = not_at q p (omega arith) in
-          below_back _ _ _ _ _ (low p (omega arith)) (cond_no q p (full_count m ts) other) (cond_no q p (full_row m ts + 2 * walked_count m w ts) other)),
+          rest_back _ _ _ _ _ (low p (omega arith)) (cond_no q p (full_count m ts) other) (cond_no q p (full_row m ts + 2 * walked_count m w ts) other)),
     )
       where
         root_back : (a b c e f x y : ℕ) → a ≤ min 1 ((b + e) + (c + f)) → b ≡ x → c ≡ y → e ≡ 0 → f ≡ 0 → a ≤ min 1 (x + y)
         root_back a b c e f x y low is_b is_c none_e none_f = omega arith
-
-        below_back : (a b c e f : ℕ) → a ≤ min 1 ((b + e) + (c + f)) → b ≡ 0 → c ≡ 0 → a ≤ min 1 (e + f)
-        below_back a b c e f low none_b none_c = omega arith
 
     all_backed : (ts : PlaceTrees) → ((p : ℕ) → times_among p ts ≤ 1) → ((p : ℕ) → 0 < times_among p ts → w p ≤ min 1 (tally_row m p ts + note_row m w p ts)) → AreBacked ts
     all_backed no_more one low = tt
@@ -148,9 +148,6 @@ module _ (m w : ℕ → ℕ) where
       where
         first_back : (a b c e f : ℕ) → a ≤ min 1 ((b + e) + (c + f)) → e ≡ 0 → f ≡ 0 → a ≤ min 1 (b + c)
         first_back a b c e f low none_e none_f = omega arith
-
-        rest_back : (a b c e f : ℕ) → a ≤ min 1 ((b + e) + (c + f)) → b ≡ 0 → c ≡ 0 → a ≤ min 1 (e + f)
-        rest_back a b c e f low none_b none_c = omega arith
 
   -- ---- few are marked
 

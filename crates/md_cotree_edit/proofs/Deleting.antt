@@ -1,12 +1,11 @@
 -- A vertex leaves the graph of a cotree, from the cotree to the cotree.
-use Rattle.std.proofs.Common.{◌≡◌, ◌≢◌, ℕ, ◌+◌, ◌-◌, ◌<◌, Bool, true, false, cond, ◌&&◌, ◌==◌, [], length, get_or, set, Option, Some, None, is_some, refl, sym, ◌∙◌, ap, subst, inl, inr, arith}
+use Rattle.std.proofs.Common.{◌≡◌, ◌≢◌, ℕ, ◌+◌, ◌-◌, ◌<◌, true, cond, ◌&&◌, ◌==◌, [], length, get_or, set, Option, Some, None, is_some, refl, sym, ◌∙◌, ap, subst, inl, inr, arith}
 use Rattle.std.proofs.lemmas.Bool.{cases_eq, eq-eqb, ne_eqb}
 use Rattle.std.proofs.lemmas.List.{length-set}
 use Rattle.std.specs.FinSet as sets
 use Rattle.std.specs.Option.{option_map}
 use Rattle.md_graph.specs.Sets.{Has}
 use Rattle.md_graph.specs.PlainGraph.{PlainGraph, neighbours, without_vertex}
-use Rattle.md_graph.proofs.SetLemmas.{clash}
 use Rattle.md_lists.specs.Words.{holds_once}
 use Rattle.md_lists.specs.Links.{Links, AreLinks}
 use Rattle.md_lists.proofs.LinkLaws.{get_or-set, some_within}
@@ -14,9 +13,8 @@ use Rattle.md_tree.specs.Trees.{names}
 use Rattle.md_cotree.specs.declared.cotree.Cotree.{Cotree}
 use Rattle.md_cotree.specs.PlaceTrees.{PlaceTree, tip, inner, PlaceTrees, no_more, then, place_of, leaves_among, leaf_count, Alternates, shape, Fits}
 use Rattle.md_cotree.specs.Cotrees.{trees_of, place_at, IsKeptAs, Denotes}
-use Rattle.md_cotree.proofs.Frames.{hit}
+use Rattle.md_cotree.proofs.Frames.{hit, test_both, test_none}
 use Rattle.md_cotree.proofs.Kept.{one_graph}
-use Rattle.md_cotree.proofs.Leaves.{no_place}
 use Rattle.md_cotree_edit.specs.Counts.{name_in, name_row, edge_in, edge_row}
 use Rattle.md_cotree_edit.specs.Contexts.{AreKept}
 use Rattle.md_cotree_edit.specs.Deletions.{PruneView, leaf_tree, CanPrune, IsPruned, HasFew}
@@ -24,7 +22,7 @@ use Rattle.md_cotree_edit.proofs.Same.{SameRow, same_refl, tree_name, tree_edge}
 use Rattle.md_cotree_edit.proofs.Keeping.{from_fits, to_fits, same_root}
 use Rattle.md_cotree_edit.proofs.Told.{graph_in, has_counted}
 use Rattle.md_cotree_edit.proofs.Base.{kept_tips, kept_named}
-use Rattle.md_cotree_edit.proofs.Settled.{kept_some}
+use Rattle.md_cotree_edit.proofs.Settled.{kept_some, place_there}
 use Rattle.md_cotree_edit.proofs.Moving.{kept_along}
 use Rattle.md_cotree_edit.proofs.Pruning.{long_low}
 use Rattle.md_cotree_edit.proofs.Located.{IsLeafAt, leaf_at}
@@ -42,14 +40,6 @@ found n ok None kept = record { tree = None; fits = record { stand = tt; each = 
 found n ok (Some s) kept =
     let f = to_fits n ok s kept in
     record { tree = Some f.0; fits = f.1; same = f.2; root = ap Some (same_root s f.0 f.2) }
-
-test_both : (a b : Bool) → b ≡ true → ◌≡◌ {A = ℕ} (cond (a && b) 1 0) (cond a 1 0)
-test_both true b e = ap (λ z. cond z 1 0) e
-test_both false b e = refl
-
-test_none : (a b : Bool) → b ≡ false → ◌≡◌ {A = ℕ} (cond (a && b) 1 0) 0
-test_none true b e = ap (λ z. cond z 1 0) e
-test_none false b e = refl
 
 some_leaf : (t : PlaceTree) → Alternates t → 0 < leaf_count t
 some_leaf (tip p v) is = omega arith
@@ -73,11 +63,7 @@ module _ (c : Cotree) (x : ℕ) (can : CanDelete c x) where
   has_x = subst (λ g. Has g.vertices x) (sym kept_t.2) can.2
 
   pub delete_there : is_some (place_at c x) ≡ true
-  delete_there = go (place_at c x) refl
-    where
-      go : (o : Option ℕ) → place_at c x ≡ o → is_some o ≡ true
-      go None none = absurd (clash has_x (no_place c t kept x none))
-      go (Some p) is = refl
+  delete_there = place_there c t kept x has_x
 
   pub delete_unmarked : c.lists.marked ≡ []
   delete_unmarked = kept.unmarked

@@ -1,9 +1,8 @@
 -- One edit of an edge, from the cotree to the cotree.
-use Rattle.std.proofs.Common.{◌≡◌, ◌≢◌, ℕ, ◌<◌, Bool, true, false, cond, [], Option, ◌↔◌, Some, None, is_some, refl, sym, ◌∙◌, ap, subst, arith}
+use Rattle.std.proofs.Common.{◌≡◌, ◌≢◌, ℕ, ◌<◌, Bool, true, false, cond, [], ◌↔◌, Some, is_some, refl, sym, ◌∙◌, ap, subst, arith}
 use Rattle.std.proofs.lemmas.Bool.{false≢true}
 use Rattle.md_graph.specs.Sets.{Has}
 use Rattle.md_graph.specs.PlainGraph.{PlainGraph, adjacent}
-use Rattle.md_graph.proofs.SetLemmas.{clash}
 use Rattle.md_modules.specs.InducedPaths.{HasInducedPath}
 use Rattle.md_lists.specs.Links.{Links, parent_at, AreLinks, spare_count}
 use Rattle.md_tree.specs.Trees.{names}
@@ -11,7 +10,6 @@ use Rattle.md_cotree.specs.declared.cotree.Cotree.{Cotree}
 use Rattle.md_cotree.specs.PlaceTrees.{PlaceTree, tip, shape}
 use Rattle.md_cotree.specs.Cotrees.{place_at, IsKeptAs, Denotes}
 use Rattle.md_cotree.proofs.Kept.{one_graph}
-use Rattle.md_cotree.proofs.Leaves.{no_place}
 use Rattle.md_cotree.proofs.NoPaths.{cotree_no_path}
 use Rattle.md_cotree_edit.specs.Counts.{crossing}
 use Rattle.md_cotree_edit.specs.Turns.{BothView, both_tree, OneView, one_tree, IsLifted, IsPlace, turned_graph}
@@ -19,7 +17,7 @@ use Rattle.md_cotree_edit.specs.declared.finding.Place.TheVariants.{Both, First,
 use Rattle.md_cotree_edit.proofs.Keeping.{from_fits}
 use Rattle.md_cotree_edit.proofs.Told.{graph_in, has_counted, told_graph}
 use Rattle.md_cotree_edit.proofs.Base.{kept_tips, kept_named, kept_room}
-use Rattle.md_cotree_edit.proofs.Settled.{kept_some, settled}
+use Rattle.md_cotree_edit.proofs.Settled.{kept_some, settled, place_there}
 use Rattle.md_cotree_edit.proofs.Sites.{Site, site_turned, site, site_parent, IsBothView, IsOneView, find_both, find_one}
 use Rattle.md_cotree_edit.proofs.Parted.{turned_sym, far_path}
 
@@ -45,11 +43,7 @@ module _ (c : Cotree) (ok : AreLinks c.lists) (u v : ℕ) (k : Bool) (can : CanT
   has x h = subst (λ g. Has g.vertices x) (sym kept_t.2) h
 
   there : (x : ℕ) → Has can.0.vertices x → is_some (place_at c x) ≡ true
-  there x h = go (place_at c x) refl
-    where
-      go : (o : Option ℕ) → place_at c x ≡ o → is_some o ≡ true
-      go None none = absurd (clash (has x h) (no_place c t kept x none))
-      go (Some p) is = refl
+  there x h = place_there c t kept x (has x h)
 
   pub left_there : is_some (place_at c u) ≡ true
   left_there = there u can.2

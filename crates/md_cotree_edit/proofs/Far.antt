@@ -14,7 +14,7 @@ use Rattle.md_cotree.proofs.TreeGraphs.{some_graph}
 use Rattle.md_cotree_edit.specs.Counts.{name_in, name_row, edge_in}
 use Rattle.md_cotree_edit.specs.Contexts.{Frame, plug}
 use Rattle.md_cotree_edit.specs.Turns.{turned_graph}
-use Rattle.md_cotree_edit.proofs.Same.{SameRow, SameTree, same_trans, same_swap, same_rest, same_first, same_inner, same_plug, tree_name, tree_edge, front_name}
+use Rattle.md_cotree_edit.proofs.Same.{SameRow, SameTree, same_trans, same_swap, same_rest, same_first, same_inner, same_plug, tree_name, tree_edge, front_name, same_refl}
 use Rattle.md_cotree_edit.proofs.Fork.{meeting}
 use Rattle.md_cotree_edit.proofs.Local.{name_plug, edge_plug, edge_turned, across_front}
 use Rattle.md_cotree_edit.proofs.Turning.{around_plug}
@@ -92,6 +92,55 @@ module _ (t : PlaceTree) (named : AreNamed t) (u v : ℕ) (hu : 0 < name_in u t)
 -- ---- both leaves are below children of the node
 
 module _ (t : PlaceTree) (named : AreNamed t) (k : Bool) (u v : ℕ) (differ : u ≢ v) (hu : 0 < name_in u t) (hv : 0 < name_in v t) (is : adjacent (graph_in t) u v ≡ k) (fs : List Frame) (w : ℕ) where
+  -- the tree with two trees first below the node, in either order
+  record IsArranged (left right : PlaceTree) (rest : PlaceTrees) : Type 0 where
+    once : (z : ℕ) → name_in z (plug fs (inner w k (then left (then right rest)))) ≤ 1
+    once_other : (z : ℕ) → name_in z (plug fs (inner w k (then right (then left rest)))) ≤ 1
+    edge : (a b : ℕ) → edge_in a b t ≡ edge_in a b (plug fs (inner w k (then left (then right rest))))
+    edge_other : (a b : ℕ) → edge_in a b t ≡ edge_in a b (plug fs (inner w k (then right (then left rest))))
+    low : (z : ℕ) → name_in z (inner w k (then left (then right rest))) ≤ name_in z (plug fs (inner w k (then left (then right rest))))
+    there : (z : ℕ) → 0 < name_in z (inner w k (then left (then right rest))) → 0 < name_in z t
+
+  module _ (left right : PlaceTree) (rest : PlaceTrees) (same : SameTree t (plug fs (inner w k (then left (then right rest))))) where
+    abbrev whole : PlaceTree
+    whole = plug fs (inner w k (then left (then right rest)))
+
+    abbrev other : PlaceTree
+    other = plug fs (inner w k (then right (then left rest)))
+
+    swap : SameTree whole other
+    swap =
+        same_plug fs (inner w k (then left (then right rest))) (inner w k (then right (then left rest)))
+        (same_inner w k (then left (then right rest)) (then right (then left rest)) (same_swap left right rest))
+
+    one : (z : ℕ) → name_in z whole ≤ 1
+    one z = let e = tree_name t whole same z in let n = named.once z in omega arith
+
+    whole_edge : (a b : ℕ) → edge_in a b t ≡ edge_in a b whole
+    whole_edge a b = sym (tree_edge t whole same a b)
+
+    inside_low : (z : ℕ) → name_in z (inner w k (then left (then right rest))) ≤ name_in z whole
+    inside_low z = name_plug fs z (inner w k (then left (then right rest)))
+
+    arranged : IsArranged left right rest
+    arranged = record {
+      once = one;
+      once_other = λ z. let e = tree_name whole other swap z in let n = one z in omega arith;
+      edge = whole_edge;
+      edge_other = λ a b. whole_edge a b ∙ sym (tree_edge whole other swap a b);
+      low = inside_low;
+      there = λ z some. let e = tree_name t whole same z in let l = inside_low z in omega arith;
+    }
+
+  -- the trees below the node become others
+  changed : (left right l r : PlaceTree) (rest : PlaceTrees) → SameTree t (plug fs (meeting w k left right rest)) → SameTree left l → SameTree right r → SameTree t (plug fs (inner w k (then l (then r rest))))
+  changed left right l r rest same a b =
+      same_trans (then t no_more) (then (plug fs (meeting w k left right rest)) no_more) (then (plug fs (inner w k (then l (then r rest)))) no_more) same
+      (same_plug fs (meeting w k left right rest) (inner w k (then l (then r rest)))
+      (same_inner w k (then left (then right rest)) (then l (then r rest))
+      (same_trans (then left (then right rest)) (then l (then right rest)) (then l (then r rest)) (same_first left l (then right rest) a)
+      (same_rest l (then right rest) (then r rest) (same_first right r rest b)))))
+
   module _ (i j : ℕ) (us vs : PlaceTrees) (rest : PlaceTrees) (same : SameTree t (plug fs (meeting w k (inner i (not k) us) (inner j (not k) vs) rest)))
       (alternates : Alternates (plug fs (meeting w k (inner i (not k) us) (inner j (not k) vs) rest))) (in_us : 0 < name_row u us) (in_vs : 0 < name_row v vs) where
     pub far_both : FourNames t k u v
@@ -107,34 +156,18 @@ module _ (t : PlaceTree) (named : AreNamed t) (k : Bool) (u v : ℕ) (differ : u
         let y = names_some p all_vs.1 (let two = around.2.1.0.0 in let e = b.2.same.long in omega arith) in
         let left : PlaceTree = inner i (not k) (then a.0 o) in
         let right : PlaceTree = inner j (not k) (then b.0 p) in
-        let whole : PlaceTree = plug fs (inner w k (then left (then right rest))) in
-        let other : PlaceTree = plug fs (inner w k (then right (then left rest))) in
-        let to_whole : SameTree t whole =
-        same_trans (then t no_more) (then (plug fs (meeting w k (inner i (not k) us) (inner j (not k) vs) rest)) no_more) (then whole no_more) same
-        (same_plug fs (meeting w k (inner i (not k) us) (inner j (not k) vs) rest) (inner w k (then left (then right rest)))
-        (same_inner w k (then (inner i (not k) us) (then (inner j (not k) vs) rest)) (then left (then right rest))
-        (same_trans (then (inner i (not k) us) (then (inner j (not k) vs) rest)) (then left (then (inner j (not k) vs) rest)) (then left (then right rest))
-        (same_first (inner i (not k) us) left (then (inner j (not k) vs) rest) (same_inner i (not k) us (then a.0 o) a.2.same))
-        (same_rest left (then (inner j (not k) vs) rest) (then right rest) (same_first (inner j (not k) vs) right rest (same_inner j (not k) vs (then b.0 p) b.2.same)))))) in
-        let swap : SameTree whole other =
-        same_plug fs (inner w k (then left (then right rest))) (inner w k (then right (then left rest)))
-        (same_inner w k (then left (then right rest)) (then right (then left rest)) (same_swap left right rest)) in
-        let one : (z : ℕ) → name_in z whole ≤ 1 = λ z. (let e = tree_name t whole to_whole z in let n = named.once z in omega arith) in
-        let one_other : (z : ℕ) → name_in z other ≤ 1 = λ z. (let e = tree_name whole other swap z in let n = one z in omega arith) in
-        let edge : (a b : ℕ) → edge_in a b t ≡ edge_in a b whole = λ a b. sym (tree_edge t whole to_whole a b) in
-        let edge_other : (a b : ℕ) → edge_in a b t ≡ edge_in a b other = λ a b. edge a b ∙ sym (tree_edge whole other swap a b) in
-        let here : (z : ℕ) → 0 < name_in z whole → 0 < name_in z t = λ z h. (let e = tree_name t whole to_whole z in omega arith) in
+        let at = arranged left right rest
+        (changed (inner i (not k) us) (inner j (not k) vs) left right rest same (same_inner i (not k) us (then a.0 o) a.2.same) (same_inner j (not k) vs (then b.0 p) b.2.same)) in
         let ha = a.1 in
         let hb = b.1 in
         let hx = x.1 in
         let hy = y.1 in
-        let low : (z : ℕ) → name_in z (inner w k (then left (then right rest))) ≤ name_in z whole = λ z. name_plug fs z (inner w k (then left (then right rest))) in
-        let in_x = here x.0 (let l = low x.0 in omega arith) in
-        let in_y = here y.0 (let l = low y.0 in omega arith) in
-        let no_xu : x.0 ≢ u = λ e. (let l = low u in let n = one u in let h = subst (λ z. 0 < name_row z o) e hx in omega arith) in
-        let no_xv : x.0 ≢ v = λ e. (let l = low v in let n = one v in let h = subst (λ z. 0 < name_row z o) e hx in omega arith) in
-        let no_yu : y.0 ≢ u = λ e. (let l = low u in let n = one u in let h = subst (λ z. 0 < name_row z p) e hy in omega arith) in
-        let no_yv : y.0 ≢ v = λ e. (let l = low v in let n = one v in let h = subst (λ z. 0 < name_row z p) e hy in omega arith) in
+        let in_x = at.there x.0 (omega arith) in
+        let in_y = at.there y.0 (omega arith) in
+        let no_xu : x.0 ≢ u = λ e. (let l = at.low u in let n = at.once u in let h = subst (λ z. 0 < name_row z o) e hx in omega arith) in
+        let no_xv : x.0 ≢ v = λ e. (let l = at.low v in let n = at.once v in let h = subst (λ z. 0 < name_row z o) e hx in omega arith) in
+        let no_yu : y.0 ≢ u = λ e. (let l = at.low u in let n = at.once u in let h = subst (λ z. 0 < name_row z p) e hy in omega arith) in
+        let no_yv : y.0 ≢ v = λ e. (let l = at.low v in let n = at.once v in let h = subst (λ z. 0 < name_row z p) e hy in omega arith) in
         let inside_left : Frame = record { place = w; series = k; others = then right rest } in
         let inside_right : Frame = record { place = w; series = k; others = then left rest } in
         record {
@@ -145,15 +178,15 @@ module _ (t : PlaceTree) (named : AreNamed t) (k : Bool) (u v : ℕ) (differ : u
           inside = (in_x, hu, hv, in_y);
           beside = (
             other_pair t named u v hu hv differ k (not k) x.0 u in_x hu (inl (no_xu, no_xv))
-                (edge x.0 u ∙ edge_turned x.0 u whole ∙ pair_value (inside_left ∷ fs) i (not k) a.0 o u x.0 one ha hx),
+                (at.edge x.0 u ∙ edge_turned x.0 u (plug fs (inner w k (then left (then right rest)))) ∙ pair_value (inside_left ∷ fs) i (not k) a.0 o u x.0 at.once ha hx),
             turned_pair t named u v hu hv differ k is,
             other_pair t named u v hu hv differ k (not k) v y.0 hv in_y (inr (no_yu, no_yv))
-                (edge_other v y.0 ∙ pair_value (inside_right ∷ fs) j (not k) b.0 p v y.0 one_other hb hy),
+                (at.edge_other v y.0 ∙ pair_value (inside_right ∷ fs) j (not k) b.0 p v y.0 at.once_other hb hy),
           );
           apart = (
-            other_pair t named u v hu hv differ k k x.0 v in_x hv (inl (no_xu, no_xv)) (edge x.0 v ∙ pair_value fs w k left (then right rest) x.0 v one (omega arith) (omega arith)),
-            other_pair t named u v hu hv differ k k x.0 y.0 in_x in_y (inl (no_xu, no_xv)) (edge x.0 y.0 ∙ pair_value fs w k left (then right rest) x.0 y.0 one (omega arith) (omega arith)),
-            other_pair t named u v hu hv differ k k u y.0 hu in_y (inr (no_yu, no_yv)) (edge u y.0 ∙ pair_value fs w k left (then right rest) u y.0 one (omega arith) (omega arith)),
+            other_pair t named u v hu hv differ k k x.0 v in_x hv (inl (no_xu, no_xv)) (at.edge x.0 v ∙ pair_value fs w k left (then right rest) x.0 v at.once (omega arith) (omega arith)),
+            other_pair t named u v hu hv differ k k x.0 y.0 in_x in_y (inl (no_xu, no_xv)) (at.edge x.0 y.0 ∙ pair_value fs w k left (then right rest) x.0 y.0 at.once (omega arith) (omega arith)),
+            other_pair t named u v hu hv differ k k u y.0 hu in_y (inr (no_yu, no_yv)) (at.edge u y.0 ∙ pair_value fs w k left (then right rest) u y.0 at.once (omega arith) (omega arith)),
           );
         }
 
@@ -172,34 +205,19 @@ module _ (t : PlaceTree) (named : AreNamed t) (k : Bool) (u v : ℕ) (differ : u
         let y = names_some p all_rs.1 (let two = all_vs.0.0 in let e = b.2.same.long in omega arith) in
         let deep : PlaceTree = inner r k (then b.0 p) in
         let right : PlaceTree = inner j (not k) (then deep os) in
-        let whole : PlaceTree = plug fs (inner w k (then left (then right rest))) in
-        let other : PlaceTree = plug fs (inner w k (then right (then left rest))) in
         let to_right : SameTree (inner j (not k) vs) right =
         same_inner j (not k) vs (then deep os)
         (same_trans vs (then (inner r k rs) os) (then deep os) front (same_first (inner r k rs) deep os (same_inner r k rs (then b.0 p) b.2.same))) in
-        let to_whole : SameTree t whole =
-        same_trans (then t no_more) (then (plug fs (meeting w k left (inner j (not k) vs) rest)) no_more) (then whole no_more) same
-        (same_plug fs (meeting w k left (inner j (not k) vs) rest) (inner w k (then left (then right rest)))
-        (same_inner w k (then left (then (inner j (not k) vs) rest)) (then left (then right rest))
-        (same_rest left (then (inner j (not k) vs) rest) (then right rest) (same_first (inner j (not k) vs) right rest to_right)))) in
-        let swap : SameTree whole other =
-        same_plug fs (inner w k (then left (then right rest))) (inner w k (then right (then left rest)))
-        (same_inner w k (then left (then right rest)) (then right (then left rest)) (same_swap left right rest)) in
-        let one : (z : ℕ) → name_in z whole ≤ 1 = λ z. (let e = tree_name t whole to_whole z in let n = named.once z in omega arith) in
-        let one_other : (z : ℕ) → name_in z other ≤ 1 = λ z. (let e = tree_name whole other swap z in let n = one z in omega arith) in
-        let edge : (a b : ℕ) → edge_in a b t ≡ edge_in a b whole = λ a b. sym (tree_edge t whole to_whole a b) in
-        let edge_other : (a b : ℕ) → edge_in a b t ≡ edge_in a b other = λ a b. edge a b ∙ sym (tree_edge whole other swap a b) in
-        let here : (z : ℕ) → 0 < name_in z whole → 0 < name_in z t = λ z h. (let e = tree_name t whole to_whole z in omega arith) in
+        let at = arranged left right rest (changed left (inner j (not k) vs) left right rest same (same_refl (then left no_more)) to_right) in
         let hb = b.1 in
         let hz = z.1 in
         let hy = y.1 in
-        let low : (z : ℕ) → name_in z (inner w k (then left (then right rest))) ≤ name_in z whole = λ z. name_plug fs z (inner w k (then left (then right rest))) in
-        let in_z = here z.0 (let l = low z.0 in omega arith) in
-        let in_y = here y.0 (let l = low y.0 in omega arith) in
-        let no_zu : z.0 ≢ u = λ e. (let l = low u in let n = one u in let h = subst (λ c. 0 < name_row c os) e hz in omega arith) in
-        let no_zv : z.0 ≢ v = λ e. (let l = low v in let n = one v in let h = subst (λ c. 0 < name_row c os) e hz in omega arith) in
-        let no_yu : y.0 ≢ u = λ e. (let l = low u in let n = one u in let h = subst (λ c. 0 < name_row c p) e hy in omega arith) in
-        let no_yv : y.0 ≢ v = λ e. (let l = low v in let n = one v in let h = subst (λ c. 0 < name_row c p) e hy in omega arith) in
+        let in_z = at.there z.0 (omega arith) in
+        let in_y = at.there y.0 (omega arith) in
+        let no_zu : z.0 ≢ u = λ e. (let l = at.low u in let n = at.once u in let h = subst (λ c. 0 < name_row c os) e hz in omega arith) in
+        let no_zv : z.0 ≢ v = λ e. (let l = at.low v in let n = at.once v in let h = subst (λ c. 0 < name_row c os) e hz in omega arith) in
+        let no_yu : y.0 ≢ u = λ e. (let l = at.low u in let n = at.once u in let h = subst (λ c. 0 < name_row c p) e hy in omega arith) in
+        let no_yv : y.0 ≢ v = λ e. (let l = at.low v in let n = at.once v in let h = subst (λ c. 0 < name_row c p) e hy in omega arith) in
         let inside : Frame = record { place = w; series = k; others = then left rest } in
         let inner_frame : Frame = record { place = j; series = not k; others = os } in
         record {
@@ -211,14 +229,14 @@ module _ (t : PlaceTree) (named : AreNamed t) (k : Bool) (u v : ℕ) (differ : u
           beside = (
             turned_pair t named u v hu hv differ k is,
             other_pair t named u v hu hv differ k (not k) v z.0 hv in_z (inr (no_zu, no_zv))
-                (edge_other v z.0 ∙ pair_value (inside ∷ fs) j (not k) deep os v z.0 one_other (omega arith) hz),
+                (at.edge_other v z.0 ∙ pair_value (inside ∷ fs) j (not k) deep os v z.0 at.once_other (omega arith) hz),
             other_pair t named u v hu hv differ k (not k) z.0 y.0 in_z in_y (inl (no_zu, no_zv))
-                (edge_other z.0 y.0 ∙ edge_turned z.0 y.0 other ∙ pair_value (inside ∷ fs) j (not k) deep os y.0 z.0 one_other (omega arith) hz),
+                (at.edge_other z.0 y.0 ∙ edge_turned z.0 y.0 (plug fs (inner w k (then right (then left rest)))) ∙ pair_value (inside ∷ fs) j (not k) deep os y.0 z.0 at.once_other (omega arith) hz),
           );
           apart = (
-            other_pair t named u v hu hv differ k k u z.0 hu in_z (inr (no_zu, no_zv)) (edge u z.0 ∙ pair_value fs w k left (then right rest) u z.0 one in_left (omega arith)),
-            other_pair t named u v hu hv differ k k u y.0 hu in_y (inr (no_yu, no_yv)) (edge u y.0 ∙ pair_value fs w k left (then right rest) u y.0 one in_left (omega arith)),
+            other_pair t named u v hu hv differ k k u z.0 hu in_z (inr (no_zu, no_zv)) (at.edge u z.0 ∙ pair_value fs w k left (then right rest) u z.0 at.once in_left (omega arith)),
+            other_pair t named u v hu hv differ k k u y.0 hu in_y (inr (no_yu, no_yv)) (at.edge u y.0 ∙ pair_value fs w k left (then right rest) u y.0 at.once in_left (omega arith)),
             other_pair t named u v hu hv differ k k v y.0 hv in_y (inr (no_yu, no_yv))
-                (edge_other v y.0 ∙ pair_value (inner_frame ∷ inside ∷ fs) r k b.0 p v y.0 one_other hb hy),
+                (at.edge_other v y.0 ∙ pair_value (inner_frame ∷ inside ∷ fs) r k b.0 p v y.0 at.once_other hb hy),
           );
         }

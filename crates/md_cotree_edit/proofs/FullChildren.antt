@@ -11,7 +11,7 @@ use Rattle.md_cotree.specs.PlaceTrees.{PlaceTree, inner, PlaceTrees, no_more, th
 use Rattle.md_cotree.proofs.Frames.{hit}
 use Rattle.md_cotree_edit.specs.Counts.{name_row, pair_row}
 use Rattle.md_cotree_edit.specs.Contexts.{Frame, plug, AreKept}
-use Rattle.md_cotree_edit.specs.Marks.{AreMarks, hits_row, full_in, full_row, full_count, mixed_in, mixed_count, LowestView, whole}
+use Rattle.md_cotree_edit.specs.Marks.{AreMarks, full_in, full_row, full_count, mixed_in, mixed_count, LowestView, whole}
 use Rattle.md_cotree_edit.specs.Relinks.{moved_if, IsSplit, AreNoted, CanPart, IsParted}
 use Rattle.md_cotree_edit.proofs.Same.{SameRow, same_refl, same_trans, same_swap, same_rest, same_first, same_inner, same_plug}
 use Rattle.md_cotree_edit.proofs.Local.{cond_no, cond_yes}
@@ -20,8 +20,8 @@ use Rattle.md_cotree_edit.proofs.Surgery.{linked_plug, linked_parent, kept_same,
 use Rattle.md_cotree_edit.proofs.Adopting.{same_turn, attach_done, kept_children}
 use Rattle.md_cotree_edit.proofs.Holes.{full_low}
 use Rattle.md_cotree_edit.proofs.Passing.{marked_live}
-use Rattle.md_cotree_edit.proofs.Noting.{not_mixed}
 use Rattle.md_cotree.proofs.Emitting.{behind_front}
+use Rattle.md_cotree_edit.proofs.Lowest.{none_hit}
 
 -- ---- a row without one of its trees
 
@@ -98,19 +98,6 @@ module _ (n m : ℕ → ℕ) where
         let here = none (place_of t) in
         let e = cond_yes (place_of t) (place_of t) (full_in m t) refl in
         omega arith
-
-    none_hit : (ts : PlaceTrees) → full_count m ts ≡ 0 → mixed_count m ts ≡ 0 → hits_row m ts ≡ 0
-    none_hit no_more none mixed = refl
-    none_hit (then t ts) none mixed =
-        let first = not_mixed m t (front (mixed_in m t) (mixed_count m ts) mixed) (omega arith) in
-        let rest = none_hit ts (omega arith) (back (mixed_in m t) (mixed_count m ts) mixed) in
-        omega arith
-      where
-        front : (a b : ℕ) → a + b ≡ 0 → a ≡ 0
-        front a b e = omega arith
-
-        back : (a b : ℕ) → a + b ≡ 0 → b ≡ 0
-        back a b e = omega arith
 
 -- ---- one tree more on the other side
 
@@ -397,7 +384,7 @@ module _ (old : Links) (ok : AreLinks old) (from to start : ℕ) where
         kept = h.kept;
         split = h.split;
         all_full = h.full;
-        none_marked = none_hit (note_at old) d.marks can.marks h.vs count h.none_mixed;
+        none_marked = none_hit d.marks h.vs h.none_mixed count;
         some_full = let s = h.some in omega arith;
         some_rest = some_row h.vs h.not_all;
       }

@@ -7,7 +7,7 @@ use Rattle.md_cotree_edit.specs.Counts.{name_in, name_row}
 use Rattle.md_cotree_edit.specs.Contexts.{Frame, fill, plug}
 use Rattle.md_cotree_edit.specs.Marks.{AreMarks, more, full_in, full_row, full_count, full_nodes, full_nodes_row, walked_count, tally_in, tally_row, note_in, note_row, none_walked}
 use Rattle.md_cotree_edit.proofs.Same.{plus_none}
-use Rattle.md_cotree_edit.proofs.Local.{cond_no, not_at}
+use Rattle.md_cotree_edit.proofs.Local.{cond_no, not_at, sum_none}
 
 -- ---- places and names around a hole
 
@@ -171,9 +171,6 @@ mutual
   pub note_none : (m w : ℕ → ℕ) (p : ℕ) (t : PlaceTree) → times_in p t ≡ 0 → note_in m w p t ≡ 0
   note_none m w p (tip q v) none = cond_no q p (m v) (not_at q p none)
   note_none m w p (inner q k ts) none = sum_none _ _ (cond_no q p (full_row m ts + 2 * walked_count m w ts) (not_at q p (omega arith))) (notes_none m w p ts (omega arith))
-    where
-      sum_none : (a b : ℕ) → a ≡ 0 → b ≡ 0 → a + b ≡ 0
-      sum_none a b e f = omega arith
 
   pub notes_none : (m w : ℕ → ℕ) (p : ℕ) (ts : PlaceTrees) → times_among p ts ≡ 0 → note_row m w p ts ≡ 0
   notes_none m w p no_more none = refl
@@ -190,15 +187,13 @@ frames_tally_none m p (f ∷ fs) b none =
 pub frames_note_none : (m : ℕ → ℕ) (p : ℕ) (fs : List Frame) (b : ℕ) → frames_times p fs ≡ 0 → frames_note m p fs b ≡ 0
 frames_note_none m p [] b none = refl
 frames_note_none m p (f ∷ fs) b none =
-    sum_none _ _ _ (cond_no f.place p (b * full_row m f.others) (not_at f.place p (omega arith))) (notes_none m none_walked p f.others (omega arith))
+    sum_none _ _
+    (sum_none _ _ (cond_no f.place p (b * full_row m f.others) (not_at f.place p (omega arith))) (notes_none m none_walked p f.others (omega arith)))
     (frames_note_none m p fs (b * full_row m f.others) (omega arith))
-  where
-    sum_none : (a b c : ℕ) → a ≡ 0 → b ≡ 0 → c ≡ 0 → (a + b) + c ≡ 0
-    sum_none a b c e f g = omega arith
 
 -- ---- full is 1 or 0
 
-low_product : (a b : ℕ) → a ≤ 1 → b ≤ 1 → a * b ≤ 1
+pub low_product : (a b : ℕ) → a ≤ 1 → b ≤ 1 → a * b ≤ 1
 low_product a b low_a low_b =
     elim (cases_lt 0 a) [
       | inl some ↦ let e : a ≡ 1 = omega arith in let f = ap (λ z. z * b) e in omega arith

@@ -1,5 +1,5 @@
 -- Two loose trees below one node of a kind.
-use Rattle.std.proofs.Common.{◌≡◌, ℕ, ◌<◌, Bool, true, false, [], Some, None, refl, sym, ◌∙◌, ap, subst, arith}
+use Rattle.std.proofs.Common.{◌≡◌, ℕ, ◌+◌, ◌<◌, Bool, true, false, cond, [], Some, None, refl, sym, ◌∙◌, ap, subst, arith}
 use Rattle.md_lists.specs.declared.kinds.PlaceKind.{PlaceKind}
 use Rattle.md_lists.specs.declared.TheConstants.{PLACES}
 use Rattle.md_lists.specs.Links.{Links, kind_at, AreLinks, with_kind, attached}
@@ -10,47 +10,40 @@ use Rattle.md_cotree_edit.specs.Turns.{AdoptView, CanAdopt, adopted, IsBeside}
 use Rattle.md_cotree_edit.proofs.Keeping.{root_kind, kept_kind}
 use Rattle.md_cotree_edit.proofs.Surgery.{kept_made}
 use Rattle.md_cotree_edit.proofs.Adopting.{CanAttach, same_back, attach_ready, attach_done}
+use Rattle.md_cotree_edit.specs.Counts.{edge_in, crossing}
 
 abbrev pub Joined : Links → Bool → PlaceTree → PlaceTree → PlaceTrees → ℕ → Type 0
 Joined m k y a us result = (r : PlaceTree) × AreKept m (then r us) × (place_of r ≡ result) × IsBeside k y a r
 
 -- a node of the kind takes the other in
 beside_in : (k : Bool) (p : ℕ) (ts : PlaceTrees) (a : PlaceTree) → IsBeside k (inner p k ts) a (inner p k (then a ts))
-beside_in true p ts a = record {
+beside_in k p ts a = record {
   tips = λ q x. omega arith;
   named = λ x. omega arith;
-  edges = λ x z. omega arith;
+  edges = edges k;
   leaves = omega arith;
   alternates = λ y b other. ((let two = y.0 in omega arith), (other, y.1), (b, y.2));
   kind = refl;
 }
-beside_in false p ts a = record {
-  tips = λ q x. omega arith;
-  named = λ x. omega arith;
-  edges = λ x z. omega arith;
-  leaves = omega arith;
-  alternates = λ y b other. ((let two = y.0 in omega arith), (other, y.1), (b, y.2));
-  kind = refl;
-}
+  where
+    edges : (k : Bool) (x z : ℕ) → edge_in x z (inner p k (then a ts)) ≡ (edge_in x z (inner p k ts) + edge_in x z a) + cond k (crossing (inner p k ts) a x z) 0
+    edges true x z = omega arith
+    edges false x z = omega arith
 
 -- a new node has both
 beside_new : (k : Bool) (p : ℕ) (y a : PlaceTree) → (IsInner y k → ⊥) → IsBeside k y a (inner p k (then a (then y no_more)))
-beside_new true p y a other_y = record {
+beside_new k p y a other_y = record {
   tips = λ q x. omega arith;
   named = λ x. omega arith;
-  edges = λ x z. omega arith;
+  edges = edges k;
   leaves = omega arith;
   alternates = λ alt_y alt_a other. (omega arith, (other, (other_y, tt)), (alt_a, (alt_y, tt)));
   kind = refl;
 }
-beside_new false p y a other_y = record {
-  tips = λ q x. omega arith;
-  named = λ x. omega arith;
-  edges = λ x z. omega arith;
-  leaves = omega arith;
-  alternates = λ alt_y alt_a other. (omega arith, (other, (other_y, tt)), (alt_a, (alt_y, tt)));
-  kind = refl;
-}
+  where
+    edges : (k : Bool) (x z : ℕ) → edge_in x z (inner p k (then a (then y no_more))) ≡ (edge_in x z y + edge_in x z a) + cond k (crossing y a x z) 0
+    edges true x z = omega arith
+    edges false x z = omega arith
 
 module _ (l : Links) (ok : AreLinks l) (first second : ℕ) (k : Bool) (y a : PlaceTree) (us : PlaceTrees) (kept : AreKept l (then y (then a us))) (at_y : place_of y ≡ first) (at_a : place_of a ≡ second) where
   -- the first is a node of the kind

@@ -5,13 +5,13 @@ use Rattle.md_lists.specs.declared.kinds.PlaceKind.{PlaceKind}
 use Rattle.md_lists.specs.declared.kinds.PlaceKind.TheVariants.{Leaf, Parallel, Series}
 use Rattle.md_lists.specs.Words.{times, holds_once}
 use Rattle.md_lists.specs.Links.{Links, kind_at, parent_at, children_at, IsLive, AreLinks}
-use Rattle.md_lists.proofs.LinkLaws.{holds-once-same, child_parent}
+use Rattle.md_lists.proofs.LinkLaws.{not_alive, holds-once-same, child_parent}
 use Rattle.md_cotree.specs.PlaceTrees.{PlaceTree, tip, inner, PlaceTrees, no_more, then, place_of, roots, place_kind, times_in, times_among, Stands, StandsBelow, Fits}
 use Rattle.md_cotree.proofs.Frames.{hit, miss, root_in}
 use Rattle.md_cotree_edit.specs.Counts.{kind_code, kind_in, kind_row, child_in, child_row}
 use Rattle.md_cotree_edit.specs.Contexts.{AreKept}
 use Rattle.md_cotree_edit.proofs.Same.{SameRow, SameTree, same_refl, same_trans, same_rest, same_first, same_inner, in_order}
-use Rattle.md_cotree_edit.proofs.Local.{cond_no, cond_yes, not_at, child_none, children_none, kind_none, kinds_none, child_low, children_low}
+use Rattle.md_cotree_edit.proofs.Local.{cond_no, cond_yes, sum_no, sum_yes, not_at, child_none, children_none, kind_none, kinds_none, child_low, children_low}
 
 -- ---- kinds by their numbers
 
@@ -28,10 +28,6 @@ kind_is (Some Series) (Leaf v) e = absurd (omega arith)
 kind_is (Some (Leaf w)) Parallel e = absurd (omega arith)
 kind_is (Some (Leaf w)) Series e = absurd (omega arith)
 kind_is (Some (Leaf w)) (Leaf v) e = let same : w ≡ v = omega arith in ap (λ z. Some (Leaf z)) same
-
-pub not_alive : (o : Option PlaceKind) → ◌≡◌ {A = ℕ} (cond (is_some o) 1 0) 0 → o ≡ None
-not_alive None e = refl
-not_alive (Some k) e = absurd (omega arith)
 
 one_alive : (o : Option PlaceKind) (n : ℕ) → n ≡ cond (is_some o) 1 0 → n ≤ 1
 one_alive None n e = omega arith
@@ -126,12 +122,6 @@ module _ (l : Links) where
           | inl here ↦ let e = child_stands t p c is.1 (omega arith) here in let none = children_none p c ts (omega arith) in omega arith
           | inr not ↦ let e = children_stand ts r p c is.2 (omega arith) (omega arith) in let none = child_none p c t (omega arith) in omega arith
         ]
-
-  sum_yes : (a b n m : ℕ) → a ≡ n → b ≡ 0 → m ≡ n → a + b ≡ m
-  sum_yes a b n m e f g = omega arith
-
-  sum_no : (a b m : ℕ) → a ≡ 0 → b ≡ m → a + b ≡ m
-  sum_no a b m e f = omega arith
 
   mutual
     kind_stands : (t : PlaceTree) (p : ℕ) → Stands l t → times_in p t ≤ 1 → 0 < times_in p t → kind_in p t ≡ kind_code (kind_at l p)

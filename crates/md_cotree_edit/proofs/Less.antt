@@ -1,12 +1,12 @@
 -- The graph of a tree without a name, and how many names are joined to it.
 use Rattle.std.proofs.Common.{◌≡◌, ◌≢◌, ℕ, ◌+◌, ◌-◌, ◌<◌, ◌≤◌, Bool, true, false, not, cond, ◌&&◌, ◌==◌, List, [], ◌∷◌, length, Option, Some, None, refl, sym, ◌∙◌, ap, subst, inl, inr, arith}
-use Rattle.std.proofs.lemmas.Bool.{cases_eq, cases_lt, ne_eqb, false_from_ne_true}
+use Rattle.std.proofs.lemmas.Bool.{cases_lt, ne_eqb, false_from_ne_true}
 use Rattle.std.specs.FinSet as set
 use Rattle.std.specs.Option.{option_map}
 use Rattle.md_graph.specs.declared.TheConstants.{NAMES}
 use Rattle.md_graph.specs.Sets.{NameSet, Has}
 use Rattle.md_graph.specs.PlainGraph.{PlainGraph, IsGraph, adjacent, neighbours, without_vertex}
-use Rattle.md_graph.proofs.SetLaws.{len-remove, empty_of_len}
+use Rattle.md_graph.proofs.SetLaws.{len-remove}
 use Rattle.md_graph.proofs.SetLemmas.{clash, empty_lacks, same_members, remove_left, of_remove}
 use Rattle.md_graph.proofs.GraphLemmas.{same_graph, adjacent_ends, IsGraph-empty_graph, IsGraph-without_vertex, adjacent-without_vertex, contains-neighbours}
 use Rattle.md_lists.specs.Words.{times}
@@ -21,6 +21,7 @@ use Rattle.md_cotree_edit.specs.Deletions.{HasFew}
 use Rattle.md_cotree_edit.proofs.Local.{edge_none, edge_turned}
 use Rattle.md_cotree_edit.proofs.Told.{counted_has, has_counted, AreNamed, graph_in, told_graph, same_value}
 use Rattle.md_cotree_edit.proofs.Base.{names_list, lists_times, lists_long}
+use Rattle.md_graph.proofs.Search.{some_len}
 
 -- ---- graphs
 
@@ -106,13 +107,6 @@ module _ (t : PlaceTree) (is : AreNamed t) (x : ℕ) (o : Option PlaceTree) (nam
 
 -- ---- names that are joined to a name
 
-has_len : (s : NameSet) (v : ℕ) → Has s v → 0 < set.len s
-has_len s v h =
-    elim (cases_eq (set.len s) 0) [
-      | inl none ↦ clash (subst (λ z. Has z v) (empty_of_len s none) h) (empty_lacks v)
-      | inr some ↦ omega arith
-    ]
-
 -- names of a set, each once, are no more than it has
 listed_few : (xs : List ℕ) (s : NameSet) → ((v : ℕ) → times v xs ≤ 1) → ((v : ℕ) → 0 < times v xs → Has s v) → length xs ≤ set.len s
 listed_few [] s once has = omega arith
@@ -120,7 +114,7 @@ listed_few (x ∷ xs) s once has =
     let h = hit x x refl in
     let here : Has s x = has x (omega arith) in
     let less = len-remove s x ∙ ap (λ b. cond b (set.len s - 1) (set.len s)) here in
-    let some = has_len s x here in
+    let some = some_len s x here in
     let rest = listed_few xs (set.remove s x) (λ v. (let o = once v in omega arith)) (λ v more.
     remove_left s x v (λ same. (let h = hit x v (sym same) in let o = once v in omega arith)) (has v (omega arith))) in
     omega arith

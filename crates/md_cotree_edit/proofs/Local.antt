@@ -15,6 +15,16 @@ cond_no q p n other = ap (λ b. cond b n 0) (ne_eqb q p other)
 pub cond_yes : (q p n : ℕ) → q ≡ p → ◌≡◌ {A = ℕ} (cond (q == p) n 0) n
 cond_yes q p n same = ap (λ b. cond b n 0) (eq-eqb q p same)
 
+-- sums of which a part is nothing
+pub sum_none : (a b : ℕ) → a ≡ 0 → b ≡ 0 → a + b ≡ 0
+sum_none a b e f = omega arith
+
+pub sum_no : (a b m : ℕ) → a ≡ 0 → b ≡ m → a + b ≡ m
+sum_no a b m e f = omega arith
+
+pub sum_yes : (a b n m : ℕ) → a ≡ n → b ≡ 0 → m ≡ n → a + b ≡ m
+sum_yes a b n m e f g = omega arith
+
 pub not_at : (q p : ℕ) → ◌≡◌ {A = ℕ} (cond (q == p) 1 0) 0 → q ≡ p → ⊥
 not_at q p none same = let h = hit q p same in omega arith
 

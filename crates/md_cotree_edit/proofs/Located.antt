@@ -1,10 +1,10 @@
 -- A leaf and the nodes around it.
 use Rattle.std.proofs.Common.{ℕ, ◌<◌, ◌==◌, List, [], ◌∷◌, ◌++◌, sym, subst, inl, inr, arith}
-use Rattle.std.proofs.lemmas.Bool.{cases_lt}
+use Rattle.std.proofs.lemmas.Bool.{cases_lt, eqb-true}
 use Rattle.md_cotree.specs.PlaceTrees.{PlaceTree, tip, inner, PlaceTrees, no_more, then, leaves_in, leaves_among}
 use Rattle.md_cotree_edit.specs.Contexts.{Frame, plug}
 use Rattle.md_cotree_edit.proofs.Same.{SameRow, SameTree, same_refl, same_trans, same_swap, same_rest, same_first, same_inner, plug_last}
-use Rattle.md_cotree_edit.proofs.Sites.{some_of, from_test}
+use Rattle.md_cotree.proofs.Frames.{some_of}
 
 pub record IsLeafAt (t : PlaceTree) (p v : ℕ) : Type 0 where
   pub frames : List Frame
@@ -22,7 +22,7 @@ mutual
       let both = some_of (q == p) (w == v) some in
       record {
         frames = [];
-        same = subst (λ s. SameTree (tip q w) s) (λ i. tip (from_test q p both.0 i) (from_test w v both.1 i)) (same_refl (then (tip q w) no_more));
+        same = subst (λ s. SameTree (tip q w) s) (λ i. tip (eqb-true q p both.0 i) (eqb-true w v both.1 i)) (same_refl (then (tip q w) no_more));
       }
   leaf_at (inner q k ts) p v some =
       let among = leaf_among ts p v some in

@@ -7,6 +7,7 @@ use Rattle.md_cotree_edit.specs.Marks.{AreMarks, hits_in, hits_row, full_in, ful
 use Rattle.md_cotree_edit.proofs.Same.{SameTree, plug_last}
 use Rattle.md_cotree_edit.proofs.SameMarks.{SameMarks, AreAlike, AlikeTree, alike_refl, alike_trans, alike_first, alike_inner, ahead_more}
 use Rattle.md_cotree_edit.proofs.Holes.{full_low, count_full}
+use Rattle.md_cotree_edit.proofs.Noting.{not_mixed}
 
 -- a mixed tree isn't full, and has a marked name
 pub mixed_parts : (f h : ℕ) → f ≤ 1 → 0 < (1 - f) * min 1 h → (f ≡ 0) × (0 < h)
@@ -19,18 +20,11 @@ mixed_parts f h low some =
       ]
     ]
 
-unmixed : (f h : ℕ) → (1 - f) * min 1 h ≡ 0 → f ≡ 0 → h ≡ 0
-unmixed f h none not =
-    elim (cases_lt 0 h) [
-      | inl has ↦ absurd (let e : min 1 h ≡ 1 = omega arith in let g : 1 - f ≡ 1 = omega arith in let z : (1 - f) * min 1 h ≡ 1 * 1 = λ i. g i * e i in omega arith)
-      | inr without ↦ omega arith
-    ]
-
 -- where none is mixed and none is full, none has a marked name
 pub none_hit : (m : ℕ → ℕ) (ts : PlaceTrees) → mixed_count m ts ≡ 0 → full_count m ts ≡ 0 → hits_row m ts ≡ 0
 none_hit m no_more mixed full = refl
 none_hit m (then t ts) mixed full =
-    let a = unmixed (full_in m t) (hits_in m t) (first _ _ mixed) (omega arith) in
+    let a = not_mixed m t (first _ _ mixed) (omega arith) in
     let b = none_hit m ts (rest _ _ mixed) (omega arith) in
     omega arith
   where

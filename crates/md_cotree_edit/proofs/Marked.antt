@@ -5,8 +5,9 @@ use Rattle.md_cotree.specs.PlaceTrees.{PlaceTree, tip, inner, PlaceTrees, no_mor
 use Rattle.md_cotree.proofs.Frames.{hit}
 use Rattle.md_cotree_edit.specs.Counts.{name_in, name_row, pair_row, edge_in, edge_row}
 use Rattle.md_cotree_edit.specs.Marks.{AreMarks, hits_in, hits_row, full_in, full_row}
-use Rattle.md_cotree_edit.proofs.Holes.{full_low, fulls_low}
+use Rattle.md_cotree_edit.proofs.Holes.{fulls_low}
 use Rattle.md_cotree_edit.proofs.Inserted.{one_left, one_right}
+use Rattle.md_cotree_edit.proofs.Reaching.{unhit_full}
 
 pub some_product : (a b : ℕ) → 0 < a → 0 < b → 0 < a * b
 some_product zero b e f = absurd (omega arith)
@@ -122,14 +123,11 @@ module _ (m : ℕ → ℕ) (marks : AreMarks m) where
               | inr rest ↦ let z = unmarked_among ts rest in straight a.0 z.0 a.2 z.2 (some_product (name_in a.0 t) (name_row z.0 ts) a.1 z.1)
             ]
         | inr not ↦
-            let z = unmarked_name t (no_hit t is.0 (omega arith)) in
+            let z = unmarked_name t (unhit_full m t is.0 (omega arith)) in
             let b = marked_among ts (omega arith) in
             turned b.0 z.0 b.2 z.2 (some_product (name_in z.0 t) (name_row b.0 ts) z.1 b.1)
       ]
     where
-      no_hit : (t : PlaceTree) → Alternates t → hits_in m t ≡ 0 → full_in m t ≡ 0
-      no_hit t is e = none_of_low (full_in m t) (full_low m marks t) (λ full. let some = full_hits t is full in omega arith)
-
       no_hits : (ts : PlaceTrees) → AllAlternate ts → 0 < row_length ts → hits_row m ts ≡ 0 → full_row m ts ≡ 0
       no_hits ts is long e = none_of_low (full_row m ts) (fulls_low m marks ts) (λ full. let some = fulls_hit ts is long full in omega arith)
 

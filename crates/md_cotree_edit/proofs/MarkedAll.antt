@@ -10,7 +10,7 @@ use Rattle.md_cotree.specs.PlaceTrees.{PlaceTree, tip, inner, PlaceTrees, no_mor
 use Rattle.md_cotree.proofs.Frames.{hit, miss}
 use Rattle.md_cotree_edit.specs.Counts.{name_in, name_row}
 use Rattle.md_cotree_edit.specs.Marks.{AreMarks, more, hits_in, hits_row, full_in, full_row, full_count, full_nodes, full_nodes_row, walked_count, tally_in, tally_row, note_in, note_row, none_walked, AreTold, AreStill, MarkView, CanMark, CanMarkAll}
-use Rattle.md_cotree_edit.proofs.Local.{cond_zero}
+use Rattle.md_cotree_edit.proofs.Local.{cond_zero, sum_none}
 use Rattle.md_cotree_edit.proofs.Still.{kept_still, unmarked_tally, unmarked_note}
 use Rattle.md_cotree_edit.proofs.Holes.{all_full, fulls_low, walked_none}
 
@@ -70,9 +70,6 @@ module _ (m : ℕ → ℕ) (marks : AreMarks m) where
     nodes_row_hits (then t ts) is = let a = nodes_hits t is.0 in let b = nodes_row_hits ts is.1 in omega arith
 
   -- ---- nothing is told where nothing is marked
-
-  sum_none : (a b : ℕ) → a ≡ 0 → b ≡ 0 → a + b ≡ 0
-  sum_none a b e f = omega arith
 
   mutual
     pub tally_zero : (p : ℕ) (t : PlaceTree) → Alternates t → hits_in m t ≡ 0 → tally_in m p t ≡ 0

@@ -45,6 +45,7 @@ module _ (l : Links) (ok : AreLinks l) (root : Option ℕ) (top c : ℕ) (d : Me
   pub high_live : IsLive l top
   high_live = node_live l ok d.frames top d.series d.others (then low no_more) turned
 
+  -- as many children as the trees have
   pub low_count : length (children_at l c) ≡ row_length d.below
   low_count = kept_count l ok [] c d.series d.below (then (high d.others) no_more) can.kept
 

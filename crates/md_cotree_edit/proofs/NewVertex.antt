@@ -1,5 +1,5 @@
 -- A vertex more of a cotree: the first, or one beside others.
-use Rattle.std.proofs.Common.{◌≡◌, ◌≢◌, ℕ, ◌+◌, ◌<◌, ◌≤◌, ◌^◌, ◌↔◌, Bool, true, false, cond, ◌&&◌, ◌||◌, ◌==◌, List, [], ◌∷◌, length, set, slice_index_or, get_or, add-one, Result, Ok, Err, Option, Some, None, refl, sym, ◌∙◌, ap, subst, inl, inr, arith}
+use Rattle.std.proofs.Common.{◌≡◌, ◌≢◌, ℕ, ◌+◌, ◌*◌, ◌<◌, ◌≤◌, ◌^◌, ◌↔◌, Bool, true, false, cond, ◌&&◌, ◌||◌, ◌==◌, List, [], ◌∷◌, length, set, slice_index_or, get_or, add-one, Result, Ok, Err, Option, Some, None, refl, sym, ◌∙◌, ap, subst, inl, inr, arith}
 use Rattle.std.proofs.lemmas.Bool.{cases_eq, cases_lt, false_from_ne_true, eq-eqb, eqb-true}
 use Rattle.std.proofs.lemmas.List.{length-set}
 use Rattle.std.proofs.lemmas.List.Elements.{All-head, All-tail}
@@ -195,6 +195,15 @@ module _ (c : Cotree) (x : ℕ) (ns : List ℕ) (t : PlaceTree) (can : CanGrow c
 
   pub grow_none : (none : Bool) → (none ≡ true) ↔ (length ns ≡ 0) → (none ≡ true) ↔ (hits_in (λ v. times v ns) t ≡ 0)
   grow_none none is = ((λ e. grow_hits ∙ is.0 e), (λ e. is.1 (sym grow_hits ∙ e)))
+
+  -- the steps of both calls
+  pub grow_bound : (k : Links) → AreStill c.lists k → AreTold k (λ v. times v ns) none_walked t → length ns ≢ c.leaves → (none : Bool) → (none ≡ true) ↔ (length ns ≡ 0) → (begun marked ended : ℕ) → marked ≤ begun + 10 * length ns →
+      ((d : ClimbView) → CanTakeIn k c.root x d → (none ≡ true) ↔ (hits_in d.marks d.tree ≡ 0) → ended ≤ marked + 23 + 64 * hits_in d.marks d.tree) → ended ≤ begun + 23 + 74 * length ns
+  grow_bound k still told other none is begun marked ended few more =
+      let e = more (grow_view k still told) (grow_take k still told other) (grow_none none is) in
+      let low = few in
+      let hits = grow_hits in
+      omega arith
 
   -- refused, it is as it was
   pub grow_same : (m : Links) (r : Option ℕ) → AreLinks m → AreStill c.lists m → m.marked ≡ [] → r ≡ c.root → ◌≡◌ {A = Cotree} (record c { lists = m; root = r }) c

@@ -8,7 +8,7 @@ use Rattle.md_modules.specs.InducedPaths.{HasInducedPath}
 use Rattle.md_lists.specs.Words.{times}
 use Rattle.md_lists.specs.Links.{Links, parent_at, AreLinks}
 use Rattle.md_cotree.specs.PlaceTrees.{PlaceTree, tip, inner, PlaceTrees, no_more, then, place_of, roots, leaves_in, leaves_among, Alternates}
-use Rattle.md_cotree.proofs.Frames.{hit}
+use Rattle.md_cotree.proofs.Frames.{hit, some_of}
 use Rattle.md_cotree_edit.specs.Counts.{name_in, name_row, child_in}
 use Rattle.md_cotree_edit.specs.Contexts.{plug}
 use Rattle.md_cotree_edit.specs.Turns.{turned_graph}
@@ -17,8 +17,10 @@ use Rattle.md_cotree_edit.proofs.Fork.{meeting}
 use Rattle.md_cotree_edit.proofs.Local.{cond_yes, name_plug}
 use Rattle.md_cotree_edit.proofs.Turning.{around_plug, other_kind}
 use Rattle.md_cotree_edit.proofs.Told.{AreNamed, graph_in}
-use Rattle.md_cotree_edit.proofs.Sites.{Site, site_turned, Depth, child, below, left_depth, child_parent, side_top, side_parent, some_of, from_test}
+use Rattle.md_cotree_edit.proofs.Sites.{Site, site_turned, Depth, child, below, left_depth, child_parent, side_top, side_parent}
 use Rattle.md_cotree_edit.proofs.Far.{FourNames, four_path, far_both, far_one}
+use Rattle.std.proofs.lemmas.Bool.{eqb-true}
+use Rattle.std.proofs.Math.Bool.{not-not}
 
 -- the graph with an edge turned doesn't depend on the order of the ends
 pub turned_sym : (k : Bool) (g : PlainGraph) (u v : ℕ) → turned_graph k g v u ≡ turned_graph k g u v
@@ -39,10 +41,6 @@ mutual
   leaf_names : (p x : ℕ) (ts : PlaceTrees) → leaves_among p x ts ≤ name_row x ts
   leaf_names p x no_more = omega arith
   leaf_names p x (then t ts) = let first = leaf_name p x t in let rest = leaf_names p x ts in omega arith
-
-not_twice : (k : Bool) → not (not k) ≡ k
-not_twice true = refl
-not_twice false = refl
 
 module _ (l : Links) (ok : AreLinks l) (t : PlaceTree) (named : AreNamed t) (k : Bool) where
   right_name : (v : ℕ) (x : PlaceTree) (j : ℕ) (ts : PlaceTrees) → x ≡ inner j (not k) ts → 0 < name_in v x → 0 < name_row v ts
@@ -83,7 +81,7 @@ module _ (l : Links) (ok : AreLinks l) (t : PlaceTree) (named : AreNamed t) (k :
             let low = leaf_names b v os in
             let tips = row.tips b v in
             let both = some_of (y == b) (z == v) (omega arith) in
-            let h = hit y b (from_test y b both.0) in
+            let h = hit y b (eqb-true y b both.0) in
             let root = row.roots_same b in
             let here = cond_yes j j (times b (roots ts)) refl in
             let up : parent_at l b ≡ Some j = side_parent l ok s.frames s.place k s.right (then s.left s.rest) r.kept j b (subst (λ x. 0 < child_in j b x) (sym f) (omega arith)) in
@@ -93,7 +91,7 @@ module _ (l : Links) (ok : AreLinks l) (t : PlaceTree) (named : AreNamed t) (k :
         go (inner y i rs) has os row =
             let around = (around_plug s.frames s.place k (then s.left (then (inner j (not k) ts) s.rest)) alternates).1 in
             let none = row.none (not k) around.2.1.0.1 in
-            let kind : i ≡ k = other_kind (not k) i (λ e. none.0 (sym e)) ∙ not_twice k in
+            let kind : i ≡ k = other_kind (not k) i (λ e. none.0 (sym e)) ∙ not-not k in
             far_one t named k u v differ hu hv is s.frames s.place s.left j y ts rs os s.rest s.left_name has
             (subst (λ z. SameRow ts (then (inner y z rs) os)) kind row) same_whole alternates
 

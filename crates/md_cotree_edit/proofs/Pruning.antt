@@ -1,11 +1,8 @@
 -- A leaf leaves its tree.
-use Rattle.std.proofs.Common.{◌≡◌, ◌≢◌, ℕ, zero, suc, ◌+◌, ◌*◌, ◌<◌, ◌≤◌, Bool, true, false, cond, List, [], ◌∷◌, length, Option, Some, None, is_some, refl, sym, ◌∙◌, ap, subst, min, inl, inr, arith}
-use Rattle.std.proofs.lemmas.Bool.{cases_eq, eq-eqb, ne_eqb}
-use Rattle.md_lists.specs.declared.kinds.PlaceKind.{PlaceKind}
+use Rattle.std.proofs.Common.{◌≡◌, ◌≢◌, ℕ, zero, suc, ◌+◌, ◌*◌, ◌<◌, ◌≤◌, Bool, true, false, cond, List, [], ◌∷◌, length, Option, Some, None, refl, sym, ◌∙◌, ap, subst, min, arith}
 use Rattle.md_lists.specs.declared.kinds.PlaceKind.TheVariants.{Leaf}
-use Rattle.md_lists.specs.Words.{times}
-use Rattle.md_lists.specs.Links.{Links, kind_at, parent_at, children_at, alive, IsLive, IsBare, AreLinks, with_kind}
-use Rattle.md_lists.proofs.LinkLaws.{kind-with_kind, live_within}
+use Rattle.md_lists.specs.Links.{Links, parent_at, children_at, IsLive, IsBare, AreLinks, with_kind}
+use Rattle.md_lists.proofs.LinkLaws.{live_within}
 use Rattle.md_cotree.specs.PlaceTrees.{PlaceTree, tip, inner, PlaceTrees, no_more, then, place_of, leaf_counts, row_length, NoneInner, Alternates, AllAlternate}
 use Rattle.md_cotree.proofs.Frames.{hit, miss}
 use Rattle.md_cotree.proofs.Rows.{some_nodes}
@@ -14,8 +11,9 @@ use Rattle.md_cotree_edit.specs.Contexts.{Frame, fill, plug, AreAround, AreKept}
 use Rattle.md_cotree_edit.specs.Turns.{IsTurned}
 use Rattle.md_cotree_edit.specs.Deletions.{below_count, beside_count, CloseView, open_tree, CanClose, IsClosed, IsKeptFrom, no_pairs, PruneView, leaf_tree, CanPrune, IsWithout, IsPruned, HasFew}
 use Rattle.md_cotree_edit.proofs.Same.{same_swap}
-use Rattle.md_cotree_edit.proofs.Local.{cond_no, children_none, kinds_none, times_plug, name_plug}
-use Rattle.md_cotree_edit.proofs.Keeping.{no_times, kept_once, kept_live, kept_loose}
+use Rattle.md_cotree_edit.proofs.Local.{times_plug, name_plug}
+use Rattle.md_cotree_edit.proofs.Keeping.{kept_live}
+use Rattle.md_cotree_edit.proofs.Surgery.{tip_alone, alone_freed, alone_bare}
 use Rattle.md_cotree_edit.proofs.Adopting.{node_live, kept_count}
 use Rattle.md_cotree_edit.proofs.Ended.{off_kept, off_marks, Off}
 use Rattle.md_cotree_edit.proofs.Turning.{shift_names, shift_tips, shift_leaves, shift_edges, place_plug, around_plug, alternates_plug, self_not}
@@ -30,55 +28,10 @@ module _ (l : Links) (ok : AreLinks l) (p v : ℕ) (ts : PlaceTrees) (kept : Are
   tip_live = kept_live l (then (tip p v) ts) kept p (let h = hit p p refl in omega arith)
 
   pub tip_bare : l.marked ≡ [] → IsBare l p
-  tip_bare unmarked =
-      let marks = ok.marks p in
-      let none = ap (times p) unmarked in
-      record {
-        no_parent = kept_loose l (tip p v) ts kept;
-        no_children = no_times (children_at l p) (λ c.
-            let one = kept_once l (then (tip p v) ts) kept p in
-            let h = hit p p refl in
-            let e = kept.links p c in
-            let a = ok.agree p c in
-            let n = children_none p c ts (omega arith) in
-            omega arith);
-        no_tally = omega arith;
-        no_note = omega arith;
-      }
+  tip_bare = alone_bare l ok p (kind_code (Some (Leaf v))) (tip p v) ts (tip_alone p v) kept
 
   freed_row : AreKept (with_kind l p None) ts
-  freed_row = record {
-    each = λ q. elim (cases_eq q p) [
-      | inl same ↦
-          let one = kept_once l (then (tip p v) ts) kept q in
-          let b : alive (with_kind l p None) q ≡ 0 = ap (λ (o : Option PlaceKind). cond (is_some o) 1 0) (here q same) in
-          let h = hit p q (sym same) in
-          omega arith
-      | inr other ↦
-          let e = kept.each q in
-          let b : alive (with_kind l p None) q ≡ alive l q = ap (λ (o : Option PlaceKind). cond (is_some o) 1 0) (there q other) in
-          let m = miss p q (λ z. other (sym z)) in
-          omega arith
-    ];
-    kinds = λ q. elim (cases_eq q p) [
-      | inl same ↦
-          let one = kept_once l (then (tip p v) ts) kept q in
-          let h = hit p q (sym same) in
-          kinds_none q ts (omega arith) ∙ sym (ap kind_code (here q same))
-      | inr other ↦
-          sum_there _ _ _ (cond_no p q (kind_code (Some (Leaf v))) (λ z. other (sym z))) (kept.kinds q) ∙ sym (ap kind_code (there q other))
-    ];
-    links = λ q c. let e = kept.links q c in omega arith;
-  }
-    where
-      here : (q : ℕ) → q ≡ p → kind_at (with_kind l p None) q ≡ None
-      here q same = kind-with_kind l ok p q None (live_within l ok p tip_live) ∙ ap (λ b. cond b None (kind_at l q)) (eq-eqb q p same)
-
-      there : (q : ℕ) → (q ≡ p → ⊥) → kind_at (with_kind l p None) q ≡ kind_at l q
-      there q other = kind-with_kind l ok p q None (live_within l ok p tip_live) ∙ ap (λ b. cond b None (kind_at l q)) (ne_eqb q p other)
-
-      sum_there : (a b m : ℕ) → a ≡ 0 → a + b ≡ m → b ≡ m
-      sum_there a b m e f = omega arith
+  freed_row = alone_freed l ok p (kind_code (Some (Leaf v))) (tip p v) ts (tip_alone p v) kept (live_within l ok p tip_live)
 
   pub tip_freed : (n : Links) → n ≡ with_kind l p None → AreKept n ts
   tip_freed n is = subst (λ z. AreKept z ts) (sym is) freed_row

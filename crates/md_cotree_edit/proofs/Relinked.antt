@@ -1,15 +1,14 @@
 -- A new leaf comes into a tree: the loose trees between the calls, and what comes of them.
-use Rattle.std.proofs.Common.{◌≡◌, ℕ, ◌+◌, ◌<◌, ◌↔◌, Bool, true, false, not, cond, IsTrue, List, [], ◌∷◌, Option, Some, None, is_some, refl, sym, ◌∙◌, ap, subst, inl, inr, arith}
-use Rattle.std.proofs.lemmas.Bool.{cases_eq, eq-eqb, ne_eqb}
+use Rattle.std.proofs.Common.{◌≡◌, ℕ, ◌+◌, ◌<◌, ◌↔◌, Bool, true, false, not, IsTrue, List, [], ◌∷◌, Option, Some, None, refl, sym, ◌∙◌, ap, subst, arith}
 use Rattle.std.proofs.lemmas.Option.{none-some, same_Some}
 use Rattle.md_lists.specs.declared.kinds.PlaceKind.{PlaceKind}
 use Rattle.md_lists.specs.declared.kinds.PlaceKind.TheVariants.{Leaf}
 use Rattle.md_lists.specs.declared.TheConstants.{PLACES}
 use Rattle.md_lists.specs.Words.{times}
-use Rattle.md_lists.specs.Links.{Links, kind_at, parent_at, note_at, alive, IsLive, AreLinks, with_kind, attached, detached}
-use Rattle.md_lists.proofs.LinkLaws.{kind-with_kind, detached_links}
+use Rattle.md_lists.specs.Links.{Links, kind_at, parent_at, note_at, IsLive, AreLinks, with_kind, attached, detached}
+use Rattle.md_lists.proofs.LinkLaws.{detached_links}
 use Rattle.md_cotree.specs.PlaceTrees.{PlaceTree, tip, inner, PlaceTrees, no_more, then, place_of, place_kind, Alternates}
-use Rattle.md_cotree.proofs.Frames.{hit, miss, root_in}
+use Rattle.md_cotree.proofs.Frames.{hit, root_in}
 use Rattle.md_cotree.proofs.Kept.{same_kind}
 use Rattle.md_cotree_edit.specs.Counts.{kind_code}
 use Rattle.md_cotree_edit.specs.Contexts.{Frame, fill, plug, AreKept}
@@ -17,9 +16,9 @@ use Rattle.md_cotree_edit.specs.Turns.{IsTidied, IsBeside}
 use Rattle.md_cotree_edit.specs.Marks.{AreStill, LowestView, whole, IsLowest, CanRelink, IsInserted, IsRelinked}
 use Rattle.md_cotree_edit.specs.Relinks.{AreNoted, CanPart, IsParted, PutView, CanPut, IsPut, PairView, CanPair, IsPaired}
 use Rattle.md_cotree_edit.proofs.Same.{same_swap, same_rest}
-use Rattle.md_cotree_edit.proofs.Local.{cond_no, cond_yes, kinds_none, times_plug, kind_plug}
+use Rattle.md_cotree_edit.proofs.Local.{cond_yes, kinds_none, times_plug, kind_plug}
 use Rattle.md_cotree_edit.proofs.Keeping.{kind_is, kept_once, kept_live, kept_loose}
-use Rattle.md_cotree_edit.proofs.Surgery.{linked_plug, linked_parent, kept_same, kept_detached, kept_made}
+use Rattle.md_cotree_edit.proofs.Surgery.{tip_alone, alone_made, linked_plug, linked_parent, kept_same, kept_detached, kept_made}
 use Rattle.md_cotree_edit.proofs.Adopting.{CanAttach, same_back, node_live, attach_ready, attach_done}
 use Rattle.md_cotree_edit.proofs.Still.{kept_still}
 use Rattle.md_cotree_edit.proofs.Turning.{place_plug, self_not, around_plug, alternates_plug}
@@ -42,43 +41,8 @@ module _ (l : Links) (ok : AreLinks l) (node : ℕ) (kind : PlaceKind) (free : k
   -- a leaf more
   pub kept_leaf : (v : ℕ) (ts : PlaceTrees) → kind ≡ Leaf v → AreKept l ts → AreKept m (then (tip node v) ts)
   kept_leaf v ts is kept =
-      subst (λ z. AreKept z (then (tip node v) ts)) (ap (λ z. with_kind l node (Some z)) (sym is) ∙ sym made) leaf
-    where
-      here : (q : ℕ) → q ≡ node → kind_at (with_kind l node (Some (Leaf v))) q ≡ Some (Leaf v)
-      here q same = kind-with_kind l ok node q (Some (Leaf v)) within ∙ ap (λ b. cond b (Some (Leaf v)) (kind_at l q)) (eq-eqb q node same)
-
-      there : (q : ℕ) → (q ≡ node → ⊥) → kind_at (with_kind l node (Some (Leaf v))) q ≡ kind_at l q
-      there q other = kind-with_kind l ok node q (Some (Leaf v)) within ∙ ap (λ b. cond b (Some (Leaf v)) (kind_at l q)) (ne_eqb q node other)
-
-      sum_here : (a b n k : ℕ) → a ≡ n → b ≡ 0 → k ≡ n → a + b ≡ k
-      sum_here a b n k e f g = omega arith
-
-      sum_there : (a b k : ℕ) → a ≡ 0 → b ≡ k → a + b ≡ k
-      sum_there a b k e f = omega arith
-
-      leaf : AreKept (with_kind l node (Some (Leaf v))) (then (tip node v) ts)
-      leaf = record {
-        each = λ q. elim (cases_eq q node) [
-          | inl same ↦
-              let e = kept.each q in
-              let a : alive l q ≡ 0 = ap (λ (o : Option PlaceKind). cond (is_some o) 1 0) (ap (kind_at l) same ∙ free) in
-              let b : alive (with_kind l node (Some (Leaf v))) q ≡ 1 = ap (λ (o : Option PlaceKind). cond (is_some o) 1 0) (here q same) in
-              let h = hit node q (sym same) in
-              omega arith
-          | inr other ↦
-              let e = kept.each q in
-              let b : alive (with_kind l node (Some (Leaf v))) q ≡ alive l q = ap (λ (o : Option PlaceKind). cond (is_some o) 1 0) (there q other) in
-              let h = miss node q (λ z. other (sym z)) in
-              omega arith
-        ];
-        kinds = λ q. elim (cases_eq q node) [
-          | inl same ↦
-              sum_here _ _ _ _ (cond_yes node q (kind_code (Some (Leaf v))) (sym same)) (kept.kinds q ∙ ap kind_code (ap (kind_at l) same ∙ free)) (ap kind_code (here q same))
-          | inr other ↦
-              sum_there _ _ _ (cond_no node q (kind_code (Some (Leaf v))) (λ z. other (sym z))) (kept.kinds q ∙ sym (ap kind_code (there q other)))
-        ];
-        links = λ q c. let e = kept.links q c in omega arith;
-      }
+      subst (λ z. AreKept z (then (tip node v) ts)) (ap (λ z. with_kind l node (Some z)) (sym is) ∙ sym made)
+      (alone_made l ok node (Leaf v) (tip node v) ts (tip_alone node v) free within kept)
 
 -- nothing else changes where nothing is marked any more
 pub part_cleared : (l e : Links) (node : ℕ) (d : LowestView) → AreStill l e → IsParted l node d → IsParted e node d

@@ -1,25 +1,26 @@
 -- A leaf is marked, and from there on up each node that is full then.
-use Rattle.std.proofs.Common.{◌≡◌, ℕ, ◌+◌, ◌*◌, ◌<◌, ◌≤◌, Bool, true, false, cond, ◌&&◌, ◌==◌, List, [], ◌∷◌, ◌++◌, length, Some, None, refl, sym, ◌∙◌, ap, subst, inl, inr, arith}
-use Rattle.std.proofs.lemmas.Bool.{cases_eq, cases_lt, eq-eqb, ne_eqb}
+use Rattle.std.proofs.Common.{◌≡◌, ℕ, ◌+◌, ◌*◌, ◌<◌, ◌≤◌, Bool, true, false, cond, ◌==◌, List, [], ◌∷◌, ◌++◌, length, Some, None, refl, sym, ◌∙◌, ap, subst, inl, inr, arith}
+use Rattle.std.proofs.lemmas.Bool.{cases_eq, cases_lt, eq-eqb, ne_eqb, eqb-true}
 use Rattle.std.proofs.lemmas.Option.{none-some, same_Some}
 use Rattle.md_lists.specs.declared.TheConstants.{PLACES}
 use Rattle.md_lists.specs.Words.{times}
 use Rattle.md_lists.specs.Links.{Links, parent_at, children_at, tally_at, note_at, IsLive, AreLinks, raised, noted}
 use Rattle.md_lists.proofs.LinkLaws.{get_or-set, held, live_within, few_children, raised_links}
 use Rattle.md_cotree.specs.PlaceTrees.{PlaceTree, tip, inner, PlaceTrees, no_more, then, place_of, roots, times_in, times_among, leaves_in, leaves_among, row_length}
-use Rattle.md_cotree.proofs.Frames.{hit}
+use Rattle.md_cotree.proofs.Frames.{hit, some_of}
 use Rattle.md_cotree.proofs.Room.{room}
 use Rattle.md_cotree_edit.specs.Counts.{name_in, name_row}
 use Rattle.md_cotree_edit.specs.Contexts.{Frame, fill, plug, AreKept}
 use Rattle.md_cotree_edit.specs.Marks.{more, full_in, full_row, full_count, full_nodes, tally_in, note_in, note_row, none_walked, AreTold, AreStill, MarkView, CanMark}
 use Rattle.md_cotree_edit.proofs.Same.{plug_last, tree_name}
-use Rattle.md_cotree_edit.proofs.Local.{cond_zero, cond_no, cond_yes, child_plug}
+use Rattle.md_cotree_edit.proofs.Local.{cond_zero, cond_no, cond_yes, child_plug, sum_no}
 use Rattle.md_cotree_edit.proofs.Keeping.{kept_once, kept_live, kept_loose, to_fits}
 use Rattle.md_cotree_edit.proofs.Surgery.{kept_same}
 use Rattle.md_cotree_edit.proofs.Adopting.{kept_count}
 use Rattle.md_cotree_edit.proofs.Still.{kept_still}
 use Rattle.md_cotree_edit.proofs.SameMarks.{AreAlike, AlikeTree, alike_refl, alike_trans, alike_first, alike_inner, ahead_more, marks_back, told_same, tree_nodes}
 use Rattle.md_cotree_edit.proofs.Holes.{frames_times, times_hole, frames_names, name_hole, frames_tally, frames_note, frames_nodes, tally_hole, note_fill, note_hole, nodes_hole, AreUnmoved, unmoved_row, frames_tally_same, frames_note_same, frames_nodes_same, tally_none, tallies_none, note_none, notes_none, frames_tally_none, frames_note_none, full_count_low, count_full, count_less, node_hole, nodes_low, frames_nodes_low, more_marks}
+use Rattle.md_cotree_edit.proofs.Reaching.{left_zero, right_zero}
 
 -- ---- a tree around one of its leaves
 
@@ -28,21 +29,7 @@ pub record AtLeaf (t : PlaceTree) (p v : ℕ) : Type 0 where
   pub alike : AlikeTree t (plug frames (tip p v))
 
 is_leaf : (q p w v : ℕ) → 0 < leaves_in p v (tip q w) → (q ≡ p) × (w ≡ v)
-is_leaf q p w v some =
-    elim (cases_eq q p) [
-      | inl a ↦ elim (cases_eq w v) [
-        | inl b ↦ (a, b)
-        | inr b ↦ absurd (let e : ◌≡◌ {A = ℕ} (cond ((q == p) && (w == v)) 1 0) 0 = no_second (q == p) (w == v) (ne_eqb w v b) in omega arith)
-      ]
-      | inr a ↦ absurd (let e : ◌≡◌ {A = ℕ} (cond ((q == p) && (w == v)) 1 0) 0 = no_first (q == p) (w == v) (ne_eqb q p a) in omega arith)
-    ]
-  where
-    no_first : (a b : Bool) → a ≡ false → ◌≡◌ {A = ℕ} (cond (a && b) 1 0) 0
-    no_first a b e = ap (λ z. cond (z && b) 1 0) e
-
-    no_second : (a b : Bool) → b ≡ false → ◌≡◌ {A = ℕ} (cond (a && b) 1 0) 0
-    no_second true b e = ap (λ z. cond z 1 0) e
-    no_second false b e = refl
+is_leaf q p w v some = let both = some_of (q == p) (w == v) some in (eqb-true q p both.0, eqb-true w v both.1)
 
 mutual
   pub at_leaf : (t : PlaceTree) (p v : ℕ) → 0 < leaves_in p v t → AtLeaf t p v
@@ -177,13 +164,10 @@ module _ (l0 : Links) (ok0 : AreLinks l0) (leaf : ℕ) (d : MarkView) (can : Can
   start_note : (p : ℕ) → note_at l0 p ≡ frames_note m p start.frames 0
   start_note p =
       start_told.notes p ∙ note_hole m p start.frames (tip leaf n)
-      ∙ sum_up _ _ _ tip_note (ap (frames_note m p start.frames) can.fresh)
+      ∙ sum_no _ _ _ tip_note (ap (frames_note m p start.frames) can.fresh)
     where
       tip_note : cond (leaf == p) (m n) 0 ≡ 0
       tip_note = elim (cases_eq leaf p) [ inl same ↦ cond_yes leaf p (m n) same ∙ can.fresh | inr other ↦ cond_no leaf p (m n) other ]
-
-      sum_up : (a b c : ℕ) → a ≡ 0 → b ≡ c → a + b ≡ c
-      sum_up a b c e f = omega arith
 
   pub mark_begun : (l : Links) → l ≡ noted l0 leaf 1 → (begun steps : ℕ) → steps ≡ begun + 1 → IsRising l m n t leaf begun steps
   mark_begun l is begun steps one = (
@@ -263,9 +247,6 @@ module _ (l0 : Links) (ok0 : AreLinks l0) (leaf : ℕ) (d : MarkView) (can : Can
       beside : AreUnmoved m k f.others
       beside = unmoved_row m n f.others no_names.0
 
-      no_product : (b : ℕ) → 0 * b ≡ 0
-      no_product b = omega arith
-
       turn_tally : tally_at l f.place ≡ full_count m f.others
       turn_tally =
           let a = tally_none k f.place sub apart.0 in
@@ -286,7 +267,7 @@ module _ (l0 : Links) (ok0 : AreLinks l0) (leaf : ℕ) (d : MarkView) (can : Can
       turn_note : note_at l f.place ≡ 0
       turn_note =
           at.notes f.place
-          ∙ sum_none _ _ _ _ (note_none k none_walked f.place sub apart.0) (cond_yes f.place f.place (0 * full_row m f.others) refl ∙ no_product (full_row m f.others))
+          ∙ sum_none _ _ _ _ (note_none k none_walked f.place sub apart.0) (cond_yes f.place f.place (0 * full_row m f.others) refl ∙ left_zero 0 (full_row m f.others) refl)
           (notes_none m none_walked f.place f.others apart.1) (frames_note_none m f.place fs (0 * full_row m f.others) apart.2)
         where
           sum_none : (a b c e : ℕ) → a ≡ 0 → b ≡ 0 → c ≡ 0 → e ≡ 0 → a + ((b + c) + e) ≡ 0
@@ -297,7 +278,7 @@ module _ (l0 : Links) (ok0 : AreLinks l0) (leaf : ℕ) (d : MarkView) (can : Can
       tally_turned x =
           raised_tally l ok f.place live x
           ∙ add_up _ _ _ _ _ _ _ _ _ _ (at.tallies x) (λ i. cond (f.place == x) (at.full i + beside.counted i) 0) (one_more (f.place == x) (full_count m f.others)) (beside.tallies x)
-          (ap (frames_tally m x fs) (no_product (full_row m f.others)))
+          (ap (frames_tally m x fs) (left_zero 0 (full_row m f.others) refl))
         where
           one_more : (b : Bool) (c : ℕ) → ◌≡◌ {A = ℕ} (cond b (1 + c) 0) (cond b (0 + c) 0 + cond b 1 0)
           one_more true c = omega arith
@@ -309,14 +290,14 @@ module _ (l0 : Links) (ok0 : AreLinks l0) (leaf : ℕ) (d : MarkView) (can : Can
       -- with a note at the node, if it is full
       note_turned : (v : ℕ) → full_in k sub * full_row k f.others ≡ v → (x : ℕ) → note_at l x + cond (f.place == x) v 0 ≡ note_in k none_walked x (fill f sub) + frames_note m x fs 0
       note_turned v is x =
-          add_up _ _ _ _ _ _ _ _ _ (at.notes x) (cond_zero (f.place == x) (0 * full_row m f.others) (no_product (full_row m f.others))) (beside.notes x)
-          (ap (frames_note m x fs) (no_product (full_row m f.others))) (note_fill k x f sub ∙ ap (λ z. cond (f.place == x) z 0 + (note_in k none_walked x sub + note_row k none_walked x f.others)) is)
+          add_up _ _ _ _ _ _ _ _ _ (at.notes x) (cond_zero (f.place == x) (0 * full_row m f.others) (left_zero 0 (full_row m f.others) refl)) (beside.notes x)
+          (ap (frames_note m x fs) (left_zero 0 (full_row m f.others) refl)) (note_fill k x f sub ∙ ap (λ z. cond (f.place == x) z 0 + (note_in k none_walked x sub + note_row k none_walked x f.others)) is)
         where
           add_up : (note low here row rest one after row2 turned : ℕ) → note ≡ low + ((here + row) + rest) → here ≡ 0 → row2 ≡ row → rest ≡ after → turned ≡ one + (low + row2) → note + one ≡ turned + after
           add_up note low here row rest one after row2 turned a b c e g = omega arith
 
       nodes_turned : (v : ℕ) → full_in k sub * full_row k f.others ≡ v → full_nodes k (fill f sub) + frames_nodes m fs 0 ≡ v + (full_nodes k sub + frames_nodes m (f ∷ fs) 0)
-      nodes_turned v is = add_up _ _ _ _ _ _ _ _ is beside.nodes (no_product (full_row m f.others)) (ap (frames_nodes m fs) (no_product (full_row m f.others)))
+      nodes_turned v is = add_up _ _ _ _ _ _ _ _ is beside.nodes (left_zero 0 (full_row m f.others) refl) (ap (frames_nodes m fs) (left_zero 0 (full_row m f.others) refl))
         where
           add_up : (full v low row row2 after zero_times rest : ℕ) → full ≡ v → row2 ≡ row → zero_times ≡ 0 → rest ≡ after → (full + (low + row2)) + after ≡ v + (low + ((zero_times + row) + rest))
           add_up full v low row row2 after zero_times rest a b c e = omega arith
@@ -348,13 +329,10 @@ module _ (l0 : Links) (ok0 : AreLinks l0) (leaf : ℕ) (d : MarkView) (can : Can
                 let low = full_count_low m can.marks f.others in
                 let e = count_is in
                 let less : full_count m f.others < row_length f.others = fewer tally count (full_count m f.others) (row_length f.others) low count_is.0 count_is.1 other in
-                ap (λ z. full_in k sub * z) (beside.full ∙ count_less m can.marks f.others less) ∙ no_second (full_in k sub)
+                ap (λ z. full_in k sub * z) (beside.full ∙ count_less m can.marks f.others less) ∙ right_zero (full_in k sub) 0 refl
               where
                 fewer : (a b c e : ℕ) → c ≤ e → a ≡ 1 + c → b ≡ 1 + e → (a ≡ b → ⊥) → c < e
                 fewer a b c e low is_a is_b other = elim (cases_lt c e) [ inl less ↦ less | inr not ↦ absurd (other (omega arith)) ]
-
-                no_second : (a : ℕ) → a * 0 ≡ 0
-                no_second a = omega arith
 
             few_turned : (steps f_m f_k begun f_whole low after : ℕ) → f_whole ≡ f_k → f_whole ≡ low → low ≡ 0 + after → steps + 5 * f_m ≤ begun + 1 + 5 * after → steps + 5 * f_m ≤ begun + 1 + 5 * f_k
             few_turned steps f_m f_k begun f_whole low after a b c e = omega arith
@@ -380,7 +358,7 @@ module _ (l0 : Links) (ok0 : AreLinks l0) (leaf : ℕ) (d : MarkView) (can : Can
           alike = at.alike;
           here = let a = at.here in let b = no_names.0 in omega arith;
           full = all;
-          was = ap (λ z. z * full_row m f.others) at.was ∙ no_product (full_row m f.others);
+          was = ap (λ z. z * full_row m f.others) at.was ∙ left_zero 0 (full_row m f.others) refl;
           tallies = λ p. ap (λ (z : Links). tally_at z p) whole ∙ tally_turned p;
           notes = λ p. ap (λ (z : Links). note_at z p) whole ∙ noted_more (raised l f.place) (raised_links l ok f.place live) f.place live 1 p turn_note ∙ note_turned 1 all p;
           few = few_turned _ _ _ _ _ at.few (nodes_turned 1 all);

@@ -1,5 +1,5 @@
 -- The cotree after an edit.
-use Rattle.std.proofs.Common.{◌≡◌, ◌≢◌, ℕ, ◌+◌, Bool, true, false, cond, [], Option, Some, None, Result, Ok, Err, OnOk, OnErr, sym, ◌∙◌, ap, subst, arith}
+use Rattle.std.proofs.Common.{◌≡◌, ◌≢◌, ℕ, ◌+◌, Bool, true, false, cond, [], Option, Some, None, Result, Ok, Err, OnOk, OnErr, sym, ◌∙◌, ap, subst, arith, is_some, refl}
 use Rattle.std.specs.Option.{option_map}
 use Rattle.md_graph.specs.Sets.{Has}
 use Rattle.md_graph.specs.PlainGraph.{PlainGraph}
@@ -9,15 +9,24 @@ use Rattle.md_tree.specs.Trees.{names}
 use Rattle.md_tree.specs.TreeGraph.{graph_of_tree}
 use Rattle.md_cotree.specs.declared.cotree.Cotree.{Cotree}
 use Rattle.md_cotree.specs.PlaceTrees.{PlaceTree, tip, no_more, then, shape, Fits}
-use Rattle.md_cotree.specs.Cotrees.{IsKeptAs, IsSoundCotree, Denotes}
+use Rattle.md_cotree.specs.Cotrees.{IsKeptAs, IsSoundCotree, Denotes, place_at}
 use Rattle.md_cotree_edit.specs.Counts.{name_in, edge_in, crossing}
 use Rattle.md_cotree_edit.specs.Turns.{IsLifted, turned_graph}
 use Rattle.md_cotree_edit.proofs.Same.{SameTree, tree_name, tree_edge}
 use Rattle.md_cotree_edit.proofs.Keeping.{same_root, to_fits}
 use Rattle.md_cotree_edit.proofs.Told.{graph_in, graph_joined, graph_parted}
 use Rattle.md_cotree_edit.proofs.Base.{kept_named}
+use Rattle.md_cotree.proofs.Leaves.{no_place}
 
 -- a vertex stands in a tree
+-- a name of the tree has a place
+pub place_there : (c : Cotree) (t : PlaceTree) → IsKeptAs c (Some t) → (v : ℕ) → Has (names (shape t)) v → is_some (place_at c v) ≡ true
+place_there c t kept v has = go (place_at c v) refl
+  where
+    go : (o : Option ℕ) → place_at c v ≡ o → is_some o ≡ true
+    go None none = absurd (clash has (no_place c t kept v none))
+    go (Some p) is = refl
+
 pub kept_some : (c : Cotree) (g : PlainGraph) (u : ℕ) → Denotes c g → Has g.vertices u → (t : PlaceTree) × IsKeptAs c (Some t) × (graph_in t ≡ g)
 kept_some c g u is h = go is.0 is.1 is.2
   where

@@ -1,12 +1,12 @@
 -- The node where the ways up from two leaves meet, and where the leaves stand below it.
-use Rattle.std.proofs.Common.{◌≡◌, ◌≢◌, ◌⊎◌, ℕ, ◌<◌, ◌≤◌, Bool, true, false, not, cond, ◌&&◌, ◌==◌, List, [], ◌∷◌, Some, refl, sym, ◌∙◌, ap, subst, inl, inr, arith}
-use Rattle.std.proofs.lemmas.Bool.{cases_eq, cases_lt, ne_eqb}
+use Rattle.std.proofs.Common.{◌≡◌, ◌≢◌, ◌⊎◌, ℕ, ◌<◌, ◌≤◌, Bool, not, cond, ◌==◌, List, [], ◌∷◌, Some, refl, sym, ◌∙◌, ap, subst, inl, inr, arith}
+use Rattle.std.proofs.lemmas.Bool.{cases_eq, cases_lt, eqb-true}
 use Rattle.std.proofs.lemmas.Option.{same_Some}
 use Rattle.md_lists.specs.Words.{times, holds_once}
 use Rattle.md_lists.specs.Links.{Links, parent_at, AreLinks}
 use Rattle.md_lists.proofs.LinkLaws.{holds-once-same, held}
 use Rattle.md_cotree.specs.PlaceTrees.{PlaceTree, tip, inner, PlaceTrees, no_more, then, place_of, roots, times_in, times_among, leaves_in, leaves_among, IsInner, Alternates}
-use Rattle.md_cotree.proofs.Frames.{hit, miss, root_in}
+use Rattle.md_cotree.proofs.Frames.{hit, miss, root_in, some_of}
 use Rattle.md_cotree_edit.specs.Counts.{name_in, edge_in, child_in, child_row}
 use Rattle.md_cotree_edit.specs.Contexts.{Frame, fill, plug, AreKept}
 use Rattle.md_cotree_edit.specs.Turns.{both_tree, one_tree, IsAlternating}
@@ -20,14 +20,6 @@ use Rattle.md_cotree_edit.proofs.Told.{AreNamed, same_value}
 use Rattle.md_cotree_edit.proofs.Base.{name_tips, tips_low, all_tips_low}
 
 -- ---- a child of a node of a tree
-
-pub some_of : (a b : Bool) → ◌<◌ 0 (cond (a && b) 1 0) → (a ≡ true) × (b ≡ true)
-some_of true true some = (refl, refl)
-some_of true false some = absurd (omega arith)
-some_of false b some = absurd (omega arith)
-
-pub from_test : (q p : ℕ) → (q == p) ≡ true → q ≡ p
-from_test q p e = elim (cases_eq q p) [ inl same ↦ same | inr other ↦ absurd (let f = ne_eqb q p other in let bad : true ≡ false = sym e ∙ f in cc) ]
 
 above_of : (p c : ℕ) (t : PlaceTree) → 0 < child_in p c t → 0 < times_in p t
 above_of p c t some = elim (cases_lt 0 (times_in p t)) [ inl has ↦ has | inr none ↦ absurd (let e = child_none p c t (omega arith) in omega arith) ]
@@ -59,7 +51,7 @@ mutual
 
 -- a leaf at a place is that tree, or below its root
 pub leaf_shape : (a u : ℕ) (t : PlaceTree) → 0 < leaves_in a u t → place_of t ≡ a → (times_in a t ≤ 1) → t ≡ tip a u
-leaf_shape a u (tip p v) some at one = let both = some_of (p == a) (v == u) some in λ i. tip (from_test p a both.0 i) (from_test v u both.1 i)
+leaf_shape a u (tip p v) some at one = let both = some_of (p == a) (v == u) some in λ i. tip (eqb-true p a both.0 i) (eqb-true v u both.1 i)
 leaf_shape a u (inner p k ts) some at one = absurd (let h = hit p a at in let low = all_tips_low a u ts in omega arith)
 
 module _ (l : Links) (ok : AreLinks l) where
@@ -232,7 +224,7 @@ left_depth l t k u v a b s = go s.left s.left_leaf other once_left
         omega arith
 
     go : (x : PlaceTree) → 0 < leaves_in a u x → (IsInner x k → ⊥) → ((p : ℕ) → times_in p x ≤ 1) → Depth k u a x
-    go (tip p y) some not one = let both = some_of (p == a) (y == u) some in child (λ i. tip (from_test p a both.0 i) (from_test y u both.1 i))
+    go (tip p y) some not one = let both = some_of (p == a) (y == u) some in child (λ i. tip (eqb-true p a both.0 i) (eqb-true y u both.1 i))
     go (inner j i ts) some not one =
         below j ts (ap (λ z. inner j z ts) (other_kind k i (λ e. not (sym e)))) some
         (λ e. let h = hit j a e in let o = one a in let low = all_tips_low a u ts in omega arith)

@@ -1,12 +1,10 @@
 -- How many places are free when one more is taken, or given back.
-use Rattle.std.proofs.Common.{◌≡◌, ℕ, ◌+◌, ◌<◌, ◌≤◌, cond, Option, Some, None, is_none, arith}
+use Rattle.std.proofs.Common.{◌≡◌, ℕ, ◌+◌, ◌<◌, ◌≤◌, Option, Some, None, arith}
 use Rattle.std.proofs.lemmas.List.Sums.{sum_by-set}
 use Rattle.md_lists.specs.declared.kinds.PlaceKind.{PlaceKind}
 use Rattle.md_lists.specs.declared.TheConstants.{PLACES}
 use Rattle.md_lists.specs.Links.{Links, kind_at, AreLinks, with_kind, spare_count}
-
-abbrev none_one : Option PlaceKind → ℕ
-none_one o = cond (is_none o) 1 0
+use Rattle.md_cotree.proofs.Room.{none_one}
 
 none_low : (o : Option PlaceKind) → none_one o ≤ 1
 none_low None = omega arith

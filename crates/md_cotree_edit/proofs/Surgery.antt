@@ -2,17 +2,19 @@
 use Rattle.std.proofs.Common.{◌≡◌, ℕ, ◌+◌, ◌<◌, Bool, true, false, cond, ◌==◌, List, [], ◌∷◌, Option, Some, None, is_some, refl, sym, ◌∙◌, ap, inl, inr, arith}
 use Rattle.std.proofs.lemmas.Bool.{cases_eq, eq-eqb, ne_eqb}
 use Rattle.md_lists.specs.declared.kinds.PlaceKind.{PlaceKind}
+use Rattle.md_lists.specs.declared.kinds.PlaceKind.TheVariants.{Leaf}
 use Rattle.md_lists.specs.declared.TheConstants.{PLACES}
 use Rattle.md_lists.specs.Words.{times, holds_once}
 use Rattle.md_lists.specs.Links.{Links, kind_at, parent_at, children_at, alive, IsLive, IsBare, AreLinks, with_kind, attached, detached}
 use Rattle.md_lists.proofs.LinkLaws.{held, attached_parent, detached_parent, kind-with_kind}
-use Rattle.md_cotree.specs.PlaceTrees.{PlaceTree, inner, PlaceTrees, no_more, then, place_of, roots, place_kind, times_in, times_among}
+use Rattle.md_cotree.specs.PlaceTrees.{PlaceTree, tip, inner, PlaceTrees, no_more, then, place_of, roots, place_kind, times_in, times_among}
 use Rattle.md_cotree.proofs.Frames.{hit, miss}
 use Rattle.md_cotree_edit.specs.Counts.{kind_code, kind_in, kind_row, child_in, child_row}
 use Rattle.md_cotree_edit.specs.Contexts.{Frame, fill, plug, AreKept}
 use Rattle.md_cotree_edit.proofs.Same.{SameRow}
-use Rattle.md_cotree_edit.proofs.Local.{cond_no, cond_yes, children_none, kinds_none}
+use Rattle.md_cotree_edit.proofs.Local.{cond_no, cond_yes, sum_no, sum_yes, children_none, kinds_none, cond_zero}
 use Rattle.md_cotree_edit.proofs.Keeping.{no_times, kept_once, kept_loose}
+use Rattle.std.proofs.Math.Nat.{add-zero}
 
 -- c is one time more a child of q
 pub record IsLinked (q c : ℕ) (ts us : PlaceTrees) : Type 0 where
@@ -57,6 +59,24 @@ linked_plug fs q k ts us t = record {
         go true false n = omega arith
         go false true n = refl
         go false false n = refl
+
+-- a tree of one place, which has this kind, by its number
+pub record IsAlone (p code : ℕ) (t : PlaceTree) : Type 0 where
+  pub root : place_of t ≡ p
+  pub once : (q : ℕ) → times_in q t ≡ cond (p == q) 1 0
+  pub kind : (q : ℕ) → kind_in q t ≡ cond (p == q) code 0
+  pub links : (q c : ℕ) → child_in q c t ≡ 0
+
+pub tip_alone : (p v : ℕ) → IsAlone p (kind_code (Some (Leaf v))) (tip p v)
+tip_alone p v = record { root = refl; once = λ q. refl; kind = λ q. refl; links = λ q c. refl }
+
+pub node_alone : (p : ℕ) (k : Bool) → IsAlone p (kind_code (Some (place_kind k))) (inner p k no_more)
+node_alone p k = record {
+  root = refl;
+  once = λ q. omega arith;
+  kind = λ q. add-zero (cond (p == q) (kind_code (Some (place_kind k))) 0);
+  links = λ q c. let none = cond_zero (p == q) 0 refl in omega arith;
+}
 
 module _ (l : Links) (ok : AreLinks l) where
   pub kept_same : (ts us : PlaceTrees) → SameRow ts us → AreKept l ts → AreKept l us
@@ -120,91 +140,98 @@ module _ (l : Links) (ok : AreLinks l) where
       parent : parent_at l c ≡ Some q
       parent = linked_parent q c ts us kept is
 
-  -- a node without children more
-  pub kept_made : (p : ℕ) (k : Bool) (ts : PlaceTrees) → kind_at l p ≡ None → p < PLACES → AreKept l ts → AreKept (with_kind l p (Some (place_kind k))) (then (inner p k no_more) ts)
-  kept_made p k ts free within kept = record {
+  -- kinds where a place has another one, or none
+  module _ (p : ℕ) (within : p < PLACES) (o : Option PlaceKind) where
+    kind_here : (q : ℕ) → q ≡ p → kind_at (with_kind l p o) q ≡ o
+    kind_here q same = kind-with_kind l ok p q o within ∙ ap (λ b. cond b o (kind_at l q)) (eq-eqb q p same)
+
+    kind_there : (q : ℕ) → (q ≡ p → ⊥) → kind_at (with_kind l p o) q ≡ kind_at l q
+    kind_there q other = kind-with_kind l ok p q o within ∙ ap (λ b. cond b o (kind_at l q)) (ne_eqb q p other)
+
+    alive_here : (q : ℕ) → q ≡ p → alive (with_kind l p o) q ≡ cond (is_some o) 1 0
+    alive_here q same = ap (λ (z : Option PlaceKind). cond (is_some z) 1 0) (kind_here q same)
+
+    alive_there : (q : ℕ) → (q ≡ p → ⊥) → alive (with_kind l p o) q ≡ alive l q
+    alive_there q other = ap (λ (z : Option PlaceKind). cond (is_some z) 1 0) (kind_there q other)
+
+  -- a tree of one place more
+  pub alone_made : (p : ℕ) (kind : PlaceKind) (t : PlaceTree) (ts : PlaceTrees) → IsAlone p (kind_code (Some kind)) t → kind_at l p ≡ None → p < PLACES → AreKept l ts → AreKept (with_kind l p (Some kind)) (then t ts)
+  alone_made p kind t ts alone free within kept = record {
     each = λ q. elim (cases_eq q p) [
       | inl same ↦
+          let n = alone.once q in
           let e = kept.each q in
           let a : alive l q ≡ 0 = ap (λ (o : Option PlaceKind). cond (is_some o) 1 0) (ap (kind_at l) same ∙ free) in
-          let b : alive (with_kind l p (Some (place_kind k))) q ≡ 1 = ap (λ (o : Option PlaceKind). cond (is_some o) 1 0) (here q same) in
+          let b = alive_here p within (Some kind) q same in
           let h = hit p q (sym same) in
           omega arith
       | inr other ↦
+          let n = alone.once q in
           let e = kept.each q in
-          let b : alive (with_kind l p (Some (place_kind k))) q ≡ alive l q = ap (λ (o : Option PlaceKind). cond (is_some o) 1 0) (there q other) in
+          let b = alive_there p within (Some kind) q other in
           let m = miss p q (λ z. other (sym z)) in
           omega arith
     ];
     kinds = λ q. elim (cases_eq q p) [
       | inl same ↦
-          sum_here _ _ _ _ (cond_yes p q (kind_code (Some (place_kind k))) (sym same)) (kept.kinds q ∙ ap kind_code (ap (kind_at l) same ∙ free)) (ap kind_code (here q same))
+          sum_yes _ _ _ _ (alone.kind q ∙ cond_yes p q (kind_code (Some kind)) (sym same)) (kept.kinds q ∙ ap kind_code (ap (kind_at l) same ∙ free)) (ap kind_code (kind_here p within (Some kind) q same))
       | inr other ↦
-          sum_there _ _ _ (cond_no p q (kind_code (Some (place_kind k))) (λ z. other (sym z))) (kept.kinds q ∙ sym (ap kind_code (there q other)))
+          sum_no _ _ _ (alone.kind q ∙ cond_no p q (kind_code (Some kind)) (λ z. other (sym z))) (kept.kinds q ∙ sym (ap kind_code (kind_there p within (Some kind) q other)))
     ];
-    links = λ q c. let e = kept.links q c in let none = no_children q in omega arith;
+    links = λ q c. let e = kept.links q c in let none = alone.links q c in omega arith;
   }
-    where
-      here : (q : ℕ) → q ≡ p → kind_at (with_kind l p (Some (place_kind k))) q ≡ Some (place_kind k)
-      here q same = kind-with_kind l ok p q (Some (place_kind k)) within ∙ ap (λ b. cond b (Some (place_kind k)) (kind_at l q)) (eq-eqb q p same)
 
-      there : (q : ℕ) → (q ≡ p → ⊥) → kind_at (with_kind l p (Some (place_kind k))) q ≡ kind_at l q
-      there q other = kind-with_kind l ok p q (Some (place_kind k)) within ∙ ap (λ b. cond b (Some (place_kind k)) (kind_at l q)) (ne_eqb q p other)
+  -- a loose tree of one place less
+  module _ (p code : ℕ) (t : PlaceTree) (ts : PlaceTrees) (alone : IsAlone p code t) (kept : AreKept l (then t ts)) where
+    alone_rest : (q : ℕ) → q ≡ p → times_among q ts ≡ 0
+    alone_rest q same = let one = kept_once l (then t ts) kept q in let n = alone.once q in let h = hit p q (sym same) in omega arith
 
-      no_children : (q : ℕ) → ◌≡◌ {A = ℕ} (cond (p == q) 0 0) 0
-      no_children q = go (p == q)
-        where
-          go : (b : Bool) → ◌≡◌ {A = ℕ} (cond b 0 0) 0
-          go true = refl
-          go false = refl
+    pub alone_freed : p < PLACES → AreKept (with_kind l p None) ts
+    alone_freed within = record {
+      each = λ q. elim (cases_eq q p) [
+        | inl same ↦ let none = alone_rest q same in let b = alive_here p within None q same in omega arith
+        | inr other ↦
+            let n = alone.once q in
+            let e = kept.each q in
+            let b = alive_there p within None q other in
+            let m = miss p q (λ z. other (sym z)) in
+            omega arith
+      ];
+      kinds = λ q. elim (cases_eq q p) [
+        | inl same ↦ kinds_none q ts (alone_rest q same) ∙ sym (ap kind_code (kind_here p within None q same))
+        | inr other ↦ sum_left _ _ _ (alone.kind q ∙ cond_no p q code (λ z. other (sym z))) (kept.kinds q) ∙ sym (ap kind_code (kind_there p within None q other))
+      ];
+      links = λ q c. let e = kept.links q c in let none = alone.links q c in omega arith;
+    }
+      where
+        sum_left : (a b m : ℕ) → a ≡ 0 → a + b ≡ m → b ≡ m
+        sum_left a b m e f = omega arith
 
-      sum_here : (a b n m : ℕ) → a ≡ n → b ≡ 0 → m ≡ n → (a + 0) + b ≡ m
-      sum_here a b n m e f g = omega arith
+    pub alone_bare : l.marked ≡ [] → IsBare l p
+    alone_bare unmarked =
+        let marks = ok.marks p in
+        let none = ap (times p) unmarked in
+        record {
+          no_parent = ap (parent_at l) (sym alone.root) ∙ kept_loose l t ts kept;
+          no_children = no_times (children_at l p) (λ c.
+              let e = kept.links p c in
+              let a = ok.agree p c in
+              let f = alone.links p c in
+              let n = children_none p c ts (alone_rest p refl) in
+              omega arith);
+          no_tally = omega arith;
+          no_note = omega arith;
+        }
 
-      sum_there : (a b m : ℕ) → a ≡ 0 → b ≡ m → (a + 0) + b ≡ m
-      sum_there a b m e f = omega arith
+  -- a node without children
+  pub kept_made : (p : ℕ) (k : Bool) (ts : PlaceTrees) → kind_at l p ≡ None → p < PLACES → AreKept l ts → AreKept (with_kind l p (Some (place_kind k))) (then (inner p k no_more) ts)
+  kept_made p k ts = alone_made p (place_kind k) (inner p k no_more) ts (node_alone p k)
 
-  -- a node without children less
   pub kept_freed : (p : ℕ) (k : Bool) (ts : PlaceTrees) → p < PLACES → AreKept l (then (inner p k no_more) ts) → AreKept (with_kind l p None) ts
-  kept_freed p k ts within kept = record {
-    each = λ q. elim (cases_eq q p) [
-      | inl same ↦
-          let one = kept_once l (then (inner p k no_more) ts) kept q in
-          let b : alive (with_kind l p None) q ≡ 0 = ap (λ (o : Option PlaceKind). cond (is_some o) 1 0) (here q same) in
-          let h = hit p q (sym same) in
-          omega arith
-      | inr other ↦
-          let e = kept.each q in
-          let b : alive (with_kind l p None) q ≡ alive l q = ap (λ (o : Option PlaceKind). cond (is_some o) 1 0) (there q other) in
-          let m = miss p q (λ z. other (sym z)) in
-          omega arith
-    ];
-    kinds = λ q. elim (cases_eq q p) [
-      | inl same ↦
-          let one = kept_once l (then (inner p k no_more) ts) kept q in
-          let h = hit p q (sym same) in
-          kinds_none q ts (omega arith) ∙ sym (ap kind_code (here q same))
-      | inr other ↦
-          sum_there _ _ _ (cond_no p q (kind_code (Some (place_kind k))) (λ z. other (sym z))) (kept.kinds q) ∙ sym (ap kind_code (there q other))
-    ];
-    links = λ q c. let e = kept.links q c in let none = no_children q in omega arith;
-  }
-    where
-      here : (q : ℕ) → q ≡ p → kind_at (with_kind l p None) q ≡ None
-      here q same = kind-with_kind l ok p q None within ∙ ap (λ b. cond b None (kind_at l q)) (eq-eqb q p same)
+  kept_freed p k ts within kept = alone_freed p (kind_code (Some (place_kind k))) (inner p k no_more) ts (node_alone p k) kept within
 
-      there : (q : ℕ) → (q ≡ p → ⊥) → kind_at (with_kind l p None) q ≡ kind_at l q
-      there q other = kind-with_kind l ok p q None within ∙ ap (λ b. cond b None (kind_at l q)) (ne_eqb q p other)
-
-      no_children : (q : ℕ) → ◌≡◌ {A = ℕ} (cond (p == q) 0 0) 0
-      no_children q = go (p == q)
-        where
-          go : (b : Bool) → ◌≡◌ {A = ℕ} (cond b 0 0) 0
-          go true = refl
-          go false = refl
-
-      sum_there : (a b m : ℕ) → a ≡ 0 → (a + 0) + b ≡ m → b ≡ m
-      sum_there a b m e f = omega arith
+  pub kept_bare : (p : ℕ) (k : Bool) (ts : PlaceTrees) → l.marked ≡ [] → AreKept l (then (inner p k no_more) ts) → IsBare l p
+  kept_bare p k ts unmarked kept = alone_bare p (kind_code (Some (place_kind k))) (inner p k no_more) ts (node_alone p k) kept unmarked
 
   -- a root of another kind
   pub kept_turned : (p : ℕ) (k j : Bool) (ts us : PlaceTrees) → p < PLACES → AreKept l (then (inner p k ts) us) → AreKept (with_kind l p (Some (place_kind j))) (then (inner p j ts) us)
@@ -212,51 +239,25 @@ module _ (l : Links) (ok : AreLinks l) where
     each = λ q. elim (cases_eq q p) [
       | inl same ↦
           let one = kept_once l (then (inner p k ts) us) kept q in
-          let b : alive (with_kind l p (Some (place_kind j))) q ≡ 1 = ap (λ (o : Option PlaceKind). cond (is_some o) 1 0) (here q same) in
+          let b = alive_here p within (Some (place_kind j)) q same in
           let h = hit p q (sym same) in
           omega arith
       | inr other ↦
-          let b : alive (with_kind l p (Some (place_kind j))) q ≡ alive l q = ap (λ (o : Option PlaceKind). cond (is_some o) 1 0) (there q other) in
-          kept.each q ∙ sym b
+          kept.each q ∙ sym (alive_there p within (Some (place_kind j)) q other)
     ];
     kinds = λ q. elim (cases_eq q p) [
       | inl same ↦
           let one = kept_once l (then (inner p k ts) us) kept q in
           let h = hit p q (sym same) in
-          sum_here _ _ _ _ _ (cond_yes p q (kind_code (Some (place_kind j))) (sym same)) (kinds_none q ts (omega arith)) (kinds_none q us (omega arith)) (ap kind_code (here q same))
+          sum_here _ _ _ _ _ (cond_yes p q (kind_code (Some (place_kind j))) (sym same)) (kinds_none q ts (omega arith)) (kinds_none q us (omega arith)) (ap kind_code (kind_here p within (Some (place_kind j)) q same))
       | inr other ↦
-          sum_there _ _ _ _ _ (cond_no p q (kind_code (Some (place_kind j))) (λ z. other (sym z))) (cond_no p q (kind_code (Some (place_kind k))) (λ z. other (sym z))) (kept.kinds q ∙ sym (ap kind_code (there q other)))
+          sum_there _ _ _ _ _ (cond_no p q (kind_code (Some (place_kind j))) (λ z. other (sym z))) (cond_no p q (kind_code (Some (place_kind k))) (λ z. other (sym z))) (kept.kinds q ∙ sym (ap kind_code (kind_there p within (Some (place_kind j)) q other)))
     ];
     links = kept.links;
   }
     where
-      here : (q : ℕ) → q ≡ p → kind_at (with_kind l p (Some (place_kind j))) q ≡ Some (place_kind j)
-      here q same = kind-with_kind l ok p q (Some (place_kind j)) within ∙ ap (λ b. cond b (Some (place_kind j)) (kind_at l q)) (eq-eqb q p same)
-
-      there : (q : ℕ) → (q ≡ p → ⊥) → kind_at (with_kind l p (Some (place_kind j))) q ≡ kind_at l q
-      there q other = kind-with_kind l ok p q (Some (place_kind j)) within ∙ ap (λ b. cond b (Some (place_kind j)) (kind_at l q)) (ne_eqb q p other)
-
       sum_here : (a b c n m : ℕ) → a ≡ n → b ≡ 0 → c ≡ 0 → m ≡ n → (a + b) + c ≡ m
       sum_here a b c n m e f g h = omega arith
 
       sum_there : (a z b c m : ℕ) → a ≡ 0 → z ≡ 0 → (z + b) + c ≡ m → (a + b) + c ≡ m
       sum_there a z b c m e f g = omega arith
-
-  -- a node without children that is loose is bare
-  pub kept_bare : (p : ℕ) (k : Bool) (ts : PlaceTrees) → l.marked ≡ [] → AreKept l (then (inner p k no_more) ts) → IsBare l p
-  kept_bare p k ts unmarked kept =
-      let marks = ok.marks p in
-      let none = ap (times p) unmarked in
-      record {
-        no_parent = kept_loose l (inner p k no_more) ts kept;
-        no_children = no_times (children_at l p) (λ c.
-            let one = kept_once l (then (inner p k no_more) ts) kept p in
-            let h = hit p p refl in
-            let e = kept.links p c in
-            let a = ok.agree p c in
-            let n = children_none p c ts (omega arith) in
-            let z = cond_yes p p 0 refl in
-            omega arith);
-        no_tally = omega arith;
-        no_note = omega arith;
-      }

@@ -15,7 +15,8 @@ use Rattle.md_cotree.specs.PlaceTrees.{PlaceTree, tip, inner, PlaceTrees, no_mor
 use Rattle.md_cotree.proofs.Frames.{miss}
 use Rattle.md_cotree.proofs.TreeGraphs.{some_graph, graph_tells}
 use Rattle.md_cotree_edit.specs.Counts.{name_in, name_row, pair_row, edge_in, edge_row, crossing}
-use Rattle.md_cotree_edit.proofs.Local.{edge_none, edges_none, edge_turned, edges_turned, pair_none, pair_turned}
+use Rattle.md_cotree_edit.proofs.Local.{edge_none, edges_none, edge_turned, edges_turned, pair_none, pair_turned, sum_no}
+use Rattle.md_cotree.proofs.Meeting.{joins_kind}
 
 -- ---- names
 
@@ -66,10 +67,6 @@ record Unlike (ts : PlaceTrees) (x y : ℕ) : Type 0 where
   edges : edge_row x y ts ≡ 0
   pairs : pair_row x y ts ≡ 1
 
-joins_is : (k : Bool) (i j : ℕ) → joins (kind_of k) [] i j ≡ k
-joins_is true i j = refl
-joins_is false i j = refl
-
 no_edge : (x y : ℕ) (t : PlaceTree) → name_in y t ≡ 0 → edge_in x y t ≡ 0
 no_edge x y t none = edge_turned x y t ∙ edge_none y x t none
 
@@ -90,7 +87,7 @@ mutual
         | inr a ↦
             (λ i. cond k (a.pairs i) 0 + a.edges i) ∙ one k
             ∙ sym (ap (λ b. cond (cond b (adjacent_below (shapes ts) x y) (joins (kind_of k) [] (position_of (shapes ts) x) (position_of (shapes ts) y))) 1 0) (ne_eqb _ _ a.at)
-            ∙ ap (λ b. cond b 1 0) (joins_is k (position_of (shapes ts) x) (position_of (shapes ts) y)))
+            ∙ ap (λ b. cond b 1 0) (joins_kind k (position_of (shapes ts) x) (position_of (shapes ts) y)))
       ]
     where
       none : (k b : Bool) → ◌≡◌ {A = ℕ} (cond k 0 0 + cond b 1 0) (cond b 1 0)
@@ -151,7 +148,7 @@ mutual
                   elim (told_row ts x y one_x one_y) [
                     | inl a ↦ inl (record {
                       at = later_place (shape t) (shapes ts) x lacks_x ∙ ap (λ z. suc z) a.at ∙ sym (later_place (shape t) (shapes ts) y lacks_y);
-                      edges = sum_rest _ _ _ f a.edges ∙ sym (ap (λ b. cond (cond b (adjacent_in (shape t) x y) (adjacent_below (shapes ts) x y)) 1 0) lacks_x);
+                      edges = sum_no _ _ _ f a.edges ∙ sym (ap (λ b. cond (cond b (adjacent_in (shape t) x y) (adjacent_below (shapes ts) x y)) 1 0) lacks_x);
                       pairs = (λ i. (no_x i * name_row y ts + no_y i * name_row x ts) + a.pairs i) ∙ omega arith;
                     })
                     | inr a ↦ inr (record {
@@ -166,9 +163,6 @@ mutual
     where
       sum_first : (a b n : ℕ) → a ≡ n → b ≡ 0 → a + b ≡ n
       sum_first a b n e f = omega arith
-
-      sum_rest : (a b n : ℕ) → a ≡ 0 → b ≡ n → a + b ≡ n
-      sum_rest a b n e f = omega arith
 
 -- ---- the graph
 

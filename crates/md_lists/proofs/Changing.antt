@@ -11,10 +11,10 @@ use Rattle.md_lists.specs.declared.TheConstants.{PLACES}
 use Rattle.md_lists.specs.Words.{times, holds_once, first_or, last_or, without, exchanged, joined}
 use Rattle.md_lists.specs.Spans.{span_of, linked, Follow, Precede}
 use Rattle.md_lists.specs.Links.{Links, alive, kind_at, parent_at, children_at, tally_at, note_at, IsLive, IsBare, all_free, with_kind, attached, detached, replaced, raised, noted, unmarked_first}
-use Rattle.md_lists.specs.Store.{Store, Shows}
+use Rattle.md_lists.specs.Store.{Store, ShowsMarked, ShowsFree, Shows}
 use Rattle.md_lists.proofs.ListLaws.{times-split, first_in, last_in, first_low, last_low, without-split, exchanged-split, SplitsAt, split_once}
 use Rattle.md_lists.proofs.Following.{linked-other, length-linked, follow_same, follow_apart, follow_together, precede_same, precede_apart, relinked, repreceded}
-use Rattle.md_lists.proofs.LinkLaws.{get_or-set, live_within, parent_within, owner_within, child_once, child_within, parent_child, loose_child, mark_once, mark_within, attached_parent, attached_children, attached_links, detached_parent, detached_children, detached_links, replaced_differ, replaced_parent, replaced_children, replaced_links, kind-with_kind, with_kind_links, raised_links, noted_links, unmarked_links}
+use Rattle.md_lists.proofs.LinkLaws.{not_alive, get_or-set, live_within, parent_within, owner_within, child_once, child_within, parent_child, loose_child, mark_once, mark_within, attached_parent, attached_children, attached_links, detached_parent, detached_children, detached_links, replaced_differ, replaced_parent, replaced_children, replaced_links, kind-with_kind, with_kind_links, raised_links, noted_links, unmarked_links}
 use Rattle.md_lists.proofs.Splicing.{Spliced, spliced_forward, spliced_loose, spliced_back}
 
 alone : (x c : ℕ) → 0 < times x (c ∷ []) → x ≡ c
@@ -22,10 +22,6 @@ alone x c some = elim (cases_eq c x) [ inl same ↦ sym same | inr other ↦ abs
 
 not_alone : (x c : ℕ) → times x (c ∷ []) ≡ 0 → x ≢ c
 not_alone x c none same = let one : times x (c ∷ []) ≡ 1 = rw (eq-eqb c x (sym same)) refl in omega arith
-
-dead : (o : Option PlaceKind) → ◌≡◌ {A = ℕ} (cond (is_some o) 1 0) 0 → o ≡ None
-dead None e = refl
-dead (Some k) e = absurd (omega arith)
 
 not_free : (o : Option PlaceKind) → IsSome o → ◌≡◌ {A = ℕ} (cond (is_none o) 1 0) 0
 not_free None e = absurd (false≢true e)
@@ -84,19 +80,17 @@ module _ (f : Store) (l : Links) (s : Shows f l) where
           parents = ap (λ z. set z c (Some q)) s.parents;
           tallies = s.tallies;
           notes = s.notes;
-          spans_len = length-set f.spans q r ∙ s.spans_len;
-          nexts_len = ap length nexts ∙ length-linked f.nexts r0.last (Some c) ∙ s.nexts_len;
-          previous_len = ap length prevs ∙ length-set f.previous c r0.last ∙ s.previous_len;
-          mark_nexts_len = s.mark_nexts_len;
-          spans = spans_shown f.spans l new q r (let w = live_within l s.links q parent in let e = s.spans_len in omega arith) s.spans attached_others (made ∙ ap span_of (sym attached_here));
-          forward = spliced_forward l new q xs [] (c ∷ []) [] attached_spliced f.nexts ns same s.forward at_left (at_c, tt);
-          back = spliced_back l new q xs [] (c ∷ []) [] attached_spliced f.previous ps same_back s.back (prev_c, tt);
-          loose = spliced_loose l new q xs [] (c ∷ []) [] attached_spliced f.nexts ns same s.loose (λ x none. absurd (omega arith));
-          marks = s.marks;
-          mark_forward = s.mark_forward;
-          free_once = s.free_once;
-          free_within = s.free_within;
-          free_count = s.free_count;
+          children = record {
+            spans_len = length-set f.spans q r ∙ s.spans_len;
+            nexts_len = ap length nexts ∙ length-linked f.nexts r0.last (Some c) ∙ s.nexts_len;
+            previous_len = ap length prevs ∙ length-set f.previous c r0.last ∙ s.previous_len;
+            spans = spans_shown f.spans l new q r (let w = live_within l s.links q parent in let e = s.spans_len in omega arith) s.spans attached_others (made ∙ ap span_of (sym attached_here));
+            forward = spliced_forward l new q xs [] (c ∷ []) [] attached_spliced f.nexts ns same s.forward at_left (at_c, tt);
+            back = spliced_back l new q xs [] (c ∷ []) [] attached_spliced f.previous ps same_back s.back (prev_c, tt);
+            loose = spliced_loose l new q xs [] (c ∷ []) [] attached_spliced f.nexts ns same s.loose (λ x none. absurd (omega arith));
+          };
+          marked = s.marked;
+          spare = s.spare;
         }
       where
         last_is : r0.last ≡ last_or xs None
@@ -203,19 +197,17 @@ module _ (f : Store) (l : Links) (s : Shows f l) where
           parents = ap (λ z. set z c None) s.parents;
           tallies = s.tallies;
           notes = s.notes;
-          spans_len = length-set f.spans q r ∙ s.spans_len;
-          nexts_len = ap length nexts ∙ length-set (linked f.nexts before after) c None ∙ length-linked f.nexts before after ∙ s.nexts_len;
-          previous_len = ap length prevs ∙ length-linked f.previous after before ∙ s.previous_len;
-          mark_nexts_len = s.mark_nexts_len;
-          spans = spans_shown f.spans l gone q r (let w = owner_within l s.links q c is in let e = s.spans_len in omega arith) s.spans detached_others (made left right c (read ∙ ap span_of split_child.2.whole) before_is after_is ∙ ap span_of (sym detached_here));
-          forward = spliced_forward l gone q left (c ∷ []) [] right detached_spliced f.nexts ns same s.forward at_left tt;
-          back = spliced_back l gone q left (c ∷ []) [] right detached_spliced f.previous ps same_back s.back at_right;
-          loose = spliced_loose l gone q left (c ∷ []) [] right detached_spliced f.nexts ns same s.loose (λ x some. ap (λ z. get_or ns z None) (alone x c some) ∙ at_c);
-          marks = s.marks;
-          mark_forward = s.mark_forward;
-          free_once = s.free_once;
-          free_within = s.free_within;
-          free_count = s.free_count;
+          children = record {
+            spans_len = length-set f.spans q r ∙ s.spans_len;
+            nexts_len = ap length nexts ∙ length-set (linked f.nexts before after) c None ∙ length-linked f.nexts before after ∙ s.nexts_len;
+            previous_len = ap length prevs ∙ length-linked f.previous after before ∙ s.previous_len;
+            spans = spans_shown f.spans l gone q r (let w = owner_within l s.links q c is in let e = s.spans_len in omega arith) s.spans detached_others (made left right c (read ∙ ap span_of split_child.2.whole) before_is after_is ∙ ap span_of (sym detached_here));
+            forward = spliced_forward l gone q left (c ∷ []) [] right detached_spliced f.nexts ns same s.forward at_left tt;
+            back = spliced_back l gone q left (c ∷ []) [] right detached_spliced f.previous ps same_back s.back at_right;
+            loose = spliced_loose l gone q left (c ∷ []) [] right detached_spliced f.nexts ns same s.loose (λ x some. ap (λ z. get_or ns z None) (alone x c some) ∙ at_c);
+          };
+          marked = s.marked;
+          spare = s.spare;
         }
       where
         before_is : before ≡ last_or left None
@@ -299,19 +291,17 @@ module _ (f : Store) (l : Links) (s : Shows f l) where
             parents = parents_are ∙ ap (λ z. set (set z c None) n (Some q)) s.parents;
             tallies = s.tallies;
             notes = s.notes;
-            spans_len = length-set f.spans q r ∙ s.spans_len;
-            nexts_len = ap length nexts ∙ length-set (set (linked f.nexts before (Some n)) n after) c None ∙ length-set (linked f.nexts before (Some n)) n after ∙ length-linked f.nexts before (Some n) ∙ s.nexts_len;
-            previous_len = ap length prevs ∙ length-set (linked f.previous after (Some n)) n before ∙ length-linked f.previous after (Some n) ∙ s.previous_len;
-            mark_nexts_len = s.mark_nexts_len;
-            spans = spans_shown f.spans l put q r (let w = owner_within l s.links q c is in let e = s.spans_len in omega arith) s.spans replaced_others (made left right c (read ∙ ap span_of split_child.2.whole) before_is after_is ∙ ap span_of (sym replaced_here));
-            forward = spliced_forward l put q left (c ∷ []) (n ∷ []) right replaced_spliced f.nexts ns same s.forward at_left (at_n, tt);
-            back = spliced_back l put q left (c ∷ []) (n ∷ []) right replaced_spliced f.previous ps same_back s.back (prev_n, at_right);
-            loose = spliced_loose l put q left (c ∷ []) (n ∷ []) right replaced_spliced f.nexts ns same s.loose (λ x some. ap (λ z. get_or ns z None) (alone x c some) ∙ at_c);
-            marks = s.marks;
-            mark_forward = s.mark_forward;
-            free_once = s.free_once;
-            free_within = s.free_within;
-            free_count = s.free_count;
+            children = record {
+              spans_len = length-set f.spans q r ∙ s.spans_len;
+              nexts_len = ap length nexts ∙ length-set (set (linked f.nexts before (Some n)) n after) c None ∙ length-set (linked f.nexts before (Some n)) n after ∙ length-linked f.nexts before (Some n) ∙ s.nexts_len;
+              previous_len = ap length prevs ∙ length-set (linked f.previous after (Some n)) n before ∙ length-linked f.previous after (Some n) ∙ s.previous_len;
+              spans = spans_shown f.spans l put q r (let w = owner_within l s.links q c is in let e = s.spans_len in omega arith) s.spans replaced_others (made left right c (read ∙ ap span_of split_child.2.whole) before_is after_is ∙ ap span_of (sym replaced_here));
+              forward = spliced_forward l put q left (c ∷ []) (n ∷ []) right replaced_spliced f.nexts ns same s.forward at_left (at_n, tt);
+              back = spliced_back l put q left (c ∷ []) (n ∷ []) right replaced_spliced f.previous ps same_back s.back (prev_n, at_right);
+              loose = spliced_loose l put q left (c ∷ []) (n ∷ []) right replaced_spliced f.nexts ns same s.loose (λ x some. ap (λ z. get_or ns z None) (alone x c some) ∙ at_c);
+            };
+            marked = s.marked;
+            spare = s.spare;
           }
         where
           differ : n ≢ c
@@ -388,45 +378,45 @@ module _ (f : Store) (l : Links) (s : Shows f l) where
   alive-with_kind : (p x : ℕ) (k : Option PlaceKind) → p < PLACES → alive (with_kind l p k) x ≡ cond (is_some (cond (x == p) k (kind_at l x))) 1 0
   alive-with_kind p x k within = ap (λ (o : Option PlaceKind). cond (is_some o) 1 0) (kind-with_kind l s.links p x k within)
 
+  -- the free places where p has another kind, or none: only p comes to them or leaves them
+  free_after : (p : ℕ) (k : Option PlaceKind) (fs : List ℕ) → p < PLACES → times p fs + cond (is_some k) 1 0 ≡ 1 → ((x : ℕ) → x ≢ p → times x fs ≡ times x f.free) → length fs + cond (is_none (kind_at l p)) 1 0 ≡ length f.free + cond (is_none k) 1 0 → ShowsFree (set l.kinds p k) fs
+  free_after p k fs within here others long = record {
+    free_once = λ x low. elim (cases_eq x p) [
+      | inl same ↦
+          let e : times x fs ≡ times p fs = ap (λ z. times z fs) same in
+          let a : alive (with_kind l p k) x ≡ cond (is_some k) 1 0 = alive-with_kind p x k within ∙ rw (eq-eqb x p same) refl in
+          omega arith
+      | inr other ↦
+          let was = s.free_once x low in
+          let e = others x other in
+          let a : alive (with_kind l p k) x ≡ alive l x = alive-with_kind p x k within ∙ rw (ne_eqb x p other) refl in
+          omega arith
+    ];
+    free_within = λ x high. let was = s.free_within x high in let e = others x (λ same. let w = within in omega arith) in omega arith;
+    free_count =
+        let set_one = sum_by-set (λ (o : Option PlaceKind). cond (is_none o) 1 0) l.kinds p k None (let e = s.links.kinds_len in let w = within in omega arith) in
+        let was = s.free_count in
+        let e = long in
+        omega arith;
+  }
+
+  rekinds : (p : ℕ) (k : Option PlaceKind) (fs : List ℕ) → p < PLACES → (k ≡ None → IsBare l p) → ShowsFree (set l.kinds p k) fs → Shows (record f { kinds = set f.kinds p k; free = fs }) (with_kind l p k)
+  rekinds p k fs within bare spare = record {
+    links = with_kind_links l s.links p k within bare;
+    kinds = ap (λ z. set z p k) s.kinds;
+    parents = s.parents;
+    tallies = s.tallies;
+    notes = s.notes;
+    children = s.children;
+    marked = s.marked;
+    spare = spare;
+  }
+
   pub makes : (fs : List ℕ) (p : ℕ) (k : PlaceKind) → f.free ≡ fs ++ p ∷ [] → (p < PLACES) × (kind_at l p ≡ None) × Shows (record f { kinds = set f.kinds p (Some k); free = fs }) (with_kind l p (Some k))
   makes fs p k popped = (
     within,
     is_free,
-    record {
-      links = with_kind_links l s.links p (Some k) within (λ e. absurd (none-some k (sym e)));
-      kinds = ap (λ z. set z p (Some k)) s.kinds;
-      parents = s.parents;
-      tallies = s.tallies;
-      notes = s.notes;
-      spans_len = s.spans_len;
-      nexts_len = s.nexts_len;
-      previous_len = s.previous_len;
-      mark_nexts_len = s.mark_nexts_len;
-      spans = s.spans;
-      forward = s.forward;
-      back = s.back;
-      loose = s.loose;
-      marks = s.marks;
-      mark_forward = s.mark_forward;
-      free_once = λ x low. elim (cases_eq x p) [
-        | inl same ↦
-            let none : times x fs ≡ 0 = ap (λ z. times z fs) same ∙ left_out in
-            let one : alive (with_kind l p (Some k)) x ≡ 1 = alive-with_kind p x (Some k) within ∙ rw (eq-eqb x p same) refl in
-            omega arith
-        | inr other ↦
-            let was = s.free_once x low in
-            let e : times x f.free ≡ times x fs + 0 = counted x ∙ rw (ne_eqb p x (λ i. other (sym i))) refl in
-            let a : alive (with_kind l p (Some k)) x ≡ alive l x = alive-with_kind p x (Some k) within ∙ rw (ne_eqb x p other) refl in
-            omega arith
-      ];
-      free_within = λ x high. let was = s.free_within x high in let e = counted x in omega arith;
-      free_count =
-          let set_one = sum_by-set (λ (o : Option PlaceKind). cond (is_none o) 1 0) l.kinds p (Some k) None (let e = s.links.kinds_len in let w = within in omega arith) in
-          let none_one : ◌≡◌ {A = ℕ} (cond (is_none (kind_at l p)) 1 0) 1 = ap (λ (o : Option PlaceKind). cond (is_none o) 1 0) is_free in
-          let long = ap length popped ∙ length-append fs (p ∷ []) in
-          let was = s.free_count in
-          omega arith;
-    },
+    rekinds p (Some k) fs within (λ e. absurd (none-some k (sym e))) (free_after p (Some k) fs within (let e = left_out in omega arith) others long),
   )
     where
       counted : (x : ℕ) → times x f.free ≡ times x fs + (cond (p == x) 1 0 + 0)
@@ -442,7 +432,18 @@ module _ (f : Store) (l : Links) (s : Shows f l) where
       left_out = let once = s.free_once p within in let e = counted_p in omega arith
 
       is_free : kind_at l p ≡ None
-      is_free = dead (kind_at l p) (let once = s.free_once p within in let e = counted_p in omega arith)
+      is_free = not_alive (kind_at l p) (let once = s.free_once p within in let e = counted_p in omega arith)
+
+      others : (x : ℕ) → x ≢ p → times x fs ≡ times x f.free
+      others x other =
+          let e : times x f.free ≡ times x fs + 0 = counted x ∙ rw (ne_eqb p x (λ i. other (sym i))) refl in
+          omega arith
+
+      long : length fs + cond (is_none (kind_at l p)) 1 0 ≡ length f.free + 0
+      long =
+          let none_one : ◌≡◌ {A = ℕ} (cond (is_none (kind_at l p)) 1 0) 1 = ap (λ (o : Option PlaceKind). cond (is_none o) 1 0) is_free in
+          let e = ap length popped ∙ length-append fs (p ∷ []) in
+          omega arith
 
   -- a live place is among no free ones
   pub live_alive : (p : ℕ) → IsLive l p → alive l p ≡ 1
@@ -461,48 +462,7 @@ module _ (f : Store) (l : Links) (s : Shows f l) where
       omega arith
 
   pub frees : (fs : List ℕ) (p : ℕ) → IsLive l p → IsBare l p → fs ≡ f.free ++ p ∷ [] → Shows (record f { kinds = set f.kinds p None; free = fs }) (with_kind l p None)
-  frees fs p live is_bare pushed =
-      record {
-        links = with_kind_links l s.links p None within (λ e. is_bare);
-        kinds = ap (λ z. set z p None) s.kinds;
-        parents = s.parents;
-        tallies = s.tallies;
-        notes = s.notes;
-        spans_len = s.spans_len;
-        nexts_len = s.nexts_len;
-        previous_len = s.previous_len;
-        mark_nexts_len = s.mark_nexts_len;
-        spans = s.spans;
-        forward = s.forward;
-        back = s.back;
-        loose = s.loose;
-        marks = s.marks;
-        mark_forward = s.mark_forward;
-        free_once = λ x low. elim (cases_eq x p) [
-          | inl same ↦
-              let was = s.free_once p within in
-              let one = live_alive p live in
-              let e : times x fs ≡ times p f.free + (1 + 0) = ap (λ z. times z fs) same ∙ counted p ∙ rw (eq-eqb p p refl) refl in
-              let a : alive (with_kind l p None) x ≡ 0 = alive-with_kind p x None within ∙ rw (eq-eqb x p same) refl in
-              omega arith
-          | inr other ↦
-              let was = s.free_once x low in
-              let e : times x fs ≡ times x f.free + 0 = counted x ∙ rw (ne_eqb p x (λ i. other (sym i))) refl in
-              let a : alive (with_kind l p None) x ≡ alive l x = alive-with_kind p x None within ∙ rw (ne_eqb x p other) refl in
-              omega arith
-        ];
-        free_within = λ x high.
-            let was = s.free_within x high in
-            let w = within in
-            let e : times x fs ≡ times x f.free + 0 = counted x ∙ rw (ne_eqb p x (λ i. let h = i in omega arith)) refl in
-            omega arith;
-        free_count =
-            let set_one = sum_by-set (λ (o : Option PlaceKind). cond (is_none o) 1 0) l.kinds p None None (let e = s.links.kinds_len in let w = within in omega arith) in
-            let not_none = not_free (kind_at l p) live in
-            let long = ap length pushed ∙ length-append f.free (p ∷ []) in
-            let was = s.free_count in
-            omega arith;
-      }
+  frees fs p live is_bare pushed = rekinds p None fs within (λ e. is_bare) (free_after p None fs within here others long)
     where
       within : p < PLACES
       within = live_within l s.links p live
@@ -510,41 +470,28 @@ module _ (f : Store) (l : Links) (s : Shows f l) where
       counted : (x : ℕ) → times x fs ≡ times x f.free + (cond (p == x) 1 0 + 0)
       counted x = ap (times x) pushed ∙ times-split x p f.free []
 
+      here : times p fs + 0 ≡ 1
+      here =
+          let was = s.free_once p within in
+          let one = live_alive p live in
+          let e : times p fs ≡ times p f.free + 1 = counted p ∙ rw (eq-eqb p p refl) refl in
+          omega arith
+
+      others : (x : ℕ) → x ≢ p → times x fs ≡ times x f.free
+      others x other =
+          let e : times x fs ≡ times x f.free + 0 = counted x ∙ rw (ne_eqb p x (λ i. other (sym i))) refl in
+          omega arith
+
+      long : length fs + cond (is_none (kind_at l p)) 1 0 ≡ length f.free + 1
+      long = let not_none = not_free (kind_at l p) live in let e = ap length pushed ∙ length-append f.free (p ∷ []) in omega arith
+
   pub renames : (p : ℕ) (k : PlaceKind) → IsLive l p → Shows (record f { kinds = set f.kinds p (Some k) }) (with_kind l p (Some k))
   renames p k live =
-      record {
-        links = with_kind_links l s.links p (Some k) within (λ e. absurd (none-some k (sym e)));
-        kinds = ap (λ z. set z p (Some k)) s.kinds;
-        parents = s.parents;
-        tallies = s.tallies;
-        notes = s.notes;
-        spans_len = s.spans_len;
-        nexts_len = s.nexts_len;
-        previous_len = s.previous_len;
-        mark_nexts_len = s.mark_nexts_len;
-        spans = s.spans;
-        forward = s.forward;
-        back = s.back;
-        loose = s.loose;
-        marks = s.marks;
-        mark_forward = s.mark_forward;
-        free_once = λ x low.
-            let was = s.free_once x low in
-            let a : alive (with_kind l p (Some k)) x ≡ alive l x = alive-with_kind p x (Some k) within ∙ elim (cases_eq x p) [
-              | inl same ↦ rw (eq-eqb x p same) (sym (ap (alive l) same ∙ live_alive p live))
-              | inr other ↦ rw (ne_eqb x p other) refl
-            ] in
-            omega arith;
-        free_within = s.free_within;
-        free_count =
-            let set_one = sum_by-set (λ (o : Option PlaceKind). cond (is_none o) 1 0) l.kinds p (Some k) None (let e = s.links.kinds_len in let w = within in omega arith) in
-            let not_none = not_free (kind_at l p) live in
-            let was = s.free_count in
-            omega arith;
-      }
-    where
-      within : p < PLACES
-      within = live_within l s.links p live
+      let within = live_within l s.links p live in
+      let was = s.free_once p within in
+      let one = live_alive p live in
+      let not_none = not_free (kind_at l p) live in
+      rekinds p (Some k) f.free within (λ e. absurd (none-some k (sym e))) (free_after p (Some k) f.free within (omega arith) (λ x other. refl) (omega arith))
 
   -- ---- marks
 
@@ -558,18 +505,8 @@ module _ (f : Store) (l : Links) (s : Shows f l) where
           | inr some ↦ rw (ne_eqb (tally_at l p + note_at l p) 0 some) (ne_eqb (times p l.marked) 0 (λ e. some (omega arith)))
         ]
 
-    joined_span : r ≡ span_of (joined p l.marked)
-    joined_span = span ∙ ap (λ b. span_of (cond b (l.marked ++ p ∷ []) l.marked)) (sym same_test)
-
     joined_nexts : ms ≡ cond (times p l.marked == 0) (set (linked f.mark_nexts f.marks.last (Some p)) p None) f.mark_nexts
     joined_nexts = nexts ∙ ap (λ b. cond b (set (linked f.mark_nexts f.marks.last (Some p)) p None) f.mark_nexts) (sym same_test)
-
-    joined_len : length ms ≡ PLACES
-    joined_len =
-        ap length joined_nexts ∙ elim (cases_Bool (times p l.marked == 0)) [
-          | inl t ↦ rw t (length-set (linked f.mark_nexts f.marks.last (Some p)) p None ∙ length-linked f.mark_nexts f.marks.last (Some p) ∙ s.mark_nexts_len)
-          | inr t ↦ rw t s.mark_nexts_len
-        ]
 
     joined_forward : Follow ms (joined p l.marked) None
     joined_forward =
@@ -591,6 +528,16 @@ module _ (f : Store) (l : Links) (s : Shows f l) where
         longer : List (Option ℕ)
         longer = linked f.mark_nexts (last_or l.marked None) (Some p)
 
+    joins : ShowsMarked (joined p l.marked) r ms
+    joins = record {
+      mark_nexts_len = ap length joined_nexts ∙ elim (cases_Bool (times p l.marked == 0)) [
+        | inl t ↦ rw t (length-set (linked f.mark_nexts f.marks.last (Some p)) p None ∙ length-linked f.mark_nexts f.marks.last (Some p) ∙ s.mark_nexts_len)
+        | inr t ↦ rw t s.mark_nexts_len
+      ];
+      marks = span ∙ ap (λ b. span_of (cond b (l.marked ++ p ∷ []) l.marked)) (sym same_test);
+      mark_forward = joined_forward;
+    }
+
     pub raises : (t : ℕ) → t ≡ tally_at l p → Shows (record f { tallies = set f.tallies p (t + 1); marks = r; mark_nexts = ms }) (raised l p)
     raises t is =
         record {
@@ -599,19 +546,9 @@ module _ (f : Store) (l : Links) (s : Shows f l) where
           parents = s.parents;
           tallies = λ i. set (s.tallies i) p (is i + 1);
           notes = s.notes;
-          spans_len = s.spans_len;
-          nexts_len = s.nexts_len;
-          previous_len = s.previous_len;
-          mark_nexts_len = joined_len;
-          spans = s.spans;
-          forward = s.forward;
-          back = s.back;
-          loose = s.loose;
-          marks = joined_span;
-          mark_forward = joined_forward;
-          free_once = s.free_once;
-          free_within = s.free_within;
-          free_count = s.free_count;
+          children = s.children;
+          marked = joins;
+          spare = s.spare;
         }
 
     pub writes_note : (note : ℕ) → note ≢ 0 → Shows (record f { notes = set f.notes p note; marks = r; mark_nexts = ms }) (noted l p note)
@@ -622,19 +559,9 @@ module _ (f : Store) (l : Links) (s : Shows f l) where
           parents = s.parents;
           tallies = s.tallies;
           notes = ap (λ z. set z p note) s.notes;
-          spans_len = s.spans_len;
-          nexts_len = s.nexts_len;
-          previous_len = s.previous_len;
-          mark_nexts_len = joined_len;
-          spans = s.spans;
-          forward = s.forward;
-          back = s.back;
-          loose = s.loose;
-          marks = joined_span;
-          mark_forward = joined_forward;
-          free_once = s.free_once;
-          free_within = s.free_within;
-          free_count = s.free_count;
+          children = s.children;
+          marked = joins;
+          spare = s.spare;
         }
 
   pub unmarks : (p : ℕ) (rest : List ℕ) (r : Span) → l.marked ≡ p ∷ rest → r ≡ span_of rest → Shows (record f { tallies = set f.tallies p 0; notes = set f.notes p 0; marks = r }) (unmarked_first l (p ∷ rest))
@@ -645,19 +572,13 @@ module _ (f : Store) (l : Links) (s : Shows f l) where
         parents = s.parents;
         tallies = ap (λ z. set z p 0) s.tallies;
         notes = ap (λ z. set z p 0) s.notes;
-        spans_len = s.spans_len;
-        nexts_len = s.nexts_len;
-        previous_len = s.previous_len;
-        mark_nexts_len = s.mark_nexts_len;
-        spans = s.spans;
-        forward = s.forward;
-        back = s.back;
-        loose = s.loose;
-        marks = span;
-        mark_forward = (subst (λ z. Follow f.mark_nexts z None) is s.mark_forward).1;
-        free_once = s.free_once;
-        free_within = s.free_within;
-        free_count = s.free_count;
+        children = s.children;
+        marked = record {
+          mark_nexts_len = s.mark_nexts_len;
+          marks = span;
+          mark_forward = (subst (λ z. Follow f.mark_nexts z None) is s.mark_forward).1;
+        };
+        spare = s.spare;
       }
 
 -- ---- all places free
@@ -698,17 +619,23 @@ starts f kinds parents spans nexts previous tallies notes marks mark_nexts once 
       parents = parents;
       tallies = tallies;
       notes = notes;
-      spans_len = ap length spans ∙ length-replicate {A = Span} PLACES (span_of []);
-      nexts_len = ap length nexts ∙ length-replicate {A = Option ℕ} PLACES None;
-      previous_len = ap length previous ∙ length-replicate {A = Option ℕ} PLACES None;
-      mark_nexts_len = ap length mark_nexts ∙ length-replicate {A = Option ℕ} PLACES None;
-      spans = λ p. ap (λ z. get_or z p (span_of [])) spans ∙ get_or-all PLACES p (span_of []) ∙ ap span_of (sym (get_or-all PLACES p []));
-      forward = λ p. subst (λ z. Follow f.nexts z None) (sym (get_or-all PLACES p [])) tt;
-      back = λ p. subst (λ z. Precede f.previous None z) (sym (get_or-all PLACES p [])) tt;
-      loose = λ c none. ap (λ z. get_or z c None) nexts ∙ get_or-all PLACES c None;
-      marks = marks;
-      mark_forward = tt;
-      free_once = λ p low. let e = once p low in let a : ◌≡◌ {A = ℕ} (cond (is_some (get_or (all_none PLACES) p None)) 1 0) 0 = ap (λ (o : Option PlaceKind). cond (is_some o) 1 0) (get_or-all PLACES p None) in omega arith;
-      free_within = within;
-      free_count = count ∙ sym (count-all PLACES);
+      children = record {
+        spans_len = ap length spans ∙ length-replicate {A = Span} PLACES (span_of []);
+        nexts_len = ap length nexts ∙ length-replicate {A = Option ℕ} PLACES None;
+        previous_len = ap length previous ∙ length-replicate {A = Option ℕ} PLACES None;
+        spans = λ p. ap (λ z. get_or z p (span_of [])) spans ∙ get_or-all PLACES p (span_of []) ∙ ap span_of (sym (get_or-all PLACES p []));
+        forward = λ p. subst (λ z. Follow f.nexts z None) (sym (get_or-all PLACES p [])) tt;
+        back = λ p. subst (λ z. Precede f.previous None z) (sym (get_or-all PLACES p [])) tt;
+        loose = λ c none. ap (λ z. get_or z c None) nexts ∙ get_or-all PLACES c None;
+      };
+      marked = record {
+        mark_nexts_len = ap length mark_nexts ∙ length-replicate {A = Option ℕ} PLACES None;
+        marks = marks;
+        mark_forward = tt;
+      };
+      spare = record {
+        free_once = λ p low. let e = once p low in let a : ◌≡◌ {A = ℕ} (cond (is_some (get_or (all_none PLACES) p None)) 1 0) 0 = ap (λ (o : Option PlaceKind). cond (is_some o) 1 0) (get_or-all PLACES p None) in omega arith;
+        free_within = within;
+        free_count = count ∙ sym (count-all PLACES);
+      };
     }

@@ -22,6 +22,12 @@ none_either : {X : Type 0} (b : Bool) (d v : X) → v ≡ d → cond b d v ≡ d
 none_either true d v e = refl
 none_either false d v e = e
 
+-- ---- places live and free
+
+pub not_alive : {X : Type 0} → (o : Option X) → ◌≡◌ {A = ℕ} (cond (is_some o) 1 0) 0 → o ≡ None
+not_alive None e = refl
+not_alive (Some k) e = absurd (omega arith)
+
 -- ---- numbers of places
 
 pub some_within : {X : Type 0} → (xs : List (Option X)) (n p : ℕ) → length xs ≡ n → IsSome (get_or xs p None) → p < n
@@ -326,69 +332,46 @@ module _ (l : Links) (ok : AreLinks l) where
 
   -- ---- marks
 
-  pub raised_links : (p : ℕ) → IsLive l p → AreLinks (raised l p)
-  raised_links p live = record {
+  -- a live place is marked from now on, whatever its tally and its note are, if they aren't both 0
+  marked_links : (p : ℕ) (tallies notes : List ℕ) → IsLive l p → length tallies ≡ PLACES → length notes ≡ PLACES → 0 < get_or tallies p 0 + get_or notes p 0 → ((x : ℕ) → x ≢ p → get_or tallies x 0 ≡ tally_at l x) → ((x : ℕ) → x ≢ p → get_or notes x 0 ≡ note_at l x) → AreLinks (record l { tallies = tallies; notes = notes; marked = joined p l.marked })
+  marked_links p tallies notes live tallies_len notes_len some tally note = record {
     kinds_len = ok.kinds_len;
     parents_len = ok.parents_len;
     children_len = ok.children_len;
-    tallies_len = length-set l.tallies p (tally_at l p + 1) ∙ ok.tallies_len;
-    notes_len = ok.notes_len;
+    tallies_len = tallies_len;
+    notes_len = notes_len;
     agree = ok.agree;
     marks = λ x. elim (cases_eq x p) [
       | inl same ↦
-          let t : tally_at (raised l p) x ≡ tally_at l p + 1 = tally x ∙ rw (eq-eqb x p same) refl in
+          let here : 0 < get_or tallies x 0 + get_or notes x 0 = subst (λ z. 0 < get_or tallies z 0 + get_or notes z 0) (sym same) some in
           let one : times x (joined p l.marked) ≡ 1 = ap (λ z. times z (joined p l.marked)) same ∙ times-joined-same p l.marked (mark_once p) in
           omega arith
       | inr other ↦
-          let t : tally_at (raised l p) x ≡ tally_at l x = tally x ∙ rw (ne_eqb x p other) refl in
+          let t = tally x other in
+          let n = note x other in
           let e = times-joined-other x p l.marked other in
           let m = ok.marks x in
           omega arith
     ];
     bare = λ x free.
         let b = ok.bare x free in
-        record {
-          no_parent = b.no_parent;
-          no_children = b.no_children;
-          no_tally = tally x ∙ rw (ne_eqb x p (live_not_free p x live free)) b.no_tally;
-          no_note = b.no_note;
-        };
+        let other = live_not_free p x live free in
+        record { no_parent = b.no_parent; no_children = b.no_children; no_tally = tally x other ∙ b.no_tally; no_note = note x other ∙ b.no_note };
   }
-    where
-      tally : (x : ℕ) → tally_at (raised l p) x ≡ cond (x == p) (tally_at l p + 1) (tally_at l x)
-      tally x = get_or-set l.tallies p x (tally_at l p + 1) 0 (let w = live_within p live in let e = ok.tallies_len in omega arith)
+
+  pub raised_links : (p : ℕ) → IsLive l p → AreLinks (raised l p)
+  raised_links p live =
+      let e = get_or-set_same l.tallies p (tally_at l p + 1) 0 (let w = live_within p live in let long = ok.tallies_len in omega arith) in
+      marked_links p (set l.tallies p (tally_at l p + 1)) l.notes live (length-set l.tallies p (tally_at l p + 1) ∙ ok.tallies_len) ok.notes_len (omega arith)
+      (λ x other. get_or-set_other l.tallies p x (tally_at l p + 1) 0 other)
+      (λ x other. refl)
 
   pub noted_links : (p note : ℕ) → IsLive l p → note ≢ 0 → AreLinks (noted l p note)
-  noted_links p note live some = record {
-    kinds_len = ok.kinds_len;
-    parents_len = ok.parents_len;
-    children_len = ok.children_len;
-    tallies_len = ok.tallies_len;
-    notes_len = length-set l.notes p note ∙ ok.notes_len;
-    agree = ok.agree;
-    marks = λ x. elim (cases_eq x p) [
-      | inl same ↦
-          let t : note_at (noted l p note) x ≡ note = is x ∙ rw (eq-eqb x p same) refl in
-          let one : times x (joined p l.marked) ≡ 1 = ap (λ z. times z (joined p l.marked)) same ∙ times-joined-same p l.marked (mark_once p) in
-          omega arith
-      | inr other ↦
-          let t : note_at (noted l p note) x ≡ note_at l x = is x ∙ rw (ne_eqb x p other) refl in
-          let e = times-joined-other x p l.marked other in
-          let m = ok.marks x in
-          omega arith
-    ];
-    bare = λ x free.
-        let b = ok.bare x free in
-        record {
-          no_parent = b.no_parent;
-          no_children = b.no_children;
-          no_tally = b.no_tally;
-          no_note = is x ∙ rw (ne_eqb x p (live_not_free p x live free)) b.no_note;
-        };
-  }
-    where
-      is : (x : ℕ) → note_at (noted l p note) x ≡ cond (x == p) note (note_at l x)
-      is x = get_or-set l.notes p x note 0 (let w = live_within p live in let e = ok.notes_len in omega arith)
+  noted_links p note live some =
+      let e = get_or-set_same l.notes p note 0 (let w = live_within p live in let long = ok.notes_len in omega arith) in
+      marked_links p l.tallies (set l.notes p note) live ok.tallies_len (length-set l.notes p note ∙ ok.notes_len) (omega arith)
+      (λ x other. refl)
+      (λ x other. get_or-set_other l.notes p x note 0 other)
 
   pub unmarked_links : (p : ℕ) (rest : List ℕ) → l.marked ≡ p ∷ rest → AreLinks (unmarked_first l (p ∷ rest))
   unmarked_links p rest is = record {
@@ -417,8 +400,8 @@ module _ (l : Links) (ok : AreLinks l) where
         record {
           no_parent = b.no_parent;
           no_children = b.no_children;
-          no_tally = tally x ∙ zero_either (x == p) (tally_at l x) b.no_tally;
-          no_note = note x ∙ zero_either (x == p) (note_at l x) b.no_note;
+          no_tally = tally x ∙ none_either (x == p) 0 (tally_at l x) b.no_tally;
+          no_note = note x ∙ none_either (x == p) 0 (note_at l x) b.no_note;
         };
   }
     where
@@ -430,7 +413,3 @@ module _ (l : Links) (ok : AreLinks l) where
 
       note : (x : ℕ) → get_or (set l.notes p 0) x 0 ≡ cond (x == p) 0 (note_at l x)
       note x = get_or-set l.notes p x 0 0 (let w = here in let e = ok.notes_len in omega arith)
-
-      zero_either : (b : Bool) (v : ℕ) → v ≡ 0 → cond b 0 v ≡ 0
-      zero_either true v e = refl
-      zero_either false v e = e

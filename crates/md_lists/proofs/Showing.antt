@@ -1,16 +1,17 @@
 -- Store that keep links: what is read of them.
 use Rattle.std.proofs.Common.{vec_len, ◌≡◌, ℕ, ◌<◌, List, [], map, length, get_or, Option, Some, None, refl, sym, ◌∙◌, ap, subst, arith}
 use Rattle.std.proofs.lemmas.List.{ext_get_or, get_or-map, length-map, get_or_read}
+use Rattle.md_lists.specs.declared.kinds.PlaceKind.{PlaceKind}
 use Rattle.md_lists.specs.declared.span.Span.{Span}
 use Rattle.md_lists.specs.declared.TheConstants.{PLACES}
 use Rattle.md_lists.specs.declared.lists.Lists.TheInside.{Inside}
 use Rattle.md_lists.specs.Words.{behind}
 use Rattle.md_lists.specs.Spans.{span_of, span_list}
-use Rattle.md_lists.specs.Links.{Links, parent_at, children_at, siblings, AreLinks}
+use Rattle.md_lists.specs.Links.{Links, kind_at, parent_at, children_at, tally_at, note_at, siblings, IsLive, AreLinks}
 use Rattle.md_lists.specs.Store.{Store, links_of, Shows}
 use Rattle.md_lists.specs.Kept.{store_of, links_kept, IsKept}
 use Rattle.md_lists.proofs.Following.{follow_behind, span_list-is}
-use Rattle.md_lists.proofs.LinkLaws.{parent_child}
+use Rattle.md_lists.proofs.LinkLaws.{live_within, parent_child}
 
 -- fields show one value
 pub shown : (f : Store) (l : Links) → Shows f l → links_of f ≡ l
@@ -61,24 +62,70 @@ sizes a l s = record {
   mark_nexts_size = a.mark_nexts.ok.0 ∙ s.mark_nexts_len;
 }
 
+-- a place has an item in each field
+pub record HasItems (a : Inside) (p : ℕ) : Type 0 where
+  pub in_kinds : p < vec_len a.kinds
+  pub in_parents : p < vec_len a.parents
+  pub in_spans : p < vec_len a.spans
+  pub in_nexts : p < vec_len a.nexts
+  pub in_previous : p < vec_len a.previous
+  pub in_tallies : p < vec_len a.tallies
+  pub in_notes : p < vec_len a.notes
+  pub in_mark_nexts : p < vec_len a.mark_nexts
+
+pub place_items : (a : Inside) (l : Links) → Shows (store_of a) l → (p : ℕ) → p < PLACES → HasItems a p
+place_items a l s p within =
+    let z = sizes a l s in
+    let w = within in
+    record {
+      in_kinds = let e = z.kinds_size in omega arith;
+      in_parents = let e = z.parents_size in omega arith;
+      in_spans = let e = z.spans_size in omega arith;
+      in_nexts = let e = z.nexts_size in omega arith;
+      in_previous = let e = z.previous_size in omega arith;
+      in_tallies = let e = z.tallies_size in omega arith;
+      in_notes = let e = z.notes_size in omega arith;
+      in_mark_nexts = let e = z.mark_nexts_size in omega arith;
+    }
+
 -- an item that is read, where the list is another by an equation
 pub read_as : {X : Type 0} → (xs ys : List X) (p n : ℕ) (x d : X) → xs ≡ ys → length ys ≡ n → p < n → x ≡ get_or xs p x → x ≡ get_or ys p d
 read_as xs ys p n x d same long within is =
     let e = ap length same in
     get_or_read xs p x (omega arith) is d ∙ ap (λ l. get_or l p d) same
 
-module _ (a : Inside) (l : Links) (kept : IsKept a) (is : links_kept a ≡ l) (p : ℕ) where
-  pub span_read : p < PLACES → (r : Span) → r ≡ get_or a.spans.items p r → r ≡ span_of (children_at l p)
-  span_read within r read = let s = opened a l kept is in let e = s.spans_len in get_or_read a.spans.items p r (omega arith) read (span_of []) ∙ s.spans p
+-- what is read of a live place
+module _ (a : Inside) (l : Links) (kept : IsKept a) (is : links_kept a ≡ l) (p : ℕ) (live : IsLive l p) where
+  abbrev s : Shows (store_of a) l
+  s = opened a l kept is
 
-  pub next_read : p < PLACES → (o : Option ℕ) → o ≡ get_or a.nexts.items p o → o ≡ behind p (siblings l (parent_at l p))
-  next_read within o read =
-      let s = opened a l kept is in
+  within : p < PLACES
+  within = live_within l s.links p live
+
+  pub live_items : HasItems a p
+  live_items = place_items a l s p within
+
+  pub kind_read : (o : Option PlaceKind) → o ≡ get_or a.kinds.items p o → o ≡ kind_at l p
+  kind_read o read = read_as a.kinds.items l.kinds p PLACES o None s.kinds s.links.kinds_len within read
+
+  pub parent_read : (o : Option ℕ) → o ≡ get_or a.parents.items p o → o ≡ parent_at l p
+  parent_read o read = read_as a.parents.items l.parents p PLACES o None s.parents s.links.parents_len within read
+
+  pub tally_read : (t : ℕ) → t ≡ get_or a.tallies.items p t → t ≡ tally_at l p
+  tally_read t read = read_as a.tallies.items l.tallies p PLACES t 0 s.tallies s.links.tallies_len within read
+
+  pub note_read : (n : ℕ) → n ≡ get_or a.notes.items p n → n ≡ note_at l p
+  note_read n read = read_as a.notes.items l.notes p PLACES n 0 s.notes s.links.notes_len within read
+
+  pub span_read : (r : Span) → r ≡ get_or a.spans.items p r → r ≡ span_of (children_at l p)
+  span_read r read = let w = within in let e = s.spans_len in get_or_read a.spans.items p r (omega arith) read (span_of []) ∙ s.spans p
+
+  pub next_read : (o : Option ℕ) → o ≡ get_or a.nexts.items p o → o ≡ behind p (siblings l (parent_at l p))
+  next_read o read =
+      let w = within in
       let e = s.nexts_len in
       get_or_read a.nexts.items p o (omega arith) read None ∙ go (parent_at l p) refl
     where
       go : (q : Option ℕ) → parent_at l p ≡ q → get_or a.nexts.items p None ≡ behind p (siblings l q)
-      go None none = (opened a l kept is).loose p none
-      go (Some q) some =
-          let s = opened a l kept is in
-          follow_behind a.nexts.items (children_at l q) p (s.forward q) (let one = parent_child l s.links q p some in omega arith)
+      go None none = s.loose p none
+      go (Some q) some = follow_behind a.nexts.items (children_at l q) p (s.forward q) (let one = parent_child l s.links q p some in omega arith)

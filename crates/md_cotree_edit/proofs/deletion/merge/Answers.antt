@@ -31,13 +31,6 @@ returns-then-child_count-clause-steps g c =
     λ d can.
     let a = low_count c.args.lists.now c.requires.links c.args.root c.args.top c.args.child d can in
     let b = high_count c.args.lists.now c.requires.links c.args.root c.args.top c.args.child d can in
-    let e = c.child_count.ensures.count in
-    let f = c.child_count-2.ensures.count in
-    let s = c.child_count.ensures.step in
-    let t = c.child_count-2.ensures.step in
-    let h = c.if-child_count.true in
-    let u = c.move_all.ensures.steps in
-    let v = c.free.ensures.step in
     omega arith
 
 pub move_all-requires-2-clause-trees : goal.move_all-requires-2-clause-trees
@@ -59,11 +52,4 @@ returns-clause-steps g c =
     λ d can.
     let a = low_count c.args.lists.now c.requires.links c.args.root c.args.top c.args.child d can in
     let b = high_count c.args.lists.now c.requires.links c.args.root c.args.top c.args.child d can in
-    let e = c.child_count.ensures.count in
-    let f = c.child_count-2.ensures.count in
-    let s = c.child_count.ensures.step in
-    let t = c.child_count-2.ensures.step in
-    let h = c.if-child_count.false in
-    let u = c.move_all-2.ensures.steps in
-    let v = c.replace.ensures.steps in
     omega arith

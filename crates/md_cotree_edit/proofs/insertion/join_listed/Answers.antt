@@ -3,7 +3,7 @@ use Rattle.std.specs.Prelude.{IfSome}
 use Rattle.md_lists.specs.Words.{times}
 use Rattle.md_cotree_edit.specs.Marks.{IsTaken}
 use Rattle.md_cotree_edit.proofs.Still.{still_trans}
-use Rattle.md_cotree_edit.proofs.NewVertex.{decided_none, grow_marks, grow_view, grow_take, grow_fits, grow_hits, grow_none, grow_same, marked_room, grown}
+use Rattle.md_cotree_edit.proofs.NewVertex.{decided_none, grow_marks, grow_view, grow_take, grow_fits, grow_none, grow_bound, grow_same, marked_room, grown}
 use Rattle.md_cotree_edit.proofs.insertion.join_listed.Goals as goal
 
 pub mark_all-requires-clause-tree : goal.mark_all-requires-clause-tree
@@ -48,13 +48,7 @@ returns-in_default-clause-bound g c =
     let t = c.requires.tree in
     let links = c.spare-spare.ensures.links in
     let told = c.mark_all.ensures.told t.0 (grow_marks c.args.tree.now c.args.x c.args.neighbours.now t.0 t.1 links c.deref.result.now c.deref.ensures.value) in
-    let steps =
-    c.take_in.ensures.steps (grow_view c.args.tree.now c.args.x c.args.neighbours.now t.0 t.1 links c.mark_all.new.lists c.mark_all.ensures.still told)
-    (grow_take c.args.tree.now c.args.x c.args.neighbours.now t.0 t.1 links c.mark_all.new.lists c.mark_all.ensures.still told c.requires.not_all)
-    (grow_none c.args.tree.now c.args.x c.args.neighbours.now t.0 t.1 links c.is_empty-none.result (decided_none c.is_empty-none.result c.args.neighbours.now c.is_empty-none.ensures)) in
-    let hits = grow_hits c.args.tree.now c.args.x c.args.neighbours.now t.0 t.1 links in
-    let marked = c.mark_all.ensures.steps in
-    omega arith
+    grow_bound c.args.tree.now c.args.x c.args.neighbours.now t.0 t.1 links c.mark_all.new.lists c.mark_all.ensures.still told c.requires.not_all c.is_empty-none.result (decided_none c.is_empty-none.result c.args.neighbours.now c.is_empty-none.ensures) _ _ _ c.mark_all.ensures.steps c.take_in.ensures.steps
 
 pub overflow_add-tree : goal.overflow_add-tree
 overflow_add-tree g c =
@@ -78,10 +72,4 @@ returns-clause-bound g c =
     let t = c.requires.tree in
     let links = c.spare-spare.ensures.links in
     let told = c.mark_all.ensures.told t.0 (grow_marks c.args.tree.now c.args.x c.args.neighbours.now t.0 t.1 links c.deref.result.now c.deref.ensures.value) in
-    let steps =
-    c.take_in.ensures.steps (grow_view c.args.tree.now c.args.x c.args.neighbours.now t.0 t.1 links c.mark_all.new.lists c.mark_all.ensures.still told)
-    (grow_take c.args.tree.now c.args.x c.args.neighbours.now t.0 t.1 links c.mark_all.new.lists c.mark_all.ensures.still told c.requires.not_all)
-    (grow_none c.args.tree.now c.args.x c.args.neighbours.now t.0 t.1 links c.is_empty-none.result (decided_none c.is_empty-none.result c.args.neighbours.now c.is_empty-none.ensures)) in
-    let hits = grow_hits c.args.tree.now c.args.x c.args.neighbours.now t.0 t.1 links in
-    let marked = c.mark_all.ensures.steps in
-    omega arith
+    grow_bound c.args.tree.now c.args.x c.args.neighbours.now t.0 t.1 links c.mark_all.new.lists c.mark_all.ensures.still told c.requires.not_all c.is_empty-none.result (decided_none c.is_empty-none.result c.args.neighbours.now c.is_empty-none.ensures) _ _ _ c.mark_all.ensures.steps c.take_in.ensures.steps

@@ -1,19 +1,11 @@
-use Rattle.std.proofs.Common.{arith}
-use Rattle.md_lists.proofs.LinkLaws.{live_within}
-use Rattle.md_lists.proofs.Showing.{opened, sizes, next_read}
+use Rattle.md_lists.proofs.Showing.{opened, live_items, next_read}
 use Rattle.md_lists.proofs.lists.Lists.next_sibling.Goals as goal
 
 pub index-requires : goal.index-requires
-index-requires g c =
-    let s = opened c.self.inside c.args.self.now c.self.invariant c.self.view_is in
-    let z = sizes c.self.inside c.args.self.now s in
-    let w = live_within c.args.self.now s.links c.args.p c.requires in
-    omega arith
+index-requires g c = (live_items c.self.inside c.args.self.now c.self.invariant c.self.view_is c.args.p c.requires).in_nexts
 
 pub returns-clause-next : goal.returns-clause-next
-returns-clause-next g c =
-    let s = opened c.self.inside c.args.self.now c.self.invariant c.self.view_is in
-    next_read c.self.inside c.args.self.now c.self.invariant c.self.view_is c.args.p (live_within c.args.self.now s.links c.args.p c.requires) _ c.index.ensures
+returns-clause-next g c = next_read c.self.inside c.args.self.now c.self.invariant c.self.view_is c.args.p c.requires _ c.index.ensures
 
 pub returns-clause-links : goal.returns-clause-links
 returns-clause-links g c = (opened c.self.inside c.args.self.now c.self.invariant c.self.view_is).links

@@ -1,19 +1,11 @@
-use Rattle.std.proofs.Common.{None, arith}
-use Rattle.md_lists.proofs.LinkLaws.{live_within}
-use Rattle.md_lists.proofs.Showing.{opened, sizes, read_as}
+use Rattle.md_lists.proofs.Showing.{opened, live_items, parent_read}
 use Rattle.md_lists.proofs.lists.Lists.parent.Goals as goal
 
 pub index-requires : goal.index-requires
-index-requires g c =
-    let s = opened c.self.inside c.args.self.now c.self.invariant c.self.view_is in
-    let z = sizes c.self.inside c.args.self.now s in
-    let w = live_within c.args.self.now s.links c.args.p c.requires in
-    omega arith
+index-requires g c = (live_items c.self.inside c.args.self.now c.self.invariant c.self.view_is c.args.p c.requires).in_parents
 
 pub returns-clause-parent : goal.returns-clause-parent
-returns-clause-parent g c =
-    let s = opened c.self.inside c.args.self.now c.self.invariant c.self.view_is in
-    read_as _ _ c.args.p _ _ None s.parents s.links.parents_len (live_within c.args.self.now s.links c.args.p c.requires) c.index.ensures
+returns-clause-parent g c = parent_read c.self.inside c.args.self.now c.self.invariant c.self.view_is c.args.p c.requires _ c.index.ensures
 
 pub returns-clause-links : goal.returns-clause-links
 returns-clause-links g c = (opened c.self.inside c.args.self.now c.self.invariant c.self.view_is).links
