@@ -6,7 +6,7 @@ ghost use Rattle.md_io.specs.Count.{count_up};
 ghost use Rattle.md_io.specs.Front.{AppendsFront, Begins};
 ghost use Rattle.md_io.specs.StdSink.{IsWriterPut};
 
-use crate::system::write_whole;
+use crate::system::{flushed, put_whole};
 use crate::{PutFault, Sink};
 use std::alloc::Global;
 use std::io::{BufWriter, Write};
@@ -71,22 +71,11 @@ impl<W: Write + Drop> Sink for GatheringSink<W> {
     ghost begun = { λ sink. begins_more _ (writer_buffer sink.writer) };
 
     fn put(&mut self, piece: &[u8]) -> Result<(), PutFault> {
-        if piece.is_empty() {
-            return Ok(());
-        }
-        if !self.broken && write_whole(&mut self.writer, piece) {
-            return Ok(());
-        }
-        self.faults = self.faults.saturating_add(1);
-        Err(PutFault::Failed)
+        put_whole(&mut self.writer, self.broken, &mut self.faults, piece)
     }
 
     fn flush(&mut self) -> Result<(), PutFault> {
-        if !self.broken && self.writer.flush().is_ok() {
-            return Ok(());
-        }
-        self.broken = true;
-        self.faults = self.faults.saturating_add(1);
-        Err(PutFault::Failed)
+        let done = !self.broken && self.writer.flush().is_ok();
+        flushed(done, &mut self.broken, &mut self.faults)
     }
 }

@@ -189,7 +189,7 @@ pub trait Sink {
 
         // A put neither makes a failed flush good nor is one.
         ensures broken { IsTrue (broken self.old) → 0 < length piece.now → ¬ IsOk result }
-        ensures broken_stays { IsTrue (broken self.old) → IsTrue (broken self.new) }
+        ensures broken_same { broken self.new ≡ broken self.old }
         ensures gives { put_gives self.old piece.now result self.new };
 
     /// Hands all that was taken to the device. It is no put.
@@ -208,9 +208,10 @@ pub trait Sink {
         ensures ok_faults { OnOk result (faults self.new ≡ faults self.old) }
         ensures wants { wants self.new ≡ wants self.old }
 
-        // It fails for good.
+        // It fails for good, and where it succeeds no flush failed before.
         ensures broken { OnErr result (IsTrue (broken self.new)) }
         ensures broken_stays { IsTrue (broken self.old) → ¬ IsOk result }
+        ensures ok_broken { OnOk result (broken self.new ≡ broken self.old) }
         ensures gives { flush_gives self.old result self.new };
 
     // What has reached the device is a beginning of what was taken.

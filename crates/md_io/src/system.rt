@@ -1,5 +1,5 @@
 //! Files of the system, and a sink over a writer.
-ghost use Rattle.std.specs.Prelude.{◌≡◌, ℕ, ◌+◌, ◌-◌, ◌^◌, ◌<◌, ◌≤◌, List, [], ◌++◌, Bool, false, Option, None, Some, length, take, drop, IsTrue, IsOk, IfOk, OnOk, OnErr, IfSome, OnSome, IfNone, IsErrOf, IsOkUnless};
+ghost use Rattle.std.specs.Prelude.{◌≡◌, ℕ, ◌+◌, ◌-◌, ◌^◌, ◌<◌, ◌≤◌, ◌↔◌, List, [], ◌++◌, Bool, false, not, Option, None, Some, length, take, drop, IsTrue, IsOk, IfOk, OnOk, OnErr, IfSome, OnSome, IfNone, IsErrOf, IsOkUnless};
 ghost use Rattle.std.specs.Io.{ReadsAtMost, appended_bytes};
 ghost use Rattle.std.specs.Io.KnownBytes.{Appends, Keeps, Consumes, IsAtEnd};
 ghost use Rattle.md_io.specs.Told.{untold};
@@ -254,6 +254,51 @@ pub(crate) fn write_whole<W: Write>(writer: &mut W, piece: &[u8]) -> bool
     true
 }
 
+// The answer of a put to a writer: Ok where the whole piece was taken, else a fault that is
+// counted. An empty piece is no put, and after a failed flush every other piece is refused.
+pub(crate) fn put_whole<W: Write>(
+    writer: &mut W,
+    broken: bool,
+    faults: &mut u64,
+    piece: &[u8],
+) -> Result<(), PutFault>
+    ensures ok { OnOk result (Appends (W.contents writer.old) (W.contents writer.new) piece.now) }
+    ensures front { AppendsFront (W.contents writer.old) (W.contents writer.new) piece.now }
+    ensures empty { length piece.now ≡ 0 → IsOk result }
+    ensures refused { IsTrue broken → 0 < length piece.now → ¬ IsOk result }
+    ensures counts { IsWriterPut result faults.old faults.new }
+    ensures never_fall { faults.old ≤ faults.new }
+{
+    if piece.is_empty() {
+        return Ok(());
+    }
+    counted(!broken && write_whole(writer, piece), faults)
+}
+
+// The answer of a flush, given whether it was done: if it wasn't, the sink is broken from then on.
+pub(crate) fn flushed(done: bool, broken: &mut bool, faults: &mut u64) -> Result<(), PutFault>
+    ensures done { IsOk result ↔ IsTrue done }
+    ensures broken { broken.new ≡ not done }
+    ensures counts { IsWriterPut result faults.old faults.new }
+    ensures never_fall { faults.old ≤ faults.new }
+{
+    *broken = !done;
+    counted(done, faults)
+}
+
+// Ok where a piece was taken or a flush done, else a fault that is counted.
+fn counted(done: bool, faults: &mut u64) -> Result<(), PutFault>
+    ensures done { IsOk result ↔ IsTrue done }
+    ensures counts { IsWriterPut result faults.old faults.new }
+    ensures never_fall { faults.old ≤ faults.new }
+{
+    if done {
+        return Ok(());
+    }
+    *faults = faults.saturating_add(1);
+    Err(PutFault::Failed)
+}
+
 impl<W: Write + Drop> StdSink<W> {
     /// A sink over a writer that has failed at no put yet.
     pub fn new(writer: W) -> StdSink<W>
@@ -288,22 +333,11 @@ impl<W: Write + Drop> Sink for StdSink<W> {
     ghost begun = { λ sink. ([], Appends-nil (W.contents sink.writer)) };
 
     fn put(&mut self, piece: &[u8]) -> Result<(), PutFault> {
-        if piece.is_empty() {
-            return Ok(());
-        }
-        if !self.broken && write_whole(&mut self.writer, piece) {
-            return Ok(());
-        }
-        self.faults = self.faults.saturating_add(1);
-        Err(PutFault::Failed)
+        put_whole(&mut self.writer, self.broken, &mut self.faults, piece)
     }
 
     fn flush(&mut self) -> Result<(), PutFault> {
-        if !self.broken && self.writer.flush().is_ok() {
-            return Ok(());
-        }
-        self.broken = true;
-        self.faults = self.faults.saturating_add(1);
-        Err(PutFault::Failed)
+        let done = !self.broken && self.writer.flush().is_ok();
+        flushed(done, &mut self.broken, &mut self.faults)
     }
 }

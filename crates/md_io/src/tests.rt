@@ -158,7 +158,8 @@ fn puts_to_memory(rt: HostRuntime) -> Result<(), Fail> {
     Ok(())
 }
 
-// A writer that takes two bytes at a time after one interruption, and is full after five.
+// A writer that takes two bytes at a time after one interruption, and is full after five: then no
+// flush is done.
 #[derive(Drop)]
 struct SlowWriter<'a> {
     written: &'a mut Vec<u8>,
@@ -178,6 +179,9 @@ impl Write for SlowWriter<'_> {
     }
 
     fn flush(&mut self) -> std::io::Result<()> {
+        if self.written.len() >= 5 {
+            return Err(Error::from(ErrorKind::StorageFull));
+        }
         Ok(())
     }
 }
@@ -197,10 +201,12 @@ fn puts_to_a_writer(rt: HostRuntime) -> Result<(), Fail> {
         ("def", "Err(Failed)"),
         ("g", "Err(Failed)"),
     ];
+    sink.flush()?;
     for (piece, answer) in table {
         let got = put_shown(alloc, &mut sink, piece)?;
         assert_eq!(rt; got.as_str(), answer, "{piece}");
     }
+    assert!(rt; sink.flush().is_err());
     drop(sink);
     assert_eq!(rt; written.as_slice(), b"abcde".as_slice());
     Ok(())

@@ -1,7 +1,7 @@
 //! The induced P4s that an edit makes.
 ghost use Rattle.std.specs.Prelude.{IfSome, IfNone};
 ghost use Rattle.md_report.specs.Cographs.{IsP4Of};
-ghost use Rattle.md_report.specs.Made.{Shows, HasNoneMade};
+ghost use Rattle.md_report.specs.Made.{Shows, HoldsChange, HasNoneMade};
 
 use md_graph::Graph;
 use md_modules::{P4, find_p4_with, find_p4_with_both};
@@ -13,7 +13,8 @@ use md_script::Edit;
 /// graph.
 pub fn made_p4(graph: &Graph, edit: &Edit) -> Option<P4>
     requires { Shows graph.now edit.now }
-    ensures found { IfSome result (λ p. IsP4Of graph.now p) }
+    ensures found { IfSome result (λ p.
+        IsP4Of graph.now p × HoldsChange edit.now p.a p.b p.c p.d) }
     ensures none { IfNone result (HasNoneMade graph.now edit.now) }
 {
     match edit {
