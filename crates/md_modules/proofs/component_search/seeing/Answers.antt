@@ -1,4 +1,4 @@
-use Rattle.std.proofs.Common.{◌∙◌, sym, subst, inl, inr}
+use Rattle.std.proofs.Common.{◌∙◌, sym, subst, inl, inr, rules}
 use Rattle.md_graph.specs.Sets.{Has}
 use Rattle.md_graph.proofs.SetLemmas.{clash, insert_new, insert_old, of_insert, Has-along, empty_if}
 use Rattle.md_modules.proofs.Turns.{Sees}
@@ -15,7 +15,7 @@ pub sees-requires-clause-name : goal.sees-requires-clause-name
 sees-requires-clause-name c = Walked-name c.loop-y.invariant.all c.in-Some.y _ c.in-Some.ensures.steps
 
 pub insert-requires : goal.insert-requires
-insert-requires c = Walked-name c.loop-y.invariant.all c.in-Some.y _ c.in-Some.ensures.steps
+insert-requires c = (search rules, Walked-name c.loop-y.invariant.all c.in-Some.y _ c.in-Some.ensures.steps)
 
 pub loop-y-preserved-then-sees : goal.loop-y-preserved-then-sees
 loop-y-preserved-then-sees c = record {

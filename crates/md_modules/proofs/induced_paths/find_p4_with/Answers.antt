@@ -1,8 +1,9 @@
+use Rattle.std.proofs.Common.{rules}
 use Rattle.md_modules.proofs.PathSearch.{near_side, far_side}
 use Rattle.md_modules.proofs.induced_paths.find_p4_with.Goals as goal
 
 pub row-near-requires : goal.row-near-requires
-row-near-requires c = c.vertices-vertices.ensures.graph.names c.args.x c.requires
+row-near-requires c = (search rules, (search rules, c.vertices-vertices.ensures.graph.names c.args.x c.requires))
 
 pub path_by_sides-requires-clause-first : goal.path_by_sides-requires-clause-first
 path_by_sides-requires-clause-first c = near_side c.row-near.ensures.graph c.args.x _ c.row-near.ensures.set

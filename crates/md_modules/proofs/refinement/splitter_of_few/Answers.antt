@@ -1,4 +1,4 @@
-use Rattle.std.proofs.Common.{◌∙◌, refl}
+use Rattle.std.proofs.Common.{◌∙◌, refl, rules}
 use Rattle.md_modules.proofs.ClassLemmas.{splitter_found, splitter_none, no_splitter}
 use Rattle.md_modules.proofs.refinement.splitter_of_few.Goals as goal
 use Rattle.md_graph.proofs.Walks.{Walked-item, Walked-name, Walked-more, Walked-end, Walked-behind}
@@ -9,7 +9,7 @@ loop-x-init c =
     (c.into_iter-x-iterator.ensures.into_iter_gives ∙ c.members_from-x-items.ensures.list) (λ y h. refl)
 
 pub row-requires-in-loop-x : goal.row-requires-in-loop-x
-row-requires-in-loop-x c = Walked-name c.loop-x.invariant c.in-Some-x.x _ c.in-Some-x.ensures.steps
+row-requires-in-loop-x c = (search rules, (search rules, Walked-name c.loop-x.invariant c.in-Some-x.x _ c.in-Some-x.ensures.steps))
 
 pub returns-in-Some-first_told_apart-clause-found : goal.returns-in-Some-first_told_apart-clause-found
 returns-in-Some-first_told_apart-clause-found c =

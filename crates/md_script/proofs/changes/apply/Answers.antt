@@ -1,15 +1,19 @@
-use Rattle.std.proofs.Common.{ap, ◌∙◌}
+use Rattle.std.proofs.Common.{ap, ◌∙◌, rules}
 use Rattle.std.specs.FinSet as set
 use Rattle.md_script.proofs.ChangeLemmas.{vertex_added, neighbours_are_vertices, no_own_neighbour}
 use Rattle.md_script.proofs.changes.apply.Goals as goal
 
-pub add_edges-requires-clause-vertex : goal.add_edges-requires-clause-vertex
-add_edges-requires-clause-vertex c = vertex_added c.args.graph.now c.add_vertex.new.self c.in-AddVertex.x c.add_vertex.ensures
-
-pub add_edges-requires-clause-vertices : goal.add_edges-requires-clause-vertices
-add_edges-requires-clause-vertices c =
-    neighbours_are_vertices c.args.graph.now c.add_vertex.new.self c.args.edit.now c.in-AddVertex.x _ c.set_of.result c.in-AddVertex.is c.requires.applies (c.set_of.ensures ∙ ap set.from_list c.as_slice.ensures.list) c.add_vertex.ensures
-
-pub add_edges-requires-clause-differ : goal.add_edges-requires-clause-differ
-add_edges-requires-clause-differ c =
-    no_own_neighbour c.args.graph.now c.args.edit.now c.in-AddVertex.x _ c.set_of.result c.in-AddVertex.is c.requires.applies (c.set_of.ensures ∙ ap set.from_list c.as_slice.ensures.list)
+pub add_edges-requires : goal.add_edges-requires
+add_edges-requires c = (
+  search rules,
+  (
+    search rules,
+    (
+      vertex_added c.args.graph.now c.add_vertex.new.self c.in-AddVertex.x c.add_vertex.ensures,
+      (
+        neighbours_are_vertices c.args.graph.now c.add_vertex.new.self c.args.edit.now c.in-AddVertex.x _ c.set_of.result c.in-AddVertex.is c.requires.applies (c.set_of.ensures ∙ ap set.from_list c.as_slice.ensures.list) c.add_vertex.ensures,
+        no_own_neighbour c.args.graph.now c.args.edit.now c.in-AddVertex.x _ c.set_of.result c.in-AddVertex.is c.requires.applies (c.set_of.ensures ∙ ap set.from_list c.as_slice.ensures.list),
+      ),
+    ),
+  ),
+)
