@@ -1,6 +1,6 @@
 -- The two sides of a graph: where their arcs end, and which names one end sees and the other doesn't.
 use Rattle.std.proofs.Common.{◌≡◌, ◌≢◌, ◌↔◌, ℕ, ◌<◌, Bool, true, false, not, ◌&&◌, ◌||◌, ◌==◌, List, refl, sym, ◌∙◌, ap, subst}
-use Rattle.std.proofs.lemmas.Bool.{false_from_ne_true, ne_eqb, eqb-true, and_parts}
+use Rattle.std.proofs.lemmas.Bool.{false_from_ne_true, ne_eqb, eqb-true, and_parts, not-true}
 use Rattle.std.specs.FinSet as set
 use Rattle.md_graph.specs.declared.TheConstants.{NAMES}
 use Rattle.md_graph.specs.Sets.{NameSet, Has}
@@ -58,13 +58,9 @@ all_false true true false = refl
 all_false true false z = refl
 all_false false y z = refl
 
-not_false : (b : Bool) → not b ≡ true → b ≡ false
-not_false true h = absurd (cc)
-not_false false h = refl
-
 last_false : (x y b c : Bool) → c ≡ (x && (y && not b)) → c ≡ true → b ≡ false
 last_false x y b c e h =
-    let parts = and_parts x (y && not b) (sym e ∙ h) in not_false b (and_parts y (not b) parts.1).1
+    let parts = and_parts x (y && not b) (sym e ∙ h) in not-true b (and_parts y (not b) parts.1).1
 
 -- of the complement: `here` and `there` are not adjacent
 co_to : (vh vt vw eh et a b k ch ct : Bool) → ch ≡ ((vh && vw) && (not eh && not a)) → ct ≡ ((vt && vw) && (not et && not b)) → vh ≡ true → (b ≡ true → vw ≡ true) → (b ≡ true → eh ≡ false) → (b && not (a || k)) ≡ true → (ch ≡ true) × (ct ≡ false) × (k ≡ false)

@@ -1,6 +1,6 @@
 -- Rows of arcs after more arcs are taken in.
-use Rattle.std.proofs.Common.{◌≡◌, ◌⊎◌, ◌↔◌, ℕ, ◌<◌, ◌≤◌, Bool, true, false, cond, ◌&&◌, ◌||◌, ◌==◌, List, length, get_or, set, refl, sym, ◌∙◌, ap, subst, inl, inr, arith}
-use Rattle.std.proofs.lemmas.Bool.{cases_Bool, cases_eq, cases_lt, eq-eqb, ne_eqb, eqb-true, and_parts, or_left, or_right}
+use Rattle.std.proofs.Common.{◌≡◌, ◌⊎◌, ◌↔◌, ℕ, ◌<◌, ◌≤◌, Bool, true, cond, ◌&&◌, ◌||◌, ◌==◌, List, length, get_or, set, refl, sym, ◌∙◌, ap, subst, inl, inr, arith}
+use Rattle.std.proofs.lemmas.Bool.{cases_Bool, cases_eq, cases_lt, eq-eqb, ne_eqb, eqb-true, and_parts, or_cases, or_left, or_right}
 use Rattle.std.proofs.Math.Bool.{or-false, or_comm, and_comm}
 use Rattle.std.proofs.lemmas.List.{get_or_read, get_or_past, length-set}
 use Rattle.std.specs.List.{refill}
@@ -10,14 +10,11 @@ use Rattle.md_graph.specs.Sets.{NameSet, Has}
 use Rattle.md_graph.specs.Rows.{row_of}
 use Rattle.md_graph.proofs.RowLemmas.{contains-set_row, refilled}
 use Rattle.md_graph.proofs.SetLaws.{contains-empty, contains-insert, contains-union}
+use Rattle.md_graph.proofs.PairLaws.{is_pair}
 use Rattle.md_graph.proofs.SetLemmas.{clash}
 use Rattle.md_forcing.specs.declared.arc.Arc.{Arc}
 use Rattle.md_forcing.specs.Forcing.{arc}
 use Rattle.md_forcing.specs.Seen.{IsSeen, AreTurned}
-
-pub of_or : (a b : Bool) → (a || b) ≡ true → (a ≡ true) ⊎ (b ≡ true)
-of_or true b h = inl refl
-of_or false b h = inr h
 
 -- the new rows have the arcs of the old ones, and those for which the test is true
 abbrev pub Adds : List NameSet → (ℕ → ℕ → Bool) → List NameSet → Type 0
@@ -52,7 +49,7 @@ turned_added t a b a_new b_new is a_len b_len more more_turned = record {
 
 seen_added : (t : ℕ → ℕ → Bool) (P : Arc → Type 0) → ((x : Arc) → (t x.tail x.head ≡ true) ↔ P x) → (a now new : List NameSet) → a ≡ now → Adds a t new → (x : Arc) → IsSeen new x ↔ (IsSeen now x ⊎ P x)
 seen_added t P same a now new is more x = (
-  λ h. elim (of_or _ _ (sym (more x.tail x.head) ∙ h)) [
+  λ h. elim (or_cases _ _ (sym (more x.tail x.head) ∙ h)) [
     | inl old ↦ inl (subst (λ r. IsSeen r x) is old)
     | inr added ↦ inr ((same x).0 added)
   ],
@@ -64,18 +61,15 @@ seen_added t P same a now new is more x = (
 
 -- ---- one arc
 
-abbrev put_test : ℕ → ℕ → ℕ → ℕ → Bool
-put_test u v x y = (x == u) && (y == v)
-
-put_tail : (rows : List NameSet) (u v : ℕ) (new old : NameSet) → u < length rows → new ≡ set.insert old v → old ≡ get_or rows u old → Adds rows (put_test u v) (set rows u new)
+put_tail : (rows : List NameSet) (u v : ℕ) (new old : NameSet) → u < length rows → new ≡ set.insert old v → old ≡ get_or rows u old → Adds rows (is_pair u v) (set rows u new)
 put_tail rows u v new old below is read =
     joined_row rows u new old (λ y. y == v) below read (λ q. ap (λ s. set.contains s q) is ∙ contains-insert old v q ∙ or_comm (q == v) (set.contains old q))
 
-put_head : (rows : List NameSet) (u v : ℕ) (new old : NameSet) → v < length rows → new ≡ set.insert old u → old ≡ get_or rows v old → Adds rows (λ y x. put_test u v x y) (set rows v new)
+put_head : (rows : List NameSet) (u v : ℕ) (new old : NameSet) → v < length rows → new ≡ set.insert old u → old ≡ get_or rows v old → Adds rows (λ y x. is_pair u v x y) (set rows v new)
 put_head rows u v new old below is read y x =
     put_tail rows v u new old below is read y x ∙ ap (λ b. set.contains (row_of rows y) x || b) (and_comm (y == v) (x == u))
 
-put_same : (u v : ℕ) (x : Arc) → (put_test u v x.tail x.head ≡ true) ↔ (x ≡ arc u v)
+put_same : (u v : ℕ) (x : Arc) → (is_pair u v x.tail x.head ≡ true) ↔ (x ≡ arc u v)
 put_same u v x = (
   λ h. let parts = and_parts (x.tail == u) (x.head == v) h in λ i. record { tail = eqb-true x.tail u parts.0 i; head = eqb-true x.head v parts.1 i },
   λ e. rw (eq-eqb x.tail u (ap (λ a. a.tail) e), eq-eqb x.head v (ap (λ a. a.head) e)) refl,
@@ -85,12 +79,12 @@ pub put_turned : (a b now : List NameSet) (u v : ℕ) → AreTurned a b → a �
 put_turned a b now u v is same room_u room_v new_u old_u new_v old_v is_u read_u is_v read_v =
     let len = ap length same in
     let len_b = is.same in
-    turned_added (put_test u v) a b _ _ is (length-set a u new_u) (length-set b v new_v) (put_tail a u v new_u old_u (omega arith) is_u read_u) (put_head b u v new_v old_v (omega arith) is_v read_v)
+    turned_added (is_pair u v) a b _ _ is (length-set a u new_u) (length-set b v new_v) (put_tail a u v new_u old_u (omega arith) is_u read_u) (put_head b u v new_v old_v (omega arith) is_v read_v)
 
 pub put_taken : (a now : List NameSet) (by : Arc) → a ≡ now → by.tail < length now → (new old : NameSet) → new ≡ set.insert old by.head → old ≡ get_or a by.tail old → (x : Arc) → IsSeen (set a by.tail new) x ↔ (IsSeen now x ⊎ (x ≡ by))
 put_taken a now by same room new old is read =
     let len = ap length same in
-    seen_added (put_test by.tail by.head) (λ x. x ≡ by) (put_same by.tail by.head) a now _ same (put_tail a by.tail by.head new old (omega arith) is read)
+    seen_added (is_pair by.tail by.head) (λ x. x ≡ by) (put_same by.tail by.head) a now _ same (put_tail a by.tail by.head new old (omega arith) is read)
 
 -- ---- one row, and its turned ones
 

@@ -9,7 +9,7 @@ ghost use Rattle.md_forcing.specs.Sides.{adjacent_on};
 ghost use Rattle.md_forcing.specs.Seen.{IsSeen};
 
 use crate::Arc;
-use md_graph::{Graph, Memory, NAMES, Names, insert_in_rows};
+use md_graph::{Graph, Memory, NAMES, Names, empty_rows, insert_in_rows};
 use std::alloc::Global;
 use std::marker::Model;
 
@@ -53,7 +53,7 @@ impl Seen {
         ensures room { IfOk result (λ s. (v : ℕ) → Has graph.now.vertices v → v < length s) }
         ensures none { IfOk result (λ s. (v : ℕ) → row_of s v ≡ set.empty) }
     {
-        Seen::with_size(alloc, size_over(graph))
+        Seen::with_size(alloc, graph.bound())
     }
 
     /// No arc, with room for the arcs on the names below `size`. Condition: these are names.
@@ -159,29 +159,6 @@ impl Seen {
     {
         let _rows = &self.by_head;
         apart(graph, side, by.head, by.tail, self.tails(by.head), into);
-    }
-}
-
-// As many rows without members.
-fn empty_rows(alloc: Global, size: u32) -> Result<Vec<Names>, Memory>
-    ensures size { IfOk result (λ rows. length rows.items ≡ size) }
-    ensures none { IfOk result (λ rows. (v : ℕ) → row_of rows.items v ≡ set.empty) }
-{
-    let mut rows = Vec::with_capacity(alloc, size as usize)?;
-    for _ in 0..size {
-        rows.push(Names::none())?;
-    }
-    Ok(rows)
-}
-
-// A number that is greater than each vertex.
-fn size_over(graph: &Graph) -> u32
-    ensures room { (v : ℕ) → Has graph.now.vertices v → v < result }
-    ensures few { result ≤ NAMES }
-{
-    match graph.vertices().last() {
-        Some(last) => last + 1,
-        None => 0,
     }
 }
 

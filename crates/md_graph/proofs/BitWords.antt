@@ -1,6 +1,6 @@
 -- Words of bits and the sets that they keep.
-use Rattle.std.proofs.Common.{◌≡◌, ℕ, zero, suc, ◌+◌, ◌-◌, ◌*◌, ◌/◌, ◌%◌, ◌^◌, ◌<◌, ◌≤◌, bit_and, bit_or, bit_xor, min, max, not, mod-lt, mod-eq_of_lt, lit<, lit≤, one-add, add-suc, pow_pos, ltb-true, ltb-false, lt-ltb, Bool, true, false, cond, ltb, leb, eqb, eqb-true, ◌==◌, ◌&&◌, ◌||◌, ◌≢◌, if◌then◌else◌, List, get_or, Option, Some, None, IfSome, IfNone, replicate, length, refl, arith, ap, sym, ◌∙◌}
-use Rattle.std.proofs.lemmas.Bool.{eqb-false}
+use Rattle.std.proofs.Common.{◌≡◌, ℕ, zero, suc, ◌+◌, ◌-◌, ◌*◌, ◌/◌, ◌%◌, ◌^◌, ◌<◌, ◌≤◌, bit_and, bit_or, bit_xor, min, max, not, mod-lt, mod-eq_of_lt, lit<, lit≤, one-add, add-suc, pow_pos, ltb-true, ltb-false, lt-ltb, Bool, true, false, cond, ltb, leb, eqb-true, ◌==◌, ◌&&◌, ◌||◌, ◌≢◌, if◌then◌else◌, List, get_or, Option, Some, None, IfSome, IfNone, replicate, length, refl, arith, ap, sym, ◌∙◌, inl, inr}
+use Rattle.std.proofs.lemmas.Bool.{cases_eq, eqb-false}
 use Rattle.std.proofs.lemmas.Bool.Decides.{nat_tests}
 use Rattle.std.specs.Int.{bit_at, bit_not, w64, trailing_zeros}
 use Rattle.std.proofs.Common.{set as set_at, below_more, get_or-set_other, get_or-set_same}
@@ -161,16 +161,13 @@ rest_more words i x rest k h = let other : k ≢ i = omega arith in rw get_or-se
 pub without_word : (a b : ℕ) → b < 2 ^ 64 → IsWithout (bit_and a (bit_not w64 b)) a b
 without_word a b fits i h = bit_at_and a (bit_not w64 b) i ∙ ap (λ x. min (bit_at a i) x) (bit_at_not w64 b i fits h)
 
-cases_eq : (P : Type 0) (a b : ℕ) → (a ≡ b → P) → (a ≢ b → P) → P
-cases_eq P a b same other =
-    elim (eqb a b) as (λ t. eqb a b ≡ t → P) [ true ↦ λ e. same (eqb-true _ _ e) | false ↦ λ e. other (eqb-false _ _ e) ] refl
-
 -- what holds of the bit of a name once one word is written
 pub bit_of_set : (P : ℕ → Type 0) (words : List ℕ) (i x q : ℕ) → i < length words → (q / 64 ≡ i → P (bit_at x (q % 64))) → (q / 64 ≢ i → P (bit_of words q)) → P (bit_of (set_at words i x) q)
 bit_of_set P words i x q within here other =
-    cases_eq _ (q / 64) i
-    (λ e. rw (e, get_or-set_same words i x 0 within) (here e))
-    (λ ne. rw (get_or-set_other words i (q / 64) x 0 ne) (other ne))
+    elim (cases_eq (q / 64) i) [
+      | inl e ↦ rw (e, get_or-set_same words i x 0 within) (here e)
+      | inr ne ↦ rw (get_or-set_other words i (q / 64) x 0 ne) (other ne)
+    ]
 
 abbrev with_name : List ℕ → ℕ → List ℕ
 with_name words v = set_at words (v / 64) (bit_or (get_or words (v / 64) 0) (1 * 2 ^ (v % 64) % 2 ^ 64))
@@ -315,7 +312,7 @@ len-names_below-le words (suc n) = omega (arith, len-names_below-le words n, len
 
 ones_bit : (b : ℕ) → b < 2 → ones b ≡ b
 unfolding ones
-ones_bit b h = cases_eq _ b 0 (λ e. rw e refl) (λ ne. let e : b ≡ 1 = omega arith in rw e refl)
+ones_bit b h = elim (cases_eq b 0) [ inl e ↦ rw e refl | inr ne ↦ let e : b ≡ 1 = omega arith in rw e refl ]
 
 -- the ones below place suc j
 ones_more : (w j : ℕ) → ones (w % 2 ^ suc j) ≡ ones (w % 2 ^ j) + bit_at w j
@@ -444,7 +441,7 @@ became_rest w v a c m n w_used u s r is keeps ra rw_used wiped wiped_rest first 
 pub became_in_use : (w v c : List ℕ) (w_used u used any : ℕ) → InUse w w_used → ((k : ℕ) → k < w_used → get_or v k 0 ≡ 0) → ((k : ℕ) → w_used ≤ k → get_or v k 0 ≡ get_or w k 0) → ((k : ℕ) → u ≤ k → get_or c k 0 ≡ get_or v k 0) → (any ≡ 0 → (k : ℕ) → k < u → get_or c k 0 ≡ 0) → (any ≡ 0 → used ≡ 0) → (any ≢ 0 → used ≡ u) → InUse c used
 became_in_use w v c w_used u used any rw_used wiped wiped_rest rest none is_none is_some k above =
     from_both (λ x. x ≡ k → get_or c x 0 ≡ 0) u
-    (λ x below same. cases_eq (get_or c x 0 ≡ 0) any 0 (λ zero_it. none zero_it x below) (λ some. let all = is_some some in absurd (omega arith)))
+    (λ x below same. elim (cases_eq any 0) [ inl zero_it ↦ none zero_it x below | inr some ↦ let all = is_some some in absurd (omega arith) ])
     (λ x past _. rest x past ∙ cleared w v w_used rw_used wiped wiped_rest x) k refl
 
 -- what stays behind where the others go

@@ -1,7 +1,7 @@
 -- Sums over numbers below a bound, and the double counting of the edges of rows.
 use Rattle.std.specs.Prelude.{◌≡◌, ℕ, zero, suc, ◌+◌, ◌*◌, ◌<◌, ◌≤◌, Bool, true, false, cond, ◌&&◌, sum_by, refl, not}
 use Rattle.std.proofs.Common.{ap, sym, ◌∙◌, arith, inl, inr}
-use Rattle.std.proofs.lemmas.Bool.{true≢false, cases_Bool, cases_eq, and_parts, not-true, eqb-false, ne_eqb, false_from_ne_true, le-leb}
+use Rattle.std.proofs.lemmas.Bool.{true≢false, cases_Bool, and_parts, not-true, eqb-false, ne_eqb, false_from_ne_true, le-leb}
 use Rattle.std.proofs.lemmas.Bool.Decides.{nat_tests}
 use Rattle.std.proofs.lemmas.List.{append-nil}
 use Rattle.std.proofs.lemmas.List.Sums.{sum_by_push}
@@ -9,9 +9,10 @@ use Rattle.std.specs.FinSet as set
 use Rattle.md_graph.specs.Sets.{NameSet, Has}
 use Rattle.md_graph.specs.NameSet.{ascending_between}
 use Rattle.md_graph.specs.PlainGraph.{PairSet, pairs_at, pairs_where}
-use Rattle.md_graph.proofs.SetLaws.{contains-empty, contains-remove, len-empty, len-remove, same_set, empty_of_len}
+use Rattle.md_graph.proofs.SetLaws.{contains-empty, contains-remove, len-empty, len-remove, same_set}
 use Rattle.md_graph.proofs.PairLaws.{pairs-len-empty, pairs-len-insert}
 use Rattle.md_graph.proofs.GraphLemmas.{contains-pairs_at, contains-pairs_where}
+use Rattle.md_graph.proofs.Search.{some_len}
 
 -- f 0 + .. + f (n - 1)
 sum_below : (ℕ → ℕ) → ℕ → ℕ
@@ -42,14 +43,6 @@ sum_below-le f m (suc n) below =
 
 -- ---- how many members a set has
 
--- a set with a member isn't empty
-len-member : (s : NameSet) (n : ℕ) → Has s n → 0 < set.len s
-len-member s n h =
-    elim (cases_eq (set.len s) 0) [
-      | inl zero_len ↦ absurd (true≢false (sym h ∙ ap (λ t. set.contains t n) (empty_of_len s zero_len) ∙ contains-empty n))
-      | inr more ↦ omega arith
-    ]
-
 rest_below : (n : ℕ) (s : NameSet) → ((w : ℕ) → Has s w → w < suc n) → (w : ℕ) → Has (set.remove s n) w → w < n
 rest_below n s below w h =
     let parts = and_parts _ _ (sym (contains-remove s n w) ∙ h) in
@@ -67,7 +60,7 @@ len-below (suc n) s below =
     let others = sum_below-same (λ w. bit (set.contains rest w)) (λ w. bit (set.contains s w)) n (λ w h. ap bit (has w ∙ ap (λ t. not t && set.contains s w) (ne_eqb w n (λ e. omega arith)))) in
     let less = len-remove s n in
     elim (cases_Bool (set.contains s n)) [
-      | inl t ↦ let some = len-member s n t in let l = rw t at less in rw t (omega arith)
+      | inl t ↦ let some = some_len s n t in let l = rw t at less in rw t (omega arith)
       | inr f ↦ let l = rw f at less in rw f (omega arith)
     ]
 

@@ -3,7 +3,6 @@ use Rattle.std.proofs.Common.{◌≡◌, ℕ, ◌+◌, ◌<◌, ◌≤◌, List,
 use Rattle.std.proofs.lemmas.List.{map-append, take_more, get_or_default}
 use Rattle.std.proofs.lemmas.Bool.{cases_lt}
 use Rattle.std.specs.FinSet as set
-use Rattle.md_graph.specs.Sets.{NameSet}
 use Rattle.md_graph.specs.NameSet.{range}
 use Rattle.md_graph.specs.PlainGraph.{PlainGraph, edge, empty_graph, with_range, with_edge}
 use Rattle.md_graph.specs.Listed.{AreEnds, AreEdgesBelow, graph_of_list}

@@ -2,6 +2,7 @@
 use Rattle.std.proofs.Common.{ltb, ◌&&◌, append-nil, mod-eq_of_lt, add-zero, leb-true, leb-false, le-leb, shr-shr, ◌≡◌, ℕ, zero, suc, ◌+◌, ◌-◌, ◌*◌, ◌/◌, ◌%◌, ◌^◌, ◌<◌, ◌≤◌, ◌≢◌, min, bit_and, Bool, true, false, if◌then◌else◌, ◌==◌, nat_le, List, [], ◌∷◌, ◌++◌, get_or, append_assoc, refl, arith, ap, sym, ◌∙◌, mod-lt, pow_pos, suc-mul, subst}
 use Rattle.std.proofs.lemmas.Bool.Decides.{nat_tests}
 use Rattle.std.specs.Int.{bit_at, w64, trailing_zeros}
+use Rattle.std.proofs.lemmas.Bool.{lt-leb}
 use Rattle.std.proofs.lemmas.Nat.{shr_split}
 use Rattle.std.proofs.lemmas.Nat.Bits.{bit_at-zero, bit_at_and, bit_at-trailing_zeros, same_from_bits_below, bit_at-suc, bit_at_lowest, bit_at_cat_low, bit_at_cat_high}
 use Rattle.md_graph.specs.Sets.{NameSet}
@@ -129,9 +130,6 @@ high_bits w place k fits =
 low_name : (low v x y : ℕ) (b : Bool) → low ≤ v → b ≡ (x == 1) → x ≡ y → (y == 1) ≡ (nat_le low v && b)
 low_name low v x y b l is same = grind (arith, nat_tests)
 
-not_le : (a b : ℕ) → b < a → nat_le a b ≡ false
-not_le a b h = grind (arith, nat_tests)
-
 first_word_bit : (v k x y z : ℕ) (b : Bool) → k < 64 → x ≡ (if nat_le (v % 64) k then z else 0) → b ≡ (y == 1) → y ≡ z → (x == 1) ≡ (nat_le v (64 * (v / 64) + k) && b)
 first_word_bit v k x y z b h is member same =
     elim (nat_le (v % 64) k) as (λ t. nat_le (v % 64) k ≡ t → x ≡ (if t then z else 0) → (x == 1) ≡ (nat_le v (64 * (v / 64) + k) && b)) [
@@ -139,7 +137,7 @@ first_word_bit v k x y z b h is member same =
           let low : nat_le v (64 * (v / 64) + k) ≡ true = le-leb _ _ (let l = leb-true _ _ e in omega arith) in
           rw (low, member, same, is) refl
       | false ↦ λ e is.
-          let high : nat_le v (64 * (v / 64) + k) ≡ false = not_le _ _ (let l = leb-false _ _ e in omega arith) in
+          let high : nat_le v (64 * (v / 64) + k) ≡ false = lt-leb _ _ (let l = leb-false _ _ e in omega arith) in
           rw (high, is) refl
     ] refl is
 

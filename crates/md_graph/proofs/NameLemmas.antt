@@ -1,14 +1,27 @@
 -- Facts of sets of names that callers may cite: what the ascending list of a set's members holds.
-use Rattle.std.proofs.Common.{◌≡◌, ℕ, zero, suc, ◌+◌, ◌-◌, ◌<◌, ◌≤◌, ◌≢◌, Bool, true, false, ◌&&◌, ◌||◌, if◌then◌else◌, ◌==◌, nat_le, List, [], ◌∷◌, ◌++◌, length, append_assoc, append-nil, length-append, refl, arith, ap, sym, ◌∙◌, subst, ltb, ltb-true, ltb-false, lit<, All, Contains, AllPairs, Option, Some, None, IfSome, IfNone, MatchOption}
+use Rattle.std.proofs.Common.{◌≡◌, ℕ, zero, suc, ◌+◌, ◌-◌, ◌<◌, ◌≤◌, ◌≢◌, Bool, true, false, ◌&&◌, ◌||◌, if◌then◌else◌, ◌==◌, nat_le, List, [], ◌∷◌, ◌++◌, length, get_or, add-one, append_assoc, append-nil, length-append, refl, arith, ap, sym, ◌∙◌, subst, inl, inr, ltb, lit<, All, Contains, AllPairs, Option, Some, None, IfSome, IfNone, MatchOption}
+use Rattle.std.proofs.lemmas.Bool.{cases_Bool, cases_lt, false_from_ne_true}
 use Rattle.std.proofs.lemmas.Bool.Decides.{nat_tests}
 use Rattle.std.proofs.lemmas.List.Elements.{All-nil, All-push, All-weaker, Contains-append_left, Contains-append_right}
 use Rattle.std.proofs.lemmas.List.Quantifiers.{all_pairs_push}
 use Rattle.std.specs.Cmp.{nat_cmp_total}
+use Rattle.std.specs.List.Sorted.{IsStrictlyIncreasing}
 use Rattle.std.specs.FinSet.{nat_cmp-IsAntisymmetric}
 use Rattle.std.specs.FinSet as set
 use Rattle.md_graph.specs.Sets.{NameSet, Has}
 use Rattle.md_graph.specs.NameSet.{AllBelow, NoneFrom, IsLeastFrom, ascending_between}
 use Rattle.md_graph.proofs.SetLaws.{contains-empty, contains-insert, contains-retain, len-empty, len-insert, same_set}
+
+-- the rest of an ascending list
+pub increases_rest : (x : ℕ) (xs : List ℕ) → IsStrictlyIncreasing (x ∷ xs) → IsStrictlyIncreasing xs
+increases_rest x xs h k below =
+    let first = next k in
+    let second = next (k + 1) in
+    let step = h (k + 1) (omega arith) in
+    omega arith
+  where
+    next : (i : ℕ) → get_or (x ∷ xs) (i + 1) 0 ≡ get_or xs i 0
+    next i = rw add-one refl
 
 -- ---- the first item
 
@@ -124,14 +137,10 @@ ascending_one s x m =
     let here : (nat_le x x && set.contains s x) ≡ true = grind (arith, nat_tests) in
     rw (none, here) refl
 
-bool_cases : (P : Type 0) (b : Bool) → (b ≡ true → P) → (b ≡ false → P) → P
-bool_cases P b yes_case no_case =
-    elim b as (λ t. b ≡ t → P) [ true ↦ yes_case | false ↦ no_case ] refl
-
 absent_first : (s : NameSet) (low n x v : ℕ) → IsFirstItem s low n x → low ≤ v → v < x → set.contains s v ≡ false
 absent_first s low n x v is l h =
     let below = is.below in
-    bool_cases _ (set.contains s v) (λ m. let least = is.first v m l (omega arith) in absurd (omega arith)) (λ e. e)
+    false_from_ne_true _ (λ m. let least = is.first v m l (omega arith) in absurd (omega arith))
 
 same_rest : (x : ℕ) (xs ys : List ℕ) → x ∷ xs ≡ x ∷ ys → xs ≡ ys
 same_rest x xs ys e = cc
@@ -170,8 +179,10 @@ walk_end s low n left rest below is steps w m =
 -- what is done for the members below low is done for those below x + 1
 pub walk_more : (s : NameSet) (low n x : ℕ) (Done : ℕ → Type 0) → IsFirstItem s low n x → ((w : ℕ) → Has s w → w < low → Done w) → Done x → (w : ℕ) → Has s w → w < x + 1 → Done w
 walk_more s low n x Done is done here w m below =
-    bool_cases _ (ltb w low) (λ e. done w m (ltb-true _ _ e))
-    (λ e. let least = is.first w m (ltb-false _ _ e) (let h = is.below in omega arith) in let same : x ≡ w = omega arith in subst Done same here)
+    elim (cases_lt w low) [
+      | inl less ↦ done w m less
+      | inr past ↦ let least = is.first w m past (let h = is.below in omega arith) in let same : x ≡ w = omega arith in subst Done same here
+    ]
 
 -- ---- the list as a whole
 
@@ -251,13 +262,13 @@ pub ascending_appears : (s : NameSet) (low n w : ℕ) → Has s w → low ≤ w 
 unfolding ascending_between
 ascending_appears s low zero w m l h = absurd (omega arith)
 ascending_appears s low (suc n) w m l h =
-    bool_cases _ (ltb w n)
-    (λ e. Contains-append_left _ _ _ (ascending_appears s low n w m l (ltb-true _ _ e)))
-    (λ e.
-    let past = ltb-false _ _ e in
-    let same : n ≡ w = omega arith in
-    let here : test s low n ≡ true = has_last s low n w m l same in
-    rw here (contains_last (ascending_between s low n) n w same))
+    elim (cases_lt w n) [
+      | inl less ↦ Contains-append_left _ _ _ (ascending_appears s low n w m l less)
+      | inr past ↦
+          let same : n ≡ w = omega arith in
+          let here : test s low n ≡ true = has_last s low n w m l same in
+          rw here (contains_last (ascending_between s low n) n w same)
+    ]
 
 -- the members below n
 abbrev under_bound : NameSet → ℕ → NameSet
@@ -283,14 +294,15 @@ length_under s zero = sym (ap set.len (under_none s) ∙ len-empty)
 length_under s (suc n) =
     let before = length_under s n in
     let absent : set.contains (under_bound s n) n ≡ false = contains-retain s (λ v. ltb v n) n ∙ not_itself n _ in
-    bool_cases _ (set.contains s n)
-    (λ m.
-    let here : test s 0 n ≡ true = rw m (low_enough n) in
-    let size = len-insert (under_bound s n) n in
-    rw (under_with s n m, here, size, absent, length-append, before) refl)
-    (λ m.
-    let here : test s 0 n ≡ false = rw m (no_last n) in
-    rw (under_without s n m, here, append-nil, before) refl)
+    elim (cases_Bool (set.contains s n)) [
+      | inl m ↦
+          let here : test s 0 n ≡ true = rw m (low_enough n) in
+          let size = len-insert (under_bound s n) n in
+          rw (under_with s n m, here, size, absent, length-append, before) refl
+      | inr m ↦
+          let here : test s 0 n ≡ false = rw m (no_last n) in
+          rw (under_without s n m, here, append-nil, before) refl
+    ]
 
 -- the length is the number of members
 pub length-ascending : (s : NameSet) (n : ℕ) → AllBelow s n → length (ascending_between s 0 n) ≡ set.len s
@@ -302,23 +314,25 @@ unfolding ascending_between
 few_below s low zero = omega arith
 few_below s low (suc n) =
     let before = few_below s low n in
-    bool_cases _ (nat_le low n && set.contains s n)
-    (λ t. rw (t, length-append (ascending_between s low n) (n ∷ [])) (omega arith))
-    (λ f. rw (f, length-append (ascending_between s low n) []) (omega arith))
+    elim (cases_Bool (nat_le low n && set.contains s n)) [
+      | inl t ↦ rw (t, length-append (ascending_between s low n) (n ∷ [])) (omega arith)
+      | inr f ↦ rw (f, length-append (ascending_between s low n) []) (omega arith)
+    ]
 
 set_of_list : (s : NameSet) (n : ℕ) → set.from_list (ascending_between s 0 n) ≡ under_bound s n
 unfolding ascending_between
 set_of_list s zero = sym (under_none s)
 set_of_list s (suc n) =
     let before = set_of_list s n in
-    bool_cases _ (set.contains s n)
-    (λ m.
-    let here : test s 0 n ≡ true = rw m (low_enough n) in
-    let push = set.from_list_push nat_cmp_total nat_cmp-IsAntisymmetric (ascending_between s 0 n) n in
-    rw (under_with s n m, here, push, before) refl)
-    (λ m.
-    let here : test s 0 n ≡ false = rw m (no_last n) in
-    rw (under_without s n m, here, append-nil, before) refl)
+    elim (cases_Bool (set.contains s n)) [
+      | inl m ↦
+          let here : test s 0 n ≡ true = rw m (low_enough n) in
+          let push = set.from_list_push nat_cmp_total nat_cmp-IsAntisymmetric (ascending_between s 0 n) n in
+          rw (under_with s n m, here, push, before) refl
+      | inr m ↦
+          let here : test s 0 n ≡ false = rw m (no_last n) in
+          rw (under_without s n m, here, append-nil, before) refl
+    ]
 
 -- the set of the list is the set
 pub from_list-ascending : (s : NameSet) (n : ℕ) → AllBelow s n → set.from_list (ascending_between s 0 n) ≡ s

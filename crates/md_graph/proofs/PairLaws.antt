@@ -11,6 +11,10 @@ use Rattle.std.specs.FinSet as set
 use Rattle.std.specs.FinSet.{IsAntisymmetric}
 use Rattle.md_graph.specs.PlainGraph.{PairSet, pair_cmp}
 
+-- whether (a, b) is the pair (u, v)
+abbrev pub is_pair : ℕ → ℕ → ℕ → ℕ → Bool
+is_pair u v a b = (a == u) && (b == v)
+
 pub pair_total : IsTotalOrder pair_cmp
 pair_total = then_total (on_total (λ (p : ℕ × ℕ). p.0) nat_cmp_total) (on_total (λ (p : ℕ × ℕ). p.1) nat_cmp_total)
 

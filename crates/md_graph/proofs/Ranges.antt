@@ -28,7 +28,7 @@ contains-range from (suc count) q =
     contains-insert (range from count) (from + count) q ∙ ap (λ b. (q == (from + count)) || b) (contains-range from count q) ∙ range_step from count q
 
 -- a graph without vertices, with a range of them
-union_none : (s : NameSet) → set.union set.empty s ≡ s
+pub union_none : (s : NameSet) → set.union set.empty s ≡ s
 union_none s = same_set _ s (λ q. contains-union set.empty s q ∙ ap (λ b. b || set.contains s q) (contains-empty q))
 
 pub range_alone : {g h : PlainGraph} (from count : ℕ) → g ≡ empty_graph → h ≡ with_range g from count → h ≡ record { vertices = range from count; edges = set.empty }

@@ -49,10 +49,6 @@ pub rows_new : {live : NameSet} {rows : List NameSet} → live ≡ set.empty →
 rows_new {live} {rows} none n empty =
     rows_of_graph IsGraph-empty_graph none n (λ u v. ap (λ s. set.contains s v) (empty u) ∙ contains-empty v ∙ sym (adjacent-empty_graph u v))
 
-pub rows_replicated : {live : NameSet} {rows : List NameSet} (n : ℕ) → live ≡ set.empty → rows ≡ replicate n set.empty → n ≡ NAMES → AreRows live rows × (graph_of live rows ≡ empty_graph)
-rows_replicated n none e is =
-    rows_new none (ap length e ∙ length-replicate n set.empty ∙ is) (λ v. ap (λ r. row_of r v) e ∙ row_of-replicate n v)
-
 pub rows_add_vertex : {live : NameSet} {rows : List NameSet} {g : PlainGraph} → AreRows live rows → graph_of live rows ≡ g → (v : ℕ) → v < NAMES → {new : NameSet} → new ≡ set.insert live v → AreRows new rows × (graph_of new rows ≡ with_vertex g v)
 rows_add_vertex {live} {rows} {g} a e v name {new} is_new =
     let is : IsGraph g = subst IsGraph e (IsGraph-graph_of a) in

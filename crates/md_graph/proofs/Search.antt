@@ -2,9 +2,11 @@
 use Rattle.std.proofs.Common.{◌≡◌, ℕ, ◌+◌, ◌-◌, ◌<◌, ◌≤◌, zero, suc, Bool, true, false, cond, List, [], ◌∷◌, ◌≢◌, ◌⊎◌, refl, sym, ◌∙◌, ap, subst, inl, inr, true≢false, arith, ltb, ltb-true, ltb-false}
 use Rattle.std.specs.FinSet.{contains, empty, insert, remove, union, intersection, difference, len, items, from_list, contains-items, contains-from_list, len-insert, len-remove, len-empty, empty_of_len}
 use Rattle.std.specs.Cmp.{nat_cmp_total}
+use Rattle.std.proofs.Math.Logic.{⊎_swap}
+use mathlib.Mathlib.Data.Bool.Basic.{dichotomy}
 use Rattle.std.specs.Ordering.{nat_cmp}
 use Rattle.md_graph.specs.Sets.{NameSet, Has, Lacks, Within, HasTwo, only_name}
-use Rattle.std.proofs.lemmas.Bool.{cases_Bool}
+use Rattle.std.proofs.lemmas.Bool.{cases_Bool, cases_lt}
 use Rattle.md_graph.proofs.SetLemmas.{Has-along, along_two, only_new, minus_lacks, clash, same_name, empty_lacks, insert_new, insert_old, of_insert, insert_lacks, remove_left, of_remove, same_members, Within-refl, Within-trans, remove_insert, insert_within, insert_known, of_meet, of_union, union_left, union_right, of_minus, minus_has, lacks_within}
 
 -- each set is the set of a list
@@ -85,13 +87,9 @@ pub decide_some : (s : NameSet) (P : ℕ → Type 0) → ((x : ℕ) → Has s x 
 decide_some s P d =
     elim (search_members P (λ x. P x → ⊥) s d) [ inl w ↦ inl w | inr n ↦ inr (λ w. n w.0 w.1 w.2) ]
 
-turn : {P : Type 0} → Decided P → (P → ⊥) ⊎ P
-turn (inl p) = inr p
-turn (inr n) = inl n
-
 pub decide_all : (s : NameSet) (P : ℕ → Type 0) → ((x : ℕ) → Has s x → Decided (P x)) → Decided ((x : ℕ) → Has s x → P x)
 decide_all s P d =
-    elim (search_members (λ x. P x → ⊥) P s (λ x h. turn (d x h))) [ inl w ↦ inr (λ f. w.2 (f w.0 w.1)) | inr n ↦ inl n ]
+    elim (search_members (λ x. P x → ⊥) P s (λ x h. ⊎_swap (d x h))) [ inl w ↦ inr (λ f. w.2 (f w.0 w.1)) | inr n ↦ inl n ]
 
 -- a subset with P, or all with N
 abbrev SearchedSets : NameSet → Type 1
@@ -140,17 +138,14 @@ decide_some_set s P d =
 
 pub decide_all_sets : (s : NameSet) (P : NameSet → Type 0) → ((a : NameSet) → Within a s → Decided (P a)) → Decided ((a : NameSet) → Within a s → P a)
 decide_all_sets s P d =
-    elim (search_sets s (λ a. P a → ⊥) P (λ a w. turn (d a w))) [ inl w ↦ inr (λ f. w.2 (f w.0 w.1)) | inr n ↦ inl n ]
+    elim (search_sets s (λ a. P a → ⊥) P (λ a w. ⊎_swap (d a w))) [ inl w ↦ inr (λ f. w.2 (f w.0 w.1)) | inr n ↦ inl n ]
 
 pub decide_within : (a b : NameSet) → Decided (Within a b)
 decide_within a b = decide_all a (Has b) (λ x h. decide_test (contains b x) true)
 
 -- a member of a that b lacks, or a lies in b
 pub outside_or_within : (a b : NameSet) → ((x : ℕ) × Has a x × Lacks b x) ⊎ Within a b
-outside_or_within a b = search_members (Lacks b) (Has b) a (λ x h. turn_test (contains b x)) where
-  turn_test : (t : Bool) → (t ≡ false) ⊎ (t ≡ true)
-  turn_test true = inr refl
-  turn_test false = inl refl
+outside_or_within a b = search_members (Lacks b) (Has b) a (λ x h. dichotomy (contains b x))
 
 -- a member of both, or none
 pub meet_or_disjoint : (a b : NameSet) → ((x : ℕ) × Has a x × Has b x) ⊎ ((x : ℕ) → Has a x → Lacks b x)
@@ -296,10 +291,7 @@ len_single s x only =
 
 -- a set with another member than x, or with x alone
 pub other_or_alone : (s : NameSet) (x : ℕ) → ((y : ℕ) × Has s y × (y ≢ x)) ⊎ ((y : ℕ) → Has s y → y ≡ x)
-other_or_alone s x = search_members (λ y. y ≢ x) (λ y. y ≡ x) s (λ y h. swapped (same_name y x)) where
-  swapped : {P : Type 0} → P ⊎ (P → ⊥) → (P → ⊥) ⊎ P
-  swapped (inl p) = inr p
-  swapped (inr n) = inl n
+other_or_alone s x = search_members (λ y. y ≢ x) (λ y. y ≡ x) s (λ y h. ⊎_swap (same_name y x))
 
 pub two_of_len : (s : NameSet) → 2 ≤ len s → HasTwo s
 two_of_len s b =
@@ -334,13 +326,10 @@ len_four s a b c d ha hb hc hd ab ac bc ad bd cd =
 first_below : (s : NameSet) (n x : ℕ) → x < n → Has s x → (z : ℕ) × Has s z × ((y : ℕ) → Has s y → z ≤ y)
 first_below s zero x b h = absurd (omega arith)
 first_below s (suc n) x b h =
-    elim (search_members (λ y. y < x) (λ y. x ≤ y) s (λ y k. order y x)) [
+    elim (search_members (λ y. y < x) (λ y. x ≤ y) s (λ y k. cases_lt y x)) [
       | inl f ↦ first_below s n f.0 (let l : f.0 < x = f.2 in omega arith) f.1
       | inr none ↦ (x, h, none)
     ]
-  where
-    order : (y x : ℕ) → (y < x) ⊎ (x ≤ y)
-    order y x = elim (cases_Bool (ltb y x)) [ inl t ↦ inl (ltb-true y x t) | inr t ↦ inr (ltb-false y x t) ]
 
 pub first_member : (s : NameSet) (x : ℕ) → Has s x → (z : ℕ) × Has s z × ((y : ℕ) → Has s y → z ≤ y)
 first_member s x h = first_below s (x + 1) x (omega arith) h

@@ -1,8 +1,10 @@
 -- What `contains` answers of each set of names, one way and back, and the orders of sets.
 use Rattle.std.proofs.Common.{◌≡◌, ℕ, ◌<◌, not, arith, Bool, true, false, ◌≢◌, ◌⊎◌, refl, sym, ◌∙◌, ap, subst, inl, inr, true≢false, eqb-true, eq-eqb, ltb, ltb-true, ltb-false, ◌≤◌, nat_eq}
 use Rattle.std.proofs.lemmas.Bool.{cases_Bool, true_from_ne_false, false_from_ne_true, or_cases, or_parts, or_left, or_right, or_from, and_parts, and_cases, and_from, and_left, and_right, not-true, not-false, not_from_false, not_from_true}
+-- two numbers are equal or not
+pub use Rattle.std.proofs.lemmas.Bool.{cases_eq as same_name}
 use Rattle.std.specs.FinSet.{contains, empty, insert, remove, retain, union, intersection, difference, contains-empty, contains-insert, contains-remove, contains-retain, contains-union, contains-intersection, contains-difference, same_set, nat_cmp-IsAntisymmetric}
-use Rattle.std.specs.Cmp.{nat_cmp_total, unsigned_tied}
+use Rattle.std.specs.Cmp.{both_ways, nat_cmp_total, unsigned_tied}
 use Rattle.std.specs.Ordering.{nat_cmp, eq_by_cmp}
 use Rattle.md_graph.specs.Sets.{NameSet, Has, Lacks, Within, Disjoint, only_name}
 use Rattle.md_graph.specs.NameSet.{NoneFrom, told_apart}
@@ -16,10 +18,6 @@ tied q k h = eqb-true q k (sym (unsigned_tied q k) ∙ h)
 
 pub tie : (q k : ℕ) → q ≡ k → eq_by_cmp nat_cmp q k ≡ true
 tie q k h = unsigned_tied q k ∙ eq-eqb q k h
-
--- two numbers are equal or not
-pub same_name : (x y : ℕ) → (x ≡ y) ⊎ (x ≢ y)
-same_name x y = elim (cases_Bool (eq_by_cmp nat_cmp x y)) [ inl h ↦ inl (tied x y h) | inr h ↦ inr (λ e. clash (tie x y e) h) ]
 
 pub ascending_or_not : (a d : ℕ) → a ≢ d → (a < d) ⊎ (d < a)
 ascending_or_not a d n =
@@ -130,13 +128,8 @@ pub only_lacks : (v q : ℕ) → q ≢ v → Lacks (only_name v) q
 only_lacks v q n = insert_lacks empty v q n (empty_lacks q)
 
 -- sets with the same members are equal
-same_test : (a b : Bool) → (a ≡ true → b ≡ true) → (b ≡ true → a ≡ true) → a ≡ b
-same_test true b f g = sym (f refl)
-same_test false true f g = g refl
-same_test false false f g = refl
-
 pub same_members : (s t : NameSet) → Within s t → Within t s → s ≡ t
-same_members s t f g = same_set nat_cmp_total nat_cmp-IsAntisymmetric s t (λ q. same_test _ _ (f q) (g q))
+same_members s t f g = same_set nat_cmp_total nat_cmp-IsAntisymmetric s t (λ q. both_ways _ _ (f q) (g q))
 
 pub Has-along : (s t : NameSet) → s ≡ t → Within s t
 Has-along s t e x h = subst (λ w. Has w x) e h

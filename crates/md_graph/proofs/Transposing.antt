@@ -1,10 +1,10 @@
 -- The six rounds of a transposition.
-use Rattle.std.proofs.Common.{◌≡◌, ℕ, zero, suc, ◌+◌, ◌-◌, ◌*◌, ◌/◌, ◌%◌, ◌^◌, ◌<◌, ◌≤◌, ◌≢◌, Bool, true, ◌&&◌, eqb, eqb-true, min, max, bit_and, bit_or, List, length, length-set, get_or, get_or-set_same, get_or-set_other, set as set_at, refl, sym, ap, ap₂, ◌∙◌, arith, ⊎_elim}
+use Rattle.std.proofs.Common.{◌≡◌, ℕ, zero, suc, ◌+◌, ◌-◌, ◌*◌, ◌/◌, ◌%◌, ◌^◌, ◌<◌, ◌≤◌, ◌≢◌, true, eqb, eqb-true, min, max, bit_and, bit_or, List, length, length-set, get_or, get_or-set_same, get_or-set_other, set as set_at, refl, sym, ap, ap₂, ◌∙◌, add-zero, arith, ⊎_elim}
 use Rattle.std.specs.Int.{bit_at, bit_not, w64}
 use Rattle.std.proofs.Math.Nat.{div-eq_of_lt}
 use Rattle.std.proofs.lemmas.Nat.{shr-shr, shr_split, pow_pos}
 use Rattle.std.proofs.lemmas.Nat.Bits.{bit_at-lt, bit_at_or, bit_at_and, bit_at_not, bit_at_cat_low, bit_at_cat_high}
-use Rattle.std.proofs.lemmas.Bool.{cases_lt, and_parts}
+use Rattle.std.proofs.lemmas.Bool.{cases_lt, agree_below, agree_below_at}
 use Rattle.md_graph.specs.Blocks.{IsFirstHalf, IsRound}
 
 -- ---- bits of shifted words
@@ -46,17 +46,14 @@ at_one words i k q width extra e = rw e (let all : width * 1 ≡ width = omega a
 bits_of_or : (a m x p k : ℕ) → bit_at (bit_or (bit_and a m) (bit_and x p)) k ≡ max (min (bit_at a k) (bit_at m k)) (min (bit_at x k) (bit_at p k))
 bits_of_or a m x p k = bit_at_or (bit_and a m) (bit_and x p) k ∙ ap₂ max (bit_at_and a m k) (bit_at_and x p k)
 
-plus_zero : (n : ℕ) → n + 0 ≡ n
-plus_zero n = omega arith
-
 pub first_halves_at : (words : List ℕ) (i width firsts k : ℕ) → 0 < width → k < 64 → firsts < 2 ^ 64 → bit_at firsts k ≡ 1 - k / width % 2
     → bit_at (bit_or (bit_and (get_or words i 0) firsts) (bit_and (get_or words (i + 32) 0 * 2 ^ width % 2 ^ 64) (bit_not w64 firsts))) k ≡ bit_at (get_or words (i + 32 * (k / width % 2)) 0) (k - width * (k / width % 2))
 first_halves_at words i width firsts k some h fits half =
     let others = bit_at_not w64 firsts k fits h in
     bits_of_or _ firsts _ (bit_not w64 firsts) k
     ∙ bit_cases _ (k / width % 2) (omega arith)
-    (λ e. first_part _ _ _ _ (bit_at-lt _ _) (omega arith) others ∙ ap (bit_at (get_or words i 0)) (sym (plus_zero k)) ∙ at_zero words i k (k / width % 2) width 0 e ∙ ap (bit_at (get_or words (i + 32 * (k / width % 2)) 0)) (plus_zero _))
-    (λ e. second_part _ _ _ _ (bit_at-lt _ _) (omega arith) others ∙ bit_at_shl (get_or words (i + 32) 0) width k h (weight_le k width e) ∙ ap (bit_at (get_or words (i + 32) 0)) (sym (plus_zero (k - width))) ∙ at_one words i k (k / width % 2) width 0 e ∙ ap (bit_at (get_or words (i + 32 * (k / width % 2)) 0)) (plus_zero _))
+    (λ e. first_part _ _ _ _ (bit_at-lt _ _) (omega arith) others ∙ ap (bit_at (get_or words i 0)) (sym (add-zero k)) ∙ at_zero words i k (k / width % 2) width 0 e ∙ ap (bit_at (get_or words (i + 32 * (k / width % 2)) 0)) (add-zero _))
+    (λ e. second_part _ _ _ _ (bit_at-lt _ _) (omega arith) others ∙ bit_at_shl (get_or words (i + 32) 0) width k h (weight_le k width e) ∙ ap (bit_at (get_or words (i + 32) 0)) (sym (add-zero (k - width))) ∙ at_one words i k (k / width % 2) width 0 e ∙ ap (bit_at (get_or words (i + 32 * (k / width % 2)) 0)) (add-zero _))
 
 pub second_halves_at : (words : List ℕ) (i width firsts k : ℕ) → 0 < width → k < 64 → firsts < 2 ^ 64 → bit_at firsts k ≡ 1 - k / width % 2
     → bit_at (bit_or (bit_and (get_or words i 0 / 2 ^ width) firsts) (bit_and (get_or words (i + 32) 0) (bit_not w64 firsts))) k ≡ bit_at (get_or words (i + 32 * (k / width % 2)) 0) (k - width * (k / width % 2) + width)
@@ -103,18 +100,8 @@ done_pair width old new i even odd inside done first second r k hr hk =
 
 -- ---- the constants of the rounds, by computing
 
-abbrev pub passes_below : (ℕ → Bool) → ℕ → Bool
-passes_below p zero = true
-passes_below p (suc n) = p n && passes_below p n
-
-pub from_passes : (p : ℕ → Bool) (n : ℕ) → passes_below p n ≡ true → (k : ℕ) → k < n → p k ≡ true
-from_passes p zero passed k h = absurd (omega arith)
-from_passes p (suc n) passed k h =
-    let both = and_parts (p n) (passes_below p n) passed in
-    ⊎_elim (λ (less : k < n). from_passes p n both.1 k less) (λ (le : n ≤ k). let e : k ≡ n = omega arith in rw e both.0) (cases_lt k n)
-
-half_by : (width firsts : ℕ) → passes_below (λ k. eqb (bit_at firsts k) (1 - k / width % 2)) 64 ≡ true → IsFirstHalf width firsts
-half_by width firsts all k h = eqb-true _ _ (from_passes (λ k. eqb (bit_at firsts k) (1 - k / width % 2)) 64 all k h)
+half_by : (width firsts : ℕ) → agree_below (λ k. eqb (bit_at firsts k) (1 - k / width % 2)) (λ k. true) 64 ≡ true → IsFirstHalf width firsts
+half_by width firsts all k h = eqb-true _ _ (agree_below_at (λ k. eqb (bit_at firsts k) (1 - k / width % 2)) (λ k. true) 64 k all h)
 
 pub half_32 : IsFirstHalf 32 4294967295
 half_32 = half_by 32 4294967295 refl

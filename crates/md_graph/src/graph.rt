@@ -41,13 +41,9 @@ impl Graph {
     pub fn new(alloc: Global) -> Result<Graph, Memory>
         ensures { IfOk result (λ g. g ≡ empty_graph) }
     {
-        let mut rows = Vec::with_capacity(alloc, NAMES as usize)?;
-        for _ in 0..NAMES {
-            rows.push(Names::none())?;
-        }
         Ok(Graph {
             live: Names::none(),
-            rows,
+            rows: empty_rows(alloc, NAMES)?,
         })
     }
 
@@ -98,6 +94,18 @@ impl Graph {
         ensures graph { IsGraph self.now }
     {
         &self.live
+    }
+
+    /// The least number above all vertices: one more than the greatest, or 0 where there is none.
+    pub fn bound(&self) -> u32
+        ensures above { (v : ℕ) → Has self.now.vertices v → v < result }
+        ensures least { (n : ℕ) → ((v : ℕ) → Has self.now.vertices v → v < n) → result ≤ n }
+        ensures few { result ≤ NAMES }
+    {
+        match self.live.last() {
+            Some(last) => last + 1,
+            None => 0,
+        }
     }
 
     /// The least vertex at or above `from`, any number; `None` exactly where there is none.
@@ -250,7 +258,8 @@ impl Graph {
         })
     }
 
-    /// The neighbours of `v` in the complement: none for a name that is no vertex. Condition: `v` is a name.
+    /// The neighbours of `v` in the complement: none for a name that is no vertex. Condition: `v`
+    /// is a name.
     pub fn complement_row(&self, v: u32) -> Names
         requires { v < NAMES }
         ensures { result ≡ neighbours (complement self.now) v }
@@ -324,7 +333,20 @@ fn join_row(rows: &mut [Names], at: usize, first: u32, bits: u64)
     rows[at].insert_block(first, bits);
 }
 
-/// Takes `v` into the row of each member of `names`. Conditions: `v` is a name, and the members have rows.
+/// As many rows without members. Errors: want of memory.
+pub fn empty_rows(alloc: Global, size: u32) -> Result<Vec<Names>, Memory>
+    ensures size { IfOk result (λ rows. length rows.items ≡ size) }
+    ensures none { IfOk result (λ rows. (v : ℕ) → row_of rows.items v ≡ set.empty) }
+{
+    let mut rows = Vec::with_capacity(alloc, size as usize)?;
+    for _ in 0..size {
+        rows.push(Names::none())?;
+    }
+    Ok(rows)
+}
+
+/// Takes `v` into the row of each member of `names`. Conditions: `v` is a name, and the members
+/// have rows.
 pub fn insert_in_rows(rows: &mut [Names], names: &Names, v: u32)
     requires name { v < NAMES }
     requires in_rows { (u : ℕ) → Has names.now u → u < length rows.old }
@@ -481,9 +503,16 @@ mod tests {
         assert!(rt; g.has_vertex(last));
         g.remove_vertex(last);
         expect(&rt, &g, &[5, 64, 200], &[(200, 5)]);
+        assert_eq!(rt; g.bound(), 201);
         g.clear();
         expect(&rt, &g, &[], &[]);
+        assert_eq!(rt; g.bound(), 0);
         assert!(rt; !g.has_vertex(5) && g.row(200).is_empty());
+        let rows = empty_rows(rt.alloc(), 3)?;
+        assert_eq!(rt; rows.len(), 3);
+        for row in &rows {
+            assert!(rt; row.is_empty());
+        }
         Ok(())
     }
 }

@@ -11,7 +11,7 @@ mod steps;
 mod transposition;
 mod words;
 
-pub use graph::{Graph, insert_in_rows};
+pub use graph::{Graph, empty_rows, insert_in_rows};
 pub use members::Members;
 pub use names::Names;
 use std::alloc::{AllocError, AllocFailed};

@@ -54,7 +54,8 @@ mod tests {
     use std::process::Abort;
     use std::test::Fail;
 
-    // Sees how many edges the graph on four vertices has that the list makes, or that it makes none.
+    // Sees how many edges the graph on four vertices has that the list makes, or that it makes
+    // none.
     fn counts(
         rt: &impl Abort,
         alloc: Global,

@@ -16,8 +16,8 @@ use std::marker::Model;
 
 /// A set of names below `NAMES`, kept in place as one bit a name. No call on it takes memory.
 ///
-/// The first `used` words hold all members: the words behind them are 0. Only `none`, `copy`, `and`,
-/// `or` and `minus`, which make a set, write those too.
+/// The first `used` words hold all members: the words behind them are 0. Only `none`, `copy`,
+/// `and`, `or` and `minus`, which make a set, write those too.
 #[derive(Drop)]
 pub struct Names {
     words: [u64; WORDS],
@@ -166,7 +166,8 @@ impl Names {
         first_apart(&self.words, &first.words, &second.words, self.used)
     }
 
-    /// Becomes the members of `of` that neither `first` nor `second` has. It passes over the words in use of both.
+    /// Becomes the members of `of` that neither `first` nor `second` has. It passes over the words
+    /// in use of both.
     pub fn become_alone(&mut self, of: &Names, first: &Names, second: &Names)
         ensures { self.new ≡ set.difference of.now (set.union first.now second.now) }
     {

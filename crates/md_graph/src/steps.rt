@@ -4,8 +4,8 @@ ghost use Rattle.std.specs.Prelude.{◌≡◌, ℕ, ◌+◌, ◌<◌};
 use std::marker::Model;
 use std::sync::ledger::{Blank, Book, Ledger, Share};
 
-/// How many steps were taken, seen as that number. It takes no bytes, nothing of it is computed when
-/// the program runs, and `tick` is the only way on.
+/// How many steps were taken, seen as that number. It takes no bytes, nothing of it is computed
+/// when the program runs, and `tick` is the only way on.
 #[derive(Drop)]
 pub struct Steps<L: Ledger> {
     book: Book<L>,
@@ -21,8 +21,8 @@ impl<L: Ledger> Model for Steps<L> {
 }
 
 impl<L: Ledger> Steps<L> {
-    /// A counter of one's own, at 0. Condition: the blank is the ledger's, with at least one part. A
-    /// function over a blank meets it, called with `Brand` for the ledger.
+    /// A counter of one's own, at 0. Condition: the blank is the ledger's, with at least one part.
+    /// A function over a blank meets it, called with `Brand` for the ledger.
     pub fn new(blank: Blank) -> Steps<L>
         requires name { blank.name ≡ L.name }
         requires parts { blank.parts ≡ L.parts }

@@ -121,8 +121,8 @@ pub(crate) fn move_apart(
     }
 }
 
-// The first `used` words become the bits of `of` that neither `first` nor `second` has. The answer is 0 only where there
-// are none.
+// The first `used` words become the bits of `of` that neither `first` nor `second` has. The answer
+// is 0 only where there are none.
 pub(crate) fn keep_alone(
     words: &mut [u64; WORDS],
     of: &[u64; WORDS],

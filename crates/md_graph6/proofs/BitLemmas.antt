@@ -3,8 +3,8 @@ use Rattle.std.proofs.Common.{◌≡◌, ℕ, ◌+◌, ◌-◌, ◌*◌, ◌/◌
 use Rattle.std.specs.Int.{bit_at}
 use Rattle.std.proofs.lemmas.Nat.{shr-shr, shr_split, shr_below, shl_whole, or_comm, or_shifted, and_mask, one_shl, mul-add-lt, pow-add, pow_pos, mod_below}
 use Rattle.std.proofs.lemmas.Nat.Bits.{bit_at_or, bit_at_above, bit_at_cat_low, bit_at_cat_high, bit_at-zero}
-use Rattle.std.proofs.lemmas.Bool.{cases_lt, and_parts, eqb-true, ltb-true}
-use Rattle.md_graph.proofs.Transposing.{bit_at_shl, passes_below, from_passes}
+use Rattle.std.proofs.lemmas.Bool.{cases_lt, and_parts, eqb-true, ltb-true, agree_below, agree_below_at}
+use Rattle.md_graph.proofs.Transposing.{bit_at_shl}
 use Rattle.md_graph6.specs.declared.body.TheConstants.{TURNED}
 use Rattle.std.proofs.lemmas.List.{get_or_default}
 use Rattle.md_graph6.specs.Bits.{bit}
@@ -106,15 +106,15 @@ read_group body at group inside small bits =
 
 -- whether number g of a table is g with its six bits turned round
 abbrev pub is_turned : List ℕ → ℕ → Bool
-is_turned table g = ltb (get_or table g 0) 64 && passes_below (λ k. eqb (bit_at (get_or table g 0) k) (bit_at g (5 - k))) 6
+is_turned table g = ltb (get_or table g 0) 64 && agree_below (λ k. eqb (bit_at (get_or table g 0) k) (bit_at g (5 - k))) (λ k. true) 6
 
 pub turned_below : (g : ℕ) → g < 64 → get_or TURNED g 0 < 64
 turned_below g h =
-    let all : passes_below (is_turned TURNED) 64 ≡ true = refl in
-    ltb-true _ _ (and_parts _ _ (from_passes (is_turned TURNED) 64 all g h)).0
+    let all : agree_below (is_turned TURNED) (λ g. true) 64 ≡ true = refl in
+    ltb-true _ _ (and_parts _ _ (agree_below_at (is_turned TURNED) (λ g. true) 64 g all h)).0
 
 pub turned_bits : (g : ℕ) → g < 64 → (k : ℕ) → k < 6 → bit_at (get_or TURNED g 0) k ≡ bit_at g (5 - k)
 turned_bits g h k inside =
-    let all : passes_below (is_turned TURNED) 64 ≡ true = refl in
-    let one = (and_parts _ _ (from_passes (is_turned TURNED) 64 all g h)).1 in
-    eqb-true _ _ (from_passes (λ k. eqb (bit_at (get_or TURNED g 0) k) (bit_at g (5 - k))) 6 one k inside)
+    let all : agree_below (is_turned TURNED) (λ g. true) 64 ≡ true = refl in
+    let one = (and_parts _ _ (agree_below_at (is_turned TURNED) (λ g. true) 64 g all h)).1 in
+    eqb-true _ _ (agree_below_at (λ k. eqb (bit_at (get_or TURNED g 0) k) (bit_at g (5 - k))) (λ k. true) 6 k one inside)

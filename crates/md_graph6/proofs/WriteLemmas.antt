@@ -7,7 +7,7 @@ use Rattle.std.proofs.lemmas.List.{take-append-drop, get_or_default, length-repl
 use Rattle.std.proofs.Math.Seq.{take-append_seam}
 use Rattle.std.specs.List.{AllPass}
 use Rattle.md_graph.specs.declared.TheConstants.{NAMES}
-use Rattle.md_graph.proofs.NameLemmas.{few_below}
+use Rattle.md_graph.proofs.NameLemmas.{ascending_items, few_below}
 use Rattle.md_graph.proofs.Transposing.{bit_at_shl, bit_at_shr}
 use Rattle.md_graph6.proofs.BitLemmas.{bit_at_mod, bit_at_shl_low}
 use Rattle.md_graph6.specs.Size.{size_text}
@@ -190,6 +190,12 @@ IsWritten-more {old} {new} {g} {j} f written groups before here is = record {
 -- the row of a vertex
 row_at : {g : PlainGraph} (row : NameSet) (v u : ℕ) → IsGraph g → row ≡ neighbours g v → set.contains row u ≡ adjacent g u v
 row_at {g} row v u is e = ap (λ s. set.contains s u) e ∙ contains-neighbours is v u ∙ adjacent_sym g v u
+
+-- consecutive vertices are names
+pub consecutive_name : (g : PlainGraph) (least n j : ℕ) → n ≡ length (ascending g.vertices) → AreFrom g least n → j < n → least + j < NAMES
+consecutive_name g least n j count consecutive inside =
+    let below = (ascending_items g.vertices 0 NAMES j 0 (omega arith)).below in
+    omega (arith, below, consecutive j inside)
 
 -- where the vertices are consecutive numbers, a row is a column
 pub consecutive_column : {g : PlainGraph} (row : NameSet) (least n j v : ℕ) → IsGraph g → v ≡ least + j → row ≡ neighbours g v

@@ -116,10 +116,6 @@ turned_both g u v a b c d is = record { path = is.path; first = is.second; secon
 pub turned_alike : (g : PlainGraph) (u v z : ℕ) (joined : Bool) → IsSeenAlike g u v joined z → IsSeenAlike g v u joined z
 turned_alike g u v z joined is = record { vertex = is.vertex; first = is.second; second = is.first }
 
-pub twice : (b : Bool) → not (not b) ≡ b
-twice true = refl
-twice false = refl
-
 -- ---- what isn't there
 
 module _ {g : PlainGraph} (is_graph : IsGraph g) (u v : ℕ) (differ : u ≢ v) (joined : Bool) (is : joined ≡ adjacent g u v)

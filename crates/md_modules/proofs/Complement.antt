@@ -6,6 +6,7 @@ use Rattle.md_modules.specs.Modules.{IsModule, IsStrong}
 use Rattle.md_modules.specs.Kinds.{IsSplit}
 use Rattle.md_modules.specs.Laws.{ComplementTurns, ComplementTurnsKinds}
 use Rattle.std.proofs.lemmas.Bool.{false_from_ne_true}
+use Rattle.std.proofs.Math.Bool.{not-not}
 use Rattle.md_graph.proofs.SetLemmas.{clash, same_turned}
 
 -- at two different names the complement says the other value
@@ -13,10 +14,7 @@ pub co_value : (e : ℕ → ℕ → Bool) (a b : ℕ) → a ≢ b → co e a b �
 co_value e a b differ = ap (λ t. not t && not (e a b)) (false_from_ne_true (nat_eq a b) (λ h. differ (eqb-true a b h)))
 
 back_value : (a b : Bool) → not a ≡ not b → a ≡ b
-back_value true true p = refl
-back_value true false p = sym p
-back_value false true p = sym p
-back_value false false p = refl
+back_value a b p = sym (not-not a) ∙ ap not p ∙ not-not b
 
 pub co_adjacency : (e : ℕ → ℕ → Bool) → IsAdjacency e → IsAdjacency (co e)
 co_adjacency e adj = record {

@@ -12,12 +12,16 @@ use Rattle.md_graph.proofs.SetLemmas.{clash, only_has, of_only, only_lacks, same
 use Rattle.md_graph.proofs.Search.{alike_unless}
 use Rattle.md_modules.proofs.Components.{other_value, closed_follow}
 
+-- What is to be looked at was taken: it is of s, and isn't left.
+abbrev pub AreTaken : NameSet → NameSet → NameSet → Type 0
+AreTaken s left todo = (y : ℕ) → Has todo y → Has s y × Lacks left y
+
 -- The least module that holds begun, a member v of which is fixed: each turn takes the names left that tell v and w apart.
 pub record IsGrowing (e : ℕ → ℕ → Bool) (s : NameSet) (v : ℕ) (begun left todo : NameSet) : Type 0 where
   pub start : Has begun v
   pub begins : (y : ℕ) → Has begun y → Has s y × Lacks left y
   pub inside : Within left s
-  pub taken : (y : ℕ) → Has todo y → Has s y × Lacks left y
+  pub taken : AreTaken s left todo
   pub least : (m : NameSet) → IsModule e s m → Within begun m → (y : ℕ) → Has s y → Lacks left y → Has m y
   pub looked : (w : ℕ) → Has s w → Lacks left w → Lacks todo w → (y : ℕ) → Has left y → e v y ≡ e w y
 
@@ -25,7 +29,7 @@ pub record IsGrowing (e : ℕ → ℕ → Bool) (s : NameSet) (v : ℕ) (begun l
 pub record IsGoingBack (e : ℕ → ℕ → Bool) (s : NameSet) (v : ℕ) (left todo : NameSet) : Type 0 where
   pub start : Has left v
   pub inside : Within left s
-  pub taken : (y : ℕ) → Has todo y → Has s y × Lacks left y
+  pub taken : AreTaken s left todo
   pub whole : (y : ℕ) → Has s y → Lacks left y → (m : NameSet) → IsModule e s m → Has m v → Has m y → Within s m
   pub looked : (w : ℕ) → Has s w → Lacks left w → Lacks todo w → (y : ℕ) → Has left y → e w y ≡ e w v
 

@@ -1,5 +1,5 @@
 -- Induced paths on four names: each prime set has one, and where a set has one some strong module is prime.
-use Rattle.std.proofs.Common.{◌≡◌, ℕ, ◌+◌, ◌<◌, zero, suc, Bool, true, false, not, ◌≢◌, ◌⊎◌, refl, sym, ◌∙◌, ap, subst, inl, inr, arith}
+use Rattle.std.proofs.Common.{◌≡◌, ℕ, ◌+◌, ◌<◌, zero, suc, Bool, true, false, not, ◌≢◌, refl, sym, ◌∙◌, ap, subst, inl, inr, arith}
 use Rattle.std.specs.FinSet.{contains, difference, remove, len}
 use Rattle.md_graph.specs.Sets.{NameSet, Has, Lacks, Within, HasSome, HasTwo, only_name}
 use Rattle.md_modules.specs.Adjacency.{IsAdjacency}
@@ -9,22 +9,14 @@ use Rattle.md_modules.specs.Components.{IsClosed, IsComponent}
 use Rattle.md_modules.specs.InducedPaths.{IsInducedPath, HasInducedPath}
 use Rattle.md_modules.specs.Laws.{PrimeHasInducedPath, NoInducedPathIfNonePrime}
 use Rattle.std.proofs.lemmas.Bool.{false_from_ne_true}
+use Rattle.std.proofs.Math.Logic.{⊎_swap}
+use mathlib.Mathlib.Data.Bool.Basic.{eq-or-eq-not}
 use Rattle.md_graph.proofs.SetLemmas.{clash, same_name, only_has, of_only, only_lacks, remove_gone, remove_left, of_remove, minus_has, of_minus, ascending_or_not}
 use Rattle.md_graph.proofs.Search.{Decided, decide_test, decide_both, decide_like, search_members, larger_or_same, smallest, len_proper}
 use Rattle.md_modules.proofs.Components.{closed_rest, closed_follow, decide_split, component_of, crossing_pair, component_unsplit}
 use Rattle.md_modules.proofs.Strong.{whole_strong, strong_of_strong}
 use Rattle.md_modules.proofs.Modules.{decide_strong}
 use Rattle.md_modules.proofs.Children.{prime_unsplit, component_strong}
-
-either_value : (a v : Bool) → (a ≡ v) ⊎ (a ≡ not v)
-either_value true true = inl refl
-either_value true false = inr refl
-either_value false true = inr refl
-either_value false false = inl refl
-
-turned : {P Q : Type 0} → P ⊎ Q → Q ⊎ P
-turned (inl p) = inr p
-turned (inr q) = inl q
 
 -- a test for the other value than v
 abbrev is_other : Bool → Bool → Bool
@@ -135,7 +127,7 @@ module _ {e : ℕ → ℕ → Bool} where
       -- a name that x sees as v says
       seen_as : (z : ℕ) × Has (remove s x) z × (e x z ≡ v)
       seen_as =
-          elim (search_members (λ z. e x z ≡ v) (λ z. e x z ≡ not v) (remove s x) (λ z h. either_value (e x z) v)) [
+          elim (search_members (λ z. e x z ≡ v) (λ z. e x z ≡ not v) (remove s x) (λ z h. eq-or-eq-not (e x z) v)) [
             | inl f ↦ f
             | inr none ↦ absurd (prime_unsplit s prime (not v) (only_name x) (record {
               some = (x, only_has x);
@@ -148,7 +140,7 @@ module _ {e : ℕ → ℕ → Bool} where
       -- a closed part of the rest has a name that x sees otherwise
       seen_otherwise : (c : NameSet) → IsClosed e (remove s x) c v → HasSome c → (z : ℕ) × Has c z × (e x z ≡ not v)
       seen_otherwise c closed some =
-          elim (search_members (λ z. e x z ≡ not v) (λ z. e x z ≡ v) c (λ z h. turned (either_value (e x z) v))) [
+          elim (search_members (λ z. e x z ≡ not v) (λ z. e x z ≡ v) c (λ z h. ⊎_swap (eq-or-eq-not (e x z) v))) [
             | inl f ↦ f
             | inr none ↦ absurd (prime_unsplit s prime v c (record {
               some = some;
@@ -199,7 +191,7 @@ module _ {e : ℕ → ℕ → Bool} where
           | inl f ↦ path_from_split s two.0 false prime two.2 f.0 f.1
           | inr whole ↦ elim (decide_split {e = e} (remove s two.0) true) [
             | inl f ↦ path_from_split s two.0 true prime two.2 f.0 f.1
-            | inr co_whole ↦ elim (search_members (λ z. z ≢ two.1) (λ z. z ≡ two.1) (remove s two.0) (λ z h. turned (same_name z two.1))) [
+            | inr co_whole ↦ elim (search_members (λ z. z ≢ two.1) (λ z. z ≡ two.1) (remove s two.0) (λ z h. ⊎_swap (same_name z two.1))) [
               | inr alone ↦ absurd (prime_unsplit s prime (e two.0 two.1) (only_name two.0)
                   (pair_splits s two.0 two.1 two.2 two.3 (λ same. two.4 (sym same)) alone))
               | inl f ↦ path_within (remove s two.0) s (λ z h. (of_remove s two.0 z h).1)

@@ -9,6 +9,7 @@ use Rattle.md_modules.specs.Quotients.{IsQuotient, IsModularPartition, class}
 use Rattle.md_modules.specs.InducedPaths.{IsInducedPath, HasInducedPath}
 use Rattle.md_modules.specs.Laws.{MaximalModules, PrimeHasMaximalModules}
 use Rattle.std.proofs.lemmas.Bool.{cases_Bool, false_from_ne_true}
+use Rattle.std.proofs.Math.Nat.{ne_of_lt}
 use Rattle.md_graph.proofs.SetLemmas.{clash, same_name, Has-along, same_members, insert_new, insert_old, remove_gone, remove_left, of_remove, retain_has, of_retain, retain_lacks, of_retain_lacks, minus_has, of_minus}
 use Rattle.md_graph.proofs.Search.{Decided, decide_test, decide_both, decide_not, decide_if, decide_same, decide_like, decide_below, decide_some, decide_some_set, decide_all, test_of, test_holds, of_test, larger_or_same, choose, len_single, other_or_alone, two_of_len, len_fewer, len_one_more, len_within, len_four, first_member}
 use Rattle.md_modules.proofs.Components.{split_rest, closed_module, split_closed}
@@ -43,14 +44,16 @@ module _ {e : ℕ → ℕ → Bool} (adj : IsAdjacency e) (s r : NameSet) (rep :
       (λ x h. false_from_ne_true _ (λ k. differ (sym (of_class s rep (rep a) x h).1 ∙ (of_class s rep (rep b) x k).1)))
       a (rep a) b (rep b) (class_has s rep (rep a) a ha refl) (own_class (rep a) (part.leads a ha)) (class_has s rep (rep b) b hb refl) (own_class (rep b) (part.leads b hb))
 
+  -- a class that k names has a name of s
+  lifted_some : (k : NameSet) → Within k r → HasSome k → HasSome (lifted s rep k)
+  lifted_some k inside some =
+      let named : Has r some.0 = inside some.0 some.1 in
+      (some.0, retain_has s (λ x. contains k (rep x)) some.0 (part.inside some.0 named) (subst (Has k) (sym (part.own some.0 named)) some.1))
+
   -- the classes of a module of the quotient are a module
   pub lifted_module : (k : NameSet) → IsModule e r k → IsModule e s (lifted s rep k)
   lifted_module k is = record {
-    some = (
-      is.some.0,
-      retain_has s (λ x. contains k (rep x)) is.some.0 (part.inside is.some.0 (is.inside is.some.0 is.some.1))
-          (subst (Has k) (sym (part.own is.some.0 (is.inside is.some.0 is.some.1))) is.some.1),
-    );
+    some = lifted_some k is.inside is.some;
     inside = λ x h. (of_retain s _ x h).0;
     alike = λ a b x ha hb hx l.
         let a_in : Has s a × Has k (rep a) = of_retain s (λ z. contains k (rep z)) a ha in
@@ -64,11 +67,7 @@ module _ {e : ℕ → ℕ → Bool} (adj : IsAdjacency e) (s r : NameSet) (rep :
   -- a split of the quotient is one of s
   pub lifted_split : (k : NameSet) (v : Bool) → IsSplit e r k v → IsSplit e s (lifted s rep k) v
   lifted_split k v is = record {
-    some = (
-      is.some.0,
-      retain_has s (λ x. contains k (rep x)) is.some.0 (part.inside is.some.0 (is.inside is.some.0 is.some.1))
-          (subst (Has k) (sym (part.own is.some.0 (is.inside is.some.0 is.some.1))) is.some.1),
-    );
+    some = lifted_some k is.inside is.some;
     inside = λ x h. (of_retain s _ x h).0;
     rest = (is.rest.0, part.inside is.rest.0 is.rest.1, retain_lacks s (λ x. contains k (rep x)) is.rest.0 (subst (Lacks k) (sym (part.own is.rest.0 is.rest.1)) is.rest.2));
     across = λ a b ha hb l.
@@ -334,10 +333,7 @@ module _ (e : ℕ → ℕ → Bool) (s : NameSet) where
           let path : HasInducedPath e r = prime_path adj r quotient_prime in
           let is : IsInducedPath e r path.0 path.1 path.2 path.3 = path.4 in
           len_four r path.0 path.1 path.2 path.3 is.inside.0 is.inside.1 is.inside.2 is.inside.3
-          is.different.0 is.different.1 is.different.2 (ends_differ path.0 path.3 is.ascending) is.different.3 is.different.4
-        where
-          ends_differ : (a d : ℕ) → a < d → a ≢ d
-          ends_differ a d l same = let k : a < d = l in let q : a ≡ d = same in omega arith
+          is.different.0 is.different.1 is.different.2 (ne_of_lt is.ascending) is.different.3 is.different.4
 
     maximal_disjoint : (m n : NameSet) → IsMaximalModule e s m → IsMaximalModule e s n → m ≢ n → Disjoint m n
     maximal_disjoint m n a b differ x h = false_from_ne_true _ (λ k. differ (maximal_meet adj s m n x prime a b h k))

@@ -1,4 +1,4 @@
-//! Sets of names in little room, as the classes of a partition are kept: most of them are names alone.
+//! Sets of names in little room, as the classes of a partition are kept: most are names alone.
 ghost use Rattle.std.specs.Prelude.{◌≡◌, ℕ, ◌<◌, IfOk, IfSome, IfNone};
 ghost use Rattle.std.specs.FinSet.{len};
 ghost use Rattle.md_graph.specs.NameSet.{IsLeastFrom, NoneFrom};

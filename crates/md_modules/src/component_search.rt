@@ -95,10 +95,10 @@ fn unreached(graph: &Graph, within: &Names, x: u32, value: bool, left: &mut Name
     // at the names left in a look back; or a look back, which costs one for each name left, saves
     // the turns of as many names or more. So a search of k names costs some 6k + 4 operations on
     // rows: ten for one name. The searches of one node take each name of its set once, and a search
-    // that finds one component alone once more. The nodes of one depth share no name, and n vertices
-    // leave room for n depths, whose sets shrink by a name at least. So the searches for components
-    // take some n² names and 6n² operations at most, where n is large; what `grow`, `back` and
-    // `maximal_modules` cost at prime nodes comes beside.
+    // that finds one component alone once more. The nodes of one depth share no name, and n
+    // vertices leave room for n depths, whose sets shrink by a name at least. So the searches for
+    // components take some n² names and 6n² operations at most, where n is large; what `grow`,
+    // `back` and `maximal_modules` cost at prime nodes comes beside.
     let mut from_end = false;
     while let Some(w) = next(left, &todo, from_end) {
         turn(graph, within, value, w, left, &mut todo);

@@ -32,9 +32,9 @@ pub fn is_p4(graph: &Graph, p: &P4) -> bool
 }
 
 /// An induced path on four vertices that holds `x`; `None` exactly where there is none. It takes no
-/// memory, and at most a fixed number of row operations for each vertex: some for each vertex of the
-/// smaller side, those that `x` sees or the others, and of the other side for each in a part that
-/// one of the smaller side meets. Condition: `x` is a vertex.
+/// memory, and at most a fixed number of row operations for each vertex: some for each vertex of
+/// the smaller side, those that `x` sees or the others, and of the other side for each in a part
+/// that one of the smaller side meets. Condition: `x` is a vertex.
 pub fn find_p4_with(graph: &Graph, x: u32) -> Option<P4>
     requires { Has graph.now.vertices x }
     ensures found { IfSome result (λ p.
@@ -79,8 +79,8 @@ fn has_path_edges(graph: &Graph, a: u32, b: u32, c: u32, d: u32) -> bool
     edges && !chords
 }
 
-// An induced path with `x`: two of it lie on one side of `x`, in one part, and one on the other side.
-// `x` sees all of `first` and none of `second` (`value` is true), or the other way round.
+// An induced path with `x`: two of it lie on one side of `x`, in one part, and one on the other
+// side. `x` sees all of `first` and none of `second` (`value` is true), or the other way round.
 fn path_by_sides(graph: &Graph, x: u32, first: &Names, second: &Names, value: bool) -> Option<P4>
     requires graph { IsGraph graph.now }
     requires first { IsSide graph.now x value first.now }
@@ -124,7 +124,8 @@ fn path_by_parts(graph: &Graph, x: u32, names: &Names, others: &Names, value: bo
 }
 
 // Names of `names` to begin parts from: a part without one has no name that one of `others` meets,
-// so that none of `others` tells two of the part apart. All of `names`, where `others` is no smaller.
+// so that none of `others` tells two of the part apart. All of `names`, where `others` is no
+// smaller.
 fn to_begin_from(graph: &Graph, names: &Names, others: &Names, value: bool) -> Names
     requires { IsGraph graph.now }
     ensures inside { Within result names.now }

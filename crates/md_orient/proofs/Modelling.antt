@@ -1,6 +1,6 @@
 -- The orders of a permutation model: the vertices are put at their places, and two such orders realise the graph.
 use Rattle.std.proofs.Common.{◌≡◌, ◌≢◌, ◌⊎◌, ℕ, ◌+◌, ◌<◌, Bool, true, false, ◌||◌, List, [], ◌∷◌, length, slice_get, set, Some, refl, sym, ◌∙◌, ap, subst, inl, inr, arith}
-use Rattle.std.proofs.lemmas.Bool.{true≢false, false_from_ne_true, or_left, or_right}
+use Rattle.std.proofs.lemmas.Bool.{true≢false, false_from_ne_true, or_cases, or_left, or_right}
 use Rattle.std.proofs.lemmas.List.{length-set, get_or-set_same, get_or-set_other}
 use Rattle.std.proofs.lemmas.Option.{slice_get-get_or, get_or_from_slice_get, slice_get_within}
 use Rattle.std.specs.FinSet.{contains, len, retain, union}
@@ -15,7 +15,6 @@ use Rattle.md_forcing.specs.declared.seen.Side.TheVariants.{Edges, NonEdges}
 use Rattle.md_forcing.specs.Lists.{Holds}
 use Rattle.md_forcing.specs.Forcing.{arc}
 use Rattle.md_forcing.specs.Sides.{adjacent_on}
-use Rattle.md_forcing.proofs.SeenRows.{of_or}
 use Rattle.md_forcing.proofs.NameLists.{of_ascending, in_ascending}
 use Rattle.md_orientation.specs.Chains.{HasForcingChain}
 use Rattle.md_orientation.specs.Orientations.{IsTransitiveOrientation}
@@ -39,7 +38,7 @@ merged_count s a b f g is_a is_b in_f in_g apart =
       | inl i ↦ let t = sym (is_a u) ∙ i in retain_has s p u (in_f u t) (or_left _ _ t)
       | inr i ↦ let t = sym (is_b u) ∙ i in retain_has s p u (in_g u t) (or_right _ _ t)
     ])
-    (λ u h. elim (of_or (f u) (g u) (of_retain s p u h).1) [
+    (λ u h. elim (or_cases (f u) (g u) (of_retain s p u h).1) [
       | inl t ↦ union_left a b u (is_a u ∙ t)
       | inr t ↦ union_right a b u (is_b u ∙ t)
     ]))

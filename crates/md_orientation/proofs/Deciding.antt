@@ -1,26 +1,22 @@
 -- Whether an arc reaches another is decided.
-use Rattle.std.proofs.Common.{◌≡◌, ◌⊎◌, ℕ, zero, suc, ◌<◌, Bool, true, false, List, [], ◌∷◌, ◌++◌, sym, ap, subst, inl, inr, arith}
+use Rattle.std.proofs.Common.{◌≡◌, ◌⊎◌, ℕ, Bool, true, false, List, [], ◌∷◌, ap, subst, inl, inr}
 use Rattle.md_graph.proofs.SetLemmas.{same_name}
 use Rattle.md_graph.proofs.Search.{Decided, decide_test, decide_both, decide_three, decide_not, decide_like}
 use Rattle.md_forcing.specs.declared.arc.Arc.{Arc}
 use Rattle.md_forcing.specs.Lists.{Holds}
-use Rattle.md_forcing.specs.Forcing.{arc, IsArc, ForcesDirectly, Leads, Reaches}
-use Rattle.md_forcing.proofs.ListLemmas.{holds_left, holds_right}
-use Rattle.md_forcing.proofs.NameLists.{less_or_last}
+use Rattle.md_forcing.specs.Forcing.{IsArc, ForcesDirectly, Leads, Reaches}
 use Rattle.md_forcing.proofs.Reaching.{reaches_itself, reaches_step, reaches_on}
 use Rattle.md_orientation.specs.Laws.{IsBelow}
+use Rattle.md_orientation.proofs.ArcLists.{has_list}
 
 pub decide_either : {P Q : Type 0} → Decided P → Decided Q → Decided (P ⊎ Q)
 decide_either (inl p) d = inl (inl p)
 decide_either (inr n) (inl q) = inl (inr q)
 decide_either (inr n) (inr m) = inr (λ h. elim h [ inl p ↦ n p | inr q ↦ m q ])
 
-pub decide_name : (u v : ℕ) → Decided (u ≡ v)
-decide_name u v = same_name u v
-
 pub decide_arc : (a b : Arc) → Decided (a ≡ b)
 decide_arc a b =
-    decide_like {P = (a.tail ≡ b.tail) × (a.head ≡ b.head)} (λ p i. record { tail = p.0 i; head = p.1 i }) (λ e. (ap (λ x. x.tail) e, ap (λ x. x.head) e)) (decide_both (decide_name a.tail b.tail) (decide_name a.head b.head))
+    decide_like {P = (a.tail ≡ b.tail) × (a.head ≡ b.head)} (λ p i. record { tail = p.0 i; head = p.1 i }) (λ e. (ap (λ x. x.tail) e, ap (λ x. x.head) e)) (decide_both (same_name a.tail b.tail) (same_name a.head b.head))
 
 pub decide_holds : (l : List Arc) (a : Arc) → Decided (Holds l a)
 decide_holds [] a = inr (λ h. h)
@@ -33,8 +29,8 @@ module _ (e : ℕ → ℕ → Bool) where
   decide_forces : (a b : Arc) → Decided (ForcesDirectly e a b)
   decide_forces a b =
       decide_either
-      (decide_three (decide_name a.tail b.tail) (decide_not (decide_name a.head b.head)) (decide_test (e a.head b.head) false))
-      (decide_three (decide_name a.head b.head) (decide_not (decide_name a.tail b.tail)) (decide_test (e a.tail b.tail) false))
+      (decide_three (same_name a.tail b.tail) (decide_not (same_name a.head b.head)) (decide_test (e a.head b.head) false))
+      (decide_three (same_name a.head b.head) (decide_not (same_name a.tail b.tail)) (decide_test (e a.tail b.tail) false))
 
   -- from a to b with no arcs between them but those of the list
   abbrev Through : List Arc → Arc → Arc → Type 0
@@ -79,33 +75,11 @@ module _ (e : ℕ → ℕ → Bool) where
   leads_through l all (c ∷ list) a b leads =
       through_member l a c b (all c leads.0) leads.0 (through_here l a c (inr (leads.0, leads.1))) (leads_through l all list c b leads.2)
 
--- all arcs between names below a bound
-row_of_arcs : ℕ → ℕ → List Arc
-row_of_arcs u zero = []
-row_of_arcs u (suc m) = arc u m ∷ row_of_arcs u m
-
-all_arcs : ℕ → ℕ → List Arc
-all_arcs zero m = []
-all_arcs (suc k) m = row_of_arcs k m ++ all_arcs k m
-
-in_row : (u m v : ℕ) → v < m → Holds (row_of_arcs u m) (arc u v)
-unfolding row_of_arcs
-in_row u zero v h = absurd (omega arith)
-in_row u (suc m) v h = elim (less_or_last v m h) [ inl l ↦ inr (in_row u m v l) | inr same ↦ inl (ap (arc u) same) ]
-
-in_all : (k m u v : ℕ) → u < k → v < m → Holds (all_arcs k m) (arc u v)
-unfolding all_arcs
-in_all zero m u v h l = absurd (omega arith)
-in_all (suc k) m u v h l =
-    elim (less_or_last u k h) [
-      | inl less ↦ holds_right (row_of_arcs k m) (all_arcs k m) (arc u v) (in_all k m u v less l)
-      | inr same ↦ holds_left (row_of_arcs k m) (all_arcs k m) (arc u v) (subst (λ x. Holds (row_of_arcs k m) (arc x v)) (sym same) (in_row k m v l))
-    ]
-
 pub decide_reaches : (e : ℕ → ℕ → Bool) (n : ℕ) → IsBelow e n → (a b : Arc) → Decided (Reaches e a b)
 decide_reaches e n below a b =
-    let l = all_arcs n n in
-    let all : (c : Arc) → IsArc e c → Holds l c = λ c is. let ends = below c.tail c.head is in in_all n n c.tail c.head ends.0 ends.1 in
+    let arcs = has_list (IsArc e) (decide_is_arc e) n (λ c is. below c.tail c.head is) in
+    let l = arcs.0 in
+    let all : (c : Arc) → IsArc e c → Holds l c = λ c. (arcs.1 c).1 in
     elim (decide_is_arc e a) [
       | inl is ↦ decide_like (through_reaches e l a b is) (λ r. leads_through e l all r.1 a b r.2) (decide_through e l a b)
       | inr not_arc ↦ inr (λ r. not_arc r.0)

@@ -2,8 +2,9 @@
 use Rattle.std.proofs.Common.{◌≡◌, ◌⊎◌, ℕ, zero, suc, ◌<◌, ◌≤◌, sym, ◌∙◌, subst, inl, inr, arith}
 use Rattle.std.proofs.lemmas.Bool.{cases_lt}
 use Rattle.md_graph.proofs.Search.{Decided, decide_both, decide_below}
+use Rattle.md_graph.proofs.SetLemmas.{same_name}
 use Rattle.md_orientation.specs.Chains.{Precedes}
-use Rattle.md_orientation.proofs.Deciding.{decide_either, decide_name}
+use Rattle.md_orientation.proofs.Deciding.{decide_either}
 
 -- the least number with a property, and none below n
 record IsLeastNumber (P : ℕ → Type 0) (m : ℕ) : Type 0 where
@@ -89,7 +90,7 @@ precedes_on a b c d x y (inr l) (inl m) = let s = l.0 in inl (omega arith)
 precedes_on a b c d x y (inr l) (inr m) = let s = l.1 in let t = m.1 in inr (l.0 ∙ m.0, omega arith)
 
 pub decide_precedes : (x y u v : ℕ) → Decided (Precedes x y u v)
-decide_precedes x y u v = decide_either (decide_below x u) (decide_both (decide_name x u) (decide_below y v))
+decide_precedes x y u v = decide_either (decide_below x u) (decide_both (same_name x u) (decide_below y v))
 
 -- one of two different edges is less
 pub precedes_or_same : (x y u v : ℕ) → Precedes x y u v ⊎ Precedes u v x y ⊎ ((x ≡ u) × (y ≡ v))

@@ -1,5 +1,6 @@
 pub mod Reached
 pub mod Triangles
+mod ArcLists
 pub mod Deciding
 pub mod Classes
 pub mod Least

@@ -21,7 +21,7 @@ use Rattle.md_orientation.specs.Walking.{IsWhole}
 use Rattle.md_orientation.proofs.Reached.{side_premises}
 use Rattle.md_orientation.proofs.Chosen.{chosen_arc}
 use Rattle.md_orientation.proofs.Alternative.{free_orientation}
-use Rattle.md_orientation.proofs.OneList.{ascending_append}
+use Rattle.md_orientation.proofs.ArcLists.{ascending_append}
 use Rattle.md_orientation.specs.Listed.{arcs_below}
 
 -- ---- one row

@@ -1,11 +1,10 @@
 -- Orientations of both sides of a graph give two orders that realise it, and two such orders give orientations.
 use Rattle.std.proofs.Common.{◌≡◌, ◌≢◌, ◌⊎◌, ◌↔◌, ℕ, Bool, true, false, ◌||◌, List, sym, ◌∙◌, subst, inl, inr}
-use Rattle.std.proofs.lemmas.Bool.{cases_Bool, or_left, or_right, false_from_ne_true}
+use Rattle.std.proofs.lemmas.Bool.{cases_Bool, or_cases, or_left, or_right, false_from_ne_true}
 use Rattle.md_graph.specs.Sets.{NameSet, Has}
 use Rattle.md_graph.proofs.SetLemmas.{clash}
 use Rattle.md_graph.proofs.Search.{Decided, decide_test, decide_both, test_of, test_holds, of_test}
 use Rattle.md_modules.specs.Adjacency.{IsAdjacency}
-use Rattle.md_forcing.proofs.SeenRows.{of_or}
 use Rattle.md_orientation.specs.Chains.{HasForcingChain}
 use Rattle.md_orientation.specs.Orientations.{IsTransitiveOrientation, HasTransitiveOrientation}
 use Rattle.md_orientation.specs.Orders.{IsOrder, Before, Realise, IsLinear}
@@ -31,9 +30,9 @@ module _ (e other : ℕ → ℕ → Bool) (s : NameSet) (is : IsAdjacency e) (is
 
     merged_one_way : (u v : ℕ) → merged f g u v ≡ true → merged f g v u ≡ true → ⊥
     merged_one_way u v h k =
-        elim (of_or (f u v) (g u v) h) [
-          | inl a ↦ elim (of_or (f v u) (g v u) k) [ inl b ↦ o.not_both u v a b | inr b ↦ apart_back u v a b ]
-          | inr a ↦ elim (of_or (f v u) (g v u) k) [ inl b ↦ apart_back v u b a | inr b ↦ o_other.not_both u v a b ]
+        elim (or_cases (f u v) (g u v) h) [
+          | inl a ↦ elim (or_cases (f v u) (g v u) k) [ inl b ↦ o.not_both u v a b | inr b ↦ apart_back u v a b ]
+          | inr a ↦ elim (or_cases (f v u) (g v u) k) [ inl b ↦ apart_back v u b a | inr b ↦ o_other.not_both u v a b ]
         ]
 
     merged_one : (u v : ℕ) → Has s u → Has s v → u ≢ v → (merged f g u v ≡ true) ⊎ (merged f g v u ≡ true)
@@ -49,7 +48,7 @@ module _ (e other : ℕ → ℕ → Bool) (s : NameSet) (is : IsAdjacency e) (is
         let apart : u ≢ w = λ same. apart_back u v a (subst (λ k. g v k ≡ true) (sym same) b) in
         elim (merged_one u w in_u in_w apart) [
           | inl on ↦ on
-          | inr back ↦ elim (of_or (f w u) (g w u) back) [
+          | inr back ↦ elim (or_cases (f w u) (g w u) back) [
             | inl c ↦ absurd (apart_back w v (o.transitive w u v c a) b)
             | inr c ↦ absurd (apart_back u v a (o_other.transitive v w u b c))
           ]
@@ -60,7 +59,7 @@ module _ (e other : ℕ → ℕ → Bool) (s : NameSet) (is : IsAdjacency e) (is
         let apart : u ≢ w = λ same. apart_back v u (subst (λ k. f v k ≡ true) (sym same) b) a in
         elim (merged_one u w in_u in_w apart) [
           | inl on ↦ on
-          | inr back ↦ elim (of_or (f w u) (g w u) back) [
+          | inr back ↦ elim (or_cases (f w u) (g w u) back) [
             | inl c ↦ absurd (apart_back v u (o.transitive v w u b c) a)
             | inr c ↦ absurd (apart_back v w b (o_other.transitive w u v c a))
           ]
@@ -70,12 +69,12 @@ module _ (e other : ℕ → ℕ → Bool) (s : NameSet) (is : IsAdjacency e) (is
     merged_linear = record {
       one = merged_one;
       one_way = merged_one_way;
-      transitive = λ u v w in_u in_v in_w h k. elim (of_or (f u v) (g u v) h) [
-        | inl a ↦ elim (of_or (f v w) (g v w) k) [
+      transitive = λ u v w in_u in_v in_w h k. elim (or_cases (f u v) (g u v) h) [
+        | inl a ↦ elim (or_cases (f v w) (g v w) k) [
           | inl b ↦ or_left _ _ (o.transitive u v w a b)
           | inr b ↦ mixed u v w in_u in_w a b
         ]
-        | inr a ↦ elim (of_or (f v w) (g v w) k) [
+        | inr a ↦ elim (or_cases (f v w) (g v w) k) [
           | inl b ↦ mixed_too u v w in_u in_w a b
           | inr b ↦ or_right _ _ (o_other.transitive u v w a b)
         ]
@@ -102,8 +101,8 @@ module _ (e other : ℕ → ℕ → Bool) (s : NameSet) (is : IsAdjacency e) (is
         let linear = merged_linear f g o o_other in
         let in_p : (u v : ℕ) → Has s u → Has s v → merged f g u v ≡ true → Before p u v = λ u v in_u in_v t. before_sorted (merged f g) linear.one_way p u v sorted_p ((is_p.members u).1 in_u) ((is_p.members v).1 in_v) t in
         let in_q : (u v : ℕ) → Has s u → Has s v → merged back_f g u v ≡ true → Before q u v = λ u v in_u in_v t. before_sorted (merged back_f g) back_linear.one_way q u v sorted_q ((is_q.members u).1 in_u) ((is_q.members v).1 in_v) t in
-        let of_p : (u v : ℕ) → Before p u v → (f u v ≡ true) ⊎ (g u v ≡ true) = λ u v b. of_or (f u v) (g u v) (sorted_before (merged f g) p u v sorted_p b) in
-        let of_q : (u v : ℕ) → Before q u v → (f v u ≡ true) ⊎ (g u v ≡ true) = λ u v b. of_or (f v u) (g u v) (sorted_before (merged back_f g) q u v sorted_q b) in
+        let of_p : (u v : ℕ) → Before p u v → (f u v ≡ true) ⊎ (g u v ≡ true) = λ u v b. or_cases (f u v) (g u v) (sorted_before (merged f g) p u v sorted_p b) in
+        let of_q : (u v : ℕ) → Before q u v → (f v u ≡ true) ⊎ (g u v ≡ true) = λ u v b. or_cases (f v u) (g u v) (sorted_before (merged back_f g) q u v sorted_q b) in
         let told : (u v : ℕ) → Before p u v → Before q v u → e u v ≡ true = λ u v b c. elim (of_p u v b) [
           | inl a ↦ o.arcs u v a
           | inr a ↦ elim (of_q v u c) [ inl d ↦ o.arcs u v d | inr d ↦ absurd (o_other.not_both u v a d) ]

@@ -2,11 +2,11 @@
 use Rattle.std.proofs.Common.{◌≡◌, ◌≢◌, ◌⊎◌, ℕ, Bool, true, List, [], ◌∷◌, refl, sym, ◌∙◌, subst, inl, inr}
 use Rattle.std.specs.FinSet.{empty, insert}
 use Rattle.md_graph.specs.Sets.{NameSet, Has, Lacks, Within}
-use Rattle.md_graph.proofs.SetLemmas.{clash, empty_lacks, insert_new, insert_old, of_insert}
+use Rattle.md_graph.proofs.SetLemmas.{clash, same_name, empty_lacks, insert_new, insert_old, of_insert}
 use Rattle.md_graph.proofs.Search.{Decided, decide_both, over_sets}
 use Rattle.md_forcing.specs.Lists.{Holds, NoRepeats}
 use Rattle.md_orientation.specs.Orders.{IsOrder, Before, IsLinear}
-use Rattle.md_orientation.proofs.Deciding.{decide_either, decide_name}
+use Rattle.md_orientation.proofs.Deciding.{decide_either}
 
 -- ---- before
 
@@ -44,11 +44,11 @@ before_one (x ∷ xs) u v (inr h) (inr i) apart =
 
 decide_listed : (l : List ℕ) (u : ℕ) → Decided (Holds l u)
 decide_listed [] u = inr (λ h. h)
-decide_listed (x ∷ xs) u = decide_either (decide_name u x) (decide_listed xs u)
+decide_listed (x ∷ xs) u = decide_either (same_name u x) (decide_listed xs u)
 
 pub decide_before : (l : List ℕ) (u v : ℕ) → Decided (Before l u v)
 decide_before [] u v = inr (λ b. b)
-decide_before (x ∷ xs) u v = decide_either (decide_both (decide_name u x) (decide_listed xs v)) (decide_before xs u v)
+decide_before (x ∷ xs) u v = decide_either (decide_both (same_name u x) (decide_listed xs v)) (decide_before xs u v)
 
 -- ---- a list in the order of a test
 

@@ -10,7 +10,7 @@ use Rattle.md_graph.specs.declared.TheConstants.{NAMES}
 use Rattle.md_graph.specs.Sets.{NameSet, Has}
 use Rattle.md_graph.specs.PlainGraph.{PairSet, PlainGraph, IsGraph, adjacent, neighbours, with_vertex, with_edge, with_edges, without_vertex, without_edge}
 use Rattle.md_graph.proofs.SetLaws.{contains-insert, contains-remove, same_set}
-use Rattle.md_graph.proofs.PairLaws.{pairs-insert, pairs-remove, same_pairs}
+use Rattle.md_graph.proofs.PairLaws.{is_pair, pairs-insert, pairs-remove, same_pairs}
 use Rattle.md_graph.proofs.GraphLemmas.{same_graph, adjacent_sym, adjacent_self, adjacent_ends, contains-neighbours, adjacent-with_vertex, adjacent-with_edge, adjacent-with_edges, adjacent-without_vertex, adjacent-without_edge, IsGraph-with_vertex, IsGraph-with_edges, IsGraph-without_vertex}
 use Rattle.md_graph.proofs.SetLemmas.{remove_insert, clash}
 use Rattle.md_script.specs.declared.edit.Edit.{Edit}
@@ -30,10 +30,6 @@ remove_new s k lacks = same_set _ _ (λ q. contains-remove (set.insert s k) k q 
         | inl same ↦ rw same (sym (ap (set.contains s) (eqb-true q k same) ∙ lacks))
         | inr other ↦ rw other refl
       ]
-
--- whether (a, b) is the pair (u, v)
-abbrev is_pair : ℕ → ℕ → ℕ → ℕ → Bool
-is_pair u v a b = (a == u) && (b == v)
 
 by_pair : (s : PairSet) (u v a b : ℕ) (there : Bool) → set.contains s (u, v) ≡ there → is_pair u v a b ≡ true → there ≡ set.contains s (a, b)
 by_pair s u v a b there is same =
@@ -133,7 +129,7 @@ last_passes first true reason h = refl
 last_passes None false reason h = absurd (cc)
 last_passes (Some r) false reason h = absurd (cc)
 
-only_passes : (b : Bool) (reason : EditReason) → then_some (not b) reason ≡ None → b ≡ true
+pub only_passes : (b : Bool) (reason : EditReason) → then_some (not b) reason ≡ None → b ≡ true
 only_passes true reason h = refl
 only_passes false reason h = absurd (cc)
 
@@ -142,10 +138,10 @@ led_by {g} {h} {edit} {other} {row} same led = subst (λ e. Led g e row h) same 
 
 -- ---- the edge of an edit
 
-added_was_absent : (g : PlainGraph) (u v : ℕ) → reason_of g (AddEdge u v) ≡ None → adjacent g u v ≡ false
+pub added_was_absent : (g : PlainGraph) (u v : ℕ) → reason_of g (AddEdge u v) ≡ None → adjacent g u v ≡ false
 added_was_absent g u v none = last_fails _ (adjacent g u v) _ none
 
-deleted_was_there : (g : PlainGraph) (u v : ℕ) → reason_of g (DelEdge u v) ≡ None → adjacent g u v ≡ true
+pub deleted_was_there : (g : PlainGraph) (u v : ℕ) → reason_of g (DelEdge u v) ≡ None → adjacent g u v ≡ true
 deleted_was_there g u v none = last_passes _ (adjacent g u v) _ none
 
 pub added_is_there : (h : PlainGraph) (edit : Edit) (row : NameSet) (u v : ℕ) → edit ≡ AddEdge u v → (g : PlainGraph) × Led g edit row h → adjacent h u v ≡ true

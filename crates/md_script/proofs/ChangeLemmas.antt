@@ -1,10 +1,10 @@
 -- What an edit that may be applied to a graph finds there, and what it leaves.
-use Rattle.std.specs.Prelude.{◌≡◌, ℕ, ◌+◌, ◌<◌, ◌≤◌, Bool, true, false, not, ◌||◌, ◌&&◌, ◌==◌, nat_eq, find, List, [], ◌∷◌, Option, Some, None, option_map, cond, refl}
+use Rattle.std.specs.Prelude.{◌≡◌, ℕ, ◌<◌, ◌≤◌, Bool, true, false, not, ◌||◌, ◌&&◌, ◌==◌, nat_eq, find, List, [], ◌∷◌, Option, Some, None, option_map, cond, refl}
 use Rattle.std.specs.Bool.{then_some}
 use Rattle.std.specs.Option.{option_or}
 use Rattle.std.specs.List.{list_any}
 use Rattle.std.specs.List.Sorted.{IsStrictlyIncreasing}
-use Rattle.std.proofs.Common.{ap, sym, ◌∙◌, inl, inr, arith, subst, get_or, add-one}
+use Rattle.std.proofs.Common.{ap, sym, ◌∙◌, inl, inr, arith, subst}
 use Rattle.std.proofs.lemmas.Bool.{cases_Bool, eqb-true, eqb-false, or_cases, or_left, or_right, and_from, and_parts}
 use Rattle.std.proofs.lemmas.Bool.Decides.{nat_tests}
 use Rattle.std.specs.FinSet as set
@@ -12,6 +12,7 @@ use Rattle.std.specs.FinSet.{contains-from_list_nat}
 use Rattle.md_graph.specs.Sets.{NameSet, Has}
 use Rattle.md_graph.specs.NameSet.{IsLeastFrom}
 use Rattle.md_graph.specs.PlainGraph.{PlainGraph, IsGraph, with_vertex}
+use Rattle.md_graph.proofs.NameLemmas.{increases_rest}
 use Rattle.md_graph.proofs.SetLaws.{contains-insert, contains-difference}
 use Rattle.md_graph.proofs.GraphLemmas.{IsGraph-with_vertex, IsGraph-with_edge, IsGraph-with_edges, IsGraph-without_vertex, IsGraph-without_edge}
 use Rattle.md_script.specs.declared.edit.Edit.{Edit}
@@ -25,7 +26,7 @@ record MayAdd (g : PlainGraph) (x : ℕ) (neighbours : List ℕ) : Type 0 where
   absent : set.contains g.vertices x ≡ false
   there : least_absent g neighbours ≡ None
 
-by_parts : (least : Option ℕ) (taken : Bool) (x : ℕ) → option_or (option_map NoVertex least) (then_some taken (NameTaken x)) ≡ None → (taken ≡ false) × (least ≡ None)
+pub by_parts : (least : Option ℕ) (taken : Bool) (x : ℕ) → option_or (option_map NoVertex least) (then_some taken (NameTaken x)) ≡ None → (taken ≡ false) × (least ≡ None)
 by_parts None true x h = absurd (cc)
 by_parts None false x h = (refl, refl)
 by_parts (Some v) taken x h = absurd (cc)
@@ -103,16 +104,6 @@ after_is_graph g (DelVertex x) is names none = IsGraph-without_vertex is x
 
 -- ---- the least of the neighbours that are no vertices
 
-tail_increases : (x : ℕ) (xs : List ℕ) → IsStrictlyIncreasing (x ∷ xs) → IsStrictlyIncreasing xs
-tail_increases x xs h k below =
-    let first : get_or (x ∷ xs) (k + 1) 0 ≡ get_or xs k 0 = get_or_next x xs k in
-    let second : get_or (x ∷ xs) (k + 1 + 1) 0 ≡ get_or xs (k + 1) 0 = get_or_next x xs (k + 1) in
-    let step = h (k + 1) (omega arith) in
-    omega arith
-  where
-    get_or_next : (y : ℕ) (ys : List ℕ) (i : ℕ) → get_or (y ∷ ys) (i + 1) 0 ≡ get_or ys i 0
-    get_or_next y ys i = rw add-one refl
-
 -- w is one of the list
 abbrev is_listed : ℕ → List ℕ → Bool
 is_listed w list = list_any (λ y. nat_eq y w) list
@@ -123,7 +114,7 @@ below_rest x w (y ∷ ys) h listed =
     let first : x < y = h 0 (omega arith) in
     elim (or_cases (nat_eq y w) (is_listed w ys) listed) [
       | inl same ↦ let e = eqb-true y w same in omega arith
-      | inr later ↦ let rest = below_rest y w ys (tail_increases x (y ∷ ys) h) later in omega arith
+      | inr later ↦ let rest = below_rest y w ys (increases_rest x (y ∷ ys) h) later in omega arith
     ]
 
 -- v comes first among those that pass
@@ -167,7 +158,7 @@ comes_first test (x ∷ xs) v h found =
           subst (ComesFirst test (x ∷ xs)) same (first_passes test x xs h passes)
       | inr fails ↦
           let later = ap (λ b. cond b (Some x) (find test xs)) (sym fails) ∙ found in
-          later_passes test x v xs fails (comes_first test xs v (tail_increases x xs h) later)
+          later_passes test x v xs fails (comes_first test xs v (increases_rest x xs h) later)
     ]
 
 pub absent_is_least : (g : PlainGraph) (neighbours : List ℕ) (v : ℕ) → IsStrictlyIncreasing neighbours → least_absent g neighbours ≡ Some v

@@ -1,8 +1,8 @@
 -- The laws of fields.
-use Rattle.std.proofs.Common.{◌≡◌, ℕ, ◌+◌, ◌<◌, ◌≤◌, zero, suc, true, false, cond, not, eqb, List, [], ◌∷◌, ◌++◌, length, get_or, take, drop, filter, refl, sym, ap, ◌∙◌, add-zero, ⊎_elim, subst, arith}
+use Rattle.std.proofs.Common.{◌≡◌, ℕ, ◌+◌, ◌-◌, ◌<◌, ◌≤◌, zero, suc, true, false, cond, not, eqb, List, [], ◌∷◌, ◌++◌, length, get_or, take, drop, filter, refl, sym, ap, ◌∙◌, add-zero, ⊎_elim, subst, arith}
 use Rattle.std.specs.List.{All, slice_split, join_with_byte}
 use Rattle.std.proofs.lemmas.Bool.{cases_Bool, cases_lt, ne_eqb, cond_both, eqb-false, not-true, both_ways}
-use Rattle.std.proofs.lemmas.List.{length-take-le, get_or-take, get_or-drop, take_all, drop_all, drop_more, take-append-drop}
+use Rattle.std.proofs.lemmas.List.{length-drop, length-take-le, take_rest, get_or-take, get_or-drop, take_all, drop_all, drop_more, take-append-drop}
 use Rattle.std.proofs.lemmas.List.Elements.{All-nil, All-cons, All-head, All-tail, All-from_get_or}
 use Rattle.std.proofs.lemmas.List.Splits.{slice_split_none, slice_split_at, slice_split-cons_yes, slice_split-cons_no}
 use Rattle.md_text.proofs.ListLemmas.{All-onto_first}
@@ -100,13 +100,26 @@ pub fields_are_words : (line : List ℕ) → All IsWord (fields line)
 unfolding fields
 fields_are_words line = words_kept (slice_split is_blank line) (no_blank_parts line)
 
--- what a reader knows of a line whose first field begins at `start`, and ends `end` bytes behind
-pub record IsFirstField (line rest : List ℕ) (start end : ℕ) : Type 0 where
+-- what a reader knows of a line whose first field begins at `start`
+pub record BeginsAt (line rest : List ℕ) (start : ℕ) : Type 0 where
   pub skipped : start ≤ length line
   pub blanks : (k : ℕ) → k < start → is_blank (get_or line k 0) ≡ true
   pub begins : is_blank (get_or line start 0) ≡ false
   pub is_rest : rest ≡ drop start line
   pub some : 0 < length rest
+
+pub begins_at : (line : List ℕ) (start : ℕ) → start < length line → ((k : ℕ) → k < start → is_blank (get_or line k 0) ≡ true) → is_blank (get_or line start 0) ≡ false → BeginsAt line (take (length line - start) (drop start line)) start
+begins_at line start left blanks begins = record {
+  skipped = omega arith;
+  blanks = blanks;
+  begins = begins;
+  is_rest = take_rest line start;
+  some = omega (arith, ap length (take_rest line start), length-drop start line);
+}
+
+-- and that it ends `end` bytes behind
+pub record IsFirstField (line rest : List ℕ) (start end : ℕ) : Type 0 where
+  pub front : BeginsAt line rest start
   pub within : end ≤ length rest
   pub others : (k : ℕ) → k < end → is_blank (get_or rest k 0) ≡ false
   pub found : end < length rest → is_blank (get_or rest end 0) ≡ true
@@ -114,8 +127,8 @@ pub record IsFirstField (line rest : List ℕ) (start end : ℕ) : Type 0 where
 -- the field has a byte
 field_some : (line rest : List ℕ) (start end : ℕ) → IsFirstField line rest start end → 0 < end
 field_some line rest start zero f =
-    let same = ap (λ (l : List ℕ). get_or l 0 0) f.is_rest ∙ get_or-drop start line 0 0 ∙ ap (λ (k : ℕ). get_or line k 0) (add-zero start) in
-    absurd (both_ways (is_blank (get_or rest 0 0)) (ap is_blank same ∙ f.begins) (f.found f.some))
+    let same = ap (λ (l : List ℕ). get_or l 0 0) f.front.is_rest ∙ get_or-drop start line 0 0 ∙ ap (λ (k : ℕ). get_or line k 0) (add-zero start) in
+    absurd (both_ways (is_blank (get_or rest 0 0)) (ap is_blank same ∙ f.front.begins) (f.found f.front.some))
 field_some line rest start (suc end) f = omega arith
 
 pub field_is_word : (line rest : List ℕ) (start end : ℕ) → IsFirstField line rest start end → IsWord (take end rest)
@@ -123,5 +136,5 @@ field_is_word line rest start end f = word_front rest end (field_some line rest 
 
 pub field_cut : (line rest : List ℕ) (start end : ℕ) → IsFirstField line rest start end → fields line ≡ take end rest ∷ fields (drop end rest)
 field_cut line rest start end f =
-    fields-skip line start f.skipped f.blanks ∙ ap fields (sym f.is_rest)
+    fields-skip line start f.front.skipped f.front.blanks ∙ ap fields (sym f.front.is_rest)
     ∙ fields-first rest end (field_some line rest start end f) f.within f.others f.found

@@ -14,7 +14,7 @@ use Rattle.std.proofs.Math.Nat.{pow-le-pow_right}
 use Rattle.md_text.specs.declared.digits.TheConstants.{DIGITS, PAIRS}
 use Rattle.md_text.specs.Fields.{fields, is_blank, IsWord}
 use Rattle.md_text.specs.Numbers.{value, decimal, is_number, number_of, BeginsWithNumber, IsCanonical}
-use Rattle.md_text.proofs.FieldLemmas.{IsFirstField, field_cut}
+use Rattle.md_text.proofs.FieldLemmas.{BeginsAt, IsFirstField, field_cut}
 
 abbrev IsDigit : ℕ → Type 0
 IsDigit byte = is_ascii_digit byte ≡ true
@@ -302,10 +302,7 @@ digits_no_blank text count within all k below =
 
 -- what a reader knows of a field that begins at `start`, of which the first `count` bytes are digits
 pub record IsFirstNumber (line rest : List ℕ) (start count : ℕ) : Type 0 where
-  pub skipped : start ≤ length line
-  pub blanks : (k : ℕ) → k < start → is_blank (get_or line k 0) ≡ true
-  pub begins : is_blank (get_or line start 0) ≡ false
-  pub is_rest : rest ≡ drop start line
+  pub front : BeginsAt line rest start
   pub some : 0 < count
   pub within : count ≤ length rest
   pub at_most : count ≤ DIGITS
@@ -316,11 +313,7 @@ pub number_begins : (line rest behind : List ℕ) (start count number : ℕ) →
 number_begins line rest behind start count number f is_value is_behind = record {
   field = take count rest;
   is_first = field_cut line rest start count (record {
-    skipped = f.skipped;
-    blanks = f.blanks;
-    begins = f.begins;
-    is_rest = f.is_rest;
-    some = let some = f.some in let within = f.within in omega arith;
+    front = f.front;
     within = f.within;
     others = digits_no_blank rest count f.within f.digits;
     found = f.found;

@@ -1,9 +1,7 @@
 use Rattle.std.proofs.Common.{◌≡◌, ◌+◌, ◌∙◌, ap, subst, refl, arith}
 use Rattle.std.specs.FinSet as set
-use Rattle.md_graph.specs.declared.TheConstants.{NAMES}
 use Rattle.md_graph.proofs.Limits.{NAMES-lt}
-use Rattle.md_graph.proofs.NameLemmas.{ascending_items}
-use Rattle.md_graph6.proofs.WriteLemmas.{consecutive_column}
+use Rattle.md_graph6.proofs.WriteLemmas.{consecutive_column, consecutive_name}
 use Rattle.md_graph6.specs.Short.{put_bit}
 use Rattle.md_graph6.specs.Written.{IsWritten}
 use Rattle.md_graph6.proofs.PutShort.{written_none, unput_column, written_column, written_all}
@@ -11,18 +9,15 @@ use Rattle.md_graph6.proofs.writer.put_few_columns.Goals as goal
 
 pub row-requires : goal.row-requires
 row-requires c =
-    let below = (ascending_items c.args.graph.now.vertices 0 NAMES c.loop-j.j 0 (omega arith)).below in
-    omega (arith, below, c.requires.consecutive c.loop-j.j c.loop-j-test.true)
+    consecutive_name c.args.graph.now c.args.least c.args.n c.loop-j.j c.requires.count c.requires.consecutive c.loop-j-test.true
 
 pub with_column-unput-requires-clause-names : goal.with_column-unput-requires-clause-names
 with_column-unput-requires-clause-names c =
-    let below = (ascending_items c.args.graph.now.vertices 0 NAMES c.loop-j.j 0 (omega arith)).below in
-    omega (arith, below, c.requires.consecutive c.loop-j.j c.loop-j-test.true)
+    consecutive_name c.args.graph.now c.args.least c.args.n c.loop-j.j c.requires.count c.requires.consecutive c.loop-j-test.true
 
 pub overflow_add-least : goal.overflow_add-least
 overflow_add-least c =
-    let below = (ascending_items c.args.graph.now.vertices 0 NAMES c.loop-j.j 0 (omega arith)).below in
-    omega (arith, below, c.requires.consecutive c.loop-j.j c.loop-j-test.true, NAMES-lt)
+    omega (arith, NAMES-lt, consecutive_name c.args.graph.now c.args.least c.args.n c.loop-j.j c.requires.count c.requires.consecutive c.loop-j-test.true)
 
 pub loop-j-init : goal.loop-j-init
 loop-j-init c = written_none c.requires.blank

@@ -5,7 +5,7 @@ use Rattle.md_graph.specs.PlainGraph.{adjacent}
 use Rattle.md_graph.proofs.GraphLemmas.{contains-neighbours}
 use Rattle.md_graph.specs.Sets.{NameSet, Within, HasSome}
 use Rattle.md_modules.specs.Classes.{class_at}
-use Rattle.md_modules.specs.Classes.{HoldsSplitters}
+use Rattle.md_modules.specs.Classes.{HoldsSplitters, IsSplitter}
 use Rattle.md_modules.proofs.ClassLists.{IsCutAt, work_passes, work_falls, cut_at}
 use Rattle.md_modules.proofs.ClassLemmas.{
   cutting_begins,
@@ -20,6 +20,7 @@ use Rattle.md_modules.proofs.ClassLemmas.{
   module_unless_cut,
 }
 use Rattle.md_modules.proofs.refinement.maximal_modules.Goals as goal
+use Rattle.md_modules.proofs.refinement.maximal_modules.Goals.{In_ok-split}
 
 pub loop-at-init : goal.loop-at-init
 loop-at-init c =
@@ -38,16 +39,25 @@ splitter-requires-clause-some c =
     let class : c.index.result.now ≡ class_at cs c.loop-at.at = get_or_read cs c.loop-at.at _ known c.index.ensures empty in
     subst HasSome (sym class) (c.loop-at.invariant.cutting.holds.partition.are_apart.some c.loop-at.at known)
 
-pub loop-at-smaller-in_ok-split : goal.loop-at-smaller-in_ok-split
-loop-at-smaller-in_ok-split c =
+-- where a class is cut: its place, what is left, the name that cuts it, and whom that name sees
+known_cut : (c : In_ok-split) →
+    let e = adjacent c.args.graph.now in
+    let class = class_at c.loop-at.classes.items c.loop-at.at in
+    (c.loop-at.at < length c.loop-at.classes.items) × (HoldsSplitters e c.args.set.now class c.splitter.new.left × IsSplitter e c.args.set.now class c.in-Some.p) × ((y : ℕ) → contains c.row.result.now y ≡ e c.in-Some.p y)
+known_cut c =
     let cs = c.loop-at.classes.items in
-    let part : NameSet = c.in_ok-split.ensures.0 in
     let known : c.loop-at.at < length cs = omega (arith, c.loop-at.classes.ok.0) in
     let class : c.index.result.now ≡ class_at cs c.loop-at.at = get_or_read cs c.loop-at.at _ known c.index.ensures empty in
     let told = told_by_left c.args.set.now (class_at cs c.loop-at.at) c.index.result.now c.loop-at.left c.splitter.new.left c.in-Some.p class (c.loop-at.invariant.left known)
     c.in-Some.ensures.less c.in-Some.ensures.kept c.in-Some.ensures.found
     in
-    let rows = λ (y : ℕ). ap (λ s. contains s y) c.row.ensures.set ∙ contains-neighbours c.row.ensures.graph c.in-Some.p y in
+    (known, told, λ y. ap (λ s. contains s y) c.row.ensures.set ∙ contains-neighbours c.row.ensures.graph c.in-Some.p y)
+
+pub loop-at-smaller-in_ok-split : goal.loop-at-smaller-in_ok-split
+loop-at-smaller-in_ok-split c =
+    let cs = c.loop-at.classes.items in
+    let part : NameSet = c.in_ok-split.ensures.0 in
+    let (known, told, rows) = known_cut (goal.at.loop-at-smaller-in_ok-split c).In_ok-split in
     work_falls cs c.split.new.classes.items c.loop-at.at part known
     (sees_some c.args.set.now c.row.result.now part cs c.loop-at.at c.in-Some.p rows told.1 c.in_ok-split.ensures.1)
     (misses_some c.args.set.now c.row.result.now part cs c.loop-at.at c.in-Some.p rows told.1 c.in_ok-split.ensures.1) c.in_ok-split.ensures.2
@@ -57,12 +67,7 @@ loop-at-preserved-in_ok-split c =
     let cs = c.loop-at.classes.items in
     let e = adjacent c.args.graph.now in
     let part : NameSet = c.in_ok-split.ensures.0 in
-    let known : c.loop-at.at < length cs = omega (arith, c.loop-at.classes.ok.0) in
-    let class : c.index.result.now ≡ class_at cs c.loop-at.at = get_or_read cs c.loop-at.at _ known c.index.ensures empty in
-    let told = told_by_left c.args.set.now (class_at cs c.loop-at.at) c.index.result.now c.loop-at.left c.splitter.new.left c.in-Some.p class (c.loop-at.invariant.left known)
-    c.in-Some.ensures.less c.in-Some.ensures.kept c.in-Some.ensures.found
-    in
-    let rows = λ (y : ℕ). ap (λ s. contains s y) c.row.ensures.set ∙ contains-neighbours c.row.ensures.graph c.in-Some.p y in
+    let (known, told, rows) = known_cut (goal.at.loop-at-preserved-in_ok-split c).In_ok-split in
     let cut : IsCutAt cs c.split.new.classes.items c.loop-at.at (intersection (class_at cs c.loop-at.at) part) (difference (class_at cs c.loop-at.at) part) =
     cut_at cs c.split.new.classes.items c.loop-at.at _ _ known c.in_ok-split.ensures.2
     in

@@ -1,6 +1,5 @@
-use Rattle.std.proofs.Common.{◌<◌, ◌-◌, ap, length, take, drop, arith}
-use Rattle.std.proofs.lemmas.List.{length-drop, take_rest}
-use Rattle.md_text.proofs.FieldLemmas.{IsFirstField, fields-blanks, field_cut, field_is_word}
+use Rattle.std.proofs.Common.{◌<◌, ◌-◌, length, take, drop, arith}
+use Rattle.md_text.proofs.FieldLemmas.{IsFirstField, begins_at, fields-blanks, field_cut, field_is_word}
 use Rattle.md_text.proofs.cut.split_field.Goals as goal
 
 pub returns-then-start-line-clause-none : goal.returns-then-start-line-clause-none
@@ -16,11 +15,7 @@ first_field c =
     let more = c.first_blank-end.ensures in
     let left : start < length line = omega arith in
     record {
-      skipped = known.within;
-      blanks = known.before;
-      begins = known.found left;
-      is_rest = take_rest line start;
-      some = omega (arith, ap length (take_rest line start), length-drop start line);
+      front = begins_at line start left known.before (known.found left);
       within = more.within;
       others = more.before;
       found = more.found;

@@ -1,6 +1,6 @@
-use Rattle.std.proofs.Common.{◌<◌, ◌-◌, length, take, drop, ap, arith}
-use Rattle.std.proofs.lemmas.List.{length-drop, take_rest}
-use Rattle.md_text.proofs.FieldLemmas.{fields-blanks}
+use Rattle.std.proofs.Common.{◌<◌, ◌-◌, length, take, drop, arith}
+use Rattle.std.proofs.lemmas.List.{take_rest}
+use Rattle.md_text.proofs.FieldLemmas.{begins_at, fields-blanks}
 use Rattle.md_text.proofs.NumberLemmas.{number_begins, field_begins}
 use Rattle.md_text.proofs.cut.split_number.Goals as goal
 
@@ -16,10 +16,7 @@ returns-then-is_end-clause-number c =
     let known = c.leading_digits-count.ensures in
     let rest = take (length line - start) (drop start line) in
     number_begins line rest _ start c.leading_digits-count.result.0 c.leading_digits-count.result.1 (record {
-      skipped = c.first_other-start.ensures.within;
-      blanks = c.first_other-start.ensures.before;
-      begins = c.first_other-start.ensures.found left;
-      is_rest = take_rest line start;
+      front = begins_at line start left c.first_other-start.ensures.before (c.first_other-start.ensures.found left);
       some = c.if-count-gt0.true;
       within = known.within;
       at_most = known.at_most;
@@ -34,11 +31,7 @@ returns-clause-number c =
     let left : start < length line = omega arith in
     let rest = take (length line - start) (drop start line) in
     field_begins line rest _ _ start c.first_blank.result c.number.result (record {
-      skipped = c.first_other-start.ensures.within;
-      blanks = c.first_other-start.ensures.before;
-      begins = c.first_other-start.ensures.found left;
-      is_rest = take_rest line start;
-      some = omega (arith, ap length (take_rest line start), length-drop start line);
+      front = begins_at line start left c.first_other-start.ensures.before (c.first_other-start.ensures.found left);
       within = c.first_blank.ensures.within;
       others = c.first_blank.ensures.before;
       found = c.first_blank.ensures.found;
