@@ -1,5 +1,5 @@
 -- A vertex more of a cotree: the first, or one beside others.
-use Rattle.std.proofs.Common.{◌≡◌, ◌≢◌, ℕ, ◌+◌, ◌*◌, ◌<◌, ◌≤◌, ◌^◌, ◌↔◌, Bool, true, false, cond, ◌&&◌, ◌||◌, ◌==◌, List, [], ◌∷◌, length, set, slice_index_or, get_or, add-one, Result, Ok, Err, Option, Some, None, refl, sym, ◌∙◌, ap, subst, inl, inr, arith}
+use Rattle.std.proofs.Common.{◌≡◌, ◌≢◌, ℕ, ◌+◌, ◌*◌, ◌<◌, ◌≤◌, ◌^◌, ◌↔◌, Bool, true, false, cond, ◌&&◌, ◌||◌, ◌==◌, List, [], ◌∷◌, length, set, slice_index_or, Result, Ok, Err, Option, Some, None, refl, sym, ◌∙◌, ap, subst, inl, inr, arith}
 use Rattle.std.proofs.lemmas.Bool.{cases_eq, cases_lt, false_from_ne_true, eq-eqb, eqb-true}
 use Rattle.std.proofs.lemmas.List.{length-set}
 use Rattle.std.proofs.lemmas.List.Elements.{All-head, All-tail}
@@ -48,6 +48,7 @@ use Rattle.md_cotree_edit.proofs.Holes.{full_low}
 use Rattle.md_cotree_edit.proofs.Marked.{none_of_low, few_hits, full_of_hits, hits_of_full}
 use Rattle.md_cotree_edit.proofs.NewLeaf.{WholeBeside, taken_all}
 use Rattle.md_cotree_edit.proofs.Less.{leaves_few}
+use Rattle.md_graph.proofs.NameLemmas.{increases_rest}
 
 -- ---- the first vertex
 
@@ -255,25 +256,19 @@ decided_none none ns is = ((λ e. eqb-true (length ns) 0 (sym is ∙ e)), (λ e.
 -- ---- from the graph
 
 -- in an ascending list each name stands once
-next_get : (y : ℕ) (ys : List ℕ) (i : ℕ) → get_or (y ∷ ys) (i + 1) 0 ≡ get_or ys i 0
-next_get y ys i = rw add-one refl
-
-rest_increases : (n : ℕ) (ns : List ℕ) → IsStrictlyIncreasing (n ∷ ns) → IsStrictlyIncreasing ns
-rest_increases n ns is k low = let first = next_get n ns k in let second = next_get n ns (k + 1) in let step = is (k + 1) (omega arith) in omega arith
-
 above_first : (n v : ℕ) (ns : List ℕ) → IsStrictlyIncreasing (n ∷ ns) → 0 < times v ns → n < v
 above_first n v [] is some = absurd (omega arith)
 above_first n v (m ∷ ms) is some =
     let first : n < m = is 0 (omega arith) in
     elim (cases_eq m v) [
       | inl same ↦ omega arith
-      | inr other ↦ let e = miss m v other in let rest = above_first m v ms (rest_increases n (m ∷ ms) is) (omega arith) in omega arith
+      | inr other ↦ let e = miss m v other in let rest = above_first m v ms (increases_rest n (m ∷ ms) is) (omega arith) in omega arith
     ]
 
 listed_once : (ns : List ℕ) → IsStrictlyIncreasing ns → (v : ℕ) → times v ns ≤ 1
 listed_once [] is v = omega arith
 listed_once (n ∷ ns) is v =
-    let rest = listed_once ns (rest_increases n ns is) v in
+    let rest = listed_once ns (increases_rest n ns is) v in
     elim (cases_eq n v) [
       | inl same ↦
           let h = hit n v same in

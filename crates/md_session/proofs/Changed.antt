@@ -1,9 +1,7 @@
 -- What an edit of a cotree needs to know of the graph, and what its answer says of the graph after the edit.
-use Rattle.std.proofs.Common.{◌≡◌, ◌≢◌, ℕ, Bool, true, false, not, cond, ◌==◌, find, is_ok, List, [], ◌∷◌, All, Option, Some, None, option_map, Result, Ok, Err, IfOk, IsErr, OnOk, ◌↔◌, refl, sym, ◌∙◌, subst}
+use Rattle.std.proofs.Common.{◌≡◌, ◌≢◌, ℕ, Bool, true, false, not, cond, ◌==◌, find, is_ok, List, [], ◌∷◌, All, Option, Some, None, Result, Ok, Err, IfOk, IsErr, OnOk, ◌↔◌, refl, sym, ◌∙◌, subst}
 use Rattle.std.proofs.lemmas.Bool.{eqb-false}
 use Rattle.std.proofs.lemmas.List.Elements.{All-nil, All-cons}
-use Rattle.std.specs.Bool.{then_some}
-use Rattle.std.specs.Option.{option_or}
 use Rattle.std.specs.FinSet as set
 use Rattle.md_graph.specs.Sets.{NameSet, Has, Lacks}
 use Rattle.md_graph.specs.PlainGraph.{PlainGraph, IsGraph, adjacent}
@@ -19,40 +17,22 @@ use Rattle.md_cotree.specs.Cotrees.{Denotes}
 use Rattle.md_cotree.specs.Laws.{HasNoPrime}
 use Rattle.md_script.specs.declared.edit.Edit.{Edit}
 use Rattle.md_script.specs.declared.edit.Edit.TheVariants.{AddEdge, DelEdge, AddVertex, DelVertex}
-use Rattle.md_script.specs.declared.edit.EditReason.{EditReason}
-use Rattle.md_script.specs.declared.edit.EditReason.TheVariants.{NoVertex, NameTaken}
 use Rattle.md_script.specs.Edit.{least_absent, reason_of, after}
-use Rattle.md_script.proofs.ChangeLemmas.{ends_by_tests}
+use Rattle.md_script.proofs.ChangeLemmas.{ends_by_tests, by_parts}
 use Rattle.md_report.specs.Cographs.{IsCograph}
+use Rattle.md_script.proofs.BackLemmas.{only_passes, added_was_absent, deleted_was_there}
 
 -- ---- no reason speaks against the edit
-
-last_none : (o l : Option EditReason) → option_or o l ≡ None → l ≡ None
-last_none None l none = none
-last_none (Some r) l none = absurd (cc)
-
-not_so : (b : Bool) (r : EditReason) → then_some b r ≡ None → b ≡ false
-not_so true r none = absurd (cc)
-not_so false r none = refl
-
-so : (b : Bool) (r : EditReason) → then_some (not b) r ≡ None → b ≡ true
-so true r none = refl
-so false r none = absurd (cc)
 
 pub edge_may_come : (g : PlainGraph) (u v : ℕ) → reason_of g (AddEdge u v) ≡ None → Has g.vertices u × Has g.vertices v × (u ≢ v) × (adjacent g u v ≡ false)
 edge_may_come g u v none =
     let told = ends_by_tests u v (u == v) (set.contains g.vertices u) (set.contains g.vertices v) _ none in
-    (told.1, told.2, eqb-false u v told.0, not_so (adjacent g u v) _ (last_none _ _ none))
+    (told.1, told.2, eqb-false u v told.0, added_was_absent g u v none)
 
 pub edge_may_go : (g : PlainGraph) (u v : ℕ) → reason_of g (DelEdge u v) ≡ None → Has g.vertices u × Has g.vertices v × (u ≢ v) × (adjacent g u v ≡ true)
 edge_may_go g u v none =
     let told = ends_by_tests u v (u == v) (set.contains g.vertices u) (set.contains g.vertices v) _ none in
-    (told.1, told.2, eqb-false u v told.0, so (adjacent g u v) _ (last_none _ _ none))
-
-by_parts : (least : Option ℕ) (taken : Bool) (x : ℕ) → option_or (option_map NoVertex least) (then_some taken (NameTaken x)) ≡ None → (taken ≡ false) × (least ≡ None)
-by_parts None true x none = absurd (cc)
-by_parts None false x none = (refl, refl)
-by_parts (Some v) taken x none = absurd (cc)
+    (told.1, told.2, eqb-false u v told.0, deleted_was_there g u v none)
 
 one_there : (s : NameSet) (v : ℕ) (rest : List ℕ) (there : Bool) → set.contains s v ≡ there → cond (not there) (Some v) (find (λ w. not (set.contains s w)) rest) ≡ None →
     (find (λ w. not (set.contains s w)) rest ≡ None → All (Has s) rest) → All (Has s) (v ∷ rest)
@@ -69,7 +49,7 @@ vertex_may_come g x list none =
     (told.0, all_there g.vertices list told.1)
 
 pub vertex_may_go : (g : PlainGraph) (x : ℕ) → reason_of g (DelVertex x) ≡ None → Has g.vertices x
-vertex_may_go g x none = so (set.contains g.vertices x) _ none
+vertex_may_go g x none = only_passes (set.contains g.vertices x) _ none
 
 -- ---- what the answer says
 
