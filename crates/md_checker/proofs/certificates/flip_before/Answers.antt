@@ -1,4 +1,4 @@
-use Rattle.std.proofs.Common.{◌∙◌, ap, subst, sym, refl, ◌<◌, get_or}
+use Rattle.std.proofs.Common.{◌∙◌, ap, subst, sym, refl, ◌<◌, get_or, rules}
 use Rattle.std.proofs.lemmas.List.{length-set}
 use Rattle.md_graph.specs.NameSet.{told_apart}
 use Rattle.md_checker.proofs.Ordering.{members_start, members_more, holds_item}
@@ -17,7 +17,7 @@ bounds-rows-v c =
     subst (λ n. get_or c.args.list.now c.loop-v.v-index 0 < n) (sym c.loop-v.invariant.room) (c.requires.room _ (holds_item c.args.list.now c.loop-v.v-index 0 c.loop-v-test.true))
 
 pub insert-requires : goal.insert-requires
-insert-requires c = c.requires.names _ (holds_item c.args.list.now c.loop-v.v-index 0 c.loop-v-test.true)
+insert-requires c = (search rules, c.requires.names _ (holds_item c.args.list.now c.loop-v.v-index 0 c.loop-v-test.true))
 
 pub loop-v-preserved : goal.loop-v-preserved
 loop-v-preserved c = record {

@@ -1,4 +1,4 @@
-use Rattle.std.proofs.Common.{take, ◌∙◌, ap, sym, get_or}
+use Rattle.std.proofs.Common.{take, ◌∙◌, ap, sym, get_or, rules}
 use Rattle.std.proofs.lemmas.List.{take_more}
 use Rattle.std.proofs.lemmas.List.Elements.{Contains-get_or}
 use Rattle.std.specs.FinSet.{from_list, from_list_push, insert, nat_cmp-IsAntisymmetric}
@@ -6,7 +6,7 @@ use Rattle.std.specs.Cmp.{nat_cmp_total}
 use Rattle.md_decompose.proofs.chains.listed.Goals as goal
 
 pub insert-requires : goal.insert-requires
-insert-requires c = c.requires _ (Contains-get_or c.args.taken.now c.loop-name.name-index 0 c.loop-name-test.true)
+insert-requires c = (search rules, c.requires _ (Contains-get_or c.args.taken.now c.loop-name.name-index 0 c.loop-name-test.true))
 
 pub loop-name-preserved : goal.loop-name-preserved
 loop-name-preserved c =

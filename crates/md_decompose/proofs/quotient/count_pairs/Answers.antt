@@ -1,4 +1,4 @@
-use Rattle.std.proofs.Common.{◌∙◌}
+use Rattle.std.proofs.Common.{◌∙◌, rules}
 use Rattle.md_graph.proofs.Walks.{Walked-start, Walked-name, Walked-more}
 use Rattle.md_decompose.proofs.quotient.count_pairs.Goals as goal
 
@@ -6,7 +6,7 @@ pub loop-head-init : goal.loop-head-init
 loop-head-init c = Walked-start (c.into_iter-head-iterator.ensures.into_iter_gives ∙ c.members-head-items.ensures.list) c.members-head-items.ensures.names
 
 pub row-requires : goal.row-requires
-row-requires c = Walked-name c.loop-head.invariant c.in-Some.head _ c.in-Some.ensures.steps
+row-requires c = (search rules, (search rules, Walked-name c.loop-head.invariant c.in-Some.head _ c.in-Some.ensures.steps))
 
 pub loop-head-preserved : goal.loop-head-preserved
 loop-head-preserved c = Walked-more c.loop-head.invariant c.in-Some.head _ c.in-Some.ensures.steps tt

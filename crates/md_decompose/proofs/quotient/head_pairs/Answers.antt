@@ -1,4 +1,4 @@
-use Rattle.std.proofs.Common.{◌∙◌}
+use Rattle.std.proofs.Common.{◌∙◌, rules}
 use Rattle.md_decompose.proofs.HeadPairs.{pairs_head, pairs_name, pairs_before, pairs_pushed, pairs_more, pairs_whole, later_begin, later_behind}
 use Rattle.md_decompose.proofs.quotient.head_pairs.Goals as goal
 
@@ -8,7 +8,7 @@ loop-head-init c =
     (c.into_iter-head-iterator.ensures.into_iter_gives ∙ c.members-head-items.ensures.list) c.members-head-items.ensures.names c.in_ok-edges.ensures.items
 
 pub remove-requires : goal.remove-requires
-remove-requires c = pairs_name c.args.heads.now c.args.places.now c.loop-head.head-iterator c.loop-head.edges.items c.loop-head.invariant.listing c.in-Some.head _ c.in-Some.ensures.steps
+remove-requires c = (search rules, pairs_name c.args.heads.now c.args.places.now c.loop-head.head-iterator c.loop-head.edges.items c.loop-head.invariant.listing c.in-Some.head _ c.in-Some.ensures.steps)
 
 pub push_near-requires-clause-name : goal.push_near-requires-clause-name
 push_near-requires-clause-name c = pairs_name c.args.heads.now c.args.places.now c.loop-head.head-iterator c.loop-head.edges.items c.loop-head.invariant.listing c.in-Some.head _ c.in-Some.ensures.steps

@@ -1,4 +1,4 @@
-use Rattle.std.proofs.Common.{◌+◌, length, arith, ◌∙◌, ap, subst}
+use Rattle.std.proofs.Common.{◌+◌, length, arith, ◌∙◌, ap, subst, rules}
 use Rattle.std.specs.FinSet as set
 use Rattle.md_graph.specs.declared.TheConstants.{NAMES}
 use Rattle.md_graph.specs.NameSet.{ascending}
@@ -19,7 +19,7 @@ pub row-requires : goal.row-requires
 row-requires c =
     let turn = at_turn c.loop-v.invariant.place c.in-Some.v c.next.new.self c.in-Some.ensures.steps in
     let below = (ascending_items c.args.graph.now.vertices 0 NAMES c.loop-v.j 0 turn.0).below in
-    omega (arith, turn.1, below)
+    (search rules, (search rules, omega (arith, turn.1, below)))
 
 pub gather-requires : goal.gather-requires
 gather-requires c = c.loop-v.invariant.place.inside

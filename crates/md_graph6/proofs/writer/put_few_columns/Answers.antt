@@ -1,4 +1,4 @@
-use Rattle.std.proofs.Common.{◌≡◌, ◌+◌, ◌∙◌, ap, subst, refl, arith}
+use Rattle.std.proofs.Common.{◌≡◌, ◌+◌, ◌∙◌, ap, subst, refl, arith, rules}
 use Rattle.std.specs.FinSet as set
 use Rattle.md_graph.proofs.Limits.{NAMES-lt}
 use Rattle.md_graph6.proofs.WriteLemmas.{consecutive_column, consecutive_name}
@@ -9,7 +9,7 @@ use Rattle.md_graph6.proofs.writer.put_few_columns.Goals as goal
 
 pub row-requires : goal.row-requires
 row-requires c =
-    consecutive_name c.args.graph.now c.args.least c.args.n c.loop-j.j c.requires.count c.requires.consecutive c.loop-j-test.true
+    (search rules, (search rules, consecutive_name c.args.graph.now c.args.least c.args.n c.loop-j.j c.requires.count c.requires.consecutive c.loop-j-test.true))
 
 pub with_column-unput-requires-clause-names : goal.with_column-unput-requires-clause-names
 with_column-unput-requires-clause-names c =

@@ -11,13 +11,14 @@ use Rattle.md_tree.proofs.Plain.{plain_is_node, names_leaf, names_node}
 use Rattle.md_tree.proofs.Loops.{names_child_below, names_child_absent, names_child_canonical, names_step, names_end, insert_is_union}
 use Rattle.md_tree.proofs.tree_graph.+vertices.Goals as goal
 
-pub add_names-add_vertex-requires-clause-name : goal.add_names-add_vertex-requires-clause-name
-add_names-add_vertex-requires-clause-name t c =
-    c.requires.names c.in-Leaf.name (subst (λ s. Has s c.in-Leaf.name) (sym (names_leaf c.args.tree.now c.in-Leaf.name c.in-Leaf.is)) (only_has c.in-Leaf.name))
-
-pub add_names-add_vertex-requires-clause-absent : goal.add_names-add_vertex-requires-clause-absent
-add_names-add_vertex-requires-clause-absent t c =
-    c.requires.absent c.in-Leaf.name (subst (λ s. Has s c.in-Leaf.name) (sym (names_leaf c.args.tree.now c.in-Leaf.name c.in-Leaf.is)) (only_has c.in-Leaf.name))
+pub add_names-add_vertex-requires : goal.add_names-add_vertex-requires
+add_names-add_vertex-requires t c = (
+  search rules,
+  (
+    c.requires.names c.in-Leaf.name (subst (λ s. Has s c.in-Leaf.name) (sym (names_leaf c.args.tree.now c.in-Leaf.name c.in-Leaf.is)) (only_has c.in-Leaf.name)),
+    c.requires.absent c.in-Leaf.name (subst (λ s. Has s c.in-Leaf.name) (sym (names_leaf c.args.tree.now c.in-Leaf.name c.in-Leaf.is)) (only_has c.in-Leaf.name)),
+  ),
+)
 
 pub add_names-add_names_below-requires : goal.add_names-add_names_below-requires
 add_names-add_names_below-requires t c =
