@@ -524,7 +524,7 @@ mod tests {
         expect(&rt, &g, &[], &[]);
         assert_eq!(rt; g.bound(), 0);
         assert!(rt; !g.has_vertex(5) && g.row(200).is_empty());
-        let rows = empty_rows(rt.alloc(), 3)?;
+        let rows = empty_rows::<WORDS>(rt.alloc(), 3)?;
         assert_eq!(rt; rows.len(), 3);
         for row in &rows {
             assert!(rt; row.is_empty());

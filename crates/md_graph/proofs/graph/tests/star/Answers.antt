@@ -3,7 +3,19 @@ use Rattle.std.specs.FinSet as set
 use Rattle.md_graph.proofs.EachRow.{member_from_difference}
 use Rattle.md_graph.proofs.graph.tests.star.Goals as goal
 
-pub add_edges-requires-clause-vertices : goal.add_edges-requires-clause-vertices
-add_edges-requires-clause-vertices g c = λ u m.
-    let empty : c.is_empty.result ≡ true = search rules in
-    ap (λ s. set.contains s u) (sym c.vertices.ensures.set) ∙ member_from_difference _ _ _ c.minus-strange.ensures (c.is_empty.ensures.0 empty) u m
+pub add_edges-requires : goal.add_edges-requires
+add_edges-requires g c = (
+  search rules,
+  (
+    search rules,
+    (
+      search rules,
+      (
+        λ u m.
+            let empty : c.is_empty.result ≡ true = search rules in
+            ap (λ s. set.contains s u) (sym c.vertices.ensures.set) ∙ member_from_difference _ _ _ c.minus-strange.ensures (c.is_empty.ensures.0 empty) u m,
+        search rules,
+      ),
+    ),
+  ),
+)
