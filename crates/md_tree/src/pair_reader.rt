@@ -1,5 +1,5 @@
 //! Reads the end of a node: the pairs of a prime one, and the bracket.
-ghost use Rattle.std.specs.Prelude.{◌≡◌, ◌≢◌, ◌+◌, ◌<◌, ◌≤◌, ◌↔◌, ℕ, List, [], ◌∷◌, ◌++◌, true, length, take, drop, vec_len, vec_capacity, IfOk, IfSome, OnOk, MatchOption, IsTrue};
+ghost use Rattle.std.specs.Prelude.{◌≡◌, ◌≢◌, ◌+◌, ◌<◌, ◌≤◌, ◌↔◌, ℕ, List, [], ◌∷◌, ◌++◌, true, length, take, drop, IfOk, IfSome, MatchOption, IsTrue};
 ghost use Rattle.md_graph.specs.declared.TheConstants.{NAMES};
 ghost use Rattle.md_text.specs.Numbers.{decimal};
 ghost use Rattle.md_tree.specs.declared.Pair.{Pair};
@@ -10,6 +10,7 @@ ghost use Rattle.md_tree.specs.Languages.{LacksFirst};
 ghost use Rattle.md_tree.specs.Held.{LacksEnd, IsEnd, LacksPairs, LacksPair, LacksNumber, IsNumberSplit, IsLow, pair_before, AreListed, MayFollow, ReadsOn, IsAlike, word_bytes};
 
 use crate::grammar::skip_byte;
+use crate::growing::append;
 use crate::numbers::{digit, small_number};
 use crate::{Kind, Pair};
 use md_graph::Memory;
@@ -105,7 +106,7 @@ fn read_pairs<'a>(
             return Ok(None);
         };
         listed = still_listed(listed, last, pair, count);
-        push_pair(&mut pairs, pair)?;
+        append(&mut pairs, pair)?;
         if !more {
             return Ok(Some((pairs, listed, tail)));
         }
@@ -114,29 +115,6 @@ fn read_pairs<'a>(
         last = next;
         rest = far;
     }
-}
-
-// Appends a pair. A full vector grows by an eighth, so that a long one takes little more memory
-// than its pairs.
-#[inline(always)]
-fn push_pair(pairs: &mut Vec<Pair>, pair: Pair) -> Result<(), Memory>
-    ensures { OnOk result (pairs.new.items ≡ pairs.old.items ++ pair ∷ []) }
-{
-    if pairs.len() == pairs.capacity() {
-        grow(pairs)?;
-    }
-    pairs.push_reserved(pair);
-    Ok(())
-}
-
-// Makes room for more pairs.
-#[inline(never)]
-fn grow(pairs: &mut Vec<Pair>) -> Result<(), Memory>
-    ensures items { OnOk result (pairs.new.items ≡ pairs.old.items) }
-    ensures room { OnOk result (vec_len pairs.new < vec_capacity pairs.new) }
-{
-    pairs.reserve_exact(pairs.len() / 8 + 64)?;
-    Ok(())
 }
 
 // A pair, whether another one follows, and what stands behind the mark that tells it.
@@ -288,7 +266,7 @@ fn read_alike<'a>(
             break;
         }
         high = next;
-        push_pair(
+        append(
             pairs,
             Pair {
                 low: pair.low,
