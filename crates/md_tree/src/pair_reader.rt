@@ -110,8 +110,8 @@ fn read_pairs<'a>(
         if !more {
             return Ok(Some((pairs, listed, tail)));
         }
-        low = low_of(rest, pair.low, low);
-        let (next, far) = read_alike(rest, pair, tail, count, &mut pairs)?;
+        low = low_of(rest, pair.low, last.low, low);
+        let (next, far) = read_run(rest, pair, tail, last.low, count, &mut pairs)?;
         last = next;
         rest = far;
     }
@@ -168,13 +168,17 @@ fn begins_with_low(text: &[u8], low: Low) -> bool
     text[low.digits] == b'-'
 }
 
-// The lower position of the pair that a text begins with; `before` is that of the pair before.
+// The lower position of the pair that a text begins with, if the pair before has the same one. Else
+// what was told of an earlier one stays: most positions of a sparse node come once.
 #[inline(always)]
-fn low_of(text: &[u8], number: u32, before: Low) -> Low
+fn low_of(text: &[u8], number: u32, last: u32, before: Low) -> Low
     requires low { IsLow before }
     requires begins { (x : List ℕ) × (text.now ≡ decimal number ++ 45 ∷ x) }
     ensures { IsLow result }
 {
+    if number != last {
+        return before;
+    }
     if number == before.number {
         return before;
     }
@@ -226,6 +230,28 @@ fn is_of_positions(pair: Pair, count: usize) -> bool
     ensures { IsTrue result ↔ ((pair.low < pair.high) × (pair.high < count)) }
 {
     pair.low < pair.high && (pair.high as usize) < count
+}
+
+// Goes on past pairs that are like the one before, if that has the lower position of the pair before
+// it, the `last` one. So a pair of a sparse node is not made ready for the loop over such pairs.
+#[inline(always)]
+fn read_run<'a>(
+    text: &'a [u8],
+    pair: Pair,
+    tail: &'a [u8],
+    last: u32,
+    count: usize,
+    pairs: &mut Vec<Pair>,
+) -> Result<(Pair, &'a [u8]), Memory>
+    requires few { count ≤ NAMES }
+    requires read { text.now ≡ pair_before pair true tail.now }
+    ensures { IfOk result
+        (λ r. ReadsOn count tail.now pairs.old.items pair r.1.now pairs.new.items r.0) }
+{
+    if pair.low != last {
+        return Ok((pair, tail));
+    }
+    read_alike(text, pair, tail, count, pairs)
 }
 
 // Goes on past the pairs that are spelled as the one before but for the last two digits, as long as
