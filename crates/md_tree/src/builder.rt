@@ -1,5 +1,6 @@
 //! Builds the tree whose text is read, and gives up where the text is no well-formed tree's.
 ghost use Rattle.std.specs.Prelude.{◌≡◌, ◌≤◌, ◌↔◌, ◌+◌, ℕ, List, true, false, [], ◌∷◌, ◌++◌, take, drop, vec_len, map, IfOk, MatchOption, IsTrue, Some};
+ghost use Rattle.md_tree.specs.declared.Tree.{Tree};
 ghost use Rattle.md_tree.specs.Plain.{plain};
 ghost use Rattle.md_tree.specs.Trees.{node, row};
 ghost use Rattle.md_tree.specs.TreeTexts.{letter, tree_text};
@@ -218,30 +219,28 @@ fn end_node<'a>(
     if !ascends(&held.least[inner.first..]) {
         return Ok(None);
     }
-    let count = held.trees.len() - inner.first;
-    match read_end(alloc, text, inner.kind, count)? {
-        Some((pairs, tail)) => {
-            close(alloc, inner, pairs, held)?;
-            Ok(Some(tail))
-        }
-        None => Ok(None),
-    }
+    let outermost = held.opens.is_empty();
+    let list = take_from(alloc, inner.first, outermost, &mut held.trees)?;
+    let Some((pairs, tail)) = read_end(alloc, text, inner.kind, list.len())? else {
+        return Ok(None);
+    };
+    close(inner, list, pairs, held)?;
+    Ok(Some(tail))
 }
 
-// A node of the trees from its first child on takes their place.
+// A node of the trees that are taken off takes their place.
 #[inline(always)]
-fn close(alloc: Global, inner: Opened, pairs: Vec<Pair>, held: &mut Held) -> Result<(), Memory>
+fn close(inner: Opened, list: Vec<Tree>, pairs: Vec<Pair>, held: &mut Held) -> Result<(), Memory>
     requires { inner.first ≤ vec_len held.old.trees }
-    ensures trees { IfOk result (λ _. trees_held held.new
-        ≡ take inner.first (trees_held held.old)
-        ++ node inner.kind (row (drop inner.first (trees_held held.old))) pairs.items ∷ []) }
+    ensures trees { IfOk result (λ _. (all : List Tree)
+        → held.old.trees.items ≡ take inner.first all → list.items ≡ drop inner.first all
+        → trees_held held.new ≡ take inner.first (map plain all)
+        ++ node inner.kind (row (drop inner.first (map plain all))) pairs.items ∷ []) }
     ensures least { IfOk result (λ _. held.new.least.items
         ≡ take (inner.first + 1) held.old.least.items) }
     ensures opens { held.new.opens.items ≡ held.old.opens.items }
     ensures seen { held.new.seen ≡ held.old.seen }
 {
-    let outermost = held.opens.is_empty();
-    let list = take_from(alloc, inner.first, outermost, &mut held.trees)?;
     let node = Tree::Node(inner.kind, Children { list }, QuotientEdges { list: pairs });
     append(&mut held.trees, node)?;
     held.least.truncate(inner.first + 1);
