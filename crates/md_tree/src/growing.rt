@@ -15,12 +15,12 @@ pub(crate) fn append<T: Drop>(list: &mut Vec<T>, item: T) -> Result<(), Memory>
     Ok(())
 }
 
-// Makes room for more items.
+// Makes room for more items: few at first, as most lists of pairs are short.
 #[inline(never)]
 fn grow<T>(list: &mut Vec<T>) -> Result<(), Memory>
     ensures items { OnOk result (list.new.items ≡ list.old.items) }
     ensures room { OnOk result (vec_len list.new < vec_capacity list.new) }
 {
-    list.reserve_exact(list.len() / 8 + 64)?;
+    list.reserve_exact(list.len() / 8 + 16)?;
     Ok(())
 }
