@@ -96,8 +96,8 @@ pub behind_comma : (bytes rest : List ℕ) (opens : List Opened) (ts : List Plai
 behind_comma bytes rest opens ts tail b some e = comma_in bytes rest opens ts tail b.nodes b.tree b.open_is b.trees_are b.means some e
 
 -- a step from a later place is one from an earlier place
-pub step_from : (bytes text tail : List ℕ) (step : Step) (held : Held) → length tail < length text → IsStep bytes tail step held → IsStep bytes text step held
-step_from bytes text tail (Onward rest behind) held l s = (s.0, (let m = s.1 in omega arith))
+pub step_from : (bytes text tail : List ℕ) (step : Step) (held : Held) → length tail ≤ length text → IsStep bytes tail step held → IsStep bytes text step held
+step_from bytes text tail (Onward rest) held l s = (s.0, (let m = s.1 in omega arith))
 step_from bytes text tail Useless held l s = s
 step_from bytes text tail End held l s = s
 

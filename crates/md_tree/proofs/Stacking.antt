@@ -1,11 +1,12 @@
 -- One part put on the program's stack of trees.
-use Rattle.std.proofs.Common.{◌≡◌, ℕ, ◌-◌, List, [], ◌∷◌, ◌++◌, length, take, drop, map, Vec, Global, Result, Ok, Err, IfOk, refl, sym, ◌∙◌, ap}
-use Rattle.std.proofs.lemmas.List.{map-append, take-map, drop-map, take_rest, length-map}
+use Rattle.std.proofs.Common.{◌≡◌, ℕ, ◌-◌, List, [], ◌∷◌, ◌++◌, length, take, drop, map, Vec, Global, Option, Some, None, MatchOption, Result, Ok, Err, IfOk, refl, sym, ◌∙◌, ap, subst, arith}
+use Rattle.std.specs.Option.{option_to_list}
+use Rattle.std.proofs.lemmas.List.{map-append, take-map, drop-map, take_rest, length-map, same_from_push}
 use Rattle.md_tree.specs.declared.Kind.{Kind}
 use Rattle.md_tree.specs.declared.QuotientEdges.{QuotientEdges}
 use Rattle.md_tree.specs.declared.Children.{roll-Children}
 use Rattle.md_tree.specs.declared.Tree.{Tree, Leaf, Node}
-use Rattle.md_tree.specs.Trees.{node, row}
+use Rattle.md_tree.specs.Trees.{PlainTree, node, row}
 use Rattle.md_tree.specs.Plain.{plain}
 use Rattle.md_tree.proofs.Plain.{plain_is_leaf, plain-node}
 use Rattle.md_tree.specs.declared.parts.Part.{Part}
@@ -48,3 +49,12 @@ plain_from ds xs first e = ap (map plain) (take_rest ds first ∙ ap (drop first
 
 pub numbers_from : (ds xs : List ℕ) (first : ℕ) → ds ≡ xs → take (length ds - first) (drop first ds) ≡ drop first xs
 numbers_from ds xs first e = take_rest ds first ∙ ap (drop first) e
+
+-- the only tree is popped
+pub popped_only : (xs rest : List Tree) (o : Option Tree) (t : PlainTree) (P : PlainTree → Type 0) (Q : Type 0) → map plain xs ≡ t ∷ [] → xs ≡ rest ++ option_to_list o →
+    (o ≡ None → length xs ≡ 0) → P t → MatchOption o Q (λ u. P (plain u))
+popped_only xs rest None t P Q e s n p =
+    let zero : length xs ≡ 0 = n refl in let one : length xs ≡ 1 = sym (length-map xs plain) ∙ ap length e in
+    absurd (omega arith)
+popped_only xs rest (Some u) t P Q e s n p =
+    subst P (sym (same_from_push (map plain rest) [] (plain u) t (sym (map_one_more plain xs rest u s) ∙ e)).1) p

@@ -116,9 +116,13 @@ pub record IsBuilt (bytes : List ℕ) (ts : List PlainTree) : Type 0 where
   pub good : IsWellFormed (Some tree)
   pub text : bytes ≡ tree_text tree
 
+-- a tree that ends the text before the rest is read, and held
+abbrev pub HasReadTree : List ℕ → List ℕ → List ℕ → Held → Type 0
+HasReadTree bytes text rest held = HasBuilt bytes rest true held × (length rest < length text)
+
 -- what a step makes of what is held
 abbrev pub IsStep : List ℕ → List ℕ → Step → Held → Type 0
-IsStep bytes text (Onward tail behind) held = HasBuilt bytes tail.now behind held × (length tail.now < length text)
+IsStep bytes text (Onward tail) held = HasBuilt bytes tail.now false held × (length tail.now < length text)
 IsStep bytes text Useless held = AreUseless bytes
 IsStep bytes text End held = IsBuilt bytes (trees_held held)
 

@@ -1,13 +1,15 @@
 //! Builds the tree whose text is read, and gives up where the text is no well-formed tree's.
 ghost use Rattle.std.specs.Prelude.{◌≡◌, ◌≤◌, ◌↔◌, ◌+◌, ℕ, List, true, false, [], ◌∷◌, ◌++◌, take, drop, vec_len, map, IfOk, MatchOption, IsTrue, Some};
+ghost use Rattle.md_tree.specs.declared.Tree.{Tree};
 ghost use Rattle.md_tree.specs.Plain.{plain};
 ghost use Rattle.md_tree.specs.Trees.{node, row};
 ghost use Rattle.md_tree.specs.TreeTexts.{letter, tree_text};
 ghost use Rattle.md_tree.specs.WellFormed.{IsWellFormed, IsOfKind, NoneOfKind};
 ghost use Rattle.md_tree.specs.Languages.{LacksFirst};
-ghost use Rattle.md_tree.specs.Held.{IsNumberSplit, HasBuilt, HasBuiltInside, IsStep, AreUseless, Ascends, MayHave, trees_held};
+ghost use Rattle.md_tree.specs.Held.{IsNumberSplit, HasBuilt, HasBuiltInside, HasReadTree, IsStep, AreUseless, Ascends, MayHave, trees_held};
 
 use crate::grammar::{skip_byte, split_letter};
+use crate::growing::append;
 use crate::numbers::small_number;
 use crate::pair_reader::read_end;
 use crate::{Children, Kind, Pair, QuotientEdges, Tree};
@@ -31,11 +33,11 @@ struct Held {
     seen: Names,
 }
 
-// What a step comes to: what is left, and whether it stands behind a tree; or the end of the text;
-// or that the text is no well-formed tree's.
+// What a step comes to: what is left, where a tree is due; or the end of the text; or that the text
+// is no well-formed tree's.
 #[derive(Clone, Copy)]
 enum Step<'a> {
-    Onward(&'a [u8], bool),
+    Onward(&'a [u8]),
     Useless,
     End,
 }
@@ -54,77 +56,79 @@ pub(crate) fn built(alloc: Global, bytes: &[u8]) -> Result<Option<Tree>, Memory>
         seen: Names::none(),
     };
     let mut rest = bytes;
-    let mut behind = false;
     loop {
-        match take_step(alloc, rest, behind, &mut held)? {
-            Step::Onward(tail, now_behind) => {
-                rest = tail;
-                behind = now_behind;
-            }
+        match take_step(alloc, rest, &mut held)? {
+            Step::Onward(tail) => rest = tail,
             Step::Useless => return Ok(None),
             Step::End => return Ok(held.trees.pop()),
         }
     }
 }
 
+// Where a tree is due: a name, and the ends of nodes behind it; or the beginning of a node.
 #[inline(always)]
-fn take_step<'a>(
-    alloc: Global,
-    text: &'a [u8],
-    behind: bool,
-    held: &mut Held,
-) -> Result<Step<'a>, Memory>
-    requires { (bytes : List ℕ) × HasBuilt bytes text.now behind held.old }
-    ensures { IfOk result (λ step. (bytes : List ℕ) → HasBuilt bytes text.now behind held.old
-        → IsStep bytes text.now step held.new) }
-{
-    if behind {
-        return step_behind(alloc, text, held);
-    }
-    step_due(text, held)
-}
-
-// Where a tree is due: a name, or the beginning of a node.
-#[inline(always)]
-fn step_due<'a>(text: &'a [u8], held: &mut Held) -> Result<Step<'a>, Memory>
+fn take_step<'a>(alloc: Global, text: &'a [u8], held: &mut Held) -> Result<Step<'a>, Memory>
+    requires { (bytes : List ℕ) × HasBuilt bytes text.now false held.old }
     ensures { IfOk result (λ step. (bytes : List ℕ) → HasBuilt bytes text.now false held.old
         → IsStep bytes text.now step held.new) }
 {
-    if let Some((kind, behind)) = split_letter(text) {
-        return begin_node(text, kind, behind, held);
+    if let Some((name, tail)) = small_number(text) {
+        return step_name(alloc, text, name, tail, held);
     }
-    match small_number(text) {
-        Some((name, tail)) => take_name(text, name, tail, held),
+    match split_letter(text) {
+        Some((kind, behind)) => begin_node(text, kind, behind, held),
         None => Ok(Step::Useless),
     }
 }
 
-// A name, if it is below the limit and new.
+// A name, and the ends of nodes behind it.
+#[inline(always)]
+fn step_name<'a>(
+    alloc: Global,
+    text: &'a [u8],
+    name: u32,
+    tail: &'a [u8],
+    held: &mut Held,
+) -> Result<Step<'a>, Memory>
+    requires built { (bytes : List ℕ) × HasBuilt bytes text.now false held.old }
+    requires name { IsNumberSplit text.now name tail.now }
+    ensures { IfOk result (λ step. (bytes : List ℕ) → HasBuilt bytes text.now false held.old
+        → IsStep bytes text.now step held.new) }
+{
+    match take_name(text, name, tail, held)? {
+        Some(behind) => end_nodes(alloc, behind, held),
+        None => Ok(Step::Useless),
+    }
+}
+
+// Past a name, if it is below the limit and new.
 #[inline(always)]
 fn take_name<'a>(
     text: &'a [u8],
     name: u32,
     tail: &'a [u8],
     held: &mut Held,
-) -> Result<Step<'a>, Memory>
+) -> Result<Option<&'a [u8]>, Memory>
     requires { IsNumberSplit text.now name tail.now }
-    ensures { IfOk result (λ step. (bytes : List ℕ) → HasBuilt bytes text.now false held.old
-        → IsStep bytes text.now step held.new) }
+    ensures { IfOk result (λ o. (bytes : List ℕ) → HasBuilt bytes text.now false held.old
+        → MatchOption o (AreUseless bytes)
+        (λ behind. HasReadTree bytes text.now behind.now held.new)) }
 {
     if name >= NAMES {
-        return Ok(Step::Useless);
+        return Ok(None);
     }
     if held.seen.has(name) {
-        return Ok(Step::Useless);
+        return Ok(None);
     }
     held.seen.insert(name);
-    held.least.push(name)?;
-    held.trees.push(Tree::Leaf(name))?;
-    Ok(Step::Onward(tail, true))
+    append(&mut held.least, name)?;
+    append(&mut held.trees, Tree::Leaf(name))?;
+    Ok(Some(tail))
 }
 
 // The letter of a node is read. In the text of a well-formed tree fewer nodes are open than there
 // are names.
+#[inline(always)]
 fn begin_node<'a>(
     text: &'a [u8],
     kind: Kind,
@@ -141,100 +145,104 @@ fn begin_node<'a>(
     match skip_byte(behind, b'(') {
         Ok(tail) => {
             let first = held.trees.len();
-            held.opens.push(Opened { kind, first })?;
-            Ok(Step::Onward(tail, false))
+            append(&mut held.opens, Opened { kind, first })?;
+            Ok(Step::Onward(tail))
         }
         Err(_) => Ok(Step::Useless),
     }
 }
 
-// Behind a tree: a comma, or the end of the innermost open node, or of the text.
+// Behind a tree: the ends of nodes, as long as they follow; then a comma or the end of the text.
 #[inline(always)]
-fn step_behind<'a>(alloc: Global, text: &'a [u8], held: &mut Held) -> Result<Step<'a>, Memory>
+fn end_nodes<'a>(alloc: Global, text: &'a [u8], held: &mut Held) -> Result<Step<'a>, Memory>
     requires { (bytes : List ℕ) × HasBuilt bytes text.now true held.old }
     ensures { IfOk result (λ step. (bytes : List ℕ) → HasBuilt bytes text.now true held.old
         → IsStep bytes text.now step held.new) }
 {
-    match skip_byte(text, b',') {
-        Ok(tail) => step_comma(text, tail, held),
-        Err(_) => step_end(alloc, text, held),
+    let mut rest = text;
+    loop {
+        if let Ok(tail) = skip_byte(rest, b',') {
+            return Ok(step_comma(rest, tail, held));
+        }
+        let Some(inner) = held.opens.pop() else {
+            return Ok(step_over(rest));
+        };
+        let Some(tail) = end_node(alloc, rest, inner, held)? else {
+            return Ok(Step::Useless);
+        };
+        rest = tail;
     }
 }
 
 // A comma, behind which a tree is due.
 #[inline(always)]
-fn step_comma<'a>(text: &'a [u8], tail: &'a [u8], held: &mut Held) -> Result<Step<'a>, Memory>
+fn step_comma<'a>(text: &'a [u8], tail: &'a [u8], held: &Held) -> Step<'a>
     requires { text.now ≡ 44 ∷ tail.now }
-    ensures { IfOk result (λ step. (bytes : List ℕ) → HasBuilt bytes text.now true held.old
-        → IsStep bytes text.now step held.new) }
+    ensures { (bytes : List ℕ) → HasBuilt bytes text.now true held.now
+        → IsStep bytes text.now result held.now }
 {
     if held.opens.is_empty() {
-        return Ok(Step::Useless);
+        return Step::Useless;
     }
-    step_due(tail, held)
+    Step::Onward(tail)
 }
 
-// The end of the innermost open node, or of the text.
-fn step_end<'a>(alloc: Global, text: &'a [u8], held: &mut Held) -> Result<Step<'a>, Memory>
-    requires built { (bytes : List ℕ) × HasBuilt bytes text.now true held.old }
-    requires no_comma { LacksFirst 44 text.now }
-    ensures { IfOk result (λ step. (bytes : List ℕ) → HasBuilt bytes text.now true held.old
-        → IsStep bytes text.now step held.new) }
+// Where no node is open: the end of the text.
+#[inline(always)]
+fn step_over<'a>(text: &'a [u8]) -> Step<'a>
+    ensures { (bytes : List ℕ) (held : Held) → HasBuilt bytes text.now true held
+        → (held.opens.items ≡ []) → IsStep bytes text.now result held }
 {
-    match held.opens.pop() {
-        Some(inner) => end_node(alloc, text, inner, held),
-        None => {
-            if text.is_empty() {
-                return Ok(Step::End);
-            }
-            Ok(Step::Useless)
-        }
+    if text.is_empty() {
+        return Step::End;
     }
+    Step::Useless
 }
 
 // The end of a node: its children have to be such as its kind asks, and in order.
+#[inline(always)]
 fn end_node<'a>(
     alloc: Global,
     text: &'a [u8],
     inner: Opened,
     held: &mut Held,
-) -> Result<Step<'a>, Memory>
+) -> Result<Option<&'a [u8]>, Memory>
     requires inside { (bytes : List ℕ) × HasBuiltInside bytes text.now inner held.old }
     requires no_comma { LacksFirst 44 text.now }
-    ensures { IfOk result (λ step. (bytes : List ℕ) → HasBuiltInside bytes text.now inner held.old
-        → IsStep bytes text.now step held.new) }
+    ensures { IfOk result (λ o. (bytes : List ℕ) → HasBuiltInside bytes text.now inner held.old
+        → MatchOption o (AreUseless bytes)
+        (λ tail. HasReadTree bytes text.now tail.now held.new)) }
 {
     if !may_have(inner.kind, &held.trees[inner.first..]) {
-        return Ok(Step::Useless);
+        return Ok(None);
     }
     if !ascends(&held.least[inner.first..]) {
-        return Ok(Step::Useless);
+        return Ok(None);
     }
-    let count = held.trees.len() - inner.first;
-    match read_end(alloc, text, inner.kind, count)? {
-        Some((pairs, tail)) => {
-            close(alloc, inner, pairs, held)?;
-            Ok(Step::Onward(tail, true))
-        }
-        None => Ok(Step::Useless),
-    }
+    let outermost = held.opens.is_empty();
+    let list = take_from(alloc, inner.first, outermost, &mut held.trees)?;
+    let Some((pairs, tail)) = read_end(alloc, text, inner.kind, list.len())? else {
+        return Ok(None);
+    };
+    close(inner, list, pairs, held)?;
+    Ok(Some(tail))
 }
 
-// A node of the trees from its first child on takes their place.
-fn close(alloc: Global, inner: Opened, pairs: Vec<Pair>, held: &mut Held) -> Result<(), Memory>
+// A node of the trees that are taken off takes their place.
+#[inline(always)]
+fn close(inner: Opened, list: Vec<Tree>, pairs: Vec<Pair>, held: &mut Held) -> Result<(), Memory>
     requires { inner.first ≤ vec_len held.old.trees }
-    ensures trees { IfOk result (λ _. trees_held held.new
-        ≡ take inner.first (trees_held held.old)
-        ++ node inner.kind (row (drop inner.first (trees_held held.old))) pairs.items ∷ []) }
+    ensures trees { IfOk result (λ _. (all : List Tree)
+        → held.old.trees.items ≡ take inner.first all → list.items ≡ drop inner.first all
+        → trees_held held.new ≡ take inner.first (map plain all)
+        ++ node inner.kind (row (drop inner.first (map plain all))) pairs.items ∷ []) }
     ensures least { IfOk result (λ _. held.new.least.items
         ≡ take (inner.first + 1) held.old.least.items) }
     ensures opens { held.new.opens.items ≡ held.old.opens.items }
     ensures seen { held.new.seen ≡ held.old.seen }
 {
-    let outermost = held.opens.is_empty();
-    let list = take_from(alloc, inner.first, outermost, &mut held.trees)?;
     let node = Tree::Node(inner.kind, Children { list }, QuotientEdges { list: pairs });
-    held.trees.push(node)?;
+    append(&mut held.trees, node)?;
     held.least.truncate(inner.first + 1);
     Ok(())
 }

@@ -8,6 +8,7 @@ ghost use Rattle.md_tree.specs.Plain.{trees_of};
 mod builder;
 mod cotree;
 mod grammar;
+mod growing;
 pub mod laws;
 mod numbers;
 mod pair_reader;

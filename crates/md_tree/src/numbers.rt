@@ -101,11 +101,9 @@ pub(crate) fn digit(byte: u8) -> Option<u32>
     ensures { MatchOption result (¬ (IsDigit byte))
         (λ d. (d < 10) × (byte ≡ 48 + d)) }
 {
-    if byte < b'0' {
+    let value = u32::from(byte).wrapping_sub(u32::from(b'0'));
+    if value > 9 {
         return None;
     }
-    if byte > b'9' {
-        return None;
-    }
-    Some(u32::from(byte) - u32::from(b'0'))
+    Some(value)
 }

@@ -1,5 +1,5 @@
 //! Reads the end of a node: the pairs of a prime one, and the bracket.
-ghost use Rattle.std.specs.Prelude.{◌≡◌, ◌≢◌, ◌+◌, ◌<◌, ◌≤◌, ◌↔◌, ℕ, List, [], ◌∷◌, ◌++◌, true, length, take, drop, vec_len, vec_capacity, IfOk, IfSome, OnOk, MatchOption, IsTrue};
+ghost use Rattle.std.specs.Prelude.{◌≡◌, ◌≢◌, ◌+◌, ◌<◌, ◌≤◌, ◌↔◌, ℕ, List, [], ◌∷◌, ◌++◌, true, length, take, drop, IfOk, IfSome, MatchOption, IsTrue};
 ghost use Rattle.md_graph.specs.declared.TheConstants.{NAMES};
 ghost use Rattle.md_text.specs.Numbers.{decimal};
 ghost use Rattle.md_tree.specs.declared.Pair.{Pair};
@@ -10,6 +10,7 @@ ghost use Rattle.md_tree.specs.Languages.{LacksFirst};
 ghost use Rattle.md_tree.specs.Held.{LacksEnd, IsEnd, LacksPairs, LacksPair, LacksNumber, IsNumberSplit, IsLow, pair_before, AreListed, MayFollow, ReadsOn, IsAlike, word_bytes};
 
 use crate::grammar::skip_byte;
+use crate::growing::append;
 use crate::numbers::{digit, small_number};
 use crate::{Kind, Pair};
 use md_graph::Memory;
@@ -105,38 +106,15 @@ fn read_pairs<'a>(
             return Ok(None);
         };
         listed = still_listed(listed, last, pair, count);
-        push_pair(&mut pairs, pair)?;
+        append(&mut pairs, pair)?;
         if !more {
             return Ok(Some((pairs, listed, tail)));
         }
-        low = low_of(rest, pair.low, low);
-        let (next, far) = read_alike(rest, pair, tail, count, &mut pairs)?;
+        low = low_of(rest, pair.low, last.low, low);
+        let (next, far) = read_run(rest, pair, tail, last.low, count, &mut pairs)?;
         last = next;
         rest = far;
     }
-}
-
-// Appends a pair. A full vector grows by an eighth, so that a long one takes little more memory
-// than its pairs.
-#[inline(always)]
-fn push_pair(pairs: &mut Vec<Pair>, pair: Pair) -> Result<(), Memory>
-    ensures { OnOk result (pairs.new.items ≡ pairs.old.items ++ pair ∷ []) }
-{
-    if pairs.len() == pairs.capacity() {
-        grow(pairs)?;
-    }
-    pairs.push_reserved(pair);
-    Ok(())
-}
-
-// Makes room for more pairs.
-#[inline(never)]
-fn grow(pairs: &mut Vec<Pair>) -> Result<(), Memory>
-    ensures items { OnOk result (pairs.new.items ≡ pairs.old.items) }
-    ensures room { OnOk result (vec_len pairs.new < vec_capacity pairs.new) }
-{
-    pairs.reserve_exact(pairs.len() / 8 + 64)?;
-    Ok(())
 }
 
 // A pair, whether another one follows, and what stands behind the mark that tells it.
@@ -190,13 +168,17 @@ fn begins_with_low(text: &[u8], low: Low) -> bool
     text[low.digits] == b'-'
 }
 
-// The lower position of the pair that a text begins with; `before` is that of the pair before.
+// The lower position of the pair that a text begins with, if the pair before has the same one. Else
+// what was told of an earlier one stays: most positions of a sparse node come once.
 #[inline(always)]
-fn low_of(text: &[u8], number: u32, before: Low) -> Low
+fn low_of(text: &[u8], number: u32, last: u32, before: Low) -> Low
     requires low { IsLow before }
     requires begins { (x : List ℕ) × (text.now ≡ decimal number ++ 45 ∷ x) }
     ensures { IsLow result }
 {
+    if number != last {
+        return before;
+    }
     if number == before.number {
         return before;
     }
@@ -250,6 +232,28 @@ fn is_of_positions(pair: Pair, count: usize) -> bool
     pair.low < pair.high && (pair.high as usize) < count
 }
 
+// Goes on past pairs that are like the one before, if that has the lower position of the pair before
+// it, the `last` one. So a pair of a sparse node is not made ready for the loop over such pairs.
+#[inline(always)]
+fn read_run<'a>(
+    text: &'a [u8],
+    pair: Pair,
+    tail: &'a [u8],
+    last: u32,
+    count: usize,
+    pairs: &mut Vec<Pair>,
+) -> Result<(Pair, &'a [u8]), Memory>
+    requires few { count ≤ NAMES }
+    requires read { text.now ≡ pair_before pair true tail.now }
+    ensures { IfOk result
+        (λ r. ReadsOn count tail.now pairs.old.items pair r.1.now pairs.new.items r.0) }
+{
+    if pair.low != last {
+        return Ok((pair, tail));
+    }
+    read_alike(text, pair, tail, count, pairs)
+}
+
 // Goes on past the pairs that are spelled as the one before but for the last two digits, as long as
 // they ascend. Nearly all are; what is no such pair is left to be read as any other. Never inlined,
 // so that its loop has the registers to itself.
@@ -288,7 +292,7 @@ fn read_alike<'a>(
             break;
         }
         high = next;
-        push_pair(
+        append(
             pairs,
             Pair {
                 low: pair.low,

@@ -12,15 +12,15 @@ returns-then-len c bytes h =
     let count = c.len.ensures in let all = c.args.held.now.opens.ok.0 in let many = c.if-len.true in
     useless_deep bytes _ _ _ h.comes (omega arith)
 
-pub returns-in_ok-push-in-Ok : goal.returns-in_ok-push-in-Ok
-returns-in_ok-push-in-Ok c bytes h =
+pub returns-in_ok-append-in-Ok : goal.returns-in_ok-append-in-Ok
+returns-in_ok-append-in-Ok c bytes h =
     let ts = map plain c.args.held.now.trees.items in
     let first : length ts ≡ c.len-first.result = length-map c.args.held.now.trees.items plain ∙ sym c.args.held.now.trees.ok.0 ∙ sym c.len-first.ensures in
     let text = c.requires ∙ ap (λ w. letter c.args.kind ∷ w) c.in-Ok.ensures.on in (
       record {
         kept = h.kept;
         comes = subst (λ os. IsDue bytes c.in-Ok.tail.now os ts)
-            (ap (λ n. c.args.held.now.opens.items ++ record { kind = c.args.kind; first = n } ∷ []) first ∙ sym c.in_ok-push-in-Ok.ensures.items)
+            (ap (λ n. c.args.held.now.opens.items ++ record { kind = c.args.kind; first = n } ∷ []) first ∙ sym c.in_ok-append-in-Ok.ensures)
             (due_node bytes c.args.text.now c.args.held.now.opens.items ts c.args.kind c.in-Ok.tail.now h.comes text);
       },
       (let a = shorter_tail (letter c.args.kind) _ _ c.requires in let b = shorter_tail 40 _ _ c.in-Ok.ensures.on in omega arith),

@@ -1,5 +1,5 @@
 use Rattle.std.proofs.Common.{◌≡◌, ◌≤◌, ◌<◌, ◌+◌, ◌-◌, ◌∷◌, ◌++◌, [], length, map, take, drop, sym, ◌∙◌, ap, subst, arith}
-use Rattle.std.proofs.lemmas.List.{length-map, length-drop}
+use Rattle.std.proofs.lemmas.List.{length-map, length-drop, drop-map}
 use Rattle.std.specs.Prelude.{IsTrue}
 use Rattle.md_graph.specs.declared.TheConstants.{NAMES}
 use Rattle.md_tree.specs.Plain.{plain}
@@ -48,16 +48,21 @@ pub read_end-requires : goal.read_end-requires
 read_end-requires c =
     let held = c.args.held.now in
     let few : length (map plain held.trees.items) ≤ NAMES = few_held _ _ _ c.requires.inside.1.kept in
-    let count : length (map plain held.trees.items) ≡ c.len.result = length-map held.trees.items plain ∙ sym held.trees.ok.0 ∙ sym c.len.ensures in
+    let all : length (map plain held.trees.items) ≡ length held.trees.items = length-map held.trees.items plain in
+    let count : c.len.result ≡ length held.trees.items - c.args.inner.first =
+    c.len.ensures ∙ c.in_ok-list.list.ok.0 ∙ ap length c.in_ok-list.ensures.tail ∙ length-drop c.args.inner.first held.trees.items in
     omega arith
 
-pub returns-in_ok-close-in-Some : goal.returns-in_ok-close-in-Some
-returns-in_ok-close-in-Some c bytes h =
+pub returns : goal.returns
+returns c bytes h =
     let held = c.args.held.now in let inner = c.args.inner in let ts = map plain held.trees.items in
-    let new = c.close.new.held in let s = c.in_ok-close-in-Some.ensures in
+    let new = c.close.new.held in let s = c.in_ok-close.ensures in
     let is = c.in-Some.is in let p = c.in_ok-pairs.ensures in let q = rw is at p in
     let ps = c.in-Some.pairs.items in
-    let count : c.len.result ≡ length ts = c.len.ensures ∙ held.trees.ok.0 ∙ sym (length-map held.trees.items plain) in
+    let trees = s.trees held.trees.items c.in_ok-list.ensures.items c.in_ok-list.ensures.tail in
+    let count : c.len.result ≡ length ts - inner.first =
+    c.len.ensures ∙ c.in_ok-list.list.ok.0 ∙ ap length c.in_ok-list.ensures.tail ∙ length-drop inner.first held.trees.items
+    ∙ ap (λ n. n - inner.first) (sym (length-map held.trees.items plain)) in
     let e = plain_from c.deref.result.now held.trees.items inner.first c.deref.ensures.value in
     let f = numbers_from c.deref-2.result.now held.least.items inner.first c.deref-2.ensures.value in
     let yes : IsTrue c.may_have.result = (let y = c.if-not-may_have.false in grind arith) in
@@ -66,21 +71,22 @@ returns-in_ok-close-in-Some c bytes h =
     let ascend : Ascends (drop inner.first held.least.items) = subst Ascends f (c.ascends.ensures.0 up) in
     let inside : inner.first < length ts = inside_first _ _ inner _ _ h.comes in (
       record {
-        kept = subst (λ us. AreKept us new.least.items new.seen) (sym s.trees)
+        kept = subst (λ us. AreKept us new.least.items new.seen) (sym trees)
             (subst (λ ms. AreKept (take inner.first ts ++ node inner.kind (row (drop inner.first ts)) ps ∷ []) ms new.seen) (sym s.least)
             (subst (AreKept (take inner.first ts ++ node inner.kind (row (drop inner.first ts)) ps ∷ []) (take (inner.first + 1) held.least.items)) (sym s.seen)
-            (kept_closed ts held.least.items held.seen inner.first inner.kind ps inside h.kept has (subst (λ n. MayList inner.kind (n - inner.first) ps) count q.0) ascend)));
-        comes = subst (λ us. IsBehind bytes c.in-Some.tail.now new.opens.items us) (sym s.trees)
+            (kept_closed ts held.least.items held.seen inner.first inner.kind ps inside h.kept has (subst (λ n. MayList inner.kind n ps) count q.0) ascend)));
+        comes = subst (λ us. IsBehind bytes c.in-Some.tail.now new.opens.items us) (sym trees)
             (subst (λ os. IsBehind bytes c.in-Some.tail.now os (take inner.first ts ++ node inner.kind (row (drop inner.first ts)) ps ∷ [])) (sym s.opens)
             (inside_end bytes c.args.text.now inner held.opens.items ts h.comes ps c.in-Some.tail.now q.1));
       },
       end_shorter _ _ ps q.1,
     )
 
-pub returns-in-None : goal.returns-in-None
-returns-in-None c bytes h =
+pub returns-in_default : goal.returns-in_default
+returns-in_default c bytes h =
     let held = c.args.held.now in let inner = c.args.inner in let ts = map plain held.trees.items in
-    let is = c.in-None.is in let p = c.in_ok-pairs.ensures in let q = rw is at p in
-    let count : c.len.result ≡ length ts = c.len.ensures ∙ held.trees.ok.0 ∙ sym (length-map held.trees.items plain) in
-    let size : c.len.result - inner.first ≡ length (drop inner.first ts) = ap (λ n. n - inner.first) count ∙ sym (length-drop inner.first ts) in
+    let is = c.in_default.is in let p = c.in_ok-pairs.ensures in let q = rw is at p in
+    let size : c.len.result ≡ length (drop inner.first ts) =
+    c.len.ensures ∙ c.in_ok-list.list.ok.0 ∙ ap length c.in_ok-list.ensures.tail ∙ sym (length-map (drop inner.first held.trees.items) plain)
+    ∙ ap length (sym (drop-map plain inner.first held.trees.items)) in
     useless_end bytes c.args.text.now inner held.opens.items ts h.comes c.requires.no_comma (subst (λ n. LacksEnd inner.kind n c.args.text.now) size q)

@@ -1,7 +1,6 @@
 use Rattle.std.proofs.Common.{arith}
 use Rattle.std.proofs.lemmas.List.{nil_from_length}
-use Rattle.std.proofs.lemmas.Result.{IfOk-weaker}
-use Rattle.md_tree.proofs.Coming.{behind_comma, step_from, useless_over}
+use Rattle.md_tree.proofs.Coming.{behind_comma, useless_over}
 use Rattle.md_tree.proofs.Leaving.{shorter_tail}
 use Rattle.md_tree.proofs.builder.step_comma.Goals as goal
 
@@ -14,9 +13,7 @@ returns-then-is_empty c bytes h =
     (omega arith)
 
 pub returns : goal.returns
-returns c =
-    IfOk-weaker c.step_due.result _ _
-    (λ step f bytes h.
-    step_from bytes c.args.text.now c.args.tail.now step _ (shorter_tail 44 _ _ c.requires)
-    (f bytes (record { kept = h.kept; comes = behind_comma bytes c.args.text.now c.args.held.now.opens.items _ c.args.tail.now h.comes (let o = c.args.held.now.opens.ok.0 in grind (arith, c.is_empty.ensures, c.if-is_empty.false, o)) c.requires })))
-    c.step_due.ensures
+returns c bytes h = (
+  record { kept = h.kept; comes = behind_comma bytes c.args.text.now c.args.held.now.opens.items _ c.args.tail.now h.comes (let o = c.args.held.now.opens.ok.0 in grind (arith, c.is_empty.ensures, c.if-is_empty.false, o)) c.requires },
+  shorter_tail 44 _ _ c.requires,
+)

@@ -21,10 +21,10 @@ returns c bytes h =
     let v = c.args.name in
     let held = c.args.held.now in
     let ts = map plain held.trees.items in
-    let trees = map_one_more plain c.push-2.new.self.items held.trees.items (Leaf v) c.in_ok-push-2.ensures.items ∙ ap (λ t. ts ++ t ∷ []) (plain_is_leaf (Leaf v) v refl) in (
+    let trees = map_one_more plain c.append-2.new.list.items held.trees.items (Leaf v) c.in_ok-append-2.ensures ∙ ap (λ t. ts ++ t ∷ []) (plain_is_leaf (Leaf v) v refl) in (
       record {
-        kept = subst (λ us. AreKept us c.push.new.self.items c.insert.new.self) (sym trees)
-            (subst (λ ms. AreKept (ts ++ leaf v ∷ []) ms c.insert.new.self) (sym c.in_ok-push.ensures.items)
+        kept = subst (λ us. AreKept us c.append.new.list.items c.insert.new.self) (sym trees)
+            (subst (λ ms. AreKept (ts ++ leaf v ∷ []) ms c.insert.new.self) (sym c.in_ok-append.ensures)
             (subst (AreKept (ts ++ leaf v ∷ []) (held.least.items ++ v ∷ [])) (sym c.insert.ensures)
             (kept_name ts held.least.items held.seen v h.kept c.if-name-ge-NAMES.false (sym c.has.ensures ∙ c.if-has.false))));
         comes = subst (IsBehind bytes c.args.tail.now held.opens.items) (sym trees) (due_name bytes _ _ ts v _ h.comes c.requires);

@@ -41,7 +41,7 @@ loop-tens-preserved c =
     record {
       from = omega arith;
       on =
-          subst (λ ps. ReadsOn c.args.count tail c.args.pairs.now.items c.args.pair c.in-Some.behind.now ps (record { low = low; high = next })) (sym c.in_ok-push_pair.ensures)
+          subst (λ ps. ReadsOn c.args.count tail c.args.pairs.now.items c.args.pair c.in-Some.behind.now ps (record { low = low; high = next })) (sym c.in_ok-append.ensures)
           (reads_more c.args.count tail c.loop-tens.rest.now c.in-Some.behind.now c.args.pairs.now.items c.loop-tens.pairs.items c.args.pair low c.loop-tens.high next
           i.on (omega arith) (omega arith) (omega arith)
           (alike_pair text c.loop-tens.rest.now c.in-Some.behind.now low high front c.word-begin.result c.word-end.result c.in-Some.tens c.in-Some.ones

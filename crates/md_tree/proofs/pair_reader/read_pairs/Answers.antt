@@ -24,7 +24,7 @@ loop-pair-preserved c =
     record {
       low = c.low_of-low.ensures;
       read = c.in_ok-next.ensures.on text now
-          (subst (λ ps. HasRead n text c.in-Some.tail.now ps c.in-Some.pair now) (sym c.in_ok-push_pair.ensures)
+          (subst (λ ps. HasRead n text c.in-Some.tail.now ps c.in-Some.pair now) (sym c.in_ok-append.ensures)
           (one_read n text c.loop-pair.rest.now c.in-Some.tail.now c.loop-pair.pairs.items c.loop-pair.last c.in-Some.pair c.loop-pair.listed now c.loop-pair.invariant.read (rw more at c.in-Some.ensures)
           c.still_listed-listed.ensures));
     }
@@ -41,9 +41,9 @@ returns-then-not-more c =
     let i = c.loop-pair.invariant.read in
     let qs = c.loop-pair.pairs.items in
     let now = c.still_listed-listed.result in (
-      (λ e. snoc_some qs c.in-Some.pair (sym c.in_ok-push_pair.ensures ∙ e)),
-      subst (λ ps. IsTrue now ↔ AreListed c.args.count ps) (sym c.in_ok-push_pair.ensures)
+      (λ e. snoc_some qs c.in-Some.pair (sym c.in_ok-append.ensures ∙ e)),
+      subst (λ ps. IsTrue now ↔ AreListed c.args.count ps) (sym c.in_ok-append.ensures)
           (listed_more c.args.count qs c.loop-pair.last c.in-Some.pair c.loop-pair.listed now i.last_is i.may c.still_listed-listed.ensures),
       pairs_whole c.args.text.now c.loop-pair.rest.now c.in-Some.tail.now qs c.in-Some.pair i.pairs (rw more at c.in-Some.ensures)
-          ∙ ap (λ w. pairs_text 59 w ++ 41 ∷ c.in-Some.tail.now) (sym c.in_ok-push_pair.ensures),
+          ∙ ap (λ w. pairs_text 59 w ++ 41 ∷ c.in-Some.tail.now) (sym c.in_ok-append.ensures),
     )

@@ -1,0 +1,16 @@
+use Rattle.std.proofs.Common.{◌≤◌, ℕ, List, length, true}
+use Rattle.md_tree.specs.Held.{HasBuilt}
+use Rattle.md_tree.specs.declared.builder.Held.{Held}
+use Rattle.md_tree.proofs.builder.end_nodes.Given as goal
+
+-- whatever is read before the text, the rest stands behind a tree as well
+pub record AreEndsRead (text rest : List ℕ) (before now : Held) : Type 0 where
+  pub some : (bytes : List ℕ) × HasBuilt bytes rest true now
+  pub each : (bytes : List ℕ) → HasBuilt bytes text true before → HasBuilt bytes rest true now
+  pub within : length rest ≤ length text
+
+abbrev pub invariant-loop-tail : goal.invariant-loop-tail
+invariant-loop-tail l = AreEndsRead l.text l.rest l.initial.held l.held
+
+abbrev pub decreases-loop-tail : goal.decreases-loop-tail
+decreases-loop-tail l = length l.rest
