@@ -370,6 +370,7 @@ pub fn insert_in_rows<const W: usize>(rows: &mut [Set<W>], names: &Set<W>, v: u3
         then set.insert (row_of rows.old u) v
         else row_of rows.old u) }
 {
+    names.within_limit();
     for u in names.members() {
         rows[u as usize].insert(v);
     }
@@ -384,6 +385,7 @@ fn remove_from_rows<const W: usize>(rows: &mut [Set<W>], names: &Set<W>, v: u32)
         then set.remove (row_of rows.old u) v
         else row_of rows.old u) }
 {
+    names.within_limit();
     for u in names.members() {
         rows[u as usize].remove(v);
     }
@@ -395,6 +397,7 @@ fn clear_rows<const W: usize>(rows: &mut [Set<W>], names: &Set<W>)
     ensures { (u : ℕ) → row_of rows.new u
         ≡ (if set.contains names.now u then set.empty else row_of rows.old u) }
 {
+    names.within_limit();
     for u in names.members() {
         rows[u as usize].clear();
     }

@@ -60,6 +60,13 @@ impl<const W: usize> Set<W> {
         }
     }
 
+    /// What holds of every set, and costs nothing to say: it has at most `WORDS` words.
+    pub fn within_limit(&self)
+        ensures { W ≤ WORDS }
+    {
+        let _used = self.used;
+    }
+
     /// An equal set.
     pub fn copy(&self) -> Set<W>
         ensures { result ≡ self.now }
@@ -87,7 +94,7 @@ impl<const W: usize> Set<W> {
         requires { from + count ≤ 64 * W }
         ensures { self.new ≡ set.union self.old (range from count) }
     {
-        let _used = self.used;
+        self.within_limit();
         let to = from + count;
         for at in from / 64..to.div_ceil(64) {
             self.insert_block(64 * at, bits_of_range(64 * at, from, to));
@@ -238,6 +245,7 @@ impl<const W: usize> Set<W> {
         ensures name { IfSome result (λ least. least < NAMES) }
         ensures below { IfSome result (λ least. least < 64 * W) }
     {
+        self.within_limit();
         self.members_from(v).next()
     }
 
@@ -284,7 +292,6 @@ impl<const W: usize> Set<W> {
         ensures list { result ≡ ascending self.now }
         ensures names { AllBelow self.now NAMES }
         ensures below { AllBelow self.now (64 * W) }
-        ensures limit { W ≤ WORDS }
     {
         self.members_from(0)
     }
@@ -294,7 +301,6 @@ impl<const W: usize> Set<W> {
         ensures list { result ≡ ascending_from self.now v }
         ensures names { AllBelow self.now NAMES }
         ensures below { AllBelow self.now (64 * W) }
-        ensures limit { W ≤ WORDS }
     {
         let at = v as usize / 64;
         if self.used <= at {

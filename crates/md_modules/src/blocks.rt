@@ -1,27 +1,27 @@
 //! Sets of names in little room, as the classes of a partition are kept: most are names alone.
-ghost use Rattle.std.specs.Prelude.{◌≡◌, ℕ, ◌<◌, IfOk, IfSome, IfNone};
+ghost use Rattle.std.specs.Prelude.{◌≡◌, ◌*◌, ℕ, ◌<◌, ◌≤◌, IfOk, IfSome, IfNone};
 ghost use Rattle.std.specs.FinSet.{len};
 ghost use Rattle.md_graph.specs.NameSet.{IsLeastFrom, NoneFrom};
 ghost use Rattle.md_graph.specs.Sets.{HasSome, HasTwo, only_name};
 
-use md_graph::{Memory, NAMES, Names};
+use md_graph::{Memory, NAMES, Set, WORDS};
 use std::alloc::Global;
 use std::marker::Model;
 
 // What a block holds: a name alone, or a set.
 #[derive(Drop)]
-enum Held {
+enum Held<const W: usize> {
     One(u32),
-    Several(Box<Names>),
+    Several(Box<Set<W>>),
 }
 
 /// A set of names: a name alone takes no memory, and another set is kept in a box.
 #[derive(Drop)]
-pub struct Block {
-    held: Held,
+pub struct Block<const W: usize> {
+    held: Held<W>,
 }
 
-impl Model for Block {
+impl<const W: usize> Model for Block<W> {
     ghost use Rattle.std.specs.Ordering.{nat_cmp};
     ghost use Rattle.std.specs.FinSet as set;
     ghost use Rattle.std.specs.Coded.{coded_ℕ};
@@ -30,17 +30,20 @@ impl Model for Block {
 
     ghost coded = { set.code coded_ℕ };
 
+    ghost use Rattle.std.specs.Prelude.{◌≤◌};
+    ghost use Rattle.md_graph.specs.declared.TheConstants.{WORDS};
     ghost use Rattle.md_modules.specs.Blocks.{held_names, IsName};
 
-    ghost view = { λ b. held_names b.held };
+    ghost view = { λ b. held_names W b.held };
 
-    ghost invariant = { λ b. IsName b.held };
+    ghost invariant = { λ b. (W ≤ WORDS) × IsName W b.held };
 }
 
-impl Block {
-    /// A name alone.
-    pub fn one(name: u32) -> Block
-        requires { name < NAMES }
+impl<const W: usize> Block<W> {
+    /// A name alone. Conditions: it is below `64 * W`, and `W` at most `WORDS`.
+    pub fn one(name: u32) -> Block<W>
+        requires name { name < 64 * W }
+        requires limit { W ≤ WORDS }
         ensures { result ≡ only_name name }
     {
         Block {
@@ -49,9 +52,10 @@ impl Block {
     }
 
     /// An equal set.
-    pub fn of(alloc: Global, names: &Names) -> Result<Block, Memory>
+    pub fn of(alloc: Global, names: &Set<W>) -> Result<Block<W>, Memory>
         ensures { IfOk result (λ block. block ≡ names.now) }
     {
+        names.within_limit();
         if let Some(name) = only_member(names) {
             return Ok(Block::one(name));
         }
@@ -60,9 +64,10 @@ impl Block {
     }
 
     /// The set of a box, which is kept where the set isn't a name alone.
-    pub fn of_box(names: Box<Names>) -> Block
-        ensures { result ≡ names.value }
+    pub fn of_box(names: Box<Set<W>>) -> Block<W>
+        ensures { result ≡ names.entry.value }
     {
+        names.within_limit();
         if let Some(name) = only_member(&names) {
             return Block::one(name);
         }
@@ -72,12 +77,12 @@ impl Block {
     }
 
     /// The set in a box; only that of a name alone takes memory.
-    pub fn into_box(self, alloc: Global) -> Result<Box<Names>, Memory>
-        ensures { IfOk result (λ names. names.value ≡ self) }
+    pub fn into_box(self, alloc: Global) -> Result<Box<Set<W>>, Memory>
+        ensures { IfOk result (λ names. names.value ≡ self.entry) }
     {
         match self.held {
             Held::One(name) => {
-                let mut names = Names::none();
+                let mut names = Set::none();
                 names.insert(name);
                 Ok(Box::new(alloc, names)?)
             }
@@ -101,6 +106,7 @@ impl Block {
         ensures found { IfSome result (IsLeastFrom self.now 0) }
         ensures none { IfNone result (NoneFrom self.now 0) }
         ensures name { IfSome result (λ least. least < NAMES) }
+        ensures below { IfSome result (λ least. least < 64 * W) }
     {
         match &self.held {
             Held::One(name) => Some(*name),
@@ -119,7 +125,7 @@ impl Block {
     }
 
     // The set, unless it is kept as a name alone.
-    pub(crate) fn several(&self) -> Option<&Names>
+    pub(crate) fn several(&self) -> Option<&Set<W>>
         ensures kept { IfSome result (λ names. names.now ≡ self.now) }
         ensures one { IfNone result ((v : ℕ) × (self.now ≡ only_name v)) }
     {
@@ -131,10 +137,11 @@ impl Block {
 }
 
 /// The member of a set with one member.
-pub fn only_member(set: &Names) -> Option<u32>
+pub fn only_member<const W: usize>(set: &Set<W>) -> Option<u32>
     ensures one { IfSome result (λ name. set.now ≡ only_name name) }
     ensures more { IfNone result (HasSome set.now → HasTwo set.now) }
     ensures name { IfSome result (λ name. name < NAMES) }
+    ensures below { IfSome result (λ name. name < 64 * W) }
 {
     let first = set.first_from(0)?;
     match set.first_from(first + 1) {

@@ -1,7 +1,7 @@
 //! The search for a component, of a graph or of its complement. It keeps what it hasn't taken yet
 //! and what it took and hasn't looked at, and needs no memory: a fixed number of operations on rows
 //! for each name that it takes.
-ghost use Rattle.std.specs.Prelude.{◌≡◌, ℕ, ◌<◌, ◌≤◌, ◌+◌, ◌↔◌, IsTrue, true, false};
+ghost use Rattle.std.specs.Prelude.{◌≡◌, ◌*◌, ℕ, ◌<◌, ◌≤◌, ◌+◌, ◌↔◌, IsTrue, true, false};
 ghost use Rattle.std.specs.FinSet.{difference, len};
 ghost use Rattle.md_graph.specs.PlainGraph.{adjacent};
 ghost use Rattle.md_graph.specs.Sets.{NameSet, Has, Within, Disjoint};
@@ -10,17 +10,17 @@ ghost use Rattle.md_modules.specs.Components.{IsComponent};
 ghost use Rattle.md_modules.specs.Searches.{IsReaching};
 
 use crate::shared::{move_seen, next};
-use md_graph::{Graph, NAMES, Names};
+use md_graph::{GraphOf, NAMES, Set};
 
 /// Whether the graph is connected, as it is with no vertex or one.
-pub fn connected(graph: &Graph) -> bool
+pub fn connected<const W: usize>(graph: &GraphOf<W>) -> bool
     ensures { IsTrue result ↔ IsConnected (adjacent graph.now) graph.now.vertices }
 {
     is_whole(graph, false)
 }
 
 /// Whether the complement of the graph is connected, as it is with no vertex or one.
-pub fn co_connected(graph: &Graph) -> bool
+pub fn co_connected<const W: usize>(graph: &GraphOf<W>) -> bool
     ensures { IsTrue result ↔ IsCoConnected (adjacent graph.now) graph.now.vertices }
 {
     is_whole(graph, true)
@@ -28,7 +28,7 @@ pub fn co_connected(graph: &Graph) -> bool
 
 /// Puts into `into` the component of `x` in the graph on `within`. Condition: `within` is a set of
 /// vertices, and `x` a member.
-pub fn component(graph: &Graph, within: &Names, x: u32, into: &mut Names)
+pub fn component<const W: usize>(graph: &GraphOf<W>, within: &Set<W>, x: u32, into: &mut Set<W>)
     requires inside { Within within.now graph.now.vertices }
     requires member { Has within.now x }
     ensures { IsComponent (adjacent graph.now) within.now x into.new false }
@@ -39,7 +39,7 @@ pub fn component(graph: &Graph, within: &Names, x: u32, into: &mut Names)
 
 /// Puts into `into` the component of `x` in the complement of the graph on `within`. Condition:
 /// `within` is a set of vertices, and `x` a member.
-pub fn co_component(graph: &Graph, within: &Names, x: u32, into: &mut Names)
+pub fn co_component<const W: usize>(graph: &GraphOf<W>, within: &Set<W>, x: u32, into: &mut Set<W>)
     requires inside { Within within.now graph.now.vertices }
     requires member { Has within.now x }
     ensures { IsComponent (adjacent graph.now) within.now x into.new true }
@@ -50,8 +50,14 @@ pub fn co_component(graph: &Graph, within: &Names, x: u32, into: &mut Names)
 
 /// Whether `w` is adjacent to one of `among` (`value` is true), or not adjacent to one (`value` is
 /// false). Conditions: `w` is a name, and `apart` is a set without a member of `among`.
-pub fn sees(graph: &Graph, w: u32, value: bool, among: &Names, apart: &Names) -> bool
-    requires name { w < NAMES }
+pub fn sees<const W: usize>(
+    graph: &GraphOf<W>,
+    w: u32,
+    value: bool,
+    among: &Set<W>,
+    apart: &Set<W>,
+) -> bool
+    requires name { w < 64 * W }
     requires apart { Disjoint among.now apart.now }
     ensures { IsTrue result ↔ ((t : ℕ) × Has among.now t × (adjacent graph.now w t ≡ value)) }
 {
@@ -63,7 +69,7 @@ pub fn sees(graph: &Graph, w: u32, value: bool, among: &Names, apart: &Names) ->
 }
 
 // Whether the graph (`value` is false) or its complement (`value` is true) is connected.
-fn is_whole(graph: &Graph, value: bool) -> bool
+fn is_whole<const W: usize>(graph: &GraphOf<W>, value: bool) -> bool
     ensures { IsTrue result
         ↔ (((part : NameSet) × IsSplit (adjacent graph.now) graph.now.vertices part value) → ⊥) }
 {
@@ -71,14 +77,20 @@ fn is_whole(graph: &Graph, value: bool) -> bool
     let Some(x) = vertices.first_from(0) else {
         return true;
     };
-    let mut left = Names::none();
+    let mut left = Set::none();
     unreached(graph, vertices, x, value, &mut left);
     left.is_empty()
 }
 
 // Puts into `left` what the component of `x` leaves of `within`, in the graph (`value` is false) or
 // its complement (`value` is true).
-fn unreached(graph: &Graph, within: &Names, x: u32, value: bool, left: &mut Names)
+fn unreached<const W: usize>(
+    graph: &GraphOf<W>,
+    within: &Set<W>,
+    x: u32,
+    value: bool,
+    left: &mut Set<W>,
+)
     requires inside { Within within.now graph.now.vertices }
     requires member { Has within.now x }
     ensures part { Within left.new within.now }
@@ -89,7 +101,7 @@ fn unreached(graph: &Graph, within: &Names, x: u32, value: bool, left: &mut Name
     left.clear();
     left.take_in(within);
     left.remove(x);
-    let mut todo = Names::none();
+    let mut todo = Set::none();
     todo.insert(x);
     // Each name is taken once. Then a turn looks at it, at some six operations on rows beside those
     // at the names left in a look back; or a look back, which costs one for each name left, saves
@@ -108,9 +120,16 @@ fn unreached(graph: &Graph, within: &Names, x: u32, value: bool, left: &mut Name
 
 // One turn of the search for a component: what is left and adjacent to `w` is taken. Where nothing
 // is, the search looks back, unless more names are left than are to be looked at.
-fn turn(graph: &Graph, within: &Names, value: bool, w: u32, left: &mut Names, todo: &mut Names)
+fn turn<const W: usize>(
+    graph: &GraphOf<W>,
+    within: &Set<W>,
+    value: bool,
+    w: u32,
+    left: &mut Set<W>,
+    todo: &mut Set<W>,
+)
     requires member { Has todo.old w }
-    requires name { w < NAMES }
+    requires name { w < 64 * W }
     requires apart { Disjoint left.old todo.old }
     ensures kept { (x : ℕ) → IsReaching (adjacent graph.now) within.now value x left.old todo.old
         → IsReaching (adjacent graph.now) within.now value x left.new todo.new }
@@ -129,7 +148,13 @@ fn turn(graph: &Graph, within: &Names, value: bool, w: u32, left: &mut Names, to
 
 // What is left and adjacent to a name taken is taken, and nothing else is to be looked at: no name
 // taken before is adjacent to one that is still left.
-fn look_back(graph: &Graph, within: &Names, value: bool, left: &mut Names, todo: &mut Names)
+fn look_back<const W: usize>(
+    graph: &GraphOf<W>,
+    within: &Set<W>,
+    value: bool,
+    left: &mut Set<W>,
+    todo: &mut Set<W>,
+)
     ensures kept { (x : ℕ) → IsReaching (adjacent graph.now) within.now value x left.old todo.old
         → IsReaching (adjacent graph.now) within.now value x left.new todo.new }
     ensures fewer { len left.new + len todo.new ≤ len left.old }
@@ -143,12 +168,13 @@ fn look_back(graph: &Graph, within: &Names, value: bool, left: &mut Names, todo:
 
 // The members of `left` that are adjacent to one of `taken` (`value` is true), or that aren't
 // (`value` is false).
-fn seeing(graph: &Graph, value: bool, left: &Names, taken: &Names) -> Names
+fn seeing<const W: usize>(graph: &GraphOf<W>, value: bool, left: &Set<W>, taken: &Set<W>) -> Set<W>
     requires { Disjoint taken.now left.now }
     ensures { (y : ℕ) → Has result y ↔ (Has left.now y
         × ((t : ℕ) × Has taken.now t × (adjacent graph.now y t ≡ value))) }
 {
-    let mut new = Names::none();
+    let _vertices = graph.vertices();
+    let mut new = Set::none();
     for y in left.members() {
         if sees(graph, y, value, taken, left) {
             new.insert(y);

@@ -1,19 +1,19 @@
 //! The search for the least module that holds a set, and for the names that no smaller module holds
 //! with one. It keeps what it hasn't taken yet and what it took and hasn't looked at, and needs no
 //! memory: a fixed number of operations on rows for each name that it takes.
-ghost use Rattle.std.specs.Prelude.{◌≡◌, ◌≢◌, ℕ, ◌<◌, ◌↔◌, IsTrue, true, false};
+ghost use Rattle.std.specs.Prelude.{◌≡◌, ◌*◌, ◌≢◌, ℕ, ◌<◌, ◌↔◌, IsTrue, true, false};
 ghost use Rattle.std.specs.FinSet.{difference};
 ghost use Rattle.md_graph.specs.PlainGraph.{adjacent};
 ghost use Rattle.md_graph.specs.Sets.{Has, Lacks, Within};
 ghost use Rattle.md_modules.specs.Modules.{IsModule, IsLeastModule, IsLeastModuleOver};
 
 use crate::shared::{move_seen, next};
-use md_graph::{Graph, NAMES, Names};
+use md_graph::{GraphOf, NAMES, Set};
 
 /// Whether `names` is a module of the graph: a nonempty set of vertices, to all of which or to none
 /// of which each other vertex is adjacent. It is false for the empty set, and for a set with a name
 /// that is no vertex.
-pub fn is_module(graph: &Graph, names: &Names) -> bool
+pub fn is_module<const W: usize>(graph: &GraphOf<W>, names: &Set<W>) -> bool
     ensures { IsTrue result ↔ IsModule (adjacent graph.now) graph.now.vertices names.now }
 {
     let vertices = graph.vertices();
@@ -28,7 +28,7 @@ pub fn is_module(graph: &Graph, names: &Names) -> bool
 
 /// Puts into `into` the least module of the graph that holds `u` and `v`: `u` alone where they are
 /// equal. Condition: both are vertices.
-pub fn closure(graph: &Graph, u: u32, v: u32, into: &mut Names)
+pub fn closure<const W: usize>(graph: &GraphOf<W>, u: u32, v: u32, into: &mut Set<W>)
     requires first { Has graph.now.vertices u }
     requires second { Has graph.now.vertices v }
     ensures { IsLeastModule (adjacent graph.now) graph.now.vertices u v into.new }
@@ -38,7 +38,13 @@ pub fn closure(graph: &Graph, u: u32, v: u32, into: &mut Names)
 
 /// Puts into `into` the least module of the graph on `within` that holds `u` and `v`: `u` alone
 /// where they are equal. Condition: `within` is a set of vertices, and both are members.
-pub fn closure_in(graph: &Graph, within: &Names, u: u32, v: u32, into: &mut Names)
+pub fn closure_in<const W: usize>(
+    graph: &GraphOf<W>,
+    within: &Set<W>,
+    u: u32,
+    v: u32,
+    into: &mut Set<W>,
+)
     requires inside { Within within.now graph.now.vertices }
     requires first { Has within.now u }
     requires second { Has within.now v }
@@ -51,7 +57,7 @@ pub fn closure_in(graph: &Graph, within: &Names, u: u32, v: u32, into: &mut Name
         return;
     }
     into.insert(v);
-    let mut todo = Names::none();
+    let mut todo = Set::none();
     todo.insert(v);
     grow(graph, within, u, into, todo);
 }
@@ -60,7 +66,13 @@ pub fn closure_in(graph: &Graph, within: &Names, u: u32, v: u32, into: &mut Name
 /// a set of vertices, `into` a part of it that holds `v`, and `todo` a part of `into`; for each
 /// member of `into` outside `todo`, each name of `within` outside `into` is adjacent to both that
 /// member and `v` or to neither.
-pub fn grow(graph: &Graph, within: &Names, v: u32, into: &mut Names, todo: Names)
+pub fn grow<const W: usize>(
+    graph: &GraphOf<W>,
+    within: &Set<W>,
+    v: u32,
+    into: &mut Set<W>,
+    todo: Set<W>,
+)
     requires inside { Within within.now graph.now.vertices }
     requires part { Within into.old within.now }
     requires fixed { Has into.old v }
@@ -78,7 +90,7 @@ pub fn grow(graph: &Graph, within: &Names, v: u32, into: &mut Names, todo: Names
 /// itself; the rest of `within` is a module that holds `v`. Condition: `within` is a set of
 /// vertices, `v` and `j` are different members, and the least module of the graph on `within` that
 /// holds both is `within`.
-pub fn back(graph: &Graph, within: &Names, v: u32, j: u32, into: &mut Names)
+pub fn back<const W: usize>(graph: &GraphOf<W>, within: &Set<W>, v: u32, j: u32, into: &mut Set<W>)
     requires inside { Within within.now graph.now.vertices }
     requires differ { v ≢ j }
     requires whole { IsLeastModule (adjacent graph.now) within.now v j within.now }
@@ -93,8 +105,8 @@ pub fn back(graph: &Graph, within: &Names, v: u32, j: u32, into: &mut Names)
 }
 
 // Whether each of `others` is adjacent to `v` and to all of `names`, or to none of these.
-fn are_alike(graph: &Graph, v: u32, names: &Names, others: &Names) -> bool
-    requires { v < NAMES }
+fn are_alike<const W: usize>(graph: &GraphOf<W>, v: u32, names: &Set<W>, others: &Set<W>) -> bool
+    requires { v < 64 * W }
     ensures { IsTrue result ↔ ((w : ℕ) → Has names.now w → (y : ℕ) → Has others.now y
         → adjacent graph.now v y ≡ adjacent graph.now w y) }
 {
@@ -107,9 +119,9 @@ fn are_alike(graph: &Graph, v: u32, names: &Names, others: &Names) -> bool
 }
 
 // Whether each of `others` is adjacent to both `v` and `w` or to neither.
-fn see_alike(graph: &Graph, v: u32, w: u32, others: &Names) -> bool
-    requires left { v < NAMES }
-    requires right { w < NAMES }
+fn see_alike<const W: usize>(graph: &GraphOf<W>, v: u32, w: u32, others: &Set<W>) -> bool
+    requires left { v < 64 * W }
+    requires right { w < 64 * W }
     ensures { IsTrue result ↔ ((y : ℕ) → Has others.now y
         → adjacent graph.now v y ≡ adjacent graph.now w y) }
 {
@@ -120,7 +132,13 @@ fn see_alike(graph: &Graph, v: u32, w: u32, others: &Names) -> bool
 
 // Puts into `left`, in place of its members, what the least module that holds them leaves of
 // `within`.
-fn not_grown(graph: &Graph, within: &Names, v: u32, left: &mut Names, mut todo: Names)
+fn not_grown<const W: usize>(
+    graph: &GraphOf<W>,
+    within: &Set<W>,
+    v: u32,
+    left: &mut Set<W>,
+    mut todo: Set<W>,
+)
     requires inside { Within within.now graph.now.vertices }
     requires part { Within left.old within.now }
     requires fixed { Has left.old v }
@@ -144,7 +162,7 @@ fn not_grown(graph: &Graph, within: &Names, v: u32, left: &mut Names, mut todo: 
 
 // Puts into `left` the names of `within` that a module smaller than `within` holds with `v`, and
 // `v`.
-fn not_back(graph: &Graph, within: &Names, v: u32, j: u32, left: &mut Names)
+fn not_back<const W: usize>(graph: &GraphOf<W>, within: &Set<W>, v: u32, j: u32, left: &mut Set<W>)
     requires inside { Within within.now graph.now.vertices }
     requires differ { v ≢ j }
     requires whole { IsLeastModule (adjacent graph.now) within.now v j within.now }
@@ -160,7 +178,7 @@ fn not_back(graph: &Graph, within: &Names, v: u32, j: u32, left: &mut Names)
     left.remove(j);
     // Without `v`, so that the search ends where nothing else is left.
     left.remove(v);
-    let mut todo = Names::none();
+    let mut todo = Set::none();
     todo.insert(j);
     let mut from_end = false;
     while let Some(b) = next(left, &todo, from_end) {

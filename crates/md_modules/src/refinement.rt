@@ -1,5 +1,5 @@
 //! The maximal ones among the modules inside a part of a set, by partition refinement.
-ghost use Rattle.std.specs.Prelude.{◌≡◌, ◌<◌, ◌++◌, ◌∷◌, ◌↔◌, ℕ, Bool, IfOk, IfSome, IfNone, IsTrue, [], length, slice_set, vec_len};
+ghost use Rattle.std.specs.Prelude.{◌≡◌, ◌*◌, ◌<◌, ◌++◌, ◌∷◌, ◌↔◌, ℕ, Bool, IfOk, IfSome, IfNone, IsTrue, [], length, slice_set, vec_len};
 ghost use Rattle.std.specs.FinSet.{empty, union, intersection, difference};
 ghost use Rattle.md_graph.specs.PlainGraph.{adjacent};
 ghost use Rattle.md_graph.specs.Sets.{NameSet, Has, Within, Disjoint, HasSome};
@@ -7,7 +7,7 @@ ghost use Rattle.md_modules.specs.Classes.{class_at};
 ghost use Rattle.md_modules.specs.Classes.{IsSplitter, IsSideOf, HoldsSplitters, AreMaximalInside};
 
 use crate::{Block, sees};
-use md_graph::{Graph, Memory, NAMES, Names};
+use md_graph::{GraphOf, Memory, NAMES, Set};
 use std::alloc::Global;
 use std::mem::{replace, swap};
 
@@ -16,12 +16,12 @@ const FEW: u32 = 64;
 
 /// The maximal ones among the modules of `set` that are parts of `rest`, in any order; they
 /// partition `rest`. Condition: `rest` is a nonempty part of `set`.
-pub fn maximal_modules(
+pub fn maximal_modules<const W: usize>(
     alloc: Global,
-    graph: &Graph,
-    set: &Names,
-    rest: &Names,
-) -> Result<Vec<Block>, Memory>
+    graph: &GraphOf<W>,
+    set: &Set<W>,
+    rest: &Set<W>,
+) -> Result<Vec<Block<W>>, Memory>
     requires inside { Within set.now graph.now.vertices }
     requires part { Within rest.now set.now }
     requires some { HasSome rest.now }
@@ -49,7 +49,7 @@ pub fn maximal_modules(
 
 // Puts into `left` the names of `set` outside the class at a place, if there is one. Nothing cuts a
 // name alone.
-fn begin(set: &Names, classes: &[Block], at: usize, left: &mut Names)
+fn begin<const W: usize>(set: &Set<W>, classes: &[Block<W>], at: usize, left: &mut Set<W>)
     requires { at < length classes.now → Within (class_at classes.now at) set.now }
     ensures { at < length classes.now → (e : ℕ → ℕ → Bool)
         → HoldsSplitters e set.now (class_at classes.now at) left.new }
@@ -63,16 +63,17 @@ fn begin(set: &Names, classes: &[Block], at: usize, left: &mut Names)
     }
 }
 
-// The class at a place becomes one of its two parts, in `row` and outside it, and the other one is
-// a new class, the last one; `left` takes in its names.
-fn split(
+// The class at a place, which isn't empty, becomes one of its two parts, in `row` and outside it, and
+// the other one is a new class, the last one; `left` takes in its names.
+fn split<const W: usize>(
     alloc: Global,
-    classes: &mut Vec<Block>,
+    classes: &mut Vec<Block<W>>,
     at: usize,
-    row: &Names,
-    left: &mut Names,
+    row: &Set<W>,
+    left: &mut Set<W>,
 ) -> Result<(), Memory>
-    requires { at < vec_len classes.old }
+    requires place { at < vec_len classes.old }
+    requires some { HasSome (class_at classes.old.items at) }
     ensures { IfOk result (λ _. (part : NameSet)
         × IsSideOf part (class_at classes.old.items at) row.now
         × (classes.new.items
@@ -80,27 +81,38 @@ fn split(
         ++ difference (class_at classes.old.items at) part ∷ [])
         × (left.new ≡ union left.old (difference (class_at classes.old.items at) part))) }
 {
-    let mut other = Names::none();
+    row.within_limit();
+    let mut other = Set::none();
     divide(alloc, &mut classes[at], row, &mut other)?;
     left.take_in(&other);
     classes.push(Block::of(alloc, &other)?)?;
     Ok(())
 }
 
-// Moves one of the two parts of a class, in `row` and outside it, to the empty set `other`.
-fn divide(alloc: Global, class: &mut Block, row: &Names, other: &mut Names) -> Result<(), Memory>
-    requires { other.old ≡ empty }
+// Moves one of the two parts of a nonempty class, in `row` and outside it, to the empty set `other`.
+fn divide<const W: usize>(
+    alloc: Global,
+    class: &mut Block<W>,
+    row: &Set<W>,
+    other: &mut Set<W>,
+) -> Result<(), Memory>
+    requires empty { other.old ≡ empty }
+    requires some { HasSome class.old }
     ensures { IfOk result (λ _. (part : NameSet) × IsSideOf part class.old row.now
         × (class.new ≡ intersection class.old part) × (other.new ≡ difference class.old part)) }
 {
-    let mut names = replace(class, Block::one(0)).into_box(alloc)?;
+    row.within_limit();
+    let Some(first) = class.first() else {
+        unreachable!();
+    };
+    let mut names = replace(class, Block::one(first)).into_box(alloc)?;
     move_part(&mut names, row, other);
     *class = Block::of_box(names);
     Ok(())
 }
 
 // The same of a set: of a large one the smaller part goes.
-fn move_part(class: &mut Names, row: &Names, other: &mut Names)
+fn move_part<const W: usize>(class: &mut Set<W>, row: &Set<W>, other: &mut Set<W>)
     requires { other.old ≡ empty }
     ensures { (part : NameSet) × IsSideOf part class.old row.now
         × (class.new ≡ intersection class.old part) × (other.new ≡ difference class.old part) }
@@ -113,7 +125,7 @@ fn move_part(class: &mut Names, row: &Names, other: &mut Names)
 
 // A name of `left` that is adjacent to some of `class` and not to all; none exactly where there is
 // none. Other names may go from `left`.
-fn splitter(graph: &Graph, class: &Block, left: &mut Names) -> Option<u32>
+fn splitter<const W: usize>(graph: &GraphOf<W>, class: &Block<W>, left: &mut Set<W>) -> Option<u32>
     requires some { HasSome class.now }
     requires apart { Disjoint class.now left.old }
     ensures found { IfSome result (IsSplitter (adjacent graph.now) left.new class.now) }
@@ -121,7 +133,7 @@ fn splitter(graph: &Graph, class: &Block, left: &mut Names) -> Option<u32>
         → IsSplitter (adjacent graph.now) left.old class.now p → ⊥) }
     ensures less { Within left.new left.old }
     ensures kept { (p : ℕ) → IsSplitter (adjacent graph.now) left.old class.now p → Has left.new p }
-    ensures name { IfSome result (λ p. p < NAMES) }
+    ensures name { IfSome result (λ p. p < 64 * W) }
 {
     let Some(names) = class.several() else {
         return None;
@@ -133,13 +145,17 @@ fn splitter(graph: &Graph, class: &Block, left: &mut Names) -> Option<u32>
 }
 
 // The same by a look at each member of the class.
-pub(crate) fn splitter_of_few(graph: &Graph, class: &Names, left: &Names) -> Option<u32>
+pub(crate) fn splitter_of_few<const W: usize>(
+    graph: &GraphOf<W>,
+    class: &Set<W>,
+    left: &Set<W>,
+) -> Option<u32>
     requires some { HasSome class.now }
     requires apart { Disjoint class.now left.now }
     ensures found { IfSome result (IsSplitter (adjacent graph.now) left.now class.now) }
     ensures none { IfNone result ((p : ℕ)
         → IsSplitter (adjacent graph.now) left.now class.now p → ⊥) }
-    ensures name { IfSome result (λ p. p < NAMES) }
+    ensures name { IfSome result (λ p. p < 64 * W) }
 {
     let _vertices = graph.vertices();
     let Some(first) = class.first_from(0) else {
@@ -154,14 +170,18 @@ pub(crate) fn splitter_of_few(graph: &Graph, class: &Names, left: &Names) -> Opt
 }
 
 // The same by a look at each name left, which goes where it doesn't cut the class.
-fn splitter_of_many(graph: &Graph, class: &Names, left: &mut Names) -> Option<u32>
+fn splitter_of_many<const W: usize>(
+    graph: &GraphOf<W>,
+    class: &Set<W>,
+    left: &mut Set<W>,
+) -> Option<u32>
     requires apart { Disjoint class.now left.old }
     ensures found { IfSome result (IsSplitter (adjacent graph.now) left.new class.now) }
     ensures none { IfNone result ((p : ℕ)
         → IsSplitter (adjacent graph.now) left.old class.now p → ⊥) }
     ensures less { Within left.new left.old }
     ensures kept { (p : ℕ) → IsSplitter (adjacent graph.now) left.old class.now p → Has left.new p }
-    ensures name { IfSome result (λ p. p < NAMES) }
+    ensures name { IfSome result (λ p. p < 64 * W) }
 {
     while let Some(p) = left.first_from(0) {
         if is_splitter(graph, p, class, left) {
@@ -174,8 +194,8 @@ fn splitter_of_many(graph: &Graph, class: &Names, left: &mut Names) -> Option<u3
 
 // Whether `p`, a member of `left`, is adjacent to some of a class and not to all. Condition: the
 // class and `left` don't meet.
-fn is_splitter(graph: &Graph, p: u32, class: &Names, left: &Names) -> bool
-    requires name { p < NAMES }
+fn is_splitter<const W: usize>(graph: &GraphOf<W>, p: u32, class: &Set<W>, left: &Set<W>) -> bool
+    requires name { p < 64 * W }
     requires member { Has left.now p }
     requires apart { Disjoint class.now left.now }
     ensures { IsTrue result ↔ IsSplitter (adjacent graph.now) left.now class.now p }

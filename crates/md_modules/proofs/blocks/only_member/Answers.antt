@@ -4,7 +4,7 @@ use Rattle.md_graph.proofs.SetLemmas.{same_members, only_has, of_only}
 use Rattle.md_modules.proofs.blocks.only_member.Goals as goal
 
 pub returns-in-None-clause-one : goal.returns-in-None-clause-one
-returns-in-None-clause-one c =
+returns-in-None-clause-one g c =
     same_members c.args.set.now (only_name c.in_ok-first.first)
     (λ x h.
     let a : c.in_ok-first.first ≤ x = c.in_ok-first.ensures.found.first x h (omega arith) in

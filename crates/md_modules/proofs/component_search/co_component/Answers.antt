@@ -5,6 +5,6 @@ use Rattle.md_modules.proofs.Turns.{component_along}
 use Rattle.md_modules.proofs.component_search.co_component.Goals as goal
 
 pub returns : goal.returns
-returns c =
+returns g c =
     component_along c.args.within.now (difference c.args.within.now c.unreached.new.left) c.flip.new.self true c.args.x
     (flipped_along c.args.within.now c.unreached.new.left c.flip.new.self c.unreached.ensures.part c.flip.ensures) c.unreached.ensures.taken

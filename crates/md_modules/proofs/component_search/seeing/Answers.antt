@@ -3,22 +3,22 @@ use Rattle.md_graph.specs.Sets.{Has}
 use Rattle.md_graph.proofs.SetLemmas.{clash, insert_new, insert_old, of_insert, Has-along, empty_if}
 use Rattle.md_modules.proofs.Turns.{Sees}
 use Rattle.md_modules.proofs.component_search.seeing.Goals as goal
-use Rattle.md_graph.proofs.Walks.{Walked-start, Walked-item, Walked-name, Walked-more, Walked-end, Walked-map}
+use Rattle.md_graph.proofs.Walks.{Walked-start, Walked-item, Walked-more, Walked-end, Walked-map}
 
 pub loop-y-init : goal.loop-y-init
-loop-y-init c = record {
+loop-y-init g c = record {
   all = Walked-start (c.into_iter-y-iterator.ensures.into_iter_gives ∙ c.members-y-items.ensures.list) c.members-y-items.ensures.names;
   alone = λ y h. clash h (empty_if c.none-new.result c.none-new.ensures y);
 }
 
-pub sees-requires-clause-name : goal.sees-requires-clause-name
-sees-requires-clause-name c = Walked-name c.loop-y.invariant.all c.in-Some.y _ c.in-Some.ensures.steps
+pub sees-requires : goal.sees-requires
+sees-requires g c = (search rules, (search rules, (c.members-y-items.ensures.below _ (Walked-item c.loop-y.invariant.all c.in-Some.y _ c.in-Some.ensures.steps), search rules)))
 
 pub insert-requires : goal.insert-requires
-insert-requires c = (search rules, Walked-name c.loop-y.invariant.all c.in-Some.y _ c.in-Some.ensures.steps)
+insert-requires g c = (search rules, c.members-y-items.ensures.below _ (Walked-item c.loop-y.invariant.all c.in-Some.y _ c.in-Some.ensures.steps))
 
 pub loop-y-preserved-then-sees : goal.loop-y-preserved-then-sees
-loop-y-preserved-then-sees c = record {
+loop-y-preserved-then-sees g c = record {
   all = Walked-more
       (Walked-map {Wider = λ w. Sees c.args.graph.now w c.args.value c.args.taken.now → Has c.insert.new.self w} c.loop-y.invariant.all
       (λ w done seen. Has-along _ _ (sym c.insert.ensures) w (insert_old c.loop-y.new c.in-Some.y w (done seen))))
@@ -31,10 +31,10 @@ loop-y-preserved-then-sees c = record {
 }
 
 pub loop-y-preserved : goal.loop-y-preserved
-loop-y-preserved c = record {
+loop-y-preserved g c = record {
   all = Walked-more c.loop-y.invariant.all c.in-Some.y _ c.in-Some.ensures.steps (λ seen. clash (c.sees.ensures.1 seen) c.if-sees.false);
   alone = c.loop-y.invariant.alone;
 }
 
 pub returns : goal.returns
-returns c y = (c.loop-y.invariant.alone y, λ two. Walked-end c.loop-y.invariant.all _ c.in-None.ensures.steps y two.0 two.1)
+returns g c y = (c.loop-y.invariant.alone y, λ two. Walked-end c.loop-y.invariant.all _ c.in-None.ensures.steps y two.0 two.1)

@@ -2,11 +2,11 @@ use Rattle.md_modules.proofs.Turns.{sees_seen, sees_unseen}
 use Rattle.md_modules.proofs.component_search.sees.Goals as goal
 
 pub returns-then-value : goal.returns-then-value
-returns-then-value c =
+returns-then-value g c =
     sees_seen c.row-row.ensures.graph c.args.w c.args.value c.args.among.now c.args.apart.now c.row-row.result.now c.first_told_apart.result c.is_some.result c.if-value.true c.row-row.ensures.set
     c.requires.apart c.first_told_apart.ensures.found c.first_told_apart.ensures.none c.is_some.ensures
 
 pub returns : goal.returns
-returns c =
+returns g c =
     sees_unseen c.row-row.ensures.graph c.args.w c.args.value c.args.among.now c.row-row.result.now c.first_told_apart-2.result c.is_some-2.result c.if-value.false c.row-row.ensures.set
     c.first_told_apart-2.ensures.found c.first_told_apart-2.ensures.none c.is_some-2.ensures

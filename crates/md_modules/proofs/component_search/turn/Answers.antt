@@ -1,38 +1,38 @@
-use Rattle.std.proofs.Common.{not}
+use Rattle.std.proofs.Common.{not, rules}
 use Rattle.md_graph.proofs.Search.{turn_falls, idle_falls, back_shorter}
 use Rattle.md_graph.proofs.SetLemmas.{rest_apart_from, union_along}
 use Rattle.md_modules.specs.Seen.{seen_as}
 use Rattle.md_modules.proofs.Turns.{reach_more, reach_passed, seen_all, not_seen}
 use Rattle.md_modules.proofs.component_search.turn.Goals as goal
 
-pub sees-requires-clause-apart : goal.sees-requires-clause-apart
-sees-requires-clause-apart c = rest_apart_from c.args.left.now c.args.todo.now c.remove.new.self c.args.w c.remove.ensures c.requires.apart
+pub sees-requires : goal.sees-requires
+sees-requires g c = (search rules, (search rules, (c.requires.name, rest_apart_from c.args.left.now c.args.todo.now c.remove.new.self c.args.w c.remove.ensures c.requires.apart)))
 
 pub returns-then-sees-clause-kept : goal.returns-then-sees-clause-kept
-returns-then-sees-clause-kept c x is =
+returns-then-sees-clause-kept g c x is =
     let seen = seen_all c.vertices-vertices.ensures.graph c.args.w (not c.args.value) c.args.left.now in
     reach_more c.args.within.now c.args.left.now c.args.todo.now (seen_as c.args.graph.now c.args.w (not c.args.value) c.args.left.now) c.move_seen.new.left c.move_seen.new.todo c.args.value x c.args.w
     is c.requires.member seen.0 seen.1 c.move_seen.ensures.left (union_along _ _ _ _ c.remove.ensures c.move_seen.ensures.todo)
 
 pub returns-then-sees-clause-fewer : goal.returns-then-sees-clause-fewer
-returns-then-sees-clause-fewer c =
+returns-then-sees-clause-fewer g c =
     turn_falls c.args.left.now c.args.todo.now (seen_as c.args.graph.now c.args.w (not c.args.value) c.args.left.now) c.move_seen.new.left c.move_seen.new.todo c.args.w c.requires.member
     (λ y h. ((seen_all c.vertices-vertices.ensures.graph c.args.w (not c.args.value) c.args.left.now).1 y h).0) c.move_seen.ensures.left (union_along _ _ _ _ c.remove.ensures c.move_seen.ensures.todo)
 
 pub returns-then-count-clause-kept : goal.returns-then-count-clause-kept
-returns-then-count-clause-kept c x is =
+returns-then-count-clause-kept g c x is =
     c.look_back.ensures.kept x
     (reach_passed c.args.within.now c.args.left.now c.args.todo.now c.remove.new.self c.args.value x c.args.w is c.remove.ensures
     (not_seen c.args.graph.now c.args.left.now c.args.w (not c.args.value) c.sees.result c.if-sees.false c.sees.ensures))
 
 pub returns-then-count-clause-fewer : goal.returns-then-count-clause-fewer
-returns-then-count-clause-fewer c =
+returns-then-count-clause-fewer g c =
     back_shorter c.args.left.now c.args.todo.now c.look_back.new.left c.look_back.new.todo c.args.w c.requires.member c.look_back.ensures.fewer
 
 pub returns-else-count-clause-kept : goal.returns-else-count-clause-kept
-returns-else-count-clause-kept c x is =
+returns-else-count-clause-kept g c x is =
     reach_passed c.args.within.now c.args.left.now c.args.todo.now c.remove.new.self c.args.value x c.args.w is c.remove.ensures
     (not_seen c.args.graph.now c.args.left.now c.args.w (not c.args.value) c.sees.result c.if-sees.false c.sees.ensures)
 
 pub returns-else-count-clause-fewer : goal.returns-else-count-clause-fewer
-returns-else-count-clause-fewer c = idle_falls c.args.left.now c.args.todo.now c.remove.new.self c.args.w c.requires.member c.remove.ensures
+returns-else-count-clause-fewer g c = idle_falls c.args.left.now c.args.todo.now c.remove.new.self c.args.w c.requires.member c.remove.ensures

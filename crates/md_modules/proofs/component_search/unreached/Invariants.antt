@@ -5,7 +5,7 @@ use Rattle.md_modules.specs.Searches.{IsReaching}
 use Rattle.md_modules.proofs.component_search.unreached.Given as goal
 
 abbrev pub invariant-loop-w : goal.invariant-loop-w
-invariant-loop-w l = IsReaching (adjacent l.graph) l.within l.value l.x l.left l.todo
+invariant-loop-w g l = IsReaching (adjacent l.graph) l.within l.value l.x l.left l.todo
 
 abbrev pub decreases-loop-w : goal.decreases-loop-w
-decreases-loop-w l = len l.left + len l.todo
+decreases-loop-w g l = len l.left + len l.todo

@@ -1,4 +1,4 @@
-use Rattle.std.proofs.Common.{◌∙◌}
+use Rattle.std.proofs.Common.{◌∙◌, rules}
 use Rattle.md_modules.proofs.PathSearch.{Meeting-start, Meeting-more, Meeting-end}
 use Rattle.md_graph.proofs.Walks.{Walked-start, Walked-name}
 use Rattle.md_modules.proofs.induced_paths.met_by.Goals as goal
@@ -9,7 +9,7 @@ loop-o-init c =
     (Walked-start (c.into_iter-o-iterator.ensures.into_iter_gives ∙ c.members-o-items.ensures.list) c.members-o-items.ensures.names)
 
 pub move_seen-requires : goal.move_seen-requires
-move_seen-requires c = Walked-name c.loop-o.invariant.walked c.in-Some.o _ c.in-Some.ensures.steps
+move_seen-requires c = (search rules, (search rules, Walked-name c.loop-o.invariant.walked c.in-Some.o _ c.in-Some.ensures.steps))
 
 pub loop-o-preserved : goal.loop-o-preserved
 loop-o-preserved c =

@@ -5,4 +5,4 @@ use Rattle.md_modules.proofs.module_search.are_alike.Given as goal
 use Rattle.md_graph.proofs.Walks.{Walked}
 
 abbrev pub invariant-loop-w : goal.invariant-loop-w
-invariant-loop-w l = Walked l.names l.w-iterator (λ w. (y : ℕ) → Has l.others y → adjacent l.graph l.v y ≡ adjacent l.graph w y)
+invariant-loop-w g l = Walked l.names l.w-iterator (λ w. (y : ℕ) → Has l.others y → adjacent l.graph l.v y ≡ adjacent l.graph w y)

@@ -1,4 +1,4 @@
-use Rattle.std.proofs.Common.{◌∙◌, ap}
+use Rattle.std.proofs.Common.{◌∙◌, ap, rules}
 use Rattle.md_graph.proofs.SetLemmas.{pair_within, pair_first, pair_among}
 use Rattle.std.specs.FinSet.{insert}
 use Rattle.md_graph.specs.PlainGraph.{adjacent}
@@ -6,32 +6,37 @@ use Rattle.md_modules.proofs.Turns.{least_alone, least_pair, pair_seen}
 use Rattle.md_modules.proofs.module_search.closure_in.Goals as goal
 
 pub returns-then-u-v : goal.returns-then-u-v
-returns-then-u-v c =
+returns-then-u-v g c =
     least_alone c.args.within.now c.insert.new.self c.args.u c.args.v c.if-u-v.true c.requires.first (c.insert.ensures ∙ ap (λ s. insert s c.args.u) c.clear.ensures)
 
-pub grow-requires-clause-part : goal.grow-requires-clause-part
-grow-requires-clause-part c =
-    pair_within c.args.within.now c.insert-2.new.self c.args.u c.args.v
-    (c.insert-2.ensures ∙ ap (λ s. insert s c.args.v) (c.insert.ensures ∙ ap (λ s. insert s c.args.u) c.clear.ensures)) c.requires.first c.requires.second
-
-pub grow-requires-clause-fixed : goal.grow-requires-clause-fixed
-grow-requires-clause-fixed c =
-    pair_first c.insert-2.new.self c.args.u c.args.v
-    (c.insert-2.ensures ∙ ap (λ s. insert s c.args.v) (c.insert.ensures ∙ ap (λ s. insert s c.args.u) c.clear.ensures))
-
-pub grow-requires-clause-among : goal.grow-requires-clause-among
-grow-requires-clause-among c =
-    pair_among c.insert-2.new.self c.insert-3.new.self c.args.u c.args.v
-    (c.insert-2.ensures ∙ ap (λ s. insert s c.args.v) (c.insert.ensures ∙ ap (λ s. insert s c.args.u) c.clear.ensures))
-    (c.insert-3.ensures ∙ ap (λ s. insert s c.args.v) c.none-todo.ensures)
-
-pub grow-requires-clause-seen : goal.grow-requires-clause-seen
-grow-requires-clause-seen c =
-    λ w h l y hy out. pair_seen (adjacent c.args.graph.now) c.insert-2.new.self c.insert-3.new.self c.args.u c.args.v
-    (c.insert-2.ensures ∙ ap (λ s. insert s c.args.v) (c.insert.ensures ∙ ap (λ s. insert s c.args.u) c.clear.ensures))
-    (c.insert-3.ensures ∙ ap (λ s. insert s c.args.v) c.none-todo.ensures) w h l y
+pub grow-requires : goal.grow-requires
+grow-requires g c = (
+  search rules,
+  (
+    search rules,
+    (
+      c.requires.inside,
+      (
+        pair_within c.args.within.now c.insert-2.new.self c.args.u c.args.v
+            (c.insert-2.ensures ∙ ap (λ s. insert s c.args.v) (c.insert.ensures ∙ ap (λ s. insert s c.args.u) c.clear.ensures)) c.requires.first c.requires.second,
+        (
+          pair_first c.insert-2.new.self c.args.u c.args.v
+              (c.insert-2.ensures ∙ ap (λ s. insert s c.args.v) (c.insert.ensures ∙ ap (λ s. insert s c.args.u) c.clear.ensures)),
+          (
+            pair_among c.insert-2.new.self c.insert-3.new.self c.args.u c.args.v
+                (c.insert-2.ensures ∙ ap (λ s. insert s c.args.v) (c.insert.ensures ∙ ap (λ s. insert s c.args.u) c.clear.ensures))
+                (c.insert-3.ensures ∙ ap (λ s. insert s c.args.v) c.none-todo.ensures),
+            λ w h l y hy out. pair_seen (adjacent c.args.graph.now) c.insert-2.new.self c.insert-3.new.self c.args.u c.args.v
+                (c.insert-2.ensures ∙ ap (λ s. insert s c.args.v) (c.insert.ensures ∙ ap (λ s. insert s c.args.u) c.clear.ensures))
+                (c.insert-3.ensures ∙ ap (λ s. insert s c.args.v) c.none-todo.ensures) w h l y,
+          ),
+        ),
+      ),
+    ),
+  ),
+)
 
 pub returns : goal.returns
-returns c =
+returns g c =
     least_pair c.args.within.now c.insert-2.new.self c.grow.new.into c.args.u c.args.v
     (c.insert-2.ensures ∙ ap (λ s. insert s c.args.v) (c.insert.ensures ∙ ap (λ s. insert s c.args.u) c.clear.ensures)) c.grow.ensures

@@ -5,7 +5,7 @@ use Rattle.md_modules.proofs.Growth.{IsBackFrom}
 use Rattle.md_modules.proofs.module_search.not_back.Given as goal
 
 abbrev pub invariant-loop-b : goal.invariant-loop-b
-invariant-loop-b l = IsBackFrom (adjacent l.graph) l.within l.v l.j l.left l.todo
+invariant-loop-b g l = IsBackFrom (adjacent l.graph) l.within l.v l.j l.left l.todo
 
 abbrev pub decreases-loop-b : goal.decreases-loop-b
-decreases-loop-b l = len l.left + len l.todo
+decreases-loop-b g l = len l.left + len l.todo

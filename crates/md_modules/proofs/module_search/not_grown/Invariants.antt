@@ -5,7 +5,7 @@ use Rattle.md_modules.proofs.Growth.{IsGrowing}
 use Rattle.md_modules.proofs.module_search.not_grown.Given as goal
 
 abbrev pub invariant-loop-w : goal.invariant-loop-w
-invariant-loop-w l = IsGrowing (adjacent l.graph) l.within l.v l.fn.left l.left l.todo
+invariant-loop-w g l = IsGrowing (adjacent l.graph) l.within l.v l.fn.left l.left l.todo
 
 abbrev pub decreases-loop-w : goal.decreases-loop-w
-decreases-loop-w l = len l.left + len l.todo
+decreases-loop-w g l = len l.left + len l.todo

@@ -8,7 +8,7 @@ use Rattle.md_modules.proofs.ClassLemmas.{left_begins, alone_begins}
 use Rattle.md_modules.proofs.refinement.begin.Goals as goal
 
 pub returns-in-Some : goal.returns-in-Some
-returns-in-Some c known e =
+returns-in-Some g c known e =
     let class = get_or_read c.args.classes.now c.args.at c.index-classes-at.result known c.index-classes-at.is empty in
     let names : c.in-Some.names.now ≡ class_at c.args.classes.now c.args.at = c.in-Some.ensures.kept ∙ class in
     let all : c.take_in.new.self ≡ c.args.set.now = taken_whole _ _ _ c.clear.ensures c.take_in.ensures in
@@ -19,6 +19,6 @@ returns-in-Some c known e =
     (flipped_off c.take_in.new.self c.in-Some.names.now c.flip.new.self inside c.flip.ensures ∙ ap (λ (s : NameSet). difference s c.in-Some.names.now) all ∙ ap (difference c.args.set.now) names)
 
 pub returns-in_default : goal.returns-in_default
-returns-in_default c known e =
+returns-in_default g c known e =
     let class = get_or_read c.args.classes.now c.args.at c.index-classes-at.result known c.index-classes-at.is empty in
     alone_begins e c.args.set.now (class_at c.args.classes.now c.args.at) c.in_default.ensures.one.0 (sym class ∙ c.in_default.ensures.one.1) c.clear.new.self c.clear.ensures

@@ -5,7 +5,7 @@ use Rattle.md_modules.specs.Classes.{IsSideOf}
 use Rattle.md_modules.proofs.refinement.divide.Goals as goal
 
 pub returns : goal.returns
-returns c =
+returns g c =
     let same : c.deref_mut.result.now ≡ c.args.class.now = c.deref_mut.ensures.value ∙ c.in_ok-names.ensures ∙ c.replace.ensures.value in
     let part : NameSet = c.move_part.ensures.0 in (
       part,

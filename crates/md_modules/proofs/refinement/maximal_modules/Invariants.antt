@@ -7,10 +7,10 @@ use Rattle.md_modules.proofs.ClassLemmas.{IsCutting}
 use Rattle.md_modules.proofs.refinement.maximal_modules.Given as goal
 
 abbrev pub invariant-loop-at : goal.invariant-loop-at
-invariant-loop-at l = record {
+invariant-loop-at g l = record {
   cutting : IsCutting (adjacent l.graph) l.set l.rest l.classes.items l.at;
   left : l.at < length l.classes.items → HoldsSplitters (adjacent l.graph) l.set (class_at l.classes.items l.at) l.left;
 }
 
 abbrev pub decreases-loop-at : goal.decreases-loop-at
-decreases-loop-at l = work l.classes.items l.at
+decreases-loop-at g l = work l.classes.items l.at

@@ -4,7 +4,7 @@ use Rattle.std.specs.FinSet.{difference}
 use Rattle.md_modules.proofs.refinement.move_part.Goals as goal
 
 pub returns-then-count : goal.returns-then-count
-returns-then-count c = (
+returns-then-count g c = (
   difference c.args.class.now c.args.row.now,
   inr refl,
   c.swap.ensures.x_after ∙ taken_whole _ _ _ c.requires c.move_unshared.ensures.moved ∙ rest_in c.args.class.now c.args.row.now,
@@ -12,7 +12,7 @@ returns-then-count c = (
 )
 
 pub returns-else-count-gt-FEW : goal.returns-else-count-gt-FEW
-returns-else-count-gt-FEW c = (
+returns-else-count-gt-FEW g c = (
   c.args.row.now,
   inl refl,
   c.move_unshared.ensures.rest,

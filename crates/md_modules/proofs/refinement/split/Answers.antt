@@ -7,7 +7,7 @@ use Rattle.md_modules.specs.Classes.{IsSideOf}
 use Rattle.md_modules.proofs.refinement.split.Goals as goal
 
 pub returns : goal.returns
-returns c =
+returns g c =
     let cs = c.args.classes.now.items in
     let known : c.args.at < length cs = omega (arith, c.args.classes.now.ok.0) in
     let class : c.index_mut.result.now ≡ class_at cs c.args.at = get_or_read cs c.args.at _ known c.index_mut.ensures.value empty in

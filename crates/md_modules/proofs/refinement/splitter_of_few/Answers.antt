@@ -1,29 +1,29 @@
 use Rattle.std.proofs.Common.{◌∙◌, refl, rules}
 use Rattle.md_modules.proofs.ClassLemmas.{splitter_found, splitter_none, no_splitter}
 use Rattle.md_modules.proofs.refinement.splitter_of_few.Goals as goal
-use Rattle.md_graph.proofs.Walks.{Walked-item, Walked-name, Walked-more, Walked-end, Walked-behind}
+use Rattle.md_graph.proofs.Walks.{Walked-item, Walked-more, Walked-end, Walked-behind}
 
 pub loop-x-init : goal.loop-x-init
-loop-x-init c =
+loop-x-init g c =
     Walked-behind c.in-Some.first c.in-Some.ensures.found c.members_from-x-items.ensures.names
     (c.into_iter-x-iterator.ensures.into_iter_gives ∙ c.members_from-x-items.ensures.list) (λ y h. refl)
 
 pub row-requires-in-loop-x : goal.row-requires-in-loop-x
-row-requires-in-loop-x c = (search rules, (search rules, Walked-name c.loop-x.invariant c.in-Some-x.x _ c.in-Some-x.ensures.steps))
+row-requires-in-loop-x g c = (search rules, (search rules, c.members_from-x-items.ensures.below _ (Walked-item c.loop-x.invariant c.in-Some-x.x _ c.in-Some-x.ensures.steps)))
 
 pub returns-in-Some-first_told_apart-clause-found : goal.returns-in-Some-first_told_apart-clause-found
-returns-in-Some-first_told_apart-clause-found c =
+returns-in-Some-first_told_apart-clause-found g c =
     splitter_found c.row.ensures.graph c.args.class.now c.row.result.now c.row-in-loop-x.result.now c.args.left.now
     c.in-Some.first c.in-Some-x.x c.in-Some-first_told_apart.p c.in-Some.ensures.found.member
     (Walked-item c.loop-x.invariant c.in-Some-x.x _ c.in-Some-x.ensures.steps)
     c.requires.apart c.row.ensures.set c.row-in-loop-x.ensures.set c.in-Some-first_told_apart.ensures.found
 
 pub loop-x-preserved : goal.loop-x-preserved
-loop-x-preserved c =
+loop-x-preserved g c =
     Walked-more c.loop-x.invariant c.in-Some-x.x _ c.in-Some-x.ensures.steps
     (splitter_none c.row.ensures.graph c.row.result.now c.row-in-loop-x.result.now c.args.left.now c.in-Some.first c.in-Some-x.x
     c.row.ensures.set c.row-in-loop-x.ensures.set c.in_default-first_told_apart.ensures.none)
 
 pub returns-clause-none : goal.returns-clause-none
-returns-clause-none c =
+returns-clause-none g c =
     no_splitter c.vertices-vertices.ensures.graph c.args.class.now c.args.left.now c.in-Some.first (Walked-end c.loop-x.invariant _ c.in-None.ensures.steps)

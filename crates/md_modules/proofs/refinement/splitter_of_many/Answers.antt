@@ -7,13 +7,13 @@ use Rattle.md_modules.specs.Classes.{IsSplitter}
 use Rattle.md_modules.proofs.refinement.splitter_of_many.Goals as goal
 
 pub loop-p-smaller : goal.loop-p-smaller
-loop-p-smaller c =
+loop-p-smaller g c =
     let fewer : len (remove c.loop-p.left c.in-Some.p) + 1 ≡ len c.loop-p.left = len_fewer c.loop-p.left c.in-Some.p c.in-Some.ensures.found.member in
     let same = ap len c.remove.ensures in
     omega arith
 
 pub loop-p-preserved : goal.loop-p-preserved
-loop-p-preserved c = record {
+loop-p-preserved g c = record {
   less = λ x h. c.loop-p.invariant.less x (of_remove c.loop-p.left c.in-Some.p x (Has-along _ _ c.remove.ensures x h)).1;
   kept = λ q tells.
       let other : q ≢ c.in-Some.p = λ same.

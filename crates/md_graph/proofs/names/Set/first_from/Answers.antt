@@ -15,4 +15,4 @@ pub returns-clause-name : goal.returns-clause-name
 returns-clause-name g c = (least_of_next c.args.self.now c.args.v NAMES _ _ c.next.result c.members_from.ensures.names c.members_from.ensures.list c.next.ensures.steps).2
 
 pub returns-clause-below : goal.returns-clause-below
-returns-clause-below g c = (least_of_next c.args.self.now c.args.v (64 * g.row.W) _ _ c.next.result c.members_from.ensures.below (c.members_from.ensures.list ∙ sym (ascending_limit _ c.args.v _ c.members_from.ensures.below (words_few _ c.members_from.ensures.limit))) c.next.ensures.steps).2
+returns-clause-below g c = (least_of_next c.args.self.now c.args.v (64 * g.row.W) _ _ c.next.result c.members_from.ensures.below (c.members_from.ensures.list ∙ sym (ascending_limit _ c.args.v _ c.members_from.ensures.below (words_few _ c.within_limit.ensures))) c.next.ensures.steps).2

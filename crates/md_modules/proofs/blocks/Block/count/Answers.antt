@@ -8,9 +8,9 @@ use Rattle.md_modules.specs.Blocks.{held_names}
 use Rattle.md_modules.proofs.blocks.Block.count.Goals as goal
 
 pub returns-in-One : goal.returns-in-One
-returns-in-One c =
+returns-in-One g c =
     let v = c.in-One.field-0 in
     let none : len (empty {R = nat_cmp}) ≡ 0 = len-empty nat_cmp in
     let one : len (only_name v) ≡ len (empty {R = nat_cmp}) + 1 = len_more empty v (empty_lacks v) in
-    let same : len (only_name v) ≡ len c.args.self.now = ap len (sym (ap held_names c.in-One.is) ∙ c.self.view_is) in
+    let same : len (only_name v) ≡ len c.args.self.now = ap len (sym (ap (held_names g.row.W) c.in-One.is) ∙ c.self.view_is) in
     omega arith
