@@ -1,0 +1,10 @@
+mod Limits
+mod Lists
+mod Refining
+mod Showing
+mod Rests
+mod Starting
+mod Counts
+mod Touching
+mod Inserting
+mod Settling

@@ -1,0 +1,10 @@
+//! Ordered partitions of sets of names under partition refinement: classes in order, each of which
+//! can be cut in two by touched names. All memory is taken when a partition is made.
+#![tactic(auto)]
+
+mod partition;
+mod places;
+#[cfg(test)]
+mod tests;
+
+pub use partition::Partition;

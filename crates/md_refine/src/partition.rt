@@ -1,0 +1,225 @@
+//! Ordered partitions.
+ghost use Rattle.std.specs.Prelude.{◌≡◌, ℕ, ◌+◌, ◌*◌, ◌<◌, ◌≤◌, true, false, is_some, [], ◌∷◌, ◌++◌, length, IfOk, slice_index_or, ◌↔◌};
+ghost use Rattle.std.specs.List.{filter};
+ghost use Rattle.std.specs.FinSet as set;
+ghost use Rattle.md_refine.specs.Partitions.{is_in, is_name, class_position, ArePartition, cut, met, one_class, touching, settled};
+
+use crate::places::{filled, home_if, homes_of, insert_if, names_at, place_at, position};
+use md_graph::{Memory, NAMES, Names, Steps};
+use std::alloc::Global;
+use std::marker::Model;
+use std::sync::ledger::Ledger;
+
+/// An ordered partition of a set of names: nonempty classes in order. Names can be touched, in
+/// ascending order; a class with touched names is cut in two when it is settled.
+///
+/// All memory is taken when the partition is made. `touch` and `settle` are one step each on the
+/// counter that they are lent: each reads or changes a bounded number of items of vectors, and
+/// `settle` finds the least touched name in a set, from the one before on.
+#[derive(Drop)]
+pub struct Partition {
+    // The mark of each name.
+    homes: Vec<Option<u32>>,
+    // The place of each mark, and the number of its names.
+    owners: Vec<u32>,
+    counts: Vec<u32>,
+    // The marks of the untouched and of the touched names at each place, and the place behind it.
+    mains: Vec<u32>,
+    halves: Vec<u32>,
+    nexts: Vec<Option<u32>>,
+    // The first place, and the number of places: one a class.
+    first: Option<u32>,
+    used: u32,
+    // The least touched name of each class that has one, none of them below `low`.
+    leads: Names,
+    low: u32,
+}
+
+impl Model for Partition {
+    ghost use Rattle.md_refine.specs.Partitions.{Classes};
+
+    ghost Value = { Classes };
+
+    ghost use Rattle.md_refine.specs.Kept.{partition_kept, KeepsPartition};
+
+    ghost view = { partition_kept };
+
+    ghost invariant = { KeepsPartition };
+}
+
+impl Partition {
+    /// One class with these names, or no class where there is none; nothing is touched.
+    /// Errors: want of memory.
+    pub fn new(alloc: Global, names: &Names) -> Result<Partition, Memory>
+        ensures whole { IfOk result (λ p. p ≡ one_class names.now) }
+        ensures partition { IfOk result ArePartition }
+    {
+        let _members = names.members();
+        let count = names.count();
+        let mut counts = filled(alloc, 2 * NAMES, 0)?;
+        counts[0] = count;
+        Ok(Partition {
+            homes: homes_of(alloc, NAMES, names)?,
+            owners: filled(alloc, 2 * NAMES, 0)?,
+            counts,
+            mains: filled(alloc, NAMES, 0)?,
+            halves: filled(alloc, NAMES, 1)?,
+            nexts: filled(alloc, NAMES, None)?,
+            first: home_if(count > 0),
+            used: count.min(1),
+            leads: Names::none(),
+            low: 0,
+        })
+    }
+
+    /// A name becomes touched. Condition: it is a name of a class, and greater than all touched
+    /// names.
+    pub fn touch<L: Ledger>(&mut self, v: u32, steps: &mut Steps<L>)
+        requires name { is_name self.old.classes v ≡ true }
+        requires above { (w : ℕ) → is_in self.old.touched w ≡ true → w < v }
+        ensures touched { self.new ≡ touching self.old v }
+        ensures partition { ArePartition self.new }
+        ensures step { steps.new ≡ steps.old + 1 }
+    {
+        steps.tick();
+        match self.homes[v as usize] {
+            Some(home) => {
+                let place = self.owners[home as usize];
+                let half = self.halves[place as usize];
+                let count = self.counts[half as usize];
+                insert_if(&mut self.leads, v, count == 0);
+                self.low = self.low.min(v);
+                self.counts[home as usize] -= 1;
+                self.counts[half as usize] += 1;
+                self.homes[v as usize] = Some(half);
+            }
+            None => unreachable!(),
+        }
+    }
+
+    /// The class of the least touched name is replaced by its touched names and then its other
+    /// names, without an empty part, and its names are untouched. False exactly where nothing is
+    /// touched; then all is as before.
+    pub fn settle<L: Ledger>(&mut self, steps: &mut Steps<L>) -> bool
+        ensures settled { self.new ≡ settled self.old }
+        ensures none { result ≡ false ↔ (self.old.touched ≡ []) }
+        ensures partition { ArePartition self.new }
+        ensures step { steps.new ≡ steps.old + 1 }
+    {
+        steps.tick();
+        let Some(least) = self.leads.first_from(self.low) else {
+            return false;
+        };
+        self.leads.remove(least);
+        self.low = least;
+        let Some(half) = self.homes[least as usize] else {
+            unreachable!()
+        };
+        let place = self.owners[half as usize];
+        let main = self.mains[place as usize];
+        self.mains[place as usize] = half;
+        if self.counts[main as usize] == 0 {
+            self.halves[place as usize] = main;
+            return true;
+        }
+        let new = self.used;
+        self.owners[main as usize] = new;
+        self.owners[2 * new as usize] = place;
+        self.owners[2 * new as usize + 1] = new;
+        self.halves[place as usize] = 2 * new;
+        self.mains[new as usize] = main;
+        self.halves[new as usize] = 2 * new + 1;
+        self.nexts[new as usize] = self.nexts[place as usize];
+        self.nexts[place as usize] = Some(new);
+        self.used = new + 1;
+        true
+    }
+
+    /// Each class is replaced by its names in the set and then its other names, without an empty
+    /// part. Names of the set that are in no class are passed over. Condition: nothing is touched.
+    pub fn refine<L: Ledger>(&mut self, set: &Names, steps: &mut Steps<L>)
+        requires untouched { self.old.touched ≡ [] }
+        ensures cut { self.new.classes ≡ cut set.now self.old.classes }
+        ensures untouched { self.new.touched ≡ [] }
+        ensures partition { ArePartition self.new }
+        ensures steps { steps.new ≤ steps.old + 8 * (length (met set.now self.old.classes) + 1) }
+    {
+        self.touch_all(set, steps);
+        while self.settle(steps) {}
+    }
+
+    // Touches the members of the set that are names. Condition: nothing is touched.
+    fn touch_all<L: Ledger>(&mut self, set: &Names, steps: &mut Steps<L>)
+        requires untouched { self.old.touched ≡ [] }
+        ensures classes { self.new.classes ≡ self.old.classes }
+        ensures touched { self.new.touched ≡ met set.now self.old.classes }
+        ensures partition { ArePartition self.new }
+        ensures steps { steps.new ≡ steps.old + length (met set.now self.old.classes) }
+    {
+        let _count = self.class_count();
+        for v in set.members() {
+            self.touch_name(v, steps);
+        }
+    }
+
+    // Touches `v`, if it is a name of a class. Condition: it is greater than all touched names.
+    fn touch_name<L: Ledger>(&mut self, v: u32, steps: &mut Steps<L>)
+        requires above { (w : ℕ) → is_in self.old.touched w ≡ true → w < v }
+        ensures classes { self.new.classes ≡ self.old.classes }
+        ensures touched { self.new.touched
+            ≡ self.old.touched ++ filter (is_name self.old.classes) (v ∷ []) }
+        ensures partition { ArePartition self.new }
+        ensures steps { steps.new
+            ≡ steps.old + length (filter (is_name self.old.classes) (v ∷ [])) }
+    {
+        let _count = self.class_count();
+        if !self.has(v) {
+            return;
+        }
+        self.touch(v, steps);
+    }
+
+    // Whether `v` is a name of a class.
+    fn has(&self, v: u32) -> bool
+        ensures { result ≡ is_name self.now.classes v }
+    {
+        v < NAMES && self.homes[v as usize].is_some()
+    }
+
+    /// The position of the class of `v`, any number; None exactly where it is no name of a class.
+    pub fn class_of(&self, v: u32) -> Option<u32>
+        ensures class { result ≡ class_position self.now.classes v }
+        ensures none { is_some result ≡ is_name self.now.classes v }
+        ensures partition { ArePartition self.now }
+    {
+        let homes = &self.homes;
+        if v >= NAMES {
+            return None;
+        }
+        match homes[v as usize] {
+            Some(home) => {
+                let place = self.owners[home as usize];
+                position(&self.nexts, self.first, self.used, place)
+            }
+            None => None,
+        }
+    }
+
+    /// The number of classes.
+    pub fn class_count(&self) -> u32
+        ensures count { result ≡ length self.now.classes }
+        ensures partition { ArePartition self.now }
+    {
+        self.used
+    }
+
+    /// The names of the class at a position. Condition: it is below the number of classes.
+    pub fn class_names(&self, i: u32) -> Names
+        requires { i < length self.now.classes }
+        ensures names { result ≡ set.from_list (slice_index_or self.now.classes i []) }
+        ensures partition { ArePartition self.now }
+    {
+        let place = place_at(&self.nexts, self.first, self.used, i);
+        names_at(&self.homes, &self.owners, place)
+    }
+}
