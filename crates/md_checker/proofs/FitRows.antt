@@ -2,6 +2,7 @@
 use Rattle.std.proofs.Common.{◌≡◌, ◌≢◌, ◌↔◌, ℕ, zero, suc, ◌+◌, ◌-◌, ◌<◌, ◌≤◌, Bool, true, false, cond, eqb, ◌&&◌, ◌||◌, not, List, [], ◌∷◌, ◌++◌, length, get_or, set, take, drop, replicate, Option, Some, None, is_some, IfSome, IfNone, refl, sym, ◌∙◌, ap, ap₂, subst, inl, inr, eqb-true, eq-eqb, length-drop, arith}
 use Rattle.std.proofs.lemmas.Bool.{cases_Bool, cases_eq, or_cases, or_left, or_right, and_parts, and_from, not-true, not-false, false_from_ne_true}
 use Rattle.std.proofs.lemmas.List.{take_more, drop_more, get_or-drop, get_or-replicate, get_or_default}
+use Rattle.std.proofs.Math.Bool.{or-false, or_assoc}
 use Rattle.std.specs.Cmp.{both_ways}
 use Rattle.std.specs.FinSet.{contains, empty, insert, union, intersection}
 use Rattle.md_graph.specs.NameSet.{IsLeastFrom, NoneFrom, told_apart}
@@ -130,16 +131,8 @@ alike_more g others list n so here i y below h = elim (cases_eq i n) [
 -- ---- the pairs that are listed
 
 lists-push : (ps : List Pair) (p : Pair) (i j : ℕ) → lists_pair (ps ++ p ∷ []) i j ≡ (lists_pair ps i j || (eqb p.low i && eqb p.high j))
-lists-push [] p i j = or_false (eqb p.low i && eqb p.high j)
-  where
-    or_false : (b : Bool) → (b || false) ≡ b
-    or_false true = refl
-    or_false false = refl
-lists-push (q ∷ ps) p i j = ap (λ b. (eqb q.low i && eqb q.high j) || b) (lists-push ps p i j) ∙ or_three (eqb q.low i && eqb q.high j) (lists_pair ps i j) (eqb p.low i && eqb p.high j)
-  where
-    or_three : (a b c : Bool) → (a || (b || c)) ≡ ((a || b) || c)
-    or_three true b c = refl
-    or_three false b c = refl
+lists-push [] p i j = or-false (eqb p.low i && eqb p.high j)
+lists-push (q ∷ ps) p i j = ap (λ b. (eqb q.low i && eqb q.high j) || b) (lists-push ps p i j) ∙ sym (or_assoc (eqb q.low i && eqb q.high j) (lists_pair ps i j) (eqb p.low i && eqb p.high j))
 
 -- the rows have, of the names of the list, those that the pairs list
 abbrev pub HaveListed : List ℕ → List NameSet → List Pair → Type 0
@@ -161,7 +154,7 @@ more_listed list rows ps n p d old new s heads size below item is_old made so i 
       | inl same ↦ ap (λ b. cond b (contains new (get_or list j 0)) (contains (row_of rows i) (get_or list j 0))) (eq-eqb i p.low same) ∙ here same ∙ sym listed
       | inr differ ↦
           ap (λ b. cond b (contains new (get_or list j 0)) (contains (row_of rows i) (get_or list j 0))) (false_from_ne_true (eqb i p.low) (λ h. differ (eqb-true i p.low h)))
-          ∙ so i j bi bj ∙ sym (or_right_false (lists_pair (take n ps) i j) (eqb p.low i && eqb p.high j) (not_both differ)) ∙ sym listed
+          ∙ so i j bi bj ∙ sym (ap (λ b. lists_pair (take n ps) i j || b) (not_both differ) ∙ or-false (lists_pair (take n ps) i j)) ∙ sym listed
     ]
   where
     bounds : (p.low < length list) × (p.high < length list)
@@ -172,10 +165,6 @@ more_listed list rows ps n p d old new s heads size below item is_old made so i 
 
     listed : lists_pair (take (n + 1) ps) i j ≡ (lists_pair (take n ps) i j || (eqb p.low i && eqb p.high j))
     listed = ap (λ l. lists_pair l i j) (take_more ps n d below ∙ ap (λ q. take n ps ++ q ∷ []) (sym item)) ∙ lists-push (take n ps) p i j
-
-    or_right_false : (a b : Bool) → b ≡ false → (a || b) ≡ a
-    or_right_false true b f = refl
-    or_right_false false b f = f
 
     not_both : i ≢ p.low → (eqb p.low i && eqb p.high j) ≡ false
     not_both differ = false_from_ne_true _ (λ h. differ (sym (eqb-true p.low i (and_parts (eqb p.low i) (eqb p.high j) h).0)))

@@ -19,7 +19,7 @@ use Rattle.md_tree.specs.Stacks.{with_part}
 use Rattle.md_tree.specs.StrongTrees.{IsTreeOf}
 use Rattle.md_tree.specs.Trees.{PlainTree, leaf, node, PlainTrees, names, names_below, row, EachNode, EachNodeBelow}
 use Rattle.md_tree.specs.WellFormed.{IsCanonicalNode, IsCanonical}
-use Rattle.md_tree.proofs.Folding.{count_row, folded, folded_tree, IsFolding, fold_begin, fold_finds, fold_more, fold_end}
+use Rattle.md_tree.proofs.Folding.{count_row, each_join, each_parts, folded, folded_tree, IsFolding, fold_begin, fold_finds, fold_more, fold_end}
 use Rattle.md_tree.proofs.Nodes.{IsChild}
 use Rattle.md_checker.specs.Fits.{head, head_at, IsFitNode, Fits}
 use Rattle.md_checker.specs.FitTests.{union_all, AreHeads, IsFit, AreFit, AreFinished, MayPut, IsTested}
@@ -29,20 +29,12 @@ use Rattle.md_checker.proofs.FitsTree.{child_modules, fits_proof}
 -- ---- trees in a row, one behind the other
 
 module _ (P : Kind → PlainTrees → List Pair → Type 0) where
-  each_join : (xs ys : List PlainTree) → EachNodeBelow P (row xs) → EachNodeBelow P (row ys) → EachNodeBelow P (row (xs ++ ys))
-  each_join [] ys a b = b
-  each_join (x ∷ xs) ys a b = (a.0, each_join xs ys a.1 b)
-
-  each_parts : (xs ys : List PlainTree) → EachNodeBelow P (row (xs ++ ys)) → EachNodeBelow P (row xs) × EachNodeBelow P (row ys)
-  each_parts [] ys a = (tt, a)
-  each_parts (x ∷ xs) ys a = let rest = each_parts xs ys a.1 in ((a.0, rest.0), rest.1)
-
   -- what holds of the nodes after one more part holds of those before it
   each_before : (p : PlainPart) (ts : List PlainTree) → EachNodeBelow P (row (with_part p ts)) → EachNodeBelow P (row ts)
-  each_before (name v) ts each = (each_parts ts (leaf v ∷ []) each).0
+  each_before (name v) ts each = (each_parts P ts (leaf v ∷ []) each).0
   each_before (inner k n ps) ts each =
-      let two = each_parts (take (length ts - n) ts) (node k (row (drop (length ts - n) ts)) ps ∷ []) each in
-      subst (λ l. EachNodeBelow P (row l)) (take-append-drop (length ts - n) ts) (each_join (take (length ts - n) ts) (drop (length ts - n) ts) two.0 two.1.0.1)
+      let two = each_parts P (take (length ts - n) ts) (node k (row (drop (length ts - n) ts)) ps ∷ []) each in
+      subst (λ l. EachNodeBelow P (row l)) (take-append-drop (length ts - n) ts) (each_join P (take (length ts - n) ts) (drop (length ts - n) ts) two.0 two.1.0.1)
 
 below_left : (xs ys : List PlainTree) → Within (names_below (row xs)) (names_below (row (xs ++ ys)))
 below_left [] ys x h = clash h (empty_lacks x)

@@ -3,6 +3,7 @@ use Rattle.std.proofs.Common.{◌≡◌, ◌≢◌, ◌⊎◌, ◌↔◌, ℕ, �
 use Rattle.std.proofs.lemmas.Bool.{cases_eq, eq-eqb, ne_eqb, false_from_ne_true}
 use Rattle.std.proofs.lemmas.List.{take_more, get_or_read}
 use Rattle.std.proofs.Math.Seq.{take-append_seam}
+use Rattle.std.specs.Cmp.{both_ways}
 use Rattle.std.specs.FinSet.{contains, empty, difference}
 use Rattle.md_graph.specs.Sets.{NameSet, Has}
 use Rattle.md_graph.specs.NameSet.{told_apart}
@@ -152,18 +153,13 @@ module _ {g : PlainGraph} (is : IsGraph g) (p q : List ℕ) (first : IsOrder g.v
           (λ t. disagree u v in_u in_v differ (bit ∙ t), λ d. sym bit ∙ agree_not u v d);
     },
     λ realised v in_v. same_set (row_of rows v) (neighbours g v) (λ u.
-        same_bit _ _
+        both_ways _ _
         (λ h. contains-neighbours is v u ∙ adjacent_sym g v u ∙ (realised.edges u v (ends_in u v h) in_v (λ same. self_lacks v (subst (Has (row_of rows v)) same h))).1 (disagree u v (ends_in u v h) in_v (λ same. self_lacks v (subst (Has (row_of rows v)) same h)) h))
         (λ h.
         let edge : adjacent g u v ≡ true = adjacent_sym g u v ∙ sym (contains-neighbours is v u) ∙ h in
         let ends = adjacent_ends is u v edge in
         agree_not u v ((realised.edges u v ends.0 ends.1 ends.2).0 edge))),
   )
-    where
-      same_bit : (a b : Bool) → (a ≡ true → b ≡ true) → (b ≡ true → a ≡ true) → a ≡ b
-      same_bit true b f g = sym (f refl)
-      same_bit false true f g = g refl
-      same_bit false false f g = refl
 
 -- a slice that was written back
 pub written_back : (n : ℕ) (new rest : List NameSet) → length new ≡ n → take n (new ++ rest) ≡ new

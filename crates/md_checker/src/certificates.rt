@@ -1,6 +1,5 @@
 //! Whether a chain, an orientation or two orders are what a report may say of a graph.
 ghost use Rattle.std.specs.Prelude.{◌≡◌, ℕ, List, ◌∷◌, ◌<◌, ◌≤◌, ◌↔◌, ◌++◌, length, take, map, IfOk, IfSome, IfNone, IsTrue};
-ghost use Rattle.std.specs.FinSet as set;
 ghost use Rattle.md_graph.specs.declared.TheConstants.{NAMES};
 ghost use Rattle.md_graph.specs.NameSet.{ascending};
 ghost use Rattle.md_graph.specs.PlainGraph.{adjacent, neighbours, complement};
@@ -17,7 +16,7 @@ ghost use Rattle.md_orientation.specs.Orders.{IsOrder, Realise};
 ghost use Rattle.md_checker.specs.Flips.{AreFlipped};
 
 use md_forcing::{Arc, Arcs, Chain, Seen, Side};
-use md_graph::{Graph, Memory, NAMES, Names};
+use md_graph::{Graph, Memory, NAMES, Names, empty_rows};
 use md_orientation::{Ending, walk};
 use md_report::Order;
 use std::alloc::Global;
@@ -184,7 +183,7 @@ pub fn realise(alloc: Global, graph: &Graph, first: &Order, second: &Order) -> R
     if !is_order(graph, first.as_slice()) || !is_order(graph, second.as_slice()) {
         return Ok(false);
     }
-    let mut rows = empty_rows(alloc, size_over(graph))?;
+    let mut rows = empty_rows(alloc, graph.bound())?;
     flip_before(&mut rows, first.as_slice());
     flip_before(&mut rows, second.as_slice());
     Ok(are_neighbours(graph, &rows))
@@ -203,28 +202,6 @@ fn is_order(graph: &Graph, list: &[u32]) -> bool
         seen.insert(*v);
     }
     seen.is_same(vertices)
-}
-
-// A number that is greater than each vertex.
-fn size_over(graph: &Graph) -> u32
-    ensures room { (v : ℕ) → Has graph.now.vertices v → v < result }
-{
-    match graph.vertices().last() {
-        Some(last) => last + 1,
-        None => 0,
-    }
-}
-
-// As many rows without members.
-fn empty_rows(alloc: Global, size: u32) -> Result<Vec<Names>, Memory>
-    ensures size { IfOk result (λ rows. length rows.items ≡ size) }
-    ensures none { IfOk result (λ rows. (v : ℕ) → row_of rows.items v ≡ set.empty) }
-{
-    let mut rows = Vec::with_capacity(alloc, size as usize)?;
-    for _ in 0..size {
-        rows.push(Names::none())?;
-    }
-    Ok(rows)
 }
 
 // Flips, in the row of each name of the list, the names that stand before it. Condition: no name

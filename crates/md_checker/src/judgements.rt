@@ -71,8 +71,8 @@ fn is_orientation_line(alloc: Global, graph: &Graph, line: &Line) -> Result<bool
     }
 }
 
-// Whether the line tells of two orders that realise the graph, or of a forcing chain of it or of its
-// complement.
+// Whether the line tells of two orders that realise the graph, or of a forcing chain of it or of
+// its complement.
 fn is_model_line(alloc: Global, graph: &Graph, line: &Line) -> Result<bool, Memory>
     ensures { IfOk result (λ fit. IsTrue fit ↔ IsModelLine graph.now (plain_line line.now)) }
 {
@@ -206,8 +206,8 @@ fn is_of_cograph(tree: &Option<Tree>) -> bool
 }
 
 // Whether the line answers the edit at the graph, which then is the state behind it; else, and for
-// want of memory, it stays. Conditions: the line is well-formed, and the names in the edit are names;
-// in mode quiet the graph is a cograph.
+// want of memory, it stays. Conditions: the line is well-formed, and the names in the edit are
+// names; in mode quiet the graph is a cograph.
 pub(crate) fn answers_edit(
     alloc: Global,
     mode: SessionMode,
@@ -273,9 +273,9 @@ fn is_applied(
     fit
 }
 
-// Whether the graph after the edit may be a state of a session of the mode, of which no tree is told:
-// the graph is that one then, and else stays. Conditions: there is no reason against the edit, and in
-// mode quiet the graph is a cograph.
+// Whether the graph after the edit may be a state of a session of the mode, of which no tree is
+// told: the graph is that one then, and else stays. Conditions: there is no reason against the
+// edit, and in mode quiet the graph is a cograph.
 fn is_applied_alone(mode: SessionMode, graph: &mut Graph, edit: &Edit) -> bool
     requires applies { reason_of graph.old edit.now ≡ None }
     requires names { HasNames edit.now }

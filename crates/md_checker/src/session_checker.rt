@@ -34,7 +34,8 @@ enum SessionDue {
     Nothing,
 }
 
-// Where a line that came leads: which line is due, and how many edits are answered or need no answer.
+// Where a line that came leads: which line is due, and how many edits are answered or need no
+// answer.
 #[derive(Clone, Copy, Debug, PartialEq, Eq)]
 struct Step {
     due: SessionDue,

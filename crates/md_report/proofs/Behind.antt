@@ -32,17 +32,13 @@ pub nothing_left : (xs : List ℕ) → (length xs == 0) ≡ true → xs ≡ []
 nothing_left [] e = refl
 nothing_left (x ∷ xs) e = let l : length (x ∷ xs) ≡ 0 = eqb-true (length (x ∷ xs)) 0 e in absurd (omega arith)
 
--- a chain has a text
+-- a text that begins with no arc is that of no chain
+no_chain : (text : List ℕ) → ((a : Arc) (chain : List Arc) → text ≢ 32 ∷ (arc_text a ++ arcs_text chain)) → (chain : List Arc) → IsNamedChain chain → text ≢ arcs_text chain
+no_chain text none [] is e = is.some refl
+no_chain text none (a ∷ chain) is e = none a chain e
+
 pub chain_text_some : (text : List ℕ) → text ≡ [] → (chain : List Arc) → IsNamedChain chain → text ≢ arcs_text chain
-chain_text_some text none [] is e = is.some refl
-chain_text_some text none (a ∷ chain) is e = let f : [] ≡ 32 ∷ (arc_text a ++ arcs_text chain) = sym none ∙ e in cc
-
--- what is told of an option, where it is known
-pub some_told : {A : Type 0} (X : Type 0) (P : A → Type 0) (o : Option A) (a : A) → o ≡ Some a → MatchOption o X P → P a
-some_told X P o a is told = subst (λ p. MatchOption p X P) is told
-
-pub none_told : {A : Type 0} (X : Type 0) (P : A → Type 0) (o : Option A) → o ≡ None → MatchOption o X P → X
-none_told X P o is told = subst (λ p. MatchOption p X P) is told
+chain_text_some text none = no_chain text (λ a chain e. let f : [] ≡ 32 ∷ (arc_text a ++ arcs_text chain) = sym none ∙ e in cc)
 
 -- the path of the names that a text spells
 pub path_spelled : (text items names : List ℕ) (o : Option P4) → names ≡ items → All IsVertexName items → text ≡ names_text items →
@@ -250,10 +246,10 @@ to_reading bytes (Err Memory) reads = tt
 
 -- behind `no`: no piece; a word; no word
 pub no_piece_no : (text : List ℕ) → ((rest : List ℕ) → text ≢ 32 ∷ rest) → NoNo text
-no_piece_no text none = record { chains = chains; words = λ w rest at e. absurd (none (refusal_text w ++ rest) e) } where
-  chains : (chain : List Arc) → IsNamedChain chain → text ≢ arcs_text chain
-  chains [] is e = is.some refl
-  chains (a ∷ chain) is e = none (arc_text a ++ arcs_text chain) e
+no_piece_no text none = record {
+  chains = no_chain text (λ a chain. none (arc_text a ++ arcs_text chain));
+  words = λ w rest at e. absurd (none (refusal_text w ++ rest) e);
+}
 
 -- the piece of a text that begins with a space and a word is that word
 piece_word : (text piece behind : List ℕ) (w : Refusal) (rest : List ℕ) → IsPiece text piece behind → Opens 32 rest → text ≡ 32 ∷ (refusal_text w ++ rest) → (piece ≡ refusal_text w) × (behind ≡ rest)
@@ -263,10 +259,9 @@ piece_word text piece behind w rest is at e =
     one_cut 32 piece (refusal_text w) behind rest is.lacks (refusal_lacks w) is.opens at g
 
 pub word_no : (text piece behind : List ℕ) (w : Refusal) → IsPiece text piece behind → piece ≡ refusal_text w → NoRefusal w behind → NoNo text
-word_no text piece behind w is at none = record { chains = chains; words = words } where
-  chains : (chain : List Arc) → IsNamedChain chain → text ≢ arcs_text chain
-  chains [] named e = named.some refl
-  chains (a ∷ chain) named e =
+word_no text piece behind w is at none = record { chains = no_chain text no_first; words = words } where
+  no_first : (a : Arc) (chain : List Arc) → text ≢ 32 ∷ (arc_text a ++ arcs_text chain)
+  no_first a chain e =
       let f : 32 ∷ (piece ++ behind) ≡ 32 ∷ (arc_text a ++ arcs_text chain) = sym is.whole ∙ e in
       let g : piece ++ behind ≡ arc_text a ++ arcs_text chain = cc in
       no_arc w a (sym at ∙ (one_cut 32 piece (arc_text a) behind (arcs_text chain) is.lacks (lacks_arc 32 a (omega arith)) is.opens (arcs_open chain) g).0)

@@ -1,10 +1,10 @@
 -- Texts cut at a byte, and texts of items: there is one way alone.
-use Rattle.std.proofs.Common.{◌≡◌, ◌≢◌, true, false, not, ℕ, zero, suc, ◌<◌, ◌≤◌, ◌⊎◌, List, [], ◌∷◌, ◌++◌, length, get_or, take, drop, refl, sym, ◌∙◌, ap, subst, inl, inr, arith, append_assoc, append-nil, ap₂}
+use Rattle.std.proofs.Common.{◌≡◌, ◌≢◌, true, false, not, ℕ, zero, suc, ◌<◌, ◌≤◌, ◌⊎◌, List, [], ◌∷◌, ◌++◌, length, get_or, take, drop, refl, sym, ◌∙◌, ap, subst, inr, arith, append_assoc, append-nil, ap₂}
 use Rattle.std.specs.Prelude.{◌==◌}
 use Rattle.std.specs.List.{All, list_all, flat_map}
 use Rattle.std.proofs.lemmas.Bool.{and_parts, eq-eqb}
 use Rattle.md_graph.proofs.SetLemmas.{clash}
-use Rattle.std.proofs.lemmas.List.Elements.{All-nil, All-head, All-tail, All-push}
+use Rattle.std.proofs.lemmas.List.Elements.{All-head, All-tail, All-push}
 use Rattle.std.proofs.lemmas.List.{take-append-drop}
 use Rattle.std.proofs.lemmas.Grind.{flat_map-append}
 use Rattle.md_report.specs.Cuts.{LacksByte, Opens, IsCutAt, IsPiece, IsItem, NoItem}

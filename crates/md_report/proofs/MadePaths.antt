@@ -1,5 +1,5 @@
 -- An induced P4 of the graph after an edit holds the change, where the graph before had none.
-use Rattle.std.proofs.Common.{◌≡◌, ℕ, ◌<◌, Bool, true, false, not, ◌&&◌, ◌||◌, ◌==◌, Option, None, IfNone, refl, sym, ◌∙◌, subst, inl, inr}
+use Rattle.std.proofs.Common.{◌≡◌, ◌≢◌, ℕ, ◌<◌, Bool, true, false, not, ◌&&◌, ◌||◌, ◌==◌, Option, None, IfNone, refl, sym, ◌∙◌, subst, inl, inr}
 use Rattle.std.proofs.lemmas.Bool.{eqb-false, ne_eqb}
 use Rattle.std.specs.FinSet as set
 use Rattle.md_graph.specs.declared.TheConstants.{NAMES}
@@ -108,75 +108,42 @@ shown g (DelVertex x) none = tt
 -- ---- each path holds the change
 
 module _ (g : PlainGraph) (is_graph : IsGraph g) (free : IsCograph g) where
-  edge_added : (u v a b c d : ℕ) → IsInducedPath (adjacent (with_edge g u v)) g.vertices a b c d → IsOneOf u a b c d × IsOneOf v a b c d
-  edge_added u v a b c d is =
-      elim (decide_one u a b c d) [
-        | inl hu ↦ elim (decide_one v a b c d) [
-          | inl hv ↦ (hu, hv)
-          | inr nv ↦ absurd (free (
-            a,
-            b,
-            c,
-            d,
-            carried a b c d is (adjacent g) g.vertices (inside a b c d is) (λ y z hy hz.
-                adjacent-with_edge g u v y z ∙ second_absent (y == u) (z == v) (y == v) (z == u) _ (away a b c d v nv z hz) (away a b c d v nv y hy)),
-          ))
-        ]
-        | inr nu ↦ absurd (free (
+  -- a path of a graph that differs from g at one name alone holds that name
+  holds_name : (f : ℕ → ℕ → Bool) (s : NameSet) (x a b c d : ℕ) → ((y : ℕ) → Has s y → y ≢ x → Has g.vertices y) →
+      ((y z : ℕ) → (y == x) ≡ false → (z == x) ≡ false → f y z ≡ adjacent g y z) → IsInducedPath f s a b c d → IsOneOf x a b c d
+  holds_name f s x a b c d within same is =
+      elim (decide_one x a b c d) [
+        | inl h ↦ h
+        | inr none ↦ absurd (free (
           a,
           b,
           c,
           d,
-          carried a b c d is (adjacent g) g.vertices (inside a b c d is) (λ y z hy hz.
-              adjacent-with_edge g u v y z ∙ first_absent (y == u) (z == v) (y == v) (z == u) _ (away a b c d u nu y hy) (away a b c d u nu z hz)),
+          carried a b c d is (adjacent g) g.vertices (λ y hy. within y (inside a b c d is y hy) (λ e. none (subst (λ w. IsOneOf w a b c d) e hy)))
+              (λ y z hy hz. same y z (away a b c d x none y hy) (away a b c d x none z hz)),
         ))
       ]
 
+  edge_added : (u v a b c d : ℕ) → IsInducedPath (adjacent (with_edge g u v)) g.vertices a b c d → IsOneOf u a b c d × IsOneOf v a b c d
+  edge_added u v a b c d is = (
+    holds_name _ g.vertices u a b c d (λ y h differ. h) (λ y z ny nz. adjacent-with_edge g u v y z ∙ first_absent (y == u) (z == v) (y == v) (z == u) _ ny nz) is,
+    holds_name _ g.vertices v a b c d (λ y h differ. h) (λ y z ny nz. adjacent-with_edge g u v y z ∙ second_absent (y == u) (z == v) (y == v) (z == u) _ nz ny) is,
+  )
+
   edge_gone : (u v a b c d : ℕ) → IsInducedPath (adjacent (without_edge g u v)) g.vertices a b c d → IsOneOf u a b c d × IsOneOf v a b c d
-  edge_gone u v a b c d is =
-      elim (decide_one u a b c d) [
-        | inl hu ↦ elim (decide_one v a b c d) [
-          | inl hv ↦ (hu, hv)
-          | inr nv ↦ absurd (free (
-            a,
-            b,
-            c,
-            d,
-            carried a b c d is (adjacent g) g.vertices (inside a b c d is) (λ y z hy hz.
-                adjacent-without_edge g u v y z ∙ second_kept (y == u) (z == v) (y == v) (z == u) _ (away a b c d v nv z hz) (away a b c d v nv y hy)),
-          ))
-        ]
-        | inr nu ↦ absurd (free (
-          a,
-          b,
-          c,
-          d,
-          carried a b c d is (adjacent g) g.vertices (inside a b c d is) (λ y z hy hz.
-              adjacent-without_edge g u v y z ∙ first_kept (y == u) (z == v) (y == v) (z == u) _ (away a b c d u nu y hy) (away a b c d u nu z hz)),
-        ))
-      ]
+  edge_gone u v a b c d is = (
+    holds_name _ g.vertices u a b c d (λ y h differ. h) (λ y z ny nz. adjacent-without_edge g u v y z ∙ first_kept (y == u) (z == v) (y == v) (z == u) _ ny nz) is,
+    holds_name _ g.vertices v a b c d (λ y h differ. h) (λ y z ny nz. adjacent-without_edge g u v y z ∙ second_kept (y == u) (z == v) (y == v) (z == u) _ nz ny) is,
+  )
 
   vertex_made : (x a b c d : ℕ) (others : NameSet) → ((w : ℕ) → Has others w → w < NAMES) →
       IsInducedPath (adjacent (with_edges (with_vertex g x) x others)) (set.insert g.vertices x) a b c d → IsOneOf x a b c d
   vertex_made x a b c d others names is =
-      elim (decide_one x a b c d) [
-        | inl hx ↦ hx
-        | inr nx ↦ absurd (free (
-          a,
-          b,
-          c,
-          d,
-          carried a b c d is (adjacent g) g.vertices
-              (λ y hy. elim (of_insert g.vertices x y (inside a b c d is y hy)) [
-                | inl same ↦ absurd (nx (subst (λ w. IsOneOf w a b c d) same hy))
-                | inr old ↦ old
-              ])
-              (λ y z hy hz.
-              adjacent-with_edges (with_vertex g x) x others names y z
-              ∙ no_star (y == x) (set.contains others z) (z == x) (set.contains others y) _ (away a b c d x nx y hy) (away a b c d x nx z hz)
-              ∙ adjacent-with_vertex g x y z),
-        ))
-      ]
+      holds_name _ (set.insert g.vertices x) x a b c d (λ y h differ. elim (of_insert g.vertices x y h) [ inl same ↦ absurd (differ same) | inr old ↦ old ])
+      (λ y z ny nz.
+      adjacent-with_edges (with_vertex g x) x others names y z
+      ∙ no_star (y == x) (set.contains others z) (z == x) (set.contains others y) _ ny nz
+      ∙ adjacent-with_vertex g x y z) is
 
   vertex_gone : (x a b c d : ℕ) → IsInducedPath (adjacent (without_vertex g x)) (set.remove g.vertices x) a b c d → ⊥
   vertex_gone x a b c d is =

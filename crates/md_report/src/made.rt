@@ -7,10 +7,10 @@ use md_graph::Graph;
 use md_modules::{P4, find_p4_with, find_p4_with_both};
 use md_script::Edit;
 
-/// An induced P4 that holds both ends of the edge of an edit, or its new vertex; `None` exactly where
-/// there is none: then the graph is a cograph if the one before the edit was. It takes no memory, and
-/// a few row operations; for a new vertex those of `find_p4_with`. Condition: the edit led to the
-/// graph.
+/// An induced P4 that holds both ends of the edge of an edit, or its new vertex; `None` exactly
+/// where there is none: then the graph is a cograph if the one before the edit was. It takes no
+/// memory, and a few row operations; for a new vertex those of `find_p4_with`. Condition: the edit
+/// led to the graph.
 pub fn made_p4(graph: &Graph, edit: &Edit) -> Option<P4>
     requires { Shows graph.now edit.now }
     ensures found { IfSome result (λ p.

@@ -1,6 +1,7 @@
 -- What an ending says of a run, behind its loads.
-use Rattle.std.proofs.Common.{◌≡◌, ◌≢◌, ◌⊎◌, ℕ, ◌-◌, ◌^◌, ◌<◌, ◌≤◌, Bool, true, false, ◌&&◌, nat_lt, IsTrue, List, [], ◌∷◌, ◌++◌, Option, None, Some, Result, IsErrAnd, Ok, Err, refl, sym, ◌∙◌, ap, ap₂, subst, inl, inr, append-nil, append_assoc, arith}
+use Rattle.std.proofs.Common.{◌≡◌, ◌≢◌, ◌⊎◌, ℕ, ◌-◌, ◌^◌, ◌<◌, ◌≤◌, Bool, true, ◌&&◌, nat_lt, IsTrue, List, [], ◌∷◌, ◌++◌, Option, None, Some, Result, IsErrAnd, Ok, Err, refl, sym, ◌∙◌, ap, ap₂, subst, inl, inr, append-nil, append_assoc, arith}
 use Rattle.std.proofs.lemmas.Bool.{ltb-true}
+use Rattle.std.specs.Cmp.{first_so}
 use Rattle.std.specs.Io.KnownBytes.{Keeps}
 use Rattle.md_io.specs.Count.{Rose}
 use Rattle.md_io.specs.Told.{Told, IsToldAs, IsToldFile, IsToldLonger}
@@ -82,12 +83,8 @@ told_input holds request input is =
 -- a count below its last value that stays didn't rise
 pub unrisen : (before now : ℕ) (other : Bool) → (nat_lt before (2 ^ 64 - 1) && other) ≡ true → now ≡ before → ¬ (Rose before now)
 unrisen before now other sure same rose =
-    let below : before < 2 ^ 64 - 1 = ltb-true before (2 ^ 64 - 1) (first_holds (nat_lt before (2 ^ 64 - 1)) other sure) in
+    let below : before < 2 ^ 64 - 1 = ltb-true before (2 ^ 64 - 1) (first_so (nat_lt before (2 ^ 64 - 1)) other sure) in
     omega (arith, same, rose, below)
-  where
-    first_holds : (a b : Bool) → (a && b) ≡ true → a ≡ true
-    first_holds true b both = refl
-    first_holds false b both = both
 
 -- the files of one request have one list of contents
 same_contents : (holds : List ℕ → Told) (names contents others : List (List ℕ)) → AreToldAs holds names contents → AreFiles holds names others → contents ≡ others

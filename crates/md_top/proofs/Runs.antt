@@ -6,7 +6,8 @@ use Rattle.std.specs.FinSet.{empty, union}
 use Rattle.md_graph.specs.PlainGraph.{PlainGraph, empty_graph}
 use Rattle.md_graph.specs.NameSet.{range}
 use Rattle.md_graph.specs.Sets.{NameSet, Has}
-use Rattle.md_graph.proofs.SetLemmas.{clash, empty_lacks, of_union, union_right, same_members}
+use Rattle.md_graph.proofs.Ranges.{union_none}
+use Rattle.md_graph.proofs.SetLemmas.{clash, empty_lacks}
 use Rattle.md_modules.specs.declared.induced_paths.P4.{P4}
 use Rattle.md_script.specs.declared.edit.Edit.{Edit}
 use Rattle.md_script.specs.declared.edit.Edit.TheVariants.{DelVertex}
@@ -98,15 +99,11 @@ no_p4 g o p is none told =
     let path : IsP4Of g p = subst (IsOpened g) is told in
     clash (subst (λ (x : PlainGraph). Has x.vertices p.a) none path.inside.0) (empty_lacks p.a)
 
-none_union : (a : NameSet) → union empty a ≡ a
-none_union a = same_members (union empty a) a
-    (λ x h. elim (of_union empty a x h) [ inl i ↦ clash i (empty_lacks x) | inr i ↦ i ]) (union_right empty a)
-
 -- the neighbours of an odd name
 pub odd_before : (v : ℕ) (old new : NameSet) → v % 2 ≡ 1 → old ≡ empty → new ≡ union old (range 0 v) → new ≡ neighbours_before v
 odd_before v old new odd none is =
     let one : neighbours_before v ≡ range 0 v = rw odd refl in
-    is ∙ ap (λ (x : NameSet). union x (range 0 v)) none ∙ none_union (range 0 v) ∙ sym one
+    is ∙ ap (λ (x : NameSet). union x (range 0 v)) none ∙ union_none (range 0 v) ∙ sym one
 
 -- an even name is left out
 pub even_left_out : (v : ℕ) (g h : PlainGraph) (a b : ℕ) → v % 2 ≡ 0 → RunsTo g (DelVertex v ∷ []) a b h → RunsTo g (deletions_at v) a b h

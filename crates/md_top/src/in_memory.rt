@@ -14,8 +14,8 @@ use crate::top::run;
 use md_io::{Files, MemFiles, SafeSink, Sink};
 use std::alloc::Global;
 
-/// `run` over files in memory and sinks that can't fail. Where the files of the words are there and no load to come
-/// is one that fails, memory alone can keep it from the answer that the input has.
+/// `run` over files in memory and sinks that can't fail. Where the files of the words are there and
+/// no load to come is one that fails, memory alone can keep it from the answer that the input has.
 pub fn run_in_memory(
     alloc: Global,
     words: &[String],

@@ -32,7 +32,8 @@ impl Verdict {
     }
 }
 
-/// What ends a run before its output is whole. `?` makes it of what stops a load, an input or a put.
+/// What ends a run before its output is whole. `?` makes it of what stops a load, an input or a
+/// put.
 #[derive(Clone, Copy, Debug, PartialEq, Eq)]
 pub enum Stop {
     /// The words are in no form.

@@ -25,8 +25,9 @@ use md_io::{Files, Sink};
 use md_report::{GraphMode, SessionMode};
 use std::alloc::Global;
 
-/// Does what the words ask for: loads the files that they name, in their order, puts the whole output to `out`,
-/// and answers how that ended. Where the output isn't whole, one line on `err` says why.
+/// Does what the words ask for: loads the files that they name, in their order, puts the whole
+/// output to `out`, and answers how that ended. Where the output isn't whole, one line on `err`
+/// says why.
 ///
 /// All files are loaded and the input is read whole before the first byte is put. The output is
 /// flushed before the line on `err` is put and before the answer: where that would be Done or
@@ -45,7 +46,8 @@ pub fn run<F: Files, O: Sink, E: Sink>(
     ensures asked { AsksInOrder (F.asked files.old) (F.asked files.new)
         (names_of (request_of (texts words.now))) }
 
-    // Bad input comes exactly where the input has a fault. A reading fault or want of memory may come first.
+    // Bad input comes exactly where the input has a fault. A reading fault or want of memory may
+    // come first.
     ensures bad_input { result ≡ Status.BadInput
         → (fault : Fault) × CanBeBad (F.holds files.old) (request_of (texts words.now)) fault }
     ensures bad_input_always { (input : Request (List ℕ)) (fault : Fault)
@@ -57,8 +59,8 @@ pub fn run<F: Files, O: Sink, E: Sink>(
     ensures good_input { (result ≡ Status.Done) ⊎ (result ≡ Status.Rejected) ⊎ (result ≡ Status.WriteFault)
         → CanBeGood (F.holds files.old) (request_of (texts words.now)) }
 
-    // Rejected comes exactly where a report is to be checked and isn't valid. A fault of the outside or want
-    // of memory may come first.
+    // Rejected comes exactly where a report is to be checked and isn't valid. A fault of the
+    // outside or want of memory may come first.
     ensures rejected { result ≡ Status.Rejected
         → CanBeRejected (F.holds files.old) (request_of (texts words.now)) }
     ensures rejected_always { (input : Request (List ℕ)) (line : ℕ)
@@ -94,7 +96,8 @@ pub fn run<F: Files, O: Sink, E: Sink>(
     ensures err { TakesLineOf (F.holds files.old) (request_of (texts words.now)) result
         (sink_run E.Sink err.old err.new) (E.wants err.old) (E.wants err.new) }
 
-    // Well-formed input that is told, and no fault of the outside: the whole output, or want of memory.
+    // Well-formed input that is told, and no fault of the outside: the whole output, or want of
+    // memory.
     ensures complete { (input : Request (List ℕ))
         → IsInput (F.holds files.old) (request_of (texts words.now)) input
         → fault_of input ≡ None
@@ -256,7 +259,8 @@ fn end_session_check<F: Files, O: Sink>(
     files: &mut F,
     out: &mut O,
 ) -> Result<Verdict, Stop>
-    ensures ends { Ends (Some (Request.CheckSession mode from graph.now script.now report.now)) result
+    ensures ends { Ends
+        (Some (Request.CheckSession mode from graph.now script.now report.now)) result
         (files_run F.Files files.old files.new) (sink_run O.Sink out.old out.new) }
     ensures told { F.holds files.new ≡ F.holds files.old }
     ensures faults_never_fall { O.faults out.old ≤ O.faults out.new }

@@ -5,7 +5,7 @@ use Rattle.std.proofs.lemmas.List.{same_from_push}
 use Rattle.std.specs.Prelude.{⊤}
 use Rattle.md_tree.specs.declared.Kind.{Kind}
 use Rattle.md_tree.specs.declared.Pair.{Pair}
-use Rattle.md_tree.specs.Trees.{PlainTree, leaf, node, PlainTrees, no_tree, one_more, count, row}
+use Rattle.md_tree.specs.Trees.{PlainTree, leaf, node, PlainTrees, no_tree, one_more, count, row, EachNodeBelow}
 use Rattle.md_tree.specs.Parts.{PlainPart, inner, parts_of, parts_backward, listed}
 use Rattle.md_tree.specs.Stacks.{with_part, HasChildrenOf}
 
@@ -40,6 +40,16 @@ row_listed (one_more t ts) = ap (one_more t) (row_listed ts)
 pub count_row : (ts : List PlainTree) → count (row ts) ≡ length ts
 count_row [] = refl
 count_row (t ∷ ts) = ap (λ n. suc n) (count_row ts)
+
+-- what holds of the nodes of trees, one row behind the other
+module _ (P : Kind → PlainTrees → List Pair → Type 0) where
+  pub each_join : (xs ys : List PlainTree) → EachNodeBelow P (row xs) → EachNodeBelow P (row ys) → EachNodeBelow P (row (xs ++ ys))
+  each_join [] ys a b = b
+  each_join (x ∷ xs) ys a b = (a.0, each_join xs ys a.1 b)
+
+  pub each_parts : (xs ys : List PlainTree) → EachNodeBelow P (row (xs ++ ys)) → EachNodeBelow P (row xs) × EachNodeBelow P (row ys)
+  each_parts [] ys a = (tt, a)
+  each_parts (x ∷ xs) ys a = let rest = each_parts xs ys a.1 in ((a.0, rest.0), rest.1)
 
 length_listed : (ts : PlainTrees) → length (listed ts) ≡ count ts
 length_listed no_tree = refl

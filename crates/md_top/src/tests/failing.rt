@@ -7,6 +7,20 @@ use md_io::{MemFiles, MemSink};
 use std::alloc::Global;
 use std::test::Fail;
 
+// Of two edits the first would make an induced P4 and is refused, the second is applied.
+const COGRAPH: (&str, &[u8], &[u8], &[&str]) = (
+    "cograph g6 g s",
+    b"Cg\n",
+    b"+e 2 3\n+e 1 3\n",
+    &[
+        "mdt cograph\n",
+        "t P(S(P(0,2),1),3)\n",
+        "no p4 0 1 2 3\n",
+        "ok S(P(0,2,3),1)\n",
+        "end\n",
+    ],
+);
+
 // The lines in front of a place, and of the line at it the first bytes.
 fn front(alloc: Global, lines: &[&str], place: usize, part: usize) -> Result<String, Fail> {
     let mut text = String::new(alloc);
@@ -35,19 +49,7 @@ fn failed(alloc: Global, lines: &[&str], place: usize, part: usize) -> Result<St
 fn puts_that_fail(rt: HostRuntime) -> Result<(), Fail> {
     let alloc = rt.alloc();
     let table: [(&str, &[u8], &[u8], &[&str]); 5] = [
-        // Of two edits the first would make an induced P4 and is refused, the second is applied.
-        (
-            "cograph g6 g s",
-            b"Cg\n",
-            b"+e 2 3\n+e 1 3\n",
-            &[
-                "mdt cograph\n",
-                "t P(S(P(0,2),1),3)\n",
-                "no p4 0 1 2 3\n",
-                "ok S(P(0,2,3),1)\n",
-                "end\n",
-            ],
-        ),
+        COGRAPH,
         // The same two edits, of which a quiet report tells one tree.
         (
             "quiet g6 g s",
@@ -114,19 +116,7 @@ fn puts_that_fail(rt: HostRuntime) -> Result<(), Fail> {
 fn puts_without_memory(rt: HostRuntime) -> Result<(), Fail> {
     let alloc = rt.alloc();
     let table: [(&str, &[u8], &[u8], &[&str]); 3] = [
-        // Of two edits the first would make an induced P4 and is refused, the second is applied.
-        (
-            "cograph g6 g s",
-            b"Cg\n",
-            b"+e 2 3\n+e 1 3\n",
-            &[
-                "mdt cograph\n",
-                "t P(S(P(0,2),1),3)\n",
-                "no p4 0 1 2 3\n",
-                "ok S(P(0,2,3),1)\n",
-                "end\n",
-            ],
-        ),
+        COGRAPH,
         // A triangle: the least-edge orientation.
         (
             "compare g6 g",

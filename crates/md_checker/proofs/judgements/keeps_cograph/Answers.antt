@@ -21,7 +21,7 @@ take_back-requires c = (
 
 pub returns-in-Some-clause-may : goal.returns-in-Some-clause-may
 returns-in-Some-clause-may c =
-    path_made c.args.graph.now c.apply.new.graph c.args.edit.now c.in-Some.field-0 c.apply.ensures c.in-Some.ensures.found
+    path_made c.args.graph.now c.apply.new.graph c.args.edit.now c.in-Some.field-0 c.apply.ensures c.in-Some.ensures.found.0
 
 pub returns-clause-may : goal.returns-clause-may
 returns-clause-may c =

@@ -1,4 +1,5 @@
-use Rattle.md_report.proofs.Behind.{reads_on, no_piece_no, word_no, word_whole, chain_no, none_told}
+use Rattle.std.proofs.lemmas.Option.{MatchOption-at_none}
+use Rattle.md_report.proofs.Behind.{reads_on, no_piece_no, word_no, word_whole, chain_no}
 use Rattle.md_report.proofs.reader.no_line.Goals as goal
 
 pub returns-in_default : goal.returns-in_default
@@ -11,4 +12,4 @@ returns-in-Some-refusal_word c =
 
 pub returns-in-None : goal.returns-in-None
 returns-in-None c =
-    chain_no c.args.rest.now _ _ c.in-Some.ensures c.in_default-refusal_word.ensures (none_told _ _ _ c.in-None.is c.in_ok-chain.ensures)
+    chain_no c.args.rest.now _ _ c.in-Some.ensures c.in_default-refusal_word.ensures (MatchOption-at_none _ _ c.in-None.is c.in_ok-chain.ensures)
