@@ -15,7 +15,7 @@ ghost use Rattle.md_tree.specs.Trees.{PlainTree};
 ghost use Rattle.md_tree.specs.WellFormed.{IsWellFormed};
 ghost use Rattle.md_checker.specs.FitTests.{IsSingle, AreSingle, name_set, union_all, AreAlike, AreHeads, IsFit, AreFinished, MayPut, IsTested};
 
-use md_graph::{Graph, Memory, Names};
+use md_graph::{Graph, Memory, Names, WORDS};
 use md_modules::{Block, back, closure_in, maximal_modules};
 use md_tree::{Kind, Pair, Tree, nodes_of};
 use std::alloc::Global;
@@ -316,7 +316,7 @@ fn has_trivial_modules_alone(alloc: Global, graph: &Graph, names: &Names) -> Res
 }
 
 // Whether each of the sets has one member.
-fn are_alone(sets: &[Block]) -> bool
+fn are_alone(sets: &[Block<WORDS>]) -> bool
     ensures { IsTrue result ↔ AreSingle sets.now }
 {
     let mut rest = sets;
@@ -329,7 +329,7 @@ fn are_alone(sets: &[Block]) -> bool
     true
 }
 
-fn is_alone(set: &Block) -> bool
+fn is_alone(set: &Block<WORDS>) -> bool
     ensures { IsTrue result ↔ IsSingle set.now }
 {
     match set.alone() {
