@@ -11,7 +11,7 @@ use Rattle.md_tree.proofs.Stacking.{map_one_more, if_ok}
 use Rattle.md_decompose.proofs.decomposition.take_set_apart.Goals as goal
 
 pub returns-in-Some : goal.returns-in-Some
-returns-in-Some c = (
+returns-in-Some g c = (
   name c.in-Some.name,
   [],
   (sym c.in_ok-names.ensures ∙ sym c.deref.ensures ∙ c.in-Some.ensures.one, refl),
@@ -20,7 +20,7 @@ returns-in-Some c = (
 )
 
 pub returns : goal.returns
-returns c =
+returns g c =
     if_ok c.push_open.result (λ _ grown.
     let s = c.args.set.names in
     let e = adjacent c.args.graph.now in
@@ -48,6 +48,6 @@ returns c =
     )) c.push_open.ensures
 
 pub push_open-requires : goal.push_open-requires
-push_open-requires c =
+push_open-requires g c =
     let same : c.deref-2.result.now ≡ c.args.set.names = c.deref-2.ensures ∙ c.in_ok-names.ensures in
     chain_known c.args.set.names c.children.new.chain c.requires.some (subst (λ t. IsChainOf (adjacent c.args.graph.now) t c.children.new.chain) same c.in_ok-kind.ensures.chain)

@@ -8,12 +8,12 @@ use Rattle.md_decompose.proofs.ChainLemmas.{steps_held, steps_within, told_out, 
 use Rattle.md_decompose.proofs.prime.far_from.Goals as goal
 
 pub names-begun-requires-clause-names : goal.names-begun-requires-clause-names
-names-begun-requires-clause-names c x known =
+names-begun-requires-clause-names g c x known =
     let graph = c.vertices-vertices.ensures.graph in
     graph.names x (c.requires.inside x (steps_within (graph_adjacency graph) c.args.set.now c.args.v c.requires.prime c.requires.member c.args.chain.now.taken.items c.args.chain.now.steps.items c.requires.steps x known))
 
 pub loop-j-init : goal.loop-j-init
-loop-j-init c = record {
+loop-j-init g c = record {
   is_held = subst (IsHeld (adjacent c.args.graph.now) c.args.set.now c.args.v c.last_led-last.result) (sym c.names-begun.ensures)
       (steps_held (graph_adjacency c.vertices-vertices.ensures.graph) c.args.set.now c.args.v c.requires.prime c.requires.member c.args.chain.now.taken.items c.args.chain.now.steps.items
       c.last_led-last.result c.requires.steps c.last_led-last.ensures.none c.last_led-last.ensures.some);
@@ -22,28 +22,28 @@ loop-j-init c = record {
 }
 
 pub hold-requires-clause-member : goal.hold-requires-clause-member
-hold-requires-clause-member c = (told_out c.args.set.now c.loop-j.begun c.in-Some.j c.in-Some.ensures.found).0
+hold-requires-clause-member g c = (told_out c.args.set.now c.loop-j.begun c.in-Some.j c.in-Some.ensures.found).0
 
 pub hold-requires-clause-new : goal.hold-requires-clause-new
-hold-requires-clause-new c = subst (λ s. Lacks s c.in-Some.j) (sym c.copy-held.ensures) (told_out c.args.set.now c.loop-j.begun c.in-Some.j c.in-Some.ensures.found).1
+hold-requires-clause-new g c = subst (λ s. Lacks s c.in-Some.j) (sym c.copy-held.ensures) (told_out c.args.set.now c.loop-j.begun c.in-Some.j c.in-Some.ensures.found).1
 
 pub returns-then-is_same-clause-differ : goal.returns-then-is_same-clause-differ
-returns-then-is_same-clause-differ c =
+returns-then-is_same-clause-differ g c =
     (turn_whole (graph_adjacency c.vertices-vertices.ensures.graph) c.args.set.now c.args.v c.requires.prime c.requires.member c.loop-j.begun c.copy-held.result c.hold.new.held c.loop-j.last c.in-Some.j
     c.loop-j.invariant.is_held c.in-Some.ensures.found c.copy-held.ensures c.hold.ensures (c.is_same.ensures.0 c.if-is_same.true)).0
 
 pub returns-then-is_same-clause-whole : goal.returns-then-is_same-clause-whole
-returns-then-is_same-clause-whole c =
+returns-then-is_same-clause-whole g c =
     (turn_whole (graph_adjacency c.vertices-vertices.ensures.graph) c.args.set.now c.args.v c.requires.prime c.requires.member c.loop-j.begun c.copy-held.result c.hold.new.held c.loop-j.last c.in-Some.j
     c.loop-j.invariant.is_held c.in-Some.ensures.found c.copy-held.ensures c.hold.ensures (c.is_same.ensures.0 c.if-is_same.true)).1
 
 pub loop-j-smaller : goal.loop-j-smaller
-loop-j-smaller c =
+loop-j-smaller g c =
     turn_falls (graph_adjacency c.vertices-vertices.ensures.graph) c.args.set.now c.args.v c.requires.prime c.requires.member c.loop-j.begun c.copy-held.result c.hold.new.held c.loop-j.last c.in-Some.j
     c.loop-j.invariant.is_held c.in-Some.ensures.found c.copy-held.ensures c.hold.ensures
 
 pub loop-j-preserved : goal.loop-j-preserved
-loop-j-preserved c =
+loop-j-preserved g c =
     let graph = c.vertices-vertices.ensures.graph in
     let adj = graph_adjacency graph in
     let s = c.args.set.now in
@@ -66,9 +66,9 @@ loop-j-preserved c =
     }
 
 pub returns-clause-differ : goal.returns-clause-differ
-returns-clause-differ c =
+returns-clause-differ g c =
     (search_ends (graph_adjacency c.vertices-vertices.ensures.graph) c.args.set.now c.args.v c.requires.prime c.requires.member c.loop-j.begun c.loop-j.last c.loop-j.invariant.is_held c.in_default.ensures.none).0
 
 pub returns-clause-whole : goal.returns-clause-whole
-returns-clause-whole c =
+returns-clause-whole g c =
     (search_ends (graph_adjacency c.vertices-vertices.ensures.graph) c.args.set.now c.args.v c.requires.prime c.requires.member c.loop-j.begun c.loop-j.last c.loop-j.invariant.is_held c.in_default.ensures.none).1
