@@ -153,7 +153,7 @@ module _ {w : ℕ} (first : NameSet) (cs : List NameSet) (ms : List (Mark w)) (a
         | inl same ↦ inl same
         | inr i ↦ (let m : (m : Mark w) × In ms m × (n ≡ m.class) = of_map ms n i in inr (subst (Contains cs) (sym m.2) (known_of m.0 m.1).known))
       ],
-      λ w. to_contains (first ∷ map class_of ms) n (elim w [
+      λ one. to_contains (first ∷ map class_of ms) n (elim one [
         | inl same ↦ inl same
         | inr has ↦
             let m : (m : Mark w) × Contains ms m × (m.class ≡ n) = are.cover n has in

@@ -88,7 +88,7 @@ fn take_apart<const W: usize>(
     requires inside { Within (open_names next) graph.now.vertices }
     requires below { FitsOpen (adjacent graph.now) next }
     requires chain { HasChain (adjacent graph.now) next }
-    ensures { IfOk result (λ _. IsTurn (adjacent graph.now) (open_names next)
+    ensures { IfOk result (λ _. IsTurn (adjacent graph.now) (open_names next.entry)
         (map plain_part parts.old.items) waiting.old.items
         (map plain_part parts.new.items) waiting.new.items) }
 {
@@ -116,7 +116,7 @@ fn take_set_apart<const W: usize>(
     requires inside { Within set.names graph.now.vertices }
     requires below { FitsBelow (adjacent graph.now) set.names set.parent }
     requires chain { IsChainOf (adjacent graph.now) set.names set.chain }
-    ensures { IfOk result (λ _. IsTurn (adjacent graph.now) set.names
+    ensures { IfOk result (λ _. IsTurn (adjacent graph.now) set.entry.names
         (map plain_part parts.old.items) waiting.old.items
         (map plain_part parts.new.items) waiting.new.items) }
 {
@@ -142,7 +142,7 @@ fn opened<const W: usize>(
     parent: Option<Kind>,
     chain: Chain,
 ) -> Result<Open<W>, Memory>
-    ensures { IfOk result (IsOpenOf names parent chain) }
+    ensures { IfOk result (IsOpenOf names.entry parent chain) }
 {
     if let Some(vertex) = names.alone() {
         return Ok(Open::One(vertex));
@@ -168,7 +168,7 @@ fn push_open<const W: usize>(
         → (step_at chain.now.steps.items k).to ≤ length chain.now.taken.items }
     ensures { IfOk result (λ _. (os : List (Open W))
         × (waiting.new.items ≡ waiting.old.items ++ os)
-        × AreOpen kind sets.items chain.now os) }
+        × AreOpen kind sets.entry.items chain.now os) }
 {
     waiting.reserve(sets.len())?;
     let mut rest = sets.into_iter();

@@ -26,7 +26,7 @@ pub(crate) fn in_order<const W: usize>(
     requires apart { AreApart classes.items }
     requires lowest { (k : ℕ) → k < length classes.items
         → IsBefore first (set_at classes.items k) }
-    ensures { IfOk result (λ sets. ListsInOrder first classes.items sets.items) }
+    ensures { IfOk result (λ sets. ListsInOrder first.entry classes.entry.items sets.items) }
 {
     let marks = marks(alloc, classes)?;
     let mut sets = Vec::with_capacity(alloc, marks.len() + 1)?;
@@ -40,7 +40,7 @@ pub(crate) fn in_order<const W: usize>(
 // One mark of each class, in ascending order of their least names.
 fn marks<const W: usize>(alloc: Global, classes: Vec<Block<W>>) -> Result<Vec<Mark<W>>, Memory>
     requires { AreApart classes.items }
-    ensures { IfOk result (λ marks. AreMarks classes.items marks.items) }
+    ensures { IfOk result (λ marks. AreMarks classes.entry.items marks.items) }
 {
     let mut marks = Vec::with_capacity(alloc, classes.len())?;
     for class in classes {

@@ -12,7 +12,7 @@ returns-in_default-clause-tree g c = if_empty c.args.graph.now.vertices (none_la
 
 pub returns-in_default-clause-denotes : goal.returns-in_default-clause-denotes
 returns-in_default-clause-denotes g c =
-    graph_proof c.args.graph.now c.vertices-vertices.ensures.graph None (returns-in_default-clause-tree c)
+    graph_proof c.args.graph.now c.vertices-vertices.ensures.graph None (returns-in_default-clause-tree g c)
 
 pub returns-clause-well_formed : goal.returns-clause-well_formed
 returns-clause-well_formed g c =

@@ -18,7 +18,7 @@ returns-in_ok-push-in-One g c = (
 
 pub returns-in-Several : goal.returns-in-Several
 returns-in-Several g c =
-    let same : c.into_inner.result.names ≡ open_names c.args.next = ap (λ (x : OpenSet). x.names) c.into_inner.ensures ∙ sym (ap open_names c.in-Several.is) in
+    let same : c.into_inner.result.names ≡ open_names c.args.next = ap (λ (x : OpenSet g.row.W). x.names) c.into_inner.ensures ∙ sym (ap open_names c.in-Several.is) in
     subst
     (λ s. IfOk c.take_set_apart.result (λ _. IsTurn (adjacent c.args.graph.now) s (map plain_part c.args.parts.now.items) c.args.waiting.now.items
     (map plain_part c.take_set_apart.new.parts.items) c.take_set_apart.new.waiting.items)) same c.take_set_apart.ensures

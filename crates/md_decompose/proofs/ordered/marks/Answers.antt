@@ -43,4 +43,4 @@ returns g c =
     in
     marks_sorted c.args.classes.items c.loop-class.marks.items c.sort_unstable_by_key.new.self.items c.requires
     (subst (λ ns. AreMarksOf ns c.loop-class.marks.items) all c.loop-class.invariant.marks) c.sort_unstable_by_key.ensures.permutation
-    (IsNonDecreasingBy-from_sort_by_key (λ (m : Mark). m.least) _ c.sort_unstable_by_key.ensures.sorted (λ a r q k. search rules))
+    (IsNonDecreasingBy-from_sort_by_key (λ (m : Mark g.row.W). m.least) _ c.sort_unstable_by_key.ensures.sorted (λ a r q k. search rules))

@@ -1,16 +1,25 @@
-use Rattle.std.proofs.Common.{subst, sym}
+use Rattle.std.proofs.Common.{subst, sym, rules}
 use Rattle.md_modules.proofs.Turns.{graph_adjacency}
 use Rattle.md_graph.specs.PlainGraph.{adjacent}
 use Rattle.md_graph.specs.declared.TheConstants.{NAMES}
-use Rattle.md_graph.specs.Sets.{Lacks}
+use Rattle.md_graph.specs.Sets.{Has, Lacks}
+use Rattle.md_modules.specs.Modules.{IsModule}
 use Rattle.md_decompose.proofs.ChildLemmas.{IsHeld}
 use Rattle.md_decompose.proofs.ChainLemmas.{steps_held, steps_within, told_out, turn_held, turn_grown, turn_falls, turn_whole, turn_names, search_ends, steps_pushed}
 use Rattle.md_decompose.proofs.prime.far_from.Goals as goal
 
-pub names-begun-requires-clause-names : goal.names-begun-requires-clause-names
-names-begun-requires-clause-names g c x known =
-    let graph = c.vertices-vertices.ensures.graph in
-    graph.names x (c.requires.inside x (steps_within (graph_adjacency graph) c.args.set.now c.args.v c.requires.prime c.requires.member c.args.chain.now.taken.items c.args.chain.now.steps.items c.requires.steps x known))
+pub names-begun-requires : goal.names-begun-requires
+names-begun-requires g c =
+    let vertices = c.vertices-vertices.ensures in (
+      search rules,
+      (
+        vertices.limit,
+        (
+          vertices.below _ (c.requires.inside _ c.requires.member),
+          λ x known. vertices.below x (c.requires.inside x (steps_within (graph_adjacency vertices.graph) c.args.set.now c.args.v c.requires.prime c.requires.member c.args.chain.now.taken.items c.args.chain.now.steps.items c.requires.steps x known)),
+        ),
+      ),
+    )
 
 pub loop-j-init : goal.loop-j-init
 loop-j-init g c = record {
@@ -21,11 +30,22 @@ loop-j-init g c = record {
   steps = c.requires.steps;
 }
 
-pub hold-requires-clause-member : goal.hold-requires-clause-member
-hold-requires-clause-member g c = (told_out c.args.set.now c.loop-j.begun c.in-Some.j c.in-Some.ensures.found).0
-
-pub hold-requires-clause-new : goal.hold-requires-clause-new
-hold-requires-clause-new g c = subst (λ s. Lacks s c.in-Some.j) (sym c.copy-held.ensures) (told_out c.args.set.now c.loop-j.begun c.in-Some.j c.in-Some.ensures.found).1
+pub hold-requires : goal.hold-requires
+hold-requires g c =
+    let held = sym c.copy-held.ensures in
+    let out = told_out c.args.set.now c.loop-j.begun c.in-Some.j c.in-Some.ensures.found in (
+      search rules,
+      (
+        search rules,
+        (
+          c.requires.inside,
+          (
+            subst (IsModule (adjacent c.args.graph.now) c.args.set.now) held c.loop-j.invariant.is_held.is_module,
+            (subst (λ s. Has s c.args.v) held c.loop-j.invariant.is_held.start, (out.0, subst (λ s. Lacks s c.in-Some.j) held out.1)),
+          ),
+        ),
+      ),
+    )
 
 pub returns-then-is_same-clause-differ : goal.returns-then-is_same-clause-differ
 returns-then-is_same-clause-differ g c =

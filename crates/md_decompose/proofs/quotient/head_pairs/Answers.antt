@@ -8,16 +8,23 @@ loop-head-init g c =
     (c.into_iter-head-iterator.ensures.into_iter_gives ∙ c.members-head-items.ensures.list) c.members-head-items.ensures.names c.in_ok-edges.ensures.items
 
 pub remove-requires : goal.remove-requires
-remove-requires g c = (search rules, pairs_name c.args.heads.now c.args.places.now c.loop-head.head-iterator c.loop-head.edges.items c.loop-head.invariant.listing c.in-Some.head _ c.in-Some.ensures.steps)
+remove-requires g c = (search rules, c.members-head-items.ensures.below _ (pairs_head c.args.heads.now c.args.places.now c.loop-head.head-iterator c.loop-head.edges.items c.loop-head.invariant.listing c.in-Some.head _ c.in-Some.ensures.steps))
 
-pub push_near-requires-clause-name : goal.push_near-requires-clause-name
-push_near-requires-clause-name g c = pairs_name c.args.heads.now c.args.places.now c.loop-head.head-iterator c.loop-head.edges.items c.loop-head.invariant.listing c.in-Some.head _ c.in-Some.ensures.steps
-
-pub push_near-requires-clause-own : goal.push_near-requires-clause-own
-push_near-requires-clause-own g c = c.requires.room c.in-Some.head (pairs_head c.args.heads.now c.args.places.now c.loop-head.head-iterator c.loop-head.edges.items c.loop-head.invariant.listing c.in-Some.head _ c.in-Some.ensures.steps)
-
-pub push_near-requires-clause-room : goal.push_near-requires-clause-room
-push_near-requires-clause-room g c v h = c.requires.room v ((later_behind c.args.heads.now c.args.places.now c.loop-head.head-iterator c.loop-head.edges.items c.loop-head.invariant.listing c.loop-head.later c.remove.new.self c.in-Some.head _ c.in-Some.ensures.steps c.loop-head.invariant.is c.remove.ensures v).0 h).0
+pub push_near-requires : goal.push_near-requires
+push_near-requires g c =
+    let own = pairs_head c.args.heads.now c.args.places.now c.loop-head.head-iterator c.loop-head.edges.items c.loop-head.invariant.listing c.in-Some.head _ c.in-Some.ensures.steps in (
+      search rules,
+      (
+        search rules,
+        (
+          c.members-head-items.ensures.below _ own,
+          (
+            c.requires.room c.in-Some.head own,
+            λ v h. c.requires.room v ((later_behind c.args.heads.now c.args.places.now c.loop-head.head-iterator c.loop-head.edges.items c.loop-head.invariant.listing c.loop-head.later c.remove.new.self c.in-Some.head _ c.in-Some.ensures.steps c.loop-head.invariant.is c.remove.ensures v).0 h).0,
+          ),
+        ),
+      ),
+    )
 
 pub loop-head-preserved : goal.loop-head-preserved
 loop-head-preserved g c =
