@@ -30,7 +30,7 @@ use Rattle.md_decompose.specs.Turns.{open_names, IsOpenOf, IsUnder, FitsOpen, Ha
 use Rattle.md_decompose.proofs.ChainLemmas.{steps_none, steps_inside}
 use Rattle.md_decompose.proofs.Joining.{all_names, node_built, weights, weights-append, child_maximal, children_fall}
 
-in_sets : (os : List Open) (o : Open) → In os o → In (sets_of os) (open_names o)
+in_sets : {w : ℕ} (os : List (Open w)) (o : Open w) → In os o → In (sets_of os) (open_names o)
 in_sets [] o i = absurd i
 in_sets (q ∷ os) o (inl same) = inl (ap open_names same)
 in_sets (q ∷ os) o (inr i) = inr (in_sets os o i)
@@ -76,15 +76,15 @@ count_trees (t ∷ ts) = ap (λ n. suc n) (count_trees ts)
 -- ---- the sets of a node's children
 
 -- sets without chains behind the others
-abbrev pub AreBehind : Kind → List Open → List Open → List NameSet → Type 0
-AreBehind k begun now cs = (os : List Open) × (now ≡ begun ++ os) × AreBare k cs os
+abbrev pub AreBehind : {w : ℕ} → Kind → List (Open w) → List (Open w) → List NameSet → Type 0
+AreBehind {w} k begun now cs = (os : List (Open w)) × (now ≡ begun ++ os) × AreBare k cs os
 
-pub behind_none : (k : Kind) (os : List Open) (cs : List NameSet) → cs ≡ [] → AreBehind k os os cs
+pub behind_none : {w : ℕ} (k : Kind) (os : List (Open w)) (cs : List NameSet) → cs ≡ [] → AreBehind k os os cs
 behind_none k os cs none = ([], sym (append-nil os), (sym none, λ o c. absurd (of_contains [] o c)))
 
-pub behind_more : (k : Kind) (begun now now' : List Open) (cs cs' : List NameSet) (c : NameSet) (o : Open) → AreBehind k begun now cs → open_names o ≡ c → IsUnder (Some k) o →
+pub behind_more : {w : ℕ} (k : Kind) (begun now now' : List (Open w)) (cs cs' : List NameSet) (c : NameSet) (o : Open w) → AreBehind k begun now cs → open_names o ≡ c → IsUnder (Some k) o →
     HasNoChain o → now' ≡ now ++ o ∷ [] → cs' ≡ cs ++ c ∷ [] → AreBehind k begun now' cs'
-behind_more k begun now now' cs cs' c o is same_names below bare is_now is_cs = (
+behind_more {w} k begun now now' cs cs' c o is same_names below bare is_now is_cs = (
   is.0 ++ o ∷ [],
   is_now ∙ ap (λ os. os ++ o ∷ []) is.1 ∙ append_assoc begun is.0 (o ∷ []),
   (
@@ -92,7 +92,7 @@ behind_more k begun now now' cs cs' c o is same_names below bare is_now is_cs = 
     λ q known. elim (of_append is.0 (o ∷ []) q (of_contains (is.0 ++ o ∷ []) q known)) [
       | inl i ↦ is.2.1 q (to_contains is.0 q i)
       | inr i ↦ elim i [
-        | inl same ↦ subst (λ (p : Open). IsUnder (Some k) p × HasNoChain p) (sym same) (below, bare)
+        | inl same ↦ subst (λ (p : Open w). IsUnder (Some k) p × HasNoChain p) (sym same) (below, bare)
         | inr none ↦ absurd none
       ]
     ],
@@ -101,31 +101,31 @@ behind_more k begun now now' cs cs' c o is same_names below bare is_now is_cs = 
 
 -- ---- what is opened
 
-pub opened_names : (s : NameSet) (p : Option Kind) (chain : Chain) (o : Open) → IsOpenOf s p chain o → open_names o ≡ s
-opened_names s p chain (One v) is = sym is
-opened_names s p chain (Several b) is = ap (λ (x : OpenSet). x.names) is
+pub opened_names : {w : ℕ} (s : NameSet) (p : Option Kind) (chain : Chain) (o : Open w) → IsOpenOf s p chain o → open_names o ≡ s
+opened_names {w} s p chain (One v) is = sym is
+opened_names {w} s p chain (Several b) is = ap (λ (x : OpenSet w). x.names) is
 
-pub opened_below : (s : NameSet) (p : Option Kind) (chain : Chain) (o : Open) → IsOpenOf s p chain o → IsUnder p o
-opened_below s p chain (One v) is = tt
-opened_below s p chain (Several b) is = ap (λ (x : OpenSet). x.parent) is
+pub opened_below : {w : ℕ} (s : NameSet) (p : Option Kind) (chain : Chain) (o : Open w) → IsOpenOf s p chain o → IsUnder p o
+opened_below {w} s p chain (One v) is = tt
+opened_below {w} s p chain (Several b) is = ap (λ (x : OpenSet w). x.parent) is
 
-pub opened_bare : (s : NameSet) (p : Option Kind) (chain : Chain) (o : Open) → chain.taken.items ≡ [] → chain.steps.items ≡ [] → IsOpenOf s p chain o → HasNoChain o
-opened_bare s p chain (One v) no_names no_steps is = tt
-opened_bare s p chain (Several b) no_names no_steps is = (ap (λ (x : OpenSet). x.chain.taken.items) is ∙ no_names, ap (λ (x : OpenSet). x.chain.steps.items) is ∙ no_steps)
+pub opened_bare : {w : ℕ} (s : NameSet) (p : Option Kind) (chain : Chain) (o : Open w) → chain.taken.items ≡ [] → chain.steps.items ≡ [] → IsOpenOf s p chain o → HasNoChain o
+opened_bare {w} s p chain (One v) no_names no_steps is = tt
+opened_bare {w} s p chain (Several b) no_names no_steps is = (ap (λ (x : OpenSet w). x.chain.taken.items) is ∙ no_names, ap (λ (x : OpenSet w). x.chain.steps.items) is ∙ no_steps)
 
-pub opened_front : (s : NameSet) (p : Option Kind) (chain whole : Chain) (n : ℕ) (o : Open) → IsChainFront whole n chain → IsOpenOf s p chain o → HasFront whole n o
-opened_front s p chain whole n (One v) front is = tt
-opened_front s p chain whole n (Several b) front is = subst (IsChainFront whole n) (sym (ap (λ (x : OpenSet). x.chain) is)) front
+pub opened_front : {w : ℕ} (s : NameSet) (p : Option Kind) (chain whole : Chain) (n : ℕ) (o : Open w) → IsChainFront whole n chain → IsOpenOf s p chain o → HasFront whole n o
+opened_front {w} s p chain whole n (One v) front is = tt
+opened_front {w} s p chain whole n (Several b) front is = subst (IsChainFront whole n) (sym (ap (λ (x : OpenSet w). x.chain) is)) front
 
-pub opened_all : (k : Kind) (c : NameSet) (cs all : List NameSet) (chain : Chain) (begun begun' now : List Open) (o : Open) → all ≡ c ∷ cs → IsFirstOpen k c chain o →
-    begun' ≡ begun ++ o ∷ [] → AreBehind k begun' now cs → (os : List Open) × (now ≡ begun ++ os) × AreOpen k all chain os
+pub opened_all : {w : ℕ} (k : Kind) (c : NameSet) (cs all : List NameSet) (chain : Chain) (begun begun' now : List (Open w)) (o : Open w) → all ≡ c ∷ cs → IsFirstOpen k c chain o →
+    begun' ≡ begun ++ o ∷ [] → AreBehind k begun' now cs → (os : List (Open w)) × (now ≡ begun ++ os) × AreOpen k all chain os
 opened_all k c cs all chain begun begun' now o is_all first is_begun is = (
   o ∷ is.0,
   is.1 ∙ ap (λ os. os ++ is.0) is_begun ∙ append_assoc begun (o ∷ []) is.0,
   subst (λ ss. AreOpen k ss chain (o ∷ is.0)) (sym is_all) (o, is.0, refl, first, is.2),
 )
 
-bare_chain : (e : ℕ → ℕ → Bool) (o : Open) → HasNoChain o → HasChain e o
+bare_chain : {w : ℕ} (e : ℕ → ℕ → Bool) (o : Open w) → HasNoChain o → HasChain e o
 bare_chain e (One v) bare = tt
 bare_chain e (Several b) bare = λ v least. steps_none b.value.names v b.value.chain.taken.items b.value.chain.steps.items bare.0 bare.1
 
@@ -155,7 +155,7 @@ module _ {e : ℕ → ℕ → Bool} where
               absurd (omega arith)
         ]
 
-  first_chain : (s c : NameSet) (cs : List NameSet) (chain : Chain) (o : Open) → AreChildren e s (c ∷ cs) → HasTwo s → IsChainOf e s chain → open_names o ≡ c → HasFront chain (len c) o → HasChain e o
+  first_chain : {w : ℕ} (s c : NameSet) (cs : List NameSet) (chain : Chain) (o : Open w) → AreChildren e s (c ∷ cs) → HasTwo s → IsChainOf e s chain → open_names o ≡ c → HasFront chain (len c) o → HasChain e o
   first_chain s c cs chain (One v) are two chained is front = tt
   first_chain s c cs chain (Several b) are two chained is front = λ v least.
       let in_c : IsLeastFrom c 0 v = subst (λ n. IsLeastFrom n 0 v) is least in
@@ -164,13 +164,13 @@ module _ {e : ℕ → ℕ → Bool} where
       (steps_inside s c v (len c) chain b.value.chain (chained v (least_in_first s c cs are two v in_c)) child.is_strong in_c.member front refl)
 
   -- each child has modules of it
-  pub opened_children : (s : NameSet) (k : Kind) (cs : List NameSet) (chain : Chain) (os : List Open) → AreChildren e s cs → HasTwo s → IsChainOf e s chain → AreOpen k cs chain os →
-      (sets_of os ≡ cs) × ((o : Open) → Contains os o → IsUnder (Some k) o × HasChain e o)
-  opened_children s k [] chain os are two chained is = (ap sets_of is, λ o c. absurd (of_contains [] o (subst (λ ws. Contains ws o) is c)))
-  opened_children s k (c ∷ cs) chain os are two chained is = (
+  pub opened_children : {w : ℕ} (s : NameSet) (k : Kind) (cs : List NameSet) (chain : Chain) (os : List (Open w)) → AreChildren e s cs → HasTwo s → IsChainOf e s chain → AreOpen k cs chain os →
+      (sets_of os ≡ cs) × ((o : Open w) → Contains os o → IsUnder (Some k) o × HasChain e o)
+  opened_children {w} s k [] chain os are two chained is = (ap sets_of is, λ o c. absurd (of_contains [] o (subst (λ ws. Contains ws o) is c)))
+  opened_children {w} s k (c ∷ cs) chain os are two chained is = (
     ap sets_of is.2 ∙ ap (λ n. n ∷ sets_of is.1) is.3.is ∙ ap (λ ss. c ∷ ss) is.4.0,
     λ q known. elim (of_contains (is.0 ∷ is.1) q (subst (λ ws. Contains ws q) is.2 known)) [
-      | inl same ↦ subst (λ (p : Open). IsUnder (Some k) p × HasChain e p) (sym same) (is.3.below, first_chain s c cs chain is.0 are two chained is.3.is is.3.front)
+      | inl same ↦ subst (λ (p : Open w). IsUnder (Some k) p × HasChain e p) (sym same) (is.3.below, first_chain s c cs chain is.0 are two chained is.3.is is.3.front)
       | inr i ↦ (let bare : IsUnder (Some k) q × HasNoChain q = is.4.1 q (to_contains is.1 q i) in (bare.0, bare_chain e q bare.1))
     ],
   )
@@ -183,7 +183,7 @@ module _ {e : ℕ → ℕ → Bool} where
 -- ---- what waits
 
 -- a set that waits: a part of all the names, whose kind fits that of the node above, with modules of it
-pub record IsReady (e : ℕ → ℕ → Bool) (all : NameSet) (o : Open) : Type 0 where
+pub record IsReady {w : ℕ} (e : ℕ → ℕ → Bool) (all : NameSet) (o : Open w) : Type 0 where
   pub some : HasSome (open_names o)
   pub inside : Within (open_names o) all
   pub below : FitsOpen e o
@@ -193,8 +193,8 @@ pub record IsReady (e : ℕ → ℕ → Bool) (all : NameSet) (o : Open) : Type 
 abbrev pub IsBegun : (ℕ → ℕ → Bool) → NameSet → List PlainPart → Type 0
 IsBegun e all ps = (t : PlainTree) × (names t ≡ all) × EachNode (IsBuilt e) t × (ps ≡ parts_of t)
 
-pub record IsOpened (e : ℕ → ℕ → Bool) (all : NameSet) (parts : List PlainPart) (os : List Open) : Type 0 where
-  pub ready : (o : Open) → In os o → IsReady e all o
+pub record IsOpened {w : ℕ} (e : ℕ → ℕ → Bool) (all : NameSet) (parts : List PlainPart) (os : List (Open w)) : Type 0 where
+  pub ready : (o : Open w) → In os o → IsReady e all o
   pub goes_on : (ts : List PlainTree) → map names ts ≡ sets_of os → EachNodeBelow (IsBuilt e) (row ts) → IsBegun e all (parts ++ parts_backward (row ts))
 
 module _ {e : ℕ → ℕ → Bool} (adj : IsAdjacency e) where
@@ -203,7 +203,7 @@ module _ {e : ℕ → ℕ → Bool} (adj : IsAdjacency e) where
   child_fits s c Series kind max = λ inner. child_unsplit adj s c kind.0 true kind.1 max inner.0 inner.1
   child_fits s c Prime kind max = tt
 
-  fits_open : (q : Open) (k : Kind) → IsUnder (Some k) q → FitsBelow e (open_names q) (Some k) → FitsOpen e q
+  fits_open : {w : ℕ} (q : Open w) (k : Kind) → IsUnder (Some k) q → FitsBelow e (open_names q) (Some k) → FitsOpen e q
   fits_open (One v) k below fits = tt
   fits_open (Several b) k below fits = subst (FitsBelow e b.value.names) (sym below) fits
 
@@ -211,11 +211,11 @@ module _ {e : ℕ → ℕ → Bool} (adj : IsAdjacency e) where
     begun_as : {ps qs : List PlainPart} → ps ≡ qs → IsBegun e all ps → IsBegun e all qs
     begun_as same b = (b.0, b.1, b.2, sym same ∙ b.3)
 
-    whole_fits : (o : Open) → IsUnder None o → FitsOpen e o
+    whole_fits : {w : ℕ} (o : Open w) → IsUnder None o → FitsOpen e o
     whole_fits (One v) top = tt
     whole_fits (Several b) top = subst (FitsBelow e b.value.names) (sym top) tt
 
-    whole_ready : (o : Open) → HasSome all → open_names o ≡ all → IsUnder None o → HasNoChain o → IsReady e all o
+    whole_ready : {w : ℕ} (o : Open w) → HasSome all → open_names o ≡ all → IsUnder None o → HasNoChain o → IsReady e all o
     whole_ready o some same top bare = record {
       some = subst HasSome (sym same) some;
       inside = Has-along (open_names o) all same;
@@ -223,7 +223,7 @@ module _ {e : ℕ → ℕ → Bool} (adj : IsAdjacency e) where
       chain = bare_chain e o bare;
     }
 
-    pub opened_begin : (o : Open) (os : List Open) (parts : List PlainPart) → HasSome all → open_names o ≡ all → IsUnder None o → HasNoChain o → os ≡ o ∷ [] → parts ≡ [] → IsOpened e all parts os
+    pub opened_begin : {w : ℕ} (o : Open w) (os : List (Open w)) (parts : List PlainPart) → HasSome all → open_names o ≡ all → IsUnder None o → HasNoChain o → os ≡ o ∷ [] → parts ≡ [] → IsOpened e all parts os
     opened_begin o os parts some same top bare alone none = record {
       ready = λ q i. elim (subst (λ ws. In ws q) alone i) [ inl is ↦ subst (IsReady e all) (sym is) (whole_ready o some same top bare) | inr j ↦ absurd j ];
       goes_on = λ ts sets each.
@@ -235,11 +235,11 @@ module _ {e : ℕ → ℕ → Bool} (adj : IsAdjacency e) where
           );
     }
 
-    module _ (parts : List PlainPart) (os waiting : List Open) (o : Open) (is : IsOpened e all parts os) (popped : os ≡ waiting ++ o ∷ []) where
+    module _ {w : ℕ} (parts : List PlainPart) (os waiting : List (Open w)) (o : Open w) (is : IsOpened e all parts os) (popped : os ≡ waiting ++ o ∷ []) where
       pub next_ready : IsReady e all o
       next_ready = is.ready o (subst (λ ws. In ws o) (sym popped) (in_right waiting (o ∷ []) o (inl refl)))
 
-      part_falls : (p : PlainPart) (added : List Open) → IsPartOf e (open_names o) p added → weights (sets_of added) < 2 * len (open_names o) - 1
+      part_falls : (p : PlainPart) (added : List (Open w)) → IsPartOf e (open_names o) p added → weights (sets_of added) < 2 * len (open_names o) - 1
       part_falls (name v) added part =
           let a : 1 ≤ len (open_names o) = some_len (open_names o) next_ready.some.0 next_ready.some.1 in
           let b : weights (sets_of added) ≡ 0 = ap (λ ws. weights (sets_of ws)) part.1 in
@@ -249,7 +249,7 @@ module _ {e : ℕ → ℕ → Bool} (adj : IsAdjacency e) where
           let b : weights (sets_of added) ≡ weights part.0 = ap weights part.2 in
           omega arith
 
-      part_ready : (p : PlainPart) (added : List Open) → IsPartOf e (open_names o) p added → (q : Open) → In added q → IsReady e all q
+      part_ready : (p : PlainPart) (added : List (Open w)) → IsPartOf e (open_names o) p added → (q : Open w) → In added q → IsReady e all q
       part_ready (name v) added part q i = absurd (subst (λ ws. In ws q) part.1 i)
       part_ready (inner k n ps) added part q i =
           let child : In part.0 (open_names q) = subst (λ ws. In ws (open_names q)) part.2 (in_sets added q i) in
@@ -266,7 +266,7 @@ module _ {e : ℕ → ℕ → Bool} (adj : IsAdjacency e) where
       abbrev HasTreeOver : PlainPart → List PlainTree → Type 0
       HasTreeOver p us = (t : PlainTree) × (names t ≡ (open_names o)) × EachNode (IsBuilt e) t × (parts_of t ≡ p ∷ parts_backward (row us))
 
-      tree_over : (p : PlainPart) (added : List Open) → IsPartOf e (open_names o) p added → (us : List PlainTree) → map names us ≡ sets_of added →
+      tree_over : (p : PlainPart) (added : List (Open w)) → IsPartOf e (open_names o) p added → (us : List PlainTree) → map names us ≡ sets_of added →
           EachNodeBelow (IsBuilt e) (row us) → HasTreeOver p us
       tree_over (name v) added part us sets each =
           (leaf v, sym part.0, tt, ap (λ ts. name v ∷ parts_backward (row ts)) (sym (no_trees us (sets ∙ ap sets_of part.1))))
@@ -279,7 +279,7 @@ module _ {e : ℕ → ℕ → Bool} (adj : IsAdjacency e) where
             ap (λ m. inner k m ps ∷ parts_backward (row us)) (count_trees us ∙ ap (λ cs. length cs) same ∙ sym part.1.number),
           )
 
-      module _ (parts' : List PlainPart) (os' : List Open) where
+      module _ (parts' : List PlainPart) (os' : List (Open w)) where
         pub turn_falls : IsTurn e (open_names o) parts waiting parts' os' → weights (sets_of os') < weights (sets_of os)
         turn_falls turn =
             let a : weights (sets_of os') ≡ weights (sets_of waiting) + weights (sets_of turn.1) =
@@ -289,7 +289,7 @@ module _ {e : ℕ → ℕ → Bool} (adj : IsAdjacency e) where
             let c : weights (sets_of turn.1) < 2 * len (open_names o) - 1 = part_falls turn.0 turn.1 turn.2 in
             omega arith
 
-        module _ (p : PlainPart) (added : List Open) (part : IsPartOf e (open_names o) p added) (later : parts' ≡ parts ++ p ∷ []) (left : os' ≡ waiting ++ added) where
+        module _ (p : PlainPart) (added : List (Open w)) (part : IsPartOf e (open_names o) p added) (later : parts' ≡ parts ++ p ∷ []) (left : os' ≡ waiting ++ added) where
           moved : (ts xs ys : List PlainTree) (t : PlainTree) → ts ≡ xs ++ ys → parts_of t ≡ p ∷ parts_backward (row ys) →
               parts ++ parts_backward (row (xs ++ t ∷ [])) ≡ parts' ++ parts_backward (row ts)
           moved ts xs ys t cut own =
@@ -327,7 +327,7 @@ module _ {e : ℕ → ℕ → Bool} (adj : IsAdjacency e) where
         pub opened_more : IsTurn e (open_names o) parts waiting parts' os' → IsOpened e all parts' os'
         opened_more turn = opened_by turn.0 turn.1 turn.2 turn.3 turn.4
 
-    pub opened_end : (parts : List PlainPart) (os : List Open) → IsOpened e all parts os → os ≡ [] → (t : PlainTree) × IsTreeOf e all t × (parts ≡ parts_of t)
+    pub opened_end : {w : ℕ} (parts : List PlainPart) (os : List (Open w)) → IsOpened e all parts os → os ≡ [] → (t : PlainTree) × IsTreeOf e all t × (parts ≡ parts_of t)
     opened_end parts os is none =
         let b : IsBegun e all (parts ++ []) = is.goes_on [] (sym (ap sets_of none)) tt in
         (b.0, built_tree e all b.0 b.1 b.2, sym (append-nil parts) ∙ b.3)

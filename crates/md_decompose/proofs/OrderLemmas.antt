@@ -35,25 +35,25 @@ some_taken cs done rest c apart is =
 
 -- ---- marks
 
-abbrev pub class_of : Mark → NameSet
+abbrev pub class_of : {w : ℕ} → Mark w → NameSet
 class_of m = m.class
 
-abbrev least_of : Mark → ℕ
+abbrev least_of : {w : ℕ} → Mark w → ℕ
 least_of m = m.least
 
-no_mark : Mark
+no_mark : {w : ℕ} → Mark w
 no_mark = record { least = 0; class = empty }
 
 -- the marks of the sets, in the same order
-pub record AreMarksOf (cs : List NameSet) (ms : List Mark) : Type 0 where
+pub record AreMarksOf {w : ℕ} (cs : List NameSet) (ms : List (Mark w)) : Type 0 where
   pub classes : map class_of ms ≡ cs
   pub least : All (λ m. IsLeastFrom m.class 0 m.least) ms
 
-module _ (cs : List NameSet) (ms sorted : List Mark) (apart : AreApart cs) (is : AreMarksOf cs ms) (moved : IsPermutation ms sorted) where
+module _ {w : ℕ} (cs : List NameSet) (ms sorted : List (Mark w)) (apart : AreApart cs) (is : AreMarksOf cs ms) (moved : IsPermutation ms sorted) where
   size : length ms ≡ length cs
   size = sym (length-map ms class_of) ∙ ap length is.classes
 
-  at_place : (k : ℕ) (d : Mark) → k < length ms → (get_or ms k d).class ≡ set_at cs k
+  at_place : (k : ℕ) (d : Mark w) → k < length ms → (get_or ms k d).class ≡ set_at cs k
   at_place k d l = sym (get_or-map class_of ms k d empty l) ∙ ap (λ ns. get_or ns k empty) is.classes
 
   distinct : IsDistinct eqb (map least_of ms)
@@ -70,7 +70,7 @@ module _ (cs : List NameSet) (ms sorted : List Mark) (apart : AreApart cs) (is :
       (Has-along _ _ (at_place j no_mark in_j) _ (subst (Has (get_or ms j no_mark).class) (sym both) (is.least j no_mark in_j).member)) in
       omega arith))
 
-  pub marks_sorted : IsNonDecreasingBy (λ (m : Mark). m.least) sorted → AreMarks cs sorted
+  pub marks_sorted : IsNonDecreasingBy (λ (m : Mark w). m.least) sorted → AreMarks cs sorted
   marks_sorted rising = record {
     marks = All-permutation (IsMark cs) ms sorted moved (λ k d l. record {
       known = subst (Contains cs) (sym (at_place k d l)) (contains_at cs k (let same : length ms ≡ length cs = size in omega arith));
@@ -94,31 +94,31 @@ module _ (cs : List NameSet) (ms sorted : List Mark) (apart : AreApart cs) (is :
   }
 
 -- one more set, with its mark behind the others
-pub marks_none : (ms : List Mark) → ms ≡ [] → AreMarksOf [] ms
+pub marks_none : {w : ℕ} (ms : List (Mark w)) → ms ≡ [] → AreMarksOf [] ms
 marks_none ms none = subst (AreMarksOf []) (sym none) (record { classes = refl; least = λ k d l. absurd (let b : k < 0 = l in omega arith) })
 
-pub marks_more : (cs : List NameSet) (ms more : List Mark) (m : Mark) → AreMarksOf cs ms → IsLeastFrom m.class 0 m.least → more ≡ ms ++ m ∷ [] →
+pub marks_more : {w : ℕ} (cs : List NameSet) (ms more : List (Mark w)) (m : Mark w) → AreMarksOf cs ms → IsLeastFrom m.class 0 m.least → more ≡ ms ++ m ∷ [] →
     AreMarksOf (cs ++ m.class ∷ []) more
-marks_more cs ms more m are least pushed = subst (AreMarksOf (cs ++ m.class ∷ [])) (sym pushed) (record {
+marks_more {w} cs ms more m are least pushed = subst (AreMarksOf (cs ++ m.class ∷ [])) (sym pushed) (record {
   classes = map-append class_of ms (m ∷ []) ∙ ap (λ ns. ns ++ m.class ∷ []) are.classes;
-  least = All-push (λ (n : Mark). IsLeastFrom n.class 0 n.least) ms m are.least least;
+  least = All-push (λ (n : Mark w). IsLeastFrom n.class 0 n.least) ms m are.least least;
 })
 
 -- ---- sets listed by their marks
 
-in_map : (ms : List Mark) (m : Mark) → In ms m → In (map class_of ms) m.class
+in_map : {w : ℕ} (ms : List (Mark w)) (m : Mark w) → In ms m → In (map class_of ms) m.class
 in_map [] m none = none
 in_map (n ∷ ms) m (inl same) = inl (ap class_of same)
 in_map (n ∷ ms) m (inr i) = inr (in_map ms m i)
 
-of_map : (ms : List Mark) (c : NameSet) → In (map class_of ms) c → (m : Mark) × In ms m × (c ≡ m.class)
-of_map [] c none = absurd none
-of_map (n ∷ ms) c (inl same) = (n, inl refl, same)
-of_map (n ∷ ms) c (inr i) = let r : (m : Mark) × In ms m × (c ≡ m.class) = of_map ms c i in (r.0, inr r.1, r.2)
+of_map : {w : ℕ} (ms : List (Mark w)) (c : NameSet) → In (map class_of ms) c → (m : Mark w) × In ms m × (c ≡ m.class)
+of_map {w} [] c none = absurd none
+of_map {w} (n ∷ ms) c (inl same) = (n, inl refl, same)
+of_map {w} (n ∷ ms) c (inr i) = let r : (m : Mark w) × In ms m × (c ≡ m.class) = of_map ms c i in (r.0, inr r.1, r.2)
 
 -- each mark's set is before those behind it
-module _ (first : NameSet) (cs : List NameSet) (ms : List Mark) (are : AreMarks cs ms) where
-  known_of : (m : Mark) → In ms m → IsMark cs m
+module _ {w : ℕ} (first : NameSet) (cs : List NameSet) (ms : List (Mark w)) (are : AreMarks cs ms) where
+  known_of : (m : Mark w) → In ms m → IsMark cs m
   known_of m i =
       let has : Contains ms m = to_contains ms m i in
       subst (IsMark cs) has.2 (are.marks has.0 m has.1)
@@ -151,12 +151,12 @@ module _ (first : NameSet) (cs : List NameSet) (ms : List Mark) (are : AreMarks 
     exactly = λ n. (
       λ has. elim (of_contains (first ∷ map class_of ms) n has) [
         | inl same ↦ inl same
-        | inr i ↦ (let m : (m : Mark) × In ms m × (n ≡ m.class) = of_map ms n i in inr (subst (Contains cs) (sym m.2) (known_of m.0 m.1).known))
+        | inr i ↦ (let m : (m : Mark w) × In ms m × (n ≡ m.class) = of_map ms n i in inr (subst (Contains cs) (sym m.2) (known_of m.0 m.1).known))
       ],
-      λ w. to_contains (first ∷ map class_of ms) n (elim w [
+      λ one. to_contains (first ∷ map class_of ms) n (elim one [
         | inl same ↦ inl same
         | inr has ↦
-            let m : (m : Mark) × Contains ms m × (m.class ≡ n) = are.cover n has in
+            let m : (m : Mark w) × Contains ms m × (m.class ≡ n) = are.cover n has in
             inr (subst (In (map class_of ms)) m.2 (in_map ms m.0 (of_contains ms m.0 m.1)))
       ]),
     );

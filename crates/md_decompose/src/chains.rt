@@ -1,12 +1,12 @@
 //! The modules of a set that hold its least name, each inside the next, by which a search grew: the
 //! first child of the set has the same least name, and need not grow them again.
-ghost use Rattle.std.specs.Prelude.{◌≡◌, ◌<◌, ◌≤◌, ◌-◌, ◌++◌, ◌∷◌, [], ℕ, Contains, IfOk, length};
+ghost use Rattle.std.specs.Prelude.{◌*◌, ◌≡◌, ◌<◌, ◌≤◌, ◌-◌, ◌++◌, ◌∷◌, [], ℕ, Contains, IfOk, length};
 ghost use Rattle.std.specs.FinSet.{difference, from_list};
 ghost use Rattle.md_graph.specs.NameSet.{ascending};
 ghost use Rattle.md_graph.specs.declared.TheConstants.{NAMES};
 ghost use Rattle.md_decompose.specs.Chains.{with_names, step_at, taken_with, IsChainFront};
 
-use md_graph::{Memory, NAMES, Names};
+use md_graph::{Memory, Set, WORDS};
 use std::alloc::Global;
 
 // A module of the chain: how many names were taken before it and with it, beside the least name,
@@ -37,10 +37,11 @@ impl Chain {
         }
     }
 
-    // The last module of a chain whose least name is `v`.
-    pub(crate) fn names(&self, v: u32) -> Names
-        requires least { v < NAMES }
-        requires names { (x : ℕ) → Contains self.now.taken.items x → x < NAMES }
+    // The last module of a chain whose least name is `v`, in sets of `W` words.
+    pub(crate) fn names<const W: usize>(&self, v: u32) -> Set<W>
+        requires limit { W ≤ WORDS }
+        requires least { v < 64 * W }
+        requires names { (x : ℕ) → Contains self.now.taken.items x → x < 64 * W }
         ensures { result ≡ with_names v self.now.taken.items }
     {
         let mut names = listed(&self.taken);
@@ -61,7 +62,12 @@ impl Chain {
     }
 
     // One more module, which grew from the last one, `begun`, after `led`.
-    pub(crate) fn push(&mut self, begun: &Names, held: &Names, led: u32) -> Result<(), Memory>
+    pub(crate) fn push<const W: usize>(
+        &mut self,
+        begun: &Set<W>,
+        held: &Set<W>,
+        led: u32,
+    ) -> Result<(), Memory>
         ensures taken { IfOk result (λ _. self.new.taken.items
             ≡ self.old.taken.items ++ ascending (difference held.now begun.now)) }
         ensures steps { IfOk result (λ _. self.new.steps.items ≡ self.old.steps.items
@@ -95,11 +101,12 @@ impl Chain {
 }
 
 // The set of the names of a list.
-fn listed(taken: &[u32]) -> Names
-    requires { (x : ℕ) → Contains taken.now x → x < NAMES }
+fn listed<const W: usize>(taken: &[u32]) -> Set<W>
+    requires limit { W ≤ WORDS }
+    requires names { (x : ℕ) → Contains taken.now x → x < 64 * W }
     ensures { result ≡ from_list taken.now }
 {
-    let mut names = Names::none();
+    let mut names = Set::none();
     for name in taken {
         names.insert(*name);
     }
@@ -107,7 +114,7 @@ fn listed(taken: &[u32]) -> Names
 }
 
 // Takes the members of a set, in ascending order.
-fn take_members(taken: &mut Vec<u32>, names: &Names) -> Result<(), Memory>
+fn take_members<const W: usize>(taken: &mut Vec<u32>, names: &Set<W>) -> Result<(), Memory>
     ensures { IfOk result (λ _. taken.new.items ≡ taken.old.items ++ ascending names.now) }
 {
     for name in names.members() {

@@ -12,7 +12,7 @@ ghost use Rattle.md_decompose.specs.Chains.{IsChainOf};
 use crate::chains::Chain;
 use crate::prime::prime_children;
 use crate::quotient::quotient_edges;
-use md_graph::{Graph, Memory, Names};
+use md_graph::{GraphOf, Memory, Set};
 use md_modules::{Block, co_component, component};
 use md_tree::{Kind, QuotientEdges};
 use std::alloc::Global;
@@ -22,14 +22,14 @@ use std::alloc::Global;
 // if there is one: below a parallel node nothing is parallel, and below a series node nothing
 // series. `chain` has modules of the set, and may get more; `places` is room that
 // all nodes use.
-pub(crate) fn children(
+pub(crate) fn children<const W: usize>(
     alloc: Global,
-    graph: &Graph,
-    set: &Names,
+    graph: &GraphOf<W>,
+    set: &Set<W>,
     parent: Option<Kind>,
     chain: &mut Chain,
     places: &mut Vec<u32>,
-) -> Result<(Kind, Vec<Block>, QuotientEdges), Memory>
+) -> Result<(Kind, Vec<Block<W>>, QuotientEdges), Memory>
     requires inside { Within set.now graph.now.vertices }
     requires two { HasTwo set.now }
     requires below { FitsBelow (adjacent graph.now) set.now parent }
@@ -65,13 +65,13 @@ fn no_pairs(alloc: Global) -> QuotientEdges
 // The components of the graph on `set` (`value` is false), or of its complement (`value` is true),
 // where they are two or more; none where there is one, which isn't searched where it is known
 // (`whole`).
-fn components(
+fn components<const W: usize>(
     alloc: Global,
-    graph: &Graph,
-    set: &Names,
+    graph: &GraphOf<W>,
+    set: &Set<W>,
     whole: bool,
     value: bool,
-) -> Result<Option<Vec<Block>>, Memory>
+) -> Result<Option<Vec<Block<W>>>, Memory>
     requires graph { IsGraph graph.now }
     requires inside { Within set.now graph.now.vertices }
     requires some { HasSome set.now }
@@ -95,13 +95,13 @@ fn components(
 }
 
 // The components, of which `first` is the one with the least name.
-fn component_list(
+fn component_list<const W: usize>(
     alloc: Global,
-    graph: &Graph,
-    set: &Names,
-    first: Names,
+    graph: &GraphOf<W>,
+    set: &Set<W>,
+    first: Set<W>,
     value: bool,
-) -> Result<Vec<Block>, Memory>
+) -> Result<Vec<Block<W>>, Memory>
     requires graph { IsGraph graph.now }
     requires inside { Within set.now graph.now.vertices }
     requires split { Splits (adjacent graph.now) set.now value }
@@ -122,12 +122,13 @@ fn component_list(
 
 // The component of `v` in the graph on `within` (`value` is false), or in its complement (`value`
 // is true).
-fn component_at(graph: &Graph, within: &Names, v: u32, value: bool) -> Names
+fn component_at<const W: usize>(graph: &GraphOf<W>, within: &Set<W>, v: u32, value: bool) -> Set<W>
     requires inside { Within within.now graph.now.vertices }
     requires member { Has within.now v }
     ensures { IsComponent (adjacent graph.now) within.now v result value }
 {
-    let mut names = Names::none();
+    let _vertices = graph.vertices();
+    let mut names = Set::none();
     if value {
         co_component(graph, within, v, &mut names);
     } else {

@@ -16,23 +16,23 @@ ghost use Rattle.md_decompose.specs.declared.decomposition.Open.{Open};
 
 use crate::chains::Chain;
 use crate::children::children;
-use md_graph::{Graph, Memory};
+use md_graph::{GraphOf, Memory};
 use md_modules::{Block, only_member};
 use md_tree::{Kind, Part, Tree, build};
 use std::alloc::Global;
 
 // What waits to be taken apart: a vertex alone, or a set of vertices.
 #[derive(Drop)]
-enum Open {
+enum Open<const W: usize> {
     One(u32),
-    Several(Box<OpenSet>),
+    Several(Box<OpenSet<W>>),
 }
 
 // A set of vertices whose tree is to come, the kind of the node above it, and modules of the set
 // that hold its least name.
 #[derive(Drop)]
-struct OpenSet {
-    names: Block,
+struct OpenSet<const W: usize> {
+    names: Block<W>,
     parent: Option<Kind>,
     chain: Chain,
 }
@@ -41,7 +41,7 @@ struct OpenSet {
 /// sets of its nodes are exactly the strong modules, each once, each node has the kind of its leaf
 /// set, children stand in ascending order of their least names, and a prime node lists exactly the
 /// pairs of children between which edges run. Errors: want of memory.
-pub fn decompose(alloc: Global, graph: &Graph) -> Result<Option<Tree>, Memory>
+pub fn decompose<const W: usize>(alloc: Global, graph: &GraphOf<W>) -> Result<Option<Tree>, Memory>
     ensures tree { IfOk result (λ tree.
         IsTree (adjacent graph.now) graph.now.vertices (plain_option tree)) }
     ensures well_formed { IfOk result (λ tree. IsWellFormed (plain_option tree)) }
@@ -57,7 +57,7 @@ pub fn decompose(alloc: Global, graph: &Graph) -> Result<Option<Tree>, Memory>
 
 // The parts of the tree of a graph with a vertex. A prime graph has one more than vertices; room for
 // so many is taken at once.
-fn parts(alloc: Global, graph: &Graph) -> Result<Vec<Part>, Memory>
+fn parts<const W: usize>(alloc: Global, graph: &GraphOf<W>) -> Result<Vec<Part>, Memory>
     requires { HasSome graph.now.vertices }
     ensures { IfOk result (λ parts. (t : PlainTree)
         × IsTreeOf (adjacent graph.now) graph.now.vertices t
@@ -76,19 +76,19 @@ fn parts(alloc: Global, graph: &Graph) -> Result<Vec<Part>, Memory>
 }
 
 // The part of what waited comes behind the parts so far, and its children behind what waits.
-fn take_apart(
+fn take_apart<const W: usize>(
     alloc: Global,
-    graph: &Graph,
-    next: Open,
+    graph: &GraphOf<W>,
+    next: Open<W>,
     parts: &mut Vec<Part>,
-    waiting: &mut Vec<Open>,
+    waiting: &mut Vec<Open<W>>,
     places: &mut Vec<u32>,
 ) -> Result<(), Memory>
     requires some { HasSome (open_names next) }
     requires inside { Within (open_names next) graph.now.vertices }
     requires below { FitsOpen (adjacent graph.now) next }
     requires chain { HasChain (adjacent graph.now) next }
-    ensures { IfOk result (λ _. IsTurn (adjacent graph.now) (open_names next)
+    ensures { IfOk result (λ _. IsTurn (adjacent graph.now) (open_names next.entry)
         (map plain_part parts.old.items) waiting.old.items
         (map plain_part parts.new.items) waiting.new.items) }
 {
@@ -104,19 +104,19 @@ fn take_apart(
 }
 
 // The same of a set.
-fn take_set_apart(
+fn take_set_apart<const W: usize>(
     alloc: Global,
-    graph: &Graph,
-    set: OpenSet,
+    graph: &GraphOf<W>,
+    set: OpenSet<W>,
     parts: &mut Vec<Part>,
-    waiting: &mut Vec<Open>,
+    waiting: &mut Vec<Open<W>>,
     places: &mut Vec<u32>,
 ) -> Result<(), Memory>
     requires some { HasSome set.names }
     requires inside { Within set.names graph.now.vertices }
     requires below { FitsBelow (adjacent graph.now) set.names set.parent }
     requires chain { IsChainOf (adjacent graph.now) set.names set.chain }
-    ensures { IfOk result (λ _. IsTurn (adjacent graph.now) set.names
+    ensures { IfOk result (λ _. IsTurn (adjacent graph.now) set.entry.names
         (map plain_part parts.old.items) waiting.old.items
         (map plain_part parts.new.items) waiting.new.items) }
 {
@@ -136,8 +136,13 @@ fn take_set_apart(
 }
 
 // A set that is to be taken apart, with its chain.
-fn opened(alloc: Global, names: Block, parent: Option<Kind>, chain: Chain) -> Result<Open, Memory>
-    ensures { IfOk result (IsOpenOf names parent chain) }
+fn opened<const W: usize>(
+    alloc: Global,
+    names: Block<W>,
+    parent: Option<Kind>,
+    chain: Chain,
+) -> Result<Open<W>, Memory>
+    ensures { IfOk result (IsOpenOf names.entry parent chain) }
 {
     if let Some(vertex) = names.alone() {
         return Ok(Open::One(vertex));
@@ -152,18 +157,18 @@ fn opened(alloc: Global, names: Block, parent: Option<Kind>, chain: Chain) -> Re
 
 // The children's sets in order, so that the last one is taken apart first. The first one gets the
 // modules of the chain that lie in it.
-fn push_open(
+fn push_open<const W: usize>(
     alloc: Global,
-    waiting: &mut Vec<Open>,
+    waiting: &mut Vec<Open<W>>,
     kind: Kind,
-    sets: Vec<Block>,
+    sets: Vec<Block<W>>,
     chain: &Chain,
 ) -> Result<(), Memory>
     requires { (k : ℕ) → k < length chain.now.steps.items
         → (step_at chain.now.steps.items k).to ≤ length chain.now.taken.items }
-    ensures { IfOk result (λ _. (os : List Open)
+    ensures { IfOk result (λ _. (os : List (Open W))
         × (waiting.new.items ≡ waiting.old.items ++ os)
-        × AreOpen kind sets.items chain.now os) }
+        × AreOpen kind sets.entry.items chain.now os) }
 {
     waiting.reserve(sets.len())?;
     let mut rest = sets.into_iter();

@@ -11,22 +11,22 @@ use std::alloc::Global;
 
 // The least name of a class, and the class.
 #[derive(Drop)]
-struct Mark {
+struct Mark<const W: usize> {
     least: u32,
-    class: Block,
+    class: Block<W>,
 }
 
 // `first` and then the classes, in ascending order of their least names. Condition: no two classes
 // meet, none is empty, and `first` has a name below all of theirs.
-pub(crate) fn in_order(
+pub(crate) fn in_order<const W: usize>(
     alloc: Global,
-    first: Block,
-    classes: Vec<Block>,
-) -> Result<Vec<Block>, Memory>
+    first: Block<W>,
+    classes: Vec<Block<W>>,
+) -> Result<Vec<Block<W>>, Memory>
     requires apart { AreApart classes.items }
     requires lowest { (k : ℕ) → k < length classes.items
         → IsBefore first (set_at classes.items k) }
-    ensures { IfOk result (λ sets. ListsInOrder first classes.items sets.items) }
+    ensures { IfOk result (λ sets. ListsInOrder first.entry classes.entry.items sets.items) }
 {
     let marks = marks(alloc, classes)?;
     let mut sets = Vec::with_capacity(alloc, marks.len() + 1)?;
@@ -38,9 +38,9 @@ pub(crate) fn in_order(
 }
 
 // One mark of each class, in ascending order of their least names.
-fn marks(alloc: Global, classes: Vec<Block>) -> Result<Vec<Mark>, Memory>
+fn marks<const W: usize>(alloc: Global, classes: Vec<Block<W>>) -> Result<Vec<Mark<W>>, Memory>
     requires { AreApart classes.items }
-    ensures { IfOk result (λ marks. AreMarks classes.items marks.items) }
+    ensures { IfOk result (λ marks. AreMarks classes.entry.items marks.items) }
 {
     let mut marks = Vec::with_capacity(alloc, classes.len())?;
     for class in classes {

@@ -10,18 +10,18 @@ ghost use Rattle.md_decompose.specs.Chains.{IsChainOf, AreSteps};
 
 use crate::chains::Chain;
 use crate::ordered::in_order;
-use md_graph::{Graph, Memory, Names};
+use md_graph::{GraphOf, Memory, Set};
 use md_modules::{Block, back, grow, maximal_modules};
 use std::alloc::Global;
 
 // The maximal proper modules of a prime set of vertices, in ascending order of their least names.
 // `chain` has modules of the set, and may get more.
-pub(crate) fn prime_children(
+pub(crate) fn prime_children<const W: usize>(
     alloc: Global,
-    graph: &Graph,
-    set: &Names,
+    graph: &GraphOf<W>,
+    set: &Set<W>,
     chain: &mut Chain,
-) -> Result<Vec<Block>, Memory>
+) -> Result<Vec<Block<W>>, Memory>
     requires inside { Within set.now graph.now.vertices }
     requires prime { IsPrime (adjacent graph.now) set.now }
     requires chain { IsChainOf (adjacent graph.now) set.now chain.old }
@@ -34,7 +34,7 @@ pub(crate) fn prime_children(
         unreachable!();
     };
     let j = far_from(graph, set, v, chain)?;
-    let mut rest = Names::none();
+    let mut rest = Set::none();
     back(graph, set, v, j, &mut rest);
     let classes = maximal_modules(alloc, graph, set, &rest)?;
     let first = Block::of(alloc, &set.minus(&rest))?;
@@ -43,7 +43,12 @@ pub(crate) fn prime_children(
 
 // A member of a prime set that no proper module holds with its member `v`. The search begins with
 // the last module of the chain, and puts those that it grows behind it, but for the whole set.
-fn far_from(graph: &Graph, set: &Names, v: u32, chain: &mut Chain) -> Result<u32, Memory>
+fn far_from<const W: usize>(
+    graph: &GraphOf<W>,
+    set: &Set<W>,
+    v: u32,
+    chain: &mut Chain,
+) -> Result<u32, Memory>
     requires inside { Within set.now graph.now.vertices }
     requires prime { IsPrime (adjacent graph.now) set.now }
     requires member { Has set.now v }
@@ -72,7 +77,7 @@ fn far_from(graph: &Graph, set: &Names, v: u32, chain: &mut Chain) -> Result<u32
 
 // Grows a module that holds `v` to the least one that has `j` too. Condition: `set` is a set of
 // vertices, and `j` a member outside the module.
-fn hold(graph: &Graph, set: &Names, v: u32, j: u32, held: &mut Names)
+fn hold<const W: usize>(graph: &GraphOf<W>, set: &Set<W>, v: u32, j: u32, held: &mut Set<W>)
     requires inside { Within set.now graph.now.vertices }
     requires begun { IsModule (adjacent graph.now) set.now held.old }
     requires fixed { Has held.old v }
@@ -81,7 +86,7 @@ fn hold(graph: &Graph, set: &Names, v: u32, j: u32, held: &mut Names)
     ensures { IsLeastModuleOver (adjacent graph.now) set.now (insert held.old j) held.new }
 {
     let _vertices = graph.vertices();
-    let mut todo = Names::none();
+    let mut todo = Set::none();
     todo.insert(j);
     held.insert(j);
     grow(graph, set, v, held, todo);
@@ -90,6 +95,7 @@ fn hold(graph: &Graph, set: &Names, v: u32, j: u32, held: &mut Names)
 #[cfg(test)]
 mod tests {
     use super::*;
+    use md_graph::Graph;
     use md_modules::{co_connected, connected};
     use std::process::Abort;
     use std::test::Fail;

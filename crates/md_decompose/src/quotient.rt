@@ -1,5 +1,5 @@
 //! The pairs of children that a prime node lists: the edges of its quotient.
-ghost use Rattle.std.specs.Prelude.{◌≡◌, ◌<◌, ◌≤◌, ◌++◌, ◌∷◌, [], ℕ, IfOk, AllPairs, length, map, slice_index};
+ghost use Rattle.std.specs.Prelude.{◌*◌, ◌≡◌, ◌<◌, ◌≤◌, ◌++◌, ◌∷◌, [], ℕ, IfOk, AllPairs, length, map, slice_index};
 ghost use Rattle.std.specs.FinSet.{intersection};
 ghost use Rattle.md_graph.specs.NameSet.{ascending};
 ghost use Rattle.md_graph.specs.PlainGraph.{adjacent, neighbours};
@@ -9,7 +9,7 @@ ghost use Rattle.md_tree.specs.StrongTrees.{IsBefore};
 ghost use Rattle.md_decompose.specs.Children.{AreChildren, ListsPairs, set_at};
 ghost use Rattle.md_decompose.specs.Heads.{AreHeads, RisesOn, pair_at, ListsHeadPairs};
 
-use md_graph::{Graph, Memory, NAMES, Names};
+use md_graph::{GraphOf, Memory, NAMES, Set, WORDS};
 use md_modules::Block;
 use md_tree::{Pair, QuotientEdges};
 use std::alloc::Global;
@@ -17,11 +17,11 @@ use std::alloc::Global;
 // The pairs of children of a prime set between which an edge runs, by their positions. The first
 // names of two children are adjacent exactly where an edge runs between them. `places` is where the
 // positions are kept meanwhile, whatever it has: one for all nodes.
-pub(crate) fn quotient_edges(
+pub(crate) fn quotient_edges<const W: usize>(
     alloc: Global,
-    graph: &Graph,
-    set: &Names,
-    sets: &[Block],
+    graph: &GraphOf<W>,
+    set: &Set<W>,
+    sets: &[Block<W>],
     places: &mut Vec<u32>,
 ) -> Result<QuotientEdges, Memory>
     requires inside { Within set.now graph.now.vertices }
@@ -47,11 +47,11 @@ fn make_room(places: &mut Vec<u32>, size: usize) -> Result<(), Memory>
 }
 
 // The same, with room for a place at each name of the set.
-fn pairs_by_places(
+fn pairs_by_places<const W: usize>(
     alloc: Global,
-    graph: &Graph,
-    set: &Names,
-    sets: &[Block],
+    graph: &GraphOf<W>,
+    set: &Set<W>,
+    sets: &[Block<W>],
     places: &mut [u32],
 ) -> Result<QuotientEdges, Memory>
     requires inside { Within set.now graph.now.vertices }
@@ -67,7 +67,8 @@ fn pairs_by_places(
 }
 
 // The least name of each set, and at its place the position of the set.
-fn heads_of(sets: &[Block], places: &mut [u32]) -> Names
+fn heads_of<const W: usize>(sets: &[Block<W>], places: &mut [u32]) -> Set<W>
+    requires limit { W ≤ WORDS }
     requires room { (k v : ℕ) → k < length sets.now → Has (set_at sets.now k) v
         → v < length places.old }
     requires some { (k : ℕ) → k < length sets.now → HasSome (set_at sets.now k) }
@@ -75,7 +76,7 @@ fn heads_of(sets: &[Block], places: &mut [u32]) -> Names
     ensures heads { AreHeads sets.now (length sets.now) result places.new }
     ensures size { length places.new ≡ length places.old }
 {
-    let mut heads = Names::none();
+    let mut heads = Set::none();
     for (place, set) in sets.iter().enumerate() {
         let Some(head) = set.first() else {
             return heads;
@@ -87,10 +88,10 @@ fn heads_of(sets: &[Block], places: &mut [u32]) -> Names
 }
 
 // The pairs of adjacent heads, by their places. Room is taken for all of them at once.
-fn head_pairs(
+fn head_pairs<const W: usize>(
     alloc: Global,
-    graph: &Graph,
-    heads: &Names,
+    graph: &GraphOf<W>,
+    heads: &Set<W>,
     places: &[u32],
 ) -> Result<Vec<Pair>, Memory>
     requires room { (v : ℕ) → Has heads.now v → v < length places.now }
@@ -109,7 +110,7 @@ fn head_pairs(
 }
 
 // How many pairs of heads are adjacent.
-fn count_pairs(graph: &Graph, heads: &Names) -> usize {
+fn count_pairs<const W: usize>(graph: &GraphOf<W>, heads: &Set<W>) -> usize {
     let mut ends: usize = 0;
     for head in heads.members() {
         ends = ends.wrapping_add(graph.row(head).and(heads).count() as usize);
@@ -118,14 +119,14 @@ fn count_pairs(graph: &Graph, heads: &Names) -> usize {
 }
 
 // The pairs of `head` and each one of `later` that is adjacent to it, by their places.
-fn push_near(
-    graph: &Graph,
-    later: &Names,
+fn push_near<const W: usize>(
+    graph: &GraphOf<W>,
+    later: &Set<W>,
     places: &[u32],
     head: u32,
     edges: &mut Vec<Pair>,
 ) -> Result<(), Memory>
-    requires name { head < NAMES }
+    requires name { head < 64 * W }
     requires own { head < length places.now }
     requires room { (v : ℕ) → Has later.now v → v < length places.now }
     ensures { IfOk result (λ _. edges.new.items ≡ edges.old.items

@@ -6,10 +6,10 @@ use Rattle.std.specs.Cmp.{nat_cmp_total}
 use Rattle.md_decompose.proofs.chains.listed.Goals as goal
 
 pub insert-requires : goal.insert-requires
-insert-requires c = (search rules, c.requires _ (Contains-get_or c.args.taken.now c.loop-name.name-index 0 c.loop-name-test.true))
+insert-requires g c = (search rules, c.requires.names _ (Contains-get_or c.args.taken.now c.loop-name.name-index 0 c.loop-name-test.true))
 
 pub loop-name-preserved : goal.loop-name-preserved
-loop-name-preserved c =
+loop-name-preserved g c =
     let i = c.loop-name.name-index in
     let xs = c.args.taken.now in
     c.insert.ensures ∙ ap (λ s. insert s (get_or xs i 0)) c.loop-name.invariant

@@ -1,19 +1,36 @@
-use Rattle.std.proofs.Common.{refl, sym, ◌∙◌, true≢false}
+use Rattle.std.proofs.Common.{refl, sym, ◌∙◌, true≢false, rules}
 use Rattle.md_decompose.proofs.Components.{rest_test, whole_unsplit, part_splits}
 use Rattle.md_decompose.proofs.children.components.Goals as goal
 
 pub returns-then-is_none : goal.returns-then-is_none
-returns-then-is_none c =
+returns-then-is_none g c =
     whole_unsplit c.requires.graph c.args.set.now c.component_at-first.result _ c.args.value c.in-Some.v c.component_at-first.ensures refl
     ((rest_test c.args.set.now c.component_at-first.result c.first_told_apart.result c.is_none.result c.first_told_apart.ensures.found c.first_told_apart.ensures.none c.is_none.ensures).0 c.if-is_none.true)
 
-pub component_list-requires-clause-split : goal.component_list-requires-clause-split
-component_list-requires-clause-split c =
-    part_splits c.args.set.now c.component_at-first.result _ c.args.value c.in-Some.v c.component_at-first.ensures refl
-    (λ none. true≢false (sym ((rest_test c.args.set.now c.component_at-first.result c.first_told_apart.result c.is_none.result c.first_told_apart.ensures.found c.first_told_apart.ensures.none c.is_none.ensures).1 none) ∙ c.if-is_none.false))
+pub component_list-requires : goal.component_list-requires
+component_list-requires g c = (
+  search rules,
+  (
+    search rules,
+    (
+      search rules,
+      (
+        c.requires.graph,
+        (
+          c.requires.inside,
+          (
+            part_splits c.args.set.now c.component_at-first.result _ c.args.value c.in-Some.v c.component_at-first.ensures refl
+                (λ none. true≢false (sym ((rest_test c.args.set.now c.component_at-first.result c.first_told_apart.result c.is_none.result c.first_told_apart.ensures.found c.first_told_apart.ensures.none c.is_none.ensures).1 none) ∙ c.if-is_none.false)),
+            (c.in-Some.v, c.in-Some.ensures.found, c.component_at-first.ensures),
+          ),
+        ),
+      ),
+    ),
+  ),
+)
 
 pub returns : goal.returns
-returns c = (
+returns g c = (
   part_splits c.args.set.now c.component_at-first.result _ c.args.value c.in-Some.v c.component_at-first.ensures refl
       (λ none. true≢false (sym ((rest_test c.args.set.now c.component_at-first.result c.first_told_apart.result c.is_none.result c.first_told_apart.ensures.found c.first_told_apart.ensures.none c.is_none.ensures).1 none) ∙ c.if-is_none.false)),
   c.in_ok-component_list.ensures,

@@ -1,4 +1,4 @@
-use Rattle.std.proofs.Common.{[], ◌∷◌, ◌++◌, map, None, sym, ◌∙◌, ap}
+use Rattle.std.proofs.Common.{[], ◌∷◌, ◌++◌, map, None, sym, ◌∙◌, ap, rules}
 use Rattle.std.proofs.lemmas.List.{nil_from_length}
 use Rattle.md_graph.specs.PlainGraph.{adjacent}
 use Rattle.md_modules.proofs.Turns.{graph_adjacency}
@@ -7,7 +7,7 @@ use Rattle.md_decompose.proofs.Opened.{opened_names, opened_below, opened_bare, 
 use Rattle.md_decompose.proofs.decomposition.parts.Goals as goal
 
 pub loop-next-init : goal.loop-next-init
-loop-next-init c =
+loop-next-init g c =
     let names = c.in_ok-whole.whole in
     let whole = c.in_ok-opened.field-0 in
     let is = c.in_ok-opened.ensures in
@@ -18,23 +18,23 @@ loop-next-init c =
     (ap (map plain_part) c.in_ok-parts.ensures.items)
 
 pub take_apart-requires : goal.take_apart-requires
-take_apart-requires c =
+take_apart-requires g c =
     let ready : IsReady (adjacent c.args.graph.now) c.args.graph.now.vertices c.in-Some.next =
     next_ready (graph_adjacency c.vertices-vertices.ensures.graph) c.args.graph.now.vertices (map plain_part c.loop-next.parts.items) c.loop-next.waiting.items c.pop.new.self.items c.in-Some.next c.loop-next.invariant
     c.in-Some.ensures.items in
-    record { some = ready.some; inside = ready.inside; below = ready.below; chain = ready.chain }
+    (search rules, (search rules, (ready.some, (ready.inside, (ready.below, ready.chain)))))
 
 pub loop-next-smaller : goal.loop-next-smaller
-loop-next-smaller c =
+loop-next-smaller g c =
     turn_falls (graph_adjacency c.vertices-vertices.ensures.graph) c.args.graph.now.vertices (map plain_part c.loop-next.parts.items) c.loop-next.waiting.items c.pop.new.self.items
     c.in-Some.next c.loop-next.invariant c.in-Some.ensures.items _ c.take_apart.new.waiting.items c.in_ok-take_apart.ensures
 
 pub loop-next-preserved : goal.loop-next-preserved
-loop-next-preserved c =
+loop-next-preserved g c =
     opened_more (graph_adjacency c.vertices-vertices.ensures.graph) c.args.graph.now.vertices _ c.loop-next.waiting.items c.pop.new.self.items
     c.in-Some.next c.loop-next.invariant c.in-Some.ensures.items _ c.take_apart.new.waiting.items c.in_ok-take_apart.ensures
 
 pub returns : goal.returns
-returns c =
+returns g c =
     opened_end (graph_adjacency c.vertices-vertices.ensures.graph) c.args.graph.now.vertices (map plain_part c.loop-next.parts.items) c.loop-next.waiting.items c.loop-next.invariant
     (nil_from_length c.loop-next.waiting.items (sym c.loop-next.waiting.ok.0 ∙ c.in_default.ensures.cases.0))

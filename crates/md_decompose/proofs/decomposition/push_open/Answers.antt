@@ -5,7 +5,7 @@ use Rattle.md_decompose.proofs.Opened.{behind_none, behind_more, opened_all, ope
 use Rattle.md_decompose.proofs.decomposition.push_open.Goals as goal
 
 pub loop-names-init : goal.loop-names-init
-loop-names-init c = record {
+loop-names-init g c = record {
   behind = behind_none c.args.kind c.push_reserved.new.self.items [] refl;
   left = refl;
   room = (
@@ -21,7 +21,7 @@ loop-names-init c = record {
 }
 
 pub loop-names-preserved : goal.loop-names-preserved
-loop-names-preserved c =
+loop-names-preserved g c =
     let steps = c.in-Some-names.ensures.steps in
     let yielded = c.loop-names.yielded in
     let names = c.in-Some-names.names in
@@ -41,7 +41,7 @@ loop-names-preserved c =
     }
 
 pub returns : goal.returns
-returns c =
+returns g c =
     let yielded = c.loop-names.yielded in
     let left = c.loop-names.names-iterator.rest in
     let none : left.items ≡ [] = nil_from_length left.items (sym left.ok.0 ∙ c.in-None.ensures.steps.0) in

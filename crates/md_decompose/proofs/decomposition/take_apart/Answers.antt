@@ -8,7 +8,7 @@ use Rattle.md_decompose.specs.declared.decomposition.OpenSet.{OpenSet}
 use Rattle.md_decompose.proofs.decomposition.take_apart.Goals as goal
 
 pub returns-in_ok-push-in-One : goal.returns-in_ok-push-in-One
-returns-in_ok-push-in-One c = (
+returns-in_ok-push-in-One g c = (
   name c.in-One.name,
   [],
   (ap open_names c.in-One.is, refl),
@@ -17,8 +17,8 @@ returns-in_ok-push-in-One c = (
 )
 
 pub returns-in-Several : goal.returns-in-Several
-returns-in-Several c =
-    let same : c.into_inner.result.names ≡ open_names c.args.next = ap (λ (x : OpenSet). x.names) c.into_inner.ensures ∙ sym (ap open_names c.in-Several.is) in
+returns-in-Several g c =
+    let same : c.into_inner.result.names ≡ open_names c.args.next = ap (λ (x : OpenSet g.row.W). x.names) c.into_inner.ensures ∙ sym (ap open_names c.in-Several.is) in
     subst
     (λ s. IfOk c.take_set_apart.result (λ _. IsTurn (adjacent c.args.graph.now) s (map plain_part c.args.parts.now.items) c.args.waiting.now.items
     (map plain_part c.take_set_apart.new.parts.items) c.take_set_apart.new.waiting.items)) same c.take_set_apart.ensures

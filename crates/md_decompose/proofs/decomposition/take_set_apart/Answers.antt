@@ -1,8 +1,8 @@
-use Rattle.std.proofs.Common.{◌≡◌, [], refl, sym, ◌∙◌, subst, append-nil}
+use Rattle.std.proofs.Common.{◌≡◌, [], refl, sym, ◌∙◌, subst, append-nil, rules}
 use Rattle.md_graph.specs.PlainGraph.{adjacent}
-use Rattle.md_graph.specs.Sets.{HasSome, HasTwo}
+use Rattle.md_graph.specs.Sets.{Within, HasSome, HasTwo}
 use Rattle.md_tree.specs.StrongTrees.{HasKind}
-use Rattle.md_decompose.specs.Children.{AreChildren}
+use Rattle.md_decompose.specs.Children.{AreChildren, FitsBelow}
 use Rattle.md_decompose.specs.Chains.{IsChainOf}
 use Rattle.md_tree.specs.declared.parts.Part.TheVariants.{Leaf, Node}
 use Rattle.md_tree.specs.Parts.{plain_part, name, inner}
@@ -11,7 +11,7 @@ use Rattle.md_tree.proofs.Stacking.{map_one_more, if_ok}
 use Rattle.md_decompose.proofs.decomposition.take_set_apart.Goals as goal
 
 pub returns-in-Some : goal.returns-in-Some
-returns-in-Some c = (
+returns-in-Some g c = (
   name c.in-Some.name,
   [],
   (sym c.in_ok-names.ensures ∙ sym c.deref.ensures ∙ c.in-Some.ensures.one, refl),
@@ -20,7 +20,7 @@ returns-in-Some c = (
 )
 
 pub returns : goal.returns
-returns c =
+returns g c =
     if_ok c.push_open.result (λ _ grown.
     let s = c.args.set.names in
     let e = adjacent c.args.graph.now in
@@ -47,7 +47,38 @@ returns c =
       grown.1,
     )) c.push_open.ensures
 
+pub children-requires : goal.children-requires
+children-requires g c =
+    let s = c.args.set.names in
+    let e = adjacent c.args.graph.now in
+    let first : c.deref.result.now ≡ s = c.deref.ensures ∙ c.in_ok-names.ensures in
+    let second : s ≡ c.deref-2.result.now = sym (c.deref-2.ensures ∙ c.in_ok-names.ensures) in
+    let two : HasTwo s = subst HasTwo first (c.in_default.ensures.more (subst HasSome (sym first) c.requires.some)) in (
+      search rules,
+      (
+        search rules,
+        (
+          search rules,
+          (
+            subst (λ t. Within t c.args.graph.now.vertices) second c.requires.inside,
+            (
+              subst HasTwo second two,
+              (
+                subst (λ t. FitsBelow e t c.args.set.parent) second c.requires.below,
+                subst (λ t. IsChainOf e t c.args.set.chain) second c.requires.chain,
+              ),
+            ),
+          ),
+        ),
+      ),
+    )
+
 pub push_open-requires : goal.push_open-requires
-push_open-requires c =
-    let same : c.deref-2.result.now ≡ c.args.set.names = c.deref-2.ensures ∙ c.in_ok-names.ensures in
-    chain_known c.args.set.names c.children.new.chain c.requires.some (subst (λ t. IsChainOf (adjacent c.args.graph.now) t c.children.new.chain) same c.in_ok-kind.ensures.chain)
+push_open-requires g c =
+    let same : c.deref-2.result.now ≡ c.args.set.names = c.deref-2.ensures ∙ c.in_ok-names.ensures in (
+      search rules,
+      (
+        search rules,
+        chain_known c.args.set.names c.children.new.chain c.requires.some (subst (λ t. IsChainOf (adjacent c.args.graph.now) t c.children.new.chain) same c.in_ok-kind.ensures.chain),
+      ),
+    )

@@ -4,7 +4,7 @@ use Rattle.md_decompose.proofs.OrderLemmas.{class_of, listed}
 use Rattle.md_decompose.proofs.ordered.in_order.Goals as goal
 
 pub returns : goal.returns
-returns c =
+returns g c =
     let yielded = c.loop-mark.yielded in
     let left = c.loop-mark.mark-iterator.rest in
     let none : left.items ≡ [] = nil_from_length left.items (sym left.ok.0 ∙ c.in-None.ensures.steps.0) in

@@ -8,7 +8,7 @@ use Rattle.md_decompose.proofs.OrderLemmas.{AreMarksOf, some_taken, marks_more, 
 use Rattle.md_decompose.proofs.ordered.marks.Goals as goal
 
 pub unreachable-requires : goal.unreachable-requires
-unreachable-requires c =
+unreachable-requires g c =
     let all : c.loop-class.yielded ++ c.in-Some.class ∷ c.next.new.self.rest.items ≡ c.args.classes.items =
     ap (λ ns. c.loop-class.yielded ++ ns) (sym c.in-Some.ensures.steps.0) ∙ c.loop-class.invariant.left ∙ c.into_iter-class-iterator.ensures.into_iter_gives.0
     in
@@ -18,7 +18,7 @@ unreachable-requires c =
     clash some.1 (none_lacks _ c.in_default.ensures.none some.0)
 
 pub loop-class-preserved : goal.loop-class-preserved
-loop-class-preserved c =
+loop-class-preserved g c =
     let steps = c.in-Some.ensures.steps in
     let yielded = c.loop-class.yielded in
     record {
@@ -34,7 +34,7 @@ loop-class-preserved c =
     }
 
 pub returns : goal.returns
-returns c =
+returns g c =
     let left = c.loop-class.class-iterator.rest in
     let none : left.items ≡ [] = nil_from_length left.items (sym left.ok.0 ∙ c.in-None.ensures.steps.0) in
     let all : c.loop-class.yielded ≡ c.args.classes.items =
@@ -43,4 +43,4 @@ returns c =
     in
     marks_sorted c.args.classes.items c.loop-class.marks.items c.sort_unstable_by_key.new.self.items c.requires
     (subst (λ ns. AreMarksOf ns c.loop-class.marks.items) all c.loop-class.invariant.marks) c.sort_unstable_by_key.ensures.permutation
-    (IsNonDecreasingBy-from_sort_by_key (λ (m : Mark). m.least) _ c.sort_unstable_by_key.ensures.sorted (λ a r q k. search rules))
+    (IsNonDecreasingBy-from_sort_by_key (λ (m : Mark g.row.W). m.least) _ c.sort_unstable_by_key.ensures.sorted (λ a r q k. search rules))

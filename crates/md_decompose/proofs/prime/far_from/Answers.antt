@@ -1,19 +1,28 @@
-use Rattle.std.proofs.Common.{subst, sym}
+use Rattle.std.proofs.Common.{subst, sym, rules}
 use Rattle.md_modules.proofs.Turns.{graph_adjacency}
 use Rattle.md_graph.specs.PlainGraph.{adjacent}
 use Rattle.md_graph.specs.declared.TheConstants.{NAMES}
-use Rattle.md_graph.specs.Sets.{Lacks}
+use Rattle.md_graph.specs.Sets.{Has, Lacks}
+use Rattle.md_modules.specs.Modules.{IsModule}
 use Rattle.md_decompose.proofs.ChildLemmas.{IsHeld}
 use Rattle.md_decompose.proofs.ChainLemmas.{steps_held, steps_within, told_out, turn_held, turn_grown, turn_falls, turn_whole, turn_names, search_ends, steps_pushed}
 use Rattle.md_decompose.proofs.prime.far_from.Goals as goal
 
-pub names-begun-requires-clause-names : goal.names-begun-requires-clause-names
-names-begun-requires-clause-names c x known =
-    let graph = c.vertices-vertices.ensures.graph in
-    graph.names x (c.requires.inside x (steps_within (graph_adjacency graph) c.args.set.now c.args.v c.requires.prime c.requires.member c.args.chain.now.taken.items c.args.chain.now.steps.items c.requires.steps x known))
+pub names-begun-requires : goal.names-begun-requires
+names-begun-requires g c =
+    let vertices = c.vertices-vertices.ensures in (
+      search rules,
+      (
+        vertices.limit,
+        (
+          vertices.below _ (c.requires.inside _ c.requires.member),
+          λ x known. vertices.below x (c.requires.inside x (steps_within (graph_adjacency vertices.graph) c.args.set.now c.args.v c.requires.prime c.requires.member c.args.chain.now.taken.items c.args.chain.now.steps.items c.requires.steps x known)),
+        ),
+      ),
+    )
 
 pub loop-j-init : goal.loop-j-init
-loop-j-init c = record {
+loop-j-init g c = record {
   is_held = subst (IsHeld (adjacent c.args.graph.now) c.args.set.now c.args.v c.last_led-last.result) (sym c.names-begun.ensures)
       (steps_held (graph_adjacency c.vertices-vertices.ensures.graph) c.args.set.now c.args.v c.requires.prime c.requires.member c.args.chain.now.taken.items c.args.chain.now.steps.items
       c.last_led-last.result c.requires.steps c.last_led-last.ensures.none c.last_led-last.ensures.some);
@@ -21,29 +30,40 @@ loop-j-init c = record {
   steps = c.requires.steps;
 }
 
-pub hold-requires-clause-member : goal.hold-requires-clause-member
-hold-requires-clause-member c = (told_out c.args.set.now c.loop-j.begun c.in-Some.j c.in-Some.ensures.found).0
-
-pub hold-requires-clause-new : goal.hold-requires-clause-new
-hold-requires-clause-new c = subst (λ s. Lacks s c.in-Some.j) (sym c.copy-held.ensures) (told_out c.args.set.now c.loop-j.begun c.in-Some.j c.in-Some.ensures.found).1
+pub hold-requires : goal.hold-requires
+hold-requires g c =
+    let held = sym c.copy-held.ensures in
+    let out = told_out c.args.set.now c.loop-j.begun c.in-Some.j c.in-Some.ensures.found in (
+      search rules,
+      (
+        search rules,
+        (
+          c.requires.inside,
+          (
+            subst (IsModule (adjacent c.args.graph.now) c.args.set.now) held c.loop-j.invariant.is_held.is_module,
+            (subst (λ s. Has s c.args.v) held c.loop-j.invariant.is_held.start, (out.0, subst (λ s. Lacks s c.in-Some.j) held out.1)),
+          ),
+        ),
+      ),
+    )
 
 pub returns-then-is_same-clause-differ : goal.returns-then-is_same-clause-differ
-returns-then-is_same-clause-differ c =
+returns-then-is_same-clause-differ g c =
     (turn_whole (graph_adjacency c.vertices-vertices.ensures.graph) c.args.set.now c.args.v c.requires.prime c.requires.member c.loop-j.begun c.copy-held.result c.hold.new.held c.loop-j.last c.in-Some.j
     c.loop-j.invariant.is_held c.in-Some.ensures.found c.copy-held.ensures c.hold.ensures (c.is_same.ensures.0 c.if-is_same.true)).0
 
 pub returns-then-is_same-clause-whole : goal.returns-then-is_same-clause-whole
-returns-then-is_same-clause-whole c =
+returns-then-is_same-clause-whole g c =
     (turn_whole (graph_adjacency c.vertices-vertices.ensures.graph) c.args.set.now c.args.v c.requires.prime c.requires.member c.loop-j.begun c.copy-held.result c.hold.new.held c.loop-j.last c.in-Some.j
     c.loop-j.invariant.is_held c.in-Some.ensures.found c.copy-held.ensures c.hold.ensures (c.is_same.ensures.0 c.if-is_same.true)).1
 
 pub loop-j-smaller : goal.loop-j-smaller
-loop-j-smaller c =
+loop-j-smaller g c =
     turn_falls (graph_adjacency c.vertices-vertices.ensures.graph) c.args.set.now c.args.v c.requires.prime c.requires.member c.loop-j.begun c.copy-held.result c.hold.new.held c.loop-j.last c.in-Some.j
     c.loop-j.invariant.is_held c.in-Some.ensures.found c.copy-held.ensures c.hold.ensures
 
 pub loop-j-preserved : goal.loop-j-preserved
-loop-j-preserved c =
+loop-j-preserved g c =
     let graph = c.vertices-vertices.ensures.graph in
     let adj = graph_adjacency graph in
     let s = c.args.set.now in
@@ -66,9 +86,9 @@ loop-j-preserved c =
     }
 
 pub returns-clause-differ : goal.returns-clause-differ
-returns-clause-differ c =
+returns-clause-differ g c =
     (search_ends (graph_adjacency c.vertices-vertices.ensures.graph) c.args.set.now c.args.v c.requires.prime c.requires.member c.loop-j.begun c.loop-j.last c.loop-j.invariant.is_held c.in_default.ensures.none).0
 
 pub returns-clause-whole : goal.returns-clause-whole
-returns-clause-whole c =
+returns-clause-whole g c =
     (search_ends (graph_adjacency c.vertices-vertices.ensures.graph) c.args.set.now c.args.v c.requires.prime c.requires.member c.loop-j.begun c.loop-j.last c.loop-j.invariant.is_held c.in_default.ensures.none).1

@@ -6,11 +6,11 @@ use Rattle.md_decompose.proofs.ChildLemmas.{IsHeld}
 use Rattle.md_decompose.proofs.prime.far_from.Given as goal
 
 abbrev pub invariant-loop-j : goal.invariant-loop-j
-invariant-loop-j l = record {
+invariant-loop-j g l = record {
   is_held : IsHeld (adjacent l.graph) l.set l.v l.last l.begun;
   is_last : l.begun ≡ with_names l.v l.chain.taken.items;
   steps : AreSteps (adjacent l.graph) l.set l.v l.chain.taken.items l.chain.steps.items;
 }
 
 abbrev pub decreases-loop-j : goal.decreases-loop-j
-decreases-loop-j l = len (difference l.set l.begun)
+decreases-loop-j g l = len (difference l.set l.begun)

@@ -1,22 +1,29 @@
-use Rattle.std.proofs.Common.{sym, ◌∙◌, ap}
+use Rattle.std.proofs.Common.{sym, ◌∙◌, ap, rules}
 use Rattle.std.specs.FinSet.{insert}
 use Rattle.md_graph.proofs.SetLemmas.{insert_old, insert_within, Has-along}
 use Rattle.md_modules.proofs.Turns.{graph_adjacency}
 use Rattle.md_decompose.proofs.ChildLemmas.{grow_seen, hold_among}
 use Rattle.md_decompose.proofs.prime.hold.Goals as goal
 
-pub grow-requires-clause-part : goal.grow-requires-clause-part
-grow-requires-clause-part c x h =
-    insert_within c.args.held.now c.args.set.now c.args.j c.requires.begun.inside c.requires.member x (Has-along _ _ c.insert-2.ensures x h)
-
-pub grow-requires-clause-fixed : goal.grow-requires-clause-fixed
-grow-requires-clause-fixed c = Has-along _ _ (sym c.insert-2.ensures) c.args.v (insert_old c.args.held.now c.args.j c.args.v c.requires.fixed)
-
-pub grow-requires-clause-among : goal.grow-requires-clause-among
-grow-requires-clause-among c =
-    hold_among c.args.held.now c.insert-2.new.self c.insert.new.self c.args.j c.insert-2.ensures (c.insert.ensures ∙ ap (λ s. insert s c.args.j) c.none-todo.ensures)
-
-pub grow-requires-clause-seen : goal.grow-requires-clause-seen
-grow-requires-clause-seen c =
-    grow_seen (graph_adjacency c.vertices-vertices.ensures.graph) c.args.set.now c.args.held.now c.insert-2.new.self c.insert.new.self c.args.v c.args.j
-    c.requires.begun c.requires.fixed c.insert-2.ensures (c.insert.ensures ∙ ap (λ s. insert s c.args.j) c.none-todo.ensures)
+pub grow-requires : goal.grow-requires
+grow-requires g c =
+    let todo = c.insert.ensures ∙ ap (λ s. insert s c.args.j) c.none-todo.ensures in (
+      search rules,
+      (
+        search rules,
+        (
+          c.requires.inside,
+          (
+            λ x h. insert_within c.args.held.now c.args.set.now c.args.j c.requires.begun.inside c.requires.member x (Has-along _ _ c.insert-2.ensures x h),
+            (
+              Has-along _ _ (sym c.insert-2.ensures) c.args.v (insert_old c.args.held.now c.args.j c.args.v c.requires.fixed),
+              (
+                hold_among c.args.held.now c.insert-2.new.self c.insert.new.self c.args.j c.insert-2.ensures todo,
+                grow_seen (graph_adjacency c.vertices-vertices.ensures.graph) c.args.set.now c.args.held.now c.insert-2.new.self c.insert.new.self c.args.v c.args.j
+                    c.requires.begun c.requires.fixed c.insert-2.ensures todo,
+              ),
+            ),
+          ),
+        ),
+      ),
+    )

@@ -6,7 +6,7 @@ use Rattle.md_decompose.proofs.ChainLemmas.{chain_of}
 use Rattle.md_decompose.proofs.prime.prime_children.Goals as goal
 
 pub returns-clause-children : goal.returns-clause-children
-returns-clause-children c =
+returns-clause-children g c =
     IfOk-weaker c.in_order.result _ _
     (λ sets listed. children_found (graph_adjacency c.vertices-vertices.ensures.graph) c.args.set.now c.back.new.into c.in_ok-first.first c.in-Some.v c.in_ok-j.j
     c.in_ok-classes.classes.items sets.items c.requires.prime c.in_ok-j.ensures.differ c.in_ok-j.ensures.whole
@@ -14,5 +14,5 @@ returns-clause-children c =
     c.in_order.ensures
 
 pub returns-clause-chain : goal.returns-clause-chain
-returns-clause-chain c =
+returns-clause-chain g c =
     IfOk-weaker c.in_order.result _ _ (λ sets listed. chain_of c.args.set.now c.in-Some.v c.far_from.new.chain c.in-Some.ensures.found c.in_ok-j.ensures.steps) c.in_order.ensures

@@ -10,7 +10,7 @@ use Rattle.md_decompose.specs.Heads.{pair_at}
 use Rattle.md_decompose.proofs.quotient.push_near.Goals as goal
 
 pub loop-other-init : goal.loop-other-init
-loop-other-init c =
+loop-other-init g c =
     let later = c.args.later.now in
     let row = neighbours c.args.graph.now c.args.head in
     let near : c.and-near.result ≡ intersection row later = c.and-near.ensures ∙ ap (λ s. intersection s later) c.row.ensures.set in
@@ -27,12 +27,12 @@ loop-other-init c =
     }
 
 pub bounds-places-other : goal.bounds-places-other
-bounds-places-other c =
+bounds-places-other g c =
     c.requires.room c.in-Some.other
     (of_meet (neighbours c.args.graph.now c.args.head) c.args.later.now c.in-Some.other (Walked-item c.loop-other.invariant.walked c.in-Some.other _ c.in-Some.ensures.steps)).1
 
 pub loop-other-preserved : goal.loop-other-preserved
-loop-other-preserved c =
+loop-other-preserved g c =
     let pair = pair_at c.args.places.now c.args.head c.in-Some.other in
     let rest = map (pair_at c.args.places.now c.args.head) c.next.new.self in
     record {

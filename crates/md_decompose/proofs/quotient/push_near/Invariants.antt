@@ -7,7 +7,7 @@ use Rattle.md_decompose.specs.Heads.{pair_at}
 use Rattle.md_decompose.proofs.quotient.push_near.Given as goal
 
 abbrev pub invariant-loop-other : goal.invariant-loop-other
-invariant-loop-other l = record {
+invariant-loop-other g l = record {
   pushed : l.edges.items ++ map (pair_at l.places l.head) l.other-iterator
       ≡ l.initial.edges.items ++ map (pair_at l.places l.head) (ascending (intersection (neighbours l.graph l.head) l.later));
   walked : Walked (intersection (neighbours l.graph l.head) l.later) l.other-iterator (λ _. Unit {0});
