@@ -1,9 +1,11 @@
 //! Files with the graphs that they spell or their faults, and graphs with their texts. A copy of a
 //! line is in both directions where colouring files have it so; the last file is the Mycielski
 //! graph on 11 vertices.
+ghost use Rattle.std.specs.Prelude.{◌≤◌};
+
 use super::*;
 use DimacsKind::*;
-use md_graph::{Graph, Memory, NAMES};
+use md_graph::{Graph, GraphOf, Memory, NAMES};
 use std::alloc::Global;
 use std::process::Abort;
 use std::test::Fail;
@@ -104,9 +106,14 @@ fn rows(rt: HostRuntime) -> Result<(), Fail> {
     Ok(())
 }
 
-#[test]
-fn places(rt: HostRuntime) -> Result<(), Fail> {
-    let mut graph = Graph::new(rt.alloc())?;
+// The places of the vertices 2, 5 and 9 are written, in a graph of any number of words.
+fn writes_places<const W: usize>(
+    rt: &impl Abort,
+    alloc: Global,
+    graph: &mut GraphOf<W>,
+) -> Result<(), Fail>
+    requires { 1 ≤ W }
+{
     for v in [2, 5, 9] {
         if !graph.has_vertex(v) {
             graph.add_vertex(v);
@@ -115,7 +122,15 @@ fn places(rt: HostRuntime) -> Result<(), Fail> {
     if graph.has_vertex(2) && graph.has_vertex(9) && !graph.has_edge(2, 9) {
         graph.add_edge(2, 9);
     }
-    let text = write(rt.alloc(), &graph)?;
+    let text = write(alloc, graph)?;
     assert_eq!(rt; text.as_slice(), b"p edge 3 1\ne 1 3\n".as_slice());
     Ok(())
+}
+
+#[test]
+fn places(rt: HostRuntime) -> Result<(), Fail> {
+    let mut large = Graph::new(rt.alloc())?;
+    writes_places(&rt, rt.alloc(), &mut large)?;
+    let mut small: GraphOf<1> = GraphOf::new(rt.alloc())?;
+    writes_places(&rt, rt.alloc(), &mut small)
 }

@@ -1,12 +1,12 @@
 //! Writes a DIMACS edge file.
-ghost use Rattle.std.specs.Prelude.{◌≡◌, ℕ, ◌+◌, ◌<◌, ◌≤◌, [], ◌∷◌, ◌++◌, replicate, vec_len, IfOk, OnOk};
+ghost use Rattle.std.specs.Prelude.{◌≡◌, ℕ, ◌+◌, ◌*◌, ◌<◌, ◌≤◌, [], ◌∷◌, ◌++◌, length, replicate, vec_len, IfOk, OnOk};
 ghost use Rattle.md_dimacs.specs.Text.{dimacs_text, problem_line};
 ghost use Rattle.md_text.specs.Pieces.{piece_text};
 ghost use Rattle.md_dimacs.specs.Places.{ArePlaces, line_start, row_text, edges_text};
 
 use crate::blocks::{bits_from, write_block};
 use crate::spelling::start_piece;
-use md_graph::{Graph, Memory, NAMES};
+use md_graph::{GraphOf, Memory, NAMES};
 use md_text::{Chunk, Piece, number_piece, push_number};
 use std::alloc::Global;
 
@@ -17,7 +17,7 @@ use std::alloc::Global;
 /// # Errors
 ///
 /// Want of memory.
-pub fn write(alloc: Global, graph: &Graph) -> Result<Vec<u8>, Memory>
+pub fn write<const W: usize>(alloc: Global, graph: &GraphOf<W>) -> Result<Vec<u8>, Memory>
     ensures { IfOk result (λ text. text.items ≡ dimacs_text graph.now) }
 {
     let places = spell_places(alloc, graph)?;
@@ -27,7 +27,7 @@ pub fn write(alloc: Global, graph: &Graph) -> Result<Vec<u8>, Memory>
 }
 
 // The problem line of the text, with room for the lines of the edges.
-fn begin_text(alloc: Global, graph: &Graph) -> Result<Vec<u8>, Memory>
+fn begin_text<const W: usize>(alloc: Global, graph: &GraphOf<W>) -> Result<Vec<u8>, Memory>
     ensures { IfOk result (λ text. text.items ≡ problem_line graph.now ++ 10 ∷ []) }
 {
     let edges = graph.edge_count();
@@ -41,8 +41,9 @@ fn begin_text(alloc: Global, graph: &Graph) -> Result<Vec<u8>, Memory>
 }
 
 // The place of each vertex, with a line feed, at the index of the vertex.
-fn spell_places(alloc: Global, graph: &Graph) -> Result<Vec<Piece>, Memory>
-    ensures { IfOk result (λ places. ArePlaces graph.now places.items) }
+fn spell_places<const W: usize>(alloc: Global, graph: &GraphOf<W>) -> Result<Vec<Piece>, Memory>
+    ensures places { IfOk result (λ places. ArePlaces graph.now places.items) }
+    ensures room { IfOk result (λ places. length places.items ≤ 64 * W) }
 {
     let vertices = graph.vertices();
     let mut places = Vec::with_capacity(alloc, vertices.count() as usize + 1)?;
@@ -68,8 +69,13 @@ fn fill_up(places: &mut Vec<Piece>, v: usize, piece: Piece) -> Result<(), Memory
 }
 
 // Appends the lines of all edges.
-fn write_edges(graph: &Graph, places: &[Piece], text: &mut Vec<u8>) -> Result<(), Memory>
-    requires { ArePlaces graph.now places.now }
+fn write_edges<const W: usize>(
+    graph: &GraphOf<W>,
+    places: &[Piece],
+    text: &mut Vec<u8>,
+) -> Result<(), Memory>
+    requires places { ArePlaces graph.now places.now }
+    requires room { length places.now ≤ 64 * W }
     ensures { OnOk result (text.new.items ≡ text.old.items ++ edges_text graph.now) }
 {
     let mut chunk = Chunk::new();
@@ -84,8 +90,8 @@ fn write_edges(graph: &Graph, places: &[Piece], text: &mut Vec<u8>) -> Result<()
 
 // Gathers the lines of the edges of v to the vertices above it. A chunk with no room for 64 lines
 // of 16 bytes goes to the text.
-fn write_row(
-    graph: &Graph,
+fn write_row<const W: usize>(
+    graph: &GraphOf<W>,
     v: u32,
     start: Piece,
     places: &[Piece],
@@ -93,6 +99,8 @@ fn write_row(
     text: &mut Vec<u8>,
 ) -> Result<(), Memory>
     requires name { v < NAMES }
+    requires row { v < 64 * W }
+    requires room { length places.now ≤ 64 * W }
     requires start { piece_text start ≡ line_start graph.now v }
     requires places { ArePlaces graph.now places.now }
     ensures { OnOk result (text.new.items ++ chunk.new

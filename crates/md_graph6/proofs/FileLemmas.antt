@@ -10,7 +10,7 @@ use Rattle.md_text.proofs.LineLemmas.{lines-ended, without_return-stays}
 use Rattle.md_text.specs.Spelling.{SpellsOnly, SpellsNone, fault_behind}
 use Rattle.md_graph6.specs.declared.fault.G6Fault.{G6Fault}
 use Rattle.md_graph6.specs.Line.{SpellsLine, line_fault, graph_of_line}
-use Rattle.md_graph6.specs.File.{without_header, file_lines, SpellEach, Spells, fault_after, first_fault, graphs_of_lines, graphs_of}
+use Rattle.md_graph6.specs.File.{without_header, file_lines, SpellEach, Spells, fault_after, HasNoFault, first_fault, graphs_of_lines, graphs_of}
 use Rattle.md_graph6.specs.Written.{renumbered, IsTextOf}
 use Rattle.md_graph6.specs.Laws.{SpellsItsGraphsOrNothing, SpelledAreItsGraphs, GraphsAreGraphs, AllSpell, EndedLinesSpell, EndedLineSpells, TextSpells}
 use Rattle.md_graph6.proofs.SizeLemmas.{is_group-range}
@@ -74,9 +74,11 @@ each_graphs ((byte ∷ line) ∷ more) [] spells = absurd spells
 each_graphs ((byte ∷ line) ∷ more) (g ∷ graphs) spells =
     all_graphs-cons g graphs spells.0.bits.graph (each_graphs more graphs spells.1)
 
+pub sound_graphs : (all : List (List ℕ)) → HasNoFault all → All IsGraph (graphs_of_lines all)
+sound_graphs all sound = each_graphs all (graphs_of_lines all) (sound_each all 0 sound)
+
 pub graphs_are_graphs : GraphsAreGraphs
-graphs_are_graphs = λ bytes sound.
-    each_graphs (file_lines bytes) (graphs_of bytes) (sound_each (file_lines bytes) 0 sound)
+graphs_are_graphs = λ bytes sound. sound_graphs (file_lines bytes) sound
 
 -- lines that are written spell their graphs
 all_spell-each : (all : List (List ℕ)) (graphs : List PlainGraph) → AllSpell all graphs → SpellEach all graphs

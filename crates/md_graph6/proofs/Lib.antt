@@ -5,6 +5,7 @@ pub mod SizeLemmas
 pub mod DecodeLemmas
 pub mod SpellLemmas
 pub mod FileLemmas
+pub mod FirstLemmas
 pub mod BitLemmas
 pub mod PutLemmas
 pub mod FillLemmas

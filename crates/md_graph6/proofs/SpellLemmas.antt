@@ -19,7 +19,7 @@ use Rattle.md_graph6.proofs.DecodeLemmas.{decoded_is_body, IsBodyOf-one}
 use Rattle.md_graph6.proofs.LineLemmas.{IsSoundBody, IsSoundLine, line_fault-sized, line_fault-none, body_fault-none, body_fault-sound}
 
 -- a name's size takes at most four bytes
-name_size : (n : ℕ) → n ≤ NAMES → n ≤ most_in_four_bytes
+pub name_size : (n : ℕ) → n ≤ NAMES → n ≤ most_in_four_bytes
 name_size n few = let fits = NAMES-lt in omega arith
 
 -- a byte of six bits begins no line of another format

@@ -1,10 +1,10 @@
 -- The columns of a body, written one after the other.
-use Rattle.std.proofs.Common.{◌≡◌, ℕ, zero, suc, ◌+◌, ◌-◌, ◌*◌, ◌/◌, ◌%◌, ◌^◌, ◌<◌, ◌≤◌, Bool, true, false, ◌&&◌, ◌==◌, List, ◌++◌, IsTrue, take, drop, length-append, length, replicate, refl, sym, ap, ◌∙◌, subst, arith, bit_or, nat_lt, if◌then◌else◌, inl, inr}
+use Rattle.std.proofs.Common.{◌≡◌, ℕ, zero, suc, ◌+◌, ◌-◌, ◌*◌, ◌/◌, ◌%◌, ◌^◌, ◌<◌, ◌≤◌, Bool, true, false, ◌&&◌, ◌==◌, List, ◌++◌, IsTrue, take, drop, length-append, length, get_or, replicate, refl, sym, ap, ◌∙◌, subst, arith, bit_or, nat_lt, if◌then◌else◌, inl, inr}
 use Rattle.std.specs.Int.{bit_at}
-use Rattle.std.proofs.lemmas.Nat.Bits.{bit_at_above, bit_at_or, bit_at-lt}
+use Rattle.std.proofs.lemmas.Nat.Bits.{bit_at-zero, bit_at_above, bit_at_or, bit_at-lt}
 use Rattle.std.proofs.lemmas.Bool.{cases_Bool, cases_lt, eqb-true, ltb-true, lt-ltb, le-ltb, and_parts}
-use Rattle.std.proofs.lemmas.List.{take-append-drop, get_or_default, length-replicate, length-drop}
-use Rattle.std.proofs.Math.Seq.{take-append_seam}
+use Rattle.std.proofs.lemmas.List.{take-append-drop, get_or_default, get_or-replicate, get_or_past, length-replicate, length-drop}
+use Rattle.std.proofs.Math.Seq.{take-append_seam, drop-append_seam}
 use Rattle.std.specs.List.{AllPass}
 use Rattle.md_graph.specs.declared.TheConstants.{NAMES}
 use Rattle.md_graph.proofs.NameLemmas.{ascending_items, few_below}
@@ -16,7 +16,7 @@ use Rattle.md_graph6.proofs.DecodeLemmas.{contains-numbers_below}
 use Rattle.std.proofs.lemmas.Bool.Decides.{nat_tests}
 use Rattle.std.specs.FinSet as set
 use Rattle.md_graph.specs.Sets.{NameSet}
-use Rattle.md_graph.specs.NameSet.{ascending}
+use Rattle.md_graph.specs.NameSet.{AllBelow, ascending}
 use Rattle.md_graph6.specs.Bits.{bit, pair_number, body_length, IsBodyOf}
 use Rattle.md_graph6.specs.Window.{AreGroups}
 use Rattle.md_graph6.specs.Written.{bit_if, nth, are_adjacent, renumbered, AreFrom, IsWritten}
@@ -126,10 +126,10 @@ written_more old mid new f place j first next bits low k after started fits befo
     ]
 
 -- the 64 names from `least + first` on, seen from the least
-pub seen_from : (s : NameSet) (least first j from bits : ℕ) → from ≡ least + first → least + j < NAMES
-    → ((k : ℕ) → k < 64 → from + k < NAMES → set.contains s (from + k) ≡ (bit_at bits k == 1))
+pub seen_from : (s : NameSet) (least first j from bits limit : ℕ) → from ≡ least + first → least + j < limit
+    → ((k : ℕ) → k < 64 → from + k < limit → set.contains s (from + k) ≡ (bit_at bits k == 1))
     → (k : ℕ) → k < 64 → first + k < j → set.contains s (least + (first + k)) ≡ (bit_at bits k == 1)
-seen_from s least first j from bits is inside block k h below =
+seen_from s least first j from bits limit is inside block k h below =
     let e : from + k ≡ least + (first + k) = omega arith in
     ap (set.contains s) (sym e) ∙ block k h (omega arith)
 
@@ -191,10 +191,12 @@ IsWritten-more {old} {new} {g} {j} f written groups before here is = record {
 row_at : {g : PlainGraph} (row : NameSet) (v u : ℕ) → IsGraph g → row ≡ neighbours g v → set.contains row u ≡ adjacent g u v
 row_at {g} row v u is e = ap (λ s. set.contains s u) e ∙ contains-neighbours is v u ∙ adjacent_sym g v u
 
--- consecutive vertices are names
-pub consecutive_name : (g : PlainGraph) (least n j : ℕ) → n ≡ length (ascending g.vertices) → AreFrom g least n → j < n → least + j < NAMES
-consecutive_name g least n j count consecutive inside =
-    let below = (ascending_items g.vertices 0 NAMES j 0 (omega arith)).below in
+-- consecutive vertices are below what all vertices are
+pub consecutive_name : (g : PlainGraph) (limit least n j : ℕ) → AllBelow g.vertices limit → n ≡ length (ascending g.vertices)
+    → AreFrom g least n → j < n → least + j < limit
+consecutive_name g limit least n j all count consecutive inside =
+    let item = ascending_items g.vertices 0 NAMES j 0 (omega arith) in
+    let below = all _ item.member in
     omega (arith, below, consecutive j inside)
 
 -- where the vertices are consecutive numbers, a row is a column
@@ -283,3 +285,23 @@ pub body_kept : (line items : List ℕ) (size n many : ℕ) → length line ≡ 
     → size ≡ length (size_text n) → length (drop size line) ≡ many
 body_kept line items size n many same blank is =
     omega (arith, length-drop size line, same, ap length blank ∙ length-append (size_text n) (replicate many 63), length-replicate {A = ℕ} many 63, is)
+
+no_bit : (many k : ℕ) → ◌≡◌ {A = ℕ} (get_or (replicate many 63) k 63) 63
+no_bit many k =
+    elim (cases_lt k many) [
+      | inl inside ↦ get_or-replicate many k 63 63 inside
+      | inr past ↦ get_or_past (replicate many 63) k 63 (omega (arith, length-replicate {A = ℕ} many 63, past))
+    ]
+
+-- a line without edges holds the bits of no vertex
+pub blank_written : (line : List ℕ) (g : PlainGraph) (size n many : ℕ) → line ≡ size_text n ++ replicate many 63
+    → size ≡ length (size_text n) → IsWritten (drop size line) g 0
+blank_written line g size n many blank is =
+    rw (blank, is, drop-append_seam (size_text n) (replicate many 63)) (record {
+      groups = record {
+        low = λ k inside. omega (arith, no_bit many k);
+        high = λ k inside. omega (arith, no_bit many k);
+      };
+      bits = λ i j less none. absurd (omega (arith, none));
+      blank = λ k past. ap (λ byte. bit_at (byte - 63) (5 - k % 6)) (no_bit many (k / 6)) ∙ bit_at-zero (5 - k % 6);
+    })

@@ -2,6 +2,7 @@ pub mod Bits
 pub mod Size
 pub mod Line
 pub mod File
+pub mod First
 pub mod Laws
 pub mod Window
 pub mod Filled

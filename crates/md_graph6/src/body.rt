@@ -11,7 +11,7 @@ ghost use Rattle.md_graph6.specs.Window.{AreGroups, IsWindow};
 ghost use Rattle.md_graph6.specs.Filled.{IsBlock, IsFilled};
 ghost use Rattle.md_graph6.specs.Short.{IsUnread, IsWithPair, IsWithColumn, IsFilledTo};
 
-use md_graph::{Graph, NAMES};
+use md_graph::{GraphOf, NAMES};
 
 // Each number below 64 with its six bits turned round.
 const TURNED: [u8; 64] = [
@@ -173,8 +173,9 @@ fn block_bits(body: &[u8], n: u32, low: u32, high: u32) -> [u64; 64]
 }
 
 // Takes in the edges whose larger end is one of the 64 numbers from 64 `h` on.
-fn fill_columns(graph: &mut Graph, n: u32, body: &[u8], h: u32)
+fn fill_columns<const W: usize>(graph: &mut GraphOf<W>, n: u32, body: &[u8], h: u32)
     requires few { n ≤ NAMES }
+    requires room { n ≤ 64 * W }
     requires inside { 64 * h < n }
     requires groups { AreGroups body.now }
     requires before { IsFilled body.now n h 0 graph.old }
@@ -244,7 +245,7 @@ fn behind_column(body: &[u8], unread: Unread, j: u32) -> Unread
 
 // Takes in the edge between i and j if it is wanted.
 #[inline]
-fn add_if(graph: &mut Graph, i: u32, j: u32, wanted: bool)
+fn add_if<const W: usize>(graph: &mut GraphOf<W>, i: u32, j: u32, wanted: bool)
     requires graph { IsGraph graph.old }
     requires up { i < j }
     requires ends { Has graph.old.vertices i × Has graph.old.vertices j }
@@ -258,7 +259,7 @@ fn add_if(graph: &mut Graph, i: u32, j: u32, wanted: bool)
 
 // Takes in an edge between j and each i < j for which bit i is 1.
 #[inline]
-fn add_column(graph: &mut Graph, j: u32, bits: u64)
+fn add_column<const W: usize>(graph: &mut GraphOf<W>, j: u32, bits: u64)
     requires short { j < 58 }
     requires graph { IsGraph graph.old }
     requires ends { (v : ℕ) → v ≤ j → Has graph.old.vertices v }
@@ -271,7 +272,7 @@ fn add_column(graph: &mut Graph, j: u32, bits: u64)
 }
 
 // Takes in the edges of a short line, column by column.
-fn fill_short(graph: &mut Graph, n: u32, body: &[u8])
+fn fill_short<const W: usize>(graph: &mut GraphOf<W>, n: u32, body: &[u8])
     requires short { n ≤ 58 }
     requires groups { AreGroups body.now }
     requires before { IsFilledTo body.now n 0 graph.old }
@@ -290,10 +291,12 @@ fn fill_short(graph: &mut Graph, n: u32, body: &[u8])
 }
 
 // Fills the graph with the numbers below n as vertices and the edges whose bits are 1. Conditions:
-// the graph has no vertices, n is at most the number of names, and each byte is from 63 to 126.
-pub fn fill(graph: &mut Graph, n: u32, body: &[u8])
+// the graph has no vertices and room for n, n is at most the number of names, and each byte is from
+// 63 to 126.
+pub fn fill<const W: usize>(graph: &mut GraphOf<W>, n: u32, body: &[u8])
     requires empty { graph.old ≡ empty_graph }
     requires few { n ≤ NAMES }
+    requires room { n ≤ 64 * W }
     requires groups { AllPass is_group body.now }
     ensures { IsBodyOf body.now n graph.new }
 {

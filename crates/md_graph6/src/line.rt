@@ -1,6 +1,7 @@
 //! One line of a graph6 file: its size, its first fault, and the graph that it spells.
 ghost use Rattle.std.specs.Prelude.{◌≡◌, ◌+◌, ◌*◌, ◌<◌, ◌≤◌, length, IfSome, None};
 ghost use Rattle.std.specs.List.{AllPass, list_all};
+ghost use Rattle.md_graph.specs.NameSet.{AllBelow};
 ghost use Rattle.md_graph.specs.PlainGraph.{empty_graph};
 ghost use Rattle.md_graph6.specs.Bits.{body_length};
 ghost use Rattle.md_graph6.specs.Size.{size_of, eighteen_bits, is_too_long};
@@ -8,10 +9,10 @@ ghost use Rattle.md_graph6.specs.Line.{is_group, pair_count, is_padding_set, beg
 
 use crate::body;
 use crate::fault::G6Kind;
-use md_graph::{Graph, NAMES};
+use md_graph::{GraphOf, NAMES};
 
 // The byte that begins a size of four or of eight bytes.
-const LONG: u8 = 126;
+pub(crate) const LONG: u8 = 126;
 
 // The greatest size that one byte spells.
 pub(crate) const MOST_IN_ONE_BYTE: u32 = 62;
@@ -158,11 +159,12 @@ pub fn line_fault(line: &[u8]) -> Option<G6Kind>
 }
 
 // Fills the graph with the one that a line spells. Conditions: the line isn't empty and has no
-// fault, and the graph has no vertices.
-pub fn fill_line(graph: &mut Graph, line: &[u8])
+// fault, and the graph has no vertices, and room for those of the line.
+pub fn fill_line<const W: usize>(graph: &mut GraphOf<W>, line: &[u8])
     requires empty { graph.old ≡ empty_graph }
     requires some { 0 < length line.now }
     requires sound { line_fault line.now ≡ None }
+    requires room { AllBelow (graph_of_line line.now).vertices (64 * W) }
     ensures { graph.new ≡ graph_of_line line.now }
 {
     let Some((taken, n)) = size(line) else {

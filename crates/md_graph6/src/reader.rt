@@ -1,13 +1,14 @@
 //! The graphs of a file without fault, one after the other.
-ghost use Rattle.std.specs.Prelude.{◌≡◌, ◌<◌, ◌≤◌, [], ◌∷◌, length, None};
+ghost use Rattle.std.specs.Prelude.{◌≡◌, ◌*◌, ◌<◌, ◌≤◌, ◌↔◌, [], ◌∷◌, length, None, IsTrue};
 ghost use Rattle.std.specs.Bool.{OnTrue, OnFalse};
 ghost use Rattle.md_graph.specs.PlainGraph.{empty_graph};
 ghost use Rattle.md_graph6.specs.Line.{line_fault, graph_of_line};
 ghost use Rattle.md_graph6.specs.File.{stripped_lines, graphs_in, HasNoFault, first_fault, graphs_of};
+ghost use Rattle.md_graph6.specs.First.{FirstBelow};
 
 use crate::file::without_header;
-use crate::line::fill_line;
-use md_graph::Graph;
+use crate::line::{LONG, fill_line};
+use md_graph::{Graph, GraphOf};
 use md_text::{split_line, without_return};
 use std::marker::Model;
 
@@ -53,6 +54,40 @@ impl<'a> Lines<'a> {
         ensures none_left { OnFalse result (self.new ≡ []) }
         ensures stays { OnFalse result (graph.new ≡ empty_graph) }
     {
+        let _rest = &self.rest;
+        self.take_first(graph)
+    }
+
+    /// Whether the next graph, if there is one, has no vertex from 62 on: one byte then spells the
+    /// size of its line.
+    pub fn is_next_small(&self) -> bool
+        ensures { IsTrue result ↔ FirstBelow 62 self.now }
+    {
+        is_first_small(self.rest)
+    }
+
+    /// As `next`, into a graph of one word. Conditions: the graph has no vertices, and the next
+    /// graph is small, which `is_next_small` tests.
+    pub fn next_small(&mut self, graph: &mut GraphOf<1>) -> bool
+        requires empty { graph.old ≡ empty_graph }
+        requires small { FirstBelow 62 self.old }
+        ensures first { OnTrue result (self.old ≡ graph.new ∷ self.new) }
+        ensures none { OnFalse result (self.old ≡ []) }
+        ensures none_left { OnFalse result (self.new ≡ []) }
+        ensures stays { OnFalse result (graph.new ≡ empty_graph) }
+    {
+        self.take_first(graph)
+    }
+
+    // As `next`, into a graph with room for the next one.
+    fn take_first<const W: usize>(&mut self, graph: &mut GraphOf<W>) -> bool
+        requires empty { graph.old ≡ empty_graph }
+        requires room { FirstBelow (64 * W) self.old }
+        ensures first { OnTrue result (self.old ≡ graph.new ∷ self.new) }
+        ensures none { OnFalse result (self.old ≡ []) }
+        ensures none_left { OnFalse result (self.new ≡ []) }
+        ensures stays { OnFalse result (graph.new ≡ empty_graph) }
+    {
         let (line, rest) = next_line(self.rest);
         self.rest = rest;
         if line.is_empty() {
@@ -61,6 +96,20 @@ impl<'a> Lines<'a> {
         fill_line(graph, line);
         true
     }
+}
+
+// Whether the first line that isn't empty, if there is one, has its size in one byte. The lines
+// before it have no bytes but those that end them.
+fn is_first_small(text: &[u8]) -> bool
+    requires { HasNoFault (stripped_lines text.now) }
+    ensures { IsTrue result ↔ FirstBelow 62 (graphs_in text.now) }
+{
+    for byte in text {
+        if *byte != b'\n' && *byte != b'\r' {
+            return *byte != LONG;
+        }
+    }
+    true
 }
 
 // The first line that isn't empty, and what stands behind it; an empty one where there is none.

@@ -3,7 +3,7 @@ ghost use Rattle.std.specs.Prelude.{◌≡◌};
 ghost use Rattle.md_graph.specs.PlainGraph.{empty_graph};
 
 use crate::{G6Fault, G6Kind, Lines, scan};
-use md_graph::Graph;
+use md_graph::{Graph, GraphOf};
 use std::process::Abort;
 use std::test::Fail;
 
@@ -68,6 +68,21 @@ fn files_spell(rt: HostRuntime) -> Result<(), Fail> {
             (3, &[(0, 1), (1, 2)]),
         ],
     );
+    Ok(())
+}
+
+#[test]
+fn empty_lines_are_passed_over(rt: HostRuntime) -> Result<(), Fail> {
+    let bytes = b"\r\n\nA_\n\r";
+    let Ok(_) = scan(bytes) else {
+        panic!(&rt; "a fault");
+    };
+    let mut graph: GraphOf<1> = GraphOf::new(rt.alloc())?;
+    let mut lines = Lines::new(bytes);
+    assert!(&rt; lines.is_next_small());
+    assert!(&rt; lines.next_small(&mut graph));
+    assert!(&rt; graph.has_edge(0, 1));
+    assert!(&rt; lines.is_next_small());
     Ok(())
 }
 

@@ -14,7 +14,7 @@ ghost use Rattle.md_graph6.specs.Text.{graph6_text};
 
 use crate::body::{bits_of, column_place, low_bits, turned};
 use crate::line::{MOST_IN_ONE_BYTE, body_length};
-use md_graph::{Graph, Memory, NAMES, Names};
+use md_graph::{GraphOf, Memory, NAMES, Set, WORDS};
 use std::alloc::Global;
 
 // A column of a line of at most so many vertices fits in a word behind the bits of a byte.
@@ -131,9 +131,10 @@ pub(crate) fn put_bits(body: &mut [u8], place: usize, bits: u64)
 
 // Which of the 64 names from `from` on are members: bit k says it of the name `from + k`.
 #[inline]
-fn block_from(names: &Names, from: u32) -> u64
-    requires { from < NAMES }
-    ensures { (k : ℕ) → k < 64 → from + k < NAMES
+fn block_from<const W: usize>(names: &Set<W>, from: u32) -> u64
+    requires limit { W ≤ WORDS }
+    requires name { from < 64 * W }
+    ensures { (k : ℕ) → k < 64 → from + k < 64 * W
         → set.contains names.now (from + k) ≡ (bit_at result k == 1) }
 {
     let shift = from % 64;
@@ -142,7 +143,7 @@ fn block_from(names: &Names, from: u32) -> u64
     }
     let first = from - shift;
     let low = names.block(first) >> shift;
-    if NAMES <= first + 64 {
+    if 64 * W as u32 <= first + 64 {
         return low;
     }
     low | names.block(first + 64) << (64 - shift)
@@ -151,8 +152,9 @@ fn block_from(names: &Names, from: u32) -> u64
 // Puts column j behind the columns before it: bit i, for i < j, says whether the name `least + i`
 // is a member.
 #[inline(always)]
-fn put_column(body: &mut [u8], j: u32, column: &Names, least: u32)
-    requires names { least + j < NAMES }
+fn put_column<const W: usize>(body: &mut [u8], j: u32, column: &Set<W>, least: u32)
+    requires limit { W ≤ WORDS }
+    requires names { least + j < 64 * W }
     requires groups { AreGroups body.old }
     requires room { pair_number j j ≤ 6 * length body.old }
     requires blank { (k : ℕ) → pair_number 0 j ≤ k → bit body.old k ≡ 0 }
@@ -183,9 +185,10 @@ struct Unput {
 
 // The unput bits, and those of column j behind them.
 #[inline]
-fn with_column(unput: Unput, j: u32, column: &Names, least: u32) -> Unput
+fn with_column<const W: usize>(unput: Unput, j: u32, column: &Set<W>, least: u32) -> Unput
     requires short { j < 58 }
-    requires names { least + j < NAMES }
+    requires limit { W ≤ WORDS }
+    requires names { least + j < 64 * W }
     requires few { unput.held < 6 }
     requires above { (k : ℕ) → unput.held ≤ k → bit_at unput.bits k ≡ 0 }
     ensures before { (k : ℕ) → k < unput.held → bit_at result.bits k ≡ bit_at unput.bits k }
@@ -239,14 +242,14 @@ fn put_rest(body: &mut [u8], unput: Unput)
 }
 
 // The least vertex, or 0 where there is none.
-fn least_vertex(graph: &Graph) -> u32
+fn least_vertex<const W: usize>(graph: &GraphOf<W>) -> u32
     ensures { result ≤ NAMES }
 {
     graph.vertices().first_from(0).unwrap_or(0)
 }
 
 // The number of vertices, and the least of them if they are consecutive numbers.
-fn shape(graph: &Graph) -> (u32, Option<u32>)
+fn shape<const W: usize>(graph: &GraphOf<W>) -> (u32, Option<u32>)
     ensures count { result.0 ≡ length (ascending graph.now.vertices) }
     ensures few { result.0 ≤ NAMES }
     ensures consecutive { IfSome result.1 (λ least. AreFrom graph.now least result.0) }
@@ -262,8 +265,8 @@ fn shape(graph: &Graph) -> (u32, Option<u32>)
 }
 
 // Takes i in if it is wanted.
-fn insert_if(column: &mut Names, i: u32, wanted: bool)
-    requires { i < NAMES }
+fn insert_if<const W: usize>(column: &mut Set<W>, i: u32, wanted: bool)
+    requires { i < 64 * W }
     ensures { (k : ℕ)
         → set.contains column.new k ≡ (((k == i) && wanted) || set.contains column.old k) }
 {
@@ -273,7 +276,7 @@ fn insert_if(column: &mut Names, i: u32, wanted: bool)
 }
 
 // Makes `column` the set of the numbers i < j for which the i-th vertex is in the row.
-fn gather(graph: &Graph, row: &Names, j: u32, column: &mut Names)
+fn gather<const W: usize>(graph: &GraphOf<W>, row: &Set<W>, j: u32, column: &mut Set<W>)
     requires { j ≤ length (ascending graph.now.vertices) }
     ensures { (i : ℕ)
         → set.contains column.new i ≡ (nat_lt i j && set.contains row.now (nth graph.now i)) }
@@ -291,20 +294,21 @@ fn gather(graph: &Graph, row: &Names, j: u32, column: &mut Names)
 
 // Puts the bits of a graph whose vertices are the n numbers from `least` on.
 #[inline(always)]
-fn put_consecutive(body: &mut [u8], graph: &Graph, n: u32, least: u32)
+fn put_consecutive<const W: usize>(body: &mut [u8], graph: &GraphOf<W>, n: u32, least: u32)
     requires count { n ≡ length (ascending graph.now.vertices) }
     requires consecutive { AreFrom graph.now least n }
     requires blank { IsWritten body.old graph.now 0 }
     requires room { pair_number 0 n ≤ 6 * length body.old }
     ensures { IsWritten body.new graph.now n }
 {
+    let _vertices = graph.vertices();
     for j in 0..n {
         put_column(body, j, graph.row(least + j), least);
     }
 }
 
 // Puts the bits of a graph whose vertices are the n numbers from `least` on, n being at most 58.
-fn put_few_columns(body: &mut [u8], graph: &Graph, n: u32, least: u32)
+fn put_few_columns<const W: usize>(body: &mut [u8], graph: &GraphOf<W>, n: u32, least: u32)
     requires short { n ≤ 58 }
     requires count { n ≡ length (ascending graph.now.vertices) }
     requires consecutive { AreFrom graph.now least n }
@@ -312,6 +316,7 @@ fn put_few_columns(body: &mut [u8], graph: &Graph, n: u32, least: u32)
     requires room { pair_number 0 n ≤ 6 * length body.old }
     ensures { IsWritten body.new graph.now n }
 {
+    let _vertices = graph.vertices();
     let mut unput = Unput {
         bits: 0,
         held: 0,
@@ -325,14 +330,15 @@ fn put_few_columns(body: &mut [u8], graph: &Graph, n: u32, least: u32)
 }
 
 // Puts the bits of any graph, the i-th vertex taken as i.
-fn put_any(body: &mut [u8], graph: &Graph)
+fn put_any<const W: usize>(body: &mut [u8], graph: &GraphOf<W>)
     requires blank { IsWritten body.old graph.now 0 }
     requires room { pair_number 0 (length (ascending graph.now.vertices)) ≤ 6 * length body.old }
     ensures { IsWritten body.new graph.now (length (ascending graph.now.vertices)) }
 {
-    let mut column = Names::none();
+    let vertices = graph.vertices();
+    let mut column = Set::none();
     let mut j = 0;
-    for v in graph.vertices().members() {
+    for v in vertices.members() {
         gather(graph, graph.row(v), j, &mut column);
         put_column(body, j, &column, 0);
         j += 1;
@@ -341,7 +347,7 @@ fn put_any(body: &mut [u8], graph: &Graph)
 
 // Puts the bits of a graph of n vertices; `least` is the least of them if they are consecutive. The
 // loop over long lines is compiled for 0 by itself, since no word is shifted there.
-fn put_body(body: &mut [u8], graph: &Graph, n: u32, least: Option<u32>)
+fn put_body<const W: usize>(body: &mut [u8], graph: &GraphOf<W>, n: u32, least: Option<u32>)
     requires count { n ≡ length (ascending graph.now.vertices) }
     requires consecutive { IfSome least (λ least. AreFrom graph.now least n) }
     requires blank { IsWritten body.old graph.now 0 }
@@ -358,7 +364,13 @@ fn put_body(body: &mut [u8], graph: &Graph, n: u32, least: Option<u32>)
 
 // Puts the bits of a graph of n vertices behind the size of a line; `least` is the least of them if
 // they are consecutive.
-fn put_behind(line: &mut [u8], size: usize, graph: &Graph, n: u32, least: Option<u32>)
+fn put_behind<const W: usize>(
+    line: &mut [u8],
+    size: usize,
+    graph: &GraphOf<W>,
+    n: u32,
+    least: Option<u32>,
+)
     requires count { n ≡ length (ascending graph.now.vertices) }
     requires consecutive { IfSome least (λ least. AreFrom graph.now least n) }
     requires inside { size ≤ length line.old }
@@ -413,7 +425,7 @@ fn blank_line(alloc: Global, n: u32, size: usize) -> Result<Vec<u8>, Memory>
 /// ascending order, counted from 0, is i. As a file the text has no fault, and spells the graph so
 /// renumbered and no other. Error: want of memory. Source: B. McKay, "Description of graph6,
 /// sparse6 and digraph6 encodings".
-pub fn write(alloc: Global, graph: &Graph) -> Result<Vec<u8>, Memory>
+pub fn write<const W: usize>(alloc: Global, graph: &GraphOf<W>) -> Result<Vec<u8>, Memory>
     ensures bytes { IfOk result (λ text. text.items ≡ graph6_text graph.now) }
     ensures text { IfOk result (λ text. IsTextOf text.items graph.now) }
     ensures spells { IfOk result (λ text.

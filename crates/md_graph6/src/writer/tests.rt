@@ -4,7 +4,7 @@ ghost use Rattle.md_graph.specs.PlainGraph.{empty_graph};
 ghost use Rattle.md_graph6.specs.File.{first_fault};
 
 use crate::{Lines, scan, write};
-use md_graph::{Graph, NAMES};
+use md_graph::{Graph, GraphOf, NAMES};
 use std::alloc::Global;
 use std::process::Abort;
 use std::test::Fail;
@@ -121,7 +121,7 @@ fn take_joined(graph: &mut Graph, j: u32) {
 }
 
 // The graph has the edges of the rule between its first n vertices.
-fn has_edges(rt: &impl Abort, graph: &Graph, n: u32) {
+fn has_edges<const W: usize>(rt: &impl Abort, graph: &GraphOf<W>, n: u32) {
     assert_eq!(rt; graph.count(), n);
     for j in 0..n {
         for i in 0..j {
@@ -174,7 +174,24 @@ fn file_of(alloc: Global, sizes: &[u32]) -> Result<Vec<u8>, Fail> {
     Ok(file)
 }
 
-// The next graph is that of the rule on n vertices; its line is put behind the text.
+// The graph is that of the rule on n vertices; its line is put behind the text.
+fn copy<const W: usize>(
+    rt: &impl Abort,
+    alloc: Global,
+    graph: &mut GraphOf<W>,
+    n: u32,
+    text: &mut Vec<u8>,
+) -> Result<(), Fail>
+    ensures { graph.new ≡ empty_graph }
+{
+    has_edges(rt, graph, n);
+    let line = write(alloc, graph);
+    graph.clear();
+    text.extend_from_slice(line?.as_slice())?;
+    Ok(())
+}
+
+// So is the next graph of the file.
 fn copies(
     rt: &impl Abort,
     alloc: Global,
@@ -187,11 +204,31 @@ fn copies(
     ensures { graph.new ≡ empty_graph }
 {
     assert!(rt; lines.next(graph));
-    has_edges(rt, graph, n);
-    let line = write(alloc, graph);
-    graph.clear();
-    text.extend_from_slice(line?.as_slice())?;
-    Ok(())
+    copy(rt, alloc, graph, n, text)
+}
+
+// The same, by a graph of one word where the next graph is small.
+fn copies_by_size(
+    rt: &impl Abort,
+    alloc: Global,
+    lines: &mut Lines,
+    small: &mut GraphOf<1>,
+    large: &mut Graph,
+    n: u32,
+    text: &mut Vec<u8>,
+) -> Result<(), Fail>
+    requires small { small.old ≡ empty_graph }
+    requires large { large.old ≡ empty_graph }
+    ensures small { small.new ≡ empty_graph }
+    ensures large { large.new ≡ empty_graph }
+{
+    let is_small = lines.is_next_small();
+    assert_eq!(rt; is_small, n <= 62);
+    if !is_small {
+        return copies(rt, alloc, lines, large, n, text);
+    }
+    assert!(rt; lines.next_small(small));
+    copy(rt, alloc, small, n, text)
 }
 
 // The file of these graphs is read and written back, all by one graph.
@@ -205,6 +242,30 @@ fn comes_back(rt: &impl Abort, alloc: Global, sizes: &[u32]) -> Result<(), Fail>
         copies(rt, alloc, &mut lines, &mut graph, *n, &mut text)?;
     }
     assert_eq!(rt; text.as_slice(), file.as_slice());
+    Ok(())
+}
+
+// The same, each small graph by one of one word.
+fn comes_back_by_size(rt: &impl Abort, alloc: Global, sizes: &[u32]) -> Result<(), Fail> {
+    let file = file_of(alloc, sizes)?;
+    assert_eq!(rt; scan(&file), Ok(sizes.len() as u64));
+    let mut lines = Lines::new(&file);
+    let mut small: GraphOf<1> = GraphOf::new(alloc)?;
+    let mut large = Graph::new(alloc)?;
+    let mut text = Vec::new(alloc);
+    for n in sizes {
+        copies_by_size(rt, alloc, &mut lines, &mut small, &mut large, *n, &mut text)?;
+    }
+    assert!(rt; lines.is_next_small());
+    assert!(rt; !lines.next_small(&mut small));
+    assert_eq!(rt; text.as_slice(), file.as_slice());
+    Ok(())
+}
+
+#[test]
+fn small_lines_are_read_by_one_word(rt: HostRuntime) -> Result<(), Fail> {
+    comes_back_by_size(&rt, rt.alloc(), &[0, 1, 58, 59, 62, 63, 64])?;
+    comes_back_by_size(&rt, rt.alloc(), &[64, 63, 62, 59, 58, 1, 0])?;
     Ok(())
 }
 

@@ -1,4 +1,4 @@
-use Rattle.std.proofs.Common.{arith, ap, ◌∙◌, ◌+◌, ◌++◌}
+use Rattle.std.proofs.Common.{arith, rules, ap, ◌∙◌, ◌+◌, ◌++◌}
 use Rattle.std.proofs.lemmas.List.{append-nil}
 use Rattle.md_graph.specs.NameSet.{ascending}
 use Rattle.md_text.specs.Pieces.{piece_text}
@@ -7,7 +7,7 @@ use Rattle.md_dimacs.proofs.TextLemmas.{rows_lines, edges_text_is, start_is, row
 use Rattle.md_dimacs.proofs.writer.write_edges.Goals as goal
 
 pub loop-v-init : goal.loop-v-init
-loop-v-init c =
+loop-v-init g c =
     let list = c.into_iter-v-iterator.ensures.into_iter_gives ∙ c.members-v-items.ensures.list ∙ ap ascending c.vertices.ensures.set in
     record {
       coming = (0, coming_all c.args.graph.now.vertices _ list);
@@ -15,25 +15,23 @@ loop-v-init c =
     }
 
 pub overflow_add-place : goal.overflow_add-place
-overflow_add-place c =
+overflow_add-place g c =
     let small = place_small c.args.graph.now.vertices _ _ _ _ (next_up c.args.graph.now.vertices c.loop-v.invariant.coming.0 c.loop-v.place _ c.in-Some.v _ c.loop-v.invariant.coming.1 c.in-Some.ensures.steps) in
     omega arith
 
 pub start_piece-requires : goal.start_piece-requires
-start_piece-requires c =
+start_piece-requires g c =
     place_small c.args.graph.now.vertices _ _ _ _ (next_up c.args.graph.now.vertices c.loop-v.invariant.coming.0 c.loop-v.place _ c.in-Some.v _ c.loop-v.invariant.coming.1 c.in-Some.ensures.steps)
 
-pub write_row-requires-clause-name : goal.write_row-requires-clause-name
-write_row-requires-clause-name c =
-    (next_up c.args.graph.now.vertices c.loop-v.invariant.coming.0 c.loop-v.place _ c.in-Some.v _ c.loop-v.invariant.coming.1 c.in-Some.ensures.steps).item.below
-
-pub write_row-requires-clause-start : goal.write_row-requires-clause-start
-write_row-requires-clause-start c =
+pub write_row-requires : goal.write_row-requires
+write_row-requires g c =
     let up = next_up c.args.graph.now.vertices c.loop-v.invariant.coming.0 c.loop-v.place _ c.in-Some.v _ c.loop-v.invariant.coming.1 c.in-Some.ensures.steps in
-    start_is c.args.graph.now c.in-Some.v (c.loop-v.place + 1) (piece_text c.start_piece.result) c.start_piece.ensures (position_is c.args.graph.now c.in-Some.v c.loop-v.place up.placed)
+    let start = start_is c.args.graph.now c.in-Some.v (c.loop-v.place + 1) (piece_text c.start_piece.result) c.start_piece.ensures (position_is c.args.graph.now c.in-Some.v c.loop-v.place up.placed) in
+    let row = c.vertices.ensures.below c.in-Some.v up.item.member in
+    (search rules, (up.item.below, (row, (c.requires.room, (start, c.requires.places)))))
 
 pub loop-v-preserved : goal.loop-v-preserved
-loop-v-preserved c =
+loop-v-preserved g c =
     let up = next_up c.args.graph.now.vertices c.loop-v.invariant.coming.0 c.loop-v.place _ c.in-Some.v _ c.loop-v.invariant.coming.1 c.in-Some.ensures.steps in
     record {
       coming = (c.in-Some.v + 1, up.after);
@@ -41,5 +39,5 @@ loop-v-preserved c =
     }
 
 pub returns : goal.returns
-returns c =
+returns g c =
     c.in_ok-flush.ensures.appended ∙ rows_end c.args.graph.now _ _ _ c.loop-v.invariant.written c.in-None.ensures.steps.0

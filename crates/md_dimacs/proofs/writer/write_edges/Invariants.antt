@@ -5,7 +5,7 @@ use Rattle.md_dimacs.proofs.TextLemmas.{rows_lines}
 use Rattle.md_dimacs.proofs.writer.write_edges.Given as goal
 
 abbrev pub invariant-loop-v : goal.invariant-loop-v
-invariant-loop-v l = record {
+invariant-loop-v g l = record {
   coming : (low : ℕ) × Coming l.graph.vertices low l.place l.v-iterator;
   written : (l.text.items ++ l.chunk) ++ rows_lines l.graph l.v-iterator ≡ l.fn.text.items ++ edges_text l.graph;
 }

@@ -7,7 +7,7 @@ use Rattle.md_dimacs.proofs.TextLemmas.{row_lines}
 use Rattle.md_dimacs.proofs.writer.write_row.Given as goal
 
 abbrev pub invariant-loop-first : goal.invariant-loop-first
-invariant-loop-first l = record {
+invariant-loop-first g l = record {
   aligned : l.first % 64 ≡ 0;
   named : l.first ≤ NAMES;
   near : l.from < l.first + 64;
@@ -15,4 +15,4 @@ invariant-loop-first l = record {
 }
 
 abbrev pub decreases-loop-first : goal.decreases-loop-first
-decreases-loop-first l = length l.places - l.first
+decreases-loop-first g l = length l.places - l.first

@@ -3,7 +3,7 @@ use Rattle.md_graph6.specs.Short.{IsUnread, IsFilledTo}
 use Rattle.md_graph6.proofs.body.fill_short.Given as goal
 
 abbrev pub invariant-loop-j : goal.invariant-loop-j
-invariant-loop-j l = record {
+invariant-loop-j g l = record {
   unread : IsUnread l.body (pair_number 0 l.j) l.unread.bits l.unread.held l.unread.at;
   filled : IsFilledTo l.body l.n l.j l.graph;
 }

@@ -1,47 +1,40 @@
-use Rattle.std.proofs.Common.{◌+◌, length, arith, ◌∙◌, ap, subst, rules}
+use Rattle.std.proofs.Common.{◌+◌, ◌*◌, length, arith, ◌∙◌, ap, subst, rules}
 use Rattle.std.specs.FinSet as set
 use Rattle.md_graph.specs.declared.TheConstants.{NAMES}
 use Rattle.md_graph.specs.NameSet.{ascending}
 use Rattle.md_graph6.specs.Written.{IsWritten}
-use Rattle.md_graph.proofs.Limits.{NAMES-lt}
+use Rattle.md_graph.proofs.Limits.{NAMES-lt, words_few}
 use Rattle.md_graph.proofs.NameLemmas.{few_below, ascending_items}
-use Rattle.md_graph6.proofs.Listed.{at_start, at_turn, at_end}
+use Rattle.md_graph6.proofs.Listed.{few_in, at_start, at_turn, at_end}
 use Rattle.md_graph6.proofs.WriteLemmas.{IsWritten-more, gathered_column, pair_next, pair_mono}
 use Rattle.md_graph6.proofs.writer.put_any.Goals as goal
 
 pub loop-v-init : goal.loop-v-init
-loop-v-init c = record {
-  place = at_start (ascending c.args.graph.now.vertices) c.into_iter-v-iterator.result (c.into_iter-v-iterator.ensures.into_iter_gives ∙ c.members-v-items.ensures.list ∙ ap ascending c.vertices.ensures.set);
+loop-v-init g c = record {
+  place = at_start (ascending c.args.graph.now.vertices) c.into_iter-v-iterator.result (c.into_iter-v-iterator.ensures.into_iter_gives ∙ c.members-v-items.ensures.list ∙ ap ascending c.vertices-vertices.ensures.set);
   written = c.requires.blank;
 }
 
 pub row-requires : goal.row-requires
-row-requires c =
+row-requires g c =
     let turn = at_turn c.loop-v.invariant.place c.in-Some.v c.next.new.self c.in-Some.ensures.steps in
-    let below = (ascending_items c.args.graph.now.vertices 0 NAMES c.loop-v.j 0 turn.0).below in
+    let item = ascending_items c.args.graph.now.vertices 0 NAMES c.loop-v.j 0 turn.0 in
+    let below = c.vertices-vertices.ensures.below _ item.member in
     (search rules, (search rules, omega (arith, turn.1, below)))
 
 pub gather-requires : goal.gather-requires
-gather-requires c = c.loop-v.invariant.place.inside
+gather-requires g c = (search rules, (search rules, c.loop-v.invariant.place.inside))
 
-pub put_column-requires-clause-names : goal.put_column-requires-clause-names
-put_column-requires-clause-names c =
+pub put_column-requires : goal.put_column-requires
+put_column-requires g c =
     let turn = at_turn c.loop-v.invariant.place c.in-Some.v c.next.new.self c.in-Some.ensures.steps in
-    omega (arith, turn.0, few_below c.args.graph.now.vertices 0 NAMES)
-
-pub put_column-requires-clause-groups : goal.put_column-requires-clause-groups
-put_column-requires-clause-groups c = c.loop-v.invariant.written.groups
-
-pub put_column-requires-clause-room : goal.put_column-requires-clause-room
-put_column-requires-clause-room c =
-    let turn = at_turn c.loop-v.invariant.place c.in-Some.v c.next.new.self c.in-Some.ensures.steps in
-    omega (arith, c.requires.room, pair_next c.loop-v.j, pair_mono (c.loop-v.j + 1) (length (ascending c.args.graph.now.vertices)) (omega (arith, turn.0)))
-
-pub put_column-requires-clause-blank : goal.put_column-requires-clause-blank
-put_column-requires-clause-blank c = c.loop-v.invariant.written.blank
+    let limit = c.vertices-vertices.ensures.limit in
+    let few = few_in c.args.graph.now.vertices (64 * g.row.W) c.vertices-vertices.ensures.below (words_few g.row.W limit) in
+    let room = pair_mono (c.loop-v.j + 1) (length (ascending c.args.graph.now.vertices)) (omega (arith, turn.0)) in
+    (search rules, (limit, (omega (arith, turn.0, few), (c.loop-v.invariant.written.groups, (omega (arith, c.requires.room, pair_next c.loop-v.j, room), c.loop-v.invariant.written.blank)))))
 
 pub loop-v-preserved : goal.loop-v-preserved
-loop-v-preserved c =
+loop-v-preserved g c =
     let turn = at_turn c.loop-v.invariant.place c.in-Some.v c.next.new.self c.in-Some.ensures.steps in
     record {
       place = turn.2;
@@ -51,11 +44,11 @@ loop-v-preserved c =
     }
 
 pub returns : goal.returns
-returns c =
+returns g c =
     let all = at_end c.loop-v.invariant.place c.in-None.ensures.steps.0 in
     subst (IsWritten c.loop-v.body c.args.graph.now) all c.loop-v.invariant.written
 
 pub overflow_add-j : goal.overflow_add-j
-overflow_add-j c =
+overflow_add-j g c =
     let turn = at_turn c.loop-v.invariant.place c.in-Some.v c.next.new.self c.in-Some.ensures.steps in
     omega (arith, turn.0, few_below c.args.graph.now.vertices 0 NAMES, NAMES-lt)

@@ -6,7 +6,7 @@ use Rattle.md_graph6.specs.Written.{bit_if}
 use Rattle.md_graph6.proofs.writer.put_column.Given as goal
 
 abbrev pub invariant-loop-w : goal.invariant-loop-w
-invariant-loop-w l = record {
+invariant-loop-w g l = record {
   groups : AreGroups l.body;
   bits : (k : ℕ) → bit l.body k
       ≡ (if nat_lt k l.place then bit l.fn.body k

@@ -15,24 +15,24 @@ told_if P n true h = h refl
 told_if P n false h = tt
 
 pub loop-v-init : goal.loop-v-init
-loop-v-init c = record {
+loop-v-init g c = record {
   place = at_start (ascending c.args.graph.now.vertices) c.into_iter-v-iterator.result (c.into_iter-v-iterator.ensures.into_iter_gives ∙ c.members-v-items.ensures.list ∙ ap ascending c.vertices.ensures.set);
   consecutive = λ _ i h. absurd (omega arith);
 }
 
 pub overflow_add-least : goal.overflow_add-least
-overflow_add-least c =
+overflow_add-least g c =
     let turn = at_turn c.loop-v.invariant.place c.in-Some.v c.next.new.self c.in-Some.ensures.steps in
     omega (arith, turn.0, few_below c.args.graph.now.vertices 0 NAMES, c.least_vertex-least.ensures, NAMES-lt)
 
 pub overflow_add-count : goal.overflow_add-count
-overflow_add-count c =
+overflow_add-count g c =
     let turn = at_turn c.loop-v.invariant.place c.in-Some.v c.next.new.self c.in-Some.ensures.steps in
     let few = few_below c.args.graph.now.vertices 0 NAMES in
     omega (arith, turn.0, few, NAMES-lt)
 
 pub loop-v-preserved : goal.loop-v-preserved
-loop-v-preserved c =
+loop-v-preserved g c =
     let turn = at_turn c.loop-v.invariant.place c.in-Some.v c.next.new.self c.in-Some.ensures.steps in
     record {
       place = turn.2;
@@ -43,7 +43,7 @@ loop-v-preserved c =
     }
 
 pub returns : goal.returns
-returns c =
+returns g c =
     let all = at_end c.loop-v.invariant.place c.in-None.ensures.steps.0 in
     let few = few_below c.args.graph.now.vertices 0 NAMES in
     record {

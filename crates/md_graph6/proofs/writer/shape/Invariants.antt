@@ -5,7 +5,7 @@ use Rattle.md_graph6.proofs.Listed.{IsAt}
 use Rattle.md_graph6.proofs.writer.shape.Given as goal
 
 abbrev pub invariant-loop-v : goal.invariant-loop-v
-invariant-loop-v l = record {
+invariant-loop-v g l = record {
   place : IsAt (ascending l.graph.vertices) l.v-iterator l.count;
   consecutive : l.consecutive ≡ true → AreFrom l.graph l.least l.count;
 }

@@ -1,14 +1,21 @@
 -- The bytes of the line, and what they are as a file.
-use Rattle.std.proofs.Common.{◌≡◌, [], ◌∷◌, ◌++◌, length, take, drop, ap, ◌∙◌}
+use Rattle.std.proofs.Common.{◌≡◌, [], ◌∷◌, ◌++◌, length, take, drop, ap, ◌∙◌, rules, arith}
+use Rattle.std.proofs.lemmas.Grind.{common_steps}
 use Rattle.md_graph6.specs.Bits.{body_length}
 use Rattle.md_graph6.specs.Size.{size_text}
 use Rattle.md_graph6.proofs.ByteLemmas.{line_written}
-use Rattle.md_graph6.proofs.WriteLemmas.{whole_back, size_kept, body_kept, SpellsLine-written}
+use Rattle.md_graph6.proofs.WriteLemmas.{blank_written, whole_back, size_kept, body_kept, SpellsLine-written}
 use Rattle.md_graph6.proofs.FileLemmas.{text_spells, text_sound}
 use Rattle.md_graph6.proofs.writer.write.Goals as goal
 
+pub put_behind-requires : goal.put_behind-requires
+put_behind-requires g c =
+    let line = c.as_mut_slice.ensures.value ∙ c.in_ok-text.ensures.items in
+    let blank = blank_written _ c.args.graph.now _ _ _ line c.size_length-size.ensures in
+    (search rules, (c.shape-n.ensures.count, (c.shape-n.ensures.consecutive, (grind (arith, common_steps), (blank, grind (arith, common_steps))))))
+
 pub returns-clause-bytes : goal.returns-clause-bytes
-returns-clause-bytes c =
+returns-clause-bytes g c =
     let line = c.put_behind.new.line in
     let items = c.in_ok-text.text.items in
     let size = c.size_length-size.result in
@@ -22,7 +29,7 @@ returns-clause-bytes c =
     ∙ line_written line c.args.graph.now size n c.shape-n.ensures.count begins long c.put_behind.ensures.body
 
 pub returns-clause-text : goal.returns-clause-text
-returns-clause-text c =
+returns-clause-text g c =
     let line = c.put_behind.new.line in
     let items = c.in_ok-text.text.items in
     let size = c.size_length-size.result in
@@ -39,10 +46,10 @@ returns-clause-text c =
     }
 
 pub returns-clause-spells : goal.returns-clause-spells
-returns-clause-spells c = text_spells _ _ (returns-clause-text c)
+returns-clause-spells g c = text_spells _ _ (returns-clause-text g c)
 
 pub returns-clause-no_fault : goal.returns-clause-no_fault
-returns-clause-no_fault c = (text_sound (returns-clause-text c)).0
+returns-clause-no_fault g c = (text_sound (returns-clause-text g c)).0
 
 pub returns-clause-graphs : goal.returns-clause-graphs
-returns-clause-graphs c = (text_sound (returns-clause-text c)).1
+returns-clause-graphs g c = (text_sound (returns-clause-text g c)).1
