@@ -1,5 +1,5 @@
 //! The graphs of a file, one after the other.
-ghost use Rattle.std.specs.Prelude.{◌≡◌, [], ◌∷◌, None, IfOk, IfErr};
+ghost use Rattle.std.specs.Prelude.{◌≡◌, [], ◌∷◌, None, IfOk, IfErr, IsErr};
 ghost use Rattle.std.specs.Bool.{OnTrue, OnFalse};
 ghost use Rattle.md_graph.specs.PlainGraph.{empty_graph};
 ghost use Rattle.md_input.specs.Spelling.{SpellsGraphs};
@@ -7,7 +7,8 @@ ghost use Rattle.md_input.specs.Faults.{graph_fault, IsStopAt};
 
 use crate::fault::InputStop;
 use crate::format::Format;
-use md_graph::Graph;
+use crate::room::Room;
+use md_graph::{Graph, Memory};
 use md_graph6::{Lines, scan};
 use std::alloc::Global;
 use std::marker::Model;
@@ -73,5 +74,27 @@ impl<'a> Graphs<'a> {
             return true;
         }
         self.lines.next(graph)
+    }
+
+    /// Makes the graph in the room the first of the graphs, takes that off, and answers true; a small
+    /// one is read into one word a row. It answers false exactly where no graph is left, and the room
+    /// then stays without vertices. Condition: the graph in the room has no vertices. Errors: want
+    /// of memory; nothing changes then.
+    pub fn next_into(&mut self, alloc: Global, room: &mut Room) -> Result<bool, Memory>
+        requires { room.old ≡ empty_graph }
+        ensures first { IfOk result (λ found. OnTrue found (self.old ≡ room.new ∷ self.new)) }
+        ensures none { IfOk result (λ found. OnFalse found (self.old ≡ [])) }
+        ensures none_left { IfOk result (λ found. OnFalse found (self.new ≡ [])) }
+        ensures stays { IfOk result (λ found. OnFalse found (room.new ≡ empty_graph)) }
+        ensures err { IsErr result → self.new ≡ self.old }
+    {
+        if let Some(first) = self.first.take() {
+            room.put(first);
+            return Ok(true);
+        }
+        if self.lines.is_next_small() {
+            return Ok(room.fill_small(&mut self.lines));
+        }
+        room.fill_large(alloc, &mut self.lines)
     }
 }

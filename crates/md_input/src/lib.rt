@@ -6,6 +6,7 @@ mod fault;
 mod format;
 mod graphs;
 mod inputs;
+mod room;
 #[cfg(test)]
 mod tests;
 
@@ -13,3 +14,4 @@ pub use fault::{Fault, InputStop};
 pub use format::Format;
 pub use graphs::Graphs;
 pub use inputs::{one_graph, read_script};
+pub use room::{Room, Sized};

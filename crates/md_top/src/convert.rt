@@ -9,8 +9,8 @@ ghost use Rattle.md_top.specs.Command.{CommandEnds};
 
 use crate::put::put_piece;
 use crate::stop::{PutStop, Stop, Verdict};
-use md_graph::{Graph, Memory};
-use md_input::{Format, Graphs};
+use md_graph::{GraphOf, Memory};
+use md_input::{Format, Graphs, Room, Sized};
 use md_io::Sink;
 use std::alloc::Global;
 
@@ -43,25 +43,32 @@ fn put_texts<O: Sink>(
         (sink_run O.Sink out.old out.new) }
     ensures faults_never_fall { O.faults out.old ≤ O.faults out.new }
 {
-    let mut graph = Graph::new(alloc)?;
-    while graphs.next(&mut graph) {
-        put_text(alloc, to, &graph, out)?;
-        graph.clear();
+    let mut room = Room::new(alloc)?;
+    while graphs.next_into(alloc, &mut room)? {
+        put_text(alloc, to, &room, out)?;
+        room.clear();
     }
     Ok(())
 }
 
-// Puts the text of a graph.
-fn put_text<O: Sink>(alloc: Global, to: Format, graph: &Graph, out: &mut O) -> Result<(), PutStop>
-    ensures puts { PutsWhole (graph_text to graph.now) result (sink_run O.Sink out.old out.new) }
+// Puts the text of the graph in the room.
+fn put_text<O: Sink>(alloc: Global, to: Format, room: &Room, out: &mut O) -> Result<(), PutStop>
+    ensures puts { PutsWhole (graph_text to room.now) result (sink_run O.Sink out.old out.new) }
     ensures faults_never_fall { O.faults out.old ≤ O.faults out.new }
 {
-    let text = text_of(alloc, to, graph)?;
+    let text = match room.graph() {
+        Sized::Small(graph) => text_of(alloc, to, graph)?,
+        Sized::Large(graph) => text_of(alloc, to, graph)?,
+    };
     put_piece(out, &text)
 }
 
 // The text of a graph in a format.
-fn text_of(alloc: Global, format: Format, graph: &Graph) -> Result<Vec<u8>, Memory>
+fn text_of<const W: usize>(
+    alloc: Global,
+    format: Format,
+    graph: &GraphOf<W>,
+) -> Result<Vec<u8>, Memory>
     ensures { IfOk result (λ text. text.items ≡ graph_text format graph.now) }
 {
     match format {

@@ -2,6 +2,7 @@
 //! whole before the first put.
 ghost use Rattle.std.specs.Prelude.{◌≡◌, ◌≤◌, List, [], ◌∷◌, IfOk};
 ghost use Rattle.md_graph.specs.PlainGraph.{PlainGraph, adjacent};
+ghost use Rattle.md_report.specs.declared.line.GraphMode.{GraphMode};
 ghost use Rattle.md_report.specs.Lines.{plain_line};
 ghost use Rattle.md_report.specs.Orientations.{IsOrientationLine};
 ghost use Rattle.md_report.specs.Models.{IsModelLine};
@@ -14,8 +15,8 @@ ghost use Rattle.md_top.specs.Sinks.{sink_run, PutsLines};
 use crate::put::put_report_line;
 use crate::stop::{PutStop, Stop, Verdict};
 use md_decompose::decompose;
-use md_graph::{Graph, Memory};
-use md_input::{Format, Graphs};
+use md_graph::{Graph, GraphOf, Memory};
+use md_input::{Format, Graphs, Room, Sized};
 use md_io::Sink;
 use md_orient::{PermVerdict, Verdict as Orientation, model, orient};
 use md_report::{GraphMode, Line};
@@ -54,8 +55,74 @@ fn put_report<O: Sink>(
     put_report_line(alloc, Line::End, out)
 }
 
-// Puts the line of each of the graphs.
+// Puts the line of each of the graphs. Trees of small ones are computed over one word a row.
 fn put_graph_lines<O: Sink>(
+    alloc: Global,
+    mode: GraphMode,
+    graphs: Graphs,
+    out: &mut O,
+) -> Result<(), PutStop>
+    ensures puts { PutsLines (at_graphs mode graphs.entry) (at_graphs mode []) result
+        (sink_run O.Sink out.old out.new) }
+    ensures faults_never_fall { O.faults out.old ≤ O.faults out.new }
+{
+    match mode {
+        GraphMode::Tree => put_trees(alloc, mode, graphs, out),
+        GraphMode::Compare => put_lines_of_large(alloc, mode, graphs, out),
+        GraphMode::Permute => put_lines_of_large(alloc, mode, graphs, out),
+    }
+}
+
+// Puts the line of the tree of each of the graphs.
+fn put_trees<O: Sink>(
+    alloc: Global,
+    mode: GraphMode,
+    mut graphs: Graphs,
+    out: &mut O,
+) -> Result<(), PutStop>
+    requires { mode ≡ GraphMode.Tree }
+    ensures puts { PutsLines (at_graphs mode graphs.entry) (at_graphs mode []) result
+        (sink_run O.Sink out.old out.new) }
+    ensures faults_never_fall { O.faults out.old ≤ O.faults out.new }
+{
+    let mut room = Room::new(alloc)?;
+    while graphs.next_into(alloc, &mut room)? {
+        put_tree(alloc, mode, &room, out)?;
+        room.clear();
+    }
+    Ok(())
+}
+
+// Puts the line of the tree of the graph in the room.
+fn put_tree<O: Sink>(
+    alloc: Global,
+    mode: GraphMode,
+    room: &Room,
+    out: &mut O,
+) -> Result<(), PutStop>
+    requires { mode ≡ GraphMode.Tree }
+    ensures puts { (graphs : List PlainGraph)
+        → PutsLines (at_graphs mode (room.now ∷ graphs)) (at_graphs mode graphs) result
+        (sink_run O.Sink out.old out.new) }
+    ensures faults_never_fall { O.faults out.old ≤ O.faults out.new }
+{
+    let line = match room.graph() {
+        Sized::Small(graph) => tree_line(alloc, graph)?,
+        Sized::Large(graph) => tree_line(alloc, graph)?,
+    };
+    put_report_line(alloc, line, out)
+}
+
+// The line of the tree of a graph.
+fn tree_line<const W: usize>(alloc: Global, graph: &GraphOf<W>) -> Result<Line, Memory>
+    ensures { IfOk result (λ line. Reports GraphMode.Tree graph.now (plain_line line)) }
+{
+    let tree = decompose(alloc, graph)?;
+    Ok(Line::Tree(tree))
+}
+
+// Puts the line of each of the graphs, which are read into the longest rows.
+fn put_lines_of_large<O: Sink>(
     alloc: Global,
     mode: GraphMode,
     mut graphs: Graphs,
@@ -94,10 +161,7 @@ fn graph_line(alloc: Global, mode: GraphMode, graph: &Graph) -> Result<Line, Mem
     ensures { IfOk result (λ line. Reports mode graph.now (plain_line line)) }
 {
     match mode {
-        GraphMode::Tree => {
-            let tree = decompose(alloc, graph)?;
-            Ok(Line::Tree(tree))
-        }
+        GraphMode::Tree => tree_line(alloc, graph),
         GraphMode::Compare => orientation_line(alloc, graph),
         GraphMode::Permute => model_line(alloc, graph),
     }

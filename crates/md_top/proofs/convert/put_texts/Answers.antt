@@ -16,7 +16,7 @@ returns-in_err-put_text-clause-puts g c =
 
 pub loop-alloc-preserved : goal.loop-alloc-preserved
 loop-alloc-preserved g c = record {
-  progress = progress_step _ _ _ _ (graph_text c.args.to c.next.new.graph) _
+  progress = progress_step _ _ _ _ (graph_text c.args.to c.next_into.new.room) _
       (subst (λ (lines : List PlainGraph). Progress (g.O.Sink.holds c.args.out.now) (g.O.Sink.holds c.loop-alloc.out) (flat_map (graph_text c.args.to) c.args.graphs) (flat_map (graph_text c.args.to) lines))
       (c.loop-alloc-test.ensures.first) c.loop-alloc.invariant.progress)
       (c.in_ok-put_text.ensures.puts);

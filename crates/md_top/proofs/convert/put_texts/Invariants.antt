@@ -8,7 +8,7 @@ use Rattle.md_top.proofs.convert.put_texts.Given as goal
 abbrev pub invariant-loop-alloc : goal.invariant-loop-alloc
 invariant-loop-alloc g l = record {
   progress : Progress (g.O.Sink.holds l.fn.out) (g.O.Sink.holds l.out) (flat_map (graph_text l.to) l.fn.graphs) (flat_map (graph_text l.to) l.graphs);
-  no_vertex : l.graph ≡ empty_graph;
+  no_vertex : l.room ≡ empty_graph;
   faults : g.O.Sink.faults l.fn.out ≤ g.O.Sink.faults l.out;
 }
 

@@ -4,7 +4,7 @@ use Rattle.md_graph.specs.PlainGraph.{PlainGraph}
 use Rattle.md_report.specs.Places.{at_graphs}
 use Rattle.md_top.specs.Sinks.{AppendsLines}
 use Rattle.md_top.proofs.Lines.{stopped_behind, lines_behind}
-use Rattle.md_top.proofs.report.put_graph_lines.Goals as goal
+use Rattle.md_top.proofs.report.put_lines_of_large.Goals as goal
 
 pub returns-in_err-put_graph_line-clause-puts : goal.returns-in_err-put_graph_line-clause-puts
 returns-in_err-put_graph_line-clause-puts g c =

@@ -2,12 +2,12 @@ use Rattle.std.proofs.Common.{◌≡◌, ◌≤◌, length}
 use Rattle.md_graph.specs.PlainGraph.{empty_graph}
 use Rattle.md_report.specs.Places.{at_graphs}
 use Rattle.md_top.specs.Sinks.{AppendsLines}
-use Rattle.md_top.proofs.report.put_graph_lines.Given as goal
+use Rattle.md_top.proofs.report.put_trees.Given as goal
 
 abbrev pub invariant-loop-alloc : goal.invariant-loop-alloc
 invariant-loop-alloc g l = record {
   progress : AppendsLines (at_graphs l.mode l.fn.graphs) (at_graphs l.mode l.graphs) (g.O.Sink.holds l.fn.out) (g.O.Sink.holds l.out);
-  no_vertex : l.graph ≡ empty_graph;
+  no_vertex : l.room ≡ empty_graph;
   faults : g.O.Sink.faults l.fn.out ≤ g.O.Sink.faults l.out;
 }
 
