@@ -3,7 +3,6 @@
 ghost use Rattle.std.specs.Prelude.{◌*◌, ◌≡◌, ◌<◌, ◌≤◌, ◌-◌, ◌++◌, ◌∷◌, [], ℕ, Contains, IfOk, length};
 ghost use Rattle.std.specs.FinSet.{difference, from_list};
 ghost use Rattle.md_graph.specs.NameSet.{ascending};
-ghost use Rattle.md_graph.specs.declared.TheConstants.{NAMES};
 ghost use Rattle.md_decompose.specs.Chains.{with_names, step_at, taken_with, IsChainFront};
 
 use md_graph::{Memory, Set, WORDS};

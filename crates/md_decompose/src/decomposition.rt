@@ -55,8 +55,8 @@ pub fn decompose<const W: usize>(alloc: Global, graph: &GraphOf<W>) -> Result<Op
     Ok(Some(build(alloc, parts)?))
 }
 
-// The parts of the tree of a graph with a vertex. A prime graph has one more than vertices; room for
-// so many is taken at once.
+// The parts of the tree of a graph with a vertex. A prime graph has one more than vertices; room
+// for so many is taken at once.
 fn parts<const W: usize>(alloc: Global, graph: &GraphOf<W>) -> Result<Vec<Part>, Memory>
     requires { HasSome graph.now.vertices }
     ensures { IfOk result (λ parts. (t : PlainTree)

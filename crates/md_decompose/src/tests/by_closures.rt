@@ -1,11 +1,11 @@
 //! The children of prime sets by the closures of pairs, a slow program, beside the fast one: on all
-//! graphs of up to five vertices, and on larger ones of many kinds. The slow program also writes the
-//! text of its tree, which is that of the fast one.
+//! graphs of up to five vertices, and on larger ones of many kinds. The slow program also writes
+//! the text of its tree, which is that of the fast one.
 use super::{is_same_set, join};
 use crate::chains::Chain;
 use crate::children::children;
 use crate::decompose;
-use md_graph::{Graph, Memory, NAMES, Names};
+use md_graph::{Graph, Memory, NAMES, Names, WORDS};
 use md_modules::{Block, closure_in, only_member};
 use md_tree::{Kind, QuotientEdges, text};
 use std::alloc::Global;
@@ -187,7 +187,7 @@ fn divide(
     push_sets(alloc, sets, waiting)
 }
 
-fn unpacked(alloc: Global, blocks: Vec<Block>) -> Result<Vec<Names>, Memory> {
+fn unpacked(alloc: Global, blocks: Vec<Block<WORDS>>) -> Result<Vec<Names>, Memory> {
     let mut sets = Vec::new(alloc);
     for block in blocks {
         sets.push(Box::into_inner(block.into_box(alloc)?))?;

@@ -5,17 +5,28 @@ use Rattle.md_modules.specs.Kinds.{IsPrime}
 use Rattle.md_decompose.proofs.ChainLemmas.{steps_none}
 use Rattle.md_decompose.proofs.prime.tests.divided.Goals as goal
 
-pub prime_children-requires-clause-prime : goal.prime_children-requires-clause-prime
-prime_children-requires-clause-prime g c =
+pub prime_children-requires : goal.prime_children-requires
+prime_children-requires g c =
     let first : c.has_vertex.result ≡ true = search rules in
     let second : c.has_vertex-2.result ≡ true = search rules in
     let whole : c.connected.result ≡ true = search rules in
-    let co_whole : c.co_connected.result ≡ true = search rules in
-    subst (λ (t : NameSet). IsPrime (adjacent c.args.g.now) t) (sym c.vertices.ensures.set) (record {
-      two = (0, 1, sym c.has_vertex.ensures ∙ first, sym c.has_vertex-2.ensures ∙ second, λ (e : 0 ≡ 1). absurd (omega arith));
-      connected = c.connected.ensures.0 whole;
-      co_connected = c.co_connected.ensures.0 co_whole;
-    })
-
-pub prime_children-requires-clause-chain : goal.prime_children-requires-clause-chain
-prime_children-requires-clause-chain g c v least = steps_none c.vertices.result.now v c.none.result.taken.items c.none.result.steps.items c.none.ensures.taken c.none.ensures.steps
+    let co_whole : c.co_connected.result ≡ true = search rules in (
+      search rules,
+      (
+        search rules,
+        (
+          search rules,
+          (
+            search rules,
+            (
+              subst (λ (t : NameSet). IsPrime (adjacent c.args.g.now) t) (sym c.vertices.ensures.set) (record {
+                two = (0, 1, sym c.has_vertex.ensures ∙ first, sym c.has_vertex-2.ensures ∙ second, λ (e : 0 ≡ 1). absurd (omega arith));
+                connected = c.connected.ensures.0 whole;
+                co_connected = c.co_connected.ensures.0 co_whole;
+              }),
+              λ v least. steps_none c.vertices.result.now v c.none.result.taken.items c.none.result.steps.items c.none.ensures.taken c.none.ensures.steps,
+            ),
+          ),
+        ),
+      ),
+    )
