@@ -1,4 +1,5 @@
 -- One more line is put, or the call stopped within it.
+use Rattle.std.proofs.lemmas.Bool.{OnTrue_at}
 use Rattle.std.proofs.Common.{List, ◌∷◌, subst, arith}
 use Rattle.md_graph.specs.PlainGraph.{PlainGraph}
 use Rattle.md_report.specs.Places.{at_graphs}
@@ -9,17 +10,17 @@ use Rattle.md_top.proofs.report.put_trees.Goals as goal
 pub returns-in_err-put_tree-clause-puts : goal.returns-in_err-put_tree-clause-puts
 returns-in_err-put_tree-clause-puts g c =
     stopped_behind _ (at_graphs c.args.mode (c.next_into.new.room ∷ c.next_into.new.self)) _ _ _ _ _ _ _ _ _ c.from_residual-in_err-put_tree.ensures.1
-    (subst (λ (lines : List PlainGraph). AppendsLines (at_graphs c.args.mode c.args.graphs) (at_graphs c.args.mode lines) (g.O.Sink.holds c.args.out.now) (g.O.Sink.holds c.loop-alloc.out))
-    c.loop-alloc-test.ensures.first c.loop-alloc.invariant.progress)
-    c.loop-alloc.invariant.faults
+    (subst (λ (lines : List PlainGraph). AppendsLines (at_graphs c.args.mode c.args.graphs) (at_graphs c.args.mode lines) (g.O.Sink.holds c.args.out.now) (g.O.Sink.holds c.loop-room.out))
+    (OnTrue_at c.if-branch.true c.in_ok-next_into.ensures.first) c.loop-room.invariant.progress)
+    c.loop-room.invariant.faults
     (c.in_err-put_tree.ensures.puts c.next_into.new.self)
 
-pub loop-alloc-preserved : goal.loop-alloc-preserved
-loop-alloc-preserved g c = record {
+pub loop-room-preserved : goal.loop-room-preserved
+loop-room-preserved g c = record {
   progress = lines_behind _ (at_graphs c.args.mode (c.next_into.new.room ∷ c.next_into.new.self)) _ _ _ _
-      (subst (λ (lines : List PlainGraph). AppendsLines (at_graphs c.args.mode c.args.graphs) (at_graphs c.args.mode lines) (g.O.Sink.holds c.args.out.now) (g.O.Sink.holds c.loop-alloc.out))
-      c.loop-alloc-test.ensures.first c.loop-alloc.invariant.progress)
+      (subst (λ (lines : List PlainGraph). AppendsLines (at_graphs c.args.mode c.args.graphs) (at_graphs c.args.mode lines) (g.O.Sink.holds c.args.out.now) (g.O.Sink.holds c.loop-room.out))
+      (OnTrue_at c.if-branch.true c.in_ok-next_into.ensures.first) c.loop-room.invariant.progress)
       (c.in_ok-put_tree.ensures.puts c.next_into.new.self);
   no_vertex = c.clear.ensures;
-  faults = omega (arith, c.loop-alloc.invariant.faults, c.put_tree.ensures.faults_never_fall);
+  faults = omega (arith, c.loop-room.invariant.faults, c.put_tree.ensures.faults_never_fall);
 }

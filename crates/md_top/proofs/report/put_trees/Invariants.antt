@@ -4,12 +4,12 @@ use Rattle.md_report.specs.Places.{at_graphs}
 use Rattle.md_top.specs.Sinks.{AppendsLines}
 use Rattle.md_top.proofs.report.put_trees.Given as goal
 
-abbrev pub invariant-loop-alloc : goal.invariant-loop-alloc
-invariant-loop-alloc g l = record {
+abbrev pub invariant-loop-room : goal.invariant-loop-room
+invariant-loop-room g l = record {
   progress : AppendsLines (at_graphs l.mode l.fn.graphs) (at_graphs l.mode l.graphs) (g.O.Sink.holds l.fn.out) (g.O.Sink.holds l.out);
   no_vertex : l.room ≡ empty_graph;
   faults : g.O.Sink.faults l.fn.out ≤ g.O.Sink.faults l.out;
 }
 
-abbrev pub decreases-loop-alloc : goal.decreases-loop-alloc
-decreases-loop-alloc g l = length l.graphs
+abbrev pub decreases-loop-room : goal.decreases-loop-room
+decreases-loop-room g l = length l.graphs
