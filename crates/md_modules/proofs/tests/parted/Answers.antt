@@ -1,11 +1,12 @@
+use Rattle.std.proofs.Common.{rules}
 use Rattle.md_modules.proofs.tests.parted.Goals as goal
 use Rattle.md_graph.proofs.SetLemmas.{meet_inside}
 
-pub component-requires-clause-inside : goal.component-requires-clause-inside
-component-requires-clause-inside g c = meet_inside c.set.result c.vertices.result.now _ c.and-within.result c.vertices.ensures.set c.and-within.ensures
+pub component-requires : goal.component-requires
+component-requires g c = (search rules, (search rules, (meet_inside c.set.result c.vertices.result.now _ c.and-within.result c.vertices.ensures.set c.and-within.ensures, search rules)))
 
-pub co_component-requires-clause-inside : goal.co_component-requires-clause-inside
-co_component-requires-clause-inside g c = meet_inside c.set.result c.vertices.result.now _ c.and-within.result c.vertices.ensures.set c.and-within.ensures
+pub co_component-requires : goal.co_component-requires
+co_component-requires g c = (search rules, (search rules, (meet_inside c.set.result c.vertices.result.now _ c.and-within.result c.vertices.ensures.set c.and-within.ensures, search rules)))
 
-pub closure_in-requires-clause-inside : goal.closure_in-requires-clause-inside
-closure_in-requires-clause-inside g c = meet_inside c.set.result c.vertices.result.now _ c.and-within.result c.vertices.ensures.set c.and-within.ensures
+pub closure_in-requires : goal.closure_in-requires
+closure_in-requires g c = (search rules, (search rules, (meet_inside c.set.result c.vertices.result.now _ c.and-within.result c.vertices.ensures.set c.and-within.ensures, (search rules, search rules))))

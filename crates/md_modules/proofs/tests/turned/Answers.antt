@@ -3,13 +3,11 @@ use Rattle.md_graph.proofs.SetLemmas.{meet_inside}
 use Rattle.md_modules.proofs.Turns.{least_whole}
 use Rattle.md_modules.proofs.tests.turned.Goals as goal
 
-pub closure_in-requires-clause-inside : goal.closure_in-requires-clause-inside
-closure_in-requires-clause-inside g c = meet_inside c.set.result c.vertices.result.now _ c.and-within.result c.vertices.ensures.set c.and-within.ensures
+pub closure_in-requires : goal.closure_in-requires
+closure_in-requires g c = (search rules, (search rules, (meet_inside c.set.result c.vertices.result.now _ c.and-within.result c.vertices.ensures.set c.and-within.ensures, (search rules, search rules))))
 
-pub back-requires-clause-inside : goal.back-requires-clause-inside
-back-requires-clause-inside g c = meet_inside c.set.result c.vertices.result.now _ c.and-within.result c.vertices.ensures.set c.and-within.ensures
-
-pub back-requires-clause-whole : goal.back-requires-clause-whole
-back-requires-clause-whole g c =
+pub back-requires : goal.back-requires
+back-requires g c =
     let none : c.is_empty.result ≡ true = search rules in
-    least_whole c.and-within.result c.closure_in.new.into c.minus-rest.result c.args.v c.args.j c.closure_in.ensures c.minus-rest.ensures (c.is_empty.ensures.0 none)
+    (search rules, (search rules, (meet_inside c.set.result c.vertices.result.now _ c.and-within.result c.vertices.ensures.set c.and-within.ensures, (search rules,
+    least_whole c.and-within.result c.closure_in.new.into c.minus-rest.result c.args.v c.args.j c.closure_in.ensures c.minus-rest.ensures (c.is_empty.ensures.0 none)))))
