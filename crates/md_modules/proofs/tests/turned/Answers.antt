@@ -8,6 +8,16 @@ closure_in-requires g c = (search rules, (search rules, (meet_inside c.set.resul
 
 pub back-requires : goal.back-requires
 back-requires g c =
-    let none : c.is_empty.result ≡ true = search rules in
-    (search rules, (search rules, (meet_inside c.set.result c.vertices.result.now _ c.and-within.result c.vertices.ensures.set c.and-within.ensures, (search rules,
-    least_whole c.and-within.result c.closure_in.new.into c.minus-rest.result c.args.v c.args.j c.closure_in.ensures c.minus-rest.ensures (c.is_empty.ensures.0 none)))))
+    let none : c.is_empty.result ≡ true = search rules in (
+      search rules,
+      (
+        search rules,
+        (
+          meet_inside c.set.result c.vertices.result.now _ c.and-within.result c.vertices.ensures.set c.and-within.ensures,
+          (
+            search rules,
+            least_whole c.and-within.result c.closure_in.new.into c.minus-rest.result c.args.v c.args.j c.closure_in.ensures c.minus-rest.ensures (c.is_empty.ensures.0 none),
+          ),
+        ),
+      ),
+    )
