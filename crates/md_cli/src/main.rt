@@ -32,8 +32,8 @@ fn end(rt: &HostRuntime) -> ExitCode
     status.exit_code()
 }
 
-// The status of `run` over the files of the system, standard output, which gathers small pieces, and
-// standard error. Where there is no memory to gather in, it writes nothing.
+// The status of `run` over the files of the system, standard output, which gathers small pieces,
+// and standard error. Where there is no memory to gather in, it writes nothing.
 fn run_here(rt: &HostRuntime, words: &[String]) -> Status {
     let Ok(mut out) = GatheringSink::new(rt.alloc(), rt.stdout()) else {
         return Status::Memory;

@@ -15,9 +15,9 @@ use std::marker::Brand;
 use std::sync::ledger::{Blank, Ledger};
 
 impl Cotree {
-    /// Whether two names are adjacent in the graph that the cotree denotes: the place where the ways
-    /// up from their leaves meet is series. Names that aren't there are adjacent to none. Condition:
-    /// the cotree is sound.
+    /// Whether two names are adjacent in the graph that the cotree denotes: the place where the
+    /// ways up from their leaves meet is series. Names that aren't there are adjacent to none.
+    /// Condition: the cotree is sound.
     pub fn adjacent(&self, u: u32, v: u32) -> bool
         requires { IsSoundCotree self.now }
         ensures { (g : PlainGraph) → Denotes self.now g → result ≡ adjacent g u v }
@@ -32,8 +32,8 @@ impl Cotree {
         }
     }
 
-    /// The number of neighbours of `v` in the graph that the cotree denotes. Condition: the cotree is
-    /// sound, and `v` is there.
+    /// The number of neighbours of `v` in the graph that the cotree denotes. Condition: the cotree
+    /// is sound, and `v` is there.
     pub fn degree(&self, v: u32) -> u32
         requires sound { IsSoundCotree self.now }
         requires live { (g : PlainGraph) × Denotes self.now g × Has g.vertices v }

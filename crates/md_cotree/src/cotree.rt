@@ -6,8 +6,8 @@ use md_graph::{Memory, NAMES};
 use md_lists::{Lists, PLACES, filled};
 use std::alloc::Global;
 
-/// A tree without prime nodes over places: its linked lists, a place or none for each name, the place
-/// of its root or none, and the number of its leaves.
+/// A tree without prime nodes over places: its linked lists, a place or none for each name, the
+/// place of its root or none, and the number of its leaves.
 #[derive(Drop)]
 pub struct Cotree {
     pub lists: Lists,

@@ -14,7 +14,8 @@ pub fn one_tree_of_a_graph()
     ensures { OneTreeOfAGraph }
 {}
 
-/// A graph that a well-formed tree without prime nodes denotes has no induced path on four vertices.
+/// A graph that a well-formed tree without prime nodes denotes has no induced path on four
+/// vertices.
 pub fn no_path_in_its_graph()
     ensures { NoPathInItsGraph }
 {}

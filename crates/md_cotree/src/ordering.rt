@@ -83,8 +83,8 @@ fn places<L: Ledger>(
 ) -> Result<Vec<u32>, Memory>
     requires links { AreLinks lists.now }
     requires stands { HasTree lists.now root }
-    ensures parts { IfOk result (λ places. (t : PlaceTree) → Stands lists.now t → place_of t ≡ root →
-        map (part_at lists.now) places.items ≡ parts_of (shape t)) }
+    ensures parts { IfOk result (λ places. (t : PlaceTree) → Stands lists.now t
+        → place_of t ≡ root → map (part_at lists.now) places.items ≡ parts_of (shape t)) }
     ensures live { IfOk result (λ places. AllLive lists.now places.items) }
 {
     let mut places = Vec::new(alloc);

@@ -34,7 +34,8 @@ fn there_and_back(rt: &impl Abort, alloc: Global, bytes: &[u8]) -> Result<(), Fa
     Ok(())
 }
 
-// The text of a tree of depth `last` in which each node has a leaf and the next node, kinds in turn.
+// The text of a tree of depth `last` in which each node has a leaf and the next node, kinds in
+// turn.
 fn deep(alloc: Global, last: u32) -> Result<Vec<u8>, AllocError> {
     let mut bytes = Vec::new(alloc);
     for v in 0..last {

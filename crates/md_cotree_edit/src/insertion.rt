@@ -141,8 +141,8 @@ fn join_listed<L: Ledger>(
     Ok(())
 }
 
-// A new leaf, joined to the marked names: beside the whole tree where none is marked, else below the
-// lowest mixed node; none where the tree can't take it in, and then it stays. Nothing is marked
+// A new leaf, joined to the marked names: beside the whole tree where none is marked, else below
+// the lowest mixed node; none where the tree can't take it in, and then it stays. Nothing is marked
 // then. Condition: not all names are marked.
 fn take_in<L: Ledger>(
     lists: &mut Lists,
@@ -177,8 +177,8 @@ fn take_in<L: Ledger>(
     settle(lists, root, x, steps)
 }
 
-// A new leaf below the lowest mixed node, joined to the marked names; none where the tree can't take
-// it in, and then it stays. Nothing is marked then.
+// A new leaf below the lowest mixed node, joined to the marked names; none where the tree can't
+// take it in, and then it stays. Nothing is marked then.
 fn settle<L: Ledger>(
     lists: &mut Lists,
     root: &mut Option<u32>,

@@ -13,8 +13,8 @@ use std::sync::ledger::Ledger;
 // The note of a node all of whose names are marked.
 pub(crate) const FULL: u32 = 1;
 
-// Marks the leaf of a name, and notes each node that is full then; the tally of a node is the number
-// of its children that are full. Condition: the name wasn't marked.
+// Marks the leaf of a name, and notes each node that is full then; the tally of a node is the
+// number of its children that are full. Condition: the name wasn't marked.
 fn mark<L: Ledger>(lists: &mut Lists, leaf: u32, steps: &mut Steps<L>)
     requires links { AreLinks lists.old }
     requires tree { (d : MarkView) × CanMark lists.old leaf d }

@@ -13,6 +13,8 @@ use Rattle.md_graph.proofs.Search.{some_len, first_member}
 use Rattle.md_tree.specs.declared.Kind.{Kind}
 use Rattle.md_tree.specs.declared.Kind.TheVariants.{Parallel, Series, Prime}
 use Rattle.md_tree.specs.declared.Pair.{Pair}
+use Rattle.md_tree.proofs.Folding.{each_join, each_parts}
+use Rattle.md_tree.proofs.Listing.{backward-append}
 use Rattle.md_tree.specs.Trees.{PlainTree, leaf, node, PlainTrees, names, row, count, EachNode, EachNodeBelow}
 use Rattle.md_tree.specs.StrongTrees.{HasKind, IsBefore, IsTreeOf}
 use Rattle.md_text.proofs.Lists.{In, of_append, in_left, in_right, of_contains, to_contains, of_pairs}
@@ -55,19 +57,6 @@ parted : (ts : List PlainTree) (a b : List NameSet) → map names ts ≡ a ++ b 
 parted ts [] b e = ([], ts, refl, refl, e)
 parted [] (s ∷ a) b e = absurd (cc)
 parted (t ∷ ts) (s ∷ a) b e = one_more_parted t ts s a b (cc) (parted ts a b (cc))
-
-module _ (P : Kind → PlainTrees → List Pair → Type 0) where
-  each_append : (ts us : List PlainTree) → EachNodeBelow P (row ts) → EachNodeBelow P (row us) → EachNodeBelow P (row (ts ++ us))
-  each_append [] us h k = k
-  each_append (t ∷ ts) us h k = (h.0, each_append ts us h.1 k)
-
-  of_each : (ts us : List PlainTree) → EachNodeBelow P (row (ts ++ us)) → EachNodeBelow P (row ts) × EachNodeBelow P (row us)
-  of_each [] us h = (tt, h)
-  of_each (t ∷ ts) us h = let r : EachNodeBelow P (row ts) × EachNodeBelow P (row us) = of_each ts us h.1 in ((h.0, r.0), r.1)
-
-backward-append : (ts us : List PlainTree) → parts_backward (row (ts ++ us)) ≡ parts_backward (row us) ++ parts_backward (row ts)
-backward-append [] us = sym (append-nil (parts_backward (row us)))
-backward-append (t ∷ ts) us = ap (λ ps. ps ++ parts_of t) (backward-append ts us) ∙ append_assoc (parts_backward (row us)) (parts_backward (row ts)) (parts_of t)
 
 count_trees : (ts : List PlainTree) → count (row ts) ≡ length (map names ts)
 count_trees [] = refl
@@ -304,7 +293,7 @@ module _ {e : ℕ → ℕ → Bool} (adj : IsAdjacency e) where
               (is.goes_on (r.0 ++ t.0 ∷ [])
               (map-append names r.0 (t.0 ∷ []) ∙ ap (λ ss. ss ++ names t.0 ∷ []) r.3 ∙ ap (λ s. sets_of waiting ++ s ∷ []) t.1
               ∙ sym (ap sets_of popped ∙ map-append open_names waiting (o ∷ [])))
-              (each_append (IsBuilt e) r.0 (t.0 ∷ []) each (t.2, tt)))
+              (each_join (IsBuilt e) r.0 (t.0 ∷ []) each (t.2, tt)))
 
           with_parts : (ts : List PlainTree) (r : Parted ts (sets_of waiting) (sets_of added)) →
               EachNodeBelow (IsBuilt e) (row r.0) × EachNodeBelow (IsBuilt e) (row r.1) → IsBegun e all (parts' ++ parts_backward (row ts))
@@ -312,7 +301,7 @@ module _ {e : ℕ → ℕ → Bool} (adj : IsAdjacency e) where
 
           with_sets : (ts : List PlainTree) → EachNodeBelow (IsBuilt e) (row ts) → Parted ts (sets_of waiting) (sets_of added) →
               IsBegun e all (parts' ++ parts_backward (row ts))
-          with_sets ts each r = with_parts ts r (of_each (IsBuilt e) r.0 r.1 (subst (λ us. EachNodeBelow (IsBuilt e) (row us)) r.2 each))
+          with_sets ts each r = with_parts ts r (each_parts (IsBuilt e) r.0 r.1 (subst (λ us. EachNodeBelow (IsBuilt e) (row us)) r.2 each))
 
           opened_by : IsOpened e all parts' os'
           opened_by = record {

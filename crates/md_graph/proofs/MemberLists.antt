@@ -1,17 +1,17 @@
 -- The members that an iterator over words has left.
-use Rattle.std.proofs.Common.{ltb, ◌&&◌, append-nil, mod-eq_of_lt, add-zero, leb-true, leb-false, le-leb, shr-shr, ◌≡◌, ℕ, zero, suc, ◌+◌, ◌-◌, ◌*◌, ◌/◌, ◌%◌, ◌^◌, ◌<◌, ◌≤◌, ◌≢◌, min, bit_and, Bool, true, false, if◌then◌else◌, ◌==◌, nat_le, List, [], ◌∷◌, ◌++◌, get_or, append_assoc, refl, arith, ap, sym, ◌∙◌, mod-lt, pow_pos, suc-mul, subst}
+use Rattle.std.proofs.Common.{ltb, ◌&&◌, append-nil, mod-eq_of_lt, add-zero, leb-true, leb-false, le-leb, shr-shr, ◌≡◌, ℕ, zero, suc, ◌+◌, ◌-◌, ◌*◌, ◌/◌, ◌%◌, ◌^◌, ◌<◌, ◌≤◌, ◌≢◌, min, bit_and, Bool, true, false, if◌then◌else◌, ◌==◌, nat_le, List, [], ◌∷◌, ◌++◌, length, get_or, append_assoc, refl, arith, ap, sym, ◌∙◌, mod-lt, pow_pos, suc-mul, subst}
 use Rattle.std.proofs.lemmas.Bool.Decides.{nat_tests}
 use Rattle.std.specs.Int.{bit_at, w64, trailing_zeros}
 use Rattle.std.proofs.lemmas.Bool.{lt-leb}
 use Rattle.std.proofs.lemmas.Nat.{shr_split}
 use Rattle.std.proofs.lemmas.Nat.Bits.{bit_at-zero, bit_at_and, bit_at-trailing_zeros, same_from_bits_below, bit_at-suc, bit_at_lowest, bit_at_cat_low, bit_at_cat_high}
 use Rattle.md_graph.specs.Sets.{NameSet}
-use Rattle.md_graph.specs.NameSet.{AllBelow, ascending_between, ascending_from}
+use Rattle.md_graph.specs.NameSet.{AllBelow, ascending, ascending_between, ascending_from}
 use Rattle.md_graph.specs.declared.TheConstants.{NAMES, WORDS}
 use Rattle.md_graph.proofs.Limits.{words_few}
 use Rattle.std.proofs.lemmas.Bool.{false_from_ne_true}
 use Rattle.md_graph.specs.Words.{bit_of, names_below, bits_between, names_of_words, members_left}
-use Rattle.md_graph.proofs.NameLemmas.{not_both, ascending_none}
+use Rattle.md_graph.proofs.NameLemmas.{few_below, not_both, ascending_none}
 use Rattle.md_graph.proofs.BitWords.{InUse, contains-names_below, zero_bit}
 use Rattle.std.specs.FinSet as set
 
@@ -240,6 +240,10 @@ pub ascending_limit : (s : NameSet) (low n : ℕ) → AllBelow s n → n ≤ NAM
 ascending_limit s low n below few =
     let whole : (NAMES - n) + n ≡ NAMES = omega arith in
     sym (ascending_beyond s low n (NAMES - n) below) ∙ ap (ascending_between s low) whole
+
+-- members below a limit are at most so many
+pub few_in : (s : NameSet) (limit : ℕ) → AllBelow s limit → limit ≤ NAMES → length (ascending s) ≤ limit
+few_in s limit below few = subst (λ l. length l ≤ limit) (ascending_limit s 0 limit below few) (few_below s 0 limit)
 
 pub all_names : (words : List ℕ) (w : ℕ) → w ≤ WORDS → AllBelow (names_below words (64 * w)) NAMES
 all_names words w few v member = let below = all_below words (64 * w) v member in let names = words_few w few in omega arith

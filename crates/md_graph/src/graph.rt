@@ -15,8 +15,8 @@ use std::alloc::Global;
 use std::marker::Model;
 
 /// A graph on names below `64 * W`: each of these names has a row, the set of its neighbours. All
-/// rows are taken when the graph is made, and the row of a name that is no vertex is empty. Its value
-/// is a plain graph whatever `W`, which is at most `WORDS`.
+/// rows are taken when the graph is made, and the row of a name that is no vertex is empty. Its
+/// value is a plain graph whatever `W`, which is at most `WORDS`.
 #[derive(Drop)]
 pub struct GraphOf<const W: usize> {
     live: Set<W>,
@@ -128,7 +128,8 @@ impl<const W: usize> GraphOf<W> {
         self.live.first_from(from)
     }
 
-    /// The neighbours of `v`: none for a name that is no vertex. Condition: `v` is a name below `64 * W`.
+    /// The neighbours of `v`: none for a name that is no vertex. Condition: `v` is a name below
+    /// `64 * W`.
     pub fn row(&self, v: u32) -> &Set<W>
         requires { v < 64 * W }
         ensures set { result.now ≡ neighbours self.now v }
@@ -137,7 +138,8 @@ impl<const W: usize> GraphOf<W> {
         &self.rows[v as usize]
     }
 
-    /// Takes in the vertex `v`, without edges. Condition: it is a name below `64 * W` and no vertex yet.
+    /// Takes in the vertex `v`, without edges. Condition: it is a name below `64 * W` and no vertex
+    /// yet.
     pub fn add_vertex(&mut self, v: u32)
         requires name { v < 64 * W }
         requires absent { Lacks self.old.vertices v }
@@ -182,8 +184,9 @@ impl<const W: usize> GraphOf<W> {
     }
 
     /// Takes in 64 by 64 edges at once, for readers: one between `high + r` and `low + k` for each
-    /// bit k of word r that is 1. Condition: `low` and `high` are names below `64 * W` and multiples of 64, and
-    /// the ends of each such edge are vertices and differ. An edge that is there already stays.
+    /// bit k of word r that is 1. Condition: `low` and `high` are names below `64 * W` and
+    /// multiples of 64, and the ends of each such edge are vertices and differ. An edge that is
+    /// there already stays.
     pub fn add_block(&mut self, low: u32, high: u32, block: &[u64; 64])
         requires low { low < 64 * W }
         requires low_aligned { low % 64 ≡ 0 }

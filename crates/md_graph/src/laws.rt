@@ -2,11 +2,16 @@
 ghost use Rattle.std.specs.Prelude.{◌≡◌};
 ghost use Rattle.md_graph.specs.Laws.{GraphWithoutVerticesIsEmpty};
 
-use crate::NAMES;
+use crate::{NAMES, WORDS};
 
 /// There are 4,096 names.
 pub fn number_of_names()
     ensures { NAMES ≡ 4096 }
+{}
+
+/// The rows of the largest graphs have 64 words.
+pub fn number_of_words()
+    ensures { WORDS ≡ 64 }
 {}
 
 /// A graph without vertices is the empty graph.

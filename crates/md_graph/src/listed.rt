@@ -19,7 +19,8 @@ impl<const W: usize> GraphOf<W> {
     ) -> Result<Option<GraphOf<W>>, Memory>
         requires count { count ≤ 64 * W }
         requires limit { W ≤ WORDS }
-        ensures made { IfOk result (λ found. IfSome found (λ g. g ≡ graph_of_list count edges.now)) }
+        ensures made { IfOk result (λ found.
+            IfSome found (λ g. g ≡ graph_of_list count edges.now)) }
         ensures sound { IfOk result (λ found. IfSome found (λ _. AreEdgesBelow count edges.now)) }
         ensures none { IfOk result (λ found. IfNone found (AreEdgesBelow count edges.now → ⊥)) }
     {

@@ -89,7 +89,8 @@ impl<const W: usize> Set<W> {
         }
     }
 
-    /// Takes in the `count` names from `from` on, 64 at once. Condition: all are names below `64 * W`.
+    /// Takes in the `count` names from `from` on, 64 at once. Condition: all are names below
+    /// `64 * W`.
     pub fn insert_range(&mut self, from: u32, count: u32)
         requires { from + count ≤ 64 * W }
         ensures { self.new ≡ set.union self.old (range from count) }

@@ -133,8 +133,9 @@ pub(crate) fn keep_alone(
     requires of_hold { used ≤ length of.now }
     requires first_hold { used ≤ length first.now }
     requires second_hold { used ≤ length second.now }
-    ensures first { (k : ℕ) → k < used → slice_index words.new k ≡ bit_xor (slice_index of.now k)
-        (bit_and (slice_index of.now k) (bit_or (slice_index first.now k) (slice_index second.now k))) }
+    ensures first { (k : ℕ) → k < used → slice_index words.new k
+        ≡ bit_xor (slice_index of.now k) (bit_and (slice_index of.now k)
+        (bit_or (slice_index first.now k) (slice_index second.now k))) }
     ensures rest { (k : ℕ) → used ≤ k → slice_index words.new k ≡ slice_index words.old k }
     ensures none { result ≡ 0 → (k : ℕ) → k < used → slice_index words.new k ≡ 0 }
 {

@@ -5,10 +5,6 @@ use Rattle.std.proofs.lemmas.Bool.{cases_lt, cases_eq}
 use Rattle.std.proofs.lemmas.Bool.Decides.{nat_tests}
 use Rattle.md_graph.proofs.SetLaws.{contains-empty}
 use Rattle.std.specs.FinSet as set
-use Rattle.md_graph.specs.declared.TheConstants.{NAMES}
-use Rattle.md_graph.specs.NameSet.{AllBelow, ascending}
-use Rattle.md_graph.proofs.MemberLists.{ascending_limit}
-use Rattle.md_graph.proofs.NameLemmas.{few_below}
 use Rattle.md_graph.specs.Sets.{NameSet}
 
 -- a loop over a list has `i` items behind it and the others before it
@@ -36,11 +32,6 @@ at_end {items} {rest} {i} at_i e =
     let none : length (drop i items) ≡ 0 = ap length (sym at_i.is ∙ e) in
     let inside = at_i.inside in
     omega arith
-
--- members below a limit are at most so many
-pub few_in : (s : NameSet) (limit : ℕ) → AllBelow s limit → limit ≤ NAMES → length (ascending s) ≤ limit
-few_in s limit below few =
-    subst (λ l. length l ≤ limit) (ascending_limit s 0 limit below few) (few_below s 0 limit)
 
 -- ---- the loops of the writer
 

@@ -2,8 +2,8 @@
 -- Source: our own.
 use Rattle.std.specs.Prelude.{◌≡◌, Bool, true, false, Option, None, Some}
 use Rattle.md_graph.specs.PlainGraph.{PlainGraph, empty_graph}
-use Rattle.md_input.specs.declared.room.Sized.{Sized}
-use Rattle.md_input.specs.declared.room.Sized.TheVariants.{Small, Large}
+use Rattle.md_input.specs.declared.room.GraphBySize.{GraphBySize}
+use Rattle.md_input.specs.declared.room.GraphBySize.TheVariants.{Small, Large}
 
 -- the large graph; without room for it the one without vertices
 abbrev pub large_graph : Option PlainGraph → PlainGraph
@@ -21,6 +21,6 @@ IsOneIn true small large = small ≡ empty_graph
 IsOneIn false small large = large_graph large ≡ empty_graph
 
 -- what is handed out is this graph
-abbrev pub IsSizedAs : Sized → PlainGraph → Type 0
-IsSizedAs (Small r) g = r.now ≡ g
-IsSizedAs (Large r) g = r.now ≡ g
+abbrev pub IsGraphBySize : GraphBySize → PlainGraph → Type 0
+IsGraphBySize (Small r) g = r.now ≡ g
+IsGraphBySize (Large r) g = r.now ≡ g

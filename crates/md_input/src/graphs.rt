@@ -76,10 +76,10 @@ impl<'a> Graphs<'a> {
         self.lines.next(graph)
     }
 
-    /// Makes the graph in the room the first of the graphs, takes that off, and answers true; a small
-    /// one is read into one word a row. It answers false exactly where no graph is left, and the room
-    /// then stays without vertices. Condition: the graph in the room has no vertices. Errors: want
-    /// of memory; nothing changes then.
+    /// Makes the graph in the room the first of the graphs, takes that off, and answers true; a
+    /// small one is read into one word a row. It answers false exactly where no graph is left, and
+    /// the room then stays without vertices. Condition: the graph in the room has no vertices.
+    /// Errors: want of memory; nothing changes then.
     pub fn next_into(&mut self, alloc: Global, room: &mut Room) -> Result<bool, Memory>
         requires { room.old ≡ empty_graph }
         ensures first { IfOk result (λ found. OnTrue found (self.old ≡ room.new ∷ self.new)) }
@@ -87,6 +87,7 @@ impl<'a> Graphs<'a> {
         ensures none_left { IfOk result (λ found. OnFalse found (self.new ≡ [])) }
         ensures stays { IfOk result (λ found. OnFalse found (room.new ≡ empty_graph)) }
         ensures err { IsErr result → self.new ≡ self.old }
+        ensures err_room { IsErr result → room.new ≡ empty_graph }
     {
         if let Some(first) = self.first.take() {
             room.put(first);

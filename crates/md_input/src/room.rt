@@ -3,7 +3,7 @@ ghost use Rattle.std.specs.Prelude.{◌≡◌, [], ◌∷◌, IfOk, IsErr};
 ghost use Rattle.std.specs.Bool.{OnTrue, OnFalse};
 ghost use Rattle.md_graph.specs.PlainGraph.{empty_graph};
 ghost use Rattle.md_graph6.specs.First.{FirstBelow};
-ghost use Rattle.md_input.specs.Rooms.{IsSizedAs};
+ghost use Rattle.md_input.specs.Rooms.{IsGraphBySize};
 
 use md_graph::{Graph, GraphOf, Memory};
 use md_graph6::Lines;
@@ -12,13 +12,13 @@ use std::marker::Model;
 
 /// A graph by the number of words in its rows: one, or as many as there may be.
 #[derive(Clone, Copy)]
-pub enum Sized<'a> {
+pub enum GraphBySize<'a> {
     Small(&'a GraphOf<1>),
     Large(&'a Graph),
 }
 
-/// Room for one graph after the other, seen as the graph that is in it. A small graph takes one word
-/// a row; the rows of large ones are taken when the first of them comes.
+/// Room for one graph after the other, seen as the graph that is in it. A small graph takes one
+/// word a row; the rows of large ones are taken when the first of them comes.
 #[derive(Drop)]
 pub struct Room {
     small: GraphOf<1>,
@@ -28,7 +28,6 @@ pub struct Room {
 
 impl Model for Room {
     ghost use Rattle.md_graph.specs.PlainGraph.{PlainGraph, graph_code};
-    ghost use Rattle.md_graph6.specs.First.{FirstBelow};
     ghost use Rattle.md_input.specs.Rooms.{graph_in, IsOneIn};
 
     ghost Value = { PlainGraph };
@@ -53,15 +52,15 @@ impl Room {
     }
 
     /// The graph that is in it.
-    pub fn graph(&self) -> Sized<'_>
-        ensures { IsSizedAs result self.now }
+    pub fn graph(&self) -> GraphBySize<'_>
+        ensures { IsGraphBySize result self.now }
     {
         if self.is_large {
             if let Some(large) = &self.large {
-                return Sized::Large(large);
+                return GraphBySize::Large(large);
             }
         }
-        Sized::Small(&self.small)
+        GraphBySize::Small(&self.small)
     }
 
     /// All vertices and edges go.
@@ -107,6 +106,7 @@ impl Room {
         ensures none_left { IfOk result (λ found. OnFalse found (lines.new ≡ [])) }
         ensures stays { IfOk result (λ found. OnFalse found (self.new ≡ empty_graph)) }
         ensures err { IsErr result → lines.new ≡ lines.old }
+        ensures err_room { IsErr result → self.new ≡ empty_graph }
     {
         let mut graph = match self.large.take() {
             Some(graph) => graph,

@@ -28,8 +28,8 @@ pub struct GatheringSink<W: Write + Drop> {
 }
 
 impl<W: Write + Drop> GatheringSink<W> {
-    /// A sink over a writer that keeps nothing and has failed at no put yet. Errors: want of memory,
-    /// told as `PutFault::Memory`.
+    /// A sink over a writer that keeps nothing and has failed at no put yet. Errors: want of
+    /// memory, told as `PutFault::Memory`.
     pub fn new(alloc: Global, writer: W) -> Result<GatheringSink<W>, PutFault>
         ensures reached { IfOk result (λ sink.
             ⟦<GatheringSink<W> as Sink>⟧.reached sink ≡ W.contents writer) }

@@ -11,9 +11,9 @@ use std::alloc::Global;
 use std::marker::Model;
 use std::sync::ledger::Ledger;
 
-/// `PLACES` places, each free or live. A live place has a kind, a parent or none, an ordered list of
-/// children, a tally and a note; a place is marked exactly where its tally or its note isn't 0, and
-/// the marked places are a list in the order in which they came onto it. That no place is below
+/// `PLACES` places, each free or live. A live place has a kind, a parent or none, an ordered list
+/// of children, a tally and a note; a place is marked exactly where its tally or its note isn't 0,
+/// and the marked places are a list in the order in which they came onto it. That no place is below
 /// itself is for the caller to keep.
 ///
 /// All memory is taken when the lists are made. Each call but `new` and `spare` is one step on the

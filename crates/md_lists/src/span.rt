@@ -35,8 +35,8 @@ impl Span {
         }
     }
 
-    // The span without the item that stands behind `previous` and before `next`. Condition: it isn't
-    // empty.
+    // The span without the item that stands behind `previous` and before `next`. Condition: it
+    // isn't empty.
     pub(crate) fn without(self, previous: Option<u32>, next: Option<u32>) -> Span
         requires { 0 < self.count }
         ensures { (xs ys : List ℕ) (x : ℕ) → self ≡ span_of (xs ++ x ∷ ys) →
@@ -64,7 +64,8 @@ impl Span {
     }
 }
 
-// An end of a span: the one it had where an item stands beside the place that changes, else another.
+// An end of a span: the one it had where an item stands beside the place that changes, else
+// another.
 fn end_of(beside: Option<u32>, had: Option<u32>, other: Option<u32>) -> Option<u32>
     ensures { result ≡ (if is_some beside then had else other) }
 {

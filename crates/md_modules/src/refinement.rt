@@ -63,8 +63,8 @@ fn begin<const W: usize>(set: &Set<W>, classes: &[Block<W>], at: usize, left: &m
     }
 }
 
-// The class at a place, which isn't empty, becomes one of its two parts, in `row` and outside it, and
-// the other one is a new class, the last one; `left` takes in its names.
+// The class at a place, which isn't empty, becomes one of its two parts, in `row` and outside it,
+// and the other one is a new class, the last one; `left` takes in its names.
 fn split<const W: usize>(
     alloc: Global,
     classes: &mut Vec<Block<W>>,
@@ -89,7 +89,8 @@ fn split<const W: usize>(
     Ok(())
 }
 
-// Moves one of the two parts of a nonempty class, in `row` and outside it, to the empty set `other`.
+// Moves one of the two parts of a nonempty class, in `row` and outside it, to the empty set
+// `other`.
 fn divide<const W: usize>(
     alloc: Global,
     class: &mut Block<W>,

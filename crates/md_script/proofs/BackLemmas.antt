@@ -16,9 +16,9 @@ use Rattle.md_graph.proofs.SetLemmas.{remove_insert, clash}
 use Rattle.md_script.specs.declared.edit.Edit.{Edit}
 use Rattle.md_script.specs.declared.edit.Edit.TheVariants.{AddEdge, DelEdge, AddVertex, DelVertex}
 use Rattle.md_script.specs.declared.edit.EditReason.{EditReason}
-use Rattle.md_script.specs.Edit.{reason_of}
 use Rattle.md_script.proofs.ChangeLemmas.{neighbours_are_vertices, after_is_graph, vertex_added}
-use Rattle.md_script.specs.TakenBack.{Led}
+use Rattle.md_script.specs.Edit.{HasNames, reason_of, after}
+use Rattle.md_script.specs.TakenBack.{Led, lost_row}
 
 -- ---- sets
 
@@ -203,3 +203,9 @@ deleted_vertex_back h next back edit row x same added made g before =
     ∙ ap (λ (k : PlainGraph). with_edges k x row) (added ∙ ap (λ (k : PlainGraph). with_vertex k x) led.next_is)
     ∙ ap (with_edges (with_vertex (without_vertex g x) x) x) led.row_is
     ∙ no_vertex_and_back g x led.is_graph (only_passes (set.contains g.vertices x) _ led.no_reason)
+
+-- what taking an edit back asks of the one who applied it
+pub led : (g h : PlainGraph) (edit : Edit) (row : NameSet) → IsGraph g → HasNames edit → reason_of g edit ≡ None
+    → row ≡ lost_row g edit → h ≡ after g edit → Led g edit row h
+led g h edit row is_graph names no_reason row_is next_is =
+    record { is_graph = is_graph; names = names; no_reason = no_reason; row_is = row_is; next_is = next_is }

@@ -147,9 +147,9 @@ fn has_no_prime(tree: &Option<Tree>) -> bool
     }
 }
 
-// Changes the cotree of a graph as an edit changes the graph; whether that was done. Where it wasn't,
-// the graph after the edit has an induced P4, and the cotree stays. Condition: no reason speaks
-// against the edit, and its names are names.
+// Changes the cotree of a graph as an edit changes the graph; whether that was done. Where it
+// wasn't, the graph after the edit has an induced P4, and the cotree stays. Condition: no reason
+// speaks against the edit, and its names are names.
 fn change<L: Ledger>(tree: &mut Cotree, edit: &Edit, steps: &mut Steps<L>) -> bool
     requires denotes { (g : PlainGraph) × Denotes tree.old g × (reason_of g edit.now ≡ None) }
     requires names { HasNames edit.now }
@@ -174,8 +174,8 @@ fn change<L: Ledger>(tree: &mut Cotree, edit: &Edit, steps: &mut Steps<L>) -> bo
     }
 }
 
-// An induced P4 of the graph after an edit; the graph stays. Conditions: the graph is a cograph, and
-// the one after the edit isn't; no reason speaks against the edit, and its names are names.
+// An induced P4 of the graph after an edit; the graph stays. Conditions: the graph is a cograph,
+// and the one after the edit isn't; no reason speaks against the edit, and its names are names.
 fn p4_behind(graph: &mut Graph, edit: &Edit) -> P4
     requires cograph { IsCograph graph.old }
     requires applies { reason_of graph.old edit.now ≡ None }

@@ -44,8 +44,8 @@ pub fn session_check<O: Sink>(
     report: &[u8],
     out: &mut O,
 ) -> Result<Verdict, Stop>
-    ensures ends { CommandEnds (Request.CheckSession mode from file.now script.now report.now) result
-        (sink_run O.Sink out.old out.new) }
+    ensures ends { CommandEnds (Request.CheckSession mode from file.now script.now report.now)
+        result (sink_run O.Sink out.old out.new) }
     ensures faults_never_fall { O.faults out.old ≤ O.faults out.new }
 {
     let answer = check_session(alloc, mode, from, file, script, report)?;

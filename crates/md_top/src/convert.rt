@@ -10,7 +10,7 @@ ghost use Rattle.md_top.specs.Command.{CommandEnds};
 use crate::put::put_piece;
 use crate::stop::{PutStop, Stop, Verdict};
 use md_graph::{GraphOf, Memory};
-use md_input::{Format, Graphs, Room, Sized};
+use md_input::{Format, Graphs, Room, GraphBySize};
 use md_io::Sink;
 use std::alloc::Global;
 
@@ -57,8 +57,8 @@ fn put_text<O: Sink>(alloc: Global, to: Format, room: &Room, out: &mut O) -> Res
     ensures faults_never_fall { O.faults out.old ≤ O.faults out.new }
 {
     let text = match room.graph() {
-        Sized::Small(graph) => text_of(alloc, to, graph)?,
-        Sized::Large(graph) => text_of(alloc, to, graph)?,
+        GraphBySize::Small(graph) => text_of(alloc, to, graph)?,
+        GraphBySize::Large(graph) => text_of(alloc, to, graph)?,
     };
     put_piece(out, &text)
 }

@@ -24,8 +24,8 @@ pub fn run_in_memory(
     err: &mut SafeSink,
 ) -> Status
     ensures usage { (result ≡ Status.Usage) ↔ (request_of (texts words.now) ≡ None) }
-    ensures asked { AsksInOrder (⟦<MemFiles as Files>⟧.asked files.old) (⟦<MemFiles as Files>⟧.asked files.new)
-        (names_of (request_of (texts words.now))) }
+    ensures asked { AsksInOrder (⟦<MemFiles as Files>⟧.asked files.old)
+        (⟦<MemFiles as Files>⟧.asked files.new) (names_of (request_of (texts words.now))) }
     ensures bad_input { result ≡ Status.BadInput → (fault : Fault)
         × CanBeBad (⟦<MemFiles as Files>⟧.holds files.old) (request_of (texts words.now)) fault }
     ensures read_fault { result ≡ Status.ReadFault
@@ -34,7 +34,8 @@ pub fn run_in_memory(
     ensures too_long { result ≡ Status.TooLong
         → Rose (⟦<MemFiles as Files>⟧.overs files.old) (⟦<MemFiles as Files>⟧.overs files.new) }
     ensures no_read_fault { IsTrue (⟦<MemFiles as Files>⟧.sure files.old)
-        → AllToldFiles (⟦<MemFiles as Files>⟧.holds files.old) (names_of (request_of (texts words.now)))
+        → AllToldFiles (⟦<MemFiles as Files>⟧.holds files.old)
+        (names_of (request_of (texts words.now)))
         → result ≢ Status.ReadFault }
     ensures good { (input : Request (List ℕ))
         → IsInput (⟦<MemFiles as Files>⟧.holds files.old) (request_of (texts words.now)) input
@@ -50,8 +51,8 @@ pub fn run_in_memory(
         → CanBeRejected (⟦<MemFiles as Files>⟧.holds files.old) (request_of (texts words.now)) }
     ensures out { Puts (⟦<MemFiles as Files>⟧.holds files.old) (request_of (texts words.now)) result
         (sink_run ⟦<SafeSink as Sink>⟧ out.old out.new) }
-    ensures err { TakesLineOf (⟦<MemFiles as Files>⟧.holds files.old) (request_of (texts words.now)) result
-        (sink_run ⟦<SafeSink as Sink>⟧ err.old err.new)
+    ensures err { TakesLineOf (⟦<MemFiles as Files>⟧.holds files.old)
+        (request_of (texts words.now)) result (sink_run ⟦<SafeSink as Sink>⟧ err.old err.new)
         (⟦<SafeSink as Sink>⟧.wants err.old) (⟦<SafeSink as Sink>⟧.wants err.new) }
     ensures told { ⟦<MemFiles as Files>⟧.holds files.new ≡ ⟦<MemFiles as Files>⟧.holds files.old }
 {

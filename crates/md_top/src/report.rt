@@ -16,7 +16,7 @@ use crate::put::put_report_line;
 use crate::stop::{PutStop, Stop, Verdict};
 use md_decompose::decompose;
 use md_graph::{Graph, GraphOf, Memory};
-use md_input::{Format, Graphs, Room, Sized};
+use md_input::{Format, Graphs, Room, GraphBySize};
 use md_io::Sink;
 use md_orient::{PermVerdict, Verdict as Orientation, model, orient};
 use md_report::{GraphMode, Line};
@@ -107,8 +107,8 @@ fn put_tree<O: Sink>(
     ensures faults_never_fall { O.faults out.old ≤ O.faults out.new }
 {
     let line = match room.graph() {
-        Sized::Small(graph) => tree_line(alloc, graph)?,
-        Sized::Large(graph) => tree_line(alloc, graph)?,
+        GraphBySize::Small(graph) => tree_line(alloc, graph)?,
+        GraphBySize::Large(graph) => tree_line(alloc, graph)?,
     };
     put_report_line(alloc, line, out)
 }

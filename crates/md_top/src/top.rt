@@ -56,7 +56,8 @@ pub fn run<F: Files, O: Sink, E: Sink>(
         → (result ≡ Status.BadInput) ⊎ (result ≡ Status.ReadFault) ⊎ (result ≡ Status.Memory) }
 
     // Done, Rejected and a writing fault come only over well-formed input.
-    ensures good_input { (result ≡ Status.Done) ⊎ (result ≡ Status.Rejected) ⊎ (result ≡ Status.WriteFault)
+    ensures good_input {
+        (result ≡ Status.Done) ⊎ (result ≡ Status.Rejected) ⊎ (result ≡ Status.WriteFault)
         → CanBeGood (F.holds files.old) (request_of (texts words.now)) }
 
     // Rejected comes exactly where a report is to be checked and isn't valid. A fault of the
@@ -71,7 +72,8 @@ pub fn run<F: Files, O: Sink, E: Sink>(
         ⊎ (result ≡ Status.Memory) }
 
     // A fault of the outside is answered only where its count rose.
-    ensures read_fault { result ≡ Status.ReadFault → Rose (F.faults files.old) (F.faults files.new) }
+    ensures read_fault { result ≡ Status.ReadFault
+        → Rose (F.faults files.old) (F.faults files.new) }
     ensures write_fault { result ≡ Status.WriteFault → Rose (O.faults out.old) (O.faults out.new) }
     ensures too_long { result ≡ Status.TooLong → Rose (F.overs files.old) (F.overs files.new) }
 

@@ -25,8 +25,8 @@ struct Low {
     begin: u32,
 }
 
-// The pairs of a node of the kind with so many children, and what stands behind its bracket; none if
-// no pairs that it may list stand there, with the bracket behind them.
+// The pairs of a node of the kind with so many children, and what stands behind its bracket; none
+// if no pairs that it may list stand there, with the bracket behind them.
 pub(crate) fn read_end<'a>(
     alloc: Global,
     text: &'a [u8],
@@ -232,8 +232,9 @@ fn is_of_positions(pair: Pair, count: usize) -> bool
     pair.low < pair.high && (pair.high as usize) < count
 }
 
-// Goes on past pairs that are like the one before, if that has the lower position of the pair before
-// it, the `last` one. So a pair of a sparse node is not made ready for the loop over such pairs.
+// Goes on past pairs that are like the one before, if that has the lower position of the pair
+// before it, the `last` one. So a pair of a sparse node is not made ready for the loop over such
+// pairs.
 #[inline(always)]
 fn read_run<'a>(
     text: &'a [u8],

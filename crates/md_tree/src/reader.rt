@@ -36,10 +36,10 @@ impl From<Memory> for TreeFault {
     }
 }
 
-/// The tree with this text, none for the word `empty`. A well-formed tree is built while its text is
-/// read, once; where that is given up, the text is gone through by the grammar alone, of each open
-/// node its kind. No call nests as deep as the tree. Errors: where the bytes leave the grammar; or
-/// they are the text of no well-formed tree; or want of memory.
+/// The tree with this text, none for the word `empty`. A well-formed tree is built while its text
+/// is read, once; where that is given up, the text is gone through by the grammar alone, of each
+/// open node its kind. No call nests as deep as the tree. Errors: where the bytes leave the
+/// grammar; or they are the text of no well-formed tree; or want of memory.
 pub fn read_tree(alloc: Global, bytes: &[u8]) -> Result<Option<Tree>, TreeFault>
     ensures { IsTreeReading bytes.now result }
 {

@@ -63,8 +63,8 @@ struct Open<'a> {
     edges: &'a QuotientEdges,
 }
 
-// The open nodes stand on a stack of their own, the innermost last, so that no call nests as deep as
-// the tree.
+// The open nodes stand on a stack of their own, the innermost last, so that no call nests as deep
+// as the tree.
 fn push_tree(
     alloc: Global,
     text: &mut Vec<u8>,

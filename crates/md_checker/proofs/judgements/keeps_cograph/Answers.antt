@@ -2,22 +2,15 @@ use Rattle.std.proofs.Common.{sym, subst}
 use Rattle.md_report.specs.Made.{Shows}
 use Rattle.md_report.proofs.MadePaths.{shown}
 use Rattle.md_checker.proofs.Applying.{path_made, none_made}
+use Rattle.md_script.proofs.BackLemmas.{led}
 use Rattle.md_checker.proofs.judgements.keeps_cograph.Goals as goal
 
 pub made_p4-requires : goal.made_p4-requires
 made_p4-requires c = subst (λ h. Shows h c.args.edit.now) (sym c.apply.ensures) (shown c.args.graph.now c.args.edit.now c.requires.applies)
 
 pub take_back-requires : goal.take_back-requires
-take_back-requires c = (
-  c.args.graph.now,
-  record {
-    is_graph = c.lost_row-row.ensures.graph;
-    names = c.requires.names;
-    no_reason = c.requires.applies;
-    row_is = c.lost_row-row.ensures.row;
-    next_is = c.apply.ensures;
-  },
-)
+take_back-requires c =
+    (c.args.graph.now, led c.args.graph.now _ _ _ c.lost_row-row.ensures.graph c.requires.names c.requires.applies c.lost_row-row.ensures.row c.apply.ensures)
 
 pub returns-in-Some-clause-may : goal.returns-in-Some-clause-may
 returns-in-Some-clause-may c =

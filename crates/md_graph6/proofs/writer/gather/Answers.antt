@@ -3,7 +3,8 @@ use Rattle.std.specs.FinSet as set
 use Rattle.md_graph.specs.NameSet.{ascending}
 use Rattle.md_graph.proofs.Limits.{words_few}
 use Rattle.md_graph6.specs.Written.{nth}
-use Rattle.md_graph6.proofs.Listed.{few_in, at_start, at_turn, at_end, gathered_none, gathered_more}
+use Rattle.md_graph.proofs.MemberLists.{few_in}
+use Rattle.md_graph6.proofs.Listed.{at_start, at_turn, at_end, gathered_none, gathered_more}
 use Rattle.md_graph6.proofs.writer.gather.Goals as goal
 
 pub loop-u-init : goal.loop-u-init

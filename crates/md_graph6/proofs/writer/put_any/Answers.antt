@@ -5,7 +5,8 @@ use Rattle.md_graph.specs.NameSet.{ascending}
 use Rattle.md_graph6.specs.Written.{IsWritten}
 use Rattle.md_graph.proofs.Limits.{NAMES-lt, words_few}
 use Rattle.md_graph.proofs.NameLemmas.{few_below, ascending_items}
-use Rattle.md_graph6.proofs.Listed.{few_in, at_start, at_turn, at_end}
+use Rattle.md_graph.proofs.MemberLists.{few_in}
+use Rattle.md_graph6.proofs.Listed.{at_start, at_turn, at_end}
 use Rattle.md_graph6.proofs.WriteLemmas.{IsWritten-more, gathered_column, pair_next, pair_mono}
 use Rattle.md_graph6.proofs.writer.put_any.Goals as goal
 

@@ -1,22 +1,15 @@
 use Rattle.std.proofs.Common.{subst, sym}
 use Rattle.md_report.specs.Made.{Shows, HasNoneMade}
 use Rattle.md_report.proofs.MadePaths.{shown, still_cograph}
+use Rattle.md_script.proofs.BackLemmas.{led}
 use Rattle.md_session.proofs.cograph.p4_behind.Goals as goal
 
 pub made_p4-found-requires : goal.made_p4-found-requires
 made_p4-found-requires c = subst (λ h. Shows h c.args.edit.now) (sym c.apply.ensures) (shown c.args.graph.now c.args.edit.now c.requires.applies)
 
 pub take_back-requires : goal.take_back-requires
-take_back-requires c = (
-  c.args.graph.now,
-  record {
-    is_graph = c.lost_row-row.ensures.graph;
-    names = c.requires.names;
-    no_reason = c.requires.applies;
-    row_is = c.lost_row-row.ensures.row;
-    next_is = c.apply.ensures;
-  },
-)
+take_back-requires c =
+    (c.args.graph.now, led c.args.graph.now _ _ _ c.lost_row-row.ensures.graph c.requires.names c.requires.applies c.lost_row-row.ensures.row c.apply.ensures)
 
 pub unreachable-requires : goal.unreachable-requires
 unreachable-requires c =
