@@ -14,4 +14,4 @@ pub use fault::{Fault, InputStop};
 pub use format::Format;
 pub use graphs::Graphs;
 pub use inputs::{one_graph, read_script};
-pub use room::{Room, GraphBySize};
+pub use room::{GraphBySize, Room};

@@ -10,7 +10,7 @@ ghost use Rattle.md_top.specs.Command.{CommandEnds};
 use crate::put::put_piece;
 use crate::stop::{PutStop, Stop, Verdict};
 use md_graph::{GraphOf, Memory};
-use md_input::{Format, Graphs, Room, GraphBySize};
+use md_input::{Format, GraphBySize, Graphs, Room};
 use md_io::Sink;
 use std::alloc::Global;
 

@@ -16,7 +16,7 @@ use crate::put::put_report_line;
 use crate::stop::{PutStop, Stop, Verdict};
 use md_decompose::decompose;
 use md_graph::{Graph, GraphOf, Memory};
-use md_input::{Format, Graphs, Room, GraphBySize};
+use md_input::{Format, GraphBySize, Graphs, Room};
 use md_io::Sink;
 use md_orient::{PermVerdict, Verdict as Orientation, model, orient};
 use md_report::{GraphMode, Line};
