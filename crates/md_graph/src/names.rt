@@ -320,9 +320,9 @@ impl<const W: usize> Set<W> {
         }
     }
 
-    // Takes in each name `first + k` for which bit k of `bits` is 1: 64 names at once.
-    // Condition: `first` is a name below `64 * W` and a multiple of 64.
-    pub(crate) fn insert_block(&mut self, first: u32, bits: u64)
+    /// Takes in each name `first + k` for which bit k of `bits` is 1: 64 names at once. For readers.
+    /// Condition: `first` is a name below `64 * W` and a multiple of 64.
+    pub fn insert_block(&mut self, first: u32, bits: u64)
         requires name { first < 64 * W }
         requires aligned { first % 64 ≡ 0 }
         ensures { self.new ≡ set.union self.old (block first bits) }

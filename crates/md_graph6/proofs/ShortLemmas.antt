@@ -1,17 +1,21 @@
 -- Short lines: the unread bits, and the graph that grows column by column.
-use Rattle.std.proofs.Common.{◌≡◌, ℕ, ◌+◌, ◌-◌, ◌*◌, ◌/◌, ◌%◌, ◌^◌, ◌<◌, ◌≤◌, ◌≢◌, Bool, true, false, ◌&&◌, ◌||◌, ◌==◌, nat_lt, List, refl, ap, ◌∙◌, arith, bit_or, inl, inr}
+use Rattle.std.proofs.Common.{◌≡◌, ℕ, ◌+◌, ◌-◌, ◌*◌, ◌/◌, ◌%◌, ◌^◌, ◌<◌, ◌≤◌, ◌≢◌, Bool, true, false, ◌&&◌, ◌||◌, ◌==◌, if◌then◌else◌, nat_lt, leb, ltb, List, sym, refl, ap, ◌∙◌, arith, bit_or, inl, inr}
 use Rattle.std.specs.Int.{bit_at}
 use Rattle.std.specs.FinSet as set
-use Rattle.std.proofs.lemmas.Bool.{cases_eq}
+use Rattle.std.proofs.lemmas.Bool.{cases_eq, cases_lt}
 use Rattle.std.proofs.lemmas.Bool.Decides.{nat_tests}
 use Rattle.std.proofs.lemmas.Nat.{shr-shr, shr_below, shl_whole, or_comm, or_shifted}
-use Rattle.md_graph.specs.Sets.{Has}
-use Rattle.md_graph.specs.PlainGraph.{PlainGraph, IsGraph, adjacent, with_edge}
-use Rattle.md_graph.proofs.GraphLemmas.{IsGraph-with_edge, adjacent-with_edge}
+use Rattle.md_graph.specs.declared.TheConstants.{NAMES}
+use Rattle.md_graph.specs.Sets.{NameSet, Has, Lacks}
+use Rattle.md_graph.specs.NameSet.{block}
+use Rattle.md_graph.specs.PlainGraph.{PlainGraph, IsGraph, adjacent, with_edges}
+use Rattle.md_graph.proofs.SetLaws.{contains-union, contains-empty}
+use Rattle.md_graph.proofs.BitWords.{contains-block_below}
+use Rattle.md_graph.proofs.GraphLemmas.{IsGraph-with_edges, adjacent-with_edges}
 use Rattle.md_graph6.specs.Bits.{bit, pair_number}
 use Rattle.md_graph6.specs.Window.{IsWindow}
 use Rattle.md_graph6.specs.Filled.{HasVertices}
-use Rattle.md_graph6.specs.Short.{IsUnread, IsWithPair, IsWithColumn, IsFilledTo}
+use Rattle.md_graph6.specs.Short.{IsUnread, IsWithColumn, IsFilledTo}
 use Rattle.md_graph6.proofs.BitLemmas.{joined_window}
 use Rattle.md_graph6.proofs.WriteLemmas.{pair_next}
 
@@ -46,18 +50,49 @@ unread_behind body j word held at enough unread = record {
   next = omega (arith, unread.next, pair_next j);
 }
 
--- ---- one pair
+-- ---- one column
 
-pub pair_wanted : {g new : PlainGraph} (i j : ℕ) (wanted : Bool) → IsGraph g → i < j → Has g.vertices i × Has g.vertices j → new ≡ with_edge g i j
-    → wanted ≡ true → IsWithPair g i j wanted new
-pair_wanted {g} {new} i j wanted is up ends e told = rw (e, told) (record {
+by_word : (a j x y : ℕ) → j < 64 → (a < 64 → x ≡ (if nat_lt a j then y else 0)) → (false || (leb 0 a && (ltb (a - 0) 64 && (x == 1)))) ≡ (nat_lt a j && (y == 1))
+by_word a j x y short is = elim (cases_lt a j) [
+  | inl less ↦ let inside : a < 64 = omega arith in let e = is inside in grind (arith, nat_tests)
+  | inr more ↦ elim (cases_lt a 64) [
+    | inl inside ↦ let e = is inside in grind (arith, nat_tests)
+    | inr beyond ↦ grind (arith, nat_tests)
+  ]
+]
+
+-- a set has the numbers below j whose bits are 1
+abbrev pub IsColumn : ℕ → ℕ → NameSet → Type 0
+IsColumn j word column = (a : ℕ) → set.contains column a ≡ (nat_lt a j && (bit_at word a == 1))
+
+pub in_column : (j word bits : ℕ) (column : NameSet) → j < 64 → column ≡ set.union set.empty (block 0 bits)
+    → ((k : ℕ) → k < 64 → bit_at bits k ≡ (if nat_lt k j then bit_at word k else 0)) → IsColumn j word column
+in_column j word bits column short is low a =
+    ap (λ s. set.contains s a) is ∙ contains-union set.empty (block 0 bits) a ∙ rw (contains-empty a, contains-block_below 0 bits 64 a)
+    (by_word a j (bit_at bits (a - 0)) (bit_at word a) short (λ h. let e : a - 0 ≡ a = omega arith in ap (bit_at bits) e ∙ low a h))
+
+pub in_column_below : (j word : ℕ) (column : NameSet) → IsColumn j word column → (w : ℕ) → Has column w → w < j
+in_column_below j word column has w m = let t : (nat_lt w j && (bit_at word w == 1)) ≡ true = sym (has w) ∙ m in grind (arith, nat_tests)
+
+pub no_own : (j word : ℕ) (column : NameSet) → IsColumn j word column → Lacks column j
+no_own j word column has = has j ∙ none (bit_at word j == 1)
+  where
+    none : (x : Bool) → (nat_lt j j && x) ≡ false
+    none x = grind (arith, nat_tests)
+
+pub column_added : {g new : PlainGraph} (j word : ℕ) (column : NameSet) → j < 58 → IsGraph g → ((v : ℕ) → v ≤ j → Has g.vertices v)
+    → IsColumn j word column → new ≡ with_edges g j column → IsWithColumn g j word new
+column_added {g} {new} j word column short is ends has e = rw e (record {
   vertices = refl;
-  graph = IsGraph-with_edge is i j ends.0 ends.1 (λ (same : i ≡ j). omega arith);
-  pairs = λ a b less. adjacent-with_edge g i j a b ∙ one_way a b less (adjacent g a b);
+  graph = IsGraph-with_edges is j column (ends j (omega arith)) (λ w m. let less = in_column_below j word column has w m in ends w (omega arith)) (no_own j word column has);
+  pairs = λ a b less. adjacent-with_edges g j column names a b ∙ rw (has a, has b) (one_way a b less (bit_at word a == 1) (bit_at word b == 1) (adjacent g a b));
 })
   where
-    one_way : (a b : ℕ) → a < b → (x : Bool) → ((((a == i) && (b == j)) || ((a == j) && (b == i))) || x) ≡ (x || (((b == j) && (a == i)) && true))
-    one_way a b less x = grind (arith, nat_tests)
+    names : (w : ℕ) → Has column w → w < NAMES
+    names w m = let less = in_column_below j word column has w m in let limit : NAMES ≡ 4096 = refl in omega arith
+
+    one_way : (a b : ℕ) → a < b → (x y z : Bool) → ((((a == j) && (nat_lt b j && y)) || ((b == j) && (nat_lt a j && x))) || z) ≡ (z || (((b == j) && nat_lt a j) && x))
+    one_way a b less x y z = grind (arith, nat_tests)
 
 -- ---- the columns
 
@@ -72,7 +107,7 @@ filled_no_column {body} {n} {g} has = record {
     none b x = grind (arith, nat_tests)
 
 pub filled_column : {body : List ℕ} {n j word held at : ℕ} {g new : PlainGraph} → IsFilledTo body n j g → IsUnread body (pair_number 0 j) word held at → j ≤ held
-    → IsWithColumn g j j word new → IsFilledTo body n (j + 1) new
+    → IsWithColumn g j word new → IsFilledTo body n (j + 1) new
 filled_column {body} {n} {j} {word} {held} {at} {g} {new} filled unread enough column = record {
   vertices = λ v. ap (λ s. set.contains s v) column.vertices ∙ filled.vertices v;
   graph = column.graph;

@@ -1,5 +1,5 @@
 -- Short lines, read and written column by column: bits on the way between bytes and columns, and the graph on the way.
-use Rattle.std.specs.Prelude.{◌≡◌, ℕ, ◌+◌, ◌-◌, ◌*◌, ◌<◌, ◌≤◌, ◌==◌, ◌&&◌, ◌||◌, nat_lt, Bool, List, if◌then◌else◌}
+use Rattle.std.specs.Prelude.{◌≡◌, ℕ, ◌+◌, ◌-◌, ◌*◌, ◌<◌, ◌≤◌, ◌==◌, ◌&&◌, ◌||◌, nat_lt, List, if◌then◌else◌}
 use Rattle.std.specs.Int.{bit_at}
 use Rattle.std.specs.FinSet as set
 use Rattle.md_graph.specs.PlainGraph.{PlainGraph, IsGraph, adjacent}
@@ -11,18 +11,12 @@ pub record IsUnread (body : List ℕ) (place word held at : ℕ) : Type 0 where
   pub window : IsWindow body place held word
   pub next : 6 * at ≡ place + held
 
--- g with an edge between i < j if it is wanted
-pub record IsWithPair (g : PlainGraph) (i j : ℕ) (wanted : Bool) (new : PlainGraph) : Type 0 where
-  pub vertices : new.vertices ≡ g.vertices
-  pub graph : IsGraph new
-  pub pairs : (a b : ℕ) → a < b → adjacent new a b ≡ (adjacent g a b || (((b == j) && (a == i)) && wanted))
-
--- g with an edge between j and each of the first `count` numbers whose bit is 1
-pub record IsWithColumn (g : PlainGraph) (j count word : ℕ) (new : PlainGraph) : Type 0 where
+-- g with an edge between j and each number below it whose bit is 1
+pub record IsWithColumn (g : PlainGraph) (j word : ℕ) (new : PlainGraph) : Type 0 where
   pub vertices : new.vertices ≡ g.vertices
   pub graph : IsGraph new
   pub pairs : (a b : ℕ) → a < b
-      → adjacent new a b ≡ (adjacent g a b || (((b == j) && nat_lt a count) && (bit_at word a == 1)))
+      → adjacent new a b ≡ (adjacent g a b || (((b == j) && nat_lt a j) && (bit_at word a == 1)))
 
 -- a graph on the numbers below n that has the edges of the columns below j
 pub record IsFilledTo (body : List ℕ) (n j : ℕ) (g : PlainGraph) : Type 0 where

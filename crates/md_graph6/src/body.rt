@@ -1,5 +1,5 @@
-//! The bits of a graph6 line, one for each pair of vertices, read into a graph: bit by bit from a
-//! short line, 64 bits of 64 columns at once from a long one.
+//! The bits of a graph6 line, one for each pair of vertices, read into a graph: column by column
+//! from a short line, 64 bits of 64 columns at once from a long one.
 ghost use Rattle.std.specs.Prelude.{◌≡◌, ℕ, false, ◌+◌, ◌-◌, ◌*◌, ◌/◌, ◌%◌, ◌^◌, ◌<◌, ◌≤◌, ◌&&◌, nat_lt, length, get_or, if◌then◌else◌};
 ghost use Rattle.std.specs.Int.{bit_at};
 ghost use Rattle.std.specs.List.{AllPass};
@@ -9,9 +9,9 @@ ghost use Rattle.md_graph6.specs.Bits.{bit, pair_number, IsBodyOf};
 ghost use Rattle.md_graph6.specs.Line.{is_group};
 ghost use Rattle.md_graph6.specs.Window.{AreGroups, IsWindow};
 ghost use Rattle.md_graph6.specs.Filled.{IsBlock, IsFilled};
-ghost use Rattle.md_graph6.specs.Short.{IsUnread, IsWithPair, IsWithColumn, IsFilledTo};
+ghost use Rattle.md_graph6.specs.Short.{IsUnread, IsWithColumn, IsFilledTo};
 
-use md_graph::{GraphOf, NAMES};
+use md_graph::{GraphOf, NAMES, Set};
 
 // Each number below 64 with its six bits turned round.
 const TURNED: [u8; 64] = [
@@ -20,8 +20,8 @@ const TURNED: [u8; 64] = [
     19, 51, 11, 43, 27, 59, 7, 39, 23, 55, 15, 47, 31, 63,
 ];
 
-// A line of at most so many vertices is read bit by bit. The bits of a column and of one byte more
-// fit in a word up to 58, but from 25 on 64 bits at once take less.
+// A line of at most so many vertices is read column by column. The bits of a column and of one
+// byte more fit in a word up to 58, but from 25 on 64 bits at once take less.
 const MOST_SHORT: u32 = 24;
 
 // Six bits turned round.
@@ -243,32 +243,18 @@ fn behind_column(body: &[u8], unread: Unread, j: u32) -> Unread
     }
 }
 
-// Takes in the edge between i and j if it is wanted.
-#[inline]
-fn add_if<const W: usize>(graph: &mut GraphOf<W>, i: u32, j: u32, wanted: bool)
-    requires graph { IsGraph graph.old }
-    requires up { i < j }
-    requires ends { Has graph.old.vertices i × Has graph.old.vertices j }
-    requires absent { adjacent graph.old i j ≡ false }
-    ensures { IsWithPair graph.old i j wanted graph.new }
-{
-    if wanted {
-        graph.add_edge(i, j);
-    }
-}
-
 // Takes in an edge between j and each i < j for which bit i is 1.
 #[inline]
 fn add_column<const W: usize>(graph: &mut GraphOf<W>, j: u32, bits: u64)
     requires short { j < 58 }
     requires graph { IsGraph graph.old }
     requires ends { (v : ℕ) → v ≤ j → Has graph.old.vertices v }
-    requires absent { (a : ℕ) → a < j → adjacent graph.old a j ≡ false }
-    ensures { IsWithColumn graph.old j j bits graph.new }
+    ensures { IsWithColumn graph.old j bits graph.new }
 {
-    for i in 0..j {
-        add_if(graph, i, j, (bits >> i) % 2 == 1);
-    }
+    let _vertices = graph.vertices();
+    let mut column = Set::none();
+    column.insert_block(0, low_bits(bits, j));
+    graph.add_edges(j, &column);
 }
 
 // Takes in the edges of a short line, column by column.
