@@ -12,10 +12,9 @@ use Rattle.md_modules.proofs.Strong.{child_of}
 use Rattle.md_graph.proofs.Search.{some_len, first_member}
 use Rattle.md_tree.specs.declared.Kind.{Kind}
 use Rattle.md_tree.specs.declared.Kind.TheVariants.{Parallel, Series, Prime}
-use Rattle.md_tree.specs.declared.Pair.{Pair}
 use Rattle.md_tree.proofs.Folding.{each_join, each_parts}
 use Rattle.md_tree.proofs.Listing.{backward-append}
-use Rattle.md_tree.specs.Trees.{PlainTree, leaf, node, PlainTrees, names, row, count, EachNode, EachNodeBelow}
+use Rattle.md_tree.specs.Trees.{PlainTree, leaf, node, names, row, count, EachNode, EachNodeBelow}
 use Rattle.md_tree.specs.StrongTrees.{HasKind, IsBefore, IsTreeOf}
 use Rattle.md_text.proofs.Lists.{In, of_append, in_left, in_right, of_contains, to_contains, of_pairs}
 use Rattle.md_tree.proofs.Built.{IsBuilt}
@@ -116,7 +115,7 @@ opened_all k c cs all chain begun begun' now o is_all first is_begun is = (
 
 bare_chain : {w : ℕ} (e : ℕ → ℕ → Bool) (o : Open w) → HasNoChain o → HasChain e o
 bare_chain e (One v) bare = tt
-bare_chain e (Several b) bare = λ v least. steps_none b.value.names v b.value.chain.taken.items b.value.chain.steps.items bare.0 bare.1
+bare_chain e (Several b) bare = λ v least. steps_none b.names v b.chain.taken.items b.chain.steps.items bare.0 bare.1
 
 module _ {e : ℕ → ℕ → Bool} where
   -- the first child has the least name
@@ -149,8 +148,8 @@ module _ {e : ℕ → ℕ → Bool} where
   first_chain s c cs chain (Several b) are two chained is front = λ v least.
       let in_c : IsLeastFrom c 0 v = subst (λ n. IsLeastFrom n 0 v) is least in
       let child : IsMaximalStrong e s c = (are.exactly c).1 (to_contains (c ∷ cs) c (inl refl)) in
-      subst (λ n. AreSteps e n v b.value.chain.taken.items b.value.chain.steps.items) (sym is)
-      (steps_inside s c v (len c) chain b.value.chain (chained v (least_in_first s c cs are two v in_c)) child.is_strong in_c.member front refl)
+      subst (λ n. AreSteps e n v b.chain.taken.items b.chain.steps.items) (sym is)
+      (steps_inside s c v (len c) chain b.chain (chained v (least_in_first s c cs are two v in_c)) child.is_strong in_c.member front refl)
 
   -- each child has modules of it
   pub opened_children : {w : ℕ} (s : NameSet) (k : Kind) (cs : List NameSet) (chain : Chain) (os : List (Open w)) → AreChildren e s cs → HasTwo s → IsChainOf e s chain → AreOpen k cs chain os →
@@ -194,7 +193,7 @@ module _ {e : ℕ → ℕ → Bool} (adj : IsAdjacency e) where
 
   fits_open : {w : ℕ} (q : Open w) (k : Kind) → IsUnder (Some k) q → FitsBelow e (open_names q) (Some k) → FitsOpen e q
   fits_open (One v) k below fits = tt
-  fits_open (Several b) k below fits = subst (FitsBelow e b.value.names) (sym below) fits
+  fits_open (Several b) k below fits = subst (FitsBelow e b.names) (sym below) fits
 
   module _ (all : NameSet) where
     begun_as : {ps qs : List PlainPart} → ps ≡ qs → IsBegun e all ps → IsBegun e all qs
@@ -202,7 +201,7 @@ module _ {e : ℕ → ℕ → Bool} (adj : IsAdjacency e) where
 
     whole_fits : {w : ℕ} (o : Open w) → IsUnder None o → FitsOpen e o
     whole_fits (One v) top = tt
-    whole_fits (Several b) top = subst (FitsBelow e b.value.names) (sym top) tt
+    whole_fits (Several b) top = subst (FitsBelow e b.names) (sym top) tt
 
     whole_ready : {w : ℕ} (o : Open w) → HasSome all → open_names o ≡ all → IsUnder None o → HasNoChain o → IsReady e all o
     whole_ready o some same top bare = record {

@@ -17,37 +17,37 @@ use Rattle.md_decompose.specs.Chains.{IsChainOf, IsChainFront}
 -- the names of what waits
 abbrev pub open_names : {w : ℕ} → Open w → NameSet
 open_names (One v) = only_name v
-open_names (Several b) = b.value.names
+open_names (Several b) = b.names
 
 -- the set s below a node of kind p, if there is one, with a chain
 abbrev pub IsOpenOf : {w : ℕ} → NameSet → Option Kind → Chain → Open w → Type 0
 IsOpenOf s p chain (One v) = s ≡ only_name v
-IsOpenOf s p chain (Several b) = b.value ≡ record { names = s; parent = p; chain = chain }
+IsOpenOf s p chain (Several b) = b ≡ record { names = s; parent = p; chain = chain }
 
 -- a set below a node of kind p, or a vertex alone
 abbrev pub IsUnder : {w : ℕ} → Option Kind → Open w → Type 0
 IsUnder p (One v) = ⊤
-IsUnder p (Several b) = b.value.parent ≡ p
+IsUnder p (Several b) = b.parent ≡ p
 
 -- the kind of a set fits that of the node above
 abbrev pub FitsOpen : {w : ℕ} → (ℕ → ℕ → Bool) → Open w → Type 0
 FitsOpen e (One v) = ⊤
-FitsOpen e (Several b) = FitsBelow e b.value.names b.value.parent
+FitsOpen e (Several b) = FitsBelow e b.names b.parent
 
 -- the chain of a set has modules of it
 abbrev pub HasChain : {w : ℕ} → (ℕ → ℕ → Bool) → Open w → Type 0
 HasChain e (One v) = ⊤
-HasChain e (Several b) = IsChainOf e b.value.names b.value.chain
+HasChain e (Several b) = IsChainOf e b.names b.chain
 
 -- the chain of a set has no module
 abbrev pub HasNoChain : {w : ℕ} → Open w → Type 0
 HasNoChain (One v) = ⊤
-HasNoChain (Several b) = (b.value.chain.taken.items ≡ []) × (b.value.chain.steps.items ≡ [])
+HasNoChain (Several b) = (b.chain.taken.items ≡ []) × (b.chain.steps.items ≡ [])
 
 -- the chain of a set is a front of another one, with modules of at most n names
 abbrev pub HasFront : {w : ℕ} → Chain → ℕ → Open w → Type 0
 HasFront chain n (One v) = ⊤
-HasFront chain n (Several b) = IsChainFront chain n b.value.chain
+HasFront chain n (Several b) = IsChainFront chain n b.chain
 
 -- the sets that are to be taken apart
 abbrev pub sets_of : {w : ℕ} → List (Open w) → List NameSet

@@ -25,7 +25,7 @@ use std::alloc::Global;
 #[derive(Drop)]
 enum Open<const W: usize> {
     One(u32),
-    Several(Box<OpenSet<W>>),
+    Several(OpenSet<W>),
 }
 
 // A set of vertices whose tree is to come, the kind of the node above it, and modules of the set
@@ -56,7 +56,7 @@ pub fn decompose<const W: usize>(alloc: Global, graph: &GraphOf<W>) -> Result<Op
 }
 
 // The parts of the tree of a graph with a vertex. A prime graph has one more than vertices; room
-// for so many is taken at once.
+// for so many is taken at once, and for as many that wait.
 fn parts<const W: usize>(alloc: Global, graph: &GraphOf<W>) -> Result<Vec<Part>, Memory>
     requires { HasSome graph.now.vertices }
     ensures { IfOk result (λ parts. (t : PlainTree)
@@ -65,9 +65,9 @@ fn parts<const W: usize>(alloc: Global, graph: &GraphOf<W>) -> Result<Vec<Part>,
 {
     let vertices = graph.vertices();
     let mut parts = Vec::with_capacity(alloc, vertices.count() as usize + 1)?;
-    let mut waiting = Vec::new(alloc);
+    let mut waiting = Vec::with_capacity(alloc, vertices.count() as usize + 1)?;
     let whole = Block::of(alloc, vertices)?;
-    waiting.push(opened(alloc, whole, None, Chain::none(alloc))?)?;
+    waiting.push(opened(whole, None, Chain::none(alloc)))?;
     let mut places = Vec::new(alloc);
     while let Some(next) = waiting.pop() {
         take_apart(alloc, graph, next, &mut parts, &mut waiting, &mut places)?;
@@ -97,9 +97,7 @@ fn take_apart<const W: usize>(
             parts.push(Part::Leaf(name))?;
             Ok(())
         }
-        Open::Several(set) => {
-            take_set_apart(alloc, graph, Box::into_inner(set), parts, waiting, places)
-        }
+        Open::Several(set) => take_set_apart(alloc, graph, set, parts, waiting, places),
     }
 }
 
@@ -136,23 +134,17 @@ fn take_set_apart<const W: usize>(
 }
 
 // A set that is to be taken apart, with its chain.
-fn opened<const W: usize>(
-    alloc: Global,
-    names: Block<W>,
-    parent: Option<Kind>,
-    chain: Chain,
-) -> Result<Open<W>, Memory>
-    ensures { IfOk result (IsOpenOf names.entry parent chain) }
+fn opened<const W: usize>(names: Block<W>, parent: Option<Kind>, chain: Chain) -> Open<W>
+    ensures { IsOpenOf names.entry parent chain result }
 {
     if let Some(vertex) = names.alone() {
-        return Ok(Open::One(vertex));
+        return Open::One(vertex);
     }
-    let set = OpenSet {
+    Open::Several(OpenSet {
         names,
         parent,
         chain,
-    };
-    Ok(Open::Several(Box::new(alloc, set)?))
+    })
 }
 
 // The children's sets in order, so that the last one is taken apart first. The first one gets the
@@ -176,10 +168,10 @@ fn push_open<const W: usize>(
         return Ok(());
     };
     let chain = chain.within(alloc, first.count() as usize)?;
-    let next = opened(alloc, first, Some(kind), chain)?;
+    let next = opened(first, Some(kind), chain);
     waiting.push_reserved(next);
     for names in rest {
-        let next = opened(alloc, names, Some(kind), Chain::none(alloc))?;
+        let next = opened(names, Some(kind), Chain::none(alloc));
         waiting.push_reserved(next);
     }
     Ok(())

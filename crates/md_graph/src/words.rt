@@ -14,12 +14,16 @@ pub(crate) fn no_words<const W: usize>() -> [u64; W]
     [0; W]
 }
 
-// The first `used` words become 0.
+// The first `used` words become 0. One alone, as in sets of small graphs, is no call of `memset`.
 pub(crate) fn wipe(words: &mut [u64], used: usize)
     requires words_hold { used ≤ length words.old }
     ensures first { (k : ℕ) → k < used → slice_index words.new k ≡ 0 }
     ensures rest { (k : ℕ) → used ≤ k → slice_index words.new k ≡ slice_index words.old k }
 {
+    if used == 1 {
+        words[0] = 0;
+        return;
+    }
     for i in 0..used {
         words[i] = 0;
     }

@@ -12,8 +12,9 @@ use md_text::push_number;
 use md_tree::push_text;
 use std::alloc::Global;
 
-// Room for so many bytes is taken at once: a line of words and four names, and its line feed, fit.
-const SHORT: usize = 32;
+// Room for so many bytes is taken at once: the line of the tree of a small graph fits, and its line
+// feed.
+const SHORT: usize = 256;
 
 /// The text of a line, without a line feed. Errors: want of memory.
 pub fn write_line(alloc: Global, line: &Line) -> Result<Vec<u8>, Memory>

@@ -24,7 +24,7 @@ pub fn build(alloc: Global, mut parts: Vec<Part>) -> Result<Tree, Memory>
     ensures { IfOk result (λ tree. (t : PlainTree)
         → map plain_part parts.items ≡ parts_of t → plain tree ≡ t) }
 {
-    let mut stack = Vec::new(alloc);
+    let mut stack = Vec::with_capacity(alloc, parts.len())?;
     while let Some(part) = parts.pop() {
         put_part(&mut stack, part)?;
     }

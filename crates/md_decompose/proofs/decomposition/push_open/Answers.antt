@@ -25,8 +25,8 @@ loop-names-preserved g c =
     let steps = c.in-Some-names.ensures.steps in
     let yielded = c.loop-names.yielded in
     let names = c.in-Some-names.names in
-    let next = c.in_ok-next-2.next in
-    let is = c.in_ok-next-2.ensures in
+    let next = c.opened-next-in-loop-names.result in
+    let is = c.opened-next-in-loop-names.ensures in
     record {
       behind = behind_more c.args.kind c.push_reserved.new.self.items c.loop-names.waiting.items c.push_reserved-in-loop-names.new.self.items yielded (yielded ++ names ∷ []) names
           next c.loop-names.invariant.behind (opened_names names (Some c.args.kind) c.none.result next is) (opened_below names (Some c.args.kind) c.none.result next is)
@@ -50,8 +50,8 @@ returns g c =
     sym c.into_iter-rest.ensures.rest ∙ c.in-Some.ensures.items
     ∙ ap (λ ns. c.in-Some.first ∷ ns) (sym (ap (λ (r : _). r.rest.items) c.into_iter-names-iterator.ensures.into_iter_gives) ∙ others)
     in
-    let next = c.in_ok-next.next in
-    let is = c.in_ok-next.ensures in
+    let next = c.opened-next.result in
+    let is = c.opened-next.ensures in
     opened_all c.args.kind c.in-Some.first yielded c.args.sets.items c.args.chain.now c.args.waiting.now.items c.push_reserved.new.self.items c.loop-names.waiting.items
     next all
     (record {

@@ -1,10 +1,9 @@
-use Rattle.std.proofs.Common.{◌≡◌, [], map, IfOk, refl, sym, ◌∙◌, ap, subst, append-nil}
+use Rattle.std.proofs.Common.{◌≡◌, [], map, IfOk, refl, sym, ap, subst, append-nil}
 use Rattle.md_graph.specs.PlainGraph.{adjacent}
 use Rattle.md_tree.specs.declared.parts.Part.TheVariants.{Leaf}
 use Rattle.md_tree.specs.Parts.{plain_part, name}
 use Rattle.md_tree.proofs.Stacking.{map_one_more}
 use Rattle.md_decompose.specs.Turns.{open_names, IsTurn}
-use Rattle.md_decompose.specs.declared.decomposition.OpenSet.{OpenSet}
 use Rattle.md_decompose.proofs.decomposition.take_apart.Goals as goal
 
 pub returns-in_ok-push-in-One : goal.returns-in_ok-push-in-One
@@ -18,7 +17,7 @@ returns-in_ok-push-in-One g c = (
 
 pub returns-in-Several : goal.returns-in-Several
 returns-in-Several g c =
-    let same : c.into_inner.result.names ≡ open_names c.args.next = ap (λ (x : OpenSet g.row.W). x.names) c.into_inner.ensures ∙ sym (ap open_names c.in-Several.is) in
+    let same : c.in-Several.set.names ≡ open_names c.args.next = sym (ap open_names c.in-Several.is) in
     subst
     (λ s. IfOk c.take_set_apart.result (λ _. IsTurn (adjacent c.args.graph.now) s (map plain_part c.args.parts.now.items) c.args.waiting.now.items
     (map plain_part c.take_set_apart.new.parts.items) c.take_set_apart.new.waiting.items)) same c.take_set_apart.ensures

@@ -8,7 +8,7 @@ use Rattle.md_tree.proofs.parts.build.Goals as goal
 
 pub loop-part-init : goal.loop-part-init
 loop-part-init c =
-    subst (IsFolding (map plain_part c.args.parts.items) (map plain_part c.args.parts.items)) (sym (ap (map plain) c.new-stack.ensures.items))
+    subst (IsFolding (map plain_part c.args.parts.items) (map plain_part c.args.parts.items)) (sym (ap (map plain) c.in_ok-stack.ensures.items))
     (fold_begin (map plain_part c.args.parts.items) c.requires.0 c.requires.1)
 
 pub put_part-requires : goal.put_part-requires
