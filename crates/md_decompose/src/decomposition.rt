@@ -134,6 +134,7 @@ fn take_set_apart<const W: usize>(
 }
 
 // A set that is to be taken apart, with its chain.
+#[inline(always)]
 fn opened<const W: usize>(names: Block<W>, parent: Option<Kind>, chain: Chain) -> Open<W>
     ensures { IsOpenOf names.entry parent chain result }
 {

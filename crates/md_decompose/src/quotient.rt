@@ -14,6 +14,9 @@ use md_modules::Block;
 use md_tree::{Pair, QuotientEdges};
 use std::alloc::Global;
 
+// So many heads are few.
+const FEW: usize = 16;
+
 // The pairs of children of a prime set between which an edge runs, by their positions. The first
 // names of two children are adjacent exactly where an edge runs between them. `places` is where the
 // positions are kept meanwhile, whatever it has: one for all nodes.
@@ -100,7 +103,7 @@ fn head_pairs<const W: usize>(
         ListsHeadPairs (adjacent graph.now) heads.now places.now NAMES 0 edges.items) }
 {
     let _vertices = graph.vertices();
-    let mut edges = Vec::with_capacity(alloc, count_pairs(graph, heads))?;
+    let mut edges = Vec::with_capacity(alloc, pair_room(graph, heads))?;
     let mut later = heads.copy();
     for head in heads.members() {
         later.remove(head);
@@ -109,8 +112,13 @@ fn head_pairs<const W: usize>(
     Ok(edges)
 }
 
-// How many pairs of heads are adjacent.
-fn count_pairs<const W: usize>(graph: &GraphOf<W>, heads: &Set<W>) -> usize {
+// Room for the pairs of adjacent heads: for as many as there are, or for all pairs of a few heads,
+// which is little and needs no count.
+fn pair_room<const W: usize>(graph: &GraphOf<W>, heads: &Set<W>) -> usize {
+    let count = heads.count() as usize;
+    if count <= FEW {
+        return FEW * (FEW - 1) / 2;
+    }
     let mut ends: usize = 0;
     for head in heads.members() {
         ends = ends.wrapping_add(graph.row(head).and(heads).count() as usize);

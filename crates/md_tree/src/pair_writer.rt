@@ -83,6 +83,7 @@ fn spell_positions(positions: &mut Vec<Piece>, count: usize) -> Result<(), Memor
     ensures { ArePositions positions.new.items }
 {
     let most = count.min(MOST_POSITIONS);
+    positions.reserve(most.saturating_sub(positions.len()))?;
     while positions.len() < most {
         let piece = digits_piece(positions.len() as u32);
         positions.push(piece)?;

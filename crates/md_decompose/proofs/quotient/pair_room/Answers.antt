@@ -1,6 +1,6 @@
 use Rattle.std.proofs.Common.{◌∙◌, rules}
 use Rattle.md_graph.proofs.Walks.{Walked-start, Walked-item, Walked-more}
-use Rattle.md_decompose.proofs.quotient.count_pairs.Goals as goal
+use Rattle.md_decompose.proofs.quotient.pair_room.Goals as goal
 
 pub loop-head-init : goal.loop-head-init
 loop-head-init g c = Walked-start (c.into_iter-head-iterator.ensures.into_iter_gives ∙ c.members-head-items.ensures.list) c.members-head-items.ensures.names
