@@ -123,7 +123,7 @@ fn take_set_apart<const W: usize>(
         parent,
         mut chain,
     } = set;
-    let names = names.into_box(alloc)?;
+    let names = names.into_set();
     if let Some(name) = only_member(&names) {
         parts.push(Part::Leaf(name))?;
         return Ok(());

@@ -109,7 +109,7 @@ mod tests {
         let sets = prime_children(alloc, g, g.vertices(), &mut Chain::none(alloc))?;
         assert_eq!(rt; sets.len(), lists.len());
         for (set, list) in sets.into_iter().zip(lists) {
-            let set = set.into_box(alloc)?;
+            let set = set.into_set();
             assert_eq!(rt; set.count() as usize, list.len());
             for v in *list {
                 assert!(rt; set.has(*v), "member {v}");

@@ -12,3 +12,4 @@ pub mod DecidedPaths
 pub mod Turns
 pub mod ClassLists
 pub mod ClassLemmas
+mod BlockLemmas

@@ -1,21 +1,22 @@
 //! Sets of names in little room, as the classes of a partition are kept: most are names alone.
-ghost use Rattle.std.specs.Prelude.{◌≡◌, ◌*◌, ℕ, ◌<◌, ◌≤◌, IfOk, IfSome, IfNone};
+ghost use Rattle.std.specs.Prelude.{◌≡◌, ◌*◌, ℕ, ◌<◌, ◌≤◌, IfOk, IfSome, IfNone, IsTrue};
 ghost use Rattle.std.specs.FinSet.{len};
-ghost use Rattle.md_graph.specs.NameSet.{IsLeastFrom, NoneFrom};
+ghost use Rattle.md_graph.specs.NameSet.{IsLeastFrom, NoneFrom, AllBelow, block};
 ghost use Rattle.md_graph.specs.Sets.{HasSome, HasTwo, only_name};
 
 use md_graph::{Memory, NAMES, Set, WORDS};
 use std::alloc::Global;
 use std::marker::Model;
 
-// What a block holds: a name alone, or a set.
+// What a block holds: a name alone; names below 64, as the bits of a word; or a set.
 #[derive(Drop)]
 enum Held<const W: usize> {
     One(u32),
+    Low(u64),
     Several(Box<Set<W>>),
 }
 
-/// A set of names: a name alone takes no memory, and another set is kept in a box.
+/// A set of names: a name alone and names below 64 take no memory, and another set is kept in a box.
 #[derive(Drop)]
 pub struct Block<const W: usize> {
     held: Held<W>,
@@ -59,12 +60,16 @@ impl<const W: usize> Block<W> {
         if let Some(name) = only_member(names) {
             return Ok(Block::one(name));
         }
+        if are_low(names) {
+            let held = Held::Low(names.block(0));
+            return Ok(Block { held });
+        }
         let held = Held::Several(Box::new(alloc, names.copy())?);
         Ok(Block { held })
     }
 
-    /// The set of a box, which is kept where the set isn't a name alone.
-    pub fn of_box(names: Box<Set<W>>) -> Block<W>
+    // The set of a box, which is kept where the set isn't a name alone.
+    pub(crate) fn of_box(names: Box<Set<W>>) -> Block<W>
         ensures { result ≡ names.entry.value }
     {
         names.within_limit();
@@ -76,17 +81,18 @@ impl<const W: usize> Block<W> {
         }
     }
 
-    /// The set in a box; only that of a name alone takes memory.
-    pub fn into_box(self, alloc: Global) -> Result<Box<Set<W>>, Memory>
-        ensures { IfOk result (λ names. names.value ≡ self.entry) }
+    /// The set.
+    pub fn into_set(self) -> Set<W>
+        ensures { result ≡ self.entry }
     {
         match self.held {
             Held::One(name) => {
                 let mut names = Set::none();
                 names.insert(name);
-                Ok(Box::new(alloc, names)?)
+                names
             }
-            Held::Several(names) => Ok(names),
+            Held::Low(bits) => set_of(bits),
+            Held::Several(names) => Box::into_inner(names),
         }
     }
 
@@ -97,6 +103,7 @@ impl<const W: usize> Block<W> {
     {
         match &self.held {
             Held::One(name) => Some(*name),
+            Held::Low(bits) => only_member(&set_of::<W>(*bits)),
             Held::Several(names) => only_member(names),
         }
     }
@@ -110,6 +117,7 @@ impl<const W: usize> Block<W> {
     {
         match &self.held {
             Held::One(name) => Some(*name),
+            Held::Low(bits) => set_of::<W>(*bits).first_from(0),
             Held::Several(names) => names.first_from(0),
         }
     }
@@ -120,19 +128,71 @@ impl<const W: usize> Block<W> {
     {
         match &self.held {
             Held::One(_) => 1,
+            Held::Low(bits) => set_of::<W>(*bits).count(),
             Held::Several(names) => names.count(),
         }
     }
 
-    // The set, unless it is kept as a name alone.
-    pub(crate) fn several(&self) -> Option<&Set<W>>
+    // The set in a box; only that of a block without one takes memory.
+    pub(crate) fn into_box(self, alloc: Global) -> Result<Box<Set<W>>, Memory>
+        ensures { IfOk result (λ names. names.value ≡ self.entry) }
+    {
+        match self.held {
+            Held::One(name) => {
+                let mut names = Set::none();
+                names.insert(name);
+                Ok(Box::new(alloc, names)?)
+            }
+            Held::Low(bits) => Ok(Box::new(alloc, set_of(bits))?),
+            Held::Several(names) => Ok(names),
+        }
+    }
+
+    // The set, unless it is kept as a name alone; one that is kept as a word is put into `room`.
+    pub(crate) fn several<'b>(&'b self, room: &'b mut Set<W>) -> Option<&'b Set<W>>
         ensures kept { IfSome result (λ names. names.now ≡ self.now) }
         ensures one { IfNone result ((v : ℕ) × (self.now ≡ only_name v)) }
     {
         match &self.held {
             Held::One(_) => None,
+            Held::Low(bits) => {
+                *room = set_of(*bits);
+                Some(&*room)
+            }
             Held::Several(names) => Some(&**names),
         }
+    }
+
+    // The set, if it is kept as a word.
+    pub(crate) fn low(&self) -> Option<Set<W>>
+        ensures { IfSome result (λ names. names ≡ self.now) }
+    {
+        match &self.held {
+            Held::One(_) => None,
+            Held::Low(bits) => Some(set_of(*bits)),
+            Held::Several(_) => None,
+        }
+    }
+}
+
+// The names below 64 whose bits are 1.
+fn set_of<const W: usize>(bits: u64) -> Set<W>
+    requires some { 0 < W }
+    requires limit { W ≤ WORDS }
+    ensures { result ≡ block 0 bits }
+{
+    let mut names = Set::none();
+    names.insert_block(0, bits);
+    names
+}
+
+// Whether all names are below 64.
+fn are_low<const W: usize>(names: &Set<W>) -> bool
+    ensures { IsTrue result → (0 < W) × AllBelow names.now 64 }
+{
+    match names.last() {
+        Some(last) => last < 64,
+        None => false,
     }
 }
 

@@ -54,9 +54,11 @@ fn begin<const W: usize>(set: &Set<W>, classes: &[Block<W>], at: usize, left: &m
     ensures { at < length classes.now → (e : ℕ → ℕ → Bool)
         → HoldsSplitters e set.now (class_at classes.now at) left.new }
 {
+    set.within_limit();
     if at < classes.len() {
         left.clear();
-        if let Some(names) = classes[at].several() {
+        let mut room = Set::none();
+        if let Some(names) = classes[at].several(&mut room) {
             left.take_in(set);
             left.flip(names);
         }
@@ -103,6 +105,11 @@ fn divide<const W: usize>(
         × (class.new ≡ intersection class.old part) × (other.new ≡ difference class.old part)) }
 {
     row.within_limit();
+    if let Some(mut names) = class.low() {
+        move_part(&mut names, row, other);
+        *class = Block::of(alloc, &names)?;
+        return Ok(());
+    }
     let Some(first) = class.first() else {
         unreachable!();
     };
@@ -136,7 +143,9 @@ fn splitter<const W: usize>(graph: &GraphOf<W>, class: &Block<W>, left: &mut Set
     ensures kept { (p : ℕ) → IsSplitter (adjacent graph.now) left.old class.now p → Has left.new p }
     ensures name { IfSome result (λ p. p < 64 * W) }
 {
-    let Some(names) = class.several() else {
+    let _vertices = graph.vertices();
+    let mut room = Set::none();
+    let Some(names) = class.several(&mut room) else {
         return None;
     };
     if names.count() <= FEW {

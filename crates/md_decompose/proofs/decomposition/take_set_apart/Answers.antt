@@ -14,7 +14,7 @@ pub returns-in-Some : goal.returns-in-Some
 returns-in-Some g c = (
   name c.in-Some.name,
   [],
-  (sym c.in_ok-names.ensures ∙ sym c.deref.ensures ∙ c.in-Some.ensures.one, refl),
+  (sym c.into_set-names.ensures ∙ c.in-Some.ensures.one, refl),
   map_one_more plain_part c.push.new.self.items c.args.parts.now.items (Leaf c.in-Some.name) c.in_ok-push.ensures.items,
   sym (append-nil c.args.waiting.now.items),
 )
@@ -24,18 +24,17 @@ returns g c =
     if_ok c.push_open.result (λ _ grown.
     let s = c.args.set.names in
     let e = adjacent c.args.graph.now in
-    let first : c.deref.result.now ≡ s = c.deref.ensures ∙ c.in_ok-names.ensures in
-    let second : c.deref-2.result.now ≡ s = c.deref-2.ensures ∙ c.in_ok-names.ensures in
+    let first : c.into_set-names.result ≡ s = c.into_set-names.ensures in
     let two : HasTwo s = subst HasTwo first (c.in_default.ensures.more (subst HasSome (sym first) c.requires.some)) in
-    let sets : AreChildren e s c.in_ok-kind.sets.items = subst (λ t. AreChildren e t c.in_ok-kind.sets.items) second c.in_ok-kind.ensures.sets in
-    let chain : IsChainOf e s c.children.new.chain = subst (λ t. IsChainOf e t c.children.new.chain) second c.in_ok-kind.ensures.chain in
+    let sets : AreChildren e s c.in_ok-kind.sets.items = subst (λ t. AreChildren e t c.in_ok-kind.sets.items) first c.in_ok-kind.ensures.sets in
+    let chain : IsChainOf e s c.children.new.chain = subst (λ t. IsChainOf e t c.children.new.chain) first c.in_ok-kind.ensures.chain in
     let opened = opened_children s c.in_ok-kind.kind c.in_ok-kind.sets.items c.children.new.chain grown.0 sets two chain grown.2 in (
       inner c.in_ok-kind.kind c.len.result c.in_ok-kind.edges.list.items,
       grown.0,
       (
         c.in_ok-kind.sets.items,
         record {
-          kind = subst (λ t. HasKind e t c.in_ok-kind.kind) second c.in_ok-kind.ensures.kind;
+          kind = subst (λ t. HasKind e t c.in_ok-kind.kind) first c.in_ok-kind.ensures.kind;
           children = sets;
           number = c.len.ensures ∙ c.in_ok-kind.sets.ok.0;
           pairs = c.in_ok-kind.ensures.pairs;
@@ -51,8 +50,8 @@ pub children-requires : goal.children-requires
 children-requires g c =
     let s = c.args.set.names in
     let e = adjacent c.args.graph.now in
-    let first : c.deref.result.now ≡ s = c.deref.ensures ∙ c.in_ok-names.ensures in
-    let second : s ≡ c.deref-2.result.now = sym (c.deref-2.ensures ∙ c.in_ok-names.ensures) in
+    let first : c.into_set-names.result ≡ s = c.into_set-names.ensures in
+    let second : s ≡ c.into_set-names.result = sym first in
     let two : HasTwo s = subst HasTwo first (c.in_default.ensures.more (subst HasSome (sym first) c.requires.some)) in (
       search rules,
       (
@@ -75,7 +74,7 @@ children-requires g c =
 
 pub push_open-requires : goal.push_open-requires
 push_open-requires g c =
-    let same : c.deref-2.result.now ≡ c.args.set.names = c.deref-2.ensures ∙ c.in_ok-names.ensures in (
+    let same : c.into_set-names.result ≡ c.args.set.names = c.into_set-names.ensures in (
       search rules,
       (
         search rules,
