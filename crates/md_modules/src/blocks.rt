@@ -204,8 +204,9 @@ pub fn only_member<const W: usize>(set: &Set<W>) -> Option<u32>
     ensures below { IfSome result (λ name. name < 64 * W) }
 {
     let first = set.first_from(0)?;
-    match set.first_from(first + 1) {
-        Some(_) => None,
-        None => Some(first),
+    let last = set.last()?;
+    if first != last {
+        return None;
     }
+    Some(first)
 }
