@@ -1,5 +1,5 @@
 -- The steps of the builder: what each token makes of the open nodes, and where no well-formed tree has the text.
-use Rattle.std.proofs.Common.{◌≡◌, ℕ, suc, ◌+◌, ◌<◌, ◌≤◌, ◌⊎◌, List, [], ◌∷◌, ◌++◌, length, take, drop, Some, append_assoc, append-nil, length-append, refl, sym, ◌∙◌, ap, subst, inl, inr, arith}
+use Rattle.std.proofs.Common.{◌≡◌, ◌≢◌, ℕ, suc, ◌+◌, ◌-◌, ◌<◌, ◌≤◌, ◌⊎◌, List, [], ◌∷◌, ◌++◌, length, take, drop, Some, append_assoc, append-nil, length-append, refl, sym, ◌∙◌, ap, subst, inl, inr, arith}
 use Rattle.std.proofs.Math.Seq.{take-append_seam, drop-append_seam}
 use Rattle.std.specs.Prelude.{◌↔◌}
 use Rattle.std.specs.FinSet.{empty, len}
@@ -21,13 +21,14 @@ use Rattle.md_tree.specs.TreeTexts.{letter, pairs_text, tree_text, row_text}
 use Rattle.md_tree.specs.WellFormed.{AreApart, IsCanonicalNode, IsWellFormed, IsCanonical}
 use Rattle.md_tree.specs.Residual.{OpenNode, ahead, closed, with_child, Follows, Due}
 use Rattle.md_tree.specs.Languages.{LacksFirst}
-use Rattle.md_tree.specs.Held.{AreLeast, Ascends, AreKept, MayHave, MayList, IsDue, IsBehind, IsInside, befores, opened, opened_node, AreUseless, IsBuilt, IsStep, LacksNumber, LacksEnd, IsNumberSplit}
+use Rattle.md_tree.specs.Held.{AreLeast, Ascends, AreKept, MayHave, MayList, IsDue, IsBehind, IsInside, befores, opened, opened_node, AreUseless, IsBuilt, IsStep, LacksNumber, LacksEnd, IsEnd, IsNumberSplit, HasBuiltInside, HasReadTree, trees_held}
 use Rattle.std.specs.Ordering.{nat_cmp}
 use Rattle.md_tree.proofs.Texts.{leaf_is_no_node, node_spelled, row_spelled}
 use Rattle.md_tree.proofs.Residuals.{ahead_row, follows_stops, tree_step, open_step, comma_step, end_step, each_follows}
 use Rattle.std.proofs.lemmas.List.{same_from_push}
 use Rattle.md_tree.proofs.Leaving.{no_snoc}
-use Rattle.md_tree.proofs.Holding.{lacks_if, shape_has, shape_lists, count_row, of_order, least_drop, names_either}
+use Rattle.md_tree.proofs.Holding.{lacks_if, shape_has, shape_lists, count_row, of_order, least_drop, names_either, kept_closed}
+use Rattle.md_tree.proofs.Numerals.{end_shorter}
 
 -- the name read
 pub due_name : (bytes rest : List ℕ) (opens : List Opened) (ts : List PlainTree) (v : ℕ) (tail : List ℕ) → IsDue bytes rest opens ts → IsNumberSplit rest v tail →
@@ -171,6 +172,35 @@ module _ (bytes rest : List ℕ) (inner : Opened) (opens : List Opened) (ts : Li
       let b : length children ≡ length i.node.before + 1 = length-append i.node.before (i.tree ∷ []) in
       let c = first_is in
       omega arith
+
+-- the end of a node that is not prime is a bracket
+pub lacks_bracket : (k : Kind) (n : ℕ) (text : List ℕ) → k ≢ Prime → LacksFirst 41 text → LacksEnd k n text
+lacks_bracket Parallel n text other l ps r m e = l r (e ∙ ap (λ (qs : List Pair). pairs_text 59 qs ++ 41 ∷ r) m)
+lacks_bracket Series n text other l ps r m e = l r (e ∙ ap (λ (qs : List Pair). pairs_text 59 qs ++ 41 ∷ r) m)
+lacks_bracket Prime n text other l ps r m e = other refl
+
+pub only_bracket : (k : Kind) (n : ℕ) (text tail : List ℕ) → k ≢ Prime → text ≡ 41 ∷ tail → IsEnd k n text [] tail
+only_bracket Parallel n text tail other e = (refl, e)
+only_bracket Series n text tail other e = (refl, e)
+only_bracket Prime n text tail other e = absurd (other refl)
+
+-- the trees of a node that ends are taken off, and the node takes their place
+pub node_ended : (bytes text : List ℕ) (inner : Opened) (held new : Held) (ps : List Pair) (tail : List ℕ) → HasBuiltInside bytes text inner held →
+    MayHave inner.kind (row (drop inner.first (trees_held held))) → Ascends (drop inner.first held.least.items) → IsEnd inner.kind (length (trees_held held) - inner.first) text ps tail →
+    trees_held new ≡ take inner.first (trees_held held) ++ node inner.kind (row (drop inner.first (trees_held held))) ps ∷ [] → new.least.items ≡ take (inner.first + 1) held.least.items →
+    new.opens.items ≡ held.opens.items → new.seen ≡ held.seen → HasReadTree bytes text tail new
+node_ended bytes text inner held new ps tail h has ascend end trees least opens seen =
+    let ts = trees_held held in
+    let us = take inner.first ts ++ node inner.kind (row (drop inner.first ts)) ps ∷ [] in (
+      record {
+        kept = subst (λ vs. AreKept vs new.least.items new.seen) (sym trees)
+            (subst (λ ms. AreKept us ms new.seen) (sym least)
+            (subst (AreKept us (take (inner.first + 1) held.least.items)) (sym seen)
+            (kept_closed ts held.least.items held.seen inner.first inner.kind ps (inside_first _ _ inner _ _ h.comes) h.kept has end.0 ascend)));
+        comes = subst (IsBehind bytes tail new.opens.items) (sym trees) (subst (λ os. IsBehind bytes tail os us) (sym opens) (inside_end bytes text inner held.opens.items ts h.comes ps tail end.1));
+      },
+      end_shorter _ _ ps end.1,
+    )
 
 -- outside all nodes
 over_of : (bytes rest : List ℕ) (ts : List PlainTree) (s : List OpenNode) (t : PlainTree) → [] ≡ opened s → ts ≡ befores s ++ t ∷ [] → ((w : PlainTree) → (bytes ≡ tree_text w) ↔ Follows s t rest w) →

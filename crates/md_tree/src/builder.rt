@@ -1,6 +1,7 @@
 //! Builds the tree whose text is read, and gives up where the text is no well-formed tree's.
-ghost use Rattle.std.specs.Prelude.{◌≡◌, ◌≤◌, ◌↔◌, ◌+◌, ℕ, List, true, false, [], ◌∷◌, ◌++◌, take, drop, vec_len, map, IfOk, MatchOption, IsTrue, Some};
+ghost use Rattle.std.specs.Prelude.{◌≡◌, ◌≢◌, ◌≤◌, ◌↔◌, ◌+◌, ℕ, List, true, false, [], ◌∷◌, ◌++◌, length, take, drop, vec_len, map, IfOk, MatchOption, IsTrue, Some};
 ghost use Rattle.md_tree.specs.declared.Tree.{Tree};
+ghost use Rattle.md_tree.specs.declared.Kind.TheVariants.{Prime};
 ghost use Rattle.md_tree.specs.Plain.{plain};
 ghost use Rattle.md_tree.specs.Trees.{node, row};
 ghost use Rattle.md_tree.specs.TreeTexts.{letter, tree_text};
@@ -202,6 +203,82 @@ fn step_over<'a>(text: &'a [u8]) -> Step<'a>
 // The end of a node: its children have to be such as its kind asks, and in order.
 #[inline(always)]
 fn end_node<'a>(
+    alloc: Global,
+    text: &'a [u8],
+    inner: Opened,
+    held: &mut Held,
+) -> Result<Option<&'a [u8]>, Memory>
+    requires inside { (bytes : List ℕ) × HasBuiltInside bytes text.now inner held.old }
+    requires no_comma { LacksFirst 44 text.now }
+    ensures { IfOk result (λ o. (bytes : List ℕ) → HasBuiltInside bytes text.now inner held.old
+        → MatchOption o (AreUseless bytes)
+        (λ tail. HasReadTree bytes text.now tail.now held.new)) }
+{
+    if inner.kind != Kind::Prime && held.trees.len() - inner.first == 2 {
+        return end_two(alloc, text, inner, held);
+    }
+    end_any(alloc, text, inner, held)
+}
+
+// The same of two children without pairs, as most nodes of a deep tree have them: with no loop, and
+// moved as one block, since how many bytes they take is known.
+#[inline(always)]
+fn end_two<'a>(
+    alloc: Global,
+    text: &'a [u8],
+    inner: Opened,
+    held: &mut Held,
+) -> Result<Option<&'a [u8]>, Memory>
+    requires inside { (bytes : List ℕ) × HasBuiltInside bytes text.now inner held.old }
+    requires no_comma { LacksFirst 44 text.now }
+    requires two { vec_len held.old.trees ≡ inner.first + 2 }
+    requires no_pairs { inner.kind ≢ Prime }
+    ensures { IfOk result (λ o. (bytes : List ℕ) → HasBuiltInside bytes text.now inner held.old
+        → MatchOption o (AreUseless bytes)
+        (λ tail. HasReadTree bytes text.now tail.now held.new)) }
+{
+    let Ok(tail) = skip_byte(text, b')') else {
+        return Ok(None);
+    };
+    let first = inner.first;
+    if !may_be_two(inner.kind, &held.trees[first..], &held.least[first..]) {
+        return Ok(None);
+    }
+    close_two(alloc, inner, &mut held.trees)?;
+    held.least.take_last();
+    Ok(Some(tail))
+}
+
+// Whether a node of the kind may have the two children, whose least names are told.
+#[inline(always)]
+fn may_be_two(kind: Kind, children: &[Tree], least: &[u32]) -> bool
+    requires children { length children.now ≡ 2 }
+    requires least { length least.now ≡ 2 }
+    requires no_pairs { kind ≢ Prime }
+    ensures { IsTrue result ↔ (MayHave kind (row (map plain children.now)) × Ascends least.now) }
+{
+    least[0] < least[1] && !is_of_kind(&children[0], kind) && !is_of_kind(&children[1], kind)
+}
+
+// A node of the last two trees takes their place.
+#[inline(always)]
+fn close_two(alloc: Global, inner: Opened, trees: &mut Vec<Tree>) -> Result<(), Memory>
+    requires { vec_len trees.old ≡ inner.first + 2 }
+    ensures { IfOk result (λ _. map plain trees.new.items
+        ≡ take inner.first (map plain trees.old.items)
+        ++ node inner.kind (row (drop inner.first (map plain trees.old.items))) [] ∷ []) }
+{
+    let list = trees.split_off(inner.first)?;
+    let pairs = QuotientEdges {
+        list: Vec::new(alloc),
+    };
+    trees.push_reserved(Tree::Node(inner.kind, Children { list }, pairs));
+    Ok(())
+}
+
+// The same of any number of children.
+#[inline(always)]
+fn end_any<'a>(
     alloc: Global,
     text: &'a [u8],
     inner: Opened,

@@ -1,15 +1,14 @@
-use Rattle.std.proofs.Common.{◌≡◌, ◌≤◌, ◌<◌, ◌+◌, ◌-◌, ◌∷◌, ◌++◌, [], length, map, take, drop, sym, ◌∙◌, ap, subst, arith}
+use Rattle.std.proofs.Common.{◌≡◌, ◌≤◌, ◌<◌, ◌-◌, length, map, drop, sym, ◌∙◌, ap, subst, arith}
 use Rattle.std.proofs.lemmas.List.{length-map, length-drop, drop-map}
 use Rattle.std.specs.Prelude.{IsTrue}
 use Rattle.md_graph.specs.declared.TheConstants.{NAMES}
 use Rattle.md_tree.specs.Plain.{plain}
-use Rattle.md_tree.specs.Trees.{row, node}
-use Rattle.md_tree.specs.Held.{MayHave, MayList, Ascends, AreKept, IsBehind, LacksEnd}
+use Rattle.md_tree.specs.Trees.{row}
+use Rattle.md_tree.specs.Held.{MayHave, Ascends, IsEnd, LacksEnd}
 use Rattle.md_tree.proofs.Stacking.{plain_from, numbers_from}
-use Rattle.md_tree.proofs.Holding.{kept_closed, least_length}
-use Rattle.md_tree.proofs.Coming.{inside_end, inside_first, useless_children, useless_order, useless_end, few_held}
-use Rattle.md_tree.proofs.Numerals.{end_shorter}
-use Rattle.md_tree.proofs.builder.end_node.Goals as goal
+use Rattle.md_tree.proofs.Holding.{least_length}
+use Rattle.md_tree.proofs.Coming.{inside_first, node_ended, useless_children, useless_order, useless_end, few_held}
+use Rattle.md_tree.proofs.builder.end_any.Goals as goal
 
 pub returns-then-not-may_have : goal.returns-then-not-may_have
 returns-then-not-may_have c bytes h =
@@ -56,10 +55,8 @@ read_end-requires c =
 pub returns : goal.returns
 returns c bytes h =
     let held = c.args.held.now in let inner = c.args.inner in let ts = map plain held.trees.items in
-    let new = c.close.new.held in let s = c.in_ok-close.ensures in
+    let s = c.in_ok-close.ensures in
     let is = c.in-Some.is in let p = c.in_ok-pairs.ensures in let q = rw is at p in
-    let ps = c.in-Some.pairs.items in
-    let trees = s.trees held.trees.items c.in_ok-list.ensures.items c.in_ok-list.ensures.tail in
     let count : c.len.result ≡ length ts - inner.first =
     c.len.ensures ∙ c.in_ok-list.list.ok.0 ∙ ap length c.in_ok-list.ensures.tail ∙ length-drop inner.first held.trees.items
     ∙ ap (λ n. n - inner.first) (sym (length-map held.trees.items plain)) in
@@ -67,20 +64,10 @@ returns c bytes h =
     let f = numbers_from c.deref-2.result.now held.least.items inner.first c.deref-2.ensures.value in
     let yes : IsTrue c.may_have.result = (let y = c.if-not-may_have.false in grind arith) in
     let up : IsTrue c.ascends.result = (let y = c.if-not-ascends.false in grind arith) in
-    let has : MayHave inner.kind (row (drop inner.first ts)) = subst (λ us. MayHave inner.kind (row us)) e (c.may_have.ensures.0 yes) in
-    let ascend : Ascends (drop inner.first held.least.items) = subst Ascends f (c.ascends.ensures.0 up) in
-    let inside : inner.first < length ts = inside_first _ _ inner _ _ h.comes in (
-      record {
-        kept = subst (λ us. AreKept us new.least.items new.seen) (sym trees)
-            (subst (λ ms. AreKept (take inner.first ts ++ node inner.kind (row (drop inner.first ts)) ps ∷ []) ms new.seen) (sym s.least)
-            (subst (AreKept (take inner.first ts ++ node inner.kind (row (drop inner.first ts)) ps ∷ []) (take (inner.first + 1) held.least.items)) (sym s.seen)
-            (kept_closed ts held.least.items held.seen inner.first inner.kind ps inside h.kept has (subst (λ n. MayList inner.kind n ps) count q.0) ascend)));
-        comes = subst (λ us. IsBehind bytes c.in-Some.tail.now new.opens.items us) (sym trees)
-            (subst (λ os. IsBehind bytes c.in-Some.tail.now os (take inner.first ts ++ node inner.kind (row (drop inner.first ts)) ps ∷ [])) (sym s.opens)
-            (inside_end bytes c.args.text.now inner held.opens.items ts h.comes ps c.in-Some.tail.now q.1));
-      },
-      end_shorter _ _ ps q.1,
-    )
+    node_ended bytes c.args.text.now inner held c.close.new.held c.in-Some.pairs.items c.in-Some.tail.now h
+    (subst (λ us. MayHave inner.kind (row us)) e (c.may_have.ensures.0 yes)) (subst Ascends f (c.ascends.ensures.0 up))
+    (subst (λ n. IsEnd inner.kind n c.args.text.now c.in-Some.pairs.items c.in-Some.tail.now) count q)
+    (s.trees held.trees.items c.in_ok-list.ensures.items c.in_ok-list.ensures.tail) s.least s.opens s.seen
 
 pub returns-in_default : goal.returns-in_default
 returns-in_default c bytes h =
