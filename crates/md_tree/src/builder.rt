@@ -1,6 +1,6 @@
 //! Builds the tree whose text is read, and gives up where the text is no well-formed tree's.
-ghost use Rattle.std.specs.Prelude.{◌≡◌, ◌≢◌, ◌≤◌, ◌↔◌, ◌+◌, ℕ, List, true, false, [], ◌∷◌, ◌++◌, length, take, drop, vec_len, map, IfOk, MatchOption, IsTrue, Some};
-ghost use Rattle.md_tree.specs.declared.Tree.{Tree};
+ghost use Rattle.std.specs.Prelude.{◌≡◌, ◌≢◌, ◌<◌, ◌≤◌, ◌↔◌, ◌+◌, ℕ, List, true, false, [], ◌∷◌, ◌++◌, length, take, drop, vec_len, vec_capacity, map, IfOk, OnOk, MatchOption, IsTrue, Some};
+ghost use Rattle.md_tree.specs.declared.Tree.{Tree, Leaf};
 ghost use Rattle.md_tree.specs.declared.Kind.TheVariants.{Prime};
 ghost use Rattle.md_tree.specs.Plain.{plain};
 ghost use Rattle.md_tree.specs.Trees.{node, row};
@@ -10,7 +10,7 @@ ghost use Rattle.md_tree.specs.Languages.{LacksFirst};
 ghost use Rattle.md_tree.specs.Held.{IsNumberSplit, HasBuilt, HasBuiltInside, HasReadTree, IsStep, AreUseless, Ascends, MayHave, trees_held};
 
 use crate::grammar::{skip_byte, split_letter};
-use crate::growing::append;
+use crate::growing::{append, make_room};
 use crate::numbers::small_number;
 use crate::pair_reader::read_end;
 use crate::{Children, Kind, Pair, QuotientEdges, Tree};
@@ -123,8 +123,26 @@ fn take_name<'a>(
     }
     held.seen.insert(name);
     append(&mut held.least, name)?;
-    append(&mut held.trees, Tree::Leaf(name))?;
+    append_leaf(&mut held.trees, name)?;
     Ok(Some(tail))
+}
+
+// Appends a name as a tree. It is made once there is room, where it is put, and so is not copied.
+#[inline(always)]
+fn append_leaf(trees: &mut Vec<Tree>, name: u32) -> Result<(), Memory>
+    ensures { OnOk result (trees.new.items ≡ trees.old.items ++ Leaf name ∷ []) }
+{
+    make_room(trees)?;
+    put_leaf(trees, name);
+    Ok(())
+}
+
+#[inline(always)]
+fn put_leaf(trees: &mut Vec<Tree>, name: u32)
+    requires { vec_len trees.old < vec_capacity trees.old }
+    ensures { trees.new.items ≡ trees.old.items ++ Leaf name ∷ [] }
+{
+    trees.push_reserved(Tree::Leaf(name));
 }
 
 // The letter of a node is read. In the text of a well-formed tree fewer nodes are open than there
