@@ -151,15 +151,12 @@ module _ (bytes rest : List ℕ) (inner : Opened) (opens : List Opened) (ts : Li
   inside_part : (w : PlainTree) → LacksFirst 44 rest → bytes ≡ tree_text w → IsCanonical w → (ps : List Pair) × (r : List ℕ) × (rest ≡ pairs_text 59 ps ++ 41 ∷ r) × IsCanonicalNode inner.kind (row (drop inner.first ts)) ps
   inside_part w lacks e c = let f = (i.means w).0 e in last_of w f.others f.pairs f.behind lacks f.text f.whole c
 
-  pub useless_children : LacksFirst 44 rest → (MayHave inner.kind (row (drop inner.first ts)) → ⊥) → AreUseless bytes
-  useless_children lacks n w good e = let p = inside_part w lacks e good.1 in n (shape_has inner.kind (row (drop inner.first ts)) p.0 p.3.shape)
-
-  pub useless_order : LacksFirst 44 rest → (ms : List ℕ) → AreLeast ts ms → (Ascends (drop inner.first ms) → ⊥) → AreUseless bytes
-  useless_order lacks ms l n w good e =
+  pub useless_children : LacksFirst 44 rest → (ms : List ℕ) → AreLeast ts ms → (MayHave inner.kind (row (drop inner.first ts)) × Ascends (drop inner.first ms) → ⊥) → AreUseless bytes
+  useless_children lacks ms l n w good e =
       let p = inside_part w lacks e good.1 in
       let l2 : AreLeast children (drop (length (befores i.nodes)) ms) = least_drop (befores i.nodes) children ms (subst (λ y. AreLeast y ms) inside_trees l) in
       let l3 : AreLeast (drop inner.first ts) (drop inner.first ms) = subst (λ n. AreLeast (drop inner.first ts) (drop n ms)) (sym first_is) (subst (λ y. AreLeast y (drop (length (befores i.nodes)) ms)) (sym inside_children) l2) in
-      n (of_order (drop inner.first ts) (drop inner.first ms) l3 p.3.order)
+      n (shape_has inner.kind (row (drop inner.first ts)) p.0 p.3.shape, of_order (drop inner.first ts) (drop inner.first ms) l3 p.3.order)
 
   pub useless_end : LacksFirst 44 rest → LacksEnd inner.kind (length (drop inner.first ts)) rest → AreUseless bytes
   useless_end lacks n w good e =

@@ -308,14 +308,12 @@ fn end_any<'a>(
         → MatchOption o (AreUseless bytes)
         (λ tail. HasReadTree bytes text.now tail.now held.new)) }
 {
-    if !may_have(inner.kind, &held.trees[inner.first..]) {
-        return Ok(None);
-    }
-    if !ascends(&held.least[inner.first..]) {
+    let first = inner.first;
+    if !may_have(inner.kind, &held.trees[first..], &held.least[first..]) {
         return Ok(None);
     }
     let outermost = held.opens.is_empty();
-    let list = take_from(alloc, inner.first, outermost, &mut held.trees)?;
+    let list = take_from(alloc, first, outermost, &mut held.trees)?;
     let Some((pairs, tail)) = read_end(alloc, text, inner.kind, list.len())? else {
         return Ok(None);
     };
@@ -360,27 +358,32 @@ fn take_from(
     Ok(list)
 }
 
-// Whether a node of the kind may have the children.
-fn may_have(kind: Kind, children: &[Tree]) -> bool
-    ensures { IsTrue result ↔ MayHave kind (row (map plain children.now)) }
+// Whether a node of the kind may have the children, whose least names are told.
+fn may_have(kind: Kind, children: &[Tree], least: &[u32]) -> bool
+    requires { length least.now ≡ length children.now }
+    ensures { IsTrue result ↔ (MayHave kind (row (map plain children.now)) × Ascends least.now) }
 {
     match kind {
-        Kind::Parallel => children.len() >= 2 && none_of_kind(children, Kind::Parallel),
-        Kind::Series => children.len() >= 2 && none_of_kind(children, Kind::Series),
-        Kind::Prime => children.len() >= 4,
+        Kind::Parallel => children.len() >= 2 && are_others(Kind::Parallel, children, least),
+        Kind::Series => children.len() >= 2 && are_others(Kind::Series, children, least),
+        Kind::Prime => children.len() >= 4 && ascends(least),
     }
 }
 
-// Whether no tree is a node of the kind.
-fn none_of_kind(trees: &[Tree], kind: Kind) -> bool
-    ensures { IsTrue result ↔ NoneOfKind (row (map plain trees.now)) kind }
+// Whether no child is a node of the kind, and the least names ascend.
+fn are_others(kind: Kind, children: &[Tree], least: &[u32]) -> bool
+    requires some { 1 ≤ length children.now }
+    requires same { length least.now ≡ length children.now }
+    ensures { IsTrue result
+        ↔ (NoneOfKind (row (map plain children.now)) kind × Ascends least.now) }
 {
-    let mut rest = trees;
-    while let Some((tree, others)) = rest.split_first() {
-        if is_of_kind(tree, kind) {
+    if is_of_kind(&children[0], kind) {
+        return false;
+    }
+    for i in 1..children.len() {
+        if is_of_kind(&children[i], kind) || least[i - 1] >= least[i] {
             return false;
         }
-        rest = others;
     }
     true
 }

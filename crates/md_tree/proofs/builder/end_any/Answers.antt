@@ -5,20 +5,21 @@ use Rattle.md_graph.specs.declared.TheConstants.{NAMES}
 use Rattle.md_tree.specs.Plain.{plain}
 use Rattle.md_tree.specs.Trees.{row}
 use Rattle.md_tree.specs.Held.{MayHave, Ascends, IsEnd, LacksEnd}
-use Rattle.md_tree.proofs.Stacking.{plain_from, numbers_from}
+use Rattle.md_tree.proofs.Stacking.{plain_from, items_from}
 use Rattle.md_tree.proofs.Holding.{least_length}
-use Rattle.md_tree.proofs.Coming.{inside_first, node_ended, useless_children, useless_order, useless_end, few_held}
+use Rattle.md_tree.proofs.Coming.{inside_first, node_ended, useless_children, useless_end, few_held}
 use Rattle.md_tree.proofs.builder.end_any.Goals as goal
 
-pub returns-then-not-may_have : goal.returns-then-not-may_have
-returns-then-not-may_have c bytes h =
+pub may_have-requires : goal.may_have-requires
+may_have-requires c =
     let held = c.args.held.now in let inner = c.args.inner in
-    let e = plain_from c.deref.result.now held.trees.items inner.first c.deref.ensures.value in
-    useless_children bytes c.args.text.now inner held.opens.items (map plain held.trees.items) h.comes c.requires.no_comma
-    (λ m. let yes = c.may_have.ensures.1 (subst (λ us. MayHave inner.kind (row us)) (sym e) m) in let no_one = c.if-not-may_have.true in grind arith)
+    let b : length (map plain held.trees.items) ≡ length held.least.items = least_length _ _ c.requires.inside.1.kept.least in
+    ap length (items_from c.deref-2.result.now held.least.items inner.first c.deref-2.ensures.value) ∙ length-drop inner.first held.least.items
+    ∙ ap (λ n. n - inner.first) (sym b ∙ length-map held.trees.items plain)
+    ∙ sym (length-drop inner.first held.trees.items) ∙ sym (ap length (items_from c.deref.result.now held.trees.items inner.first c.deref.ensures.value))
 
-pub slice_bounds-ascends-count : goal.slice_bounds-ascends-count
-slice_bounds-ascends-count c =
+pub slice_bounds-may_have-count-2 : goal.slice_bounds-may_have-count-2
+slice_bounds-may_have-count-2 c =
     let held = c.args.held.now in
     let h = c.requires.inside.1 in
     let a : c.args.inner.first < length (map plain held.trees.items) = inside_first _ _ c.args.inner _ _ h.comes in
@@ -26,8 +27,8 @@ slice_bounds-ascends-count c =
     let d : length c.deref-2.result.now ≡ length held.least.items = ap length c.deref-2.ensures.value in
     omega arith
 
-pub slice_bounds-ascends-start : goal.slice_bounds-ascends-start
-slice_bounds-ascends-start c =
+pub slice_bounds-may_have-start-2 : goal.slice_bounds-may_have-start-2
+slice_bounds-may_have-start-2 c =
     let held = c.args.held.now in
     let h = c.requires.inside.1 in
     let a : c.args.inner.first < length (map plain held.trees.items) = inside_first _ _ c.args.inner _ _ h.comes in
@@ -36,12 +37,14 @@ slice_bounds-ascends-start c =
     let f : c.args.inner.first ≤ length c.deref-2.result.now = omega arith in
     f
 
-pub returns-then-not-ascends : goal.returns-then-not-ascends
-returns-then-not-ascends c bytes h =
+pub returns-then-not-may_have : goal.returns-then-not-may_have
+returns-then-not-may_have c bytes h =
     let held = c.args.held.now in let inner = c.args.inner in
-    let e = numbers_from c.deref-2.result.now held.least.items inner.first c.deref-2.ensures.value in
-    useless_order bytes c.args.text.now inner held.opens.items (map plain held.trees.items) h.comes c.requires.no_comma held.least.items h.kept.least
-    (λ a. let yes = c.ascends.ensures.1 (subst Ascends (sym e) a) in let no_one = c.if-not-ascends.true in grind arith)
+    let e = plain_from c.deref.result.now held.trees.items inner.first c.deref.ensures.value in
+    let f = items_from c.deref-2.result.now held.least.items inner.first c.deref-2.ensures.value in
+    useless_children bytes c.args.text.now inner held.opens.items (map plain held.trees.items) h.comes c.requires.no_comma held.least.items h.kept.least
+    (λ m.
+    let yes = c.may_have.ensures.1 (subst (λ us. MayHave inner.kind (row us)) (sym e) m.0, subst Ascends (sym f) m.1) in let no_one = c.if-not-may_have.true in grind arith)
 
 pub read_end-requires : goal.read_end-requires
 read_end-requires c =
@@ -61,11 +64,11 @@ returns c bytes h =
     c.len.ensures ∙ c.in_ok-list.list.ok.0 ∙ ap length c.in_ok-list.ensures.tail ∙ length-drop inner.first held.trees.items
     ∙ ap (λ n. n - inner.first) (sym (length-map held.trees.items plain)) in
     let e = plain_from c.deref.result.now held.trees.items inner.first c.deref.ensures.value in
-    let f = numbers_from c.deref-2.result.now held.least.items inner.first c.deref-2.ensures.value in
+    let f = items_from c.deref-2.result.now held.least.items inner.first c.deref-2.ensures.value in
     let yes : IsTrue c.may_have.result = (let y = c.if-not-may_have.false in grind arith) in
-    let up : IsTrue c.ascends.result = (let y = c.if-not-ascends.false in grind arith) in
+    let both = c.may_have.ensures.0 yes in
     node_ended bytes c.args.text.now inner held c.close.new.held c.in-Some.pairs.items c.in-Some.tail.now h
-    (subst (λ us. MayHave inner.kind (row us)) e (c.may_have.ensures.0 yes)) (subst Ascends f (c.ascends.ensures.0 up))
+    (subst (λ us. MayHave inner.kind (row us)) e both.0) (subst Ascends f both.1)
     (subst (λ n. IsEnd inner.kind n c.args.text.now c.in-Some.pairs.items c.in-Some.tail.now) count q)
     (s.trees held.trees.items c.in_ok-list.ensures.items c.in_ok-list.ensures.tail) s.least s.opens s.seen
 

@@ -5,9 +5,9 @@ use Rattle.std.specs.Prelude.{IsTrue}
 use Rattle.md_tree.specs.Plain.{plain}
 use Rattle.md_tree.specs.Trees.{row}
 use Rattle.md_tree.specs.Held.{MayHave, Ascends}
-use Rattle.md_tree.proofs.Stacking.{plain_from, numbers_from}
+use Rattle.md_tree.proofs.Stacking.{plain_from, items_from}
 use Rattle.md_tree.proofs.Holding.{least_length}
-use Rattle.md_tree.proofs.Coming.{node_ended, useless_children, useless_order, useless_end, lacks_bracket, only_bracket}
+use Rattle.md_tree.proofs.Coming.{node_ended, useless_children, useless_end, lacks_bracket, only_bracket}
 use Rattle.md_tree.proofs.builder.end_two.Goals as goal
 
 pub returns-in_default : goal.returns-in_default
@@ -23,7 +23,7 @@ may_be_two-requires-clause-least c =
     let a = length-map held.trees.items plain in
     let t : vec_len held.trees ≡ inner.first + 2 = c.requires.two in
     let n : vec_len held.trees ≡ length held.trees.items = held.trees.ok.0 in
-    ap length (numbers_from c.deref-2.result.now held.least.items inner.first c.deref-2.ensures.value) ∙ length-drop inner.first held.least.items ∙ omega arith
+    ap length (items_from c.deref-2.result.now held.least.items inner.first c.deref-2.ensures.value) ∙ length-drop inner.first held.least.items ∙ omega arith
 
 pub slice_bounds-may_be_two-count-2 : goal.slice_bounds-may_be_two-count-2
 slice_bounds-may_be_two-count-2 c =
@@ -47,21 +47,19 @@ slice_bounds-may_be_two-start-2 c =
     f
 
 pub returns-then-not-may_be_two : goal.returns-then-not-may_be_two
-returns-then-not-may_be_two c bytes h w good same =
-    let held = c.args.held.now in let inner = c.args.inner in let ts = map plain held.trees.items in
+returns-then-not-may_be_two c bytes h =
+    let held = c.args.held.now in let inner = c.args.inner in
     let e = plain_from c.deref.result.now held.trees.items inner.first c.deref.ensures.value in
-    let f = numbers_from c.deref-2.result.now held.least.items inner.first c.deref-2.ensures.value in
-    useless_children bytes c.args.text.now inner held.opens.items ts h.comes c.requires.no_comma
-    (λ m. useless_order bytes c.args.text.now inner held.opens.items ts h.comes c.requires.no_comma held.least.items h.kept.least
-    (λ a.
-    let yes = c.may_be_two.ensures.1 (subst (λ us. MayHave inner.kind (row us)) (sym e) m, subst Ascends (sym f) a) in
-    let no_one = c.if-not-may_be_two.true in grind arith) w good same) w good same
+    let f = items_from c.deref-2.result.now held.least.items inner.first c.deref-2.ensures.value in
+    useless_children bytes c.args.text.now inner held.opens.items (map plain held.trees.items) h.comes c.requires.no_comma held.least.items h.kept.least
+    (λ m.
+    let yes = c.may_be_two.ensures.1 (subst (λ us. MayHave inner.kind (row us)) (sym e) m.0, subst Ascends (sym f) m.1) in let no_one = c.if-not-may_be_two.true in grind arith)
 
 pub returns : goal.returns
 returns c bytes h =
     let held = c.args.held.now in let inner = c.args.inner in let ts = map plain held.trees.items in
     let e = plain_from c.deref.result.now held.trees.items inner.first c.deref.ensures.value in
-    let f = numbers_from c.deref-2.result.now held.least.items inner.first c.deref-2.ensures.value in
+    let f = items_from c.deref-2.result.now held.least.items inner.first c.deref-2.ensures.value in
     let yes : IsTrue c.may_be_two.result = (let y = c.if-not-may_be_two.false in grind arith) in
     let both = c.may_be_two.ensures.0 yes in
     let left = c.take_last.new.self.items in
