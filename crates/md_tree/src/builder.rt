@@ -22,7 +22,7 @@ use std::mem;
 #[derive(Clone, Copy)]
 struct Opened {
     kind: Kind,
-    first: usize,
+    first: u32,
 }
 
 // The trees that are read, with their least names, the nodes that are open, and all names.
@@ -154,7 +154,8 @@ fn begin_node<'a>(
     behind: &'a [u8],
     held: &mut Held,
 ) -> Result<Step<'a>, Memory>
-    requires { text.now ≡ letter kind ∷ behind.now }
+    requires built { (bytes : List ℕ) × HasBuilt bytes text.now false held.old }
+    requires letter { text.now ≡ letter kind ∷ behind.now }
     ensures { IfOk result (λ step. (bytes : List ℕ) → HasBuilt bytes text.now false held.old
         → IsStep bytes text.now step held.new) }
 {
@@ -163,7 +164,7 @@ fn begin_node<'a>(
     }
     match skip_byte(behind, b'(') {
         Ok(tail) => {
-            let first = held.trees.len();
+            let first = held.trees.len() as u32;
             append(&mut held.opens, Opened { kind, first })?;
             Ok(Step::Onward(tail))
         }
@@ -232,7 +233,7 @@ fn end_node<'a>(
         → MatchOption o (AreUseless bytes)
         (λ tail. HasReadTree bytes text.now tail.now held.new)) }
 {
-    if inner.kind != Kind::Prime && held.trees.len() - inner.first == 2 {
+    if inner.kind != Kind::Prime && held.trees.len() - inner.first as usize == 2 {
         return end_two(alloc, text, inner, held);
     }
     end_any(alloc, text, inner, held)
@@ -258,7 +259,7 @@ fn end_two<'a>(
     let Ok(tail) = skip_byte(text, b')') else {
         return Ok(None);
     };
-    let first = inner.first;
+    let first = inner.first as usize;
     if !may_be_two(inner.kind, &held.trees[first..], &held.least[first..]) {
         return Ok(None);
     }
@@ -286,7 +287,7 @@ fn close_two(alloc: Global, inner: Opened, trees: &mut Vec<Tree>) -> Result<(), 
         ≡ take inner.first (map plain trees.old.items)
         ++ node inner.kind (row (drop inner.first (map plain trees.old.items))) [] ∷ []) }
 {
-    let list = trees.split_off(inner.first)?;
+    let list = trees.split_off(inner.first as usize)?;
     let pairs = QuotientEdges {
         list: Vec::new(alloc),
     };
@@ -308,7 +309,7 @@ fn end_any<'a>(
         → MatchOption o (AreUseless bytes)
         (λ tail. HasReadTree bytes text.now tail.now held.new)) }
 {
-    let first = inner.first;
+    let first = inner.first as usize;
     if !may_have(inner.kind, &held.trees[first..], &held.least[first..]) {
         return Ok(None);
     }
@@ -336,7 +337,7 @@ fn close(inner: Opened, list: Vec<Tree>, pairs: Vec<Pair>, held: &mut Held) -> R
 {
     let node = Tree::Node(inner.kind, Children { list }, QuotientEdges { list: pairs });
     append(&mut held.trees, node)?;
-    held.least.truncate(inner.first + 1);
+    held.least.truncate(inner.first as usize + 1);
     Ok(())
 }
 
