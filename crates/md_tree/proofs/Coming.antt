@@ -225,6 +225,21 @@ useless_over bytes rest opens ts b none some w good e =
     let l : length rest ≡ 0 = ap length ((o.2 w).0 e).0 in
     omega arith
 
+-- in an open node the text goes on
+open_goes_on : (s : List OpenNode) (t : PlainTree) (r : List ℕ) (w : PlainTree) → Follows s t r w → r ≡ [] → length (opened s) ≡ 0
+open_goes_on [] t r w f e = refl
+open_goes_on (o ∷ s) t r w f e =
+    let a : length r ≡ length (row_text 44 f.others) + length (pairs_text 59 f.pairs ++ 41 ∷ f.behind) = ap length f.text ∙ length-append (row_text 44 f.others) (pairs_text 59 f.pairs ++ 41 ∷ f.behind) in
+    let b : length (pairs_text 59 f.pairs ++ 41 ∷ f.behind) ≡ length (pairs_text 59 f.pairs) + suc (length f.behind) = length-append (pairs_text 59 f.pairs) (41 ∷ f.behind) in
+    let none : length r ≡ 0 = ap length e in
+    absurd (omega arith)
+
+pub useless_open : (bytes rest : List ℕ) (opens : List Opened) (ts : List PlainTree) → IsBehind bytes rest opens ts → 0 < length opens → rest ≡ [] → AreUseless bytes
+useless_open bytes rest opens ts b some over w good e =
+    let none : length (opened b.nodes) ≡ 0 = open_goes_on b.nodes b.tree rest w ((b.means w).0 e) over in
+    let same : length opens ≡ length (opened b.nodes) = ap length b.open_is in
+    omega arith
+
 -- the names of a child are names of the node
 ahead_has : (xs : List PlainTree) (t : PlainTree) (cs : PlainTrees) (x : ℕ) → Has (names t) x → Has (names_below (ahead xs (one_more t cs))) x
 ahead_has [] t cs x h = union_left (names t) (names_below cs) x h

@@ -181,11 +181,14 @@ fn end_nodes<'a>(alloc: Global, text: &'a [u8], held: &mut Held) -> Result<Step<
 {
     let mut rest = text;
     loop {
-        if let Ok(tail) = skip_byte(rest, b',') {
-            return Ok(step_comma(rest, tail, held));
+        let Some((first, behind)) = rest.split_first() else {
+            return Ok(step_at_end(rest, held));
+        };
+        if *first == b',' {
+            return Ok(step_comma(rest, behind, held));
         }
         let Some(inner) = held.opens.pop() else {
-            return Ok(step_over(rest));
+            return Ok(Step::Useless);
         };
         let Some(tail) = end_node(alloc, rest, inner, held)? else {
             return Ok(Step::Useless);
@@ -207,13 +210,14 @@ fn step_comma<'a>(text: &'a [u8], tail: &'a [u8], held: &Held) -> Step<'a>
     Step::Onward(tail)
 }
 
-// Where no node is open: the end of the text.
+// The end of the text, where no node may be open.
 #[inline(always)]
-fn step_over<'a>(text: &'a [u8]) -> Step<'a>
-    ensures { (bytes : List ℕ) (held : Held) → HasBuilt bytes text.now true held
-        → (held.opens.items ≡ []) → IsStep bytes text.now result held }
+fn step_at_end<'a>(text: &'a [u8], held: &Held) -> Step<'a>
+    requires { text.now ≡ [] }
+    ensures { (bytes : List ℕ) → HasBuilt bytes text.now true held.now
+        → IsStep bytes text.now result held.now }
 {
-    if text.is_empty() {
+    if held.opens.is_empty() {
         return Step::End;
     }
     Step::Useless
