@@ -1,5 +1,5 @@
 -- The steps of the builder: what each token makes of the open nodes, and where no well-formed tree has the text.
-use Rattle.std.proofs.Common.{◌≡◌, ℕ, suc, ◌+◌, ◌<◌, ◌≤◌, ◌⊎◌, List, [], ◌∷◌, ◌++◌, length, take, drop, Some, append_assoc, append-nil, length-append, refl, sym, ◌∙◌, ap, subst, inl, inr, arith}
+use Rattle.std.proofs.Common.{◌≡◌, ◌≢◌, ℕ, suc, ◌+◌, ◌-◌, ◌<◌, ◌≤◌, ◌⊎◌, List, [], ◌∷◌, ◌++◌, length, take, drop, Some, append_assoc, append-nil, length-append, refl, sym, ◌∙◌, ap, subst, inl, inr, arith}
 use Rattle.std.proofs.Math.Seq.{take-append_seam, drop-append_seam}
 use Rattle.std.specs.Prelude.{◌↔◌}
 use Rattle.std.specs.FinSet.{empty, len}
@@ -21,13 +21,14 @@ use Rattle.md_tree.specs.TreeTexts.{letter, pairs_text, tree_text, row_text}
 use Rattle.md_tree.specs.WellFormed.{AreApart, IsCanonicalNode, IsWellFormed, IsCanonical}
 use Rattle.md_tree.specs.Residual.{OpenNode, ahead, closed, with_child, Follows, Due}
 use Rattle.md_tree.specs.Languages.{LacksFirst}
-use Rattle.md_tree.specs.Held.{AreLeast, Ascends, AreKept, MayHave, MayList, IsDue, IsBehind, IsInside, befores, opened, opened_node, AreUseless, IsBuilt, IsStep, LacksNumber, LacksEnd, IsNumberSplit}
+use Rattle.md_tree.specs.Held.{AreLeast, Ascends, AreKept, MayHave, MayList, IsDue, IsBehind, IsInside, befores, opened, opened_node, AreUseless, IsBuilt, IsStep, LacksNumber, LacksEnd, IsEnd, IsNumberSplit, HasBuiltInside, HasReadTree, trees_held}
 use Rattle.std.specs.Ordering.{nat_cmp}
 use Rattle.md_tree.proofs.Texts.{leaf_is_no_node, node_spelled, row_spelled}
 use Rattle.md_tree.proofs.Residuals.{ahead_row, follows_stops, tree_step, open_step, comma_step, end_step, each_follows}
 use Rattle.std.proofs.lemmas.List.{same_from_push}
 use Rattle.md_tree.proofs.Leaving.{no_snoc}
-use Rattle.md_tree.proofs.Holding.{lacks_if, shape_has, shape_lists, count_row, of_order, least_drop, names_either}
+use Rattle.md_tree.proofs.Holding.{lacks_if, shape_has, shape_lists, count_row, of_order, least_drop, names_either, kept_closed}
+use Rattle.md_tree.proofs.Numerals.{end_shorter}
 
 -- the name read
 pub due_name : (bytes rest : List ℕ) (opens : List Opened) (ts : List PlainTree) (v : ℕ) (tail : List ℕ) → IsDue bytes rest opens ts → IsNumberSplit rest v tail →
@@ -150,15 +151,12 @@ module _ (bytes rest : List ℕ) (inner : Opened) (opens : List Opened) (ts : Li
   inside_part : (w : PlainTree) → LacksFirst 44 rest → bytes ≡ tree_text w → IsCanonical w → (ps : List Pair) × (r : List ℕ) × (rest ≡ pairs_text 59 ps ++ 41 ∷ r) × IsCanonicalNode inner.kind (row (drop inner.first ts)) ps
   inside_part w lacks e c = let f = (i.means w).0 e in last_of w f.others f.pairs f.behind lacks f.text f.whole c
 
-  pub useless_children : LacksFirst 44 rest → (MayHave inner.kind (row (drop inner.first ts)) → ⊥) → AreUseless bytes
-  useless_children lacks n w good e = let p = inside_part w lacks e good.1 in n (shape_has inner.kind (row (drop inner.first ts)) p.0 p.3.shape)
-
-  pub useless_order : LacksFirst 44 rest → (ms : List ℕ) → AreLeast ts ms → (Ascends (drop inner.first ms) → ⊥) → AreUseless bytes
-  useless_order lacks ms l n w good e =
+  pub useless_children : LacksFirst 44 rest → (ms : List ℕ) → AreLeast ts ms → (MayHave inner.kind (row (drop inner.first ts)) × Ascends (drop inner.first ms) → ⊥) → AreUseless bytes
+  useless_children lacks ms l n w good e =
       let p = inside_part w lacks e good.1 in
       let l2 : AreLeast children (drop (length (befores i.nodes)) ms) = least_drop (befores i.nodes) children ms (subst (λ y. AreLeast y ms) inside_trees l) in
       let l3 : AreLeast (drop inner.first ts) (drop inner.first ms) = subst (λ n. AreLeast (drop inner.first ts) (drop n ms)) (sym first_is) (subst (λ y. AreLeast y (drop (length (befores i.nodes)) ms)) (sym inside_children) l2) in
-      n (of_order (drop inner.first ts) (drop inner.first ms) l3 p.3.order)
+      n (shape_has inner.kind (row (drop inner.first ts)) p.0 p.3.shape, of_order (drop inner.first ts) (drop inner.first ms) l3 p.3.order)
 
   pub useless_end : LacksFirst 44 rest → LacksEnd inner.kind (length (drop inner.first ts)) rest → AreUseless bytes
   useless_end lacks n w good e =
@@ -171,6 +169,35 @@ module _ (bytes rest : List ℕ) (inner : Opened) (opens : List Opened) (ts : Li
       let b : length children ≡ length i.node.before + 1 = length-append i.node.before (i.tree ∷ []) in
       let c = first_is in
       omega arith
+
+-- the end of a node that is not prime is a bracket
+pub lacks_bracket : (k : Kind) (n : ℕ) (text : List ℕ) → k ≢ Prime → LacksFirst 41 text → LacksEnd k n text
+lacks_bracket Parallel n text other l ps r m e = l r (e ∙ ap (λ (qs : List Pair). pairs_text 59 qs ++ 41 ∷ r) m)
+lacks_bracket Series n text other l ps r m e = l r (e ∙ ap (λ (qs : List Pair). pairs_text 59 qs ++ 41 ∷ r) m)
+lacks_bracket Prime n text other l ps r m e = other refl
+
+pub only_bracket : (k : Kind) (n : ℕ) (text tail : List ℕ) → k ≢ Prime → text ≡ 41 ∷ tail → IsEnd k n text [] tail
+only_bracket Parallel n text tail other e = (refl, e)
+only_bracket Series n text tail other e = (refl, e)
+only_bracket Prime n text tail other e = absurd (other refl)
+
+-- the trees of a node that ends are taken off, and the node takes their place
+pub node_ended : (bytes text : List ℕ) (inner : Opened) (held new : Held) (ps : List Pair) (tail : List ℕ) → HasBuiltInside bytes text inner held →
+    MayHave inner.kind (row (drop inner.first (trees_held held))) → Ascends (drop inner.first held.least.items) → IsEnd inner.kind (length (trees_held held) - inner.first) text ps tail →
+    trees_held new ≡ take inner.first (trees_held held) ++ node inner.kind (row (drop inner.first (trees_held held))) ps ∷ [] → new.least.items ≡ take (inner.first + 1) held.least.items →
+    new.opens.items ≡ held.opens.items → new.seen ≡ held.seen → HasReadTree bytes text tail new
+node_ended bytes text inner held new ps tail h has ascend end trees least opens seen =
+    let ts = trees_held held in
+    let us = take inner.first ts ++ node inner.kind (row (drop inner.first ts)) ps ∷ [] in (
+      record {
+        kept = subst (λ vs. AreKept vs new.least.items new.seen) (sym trees)
+            (subst (λ ms. AreKept us ms new.seen) (sym least)
+            (subst (AreKept us (take (inner.first + 1) held.least.items)) (sym seen)
+            (kept_closed ts held.least.items held.seen inner.first inner.kind ps (inside_first _ _ inner _ _ h.comes) h.kept has end.0 ascend)));
+        comes = subst (IsBehind bytes tail new.opens.items) (sym trees) (subst (λ os. IsBehind bytes tail os us) (sym opens) (inside_end bytes text inner held.opens.items ts h.comes ps tail end.1));
+      },
+      end_shorter _ _ ps end.1,
+    )
 
 -- outside all nodes
 over_of : (bytes rest : List ℕ) (ts : List PlainTree) (s : List OpenNode) (t : PlainTree) → [] ≡ opened s → ts ≡ befores s ++ t ∷ [] → ((w : PlainTree) → (bytes ≡ tree_text w) ↔ Follows s t rest w) →
@@ -196,6 +223,21 @@ pub useless_over : (bytes rest : List ℕ) (opens : List Opened) (ts : List Plai
 useless_over bytes rest opens ts b none some w good e =
     let o = over_of bytes rest ts b.nodes b.tree (sym none ∙ b.open_is) b.trees_are b.means in
     let l : length rest ≡ 0 = ap length ((o.2 w).0 e).0 in
+    omega arith
+
+-- in an open node the text goes on
+open_goes_on : (s : List OpenNode) (t : PlainTree) (r : List ℕ) (w : PlainTree) → Follows s t r w → r ≡ [] → length (opened s) ≡ 0
+open_goes_on [] t r w f e = refl
+open_goes_on (o ∷ s) t r w f e =
+    let a : length r ≡ length (row_text 44 f.others) + length (pairs_text 59 f.pairs ++ 41 ∷ f.behind) = ap length f.text ∙ length-append (row_text 44 f.others) (pairs_text 59 f.pairs ++ 41 ∷ f.behind) in
+    let b : length (pairs_text 59 f.pairs ++ 41 ∷ f.behind) ≡ length (pairs_text 59 f.pairs) + suc (length f.behind) = length-append (pairs_text 59 f.pairs) (41 ∷ f.behind) in
+    let none : length r ≡ 0 = ap length e in
+    absurd (omega arith)
+
+pub useless_open : (bytes rest : List ℕ) (opens : List Opened) (ts : List PlainTree) → IsBehind bytes rest opens ts → 0 < length opens → rest ≡ [] → AreUseless bytes
+useless_open bytes rest opens ts b some over w good e =
+    let none : length (opened b.nodes) ≡ 0 = open_goes_on b.nodes b.tree rest w ((b.means w).0 e) over in
+    let same : length opens ≡ length (opened b.nodes) = ap length b.open_is in
     omega arith
 
 -- the names of a child are names of the node

@@ -43,12 +43,13 @@ pub if_ok : {A E : Type 0} {P Q : A → Type 0} (r : Result A E) → ((x : A) �
 if_ok (Ok x) f h = f x h
 if_ok (Err e) f h = h
 
+-- the items from a place on
+pub items_from : {X : Type 0} (ds xs : List X) (first : ℕ) → ds ≡ xs → take (length ds - first) (drop first ds) ≡ drop first xs
+items_from ds xs first e = take_rest ds first ∙ ap (drop first) e
+
 -- the plain trees of those from a place on
 pub plain_from : (ds xs : List Tree) (first : ℕ) → ds ≡ xs → map plain (take (length ds - first) (drop first ds)) ≡ drop first (map plain xs)
-plain_from ds xs first e = ap (map plain) (take_rest ds first ∙ ap (drop first) e) ∙ sym (drop-map plain first xs)
-
-pub numbers_from : (ds xs : List ℕ) (first : ℕ) → ds ≡ xs → take (length ds - first) (drop first ds) ≡ drop first xs
-numbers_from ds xs first e = take_rest ds first ∙ ap (drop first) e
+plain_from ds xs first e = ap (map plain) (items_from ds xs first e) ∙ sym (drop-map plain first xs)
 
 -- the only tree is popped
 pub popped_only : (xs rest : List Tree) (o : Option Tree) (t : PlainTree) (P : PlainTree → Type 0) (Q : Type 0) → map plain xs ≡ t ∷ [] → xs ≡ rest ++ option_to_list o →

@@ -1,6 +1,7 @@
 //! Builds the tree whose text is read, and gives up where the text is no well-formed tree's.
-ghost use Rattle.std.specs.Prelude.{◌≡◌, ◌≤◌, ◌↔◌, ◌+◌, ℕ, List, true, false, [], ◌∷◌, ◌++◌, take, drop, vec_len, map, IfOk, MatchOption, IsTrue, Some};
-ghost use Rattle.md_tree.specs.declared.Tree.{Tree};
+ghost use Rattle.std.specs.Prelude.{◌≡◌, ◌≢◌, ◌<◌, ◌≤◌, ◌↔◌, ◌+◌, ℕ, List, true, false, [], ◌∷◌, ◌++◌, length, take, drop, vec_len, vec_capacity, map, IfOk, OnOk, MatchOption, IsTrue, Some};
+ghost use Rattle.md_tree.specs.declared.Tree.{Tree, Leaf};
+ghost use Rattle.md_tree.specs.declared.Kind.TheVariants.{Prime};
 ghost use Rattle.md_tree.specs.Plain.{plain};
 ghost use Rattle.md_tree.specs.Trees.{node, row};
 ghost use Rattle.md_tree.specs.TreeTexts.{letter, tree_text};
@@ -9,7 +10,7 @@ ghost use Rattle.md_tree.specs.Languages.{LacksFirst};
 ghost use Rattle.md_tree.specs.Held.{IsNumberSplit, HasBuilt, HasBuiltInside, HasReadTree, IsStep, AreUseless, Ascends, MayHave, trees_held};
 
 use crate::grammar::{skip_byte, split_letter};
-use crate::growing::append;
+use crate::growing::{append, make_room};
 use crate::numbers::small_number;
 use crate::pair_reader::read_end;
 use crate::{Children, Kind, Pair, QuotientEdges, Tree};
@@ -21,7 +22,7 @@ use std::mem;
 #[derive(Clone, Copy)]
 struct Opened {
     kind: Kind,
-    first: usize,
+    first: u32,
 }
 
 // The trees that are read, with their least names, the nodes that are open, and all names.
@@ -122,8 +123,26 @@ fn take_name<'a>(
     }
     held.seen.insert(name);
     append(&mut held.least, name)?;
-    append(&mut held.trees, Tree::Leaf(name))?;
+    append_leaf(&mut held.trees, name)?;
     Ok(Some(tail))
+}
+
+// Appends a name as a tree. It is made once there is room, where it is put, and so is not copied.
+#[inline(always)]
+fn append_leaf(trees: &mut Vec<Tree>, name: u32) -> Result<(), Memory>
+    ensures { OnOk result (trees.new.items ≡ trees.old.items ++ Leaf name ∷ []) }
+{
+    make_room(trees)?;
+    put_leaf(trees, name);
+    Ok(())
+}
+
+#[inline(always)]
+fn put_leaf(trees: &mut Vec<Tree>, name: u32)
+    requires { vec_len trees.old < vec_capacity trees.old }
+    ensures { trees.new.items ≡ trees.old.items ++ Leaf name ∷ [] }
+{
+    trees.push_reserved(Tree::Leaf(name));
 }
 
 // The letter of a node is read. In the text of a well-formed tree fewer nodes are open than there
@@ -135,7 +154,8 @@ fn begin_node<'a>(
     behind: &'a [u8],
     held: &mut Held,
 ) -> Result<Step<'a>, Memory>
-    requires { text.now ≡ letter kind ∷ behind.now }
+    requires built { (bytes : List ℕ) × HasBuilt bytes text.now false held.old }
+    requires letter { text.now ≡ letter kind ∷ behind.now }
     ensures { IfOk result (λ step. (bytes : List ℕ) → HasBuilt bytes text.now false held.old
         → IsStep bytes text.now step held.new) }
 {
@@ -144,7 +164,7 @@ fn begin_node<'a>(
     }
     match skip_byte(behind, b'(') {
         Ok(tail) => {
-            let first = held.trees.len();
+            let first = held.trees.len() as u32;
             append(&mut held.opens, Opened { kind, first })?;
             Ok(Step::Onward(tail))
         }
@@ -161,11 +181,14 @@ fn end_nodes<'a>(alloc: Global, text: &'a [u8], held: &mut Held) -> Result<Step<
 {
     let mut rest = text;
     loop {
-        if let Ok(tail) = skip_byte(rest, b',') {
-            return Ok(step_comma(rest, tail, held));
+        let Some((first, behind)) = rest.split_first() else {
+            return Ok(step_at_end(rest, held));
+        };
+        if *first == b',' {
+            return Ok(step_comma(rest, behind, held));
         }
         let Some(inner) = held.opens.pop() else {
-            return Ok(step_over(rest));
+            return Ok(Step::Useless);
         };
         let Some(tail) = end_node(alloc, rest, inner, held)? else {
             return Ok(Step::Useless);
@@ -187,13 +210,14 @@ fn step_comma<'a>(text: &'a [u8], tail: &'a [u8], held: &Held) -> Step<'a>
     Step::Onward(tail)
 }
 
-// Where no node is open: the end of the text.
+// The end of the text, where no node may be open.
 #[inline(always)]
-fn step_over<'a>(text: &'a [u8]) -> Step<'a>
-    ensures { (bytes : List ℕ) (held : Held) → HasBuilt bytes text.now true held
-        → (held.opens.items ≡ []) → IsStep bytes text.now result held }
+fn step_at_end<'a>(text: &'a [u8], held: &Held) -> Step<'a>
+    requires { text.now ≡ [] }
+    ensures { (bytes : List ℕ) → HasBuilt bytes text.now true held.now
+        → IsStep bytes text.now result held.now }
 {
-    if text.is_empty() {
+    if held.opens.is_empty() {
         return Step::End;
     }
     Step::Useless
@@ -213,14 +237,88 @@ fn end_node<'a>(
         → MatchOption o (AreUseless bytes)
         (λ tail. HasReadTree bytes text.now tail.now held.new)) }
 {
-    if !may_have(inner.kind, &held.trees[inner.first..]) {
+    if inner.kind != Kind::Prime && held.trees.len() - inner.first as usize == 2 {
+        return end_two(alloc, text, inner, held);
+    }
+    end_any(alloc, text, inner, held)
+}
+
+// The same of two children without pairs, as most nodes of a deep tree have them: with no loop, and
+// moved as one block, since how many bytes they take is known.
+#[inline(always)]
+fn end_two<'a>(
+    alloc: Global,
+    text: &'a [u8],
+    inner: Opened,
+    held: &mut Held,
+) -> Result<Option<&'a [u8]>, Memory>
+    requires inside { (bytes : List ℕ) × HasBuiltInside bytes text.now inner held.old }
+    requires no_comma { LacksFirst 44 text.now }
+    requires two { vec_len held.old.trees ≡ inner.first + 2 }
+    requires no_pairs { inner.kind ≢ Prime }
+    ensures { IfOk result (λ o. (bytes : List ℕ) → HasBuiltInside bytes text.now inner held.old
+        → MatchOption o (AreUseless bytes)
+        (λ tail. HasReadTree bytes text.now tail.now held.new)) }
+{
+    let Ok(tail) = skip_byte(text, b')') else {
+        return Ok(None);
+    };
+    let first = inner.first as usize;
+    if !may_be_two(inner.kind, &held.trees[first..], &held.least[first..]) {
         return Ok(None);
     }
-    if !ascends(&held.least[inner.first..]) {
+    close_two(alloc, inner, &mut held.trees)?;
+    held.least.take_last();
+    Ok(Some(tail))
+}
+
+// Whether a node of the kind may have the two children, whose least names are told.
+#[inline(always)]
+fn may_be_two(kind: Kind, children: &[Tree], least: &[u32]) -> bool
+    requires children { length children.now ≡ 2 }
+    requires least { length least.now ≡ 2 }
+    requires no_pairs { kind ≢ Prime }
+    ensures { IsTrue result ↔ (MayHave kind (row (map plain children.now)) × Ascends least.now) }
+{
+    least[0] < least[1] && !is_of_kind(&children[0], kind) && !is_of_kind(&children[1], kind)
+}
+
+// A node of the last two trees takes their place.
+#[inline(always)]
+fn close_two(alloc: Global, inner: Opened, trees: &mut Vec<Tree>) -> Result<(), Memory>
+    requires { vec_len trees.old ≡ inner.first + 2 }
+    ensures { IfOk result (λ _. map plain trees.new.items
+        ≡ take inner.first (map plain trees.old.items)
+        ++ node inner.kind (row (drop inner.first (map plain trees.old.items))) [] ∷ []) }
+{
+    let list = trees.split_off(inner.first as usize)?;
+    let pairs = QuotientEdges {
+        list: Vec::new(alloc),
+    };
+    trees.push_reserved(Tree::Node(inner.kind, Children { list }, pairs));
+    Ok(())
+}
+
+// The same of any number of children.
+#[inline(always)]
+fn end_any<'a>(
+    alloc: Global,
+    text: &'a [u8],
+    inner: Opened,
+    held: &mut Held,
+) -> Result<Option<&'a [u8]>, Memory>
+    requires inside { (bytes : List ℕ) × HasBuiltInside bytes text.now inner held.old }
+    requires no_comma { LacksFirst 44 text.now }
+    ensures { IfOk result (λ o. (bytes : List ℕ) → HasBuiltInside bytes text.now inner held.old
+        → MatchOption o (AreUseless bytes)
+        (λ tail. HasReadTree bytes text.now tail.now held.new)) }
+{
+    let first = inner.first as usize;
+    if !may_have(inner.kind, &held.trees[first..], &held.least[first..]) {
         return Ok(None);
     }
     let outermost = held.opens.is_empty();
-    let list = take_from(alloc, inner.first, outermost, &mut held.trees)?;
+    let list = take_from(alloc, first, outermost, &mut held.trees)?;
     let Some((pairs, tail)) = read_end(alloc, text, inner.kind, list.len())? else {
         return Ok(None);
     };
@@ -243,7 +341,7 @@ fn close(inner: Opened, list: Vec<Tree>, pairs: Vec<Pair>, held: &mut Held) -> R
 {
     let node = Tree::Node(inner.kind, Children { list }, QuotientEdges { list: pairs });
     append(&mut held.trees, node)?;
-    held.least.truncate(inner.first + 1);
+    held.least.truncate(inner.first as usize + 1);
     Ok(())
 }
 
@@ -265,27 +363,32 @@ fn take_from(
     Ok(list)
 }
 
-// Whether a node of the kind may have the children.
-fn may_have(kind: Kind, children: &[Tree]) -> bool
-    ensures { IsTrue result ↔ MayHave kind (row (map plain children.now)) }
+// Whether a node of the kind may have the children, whose least names are told.
+fn may_have(kind: Kind, children: &[Tree], least: &[u32]) -> bool
+    requires { length least.now ≡ length children.now }
+    ensures { IsTrue result ↔ (MayHave kind (row (map plain children.now)) × Ascends least.now) }
 {
     match kind {
-        Kind::Parallel => children.len() >= 2 && none_of_kind(children, Kind::Parallel),
-        Kind::Series => children.len() >= 2 && none_of_kind(children, Kind::Series),
-        Kind::Prime => children.len() >= 4,
+        Kind::Parallel => children.len() >= 2 && are_others(Kind::Parallel, children, least),
+        Kind::Series => children.len() >= 2 && are_others(Kind::Series, children, least),
+        Kind::Prime => children.len() >= 4 && ascends(least),
     }
 }
 
-// Whether no tree is a node of the kind.
-fn none_of_kind(trees: &[Tree], kind: Kind) -> bool
-    ensures { IsTrue result ↔ NoneOfKind (row (map plain trees.now)) kind }
+// Whether no child is a node of the kind, and the least names ascend.
+fn are_others(kind: Kind, children: &[Tree], least: &[u32]) -> bool
+    requires some { 1 ≤ length children.now }
+    requires same { length least.now ≡ length children.now }
+    ensures { IsTrue result
+        ↔ (NoneOfKind (row (map plain children.now)) kind × Ascends least.now) }
 {
-    let mut rest = trees;
-    while let Some((tree, others)) = rest.split_first() {
-        if is_of_kind(tree, kind) {
+    if is_of_kind(&children[0], kind) {
+        return false;
+    }
+    for i in 1..children.len() {
+        if is_of_kind(&children[i], kind) || least[i - 1] >= least[i] {
             return false;
         }
-        rest = others;
     }
     true
 }

@@ -8,10 +8,20 @@ use md_graph::Memory;
 pub(crate) fn append<T: Drop>(list: &mut Vec<T>, item: T) -> Result<(), Memory>
     ensures { OnOk result (list.new.items ≡ list.old.items ++ item ∷ []) }
 {
-    if list.len() == list.capacity() {
-        grow(list)?;
-    }
+    make_room(list)?;
     list.push_reserved(item);
+    Ok(())
+}
+
+// Makes room for another item.
+#[inline(always)]
+pub(crate) fn make_room<T>(list: &mut Vec<T>) -> Result<(), Memory>
+    ensures items { OnOk result (list.new.items ≡ list.old.items) }
+    ensures room { OnOk result (vec_len list.new < vec_capacity list.new) }
+{
+    if list.len() == list.capacity() {
+        return grow(list);
+    }
     Ok(())
 }
 

@@ -46,9 +46,19 @@ fn quick_number<'a>(text: &'a [u8]) -> Option<(u32, &'a [u8])>
     }
 }
 
-// The same at any text, a byte at a time.
-#[inline(never)]
+// The same at any text. A function of its own, so that the room for the answer of the call is made
+// ready here alone, and not wherever a number is read.
+#[inline(always)]
 fn number_near_end<'a>(text: &'a [u8]) -> Option<(u32, &'a [u8])>
+    ensures { MatchOption result (LacksNumber text.now)
+        (λ p. IsNumberSplit text.now p.0 p.1.now) }
+{
+    number_by_bytes(text)
+}
+
+// The same, a byte at a time.
+#[inline(never)]
+fn number_by_bytes<'a>(text: &'a [u8]) -> Option<(u32, &'a [u8])>
     ensures { MatchOption result (LacksNumber text.now)
         (λ p. IsNumberSplit text.now p.0 p.1.now) }
 {

@@ -52,7 +52,9 @@ pub fn read_tree(alloc: Global, bytes: &[u8]) -> Result<Option<Tree>, TreeFault>
     refuse(alloc, bytes)
 }
 
-// Why bytes are not read that are no well-formed tree's text.
+// Why bytes are not read that are no well-formed tree's text. Not inlined, so that the loop over a
+// tree's text stays small.
+#[inline(never)]
 fn refuse(alloc: Global, bytes: &[u8]) -> Result<Option<Tree>, TreeFault>
     requires tree { AreUseless bytes.now }
     requires word { bytes.now ≢ codes "empty" }

@@ -9,8 +9,8 @@ pub record AreEndsRead (text rest : List ℕ) (before now : Held) : Type 0 where
   pub each : (bytes : List ℕ) → HasBuilt bytes text true before → HasBuilt bytes rest true now
   pub within : length rest ≤ length text
 
-abbrev pub invariant-loop-tail : goal.invariant-loop-tail
-invariant-loop-tail l = AreEndsRead l.text l.rest l.initial.held l.held
+abbrev pub invariant-loop-first : goal.invariant-loop-first
+invariant-loop-first l = AreEndsRead l.text l.rest l.initial.held l.held
 
-abbrev pub decreases-loop-tail : goal.decreases-loop-tail
-decreases-loop-tail l = length l.rest
+abbrev pub decreases-loop-first : goal.decreases-loop-first
+decreases-loop-first l = length l.rest

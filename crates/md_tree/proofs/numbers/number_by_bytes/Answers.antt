@@ -1,6 +1,6 @@
 use Rattle.std.proofs.Common.{◌∷◌, ◌+◌, ◌∙◌, ap, arith}
 use Rattle.md_tree.proofs.Numerals.{no_digit_lacks, zero_lacks, digit_first}
-use Rattle.md_tree.proofs.numbers.number_near_end.Goals as goal
+use Rattle.md_tree.proofs.numbers.number_by_bytes.Goals as goal
 
 pub returns-in_err-first : goal.returns-in_err-first
 returns-in_err-first c = rw c.from_residual.ensures (no_digit_lacks c.args.text.now c.in_err-first.ensures)
