@@ -103,6 +103,9 @@ empty_of_words a n zeros =
 abbrev pub InUse : List ℕ → ℕ → Type 0
 InUse words used = (k : ℕ) → used ≤ k → get_or words k 0 ≡ 0
 
+pub in_use_past : (words : List ℕ) (used more : ℕ) → InUse words used → used ≤ more → InUse words more
+in_use_past words used more zeros past k h = zeros k (omega arith)
+
 pub union_of_words : (a b c : List ℕ) (n ua ub u : ℕ) → InUse a ua → InUse b ub → u ≡ max ua ub → ((k : ℕ) → k < u → get_or c k 0 ≡ bit_or (get_or a k 0) (get_or b k 0)) → InUse c u → names_below c n ≡ set.union (names_below a n) (names_below b n)
 union_of_words a b c n ua ub u ra rb e first rest =
     union_of_bits a b c n (λ q.

@@ -122,8 +122,9 @@ impl<const W: usize> Set<W> {
     pub fn take_in(&mut self, other: &Set<W>)
         ensures { self.new ≡ set.union self.old other.now }
     {
-        join_in(&mut self.words, &other.words, other.used);
-        self.used = self.used.max(other.used);
+        let used = passed::<W>(other.used);
+        join_in(&mut self.words, &other.words, used);
+        self.used = self.used.max(used);
     }
 
     /// Takes in the members of `other` that it doesn't have, and leaves out those that it has. It
@@ -131,8 +132,9 @@ impl<const W: usize> Set<W> {
     pub fn flip(&mut self, other: &Set<W>)
         ensures { self.new ≡ told_apart self.old other.now }
     {
-        flip_bits(&mut self.words, &other.words, other.used);
-        self.used = self.used.max(other.used);
+        let used = passed::<W>(other.used);
+        flip_bits(&mut self.words, &other.words, used);
+        self.used = self.used.max(used);
     }
 
     /// Moves the members that `row` has to `to`. It passes over the words in use.
@@ -140,8 +142,9 @@ impl<const W: usize> Set<W> {
         ensures rest { self.new ≡ set.difference self.old row.now }
         ensures moved { to.new ≡ set.union to.old (set.intersection self.old row.now) }
     {
-        move_both(&mut self.words, &row.words, &mut to.words, self.used);
-        to.used = to.used.max(self.used);
+        let used = passed::<W>(self.used);
+        move_both(&mut self.words, &row.words, &mut to.words, used);
+        to.used = to.used.max(used);
     }
 
     /// Moves the members that `row` lacks to `to`. It passes over the words in use.
@@ -149,8 +152,9 @@ impl<const W: usize> Set<W> {
         ensures rest { self.new ≡ set.intersection self.old row.now }
         ensures moved { to.new ≡ set.union to.old (set.difference self.old row.now) }
     {
-        move_alone(&mut self.words, &row.words, &mut to.words, self.used);
-        to.used = to.used.max(self.used);
+        let used = passed::<W>(self.used);
+        move_alone(&mut self.words, &row.words, &mut to.words, used);
+        to.used = to.used.max(used);
     }
 
     /// Moves the members that exactly one of `first` and `second` has to `to`. It passes over the
@@ -160,14 +164,15 @@ impl<const W: usize> Set<W> {
         ensures moved { to.new
             ≡ set.union to.old (set.intersection self.old (told_apart first.now second.now)) }
     {
+        let used = passed::<W>(self.used);
         move_apart(
             &mut self.words,
             &first.words,
             &second.words,
             &mut to.words,
-            self.used,
+            used,
         );
-        to.used = to.used.max(self.used);
+        to.used = to.used.max(used);
     }
 
     /// The least member that exactly one of `first` and `second` has; `None` exactly where there is
@@ -180,7 +185,12 @@ impl<const W: usize> Set<W> {
         ensures name { IfSome result (λ least. least < NAMES) }
         ensures below { IfSome result (λ least. least < 64 * W) }
     {
-        first_apart(&self.words, &first.words, &second.words, self.used)
+        first_apart(
+            &self.words,
+            &first.words,
+            &second.words,
+            passed::<W>(self.used),
+        )
     }
 
     /// Becomes the members of `of` that neither `first` nor `second` has. It passes over the words
@@ -257,21 +267,21 @@ impl<const W: usize> Set<W> {
         ensures name { IfSome result (λ greatest. greatest < NAMES) }
         ensures below { IfSome result (λ greatest. greatest < 64 * W) }
     {
-        last_place(&self.words, self.used)
+        last_place(&self.words, passed::<W>(self.used))
     }
 
     /// The number of members.
     pub fn count(&self) -> u32
         ensures { result ≡ set.len self.now }
     {
-        count_bits(&self.words, self.used)
+        count_bits(&self.words, passed::<W>(self.used))
     }
 
     /// Whether no name is a member.
     pub fn is_empty(&self) -> bool
         ensures { IsTrue result ↔ (self.now ≡ set.empty) }
     {
-        are_all_zero(&self.words, self.used)
+        are_all_zero(&self.words, passed::<W>(self.used))
     }
 
     /// Whether `other` has the same members.
@@ -285,7 +295,7 @@ impl<const W: usize> Set<W> {
     pub fn is_subset(&self, other: &Set<W>) -> bool
         ensures { IsTrue result ↔ Within self.now other.now }
     {
-        are_within(&self.words, &other.words, self.used)
+        are_within(&self.words, &other.words, passed::<W>(self.used))
     }
 
     /// The members, ascending.
@@ -343,6 +353,17 @@ impl<const W: usize> Set<W> {
     {
         self.words[first as usize / 64]
     }
+}
+
+// How many words are passed over where so many are in use: a word that is alone always is, so that
+// the operations on it are no loops.
+#[inline(always)]
+fn passed<const W: usize>(used: usize) -> usize
+    requires { used ≤ W }
+    ensures few { result ≤ W }
+    ensures all { used ≤ result }
+{
+    if W == 1 { 1 } else { used }
 }
 
 #[cfg(test)]
