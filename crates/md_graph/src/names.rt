@@ -221,7 +221,7 @@ impl<const W: usize> Set<W> {
     pub fn and(&self, other: &Set<W>) -> Set<W>
         ensures { result ≡ set.intersection self.now other.now }
     {
-        let used = self.used.min(other.used);
+        let used = passed::<W>(self.used).min(passed::<W>(other.used));
         let mut words = no_words();
         become_both(&mut words, &self.words, &other.words, used);
         Set { words, used }
@@ -231,7 +231,7 @@ impl<const W: usize> Set<W> {
     pub fn or(&self, other: &Set<W>) -> Set<W>
         ensures { result ≡ set.union self.now other.now }
     {
-        let used = self.used.max(other.used);
+        let used = passed::<W>(self.used).max(passed::<W>(other.used));
         let mut words = no_words();
         become_either(&mut words, &self.words, &other.words, used);
         Set { words, used }
@@ -241,12 +241,10 @@ impl<const W: usize> Set<W> {
     pub fn minus(&self, other: &Set<W>) -> Set<W>
         ensures { result ≡ set.difference self.now other.now }
     {
+        let used = passed::<W>(self.used);
         let mut words = no_words();
-        become_first_alone(&mut words, &self.words, &other.words, self.used);
-        Set {
-            words,
-            used: self.used,
-        }
+        become_first_alone(&mut words, &self.words, &other.words, used);
+        Set { words, used }
     }
 
     /// The least member at or above `v`, any number; `None` exactly where there is none.
@@ -288,7 +286,8 @@ impl<const W: usize> Set<W> {
     pub fn is_same(&self, other: &Set<W>) -> bool
         ensures { IsTrue result ↔ (self.now ≡ other.now) }
     {
-        are_equal(&self.words, &other.words, self.used.max(other.used))
+        let used = passed::<W>(self.used).max(passed::<W>(other.used));
+        are_equal(&self.words, &other.words, used)
     }
 
     /// Whether `other` has each member.
@@ -314,17 +313,18 @@ impl<const W: usize> Set<W> {
         ensures below { AllBelow self.now (64 * W) }
     {
         let at = v as usize / 64;
-        if self.used <= at {
+        let used = passed::<W>(self.used);
+        if used <= at {
             return Members {
                 words: &self.words,
-                used: self.used,
-                first: 64 * self.used as u32,
+                used,
+                first: 64 * used as u32,
                 left: 0,
             };
         }
         Members {
             words: &self.words,
-            used: self.used,
+            used,
             first: v / 64 * 64,
             left: from_place(self.words[at], v % 64),
         }
