@@ -124,8 +124,8 @@ impl<const W: usize> Block<W> {
         }
     }
 
-    // The set, unless it is kept as a name alone.
-    pub(crate) fn several(&self) -> Option<&Set<W>>
+    /// The set, unless it is kept as a name alone.
+    pub fn several(&self) -> Option<&Set<W>>
         ensures kept { IfSome result (λ names. names.now ≡ self.now) }
         ensures one { IfNone result ((v : ℕ) × (self.now ≡ only_name v)) }
     {
