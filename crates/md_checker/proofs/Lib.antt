@@ -18,3 +18,5 @@ mod Trivial
 mod FitRows
 mod FitNodes
 mod FitStacks
+mod TextWalk
+mod HeadPairs

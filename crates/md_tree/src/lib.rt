@@ -18,6 +18,7 @@ mod reader;
 mod tree_graph;
 mod writer;
 
+pub use builder::Opened;
 pub use cotree::is_cotree;
 pub use grammar::{skip_byte, split_letter};
 pub use numbers::small_number;
