@@ -182,6 +182,7 @@ fn end_node<'a>(
         → IsReadInside graph.now bytes text.now inner walk.old
         → IsReadOn graph.now bytes text.now tail.now true walk.new)) }
 {
+    let _vertices = graph.vertices();
     if !may_have(inner.kind, &walk.kinds[inner.first..]) {
         return Ok(None);
     }
