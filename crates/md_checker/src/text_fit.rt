@@ -41,6 +41,7 @@ pub(crate) fn is_text_of_tree(alloc: Global, graph: &Graph, text: &[u8]) -> Resu
     ensures { IfOk result (λ fit. IsTrue fit → (t : PlainTree) × IsWellFormed (Some t)
         × IsTreeOf (adjacent graph.now) graph.now.vertices t × (text.now ≡ tree_text t)) }
 {
+    let _vertices = graph.vertices();
     let mut walk = Walk {
         sets: Vec::new(alloc),
         heads: Vec::new(alloc),
@@ -58,7 +59,18 @@ pub(crate) fn is_text_of_tree(alloc: Global, graph: &Graph, text: &[u8]) -> Resu
         rest = tail;
         behind = next;
     }
-    Ok(walk.opens.is_empty() && walk.seen.is_same(graph.vertices()))
+    Ok(is_whole(graph, &walk))
+}
+
+// Whether no node is open, and all names are the vertices of the graph.
+fn is_whole(graph: &Graph, walk: &Walk) -> bool
+    ensures closed { IsTrue result → walk.now.opens.items ≡ [] }
+    ensures all { IsTrue result → walk.now.seen ≡ graph.now.vertices }
+{
+    if !walk.opens.is_empty() {
+        return false;
+    }
+    walk.seen.is_same(graph.vertices())
 }
 
 // What is left behind one token, and whether it stands behind a tree.
