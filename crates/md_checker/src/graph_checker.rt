@@ -3,9 +3,10 @@ ghost use Rattle.std.specs.Prelude.{◌≡◌, ◌↔◌, if◌then◌else◌, I
 ghost use Rattle.md_report.specs.Lines.{plain_line};
 ghost use Rattle.md_report.specs.WellFormedLines.{IsWellFormedLine};
 ghost use Rattle.md_report.specs.Places.{before_head, after_end, MayCome, next_place};
+ghost use Rattle.md_checker.specs.Standing.{Takes};
 
 use crate::fixed_lines::{is_end, is_head};
-use crate::judgements::reports;
+use crate::judgements::{reports, reports_by_text};
 use md_graph::{Graph, Memory};
 use md_input::Graphs;
 use md_report::{GraphMode, Line};
@@ -72,6 +73,28 @@ impl<'a> GraphChecker<'a> {
         ensures { IsTrue result ↔ self.now ≡ after_end }
     {
         self.due == GraphDue::Nothing
+    }
+
+    // Whether the text is that of the tree that is due: the line is then taken, and else nothing
+    // changes. A false says nothing.
+    pub(crate) fn takes_tree(&mut self, alloc: Global, text: &[u8]) -> Result<bool, Memory>
+        ensures takes { IfOk result (λ taken.
+            IsTrue taken → Takes self.old text.now self.new) }
+        ensures refused { IfOk result (λ taken. ¬ IsTrue taken → self.new ≡ self.old) }
+        ensures stays { IsErr result → self.new ≡ self.old }
+    {
+        if self.due != GraphDue::Graphs {
+            return Ok(false);
+        }
+        if !self.one {
+            return Ok(false);
+        }
+        if !reports_by_text(alloc, self.mode, &self.graph, text)? {
+            return Ok(false);
+        }
+        self.graph.clear();
+        self.one = self.behind.next(&mut self.graph);
+        Ok(true)
     }
 
     // Whether the line may come; it is then taken, and else nothing changes.

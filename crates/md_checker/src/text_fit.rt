@@ -62,6 +62,23 @@ pub(crate) fn is_text_of_tree(alloc: Global, graph: &Graph, text: &[u8]) -> Resu
     Ok(is_whole(graph, &walk))
 }
 
+// The same of a text that is a word and behind it a tree's text.
+pub(crate) fn is_word_and_tree(
+    alloc: Global,
+    graph: &Graph,
+    word: &[u8],
+    text: &[u8],
+) -> Result<bool, Memory>
+    ensures { IfOk result (λ fit. IsTrue fit → (t : PlainTree)
+        × IsTreeOf (adjacent graph.now) graph.now.vertices t
+        × (text.now ≡ word.now ++ tree_text t)) }
+{
+    match text.strip_prefix(word) {
+        Some(behind) => is_text_of_tree(alloc, graph, behind),
+        None => Ok(false),
+    }
+}
+
 // Whether no node is open, and all names are the vertices of the graph.
 fn is_whole(graph: &Graph, walk: &Walk) -> bool
     ensures closed { IsTrue result → walk.now.opens.items ≡ [] }
