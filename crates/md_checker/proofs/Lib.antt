@@ -20,3 +20,4 @@ mod FitNodes
 mod FitStacks
 mod TextWalk
 mod HeadPairs
+mod Taking

@@ -120,6 +120,16 @@ impl<'a> Checker<'a> {
         self.inner.feed(alloc, line)
     }
 
+    // Whether the text is that of the tree that is due: the line is then taken, and else nothing
+    // changes. A false says nothing: such a line may come as well.
+    fn takes_tree(&mut self, alloc: Global, text: &[u8]) -> Result<bool, Memory>
+        ensures takes { IfOk result (λ taken. IsTrue taken → Takes self.old text.now self.new) }
+        ensures refused { IfOk result (λ taken. ¬ IsTrue taken → self.new ≡ self.old) }
+        ensures stays { IsErr result → self.new ≡ self.old }
+    {
+        self.inner.takes_tree(alloc, text)
+    }
+
     // Whether a line with this text may come: it is then taken, and else nothing changes. Errors:
     // want of memory; nothing changes then.
     pub(crate) fn feed_text(&mut self, alloc: Global, text: &[u8]) -> Result<bool, Memory>
@@ -131,9 +141,23 @@ impl<'a> Checker<'a> {
         ensures refused { IfOk result (λ taken. ¬ IsTrue taken → self.new ≡ self.old) }
         ensures stays { IsErr result → self.new ≡ self.old }
     {
-        if self.inner.takes_tree(alloc, text)? {
+        if self.takes_tree(alloc, text)? {
             return Ok(true);
         }
+        self.feed_read(alloc, text)
+    }
+
+    // The same for a text that is read whole.
+    fn feed_read(&mut self, alloc: Global, text: &[u8]) -> Result<bool, Memory>
+        ensures may { IfOk result (λ taken. IsTrue taken
+            ↔ ((line : PlainLine) × MayCome self.old line × (text.now ≡ line_text line))) }
+        ensures next { IfOk result (λ taken. IsTrue taken
+            → (line : PlainLine) × MayCome self.old line × (text.now ≡ line_text line)
+            × (self.new ≡ next_place self.old line)) }
+        ensures refused { IfOk result (λ taken. ¬ IsTrue taken → self.new ≡ self.old) }
+        ensures stays { IsErr result → self.new ≡ self.old }
+    {
+        let _inner = &self.inner;
         match read_line(alloc, text) {
             Ok(line) => self.feed(alloc, &line),
             Err(LineFault::Syntax) => Ok(false),

@@ -110,6 +110,9 @@ impl SessionChecker {
             }
             SessionDue::Edits => {
                 let (mode, answered) = (self.mode, self.answered);
+                if answered == self.script.len() {
+                    return Ok(false);
+                }
                 if !comes_by_text(alloc, mode, &mut self.graph, &self.script, answered, text)? {
                     return Ok(false);
                 }
@@ -323,18 +326,14 @@ fn comes_by_text(
     answered: u64,
     text: &[u8],
 ) -> Result<bool, Memory>
-    requires { answered ≤ length script.now }
+    requires { answered < length script.now }
     ensures edit { IfOk result (λ taken. IsTrue taken → mode ≡ session_modes.Edit) }
-    ensures room { IfOk result (λ taken. IsTrue taken → answered < length script.now) }
     ensures takes { IfOk result (λ taken. IsTrue taken
         → Takes (at_edits mode graph.old (drop answered script.now)) text.now
         (at_edits mode graph.new (drop (answered + 1) script.now))) }
     ensures refused { IfOk result (λ taken. ¬ IsTrue taken → graph.new ≡ graph.old) }
     ensures stays { IsErr result → graph.new ≡ graph.old }
 {
-    if answered == script.len() {
-        return Ok(false);
-    }
     answers_by_text(alloc, mode, graph, script.get(answered), text)
 }
 
