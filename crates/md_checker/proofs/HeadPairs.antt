@@ -206,13 +206,13 @@ near_listed e v s low n (w ∷ ws) up r of to =
             ];
           })
           ∙ ap (λ l. w ∷ l) (near_listed e v s (w + 1) n ws (let b : w < n = r.1 in omega arith) r.2
-              (λ x a h. (elim (of x (let c : w + 1 ≤ x = a in omega arith) h).0 [ inl same ↦ (let c : w + 1 ≤ x = a in absurd (omega arith)) | inr i ↦ i ], (of x (let c : w + 1 ≤ x = a in omega arith) h).1))
-              (λ x i. to x (inr i)))
+          (λ x a h. (elim (of x (let c : w + 1 ≤ x = a in omega arith) h).0 [ inl same ↦ (let c : w + 1 ≤ x = a in absurd (omega arith)) | inr i ↦ i ], (of x (let c : w + 1 ≤ x = a in omega arith) h).1))
+          (λ x i. to x (inr i)))
           ∙ ap (λ b. cond b (w ∷ near_heads e v ws) (near_heads e v ws)) (sym t)
       | inr f ↦
           near_listed e v s low n ws up (lower ws r.2)
-              (λ x a h. (elim (of x a h).0 [ inl same ↦ clash (of x a h).1 (subst (λ y. e v y ≡ false) (sym same) f) | inr i ↦ i ], (of x a h).1))
-              (λ x i. to x (inr i))
+          (λ x a h. (elim (of x a h).0 [ inl same ↦ clash (of x a h).1 (subst (λ y. e v y ≡ false) (sym same) f) | inr i ↦ i ], (of x a h).1))
+          (λ x i. to x (inr i))
           ∙ ap (λ b. cond b (w ∷ near_heads e v ws) (near_heads e v ws)) (sym f)
     ]
   where
@@ -228,10 +228,10 @@ rises_of (v ∷ vs) n up below low from = (
   from (let b : 0 < suc (length vs) = omega arith in b),
   below 0 (let b : 0 < suc (length vs) = omega arith in b),
   rises_of vs n
-  (λ i j less h. up (suc i) (suc j) (let b : i < j = less in let c : suc i < suc j = omega arith in c) (let b : j < length vs = h in let c : suc j < suc (length vs) = omega arith in c))
-  (λ i h. below (suc i) (let b : i < length vs = h in let c : suc i < suc (length vs) = omega arith in c))
-  (v + 1)
-  (λ some. let a : v < get_or vs 0 0 = up 0 1 (omega arith) (let b : 0 < length vs = some in let c : 1 < suc (length vs) = omega arith in c) in omega arith),
+      (λ i j less h. up (suc i) (suc j) (let b : i < j = less in let c : suc i < suc j = omega arith in c) (let b : j < length vs = h in let c : suc j < suc (length vs) = omega arith in c))
+      (λ i h. below (suc i) (let b : i < length vs = h in let c : suc i < suc (length vs) = omega arith in c))
+      (v + 1)
+      (λ some. let a : v < get_or vs 0 0 = up 0 1 (omega arith) (let b : 0 < length vs = some in let c : 1 < suc (length vs) = omega arith in c) in omega arith),
 )
 
 rises_rest : (low n : ℕ) (vs : List ℕ) (i : ℕ) → Rises low n vs → Rises 0 n (drop i vs)
@@ -309,7 +309,7 @@ module _ {g : PlainGraph} (graph : IsGraph g) (list : List ℕ) (up : (i j : ℕ
   near_is = near_listed (adjacent g) v near 0 NAMES ws (omega arith) (lower ws rises.2)
       (λ x a h. let t = of_meet row left x (subst (λ s. Has s x) is_near h) in (of_set ws x (subst (λ s. Has s x) left_is t.1), sym (contains-neighbours graph v x) ∙ ap (λ s. contains s x) (sym is_row) ∙ t.0))
       (λ x inside edge. subst (λ s. Has s x) (sym is_near)
-          (meet_has row left x (ap (λ s. contains s x) is_row ∙ contains-neighbours graph v x ∙ edge) (subst (λ s. Has s x) (sym left_is) (to_set ws x inside))))
+      (meet_has row left x (ap (λ s. contains s x) is_row ∙ contains-neighbours graph v x ∙ edge) (subst (λ s. Has s x) (sym left_is) (to_set ws x inside))))
     where
       lower : (ws : List ℕ) → Rises (v + 1) NAMES ws → Rises 0 NAMES ws
       lower [] r = tt
@@ -402,7 +402,7 @@ places_from pieces j (v ∷ vs) each =
       here.0,
       here.1 ∙ ap decimal none,
       places_from pieces (suc j) vs
-      (λ k below.
+          (λ k below.
           let r = each (suc k) (let b : k < length vs = below in let c : suc k < suc (length vs) = omega arith in c) in
           let sum : j + suc k ≡ suc j + k = omega arith in
           (r.0, r.1 ∙ ap decimal sum)),
@@ -508,13 +508,13 @@ heads_joined e vs i j less below =
     let second : 0 + (i + suc (j - suc i)) ≡ j = omega arith in
     both_ways (e (get_or vs i 0) (get_or vs j 0)) (lists_pair (head_pairs e 0 vs) i j)
     (λ t. to_lists (head_pairs e 0 vs) (record { low = i; high = j })
-        (subst (λ n. In (head_pairs e 0 vs) (record { low = n; high = j })) first
-        (subst (λ n. In (head_pairs e 0 vs) (record { low = 0 + i; high = n })) second
-        (heads_in e 0 vs i (j - suc i) (omega arith) (subst (λ n. e (get_or vs i 0) (get_or vs n 0) ≡ true) (sym sum) t)))))
+    (subst (λ n. In (head_pairs e 0 vs) (record { low = n; high = j })) first
+    (subst (λ n. In (head_pairs e 0 vs) (record { low = 0 + i; high = n })) second
+    (heads_in e 0 vs i (j - suc i) (omega arith) (subst (λ n. e (get_or vs i 0) (get_or vs n 0) ≡ true) (sym sum) t)))))
     (λ t. subst (λ n. e (get_or vs i 0) (get_or vs n 0) ≡ true) sum
-        (in_heads e 0 vs i (j - suc i)
-        (subst (λ n. In (head_pairs e 0 vs) (record { low = 0 + i; high = n })) (sym second)
-        (subst (λ n. In (head_pairs e 0 vs) (record { low = n; high = j })) (sym first) (of_lists (head_pairs e 0 vs) i j t)))))
+    (in_heads e 0 vs i (j - suc i)
+    (subst (λ n. In (head_pairs e 0 vs) (record { low = 0 + i; high = n })) (sym second)
+    (subst (λ n. In (head_pairs e 0 vs) (record { low = n; high = j })) (sym first) (of_lists (head_pairs e 0 vs) i j t)))))
     ∙ ap₂ (lists_pair (head_pairs e 0 vs)) (sym low) (sym high)
 
 -- and a prime node may list them

@@ -124,12 +124,7 @@ fn past_heads<'a>(
 }
 
 // Compares the pairs of the position `low` with those of the near heads.
-fn past_row<'a>(
-    near: &Names,
-    low: u32,
-    text: &'a [u8],
-    space: &mut PairSpace,
-) -> Option<&'a [u8]>
+fn past_row<'a>(near: &Names, low: u32, text: &'a [u8], space: &mut PairSpace) -> Option<&'a [u8]>
     requires low { low < 10 ^ 5 }
     requires there { All (λ v. v < length space.old.places.items) (ascending near.now) }
     ensures matches { IfSome result (λ rest. (e : ℕ → ℕ → Bool) (v j : ℕ) (ws whole : List ℕ)

@@ -220,7 +220,15 @@ fn end_node<'a>(
     }
     let names = union_of_blocks(&walk.sets[inner.first..]);
     let heads = &walk.heads[inner.first..];
-    let Some(tail) = past_end(alloc, graph, text, inner.kind, &names, heads, &mut walk.space)?
+    let Some(tail) = past_end(
+        alloc,
+        graph,
+        text,
+        inner.kind,
+        &names,
+        heads,
+        &mut walk.space,
+    )?
     else {
         return Ok(None);
     };

@@ -289,7 +289,11 @@ pub(crate) fn set_of(list: &[u32]) -> Names
 // Whether each module of the graph on `names` is a name alone, or all of them: all is the least
 // module with the first two, no smaller module holds the first one with another, and the maximal
 // ones that don't hold it are names alone.
-pub(crate) fn has_trivial_modules_alone(alloc: Global, graph: &Graph, names: &Names) -> Result<bool, Memory>
+pub(crate) fn has_trivial_modules_alone(
+    alloc: Global,
+    graph: &Graph,
+    names: &Names,
+) -> Result<bool, Memory>
     requires { Within names.now graph.now.vertices }
     ensures { IfOk result (λ alone. IsTrue alone
         ↔ HasTrivialModulesAlone (adjacent graph.now) names.now) }

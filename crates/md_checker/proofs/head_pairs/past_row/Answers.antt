@@ -18,7 +18,7 @@ returns-clause-matches c =
     let text = c.args.text.now in
     let pieces = c.args.space.now.places.items in
     let put = subst (λ p. (w spelled : List ℕ) → Matches w text c.args.space.now.chunk spelled → Matches w c.in_ok-rest.rest.now c.put_pair.new.chunk (spelled ++ texts_at p (piece_text c.piece_behind-start.result) (c.in-Some.first ∷ [])))
-        c.deref.ensures.value c.in_ok-rest.ensures in
+    c.deref.ensures.value c.in_ok-rest.ensures in
     if_some c.past_others.result
     (λ rest others e v j ws whole ps places is m.
     row_matched e v c.args.low j ws pieces (piece_text c.piece_behind.result) (piece_text c.piece_behind-start.result) c.args.space.now.mark c.in-Some.first c.next.new.self whole text c.in_ok-rest.rest.now rest.now
