@@ -129,7 +129,7 @@ module _ (e : ℕ → ℕ → Bool) (v low : ℕ) (pieces : List Piece) (start :
           )
       here more false f = more f
 
-pub near_none : (e : ℕ → ℕ → Bool) (v low j : ℕ) (ws : List ℕ) → near_heads e v ws ≡ [] → near_pairs e v low j ws ≡ []
+near_none : (e : ℕ → ℕ → Bool) (v low j : ℕ) (ws : List ℕ) → near_heads e v ws ≡ [] → near_pairs e v low j ws ≡ []
 near_none e v low j [] none = refl
 near_none e v low j (w ∷ ws) none = here (near_none e v low (suc j) ws) (e v w) none
   where
@@ -189,7 +189,7 @@ rises_from low n (w ∷ ws) r x (inr i) =
     let s : (w + 1 ≤ x) × (x < n) = rises_from (w + 1) n ws r.2 x i in
     (let a : low ≤ w = r.0 in let b : w + 1 ≤ x = s.0 in omega arith, s.1)
 
-pub near_listed : (e : ℕ → ℕ → Bool) (v : ℕ) (s : NameSet) (low n : ℕ) (ws : List ℕ) → low ≤ n → Rises low n ws → ((x : ℕ) → low ≤ x → Has s x → In ws x × (e v x ≡ true)) → ((x : ℕ) → In ws x → e v x ≡ true → Has s x) →
+near_listed : (e : ℕ → ℕ → Bool) (v : ℕ) (s : NameSet) (low n : ℕ) (ws : List ℕ) → low ≤ n → Rises low n ws → ((x : ℕ) → low ≤ x → Has s x → In ws x × (e v x ≡ true)) → ((x : ℕ) → In ws x → e v x ≡ true → Has s x) →
     ascending_between s low n ≡ near_heads e v ws
 near_listed e v s low n [] up r of to = ascending_none s low n (λ x a b. elim (cases_Bool (contains s x)) [ inl h ↦ absurd (of x a h).0 | inr l ↦ l ])
 near_listed e v s low n (w ∷ ws) up r of to =
@@ -305,7 +305,7 @@ module _ {g : PlainGraph} (graph : IsGraph g) (list : List ℕ) (up : (i j : ℕ
   left_is : left ≡ name_set ws
   left_is = removed ∙ ap (λ s. remove s v) (p.later_is ∙ ap name_set cut) ∙ without_first v NAMES ws rises.2
 
-  pub near_is : ascending near ≡ near_heads (adjacent g) v ws
+  near_is : ascending near ≡ near_heads (adjacent g) v ws
   near_is = near_listed (adjacent g) v near 0 NAMES ws (omega arith) (lower ws rises.2)
       (λ x a h. let t = of_meet row left x (subst (λ s. Has s x) is_near h) in (of_set ws x (subst (λ s. Has s x) left_is t.1), sym (contains-neighbours graph v x) ∙ ap (λ s. contains s x) (sym is_row) ∙ t.0))
       (λ x inside edge. subst (λ s. Has s x) (sym is_near)
@@ -340,10 +340,6 @@ pub heads_end : (g : PlainGraph) (list : List ℕ) (i : ℕ) (text rest : List �
     MatchesPairs text rest mark gathered (head_pairs (adjacent g) 0 list)
 heads_end g list i text rest mark gathered later pieces none p =
     subst (MatchesPairs text rest mark gathered) (sym (p.all ∙ ap (λ l. p.done ++ head_pairs (adjacent g) i l) none ∙ append-nil p.done)) p.matches
-
--- the mark tells whether there is a pair
-pub some_pair : (text rest : List ℕ) (mark : ℕ) (gathered : List ℕ) (ps : List Pair) → MatchesPairs text rest mark gathered ps → mark ≢ 59 → ps ≢ []
-some_pair text rest mark gathered ps m other none = other (m.mark_is ∙ ap mark_behind none)
 
 -- ---- what a prime node that lists the pairs is
 

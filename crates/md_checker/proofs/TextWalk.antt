@@ -150,14 +150,8 @@ module _ {g : PlainGraph} {bytes text : List ℕ} {node_open : Opened} {sets : L
   same_heads : length list ≡ length ts
   same_heads = ap length r.walked.finished.heads_are ∙ length-map ts head
 
-  pub first_head : first < length list
+  first_head : first < length list
   first_head = let a = inside in let b = same_heads in omega arith
-
-  pub first_set : first < length sets
-  first_set = let a = inside in let b : length sets ≡ length ts = ap length r.walked.finished.sets_are ∙ length-map ts names in omega arith
-
-  pub first_kind : first < length kinds
-  first_kind = let a = inside in let b : length kinds ≡ length ts = ap length r.walked.kinds_are ∙ length-map ts root_kind in omega arith
 
   pub few_heads : length list ≤ NAMES
   few_heads = let a = few_held ts list seen r.walked.kept in let b = same_heads in omega arith

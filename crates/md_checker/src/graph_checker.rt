@@ -3,7 +3,7 @@ ghost use Rattle.std.specs.Prelude.{◌≡◌, ◌↔◌, if◌then◌else◌, I
 ghost use Rattle.md_report.specs.Lines.{plain_line};
 ghost use Rattle.md_report.specs.WellFormedLines.{IsWellFormedLine};
 ghost use Rattle.md_report.specs.Places.{before_head, after_end, MayCome, next_place};
-ghost use Rattle.md_checker.specs.Standing.{Takes};
+ghost use Rattle.md_checker.specs.Standing.{graphs_left, Takes};
 
 use crate::fixed_lines::{is_end, is_head};
 use crate::judgements::{reports, reports_by_text};
@@ -92,8 +92,7 @@ impl<'a> GraphChecker<'a> {
         if !reports_by_text(alloc, self.mode, &self.graph, text)? {
             return Ok(false);
         }
-        self.graph.clear();
-        self.one = self.behind.next(&mut self.graph);
+        self.one = read_next(&mut self.graph, &mut self.behind);
         Ok(true)
     }
 
@@ -125,11 +124,18 @@ impl<'a> GraphChecker<'a> {
                 if !reports(alloc, self.mode, &self.graph, line)? {
                     return Ok(false);
                 }
-                self.graph.clear();
-                self.one = self.behind.next(&mut self.graph);
+                self.one = read_next(&mut self.graph, &mut self.behind);
                 Ok(true)
             }
             GraphDue::Nothing => Ok(false),
         }
     }
+}
+
+// Whether a graph is left: the graph is then the first of those behind it, which is taken off.
+fn read_next(graph: &mut Graph, behind: &mut Graphs<'_>) -> bool
+    ensures { graphs_left result graph.new behind.new ≡ behind.old }
+{
+    graph.clear();
+    behind.next(graph)
 }
