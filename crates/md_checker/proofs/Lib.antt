@@ -18,3 +18,6 @@ mod Trivial
 mod FitRows
 mod FitNodes
 mod FitStacks
+mod TextWalk
+mod HeadPairs
+mod Taking

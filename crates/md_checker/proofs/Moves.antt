@@ -19,12 +19,12 @@ use Rattle.md_report.specs.Laws.{IsSound}
 use Rattle.md_report.proofs.Places.{lead_sound}
 use Rattle.md_report.proofs.OneLine.{one_line_proof}
 use Rattle.md_checker.specs.declared.session_checker.SessionDue.TheVariants.{Edits}
-use Rattle.md_checker.specs.Standing.{session_place, IsStep}
+use Rattle.md_checker.specs.Standing.{session_place, IsStep, Takes}
 use Rattle.md_checker.specs.declared.session_checker.Step.{Step}
 use Rattle.md_checker.proofs.Coming.{coming_good}
 
 -- the edits that are left, where one is
-left_edit : (all : List script.Edit) (n : ℕ) (edit : script.Edit) → slice_get all n ≡ Some edit → drop n all ≡ edit ∷ drop (n + 1) all
+pub left_edit : (all : List script.Edit) (n : ℕ) (edit : script.Edit) → slice_get all n ≡ Some edit → drop n all ≡ edit ∷ drop (n + 1) all
 left_edit all n edit found =
     drop_more all n edit (slice_get_within all n edit found) ∙ ap (λ x. x ∷ drop (n + 1) all) (get_or_from_slice_get all n edit edit found)
 
@@ -79,3 +79,9 @@ text_may (Err e) p l text is may = tt
 pub none_may : (p : Place) (text : List ℕ) → IsSound p → ((line : PlainLine) → IsWellFormedLine line → text ≢ line_text line) →
     ((line : PlainLine) × MayCome p line × (text ≡ line_text line)) → ⊥
 none_may p text sound none some = none some.0 (coming_good p sound some.0 some.1) some.2
+
+-- the place behind a line that was taken by its text is sound
+pub taken_sound : {E : Type 0} (r : Result Bool E) (p q : Place) (text : List ℕ) → IsSound p → IfOk r (λ taken. IsTrue taken → Takes p text q) → IfOk r (λ taken. ¬ IsTrue taken → q ≡ p) → (IsErr r → q ≡ p) → IsSound q
+taken_sound (Ok true) p q text sound takes refused stays = let t = takes refl in subst IsSound (sym t.3) (lead_sound p (next_place p t.0) (t.0 ∷ []) sound (t.1, refl))
+taken_sound (Ok false) p q text sound takes refused stays = subst IsSound (sym (refused (λ f. clash f refl))) sound
+taken_sound (Err e) p q text sound takes refused stays = subst IsSound (sym (stays refl)) sound

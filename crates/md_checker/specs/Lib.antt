@@ -6,3 +6,5 @@ pub mod Codes
 pub mod Standing
 pub mod Checkers
 pub mod FitTests
+pub mod HeadPairs
+pub mod TextFits

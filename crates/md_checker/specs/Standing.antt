@@ -1,12 +1,12 @@
 -- The place of a report at which a checker stands, by what it keeps.
 -- Source: this project's own format of reports.
-use Rattle.std.specs.Prelude.{◌≡◌, ◌≤◌, Bool, true, false, List, [], ◌∷◌, length, drop}
+use Rattle.std.specs.Prelude.{◌≡◌, ◌≤◌, ℕ, Bool, true, false, List, [], ◌∷◌, length, drop}
 use Rattle.md_graph.specs.PlainGraph.{PlainGraph}
 use Rattle.md_script.specs.declared.edit.Edit as script
 use Rattle.md_report.specs.declared.line.GraphMode.{GraphMode}
 use Rattle.md_report.specs.declared.line.SessionMode.{SessionMode}
 use Rattle.md_report.specs.declared.line.SessionMode.TheVariants.{Quiet}
-use Rattle.md_report.specs.Lines.{PlainLine}
+use Rattle.md_report.specs.Lines.{PlainLine, line_text}
 use Rattle.md_report.specs.Cographs.{IsCograph}
 use Rattle.md_report.specs.Places.{Place, before_head, at_graphs, before_session, at_state, at_edits, at_end, after_end, MayCome, next_place}
 use Rattle.md_checker.specs.declared.graph_checker.GraphDue.{GraphDue}
@@ -37,6 +37,10 @@ session_place session_due.Nothing mode g edits = after_end
 -- in mode quiet the state is a cograph where edits are answered
 abbrev pub StaysCograph : SessionDue → SessionMode → PlainGraph → Type 0
 StaysCograph due mode g = mode ≡ Quiet → due ≡ session_due.Edits → IsCograph g
+
+-- a line with this text may come at the place p, and leads to q
+abbrev pub Takes : Place → List ℕ → Place → Type 0
+Takes p text q = (line : PlainLine) × MayCome p line × (text ≡ line_text line) × (q ≡ next_place p line)
 
 -- the line may come at the place, and leads to the one that the step tells, where the state is g
 pub record IsStep (p : Place) (line : PlainLine) (s : Step) (mode : SessionMode) (g : PlainGraph) (all : List script.Edit) : Type 0 where

@@ -10,6 +10,7 @@ ghost use Rattle.md_report.specs.Lines.{PlainLine, plain_line, line_text};
 ghost use Rattle.md_report.specs.WellFormedLines.{IsWellFormedLine};
 ghost use Rattle.md_report.specs.Places.{before_head, before_session, after_end, MayCome, next_place};
 ghost use Rattle.md_checker.specs.Checkers.{place_of};
+ghost use Rattle.md_checker.specs.Standing.{Takes};
 
 use crate::graph_checker::GraphChecker;
 use crate::session_checker::SessionChecker;
@@ -119,9 +120,35 @@ impl<'a> Checker<'a> {
         self.inner.feed(alloc, line)
     }
 
+    // Whether the text is that of the tree that is due: the line is then taken, and else nothing
+    // changes. A false says nothing: such a line may come as well.
+    fn takes_tree(&mut self, alloc: Global, text: &[u8]) -> Result<bool, Memory>
+        ensures takes { IfOk result (λ taken. IsTrue taken → Takes self.old text.now self.new) }
+        ensures refused { IfOk result (λ taken. ¬ IsTrue taken → self.new ≡ self.old) }
+        ensures stays { IsErr result → self.new ≡ self.old }
+    {
+        self.inner.takes_tree(alloc, text)
+    }
+
     // Whether a line with this text may come: it is then taken, and else nothing changes. Errors:
     // want of memory; nothing changes then.
     pub(crate) fn feed_text(&mut self, alloc: Global, text: &[u8]) -> Result<bool, Memory>
+        ensures may { IfOk result (λ taken. IsTrue taken
+            ↔ ((line : PlainLine) × MayCome self.old line × (text.now ≡ line_text line))) }
+        ensures next { IfOk result (λ taken. IsTrue taken
+            → (line : PlainLine) × MayCome self.old line × (text.now ≡ line_text line)
+            × (self.new ≡ next_place self.old line)) }
+        ensures refused { IfOk result (λ taken. ¬ IsTrue taken → self.new ≡ self.old) }
+        ensures stays { IsErr result → self.new ≡ self.old }
+    {
+        if self.takes_tree(alloc, text)? {
+            return Ok(true);
+        }
+        self.feed_read(alloc, text)
+    }
+
+    // The same for a text that is read whole.
+    fn feed_read(&mut self, alloc: Global, text: &[u8]) -> Result<bool, Memory>
         ensures may { IfOk result (λ taken. IsTrue taken
             ↔ ((line : PlainLine) × MayCome self.old line × (text.now ≡ line_text line))) }
         ensures next { IfOk result (λ taken. IsTrue taken
@@ -140,6 +167,21 @@ impl<'a> Checker<'a> {
 }
 
 impl<'a> Inner<'a> {
+    // Whether the text is that of the tree that is due: the line is then taken, and else nothing
+    // changes. A false says nothing.
+    fn takes_tree(&mut self, alloc: Global, text: &[u8]) -> Result<bool, Memory>
+        ensures takes { IfOk result (λ taken. IsTrue taken
+            → Takes (place_of self.old) text.now (place_of self.new)) }
+        ensures refused { IfOk result (λ taken. ¬ IsTrue taken
+            → place_of self.new ≡ place_of self.old) }
+        ensures stays { IsErr result → place_of self.new ≡ place_of self.old }
+    {
+        match self {
+            Inner::OverGraphs(checker) => checker.takes_tree(alloc, text),
+            Inner::OverSession(checker) => checker.takes_tree(alloc, text),
+        }
+    }
+
     // Whether the line may come; it is then taken, and else nothing changes.
     fn feed(&mut self, alloc: Global, line: &Line) -> Result<bool, Memory>
         requires { IsWellFormedLine (plain_line line.now) }

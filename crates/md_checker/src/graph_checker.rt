@@ -3,9 +3,10 @@ ghost use Rattle.std.specs.Prelude.{◌≡◌, ◌↔◌, if◌then◌else◌, I
 ghost use Rattle.md_report.specs.Lines.{plain_line};
 ghost use Rattle.md_report.specs.WellFormedLines.{IsWellFormedLine};
 ghost use Rattle.md_report.specs.Places.{before_head, after_end, MayCome, next_place};
+ghost use Rattle.md_checker.specs.Standing.{graphs_left, Takes};
 
 use crate::fixed_lines::{is_end, is_head};
-use crate::judgements::reports;
+use crate::judgements::{reports, reports_by_text};
 use md_graph::{Graph, Memory};
 use md_input::Graphs;
 use md_report::{GraphMode, Line};
@@ -74,6 +75,27 @@ impl<'a> GraphChecker<'a> {
         self.due == GraphDue::Nothing
     }
 
+    // Whether the text is that of the tree that is due: the line is then taken, and else nothing
+    // changes. A false says nothing.
+    pub(crate) fn takes_tree(&mut self, alloc: Global, text: &[u8]) -> Result<bool, Memory>
+        ensures takes { IfOk result (λ taken.
+            IsTrue taken → Takes self.old text.now self.new) }
+        ensures refused { IfOk result (λ taken. ¬ IsTrue taken → self.new ≡ self.old) }
+        ensures stays { IsErr result → self.new ≡ self.old }
+    {
+        if self.due != GraphDue::Graphs {
+            return Ok(false);
+        }
+        if !self.one {
+            return Ok(false);
+        }
+        if !reports_by_text(alloc, self.mode, &self.graph, text)? {
+            return Ok(false);
+        }
+        self.one = read_next(&mut self.graph, &mut self.behind);
+        Ok(true)
+    }
+
     // Whether the line may come; it is then taken, and else nothing changes.
     pub(crate) fn feed(&mut self, alloc: Global, line: &Line) -> Result<bool, Memory>
         requires { IsWellFormedLine (plain_line line.now) }
@@ -102,11 +124,18 @@ impl<'a> GraphChecker<'a> {
                 if !reports(alloc, self.mode, &self.graph, line)? {
                     return Ok(false);
                 }
-                self.graph.clear();
-                self.one = self.behind.next(&mut self.graph);
+                self.one = read_next(&mut self.graph, &mut self.behind);
                 Ok(true)
             }
             GraphDue::Nothing => Ok(false),
         }
     }
+}
+
+// Whether a graph is left: the graph is then the first of those behind it, which is taken off.
+fn read_next(graph: &mut Graph, behind: &mut Graphs<'_>) -> bool
+    ensures { graphs_left result graph.new behind.new ≡ behind.old }
+{
+    graph.clear();
+    behind.next(graph)
 }

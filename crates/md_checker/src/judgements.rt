@@ -1,5 +1,5 @@
 //! Whether a line is one that may report a graph, or answer an edit.
-ghost use Rattle.std.specs.Prelude.{◌≡◌, ◌↔◌, None, Ok, true, if◌then◌else◌, IfOk, IsErr, IsTrue};
+ghost use Rattle.std.specs.Prelude.{◌≡◌, ◌↔◌, List, ◌∷◌, None, Ok, true, if◌then◌else◌, IfOk, IsErr, IsTrue};
 ghost use Rattle.md_graph.specs.PlainGraph.{PlainGraph, IsGraph, adjacent};
 ghost use Rattle.md_modules.specs.declared.induced_paths.P4.{P4};
 ghost use Rattle.md_orientation.specs.Chains.{HasForcingChain, IsForcingChain};
@@ -9,18 +9,22 @@ ghost use Rattle.md_tree.specs.Plain.{plain_option};
 ghost use Rattle.md_tree.specs.StrongTrees.{IsTree};
 ghost use Rattle.md_tree.specs.WellFormed.{IsWellFormed};
 ghost use Rattle.md_script.specs.Edit.{HasNames, reason_of, after};
+ghost use Rattle.md_script.specs.declared.edit.Edit as script;
+ghost use Rattle.md_report.specs.declared.line.SessionMode.TheVariants as session_modes;
 ghost use Rattle.md_report.specs.declared.line.SessionMode.TheVariants.{Quiet};
-ghost use Rattle.md_report.specs.Lines.{plain_line, tree, applied, refused, not_cograph};
+ghost use Rattle.md_report.specs.Lines.{PlainLine, line_text, plain_line, tree, applied, refused, not_cograph};
 ghost use Rattle.md_report.specs.WellFormedLines.{IsWellFormedLine};
-ghost use Rattle.md_report.specs.Places.{Reports, ReportsState, AnswersEdit, ClosesEdits};
+ghost use Rattle.md_report.specs.Places.{at_state, at_edits, Reports, ReportsState, AnswersEdit, ClosesEdits};
 ghost use Rattle.md_report.specs.Sessions.{HasTreeLine, state_behind};
 ghost use Rattle.md_report.specs.Orientations.{IsOrientationLine};
 ghost use Rattle.md_report.specs.Models.{IsModelLine};
 ghost use Rattle.md_report.specs.Cographs.{IsCograph, IsP4Of, HasP4Line, IsOpeningLine};
+ghost use Rattle.md_checker.specs.Standing.{Takes};
 ghost use Rattle.md_checker.specs.States.{IsStateTree, IsStateAlone, IsRefusedPath};
 
 use crate::certificates::{is_forcing_chain, is_least_edge_orientation, realise};
 use crate::fixed_lines::is_end;
+use crate::text_fit::is_word_and_tree;
 use crate::tree_fit::fits;
 use md_forcing::{Chain, Side};
 use md_graph::{Graph, Memory};
@@ -45,6 +49,23 @@ pub(crate) fn reports(
         GraphMode::Tree => is_tree_line(alloc, graph, line),
         GraphMode::Compare => is_orientation_line(alloc, graph, line),
         GraphMode::Permute => is_model_line(alloc, graph, line),
+    }
+}
+
+// Whether the text is that of a line that reports the graph; a false says nothing.
+pub(crate) fn reports_by_text(
+    alloc: Global,
+    mode: GraphMode,
+    graph: &Graph,
+    text: &[u8],
+) -> Result<bool, Memory>
+    ensures { IfOk result (λ fit. IsTrue fit → (line : PlainLine) × Reports mode graph.now line
+        × (text.now ≡ line_text line)) }
+{
+    match mode {
+        GraphMode::Tree => is_word_and_tree(alloc, graph, b"t ", text),
+        GraphMode::Compare => Ok(false),
+        GraphMode::Permute => Ok(false),
     }
 }
 
@@ -120,6 +141,25 @@ pub(crate) fn reports_state(
         SessionMode::Edit => is_tree_line(alloc, graph, line),
         SessionMode::Cograph => is_opening_line(alloc, graph, line),
         SessionMode::Quiet => Ok(is_path_line(graph, line)),
+    }
+}
+
+// Whether the text is that of a line that reports the first state of a session; a false says
+// nothing.
+pub(crate) fn reports_state_by_text(
+    alloc: Global,
+    mode: SessionMode,
+    graph: &Graph,
+    text: &[u8],
+) -> Result<bool, Memory>
+    ensures edit { IfOk result (λ fit. IsTrue fit → mode ≡ session_modes.Edit) }
+    ensures takes { IfOk result (λ fit. IsTrue fit → (edits : List script.Edit)
+        → Takes (at_state mode graph.now edits) text.now (at_edits mode graph.now edits)) }
+{
+    match mode {
+        SessionMode::Edit => is_word_and_tree(alloc, graph, b"t ", text),
+        SessionMode::Cograph => Ok(false),
+        SessionMode::Quiet => Ok(false),
     }
 }
 
@@ -233,6 +273,57 @@ pub(crate) fn answers_edit(
         Line::RefusedP4(p) => Ok(is_refused_p4(mode, graph, edit, p)),
         _ => Ok(false),
     }
+}
+
+// Whether the text is that of a line that answers the edit at the graph, which then is the state
+// behind it; else, and for want of memory, it stays. A false says nothing. Condition: the names in
+// the edit are names.
+pub(crate) fn answers_by_text(
+    alloc: Global,
+    mode: SessionMode,
+    graph: &mut Graph,
+    edit: &Edit,
+    text: &[u8],
+) -> Result<bool, Memory>
+    requires names { HasNames edit.now }
+    ensures edit { IfOk result (λ taken. IsTrue taken → mode ≡ session_modes.Edit) }
+    ensures takes { IfOk result (λ taken. IsTrue taken → (edits : List script.Edit)
+        → Takes (at_edits mode graph.old (edit.now ∷ edits)) text.now
+        (at_edits mode graph.new edits)) }
+    ensures refused { IfOk result (λ taken. ¬ IsTrue taken → graph.new ≡ graph.old) }
+    ensures stays { IsErr result → graph.new ≡ graph.old }
+{
+    match mode {
+        SessionMode::Edit => applies_by_text(alloc, graph, edit, text),
+        SessionMode::Cograph => Ok(false),
+        SessionMode::Quiet => Ok(false),
+    }
+}
+
+// The same in mode edit, for a line that tells the tree of the graph after the edit.
+fn applies_by_text(
+    alloc: Global,
+    graph: &mut Graph,
+    edit: &Edit,
+    text: &[u8],
+) -> Result<bool, Memory>
+    requires names { HasNames edit.now }
+    ensures takes { IfOk result (λ taken. IsTrue taken → (edits : List script.Edit)
+        → Takes (at_edits session_modes.Edit graph.old (edit.now ∷ edits)) text.now
+        (at_edits session_modes.Edit graph.new edits)) }
+    ensures refused { IfOk result (λ taken. ¬ IsTrue taken → graph.new ≡ graph.old) }
+    ensures stays { IsErr result → graph.new ≡ graph.old }
+{
+    if let Some(_) = reason(graph, edit) {
+        return Ok(false);
+    }
+    let row = lost_row(graph, edit);
+    apply(graph, edit);
+    let fit = is_word_and_tree(alloc, graph, b"ok ", text);
+    if !is_true(&fit) {
+        take_back(graph, edit, &row);
+    }
+    fit
 }
 
 // Whether the line refuses an edit for the reason.

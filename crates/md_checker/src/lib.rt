@@ -8,9 +8,11 @@ mod check;
 mod checker;
 mod fixed_lines;
 mod graph_checker;
+mod head_pairs;
 mod judgements;
 pub mod laws;
 mod session_checker;
+mod text_fit;
 mod tree_fit;
 
 pub use answer::CheckAnswer;

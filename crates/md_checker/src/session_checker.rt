@@ -1,17 +1,20 @@
 //! Checks the lines of a report of a session, one after the other.
-ghost use Rattle.std.specs.Prelude.{◌≡◌, ◌≤◌, ◌↔◌, List, [], if◌then◌else◌, length, drop, IfOk, IfSome, IfNone, IsErr, IsTrue};
+ghost use Rattle.std.specs.Prelude.{◌≡◌, ◌≤◌, ◌<◌, ◌+◌, ◌↔◌, List, [], if◌then◌else◌, length, drop, IfOk, IfSome, IfNone, IsErr, IsTrue};
 ghost use Rattle.md_graph.specs.PlainGraph.{PlainGraph};
 ghost use Rattle.md_script.specs.declared.edit.Edit as script;
+ghost use Rattle.md_report.specs.declared.line.SessionMode.TheVariants as session_modes;
 ghost use Rattle.md_report.specs.declared.line.SessionMode.TheVariants.{Quiet};
 ghost use Rattle.md_report.specs.Lines.{plain_line};
 ghost use Rattle.md_report.specs.WellFormedLines.{IsWellFormedLine};
 ghost use Rattle.md_report.specs.Cographs.{IsCograph, edits_behind};
 ghost use Rattle.md_report.specs.Places.{before_session, at_state, at_edits, after_end, closed_place, MayCome, next_place};
 ghost use Rattle.md_checker.specs.declared.session_checker.SessionDue.TheVariants.{Edits};
-ghost use Rattle.md_checker.specs.Standing.{session_place, IsStep};
+ghost use Rattle.md_checker.specs.Standing.{session_place, IsStep, Takes};
 
 use crate::fixed_lines::{is_end, is_head};
-use crate::judgements::{answers_edit, closes_edits, reports_state};
+use crate::judgements::{
+    answers_by_text, answers_edit, closes_edits, reports_state, reports_state_by_text,
+};
 use md_graph::{Graph, Memory};
 use md_modules::find_p4;
 use md_report::{Line, SessionMode};
@@ -87,6 +90,39 @@ impl SessionChecker {
         ensures { IsTrue result ↔ self.now ≡ after_end }
     {
         self.due == SessionDue::Nothing
+    }
+
+    // Whether the text is that of the tree that is due: the line is then taken, and else nothing
+    // changes. A false says nothing.
+    pub(crate) fn takes_tree(&mut self, alloc: Global, text: &[u8]) -> Result<bool, Memory>
+        ensures takes { IfOk result (λ taken.
+            IsTrue taken → Takes self.old text.now self.new) }
+        ensures refused { IfOk result (λ taken. ¬ IsTrue taken → self.new ≡ self.old) }
+        ensures stays { IsErr result → self.new ≡ self.old }
+    {
+        match self.due {
+            SessionDue::State => {
+                if !reports_state_by_text(alloc, self.mode, &self.graph, text)? {
+                    return Ok(false);
+                }
+                self.due = SessionDue::Edits;
+                Ok(true)
+            }
+            SessionDue::Edits => {
+                let (mode, answered) = (self.mode, self.answered);
+                if answered == self.script.len() {
+                    return Ok(false);
+                }
+                if !comes_by_text(alloc, mode, &mut self.graph, &self.script, answered, text)? {
+                    return Ok(false);
+                }
+                self.answered = answered + 1;
+                Ok(true)
+            }
+            SessionDue::Head => Ok(false),
+            SessionDue::End => Ok(false),
+            SessionDue::Nothing => Ok(false),
+        }
     }
 
     // Whether the line may come; it is then taken, and else nothing changes.
@@ -278,6 +314,27 @@ fn comes(
         due: SessionDue::Edits,
         answered: answered + 1,
     }))
+}
+
+// Whether the text is that of the tree that answers the next edit, the graph being the state; the
+// graph is then the state behind the line, and else stays. A false says nothing.
+fn comes_by_text(
+    alloc: Global,
+    mode: SessionMode,
+    graph: &mut Graph,
+    script: &Script,
+    answered: u64,
+    text: &[u8],
+) -> Result<bool, Memory>
+    requires { answered < length script.now }
+    ensures edit { IfOk result (λ taken. IsTrue taken → mode ≡ session_modes.Edit) }
+    ensures takes { IfOk result (λ taken. IsTrue taken
+        → Takes (at_edits mode graph.old (drop answered script.now)) text.now
+        (at_edits mode graph.new (drop (answered + 1) script.now))) }
+    ensures refused { IfOk result (λ taken. ¬ IsTrue taken → graph.new ≡ graph.old) }
+    ensures stays { IsErr result → graph.new ≡ graph.old }
+{
+    answers_by_text(alloc, mode, graph, script.get(answered), text)
 }
 
 // Which line is due behind the one that came behind all answers.

@@ -152,7 +152,7 @@ fn union_of(sets: &[Names]) -> Names
 }
 
 // Whether a node with these names, pairs and heads of its children fits, where the children do.
-fn is_fit(
+pub(crate) fn is_fit(
     alloc: Global,
     graph: &Graph,
     names: &Names,
@@ -180,7 +180,7 @@ fn is_fit(
 }
 
 // Whether each of the others is adjacent to all names of the list, or to none of them.
-fn are_alike(graph: &Graph, list: &[u32], others: &Names) -> bool
+pub(crate) fn are_alike(graph: &Graph, list: &[u32], others: &Names) -> bool
     requires some { 0 < length list.now }
     requires names { (i : ℕ) → i < length list.now → get_or list.now i 0 < NAMES }
     ensures { IsTrue result ↔ AreAlike (adjacent graph.now) others.now list.now }
@@ -275,7 +275,7 @@ fn are_joined(graph: &Graph, list: &[u32], rows: &[Names]) -> bool
 }
 
 // The set of the names of a list.
-fn set_of(list: &[u32]) -> Names
+pub(crate) fn set_of(list: &[u32]) -> Names
     requires { (i : ℕ) → i < length list.now → get_or list.now i 0 < NAMES }
     ensures { result ≡ name_set list.now }
 {
@@ -289,7 +289,11 @@ fn set_of(list: &[u32]) -> Names
 // Whether each module of the graph on `names` is a name alone, or all of them: all is the least
 // module with the first two, no smaller module holds the first one with another, and the maximal
 // ones that don't hold it are names alone.
-fn has_trivial_modules_alone(alloc: Global, graph: &Graph, names: &Names) -> Result<bool, Memory>
+pub(crate) fn has_trivial_modules_alone(
+    alloc: Global,
+    graph: &Graph,
+    names: &Names,
+) -> Result<bool, Memory>
     requires { Within names.now graph.now.vertices }
     ensures { IfOk result (λ alone. IsTrue alone
         ↔ HasTrivialModulesAlone (adjacent graph.now) names.now) }

@@ -1,6 +1,6 @@
 //! Sets of names in little room, as the classes of a partition are kept: most are names alone.
 ghost use Rattle.std.specs.Prelude.{◌≡◌, ◌*◌, ℕ, ◌<◌, ◌≤◌, IfOk, IfSome, IfNone, IsTrue};
-ghost use Rattle.std.specs.FinSet.{len};
+ghost use Rattle.std.specs.FinSet.{len, union};
 ghost use Rattle.md_graph.specs.NameSet.{IsLeastFrom, NoneFrom, AllBelow, block};
 ghost use Rattle.md_graph.specs.Sets.{HasSome, HasTwo, only_name};
 
@@ -130,6 +130,17 @@ impl<const W: usize> Block<W> {
             Held::One(_) => 1,
             Held::Low(bits) => set_of::<W>(*bits).count(),
             Held::Several(names) => names.count(),
+        }
+    }
+
+    /// Takes the names in to a set.
+    pub fn add_to(&self, all: &mut Set<W>)
+        ensures { all.new ≡ union all.old self.now }
+    {
+        match &self.held {
+            Held::One(name) => all.insert(*name),
+            Held::Low(bits) => all.insert_block(0, *bits),
+            Held::Several(names) => all.take_in(names),
         }
     }
 

@@ -1,5 +1,5 @@
 //! The end of a text, gathered before it is appended.
-ghost use Rattle.std.specs.Prelude.{◌≡◌, ◌+◌, ◌*◌, ◌<◌, ◌≤◌, [], ◌++◌, length, take, OnOk, OnErr};
+ghost use Rattle.std.specs.Prelude.{◌≡◌, ◌≢◌, ℕ, ◌+◌, ◌*◌, ◌<◌, ◌≤◌, List, [], ◌++◌, length, take, IfSome, IfNone, OnOk, OnErr};
 ghost use Rattle.std.specs.List.{All};
 ghost use Rattle.md_text.specs.Pieces.{piece_text, texts_at};
 
@@ -92,6 +92,24 @@ impl Chunk {
         text.extend_from_slice(&self.bytes[..self.used as usize])?;
         self.used = 0;
         Ok(())
+    }
+
+    /// What stands behind the bytes in a text that begins with them: none are gathered then. None
+    /// where the text doesn't begin with them; they then stay.
+    #[inline]
+    pub fn strip_from<'a>(&mut self, text: &'a [u8]) -> Option<&'a [u8]>
+        ensures begins { IfSome result (λ tail. text.now ≡ self.old ++ tail.now) }
+        ensures emptied { IfSome result (λ tail. self.new ≡ []) }
+        ensures other { IfNone result ((tail : List ℕ) → text.now ≢ self.old ++ tail) }
+        ensures stays { IfNone result (self.new ≡ self.old) }
+    {
+        match text.strip_prefix(&self.bytes[..self.used as usize]) {
+            Some(tail) => {
+                self.used = 0;
+                Some(tail)
+            }
+            None => None,
+        }
     }
 
     /// Appends the bytes to a text if there is no room for `more` behind them. Errors: want of

@@ -14,7 +14,7 @@ pub mod Edges
 pub mod Denoted
 pub mod Folding
 pub mod Stacking
-pub mod Opened
+pub mod Opening
 pub mod Residuals
 pub mod Leaving
 pub mod Places

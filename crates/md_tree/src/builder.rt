@@ -18,11 +18,11 @@ use md_graph::{Memory, NAMES, Names};
 use std::alloc::Global;
 use std::mem;
 
-// A node of which a part is read: its kind, and how many trees stand before its first child.
+/// A node of which a part is read: its kind, and how many trees stand before its first child.
 #[derive(Clone, Copy)]
-struct Opened {
-    kind: Kind,
-    first: u32,
+pub struct Opened {
+    pub kind: Kind,
+    pub first: u32,
 }
 
 // The trees that are read, with their least names, the nodes that are open, and all names.

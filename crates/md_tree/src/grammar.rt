@@ -219,8 +219,8 @@ fn skip_mark<'a>(text: &'a [u8]) -> Result<(&'a [u8], bool), &'a [u8]>
     Ok((tail, false))
 }
 
-// The kind that the first byte is the letter of, and what stands behind it.
-pub(crate) fn split_letter<'a>(text: &'a [u8]) -> Option<(Kind, &'a [u8])>
+/// The kind that the first byte is the letter of, and what stands behind it.
+pub fn split_letter<'a>(text: &'a [u8]) -> Option<(Kind, &'a [u8])>
     ensures { MatchOption result ((k : Kind) → LacksFirst (letter k) text.now)
         (λ p. text.now ≡ letter p.0 ∷ p.1.now) }
 {
@@ -233,8 +233,8 @@ pub(crate) fn split_letter<'a>(text: &'a [u8]) -> Option<(Kind, &'a [u8])>
     }
 }
 
-// Past a byte.
-pub(crate) fn skip_byte<'a>(text: &'a [u8], byte: u8) -> Result<&'a [u8], &'a [u8]>
+/// Past a byte.
+pub fn skip_byte<'a>(text: &'a [u8], byte: u8) -> Result<&'a [u8], &'a [u8]>
     ensures on { IfOk result (λ tail. text.now ≡ byte ∷ tail.now) }
     ensures stuck { IfErr result (λ tail. tail.now ≡ text.now) }
     ensures other { IfErr result (λ tail. LacksFirst byte text.now) }

@@ -18,7 +18,10 @@ mod reader;
 mod tree_graph;
 mod writer;
 
+pub use builder::Opened;
 pub use cotree::is_cotree;
+pub use grammar::{skip_byte, split_letter};
+pub use numbers::small_number;
 pub use parts::{Part, build, nodes_of};
 pub use reader::{TreeFault, read_tree};
 pub use tree_graph::graph_of;

@@ -6,10 +6,10 @@ ghost use Rattle.md_tree.specs.Held.{LacksNumber, IsNumberSplit};
 // No name and no position has more digits.
 const MOST_DIGITS: usize = 5;
 
-// The number that a text begins with, and what stands behind it, which begins with no digit; none
-// if there is no number that a name or a position may be.
+/// The number that a text begins with, and what stands behind it, which begins with no digit; none
+/// if there is no number that a name or a position may be.
 #[inline(always)]
-pub(crate) fn small_number<'a>(text: &'a [u8]) -> Option<(u32, &'a [u8])>
+pub fn small_number<'a>(text: &'a [u8]) -> Option<(u32, &'a [u8])>
     ensures { MatchOption result (LacksNumber text.now)
         (λ p. IsNumberSplit text.now p.0 p.1.now) }
 {

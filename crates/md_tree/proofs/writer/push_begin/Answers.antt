@@ -3,7 +3,7 @@ use Rattle.md_tree.specs.Trees.{row}
 use Rattle.md_tree.specs.Plain.{plain}
 use Rattle.md_tree.specs.OpenNodes.{rest_text}
 use Rattle.md_tree.specs.TreeTexts.{row_text, pairs_text}
-use Rattle.md_tree.proofs.Opened.{leaf_begun, node_begun}
+use Rattle.md_tree.proofs.Opening.{leaf_begun, node_begun}
 use Rattle.md_tree.proofs.writer.push_begin.Goals as goal
 
 pub returns-in_ok-push_number-in-Leaf-clause-written : goal.returns-in_ok-push_number-in-Leaf-clause-written

@@ -1,7 +1,7 @@
 use Rattle.std.proofs.Common.{[], ◌∷◌, ◌++◌, ◌∙◌}
 use Rattle.md_tree.specs.TreeTexts.{pairs_text}
 use Rattle.md_tree.proofs.Written.{begins_more}
-use Rattle.md_tree.proofs.Opened.{leaf_more}
+use Rattle.md_tree.proofs.Opening.{leaf_more}
 use Rattle.md_tree.proofs.writer.push_leaves.Goals as goal
 
 pub loop-name-preserved : goal.loop-name-preserved

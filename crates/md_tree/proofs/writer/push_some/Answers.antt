@@ -1,6 +1,6 @@
 use Rattle.std.proofs.Common.{[], ◌∷◌, ◌++◌, refl}
 use Rattle.md_tree.specs.TreeTexts.{pairs_text}
-use Rattle.md_tree.proofs.Opened.{child_more}
+use Rattle.md_tree.proofs.Opening.{child_more}
 use Rattle.md_tree.proofs.writer.push_some.Goals as goal
 
 pub returns-clause-written : goal.returns-clause-written

@@ -1,6 +1,6 @@
 use Rattle.std.proofs.Common.{refl}
 use Rattle.md_tree.proofs.Written.{begins_on}
-use Rattle.md_tree.proofs.Opened.{turn_written, less_left}
+use Rattle.md_tree.proofs.Opening.{turn_written, less_left}
 use Rattle.md_tree.proofs.writer.push_tree.Goals as goal
 
 pub loop-node-preserved : goal.loop-node-preserved

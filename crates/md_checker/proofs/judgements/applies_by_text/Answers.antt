@@ -1,0 +1,14 @@
+use Rattle.std.proofs.Common.{sym, ◌∙◌}
+use Rattle.md_script.proofs.BackLemmas.{led}
+use Rattle.md_tree.proofs.Stacking.{if_ok}
+use Rattle.md_checker.proofs.Taking.{tree_answers}
+use Rattle.md_checker.proofs.judgements.applies_by_text.Goals as goal
+
+pub take_back-requires : goal.take_back-requires
+take_back-requires c =
+    (c.args.graph.now, led c.args.graph.now _ _ _ c.lost_row-row.ensures.graph c.requires.names (sym c.reason.ensures ∙ c.in_default.is) c.lost_row-row.ensures.row c.apply.ensures)
+
+pub returns-else-not-is_true-clause-takes : goal.returns-else-not-is_true-clause-takes
+returns-else-not-is_true-clause-takes c =
+    if_ok c.is_word_and_tree-fit.result
+    (λ fit told yes edits. let t = told yes in tree_answers c.args.graph.now c.apply.new.graph c.args.edit.now edits t.0 c.args.text.now (sym c.reason.ensures ∙ c.in_default.is) c.apply.ensures t.1 t.2) c.is_word_and_tree-fit.ensures

@@ -1,0 +1,208 @@
+//! Compares a text with the pairs of a prime node that a graph demands. No pair is kept.
+ghost use Rattle.std.specs.Prelude.{◌≡◌, ◌≢◌, ◌+◌, ◌*◌, ◌<◌, ◌≤◌, ◌^◌, ℕ, suc, Bool, List, [], ◌∷◌, ◌++◌, length, get_or, drop, IfOk, IfSome};
+ghost use Rattle.std.specs.List.{All};
+ghost use Rattle.md_graph.specs.declared.TheConstants.{NAMES};
+ghost use Rattle.md_graph.specs.NameSet.{ascending};
+ghost use Rattle.md_graph.specs.PlainGraph.{adjacent};
+ghost use Rattle.md_text.specs.Numbers.{decimal};
+ghost use Rattle.md_text.specs.Pieces.{piece_text, texts_at};
+ghost use Rattle.md_tree.specs.declared.Pair.{Pair};
+ghost use Rattle.md_tree.specs.TreeTexts.{pairs_text};
+ghost use Rattle.md_checker.specs.FitTests.{AreHeads, name_set};
+ghost use Rattle.md_checker.specs.HeadPairs.{near_heads, near_pairs, head_pairs, ArePlaces, Matches, MatchesPairs};
+
+use crate::tree_fit::set_of;
+use md_graph::{Graph, Members, Memory, Names};
+use md_text::{CHUNK_SIZE, Chunk, Piece, digits_piece, number_piece, piece_behind};
+use md_tree::skip_byte;
+use std::alloc::Global;
+
+// Two pieces have at most so many bytes.
+const PAIR_ROOM: usize = 16;
+
+// What a comparison of pairs needs beside the text: at the place of each head its position, a chunk
+// in which pairs are gathered, and the mark before the next pair.
+#[derive(Drop)]
+pub(crate) struct PairSpace {
+    places: Vec<Piece>,
+    chunk: Chunk,
+    mark: u8,
+}
+
+impl PairSpace {
+    pub(crate) fn new(alloc: Global) -> PairSpace {
+        PairSpace {
+            places: Vec::new(alloc),
+            chunk: Chunk::new(),
+            mark: b';',
+        }
+    }
+}
+
+// What stands behind the pairs of a prime node with these heads, and behind its bracket; none if
+// the text doesn't begin with them, or if there is no pair. Condition: there are as few heads as
+// names.
+pub(crate) fn past_pairs<'a>(
+    graph: &Graph,
+    heads: &[u32],
+    text: &'a [u8],
+    space: &mut PairSpace,
+) -> Result<Option<&'a [u8]>, Memory>
+    requires heads { AreHeads graph.now.vertices [] heads.now }
+    requires few { length heads.now ≤ NAMES }
+    ensures some { IfOk result (λ o. IfSome o (λ tail.
+        head_pairs (adjacent graph.now) 0 heads.now ≢ [])) }
+    ensures text { IfOk result (λ o. IfSome o (λ tail.
+        text.now ≡ pairs_text 59 (head_pairs (adjacent graph.now) 0 heads.now) ++ 41 ∷ tail.now)) }
+{
+    let _vertices = graph.vertices();
+    spell_places(&mut space.places, graph.bound(), heads)?;
+    let Some(rest) = past_heads(graph, heads, text, space) else {
+        return Ok(None);
+    };
+    if space.mark == b';' {
+        return Ok(None);
+    }
+    let Some(mark) = space.chunk.strip_from(rest) else {
+        return Ok(None);
+    };
+    match skip_byte(mark, b')') {
+        Ok(tail) => Ok(Some(tail)),
+        Err(_) => Ok(None),
+    }
+}
+
+// Puts down the position of each head at its place.
+fn spell_places(places: &mut Vec<Piece>, bound: u32, heads: &[u32]) -> Result<(), Memory>
+    requires below { (i : ℕ) → i < length heads.now → get_or heads.now i 0 < bound }
+    requires ascending { (i j : ℕ) → i < j → j < length heads.now
+        → get_or heads.now i 0 < get_or heads.now j 0 }
+    requires few { length heads.now ≤ NAMES }
+    ensures { IfOk result (λ _. ArePlaces places.new.items 0 heads.now) }
+{
+    make_places(places, bound as usize)?;
+    for (position, head) in heads.iter().enumerate() {
+        places[*head as usize] = digits_piece(position as u32);
+    }
+    Ok(())
+}
+
+// Makes places until there are as many.
+fn make_places(places: &mut Vec<Piece>, count: usize) -> Result<(), Memory>
+    ensures { IfOk result (λ _. count ≤ length places.new.items) }
+{
+    while places.len() < count {
+        places.push(digits_piece(0))?;
+    }
+    Ok(())
+}
+
+// Compares the pairs of the heads, of which the last ones may still be gathered.
+fn past_heads<'a>(
+    graph: &Graph,
+    heads: &[u32],
+    text: &'a [u8],
+    space: &mut PairSpace,
+) -> Option<&'a [u8]>
+    requires heads { AreHeads graph.now.vertices [] heads.now }
+    requires few { length heads.now ≤ NAMES }
+    requires places { ArePlaces space.old.places.items 0 heads.now }
+    ensures { IfSome result (λ rest. MatchesPairs text.now rest.now space.new.mark space.new.chunk
+        (head_pairs (adjacent graph.now) 0 heads.now)) }
+{
+    let _vertices = graph.vertices();
+    space.chunk.clear();
+    space.mark = b';';
+    let mut later = set_of(heads);
+    let mut rest = text;
+    for (position, head) in heads.iter().enumerate() {
+        later.remove(*head);
+        let near = graph.row(*head).and(&later);
+        rest = past_row(&near, position as u32, rest, space)?;
+    }
+    Some(rest)
+}
+
+// Compares the pairs of the position `low` with those of the near heads.
+fn past_row<'a>(near: &Names, low: u32, text: &'a [u8], space: &mut PairSpace) -> Option<&'a [u8]>
+    requires low { low < 10 ^ 5 }
+    requires there { All (λ v. v < length space.old.places.items) (ascending near.now) }
+    ensures matches { IfSome result (λ rest. (e : ℕ → ℕ → Bool) (v j : ℕ) (ws whole : List ℕ)
+        (ps : List Pair) → ArePlaces space.old.places.items j ws
+        → ascending near.now ≡ near_heads e v ws
+        → MatchesPairs whole text.now space.old.mark space.old.chunk ps
+        → MatchesPairs whole rest.now space.new.mark space.new.chunk
+        (ps ++ near_pairs e v low j ws)) }
+    ensures places { space.new.places.items ≡ space.old.places.items }
+{
+    let mut others = near.members();
+    let Some(first) = others.next() else {
+        return Some(text);
+    };
+    let digits = number_piece(low, b'-');
+    let start = piece_behind(space.mark, digits);
+    space.mark = b',';
+    let rest = put_pair(start, first, text, &space.places, &mut space.chunk)?;
+    past_others(
+        piece_behind(b',', digits),
+        others,
+        rest,
+        &space.places,
+        &mut space.chunk,
+    )
+}
+
+// Compares, for each of the names, the piece `start` and the one at its place. Never inlined, so
+// that its loop has the registers to itself.
+#[inline(never)]
+fn past_others<'a>(
+    start: Piece,
+    others: Members<'_>,
+    text: &'a [u8],
+    places: &[Piece],
+    chunk: &mut Chunk,
+) -> Option<&'a [u8]>
+    requires { All (λ v. v < length places.now) others }
+    ensures { IfSome result (λ rest. (whole spelled : List ℕ)
+        → Matches whole text.now chunk.old spelled → Matches whole rest.now chunk.new
+        (spelled ++ texts_at places.now (piece_text start) others.entry)) }
+{
+    let mut rest = text;
+    for other in others {
+        rest = put_pair(start, other, rest, places, chunk)?;
+    }
+    Some(rest)
+}
+
+// Gathers the piece `start` and the one at the place of a name; a chunk without room for them is
+// compared first.
+#[inline(always)]
+fn put_pair<'a>(
+    start: Piece,
+    name: u32,
+    text: &'a [u8],
+    places: &[Piece],
+    chunk: &mut Chunk,
+) -> Option<&'a [u8]>
+    requires { name < length places.now }
+    ensures { IfSome result (λ rest. (whole spelled : List ℕ)
+        → Matches whole text.now chunk.old spelled → Matches whole rest.now chunk.new
+        (spelled ++ texts_at places.now (piece_text start) (name ∷ []))) }
+{
+    let rest = make_room(text, chunk)?;
+    chunk.put_both(start, places[name as usize]);
+    Some(rest)
+}
+
+// Compares what is gathered, if there is no room for a pair behind it.
+#[inline(always)]
+fn make_room<'a>(text: &'a [u8], chunk: &mut Chunk) -> Option<&'a [u8]>
+    ensures room { IfSome result (λ rest. length chunk.new + PAIR_ROOM ≤ CHUNK_SIZE) }
+    ensures same { IfSome result (λ rest. (behind : List ℕ) → rest.now ≡ chunk.new ++ behind
+        → text.now ≡ chunk.old ++ behind) }
+{
+    if chunk.room() < PAIR_ROOM {
+        return chunk.strip_from(text);
+    }
+    Some(text)
+}
