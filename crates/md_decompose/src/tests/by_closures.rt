@@ -190,7 +190,7 @@ fn divide(
 fn unpacked(alloc: Global, blocks: Vec<Block<WORDS>>) -> Result<Vec<Names>, Memory> {
     let mut sets = Vec::new(alloc);
     for block in blocks {
-        sets.push(Box::into_inner(block.into_box(alloc)?))?;
+        sets.push(block.into_set())?;
     }
     Ok(sets)
 }
