@@ -168,7 +168,9 @@ def main():
         files = [f for f in spec_files(crate) if any(s[:2] == (crate, f) for s in seen)]
         if not files:
             continue
-        out.append(f"\n## {crate}: {titles.get(crate, 'TITLE')}")
+        if crate not in titles:
+            raise SystemExit(f"{PAGE} has no heading for {crate}: add '## {crate}: WORDS'")
+        out.append(f"\n## {crate}: {titles[crate]}")
         for name in files:
             comment, _, definitions = specs[crate, name]
             out.append("\n" + "\n".join(textwrap.wrap(f"**{name}.** " + " ".join(comment), 110, break_on_hyphens=False, break_long_words=False)))
