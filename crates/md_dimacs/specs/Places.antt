@@ -9,10 +9,11 @@ use Rattle.md_text.specs.declared.piece.Piece.{Piece}
 use Rattle.md_text.specs.Pieces.{piece_text}
 use Rattle.md_dimacs.specs.Text.{position, edges_above, edge_places, edge_line}
 
--- the piece at index w is the place of the vertex w, and a line feed
+-- the piece at index w is the place of the vertex w, and a line feed, and has at most six bytes
 pub record IsPlaceOf (g : PlainGraph) (places : List Piece) (w : ℕ) : Type 0 where
   pub there : w < length places
   pub text : (other : Piece) → piece_text (slice_index_or places w other) ≡ decimal (position g w) ++ 10 ∷ []
+  pub short : (other : Piece) → length (piece_text (slice_index_or places w other)) ≤ 6
 
 -- each vertex has its place at its index, and there are not more than names
 pub record ArePlaces (g : PlainGraph) (places : List Piece) : Type 0 where

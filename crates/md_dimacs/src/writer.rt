@@ -79,10 +79,9 @@ fn write_edges<const W: usize>(
     ensures { OnOk result (text.new.items ≡ text.old.items ++ edges_text graph.now) }
 {
     let mut chunk = Chunk::new();
-    let mut place = 0;
     for v in graph.vertices().members() {
-        place += 1;
-        write_row(graph, v, start_piece(place), places, &mut chunk, text)?;
+        let start = start_piece(places[v as usize]);
+        write_row(graph, v, start, places, &mut chunk, text)?;
     }
     chunk.flush(text)?;
     Ok(())

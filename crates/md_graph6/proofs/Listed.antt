@@ -1,11 +1,14 @@
 -- The vertices of a graph, ascending, and a loop over them.
-use Rattle.std.proofs.Common.{◌≡◌, ℕ, suc, ◌+◌, ◌-◌, ◌<◌, ◌≤◌, Bool, false, ◌&&◌, ◌||◌, ◌==◌, List, [], ◌∷◌, length, get_or, drop, refl, sym, ap, ◌∙◌, arith, nat_lt, inl, inr, length-drop}
+use Rattle.std.proofs.Common.{◌≡◌, ℕ, zero, suc, ◌≤◌, AllPairs, ◌+◌, ◌-◌, ◌<◌, ◌≤◌, Bool, false, ◌&&◌, ◌||◌, ◌==◌, List, [], ◌∷◌, length, get_or, drop, refl, sym, ap, ◌∙◌, arith, nat_lt, inl, inr, length-drop}
 use Rattle.std.proofs.lemmas.List.{drop_more}
-use Rattle.std.proofs.lemmas.Bool.{cases_lt, cases_eq}
+use Rattle.std.proofs.lemmas.Bool.{cases_eq}
 use Rattle.std.proofs.lemmas.Bool.Decides.{nat_tests}
 use Rattle.md_graph.proofs.SetLaws.{contains-empty}
 use Rattle.std.specs.FinSet as set
-use Rattle.md_graph.specs.Sets.{NameSet}
+use Rattle.md_graph.specs.Sets.{NameSet, Has}
+use Rattle.md_graph.specs.NameSet.{ascending}
+use Rattle.md_graph.specs.declared.TheConstants.{NAMES}
+use Rattle.md_graph.proofs.NameLemmas.{ascending_order, ascending_items}
 
 -- a loop over a list has `i` items behind it and the others before it
 pub record IsAt (items rest : List ℕ) (i : ℕ) : Type 0 where
@@ -35,14 +38,30 @@ at_end {items} {rest} {i} at_i e =
 
 -- ---- the loops of the writer
 
--- whether the i-th item is `least + i`, as far as the loop has come
-pub consecutive_more : (f : ℕ → ℕ) (least count v : ℕ) → v ≡ f count → v ≡ least + count → ((i : ℕ) → i < count → f i ≡ least + i)
-    → (i : ℕ) → i < count + 1 → f i ≡ least + i
-consecutive_more f least count v is same before i h =
-    elim (cases_lt i count) [
-      | inl less ↦ before i less
-      | inr more ↦ let e : i ≡ count = omega arith in ap f e ∙ sym is ∙ same ∙ ap (λ k. least + k) (sym e)
-    ]
+-- an ascending list rises by one at least from item to item
+rises : (xs : List ℕ) → AllPairs (λ x y. x < y) xs → (i d : ℕ) → i + d < length xs → get_or xs i 0 + d ≤ get_or xs (i + d) 0
+rises xs order i zero h =
+    let here : get_or xs (i + 0) 0 ≡ get_or xs i 0 = ap (λ k. get_or xs k 0) (omega arith) in
+    omega arith
+rises xs order i (suc d) h =
+    let before = rises xs order i d (omega arith) in
+    let step = order (i + d) (i + suc d) 0 (omega arith) (omega arith) in
+    omega arith
+
+-- so n ascending numbers from `least` on and below `least + n` are consecutive
+pub consecutive : (s : NameSet) (n least : ℕ) → n ≡ length (ascending s) → ((v : ℕ) → Has s v → least ≤ v) → ((v : ℕ) → Has s v → v < least + n)
+    → (i : ℕ) → i < n → get_or (ascending s) i 0 ≡ least + i
+consecutive s n least count low high i h =
+    let order = ascending_order s 0 NAMES in
+    let items = ascending_items s 0 NAMES in
+    let last : i + (n - 1 - i) ≡ n - 1 = omega arith in
+    let here : get_or (ascending s) (0 + i) 0 ≡ get_or (ascending s) i 0 = ap (λ k. get_or (ascending s) k 0) (omega arith) in
+    let to_here = rises (ascending s) order 0 i (omega arith) in
+    let from_here = rises (ascending s) order i (n - 1 - i) (omega arith) in
+    let to_last : get_or (ascending s) (i + (n - 1 - i)) 0 ≡ get_or (ascending s) (n - 1) 0 = ap (λ k. get_or (ascending s) k 0) last in
+    let first = low (get_or (ascending s) 0 0) (items 0 0 (omega arith)).member in
+    let end = high (get_or (ascending s) (n - 1) 0) (items (n - 1) 0 (omega arith)).member in
+    omega arith
 
 pub gathered_none : (s : NameSet) (f : ℕ → Bool) → s ≡ set.empty → (k : ℕ) → set.contains s k ≡ (nat_lt k 0 && f k)
 gathered_none s f e k =

@@ -3,6 +3,7 @@ ghost use Rattle.std.specs.Prelude.{None, [], ◌∷◌, IfOk, IfSome, ◌++◌,
 ghost use Rattle.std.specs.Int.{bit_at};
 ghost use Rattle.std.specs.FinSet as set;
 ghost use Rattle.md_graph.specs.NameSet.{ascending};
+ghost use Rattle.md_graph.specs.Sets.{Has};
 ghost use Rattle.md_graph6.specs.Bits.{bit, pair_number, body_length};
 ghost use Rattle.md_graph6.specs.Size.{size_text};
 ghost use Rattle.md_text.specs.Spelling.{SpellsOnly};
@@ -243,24 +244,22 @@ fn put_rest(body: &mut [u8], unput: Unput)
 
 // The least vertex, or 0 where there is none.
 fn least_vertex<const W: usize>(graph: &GraphOf<W>) -> u32
-    ensures { result ≤ NAMES }
+    ensures few { result ≤ NAMES }
+    ensures least { (v : ℕ) → Has graph.now.vertices v → result ≤ v }
 {
-    graph.vertices().first_from(0).unwrap_or(0)
+    graph.next_vertex(0).unwrap_or(0)
 }
 
-// The number of vertices, and the least of them if they are consecutive numbers.
+// The number of vertices, and the least of them if they are consecutive numbers: where no number
+// from the least to the greatest is missing.
 fn shape<const W: usize>(graph: &GraphOf<W>) -> (u32, Option<u32>)
     ensures count { result.0 ≡ length (ascending graph.now.vertices) }
     ensures few { result.0 ≤ NAMES }
     ensures consecutive { IfSome result.1 (λ least. AreFrom graph.now least result.0) }
 {
+    let count = graph.vertices().count();
     let least = least_vertex(graph);
-    let mut count = 0;
-    let mut consecutive = true;
-    for v in graph.vertices().members() {
-        consecutive = v == least + count && consecutive;
-        count += 1;
-    }
+    let consecutive = graph.bound() == least + count;
     (count, consecutive.then_some(least))
 }
 

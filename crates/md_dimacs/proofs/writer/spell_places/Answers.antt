@@ -36,7 +36,7 @@ loop-v-preserved g c =
       named = let name = c.vertices-vertices.ensures.below c.in-Some.v up.item.member in omega (arith, c.in_ok-fill_up.ensures.count);
       spelled = λ w m below.
           spelled_more c.args.graph.now c.loop-v.places.items c.fill_up.new.places.items c.in_ok-fill_up.ensures.items.0 (vec_len c.loop-v.places) c.loop-v.place c.in-Some.v _ c.number_piece.result up c.loop-v.places.ok.0 c.in_ok-fill_up.ensures.items.1 (sym c.fill_up.new.places.ok.0 ∙ c.in_ok-fill_up.ensures.count)
-          c.number_piece.ensures.text c.loop-v.invariant.spelled w m (omega (arith, c.in_ok-fill_up.ensures.count));
+          c.number_piece.ensures.text c.number_piece.ensures.short c.loop-v.invariant.spelled w m (omega (arith, c.in_ok-fill_up.ensures.count));
     }
 
 pub returns-clause-places : goal.returns-clause-places

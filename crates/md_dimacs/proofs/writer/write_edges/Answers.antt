@@ -1,40 +1,67 @@
-use Rattle.std.proofs.Common.{arith, rules, ap, ◌∙◌, ◌+◌, ◌++◌}
+use Rattle.std.proofs.Common.{◌≡◌, ℕ, ◌<◌, ◌≤◌, List, [], ◌∷◌, arith, rules, ap, ◌∙◌, ◌+◌, ◌++◌, length, length-append, slice_index_or}
 use Rattle.std.proofs.lemmas.List.{append-nil}
-use Rattle.md_graph.specs.NameSet.{ascending}
+use Rattle.md_graph.specs.NameSet.{ascending, ascending_between}
 use Rattle.md_text.specs.Pieces.{piece_text}
-use Rattle.md_dimacs.proofs.AscendingLemmas.{coming_all, next_up, place_small, position_is}
-use Rattle.md_dimacs.proofs.TextLemmas.{rows_lines, edges_text_is, start_is, rows_step, rows_end}
+use Rattle.md_graph.proofs.NameLemmas.{walk_turn}
+use Rattle.md_graph.specs.declared.TheConstants.{NAMES}
+use Rattle.md_graph.specs.PlainGraph.{PlainGraph}
+use Rattle.md_text.specs.Numbers.{decimal}
+use Rattle.md_text.specs.declared.piece.Piece.{Piece}
+use Rattle.md_dimacs.specs.Places.{IsPlaceOf, ArePlaces}
+use Rattle.md_dimacs.specs.Text.{position}
+use Rattle.md_dimacs.proofs.TextLemmas.{rows_lines, edges_text_is, rows_step, rows_end}
 use Rattle.md_dimacs.proofs.writer.write_edges.Goals as goal
+
+-- the place of a vertex, of which a line begins
+record StartOf (g : PlainGraph) (places : List Piece) (v : ℕ) : Type 0 where
+  pub there : v < length places
+  pub some : (other : Piece) → 0 < length (piece_text (slice_index_or places v other))
+  pub short : (other : Piece) → length (piece_text (slice_index_or places v other)) ≤ 6
+
+start_of : (g : PlainGraph) (places : List Piece) (v : ℕ) → IsPlaceOf g places v → StartOf g places v
+start_of g places v is = record {
+  there = is.there;
+  some = λ other. let whole = ap length (is.text other) ∙ length-append (decimal (position g v)) (10 ∷ []) in omega arith;
+  short = is.short;
+}
 
 pub loop-v-init : goal.loop-v-init
 loop-v-init g c =
     let list = c.into_iter-v-iterator.ensures.into_iter_gives ∙ c.members-v-items.ensures.list ∙ ap ascending c.vertices.ensures.set in
     record {
-      coming = (0, coming_all c.args.graph.now.vertices _ list);
+      coming = (0, list);
       written = ap (λ l. (c.args.text.now.items ++ l) ++ rows_lines c.args.graph.now c.into_iter-v-iterator.result) c.new-chunk.ensures ∙ ap (λ l. l ++ rows_lines c.args.graph.now c.into_iter-v-iterator.result) (append-nil c.args.text.now.items) ∙ ap (λ l. c.args.text.now.items ++ l) (edges_text_is c.args.graph.now _ list);
     }
 
-pub overflow_add-place : goal.overflow_add-place
-overflow_add-place g c =
-    let small = place_small c.args.graph.now.vertices _ _ _ _ (next_up c.args.graph.now.vertices c.loop-v.invariant.coming.0 c.loop-v.place _ c.in-Some.v _ c.loop-v.invariant.coming.1 c.in-Some.ensures.steps) in
-    omega arith
+-- the place of the next vertex
+place_of_next : (g : PlainGraph) (places : List Piece) (low v : ℕ) (left rest : List ℕ) → ArePlaces g places → left ≡ ascending_between g.vertices low NAMES
+    → left ≡ v ∷ rest → IsPlaceOf g places v
+place_of_next g places low v left rest are is steps = are.place_of v (walk_turn g.vertices low NAMES v left rest is steps).item.member
 
-pub start_piece-requires : goal.start_piece-requires
-start_piece-requires g c =
-    place_small c.args.graph.now.vertices _ _ _ _ (next_up c.args.graph.now.vertices c.loop-v.invariant.coming.0 c.loop-v.place _ c.in-Some.v _ c.loop-v.invariant.coming.1 c.in-Some.ensures.steps)
+pub bounds-places-v : goal.bounds-places-v
+bounds-places-v g c = (place_of_next c.args.graph.now c.args.places.now c.loop-v.invariant.coming.0 c.in-Some.v _ _ c.requires.places c.loop-v.invariant.coming.1 c.in-Some.ensures.steps).there
+
+pub start_piece-start-requires : goal.start_piece-start-requires
+start_piece-start-requires g c =
+    let start = start_of c.args.graph.now c.args.places.now c.in-Some.v (place_of_next c.args.graph.now c.args.places.now c.loop-v.invariant.coming.0 c.in-Some.v _ _ c.requires.places c.loop-v.invariant.coming.1 c.in-Some.ensures.steps) in
+    record {
+      some = rw c.index-places-v.is (start.some c.index-places-v.result);
+      short = rw c.index-places-v.is (start.short c.index-places-v.result);
+    }
 
 pub write_row-requires : goal.write_row-requires
 write_row-requires g c =
-    let up = next_up c.args.graph.now.vertices c.loop-v.invariant.coming.0 c.loop-v.place _ c.in-Some.v _ c.loop-v.invariant.coming.1 c.in-Some.ensures.steps in
-    let start = start_is c.args.graph.now c.in-Some.v (c.loop-v.place + 1) (piece_text c.start_piece.result) c.start_piece.ensures (position_is c.args.graph.now c.in-Some.v c.loop-v.place up.placed) in
-    let row = c.vertices.ensures.below c.in-Some.v up.item.member in
-    (search rules, (up.item.below, (row, (c.requires.room, (start, c.requires.places)))))
+    let turn = walk_turn c.args.graph.now.vertices c.loop-v.invariant.coming.0 NAMES c.in-Some.v _ _ c.loop-v.invariant.coming.1 c.in-Some.ensures.steps in
+    let place = c.requires.places.place_of c.in-Some.v turn.item.member in
+    let start = c.start_piece-start.ensures (decimal (position c.args.graph.now c.in-Some.v)) 10 (ap piece_text c.index-places-v.is ∙ place.text c.index-places-v.result) in
+    let row = c.vertices.ensures.below c.in-Some.v turn.item.member in
+    (search rules, (turn.item.below, (row, (c.requires.room, (start, c.requires.places)))))
 
 pub loop-v-preserved : goal.loop-v-preserved
 loop-v-preserved g c =
-    let up = next_up c.args.graph.now.vertices c.loop-v.invariant.coming.0 c.loop-v.place _ c.in-Some.v _ c.loop-v.invariant.coming.1 c.in-Some.ensures.steps in
+    let turn = walk_turn c.args.graph.now.vertices c.loop-v.invariant.coming.0 NAMES c.in-Some.v _ _ c.loop-v.invariant.coming.1 c.in-Some.ensures.steps in
     record {
-      coming = (c.in-Some.v + 1, up.after);
+      coming = (c.in-Some.v + 1, turn.left);
       written = rows_step c.args.graph.now c.in-Some.v _ _ _ _ _ c.loop-v.invariant.written c.in-Some.ensures.steps c.in_ok-write_row.ensures;
     }
 
