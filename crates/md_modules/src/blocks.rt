@@ -1,12 +1,17 @@
 //! Sets of names in little room, as the classes of a partition are kept: most are names alone.
 ghost use Rattle.std.specs.Prelude.{◌≡◌, ◌*◌, ℕ, ◌<◌, ◌≤◌, IfOk, IfSome, IfNone, IsTrue};
-ghost use Rattle.std.specs.FinSet.{len, union};
+ghost use Rattle.std.specs.FinSet.{len, empty, union, intersection, difference};
 ghost use Rattle.md_graph.specs.NameSet.{IsLeastFrom, NoneFrom, AllBelow, block};
-ghost use Rattle.md_graph.specs.Sets.{HasSome, HasTwo, only_name};
+ghost use Rattle.md_graph.specs.Sets.{NameSet, HasSome, HasTwo, only_name};
+ghost use Rattle.md_modules.specs.Classes.{IsSideOf};
 
 use md_graph::{Memory, NAMES, Set, WORDS};
 use std::alloc::Global;
 use std::marker::Model;
+use std::mem::swap;
+
+// A set of so many names is small.
+pub(crate) const FEW: u32 = 64;
 
 // What a block holds: a name alone; names below 64, as the bits of a word; or a set.
 #[derive(Drop)]
@@ -16,7 +21,7 @@ enum Held<const W: usize> {
     Several(Box<Set<W>>),
 }
 
-/// A set of names: a name alone and names below 64 take no memory, and another set is kept in a box.
+/// A set of names: a name alone and names below 64 take no memory, another set is kept in a box.
 #[derive(Drop)]
 pub struct Block<const W: usize> {
     held: Held<W>,
@@ -69,7 +74,7 @@ impl<const W: usize> Block<W> {
     }
 
     // The set of a box, which is kept where the set isn't a name alone.
-    pub(crate) fn of_box(names: Box<Set<W>>) -> Block<W>
+    fn of_box(names: Box<Set<W>>) -> Block<W>
         ensures { result ≡ names.entry.value }
     {
         names.within_limit();
@@ -81,18 +86,56 @@ impl<const W: usize> Block<W> {
         }
     }
 
-    /// The set.
-    pub fn into_set(self) -> Set<W>
-        ensures { result ≡ self.entry }
+    /// The set; it is put into `room` where it isn't in a box.
+    pub fn set_in<'b>(&'b self, room: &'b mut Option<Set<W>>) -> &'b Set<W>
+        ensures { result.now ≡ self.now }
     {
-        match self.held {
+        match &self.held {
             Held::One(name) => {
                 let mut names = Set::none();
-                names.insert(name);
-                names
+                names.insert(*name);
+                put_in(room, names)
             }
-            Held::Low(bits) => set_of(bits),
-            Held::Several(names) => Box::into_inner(names),
+            Held::Low(bits) => put_in(room, set_of(*bits)),
+            Held::Several(names) => names,
+        }
+    }
+
+    // What stays of the set where one of its two parts, in `row` and outside it, goes to the empty
+    // set `other`.
+    pub(crate) fn divided(
+        self,
+        alloc: Global,
+        row: &Set<W>,
+        other: &mut Set<W>,
+    ) -> Result<Block<W>, Memory>
+        requires { other.old ≡ empty }
+        ensures { IfOk result (λ block. (part : NameSet) × IsSideOf part self.entry row.now
+            × (block ≡ intersection self.entry part) × (other.new ≡ difference self.entry part)) }
+    {
+        match self.held {
+            Held::One(name) => Ok(Block::one(name)),
+            Held::Low(bits) => {
+                let mut names = set_of(bits);
+                move_part(&mut names, row, other);
+                Block::of(alloc, &names)
+            }
+            Held::Several(names) => {
+                let mut names = names;
+                move_part(&mut names, row, other);
+                Ok(Block::of_box(names))
+            }
+        }
+    }
+
+    // Whether it is kept as a name alone.
+    pub(crate) fn is_name(&self) -> bool
+        ensures { IsTrue result → (v : ℕ) × (self.now ≡ only_name v) }
+    {
+        match &self.held {
+            Held::One(_) => true,
+            Held::Low(_) => false,
+            Held::Several(_) => false,
         }
     }
 
@@ -143,47 +186,6 @@ impl<const W: usize> Block<W> {
             Held::Several(names) => all.take_in(names),
         }
     }
-
-    // The set in a box; only that of a block without one takes memory.
-    pub(crate) fn into_box(self, alloc: Global) -> Result<Box<Set<W>>, Memory>
-        ensures { IfOk result (λ names. names.value ≡ self.entry) }
-    {
-        match self.held {
-            Held::One(name) => {
-                let mut names = Set::none();
-                names.insert(name);
-                Ok(Box::new(alloc, names)?)
-            }
-            Held::Low(bits) => Ok(Box::new(alloc, set_of(bits))?),
-            Held::Several(names) => Ok(names),
-        }
-    }
-
-    // The set, unless it is kept as a name alone; one that is kept as a word is put into `room`.
-    pub(crate) fn several<'b>(&'b self, room: &'b mut Set<W>) -> Option<&'b Set<W>>
-        ensures kept { IfSome result (λ names. names.now ≡ self.now) }
-        ensures one { IfNone result ((v : ℕ) × (self.now ≡ only_name v)) }
-    {
-        match &self.held {
-            Held::One(_) => None,
-            Held::Low(bits) => {
-                *room = set_of(*bits);
-                Some(&*room)
-            }
-            Held::Several(names) => Some(&**names),
-        }
-    }
-
-    // The set, if it is kept as a word.
-    pub(crate) fn low(&self) -> Option<Set<W>>
-        ensures { IfSome result (λ names. names ≡ self.now) }
-    {
-        match &self.held {
-            Held::One(_) => None,
-            Held::Low(bits) => Some(set_of(*bits)),
-            Held::Several(_) => None,
-        }
-    }
 }
 
 // The names below 64 whose bits are 1.
@@ -197,14 +199,37 @@ fn set_of<const W: usize>(bits: u64) -> Set<W>
     names
 }
 
+// Puts a set into room for it.
+fn put_in<const W: usize>(room: &mut Option<Set<W>>, names: Set<W>) -> &Set<W>
+    ensures { result.now ≡ names.entry }
+{
+    *room = Some(names);
+    match room {
+        Some(names) => names,
+        None => unreachable!(),
+    }
+}
+
+// Moves one of the two parts of a set, in `row` and outside it, to the empty set `other`: of a large
+// set the smaller one.
+fn move_part<const W: usize>(class: &mut Set<W>, row: &Set<W>, other: &mut Set<W>)
+    requires { other.old ≡ empty }
+    ensures { (part : NameSet) × IsSideOf part class.old row.now
+        × (class.new ≡ intersection class.old part) × (other.new ≡ difference class.old part) }
+{
+    class.move_unshared(row, other);
+    if other.count() > FEW && other.count() > class.count() {
+        swap(class, other);
+    }
+}
+
 // Whether all names are below 64.
 fn are_low<const W: usize>(names: &Set<W>) -> bool
+    requires { HasSome names.now }
     ensures { IsTrue result → (0 < W) × AllBelow names.now 64 }
 {
-    match names.last() {
-        Some(last) => last < 64,
-        None => false,
-    }
+    let _names = names.members();
+    W == 1 || names.first_from(64).is_none()
 }
 
 /// The member of a set with one member.
@@ -215,9 +240,21 @@ pub fn only_member<const W: usize>(set: &Set<W>) -> Option<u32>
     ensures below { IfSome result (λ name. name < 64 * W) }
 {
     let first = set.first_from(0)?;
-    let last = set.last()?;
-    if first != last {
+    if !is_last(set, first) {
         return None;
     }
     Some(first)
+}
+
+// Whether no member is above `v`. The last member of a set of one word is found at once, and that of
+// another one behind all words in use.
+#[inline]
+fn is_last<const W: usize>(set: &Set<W>, v: u32) -> bool
+    requires { v < NAMES }
+    ensures { IsTrue result ↔ AllBelow set.now (v + 1) }
+{
+    if W == 1 {
+        return set.last().is_none_or(|last| last <= v);
+    }
+    set.first_from(v + 1).is_none()
 }

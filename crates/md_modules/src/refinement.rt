@@ -6,13 +6,11 @@ ghost use Rattle.md_graph.specs.Sets.{NameSet, Has, Within, Disjoint, HasSome};
 ghost use Rattle.md_modules.specs.Classes.{class_at};
 ghost use Rattle.md_modules.specs.Classes.{IsSplitter, IsSideOf, HoldsSplitters, AreMaximalInside};
 
+use crate::blocks::FEW;
 use crate::{Block, sees};
 use md_graph::{GraphOf, Memory, NAMES, Set};
 use std::alloc::Global;
-use std::mem::{replace, swap};
-
-// Room for so many classes is taken at once, and a class of so many names is small.
-const FEW: u32 = 64;
+use std::mem::replace;
 
 /// The maximal ones among the modules of `set` that are parts of `rest`, in any order; they
 /// partition `rest`. Condition: `rest` is a nonempty part of `set`.
@@ -57,11 +55,12 @@ fn begin<const W: usize>(set: &Set<W>, classes: &[Block<W>], at: usize, left: &m
     set.within_limit();
     if at < classes.len() {
         left.clear();
-        let mut room = Set::none();
-        if let Some(names) = classes[at].several(&mut room) {
-            left.take_in(set);
-            left.flip(names);
+        if classes[at].is_name() {
+            return;
         }
+        let mut room = None;
+        left.take_in(set);
+        left.flip(classes[at].set_in(&mut room));
     }
 }
 
@@ -105,30 +104,12 @@ fn divide<const W: usize>(
         × (class.new ≡ intersection class.old part) × (other.new ≡ difference class.old part)) }
 {
     row.within_limit();
-    if let Some(mut names) = class.low() {
-        move_part(&mut names, row, other);
-        *class = Block::of(alloc, &names)?;
-        return Ok(());
-    }
     let Some(first) = class.first() else {
         unreachable!();
     };
-    let mut names = replace(class, Block::one(first)).into_box(alloc)?;
-    move_part(&mut names, row, other);
-    *class = Block::of_box(names);
+    let whole = replace(class, Block::one(first));
+    *class = whole.divided(alloc, row, other)?;
     Ok(())
-}
-
-// The same of a set: of a large one the smaller part goes.
-fn move_part<const W: usize>(class: &mut Set<W>, row: &Set<W>, other: &mut Set<W>)
-    requires { other.old ≡ empty }
-    ensures { (part : NameSet) × IsSideOf part class.old row.now
-        × (class.new ≡ intersection class.old part) × (other.new ≡ difference class.old part) }
-{
-    class.move_unshared(row, other);
-    if other.count() > FEW && other.count() > class.count() {
-        swap(class, other);
-    }
 }
 
 // A name of `left` that is adjacent to some of `class` and not to all; none exactly where there is
@@ -144,10 +125,11 @@ fn splitter<const W: usize>(graph: &GraphOf<W>, class: &Block<W>, left: &mut Set
     ensures name { IfSome result (λ p. p < 64 * W) }
 {
     let _vertices = graph.vertices();
-    let mut room = Set::none();
-    let Some(names) = class.several(&mut room) else {
+    if class.is_name() {
         return None;
-    };
+    }
+    let mut room = None;
+    let names = class.set_in(&mut room);
     if names.count() <= FEW {
         return splitter_of_few(graph, names, left);
     }

@@ -84,8 +84,8 @@ fn refined(
         assert_eq!(rt; class.count() as usize, list.len());
         assert_eq!(rt; class.alone().is_some(), list.len() == 1);
         assert_eq!(rt; class.first(), list.first().copied());
-        let names = class.into_box(alloc)?;
-        expect(rt, &names, list);
+        let mut room = None;
+        expect(rt, class.set_in(&mut room), list);
     }
     Ok(())
 }
