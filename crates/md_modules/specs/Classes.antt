@@ -2,7 +2,7 @@
 -- Source: Habib and Paul, A survey of the algorithmic aspects of modular decomposition (partition
 -- refinement).
 use Rattle.std.specs.Prelude.{◌≡◌, ◌<◌, ◌⊎◌, ℕ, Bool, true, false, List, length, get_or}
-use Rattle.std.specs.FinSet.{empty, difference}
+use Rattle.std.specs.FinSet.{empty, intersection, difference}
 use Rattle.md_graph.specs.Sets.{NameSet, Has, Lacks, Within, Disjoint, HasSome}
 use Rattle.md_modules.specs.Modules.{IsModule}
 
@@ -26,6 +26,11 @@ pub record HoldsSplitters (e : ℕ → ℕ → Bool) (s c left : NameSet) : Type
 -- part has the names of c that row has, or those that it lacks
 abbrev pub IsSideOf : NameSet → NameSet → NameSet → Type 0
 IsSideOf part c row = (part ≡ row) ⊎ (part ≡ difference c row)
+
+-- of the two parts of c, in `row` and outside it, one stays and one goes
+abbrev pub IsDivided : NameSet → NameSet → NameSet → NameSet → Type 0
+IsDivided c row stays goes =
+    (part : NameSet) × IsSideOf part c row × (stays ≡ intersection c part) × (goes ≡ difference c part)
 
 -- no set is empty, and no two sets meet
 pub record AreApart (cs : List NameSet) : Type 0 where

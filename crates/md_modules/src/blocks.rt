@@ -1,9 +1,9 @@
 //! Sets of names in little room, as the classes of a partition are kept: most are names alone.
-ghost use Rattle.std.specs.Prelude.{◌≡◌, ◌*◌, ℕ, ◌<◌, ◌≤◌, IfOk, IfSome, IfNone, IsTrue};
-ghost use Rattle.std.specs.FinSet.{len, empty, union, intersection, difference};
+ghost use Rattle.std.specs.Prelude.{◌≡◌, ◌*◌, ◌+◌, ℕ, ◌<◌, ◌≤◌, IfOk, IfSome, IfNone, IsTrue};
+ghost use Rattle.std.specs.FinSet.{len, empty, union};
 ghost use Rattle.md_graph.specs.NameSet.{IsLeastFrom, NoneFrom, AllBelow, block};
-ghost use Rattle.md_graph.specs.Sets.{NameSet, HasSome, HasTwo, only_name};
-ghost use Rattle.md_modules.specs.Classes.{IsSideOf};
+ghost use Rattle.md_graph.specs.Sets.{Has, HasSome, HasTwo, only_name};
+ghost use Rattle.md_modules.specs.Classes.{IsDivided};
 
 use md_graph::{Memory, NAMES, Set, WORDS};
 use std::alloc::Global;
@@ -110,8 +110,7 @@ impl<const W: usize> Block<W> {
         other: &mut Set<W>,
     ) -> Result<Block<W>, Memory>
         requires { other.old ≡ empty }
-        ensures { IfOk result (λ block. (part : NameSet) × IsSideOf part self.entry row.now
-            × (block ≡ intersection self.entry part) × (other.new ≡ difference self.entry part)) }
+        ensures { IfOk result (λ block. IsDivided self.entry row.now block other.new) }
     {
         match self.held {
             Held::One(name) => Ok(Block::one(name)),
@@ -214,8 +213,7 @@ fn put_in<const W: usize>(room: &mut Option<Set<W>>, names: Set<W>) -> &Set<W>
 // set the smaller one.
 fn move_part<const W: usize>(class: &mut Set<W>, row: &Set<W>, other: &mut Set<W>)
     requires { other.old ≡ empty }
-    ensures { (part : NameSet) × IsSideOf part class.old row.now
-        × (class.new ≡ intersection class.old part) × (other.new ≡ difference class.old part) }
+    ensures { IsDivided class.old row.now class.new other.new }
 {
     class.move_unshared(row, other);
     if other.count() > FEW && other.count() > class.count() {
@@ -225,11 +223,16 @@ fn move_part<const W: usize>(class: &mut Set<W>, row: &Set<W>, other: &mut Set<W
 
 // Whether all names are below 64.
 fn are_low<const W: usize>(names: &Set<W>) -> bool
-    requires { HasSome names.now }
     ensures { IsTrue result → (0 < W) × AllBelow names.now 64 }
 {
-    let _names = names.members();
-    W == 1 || names.first_from(64).is_none()
+    let _below = names.members();
+    if W == 1 {
+        return true;
+    }
+    match names.first_from(0) {
+        Some(first) => first < 64 && names.first_from(64).is_none(),
+        None => false,
+    }
 }
 
 /// The member of a set with one member.
@@ -251,10 +254,14 @@ pub fn only_member<const W: usize>(set: &Set<W>) -> Option<u32>
 #[inline]
 fn is_last<const W: usize>(set: &Set<W>, v: u32) -> bool
     requires { v < NAMES }
-    ensures { IsTrue result ↔ AllBelow set.now (v + 1) }
+    ensures last { IsTrue result → AllBelow set.now (v + 1) }
+    ensures more { ¬ IsTrue result → (w : ℕ) × Has set.now w × (v < w) }
 {
     if W == 1 {
-        return set.last().is_none_or(|last| last <= v);
+        return match set.last() {
+            Some(last) => last <= v,
+            None => true,
+        };
     }
     set.first_from(v + 1).is_none()
 }

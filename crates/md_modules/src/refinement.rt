@@ -4,7 +4,7 @@ ghost use Rattle.std.specs.FinSet.{empty, union, intersection, difference};
 ghost use Rattle.md_graph.specs.PlainGraph.{adjacent};
 ghost use Rattle.md_graph.specs.Sets.{NameSet, Has, Within, Disjoint, HasSome};
 ghost use Rattle.md_modules.specs.Classes.{class_at};
-ghost use Rattle.md_modules.specs.Classes.{IsSplitter, IsSideOf, HoldsSplitters, AreMaximalInside};
+ghost use Rattle.md_modules.specs.Classes.{IsSplitter, IsSideOf, IsDivided, HoldsSplitters, AreMaximalInside};
 
 use crate::blocks::FEW;
 use crate::{Block, sees};
@@ -100,8 +100,7 @@ fn divide<const W: usize>(
 ) -> Result<(), Memory>
     requires empty { other.old ≡ empty }
     requires some { HasSome class.old }
-    ensures { IfOk result (λ _. (part : NameSet) × IsSideOf part class.old row.now
-        × (class.new ≡ intersection class.old part) × (other.new ≡ difference class.old part)) }
+    ensures { IfOk result (λ _. IsDivided class.old row.now class.new other.new) }
 {
     row.within_limit();
     let Some(first) = class.first() else {

@@ -7,18 +7,19 @@ use Rattle.md_modules.specs.Classes.{class_at}
 use Rattle.md_modules.proofs.ClassLemmas.{left_begins, alone_begins}
 use Rattle.md_modules.proofs.refinement.begin.Goals as goal
 
-pub returns-in-Some : goal.returns-in-Some
-returns-in-Some g c known e =
+pub returns-then-is_name : goal.returns-then-is_name
+returns-then-is_name g c known e =
     let class = get_or_read c.args.classes.now c.args.at c.index-classes-at.result known c.index-classes-at.is empty in
-    let names : c.in-Some.names.now ≡ class_at c.args.classes.now c.args.at = c.in-Some.ensures.kept ∙ class in
+    let named = c.is_name.ensures c.if-is_name.true in
+    alone_begins e c.args.set.now (class_at c.args.classes.now c.args.at) named.0 (sym class ∙ named.1) c.clear.new.self c.clear.ensures
+
+pub returns-else-is_name : goal.returns-else-is_name
+returns-else-is_name g c known e =
+    let class = get_or_read c.args.classes.now c.args.at c.index-classes-at-then-at-classes.result known c.index-classes-at-then-at-classes.is empty in
+    let names : c.set_in.result.now ≡ class_at c.args.classes.now c.args.at = c.set_in.ensures ∙ class in
     let all : c.take_in.new.self ≡ c.args.set.now = taken_whole _ _ _ c.clear.ensures c.take_in.ensures in
-    let inside : Within c.in-Some.names.now c.take_in.new.self =
-    along_two Within (class_at c.args.classes.now c.args.at) c.args.set.now c.in-Some.names.now c.take_in.new.self names all (c.requires known)
+    let inside : Within c.set_in.result.now c.take_in.new.self =
+    along_two Within (class_at c.args.classes.now c.args.at) c.args.set.now c.set_in.result.now c.take_in.new.self names all (c.requires known)
     in
     left_begins c.args.set.now (class_at c.args.classes.now c.args.at) c.flip.new.self
-    (flipped_off c.take_in.new.self c.in-Some.names.now c.flip.new.self inside c.flip.ensures ∙ ap (λ (s : NameSet). difference s c.in-Some.names.now) all ∙ ap (difference c.args.set.now) names)
-
-pub returns-in_default : goal.returns-in_default
-returns-in_default g c known e =
-    let class = get_or_read c.args.classes.now c.args.at c.index-classes-at.result known c.index-classes-at.is empty in
-    alone_begins e c.args.set.now (class_at c.args.classes.now c.args.at) c.in_default.ensures.one.0 (sym class ∙ c.in_default.ensures.one.1) c.clear.new.self c.clear.ensures
+    (flipped_off c.take_in.new.self c.set_in.result.now c.flip.new.self inside c.flip.ensures ∙ ap (λ (s : NameSet). difference s c.set_in.result.now) all ∙ ap (difference c.args.set.now) names)

@@ -1,7 +1,7 @@
 use Rattle.std.proofs.Common.{◌∙◌, refl, inl, inr}
 use Rattle.md_graph.proofs.SetLemmas.{taken_whole, rest_in, meet_unshared}
 use Rattle.std.specs.FinSet.{difference}
-use Rattle.md_modules.proofs.refinement.move_part.Goals as goal
+use Rattle.md_modules.proofs.blocks.move_part.Goals as goal
 
 pub returns-then-count : goal.returns-then-count
 returns-then-count g c = (
