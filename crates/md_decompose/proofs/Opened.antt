@@ -27,7 +27,7 @@ use Rattle.md_tree.specs.Parts.{PlainPart, name, inner, parts_of, parts_backward
 use Rattle.md_decompose.specs.Children.{FitsBelow, AreChildren}
 use Rattle.md_decompose.specs.declared.chains.Chain.{Chain}
 use Rattle.md_decompose.specs.Chains.{step_at, AreSteps, IsChainOf, IsChainFront}
-use Rattle.md_decompose.specs.Turns.{open_names, IsOpenOf, IsUnder, FitsOpen, HasChain, HasNoChain, HasFront, sets_of, AreBare, IsFirstOpen, AreOpen, IsPartOf, IsTurn}
+use Rattle.md_decompose.specs.Turns.{open_names, IsOpenOf, IsNoVertexAlone, IsUnder, FitsOpen, HasChain, HasNoChain, HasFront, sets_of, AreBare, IsFirstOpen, AreOpen, IsPartOf, IsTurn}
 use Rattle.md_decompose.proofs.ChainLemmas.{steps_none, steps_inside}
 use Rattle.md_decompose.proofs.Joining.{all_names, node_built, weights, weights-append, child_maximal, children_fall}
 
@@ -91,19 +91,21 @@ behind_more {w} k begun now now' cs cs' c o is same_names below bare is_now is_c
 
 pub opened_names : {w : ℕ} (s : NameSet) (p : Option Kind) (chain : Chain) (o : Open w) → IsOpenOf s p chain o → open_names o ≡ s
 opened_names {w} s p chain (One v) is = sym is
-opened_names {w} s p chain (Several b) is = ap (λ (x : OpenSet w). x.names) is
+opened_names {w} s p chain (Several b) is = ap (λ (x : OpenSet w). x.names) is.0
 
 pub opened_below : {w : ℕ} (s : NameSet) (p : Option Kind) (chain : Chain) (o : Open w) → IsOpenOf s p chain o → IsUnder p o
 opened_below {w} s p chain (One v) is = tt
-opened_below {w} s p chain (Several b) is = ap (λ (x : OpenSet w). x.parent) is
+opened_below {w} s p chain (Several b) is =
+    let same : s ≡ b.names = sym (ap (λ (x : OpenSet w). x.names) is.0) in
+    (ap (λ (x : OpenSet w). x.parent) is.0, subst (λ n. HasSome n → HasTwo n) same is.1)
 
 pub opened_bare : {w : ℕ} (s : NameSet) (p : Option Kind) (chain : Chain) (o : Open w) → chain.taken.items ≡ [] → chain.steps.items ≡ [] → IsOpenOf s p chain o → HasNoChain o
 opened_bare {w} s p chain (One v) no_names no_steps is = tt
-opened_bare {w} s p chain (Several b) no_names no_steps is = (ap (λ (x : OpenSet w). x.chain.taken.items) is ∙ no_names, ap (λ (x : OpenSet w). x.chain.steps.items) is ∙ no_steps)
+opened_bare {w} s p chain (Several b) no_names no_steps is = (ap (λ (x : OpenSet w). x.chain.taken.items) is.0 ∙ no_names, ap (λ (x : OpenSet w). x.chain.steps.items) is.0 ∙ no_steps)
 
 pub opened_front : {w : ℕ} (s : NameSet) (p : Option Kind) (chain whole : Chain) (n : ℕ) (o : Open w) → IsChainFront whole n chain → IsOpenOf s p chain o → HasFront whole n o
 opened_front {w} s p chain whole n (One v) front is = tt
-opened_front {w} s p chain whole n (Several b) front is = subst (IsChainFront whole n) (sym (ap (λ (x : OpenSet w). x.chain) is)) front
+opened_front {w} s p chain whole n (Several b) front is = subst (IsChainFront whole n) (sym (ap (λ (x : OpenSet w). x.chain) is.0)) front
 
 pub opened_all : {w : ℕ} (k : Kind) (c : NameSet) (cs all : List NameSet) (chain : Chain) (begun begun' now : List (Open w)) (o : Open w) → all ≡ c ∷ cs → IsFirstOpen k c chain o →
     begun' ≡ begun ++ o ∷ [] → AreBehind k begun' now cs → (os : List (Open w)) × (now ≡ begun ++ os) × AreOpen k all chain os
@@ -173,9 +175,14 @@ module _ {e : ℕ → ℕ → Bool} where
 -- a set that waits: a part of all the names, whose kind fits that of the node above, with modules of it
 pub record IsReady {w : ℕ} (e : ℕ → ℕ → Bool) (all : NameSet) (o : Open w) : Type 0 where
   pub some : HasSome (open_names o)
+  pub two : IsNoVertexAlone o
   pub inside : Within (open_names o) all
   pub below : FitsOpen e o
   pub chain : HasChain e o
+
+no_vertex : {w : ℕ} (p : Option Kind) (o : Open w) → IsUnder p o → HasSome (open_names o) → IsNoVertexAlone o
+no_vertex p (One v) below some = tt
+no_vertex p (Several b) below some = below.1 some
 
 -- the parts are the first ones of a tree of all the names
 abbrev pub IsBegun : (ℕ → ℕ → Bool) → NameSet → List PlainPart → Type 0
@@ -193,7 +200,7 @@ module _ {e : ℕ → ℕ → Bool} (adj : IsAdjacency e) where
 
   fits_open : {w : ℕ} (q : Open w) (k : Kind) → IsUnder (Some k) q → FitsBelow e (open_names q) (Some k) → FitsOpen e q
   fits_open (One v) k below fits = tt
-  fits_open (Several b) k below fits = subst (FitsBelow e b.names) (sym below) fits
+  fits_open (Several b) k below fits = subst (FitsBelow e b.names) (sym below.0) fits
 
   module _ (all : NameSet) where
     begun_as : {ps qs : List PlainPart} → ps ≡ qs → IsBegun e all ps → IsBegun e all qs
@@ -201,11 +208,12 @@ module _ {e : ℕ → ℕ → Bool} (adj : IsAdjacency e) where
 
     whole_fits : {w : ℕ} (o : Open w) → IsUnder None o → FitsOpen e o
     whole_fits (One v) top = tt
-    whole_fits (Several b) top = subst (FitsBelow e b.names) (sym top) tt
+    whole_fits (Several b) top = subst (FitsBelow e b.names) (sym top.0) tt
 
     whole_ready : {w : ℕ} (o : Open w) → HasSome all → open_names o ≡ all → IsUnder None o → HasNoChain o → IsReady e all o
     whole_ready o some same top bare = record {
       some = subst HasSome (sym same) some;
+      two = no_vertex None o top (subst HasSome (sym same) some);
       inside = Has-along (open_names o) all same;
       below = whole_fits o top;
       chain = bare_chain e o bare;
@@ -245,6 +253,7 @@ module _ {e : ℕ → ℕ → Bool} (adj : IsAdjacency e) where
           let max : IsMaximalStrong e (open_names o) (open_names q) = child_maximal (open_names o) part.0 part.1.children (open_names q) child in
           record {
             some = max.is_strong.is_module.some;
+            two = no_vertex (Some k) q below.0 max.is_strong.is_module.some;
             inside = λ x h. next_ready.inside x (max.is_strong.is_module.inside x h);
             below = fits_open q k below.0 (child_fits (open_names o) (open_names q) k part.1.kind max);
             chain = below.1;

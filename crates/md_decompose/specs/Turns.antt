@@ -2,7 +2,7 @@
 -- Source: top-down modular decomposition, as in Habib and Paul, A survey of the algorithmic aspects of modular decomposition.
 use Rattle.std.specs.Prelude.{◌≡◌, ℕ, Bool, List, [], ◌∷◌, ◌++◌, map, length, Contains, Option, Some, ⊤}
 use Rattle.std.specs.FinSet.{len}
-use Rattle.md_graph.specs.Sets.{NameSet, only_name}
+use Rattle.md_graph.specs.Sets.{NameSet, HasSome, HasTwo, only_name}
 use Rattle.md_tree.specs.declared.Kind.{Kind}
 use Rattle.md_tree.specs.declared.Kind.TheVariants.{Parallel, Series, Prime}
 use Rattle.md_tree.specs.declared.Pair.{Pair}
@@ -19,15 +19,20 @@ abbrev pub open_names : {w : ℕ} → Open w → NameSet
 open_names (One v) = only_name v
 open_names (Several b) = b.names
 
--- the set s below a node of kind p, if there is one, with a chain
+-- the set s below a node of kind p, if there is one, with a chain; a set of one name waits as a vertex alone
 abbrev pub IsOpenOf : {w : ℕ} → NameSet → Option Kind → Chain → Open w → Type 0
 IsOpenOf s p chain (One v) = s ≡ only_name v
-IsOpenOf s p chain (Several b) = b ≡ record { names = s; parent = p; chain = chain }
+IsOpenOf s p chain (Several b) = (b ≡ record { names = s; parent = p; chain = chain }) × (HasSome s → HasTwo s)
 
--- a set below a node of kind p, or a vertex alone
+-- what waits as a set has two names or more
+abbrev pub IsNoVertexAlone : {w : ℕ} → Open w → Type 0
+IsNoVertexAlone (One v) = ⊤
+IsNoVertexAlone (Several b) = HasTwo b.names
+
+-- a set below a node of kind p, with two names or more if it has one, or a vertex alone
 abbrev pub IsUnder : {w : ℕ} → Option Kind → Open w → Type 0
 IsUnder p (One v) = ⊤
-IsUnder p (Several b) = b.parent ≡ p
+IsUnder p (Several b) = (b.parent ≡ p) × (HasSome b.names → HasTwo b.names)
 
 -- the kind of a set fits that of the node above
 abbrev pub FitsOpen : {w : ℕ} → (ℕ → ℕ → Bool) → Open w → Type 0

@@ -10,14 +10,14 @@ ghost use Rattle.md_tree.specs.WellFormed.{IsWellFormed};
 ghost use Rattle.md_tree.specs.Plain.{plain_option};
 ghost use Rattle.md_decompose.specs.Children.{FitsBelow};
 ghost use Rattle.md_tree.specs.Parts.{plain_part, parts_of};
-ghost use Rattle.md_decompose.specs.Turns.{open_names, FitsOpen, HasChain, IsOpenOf, AreOpen, IsTurn};
+ghost use Rattle.md_decompose.specs.Turns.{open_names, IsNoVertexAlone, FitsOpen, HasChain, IsOpenOf, AreOpen, IsTurn};
 ghost use Rattle.md_decompose.specs.Chains.{IsChainOf, step_at};
 ghost use Rattle.md_decompose.specs.declared.decomposition.Open.{Open};
 
 use crate::chains::Chain;
 use crate::children::children;
 use md_graph::{GraphOf, Memory};
-use md_modules::{Block, only_member};
+use md_modules::Block;
 use md_tree::{Kind, Part, Tree, build};
 use std::alloc::Global;
 
@@ -28,8 +28,8 @@ enum Open<const W: usize> {
     Several(OpenSet<W>),
 }
 
-// A set of vertices whose tree is to come, the kind of the node above it, and modules of the set
-// that hold its least name.
+// A set of two vertices or more whose tree is to come, the kind of the node above it, and modules of
+// the set that hold its least name.
 #[derive(Drop)]
 struct OpenSet<const W: usize> {
     names: Block<W>,
@@ -84,7 +84,7 @@ fn take_apart<const W: usize>(
     waiting: &mut Vec<Open<W>>,
     places: &mut Vec<u32>,
 ) -> Result<(), Memory>
-    requires some { HasSome (open_names next) }
+    requires two { IsNoVertexAlone next }
     requires inside { Within (open_names next) graph.now.vertices }
     requires below { FitsOpen (adjacent graph.now) next }
     requires chain { HasChain (adjacent graph.now) next }
@@ -110,7 +110,7 @@ fn take_set_apart<const W: usize>(
     waiting: &mut Vec<Open<W>>,
     places: &mut Vec<u32>,
 ) -> Result<(), Memory>
-    requires some { HasSome set.names }
+    requires two { HasTwo set.names }
     requires inside { Within set.names graph.now.vertices }
     requires below { FitsBelow (adjacent graph.now) set.names set.parent }
     requires chain { IsChainOf (adjacent graph.now) set.names set.chain }
@@ -123,12 +123,9 @@ fn take_set_apart<const W: usize>(
         parent,
         mut chain,
     } = set;
-    let names = names.into_set();
-    if let Some(name) = only_member(&names) {
-        parts.push(Part::Leaf(name))?;
-        return Ok(());
-    }
-    let (kind, sets, edges) = children(alloc, graph, &names, parent, &mut chain, places)?;
+    let mut room = None;
+    let set = names.set_in(&mut room);
+    let (kind, sets, edges) = children(alloc, graph, set, parent, &mut chain, places)?;
     parts.push(Part::Node(kind, sets.len() as u64, edges))?;
     push_open(alloc, waiting, kind, sets, &chain)
 }

@@ -109,7 +109,8 @@ mod tests {
         let sets = prime_children(alloc, g, g.vertices(), &mut Chain::none(alloc))?;
         assert_eq!(rt; sets.len(), lists.len());
         for (set, list) in sets.into_iter().zip(lists) {
-            let set = set.into_set();
+            let mut room = None;
+            let set = set.set_in(&mut room);
             assert_eq!(rt; set.count() as usize, list.len());
             for v in *list {
                 assert!(rt; set.has(*v), "member {v}");

@@ -190,7 +190,8 @@ fn divide(
 fn unpacked(alloc: Global, blocks: Vec<Block<WORDS>>) -> Result<Vec<Names>, Memory> {
     let mut sets = Vec::new(alloc);
     for block in blocks {
-        sets.push(block.into_set())?;
+        let mut room = None;
+        sets.push(block.set_in(&mut room).copy())?;
     }
     Ok(sets)
 }

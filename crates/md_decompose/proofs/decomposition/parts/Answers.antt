@@ -22,7 +22,7 @@ take_apart-requires g c =
     let ready : IsReady (adjacent c.args.graph.now) c.args.graph.now.vertices c.in-Some.next =
     next_ready (graph_adjacency c.vertices-vertices.ensures.graph) c.args.graph.now.vertices (map plain_part c.loop-next.parts.items) c.loop-next.waiting.items c.pop.new.self.items c.in-Some.next c.loop-next.invariant
     c.in-Some.ensures.items in
-    (search rules, (search rules, (ready.some, (ready.inside, (ready.below, ready.chain)))))
+    (search rules, (search rules, (ready.two, (ready.inside, (ready.below, ready.chain)))))
 
 pub loop-next-smaller : goal.loop-next-smaller
 loop-next-smaller g c =
