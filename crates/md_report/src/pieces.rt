@@ -1,17 +1,18 @@
 //! Names and arcs in the texts of lines: pieces, each behind a space.
-ghost use Rattle.std.specs.Prelude.{◌≡◌, ◌≢◌, ℕ, ◌<◌, ◌≤◌, ◌↔◌, ◌++◌, [], ◌∷◌, List, length, slice_index, IfOk, IsTrue, MatchOption};
+ghost use Rattle.std.specs.Prelude.{◌≡◌, ◌≢◌, ℕ, ◌<◌, ◌≤◌, ◌↔◌, ◌++◌, [], ◌∷◌, List, length, slice_index, IfOk, IfSome, IsTrue, MatchOption};
 ghost use Rattle.std.specs.List.{All};
 ghost use Rattle.md_forcing.specs.declared.arc.Arc.{Arc};
 ghost use Rattle.md_text.specs.Numbers.{decimal};
 ghost use Rattle.md_modules.specs.declared.induced_paths.P4.{P4};
 ghost use Rattle.md_report.specs.Lines.{names_text, p4_text, arc_text, arcs_text};
 ghost use Rattle.md_report.specs.WellFormedLines.{IsVertexName, IsNamedArc, IsNamedChain, IsNamedP4, AreFour};
-ghost use Rattle.md_report.specs.Cuts.{IsCutAt, IsPiece, IsItem, NoItem};
+ghost use Rattle.md_report.specs.Cuts.{Opens, IsCutAt, IsPiece, IsItem, NoItem};
 
 use md_forcing::{Arc, Chain};
 use md_graph::{Memory, NAMES};
 use md_modules::P4;
 use md_text::number;
+use md_tree::{skip_byte, small_number};
 use std::alloc::Global;
 
 // The bytes before the first byte of a value, and the rest, which begins with it or is empty.
@@ -99,6 +100,9 @@ pub(crate) fn split_name(text: &[u8]) -> Option<(u32, &[u8])>
     ensures { MatchOption result (NoItem decimal IsVertexName text.now)
         (λ p. IsItem decimal IsVertexName text.now p.0 p.1.now) }
 {
+    if let Some(found) = quick_name(text) {
+        return Some(found);
+    }
     let (piece, rest) = split_piece(text)?;
     Some((name(piece)?, rest))
 }
@@ -108,8 +112,50 @@ fn split_arc(text: &[u8]) -> Option<(Arc, &[u8])>
     ensures { MatchOption result (NoItem arc_text IsNamedArc text.now)
         (λ p. IsItem arc_text IsNamedArc text.now p.0 p.1.now) }
 {
+    if let Some(found) = quick_arc(text) {
+        return Some(found);
+    }
     let (piece, rest) = split_piece(text)?;
     Some((arc(piece)?, rest))
+}
+
+// The name in the first piece, read without a look for its end. None says nothing.
+#[inline(always)]
+fn quick_name(text: &[u8]) -> Option<(u32, &[u8])>
+    ensures { IfSome result (λ p. IsItem decimal IsVertexName text.now p.0 p.1.now) }
+{
+    let (name, rest) = small_number(behind_space(text)?)?;
+    if name >= NAMES || !is_piece_end(rest) {
+        return None;
+    }
+    Some((name, rest))
+}
+
+// The same of an arc.
+#[inline(always)]
+fn quick_arc(text: &[u8]) -> Option<(Arc, &[u8])>
+    ensures { IfSome result (λ p. IsItem arc_text IsNamedArc text.now p.0 p.1.now) }
+{
+    let (tail, mark) = small_number(behind_space(text)?)?;
+    let Ok(second) = skip_byte(mark, b'>') else {
+        return None;
+    };
+    let (head, rest) = small_number(second)?;
+    if tail >= NAMES || head >= NAMES || tail == head || !is_piece_end(rest) {
+        return None;
+    }
+    Some((Arc { tail, head }, rest))
+}
+
+// Whether nothing is left, or a space comes.
+#[inline(always)]
+fn is_piece_end(rest: &[u8]) -> bool
+    ensures { IsTrue result → Opens 32 rest.now }
+{
+    match rest.first() {
+        Some(byte) => *byte == b' ',
+        None => true,
+    }
 }
 
 // The names that a text spells, a space before each; none where it is no such text.
