@@ -28,8 +28,8 @@ enum Open<const W: usize> {
     Several(OpenSet<W>),
 }
 
-// A set of two vertices or more whose tree is to come, the kind of the node above it, and modules of
-// the set that hold its least name.
+// A set of two vertices or more whose tree is to come, the kind of the node above it, and modules
+// of the set that hold its least name.
 #[derive(Drop)]
 struct OpenSet<const W: usize> {
     names: Block<W>,

@@ -330,8 +330,8 @@ impl<const W: usize> Set<W> {
         }
     }
 
-    /// Takes in each name `first + k` for which bit k of `bits` is 1: 64 names at once. For readers.
-    /// Condition: `first` is a name below `64 * W` and a multiple of 64.
+    /// Takes in each name `first + k` for which bit k of `bits` is 1: 64 names at once. For
+    /// readers. Condition: `first` is a name below `64 * W` and a multiple of 64.
     pub fn insert_block(&mut self, first: u32, bits: u64)
         requires name { first < 64 * W }
         requires aligned { first % 64 ≡ 0 }

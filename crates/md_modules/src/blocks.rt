@@ -209,8 +209,8 @@ fn put_in<const W: usize>(room: &mut Option<Set<W>>, names: Set<W>) -> &Set<W>
     }
 }
 
-// Moves one of the two parts of a set, in `row` and outside it, to the empty set `other`: of a large
-// set the smaller one.
+// Moves one of the two parts of a set, in `row` and outside it, to the empty set `other`: of a
+// large set the smaller one.
 fn move_part<const W: usize>(class: &mut Set<W>, row: &Set<W>, other: &mut Set<W>)
     requires { other.old ≡ empty }
     ensures { IsDivided class.old row.now class.new other.new }
@@ -249,8 +249,8 @@ pub fn only_member<const W: usize>(set: &Set<W>) -> Option<u32>
     Some(first)
 }
 
-// Whether no member is above `v`. The last member of a set of one word is found at once, and that of
-// another one behind all words in use.
+// Whether no member is above `v`. The last member of a set of one word is found at once, and that
+// of another one behind all words in use.
 #[inline]
 fn is_last<const W: usize>(set: &Set<W>, v: u32) -> bool
     requires { v < NAMES }
