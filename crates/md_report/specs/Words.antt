@@ -98,10 +98,6 @@ abbrev pub ReadsOrders : List ℕ → List ℕ → Result Line LineFault → Typ
 ReadsOrders front back result = Reads (codes "yes" ++ (front ++ 47 ∷ back))
     ((first second : List ℕ) → All IsVertexName first → All IsVertexName second → front ≡ names_text first ++ 32 ∷ [] → back ≢ names_text second) result
 
--- of arcs behind `yes`
-abbrev pub ReadsArcs : List ℕ → Result Line LineFault → Type 0
-ReadsArcs text result = Reads (codes "yes" ++ text) ((arcs : List Arc) → All IsNamedArc arcs → text ≢ arcs_text arcs) result
-
 -- of a tree behind its word
 abbrev pub ReadsTree : List ℕ → Result (Option Tree) LineFault → Type 0
 ReadsTree text (Ok o) = IsWellFormed (plain_option o) × (text ≡ 32 ∷ text_of (plain_option o))

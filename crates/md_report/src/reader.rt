@@ -5,7 +5,7 @@ ghost use Rattle.md_report.specs.declared.reader.LineFault.TheVariants.{Syntax};
 ghost use Rattle.md_report.specs.declared.words.Word.TheVariants as words;
 ghost use Rattle.md_report.specs.Lines.{plain_line, mode_word, refused};
 ghost use Rattle.md_report.specs.WellFormedLines.{IsLineReading};
-ghost use Rattle.md_report.specs.Words.{ReadsBehind, ReadsRefusal, ReadsOrders, ReadsArcs, ReadsTree};
+ghost use Rattle.md_report.specs.Words.{ReadsBehind, ReadsRefusal, ReadsOrders, ReadsTree};
 
 use crate::pieces::{
     arcs, behind_space, chain, name_behind, names, path, split_before, split_piece,
@@ -139,14 +139,17 @@ fn tree_behind(alloc: Global, rest: &[u8]) -> Result<Option<Tree>, LineFault>
     }
 }
 
-// A line that says yes: two orders, between which a slash stands, or arcs.
+// A line that says yes: arcs, or two orders, between which a slash stands.
 fn yes_line(alloc: Global, rest: &[u8]) -> Result<Line, LineFault>
     ensures { ReadsBehind words.Yes rest.now result }
 {
+    if let Some(list) = arcs(alloc, rest)? {
+        return Ok(Line::Oriented(Arcs::from_list(list)));
+    }
     let (front, behind) = split_before(rest, b'/');
     match behind {
         [_, back @ ..] => orders_line(alloc, front, back),
-        _ => oriented_line(alloc, rest),
+        _ => Err(LineFault::Syntax),
     }
 }
 
@@ -163,15 +166,6 @@ fn orders_line(alloc: Global, front: &[u8], back: &[u8]) -> Result<Line, LineFau
         return Err(LineFault::Syntax);
     };
     Ok(Line::Orders(Order::from_list(first), Order::from_list(second)))
-}
-
-fn oriented_line(alloc: Global, rest: &[u8]) -> Result<Line, LineFault>
-    ensures { ReadsArcs rest.now result }
-{
-    match arcs(alloc, rest)? {
-        Some(list) => Ok(Line::Oriented(Arcs::from_list(list))),
-        None => Err(LineFault::Syntax),
-    }
 }
 
 // A line that says no: a word and what stands behind it, or a chain.
