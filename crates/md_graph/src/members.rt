@@ -1,7 +1,7 @@
 //! The members of a set of names, one after the other.
-ghost use Rattle.std.specs.Prelude.{◌≡◌, ℕ};
+ghost use Rattle.std.specs.Prelude.{◌≡◌, ◌++◌, ℕ, length, IfSome, IfNone};
 
-use crate::words::lowest;
+use crate::words::{lowest, lowest_name};
 use std::marker::Model;
 
 /// The members of a set that are still to come, ascending: word by word, and in a word from bit to
@@ -26,6 +26,24 @@ impl<'a> Model for Members<'a> {
 
     ghost invariant = { λ m. (m.used ≤ length m.words.now) × (m.used ≤ WORDS)
         × (m.first / 64 ≤ WORDS) × (64 * (m.first / 64) ≡ m.first) };
+}
+
+impl<'a> Members<'a> {
+    /// The next four members, if so many are left of the word at hand; else none, and nothing
+    /// changes.
+    #[inline(always)]
+    pub fn next_four(&mut self) -> Option<[u32; 4]>
+        ensures four { IfSome result (λ four. length four ≡ 4) }
+        ensures next { IfSome result (λ four. self.old ≡ four ++ self.new) }
+        ensures none { IfNone result (self.new ≡ self.old) }
+    {
+        let (one, left) = lowest_name(self.first, self.left)?;
+        let (two, left) = lowest_name(self.first, left)?;
+        let (three, left) = lowest_name(self.first, left)?;
+        let (four, left) = lowest_name(self.first, left)?;
+        self.left = left;
+        Some([one, two, three, four])
+    }
 }
 
 impl<'a> Iterator for Members<'a> {

@@ -114,7 +114,7 @@ impl<const W: usize> Set<W> {
     pub fn clear(&mut self)
         ensures { self.new ≡ set.empty }
     {
-        wipe(&mut self.words, self.used);
+        wipe(&mut self.words, passed::<W>(self.used));
         self.used = 0;
     }
 

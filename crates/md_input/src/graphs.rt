@@ -69,9 +69,11 @@ impl<'a> Graphs<'a> {
         ensures none_left { OnFalse result (self.new ≡ []) }
         ensures stays { OnFalse result (graph.new ≡ empty_graph) }
     {
-        if let Some(first) = self.first.take() {
-            *graph = first;
-            return true;
+        if self.first.is_some() {
+            if let Some(first) = self.first.take() {
+                *graph = first;
+                return true;
+            }
         }
         self.lines.next(graph)
     }

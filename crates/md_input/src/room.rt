@@ -98,7 +98,8 @@ impl Room {
     }
 
     // The same into the room for large ones, which is taken if it isn't there. Errors: want of
-    // memory; nothing changes then.
+    // memory; nothing changes then. Never inlined, so that small graphs don't pay for its room.
+    #[inline(never)]
     pub(crate) fn fill_large(&mut self, alloc: Global, lines: &mut Lines) -> Result<bool, Memory>
         requires { self.old ≡ empty_graph }
         ensures first { IfOk result (λ found. OnTrue found (lines.old ≡ self.new ∷ lines.new)) }

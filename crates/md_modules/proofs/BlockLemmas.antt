@@ -1,13 +1,13 @@
 -- The names below 64 of a set, as the bits of a word.
-use Rattle.std.proofs.Common.{refl, subst, ◌≡◌, ℕ, ◌+◌, ◌-◌, ◌<◌, Bool, false, ◌&&◌, ◌||◌, ◌==◌, leb, ltb, sym, ap, ◌∙◌, arith, inl, inr}
+use Rattle.std.proofs.Common.{refl, subst, ◌≡◌, ℕ, ◌+◌, ◌-◌, ◌<◌, ◌≤◌, Bool, false, ◌&&◌, ◌||◌, ◌==◌, leb, ltb, sym, ap, ◌∙◌, arith, inl, inr}
 use Rattle.std.specs.Int.{bit_at}
 use Rattle.std.specs.FinSet.{contains, empty, insert, union, intersection, difference}
 use Rattle.std.proofs.lemmas.Bool.{cases_Bool, cases_lt, false_from_ne_true}
 use Rattle.std.proofs.lemmas.Bool.Decides.{nat_tests}
 use Rattle.md_graph.specs.Sets.{NameSet, Has, Lacks, only_name}
-use Rattle.md_graph.specs.NameSet.{AllBelow, block}
+use Rattle.md_graph.specs.NameSet.{IsLeastFrom, AllBelow, block}
 use Rattle.md_graph.proofs.SetLaws.{contains-empty, contains-insert, contains-union, same_set}
-use Rattle.md_graph.proofs.SetLemmas.{clash, Has-along, same_members, if_empty, meet_has, of_meet, minus_has, of_minus, of_only}
+use Rattle.md_graph.proofs.SetLemmas.{clash, Has-along, same_members, if_empty, meet_has, of_meet, minus_has, of_minus, only_has, of_only}
 use Rattle.md_modules.specs.Classes.{IsDivided}
 use Rattle.md_graph.proofs.BitWords.{contains-block_below}
 
@@ -51,19 +51,19 @@ divided_as s t row stays kept goes same is (part, side, here, there) =
 pub one_divided : (s row none : NameSet) (v : ℕ) → s ≡ only_name v → none ≡ empty → IsDivided s row s none
 one_divided s row none v is empties = elim (cases_Bool (contains row v)) [
   | inl here ↦ (
-      row,
-      inl refl,
-      same_members s (intersection s row) (λ x h. meet_has s row x h (seen here x h)) (λ x h. (of_meet s row x h).0),
-      empties ∙ sym (if_empty (difference s row) (λ x. false_from_ne_true _ (λ h. let both = of_minus s row x h in clash (seen here x both.0) both.1))),
-    )
+    row,
+    inl refl,
+    same_members s (intersection s row) (λ x h. meet_has s row x h (seen here x h)) (λ x h. (of_meet s row x h).0),
+    empties ∙ sym (if_empty (difference s row) (λ x. false_from_ne_true _ (λ h. let both = of_minus s row x h in clash (seen here x both.0) both.1))),
+  )
   | inr away ↦ (
-      difference s row,
-      inr refl,
-      same_members s (intersection s (difference s row)) (λ x h. meet_has s (difference s row) x h (minus_has s row x h (unseen away x h))) (λ x h. (of_meet s (difference s row) x h).0),
-      empties ∙ sym (if_empty (difference s (difference s row)) (λ x. false_from_ne_true _ (λ h.
-          let both = of_minus s (difference s row) x h in
-          clash (minus_has s row x both.0 (unseen away x both.0)) both.1))),
-    )
+    difference s row,
+    inr refl,
+    same_members s (intersection s (difference s row)) (λ x h. meet_has s (difference s row) x h (minus_has s row x h (unseen away x h))) (λ x h. (of_meet s (difference s row) x h).0),
+    empties ∙ sym (if_empty (difference s (difference s row)) (λ x. false_from_ne_true _ (λ h.
+        let both = of_minus s (difference s row) x h in
+        clash (minus_has s row x both.0 (unseen away x both.0)) both.1))),
+  )
 ] where
   is_v : (x : ℕ) → Has s x → x ≡ v
   is_v x h = of_only v x (Has-along s (only_name v) is x h)
@@ -73,3 +73,17 @@ one_divided s row none v is empties = elim (cases_Bool (contains row v)) [
 
   unseen : Lacks row v → (x : ℕ) → Has s x → Lacks row x
   unseen away x h = subst (Lacks row) (sym (is_v x h)) away
+
+-- ---- a set of one name
+
+pub alone_is : (s : NameSet) (v : ℕ) → IsLeastFrom s 0 v → AllBelow s (v + 1) → s ≡ only_name v
+alone_is s v least below = same_members s (only_name v) to from where
+  to : (x : ℕ) → Has s x → Has (only_name v) x
+  to x h =
+      let a : v ≤ x = least.first x h (omega arith) in
+      let b = below x h in
+      let same : v ≡ x = omega arith in
+      subst (Has (only_name v)) same (only_has v)
+
+  from : (x : ℕ) → Has (only_name v) x → Has s x
+  from x h = subst (Has s) (sym (of_only v x h)) least.member

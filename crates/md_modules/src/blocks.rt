@@ -3,6 +3,7 @@ ghost use Rattle.std.specs.Prelude.{◌≡◌, ◌*◌, ◌+◌, ℕ, ◌<◌, �
 ghost use Rattle.std.specs.FinSet.{len, empty, union};
 ghost use Rattle.md_graph.specs.NameSet.{IsLeastFrom, NoneFrom, AllBelow, block};
 ghost use Rattle.md_graph.specs.Sets.{Has, HasSome, HasTwo, only_name};
+ghost use Rattle.md_modules.specs.Blocks.{held_names, IsName};
 ghost use Rattle.md_modules.specs.Classes.{IsDivided};
 
 use md_graph::{Memory, NAMES, Set, WORDS};
@@ -62,11 +63,7 @@ impl<const W: usize> Block<W> {
         ensures { IfOk result (λ block. block ≡ names.now) }
     {
         names.within_limit();
-        if let Some(name) = only_member(names) {
-            return Ok(Block::one(name));
-        }
-        if are_low(names) {
-            let held = Held::Low(names.block(0));
+        if let Some(held) = held_alone(names) {
             return Ok(Block { held });
         }
         let held = Held::Several(Box::new(alloc, names.copy())?);
@@ -221,18 +218,28 @@ fn move_part<const W: usize>(class: &mut Set<W>, row: &Set<W>, other: &mut Set<W
     }
 }
 
-// Whether all names are below 64.
-fn are_low<const W: usize>(names: &Set<W>) -> bool
+// How a set is kept without a box, if it can be.
+fn held_alone<const W: usize>(names: &Set<W>) -> Option<Held<W>>
+    ensures names { IfSome result (λ held. held_names W held ≡ names.now) }
+    ensures name { IfSome result (IsName W) }
+{
+    let first = names.first_from(0)?;
+    if is_last(names, first) {
+        return Some(Held::One(first));
+    }
+    if are_low(names, first) {
+        return Some(Held::Low(names.block(0)));
+    }
+    None
+}
+
+// Whether all names are below 64. Condition: `first` is one of them.
+fn are_low<const W: usize>(names: &Set<W>, first: u32) -> bool
+    requires { Has names.now first }
     ensures { IsTrue result → (0 < W) × AllBelow names.now 64 }
 {
     let _below = names.members();
-    if W == 1 {
-        return true;
-    }
-    match names.first_from(0) {
-        Some(first) => first < 64 && names.first_from(64).is_none(),
-        None => false,
-    }
+    W == 1 || first < 64 && names.first_from(64).is_none()
 }
 
 /// The member of a set with one member.

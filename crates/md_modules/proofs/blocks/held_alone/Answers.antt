@@ -1,0 +1,10 @@
+use Rattle.std.proofs.Common.{refl, sym}
+use Rattle.md_modules.proofs.BlockLemmas.{low_block, alone_is}
+use Rattle.md_modules.proofs.blocks.held_alone.Goals as goal
+
+pub returns-then-are_low-clause-names : goal.returns-then-are_low-clause-names
+returns-then-are_low-clause-names g c = low_block c.args.names.now c.block.result c.block.ensures (c.if-are_low.ensures refl).1
+
+pub returns-then-is_last-clause-names : goal.returns-then-is_last-clause-names
+returns-then-is_last-clause-names g c =
+    sym (alone_is c.args.names.now c.in_ok-first.first c.in_ok-first.ensures.found (c.is_last.ensures.last c.if-is_last.true))
