@@ -1,13 +1,15 @@
 //! Checks the lines of a report over graphs, one after the other.
 ghost use Rattle.std.specs.Prelude.{◌≡◌, ◌↔◌, if◌then◌else◌, IfOk, IsErr, IsTrue};
-ghost use Rattle.md_report.specs.Lines.{plain_line};
+ghost use Rattle.md_report.specs.Lines.{PlainLine, line_text, plain_line};
 ghost use Rattle.md_report.specs.WellFormedLines.{IsWellFormedLine};
 ghost use Rattle.md_report.specs.Places.{before_head, after_end, MayCome, next_place};
-ghost use Rattle.md_checker.specs.Standing.{graphs_left, Takes};
+ghost use Rattle.md_report.specs.declared.line.GraphMode.TheVariants as graph_modes;
+ghost use Rattle.md_checker.specs.declared.graph_checker.AtHand.TheVariants as at_hand;
+ghost use Rattle.md_checker.specs.Standing.{graphs_left, ReportsFirst, Takes};
 
 use crate::fixed_lines::{is_end, is_head};
-use crate::judgements::{reports, reports_by_text};
-use md_graph::{Graph, Memory};
+use crate::judgements::{is_tree_line, reports, reports_by_text};
+use md_graph::{Graph, GraphOf, Memory};
 use md_input::Graphs;
 use md_report::{GraphMode, Line};
 use std::alloc::Global;
@@ -24,14 +26,27 @@ enum GraphDue {
     Nothing,
 }
 
+// Which graph is at hand: the first one that is left.
+#[derive(Clone, Copy, Debug, PartialEq, Eq)]
+enum AtHand {
+    // None is left.
+    Nothing,
+    // The small one, which takes one word a row: in mode tree alone.
+    Small,
+    // The large one.
+    Large,
+}
+
 // What may still come of a report over graphs: it is seen as a place of the report. It keeps the
-// first graph that is left, where `one` says that there is one, and those behind it.
+// first graph that is left, as `hand` says, and those behind it. Room for a large one is taken at
+// once, so that no graph is lost for want of memory.
 #[derive(Drop)]
 pub(crate) struct GraphChecker<'a> {
     mode: GraphMode,
     due: GraphDue,
-    one: bool,
-    graph: Graph,
+    hand: AtHand,
+    small: GraphOf<1>,
+    large: Graph,
     behind: Graphs<'a>,
 }
 
@@ -44,7 +59,13 @@ impl<'a> Model for GraphChecker<'a> {
 
     ghost coded = { place_code };
 
-    ghost view = { λ c. graph_place c.due c.mode (graphs_left c.one c.graph c.behind) };
+    ghost view = { λ c. graph_place c.due c.mode (graphs_left c.hand c.small c.large c.behind) };
+
+    ghost use Rattle.std.specs.Prelude.{◌≡◌};
+    ghost use Rattle.md_report.specs.declared.line.GraphMode.TheVariants as graph_modes;
+    ghost use Rattle.md_checker.specs.declared.graph_checker.AtHand.TheVariants as at_hand;
+
+    ghost invariant = { λ c. c.hand ≡ at_hand.Small → c.mode ≡ graph_modes.Tree };
 }
 
 impl<'a> GraphChecker<'a> {
@@ -57,13 +78,15 @@ impl<'a> GraphChecker<'a> {
         ensures { IfOk result (λ c. c ≡ before_head mode graphs.entry) }
     {
         let mut behind = graphs;
-        let mut graph = Graph::new(alloc)?;
-        let one = behind.next(&mut graph);
+        let mut small = GraphOf::new(alloc)?;
+        let mut large = Graph::new(alloc)?;
+        let hand = read_next(mode, &mut small, &mut large, &mut behind);
         Ok(GraphChecker {
             mode,
             due: GraphDue::Head,
-            one,
-            graph,
+            hand,
+            small,
+            large,
             behind,
         })
     }
@@ -86,13 +109,11 @@ impl<'a> GraphChecker<'a> {
         if self.due != GraphDue::Graphs {
             return Ok(false);
         }
-        if !self.one {
+        let (mode, hand) = (self.mode, self.hand);
+        if !reports_first_by_text(alloc, mode, hand, &self.small, &self.large, text)? {
             return Ok(false);
         }
-        if !reports_by_text(alloc, self.mode, &self.graph, text)? {
-            return Ok(false);
-        }
-        self.one = read_next(&mut self.graph, &mut self.behind);
+        self.hand = read_next(mode, &mut self.small, &mut self.large, &mut self.behind);
         Ok(true)
     }
 
@@ -114,17 +135,18 @@ impl<'a> GraphChecker<'a> {
                 Ok(true)
             }
             GraphDue::Graphs => {
-                if !self.one {
+                let (mode, hand) = (self.mode, self.hand);
+                if hand == AtHand::Nothing {
                     if !is_end(line) {
                         return Ok(false);
                     }
                     self.due = GraphDue::Nothing;
                     return Ok(true);
                 }
-                if !reports(alloc, self.mode, &self.graph, line)? {
+                if !reports_first(alloc, mode, hand, &self.small, &self.large, line)? {
                     return Ok(false);
                 }
-                self.one = read_next(&mut self.graph, &mut self.behind);
+                self.hand = read_next(mode, &mut self.small, &mut self.large, &mut self.behind);
                 Ok(true)
             }
             GraphDue::Nothing => Ok(false),
@@ -132,10 +154,64 @@ impl<'a> GraphChecker<'a> {
     }
 }
 
-// Whether a graph is left: the graph is then the first of those behind it, which is taken off.
-fn read_next(graph: &mut Graph, behind: &mut Graphs<'_>) -> bool
-    ensures { graphs_left result graph.new behind.new ≡ behind.old }
+// The first of the graphs behind comes at hand, and is taken off.
+fn read_next(
+    mode: GraphMode,
+    small: &mut GraphOf<1>,
+    large: &mut Graph,
+    behind: &mut Graphs<'_>,
+) -> AtHand
+    ensures left { graphs_left result small.new large.new behind.new ≡ behind.old }
+    ensures small { result ≡ at_hand.Small → mode ≡ graph_modes.Tree }
 {
-    graph.clear();
-    behind.next(graph)
+    small.clear();
+    large.clear();
+    if mode == GraphMode::Tree && behind.next_small(small) {
+        return AtHand::Small;
+    }
+    if behind.next(large) {
+        return AtHand::Large;
+    }
+    AtHand::Nothing
+}
+
+// Whether the line reports the graph at hand. Conditions: the line is well-formed, and a small
+// graph is at hand in mode tree alone.
+fn reports_first(
+    alloc: Global,
+    mode: GraphMode,
+    hand: AtHand,
+    small: &GraphOf<1>,
+    large: &Graph,
+    line: &Line,
+) -> Result<bool, Memory>
+    requires line { IsWellFormedLine (plain_line line.now) }
+    requires small { hand ≡ at_hand.Small → mode ≡ graph_modes.Tree }
+    ensures { IfOk result (λ fit. IsTrue fit
+        ↔ ReportsFirst mode hand small.now large.now (plain_line line.now)) }
+{
+    match hand {
+        AtHand::Nothing => Ok(false),
+        AtHand::Small => is_tree_line(alloc, small, line),
+        AtHand::Large => reports(alloc, mode, large, line),
+    }
+}
+
+// Whether the text is that of a line that reports the graph at hand; a false says nothing.
+fn reports_first_by_text(
+    alloc: Global,
+    mode: GraphMode,
+    hand: AtHand,
+    small: &GraphOf<1>,
+    large: &Graph,
+    text: &[u8],
+) -> Result<bool, Memory>
+    ensures { IfOk result (λ fit. IsTrue fit → (line : PlainLine)
+        × ReportsFirst mode hand small.now large.now line × (text.now ≡ line_text line)) }
+{
+    match hand {
+        AtHand::Nothing => Ok(false),
+        AtHand::Small => reports_by_text(alloc, mode, small, text),
+        AtHand::Large => reports_by_text(alloc, mode, large, text),
+    }
 }

@@ -6,6 +6,11 @@ use std::alloc::Global;
 use std::process::Abort;
 use std::test::Fail;
 
+pub(crate) const PATH: [(u32, u32); 3] = [(0, 1), (1, 2), (2, 3)];
+
+// The path on four names, with a twin of its first end.
+pub(crate) const TWINS: [(u32, u32); 4] = [(0, 1), (1, 2), (1, 4), (2, 3)];
+
 // The answer of a report over the graphs of a file of lines.
 fn answer_of(
     rt: &impl Abort,

@@ -8,7 +8,7 @@ ghost use Rattle.md_input.specs.Faults.{graph_fault, IsStopAt};
 use crate::fault::InputStop;
 use crate::format::Format;
 use crate::room::Room;
-use md_graph::{Graph, Memory};
+use md_graph::{Graph, GraphOf, Memory};
 use md_graph6::{Lines, scan};
 use std::alloc::Global;
 use std::marker::Model;
@@ -74,6 +74,21 @@ impl<'a> Graphs<'a> {
             return true;
         }
         self.lines.next(graph)
+    }
+
+    /// Makes the graph the first of the graphs, if that is a line's and small, takes that off, and
+    /// answers true. A false says nothing, and nothing changes then. Condition: the graph has no
+    /// vertices.
+    pub fn next_small(&mut self, graph: &mut GraphOf<1>) -> bool
+        requires { graph.old ≡ empty_graph }
+        ensures first { OnTrue result (self.old ≡ graph.new ∷ self.new) }
+        ensures left { OnFalse result (self.new ≡ self.old) }
+        ensures stays { OnFalse result (graph.new ≡ empty_graph) }
+    {
+        if self.first.is_some() || !self.lines.is_next_small() {
+            return false;
+        }
+        self.lines.next_small(graph)
     }
 
     /// Makes the graph in the room the first of the graphs, takes that off, and answers true; a
