@@ -3,9 +3,8 @@ ghost use Rattle.std.specs.Prelude.{◌≡◌, ◌↔◌, if◌then◌else◌, I
 ghost use Rattle.md_report.specs.Lines.{PlainLine, line_text, plain_line};
 ghost use Rattle.md_report.specs.WellFormedLines.{IsWellFormedLine};
 ghost use Rattle.md_report.specs.Places.{before_head, after_end, MayCome, next_place};
-ghost use Rattle.md_report.specs.declared.line.GraphMode.TheVariants as graph_modes;
-ghost use Rattle.md_checker.specs.declared.graph_checker.AtHand.TheVariants as at_hand;
-ghost use Rattle.md_checker.specs.Standing.{graphs_left, ReportsFirst, Takes};
+ghost use Rattle.md_graph.specs.PlainGraph.{PlainGraph, empty_graph};
+ghost use Rattle.md_checker.specs.Standing.{graphs_left, IsAtHand, ReportsFirst, Takes};
 
 use crate::fixed_lines::{is_end, is_head};
 use crate::judgements::{is_tree_line, reports, reports_by_text};
@@ -14,6 +13,7 @@ use md_input::Graphs;
 use md_report::{GraphMode, Line};
 use std::alloc::Global;
 use std::marker::Model;
+use std::mem::swap;
 
 // Which line of a report over graphs is due.
 #[derive(Clone, Copy, Debug, PartialEq, Eq)]
@@ -38,15 +38,17 @@ enum AtHand {
 }
 
 // What may still come of a report over graphs: it is seen as a place of the report. It keeps the
-// first graph that is left, as `hand` says, and those behind it. Room for a large one is taken at
-// once, so that no graph is lost for want of memory.
+// first graph that is left, as `hand` says, and those behind it. Room for a large one is taken when
+// the first of them comes. The next small one is read into `ahead`, so that none is lost for want of
+// memory.
 #[derive(Drop)]
 pub(crate) struct GraphChecker<'a> {
     mode: GraphMode,
     due: GraphDue,
     hand: AtHand,
     small: GraphOf<1>,
-    large: Graph,
+    ahead: GraphOf<1>,
+    large: Option<Graph>,
     behind: Graphs<'a>,
 }
 
@@ -62,10 +64,10 @@ impl<'a> Model for GraphChecker<'a> {
     ghost view = { λ c. graph_place c.due c.mode (graphs_left c.hand c.small c.large c.behind) };
 
     ghost use Rattle.std.specs.Prelude.{◌≡◌};
-    ghost use Rattle.md_report.specs.declared.line.GraphMode.TheVariants as graph_modes;
-    ghost use Rattle.md_checker.specs.declared.graph_checker.AtHand.TheVariants as at_hand;
+    ghost use Rattle.md_graph.specs.PlainGraph.{empty_graph};
+    ghost use Rattle.md_checker.specs.Standing.{IsAtHand};
 
-    ghost invariant = { λ c. c.hand ≡ at_hand.Small → c.mode ≡ graph_modes.Tree };
+    ghost invariant = { λ c. IsAtHand c.mode c.hand c.large × (c.ahead ≡ empty_graph) };
 }
 
 impl<'a> GraphChecker<'a> {
@@ -79,13 +81,15 @@ impl<'a> GraphChecker<'a> {
     {
         let mut behind = graphs;
         let mut small = GraphOf::new(alloc)?;
-        let mut large = Graph::new(alloc)?;
-        let hand = read_next(mode, &mut small, &mut large, &mut behind);
+        let mut ahead = GraphOf::new(alloc)?;
+        let mut large = None;
+        let hand = read_next(alloc, mode, &mut small, &mut ahead, &mut large, &mut behind)?;
         Ok(GraphChecker {
             mode,
             due: GraphDue::Head,
             hand,
             small,
+            ahead,
             large,
             behind,
         })
@@ -113,7 +117,14 @@ impl<'a> GraphChecker<'a> {
         if !reports_first_by_text(alloc, mode, hand, &self.small, &self.large, text)? {
             return Ok(false);
         }
-        self.hand = read_next(mode, &mut self.small, &mut self.large, &mut self.behind);
+        self.hand = read_next(
+            alloc,
+            mode,
+            &mut self.small,
+            &mut self.ahead,
+            &mut self.large,
+            &mut self.behind,
+        )?;
         Ok(true)
     }
 
@@ -146,7 +157,14 @@ impl<'a> GraphChecker<'a> {
                 if !reports_first(alloc, mode, hand, &self.small, &self.large, line)? {
                     return Ok(false);
                 }
-                self.hand = read_next(mode, &mut self.small, &mut self.large, &mut self.behind);
+                self.hand = read_next(
+                    alloc,
+                    mode,
+                    &mut self.small,
+                    &mut self.ahead,
+                    &mut self.large,
+                    &mut self.behind,
+                )?;
                 Ok(true)
             }
             GraphDue::Nothing => Ok(false),
@@ -154,46 +172,88 @@ impl<'a> GraphChecker<'a> {
     }
 }
 
-// The first of the graphs behind comes at hand, and is taken off.
+// The first of the graphs behind comes at hand, and is taken off. In mode tree a small one is read
+// into `ahead`, and comes into `small` then; `ahead` has no vertices else. Errors: want of memory;
+// nothing changes then.
 fn read_next(
+    alloc: Global,
     mode: GraphMode,
     small: &mut GraphOf<1>,
-    large: &mut Graph,
+    ahead: &mut GraphOf<1>,
+    large: &mut Option<Graph>,
     behind: &mut Graphs<'_>,
-) -> AtHand
-    ensures left { graphs_left result small.new large.new behind.new ≡ behind.old }
-    ensures small { result ≡ at_hand.Small → mode ≡ graph_modes.Tree }
+) -> Result<AtHand, Memory>
+    requires { ahead.old ≡ empty_graph }
+    ensures left { IfOk result (λ hand.
+        graphs_left hand small.new large.new behind.new ≡ behind.old) }
+    ensures there { IfOk result (λ hand. IsAtHand mode hand large.new) }
+    ensures ahead { ahead.new ≡ empty_graph }
+    ensures err_small { IsErr result → small.new ≡ small.old }
+    ensures err_large { IsErr result → large.new ≡ large.old }
+    ensures err_behind { IsErr result → behind.new ≡ behind.old }
 {
-    small.clear();
-    large.clear();
-    if mode == GraphMode::Tree && behind.next_small(small) {
-        return AtHand::Small;
+    if mode != GraphMode::Tree {
+        return read_large(alloc, mode, large, behind);
     }
-    if behind.next(large) {
-        return AtHand::Large;
+    match behind.next_small(ahead) {
+        Some(true) => {
+            swap(small, ahead);
+            ahead.clear();
+            Ok(AtHand::Small)
+        }
+        Some(false) => Ok(AtHand::Nothing),
+        None => read_large(alloc, mode, large, behind),
     }
-    AtHand::Nothing
 }
 
-// Whether the line reports the graph at hand. Conditions: the line is well-formed, and a small
-// graph is at hand in mode tree alone.
+// The same into the room for a large graph, which is taken if it isn't there.
+fn read_large(
+    alloc: Global,
+    mode: GraphMode,
+    large: &mut Option<Graph>,
+    behind: &mut Graphs<'_>,
+) -> Result<AtHand, Memory>
+    ensures left { IfOk result (λ hand. (small : PlainGraph)
+        → graphs_left hand small large.new behind.new ≡ behind.old) }
+    ensures there { IfOk result (λ hand. IsAtHand mode hand large.new) }
+    ensures err_large { IsErr result → large.new ≡ large.old }
+    ensures err_behind { IsErr result → behind.new ≡ behind.old }
+{
+    let mut graph = match large.take() {
+        Some(graph) => graph,
+        None => Graph::new(alloc)?,
+    };
+    graph.clear();
+    let found = behind.next(&mut graph);
+    *large = Some(graph);
+    if found {
+        return Ok(AtHand::Large);
+    }
+    Ok(AtHand::Nothing)
+}
+
+// Whether the line reports the graph at hand. Conditions: the line is well-formed, and the graph is
+// there.
 fn reports_first(
     alloc: Global,
     mode: GraphMode,
     hand: AtHand,
     small: &GraphOf<1>,
-    large: &Graph,
+    large: &Option<Graph>,
     line: &Line,
 ) -> Result<bool, Memory>
     requires line { IsWellFormedLine (plain_line line.now) }
-    requires small { hand ≡ at_hand.Small → mode ≡ graph_modes.Tree }
+    requires there { IsAtHand mode hand large.now }
     ensures { IfOk result (λ fit. IsTrue fit
         ↔ ReportsFirst mode hand small.now large.now (plain_line line.now)) }
 {
     match hand {
         AtHand::Nothing => Ok(false),
         AtHand::Small => is_tree_line(alloc, small, line),
-        AtHand::Large => reports(alloc, mode, large, line),
+        AtHand::Large => match large {
+            Some(graph) => reports(alloc, mode, graph, line),
+            None => unreachable!(),
+        },
     }
 }
 
@@ -203,7 +263,7 @@ fn reports_first_by_text(
     mode: GraphMode,
     hand: AtHand,
     small: &GraphOf<1>,
-    large: &Graph,
+    large: &Option<Graph>,
     text: &[u8],
 ) -> Result<bool, Memory>
     ensures { IfOk result (λ fit. IsTrue fit → (line : PlainLine)
@@ -212,6 +272,9 @@ fn reports_first_by_text(
     match hand {
         AtHand::Nothing => Ok(false),
         AtHand::Small => reports_by_text(alloc, mode, small, text),
-        AtHand::Large => reports_by_text(alloc, mode, large, text),
+        AtHand::Large => match large {
+            Some(graph) => reports_by_text(alloc, mode, graph, text),
+            None => Ok(false),
+        },
     }
 }

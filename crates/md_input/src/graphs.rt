@@ -1,5 +1,5 @@
 //! The graphs of a file, one after the other.
-ghost use Rattle.std.specs.Prelude.{◌≡◌, [], ◌∷◌, None, IfOk, IfErr, IsErr};
+ghost use Rattle.std.specs.Prelude.{◌≡◌, [], ◌∷◌, None, IfOk, IfErr, IfSome, IfNone, IsErr};
 ghost use Rattle.std.specs.Bool.{OnTrue, OnFalse};
 ghost use Rattle.md_graph.specs.PlainGraph.{empty_graph};
 ghost use Rattle.md_input.specs.Spelling.{SpellsGraphs};
@@ -76,19 +76,21 @@ impl<'a> Graphs<'a> {
         self.lines.next(graph)
     }
 
-    /// Makes the graph the first of the graphs, if that is a line's and small, takes that off, and
-    /// answers true. A false says nothing, and nothing changes then. Condition: the graph has no
-    /// vertices.
-    pub fn next_small(&mut self, graph: &mut GraphOf<1>) -> bool
+    /// As `next`, into a graph of one word a row. None where the next graph isn't a small one of a
+    /// line: nothing changes then. Condition: the graph has no vertices.
+    pub fn next_small(&mut self, graph: &mut GraphOf<1>) -> Option<bool>
         requires { graph.old ≡ empty_graph }
-        ensures first { OnTrue result (self.old ≡ graph.new ∷ self.new) }
-        ensures left { OnFalse result (self.new ≡ self.old) }
-        ensures stays { OnFalse result (graph.new ≡ empty_graph) }
+        ensures first { IfSome result (λ found. OnTrue found (self.old ≡ graph.new ∷ self.new)) }
+        ensures none { IfSome result (λ found. OnFalse found (self.old ≡ [])) }
+        ensures none_left { IfSome result (λ found. OnFalse found (self.new ≡ [])) }
+        ensures stays { IfSome result (λ found. OnFalse found (graph.new ≡ empty_graph)) }
+        ensures left { IfNone result (self.new ≡ self.old) }
+        ensures left_empty { IfNone result (graph.new ≡ empty_graph) }
     {
         if self.first.is_some() || !self.lines.is_next_small() {
-            return false;
+            return None;
         }
-        self.lines.next_small(graph)
+        Some(self.lines.next_small(graph))
     }
 
     /// Makes the graph in the room the first of the graphs, takes that off, and answers true; a
