@@ -39,8 +39,8 @@ enum AtHand {
 
 // What may still come of a report over graphs: it is seen as a place of the report. It keeps the
 // first graph that is left, as `hand` says, and those behind it. Room for a large one is taken when
-// the first of them comes. The next small one is read into `ahead`, so that none is lost for want of
-// memory.
+// the first of them comes. The next small one is read into `ahead`: so the one at hand stays until
+// it is known that there is memory.
 #[derive(Drop)]
 pub(crate) struct GraphChecker<'a> {
     mode: GraphMode,
