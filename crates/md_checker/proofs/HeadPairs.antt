@@ -1,16 +1,17 @@
 -- The pairs of adjacent heads: their text, piece by piece, and what a prime node that lists them is.
-use Rattle.std.proofs.Common.{◌≡◌, ◌≢◌, ℕ, zero, suc, ◌+◌, ◌-◌, ◌<◌, ◌≤◌, Bool, true, false, cond, min, max, true≢false, List, [], ◌∷◌, ◌++◌, length, get_or, drop, Option, Some, None, IfSome, append_assoc, append-nil, refl, sym, ◌∙◌, ap, ap₂, subst, inl, inr, arith}
+use Rattle.std.proofs.Common.{◌≡◌, ◌≢◌, ℕ, zero, suc, ◌+◌, ◌-◌, ◌*◌, ◌<◌, ◌≤◌, Bool, true, false, cond, min, max, true≢false, List, [], ◌∷◌, ◌++◌, length, get_or, drop, Option, Some, None, IfSome, append_assoc, append-nil, refl, sym, ◌∙◌, ap, ap₂, subst, inl, inr, arith}
 use Rattle.std.specs.Prelude.{⊤}
 use Rattle.std.specs.List.{All}
 use Rattle.std.proofs.lemmas.Bool.{cases_Bool}
 use Rattle.std.proofs.lemmas.List.{drop_more}
 use Rattle.std.specs.Cmp.{both_ways}
 use Rattle.std.specs.FinSet.{contains, insert, remove, intersection}
-use Rattle.md_graph.specs.declared.TheConstants.{NAMES}
-use Rattle.md_graph.specs.NameSet.{ascending, ascending_between}
+use Rattle.md_graph.specs.declared.TheConstants.{NAMES, WORDS}
+use Rattle.md_graph.specs.NameSet.{AllBelow, ascending, ascending_between}
 use Rattle.md_graph.specs.PlainGraph.{PlainGraph, IsGraph, adjacent, neighbours}
 use Rattle.md_graph.specs.Sets.{NameSet, Has}
 use Rattle.md_graph.proofs.GraphLemmas.{contains-neighbours}
+use Rattle.md_graph.proofs.Limits.{words_few}
 use Rattle.md_graph.proofs.NameLemmas.{ascending_step, ascending_none}
 use Rattle.md_graph.proofs.SetLemmas.{clash, same_members, insert_old, insert_new, of_insert, of_remove, remove_left, of_meet, meet_has, empty_lacks}
 use Rattle.md_text.specs.declared.piece.Piece.{Piece}
@@ -289,6 +290,13 @@ heads_begin g list text mark gathered later pieces is none all places = record {
   later_is = all;
   places = places;
 }
+
+-- the heads are names, however many words a row has
+pub names_few : {w : ℕ} (s : NameSet) (list : List ℕ) → w ≤ WORDS → AllBelow s (64 * w) → ((i : ℕ) → i < length list → Has s (get_or list i 0)) → (i : ℕ) → i < length list → get_or list i 0 < NAMES
+names_few {w} s list limit below members i b =
+    let small : get_or list i 0 < 64 * w = below (get_or list i 0) (members i b) in
+    let few : 64 * w ≤ NAMES = words_few w limit in
+    omega arith
 
 module _ {g : PlainGraph} (graph : IsGraph g) (list : List ℕ) (up : (i j : ℕ) → i < j → j < length list → get_or list i 0 < get_or list j 0) (names : (i : ℕ) → i < length list → get_or list i 0 < NAMES)
     (i : ℕ) (below : i < length list) (text rest : List ℕ) (mark : ℕ) (gathered : List ℕ) (later : NameSet) (pieces : List Piece) (p : ArePassedHeads g list i text rest mark gathered later pieces)

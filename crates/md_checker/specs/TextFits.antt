@@ -44,14 +44,14 @@ pub record IsReadInsideBy (g : PlainGraph) (bytes rest : List ℕ) (inner : Open
   pub comes : IsInside bytes rest inner opens trees
 
 -- the bytes before the rest are read, and this is kept
-abbrev pub IsRead : PlainGraph → List ℕ → List ℕ → Bool → Walk → Type 0
+abbrev pub IsRead : {w : ℕ} → PlainGraph → List ℕ → List ℕ → Bool → Walk w → Type 0
 IsRead g bytes rest behind w =
     IsReadBy g bytes rest behind w.sets.items w.heads.items w.kinds.items w.opens.items w.seen
 
-abbrev pub IsReadInside : PlainGraph → List ℕ → List ℕ → Opened → Walk → Type 0
+abbrev pub IsReadInside : {w : ℕ} → PlainGraph → List ℕ → List ℕ → Opened → Walk w → Type 0
 IsReadInside g bytes rest inner w =
     IsReadInsideBy g bytes rest inner w.sets.items w.heads.items w.kinds.items w.opens.items w.seen
 
 -- some of the text is read as well
-abbrev pub IsReadOn : PlainGraph → List ℕ → List ℕ → List ℕ → Bool → Walk → Type 0
+abbrev pub IsReadOn : {w : ℕ} → PlainGraph → List ℕ → List ℕ → List ℕ → Bool → Walk w → Type 0
 IsReadOn g bytes text rest behind w = IsRead g bytes rest behind w × (length rest < length text)

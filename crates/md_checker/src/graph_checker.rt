@@ -1,17 +1,19 @@
 //! Checks the lines of a report over graphs, one after the other.
 ghost use Rattle.std.specs.Prelude.{◌≡◌, ◌↔◌, if◌then◌else◌, IfOk, IsErr, IsTrue};
-ghost use Rattle.md_report.specs.Lines.{plain_line};
+ghost use Rattle.md_report.specs.Lines.{PlainLine, line_text, plain_line};
 ghost use Rattle.md_report.specs.WellFormedLines.{IsWellFormedLine};
 ghost use Rattle.md_report.specs.Places.{before_head, after_end, MayCome, next_place};
-ghost use Rattle.md_checker.specs.Standing.{graphs_left, Takes};
+ghost use Rattle.md_graph.specs.PlainGraph.{PlainGraph, empty_graph};
+ghost use Rattle.md_checker.specs.Standing.{graphs_left, IsAtHand, ReportsFirst, Takes};
 
 use crate::fixed_lines::{is_end, is_head};
-use crate::judgements::{reports, reports_by_text};
-use md_graph::{Graph, Memory};
+use crate::judgements::{is_tree_line, reports, reports_by_text};
+use md_graph::{Graph, GraphOf, Memory};
 use md_input::Graphs;
 use md_report::{GraphMode, Line};
 use std::alloc::Global;
 use std::marker::Model;
+use std::mem::swap;
 
 // Which line of a report over graphs is due.
 #[derive(Clone, Copy, Debug, PartialEq, Eq)]
@@ -24,14 +26,29 @@ enum GraphDue {
     Nothing,
 }
 
+// Which graph is at hand: the first one that is left.
+#[derive(Clone, Copy, Debug, PartialEq, Eq)]
+enum AtHand {
+    // None is left.
+    Nothing,
+    // The small one, which takes one word a row: in mode tree alone.
+    Small,
+    // The large one.
+    Large,
+}
+
 // What may still come of a report over graphs: it is seen as a place of the report. It keeps the
-// first graph that is left, where `one` says that there is one, and those behind it.
+// first graph that is left, as `hand` says, and those behind it. Room for a large one is taken when
+// the first of them comes. The next small one is read into `ahead`: so the one at hand stays until
+// it is known that there is memory.
 #[derive(Drop)]
 pub(crate) struct GraphChecker<'a> {
     mode: GraphMode,
     due: GraphDue,
-    one: bool,
-    graph: Graph,
+    hand: AtHand,
+    small: GraphOf<1>,
+    ahead: GraphOf<1>,
+    large: Option<Graph>,
     behind: Graphs<'a>,
 }
 
@@ -44,7 +61,13 @@ impl<'a> Model for GraphChecker<'a> {
 
     ghost coded = { place_code };
 
-    ghost view = { λ c. graph_place c.due c.mode (graphs_left c.one c.graph c.behind) };
+    ghost view = { λ c. graph_place c.due c.mode (graphs_left c.hand c.small c.large c.behind) };
+
+    ghost use Rattle.std.specs.Prelude.{◌≡◌};
+    ghost use Rattle.md_graph.specs.PlainGraph.{empty_graph};
+    ghost use Rattle.md_checker.specs.Standing.{IsAtHand};
+
+    ghost invariant = { λ c. IsAtHand c.mode c.hand c.large × (c.ahead ≡ empty_graph) };
 }
 
 impl<'a> GraphChecker<'a> {
@@ -57,13 +80,17 @@ impl<'a> GraphChecker<'a> {
         ensures { IfOk result (λ c. c ≡ before_head mode graphs.entry) }
     {
         let mut behind = graphs;
-        let mut graph = Graph::new(alloc)?;
-        let one = behind.next(&mut graph);
+        let mut small = GraphOf::new(alloc)?;
+        let mut ahead = GraphOf::new(alloc)?;
+        let mut large = None;
+        let hand = read_next(alloc, mode, &mut small, &mut ahead, &mut large, &mut behind)?;
         Ok(GraphChecker {
             mode,
             due: GraphDue::Head,
-            one,
-            graph,
+            hand,
+            small,
+            ahead,
+            large,
             behind,
         })
     }
@@ -86,13 +113,18 @@ impl<'a> GraphChecker<'a> {
         if self.due != GraphDue::Graphs {
             return Ok(false);
         }
-        if !self.one {
+        let (mode, hand) = (self.mode, self.hand);
+        if !reports_first_by_text(alloc, mode, hand, &self.small, &self.large, text)? {
             return Ok(false);
         }
-        if !reports_by_text(alloc, self.mode, &self.graph, text)? {
-            return Ok(false);
-        }
-        self.one = read_next(&mut self.graph, &mut self.behind);
+        self.hand = read_next(
+            alloc,
+            mode,
+            &mut self.small,
+            &mut self.ahead,
+            &mut self.large,
+            &mut self.behind,
+        )?;
         Ok(true)
     }
 
@@ -114,17 +146,25 @@ impl<'a> GraphChecker<'a> {
                 Ok(true)
             }
             GraphDue::Graphs => {
-                if !self.one {
+                let (mode, hand) = (self.mode, self.hand);
+                if hand == AtHand::Nothing {
                     if !is_end(line) {
                         return Ok(false);
                     }
                     self.due = GraphDue::Nothing;
                     return Ok(true);
                 }
-                if !reports(alloc, self.mode, &self.graph, line)? {
+                if !reports_first(alloc, mode, hand, &self.small, &self.large, line)? {
                     return Ok(false);
                 }
-                self.one = read_next(&mut self.graph, &mut self.behind);
+                self.hand = read_next(
+                    alloc,
+                    mode,
+                    &mut self.small,
+                    &mut self.ahead,
+                    &mut self.large,
+                    &mut self.behind,
+                )?;
                 Ok(true)
             }
             GraphDue::Nothing => Ok(false),
@@ -132,10 +172,109 @@ impl<'a> GraphChecker<'a> {
     }
 }
 
-// Whether a graph is left: the graph is then the first of those behind it, which is taken off.
-fn read_next(graph: &mut Graph, behind: &mut Graphs<'_>) -> bool
-    ensures { graphs_left result graph.new behind.new ≡ behind.old }
+// The first of the graphs behind comes at hand, and is taken off. In mode tree a small one is read
+// into `ahead`, and comes into `small` then; `ahead` has no vertices else. Errors: want of memory;
+// nothing changes then.
+fn read_next(
+    alloc: Global,
+    mode: GraphMode,
+    small: &mut GraphOf<1>,
+    ahead: &mut GraphOf<1>,
+    large: &mut Option<Graph>,
+    behind: &mut Graphs<'_>,
+) -> Result<AtHand, Memory>
+    requires { ahead.old ≡ empty_graph }
+    ensures left { IfOk result (λ hand.
+        graphs_left hand small.new large.new behind.new ≡ behind.old) }
+    ensures there { IfOk result (λ hand. IsAtHand mode hand large.new) }
+    ensures ahead { ahead.new ≡ empty_graph }
+    ensures err_small { IsErr result → small.new ≡ small.old }
+    ensures err_large { IsErr result → large.new ≡ large.old }
+    ensures err_behind { IsErr result → behind.new ≡ behind.old }
 {
+    if mode != GraphMode::Tree {
+        return read_large(alloc, mode, large, behind);
+    }
+    match behind.next_small(ahead) {
+        Some(true) => {
+            swap(small, ahead);
+            ahead.clear();
+            Ok(AtHand::Small)
+        }
+        Some(false) => Ok(AtHand::Nothing),
+        None => read_large(alloc, mode, large, behind),
+    }
+}
+
+// The same into the room for a large graph, which is taken if it isn't there.
+fn read_large(
+    alloc: Global,
+    mode: GraphMode,
+    large: &mut Option<Graph>,
+    behind: &mut Graphs<'_>,
+) -> Result<AtHand, Memory>
+    ensures left { IfOk result (λ hand. (small : PlainGraph)
+        → graphs_left hand small large.new behind.new ≡ behind.old) }
+    ensures there { IfOk result (λ hand. IsAtHand mode hand large.new) }
+    ensures err_large { IsErr result → large.new ≡ large.old }
+    ensures err_behind { IsErr result → behind.new ≡ behind.old }
+{
+    let mut graph = match large.take() {
+        Some(graph) => graph,
+        None => Graph::new(alloc)?,
+    };
     graph.clear();
-    behind.next(graph)
+    let found = behind.next(&mut graph);
+    *large = Some(graph);
+    if found {
+        return Ok(AtHand::Large);
+    }
+    Ok(AtHand::Nothing)
+}
+
+// Whether the line reports the graph at hand. Conditions: the line is well-formed, and the graph is
+// there.
+fn reports_first(
+    alloc: Global,
+    mode: GraphMode,
+    hand: AtHand,
+    small: &GraphOf<1>,
+    large: &Option<Graph>,
+    line: &Line,
+) -> Result<bool, Memory>
+    requires line { IsWellFormedLine (plain_line line.now) }
+    requires there { IsAtHand mode hand large.now }
+    ensures { IfOk result (λ fit. IsTrue fit
+        ↔ ReportsFirst mode hand small.now large.now (plain_line line.now)) }
+{
+    match hand {
+        AtHand::Nothing => Ok(false),
+        AtHand::Small => is_tree_line(alloc, small, line),
+        AtHand::Large => match large {
+            Some(graph) => reports(alloc, mode, graph, line),
+            None => unreachable!(),
+        },
+    }
+}
+
+// Whether the text is that of a line that reports the graph at hand; a false says nothing.
+fn reports_first_by_text(
+    alloc: Global,
+    mode: GraphMode,
+    hand: AtHand,
+    small: &GraphOf<1>,
+    large: &Option<Graph>,
+    text: &[u8],
+) -> Result<bool, Memory>
+    ensures { IfOk result (λ fit. IsTrue fit → (line : PlainLine)
+        × ReportsFirst mode hand small.now large.now line × (text.now ≡ line_text line)) }
+{
+    match hand {
+        AtHand::Nothing => Ok(false),
+        AtHand::Small => reports_by_text(alloc, mode, small, text),
+        AtHand::Large => match large {
+            Some(graph) => reports_by_text(alloc, mode, graph, text),
+            None => Ok(false),
+        },
+    }
 }

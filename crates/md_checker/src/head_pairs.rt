@@ -12,7 +12,7 @@ ghost use Rattle.md_checker.specs.FitTests.{AreHeads, name_set};
 ghost use Rattle.md_checker.specs.HeadPairs.{near_heads, near_pairs, head_pairs, ArePlaces, Matches, MatchesPairs};
 
 use crate::tree_fit::set_of;
-use md_graph::{Graph, Members, Memory, Names};
+use md_graph::{GraphOf, Members, Memory, Set};
 use md_text::{CHUNK_SIZE, Chunk, Piece, digits_piece, number_piece, piece_behind};
 use md_tree::skip_byte;
 use std::alloc::Global;
@@ -42,8 +42,8 @@ impl PairSpace {
 // What stands behind the pairs of a prime node with these heads, and behind its bracket; none if
 // the text doesn't begin with them, or if there is no pair. Condition: there are as few heads as
 // names.
-pub(crate) fn past_pairs<'a>(
-    graph: &Graph,
+pub(crate) fn past_pairs<'a, const W: usize>(
+    graph: &GraphOf<W>,
     heads: &[u32],
     text: &'a [u8],
     space: &mut PairSpace,
@@ -87,19 +87,19 @@ fn spell_places(places: &mut Vec<Piece>, bound: u32, heads: &[u32]) -> Result<()
     Ok(())
 }
 
-// Makes places until there are as many.
+// Makes places, so that there are as many.
 fn make_places(places: &mut Vec<Piece>, count: usize) -> Result<(), Memory>
     ensures { IfOk result (λ _. count ≤ length places.new.items) }
 {
-    while places.len() < count {
-        places.push(digits_piece(0))?;
+    if places.len() < count {
+        places.resize(count, digits_piece(0))?;
     }
     Ok(())
 }
 
 // Compares the pairs of the heads, of which the last ones may still be gathered.
-fn past_heads<'a>(
-    graph: &Graph,
+fn past_heads<'a, const W: usize>(
+    graph: &GraphOf<W>,
     heads: &[u32],
     text: &'a [u8],
     space: &mut PairSpace,
@@ -124,7 +124,12 @@ fn past_heads<'a>(
 }
 
 // Compares the pairs of the position `low` with those of the near heads.
-fn past_row<'a>(near: &Names, low: u32, text: &'a [u8], space: &mut PairSpace) -> Option<&'a [u8]>
+fn past_row<'a, const W: usize>(
+    near: &Set<W>,
+    low: u32,
+    text: &'a [u8],
+    space: &mut PairSpace,
+) -> Option<&'a [u8]>
     requires low { low < 10 ^ 5 }
     requires there { All (λ v. v < length space.old.places.items) (ascending near.now) }
     ensures matches { IfSome result (λ rest. (e : ℕ → ℕ → Bool) (v j : ℕ) (ws whole : List ℕ)

@@ -27,7 +27,7 @@ use crate::fixed_lines::is_end;
 use crate::text_fit::is_word_and_tree;
 use crate::tree_fit::fits;
 use md_forcing::{Chain, Side};
-use md_graph::{Graph, Memory};
+use md_graph::{Graph, GraphOf, Memory};
 use md_modules::{P4, is_p4};
 use md_orientation::{Ending, walk};
 use md_report::{GraphMode, Line, SessionMode, made_p4};
@@ -53,10 +53,10 @@ pub(crate) fn reports(
 }
 
 // Whether the text is that of a line that reports the graph; a false says nothing.
-pub(crate) fn reports_by_text(
+pub(crate) fn reports_by_text<const W: usize>(
     alloc: Global,
     mode: GraphMode,
-    graph: &Graph,
+    graph: &GraphOf<W>,
     text: &[u8],
 ) -> Result<bool, Memory>
     ensures { IfOk result (λ fit. IsTrue fit → (line : PlainLine) × Reports mode graph.now line
@@ -69,8 +69,12 @@ pub(crate) fn reports_by_text(
     }
 }
 
-// Whether the line is that of the tree of the graph.
-fn is_tree_line(alloc: Global, graph: &Graph, line: &Line) -> Result<bool, Memory>
+// Whether the line is that of the tree of the graph. Condition: the line is well-formed.
+pub(crate) fn is_tree_line<const W: usize>(
+    alloc: Global,
+    graph: &GraphOf<W>,
+    line: &Line,
+) -> Result<bool, Memory>
     requires { IsWellFormedLine (plain_line line.now) }
     ensures { IfOk result (λ fit. IsTrue fit ↔ HasTreeLine tree graph.now (plain_line line.now)) }
 {

@@ -6,6 +6,11 @@ use std::alloc::Global;
 use std::process::Abort;
 use std::test::Fail;
 
+pub(crate) const PATH: [(u32, u32); 3] = [(0, 1), (1, 2), (2, 3)];
+
+// The path on four names, with a twin of its first end.
+pub(crate) const TWINS: [(u32, u32); 4] = [(0, 1), (1, 2), (1, 4), (2, 3)];
+
 // The answer of a report over the graphs of a file of lines.
 fn answer_of(
     rt: &impl Abort,
@@ -103,6 +108,28 @@ fn reports_over_graphs(rt: HostRuntime) {
         let got = answer_of(&rt, rt.alloc(), *mode, *file, *report);
         assert!(&rt; got == *want);
     }
+}
+
+// Graphs of 2, 64 and 2 vertices.
+#[test]
+fn small_and_large_graphs(rt: HostRuntime) -> Result<(), Fail> {
+    let alloc = rt.alloc();
+    let mut file = Vec::new(alloc);
+    file.extend_from_slice(b"A_\n~?@?")?;
+    for _ in 0..336 {
+        file.push(b'?')?;
+    }
+    file.extend_from_slice(b"\nA_\n")?;
+    let mut report = Vec::new(alloc);
+    report.extend_from_slice(b"mdt tree\nt S(0,1)\nt P(0")?;
+    for v in 1..64 {
+        let name = format!(in alloc; ",{v}")?;
+        report.extend_from_slice(name.as_bytes())?;
+    }
+    report.extend_from_slice(b")\nt S(0,1)\nend\n")?;
+    let answer = answer_of(&rt, alloc, GraphMode::Tree, &file, &report);
+    assert!(&rt; answer == CheckAnswer::Accepted);
+    Ok(())
 }
 
 // The answer of a report of a session on the one graph of a file of lines.

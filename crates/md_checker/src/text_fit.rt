@@ -16,7 +16,7 @@ ghost use Rattle.md_checker.specs.TextFits.{MayHaveKinds, IsRead, IsReadInside, 
 
 use crate::head_pairs::{PairSpace, past_pairs};
 use crate::tree_fit::{are_alike, has_trivial_modules_alone, is_fit, set_of};
-use md_graph::{Graph, Memory, NAMES, Names, WORDS};
+use md_graph::{GraphOf, Memory, NAMES, Set, WORDS};
 use md_modules::Block;
 use md_tree::{Kind, Opened, skip_byte, small_number, split_letter};
 use std::alloc::Global;
@@ -24,12 +24,12 @@ use std::alloc::Global;
 // What is kept of a text that is read: of each finished tree its names, its head and the kind of
 // its root, if that is a node; the nodes that are open; and all names.
 #[derive(Drop)]
-struct Walk {
-    sets: Vec<Block<WORDS>>,
+struct Walk<const W: usize> {
+    sets: Vec<Block<W>>,
     heads: Vec<u32>,
     kinds: Vec<Option<Kind>>,
     opens: Vec<Opened>,
-    seen: Names,
+    seen: Set<W>,
     space: PairSpace,
 }
 
@@ -37,17 +37,25 @@ struct Walk {
 // given up where anything is odd. One pass over the text, no tree is built and no pair is kept: of
 // the pairs of a prime node those that the rows of the graph demand are compared with the text.
 // Errors: want of memory.
-pub(crate) fn is_text_of_tree(alloc: Global, graph: &Graph, text: &[u8]) -> Result<bool, Memory>
+pub(crate) fn is_text_of_tree<const W: usize>(
+    alloc: Global,
+    graph: &GraphOf<W>,
+    text: &[u8],
+) -> Result<bool, Memory>
     ensures { IfOk result (λ fit. IsTrue fit → (t : PlainTree) × IsWellFormed (Some t)
         × IsTreeOf (adjacent graph.now) graph.now.vertices t × (text.now ≡ tree_text t)) }
 {
     let _vertices = graph.vertices();
+    let size = graph.count() as usize;
+    let sets = Vec::with_capacity(alloc, size)?;
+    let heads = Vec::with_capacity(alloc, size)?;
+    let kinds = Vec::with_capacity(alloc, size)?;
     let mut walk = Walk {
-        sets: Vec::new(alloc),
-        heads: Vec::new(alloc),
-        kinds: Vec::new(alloc),
+        sets,
+        heads,
+        kinds,
         opens: Vec::new(alloc),
-        seen: Names::none(),
+        seen: Set::none(),
         space: PairSpace::new(alloc),
     };
     let mut rest = text;
@@ -63,9 +71,9 @@ pub(crate) fn is_text_of_tree(alloc: Global, graph: &Graph, text: &[u8]) -> Resu
 }
 
 // The same of a text that is a word and behind it a tree's text.
-pub(crate) fn is_word_and_tree(
+pub(crate) fn is_word_and_tree<const W: usize>(
     alloc: Global,
-    graph: &Graph,
+    graph: &GraphOf<W>,
     word: &[u8],
     text: &[u8],
 ) -> Result<bool, Memory>
@@ -80,7 +88,7 @@ pub(crate) fn is_word_and_tree(
 }
 
 // Whether no node is open, and all names are the vertices of the graph.
-fn is_whole(graph: &Graph, walk: &Walk) -> bool
+fn is_whole<const W: usize>(graph: &GraphOf<W>, walk: &Walk<W>) -> bool
     ensures closed { IsTrue result → walk.now.opens.items ≡ [] }
     ensures all { IsTrue result → walk.now.seen ≡ graph.now.vertices }
 {
@@ -91,12 +99,12 @@ fn is_whole(graph: &Graph, walk: &Walk) -> bool
 }
 
 // What is left behind one token, and whether it stands behind a tree.
-fn take_step<'a>(
+fn take_step<'a, const W: usize>(
     alloc: Global,
-    graph: &Graph,
+    graph: &GraphOf<W>,
     text: &'a [u8],
     behind: bool,
-    walk: &mut Walk,
+    walk: &mut Walk<W>,
 ) -> Result<Option<(&'a [u8], bool)>, Memory>
     requires { (bytes : List ℕ) × IsRead graph.now bytes text.now behind walk.old }
     ensures { IfOk result (λ o. IfSome o (λ p. (bytes : List ℕ)
@@ -116,11 +124,11 @@ fn take_step<'a>(
 }
 
 // A name: it has to be a vertex and new.
-fn take_name<'a>(
-    graph: &Graph,
+fn take_name<'a, const W: usize>(
+    graph: &GraphOf<W>,
     name: u32,
     tail: &'a [u8],
-    walk: &mut Walk,
+    walk: &mut Walk<W>,
 ) -> Result<Option<(&'a [u8], bool)>, Memory>
     ensures { IfOk result (λ o. IfSome o (λ p. (bytes text : List ℕ)
         → IsNumberSplit text name tail.now → IsRead graph.now bytes text false walk.old
@@ -141,10 +149,10 @@ fn take_name<'a>(
 }
 
 // Behind the letter of a node.
-fn begin_node<'a>(
+fn begin_node<'a, const W: usize>(
     kind: Kind,
     tail: &'a [u8],
-    walk: &mut Walk,
+    walk: &mut Walk<W>,
 ) -> Result<Option<(&'a [u8], bool)>, Memory>
     ensures { IfOk result (λ o. IfSome o (λ p. (g : PlainGraph) (bytes text : List ℕ)
         → text ≡ letter kind ∷ tail.now → IsRead g bytes text false walk.old
@@ -165,11 +173,11 @@ fn begin_node<'a>(
 }
 
 // Behind a tree in an open node: a comma, or the end of the node.
-fn step_behind<'a>(
+fn step_behind<'a, const W: usize>(
     alloc: Global,
-    graph: &Graph,
+    graph: &GraphOf<W>,
     text: &'a [u8],
-    walk: &mut Walk,
+    walk: &mut Walk<W>,
 ) -> Result<Option<(&'a [u8], bool)>, Memory>
     requires { (bytes : List ℕ) × IsRead graph.now bytes text.now true walk.old }
     ensures { IfOk result (λ o. IfSome o (λ p. (bytes : List ℕ)
@@ -189,7 +197,7 @@ fn step_behind<'a>(
 }
 
 // Behind a comma, which stands in an open node.
-fn behind_comma<'a>(tail: &'a [u8], walk: &Walk) -> Option<(&'a [u8], bool)>
+fn behind_comma<'a, const W: usize>(tail: &'a [u8], walk: &Walk<W>) -> Option<(&'a [u8], bool)>
     ensures { IfSome result (λ p. (g : PlainGraph) (bytes text : List ℕ) → text ≡ 44 ∷ tail.now
         → IsRead g bytes text true walk.now → IsReadOn g bytes text p.0.now p.1 walk.now) }
 {
@@ -200,12 +208,12 @@ fn behind_comma<'a>(tail: &'a [u8], walk: &Walk) -> Option<(&'a [u8], bool)>
 }
 
 // The end of a node, where its children are such as its kind asks, and in order, and it fits.
-fn end_node<'a>(
+fn end_node<'a, const W: usize>(
     alloc: Global,
-    graph: &Graph,
+    graph: &GraphOf<W>,
     text: &'a [u8],
     inner: Opened,
-    walk: &mut Walk,
+    walk: &mut Walk<W>,
 ) -> Result<Option<&'a [u8]>, Memory>
     requires { (bytes : List ℕ) × IsReadInside graph.now bytes text.now inner walk.old }
     ensures { IfOk result (λ o. IfSome o (λ tail. (bytes : List ℕ)
@@ -239,10 +247,15 @@ fn end_node<'a>(
 }
 
 // A node takes the place of its children.
-fn close(alloc: Global, inner: Opened, names: Names, walk: &mut Walk) -> Result<(), Memory>
+fn close<const W: usize>(
+    alloc: Global,
+    inner: Opened,
+    names: Set<W>,
+    walk: &mut Walk<W>,
+) -> Result<(), Memory>
     requires sets { inner.first ≤ vec_len walk.old.sets }
     ensures sets { IfOk result (λ _. walk.new.sets.items
-        ≡ take inner.first walk.old.sets.items ++ names ∷ []) }
+        ≡ take inner.first walk.old.sets.items ++ names.entry ∷ []) }
     ensures heads { IfOk result (λ _. walk.new.heads.items
         ≡ take (inner.first + 1) walk.old.heads.items) }
     ensures kinds { IfOk result (λ _. walk.new.kinds.items
@@ -260,12 +273,12 @@ fn close(alloc: Global, inner: Opened, names: Names, walk: &mut Walk) -> Result<
 }
 
 // What stands behind the pairs and the bracket of a node with these names and heads, if it fits.
-fn past_end<'a>(
+fn past_end<'a, const W: usize>(
     alloc: Global,
-    graph: &Graph,
+    graph: &GraphOf<W>,
     text: &'a [u8],
     kind: Kind,
-    names: &Names,
+    names: &Set<W>,
     heads: &[u32],
     space: &mut PairSpace,
 ) -> Result<Option<&'a [u8]>, Memory>
@@ -284,12 +297,12 @@ fn past_end<'a>(
 }
 
 // The same for a node without pairs.
-fn past_bracket<'a>(
+fn past_bracket<'a, const W: usize>(
     alloc: Global,
-    graph: &Graph,
+    graph: &GraphOf<W>,
     text: &'a [u8],
     kind: Kind,
-    names: &Names,
+    names: &Set<W>,
     heads: &[u32],
 ) -> Result<Option<&'a [u8]>, Memory>
     requires heads { AreHeads graph.now.vertices [] heads.now }
@@ -308,11 +321,11 @@ fn past_bracket<'a>(
 }
 
 // The same for a prime node.
-fn past_prime_end<'a>(
+fn past_prime_end<'a, const W: usize>(
     alloc: Global,
-    graph: &Graph,
+    graph: &GraphOf<W>,
     text: &'a [u8],
-    names: &Names,
+    names: &Set<W>,
     heads: &[u32],
     space: &mut PairSpace,
 ) -> Result<Option<&'a [u8]>, Memory>
@@ -337,10 +350,11 @@ fn past_prime_end<'a>(
 }
 
 // The union of sets.
-fn union_of_blocks(sets: &[Block<WORDS>]) -> Names
+fn union_of_blocks<const W: usize>(sets: &[Block<W>]) -> Set<W>
+    requires { W ≤ WORDS }
     ensures { result ≡ union_all sets.now }
 {
-    let mut all = Names::none();
+    let mut all = Set::none();
     for set in sets {
         set.add_to(&mut all);
     }
@@ -373,13 +387,10 @@ fn ascends(numbers: &[u32]) -> bool
 #[cfg(test)]
 mod tests {
     use super::*;
+    use crate::tests::{PATH, TWINS};
+    use md_graph::Graph;
     use std::process::Abort;
     use std::test::Fail;
-
-    const PATH: [(u32, u32); 3] = [(0, 1), (1, 2), (2, 3)];
-
-    // The path on four names, with a twin of its first end.
-    const TWINS: [(u32, u32); 4] = [(0, 1), (1, 2), (1, 4), (2, 3)];
 
     // A path whose ends are the last two names that are left after nine.
     const LONG: [(u32, u32); 10] = [

@@ -1,10 +1,9 @@
 //! Whether a given tree is the tree of strong modules of a graph. No tree is computed.
-ghost use Rattle.std.specs.Prelude.{◌≡◌, ◌↔◌, ◌<◌, ℕ, Bool, List, length, get_or, replicate, IfOk, IsTrue, Some};
+ghost use Rattle.std.specs.Prelude.{◌≡◌, ◌↔◌, ◌*◌, ◌<◌, ◌≤◌, ℕ, Bool, List, length, get_or, replicate, IfOk, IsTrue, Some};
 ghost use Rattle.std.specs.FinSet.{contains};
 ghost use Rattle.md_graph.specs.PlainGraph.{adjacent};
 ghost use Rattle.md_graph.specs.Rows.{row_of};
 ghost use Rattle.md_graph.specs.Sets.{Has, Within};
-ghost use Rattle.md_graph.specs.declared.TheConstants.{NAMES};
 ghost use Rattle.md_modules.specs.Modules.{HasTrivialModulesAlone};
 ghost use Rattle.md_tree.specs.Parts.{name as leaf_part, inner, part_of};
 ghost use Rattle.md_tree.specs.Plain.{plain, plain_option};
@@ -15,7 +14,7 @@ ghost use Rattle.md_tree.specs.Trees.{PlainTree};
 ghost use Rattle.md_tree.specs.WellFormed.{IsWellFormed};
 ghost use Rattle.md_checker.specs.FitTests.{IsSingle, AreSingle, name_set, union_all, AreAlike, AreHeads, IsFit, AreFinished, MayPut, IsTested};
 
-use md_graph::{Graph, Memory, Names, WORDS};
+use md_graph::{GraphOf, Memory, Set, WORDS};
 use md_modules::{Block, back, closure_in, maximal_modules};
 use md_tree::{Kind, Pair, Tree, nodes_of};
 use std::alloc::Global;
@@ -24,7 +23,11 @@ use std::alloc::Global;
 /// no vertex. Nothing is decomposed: each node takes a few operations on rows for each child, and a
 /// prime node three searches over the heads of its children. No call nests as deep as the tree.
 /// Condition: the tree is well-formed. Errors: want of memory.
-pub fn fits(alloc: Global, graph: &Graph, tree: &Option<Tree>) -> Result<bool, Memory>
+pub fn fits<const W: usize>(
+    alloc: Global,
+    graph: &GraphOf<W>,
+    tree: &Option<Tree>,
+) -> Result<bool, Memory>
     requires { IsWellFormed (plain_option tree.now) }
     ensures { IfOk result (λ fit. IsTrue fit
         ↔ IsTree (adjacent graph.now) graph.now.vertices (plain_option tree.now)) }
@@ -38,7 +41,7 @@ pub fn fits(alloc: Global, graph: &Graph, tree: &Option<Tree>) -> Result<bool, M
 // Whether a tree is the tree of strong modules. Its nodes are put, from the last to the first, on a
 // stack of finished trees, of each of which its set of names and its head, the least of them, are
 // kept.
-fn tree_fits(alloc: Global, graph: &Graph, tree: &Tree) -> Result<bool, Memory>
+fn tree_fits<const W: usize>(alloc: Global, graph: &GraphOf<W>, tree: &Tree) -> Result<bool, Memory>
     requires { IsWellFormed (Some (plain tree.now)) }
     ensures { IfOk result (λ fit. IsTrue fit
         ↔ IsTreeOf (adjacent graph.now) graph.now.vertices (plain tree.now)) }
@@ -59,11 +62,11 @@ fn tree_fits(alloc: Global, graph: &Graph, tree: &Tree) -> Result<bool, Memory>
 }
 
 // A node takes its children off the stack and comes on top of it, if it fits.
-fn put(
+fn put<const W: usize>(
     alloc: Global,
-    graph: &Graph,
+    graph: &GraphOf<W>,
     node: &Tree,
-    sets: &mut Vec<Names>,
+    sets: &mut Vec<Set<W>>,
     heads: &mut Vec<u32>,
 ) -> Result<bool, Memory>
     requires { (ts : List PlainTree) × MayPut graph.now sets.old.items heads.old.items
@@ -90,10 +93,10 @@ fn put(
 }
 
 // A leaf fits if it is a vertex.
-fn put_leaf(
-    graph: &Graph,
+fn put_leaf<const W: usize>(
+    graph: &GraphOf<W>,
     name: u32,
-    sets: &mut Vec<Names>,
+    sets: &mut Vec<Set<W>>,
     heads: &mut Vec<u32>,
 ) -> Result<bool, Memory>
     ensures { IfOk result (λ fit. (ts : List PlainTree)
@@ -104,7 +107,7 @@ fn put_leaf(
     if !graph.has_vertex(name) {
         return Ok(false);
     }
-    let mut names = Names::none();
+    let mut names = Set::none();
     names.insert(name);
     sets.push(names)?;
     heads.push(name)?;
@@ -112,13 +115,13 @@ fn put_leaf(
 }
 
 // A node with as many children, which are the last trees of the stack.
-fn put_node(
+fn put_node<const W: usize>(
     alloc: Global,
-    graph: &Graph,
+    graph: &GraphOf<W>,
     kind: Kind,
     count: u64,
     pairs: &[Pair],
-    sets: &mut Vec<Names>,
+    sets: &mut Vec<Set<W>>,
     heads: &mut Vec<u32>,
 ) -> Result<bool, Memory>
     requires { (ts : List PlainTree) × MayPut graph.now sets.old.items heads.old.items
@@ -141,10 +144,11 @@ fn put_node(
 }
 
 // The union of sets.
-fn union_of(sets: &[Names]) -> Names
+fn union_of<const W: usize>(sets: &[Set<W>]) -> Set<W>
+    requires { W ≤ WORDS }
     ensures { result ≡ union_all sets.now }
 {
-    let mut all = Names::none();
+    let mut all = Set::none();
     for set in sets {
         all.take_in(set);
     }
@@ -152,10 +156,10 @@ fn union_of(sets: &[Names]) -> Names
 }
 
 // Whether a node with these names, pairs and heads of its children fits, where the children do.
-pub(crate) fn is_fit(
+pub(crate) fn is_fit<const W: usize>(
     alloc: Global,
-    graph: &Graph,
-    names: &Names,
+    graph: &GraphOf<W>,
+    names: &Set<W>,
     kind: Kind,
     pairs: &[Pair],
     heads: &[u32],
@@ -180,9 +184,9 @@ pub(crate) fn is_fit(
 }
 
 // Whether each of the others is adjacent to all names of the list, or to none of them.
-pub(crate) fn are_alike(graph: &Graph, list: &[u32], others: &Names) -> bool
+pub(crate) fn are_alike<const W: usize>(graph: &GraphOf<W>, list: &[u32], others: &Set<W>) -> bool
     requires some { 0 < length list.now }
-    requires names { (i : ℕ) → i < length list.now → get_or list.now i 0 < NAMES }
+    requires names { (i : ℕ) → i < length list.now → get_or list.now i 0 < 64 * W }
     ensures { IsTrue result ↔ AreAlike (adjacent graph.now) others.now list.now }
 {
     let first = graph.row(list[0]);
@@ -195,7 +199,7 @@ pub(crate) fn are_alike(graph: &Graph, list: &[u32], others: &Names) -> bool
 }
 
 // Whether two rows have the same members of a set.
-fn agree(set: &Names, first: &Names, second: &Names) -> bool
+fn agree<const W: usize>(set: &Set<W>, first: &Set<W>, second: &Set<W>) -> bool
     ensures { IsTrue result ↔ ((y : ℕ) → Has set.now y
         → contains first.now y ≡ contains second.now y) }
 {
@@ -204,27 +208,32 @@ fn agree(set: &Names, first: &Names, second: &Names) -> bool
 
 // A row for each position: of the names at later positions it has those that the node joins to the
 // one at its own.
-fn joined_rows(
+fn joined_rows<const W: usize>(
     alloc: Global,
-    graph: &Graph,
+    graph: &GraphOf<W>,
     kind: Kind,
     pairs: &[Pair],
     heads: &[u32],
-) -> Result<Vec<Names>, Memory>
+) -> Result<Vec<Set<W>>, Memory>
     requires { AreHeads graph.now.vertices pairs.now heads.now }
     ensures size { IfOk result (λ rows. length rows.items ≡ length heads.now) }
     ensures joined { IfOk result (λ rows. (i j : ℕ) → i < j → j < length heads.now
         → contains (row_of rows.items i) (get_or heads.now j 0) ≡ joins kind pairs.now i j) }
 {
+    let _vertices = graph.vertices();
     match kind {
-        Kind::Parallel => same_rows(alloc, heads.len(), &Names::none()),
+        Kind::Parallel => same_rows(alloc, heads.len(), &Set::none()),
         Kind::Series => same_rows(alloc, heads.len(), graph.vertices()),
         Kind::Prime => listed_rows(alloc, graph, pairs, heads),
     }
 }
 
 // As many equal rows.
-fn same_rows(alloc: Global, count: usize, row: &Names) -> Result<Vec<Names>, Memory>
+fn same_rows<const W: usize>(
+    alloc: Global,
+    count: usize,
+    row: &Set<W>,
+) -> Result<Vec<Set<W>>, Memory>
     ensures { IfOk result (λ rows. rows.items ≡ replicate count row.now) }
 {
     let mut rows = Vec::with_capacity(alloc, count)?;
@@ -235,19 +244,19 @@ fn same_rows(alloc: Global, count: usize, row: &Names) -> Result<Vec<Names>, Mem
 }
 
 // The rows of a prime node, which joins the pairs that it lists.
-fn listed_rows(
+fn listed_rows<const W: usize>(
     alloc: Global,
-    graph: &Graph,
+    graph: &GraphOf<W>,
     pairs: &[Pair],
     heads: &[u32],
-) -> Result<Vec<Names>, Memory>
+) -> Result<Vec<Set<W>>, Memory>
     requires { AreHeads graph.now.vertices pairs.now heads.now }
     ensures size { IfOk result (λ rows. length rows.items ≡ length heads.now) }
     ensures listed { IfOk result (λ rows. (i j : ℕ) → i < length heads.now → j < length heads.now
         → contains (row_of rows.items i) (get_or heads.now j 0) ≡ lists_pair pairs.now i j) }
 {
     let _vertices = graph.vertices();
-    let mut rows = same_rows(alloc, heads.len(), &Names::none())?;
+    let mut rows = same_rows(alloc, heads.len(), &Set::none())?;
     for pair in pairs {
         rows[pair.low as usize].insert(heads[pair.high as usize]);
     }
@@ -255,14 +264,15 @@ fn listed_rows(
 }
 
 // Whether each name of the list is adjacent to those later ones that its row has, and to no others.
-fn are_joined(graph: &Graph, list: &[u32], rows: &[Names]) -> bool
-    requires names { (i : ℕ) → i < length list.now → get_or list.now i 0 < NAMES }
+fn are_joined<const W: usize>(graph: &GraphOf<W>, list: &[u32], rows: &[Set<W>]) -> bool
+    requires names { (i : ℕ) → i < length list.now → get_or list.now i 0 < 64 * W }
     requires rows { length rows.now ≡ length list.now }
     ensures { IsTrue result ↔ ((i j : ℕ) → i < j → j < length list.now
         → adjacent graph.now (get_or list.now i 0) (get_or list.now j 0)
         ≡ contains (row_of rows.now i) (get_or list.now j 0)) }
 {
-    let mut later = Names::none();
+    let _vertices = graph.vertices();
+    let mut later = Set::none();
     let mut at = list.len();
     while at > 0 {
         at -= 1;
@@ -275,11 +285,12 @@ fn are_joined(graph: &Graph, list: &[u32], rows: &[Names]) -> bool
 }
 
 // The set of the names of a list.
-pub(crate) fn set_of(list: &[u32]) -> Names
-    requires { (i : ℕ) → i < length list.now → get_or list.now i 0 < NAMES }
+pub(crate) fn set_of<const W: usize>(list: &[u32]) -> Set<W>
+    requires names { (i : ℕ) → i < length list.now → get_or list.now i 0 < 64 * W }
+    requires limit { W ≤ WORDS }
     ensures { result ≡ name_set list.now }
 {
-    let mut set = Names::none();
+    let mut set = Set::none();
     for v in list {
         set.insert(*v);
     }
@@ -289,22 +300,23 @@ pub(crate) fn set_of(list: &[u32]) -> Names
 // Whether each module of the graph on `names` is a name alone, or all of them: all is the least
 // module with the first two, no smaller module holds the first one with another, and the maximal
 // ones that don't hold it are names alone.
-pub(crate) fn has_trivial_modules_alone(
+pub(crate) fn has_trivial_modules_alone<const W: usize>(
     alloc: Global,
-    graph: &Graph,
-    names: &Names,
+    graph: &GraphOf<W>,
+    names: &Set<W>,
 ) -> Result<bool, Memory>
     requires { Within names.now graph.now.vertices }
     ensures { IfOk result (λ alone. IsTrue alone
         ↔ HasTrivialModulesAlone (adjacent graph.now) names.now) }
 {
+    let _vertices = graph.vertices();
     let Some(v) = names.first_from(0) else {
         return Ok(true);
     };
     let Some(j) = names.first_from(v + 1) else {
         return Ok(true);
     };
-    let mut held = Names::none();
+    let mut held = Set::none();
     closure_in(graph, names, v, j, &mut held);
     if !held.is_same(names) {
         return Ok(false);
@@ -320,7 +332,7 @@ pub(crate) fn has_trivial_modules_alone(
 }
 
 // Whether each of the sets has one member.
-fn are_alone(sets: &[Block<WORDS>]) -> bool
+fn are_alone<const W: usize>(sets: &[Block<W>]) -> bool
     ensures { IsTrue result ↔ AreSingle sets.now }
 {
     let mut rest = sets;
@@ -333,7 +345,7 @@ fn are_alone(sets: &[Block<WORDS>]) -> bool
     true
 }
 
-fn is_alone(set: &Block<WORDS>) -> bool
+fn is_alone<const W: usize>(set: &Block<W>) -> bool
     ensures { IsTrue result ↔ IsSingle set.now }
 {
     match set.alone() {
@@ -345,15 +357,11 @@ fn is_alone(set: &Block<WORDS>) -> bool
 #[cfg(test)]
 mod tests {
     use super::*;
-    use md_graph::NAMES;
+    use crate::tests::{PATH, TWINS};
+    use md_graph::{Graph, NAMES};
     use md_tree::read_tree;
     use std::process::Abort;
     use std::test::Fail;
-
-    const PATH: [(u32, u32); 3] = [(0, 1), (1, 2), (2, 3)];
-
-    // The path on four names, with a twin of its first end.
-    const TWINS: [(u32, u32); 4] = [(0, 1), (1, 2), (1, 4), (2, 3)];
 
     const CYCLE: [(u32, u32); 5] = [(0, 1), (1, 2), (2, 3), (3, 4), (0, 4)];
 

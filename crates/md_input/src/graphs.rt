@@ -1,5 +1,5 @@
 //! The graphs of a file, one after the other.
-ghost use Rattle.std.specs.Prelude.{◌≡◌, [], ◌∷◌, None, IfOk, IfErr, IsErr};
+ghost use Rattle.std.specs.Prelude.{◌≡◌, [], ◌∷◌, None, IfOk, IfErr, IfSome, IfNone, IsErr};
 ghost use Rattle.std.specs.Bool.{OnTrue, OnFalse};
 ghost use Rattle.md_graph.specs.PlainGraph.{empty_graph};
 ghost use Rattle.md_input.specs.Spelling.{SpellsGraphs};
@@ -8,7 +8,7 @@ ghost use Rattle.md_input.specs.Faults.{graph_fault, IsStopAt};
 use crate::fault::InputStop;
 use crate::format::Format;
 use crate::room::Room;
-use md_graph::{Graph, Memory};
+use md_graph::{Graph, GraphOf, Memory};
 use md_graph6::{Lines, scan};
 use std::alloc::Global;
 use std::marker::Model;
@@ -76,6 +76,23 @@ impl<'a> Graphs<'a> {
             }
         }
         self.lines.next(graph)
+    }
+
+    /// As `next`, into a graph of one word a row. None where the next graph isn't a small one of a
+    /// line: nothing changes then. Condition: the graph has no vertices.
+    pub fn next_small(&mut self, graph: &mut GraphOf<1>) -> Option<bool>
+        requires { graph.old ≡ empty_graph }
+        ensures first { IfSome result (λ found. OnTrue found (self.old ≡ graph.new ∷ self.new)) }
+        ensures none { IfSome result (λ found. OnFalse found (self.old ≡ [])) }
+        ensures none_left { IfSome result (λ found. OnFalse found (self.new ≡ [])) }
+        ensures stays { IfSome result (λ found. OnFalse found (graph.new ≡ empty_graph)) }
+        ensures left { IfNone result (self.new ≡ self.old) }
+        ensures left_empty { IfNone result (graph.new ≡ empty_graph) }
+    {
+        if self.first.is_some() || !self.lines.is_next_small() {
+            return None;
+        }
+        Some(self.lines.next_small(graph))
     }
 
     /// Makes the graph in the room the first of the graphs, takes that off, and answers true; a

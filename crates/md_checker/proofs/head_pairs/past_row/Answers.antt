@@ -5,15 +5,15 @@ use Rattle.md_checker.proofs.HeadPairs.{row_empty, row_matched, if_some, rest_th
 use Rattle.md_checker.proofs.head_pairs.past_row.Goals as goal
 
 pub returns-in_default-clause-matches : goal.returns-in_default-clause-matches
-returns-in_default-clause-matches c e v j ws whole ps places is m =
+returns-in_default-clause-matches g c e v j ws whole ps places is m =
     row_empty e v c.args.low j ws whole c.args.text.now c.args.space.now.chunk c.args.space.now.mark ps (sym is ∙ sym c.members-others.ensures.list ∙ c.in_default.ensures.steps.0) m
 
 pub past_others-requires : goal.past_others-requires
-past_others-requires c =
+past_others-requires g c =
     rest_there c.args.space.now.places.items c.deref-2.result.now _ c.in-Some.first c.next.new.self c.deref-2.ensures.value (sym c.members-others.ensures.list ∙ c.in-Some.ensures.steps) c.requires.there
 
 pub returns-clause-matches : goal.returns-clause-matches
-returns-clause-matches c =
+returns-clause-matches g c =
     let text = c.args.text.now in
     let pieces = c.args.space.now.places.items in
     let put = subst (λ p. (w spelled : List ℕ) → Matches w text c.args.space.now.chunk spelled → Matches w c.in_ok-rest.rest.now c.put_pair.new.chunk (spelled ++ texts_at p (piece_text c.piece_behind-start.result) (c.in-Some.first ∷ [])))

@@ -1,4 +1,4 @@
-use Rattle.std.proofs.Common.{true, drop, length, sym, ◌∙◌, ap, subst, arith, length-drop}
+use Rattle.std.proofs.Common.{rules, true, drop, length, sym, ◌∙◌, ap, subst, arith, length-drop}
 use Rattle.std.proofs.lemmas.List.{take_rest}
 use Rattle.std.specs.Prelude.{IsTrue}
 use Rattle.md_tree.specs.Held.{Ascends}
@@ -7,23 +7,20 @@ use Rattle.md_checker.specs.TextFits.{IsReadBy}
 use Rattle.md_checker.proofs.TextWalk.{few_heads, inside_heads, read_end}
 use Rattle.md_checker.proofs.text_fit.end_node.Goals as goal
 
-pub past_end-requires-clause-heads : goal.past_end-requires-clause-heads
-past_end-requires-clause-heads c =
+pub past_end-requires : goal.past_end-requires
+past_end-requires g c =
     let first = c.args.inner.first in
     let sub = take_rest c.deref-4.result.now first ∙ ap (drop first) c.deref-4.ensures.value in
     let other = take_rest c.deref-2.result.now first ∙ ap (drop first) c.deref-2.ensures.value in
     let yes : IsTrue c.ascends.result = (let y = c.if-not-ascends.false in grind arith) in
-    inside_heads c.requires.1 _ sub (subst Ascends (other ∙ sym sub) (c.ascends.ensures.0 yes))
-
-pub past_end-requires-clause-few : goal.past_end-requires-clause-few
-past_end-requires-clause-few c =
-    let first = c.args.inner.first in
     let few = few_heads c.requires.1 in
-    let size = ap length (take_rest c.deref-4.result.now first ∙ ap (drop first) c.deref-4.ensures.value) ∙ length-drop first c.args.walk.now.heads.items in
-    omega arith
+    let size = ap length sub ∙ length-drop first c.args.walk.now.heads.items in (
+      search rules,
+      (search rules, (inside_heads c.requires.1 _ sub (subst Ascends (other ∙ sym sub) (c.ascends.ensures.0 yes)), omega arith)),
+    )
 
 pub returns : goal.returns
-returns c bytes r =
+returns g c bytes r =
     let first = c.args.inner.first in
     let sub = take_rest c.deref-4.result.now first ∙ ap (drop first) c.deref-4.ensures.value in
     let other = take_rest c.deref-2.result.now first ∙ ap (drop first) c.deref-2.ensures.value in

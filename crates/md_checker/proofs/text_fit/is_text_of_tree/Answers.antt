@@ -5,18 +5,18 @@ use Rattle.md_checker.proofs.TextWalk.{read_start, read_whole}
 use Rattle.md_checker.proofs.text_fit.is_text_of_tree.Goals as goal
 
 pub loop-behind-init : goal.loop-behind-init
-loop-behind-init c =
-    read_start c.args.graph.now c.args.text.now c.new.result.items c.new-2.result.items c.new-3.result.items c.new-4.result.items c.none.result c.new.ensures.items c.new-2.ensures.items c.new-3.ensures.items c.new-4.ensures.items c.none.ensures
+loop-behind-init g c =
+    read_start c.args.graph.now c.args.text.now c.in_ok-sets.sets.items c.in_ok-heads.heads.items c.in_ok-kinds.kinds.items c.new.result.items c.none.result c.in_ok-sets.ensures.items c.in_ok-heads.ensures.items c.in_ok-kinds.ensures.items c.new.ensures.items c.none.ensures
 
 pub loop-behind-smaller : goal.loop-behind-smaller
-loop-behind-smaller c =
+loop-behind-smaller g c =
     let is = c.in-Some.is in
     let p = c.in_ok-tail.ensures in
     let q = rw is at p in
     (q c.args.text.now c.loop-behind.invariant).1
 
 pub returns : goal.returns
-returns c t =
+returns g c t =
     let w = c.loop-behind.walk in
     read_whole c.args.graph.now c.args.text.now c.loop-behind.rest.now w.sets.items w.heads.items w.kinds.items w.opens.items w.seen c.vertices-vertices.ensures.graph
     (subst (λ b. IsRead c.args.graph.now c.args.text.now c.loop-behind.rest.now b w) c.if-not-behind.false c.loop-behind.invariant)

@@ -3,7 +3,7 @@ use Rattle.md_checker.specs.TextFits.{IsRead}
 use Rattle.md_checker.proofs.text_fit.is_text_of_tree.Given as goal
 
 abbrev pub invariant-loop-behind : goal.invariant-loop-behind
-invariant-loop-behind l = IsRead l.graph l.text l.rest l.behind l.walk
+invariant-loop-behind g l = IsRead l.graph l.text l.rest l.behind l.walk
 
 abbrev pub decreases-loop-behind : goal.decreases-loop-behind
-decreases-loop-behind l = length l.rest
+decreases-loop-behind g l = length l.rest

@@ -4,7 +4,7 @@ use Rattle.md_tree.proofs.Stacking.{if_ok}
 use Rattle.md_checker.proofs.text_fit.is_word_and_tree.Goals as goal
 
 pub returns-in-Some : goal.returns-in-Some
-returns-in-Some c =
+returns-in-Some g c =
     let p = strip_prefix_is (λ a b. (eqb-true a b, eq-eqb a b)) c.args.text.now _ c.strip_prefix.result c.strip_prefix.ensures.cases in
     let is = c.in-Some.is in
     let cut = rw is at p in

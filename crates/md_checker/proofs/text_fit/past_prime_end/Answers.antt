@@ -1,4 +1,4 @@
-use Rattle.std.proofs.Common.{sym, ◌∙◌, ap, subst}
+use Rattle.std.proofs.Common.{rules, sym, ◌∙◌, ap, subst}
 use Rattle.std.specs.FinSet.{difference}
 use Rattle.md_graph.specs.PlainGraph.{adjacent}
 use Rattle.md_graph.specs.Sets.{Within}
@@ -10,11 +10,11 @@ use Rattle.md_checker.proofs.HeadPairs.{heads_joined, heads_listed}
 use Rattle.md_checker.proofs.text_fit.past_prime_end.Goals as goal
 
 pub has_trivial_modules_alone-requires : goal.has_trivial_modules_alone-requires
-has_trivial_modules_alone-requires c =
-    subst (λ s. Within s c.args.graph.now.vertices) (sym c.set_of.ensures) (name_set_within c.args.graph.now.vertices c.args.heads.now c.requires.heads.vertices)
+has_trivial_modules_alone-requires g c =
+    (search rules, (search rules, subst (λ s. Within s c.args.graph.now.vertices) (sym c.set_of.ensures) (name_set_within c.args.graph.now.vertices c.args.heads.now c.requires.heads.vertices)))
 
 pub returns : goal.returns
-returns c =
+returns g c =
     let is = c.in-Some.is in
     let some = c.in_ok-tail.ensures.some in
     let listed = rw is at some in

@@ -4,7 +4,7 @@ use Rattle.md_checker.proofs.FitRows.{neighbours_agree, alike_more}
 use Rattle.md_checker.proofs.tree_fit.are_alike.Goals as goal
 
 pub returns-then-not-agree : goal.returns-then-not-agree
-returns-then-not-agree c = (
+returns-then-not-agree g c = (
   λ f. clash f refl,
   λ alike. clash
       (c.agree.ensures.1 ((neighbours_agree c.row.ensures.graph (get_or c.args.list.now 0 0) (get_or c.args.list.now c.loop-v.v-index 0) c.args.others.now c.row-first.result.now c.row.result.now c.row-first.ensures.set c.row.ensures.set).1
@@ -13,7 +13,7 @@ returns-then-not-agree c = (
 )
 
 pub loop-v-preserved : goal.loop-v-preserved
-loop-v-preserved c =
+loop-v-preserved g c =
     alike_more c.args.graph.now c.args.others.now c.args.list.now c.loop-v.v-index c.loop-v.invariant
     ((neighbours_agree c.row.ensures.graph (get_or c.args.list.now 0 0) (get_or c.args.list.now c.loop-v.v-index 0) c.args.others.now c.row-first.result.now c.row.result.now c.row-first.ensures.set c.row.ensures.set).0
     (c.agree.ensures.0 c.if-not-agree.false))

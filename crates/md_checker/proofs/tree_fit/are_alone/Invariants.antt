@@ -4,7 +4,7 @@ use Rattle.md_checker.specs.FitTests.{AreSingle}
 use Rattle.md_checker.proofs.tree_fit.are_alone.Given as goal
 
 abbrev pub invariant-loop-set : goal.invariant-loop-set
-invariant-loop-set l = AreSingle l.sets ↔ AreSingle l.rest
+invariant-loop-set g l = AreSingle l.sets ↔ AreSingle l.rest
 
 abbrev pub decreases-loop-set : goal.decreases-loop-set
-decreases-loop-set l = length l.rest
+decreases-loop-set g l = length l.rest

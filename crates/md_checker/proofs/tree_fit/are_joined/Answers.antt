@@ -5,7 +5,7 @@ use Rattle.md_checker.proofs.FitRows.{one_back, back_below, row_at, later_more, 
 use Rattle.md_checker.proofs.tree_fit.are_joined.Goals as goal
 
 pub returns-then-not-agree : goal.returns-then-not-agree
-returns-then-not-agree c =
+returns-then-not-agree g c =
     let list = c.args.list.now in
     let rows = c.args.rows.now in
     let below = back_below c.loop-at.at (length c.args.list.now) c.loop-at-test.true c.loop-at.invariant.within in
@@ -18,7 +18,7 @@ returns-then-not-agree c =
     )
 
 pub loop-at-preserved : goal.loop-at-preserved
-loop-at-preserved c =
+loop-at-preserved g c =
     let list = c.args.list.now in
     let rows = c.args.rows.now in
     let below = back_below c.loop-at.at (length c.args.list.now) c.loop-at-test.true c.loop-at.invariant.within in

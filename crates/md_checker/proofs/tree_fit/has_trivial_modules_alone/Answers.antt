@@ -8,14 +8,14 @@ use Rattle.md_checker.proofs.Trivial.{later_differs, not_trivial, AreWhole, back
 use Rattle.md_checker.proofs.tree_fit.has_trivial_modules_alone.Goals as goal
 
 pub returns-then-not-is_same : goal.returns-then-not-is_same
-returns-then-not-is_same c = (
+returns-then-not-is_same g c = (
   λ f. clash f refl,
   λ trivial. absurd (not_trivial c.args.names.now c.closure_in.new.into c.in-Some.v c.in-Some-first_from.j c.closure_in.ensures
       (later_differs c.in-Some.v c.in-Some-first_from.j c.in-Some-first_from.ensures.found.above) (λ same. clash (c.is_same.ensures.1 same) c.if-not-is_same.true) trivial),
 )
 
 pub returns-then-not-is_same-2 : goal.returns-then-not-is_same-2
-returns-then-not-is_same-2 c = (
+returns-then-not-is_same-2 g c = (
   λ f. clash f refl,
   λ trivial.
       let whole = subst (λ k. IsLeastModule (adjacent c.args.graph.now) c.args.names.now c.in-Some.v c.in-Some-first_from.j k) (c.is_same.ensures.0 c.if-not-is_same.false) c.closure_in.ensures in
@@ -24,7 +24,7 @@ returns-then-not-is_same-2 c = (
 )
 
 pub returns : goal.returns
-returns c =
+returns g c =
     let others = c.remove.ensures ∙ ap (λ s. remove s c.in-Some.v) c.copy-others.ensures in
     let names = subst (λ b. AreWhole (adjacent c.args.graph.now) c.args.names.now b c.in-Some.v) (c.is_same-2.ensures.0 c.if-not-is_same-2.false) c.back.ensures.names in (
       λ t. trivial_if c.args.names.now c.remove.new.self c.in-Some.v others c.in_ok-classes.classes.items c.in_ok-classes.ensures names (subst AreSingle c.deref.ensures.value (c.are_alone.ensures.0 t)),

@@ -1,4 +1,4 @@
-use Rattle.std.proofs.Common.{get_or, sym, ◌∙◌, ap, subst}
+use Rattle.std.proofs.Common.{rules, get_or, sym, ◌∙◌, ap, subst}
 use Rattle.std.specs.FinSet.{contains, difference}
 use Rattle.md_graph.specs.PlainGraph.{adjacent}
 use Rattle.md_graph.specs.Rows.{row_of}
@@ -10,11 +10,11 @@ use Rattle.md_checker.proofs.FitRows.{name_set_within}
 use Rattle.md_checker.proofs.tree_fit.is_fit.Goals as goal
 
 pub has_trivial_modules_alone-requires : goal.has_trivial_modules_alone-requires
-has_trivial_modules_alone-requires c =
-    subst (λ s. Within s c.args.graph.now.vertices) (sym c.set_of.ensures) (name_set_within c.args.graph.now.vertices c.args.heads.now c.requires.vertices)
+has_trivial_modules_alone-requires g c =
+    (search rules, (search rules, subst (λ s. Within s c.args.graph.now.vertices) (sym c.set_of.ensures) (name_set_within c.args.graph.now.vertices c.args.heads.now c.requires.vertices)))
 
 pub returns : goal.returns
-returns c =
+returns g c =
     let others = c.minus-others.ensures ∙ ap (λ s. difference s c.args.names.now) c.vertices.ensures.set in
     if_ok c.has_trivial_modules_alone.result
     (λ fit same. (

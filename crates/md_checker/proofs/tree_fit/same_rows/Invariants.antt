@@ -2,4 +2,4 @@ use Rattle.std.proofs.Common.{◌≡◌, replicate}
 use Rattle.md_checker.proofs.tree_fit.same_rows.Given as goal
 
 abbrev pub invariant-loop : goal.invariant-loop
-invariant-loop l = l.rows.items ≡ replicate l.counter l.row
+invariant-loop g l = l.rows.items ≡ replicate l.counter l.row

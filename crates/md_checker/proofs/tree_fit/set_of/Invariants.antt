@@ -3,4 +3,4 @@ use Rattle.md_checker.specs.FitTests.{name_set}
 use Rattle.md_checker.proofs.tree_fit.set_of.Given as goal
 
 abbrev pub invariant-loop-v : goal.invariant-loop-v
-invariant-loop-v l = l.set ≡ name_set (take l.v-index l.list)
+invariant-loop-v g l = l.set ≡ name_set (take l.v-index l.list)

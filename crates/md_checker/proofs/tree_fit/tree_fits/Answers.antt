@@ -1,4 +1,4 @@
-use Rattle.std.proofs.Common.{map, refl, sym, ◌∙◌, ap, subst}
+use Rattle.std.proofs.Common.{rules, map, refl, sym, ◌∙◌, ap, subst}
 use Rattle.std.proofs.lemmas.List.{nil_from_length}
 use Rattle.md_graph.proofs.SetLemmas.{clash}
 use Rattle.md_tree.specs.Parts.{part_of, plain_at}
@@ -9,15 +9,15 @@ use Rattle.md_checker.proofs.FitStacks.{walk_begin, walk_may, walk_more, walk_st
 use Rattle.md_checker.proofs.tree_fit.tree_fits.Goals as goal
 
 pub loop-node-init : goal.loop-node-init
-loop-node-init c = walk_begin _ _ _ _ _ c.in_ok-nodes.ensures c.new-sets.ensures.items c.new-heads.ensures.items
+loop-node-init g c = walk_begin _ _ _ _ _ c.in_ok-nodes.ensures c.new-sets.ensures.items c.new-heads.ensures.items
 
 pub put-requires : goal.put-requires
-put-requires c =
+put-requires g c =
     let last = map_one_more (λ r. part_of (plain_at r)) c.loop-node.nodes.items c.pop.new.self.items c.in-Some.node c.in-Some.ensures.items in
-    (c.loop-node.invariant.trees, walk_may c.requires.1 _ _ last c.loop-node.invariant)
+    (search rules, (search rules, (c.loop-node.invariant.trees, walk_may c.requires.1 _ _ last c.loop-node.invariant)))
 
 pub returns-then-not-branch : goal.returns-then-not-branch
-returns-then-not-branch c =
+returns-then-not-branch g c =
     let last = map_one_more (λ r. part_of (plain_at r)) c.loop-node.nodes.items c.pop.new.self.items c.in-Some.node c.in-Some.ensures.items in
     let tested = c.in_ok-put.ensures c.loop-node.invariant.trees (walk_may c.requires.1 _ _ last c.loop-node.invariant) in
     let misfit = subst (λ b. IsTested c.args.graph.now b c.put.new.sets.items c.put.new.heads.items (with_part (part_of (plain_at c.in-Some.node)) c.loop-node.invariant.trees)) c.if-not-branch.true tested in (
@@ -26,19 +26,19 @@ returns-then-not-branch c =
     )
 
 pub loop-node-preserved : goal.loop-node-preserved
-loop-node-preserved c =
+loop-node-preserved g c =
     let last = map_one_more (λ r. part_of (plain_at r)) c.loop-node.nodes.items c.pop.new.self.items c.in-Some.node c.in-Some.ensures.items in
     let tested = c.in_ok-put.ensures c.loop-node.invariant.trees (walk_may c.requires.1 _ _ last c.loop-node.invariant) in
     walk_more c.requires.1 _ _ last c.loop-node.invariant c.put.new.sets.items c.put.new.heads.items
     (subst (λ b. IsTested c.args.graph.now b c.put.new.sets.items c.put.new.heads.items (with_part (part_of (plain_at c.in-Some.node)) c.loop-node.invariant.trees)) c.if-not-branch.false tested)
 
 pub unreachable-requires : goal.unreachable-requires
-unreachable-requires c =
+unreachable-requires g c =
     walk_none (ap (map (λ r. part_of (plain_at r))) (nil_from_length c.loop-node.nodes.items (sym c.loop-node.nodes.ok.0 ∙ c.in_default.ensures.cases.0))) c.loop-node.invariant
     (nil_from_length c.loop-node.sets.items (sym c.loop-node.sets.ok.0 ∙ c.in-None.ensures.cases.0))
 
 pub returns : goal.returns
-returns c =
+returns g c =
     walk_end _ c.vertices-vertices.ensures.graph c.requires.1
     (ap (map (λ r. part_of (plain_at r))) (nil_from_length c.loop-node.nodes.items (sym c.loop-node.nodes.ok.0 ∙ c.in_default.ensures.cases.0))) c.loop-node.invariant
     c.in-Some-pop.names c.in-Some-pop.ensures.items c.vertices-vertices.result.now c.vertices-vertices.ensures.set c.is_same.result c.is_same.ensures

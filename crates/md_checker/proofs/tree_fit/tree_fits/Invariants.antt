@@ -5,7 +5,7 @@ use Rattle.md_checker.proofs.FitStacks.{IsWalk}
 use Rattle.md_checker.proofs.tree_fit.tree_fits.Given as goal
 
 abbrev pub invariant-loop-node : goal.invariant-loop-node
-invariant-loop-node l = IsWalk l.graph (plain l.tree) (map (λ r. part_of (plain_at r)) l.nodes.items) l.sets.items l.heads.items
+invariant-loop-node g l = IsWalk l.graph (plain l.tree) (map (λ r. part_of (plain_at r)) l.nodes.items) l.sets.items l.heads.items
 
 abbrev pub decreases-loop-node : goal.decreases-loop-node
-decreases-loop-node l = vec_len l.nodes
+decreases-loop-node g l = vec_len l.nodes
