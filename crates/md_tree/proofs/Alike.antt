@@ -1,5 +1,5 @@
 -- Pairs that are read one behind the other, and those that are spelled as the one before but for the last digit.
-use Rattle.std.proofs.Common.{◌≡◌, ℕ, suc, ◌+◌, ◌-◌, ◌*◌, ◌/◌, ◌%◌, ◌<◌, ◌≤◌, Bool, true, List, [], ◌∷◌, ◌++◌, length, take, drop, append_assoc, length-append, refl, sym, ◌∙◌, ap, subst, inr, arith}
+use Rattle.std.proofs.Common.{◌≡◌, ℕ, suc, ◌+◌, ◌-◌, ◌*◌, ◌/◌, ◌%◌, ◌<◌, ◌≤◌, Bool, true, List, [], ◌∷◌, ◌++◌, length, take, drop, append_assoc, length-append, refl, sym, ◌∙◌, ap, subst, inl, inr, arith}
 use Rattle.std.proofs.lemmas.List.{take-append-drop, take-take, drop-take, take_at}
 use Rattle.std.specs.Prelude.{◌↔◌, IsTrue}
 use Rattle.md_text.specs.Numbers.{decimal}
@@ -39,6 +39,11 @@ one_read n text rest tail ps last q listed now h e f = record {
   last_is = sym (last_more no_pair ps q);
   may = listed_more n ps last q listed now h.last_is h.may f;
 }
+
+-- the lower position of the later of two pairs
+pub low_from : (p q : Pair) (least : ℕ) → least ≤ p.low → IsPairBefore p q → least ≤ q.low
+low_from p q least from (inl below) = omega arith
+low_from p q least from (inr same) = let e : p.low ≡ q.low = same.0 in omega arith
 
 -- a pair more is read
 pub reads_next : (n : ℕ) (start rest behind : List ℕ) (ps qs : List Pair) (first last q : Pair) → ReadsOn n start ps first rest qs last →

@@ -191,9 +191,9 @@ eight_first : (text : List ℕ) (word base limits y : ℕ) → long_word_bytes w
 eight_first text word base limits y is s = ap (λ w. w ++ drop 8 text) (sym (long_word_is word) ∙ is) ∙ take-append-drop 8 text
 
 pub threes : (text : List ℕ) (word y low high : ℕ) → long_word_bytes word ≡ take 8 text → IsSpread 8 word 3184097920025636912 9184658741385393782 y →
-    low ≡ y % 256 * 100 + (y * 10 + y / 256) / 256 % 256 → high ≡ y / 4294967296 % 256 * 100 + (y * 10 + y / 256) / 1099511627776 % 256 → 100 ≤ low → 100 ≤ high →
+    low ≡ y % 256 * 100 + (y * 10 + y / 256) / 256 % 256 → high ≡ y / 4294967296 % 256 * 100 + (y * 10 + y / 256) / 1099511627776 % 256 → 100 ≤ low → low < high →
     text ≡ pair_before (record { low = low; high = high }) true (take (length text - 8) (drop 8 text))
-threes text word y low high is s l u low' high' =
+threes text word y low high is s l u low' up =
     let x : ℕ = y * 10 + y / 256 in
     let a : AreDigits 8 y = digits_are 8 word 3184097920025636912 9184658741385393782 y threes_wide s in
     let t : AreTens x y = are_tens x y a refl in
@@ -205,13 +205,13 @@ threes text word y low high is s l u low' high' =
     threes_text text (drop 8 text) (y % 256) (y / 256 % 256) (y / 256 / 256 % 256) (y / 256 / 256 / 256 % 256) (y / 256 / 256 / 256 / 256 % 256) (y / 256 / 256 / 256 / 256 / 256 % 256) (y / 256 / 256 / 256 / 256 / 256 / 256 % 256) (y / 256 / 256 / 256 / 256 / 256 / 256 / 256 % 256) low high
     (sym (eight_first text word 3184097920025636912 9184658741385393782 y is s) ∙ ap (λ w. w ++ drop 8 text) (spread_bytes word 3184097920025636912 9184658741385393782 y s))
     a.0 a.1.0 a.1.1.0 (omega arith) a.1.1.1.1.0 a.1.1.1.1.1.0 a.1.1.1.1.1.1.0 (omega arith)
-    (l ∙ ap (λ m. y % 256 * 100 + m) low_1 ∙ omega arith) (u ∙ (λ i. high_0 i * 100 + high_1 i) ∙ omega arith) low' high'
+    (l ∙ ap (λ m. y % 256 * 100 + m) low_1 ∙ omega arith) (u ∙ (λ i. high_0 i * 100 + high_1 i) ∙ omega arith) low' (omega arith)
     ∙ ap (pair_before (record { low = low; high = high }) true) (sym (take_rest text 8))
 
 pub three_and_four : (text : List ℕ) (word y low high : ℕ) → 10 ≤ length text → get_or text 8 0 ≡ 44 → long_word_bytes word ≡ take 8 text → IsSpread 8 word 3472328296177348656 8536140395044042358 y →
-    low ≡ y % 256 * 100 + (y * 10 + y / 256) / 256 % 256 → high ≡ (y * 10 + y / 256) / 4294967296 % 256 * 100 + (y * 10 + y / 256) / 281474976710656 % 256 → 100 ≤ low → 1000 ≤ high →
+    low ≡ y % 256 * 100 + (y * 10 + y / 256) / 256 % 256 → high ≡ (y * 10 + y / 256) / 4294967296 % 256 * 100 + (y * 10 + y / 256) / 281474976710656 % 256 → 1000 ≤ high → 100 ≤ low →
     text ≡ pair_before (record { low = low; high = high }) true (take (length text - 9) (drop 9 text))
-three_and_four text word y low high long mark is s l u low' high' =
+three_and_four text word y low high long mark is s l u high' low' =
     let x : ℕ = y * 10 + y / 256 in
     let a : AreDigits 8 y = digits_are 8 word 3472328296177348656 8536140395044042358 y three_and_four_wide s in
     let t : AreTens x y = are_tens x y a refl in

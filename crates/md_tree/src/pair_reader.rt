@@ -149,6 +149,9 @@ fn read_run<'a>(
     ensures { IfOk result
         (λ r. ReadsOn count tail.now pairs.old.items pair r.1.now pairs.new.items r.0) }
 {
+    if pair.high < 100 {
+        return Ok((pair, tail));
+    }
     if pair.low != last {
         return read_sparse(pair, tail, count, pairs);
     }

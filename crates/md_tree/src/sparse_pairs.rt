@@ -10,7 +10,7 @@ use crate::words::{long_word, spread, word};
 use md_graph::Memory;
 
 // So near to the one before, pairs of the same lower position are left to be read as those alike.
-const NEAR: u32 = 2;
+const NEAR: u64 = 2;
 
 // The bytes of digits that are 0, and how far those of other digits may be from 128: `00000000`,
 // `000-000,` and `000-0000`.
@@ -29,8 +29,8 @@ const THREE_AND_FOUR_LIMITS: u64 = 0x7676_7676_7f76_7676;
 // The lowest byte of either half.
 const LANES: u64 = 0x0000_00ff_0000_00ff;
 
-// Goes on past the pairs of numbers of three or four digits, as long as they ascend, and neither
-// are near to the one before. The text of such a pair stands at fixed places of few words.
+// Goes on past pairs of numbers of three or four digits behind such a pair, as long as they ascend
+// and none is near to the one before. The digits of such a pair stand at fixed places of few words.
 #[inline(always)]
 pub(crate) fn read_sparse<'a>(
     pair: Pair,
@@ -41,16 +41,16 @@ pub(crate) fn read_sparse<'a>(
     ensures { IfOk result
         (λ r. ReadsOn count tail.now pairs.old.items pair r.1.now pairs.new.items r.0) }
 {
-    if pair.low >= 999 {
-        return read_fours(pair, tail, count, pairs);
+    if pair.low < 100 {
+        return Ok((pair, tail));
     }
-    if pair.low >= 99 {
+    if pair.low < 1000 {
         return read_threes(pair, tail, count, pairs);
     }
-    Ok((pair, tail))
+    read_fours(pair, tail, count, pairs)
 }
 
-// The same where both numbers have four digits. Never inlined, so that its loop has the registers
+// The same behind a lower number of four digits. Never inlined, so that its loop has the registers
 // to itself.
 #[inline(never)]
 fn read_fours<'a>(
@@ -59,13 +59,14 @@ fn read_fours<'a>(
     count: usize,
     pairs: &mut Vec<Pair>,
 ) -> Result<(Pair, &'a [u8]), Memory>
+    requires { 1000 ≤ pair.low }
     ensures { IfOk result
         (λ r. ReadsOn count tail.now pairs.old.items pair r.1.now pairs.new.items r.0) }
 {
-    read_wide(4, pair, tail, count, pairs)
+    read_wide(1000, pair, tail, count, pairs)
 }
 
-// The same where the lower one has three digits.
+// The same behind a lower number of three digits.
 #[inline(never)]
 fn read_threes<'a>(
     pair: Pair,
@@ -73,28 +74,31 @@ fn read_threes<'a>(
     count: usize,
     pairs: &mut Vec<Pair>,
 ) -> Result<(Pair, &'a [u8]), Memory>
+    requires { 100 ≤ pair.low }
     ensures { IfOk result
         (λ r. ReadsOn count tail.now pairs.old.items pair r.1.now pairs.new.items r.0) }
 {
-    read_wide(3, pair, tail, count, pairs)
+    read_wide(100, pair, tail, count, pairs)
 }
 
-// The same where the lower one has so many digits.
+// The same behind a lower number of as many digits as the least one, 100 or 1000.
 #[inline(always)]
 fn read_wide<'a>(
-    digits: usize,
+    least: u32,
     pair: Pair,
     tail: &'a [u8],
     count: usize,
     pairs: &mut Vec<Pair>,
 ) -> Result<(Pair, &'a [u8]), Memory>
+    requires long { 100 ≤ least }
+    requires from { least ≤ pair.low }
     ensures { IfOk result
         (λ r. ReadsOn count tail.now pairs.old.items pair r.1.now pairs.new.items r.0) }
 {
     let mut rest = tail;
     let mut last = pair;
     loop {
-        let Some((next, behind)) = wide_pair(rest, digits) else {
+        let Some((next, behind)) = wide_pair(rest, least) else {
             break;
         };
         if !is_well_before(last, next) || !is_of_positions(next, count) {
@@ -111,10 +115,8 @@ fn read_wide<'a>(
 fn is_well_before(first: Pair, second: Pair) -> bool
     ensures { IsTrue result → IsPairBefore first second }
 {
-    if first.low != second.low {
-        return first.low < second.low;
-    }
-    first.high < second.high && second.high - first.high > NEAR
+    first.low < second.low
+        || first.low == second.low && u64::from(first.high) + NEAR < u64::from(second.high)
 }
 
 #[inline(always)]
@@ -131,16 +133,19 @@ pub(crate) fn is_of_positions(pair: Pair, count: usize) -> bool
     pair.low < pair.high && (pair.high as usize) < count
 }
 
-// The pair that a text begins with, and what stands behind its comma, where the lower number has
-// so many digits, four or three; none if no such pair is there, or if little text is left.
+// The pair that a text begins with, and what stands behind its comma, if the lower number has as
+// many digits as the least one, 1000 or 100; none if no such pair is there, or if little text is
+// left. Digits with a zero before them are told too, where the lower number is below the least one.
 #[inline(always)]
-fn wide_pair<'a>(text: &'a [u8], digits: usize) -> Option<(Pair, &'a [u8])>
-    ensures { IfSome result (λ p. text.now ≡ pair_before p.0 true p.1.now) }
+fn wide_pair<'a>(text: &'a [u8], least: u32) -> Option<(Pair, &'a [u8])>
+    requires { 100 ≤ least }
+    ensures { IfSome result (λ p. least ≤ p.0.low → p.0.low < p.0.high
+        → text.now ≡ pair_before p.0 true p.1.now) }
 {
     if text.len() < 10 {
         return None;
     }
-    if digits == 4 {
+    if least == 1000 {
         return pair_of_fours(text);
     }
     if text[8] == b',' {
@@ -153,7 +158,8 @@ fn wide_pair<'a>(text: &'a [u8], digits: usize) -> Option<(Pair, &'a [u8])>
 #[inline(always)]
 fn pair_of_fours<'a>(text: &'a [u8]) -> Option<(Pair, &'a [u8])>
     requires { 10 ≤ length text.now }
-    ensures { IfSome result (λ p. text.now ≡ pair_before p.0 true p.1.now) }
+    ensures { IfSome result (λ p. 1000 ≤ p.0.low → p.0.low < p.0.high
+        → text.now ≡ pair_before p.0 true p.1.now) }
 {
     if text[4] != b'-' || text[9] != b',' {
         return None;
@@ -164,9 +170,6 @@ fn pair_of_fours<'a>(text: &'a [u8]) -> Option<(Pair, &'a [u8])>
     let numbers = (tens & LANES) * 100 + (tens / 0x1_0000 & LANES);
     let low = (numbers % 0x1_0000_0000) as u32;
     let high = (numbers / 0x1_0000_0000) as u32;
-    if low < 1000 || high <= low {
-        return None;
-    }
     Some((Pair { low, high }, &text[10..]))
 }
 
@@ -175,13 +178,14 @@ fn pair_of_fours<'a>(text: &'a [u8]) -> Option<(Pair, &'a [u8])>
 fn pair_of_three_and_four<'a>(text: &'a [u8]) -> Option<(Pair, &'a [u8])>
     requires long { 10 ≤ length text.now }
     requires comma { slice_index text.now 8 ≡ 44 }
-    ensures { IfSome result (λ p. text.now ≡ pair_before p.0 true p.1.now) }
+    ensures { IfSome result (λ p. 100 ≤ p.0.low → p.0.low < p.0.high
+        → text.now ≡ pair_before p.0 true p.1.now) }
 {
     let digits = spread(long_word(text), THREE_AND_FOUR, THREE_AND_FOUR_LIMITS)?;
     let tens = digits * 10 + digits / 0x100;
     let low = (digits % 0x100 * 100 + tens / 0x100 % 0x100) as u32;
     let high = (tens / 0x1_0000_0000 % 0x100 * 100 + tens / 0x1_0000_0000_0000 % 0x100) as u32;
-    if low < 100 || high < 1000 {
+    if high < 1000 {
         return None;
     }
     Some((Pair { low, high }, &text[9..]))
@@ -191,14 +195,12 @@ fn pair_of_three_and_four<'a>(text: &'a [u8]) -> Option<(Pair, &'a [u8])>
 #[inline(always)]
 fn pair_of_threes<'a>(text: &'a [u8]) -> Option<(Pair, &'a [u8])>
     requires { 10 ≤ length text.now }
-    ensures { IfSome result (λ p. text.now ≡ pair_before p.0 true p.1.now) }
+    ensures { IfSome result (λ p. 100 ≤ p.0.low → p.0.low < p.0.high
+        → text.now ≡ pair_before p.0 true p.1.now) }
 {
     let digits = spread(long_word(text), THREES, THREE_LIMITS)?;
     let tens = digits * 10 + digits / 0x100;
     let low = (digits % 0x100 * 100 + tens / 0x100 % 0x100) as u32;
     let high = (digits / 0x1_0000_0000 % 0x100 * 100 + tens / 0x100_0000_0000 % 0x100) as u32;
-    if low < 100 || high < 100 {
-        return None;
-    }
     Some((Pair { low, high }, &text[8..]))
 }
