@@ -1,6 +1,7 @@
 -- What is held while a tree is built from its text: the finished children of the nodes that are open.
 -- Source: bottom-up parsing on a stack, as in any textbook of compilers.
-use Rattle.std.specs.Prelude.{◌≡◌, ◌≢◌, ◌↔◌, ◌+◌, ◌-◌, ◌<◌, ◌≤◌, ℕ, suc, Bool, true, false, List, [], ◌∷◌, ◌++◌, length, get_or, take, drop, map, AllPairs, Contains, Some, ⊤, IsTrue}
+use Rattle.std.specs.Prelude.{◌≡◌, ◌≢◌, ◌↔◌, ◌+◌, ◌-◌, ◌<◌, ◌≤◌, ℕ, suc, Bool, true, false, List, [], ◌∷◌, ◌++◌, length, get_or, take, drop, map, AllPairs, Contains, Some, ⊤, IsTrue, Option, MatchOption}
+use Rattle.std.specs.Borrow.{Bor}
 use Rattle.md_graph.specs.declared.TheConstants.{NAMES}
 use Rattle.md_graph.specs.NameSet.{AllBelow}
 use Rattle.md_graph.specs.Sets.{NameSet, Has}
@@ -118,6 +119,11 @@ pub record IsBuilt (bytes : List ℕ) (ts : List PlainTree) : Type 0 where
 -- a tree that ends the text before the rest is read, and held
 abbrev pub HasReadTree : List ℕ → List ℕ → List ℕ → Held → Type 0
 HasReadTree bytes text rest held = HasBuilt bytes rest true held × (length rest < length text)
+
+-- the node that is taken off the open ones ends before the rest, and is held; or the bytes are no well-formed tree's text
+abbrev pub EndsNode : List ℕ → Opened → Held → Option (Bor (List ℕ)) → Held → Type 0
+EndsNode text inner before rest after =
+    (bytes : List ℕ) → HasBuiltInside bytes text inner before → MatchOption rest (AreUseless bytes) (λ tail. HasReadTree bytes text tail.now after)
 
 -- what a step makes of what is held
 abbrev pub IsStep : List ℕ → List ℕ → Step → Held → Type 0
