@@ -9,19 +9,21 @@ use crate::growing::append;
 use crate::words::{long_word, spread, word};
 use md_graph::Memory;
 
-// So near to the one before, pairs of the same lower position are left to be read as those alike.
-const NEAR: u64 = 2;
+// So near to the one before, a pair of the same lower position is left to be read with those alike.
+const NEAR: u64 = 1;
 
-// The bytes of digits that are 0, and how far those of other digits may be from 128: `00000000`,
-// `000-000,` and `000-0000`.
+// Eight digits that are 0, the first one in the lowest byte; and how far each may rise: by 9, with
+// which the limit stays below 128.
 const DIGITS: u64 = 0x3030_3030_3030_3030;
 
 const DIGIT_LIMITS: u64 = 0x7676_7676_7676_7676;
 
+// The same of `000-000,`, where the marks may not rise.
 const THREES: u64 = 0x2c30_3030_2d30_3030;
 
 const THREE_LIMITS: u64 = 0x7f76_7676_7f76_7676;
 
+// The same of `000-0000`.
 const THREE_AND_FOUR: u64 = 0x3030_3030_2d30_3030;
 
 const THREE_AND_FOUR_LIMITS: u64 = 0x7676_7676_7f76_7676;
@@ -30,7 +32,7 @@ const THREE_AND_FOUR_LIMITS: u64 = 0x7676_7676_7f76_7676;
 const LANES: u64 = 0x0000_00ff_0000_00ff;
 
 // Goes on past pairs of numbers of three or four digits behind such a pair, as long as they ascend
-// and none is near to the one before. The digits of such a pair stand at fixed places of few words.
+// and none is near to the one before. Their digits stand at fixed places, and are read as one word.
 #[inline(always)]
 pub(crate) fn read_sparse<'a>(
     pair: Pair,
@@ -154,7 +156,8 @@ fn wide_pair<'a>(text: &'a [u8], least: u32) -> Option<(Pair, &'a [u8])>
     pair_of_threes(text)
 }
 
-// Such a pair of two numbers of four digits.
+// Such a pair of two numbers of four digits. Each byte of `tens` has ten times the digit there and
+// the digit behind it, so that few steps make both numbers.
 #[inline(always)]
 fn pair_of_fours<'a>(text: &'a [u8]) -> Option<(Pair, &'a [u8])>
     requires { 10 ≤ length text.now }
