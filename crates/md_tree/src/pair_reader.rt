@@ -12,7 +12,7 @@ ghost use Rattle.md_tree.specs.Held.{LacksEnd, IsEnd, LacksPairs, LacksPair, Lac
 use crate::grammar::skip_byte;
 use crate::growing::append;
 use crate::numbers::{digit, small_number};
-use crate::sparse_pairs::{is_before, is_of_positions, read_sparse};
+use crate::sparse_pairs::{is_before, is_of_positions, read_sparse, sparse_pair};
 use crate::words::word;
 use crate::{Kind, Pair};
 use md_graph::Memory;
@@ -107,6 +107,18 @@ fn read_pairs<'a>(
 // A pair, whether another one follows, and what stands behind the mark that tells it.
 #[inline(always)]
 fn read_pair<'a>(text: &'a [u8]) -> Option<(Pair, bool, &'a [u8])>
+    ensures { MatchOption result (LacksPair text.now)
+        (λ p. text.now ≡ pair_before p.0 p.1 p.2.now) }
+{
+    if let Some((pair, tail)) = sparse_pair(text) {
+        return Some((pair, true, tail));
+    }
+    read_any_pair(text)
+}
+
+// The same, a number at a time.
+#[inline(always)]
+fn read_any_pair<'a>(text: &'a [u8]) -> Option<(Pair, bool, &'a [u8])>
     ensures { MatchOption result (LacksPair text.now)
         (λ p. text.now ≡ pair_before p.0 p.1 p.2.now) }
 {

@@ -135,6 +135,31 @@ pub(crate) fn is_of_positions(pair: Pair, count: usize) -> bool
     pair.low < pair.high && (pair.high as usize) < count
 }
 
+// The pair that a text begins with, and what stands behind its comma, if it is of numbers of three
+// or four digits, the lower one first; none if no such pair is there, or if little text is left.
+#[inline(always)]
+pub(crate) fn sparse_pair<'a>(text: &'a [u8]) -> Option<(Pair, &'a [u8])>
+    ensures { IfSome result (λ p. text.now ≡ pair_before p.0 true p.1.now) }
+{
+    let least = least_low(text);
+    let (pair, tail) = wide_pair(text, least)?;
+    if pair.low < least || pair.low >= pair.high {
+        return None;
+    }
+    Some((pair, tail))
+}
+
+// The least number with as many digits as the lower one of such a pair.
+#[inline(always)]
+fn least_low(text: &[u8]) -> u32
+    ensures { 100 ≤ result }
+{
+    if text.len() > 4 && text[4] == b'-' {
+        return 1000;
+    }
+    100
+}
+
 // The pair that a text begins with, and what stands behind its comma, if the lower number has as
 // many digits as the least one, 1000 or 100; none if no such pair is there, or if little text is
 // left. Digits with a zero before them are told too, where the lower number is below the least one.
