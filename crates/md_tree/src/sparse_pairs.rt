@@ -149,7 +149,7 @@ pub(crate) fn sparse_pair<'a>(text: &'a [u8]) -> Option<(Pair, &'a [u8])>
     Some((pair, tail))
 }
 
-// The least number with as many digits as the lower one of such a pair.
+// The least number with as many digits as the lower one has, if such a pair is there.
 #[inline(always)]
 fn least_low(text: &[u8]) -> u32
     ensures { 100 ≤ result }
@@ -160,9 +160,9 @@ fn least_low(text: &[u8]) -> u32
     100
 }
 
-// The pair that a text begins with, and what stands behind its comma, if the lower number has as
-// many digits as the least one, 1000 or 100; none if no such pair is there, or if little text is
-// left. Digits with a zero before them are told too, where the lower number is below the least one.
+// The same where the lower number has as many digits as the least one, 1000 or 100. What is told is
+// sure only if the lower number is not below the least one, and is below the higher one: else a
+// zero may stand before the digits.
 #[inline(always)]
 fn wide_pair<'a>(text: &'a [u8], least: u32) -> Option<(Pair, &'a [u8])>
     requires { 100 ≤ least }
