@@ -1,11 +1,13 @@
 -- Pairs that are read one behind the other, and those that are spelled as the one before but for the last digit.
-use Rattle.std.proofs.Common.{◌≡◌, ℕ, suc, ◌+◌, ◌-◌, ◌*◌, ◌/◌, ◌%◌, ◌<◌, ◌≤◌, Bool, true, List, [], ◌∷◌, ◌++◌, length, take, drop, append_assoc, length-append, refl, sym, ◌∙◌, ap, subst, inr, arith}
+use Rattle.std.proofs.Common.{◌≡◌, ℕ, suc, ◌+◌, ◌-◌, ◌*◌, ◌/◌, ◌%◌, ◌<◌, ◌≤◌, Bool, true, List, [], ◌∷◌, ◌++◌, length, take, drop, append_assoc, length-append, refl, sym, ◌∙◌, ap, subst, inl, inr, arith}
 use Rattle.std.proofs.lemmas.List.{take-append-drop, take-take, drop-take, take_at}
 use Rattle.std.specs.Prelude.{◌↔◌, IsTrue}
 use Rattle.md_text.specs.Numbers.{decimal}
-use Rattle.md_text.proofs.NumberLemmas.{decimal_step, decimal_is_canonical, length-decimal_digit, length-decimal_two, length-decimal_pair}
+use Rattle.md_text.proofs.NumberLemmas.{decimal_step, decimal_is_canonical}
 use Rattle.md_tree.specs.declared.Pair.{Pair}
-use Rattle.md_tree.specs.Held.{mark_of, pair_before, MayFollow, EachMayFollow, no_pair, AreListed, last_behind, HasRead, ReadsOn, IsAlike, word_bytes}
+use Rattle.md_tree.specs.Held.{mark_of, pair_before, MayFollow, EachMayFollow, no_pair, AreListed, last_behind, HasRead, ReadsOn, IsAlike}
+use Rattle.md_tree.specs.Words.{word_bytes}
+use Rattle.md_tree.specs.StrongTrees.{IsPairBefore}
 use Rattle.md_tree.proofs.Numerals.{digit_more, pairs_start, pairs_more, pair_shorter}
 
 -- one pair more
@@ -38,15 +40,32 @@ one_read n text rest tail ps last q listed now h e f = record {
   may = listed_more n ps last q listed now h.last_is h.may f;
 }
 
--- a pair more is read, with the same lower position and a larger higher one
+-- the lower position of the later of two pairs
+pub low_from : (p q : Pair) (least : ℕ) → least ≤ p.low → IsPairBefore p q → least ≤ q.low
+low_from p q least from (inl below) = omega arith
+low_from p q least from (inr same) = let e : p.low ≡ q.low = same.0 in omega arith
+
+-- a pair more is read
+pub reads_next : (n : ℕ) (start rest behind : List ℕ) (ps qs : List Pair) (first last q : Pair) → ReadsOn n start ps first rest qs last →
+    IsPairBefore last q → q.low < q.high → q.high < n → rest ≡ pair_before q true behind → ReadsOn n start ps first behind (qs ++ q ∷ []) q
+reads_next n start rest behind ps qs first last q a before up below e = record {
+  on = λ text listed h. one_read n text rest behind qs last q listed listed (a.on text listed h) e ((λ t. (t, (before, (up, below)))), (λ b. b.0));
+  shorter = (let s = pair_shorter rest behind q true e in let t = a.shorter in omega arith);
+}
+
+-- with the same lower position and a larger higher one
 pub reads_more : (n : ℕ) (start rest behind : List ℕ) (ps qs : List Pair) (first : Pair) (low high next : ℕ) → ReadsOn n start ps first rest qs (record { low = low; high = high }) →
     low < high → high < next → next < n → rest ≡ pair_before (record { low = low; high = next }) true behind →
     ReadsOn n start ps first behind (qs ++ record { low = low; high = next } ∷ []) (record { low = low; high = next })
-reads_more n start rest behind ps qs first low high next a up rises below e = record {
-  on = λ text listed h.
-      one_read n text rest behind qs (record { low = low; high = high }) (record { low = low; high = next }) listed listed (a.on text listed h) e
-      ((λ t. (t, (inr (refl, rises), (omega arith, below)))), (λ b. b.0));
-  shorter = (let s = pair_shorter rest behind (record { low = low; high = next }) true e in let t = a.shorter in omega arith);
+reads_more n start rest behind ps qs first low high next a up rises below e =
+    reads_next n start rest behind ps qs first (record { low = low; high = high }) (record { low = low; high = next }) a (inr (refl, rises)) (omega arith) below e
+
+-- pairs are read, and more behind them
+pub reads_both : (n : ℕ) (start middle end : List ℕ) (ps qs rs : List Pair) (first second last : Pair) → ReadsOn n start ps first middle qs second → ReadsOn n middle qs second end rs last →
+    ReadsOn n start ps first end rs last
+reads_both n start middle end ps qs rs first second last a b = record {
+  on = λ text listed h. b.on text listed (a.on text listed h);
+  shorter = (let s = a.shorter in let t = b.shorter in omega arith);
 }
 
 -- the front of a pair's text, up to the last two digits
@@ -114,10 +133,3 @@ alike_pair text rest behind low high front begin end tens ones f large from to b
     ∙ append_assoc (decimal low) (45 ∷ decimal v) last
     ∙ ap (λ w. decimal low ++ 45 ∷ w) d
     ∙ ap (λ n. decimal low ++ 45 ∷ (decimal n ++ 44 ∷ behind)) (sym new)
-
--- how many digits a number has
-pub three_digits : (n : ℕ) → 100 ≤ n → n < 1000 → 3 ≡ length (decimal n)
-three_digits n from below = let a = length-decimal_pair n from in let b = length-decimal_digit (n / 100) (omega arith) in omega arith
-
-pub four_digits : (n : ℕ) → 1000 ≤ n → n < 10000 → 4 ≡ length (decimal n)
-four_digits n from below = let a = length-decimal_pair n (omega arith) in let b = length-decimal_two (n / 100) (omega arith) (omega arith) in omega arith

@@ -27,7 +27,8 @@ use Rattle.md_tree.proofs.Texts.{leaf_is_no_node, node_spelled, row_spelled}
 use Rattle.md_tree.proofs.Residuals.{ahead_row, follows_stops, tree_step, open_step, comma_step, end_step, each_follows}
 use Rattle.std.proofs.lemmas.List.{same_from_push}
 use Rattle.md_tree.proofs.Leaving.{no_snoc}
-use Rattle.md_tree.proofs.Holding.{lacks_if, shape_has, shape_lists, count_row, of_order, least_drop, names_either, kept_closed}
+use Rattle.md_tree.proofs.Folding.{count_row}
+use Rattle.md_tree.proofs.Holding.{lacks_if, shape_has, shape_lists, of_order, least_drop, names_either, kept_closed}
 use Rattle.md_tree.proofs.Numerals.{end_shorter}
 
 -- the name read

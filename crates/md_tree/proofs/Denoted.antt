@@ -21,7 +21,7 @@ use Rattle.md_tree.specs.TreeEdges.{crosses, in_listed, has_edge_in}
 use Rattle.md_text.proofs.Lists.{in_get, to_contains}
 use Rattle.md_tree.proofs.Graph.{at_inside, position_at}
 use Rattle.md_tree.proofs.Edges.{edges_are}
-use Rattle.md_tree.proofs.Loops.{or_moved, count_row, names_at_row}
+use Rattle.md_tree.proofs.Loops.{or_moved, count_plain, names_at_row}
 
 -- the children from a position on
 pub later_items : (zs xs : List Tree) (from : ℕ) → zs ≡ xs → take (length zs - from) (drop from zs) ≡ drop from xs
@@ -90,7 +90,7 @@ pair_here {xs} {zs} {qs} {i} d positions same less =
     let h : (p.low < p.high) × (p.high < count (row (map plain xs))) = positions p (listed_at zs qs i d same less) in
     let a : p.low < p.high = h.0 in
     let b : p.high < count (row (map plain xs)) = h.1 in
-    let c : count (row (map plain xs)) ≡ length xs = count_row xs in
+    let c : count (row (map plain xs)) ≡ length xs = count_plain xs in
     record { ordered = a; low = omega arith; high = omega arith }
 
 union_empty_left : (s a : NameSet) → s ≡ empty → union s a ≡ a

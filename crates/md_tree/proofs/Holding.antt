@@ -10,10 +10,11 @@ use Rattle.std.proofs.lemmas.List.{length-take-le, length-drop, take-append-drop
 use Rattle.md_tree.specs.declared.Kind.{Kind}
 use Rattle.md_tree.specs.declared.Kind.TheVariants.{Parallel, Series, Prime}
 use Rattle.md_tree.specs.declared.Pair.{Pair}
-use Rattle.md_tree.specs.Trees.{PlainTree, leaf, node, PlainTrees, names, names_below, count, row, EachNodeBelow}
+use Rattle.md_tree.specs.Trees.{PlainTree, leaf, node, PlainTrees, names, names_below, count, row}
 use Rattle.md_tree.specs.StrongTrees.{IsInOrder}
 use Rattle.md_tree.specs.WellFormed.{AreApart, IsCanonicalNode, HasShape}
 use Rattle.md_tree.specs.Held.{IsLeast, AreLeast, Ascends, AreKept, MayHave, MayList}
+use Rattle.md_tree.proofs.Folding.{count_row, each_join, each_parts}
 
 abbrev all_names : List PlainTree → NameSet
 all_names ts = names_below (row ts)
@@ -42,19 +43,6 @@ names_of_one t x h = elim (of_union (names t) empty x h) [ inl a ↦ a | inr b �
 
 pub names_to_one : (t : PlainTree) (x : ℕ) → Has (names t) x → Has (all_names (t ∷ [])) x
 names_to_one t x h = union_left (names t) empty x h
-
-module _ (P : Kind → PlainTrees → List Pair → Type 0) where
-  each_left : (xs ys : List PlainTree) → EachNodeBelow P (row (xs ++ ys)) → EachNodeBelow P (row xs)
-  each_left [] ys e = tt
-  each_left (t ∷ xs) ys e = (e.0, each_left xs ys e.1)
-
-  each_right : (xs ys : List PlainTree) → EachNodeBelow P (row (xs ++ ys)) → EachNodeBelow P (row ys)
-  each_right [] ys e = e
-  each_right (t ∷ xs) ys e = each_right xs ys e.1
-
-  each_both : (xs ys : List PlainTree) → EachNodeBelow P (row xs) → EachNodeBelow P (row ys) → EachNodeBelow P (row (xs ++ ys))
-  each_both [] ys a b = b
-  each_both (t ∷ xs) ys a b = (a.0, each_both xs ys a.1 b)
 
 pub lacks_if : (s : NameSet) (x : ℕ) → (Has s x → ⊥) → Lacks s x
 lacks_if s x n = false_from_ne_true _ n
@@ -165,7 +153,7 @@ kept_none = record {
 pub kept_name : (ts : List PlainTree) (ms : List ℕ) (seen : NameSet) (v : ℕ) → AreKept ts ms seen → v < NAMES → Lacks seen v →
     AreKept (ts ++ leaf v ∷ []) (ms ++ v ∷ []) (insert seen v)
 kept_name ts ms seen v k below lacks = record {
-  canonical = each_both IsCanonicalNode ts (leaf v ∷ []) k.canonical (tt, tt);
+  canonical = each_join IsCanonicalNode ts (leaf v ∷ []) k.canonical (tt, tt);
   apart = apart_both ts (leaf v ∷ []) k.apart (apart_one (leaf v)) (λ x h g.
       let e : x ≡ v = of_only v x (names_of_one (leaf v) x g) in
       clash ((k.same x).1 h) (subst (λ y. Lacks seen y) (sym e) lacks));
@@ -198,10 +186,6 @@ pub shape_lists : (k : Kind) (cs : PlainTrees) (ps : List Pair) → HasShape k c
 shape_lists Parallel cs ps s = s.no_pairs
 shape_lists Series cs ps s = s.no_pairs
 shape_lists Prime cs ps s = (s.some_pair, s.ascending, s.positions)
-
-pub count_row : (ts : List PlainTree) → count (row ts) ≡ length ts
-count_row [] = refl
-count_row (t ∷ ts) = ap (λ n. suc n) (count_row ts)
 
 least_of_trees : (ts : List PlainTree) (ns : List ℕ) → AreLeast ts ns → Ascends ns → 0 < length ts → (m : ℕ) × IsLeast (all_names ts) m × (take 1 ns ≡ m ∷ [])
 least_of_trees [] ns l a some = absurd (omega arith)
@@ -249,7 +233,7 @@ module _ (xs ys : List PlainTree) (ms : List ℕ) (seen : NameSet) (kept : AreKe
       ) in
       let one : length xs + 1 ≡ suc (length xs) = omega arith in
       record {
-        canonical = each_both IsCanonicalNode xs (made ∷ []) (each_left IsCanonicalNode xs ys kept.canonical) ((node_canonical, each_right IsCanonicalNode xs ys kept.canonical), tt);
+        canonical = each_join IsCanonicalNode xs (made ∷ []) (each_parts IsCanonicalNode xs ys kept.canonical).0 ((node_canonical, (each_parts IsCanonicalNode xs ys kept.canonical).1), tt);
         apart = apart_both xs (made ∷ []) (apart_left xs ys kept.apart) (apart_one made) (λ x h g. apart_across xs ys kept.apart x h (names_of_one made x g));
         same = λ x. ((λ h. (all x).1 ((kept.same x).0 h)), (λ h. (kept.same x).1 ((all x).0 h)));
         below = kept.below;

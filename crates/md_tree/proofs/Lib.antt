@@ -22,5 +22,6 @@ pub mod Holding
 pub mod Coming
 pub mod Numerals
 pub mod Alike
+pub mod Spread
 pub mod ReadBack
 pub mod Listing

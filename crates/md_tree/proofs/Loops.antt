@@ -1,7 +1,7 @@
 -- Loops over the children of a node that change a graph: what the trees from a position on have still to add.
 use Rattle.std.proofs.Math.Bool.{or-false}
 use Rattle.std.proofs.Common.{◌≡◌, ℕ, zero, suc, ◌+◌, ◌<◌, ◌≤◌, Bool, true, false, ◌||◌, List, [], ◌∷◌, length, get_or, drop, map, refl, sym, ◌∙◌, ap, subst, inl, inr, arith}
-use Rattle.std.proofs.lemmas.List.{at_drop_more}
+use Rattle.std.proofs.lemmas.List.{at_drop_more, length-map}
 use Rattle.std.proofs.Math.ListN.{drop_of_length-le}
 use Rattle.std.specs.FinSet.{empty, insert, union}
 use Rattle.md_graph.specs.declared.TheConstants.{NAMES}
@@ -14,6 +14,7 @@ use Rattle.md_tree.specs.WellFormed.{AreApart, IsCanonicalNode}
 use Rattle.md_tree.specs.declared.Tree.{Tree}
 use Rattle.md_tree.specs.Trees.{PlainTree, PlainTrees, no_tree, one_more, names, names_below, names_at, count, row, EachNode, EachNodeBelow}
 use Rattle.md_tree.specs.Plain.{plain}
+use Rattle.md_tree.proofs.Folding.{count_row}
 
 -- the trees from a position on
 abbrev pub rest : List Tree → ℕ → PlainTrees
@@ -166,9 +167,8 @@ insert_is_union a v = same_members (insert a v) (union a (only_name v))
     ])
 
 -- a position of a list of trees
-pub count_row : (xs : List Tree) → count (row (map plain xs)) ≡ length xs
-count_row [] = refl
-count_row (x ∷ xs) = ap (λ n. suc n) (count_row xs)
+pub count_plain : (xs : List Tree) → count (row (map plain xs)) ≡ length xs
+count_plain xs = count_row (map plain xs) ∙ length-map xs plain
 
 pub names_at_row : (xs : List Tree) (i : ℕ) (d : Tree) → i < length xs → names_at (row (map plain xs)) i ≡ names (plain (get_or xs i d))
 names_at_row [] i d h = let b : i < 0 = h in absurd (omega arith)

@@ -1,7 +1,7 @@
 -- What is held while a tree is built from its text: the finished children of the nodes that are open.
 -- Source: bottom-up parsing on a stack, as in any textbook of compilers.
-use Rattle.std.specs.Prelude.{◌≡◌, ◌≢◌, ◌↔◌, ◌+◌, ◌-◌, ◌<◌, ◌≤◌, ℕ, suc, Bool, true, false, List, [], ◌∷◌, ◌++◌, length, get_or, take, drop, map, AllPairs, Contains, Some, ⊤, IsTrue}
-use Rattle.std.specs.Int.{w32, to_le_bytes}
+use Rattle.std.specs.Prelude.{◌≡◌, ◌≢◌, ◌↔◌, ◌+◌, ◌-◌, ◌<◌, ◌≤◌, ℕ, suc, Bool, true, false, List, [], ◌∷◌, ◌++◌, length, get_or, take, drop, map, AllPairs, Contains, Some, ⊤, IsTrue, Option, MatchOption}
+use Rattle.std.specs.Borrow.{Bor}
 use Rattle.md_graph.specs.declared.TheConstants.{NAMES}
 use Rattle.md_graph.specs.NameSet.{AllBelow}
 use Rattle.md_graph.specs.Sets.{NameSet, Has}
@@ -9,7 +9,6 @@ use Rattle.md_text.specs.Numbers.{decimal}
 use Rattle.md_tree.specs.declared.Kind.{Kind}
 use Rattle.md_tree.specs.declared.Kind.TheVariants.{Parallel, Series, Prime}
 use Rattle.md_tree.specs.declared.Pair.{Pair}
-use Rattle.md_tree.specs.declared.pair_reader.Low.{Low}
 use Rattle.md_tree.specs.declared.builder.Opened.{Opened}
 use Rattle.md_tree.specs.declared.builder.Held.{Held}
 use Rattle.md_tree.specs.declared.builder.Step.{Step}
@@ -20,6 +19,7 @@ use Rattle.md_tree.specs.StrongTrees.{IsPairBefore}
 use Rattle.md_tree.specs.TreeTexts.{pairs_text, tree_text}
 use Rattle.md_tree.specs.WellFormed.{AreApart, IsCanonicalNode, IsWellFormed, NoneOfKind}
 use Rattle.md_tree.specs.Residual.{OpenNode, Due, Follows, IsPastDigits}
+use Rattle.md_tree.specs.Words.{word_bytes}
 
 -- the least member of s
 pub record IsLeast (s : NameSet) (least : ℕ) : Type 0 where
@@ -120,6 +120,11 @@ pub record IsBuilt (bytes : List ℕ) (ts : List PlainTree) : Type 0 where
 abbrev pub HasReadTree : List ℕ → List ℕ → List ℕ → Held → Type 0
 HasReadTree bytes text rest held = HasBuilt bytes rest true held × (length rest < length text)
 
+-- the node that is taken off the open ones ends before the rest, and is held; or the bytes are no well-formed tree's text
+abbrev pub EndsNode : List ℕ → Opened → Held → Option (Bor (List ℕ)) → Held → Type 0
+EndsNode text inner before rest after =
+    (bytes : List ℕ) → HasBuiltInside bytes text inner before → MatchOption rest (AreUseless bytes) (λ tail. HasReadTree bytes text tail.now after)
+
 -- what a step makes of what is held
 abbrev pub IsStep : List ℕ → List ℕ → Step → Held → Type 0
 IsStep bytes text (Onward tail) held = HasBuilt bytes tail.now false held × (length tail.now < length text)
@@ -217,14 +222,6 @@ pub record HasRead (n : ℕ) (text rest : List ℕ) (read : List Pair) (last : P
 pub record ReadsOn (n : ℕ) (rest : List ℕ) (read : List Pair) (last : Pair) (far : List ℕ) (all : List Pair) (next : Pair) : Type 0 where
   pub on : (text : List ℕ) (listed : Bool) → HasRead n text rest read last listed → HasRead n text far all next listed
   pub shorter : length far ≤ length rest
-
--- the four bytes that a number of 32 bits has
-abbrev pub word_bytes : ℕ → List ℕ
-word_bytes n = to_le_bytes w32 n
-
--- if digits of a lower position are told, they are at most four, and are the first of the four bytes
-abbrev pub IsLow : Low → Type 0
-IsLow low = 0 < low.digits → (low.digits ≤ 4) × (take low.digits (word_bytes low.begin) ≡ decimal low.number)
 
 -- two digits and a comma stand behind the first `front` bytes of a text, of which the first and the last four are told
 pub record IsAlike (text : List ℕ) (front begin end tens ones : ℕ) (behind : List ℕ) : Type 0 where

@@ -15,4 +15,5 @@ pub mod Grammar
 pub mod Reading
 pub mod Residual
 pub mod Languages
+pub mod Words
 pub mod Held

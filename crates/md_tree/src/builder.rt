@@ -7,7 +7,7 @@ ghost use Rattle.md_tree.specs.Trees.{node, row};
 ghost use Rattle.md_tree.specs.TreeTexts.{letter, tree_text};
 ghost use Rattle.md_tree.specs.WellFormed.{IsWellFormed, IsOfKind, NoneOfKind};
 ghost use Rattle.md_tree.specs.Languages.{LacksFirst};
-ghost use Rattle.md_tree.specs.Held.{IsNumberSplit, HasBuilt, HasBuiltInside, HasReadTree, IsStep, AreUseless, Ascends, MayHave, trees_held};
+ghost use Rattle.md_tree.specs.Held.{IsNumberSplit, HasBuilt, HasBuiltInside, HasReadTree, EndsNode, IsStep, AreUseless, Ascends, MayHave, trees_held};
 
 use crate::grammar::{skip_byte, split_letter};
 use crate::growing::{append, make_room};
@@ -233,9 +233,7 @@ fn end_node<'a>(
 ) -> Result<Option<&'a [u8]>, Memory>
     requires inside { (bytes : List ℕ) × HasBuiltInside bytes text.now inner held.old }
     requires no_comma { LacksFirst 44 text.now }
-    ensures { IfOk result (λ o. (bytes : List ℕ) → HasBuiltInside bytes text.now inner held.old
-        → MatchOption o (AreUseless bytes)
-        (λ tail. HasReadTree bytes text.now tail.now held.new)) }
+    ensures { IfOk result (λ o. EndsNode text.now inner held.old o held.new) }
 {
     if inner.kind != Kind::Prime && held.trees.len() - inner.first as usize == 2 {
         return end_two(alloc, text, inner, held);
@@ -256,9 +254,7 @@ fn end_two<'a>(
     requires no_comma { LacksFirst 44 text.now }
     requires two { vec_len held.old.trees ≡ inner.first + 2 }
     requires no_pairs { inner.kind ≢ Prime }
-    ensures { IfOk result (λ o. (bytes : List ℕ) → HasBuiltInside bytes text.now inner held.old
-        → MatchOption o (AreUseless bytes)
-        (λ tail. HasReadTree bytes text.now tail.now held.new)) }
+    ensures { IfOk result (λ o. EndsNode text.now inner held.old o held.new) }
 {
     let Ok(tail) = skip_byte(text, b')') else {
         return Ok(None);
@@ -309,9 +305,7 @@ fn end_any<'a>(
 ) -> Result<Option<&'a [u8]>, Memory>
     requires inside { (bytes : List ℕ) × HasBuiltInside bytes text.now inner held.old }
     requires no_comma { LacksFirst 44 text.now }
-    ensures { IfOk result (λ o. (bytes : List ℕ) → HasBuiltInside bytes text.now inner held.old
-        → MatchOption o (AreUseless bytes)
-        (λ tail. HasReadTree bytes text.now tail.now held.new)) }
+    ensures { IfOk result (λ o. EndsNode text.now inner held.old o held.new) }
 {
     let first = inner.first as usize;
     if !may_have(inner.kind, &held.trees[first..], &held.least[first..]) {

@@ -15,7 +15,9 @@ mod pair_reader;
 mod pair_writer;
 mod parts;
 mod reader;
+mod sparse_pairs;
 mod tree_graph;
+mod words;
 mod writer;
 
 pub use builder::Opened;

@@ -7,23 +7,16 @@ ghost use Rattle.md_tree.specs.TreeTexts.{pairs_text};
 ghost use Rattle.md_tree.specs.declared.Kind.TheVariants.{Prime};
 ghost use Rattle.md_tree.specs.StrongTrees.{IsPairBefore};
 ghost use Rattle.md_tree.specs.Languages.{LacksFirst};
-ghost use Rattle.md_tree.specs.Held.{LacksEnd, IsEnd, LacksPairs, LacksPair, LacksNumber, IsNumberSplit, IsLow, pair_before, AreListed, MayFollow, ReadsOn, IsAlike, word_bytes};
+ghost use Rattle.md_tree.specs.Held.{LacksEnd, IsEnd, LacksPairs, LacksPair, LacksNumber, IsNumberSplit, pair_before, AreListed, MayFollow, ReadsOn, IsAlike};
 
 use crate::grammar::skip_byte;
 use crate::growing::append;
 use crate::numbers::{digit, small_number};
+use crate::sparse_pairs::{is_before, is_of_positions, read_sparse, sparse_pair};
+use crate::words::word;
 use crate::{Kind, Pair};
 use md_graph::Memory;
 use std::alloc::Global;
-
-// The lower position of a pair as it is spelled: how many digits it has, if three or four, and then
-// the first four bytes of the pair; else no digits are told.
-#[derive(Clone, Copy)]
-struct Low {
-    number: u32,
-    digits: usize,
-    begin: u32,
-}
 
 // The pairs of a node of the kind with so many children, and what stands behind its bracket; none
 // if no pairs that it may list stand there, with the bracket behind them.
@@ -96,13 +89,8 @@ fn read_pairs<'a>(
     let mut rest = text;
     let mut last = Pair { low: 0, high: 0 };
     let mut listed = true;
-    let mut low = Low {
-        number: 0,
-        digits: 0,
-        begin: 0,
-    };
     loop {
-        let Some((pair, more, tail)) = read_pair(rest, low) else {
+        let Some((pair, more, tail)) = read_pair(rest) else {
             return Ok(None);
         };
         listed = still_listed(listed, last, pair, count);
@@ -110,7 +98,6 @@ fn read_pairs<'a>(
         if !more {
             return Ok(Some((pairs, listed, tail)));
         }
-        low = low_of(rest, pair.low, last.low, low);
         let (next, far) = read_run(rest, pair, tail, last.low, count, &mut pairs)?;
         last = next;
         rest = far;
@@ -119,12 +106,23 @@ fn read_pairs<'a>(
 
 // A pair, whether another one follows, and what stands behind the mark that tells it.
 #[inline(always)]
-fn read_pair<'a>(text: &'a [u8], before: Low) -> Option<(Pair, bool, &'a [u8])>
-    requires { IsLow before }
+fn read_pair<'a>(text: &'a [u8]) -> Option<(Pair, bool, &'a [u8])>
     ensures { MatchOption result (LacksPair text.now)
         (λ p. text.now ≡ pair_before p.0 p.1 p.2.now) }
 {
-    let (low, hyphen) = read_low(text, before)?;
+    if let Some((pair, tail)) = sparse_pair(text) {
+        return Some((pair, true, tail));
+    }
+    read_any_pair(text)
+}
+
+// The same, a number at a time.
+#[inline(always)]
+fn read_any_pair<'a>(text: &'a [u8]) -> Option<(Pair, bool, &'a [u8])>
+    ensures { MatchOption result (LacksPair text.now)
+        (λ p. text.now ≡ pair_before p.0 p.1 p.2.now) }
+{
+    let (low, hyphen) = small_number(text)?;
     let Ok(second) = skip_byte(hyphen, b'-') else {
         return None;
     };
@@ -139,77 +137,6 @@ fn read_pair<'a>(text: &'a [u8], before: Low) -> Option<(Pair, bool, &'a [u8])>
     None
 }
 
-// The lower position of a pair; mostly it is that of the pair before.
-#[inline(always)]
-fn read_low<'a>(text: &'a [u8], before: Low) -> Option<(u32, &'a [u8])>
-    requires { IsLow before }
-    ensures { MatchOption result (LacksNumber text.now)
-        (λ p. IsNumberSplit text.now p.0 p.1.now) }
-{
-    if begins_with_low(text, before) {
-        return Some((before.number, &text[before.digits..]));
-    }
-    small_number(text)
-}
-
-// Whether a text begins with this position and a hyphen, as far as four bytes tell it.
-#[inline(always)]
-fn begins_with_low(text: &[u8], low: Low) -> bool
-    requires { IsLow low }
-    ensures { IsTrue result → (low.digits < length text.now)
-        × IsNumberSplit text.now low.number (drop low.digits text.now) }
-{
-    if low.digits == 0 || text.len() < 5 {
-        return false;
-    }
-    if word(text, 0) != low.begin {
-        return false;
-    }
-    text[low.digits] == b'-'
-}
-
-// The lower position of the pair that a text begins with, if the pair before has the same one. Else
-// what was told of an earlier one stays: most positions of a sparse node come once.
-#[inline(always)]
-fn low_of(text: &[u8], number: u32, last: u32, before: Low) -> Low
-    requires low { IsLow before }
-    requires begins { (x : List ℕ) × (text.now ≡ decimal number ++ 45 ∷ x) }
-    ensures { IsLow result }
-{
-    if number != last {
-        return before;
-    }
-    if number == before.number {
-        return before;
-    }
-    let digits = digits_of(number);
-    if digits == 0 || text.len() < 4 {
-        return Low {
-            number,
-            digits: 0,
-            begin: 0,
-        };
-    }
-    Low {
-        number,
-        digits,
-        begin: word(text, 0),
-    }
-}
-
-// How many digits a number has, if three or four; else 0.
-fn digits_of(number: u32) -> usize
-    ensures { 0 < result → (result ≤ 4) × (result ≡ length (decimal number)) }
-{
-    if number < 100 || number >= 10_000 {
-        return 0;
-    }
-    if number < 1000 {
-        return 3;
-    }
-    4
-}
-
 // Whether pairs may be listed with one more behind the last of them.
 #[inline(always)]
 fn still_listed(listed: bool, last: Pair, pair: Pair, count: usize) -> bool
@@ -218,23 +145,8 @@ fn still_listed(listed: bool, last: Pair, pair: Pair, count: usize) -> bool
     listed && is_before(last, pair) && is_of_positions(pair, count)
 }
 
-#[inline(always)]
-fn is_before(first: Pair, second: Pair) -> bool
-    ensures { IsTrue result ↔ IsPairBefore first second }
-{
-    first.low < second.low || first.low == second.low && first.high < second.high
-}
-
-#[inline(always)]
-fn is_of_positions(pair: Pair, count: usize) -> bool
-    ensures { IsTrue result ↔ ((pair.low < pair.high) × (pair.high < count)) }
-{
-    pair.low < pair.high && (pair.high as usize) < count
-}
-
 // Goes on past pairs that are like the one before, if that has the lower position of the pair
-// before it, the `last` one. So a pair of a sparse node is not made ready for the loop over such
-// pairs.
+// before it, the `last` one; and where there are none, past those of a sparse node.
 #[inline(always)]
 fn read_run<'a>(
     text: &'a [u8],
@@ -249,10 +161,17 @@ fn read_run<'a>(
     ensures { IfOk result
         (λ r. ReadsOn count tail.now pairs.old.items pair r.1.now pairs.new.items r.0) }
 {
-    if pair.low != last {
+    if pair.high < 100 {
         return Ok((pair, tail));
     }
-    read_alike(text, pair, tail, count, pairs)
+    if pair.low != last {
+        return read_sparse(pair, tail, count, pairs);
+    }
+    let (next, rest) = read_alike(text, pair, tail, count, pairs)?;
+    if next.high != pair.high {
+        return Ok((next, rest));
+    }
+    read_sparse(next, rest, count, pairs)
 }
 
 // Goes on past the pairs that are spelled as the one before but for the last two digits, as long as
@@ -331,13 +250,4 @@ fn last_digits<'a>(
     let tens = digit(text[front])?;
     let ones = digit(text[front + 1])?;
     Some((tens, ones, &text[front + 3..]))
-}
-
-// Four bytes of a text as one number.
-#[inline(always)]
-fn word(text: &[u8], at: usize) -> u32
-    requires { at + 4 ≤ length text.now }
-    ensures { word_bytes result ≡ take 4 (drop at text.now) }
-{
-    u32::from_le_bytes([text[at], text[at + 1], text[at + 2], text[at + 3]])
 }

@@ -102,3 +102,28 @@ fn deep_texts(rt: HostRuntime) -> Result<(), Fail> {
     check_read(&rt, alloc, &bytes);
     Ok(())
 }
+
+// The tree of a path along the names in their order.
+fn path(alloc: Global, count: u32) -> Result<Vec<u8>, Fail> {
+    let mut bytes = Vec::new(alloc);
+    bytes.extend_from_slice(b"R(0")?;
+    for k in 1..count {
+        let piece = format!(in alloc; ",{k}")?;
+        bytes.extend_from_slice(piece.as_bytes())?;
+    }
+    bytes.extend_from_slice(b";0-1")?;
+    for k in 2..count {
+        let piece = format!(in alloc; ",{}-{k}", k - 1)?;
+        bytes.extend_from_slice(piece.as_bytes())?;
+    }
+    bytes.push(b')')?;
+    Ok(bytes)
+}
+
+#[test]
+fn long_texts(rt: HostRuntime) -> Result<(), Fail> {
+    let alloc = rt.alloc();
+    let bytes = path(alloc, 1_200)?;
+    check_read(&rt, alloc, &bytes);
+    Ok(())
+}

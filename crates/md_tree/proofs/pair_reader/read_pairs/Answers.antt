@@ -1,4 +1,4 @@
-use Rattle.std.proofs.Common.{◌<◌, true, sym, subst, ap, ◌∙◌, ◌∷◌, ◌++◌, arith}
+use Rattle.std.proofs.Common.{true, sym, subst, ap, ◌∙◌, ◌∷◌, ◌++◌, arith}
 use Rattle.std.specs.Prelude.{◌↔◌, IsTrue}
 use Rattle.md_tree.specs.TreeTexts.{pairs_text}
 use Rattle.md_tree.specs.Held.{no_pair, HasRead, AreListed}
@@ -7,13 +7,11 @@ use Rattle.md_tree.proofs.Alike.{none_read, one_read, listed_more}
 use Rattle.md_tree.proofs.pair_reader.read_pairs.Goals as goal
 
 pub loop-pair-init : goal.loop-pair-init
-loop-pair-init c = record {
-  low = (λ (some : 0 < 0). absurd (omega arith));
-  read = subst (λ ps. HasRead c.args.count c.args.text.now c.args.text.now ps no_pair true) (sym c.new-pairs.ensures.items) (none_read c.args.count c.args.text.now);
-}
+loop-pair-init c =
+    subst (λ ps. HasRead c.args.count c.args.text.now c.args.text.now ps no_pair true) (sym c.new-pairs.ensures.items) (none_read c.args.count c.args.text.now)
 
 pub returns-in_default : goal.returns-in_default
-returns-in_default c = pairs_lack c.args.text.now c.loop-pair.rest.now c.loop-pair.pairs.items c.loop-pair.invariant.read.pairs c.in_default.ensures
+returns-in_default c = pairs_lack c.args.text.now c.loop-pair.rest.now c.loop-pair.pairs.items c.loop-pair.invariant.pairs c.in_default.ensures
 
 pub loop-pair-preserved : goal.loop-pair-preserved
 loop-pair-preserved c =
@@ -21,13 +19,10 @@ loop-pair-preserved c =
     let n = c.args.count in
     let text = c.args.text.now in
     let now = c.still_listed-listed.result in
-    record {
-      low = c.low_of-low.ensures;
-      read = c.in_ok-next.ensures.on text now
-          (subst (λ ps. HasRead n text c.in-Some.tail.now ps c.in-Some.pair now) (sym c.in_ok-append.ensures)
-          (one_read n text c.loop-pair.rest.now c.in-Some.tail.now c.loop-pair.pairs.items c.loop-pair.last c.in-Some.pair c.loop-pair.listed now c.loop-pair.invariant.read (rw more at c.in-Some.ensures)
-          c.still_listed-listed.ensures));
-    }
+    c.in_ok-next.ensures.on text now
+    (subst (λ ps. HasRead n text c.in-Some.tail.now ps c.in-Some.pair now) (sym c.in_ok-append.ensures)
+    (one_read n text c.loop-pair.rest.now c.in-Some.tail.now c.loop-pair.pairs.items c.loop-pair.last c.in-Some.pair c.loop-pair.listed now c.loop-pair.invariant (rw more at c.in-Some.ensures)
+    c.still_listed-listed.ensures))
 
 pub loop-pair-smaller : goal.loop-pair-smaller
 loop-pair-smaller c =
@@ -38,7 +33,7 @@ loop-pair-smaller c =
 pub returns-then-not-more : goal.returns-then-not-more
 returns-then-not-more c =
     let more = c.if-not-more.true in
-    let i = c.loop-pair.invariant.read in
+    let i = c.loop-pair.invariant in
     let qs = c.loop-pair.pairs.items in
     let now = c.still_listed-listed.result in (
       (λ e. snoc_some qs c.in-Some.pair (sym c.in_ok-append.ensures ∙ e)),

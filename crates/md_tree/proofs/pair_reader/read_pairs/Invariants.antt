@@ -1,12 +1,9 @@
 use Rattle.std.proofs.Common.{length}
-use Rattle.md_tree.specs.Held.{HasRead, IsLow}
+use Rattle.md_tree.specs.Held.{HasRead}
 use Rattle.md_tree.proofs.pair_reader.read_pairs.Given as goal
 
 abbrev pub invariant-loop-pair : goal.invariant-loop-pair
-invariant-loop-pair l = record {
-  low : IsLow l.low;
-  read : HasRead l.count l.text l.rest l.pairs.items l.last l.listed;
-}
+invariant-loop-pair l = HasRead l.count l.text l.rest l.pairs.items l.last l.listed
 
 abbrev pub decreases-loop-pair : goal.decreases-loop-pair
 decreases-loop-pair l = length l.rest

@@ -1,5 +1,5 @@
 use Rattle.md_tree.proofs.Numerals.{lacks_hyphen, lacks_high, lacks_mark, empty_lacks_first, other_first}
-use Rattle.md_tree.proofs.pair_reader.read_pair.Goals as goal
+use Rattle.md_tree.proofs.pair_reader.read_any_pair.Goals as goal
 
 pub returns-in_default : goal.returns-in_default
 returns-in_default c = lacks_hyphen _ _ _ c.in_ok-low.ensures c.in_default.ensures.other

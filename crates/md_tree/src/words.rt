@@ -1,0 +1,43 @@
+//! Several bytes of a text as one number, and the digits that they spell.
+ghost use Rattle.std.specs.Prelude.{◌≡◌, ◌+◌, ◌≤◌, length, take, drop, IfSome};
+ghost use Rattle.md_tree.specs.Words.{word_bytes, long_word_bytes, AreLow, IsSpread};
+
+// The highest bit of each byte.
+const HIGHEST: u64 = 0x8080_8080_8080_8080;
+
+// Four bytes of a text as one number.
+#[inline(always)]
+pub(crate) fn word(text: &[u8], at: usize) -> u32
+    requires { at + 4 ≤ length text.now }
+    ensures { word_bytes result ≡ take 4 (drop at text.now) }
+{
+    u32::from_le_bytes([text[at], text[at + 1], text[at + 2], text[at + 3]])
+}
+
+// The first eight bytes of a text as one number.
+#[inline(always)]
+pub(crate) fn long_word(text: &[u8]) -> u64
+    requires { 8 ≤ length text.now }
+    ensures { long_word_bytes result ≡ take 8 text.now }
+{
+    u64::from_le_bytes([
+        text[0], text[1], text[2], text[3], text[4], text[5], text[6], text[7],
+    ])
+}
+
+// What each byte of a word is above that of `base`, if with that of `limits` it stays below 128.
+#[inline(always)]
+pub(crate) fn spread(word: u64, base: u64, limits: u64) -> Option<u64>
+    requires base { AreLow 8 base }
+    requires limits { AreLow 8 limits }
+    ensures { IfSome result (λ digits. IsSpread 8 word base limits digits) }
+{
+    let digits = word.wrapping_sub(base);
+    if digits & HIGHEST != 0 {
+        return None;
+    }
+    if digits.wrapping_add(limits) & HIGHEST != 0 {
+        return None;
+    }
+    Some(digits)
+}
