@@ -4,7 +4,7 @@ ghost use Rattle.md_graph.specs.PlainGraph.{empty_graph};
 
 use super::*;
 use md_dimacs::{DimacsFault, DimacsKind};
-use md_graph::Graph;
+use md_graph::{Graph, GraphOf};
 use md_graph6::{G6Fault, G6Kind};
 use md_script::ScriptKind;
 use std::alloc::Global;
@@ -56,6 +56,25 @@ fn graphs_of_files(rt: HostRuntime) -> Result<(), Fail> {
         line: 1,
     };
     refuses(&rt, alloc, Format::Dimacs, b"q\n", Fault::Dimacs(unknown));
+    Ok(())
+}
+
+#[test]
+fn small_graphs_of_files(rt: HostRuntime) -> Result<(), Fail> {
+    let alloc = rt.alloc();
+    let mut small = GraphOf::new(alloc)?;
+    let Ok(mut graphs) = Graphs::read(alloc, Format::G6, b"Bw\n") else {
+        panic!(rt; "a fault");
+    };
+    assert_eq!(rt; graphs.next_small(&mut small), Some(true));
+    assert_eq!(rt; small.count(), 3);
+    small.clear();
+    assert_eq!(rt; graphs.next_small(&mut small), Some(false));
+    small.clear();
+    let Ok(mut graphs) = Graphs::read(alloc, Format::Dimacs, b"p edge 3 0\n") else {
+        panic!(rt; "a fault");
+    };
+    assert_eq!(rt; graphs.next_small(&mut small), None);
     Ok(())
 }
 
