@@ -20,7 +20,8 @@ use Rattle.md_tree.specs.StrongTrees.{IsTreeOf}
 use Rattle.md_tree.specs.TreeTexts.{letter, pairs_text, tree_text}
 use Rattle.md_tree.specs.Trees.{PlainTree, leaf, node, names, names_below, row, EachNodeBelow}
 use Rattle.md_tree.specs.WellFormed.{IsCanonicalNode, IsWellFormed, IsOfKind, NoneOfKind}
-use Rattle.md_tree.proofs.Holding.{kept_none, kept_name, kept_closed, names_to_one, names_of_one, count_row}
+use Rattle.md_tree.proofs.Folding.{count_row}
+use Rattle.md_tree.proofs.Holding.{kept_none, kept_name, kept_closed, names_to_one, names_of_one}
 use Rattle.md_tree.proofs.Coming.{due_start, due_name, due_node, behind_comma, behind_inside, behind_end, inside_end, inside_first, few_held}
 use Rattle.md_checker.specs.Fits.{head, IsFitNode}
 use Rattle.md_checker.specs.FitTests.{union_all, AreHeads, IsFit, AreFinished, MayPut}

@@ -6,7 +6,7 @@ ghost use Rattle.md_graph.specs.PlainGraph.{PlainGraph, adjacent};
 ghost use Rattle.md_graph.specs.Sets.{NameSet};
 ghost use Rattle.md_tree.specs.declared.Kind.TheVariants.{Prime};
 ghost use Rattle.md_tree.specs.declared.Pair.{Pair};
-ghost use Rattle.md_tree.specs.Held.{Ascends, IsNumberSplit, MayList};
+ghost use Rattle.md_tree.specs.Held.{IsNumberSplit, MayList};
 ghost use Rattle.md_tree.specs.StrongTrees.{IsTreeOf};
 ghost use Rattle.md_tree.specs.Trees.{PlainTree};
 ghost use Rattle.md_tree.specs.TreeTexts.{letter, pairs_text, tree_text};
@@ -18,7 +18,7 @@ use crate::head_pairs::{PairSpace, past_pairs};
 use crate::tree_fit::{are_alike, has_trivial_modules_alone, is_fit, set_of};
 use md_graph::{GraphOf, Memory, NAMES, Set, WORDS};
 use md_modules::Block;
-use md_tree::{Kind, Opened, skip_byte, small_number, split_letter};
+use md_tree::{Kind, Opened, ascends, skip_byte, small_number, split_letter};
 use std::alloc::Global;
 
 // What is kept of a text that is read: of each finished tree its names, its head and the kind of
@@ -370,18 +370,6 @@ fn may_have(kind: Kind, children: &[Option<Kind>]) -> bool
         Kind::Series => children.len() >= 2 && !children.contains(&Some(kind)),
         Kind::Prime => children.len() >= 4,
     }
-}
-
-// Whether each number is below the next one.
-fn ascends(numbers: &[u32]) -> bool
-    ensures { IsTrue result ↔ Ascends numbers.now }
-{
-    for i in 1..numbers.len() {
-        if numbers[i - 1] >= numbers[i] {
-            return false;
-        }
-    }
-    true
 }
 
 #[cfg(test)]

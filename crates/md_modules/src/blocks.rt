@@ -256,19 +256,19 @@ pub fn only_member<const W: usize>(set: &Set<W>) -> Option<u32>
     Some(first)
 }
 
-// Whether no member is above `v`. The last member of a set of one word is found at once, and that
-// of another one behind all words in use.
+// Whether no member is above `v`. A large set mostly has the next name; the last member of a small
+// one is looked for from the end.
 #[inline]
 fn is_last<const W: usize>(set: &Set<W>, v: u32) -> bool
     requires { v < NAMES }
     ensures last { IsTrue result → AllBelow set.now (v + 1) }
     ensures more { ¬ IsTrue result → (w : ℕ) × Has set.now w × (v < w) }
 {
-    if W == 1 {
-        return match set.last() {
-            Some(last) => last <= v,
-            None => true,
-        };
+    if W > 1 && set.has(v + 1) {
+        return false;
     }
-    set.first_from(v + 1).is_none()
+    match set.last() {
+        Some(last) => last <= v,
+        None => true,
+    }
 }

@@ -397,8 +397,8 @@ fn is_of_kind(tree: &Tree, kind: Kind) -> bool
     }
 }
 
-// Whether each number is below the next one.
-fn ascends(numbers: &[u32]) -> bool
+/// Whether each number is below the next one.
+pub fn ascends(numbers: &[u32]) -> bool
     ensures { IsTrue result ↔ Ascends numbers.now }
 {
     for i in 1..numbers.len() {

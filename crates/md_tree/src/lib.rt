@@ -20,7 +20,7 @@ mod tree_graph;
 mod words;
 mod writer;
 
-pub use builder::Opened;
+pub use builder::{Opened, ascends};
 pub use cotree::is_cotree;
 pub use grammar::{skip_byte, split_letter};
 pub use numbers::small_number;

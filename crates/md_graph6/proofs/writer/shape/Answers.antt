@@ -34,6 +34,6 @@ returns g c =
       consecutive = subst (λ o. IfSome o (λ least. AreFrom c.args.graph.now least c.count-count.result)) (sym c.then_some.ensures)
           (told_if (λ least. AreFrom c.args.graph.now least c.count-count.result) c.least_vertex-least.result _
           (λ t. let bound = eqb-true c.bound.result (c.least_vertex-least.result + c.count-count.result) t in
-           consecutive vertices c.count-count.result c.least_vertex-least.result members c.least_vertex-least.ensures.least
-           (λ v m. let below = c.bound.ensures.above v m in omega arith)));
+          consecutive vertices c.count-count.result c.least_vertex-least.result members c.least_vertex-least.ensures.least
+          (λ v m. let below = c.bound.ensures.above v m in omega arith)));
     }
