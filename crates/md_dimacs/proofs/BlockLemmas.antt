@@ -62,7 +62,7 @@ word_fits first aligned below = let whole = NAMES-is in omega arith
 
 -- ---- the lines of a word
 
-place_text : (g : PlainGraph) (places : List Piece) (w : ℕ) → IsPlaceOf g places w → text_at places w ≡ decimal (position g w) ++ 10 ∷ []
+place_text : (g : PlainGraph) (places : List Piece) (w : ℕ) → IsPlaceOf g places w → text_at places w ≡ 32 ∷ (decimal (position g w) ++ 10 ∷ [])
 place_text g places w is =
     let any : Piece = record { bytes = []; used = 0; within = omega arith } in
     ap (λ o. option_map_or piece_text o []) (slice_get-get_or places w any is.there) ∙ is.text any

@@ -1,8 +1,7 @@
 -- The places of vertices as pieces, one index after the other.
-use Rattle.std.specs.Prelude.{◌≡◌, ℕ, ◌+◌, ◌-◌, ◌<◌, ◌≤◌, List, [], ◌∷◌, ◌++◌, length, replicate, get_or, take, slice_set}
+use Rattle.std.specs.Prelude.{◌≡◌, ℕ, ◌+◌, ◌-◌, ◌<◌, ◌≤◌, List, [], ◌∷◌, ◌++◌, length, replicate, get_or, take}
 use Rattle.std.proofs.Common.{subst, ap, sym, ◌∙◌, arith, append_assoc, length-append}
 use Rattle.std.proofs.Math.Seq.{get_or-append_right, take-append_seam}
-use Rattle.std.proofs.lemmas.Grind.{take-set_at}
 use Rattle.std.proofs.lemmas.List.{length-take-le, take_more, get_or_append_left, get_or-replicate, length-replicate, replicate-append-replicate}
 use Rattle.md_graph.specs.declared.TheConstants.{NAMES}
 use Rattle.md_graph.specs.Sets.{Has}
@@ -35,7 +34,7 @@ old_place g old more w is = record {
 
 -- where the old pieces hold the places of all vertices below them, so do the new ones
 pub spelled_more : (g : PlainGraph) (old new : List Piece) (k low place v : ℕ) (rest : List ℕ) (piece : Piece) → NextUp g.vertices low place v rest → low ≡ length old
-    → new ≡ old ++ replicate k piece → length new ≡ v + 1 → piece_text piece ≡ decimal (place + 1) ++ 10 ∷ [] → length (piece_text piece) ≤ 6
+    → new ≡ old ++ replicate k piece → length new ≡ v + 1 → piece_text piece ≡ 32 ∷ (decimal (place + 1) ++ 10 ∷ []) → length (piece_text piece) ≤ 7
     → ((w : ℕ) → Has g.vertices w → w < low → IsPlaceOf g old w) → (w : ℕ) → Has g.vertices w → w < v + 1 → IsPlaceOf g new w
 spelled_more g old new k low place v rest piece up is_low made count text short before =
     let from = up.item.above in
@@ -47,16 +46,15 @@ spelled_more g old new k low place v rest piece up is_low made count text short 
       there = omega arith;
       text = λ other.
           ap piece_text (new_piece old k v piece other (omega arith) (omega arith)) ∙ text
-          ∙ ap (λ p. decimal p ++ 10 ∷ []) (position_is g v place up.placed);
+          ∙ ap (λ p. 32 ∷ (decimal p ++ 10 ∷ [])) (position_is g v place up.placed);
       short = λ other.
           let same = ap (λ p. length (piece_text p)) (new_piece old k v piece other (omega arith) (omega arith)) in
           omega arith;
     }))
 
--- ---- a piece with another last byte
+-- ---- a piece without its last byte
 
--- what stands before the last byte
-front_is : (i : ℕ) (bytes digits : List ℕ) (last : ℕ) → i < length bytes → take (i + 1) bytes ≡ digits ++ last ∷ [] → take i bytes ≡ digits
+pub front_is : (i : ℕ) (bytes digits : List ℕ) (last : ℕ) → i < length bytes → take (i + 1) bytes ≡ digits ++ last ∷ [] → take i bytes ≡ digits
 front_is i bytes digits last inside text =
     let more = take_more bytes i 0 inside in
     let front = length-take-le i bytes (omega arith) in
@@ -65,9 +63,3 @@ front_is i bytes digits last inside text =
     ∙ ap (λ n. take n (take i bytes ++ get_or bytes i 0 ∷ [])) (front ∙ omega arith)
     ∙ ap (take (length digits)) (sym more ∙ text)
     ∙ take-append_seam digits (last ∷ [])
-
-pub other_end : (used : ℕ) (bytes digits : List ℕ) (last end : ℕ) → 0 < used → used ≤ length bytes → take used bytes ≡ digits ++ last ∷ [] → take used (slice_set bytes (used - 1) end) ≡ digits ++ end ∷ []
-other_end used bytes digits last end some within text =
-    let same : used ≡ used - 1 + 1 = omega arith in
-    let front = front_is (used - 1) bytes digits last (omega arith) (ap (λ n. take n bytes) (sym same) ∙ text) in
-    take-set_at bytes (used - 1) used end same (omega arith) ∙ ap (λ l. l ++ end ∷ []) front

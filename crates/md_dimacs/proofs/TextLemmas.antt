@@ -26,10 +26,10 @@ pub row_text_is : (g : PlainGraph) (v : ℕ) (ws : List ℕ) → ws ≡ ascendin
 unfolding row_text edges_above
 row_text_is g v ws e = ap (row_lines g v) e
 
-line_cut : (a b : List ℕ) → ((101 ∷ 32 ∷ (a ++ 32 ∷ b)) ++ 10 ∷ []) ≡ ((101 ∷ 32 ∷ (a ++ 32 ∷ [])) ++ (b ++ 10 ∷ []))
-line_cut a b = ap (λ l. 101 ∷ 32 ∷ l) (append_assoc a (32 ∷ b) (10 ∷ []) ∙ sym (append_assoc a (32 ∷ []) (b ++ 10 ∷ [])))
+line_cut : (a b : List ℕ) → ((101 ∷ 32 ∷ (a ++ 32 ∷ b)) ++ 10 ∷ []) ≡ ((101 ∷ 32 ∷ a) ++ (32 ∷ (b ++ 10 ∷ [])))
+line_cut a b = ap (λ l. 101 ∷ 32 ∷ l) (append_assoc a (32 ∷ b) (10 ∷ []))
 
-pub row_lines-cons : (g : PlainGraph) (v w : ℕ) (ws : List ℕ) → row_lines g v (w ∷ ws) ≡ (line_start g v ++ (decimal (position g w) ++ 10 ∷ [])) ++ row_lines g v ws
+pub row_lines-cons : (g : PlainGraph) (v w : ℕ) (ws : List ℕ) → row_lines g v (w ∷ ws) ≡ (line_start g v ++ (32 ∷ (decimal (position g w) ++ 10 ∷ []))) ++ row_lines g v ws
 unfolding edge_line
 row_lines-cons g v w ws =
     ended-cons (edge_line (places_of g v w)) (map edge_line (map (places_of g v) ws))
@@ -88,6 +88,3 @@ head_is g n m word first spaced second text is_word is_n is_m is_first is_spaced
     is_text ∙ ap (λ l. l ++ 10 ∷ []) (is_second ∙ ap (λ l. l ++ decimal m) (is_spaced ∙ ap (λ l. l ++ 32 ∷ []) (is_first ∙ ap (λ l. l ++ decimal n) is_word)))
     ∙ head_cut (decimal n) (decimal m)
     ∙ (λ i. (112 ∷ 32 ∷ 101 ∷ 100 ∷ 103 ∷ 101 ∷ 32 ∷ (decimal (is_n i) ++ 32 ∷ decimal (is_m i))) ++ 10 ∷ [])
-
-pub start_is : (g : PlainGraph) (v place : ℕ) (start : List ℕ) → start ≡ codes "e " ++ (decimal place ++ 32 ∷ []) → place ≡ position g v → start ≡ line_start g v
-start_is g v place start e is_place = e ∙ ap (λ k. codes "e " ++ (decimal k ++ 32 ∷ [])) is_place

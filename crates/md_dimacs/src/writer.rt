@@ -7,7 +7,7 @@ ghost use Rattle.md_dimacs.specs.Places.{ArePlaces, line_start, row_text, edges_
 use crate::blocks::{bits_from, write_block};
 use crate::spelling::start_piece;
 use md_graph::{GraphOf, Memory, NAMES};
-use md_text::{Chunk, Piece, number_piece, push_number};
+use md_text::{Chunk, Piece, number_piece, piece_behind, push_number};
 use std::alloc::Global;
 
 /// The DIMACS text of a graph: `p edge n m`, and for each edge a line `e i j`, i < j, ascending by
@@ -40,7 +40,7 @@ fn begin_text<const W: usize>(alloc: Global, graph: &GraphOf<W>) -> Result<Vec<u
     Ok(text)
 }
 
-// The place of each vertex, with a line feed, at the index of the vertex.
+// The place of each vertex, between a space and a line feed, at the index of the vertex.
 fn spell_places<const W: usize>(alloc: Global, graph: &GraphOf<W>) -> Result<Vec<Piece>, Memory>
     ensures places { IfOk result (λ places. ArePlaces graph.now places.items) }
     ensures room { IfOk result (λ places. length places.items ≤ 64 * W) }
@@ -50,7 +50,8 @@ fn spell_places<const W: usize>(alloc: Global, graph: &GraphOf<W>) -> Result<Vec
     let mut place = 0;
     for v in vertices.members() {
         place += 1;
-        fill_up(&mut places, v as usize, number_piece(place, b'\n'))?;
+        let piece = piece_behind(b' ', number_piece(place, b'\n'));
+        fill_up(&mut places, v as usize, piece)?;
     }
     Ok(places)
 }

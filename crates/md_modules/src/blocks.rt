@@ -59,6 +59,7 @@ impl<const W: usize> Block<W> {
     }
 
     /// An equal set.
+    #[inline(always)]
     pub fn of(alloc: Global, names: &Set<W>) -> Result<Block<W>, Memory>
         ensures { IfOk result (λ block. block ≡ names.now) }
     {

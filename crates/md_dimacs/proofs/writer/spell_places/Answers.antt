@@ -1,4 +1,4 @@
-use Rattle.std.proofs.Common.{arith, ap, sym, ◌∙◌, ◌+◌, vec_len}
+use Rattle.std.proofs.Common.{arith, ap, sym, ◌∙◌, ◌+◌, ◌∷◌, vec_len}
 use Rattle.md_graph.specs.NameSet.{ascending}
 use Rattle.md_graph.specs.declared.TheConstants.{NAMES}
 use Rattle.md_graph.proofs.Limits.{words_few}
@@ -35,8 +35,9 @@ loop-v-preserved g c =
       coming = coming_at c.args.graph.now.vertices (c.in-Some.v + 1) (vec_len c.fill_up.new.places) (c.loop-v.place + 1) _ c.in_ok-fill_up.ensures.count up.after;
       named = let name = c.vertices-vertices.ensures.below c.in-Some.v up.item.member in omega (arith, c.in_ok-fill_up.ensures.count);
       spelled = λ w m below.
-          spelled_more c.args.graph.now c.loop-v.places.items c.fill_up.new.places.items c.in_ok-fill_up.ensures.items.0 (vec_len c.loop-v.places) c.loop-v.place c.in-Some.v _ c.number_piece.result up c.loop-v.places.ok.0 c.in_ok-fill_up.ensures.items.1 (sym c.fill_up.new.places.ok.0 ∙ c.in_ok-fill_up.ensures.count)
-          c.number_piece.ensures.text c.number_piece.ensures.short c.loop-v.invariant.spelled w m (omega (arith, c.in_ok-fill_up.ensures.count));
+          let short = c.number_piece.ensures.short in
+          spelled_more c.args.graph.now c.loop-v.places.items c.fill_up.new.places.items c.in_ok-fill_up.ensures.items.0 (vec_len c.loop-v.places) c.loop-v.place c.in-Some.v _ c.piece_behind-piece.result up c.loop-v.places.ok.0 c.in_ok-fill_up.ensures.items.1 (sym c.fill_up.new.places.ok.0 ∙ c.in_ok-fill_up.ensures.count)
+          (c.piece_behind-piece.ensures.text ∙ ap (λ l. 32 ∷ l) c.number_piece.ensures.text) (omega (arith, c.piece_behind-piece.ensures.count)) c.loop-v.invariant.spelled w m (omega (arith, c.in_ok-fill_up.ensures.count));
     }
 
 pub returns-clause-places : goal.returns-clause-places

@@ -1,4 +1,4 @@
-use Rattle.std.proofs.Common.{◌≡◌, ℕ, ◌<◌, ◌≤◌, List, [], ◌∷◌, arith, rules, ap, ◌∙◌, ◌+◌, ◌++◌, length, length-append, slice_index_or}
+use Rattle.std.proofs.Common.{◌≡◌, ℕ, ◌<◌, ◌≤◌, List, ◌∷◌, arith, rules, ap, ◌∙◌, ◌+◌, ◌++◌, length, slice_index_or}
 use Rattle.std.proofs.lemmas.List.{append-nil}
 use Rattle.md_graph.specs.NameSet.{ascending, ascending_between}
 use Rattle.md_text.specs.Pieces.{piece_text}
@@ -16,12 +16,12 @@ use Rattle.md_dimacs.proofs.writer.write_edges.Goals as goal
 record StartOf (g : PlainGraph) (places : List Piece) (v : ℕ) : Type 0 where
   pub there : v < length places
   pub some : (other : Piece) → 0 < length (piece_text (slice_index_or places v other))
-  pub short : (other : Piece) → length (piece_text (slice_index_or places v other)) ≤ 6
+  pub short : (other : Piece) → length (piece_text (slice_index_or places v other)) ≤ 7
 
 start_of : (g : PlainGraph) (places : List Piece) (v : ℕ) → IsPlaceOf g places v → StartOf g places v
 start_of g places v is = record {
   there = is.there;
-  some = λ other. let whole = ap length (is.text other) ∙ length-append (decimal (position g v)) (10 ∷ []) in omega arith;
+  some = λ other. let whole = ap length (is.text other) in omega arith;
   short = is.short;
 }
 
@@ -53,7 +53,7 @@ pub write_row-requires : goal.write_row-requires
 write_row-requires g c =
     let turn = walk_turn c.args.graph.now.vertices c.loop-v.invariant.coming.0 NAMES c.in-Some.v _ _ c.loop-v.invariant.coming.1 c.in-Some.ensures.steps in
     let place = c.requires.places.place_of c.in-Some.v turn.item.member in
-    let start = c.start_piece-start.ensures (decimal (position c.args.graph.now c.in-Some.v)) 10 (ap piece_text c.index-places-v.is ∙ place.text c.index-places-v.result) in
+    let start = c.start_piece-start.ensures (32 ∷ decimal (position c.args.graph.now c.in-Some.v)) 10 (ap piece_text c.index-places-v.is ∙ place.text c.index-places-v.result) in
     let row = c.vertices.ensures.below c.in-Some.v turn.item.member in
     (search rules, (turn.item.below, (row, (c.requires.room, (start, c.requires.places)))))
 
