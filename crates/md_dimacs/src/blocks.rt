@@ -1,11 +1,11 @@
 //! Writes the lines of the edges of one vertex, 64 names at a time.
-ghost use Rattle.std.specs.Prelude.{◌≡◌, ℕ, ◌+◌, ◌*◌, ◌^◌, ◌<◌, ◌≤◌, ◌∷◌, ◌++◌, length, nat_le, IfSome, if◌then◌else◌};
+ghost use Rattle.std.specs.Prelude.{◌≡◌, ℕ, ◌+◌, ◌*◌, ◌^◌, ◌<◌, ◌≤◌, ◌∷◌, ◌++◌, length, nat_le, IfSome, IfNone, if◌then◌else◌};
 ghost use Rattle.std.specs.Int.{bit_at};
 ghost use Rattle.std.specs.List.{All};
 ghost use Rattle.md_graph.specs.Words.{bits_between};
 ghost use Rattle.md_text.specs.Pieces.{piece_text, texts_at};
 
-use md_graph::lowest_name;
+use md_graph::lowest;
 use md_text::{CHUNK_SIZE, Chunk, Piece};
 
 // Gathers, for each 1 in `bits`, a line of `start` and of the piece at its place behind `first`.
@@ -69,6 +69,21 @@ fn lowest_four(first: u32, bits: u64) -> Option<([u32; 4], u64)>
     let (three, left) = lowest_name(first, left)?;
     let (four, left) = lowest_name(first, left)?;
     Some(([one, two, three, four], left))
+}
+
+// The lowest name whose bit is 1, and the other bits, where bit k is for the name `first + k`.
+#[inline(always)]
+fn lowest_name(first: u32, bits: u64) -> Option<(u32, u64)>
+    requires { first + 64 < 2 ^ 32 }
+    ensures some { IfSome result (λ found.
+        bits_between first bits 64 ≡ found.0 ∷ bits_between first found.1 64) }
+    ensures none { IfNone result (bits ≡ 0) }
+{
+    if bits == 0 {
+        return None;
+    }
+    let (place, others) = lowest(bits);
+    Some((first + place, others))
 }
 
 // The bits for names at or above `from`, where bit k is for the name `first + k`.

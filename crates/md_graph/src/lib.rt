@@ -16,7 +16,7 @@ pub use members::Members;
 pub use names::{Names, Set};
 use std::alloc::{AllocError, AllocFailed};
 pub use steps::Steps;
-pub use words::lowest_name;
+pub use words::lowest;
 
 /// How many names there are: a name is a number below it.
 pub const NAMES: u32 = 4096;

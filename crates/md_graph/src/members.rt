@@ -1,7 +1,8 @@
 //! The members of a set of names, one after the other.
-ghost use Rattle.std.specs.Prelude.{◌≡◌, ◌++◌, ℕ, length, IfSome, IfNone};
+ghost use Rattle.std.specs.Prelude.{◌≡◌, ◌+◌, ◌^◌, ◌<◌, ◌∷◌, ◌++◌, ℕ, length, IfSome, IfNone};
+ghost use Rattle.md_graph.specs.Words.{bits_between};
 
-use crate::words::{lowest, lowest_name};
+use crate::words::lowest;
 use std::marker::Model;
 
 /// The members of a set that are still to come, ascending: word by word, and in a word from bit to
@@ -68,4 +69,18 @@ impl<'a> Iterator for Members<'a> {
         self.left = left;
         Some(self.first + place)
     }
+}
+
+// The lowest name whose bit is 1, and the other bits, where bit k is for the name `first + k`.
+#[inline(always)]
+fn lowest_name(first: u32, bits: u64) -> Option<(u32, u64)>
+    requires { first + 64 < 2 ^ 32 }
+    ensures { IfSome result (λ found.
+        bits_between first bits 64 ≡ found.0 ∷ bits_between first found.1 64) }
+{
+    if bits == 0 {
+        return None;
+    }
+    let (place, others) = lowest(bits);
+    Some((first + place, others))
 }

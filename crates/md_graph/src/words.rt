@@ -341,29 +341,13 @@ pub(crate) fn from_place(word: u64, place: u32) -> u64
     word >> place << place
 }
 
-// The place of the lowest 1 of `bits`, and `bits` without it. Condition: there is a 1.
-#[inline(always)]
-pub(crate) fn lowest(bits: u64) -> (u32, u64)
+/// The place of the lowest 1 of `bits`, and `bits` without it: for writers that take 64 names at
+/// once by `Names::block`. Condition: there is a 1.
+pub fn lowest(bits: u64) -> (u32, u64)
     requires { bits ≢ 0 }
     ensures place { result.0 < 64 }
     ensures rest { (first : ℕ)
         → bits_between first bits 64 ≡ (first + result.0) ∷ bits_between first result.1 64 }
 {
     (bits.trailing_zeros(), bits & (bits - 1))
-}
-
-/// The lowest name whose bit is 1, and the other bits, where bit k stands for the name `first + k`;
-/// `None` exactly where no bit is 1. For writers that take 64 names at once by `Names::block`.
-#[inline(always)]
-pub fn lowest_name(first: u32, bits: u64) -> Option<(u32, u64)>
-    requires { first + 64 < 2 ^ 32 }
-    ensures some { IfSome result (λ found.
-        bits_between first bits 64 ≡ found.0 ∷ bits_between first found.1 64) }
-    ensures none { IfNone result (bits ≡ 0) }
-{
-    if bits == 0 {
-        return None;
-    }
-    let (place, others) = lowest(bits);
-    Some((first + place, others))
 }
