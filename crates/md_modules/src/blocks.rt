@@ -14,7 +14,7 @@ use std::mem::swap;
 // A set of so many names is small.
 pub(crate) const FEW: u32 = 64;
 
-// What a block holds: a name alone; names below 64, as the bits of a word; or a set.
+// What a block holds: a name alone; names of one word a set, as the bits of that word; or a set.
 #[derive(Drop)]
 enum Held<const W: usize> {
     One(u32),
@@ -22,7 +22,7 @@ enum Held<const W: usize> {
     Several(Box<Set<W>>),
 }
 
-/// A set of names: a name alone and names below 64 take no memory, another set is kept in a box.
+/// A set of names: a name alone and a set of one word take no memory, another set is kept in a box.
 #[derive(Drop)]
 pub struct Block<const W: usize> {
     held: Held<W>,
@@ -224,23 +224,15 @@ fn held_alone<const W: usize>(names: &Set<W>) -> Option<Held<W>>
     ensures names { IfSome result (λ held. held_names W held ≡ names.now) }
     ensures name { IfSome result (IsName W) }
 {
+    let _below = names.members();
     let first = names.first_from(0)?;
     if is_last(names, first) {
         return Some(Held::One(first));
     }
-    if are_low(names, first) {
+    if W == 1 {
         return Some(Held::Low(names.block(0)));
     }
     None
-}
-
-// Whether all names are below 64. Condition: `first` is one of them.
-fn are_low<const W: usize>(names: &Set<W>, first: u32) -> bool
-    requires { Has names.now first }
-    ensures { IsTrue result → (0 < W) × AllBelow names.now 64 }
-{
-    let _below = names.members();
-    W == 1 || first < 64 && names.first_from(64).is_none()
 }
 
 /// The member of a set with one member.

@@ -1,9 +1,9 @@
-use Rattle.std.proofs.Common.{refl, sym}
+use Rattle.std.proofs.Common.{arith, sym}
 use Rattle.md_modules.proofs.BlockLemmas.{low_block, alone_is}
 use Rattle.md_modules.proofs.blocks.held_alone.Goals as goal
 
-pub returns-then-are_low-clause-names : goal.returns-then-are_low-clause-names
-returns-then-are_low-clause-names g c = low_block c.args.names.now c.block.result c.block.ensures (c.if-are_low.ensures refl).1
+pub returns-then-this-eq1-clause-names : goal.returns-then-this-eq1-clause-names
+returns-then-this-eq1-clause-names g c = low_block c.args.names.now c.block.result c.block.ensures (λ w h. let below = c.members-below.ensures.below w h in let one = c.if-this-eq1.true in omega arith)
 
 pub returns-then-is_last-clause-names : goal.returns-then-is_last-clause-names
 returns-then-is_last-clause-names g c =
