@@ -2,7 +2,6 @@
 use Rattle.std.proofs.Common.{◌≡◌, ◌≢◌, ℕ, zero, suc, ◌+◌, ◌-◌, ◌*◌, ◌<◌, ◌≤◌, Bool, true, false, cond, min, max, true≢false, List, [], ◌∷◌, ◌++◌, length, get_or, drop, Option, Some, None, IfSome, append_assoc, append-nil, refl, sym, ◌∙◌, ap, ap₂, subst, inl, inr, arith}
 use Rattle.std.specs.Prelude.{⊤}
 use Rattle.std.specs.List.{All}
-use Rattle.std.proofs.lemmas.List.Elements.{All-head}
 use Rattle.std.proofs.lemmas.Bool.{cases_Bool}
 use Rattle.std.proofs.lemmas.List.{drop_more}
 use Rattle.std.specs.Cmp.{both_ways}
@@ -19,7 +18,6 @@ use Rattle.md_text.specs.declared.piece.Piece.{Piece}
 use Rattle.md_text.specs.Numbers.{decimal}
 use Rattle.md_text.specs.Pieces.{piece_text, text_at, texts_at}
 use Rattle.md_text.proofs.Lists.{In, Later, to_pairs, of_contains, of_append, in_left, in_right, later_append}
-use Rattle.md_text.proofs.ListLemmas.{All-front, All-behind}
 use Rattle.md_text.proofs.PieceLemmas.{texts_more, texts_end}
 use Rattle.md_tree.specs.declared.Kind.TheVariants.{Prime}
 use Rattle.md_tree.specs.declared.Pair.{Pair}
@@ -43,12 +41,6 @@ put_matched whole spelled text rest before held new first pieces i piece same pu
     m (texts_at pieces first (i ∷ []) ++ behind) (same (texts_at pieces first (i ∷ []) ++ behind) (e ∙ ap (λ l. l ++ behind) made ∙ append_assoc held (texts_at pieces first (i ∷ [])) behind))
     ∙ sym (append_assoc spelled (texts_at pieces first (i ∷ [])) behind)
 
--- pieces are gathered, one for each name
-pub each_matched : (whole spelled text rest before held new more : List ℕ) → ((behind : List ℕ) → rest ≡ held ++ behind → text ≡ before ++ behind) →
-    new ≡ held ++ more → Matches whole text before spelled → Matches whole rest new (spelled ++ more)
-each_matched whole spelled text rest before held new more same put m behind e =
-    m (more ++ behind) (same (more ++ behind) (e ∙ ap (λ l. l ++ behind) put ∙ append_assoc held more behind)) ∙ sym (append_assoc spelled more behind)
-
 texts-append : (pieces : List Piece) (first xs ys : List ℕ) → texts_at pieces first (xs ++ ys) ≡ texts_at pieces first xs ++ texts_at pieces first ys
 unfolding texts_at
 texts-append pieces first [] ys = refl
@@ -69,24 +61,28 @@ passed_none text gathered pieces first names left is = record {
   matches = λ whole spelled m behind e. m behind e ∙ ap (λ l. l ++ behind) (sym (append-nil spelled));
 }
 
-pub passed_more : (text rest gathered now : List ℕ) (pieces : List Piece) (first names left xs others far new : List ℕ) → ArePassed text rest gathered now pieces first names left → left ≡ xs ++ others →
-    ((whole spelled : List ℕ) → Matches whole rest now spelled → Matches whole far new (spelled ++ texts_at pieces first xs)) → ArePassed text far gathered new pieces first names others
-passed_more text rest gathered now pieces first names left xs others far new p cut put = record {
-  done = p.done ++ xs;
-  all = p.all ∙ ap (λ l. p.done ++ l) cut ∙ sym (append_assoc p.done xs others);
+pub passed_more : (text rest gathered now : List ℕ) (pieces : List Piece) (first names left : List ℕ) (x : ℕ) (others far new : List ℕ) → ArePassed text rest gathered now pieces first names left → left ≡ x ∷ others →
+    ((whole spelled : List ℕ) → Matches whole rest now spelled → Matches whole far new (spelled ++ texts_at pieces first (x ∷ []))) → ArePassed text far gathered new pieces first names others
+passed_more text rest gathered now pieces first names left x others far new p cut put = record {
+  done = p.done ++ x ∷ [];
+  all = p.all ∙ ap (λ l. p.done ++ l) cut ∙ sym (append_assoc p.done (x ∷ []) others);
   matches = λ whole spelled m behind e.
       put whole (spelled ++ texts_at pieces first p.done) (p.matches whole spelled m) behind e
-      ∙ ap (λ l. l ++ behind) (append_assoc spelled (texts_at pieces first p.done) (texts_at pieces first xs) ∙ ap (λ l. spelled ++ l) (sym (texts-append pieces first p.done xs)));
+      ∙ ap (λ l. l ++ behind) (append_assoc spelled (texts_at pieces first p.done) (texts_at pieces first (x ∷ [])) ∙ ap (λ l. spelled ++ l) (sym (texts-append pieces first p.done (x ∷ []))));
 }
 
--- those that come next are there
-pub passed_there : (text rest gathered now : List ℕ) (pieces : List Piece) (first names left xs others : List ℕ) → ArePassed text rest gathered now pieces first names left → left ≡ xs ++ others →
-    All (λ v. v < length pieces) names → All (λ v. v < length pieces) xs
-passed_there text rest gathered now pieces first names left xs others p cut there =
-    All-front (λ v. v < length pieces) xs others (All-behind (λ v. v < length pieces) p.done (xs ++ others) (subst (All (λ v. v < length pieces)) (p.all ∙ ap (λ l. p.done ++ l) cut) there))
-
-pub one_there : (n x : ℕ) → All (λ v. v < n) (x ∷ []) → x < n
-one_there n x all = All-head (λ v. v < n) x [] all
+pub passed_there : (text rest gathered now : List ℕ) (pieces : List Piece) (first names left : List ℕ) (x : ℕ) (others : List ℕ) → ArePassed text rest gathered now pieces first names left → left ≡ x ∷ others →
+    All (λ v. v < length pieces) names → x < length pieces
+passed_there text rest gathered now pieces first names left x others p cut there =
+    let at_x : (k : ℕ) × (k < length (p.done ++ x ∷ others)) × (get_or (p.done ++ x ∷ others) k 0 ≡ x) = item p.done in
+    let all : names ≡ p.done ++ x ∷ others = p.all ∙ ap (λ l. p.done ++ l) cut in
+    subst (λ y. y < length pieces) at_x.2 (subst (All (λ v. v < length pieces)) all there at_x.0 0 at_x.1)
+  where
+    item : (done : List ℕ) → (k : ℕ) × (k < length (done ++ x ∷ others)) × (get_or (done ++ x ∷ others) k 0 ≡ x)
+    item [] = (0, (let b : 0 < suc (length others) = omega arith in b), refl)
+    item (y ∷ done) =
+        let r : (k : ℕ) × (k < length (done ++ x ∷ others)) × (get_or (done ++ x ∷ others) k 0 ≡ x) = item done in
+        (suc r.0, (let b : r.0 < length (done ++ x ∷ others) = r.1 in let c : suc r.0 < suc (length (done ++ x ∷ others)) = omega arith in c), r.2)
 
 pub passed_whole : (text rest gathered now : List ℕ) (pieces : List Piece) (first names left : List ℕ) → ArePassed text rest gathered now pieces first names left → left ≡ [] →
     (whole spelled : List ℕ) → Matches whole text gathered spelled → Matches whole rest now (spelled ++ texts_at pieces first names)

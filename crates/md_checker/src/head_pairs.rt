@@ -162,7 +162,7 @@ fn past_row<'a, const W: usize>(
 #[inline(never)]
 fn past_others<'a>(
     start: Piece,
-    mut others: Members<'_>,
+    others: Members<'_>,
     text: &'a [u8],
     places: &[Piece],
     chunk: &mut Chunk,
@@ -173,34 +173,9 @@ fn past_others<'a>(
         (spelled ++ texts_at places.now (piece_text start) others.entry)) }
 {
     let mut rest = text;
-    loop {
-        if let Some(four) = others.next_four() {
-            rest = put_four(start, &four, rest, places, chunk)?;
-        } else if let Some(other) = others.next() {
-            rest = put_pair(start, other, rest, places, chunk)?;
-        } else {
-            return Some(rest);
-        }
+    for other in others {
+        rest = put_pair(start, other, rest, places, chunk)?;
     }
-}
-
-// Gathers, for each of four names, the piece `start` and the one at its place; a chunk without room
-// for them is compared first.
-#[inline(always)]
-fn put_four<'a>(
-    start: Piece,
-    names: &[u32; 4],
-    text: &'a [u8],
-    places: &[Piece],
-    chunk: &mut Chunk,
-) -> Option<&'a [u8]>
-    requires { All (λ v. v < length places.now) names.now }
-    ensures { IfSome result (λ rest. (whole spelled : List ℕ)
-        → Matches whole text.now chunk.old spelled → Matches whole rest.now chunk.new
-        (spelled ++ texts_at places.now (piece_text start) names.now)) }
-{
-    let rest = make_room(text, chunk, 4 * PAIR_ROOM)?;
-    chunk.put_each(start, places, names);
     Some(rest)
 }
 
@@ -219,20 +194,19 @@ fn put_pair<'a>(
         → Matches whole text.now chunk.old spelled → Matches whole rest.now chunk.new
         (spelled ++ texts_at places.now (piece_text start) (name ∷ []))) }
 {
-    let rest = make_room(text, chunk, PAIR_ROOM)?;
+    let rest = make_room(text, chunk)?;
     chunk.put_both(start, places[name as usize]);
     Some(rest)
 }
 
-// Compares what is gathered, if there is no room for so many bytes behind it.
+// Compares what is gathered, if there is no room for a pair behind it.
 #[inline(always)]
-fn make_room<'a>(text: &'a [u8], chunk: &mut Chunk, more: usize) -> Option<&'a [u8]>
-    requires { more ≤ CHUNK_SIZE }
-    ensures room { IfSome result (λ rest. length chunk.new + more ≤ CHUNK_SIZE) }
+fn make_room<'a>(text: &'a [u8], chunk: &mut Chunk) -> Option<&'a [u8]>
+    ensures room { IfSome result (λ rest. length chunk.new + PAIR_ROOM ≤ CHUNK_SIZE) }
     ensures same { IfSome result (λ rest. (behind : List ℕ) → rest.now ≡ chunk.new ++ behind
         → text.now ≡ chunk.old ++ behind) }
 {
-    if chunk.room() < more {
+    if chunk.room() < PAIR_ROOM {
         return chunk.strip_from(text);
     }
     Some(text)

@@ -1,6 +1,5 @@
 //! The members of a set of names, one after the other.
-ghost use Rattle.std.specs.Prelude.{◌≡◌, ◌+◌, ◌^◌, ◌<◌, ◌∷◌, ◌++◌, ℕ, length, IfSome, IfNone};
-ghost use Rattle.md_graph.specs.Words.{bits_between};
+ghost use Rattle.std.specs.Prelude.{◌≡◌, ℕ};
 
 use crate::words::lowest;
 use std::marker::Model;
@@ -29,24 +28,6 @@ impl<'a> Model for Members<'a> {
         × (m.first / 64 ≤ WORDS) × (64 * (m.first / 64) ≡ m.first) };
 }
 
-impl<'a> Members<'a> {
-    /// The next four members, if so many are left of the word at hand; else none, and nothing
-    /// changes.
-    #[inline(always)]
-    pub fn next_four(&mut self) -> Option<[u32; 4]>
-        ensures four { IfSome result (λ four. length four ≡ 4) }
-        ensures next { IfSome result (λ four. self.old ≡ four ++ self.new) }
-        ensures none { IfNone result (self.new ≡ self.old) }
-    {
-        let (one, left) = lowest_name(self.first, self.left)?;
-        let (two, left) = lowest_name(self.first, left)?;
-        let (three, left) = lowest_name(self.first, left)?;
-        let (four, left) = lowest_name(self.first, left)?;
-        self.left = left;
-        Some([one, two, three, four])
-    }
-}
-
 impl<'a> Iterator for Members<'a> {
     type Item = u32;
 
@@ -69,18 +50,4 @@ impl<'a> Iterator for Members<'a> {
         self.left = left;
         Some(self.first + place)
     }
-}
-
-// The lowest name whose bit is 1, and the other bits, where bit k is for the name `first + k`.
-#[inline(always)]
-fn lowest_name(first: u32, bits: u64) -> Option<(u32, u64)>
-    requires { first + 64 < 2 ^ 32 }
-    ensures { IfSome result (λ found.
-        bits_between first bits 64 ≡ found.0 ∷ bits_between first found.1 64) }
-{
-    if bits == 0 {
-        return None;
-    }
-    let (place, others) = lowest(bits);
-    Some((first + place, others))
 }
