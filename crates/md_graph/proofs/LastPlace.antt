@@ -48,10 +48,10 @@ pub record IsLastBit (words : List ℕ) (u place : ℕ) : Type 0 where
 
 -- ---- the set
 
-unused : (words : List ℕ) (u q : ℕ) → InUse words u → 64 * u ≤ q → bit_of words q ≡ 0
+pub unused : (words : List ℕ) (u q : ℕ) → InUse words u → 64 * u ≤ q → bit_of words q ≡ 0
 unused words u q rest h = zero_bit _ (q % 64) (rest (q / 64) (omega arith))
 
-abbrev kept : (words : List ℕ) (n : ℕ) (s : NameSet) → names_below words n ≡ s → (q : ℕ) → set.contains s q ≡ (ltb q n && (bit_of words q == 1))
+abbrev pub kept : (words : List ℕ) (n : ℕ) (s : NameSet) → names_below words n ≡ s → (q : ℕ) → set.contains s q ≡ (ltb q n && (bit_of words q == 1))
 kept words n s is q = ap (λ x. set.contains x q) (sym is) ∙ contains-names_below words n q
 
 pub greatest_or_none : (words : List ℕ) (n w u : ℕ) (s : NameSet) (found : Option ℕ) → n ≡ 64 * w → u ≤ w → InUse words u → names_below words n ≡ s → IfSome found (λ place. (place < 64 * u) × (bit_of words place ≡ 1) × ((q : ℕ) → place < q → q < 64 * u → bit_of words q ≡ 0)) → IfNone found ((q : ℕ) → q < 64 * u → bit_of words q ≡ 0) → IfSome found (IsGreatest s) × IfNone found (NoneFrom s 0) × IfSome found (λ place. place < n)

@@ -12,6 +12,7 @@ pub mod RowLemmas
 pub mod SetLaws
 pub mod Transposing
 pub mod BlockRows
+mod FirstPlace
 pub mod LastPlace
 pub mod Comparing
 pub mod Ranges

@@ -1,5 +1,5 @@
 -- Facts of sets of names that callers may cite: what the ascending list of a set's members holds.
-use Rattle.std.proofs.Common.{◌≡◌, ℕ, zero, suc, ◌+◌, ◌-◌, ◌<◌, ◌≤◌, ◌≢◌, Bool, true, false, ◌&&◌, ◌||◌, if◌then◌else◌, ◌==◌, nat_le, List, [], ◌∷◌, ◌++◌, length, get_or, add-one, append_assoc, append-nil, length-append, refl, arith, ap, sym, ◌∙◌, subst, inl, inr, ltb, lit<, All, Contains, AllPairs, Option, Some, None, IfSome, IfNone, MatchOption}
+use Rattle.std.proofs.Common.{◌≡◌, ℕ, zero, suc, ◌+◌, ◌-◌, ◌<◌, ◌≤◌, ◌≢◌, Bool, true, false, ◌&&◌, ◌||◌, if◌then◌else◌, ◌==◌, nat_le, List, [], ◌∷◌, ◌++◌, length, get_or, add-one, append_assoc, append-nil, length-append, refl, arith, ap, sym, ◌∙◌, subst, inl, inr, ltb, lit<, All, Contains, AllPairs}
 use Rattle.std.proofs.lemmas.Bool.{cases_Bool, cases_lt, false_from_ne_true}
 use Rattle.std.proofs.lemmas.Bool.Decides.{nat_tests}
 use Rattle.std.proofs.lemmas.List.Elements.{All-nil, All-push, All-weaker, Contains-append_left, Contains-append_right}
@@ -9,7 +9,7 @@ use Rattle.std.specs.List.Sorted.{IsStrictlyIncreasing}
 use Rattle.std.specs.FinSet.{nat_cmp-IsAntisymmetric}
 use Rattle.std.specs.FinSet as set
 use Rattle.md_graph.specs.Sets.{NameSet, Has}
-use Rattle.md_graph.specs.NameSet.{AllBelow, NoneFrom, IsLeastFrom, ascending_between}
+use Rattle.md_graph.specs.NameSet.{AllBelow, ascending_between}
 use Rattle.md_graph.proofs.SetLaws.{contains-empty, contains-insert, contains-retain, len-empty, len-insert, same_set}
 
 -- the rest of an ascending list
@@ -73,15 +73,6 @@ pub ascending_begins : (s : NameSet) (low n : ℕ) → BeginsWith s low n (ascen
 unfolding ascending_between
 ascending_begins s low zero = λ w m l below. omega arith
 ascending_begins s low (suc n) = begins_step s low n (ascending_between s low n) (ascending_begins s low n)
-
--- the first of a list of members, as `next` gives it
-pub least_of_next : (s : NameSet) (low n : ℕ) (xs rest : List ℕ) (r : Option ℕ) → AllBelow s n → xs ≡ ascending_between s low n → MatchOption r ((xs ≡ []) × (rest ≡ [])) (λ x. xs ≡ x ∷ rest) → (IfSome r (IsLeastFrom s low)) × (IfNone r (NoneFrom s low)) × (IfSome r (λ x. x < n))
-least_of_next s low n xs rest None below is gives =
-    let none = subst (BeginsWith s low n) (sym is ∙ gives.0) (ascending_begins s low n) in
-    (tt, λ w m. under low w (λ l. none w m l (below w m)), tt)
-least_of_next s low n xs rest (Some x) below is gives =
-    let first : IsFirstItem s low n x = subst (BeginsWith s low n) (sym is ∙ gives) (ascending_begins s low n) in
-    (record { member = first.member; above = first.above; first = λ w m l. first.first w m l (below w m) }, tt, first.below)
 
 -- ---- from member to member
 

@@ -8,8 +8,8 @@ ghost use Rattle.md_graph.specs.NameSet.{IsLeastFrom, IsGreatest, NoneFrom, AllB
 use crate::members::Members;
 use crate::words::{
     are_all_zero, are_equal, are_within, become_both, become_either, become_first_alone,
-    bits_of_range, count_bits, first_apart, flip_bits, from_place, join_in, keep_alone, last_place,
-    move_alone, move_apart, move_both, no_words, used_if, wipe,
+    bits_of_range, count_bits, first_apart, first_place, flip_bits, from_place, join_in,
+    keep_alone, last_place, move_alone, move_apart, move_both, no_words, used_if, wipe,
 };
 use crate::{NAMES, WORDS};
 use std::marker::Model;
@@ -254,8 +254,7 @@ impl<const W: usize> Set<W> {
         ensures name { IfSome result (λ least. least < NAMES) }
         ensures below { IfSome result (λ least. least < 64 * W) }
     {
-        self.within_limit();
-        self.members_from(v).next()
+        first_place(&self.words, v, passed::<W>(self.used))
     }
 
     /// The greatest member; `None` exactly where there is none.

@@ -225,6 +225,31 @@ pub(crate) fn become_first_alone(words: &mut [u64], first: &[u64], second: &[u64
     }
 }
 
+// The place of the lowest bit in the first `used` words that is not below `from`.
+pub(crate) fn first_place(words: &[u64], from: u32, used: usize) -> Option<u32>
+    requires few { used ≤ WORDS }
+    requires used { used ≤ length words.now }
+    ensures found { IfSome result (λ least. (least < 64 * used) × (from ≤ least)
+        × (bit_of words.now least ≡ 1)
+        × ((q : ℕ) → from ≤ q → q < least → bit_of words.now q ≡ 0)) }
+    ensures none { IfNone result ((q : ℕ) → from ≤ q → q < 64 * used → bit_of words.now q ≡ 0) }
+{
+    let at = from as usize / 64;
+    if used <= at {
+        return None;
+    }
+    let begun = from_place(words[at], from % 64);
+    if begun != 0 {
+        return Some(64 * at as u32 + begun.trailing_zeros());
+    }
+    for i in at + 1..used {
+        if words[i] != 0 {
+            return Some(64 * i as u32 + words[i].trailing_zeros());
+        }
+    }
+    None
+}
+
 // The place of the highest bit in the first `used` words.
 pub(crate) fn last_place(words: &[u64], used: usize) -> Option<u32>
     requires few { used ≤ WORDS }

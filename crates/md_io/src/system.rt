@@ -15,7 +15,9 @@ use std::alloc::Global;
 use std::io::{ErrorKind, Read, Write};
 use std::{fs, rt};
 
-// The most bytes of one read.
+// The most bytes of the first read of a file, and of any: each is as long as all before it.
+const FIRST_READ: usize = 8 * 1024;
+
 const LONGEST_READ: usize = 128 * 1024;
 
 /// Files of the system by path.
@@ -91,7 +93,8 @@ fn read_piece<T: Read>(reader: &mut T, bytes: &mut Vec<u8>, limit: u64) -> Resul
     ensures not_too_long { ¬ IsErrOf result LoadFault.TooLong }
 {
     let filled = bytes.len();
-    let room = LONGEST_READ.min((limit - filled as u64).saturating_add(1) as usize);
+    let most = filled.max(FIRST_READ).min(LONGEST_READ);
+    let room = most.min((limit - filled as u64).saturating_add(1) as usize);
     bytes
         .resize(filled + room, 0)
         .map_err(|_| LoadFault::Memory)?;
