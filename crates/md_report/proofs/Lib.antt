@@ -1,5 +1,6 @@
 pub mod Places
 pub mod Cutting
+pub mod ArcRows
 pub mod Named
 pub mod Behind
 pub mod Fronts

@@ -8,5 +8,6 @@ pub mod Places
 pub mod Reports
 pub mod WellFormedLines
 pub mod Cuts
+pub mod Rows
 pub mod Words
 pub mod Laws

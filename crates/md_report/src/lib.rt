@@ -1,6 +1,7 @@
 //! Reports: their lines and texts, and what may come at each place of a report.
 #![tactic(auto)]
 
+mod arc_reader;
 pub mod laws;
 mod line;
 mod made;

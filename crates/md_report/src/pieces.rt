@@ -1,4 +1,4 @@
-//! Names and arcs in the texts of lines: pieces, each behind a space.
+//! Names in the texts of lines: pieces, each behind a space.
 ghost use Rattle.std.specs.Prelude.{◌≡◌, ◌≢◌, ℕ, ◌<◌, ◌≤◌, ◌↔◌, ◌++◌, [], ◌∷◌, List, length, slice_index, IfOk, IfSome, IsTrue, MatchOption};
 ghost use Rattle.std.specs.List.{All};
 ghost use Rattle.md_forcing.specs.declared.arc.Arc.{Arc};
@@ -78,23 +78,6 @@ fn has_leading_zero(piece: &[u8]) -> bool
     piece.len() > 1 && piece[0] == b'0'
 }
 
-// The arc of two names that a piece spells, if it spells one.
-fn arc(piece: &[u8]) -> Option<Arc>
-    ensures { MatchOption result ((a : Arc) → IsNamedArc a → piece.now ≢ arc_text a)
-        (λ a. IsNamedArc a × (piece.now ≡ arc_text a)) }
-{
-    let (front, behind) = split_before(piece, b'>');
-    let [_, back @ ..] = behind else {
-        return None;
-    };
-    let tail = name(front)?;
-    let head = name(back)?;
-    if tail == head {
-        return None;
-    }
-    Some(Arc { tail, head })
-}
-
 // The name in the first piece, and the rest behind it.
 pub(crate) fn split_name(text: &[u8]) -> Option<(u32, &[u8])>
     ensures { MatchOption result (NoItem decimal IsVertexName text.now)
@@ -105,18 +88,6 @@ pub(crate) fn split_name(text: &[u8]) -> Option<(u32, &[u8])>
     }
     let (piece, rest) = split_piece(text)?;
     Some((name(piece)?, rest))
-}
-
-// The arc in the first piece, and the rest behind it.
-fn split_arc(text: &[u8]) -> Option<(Arc, &[u8])>
-    ensures { MatchOption result (NoItem arc_text IsNamedArc text.now)
-        (λ p. IsItem arc_text IsNamedArc text.now p.0 p.1.now) }
-{
-    if let Some(found) = quick_arc(text) {
-        return Some(found);
-    }
-    let (piece, rest) = split_piece(text)?;
-    Some((arc(piece)?, rest))
 }
 
 // The name in the first piece, read without a look for its end. None says nothing.
@@ -131,25 +102,9 @@ fn quick_name(text: &[u8]) -> Option<(u32, &[u8])>
     Some((name, rest))
 }
 
-// The same of an arc.
-#[inline(always)]
-fn quick_arc(text: &[u8]) -> Option<(Arc, &[u8])>
-    ensures { IfSome result (λ p. IsItem arc_text IsNamedArc text.now p.0 p.1.now) }
-{
-    let (tail, mark) = small_number(behind_space(text)?)?;
-    let Ok(second) = skip_byte(mark, b'>') else {
-        return None;
-    };
-    let (head, rest) = small_number(second)?;
-    if tail >= NAMES || head >= NAMES || tail == head || !is_piece_end(rest) {
-        return None;
-    }
-    Some((Arc { tail, head }, rest))
-}
-
 // Whether nothing is left, or a space comes.
 #[inline(always)]
-fn is_piece_end(rest: &[u8]) -> bool
+pub(crate) fn is_piece_end(rest: &[u8]) -> bool
     ensures { IsTrue result → Opens 32 rest.now }
 {
     match rest.first() {
@@ -176,46 +131,12 @@ pub(crate) fn names(alloc: Global, text: &[u8]) -> Result<Option<Vec<u32>>, Memo
     Ok(Some(list))
 }
 
-// The arcs that a text spells, a space before each; none where it is no such text.
-pub(crate) fn arcs(alloc: Global, text: &[u8]) -> Result<Option<Vec<Arc>>, Memory>
-    ensures { IfOk result (λ found.
-        MatchOption found ((list : List Arc) → All IsNamedArc list → text.now ≢ arcs_text list)
-        (λ list. All IsNamedArc list.items × (text.now ≡ arcs_text list.items))) }
-{
-    let mut list = Vec::new(alloc);
-    let mut rest = text;
-    while !rest.is_empty() {
-        let Some((by, more)) = split_arc(rest) else {
-            return Ok(None);
-        };
-        list.push(by)?;
-        rest = more;
-    }
-    Ok(Some(list))
-}
-
 // The name that a text spells, a space before it.
 pub(crate) fn name_behind(text: &[u8]) -> Option<u32>
     ensures { MatchOption result ((v : ℕ) → IsVertexName v → text.now ≢ 32 ∷ decimal v)
         (λ v. IsVertexName v × (text.now ≡ 32 ∷ decimal v)) }
 {
     name(behind_space(text)?)
-}
-
-// The arcs that a text spells, a space before each, where there is one or more; none where it is no
-// such text.
-pub(crate) fn chain(alloc: Global, text: &[u8]) -> Result<Option<Chain>, Memory>
-    ensures { IfOk result (λ found. MatchOption found
-        ((chain : List Arc) → IsNamedChain chain → text.now ≢ arcs_text chain)
-        (λ chain. IsNamedChain chain × (text.now ≡ arcs_text chain))) }
-{
-    if text.is_empty() {
-        return Ok(None);
-    }
-    match arcs(alloc, text)? {
-        Some(list) => Ok(Some(Chain::from_list(list))),
-        None => Ok(None),
-    }
 }
 
 // The four names that a text spells, a space before each, where they differ and the first is below

@@ -7,9 +7,8 @@ ghost use Rattle.md_report.specs.Lines.{plain_line, mode_word, refused};
 ghost use Rattle.md_report.specs.WellFormedLines.{IsLineReading};
 ghost use Rattle.md_report.specs.Words.{ReadsBehind, ReadsRefusal, ReadsOrders, ReadsTree};
 
-use crate::pieces::{
-    arcs, behind_space, chain, name_behind, names, path, split_before, split_piece,
-};
+use crate::arc_reader::{arcs, chain};
+use crate::pieces::{behind_space, name_behind, names, path, split_before, split_piece};
 use crate::words::{Refusal, Word, first_word, refusal_word};
 use crate::{Line, Mode, Order};
 use md_forcing::Arcs;

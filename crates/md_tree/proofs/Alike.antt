@@ -110,7 +110,7 @@ cut_front q xs few =
     ∙ ap (λ w. w ++ drop q (take (q + 4) xs)) (take-take q (q + 4) xs (omega arith) ∙ sym (take-take q 4 xs few))
     ∙ ap (λ w. take q (take 4 xs) ++ w) (drop-take q 4 xs)
 
-same_front : (q : ℕ) (x y : List ℕ) → q ≤ 4 → take 4 x ≡ take 4 y → take 4 (drop q x) ≡ take 4 (drop q y) → take (q + 4) x ≡ take (q + 4) y
+pub same_front : (q : ℕ) (x y : List ℕ) → q ≤ 4 → take 4 x ≡ take 4 y → take 4 (drop q x) ≡ take 4 (drop q y) → take (q + 4) x ≡ take (q + 4) y
 same_front q x y few a b =
     cut_front q x few ∙ ap (λ w. take q w ++ take 4 (drop q x)) a ∙ ap (λ w. take q (take 4 y) ++ w) b ∙ sym (cut_front q y few)
 

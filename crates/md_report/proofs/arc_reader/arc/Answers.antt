@@ -1,5 +1,5 @@
 use Rattle.md_report.proofs.Named.{no_mark, no_tail, no_head, no_loop, arc_spelled, behind_first}
-use Rattle.md_report.proofs.pieces.arc.Goals as goal
+use Rattle.md_report.proofs.arc_reader.arc.Goals as goal
 
 pub returns-in_default : goal.returns-in_default
 returns-in_default c a is = no_mark c.args.piece.now _ _ c.split_before.ensures c.in_default.len_below a
