@@ -1,6 +1,6 @@
 //! Sets of names in little room, as the classes of a partition are kept: most are names alone.
 ghost use Rattle.std.specs.Prelude.{◌≡◌, ◌*◌, ◌+◌, ℕ, ◌<◌, ◌≤◌, IfOk, IfSome, IfNone, IsTrue};
-ghost use Rattle.std.specs.FinSet.{len, empty, union};
+ghost use Rattle.std.specs.FinSet.{len, empty, insert, union};
 ghost use Rattle.md_graph.specs.NameSet.{IsLeastFrom, NoneFrom, AllBelow, block};
 ghost use Rattle.md_graph.specs.Sets.{Has, HasSome, HasTwo, only_name};
 ghost use Rattle.md_modules.specs.Blocks.{held_names, IsName};
@@ -173,6 +173,22 @@ impl<const W: usize> Block<W> {
         }
     }
 
+    /// Takes `name` in. Condition: it is below `64 * W`.
+    pub fn insert(&mut self, alloc: Global, name: u32) -> Result<(), Memory>
+        requires { name < 64 * W }
+        ensures { IfOk result (λ _. self.new ≡ insert self.old name) }
+    {
+        match &mut self.held {
+            Held::One(first) => {
+                let held = held_pair(alloc, *first, name)?;
+                self.held = held;
+            }
+            Held::Low(bits) => *bits = with_name::<W>(*bits, name),
+            Held::Several(names) => names.insert(name),
+        }
+        Ok(())
+    }
+
     /// Takes the names in to a set.
     pub fn add_to(&self, all: &mut Set<W>)
         ensures { all.new ≡ union all.old self.now }
@@ -194,6 +210,36 @@ fn set_of<const W: usize>(bits: u64) -> Set<W>
     let mut names = Set::none();
     names.insert_block(0, bits);
     names
+}
+
+// The bits of a set of one word with one name more.
+fn with_name<const W: usize>(bits: u64, name: u32) -> u64
+    requires one { W ≡ 1 }
+    requires limit { W ≤ WORDS }
+    requires name { name < 64 * W }
+    ensures { block 0 result ≡ insert (block 0 bits) name }
+{
+    let mut names = set_of::<W>(bits);
+    names.insert(name);
+    let _below = names.members();
+    names.block(0)
+}
+
+// How the set of two names, which may be the same, is kept.
+fn held_pair<const W: usize>(alloc: Global, first: u32, second: u32) -> Result<Held<W>, Memory>
+    requires first { first < 64 * W }
+    requires second { second < 64 * W }
+    requires limit { W ≤ WORDS }
+    ensures names { IfOk result (λ held. held_names W held ≡ insert (only_name first) second) }
+    ensures name { IfOk result (IsName W) }
+{
+    let mut names = Set::none();
+    names.insert(first);
+    names.insert(second);
+    if let Some(held) = held_alone(&names) {
+        return Ok(held);
+    }
+    Ok(Held::Several(Box::new(alloc, names)?))
 }
 
 // Puts a set into room for it.

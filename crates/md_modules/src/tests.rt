@@ -1,10 +1,10 @@
 //! The searches on small graphs.
 
 use crate::{
-    back, closure, closure_in, co_component, co_connected, component, connected, is_module,
+    Block, back, closure, closure_in, co_component, co_connected, component, connected, is_module,
     maximal_modules,
 };
-use md_graph::{Graph, Memory, NAMES, Names};
+use md_graph::{Graph, Memory, NAMES, Names, WORDS};
 use std::alloc::Global;
 use std::process::Abort;
 use std::test::Fail;
@@ -90,6 +90,19 @@ fn refined(
     Ok(())
 }
 
+// Sees what a block is once names were taken in.
+fn inserted(rt: &impl Abort, alloc: Global, names: [u32; 4], list: &[u32]) -> Result<(), Memory> {
+    assert!(rt; names[0] < NAMES);
+    let mut block = Block::<WORDS>::one(names[0]);
+    for name in names {
+        assert!(rt; name < NAMES);
+        block.insert(alloc, name)?;
+    }
+    let mut room = None;
+    expect(rt, block.set_in(&mut room), list);
+    Ok(())
+}
+
 // The path 0-1-2-3, with 4 beside 0.
 const EDGES: [(u32, u32); 4] = [(0, 1), (1, 2), (2, 3), (1, 4)];
 
@@ -118,6 +131,8 @@ fn modules(rt: HostRuntime) -> Result<(), Fail> {
     turned(&rt, &g, &[0, 1, 2, 3, 4], 0, 1, &[1, 2, 3]);
     turned(&rt, &g, &[0, 3], 3, 0, &[0]);
     refined(&rt, rt.alloc(), &g, &[0, 3, 4], 3, [&[0, 4], &[3]])?;
+    inserted(&rt, rt.alloc(), [5, 5, 5, 5], &[5])?;
+    inserted(&rt, rt.alloc(), [5, 70, 5, 4], &[4, 5, 70])?;
     Ok(())
 }
 

@@ -8,3 +8,4 @@ mod Counts
 mod Touching
 mod Inserting
 mod Settling
+mod Numbering
