@@ -9,15 +9,15 @@ use md_graph::lowest;
 use md_text::{CHUNK_SIZE, Chunk, Piece};
 
 // Gathers, for each 1 in `bits`, a line of `start` and of the piece at its place behind `first`.
-pub(crate) fn write_block(first: u32, bits: u64, start: &Piece, places: &[Piece], chunk: &mut Chunk)
+pub(crate) fn write_block(first: u32, bits: u64, start: Piece, places: &[Piece], chunk: &mut Chunk)
     requires there { All (λ w. w < length places.now) (bits_between first bits 64) }
     requires fits { first + 64 < 2 ^ 32 }
     requires room { length chunk.old + 16 * 64 ≤ CHUNK_SIZE }
     ensures { chunk.new
-        ≡ chunk.old ++ texts_at places.now (piece_text start.now) (bits_between first bits 64) }
+        ≡ chunk.old ++ texts_at places.now (piece_text start) (bits_between first bits 64) }
 {
-    let left = write_fours(first, bits, *start, places, chunk);
-    write_others(first, left, *start, places, chunk);
+    let left = write_fours(first, bits, start, places, chunk);
+    write_others(first, left, start, places, chunk);
 }
 
 // Gathers four lines at a time, as long as there are four; says which bits are left.

@@ -83,7 +83,7 @@ fn write_edges<const W: usize>(
     let mut chunk = Chunk::new();
     for v in graph.vertices().members() {
         let start = start_piece(places[v as usize]);
-        write_row(graph, v, &start, places, &mut chunk, text)?;
+        write_row(graph, v, start, places, &mut chunk, text)?;
     }
     chunk.flush(text)?;
     Ok(())
@@ -94,7 +94,7 @@ fn write_edges<const W: usize>(
 fn write_row<const W: usize>(
     graph: &GraphOf<W>,
     v: u32,
-    start: &Piece,
+    start: Piece,
     places: &[Piece],
     chunk: &mut Chunk,
     text: &mut Vec<u8>,
@@ -102,7 +102,7 @@ fn write_row<const W: usize>(
     requires name { v < NAMES }
     requires row { v < 64 * W }
     requires room { length places.now ≤ 64 * W }
-    requires start { piece_text start.now ≡ line_start graph.now v }
+    requires start { piece_text start ≡ line_start graph.now v }
     requires places { ArePlaces graph.now places.now }
     ensures { OnOk result (text.new.items ++ chunk.new
         ≡ (text.old.items ++ chunk.old) ++ row_text graph.now v) }

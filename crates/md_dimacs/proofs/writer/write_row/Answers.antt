@@ -33,7 +33,7 @@ loop-first-preserved g c =
       near = omega (arith, c.loop-first.invariant.near);
       written =
           block_step c.args.graph.now c.args.v (c.args.v + 1) c.loop-first.first c.args.places.now (bits_between c.loop-first.first c.bits_from-bits.result 64) c.loop-first.text.items c.loop-first.chunk c.make_room.new.text.items
-          c.make_room.new.self c.write_block.new.chunk (piece_text c.args.start.now) _ c.loop-first.invariant.written cut places c.requires.start c.in_ok-make_room.ensures.same c.write_block.ensures;
+          c.make_room.new.self c.write_block.new.chunk (piece_text c.args.start) _ c.loop-first.invariant.written cut places c.requires.start c.in_ok-make_room.ensures.same c.write_block.ensures;
     }
 
 pub returns : goal.returns
