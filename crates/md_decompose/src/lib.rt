@@ -10,6 +10,7 @@ mod decomposition;
 mod ordered;
 mod prime;
 mod quotient;
+mod refined;
 
 pub use decomposition::decompose;
 

@@ -1,7 +1,7 @@
 mod Limits
-mod Lists
-mod Refining
-mod Showing
+pub mod Lists
+pub mod Refining
+pub mod Showing
 mod Rests
 mod Starting
 mod Counts

@@ -23,7 +23,7 @@ pub each_more : (P Q : List ℕ → Type 0) (cs : List (List ℕ)) → ((c : Lis
 each_more P Q [] wider all = tt
 each_more P Q (c ∷ cs) wider all = (wider c all.0, each_more P Q cs wider all.1)
 
-each_all : (P : List ℕ → Type 0) (cs : List (List ℕ)) → All P cs → Each P cs
+pub each_all : (P : List ℕ → Type 0) (cs : List (List ℕ)) → All P cs → Each P cs
 each_all P [] all = tt
 each_all P (c ∷ cs) all = (All-head P c cs all, each_all P cs (All-tail P c cs all))
 
@@ -69,10 +69,10 @@ with_none v t (c ∷ cs) none =
       | false ↦ with_none v t cs (omega arith)
     ]
 
-held : (v : ℕ) (c : List ℕ) (cs : List (List ℕ)) → holders v (c ∷ cs) ≤ 1 → is_in c v ≡ true → holders v cs ≡ 0
+pub held : (v : ℕ) (c : List ℕ) (cs : List (List ℕ)) → holders v (c ∷ cs) ≤ 1 → is_in c v ≡ true → holders v cs ≡ 0
 held v c cs once m = let all : cond true 1 0 + holders v cs ≤ 1 = rw m at once in omega arith
 
-some_held : (v : ℕ) (c : List ℕ) (cs : List (List ℕ)) → holders v (c ∷ cs) ≡ 0 → is_in c v ≡ false
+pub some_held : (v : ℕ) (c : List ℕ) (cs : List (List ℕ)) → holders v (c ∷ cs) ≡ 0 → is_in c v ≡ false
 some_held v c cs none = elim (is_in c v) as (λ b. cond b 1 0 + holders v cs ≡ 0 → b ≡ false) [ true ↦ λ e. absurd (omega arith) | false ↦ λ e. refl ] none
 
 others : (c : List ℕ) (t : ℕ) (cs : List (List ℕ)) → is_in c t ≡ true → ((v : ℕ) → is_in c v ≡ true → holders v cs ≡ 0) → Each (IsTurn c t) cs

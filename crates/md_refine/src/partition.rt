@@ -1,6 +1,7 @@
 //! Ordered partitions.
 ghost use Rattle.std.specs.Prelude.{◌≡◌, ℕ, ◌+◌, ◌*◌, ◌<◌, ◌≤◌, true, false, is_some, [], ◌∷◌, ◌++◌, length, None, IfOk, slice_index_or, ◌↔◌};
-ghost use Rattle.std.specs.List.{filter};
+ghost use Rattle.std.specs.List.{filter, AllPairs};
+ghost use Rattle.md_graph.specs.Sets.{NameSet};
 ghost use Rattle.std.specs.FinSet as set;
 ghost use Rattle.md_graph.specs.NameSet.{ascending};
 ghost use Rattle.md_refine.specs.Partitions.{is_in, is_name, is_outside, class_position, ArePartition, cut, cut_outside, met, one_class, touching, settled};
@@ -9,10 +10,10 @@ use crate::places::{
     filled, home_at, home_if, homes_of, insert_if, is_at, names_at, numbers_of, place_at, position,
     positions_of,
 };
-use md_graph::{Memory, NAMES, Names, Set, Steps};
+use md_graph::{Members, Memory, NAMES, Names, Set, Steps};
 use std::alloc::Global;
-use std::marker::Model;
-use std::sync::ledger::Ledger;
+use std::marker::{Brand, Model};
+use std::sync::ledger::{Blank, Ledger};
 
 /// An ordered partition of a set of names: nonempty classes in order. Names can be touched, in
 /// ascending order; a class with touched names is cut in two when it is settled.
@@ -149,45 +150,77 @@ impl Partition {
         ensures steps { steps.new ≤ steps.old + 8 * (length (met set.now self.old.classes) + 1) }
     {
         let _count = self.class_count();
-        self.refine_outside(NAMES, set, steps);
+        self.cut(NAMES, set.members(), steps);
     }
 
-    /// The same, but that the class of `p` stays as it is. Where `p` is a name of no class, this is
-    /// `refine`.
-    pub fn refine_outside<const W: usize, L: Ledger>(
-        &mut self,
-        p: u32,
-        set: &Set<W>,
-        steps: &mut Steps<L>,
-    )
+    /// The same, but that the class of `p` stays as it is, and that the steps aren't counted. Where
+    /// `p` is a name of no class, this is `refine`.
+    pub fn refine_outside<const W: usize>(&mut self, p: u32, set: &Set<W>)
         requires untouched { self.old.touched ≡ [] }
         ensures cut { self.new.classes ≡ cut_outside p set.now self.old.classes }
         ensures untouched { self.new.touched ≡ [] }
         ensures partition { ArePartition self.new }
-        ensures steps { steps.new ≤ steps.old + 8 * (length (met set.now self.old.classes) + 1) }
     {
-        self.touch_outside(p, set, steps);
+        self.cut_uncounted(p, set.members());
+    }
+
+    // `refine_outside` by the members of a set.
+    fn cut_uncounted(&mut self, p: u32, members: Members<'_>)
+        requires untouched { self.old.touched ≡ [] }
+        requires order { AllPairs (λ x y. x < y) members }
+        ensures cut { (s : NameSet) → members.entry ≡ ascending s →
+            self.new.classes ≡ cut_outside p s self.old.classes }
+        ensures untouched { self.new.touched ≡ [] }
+        ensures partition { ArePartition self.new }
+    {
+        self.cut_counted::<Brand>(p, members, Blank::new(1));
+    }
+
+    // The same; nobody reads the steps.
+    fn cut_counted<L: Ledger>(&mut self, p: u32, members: Members<'_>, blank: Blank)
+        requires name { blank.name ≡ L.name }
+        requires parts { blank.parts ≡ L.parts }
+        requires some { 0 < blank.parts }
+        requires untouched { self.old.touched ≡ [] }
+        requires order { AllPairs (λ x y. x < y) members }
+        ensures cut { (s : NameSet) → members.entry ≡ ascending s →
+            self.new.classes ≡ cut_outside p s self.old.classes }
+        ensures untouched { self.new.touched ≡ [] }
+        ensures partition { ArePartition self.new }
+    {
+        let mut steps = Steps::<L>::new(blank);
+        self.cut(p, members, &mut steps);
+    }
+
+    // The same with counted steps.
+    fn cut<L: Ledger>(&mut self, p: u32, members: Members<'_>, steps: &mut Steps<L>)
+        requires untouched { self.old.touched ≡ [] }
+        requires order { AllPairs (λ x y. x < y) members }
+        ensures cut { (s : NameSet) → members.entry ≡ ascending s →
+            self.new.classes ≡ cut_outside p s self.old.classes }
+        ensures untouched { self.new.touched ≡ [] }
+        ensures partition { ArePartition self.new }
+        ensures steps { (s : NameSet) → members.entry ≡ ascending s →
+            steps.new ≤ steps.old + 8 * (length (met s self.old.classes) + 1) }
+    {
+        self.touch_outside(p, members, steps);
         while self.settle(steps) {}
     }
 
-    // Touches the members of the set that are names of classes, but for those in the class of `p`.
+    // Touches the members of a set that are names of classes, but for those in the class of `p`.
     // Condition: nothing is touched.
-    fn touch_outside<const W: usize, L: Ledger>(
-        &mut self,
-        p: u32,
-        set: &Set<W>,
-        steps: &mut Steps<L>,
-    )
+    fn touch_outside<L: Ledger>(&mut self, p: u32, members: Members<'_>, steps: &mut Steps<L>)
         requires untouched { self.old.touched ≡ [] }
+        requires order { AllPairs (λ x y. x < y) members }
         ensures classes { self.new.classes ≡ self.old.classes }
         ensures touched { self.new.touched
-            ≡ filter (is_outside p self.old.classes) (ascending set.now) }
+            ≡ filter (is_outside p self.old.classes) members.entry }
         ensures partition { ArePartition self.new }
         ensures steps { steps.new
-            ≡ steps.old + length (filter (is_outside p self.old.classes) (ascending set.now)) }
+            ≡ steps.old + length (filter (is_outside p self.old.classes) members.entry) }
     {
         let _count = self.class_count();
-        for v in set.members() {
+        for v in members {
             self.touch_name(p, v, steps);
         }
     }

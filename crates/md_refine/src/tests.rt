@@ -32,7 +32,7 @@ fn sees<R: Abort>(rt: &R, partition: &Partition, classes: &[u64]) {
     }
 }
 
-// Sees that these are the numbers of the classes of the first names, and that no other name has one.
+// Sees that these are the numbers of the classes of the first names; no other name has one.
 fn numbers_are<R: Abort>(
     rt: &R,
     alloc: Global,
@@ -73,9 +73,9 @@ fn cuts<L: Ledger, R: Abort>(rt: &R, alloc: Global, blank: Blank) -> Result<(), 
     assert!(rt; three.settle(&mut steps));
     sees(rt, &three, &[0b00010000, 0b10000100]);
     assert!(rt; !three.settle(&mut steps));
-    three.refine_outside(7, &set(&[1, 2, 4]), &mut steps);
+    three.refine_outside(7, &set(&[1, 2, 4]));
     sees(rt, &three, &[0b00010000, 0b10000100]);
-    three.refine_outside(4, &set(&[2, 4]), &mut steps);
+    three.refine_outside(4, &set(&[2, 4]));
     sees(rt, &three, &[0b00010000, 0b00000100, 0b10000000]);
     Ok(())
 }
