@@ -19,6 +19,7 @@ use Rattle.md_text.specs.Numbers.{decimal}
 use Rattle.md_text.specs.Pieces.{piece_text, text_at, texts_at}
 use Rattle.md_text.proofs.Lists.{In, Later, to_pairs, of_contains, of_append, in_left, in_right, later_append}
 use Rattle.md_text.proofs.PieceLemmas.{texts_more, texts_end}
+use Rattle.md_dimacs.proofs.BlockLemmas.{texts_append}
 use Rattle.md_tree.specs.declared.Kind.TheVariants.{Prime}
 use Rattle.md_tree.specs.declared.Pair.{Pair}
 use Rattle.md_tree.specs.Held.{MayList}
@@ -41,12 +42,6 @@ put_matched whole spelled text rest before held new first pieces i piece same pu
     m (texts_at pieces first (i ∷ []) ++ behind) (same (texts_at pieces first (i ∷ []) ++ behind) (e ∙ ap (λ l. l ++ behind) made ∙ append_assoc held (texts_at pieces first (i ∷ [])) behind))
     ∙ sym (append_assoc spelled (texts_at pieces first (i ∷ [])) behind)
 
-texts-append : (pieces : List Piece) (first xs ys : List ℕ) → texts_at pieces first (xs ++ ys) ≡ texts_at pieces first xs ++ texts_at pieces first ys
-unfolding texts_at
-texts-append pieces first [] ys = refl
-texts-append pieces first (x ∷ xs) ys =
-    ap (λ l. (first ++ text_at pieces x) ++ l) (texts-append pieces first xs ys) ∙ sym (append_assoc (first ++ text_at pieces x) (texts_at pieces first xs) (texts_at pieces first ys))
-
 -- the names before those that are left are compared
 pub record ArePassed (text rest gathered now : List ℕ) (pieces : List Piece) (first names left : List ℕ) : Type 0 where
   pub done : List ℕ
@@ -68,7 +63,7 @@ passed_more text rest gathered now pieces first names left x others far new p cu
   all = p.all ∙ ap (λ l. p.done ++ l) cut ∙ sym (append_assoc p.done (x ∷ []) others);
   matches = λ whole spelled m behind e.
       put whole (spelled ++ texts_at pieces first p.done) (p.matches whole spelled m) behind e
-      ∙ ap (λ l. l ++ behind) (append_assoc spelled (texts_at pieces first p.done) (texts_at pieces first (x ∷ [])) ∙ ap (λ l. spelled ++ l) (sym (texts-append pieces first p.done (x ∷ []))));
+      ∙ ap (λ l. l ++ behind) (append_assoc spelled (texts_at pieces first p.done) (texts_at pieces first (x ∷ [])) ∙ ap (λ l. spelled ++ l) (sym (texts_append pieces first p.done (x ∷ []))));
 }
 
 pub passed_there : (text rest gathered now : List ℕ) (pieces : List Piece) (first names left : List ℕ) (x : ℕ) (others : List ℕ) → ArePassed text rest gathered now pieces first names left → left ≡ x ∷ others →
@@ -107,7 +102,7 @@ module _ (e : ℕ → ℕ → Bool) (v low : ℕ) (pieces : List Piece) (start :
   near_text j (w ∷ ws) places = here (near_text (suc j) ws places.2) (e v w)
     where
       here : texts_at pieces start (near_heads e v ws) ≡ pairs_text 44 (near_pairs e v low (suc j) ws) → (b : Bool) → texts_at pieces start (cond b (w ∷ near_heads e v ws) (near_heads e v ws)) ≡ pairs_text 44 (cond b (record { low = low; high = j } ∷ near_pairs e v low (suc j) ws) (near_pairs e v low (suc j) ws))
-      here more true = texts-append pieces start (w ∷ []) (near_heads e v ws) ∙ one_text 44 start is_start w j places.1 (near_pairs e v low (suc j) ws) (near_heads e v ws) more
+      here more true = texts_append pieces start (w ∷ []) (near_heads e v ws) ∙ one_text 44 start is_start w j places.1 (near_pairs e v low (suc j) ws) (near_heads e v ws) more
       here more false = more
 
   first_text : (mark : ℕ) (mstart : List ℕ) → mstart ≡ mark ∷ (decimal low ++ 45 ∷ []) → (j x : ℕ) (left ws : List ℕ) → ArePlaces pieces j ws → near_heads e v ws ≡ x ∷ left →

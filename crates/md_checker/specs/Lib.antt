@@ -8,3 +8,4 @@ pub mod Checkers
 pub mod FitTests
 pub mod HeadPairs
 pub mod TextFits
+pub mod Hands

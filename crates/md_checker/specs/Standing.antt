@@ -1,41 +1,19 @@
 -- The place of a report at which a checker stands, by what it keeps.
 -- Source: this project's own format of reports.
-use Rattle.std.specs.Prelude.{◌≡◌, ◌≤◌, ℕ, Option, Some, List, [], ◌∷◌, length, drop, ⊤}
+use Rattle.std.specs.Prelude.{◌≡◌, ◌≤◌, ℕ, List, length, drop}
 use Rattle.md_graph.specs.PlainGraph.{PlainGraph}
 use Rattle.md_script.specs.declared.edit.Edit as script
-use Rattle.md_input.specs.Rooms.{large_graph}
 use Rattle.md_report.specs.declared.line.GraphMode.{GraphMode}
-use Rattle.md_report.specs.declared.line.GraphMode.TheVariants as graph_modes
 use Rattle.md_report.specs.declared.line.SessionMode.{SessionMode}
 use Rattle.md_report.specs.declared.line.SessionMode.TheVariants.{Quiet}
 use Rattle.md_report.specs.Lines.{PlainLine, line_text}
 use Rattle.md_report.specs.Cographs.{IsCograph}
-use Rattle.md_report.specs.Places.{Place, before_head, at_graphs, before_session, at_state, at_edits, at_end, after_end, MayCome, next_place, Reports}
-use Rattle.md_checker.specs.declared.graph_checker.AtHand.{AtHand}
-use Rattle.md_checker.specs.declared.graph_checker.AtHand.TheVariants as at_hand
+use Rattle.md_report.specs.Places.{Place, before_head, at_graphs, before_session, at_state, at_edits, at_end, after_end, MayCome, next_place}
 use Rattle.md_checker.specs.declared.graph_checker.GraphDue.{GraphDue}
 use Rattle.md_checker.specs.declared.graph_checker.GraphDue.TheVariants as graph_due
 use Rattle.md_checker.specs.declared.session_checker.SessionDue.{SessionDue}
 use Rattle.md_checker.specs.declared.session_checker.SessionDue.TheVariants as session_due
 use Rattle.md_checker.specs.declared.session_checker.Step.{Step}
-
--- the graphs that are still to be reported: the one at hand, where there is one, and those behind it
-abbrev pub graphs_left : AtHand → PlainGraph → Option PlainGraph → List PlainGraph → List PlainGraph
-graphs_left at_hand.Nothing small large graphs = []
-graphs_left at_hand.Small small large graphs = small ∷ graphs
-graphs_left at_hand.Large small large graphs = large_graph large ∷ graphs
-
--- it is there: a small one in mode tree alone
-abbrev pub IsAtHand : GraphMode → AtHand → Option PlainGraph → Type 0
-IsAtHand mode at_hand.Nothing large = ⊤
-IsAtHand mode at_hand.Small large = mode ≡ graph_modes.Tree
-IsAtHand mode at_hand.Large large = (g : PlainGraph) × (large ≡ Some g)
-
--- a line reports the graph at hand
-abbrev pub ReportsFirst : GraphMode → AtHand → PlainGraph → Option PlainGraph → PlainLine → Type 0
-ReportsFirst mode at_hand.Nothing small large line = ⊥
-ReportsFirst mode at_hand.Small small large line = Reports mode small line
-ReportsFirst mode at_hand.Large small large line = Reports mode (large_graph large) line
 
 -- the place of a report over graphs at which this line is due
 abbrev pub graph_place : GraphDue → GraphMode → List PlainGraph → Place

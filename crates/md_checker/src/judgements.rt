@@ -52,23 +52,6 @@ pub(crate) fn reports(
     }
 }
 
-// Whether the text is that of a line that reports the graph; a false says nothing.
-pub(crate) fn reports_by_text<const W: usize>(
-    alloc: Global,
-    mode: GraphMode,
-    graph: &GraphOf<W>,
-    text: &[u8],
-) -> Result<bool, Memory>
-    ensures { IfOk result (λ fit. IsTrue fit → (line : PlainLine) × Reports mode graph.now line
-        × (text.now ≡ line_text line)) }
-{
-    match mode {
-        GraphMode::Tree => is_word_and_tree(alloc, graph, b"t ", text),
-        GraphMode::Compare => Ok(false),
-        GraphMode::Permute => Ok(false),
-    }
-}
-
 // Whether the line is that of the tree of the graph. Condition: the line is well-formed.
 pub(crate) fn is_tree_line<const W: usize>(
     alloc: Global,

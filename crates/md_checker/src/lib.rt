@@ -8,6 +8,7 @@ mod check;
 mod checker;
 mod fixed_lines;
 mod graph_checker;
+mod hand;
 mod head_pairs;
 mod judgements;
 pub mod laws;

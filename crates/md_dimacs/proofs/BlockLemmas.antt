@@ -128,7 +128,7 @@ shorter x xs ys e = let l = ap length e in omega arith
 
 -- ---- four lines at a time
 
-texts_append : (pieces : List Piece) (first xs ys : List ℕ) → texts_at pieces first (xs ++ ys) ≡ texts_at pieces first xs ++ texts_at pieces first ys
+pub texts_append : (pieces : List Piece) (first xs ys : List ℕ) → texts_at pieces first (xs ++ ys) ≡ texts_at pieces first xs ++ texts_at pieces first ys
 unfolding texts_at
 texts_append pieces first [] ys = refl
 texts_append pieces first (x ∷ xs) ys =

@@ -1,1 +1,2 @@
 pub mod GraphFiles
+mod Narrowing

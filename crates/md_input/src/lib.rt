@@ -6,6 +6,7 @@ mod fault;
 mod format;
 mod graphs;
 mod inputs;
+mod narrow;
 mod room;
 #[cfg(test)]
 mod tests;

@@ -5,6 +5,7 @@ ghost use Rattle.md_graph.specs.PlainGraph.{empty_graph};
 ghost use Rattle.md_graph6.specs.First.{FirstBelow};
 ghost use Rattle.md_input.specs.Rooms.{IsGraphBySize};
 
+use crate::narrow::{is_small, narrow};
 use md_graph::{Graph, GraphOf, Memory};
 use md_graph6::Lines;
 use std::alloc::Global;
@@ -73,13 +74,18 @@ impl Room {
         }
     }
 
-    // The graph comes into the room. Condition: the one in it has no vertices.
+    // The graph comes into the room, a small one with one word a row. Condition: the one in it has
+    // no vertices.
     pub(crate) fn put(&mut self, graph: Graph)
         requires { self.old ≡ empty_graph }
         ensures { self.new ≡ graph }
     {
-        self.large = Some(graph);
-        self.is_large = true;
+        self.is_large = !is_small(&graph);
+        if self.is_large {
+            self.large = Some(graph);
+        } else {
+            narrow(&graph, &mut self.small);
+        }
     }
 
     // The next graph of the lines comes into the room for small ones; false where none is left, and

@@ -59,22 +59,51 @@ fn graphs_of_files(rt: HostRuntime) -> Result<(), Fail> {
     Ok(())
 }
 
+// The one graph of the file is small, and has so many vertices and edges.
+fn is_small(
+    rt: &impl Abort,
+    alloc: Global,
+    from: Format,
+    file: &[u8],
+    size: u32,
+    edges: u32,
+) -> Result<(), Fail> {
+    let mut small = GraphOf::new(alloc)?;
+    let Ok(mut graphs) = Graphs::read(alloc, from, file) else {
+        panic!(rt; "a fault");
+    };
+    assert!(rt; graphs.is_next_small());
+    assert!(rt; graphs.next_small(&mut small));
+    assert_eq!(rt; small.count(), size);
+    assert_eq!(rt; small.edge_count(), edges);
+    small.clear();
+    assert!(rt; graphs.is_next_small());
+    assert!(rt; !graphs.next_small(&mut small));
+    Ok(())
+}
+
 #[test]
 fn small_graphs_of_files(rt: HostRuntime) -> Result<(), Fail> {
     let alloc = rt.alloc();
-    let mut small = GraphOf::new(alloc)?;
-    let Ok(mut graphs) = Graphs::read(alloc, Format::G6, b"Bw\n") else {
+    is_small(&rt, alloc, Format::G6, b"Bw\n", 3, 3)?;
+    is_small(
+        &rt,
+        alloc,
+        Format::Dimacs,
+        b"p edge 61 2\ne 61 1\ne 2 61\n",
+        61,
+        2,
+    )?;
+    let Ok(graphs) = Graphs::read(alloc, Format::Dimacs, b"p edge 62 0\n") else {
         panic!(rt; "a fault");
     };
-    assert_eq!(rt; graphs.next_small(&mut small), Some(true));
-    assert_eq!(rt; small.count(), 3);
-    small.clear();
-    assert_eq!(rt; graphs.next_small(&mut small), Some(false));
-    small.clear();
+    assert!(rt; !graphs.is_next_small());
     let Ok(mut graphs) = Graphs::read(alloc, Format::Dimacs, b"p edge 3 0\n") else {
         panic!(rt; "a fault");
     };
-    assert_eq!(rt; graphs.next_small(&mut small), None);
+    let mut room = Room::new(alloc)?;
+    assert!(rt; graphs.next_into(alloc, &mut room)?);
+    assert!(rt; matches!(room.graph(), GraphBySize::Small(_)));
     Ok(())
 }
 
