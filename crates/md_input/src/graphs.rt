@@ -1,16 +1,14 @@
 //! The graphs of a file, one after the other.
-ghost use Rattle.std.specs.Prelude.{◌≡◌, [], ◌∷◌, None, ◌↔◌, IfOk, IfErr, IsErr, IsTrue};
+ghost use Rattle.std.specs.Prelude.{◌≡◌, [], ◌∷◌, None, IfOk, IfErr, IsErr};
 ghost use Rattle.std.specs.Bool.{OnTrue, OnFalse};
 ghost use Rattle.md_graph.specs.PlainGraph.{empty_graph};
-ghost use Rattle.md_graph6.specs.First.{FirstBelow};
 ghost use Rattle.md_input.specs.Spelling.{SpellsGraphs};
 ghost use Rattle.md_input.specs.Faults.{graph_fault, IsStopAt};
 
 use crate::fault::InputStop;
 use crate::format::Format;
-use crate::narrow::{is_small, narrow};
 use crate::room::Room;
-use md_graph::{Graph, GraphOf, Memory};
+use md_graph::{Graph, Memory};
 use md_graph6::{Lines, scan};
 use std::alloc::Global;
 use std::marker::Model;
@@ -78,34 +76,6 @@ impl<'a> Graphs<'a> {
             }
         }
         self.lines.next(graph)
-    }
-
-    /// Whether the next graph, if there is one, is small: all its vertices are below 62.
-    pub fn is_next_small(&self) -> bool
-        ensures { IsTrue result ↔ FirstBelow 62 self.now }
-    {
-        match &self.first {
-            Some(first) => is_small(first),
-            None => self.lines.is_next_small(),
-        }
-    }
-
-    /// As `next`, into a graph of one word a row. Conditions: the graph has no vertices, and the
-    /// next graph is small, which `is_next_small` tests.
-    pub fn next_small(&mut self, graph: &mut GraphOf<1>) -> bool
-        requires empty { graph.old ≡ empty_graph }
-        requires small { FirstBelow 62 self.old }
-        ensures first { OnTrue result (self.old ≡ graph.new ∷ self.new) }
-        ensures none { OnFalse result (self.old ≡ []) }
-        ensures none_left { OnFalse result (self.new ≡ []) }
-        ensures stays { OnFalse result (graph.new ≡ empty_graph) }
-    {
-        if let Some(first) = &self.first {
-            narrow(first, graph);
-            self.first = None;
-            return true;
-        }
-        self.lines.next_small(graph)
     }
 
     /// Makes the graph in the room the first of the graphs, takes that off, and answers true; a

@@ -59,51 +59,37 @@ fn graphs_of_files(rt: HostRuntime) -> Result<(), Fail> {
     Ok(())
 }
 
-// The one graph of the file is small, and has so many vertices and edges.
-fn is_small(
+// The one graph of the file comes into the room with one word a row, and has so many vertices and
+// edges; or it comes with the largest rows.
+fn comes(
     rt: &impl Abort,
     alloc: Global,
     from: Format,
     file: &[u8],
-    size: u32,
-    edges: u32,
+    small: Option<(u32, u32)>,
 ) -> Result<(), Fail> {
-    let mut small = GraphOf::new(alloc)?;
+    let mut room = Room::new(alloc)?;
     let Ok(mut graphs) = Graphs::read(alloc, from, file) else {
         panic!(rt; "a fault");
     };
-    assert!(rt; graphs.is_next_small());
-    assert!(rt; graphs.next_small(&mut small));
-    assert_eq!(rt; small.count(), size);
-    assert_eq!(rt; small.edge_count(), edges);
-    small.clear();
-    assert!(rt; graphs.is_next_small());
-    assert!(rt; !graphs.next_small(&mut small));
+    assert!(rt; graphs.next_into(alloc, &mut room)?);
+    let found = match room.graph() {
+        GraphBySize::Small(graph) => Some((graph.count(), graph.edge_count())),
+        GraphBySize::Large(_) => None,
+    };
+    assert_eq!(rt; found, small);
+    room.clear();
+    assert!(rt; !graphs.next_into(alloc, &mut room)?);
     Ok(())
 }
 
 #[test]
-fn small_graphs_of_files(rt: HostRuntime) -> Result<(), Fail> {
+fn rooms(rt: HostRuntime) -> Result<(), Fail> {
     let alloc = rt.alloc();
-    is_small(&rt, alloc, Format::G6, b"Bw\n", 3, 3)?;
-    is_small(
-        &rt,
-        alloc,
-        Format::Dimacs,
-        b"p edge 61 2\ne 61 1\ne 2 61\n",
-        61,
-        2,
-    )?;
-    let Ok(graphs) = Graphs::read(alloc, Format::Dimacs, b"p edge 62 0\n") else {
-        panic!(rt; "a fault");
-    };
-    assert!(rt; !graphs.is_next_small());
-    let Ok(mut graphs) = Graphs::read(alloc, Format::Dimacs, b"p edge 3 0\n") else {
-        panic!(rt; "a fault");
-    };
-    let mut room = Room::new(alloc)?;
-    assert!(rt; graphs.next_into(alloc, &mut room)?);
-    assert!(rt; matches!(room.graph(), GraphBySize::Small(_)));
+    let edges = b"p edge 61 2\ne 61 1\ne 2 61\n";
+    comes(&rt, alloc, Format::G6, b"Bw\n", Some((3, 3)))?;
+    comes(&rt, alloc, Format::Dimacs, edges, Some((61, 2)))?;
+    comes(&rt, alloc, Format::Dimacs, b"p edge 62 0\n", None)?;
     Ok(())
 }
 
