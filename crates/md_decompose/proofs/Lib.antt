@@ -6,3 +6,4 @@ pub mod Opened
 pub mod Components
 pub mod Heads
 pub mod HeadPairs
+mod RefinedLemmas

@@ -3,3 +3,4 @@ pub mod Marks
 pub mod Chains
 pub mod Turns
 pub mod Heads
+pub mod Refined

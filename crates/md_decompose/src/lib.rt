@@ -11,6 +11,7 @@ mod decomposition;
 mod ordered;
 mod prime;
 mod quotient;
+mod refined;
 
 pub use decomposition::decompose;
 

@@ -11,8 +11,8 @@ use Rattle.std.proofs.lemmas.List.Sums.{length-filter, count_by-le-length}
 use Rattle.md_graph.specs.declared.TheConstants.{NAMES}
 use Rattle.md_graph.specs.Sets.{NameSet}
 use Rattle.md_graph.specs.NameSet.{ascending, ascending_between}
-use Rattle.md_refine.specs.Partitions.{Classes, is_in, is_name, holders, class_with, ArePartition, unless_empty, parts, cut, met, settled_by, settled}
-use Rattle.md_refine.proofs.Lists.{in_filter, filter_same, filter_all, filter_none, in_first}
+use Rattle.md_refine.specs.Partitions.{Classes, is_in, is_name, holders, class_with, ArePartition, unless_empty, parts, cut, cut_outside, is_outside, met, settled_by, settled}
+use Rattle.md_refine.proofs.Lists.{in_filter, filter_same, filter_twice, filter_all, filter_none, in_first}
 
 -- each class has the property
 abbrev pub Each : (List ℕ → Type 0) → List (List ℕ) → Type 0
@@ -23,7 +23,7 @@ pub each_more : (P Q : List ℕ → Type 0) (cs : List (List ℕ)) → ((c : Lis
 each_more P Q [] wider all = tt
 each_more P Q (c ∷ cs) wider all = (wider c all.0, each_more P Q cs wider all.1)
 
-each_all : (P : List ℕ → Type 0) (cs : List (List ℕ)) → All P cs → Each P cs
+pub each_all : (P : List ℕ → Type 0) (cs : List (List ℕ)) → All P cs → Each P cs
 each_all P [] all = tt
 each_all P (c ∷ cs) all = (All-head P c cs all, each_all P cs (All-tail P c cs all))
 
@@ -69,10 +69,10 @@ with_none v t (c ∷ cs) none =
       | false ↦ with_none v t cs (omega arith)
     ]
 
-held : (v : ℕ) (c : List ℕ) (cs : List (List ℕ)) → holders v (c ∷ cs) ≤ 1 → is_in c v ≡ true → holders v cs ≡ 0
+pub held : (v : ℕ) (c : List ℕ) (cs : List (List ℕ)) → holders v (c ∷ cs) ≤ 1 → is_in c v ≡ true → holders v cs ≡ 0
 held v c cs once m = let all : cond true 1 0 + holders v cs ≤ 1 = rw m at once in omega arith
 
-some_held : (v : ℕ) (c : List ℕ) (cs : List (List ℕ)) → holders v (c ∷ cs) ≡ 0 → is_in c v ≡ false
+pub some_held : (v : ℕ) (c : List ℕ) (cs : List (List ℕ)) → holders v (c ∷ cs) ≡ 0 → is_in c v ≡ false
 some_held v c cs none = elim (is_in c v) as (λ b. cond b 1 0 + holders v cs ≡ 0 → b ≡ false) [ true ↦ λ e. absurd (omega arith) | false ↦ λ e. refl ] none
 
 others : (c : List ℕ) (t : ℕ) (cs : List (List ℕ)) → is_in c t ≡ true → ((v : ℕ) → is_in c v ≡ true → holders v cs ≡ 0) → Each (IsTurn c t) cs
@@ -166,18 +166,73 @@ same_pieces : (f g : List ℕ → List (List ℕ)) (cs : List (List ℕ)) → Ea
 same_pieces f g [] same = refl
 same_pieces f g (c ∷ cs) same = λ i. same.0 i ++ same_pieces f g cs same.1 i
 
--- the cut by the members that are names
-pub met_cut : (s : NameSet) (p : Classes) → ArePartition p → flat_map (parts (is_in (met s p.classes))) p.classes ≡ cut s p.classes
-met_cut s p is =
-    same_pieces (parts (is_in (met s p.classes))) (parts (set.contains s)) p.classes
-    (each_more _ _ p.classes (λ c named. parts_same (is_in (met s p.classes)) (set.contains s) c (λ v m.
-    let name = named v m in
-    let low = is.names v name in
-    in_filter (is_name p.classes) (ascending s) v ∙ rw (name, in_ascending s NAMES v) (below v NAMES (set.contains s v) low)))
-    (members_named p.classes))
+-- the members of the set that are names, but for those in the class of p
+abbrev pub met_outside : ℕ → NameSet → List (List ℕ) → List ℕ
+met_outside p s classes = filter (is_outside p classes) (ascending s)
+
+-- the cut by the members that are names outside the class of p
+pub outside_cut : (p : ℕ) (s : NameSet) (q : Classes) → ArePartition q → flat_map (parts (is_in (met_outside p s q.classes))) q.classes ≡ cut_outside p s q.classes
+outside_cut p s q is =
+    same_pieces (parts (is_in (met_outside p s cs))) (λ c. if is_in c p then c ∷ [] else parts (set.contains s) c) cs
+    (both cs (members_named cs) (turns p cs is.apart) (each_all (λ c. c ≢ []) cs is.filled))
   where
-    below : (v n : ℕ) (b : Bool) → v < n → (true && (ltb v n && b)) ≡ b
-    below v n b low = grind (arith, nat_tests)
+    cs : List (List ℕ)
+    cs = q.classes
+
+    w : List ℕ
+    w = class_with p cs
+
+    below : (v n : ℕ) (b d : Bool) → v < n → ((true && not d) && (ltb v n && b)) ≡ (b && not d)
+    below v n b d low = grind (arith, nat_tests)
+
+    met_is : (v : ℕ) → is_name cs v ≡ true → is_in (met_outside p s cs) v ≡ (set.contains s v && not (is_in w v))
+    met_is v name =
+        in_filter (is_outside p cs) (ascending s) v ∙ rw (name, in_ascending s NAMES v) (below v NAMES (set.contains s v) (is_in w v) (is.names v name))
+
+    one : (c : List ℕ) → ((v : ℕ) → is_in c v ≡ true → is_name cs v ≡ true) → IsTurn w p c → c ≢ [] → parts (is_in (met_outside p s cs)) c ≡ (if is_in c p then c ∷ [] else parts (set.contains s) c)
+    one c named turn some =
+        elim (is_in c p) as (λ b. is_in c p ≡ b → parts (is_in (met_outside p s cs)) c ≡ (if b then c ∷ [] else parts (set.contains s) c)) [
+          | true ↦ λ m.
+              parts_none (is_in (met_outside p s cs)) c (λ v h.
+              let inside : is_in w v ≡ true = sym (ap (λ l. is_in l v) (turn.here m)) ∙ h in
+              met_is v (named v h) ∙ rw inside (and_none (set.contains s v)))
+              ∙ one_part c some
+          | false ↦ λ n.
+              parts_same (is_in (met_outside p s cs)) (set.contains s) c (λ v h.
+              met_is v (named v h) ∙ rw (turn.there n v h) (and_all (set.contains s v)))
+        ] refl
+      where
+        and_none : (b : Bool) → (b && not true) ≡ false
+        and_none true = refl
+        and_none false = refl
+
+        and_all : (b : Bool) → (b && not false) ≡ b
+        and_all true = refl
+        and_all false = refl
+
+    both : (ds : List (List ℕ)) → Each (λ c. (v : ℕ) → is_in c v ≡ true → is_name cs v ≡ true) ds → Each (IsTurn w p) ds → Each (λ c. c ≢ []) ds → Each (λ c. parts (is_in (met_outside p s cs)) c ≡ (if is_in c p then c ∷ [] else parts (set.contains s) c)) ds
+    both [] named turn some = tt
+    both (d ∷ ds) named turn some = (one d named.0 turn.0 some.0, both ds named.1 turn.1 some.1)
+
+-- outside no class, each is cut
+pub cut_all : (p : ℕ) (s : NameSet) (q : Classes) → ArePartition q → NAMES ≤ p → cut_outside p s q.classes ≡ cut s q.classes
+cut_all p s q is high =
+    same_pieces (λ c. if is_in c p then c ∷ [] else parts (set.contains s) c) (parts (set.contains s)) q.classes
+    (each_more _ _ q.classes (λ c named. one c named) (members_named q.classes))
+  where
+    one : (c : List ℕ) → ((v : ℕ) → is_in c v ≡ true → is_name q.classes v ≡ true) → (if is_in c p then c ∷ [] else parts (set.contains s) c) ≡ parts (set.contains s) c
+    one c named =
+        let out : is_in c p ≡ false = false_from_ne_true (is_in c p) (λ m. let low = is.names p (named p m) in absurd (omega arith)) in
+        rw out refl
+
+-- no more are met outside a class than at all
+pub few_outside : (p : ℕ) (s : NameSet) (classes : List (List ℕ)) → length (met_outside p s classes) ≤ length (met s classes)
+few_outside p s classes =
+    let w = class_with p classes in
+    let twice = ap length (filter_twice (is_name classes) (λ v. not (is_in w v)) (ascending s)) in
+    let long = length-filter (λ v. not (is_in w v)) (met s classes) in
+    let most = count_by-le-length (λ v. not (is_in w v)) (met s classes) in
+    omega arith
 
 -- ---- each turn leaves fewer touched names
 

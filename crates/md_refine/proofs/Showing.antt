@@ -1,5 +1,5 @@
 -- Vectors that keep a partition: what is read of them.
-use Rattle.std.proofs.Common.{◌≡◌, ◌≢◌, ℕ, ◌+◌, ◌<◌, ◌≤◌, Bool, true, false, cond, ◌&&◌, ◌||◌, ◌==◌, nat_lt, List, [], ◌∷◌, map, length, Option, Some, None, is_some, AllPairs, refl, sym, ◌∙◌, ap, subst, inl, inr, arith}
+use Rattle.std.proofs.Common.{◌≡◌, ◌≢◌, ℕ, ◌+◌, ◌<◌, ◌≤◌, Bool, true, false, cond, not, ◌&&◌, ◌||◌, ◌==◌, nat_lt, List, [], ◌∷◌, map, length, vec_len, Option, Some, None, is_some, AllPairs, refl, sym, ◌∙◌, ap, subst, inl, inr, arith}
 use Rattle.std.specs.List.{filter, list_any, position_from}
 use Rattle.std.proofs.lemmas.Bool.{cases_eq, eq-eqb, ne_eqb, false≢true, lt-ltb, cases_lt}
 use Rattle.std.proofs.lemmas.Bool.Decides.{nat_tests}
@@ -8,7 +8,7 @@ use Rattle.std.proofs.lemmas.List.{get_or_past}
 use Rattle.std.proofs.lemmas.List.Elements.{All-map}
 use Rattle.std.proofs.lemmas.List.Kept.{AllPairs-filter}
 use Rattle.md_graph.specs.declared.TheConstants.{NAMES}
-use Rattle.md_refine.specs.Partitions.{Classes, is_in, is_name, holders, class_with, ArePartition}
+use Rattle.md_refine.specs.Partitions.{Classes, is_in, is_name, class_position, holders, is_outside, class_with, ArePartition}
 use Rattle.md_refine.specs.Slots.{MarkStore, numbers, home, owner, is_mark_of, is_half, stands, marked, walk, place_names, partition_of, first_place, times, AreLinked, Keeps}
 use Rattle.md_refine.specs.declared.partition.Partition.TheInside.{Inside}
 use Rattle.md_refine.specs.Kept.{marks_kept, partition_kept, KeepsPartition}
@@ -61,11 +61,18 @@ module _ (f : ℕ → List ℕ) (v : ℕ) (none : (p : ℕ) → is_in (f p) v �
   named_none [] = refl
   named_none (p ∷ ps) = rw (none p, named_none ps) refl
 
+  pub with_none_at : (ps : List ℕ) → class_with v (map f ps) ≡ []
+  with_none_at [] = refl
+  with_none_at (p ∷ ps) = rw (none p) (with_none_at ps)
+
   pub position_none : (k : ℕ) (ps : List ℕ) → position_from (λ c. is_in c v) k (map f ps) ≡ None
   position_none k [] = refl
   position_none k (p ∷ ps) = rw (none p, position_none (k + 1) ps) refl
 
 -- ---- kept
+
+turned_round : (a b : ℕ) → (a == b) ≡ (b == a)
+turned_round a b = grind (arith, nat_tests)
 
 pub where_true : (b t : Bool) → (b ≡ true → t ≡ true) → (b && t) ≡ b
 where_true true t h = h refl
@@ -136,6 +143,20 @@ module _ (s : MarkStore) (order : List ℕ) (k : Keeps s order) where
       go None e = named_none (place_names s) v (not_home v e) order
       go (Some i) e = named_at (place_names s) v (owner s i) (at_home v i e) order ∙ low_order (owner s i) (k.homes v i e).place
 
+  -- v is outside the class of p where its place is no place of p
+  pub outside_at : (p v i : ℕ) → home s v ≡ Some i → is_outside p (map (place_names s) order) v ≡ not (stands s (owner s i) p)
+  outside_at p v i is = rw (named v, is) (go (home s p) refl)
+    where
+      go : (o : Option ℕ) → home s p ≡ o → not (is_in (class_with p (map (place_names s) order)) v) ≡ not (is_mark_of s.owners (owner s i) o)
+      go None e = rw (with_none_at (place_names s) p (not_home p e) order) refl
+      go (Some j) e =
+          let own = with_at (place_names s) p (owner s j) (at_home p j e) order (low_order (owner s j) (k.homes p j e).place) in
+          let turned : (owner s j == owner s i) ≡ (owner s i == owner s j) = turned_round (owner s j) (owner s i) in
+          rw (own, at_home v i is (owner s j)) (ap not turned)
+
+  pub outside_none : (p v : ℕ) → home s v ≡ None → is_outside p (map (place_names s) order) v ≡ false
+  outside_none p v is = rw (named v, is) refl
+
   seen_partition : ArePartition (seen s order)
   seen_partition = record {
     filled = All-map (λ c. c ≢ []) (place_names s) order (in_all (λ p. place_names s p ≢ []) order (λ p m. let w = k.some p (order_low p m) in in_some (place_names s p) w.0 (in_names p w.0 ∙ w.1)));
@@ -168,6 +189,25 @@ opened a p kept is = sym is ∙ shown (marks_kept a) kept.0 kept.1
 
 pub opened_partition : (a : Inside) (p : Classes) → KeepsPartition a → partition_kept a ≡ p → ArePartition p
 opened_partition a p kept is = subst ArePartition is (kept_partition (marks_kept a) kept.0 kept.1)
+
+-- a mark that a name has is one of an owner
+pub mark_within : (a : Inside) → KeepsPartition a → (v i : ℕ) → home (marks_kept a) v ≡ Some i → i < vec_len a.owners
+mark_within a kept v i is =
+    let h = (kept.1.homes v i is).low in
+    let used = kept.1.is_order.within in
+    let owners = kept.1.owners_len in
+    let nexts = kept.1.nexts_len in
+    omega arith
+
+-- the class of v, where it has no mark
+pub no_class : (a : Inside) (p : Classes) (kept : KeepsPartition a) → partition_kept a ≡ p → (v : ℕ) → home (marks_kept a) v ≡ None → None ≡ class_position p.classes v
+no_class a p kept is v none =
+    sym (ap (λ (q : Classes). class_position q.classes v) (opened a p kept is) ∙ position_none (place_names (marks_kept a)) v (not_home (marks_kept a) kept.0 kept.1 v none) 0 kept.0)
+
+-- the class of v, where it has the mark i
+pub its_class : (a : Inside) (p : Classes) (kept : KeepsPartition a) → partition_kept a ≡ p → (v i : ℕ) → home (marks_kept a) v ≡ Some i → position_from (λ q. q == owner (marks_kept a) i) 0 kept.0 ≡ class_position p.classes v
+its_class a p kept is v i some =
+    sym (ap (λ (q : Classes). class_position q.classes v) (opened a p kept is) ∙ position_at (place_names (marks_kept a)) v (owner (marks_kept a) i) (at_home (marks_kept a) kept.0 kept.1 v i some) 0 kept.0)
 
 -- the first position is there where a class has the name
 pub position_some : (t : List ℕ → Bool) (k : ℕ) (cs : List (List ℕ)) → is_some (position_from t k cs) ≡ list_any t cs

@@ -1,6 +1,6 @@
 -- Ordered partitions of sets of names, and how they are refined.
 -- Source: Habib and Paul, partition refinement.
-use Rattle.std.specs.Prelude.{Option, ◌≡◌, ◌≢◌, ℕ, ◌+◌, ◌<◌, ◌≤◌, Bool, true, not, cond, if◌then◌else◌, ◌==◌, List, [], ◌∷◌, ◌++◌}
+use Rattle.std.specs.Prelude.{Option, ◌≡◌, ◌≢◌, ℕ, ◌+◌, ◌<◌, ◌≤◌, Bool, true, not, cond, ◌&&◌, if◌then◌else◌, ◌==◌, List, [], ◌∷◌, ◌++◌}
 use Rattle.std.specs.List.{All, AllPairs, filter, flat_map, list_any, position_from}
 use Rattle.std.specs.FinSet as set
 use Rattle.md_graph.specs.declared.TheConstants.{NAMES}
@@ -58,6 +58,14 @@ parts test c = unless_empty (filter test c) ++ unless_empty (filter (λ v. not (
 -- other members
 abbrev pub cut : NameSet → List (List ℕ) → List (List ℕ)
 cut s classes = flat_map (parts (set.contains s)) classes
+
+-- the cut by a set of the classes without p; a class with p stays
+abbrev pub cut_outside : ℕ → NameSet → List (List ℕ) → List (List ℕ)
+cut_outside p s classes = flat_map (λ c. if is_in c p then c ∷ [] else parts (set.contains s) c) classes
+
+-- v is a name of one of the classes, but not of the class of p
+abbrev pub is_outside : ℕ → List (List ℕ) → ℕ → Bool
+is_outside p classes v = is_name classes v && not (is_in (class_with p classes) v)
 
 -- the members of the set that are names of the classes, ascending
 abbrev pub met : NameSet → List (List ℕ) → List ℕ

@@ -49,6 +49,15 @@ abbrev pub is_mark_of : List ℕ → ℕ → Option ℕ → Bool
 is_mark_of owners p None = false
 is_mark_of owners p (Some i) = p == slice_index_or owners i 0
 
+-- the mark i has a place, and this has a position
+abbrev pub IsPlaced : List ℕ → List ℕ → ℕ → Type 0
+IsPlaced owners positions i = (i < length owners) × (slice_index_or owners i 0 < length positions)
+
+-- the position of the place of a mark, if there is one
+abbrev pub number_of : List ℕ → List ℕ → Option ℕ → Option ℕ
+number_of owners positions None = None
+number_of owners positions (Some i) = Some (slice_index_or positions (slice_index_or owners i 0) 0)
+
 -- a mark is one of touched names
 abbrev pub is_half : MarkStore → Option ℕ → Bool
 is_half s None = false

@@ -1,14 +1,19 @@
 //! Ordered partitions.
-ghost use Rattle.std.specs.Prelude.{◌≡◌, ℕ, ◌+◌, ◌*◌, ◌<◌, ◌≤◌, true, false, is_some, [], ◌∷◌, ◌++◌, length, IfOk, slice_index_or, ◌↔◌};
-ghost use Rattle.std.specs.List.{filter};
+ghost use Rattle.std.specs.Prelude.{◌≡◌, ℕ, ◌+◌, ◌*◌, ◌<◌, ◌≤◌, true, false, is_some, [], ◌∷◌, ◌++◌, length, None, IfOk, slice_index_or, ◌↔◌};
+ghost use Rattle.std.specs.List.{filter, AllPairs};
+ghost use Rattle.md_graph.specs.Sets.{NameSet};
 ghost use Rattle.std.specs.FinSet as set;
-ghost use Rattle.md_refine.specs.Partitions.{is_in, is_name, class_position, ArePartition, cut, met, one_class, touching, settled};
+ghost use Rattle.md_graph.specs.NameSet.{ascending};
+ghost use Rattle.md_refine.specs.Partitions.{is_in, is_name, is_outside, class_position, ArePartition, cut, cut_outside, met, one_class, touching, settled};
 
-use crate::places::{filled, home_if, homes_of, insert_if, names_at, place_at, position};
-use md_graph::{Memory, NAMES, Names, Steps};
+use crate::places::{
+    filled, home_at, home_if, homes_of, insert_if, is_at, names_at, numbers_of, place_at, position,
+    positions_of,
+};
+use md_graph::{Members, Memory, NAMES, Names, Set, Steps};
 use std::alloc::Global;
-use std::marker::Model;
-use std::sync::ledger::Ledger;
+use std::marker::{Brand, Model};
+use std::sync::ledger::{Blank, Ledger};
 
 /// An ordered partition of a set of names: nonempty classes in order. Names can be touched, in
 /// ascending order; a class with touched names is cut in two when it is settled.
@@ -50,7 +55,7 @@ impl Model for Partition {
 impl Partition {
     /// One class with these names, or no class where there is none; nothing is touched.
     /// Errors: want of memory.
-    pub fn new(alloc: Global, names: &Names) -> Result<Partition, Memory>
+    pub fn new<const W: usize>(alloc: Global, names: &Set<W>) -> Result<Partition, Memory>
         ensures whole { IfOk result (λ p. p ≡ one_class names.now) }
         ensures partition { IfOk result ArePartition }
     {
@@ -137,53 +142,119 @@ impl Partition {
 
     /// Each class is replaced by its names in the set and then its other names, without an empty
     /// part. Names of the set that are in no class are passed over. Condition: nothing is touched.
-    pub fn refine<L: Ledger>(&mut self, set: &Names, steps: &mut Steps<L>)
+    pub fn refine<const W: usize, L: Ledger>(&mut self, set: &Set<W>, steps: &mut Steps<L>)
         requires untouched { self.old.touched ≡ [] }
         ensures cut { self.new.classes ≡ cut set.now self.old.classes }
         ensures untouched { self.new.touched ≡ [] }
         ensures partition { ArePartition self.new }
         ensures steps { steps.new ≤ steps.old + 8 * (length (met set.now self.old.classes) + 1) }
     {
-        self.touch_all(set, steps);
+        let _count = self.class_count();
+        self.cut(NAMES, set.members(), steps);
+    }
+
+    /// The same, but that the class of `p` stays as it is, and that the steps aren't counted. Where
+    /// `p` is a name of no class, this is `refine`.
+    pub fn refine_outside<const W: usize>(&mut self, p: u32, set: &Set<W>)
+        requires untouched { self.old.touched ≡ [] }
+        ensures cut { self.new.classes ≡ cut_outside p set.now self.old.classes }
+        ensures untouched { self.new.touched ≡ [] }
+        ensures partition { ArePartition self.new }
+    {
+        self.cut_uncounted(p, set.members());
+    }
+
+    // `refine_outside` by the members of a set.
+    fn cut_uncounted(&mut self, p: u32, members: Members<'_>)
+        requires untouched { self.old.touched ≡ [] }
+        requires order { AllPairs (λ x y. x < y) members }
+        ensures cut { (s : NameSet) → members.entry ≡ ascending s →
+            self.new.classes ≡ cut_outside p s self.old.classes }
+        ensures untouched { self.new.touched ≡ [] }
+        ensures partition { ArePartition self.new }
+    {
+        self.cut_counted::<Brand>(p, members, Blank::new(1));
+    }
+
+    // The same; nobody reads the steps.
+    fn cut_counted<L: Ledger>(&mut self, p: u32, members: Members<'_>, blank: Blank)
+        requires name { blank.name ≡ L.name }
+        requires parts { blank.parts ≡ L.parts }
+        requires some { 0 < blank.parts }
+        requires untouched { self.old.touched ≡ [] }
+        requires order { AllPairs (λ x y. x < y) members }
+        ensures cut { (s : NameSet) → members.entry ≡ ascending s →
+            self.new.classes ≡ cut_outside p s self.old.classes }
+        ensures untouched { self.new.touched ≡ [] }
+        ensures partition { ArePartition self.new }
+    {
+        let mut steps = Steps::<L>::new(blank);
+        self.cut(p, members, &mut steps);
+    }
+
+    // The same with counted steps.
+    fn cut<L: Ledger>(&mut self, p: u32, members: Members<'_>, steps: &mut Steps<L>)
+        requires untouched { self.old.touched ≡ [] }
+        requires order { AllPairs (λ x y. x < y) members }
+        ensures cut { (s : NameSet) → members.entry ≡ ascending s →
+            self.new.classes ≡ cut_outside p s self.old.classes }
+        ensures untouched { self.new.touched ≡ [] }
+        ensures partition { ArePartition self.new }
+        ensures steps { (s : NameSet) → members.entry ≡ ascending s →
+            steps.new ≤ steps.old + 8 * (length (met s self.old.classes) + 1) }
+    {
+        self.touch_outside(p, members, steps);
         while self.settle(steps) {}
     }
 
-    // Touches the members of the set that are names. Condition: nothing is touched.
-    fn touch_all<L: Ledger>(&mut self, set: &Names, steps: &mut Steps<L>)
+    // Touches the members of a set that are names of classes, but for those in the class of `p`.
+    // Condition: nothing is touched.
+    fn touch_outside<L: Ledger>(&mut self, p: u32, members: Members<'_>, steps: &mut Steps<L>)
         requires untouched { self.old.touched ≡ [] }
+        requires order { AllPairs (λ x y. x < y) members }
         ensures classes { self.new.classes ≡ self.old.classes }
-        ensures touched { self.new.touched ≡ met set.now self.old.classes }
+        ensures touched { self.new.touched
+            ≡ filter (is_outside p self.old.classes) members.entry }
         ensures partition { ArePartition self.new }
-        ensures steps { steps.new ≡ steps.old + length (met set.now self.old.classes) }
+        ensures steps { steps.new
+            ≡ steps.old + length (filter (is_outside p self.old.classes) members.entry) }
     {
         let _count = self.class_count();
-        for v in set.members() {
-            self.touch_name(v, steps);
+        for v in members {
+            self.touch_name(p, v, steps);
         }
     }
 
-    // Touches `v`, if it is a name of a class. Condition: it is greater than all touched names.
-    fn touch_name<L: Ledger>(&mut self, v: u32, steps: &mut Steps<L>)
+    // Touches `v`, if it is a name of a class but that of `p`. Condition: it is greater than all
+    // touched names.
+    fn touch_name<L: Ledger>(&mut self, p: u32, v: u32, steps: &mut Steps<L>)
         requires above { (w : ℕ) → is_in self.old.touched w ≡ true → w < v }
         ensures classes { self.new.classes ≡ self.old.classes }
         ensures touched { self.new.touched
-            ≡ self.old.touched ++ filter (is_name self.old.classes) (v ∷ []) }
+            ≡ self.old.touched ++ filter (is_outside p self.old.classes) (v ∷ []) }
         ensures partition { ArePartition self.new }
         ensures steps { steps.new
-            ≡ steps.old + length (filter (is_name self.old.classes) (v ∷ [])) }
+            ≡ steps.old + length (filter (is_outside p self.old.classes) (v ∷ [])) }
     {
         let _count = self.class_count();
-        if !self.has(v) {
+        if !self.is_outside(p, v) {
             return;
         }
         self.touch(v, steps);
     }
 
-    // Whether `v` is a name of a class.
-    fn has(&self, v: u32) -> bool
-        ensures { result ≡ is_name self.now.classes v }
+    // Whether `v` is a name of a class but that of `p`.
+    fn is_outside(&self, p: u32, v: u32) -> bool
+        ensures { result ≡ is_outside p self.now.classes v }
     {
-        v < NAMES && self.homes[v as usize].is_some()
+        let homes = &self.homes;
+        match home_at(homes, v) {
+            Some(home) => {
+                let place = self.owners[home as usize];
+                !is_at(home_at(homes, p), &self.owners, place)
+            }
+            None => false,
+        }
     }
 
     /// The position of the class of `v`, any number; None exactly where it is no name of a class.
@@ -203,6 +274,19 @@ impl Partition {
             }
             None => None,
         }
+    }
+
+    /// The position of the class of each name, None for those that are in no class: it costs one
+    /// look at each class and each name. Errors: want of memory.
+    pub fn class_numbers(&self, alloc: Global) -> Result<Vec<Option<u32>>, Memory>
+        ensures len { IfOk result (λ numbers. length numbers.items ≡ NAMES) }
+        ensures numbers { IfOk result (λ numbers. (v : ℕ) →
+            slice_index_or numbers.items v None ≡ class_position self.now.classes v) }
+    {
+        let homes = &self.homes;
+        let positions = positions_of(alloc, &self.nexts, self.first, self.used)?;
+        let numbers = numbers_of(alloc, homes, &self.owners, &positions)?;
+        Ok(numbers)
     }
 
     /// The number of classes.

@@ -2,10 +2,10 @@
 ghost use Rattle.std.specs.Prelude.{◌≡◌, ◌≢◌, ℕ, ◌<◌, ◌≤◌, List, length, vec_len, replicate, IfOk, Some, None, IfSome, slice_index_or, ◌==◌, if◌then◌else◌};
 ghost use Rattle.std.specs.List.{count_by, position_from};
 ghost use Rattle.std.specs.FinSet as set;
-ghost use Rattle.md_refine.specs.Slots.{IsPlaceOrder, is_mark, is_mark_of, names_placed};
+ghost use Rattle.md_refine.specs.Slots.{IsPlaceOrder, IsPlaced, is_mark, is_mark_of, names_placed, number_of};
 ghost use Rattle.md_graph.specs.NameSet.{ascending_between};
 
-use md_graph::{Memory, NAMES, Names};
+use md_graph::{Memory, NAMES, Names, Set};
 use std::alloc::Global;
 
 // One item, `count` times. Errors: want of memory.
@@ -21,7 +21,11 @@ pub(crate) fn filled<T: Copy>(alloc: Global, count: u32, item: T) -> Result<Vec<
 
 // Where each member of the set has `Some(0)`, and each other number below `count` none.
 // Errors: want of memory.
-pub(crate) fn homes_of(alloc: Global, count: u32, names: &Names) -> Result<Vec<Option<u32>>, Memory>
+pub(crate) fn homes_of<const W: usize>(
+    alloc: Global,
+    count: u32,
+    names: &Set<W>,
+) -> Result<Vec<Option<u32>>, Memory>
     ensures len { IfOk result (λ v. length v.items ≡ count) }
     ensures homes { IfOk result (λ v. (k : ℕ) → k < count →
         slice_index_or v.items k None ≡ (if set.contains names.now k then Some 0 else None)) }
@@ -40,6 +44,17 @@ pub(crate) fn home_if(is: bool) -> Option<u32>
     ensures { result ≡ (if is then Some 0 else None) }
 {
     if is { Some(0) } else { None }
+}
+
+// The mark of a name, none where it has none.
+pub(crate) fn home_at(homes: &Vec<Option<u32>>, v: u32) -> Option<u32>
+    ensures { result ≡ slice_index_or homes.now.items v None }
+{
+    if (v as usize) < homes.len() {
+        homes[v as usize]
+    } else {
+        None
+    }
 }
 
 // Takes `v` in, or not. Condition: it is a name.
@@ -79,6 +94,68 @@ pub(crate) fn position(
     None
 }
 
+// The position of each place below `count` in the order that begins at `first`. Condition: the
+// order has these places. Errors: want of memory.
+pub(crate) fn positions_of(
+    alloc: Global,
+    nexts: &Vec<Option<u32>>,
+    first: Option<u32>,
+    count: u32,
+) -> Result<Vec<u32>, Memory>
+    requires order { (order : List ℕ) × IsPlaceOrder nexts.now.items first order count }
+    ensures len { IfOk result (λ positions. length positions.items ≡ count) }
+    ensures positions { IfOk result (λ positions. (order : List ℕ) →
+        IsPlaceOrder nexts.now.items first order count → (q : ℕ) → q < count →
+        position_from (λ p. p == q) 0 order ≡ Some (slice_index_or positions.items q 0)) }
+{
+    let mut positions = filled(alloc, count, 0)?;
+    let mut next = first;
+    for index in 0..count {
+        match next {
+            Some(place) => {
+                positions[place as usize] = index;
+                next = nexts[place as usize];
+            }
+            None => unreachable!(),
+        }
+    }
+    Ok(positions)
+}
+
+// The position of the place of each mark, none where there is no mark. Condition: each mark has a
+// place, and this a position. Errors: want of memory.
+pub(crate) fn numbers_of(
+    alloc: Global,
+    homes: &Vec<Option<u32>>,
+    owners: &Vec<u32>,
+    positions: &Vec<u32>,
+) -> Result<Vec<Option<u32>>, Memory>
+    requires homes { vec_len homes.now ≡ NAMES }
+    requires owners { (v i : ℕ) → slice_index_or homes.now.items v None ≡ Some i →
+        IsPlaced owners.now.items positions.now.items i }
+    ensures len { IfOk result (λ numbers. length numbers.items ≡ NAMES) }
+    ensures numbers { IfOk result (λ numbers. (v : ℕ) → slice_index_or numbers.items v None
+        ≡ number_of owners.now.items positions.now.items
+        (slice_index_or homes.now.items v None)) }
+{
+    let mut numbers = Vec::with_capacity(alloc, NAMES as usize)?;
+    for v in 0..NAMES {
+        numbers.push_reserved(number_at(homes[v as usize], owners, positions));
+    }
+    Ok(numbers)
+}
+
+// The position of the place of a mark, or none. Condition: a mark has a place, and this a position.
+fn number_at(home: Option<u32>, owners: &Vec<u32>, positions: &Vec<u32>) -> Option<u32>
+    requires { IfSome home (IsPlaced owners.now.items positions.now.items) }
+    ensures { result ≡ number_of owners.now.items positions.now.items home }
+{
+    match home {
+        Some(home) => Some(positions[owners[home as usize] as usize]),
+        None => None,
+    }
+}
+
 // The place at a position in the order that begins at `first`. Condition: the order has more than
 // `index` places.
 pub(crate) fn place_at(nexts: &Vec<Option<u32>>, first: Option<u32>, count: u32, index: u32) -> u32
@@ -98,7 +175,7 @@ pub(crate) fn place_at(nexts: &Vec<Option<u32>>, first: Option<u32>, count: u32,
 }
 
 // Whether a mark is one of a place. Condition: a mark has a place.
-fn is_at(home: Option<u32>, owners: &Vec<u32>, place: u32) -> bool
+pub(crate) fn is_at(home: Option<u32>, owners: &Vec<u32>, place: u32) -> bool
     requires { IfSome home (λ i. i < vec_len owners.now) }
     ensures { result ≡ is_mark_of owners.now.items place home }
 {

@@ -2,7 +2,7 @@
 ghost use Rattle.std.specs.Prelude.{◌≡◌, ◌<◌};
 
 use crate::Partition;
-use md_graph::{Memory, Names, Steps};
+use md_graph::{Memory, NAMES, Names, Steps};
 use std::alloc::Global;
 use std::marker::Brand;
 use std::process::Abort;
@@ -32,6 +32,22 @@ fn sees<R: Abort>(rt: &R, partition: &Partition, classes: &[u64]) {
     }
 }
 
+// Sees that these are the numbers of the classes of the first names; no other name has one.
+fn numbers_are<R: Abort>(
+    rt: &R,
+    alloc: Global,
+    partition: &Partition,
+    numbers: &[Option<u32>],
+) -> Result<(), Memory> {
+    let found = partition.class_numbers(alloc)?;
+    assert_eq!(rt; found.len(), NAMES as usize);
+    for (v, number) in found.iter().enumerate() {
+        let expected = if v < numbers.len() { numbers[v] } else { None };
+        assert_eq!(rt; *number, expected);
+    }
+    Ok(())
+}
+
 // Two cuts of the names 0 to 4, the first by a set with names outside; and one name touched.
 fn cuts<L: Ledger, R: Abort>(rt: &R, alloc: Global, blank: Blank) -> Result<(), Memory>
     requires name { blank.name ≡ L.name }
@@ -47,6 +63,8 @@ fn cuts<L: Ledger, R: Abort>(rt: &R, alloc: Global, blank: Blank) -> Result<(), 
     sees(rt, &partition, &[0b01010, 0b10101]);
     partition.refine(&set(&[0, 1]), &mut steps);
     sees(rt, &partition, &[0b00010, 0b01000, 0b00001, 0b10100]);
+    let numbers = [Some(2), Some(0), Some(3), Some(1), Some(3), None];
+    numbers_are(rt, alloc, &partition, &numbers)?;
     assert!(rt; partition.class_of(5).is_none() && partition.class_of(4096).is_none());
     let mut three = Partition::new(alloc, &set(&[2, 4, 7]))?;
     assert!(rt; three.class_of(4).is_some());
@@ -55,6 +73,10 @@ fn cuts<L: Ledger, R: Abort>(rt: &R, alloc: Global, blank: Blank) -> Result<(), 
     assert!(rt; three.settle(&mut steps));
     sees(rt, &three, &[0b00010000, 0b10000100]);
     assert!(rt; !three.settle(&mut steps));
+    three.refine_outside(7, &set(&[1, 2, 4]));
+    sees(rt, &three, &[0b00010000, 0b10000100]);
+    three.refine_outside(4, &set(&[2, 4]));
+    sees(rt, &three, &[0b00010000, 0b00000100, 0b10000000]);
     Ok(())
 }
 

@@ -16,7 +16,7 @@ homes_more s n homes o long before is k low =
     ]
 
 pub loop-name-init : goal.loop-name-init
-loop-name-init c =
+loop-name-init g c =
     let e = c.in_ok-homes.ensures.items in
     record {
       homes = λ k low. absurd (omega arith);
@@ -26,7 +26,7 @@ loop-name-init c =
     }
 
 pub loop-name-preserved : goal.loop-name-preserved
-loop-name-preserved c =
+loop-name-preserved g c =
     let l = c.loop-name in
     let s = c.args.names.now in
     let o = c.home_if.result in

@@ -3,21 +3,11 @@ use Rattle.std.specs.List.{position_from}
 use Rattle.std.proofs.lemmas.List.{get_or_read, get_or_past}
 use Rattle.md_graph.specs.declared.TheConstants.{NAMES}
 use Rattle.md_refine.specs.Partitions.{Classes, is_in, is_name, class_position}
-use Rattle.md_refine.specs.Slots.{home, owner, place_names}
+use Rattle.md_refine.specs.Slots.{home}
 use Rattle.md_refine.specs.declared.partition.Partition.TheInside.{Inside}
-use Rattle.md_refine.specs.Kept.{marks_kept, partition_kept, KeepsPartition}
-use Rattle.md_refine.proofs.Showing.{opened, opened_partition, position_at, position_none, at_home, not_home, position_some}
+use Rattle.md_refine.specs.Kept.{marks_kept, KeepsPartition}
+use Rattle.md_refine.proofs.Showing.{opened_partition, no_class, its_class, position_some}
 use Rattle.md_refine.proofs.partition.Partition.class_of.Goals as goal
-
--- v has no mark
-no_class : (a : Inside) (p : Classes) (kept : KeepsPartition a) → partition_kept a ≡ p → (v : ℕ) → home (marks_kept a) v ≡ None → None ≡ class_position p.classes v
-no_class a p kept is v none =
-    sym (ap (λ (q : Classes). class_position q.classes v) (opened a p kept is) ∙ position_none (place_names (marks_kept a)) v (not_home (marks_kept a) kept.0 kept.1 v none) 0 kept.0)
-
--- v has the mark i, which leads to the place q
-its_class : (a : Inside) (p : Classes) (kept : KeepsPartition a) → partition_kept a ≡ p → (v i : ℕ) → home (marks_kept a) v ≡ Some i → position_from (λ q. q == owner (marks_kept a) i) 0 kept.0 ≡ class_position p.classes v
-its_class a p kept is v i some =
-    sym (ap (λ (q : Classes). class_position q.classes v) (opened a p kept is) ∙ position_at (place_names (marks_kept a)) v (owner (marks_kept a) i) (at_home (marks_kept a) kept.0 kept.1 v i some) 0 kept.0)
 
 -- there is an answer where there is a class
 answered : (p : Classes) (v : ℕ) (o : Option ℕ) → o ≡ class_position p.classes v → is_some o ≡ is_name p.classes v

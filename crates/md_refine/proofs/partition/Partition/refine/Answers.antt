@@ -1,68 +1,14 @@
-use Rattle.std.proofs.Common.{◌≡◌, ◌≢◌, Bool, true, false, [], length, sym, ◌∙◌, ap, arith}
-use Rattle.std.specs.List.{flat_map}
-use Rattle.md_refine.specs.Partitions.{Classes, is_in, parts, cut, met, settled, settled_by}
-use Rattle.md_refine.proofs.Refining.{cut_by, settled_cut, settled_fewer, cut_done, met_cut}
-use Rattle.std.proofs.lemmas.Bool.{false≢true}
+use Rattle.std.proofs.Common.{◌<◌, AllPairs, subst, sym, ◌∙◌, arith}
+use Rattle.md_graph.specs.declared.TheConstants.{NAMES}
+use Rattle.md_graph.proofs.NameLemmas.{ascending_order}
+use Rattle.md_refine.proofs.Refining.{cut_all}
 use Rattle.md_refine.proofs.partition.Partition.refine.Goals as goal
 
-pub loop-init : goal.loop-init
-loop-init g c =
-    let h = c.touch_all.ensures in
-    let p = c.touch_all.new.self in
-    let s = c.args.set.now in
-    let cs = c.args.self.now.classes in
-    let long = ap length h.touched in
-    let steps = h.steps in
-    record {
-      cut = ap (λ ts. flat_map (parts (is_in ts)) p.classes) (h.touched ∙ ap (met s) (sym h.classes)) ∙ met_cut s p h.partition ∙ ap (cut s) h.classes;
-      partition = h.partition;
-      steps = omega arith;
-    }
-
--- something was touched where settle answers true
-some : (p : Classes) (r : Bool) → (r ≡ false → p.touched ≡ []) × (p.touched ≡ [] → r ≡ false) → r ≡ true → p.touched ≢ []
-some p r none is e = false≢true (sym (none.1 e) ∙ is)
-
-pub loop-smaller : goal.loop-smaller
-loop-smaller g c =
-    let h = c.settle.ensures in
-    let p = c.loop.self in
-    let fewer = settled_fewer p c.loop.invariant.partition (some p c.settle.result h.none c.loop-test.true) in
-    let same = ap (λ (q : Classes). length q.touched) h.settled in
-    omega arith
-
-pub loop-preserved : goal.loop-preserved
-loop-preserved g c =
-    let h = c.settle.ensures in
-    let p = c.loop.self in
-    let fewer = settled_fewer p c.loop.invariant.partition (some p c.settle.result h.none c.loop-test.true) in
-    let same = ap (λ (q : Classes). length q.touched) h.settled in
-    let bound = c.loop.invariant.steps in
-    let step = h.step in
-    record {
-      cut = ap cut_by h.settled ∙ settled_cut p c.loop.invariant.partition ∙ c.loop.invariant.cut;
-      partition = h.partition;
-      steps = omega arith;
-    }
-
-done : (p : Classes) → p.touched ≡ [] → settled p ≡ p
-done p none = ap (λ ts. settled_by ts p) none
+pub cut-requires-clause-order : goal.cut-requires-clause-order
+cut-requires-clause-order g c =
+    subst (AllPairs (λ x y. x < y)) (sym c.members.ensures.list) (ascending_order c.args.set.now 0 NAMES)
 
 pub returns-clause-cut : goal.returns-clause-cut
 returns-clause-cut g c =
-    let p = c.loop.self in
-    let none = c.settle.ensures.none.0 c.loop-test.false in
-    ap (λ (q : Classes). q.classes) (c.settle.ensures.settled ∙ done p none)
-    ∙ sym (cut_done p c.loop.invariant.partition none)
-    ∙ c.loop.invariant.cut
-
-pub returns-clause-untouched : goal.returns-clause-untouched
-returns-clause-untouched g c =
-    let none = c.settle.ensures.none.0 c.loop-test.false in
-    ap (λ (q : Classes). q.touched) (c.settle.ensures.settled ∙ done c.loop.self none) ∙ none
-
-pub returns-clause-steps : goal.returns-clause-steps
-returns-clause-steps g c =
-    let bound = c.loop.invariant.steps in
-    let step = c.settle.ensures.step in
-    omega arith
+    c.cut.ensures.cut c.args.set.now c.members.ensures.list
+    ∙ cut_all NAMES c.args.set.now c.args.self.now c.class_count-count.ensures.partition (omega arith)

@@ -1,0 +1,171 @@
+//! Parts of a set that its modules lie in, by partition refinement.
+ghost use Rattle.std.specs.Prelude.{◌≡◌, ◌*◌, ◌<◌, ◌≤◌, ℕ, IfOk, Some, None, length, vec_len, replicate};
+ghost use Rattle.std.specs.FinSet.{insert};
+ghost use Rattle.md_graph.specs.PlainGraph.{adjacent};
+ghost use Rattle.md_graph.specs.Sets.{Has, HasSome, Within};
+ghost use Rattle.md_modules.specs.Classes.{class_at, HoldsModules};
+ghost use Rattle.md_refine.specs.Partitions.{ArePartition};
+ghost use Rattle.md_decompose.specs.Refined.{CutNoModule, IsNumbering, AreNumbered, number_at, set_or_empty, set_yet_at};
+
+use md_graph::{GraphOf, Memory, NAMES, Set, WORDS};
+use md_modules::Block;
+use md_refine::Partition;
+use std::alloc::Global;
+
+// Parts of `rest` that no module of `set` inside `rest` lies across. They are few where each name
+// of `set` has few neighbours: one pass over the neighbours of all of them makes them. Condition:
+// `rest` is a nonempty part of `set`, a set of vertices.
+pub(crate) fn refined_classes<const W: usize>(
+    alloc: Global,
+    graph: &GraphOf<W>,
+    set: &Set<W>,
+    rest: &Set<W>,
+) -> Result<Vec<Block<W>>, Memory>
+    requires inside { Within set.now graph.now.vertices }
+    requires part { Within rest.now set.now }
+    requires some { HasSome rest.now }
+    ensures { IfOk result (λ classes.
+        HoldsModules (adjacent graph.now) set.now rest.now classes.items) }
+{
+    let partition = cut_by_rows(alloc, graph, set, rest)?;
+    let count = partition.class_count();
+    let numbers = partition.class_numbers(alloc)?;
+    let sets = gathered(alloc, rest, count, &numbers)?;
+    let made = all_made(alloc, sets)?;
+    Ok(made)
+}
+
+// The names of `rest` in classes that are cut by the neighbours of each member of `set`, each but
+// the class of that member.
+fn cut_by_rows<const W: usize>(
+    alloc: Global,
+    graph: &GraphOf<W>,
+    set: &Set<W>,
+    rest: &Set<W>,
+) -> Result<Partition, Memory>
+    ensures { IfOk result (λ partition.
+        CutNoModule (adjacent graph.now) set.now rest.now partition.classes) }
+{
+    let _members = rest.members();
+    let count = rest.count();
+    let mut partition = Partition::new(alloc, rest)?;
+    for p in set.members() {
+        if partition.class_count() == count {
+            return Ok(partition);
+        }
+        partition.refine_outside(p, graph.row(p));
+    }
+    Ok(partition)
+}
+
+// The names of `rest` with each number below `count`. Condition: these are the numbers of its
+// names.
+fn gathered<const W: usize>(
+    alloc: Global,
+    rest: &Set<W>,
+    count: u32,
+    numbers: &Vec<Option<u32>>,
+) -> Result<Vec<Option<Block<W>>>, Memory>
+    requires len { vec_len numbers.now ≡ NAMES }
+    requires numbers { IsNumbering rest.now numbers.now.items count }
+    ensures len { IfOk result (λ sets. length sets.items ≡ count) }
+    ensures members { IfOk result (λ sets. (k v : ℕ) → Has (set_yet_at sets.items k) v →
+        Has rest.now v × (number_at numbers.now.items v ≡ Some k)) }
+    ensures cover { IfOk result (λ sets. (k v : ℕ) → Has rest.now v →
+        number_at numbers.now.items v ≡ Some k → Has (set_yet_at sets.items k) v) }
+{
+    rest.within_limit();
+    let mut sets = none_yet(alloc, count)?;
+    for v in rest.members() {
+        let Some(number) = numbers[v as usize] else {
+            unreachable!()
+        };
+        take_in(alloc, &mut sets[number as usize], v)?;
+    }
+    Ok(sets)
+}
+
+// No set, `count` times.
+fn none_yet<const W: usize>(alloc: Global, count: u32) -> Result<Vec<Option<Block<W>>>, Memory>
+    ensures { IfOk result (λ sets. sets.items ≡ replicate count None) }
+{
+    let mut sets = Vec::with_capacity(alloc, count as usize)?;
+    for _ in 0..count {
+        sets.push_reserved(None);
+    }
+    Ok(sets)
+}
+
+// Takes `v` in to a set, which is made where there is none yet.
+fn take_in<const W: usize>(alloc: Global, set: &mut Option<Block<W>>, v: u32) -> Result<(), Memory>
+    requires name { v < 64 * W }
+    requires limit { W ≤ WORDS }
+    ensures { IfOk result (λ _. set_or_empty set.new ≡ insert (set_or_empty set.old) v) }
+{
+    match set {
+        Some(set) => set.insert(alloc, v),
+        None => {
+            *set = Some(Block::one(v));
+            Ok(())
+        }
+    }
+}
+
+// The sets, all of which there are.
+fn all_made<const W: usize>(
+    alloc: Global,
+    sets: Vec<Option<Block<W>>>,
+) -> Result<Vec<Block<W>>, Memory>
+    requires { (k : ℕ) → k < length sets.items → HasSome (set_yet_at sets.items k) }
+    ensures len { IfOk result (λ made. length made.items ≡ length sets.entry.items) }
+    ensures same { IfOk result (λ made. (k : ℕ) →
+        class_at made.items k ≡ set_yet_at sets.entry.items k) }
+{
+    let mut made = Vec::with_capacity(alloc, sets.len())?;
+    for set in sets {
+        let Some(set) = set else { unreachable!() };
+        made.push_reserved(set);
+    }
+    Ok(made)
+}
+
+#[cfg(test)]
+mod tests {
+    use super::*;
+    use md_graph::Graph;
+    use std::process::Abort;
+    use std::test::Fail;
+
+    // The path 3-0-1-2, with 4 beside 3 and 5 in the place of 1.
+    const TWINS: [(u32, u32); 6] = [(3, 0), (4, 0), (0, 1), (0, 5), (1, 2), (5, 2)];
+
+    // Sees what the classes of the names but 0 are.
+    fn classes_are(
+        rt: &impl Abort,
+        alloc: Global,
+        g: &Graph,
+        lists: &[&[u32]],
+    ) -> Result<(), Memory> {
+        let mut rest = g.vertices().copy();
+        rest.remove(0);
+        assert!(rt; rest.has(1));
+        let sets = refined_classes(alloc, g, g.vertices(), &rest)?;
+        assert_eq!(rt; sets.len(), lists.len());
+        for (set, list) in sets.into_iter().zip(lists) {
+            let mut room = None;
+            let set = set.set_in(&mut room);
+            assert_eq!(rt; set.count() as usize, list.len());
+            for v in *list {
+                assert!(rt; set.has(*v), "member {v}");
+            }
+        }
+        Ok(())
+    }
+
+    #[test]
+    fn twins_stay_together(rt: HostRuntime) -> Result<(), Fail> {
+        let twins = Graph::from_edges(rt.alloc(), 6, &TWINS)?.expect(&rt, "edges");
+        classes_are(&rt, rt.alloc(), &twins, &[&[1, 5], &[3, 4], &[2]])?;
+        Ok(())
+    }
+}
