@@ -4,8 +4,9 @@ ghost use Rattle.md_graph.specs.PlainGraph.{adjacent};
 ghost use Rattle.md_graph.specs.Sets.{HasSome, Within};
 ghost use Rattle.md_modules.specs.Classes.{HoldsModules, AreMaximalInside};
 
+use crate::refined::refined_classes;
 use md_graph::{GraphOf, Memory, Set};
-use md_modules::{Block, cut_classes, maximal_modules, one_class};
+use md_modules::{Block, cut_classes, one_class};
 use std::alloc::Global;
 
 // So many classes are cut one by one before it is asked whether the set is large and sparse: most
@@ -79,20 +80,4 @@ fn is_large_and_sparse<const W: usize>(graph: &GraphOf<W>, set: &Set<W>) -> bool
         }
     }
     near.and(set).count() <= count / SPARSE
-}
-
-// stub until refined.rt is merged
-fn refined_classes<const W: usize>(
-    alloc: Global,
-    graph: &GraphOf<W>,
-    set: &Set<W>,
-    rest: &Set<W>,
-) -> Result<Vec<Block<W>>, Memory>
-    requires inside { Within set.now graph.now.vertices }
-    requires part { Within rest.now set.now }
-    requires some { HasSome rest.now }
-    ensures { IfOk result (λ classes.
-        HoldsModules (adjacent graph.now) set.now rest.now classes.items) }
-{
-    maximal_modules(alloc, graph, set, rest)
 }
