@@ -6,6 +6,7 @@
 
 mod chains;
 mod children;
+mod classes;
 mod decomposition;
 mod ordered;
 mod prime;

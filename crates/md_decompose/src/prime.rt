@@ -9,9 +9,10 @@ ghost use Rattle.md_decompose.specs.Children.{AreChildren};
 ghost use Rattle.md_decompose.specs.Chains.{IsChainOf, AreSteps};
 
 use crate::chains::Chain;
+use crate::classes::modules_inside;
 use crate::ordered::in_order;
 use md_graph::{GraphOf, Memory, Set};
-use md_modules::{Block, back, grow, maximal_modules};
+use md_modules::{Block, back, grow};
 use std::alloc::Global;
 
 // The maximal proper modules of a prime set of vertices, in ascending order of their least names.
@@ -36,7 +37,7 @@ pub(crate) fn prime_children<const W: usize>(
     let j = far_from(graph, set, v, chain)?;
     let mut rest = Set::none();
     back(graph, set, v, j, &mut rest);
-    let classes = maximal_modules(alloc, graph, set, &rest)?;
+    let classes = modules_inside(alloc, graph, set, &rest)?;
     let first = Block::of(alloc, &set.minus(&rest))?;
     in_order(alloc, first, classes)
 }

@@ -215,19 +215,19 @@ pub record IsCutting (e : ℕ → ℕ → Bool) (s b : NameSet) (cs : List NameS
   pub modules : (k : ℕ) → k < i → k < length cs → IsModule e s (class_at cs k)
 
 module _ {e : ℕ → ℕ → Bool} where
-  pub cutting_begins : (s b c : NameSet) (cs : List NameSet) → HasSome b → c ≡ b → cs ≡ c ∷ [] → IsCutting e s b cs 0
-  cutting_begins s b c cs some same is = subst (λ t. IsCutting e s b t 0) (sym (is ∙ ap (λ t. t ∷ []) same)) (record {
-    holds = record {
-      partition = record {
-        are_apart = record { some = λ k l. subst HasSome (sym (in_one b k l)) some; apart = λ j k x hj hk. (at_one b j x hj).0 ∙ sym (at_one b k x hk).0 };
-        inside = λ k x h. (at_one b k x h).1;
-        cover = λ x h. (0, h);
-      };
-      whole = λ m is w k x h hm y hy.
-          let first : k ≡ 0 = (at_one b k x h).0 in subst (λ n. Has (class_at (b ∷ []) n) y) (sym first) (w y hy);
+  pub one_class_holds : (s b c : NameSet) (cs : List NameSet) → HasSome b → c ≡ b → cs ≡ c ∷ [] → HoldsModules e s b cs
+  one_class_holds s b c cs some same is = subst (HoldsModules e s b) (sym (is ∙ ap (λ t. t ∷ []) same)) (record {
+    partition = record {
+      are_apart = record { some = λ k l. subst HasSome (sym (in_one b k l)) some; apart = λ j k x hj hk. (at_one b j x hj).0 ∙ sym (at_one b k x hk).0 };
+      inside = λ k x h. (at_one b k x h).1;
+      cover = λ x h. (0, h);
     };
-    modules = λ k l. absurd (omega arith);
+    whole = λ m is w k x h hm y hy.
+        let first : k ≡ 0 = (at_one b k x h).0 in subst (λ n. Has (class_at (b ∷ []) n) y) (sym first) (w y hy);
   })
+
+  pub cutting_begins : (s b : NameSet) (cs : List NameSet) → HoldsModules e s b cs → IsCutting e s b cs 0
+  cutting_begins s b cs holds = record { holds = holds; modules = λ k l. absurd (omega arith) }
 
   -- the class at place i is a module
   pub cutting_passes : (s b : NameSet) (cs : List NameSet) (i : ℕ) → IsCutting e s b cs i → IsModule e s (class_at cs i) → IsCutting e s b cs (i + 1)

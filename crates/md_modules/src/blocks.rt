@@ -71,19 +71,6 @@ impl<const W: usize> Block<W> {
         Ok(Block { held })
     }
 
-    // The set of a box, which is kept where the set isn't a name alone.
-    fn of_box(names: Box<Set<W>>) -> Block<W>
-        ensures { result ≡ names.entry.value }
-    {
-        names.within_limit();
-        if let Some(name) = only_member(&names) {
-            return Block::one(name);
-        }
-        Block {
-            held: Held::Several(names),
-        }
-    }
-
     /// The set; it is put into `room` where it isn't in a box.
     pub fn set_in<'b>(&'b self, room: &'b mut Option<Set<W>>) -> &'b Set<W>
         ensures { result.now ≡ self.now }
@@ -99,28 +86,26 @@ impl<const W: usize> Block<W> {
         }
     }
 
-    // What stays of the set where one of its two parts, in `row` and outside it, goes to the empty
-    // set `other`.
-    pub(crate) fn divided(
-        self,
-        alloc: Global,
-        row: &Set<W>,
-        other: &mut Set<W>,
-    ) -> Result<Block<W>, Memory>
+    // One of the two parts of the set, in `row` and outside it, goes to the empty set `other`.
+    pub(crate) fn divide(&mut self, row: &Set<W>, other: &mut Set<W>)
         requires { other.old ≡ empty }
-        ensures { IfOk result (λ block. IsDivided self.entry row.now block other.new) }
+        ensures { IsDivided self.old row.now self.new other.new }
     {
-        match self.held {
-            Held::One(name) => Ok(Block::one(name)),
+        match &mut self.held {
+            Held::One(_) => (),
             Held::Low(bits) => {
-                let mut names = set_of(bits);
+                let mut names = set_of(*bits);
                 move_part(&mut names, row, other);
-                Block::of(alloc, &names)
+                match only_member(&names) {
+                    Some(name) => self.held = Held::One(name),
+                    None => *bits = word_of(&names),
+                }
             }
             Held::Several(names) => {
-                let mut names = names;
-                move_part(&mut names, row, other);
-                Ok(Block::of_box(names))
+                move_part(names, row, other);
+                if let Some(name) = only_member(names) {
+                    self.held = Held::One(name);
+                }
             }
         }
     }
@@ -221,6 +206,14 @@ fn with_name<const W: usize>(bits: u64, name: u32) -> u64
 {
     let mut names = set_of::<W>(bits);
     names.insert(name);
+    word_of(&names)
+}
+
+// The bits of a set of one word.
+fn word_of<const W: usize>(names: &Set<W>) -> u64
+    requires { W ≡ 1 }
+    ensures { block 0 result ≡ names.now }
+{
     let _below = names.members();
     names.block(0)
 }
@@ -276,7 +269,7 @@ fn held_alone<const W: usize>(names: &Set<W>) -> Option<Held<W>>
         return Some(Held::One(first));
     }
     if W == 1 {
-        return Some(Held::Low(names.block(0)));
+        return Some(Held::Low(word_of(names)));
     }
     None
 }

@@ -17,4 +17,4 @@ pub use component_search::{co_component, co_connected, component, connected, see
 pub use induced_paths::{P4, find_p4, find_p4_with, is_p4};
 pub use module_search::{back, closure, closure_in, grow, is_module};
 pub use paths_with_both::find_p4_with_both;
-pub use refinement::maximal_modules;
+pub use refinement::{cut_classes, maximal_modules, one_class};

@@ -4,13 +4,12 @@ ghost use Rattle.std.specs.FinSet.{empty, union, intersection, difference};
 ghost use Rattle.md_graph.specs.PlainGraph.{adjacent};
 ghost use Rattle.md_graph.specs.Sets.{NameSet, Has, Within, Disjoint, HasSome};
 ghost use Rattle.md_modules.specs.Classes.{class_at};
-ghost use Rattle.md_modules.specs.Classes.{IsSplitter, IsSideOf, IsDivided, HoldsSplitters, AreMaximalInside};
+ghost use Rattle.md_modules.specs.Classes.{IsSplitter, IsSideOf, HoldsSplitters, HoldsModules, AreMaximalInside};
 
 use crate::blocks::FEW;
 use crate::{Block, sees};
 use md_graph::{GraphOf, Memory, NAMES, Set};
 use std::alloc::Global;
-use std::mem::replace;
 
 /// The maximal ones among the modules of `set` that are parts of `rest`, in any order; they
 /// partition `rest`. Condition: `rest` is a nonempty part of `set`.
@@ -26,17 +25,53 @@ pub fn maximal_modules<const W: usize>(
     ensures { IfOk result
         (λ classes. AreMaximalInside (adjacent graph.now) set.now rest.now classes.items) }
 {
+    let classes = one_class(alloc, rest)?;
+    cut_classes(alloc, graph, set, rest, classes, usize::MAX)
+}
+
+/// The nonempty set `rest` as the one class of a partition of it, in any graph and any set.
+pub fn one_class<const W: usize>(alloc: Global, rest: &Set<W>) -> Result<Vec<Block<W>>, Memory>
+    requires some { HasSome rest.now }
+    ensures { IfOk result (λ classes. (e : ℕ → ℕ → Bool) → (s : NameSet)
+        → HoldsModules e s rest.now classes.items) }
+{
     let mut classes = Vec::with_capacity(alloc, rest.count().min(FEW) as usize)?;
     classes.push(Block::of(alloc, rest)?)?;
-    let mut left = set.minus(rest);
+    Ok(classes)
+}
+
+/// A finer partition of `rest`, where no module of `set` that is a part of `rest` is cut: its
+/// classes are the maximal ones of these, unless there are `most` or more of them. Conditions:
+/// `rest` is a part of `set`, and the given classes partition it so that none is cut.
+pub fn cut_classes<const W: usize>(
+    alloc: Global,
+    graph: &GraphOf<W>,
+    set: &Set<W>,
+    rest: &Set<W>,
+    classes: Vec<Block<W>>,
+    most: usize,
+) -> Result<Vec<Block<W>>, Memory>
+    requires inside { Within set.now graph.now.vertices }
+    requires part { Within rest.now set.now }
+    requires holds { HoldsModules (adjacent graph.now) set.now rest.now classes.items }
+    ensures holds { IfOk result
+        (λ classes. HoldsModules (adjacent graph.now) set.now rest.now classes.items) }
+    ensures modules { IfOk result (λ classes. length classes.items < most
+        → AreMaximalInside (adjacent graph.now) set.now rest.now classes.items) }
+{
+    let mut classes = classes;
+    set.within_limit();
+    let mut left = Set::none();
+    let mut other = Set::none();
     let mut at = 0;
+    begin(set, &classes, at, &mut left);
     // A large class is seen to be final, or to be cut, at two passes over it for each name left
     // that is looked at, and what stays in its place looks at none of these again but the one that
     // cut it. A small class takes one pass over the names left for each member, and there are at
     // most two such looks a class. So k classes in a set of m names cost about 4km passes at most.
-    while at < classes.len() {
+    while at < classes.len() && classes.len() < most {
         if let Some(p) = splitter(graph, &classes[at], &mut left) {
-            split(alloc, &mut classes, at, graph.row(p), &mut left)?;
+            split(alloc, &mut classes, at, graph.row(p), &mut left, &mut other)?;
         } else {
             at += 1;
             begin(set, &classes, at, &mut left);
@@ -64,50 +99,31 @@ fn begin<const W: usize>(set: &Set<W>, classes: &[Block<W>], at: usize, left: &m
     }
 }
 
-// The class at a place, which isn't empty, becomes one of its two parts, in `row` and outside it,
-// and the other one is a new class, the last one; `left` takes in its names.
+// The class at a place becomes one of its two parts, in `row` and outside it, and the other one is a
+// new class, the last one; `left` takes in its names. `other` is empty before and after.
 fn split<const W: usize>(
     alloc: Global,
     classes: &mut Vec<Block<W>>,
     at: usize,
     row: &Set<W>,
     left: &mut Set<W>,
+    other: &mut Set<W>,
 ) -> Result<(), Memory>
     requires place { at < vec_len classes.old }
-    requires some { HasSome (class_at classes.old.items at) }
-    ensures { IfOk result (λ _. (part : NameSet)
+    requires empty { other.old ≡ empty }
+    ensures parts { IfOk result (λ _. (part : NameSet)
         × IsSideOf part (class_at classes.old.items at) row.now
         × (classes.new.items
         ≡ slice_set classes.old.items at (intersection (class_at classes.old.items at) part)
         ++ difference (class_at classes.old.items at) part ∷ [])
         × (left.new ≡ union left.old (difference (class_at classes.old.items at) part))) }
+    ensures empty { other.new ≡ empty }
 {
-    row.within_limit();
-    let mut other = Set::none();
-    divide(alloc, &mut classes[at], row, &mut other)?;
-    left.take_in(&other);
-    classes.push(Block::of(alloc, &other)?)?;
-    Ok(())
-}
-
-// Moves one of the two parts of a nonempty class, in `row` and outside it, to the empty set
-// `other`.
-fn divide<const W: usize>(
-    alloc: Global,
-    class: &mut Block<W>,
-    row: &Set<W>,
-    other: &mut Set<W>,
-) -> Result<(), Memory>
-    requires empty { other.old ≡ empty }
-    requires some { HasSome class.old }
-    ensures { IfOk result (λ _. IsDivided class.old row.now class.new other.new) }
-{
-    row.within_limit();
-    let Some(first) = class.first() else {
-        unreachable!();
-    };
-    let whole = replace(class, Block::one(first));
-    *class = whole.divided(alloc, row, other)?;
+    classes[at].divide(row, other);
+    left.take_in(other);
+    let goes = Block::of(alloc, other);
+    other.clear();
+    classes.push(goes?)?;
     Ok(())
 }
 

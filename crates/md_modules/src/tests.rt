@@ -1,8 +1,8 @@
 //! The searches on small graphs.
 
 use crate::{
-    Block, back, closure, closure_in, co_component, co_connected, component, connected, is_module,
-    maximal_modules,
+    Block, back, closure, closure_in, co_component, co_connected, component, connected,
+    cut_classes, is_module, maximal_modules, one_class,
 };
 use md_graph::{Graph, Memory, NAMES, Names, WORDS};
 use std::alloc::Global;
@@ -79,6 +79,10 @@ fn refined(
     assert!(rt; rest.is_subset(g.vertices()));
     assert!(rt; rest.has(x));
     let classes = maximal_modules(alloc, g, g.vertices(), &rest)?;
+    assert_eq!(rt; classes.len(), 2);
+    let begun = cut_classes(alloc, g, g.vertices(), &rest, one_class(alloc, &rest)?, 1)?;
+    assert_eq!(rt; begun.len(), 1);
+    let classes = cut_classes(alloc, g, g.vertices(), &rest, begun, 3)?;
     assert_eq!(rt; classes.len(), 2);
     for (class, list) in classes.into_iter().zip(lists) {
         assert_eq!(rt; class.count() as usize, list.len());

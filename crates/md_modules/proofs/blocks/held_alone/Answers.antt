@@ -1,9 +1,6 @@
-use Rattle.std.proofs.Common.{arith, sym}
-use Rattle.md_modules.proofs.BlockLemmas.{low_block, alone_is}
+use Rattle.std.proofs.Common.{sym}
+use Rattle.md_modules.proofs.BlockLemmas.{alone_is}
 use Rattle.md_modules.proofs.blocks.held_alone.Goals as goal
-
-pub returns-then-this-eq1-clause-names : goal.returns-then-this-eq1-clause-names
-returns-then-this-eq1-clause-names g c = low_block c.args.names.now c.block.result c.block.ensures (λ w h. let below = c.members-below.ensures.below w h in let one = c.if-this-eq1.true in omega arith)
 
 pub returns-then-is_last-clause-names : goal.returns-then-is_last-clause-names
 returns-then-is_last-clause-names g c =
