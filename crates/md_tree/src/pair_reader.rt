@@ -12,7 +12,9 @@ ghost use Rattle.md_tree.specs.Held.{LacksEnd, IsEnd, LacksPairs, LacksPair, Lac
 use crate::grammar::skip_byte;
 use crate::growing::append;
 use crate::numbers::{digit, small_number};
-use crate::sparse_pairs::{is_before, is_of_positions, read_sparse, sparse_pair};
+use crate::pair_order::still_listed;
+use crate::short_pairs::short_pair;
+use crate::sparse_pairs::{read_sparse, sparse_pair};
 use crate::words::word;
 use crate::{Kind, Pair};
 use md_graph::Memory;
@@ -110,10 +112,27 @@ fn read_pair<'a>(text: &'a [u8]) -> Option<(Pair, bool, &'a [u8])>
     ensures { MatchOption result (LacksPair text.now)
         (λ p. text.now ≡ pair_before p.0 p.1 p.2.now) }
 {
-    if let Some((pair, tail)) = sparse_pair(text) {
+    if let Some((pair, tail)) = quick_pair(text) {
         return Some((pair, true, tail));
     }
     read_any_pair(text)
+}
+
+// The pair that a text begins with, and what stands behind its comma, if it is of numbers of few
+// digits, the lower one first; none if no such pair is there, or if little text is left.
+#[inline(always)]
+fn quick_pair<'a>(text: &'a [u8]) -> Option<(Pair, &'a [u8])>
+    ensures { IfSome result (λ p. text.now ≡ pair_before p.0 true p.1.now) }
+{
+    match short_pair(text) {
+        Some((pair, tail)) => {
+            if pair.low >= pair.high {
+                return None;
+            }
+            Some((pair, tail))
+        }
+        None => sparse_pair(text),
+    }
 }
 
 // The same, a number at a time.
@@ -137,14 +156,6 @@ fn read_any_pair<'a>(text: &'a [u8]) -> Option<(Pair, bool, &'a [u8])>
     None
 }
 
-// Whether pairs may be listed with one more behind the last of them.
-#[inline(always)]
-fn still_listed(listed: bool, last: Pair, pair: Pair, count: usize) -> bool
-    ensures { IsTrue result ↔ (IsTrue listed × MayFollow count last pair) }
-{
-    listed && is_before(last, pair) && is_of_positions(pair, count)
-}
-
 // Goes on past pairs that are like the one before, if that has the lower position of the pair
 // before it, the `last` one; and where there are none, past those of a sparse node.
 #[inline(always)]
@@ -161,10 +172,7 @@ fn read_run<'a>(
     ensures { IfOk result
         (λ r. ReadsOn count tail.now pairs.old.items pair r.1.now pairs.new.items r.0) }
 {
-    if pair.high < 100 {
-        return Ok((pair, tail));
-    }
-    if pair.low != last {
+    if pair.low != last || pair.low < 100 {
         return read_sparse(pair, tail, count, pairs);
     }
     let (next, rest) = read_alike(text, pair, tail, count, pairs)?;

@@ -6,11 +6,10 @@ ghost use Rattle.md_tree.specs.Held.{pair_before, ReadsOn};
 
 use crate::Pair;
 use crate::growing::append;
+use crate::pair_order::{is_of_positions, rank};
+use crate::short_pairs::short_pair;
 use crate::words::{long_word, spread, word};
 use md_graph::Memory;
-
-// So near to the one before, a pair of the same lower position is left to be read with those alike.
-const NEAR: u64 = 1;
 
 // Eight digits that are 0, the first one in the lowest byte; and how far each may rise: by 9, with
 // which the limit stays below 128.
@@ -31,8 +30,8 @@ const THREE_AND_FOUR_LIMITS: u64 = 0x7676_7676_7f76_7676;
 // The lowest byte of either half.
 const LANES: u64 = 0x0000_00ff_0000_00ff;
 
-// Goes on past pairs of numbers of three or four digits behind such a pair, as long as they ascend
-// and none is near to the one before. Their digits stand at fixed places, and are read as one word.
+// Goes on past pairs behind a pair whose lower number has as many digits, as long as they ascend.
+// Their digits stand at one of few places, and are read as one word.
 #[inline(always)]
 pub(crate) fn read_sparse<'a>(
     pair: Pair,
@@ -44,7 +43,7 @@ pub(crate) fn read_sparse<'a>(
         (λ r. ReadsOn count tail.now pairs.old.items pair r.1.now pairs.new.items r.0) }
 {
     if pair.low < 100 {
-        return Ok((pair, tail));
+        return read_short(pair, tail, count, pairs);
     }
     if pair.low < 1000 {
         return read_threes(pair, tail, count, pairs);
@@ -83,7 +82,22 @@ fn read_threes<'a>(
     read_wide(100, pair, tail, count, pairs)
 }
 
-// The same behind a lower number of as many digits as the least one, 100 or 1000.
+// The same behind a lower number of one or two digits.
+#[inline(never)]
+fn read_short<'a>(
+    pair: Pair,
+    tail: &'a [u8],
+    count: usize,
+    pairs: &mut Vec<Pair>,
+) -> Result<(Pair, &'a [u8]), Memory>
+    ensures { IfOk result
+        (λ r. ReadsOn count tail.now pairs.old.items pair r.1.now pairs.new.items r.0) }
+{
+    read_wide(0, pair, tail, count, pairs)
+}
+
+// The same behind a lower number of as many digits as the least one, 100 or 1000; or of one or two
+// digits, where that is 0.
 #[inline(always)]
 fn read_wide<'a>(
     least: u32,
@@ -92,47 +106,27 @@ fn read_wide<'a>(
     count: usize,
     pairs: &mut Vec<Pair>,
 ) -> Result<(Pair, &'a [u8]), Memory>
-    requires long { 100 ≤ least }
-    requires from { least ≤ pair.low }
+    requires { least ≤ pair.low }
     ensures { IfOk result
         (λ r. ReadsOn count tail.now pairs.old.items pair r.1.now pairs.new.items r.0) }
 {
     let mut rest = tail;
-    let mut last = pair;
+    let mut last = rank(pair);
     loop {
         let Some((next, behind)) = wide_pair(rest, least) else {
             break;
         };
-        if !is_well_before(last, next) || !is_of_positions(next, count) {
+        let place = rank(next);
+        if place <= last || !is_of_positions(next, count) {
             break;
         }
         append(pairs, next)?;
-        last = next;
+        last = place;
         rest = behind;
     }
-    Ok((last, rest))
-}
-
-#[inline(always)]
-fn is_well_before(first: Pair, second: Pair) -> bool
-    ensures { IsTrue result → IsPairBefore first second }
-{
-    first.low < second.low
-        || first.low == second.low && u64::from(first.high) + NEAR < u64::from(second.high)
-}
-
-#[inline(always)]
-pub(crate) fn is_before(first: Pair, second: Pair) -> bool
-    ensures { IsTrue result ↔ IsPairBefore first second }
-{
-    first.low < second.low || first.low == second.low && first.high < second.high
-}
-
-#[inline(always)]
-pub(crate) fn is_of_positions(pair: Pair, count: usize) -> bool
-    ensures { IsTrue result ↔ ((pair.low < pair.high) × (pair.high < count)) }
-{
-    pair.low < pair.high && (pair.high as usize) < count
+    let low = (last / 0x1_0000_0000) as u32;
+    let high = (last % 0x1_0000_0000) as u32;
+    Ok((Pair { low, high }, rest))
 }
 
 // The pair that a text begins with, and what stands behind its comma, if it is of numbers of three
@@ -165,10 +159,12 @@ fn least_low(text: &[u8]) -> u32
 // zero may stand before the digits.
 #[inline(always)]
 fn wide_pair<'a>(text: &'a [u8], least: u32) -> Option<(Pair, &'a [u8])>
-    requires { 100 ≤ least }
     ensures { IfSome result (λ p. least ≤ p.0.low → p.0.low < p.0.high
         → text.now ≡ pair_before p.0 true p.1.now) }
 {
+    if least < 100 {
+        return short_pair(text);
+    }
     if text.len() < 10 {
         return None;
     }
@@ -192,12 +188,12 @@ fn pair_of_fours<'a>(text: &'a [u8]) -> Option<(Pair, &'a [u8])>
     if text[4] != b'-' || text[9] != b',' {
         return None;
     }
-    let both = u64::from(word(text, 5)) * 0x1_0000_0000 + u64::from(word(text, 0));
+    let both = u64::from(word(text, 0)) * 0x1_0000_0000 + u64::from(word(text, 5));
     let digits = spread(both, DIGITS, DIGIT_LIMITS)?;
     let tens = digits * 10 + digits / 0x100;
     let numbers = (tens & LANES) * 100 + (tens / 0x1_0000 & LANES);
-    let low = (numbers % 0x1_0000_0000) as u32;
-    let high = (numbers / 0x1_0000_0000) as u32;
+    let low = (numbers / 0x1_0000_0000) as u32;
+    let high = (numbers % 0x1_0000_0000) as u32;
     Some((Pair { low, high }, &text[10..]))
 }
 

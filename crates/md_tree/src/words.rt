@@ -1,5 +1,5 @@
 //! Several bytes of a text as one number, and the digits that they spell.
-ghost use Rattle.std.specs.Prelude.{◌≡◌, ◌+◌, ◌≤◌, length, take, drop, IfSome};
+ghost use Rattle.std.specs.Prelude.{◌≡◌, ◌+◌, ◌*◌, ◌/◌, ◌%◌, ◌^◌, ◌≤◌, length, take, drop, IfSome};
 ghost use Rattle.md_tree.specs.Words.{word_bytes, long_word_bytes, AreLow, IsSpread};
 
 // The highest bit of each byte.
@@ -40,4 +40,12 @@ pub(crate) fn spread(word: u64, base: u64, limits: u64) -> Option<u64>
         return None;
     }
     Some(digits)
+}
+
+// Ten times each digit and the digit behind it, each in the byte of the former.
+#[inline(always)]
+pub(crate) fn tens(digits: u64) -> u64
+    ensures { result ≡ ((digits * 10) % 2 ^ 64 + digits / 256) % 2 ^ 64 }
+{
+    digits.wrapping_mul(10).wrapping_add(digits / 0x100)
 }

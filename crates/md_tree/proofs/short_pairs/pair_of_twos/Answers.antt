@@ -1,0 +1,6 @@
+use Rattle.std.proofs.Common.{refl}
+use Rattle.md_tree.proofs.Short.{two_and_two}
+use Rattle.md_tree.proofs.short_pairs.pair_of_twos.Goals as goal
+
+pub returns : goal.returns
+returns c up = two_and_two c.args.text.now c.long_word.result c.in_ok-digits.digits c.tens-tens.result _ _ c.long_word.ensures c.in_ok-digits.ensures c.tens-tens.ensures refl refl c.if-low-lt10.false up
