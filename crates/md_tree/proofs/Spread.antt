@@ -1,9 +1,9 @@
 -- The digits that several bytes spell, told by few steps over all of them.
 use Rattle.std.specs.Prelude.{⊤}
 use Rattle.std.proofs.Common.{◌≡◌, ℕ, zero, suc, ◌+◌, ◌-◌, ◌*◌, ◌/◌, ◌%◌, ◌^◌, ◌<◌, ◌≤◌, true, List, [], ◌∷◌, ◌++◌, length, get_or, take, drop, refl, sym, ◌∙◌, ap, subst, arith}
-use Rattle.std.specs.Int.Bits.{bit_and}
-use Rattle.std.proofs.lemmas.Nat.{and_block, and_mask, shr-shr}
-use Rattle.std.proofs.lemmas.Nat.Bits.{and_high_mask}
+use Rattle.std.specs.Int.Bits.{bit_and, bit_or}
+use Rattle.std.proofs.lemmas.Nat.{or_shr, and_block, and_mask, shr-shr}
+use Rattle.std.proofs.lemmas.Nat.Bits.{and_high_mask, bit_at_or}
 use Rattle.std.proofs.lemmas.List.{take-append-drop, take_rest, drop_more, drop-drop}
 use Rattle.md_text.specs.Numbers.{decimal}
 use Rattle.md_tree.specs.Held.{pair_before}
@@ -24,6 +24,16 @@ none_high (suc k) n e =
     let whole : bit_and (n / 256) (highest k) * 256 + bit_and (n % 256) 128 ≡ 0 = sym block ∙ ap (λ m. bit_and m (highest k * 256 + 128)) (sym split) ∙ e in
     let last : bit_and (n % 256) 128 ≡ n % 256 / 128 * 128 = and_high_mask 8 7 (omega arith) (n % 256) (omega arith) in
     (omega arith, none_high k (n / 256) (omega arith))
+
+-- a number below 128 by the byte, where that of both is told
+pub low_or : (k a b : ℕ) → AreLow k (bit_or a b) → AreLow k a × AreLow k b
+low_or zero a b l = (tt, tt)
+low_or (suc k) a b l =
+    let e : bit_or a b / 256 ≡ bit_or (a / 256) (b / 256) = or_shr a b 8 in
+    let r = low_or k (a / 256) (b / 256) (subst (AreLow k) e l.1) in
+    let top = bit_at_or a b 7 in
+    let none = l.0 in
+    ((omega arith, r.0), (omega arith, r.1))
 
 pub low_fits : (n : ℕ) → n < 2 ^ 64 → AreLow 8 n → n < 2 ^ 63
 low_fits n fits a =

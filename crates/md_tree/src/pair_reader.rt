@@ -124,15 +124,10 @@ fn read_pair<'a>(text: &'a [u8]) -> Option<(Pair, bool, &'a [u8])>
 fn quick_pair<'a>(text: &'a [u8]) -> Option<(Pair, &'a [u8])>
     ensures { IfSome result (λ p. text.now ≡ pair_before p.0 true p.1.now) }
 {
-    match short_pair(text) {
-        Some((pair, tail)) => {
-            if pair.low >= pair.high {
-                return None;
-            }
-            Some((pair, tail))
-        }
-        None => sparse_pair(text),
+    if let Some(short) = short_pair(text) {
+        return Some(short);
     }
+    sparse_pair(text)
 }
 
 // The same, a number at a time.

@@ -1,8 +1,9 @@
 //! Reads a pair whose lower number has one or two digits. With its comma it has at most eight bytes,
 //! which are taken as one word.
-ghost use Rattle.std.specs.Prelude.{◌≡◌, ◌<◌, ◌≤◌, true, length, slice_index, IfSome};
+ghost use Rattle.std.specs.Prelude.{◌≡◌, ◌<◌, ◌≤◌, true, length, take, IfSome};
 ghost use Rattle.md_tree.specs.declared.Pair.{Pair};
 ghost use Rattle.md_tree.specs.Held.{pair_before};
+ghost use Rattle.md_tree.specs.Words.{long_word_bytes};
 
 use crate::Pair;
 use crate::words::{long_word, spread, tens};
@@ -43,70 +44,85 @@ const TWO_AND_FOUR: u64 = 0x2c30_3030_302d_3030;
 
 const TWO_AND_FOUR_LIMITS: u64 = 0x7f76_7676_767f_7676;
 
+// In a word, a bit that the digits have at a byte and the comma lacks, by the byte's place.
+const NO_COMMA_3: u64 = 0x1000_0000;
+
+const NO_COMMA_4: u64 = 0x10_0000_0000;
+
+const NO_COMMA_5: u64 = 0x1000_0000_0000;
+
+const NO_COMMA_6: u64 = 0x10_0000_0000_0000;
+
 // The pair that a text begins with, and what stands behind its comma, if its lower number has one
-// or two digits. What is told is sure only if the lower number is below the higher one. None if no
-// such pair is there, or if little text is left.
+// or two digits. None if no such pair is there, or if little text is left.
 #[inline(always)]
 pub(crate) fn short_pair<'a>(text: &'a [u8]) -> Option<(Pair, &'a [u8])>
-    ensures { IfSome result (λ p. p.0.low < p.0.high → text.now ≡ pair_before p.0 true p.1.now) }
+    ensures { IfSome result (λ p. text.now ≡ pair_before p.0 true p.1.now) }
 {
-    if text.len() < 8 {
+    if text.len() > 1 && text[1] == b'-' {
+        return one_digit_pair(text);
+    }
+    let (pair, tail) = two_digits_pair(text)?;
+    if pair.low < 10 || pair.low >= pair.high {
         return None;
     }
-    if text[1] == b'-' {
-        return behind_one_digit(text);
-    }
-    behind_two_digits(text)
+    Some((pair, tail))
 }
 
+// The same where the lower number has one digit.
 #[inline(always)]
-fn behind_one_digit<'a>(text: &'a [u8]) -> Option<(Pair, &'a [u8])>
-    requires { 8 ≤ length text.now }
+pub(crate) fn one_digit_pair<'a>(text: &'a [u8]) -> Option<(Pair, &'a [u8])>
     ensures { IfSome result (λ p. text.now ≡ pair_before p.0 true p.1.now) }
 {
-    if text[3] == b',' {
-        return pair_of_ones(text);
+    let word = long_word(text)?;
+    if word & NO_COMMA_3 == 0 {
+        return pair_of_ones(text, word);
     }
-    if text[4] == b',' {
-        return pair_of_one_and_two(text);
+    if word & NO_COMMA_4 == 0 {
+        return pair_of_one_and_two(text, word);
     }
-    if text[5] == b',' {
-        return pair_of_one_and_three(text);
+    if word & NO_COMMA_5 == 0 {
+        return pair_of_one_and_three(text, word);
     }
-    pair_of_one_and_four(text)
+    pair_of_one_and_four(text, word)
 }
 
+// The same where it has two digits. What is told is sure only if it is at least 10, and below the
+// higher one: else a zero may stand before the digits.
 #[inline(always)]
-fn behind_two_digits<'a>(text: &'a [u8]) -> Option<(Pair, &'a [u8])>
-    requires { 8 ≤ length text.now }
-    ensures { IfSome result (λ p. p.0.low < p.0.high → text.now ≡ pair_before p.0 true p.1.now) }
+pub(crate) fn two_digits_pair<'a>(text: &'a [u8]) -> Option<(Pair, &'a [u8])>
+    ensures { IfSome result (λ p. 10 ≤ p.0.low → p.0.low < p.0.high
+        → text.now ≡ pair_before p.0 true p.1.now) }
 {
-    if text[5] == b',' {
-        return pair_of_twos(text);
+    let word = long_word(text)?;
+    if word & NO_COMMA_5 == 0 {
+        return pair_of_twos(text, word);
     }
-    if text[6] == b',' {
-        return pair_of_two_and_three(text);
+    if word & NO_COMMA_6 == 0 {
+        return pair_of_two_and_three(text, word);
     }
-    pair_of_two_and_four(text)
+    pair_of_two_and_four(text, word)
 }
 
 #[inline(always)]
-fn pair_of_ones<'a>(text: &'a [u8]) -> Option<(Pair, &'a [u8])>
-    requires { 8 ≤ length text.now }
+fn pair_of_ones<'a>(text: &'a [u8], word: u64) -> Option<(Pair, &'a [u8])>
+    requires long { 8 ≤ length text.now }
+    requires word { long_word_bytes word ≡ take 8 text.now }
     ensures { IfSome result (λ p. text.now ≡ pair_before p.0 true p.1.now) }
 {
-    let digits = spread(long_word(text), ONE_AND_ONE, ONE_AND_ONE_LIMITS)?;
+    let digits = spread(word, ONE_AND_ONE, ONE_AND_ONE_LIMITS)?;
     let low = (digits % 0x100) as u32;
     let high = (digits / 0x1_0000 % 0x100) as u32;
     Some((Pair { low, high }, &text[4..]))
 }
 
 #[inline(always)]
-fn pair_of_one_and_two<'a>(text: &'a [u8]) -> Option<(Pair, &'a [u8])>
-    requires { 8 ≤ length text.now }
+fn pair_of_one_and_two<'a>(text: &'a [u8], word: u64) -> Option<(Pair, &'a [u8])>
+    requires long { 8 ≤ length text.now }
+    requires word { long_word_bytes word ≡ take 8 text.now }
     ensures { IfSome result (λ p. text.now ≡ pair_before p.0 true p.1.now) }
 {
-    let digits = spread(long_word(text), ONE_AND_TWO, ONE_AND_TWO_LIMITS)?;
+    let digits = spread(word, ONE_AND_TWO, ONE_AND_TWO_LIMITS)?;
     let tens = tens(digits);
     let low = (digits % 0x100) as u32;
     let high = (tens / 0x1_0000 % 0x100) as u32;
@@ -117,11 +133,12 @@ fn pair_of_one_and_two<'a>(text: &'a [u8]) -> Option<(Pair, &'a [u8])>
 }
 
 #[inline(always)]
-fn pair_of_one_and_three<'a>(text: &'a [u8]) -> Option<(Pair, &'a [u8])>
-    requires { 8 ≤ length text.now }
+fn pair_of_one_and_three<'a>(text: &'a [u8], word: u64) -> Option<(Pair, &'a [u8])>
+    requires long { 8 ≤ length text.now }
+    requires word { long_word_bytes word ≡ take 8 text.now }
     ensures { IfSome result (λ p. text.now ≡ pair_before p.0 true p.1.now) }
 {
-    let digits = spread(long_word(text), ONE_AND_THREE, ONE_AND_THREE_LIMITS)?;
+    let digits = spread(word, ONE_AND_THREE, ONE_AND_THREE_LIMITS)?;
     let tens = tens(digits);
     let low = (digits % 0x100) as u32;
     let high = (digits / 0x1_0000 % 0x100 * 100 + tens / 0x100_0000 % 0x100) as u32;
@@ -132,11 +149,12 @@ fn pair_of_one_and_three<'a>(text: &'a [u8]) -> Option<(Pair, &'a [u8])>
 }
 
 #[inline(always)]
-fn pair_of_one_and_four<'a>(text: &'a [u8]) -> Option<(Pair, &'a [u8])>
-    requires { 8 ≤ length text.now }
+fn pair_of_one_and_four<'a>(text: &'a [u8], word: u64) -> Option<(Pair, &'a [u8])>
+    requires long { 8 ≤ length text.now }
+    requires word { long_word_bytes word ≡ take 8 text.now }
     ensures { IfSome result (λ p. text.now ≡ pair_before p.0 true p.1.now) }
 {
-    let digits = spread(long_word(text), ONE_AND_FOUR, ONE_AND_FOUR_LIMITS)?;
+    let digits = spread(word, ONE_AND_FOUR, ONE_AND_FOUR_LIMITS)?;
     let tens = tens(digits);
     let low = (digits % 0x100) as u32;
     let high = (tens / 0x1_0000 % 0x100 * 100 + tens / 0x1_0000_0000 % 0x100) as u32;
@@ -147,45 +165,48 @@ fn pair_of_one_and_four<'a>(text: &'a [u8]) -> Option<(Pair, &'a [u8])>
 }
 
 #[inline(always)]
-fn pair_of_twos<'a>(text: &'a [u8]) -> Option<(Pair, &'a [u8])>
-    requires { 8 ≤ length text.now }
-    ensures { IfSome result (λ p. p.0.low < p.0.high → text.now ≡ pair_before p.0 true p.1.now) }
+fn pair_of_twos<'a>(text: &'a [u8], word: u64) -> Option<(Pair, &'a [u8])>
+    requires long { 8 ≤ length text.now }
+    requires word { long_word_bytes word ≡ take 8 text.now }
+    ensures { IfSome result (λ p. 10 ≤ p.0.low → p.0.low < p.0.high
+        → text.now ≡ pair_before p.0 true p.1.now) }
 {
-    let digits = spread(long_word(text), TWO_AND_TWO, TWO_AND_TWO_LIMITS)?;
+    let digits = spread(word, TWO_AND_TWO, TWO_AND_TWO_LIMITS)?;
     let tens = tens(digits);
     let low = (tens % 0x100) as u32;
     let high = (tens / 0x100_0000 % 0x100) as u32;
-    if low < 10 {
-        return None;
-    }
     Some((Pair { low, high }, &text[6..]))
 }
 
 #[inline(always)]
-fn pair_of_two_and_three<'a>(text: &'a [u8]) -> Option<(Pair, &'a [u8])>
-    requires { 8 ≤ length text.now }
-    ensures { IfSome result (λ p. text.now ≡ pair_before p.0 true p.1.now) }
+fn pair_of_two_and_three<'a>(text: &'a [u8], word: u64) -> Option<(Pair, &'a [u8])>
+    requires long { 8 ≤ length text.now }
+    requires word { long_word_bytes word ≡ take 8 text.now }
+    ensures { IfSome result (λ p. 10 ≤ p.0.low → p.0.low < p.0.high
+        → text.now ≡ pair_before p.0 true p.1.now) }
 {
-    let digits = spread(long_word(text), TWO_AND_THREE, TWO_AND_THREE_LIMITS)?;
+    let digits = spread(word, TWO_AND_THREE, TWO_AND_THREE_LIMITS)?;
     let tens = tens(digits);
     let low = (tens % 0x100) as u32;
     let high = (digits / 0x100_0000 % 0x100 * 100 + tens / 0x1_0000_0000 % 0x100) as u32;
-    if low < 10 || high < 100 {
+    if high < 100 {
         return None;
     }
     Some((Pair { low, high }, &text[7..]))
 }
 
 #[inline(always)]
-fn pair_of_two_and_four<'a>(text: &'a [u8]) -> Option<(Pair, &'a [u8])>
-    requires { 8 ≤ length text.now }
-    ensures { IfSome result (λ p. text.now ≡ pair_before p.0 true p.1.now) }
+fn pair_of_two_and_four<'a>(text: &'a [u8], word: u64) -> Option<(Pair, &'a [u8])>
+    requires long { 8 ≤ length text.now }
+    requires word { long_word_bytes word ≡ take 8 text.now }
+    ensures { IfSome result (λ p. 10 ≤ p.0.low → p.0.low < p.0.high
+        → text.now ≡ pair_before p.0 true p.1.now) }
 {
-    let digits = spread(long_word(text), TWO_AND_FOUR, TWO_AND_FOUR_LIMITS)?;
+    let digits = spread(word, TWO_AND_FOUR, TWO_AND_FOUR_LIMITS)?;
     let tens = tens(digits);
     let low = (tens % 0x100) as u32;
     let high = (tens / 0x100_0000 % 0x100 * 100 + tens / 0x100_0000_0000 % 0x100) as u32;
-    if low < 10 || high < 1000 {
+    if high < 1000 {
         return None;
     }
     Some((Pair { low, high }, &text[8..]))

@@ -7,7 +7,7 @@ ghost use Rattle.md_tree.specs.Held.{pair_before, ReadsOn};
 use crate::Pair;
 use crate::growing::append;
 use crate::pair_order::{is_of_positions, rank};
-use crate::short_pairs::short_pair;
+use crate::short_pairs::{one_digit_pair, two_digits_pair};
 use crate::words::{long_word, spread, word};
 use md_graph::Memory;
 
@@ -42,8 +42,11 @@ pub(crate) fn read_sparse<'a>(
     ensures { IfOk result
         (λ r. ReadsOn count tail.now pairs.old.items pair r.1.now pairs.new.items r.0) }
 {
+    if pair.low < 10 {
+        return read_ones(pair, tail, count, pairs);
+    }
     if pair.low < 100 {
-        return read_short(pair, tail, count, pairs);
+        return read_twos(pair, tail, count, pairs);
     }
     if pair.low < 1000 {
         return read_threes(pair, tail, count, pairs);
@@ -82,9 +85,24 @@ fn read_threes<'a>(
     read_wide(100, pair, tail, count, pairs)
 }
 
-// The same behind a lower number of one or two digits.
+// The same behind a lower number of two digits.
 #[inline(never)]
-fn read_short<'a>(
+fn read_twos<'a>(
+    pair: Pair,
+    tail: &'a [u8],
+    count: usize,
+    pairs: &mut Vec<Pair>,
+) -> Result<(Pair, &'a [u8]), Memory>
+    requires { 10 ≤ pair.low }
+    ensures { IfOk result
+        (λ r. ReadsOn count tail.now pairs.old.items pair r.1.now pairs.new.items r.0) }
+{
+    read_wide(10, pair, tail, count, pairs)
+}
+
+// The same behind a lower number of one digit.
+#[inline(never)]
+fn read_ones<'a>(
     pair: Pair,
     tail: &'a [u8],
     count: usize,
@@ -96,8 +114,7 @@ fn read_short<'a>(
     read_wide(0, pair, tail, count, pairs)
 }
 
-// The same behind a lower number of as many digits as the least one, 100 or 1000; or of one or two
-// digits, where that is 0.
+// The same behind a lower number of as many digits as the least one, 0, 10, 100 or 1000.
 #[inline(always)]
 fn read_wide<'a>(
     least: u32,
@@ -162,8 +179,11 @@ fn wide_pair<'a>(text: &'a [u8], least: u32) -> Option<(Pair, &'a [u8])>
     ensures { IfSome result (λ p. least ≤ p.0.low → p.0.low < p.0.high
         → text.now ≡ pair_before p.0 true p.1.now) }
 {
+    if least < 10 {
+        return one_digit_pair(text);
+    }
     if least < 100 {
-        return short_pair(text);
+        return two_digits_pair(text);
     }
     if text.len() < 10 {
         return None;
@@ -205,7 +225,8 @@ fn pair_of_three_and_four<'a>(text: &'a [u8]) -> Option<(Pair, &'a [u8])>
     ensures { IfSome result (λ p. 100 ≤ p.0.low → p.0.low < p.0.high
         → text.now ≡ pair_before p.0 true p.1.now) }
 {
-    let digits = spread(long_word(text), THREE_AND_FOUR, THREE_AND_FOUR_LIMITS)?;
+    let word = long_word(text)?;
+    let digits = spread(word, THREE_AND_FOUR, THREE_AND_FOUR_LIMITS)?;
     let tens = digits * 10 + digits / 0x100;
     let low = (digits % 0x100 * 100 + tens / 0x100 % 0x100) as u32;
     let high = (tens / 0x1_0000_0000 % 0x100 * 100 + tens / 0x1_0000_0000_0000 % 0x100) as u32;
@@ -222,7 +243,8 @@ fn pair_of_threes<'a>(text: &'a [u8]) -> Option<(Pair, &'a [u8])>
     ensures { IfSome result (λ p. 100 ≤ p.0.low → p.0.low < p.0.high
         → text.now ≡ pair_before p.0 true p.1.now) }
 {
-    let digits = spread(long_word(text), THREES, THREE_LIMITS)?;
+    let word = long_word(text)?;
+    let digits = spread(word, THREES, THREE_LIMITS)?;
     let tens = digits * 10 + digits / 0x100;
     let low = (digits % 0x100 * 100 + tens / 0x100 % 0x100) as u32;
     let high = (digits / 0x1_0000_0000 % 0x100 * 100 + tens / 0x100_0000_0000 % 0x100) as u32;

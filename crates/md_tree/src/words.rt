@@ -14,15 +14,15 @@ pub(crate) fn word(text: &[u8], at: usize) -> u32
     u32::from_le_bytes([text[at], text[at + 1], text[at + 2], text[at + 3]])
 }
 
-// The first eight bytes of a text as one number.
+// The first eight bytes of a text as one number; none if it has fewer. They are taken as an array,
+// so that they stay one word where single ones of them are looked at too.
 #[inline(always)]
-pub(crate) fn long_word(text: &[u8]) -> u64
-    requires { 8 ≤ length text.now }
-    ensures { long_word_bytes result ≡ take 8 text.now }
+pub(crate) fn long_word(text: &[u8]) -> Option<u64>
+    ensures { IfSome result
+        (λ word. (8 ≤ length text.now) × (long_word_bytes word ≡ take 8 text.now)) }
 {
-    u64::from_le_bytes([
-        text[0], text[1], text[2], text[3], text[4], text[5], text[6], text[7],
-    ])
+    let bytes = text.first_chunk::<8>()?;
+    Some(u64::from_le_bytes(*bytes))
 }
 
 // What each byte of a word is above that of `base`, if with that of `limits` it stays below 128.
@@ -33,10 +33,7 @@ pub(crate) fn spread(word: u64, base: u64, limits: u64) -> Option<u64>
     ensures { IfSome result (λ digits. IsSpread 8 word base limits digits) }
 {
     let digits = word.wrapping_sub(base);
-    if digits & HIGHEST != 0 {
-        return None;
-    }
-    if digits.wrapping_add(limits) & HIGHEST != 0 {
+    if (digits | digits.wrapping_add(limits)) & HIGHEST != 0 {
         return None;
     }
     Some(digits)

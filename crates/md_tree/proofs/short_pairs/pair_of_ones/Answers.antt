@@ -3,4 +3,4 @@ use Rattle.md_tree.proofs.Short.{one_and_one}
 use Rattle.md_tree.proofs.short_pairs.pair_of_ones.Goals as goal
 
 pub returns : goal.returns
-returns c = one_and_one c.args.text.now c.long_word.result c.in_ok-digits.digits _ _ c.long_word.ensures c.in_ok-digits.ensures refl refl
+returns c = one_and_one c.args.text.now c.args.word c.in_ok-digits.digits _ _ c.requires.word c.in_ok-digits.ensures refl refl

@@ -3,4 +3,4 @@ use Rattle.md_tree.proofs.Short.{two_and_two}
 use Rattle.md_tree.proofs.short_pairs.pair_of_twos.Goals as goal
 
 pub returns : goal.returns
-returns c up = two_and_two c.args.text.now c.long_word.result c.in_ok-digits.digits c.tens-tens.result _ _ c.long_word.ensures c.in_ok-digits.ensures c.tens-tens.ensures refl refl c.if-low-lt10.false up
+returns c low up = two_and_two c.args.text.now c.args.word c.in_ok-digits.digits c.tens-tens.result _ _ c.requires.word c.in_ok-digits.ensures c.tens-tens.ensures refl refl low up
