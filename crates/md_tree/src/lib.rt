@@ -5,6 +5,7 @@
 ghost use Rattle.std.specs.Prelude.{◌≡◌, ◌<◌, length, vec_len, slice_index_or};
 ghost use Rattle.md_tree.specs.Plain.{trees_of};
 
+mod alike_pairs;
 mod builder;
 mod cotree;
 mod grammar;

@@ -1,10 +1,12 @@
-//! Reads the pairs of a sparse prime node, of numbers of three or four digits.
+//! Reads pairs one behind the other, a word each.
 ghost use Rattle.std.specs.Prelude.{◌≡◌, ◌<◌, ◌≤◌, ◌↔◌, true, length, slice_index, IfOk, IfSome, IsTrue};
+ghost use Rattle.md_graph.specs.declared.TheConstants.{NAMES};
 ghost use Rattle.md_tree.specs.declared.Pair.{Pair};
 ghost use Rattle.md_tree.specs.StrongTrees.{IsPairBefore};
 ghost use Rattle.md_tree.specs.Held.{pair_before, ReadsOn};
 
 use crate::Pair;
+use crate::alike_pairs::read_alike;
 use crate::growing::append;
 use crate::pair_order::{is_of_positions, rank};
 use crate::short_pairs::{one_digit_pair, two_digits_pair};
@@ -33,15 +35,19 @@ const LANES: u64 = 0x0000_00ff_0000_00ff;
 // Goes on past pairs behind a pair whose lower number has as many digits, as long as they ascend.
 // Their digits stand at one of few places, and are read as one word.
 #[inline(always)]
-pub(crate) fn read_sparse<'a>(
+pub(crate) fn read_run<'a>(
     pair: Pair,
     tail: &'a [u8],
     count: usize,
     pairs: &mut Vec<Pair>,
 ) -> Result<(Pair, &'a [u8]), Memory>
+    requires { count ≤ NAMES }
     ensures { IfOk result
         (λ r. ReadsOn count tail.now pairs.old.items pair r.1.now pairs.new.items r.0) }
 {
+    if pair.low >= pair.high {
+        return Ok((pair, tail));
+    }
     if pair.low < 10 {
         return read_ones(pair, tail, count, pairs);
     }
@@ -63,7 +69,9 @@ fn read_fours<'a>(
     count: usize,
     pairs: &mut Vec<Pair>,
 ) -> Result<(Pair, &'a [u8]), Memory>
-    requires { 1000 ≤ pair.low }
+    requires few { count ≤ NAMES }
+    requires from { 1000 ≤ pair.low }
+    requires up { pair.low < pair.high }
     ensures { IfOk result
         (λ r. ReadsOn count tail.now pairs.old.items pair r.1.now pairs.new.items r.0) }
 {
@@ -78,7 +86,9 @@ fn read_threes<'a>(
     count: usize,
     pairs: &mut Vec<Pair>,
 ) -> Result<(Pair, &'a [u8]), Memory>
-    requires { 100 ≤ pair.low }
+    requires few { count ≤ NAMES }
+    requires from { 100 ≤ pair.low }
+    requires up { pair.low < pair.high }
     ensures { IfOk result
         (λ r. ReadsOn count tail.now pairs.old.items pair r.1.now pairs.new.items r.0) }
 {
@@ -93,7 +103,9 @@ fn read_twos<'a>(
     count: usize,
     pairs: &mut Vec<Pair>,
 ) -> Result<(Pair, &'a [u8]), Memory>
-    requires { 10 ≤ pair.low }
+    requires few { count ≤ NAMES }
+    requires from { 10 ≤ pair.low }
+    requires up { pair.low < pair.high }
     ensures { IfOk result
         (λ r. ReadsOn count tail.now pairs.old.items pair r.1.now pairs.new.items r.0) }
 {
@@ -108,6 +120,8 @@ fn read_ones<'a>(
     count: usize,
     pairs: &mut Vec<Pair>,
 ) -> Result<(Pair, &'a [u8]), Memory>
+    requires few { count ≤ NAMES }
+    requires up { pair.low < pair.high }
     ensures { IfOk result
         (λ r. ReadsOn count tail.now pairs.old.items pair r.1.now pairs.new.items r.0) }
 {
@@ -123,7 +137,9 @@ fn read_wide<'a>(
     count: usize,
     pairs: &mut Vec<Pair>,
 ) -> Result<(Pair, &'a [u8]), Memory>
-    requires { least ≤ pair.low }
+    requires few { count ≤ NAMES }
+    requires from { least ≤ pair.low }
+    requires up { pair.low < pair.high }
     ensures { IfOk result
         (λ r. ReadsOn count tail.now pairs.old.items pair r.1.now pairs.new.items r.0) }
 {
@@ -134,7 +150,17 @@ fn read_wide<'a>(
             break;
         };
         let place = rank(next);
-        if place <= last || !is_of_positions(next, count) {
+        if place <= last + near(least) {
+            if place <= last || !is_of_positions(next, count) {
+                break;
+            }
+            append(pairs, next)?;
+            let (far, end) = read_alike(rest, next, behind, count, pairs)?;
+            last = rank(far);
+            rest = end;
+            continue;
+        }
+        if !is_of_positions(next, count) {
             break;
         }
         append(pairs, next)?;
@@ -144,6 +170,17 @@ fn read_wide<'a>(
     let low = (last / 0x1_0000_0000) as u32;
     let high = (last % 0x1_0000_0000) as u32;
     Ok((Pair { low, high }, rest))
+}
+
+// So near to the one before, a pair is likely to be followed by others that are spelled alike.
+#[inline(always)]
+fn near(least: u32) -> u64
+    ensures { result ≤ 1 }
+{
+    if least < 100 {
+        return 0;
+    }
+    1
 }
 
 // The pair that a text begins with, and what stands behind its comma, if it is of numbers of three

@@ -1,4 +1,4 @@
-use Rattle.std.proofs.Common.{◌≤◌, ◌/◌, length}
+use Rattle.std.proofs.Common.{◌≤◌, ◌<◌, ◌+◌, ◌^◌, ◌/◌, length}
 use Rattle.md_tree.specs.Held.{ReadsOn}
 use Rattle.md_tree.proofs.Alike.{ranked}
 use Rattle.md_tree.proofs.sparse_pairs.read_wide.Given as goal
@@ -6,6 +6,7 @@ use Rattle.md_tree.proofs.sparse_pairs.read_wide.Given as goal
 abbrev pub invariant-loop-next : goal.invariant-loop-next
 invariant-loop-next l = record {
   from : l.least ≤ l.last / 4294967296;
+  room : l.last + 1 < 2 ^ 64;
   on : ReadsOn l.count l.tail l.fn.pairs.items l.fn.pair l.rest l.pairs.items (ranked l.last);
 }
 
