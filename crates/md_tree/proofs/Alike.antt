@@ -1,5 +1,6 @@
 -- Pairs that are read one behind the other, and those that are spelled as the one before but for the last digit.
-use Rattle.std.proofs.Common.{◌≡◌, ℕ, suc, ◌+◌, ◌-◌, ◌*◌, ◌/◌, ◌%◌, ◌<◌, ◌≤◌, Bool, true, List, [], ◌∷◌, ◌++◌, length, take, drop, append_assoc, length-append, refl, sym, ◌∙◌, ap, subst, inl, inr, arith}
+use Rattle.std.proofs.Common.{◌≡◌, ℕ, suc, ◌+◌, ◌-◌, ◌*◌, ◌/◌, ◌%◌, ◌^◌, ◌<◌, ◌≤◌, Bool, true, List, [], ◌∷◌, ◌++◌, length, take, drop, append_assoc, length-append, refl, sym, ◌∙◌, ap, subst, inl, inr, arith}
+use Rattle.std.proofs.lemmas.Bool.{cases_lt}
 use Rattle.std.proofs.lemmas.List.{take-append-drop, take-take, drop-take, take_at}
 use Rattle.std.specs.Prelude.{◌↔◌, IsTrue}
 use Rattle.md_text.specs.Numbers.{decimal}
@@ -44,6 +45,22 @@ one_read n text rest tail ps last q listed now h e f = record {
 pub low_from : (p q : Pair) (least : ℕ) → least ≤ p.low → IsPairBefore p q → least ≤ q.low
 low_from p q least from (inl below) = omega arith
 low_from p q least from (inr same) = let e : p.low ≡ q.low = same.0 in omega arith
+
+-- the pair that a number tells, which rises from pair to pair
+abbrev pub ranked : ℕ → Pair
+ranked n = record { low = n / 4294967296; high = n % 4294967296 }
+
+pub ranked_is : (p : Pair) (n : ℕ) → p.high < 2 ^ 32 → n ≡ p.low * 4294967296 + p.high → ranked n ≡ p
+ranked_is p n fits is =
+    let low : n / 4294967296 ≡ p.low = omega arith in
+    let high : n % 4294967296 ≡ p.high = omega arith in
+    λ i. record { low = low i; high = high i }
+
+pub ranked_before : (n : ℕ) (q : Pair) → q.high < 2 ^ 32 → n < q.low * 4294967296 + q.high → IsPairBefore (ranked n) q
+ranked_before n q fits below = elim (cases_lt (n / 4294967296) q.low) [
+  | inl lower ↦ inl lower
+  | inr from ↦ inr ((omega arith), (omega arith))
+]
 
 -- a pair more is read
 pub reads_next : (n : ℕ) (start rest behind : List ℕ) (ps qs : List Pair) (first last q : Pair) → ReadsOn n start ps first rest qs last →

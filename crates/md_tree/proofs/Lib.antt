@@ -23,5 +23,6 @@ pub mod Coming
 pub mod Numerals
 pub mod Alike
 pub mod Spread
+pub mod Short
 pub mod ReadBack
 pub mod Listing

@@ -1,9 +1,9 @@
 -- The digits that several bytes spell, told by few steps over all of them.
 use Rattle.std.specs.Prelude.{⊤}
 use Rattle.std.proofs.Common.{◌≡◌, ℕ, zero, suc, ◌+◌, ◌-◌, ◌*◌, ◌/◌, ◌%◌, ◌^◌, ◌<◌, ◌≤◌, true, List, [], ◌∷◌, ◌++◌, length, get_or, take, drop, refl, sym, ◌∙◌, ap, subst, arith}
-use Rattle.std.specs.Int.Bits.{bit_and}
-use Rattle.std.proofs.lemmas.Nat.{and_block, and_mask, shr-shr}
-use Rattle.std.proofs.lemmas.Nat.Bits.{and_high_mask}
+use Rattle.std.specs.Int.Bits.{bit_and, bit_or}
+use Rattle.std.proofs.lemmas.Nat.{or_shr, and_block, and_mask, shr-shr}
+use Rattle.std.proofs.lemmas.Nat.Bits.{and_high_mask, bit_at_or}
 use Rattle.std.proofs.lemmas.List.{take-append-drop, take_rest, drop_more, drop-drop}
 use Rattle.md_text.specs.Numbers.{decimal}
 use Rattle.md_tree.specs.Held.{pair_before}
@@ -25,6 +25,16 @@ none_high (suc k) n e =
     let last : bit_and (n % 256) 128 ≡ n % 256 / 128 * 128 = and_high_mask 8 7 (omega arith) (n % 256) (omega arith) in
     (omega arith, none_high k (n / 256) (omega arith))
 
+-- a number below 128 by the byte, where that of both is told
+pub low_or : (k a b : ℕ) → AreLow k (bit_or a b) → AreLow k a × AreLow k b
+low_or zero a b l = (tt, tt)
+low_or (suc k) a b l =
+    let e : bit_or a b / 256 ≡ bit_or (a / 256) (b / 256) = or_shr a b 8 in
+    let r = low_or k (a / 256) (b / 256) (subst (AreLow k) e l.1) in
+    let top = bit_at_or a b 7 in
+    let none = l.0 in
+    ((omega arith, r.0), (omega arith, r.1))
+
 pub low_fits : (n : ℕ) → n < 2 ^ 64 → AreLow 8 n → n < 2 ^ 63
 low_fits n fits a =
     let top : n / 256 / 256 / 256 / 256 / 256 / 256 / 256 % 256 < 128 = a.1.1.1.1.1.1.1.0 in
@@ -45,10 +55,10 @@ abbrev pub bytes : ℕ → ℕ → List ℕ
 bytes zero n = []
 bytes (suc k) n = n % 256 ∷ bytes k (n / 256)
 
-shift_2 : (n : ℕ) → n / 65536 ≡ n / 256 / 256
+pub shift_2 : (n : ℕ) → n / 65536 ≡ n / 256 / 256
 shift_2 n = sym (shr-shr n 8 8)
 
-shift_3 : (n : ℕ) → n / 16777216 ≡ n / 256 / 256 / 256
+pub shift_3 : (n : ℕ) → n / 16777216 ≡ n / 256 / 256 / 256
 shift_3 n = sym (shr-shr n 16 8) ∙ ap (λ m. m / 256) (shift_2 n)
 
 pub shift_4 : (n : ℕ) → n / 4294967296 ≡ n / 256 / 256 / 256 / 256
@@ -68,12 +78,12 @@ word_is n =
     let b = shift_2 n in let c = shift_3 n in
     λ i. n % 256 ∷ n / 256 % 256 ∷ (b i) % 256 ∷ (c i) % 256 ∷ []
 
-long_word_is : (n : ℕ) → long_word_bytes n ≡ bytes 8 n
+pub long_word_is : (n : ℕ) → long_word_bytes n ≡ bytes 8 n
 long_word_is n =
     let b = shift_2 n in let c = shift_3 n in let d = shift_4 n in let e = shift_5 n in let f = shift_6 n in let g = shift_7 n in
     λ i. n % 256 ∷ n / 256 % 256 ∷ (b i) % 256 ∷ (c i) % 256 ∷ (d i) % 256 ∷ (e i) % 256 ∷ (f i) % 256 ∷ (g i) % 256 ∷ []
 
-spread_bytes : (word base limits y : ℕ) → IsSpread 8 word base limits y → bytes 8 word ≡
+pub spread_bytes : (word base limits y : ℕ) → IsSpread 8 word base limits y → bytes 8 word ≡
     (base % 256 + y % 256) ∷ (base / 256 % 256 + y / 256 % 256) ∷ (base / 256 / 256 % 256 + y / 256 / 256 % 256) ∷ (base / 256 / 256 / 256 % 256 + y / 256 / 256 / 256 % 256)
     ∷ (base / 256 / 256 / 256 / 256 % 256 + y / 256 / 256 / 256 / 256 % 256) ∷ (base / 256 / 256 / 256 / 256 / 256 % 256 + y / 256 / 256 / 256 / 256 / 256 % 256)
     ∷ (base / 256 / 256 / 256 / 256 / 256 / 256 % 256 + y / 256 / 256 / 256 / 256 / 256 / 256 % 256) ∷ (base / 256 / 256 / 256 / 256 / 256 / 256 / 256 % 256 + y / 256 / 256 / 256 / 256 / 256 / 256 / 256 % 256) ∷ []
@@ -81,13 +91,13 @@ spread_bytes word base limits y s =
     λ i. s.0.0 i ∷ s.1.0.0 i ∷ s.1.1.0.0 i ∷ s.1.1.1.0.0 i ∷ s.1.1.1.1.0.0 i ∷ s.1.1.1.1.1.0.0 i ∷ s.1.1.1.1.1.1.0.0 i ∷ s.1.1.1.1.1.1.1.0.0 i ∷ []
 
 -- numbers of three or four digits
-three_spelled : (a b c : ℕ) (rest : List ℕ) → 0 < a → a < 10 → b < 10 → c < 10 → (48 + a) ∷ (48 + b) ∷ (48 + c) ∷ rest ≡ decimal ((a * 10 + b) * 10 + c) ++ rest
+pub three_spelled : (a b c : ℕ) (rest : List ℕ) → 0 < a → a < 10 → b < 10 → c < 10 → (48 + a) ∷ (48 + b) ∷ (48 + c) ∷ rest ≡ decimal ((a * 10 + b) * 10 + c) ++ rest
 three_spelled a b c rest some a' b' c' =
     let text : List ℕ = (48 + a) ∷ (48 + b) ∷ (48 + c) ∷ rest in
     digit_more text ((48 + c) ∷ rest) rest (a * 10 + b) c (omega arith) c'
     (digit_more text ((48 + b) ∷ (48 + c) ∷ rest) ((48 + c) ∷ rest) a b some b' (digit_first text ((48 + b) ∷ (48 + c) ∷ rest) a a' refl) refl) refl
 
-four_spelled : (a b c d : ℕ) (rest : List ℕ) → 0 < a → a < 10 → b < 10 → c < 10 → d < 10 → (48 + a) ∷ (48 + b) ∷ (48 + c) ∷ (48 + d) ∷ rest ≡ decimal (((a * 10 + b) * 10 + c) * 10 + d) ++ rest
+pub four_spelled : (a b c d : ℕ) (rest : List ℕ) → 0 < a → a < 10 → b < 10 → c < 10 → d < 10 → (48 + a) ∷ (48 + b) ∷ (48 + c) ∷ (48 + d) ∷ rest ≡ decimal (((a * 10 + b) * 10 + c) * 10 + d) ++ rest
 four_spelled a b c d rest some a' b' c' d' =
     let text : List ℕ = (48 + a) ∷ (48 + b) ∷ (48 + c) ∷ (48 + d) ∷ rest in
     digit_more text ((48 + d) ∷ rest) rest ((a * 10 + b) * 10 + c) d (omega arith) d' (three_spelled a b c ((48 + d) ∷ rest) some a' b' c') refl
@@ -99,24 +109,27 @@ tens_here y a b = omega arith
 tens_shift : (y : ℕ) → y % 256 < 10 → y / 256 % 256 < 10 → (y * 10 + y / 256) / 256 ≡ y / 256 * 10 + y / 256 / 256
 tens_shift y a b = omega arith
 
--- the digits are below ten
+-- the digits in the lowest bytes, so many, are below ten
 abbrev pub AreDigits : ℕ → ℕ → Type 0
-AreDigits zero n = n ≡ 0
+AreDigits zero n = ⊤
 AreDigits (suc k) n = (n % 256 < 10) × AreDigits k (n / 256)
 
--- at a place further on
-tens_on : (x y : ℕ) (k : ℕ) → AreDigits (suc (suc k)) y → x ≡ y * 10 + y / 256 → x / 256 ≡ y / 256 * 10 + y / 256 / 256
-tens_on x y k a e = ap (λ m. m / 256) e ∙ tens_shift y a.0 a.1.0
+-- each of the lowest bytes of x, so many, has a digit and ten times the one before it
+abbrev pub AreTens : ℕ → ℕ → ℕ → Type 0
+AreTens zero x y = ⊤
+AreTens (suc k) x y = (x % 256 ≡ y % 256 * 10 + y / 256 % 256) × AreTens k (x / 256) (y / 256)
 
-tens_at : (x y : ℕ) (k : ℕ) → AreDigits (suc (suc k)) y → x ≡ y * 10 + y / 256 → x % 256 ≡ y % 256 * 10 + y / 256 % 256
-tens_at x y k a e = ap (λ m. m % 256) e ∙ tens_here y a.0 a.1.0
+pub are_tens : (k x y : ℕ) → AreDigits (suc k) y → x ≡ y * 10 + y / 256 → AreTens k x y
+are_tens zero x y a e = tt
+are_tens (suc k) x y a e =
+    (ap (λ m. m % 256) e ∙ tens_here y a.0 a.1.0, are_tens k (x / 256) (y / 256) a.1 (ap (λ m. m / 256) e ∙ tens_shift y a.0 a.1.0))
 
 abbrev AreWide : ℕ → ℕ → Type 0
 AreWide zero limits = ⊤
 AreWide (suc k) limits = (118 ≤ limits % 256) × AreWide k (limits / 256)
 
 digits_are : (k word base limits y : ℕ) → AreWide k limits → IsSpread k word base limits y → AreDigits k y
-digits_are zero word base limits y l s = s
+digits_are zero word base limits y l s = tt
 digits_are (suc k) word base limits y l s = let l0 = l.0 in let s0 = s.0.1 in (omega arith, digits_are k (word / 256) (base / 256) (limits / 256) (y / 256) l.1 s.1)
 
 digits_wide : AreWide 8 8536140394893047414
@@ -127,34 +140,6 @@ threes_wide = (omega arith, (omega arith, (omega arith, (omega arith, (omega ari
 
 three_and_four_wide : AreWide 8 8536140395044042358
 three_and_four_wide = (omega arith, (omega arith, (omega arith, (omega arith, (omega arith, (omega arith, (omega arith, (omega arith, tt))))))))
-
--- all places
-record AreTens (x y : ℕ) : Type 0 where
-  at_0 : x % 256 ≡ y % 256 * 10 + y / 256 % 256
-  at_1 : x / 256 % 256 ≡ y / 256 % 256 * 10 + y / 256 / 256 % 256
-  at_2 : x / 256 / 256 % 256 ≡ y / 256 / 256 % 256 * 10 + y / 256 / 256 / 256 % 256
-  at_3 : x / 256 / 256 / 256 % 256 ≡ y / 256 / 256 / 256 % 256 * 10 + y / 256 / 256 / 256 / 256 % 256
-  at_4 : x / 256 / 256 / 256 / 256 % 256 ≡ y / 256 / 256 / 256 / 256 % 256 * 10 + y / 256 / 256 / 256 / 256 / 256 % 256
-  at_5 : x / 256 / 256 / 256 / 256 / 256 % 256 ≡ y / 256 / 256 / 256 / 256 / 256 % 256 * 10 + y / 256 / 256 / 256 / 256 / 256 / 256 % 256
-  at_6 : x / 256 / 256 / 256 / 256 / 256 / 256 % 256 ≡ y / 256 / 256 / 256 / 256 / 256 / 256 % 256 * 10 + y / 256 / 256 / 256 / 256 / 256 / 256 / 256 % 256
-
-are_tens : (x y : ℕ) → AreDigits 8 y → x ≡ y * 10 + y / 256 → AreTens x y
-are_tens x y a e0 =
-    let e1 : x / 256 ≡ y / 256 * 10 + y / 256 / 256 = tens_on (x) (y) 6 a e0 in
-    let e2 : x / 256 / 256 ≡ y / 256 / 256 * 10 + y / 256 / 256 / 256 = tens_on (x / 256) (y / 256) 5 a.1 e1 in
-    let e3 : x / 256 / 256 / 256 ≡ y / 256 / 256 / 256 * 10 + y / 256 / 256 / 256 / 256 = tens_on (x / 256 / 256) (y / 256 / 256) 4 a.1.1 e2 in
-    let e4 : x / 256 / 256 / 256 / 256 ≡ y / 256 / 256 / 256 / 256 * 10 + y / 256 / 256 / 256 / 256 / 256 = tens_on (x / 256 / 256 / 256) (y / 256 / 256 / 256) 3 a.1.1.1 e3 in
-    let e5 : x / 256 / 256 / 256 / 256 / 256 ≡ y / 256 / 256 / 256 / 256 / 256 * 10 + y / 256 / 256 / 256 / 256 / 256 / 256 = tens_on (x / 256 / 256 / 256 / 256) (y / 256 / 256 / 256 / 256) 2 a.1.1.1.1 e4 in
-    let e6 : x / 256 / 256 / 256 / 256 / 256 / 256 ≡ y / 256 / 256 / 256 / 256 / 256 / 256 * 10 + y / 256 / 256 / 256 / 256 / 256 / 256 / 256 = tens_on (x / 256 / 256 / 256 / 256 / 256) (y / 256 / 256 / 256 / 256 / 256) 1 a.1.1.1.1.1 e5 in
-    record {
-      at_0 = tens_at (x) (y) 6 a e0;
-      at_1 = tens_at (x / 256) (y / 256) 5 a.1 e1;
-      at_2 = tens_at (x / 256 / 256) (y / 256 / 256) 4 a.1.1 e2;
-      at_3 = tens_at (x / 256 / 256 / 256) (y / 256 / 256 / 256) 3 a.1.1.1 e3;
-      at_4 = tens_at (x / 256 / 256 / 256 / 256) (y / 256 / 256 / 256 / 256) 2 a.1.1.1.1 e4;
-      at_5 = tens_at (x / 256 / 256 / 256 / 256 / 256) (y / 256 / 256 / 256 / 256 / 256) 1 a.1.1.1.1.1 e5;
-      at_6 = tens_at (x / 256 / 256 / 256 / 256 / 256 / 256) (y / 256 / 256 / 256 / 256 / 256 / 256) 0 a.1.1.1.1.1.1 e6;
-    }
 
 -- two numbers of three digits
 threes_text : (text rest : List ℕ) (a b c h d e f m low high : ℕ) → text ≡ (48 + a) ∷ (48 + b) ∷ (48 + c) ∷ (45 + h) ∷ (48 + d) ∷ (48 + e) ∷ (48 + f) ∷ (44 + m) ∷ rest →
@@ -196,12 +181,12 @@ pub threes : (text : List ℕ) (word y low high : ℕ) → long_word_bytes word 
 threes text word y low high is s l u low' up =
     let x : ℕ = y * 10 + y / 256 in
     let a : AreDigits 8 y = digits_are 8 word 3184097920025636912 9184658741385393782 y threes_wide s in
-    let t : AreTens x y = are_tens x y a refl in
+    let t : AreTens 7 x y = are_tens 7 x y a refl in
     let hyphen = s.1.1.1.0.1 in
     let comma = s.1.1.1.1.1.1.1.0.1 in
     let high_0 : y / 4294967296 % 256 ≡ y / 256 / 256 / 256 / 256 % 256 = ap (λ m. m % 256) (shift_4 y) in
-    let high_1 : x / 1099511627776 % 256 ≡ y / 256 / 256 / 256 / 256 / 256 % 256 * 10 + y / 256 / 256 / 256 / 256 / 256 / 256 % 256 = ap (λ m. m % 256) (shift_5 x) ∙ t.at_5 in
-    let low_1 = t.at_1 in
+    let high_1 : x / 1099511627776 % 256 ≡ y / 256 / 256 / 256 / 256 / 256 % 256 * 10 + y / 256 / 256 / 256 / 256 / 256 / 256 % 256 = ap (λ m. m % 256) (shift_5 x) ∙ t.1.1.1.1.1.0 in
+    let low_1 = t.1.0 in
     threes_text text (drop 8 text) (y % 256) (y / 256 % 256) (y / 256 / 256 % 256) (y / 256 / 256 / 256 % 256) (y / 256 / 256 / 256 / 256 % 256) (y / 256 / 256 / 256 / 256 / 256 % 256) (y / 256 / 256 / 256 / 256 / 256 / 256 % 256) (y / 256 / 256 / 256 / 256 / 256 / 256 / 256 % 256) low high
     (sym (eight_first text word 3184097920025636912 9184658741385393782 y is s) ∙ ap (λ w. w ++ drop 8 text) (spread_bytes word 3184097920025636912 9184658741385393782 y s))
     a.0 a.1.0 a.1.1.0 (omega arith) a.1.1.1.1.0 a.1.1.1.1.1.0 a.1.1.1.1.1.1.0 (omega arith)
@@ -214,11 +199,11 @@ pub three_and_four : (text : List ℕ) (word y low high : ℕ) → 10 ≤ length
 three_and_four text word y low high long mark is s l u high' low' =
     let x : ℕ = y * 10 + y / 256 in
     let a : AreDigits 8 y = digits_are 8 word 3472328296177348656 8536140395044042358 y three_and_four_wide s in
-    let t : AreTens x y = are_tens x y a refl in
+    let t : AreTens 7 x y = are_tens 7 x y a refl in
     let hyphen = s.1.1.1.0.1 in
-    let high_0 : x / 4294967296 % 256 ≡ y / 256 / 256 / 256 / 256 % 256 * 10 + y / 256 / 256 / 256 / 256 / 256 % 256 = ap (λ m. m % 256) (shift_4 x) ∙ t.at_4 in
-    let high_1 : x / 281474976710656 % 256 ≡ y / 256 / 256 / 256 / 256 / 256 / 256 % 256 * 10 + y / 256 / 256 / 256 / 256 / 256 / 256 / 256 % 256 = ap (λ m. m % 256) (shift_6 x) ∙ t.at_6 in
-    let low_1 = t.at_1 in
+    let high_0 : x / 4294967296 % 256 ≡ y / 256 / 256 / 256 / 256 % 256 * 10 + y / 256 / 256 / 256 / 256 / 256 % 256 = ap (λ m. m % 256) (shift_4 x) ∙ t.1.1.1.1.0 in
+    let high_1 : x / 281474976710656 % 256 ≡ y / 256 / 256 / 256 / 256 / 256 / 256 % 256 * 10 + y / 256 / 256 / 256 / 256 / 256 / 256 / 256 % 256 = ap (λ m. m % 256) (shift_6 x) ∙ t.1.1.1.1.1.1.0 in
+    let low_1 = t.1.0 in
     three_and_four_text text (drop 9 text) (y % 256) (y / 256 % 256) (y / 256 / 256 % 256) (y / 256 / 256 / 256 % 256) (y / 256 / 256 / 256 / 256 % 256) (y / 256 / 256 / 256 / 256 / 256 % 256) (y / 256 / 256 / 256 / 256 / 256 / 256 % 256) (y / 256 / 256 / 256 / 256 / 256 / 256 / 256 % 256) low high
     (sym (eight_first text word 3472328296177348656 8536140395044042358 y is s) ∙ ap (λ w. w ++ drop 8 text) (spread_bytes word 3472328296177348656 8536140395044042358 y s)
     ∙ ap (λ w. ((48 + y % 256) ∷ (48 + y / 256 % 256) ∷ (48 + y / 256 / 256 % 256) ∷ (45 + y / 256 / 256 / 256 % 256) ∷ (48 + y / 256 / 256 / 256 / 256 % 256) ∷ (48 + y / 256 / 256 / 256 / 256 / 256 % 256) ∷ (48 + y / 256 / 256 / 256 / 256 / 256 / 256 % 256) ∷ (48 + y / 256 / 256 / 256 / 256 / 256 / 256 / 256 % 256) ∷ []) ++ w) (drop_more text 8 0 (omega arith) ∙ ap (λ b. b ∷ drop 9 text) mark))
@@ -260,30 +245,31 @@ ten_first text low high long hyphen comma l h =
     let end : drop 9 text ≡ 44 ∷ drop 10 text = drop_more text 9 0 (omega arith) ∙ ap (λ b. b ∷ drop 10 text) comma in
     front ∙ ap (λ w. bytes 4 low ++ w) (middle ∙ ap (λ w. 45 ∷ w) (second ∙ ap (λ w. bytes 4 high ++ w) end))
 
-pub fours : (text : List ℕ) (first second y low high : ℕ) → 10 ≤ length text → get_or text 4 0 ≡ 45 → get_or text 9 0 ≡ 44 → first < 2 ^ 32 → word_bytes first ≡ take 4 (drop 0 text) → word_bytes second ≡ take 4 (drop 5 text) →
-    IsSpread 8 (second * 4294967296 + first) 3472328296227680304 8536140394893047414 y →
-    low ≡ (bit_and (y * 10 + y / 256) 1095216660735 * 100 + bit_and ((y * 10 + y / 256) / 65536) 1095216660735) % 4294967296 →
-    high ≡ (bit_and (y * 10 + y / 256) 1095216660735 * 100 + bit_and ((y * 10 + y / 256) / 65536) 1095216660735) / 4294967296 → 1000 ≤ low → low < high →
+pub fours : (text : List ℕ) (first second y low high : ℕ) → 10 ≤ length text → get_or text 4 0 ≡ 45 → get_or text 9 0 ≡ 44 → second < 2 ^ 32 → word_bytes first ≡ take 4 (drop 0 text) → word_bytes second ≡ take 4 (drop 5 text) →
+    IsSpread 8 (first * 4294967296 + second) 3472328296227680304 8536140394893047414 y →
+    low ≡ (bit_and (y * 10 + y / 256) 1095216660735 * 100 + bit_and ((y * 10 + y / 256) / 65536) 1095216660735) / 4294967296 →
+    high ≡ (bit_and (y * 10 + y / 256) 1095216660735 * 100 + bit_and ((y * 10 + y / 256) / 65536) 1095216660735) % 4294967296 → 1000 ≤ low → low < high →
     text ≡ pair_before (record { low = low; high = high }) true (take (length text - 10) (drop 10 text))
 fours text first second y low high long hyphen comma fits f g s l u low' up =
-    let word : ℕ = second * 4294967296 + first in
+    let word : ℕ = first * 4294967296 + second in
     let x : ℕ = y * 10 + y / 256 in
     let a : AreDigits 8 y = digits_are 8 word 3472328296227680304 8536140394893047414 y digits_wide s in
-    let t : AreTens x y = are_tens x y a refl in
-    let t0 = t.at_0 in
-    let t2 : x / 65536 % 256 ≡ y / 256 / 256 % 256 * 10 + y / 256 / 256 / 256 % 256 = ap (λ m. m % 256) (shift_2 x) ∙ t.at_2 in
-    let t4 : x / 4294967296 % 256 ≡ y / 256 / 256 / 256 / 256 % 256 * 10 + y / 256 / 256 / 256 / 256 / 256 % 256 = ap (λ m. m % 256) (shift_4 x) ∙ t.at_4 in
-    let t6 : x / 65536 / 4294967296 % 256 ≡ y / 256 / 256 / 256 / 256 / 256 / 256 % 256 * 10 + y / 256 / 256 / 256 / 256 / 256 / 256 / 256 % 256 = ap (λ m. m % 256) (ap (λ m. m / 4294967296) (shift_2 x) ∙ shift_4 (x / 256 / 256)) ∙ t.at_6 in
+    let t : AreTens 7 x y = are_tens 7 x y a refl in
+    let t0 = t.0 in
+    let t2 : x / 65536 % 256 ≡ y / 256 / 256 % 256 * 10 + y / 256 / 256 / 256 % 256 = ap (λ m. m % 256) (shift_2 x) ∙ t.1.1.0 in
+    let t4 : x / 4294967296 % 256 ≡ y / 256 / 256 / 256 / 256 % 256 * 10 + y / 256 / 256 / 256 / 256 / 256 % 256 = ap (λ m. m % 256) (shift_4 x) ∙ t.1.1.1.1.0 in
+    let t6 : x / 65536 / 4294967296 % 256 ≡ y / 256 / 256 / 256 / 256 / 256 / 256 % 256 * 10 + y / 256 / 256 / 256 / 256 / 256 / 256 / 256 % 256 = ap (λ m. m % 256) (ap (λ m. m / 4294967296) (shift_2 x) ∙ shift_4 (x / 256 / 256)) ∙ t.1.1.1.1.1.1.0 in
     let both : bit_and x 1095216660735 * 100 + bit_and (x / 65536) 1095216660735 ≡
     ((y / 256 / 256 / 256 / 256 % 256 * 10 + y / 256 / 256 / 256 / 256 / 256 % 256) * 100 + (y / 256 / 256 / 256 / 256 / 256 / 256 % 256 * 10 + y / 256 / 256 / 256 / 256 / 256 / 256 / 256 % 256)) * 4294967296 + ((y % 256 * 10 + y / 256 % 256) * 100 + (y / 256 / 256 % 256 * 10 + y / 256 / 256 / 256 % 256)) = omega (arith, lanes x, lanes (x / 65536)) in
     let a0 = a.0 in let a1 = a.1.0 in let a2 = a.1.1.0 in let a3 = a.1.1.1.0 in
-    let lower : low ≡ ((y % 256 * 10 + y / 256 % 256) * 10 + y / 256 / 256 % 256) * 10 + y / 256 / 256 / 256 % 256 = l ∙ ap (λ m. m % 4294967296) both ∙ omega arith in
-    let upper : high ≡ ((y / 256 / 256 / 256 / 256 % 256 * 10 + y / 256 / 256 / 256 / 256 / 256 % 256) * 10 + y / 256 / 256 / 256 / 256 / 256 / 256 % 256) * 10 + y / 256 / 256 / 256 / 256 / 256 / 256 / 256 % 256 = u ∙ ap (λ m. m / 4294967296) both ∙ omega arith in
-    let eight : bytes 4 first ++ bytes 4 second ≡ (48 + y % 256) ∷ (48 + y / 256 % 256) ∷ (48 + y / 256 / 256 % 256) ∷ (48 + y / 256 / 256 / 256 % 256) ∷ (48 + y / 256 / 256 / 256 / 256 % 256) ∷ (48 + y / 256 / 256 / 256 / 256 / 256 % 256) ∷ (48 + y / 256 / 256 / 256 / 256 / 256 / 256 % 256) ∷ (48 + y / 256 / 256 / 256 / 256 / 256 / 256 / 256 % 256) ∷ [] =
-    sym (two_words first second fits) ∙ spread_bytes word 3472328296227680304 8536140394893047414 y s in
-    let four : bytes 4 first ≡ (48 + y % 256) ∷ (48 + y / 256 % 256) ∷ (48 + y / 256 / 256 % 256) ∷ (48 + y / 256 / 256 / 256 % 256) ∷ [] = ap (take 4) eight in
-    let other : bytes 4 second ≡ (48 + y / 256 / 256 / 256 / 256 % 256) ∷ (48 + y / 256 / 256 / 256 / 256 / 256 % 256) ∷ (48 + y / 256 / 256 / 256 / 256 / 256 / 256 % 256) ∷ (48 + y / 256 / 256 / 256 / 256 / 256 / 256 / 256 % 256) ∷ [] = ap (drop 4) eight in
-    fours_text text (drop 10 text) (y % 256) (y / 256 % 256) (y / 256 / 256 % 256) (y / 256 / 256 / 256 % 256) (y / 256 / 256 / 256 / 256 % 256) (y / 256 / 256 / 256 / 256 / 256 % 256) (y / 256 / 256 / 256 / 256 / 256 / 256 % 256) (y / 256 / 256 / 256 / 256 / 256 / 256 / 256 % 256) low high
-    (ten_first text first second long hyphen comma f g ∙ (λ i. four i ++ 45 ∷ (other i ++ 44 ∷ drop 10 text)))
-    a0 a1 a2 a3 a.1.1.1.1.0 a.1.1.1.1.1.0 a.1.1.1.1.1.1.0 a.1.1.1.1.1.1.1.0 lower upper low' (omega arith)
+    let a4 = a.1.1.1.1.0 in let a5 = a.1.1.1.1.1.0 in let a6 = a.1.1.1.1.1.1.0 in let a7 = a.1.1.1.1.1.1.1.0 in
+    let lower : low ≡ ((y / 256 / 256 / 256 / 256 % 256 * 10 + y / 256 / 256 / 256 / 256 / 256 % 256) * 10 + y / 256 / 256 / 256 / 256 / 256 / 256 % 256) * 10 + y / 256 / 256 / 256 / 256 / 256 / 256 / 256 % 256 = l ∙ ap (λ m. m / 4294967296) both ∙ omega arith in
+    let upper : high ≡ ((y % 256 * 10 + y / 256 % 256) * 10 + y / 256 / 256 % 256) * 10 + y / 256 / 256 / 256 % 256 = u ∙ ap (λ m. m % 4294967296) both ∙ omega arith in
+    let eight : bytes 4 second ++ bytes 4 first ≡ (48 + y % 256) ∷ (48 + y / 256 % 256) ∷ (48 + y / 256 / 256 % 256) ∷ (48 + y / 256 / 256 / 256 % 256) ∷ (48 + y / 256 / 256 / 256 / 256 % 256) ∷ (48 + y / 256 / 256 / 256 / 256 / 256 % 256) ∷ (48 + y / 256 / 256 / 256 / 256 / 256 / 256 % 256) ∷ (48 + y / 256 / 256 / 256 / 256 / 256 / 256 / 256 % 256) ∷ [] =
+    sym (two_words second first fits) ∙ spread_bytes word 3472328296227680304 8536140394893047414 y s in
+    let right : bytes 4 second ≡ (48 + y % 256) ∷ (48 + y / 256 % 256) ∷ (48 + y / 256 / 256 % 256) ∷ (48 + y / 256 / 256 / 256 % 256) ∷ [] = ap (take 4) eight in
+    let left : bytes 4 first ≡ (48 + y / 256 / 256 / 256 / 256 % 256) ∷ (48 + y / 256 / 256 / 256 / 256 / 256 % 256) ∷ (48 + y / 256 / 256 / 256 / 256 / 256 / 256 % 256) ∷ (48 + y / 256 / 256 / 256 / 256 / 256 / 256 / 256 % 256) ∷ [] = ap (drop 4) eight in
+    fours_text text (drop 10 text) (y / 256 / 256 / 256 / 256 % 256) (y / 256 / 256 / 256 / 256 / 256 % 256) (y / 256 / 256 / 256 / 256 / 256 / 256 % 256) (y / 256 / 256 / 256 / 256 / 256 / 256 / 256 % 256) (y % 256) (y / 256 % 256) (y / 256 / 256 % 256) (y / 256 / 256 / 256 % 256) low high
+    (ten_first text first second long hyphen comma f g ∙ (λ i. left i ++ 45 ∷ (right i ++ 44 ∷ drop 10 text)))
+    a.1.1.1.1.0 a.1.1.1.1.1.0 a.1.1.1.1.1.1.0 a.1.1.1.1.1.1.1.0 a0 a1 a2 a3 lower upper low' (omega arith)
     ∙ ap (pair_before (record { low = low; high = high }) true) (sym (take_rest text 10))

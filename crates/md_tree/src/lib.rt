@@ -5,16 +5,19 @@
 ghost use Rattle.std.specs.Prelude.{◌≡◌, ◌<◌, length, vec_len, slice_index_or};
 ghost use Rattle.md_tree.specs.Plain.{trees_of};
 
+mod alike_pairs;
 mod builder;
 mod cotree;
 mod grammar;
 mod growing;
 pub mod laws;
 mod numbers;
+mod pair_order;
 mod pair_reader;
 mod pair_writer;
 mod parts;
 mod reader;
+mod short_pairs;
 mod sparse_pairs;
 mod tree_graph;
 mod words;

@@ -12,7 +12,9 @@ ghost use Rattle.md_tree.specs.Held.{LacksEnd, IsEnd, LacksPairs, LacksPair, Lac
 use crate::grammar::skip_byte;
 use crate::growing::append;
 use crate::numbers::{digit, small_number};
-use crate::sparse_pairs::{is_before, is_of_positions, read_sparse, sparse_pair};
+use crate::pair_order::still_listed;
+use crate::short_pairs::short_pair;
+use crate::sparse_pairs::{read_run, sparse_pair};
 use crate::words::word;
 use crate::{Kind, Pair};
 use md_graph::Memory;
@@ -98,7 +100,7 @@ fn read_pairs<'a>(
         if !more {
             return Ok(Some((pairs, listed, tail)));
         }
-        let (next, far) = read_run(rest, pair, tail, last.low, count, &mut pairs)?;
+        let (next, far) = read_run(pair, tail, count, &mut pairs)?;
         last = next;
         rest = far;
     }
@@ -110,10 +112,22 @@ fn read_pair<'a>(text: &'a [u8]) -> Option<(Pair, bool, &'a [u8])>
     ensures { MatchOption result (LacksPair text.now)
         (λ p. text.now ≡ pair_before p.0 p.1 p.2.now) }
 {
-    if let Some((pair, tail)) = sparse_pair(text) {
+    if let Some((pair, tail)) = quick_pair(text) {
         return Some((pair, true, tail));
     }
     read_any_pair(text)
+}
+
+// The pair that a text begins with, and what stands behind its comma, if it is of numbers of few
+// digits, the lower one first; none if no such pair is there, or if little text is left.
+#[inline(always)]
+fn quick_pair<'a>(text: &'a [u8]) -> Option<(Pair, &'a [u8])>
+    ensures { IfSome result (λ p. text.now ≡ pair_before p.0 true p.1.now) }
+{
+    if let Some(short) = short_pair(text) {
+        return Some(short);
+    }
+    sparse_pair(text)
 }
 
 // The same, a number at a time.
@@ -135,119 +149,4 @@ fn read_any_pair<'a>(text: &'a [u8]) -> Option<(Pair, bool, &'a [u8])>
         return Some((Pair { low, high }, false, tail));
     }
     None
-}
-
-// Whether pairs may be listed with one more behind the last of them.
-#[inline(always)]
-fn still_listed(listed: bool, last: Pair, pair: Pair, count: usize) -> bool
-    ensures { IsTrue result ↔ (IsTrue listed × MayFollow count last pair) }
-{
-    listed && is_before(last, pair) && is_of_positions(pair, count)
-}
-
-// Goes on past pairs that are like the one before, if that has the lower position of the pair
-// before it, the `last` one; and where there are none, past those of a sparse node.
-#[inline(always)]
-fn read_run<'a>(
-    text: &'a [u8],
-    pair: Pair,
-    tail: &'a [u8],
-    last: u32,
-    count: usize,
-    pairs: &mut Vec<Pair>,
-) -> Result<(Pair, &'a [u8]), Memory>
-    requires few { count ≤ NAMES }
-    requires read { text.now ≡ pair_before pair true tail.now }
-    ensures { IfOk result
-        (λ r. ReadsOn count tail.now pairs.old.items pair r.1.now pairs.new.items r.0) }
-{
-    if pair.high < 100 {
-        return Ok((pair, tail));
-    }
-    if pair.low != last {
-        return read_sparse(pair, tail, count, pairs);
-    }
-    let (next, rest) = read_alike(text, pair, tail, count, pairs)?;
-    if next.high != pair.high {
-        return Ok((next, rest));
-    }
-    read_sparse(next, rest, count, pairs)
-}
-
-// Goes on past the pairs that are spelled as the one before but for the last two digits, as long as
-// they ascend. Nearly all are; what is no such pair is left to be read as any other. Never inlined,
-// so that its loop has the registers to itself.
-#[inline(never)]
-fn read_alike<'a>(
-    text: &'a [u8],
-    pair: Pair,
-    tail: &'a [u8],
-    count: usize,
-    pairs: &mut Vec<Pair>,
-) -> Result<(Pair, &'a [u8]), Memory>
-    requires few { count ≤ NAMES }
-    requires read { text.now ≡ pair_before pair true tail.now }
-    ensures { IfOk result
-        (λ r. ReadsOn count tail.now pairs.old.items pair r.1.now pairs.new.items r.0) }
-{
-    let used = text.len() - tail.len();
-    if used < 7 || used > 11 || pair.high < 100 || pair.high <= pair.low {
-        return Ok((pair, tail));
-    }
-    if pair.high as usize >= count {
-        return Ok((pair, tail));
-    }
-    let front = used - 3;
-    let hundred = pair.high - pair.high % 100;
-    let begin = word(text, 0);
-    let end = word(text, front - 4);
-    let mut rest = tail;
-    let mut high = pair.high;
-    loop {
-        let Some((tens, ones, behind)) = last_digits(rest, front, begin, end) else {
-            break;
-        };
-        let next = hundred + (tens * 10 + ones);
-        if next <= high || next as usize >= count {
-            break;
-        }
-        high = next;
-        append(
-            pairs,
-            Pair {
-                low: pair.low,
-                high,
-            },
-        )?;
-        rest = behind;
-    }
-    Ok((
-        Pair {
-            low: pair.low,
-            high,
-        },
-        rest,
-    ))
-}
-
-// The two digits and the comma behind the first `front` bytes, where those are the ones wanted.
-#[inline(always)]
-fn last_digits<'a>(
-    text: &'a [u8],
-    front: usize,
-    begin: u32,
-    end: u32,
-) -> Option<(u32, u32, &'a [u8])>
-    requires { (4 ≤ front) × (front ≤ 8) }
-    ensures { IfSome result (λ p. IsAlike text.now front begin end p.0 p.1 p.2.now) }
-{
-    if text.len() < front + 3 {
-        return None;
-    }
-    if word(text, 0) != begin || word(text, front - 4) != end || text[front + 2] != b',' {
-        return None;
-    }
-    let tens = digit(text[front])?;
-    let ones = digit(text[front + 1])?;
-    Some((tens, ones, &text[front + 3..]))
 }

@@ -1,16 +1,17 @@
-//! Reads the pairs of a sparse prime node, of numbers of three or four digits.
+//! Reads pairs one behind the other, a word each.
 ghost use Rattle.std.specs.Prelude.{◌≡◌, ◌<◌, ◌≤◌, ◌↔◌, true, length, slice_index, IfOk, IfSome, IsTrue};
+ghost use Rattle.md_graph.specs.declared.TheConstants.{NAMES};
 ghost use Rattle.md_tree.specs.declared.Pair.{Pair};
 ghost use Rattle.md_tree.specs.StrongTrees.{IsPairBefore};
 ghost use Rattle.md_tree.specs.Held.{pair_before, ReadsOn};
 
 use crate::Pair;
+use crate::alike_pairs::read_alike;
 use crate::growing::append;
+use crate::pair_order::{is_of_positions, rank};
+use crate::short_pairs::{one_digit_pair, two_digits_pair};
 use crate::words::{long_word, spread, word};
 use md_graph::Memory;
-
-// So near to the one before, a pair of the same lower position is left to be read with those alike.
-const NEAR: u64 = 1;
 
 // Eight digits that are 0, the first one in the lowest byte; and how far each may rise: by 9, with
 // which the limit stays below 128.
@@ -31,20 +32,27 @@ const THREE_AND_FOUR_LIMITS: u64 = 0x7676_7676_7f76_7676;
 // The lowest byte of either half.
 const LANES: u64 = 0x0000_00ff_0000_00ff;
 
-// Goes on past pairs of numbers of three or four digits behind such a pair, as long as they ascend
-// and none is near to the one before. Their digits stand at fixed places, and are read as one word.
+// Goes on past pairs behind a pair whose lower number has as many digits, as long as they ascend.
+// Their digits stand at one of few places, and are read as one word.
 #[inline(always)]
-pub(crate) fn read_sparse<'a>(
+pub(crate) fn read_run<'a>(
     pair: Pair,
     tail: &'a [u8],
     count: usize,
     pairs: &mut Vec<Pair>,
 ) -> Result<(Pair, &'a [u8]), Memory>
+    requires { count ≤ NAMES }
     ensures { IfOk result
         (λ r. ReadsOn count tail.now pairs.old.items pair r.1.now pairs.new.items r.0) }
 {
-    if pair.low < 100 {
+    if pair.low >= pair.high {
         return Ok((pair, tail));
+    }
+    if pair.low < 10 {
+        return read_ones(pair, tail, count, pairs);
+    }
+    if pair.low < 100 {
+        return read_twos(pair, tail, count, pairs);
     }
     if pair.low < 1000 {
         return read_threes(pair, tail, count, pairs);
@@ -61,7 +69,9 @@ fn read_fours<'a>(
     count: usize,
     pairs: &mut Vec<Pair>,
 ) -> Result<(Pair, &'a [u8]), Memory>
-    requires { 1000 ≤ pair.low }
+    requires few { count ≤ NAMES }
+    requires from { 1000 ≤ pair.low }
+    requires up { pair.low < pair.high }
     ensures { IfOk result
         (λ r. ReadsOn count tail.now pairs.old.items pair r.1.now pairs.new.items r.0) }
 {
@@ -76,14 +86,49 @@ fn read_threes<'a>(
     count: usize,
     pairs: &mut Vec<Pair>,
 ) -> Result<(Pair, &'a [u8]), Memory>
-    requires { 100 ≤ pair.low }
+    requires few { count ≤ NAMES }
+    requires from { 100 ≤ pair.low }
+    requires up { pair.low < pair.high }
     ensures { IfOk result
         (λ r. ReadsOn count tail.now pairs.old.items pair r.1.now pairs.new.items r.0) }
 {
     read_wide(100, pair, tail, count, pairs)
 }
 
-// The same behind a lower number of as many digits as the least one, 100 or 1000.
+// The same behind a lower number of two digits.
+#[inline(never)]
+fn read_twos<'a>(
+    pair: Pair,
+    tail: &'a [u8],
+    count: usize,
+    pairs: &mut Vec<Pair>,
+) -> Result<(Pair, &'a [u8]), Memory>
+    requires few { count ≤ NAMES }
+    requires from { 10 ≤ pair.low }
+    requires up { pair.low < pair.high }
+    ensures { IfOk result
+        (λ r. ReadsOn count tail.now pairs.old.items pair r.1.now pairs.new.items r.0) }
+{
+    read_wide(10, pair, tail, count, pairs)
+}
+
+// The same behind a lower number of one digit.
+#[inline(never)]
+fn read_ones<'a>(
+    pair: Pair,
+    tail: &'a [u8],
+    count: usize,
+    pairs: &mut Vec<Pair>,
+) -> Result<(Pair, &'a [u8]), Memory>
+    requires few { count ≤ NAMES }
+    requires up { pair.low < pair.high }
+    ensures { IfOk result
+        (λ r. ReadsOn count tail.now pairs.old.items pair r.1.now pairs.new.items r.0) }
+{
+    read_wide(0, pair, tail, count, pairs)
+}
+
+// The same behind a lower number of as many digits as the least one, 0, 10, 100 or 1000.
 #[inline(always)]
 fn read_wide<'a>(
     least: u32,
@@ -92,47 +137,50 @@ fn read_wide<'a>(
     count: usize,
     pairs: &mut Vec<Pair>,
 ) -> Result<(Pair, &'a [u8]), Memory>
-    requires long { 100 ≤ least }
+    requires few { count ≤ NAMES }
     requires from { least ≤ pair.low }
+    requires up { pair.low < pair.high }
     ensures { IfOk result
         (λ r. ReadsOn count tail.now pairs.old.items pair r.1.now pairs.new.items r.0) }
 {
     let mut rest = tail;
-    let mut last = pair;
+    let mut last = rank(pair);
     loop {
         let Some((next, behind)) = wide_pair(rest, least) else {
             break;
         };
-        if !is_well_before(last, next) || !is_of_positions(next, count) {
+        let place = rank(next);
+        if place <= last + near(least) {
+            if place <= last || !is_of_positions(next, count) {
+                break;
+            }
+            append(pairs, next)?;
+            let (far, end) = read_alike(rest, next, behind, count, pairs)?;
+            last = rank(far);
+            rest = end;
+            continue;
+        }
+        if !is_of_positions(next, count) {
             break;
         }
         append(pairs, next)?;
-        last = next;
+        last = place;
         rest = behind;
     }
-    Ok((last, rest))
+    let low = (last / 0x1_0000_0000) as u32;
+    let high = (last % 0x1_0000_0000) as u32;
+    Ok((Pair { low, high }, rest))
 }
 
+// So near to the one before, a pair is likely to be followed by others that are spelled alike.
 #[inline(always)]
-fn is_well_before(first: Pair, second: Pair) -> bool
-    ensures { IsTrue result → IsPairBefore first second }
+fn near(least: u32) -> u64
+    ensures { result ≤ 1 }
 {
-    first.low < second.low
-        || first.low == second.low && u64::from(first.high) + NEAR < u64::from(second.high)
-}
-
-#[inline(always)]
-pub(crate) fn is_before(first: Pair, second: Pair) -> bool
-    ensures { IsTrue result ↔ IsPairBefore first second }
-{
-    first.low < second.low || first.low == second.low && first.high < second.high
-}
-
-#[inline(always)]
-pub(crate) fn is_of_positions(pair: Pair, count: usize) -> bool
-    ensures { IsTrue result ↔ ((pair.low < pair.high) × (pair.high < count)) }
-{
-    pair.low < pair.high && (pair.high as usize) < count
+    if least < 100 {
+        return 0;
+    }
+    1
 }
 
 // The pair that a text begins with, and what stands behind its comma, if it is of numbers of three
@@ -165,10 +213,15 @@ fn least_low(text: &[u8]) -> u32
 // zero may stand before the digits.
 #[inline(always)]
 fn wide_pair<'a>(text: &'a [u8], least: u32) -> Option<(Pair, &'a [u8])>
-    requires { 100 ≤ least }
     ensures { IfSome result (λ p. least ≤ p.0.low → p.0.low < p.0.high
         → text.now ≡ pair_before p.0 true p.1.now) }
 {
+    if least < 10 {
+        return one_digit_pair(text);
+    }
+    if least < 100 {
+        return two_digits_pair(text);
+    }
     if text.len() < 10 {
         return None;
     }
@@ -192,12 +245,12 @@ fn pair_of_fours<'a>(text: &'a [u8]) -> Option<(Pair, &'a [u8])>
     if text[4] != b'-' || text[9] != b',' {
         return None;
     }
-    let both = u64::from(word(text, 5)) * 0x1_0000_0000 + u64::from(word(text, 0));
+    let both = u64::from(word(text, 0)) * 0x1_0000_0000 + u64::from(word(text, 5));
     let digits = spread(both, DIGITS, DIGIT_LIMITS)?;
     let tens = digits * 10 + digits / 0x100;
     let numbers = (tens & LANES) * 100 + (tens / 0x1_0000 & LANES);
-    let low = (numbers % 0x1_0000_0000) as u32;
-    let high = (numbers / 0x1_0000_0000) as u32;
+    let low = (numbers / 0x1_0000_0000) as u32;
+    let high = (numbers % 0x1_0000_0000) as u32;
     Some((Pair { low, high }, &text[10..]))
 }
 
@@ -209,7 +262,8 @@ fn pair_of_three_and_four<'a>(text: &'a [u8]) -> Option<(Pair, &'a [u8])>
     ensures { IfSome result (λ p. 100 ≤ p.0.low → p.0.low < p.0.high
         → text.now ≡ pair_before p.0 true p.1.now) }
 {
-    let digits = spread(long_word(text), THREE_AND_FOUR, THREE_AND_FOUR_LIMITS)?;
+    let word = long_word(text)?;
+    let digits = spread(word, THREE_AND_FOUR, THREE_AND_FOUR_LIMITS)?;
     let tens = digits * 10 + digits / 0x100;
     let low = (digits % 0x100 * 100 + tens / 0x100 % 0x100) as u32;
     let high = (tens / 0x1_0000_0000 % 0x100 * 100 + tens / 0x1_0000_0000_0000 % 0x100) as u32;
@@ -226,7 +280,8 @@ fn pair_of_threes<'a>(text: &'a [u8]) -> Option<(Pair, &'a [u8])>
     ensures { IfSome result (λ p. 100 ≤ p.0.low → p.0.low < p.0.high
         → text.now ≡ pair_before p.0 true p.1.now) }
 {
-    let digits = spread(long_word(text), THREES, THREE_LIMITS)?;
+    let word = long_word(text)?;
+    let digits = spread(word, THREES, THREE_LIMITS)?;
     let tens = digits * 10 + digits / 0x100;
     let low = (digits % 0x100 * 100 + tens / 0x100 % 0x100) as u32;
     let high = (digits / 0x1_0000_0000 % 0x100 * 100 + tens / 0x100_0000_0000 % 0x100) as u32;

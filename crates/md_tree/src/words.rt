@@ -1,5 +1,5 @@
 //! Several bytes of a text as one number, and the digits that they spell.
-ghost use Rattle.std.specs.Prelude.{◌≡◌, ◌+◌, ◌≤◌, length, take, drop, IfSome};
+ghost use Rattle.std.specs.Prelude.{◌≡◌, ◌+◌, ◌*◌, ◌/◌, ◌%◌, ◌^◌, ◌≤◌, length, take, drop, IfSome};
 ghost use Rattle.md_tree.specs.Words.{word_bytes, long_word_bytes, AreLow, IsSpread};
 
 // The highest bit of each byte.
@@ -14,15 +14,15 @@ pub fn word(text: &[u8], at: usize) -> u32
     u32::from_le_bytes([text[at], text[at + 1], text[at + 2], text[at + 3]])
 }
 
-// The first eight bytes of a text as one number.
+// The first eight bytes of a text as one number; none if it has fewer. They are taken as an array,
+// so that they stay one word where single ones of them are looked at too.
 #[inline(always)]
-pub(crate) fn long_word(text: &[u8]) -> u64
-    requires { 8 ≤ length text.now }
-    ensures { long_word_bytes result ≡ take 8 text.now }
+pub(crate) fn long_word(text: &[u8]) -> Option<u64>
+    ensures { IfSome result
+        (λ word. (8 ≤ length text.now) × (long_word_bytes word ≡ take 8 text.now)) }
 {
-    u64::from_le_bytes([
-        text[0], text[1], text[2], text[3], text[4], text[5], text[6], text[7],
-    ])
+    let bytes = text.first_chunk::<8>()?;
+    Some(u64::from_le_bytes(*bytes))
 }
 
 // What each byte of a word is above that of `base`, if with that of `limits` it stays below 128.
@@ -33,11 +33,16 @@ pub(crate) fn spread(word: u64, base: u64, limits: u64) -> Option<u64>
     ensures { IfSome result (λ digits. IsSpread 8 word base limits digits) }
 {
     let digits = word.wrapping_sub(base);
-    if digits & HIGHEST != 0 {
-        return None;
-    }
-    if digits.wrapping_add(limits) & HIGHEST != 0 {
+    if (digits | digits.wrapping_add(limits)) & HIGHEST != 0 {
         return None;
     }
     Some(digits)
+}
+
+// Ten times each digit and the digit behind it, each in the byte of the former.
+#[inline(always)]
+pub(crate) fn tens(digits: u64) -> u64
+    ensures { result ≡ ((digits * 10) % 2 ^ 64 + digits / 256) % 2 ^ 64 }
+{
+    digits.wrapping_mul(10).wrapping_add(digits / 0x100)
 }

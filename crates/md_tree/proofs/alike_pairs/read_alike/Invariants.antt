@@ -1,6 +1,6 @@
 use Rattle.std.proofs.Common.{◌≤◌, length}
 use Rattle.md_tree.specs.Held.{ReadsOn}
-use Rattle.md_tree.proofs.pair_reader.read_alike.Given as goal
+use Rattle.md_tree.proofs.alike_pairs.read_alike.Given as goal
 
 abbrev pub invariant-loop-tens : goal.invariant-loop-tens
 invariant-loop-tens l = record {

@@ -4,7 +4,7 @@ use Rattle.md_graph.proofs.Limits.{NAMES-lt}
 use Rattle.md_tree.specs.Held.{ReadsOn}
 use Rattle.md_tree.proofs.Numerals.{pair_shorter}
 use Rattle.md_tree.proofs.Alike.{alike_pair, front_is, reads_more}
-use Rattle.md_tree.proofs.pair_reader.read_alike.Goals as goal
+use Rattle.md_tree.proofs.alike_pairs.read_alike.Goals as goal
 
 pub overflow_add-next-in-loop-tens : goal.overflow_add-next-in-loop-tens
 overflow_add-next-in-loop-tens c =

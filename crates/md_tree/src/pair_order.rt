@@ -1,0 +1,37 @@
+//! The order in which a prime node lists its pairs, and the positions that they may be of.
+ghost use Rattle.std.specs.Prelude.{◌≡◌, ◌<◌, ◌+◌, ◌*◌, ◌↔◌, IsTrue};
+ghost use Rattle.md_tree.specs.StrongTrees.{IsPairBefore};
+ghost use Rattle.md_tree.specs.Held.{MayFollow};
+
+use crate::Pair;
+
+// Whether pairs may be listed with one more behind the last of them.
+#[inline(always)]
+pub(crate) fn still_listed(listed: bool, last: Pair, pair: Pair, count: usize) -> bool
+    ensures { IsTrue result ↔ (IsTrue listed × MayFollow count last pair) }
+{
+    listed && is_before(last, pair) && is_of_positions(pair, count)
+}
+
+#[inline(always)]
+fn is_before(first: Pair, second: Pair) -> bool
+    ensures { IsTrue result ↔ IsPairBefore first second }
+{
+    first.low < second.low || first.low == second.low && first.high < second.high
+}
+
+#[inline(always)]
+pub(crate) fn is_of_positions(pair: Pair, count: usize) -> bool
+    ensures { IsTrue result ↔ ((pair.low < pair.high) × (pair.high < count)) }
+{
+    pair.low < pair.high && (pair.high as usize) < count
+}
+
+// A number that rises from pair to pair.
+#[inline(always)]
+pub(crate) fn rank(pair: Pair) -> u64
+    ensures is { result ≡ pair.low * 4294967296 + pair.high }
+    ensures fits { pair.high < 4294967296 }
+{
+    u64::from(pair.low) * 0x1_0000_0000 + u64::from(pair.high)
+}
