@@ -35,8 +35,9 @@ pub(crate) fn refined_classes<const W: usize>(
     Ok(made)
 }
 
-// The names of `rest` in classes that are cut by the neighbours of each member of `set`, each but
-// the class of that member.
+// The names of `rest` in classes that are cut by the neighbours of members of `set`, each but the
+// class of that member. Those outside `rest` come first, and then always one that is adjacent to an
+// earlier one: it stands in another class than the names that no row has cut off yet.
 fn cut_by_rows<const W: usize>(
     alloc: Global,
     graph: &GraphOf<W>,
@@ -49,10 +50,17 @@ fn cut_by_rows<const W: usize>(
     let _members = rest.members();
     let count = rest.count();
     let mut partition = Partition::new(alloc, rest)?;
-    for p in set.members() {
+    let mut near = set.minus(rest);
+    let mut left = set.and(rest);
+    for _ in 0..set.count() {
+        let Some(p) = near.first_from(0) else {
+            return Ok(partition);
+        };
         if partition.class_count() == count {
             return Ok(partition);
         }
+        near.remove(p);
+        left.move_shared(graph.row(p), &mut near);
         partition.refine_outside(p, graph.row(p));
     }
     Ok(partition)
