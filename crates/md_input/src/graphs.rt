@@ -91,11 +91,8 @@ impl<'a> Graphs<'a> {
         ensures err { IsErr result → self.new ≡ self.old }
         ensures err_room { IsErr result → room.new ≡ empty_graph }
     {
-        if self.first.is_some() {
-            if let Some(first) = self.first.take() {
-                room.put(first);
-                return Ok(true);
-            }
+        if self.first.is_some() && room.put(&mut self.first) {
+            return Ok(true);
         }
         if self.lines.is_next_small() {
             return Ok(room.fill_small(&mut self.lines));

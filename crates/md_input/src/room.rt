@@ -1,5 +1,5 @@
 //! Room for one graph after the other, whatever their sizes.
-ghost use Rattle.std.specs.Prelude.{◌≡◌, [], ◌∷◌, IfOk, IsErr};
+ghost use Rattle.std.specs.Prelude.{◌≡◌, [], ◌∷◌, None, Some, IfOk, IsErr};
 ghost use Rattle.std.specs.Bool.{OnTrue, OnFalse};
 ghost use Rattle.md_graph.specs.PlainGraph.{empty_graph};
 ghost use Rattle.md_graph6.specs.First.{FirstBelow};
@@ -74,18 +74,27 @@ impl Room {
         }
     }
 
-    // The graph comes into the room, a small one with one word a row. Condition: the one in it has
-    // no vertices.
-    pub(crate) fn put(&mut self, graph: Graph)
+    // The graph that is read already, if there is one, comes into the room, a small one with one word
+    // a row; false where there is none. Condition: the graph in the room has no vertices. Never
+    // inlined, so that graphs of lines don't pay for its room.
+    #[inline(never)]
+    pub(crate) fn put(&mut self, first: &mut Option<Graph>) -> bool
         requires { self.old ≡ empty_graph }
-        ensures { self.new ≡ graph }
+        ensures put { OnTrue result (first.old ≡ Some self.new) }
+        ensures none { OnFalse result (first.old ≡ None) }
+        ensures taken { first.new ≡ None }
+        ensures stays { OnFalse result (self.new ≡ empty_graph) }
     {
+        let Some(graph) = first.take() else {
+            return false;
+        };
         self.is_large = !is_small(&graph);
         if self.is_large {
             self.large = Some(graph);
         } else {
             narrow(&graph, &mut self.small);
         }
+        true
     }
 
     // The next graph of the lines comes into the room for small ones; false where none is left, and
