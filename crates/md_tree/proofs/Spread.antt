@@ -138,7 +138,7 @@ digits_wide = (omega arith, (omega arith, (omega arith, (omega arith, (omega ari
 threes_wide : AreWide 8 9184658741385393782
 threes_wide = (omega arith, (omega arith, (omega arith, (omega arith, (omega arith, (omega arith, (omega arith, (omega arith, tt))))))))
 
-three_and_four_wide : AreWide 8 8536140395044042358
+three_and_four_wide : AreWide 8 8536140399339009654
 three_and_four_wide = (omega arith, (omega arith, (omega arith, (omega arith, (omega arith, (omega arith, (omega arith, (omega arith, tt))))))))
 
 -- two numbers of three digits
@@ -193,22 +193,25 @@ threes text word y low high is s l u low' up =
     (l ∙ ap (λ m. y % 256 * 100 + m) low_1 ∙ omega arith) (u ∙ (λ i. high_0 i * 100 + high_1 i) ∙ omega arith) low' (omega arith)
     ∙ ap (pair_before (record { low = low; high = high }) true) (sym (take_rest text 8))
 
-pub three_and_four : (text : List ℕ) (word y low high : ℕ) → 10 ≤ length text → get_or text 8 0 ≡ 44 → long_word_bytes word ≡ take 8 text → IsSpread 8 word 3472328296177348656 8536140395044042358 y →
-    low ≡ y % 256 * 100 + (y * 10 + y / 256) / 256 % 256 → high ≡ (y * 10 + y / 256) / 4294967296 % 256 * 100 + (y * 10 + y / 256) / 281474976710656 % 256 → 1000 ≤ high → 100 ≤ low →
+pub three_and_four : (text : List ℕ) (word y low high : ℕ) → 10 ≤ length text → get_or text 8 0 ≡ 44 → long_word_bytes word ≡ take 8 text → IsSpread 8 word 3472328300472315952 8536140399339009654 y →
+    low ≡ y % 256 * 100 + (y * 10 + y / 256) / 256 % 256 → high ≡ (y * 10 + y / 256) / 4294967296 % 256 * 100 + (y * 10 + y / 256) / 4294967296 / 65536 % 256 + 1000 → 100 ≤ low →
     text ≡ pair_before (record { low = low; high = high }) true (take (length text - 9) (drop 9 text))
-three_and_four text word y low high long mark is s l u high' low' =
+three_and_four text word y low high long mark is s l u low' =
     let x : ℕ = y * 10 + y / 256 in
-    let a : AreDigits 8 y = digits_are 8 word 3472328296177348656 8536140395044042358 y three_and_four_wide s in
+    let a : AreDigits 8 y = digits_are 8 word 3472328300472315952 8536140399339009654 y three_and_four_wide s in
     let t : AreTens 7 x y = are_tens 7 x y a refl in
     let hyphen = s.1.1.1.0.1 in
+    let first = s.1.1.1.1.0.1 in
+    let e : 49 + y / 256 / 256 / 256 / 256 % 256 ≡ 48 + (y / 256 / 256 / 256 / 256 % 256 + 1) = omega arith in
     let high_0 : x / 4294967296 % 256 ≡ y / 256 / 256 / 256 / 256 % 256 * 10 + y / 256 / 256 / 256 / 256 / 256 % 256 = ap (λ m. m % 256) (shift_4 x) ∙ t.1.1.1.1.0 in
-    let high_1 : x / 281474976710656 % 256 ≡ y / 256 / 256 / 256 / 256 / 256 / 256 % 256 * 10 + y / 256 / 256 / 256 / 256 / 256 / 256 / 256 % 256 = ap (λ m. m % 256) (shift_6 x) ∙ t.1.1.1.1.1.1.0 in
+    let high_1 : x / 4294967296 / 65536 % 256 ≡ y / 256 / 256 / 256 / 256 / 256 / 256 % 256 * 10 + y / 256 / 256 / 256 / 256 / 256 / 256 / 256 % 256 = ap (λ m. m % 256) (ap (λ m. m / 65536) (shift_4 x) ∙ shift_2 (x / 256 / 256 / 256 / 256)) ∙ t.1.1.1.1.1.1.0 in
     let low_1 = t.1.0 in
-    three_and_four_text text (drop 9 text) (y % 256) (y / 256 % 256) (y / 256 / 256 % 256) (y / 256 / 256 / 256 % 256) (y / 256 / 256 / 256 / 256 % 256) (y / 256 / 256 / 256 / 256 / 256 % 256) (y / 256 / 256 / 256 / 256 / 256 / 256 % 256) (y / 256 / 256 / 256 / 256 / 256 / 256 / 256 % 256) low high
-    (sym (eight_first text word 3472328296177348656 8536140395044042358 y is s) ∙ ap (λ w. w ++ drop 8 text) (spread_bytes word 3472328296177348656 8536140395044042358 y s)
-    ∙ ap (λ w. ((48 + y % 256) ∷ (48 + y / 256 % 256) ∷ (48 + y / 256 / 256 % 256) ∷ (45 + y / 256 / 256 / 256 % 256) ∷ (48 + y / 256 / 256 / 256 / 256 % 256) ∷ (48 + y / 256 / 256 / 256 / 256 / 256 % 256) ∷ (48 + y / 256 / 256 / 256 / 256 / 256 / 256 % 256) ∷ (48 + y / 256 / 256 / 256 / 256 / 256 / 256 / 256 % 256) ∷ []) ++ w) (drop_more text 8 0 (omega arith) ∙ ap (λ b. b ∷ drop 9 text) mark))
-    a.0 a.1.0 a.1.1.0 (omega arith) a.1.1.1.1.0 a.1.1.1.1.1.0 a.1.1.1.1.1.1.0 a.1.1.1.1.1.1.1.0
-    (l ∙ ap (λ m. y % 256 * 100 + m) low_1 ∙ omega arith) (u ∙ (λ i. high_0 i * 100 + high_1 i) ∙ omega arith) low' high'
+    three_and_four_text text (drop 9 text) (y % 256) (y / 256 % 256) (y / 256 / 256 % 256) (y / 256 / 256 / 256 % 256) (y / 256 / 256 / 256 / 256 % 256 + 1) (y / 256 / 256 / 256 / 256 / 256 % 256) (y / 256 / 256 / 256 / 256 / 256 / 256 % 256) (y / 256 / 256 / 256 / 256 / 256 / 256 / 256 % 256) low high
+    (sym (eight_first text word 3472328300472315952 8536140399339009654 y is s) ∙ ap (λ w. w ++ drop 8 text) (spread_bytes word 3472328300472315952 8536140399339009654 y s)
+    ∙ ap (λ w. ((48 + y % 256) ∷ (48 + y / 256 % 256) ∷ (48 + y / 256 / 256 % 256) ∷ (45 + y / 256 / 256 / 256 % 256) ∷ (49 + y / 256 / 256 / 256 / 256 % 256) ∷ (48 + y / 256 / 256 / 256 / 256 / 256 % 256) ∷ (48 + y / 256 / 256 / 256 / 256 / 256 / 256 % 256) ∷ (48 + y / 256 / 256 / 256 / 256 / 256 / 256 / 256 % 256) ∷ []) ++ w) (drop_more text 8 0 (omega arith) ∙ ap (λ b. b ∷ drop 9 text) mark)
+    ∙ ap (λ w. (48 + y % 256) ∷ (48 + y / 256 % 256) ∷ (48 + y / 256 / 256 % 256) ∷ (45 + y / 256 / 256 / 256 % 256) ∷ w ∷ (48 + y / 256 / 256 / 256 / 256 / 256 % 256) ∷ (48 + y / 256 / 256 / 256 / 256 / 256 / 256 % 256) ∷ (48 + y / 256 / 256 / 256 / 256 / 256 / 256 / 256 % 256) ∷ 44 ∷ drop 9 text) e)
+    a.0 a.1.0 a.1.1.0 (omega arith) (omega arith) a.1.1.1.1.1.0 a.1.1.1.1.1.1.0 a.1.1.1.1.1.1.1.0
+    (l ∙ ap (λ m. y % 256 * 100 + m) low_1 ∙ omega arith) (u ∙ (λ i. high_0 i * 100 + high_1 i + 1000) ∙ omega arith) low' (omega arith)
     ∙ ap (pair_before (record { low = low; high = high }) true) (sym (take_rest text 9))
 
 -- two words one behind the other

@@ -22,9 +22,8 @@ pub(crate) fn read_alike<'a>(
 ) -> Result<(Pair, &'a [u8]), Memory>
     requires few { count ≤ NAMES }
     requires read { text.now ≡ pair_before pair true tail.now }
-    ensures on { IfOk result
+    ensures { IfOk result
         (λ r. ReadsOn count tail.now pairs.old.items pair r.1.now pairs.new.items r.0) }
-    ensures low { IfOk result (λ r. r.0.low ≡ pair.low) }
 {
     let used = text.len() - tail.len();
     if used < 7 || used > 11 || pair.high < 100 || pair.high <= pair.low {

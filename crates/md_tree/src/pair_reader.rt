@@ -9,12 +9,13 @@ ghost use Rattle.md_tree.specs.StrongTrees.{IsPairBefore};
 ghost use Rattle.md_tree.specs.Languages.{LacksFirst};
 ghost use Rattle.md_tree.specs.Held.{LacksEnd, IsEnd, LacksPairs, LacksPair, LacksNumber, IsNumberSplit, pair_before, AreListed, MayFollow, ReadsOn, IsAlike};
 
+use crate::alike_pairs::read_alike;
 use crate::grammar::skip_byte;
 use crate::growing::append;
 use crate::numbers::{digit, small_number};
-use crate::pair_order::still_listed;
+use crate::pair_order::{rank, still_listed};
 use crate::short_pairs::short_pair;
-use crate::sparse_pairs::{read_run, sparse_pair};
+use crate::sparse_pairs::{read_sparse, sparse_pair};
 use crate::words::word;
 use crate::{Kind, Pair};
 use md_graph::Memory;
@@ -100,7 +101,7 @@ fn read_pairs<'a>(
         if !more {
             return Ok(Some((pairs, listed, tail)));
         }
-        let (next, far) = read_run(pair, tail, count, &mut pairs)?;
+        let (next, far) = read_run(rest, pair, tail, last, count, &mut pairs)?;
         last = next;
         rest = far;
     }
@@ -149,4 +150,30 @@ fn read_any_pair<'a>(text: &'a [u8]) -> Option<(Pair, bool, &'a [u8])>
         return Some((Pair { low, high }, false, tail));
     }
     None
+}
+
+// Goes on past pairs that are spelled like the one before, if that stands next to the `last` one;
+// else, or where there are none, past others.
+#[inline(always)]
+fn read_run<'a>(
+    text: &'a [u8],
+    pair: Pair,
+    tail: &'a [u8],
+    last: Pair,
+    count: usize,
+    pairs: &mut Vec<Pair>,
+) -> Result<(Pair, &'a [u8]), Memory>
+    requires few { count ≤ NAMES }
+    requires read { text.now ≡ pair_before pair true tail.now }
+    ensures { IfOk result
+        (λ r. ReadsOn count tail.now pairs.old.items pair r.1.now pairs.new.items r.0) }
+{
+    if pair.low < 100 || rank(pair) != rank(last).wrapping_add(1) {
+        return read_sparse(pair, tail, count, pairs);
+    }
+    let (next, rest) = read_alike(text, pair, tail, count, pairs)?;
+    if next.high != pair.high {
+        return Ok((next, rest));
+    }
+    read_sparse(next, rest, count, pairs)
 }

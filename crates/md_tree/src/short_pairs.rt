@@ -19,30 +19,30 @@ const ONE_AND_TWO: u64 = 0x2c_3030_2d30;
 
 const ONE_AND_TWO_LIMITS: u64 = 0x7f_7676_7f76;
 
-// The same of `0-000,`.
-const ONE_AND_THREE: u64 = 0x2c30_3030_2d30;
+// The same of `0-100,`, of which the first digit of the higher number is not 0.
+const ONE_AND_THREE: u64 = 0x2c30_3031_2d30;
 
-const ONE_AND_THREE_LIMITS: u64 = 0x7f76_7676_7f76;
+const ONE_AND_THREE_LIMITS: u64 = 0x7f76_7677_7f76;
 
-// The same of `0-0000,`.
-const ONE_AND_FOUR: u64 = 0x2c_3030_3030_2d30;
+// The same of `0-1000,`.
+const ONE_AND_FOUR: u64 = 0x2c_3030_3031_2d30;
 
-const ONE_AND_FOUR_LIMITS: u64 = 0x7f_7676_7676_7f76;
+const ONE_AND_FOUR_LIMITS: u64 = 0x7f_7676_7677_7f76;
 
 // The same of `00-00,`.
 const TWO_AND_TWO: u64 = 0x2c30_302d_3030;
 
 const TWO_AND_TWO_LIMITS: u64 = 0x7f76_767f_7676;
 
-// The same of `00-000,`.
-const TWO_AND_THREE: u64 = 0x2c_3030_302d_3030;
+// The same of `00-100,`.
+const TWO_AND_THREE: u64 = 0x2c_3030_312d_3030;
 
-const TWO_AND_THREE_LIMITS: u64 = 0x7f_7676_767f_7676;
+const TWO_AND_THREE_LIMITS: u64 = 0x7f_7676_777f_7676;
 
-// The same of `00-0000,`.
-const TWO_AND_FOUR: u64 = 0x2c30_3030_302d_3030;
+// The same of `00-1000,`.
+const TWO_AND_FOUR: u64 = 0x2c30_3030_312d_3030;
 
-const TWO_AND_FOUR_LIMITS: u64 = 0x7f76_7676_767f_7676;
+const TWO_AND_FOUR_LIMITS: u64 = 0x7f76_7676_777f_7676;
 
 // In a word, a bit that the digits have at a byte and the comma lacks, by the byte's place.
 const NO_COMMA_3: u64 = 0x1000_0000;
@@ -141,10 +141,7 @@ fn pair_of_one_and_three<'a>(text: &'a [u8], word: u64) -> Option<(Pair, &'a [u8
     let digits = spread(word, ONE_AND_THREE, ONE_AND_THREE_LIMITS)?;
     let tens = tens(digits);
     let low = (digits % 0x100) as u32;
-    let high = (digits / 0x1_0000 % 0x100 * 100 + tens / 0x100_0000 % 0x100) as u32;
-    if high < 100 {
-        return None;
-    }
+    let high = (digits / 0x1_0000 % 0x100 * 100 + tens / 0x100_0000 % 0x100 + 100) as u32;
     Some((Pair { low, high }, &text[6..]))
 }
 
@@ -157,10 +154,7 @@ fn pair_of_one_and_four<'a>(text: &'a [u8], word: u64) -> Option<(Pair, &'a [u8]
     let digits = spread(word, ONE_AND_FOUR, ONE_AND_FOUR_LIMITS)?;
     let tens = tens(digits);
     let low = (digits % 0x100) as u32;
-    let high = (tens / 0x1_0000 % 0x100 * 100 + tens / 0x1_0000_0000 % 0x100) as u32;
-    if high < 1000 {
-        return None;
-    }
+    let high = (tens / 0x1_0000 % 0x100 * 100 + tens / 0x1_0000_0000 % 0x100 + 1000) as u32;
     Some((Pair { low, high }, &text[7..]))
 }
 
@@ -188,10 +182,7 @@ fn pair_of_two_and_three<'a>(text: &'a [u8], word: u64) -> Option<(Pair, &'a [u8
     let digits = spread(word, TWO_AND_THREE, TWO_AND_THREE_LIMITS)?;
     let tens = tens(digits);
     let low = (tens % 0x100) as u32;
-    let high = (digits / 0x100_0000 % 0x100 * 100 + tens / 0x1_0000_0000 % 0x100) as u32;
-    if high < 100 {
-        return None;
-    }
+    let high = (digits / 0x100_0000 % 0x100 * 100 + tens / 0x1_0000_0000 % 0x100 + 100) as u32;
     Some((Pair { low, high }, &text[7..]))
 }
 
@@ -205,9 +196,6 @@ fn pair_of_two_and_four<'a>(text: &'a [u8], word: u64) -> Option<(Pair, &'a [u8]
     let digits = spread(word, TWO_AND_FOUR, TWO_AND_FOUR_LIMITS)?;
     let tens = tens(digits);
     let low = (tens % 0x100) as u32;
-    let high = (tens / 0x100_0000 % 0x100 * 100 + tens / 0x100_0000_0000 % 0x100) as u32;
-    if high < 1000 {
-        return None;
-    }
+    let high = (tens / 0x100_0000 % 0x100 * 100 + tens / 0x100_0000_0000 % 0x100 + 1000) as u32;
     Some((Pair { low, high }, &text[8..]))
 }

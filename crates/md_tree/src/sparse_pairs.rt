@@ -1,17 +1,18 @@
 //! Reads pairs one behind the other, a word each.
 ghost use Rattle.std.specs.Prelude.{◌≡◌, ◌<◌, ◌≤◌, ◌↔◌, true, length, slice_index, IfOk, IfSome, IsTrue};
-ghost use Rattle.md_graph.specs.declared.TheConstants.{NAMES};
 ghost use Rattle.md_tree.specs.declared.Pair.{Pair};
 ghost use Rattle.md_tree.specs.StrongTrees.{IsPairBefore};
 ghost use Rattle.md_tree.specs.Held.{pair_before, ReadsOn};
 
 use crate::Pair;
-use crate::alike_pairs::read_alike;
 use crate::growing::append;
 use crate::pair_order::{is_of_positions, rank};
 use crate::short_pairs::{one_digit_pair, two_digits_pair};
 use crate::words::{long_word, spread, word};
 use md_graph::Memory;
+
+// So many bytes of pairs are read a pair at a time before it is asked whether they are alike.
+const STRETCH: usize = 2048;
 
 // Eight digits that are 0, the first one in the lowest byte; and how far each may rise: by 9, with
 // which the limit stays below 128.
@@ -24,10 +25,10 @@ const THREES: u64 = 0x2c30_3030_2d30_3030;
 
 const THREE_LIMITS: u64 = 0x7f76_7676_7f76_7676;
 
-// The same of `000-0000`.
-const THREE_AND_FOUR: u64 = 0x3030_3030_2d30_3030;
+// The same of `000-1000`, of which the first digit of the higher number is not 0.
+const THREE_AND_FOUR: u64 = 0x3030_3031_2d30_3030;
 
-const THREE_AND_FOUR_LIMITS: u64 = 0x7676_7676_7f76_7676;
+const THREE_AND_FOUR_LIMITS: u64 = 0x7676_7677_7f76_7676;
 
 // The lowest byte of either half.
 const LANES: u64 = 0x0000_00ff_0000_00ff;
@@ -35,19 +36,15 @@ const LANES: u64 = 0x0000_00ff_0000_00ff;
 // Goes on past pairs behind a pair whose lower number has as many digits, as long as they ascend.
 // Their digits stand at one of few places, and are read as one word.
 #[inline(always)]
-pub(crate) fn read_run<'a>(
+pub(crate) fn read_sparse<'a>(
     pair: Pair,
     tail: &'a [u8],
     count: usize,
     pairs: &mut Vec<Pair>,
 ) -> Result<(Pair, &'a [u8]), Memory>
-    requires { count ≤ NAMES }
     ensures { IfOk result
         (λ r. ReadsOn count tail.now pairs.old.items pair r.1.now pairs.new.items r.0) }
 {
-    if pair.low >= pair.high {
-        return Ok((pair, tail));
-    }
     if pair.low < 10 {
         return read_ones(pair, tail, count, pairs);
     }
@@ -69,9 +66,7 @@ fn read_fours<'a>(
     count: usize,
     pairs: &mut Vec<Pair>,
 ) -> Result<(Pair, &'a [u8]), Memory>
-    requires few { count ≤ NAMES }
-    requires from { 1000 ≤ pair.low }
-    requires up { pair.low < pair.high }
+    requires { 1000 ≤ pair.low }
     ensures { IfOk result
         (λ r. ReadsOn count tail.now pairs.old.items pair r.1.now pairs.new.items r.0) }
 {
@@ -86,9 +81,7 @@ fn read_threes<'a>(
     count: usize,
     pairs: &mut Vec<Pair>,
 ) -> Result<(Pair, &'a [u8]), Memory>
-    requires few { count ≤ NAMES }
-    requires from { 100 ≤ pair.low }
-    requires up { pair.low < pair.high }
+    requires { 100 ≤ pair.low }
     ensures { IfOk result
         (λ r. ReadsOn count tail.now pairs.old.items pair r.1.now pairs.new.items r.0) }
 {
@@ -103,9 +96,7 @@ fn read_twos<'a>(
     count: usize,
     pairs: &mut Vec<Pair>,
 ) -> Result<(Pair, &'a [u8]), Memory>
-    requires few { count ≤ NAMES }
-    requires from { 10 ≤ pair.low }
-    requires up { pair.low < pair.high }
+    requires { 10 ≤ pair.low }
     ensures { IfOk result
         (λ r. ReadsOn count tail.now pairs.old.items pair r.1.now pairs.new.items r.0) }
 {
@@ -120,8 +111,6 @@ fn read_ones<'a>(
     count: usize,
     pairs: &mut Vec<Pair>,
 ) -> Result<(Pair, &'a [u8]), Memory>
-    requires few { count ≤ NAMES }
-    requires up { pair.low < pair.high }
     ensures { IfOk result
         (λ r. ReadsOn count tail.now pairs.old.items pair r.1.now pairs.new.items r.0) }
 {
@@ -137,30 +126,22 @@ fn read_wide<'a>(
     count: usize,
     pairs: &mut Vec<Pair>,
 ) -> Result<(Pair, &'a [u8]), Memory>
-    requires few { count ≤ NAMES }
-    requires from { least ≤ pair.low }
-    requires up { pair.low < pair.high }
+    requires { least ≤ pair.low }
     ensures { IfOk result
         (λ r. ReadsOn count tail.now pairs.old.items pair r.1.now pairs.new.items r.0) }
 {
     let mut rest = tail;
     let mut last = rank(pair);
+    let end = stretch_end(least, tail.len());
     loop {
+        if rest.len() <= end {
+            break;
+        }
         let Some((next, behind)) = wide_pair(rest, least) else {
             break;
         };
         let place = rank(next);
-        if place <= last + near(least) {
-            if place <= last || !is_of_positions(next, count) {
-                break;
-            }
-            append(pairs, next)?;
-            let (far, end) = read_alike(rest, next, behind, count, pairs)?;
-            last = rank(far);
-            rest = end;
-            continue;
-        }
-        if !is_of_positions(next, count) {
+        if place <= last || !is_of_positions(next, count) {
             break;
         }
         append(pairs, next)?;
@@ -172,15 +153,14 @@ fn read_wide<'a>(
     Ok((Pair { low, high }, rest))
 }
 
-// So near to the one before, a pair is likely to be followed by others that are spelled alike.
+// How much of a text is left where a stretch of it ends: never so little that a pair would not find
+// room, so that one test is enough in each turn.
 #[inline(always)]
-fn near(least: u32) -> u64
-    ensures { result ≤ 1 }
-{
+fn stretch_end(least: u32, len: usize) -> usize {
     if least < 100 {
-        return 0;
+        return 7;
     }
-    1
+    len.saturating_sub(STRETCH).max(9)
 }
 
 // The pair that a text begins with, and what stands behind its comma, if it is of numbers of three
@@ -208,9 +188,9 @@ fn least_low(text: &[u8]) -> u32
     100
 }
 
-// The same where the lower number has as many digits as the least one, 1000 or 100. What is told is
-// sure only if the lower number is not below the least one, and is below the higher one: else a
-// zero may stand before the digits.
+// The same where the lower number has as many digits as the least one, 0, 10, 100 or 1000. What is
+// told is sure only if the lower number is not below the least one, and is below the higher one:
+// else a zero may stand before the digits.
 #[inline(always)]
 fn wide_pair<'a>(text: &'a [u8], least: u32) -> Option<(Pair, &'a [u8])>
     ensures { IfSome result (λ p. least ≤ p.0.low → p.0.low < p.0.high
@@ -266,10 +246,8 @@ fn pair_of_three_and_four<'a>(text: &'a [u8]) -> Option<(Pair, &'a [u8])>
     let digits = spread(word, THREE_AND_FOUR, THREE_AND_FOUR_LIMITS)?;
     let tens = digits * 10 + digits / 0x100;
     let low = (digits % 0x100 * 100 + tens / 0x100 % 0x100) as u32;
-    let high = (tens / 0x1_0000_0000 % 0x100 * 100 + tens / 0x1_0000_0000_0000 % 0x100) as u32;
-    if high < 1000 {
-        return None;
-    }
+    let upper = tens / 0x1_0000_0000;
+    let high = (upper % 0x100 * 100 + upper / 0x1_0000 % 0x100 + 1000) as u32;
     Some((Pair { low, high }, &text[9..]))
 }
 

@@ -4,4 +4,4 @@ use Rattle.md_tree.proofs.sparse_pairs.pair_of_three_and_four.Goals as goal
 
 pub returns : goal.returns
 returns c low up =
-    three_and_four c.args.text.now c.in_ok-word.word c.in_ok-digits.digits _ _ c.requires.long c.requires.comma c.in_ok-word.ensures.1 c.in_ok-digits.ensures refl refl c.if-high-lt1000.false low
+    three_and_four c.args.text.now c.in_ok-word.word c.in_ok-digits.digits _ _ c.requires.long c.requires.comma c.in_ok-word.ensures.1 c.in_ok-digits.ensures refl refl low
