@@ -8,7 +8,7 @@ use crate::Pair;
 use crate::growing::append;
 use crate::pair_order::{is_of_positions, rank};
 use crate::short_pairs::{one_digit_pair, two_digits_pair};
-use crate::words::{long_word, spread, word};
+use crate::words::{hundreds, long_word, spread, word};
 use md_graph::Memory;
 
 // So many bytes of pairs are read a pair at a time before it is asked whether they are alike.
@@ -246,8 +246,7 @@ fn pair_of_three_and_four<'a>(text: &'a [u8]) -> Option<(Pair, &'a [u8])>
     let digits = spread(word, THREE_AND_FOUR, THREE_AND_FOUR_LIMITS)?;
     let tens = digits * 10 + digits / 0x100;
     let low = (digits % 0x100 * 100 + tens / 0x100 % 0x100) as u32;
-    let upper = tens / 0x1_0000_0000;
-    let high = (upper % 0x100 * 100 + upper / 0x1_0000 % 0x100 + 1000) as u32;
+    let high = (hundreds(tens / 0x1_0000_0000) + 1000) as u32;
     Some((Pair { low, high }, &text[9..]))
 }
 

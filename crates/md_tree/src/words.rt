@@ -46,3 +46,12 @@ pub(crate) fn tens(digits: u64) -> u64
 {
     digits.wrapping_mul(10).wrapping_add(digits / 0x100)
 }
+
+// A hundred times the first byte and the third one: both at once, by one product.
+#[inline(always)]
+pub(crate) fn hundreds(tens: u64) -> u64
+    ensures { result ≡ tens % 256 * 100 + tens / 65536 % 256 }
+{
+    let both = tens % 0x100 + tens / 0x1_0000 % 0x100 * 0x1_0000;
+    both * 0x64_0001 / 0x1_0000 % 0x1_0000
+}
