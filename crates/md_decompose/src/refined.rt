@@ -12,9 +12,9 @@ use md_modules::Block;
 use md_refine::Partition;
 use std::alloc::Global;
 
-// Parts of `rest` that no module of `set` inside `rest` lies across. They are few where each name
-// of `set` has few neighbours: one pass over the neighbours of all of them makes them. Condition:
-// `rest` is a nonempty part of `set`, a set of vertices.
+// Parts of `rest` that no module of `set` inside `rest` lies across. They are made by one pass over
+// the neighbours of all names of `set`, so it is for sets whose names have few. Condition: `rest` is
+// a nonempty part of `set`, a set of vertices.
 pub(crate) fn refined_classes<const W: usize>(
     alloc: Global,
     graph: &GraphOf<W>,
