@@ -17,6 +17,7 @@ use Rattle.md_modules.proofs.ClassLists.{at_known}
 use Rattle.md_refine.specs.Partitions.{Classes, is_in, is_name, holders, class_position, ArePartition, unless_empty, parts, cut_outside, one_class}
 use Rattle.md_refine.proofs.Lists.{in_filter, in_first}
 use Rattle.md_refine.proofs.Refining.{in_ascending, held, some_held}
+use Rattle.std.proofs.Math.Bool.{or-false, and-false}
 use Rattle.md_refine.proofs.Showing.{position_some}
 use Rattle.md_decompose.specs.Refined.{HasAllOrNone, CutNoModule, number_at, IsNumbering, AreNumbered, set_or_empty, set_yet_at}
 
@@ -24,11 +25,7 @@ use Rattle.md_decompose.specs.Refined.{HasAllOrNone, CutNoModule, number_at, IsN
 
 named_alone : (c : List ℕ) (v : ℕ) → is_name (unless_empty c) v ≡ is_in c v
 named_alone [] v = refl
-named_alone (x ∷ xs) v = or_none (is_in (x ∷ xs) v)
-  where
-    or_none : (b : Bool) → (b || false) ≡ b
-    or_none true = refl
-    or_none false = refl
+named_alone (x ∷ xs) v = or-false (is_in (x ∷ xs) v)
 
 named_parts : (t : ℕ → Bool) (c : List ℕ) (v : ℕ) → is_name (parts t c) v ≡ is_in c v
 named_parts t c v =
@@ -67,11 +64,7 @@ cut_none e s b below = record {
       where
         go : (h : Bool) → contains b v ≡ h → (ltb v NAMES && h) ≡ h
         go true h = rw (lt-ltb v NAMES (below v h)) refl
-        go false h = and_none (ltb v NAMES)
-          where
-            and_none : (a : Bool) → (a && false) ≡ false
-            and_none true = refl
-            and_none false = refl
+        go false h = and-false (ltb v NAMES)
 
 -- ---- one more row
 
@@ -82,11 +75,7 @@ part_whole m t c alike whole x y hx hy =
   where
     go : (b : Bool) → is_in c x ≡ b → (t x && b) ≡ (t y && is_in c y)
     go true h = rw (sym (whole x y hx hy) ∙ h) (ap (λ a. a && true) (alike x y hx hy h))
-    go false h = rw (sym (whole x y hx hy) ∙ h) (none (t x) ∙ sym (none (t y)))
-      where
-        none : (a : Bool) → (a && false) ≡ false
-        none true = refl
-        none false = refl
+    go false h = rw (sym (whole x y hx hy) ∙ h) (and-false (t x) ∙ sym (and-false (t y)))
 
 module _ (e : ℕ → ℕ → Bool) (s b row : NameSet) (p : ℕ) (inside : Has s p) (sees : (x : ℕ) → contains row x ≡ e p x) where
   abbrev piece : List ℕ → List (List ℕ)
@@ -94,13 +83,9 @@ module _ (e : ℕ → ℕ → Bool) (s b row : NameSet) (p : ℕ) (inside : Has 
 
   named_piece : (v : ℕ) (c : List ℕ) → is_name (piece c) v ≡ is_in c v
   named_piece v c = elim (is_in c p) as (λ a. is_name (if a then c ∷ [] else parts (contains row) c) v ≡ is_in c v) [
-    | true ↦ or_none (is_in c v)
+    | true ↦ or-false (is_in c v)
     | false ↦ named_parts (contains row) c v
   ]
-    where
-      or_none : (a : Bool) → (a || false) ≡ a
-      or_none true = refl
-      or_none false = refl
 
   -- a name outside m sees the names of m alike
   whole_piece : (m : NameSet) → IsModule e s m → (c : List ℕ) → HasAllOrNone m c → All (HasAllOrNone m) (piece c)

@@ -10,17 +10,14 @@ use Rattle.md_graph.specs.NameSet.{AllBelow, range, block}
 use Rattle.md_graph.specs.PlainGraph.{PlainGraph, IsGraph, adjacent, neighbours, empty_graph, with_vertex, with_edges, induced}
 use Rattle.md_graph.proofs.SetLaws.{contains-empty, contains-insert, contains-union, contains-intersection, same_set}
 use Rattle.md_graph.proofs.BitWords.{contains-block_below}
-use Rattle.md_graph.proofs.Ranges.{contains-range}
+use Rattle.md_graph6.proofs.DecodeLemmas.{contains-numbers_below}
 use Rattle.md_graph.proofs.GraphLemmas.{same_graph, adjacent_ends, adjacent_sym, adjacent_self, adjacent-induced, adjacent-with_vertex, adjacent-with_edges, contains-neighbours, IsGraph-induced, IsGraph-with_vertex, IsGraph-with_edges, empty_without_vertices}
 
-in_range : (v q : ℕ) → set.contains (range 0 v) q ≡ nat_lt q v
-in_range v q = contains-range 0 v q ∙ grind (arith, nat_tests)
-
 in_part : (g : PlainGraph) (v q : ℕ) → set.contains (induced g (range 0 v)).vertices q ≡ (set.contains g.vertices q && nat_lt q v)
-in_part g v q = contains-intersection g.vertices (range 0 v) q ∙ ap (λ b. set.contains g.vertices q && b) (in_range v q)
+in_part g v q = contains-intersection g.vertices (range 0 v) q ∙ ap (λ b. set.contains g.vertices q && b) (contains-numbers_below v q)
 
 part_adjacent : (g : PlainGraph) (v a b : ℕ) → adjacent (induced g (range 0 v)) a b ≡ (adjacent g a b && (nat_lt a v && nat_lt b v))
-part_adjacent g v a b = adjacent-induced g (range 0 v) a b ∙ rw (in_range v a, in_range v b) refl
+part_adjacent g v a b = adjacent-induced g (range 0 v) a b ∙ rw (contains-numbers_below v a, contains-numbers_below v b) refl
 
 -- no vertex yet
 pub part_none : {g : PlainGraph} → IsGraph g → empty_graph ≡ induced g (range 0 0)

@@ -18,8 +18,8 @@ abbrev pub IsAtHead : ℕ → List ℕ → Arc → List ℕ → Type 0
 IsAtHead tail text a rest = (a.tail ≡ tail) × IsVertexName a.head × (a.tail ≢ a.head) × (text ≡ decimal a.head ++ rest) × Opens 32 rest
 
 -- a front has four to eight bytes
-abbrev pub HasSize : Front → Type 0
-HasSize front = (4 ≤ front.size) × (front.size ≤ 8)
+abbrev pub FitsTwoWords : Front → Type 0
+FitsTwoWords front = (4 ≤ front.size) × (front.size ≤ 8)
 
 -- a text begins with the front, and goes on with the rest
 pub record BeginsWith (front : Front) (text rest : List ℕ) : Type 0 where

@@ -5,7 +5,7 @@ ghost use Rattle.md_forcing.specs.declared.arc.Arc.{Arc};
 ghost use Rattle.md_report.specs.Lines.{arc_text, arcs_text};
 ghost use Rattle.md_report.specs.WellFormedLines.{IsVertexName, IsNamedArc, IsNamedChain};
 ghost use Rattle.md_report.specs.Cuts.{IsItem, NoItem};
-ghost use Rattle.md_report.specs.Rows.{IsAtTail, IsAtHead, HasSize, BeginsWith, IsFrontOf, ReadsArcs, HasArcs};
+ghost use Rattle.md_report.specs.Rows.{IsAtTail, IsAtHead, FitsTwoWords, BeginsWith, IsFrontOf, ReadsArcs, HasArcs};
 
 use crate::pieces::{behind_space, is_piece_end, name, split_before, split_piece};
 use md_forcing::{Arc, Chain};
@@ -121,7 +121,7 @@ fn quick_head(tail: u32, text: &[u8]) -> Option<(Arc, &[u8])>
 #[inline(always)]
 fn front_of(text: &[u8], tail: u32, heads: &[u8]) -> Option<Front>
     requires { IsAtTail text.now tail heads.now }
-    ensures { IfSome result (λ front. HasSize front × IsFrontOf front tail) }
+    ensures { IfSome result (λ front. FitsTwoWords front × IsFrontOf front tail) }
 {
     let size = text.len() - heads.len();
     if size < 4 || size > 8 {
@@ -143,7 +143,7 @@ fn more_heads<'a>(
     text: &'a [u8],
     list: &mut Vec<Arc>,
 ) -> Result<&'a [u8], Memory>
-    requires size { HasSize front }
+    requires size { FitsTwoWords front }
     requires front { IsFrontOf front tail }
     ensures { IfOk result (λ rest. ReadsArcs text.now list.old.items rest.now list.new.items) }
 {
@@ -157,7 +157,7 @@ fn more_heads<'a>(
 
 #[inline(always)]
 fn next_head(front: Front, tail: u32, text: &[u8]) -> Option<(Arc, &[u8])>
-    requires size { HasSize front }
+    requires size { FitsTwoWords front }
     requires front { IsFrontOf front tail }
     ensures { IfSome result (λ p. IsItem arc_text IsNamedArc text.now p.0 p.1.now) }
 {
@@ -167,7 +167,7 @@ fn next_head(front: Front, tail: u32, text: &[u8]) -> Option<(Arc, &[u8])>
 // What stands behind the front, if the text begins with it.
 #[inline(always)]
 fn behind_front(front: Front, text: &[u8]) -> Option<&[u8]>
-    requires { HasSize front }
+    requires { FitsTwoWords front }
     ensures { IfSome result (λ rest. BeginsWith front text.now rest.now) }
 {
     let Front { size, begin, end } = front;
