@@ -1,5 +1,5 @@
 //! Ordered partitions of sets of names under partition refinement: classes in order, each of which
-//! can be cut in two by touched names. All memory is taken when a partition is made.
+//! can be cut in two by touched names. No change of a partition takes memory.
 #![tactic(auto)]
 
 mod partition;

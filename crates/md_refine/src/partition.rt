@@ -18,9 +18,9 @@ use std::sync::ledger::{Blank, Ledger};
 /// An ordered partition of a set of names: nonempty classes in order. Names can be touched, in
 /// ascending order; a class with touched names is cut in two when it is settled.
 ///
-/// All memory is taken when the partition is made. `touch` and `settle` are one step each on the
-/// counter that they are lent: each reads or changes a bounded number of items of vectors, and
-/// `settle` finds the least touched name in a set, from the one before on.
+/// No change takes memory: all is taken when the partition is made. `touch` and `settle` are one
+/// step each on the counter that they are lent: each reads or changes a bounded number of items of
+/// vectors, and `settle` finds the least touched name in a set, from the one before on.
 #[derive(Drop)]
 pub struct Partition {
     // The mark of each name.
