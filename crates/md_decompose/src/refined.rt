@@ -1,5 +1,5 @@
 //! Parts of a set that its modules lie in, by partition refinement.
-ghost use Rattle.std.specs.Prelude.{◌≡◌, ◌*◌, ◌<◌, ◌≤◌, ℕ, IfOk, Some, None, length, vec_len, replicate};
+ghost use Rattle.std.specs.Prelude.{◌≡◌, ◌+◌, ◌*◌, ◌<◌, if◌then◌else◌, ◌≤◌, ℕ, IfOk, Some, None, length, vec_len, replicate};
 ghost use Rattle.std.specs.FinSet.{insert};
 ghost use Rattle.md_graph.specs.PlainGraph.{adjacent};
 ghost use Rattle.md_graph.specs.Sets.{Has, HasSome, Within};
@@ -12,9 +12,12 @@ use md_modules::Block;
 use md_refine::Partition;
 use std::alloc::Global;
 
-// Parts of `rest` that no module of `set` inside `rest` lies across. They are made by one pass over
-// the neighbours of all names of `set`, so it is for sets whose names have few. Condition: `rest` is
-// a nonempty part of `set`, a set of vertices.
+// After so many rows, one behind the other, that cut no class, no more are looked at.
+const IDLE: u32 = 64;
+
+// Parts of `rest` that no module of `set` inside `rest` lies across. They cost one pass over the
+// neighbours of members of `set`, and so little where these have few. Condition: `rest` is a
+// nonempty part of `set`, a set of vertices.
 pub(crate) fn refined_classes<const W: usize>(
     alloc: Global,
     graph: &GraphOf<W>,
@@ -35,9 +38,10 @@ pub(crate) fn refined_classes<const W: usize>(
     Ok(made)
 }
 
-// The names of `rest` in classes that are cut by the neighbours of members of `set`, each but the
-// class of that member. Those outside `rest` come first, and then always one that is adjacent to an
-// earlier one: it stands in another class than the names that no row has cut off yet.
+// The names of `rest` in classes that are cut by the neighbours of one member of `set` after the
+// other, each but the class of that member, until several in a row have cut none. Those outside
+// `rest` come first, and then always one that is adjacent to an earlier one: it stands in another
+// class than the names that no row has cut off yet.
 fn cut_by_rows<const W: usize>(
     alloc: Global,
     graph: &GraphOf<W>,
@@ -52,18 +56,29 @@ fn cut_by_rows<const W: usize>(
     let mut partition = Partition::new(alloc, rest)?;
     let mut near = set.minus(rest);
     let mut left = set.and(rest);
+    let mut idle = 0;
     for _ in 0..set.count() {
         let Some(p) = near.first_from(0) else {
             return Ok(partition);
         };
-        if partition.class_count() == count {
+        let before = partition.class_count();
+        if before == count || idle >= IDLE {
             return Ok(partition);
         }
         near.remove(p);
         left.move_shared(graph.row(p), &mut near);
         partition.refine_outside(p, graph.row(p));
+        idle = idle_after(idle, partition.class_count() > before);
     }
     Ok(partition)
+}
+
+// How many rows cut no class since one did, after one more row. Condition: they were few.
+fn idle_after(idle: u32, is_cut: bool) -> u32
+    requires { idle < IDLE }
+    ensures { result ≡ (if is_cut then 0 else idle + 1) }
+{
+    if is_cut { 0 } else { idle + 1 }
 }
 
 // The names of `rest` with each number below `count`. Condition: these are the numbers of its
