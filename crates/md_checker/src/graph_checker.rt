@@ -24,8 +24,8 @@ enum GraphDue {
     Nothing,
 }
 
-// What may still come of a report over graphs: it is seen as a place of the report. A graph comes at
-// hand when its line does.
+// What may still come of a report over graphs: it is seen as a place of the report. A graph comes
+// at hand when its line does.
 #[derive(Drop)]
 pub(crate) struct GraphChecker<'a> {
     due: GraphDue,

@@ -74,9 +74,9 @@ impl Room {
         }
     }
 
-    // The graph that is read already, if there is one, comes into the room, a small one with one word
-    // a row; false where there is none. Condition: the graph in the room has no vertices. Never
-    // inlined, so that graphs of lines don't pay for its room.
+    // The graph that is read already, if there is one, comes into the room, a small one with one
+    // word a row; false where there is none. Condition: the graph in the room has no vertices.
+    // Never inlined, so that graphs of lines don't pay for its room.
     #[inline(never)]
     pub(crate) fn put(&mut self, first: &mut Option<Graph>) -> bool
         requires { self.old ≡ empty_graph }

@@ -99,8 +99,8 @@ fn begin<const W: usize>(set: &Set<W>, classes: &[Block<W>], at: usize, left: &m
     }
 }
 
-// The class at a place becomes one of its two parts, in `row` and outside it, and the other one is a
-// new class, the last one; `left` takes in its names. `other` is empty before and after.
+// The class at a place becomes one of its two parts, in `row` and outside it, and the other one is
+// a new class, the last one; `left` takes in its names. `other` is empty before and after.
 fn split<const W: usize>(
     alloc: Global,
     classes: &mut Vec<Block<W>>,
