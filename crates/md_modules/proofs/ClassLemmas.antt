@@ -1,14 +1,15 @@
 -- Classes that are cut until they are modules.
 use Rattle.std.proofs.Common.{◌≡◌, ℕ, ◌+◌, ◌<◌, ◌≤◌, ◌≢◌, ◌⊎◌, Bool, List, [], ◌∷◌, length, refl, sym, ◌∙◌, ap, ap₂, subst, inl, inr, arith}
 use Rattle.md_graph.proofs.Search.{alike_unless}
-use Rattle.std.specs.FinSet.{contains, empty, union, intersection, difference}
+use Rattle.std.specs.FinSet.{contains, union, intersection, difference}
 use Rattle.md_graph.specs.NameSet.{IsLeastFrom, NoneFrom, told_apart}
 use Rattle.md_graph.specs.PlainGraph.{PlainGraph, IsGraph, adjacent, neighbours}
 use Rattle.md_graph.proofs.GraphLemmas.{adjacent_sym}
 use Rattle.md_graph.specs.Sets.{NameSet, Has, Lacks, Within, Disjoint, HasSome, only_name}
 use Rattle.md_modules.specs.Modules.{IsModule}
 use Rattle.std.proofs.lemmas.Bool.{cases_Bool, true_from_ne_false, false_from_ne_true}
-use Rattle.md_graph.proofs.SetLemmas.{clash, same_name, of_only, empty_if, Has-along, meet_has, of_meet, minus_has, of_minus, minus_lacks, union_left, union_right, of_union, union_lacks, lacks_within, none_lacks}
+use Rattle.md_graph.proofs.SetLemmas.{clash, same_name, of_only, Has-along, meet_has, of_meet, minus_has, of_minus, minus_lacks, union_left, union_right, of_union, union_lacks, lacks_within, none_lacks}
+use Rattle.md_graph.proofs.BitWords.{from_both}
 use Rattle.md_modules.proofs.Turns.{ToldApart, told_all}
 use Rattle.md_modules.specs.Classes.{class_at}
 use Rattle.md_modules.specs.Classes.{IsSplitter, HoldsSplitters, IsSideOf, IsPartition, HoldsModules, AreMaximalInside}
@@ -62,12 +63,8 @@ module _ (e : ℕ → ℕ → Bool) (s c : NameSet) (v : ℕ) (alone : c ≡ onl
   alone_uncut p tells =
       clash tells.sees.2 (ap (e p) (is_it tells.sees.0 tells.sees.1 ∙ sym (is_it tells.misses.0 tells.misses.1)) ∙ tells.misses.2)
 
-  pub alone_begins : (left : NameSet) → left ≡ empty → HoldsSplitters e s c left
-  alone_begins left none = record {
-    inside = λ x h. clash h (empty_if left none x);
-    outside = λ x h. empty_if left none x;
-    all = λ p tells. absurd (alone_uncut p tells);
-  }
+  pub alone_module : HasSome c → Within c s → IsModule e s c
+  alone_module some inside = record { some = some; inside = inside; alike = λ a b x ha hb _ _. ap (e x) (is_it a ha ∙ sym (is_it b hb)) }
 
 -- ---- the names left, which may cut a class
 
@@ -237,6 +234,18 @@ module _ {e : ℕ → ℕ → Bool} where
       | inl same ↦ subst (λ n. IsModule e s (class_at cs n)) (sym same) here
       | inr differ ↦ is.modules k (omega arith) known
     ];
+  }
+
+  -- the classes from place i to j are names alone
+  pub cutting_skips : (s b : NameSet) (cs : List NameSet) (i j : ℕ) → Within b s → IsCutting e s b cs i → ((k : ℕ) → i ≤ k → k < j → (v : ℕ) × (class_at cs k ≡ only_name v)) → IsCutting e s b cs j
+  cutting_skips s b cs i j part is names = record {
+    holds = is.holds;
+    modules = λ k l known. from_both (λ n. n ≡ k → IsModule e s (class_at cs n)) i
+        (λ n low same. is.modules n low (omega arith))
+        (λ n high same.
+        let named = names n high (omega arith) in
+        let here : n < length cs = omega arith in
+        alone_module e s (class_at cs n) named.0 named.1 (is.holds.partition.are_apart.some n here) (λ x h. part x (is.holds.partition.inside n x h))) k refl;
   }
 
   pub cutting_ends : (s b : NameSet) (cs : List NameSet) (i : ℕ) → IsCutting e s b cs i → length cs ≤ i → AreMaximalInside e s b cs

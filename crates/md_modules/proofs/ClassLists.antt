@@ -100,6 +100,22 @@ work_passes cs i l some =
     let same : work cs (i + 1) ≡ work cs (suc i) = ap (work cs) (omega arith) in
     omega arith
 
+work_more : (cs : List NameSet) (i : ℕ) → work cs (suc i) ≤ work cs i
+unfolding work
+work_more [] i = omega arith
+work_more (c ∷ cs) zero = omega arith
+work_more (c ∷ cs) (suc i) = work_more cs i
+
+work_on : (cs : List NameSet) (i d : ℕ) → work cs (d + i) ≤ work cs i
+work_on cs i zero = let same : work cs (0 + i) ≡ work cs i = ap (work cs) (omega arith) in omega arith
+work_on cs i (suc d) = let one = work_more cs (d + i) in let more = work_on cs i d in let same : work cs (suc d + i) ≡ work cs (suc (d + i)) = ap (work cs) (omega arith) in omega arith
+
+pub work_skips : (cs : List NameSet) (i j : ℕ) → i ≤ j → work cs j ≤ work cs i
+work_skips cs i j up =
+    let on = work_on cs i (j - i) in
+    let same : work cs ((j - i) + i) ≡ work cs j = ap (work cs) (omega arith) in
+    omega arith
+
 pub work_falls : (cs new : List NameSet) (i : ℕ) (row : NameSet) → i < length cs → HasSome (intersection (class_at cs i) row) → HasSome (difference (class_at cs i) row) →
     new ≡ set cs i (intersection (class_at cs i) row) ++ difference (class_at cs i) row ∷ [] → work new i < work cs i
 unfolding cost

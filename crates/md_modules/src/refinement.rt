@@ -1,8 +1,8 @@
 //! The maximal ones among the modules inside a part of a set, by partition refinement.
-ghost use Rattle.std.specs.Prelude.{◌≡◌, ◌*◌, ◌<◌, ◌++◌, ◌∷◌, ◌↔◌, ℕ, Bool, IfOk, IfSome, IfNone, IsTrue, [], length, slice_set, vec_len};
+ghost use Rattle.std.specs.Prelude.{◌≡◌, ◌*◌, ◌<◌, ◌≤◌, ◌++◌, ◌∷◌, ◌↔◌, ℕ, Bool, IfOk, IfSome, IfNone, IsTrue, [], length, slice_set, vec_len};
 ghost use Rattle.std.specs.FinSet.{empty, union, intersection, difference};
 ghost use Rattle.md_graph.specs.PlainGraph.{adjacent};
-ghost use Rattle.md_graph.specs.Sets.{NameSet, Has, Within, Disjoint, HasSome};
+ghost use Rattle.md_graph.specs.Sets.{NameSet, Has, Within, Disjoint, HasSome, only_name};
 ghost use Rattle.md_modules.specs.Classes.{class_at};
 ghost use Rattle.md_modules.specs.Classes.{IsSplitter, IsSideOf, HoldsSplitters, HoldsModules, AreMaximalInside};
 
@@ -63,7 +63,7 @@ pub fn cut_classes<const W: usize>(
     set.within_limit();
     let mut left = Set::none();
     let mut other = Set::none();
-    let mut at = 0;
+    let mut at = next_several(&classes, 0);
     begin(set, &classes, at, &mut left);
     // A large class is seen to be final, or to be cut, at two passes over it for each name left
     // that is looked at, and what stays in its place looks at none of these again but the one that
@@ -73,15 +73,28 @@ pub fn cut_classes<const W: usize>(
         if let Some(p) = splitter(graph, &classes[at], &mut left) {
             split(alloc, &mut classes, at, graph.row(p), &mut left, &mut other)?;
         } else {
-            at += 1;
+            at = next_several(&classes, at + 1);
             begin(set, &classes, at, &mut left);
         }
     }
     Ok(classes)
 }
 
-// Puts into `left` the names of `set` outside the class at a place, if there is one. Nothing cuts a
-// name alone.
+// The first place from `from` on at which no class is kept as a name alone: nothing cuts a name
+// alone.
+fn next_several<const W: usize>(classes: &[Block<W>], from: usize) -> usize
+    ensures from { from ≤ result }
+    ensures names { (k : ℕ) → from ≤ k → k < result
+        → (v : ℕ) × (class_at classes.now k ≡ only_name v) }
+{
+    let mut at = from;
+    while at < classes.len() && classes[at].is_name() {
+        at += 1;
+    }
+    at
+}
+
+// Puts into `left` the names of `set` outside the class at a place, if there is one.
 fn begin<const W: usize>(set: &Set<W>, classes: &[Block<W>], at: usize, left: &mut Set<W>)
     requires { at < length classes.now → Within (class_at classes.now at) set.now }
     ensures { at < length classes.now → (e : ℕ → ℕ → Bool)
@@ -89,11 +102,8 @@ fn begin<const W: usize>(set: &Set<W>, classes: &[Block<W>], at: usize, left: &m
 {
     set.within_limit();
     if at < classes.len() {
-        left.clear();
-        if classes[at].is_name() {
-            return;
-        }
         let mut room = None;
+        left.clear();
         left.take_in(set);
         left.flip(classes[at].set_in(&mut room));
     }

@@ -1,21 +1,15 @@
-use Rattle.std.proofs.Common.{◌≡◌, ◌∙◌, ap, sym}
+use Rattle.std.proofs.Common.{◌≡◌, ◌∙◌, ap}
 use Rattle.md_graph.proofs.SetLemmas.{taken_whole, flipped_off, along_two}
 use Rattle.std.proofs.lemmas.List.{get_or_read}
 use Rattle.std.specs.FinSet.{empty, difference}
 use Rattle.md_graph.specs.Sets.{NameSet, Within}
 use Rattle.md_modules.specs.Classes.{class_at}
-use Rattle.md_modules.proofs.ClassLemmas.{left_begins, alone_begins}
+use Rattle.md_modules.proofs.ClassLemmas.{left_begins}
 use Rattle.md_modules.proofs.refinement.begin.Goals as goal
 
-pub returns-then-is_name : goal.returns-then-is_name
-returns-then-is_name g c known e =
+pub returns-then-at-classes : goal.returns-then-at-classes
+returns-then-at-classes g c known e =
     let class = get_or_read c.args.classes.now c.args.at c.index-classes-at.result known c.index-classes-at.is empty in
-    let named = c.is_name.ensures c.if-is_name.true in
-    alone_begins e c.args.set.now (class_at c.args.classes.now c.args.at) named.0 (sym class ∙ named.1) c.clear.new.self c.clear.ensures
-
-pub returns-else-is_name : goal.returns-else-is_name
-returns-else-is_name g c known e =
-    let class = get_or_read c.args.classes.now c.args.at c.index-classes-at-then-at-classes.result known c.index-classes-at-then-at-classes.is empty in
     let names : c.set_in.result.now ≡ class_at c.args.classes.now c.args.at = c.set_in.ensures ∙ class in
     let all : c.take_in.new.self ≡ c.args.set.now = taken_whole _ _ _ c.clear.ensures c.take_in.ensures in
     let inside : Within c.set_in.result.now c.take_in.new.self =

@@ -3,20 +3,21 @@ use Rattle.std.proofs.lemmas.List.{get_or_read}
 use Rattle.std.specs.FinSet.{contains, empty, difference, intersection}
 use Rattle.md_graph.specs.PlainGraph.{adjacent}
 use Rattle.md_graph.proofs.GraphLemmas.{contains-neighbours}
-use Rattle.md_graph.specs.Sets.{NameSet, Within, Disjoint, HasSome}
+use Rattle.md_graph.specs.Sets.{NameSet, Within, Disjoint, HasSome, only_name}
 use Rattle.md_modules.specs.Classes.{class_at}
 use Rattle.md_modules.specs.Classes.{HoldsSplitters, IsSplitter}
-use Rattle.md_modules.proofs.ClassLists.{IsCutAt, work_passes, work_falls, cut_at}
-use Rattle.md_modules.proofs.ClassLemmas.{cutting_begins, cutting_passes, cutting_ends, cutting_cuts, sees_some, misses_some, left_grows, told_by_left, module_unless_cut}
+use Rattle.md_modules.proofs.ClassLists.{IsCutAt, work_passes, work_skips, work_falls, cut_at}
+use Rattle.md_modules.proofs.ClassLemmas.{cutting_begins, cutting_passes, cutting_skips, cutting_ends, cutting_cuts, sees_some, misses_some, left_grows, told_by_left, module_unless_cut}
 use Rattle.md_modules.proofs.refinement.cut_classes.Goals as goal
 use Rattle.md_modules.proofs.refinement.cut_classes.Goals.{In_ok-split, then-loop-at-test+else-len-most, else-loop-at-test}
 use Rattle.md_modules.proofs.refinement.cut_classes.Given.{Over}
 
 pub loop-at-init : goal.loop-at-init
 loop-at-init g c = record {
-  cutting = cutting_begins c.args.set.now c.args.rest.now c.args.classes.items c.requires.holds;
+  cutting = cutting_skips c.args.set.now c.args.rest.now c.args.classes.items 0 c.next_several-at.result c.requires.part (cutting_begins c.args.set.now c.args.rest.now c.args.classes.items c.requires.holds)
+      (λ k low up. subst (λ (ds : List NameSet). (v : ℕ) × (class_at ds k ≡ only_name v)) c.deref.ensures.value (c.next_several-at.ensures.names k low up));
   empty = c.none-other.ensures;
-  left = subst (λ (ds : List NameSet). 0 < length ds → HoldsSplitters (adjacent c.args.graph.now) c.args.set.now (class_at ds 0) c.begin.new.left) c.deref.ensures.value
+  left = subst (λ (ds : List NameSet). c.next_several-at.result < length ds → HoldsSplitters (adjacent c.args.graph.now) c.args.set.now (class_at ds c.next_several-at.result) c.begin.new.left) c.deref-2.ensures.value
       (λ known. c.begin.ensures known (adjacent c.args.graph.now));
 }
 
@@ -83,7 +84,9 @@ pub loop-at-smaller : goal.loop-at-smaller
 loop-at-smaller g c =
     let cs = c.loop-at.classes.items in
     let known : c.loop-at.at < length cs = omega (arith, c.loop-at.classes.ok.0) in
-    work_passes cs c.loop-at.at known (c.loop-at.invariant.cutting.holds.partition.are_apart.some c.loop-at.at known)
+    let passed = work_passes cs c.loop-at.at known (c.loop-at.invariant.cutting.holds.partition.are_apart.some c.loop-at.at known) in
+    let skipped = work_skips cs (c.loop-at.at + 1) c.next_several-at-in_default.result c.next_several-at-in_default.ensures.from in
+    omega arith
 
 pub loop-at-preserved : goal.loop-at-preserved
 loop-at-preserved g c =
@@ -93,12 +96,14 @@ loop-at-preserved g c =
     let class : c.index.result.now ≡ class_at cs c.loop-at.at = get_or_read cs c.loop-at.at _ known c.index.ensures empty in
     let partition = c.loop-at.invariant.cutting.holds.partition in
     record {
-      cutting = cutting_passes c.args.set.now c.args.rest.now cs c.loop-at.at c.loop-at.invariant.cutting
+      cutting = cutting_skips c.args.set.now c.args.rest.now cs (c.loop-at.at + 1) c.next_several-at-in_default.result c.requires.part
+          (cutting_passes c.args.set.now c.args.rest.now cs c.loop-at.at c.loop-at.invariant.cutting
           (module_unless_cut c.args.set.now (class_at cs c.loop-at.at) c.index.result.now c.loop-at.left class (c.loop-at.invariant.left known) (partition.are_apart.some c.loop-at.at known)
-          (λ x h. c.requires.part x (partition.inside c.loop-at.at x h)) c.in_default.ensures.none);
+          (λ x h. c.requires.part x (partition.inside c.loop-at.at x h)) c.in_default.ensures.none))
+          (λ k low up. subst (λ (ds : List NameSet). (v : ℕ) × (class_at ds k ≡ only_name v)) c.deref-in_default.ensures.value (c.next_several-at-in_default.ensures.names k low up));
       empty = c.loop-at.invariant.empty;
       left = λ more.
-          subst (λ (ds : List NameSet). c.loop-at.at + 1 < length ds → HoldsSplitters e c.args.set.now (class_at ds (c.loop-at.at + 1)) c.begin-in_default.new.left) c.deref-in_default.ensures.value
+          subst (λ (ds : List NameSet). c.next_several-at-in_default.result < length ds → HoldsSplitters e c.args.set.now (class_at ds c.next_several-at-in_default.result) c.begin-in_default.new.left) c.deref-in_default-2.ensures.value
           (λ known. c.begin-in_default.ensures known e) more;
     }
 
