@@ -1,5 +1,5 @@
 -- The members of a set, 64 names at a time.
-use Rattle.std.specs.Prelude.{◌≡◌, ℕ, zero, suc, ◌+◌, ◌-◌, ◌*◌, ◌/◌, ◌%◌, ◌<◌, ◌≤◌, max, min, bit_and, Bool, true, false, ◌^◌, cond, ◌&&◌, ◌==◌, nat_le, List, [], ◌∷◌, ◌++◌, length, refl}
+use Rattle.std.specs.Prelude.{◌≡◌, ℕ, zero, suc, ◌+◌, ◌-◌, ◌*◌, ◌/◌, ◌%◌, ◌<◌, ◌≤◌, max, cond, ◌&&◌, ◌==◌, nat_le, List, [], ◌∷◌, ◌++◌, length, refl}
 use Rattle.std.specs.Int.{bit_at}
 use Rattle.std.specs.List.{All}
 use Rattle.std.specs.Option.{option_map_or}
@@ -7,7 +7,6 @@ use Rattle.std.proofs.Common.{subst, ap, sym, ◌∙◌, arith, inl, inr, append
 use Rattle.std.proofs.lemmas.Bool.{cases_lt, le-leb, lt-leb, false_from_ne_true}
 use Rattle.std.proofs.lemmas.List.Elements.{All-head, All-tail, All-weaker}
 use Rattle.std.proofs.lemmas.Option.{slice_get-get_or}
-use Rattle.std.proofs.lemmas.Nat.Bits.{bit_at_and, bit_at-lt, bit_at_ones}
 use Rattle.std.specs.FinSet as set
 use Rattle.md_graph.specs.declared.TheConstants.{NAMES}
 use Rattle.md_graph.specs.Sets.{NameSet}
@@ -150,21 +149,6 @@ same_part bits first from k h =
       | inl under ↦ (λ i. cond (lt-leb (from - first) k (omega arith) i) (bit_at bits k) 0) ∙ sym (λ i. cond (lt-leb from (first + k) under i) (bit_at bits k) 0)
       | inr above ↦ (λ i. cond (le-leb (from - first) k (omega arith) i) (bit_at bits k) 0) ∙ sym (λ i. cond (le-leb from (first + k) above i) (bit_at bits k) 0)
     ]
-
--- the names `first + k` from `from` on: bit k of the mask is 1 for these
-abbrev pub IsMask : ℕ → ℕ → ℕ → Type 0
-IsMask mask first from = (k : ℕ) → k < 64 → bit_at mask k ≡ cond (nat_le from (first + k)) (bit_at (2 ^ 64 - 1) k) 0
-
-pub mask_whole : (first from : ℕ) → from ≤ first → IsMask (2 ^ 64 - 1) first from
-mask_whole first from low k h = sym (λ i. cond (le-leb from (first + k) (omega arith) i) (bit_at (2 ^ 64 - 1) k) 0)
-
-pub mask_cuts : (bits mask first from : ℕ) → IsMask mask first from → (k : ℕ) → k < 64 → bit_at (bit_and bits mask) k ≡ cond (nat_le from (first + k)) (bit_at bits k) 0
-mask_cuts bits mask first from is k h =
-    bit_at_and bits mask k ∙ ap (min (bit_at bits k)) (is k h ∙ ap (λ x. cond (nat_le from (first + k)) x 0) (bit_at_ones 64 k h)) ∙ least (nat_le from (first + k)) (bit_at bits k) (bit_at-lt bits k)
-  where
-    least : (b : Bool) (x : ℕ) → x < 2 → min x (cond b 1 0) ≡ cond b x 0
-    least true x low = omega arith
-    least false x low = omega arith
 
 -- the front of the word of the name behind v
 pub names_after : (v : ℕ) → v < NAMES → (v + 1) / 64 * 64 ≤ NAMES

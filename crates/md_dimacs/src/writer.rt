@@ -111,13 +111,11 @@ fn write_row<const W: usize>(
     let row = graph.row(v);
     let from = v + 1;
     let mut first = from / 64 * 64;
-    let mut mask = bits_from(u64::MAX, first, from);
     while (first as usize) < places.len() {
         chunk.make_room(16 * 64, text)?;
-        let bits = row.block(first) & mask;
+        let bits = bits_from(row.block(first), first, from);
         write_block(first, bits, start, places, chunk);
         first += 64;
-        mask = u64::MAX;
     }
     Ok(())
 }

@@ -1,9 +1,9 @@
-use Rattle.std.proofs.Common.{bit_and, arith, ap, sym, ◌∙◌, ◌+◌, ◌++◌, ℕ, ◌<◌}
+use Rattle.std.proofs.Common.{arith, ap, sym, ◌∙◌, ◌+◌, ◌++◌, ℕ, ◌<◌}
 use Rattle.std.specs.FinSet as set
 use Rattle.md_graph.specs.PlainGraph.{neighbours}
 use Rattle.md_graph.specs.Words.{bits_between}
 use Rattle.md_text.specs.Pieces.{piece_text}
-use Rattle.md_dimacs.proofs.BlockLemmas.{block_split, block_places, block_step, block_start, block_end, all_there, mask_cuts, mask_whole, names_after, word_fits}
+use Rattle.md_dimacs.proofs.BlockLemmas.{block_split, block_places, block_step, block_start, block_end, all_there, names_after, word_fits}
 use Rattle.md_dimacs.proofs.writer.write_row.Goals as goal
 
 pub loop-first-init : goal.loop-first-init
@@ -11,7 +11,6 @@ loop-first-init g c = record {
   aligned = omega arith;
   named = names_after c.args.v c.requires.name;
   near = omega arith;
-  masks = c.bits_from-mask.ensures;
   written = ap (λ l. (c.args.text.now.items ++ c.args.chunk.now) ++ l) (block_start c.args.graph.now c.args.v (c.args.v + 1) _ (omega arith) (omega arith));
 }
 
@@ -19,22 +18,21 @@ pub write_block-requires-clause-there : goal.write_block-requires-clause-there
 write_block-requires-clause-there g c =
     let fits = word_fits c.loop-first.first c.loop-first.invariant.aligned (omega (arith, c.requires.places.named)) in
     let has = λ (k : ℕ) (h : k < 64). ap (λ s. set.contains s (c.loop-first.first + k)) (sym c.row-row.ensures.set) ∙ c.block.ensures k h in
-    let cut = block_split (neighbours c.args.graph.now c.args.v) (c.args.v + 1) c.loop-first.first c.block.result (bit_and c.block.result c.loop-first.mask) c.loop-first.invariant.near fits has (mask_cuts c.block.result c.loop-first.mask c.loop-first.first (c.args.v + 1) c.loop-first.invariant.masks) in
+    let cut = block_split (neighbours c.args.graph.now c.args.v) (c.args.v + 1) c.loop-first.first c.block.result c.bits_from-bits.result c.loop-first.invariant.near fits has c.bits_from-bits.ensures in
     all_there c.args.graph.now c.args.places.now _ (block_places c.args.graph.now c.row-row.ensures.graph c.args.v c.args.places.now c.requires.places _ _ _ cut)
 
 pub loop-first-preserved : goal.loop-first-preserved
 loop-first-preserved g c =
     let fits = word_fits c.loop-first.first c.loop-first.invariant.aligned (omega (arith, c.requires.places.named)) in
     let has = λ (k : ℕ) (h : k < 64). ap (λ s. set.contains s (c.loop-first.first + k)) (sym c.row-row.ensures.set) ∙ c.block.ensures k h in
-    let cut = block_split (neighbours c.args.graph.now c.args.v) (c.args.v + 1) c.loop-first.first c.block.result (bit_and c.block.result c.loop-first.mask) c.loop-first.invariant.near fits has (mask_cuts c.block.result c.loop-first.mask c.loop-first.first (c.args.v + 1) c.loop-first.invariant.masks) in
+    let cut = block_split (neighbours c.args.graph.now c.args.v) (c.args.v + 1) c.loop-first.first c.block.result c.bits_from-bits.result c.loop-first.invariant.near fits has c.bits_from-bits.ensures in
     let places = block_places c.args.graph.now c.row-row.ensures.graph c.args.v c.args.places.now c.requires.places _ _ _ cut in
     record {
       aligned = omega (arith, c.loop-first.invariant.aligned);
       named = fits;
       near = omega (arith, c.loop-first.invariant.near);
-      masks = mask_whole (c.loop-first.first + 64) (c.args.v + 1) (omega (arith, c.loop-first.invariant.near));
       written =
-          block_step c.args.graph.now c.args.v (c.args.v + 1) c.loop-first.first c.args.places.now (bits_between c.loop-first.first (bit_and c.block.result c.loop-first.mask) 64) c.loop-first.text.items c.loop-first.chunk c.make_room.new.text.items
+          block_step c.args.graph.now c.args.v (c.args.v + 1) c.loop-first.first c.args.places.now (bits_between c.loop-first.first c.bits_from-bits.result 64) c.loop-first.text.items c.loop-first.chunk c.make_room.new.text.items
           c.make_room.new.self c.write_block.new.chunk (piece_text c.args.start) _ c.loop-first.invariant.written cut places c.requires.start c.in_ok-make_room.ensures.same c.write_block.ensures;
     }
 
