@@ -42,7 +42,7 @@ pub(crate) fn bits_of(byte: u8) -> u64
     ensures below { result < 64 }
     ensures bits { (k : ℕ) → k < 6 → bit_at result k ≡ bit_at (byte - 63) (5 - k) }
 {
-    turned((byte - 63) as u64) as u64
+    turned(u64::from(byte) - 63) as u64
 }
 
 // The bits of `low`, n of them, and those of `high` behind them.
