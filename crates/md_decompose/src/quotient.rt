@@ -119,9 +119,12 @@ fn pair_room<const W: usize>(graph: &GraphOf<W>, heads: &Set<W>) -> usize {
     if count <= FEW {
         return FEW * (FEW - 1) / 2;
     }
+    let others = graph.vertices().minus(heads);
+    let mut near = Set::none();
     let mut ends: usize = 0;
     for head in heads.members() {
-        ends = ends.wrapping_add(graph.row(head).and(heads).count() as usize);
+        near.become_alone(graph.row(head), &others, &others);
+        ends = ends.wrapping_add(near.count() as usize);
     }
     ends / 2
 }
