@@ -2,6 +2,7 @@
 ghost use Rattle.std.specs.Prelude.{◌≡◌, ℕ, ◌+◌, ◌-◌, ◌^◌, ◌<◌, ◌≤◌, ◌↔◌, List, [], ◌++◌, Bool, false, not, Option, None, Some, length, take, drop, IsTrue, IsOk, IfOk, OnOk, OnErr, IfSome, OnSome, IfNone, IsErrOf, IsOkUnless};
 ghost use Rattle.std.specs.Io.{ReadsAtMost, appended_bytes};
 ghost use Rattle.std.specs.Io.KnownBytes.{Appends, Keeps, Consumes, IsAtEnd};
+ghost use Rattle.md_io.specs.declared.system.TheConstants.{LONGEST_READ as longest_read};
 ghost use Rattle.md_io.specs.Told.{untold};
 ghost use Rattle.md_io.specs.Count.{count_up};
 ghost use Rattle.md_io.specs.Front.{AppendsFront, Begins};
@@ -15,8 +16,10 @@ use std::alloc::Global;
 use std::io::{ErrorKind, Read, Write};
 use std::{fs, rt};
 
-// The most bytes of the first read of a file, and of any: each is as long as all before it.
-const FIRST_READ: usize = 8 * 1024;
+// The most bytes of a short read, and of any. The first read of a file is short; a read that filled
+// its room is followed by one as long as all before it, and any other by a short one, since it was
+// the last, mostly.
+const SHORT_READ: usize = 8 * 1024;
 
 const LONGEST_READ: usize = 128 * 1024;
 
@@ -78,10 +81,17 @@ fn read_at<T: Read>(reader: &mut T, buffer: &mut [u8], at: usize) -> Option<usiz
     read_once(reader, &mut buffer[at..])
 }
 
-// Appends the bytes of one read, and at most one byte more than the limit in all. Room is made
-// first, so that want of memory loses no byte.
-fn read_piece<T: Read>(reader: &mut T, bytes: &mut Vec<u8>, limit: u64) -> Result<usize, LoadFault>
-    requires { length bytes.old.items ≤ limit }
+// Appends at most `most` bytes of one read, and at most one byte more than the limit in all. Room is
+// made first, so that want of memory loses no byte.
+fn read_piece<T: Read>(
+    reader: &mut T,
+    bytes: &mut Vec<u8>,
+    most: usize,
+    limit: u64,
+) -> Result<usize, LoadFault>
+    requires some { 0 < most }
+    requires few { most ≤ longest_read }
+    requires within { length bytes.old.items ≤ limit }
     ensures grows { bytes.new.items
         ≡ bytes.old.items ++ appended_bytes bytes.old.items bytes.new.items }
     ensures count { IfOk result (λ n. length bytes.new.items ≡ length bytes.old.items + n) }
@@ -93,7 +103,6 @@ fn read_piece<T: Read>(reader: &mut T, bytes: &mut Vec<u8>, limit: u64) -> Resul
     ensures not_too_long { ¬ IsErrOf result LoadFault.TooLong }
 {
     let filled = bytes.len();
-    let most = filled.max(FIRST_READ).min(LONGEST_READ);
     let room = most.min((limit - filled as u64).saturating_add(1) as usize);
     bytes
         .resize(filled + room, 0)
@@ -119,12 +128,27 @@ fn read_up_to<T: Read>(reader: &mut T, bytes: &mut Vec<u8>, limit: u64) -> Resul
     ensures end { OnOk result (IsAtEnd (T.remaining reader.new)) }
     ensures too_long { IsErrOf result LoadFault.TooLong → limit < length bytes.new.items }
 {
+    let mut most = SHORT_READ;
     while bytes.len() as u64 <= limit {
-        if read_piece(reader, bytes, limit)? == 0 {
+        let count = read_piece(reader, bytes, most, limit)?;
+        if count == 0 {
             return Ok(());
         }
+        most = most_behind(most, count, bytes.len());
     }
     Err(LoadFault::TooLong)
+}
+
+// The most bytes of the read behind one of `count` bytes, which had room for `most`, where so many
+// are read in all.
+fn most_behind(most: usize, count: usize, filled: usize) -> usize
+    ensures some { 0 < result }
+    ensures few { result ≤ longest_read }
+{
+    if count < most {
+        return SHORT_READ;
+    }
+    filled.max(SHORT_READ).min(LONGEST_READ)
 }
 
 // Reads a whole file, or refuses it where it has more bytes than the limit. Every byte that was
