@@ -1,6 +1,5 @@
 pub mod Places
 pub mod Cutting
-pub mod ArcRows
 pub mod Named
 pub mod Behind
 pub mod Fronts

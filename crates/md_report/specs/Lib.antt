@@ -8,6 +8,5 @@ pub mod Places
 pub mod Reports
 pub mod WellFormedLines
 pub mod Cuts
-pub mod Rows
 pub mod Words
 pub mod Laws

@@ -104,7 +104,7 @@ fn quick_name(text: &[u8]) -> Option<(u32, &[u8])>
 
 // Whether nothing is left, or a space comes.
 #[inline(always)]
-pub(crate) fn is_piece_end(rest: &[u8]) -> bool
+fn is_piece_end(rest: &[u8]) -> bool
     ensures { IsTrue result → Opens 32 rest.now }
 {
     match rest.first() {
