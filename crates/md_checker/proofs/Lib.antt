@@ -19,5 +19,7 @@ mod FitRows
 mod FitNodes
 mod FitStacks
 mod TextWalk
+mod Comparing
+mod ArcTexts
 mod HeadPairs
 mod Taking

@@ -6,6 +6,7 @@ use Rattle.md_text.specs.Numbers.{decimal}
 use Rattle.md_text.specs.Pieces.{text_at}
 use Rattle.md_tree.specs.declared.Pair.{Pair}
 use Rattle.md_tree.specs.TreeTexts.{pairs_text}
+use Rattle.md_checker.specs.Gathered.{Matches}
 
 -- the pairs of the position `low`, where the head v stands, with those of the heads that are adjacent to it, of which the
 -- first stands at the position j
@@ -28,10 +29,6 @@ near_heads e v (w ∷ ws) = cond (e v w) (w ∷ near_heads e v ws) (near_heads e
 abbrev pub ArePlaces : List Piece → ℕ → List ℕ → Type 0
 ArePlaces pieces j [] = ⊤
 ArePlaces pieces j (w ∷ ws) = (w < length pieces) × (text_at pieces w ≡ decimal j) × ArePlaces pieces (suc j) ws
-
--- the text is `spelled` and what stands behind the bytes that are gathered, where the rest begins with these
-abbrev pub Matches : List ℕ → List ℕ → List ℕ → List ℕ → Type 0
-Matches text rest gathered spelled = (behind : List ℕ) → rest ≡ gathered ++ behind → text ≡ spelled ++ behind
 
 -- the mark before the pair that comes behind these
 abbrev pub mark_behind : List Pair → ℕ

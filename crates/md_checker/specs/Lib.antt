@@ -6,6 +6,7 @@ pub mod Codes
 pub mod Standing
 pub mod Checkers
 pub mod FitTests
+pub mod Gathered
 pub mod HeadPairs
 pub mod TextFits
 pub mod Hands

@@ -1,5 +1,6 @@
 //! Whether a chain, an orientation or two orders are what a report may say of a graph.
-ghost use Rattle.std.specs.Prelude.{◌≡◌, ℕ, List, ◌∷◌, ◌<◌, ◌≤◌, ◌↔◌, ◌++◌, length, take, map, IfOk, IfSome, IfNone, IsTrue};
+ghost use Rattle.std.specs.Prelude.{◌≡◌, ℕ, List, ◌∷◌, ◌<◌, ◌≤◌, ◌↔◌, ◌⊎◌, ◌++◌, length, take, map, IfOk, IfSome, IfNone, IsTrue};
+ghost use Rattle.std.specs.FinSet as set;
 ghost use Rattle.md_graph.specs.declared.TheConstants.{NAMES};
 ghost use Rattle.md_graph.specs.NameSet.{ascending};
 ghost use Rattle.md_graph.specs.PlainGraph.{adjacent, neighbours, complement};
@@ -8,13 +9,16 @@ ghost use Rattle.md_graph.specs.Sets.{Has};
 ghost use Rattle.md_forcing.specs.declared.arc.Arc.{Arc};
 ghost use Rattle.md_forcing.specs.Forcing.{arc, IsArc, ForcesDirectly, IsListToReverse};
 ghost use Rattle.md_forcing.specs.Lists.{Holds, NoRepeats};
+ghost use Rattle.md_forcing.specs.Seen.{IsSeen};
 ghost use Rattle.md_forcing.specs.Sides.{adjacent_on};
 ghost use Rattle.md_orientation.specs.Chains.{IsForcingChain};
 ghost use Rattle.md_orientation.specs.Orientations.{HasTransitiveOrientation, IsLeastEdgeOrientation};
 ghost use Rattle.md_orientation.specs.Listed.{arcs_below};
 ghost use Rattle.md_orientation.specs.Orders.{IsOrder, Realise};
+ghost use Rattle.md_report.specs.Lines.{arcs_text};
 ghost use Rattle.md_checker.specs.Flips.{AreFlipped};
 
+use crate::arc_text::spells_arcs;
 use md_forcing::{Arc, Arcs, Chain, Seen, Side};
 use md_graph::{Graph, Memory, NAMES, Names, empty_rows};
 use md_orientation::{Ending, walk};
@@ -66,22 +70,51 @@ fn leads_back(
     ensures { IfOk result (λ is. IsTrue is
         ↔ IsListToReverse (adjacent_on side graph.now) first (first ∷ rest.now)) }
 {
+    let mut rows = empty_rows(alloc, graph.bound())?;
+    Ok(leads_on(graph, side, first, rest, &mut rows))
+}
+
+// The same with rows in which the arcs are put down, by their tails. Condition: there is no arc yet.
+fn leads_on(graph: &Graph, side: Side, first: Arc, rest: &[Arc], rows: &mut [Names]) -> bool
+    requires arc { IsArc (adjacent_on side graph.now) first }
+    requires room { (v : ℕ) → Has graph.now.vertices v → v < length rows.old }
+    requires none { (v : ℕ) → row_of rows.old v ≡ set.empty }
+    ensures { IsTrue result
+        ↔ IsListToReverse (adjacent_on side graph.now) first (first ∷ rest.now) }
+{
     let _vertices = graph.vertices();
-    let mut seen = Seen::new(alloc, graph)?;
-    seen.put(first);
+    put_arc(rows, first);
     let mut last = first;
     for next in rest {
-        if !is_forced(graph, side, last, *next) || seen.has(*next) {
-            return Ok(false);
+        if !is_forced(graph, side, last, *next) || has_arc(rows, *next) {
+            return false;
         }
-        seen.put(*next);
+        put_arc(rows, *next);
         last = *next;
     }
     let back = Arc {
         tail: first.head,
         head: first.tail,
     };
-    Ok(last == back)
+    last == back
+}
+
+// Puts an arc down in the row of its tail.
+fn put_arc(rows: &mut [Names], by: Arc)
+    requires tail { by.tail < length rows.old }
+    requires head { by.head < NAMES }
+    ensures room { length rows.new ≡ length rows.old }
+    ensures taken { (a : Arc) → IsSeen rows.new a ↔ (IsSeen rows.old a ⊎ (a ≡ by)) }
+{
+    rows[by.tail as usize].insert(by.head);
+}
+
+// Whether an arc is put down.
+fn has_arc(rows: &[Names], by: Arc) -> bool
+    requires { by.tail < length rows.now }
+    ensures { result ≡ set.contains (row_of rows.now by.tail) by.head }
+{
+    rows[by.tail as usize].has(by.head)
 }
 
 // Whether `next` is an arc of this side that `last` forces directly.
@@ -134,6 +167,29 @@ pub fn is_least_edge_orientation(alloc: Global, graph: &Graph, arcs: &Arcs) -> R
     match walk(alloc, graph, Side::Edges)? {
         Ending::Stopped(_) => Ok(false),
         Ending::Whole(chosen) => Ok(are_listed(&chosen, arcs.as_slice())),
+    }
+}
+
+// Whether the text is a word and behind it the arcs of the least-edge orientation of a graph that
+// has a transitive one; a false says nothing. Errors: want of memory.
+pub(crate) fn is_word_and_orientation(
+    alloc: Global,
+    graph: &Graph,
+    word: &[u8],
+    text: &[u8],
+) -> Result<bool, Memory>
+    ensures { IfOk result (λ is. IsTrue is → (arcs : List Arc)
+        × HasTransitiveOrientation (adjacent graph.now)
+        × IsLeastEdgeOrientation (adjacent graph.now) arcs
+        × (text.now ≡ word.now ++ arcs_text arcs)) }
+{
+    let _vertices = graph.vertices();
+    let Some(behind) = text.strip_prefix(word) else {
+        return Ok(false);
+    };
+    match walk(alloc, graph, Side::Edges)? {
+        Ending::Stopped(_) => Ok(false),
+        Ending::Whole(chosen) => spells_arcs(alloc, &chosen, behind),
     }
 }
 

@@ -120,14 +120,14 @@ impl<'a> Checker<'a> {
         self.inner.feed(alloc, line)
     }
 
-    // Whether the text is that of the tree that is due: the line is then taken, and else nothing
-    // changes. A false says nothing: such a line may come as well.
-    fn takes_tree(&mut self, alloc: Global, text: &[u8]) -> Result<bool, Memory>
+    // Whether the text is that of the tree or the orientation that is due: the line is then taken,
+    // and else nothing changes. A false says nothing: such a line may come as well.
+    fn takes_text(&mut self, alloc: Global, text: &[u8]) -> Result<bool, Memory>
         ensures takes { IfOk result (λ taken. IsTrue taken → Takes self.old text.now self.new) }
         ensures refused { IfOk result (λ taken. ¬ IsTrue taken → self.new ≡ self.old) }
         ensures stays { IsErr result → self.new ≡ self.old }
     {
-        self.inner.takes_tree(alloc, text)
+        self.inner.takes_text(alloc, text)
     }
 
     // Whether a line with this text may come: it is then taken, and else nothing changes. Errors:
@@ -141,7 +141,7 @@ impl<'a> Checker<'a> {
         ensures refused { IfOk result (λ taken. ¬ IsTrue taken → self.new ≡ self.old) }
         ensures stays { IsErr result → self.new ≡ self.old }
     {
-        if self.takes_tree(alloc, text)? {
+        if self.takes_text(alloc, text)? {
             return Ok(true);
         }
         self.feed_read(alloc, text)
@@ -167,9 +167,9 @@ impl<'a> Checker<'a> {
 }
 
 impl<'a> Inner<'a> {
-    // Whether the text is that of the tree that is due: the line is then taken, and else nothing
-    // changes. A false says nothing.
-    fn takes_tree(&mut self, alloc: Global, text: &[u8]) -> Result<bool, Memory>
+    // Whether the text is that of the tree or the orientation that is due: the line is then taken,
+    // and else nothing changes. A false says nothing.
+    fn takes_text(&mut self, alloc: Global, text: &[u8]) -> Result<bool, Memory>
         ensures takes { IfOk result (λ taken. IsTrue taken
             → Takes (place_of self.old) text.now (place_of self.new)) }
         ensures refused { IfOk result (λ taken. ¬ IsTrue taken
@@ -177,8 +177,8 @@ impl<'a> Inner<'a> {
         ensures stays { IsErr result → place_of self.new ≡ place_of self.old }
     {
         match self {
-            Inner::OverGraphs(checker) => checker.takes_tree(alloc, text),
-            Inner::OverSession(checker) => checker.takes_tree(alloc, text),
+            Inner::OverGraphs(checker) => checker.takes_text(alloc, text),
+            Inner::OverSession(checker) => checker.takes_text(alloc, text),
         }
     }
 

@@ -5,6 +5,7 @@ ghost use Rattle.md_report.specs.WellFormedLines.{IsWellFormedLine};
 ghost use Rattle.md_report.specs.Places.{Reports};
 ghost use Rattle.md_checker.specs.Hands.{kept_in, graphs_left, IsHand};
 
+use crate::certificates::is_word_and_orientation;
 use crate::judgements::{is_tree_line, reports};
 use crate::text_fit::is_word_and_tree;
 use md_graph::{Graph, Memory};
@@ -108,7 +109,11 @@ impl Hand {
                 GraphBySize::Small(graph) => is_word_and_tree(alloc, graph, b"t ", text),
                 GraphBySize::Large(graph) => is_word_and_tree(alloc, graph, b"t ", text),
             },
-            Rows::Wide(_) => Ok(false),
+            Rows::Wide(graph) => match self.mode {
+                GraphMode::Tree => Ok(false),
+                GraphMode::Compare => is_word_and_orientation(alloc, graph, b"yes", text),
+                GraphMode::Permute => Ok(false),
+            },
         }
     }
 }

@@ -9,16 +9,14 @@ ghost use Rattle.md_text.specs.Pieces.{piece_text, texts_at};
 ghost use Rattle.md_tree.specs.declared.Pair.{Pair};
 ghost use Rattle.md_tree.specs.TreeTexts.{pairs_text};
 ghost use Rattle.md_checker.specs.FitTests.{AreHeads, name_set};
-ghost use Rattle.md_checker.specs.HeadPairs.{near_heads, near_pairs, head_pairs, ArePlaces, Matches, MatchesPairs};
+ghost use Rattle.md_checker.specs.HeadPairs.{near_heads, near_pairs, head_pairs, ArePlaces, MatchesPairs};
 
+use crate::gathered::{past_each, put_pair};
 use crate::tree_fit::set_of;
-use md_graph::{GraphOf, Members, Memory, Set};
-use md_text::{CHUNK_SIZE, Chunk, Piece, digits_piece, number_piece, piece_behind};
+use md_graph::{GraphOf, Memory, Set};
+use md_text::{Chunk, Piece, digits_piece, number_piece, piece_behind};
 use md_tree::skip_byte;
 use std::alloc::Global;
-
-// Two pieces have at most so many bytes.
-const PAIR_ROOM: usize = 16;
 
 // What a comparison of pairs needs beside the text: at the place of each head its position, a chunk
 // in which pairs are gathered, and the mark before the next pair.
@@ -148,66 +146,11 @@ fn past_row<'a, const W: usize>(
     let start = piece_behind(space.mark, digits);
     space.mark = b',';
     let rest = put_pair(start, first, text, &space.places, &mut space.chunk)?;
-    past_others(
+    past_each(
         piece_behind(b',', digits),
         others,
         rest,
         &space.places,
         &mut space.chunk,
     )
-}
-
-// Compares, for each of the names, the piece `start` and the one at its place. Never inlined, so
-// that its loop has the registers to itself.
-#[inline(never)]
-fn past_others<'a>(
-    start: Piece,
-    others: Members<'_>,
-    text: &'a [u8],
-    places: &[Piece],
-    chunk: &mut Chunk,
-) -> Option<&'a [u8]>
-    requires { All (λ v. v < length places.now) others }
-    ensures { IfSome result (λ rest. (whole spelled : List ℕ)
-        → Matches whole text.now chunk.old spelled → Matches whole rest.now chunk.new
-        (spelled ++ texts_at places.now (piece_text start) others.entry)) }
-{
-    let mut rest = text;
-    for other in others {
-        rest = put_pair(start, other, rest, places, chunk)?;
-    }
-    Some(rest)
-}
-
-// Gathers the piece `start` and the one at the place of a name; a chunk without room for them is
-// compared first.
-#[inline(always)]
-fn put_pair<'a>(
-    start: Piece,
-    name: u32,
-    text: &'a [u8],
-    places: &[Piece],
-    chunk: &mut Chunk,
-) -> Option<&'a [u8]>
-    requires { name < length places.now }
-    ensures { IfSome result (λ rest. (whole spelled : List ℕ)
-        → Matches whole text.now chunk.old spelled → Matches whole rest.now chunk.new
-        (spelled ++ texts_at places.now (piece_text start) (name ∷ []))) }
-{
-    let rest = make_room(text, chunk)?;
-    chunk.put_both(start, places[name as usize]);
-    Some(rest)
-}
-
-// Compares what is gathered, if there is no room for a pair behind it.
-#[inline(always)]
-fn make_room<'a>(text: &'a [u8], chunk: &mut Chunk) -> Option<&'a [u8]>
-    ensures room { IfSome result (λ rest. length chunk.new + PAIR_ROOM ≤ CHUNK_SIZE) }
-    ensures same { IfSome result (λ rest. (behind : List ℕ) → rest.now ≡ chunk.new ++ behind
-        → text.now ≡ chunk.old ++ behind) }
-{
-    if chunk.room() < PAIR_ROOM {
-        return chunk.strip_from(text);
-    }
-    Some(text)
 }

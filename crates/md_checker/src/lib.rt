@@ -3,10 +3,12 @@
 #![tactic(auto)]
 
 mod answer;
+mod arc_text;
 mod certificates;
 mod check;
 mod checker;
 mod fixed_lines;
+mod gathered;
 mod graph_checker;
 mod hand;
 mod head_pairs;

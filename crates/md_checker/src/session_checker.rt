@@ -94,7 +94,7 @@ impl SessionChecker {
 
     // Whether the text is that of the tree that is due: the line is then taken, and else nothing
     // changes. A false says nothing.
-    pub(crate) fn takes_tree(&mut self, alloc: Global, text: &[u8]) -> Result<bool, Memory>
+    pub(crate) fn takes_text(&mut self, alloc: Global, text: &[u8]) -> Result<bool, Memory>
         ensures takes { IfOk result (λ taken.
             IsTrue taken → Takes self.old text.now self.new) }
         ensures refused { IfOk result (λ taken. ¬ IsTrue taken → self.new ≡ self.old) }

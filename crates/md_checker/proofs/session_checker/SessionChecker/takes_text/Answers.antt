@@ -1,7 +1,7 @@
 use Rattle.std.proofs.Common.{drop, sym, ◌∙◌, ap, subst}
 use Rattle.md_report.specs.Places.{at_edits}
 use Rattle.md_checker.specs.Standing.{session_place, Takes}
-use Rattle.md_checker.proofs.session_checker.SessionChecker.takes_tree.Goals as goal
+use Rattle.md_checker.proofs.session_checker.SessionChecker.takes_text.Goals as goal
 
 pub returns-else-not-branch-clause-takes : goal.returns-else-not-branch-clause-takes
 returns-else-not-branch-clause-takes c t =

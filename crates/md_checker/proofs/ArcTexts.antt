@@ -1,0 +1,77 @@
+-- The text of the arcs of a set, piece by piece.
+use Rattle.std.proofs.Common.{◌≡◌, ℕ, suc, ◌+◌, ◌<◌, List, [], ◌∷◌, ◌++◌, map, length, get_or, codes, append_assoc, refl, sym, ◌∙◌, ap, subst, arith}
+use Rattle.std.proofs.lemmas.List.Elements.{All-head, All-tail}
+use Rattle.std.proofs.lemmas.List.Concat.{flat_map-append}
+use Rattle.std.proofs.lemmas.Option.{slice_get-get_or}
+use Rattle.std.specs.List.{All}
+use Rattle.std.specs.Option.{option_map_or}
+use Rattle.md_graph.specs.declared.TheConstants.{NAMES}
+use Rattle.md_graph.specs.NameSet.{ascending}
+use Rattle.md_graph.specs.PlainGraph.{PlainGraph, IsGraph, adjacent}
+use Rattle.md_graph.specs.Rows.{row_of}
+use Rattle.md_graph.specs.Sets.{NameSet, Has}
+use Rattle.md_graph.proofs.GraphLemmas.{adjacent_ends}
+use Rattle.md_text.specs.declared.piece.Piece.{Piece}
+use Rattle.md_text.specs.Numbers.{decimal}
+use Rattle.md_text.specs.Pieces.{piece_text, text_at, texts_at}
+use Rattle.md_tree.specs.Positions.{ArePositions}
+use Rattle.md_forcing.specs.declared.arc.Arc.{Arc}
+use Rattle.md_forcing.specs.declared.seen.Side.TheVariants.{Edges}
+use Rattle.md_forcing.specs.Forcing.{arc}
+use Rattle.md_forcing.specs.Seen.{IsSeen}
+use Rattle.md_forcing.proofs.NameLists.{of_ascending}
+use Rattle.md_orientation.specs.Listed.{arcs_below}
+use Rattle.md_orientation.specs.Walking.{IsWhole}
+use Rattle.md_orientation.proofs.Chosen.{chosen_arc}
+use Rattle.md_orientation.proofs.Listing.{arcs_more, arcs_none}
+use Rattle.md_orientation.proofs.Reached.{side_premises}
+use Rattle.md_report.specs.Lines.{arc_text, arcs_text}
+use Rattle.md_checker.specs.Gathered.{Matches}
+use Rattle.md_checker.proofs.Ordering.{holds_item}
+
+-- the piece of a name
+name_text : (pieces : List Piece) → ArePositions pieces → (v : ℕ) → v < length pieces → text_at pieces v ≡ decimal v
+name_text pieces are v there =
+    let any : Piece = record { bytes = []; used = 0; within = omega arith } in
+    ap (λ o. option_map_or piece_text o []) (slice_get-get_or pieces v any there) ∙ are.text v any there
+
+-- the pieces of one tail's arcs are their text
+pub heads_text : (pieces : List Piece) → ArePositions pieces → (start : List ℕ) (tail : ℕ) → start ≡ 32 ∷ (decimal tail ++ 62 ∷ []) → (heads : List ℕ) → All (λ v. v < length pieces) heads →
+    texts_at pieces start heads ≡ arcs_text (map (arc tail) heads)
+unfolding texts_at
+heads_text pieces are start tail is [] there = refl
+heads_text pieces are start tail is (v ∷ heads) there =
+    let here : text_at pieces v ≡ decimal v = name_text pieces are v (All-head (λ v. v < length pieces) v heads there) in
+    let more : texts_at pieces start heads ≡ arcs_text (map (arc tail) heads) = heads_text pieces are start tail is heads (All-tail (λ v. v < length pieces) v heads there) in
+    (λ i. (is i ++ here i) ++ more i)
+    ∙ ap (λ l. 32 ∷ l ++ arcs_text (map (arc tail) heads)) (append_assoc (decimal tail) (62 ∷ []) (decimal v))
+
+-- the heads of a row are names with a piece
+pub heads_there : (rows : List NameSet) (pieces : List Piece) (tail : ℕ) (heads : NameSet) → ((a : Arc) → IsSeen rows a → a.head < length rows) → length pieces ≡ length rows → heads ≡ row_of rows tail →
+    All (λ v. v < length pieces) (ascending heads)
+heads_there rows pieces tail heads within count is k d below =
+    let v = get_or (ascending heads) k d in
+    let member : Has heads v = (of_ascending heads NAMES v (holds_item (ascending heads) k d below)).0 in
+    let less : v < length rows = within (arc tail v) (subst (λ s. Has s v) is member) in
+    omega arith
+
+-- ---- row by row
+
+pub arcs_begin : (rows : List NameSet) (text gathered : List ℕ) → gathered ≡ [] → Matches text text gathered (arcs_text (arcs_below rows 0))
+arcs_begin rows text gathered none behind e = e ∙ ap (λ l. l ++ behind) none ∙ sym (ap (λ l. arcs_text l ++ behind) (arcs_none rows))
+
+pub arcs_on : (rows : List NameSet) (pieces : List Piece) (start : List ℕ) (tail : ℕ) (heads : NameSet) (list text rest gathered : List ℕ) → ArePositions pieces → start ≡ 32 ∷ (decimal tail ++ 62 ∷ []) →
+    heads ≡ row_of rows tail → list ≡ ascending heads → All (λ v. v < length pieces) list → Matches text rest gathered (arcs_text (arcs_below rows tail) ++ texts_at pieces start list) →
+    Matches text rest gathered (arcs_text (arcs_below rows (tail + 1)))
+arcs_on rows pieces start tail heads list text rest gathered are is_start is_row is_list there m behind e =
+    m behind e
+    ∙ ap (λ l. (arcs_text (arcs_below rows tail) ++ l) ++ behind) (heads_text pieces are start tail is_start list there ∙ ap (λ l. arcs_text (map (arc tail) l)) is_list)
+    ∙ ap (λ l. l ++ behind) (sym (flat_map-append (λ a. codes " " ++ arc_text a) (arcs_below rows tail) (map (arc tail) (ascending heads))))
+    ∙ ap (λ l. arcs_text l ++ behind) (arcs_more rows tail _ _ _ refl is_row refl)
+
+-- ---- the heads of the least-edge orientation
+
+pub chosen_within : {g : PlainGraph} → IsGraph g → (chosen : List NameSet) → IsWhole (adjacent g) chosen → ((v : ℕ) → Has g.vertices v → v < length chosen) → (a : Arc) → IsSeen chosen a → a.head < length chosen
+chosen_within {g} is chosen whole room a seen =
+    let side = side_premises is Edges in
+    room a.head (adjacent_ends is a.tail a.head (chosen_arc (adjacent g) side.adjacency a ((whole.all a).0 seen))).1

@@ -1,7 +1,0 @@
-use Rattle.md_checker.specs.Checkers.{place_of}
-use Rattle.md_checker.proofs.Moves.{taken_sound}
-use Rattle.md_checker.proofs.checker.Checker.takes_tree.Goals as goal
-
-pub invariant_of-self : goal.invariant_of-self
-invariant_of-self c =
-    taken_sound c.takes_tree.result (place_of c.self.inside.inner) (place_of c.takes_tree.new.self) c.args.text.now c.self.invariant c.takes_tree.ensures.takes c.takes_tree.ensures.refused c.takes_tree.ensures.stays
