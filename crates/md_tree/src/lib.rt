@@ -30,7 +30,6 @@ pub use numbers::small_number;
 pub use parts::{Part, build, nodes_of};
 pub use reader::{TreeFault, read_tree};
 pub use tree_graph::graph_of;
-pub use words::word;
 pub use writer::{push_text, text};
 
 /// The kind of a node of a tree: its leaf set has no edge across some split, every edge across some

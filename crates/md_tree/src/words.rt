@@ -5,9 +5,9 @@ ghost use Rattle.md_tree.specs.Words.{word_bytes, long_word_bytes, AreLow, IsSpr
 // The highest bit of each byte.
 const HIGHEST: u64 = 0x8080_8080_8080_8080;
 
-/// Four bytes of a text as one number, the first one the lowest.
+// Four bytes of a text as one number, the first one the lowest.
 #[inline(always)]
-pub fn word(text: &[u8], at: usize) -> u32
+pub(crate) fn word(text: &[u8], at: usize) -> u32
     requires { at + 4 ≤ length text.now }
     ensures { word_bytes result ≡ take 4 (drop at text.now) }
 {
