@@ -16,9 +16,8 @@ use Rattle.md_graph.proofs.NameLemmas.{ascending_step, ascending_none}
 use Rattle.md_graph.proofs.SetLemmas.{clash, same_members, insert_old, insert_new, of_insert, of_remove, remove_left, of_meet, meet_has, empty_lacks}
 use Rattle.md_text.specs.declared.piece.Piece.{Piece}
 use Rattle.md_text.specs.Numbers.{decimal}
-use Rattle.md_text.specs.Pieces.{piece_text, text_at, texts_at}
+use Rattle.md_text.specs.Pieces.{text_at, texts_at}
 use Rattle.md_text.proofs.Lists.{In, Later, to_pairs, of_contains, of_append, in_left, in_right, later_append}
-use Rattle.md_text.proofs.PieceLemmas.{texts_more, texts_end}
 use Rattle.md_dimacs.proofs.BlockLemmas.{texts_append}
 use Rattle.md_tree.specs.declared.Kind.TheVariants.{Prime}
 use Rattle.md_tree.specs.declared.Pair.{Pair}

@@ -1,9 +1,8 @@
 use Rattle.std.proofs.Common.{◌∷◌, ◌<◌, ◌∙◌, length, ap, sym, subst}
 use Rattle.std.specs.List.{All}
-use Rattle.md_text.specs.Pieces.{piece_text, texts_at}
+use Rattle.md_text.specs.Pieces.{piece_text}
 use Rattle.md_orientation.specs.Listed.{arcs_below}
 use Rattle.md_report.specs.Lines.{arcs_text}
-use Rattle.md_checker.specs.Gathered.{Matches}
 use Rattle.md_checker.proofs.ArcTexts.{arcs_begin, arcs_on, heads_there}
 use Rattle.md_checker.proofs.arc_text.past_arcs.Goals as goal
 
