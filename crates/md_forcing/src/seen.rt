@@ -58,6 +58,8 @@ impl Seen {
 
     /// No arc, with room for the arcs on the names below `size`. Condition: these are names.
     /// Errors: want of memory.
+    // Never inlined, so that the set stays in memory, and a walk has the registers to itself.
+    #[inline(never)]
     pub fn with_size(alloc: Global, size: u32) -> Result<Seen, Memory>
         requires { size ≤ NAMES }
         ensures room { IfOk result (λ s. length s ≡ size) }
