@@ -1,10 +1,7 @@
 //! Compares a text with the arcs of a set. No list of them is made.
-ghost use Rattle.std.specs.Prelude.{◌≡◌, ◌∷◌, ◌++◌, ◌<◌, ◌≤◌, ℕ, [], length, map, IfOk, IfSome, IsTrue};
-ghost use Rattle.std.specs.List.{All};
+ghost use Rattle.std.specs.Prelude.{◌≡◌, ◌++◌, ◌<◌, ◌≤◌, length, IfOk, IfSome, IsTrue};
 ghost use Rattle.md_graph.specs.declared.TheConstants.{NAMES};
 ghost use Rattle.md_graph.specs.NameSet.{ascending};
-ghost use Rattle.md_text.specs.Numbers.{decimal};
-ghost use Rattle.md_text.specs.Pieces.{piece_text};
 ghost use Rattle.md_tree.specs.Positions.{ArePositions};
 ghost use Rattle.md_forcing.specs.declared.arc.Arc.{Arc};
 ghost use Rattle.md_forcing.specs.Seen.{IsSeen};

@@ -1,5 +1,5 @@
 //! The graph at hand: the first of those that are left to be reported.
-ghost use Rattle.std.specs.Prelude.{◌≡◌, ◌↔◌, [], true, false, IfOk, IsTrue};
+ghost use Rattle.std.specs.Prelude.{◌≡◌, ◌↔◌, [], false, IfOk, IsTrue};
 ghost use Rattle.md_report.specs.Lines.{PlainLine, line_text, plain_line};
 ghost use Rattle.md_report.specs.WellFormedLines.{IsWellFormedLine};
 ghost use Rattle.md_report.specs.Places.{Reports};

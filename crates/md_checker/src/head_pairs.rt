@@ -1,14 +1,12 @@
 //! Compares a text with the pairs of a prime node that a graph demands. No pair is kept.
-ghost use Rattle.std.specs.Prelude.{◌≡◌, ◌≢◌, ◌+◌, ◌*◌, ◌<◌, ◌≤◌, ◌^◌, ℕ, suc, Bool, List, [], ◌∷◌, ◌++◌, length, get_or, drop, IfOk, IfSome};
+ghost use Rattle.std.specs.Prelude.{◌≡◌, ◌≢◌, ◌+◌, ◌*◌, ◌<◌, ◌≤◌, ◌^◌, ℕ, Bool, List, [], ◌∷◌, ◌++◌, length, get_or, IfOk, IfSome};
 ghost use Rattle.std.specs.List.{All};
 ghost use Rattle.md_graph.specs.declared.TheConstants.{NAMES};
 ghost use Rattle.md_graph.specs.NameSet.{ascending};
 ghost use Rattle.md_graph.specs.PlainGraph.{adjacent};
-ghost use Rattle.md_text.specs.Numbers.{decimal};
-ghost use Rattle.md_text.specs.Pieces.{piece_text, texts_at};
 ghost use Rattle.md_tree.specs.declared.Pair.{Pair};
 ghost use Rattle.md_tree.specs.TreeTexts.{pairs_text};
-ghost use Rattle.md_checker.specs.FitTests.{AreHeads, name_set};
+ghost use Rattle.md_checker.specs.FitTests.{AreHeads};
 ghost use Rattle.md_checker.specs.HeadPairs.{near_heads, near_pairs, head_pairs, ArePlaces, MatchesPairs};
 
 use crate::gathered::{past_each, put_pair};

@@ -1,9 +1,9 @@
 //! The pairs of children that a prime node lists: the edges of its quotient.
-ghost use Rattle.std.specs.Prelude.{◌*◌, ◌≡◌, ◌<◌, ◌≤◌, ◌++◌, ◌∷◌, [], ℕ, IfOk, AllPairs, length, map, slice_index};
+ghost use Rattle.std.specs.Prelude.{◌*◌, ◌≡◌, ◌<◌, ◌≤◌, ◌++◌, ℕ, IfOk, AllPairs, length, map};
 ghost use Rattle.std.specs.FinSet.{intersection};
 ghost use Rattle.md_graph.specs.NameSet.{ascending};
 ghost use Rattle.md_graph.specs.PlainGraph.{adjacent, neighbours};
-ghost use Rattle.md_graph.specs.Sets.{NameSet, Has, Within, HasSome};
+ghost use Rattle.md_graph.specs.Sets.{Has, Within, HasSome};
 ghost use Rattle.md_modules.specs.Kinds.{IsPrime};
 ghost use Rattle.md_tree.specs.StrongTrees.{IsBefore};
 ghost use Rattle.md_decompose.specs.Children.{AreChildren, ListsPairs, set_at};

@@ -1,11 +1,11 @@
 //! Names in the texts of lines: pieces, each behind a space.
-ghost use Rattle.std.specs.Prelude.{◌≡◌, ◌≢◌, ℕ, ◌<◌, ◌≤◌, ◌↔◌, ◌++◌, [], ◌∷◌, List, length, slice_index, IfOk, IfSome, IsTrue, MatchOption};
+ghost use Rattle.std.specs.Prelude.{◌≡◌, ◌≢◌, ℕ, ◌<◌, ◌≤◌, ◌↔◌, [], ◌∷◌, List, length, slice_index, IfOk, IfSome, IsTrue, MatchOption};
 ghost use Rattle.std.specs.List.{All};
 ghost use Rattle.md_forcing.specs.declared.arc.Arc.{Arc};
 ghost use Rattle.md_text.specs.Numbers.{decimal};
 ghost use Rattle.md_modules.specs.declared.induced_paths.P4.{P4};
-ghost use Rattle.md_report.specs.Lines.{names_text, p4_text, arc_text, arcs_text};
-ghost use Rattle.md_report.specs.WellFormedLines.{IsVertexName, IsNamedArc, IsNamedChain, IsNamedP4, AreFour};
+ghost use Rattle.md_report.specs.Lines.{names_text, p4_text};
+ghost use Rattle.md_report.specs.WellFormedLines.{IsVertexName, IsNamedP4, AreFour};
 ghost use Rattle.md_report.specs.Cuts.{Opens, IsCutAt, IsPiece, IsItem, NoItem};
 
 use md_forcing::{Arc, Chain};
