@@ -8,4 +8,4 @@ pub explore-requires-clause-closed : goal.explore-requires-clause-closed
 explore-requires-clause-closed c = λ a b h _ _. absurd (none_seen _ c.in_ok-seen.ensures.none a h)
 
 pub from_trail-requires : goal.from_trail-requires
-from_trail-requires c = c.in_ok-explore.ensures.class.once
+from_trail-requires c = c.in_ok-explored.ensures.class.once
