@@ -36,7 +36,7 @@ pub fn close(alloc: Global, graph: &Graph, first: Arc) -> Result<Class, Memory>
     requires { IsArc (adjacent graph.now) first }
     ensures { IfOk result (IsClass (adjacent graph.now) first) }
 {
-    let seen = Seen::new(alloc, graph)?;
+    let seen = Seen::with_size(alloc, graph.bound())?;
     let none = Explored {
         seen,
         trail: Trail::new(alloc),

@@ -25,7 +25,7 @@ pub fn walk(alloc: Global, graph: &Graph, side: Side) -> Result<Ending, Memory>
     ensures room { IfOk result (HasRoom graph.now.vertices) }
 {
     let _vertices = graph.vertices();
-    let chosen = Seen::new(alloc, graph)?;
+    let chosen = Seen::with_size(alloc, graph.bound())?;
     let mut explored = Explored {
         seen: chosen,
         trail: Trail::new(alloc),
