@@ -1,5 +1,5 @@
 //! Sets of names in little room, as the classes of a partition are kept: most are names alone.
-ghost use Rattle.std.specs.Prelude.{◌≡◌, ◌*◌, ◌+◌, ℕ, ◌<◌, ◌≤◌, IfOk, IfSome, IfNone, IsTrue};
+ghost use Rattle.std.specs.Prelude.{◌≡◌, ◌*◌, ℕ, ◌<◌, ◌≤◌, IfOk, OnOk, OnErr, IfSome, IfNone, IsTrue};
 ghost use Rattle.std.specs.FinSet.{len, empty, insert, union};
 ghost use Rattle.md_graph.specs.NameSet.{IsLeastFrom, NoneFrom, block};
 ghost use Rattle.md_graph.specs.Sets.{HasSome, HasTwo, only_name};
@@ -58,7 +58,7 @@ impl<const W: usize> Block<W> {
         }
     }
 
-    /// An equal set.
+    /// An equal set. Errors: want of memory.
     #[inline(always)]
     pub fn of(alloc: Global, names: &Set<W>) -> Result<Block<W>, Memory>
         ensures { IfOk result (λ block. block ≡ names.now) }
@@ -158,10 +158,12 @@ impl<const W: usize> Block<W> {
         }
     }
 
-    /// Takes `name` in. Condition: it is below `64 * W`.
+    /// Takes `name` in. Condition: it is below `64 * W`. Errors: want of memory; the set stays as it
+    /// was then.
     pub fn insert(&mut self, alloc: Global, name: u32) -> Result<(), Memory>
         requires { name < 64 * W }
-        ensures { IfOk result (λ _. self.new ≡ insert self.old name) }
+        ensures taken { OnOk result (self.new ≡ insert self.old name) }
+        ensures stays { OnErr result (self.new ≡ self.old) }
     {
         match &mut self.held {
             Held::One(first) => {
