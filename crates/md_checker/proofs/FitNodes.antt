@@ -6,7 +6,7 @@ use Rattle.std.proofs.lemmas.List.Elements.{Contains-get_or}
 use Rattle.std.specs.FinSet.{insert, union}
 use Rattle.md_graph.specs.Sets.{NameSet, Has, Lacks, Within}
 use Rattle.md_graph.proofs.SetLemmas.{clash, of_minus, minus_has}
-use Rattle.md_modules.specs.Adjacency.{IsAdjacency}
+use Rattle.md_graph.specs.Adjacency.{IsAdjacency}
 use Rattle.md_modules.specs.Modules.{IsModule, HasTrivialModulesAlone}
 use Rattle.md_tree.specs.declared.Kind.{Kind}
 use Rattle.md_tree.specs.declared.Kind.TheVariants.{Parallel, Series, Prime}

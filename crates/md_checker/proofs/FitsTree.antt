@@ -3,7 +3,7 @@ use Rattle.std.proofs.Common.{◌≡◌, ℕ, ◌<◌, Bool, true, false, cond, 
 use Rattle.std.proofs.lemmas.Bool.{false_from_ne_true}
 use Rattle.md_graph.specs.Sets.{NameSet, Has, Within}
 use Rattle.md_graph.proofs.SetLemmas.{only_has, Has-along, union_left, union_right}
-use Rattle.md_modules.specs.Adjacency.{IsAdjacency}
+use Rattle.md_graph.specs.Adjacency.{IsAdjacency}
 use Rattle.md_modules.specs.Modules.{IsModule, IsMaximalModule}
 use Rattle.md_modules.specs.Kinds.{IsPrime}
 use Rattle.md_modules.specs.Quotients.{IsQuotient}

@@ -5,7 +5,7 @@ use Rattle.std.specs.FinSet.{contains, insert, difference, len}
 use Rattle.md_graph.specs.Sets.{NameSet, Has, Lacks, Within, HasTwo, only_name}
 use Rattle.md_graph.proofs.SetLemmas.{clash, of_only, only_has, Has-along, same_members, insert_new, insert_old, of_minus, minus_has, ascending_or_not}
 use Rattle.md_graph.proofs.Search.{len_within, len_single, len_one_more, two_of_len}
-use Rattle.md_modules.specs.Adjacency.{IsAdjacency}
+use Rattle.md_graph.specs.Adjacency.{IsAdjacency}
 use Rattle.md_modules.specs.Modules.{IsModule, IsMaximalModule, IsMaximalStrong}
 use Rattle.md_modules.specs.Kinds.{IsSplit, IsPrime}
 use Rattle.md_modules.specs.Components.{IsClosed, IsComponent}

@@ -6,7 +6,7 @@ use Rattle.std.specs.FinSet.{contains, intersection}
 use Rattle.md_graph.specs.Sets.{NameSet, Has, Lacks, HasSome}
 use Rattle.md_graph.specs.PlainGraph.{adjacent}
 use Rattle.md_graph.proofs.SetLemmas.{clash, meet_has, of_meet, of_meet_lacks, union_left, union_right, of_only, only_has, empty_lacks, Has-along}
-use Rattle.md_modules.specs.Adjacency.{IsAdjacency}
+use Rattle.md_graph.specs.Adjacency.{IsAdjacency}
 use Rattle.md_modules.specs.Modules.{IsMaximalStrong}
 use Rattle.md_modules.specs.Kinds.{IsSplit}
 use Rattle.md_modules.specs.Components.{IsComponent}

@@ -12,7 +12,7 @@ use Rattle.md_graph.specs.Sets.{NameSet, Has, Lacks, Within}
 use Rattle.md_graph.proofs.NameLemmas.{from_list-ascending}
 use Rattle.md_graph.proofs.SetLemmas.{clash, empty_lacks, insert_new, insert_old, of_insert, of_minus, minus_has, same_members, same_name, Has-along, along_two, rest_told}
 use Rattle.md_graph.proofs.Search.{len_one_more, len_proper, larger_or_same}
-use Rattle.md_modules.specs.Adjacency.{IsAdjacency}
+use Rattle.md_graph.specs.Adjacency.{IsAdjacency}
 use Rattle.md_modules.specs.Modules.{IsModule, IsLeastModule, IsLeastModuleOver, IsStrong}
 use Rattle.md_modules.specs.Kinds.{IsPrime}
 use Rattle.md_modules.proofs.Modules.{module_inside, module_of_module}

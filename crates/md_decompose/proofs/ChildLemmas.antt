@@ -3,7 +3,7 @@ use Rattle.std.proofs.Common.{◌≡◌, ℕ, ◌<◌, ◌≢◌, ◌↔◌, Boo
 use Rattle.std.specs.FinSet.{contains, empty, insert, union, difference, len}
 use Rattle.md_graph.specs.NameSet.{IsLeastFrom, NoneFrom}
 use Rattle.md_graph.specs.Sets.{NameSet, Has, Lacks, Within}
-use Rattle.md_modules.specs.Adjacency.{IsAdjacency}
+use Rattle.md_graph.specs.Adjacency.{IsAdjacency}
 use Rattle.md_modules.specs.Modules.{IsModule, IsLeastModule, IsLeastModuleOver, IsMaximalModule, IsMaximalStrong}
 use Rattle.md_modules.specs.Kinds.{IsPrime}
 use Rattle.std.proofs.lemmas.Bool.{cases_Bool, true_from_ne_false, false_from_ne_true}

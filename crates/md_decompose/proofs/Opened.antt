@@ -4,7 +4,7 @@ use Rattle.std.proofs.lemmas.List.{map-append}
 use Rattle.std.specs.FinSet.{len}
 use Rattle.md_graph.specs.NameSet.{IsLeastFrom}
 use Rattle.md_graph.specs.Sets.{NameSet, Has, Within, HasSome, HasTwo}
-use Rattle.md_modules.specs.Adjacency.{IsAdjacency}
+use Rattle.md_graph.specs.Adjacency.{IsAdjacency}
 use Rattle.md_modules.specs.Modules.{IsMaximalStrong}
 use Rattle.md_graph.proofs.SetLemmas.{Has-along}
 use Rattle.md_modules.proofs.Children.{child_unsplit}

@@ -1,7 +1,7 @@
 //! The modules of a set that hold its least name, each inside the next, by which a search grew: the
 //! first child of the set has the same least name, and need not grow them again.
 ghost use Rattle.std.specs.Prelude.{◌*◌, ◌≡◌, ◌<◌, ◌≤◌, ◌-◌, ◌++◌, ◌∷◌, [], ℕ, Contains, IfOk, length};
-ghost use Rattle.std.specs.FinSet.{difference, from_list};
+ghost use Rattle.std.specs.FinSet.{difference};
 ghost use Rattle.md_graph.specs.NameSet.{ascending};
 ghost use Rattle.md_decompose.specs.Chains.{with_names, step_at, taken_with, IsChainFront};
 
@@ -43,7 +43,7 @@ impl Chain {
         requires names { (x : ℕ) → Contains self.now.taken.items x → x < 64 * W }
         ensures { result ≡ with_names v self.now.taken.items }
     {
-        let mut names = listed(&self.taken);
+        let mut names = Set::from_list(&self.taken);
         names.insert(v);
         names
     }
@@ -97,19 +97,6 @@ impl Chain {
             steps: Vec::from_slice(alloc, &self.steps[..count])?,
         })
     }
-}
-
-// The set of the names of a list.
-fn listed<const W: usize>(taken: &[u32]) -> Set<W>
-    requires limit { W ≤ WORDS }
-    requires names { (x : ℕ) → Contains taken.now x → x < 64 * W }
-    ensures { result ≡ from_list taken.now }
-{
-    let mut names = Set::none();
-    for name in taken {
-        names.insert(*name);
-    }
-    names
 }
 
 // Takes the members of a set, in ascending order.

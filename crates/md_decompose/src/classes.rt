@@ -20,7 +20,8 @@ const ASKED: u32 = 8;
 const SPARSE: u32 = 8;
 
 // The maximal ones among the modules of `set` that are parts of `rest`, in any order; they
-// partition `rest`. Condition: `rest` is a nonempty part of `set`.
+// partition `rest`: the same as `maximal_modules` finds, quicker on large sparse sets. Condition:
+// `rest` is a nonempty part of `set`. Errors: want of memory.
 pub(crate) fn modules_inside<const W: usize>(
     alloc: Global,
     graph: &GraphOf<W>,

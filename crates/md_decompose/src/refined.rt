@@ -1,5 +1,5 @@
 //! Parts of a set that its modules lie in, by partition refinement.
-ghost use Rattle.std.specs.Prelude.{◌≡◌, ◌+◌, ◌*◌, ◌<◌, if◌then◌else◌, ◌≤◌, ℕ, IfOk, Some, None, length, vec_len, replicate};
+ghost use Rattle.std.specs.Prelude.{◌≡◌, ◌+◌, ◌*◌, ◌<◌, if◌then◌else◌, ◌≤◌, ℕ, IfOk, OnOk, OnErr, Some, None, length, vec_len, replicate};
 ghost use Rattle.std.specs.FinSet.{insert};
 ghost use Rattle.md_graph.specs.PlainGraph.{adjacent};
 ghost use Rattle.md_graph.specs.Sets.{Has, HasSome, Within};
@@ -119,11 +119,13 @@ fn none_yet<const W: usize>(alloc: Global, count: u32) -> Result<Vec<Option<Bloc
     Ok(sets)
 }
 
-// Takes `v` in to a set, which is made where there is none yet.
+// Takes `v` in to a set, which is made where there is none yet. Errors: want of memory; the set
+// stays as it was then.
 fn take_in<const W: usize>(alloc: Global, set: &mut Option<Block<W>>, v: u32) -> Result<(), Memory>
     requires name { v < 64 * W }
     requires limit { W ≤ WORDS }
-    ensures { IfOk result (λ _. set_or_empty set.new ≡ insert (set_or_empty set.old) v) }
+    ensures taken { OnOk result (set_or_empty set.new ≡ insert (set_or_empty set.old) v) }
+    ensures stays { OnErr result (set_or_empty set.new ≡ set_or_empty set.old) }
 {
     match set {
         Some(set) => set.insert(alloc, v),

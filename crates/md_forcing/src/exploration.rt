@@ -16,6 +16,13 @@ use crate::{Arc, Class, Seen, Side, Trail};
 use md_graph::{Graph, Memory, Names};
 use std::alloc::Global;
 
+/// What explorations of a graph, one after the other, have seen, and the trail of the last of them.
+#[derive(Drop)]
+pub struct Explored {
+    pub seen: Seen,
+    pub trail: Trail,
+}
+
 // What a turn finds, kept from turn to turn: the heads and the tails of new arcs.
 #[derive(Drop)]
 struct Found {
@@ -29,33 +36,40 @@ pub fn close(alloc: Global, graph: &Graph, first: Arc) -> Result<Class, Memory>
     requires { IsArc (adjacent graph.now) first }
     ensures { IfOk result (IsClass (adjacent graph.now) first) }
 {
-    let mut seen = Seen::new(alloc, graph)?;
-    let mut trail = Trail::new(alloc);
-    explore(graph, Side::Edges, first, &mut seen, &mut trail)?;
-    Class::from_trail(alloc, &trail)
+    let seen = Seen::with_size(alloc, graph.bound())?;
+    let none = Explored {
+        seen,
+        trail: Trail::new(alloc),
+    };
+    let explored = explore(alloc, graph, Side::Edges, first, none)?;
+    Class::from_trail(alloc, &explored.trail)
 }
 
 /// Makes the trail that of `first` in the graph or in its complement: the arcs of its class, which
-/// join the seen arcs. Conditions: `first` is an arc of this side that isn't seen; the seen arcs
-/// have room for the vertices, and with an arc all that it forces are seen. Errors: want of memory;
-/// nothing is promised of the seen arcs and of the trail then.
+/// join the seen arcs. The trail takes the memory. Conditions: `first` is an arc of this side that
+/// isn't seen; the seen arcs have room for the vertices, and with an arc all that it forces are
+/// seen. Errors: want of memory; what was explored is given up then.
 pub fn explore(
+    _alloc: Global,
     graph: &Graph,
     side: Side,
     first: Arc,
-    seen: &mut Seen,
-    trail: &mut Trail,
-) -> Result<(), Memory>
-    requires room { (v : ℕ) → Has graph.now.vertices v → v < length seen.old }
+    explored: Explored,
+) -> Result<Explored, Memory>
+    requires room { (v : ℕ) → Has graph.now.vertices v → v < length explored.seen }
     requires is_arc { IsArc (adjacent_on side graph.now) first }
-    requires fresh { IsSeen seen.old first → ⊥ }
-    requires closed { IsClosed (adjacent_on side graph.now) seen.old }
-    ensures class { OnOk result (IsClass (adjacent_on side graph.now) first trail.new) }
-    ensures taken { OnOk result (TakesClass seen.old trail.new seen.new) }
-    ensures closed { OnOk result (IsClosed (adjacent_on side graph.now) seen.new) }
-    ensures room { length seen.new ≡ length seen.old }
+    requires fresh { IsSeen explored.seen first → ⊥ }
+    requires closed { IsClosed (adjacent_on side graph.now) explored.seen }
+    ensures class { IfOk result (λ r. IsClass (adjacent_on side graph.now) first r.trail) }
+    ensures taken { IfOk result (λ r. TakesClass explored.seen r.trail r.seen) }
+    ensures closed { IfOk result (λ r. IsClosed (adjacent_on side graph.now) r.seen) }
+    ensures room { IfOk result (λ r. length r.seen ≡ length explored.seen) }
 {
     let _vertices = graph.vertices();
+    let Explored {
+        mut seen,
+        mut trail,
+    } = explored;
     trail.clear();
     trail.push(first, 0)?;
     seen.put(first);
@@ -65,10 +79,10 @@ pub fn explore(
     };
     let mut at = 0usize;
     while (at as u64) < trail.len() {
-        turn(graph, side, at, seen, trail, &mut found)?;
+        turn(graph, side, at, &mut seen, &mut trail, &mut found)?;
         at += 1;
     }
-    Ok(())
+    Ok(Explored { seen, trail })
 }
 
 // Takes in the arcs that the arc at a place forces directly and that aren't seen. Condition: the

@@ -12,6 +12,6 @@ mod trail;
 pub use arc::Arc;
 pub use chain::{Arcs, Chain, chain_of, chain_to_reverse};
 pub use class::Class;
-pub use exploration::{close, explore};
+pub use exploration::{Explored, close, explore};
 pub use seen::{Seen, Side};
 pub use trail::Trail;

@@ -47,15 +47,6 @@ impl Model for Seen {
 }
 
 impl Seen {
-    /// No arc, with room for the arcs on the vertices of the graph and of its complement. Errors:
-    /// want of memory.
-    pub fn new(alloc: Global, graph: &Graph) -> Result<Seen, Memory>
-        ensures room { IfOk result (λ s. (v : ℕ) → Has graph.now.vertices v → v < length s) }
-        ensures none { IfOk result (λ s. (v : ℕ) → row_of s v ≡ set.empty) }
-    {
-        Seen::with_size(alloc, graph.bound())
-    }
-
     /// No arc, with room for the arcs on the names below `size`. Condition: these are names.
     /// Errors: want of memory.
     // Never inlined, so that the set stays in memory, and a walk has the registers to itself.
@@ -79,7 +70,7 @@ impl Seen {
         self.by_tail[by.tail as usize].has(by.head)
     }
 
-    /// The heads of the arcs from `tail`.
+    /// The heads of the arcs from `tail`. Condition: it has room.
     pub fn heads(&self, tail: u32) -> &Names
         requires { tail < length self.now }
         ensures { result.now ≡ row_of self.now tail }
@@ -87,7 +78,7 @@ impl Seen {
         &self.by_tail[tail as usize]
     }
 
-    /// The tails of the arcs to `head`.
+    /// The tails of the arcs to `head`. Condition: it has room.
     pub fn tails(&self, head: u32) -> &Names
         requires { head < length self.now }
         ensures { (u : ℕ) → set.contains result.now u ≡ set.contains (row_of self.now u) head }
@@ -95,7 +86,7 @@ impl Seen {
         &self.by_head[head as usize]
     }
 
-    /// The number below which the ends of arcs are.
+    /// The number below which the ends of arcs are: a name has room where it is below it.
     pub fn size(&self) -> u32
         ensures size { result ≡ length self.now }
         ensures few { result ≤ NAMES }
@@ -103,7 +94,7 @@ impl Seen {
         self.by_tail.len() as u32
     }
 
-    /// Takes in one arc.
+    /// Takes in one arc. Condition: both ends have room.
     pub fn put(&mut self, by: Arc)
         requires tail { by.tail < length self.old }
         requires head { by.head < length self.old }
@@ -114,8 +105,8 @@ impl Seen {
         self.by_head[by.head as usize].insert(by.tail);
     }
 
-    /// Takes in the arcs from `tail` to each of `heads`.
-    pub fn take_heads(&mut self, tail: u32, heads: &Names)
+    // Takes in the arcs from `tail` to each of `heads`. Condition: all these ends have room.
+    pub(crate) fn take_heads(&mut self, tail: u32, heads: &Names)
         requires room { tail < length self.old }
         requires heads_room { (w : ℕ) → Has heads.now w → w < length self.old }
         ensures room { length self.new ≡ length self.old }
@@ -126,8 +117,8 @@ impl Seen {
         insert_in_rows(&mut self.by_head, heads, tail);
     }
 
-    /// Takes in the arcs from each of `tails` to `head`.
-    pub fn take_tails(&mut self, tails: &Names, head: u32)
+    // Takes in the arcs from each of `tails` to `head`. Condition: all these ends have room.
+    pub(crate) fn take_tails(&mut self, tails: &Names, head: u32)
         requires room { head < length self.old }
         requires tails_room { (w : ℕ) → Has tails.now w → w < length self.old }
         ensures room { length self.new ≡ length self.old }
@@ -138,9 +129,9 @@ impl Seen {
         insert_in_rows(&mut self.by_tail, tails, head);
     }
 
-    /// Puts into `into` the heads of the arcs that `by` forces directly at its tail and that aren't
-    /// in the set. Condition: `by` is an arc of this side, and in the set.
-    pub fn unseen_heads(&self, graph: &Graph, side: Side, by: Arc, into: &mut Names)
+    // Puts into `into` the heads of the arcs that `by` forces directly at its tail and that aren't
+    // in the set. Condition: `by` is an arc of this side, and in the set.
+    pub(crate) fn unseen_heads(&self, graph: &Graph, side: Side, by: Arc, into: &mut Names)
         requires is_arc { IsArc (adjacent_on side graph.now) by }
         requires seen { IsSeen self.now by }
         ensures { (w : ℕ) → Has into.new w ↔ (IsArc (adjacent_on side graph.now) (arc by.tail w)
@@ -150,9 +141,9 @@ impl Seen {
         apart(graph, side, by.tail, by.head, self.heads(by.tail), into);
     }
 
-    /// Puts into `into` the tails of the arcs that `by` forces directly at its head and that aren't
-    /// in the set. Condition: `by` is an arc of this side, and in the set.
-    pub fn unseen_tails(&self, graph: &Graph, side: Side, by: Arc, into: &mut Names)
+    // Puts into `into` the tails of the arcs that `by` forces directly at its head and that aren't
+    // in the set. Condition: `by` is an arc of this side, and in the set.
+    pub(crate) fn unseen_tails(&self, graph: &Graph, side: Side, by: Arc, into: &mut Names)
         requires is_arc { IsArc (adjacent_on side graph.now) by }
         requires seen { IsSeen self.now by }
         ensures { (w : ℕ) → Has into.new w ↔ (IsArc (adjacent_on side graph.now) (arc w by.head)

@@ -1,5 +1,5 @@
 -- Facts of sets of names that callers may cite: what the ascending list of a set's members holds.
-use Rattle.std.proofs.Common.{◌≡◌, ℕ, zero, suc, ◌+◌, ◌-◌, ◌<◌, ◌≤◌, ◌≢◌, Bool, true, false, ◌&&◌, ◌||◌, if◌then◌else◌, ◌==◌, nat_le, List, [], ◌∷◌, ◌++◌, length, get_or, add-one, append_assoc, append-nil, length-append, refl, arith, ap, sym, ◌∙◌, subst, inl, inr, ltb, lit<, All, Contains, AllPairs}
+use Rattle.std.proofs.Common.{◌≡◌, ℕ, zero, suc, ◌+◌, ◌-◌, ◌<◌, ◌≤◌, ◌≢◌, Bool, true, false, ◌&&◌, ◌||◌, if◌then◌else◌, ◌==◌, nat_le, List, [], ◌∷◌, ◌++◌, length, get_or, add-one, append_assoc, append-nil, length-append, refl, arith, ap, sym, ◌∙◌, subst, inl, inr, ltb, lit<, All, Contains, AllPairs, take}
 use Rattle.std.proofs.lemmas.Bool.{cases_Bool, cases_lt, false_from_ne_true}
 use Rattle.std.proofs.lemmas.Bool.Decides.{nat_tests}
 use Rattle.std.proofs.lemmas.List.Elements.{All-nil, All-push, All-weaker, Contains-append_left, Contains-append_right}
@@ -8,8 +8,10 @@ use Rattle.std.specs.Cmp.{nat_cmp_total}
 use Rattle.std.specs.List.Sorted.{IsStrictlyIncreasing}
 use Rattle.std.specs.FinSet.{nat_cmp-IsAntisymmetric}
 use Rattle.std.specs.FinSet as set
-use Rattle.md_graph.specs.Sets.{NameSet, Has}
-use Rattle.md_graph.specs.NameSet.{AllBelow, ascending_between}
+use Rattle.std.proofs.lemmas.List.{take_more}
+use Rattle.md_graph.specs.Sets.{NameSet, Has, only_name}
+use Rattle.md_graph.specs.NameSet.{IsLeastFrom, AllBelow, ascending_between}
+use Rattle.md_graph.proofs.SetLemmas.{same_members, only_has, of_only}
 use Rattle.md_graph.proofs.SetLaws.{contains-empty, contains-insert, contains-retain, len-empty, len-insert, same_set}
 
 -- the rest of an ascending list
@@ -328,3 +330,25 @@ set_of_list s (suc n) =
 -- the set of the list is the set
 pub from_list-ascending : (s : NameSet) (n : ℕ) → AllBelow s n → set.from_list (ascending_between s 0 n) ≡ s
 from_list-ascending s n below = set_of_list s n ∙ under_all s n below
+
+-- ---- a set of one name
+
+pub alone_is : (s : NameSet) (v : ℕ) → IsLeastFrom s 0 v → AllBelow s (v + 1) → s ≡ only_name v
+alone_is s v least below = same_members s (only_name v) to from where
+  to : (x : ℕ) → Has s x → Has (only_name v) x
+  to x h =
+      let a : v ≤ x = least.first x h (omega arith) in
+      let b = below x h in
+      let same : v ≡ x = omega arith in
+      subst (Has (only_name v)) same (only_has v)
+
+  from : (x : ℕ) → Has (only_name v) x → Has s x
+  from x h = subst (Has s) (sym (of_only v x h)) least.member
+
+-- ---- the set of a list
+
+-- the set of the names of a list, with one item of it more
+pub from_list_more : (s t : NameSet) (xs : List ℕ) (i : ℕ) → s ≡ set.from_list (take i xs) → i < length xs → t ≡ set.insert s (get_or xs i 0) → t ≡ set.from_list (take (i + 1) xs)
+from_list_more s t xs i so_far within more =
+    more ∙ ap (λ u. set.insert u (get_or xs i 0)) so_far
+    ∙ sym (ap set.from_list (take_more xs i 0 within) ∙ set.from_list_push nat_cmp_total nat_cmp-IsAntisymmetric (take i xs) (get_or xs i 0))

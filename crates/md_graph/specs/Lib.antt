@@ -2,6 +2,7 @@ pub mod Sets
 pub mod NameSet
 pub mod Words
 pub mod PlainGraph
+pub mod Adjacency
 pub mod Listed
 pub mod Rows
 pub mod Blocks

@@ -2,6 +2,7 @@
 //! parallel edges as one row of neighbours a name.
 #![tactic(auto)]
 
+mod copies;
 mod graph;
 pub mod laws;
 mod listed;
@@ -11,6 +12,7 @@ mod steps;
 mod transposition;
 mod words;
 
+pub use copies::copies_of;
 pub use graph::{Graph, GraphOf, empty_rows, insert_in_rows};
 pub use members::Members;
 pub use names::{Names, Set};

@@ -1,8 +1,8 @@
 //! Sets of names.
-ghost use Rattle.std.specs.Prelude.{◌≡◌, ℕ, ◌+◌, ◌*◌, ◌%◌, ◌<◌, ◌≤◌, ◌↔◌, IsTrue, IfSome, IfNone, ◌==◌};
+ghost use Rattle.std.specs.Prelude.{◌≡◌, ℕ, ◌+◌, ◌*◌, ◌%◌, ◌<◌, ◌≤◌, ◌↔◌, IsTrue, IfSome, IfNone, All, ◌==◌};
 ghost use Rattle.std.specs.Int.{bit_at};
 ghost use Rattle.std.specs.FinSet as set;
-ghost use Rattle.md_graph.specs.Sets.{Has, Within};
+ghost use Rattle.md_graph.specs.Sets.{Has, HasSome, HasTwo, Within, only_name};
 ghost use Rattle.md_graph.specs.NameSet.{IsLeastFrom, IsGreatest, NoneFrom, AllBelow, ascending, ascending_from, block, range, told_apart};
 
 use crate::members::Members;
@@ -58,6 +58,20 @@ impl<const W: usize> Set<W> {
             words: no_words(),
             used: 0,
         }
+    }
+
+    /// The set of the names of a list. Conditions: they are below `64 * W`, and `W` is at most
+    /// `WORDS`.
+    pub fn from_list(list: &[u32]) -> Set<W>
+        requires names { All (λ v. v < 64 * W) list.now }
+        requires limit { W ≤ WORDS }
+        ensures members { result ≡ set.from_list list.now }
+    {
+        let mut names = Set::none();
+        for v in list {
+            names.insert(*v);
+        }
+        names
     }
 
     /// What holds of every set, and costs nothing to say: it has at most `WORDS` words.
@@ -267,6 +281,20 @@ impl<const W: usize> Set<W> {
         last_place(&self.words, passed::<W>(self.used))
     }
 
+    /// The member of a set with one member; `None` where it has more, or none.
+    pub fn only_member(&self) -> Option<u32>
+        ensures one { IfSome result (λ v. self.now ≡ only_name v) }
+        ensures more { IfNone result (HasSome self.now → HasTwo self.now) }
+        ensures name { IfSome result (λ v. v < NAMES) }
+        ensures below { IfSome result (λ v. v < 64 * W) }
+    {
+        let first = self.first_from(0)?;
+        if !is_last(self, first) {
+            return None;
+        }
+        Some(first)
+    }
+
     /// The number of members.
     pub fn count(&self) -> u32
         ensures { result ≡ set.len self.now }
@@ -363,6 +391,23 @@ fn passed<const W: usize>(used: usize) -> usize
     ensures all { used ≤ result }
 {
     if W == 1 { 1 } else { used }
+}
+
+// Whether no member is above `v`. A large set mostly has the next name; the last member of a small
+// one is looked for from the end.
+#[inline]
+fn is_last<const W: usize>(set: &Set<W>, v: u32) -> bool
+    requires { v < NAMES }
+    ensures last { IsTrue result → AllBelow set.now (v + 1) }
+    ensures more { ¬ IsTrue result → (w : ℕ) × Has set.now w × (v < w) }
+{
+    if W > 1 && set.has(v + 1) {
+        return false;
+    }
+    match set.last() {
+        Some(last) => last <= v,
+        None => true,
+    }
 }
 
 #[cfg(test)]

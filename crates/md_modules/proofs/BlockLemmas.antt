@@ -5,9 +5,9 @@ use Rattle.std.specs.FinSet.{contains, empty, insert, union, intersection, diffe
 use Rattle.std.proofs.lemmas.Bool.{cases_Bool, cases_lt, false_from_ne_true}
 use Rattle.std.proofs.lemmas.Bool.Decides.{nat_tests}
 use Rattle.md_graph.specs.Sets.{NameSet, Has, Lacks, only_name}
-use Rattle.md_graph.specs.NameSet.{IsLeastFrom, AllBelow, block}
+use Rattle.md_graph.specs.NameSet.{AllBelow, block}
 use Rattle.md_graph.proofs.SetLaws.{contains-empty, contains-insert, contains-union, same_set}
-use Rattle.md_graph.proofs.SetLemmas.{clash, Has-along, same_members, if_empty, meet_has, of_meet, minus_has, of_minus, only_has, of_only}
+use Rattle.md_graph.proofs.SetLemmas.{clash, Has-along, same_members, if_empty, meet_has, of_meet, minus_has, of_minus, of_only}
 use Rattle.md_modules.specs.Classes.{IsDivided}
 use Rattle.md_graph.proofs.BitWords.{contains-block_below}
 
@@ -73,17 +73,3 @@ one_divided s row none v is empties = elim (cases_Bool (contains row v)) [
 
   unseen : Lacks row v → (x : ℕ) → Has s x → Lacks row x
   unseen away x h = subst (Lacks row) (sym (is_v x h)) away
-
--- ---- a set of one name
-
-pub alone_is : (s : NameSet) (v : ℕ) → IsLeastFrom s 0 v → AllBelow s (v + 1) → s ≡ only_name v
-alone_is s v least below = same_members s (only_name v) to from where
-  to : (x : ℕ) → Has s x → Has (only_name v) x
-  to x h =
-      let a : v ≤ x = least.first x h (omega arith) in
-      let b = below x h in
-      let same : v ≡ x = omega arith in
-      subst (Has (only_name v)) same (only_has v)
-
-  from : (x : ℕ) → Has (only_name v) x → Has s x
-  from x h = subst (Has s) (sym (of_only v x h)) least.member

@@ -2,7 +2,7 @@
 use Rattle.std.proofs.Common.{◌≡◌, ◌↔◌, ℕ, Bool, true, false, not, ◌≢◌, sym, ◌∙◌, subst, inl, inr}
 use Rattle.std.specs.FinSet.{contains, union}
 use Rattle.md_graph.specs.Sets.{NameSet, Has, Lacks, Within, HasTwo, only_name}
-use Rattle.md_modules.specs.Adjacency.{IsAdjacency}
+use Rattle.md_graph.specs.Adjacency.{IsAdjacency}
 use Rattle.md_modules.specs.Modules.{IsModule, Overlap, IsStrong, IsLeastModule, IsMaximalModule, IsMaximalStrong}
 use Rattle.md_modules.specs.Kinds.{IsSplit, IsPrime}
 use Rattle.md_modules.specs.Components.{IsComponent}

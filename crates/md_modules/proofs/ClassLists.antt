@@ -6,7 +6,7 @@ use Rattle.std.specs.FinSet.{empty, len, intersection, difference}
 use Rattle.md_graph.specs.Sets.{NameSet, Has, Lacks, HasSome}
 use Rattle.md_graph.proofs.SetLemmas.{clash, same_name, empty_lacks, Has-along, meet_has, of_meet, minus_has, of_minus, same_members}
 use Rattle.md_graph.proofs.Search.{some_len, len_minus}
-use Rattle.md_modules.specs.Classes.{class_at}
+use Rattle.md_modules.specs.Classes.{class_at, AreFiner}
 
 -- a place with a member is one of the list
 pub at_known : (cs : List NameSet) (k x : ℕ) → Has (class_at cs k) x → k < length cs
@@ -62,6 +62,22 @@ module _ (cs new : List NameSet) (i : ℕ) (c d : NameSet) where
       | inr not_last ↦ inr (inr (differ, not_last, Has-along (class_at new k) (class_at cs k) (is.others k differ not_last) x h))
     ]
   ]
+
+-- a cut set and the rest of it lie in the old set
+pub finer_cut : (old cs new : List NameSet) (i : ℕ) (row : NameSet) → IsCutAt cs new i (intersection (class_at cs i) row) (difference (class_at cs i) row) → AreFiner old cs → AreFiner old new
+finer_cut old cs new i row is finer k = elim (same_name k i) [
+  | inl same ↦ (
+    (finer i).0,
+    λ x h. (finer i).1 x (of_meet (class_at cs i) row x (Has-along (class_at new i) _ is.here x (subst (λ n. Has (class_at new n) x) same h))).0,
+  )
+  | inr differ ↦ elim (same_name k (length cs)) [
+    | inl same ↦ (
+      (finer i).0,
+      λ x h. (finer i).1 x (of_minus (class_at cs i) row x (Has-along (class_at new (length cs)) _ is.last x (subst (λ n. Has (class_at new n) x) same h))).0,
+    )
+    | inr not_last ↦ ((finer k).0, λ x h. (finer k).1 x (Has-along (class_at new k) (class_at cs k) (is.others k differ not_last) x h))
+  ]
+]
 
 -- ---- the work that is left
 

@@ -1,7 +1,7 @@
 -- The complement: the same modules, with parallel and series the other way round.
 use Rattle.std.proofs.Common.{◌≡◌, ℕ, Bool, true, false, not, ◌&&◌, nat_eq, ◌≢◌, refl, sym, ◌∙◌, ap, subst, eqb-true, eq-eqb}
 use Rattle.md_graph.specs.Sets.{NameSet, Has, Lacks}
-use Rattle.md_modules.specs.Adjacency.{IsAdjacency, co}
+use Rattle.md_graph.specs.Adjacency.{IsAdjacency, co}
 use Rattle.md_modules.specs.Modules.{IsModule, IsStrong}
 use Rattle.md_modules.specs.Kinds.{IsSplit}
 use Rattle.md_modules.specs.Laws.{ComplementTurns, ComplementTurnsKinds}

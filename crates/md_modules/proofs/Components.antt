@@ -2,7 +2,7 @@
 use Rattle.std.proofs.Common.{◌≡◌, ℕ, Bool, true, false, not, ◌⊎◌, refl, sym, ◌∙◌, inl, inr}
 use Rattle.std.specs.FinSet.{contains, retain, union, intersection, difference}
 use Rattle.md_graph.specs.Sets.{NameSet, Has, Lacks, Within, HasSome, HasTwo}
-use Rattle.md_modules.specs.Adjacency.{IsAdjacency}
+use Rattle.md_graph.specs.Adjacency.{IsAdjacency}
 use Rattle.md_modules.specs.Modules.{IsModule}
 use Rattle.md_modules.specs.Kinds.{IsSplit, IsParallel, IsSeries, IsPrime}
 use Rattle.md_modules.specs.Components.{IsClosed, IsComponent}

@@ -2,7 +2,7 @@
 use Rattle.std.proofs.Common.{◌≡◌, ℕ, ◌<◌, Bool, true, false, sym, ◌∙◌}
 use Rattle.md_graph.specs.Sets.{NameSet, Has}
 use Rattle.md_graph.proofs.Search.{Decided, decide_test, decide_both, decide_three, decide_below, decide_like, decide_some}
-use Rattle.md_modules.specs.Adjacency.{IsAdjacency}
+use Rattle.md_graph.specs.Adjacency.{IsAdjacency}
 use Rattle.md_modules.specs.InducedPaths.{IsInducedPath, HasInducedPath, HasPathEdges}
 use Rattle.md_modules.specs.Laws.{InducedPathsAreDecided}
 use Rattle.md_modules.proofs.Paths.{different_if_adjacent}

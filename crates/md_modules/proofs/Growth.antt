@@ -3,7 +3,7 @@
 use Rattle.std.proofs.Common.{◌≡◌, ◌↔◌, ℕ, Bool, not, ◌≢◌, ◌⊎◌, refl, sym, ◌∙◌, ap, subst, inl, inr}
 use Rattle.std.specs.FinSet.{insert, remove, union, difference}
 use Rattle.md_graph.specs.Sets.{NameSet, Has, Lacks, Within, only_name}
-use Rattle.md_modules.specs.Adjacency.{IsAdjacency}
+use Rattle.md_graph.specs.Adjacency.{IsAdjacency}
 use Rattle.md_modules.specs.Modules.{IsModule, IsLeastModule, IsLeastModuleOver}
 use Rattle.md_modules.specs.Components.{IsComponent}
 use Rattle.md_modules.specs.Searches.{IsReaching}

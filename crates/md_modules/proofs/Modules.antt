@@ -2,7 +2,7 @@
 use Rattle.std.proofs.Common.{◌≡◌, ℕ, Bool, true, false, ◌≢◌, sym, ◌∙◌, ap, subst, inl, inr}
 use Rattle.std.specs.FinSet.{contains, union, intersection, difference}
 use Rattle.md_graph.specs.Sets.{NameSet, Has, Lacks, Within, HasSome, only_name}
-use Rattle.md_modules.specs.Adjacency.{IsAdjacency}
+use Rattle.md_graph.specs.Adjacency.{IsAdjacency}
 use Rattle.md_modules.specs.Modules.{IsModule, Overlap, IsStrong, IsLeastModule, IsMaximalModule}
 use Rattle.md_modules.specs.Kinds.{IsSplit}
 use Rattle.std.proofs.lemmas.Bool.{cases_Bool, false_from_ne_true}

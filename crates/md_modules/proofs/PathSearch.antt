@@ -7,7 +7,7 @@ use Rattle.md_graph.specs.NameSet.{NoneFrom, IsLeastFrom}
 use Rattle.md_graph.specs.PlainGraph.{PlainGraph, IsGraph, adjacent, neighbours}
 use Rattle.md_graph.proofs.GraphLemmas.{adjacent_sym, adjacent_self, adjacent_ends, contains-neighbours}
 use Rattle.md_graph.specs.Sets.{NameSet, Has, Lacks, Within, Disjoint}
-use Rattle.md_modules.specs.Adjacency.{IsAdjacency}
+use Rattle.md_graph.specs.Adjacency.{IsAdjacency}
 use Rattle.md_modules.specs.Kinds.{IsSplit}
 use Rattle.md_modules.specs.Components.{IsComponent}
 use Rattle.md_modules.specs.InducedPaths.{IsInducedPath, HasPathEdges, IsOneOf, IsInducedPathWith}

@@ -43,6 +43,10 @@ pub record IsPartition (b : NameSet) (cs : List NameSet) : Type 0 where
   pub inside : (k x : ℕ) → Has (class_at cs k) x → Has b x
   pub cover : (x : ℕ) → Has b x → (k : ℕ) × Has (class_at cs k) x
 
+-- each of the new sets lies in an old one
+abbrev pub AreFiner : List NameSet → List NameSet → Type 0
+AreFiner old new = (k : ℕ) → (j : ℕ) × Within (class_at new k) (class_at old j)
+
 -- the sets partition b, and each module of s that is a part of b lies in one of them
 pub record HoldsModules (e : ℕ → ℕ → Bool) (s b : NameSet) (cs : List NameSet) : Type 0 where
   pub partition : IsPartition b cs

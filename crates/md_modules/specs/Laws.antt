@@ -2,7 +2,7 @@
 use Rattle.std.specs.Prelude.{◌≡◌, ◌≢◌, ◌≤◌, ◌⊎◌, ◌↔◌, ℕ, Bool, true, false}
 use Rattle.std.specs.FinSet.{len}
 use Rattle.md_graph.specs.Sets.{NameSet, Has, Within, Disjoint, HasSome, HasTwo, Proper, only_name}
-use Rattle.md_modules.specs.Adjacency.{IsAdjacency, co}
+use Rattle.md_graph.specs.Adjacency.{IsAdjacency, co}
 use Rattle.md_modules.specs.Modules.{IsModule, IsStrong, IsLeastModule, IsMaximalModule, IsMaximalStrong, IsParent, HasTrivialModulesAlone}
 use Rattle.md_modules.specs.Kinds.{IsParallel, IsSeries, IsPrime}
 use Rattle.md_modules.specs.Components.{IsComponent}

@@ -1,4 +1,3 @@
-pub mod Adjacency
 pub mod Modules
 pub mod Kinds
 pub mod Components

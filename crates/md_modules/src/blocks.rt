@@ -1,8 +1,8 @@
 //! Sets of names in little room, as the classes of a partition are kept: most are names alone.
-ghost use Rattle.std.specs.Prelude.{◌≡◌, ◌*◌, ◌+◌, ℕ, ◌<◌, ◌≤◌, IfOk, IfSome, IfNone, IsTrue};
+ghost use Rattle.std.specs.Prelude.{◌≡◌, ◌*◌, ℕ, ◌<◌, ◌≤◌, IfOk, OnOk, OnErr, IfSome, IfNone, IsTrue};
 ghost use Rattle.std.specs.FinSet.{len, empty, insert, union};
-ghost use Rattle.md_graph.specs.NameSet.{IsLeastFrom, NoneFrom, AllBelow, block};
-ghost use Rattle.md_graph.specs.Sets.{Has, HasSome, HasTwo, only_name};
+ghost use Rattle.md_graph.specs.NameSet.{IsLeastFrom, NoneFrom, block};
+ghost use Rattle.md_graph.specs.Sets.{HasSome, HasTwo, only_name};
 ghost use Rattle.md_modules.specs.Blocks.{held_names, IsName};
 ghost use Rattle.md_modules.specs.Classes.{IsDivided};
 
@@ -58,7 +58,7 @@ impl<const W: usize> Block<W> {
         }
     }
 
-    /// An equal set.
+    /// An equal set. Errors: want of memory.
     #[inline(always)]
     pub fn of(alloc: Global, names: &Set<W>) -> Result<Block<W>, Memory>
         ensures { IfOk result (λ block. block ≡ names.now) }
@@ -96,14 +96,14 @@ impl<const W: usize> Block<W> {
             Held::Low(bits) => {
                 let mut names = set_of(*bits);
                 move_part(&mut names, row, other);
-                match only_member(&names) {
+                match names.only_member() {
                     Some(name) => self.held = Held::One(name),
                     None => *bits = word_of(&names),
                 }
             }
             Held::Several(names) => {
                 move_part(names, row, other);
-                if let Some(name) = only_member(names) {
+                if let Some(name) = names.only_member() {
                     self.held = Held::One(name);
                 }
             }
@@ -128,8 +128,8 @@ impl<const W: usize> Block<W> {
     {
         match &self.held {
             Held::One(name) => Some(*name),
-            Held::Low(bits) => only_member(&set_of::<W>(*bits)),
-            Held::Several(names) => only_member(names),
+            Held::Low(bits) => set_of::<W>(*bits).only_member(),
+            Held::Several(names) => names.only_member(),
         }
     }
 
@@ -158,10 +158,12 @@ impl<const W: usize> Block<W> {
         }
     }
 
-    /// Takes `name` in. Condition: it is below `64 * W`.
+    /// Takes `name` in. Condition: it is below `64 * W`. Errors: want of memory; the set stays as it
+    /// was then.
     pub fn insert(&mut self, alloc: Global, name: u32) -> Result<(), Memory>
         requires { name < 64 * W }
-        ensures { IfOk result (λ _. self.new ≡ insert self.old name) }
+        ensures taken { OnOk result (self.new ≡ insert self.old name) }
+        ensures stays { OnErr result (self.new ≡ self.old) }
     {
         match &mut self.held {
             Held::One(first) => {
@@ -264,43 +266,11 @@ fn held_alone<const W: usize>(names: &Set<W>) -> Option<Held<W>>
     ensures name { IfSome result (IsName W) }
 {
     let _below = names.members();
-    let first = names.first_from(0)?;
-    if is_last(names, first) {
-        return Some(Held::One(first));
+    if let Some(name) = names.only_member() {
+        return Some(Held::One(name));
     }
     if W == 1 {
         return Some(Held::Low(word_of(names)));
     }
     None
-}
-
-/// The member of a set with one member.
-pub fn only_member<const W: usize>(set: &Set<W>) -> Option<u32>
-    ensures one { IfSome result (λ name. set.now ≡ only_name name) }
-    ensures more { IfNone result (HasSome set.now → HasTwo set.now) }
-    ensures name { IfSome result (λ name. name < NAMES) }
-    ensures below { IfSome result (λ name. name < 64 * W) }
-{
-    let first = set.first_from(0)?;
-    if !is_last(set, first) {
-        return None;
-    }
-    Some(first)
-}
-
-// Whether no member is above `v`. A large set mostly has the next name; the last member of a small
-// one is looked for from the end.
-#[inline]
-fn is_last<const W: usize>(set: &Set<W>, v: u32) -> bool
-    requires { v < NAMES }
-    ensures last { IsTrue result → AllBelow set.now (v + 1) }
-    ensures more { ¬ IsTrue result → (w : ℕ) × Has set.now w × (v < w) }
-{
-    if W > 1 && set.has(v + 1) {
-        return false;
-    }
-    match set.last() {
-        Some(last) => last <= v,
-        None => true,
-    }
 }

@@ -48,9 +48,9 @@ pub fn co_component<const W: usize>(graph: &GraphOf<W>, within: &Set<W>, x: u32,
     into.flip(within);
 }
 
-/// Whether `w` is adjacent to one of `among` (`value` is true), or not adjacent to one (`value` is
-/// false). Conditions: `w` is a name, and `apart` is a set without a member of `among`.
-pub fn sees<const W: usize>(
+// Whether `w` is adjacent to one of `among` (`value` is true), or not adjacent to one (`value` is
+// false). Conditions: `w` is a name, and `apart` is a set without a member of `among`.
+pub(crate) fn sees<const W: usize>(
     graph: &GraphOf<W>,
     w: u32,
     value: bool,

@@ -12,8 +12,8 @@ mod shared;
 #[cfg(test)]
 mod tests;
 
-pub use blocks::{Block, only_member};
-pub use component_search::{co_component, co_connected, component, connected, sees};
+pub use blocks::Block;
+pub use component_search::{co_component, co_connected, component, connected};
 pub use induced_paths::{P4, find_p4, find_p4_with, is_p4};
 pub use module_search::{back, closure, closure_in, grow, is_module};
 pub use paths_with_both::find_p4_with_both;

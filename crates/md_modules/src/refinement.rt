@@ -4,15 +4,18 @@ ghost use Rattle.std.specs.FinSet.{empty, union, intersection, difference};
 ghost use Rattle.md_graph.specs.PlainGraph.{adjacent};
 ghost use Rattle.md_graph.specs.Sets.{NameSet, Has, Within, Disjoint, HasSome, only_name};
 ghost use Rattle.md_modules.specs.Classes.{class_at};
-ghost use Rattle.md_modules.specs.Classes.{IsSplitter, IsSideOf, HoldsSplitters, HoldsModules, AreMaximalInside};
+ghost use Rattle.md_modules.specs.Classes.{AreFiner, IsSplitter, IsSideOf, HoldsSplitters, HoldsModules, AreMaximalInside};
 
+use crate::Block;
 use crate::blocks::FEW;
-use crate::{Block, sees};
+use crate::component_search::sees;
 use md_graph::{GraphOf, Memory, NAMES, Set};
 use std::alloc::Global;
 
 /// The maximal ones among the modules of `set` that are parts of `rest`, in any order; they
-/// partition `rest`. Condition: `rest` is a nonempty part of `set`.
+/// partition `rest`. This is the plain search; `md_decompose` has the same, quicker on large sparse
+/// sets. Conditions: `set` is a set of vertices, and `rest` a nonempty part of it. Errors: want of
+/// memory.
 pub fn maximal_modules<const W: usize>(
     alloc: Global,
     graph: &GraphOf<W>,
@@ -29,7 +32,8 @@ pub fn maximal_modules<const W: usize>(
     cut_classes(alloc, graph, set, rest, classes, usize::MAX)
 }
 
-/// The nonempty set `rest` as the one class of a partition of it, in any graph and any set.
+/// The set `rest` as the one class of a partition of it, in any graph and any set. Condition: it
+/// isn't empty. Errors: want of memory.
 pub fn one_class<const W: usize>(alloc: Global, rest: &Set<W>) -> Result<Vec<Block<W>>, Memory>
     requires some { HasSome rest.now }
     ensures { IfOk result (λ classes. (e : ℕ → ℕ → Bool) → (s : NameSet)
@@ -42,7 +46,8 @@ pub fn one_class<const W: usize>(alloc: Global, rest: &Set<W>) -> Result<Vec<Blo
 
 /// A finer partition of `rest`, where no module of `set` that is a part of `rest` is cut: its
 /// classes are the maximal ones of these, unless there are `most` or more of them. Conditions:
-/// `rest` is a part of `set`, and the given classes partition it so that none is cut.
+/// `set` is a set of vertices, `rest` a part of it, and the given classes partition `rest` so that
+/// none of these modules is cut. Errors: want of memory.
 pub fn cut_classes<const W: usize>(
     alloc: Global,
     graph: &GraphOf<W>,
@@ -56,6 +61,7 @@ pub fn cut_classes<const W: usize>(
     requires holds { HoldsModules (adjacent graph.now) set.now rest.now classes.items }
     ensures holds { IfOk result
         (λ classes. HoldsModules (adjacent graph.now) set.now rest.now classes.items) }
+    ensures finer { IfOk result (λ finer. AreFiner classes.entry.items finer.items) }
     ensures modules { IfOk result (λ classes. length classes.items < most
         → AreMaximalInside (adjacent graph.now) set.now rest.now classes.items) }
 {

@@ -10,8 +10,7 @@ ghost use Rattle.md_orient.specs.Models.{IsModel, AreSides, ArePlaced, comes_bef
 use crate::orientation::chain_along;
 use md_forcing::{Chain, Seen, Side};
 use md_graph::{Graph, Memory};
-use md_orientation::{Ending, walk};
-use md_report::Order;
+use md_orientation::{Ending, Order, walk};
 use std::alloc::Global;
 
 /// Two orders that realise a graph, or a forcing chain of it or of its complement.
@@ -105,28 +104,45 @@ mod tests {
     use crate::{Verdict, orient};
     use md_forcing::Arc;
     use md_graph::NAMES;
-    use md_report::{Line, write_line};
     use std::process::Abort;
     use std::test::Fail;
 
-    // Sees that the answer on the graph of these edges has this text as a line of a report.
-    fn expect(
+    // The answer on the graph of these edges.
+    fn answer(
         rt: &impl Abort,
         alloc: Global,
         n: u32,
         edges: &[(u32, u32)],
-        want: &str,
-    ) -> Result<(), Fail> {
+    ) -> Result<PermVerdict, Memory> {
         assert!(rt; n <= NAMES);
         let graph = Graph::from_edges(alloc, n, edges)?.expect(rt, "edges");
-        let line = match model(alloc, &graph)? {
-            PermVerdict::Orders(first, second) => Line::Orders(first, second),
-            PermVerdict::ForcedIn(chain) => Line::ForcedIn(chain),
-            PermVerdict::ForcedInComplement(chain) => Line::ForcedInComplement(chain),
+        model(alloc, &graph)
+    }
+
+    // Sees that the answer is these orders.
+    fn expect_two(rt: &impl Abort, answer: PermVerdict, first: &[u32], second: &[u32]) {
+        match answer {
+            PermVerdict::Orders(a, b) => {
+                assert!(rt; a.as_slice() == first && b.as_slice() == second);
+            }
+            PermVerdict::ForcedIn(_) => assert!(rt; false),
+            PermVerdict::ForcedInComplement(_) => assert!(rt; false),
+        }
+    }
+
+    // Sees that the answer is a chain of these arcs, in the graph or in its complement.
+    fn expect_arcs(rt: &impl Abort, answer: PermVerdict, edges: bool, arcs: &[(u32, u32)]) {
+        let chain = match answer {
+            PermVerdict::Orders(_, _) => None,
+            PermVerdict::ForcedIn(chain) => if edges { Some(chain) } else { None },
+            PermVerdict::ForcedInComplement(chain) => if edges { None } else { Some(chain) },
         };
-        let text = write_line(alloc, &line)?;
-        assert!(rt; text.as_slice() == want.as_bytes(), "{want}");
-        Ok(())
+        let chain = chain.expect(rt, "a chain");
+        assert!(rt; chain.len() == arcs.len() as u64);
+        for i in 0..arcs.len() {
+            let (tail, head) = arcs[i];
+            assert_eq!(rt; chain.get(i as u64), Arc { tail, head });
+        }
     }
 
     #[test]
@@ -145,17 +161,15 @@ mod tests {
             (2, 5),
             (3, 5),
         ];
-        let cases: [(u32, &[(u32, u32)], &str); 6] = [
-            (4, &path, "yes 0 2 1 3 / 1 0 3 2"),
-            (5, &five, "no g 0>1 0>4 3>4 3>2 1>2 1>0"),
-            (6, &six, "no c 0>2 0>3 0>4 1>4 1>5 2>5 2>0"),
-            (6, &prism, "no g 0>2 0>3 0>4 1>4 1>5 2>5 2>0"),
-            (0, &[], "yes /"),
-            (1, &[], "yes 0 / 0"),
-        ];
-        for (n, edges, want) in &cases {
-            expect(&rt, rt.alloc(), *n, *edges, *want)?;
-        }
+        let alloc = rt.alloc();
+        expect_two(&rt, answer(&rt, alloc, 4, &path)?, &[0, 2, 1, 3], &[1, 0, 3, 2]);
+        expect_two(&rt, answer(&rt, alloc, 0, &[])?, &[], &[]);
+        expect_two(&rt, answer(&rt, alloc, 1, &[])?, &[0], &[0]);
+        let around = [(0, 1), (0, 4), (3, 4), (3, 2), (1, 2), (1, 0)];
+        expect_arcs(&rt, answer(&rt, alloc, 5, &five)?, true, &around);
+        let beside = [(0, 2), (0, 3), (0, 4), (1, 4), (1, 5), (2, 5), (2, 0)];
+        expect_arcs(&rt, answer(&rt, alloc, 6, &six)?, false, &beside);
+        expect_arcs(&rt, answer(&rt, alloc, 6, &prism)?, true, &beside);
         Ok(())
     }
 

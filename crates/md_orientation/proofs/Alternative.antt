@@ -1,7 +1,7 @@
 -- A graph has a forcing chain or a transitive orientation, and not both.
 use Rattle.std.proofs.Common.{◌≡◌, ◌⊎◌, ℕ, ◌<◌, Bool, true, false, sym, ◌∙◌, subst, inl, inr}
 use Rattle.md_graph.proofs.SetLemmas.{clash}
-use Rattle.md_modules.specs.Adjacency.{IsAdjacency}
+use Rattle.md_graph.specs.Adjacency.{IsAdjacency}
 use Rattle.md_forcing.specs.declared.arc.Arc.{Arc}
 use Rattle.md_forcing.specs.Forcing.{arc, reverse, IsArc, ForcesDirectly, Reaches}
 use Rattle.md_forcing.proofs.Reaching.{over_reached}

@@ -4,7 +4,7 @@ use Rattle.std.proofs.lemmas.Bool.{false_from_ne_true, ne_eqb}
 use Rattle.md_graph.specs.PlainGraph.{PlainGraph, IsGraph}
 use Rattle.md_graph.proofs.SetLemmas.{clash}
 use Rattle.md_graph.proofs.GraphLemmas.{adjacent-complement}
-use Rattle.md_modules.specs.Adjacency.{IsAdjacency}
+use Rattle.md_graph.specs.Adjacency.{IsAdjacency}
 use Rattle.md_forcing.specs.declared.arc.Arc.{Arc}
 use Rattle.md_forcing.specs.declared.seen.Side.{Side}
 use Rattle.md_forcing.specs.declared.seen.Side.TheVariants.{Edges, NonEdges}

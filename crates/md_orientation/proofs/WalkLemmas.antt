@@ -5,7 +5,7 @@ use Rattle.std.specs.Map.{keys_of}
 use Rattle.md_graph.specs.Sets.{NameSet}
 use Rattle.md_graph.specs.Rows.{row_of}
 use Rattle.md_graph.proofs.SetLemmas.{clash}
-use Rattle.md_modules.specs.Adjacency.{IsAdjacency}
+use Rattle.md_graph.specs.Adjacency.{IsAdjacency}
 use Rattle.md_forcing.specs.declared.arc.Arc.{Arc}
 use Rattle.md_forcing.specs.Lists.{Holds}
 use Rattle.md_forcing.specs.Forcing.{arc, reverse, IsArc, Reaches}

@@ -5,7 +5,7 @@ ghost use Rattle.md_forcing.specs.Forcing.{IsArc};
 ghost use Rattle.md_forcing.specs.Sides.{adjacent_on};
 ghost use Rattle.md_orientation.specs.Walking.{IsJoined, JoinsAlso, IsWalked, IsStopped, IsEnding, HasRoom};
 
-use md_forcing::{Arc, Seen, Side, Trail, explore};
+use md_forcing::{Arc, Explored, Seen, Side, Trail, explore};
 use md_graph::{Graph, Memory, NAMES, Names};
 use std::alloc::Global;
 
@@ -25,78 +25,87 @@ pub fn walk(alloc: Global, graph: &Graph, side: Side) -> Result<Ending, Memory>
     ensures room { IfOk result (HasRoom graph.now.vertices) }
 {
     let _vertices = graph.vertices();
-    let mut chosen = Seen::new(alloc, graph)?;
-    let mut trail = Trail::new(alloc);
-    for u in 0..chosen.size() {
-        if walk_at(graph, side, u, &mut chosen, &mut trail)? {
-            return Ok(Ending::Stopped(trail));
+    let chosen = Seen::with_size(alloc, graph.bound())?;
+    let mut explored = Explored {
+        seen: chosen,
+        trail: Trail::new(alloc),
+    };
+    for u in 0..explored.seen.size() {
+        let (next, stopped) = walk_at(alloc, graph, side, u, explored)?;
+        explored = next;
+        if stopped {
+            return Ok(Ending::Stopped(explored.trail));
         }
     }
-    Ok(Ending::Whole(chosen))
+    Ok(Ending::Whole(explored.seen))
 }
 
 // Walks through the edges whose smaller end is `u`. Says whether it stopped, at the class of the
-// trail.
+// trail; the seen arcs are the chosen ones.
 fn walk_at(
+    alloc: Global,
     graph: &Graph,
     side: Side,
     u: u32,
-    chosen: &mut Seen,
-    trail: &mut Trail,
-) -> Result<bool, Memory>
+    explored: Explored,
+) -> Result<(Explored, bool), Memory>
     requires name { u < NAMES }
-    requires size { u < length chosen.old }
-    requires room { (v : ℕ) → Has graph.now.vertices v → v < length chosen.old }
-    requires walked { IsWalked (adjacent_on side graph.now) u chosen.old }
-    ensures stopped { IfOk result (λ stopped. stopped ≡ true
-        → IsStopped (adjacent_on side graph.now) trail.new) }
-    ensures walked { IfOk result (λ stopped. stopped ≡ false
-        → IsWalked (adjacent_on side graph.now) (u + 1) chosen.new) }
-    ensures room { length chosen.new ≡ length chosen.old }
+    requires size { u < length explored.seen }
+    requires room { (v : ℕ) → Has graph.now.vertices v → v < length explored.seen }
+    requires walked { IsWalked (adjacent_on side graph.now) u explored.seen }
+    ensures stopped { IfOk result (λ r. r.1 ≡ true
+        → IsStopped (adjacent_on side graph.now) r.0.trail) }
+    ensures walked { IfOk result (λ r. r.1 ≡ false
+        → IsWalked (adjacent_on side graph.now) (u + 1) r.0.seen) }
+    ensures room { IfOk result (λ r. length r.0.seen ≡ length explored.seen) }
 {
     let _vertices = graph.vertices();
-    let left = unjoined(graph, side, u, chosen);
+    let left = unjoined(graph, side, u, &explored.seen);
+    let mut explored = explored;
     for v in left.members() {
         let first = Arc { tail: u, head: v };
-        if walk_edge(graph, side, first, chosen, trail)? {
-            return Ok(true);
+        let (next, stopped) = walk_edge(alloc, graph, side, first, explored)?;
+        explored = next;
+        if stopped {
+            return Ok((explored, true));
         }
     }
-    Ok(false)
+    Ok((explored, false))
 }
 
 // Explores the class of an arc, unless its edge has a chosen arc. Says whether the class holds the
 // reverse of the arc. Condition: the edges that are less are walked through.
 fn walk_edge(
+    alloc: Global,
     graph: &Graph,
     side: Side,
     first: Arc,
-    chosen: &mut Seen,
-    trail: &mut Trail,
-) -> Result<bool, Memory>
+    explored: Explored,
+) -> Result<(Explored, bool), Memory>
     requires is_arc { IsArc (adjacent_on side graph.now) first }
-    requires room { (v : ℕ) → Has graph.now.vertices v → v < length chosen.old }
-    requires walked { IsWalked (adjacent_on side graph.now) first.tail chosen.old }
+    requires room { (v : ℕ) → Has graph.now.vertices v → v < length explored.seen }
+    requires walked { IsWalked (adjacent_on side graph.now) first.tail explored.seen }
     requires passed { (y : ℕ) → adjacent_on side graph.now first.tail y ≡ true → y < first.head
-        → IsJoined chosen.old first.tail y }
-    ensures stopped { IfOk result (λ stopped. stopped ≡ true
-        → IsStopped (adjacent_on side graph.now) trail.new) }
-    ensures walked { IfOk result (λ stopped. stopped ≡ false
-        → IsWalked (adjacent_on side graph.now) first.tail chosen.new) }
-    ensures joined { IfOk result (λ stopped. stopped ≡ false
-        → JoinsAlso first.tail first.head chosen.old chosen.new) }
-    ensures room { length chosen.new ≡ length chosen.old }
+        → IsJoined explored.seen first.tail y }
+    ensures stopped { IfOk result (λ r. r.1 ≡ true
+        → IsStopped (adjacent_on side graph.now) r.0.trail) }
+    ensures walked { IfOk result (λ r. r.1 ≡ false
+        → IsWalked (adjacent_on side graph.now) first.tail r.0.seen) }
+    ensures joined { IfOk result (λ r. r.1 ≡ false
+        → JoinsAlso first.tail first.head explored.seen r.0.seen) }
+    ensures room { IfOk result (λ r. length r.0.seen ≡ length explored.seen) }
 {
     let _vertices = graph.vertices();
     let back = Arc {
         tail: first.head,
         head: first.tail,
     };
-    if chosen.has(first) || chosen.has(back) {
-        return Ok(false);
+    if explored.seen.has(first) || explored.seen.has(back) {
+        return Ok((explored, false));
     }
-    explore(graph, side, first, chosen, trail)?;
-    Ok(chosen.has(back))
+    let explored = explore(alloc, graph, side, first, explored)?;
+    let stopped = explored.seen.has(back);
+    Ok((explored, stopped))
 }
 
 // The names that `u` is adjacent to on this side by edges of which no arc is in the set.

@@ -7,10 +7,10 @@ ghost use Rattle.md_graph.specs.NameSet.{ascending};
 ghost use Rattle.md_refine.specs.Partitions.{is_in, is_name, is_outside, class_position, ArePartition, cut, cut_outside, met, one_class, touching, settled};
 
 use crate::places::{
-    filled, home_at, home_if, homes_of, insert_if, is_at, names_at, numbers_of, place_at, position,
+    home_at, home_if, homes_of, insert_if, is_at, names_at, numbers_of, place_at, position,
     positions_of,
 };
-use md_graph::{Members, Memory, NAMES, Names, Set, Steps};
+use md_graph::{Members, Memory, NAMES, Names, Set, Steps, copies_of};
 use std::alloc::Global;
 use std::marker::{Brand, Model};
 use std::sync::ledger::{Blank, Ledger};
@@ -61,15 +61,15 @@ impl Partition {
     {
         let _members = names.members();
         let count = names.count();
-        let mut counts = filled(alloc, 2 * NAMES, 0)?;
+        let mut counts = copies_of(alloc, 2 * NAMES, 0)?;
         counts[0] = count;
         Ok(Partition {
             homes: homes_of(alloc, NAMES, names)?,
-            owners: filled(alloc, 2 * NAMES, 0)?,
+            owners: copies_of(alloc, 2 * NAMES, 0)?,
             counts,
-            mains: filled(alloc, NAMES, 0)?,
-            halves: filled(alloc, NAMES, 1)?,
-            nexts: filled(alloc, NAMES, None)?,
+            mains: copies_of(alloc, NAMES, 0)?,
+            halves: copies_of(alloc, NAMES, 1)?,
+            nexts: copies_of(alloc, NAMES, None)?,
             first: home_if(count > 0),
             used: count.min(1),
             leads: Names::none(),

@@ -1,23 +1,12 @@
 //! Classes in order: links from place to place in a vector.
-ghost use Rattle.std.specs.Prelude.{◌≡◌, ◌≢◌, ℕ, ◌<◌, ◌≤◌, List, length, vec_len, replicate, IfOk, Some, None, IfSome, slice_index_or, ◌==◌, if◌then◌else◌};
+ghost use Rattle.std.specs.Prelude.{◌≡◌, ◌≢◌, ℕ, ◌<◌, ◌≤◌, List, length, vec_len, IfOk, Some, None, IfSome, slice_index_or, ◌==◌, if◌then◌else◌};
 ghost use Rattle.std.specs.List.{count_by, position_from};
 ghost use Rattle.std.specs.FinSet as set;
 ghost use Rattle.md_refine.specs.Slots.{IsPlaceOrder, IsPlaced, is_mark, is_mark_of, names_placed, number_of};
 ghost use Rattle.md_graph.specs.NameSet.{ascending_between};
 
-use md_graph::{Memory, NAMES, Names, Set};
+use md_graph::{Memory, NAMES, Names, Set, copies_of};
 use std::alloc::Global;
-
-// One item, `count` times. Errors: want of memory.
-pub(crate) fn filled<T: Copy>(alloc: Global, count: u32, item: T) -> Result<Vec<T>, Memory>
-    ensures { IfOk result (λ v. v.items ≡ replicate count item) }
-{
-    let mut items = Vec::with_capacity(alloc, count as usize)?;
-    for _ in 0..count {
-        items.push_reserved(item);
-    }
-    Ok(items)
-}
 
 // Where each member of the set has `Some(0)`, and each other number below `count` none.
 // Errors: want of memory.
@@ -108,7 +97,7 @@ pub(crate) fn positions_of(
         IsPlaceOrder nexts.now.items first order count → (q : ℕ) → q < count →
         position_from (λ p. p == q) 0 order ≡ Some (slice_index_or positions.items q 0)) }
 {
-    let mut positions = filled(alloc, count, 0)?;
+    let mut positions = copies_of(alloc, count, 0)?;
     let mut next = first;
     for index in 0..count {
         match next {

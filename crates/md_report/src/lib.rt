@@ -5,7 +5,6 @@ mod arc_reader;
 pub mod laws;
 mod line;
 mod made;
-mod order;
 mod pieces;
 mod reader;
 mod words;
@@ -13,7 +12,7 @@ mod writer;
 
 pub use line::{GraphMode, Line, Mode, SessionMode};
 pub use made::made_p4;
-pub use order::Order;
+pub use md_orientation::Order;
 pub use reader::{LineFault, read_line};
 pub use writer::write_line;
 

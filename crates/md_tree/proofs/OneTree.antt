@@ -8,7 +8,7 @@ use Rattle.md_graph.specs.NameSet.{AllBelow}
 use Rattle.md_graph.specs.PlainGraph.{adjacent}
 use Rattle.md_graph.proofs.GraphLemmas.{adjacent_ends, empty_without_vertices}
 use Rattle.md_graph.specs.Sets.{NameSet, Has, HasSome}
-use Rattle.md_modules.specs.Adjacency.{IsAdjacency}
+use Rattle.md_graph.specs.Adjacency.{IsAdjacency}
 use Rattle.md_modules.specs.Modules.{IsStrong}
 use Rattle.md_graph.proofs.SetLemmas.{clash, empty_lacks, Has-along, same_members}
 use Rattle.md_graph.proofs.Search.{decide_has_some}

@@ -1,7 +1,7 @@
 -- A set of names has at most one tree of strong modules.
 use Rattle.std.proofs.Common.{◌≡◌, ℕ, ◌<◌, Bool, true, false, List, [], ◌∷◌, refl, sym, ◌∙◌, ap, subst, inl, inr, arith}
 use Rattle.md_graph.specs.Sets.{NameSet, Has, HasTwo, only_name}
-use Rattle.md_modules.specs.Adjacency.{IsAdjacency}
+use Rattle.md_graph.specs.Adjacency.{IsAdjacency}
 use Rattle.md_modules.specs.Modules.{IsMaximalStrong}
 use Rattle.md_modules.specs.Kinds.{IsSplit}
 use Rattle.md_modules.specs.Laws.{ExactlyOne}

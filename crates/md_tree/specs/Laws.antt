@@ -4,7 +4,7 @@ use Rattle.md_graph.specs.declared.TheConstants.{NAMES}
 use Rattle.md_graph.specs.NameSet.{AllBelow}
 use Rattle.md_graph.specs.PlainGraph.{PlainGraph, IsGraph, adjacent}
 use Rattle.md_graph.specs.Sets.{NameSet, Has}
-use Rattle.md_modules.specs.Adjacency.{IsAdjacency}
+use Rattle.md_graph.specs.Adjacency.{IsAdjacency}
 use Rattle.md_modules.specs.InducedPaths.{HasInducedPath}
 use Rattle.md_tree.specs.Trees.{PlainTree, names}
 use Rattle.md_tree.specs.StrongTrees.{IsTreeOf, IsTree}

@@ -6,7 +6,7 @@ use crate::chains::Chain;
 use crate::children::children;
 use crate::decompose;
 use md_graph::{Graph, Memory, NAMES, Names, WORDS};
-use md_modules::{Block, closure_in, only_member};
+use md_modules::{Block, closure_in};
 use md_tree::{Kind, QuotientEdges, text};
 use std::alloc::Global;
 use std::process::Abort;
@@ -170,7 +170,7 @@ fn divide(
     let Some(_) = within.first_from(0) else {
         return Ok(());
     };
-    if let Some(name) = only_member(&within) {
+    if let Some(name) = within.only_member() {
         let word = format!(in alloc; "{name}")?;
         written.push_str(word.as_str())?;
         return Ok(());

@@ -61,7 +61,7 @@ loop-v-preserved g c =
     let all = i.len in
     let within : n < length sets = omega arith in
     let was = get_or_read sets n c.index_mut.result.now within c.index_mut.ensures.value None in
-    let taken : set_or_empty o ≡ insert (set_yet_at sets n) v = c.in_ok-take_in.ensures ∙ ap (λ s. insert (set_or_empty s) v) was in
+    let taken : set_or_empty o ≡ insert (set_yet_at sets n) v = c.in_ok-take_in.ensures.taken ∙ ap (λ s. insert (set_or_empty s) v) was in
     record {
       len = length-set sets n o ∙ i.len;
       members = members_more c.args.rest.now c.args.numbers.now.items sets n v o within taken i.members member number;

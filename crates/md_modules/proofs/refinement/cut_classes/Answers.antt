@@ -6,7 +6,7 @@ use Rattle.md_graph.proofs.GraphLemmas.{contains-neighbours}
 use Rattle.md_graph.specs.Sets.{NameSet, Within, Disjoint, HasSome, only_name}
 use Rattle.md_modules.specs.Classes.{class_at}
 use Rattle.md_modules.specs.Classes.{HoldsSplitters, IsSplitter}
-use Rattle.md_modules.proofs.ClassLists.{IsCutAt, work_passes, work_skips, work_falls, cut_at}
+use Rattle.md_modules.proofs.ClassLists.{IsCutAt, work_passes, work_skips, work_falls, cut_at, finer_cut}
 use Rattle.md_modules.proofs.ClassLemmas.{cutting_begins, cutting_passes, cutting_skips, cutting_ends, cutting_cuts, sees_some, misses_some, left_grows, told_by_left, module_unless_cut}
 use Rattle.md_modules.proofs.refinement.cut_classes.Goals as goal
 use Rattle.md_modules.proofs.refinement.cut_classes.Goals.{In_ok-split, then-loop-at-test+else-len-most, else-loop-at-test}
@@ -16,6 +16,7 @@ pub loop-at-init : goal.loop-at-init
 loop-at-init g c = record {
   cutting = cutting_skips c.args.set.now c.args.rest.now c.args.classes.items 0 c.next_several-at.result c.requires.part (cutting_begins c.args.set.now c.args.rest.now c.args.classes.items c.requires.holds)
       (λ k low up. subst (λ (ds : List NameSet). (v : ℕ) × (class_at ds k ≡ only_name v)) c.deref.ensures.value (c.next_several-at.ensures.names k low up));
+  finer = λ k. (k, λ x h. h);
   empty = c.none-other.ensures;
   left = subst (λ (ds : List NameSet). c.next_several-at.result < length ds → HoldsSplitters (adjacent c.args.graph.now) c.args.set.now (class_at ds c.next_several-at.result) c.begin.new.left) c.deref-2.ensures.value
       (λ known. c.begin.ensures known (adjacent c.args.graph.now));
@@ -75,6 +76,7 @@ loop-at-preserved-in-Continue-1 g c =
     record {
       cutting = cutting_cuts c.args.set.now c.row.result.now part cs c.loop-at.at c.in-Some.p rows told.1 c.in_ok-split.ensures.parts.1 c.args.rest.now c.split.new.classes.items cut known
           c.loop-at.invariant.cutting;
+      finer = finer_cut c.args.classes.items cs c.split.new.classes.items c.loop-at.at part cut c.loop-at.invariant.finer;
       empty = c.split.ensures.empty;
       left = λ _. subst (λ (t : NameSet). HoldsSplitters e c.args.set.now t c.split.new.left) (sym cut.here)
           (left_grows c.args.set.now (class_at cs c.loop-at.at) part c.splitter.new.left c.split.new.left told.0 inside c.in_ok-split.ensures.parts.3);
@@ -101,6 +103,7 @@ loop-at-preserved g c =
           (module_unless_cut c.args.set.now (class_at cs c.loop-at.at) c.index.result.now c.loop-at.left class (c.loop-at.invariant.left known) (partition.are_apart.some c.loop-at.at known)
           (λ x h. c.requires.part x (partition.inside c.loop-at.at x h)) c.in_default.ensures.none))
           (λ k low up. subst (λ (ds : List NameSet). (v : ℕ) × (class_at ds k ≡ only_name v)) c.deref-in_default.ensures.value (c.next_several-at-in_default.ensures.names k low up));
+      finer = c.loop-at.invariant.finer;
       empty = c.loop-at.invariant.empty;
       left = λ more.
           subst (λ (ds : List NameSet). c.next_several-at-in_default.result < length ds → HoldsSplitters e c.args.set.now (class_at ds c.next_several-at-in_default.result) c.begin-in_default.new.left) c.deref-in_default-2.ensures.value

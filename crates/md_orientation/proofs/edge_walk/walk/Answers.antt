@@ -15,6 +15,7 @@ loop-u-init c = record {
 pub returns-clause-ending : goal.returns-clause-ending
 returns-clause-ending c =
     walked_whole (adjacent_on c.args.side c.args.graph.now) (side_premises c.vertices-vertices.ensures.graph c.args.side).adjacency c.loop-u.u _ c.loop-u.invariant.walked (λ x y h.
-    let room = c.in_ok-chosen.ensures.room x (side_ends c.vertices-vertices.ensures.graph c.args.side x y h).0 in
+    let above = c.bound.ensures.above x (side_ends c.vertices-vertices.ensures.graph c.args.side x y h).0 in
+    let room = c.in_ok-chosen.ensures.room in
     let size = c.size-u-end.ensures.size in
     omega arith)

@@ -5,6 +5,6 @@ use Rattle.md_orientation.proofs.edge_walk.walk.Given as goal
 
 abbrev pub invariant-loop-u : goal.invariant-loop-u
 invariant-loop-u l = record {
-  walked : IsWalked (adjacent_on l.side l.graph) l.u l.chosen;
-  room : length l.chosen ≡ length l.initial.chosen;
+  walked : IsWalked (adjacent_on l.side l.graph) l.u l.explored.seen;
+  room : length l.explored.seen ≡ length l.initial.explored.seen;
 }

@@ -6,7 +6,7 @@ use Rattle.md_orientation.proofs.edge_walk.walk_at.Goals as goal
 
 pub loop-v-init : goal.loop-v-init
 loop-v-init c = record {
-  row = row_start (adjacent_on c.args.side c.args.graph.now) c.args.u c.args.chosen.now
+  row = row_start (adjacent_on c.args.side c.args.graph.now) c.args.u c.args.explored.seen
       (λ y t. ((side_premises c.vertices-vertices.ensures.graph c.args.side).below c.args.u y t).1) c.requires.walked c.unjoined-left.result c.unjoined-left.ensures _
       (c.into_iter-v-iterator.ensures.into_iter_gives ∙ c.members-v-items.ensures.list);
   room = refl;

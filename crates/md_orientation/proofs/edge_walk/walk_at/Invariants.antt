@@ -5,6 +5,6 @@ use Rattle.md_orientation.proofs.edge_walk.walk_at.Given as goal
 
 abbrev pub invariant-loop-v : goal.invariant-loop-v
 invariant-loop-v l = record {
-  row : IsRow (adjacent_on l.side l.graph) l.u l.chosen l.v-iterator;
-  room : length l.chosen ≡ length l.fn.chosen;
+  row : IsRow (adjacent_on l.side l.graph) l.u l.explored.seen l.v-iterator;
+  room : length l.explored.seen ≡ length l.fn.explored.seen;
 }

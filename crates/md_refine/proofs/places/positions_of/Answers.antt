@@ -7,7 +7,7 @@ use Rattle.md_refine.proofs.places.positions_of.Goals as goal
 
 pub loop-index-init : goal.loop-index-init
 loop-index-init c = record {
-  len = ap length c.in_ok-positions.ensures ∙ length-replicate {A = ℕ} c.args.count 0;
+  len = ap length c.in_ok-positions.ensures.items ∙ length-replicate {A = ℕ} c.args.count 0;
   rest = λ order is. rest_first (λ _. false) _ _ order _ is;
   done = λ order is j low. absurd (omega arith);
 }

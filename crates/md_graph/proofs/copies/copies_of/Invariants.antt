@@ -1,5 +1,5 @@
 use Rattle.std.proofs.Common.{◌≡◌, ◌≤◌, replicate, vec_capacity}
-use Rattle.md_refine.proofs.places.filled.Given as goal
+use Rattle.md_graph.proofs.copies.copies_of.Given as goal
 
 abbrev pub invariant-loop : goal.invariant-loop
 invariant-loop g l = (l.items.items ≡ replicate l.counter l.item) × (l.count ≤ vec_capacity l.items)

@@ -1,5 +1,0 @@
-use Rattle.md_modules.proofs.BlockLemmas.{alone_is}
-use Rattle.md_modules.proofs.blocks.only_member.Goals as goal
-
-pub returns-clause-one : goal.returns-clause-one
-returns-clause-one g c = alone_is c.args.set.now c.in_ok-first.first c.in_ok-first.ensures.found (c.is_last.ensures.last c.if-not-is_last.false)
