@@ -137,15 +137,17 @@ class Node:
         return graph
 
     def as_sage(self):
-        """The tree in the form of Sage's `modular_decomposition()`: a vertex, or a pair of PRIME, SERIES or PARALLEL
-        and the list of the children. Inside Sage these are its own constants, elsewhere texts. Sage doesn't tell
-        which children of a prime node are adjacent, so the pairs are lost."""
+        """The tree in the form of Sage's `modular_decomposition()`: a pair of PRIME, SERIES or PARALLEL and the list of
+        the children, where a leaf is its vertex; a lone vertex is (PRIME, [v]) there. Inside Sage the kinds are its own
+        constants, elsewhere texts. Sage doesn't tell which children of a prime node are adjacent, so pairs are lost."""
         try:
             from sage.graphs.graph_decompositions.modular_decomposition import NodeType
 
             kinds = {kind: getattr(NodeType, kind.upper()) for kind in LETTERS}
         except ImportError:
             kinds = {kind: kind.upper() for kind in LETTERS}
+        if self.kind == "leaf":
+            return kinds["prime"], [self.vertex]
         return self._fold(lambda node, below: (kinds[node.kind], below) if below else node.vertex)
 
     def to_dot(self, marked=frozenset()) -> str:

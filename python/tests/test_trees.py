@@ -58,7 +58,7 @@ class Trees(unittest.TestCase):
 
     def test_as_sage(self):
         self.assertEqual(str(parse_tree("S(P(0,1),2)").as_sage()).replace("'", ""), "(SERIES, [(PARALLEL, [0, 1]), 2])")
-        self.assertEqual(Node("leaf", "a").as_sage(), "a")
+        self.assertEqual(str(Node("leaf", 7).as_sage()).replace("'", ""), "(PRIME, [7])")
 
     def test_networkx(self):
         try:
