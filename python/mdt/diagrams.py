@@ -3,11 +3,10 @@ from __future__ import annotations
 
 import math
 from typing import Any, Collection, Optional
-from xml.sax.saxutils import escape
 
 from .pictures import EDGE, vertices_below
 from .rings import ring_order
-from .svg import FILL, FONT, MARKED, STROKE, Name, circle, picture, rect, rounded, short, text_at, text_width, titled
+from .svg import FILL, MARKED, STROKE, Name, circle, picture, rounded, short, text_at, text_width, titled
 from .trees import Node
 
 GAP = 8

@@ -14,9 +14,8 @@ from .reports import Line, read_report
 from .svg import Name
 from .trees import parse_tree
 
-HELP = """Draws the first tree of a report as SVG. A leaf stands by its vertex, in the block of its parallel (P) or series (S)
-parent, or in the quotient that is drawn inside its prime (R) parent. For the pages of --all and --session write to a
-file whose name ends with .html."""
+HELP = """Draws the first tree of a report as SVG. A leaf stands by its vertex, in the card of its parallel (P) or
+series (S) parent, or in the quotient that is drawn in its prime (R) parent. --all and --session write pages of HTML."""
 
 # The most frames of a session: each is a whole picture.
 MOST_FRAMES = 2000

@@ -24,7 +24,8 @@ function show(number) {
   document.getElementById("place").textContent = (now + 1) + " of " + frames.length;
   history.replaceState(null, "", "#" + (now + 1));
 }
-const steps = {ArrowRight: 1, ArrowLeft: -1, " ": 1, PageDown: 10, PageUp: -10, Home: -frames.length, End: frames.length};
+const all = frames.length;
+const steps = {ArrowRight: 1, ArrowLeft: -1, " ": 1, PageDown: 10, PageUp: -10, Home: -all, End: all};
 document.addEventListener("keydown", (event) => {
   if (event.key in steps) {
     event.preventDefault();
@@ -42,8 +43,8 @@ _BUTTONS = "".join('<button data-key="%s">%s</button>' % pair for pair in (
 
 
 def _head(title: str) -> str:
-    return '<!DOCTYPE html>\n<html lang="en"><head><meta charset="utf-8"><title>%s</title><style>%s</style></head><body>\n' \
-        % (escape(title), _STYLE)
+    return ('<!DOCTYPE html>\n<html lang="en"><head><meta charset="utf-8"><title>%s</title><style>%s</style></head>'
+            "<body>\n" % (escape(title), _STYLE))
 
 
 def all_page(title: str, figures: Iterable[tuple[str, str]]) -> Iterator[str]:

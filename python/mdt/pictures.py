@@ -294,7 +294,8 @@ class _Drawer:
         """The card of a prime node: a graph on its children."""
         node, ring, left = card.node, card.ring, card.x - card.width / 2
         self.shapes.append(titled(self.titles[id(node)], [
-            rect(left, card.y, card.width, card.height, 12, self.fill(node), STROKE["prime"])]))
+            rect(left, card.y, card.width, card.height, 12, self.fill(node), STROKE["prime"]),
+            text_at(left + 12, card.y + 12, LETTERS["prime"], ' font-weight="bold"')]))
         x, y = card.x, card.y + card.height / 2
         self.shapes.extend(ring.lines(x, y, STROKE["prime"]))
         for number, child in enumerate(node.children):
@@ -333,7 +334,8 @@ def tree_svg(tree: Optional[Node], name: Name = str, marked: Collection = (), le
         drawer.card(card)
     shapes = drawer.lines + drawer.shapes
     if legend:
-        more, wide, high = _legend({node.kind for node in tree}, tagged, any(v in marked for v in tree.leaves()), height)
+        some_marked = any(v in marked for v in tree.leaves())
+        more, wide, high = _legend({node.kind for node in tree}, tagged, some_marked, height)
         if wide > width:
             shapes = ['<g transform="translate(%s 0)">' % rounded((wide - width) / 2), *shapes, "</g>"]
         shapes, width, height = shapes + more, max(width, wide), height + high

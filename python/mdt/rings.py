@@ -67,7 +67,7 @@ class Ring:
         self.named = count <= MOST_NAMED
         self.dot = max(9.5, 3.4 * longest + 3.5) if self.inside else 4 if self.named else 2
         step = 2 * self.dot + 7 if self.inside else 11 if self.named else 4
-        self.radius = max(20.0, min(420.0, count * step / (2 * math.pi)))
+        self.radius = max(27.0, min(420.0, count * step / (2 * math.pi)))
         beside = 0 if self.inside or not self.named else 6 + text_width("m" * longest, 10)
         self.size = 2 * (self.radius + self.dot + beside)
         self.turn = [0] * count

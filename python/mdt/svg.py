@@ -46,10 +46,6 @@ def rect(x: float, y: float, w: float, h: float, r: float, fill: str, stroke: st
         rounded(x), rounded(y), rounded(w), rounded(h), rounded(r), fill, stroke, more)
 
 
-def line(x: float, y: float, u: float, v: float, more: str) -> str:
-    return '<path d="M%s %sL%s %s" %s/>' % (rounded(x), rounded(y), rounded(u), rounded(v), more)
-
-
 def picture(width: float, height: float, shapes: Iterable[str]) -> str:
     """The text of an SVG picture of this size."""
     head = ('<svg xmlns="http://www.w3.org/2000/svg" viewBox="0 0 {0} {1}" width="{0}" height="{1}" '

@@ -17,7 +17,7 @@ from unittest import mock
 from mdt import Node, parse_tree
 from mdt.__main__ import main
 from mdt.diagrams import arcs_svg, graph_svg, orders_svg
-from mdt.pictures import letters, tree_dot, tree_svg
+from mdt.pictures import MEANING, letters, tree_dot, tree_svg
 from mdt.rings import ring_order
 from mdt.svg import MARKED
 
@@ -58,10 +58,10 @@ def chain(depth):
 class Trees(unittest.TestCase):
     def test_a_quotient_is_drawn_in_its_node(self):
         svg = tree_svg(parse_tree(NESTED), legend=False)
-        self.assertEqual(sorted(texts(svg)), sorted(["S", "5", "0", "A", "2", "3", "A", "P", "1", "4"]))
+        self.assertEqual(sorted(texts(svg)), sorted(["S", "5", "R", "0", "A", "2", "3", "A", "P", "1", "4"]))
         self.assertIn("prime, 5 vertices: 0 1 4 2 3", titles(svg))
         self.assertEqual(box(svg)[:2], [0, 0])
-        self.assertIn("prime: a line joins two children with all edges between them", texts(tree_svg(parse_tree(NESTED))))
+        self.assertIn(MEANING["prime"], texts(tree_svg(parse_tree(NESTED))))
         self.assertEqual(parse_tree(NESTED)._repr_svg_(), svg)
 
     def test_names_and_marks(self):
@@ -153,7 +153,8 @@ class Command(unittest.TestCase):
         self.assertIn(" -- ", self.draw("--dot", "--line", "3", report)[1])
         self.assertEqual(self.draw("--all", report)[1].count("<svg"), 2)
         names = self.file("names", "0 ann\n\n1 bob lee\n")
-        self.assertEqual(texts(self.draw("--no-legend", "--line", "3", "--names", names, report)[1]), ["S", "ann", "bob lee"])
+        named = self.draw("--no-legend", "--line", "3", "--names", names, report)[1]
+        self.assertEqual(texts(named), ["S", "ann", "bob lee"])
         self.assertEqual(self.draw("--line", "3", "--mark", "1", "--no-legend", report)[1].count(MARKED), 1)
         self.assertEqual(self.draw("--graph", "--line", "3", report)[1].count("<circle"), 3)
 
@@ -166,7 +167,8 @@ class Command(unittest.TestCase):
         self.assertEqual(texts(self.draw("--permutation", "--line", "3", permute)[1]), ["0", "0", "1", "1"])
 
     def test_words_that_fit_nothing(self):
-        report, compare = self.file("report", "mdt tree\nt S(0,1)\nend\n"), self.file("compare", "mdt compare\nyes\nend\n")
+        report = self.file("report", "mdt tree\nt S(0,1)\nend\n")
+        compare = self.file("compare", "mdt compare\nyes\nend\n")
         for words, status, told in [
             (["--mark", "a", report], 2, "vertices are numbers"),
             (["--mark-line", "x", report], 2, "a report, a colon"),

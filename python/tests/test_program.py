@@ -1,4 +1,5 @@
-"""What the program answers for graphs of Python, and what it writes, read back. The program is found on PATH or by MDT."""
+"""What the program answers for graphs of Python, and what it writes, read back. It is found on PATH or by MDT."""
+import doctest
 import os
 import random
 import subprocess
@@ -18,7 +19,8 @@ try:
 except ImportError:
     networkx = None
 
-EXAMPLES = Path(__file__).resolve().parents[2] / "examples"
+README = Path(__file__).resolve().parents[1] / "README.md"
+EXAMPLES = README.parents[1] / "examples"
 NAMED = [("ann", "bob"), ("bob", "cem"), ("cem", "dan"), ("bob", "eve")]
 
 
@@ -106,8 +108,8 @@ class Answers(unittest.TestCase):
         self.assertEqual(sorted(model.first), sorted(model.second))
         for u in model.first:
             for v in model.first:
-                crossed = (model.first.index(u) < model.first.index(v)) != (model.second.index(u) < model.second.index(v))
-                self.assertEqual(u != v and crossed, (u, v) in NAMED or (v, u) in NAMED)
+                before = [order.index(u) < order.index(v) for order in (model.first, model.second)]
+                self.assertEqual(before[0] != before[1], (u, v) in NAMED or (v, u) in NAMED)
 
     def test_trees_denote_their_graphs(self):
         r = random.Random(7)
@@ -160,6 +162,14 @@ class Answers(unittest.TestCase):
             mdt.check("tree", "g6", "/no/such/file", "/no/such/file")
         self.assertEqual((caught.exception.status, caught.exception.kind), (4, "ReadFault"))
         self.assertRaises(mdt.MdtError, mdt.check, "tree", "png", "x", "y")
+
+
+    @unittest.skipUnless(README.is_file(), "no README beside the tests")
+    def test_what_the_readme_shows(self):
+        failed, tried = doctest.testfile(str(README), module_relative=False)
+        self.assertEqual(failed, 0)
+        self.assertGreater(tried, 5)
+        self.assertEqual(doctest.testmod(mdt).failed, 0)
 
 
 @unittest.skipUnless(has_program() and EXAMPLES.is_dir(), "no program mdt, or no examples beside the package")
