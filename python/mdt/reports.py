@@ -246,25 +246,25 @@ def join(pieces: Iterable[tuple[str, Iterable[bytes]]], write: Callable[[bytes],
     for name, texts in pieces:
         inside, number = False, 0
         for number, text in enumerate(texts, 1):
-            if not inside:
-                if text not in heads:
-                    raise JoinError("%s: line %d isn't the head of a report of graphs" % (name, number))
-                if head is not None and text != head:
-                    raise JoinError("%s: line %d begins a report of another mode" % (name, number))
+            if inside and text[0] not in b"em":  # the line of a graph begins with t, y or n
+                write(text)
+                found += 1
+            elif inside and text == b"end\n":
+                inside = False
+            elif inside:
+                raise JoinError("%s: line %d: the report before it has no end" % (name, number))
+            elif text not in heads:
+                raise JoinError("%s: line %d isn't the head of a report of graphs" % (name, number))
+            elif head not in (None, text):
+                raise JoinError("%s: line %d begins a report of another mode" % (name, number))
+            else:
                 if head is None:
                     write(text)
                 head, inside = text, True
-            elif text == b"end\n":
-                inside = False
-            elif text.startswith(b"mdt ") or not text.endswith(b"\n"):
-                raise JoinError("%s: line %d: the report before it has no end" % (name, number))
-            else:
-                write(text)
-                found += 1
-        if inside:
-            raise JoinError("%s: the last report has no end" % name)
         if not number:
             raise JoinError("%s: it is empty" % name)
+        if inside:
+            raise JoinError("%s: the last report has no end" % name)
     if head is None:
         raise JoinError("there is no piece")
     if lines is not None and found != lines:
