@@ -300,7 +300,8 @@ class _Drawer:
         self.shapes.extend(ring.lines(x, y, STROKE["prime"]))
         for number, child in enumerate(node.children):
             title = self.name(child.vertex) if child.kind == "leaf" else self.titles[id(child)]
-            self.shapes.append(ring.vertex(number, x, y, self.fill(child), STROKE[child.kind], title))
+            tagged = child.kind != "leaf"
+            self.shapes.append(ring.vertex(number, x, y, self.fill(child), STROKE[child.kind], title, tagged))
 
 
 def _legend(kinds: Collection[str], tagged: bool, marked: bool, y: float) -> tuple[list[str], float, float]:

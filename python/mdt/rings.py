@@ -68,7 +68,7 @@ class Ring:
         self.dot = max(9.5, 3.4 * longest + 3.5) if self.inside else 4 if self.named else 2
         step = 2 * self.dot + 7 if self.inside else 11 if self.named else 4
         self.radius = max(27.0, min(420.0, count * step / (2 * math.pi)))
-        beside = 0 if self.inside or not self.named else 6 + text_width("m" * longest, 10)
+        beside = 0 if self.inside else 6 + text_width("m" * (longest if self.named else 2), 10)
         self.size = 2 * (self.radius + self.dot + beside)
         self.turn = [0] * count
         self.angle = [0.0] * count
@@ -93,21 +93,24 @@ class Ring:
         parts = []
         for i, j in self.pairs:
             (a, b), (c, d) = self.place(i, x, y), self.place(j, x, y)
-            if self.steps(i, j) == 1 or len(self.labels) < 7:
+            u, v = (a + c) / 2 - x, (b + d) / 2 - y
+            far = math.hypot(u, v)
+            inside = self.radius - 3 * self.dot
+            if self.steps(i, j) == 1 or far <= inside or len(self.labels) < 7:
                 parts.append("M%s %sL%s %s" % tuple(map(rounded, (a, b, c, d))))
             else:
-                bent = (x + 0.33 * (a + c - 2 * x), y + 0.33 * (b + d - 2 * y))
-                parts.append("M%s %sQ%s %s %s %s" % tuple(map(rounded, (a, b, *bent, c, d))))
+                bend = (2 * inside - far) / far
+                parts.append("M%s %sQ%s %s %s %s" % tuple(map(rounded, (a, b, x + bend * u, y + bend * v, c, d))))
         thin = 1.2 if len(self.pairs) < 150 else 0.6
         return ['<path d="%s" fill="none" stroke="%s" stroke-width="%g"/>' % ("".join(parts), colour, thin)]
 
-    def vertex(self, v: int, x: float, y: float, fill: str, stroke: str, title: str) -> str:
-        """The circle or dot of a vertex, and its name."""
+    def vertex(self, v: int, x: float, y: float, fill: str, stroke: str, title: str, tagged: bool) -> str:
+        """The circle or dot of a vertex, and its name; a tagged one has it also where there are too many for names."""
         u, w = self.place(v, x, y)
         shapes = [circle(u, w, self.dot, fill, stroke)]
         if self.inside:
             shapes.append(text_at(u, w, self.labels[v]))
-        elif self.named:
+        elif self.named or tagged:
             a, b = self.place(v, x, y, self.radius + self.dot + 3)
             left = self.angle[v] > math.pi
             turned = math.degrees(self.angle[v]) - 90 + (180 if left else 0)
