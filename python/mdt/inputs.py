@@ -1,0 +1,184 @@
+"""Readers of graph files and scripts for the second opinion: graph6, DIMACS edge files, scripts of edits.
+
+They stand apart from the program: each is written from the formats alone (`docs/FORMATS.md`), for reading and not for
+speed. A graph is a dict that gives each vertex the set of its neighbours.
+"""
+from __future__ import annotations
+
+from typing import Union
+
+Graph = dict[int, set[int]]
+# An edit: its word (+e, -e, +v or -v) and its names.
+Edit = tuple[str, list[int]]
+
+NAMES = 4096
+EDITS = 200_000
+
+
+class InputFault(ValueError):
+    """A graph file or a script that the program refuses: the kind of its first fault and its line, from 1."""
+
+    def __init__(self, file: str, kind: str, line: int):
+        super().__init__("%s %s line %d" % (file, kind, line))
+        self.file, self.kind, self.line = file, kind, line
+
+
+class _Fault(Exception):
+    """The kind of the fault of a line whose number the caller knows."""
+
+
+def _lines(content: bytes) -> list[bytes]:
+    """The lines of a graph file or script: cut at each line feed, and one carriage return at an end taken off."""
+    lines = content.split(b"\n")
+    if not lines[-1]:
+        lines.pop()
+    return [line[:-1] if line.endswith(b"\r") else line for line in lines]
+
+
+def _fields(line: bytes) -> list[bytes]:
+    return [field for field in line.replace(b"\t", b" ").split(b" ") if field]
+
+
+def _number(field: bytes) -> int:
+    if not (1 <= len(field) <= 18 and all(48 <= byte <= 57 for byte in field)):
+        raise _Fault("BadNumber")
+    return int(field)
+
+
+def read_graphs(content: bytes, form: Union[str, None] = None) -> list[Graph]:
+    """The graphs of a file in the format `g6` or `dimacs`. Without a format: a DIMACS file has a space or a tab in its
+    problem line, and a graph6 file has none anywhere. InputFault for the first fault."""
+    if form is None:
+        form = "dimacs" if b" " in content or b"\t" in content else "g6"
+    return read_graph6(content) if form == "g6" else [read_dimacs(content)]
+
+
+def read_graph6(content: bytes) -> list[Graph]:
+    """The graphs of a graph6 file, on the vertices from 0 on."""
+    if content.startswith(b">>graph6<<"):
+        content = content[10:]
+    graphs = []
+    for number, line in enumerate(_lines(content), 1):
+        if line:
+            try:
+                graphs.append(_graph6_line(line))
+            except _Fault as fault:
+                raise InputFault("graph", str(fault), number) from None
+    return graphs
+
+
+def _graph6_line(line: bytes) -> Graph:
+    if line[:1] in (b":", b";", b"&"):
+        raise _Fault("OtherFormat")
+    if min(line) < 63 or max(line) > 126:
+        raise _Fault("BadByte")
+    count, groups = _graph6_size(line)
+    if count > NAMES:
+        raise _Fault("TooManyVertices")
+    pairs = count * (count - 1) // 2
+    if len(groups) != (pairs + 5) // 6:
+        raise _Fault("Truncated" if len(groups) < (pairs + 5) // 6 else "TrailingBytes")
+    bits = "".join(format(byte - 63, "06b") for byte in groups)
+    if "1" in bits[pairs:]:
+        raise _Fault("BadPadding")
+    graph: Graph = {v: set() for v in range(count)}
+    place = 0
+    for v in range(count):
+        for u in range(v):
+            if bits[place + u] == "1":
+                graph[u].add(v)
+                graph[v].add(u)
+        place += v
+    return graph
+
+
+def _graph6_size(line: bytes) -> tuple[int, bytes]:
+    """The number of vertices, and the bytes behind it."""
+    begin, end, least = (0, 1, 0) if line[0] != 126 else (1, 4, 63) if line[1:2] != b"~" else (2, 8, 258_048)
+    if len(line) < end:
+        raise _Fault("Truncated")
+    count = 0
+    for byte in line[begin:end]:
+        count = count * 64 + byte - 63
+    if count < least:
+        raise _Fault("BadSize")
+    return count, line[end:]
+
+
+def read_dimacs(content: bytes) -> Graph:
+    """The graph of a DIMACS edge file, on the vertices from 1 on."""
+    graph = None
+    lines = _lines(content)
+    for number, line in enumerate(lines, 1):
+        fields = _fields(line)
+        try:
+            if not fields or fields[0][:1] == b"c" or fields[0] in (b"n", b"d", b"v", b"x"):
+                continue
+            if fields[0] == b"p":
+                if graph is not None:
+                    raise _Fault("SecondProblemLine")
+                graph = _problem(fields)
+            elif fields[0] == b"e":
+                if graph is None:
+                    raise _Fault("EdgeBeforeProblem")
+                _edge(fields, graph)
+            else:
+                raise _Fault("UnknownLine")
+        except _Fault as fault:
+            raise InputFault("graph", str(fault), number) from None
+    if graph is None:
+        raise InputFault("graph", "NoProblemLine", len(lines) + 1)
+    return graph
+
+
+def _problem(fields: list[bytes]) -> Graph:
+    if len(fields) != 4:
+        raise _Fault("FieldCount")
+    if fields[1] not in (b"edge", b"col"):
+        raise _Fault("UnknownLine")
+    count, _ = _number(fields[2]), _number(fields[3])
+    if count >= NAMES:
+        raise _Fault("TooManyVertices")
+    return {v: set() for v in range(1, count + 1)}
+
+
+def _edge(fields: list[bytes], graph: Graph) -> None:
+    if len(fields) != 3:
+        raise _Fault("FieldCount")
+    u, v = _number(fields[1]), _number(fields[2])
+    if u not in graph or v not in graph:
+        raise _Fault("VertexOutOfRange")
+    if u == v:
+        raise _Fault("Loop")
+    graph[u].add(v)
+    graph[v].add(u)
+
+
+def read_script(content: bytes) -> list[Edit]:
+    """The edits of a script. InputFault for the first fault."""
+    edits: list[Edit] = []
+    for number, line in enumerate(_lines(content), 1):
+        fields = _fields(line)
+        if not fields or fields[0][:1] == b"#":
+            continue
+        try:
+            edits.append(_edit(fields, len(edits)))
+        except _Fault as fault:
+            raise InputFault("script", str(fault), number) from None
+    return edits
+
+
+def _edit(fields: list[bytes], before: int) -> Edit:
+    word = fields[0]
+    if before == EDITS:
+        raise _Fault("TooManyEdits")
+    if word not in (b"+e", b"-e", b"+v", b"-v"):
+        raise _Fault("UnknownEdit")
+    if len(fields) < 2 or word in (b"+e", b"-e") and len(fields) != 3 or word == b"-v" and len(fields) != 2:
+        raise _Fault("FieldCount")
+    names = []
+    for field in fields[1:]:
+        names.append(_number(field))
+        if names[-1] >= NAMES:
+            raise _Fault("NameTooLarge")
+    return word.decode(), names

@@ -1,0 +1,74 @@
+"""Trees: their text, the graphs that they denote, other forms."""
+import json
+import unittest
+
+from mdt import Node, ReportError, parse_tree
+from mdt.reports import nodes_as_json
+
+
+def edges_of(tree):
+    return sorted(tuple(sorted(pair)) for pair in tree.edges())
+
+
+def deep_text(depth):
+    text = "0"
+    for v in range(1, depth + 1):
+        text = "%s(%s,%d)" % ("SP"[v % 2], text, v)
+    return text
+
+
+class Trees(unittest.TestCase):
+    def test_forms(self):
+        for text, leaves, edges in [
+            ("0", [0], []),
+            ("P(0,1)", [0, 1], []),
+            ("S(P(0,1),P(2,S(3,4)))", [0, 1, 2, 3, 4],
+             [(0, 2), (0, 3), (0, 4), (1, 2), (1, 3), (1, 4), (3, 4)]),
+            ("R(0,P(1,4),2,3;0-1,1-2,2-3)", [0, 1, 4, 2, 3], [(0, 1), (0, 4), (1, 2), (2, 3), (2, 4)]),
+        ]:
+            tree = parse_tree(text)
+            self.assertEqual(tree.leaves(), leaves)
+            self.assertEqual(edges_of(tree), edges)
+            self.assertEqual((str(tree), repr(tree)), (text, text))
+        self.assertIsNone(parse_tree("empty"))
+
+    def test_other_texts_are_refused(self):
+        for text in ["", "P(", "P(0", "P(0,1))", "0,1", "x", "R(0,1;0", "R(0,1;0)", "P(0,1)2", "P(0-1)", "P(,0)",
+                     "P(0,)", "P(0,1;0-1)", "R(0,1;0-1,)", "R(0,1;0-1;0-1)", "P()", ")", "P(0 1)", "P(0P(1,2))",
+                     "R(0,1;0-2)", "01", "P(0,00)", "\u00b2", "9" * 5000]:
+            with self.assertRaises(ReportError, msg=text):
+                parse_tree(text)
+
+    def test_deep(self):
+        tree = parse_tree(deep_text(4095))
+        self.assertEqual(tree.depth(), 4095)
+        self.assertEqual(len(list(tree.edges())), sum(v for v in range(1, 4096) if v % 2 == 0))
+        self.assertEqual(str(tree.renamed(lambda v: v)), deep_text(4095))
+        json.dumps(nodes_as_json(tree))
+        self.assertEqual(len(tree.as_sage()), 2)
+
+    def test_walks(self):
+        tree = parse_tree("R(0,P(1,4),2,3;0-1,1-2,2-3)")
+        self.assertEqual([node.kind for node in tree], ["prime", "leaf", "parallel", "leaf", "leaf", "leaf", "leaf"])
+        self.assertEqual([str(node) for node in tree.postorder()][:3], ["0", "1", "4"])
+        self.assertFalse(tree.is_prime() or tree.is_cograph())
+        self.assertTrue(parse_tree("R(0,1,2,3;0-1,1-2,2-3)").is_prime())
+        self.assertTrue(parse_tree("S(0,P(1,2))").is_cograph())
+        self.assertEqual(str(tree.renamed("abcde".__getitem__)), "R(a,P(b,e),c,d;0-1,1-2,2-3)")
+
+    def test_as_sage(self):
+        sage = str(parse_tree("S(P(0,1),2)").as_sage())
+        self.assertEqual(sage.replace("'", ""), "(SERIES, [(PARALLEL, [0, 1]), 2])")
+        self.assertEqual(str(Node("leaf", 7).as_sage()).replace("'", ""), "(PRIME, [7])")
+
+    def test_networkx(self):
+        try:
+            import networkx
+        except ImportError:
+            self.skipTest("networkx isn't installed")
+        graph = parse_tree("R(0,1,2,3;0-1,1-2,2-3)").to_networkx()
+        self.assertTrue(networkx.is_isomorphic(graph, networkx.path_graph(4)))
+
+
+if __name__ == "__main__":
+    unittest.main()

@@ -1,0 +1,225 @@
+"""The second opinion: over reports that stand here, beside all modules of small graphs, and beside `mdt check` over
+altered reports of the program."""
+import random
+import subprocess
+import tempfile
+import unittest
+from itertools import combinations
+from pathlib import Path
+
+from mdt import MdtError, Node, program
+from mdt.graphs import numbered
+from mdt.inputs import InputFault, read_graphs, read_script
+from mdt.reports import MODES
+from mdt.verify import SESSIONS, first_wrong_line, is_tree_of
+
+ALTERED = 12  # how many altered reports are tried of each report
+
+
+def has_program():
+    try:
+        return bool(program.program())
+    except MdtError:
+        return False
+
+
+def random_graph(r, n):
+    density = r.choice([0.2, 0.5, 0.8])
+    graph = {v: set() for v in range(n)}
+    for u, v in combinations(range(n), 2):
+        if r.random() < density:
+            graph[u].add(v)
+            graph[v].add(u)
+    return graph
+
+
+def random_cograph(r, n):
+    """Two cographs side by side, all edges between them or none."""
+    def edges(names):
+        if len(names) < 2:
+            return set()
+        cut = r.randrange(1, len(names))
+        left, right = names[:cut], names[cut:]
+        across = {(u, v) for u in left for v in right} if r.random() < 0.5 else set()
+        return across | edges(left) | edges(right)
+
+    graph = {v: set() for v in range(n)}
+    for u, v in edges(list(range(n))):
+        graph[u].add(v)
+        graph[v].add(u)
+    return graph
+
+
+def graph6(graph):
+    return numbered([(u, v) for u in graph for v in graph[u]], graph).graph6()
+
+
+def random_script(r, n):
+    lines = []
+    for _ in range(r.randrange(8)):
+        word = r.choice(["+e", "-e", "+v", "-v"])
+        count = 2 if word in ("+e", "-e") else 1
+        names = [r.randrange(n + 2) for _ in range(count + (r.randrange(n + 1) if word == "+v" else 0))]
+        lines.append("%s %s\n" % (word, " ".join(map(str, names))))
+    return "".join(lines).encode()
+
+
+def altered(r, report):
+    """A report with one change that may or may not turn it wrong."""
+    lines = report.splitlines(keepends=True)
+    at = r.randrange(len(lines))
+    what = r.randrange(8)
+    if what == 0:
+        del lines[at]
+    elif what == 1:
+        lines.insert(at, lines[r.randrange(len(lines))])
+    elif what == 2:
+        lines[at] = lines[r.randrange(len(lines))]
+    elif what == 3:
+        return report[:r.randrange(len(report) + 1)]
+    elif what == 4:
+        return report + r.choice([b"\n", b"end\n", b"x", b" "])
+    elif what == 5:
+        words = lines[at].split(b" ")
+        r.shuffle(words)
+        lines[at] = b" ".join(words)
+    elif what == 6:
+        words = lines[at][:-1].split(b" ")
+        lines[at] = b" ".join(words[:1] + words[:0:-1]) + b"\n"
+    else:
+        text = bytearray(lines[at])
+        text[r.randrange(len(text))] = r.choice(b"0123456789,();-> PSR\n")
+        lines[at] = bytes(text)
+    return b"".join(lines)
+
+
+def is_module(graph, some):
+    return all(len({v in graph[u] for u in some}) == 1 for v in graph if v not in some)
+
+
+def strong_modules(graph):
+    """All strong modules: modules that overlap no module, found among all sets of vertices."""
+    sets = [set(some) for size in range(1, len(graph) + 1) for some in combinations(graph, size)]
+    modules = [some for some in sets if is_module(graph, some)]
+    return [one for one in modules if not any(one & two and one - two and two - one for two in modules)]
+
+
+def tree_of(graph):
+    """The tree of a graph with vertices, from all its strong modules."""
+    nodes = {}
+    for module in sorted(strong_modules(graph), key=len):
+        inside = [one for one in nodes if one < module and not any(one < two < module for two in nodes)]
+        inside.sort(key=min)
+        if not inside:
+            nodes[frozenset(module)] = Node("leaf", min(module))
+            continue
+        pairs = [(i, j) for (i, one), (j, two) in combinations(enumerate(inside), 2) if min(two) in graph[min(one)]]
+        whole = len(inside) * (len(inside) - 1) // 2
+        node = Node("parallel" if not pairs else "series" if len(pairs) == whole else "prime")
+        node.children = [nodes[one] for one in inside]
+        node.pairs = pairs if node.kind == "prime" else []
+        nodes[frozenset(module)] = node
+    return nodes[frozenset(graph)]
+
+
+class Definitions(unittest.TestCase):
+    def test_reports(self):
+        for mode, graph, script, lines, wrong in [
+            ("tree", b"DhO\n", b"", ["t R(P(0,4),1,2,3;0-1,1-2,2-3)"], None),
+            ("tree", b"DhO\n", b"", ["t R(0,4,1,2,3;0-1,1-2,2-3)"], 2),
+            ("tree", b"DhO\n", b"", [], 2),
+            ("tree", b"DhO\n", b"", ["t R(P(0,4),1,2,3;0-1,1-2,2-3)", "end"], 4),
+            ("tree", b"@\nA?\nA_\n\nBw\r\nBg", b"",
+             ["t 0", "t P(0,1)", "t S(0,1)", "t S(0,1,2)", "t S(P(0,2),1)"], None),
+            ("tree", b"?\n", b"", ["t empty"], None),
+            ("tree", b"c queen\np col 3 4\ne 1 2\ne 2 1\ne 2 3\ne 3 2\n", b"", ["t S(P(1,3),2)"], None),
+            ("compare", b"Dhc\n", b"", ["no 0>1 2>1 2>3 4>3 4>0 1>0"], None),
+            ("compare", b"Dhc\n", b"", ["no 0>1 0>4 3>4 3>2 1>2 1>0"], None),
+            ("compare", b"Dhc\n", b"", ["no 0>1 1>2 1>0"], 2),
+            ("compare", b"Dhc\n", b"", ["no 1>2 3>2 3>4 0>4 0>1 2>1"], 2),
+            ("compare", b"Bw\n", b"", ["yes 0>1 1>2 2>0"], 2),
+            ("compare", b"Ch\nBw\n?\n", b"", ["yes 0>1 2>1 2>3", "yes 0>1 0>2 1>2", "yes"], None),
+            ("permute", b"Ch\nEhEG\nDhc\n?\nA?\n", b"",
+             ["yes 0 2 1 3 / 1 0 3 2", "no c 0>2 0>3 0>4 1>4 2>4 2>5 2>0", "no g 0>1 2>1 2>3 4>3 4>0 1>0", "yes /",
+              "yes 0 1 / 0 1"], None),
+            ("edit", b"DhO\n", b"+e 0 4\n-v 3\n+v 3 0 1 2 4\n",
+             ["t R(P(0,4),1,2,3;0-1,1-2,2-3)", "ok R(S(0,4),1,2,3;0-1,1-2,2-3)", "ok S(P(S(0,4),2),1)",
+              "ok S(P(S(0,4),2),1,3)"], None),
+            ("edit", b"Bg\n", b"+e 7 7\n+v 0 9\n+v 0\n-e 0 2\n+e 0 1\n",
+             ["t S(P(0,2),1)", "no same", "no vertex 9", "no taken 0", "no edge-absent", "no edge-there"], None),
+            ("cograph", b"Cg\n", b"+e 2 3\n+e 1 3\n",
+             ["t P(S(P(0,2),1),3)", "no p4 0 1 2 3", "ok S(P(0,2,3),1)"], None),
+            ("cograph", b"Cg\n", b"+e 2 3\n+e 1 3\n",
+             ["t P(S(P(0,2),1),3)", "no p4 3 2 1 0", "ok S(P(0,2,3),1)"], 3),
+            ("cograph", b"Ch\n", b"-v 0\n", ["p4 0 1 2 3"], None),
+            ("quiet", b"Cg\n", b"+e 2 3\n+e 1 3\n", ["no p4 0 1 2 3", "ok", "t S(P(0,2,3),1)"], None),
+        ]:
+            report = "".join(line + "\n" for line in ["mdt " + mode, *lines, "end"]).encode()
+            self.assertEqual(first_wrong_line(mode, read_graphs(graph), read_script(script), report), wrong,
+                             (mode, graph, lines))
+        self.assertEqual(first_wrong_line("tree", [], [], b""), 1)
+        self.assertEqual(first_wrong_line("tree", [], [], b"mdt tree\nend"), 2)
+
+    def test_trees_beside_all_modules(self):
+        r = random.Random(3)
+        for number in range(120):
+            n = 1 + number % 6
+            graph = random_cograph(r, n) if number % 2 else random_graph(r, n)
+            others = [random_graph(r, n) for _ in range(6)]
+            right = str(tree_of(graph))
+            for tree in map(tree_of, [graph, *others]):
+                self.assertEqual(is_tree_of(graph, tree), str(tree) == right)
+
+    def test_faulty_files(self):
+        for content, kind, line in [
+            (b":Fa@x^\n", "OtherFormat", 1), (b"@\nB!\n", "BadByte", 2), (b"~?\n", "Truncated", 1),
+            (b"~??}\n", "BadSize", 1), (b"~@?@\n", "TooManyVertices", 1), (b"DhO\nDQ\n", "Truncated", 2),
+            (b"A__\n", "TrailingBytes", 1), (b"A`\n", "BadPadding", 1),
+            (b"p edge 2 1\ne 1 3\n", "VertexOutOfRange", 2), (b"p edge 2 1\ne 2 2\n", "Loop", 2),
+            (b"c x y\n", "NoProblemLine", 2), (b"p edge 1 0\np edge 1 0\n", "SecondProblemLine", 2),
+            (b"e 1 2\n", "EdgeBeforeProblem", 1), (b"p edge x 0\n", "BadNumber", 1), (b"q x\n", "UnknownLine", 1),
+            (b"p edge 4096 0\n", "TooManyVertices", 1), (b"p edge 3\n", "FieldCount", 1),
+        ]:
+            with self.assertRaises(InputFault, msg=content) as caught:
+                read_graphs(content)
+            self.assertEqual((caught.exception.kind, caught.exception.line), (kind, line), content)
+        for content, kind, line in [
+            (b"\n*e 0 1\n", "UnknownEdit", 2), (b"+e 0\n", "FieldCount", 1), (b"+v a\n", "BadNumber", 1),
+            (b"-v 4096\n", "NameTooLarge", 1),
+        ]:
+            with self.assertRaises(InputFault, msg=content) as caught:
+                read_script(content)
+            self.assertEqual((caught.exception.kind, caught.exception.line), (kind, line), content)
+
+
+@unittest.skipUnless(has_program(), "no program mdt on PATH or in MDT")
+class BesideTheProgram(unittest.TestCase):
+    def test_altered_reports(self):
+        r = random.Random(17)
+        answers = {True: 0, False: 0}
+        with tempfile.TemporaryDirectory() as folder:
+            paths = [str(Path(folder) / name) for name in ("graph", "script", "report")]
+            for number in range(60):
+                mode = list(MODES)[number % len(MODES)]
+                is_session = mode in SESSIONS
+                make = random_cograph if mode in ("cograph", "quiet") and r.random() < 0.9 else random_graph
+                graphs = [make(r, r.randrange(1, 9)) for _ in range(1 if is_session else 3)]
+                script = random_script(r, 8)
+                graph_file = b"".join(map(graph6, graphs))
+                for path, content in zip(paths, (graph_file, script)):
+                    Path(path).write_bytes(content)
+                files = paths[:2] if is_session else paths[:1]
+                report = program.run([mode, "g6", *files])
+                for content in [report] + [altered(r, report) for _ in range(ALTERED)]:
+                    Path(paths[2]).write_bytes(content)
+                    it = subprocess.run([program.program(), "check", mode, "g6", *files, paths[2]], capture_output=True)
+                    mine = first_wrong_line(mode, read_graphs(graph_file), read_script(script) if is_session else [],
+                                            content)
+                    self.assertEqual(it.stdout.decode(), "accepted\n" if mine is None else "rejected line %d\n" % mine,
+                                     (mode, graphs, script, content))
+                    answers[mine is None] += 1
+        self.assertGreater(min(answers.values()), 60)
+
+
+if __name__ == "__main__":
+    unittest.main()
