@@ -3,7 +3,7 @@
 
     python3 bench/documents.py                    README, TUTORIAL, MANY, LIBRARY, EXAMPLES, in this order
     python3 bench/documents.py README TUTORIAL    these alone
-    python3 bench/documents.py --mdt PATH         with this program, in place of the one that README builds
+    python3 bench/documents.py --mdt PATH         with this program, in place of the one that README builds and installs
 
 A block that begins with `$ ` is a session of bash: each command and below it what it prints, `..` for any lines; a
 document is one shell. What `mdt` writes to standard error stands there too, wherever in the output of its command; the
@@ -27,8 +27,8 @@ import tempfile
 from typing import NamedTuple, Optional
 
 TOP = os.path.dirname(os.path.dirname(os.path.abspath(__file__)))
-DOCUMENTS = {"README": "README.md", "TUTORIAL": "docs/TUTORIAL.md", "MANY": "docs/MANY.md", "LIBRARY": "docs/LIBRARY.md",
-             "EXAMPLES": "examples/README.md"}
+DOCUMENTS = {"README": "README.md", "TUTORIAL": "docs/TUTORIAL.md", "MANY": "docs/MANY.md",
+             "LIBRARY": "docs/LIBRARY.md", "EXAMPLES": "examples/README.md"}
 NOT_RUN = {"bash .ci/run": "the gate", "--sshlogin": "other machines"}
 SECONDS = 3600
 
@@ -160,7 +160,7 @@ def wrong_quotation(block: Block, text: str, clone: str) -> Optional[str]:
         source = (line.strip() for line in file)
         for line in block.lines:
             if line.strip() not in ("", "..") and line.strip() not in source:
-                return "line %d: in %s there is no line %r after those before it" % (block.line, paths[-1], line.strip())
+                return "line %d: %s has no line %r after those before it" % (block.line, paths[-1], line.strip())
     return None
 
 
@@ -195,7 +195,8 @@ def environment(home: str, clone: str) -> dict[str, str]:
     """The variables of the sessions: a home of their own, Debian's Python before others, the installed program."""
     env = {name: value for name, value in os.environ.items() if not name.startswith(("PYTHON", "MDT", "GIT_"))}
     path = [os.path.join(home, ".local/bin"), "/usr/bin", "/bin", env.get("PATH", "")]
-    env.update(HOME=home, PATH=os.pathsep.join(path), PYTHONPATH=os.path.join(clone, "python"), TMPDIR=home, LC_ALL="C.UTF-8")
+    env.update(HOME=home, TMPDIR=home, PATH=os.pathsep.join(path), PYTHONPATH=os.path.join(clone, "python"),
+               LC_ALL="C.UTF-8")
     return env
 
 

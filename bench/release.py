@@ -92,8 +92,9 @@ def gather(clone: str, program: str, folder: str, commit: str) -> None:
     for name in DOCUMENTS:
         source = os.path.join(clone, name)
         (shutil.copytree if os.path.isdir(source) else shutil.copyfile)(source, os.path.join(folder, name))
-    subprocess.run([sys.executable, "-c", "import sys, setuptools.build_meta as it; it.build_wheel(sys.argv[1])", folder],
-                   cwd=os.path.join(clone, "python"), env=env, check=True, stdout=subprocess.DEVNULL)
+    wheel = "import sys, setuptools.build_meta as build; build.build_wheel(sys.argv[1])"
+    subprocess.run([sys.executable, "-W", "ignore", "-c", wheel, folder], cwd=os.path.join(clone, "python"), env=env,
+                   check=True, stdout=subprocess.DEVNULL)
     with open(os.path.join(folder, "COMMIT"), "w") as file:
         file.write("commit %s\ntoolchain %s\n" % (commit, output(["rt", "version"], clone)))
     paths = sorted(os.path.relpath(os.path.join(place, name), folder)
@@ -124,8 +125,8 @@ def release(commit: str, goal: str) -> str:
 
 
 def main() -> None:
-    parser = argparse.ArgumentParser(description="Makes the folder of a release: the program, built twice and compared, "
-                                                 "the man page, the Python package, the documents, and their sums.")
+    parser = argparse.ArgumentParser(description="Makes the folder of a release: the program, built twice and "
+                                                 "compared, the man page, the package, the documents, and their sums.")
     parser.add_argument("folder", metavar="FOLDER", help="the folder in which mdt-VERSION is made")
     parser.add_argument("--commit", default="HEAD", metavar="NAME", help="a commit or tag (the last one)")
     words = parser.parse_args()
