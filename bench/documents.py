@@ -1,7 +1,7 @@
 #!/usr/bin/env python3
 """Runs the commands that stand in the documents, in a fresh clone of the last commit, and compares what they print.
 
-    python3 bench/documents.py                    README, TUTORIAL, MANY, LIBRARY, EXAMPLES, in this order
+    python3 bench/documents.py                    README, TUTORIAL, MANY, LIBRARY and others, in turn
     python3 bench/documents.py README TUTORIAL    these alone
     python3 bench/documents.py --mdt PATH         with this program, in place of the one that README builds and installs
 
@@ -28,7 +28,7 @@ from typing import NamedTuple, Optional
 
 TOP = os.path.dirname(os.path.dirname(os.path.abspath(__file__)))
 DOCUMENTS = {"README": "README.md", "TUTORIAL": "docs/TUTORIAL.md", "MANY": "docs/MANY.md",
-             "LIBRARY": "docs/LIBRARY.md", "EXAMPLES": "examples/README.md"}
+             "LIBRARY": "docs/LIBRARY.md", "EXAMPLES": "examples/README.md", "PYTHON": "python/README.md"}
 NOT_RUN = {"bash .ci/run": "the gate", "--sshlogin": "other machines"}
 SECONDS = 3600
 
