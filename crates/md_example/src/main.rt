@@ -2,6 +2,10 @@
 //! tree of strong modules, and an induced P4 or that it is a cograph.
 #![tactic(auto)]
 
+ghost use Rattle.std.specs.Prelude.{◌↔◌, IsTrue};
+ghost use Rattle.md_graph.specs.PlainGraph.{adjacent};
+ghost use Rattle.md_modules.specs.InducedPaths.{HasInducedPath};
+
 use md_decompose::decompose;
 use md_graph::{Graph, Memory};
 use md_graph6::{Lines, scan};
@@ -37,12 +41,18 @@ fn main(rt: HostRuntime) -> io::Result<()> {
 fn describe(alloc: Global, graph: &Graph, answer: &mut Vec<u8>) -> Result<(), Memory> {
     let tree = decompose(alloc, graph)?;
     push_text(alloc, answer, &tree)?;
-    match find_p4(graph) {
-        Some(p) => {
-            let path = format!(in alloc; " has the P4 {} {} {} {}\n", p.a, p.b, p.c, p.d)?;
-            answer.extend_from_slice(path.as_bytes())?;
-        }
-        None => answer.extend_from_slice(b" is a cograph\n")?,
+    if is_cograph(graph) {
+        answer.extend_from_slice(b" is a cograph\n")?;
+    } else if let Some(p) = find_p4(graph) {
+        let path = format!(in alloc; " has the P4 {} {} {} {}\n", p.a, p.b, p.c, p.d)?;
+        answer.extend_from_slice(path.as_bytes())?;
     }
     Ok(())
+}
+
+// Whether a graph is a cograph: it has no induced path on four vertices.
+fn is_cograph(graph: &Graph) -> bool
+    ensures { IsTrue result ↔ (HasInducedPath (adjacent graph.now) graph.now.vertices → ⊥) }
+{
+    find_p4(graph).is_none()
 }
