@@ -11,23 +11,21 @@ use Rattle.md_graph.proofs.SetLemmas.{Has-along}
 use Rattle.md_modules.proofs.Turns.{graph_adjacency}
 use Rattle.md_tree.specs.declared.Kind.{Kind}
 use Rattle.md_tree.specs.declared.Pair.{Pair}
-use Rattle.md_tree.specs.Trees.{PlainTree, leaf, node, PlainTrees, no_tree, one_more, names, row, EachNodeBelow}
-use Rattle.md_tree.specs.Parts.{parts_of, parts_backward, listed}
+use Rattle.md_tree.specs.Trees.{PlainTree, leaf, node, PlainTrees, no_tree, one_more, names, node_sets, node_sets_below, nodes_in, row, EachNodeBelow}
+use Rattle.md_tree.specs.Parts.{listed}
 use Rattle.md_tree.specs.StrongTrees.{IsTreeOf, IsTree}
 use Rattle.md_tree.specs.TreeGraph.{graph_of_tree}
 use Rattle.md_tree.proofs.Folding.{row_listed}
 use Rattle.md_tree.proofs.OneTree.{one_tree_proof}
 use Rattle.md_cotree.specs.declared.cotree.Cotree.{Cotree}
 use Rattle.md_cotree.specs.Cotrees.{trees_of, IsKeptAs}
-use Rattle.md_cotree.specs.PlaceTrees.{PlaceTree, node_counts, shape}
+use Rattle.md_cotree.specs.PlaceTrees.{PlaceTree, tip, inner, PlaceTrees, no_more, then, node_count, node_counts, shape, shapes}
 use Rattle.md_cotree.specs.Orders.{IsLooseNode, IsLoose, PlainKeyed, tree_of, key_of, first_key}
 use Rattle.md_cotree.proofs.Arranging.{IsArranged, AllArranged, leaf_arranged, node_arranged}
 use Rattle.md_cotree.proofs.Cographs.{tree_of_canonical}
 use Rattle.md_cotree.proofs.NoPaths.{kept_below, cotree_graph}
-use Rattle.md_cotree.proofs.Rooted.{node_parts}
 use Rattle.md_cotree.proofs.Telling.{loose_kept}
 use Rattle.md_cotree.proofs.TreeGraphs.{graph_tells}
-use Rattle.md_session.specs.Costs.{nodes_in}
 
 -- ---- keyed trees in order
 
@@ -74,13 +72,13 @@ in_order (z ∷ zs) =
 -- ---- a tree in order has as many nodes
 
 abbrev nodes_at : PlainKeyed → ℕ
-nodes_at z = length (parts_of z.tree)
+nodes_at z = length (node_sets z.tree)
 
-row_nodes : (ys : List PlainKeyed) → length (parts_backward (row (map tree_of ys))) ≡ sum_by nodes_at ys
+row_nodes : (ys : List PlainKeyed) → length (node_sets_below (row (map tree_of ys))) ≡ sum_by nodes_at ys
 row_nodes [] = refl
 row_nodes (y ∷ ys) =
     let rest = row_nodes ys in
-    let both = length-append (parts_backward (row (map tree_of ys))) (parts_of y.tree) in
+    let both = length-append (node_sets y.tree) (node_sets_below (row (map tree_of ys))) in
     let sum = sum_by-cons nodes_at y ys in
     omega arith
 
@@ -88,14 +86,14 @@ row_nodes (y ∷ ys) =
 record IsCounted (s : PlainTree) : Type 0 where
   keyed : PlainKeyed
   arranged : IsArranged keyed s
-  nodes : nodes_at keyed ≡ length (parts_of s)
+  nodes : nodes_at keyed ≡ length (node_sets s)
 
 record AreCounted (cs : PlainTrees) : Type 0 where
   keyed : List PlainKeyed
   arranged : AllArranged keyed (listed cs)
-  nodes : sum_by nodes_at keyed ≡ length (parts_backward cs)
+  nodes : sum_by nodes_at keyed ≡ length (node_sets_below cs)
 
-over_row : (k : Kind) (ss : List PlainTree) (ps : List Pair) → IsLooseNode k (row ss) ps → (zs : List PlainKeyed) → AllArranged zs ss → sum_by nodes_at zs ≡ length (parts_backward (row ss)) → ps ≡ [] → IsCounted (node k (row ss) [])
+over_row : (k : Kind) (ss : List PlainTree) (ps : List Pair) → IsLooseNode k (row ss) ps → (zs : List PlainKeyed) → AllArranged zs ss → sum_by nodes_at zs ≡ length (node_sets_below (row ss)) → ps ≡ [] → IsCounted (node k (row ss) [])
 over_row k ss ps loose zs all sum none =
     let ordered = in_order zs in
     record {
@@ -116,7 +114,7 @@ mutual
       let none = loose.0.plain.no_pairs in
       subst (λ l. IsCounted (node k cs l)) (sym none) (subst (λ ds. IsCounted (node k ds [])) same
       (over_row k (listed cs) ps (subst (λ ds. IsLooseNode k ds ps) (sym same) loose.0) below.keyed below.arranged
-      (below.nodes ∙ ap (λ ds. length (parts_backward ds)) (sym same)) none))
+      (below.nodes ∙ ap (λ ds. length (node_sets_below ds)) (sym same)) none))
 
   counted_below : (cs : PlainTrees) → EachNodeBelow IsLooseNode cs → AreCounted cs
   counted_below no_tree loose = record { keyed = []; arranged = tt; nodes = refl }
@@ -128,11 +126,26 @@ mutual
         arranged = (first.arranged, rest.arranged);
         nodes =
             let sum = sum_by-cons nodes_at first.keyed rest.keyed in
-            let both = length-append (parts_backward ts) (parts_of t) in
+            let both = length-append (node_sets t) (node_sets_below ts) in
             let a = first.nodes in
             let b = rest.nodes in
             omega arith;
       }
+
+-- ---- the tree over places has a place for each node
+
+mutual
+  place_nodes : (t : PlaceTree) → node_count t ≡ length (node_sets (shape t))
+  place_nodes (tip p v) = refl
+  place_nodes (inner p k ts) = let rest = places_nodes ts in omega arith
+
+  places_nodes : (ts : PlaceTrees) → node_counts ts ≡ length (node_sets_below (shapes ts))
+  places_nodes no_more = refl
+  places_nodes (then t ts) =
+      let first = place_nodes t in
+      let rest = places_nodes ts in
+      let both = length-append (node_sets (shape t)) (node_sets_below (shapes ts)) in
+      omega arith
 
 -- ---- the tree of the graph
 
@@ -159,5 +172,5 @@ module _ (c : Cotree) (g : PlainGraph) where
       let made = counted (shape s) (loose_kept c s kept) in
       let one = ap nodes_in (one_of is (Some made.keyed.tree) p (tree_made s kept same made) tree) in
       let a = made.nodes in
-      let b = node_parts s in
+      let b = place_nodes s in
       omega arith
