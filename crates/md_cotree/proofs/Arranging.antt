@@ -121,11 +121,21 @@ sum_map f (y ∷ ys) =
 
 -- ---- trees in order, one by one
 
+-- the two lists are equally long, and the relation holds along them
+abbrev pub Along : (PlainKeyed → PlainTree → Type 0) → List PlainKeyed → List PlainTree → Type 0
+Along R [] [] = ⊤
+Along R [] (s ∷ ss) = ⊥
+Along R (z ∷ zs) [] = ⊥
+Along R (z ∷ zs) (s ∷ ss) = R z s × Along R zs ss
+
+pub along_long : (R : PlainKeyed → PlainTree → Type 0) (zs : List PlainKeyed) (ss : List PlainTree) → Along R zs ss → length zs ≡ length ss
+along_long R [] [] all = refl
+along_long R [] (s ∷ ss) all = absurd all
+along_long R (z ∷ zs) [] all = absurd all
+along_long R (z ∷ zs) (s ∷ ss) all = let rest = along_long R zs ss all.1 in omega arith
+
 abbrev pub AllArranged : List PlainKeyed → List PlainTree → Type 0
-AllArranged [] [] = ⊤
-AllArranged [] (s ∷ ss) = ⊥
-AllArranged (z ∷ zs) [] = ⊥
-AllArranged (z ∷ zs) (s ∷ ss) = IsArranged z s × AllArranged zs ss
+AllArranged = Along IsArranged
 
 arranged_sum : (zs : List PlainKeyed) (ss : List PlainTree) (v : ℕ) → AllArranged zs ss → sum_by (λ z. one_if v z.tree) zs ≡ sum_by (one_if v) ss
 arranged_sum [] [] v all = refl
@@ -137,12 +147,6 @@ arranged_sum (z ∷ zs) (s ∷ ss) v all =
     let one : one_if v z.tree ≡ one_if v s = ap (λ n. cond (contains n v) 1 0) all.0.ordered.same_names in
     let rest = arranged_sum zs ss v all.1 in
     omega arith
-
-arranged_long : (zs : List PlainKeyed) (ss : List PlainTree) → AllArranged zs ss → length zs ≡ length ss
-arranged_long [] [] all = refl
-arranged_long [] (s ∷ ss) all = absurd all
-arranged_long (z ∷ zs) [] all = absurd all
-arranged_long (z ∷ zs) (s ∷ ss) all = let rest = arranged_long zs ss all.1 in omega arith
 
 arranged_to : (zs : List PlainKeyed) (ss : List PlainTree) → AllArranged zs ss → (z : PlainKeyed) → Contains zs z → (s : PlainTree) × IsChild (row ss) s × IsArranged z s
 arranged_to [] ss all z h = absurd (let low = h.1 in omega arith)
@@ -230,7 +234,7 @@ module _ (k : Kind) (ss : List PlainTree) (loose : IsLooseNode k (row ss) []) (z
       omega arith)
 
   long : length ys ≡ length ss
-  long = length_permutation zs ys moved ∙ arranged_long zs ss all
+  long = length_permutation zs ys moved ∙ along_long IsArranged zs ss all
 
   has_to : (v : ℕ) → Has (names_below (row (map tree_of ys))) v → Has (names_below (row ss)) v
   has_to v h =

@@ -4,7 +4,7 @@ use Rattle.std.proofs.lemmas.Bool.{cases_eq, eq-eqb, ne_eqb, and_right}
 use Rattle.md_lists.specs.declared.kinds.PlaceKind.{PlaceKind}
 use Rattle.md_lists.specs.declared.TheConstants.{PLACES}
 use Rattle.md_lists.specs.Links.{Links, kind_at, parent_at, children_at, alive, IsLive, AreLinks, with_kind, attached}
-use Rattle.md_lists.proofs.LinkLaws.{attached_parent, attached_children, kind-with_kind}
+use Rattle.md_lists.proofs.LinkLaws.{attached_child, attached_other, attached_children, kind-with_kind}
 use Rattle.md_cotree.specs.PlaceTrees.{PlaceTree, tip, inner, PlaceTrees, no_more, then, place_of, Stands, StandsBelow, StandLoose, times_in, times_among, Fits}
 use Rattle.md_cotree.specs.Forests.{joined}
 use Rattle.md_cotree.proofs.Rows.{roots-joined, times-joined}
@@ -198,12 +198,6 @@ module _ (l : Links) (ok : AreLinks l) (q : ℕ) (k : Bool) (done ts left : Plac
   abbrev m : Links
   m = attached l q c
 
-  other_parent : (x : ℕ) → x ≢ c → parent_at m x ≡ parent_at l x
-  other_parent x differ = attached_parent l ok q c attach_parent attach_child attach_loose x ∙ ap (λ b. cond b (Some q) (parent_at l x)) (ne_eqb x c differ)
-
-  child_parent : parent_at m c ≡ Some q
-  child_parent = attached_parent l ok q c attach_parent attach_child attach_loose c ∙ ap (λ b. cond b (Some q) (parent_at l c)) (eq-eqb c c refl)
-
   other_same : (x : ℕ) → x ≢ q → Same l m x
   other_same x differ = record {
     kind = refl;
@@ -216,18 +210,18 @@ module _ (l : Links) (ok : AreLinks l) (q : ℕ) (k : Bool) (done ts left : Plac
   pub fits_attached : Fits m (then (inner q k (joined done (then t no_more))) (joined ts left))
   fits_attached = record {
     stand = (
-      other_parent q attach_differ ∙ fits.stand.0,
+      attached_other l ok q c attach_parent attach_child attach_loose q attach_differ ∙ fits.stand.0,
       (
         fits.stand.1.0,
         attached_children l ok q c attach_parent attach_child attach_loose q ∙ ap (λ b. cond b (children_at l q ++ c ∷ []) (children_at l q)) (eq-eqb q q refl)
             ∙ ap (λ xs. xs ++ c ∷ []) fits.stand.1.1 ∙ sym (roots-joined done (then t no_more)),
         below_both m q done (then t no_more)
-            (still_below l m q done (λ x some. other_same x (apart (λ z. times_among z done) q x once_parent.0 some)) (λ x some. other_parent x (apart (λ z. times_among z done) c x once_child.0 some)) fits.stand.1.2)
-            (child_parent, still_in l m t (λ x some. other_same x (apart (λ z. times_in z t) q x once_parent.2 some)) (λ x some. other_parent x (apart (λ z. times_under z t) c x once_child.2 some)) child.1, tt),
+            (still_below l m q done (λ x some. other_same x (apart (λ z. times_among z done) q x once_parent.0 some)) (λ x some. attached_other l ok q c attach_parent attach_child attach_loose x (apart (λ z. times_among z done) c x once_child.0 some)) fits.stand.1.2)
+            (attached_child l ok q c attach_parent attach_child attach_loose, still_in l m t (λ x some. other_same x (apart (λ z. times_in z t) q x once_parent.2 some)) (λ x some. attached_other l ok q c attach_parent attach_child attach_loose x (apart (λ z. times_under z t) c x once_child.2 some)) child.1, tt),
       ),
       loose_both m ts left
-          (still_loose l m ts (λ x some. other_same x (apart (λ z. times_among z ts) q x once_parent.1 some)) (λ x some. other_parent x (apart (λ z. times_among z ts) c x once_child.1 some)) (loose_first l ts (then t left) fits.stand.2))
-          (still_loose l m left (λ x some. other_same x (apart (λ z. times_among z left) q x once_parent.3 some)) (λ x some. other_parent x (apart (λ z. times_among z left) c x once_child.3 some)) child.2),
+          (still_loose l m ts (λ x some. other_same x (apart (λ z. times_among z ts) q x once_parent.1 some)) (λ x some. attached_other l ok q c attach_parent attach_child attach_loose x (apart (λ z. times_among z ts) c x once_child.1 some)) (loose_first l ts (then t left) fits.stand.2))
+          (still_loose l m left (λ x some. other_same x (apart (λ z. times_among z left) q x once_parent.3 some)) (λ x some. attached_other l ok q c attach_parent attach_child attach_loose x (apart (λ z. times_among z left) c x once_child.3 some)) child.2),
     );
     each = λ p.
         let e = parts p in let f = fits.each p in let a = times-joined p done (then t no_more) in let b = times-joined p ts left in

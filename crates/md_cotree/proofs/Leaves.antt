@@ -118,9 +118,15 @@ module _ (c : Cotree) (t : PlaceTree) (kept : IsKeptAs c (Some t)) where
       (record {
         root = place_of t;
         no_parent = kept.fits.stand.0;
-        below = m.below;
-        left_few = let few = m.left_few in omega arith;
-        right_few = let few = m.right_few in omega arith;
+        below = record {
+          left_steps = m.left_steps;
+          right_steps = m.right_steps;
+          steps_on = m.steps_on;
+          meet = m.meet;
+          on = m.on;
+          left_few = let few = m.left_few in omega arith;
+          right_few = let few = m.right_few in omega arith;
+        };
       })
 
 -- ---- for the cotree

@@ -18,4 +18,5 @@ pub mod Arranging
 pub mod Stacked
 pub mod Sorting
 pub mod Telling
+pub mod NodeCounts
 pub mod Degrees

@@ -155,79 +155,63 @@ module _ (l : Links) (one : OneLeaf l) (once : (r c : ℕ) → times c (children
       wide w = record { child = w.child; way = wider _ w.child (node_counts ts) (node_counts (then t ts)) (omega arith) w.way; parent = w.parent; some = w.some }
 
   -- where the ways up from two leaves meet, in a tree
-  pub record MeetIn (root p q n : ℕ) (b : Bool) : Type 0 where
-    pub below : MeetBelow l root p q b
-    pub open below use *
-    pub left_few : suc (left_steps + steps_on) < n
-    pub right_few : suc (right_steps + steps_on) < n
-
-  higher : (t : PlaceTree) (r p q n m : ℕ) (b : Bool) → parent_at l (place_of t) ≡ Some r → n < m → MeetIn (place_of t) p q n b → MeetIn r p q m b
+  higher : (t : PlaceTree) (r p q n m : ℕ) (b : Bool) → parent_at l (place_of t) ≡ Some r → n < m → MeetBelow l (place_of t) p q n b → MeetBelow l r p q m b
   higher t r p q n m b is less at = record {
-    below = record {
-      left = at.left;
-      right = at.right;
-      top = at.top;
-      left_steps = at.left_steps;
-      right_steps = at.right_steps;
-      steps_on = suc at.steps_on;
-      from_left = at.from_left;
-      from_right = at.from_right;
-      differ = at.differ;
-      left_top = at.left_top;
-      right_top = at.right_top;
-      on = climb_more l at.steps_on at.top (place_of t) r at.on is;
-      kind = at.kind;
-    };
+    left_steps = at.left_steps;
+    right_steps = at.right_steps;
+    steps_on = suc at.steps_on;
+    meet = at.meet;
+    on = climb_more l at.steps_on at.meet.top (place_of t) r at.on is;
     left_few = let few = at.left_few in omega arith;
     right_few = let few = at.right_few in omega arith;
   }
 
   mutual
     pub meet_in : (t : PlaceTree) → Hangs l t → (u v p q : ℕ) → u ≢ v → Has (names (shape t)) u → Has (names (shape t)) v → kind_at l p ≡ Some (Leaf u) → kind_at l q ≡ Some (Leaf v) →
-        MeetIn (place_of t) p q (node_count t) (adjacent_in (shape t) u v)
+        MeetBelow l (place_of t) p q (node_count t) (adjacent_in (shape t) u v)
     meet_in (tip r w) is u v p q differ hu hv leaf_u leaf_v = absurd (differ (of_only w u hu ∙ sym (of_only w v hv)))
     meet_in (inner r k ts) is u v p q differ hu hv leaf_u leaf_v =
         elim (cases_eq (position_of (shapes ts) u) (position_of (shapes ts) v)) [
           | inl same ↦
-              subst (MeetIn r p q (node_count (inner r k ts)))
+              subst (MeetBelow l r p q (node_count (inner r k ts)))
               (sym (ap (λ w. cond w (adjacent_below (shapes ts) u v) (joins (kind_of k) [] (position_of (shapes ts) u) (position_of (shapes ts) v))) (eq-eqb _ _ same)))
               (meet_below ts r (node_count (inner r k ts)) (omega arith) is.2 u v p q differ hu hv same leaf_u leaf_v)
           | inr other ↦
               let ways = apart ts r is.2 (λ c. let e = is.1 c in let f = once r c in omega arith) u v p q hu hv other leaf_u leaf_v in
-              subst (MeetIn r p q (node_count (inner r k ts)))
+              subst (MeetBelow l r p q (node_count (inner r k ts)))
               (sym (ap (λ w. cond w (adjacent_below (shapes ts) u v) (joins (kind_of k) [] (position_of (shapes ts) u) (position_of (shapes ts) v))) (ne_eqb _ _ other) ∙ joins_kind k _ _))
               (record {
-                below = record {
+                left_steps = ways.left_way.steps;
+                right_steps = ways.right_way.steps;
+                steps_on = 0;
+                meet = record {
                   left = ways.left;
                   right = ways.right;
                   top = r;
-                  left_steps = ways.left_way.steps;
-                  right_steps = ways.right_way.steps;
-                  steps_on = 0;
                   from_left = ways.left_way.climbs;
                   from_right = ways.right_way.climbs;
                   differ = ways.differ;
                   left_top = ways.left_parent;
                   right_top = ways.right_parent;
-                  on = refl;
                   kind = is.0;
                 };
+                on = refl;
                 left_few = let few = ways.left_way.few in omega arith;
                 right_few = let few = ways.right_way.few in omega arith;
               })
         ]
 
     meet_below : (ts : PlaceTrees) (r m : ℕ) → node_counts ts < m → HangBelow l r ts → (u v p q : ℕ) → u ≢ v → Has (names_below (shapes ts)) u → Has (names_below (shapes ts)) v →
-        position_of (shapes ts) u ≡ position_of (shapes ts) v → kind_at l p ≡ Some (Leaf u) → kind_at l q ≡ Some (Leaf v) → MeetIn r p q m (adjacent_below (shapes ts) u v)
+        position_of (shapes ts) u ≡ position_of (shapes ts) v → kind_at l p ≡ Some (Leaf u) → kind_at l q ≡ Some (Leaf v) → MeetBelow l r p q m (adjacent_below (shapes ts) u v)
     meet_below no_more r m less is u v p q differ hu hv same leaf_u leaf_v = absurd (clash hu (empty_lacks u))
     meet_below (then t ts) r m less is u v p q differ hu hv same leaf_u leaf_v =
         elim (cases_Bool (contains (names (shape t)) u)) [
           | inl iu ↦
               let iv = here_too (shape t) (shapes ts) u v iu same in
-              subst (MeetIn r p q m) (sym (ap (λ w. cond w (adjacent_in (shape t) u v) (adjacent_below (shapes ts) u v)) iu))
+              subst (MeetBelow l r p q m) (sym (ap (λ w. cond w (adjacent_in (shape t) u v) (adjacent_below (shapes ts) u v)) iu))
               (higher t r p q (node_count t) m (adjacent_in (shape t) u v) is.0 (omega arith) (meet_in t is.1 u v p q differ iu iv leaf_u leaf_v))
           | inr ju ↦
               let jv = there_too (shape t) (shapes ts) u v ju same in
-              subst (MeetIn r p q m) (sym (ap (λ w. cond w (adjacent_in (shape t) u v) (adjacent_below (shapes ts) u v)) ju))
+              subst (MeetBelow l r p q m) (sym (ap (λ w. cond w (adjacent_in (shape t) u v) (adjacent_below (shapes ts) u v)) ju))
               (meet_below ts r m (omega arith) is.2 u v p q differ (in_rest t ts u hu ju) (in_rest t ts v hv jv) (later_same (shape t) (shapes ts) u v ju same) leaf_u leaf_v)
         ]

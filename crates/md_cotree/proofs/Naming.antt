@@ -98,13 +98,17 @@ abbrev pub IsPlainPart : PlainPart → Type 0
 IsPlainPart (name v) = ⊤
 IsPlainPart (inner_part k n qs) = (k ≢ Prime) × (qs ≡ [])
 
-abbrev pub ArePlain : List PlainPart → Type 0
-ArePlain [] = ⊤
-ArePlain (p ∷ ps) = IsPlainPart p × ArePlain ps
+-- P holds of each part
+abbrev pub EachPart : (PlainPart → Type 0) → List PlainPart → Type 0
+EachPart P [] = ⊤
+EachPart P (p ∷ ps) = P p × EachPart P ps
 
-plain_both : (ps qs : List PlainPart) → ArePlain ps → ArePlain qs → ArePlain (ps ++ qs)
-plain_both [] qs a b = b
-plain_both (p ∷ ps) qs a b = (a.0, plain_both ps qs a.1 b)
+pub each_both : (P : PlainPart → Type 0) (ps qs : List PlainPart) → EachPart P ps → EachPart P qs → EachPart P (ps ++ qs)
+each_both P [] qs a b = b
+each_both P (p ∷ ps) qs a b = (a.0, each_both P ps qs a.1 b)
+
+abbrev pub ArePlain : List PlainPart → Type 0
+ArePlain = EachPart IsPlainPart
 
 pub plain_rest : (ps qs : List PlainPart) → ArePlain (ps ++ qs) → ArePlain qs
 plain_rest [] qs a = a
@@ -117,4 +121,4 @@ mutual
 
   plain_parts_below : (ts : PlainTrees) → EachNodeBelow IsCanonicalNode ts → EachNodeBelow NotPrime ts → ArePlain (parts_backward ts)
   plain_parts_below no_tree each not = tt
-  plain_parts_below (one_more t ts) each not = plain_both (parts_backward ts) (parts_of t) (plain_parts_below ts each.1 not.1) (plain_parts t each.0 not.0)
+  plain_parts_below (one_more t ts) each not = each_both IsPlainPart (parts_backward ts) (parts_of t) (plain_parts_below ts each.1 not.1) (plain_parts t each.0 not.0)

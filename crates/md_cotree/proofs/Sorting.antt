@@ -13,7 +13,7 @@ use Rattle.md_tree.specs.Trees.{node, row}
 use Rattle.md_tree.specs.Plain.{plain}
 use Rattle.md_tree.proofs.Plain.{plain_is_leaf, plain-node}
 use Rattle.md_cotree.specs.declared.ordering.Keyed.{Keyed}
-use Rattle.md_cotree.specs.Orders.{part_of_kind, part_at, plain_keyed, tree_of, key_of, first_key, IsPutOver, IsPut, AreFalling, AreTaken}
+use Rattle.md_cotree.specs.Orders.{part_of_kind, part_at, plain_keyed, tree_of, key_of, first_key, IsPutOver, IsPartPut, AreFalling, AreTaken}
 
 -- ---- trees without their keys
 
@@ -81,9 +81,9 @@ same_halves {X = X} n xs us ys vs a b e = (first, append_cancel_left us ys vs (a
 -- ---- a leaf
 
 pub leaf_is_put : (l : Links) (place v : ℕ) (old new : List Keyed) → kind_at l place ≡ Some (LeafKind v) → new ≡ old ++ record { least = v; tree = Leaf v } ∷ [] →
-    IsPut (part_at l place) (map plain_keyed old) (map plain_keyed new)
+    IsPartPut (part_at l place) (map plain_keyed old) (map plain_keyed new)
 leaf_is_put l place v old new kind push =
-    subst (λ o. IsPut (part_of_kind o (length (children_at l place))) (map plain_keyed old) (map plain_keyed new)) (sym kind)
+    subst (λ o. IsPartPut (part_of_kind o (length (children_at l place))) (map plain_keyed old) (map plain_keyed new)) (sym kind)
     (ap (map plain_keyed) push ∙ map-append plain_keyed old (record { least = v; tree = Leaf v } ∷ [])
     ∙ ap (λ t. map plain_keyed old ++ record { least = v; tree = t } ∷ []) (plain_is_leaf (Leaf v) v refl))
 

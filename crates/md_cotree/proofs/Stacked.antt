@@ -10,22 +10,17 @@ use Rattle.md_tree.specs.Trees.{PlainTree, leaf, node, PlainTrees, no_tree, one_
 use Rattle.md_tree.specs.Parts.{PlainPart, name, inner as inner_part, parts_of, parts_backward}
 use Rattle.md_tree.specs.Stacks.{with_part, HasChildrenOf}
 use Rattle.md_tree.proofs.Folding.{IsFolding, fold_begin, fold_finds, fold_more}
-use Rattle.md_cotree.specs.Orders.{part_of_kind, PlainKeyed, tree_of, first_key, IsLooseNode, IsLoose, IsOrdered, IsPutOver, IsPut, HasBelow}
-use Rattle.md_cotree.proofs.Arranging.{IsArranged, AllArranged, leaf_arranged, node_arranged}
+use Rattle.md_cotree.specs.Orders.{part_of_kind, PlainKeyed, tree_of, first_key, IsLooseNode, IsLoose, IsOrdered, IsPutOver, IsPartPut, HasBelow}
+use Rattle.md_cotree.proofs.Arranging.{IsArranged, Along, along_long, AllArranged, leaf_arranged, node_arranged}
+use Rattle.md_cotree.proofs.Naming.{EachPart, each_both}
 use Rattle.md_cotree.proofs.Rooted.{all_parts, one_tree}
 
 -- each keyed tree is the other one in order, where that is loose
-abbrev pub AllMatch : List PlainKeyed → List PlainTree → Type 0
-AllMatch [] [] = ⊤
-AllMatch [] (s ∷ ss) = ⊥
-AllMatch (z ∷ zs) [] = ⊥
-AllMatch (z ∷ zs) (s ∷ ss) = (IsLoose s → IsArranged z s) × AllMatch zs ss
+abbrev pub Matches : PlainKeyed → PlainTree → Type 0
+Matches z s = IsLoose s → IsArranged z s
 
-match_long : (zs : List PlainKeyed) (ss : List PlainTree) → AllMatch zs ss → length zs ≡ length ss
-match_long [] [] all = refl
-match_long [] (s ∷ ss) all = absurd all
-match_long (z ∷ zs) [] all = absurd all
-match_long (z ∷ zs) (s ∷ ss) all = let rest = match_long zs ss all.1 in omega arith
+abbrev pub AllMatch : List PlainKeyed → List PlainTree → Type 0
+AllMatch = Along Matches
 
 match_push : (zs : List PlainKeyed) (ss : List PlainTree) (z : PlainKeyed) (s : PlainTree) → AllMatch zs ss → (IsLoose s → IsArranged z s) → AllMatch (zs ++ z ∷ []) (ss ++ s ∷ [])
 match_push [] [] z s all one = (one, tt)
@@ -56,7 +51,7 @@ match_all (z ∷ zs) (s ∷ ss) all loose = (all.0 loose.0, match_all zs ss all.
 -- a node more
 node_more : (k : Kind) (n : ℕ) (zs ws : List PlainKeyed) (ss : List PlainTree) → AllMatch zs ss → IsPutOver k n zs ws → AllMatch ws (with_part (inner_part k n []) ss)
 node_more k n zs ws ss all put =
-    let long = match_long zs ss all in
+    let long = along_long Matches zs ss all in
     let same : length zs - n ≡ length ss - n = ap (λ i. i - n) long in
     subst (λ xs. AllMatch xs (with_part (inner_part k n []) ss)) (sym put.whole)
     (subst
@@ -66,7 +61,7 @@ node_more k n zs ws ss all put =
     (λ loose. node_arranged k (drop (length zs - n) ss) loose.0 (drop (length zs - n) zs) put.sorted
     (match_all (drop (length zs - n) zs) (drop (length zs - n) ss) (match_drop (length zs - n) zs ss all) loose.1) put.moved put.rising)))
 
-part_more : (o : Option PlaceKind) (n : ℕ) (zs ws : List PlainKeyed) (ss : List PlainTree) → AllMatch zs ss → IsPut (part_of_kind o n) zs ws → AllMatch ws (with_part (part_of_kind o n) ss)
+part_more : (o : Option PlaceKind) (n : ℕ) (zs ws : List PlainKeyed) (ss : List PlainTree) → AllMatch zs ss → IsPartPut (part_of_kind o n) zs ws → AllMatch ws (with_part (part_of_kind o n) ss)
 part_more None n zs ws ss all put = subst (λ xs. AllMatch xs (ss ++ leaf 0 ∷ [])) (sym put) (match_push zs ss _ _ all (λ loose. leaf_arranged 0))
 part_more (Some (Leaf v)) n zs ws ss all put = subst (λ xs. AllMatch xs (ss ++ leaf v ∷ [])) (sym put) (match_push zs ss _ _ all (λ loose. leaf_arranged v))
 part_more (Some Parallel) n zs ws ss all put = node_more ParallelKind n zs ws ss all put
@@ -79,12 +74,7 @@ IsBig (name v) = ⊤
 IsBig (inner_part k n ps) = 0 < n
 
 abbrev AreBig : List PlainPart → Type 0
-AreBig [] = ⊤
-AreBig (p ∷ ps) = IsBig p × AreBig ps
-
-big_both : (ps qs : List PlainPart) → AreBig ps → AreBig qs → AreBig (ps ++ qs)
-big_both [] qs a b = b
-big_both (p ∷ ps) qs a b = (a.0, big_both ps qs a.1 b)
+AreBig = EachPart IsBig
 
 big_first : (ps qs : List PlainPart) → AreBig (ps ++ qs) → AreBig ps
 big_first [] qs a = tt
@@ -101,7 +91,7 @@ mutual
 
   big_below : (ts : PlainTrees) → EachNodeBelow IsLooseNode ts → AreBig (parts_backward ts)
   big_below no_tree loose = tt
-  big_below (one_more t ts) loose = big_both (parts_backward ts) (parts_of t) (big_below ts loose.1) (big_parts t loose.0)
+  big_below (one_more t ts) loose = each_both IsBig (parts_backward ts) (parts_of t) (big_below ts loose.1) (big_parts t loose.0)
 
 -- ---- the loop
 
@@ -128,9 +118,9 @@ module _ (t : PlainTree) (parts left : List PlainPart) (zs : List PlainKeyed) (s
     where
       go : (p : PlainPart) → HasChildrenOf p so.trees → IsBig p → HasBelow p zs
       go (name v) has big = tt
-      go (inner_part k m ps) has big = (big, let long = match_long zs so.trees so.match in omega arith)
+      go (inner_part k m ps) has big = (big, let long = along_long Matches zs so.trees so.match in omega arith)
 
-  pub stack_more : (ws : List PlainKeyed) → IsPut (part_of_kind o n) zs ws → IsStacked t left ws
+  pub stack_more : (ws : List PlainKeyed) → IsPartPut (part_of_kind o n) zs ws → IsStacked t left ws
   stack_more ws put = record {
     trees = with_part (part_of_kind o n) so.trees;
     folding = fold_more (parts_of t) parts left (part_of_kind o n) so.trees (with_part (part_of_kind o n) so.trees) so.folding last refl;

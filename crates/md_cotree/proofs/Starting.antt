@@ -7,7 +7,7 @@ use Rattle.md_lists.specs.declared.kinds.PlaceKind.{PlaceKind}
 use Rattle.md_lists.specs.declared.TheConstants.{PLACES}
 use Rattle.md_lists.specs.Words.{holds_once}
 use Rattle.md_lists.specs.Links.{Links, alive, all_free}
-use Rattle.md_lists.proofs.Changing.{get_or-all}
+use Rattle.md_lists.proofs.AllFree.{get_or-all}
 use Rattle.md_cotree.specs.declared.cotree.Cotree.{Cotree}
 use Rattle.md_cotree.specs.Cotrees.{Denotes}
 

@@ -99,7 +99,7 @@ module _ (l : Links) where
   pub record IsMeeting (left right i n : ℕ) (b : Bool) : Type 0 where
     pub more : ℕ
     pub sum : i + more ≡ n
-    pub meet : Meet l left right more b
+    pub meet : Meet l left right more more b
 
   climbs_or : (n p a w : ℕ) → Climbs l n p a → parent_at l a ≡ Some w → (q : ℕ) × (parent_at l p ≡ Some q)
   climbs_or zero p a w way is = (w, ap (parent_at l) way ∙ is)
@@ -112,14 +112,14 @@ module _ (l : Links) where
   meeting_right left right i n b at = climbs_or at.more right at.meet.right at.meet.top at.meet.from_right at.meet.right_top
 
   module _ (left right x y : ℕ) (is_x : parent_at l left ≡ Some x) (is_y : parent_at l right ≡ Some y) where
-    same_top : (n : ℕ) (b : Bool) → Meet l left right n b → x ≡ y → kind_at l x ≡ Some (place_kind b)
+    same_top : (n : ℕ) (b : Bool) → Meet l left right n n b → x ≡ y → kind_at l x ≡ Some (place_kind b)
     same_top zero b m same = ap (kind_at l) (same_Some x m.top (sym is_x ∙ ap (parent_at l) m.from_left ∙ m.left_top)) ∙ m.kind
     same_top (suc n) b m same =
         absurd (m.differ (climb_one n x m.left m.right
         (subst (λ z. Climbs l n z m.left) (same_Some m.from_left.0 x (sym m.from_left.1 ∙ is_x)) m.from_left.2)
         (subst (λ z. Climbs l n z m.right) (same_Some m.from_right.0 y (sym m.from_right.1 ∙ is_y) ∙ sym same) m.from_right.2)))
 
-    go_on : (i n more : ℕ) (b : Bool) → i + more ≡ n → Meet l left right more b → x ≢ y → IsMeeting x y (i + 1) n b
+    go_on : (i n more : ℕ) (b : Bool) → i + more ≡ n → Meet l left right more more b → x ≢ y → IsMeeting x y (i + 1) n b
     go_on i n zero b e m differ =
         absurd (differ (same_Some x y (sym is_x ∙ ap (parent_at l) m.from_left ∙ m.left_top ∙ sym m.right_top ∙ sym (ap (parent_at l) m.from_right) ∙ is_y)))
     go_on i n (suc more) b e m differ = record {
@@ -144,7 +144,7 @@ module _ (l : Links) where
     pub meeting_more : (i n : ℕ) (b : Bool) → IsMeeting left right i n b → x ≢ y → IsMeeting x y (i + 1) n b
     meeting_more i n b at differ = go_on i n at.more b at.sum at.meet differ
 
-  pub meeting_begin : (p q n : ℕ) (b : Bool) → Meet l p q n b → IsMeeting p q 0 n b
+  pub meeting_begin : (p q n : ℕ) (b : Bool) → Meet l p q n n b → IsMeeting p q 0 n b
   meeting_begin p q n b m = record { more = n; sum = omega arith; meet = m }
 
   pub meeting_end : (left right i n : ℕ) (b : Bool) → IsMeeting left right i n b → i ≤ n
@@ -153,10 +153,10 @@ module _ (l : Links) where
   -- ---- at one level
 
   pub way_left : (p q : ℕ) (b : Bool) → (m : Meets l p q b) → Climbs l (suc (m.left_steps + m.steps_on)) p m.root
-  way_left p q b m = climb_join (suc (m.left_steps + m.steps_on)) (suc m.left_steps) m.steps_on p m.top m.root (omega arith) (climb_more m.left_steps p m.left m.top m.from_left m.left_top) m.on
+  way_left p q b m = climb_join (suc (m.left_steps + m.steps_on)) (suc m.left_steps) m.steps_on p m.meet.top m.root (omega arith) (climb_more m.left_steps p m.meet.left m.meet.top m.meet.from_left m.meet.left_top) m.on
 
   pub way_right : (p q : ℕ) (b : Bool) → (m : Meets l p q b) → Climbs l (suc (m.right_steps + m.steps_on)) q m.root
-  way_right p q b m = climb_join (suc (m.right_steps + m.steps_on)) (suc m.right_steps) m.steps_on q m.top m.root (omega arith) (climb_more m.right_steps q m.right m.top m.from_right m.right_top) m.on
+  way_right p q b m = climb_join (suc (m.right_steps + m.steps_on)) (suc m.right_steps) m.steps_on q m.meet.top m.root (omega arith) (climb_more m.right_steps q m.meet.right m.meet.top m.meet.from_right m.meet.right_top) m.on
 
   -- the places at one level, and how the ways from there meet
   pub record IsLevel (p q up_left up_right limit : ℕ) (b : Bool) : Type 0 where
@@ -165,7 +165,7 @@ module _ (l : Links) where
     pub from_left : Climbs l up_left p left
     pub from_right : Climbs l up_right q right
     pub steps : ℕ
-    pub meet : Meet l left right steps b
+    pub meet : Meet l left right steps steps b
     pub few : steps < limit
 
   pub level : (p q high low up_left up_right : ℕ) (b : Bool) → (m : Meets l p q b) → high ≡ suc (m.left_steps + m.steps_on) → low ≡ suc (m.right_steps + m.steps_on) →
@@ -173,29 +173,29 @@ module _ (l : Links) where
   level p q high low up_left up_right b m one two is_left is_right =
       elim (cases_lt m.left_steps m.right_steps) [
         | inl less ↦
-            let way = climb_split m.right_steps up_right m.left_steps q m.right (omega arith) m.from_right in
+            let way = climb_split m.right_steps up_right m.left_steps q m.meet.right (omega arith) m.meet.from_right in
             record {
               left = p;
               right = way.0;
               from_left = let none : 0 ≡ up_left = omega arith in subst (λ z. Climbs l z p p) none refl;
               from_right = way.1;
               steps = m.left_steps;
-              meet = record { left = m.left; right = m.right; top = m.top; from_left = m.from_left; from_right = way.2; differ = m.differ; left_top = m.left_top; right_top = m.right_top; kind = m.kind };
+              meet = record { left = m.meet.left; right = m.meet.right; top = m.meet.top; from_left = m.meet.from_left; from_right = way.2; differ = m.meet.differ; left_top = m.meet.left_top; right_top = m.meet.right_top; kind = m.meet.kind };
               few = omega arith;
             }
         | inr more ↦
-            let way = climb_split m.left_steps up_left m.right_steps p m.left (omega arith) m.from_left in
+            let way = climb_split m.left_steps up_left m.right_steps p m.meet.left (omega arith) m.meet.from_left in
             record {
               left = way.0;
               right = q;
               from_left = way.1;
               from_right = let none : 0 ≡ up_right = omega arith in subst (λ z. Climbs l z q q) none refl;
               steps = m.right_steps;
-              meet = record { left = m.left; right = m.right; top = m.top; from_left = way.2; from_right = m.from_right; differ = m.differ; left_top = m.left_top; right_top = m.right_top; kind = m.kind };
+              meet = record { left = m.meet.left; right = m.meet.right; top = m.meet.top; from_left = way.2; from_right = m.meet.from_right; differ = m.meet.differ; left_top = m.meet.left_top; right_top = m.meet.right_top; kind = m.meet.kind };
               few = omega arith;
             }
       ]
 
   -- the places that were found
-  pub meet_from : (a x b y n : ℕ) (series : Bool) → x ≡ a → y ≡ b → Meet l a b n series → Meet l x y n series
-  meet_from a x b y n series one two m = subst (λ z. Meet l z y n series) (sym one) (subst (λ z. Meet l a z n series) (sym two) m)
+  pub meet_from : (a x b y n : ℕ) (series : Bool) → x ≡ a → y ≡ b → Meet l a b n n series → Meet l x y n n series
+  meet_from a x b y n series one two m = subst (λ z. Meet l z y n n series) (sym one) (subst (λ z. Meet l a z n n series) (sym two) m)

@@ -10,39 +10,31 @@ abbrev pub Climbs : Links → ℕ → ℕ → ℕ → Type 0
 Climbs l zero p a = p ≡ a
 Climbs l (suc n) p a = (q : ℕ) × (parent_at l p ≡ Some q) × Climbs l n q a
 
--- n steps up from p and from q lead to different children of one place, which is series or not
-pub record Meet (l : Links) (p q n : ℕ) (series : Bool) : Type 0 where
+-- m steps up from p and n from q lead to different children of one place, which is series or not
+pub record Meet (l : Links) (p q m n : ℕ) (series : Bool) : Type 0 where
   pub left : ℕ
   pub right : ℕ
   pub top : ℕ
-  pub from_left : Climbs l n p left
+  pub from_left : Climbs l m p left
   pub from_right : Climbs l n q right
   pub differ : left ≢ right
   pub left_top : parent_at l left ≡ Some top
   pub right_top : parent_at l right ≡ Some top
   pub kind : kind_at l top ≡ Some (place_kind series)
 
--- ways up from p and from q lead to one place, and meet where they lead to different children of one place, which is series or not
-pub record MeetBelow (l : Links) (root p q : ℕ) (series : Bool) : Type 0 where
-  pub left : ℕ
-  pub right : ℕ
-  pub top : ℕ
+-- ways up from p and from q meet so, and lead on to one place, in fewer steps than n
+pub record MeetBelow (l : Links) (root p q n : ℕ) (series : Bool) : Type 0 where
   pub left_steps : ℕ
   pub right_steps : ℕ
   pub steps_on : ℕ
-  pub from_left : Climbs l left_steps p left
-  pub from_right : Climbs l right_steps q right
-  pub differ : left ≢ right
-  pub left_top : parent_at l left ≡ Some top
-  pub right_top : parent_at l right ≡ Some top
-  pub on : Climbs l steps_on top root
-  pub kind : kind_at l top ≡ Some (place_kind series)
+  pub meet : Meet l p q left_steps right_steps series
+  pub on : Climbs l steps_on meet.top root
+  pub left_few : suc (left_steps + steps_on) < n
+  pub right_few : suc (right_steps + steps_on) < n
 
--- ways up from p and from q end at one place without a parent, and meet below it, in fewer steps than there are places
+-- the place that they lead to has no parent, and the steps are fewer than the places
 pub record Meets (l : Links) (p q : ℕ) (series : Bool) : Type 0 where
   pub root : ℕ
   pub no_parent : parent_at l root ≡ None
-  pub below : MeetBelow l root p q series
+  pub below : MeetBelow l root p q PLACES series
   pub open below use *
-  pub left_few : suc (left_steps + steps_on) < PLACES
-  pub right_few : suc (right_steps + steps_on) < PLACES

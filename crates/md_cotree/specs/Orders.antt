@@ -94,9 +94,9 @@ pub record AreTaken (zs ws : List Keyed) (ts : List Tree) : Type 0 where
   pub told : map plain ts ≡ map tree_of (map plain_keyed (reverse rest))
 
 -- the stack after one more part
-abbrev pub IsPut : PlainPart → List PlainKeyed → List PlainKeyed → Type 0
-IsPut (name v) zs ws = ws ≡ zs ++ record { least = v; tree = leaf v } ∷ []
-IsPut (inner_part k n ps) zs ws = IsPutOver k n zs ws
+abbrev pub IsPartPut : PlainPart → List PlainKeyed → List PlainKeyed → Type 0
+IsPartPut (name v) zs ws = ws ≡ zs ++ record { least = v; tree = leaf v } ∷ []
+IsPartPut (inner_part k n ps) zs ws = IsPutOver k n zs ws
 
 -- the stack has the children of the part, one at least
 abbrev pub HasBelow : PlainPart → List PlainKeyed → Type 0

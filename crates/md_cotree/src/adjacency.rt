@@ -1,5 +1,5 @@
 //! Whether two names are adjacent, told by the places above their leaves.
-ghost use Rattle.std.specs.Prelude.{◌≡◌, ◌≢◌, ℕ, ◌<◌, Bool, None, Some, slice_index_or};
+ghost use Rattle.std.specs.Prelude.{◌≡◌, ◌≢◌, ℕ, ◌+◌, ◌<◌, Bool, None, Some, slice_index_or};
 ghost use Rattle.md_lists.specs.Links.{kind_at, parent_at, IsLive, AreLinks};
 ghost use Rattle.std.specs.FinSet as set;
 ghost use Rattle.md_graph.specs.PlainGraph.{PlainGraph, adjacent, neighbours};
@@ -60,6 +60,20 @@ impl Cotree {
     }
 }
 
+/// The parent of a place. Condition: it has one.
+pub fn parent_of<L: Ledger>(lists: &Lists, place: u32, steps: &mut Steps<L>) -> u32
+    requires links { AreLinks lists.now }
+    requires parent { (q : ℕ) × (parent_at lists.now place ≡ Some q) }
+    ensures parent { parent_at lists.now place ≡ Some result }
+    ensures live { IsLive lists.now result }
+    ensures steps { steps.new ≡ steps.old + 1 }
+{
+    match lists.parent(place, steps) {
+        Some(parent) => parent,
+        None => unreachable!(),
+    }
+}
+
 // Whether the place where the ways up from two places meet is series.
 fn meets_at_series<L: Ledger>(lists: &Lists, p: u32, q: u32, blank: Blank) -> bool
     requires name { blank.name ≡ L.name }
@@ -104,21 +118,9 @@ fn climbed<L: Ledger>(lists: &Lists, p: u32, count: u32, steps: &mut Steps<L>) -
 {
     let mut place = p;
     for _step in 0..count {
-        place = above(lists, place, steps);
+        place = parent_of(lists, place, steps);
     }
     place
-}
-
-// The parent of a place. Condition: there is one.
-fn above<L: Ledger>(lists: &Lists, p: u32, steps: &mut Steps<L>) -> u32
-    requires links { AreLinks lists.now }
-    requires parent { (q : ℕ) × (parent_at lists.now p ≡ Some q) }
-    ensures { parent_at lists.now p ≡ Some result }
-{
-    match lists.parent(p, steps) {
-        Some(parent) => parent,
-        None => unreachable!(),
-    }
 }
 
 // Whether the place where the ways up from two places meet is series. Condition: they meet after as
@@ -131,12 +133,13 @@ fn meet_at_series<L: Ledger>(
     steps: &mut Steps<L>,
 ) -> bool
     requires links { AreLinks lists.now }
-    requires ways { (n : ℕ) × (b : Bool) × Meet lists.now p q n b × (n < limit) }
-    ensures { (n : ℕ) (b : Bool) → Meet lists.now p q n b → result ≡ b }
+    requires ways { (n : ℕ) × (b : Bool) × Meet lists.now p q n n b × (n < limit) }
+    ensures { (n : ℕ) (b : Bool) → Meet lists.now p q n n b → result ≡ b }
 {
     let (mut left, mut right) = (p, q);
     for _step in 0..limit {
-        let (x, y) = (above(lists, left, steps), above(lists, right, steps));
+        let x = parent_of(lists, left, steps);
+        let y = parent_of(lists, right, steps);
         if x == y {
             return is_series(lists, x, steps);
         }

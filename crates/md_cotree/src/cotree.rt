@@ -17,6 +17,9 @@ pub struct Cotree {
 }
 
 impl Cotree {
+    ghost use Rattle.md_graph.specs.PlainGraph.{PlainGraph, adjacent};
+    ghost use Rattle.md_tree.specs.StrongTrees.{IsTree};
+    ghost use Rattle.md_tree.specs.Trees.{PlainTree, nodes_in};
     ghost use Rattle.md_cotree.specs.PlaceTrees.{PlaceTree, node_counts};
     ghost use Rattle.md_cotree.specs.Cotrees.{trees_of, IsKeptAs, IsSoundCotree, Denotes};
 
@@ -32,11 +35,14 @@ impl Cotree {
         })
     }
 
-    /// The number of nodes of the tree, leaves among them. Condition: the cotree is sound.
+    /// The number of nodes of the tree, leaves among them: as many as the tree of strong modules of
+    /// its graph has. Condition: the cotree is sound.
     pub fn node_count(&self) -> u64
         requires { IsSoundCotree self.now }
-        ensures { (o : Option PlaceTree) → IsKeptAs self.now o →
+        ensures places { (o : Option PlaceTree) → IsKeptAs self.now o →
             result ≡ node_counts (trees_of o) }
+        ensures tree { (g : PlainGraph) (t : Option PlainTree) → Denotes self.now g →
+            IsTree (adjacent g) g.vertices t → result ≡ nodes_in t }
     {
         u64::from(PLACES - self.lists.spare())
     }
@@ -55,6 +61,8 @@ mod tests {
         assert_eq!(rt; cotree.node_count(), 0);
         assert_eq!(rt; cotree.leaves, 0);
         assert_eq!(rt; cotree.root, None);
+        let back = cotree.to_tree(rt.alloc())?;
+        assert!(rt; matches!(&back, None));
         Ok(())
     }
 

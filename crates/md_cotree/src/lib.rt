@@ -7,6 +7,7 @@ pub mod laws;
 mod ordering;
 mod planting;
 
+pub use adjacency::parent_of;
 pub use cotree::Cotree;
 pub use planting::from_tree;
 

@@ -11,7 +11,7 @@ ghost use Rattle.md_tree.specs.Trees.{PlainTree};
 ghost use Rattle.md_tree.specs.WellFormed.{IsWellFormed, HasNoPrimeNode};
 ghost use Rattle.md_cotree.specs.Cotrees.{IsSoundCotree, Denotes};
 ghost use Rattle.md_cotree.specs.Laws.{HasNoPrime};
-ghost use Rattle.md_cotree.specs.Orders.{AllLive, part_at, PlainKeyed, plain_keyed, tree_of, HasTree, IsLoose, IsOrdered, IsPut, IsPutOver, AreFalling, AreTaken, HasBelow};
+ghost use Rattle.md_cotree.specs.Orders.{AllLive, part_at, PlainKeyed, plain_keyed, tree_of, HasTree, IsLoose, IsOrdered, IsPartPut, IsPutOver, AreFalling, AreTaken, HasBelow};
 ghost use Rattle.md_cotree.specs.PlaceTrees.{PlaceTree, place_of, node_count, shape, Stands};
 
 use crate::Cotree;
@@ -127,7 +127,7 @@ fn put<L: Ledger>(
 ) -> Result<(), Memory>
     requires live { IsLive lists.now place }
     requires below { HasBelow (part_at lists.now place) (map plain_keyed stack.old.items) }
-    ensures { IfOk result (λ _. IsPut (part_at lists.now place)
+    ensures { IfOk result (λ _. IsPartPut (part_at lists.now place)
         (map plain_keyed stack.old.items) (map plain_keyed stack.new.items)) }
 {
     match lists.kind(place, steps) {

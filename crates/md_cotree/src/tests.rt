@@ -103,3 +103,16 @@ fn adjacency_and_degrees(rt: HostRuntime) -> Result<(), Fail> {
     }
     Ok(())
 }
+
+#[test]
+fn three_names(rt: HostRuntime) -> Result<(), Fail> {
+    let alloc = rt.alloc();
+    let tree = read(&rt, alloc, b"S(P(0,2),1)");
+    let mut graph = Graph::new(alloc)?;
+    graph_of(&tree, &mut graph);
+    let cotree = from_tree(alloc, &tree)?;
+    assert_eq!(rt; cotree.node_count(), 5);
+    assert_eq!(rt; degree_of(&cotree, &graph, 1), Some(2));
+    assert!(rt; !cotree.adjacent(0, 2) && !cotree.adjacent(0, 9));
+    Ok(())
+}

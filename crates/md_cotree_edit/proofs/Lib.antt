@@ -1,49 +1,19 @@
-pub mod Same
-pub mod Fork
-pub mod Local
-pub mod Keeping
-pub mod Surgery
-pub mod Turning
-pub mod Told
-pub mod Adopting
-pub mod Lifted
-pub mod Spare
-pub mod Tidying
-pub mod Joining
-pub mod Ended
-pub mod Base
-pub mod Settled
-pub mod Sites
-pub mod Far
-pub mod Parted
-pub mod Editing
-pub mod Still
-pub mod SameMarks
-pub mod Holes
-pub mod Rising
-pub mod MarkedAll
-pub mod Lowest
-pub mod Counting
-pub mod Subtrees
-pub mod Reaching
-pub mod Passing
-pub mod Deepest
-pub mod Walking
-pub mod Inserted
-pub mod Noting
-pub mod FullChildren
-pub mod Relinked
-pub mod Marked
-pub mod Breach
-pub mod Taken
-pub mod NewLeaf
-pub mod NewVertex
-pub mod LowestLeaf
-pub mod Moving
-pub mod Replacing
-pub mod Merging
-pub mod Closing
-pub mod Pruning
-pub mod Located
-pub mod Less
-pub mod Deleting
+-- From the ground up: each group stands on those above it.
+
+-- trees over places: what is counted in them, the lists that keep them, and what one call of the lists makes of them
+pub mod Trees
+
+-- edges: two leaves that are joined or parted, and the path where they stand further apart
+pub mod EdgeTurns
+
+-- marks: what lists tell of the names that are marked
+pub mod Marks
+
+-- climbing: the marked places are walked over, up to the lowest mixed node
+pub mod Climbs
+
+-- relinking: a new leaf below the lowest mixed node, or the path where it can't be taken in
+pub mod Insertions
+
+-- deletion: a leaf goes, and its node where one child is left
+pub mod Deletions

@@ -30,7 +30,7 @@ AreAround (f ∷ fs) k =
 
 -- the lists keep these loose trees, but for the order of children: each live place stands in them once, with its kind,
 -- below its parent
-pub record AreKept (l : Links) (ts : PlaceTrees) : Type 0 where
+pub record AreTreesKept (l : Links) (ts : PlaceTrees) : Type 0 where
   pub each : (p : ℕ) → times_among p ts ≡ alive l p
   pub kinds : (p : ℕ) → kind_row p ts ≡ kind_code (kind_at l p)
   pub links : (p c : ℕ) → child_row p c ts ≡ holds_once (parent_at l c) p

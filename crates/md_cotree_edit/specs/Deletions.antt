@@ -6,7 +6,7 @@ use Rattle.md_lists.specs.Links.{Links}
 use Rattle.md_cotree.specs.PlaceTrees.{PlaceTree, tip, inner, PlaceTrees, no_more, then, place_of, leaves_in, leaves_among, leaf_count, leaf_counts, row_length, IsInner, NoneInner, Alternates, AllAlternate}
 use Rattle.md_cotree.specs.Cotrees.{trees_of}
 use Rattle.md_cotree_edit.specs.Counts.{name_in, name_row, pair_row, edge_in, edge_row}
-use Rattle.md_cotree_edit.specs.Contexts.{Frame, plug, AreAround, AreKept}
+use Rattle.md_cotree_edit.specs.Contexts.{Frame, plug, AreAround, AreTreesKept}
 use Rattle.md_cotree_edit.specs.Turns.{IsTurned}
 
 -- ---- children that move from one node to another
@@ -40,7 +40,7 @@ abbrev pub two_trees : List Frame → List Frame → Bool → ℕ → PlaceTrees
 two_trees fs gs k from xs to ys = then (plug fs (inner from k xs)) (then (plug gs (inner to k ys)) no_more)
 
 pub record CanPass (l : Links) (from c to : ℕ) (d : PassView) : Type 0 where
-  pub kept : AreKept l (two_trees d.around_from d.around_to d.series from (then d.child d.left) to d.there)
+  pub kept : AreTreesKept l (two_trees d.around_from d.around_to d.series from (then d.child d.left) to d.there)
   pub child : place_of d.child ≡ c
 
 -- two nodes of a kind in two trees, and the children of the one that move
@@ -52,19 +52,19 @@ pub record MoveView : Type 0 where
   pub there : PlaceTrees
 
 abbrev pub CanMove : Links → ℕ → ℕ → MoveView → Type 0
-CanMove l from to d = AreKept l (two_trees d.around_from d.around_to d.series from d.moved to d.there)
+CanMove l from to d = AreTreesKept l (two_trees d.around_from d.around_to d.series from d.moved to d.there)
 
 -- some of them have moved
 pub record AreMoving (l : Links) (from to : ℕ) (d : MoveView) : Type 0 where
   pub left : PlaceTrees
   pub row : PlaceTrees
-  pub kept : AreKept l (two_trees d.around_from d.around_to d.series from left to row)
+  pub kept : AreTreesKept l (two_trees d.around_from d.around_to d.series from left to row)
   pub counts : AreMoved d.moved d.there left row
 
 -- all of them have
-pub record IsMoved (l : Links) (from to : ℕ) (d : MoveView) : Type 0 where
+pub record AreAllMoved (l : Links) (from to : ℕ) (d : MoveView) : Type 0 where
   pub row : PlaceTrees
-  pub kept : AreKept l (two_trees d.around_from d.around_to d.series from no_more to row)
+  pub kept : AreTreesKept l (two_trees d.around_from d.around_to d.series from no_more to row)
   pub counts : AreMoved d.moved d.there no_more row
 
 -- ---- a loose tree comes in the place of a node
@@ -76,13 +76,13 @@ pub record PlaceView : Type 0 where
   pub child : PlaceTree
 
 pub record CanReplace (l : Links) (r : Option ℕ) (old c : ℕ) (d : PlaceView) : Type 0 where
-  pub kept : AreKept l (then (plug d.frames (inner old d.series no_more)) (then d.child no_more))
+  pub kept : AreTreesKept l (then (plug d.frames (inner old d.series no_more)) (then d.child no_more))
   pub child : place_of d.child ≡ c
   pub root : r ≡ Some (place_of (plug d.frames (inner old d.series no_more)))
 
 -- the lists keep this tree alone, and it has this root
 pub record IsKeptFrom (l : Links) (r : Option ℕ) (t : PlaceTree) : Type 0 where
-  pub kept : AreKept l (then t no_more)
+  pub kept : AreTreesKept l (then t no_more)
   pub root : r ≡ Some (place_of t)
 
 -- ---- two nodes of a kind, one above the other, become one
@@ -95,7 +95,7 @@ pub record MergeView : Type 0 where
   pub others : PlaceTrees
 
 pub record CanMerge (l : Links) (r : Option ℕ) (top c : ℕ) (d : MergeView) : Type 0 where
-  pub kept : AreKept l (then (inner c d.series d.below) (then (plug d.frames (inner top d.series d.others)) no_more))
+  pub kept : AreTreesKept l (then (inner c d.series d.below) (then (plug d.frames (inner top d.series d.others)) no_more))
   pub root : r ≡ Some (place_of (plug d.frames (inner top d.series d.others)))
 
 -- there is one of them, with the children of both
@@ -114,13 +114,13 @@ pub record SettleView : Type 0 where
   pub others : PlaceTrees
 
 pub record CanSettle (l : Links) (r : Option ℕ) (top c : ℕ) (d : SettleView) : Type 0 where
-  pub kept : AreKept l (then d.child (then (plug d.frames (inner top d.series d.others)) no_more))
+  pub kept : AreTreesKept l (then d.child (then (plug d.frames (inner top d.series d.others)) no_more))
   pub child : place_of d.child ≡ c
   pub root : r ≡ Some (place_of (plug d.frames (inner top d.series d.others)))
   pub kind : IsInner d.child (not d.series) → ⊥
 
 -- the children of a node of a kind, when a tree has come to them
-pub record IsTaken (k : Bool) (y : PlaceTree) (ys zs : PlaceTrees) : Type 0 where
+pub record TakesChild (k : Bool) (y : PlaceTree) (ys zs : PlaceTrees) : Type 0 where
   pub tips : (p v : ℕ) → leaves_among p v zs ≡ leaves_in p v y + leaves_among p v ys
   pub named : (v : ℕ) → name_row v zs ≡ name_in v y + name_row v ys
   pub edges : (a b : ℕ) → cond k (pair_row a b zs) 0 + edge_row a b zs ≡ cond k (pair_row a b (then y ys)) 0 + edge_row a b (then y ys)
@@ -131,7 +131,7 @@ pub record IsSettled (l : Links) (r : Option ℕ) (d : SettleView) : Type 0 wher
   pub place : ℕ
   pub row : PlaceTrees
   pub is : IsKeptFrom l r (plug d.frames (inner place d.series row))
-  pub taken : IsTaken d.series d.child d.others row
+  pub taken : TakesChild d.series d.child d.others row
 
 -- how many children a tree has
 abbrev pub below_count : PlaceTree → ℕ
@@ -165,7 +165,7 @@ abbrev pub no_pairs : ℕ → ℕ → ℕ
 no_pairs a b = 0
 
 -- the lists keep a tree whose kinds alternate, with the leaves and the pairs of another
-pub record IsClosed (l : Links) (r : Option ℕ) (t : PlaceTree) : Type 0 where
+pub record IsNodeClosed (l : Links) (r : Option ℕ) (t : PlaceTree) : Type 0 where
   pub tree : PlaceTree
   pub is : IsKeptFrom l r tree
   pub alternates : Alternates tree
@@ -187,7 +187,7 @@ pub record CanPrune (l : Links) (r : Option ℕ) (leaf : ℕ) (d : PruneView) : 
   pub once : (v : ℕ) → name_in v (leaf_tree leaf d) ≤ 1
 
 -- the tree without a leaf: it is gone, and other names are joined as they were
-pub record IsWithout (leaf x : ℕ) (t : PlaceTree) (ss : PlaceTrees) : Type 0 where
+pub record IsWithoutLeaf (leaf x : ℕ) (t : PlaceTree) (ss : PlaceTrees) : Type 0 where
   pub tips : (p v : ℕ) → leaves_among p v ss + cond ((leaf == p) && (x == v)) 1 0 ≡ leaves_in p v t
   pub named : (v : ℕ) → name_row v ss + cond (x == v) 1 0 ≡ name_in v t
   pub edges : (a b : ℕ) → x ≢ a → x ≢ b → edge_row a b ss ≡ edge_in a b t
@@ -195,10 +195,10 @@ pub record IsWithout (leaf x : ℕ) (t : PlaceTree) (ss : PlaceTrees) : Type 0 w
 
 pub record IsPruned (l : Links) (r : Option ℕ) (leaf : ℕ) (d : PruneView) : Type 0 where
   pub tree : Option PlaceTree
-  pub kept : AreKept l (trees_of tree)
+  pub kept : AreTreesKept l (trees_of tree)
   pub root : r ≡ option_map place_of tree
   pub alternates : AllAlternate (trees_of tree)
-  pub without : IsWithout leaf d.name (leaf_tree leaf d) (trees_of tree)
+  pub without : IsWithoutLeaf leaf d.name (leaf_tree leaf d) (trees_of tree)
 
 -- no more than n names are joined to x: trees that have only such names, each once, have no more leaves
 pub record HasFew (n x : ℕ) (t : PlaceTree) : Type 0 where

@@ -1,20 +1,18 @@
 -- Names of a tree that are marked, as those are that a new vertex is joined to, and what linked lists tell of them.
 -- Source: Corneil, Perl and Stewart, A linear recognition algorithm for cographs; the counts are this project's.
 use Rattle.std.specs.Prelude.{◌≡◌, ℕ, ◌+◌, ◌-◌, ◌*◌, ◌<◌, ◌≤◌, min, Bool, true, false, cond, ◌&&◌, ◌==◌, List, [], ◌∷◌, slice_index_or, Option, Some, None, ⊤}
-use Rattle.std.specs.FinSet as set
 use Rattle.md_graph.specs.declared.TheConstants.{NAMES}
-use Rattle.md_graph.specs.PlainGraph.{PlainGraph, with_vertex, with_edges}
 use Rattle.md_lists.specs.Words.{times}
 use Rattle.md_lists.specs.Links.{Links, tally_at, note_at}
 use Rattle.md_cotree.specs.PlaceTrees.{PlaceTree, tip, inner, PlaceTrees, no_more, then, place_of, leaves_in, leaf_count, row_length, Alternates}
 use Rattle.md_cotree.specs.declared.cotree.Cotree.{Cotree}
 use Rattle.md_cotree.specs.Cotrees.{IsKeptAs}
 use Rattle.md_cotree_edit.specs.Counts.{name_in, edge_in}
-use Rattle.md_cotree_edit.specs.Contexts.{Frame, plug, AreKept}
+use Rattle.md_cotree_edit.specs.Contexts.{Frame, plug, AreTreesKept}
 
 -- each name is marked once at most
-abbrev pub AreMarks : (ℕ → ℕ) → Type 0
-AreMarks m = (v : ℕ) → m v ≤ 1
+abbrev pub AreNameMarks : (ℕ → ℕ) → Type 0
+AreNameMarks m = (v : ℕ) → m v ≤ 1
 
 -- one name more is marked
 abbrev pub more : (ℕ → ℕ) → ℕ → ℕ → ℕ
@@ -137,16 +135,16 @@ pub record MarkView : Type 0 where
   pub tree : PlaceTree
 
 pub record CanMark (l : Links) (place : ℕ) (d : MarkView) : Type 0 where
-  pub kept : AreKept l (then d.tree no_more)
+  pub kept : AreTreesKept l (then d.tree no_more)
   pub told : AreTold l d.marks none_walked d.tree
-  pub marks : AreMarks d.marks
+  pub marks : AreNameMarks d.marks
   pub fresh : d.marks d.name ≡ 0
   pub once : name_in d.name d.tree ≡ 1
   pub leaf : leaves_in place d.name d.tree ≡ 1
 
 -- nothing is marked in the lists that keep a tree whose kinds alternate, and the names stand there at the places that are kept for them, each once
 pub record CanMarkAll (l : Links) (places : List (Option ℕ)) (names : List ℕ) (t : PlaceTree) : Type 0 where
-  pub kept : AreKept l (then t no_more)
+  pub kept : AreTreesKept l (then t no_more)
   pub unmarked : l.marked ≡ []
   pub alternates : Alternates t
   pub different : (v : ℕ) → times v names ≤ 1
@@ -161,9 +159,9 @@ pub record ClimbView : Type 0 where
   pub tree : PlaceTree
 
 pub record CanClimb (l : Links) (d : ClimbView) : Type 0 where
-  pub kept : AreKept l (then d.tree no_more)
+  pub kept : AreTreesKept l (then d.tree no_more)
   pub told : AreTold l d.marks none_walked d.tree
-  pub marks : AreMarks d.marks
+  pub marks : AreNameMarks d.marks
   pub alternates : Alternates d.tree
 
 -- ---- the lowest mixed node: no child of it is mixed
@@ -200,10 +198,10 @@ pub record AreHalves (m : ℕ → ℕ) (ts : PlaceTrees) : Type 0 where
 -- the lists keep the tree and tell what is marked and was walked over, which is what they have marked; the node is the lowest mixed one,
 -- and what is around it is ready
 pub record IsLowest (l : Links) (d : LowestView) : Type 0 where
-  pub kept : AreKept l (then (whole d) no_more)
+  pub kept : AreTreesKept l (then (whole d) no_more)
   pub told : AreTold l d.marks d.walked (whole d)
   pub walked : (p : ℕ) → d.walked p ≡ times p l.marked
-  pub marks : AreMarks d.marks
+  pub marks : AreNameMarks d.marks
   pub ready : AreReady d.marks d.frames
   pub halves : AreHalves d.marks d.children
 
@@ -225,21 +223,9 @@ pub record CanRelink (l : Links) (top : Option ℕ) (x : ℕ) (d : LowestView) :
   pub fresh : name_in x (whole d) ≡ 0
 
 -- the tree with the leaf, kept in the lists from its root on
-pub record IsRelinked (l : Links) (top : Option ℕ) (x leaf : ℕ) (d : LowestView) : Type 0 where
+pub record IsLinkedIn (l : Links) (top : Option ℕ) (m : ℕ → ℕ) (x leaf : ℕ) (t : PlaceTree) : Type 0 where
   pub tree : PlaceTree
-  pub kept : AreKept l (then tree no_more)
-  pub root : top ≡ Some (place_of tree)
-  pub alternates : Alternates tree
-  pub inserted : IsInserted d.marks leaf x (whole d) tree
-
--- the graph with a new vertex, joined to the names of a list
-abbrev pub joined_graph : PlainGraph → ℕ → List ℕ → PlainGraph
-joined_graph g x ns = with_edges (with_vertex g x) x (set.from_list ns)
-
--- the tree with the leaf, kept in the lists from its root on
-pub record IsTaken (l : Links) (top : Option ℕ) (m : ℕ → ℕ) (x leaf : ℕ) (t : PlaceTree) : Type 0 where
-  pub tree : PlaceTree
-  pub kept : AreKept l (then tree no_more)
+  pub kept : AreTreesKept l (then tree no_more)
   pub root : top ≡ Some (place_of tree)
   pub alternates : Alternates tree
   pub inserted : IsInserted m leaf x t tree
@@ -255,7 +241,7 @@ pub record CanTakeIn (l : Links) (top : Option ℕ) (x : ℕ) (d : ClimbView) : 
   pub not_all : full_in d.marks d.tree ≡ 0
 
 -- some of the names are marked too
-pub record CanSettle (l : Links) (top : Option ℕ) (x : ℕ) (d : ClimbView) : Type 0 where
+pub record CanLinkIn (l : Links) (top : Option ℕ) (x : ℕ) (d : ClimbView) : Type 0 where
   pub take : CanTakeIn l top x d
   pub some : 0 < hits_in d.marks d.tree
 
@@ -287,16 +273,16 @@ pub record WalkView : Type 0 where
   pub tree : PlaceTree
 
 -- the lists keep the tree, whose kinds alternate, and tell what is marked and was walked over, which leaves no breach
-pub record AreWalked (l : Links) (d : WalkView) : Type 0 where
-  pub kept : AreKept l (then d.tree no_more)
-  pub marks : AreMarks d.marks
+pub record AreWalkedOver (l : Links) (d : WalkView) : Type 0 where
+  pub kept : AreTreesKept l (then d.tree no_more)
+  pub marks : AreNameMarks d.marks
   pub alternates : Alternates d.tree
   pub told : AreTold l d.marks d.walked d.tree
   pub walked : Walked d.marks d.walked d.tree
 
 -- what was walked over is marked, and the place wasn't walked over
 pub record CanWalk (l : Links) (place : ℕ) (d : WalkView) : Type 0 where
-  pub walked : AreWalked l d
+  pub walked : AreWalkedOver l d
   pub seen : (p : ℕ) → d.walked p ≤ times p l.marked
   pub fresh : d.walked place ≡ 0
 

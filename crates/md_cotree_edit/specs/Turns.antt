@@ -4,10 +4,10 @@ use Rattle.std.specs.Prelude.{◌≡◌, ◌≢◌, ℕ, ◌+◌, Bool, true, fa
 use Rattle.md_graph.specs.PlainGraph.{PlainGraph, with_edge, without_edge}
 use Rattle.md_lists.specs.Links.{Links, parent_at}
 use Rattle.md_cotree.specs.PlaceTrees.{PlaceTree, tip, inner, PlaceTrees, no_more, then, place_of, leaves_in, leaves_among, leaf_count, leaf_counts, IsInner, NoneInner, Alternates, AllAlternate}
-use Rattle.md_cotree_edit.specs.declared.finding.Place.{Place}
-use Rattle.md_cotree_edit.specs.declared.finding.Place.TheVariants.{Both, First, Second, Apart}
+use Rattle.md_cotree_edit.specs.declared.finding.Meeting.{Meeting}
+use Rattle.md_cotree_edit.specs.declared.finding.Meeting.TheVariants.{Both, First, Second, Apart}
 use Rattle.md_cotree_edit.specs.Counts.{name_in, name_row, edge_in, crossing}
-use Rattle.md_cotree_edit.specs.Contexts.{Frame, plug, AreAround, AreKept}
+use Rattle.md_cotree_edit.specs.Contexts.{Frame, plug, AreAround, AreTreesKept}
 
 -- the leaves stay, and the pairs that are counted are joined, or parted where they were below a series node
 pub record IsTurned (series : Bool) (crossed : ℕ → ℕ → ℕ) (t s : PlaceTree) : Type 0 where
@@ -27,7 +27,7 @@ pub record AdoptView : Type 0 where
 
 -- they are loose in the lists, and their roots are x and y
 pub record CanAdopt (l : Links) (parent x y : ℕ) (d : AdoptView) : Type 0 where
-  pub kept : AreKept l (then d.first (then d.second (then (plug d.frames (inner parent d.series d.children)) d.others)))
+  pub kept : AreTreesKept l (then d.first (then d.second (then (plug d.frames (inner parent d.series d.children)) d.others)))
   pub first : place_of d.first ≡ x
   pub second : place_of d.second ≡ y
 
@@ -44,7 +44,7 @@ pub record LiftView : Type 0 where
 
 -- the two are loose and can come below a node of the other kind, and kinds alternate all round
 pub record CanLift (l : Links) (w x y : ℕ) (series : Bool) (d : LiftView) : Type 0 where
-  pub kept : AreKept l (then d.first (then d.second (then (plug d.frames (inner w series d.rest)) no_more)))
+  pub kept : AreTreesKept l (then d.first (then d.second (then (plug d.frames (inner w series d.rest)) no_more)))
   pub first : place_of d.first ≡ x
   pub second : place_of d.second ≡ y
   pub around : AreAround d.frames series
@@ -58,7 +58,7 @@ pub record CanLift (l : Links) (w x y : ℕ) (series : Bool) (d : LiftView) : Ty
 -- the tree that was lifted: below a node of the other kind, the two are joined, or parted
 pub record IsLifted (l : Links) (t : PlaceTree) (series : Bool) (crossed : ℕ → ℕ → ℕ) : Type 0 where
   pub tree : PlaceTree
-  pub kept : AreKept l (then tree no_more)
+  pub kept : AreTreesKept l (then tree no_more)
   pub turned : IsTurned series crossed t tree
   pub place : place_of tree ≡ place_of t
   pub alternates : Alternates tree
@@ -85,11 +85,11 @@ pub record IsBeside (k : Bool) (y a r : PlaceTree) : Type 0 where
   pub kind : IsInner r k
 
 -- what the parents and grandparents of two places say
-abbrev pub IsPlace : Links → ℕ → ℕ → Place → Type 0
-IsPlace l a b (Both w) = (parent_at l a ≡ Some w) × (parent_at l b ≡ Some w)
-IsPlace l a b (First w q) = (parent_at l a ≡ Some w) × (parent_at l b ≡ Some q) × (parent_at l q ≡ Some w) × (w ≢ q)
-IsPlace l a b (Second w q) = (parent_at l b ≡ Some w) × (parent_at l a ≡ Some q) × (parent_at l q ≡ Some w) × (w ≢ q)
-IsPlace l a b Apart =
+abbrev pub IsMeetingOf : Links → ℕ → ℕ → Meeting → Type 0
+IsMeetingOf l a b (Both w) = (parent_at l a ≡ Some w) × (parent_at l b ≡ Some w)
+IsMeetingOf l a b (First w q) = (parent_at l a ≡ Some w) × (parent_at l b ≡ Some q) × (parent_at l q ≡ Some w) × (w ≢ q)
+IsMeetingOf l a b (Second w q) = (parent_at l b ≡ Some w) × (parent_at l a ≡ Some q) × (parent_at l q ≡ Some w) × (w ≢ q)
+IsMeetingOf l a b Apart =
     (p : ℕ) × (q : ℕ) × (parent_at l a ≡ Some p) × (parent_at l b ≡ Some q) × (p ≢ q)
     × (parent_at l q ≢ Some p) × (parent_at l p ≢ Some q)
 
@@ -120,7 +120,7 @@ one_tree w a q b series d =
 
 -- the lists keep a tree whose kinds alternate
 abbrev pub IsAlternating : Links → PlaceTree → Type 0
-IsAlternating l t = AreKept l (then t no_more) × Alternates t
+IsAlternating l t = AreTreesKept l (then t no_more) × Alternates t
 
 -- the graph with an edge turned: without it where it was there, with it where it wasn't
 abbrev pub turned_graph : Bool → PlainGraph → ℕ → ℕ → PlainGraph

@@ -2,7 +2,7 @@
 ghost use Rattle.std.specs.Prelude.{◌≡◌, ℕ, ◌+◌, ◌*◌, ◌≤◌, ◌++◌, ◌↔◌, IsTrue, IsFalse, Bool, List, [], length, Some};
 ghost use Rattle.md_lists.specs.Links.{kind_at, tally_at, children_at, IsMarked, AreLinks};
 ghost use Rattle.md_cotree.specs.PlaceTrees.{place_kind, Alternates};
-ghost use Rattle.md_cotree_edit.specs.Marks.{WalkView, CanWalk, AreWalked, walked_on, ClimbView, CanClimb, CanTake, LowestView, IsLowest, whole, AreTold, AreStill, Passes, hits_in, marked_walked};
+ghost use Rattle.md_cotree_edit.specs.Marks.{WalkView, CanWalk, AreWalkedOver, walked_on, ClimbView, CanClimb, CanTake, LowestView, IsLowest, whole, AreTold, AreStill, Passes, hits_in, marked_walked};
 
 use crate::marking::FULL;
 use md_graph::Steps;
@@ -35,7 +35,7 @@ fn note_parent<L: Ledger>(lists: &mut Lists, place: u32, steps: &mut Steps<L>) -
     requires marked { IsMarked lists.old place }
     requires tree { (d : WalkView) × CanWalk lists.old place d }
     ensures walked { (d : WalkView) → CanWalk lists.old place d → IsTrue result →
-        AreWalked lists.new (walked_on d place) }
+        AreWalkedOver lists.new (walked_on d place) }
     ensures breach { (d : WalkView) → CanWalk lists.old place d → IsFalse result →
         CanTake d.marks d.tree → ⊥ }
     ensures same { IsFalse result → lists.new ≡ lists.old }

@@ -6,8 +6,8 @@ ghost use Rattle.md_graph.specs.Sets.{Has};
 ghost use Rattle.md_lists.specs.Links.{AreLinks, children_at};
 ghost use Rattle.md_cotree.specs.Cotrees.{Denotes};
 ghost use Rattle.md_cotree.specs.PlaceTrees.{inner, no_more, then, place_of, row_length};
-ghost use Rattle.md_cotree_edit.specs.Contexts.{AreKept, plug};
-ghost use Rattle.md_cotree_edit.specs.Deletions.{PassView, CanPass, two_trees, MoveView, CanMove, IsMoved, PlaceView, CanReplace, IsKeptFrom, MergeView, CanMerge, IsMerged, SettleView, CanSettle, IsSettled, below_count, beside_count, CloseView, CanClose, open_tree, IsClosed, PruneView, CanPrune, IsPruned, leaf_tree, HasFew};
+ghost use Rattle.md_cotree_edit.specs.Contexts.{AreTreesKept, plug};
+ghost use Rattle.md_cotree_edit.specs.Deletions.{PassView, CanPass, two_trees, MoveView, CanMove, AreAllMoved, PlaceView, CanReplace, IsKeptFrom, MergeView, CanMerge, IsMerged, SettleView, CanSettle, IsSettled, below_count, beside_count, CloseView, CanClose, open_tree, IsNodeClosed, PruneView, CanPrune, IsPruned, leaf_tree, HasFew};
 
 use md_cotree::Cotree;
 use md_graph::Steps;
@@ -85,7 +85,7 @@ fn close_up<L: Ledger>(
     requires unmarked { lists.old.marked ≡ [] }
     requires tree { (d : CloseView) × CanClose lists.old root above d }
     ensures tree { (d : CloseView) → CanClose lists.old root above d →
-        IsClosed lists.new result (open_tree above d) }
+        IsNodeClosed lists.new result (open_tree above d) }
     ensures links { AreLinks lists.new }
     ensures unmarked { lists.new.marked ≡ [] }
     ensures steps { (d : CloseView) → CanClose lists.old root above d →
@@ -108,9 +108,9 @@ fn close_up<L: Ledger>(
 // The child of a node, which leaves it. Condition: there is one alone.
 fn only_child<L: Ledger>(lists: &mut Lists, above: u32, steps: &mut Steps<L>) -> u32
     requires links { AreLinks lists.old }
-    requires tree { (d : CloseView) × AreKept lists.old (then (open_tree above d) no_more) }
-    ensures tree { (d : CloseView) → AreKept lists.old (then (open_tree above d) no_more) →
-        AreKept lists.new
+    requires tree { (d : CloseView) × AreTreesKept lists.old (then (open_tree above d) no_more) }
+    ensures tree { (d : CloseView) → AreTreesKept lists.old (then (open_tree above d) no_more) →
+        AreTreesKept lists.new
         (then (plug d.frames (inner above d.series no_more)) (then d.child no_more))
         × (place_of d.child ≡ result) }
     ensures links { AreLinks lists.new }
@@ -219,7 +219,7 @@ fn replace<L: Ledger>(
 fn move_all<L: Ledger>(lists: &mut Lists, from: u32, to: u32, steps: &mut Steps<L>)
     requires links { AreLinks lists.old }
     requires trees { (d : MoveView) × CanMove lists.old from to d }
-    ensures trees { (d : MoveView) → CanMove lists.old from to d → IsMoved lists.new from to d }
+    ensures trees { (d : MoveView) → CanMove lists.old from to d → AreAllMoved lists.new from to d }
     ensures links { AreLinks lists.new }
     ensures marked { lists.new.marked ≡ lists.old.marked }
     ensures steps { steps.new ≤ steps.old + 1 + 3 * length (children_at lists.old from) }
@@ -234,7 +234,7 @@ fn pass<L: Ledger>(lists: &mut Lists, from: u32, child: u32, to: u32, steps: &mu
     requires links { AreLinks lists.old }
     requires trees { (d : PassView) × CanPass lists.old from child to d }
     ensures trees { (d : PassView) → CanPass lists.old from child to d →
-        AreKept lists.new (two_trees d.around_from d.around_to d.series from d.left to
+        AreTreesKept lists.new (two_trees d.around_from d.around_to d.series from d.left to
         (then d.child d.there)) }
     ensures links { AreLinks lists.new }
     ensures marked { lists.new.marked ≡ lists.old.marked }

@@ -7,7 +7,7 @@ ghost use Rattle.md_cotree.specs.Cotrees.{place_at, Denotes};
 ghost use Rattle.md_cotree_edit.specs.Turns.{turned_graph};
 
 use crate::ends::{turn_both, turn_one};
-use crate::finding::{Place, place_of};
+use crate::finding::{Meeting, meeting_of};
 use md_cotree::Cotree;
 use md_graph::Steps;
 use std::sync::ledger::Ledger;
@@ -80,15 +80,15 @@ fn turn<L: Ledger>(
     let _spare = tree.lists.spare();
     let left = leaf_of(tree, u);
     let right = leaf_of(tree, v);
-    match place_of(&tree.lists, left, right, steps) {
-        Place::Both(place) => turn_both(&mut tree.lists, place, left, right, series, steps),
-        Place::First(place, child) => {
+    match meeting_of(&tree.lists, left, right, steps) {
+        Meeting::Both(place) => turn_both(&mut tree.lists, place, left, right, series, steps),
+        Meeting::First(place, child) => {
             turn_one(&mut tree.lists, place, left, child, right, series, steps)
         }
-        Place::Second(place, child) => {
+        Meeting::Second(place, child) => {
             turn_one(&mut tree.lists, place, right, child, left, series, steps)
         }
-        Place::Apart => return Err(NotCograph),
+        Meeting::Apart => return Err(NotCograph),
     }
     Ok(())
 }

@@ -4,7 +4,7 @@ ghost use Rattle.std.specs.FinSet as set;
 ghost use Rattle.std.specs.List.{All};
 ghost use Rattle.std.specs.List.Sorted.{IsStrictlyIncreasing};
 ghost use Rattle.md_graph.specs.declared.TheConstants.{NAMES};
-ghost use Rattle.md_graph.specs.PlainGraph.{PlainGraph, adjacent, empty_graph};
+ghost use Rattle.md_graph.specs.PlainGraph.{PlainGraph, adjacent, empty_graph, joined_graph};
 ghost use Rattle.md_graph.specs.Sets.{Has, Lacks};
 ghost use Rattle.md_modules.specs.InducedPaths.{HasInducedPath};
 ghost use Rattle.md_lists.specs.Words.{times};
@@ -12,9 +12,9 @@ ghost use Rattle.md_lists.specs.Links.{AreLinks, spare_count};
 ghost use Rattle.md_tree.specs.TreeGraph.{graph_of_tree};
 ghost use Rattle.md_cotree.specs.PlaceTrees.{PlaceTree, tip, no_more, then, place_of, shape};
 ghost use Rattle.md_cotree.specs.Cotrees.{IsKeptAs, Denotes};
-ghost use Rattle.md_cotree_edit.specs.Contexts.{AreKept};
+ghost use Rattle.md_cotree_edit.specs.Contexts.{AreTreesKept};
 ghost use Rattle.md_cotree_edit.specs.Turns.{IsBeside};
-ghost use Rattle.md_cotree_edit.specs.Marks.{ClimbView, CanSettle, CanTakeIn, CanGrow, CanTake, IsTaken, AreStill, hits_in, joined_graph};
+ghost use Rattle.md_cotree_edit.specs.Marks.{ClimbView, CanLinkIn, CanTakeIn, CanGrow, CanTake, IsLinkedIn, AreStill, hits_in};
 
 use crate::climbing::{climb, lowest};
 use crate::edges::NotCograph;
@@ -26,9 +26,9 @@ use md_graph::Steps;
 use md_lists::{Lists, PlaceKind};
 use std::sync::ledger::Ledger;
 
-/// Adds a vertex and an edge between it and each of the neighbours. Condition: it isn't there, and
-/// the neighbours are, in ascending order. Errors: the graph with the vertex is no cograph; the
-/// cotree is as it was then.
+/// Adds the vertex `x` and an edge between it and each of the neighbours. Conditions: `x` is a name
+/// and isn't there; the neighbours are there, in ascending order, and none stands twice. Errors:
+/// the graph with the vertex is no cograph; the cotree is as it was then.
 pub fn add_vertex<L: Ledger>(
     tree: &mut Cotree,
     x: u32,
@@ -159,7 +159,7 @@ fn take_in<L: Ledger>(
     requires top { root.old ≡ Some top }
     ensures taken { (d : ClimbView) → CanTakeIn lists.old root.old x d →
         (IsTrue none ↔ (hits_in d.marks d.tree ≡ 0)) →
-        IfSome result (λ leaf. IsTaken lists.new root.new d.marks x leaf d.tree) }
+        IfSome result (λ leaf. IsLinkedIn lists.new root.new d.marks x leaf d.tree) }
     ensures can_take { (d : ClimbView) → CanTakeIn lists.old root.old x d →
         (IsTrue none ↔ (hits_in d.marks d.tree ≡ 0)) →
         result ≡ None → CanTake d.marks d.tree → ⊥ }
@@ -187,15 +187,15 @@ fn settle<L: Ledger>(
 ) -> Option<u32>
     requires links { AreLinks lists.old }
     requires room { 3 < spare_count lists.old }
-    requires tree { (d : ClimbView) × CanSettle lists.old root.old x d }
-    ensures taken { (d : ClimbView) → CanSettle lists.old root.old x d →
-        IfSome result (λ leaf. IsTaken lists.new root.new d.marks x leaf d.tree) }
-    ensures can_take { (d : ClimbView) → CanSettle lists.old root.old x d →
+    requires tree { (d : ClimbView) × CanLinkIn lists.old root.old x d }
+    ensures taken { (d : ClimbView) → CanLinkIn lists.old root.old x d →
+        IfSome result (λ leaf. IsLinkedIn lists.new root.new d.marks x leaf d.tree) }
+    ensures can_take { (d : ClimbView) → CanLinkIn lists.old root.old x d →
         result ≡ None → CanTake d.marks d.tree → ⊥ }
     ensures still { result ≡ None → AreStill lists.old lists.new }
     ensures root { result ≡ None → root.new ≡ root.old }
     ensures unmarked { lists.new.marked ≡ [] }
-    ensures steps { (d : ClimbView) → CanSettle lists.old root.old x d →
+    ensures steps { (d : ClimbView) → CanLinkIn lists.old root.old x d →
         steps.new ≤ steps.old + 22 + 64 * hits_in d.marks d.tree }
     ensures links { AreLinks lists.new }
 {
@@ -219,9 +219,9 @@ fn over_root<L: Ledger>(
 ) -> u32
     requires links { AreLinks lists.old }
     requires room { 2 < spare_count lists.old }
-    requires tree { (t : PlaceTree) × AreKept lists.old (then t no_more) × (place_of t ≡ top) }
-    ensures tree { (t : PlaceTree) → AreKept lists.old (then t no_more) → place_of t ≡ top →
-        (s : PlaceTree) × AreKept lists.new (then s no_more) × (root.new ≡ Some (place_of s))
+    requires tree { (t : PlaceTree) × AreTreesKept lists.old (then t no_more) × (place_of t ≡ top) }
+    ensures tree { (t : PlaceTree) → AreTreesKept lists.old (then t no_more) → place_of t ≡ top →
+        (s : PlaceTree) × AreTreesKept lists.new (then s no_more) × (root.new ≡ Some (place_of s))
         × IsBeside series t (tip result x) s }
     ensures unmarked { lists.new.marked ≡ [] }
     ensures steps { steps.new ≤ steps.old + 6 + length lists.old.marked }

@@ -9,6 +9,8 @@ mod edges;
 mod ends;
 mod finding;
 #[cfg(test)]
+mod history_tests;
+#[cfg(test)]
 mod inserting_tests;
 mod insertion;
 mod lifting;

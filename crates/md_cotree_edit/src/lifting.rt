@@ -3,7 +3,7 @@ ghost use Rattle.std.specs.Prelude.{◌≡◌, ◌≢◌, ℕ, ◌+◌, ◌<◌,
 ghost use Rattle.md_lists.specs.Links.{kind_at, IsLive, AreLinks, spare_count};
 ghost use Rattle.md_cotree.specs.PlaceTrees.{PlaceTree, PlaceTrees, inner, then, place_of, place_kind, row_length};
 ghost use Rattle.md_cotree_edit.specs.Counts.{crossing};
-ghost use Rattle.md_cotree_edit.specs.Contexts.{AreKept};
+ghost use Rattle.md_cotree_edit.specs.Contexts.{AreTreesKept};
 ghost use Rattle.md_cotree_edit.specs.Turns.{AdoptView, CanAdopt, adopted, LiftView, CanLift, IsLifted, with_both, IsTidied, IsBeside};
 
 use md_graph::Steps;
@@ -32,7 +32,7 @@ pub(crate) fn adopt<L: Ledger>(
     requires links { AreLinks lists.old }
     requires trees { (d : AdoptView) × CanAdopt lists.old parent first second d }
     ensures trees { (d : AdoptView) → CanAdopt lists.old parent first second d →
-        AreKept lists.new (adopted parent d) }
+        AreTreesKept lists.new (adopted parent d) }
     ensures links { AreLinks lists.new }
     ensures kinds { lists.new.kinds ≡ lists.old.kinds }
     ensures marked { lists.new.marked ≡ lists.old.marked }
@@ -88,10 +88,10 @@ pub(crate) fn tidy<L: Ledger>(lists: &mut Lists, node: u32, steps: &mut Steps<L>
     requires links { AreLinks lists.old }
     requires unmarked { lists.old.marked ≡ [] }
     requires trees { (k : Bool) × (ys us : PlaceTrees) ×
-        AreKept lists.old (then (inner node k ys) us) × (0 < row_length ys) }
+        AreTreesKept lists.old (then (inner node k ys) us) × (0 < row_length ys) }
     ensures trees { (k : Bool) (ys us : PlaceTrees) →
-        AreKept lists.old (then (inner node k ys) us) → 0 < row_length ys →
-        (y : PlaceTree) × AreKept lists.new (then y us) × (place_of y ≡ result)
+        AreTreesKept lists.old (then (inner node k ys) us) → 0 < row_length ys →
+        (y : PlaceTree) × AreTreesKept lists.new (then y us) × (place_of y ≡ result)
         × IsTidied ys k node y }
     ensures links { AreLinks lists.new }
     ensures unmarked { lists.new.marked ≡ [] }
@@ -122,11 +122,11 @@ pub(crate) fn join<L: Ledger>(
 ) -> u32
     requires links { AreLinks lists.old }
     requires room { 1 < spare_count lists.old }
-    requires trees { (y a : PlaceTree) × (us : PlaceTrees) × AreKept lists.old (then y (then a us))
-        × (place_of y ≡ first) × (place_of a ≡ second) }
-    ensures trees { (y a : PlaceTree) (us : PlaceTrees) → AreKept lists.old (then y (then a us)) →
-        place_of y ≡ first → place_of a ≡ second →
-        (r : PlaceTree) × AreKept lists.new (then r us) × (place_of r ≡ result)
+    requires trees { (y a : PlaceTree) × (us : PlaceTrees) ×
+        AreTreesKept lists.old (then y (then a us)) × (place_of y ≡ first) × (place_of a ≡ second) }
+    ensures trees { (y a : PlaceTree) (us : PlaceTrees) →
+        AreTreesKept lists.old (then y (then a us)) → place_of y ≡ first → place_of a ≡ second →
+        (r : PlaceTree) × AreTreesKept lists.new (then r us) × (place_of r ≡ result)
         × IsBeside series y a r }
     ensures links { AreLinks lists.new }
     ensures marked { lists.new.marked ≡ lists.old.marked }

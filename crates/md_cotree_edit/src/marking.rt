@@ -3,7 +3,7 @@ ghost use Rattle.std.specs.Prelude.{◌≡◌, ℕ, ◌+◌, ◌*◌, ◌≤◌,
 ghost use Rattle.md_lists.specs.Words.{times};
 ghost use Rattle.md_lists.specs.Links.{AreLinks};
 ghost use Rattle.md_cotree.specs.PlaceTrees.{PlaceTree, PlaceTrees};
-ghost use Rattle.md_cotree_edit.specs.Contexts.{AreKept};
+ghost use Rattle.md_cotree_edit.specs.Contexts.{AreTreesKept};
 ghost use Rattle.md_cotree_edit.specs.Marks.{MarkView, CanMark, CanMarkAll, AreTold, AreStill, full_nodes, more, none_walked};
 
 use md_graph::Steps;

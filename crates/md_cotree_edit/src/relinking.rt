@@ -2,8 +2,8 @@
 ghost use Rattle.std.specs.Prelude.{◌≡◌, ◌≢◌, ◌+◌, ◌*◌, ◌<◌, ◌≤◌, [], length, Option, Some};
 ghost use Rattle.md_lists.specs.Links.{IsLive, AreLinks, spare_count};
 ghost use Rattle.md_cotree.specs.PlaceTrees.{Alternates};
-ghost use Rattle.md_cotree_edit.specs.Marks.{LowestView, whole, IsLowest, CanRelink, IsRelinked};
-ghost use Rattle.md_cotree_edit.specs.Relinks.{moved_if, CanPart, IsParted, PutView, CanPut, IsPut, PairView, CanPair, IsPaired};
+ghost use Rattle.md_cotree_edit.specs.Marks.{LowestView, whole, IsLowest, CanRelink, IsLinkedIn};
+ghost use Rattle.md_cotree_edit.specs.Relinks.{moved_if, CanPart, IsParted, PutView, CanPut, IsTreePut, PairView, CanPair, IsPaired};
 
 use crate::lifting::{is_of, join, node_kind, tidy};
 use crate::marking::{FULL, clear};
@@ -26,7 +26,7 @@ pub(crate) fn relink<L: Ledger>(
     requires room { 3 < spare_count lists.old }
     requires tree { (d : LowestView) × CanRelink lists.old root.old x d × (place ≡ d.place) }
     ensures tree { (d : LowestView) → CanRelink lists.old root.old x d → place ≡ d.place →
-        IsRelinked lists.new root.new x result d }
+        IsLinkedIn lists.new root.new d.marks x result (whole d) }
     ensures unmarked { lists.new.marked ≡ [] }
     ensures steps { steps.new ≤ steps.old + 20 + 6 * length lists.old.marked }
     ensures links { AreLinks lists.new }
@@ -117,7 +117,7 @@ fn put<L: Ledger>(
     requires links { AreLinks lists.old }
     requires trees { (d : PutView) × CanPut lists.old root.old place node d }
     ensures trees { (d : PutView) → CanPut lists.old root.old place node d →
-        IsPut lists.new root.new d }
+        IsTreePut lists.new root.new d }
     ensures marked { lists.new.marked ≡ lists.old.marked }
     ensures kinds { lists.new.kinds ≡ lists.old.kinds }
     ensures steps { steps.new ≤ steps.old + 3 }

@@ -83,6 +83,10 @@ star v others = set.from_list (map (edge v) others)
 abbrev pub with_edges : PlainGraph → ℕ → NameSet → PlainGraph
 with_edges g v others = record { vertices = g.vertices; edges = set.union g.edges (star v (ascending others)) }
 
+-- g with the vertex v, and edges between it and the vertices of a list
+abbrev pub joined_graph : PlainGraph → ℕ → List ℕ → PlainGraph
+joined_graph g v others = with_edges (with_vertex g v) v (set.from_list others)
+
 -- the complement of g, for vertices below NAMES: the same vertices, and an edge between two of them
 -- where g has none
 abbrev pub complement : PlainGraph → PlainGraph

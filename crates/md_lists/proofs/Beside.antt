@@ -14,7 +14,8 @@ use Rattle.md_lists.specs.Kept.{store_of, links_kept, IsKept}
 use Rattle.md_lists.proofs.ListLaws.{last_low}
 use Rattle.md_lists.proofs.LinkLaws.{some_within, owner_within, parent_child, child_within, few_children}
 use Rattle.md_lists.proofs.Showing.{HasItems, opened, sizes, place_items, read_as, span_read}
-use Rattle.md_lists.proofs.Changing.{before_low, after_low, attaches, detaches, replaces}
+use Rattle.md_lists.proofs.ChildDetached.{before_low, after_low, detaches, replaces}
+use Rattle.md_lists.proofs.ChildAttached.{attaches}
 
 module _ (a : Inside) (l : Links) (kept : IsKept a) (kept_is : links_kept a ≡ l) (c : ℕ) (some : IsSome (parent_at l c)) where
   abbrev s : Shows (store_of a) l

@@ -4,7 +4,12 @@ pub mod Following
 pub mod LinkLaws
 pub mod Splicing
 pub mod Showing
-pub mod Changing
+pub mod ListChanges
+pub mod ChildAttached
+pub mod ChildDetached
+pub mod KindChanges
+pub mod MarkChanges
+pub mod AllFree
 pub mod Beside
 pub mod Marks
 pub mod Loose

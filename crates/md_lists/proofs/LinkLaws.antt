@@ -136,6 +136,12 @@ module _ (l : Links) (ok : AreLinks l) where
     pub attached_parent : (x : ℕ) → parent_at (attached l q c) x ≡ cond (x == c) (Some q) (parent_at l x)
     attached_parent x = get_or-set l.parents c x (Some q) None (let w = live_within c child in let e = ok.parents_len in omega arith)
 
+    pub attached_child : parent_at (attached l q c) c ≡ Some q
+    attached_child = attached_parent c ∙ rw (eq-eqb c c refl) refl
+
+    pub attached_other : (x : ℕ) → x ≢ c → parent_at (attached l q c) x ≡ parent_at l x
+    attached_other x other = attached_parent x ∙ rw (ne_eqb x c other) refl
+
     pub attached_children : (p : ℕ) → children_at (attached l q c) p ≡ cond (p == q) (children_at l q ++ c ∷ []) (children_at l p)
     attached_children p = get_or-set l.children q p (children_at l q ++ c ∷ []) [] (let w = live_within q parent in let e = ok.children_len in omega arith)
 

@@ -4,7 +4,7 @@ use Rattle.std.proofs.lemmas.Bool.{eq-eqb, ne_eqb}
 use Rattle.md_lists.specs.declared.kinds.PlaceKind.{PlaceKind}
 use Rattle.md_lists.specs.declared.TheConstants.{PLACES}
 use Rattle.md_lists.specs.Links.{Links, kind_at, parent_at, IsLive, IsBare, AreLinks, with_kind, attached, replaced}
-use Rattle.md_lists.proofs.LinkLaws.{kind-with_kind, live_not_free, attached_parent}
+use Rattle.md_lists.proofs.LinkLaws.{kind-with_kind, live_not_free, attached_child, attached_other}
 
 -- none of the places is x
 abbrev pub Differ : ℕ → List ℕ → Type 0
@@ -46,10 +46,10 @@ module _ (l m : Links) (ok : AreLinks l) (q c : ℕ) (parent : IsLive l q) (chil
   attached_live x live = subst (λ v. IsLive v x) (sym made) live
 
   attached_same : parent_at m c ≡ Some q
-  attached_same = ap (λ v. parent_at v c) made ∙ attached_parent l ok q c parent child loose c ∙ rw (eq-eqb c c refl) refl
+  attached_same = ap (λ v. parent_at v c) made ∙ attached_child l ok q c parent child loose
 
   attached_else : (x : ℕ) → x ≢ c → parent_at m x ≡ parent_at l x
-  attached_else x other = ap (λ v. parent_at v x) made ∙ attached_parent l ok q c parent child loose x ∙ rw (ne_eqb x c other) refl
+  attached_else x other = ap (λ v. parent_at v x) made ∙ attached_other l ok q c parent child loose x other
 
 -- four places that were made one after another
 pub four_loose : (l0 l1 l2 l3 l4 : Links) (p a b c : ℕ) (k0 k1 k2 k3 : PlaceKind) → AreLinks l0 → AreLinks l1 → AreLinks l2 → AreLinks l3 → (p < PLACES) × (kind_at l0 p ≡ None) × (l1 ≡ with_kind l0 p (Some k0)) × IsBare l1 p → (a < PLACES) × (kind_at l1 a ≡ None) × (l2 ≡ with_kind l1 a (Some k1)) × IsBare l2 a → (b < PLACES) × (kind_at l2 b ≡ None) × (l3 ≡ with_kind l2 b (Some k2)) × IsBare l3 b → (c < PLACES) × (kind_at l3 c ≡ None) × (l4 ≡ with_kind l3 c (Some k3)) × IsBare l4 c → AllLoose l4 (c ∷ b ∷ a ∷ p ∷ [])

@@ -13,7 +13,7 @@ use Rattle.md_lists.specs.Kept.{store_of, links_kept, IsKept}
 use Rattle.md_lists.proofs.ListLaws.{first_in, last_low}
 use Rattle.md_lists.proofs.LinkLaws.{mark_within, few_marked}
 use Rattle.md_lists.proofs.Showing.{HasItems, opened, place_items, tally_read, note_read}
-use Rattle.md_lists.proofs.Changing.{unmarks, raises, writes_note}
+use Rattle.md_lists.proofs.MarkChanges.{unmarks, raises, writes_note}
 
 -- a list with a first item
 starts_with : (xs : List ℕ) (p : ℕ) → first_or xs None ≡ Some p → (rest : List ℕ) × (xs ≡ p ∷ rest)

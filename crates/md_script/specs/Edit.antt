@@ -6,7 +6,7 @@ use Rattle.std.specs.Option.{option_or}
 use Rattle.std.specs.List.{All}
 use Rattle.std.specs.FinSet as set
 use Rattle.md_graph.specs.declared.TheConstants.{NAMES}
-use Rattle.md_graph.specs.PlainGraph.{PlainGraph, adjacent, with_vertex, with_edge, with_edges, without_vertex, without_edge}
+use Rattle.md_graph.specs.PlainGraph.{PlainGraph, adjacent, joined_graph, with_edge, without_vertex, without_edge}
 use Rattle.md_script.specs.declared.edit.Edit.{Edit}
 use Rattle.md_script.specs.declared.edit.Edit.TheVariants.{AddEdge, DelEdge, AddVertex, DelVertex}
 use Rattle.md_script.specs.declared.edit.EditReason.{EditReason}
@@ -46,5 +46,5 @@ reason_of g (DelVertex x) = then_some (not (set.contains g.vertices x)) (NoVerte
 abbrev pub after : PlainGraph → Edit → PlainGraph
 after g (AddEdge u v) = with_edge g u v
 after g (DelEdge u v) = without_edge g u v
-after g (AddVertex x neighbours) = with_edges (with_vertex g x) x (set.from_list neighbours)
+after g (AddVertex x neighbours) = joined_graph g x neighbours
 after g (DelVertex x) = without_vertex g x

@@ -1,3 +1,2 @@
 mod MadePaths
 mod Changed
-mod Counted

@@ -4,14 +4,14 @@ ghost use Rattle.std.specs.FinSet as set;
 ghost use Rattle.md_graph.specs.PlainGraph.{PlainGraph, adjacent};
 ghost use Rattle.md_modules.specs.InducedPaths.{HasInducedPath};
 ghost use Rattle.md_tree.specs.StrongTrees.{IsTree};
-ghost use Rattle.md_tree.specs.Trees.{PlainTree};
+ghost use Rattle.md_tree.specs.Trees.{PlainTree, nodes_in};
 ghost use Rattle.md_tree.specs.Plain.{plain_option};
 ghost use Rattle.md_cotree.specs.Cotrees.{Denotes};
 ghost use Rattle.md_cotree.specs.Laws.{HasNoPrime};
 ghost use Rattle.md_script.specs.Edit.{HasNames, reason_of, after};
 ghost use Rattle.md_report.specs.Cographs.{IsP4Of, IsCograph};
 ghost use Rattle.md_session.specs.Answers.{IsOpened, IsAnswered};
-ghost use Rattle.md_session.specs.Costs.{edit_cost, nodes_in};
+ghost use Rattle.md_session.specs.Costs.{edit_cost};
 
 use crate::first_path::any_p4;
 use md_cotree::{Cotree, from_tree};

@@ -7,14 +7,13 @@ use Rattle.md_text.specs.Numbers.{decimal}
 use Rattle.md_graph.specs.PlainGraph.{PlainGraph, adjacent, empty_graph}
 use Rattle.md_graph.specs.Sets.{NameSet}
 use Rattle.md_graph.specs.NameSet.{ascending, range}
-use Rattle.md_tree.specs.Trees.{PlainTree}
+use Rattle.md_tree.specs.Trees.{PlainTree, nodes_in}
 use Rattle.md_tree.specs.StrongTrees.{IsTree}
 use Rattle.md_script.specs.declared.edit.Edit.{Edit}
 use Rattle.md_script.specs.declared.edit.Edit.TheVariants.{DelEdge, AddVertex, DelVertex}
 use Rattle.md_report.specs.Lines.{PlainLine, head, tree, applied, applied_quiet, refused, refused_p4, not_cograph, oriented, forced, orders, forced_in, forced_in_complement, end}
 use Rattle.md_report.specs.Sessions.{last_state}
 use Rattle.md_report.specs.Cographs.{QuietRun}
-use Rattle.md_session.specs.Costs.{nodes_in}
 use Rattle.md_top.specs.declared.big.Numbers.{Numbers}
 
 -- the edits at each name below a number, one name after the other

@@ -1,6 +1,6 @@
 -- Trees over names: their nodes, leaf sets and positions.
 -- Source: any textbook of graph theory.
-use Rattle.std.specs.Prelude.{ℕ, zero, suc, List, [], ◌∷◌, ◌++◌, ⊤}
+use Rattle.std.specs.Prelude.{ℕ, zero, suc, List, [], ◌∷◌, ◌++◌, length, Option, Some, None, ⊤}
 use Rattle.std.specs.FinSet.{empty, union}
 use Rattle.md_graph.specs.Sets.{NameSet, only_name}
 use Rattle.md_tree.specs.declared.Kind.{Kind}
@@ -36,6 +36,11 @@ abbrev mutual
   pub node_sets_below : PlainTrees → List NameSet
   node_sets_below no_tree = []
   node_sets_below (one_more t ts) = node_sets t ++ node_sets_below ts
+
+-- the number of nodes of a tree, leaves among them; 0 where there is no tree
+abbrev pub nodes_in : Option PlainTree → ℕ
+nodes_in None = 0
+nodes_in (Some t) = length (node_sets t)
 
 abbrev mutual
   -- P holds of the kind, the children and the pairs of each node that is no leaf

@@ -5,23 +5,23 @@ use Rattle.md_cotree.proofs.adjacency.meet_at_series.Goals as goal
 pub loop-step-init : goal.loop-step-init
 loop-step-init g c = λ n b m. meeting_begin _ _ _ _ _ m
 
-pub above-x-requires-clause-parent : goal.above-x-requires-clause-parent
-above-x-requires-clause-parent g c = let w = c.requires.ways in meeting_left _ _ _ _ _ _ (c.loop-step.invariant w.0 w.1 w.2)
+pub parent_of-x-requires-clause-parent : goal.parent_of-x-requires-clause-parent
+parent_of-x-requires-clause-parent g c = let w = c.requires.ways in meeting_left _ _ _ _ _ _ (c.loop-step.invariant w.0 w.1 w.2)
 
-pub above-y-requires-clause-parent : goal.above-y-requires-clause-parent
-above-y-requires-clause-parent g c = let w = c.requires.ways in meeting_right _ _ _ _ _ _ (c.loop-step.invariant w.0 w.1 w.2)
+pub parent_of-y-requires-clause-parent : goal.parent_of-y-requires-clause-parent
+parent_of-y-requires-clause-parent g c = let w = c.requires.ways in meeting_right _ _ _ _ _ _ (c.loop-step.invariant w.0 w.1 w.2)
 
 pub is_series-requires : goal.is_series-requires
 is_series-requires g c =
     let w = c.requires.ways in
-    (w.1, meeting_top _ _ _ _ _ c.above-x.ensures c.above-y.ensures _ _ w.1 (c.loop-step.invariant w.0 w.1 w.2) c.if-x-y.true)
+    (w.1, meeting_top _ _ _ _ _ c.parent_of-x.ensures.parent c.parent_of-y.ensures.parent _ _ w.1 (c.loop-step.invariant w.0 w.1 w.2) c.if-x-y.true)
 
 pub returns-then-x-y : goal.returns-then-x-y
 returns-then-x-y g c =
-    λ n b m. c.is_series.ensures b (meeting_top _ _ _ _ _ c.above-x.ensures c.above-y.ensures _ _ b (c.loop-step.invariant n b m) c.if-x-y.true)
+    λ n b m. c.is_series.ensures b (meeting_top _ _ _ _ _ c.parent_of-x.ensures.parent c.parent_of-y.ensures.parent _ _ b (c.loop-step.invariant n b m) c.if-x-y.true)
 
 pub loop-step-preserved : goal.loop-step-preserved
-loop-step-preserved g c = λ n b m. meeting_more _ _ _ _ _ c.above-x.ensures c.above-y.ensures _ _ b (c.loop-step.invariant n b m) c.if-x-y.false
+loop-step-preserved g c = λ n b m. meeting_more _ _ _ _ _ c.parent_of-x.ensures.parent c.parent_of-y.ensures.parent _ _ b (c.loop-step.invariant n b m) c.if-x-y.false
 
 pub returns : goal.returns
 returns g c =

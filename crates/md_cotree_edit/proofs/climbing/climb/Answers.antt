@@ -4,9 +4,9 @@ use Rattle.md_lists.specs.Links.{Links}
 use Rattle.md_lists.proofs.ListLaws.{times-append}
 use Rattle.md_lists.proofs.LinkLaws.{mark_once, few_marked as few_places}
 use Rattle.md_cotree_edit.specs.Marks.{hits_in, walked_to}
-use Rattle.md_cotree_edit.proofs.Counting.{few_marked}
-use Rattle.md_cotree_edit.proofs.Passing.{IsPassing, pass_begin, pass_marked, pass_seen, pass_more, pass_end, room_left, room_less, length_more}
-use Rattle.md_cotree_edit.proofs.Walking.{climb_begin, climb_next, climb_at, climb_marked, climb_told, climb_takes}
+use Rattle.md_cotree_edit.proofs.Marks.FewMarked.{few_marked}
+use Rattle.md_cotree_edit.proofs.Climbs.WalkedList.{IsPassing, pass_begin, pass_marked, pass_seen, pass_more, pass_end, room_left, room_less, length_more}
+use Rattle.md_cotree_edit.proofs.Climbs.WalkedPlace.{climb_begin, climb_next, climb_at, climb_marked, climb_told, climb_takes}
 use Rattle.md_cotree_edit.proofs.climbing.climb.Goals as goal
 
 pub loop-next-init : goal.loop-next-init

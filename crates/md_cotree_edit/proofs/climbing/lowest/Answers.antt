@@ -2,8 +2,8 @@ use Rattle.std.proofs.Common.{◌<◌, ◌∷◌, [], ◌++◌, sym, ap, subst, 
 use Rattle.std.proofs.lemmas.Bool.{cases_eq}
 use Rattle.md_lists.specs.Words.{times}
 use Rattle.md_lists.proofs.LinkLaws.{mark_once, few_marked}
-use Rattle.md_cotree_edit.proofs.Deepest.{are_noted}
-use Rattle.md_cotree_edit.proofs.Passing.{IsPassing, pass_marked, pass_more, pass_end, room_left, room_less, marked_live, noted_more, length_more}
+use Rattle.md_cotree_edit.proofs.Climbs.LowestHasNoNote.{are_noted}
+use Rattle.md_cotree_edit.proofs.Climbs.WalkedList.{IsPassing, pass_marked, pass_more, pass_end, room_left, room_less, marked_live, noted_more, length_more}
 use Rattle.md_cotree_edit.proofs.climbing.lowest.Goals as goal
 
 pub note-requires : goal.note-requires

@@ -1,7 +1,7 @@
 use Rattle.std.proofs.Common.{sym, ◌∙◌, subst, arith}
 use Rattle.md_cotree.proofs.Ways.{parent_live}
-use Rattle.md_cotree_edit.specs.Marks.{AreWalked, walked_on}
-use Rattle.md_cotree_edit.proofs.Walking.{full_turn, root_turn, parent_kind, noted_turn, breach_noted, breach_fails}
+use Rattle.md_cotree_edit.specs.Marks.{AreWalkedOver, walked_on}
+use Rattle.md_cotree_edit.proofs.Climbs.WalkedPlace.{full_turn, root_turn, parent_kind, noted_turn, breach_noted, breach_fails}
 use Rattle.md_cotree_edit.proofs.climbing.note_parent.Goals as goal
 
 pub returns-then-note-eq-FULL-clause-walked : goal.returns-then-note-eq-FULL-clause-walked
@@ -37,6 +37,6 @@ set_note-requires-clause-live g c = parent_live c.args.lists.now c.requires.link
 
 pub returns-clause-walked : goal.returns-clause-walked
 returns-clause-walked g c = λ d can yes.
-    subst (λ z. AreWalked z (walked_on d c.args.place)) (sym c.set_note.ensures.noted)
+    subst (λ z. AreWalkedOver z (walked_on d c.args.place)) (sym c.set_note.ensures.noted)
     (noted_turn c.args.lists.now c.requires.links d can.walked c.args.place c.in-Some.above (λ x. c.if-note-eq-FULL.false (c.note.ensures.note ∙ x)) (sym c.in-Some.ensures.parent)
     (λ x. c.if-note-eq-PATH.false (c.note-2.ensures.note ∙ x)) (λ k kind. (c.passes.ensures.passes k kind).0 c.if-not-passes.false))

@@ -1,7 +1,7 @@
 use Rattle.std.proofs.Common.{◌∙◌, ap, arith}
 use Rattle.md_lists.specs.Links.{Links}
-use Rattle.md_cotree_edit.proofs.Replacing.{replace_live, root_bare, off_live, off_bare, gone_kept, gone_unmarked}
-use Rattle.md_cotree_edit.proofs.Closing.{close_view, close_can, closed_root, settle_view, close_beside, settle_can, closed_below}
+use Rattle.md_cotree_edit.proofs.Deletions.ReplacedNode.{replace_live, root_bare, off_live, off_bare, gone_kept, gone_unmarked}
+use Rattle.md_cotree_edit.proofs.Deletions.ClosedNode.{close_view, close_can, closed_root, settle_view, close_beside, settle_can, closed_below}
 use Rattle.md_cotree_edit.proofs.deletion.close_up.Goals as goal
 
 pub parent-requires : goal.parent-requires

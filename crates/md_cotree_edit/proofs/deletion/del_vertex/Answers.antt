@@ -1,7 +1,7 @@
 use Rattle.std.proofs.Common.{refl}
 use Rattle.std.specs.FinSet as set
 use Rattle.md_graph.specs.PlainGraph.{neighbours}
-use Rattle.md_cotree_edit.proofs.Deleting.{delete_there, delete_some, delete_view, delete_can, delete_few, deleted}
+use Rattle.md_cotree_edit.proofs.Deletions.VertexDeletion.{delete_there, delete_some, delete_view, delete_can, delete_few, deleted}
 use Rattle.md_cotree_edit.proofs.deletion.del_vertex.Goals as goal
 
 pub take_place-leaf-requires : goal.take_place-leaf-requires

@@ -1,5 +1,5 @@
 use Rattle.std.proofs.Common.{◌∙◌, arith}
-use Rattle.md_cotree_edit.proofs.Merging.{low_live, high_live, low_count, high_count, up_view, up_can, up_live, up_bare, up_merged, down_view, down_can, down_place, down_replace, down_merged}
+use Rattle.md_cotree_edit.proofs.Deletions.MergedNodes.{low_live, high_live, low_count, high_count, up_view, up_can, up_live, up_bare, up_merged, down_view, down_can, down_place, down_replace, down_merged}
 use Rattle.md_cotree_edit.proofs.deletion.merge.Goals as goal
 
 pub child_count-requires : goal.child_count-requires

@@ -1,5 +1,5 @@
 use Rattle.std.proofs.Common.{◌∙◌, arith}
-use Rattle.md_cotree_edit.proofs.Moving.{no_some, move_live, move_end, move_view, move_can, move_next, move_less}
+use Rattle.md_cotree_edit.proofs.Deletions.MovedChildren.{no_some, move_live, move_end, move_view, move_can, move_next, move_less}
 use Rattle.md_cotree_edit.proofs.deletion.move_all.Goals as goal
 
 pub first_child-requires : goal.first_child-requires

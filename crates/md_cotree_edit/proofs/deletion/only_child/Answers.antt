@@ -1,5 +1,5 @@
 use Rattle.std.proofs.Common.{is_some, ap}
-use Rattle.md_cotree_edit.proofs.Closing.{only_live, only_some, only_is, only_parent, only_kept, only_marks}
+use Rattle.md_cotree_edit.proofs.Deletions.ClosedNode.{only_live, only_some, only_is, only_parent, only_kept, only_marks}
 use Rattle.md_cotree_edit.proofs.deletion.only_child.Goals as goal
 
 pub first_child-requires : goal.first_child-requires

@@ -1,6 +1,6 @@
 use Rattle.std.proofs.Common.{is_some, ◌∙◌, ap}
 use Rattle.md_lists.specs.Links.{Links}
-use Rattle.md_cotree_edit.proofs.Moving.{pass_parent, pass_ready, pass_marks, pass_done}
+use Rattle.md_cotree_edit.proofs.Deletions.MovedChildren.{pass_parent, pass_ready, pass_marks, pass_done}
 use Rattle.md_cotree_edit.proofs.deletion.pass.Goals as goal
 
 pub detach-requires : goal.detach-requires

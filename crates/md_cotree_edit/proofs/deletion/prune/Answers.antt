@@ -1,6 +1,6 @@
 use Rattle.std.proofs.Common.{arith}
-use Rattle.md_cotree_edit.proofs.Moving.{no_some}
-use Rattle.md_cotree_edit.proofs.Pruning.{prune_live, lone_bare, lone_done, off_leaf_live, off_leaf_bare, left_unmarked, left_live, left_many, left_view, left_can, left_closed, left_few}
+use Rattle.md_cotree_edit.proofs.Deletions.MovedChildren.{no_some}
+use Rattle.md_cotree_edit.proofs.Deletions.PrunedLeaf.{prune_live, lone_bare, lone_done, off_leaf_live, off_leaf_bare, left_unmarked, left_live, left_many, left_view, left_can, left_closed, left_few}
 use Rattle.md_cotree_edit.proofs.deletion.prune.Goals as goal
 
 pub parent-requires : goal.parent-requires

@@ -1,6 +1,6 @@
 use Rattle.md_lists.specs.Links.{Links}
 use Rattle.std.proofs.Common.{◌∙◌, ap}
-use Rattle.md_cotree_edit.proofs.Replacing.{replace_live, root_bare, root_done, off_live, off_bare, gone_unmarked, replace_ready, replace_done}
+use Rattle.md_cotree_edit.proofs.Deletions.ReplacedNode.{replace_live, root_bare, root_done, off_live, off_bare, gone_unmarked, replace_ready, replace_done}
 use Rattle.md_cotree_edit.proofs.deletion.replace.Goals as goal
 
 pub parent-requires : goal.parent-requires

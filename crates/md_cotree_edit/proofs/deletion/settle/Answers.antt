@@ -1,6 +1,6 @@
 use Rattle.std.proofs.Common.{◌∙◌, ap, arith}
 use Rattle.md_lists.specs.Links.{Links}
-use Rattle.md_cotree_edit.proofs.Merging.{other_leaf, settle_live, settle_ready, settled_leaf, merge_view, merge_can, merge_below, settled_node}
+use Rattle.md_cotree_edit.proofs.Deletions.MergedNodes.{other_leaf, settle_live, settle_ready, settled_leaf, merge_view, merge_can, merge_below, settled_node}
 use Rattle.md_cotree_edit.proofs.deletion.settle.Goals as goal
 
 pub kind-requires : goal.kind-requires

@@ -1,5 +1,5 @@
 use Rattle.std.proofs.Common.{◌<◌, is_some, sym, ◌∙◌, ap, subst}
-use Rattle.md_cotree_edit.proofs.Ended.{both_first, both_second, both_spare, both_marks, both_lift, both_can}
+use Rattle.md_cotree_edit.proofs.EdgeTurns.LiftedLeaves.{both_first, both_second, both_spare, both_marks, both_lift, both_can}
 use Rattle.md_cotree_edit.proofs.ends.turn_both.Goals as goal
 
 pub detach-requires : goal.detach-requires

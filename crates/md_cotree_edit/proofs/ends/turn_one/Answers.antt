@@ -1,6 +1,6 @@
 use Rattle.std.proofs.Common.{not, is_some, ◌∙◌, ap, arith, refl}
 use Rattle.md_cotree.specs.PlaceTrees.{tip}
-use Rattle.md_cotree_edit.proofs.Ended.{one_first, one_second, one_third, one_spare, one_marks, some_beside, after_tidy, after_join, can_tidy, can_join, one_lift, one_can, one_lifted}
+use Rattle.md_cotree_edit.proofs.EdgeTurns.LiftedLeaves.{one_first, one_second, one_third, one_spare, one_marks, some_beside, after_tidy, after_join, can_tidy, can_join, one_lift, one_can, one_lifted}
 use Rattle.md_cotree_edit.proofs.ends.turn_one.Goals as goal
 
 pub detach-requires : goal.detach-requires

@@ -1,5 +1,5 @@
 use Rattle.std.proofs.Common.{sym, ◌∙◌}
-use Rattle.md_cotree_edit.proofs.Settled.{still_sound}
+use Rattle.md_cotree_edit.proofs.Trees.EditedCotree.{still_sound}
 use Rattle.md_cotree_edit.proofs.inserting_tests.inserted.Goals as goal
 
 pub add_vertex-requires : goal.add_vertex-requires

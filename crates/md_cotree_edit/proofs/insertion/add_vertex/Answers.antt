@@ -1,6 +1,6 @@
 use Rattle.std.proofs.lemmas.Bool.{false≢true}
 use Rattle.std.proofs.lemmas.Result.{on_ok_weaker}
-use Rattle.md_cotree_edit.proofs.NewVertex.{err_of_not_ok, first_done, old_tree, can_grow, grow_done, refused_path, done_no_path, all_leaves}
+use Rattle.md_cotree_edit.proofs.Insertions.NewVertex.{err_of_not_ok, first_done, old_tree, can_grow, grow_done, refused_path, done_no_path, all_leaves}
 use Rattle.md_cotree_edit.proofs.insertion.add_vertex.Goals as goal
 
 pub returns-in-None-clause-done : goal.returns-in-None-clause-done

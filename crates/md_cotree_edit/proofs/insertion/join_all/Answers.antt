@@ -1,5 +1,5 @@
 use Rattle.std.proofs.Common.{◌≡◌, length, refl, ap, arith}
-use Rattle.md_cotree_edit.proofs.NewVertex.{kept_lists, grow_room, grow_fits, grow_top, grow_joined, grown}
+use Rattle.md_cotree_edit.proofs.Insertions.NewVertex.{kept_lists, grow_room, grow_fits, grow_top, grow_joined, grown}
 use Rattle.md_cotree_edit.proofs.insertion.join_all.Goals as goal
 
 pub over_root-leaf-requires-clause-room : goal.over_root-leaf-requires-clause-room

@@ -1,9 +1,9 @@
 use Rattle.std.proofs.Common.{refl, subst, arith}
 use Rattle.std.specs.Prelude.{IfSome}
 use Rattle.md_lists.specs.Words.{times}
-use Rattle.md_cotree_edit.specs.Marks.{IsTaken}
-use Rattle.md_cotree_edit.proofs.Still.{still_trans}
-use Rattle.md_cotree_edit.proofs.NewVertex.{decided_none, grow_marks, grow_view, grow_take, grow_fits, grow_none, grow_bound, grow_same, marked_room, grown}
+use Rattle.md_cotree_edit.specs.Marks.{IsLinkedIn}
+use Rattle.md_cotree_edit.proofs.Marks.OnlyMarksDiffer.{still_trans}
+use Rattle.md_cotree_edit.proofs.Insertions.NewVertex.{decided_none, grow_marks, grow_view, grow_take, grow_fits, grow_none, grow_bound, grow_same, marked_room, grown}
 use Rattle.md_cotree_edit.proofs.insertion.join_listed.Goals as goal
 
 pub mark_all-requires-clause-tree : goal.mark_all-requires-clause-tree
@@ -64,7 +64,7 @@ returns-clause-done g c = λ t can.
     c.take_in.ensures.taken (grow_view c.args.tree.now c.args.x c.args.neighbours.now t can links c.mark_all.new.lists c.mark_all.ensures.still told)
     (grow_take c.args.tree.now c.args.x c.args.neighbours.now t can links c.mark_all.new.lists c.mark_all.ensures.still told c.requires.not_all)
     (grow_none c.args.tree.now c.args.x c.args.neighbours.now t can links c.is_empty-none.result (decided_none c.is_empty-none.result c.args.neighbours.now c.is_empty-none.ensures)) in
-    let one = subst (λ o. IfSome o (λ leaf. IsTaken c.take_in.new.lists c.take_in.new.root (λ v. times v c.args.neighbours.now) c.args.x leaf t)) c.in-Some.is taken in
+    let one = subst (λ o. IfSome o (λ leaf. IsLinkedIn c.take_in.new.lists c.take_in.new.root (λ v. times v c.args.neighbours.now) c.args.x leaf t)) c.in-Some.is taken in
     grown c.args.tree.now c.args.x c.args.neighbours.now t can links _ c.in-Some.leaf refl refl c.take_in.ensures.links c.take_in.ensures.unmarked one
 
 pub returns-clause-bound : goal.returns-clause-bound

@@ -1,6 +1,6 @@
 use Rattle.std.proofs.Common.{Some, refl, sym, ap}
 use Rattle.md_cotree.specs.PlaceTrees.{tip, no_more}
-use Rattle.md_cotree_edit.proofs.NewLeaf.{leaf_beside}
+use Rattle.md_cotree_edit.proofs.Insertions.NewLeaf.{leaf_beside}
 use Rattle.md_cotree_edit.proofs.insertion.over_root.Goals as goal
 
 pub join-node-requires-clause-trees : goal.join-node-requires-clause-trees

@@ -1,5 +1,5 @@
 use Rattle.std.proofs.Common.{refl, arith}
-use Rattle.md_cotree_edit.proofs.NewVertex.{first_room, first_fits, planted}
+use Rattle.md_cotree_edit.proofs.Insertions.NewVertex.{first_room, first_fits, planted}
 use Rattle.md_cotree_edit.proofs.insertion.plant.Goals as goal
 
 pub make-leaf-requires : goal.make-leaf-requires

@@ -1,4 +1,4 @@
-use Rattle.md_cotree_edit.proofs.LowestLeaf.{lowest_view, is_lowest, lowest_alternates, can_relink, settled_leaf}
+use Rattle.md_cotree_edit.proofs.Insertions.LowestLeaf.{lowest_view, is_lowest, lowest_alternates, can_relink, settled_leaf}
 use Rattle.md_cotree_edit.proofs.insertion.settle.Goals as goal
 
 pub climb-requires-clause-tree : goal.climb-requires-clause-tree

@@ -1,6 +1,6 @@
 use Rattle.std.proofs.Common.{◌≤◌, ◌*◌, length, arith}
 use Rattle.md_cotree_edit.specs.Marks.{hits_in}
-use Rattle.md_cotree_edit.proofs.NewLeaf.{few_told, taken_none, tree_at, can_settle}
+use Rattle.md_cotree_edit.proofs.Insertions.NewLeaf.{few_told, taken_none, tree_at, can_settle}
 use Rattle.md_cotree_edit.proofs.insertion.take_in.Goals as goal
 
 pub returns-then-none-clause-taken : goal.returns-then-none-clause-taken

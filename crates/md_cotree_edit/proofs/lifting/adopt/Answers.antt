@@ -1,4 +1,4 @@
-use Rattle.md_cotree_edit.proofs.Adopting.{adopt_first, adopt_second, adopt_end}
+use Rattle.md_cotree_edit.proofs.Trees.AdoptedTrees.{adopt_first, adopt_second, adopt_end}
 use Rattle.md_cotree_edit.proofs.lifting.adopt.Goals as goal
 
 pub attach-requires-clause-parent : goal.attach-requires-clause-parent

@@ -1,6 +1,6 @@
 use Rattle.std.proofs.Common.{sym, ◌∙◌}
 use Rattle.std.proofs.lemmas.Bool.{false≢true}
-use Rattle.md_cotree_edit.proofs.Joining.{join_ready, joined_in, join_view, join_can, joined_new}
+use Rattle.md_cotree_edit.proofs.EdgeTurns.JoinedTrees.{join_ready, joined_in, join_view, join_can, joined_new}
 use Rattle.md_cotree_edit.proofs.lifting.join.Goals as goal
 
 pub attach-requires-clause-parent : goal.attach-requires-clause-parent

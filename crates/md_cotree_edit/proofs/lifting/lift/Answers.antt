@@ -1,6 +1,6 @@
 use Rattle.std.proofs.Common.{◌∙◌, ap, sym}
 use Rattle.md_lists.specs.Links.{Links}
-use Rattle.md_cotree_edit.proofs.Lifted.{below_view, root_view, above_view, node_kept, lift_live, lift_some, lift_none, below_can, below_ready, below_lifted, root_can, root_lifted, above_can, has_above, above_lifted, free_live, free_bare, free_kept, parent_some}
+use Rattle.md_cotree_edit.proofs.EdgeTurns.LiftedTrees.{below_view, root_view, above_view, node_kept, lift_live, lift_some, lift_none, below_can, below_ready, below_lifted, root_can, root_lifted, above_can, has_above, above_lifted, free_live, free_bare, free_kept, parent_some}
 use Rattle.md_cotree_edit.proofs.lifting.lift.Goals as goal
 
 pub child_count-requires : goal.child_count-requires

@@ -1,6 +1,6 @@
 use Rattle.std.proofs.Common.{◌∙◌, ap}
 use Rattle.md_lists.specs.Links.{Links}
-use Rattle.md_cotree_edit.proofs.Tidying.{tidied_many, tidy_parent, tidy_live, tidy_bare, tidy_room, tidied_one}
+use Rattle.md_cotree_edit.proofs.EdgeTurns.OnlyChild.{tidied_many, tidy_parent, tidy_live, tidy_bare, tidy_room, tidied_one}
 use Rattle.md_cotree_edit.proofs.lifting.tidy.Goals as goal
 
 pub returns-then-child_count-ne1-clause-trees : goal.returns-then-child_count-ne1-clause-trees

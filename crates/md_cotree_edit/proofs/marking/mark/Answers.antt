@@ -1,6 +1,6 @@
 use Rattle.std.proofs.Common.{◌+◌, sym, ◌∙◌, ap, subst, arith}
 use Rattle.md_lists.specs.Links.{Links, IsLive}
-use Rattle.md_cotree_edit.proofs.Rising.{IsRising, mark_live, mark_begun, rise_end, rise_live, rise_room, rise_out, rise_on, rise_low}
+use Rattle.md_cotree_edit.proofs.Marks.MarkedLeaf.{IsRising, mark_live, mark_begun, rise_end, rise_live, rise_room, rise_out, rise_on, rise_low}
 use Rattle.md_cotree_edit.proofs.marking.mark.Goals as goal
 
 pub set_note-requires-clause-live : goal.set_note-requires-clause-live

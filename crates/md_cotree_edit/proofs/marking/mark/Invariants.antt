@@ -2,7 +2,7 @@ use Rattle.std.proofs.Common.{◌+◌, ◌-◌, ◌*◌}
 use Rattle.md_lists.specs.declared.TheConstants.{PLACES}
 use Rattle.md_lists.specs.Links.{IsLive, AreLinks}
 use Rattle.md_cotree_edit.specs.Marks.{MarkView, CanMark, AreStill}
-use Rattle.md_cotree_edit.proofs.Rising.{IsRising}
+use Rattle.md_cotree_edit.proofs.Marks.MarkedLeaf.{IsRising}
 use Rattle.md_cotree_edit.proofs.marking.mark.Given as goal
 
 abbrev pub invariant-loop-above : goal.invariant-loop-above

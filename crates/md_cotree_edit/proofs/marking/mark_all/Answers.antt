@@ -1,5 +1,5 @@
-use Rattle.md_cotree_edit.proofs.Still.{still_refl, still_trans}
-use Rattle.md_cotree_edit.proofs.MarkedAll.{marked_begun, place_within, no_place, one_view, can_mark, marked_more, marked_end}
+use Rattle.md_cotree_edit.proofs.Marks.OnlyMarksDiffer.{still_refl, still_trans}
+use Rattle.md_cotree_edit.proofs.Marks.MarkedAll.{marked_begun, place_within, no_place, one_view, can_mark, marked_more, marked_end}
 use Rattle.md_cotree_edit.proofs.marking.mark_all.Goals as goal
 
 pub loop-name-init : goal.loop-name-init

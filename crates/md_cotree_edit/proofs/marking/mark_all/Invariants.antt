@@ -1,7 +1,7 @@
 use Rattle.md_lists.specs.Links.{AreLinks}
 use Rattle.md_cotree.specs.PlaceTrees.{PlaceTree}
 use Rattle.md_cotree_edit.specs.Marks.{CanMarkAll, AreStill}
-use Rattle.md_cotree_edit.proofs.MarkedAll.{IsMarkedTo}
+use Rattle.md_cotree_edit.proofs.Marks.MarkedAll.{IsMarkedTo}
 use Rattle.md_cotree_edit.proofs.marking.mark_all.Given as goal
 
 abbrev pub invariant-loop-name : goal.invariant-loop-name

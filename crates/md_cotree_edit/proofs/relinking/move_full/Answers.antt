@@ -1,5 +1,5 @@
 use Rattle.std.proofs.Common.{subst, arith}
-use Rattle.md_cotree_edit.proofs.FullChildren.{IsMoving, moving_begin, moving_live, moving_marked, moving_to, moving_differ, moving_room, moving_step, moving_end}
+use Rattle.md_cotree_edit.proofs.Insertions.FullChildren.{IsMoving, moving_begin, moving_live, moving_marked, moving_to, moving_differ, moving_room, moving_step, moving_end}
 use Rattle.md_cotree_edit.proofs.relinking.move_full.Goals as goal
 
 pub loop-next-init : goal.loop-next-init

@@ -1,5 +1,5 @@
 use Rattle.std.proofs.Common.{◌+◌, ◌-◌, ◌*◌, length}
-use Rattle.md_cotree_edit.proofs.FullChildren.{IsMoving}
+use Rattle.md_cotree_edit.proofs.Insertions.FullChildren.{IsMoving}
 use Rattle.md_cotree_edit.proofs.relinking.move_full.Given as goal
 
 abbrev pub invariant-loop-next : goal.invariant-loop-next

@@ -1,5 +1,5 @@
 use Rattle.std.proofs.Common.{sym}
-use Rattle.md_cotree_edit.proofs.FullChildren.{gone_live, gone_loose}
+use Rattle.md_cotree_edit.proofs.Insertions.FullChildren.{gone_live, gone_loose}
 use Rattle.md_cotree_edit.proofs.relinking.move_if_full.Goals as goal
 
 pub attach-requires-clause-parent : goal.attach-requires-clause-parent

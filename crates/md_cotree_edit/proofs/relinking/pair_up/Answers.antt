@@ -1,7 +1,7 @@
 use Rattle.md_cotree.specs.PlaceTrees.{tip, inner, no_more, then}
 use Rattle.md_cotree_edit.specs.Contexts.{plug}
 use Rattle.std.proofs.Common.{refl}
-use Rattle.md_cotree_edit.proofs.Relinked.{pair_ready, pair_done}
+use Rattle.md_cotree_edit.proofs.Insertions.Relinked.{pair_ready, pair_done}
 use Rattle.md_cotree_edit.proofs.relinking.pair_up.Goals as goal
 
 pub join-pair-requires-clause-trees : goal.join-pair-requires-clause-trees

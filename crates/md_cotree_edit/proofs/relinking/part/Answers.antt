@@ -1,6 +1,6 @@
 use Rattle.std.proofs.Common.{◌∙◌, ap}
 use Rattle.md_cotree.specs.PlaceTrees.{place_kind}
-use Rattle.md_cotree_edit.proofs.Relinked.{part_ready, part_cleared}
+use Rattle.md_cotree_edit.proofs.Insertions.Relinked.{part_ready, part_cleared}
 use Rattle.md_cotree_edit.proofs.relinking.part.Goals as goal
 
 pub move_full-requires-clause-tree : goal.move_full-requires-clause-tree

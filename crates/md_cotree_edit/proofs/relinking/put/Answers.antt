@@ -1,6 +1,6 @@
 use Rattle.std.proofs.Common.{sym, ◌∙◌, ap}
 use Rattle.md_lists.specs.Links.{Links}
-use Rattle.md_cotree_edit.proofs.Relinked.{put_live, put_none, put_ready, put_some}
+use Rattle.md_cotree_edit.proofs.Insertions.Relinked.{put_live, put_none, put_ready, put_some}
 use Rattle.md_cotree_edit.proofs.relinking.put.Goals as goal
 
 pub parent-requires : goal.parent-requires

@@ -1,5 +1,5 @@
 use Rattle.std.proofs.Common.{sym, ◌∙◌}
-use Rattle.md_cotree_edit.proofs.Settled.{still_sound}
+use Rattle.md_cotree_edit.proofs.Trees.EditedCotree.{still_sound}
 use Rattle.md_cotree_edit.proofs.tests.turned.Goals as goal
 
 pub del_edge-requires : goal.del_edge-requires

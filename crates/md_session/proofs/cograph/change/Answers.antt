@@ -1,10 +1,9 @@
 use Rattle.std.proofs.Common.{◌≡◌, None, All, OnOk, ◌↔◌, IsErr, sym, subst}
 use Rattle.std.specs.List.Sorted.{IsStrictlyIncreasing}
 use Rattle.md_graph.specs.Sets.{Has}
-use Rattle.md_graph.specs.PlainGraph.{adjacent}
+use Rattle.md_graph.specs.PlainGraph.{adjacent, joined_graph}
 use Rattle.md_modules.specs.InducedPaths.{HasInducedPath}
 use Rattle.md_cotree.specs.Cotrees.{Denotes}
-use Rattle.md_cotree_edit.specs.Marks.{joined_graph}
 use Rattle.md_script.specs.declared.edit.Edit.TheVariants.{AddEdge, DelEdge, AddVertex}
 use Rattle.md_script.specs.Edit.{HasNames, reason_of, after}
 use Rattle.md_session.proofs.Changed.{edge_may_come, edge_may_go, vertex_may_come, vertex_may_go, done_by, refused_by}

@@ -1,11 +1,22 @@
-use Rattle.std.proofs.Common.{arith}
-use Rattle.md_cotree.specs.Cotrees.{trees_of}
+use Rattle.std.proofs.Common.{◌≡◌, Option, ◌∙◌, arith}
+use Rattle.md_cotree.specs.Cotrees.{trees_of, IsKeptAs}
+use Rattle.md_cotree.specs.PlaceTrees.{PlaceTree, node_counts}
+use Rattle.md_cotree.proofs.NodeCounts.{nodes_told}
+use Rattle.md_cotree.proofs.NoPaths.{cotree_graph}
 use Rattle.md_cotree.proofs.Room.{room}
 use Rattle.md_cotree.proofs.cotree.Cotree.node_count.Goals as goal
 
 pub returns : goal.returns
-returns c = λ o kept.
-    let all = room c.args.self.now.lists (trees_of o) c.spare.ensures.links kept.fits in
-    let free = c.spare.ensures.spare in
-    let cast = c.from.ensures in
-    omega arith
+returns c = record {
+  places = λ o kept. counted o kept;
+  tree = λ g t denotes is.
+      counted denotes.0 denotes.1
+      ∙ nodes_told c.args.self.now g (cotree_graph c.args.self.now g denotes) denotes.0 denotes.1 denotes.2 t is;
+}
+  where
+    counted : (o : Option PlaceTree) → IsKeptAs c.args.self.now o → c.from.result ≡ node_counts (trees_of o)
+    counted o kept =
+        let all = room c.args.self.now.lists (trees_of o) c.spare.ensures.links kept.fits in
+        let free = c.spare.ensures.spare in
+        let cast = c.from.ensures in
+        omega arith

@@ -2,7 +2,7 @@ use Rattle.std.proofs.Common.{None, arith}
 use Rattle.md_lists.specs.Links.{with_kind}
 use Rattle.md_lists.specs.Kept.{store_of}
 use Rattle.md_lists.proofs.Showing.{opened, live_items, shown, links_shown}
-use Rattle.md_lists.proofs.Changing.{frees, spare_room}
+use Rattle.md_lists.proofs.KindChanges.{frees, spare_room}
 use Rattle.md_lists.proofs.lists.Lists.free.Goals as goal
 
 pub index_mut-requires : goal.index_mut-requires

@@ -4,7 +4,7 @@ use Rattle.md_lists.specs.Links.{with_kind, IsBare}
 use Rattle.md_lists.specs.Kept.{store_of}
 use Rattle.md_lists.proofs.LinkLaws.{bare-with_kind}
 use Rattle.md_lists.proofs.Showing.{opened, place_items, shown, links_shown}
-use Rattle.md_lists.proofs.Changing.{makes}
+use Rattle.md_lists.proofs.KindChanges.{makes}
 use Rattle.md_lists.proofs.lists.Lists.make.Goals as goal
 
 pub index_mut-requires : goal.index_mut-requires

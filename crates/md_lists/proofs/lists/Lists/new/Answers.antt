@@ -3,7 +3,7 @@ use Rattle.std.proofs.lemmas.Result.{err_from_is_err_and}
 use Rattle.md_lists.specs.declared.TheConstants.{PLACES}
 use Rattle.md_lists.specs.Links.{all_free}
 use Rattle.md_lists.proofs.Showing.{shown, links_shown}
-use Rattle.md_lists.proofs.Changing.{starts}
+use Rattle.md_lists.proofs.AllFree.{starts}
 use Rattle.md_lists.proofs.lists.Lists.new.Goals as goal
 
 pub returns-in_err-filled-6-clause-free : goal.returns-in_err-filled-6-clause-free
