@@ -42,7 +42,7 @@ impl<const W: usize> Model for GraphOf<W> {
 }
 
 impl<const W: usize> GraphOf<W> {
-    /// The graph without vertices. Condition: `W` is at most `WORDS`.
+    /// The graph without vertices. Condition: `W` is at most `WORDS`. Errors: want of memory.
     pub fn new(alloc: Global) -> Result<GraphOf<W>, Memory>
         requires { W ≤ WORDS }
         ensures { IfOk result (λ g. g ≡ empty_graph) }
@@ -227,7 +227,7 @@ impl<const W: usize> GraphOf<W> {
         self.live.clear();
     }
 
-    /// An equal graph.
+    /// An equal graph. Errors: want of memory.
     pub fn copy(&self, alloc: Global) -> Result<GraphOf<W>, Memory>
         ensures { IfOk result (λ g. g ≡ self.now) }
     {
@@ -242,7 +242,7 @@ impl<const W: usize> GraphOf<W> {
     }
 
     /// The complement: the same vertices, and an edge between two of them where this graph has
-    /// none.
+    /// none. Errors: want of memory.
     pub fn complement(&self, alloc: Global) -> Result<GraphOf<W>, Memory>
         ensures { IfOk result (λ g. g ≡ complement self.now) }
     {
@@ -257,7 +257,7 @@ impl<const W: usize> GraphOf<W> {
     }
 
     /// The graph that this graph induces on `names`: the vertices among them, and the edges between
-    /// these.
+    /// these. Errors: want of memory.
     pub fn induced(&self, alloc: Global, names: &Set<W>) -> Result<GraphOf<W>, Memory>
         ensures { IfOk result (λ g. g ≡ induced self.now names.now) }
     {
