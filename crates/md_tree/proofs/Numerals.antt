@@ -4,6 +4,7 @@ use Rattle.std.proofs.lemmas.Bool.{cases_lt}
 use Rattle.std.proofs.lemmas.Grind.{pow_more}
 use Rattle.std.proofs.lemmas.List.{drop_more, take_rest}
 use Rattle.std.proofs.Math.Nat.{pow-le-pow_right}
+use Rattle.std.specs.Prelude.{◌↔◌, IsTrue}
 use Rattle.md_graph.specs.declared.TheConstants.{NAMES}
 use Rattle.md_graph.proofs.Limits.{NAMES-lt}
 use Rattle.md_text.specs.Numbers.{decimal}
@@ -15,7 +16,7 @@ use Rattle.md_tree.specs.TreeTexts.{pairs_text}
 use Rattle.md_tree.specs.StrongTrees.{IsPairBefore}
 use Rattle.md_tree.specs.Residual.{IsDigit, IsPastDigits}
 use Rattle.md_tree.specs.Languages.{LacksFirst}
-use Rattle.md_tree.specs.Held.{MayList, AreSmall, mark_of, pair_before, ArePairsRead, LacksNumber, LacksPair, IsNumberSplit, LacksPairs, LacksEnd, EachMayFollow, no_pair, AreListed}
+use Rattle.md_tree.specs.Held.{MayList, AreSmall, mark_of, pair_before, ArePairsRead, LacksNumber, LacksPair, IsNumberSplit, LacksPairs, LacksEnd, MayFollow, EachMayFollow, no_pair, AreListed, last_behind, HasRead}
 use Rattle.md_tree.proofs.Texts.{same_number, stops_at, pairs_stop, pair_spelled, same_pairs}
 use Rattle.md_tree.proofs.Leaving.{number_no_stop, zero_alone}
 
@@ -220,6 +221,37 @@ small_if n few (p ∷ ps) a =
 
 pub listed_small : (n : ℕ) (ps : List Pair) → n ≤ NAMES → MayList Prime n ps → AreSmall ps
 listed_small n ps few l = small_if n few ps (λ p i. l.2 p (to_contains ps p i))
+
+-- pairs that are read one behind the other, and whether they may be listed
+
+follows_more : (n : ℕ) (last : Pair) (ps : List Pair) (q : Pair) → EachMayFollow n last (ps ++ q ∷ []) ↔ (EachMayFollow n last ps × MayFollow n (last_behind last ps) q)
+follows_more n last [] q = ((λ f. (tt, f.0)), (λ f. (f.1, tt)))
+follows_more n last (p ∷ ps) q =
+    let r = follows_more n p ps q in
+    ((λ f. let g = r.0 f.1 in ((f.0, g.0), g.1)), (λ f. (f.0.0, r.1 (f.0.1, f.1))))
+
+last_more : (last : Pair) (ps : List Pair) (q : Pair) → last_behind last (ps ++ q ∷ []) ≡ q
+last_more last [] q = refl
+last_more last (p ∷ ps) q = last_more p ps q
+
+pub listed_more : (n : ℕ) (ps : List Pair) (last q : Pair) (listed now : Bool) → last ≡ last_behind no_pair ps → (IsTrue listed ↔ AreListed n ps) → (IsTrue now ↔ (IsTrue listed × MayFollow n last q)) →
+    IsTrue now ↔ AreListed n (ps ++ q ∷ [])
+listed_more n ps last q listed now is may e =
+    let r = follows_more n no_pair ps q in (
+      (λ t. let b = e.0 t in r.1 (may.0 b.0, subst (λ l. MayFollow n l q) is b.1)),
+      (λ a. let b = r.0 a in e.1 (may.1 b.0, subst (λ l. MayFollow n l q) (sym is) b.1)),
+    )
+
+pub none_read : (n : ℕ) (text : List ℕ) → HasRead n text text [] no_pair true
+none_read n text = record { pairs = pairs_start text; last_is = refl; may = ((λ t. tt), (λ t. refl)) }
+
+pub one_read : (n : ℕ) (text rest tail : List ℕ) (ps : List Pair) (last q : Pair) (listed now : Bool) → HasRead n text rest ps last listed → rest ≡ pair_before q true tail →
+    (IsTrue now ↔ (IsTrue listed × MayFollow n last q)) → HasRead n text tail (ps ++ q ∷ []) q now
+one_read n text rest tail ps last q listed now h e f = record {
+  pairs = pairs_more text rest tail ps q h.pairs e;
+  last_is = sym (last_more no_pair ps q);
+  may = listed_more n ps last q listed now h.last_is h.may f;
+}
 
 -- the ends of nodes
 

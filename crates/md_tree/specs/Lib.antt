@@ -15,5 +15,4 @@ pub mod Grammar
 pub mod Reading
 pub mod Residual
 pub mod Languages
-pub mod Words
 pub mod Held

@@ -5,7 +5,6 @@
 ghost use Rattle.std.specs.Prelude.{◌≡◌, ◌<◌, length, vec_len, slice_index_or};
 ghost use Rattle.md_tree.specs.Plain.{trees_of};
 
-mod alike_pairs;
 mod builder;
 mod cotree;
 mod grammar;
@@ -17,10 +16,7 @@ mod pair_reader;
 mod pair_writer;
 mod parts;
 mod reader;
-mod short_pairs;
-mod sparse_pairs;
 mod tree_graph;
-mod words;
 mod writer;
 
 pub use builder::{Opened, ascends};

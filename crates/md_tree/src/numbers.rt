@@ -107,7 +107,7 @@ fn split_digit<'a>(text: &'a [u8]) -> Option<(u32, &'a [u8])>
 
 // The digit that a byte is.
 #[inline(always)]
-pub(crate) fn digit(byte: u8) -> Option<u32>
+fn digit(byte: u8) -> Option<u32>
     ensures { MatchOption result (¬ (IsDigit byte))
         (λ d. (d < 10) × (byte ≡ 48 + d)) }
 {

@@ -8,7 +8,7 @@ use Rattle.md_tree.specs.Held.{MayHave, Ascends, IsEnd, LacksEnd}
 use Rattle.md_tree.proofs.Stacking.{plain_from, items_from}
 use Rattle.md_tree.proofs.Holding.{least_length}
 use Rattle.md_tree.proofs.Coming.{inside_first, node_ended, useless_children, useless_end, few_held}
-use Rattle.md_tree.proofs.builder.end_any.Goals as goal
+use Rattle.md_tree.proofs.builder.end_node.Goals as goal
 
 pub may_have-requires : goal.may_have-requires
 may_have-requires c =
