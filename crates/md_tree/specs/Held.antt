@@ -18,7 +18,8 @@ use Rattle.md_tree.specs.Plain.{plain}
 use Rattle.md_tree.specs.StrongTrees.{IsPairBefore}
 use Rattle.md_tree.specs.TreeTexts.{pairs_text, tree_text}
 use Rattle.md_tree.specs.WellFormed.{AreApart, IsCanonicalNode, IsWellFormed, NoneOfKind}
-use Rattle.md_tree.specs.Residual.{OpenNode, Due, Follows, IsPastDigits}
+use Rattle.md_text.specs.Fronts.{IsPastDigits}
+use Rattle.md_tree.specs.Residual.{OpenNode, Due, Follows}
 
 -- the least member of s
 pub record IsLeast (s : NameSet) (least : ℕ) : Type 0 where
@@ -165,17 +166,9 @@ pub record ArePairsRead (text rest : List ℕ) (read : List Pair) : Type 0 where
   pub back : (ps : List Pair) (r : List ℕ) → AreSmall ps → 59 ∷ text ≡ pairs_text 59 ps ++ 41 ∷ r →
       (others : List Pair) × AreSmall others × (59 ∷ rest ≡ pairs_text 59 others ++ 41 ∷ r)
 
--- no small number stands before what is no digit
-abbrev pub LacksNumber : List ℕ → Type 0
-LacksNumber text = (n : ℕ) (tail : List ℕ) → n < NAMES → IsPastDigits tail → text ≢ decimal n ++ tail
-
 -- no small pair stands there
 abbrev pub LacksPair : List ℕ → Type 0
 LacksPair text = (p : Pair) (more : Bool) (tail : List ℕ) → IsSmall p → text ≢ pair_before p more tail
-
--- a number stands before the tail, and no digit at its beginning
-abbrev pub IsNumberSplit : List ℕ → ℕ → List ℕ → Type 0
-IsNumberSplit text n tail = (text ≡ decimal n ++ tail) × IsPastDigits tail
 
 -- no small pairs stand behind a semicolon, with the bracket behind them
 abbrev pub LacksPairs : List ℕ → Type 0

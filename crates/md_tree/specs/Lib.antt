@@ -2,14 +2,15 @@ pub mod Trees
 pub mod Plain
 pub mod StrongTrees
 pub mod WellFormed
+pub mod NoPrimes
 pub mod TreeGraph
 pub mod TreeEdges
 pub mod TreeTexts
 pub mod Laws
 pub mod Positions
 pub mod Parts
+pub mod NodeLists
 pub mod Stacks
-pub mod Fronts
 pub mod OpenNodes
 pub mod Grammar
 pub mod Reading

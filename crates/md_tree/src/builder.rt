@@ -1,4 +1,6 @@
-//! Builds the tree whose text is read, and gives up where the text is no well-formed tree's.
+//! Builds the tree whose text is read, and gives up where the text is no well-formed tree's. Two
+//! other machines go over the same texts: `grammar` says where a text leaves their grammar, and
+//! md_checker's `text_fit` compares a text with a graph; neither builds anything.
 ghost use Rattle.std.specs.Prelude.{◌≡◌, ◌≢◌, ◌<◌, ◌≤◌, ◌↔◌, ◌+◌, ℕ, List, true, false, [], ◌∷◌, ◌++◌, length, take, drop, vec_len, vec_capacity, map, IfOk, OnOk, MatchOption, IsTrue, Some};
 ghost use Rattle.md_tree.specs.declared.Tree.{Tree, Leaf};
 ghost use Rattle.md_tree.specs.declared.Kind.TheVariants.{Prime};
@@ -6,15 +8,15 @@ ghost use Rattle.md_tree.specs.Plain.{plain};
 ghost use Rattle.md_tree.specs.Trees.{node, row};
 ghost use Rattle.md_tree.specs.TreeTexts.{letter, tree_text};
 ghost use Rattle.md_tree.specs.WellFormed.{IsWellFormed, IsOfKind, NoneOfKind};
-ghost use Rattle.md_tree.specs.Languages.{LacksFirst};
-ghost use Rattle.md_tree.specs.Held.{IsNumberSplit, HasBuilt, HasBuiltInside, HasReadTree, EndsNode, IsStep, AreUseless, Ascends, MayHave, trees_held};
+ghost use Rattle.md_text.specs.Fronts.{LacksFirst, IsNumberSplit};
+ghost use Rattle.md_tree.specs.Held.{HasBuilt, HasBuiltInside, HasReadTree, EndsNode, IsStep, AreUseless, Ascends, MayHave, trees_held};
 
-use crate::grammar::{skip_byte, split_letter};
+use crate::grammar::split_letter;
 use crate::growing::append;
-use crate::numbers::small_number;
 use crate::pair_reader::read_end;
 use crate::{Children, Kind, Pair, QuotientEdges, Tree};
 use md_graph::{Memory, NAMES, Names};
+use md_text::{skip_byte, small_number};
 use std::alloc::Global;
 use std::mem;
 

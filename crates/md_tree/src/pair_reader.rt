@@ -6,15 +6,14 @@ ghost use Rattle.md_tree.specs.declared.Pair.{Pair};
 ghost use Rattle.md_tree.specs.TreeTexts.{pairs_text};
 ghost use Rattle.md_tree.specs.declared.Kind.TheVariants.{Prime};
 ghost use Rattle.md_tree.specs.StrongTrees.{IsPairBefore};
-ghost use Rattle.md_tree.specs.Languages.{LacksFirst};
+ghost use Rattle.md_text.specs.Fronts.{LacksFirst};
 ghost use Rattle.md_tree.specs.Held.{LacksEnd, IsEnd, LacksPairs, LacksPair, pair_before, AreListed};
 
-use crate::grammar::skip_byte;
 use crate::growing::append;
-use crate::numbers::small_number;
 use crate::pair_order::still_listed;
 use crate::{Kind, Pair};
 use md_graph::Memory;
+use md_text::{skip_byte, small_number};
 use std::alloc::Global;
 
 // The pairs of a node of the kind with so many children, and what stands behind its bracket; none

@@ -7,7 +7,7 @@ use Rattle.md_tree.proofs.Plain.{plain_is_leaf}
 use Rattle.md_tree.proofs.Stacking.{map_one_more}
 use Rattle.md_tree.proofs.Holding.{kept_name}
 use Rattle.md_tree.proofs.Coming.{due_name, useless_name}
-use Rattle.md_tree.proofs.Numerals.{number_shorter}
+use Rattle.md_text.proofs.FrontLemmas.{number_shorter}
 use Rattle.md_tree.proofs.builder.take_name.Goals as goal
 
 pub returns-then-name-ge-NAMES : goal.returns-then-name-ge-NAMES

@@ -1,6 +1,6 @@
 use Rattle.std.proofs.Common.{◌≡◌, ◌++◌, ◌<◌, ◌≤◌, ◌^◌, ◌-◌}
 use Rattle.md_text.specs.Numbers.{decimal}
-use Rattle.md_tree.proofs.numbers.more_digits.Given as goal
+use Rattle.md_text.proofs.front.more_digits.Given as goal
 
 abbrev pub invariant-loop-count : goal.invariant-loop-count
 invariant-loop-count l = record {
