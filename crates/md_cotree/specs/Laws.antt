@@ -1,17 +1,13 @@
 -- The laws of trees without prime nodes.
 -- Source: Corneil, Lerchs and Stewart Burlingham, Complement reducible graphs.
-use Rattle.std.specs.Prelude.{◌≡◌, Option, Some, None, ⊤}
+use Rattle.std.specs.Prelude.{◌≡◌, Option}
 use Rattle.md_graph.specs.PlainGraph.{adjacent}
 use Rattle.md_modules.specs.InducedPaths.{HasInducedPath}
 use Rattle.md_tree.specs.Trees.{PlainTree}
 use Rattle.md_tree.specs.StrongTrees.{IsTree}
-use Rattle.md_tree.specs.WellFormed.{IsWellFormed, HasNoPrimeNode}
+use Rattle.md_tree.specs.WellFormed.{IsWellFormed}
+use Rattle.md_tree.specs.NoPrimes.{HasNoPrime}
 use Rattle.md_tree.specs.TreeGraph.{graph_of_tree}
-
--- no node of the tree is prime; so it is of no tree
-abbrev pub HasNoPrime : Option PlainTree → Type 0
-HasNoPrime None = ⊤
-HasNoPrime (Some t) = HasNoPrimeNode t
 
 -- a well-formed tree without prime nodes is the tree of strong modules of the graph that it denotes
 abbrev pub TreeOfItsGraph : Type 0

@@ -9,8 +9,8 @@ ghost use Rattle.md_tree.specs.Plain.{plain, plain_option};
 ghost use Rattle.md_tree.specs.StrongTrees.{IsTree};
 ghost use Rattle.md_tree.specs.Trees.{PlainTree};
 ghost use Rattle.md_tree.specs.WellFormed.{IsWellFormed, HasNoPrimeNode};
+ghost use Rattle.md_tree.specs.NoPrimes.{HasNoPrime};
 ghost use Rattle.md_cotree.specs.Cotrees.{IsSoundCotree, Denotes};
-ghost use Rattle.md_cotree.specs.Laws.{HasNoPrime};
 ghost use Rattle.md_cotree.specs.Orders.{AllLive, part_at, PlainKeyed, plain_keyed, tree_of, HasTree, IsLoose, IsOrdered, IsPartPut, IsPutOver, AreFalling, AreTaken, HasBelow};
 ghost use Rattle.md_cotree.specs.PlaceTrees.{PlaceTree, place_of, node_count, shape, Stands};
 

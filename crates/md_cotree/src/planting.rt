@@ -7,9 +7,9 @@ ghost use Rattle.md_tree.specs.Plain.{plain, plain_option};
 ghost use Rattle.md_tree.specs.Stacks.{with_part, HasChildrenOf};
 ghost use Rattle.md_tree.specs.TreeGraph.{graph_of_tree};
 ghost use Rattle.md_tree.specs.WellFormed.{IsWellFormed};
+ghost use Rattle.md_tree.specs.NoPrimes.{HasNoPrime};
 ghost use Rattle.md_cotree.specs.Cotrees.{Denotes};
 ghost use Rattle.md_cotree.specs.Forests.{joined, shape_list, IsForest, IsReady};
-ghost use Rattle.md_cotree.specs.Laws.{HasNoPrime};
 ghost use Rattle.md_cotree.specs.PlaceTrees.{PlaceTrees, no_more, then, tip, inner, roots, row_length, node_counts, place_kind, kind_of, Fits};
 
 use crate::Cotree;

@@ -2,8 +2,8 @@
 ghost use Rattle.std.specs.Prelude.{IfOk};
 ghost use Rattle.md_tree.specs.Plain.{plain_option};
 ghost use Rattle.md_tree.specs.WellFormed.{IsWellFormed};
+ghost use Rattle.md_tree.specs.NoPrimes.{HasNoPrime};
 ghost use Rattle.md_cotree.specs.Cotrees.{Denotes};
-ghost use Rattle.md_cotree.specs.Laws.{HasNoPrime};
 
 use super::*;
 use md_graph::{Graph, NAMES};

@@ -11,8 +11,7 @@ ghost use Rattle.md_report.specs.Cuts.{Opens, IsCutAt, IsPiece, IsItem, NoItem};
 use md_forcing::{Arc, Chain};
 use md_graph::{Memory, NAMES};
 use md_modules::P4;
-use md_text::number;
-use md_tree::{skip_byte, small_number};
+use md_text::{number, skip_byte, small_number};
 use std::alloc::Global;
 
 // The bytes before the first byte of a value, and the rest, which begins with it or is empty.

@@ -14,7 +14,7 @@ use Rattle.md_tree.specs.StrongTrees.{IsTree}
 use Rattle.md_tree.proofs.OneTree.{no_path_proof}
 use Rattle.md_cotree.specs.declared.cotree.Cotree.{Cotree}
 use Rattle.md_cotree.specs.Cotrees.{Denotes}
-use Rattle.md_cotree.specs.Laws.{HasNoPrime}
+use Rattle.md_tree.specs.NoPrimes.{HasNoPrime}
 use Rattle.md_script.specs.declared.edit.Edit.{Edit}
 use Rattle.md_script.specs.declared.edit.Edit.TheVariants.{AddEdge, DelEdge, AddVertex, DelVertex}
 use Rattle.md_script.specs.Edit.{least_absent, reason_of, after}

@@ -1,5 +1,5 @@
 //! Sessions on cographs: an edit that would make an induced P4 is refused with it.
-ghost use Rattle.std.specs.Prelude.{◌≡◌, ◌+◌, ◌≤◌, ◌↔◌, Bool, true, false, Option, None, IfOk, IsTrue};
+ghost use Rattle.std.specs.Prelude.{◌≡◌, ◌+◌, ◌≤◌, Bool, true, false, Option, None, IfOk};
 ghost use Rattle.std.specs.FinSet as set;
 ghost use Rattle.md_graph.specs.PlainGraph.{PlainGraph, adjacent};
 ghost use Rattle.md_modules.specs.InducedPaths.{HasInducedPath};
@@ -7,7 +7,6 @@ ghost use Rattle.md_tree.specs.StrongTrees.{IsTree};
 ghost use Rattle.md_tree.specs.Trees.{PlainTree, nodes_in};
 ghost use Rattle.md_tree.specs.Plain.{plain_option};
 ghost use Rattle.md_cotree.specs.Cotrees.{Denotes};
-ghost use Rattle.md_cotree.specs.Laws.{HasNoPrime};
 ghost use Rattle.md_script.specs.Edit.{HasNames, reason_of, after};
 ghost use Rattle.md_report.specs.Cographs.{IsP4Of, IsCograph};
 ghost use Rattle.md_session.specs.Answers.{IsOpened, IsAnswered};
@@ -21,7 +20,7 @@ use md_graph::{Graph, Memory, Steps};
 use md_modules::P4;
 use md_report::made_p4;
 use md_script::{Edit, EditReason, lost_row, reason, take_back};
-use md_tree::{Tree, is_cotree};
+use md_tree::{Tree, has_no_prime};
 use std::alloc::Global;
 use std::marker::Model;
 use std::sync::ledger::Ledger;
@@ -134,16 +133,6 @@ impl CographSession {
             return Answer::Applied;
         }
         Answer::RefusedP4(p4_behind(&mut self.graph, edit))
-    }
-}
-
-// Whether no node of a tree is prime.
-fn has_no_prime(tree: &Option<Tree>) -> bool
-    ensures { IsTrue result ↔ HasNoPrime (plain_option tree.now) }
-{
-    match tree {
-        Some(tree) => is_cotree(tree),
-        None => true,
     }
 }
 

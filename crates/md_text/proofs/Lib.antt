@@ -4,3 +4,4 @@ pub mod LineLemmas
 pub mod FieldLemmas
 pub mod NumberLemmas
 pub mod PieceLemmas
+pub mod FrontLemmas

@@ -52,6 +52,26 @@ fn check_split_number(rt: &impl Abort, line: &[u8], n: Option<u64>, behind: &[u8
     assert_eq!(rt; rest, behind);
 }
 
+fn check_fronts(rt: &impl Abort) {
+    let cases: [(&[u8], Option<(u32, &[u8])>); 9] = [
+        (b"0", Some((0, b""))),
+        (b"7,8", Some((7, b",8"))),
+        (b"4096)", Some((4096, b")"))),
+        (b"99999", Some((99999, b""))),
+        (b"100000", None),
+        (b"00", None),
+        (b"07", None),
+        (b"a1", None),
+        (b"", None),
+    ];
+    for (text, want) in &cases {
+        assert!(rt; small_number(*text) == *want);
+    }
+    let (tail, other): (&[u8], &[u8]) = (b"1)", b"1)");
+    assert!(rt; skip_byte(b"(1)", b'(') == Ok(tail));
+    assert!(rt; skip_byte(b"1)", b'(') == Err(other));
+}
+
 fn check_counts(rt: &impl Abort) {
     let (one, two): (&[u8], &[u8]) = (b"1", b"2");
     assert_eq!(rt; one_field(b" 1 "), Some(one));
@@ -102,6 +122,7 @@ fn texts(rt: HostRuntime) -> Result<(), Fail> {
     check_fields(&rt, b" \t", &[]);
     check_fields(&rt, b"\te\t10  2\r ", &[b"e", b"10", b"2\r"]);
     check_counts(&rt);
+    check_fronts(&rt);
     check_number(&rt, rt.alloc(), 0, b"0")?;
     check_number(&rt, rt.alloc(), 10, b"10")?;
     check_number(&rt, rt.alloc(), 4_095, b"4095")?;

@@ -5,6 +5,7 @@ use Rattle.std.specs.Prelude.{◌↔◌}
 use Rattle.std.specs.FinSet.{empty, len}
 use Rattle.md_graph.specs.declared.TheConstants.{NAMES}
 use Rattle.md_graph.specs.NameSet.{AllBelow}
+use Rattle.md_graph.proofs.Limits.{NAMES-lt}
 use Rattle.md_graph.specs.Sets.{NameSet, Has, Lacks}
 use Rattle.md_graph.proofs.SetLemmas.{clash, empty_lacks, only_has, union_left, union_right, of_union}
 use Rattle.md_graph.proofs.Search.{len_proper, len_within}
@@ -20,8 +21,8 @@ use Rattle.md_tree.specs.Trees.{PlainTree, leaf, node, PlainTrees, no_tree, one_
 use Rattle.md_tree.specs.TreeTexts.{letter, pairs_text, tree_text, row_text}
 use Rattle.md_tree.specs.WellFormed.{AreApart, IsCanonicalNode, IsWellFormed, IsCanonical}
 use Rattle.md_tree.specs.Residual.{OpenNode, ahead, closed, with_child, Follows, Due}
-use Rattle.md_tree.specs.Languages.{LacksFirst}
-use Rattle.md_tree.specs.Held.{AreLeast, Ascends, AreKept, MayHave, MayList, IsDue, IsBehind, IsInside, befores, opened, opened_node, AreUseless, IsBuilt, IsStep, LacksNumber, LacksEnd, IsEnd, IsNumberSplit, HasBuiltInside, HasReadTree, trees_held}
+use Rattle.md_text.specs.Fronts.{LacksFirst, LacksNumber, IsNumberSplit}
+use Rattle.md_tree.specs.Held.{AreLeast, Ascends, AreKept, MayHave, MayList, IsDue, IsBehind, IsInside, befores, opened, opened_node, AreUseless, IsBuilt, IsStep, LacksEnd, IsEnd, HasBuiltInside, HasReadTree, trees_held}
 use Rattle.std.specs.Ordering.{nat_cmp}
 use Rattle.md_tree.proofs.Texts.{leaf_is_no_node, node_spelled, row_spelled}
 use Rattle.md_tree.proofs.Residuals.{ahead_row, follows_stops, tree_step, open_step, comma_step, end_step, each_follows}
@@ -280,7 +281,10 @@ useless_name bytes rest opens ts ms seen v tail k d n bad w good e =
 -- where a tree is due
 leaf_due : (bytes rest : List ℕ) (s : List OpenNode) (w t : PlainTree) (r : List ℕ) → ((k : Kind) → LacksFirst (letter k) rest) → LacksNumber rest → IsWellFormed (Some w) →
     rest ≡ tree_text t ++ r → Follows s t r w → ⊥
-leaf_due bytes rest s w (leaf v) r letters lacks good e f = lacks v r (good.0 v (part_names s (leaf v) r w f v (only_has v))) (follows_stops s (leaf v) r w f) e
+leaf_due bytes rest s w (leaf v) r letters lacks good e f =
+    let below : v < NAMES = good.0 v (part_names s (leaf v) r w f v (only_has v)) in
+    let limit = NAMES-lt in
+    lacks v r (omega arith) (follows_stops s (leaf v) r w f) e
 leaf_due bytes rest s w (node k cs ps) r letters lacks good e f = letters k (row_text 40 cs ++ (pairs_text 59 ps ++ 41 ∷ r)) (e ∙ node_spelled k cs ps r)
 
 pub useless_number : (bytes rest : List ℕ) (opens : List Opened) (ts : List PlainTree) → IsDue bytes rest opens ts → ((k : Kind) → LacksFirst (letter k) rest) → LacksNumber rest → AreUseless bytes

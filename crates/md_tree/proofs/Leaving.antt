@@ -12,9 +12,10 @@ use Rattle.md_tree.specs.declared.Pair.{Pair}
 use Rattle.md_tree.specs.Trees.{PlainTree, leaf, node, PlainTrees, no_tree, one_more, count, EachNode, EachNodeBelow}
 use Rattle.md_tree.specs.TreeTexts.{letter, pairs_text, tree_text, row_text}
 use Rattle.md_tree.specs.Grammar.{HasPairsIfPrime, IsSpelledNode}
-use Rattle.md_tree.specs.Residual.{IsDigit, IsPastDigits}
-use Rattle.md_tree.specs.Languages.{HeadsAgree, Tail, TreeThen, NumberThen, ByteThen, PairsThen, PairThen, GoesOn, IsStuck, IsNumberBefore, IsNoNumber, LacksFirst, outermost_first}
-use Rattle.md_tree.proofs.Texts.{same_number, number_first, same_letter, letter_large, stops_at, pairs_stop, pair_spelled, row_stops, pairs_end, node_spelled, row_spelled}
+use Rattle.md_text.specs.Fronts.{IsDigit, IsPastDigits, LacksFirst}
+use Rattle.md_tree.specs.Languages.{HeadsAgree, Tail, TreeThen, NumberThen, ByteThen, PairsThen, PairThen, GoesOn, IsStuck, IsNumberBefore, IsNoNumber, outermost_first}
+use Rattle.md_text.proofs.FrontLemmas.{same_number, number_first, stops_at, number_no_stop, zero_alone}
+use Rattle.md_tree.proofs.Texts.{same_letter, letter_large, pairs_stop, pair_spelled, row_stops, pairs_end, node_spelled, row_spelled}
 
 agree_more : (tail front x : List ℕ) → HeadsAgree tail x → HeadsAgree (front ++ tail) (front ++ x)
 agree_more tail [] x h = h
@@ -58,27 +59,6 @@ module _ (L : List ℕ → Type 0) where
   goes_here text = record { front = []; whole = refl; makes = λ x m. m; leaves = λ x h l. l }
 
 -- numbers
-digits_before : (ds behind x : List ℕ) → 0 < length ds → (get_or ds 0 0 ≡ 48 → length ds ≡ 1) → ds ++ behind ≡ 48 ∷ x → behind ≡ x
-digits_before [] behind x some alone e = absurd (omega arith)
-digits_before (d ∷ []) behind x some alone e = let f : d ∷ behind ≡ 48 ∷ x = e in cc
-digits_before (d ∷ c ∷ ds) behind x some alone e =
-    let f : d ∷ c ∷ (ds ++ behind) ≡ 48 ∷ x = e in
-    let g : d ≡ 48 = cc in
-    let l : suc (suc (length ds)) ≡ 1 = alone g in
-    absurd (omega arith)
-
-pub zero_alone : (n : ℕ) (behind x : List ℕ) → IsPastDigits behind → decimal n ++ behind ≡ 48 ∷ x → IsPastDigits x
-zero_alone n behind x s e =
-    let c = (decimal_is_canonical n).0 in
-    subst IsPastDigits (digits_before (decimal n) behind x c.some_digit c.no_leading_zero e) s
-
-pub number_no_stop : (n : ℕ) (behind x : List ℕ) → x ≡ decimal n ++ behind → IsPastDigits x → ⊥
-number_no_stop n behind [] e s =
-    let l : 0 ≡ length (decimal n) + length behind = ap length e ∙ length-append (decimal n) behind in
-    let c = (decimal_is_canonical n).0.some_digit in
-    absurd (omega arith)
-number_no_stop n behind (b ∷ x) e s = s (number_first n behind b x (sym e))
-
 module _ (P : List ℕ → Type 0) (stops : (x : List ℕ) → P x → IsPastDigits x) where
   pub number_goes : (text tail : List ℕ) → IsNumberBefore text tail → GoesOn (NumberThen P) text P tail
   number_goes text tail b = record {
@@ -425,9 +405,6 @@ popped (j ∷ ks) opens others k a e =
 pub none_open : (ks opens : List Kind) → opens ≡ outermost_first ks → opens ≡ [] → ks ≡ []
 none_open [] opens a e = refl
 none_open (k ∷ ks) opens a e = absurd (no_snoc (outermost_first ks) k (sym e ∙ a))
-
-pub shorter_tail : (b : ℕ) (text tail : List ℕ) → text ≡ b ∷ tail → length tail < length text
-shorter_tail b text tail e = grind (arith, ap length e)
 
 -- two clauses on an error
 pub both_err : {T E : Type 0} (r : Result T E) (P Q S : E → Type 0) → ((x : E) → P x → Q x → S x) → IfErr r P → IfErr r Q → IfErr r S

@@ -21,8 +21,5 @@ pub mod Places
 pub mod Holding
 pub mod Coming
 pub mod Numerals
-pub mod Alike
-pub mod Spread
-pub mod Short
 pub mod ReadBack
 pub mod Listing

@@ -8,51 +8,77 @@ use Rattle.md_tree.specs.declared.QuotientEdges.{QuotientEdges}
 use Rattle.md_tree.specs.declared.Tree.{Tree, Leaf, Node}
 use Rattle.md_tree.specs.Plain.{plain}
 use Rattle.md_tree.proofs.Plain.{plain_is_leaf, plain_is_node}
-use Rattle.md_tree.specs.Trees.{PlainTree, leaf, node, row}
-use Rattle.md_tree.specs.Parts.{PlainPart, parts_of, parts_backward, part_of, plain_at, listed, below_node}
+use Rattle.md_tree.specs.Trees.{PlainTree, PlainTrees, leaf, node, no_tree, one_more, row}
+use Rattle.md_tree.specs.Parts.{parts_of, parts_backward, part_of, plain_at, listed, below_node}
+use Rattle.md_tree.specs.NodeLists.{nodes_backward, row_nodes_backward}
 use Rattle.md_tree.proofs.Folding.{row_listed}
 
 pub backward-append : (xs ys : List PlainTree) → parts_backward (row (xs ++ ys)) ≡ parts_backward (row ys) ++ parts_backward (row xs)
 backward-append [] ys = sym (append-nil (parts_backward (row ys)))
 backward-append (x ∷ xs) ys = ap (λ l. l ++ parts_of x) (backward-append xs ys) ∙ append_assoc (parts_backward (row ys)) (parts_backward (row xs)) (parts_of x)
 
--- a node and what is below it are its parts
-head_below : (t : PlainTree) → part_of t ∷ parts_backward (row (below_node t)) ≡ parts_of t
+-- ---- the nodes, and their parts
+
+nodes-append : (xs ys : List PlainTree) → row_nodes_backward (row (xs ++ ys)) ≡ row_nodes_backward (row ys) ++ row_nodes_backward (row xs)
+nodes-append [] ys = sym (append-nil (row_nodes_backward (row ys)))
+nodes-append (x ∷ xs) ys = ap (λ l. l ++ nodes_backward x) (nodes-append xs ys) ∙ append_assoc (row_nodes_backward (row ys)) (row_nodes_backward (row xs)) (nodes_backward x)
+
+-- a node and what is below it are its nodes
+head_below : (t : PlainTree) → t ∷ row_nodes_backward (row (below_node t)) ≡ nodes_backward t
 head_below (leaf v) = refl
-head_below (node k cs ps) = ap (λ ts. part_of (node k cs ps) ∷ parts_backward ts) (row_listed cs)
+head_below (node k cs ps) = ap (λ ts. node k cs ps ∷ row_nodes_backward ts) (row_listed cs)
 
--- the parts of the nodes that are listed, and those of the trees that wait
-abbrev pub parts_listed : List (Bor Tree) → List (Bor Tree) → List PlainPart
-parts_listed nodes waiting = map (λ r. part_of (plain_at r)) nodes ++ parts_backward (row (map plain_at waiting))
+mutual
+  part_nodes : (t : PlainTree) → map part_of (nodes_backward t) ≡ parts_of t
+  part_nodes (leaf v) = refl
+  part_nodes (node k cs ps) = ap (λ l. part_of (node k cs ps) ∷ l) (part_row_nodes cs)
 
-pub list_begin : (tree : PlainTree) (nodes waiting : List (Bor Tree)) → nodes ≡ [] → map plain_at waiting ≡ tree ∷ [] → parts_listed nodes waiting ≡ parts_of tree
+  part_row_nodes : (ts : PlainTrees) → map part_of (row_nodes_backward ts) ≡ parts_backward ts
+  part_row_nodes no_tree = refl
+  part_row_nodes (one_more t ts) =
+      map-append part_of (row_nodes_backward ts) (nodes_backward t) ∙ ap (λ l. l ++ map part_of (nodes_backward t)) (part_row_nodes ts)
+      ∙ ap (λ l. parts_backward ts ++ l) (part_nodes t)
+
+part_each : (nodes : List (Bor Tree)) → map (λ r. part_of (plain_at r)) nodes ≡ map part_of (map plain_at nodes)
+part_each [] = refl
+part_each (r ∷ nodes) = ap (λ l. part_of (plain_at r) ∷ l) (part_each nodes)
+
+pub parts_listed : (nodes : List (Bor Tree)) (t : PlainTree) → map plain_at nodes ≡ nodes_backward t → map (λ r. part_of (plain_at r)) nodes ≡ parts_of t
+parts_listed nodes t are = part_each nodes ∙ ap (map part_of) are ∙ part_nodes t
+
+-- ---- the nodes that are listed, and those of the trees that wait
+
+abbrev pub nodes_listed : List (Bor Tree) → List (Bor Tree) → List PlainTree
+nodes_listed nodes waiting = map plain_at nodes ++ row_nodes_backward (row (map plain_at waiting))
+
+pub list_begin : (tree : PlainTree) (nodes waiting : List (Bor Tree)) → nodes ≡ [] → map plain_at waiting ≡ tree ∷ [] → nodes_listed nodes waiting ≡ nodes_backward tree
 list_begin tree nodes waiting none one =
-    ap (λ ns. map (λ r. part_of (plain_at r)) ns ++ parts_backward (row (map plain_at waiting))) none
-    ∙ ap (λ ts. parts_backward (row ts)) one
+    ap (λ ns. map plain_at ns ++ row_nodes_backward (row (map plain_at waiting))) none
+    ∙ ap (λ ts. row_nodes_backward (row ts)) one
 
 pub list_waiting : (one : Bor Tree) (waiting popped more : List (Bor Tree)) → waiting ≡ popped ++ one ∷ [] →
-    map plain_at more ≡ map plain_at popped ++ below_node (plain_at one) → parts_backward (row (map plain_at waiting)) ≡ part_of (plain_at one) ∷ parts_backward (row (map plain_at more))
+    map plain_at more ≡ map plain_at popped ++ below_node (plain_at one) → row_nodes_backward (row (map plain_at waiting)) ≡ plain_at one ∷ row_nodes_backward (row (map plain_at more))
 list_waiting one waiting popped more pop below =
-    ap (λ ws. parts_backward (row (map plain_at ws))) pop ∙ ap (λ ts. parts_backward (row ts)) (map-append plain_at popped (one ∷ []))
-    ∙ backward-append (map plain_at popped) (plain_at one ∷ [])
-    ∙ ap (λ l. l ++ parts_backward (row (map plain_at popped))) (sym (head_below (plain_at one)))
-    ∙ ap (λ l. part_of (plain_at one) ∷ l) (sym (backward-append (map plain_at popped) (below_node (plain_at one))) ∙ ap (λ ts. parts_backward (row ts)) (sym below))
+    ap (λ ws. row_nodes_backward (row (map plain_at ws))) pop ∙ ap (λ ts. row_nodes_backward (row ts)) (map-append plain_at popped (one ∷ []))
+    ∙ nodes-append (map plain_at popped) (plain_at one ∷ [])
+    ∙ ap (λ l. l ++ row_nodes_backward (row (map plain_at popped))) (sym (head_below (plain_at one)))
+    ∙ ap (λ l. plain_at one ∷ l) (sym (nodes-append (map plain_at popped) (below_node (plain_at one))) ∙ ap (λ ts. row_nodes_backward (row ts)) (sym below))
 
-pub list_more : (all : List PlainPart) (nodes listed : List (Bor Tree)) (one : Bor Tree) (waiting popped more : List (Bor Tree)) → waiting ≡ popped ++ one ∷ [] → listed ≡ nodes ++ one ∷ [] →
-    map plain_at more ≡ map plain_at popped ++ below_node (plain_at one) → parts_listed nodes waiting ≡ all → parts_listed listed more ≡ all
+pub list_more : (all : List PlainTree) (nodes listed : List (Bor Tree)) (one : Bor Tree) (waiting popped more : List (Bor Tree)) → waiting ≡ popped ++ one ∷ [] → listed ≡ nodes ++ one ∷ [] →
+    map plain_at more ≡ map plain_at popped ++ below_node (plain_at one) → nodes_listed nodes waiting ≡ all → nodes_listed listed more ≡ all
 list_more all nodes listed one waiting popped more pop push below so =
-    ap (λ ns. map (λ r. part_of (plain_at r)) ns ++ parts_backward (row (map plain_at more))) push
-    ∙ ap (λ l. l ++ parts_backward (row (map plain_at more))) (map-append (λ (r : Bor Tree). part_of (plain_at r)) nodes (one ∷ []))
-    ∙ append_assoc (map (λ (r : Bor Tree). part_of (plain_at r)) nodes) (part_of (plain_at one) ∷ []) (parts_backward (row (map plain_at more)))
-    ∙ ap (λ l. map (λ (r : Bor Tree). part_of (plain_at r)) nodes ++ l) (sym (list_waiting one waiting popped more pop below)) ∙ so
+    ap (λ ns. map plain_at ns ++ row_nodes_backward (row (map plain_at more))) push
+    ∙ ap (λ l. l ++ row_nodes_backward (row (map plain_at more))) (map-append plain_at nodes (one ∷ []))
+    ∙ append_assoc (map plain_at nodes) (plain_at one ∷ []) (row_nodes_backward (row (map plain_at more)))
+    ∙ ap (λ l. map plain_at nodes ++ l) (sym (list_waiting one waiting popped more pop below)) ∙ so
 
 pub list_less : (one : Bor Tree) (waiting popped more : List (Bor Tree)) → waiting ≡ popped ++ one ∷ [] → map plain_at more ≡ map plain_at popped ++ below_node (plain_at one) →
-    length (parts_backward (row (map plain_at more))) < length (parts_backward (row (map plain_at waiting)))
+    length (row_nodes_backward (row (map plain_at more))) < length (row_nodes_backward (row (map plain_at waiting)))
 list_less one waiting popped more pop below = let e = ap length (list_waiting one waiting popped more pop below) in omega arith
 
-pub list_end : (all : List PlainPart) (nodes waiting : List (Bor Tree)) → waiting ≡ [] → parts_listed nodes waiting ≡ all → map (λ r. part_of (plain_at r)) nodes ≡ all
+pub list_end : (all : List PlainTree) (nodes waiting : List (Bor Tree)) → waiting ≡ [] → nodes_listed nodes waiting ≡ all → map plain_at nodes ≡ all
 list_end all nodes waiting none so =
-    sym (append-nil (map (λ r. part_of (plain_at r)) nodes)) ∙ ap (λ ws. parts_listed nodes ws) (sym none) ∙ so
+    sym (append-nil (map plain_at nodes)) ∙ ap (λ ws. nodes_listed nodes ws) (sym none) ∙ so
 
 -- ---- the children of a node
 

@@ -1,82 +1,19 @@
--- Numbers and pairs read from their digits.
+-- Pairs read from their digits.
 use Rattle.std.proofs.Common.{◌≡◌, ◌≢◌, ℕ, suc, ◌+◌, ◌-◌, ◌*◌, ◌/◌, ◌%◌, ◌^◌, ◌<◌, ◌≤◌, Bool, true, false, List, [], ◌∷◌, ◌++◌, length, get_or, take, drop, append_assoc, length-append, refl, sym, ◌∙◌, ap, subst, inl, inr, arith}
+use Rattle.std.specs.Prelude.{◌↔◌, IsTrue}
 use Rattle.std.proofs.lemmas.Bool.{cases_lt}
-use Rattle.std.proofs.lemmas.Grind.{pow_more}
-use Rattle.std.proofs.lemmas.List.{drop_more, take_rest}
-use Rattle.std.proofs.Math.Nat.{pow-le-pow_right}
 use Rattle.md_graph.specs.declared.TheConstants.{NAMES}
 use Rattle.md_graph.proofs.Limits.{NAMES-lt}
 use Rattle.md_text.specs.Numbers.{decimal}
-use Rattle.md_text.proofs.NumberLemmas.{decimal_digit, decimal_step, decimal_is_canonical}
 use Rattle.md_text.proofs.Lists.{In, of_contains, to_contains, of_pairs, to_pairs, Later}
 use Rattle.md_tree.specs.declared.Kind.TheVariants.{Prime}
 use Rattle.md_tree.specs.declared.Pair.{Pair}
 use Rattle.md_tree.specs.TreeTexts.{pairs_text}
 use Rattle.md_tree.specs.StrongTrees.{IsPairBefore}
-use Rattle.md_tree.specs.Residual.{IsDigit, IsPastDigits}
-use Rattle.md_tree.specs.Languages.{LacksFirst}
-use Rattle.md_tree.specs.Held.{MayList, AreSmall, mark_of, pair_before, ArePairsRead, LacksNumber, LacksPair, IsNumberSplit, LacksPairs, LacksEnd, EachMayFollow, no_pair, AreListed}
-use Rattle.md_tree.proofs.Texts.{same_number, stops_at, pairs_stop, pair_spelled, same_pairs}
-use Rattle.md_tree.proofs.Leaving.{number_no_stop, zero_alone}
-
--- one digit more
-pub digit_more : (text rest tail : List ℕ) (v d : ℕ) → 0 < v → d < 10 → text ≡ decimal v ++ rest → rest ≡ (48 + d) ∷ tail → text ≡ decimal (v * 10 + d) ++ tail
-digit_more text rest tail v d above small e f =
-    let front : (v * 10 + d) / 10 ≡ v = omega arith in
-    let last : (v * 10 + d) % 10 ≡ d = omega arith in
-    e ∙ ap (λ w. decimal v ++ w) f ∙ sym (append_assoc (decimal v) ((48 + d) ∷ []) tail)
-    ∙ ap (λ w. w ++ tail) (ap (λ n. decimal n ++ (48 + d) ∷ []) (sym front) ∙ ap (λ n. decimal ((v * 10 + d) / 10) ++ (48 + n) ∷ []) (sym last) ∙ sym (decimal_step (v * 10 + d) (omega arith)))
-
-pub digit_first : (text tail : List ℕ) (d : ℕ) → d < 10 → text ≡ (48 + d) ∷ tail → text ≡ decimal d ++ tail
-digit_first text tail d small e = e ∙ ap (λ w. w ++ tail) (sym (decimal_digit d small))
-
--- a number whose first digits are those of v is at least v
-digits_grow : (text rest : List ℕ) (v n : ℕ) (tail : List ℕ) → 0 < v → text ≡ decimal v ++ rest → IsPastDigits tail → text ≡ decimal n ++ tail → v ≤ n
-digits_grow text [] v n tail above e s f = let same : (v ≡ n) × ([] ≡ tail) = same_number v n [] tail tt s (sym e ∙ f) in omega (arith, same.0)
-digits_grow text (b ∷ rest) v n tail above e s f = elim (cases_lt b 48) [
-  | inl low ↦ (let same : (v ≡ n) × (b ∷ rest ≡ tail) = same_number v n (b ∷ rest) tail (stops_at b rest (inl low)) s (sym e ∙ f) in omega (arith, same.0))
-  | inr from ↦ elim (cases_lt 57 b) [
-    | inl high ↦ (let same : (v ≡ n) × (b ∷ rest ≡ tail) = same_number v n (b ∷ rest) tail (stops_at b rest (inr high)) s (sym e ∙ f) in omega (arith, same.0))
-    | inr to ↦ (
-        let is : b ≡ 48 + (b - 48) = omega arith in
-        let g : v * 10 + (b - 48) ≤ n = digits_grow text rest (v * 10 + (b - 48)) n tail (omega arith) (digit_more text (b ∷ rest) rest v (b - 48) above (omega arith) e (ap (λ w. w ∷ rest) is)) s f in
-        omega arith)
-  ]
-]
-
-pub too_long : (text rest tail : List ℕ) (v d : ℕ) → 10000 ≤ v → d < 10 → text ≡ decimal v ++ rest → rest ≡ (48 + d) ∷ tail → LacksNumber text
-too_long text rest tail v d large small e f n behind below s g =
-    let grown : v * 10 + d ≤ n = digits_grow text tail (v * 10 + d) n behind (omega arith) (digit_more text rest tail v d (omega arith) small e f) s g in
-    let limit : NAMES < 2 ^ 16 = NAMES-lt in
-    omega arith
-
-pub no_digit_lacks : (text : List ℕ) → IsPastDigits text → LacksNumber text
-no_digit_lacks text s n tail below t e = number_no_stop n tail text e s
-
-pub zero_lacks : (text behind tail : List ℕ) (d : ℕ) → d < 10 → text ≡ 48 ∷ behind → behind ≡ (48 + d) ∷ tail → LacksNumber text
-zero_lacks text behind tail d small e f n t below s g =
-    let stop : IsPastDigits behind = zero_alone n t behind s (sym g ∙ e) in
-    let no : ¬ (IsDigit (48 + d)) = subst IsPastDigits f stop in
-    no (omega arith, omega arith)
-
--- at a place of a text
-at_place : (text : List ℕ) (k : ℕ) → k < length text → drop k text ≡ get_or text k 0 ∷ drop (k + 1) text
-at_place text k h = drop_more text k 0 h
-
-no_digit_at : (text : List ℕ) (k : ℕ) → k < length text → ¬ (IsDigit (get_or text k 0)) → IsPastDigits (drop k text)
-no_digit_at text k h n = subst IsPastDigits (sym (at_place text k h)) n
-
-pub digit_at : (text : List ℕ) (k d : ℕ) → k < length text → get_or text k 0 ≡ 48 + d → drop k text ≡ (48 + d) ∷ drop (k + 1) text
-digit_at text k d h e = at_place text k h ∙ ap (λ b. b ∷ drop (k + 1) text) e
-
-pub lacks_at_once : (text : List ℕ) → 0 < length text → ¬ (IsDigit (get_or text 0 0)) → LacksNumber text
-lacks_at_once text h n = no_digit_lacks text (no_digit_at text 0 h n)
-
-pub number_at : (text : List ℕ) (k n : ℕ) → text ≡ decimal n ++ drop k text → k < length text → ¬ (IsDigit (get_or text k 0)) → IsNumberSplit text n (take (length text - k) (drop k text))
-number_at text k n read h e = (
-  read ∙ ap (λ w. decimal n ++ w) (sym (take_rest text k)),
-  subst IsPastDigits (sym (take_rest text k)) (no_digit_at text k h e),
-)
+use Rattle.md_text.specs.Fronts.{IsDigit, IsPastDigits, LacksFirst, LacksNumber, IsNumberSplit}
+use Rattle.md_tree.specs.Held.{MayList, AreSmall, mark_of, pair_before, ArePairsRead, LacksPair, LacksPairs, LacksEnd, MayFollow, EachMayFollow, no_pair, AreListed, last_behind, HasRead}
+use Rattle.md_text.proofs.FrontLemmas.{same_number, stops_at}
+use Rattle.md_tree.proofs.Texts.{pairs_stop, pair_spelled, same_pairs}
 
 -- pairs
 hyphen_stops : (x : List ℕ) → IsPastDigits (45 ∷ x)
@@ -91,6 +28,12 @@ behind_low : (text hyphen : List ℕ) (low : ℕ) → IsNumberSplit text low hyp
 behind_low text hyphen low n p more tail e =
     same_number low p.low hyphen (45 ∷ (decimal p.high ++ mark_of more ∷ tail)) n.1 (hyphen_stops (decimal p.high ++ mark_of more ∷ tail)) (sym n.0 ∙ e)
 
+below_limit : (v : ℕ) → v < NAMES → v < 100000
+below_limit v below = let limit = NAMES-lt in omega arith
+
+pub lacks_low : (text : List ℕ) → LacksNumber text → LacksPair text
+lacks_low text lacks p more tail small e = lacks p.low (45 ∷ (decimal p.high ++ mark_of more ∷ tail)) (below_limit p.low small.0) (hyphen_stops (decimal p.high ++ mark_of more ∷ tail)) e
+
 pub lacks_hyphen : (text hyphen : List ℕ) (low : ℕ) → IsNumberSplit text low hyphen → LacksFirst 45 hyphen → LacksPair text
 lacks_hyphen text hyphen low n lacks p more tail small e = lacks (decimal p.high ++ mark_of more ∷ tail) (behind_low text hyphen low n p more tail e).1
 
@@ -102,7 +45,7 @@ behind_hyphen text hyphen second low n h p more tail e =
 
 pub lacks_high : (text hyphen second : List ℕ) (low : ℕ) → IsNumberSplit text low hyphen → hyphen ≡ 45 ∷ second → LacksNumber second → LacksPair text
 lacks_high text hyphen second low n h lacks p more tail small e =
-    lacks p.high (mark_of more ∷ tail) small.1 (mark_stops more tail) (behind_hyphen text hyphen second low n h p more tail e)
+    lacks p.high (mark_of more ∷ tail) (below_limit p.high small.1) (mark_stops more tail) (behind_hyphen text hyphen second low n h p more tail e)
 
 pub lacks_mark : (text hyphen second mark : List ℕ) (low high : ℕ) → IsNumberSplit text low hyphen → hyphen ≡ 45 ∷ second → IsNumberSplit second high mark →
     LacksFirst 44 mark → LacksFirst 41 mark → LacksPair text
@@ -221,6 +164,37 @@ small_if n few (p ∷ ps) a =
 pub listed_small : (n : ℕ) (ps : List Pair) → n ≤ NAMES → MayList Prime n ps → AreSmall ps
 listed_small n ps few l = small_if n few ps (λ p i. l.2 p (to_contains ps p i))
 
+-- pairs that are read one behind the other, and whether they may be listed
+
+follows_more : (n : ℕ) (last : Pair) (ps : List Pair) (q : Pair) → EachMayFollow n last (ps ++ q ∷ []) ↔ (EachMayFollow n last ps × MayFollow n (last_behind last ps) q)
+follows_more n last [] q = ((λ f. (tt, f.0)), (λ f. (f.1, tt)))
+follows_more n last (p ∷ ps) q =
+    let r = follows_more n p ps q in
+    ((λ f. let g = r.0 f.1 in ((f.0, g.0), g.1)), (λ f. (f.0.0, r.1 (f.0.1, f.1))))
+
+last_more : (last : Pair) (ps : List Pair) (q : Pair) → last_behind last (ps ++ q ∷ []) ≡ q
+last_more last [] q = refl
+last_more last (p ∷ ps) q = last_more p ps q
+
+pub listed_more : (n : ℕ) (ps : List Pair) (last q : Pair) (listed now : Bool) → last ≡ last_behind no_pair ps → (IsTrue listed ↔ AreListed n ps) → (IsTrue now ↔ (IsTrue listed × MayFollow n last q)) →
+    IsTrue now ↔ AreListed n (ps ++ q ∷ [])
+listed_more n ps last q listed now is may e =
+    let r = follows_more n no_pair ps q in (
+      (λ t. let b = e.0 t in r.1 (may.0 b.0, subst (λ l. MayFollow n l q) is b.1)),
+      (λ a. let b = r.0 a in e.1 (may.1 b.0, subst (λ l. MayFollow n l q) (sym is) b.1)),
+    )
+
+pub none_read : (n : ℕ) (text : List ℕ) → HasRead n text text [] no_pair true
+none_read n text = record { pairs = pairs_start text; last_is = refl; may = ((λ t. tt), (λ t. refl)) }
+
+pub one_read : (n : ℕ) (text rest tail : List ℕ) (ps : List Pair) (last q : Pair) (listed now : Bool) → HasRead n text rest ps last listed → rest ≡ pair_before q true tail →
+    (IsTrue now ↔ (IsTrue listed × MayFollow n last q)) → HasRead n text tail (ps ++ q ∷ []) q now
+one_read n text rest tail ps last q listed now h e f = record {
+  pairs = pairs_more text rest tail ps q h.pairs e;
+  last_is = sym (last_more no_pair ps q);
+  may = listed_more n ps last q listed now h.last_is h.may f;
+}
+
 -- the ends of nodes
 
 pub lacks_semicolon : (n : ℕ) (text : List ℕ) → LacksFirst 59 text → LacksEnd Prime n text
@@ -239,37 +213,13 @@ pub snoc_some : (qs : List Pair) (p : Pair) → qs ++ p ∷ [] ≢ []
 snoc_some [] p e = cc
 snoc_some (q ∷ qs) p e = let f : q ∷ (qs ++ p ∷ []) ≡ [] = e in cc
 
-pub empty_lacks_first : (b : ℕ) (x : List ℕ) → length x ≡ 0 → LacksFirst b x
-empty_lacks_first b x none y e = let l : length x ≡ suc (length y) = ap length e in omega arith
-
-pub other_first : (b c : ℕ) (x tail : List ℕ) → x ≡ c ∷ tail → (c ≡ b → ⊥) → LacksFirst b x
-other_first b c x tail e n y f = let g : c ∷ tail ≡ b ∷ y = sym e ∙ f in let h : c ≡ b = cc in n h
-
--- what the loop over digits knows
-pub more_from : (v d i : ℕ) → 1 ≤ i → 10 ^ (i - 1) ≤ v → 10 ^ (i + 1 - 1) ≤ v * 10 + d
-more_from v d i some from =
-    let e : i + 1 - 1 ≡ (i - 1) + 1 = omega arith in
-    omega (arith, pow_more 10 (i - 1), ap (λ n. 10 ^ n) e)
-
 pub pair_shorter : (text tail : List ℕ) (p : Pair) (more : Bool) → text ≡ pair_before p more tail → length tail < length text
 pair_shorter text tail p more e =
     let a : length text ≡ length (decimal p.low) + suc (length (decimal p.high ++ mark_of more ∷ tail)) = ap length e ∙ length-append (decimal p.low) (45 ∷ (decimal p.high ++ mark_of more ∷ tail)) in
     let b : length (decimal p.high ++ mark_of more ∷ tail) ≡ length (decimal p.high) + suc (length tail) = length-append (decimal p.high) (mark_of more ∷ tail) in
     omega arith
 
-pub number_shorter : (text tail : List ℕ) (n : ℕ) → IsNumberSplit text n tail → length tail < length text
-number_shorter text tail n s =
-    let a : length text ≡ length (decimal n) + length tail = ap length s.0 ∙ length-append (decimal n) tail in
-    let b = (decimal_is_canonical n).0.some_digit in
-    omega arith
-
 pub end_shorter : (text tail : List ℕ) (ps : List Pair) → text ≡ pairs_text 59 ps ++ 41 ∷ tail → length tail < length text
 end_shorter text tail ps e =
     let a : length text ≡ length (pairs_text 59 ps) + suc (length tail) = ap length e ∙ length-append (pairs_text 59 ps) (41 ∷ tail) in
     omega arith
-
-pub pow_some : (i : ℕ) → 1 ≤ 10 ^ i
-pow_some i = let a : 10 ^ 0 ≤ 10 ^ i = pow-le-pow_right {n = 10} (omega arith) {i = 0} {j = i} (omega arith) in a
-
-pub large_after : (v i : ℕ) → 5 ≤ i → 10 ^ (i - 1) ≤ v → 10000 ≤ v
-large_after v i last from = let a : 10 ^ 4 ≤ 10 ^ (i - 1) = pow-le-pow_right {n = 10} (omega arith) {i = 4} {j = i - 1} (omega arith) in omega arith

@@ -4,9 +4,10 @@ use Rattle.std.proofs.lemmas.List.{take-append-drop, length-take-le, get_or-take
 use Rattle.md_tree.specs.Trees.{PlainTree, leaf, node}
 use Rattle.md_tree.specs.TreeTexts.{letter, tree_text, row_text, pairs_text}
 use Rattle.md_tree.specs.Grammar.{InGrammar, LeavesAt}
-use Rattle.md_tree.specs.Residual.{IsDigit}
-use Rattle.md_tree.specs.Languages.{HeadsAgree, IsStuck, IsTreeText, LacksFirst}
-use Rattle.md_tree.proofs.Texts.{number_first, letter_below}
+use Rattle.md_text.specs.Fronts.{IsDigit, LacksFirst}
+use Rattle.md_tree.specs.Languages.{HeadsAgree, IsStuck, IsTreeText}
+use Rattle.md_text.proofs.FrontLemmas.{number_first}
+use Rattle.md_tree.proofs.Texts.{letter_below}
 use Rattle.std.proofs.lemmas.List.{append-nil}
 
 -- the word begins as no tree's text

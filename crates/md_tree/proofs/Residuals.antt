@@ -5,7 +5,8 @@ use Rattle.md_tree.specs.declared.Kind.{Kind}
 use Rattle.md_tree.specs.declared.Pair.{Pair}
 use Rattle.md_tree.specs.Trees.{PlainTree, leaf, node, PlainTrees, no_tree, one_more, EachNode, EachNodeBelow, row}
 use Rattle.md_tree.specs.TreeTexts.{letter, pairs_text, tree_text, row_text}
-use Rattle.md_tree.specs.Residual.{OpenNode, ahead, closed, with_child, Follows, Due, IsPastDigits}
+use Rattle.md_text.specs.Fronts.{IsPastDigits}
+use Rattle.md_tree.specs.Residual.{OpenNode, ahead, closed, with_child, Follows, Due}
 use Rattle.md_tree.proofs.Texts.{same_text, same_row, same_pairs, row_stops, pairs_end, row_spelled, node_spelled, leaf_is_no_node, same_letter}
 
 pub ahead_more : (xs : List PlainTree) (t : PlainTree) (cs : PlainTrees) → ahead (xs ++ t ∷ []) cs ≡ ahead xs (one_more t cs)

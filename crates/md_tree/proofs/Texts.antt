@@ -2,70 +2,19 @@
 use Rattle.std.proofs.Common.{◌≡◌, ◌≢◌, ℕ, suc, ◌<◌, ◌≤◌, ◌⊎◌, List, [], ◌∷◌, ◌++◌, length, All, Some, None, codes, append_assoc, append-nil, refl, sym, ◌∙◌, ap, subst, inl, inr, arith}
 use Rattle.std.specs.Prelude.{⊤}
 use Rattle.md_text.specs.Numbers.{decimal}
-use Rattle.md_text.proofs.NumberLemmas.{decimal_is_canonical, decimal_injective, decimal_is_digits}
+use Rattle.md_text.proofs.FrontLemmas.{same_number, number_first, stops_at}
 use Rattle.md_tree.specs.declared.Kind.{Kind}
 use Rattle.md_tree.specs.declared.Kind.TheVariants.{Parallel, Series, Prime}
 use Rattle.md_tree.specs.declared.Pair.{Pair}
 use Rattle.md_tree.specs.Trees.{PlainTree, leaf, node, PlainTrees, no_tree, one_more}
 use Rattle.md_tree.specs.TreeTexts.{letter, pairs_text, tree_text, row_text}
 use Rattle.md_tree.specs.Laws.{OneTreeOneText}
-use Rattle.md_tree.specs.Residual.{IsDigit, IsPastDigits}
+use Rattle.md_text.specs.Fronts.{IsDigit, IsPastDigits}
 
 -- the text begins with the byte that ends a row of trees
 abbrev pub Ends : List ℕ → Type 0
 Ends [] = ⊥
 Ends (b ∷ r) = (b ≡ 41) ⊎ (b ≡ 59)
-
-abbrev AllDigits : List ℕ → Type 0
-AllDigits [] = ⊤
-AllDigits (b ∷ r) = IsDigit b × AllDigits r
-
-to_digits : (xs : List ℕ) → All IsDigit xs → AllDigits xs
-to_digits [] all = tt
-to_digits (x ∷ xs) all = (
-  all 0 0 (let b : 0 < suc (length xs) = omega arith in b),
-  to_digits xs (λ k d h. all (suc k) d (let b : k < length xs = h in let c : suc k < suc (length xs) = omega arith in c)),
-)
-
-digits_of : (n : ℕ) → AllDigits (decimal n)
-digits_of n = to_digits (decimal n) (decimal_is_digits n)
-
--- digits before what is no digit
-same_digits : (xs ys r s : List ℕ) → AllDigits xs → AllDigits ys → IsPastDigits r → IsPastDigits s → xs ++ r ≡ ys ++ s → (xs ≡ ys) × (r ≡ s)
-same_digits [] [] r s a b p q e = (refl, e)
-same_digits [] (y ∷ ys) [] s a b p q e = let f : [] ≡ y ∷ (ys ++ s) = e in cc
-same_digits [] (y ∷ ys) (c ∷ r) s a b p q e =
-    let f : c ∷ r ≡ y ∷ (ys ++ s) = e in
-    let g : c ≡ y = cc in
-    absurd (p (subst IsDigit (sym g) b.0))
-same_digits (x ∷ xs) [] r [] a b p q e = let f : x ∷ (xs ++ r) ≡ [] = e in cc
-same_digits (x ∷ xs) [] r (c ∷ s) a b p q e =
-    let f : x ∷ (xs ++ r) ≡ c ∷ s = e in
-    let g : x ≡ c = cc in
-    absurd (q (subst IsDigit g a.0))
-same_digits (x ∷ xs) (y ∷ ys) r s a b p q e =
-    let f : x ∷ (xs ++ r) ≡ y ∷ (ys ++ s) = e in
-    let g : x ≡ y = cc in
-    let h : xs ++ r ≡ ys ++ s = cc in
-    let i : (xs ≡ ys) × (r ≡ s) = same_digits xs ys r s a.1 b.1 p q h in
-    let j : xs ≡ ys = i.0 in
-    (cc, i.1)
-
-pub same_number : (m n : ℕ) (r s : List ℕ) → IsPastDigits r → IsPastDigits s → decimal m ++ r ≡ decimal n ++ s → (m ≡ n) × (r ≡ s)
-same_number m n r s p q e =
-    let i : (decimal m ≡ decimal n) × (r ≡ s) = same_digits (decimal m) (decimal n) r s (digits_of m) (digits_of n) p q e in
-    (decimal_injective m n i.0, i.1)
-
--- digits before a text, where the first byte is another one
-first_digit : (xs r : List ℕ) (b : ℕ) (s : List ℕ) → 0 < length xs → AllDigits xs → xs ++ r ≡ b ∷ s → IsDigit b
-first_digit [] r b s some a e = let l : 0 < 0 = some in absurd (omega arith)
-first_digit (x ∷ xs) r b s some a e =
-    let f : x ∷ (xs ++ r) ≡ b ∷ s = e in
-    let g : x ≡ b = cc in
-    subst IsDigit g a.0
-
-pub number_first : (n : ℕ) (r : List ℕ) (b : ℕ) (s : List ℕ) → decimal n ++ r ≡ b ∷ s → IsDigit b
-number_first n r b s e = first_digit (decimal n) r b s (decimal_is_canonical n).0.some_digit (digits_of n) e
 
 pub same_letter : (k l : Kind) → letter k ≡ letter l → k ≡ l
 same_letter Parallel Parallel e = refl
@@ -87,10 +36,6 @@ pub letter_below : (k : Kind) → letter k < 90
 letter_below Parallel = omega arith
 letter_below Series = omega arith
 letter_below Prime = omega arith
-
-pub stops_at : (b : ℕ) (r : List ℕ) → (b < 48) ⊎ (57 < b) → IsPastDigits (b ∷ r)
-stops_at b r (inl l) d = let p : 48 ≤ b = d.0 in omega arith
-stops_at b r (inr l) d = let p : b ≤ 57 = d.1 in omega arith
 
 -- pairs before a closing bracket
 pub pairs_stop : (ps : List Pair) (r : List ℕ) → IsPastDigits (pairs_text 44 ps ++ 41 ∷ r)

@@ -8,7 +8,7 @@ use Rattle.md_text.specs.Numbers.{decimal}
 use Rattle.md_text.specs.declared.piece.Piece.{Piece}
 use Rattle.md_text.specs.Pieces.{piece_text, text_at, texts_at}
 use Rattle.md_tree.specs.declared.Pair.{Pair}
-use Rattle.md_tree.specs.Fronts.{BeginsWith}
+use Rattle.md_text.specs.Fronts.{BeginsWith}
 use Rattle.md_tree.specs.Positions.{ArePositions, AreSeconds, IsSecond}
 use Rattle.md_tree.specs.TreeTexts.{pairs_text}
 

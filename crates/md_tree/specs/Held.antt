@@ -18,8 +18,8 @@ use Rattle.md_tree.specs.Plain.{plain}
 use Rattle.md_tree.specs.StrongTrees.{IsPairBefore}
 use Rattle.md_tree.specs.TreeTexts.{pairs_text, tree_text}
 use Rattle.md_tree.specs.WellFormed.{AreApart, IsCanonicalNode, IsWellFormed, NoneOfKind}
-use Rattle.md_tree.specs.Residual.{OpenNode, Due, Follows, IsPastDigits}
-use Rattle.md_tree.specs.Words.{word_bytes}
+use Rattle.md_text.specs.Fronts.{IsPastDigits}
+use Rattle.md_tree.specs.Residual.{OpenNode, Due, Follows}
 
 -- the least member of s
 pub record IsLeast (s : NameSet) (least : ℕ) : Type 0 where
@@ -166,17 +166,9 @@ pub record ArePairsRead (text rest : List ℕ) (read : List Pair) : Type 0 where
   pub back : (ps : List Pair) (r : List ℕ) → AreSmall ps → 59 ∷ text ≡ pairs_text 59 ps ++ 41 ∷ r →
       (others : List Pair) × AreSmall others × (59 ∷ rest ≡ pairs_text 59 others ++ 41 ∷ r)
 
--- no small number stands before what is no digit
-abbrev pub LacksNumber : List ℕ → Type 0
-LacksNumber text = (n : ℕ) (tail : List ℕ) → n < NAMES → IsPastDigits tail → text ≢ decimal n ++ tail
-
 -- no small pair stands there
 abbrev pub LacksPair : List ℕ → Type 0
 LacksPair text = (p : Pair) (more : Bool) (tail : List ℕ) → IsSmall p → text ≢ pair_before p more tail
-
--- a number stands before the tail, and no digit at its beginning
-abbrev pub IsNumberSplit : List ℕ → ℕ → List ℕ → Type 0
-IsNumberSplit text n tail = (text ≡ decimal n ++ tail) × IsPastDigits tail
 
 -- no small pairs stand behind a semicolon, with the bracket behind them
 abbrev pub LacksPairs : List ℕ → Type 0
@@ -217,15 +209,3 @@ pub record HasRead (n : ℕ) (text rest : List ℕ) (read : List Pair) (last : P
   pub pairs : ArePairsRead text rest read
   pub last_is : last ≡ last_behind no_pair read
   pub may : IsTrue listed ↔ AreListed n read
-
--- more pairs are read, which may be listed if those before them may
-pub record ReadsOn (n : ℕ) (rest : List ℕ) (read : List Pair) (last : Pair) (far : List ℕ) (all : List Pair) (next : Pair) : Type 0 where
-  pub on : (text : List ℕ) (listed : Bool) → HasRead n text rest read last listed → HasRead n text far all next listed
-  pub shorter : length far ≤ length rest
-
--- two digits and a comma stand behind the first `front` bytes of a text, of which the first and the last four are told
-pub record IsAlike (text : List ℕ) (front begin end tens ones : ℕ) (behind : List ℕ) : Type 0 where
-  pub small : (tens < 10) × (ones < 10)
-  pub begins : word_bytes begin ≡ take 4 (drop 0 text)
-  pub ends : word_bytes end ≡ take 4 (drop (front - 4) text)
-  pub then : drop front text ≡ (48 + tens) ∷ (48 + ones) ∷ 44 ∷ behind

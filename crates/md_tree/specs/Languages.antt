@@ -9,7 +9,7 @@ use Rattle.md_tree.specs.declared.grammar.Turn.TheVariants.{Onward, Blocked, End
 use Rattle.md_tree.specs.Trees.{PlainTree, PlainTrees, EachNode, EachNodeBelow}
 use Rattle.md_tree.specs.TreeTexts.{pairs_text, row_text, tree_text}
 use Rattle.md_tree.specs.Grammar.{HasPairsIfPrime, IsSpelledNode}
-use Rattle.md_tree.specs.Residual.{IsPastDigits}
+use Rattle.md_text.specs.Fronts.{IsPastDigits}
 
 -- the texts begin alike: both are empty, or their first bytes are the same
 abbrev pub HeadsAgree : List ℕ → List ℕ → Type 0
@@ -89,10 +89,6 @@ IsNumberBefore text tail = (n : ℕ) × (text ≡ decimal n ++ tail) × IsPastDi
 -- no digit stands at the beginning of the text; or a digit stands at that of the tail, behind a zero
 abbrev pub IsNoNumber : List ℕ → List ℕ → Type 0
 IsNoNumber text tail = ((text ≡ tail) × IsPastDigits tail) ⊎ ((text ≡ 48 ∷ tail) × (¬ (IsPastDigits tail)))
-
--- the text does not begin with the byte
-abbrev pub LacksFirst : ℕ → List ℕ → Type 0
-LacksFirst b text = (x : List ℕ) → text ≢ b ∷ x
 
 -- another pair, or the end of the pairs
 abbrev pub PairsGoOn : Bool → List Kind → List ℕ → Type 0

@@ -6,15 +6,6 @@ use Rattle.md_tree.specs.declared.Pair.{Pair}
 use Rattle.md_tree.specs.Trees.{PlainTree, node, PlainTrees, one_more}
 use Rattle.md_tree.specs.TreeTexts.{pairs_text, row_text, tree_text}
 
--- the byte is one of `0` to `9`
-abbrev pub IsDigit : ℕ → Type 0
-IsDigit b = (48 ≤ b) × (b ≤ 57)
-
--- the text is empty or begins with a byte that is no digit
-abbrev pub IsPastDigits : List ℕ → Type 0
-IsPastDigits [] = ⊤
-IsPastDigits (b ∷ r) = ¬ (IsDigit b)
-
 -- a node of which a part is read: its kind, and its children so far
 pub record OpenNode : Type 0 where
   pub kind : Kind

@@ -1,4 +1,6 @@
-//! Builds the tree whose text is read, and gives up where the text is no well-formed tree's.
+//! Builds the tree whose text is read, and gives up where the text is no well-formed tree's. Two
+//! other machines go over the same texts: `grammar` says where a text leaves their grammar, and
+//! md_checker's `text_fit` compares a text with a graph; neither builds anything.
 ghost use Rattle.std.specs.Prelude.{◌≡◌, ◌≢◌, ◌<◌, ◌≤◌, ◌↔◌, ◌+◌, ℕ, List, true, false, [], ◌∷◌, ◌++◌, length, take, drop, vec_len, vec_capacity, map, IfOk, OnOk, MatchOption, IsTrue, Some};
 ghost use Rattle.md_tree.specs.declared.Tree.{Tree, Leaf};
 ghost use Rattle.md_tree.specs.declared.Kind.TheVariants.{Prime};
@@ -6,15 +8,15 @@ ghost use Rattle.md_tree.specs.Plain.{plain};
 ghost use Rattle.md_tree.specs.Trees.{node, row};
 ghost use Rattle.md_tree.specs.TreeTexts.{letter, tree_text};
 ghost use Rattle.md_tree.specs.WellFormed.{IsWellFormed, IsOfKind, NoneOfKind};
-ghost use Rattle.md_tree.specs.Languages.{LacksFirst};
-ghost use Rattle.md_tree.specs.Held.{IsNumberSplit, HasBuilt, HasBuiltInside, HasReadTree, EndsNode, IsStep, AreUseless, Ascends, MayHave, trees_held};
+ghost use Rattle.md_text.specs.Fronts.{LacksFirst, IsNumberSplit};
+ghost use Rattle.md_tree.specs.Held.{HasBuilt, HasBuiltInside, HasReadTree, EndsNode, IsStep, AreUseless, Ascends, MayHave, trees_held};
 
-use crate::grammar::{skip_byte, split_letter};
-use crate::growing::{append, make_room};
-use crate::numbers::small_number;
+use crate::grammar::split_letter;
+use crate::growing::append;
 use crate::pair_reader::read_end;
 use crate::{Children, Kind, Pair, QuotientEdges, Tree};
 use md_graph::{Memory, NAMES, Names};
+use md_text::{skip_byte, small_number};
 use std::alloc::Global;
 use std::mem;
 
@@ -123,26 +125,8 @@ fn take_name<'a>(
     }
     held.seen.insert(name);
     append(&mut held.least, name)?;
-    append_leaf(&mut held.trees, name)?;
+    append(&mut held.trees, Tree::Leaf(name))?;
     Ok(Some(tail))
-}
-
-// Appends a name as a tree. It is made once there is room, where it is put, and so is not copied.
-#[inline(always)]
-fn append_leaf(trees: &mut Vec<Tree>, name: u32) -> Result<(), Memory>
-    ensures { OnOk result (trees.new.items ≡ trees.old.items ++ Leaf name ∷ []) }
-{
-    make_room(trees)?;
-    put_leaf(trees, name);
-    Ok(())
-}
-
-#[inline(always)]
-fn put_leaf(trees: &mut Vec<Tree>, name: u32)
-    requires { vec_len trees.old < vec_capacity trees.old }
-    ensures { trees.new.items ≡ trees.old.items ++ Leaf name ∷ [] }
-{
-    trees.push_reserved(Tree::Leaf(name));
 }
 
 // The letter of a node is read. In the text of a well-formed tree fewer nodes are open than there
@@ -226,78 +210,6 @@ fn step_at_end<'a>(text: &'a [u8], held: &Held) -> Step<'a>
 // The end of a node: its children have to be such as its kind asks, and in order.
 #[inline(always)]
 fn end_node<'a>(
-    alloc: Global,
-    text: &'a [u8],
-    inner: Opened,
-    held: &mut Held,
-) -> Result<Option<&'a [u8]>, Memory>
-    requires inside { (bytes : List ℕ) × HasBuiltInside bytes text.now inner held.old }
-    requires no_comma { LacksFirst 44 text.now }
-    ensures { IfOk result (λ o. EndsNode text.now inner held.old o held.new) }
-{
-    if inner.kind != Kind::Prime && held.trees.len() - inner.first as usize == 2 {
-        return end_two(alloc, text, inner, held);
-    }
-    end_any(alloc, text, inner, held)
-}
-
-// The same of two children without pairs, as most nodes of a deep tree have them: with no loop, and
-// moved as one block, since how many bytes they take is known.
-#[inline(always)]
-fn end_two<'a>(
-    alloc: Global,
-    text: &'a [u8],
-    inner: Opened,
-    held: &mut Held,
-) -> Result<Option<&'a [u8]>, Memory>
-    requires inside { (bytes : List ℕ) × HasBuiltInside bytes text.now inner held.old }
-    requires no_comma { LacksFirst 44 text.now }
-    requires two { vec_len held.old.trees ≡ inner.first + 2 }
-    requires no_pairs { inner.kind ≢ Prime }
-    ensures { IfOk result (λ o. EndsNode text.now inner held.old o held.new) }
-{
-    let Ok(tail) = skip_byte(text, b')') else {
-        return Ok(None);
-    };
-    let first = inner.first as usize;
-    if !may_be_two(inner.kind, &held.trees[first..], &held.least[first..]) {
-        return Ok(None);
-    }
-    close_two(alloc, inner, &mut held.trees)?;
-    held.least.take_last();
-    Ok(Some(tail))
-}
-
-// Whether a node of the kind may have the two children, whose least names are told.
-#[inline(always)]
-fn may_be_two(kind: Kind, children: &[Tree], least: &[u32]) -> bool
-    requires children { length children.now ≡ 2 }
-    requires least { length least.now ≡ 2 }
-    requires no_pairs { kind ≢ Prime }
-    ensures { IsTrue result ↔ (MayHave kind (row (map plain children.now)) × Ascends least.now) }
-{
-    least[0] < least[1] && !is_of_kind(&children[0], kind) && !is_of_kind(&children[1], kind)
-}
-
-// A node of the last two trees takes their place.
-#[inline(always)]
-fn close_two(alloc: Global, inner: Opened, trees: &mut Vec<Tree>) -> Result<(), Memory>
-    requires { vec_len trees.old ≡ inner.first + 2 }
-    ensures { IfOk result (λ _. map plain trees.new.items
-        ≡ take inner.first (map plain trees.old.items)
-        ++ node inner.kind (row (drop inner.first (map plain trees.old.items))) [] ∷ []) }
-{
-    let list = trees.split_off(inner.first as usize)?;
-    let pairs = QuotientEdges {
-        list: Vec::new(alloc),
-    };
-    trees.push_reserved(Tree::Node(inner.kind, Children { list }, pairs));
-    Ok(())
-}
-
-// The same of any number of children.
-#[inline(always)]
-fn end_any<'a>(
     alloc: Global,
     text: &'a [u8],
     inner: Opened,

@@ -1,8 +1,9 @@
 //! Whether a tree is one of a cograph.
 ghost use Rattle.std.specs.Prelude.{◌≡◌, ◌≢◌, ◌↔◌, true, false, IsTrue};
 ghost use Rattle.md_tree.specs.declared.Kind.TheVariants.{Prime};
-ghost use Rattle.md_tree.specs.Plain.{plain, row_of};
+ghost use Rattle.md_tree.specs.Plain.{plain, plain_option, row_of};
 ghost use Rattle.md_tree.specs.WellFormed.{HasNoPrimeNode, HaveNoPrimeNode};
+ghost use Rattle.md_tree.specs.NoPrimes.{HasNoPrime};
 
 use crate::{Children, Kind, Tree};
 
@@ -15,6 +16,16 @@ pub fn is_cotree(tree: &Tree) -> bool
     match tree {
         Tree::Leaf(_) => true,
         Tree::Node(kind, children, _) => !is_prime(*kind) && are_cotrees(children),
+    }
+}
+
+/// Whether there is no tree, or no node of it is prime.
+pub fn has_no_prime(tree: &Option<Tree>) -> bool
+    ensures no_prime { IsTrue result ↔ HasNoPrime (plain_option tree.now) }
+{
+    match tree {
+        Some(tree) => is_cotree(tree),
+        None => true,
     }
 }
 

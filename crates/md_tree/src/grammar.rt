@@ -1,14 +1,18 @@
 //! Says where bytes leave the grammar of trees' texts. Of each open node its kind alone is held.
+//! Two other machines go over the same texts: `builder` makes the tree, and md_checker's `text_fit`
+//! compares a text with a graph.
 ghost use Rattle.std.specs.Prelude.{◌≡◌, ◌≢◌, ◌<◌, ◌≤◌, ℕ, List, true, false, [], ◌∷◌, length, take, slice_index, IfOk, IfErr, MatchOption};
 ghost use Rattle.std.specs.Char.{is_ascii_digit};
 ghost use Rattle.std.specs.List.{list_all};
 ghost use Rattle.md_tree.specs.declared.Kind.{Kind};
 ghost use Rattle.md_tree.specs.TreeTexts.{letter};
 ghost use Rattle.md_tree.specs.Grammar.{InGrammar, LeavesAt};
-ghost use Rattle.md_tree.specs.Languages.{IsNumberBefore, IsNoNumber, LacksFirst, GoesOn, IsStuck, PairThen, PairsThen, PairsGoOn, Tail, TreeThen, outermost_first, IsReadingTurn, ComesNext, IsTreeText};
+ghost use Rattle.md_text.specs.Fronts.{LacksFirst};
+ghost use Rattle.md_tree.specs.Languages.{IsNumberBefore, IsNoNumber, GoesOn, IsStuck, PairThen, PairsThen, PairsGoOn, Tail, TreeThen, outermost_first, IsReadingTurn, ComesNext, IsTreeText};
 
 use crate::Kind;
 use md_graph::Memory;
+use md_text::skip_byte;
 use std::alloc::Global;
 
 // One turn of the reading: what is left, and whether it stands behind a tree; or what is left where
@@ -231,21 +235,6 @@ pub fn split_letter<'a>(text: &'a [u8]) -> Option<(Kind, &'a [u8])>
         b'R' => Some((Kind::Prime, tail)),
         _ => None,
     }
-}
-
-/// Past a byte.
-pub fn skip_byte<'a>(text: &'a [u8], byte: u8) -> Result<&'a [u8], &'a [u8]>
-    ensures on { IfOk result (λ tail. text.now ≡ byte ∷ tail.now) }
-    ensures stuck { IfErr result (λ tail. tail.now ≡ text.now) }
-    ensures other { IfErr result (λ tail. LacksFirst byte text.now) }
-{
-    let Some((first, tail)) = text.split_first() else {
-        return Err(text);
-    };
-    if *first == byte {
-        return Ok(tail);
-    }
-    Err(text)
 }
 
 // Past a number.

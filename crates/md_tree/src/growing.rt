@@ -15,7 +15,7 @@ pub(crate) fn append<T: Drop>(list: &mut Vec<T>, item: T) -> Result<(), Memory>
 
 // Makes room for another item.
 #[inline(always)]
-pub(crate) fn make_room<T>(list: &mut Vec<T>) -> Result<(), Memory>
+fn make_room<T>(list: &mut Vec<T>) -> Result<(), Memory>
     ensures items { OnOk result (list.new.items ≡ list.old.items) }
     ensures room { OnOk result (vec_len list.new < vec_capacity list.new) }
 {

@@ -5,28 +5,22 @@
 ghost use Rattle.std.specs.Prelude.{◌≡◌, ◌<◌, length, vec_len, slice_index_or};
 ghost use Rattle.md_tree.specs.Plain.{trees_of};
 
-mod alike_pairs;
 mod builder;
 mod cotree;
 mod grammar;
 mod growing;
 pub mod laws;
-mod numbers;
 mod pair_order;
 mod pair_reader;
 mod pair_writer;
 mod parts;
 mod reader;
-mod short_pairs;
-mod sparse_pairs;
 mod tree_graph;
-mod words;
 mod writer;
 
 pub use builder::{Opened, ascends};
-pub use cotree::is_cotree;
-pub use grammar::{skip_byte, split_letter};
-pub use numbers::small_number;
+pub use cotree::{has_no_prime, is_cotree};
+pub use grammar::split_letter;
 pub use parts::{Part, build, nodes_of};
 pub use reader::{TreeFault, read_tree};
 pub use tree_graph::graph_of;

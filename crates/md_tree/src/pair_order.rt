@@ -21,17 +21,8 @@ fn is_before(first: Pair, second: Pair) -> bool
 }
 
 #[inline(always)]
-pub(crate) fn is_of_positions(pair: Pair, count: usize) -> bool
+fn is_of_positions(pair: Pair, count: usize) -> bool
     ensures { IsTrue result ↔ ((pair.low < pair.high) × (pair.high < count)) }
 {
     pair.low < pair.high && (pair.high as usize) < count
-}
-
-// A number that rises from pair to pair.
-#[inline(always)]
-pub(crate) fn rank(pair: Pair) -> u64
-    ensures is { result ≡ pair.low * 4294967296 + pair.high }
-    ensures fits { pair.high < 4294967296 }
-{
-    u64::from(pair.low) * 0x1_0000_0000 + u64::from(pair.high)
 }

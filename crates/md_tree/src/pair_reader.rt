@@ -6,19 +6,14 @@ ghost use Rattle.md_tree.specs.declared.Pair.{Pair};
 ghost use Rattle.md_tree.specs.TreeTexts.{pairs_text};
 ghost use Rattle.md_tree.specs.declared.Kind.TheVariants.{Prime};
 ghost use Rattle.md_tree.specs.StrongTrees.{IsPairBefore};
-ghost use Rattle.md_tree.specs.Languages.{LacksFirst};
-ghost use Rattle.md_tree.specs.Held.{LacksEnd, IsEnd, LacksPairs, LacksPair, LacksNumber, IsNumberSplit, pair_before, AreListed, MayFollow, ReadsOn, IsAlike};
+ghost use Rattle.md_text.specs.Fronts.{LacksFirst};
+ghost use Rattle.md_tree.specs.Held.{LacksEnd, IsEnd, LacksPairs, LacksPair, pair_before, AreListed};
 
-use crate::alike_pairs::read_alike;
-use crate::grammar::skip_byte;
 use crate::growing::append;
-use crate::numbers::{digit, small_number};
-use crate::pair_order::{rank, still_listed};
-use crate::short_pairs::short_pair;
-use crate::sparse_pairs::{read_sparse, sparse_pair};
-use crate::words::word;
+use crate::pair_order::still_listed;
 use crate::{Kind, Pair};
 use md_graph::Memory;
+use md_text::{skip_byte, small_number};
 use std::alloc::Global;
 
 // The pairs of a node of the kind with so many children, and what stands behind its bracket; none
@@ -93,7 +88,7 @@ fn read_pairs<'a>(
     let mut last = Pair { low: 0, high: 0 };
     let mut listed = true;
     loop {
-        let Some((pair, more, tail)) = read_pair(rest) else {
+        let Some((pair, more, tail)) = read_any_pair(rest) else {
             return Ok(None);
         };
         listed = still_listed(listed, last, pair, count);
@@ -101,37 +96,12 @@ fn read_pairs<'a>(
         if !more {
             return Ok(Some((pairs, listed, tail)));
         }
-        let (next, far) = read_run(rest, pair, tail, last, count, &mut pairs)?;
-        last = next;
-        rest = far;
+        last = pair;
+        rest = tail;
     }
 }
 
 // A pair, whether another one follows, and what stands behind the mark that tells it.
-#[inline(always)]
-fn read_pair<'a>(text: &'a [u8]) -> Option<(Pair, bool, &'a [u8])>
-    ensures { MatchOption result (LacksPair text.now)
-        (λ p. text.now ≡ pair_before p.0 p.1 p.2.now) }
-{
-    if let Some((pair, tail)) = quick_pair(text) {
-        return Some((pair, true, tail));
-    }
-    read_any_pair(text)
-}
-
-// The pair that a text begins with, and what stands behind its comma, if it is of numbers of few
-// digits, the lower one first; none if no such pair is there, or if little text is left.
-#[inline(always)]
-fn quick_pair<'a>(text: &'a [u8]) -> Option<(Pair, &'a [u8])>
-    ensures { IfSome result (λ p. text.now ≡ pair_before p.0 true p.1.now) }
-{
-    if let Some(short) = short_pair(text) {
-        return Some(short);
-    }
-    sparse_pair(text)
-}
-
-// The same, a number at a time.
 #[inline(always)]
 fn read_any_pair<'a>(text: &'a [u8]) -> Option<(Pair, bool, &'a [u8])>
     ensures { MatchOption result (LacksPair text.now)
@@ -150,30 +120,4 @@ fn read_any_pair<'a>(text: &'a [u8]) -> Option<(Pair, bool, &'a [u8])>
         return Some((Pair { low, high }, false, tail));
     }
     None
-}
-
-// Goes on past pairs that are spelled like the one before, if that stands next to the `last` one;
-// else, or where there are none, past others.
-#[inline(always)]
-fn read_run<'a>(
-    text: &'a [u8],
-    pair: Pair,
-    tail: &'a [u8],
-    last: Pair,
-    count: usize,
-    pairs: &mut Vec<Pair>,
-) -> Result<(Pair, &'a [u8]), Memory>
-    requires few { count ≤ NAMES }
-    requires read { text.now ≡ pair_before pair true tail.now }
-    ensures { IfOk result
-        (λ r. ReadsOn count tail.now pairs.old.items pair r.1.now pairs.new.items r.0) }
-{
-    if pair.low < 100 || rank(pair) != rank(last).wrapping_add(1) {
-        return read_sparse(pair, tail, count, pairs);
-    }
-    let (next, rest) = read_alike(text, pair, tail, count, pairs)?;
-    if next.high != pair.high {
-        return Ok((next, rest));
-    }
-    read_sparse(next, rest, count, pairs)
 }

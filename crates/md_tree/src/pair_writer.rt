@@ -2,7 +2,7 @@
 ghost use Rattle.std.specs.Prelude.{◌≡◌, ◌+◌, ◌-◌, ◌*◌, ◌^◌, ◌<◌, ◌≤◌, [], ◌∷◌, ◌++◌, length, drop, IsTrue, IfSome, OnOk, OnErr};
 ghost use Rattle.md_text.specs.Numbers.{decimal};
 ghost use Rattle.md_text.specs.Pieces.{piece_text};
-ghost use Rattle.md_tree.specs.Fronts.{BeginsWith};
+ghost use Rattle.md_text.specs.Fronts.{BeginsWith};
 ghost use Rattle.md_tree.specs.Positions.{ArePositions, AreSeconds};
 ghost use Rattle.md_tree.specs.TreeTexts.{pairs_text};
 

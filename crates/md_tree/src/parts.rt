@@ -3,6 +3,7 @@ ghost use Rattle.std.specs.Prelude.{◌≡◌, [], ◌∷◌, ◌++◌, map, IfO
 ghost use Rattle.md_tree.specs.Trees.{PlainTree};
 ghost use Rattle.md_tree.specs.Plain.{plain};
 ghost use Rattle.md_tree.specs.Parts.{plain_part, part_of, parts_of, plain_at, below_node};
+ghost use Rattle.md_tree.specs.NodeLists.{nodes_backward};
 ghost use Rattle.md_tree.specs.Stacks.{with_part, HasChildrenOf};
 
 use crate::{Children, Kind, QuotientEdges, Tree};
@@ -54,7 +55,9 @@ fn put_part(stack: &mut Vec<Tree>, part: Part) -> Result<(), Memory>
 /// The nodes of a tree: each before its children, and these from the last to the first. No call
 /// nests as deep as the tree. Errors: want of memory.
 pub fn nodes_of(alloc: Global, tree: &Tree) -> Result<Vec<&Tree>, Memory>
-    ensures { IfOk result (λ nodes. map (λ r. part_of (plain_at r)) nodes.items
+    ensures nodes { IfOk result (λ list. map plain_at list.items
+        ≡ nodes_backward (plain tree.now)) }
+    ensures parts { IfOk result (λ list. map (λ r. part_of (plain_at r)) list.items
         ≡ parts_of (plain tree.now)) }
 {
     let mut nodes = Vec::new(alloc);

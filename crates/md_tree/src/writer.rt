@@ -1,6 +1,6 @@
 //! Writes the text of a tree.
 ghost use Rattle.std.specs.Prelude.{◌≡◌, ◌<◌, [], ◌++◌, length, IfOk, OnOk, OnErr};
-ghost use Rattle.md_tree.specs.Fronts.{BeginsWith};
+ghost use Rattle.md_text.specs.Fronts.{BeginsWith};
 ghost use Rattle.md_tree.specs.Plain.{plain, plain_option};
 ghost use Rattle.md_tree.specs.OpenNodes.{open_text, rest_text};
 ghost use Rattle.md_tree.specs.TreeTexts.{letter, tree_text, text_of};

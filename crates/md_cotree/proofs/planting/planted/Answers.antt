@@ -7,7 +7,7 @@ use Rattle.md_cotree.proofs.Rooted.{IsPlanting, plant_begin, plant_finds, plant_
 use Rattle.md_cotree.proofs.planting.planted.Goals as goal
 
 pub loop-node-init : goal.loop-node-init
-loop-node-init g c = plant_begin _ _ _ _ c.spare-spare.ensures.links c.in_ok-nodes.ensures c.new-stack.ensures.items c.in_ok-cotree.ensures
+loop-node-init g c = plant_begin _ _ _ _ c.spare-spare.ensures.links c.in_ok-nodes.ensures.parts c.new-stack.ensures.items c.in_ok-cotree.ensures
 
 pub put-requires : goal.put-requires
 put-requires g c =

@@ -8,7 +8,7 @@ use Rattle.md_tree.specs.Held.{IsDue}
 use Rattle.md_graph.specs.declared.TheConstants.{NAMES}
 use Rattle.md_graph.proofs.Limits.{NAMES-lt}
 use Rattle.md_tree.proofs.Coming.{due_node, few_held, useless_deep, useless_letter}
-use Rattle.md_tree.proofs.Leaving.{shorter_tail}
+use Rattle.md_text.proofs.FrontLemmas.{shorter_tail}
 use Rattle.md_tree.proofs.builder.begin_node.Goals as goal
 
 pub returns-then-len : goal.returns-then-len

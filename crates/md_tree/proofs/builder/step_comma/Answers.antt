@@ -1,7 +1,7 @@
 use Rattle.std.proofs.Common.{arith}
 use Rattle.std.proofs.lemmas.List.{nil_from_length}
 use Rattle.md_tree.proofs.Coming.{behind_comma, useless_over}
-use Rattle.md_tree.proofs.Leaving.{shorter_tail}
+use Rattle.md_text.proofs.FrontLemmas.{shorter_tail}
 use Rattle.md_tree.proofs.builder.step_comma.Goals as goal
 
 pub returns-then-is_empty : goal.returns-then-is_empty

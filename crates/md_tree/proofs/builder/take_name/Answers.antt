@@ -7,7 +7,7 @@ use Rattle.md_tree.proofs.Plain.{plain_is_leaf}
 use Rattle.md_tree.proofs.Stacking.{map_one_more}
 use Rattle.md_tree.proofs.Holding.{kept_name}
 use Rattle.md_tree.proofs.Coming.{due_name, useless_name}
-use Rattle.md_tree.proofs.Numerals.{number_shorter}
+use Rattle.md_text.proofs.FrontLemmas.{number_shorter}
 use Rattle.md_tree.proofs.builder.take_name.Goals as goal
 
 pub returns-then-name-ge-NAMES : goal.returns-then-name-ge-NAMES
@@ -21,7 +21,7 @@ returns c bytes h =
     let v = c.args.name in
     let held = c.args.held.now in
     let ts = map plain held.trees.items in
-    let trees = map_one_more plain c.append_leaf.new.trees.items held.trees.items (Leaf v) c.in_ok-append_leaf.ensures ∙ ap (λ t. ts ++ t ∷ []) (plain_is_leaf (Leaf v) v refl) in (
+    let trees = map_one_more plain c.append-2.new.list.items held.trees.items (Leaf v) c.in_ok-append-2.ensures ∙ ap (λ t. ts ++ t ∷ []) (plain_is_leaf (Leaf v) v refl) in (
       record {
         kept = subst (λ us. AreKept us c.append.new.list.items c.insert.new.self) (sym trees)
             (subst (λ ms. AreKept (ts ++ leaf v ∷ []) ms c.insert.new.self) (sym c.in_ok-append.ensures)

@@ -2,8 +2,10 @@ use Rattle.std.proofs.Common.{◌≡◌, ◌⊎◌, ◌∷◌, List, ℕ, sym, s
 use Rattle.std.proofs.lemmas.Result.{err_from_is_err_and, IfOk-weaker, IfErr-weaker}
 use Rattle.md_tree.specs.declared.Kind.{Kind}
 use Rattle.md_tree.specs.declared.Kind.TheVariants.{Parallel, Series, Prime}
-use Rattle.md_tree.specs.Languages.{Tail, PairThen, GoesOn, IsStuck, LacksFirst}
-use Rattle.md_tree.proofs.Leaving.{end_goes, end_stuck, goes_then, stuck_then, shorter_tail, both_err}
+use Rattle.md_text.specs.Fronts.{LacksFirst}
+use Rattle.md_tree.specs.Languages.{Tail, PairThen, GoesOn, IsStuck}
+use Rattle.md_text.proofs.FrontLemmas.{shorter_tail}
+use Rattle.md_tree.proofs.Leaving.{end_goes, end_stuck, goes_then, stuck_then, both_err}
 use Rattle.md_tree.proofs.grammar.skip_end.Goals as goal
 
 pub returns-in_err-pairs-in-Prime-clause-stuck : goal.returns-in_err-pairs-in-Prime-clause-stuck

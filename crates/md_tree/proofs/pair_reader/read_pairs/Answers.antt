@@ -2,8 +2,7 @@ use Rattle.std.proofs.Common.{true, sym, subst, ap, ◌∙◌, ◌∷◌, ◌++�
 use Rattle.std.specs.Prelude.{◌↔◌, IsTrue}
 use Rattle.md_tree.specs.TreeTexts.{pairs_text}
 use Rattle.md_tree.specs.Held.{no_pair, HasRead, AreListed}
-use Rattle.md_tree.proofs.Numerals.{pairs_whole, pairs_lack, pair_shorter, snoc_some}
-use Rattle.md_tree.proofs.Alike.{none_read, one_read, listed_more}
+use Rattle.md_tree.proofs.Numerals.{pairs_whole, pairs_lack, pair_shorter, snoc_some, none_read, one_read, listed_more}
 use Rattle.md_tree.proofs.pair_reader.read_pairs.Goals as goal
 
 pub loop-pair-init : goal.loop-pair-init
@@ -19,16 +18,12 @@ loop-pair-preserved c =
     let n = c.args.count in
     let text = c.args.text.now in
     let now = c.still_listed-listed.result in
-    c.in_ok-next.ensures.on text now
-    (subst (λ ps. HasRead n text c.in-Some.tail.now ps c.in-Some.pair now) (sym c.in_ok-append.ensures)
+    subst (λ ps. HasRead n text c.in-Some.tail.now ps c.in-Some.pair now) (sym c.in_ok-append.ensures)
     (one_read n text c.loop-pair.rest.now c.in-Some.tail.now c.loop-pair.pairs.items c.loop-pair.last c.in-Some.pair c.loop-pair.listed now c.loop-pair.invariant (rw more at c.in-Some.ensures)
-    c.still_listed-listed.ensures))
+    c.still_listed-listed.ensures)
 
 pub loop-pair-smaller : goal.loop-pair-smaller
-loop-pair-smaller c =
-    let s = pair_shorter _ _ c.in-Some.pair c.in-Some.more c.in-Some.ensures in
-    let t = c.in_ok-next.ensures.shorter in
-    omega arith
+loop-pair-smaller c = pair_shorter _ _ c.in-Some.pair c.in-Some.more c.in-Some.ensures
 
 pub returns-then-not-more : goal.returns-then-not-more
 returns-then-not-more c =

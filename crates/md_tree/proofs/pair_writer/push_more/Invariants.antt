@@ -1,6 +1,6 @@
 use Rattle.std.proofs.Common.{◌≡◌, ◌-◌, ◌≤◌, ◌++◌, length, drop}
 use Rattle.md_tree.specs.TreeTexts.{pairs_text}
-use Rattle.md_tree.specs.Fronts.{BeginsWith}
+use Rattle.md_text.specs.Fronts.{BeginsWith}
 use Rattle.md_tree.proofs.pair_writer.push_more.Given as goal
 
 abbrev pub invariant-loop-place : goal.invariant-loop-place

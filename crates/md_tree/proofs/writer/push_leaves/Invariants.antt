@@ -1,7 +1,7 @@
 use Rattle.std.proofs.Common.{◌≡◌, [], ◌∷◌, ◌++◌, length, map}
 use Rattle.md_tree.specs.Trees.{row}
 use Rattle.md_tree.specs.Plain.{plain}
-use Rattle.md_tree.specs.Fronts.{BeginsWith}
+use Rattle.md_text.specs.Fronts.{BeginsWith}
 use Rattle.md_tree.specs.OpenNodes.{open_text}
 use Rattle.md_tree.specs.TreeTexts.{row_text, pairs_text}
 use Rattle.md_tree.proofs.writer.push_leaves.Given as goal

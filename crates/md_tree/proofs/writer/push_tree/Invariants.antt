@@ -1,6 +1,6 @@
 use Rattle.std.proofs.Common.{◌≡◌, ◌++◌, length}
 use Rattle.md_tree.specs.Plain.{plain}
-use Rattle.md_tree.specs.Fronts.{BeginsWith}
+use Rattle.md_text.specs.Fronts.{BeginsWith}
 use Rattle.md_tree.specs.OpenNodes.{rest_text}
 use Rattle.md_tree.specs.TreeTexts.{tree_text}
 use Rattle.md_tree.proofs.writer.push_tree.Given as goal

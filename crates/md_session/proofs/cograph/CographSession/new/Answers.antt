@@ -17,6 +17,6 @@ returns-then-has_no_prime c =
 
 pub unreachable-requires : goal.unreachable-requires
 unreachable-requires c =
-    let yes = c.has_no_prime.ensures.1 (no_prime_of c.args.graph c.vertices-vertices.ensures.graph (plain_option c.in_ok-tree.tree) c.in_ok-tree.ensures.tree c.in-None.ensures.none) in
+    let yes = c.has_no_prime.ensures.no_prime.1 (no_prime_of c.args.graph c.vertices-vertices.ensures.graph (plain_option c.in_ok-tree.tree) c.in_ok-tree.ensures.tree c.in-None.ensures.none) in
     let fails = c.if-has_no_prime.false in
     absurd (cc)

@@ -1,6 +1,0 @@
-use Rattle.std.proofs.Common.{refl}
-use Rattle.md_tree.proofs.Short.{one_and_two}
-use Rattle.md_tree.proofs.short_pairs.pair_of_one_and_two.Goals as goal
-
-pub returns : goal.returns
-returns c = one_and_two c.args.text.now c.args.word c.in_ok-digits.digits c.tens-tens.result _ _ c.requires.word c.in_ok-digits.ensures c.tens-tens.ensures refl refl c.if-high-lt10.false
