@@ -31,7 +31,6 @@
 -- what is counted in trees, and trees around a place
 pub mod Counts
 pub mod Contexts
-
 -- what each step makes of a tree
 pub mod Turns
 pub mod Marks

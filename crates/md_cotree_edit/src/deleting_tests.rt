@@ -14,7 +14,7 @@ use std::sync::ledger::{Blank, Ledger};
 use std::test::Fail;
 
 // Deletes a vertex, where it is there.
-fn deleted<L: Ledger>(cotree: &mut Cotree, graph: &Graph, x: u32, blank: Blank)
+pub(crate) fn deleted<L: Ledger>(cotree: &mut Cotree, graph: &Graph, x: u32, blank: Blank)
     requires name { blank.name ≡ L.name }
     requires parts { blank.parts ≡ L.parts }
     requires some { 0 < blank.parts }
@@ -47,6 +47,8 @@ fn vertices_go(rt: HostRuntime) -> Result<(), Fail> {
         ("P(0,1)", 0, "1"),
         ("S(0,1,2)", 1, "S(0,2)"),
         ("P(0,S(1,2))", 0, "S(1,2)"),
+        ("P(S(0,1),2)", 2, "S(0,1)"),
+        ("S(P(S(0,1),2),3)", 2, "S(0,1,3)"),
         ("P(0,S(1,2),3)", 0, "P(S(1,2),3)"),
         ("S(0,P(1,2))", 1, "S(0,2)"),
         ("P(0,S(1,P(2,3)))", 2, "P(0,S(1,3))"),

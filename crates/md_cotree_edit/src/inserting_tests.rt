@@ -43,7 +43,7 @@ fn ascend(names: &[u32]) -> bool
 }
 
 // Adds a vertex to those that there are; whether that was done.
-fn inserted<L: Ledger>(
+pub(crate) fn inserted<L: Ledger>(
     cotree: &mut Cotree,
     graph: &Graph,
     x: u32,
@@ -84,7 +84,7 @@ fn grown(
 #[test]
 fn vertices_come(rt: HostRuntime) -> Result<(), Fail> {
     let alloc = rt.alloc();
-    let four: [u32; 4] = [0, 1, 2, 3];
+    let names: [u32; 6] = [0, 1, 2, 3, 0, 2];
     let table = [
         ("empty", 7, 0, 0, true, "7"),
         ("0", 1, 0, 1, true, "S(0,1)"),
@@ -98,9 +98,11 @@ fn vertices_come(rt: HostRuntime) -> Result<(), Fail> {
         ("P(S(0,1),S(2,3))", 4, 0, 2, true, "P(S(0,1,4),S(2,3))"),
         ("P(S(0,1),S(2,3))", 4, 1, 3, false, "P(S(0,1),S(2,3))"),
         ("P(S(0,2),S(1,3))", 4, 0, 2, false, "P(S(0,2),S(1,3))"),
+        ("S(P(0,1),2)", 3, 4, 6, true, "S(P(S(0,3),1),2)"),
+        ("S(P(0,1),2)", 3, 0, 1, false, "S(P(0,1),2)"),
     ];
     for (before, x, from, to, done, after) in &table {
-        let (is_done, text) = grown(&rt, alloc, before.as_bytes(), *x, &four[*from..*to])?;
+        let (is_done, text) = grown(&rt, alloc, before.as_bytes(), *x, &names[*from..*to])?;
         assert_eq!(rt; is_done, *done);
         assert!(rt; text.as_slice() == after.as_bytes());
     }

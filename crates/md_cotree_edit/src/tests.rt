@@ -29,7 +29,13 @@ pub(crate) fn read(rt: &impl Abort, alloc: Global, bytes: &[u8]) -> Option<Tree>
 
 // Deletes the edge between two different vertices, or adds it where there is none; whether that was
 // done.
-fn turned<L: Ledger>(cotree: &mut Cotree, graph: &Graph, u: u32, v: u32, blank: Blank) -> bool
+pub(crate) fn turned<L: Ledger>(
+    cotree: &mut Cotree,
+    graph: &Graph,
+    u: u32,
+    v: u32,
+    blank: Blank,
+) -> bool
     requires name { blank.name ≡ L.name }
     requires parts { blank.parts ≡ L.parts }
     requires some { 0 < blank.parts }
@@ -60,6 +66,7 @@ fn edges_turn(rt: HostRuntime) -> Result<(), Fail> {
         ("P(0,1)", 0, 1, true, "S(0,1)"),
         ("S(0,1)", 1, 0, true, "P(0,1)"),
         ("S(P(0,1),P(2,3))", 0, 2, false, "S(P(0,1),P(2,3))"),
+        ("P(S(0,1),S(2,3))", 0, 2, false, "P(S(0,1),S(2,3))"),
         (
             "P(S(0,P(1,S(2,3))),4)",
             4,
