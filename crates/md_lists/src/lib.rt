@@ -10,7 +10,7 @@ mod span;
 mod tests;
 
 pub use kinds::PlaceKind;
-pub use lists::{Lists, filled};
+pub use lists::Lists;
 
 /// How many places there are: a place is a number below it.
 pub const PLACES: u32 = 8200;

@@ -1,12 +1,12 @@
 //! Linked lists in place.
-ghost use Rattle.std.specs.Prelude.{◌≡◌, ◌≢◌, ℕ, ◌+◌, ◌<◌, ◌≤◌, List, [], ◌∷◌, ◌++◌, length, replicate, IfOk, IsSome, vec_len, vec_capacity, IfSome, ◌^◌, Some, None, slice_set, ◌==◌, if◌then◌else◌};
+ghost use Rattle.std.specs.Prelude.{◌≡◌, ◌≢◌, ℕ, ◌+◌, ◌<◌, ◌≤◌, List, [], ◌∷◌, ◌++◌, length, IfOk, IsSome, vec_len, vec_capacity, IfSome, ◌^◌, Some, None, slice_set, ◌==◌, if◌then◌else◌};
 ghost use Rattle.md_lists.specs.Words.{times, first_or, behind};
 ghost use Rattle.md_lists.specs.Links.{kind_at, parent_at, children_at, tally_at, note_at, IsLive, IsMarked, IsBare, AreLinks, spare_count, siblings, all_free, with_kind, attached, detached, replaced, raised, noted, unmarked};
 ghost use Rattle.md_lists.specs.Spans.{span_of, linked};
 
 use crate::span::{Span, link};
 use crate::{PLACES, PlaceKind};
-use md_graph::{Memory, Steps};
+use md_graph::{Memory, Steps, copies_of};
 use std::alloc::Global;
 use std::marker::Model;
 use std::sync::ledger::Ledger;
@@ -51,15 +51,15 @@ impl Lists {
         ensures links { IfOk result AreLinks }
     {
         Ok(Lists {
-            kinds: filled(alloc, PLACES, None)?,
-            parents: filled(alloc, PLACES, None)?,
-            spans: filled(alloc, PLACES, Span::empty())?,
-            nexts: filled(alloc, PLACES, None)?,
-            previous: filled(alloc, PLACES, None)?,
-            tallies: filled(alloc, PLACES, 0)?,
-            notes: filled(alloc, PLACES, 0)?,
+            kinds: copies_of(alloc, PLACES, None)?,
+            parents: copies_of(alloc, PLACES, None)?,
+            spans: copies_of(alloc, PLACES, Span::empty())?,
+            nexts: copies_of(alloc, PLACES, None)?,
+            previous: copies_of(alloc, PLACES, None)?,
+            tallies: copies_of(alloc, PLACES, 0)?,
+            notes: copies_of(alloc, PLACES, 0)?,
             marks: Span::empty(),
-            mark_nexts: filled(alloc, PLACES, None)?,
+            mark_nexts: copies_of(alloc, PLACES, None)?,
             free: all_places(alloc)?,
         })
     }
@@ -365,17 +365,6 @@ fn join(marks: Span, nexts: &mut Vec<Option<u32>>, place: u32, tally: u32, note:
     link(nexts, marks.last, Some(place));
     link(nexts, Some(place), None);
     marks.with_last(place)
-}
-
-/// One item, `count` times. Errors: want of memory.
-pub fn filled<T: Copy>(alloc: Global, count: u32, item: T) -> Result<Vec<T>, Memory>
-    ensures { IfOk result (λ v. v.items ≡ replicate count item) }
-{
-    let mut items = Vec::with_capacity(alloc, count as usize)?;
-    for _ in 0..count {
-        items.push_reserved(item);
-    }
-    Ok(items)
 }
 
 // All places.

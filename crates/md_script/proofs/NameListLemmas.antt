@@ -26,11 +26,3 @@ map_same (x ∷ xs) = ap (λ l. x ∷ l) (map_same xs)
 -- the same of a list of what an iterator gave
 pub collected_list : (list xs : List ℕ) (s : NameSet) → list ≡ xs → map (λ x. x) xs ≡ ascending s → IsNameList list
 collected_list list xs s items all = subst IsNameList (sym (items ∙ sym (map_same xs) ∙ all)) (ascending_is_list s)
-
--- one item of a list more
-pub one_more_name : (s t : NameSet) (list : List ℕ) (i v : ℕ) → s ≡ set.from_list (take i list) → v ≡ get_or list i 0 → i < length list
-    → t ≡ set.insert s v → t ≡ set.from_list (take (i + 1) list)
-one_more_name s t list i v so_far item within more =
-    let push = set.from_list_push nat_cmp_total nat_cmp-IsAntisymmetric (take i list) v in
-    let longer : take (i + 1) list ≡ take i list ++ v ∷ [] = take_more list i 0 within ∙ ap (λ x. take i list ++ x ∷ []) (sym item) in
-    more ∙ ap (λ u. set.insert u v) so_far ∙ sym push ∙ ap set.from_list (sym longer)

@@ -3,9 +3,8 @@ ghost use Rattle.std.specs.Prelude.{◌≡◌, None, not, find};
 ghost use Rattle.std.specs.FinSet as set;
 ghost use Rattle.md_script.specs.Edit.{HasNames, reason_of, ends_reason, after};
 
-use crate::neighbours::set_of;
 use crate::{Edit, EditReason};
-use md_graph::Graph;
+use md_graph::{Graph, Names};
 
 /// Why an edit can't be applied to a graph: the first reason that holds, in the order of
 /// `reason_of`. `None` exactly where it can.
@@ -66,7 +65,7 @@ pub fn apply(graph: &mut Graph, edit: &Edit)
         Edit::DelEdge { u, v } => graph.remove_edge(*u, *v),
         Edit::AddVertex { x, neighbours } => {
             graph.add_vertex(*x);
-            graph.add_edges(*x, &set_of(neighbours.as_slice()));
+            graph.add_edges(*x, &Names::from_list(neighbours.as_slice()));
         }
         Edit::DelVertex { x } => graph.remove_vertex(*x),
     }

@@ -1,11 +1,9 @@
 //! The neighbours that a new vertex is to have.
-ghost use Rattle.std.specs.Prelude.{◌≡◌, ◌<◌, IfOk};
-ghost use Rattle.std.specs.List.{All};
-ghost use Rattle.std.specs.FinSet as set;
+ghost use Rattle.std.specs.Prelude.{◌≡◌, IfOk};
 ghost use Rattle.md_graph.specs.NameSet.{ascending};
 ghost use Rattle.md_script.specs.Neighbours.{IsNameList};
 
-use md_graph::{Memory, NAMES, Names};
+use md_graph::{Memory, Names};
 use std::alloc::Global;
 use std::marker::Model;
 
@@ -43,16 +41,4 @@ impl Neighbours {
     {
         self.list.as_slice()
     }
-}
-
-// The set of the names in a list.
-pub(crate) fn set_of(list: &[u32]) -> Names
-    requires { All (λ v. v < NAMES) list.now }
-    ensures { result ≡ set.from_list list.now }
-{
-    let mut names = Names::none();
-    for v in list {
-        names.insert(*v);
-    }
-    names
 }

@@ -11,8 +11,8 @@ add_edges-requires c = (
     (
       vertex_added c.args.graph.now c.add_vertex.new.self c.in-AddVertex.x c.add_vertex.ensures,
       (
-        neighbours_are_vertices c.args.graph.now c.add_vertex.new.self c.args.edit.now c.in-AddVertex.x _ c.set_of.result c.in-AddVertex.is c.requires.applies (c.set_of.ensures ∙ ap set.from_list c.as_slice.ensures.list) c.add_vertex.ensures,
-        no_own_neighbour c.args.graph.now c.args.edit.now c.in-AddVertex.x _ c.set_of.result c.in-AddVertex.is c.requires.applies (c.set_of.ensures ∙ ap set.from_list c.as_slice.ensures.list),
+        neighbours_are_vertices c.args.graph.now c.add_vertex.new.self c.args.edit.now c.in-AddVertex.x _ c.from_list.result c.in-AddVertex.is c.requires.applies (c.from_list.ensures.members ∙ ap set.from_list c.as_slice.ensures.list) c.add_vertex.ensures,
+        no_own_neighbour c.args.graph.now c.args.edit.now c.in-AddVertex.x _ c.from_list.result c.in-AddVertex.is c.requires.applies (c.from_list.ensures.members ∙ ap set.from_list c.as_slice.ensures.list),
       ),
     ),
   ),

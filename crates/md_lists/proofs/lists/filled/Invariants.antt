@@ -1,5 +1,0 @@
-use Rattle.std.proofs.Common.{◌≡◌, ◌≤◌, replicate, vec_capacity}
-use Rattle.md_lists.proofs.lists.filled.Given as goal
-
-abbrev pub invariant-loop : goal.invariant-loop
-invariant-loop g l = (l.items.items ≡ replicate l.counter l.item) × (l.count ≤ vec_capacity l.items)
