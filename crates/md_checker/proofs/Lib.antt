@@ -23,3 +23,4 @@ mod Comparing
 mod ArcTexts
 mod HeadPairs
 mod Taking
+mod Cotrees

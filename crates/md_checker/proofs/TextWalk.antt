@@ -13,7 +13,8 @@ use Rattle.md_tree.specs.declared.Kind.{Kind}
 use Rattle.md_tree.specs.declared.Kind.TheVariants.{Parallel, Series, Prime}
 use Rattle.md_tree.specs.declared.Pair.{Pair}
 use Rattle.md_tree.specs.declared.builder.Opened.{Opened}
-use Rattle.md_tree.specs.Held.{AreKept, IsDue, AreLeast, Ascends, MayHave, MayList, IsNumberSplit}
+use Rattle.md_text.specs.Fronts.{IsNumberSplit}
+use Rattle.md_tree.specs.Held.{AreKept, IsDue, AreLeast, Ascends, MayHave, MayList}
 use Rattle.md_tree.specs.Parts.{inner}
 use Rattle.md_tree.specs.Stacks.{with_part}
 use Rattle.md_tree.specs.StrongTrees.{IsTreeOf}

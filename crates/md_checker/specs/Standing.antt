@@ -1,6 +1,6 @@
 -- The place of a report at which a checker stands, by what it keeps.
 -- Source: this project's own format of reports.
-use Rattle.std.specs.Prelude.{◌≡◌, ◌≤◌, ℕ, List, length, drop}
+use Rattle.std.specs.Prelude.{◌≡◌, ◌⊎◌, ◌≤◌, ℕ, Bool, true, false, List, length, drop}
 use Rattle.md_graph.specs.PlainGraph.{PlainGraph}
 use Rattle.md_script.specs.declared.edit.Edit as script
 use Rattle.md_report.specs.declared.line.GraphMode.{GraphMode}
@@ -13,6 +13,8 @@ use Rattle.md_checker.specs.declared.graph_checker.GraphDue.{GraphDue}
 use Rattle.md_checker.specs.declared.graph_checker.GraphDue.TheVariants as graph_due
 use Rattle.md_checker.specs.declared.session_checker.SessionDue.{SessionDue}
 use Rattle.md_checker.specs.declared.session_checker.SessionDue.TheVariants as session_due
+use Rattle.md_checker.specs.declared.session_checker.DueTree.{DueTree}
+use Rattle.md_checker.specs.declared.session_checker.DueTree.TheVariants as due_tree
 use Rattle.md_checker.specs.declared.session_checker.Step.{Step}
 
 -- the place of a report over graphs at which this line is due
@@ -32,6 +34,13 @@ session_place session_due.Nothing mode g edits = after_end
 -- in mode quiet the state is a cograph where edits are answered
 abbrev pub StaysCograph : SessionDue → SessionMode → PlainGraph → Type 0
 StaysCograph due mode g = mode ≡ Quiet → due ≡ session_due.Edits → IsCograph g
+
+-- the line that is due may tell the tree of this state; `left` tells whether an edit is left
+abbrev pub MayTell : DueTree → SessionDue → SessionMode → Bool → Type 0
+MayTell due_tree.First due mode left = (due ≡ session_due.State) × (mode ≡ Quiet → ⊥)
+MayTell due_tree.Edited due mode left = (due ≡ session_due.Edits) × (mode ≡ Quiet → ⊥) × (left ≡ true)
+MayTell due_tree.Last due mode left =
+    ((due ≡ session_due.State) ⊎ (due ≡ session_due.Edits)) × (mode ≡ Quiet) × (left ≡ false)
 
 -- a line with this text may come at the place p, and leads to q
 abbrev pub Takes : Place → List ℕ → Place → Type 0

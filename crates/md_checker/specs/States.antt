@@ -1,10 +1,11 @@
 -- What may be the state of a session, and what answers an edit that can be applied.
 -- Source: this project's own format of reports.
-use Rattle.std.specs.Prelude.{Option}
+use Rattle.std.specs.Prelude.{◌≡◌, ℕ, List, ◌++◌, Option}
 use Rattle.md_graph.specs.PlainGraph.{PlainGraph, adjacent}
 use Rattle.md_modules.specs.declared.induced_paths.P4.{P4}
 use Rattle.md_tree.specs.Trees.{PlainTree}
-use Rattle.md_tree.specs.StrongTrees.{IsTree}
+use Rattle.md_tree.specs.StrongTrees.{IsTree, IsTreeOf}
+use Rattle.md_tree.specs.TreeTexts.{tree_text}
 use Rattle.md_report.specs.declared.line.SessionMode.{SessionMode}
 use Rattle.md_report.specs.declared.line.SessionMode.TheVariants.{Edit, Cograph, Quiet}
 use Rattle.md_report.specs.Cographs.{IsCograph, IsP4Of}
@@ -15,6 +16,13 @@ abbrev pub IsStateTree : SessionMode → PlainGraph → Option PlainTree → Typ
 IsStateTree Edit g t = IsTree (adjacent g) g.vertices t
 IsStateTree Cograph g t = IsCograph g × IsTree (adjacent g) g.vertices t
 IsStateTree Quiet g t = ⊥
+
+-- the text is the word and behind it that of the tree of g, which may be a state of a session of the mode
+pub record IsStateText (mode : SessionMode) (g : PlainGraph) (word text : List ℕ) : Type 0 where
+  pub cograph : (mode ≡ Edit → ⊥) → IsCograph g
+  pub tree : PlainTree
+  pub fits : IsTreeOf (adjacent g) g.vertices tree
+  pub spelled : text ≡ word ++ tree_text tree
 
 -- the graph may be a state of a session of the mode, of which no tree is told
 abbrev pub IsStateAlone : SessionMode → PlainGraph → Type 0

@@ -12,8 +12,7 @@ ghost use Rattle.md_checker.specs.HeadPairs.{near_heads, near_pairs, head_pairs,
 use crate::gathered::{past_each, put_pair};
 use crate::tree_fit::set_of;
 use md_graph::{GraphOf, Memory, Set};
-use md_text::{Chunk, Piece, digits_piece, number_piece, piece_behind};
-use md_tree::skip_byte;
+use md_text::{Chunk, Piece, digits_piece, number_piece, piece_behind, skip_byte};
 use std::alloc::Global;
 
 // What a comparison of pairs needs beside the text: at the place of each head its position, a chunk

@@ -10,7 +10,6 @@ ghost use Rattle.md_tree.specs.StrongTrees.{IsTree};
 ghost use Rattle.md_tree.specs.WellFormed.{IsWellFormed};
 ghost use Rattle.md_script.specs.Edit.{HasNames, reason_of, after};
 ghost use Rattle.md_script.specs.declared.edit.Edit as script;
-ghost use Rattle.md_report.specs.declared.line.SessionMode.TheVariants as session_modes;
 ghost use Rattle.md_report.specs.declared.line.SessionMode.TheVariants.{Quiet};
 ghost use Rattle.md_report.specs.Lines.{PlainLine, line_text, plain_line, tree, applied, refused, not_cograph};
 ghost use Rattle.md_report.specs.WellFormedLines.{IsWellFormedLine};
@@ -20,11 +19,11 @@ ghost use Rattle.md_report.specs.Orientations.{IsOrientationLine};
 ghost use Rattle.md_report.specs.Models.{IsModelLine};
 ghost use Rattle.md_report.specs.Cographs.{IsCograph, IsP4Of, HasP4Line, IsOpeningLine};
 ghost use Rattle.md_checker.specs.Standing.{Takes};
-ghost use Rattle.md_checker.specs.States.{IsStateTree, IsStateAlone, IsRefusedPath};
+ghost use Rattle.md_checker.specs.States.{IsStateTree, IsStateText, IsStateAlone, IsRefusedPath};
 
 use crate::certificates::{is_forcing_chain, is_least_edge_orientation, realise};
 use crate::fixed_lines::is_end;
-use crate::text_fit::is_word_and_tree;
+use crate::text_fit::{is_word_and_cotree, is_word_and_tree};
 use crate::tree_fit::fits;
 use md_forcing::{Chain, Side};
 use md_graph::{Graph, GraphOf, Memory};
@@ -32,7 +31,7 @@ use md_modules::{P4, is_p4};
 use md_orientation::{Ending, walk};
 use md_report::{GraphMode, Line, SessionMode, made_p4};
 use md_script::{Edit, EditReason, apply, lost_row, reason, take_back};
-use md_tree::{Tree, is_cotree};
+use md_tree::{Tree, has_no_prime};
 use std::alloc::Global;
 
 // Whether the line reports the graph. Condition: the line is well-formed.
@@ -131,22 +130,21 @@ pub(crate) fn reports_state(
     }
 }
 
-// Whether the text is that of a line that reports the first state of a session; a false says
-// nothing.
-pub(crate) fn reports_state_by_text(
+// Whether the text is the word and behind it that of the tree of the graph, which may be a state of
+// a session of the mode; a false says nothing.
+pub(crate) fn is_word_and_state(
     alloc: Global,
     mode: SessionMode,
     graph: &Graph,
+    word: &[u8],
     text: &[u8],
 ) -> Result<bool, Memory>
-    ensures edit { IfOk result (λ fit. IsTrue fit → mode ≡ session_modes.Edit) }
-    ensures takes { IfOk result (λ fit. IsTrue fit → (edits : List script.Edit)
-        → Takes (at_state mode graph.now edits) text.now (at_edits mode graph.now edits)) }
+    ensures { IfOk result (λ fit. IsTrue fit → IsStateText mode graph.now word.now text.now) }
 {
     match mode {
-        SessionMode::Edit => is_word_and_tree(alloc, graph, b"t ", text),
-        SessionMode::Cograph => Ok(false),
-        SessionMode::Quiet => Ok(false),
+        SessionMode::Edit => is_word_and_tree(alloc, graph, word, text),
+        SessionMode::Cograph => is_word_and_cotree(alloc, graph, word, text),
+        SessionMode::Quiet => is_word_and_cotree(alloc, graph, word, text),
     }
 }
 
@@ -215,21 +213,10 @@ fn is_tree_of_cograph(alloc: Global, graph: &Graph, tree: &Option<Tree>) -> Resu
         × IsTree (adjacent graph.now) graph.now.vertices (plain_option tree.now))) }
 {
     let _vertices = graph.vertices();
-    if !is_of_cograph(tree) {
+    if !has_no_prime(tree) {
         return Ok(false);
     }
     fits(alloc, graph, tree)
-}
-
-// Whether a graph with this tree is a cograph.
-fn is_of_cograph(tree: &Option<Tree>) -> bool
-    ensures { (g : PlainGraph) → IsGraph g
-        → IsTree (adjacent g) g.vertices (plain_option tree.now) → IsTrue result ↔ IsCograph g }
-{
-    match tree {
-        Some(tree) => is_cotree(tree),
-        None => true,
-    }
 }
 
 // Whether the line answers the edit at the graph, which then is the state behind it; else, and for
@@ -262,10 +249,10 @@ pub(crate) fn answers_edit(
     }
 }
 
-// Whether the text is that of a line that answers the edit at the graph, which then is the state
-// behind it; else, and for want of memory, it stays. A false says nothing. Condition: the names in
-// the edit are names.
-pub(crate) fn answers_by_text(
+// Whether the text is that of a line that tells the tree of the graph after the edit, which then is
+// the state; else, and for want of memory, the graph stays. A false says nothing. Conditions: the
+// names in the edit are names, and the mode is not quiet.
+pub(crate) fn applies_by_text(
     alloc: Global,
     mode: SessionMode,
     graph: &mut Graph,
@@ -273,40 +260,22 @@ pub(crate) fn answers_by_text(
     text: &[u8],
 ) -> Result<bool, Memory>
     requires names { HasNames edit.now }
-    ensures edit { IfOk result (λ taken. IsTrue taken → mode ≡ session_modes.Edit) }
+    requires told { mode ≡ Quiet → ⊥ }
     ensures takes { IfOk result (λ taken. IsTrue taken → (edits : List script.Edit)
         → Takes (at_edits mode graph.old (edit.now ∷ edits)) text.now
         (at_edits mode graph.new edits)) }
     ensures refused { IfOk result (λ taken. ¬ IsTrue taken → graph.new ≡ graph.old) }
     ensures stays { IsErr result → graph.new ≡ graph.old }
 {
-    match mode {
-        SessionMode::Edit => applies_by_text(alloc, graph, edit, text),
-        SessionMode::Cograph => Ok(false),
-        SessionMode::Quiet => Ok(false),
+    if !text.starts_with(b"ok ") {
+        return Ok(false);
     }
-}
-
-// The same in mode edit, for a line that tells the tree of the graph after the edit.
-fn applies_by_text(
-    alloc: Global,
-    graph: &mut Graph,
-    edit: &Edit,
-    text: &[u8],
-) -> Result<bool, Memory>
-    requires names { HasNames edit.now }
-    ensures takes { IfOk result (λ taken. IsTrue taken → (edits : List script.Edit)
-        → Takes (at_edits session_modes.Edit graph.old (edit.now ∷ edits)) text.now
-        (at_edits session_modes.Edit graph.new edits)) }
-    ensures refused { IfOk result (λ taken. ¬ IsTrue taken → graph.new ≡ graph.old) }
-    ensures stays { IsErr result → graph.new ≡ graph.old }
-{
     if let Some(_) = reason(graph, edit) {
         return Ok(false);
     }
     let row = lost_row(graph, edit);
     apply(graph, edit);
-    let fit = is_word_and_tree(alloc, graph, b"ok ", text);
+    let fit = is_word_and_state(alloc, mode, graph, b"ok ", text);
     if !is_true(&fit) {
         take_back(graph, edit, &row);
     }

@@ -2,18 +2,17 @@
 ghost use Rattle.std.specs.Prelude.{◌≡◌, ◌≤◌, ◌<◌, ◌+◌, ◌↔◌, List, [], if◌then◌else◌, length, drop, IfOk, IfSome, IfNone, IsErr, IsTrue};
 ghost use Rattle.md_graph.specs.PlainGraph.{PlainGraph};
 ghost use Rattle.md_script.specs.declared.edit.Edit as script;
-ghost use Rattle.md_report.specs.declared.line.SessionMode.TheVariants as session_modes;
 ghost use Rattle.md_report.specs.declared.line.SessionMode.TheVariants.{Quiet};
 ghost use Rattle.md_report.specs.Lines.{plain_line};
 ghost use Rattle.md_report.specs.WellFormedLines.{IsWellFormedLine};
 ghost use Rattle.md_report.specs.Cographs.{IsCograph, edits_behind};
 ghost use Rattle.md_report.specs.Places.{before_session, at_state, at_edits, after_end, closed_place, MayCome, next_place};
 ghost use Rattle.md_checker.specs.declared.session_checker.SessionDue.TheVariants.{Edits};
-ghost use Rattle.md_checker.specs.Standing.{session_place, IsStep, Takes};
+ghost use Rattle.md_checker.specs.Standing.{session_place, IsStep, MayTell, Takes};
 
 use crate::fixed_lines::{is_end, is_head};
 use crate::judgements::{
-    answers_by_text, answers_edit, closes_edits, reports_state, reports_state_by_text,
+    answers_edit, applies_by_text, closes_edits, is_word_and_state, reports_state,
 };
 use md_graph::{Graph, Memory};
 use md_modules::find_p4;
@@ -35,6 +34,17 @@ enum SessionDue {
     End,
     // None.
     Nothing,
+}
+
+// The state whose tree a line may tell.
+#[derive(Clone, Copy, Debug, PartialEq, Eq)]
+enum DueTree {
+    // The first.
+    First,
+    // The one behind the next edit.
+    Edited,
+    // The one behind all edits, in mode quiet.
+    Last,
 }
 
 // Where a line that came leads: which line is due, and how many edits are answered or need no
@@ -100,28 +110,33 @@ impl SessionChecker {
         ensures refused { IfOk result (λ taken. ¬ IsTrue taken → self.new ≡ self.old) }
         ensures stays { IsErr result → self.new ≡ self.old }
     {
-        match self.due {
-            SessionDue::State => {
-                if !reports_state_by_text(alloc, self.mode, &self.graph, text)? {
+        let (mode, answered) = (self.mode, self.answered);
+        let Some(tree) = due_tree(self.due, mode, answered < self.script.len()) else {
+            return Ok(false);
+        };
+        match tree {
+            DueTree::First => {
+                if !is_word_and_state(alloc, mode, &self.graph, b"t ", text)? {
                     return Ok(false);
                 }
                 self.due = SessionDue::Edits;
                 Ok(true)
             }
-            SessionDue::Edits => {
-                let (mode, answered) = (self.mode, self.answered);
-                if answered == self.script.len() {
-                    return Ok(false);
-                }
-                if !comes_by_text(alloc, mode, &mut self.graph, &self.script, answered, text)? {
+            DueTree::Edited => {
+                let edit = self.script.get(answered);
+                if !applies_by_text(alloc, mode, &mut self.graph, edit, text)? {
                     return Ok(false);
                 }
                 self.answered = answered + 1;
                 Ok(true)
             }
-            SessionDue::Head => Ok(false),
-            SessionDue::End => Ok(false),
-            SessionDue::Nothing => Ok(false),
+            DueTree::Last => {
+                if !is_word_and_state(alloc, mode, &self.graph, b"t ", text)? {
+                    return Ok(false);
+                }
+                self.due = SessionDue::End;
+                Ok(true)
+            }
         }
     }
 
@@ -316,25 +331,22 @@ fn comes(
     }))
 }
 
-// Whether the text is that of the tree that answers the next edit, the graph being the state; the
-// graph is then the state behind the line, and else stays. A false says nothing.
-fn comes_by_text(
-    alloc: Global,
-    mode: SessionMode,
-    graph: &mut Graph,
-    script: &Script,
-    answered: u64,
-    text: &[u8],
-) -> Result<bool, Memory>
-    requires { answered < length script.now }
-    ensures edit { IfOk result (λ taken. IsTrue taken → mode ≡ session_modes.Edit) }
-    ensures takes { IfOk result (λ taken. IsTrue taken
-        → Takes (at_edits mode graph.old (drop answered script.now)) text.now
-        (at_edits mode graph.new (drop (answered + 1) script.now))) }
-    ensures refused { IfOk result (λ taken. ¬ IsTrue taken → graph.new ≡ graph.old) }
-    ensures stays { IsErr result → graph.new ≡ graph.old }
+// The state whose tree the line that is due may tell, by whether an edit is left; none if it tells
+// none. A report of mode quiet tells the last state's alone, which may be the first.
+fn due_tree(due: SessionDue, mode: SessionMode, left: bool) -> Option<DueTree>
+    ensures { IfSome result (λ tree. MayTell tree due mode left) }
 {
-    answers_by_text(alloc, mode, graph, script.get(answered), text)
+    let first = due == SessionDue::State;
+    if !first && due != SessionDue::Edits {
+        return None;
+    }
+    if mode == SessionMode::Quiet {
+        return if left { None } else { Some(DueTree::Last) };
+    }
+    if first {
+        return Some(DueTree::First);
+    }
+    if left { Some(DueTree::Edited) } else { None }
 }
 
 // Which line is due behind the one that came behind all answers.

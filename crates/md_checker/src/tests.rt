@@ -2,6 +2,7 @@
 use super::*;
 use md_input::{Format, InputStop};
 use md_report::{GraphMode, Line, Mode, SessionMode};
+use md_tree::read_tree;
 use std::alloc::Global;
 use std::process::Abort;
 use std::test::Fail;
@@ -152,7 +153,8 @@ fn reports_of_sessions(rt: HostRuntime) {
     let accepted = CheckAnswer::Accepted;
     let grown: (&[u8], &[u8]) = (b"@\n", b"+v 1 0\n+v 1\n");
     let path: (&[u8], &[u8]) = (b"Ch\n", b"+e 0 2\n");
-    let cases: [(SessionMode, (&[u8], &[u8]), &[u8], CheckAnswer); 6] = [
+    let refused: (&[u8], &[u8]) = (b"Cg\n", b"+e 2 3\n+e 1 3\n");
+    let cases: [(SessionMode, (&[u8], &[u8]), &[u8], CheckAnswer); 13] = [
         (
             SessionMode::Edit,
             grown,
@@ -189,6 +191,49 @@ fn reports_of_sessions(rt: HostRuntime) {
             b"mdt cograph\np4 0 2 1 3\nend\n",
             CheckAnswer::Rejected(2),
         ),
+        // The tree is right, but the graph is no cograph.
+        (
+            SessionMode::Cograph,
+            path,
+            b"mdt cograph\nt R(0,1,2,3;0-1,1-2,2-3)\nend\n",
+            CheckAnswer::Rejected(2),
+        ),
+        (
+            SessionMode::Cograph,
+            refused,
+            b"mdt cograph\nt P(S(P(0,2),1),3)\nno p4 0 1 2 3\nok S(P(0,2,3),1)\nend\n",
+            accepted,
+        ),
+        (
+            SessionMode::Cograph,
+            refused,
+            b"mdt cograph\nt P(S(0,1,2),3)\nno p4 0 1 2 3\nok S(P(0,2,3),1)\nend\n",
+            CheckAnswer::Rejected(2),
+        ),
+        (
+            SessionMode::Cograph,
+            refused,
+            b"mdt cograph\nt P(S(P(0,2),1),3)\nok R(0,1,2,3;0-1,1-2,2-3)\n",
+            CheckAnswer::Rejected(3),
+        ),
+        (
+            SessionMode::Cograph,
+            refused,
+            b"mdt cograph\nt P(S(P(0,2),1),3)\nno p4 0 1 2 3\nok S(P(0,2),1,3)\nend\n",
+            CheckAnswer::Rejected(4),
+        ),
+        (
+            SessionMode::Cograph,
+            refused,
+            b"mdt cograph\nt P(S(P(0,2),1),3)\nno p4 0 1 2 3\nok\nend\n",
+            CheckAnswer::Rejected(4),
+        ),
+        (
+            SessionMode::Edit,
+            (b"Ch\n", b""),
+            b"mdt edit\nt R(0,1,2,3;0-1,1-2,2-3)\nend\n",
+            accepted,
+        ),
     ];
     for (mode, files, report, want) in &cases {
         let got = session_answer(&rt, rt.alloc(), *mode, *files, *report);
@@ -201,9 +246,22 @@ fn reports_in_mode_quiet(rt: HostRuntime) {
     let accepted = CheckAnswer::Accepted;
     let alone: (&[u8], &[u8]) = (b"@\n", b"");
     let path: (&[u8], &[u8]) = (b"Ch\n", b"+e 0 2\n");
+    let path_alone: (&[u8], &[u8]) = (b"Ch\n", b"");
     let grown: (&[u8], &[u8]) = (b"C?\n", b"+e 0 1\n+e 1 2\n+e 2 3\n+e 0 1\n");
-    let cases: [((&[u8], &[u8]), &[u8], CheckAnswer); 14] = [
+    let cases: [((&[u8], &[u8]), &[u8], CheckAnswer); 18] = [
         (alone, b"mdt quiet\nt 0\nend\n", accepted),
+        (alone, b"mdt quiet\nt 1\nend\n", CheckAnswer::Rejected(2)),
+        (alone, b"mdt quiet\nt 0\n", CheckAnswer::Rejected(3)),
+        (
+            path_alone,
+            b"mdt quiet\nt R(0,1,2,3;0-1,1-2,2-3)\nend\n",
+            CheckAnswer::Rejected(2),
+        ),
+        (
+            grown,
+            b"mdt quiet\nok\nok\nno p4 0 1 2 3\nno edge-there\nt P(S(0,1,2),3)\nend\n",
+            CheckAnswer::Rejected(6),
+        ),
         (path, b"mdt quiet\np4 0 1 2 3\nend\n", accepted),
         (path, b"mdt quiet\nok\n", CheckAnswer::Rejected(2)),
         (
@@ -270,13 +328,20 @@ fn reports_in_mode_quiet(rt: HostRuntime) {
 
 #[test]
 fn lines_fed(rt: HostRuntime) -> Result<(), Fail> {
-    let Ok(mut checker) = Checker::over_graphs(rt.alloc(), GraphMode::Tree, Format::G6, b"") else {
+    let alloc = rt.alloc();
+    let Ok(mut checker) = Checker::over_graphs(alloc, GraphMode::Tree, Format::G6, b"DhO\n") else {
         panic!(&rt; "stopped");
     };
-    assert!(&rt; !checker.feed(rt.alloc(), &Line::End)?);
-    assert!(&rt; checker.feed(rt.alloc(), &Line::Head(Mode::Tree))?);
+    let Ok(tree) = read_tree(alloc, b"R(P(0,4),1,2,3;0-1,1-2,2-3)") else {
+        panic!(&rt; "not read");
+    };
+    assert!(&rt; !checker.feed(alloc, &Line::End)?);
     assert!(&rt; !checker.complete());
-    assert!(&rt; checker.feed(rt.alloc(), &Line::End)?);
+    assert!(&rt; checker.feed(alloc, &Line::Head(Mode::Tree))?);
+    assert!(&rt; !checker.feed(alloc, &Line::End)?);
+    assert!(&rt; checker.feed(alloc, &Line::Tree(tree))?);
+    assert!(&rt; !checker.complete());
+    assert!(&rt; checker.feed(alloc, &Line::End)?);
     assert!(&rt; checker.complete());
     Ok(())
 }

@@ -1,4 +1,6 @@
-//! Whether a text is that of the tree of strong modules of a graph. No tree is built.
+//! Whether a text is that of the tree of strong modules of a graph. No tree is built: `fits` decides
+//! the same of a tree that is there. Two other machines go over the same texts: md_tree's `builder`
+//! makes the tree, and its `grammar` says where a text leaves their grammar.
 ghost use Rattle.std.specs.Prelude.{◌≡◌, ◌↔◌, ◌<◌, ◌≤◌, ◌+◌, ◌∷◌, ◌++◌, [], ℕ, List, true, false, length, take, vec_len, Some, IfOk, IfSome, IsTrue};
 ghost use Rattle.std.specs.FinSet.{union};
 ghost use Rattle.md_graph.specs.declared.TheConstants.{NAMES};
@@ -6,19 +8,22 @@ ghost use Rattle.md_graph.specs.PlainGraph.{PlainGraph, adjacent};
 ghost use Rattle.md_graph.specs.Sets.{NameSet};
 ghost use Rattle.md_tree.specs.declared.Kind.TheVariants.{Prime};
 ghost use Rattle.md_tree.specs.declared.Pair.{Pair};
-ghost use Rattle.md_tree.specs.Held.{IsNumberSplit, MayList};
+ghost use Rattle.md_text.specs.Fronts.{IsNumberSplit};
+ghost use Rattle.md_tree.specs.Held.{MayList};
 ghost use Rattle.md_tree.specs.StrongTrees.{IsTreeOf};
 ghost use Rattle.md_tree.specs.Trees.{PlainTree};
 ghost use Rattle.md_tree.specs.TreeTexts.{letter, pairs_text, tree_text};
 ghost use Rattle.md_tree.specs.WellFormed.{IsWellFormed};
-ghost use Rattle.md_checker.specs.FitTests.{AreHeads, IsFit, union_all};
+ghost use Rattle.md_report.specs.Cographs.{IsCograph};
+ghost use Rattle.md_checker.specs.FitTests.{AreHeads, IsFit};
 ghost use Rattle.md_checker.specs.TextFits.{MayHaveKinds, IsRead, IsReadInside, IsReadOn};
 
 use crate::head_pairs::{PairSpace, past_pairs};
-use crate::tree_fit::{are_alike, has_trivial_modules_alone, is_fit, set_of};
+use crate::tree_fit::{are_alike, has_trivial_modules_alone, is_fit, set_of, union_of};
 use md_graph::{GraphOf, Memory, NAMES, Set, WORDS};
 use md_modules::Block;
-use md_tree::{Kind, Opened, ascends, skip_byte, small_number, split_letter};
+use md_text::{skip_byte, small_number};
+use md_tree::{Kind, Opened, ascends, split_letter};
 use std::alloc::Global;
 
 // What is kept of a text that is read: of each finished tree its names, its head and the kind of
@@ -85,6 +90,25 @@ pub(crate) fn is_word_and_tree<const W: usize>(
         Some(behind) => is_text_of_tree(alloc, graph, behind),
         None => Ok(false),
     }
+}
+
+// The same of a tree no node of which is prime, so that the graph is a cograph.
+pub(crate) fn is_word_and_cotree<const W: usize>(
+    alloc: Global,
+    graph: &GraphOf<W>,
+    word: &[u8],
+    text: &[u8],
+) -> Result<bool, Memory>
+    ensures cograph { IfOk result (λ fit. IsTrue fit → IsCograph graph.now) }
+    ensures tree { IfOk result (λ fit. IsTrue fit → (t : PlainTree)
+        × IsTreeOf (adjacent graph.now) graph.now.vertices t
+        × (text.now ≡ word.now ++ tree_text t)) }
+{
+    let _vertices = graph.vertices();
+    if text.contains(&b'R') {
+        return Ok(false);
+    }
+    is_word_and_tree(alloc, graph, word, text)
 }
 
 // Whether no node is open, and all names are the vertices of the graph.
@@ -228,7 +252,7 @@ fn end_node<'a, const W: usize>(
     if !ascends(&walk.heads[first..]) {
         return Ok(None);
     }
-    let names = union_of_blocks(&walk.sets[first..]);
+    let names = union_of(&walk.sets[first..]);
     let heads = &walk.heads[first..];
     let Some(tail) = past_end(
         alloc,
@@ -347,18 +371,6 @@ fn past_prime_end<'a, const W: usize>(
         return Ok(None);
     }
     Ok(Some(tail))
-}
-
-// The union of sets.
-fn union_of_blocks<const W: usize>(sets: &[Block<W>]) -> Set<W>
-    requires { W ≤ WORDS }
-    ensures { result ≡ union_all sets.now }
-{
-    let mut all = Set::none();
-    for set in sets {
-        set.add_to(&mut all);
-    }
-    all
 }
 
 // Whether a node of the kind may have children whose roots are of these kinds.

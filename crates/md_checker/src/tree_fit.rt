@@ -56,7 +56,10 @@ fn tree_fits<const W: usize>(alloc: Global, graph: &GraphOf<W>, tree: &Tree) -> 
         }
     }
     match sets.pop() {
-        Some(names) => Ok(names.is_same(vertices)),
+        Some(names) => {
+            let mut room = None;
+            Ok(names.set_in(&mut room).is_same(vertices))
+        }
         None => unreachable!(),
     }
 }
@@ -66,7 +69,7 @@ fn put<const W: usize>(
     alloc: Global,
     graph: &GraphOf<W>,
     node: &Tree,
-    sets: &mut Vec<Set<W>>,
+    sets: &mut Vec<Block<W>>,
     heads: &mut Vec<u32>,
 ) -> Result<bool, Memory>
     requires { (ts : List PlainTree) × MayPut graph.now sets.old.items heads.old.items
@@ -96,7 +99,7 @@ fn put<const W: usize>(
 fn put_leaf<const W: usize>(
     graph: &GraphOf<W>,
     name: u32,
-    sets: &mut Vec<Set<W>>,
+    sets: &mut Vec<Block<W>>,
     heads: &mut Vec<u32>,
 ) -> Result<bool, Memory>
     ensures { IfOk result (λ fit. (ts : List PlainTree)
@@ -107,9 +110,7 @@ fn put_leaf<const W: usize>(
     if !graph.has_vertex(name) {
         return Ok(false);
     }
-    let mut names = Set::none();
-    names.insert(name);
-    sets.push(names)?;
+    sets.push(Block::one(name))?;
     heads.push(name)?;
     Ok(true)
 }
@@ -121,7 +122,7 @@ fn put_node<const W: usize>(
     kind: Kind,
     count: u64,
     pairs: &[Pair],
-    sets: &mut Vec<Set<W>>,
+    sets: &mut Vec<Block<W>>,
     heads: &mut Vec<u32>,
 ) -> Result<bool, Memory>
     requires { (ts : List PlainTree) × MayPut graph.now sets.old.items heads.old.items
@@ -137,20 +138,21 @@ fn put_node<const W: usize>(
     if !is_fit(alloc, graph, &names, kind, pairs, &heads[below..])? {
         return Ok(false);
     }
+    let block = Block::of(alloc, &names)?;
     sets.truncate(below);
-    sets.push(names)?;
+    sets.push(block)?;
     heads.truncate(below + 1);
     Ok(true)
 }
 
 // The union of sets.
-fn union_of<const W: usize>(sets: &[Set<W>]) -> Set<W>
+pub(crate) fn union_of<const W: usize>(sets: &[Block<W>]) -> Set<W>
     requires { W ≤ WORDS }
     ensures { result ≡ union_all sets.now }
 {
     let mut all = Set::none();
     for set in sets {
-        all.take_in(set);
+        set.add_to(&mut all);
     }
     all
 }

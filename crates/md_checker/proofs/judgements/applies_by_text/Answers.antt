@@ -1,7 +1,7 @@
 use Rattle.std.proofs.Common.{sym, ◌∙◌}
 use Rattle.md_script.proofs.BackLemmas.{led}
 use Rattle.md_tree.proofs.Stacking.{if_ok}
-use Rattle.md_checker.proofs.Taking.{tree_answers}
+use Rattle.md_checker.proofs.Taking.{edited_taken}
 use Rattle.md_checker.proofs.judgements.applies_by_text.Goals as goal
 
 pub take_back-requires : goal.take_back-requires
@@ -10,5 +10,6 @@ take_back-requires c =
 
 pub returns-else-not-is_true-clause-takes : goal.returns-else-not-is_true-clause-takes
 returns-else-not-is_true-clause-takes c =
-    if_ok c.is_word_and_tree-fit.result
-    (λ fit told yes edits. let t = told yes in tree_answers c.args.graph.now c.apply.new.graph c.args.edit.now edits t.0 c.args.text.now (sym c.reason.ensures ∙ c.in_default.is) c.apply.ensures t.1 t.2) c.is_word_and_tree-fit.ensures
+    if_ok c.is_word_and_state-fit.result
+    (λ fit told yes edits. edited_taken c.args.mode c.args.graph.now c.apply.new.graph c.args.edit.now edits c.args.text.now c.requires.told (sym c.reason.ensures ∙ c.in_default.is) c.apply.ensures (told yes))
+    c.is_word_and_state-fit.ensures

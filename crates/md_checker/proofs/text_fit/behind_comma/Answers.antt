@@ -1,5 +1,5 @@
 use Rattle.std.proofs.Common.{arith}
-use Rattle.md_tree.proofs.Leaving.{shorter_tail}
+use Rattle.md_text.proofs.FrontLemmas.{shorter_tail}
 use Rattle.md_checker.proofs.TextWalk.{read_comma}
 use Rattle.md_checker.proofs.text_fit.behind_comma.Goals as goal
 

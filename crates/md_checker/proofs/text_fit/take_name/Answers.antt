@@ -1,6 +1,6 @@
 use Rattle.std.proofs.Common.{sym, ◌∙◌, arith}
 use Rattle.md_graph.proofs.Limits.{words_few}
-use Rattle.md_tree.proofs.Numerals.{number_shorter}
+use Rattle.md_text.proofs.FrontLemmas.{number_shorter}
 use Rattle.md_checker.proofs.TextWalk.{read_name}
 use Rattle.md_checker.proofs.text_fit.take_name.Goals as goal
 

@@ -13,7 +13,7 @@ returns-then-behind g c =
 pub returns-in-Some : goal.returns-in-Some
 returns-in-Some g c =
     if_ok c.take_name.result
-    (λ o each. if_some o (λ p on bytes r. on bytes c.args.text.now c.in-Some.ensures (subst (λ b. IsRead c.args.graph.now bytes c.args.text.now b c.args.walk.now) c.if-behind.false r)) each)
+    (λ o each. if_some o (λ p on bytes r. on bytes c.args.text.now c.in-Some.ensures.number (subst (λ b. IsRead c.args.graph.now bytes c.args.text.now b c.args.walk.now) c.if-behind.false r)) each)
     c.take_name.ensures
 
 pub returns-in-Some-split_letter : goal.returns-in-Some-split_letter

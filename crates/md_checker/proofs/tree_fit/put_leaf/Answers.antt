@@ -1,5 +1,4 @@
-use Rattle.std.proofs.Common.{◌∙◌, sym, ap}
-use Rattle.std.specs.FinSet.{insert}
+use Rattle.std.proofs.Common.{◌∙◌, sym}
 use Rattle.md_checker.proofs.FitStacks.{leaf_finished, leaf_stranger}
 use Rattle.md_checker.proofs.tree_fit.put_leaf.Goals as goal
 
@@ -8,5 +7,5 @@ returns-then-not-has_vertex g c ts may = leaf_stranger c.args.graph.now ts c.arg
 
 pub returns : goal.returns
 returns g c ts may =
-    leaf_finished c.args.graph.now c.args.sets.now.items c.push.new.self.items c.args.heads.now.items c.push-2.new.self.items ts c.args.name c.insert.new.self may.finished
-    (sym c.has_vertex.ensures ∙ c.if-not-has_vertex.false) (c.insert.ensures ∙ ap (λ s. insert s c.args.name) c.none-names.ensures) c.in_ok-push.ensures.items c.in_ok-push-2.ensures.items
+    leaf_finished c.args.graph.now c.args.sets.now.items c.push.new.self.items c.args.heads.now.items c.push-2.new.self.items ts c.args.name c.one.result may.finished
+    (sym c.has_vertex.ensures ∙ c.if-not-has_vertex.false) c.one.ensures c.in_ok-push.ensures.items c.in_ok-push-2.ensures.items

@@ -1,4 +1,4 @@
-use Rattle.std.proofs.Common.{rules, ◌-◌, drop, ◌++◌, ◌∷◌, [], ◌∙◌, ap}
+use Rattle.std.proofs.Common.{rules, ◌-◌, take, drop, ◌++◌, ◌∷◌, [], ◌∙◌, ap}
 use Rattle.std.proofs.lemmas.List.{take_rest}
 use Rattle.md_graph.proofs.SetLemmas.{clash}
 use Rattle.md_checker.proofs.FitStacks.{part_heads, node_misfit, node_finished}
@@ -24,4 +24,4 @@ returns g c ts may =
     (ap (λ l. l - c.args.count) (c.len.ensures ∙ c.args.sets.now.ok.0)) _ (take_rest c.deref-2.result.now (c.len.result - c.args.count) ∙ ap (drop (c.len.result - c.args.count)) c.deref-2.ensures.value)
     c.union_of-names.result _ c.union_of-names.ensures (take_rest c.deref.result.now (c.len.result - c.args.count) ∙ ap (drop (c.len.result - c.args.count)) c.deref.ensures.value)
     c.push.new.self.items c.truncate-2.new.self.items (c.in_ok-is_fit.ensures.0 c.if-not-branch.false)
-    (c.in_ok-push.ensures.items ∙ ap (λ l. l ++ c.union_of-names.result ∷ []) c.truncate.ensures.items) c.truncate-2.ensures.items
+    (c.in_ok-push.ensures.items ∙ ap (λ l. l ++ c.in_ok-block.block ∷ []) c.truncate.ensures.items ∙ ap (λ m. take (c.len.result - c.args.count) c.args.sets.now.items ++ m ∷ []) c.in_ok-block.ensures) c.truncate-2.ensures.items

@@ -1,4 +1,4 @@
-use Rattle.std.proofs.Common.{rules, map, refl, sym, ◌∙◌, ap, subst}
+use Rattle.std.proofs.Common.{rules, [], ◌∷◌, ◌++◌, map, refl, sym, ◌∙◌, ap, subst}
 use Rattle.std.proofs.lemmas.List.{nil_from_length}
 use Rattle.md_graph.proofs.SetLemmas.{clash}
 use Rattle.md_tree.specs.Parts.{part_of, plain_at}
@@ -9,7 +9,7 @@ use Rattle.md_checker.proofs.FitStacks.{walk_begin, walk_may, walk_more, walk_st
 use Rattle.md_checker.proofs.tree_fit.tree_fits.Goals as goal
 
 pub loop-node-init : goal.loop-node-init
-loop-node-init g c = walk_begin _ _ _ _ _ c.in_ok-nodes.ensures c.new-sets.ensures.items c.new-heads.ensures.items
+loop-node-init g c = walk_begin _ _ _ _ _ c.in_ok-nodes.ensures.parts c.new-sets.ensures.items c.new-heads.ensures.items
 
 pub put-requires : goal.put-requires
 put-requires g c =
@@ -41,4 +41,4 @@ pub returns : goal.returns
 returns g c =
     walk_end _ c.vertices-vertices.ensures.graph c.requires.1
     (ap (map (λ r. part_of (plain_at r))) (nil_from_length c.loop-node.nodes.items (sym c.loop-node.nodes.ok.0 ∙ c.in_default.ensures.cases.0))) c.loop-node.invariant
-    c.in-Some-pop.names c.in-Some-pop.ensures.items c.vertices-vertices.result.now c.vertices-vertices.ensures.set c.is_same.result c.is_same.ensures
+    c.set_in.result.now (c.in-Some-pop.ensures.items ∙ ap (λ m. c.pop-2.new.self.items ++ m ∷ []) (sym c.set_in.ensures)) c.vertices-vertices.result.now c.vertices-vertices.ensures.set c.is_same.result c.is_same.ensures
