@@ -1,5 +1,5 @@
 //! Sessions on cographs: an edit that would make an induced P4 is refused with it.
-ghost use Rattle.std.specs.Prelude.{◌≡◌, ◌+◌, ◌≤◌, ◌↔◌, Bool, true, false, Option, None, IfOk, IsTrue};
+ghost use Rattle.std.specs.Prelude.{◌≡◌, ◌+◌, ◌≤◌, Bool, true, false, Option, None, IfOk};
 ghost use Rattle.std.specs.FinSet as set;
 ghost use Rattle.md_graph.specs.PlainGraph.{PlainGraph, adjacent};
 ghost use Rattle.md_modules.specs.InducedPaths.{HasInducedPath};
