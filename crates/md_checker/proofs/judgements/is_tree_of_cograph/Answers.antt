@@ -6,6 +6,6 @@ pub returns-then-not-has_no_prime : goal.returns-then-not-has_no_prime
 returns-then-not-has_no_prime c =
     prime_refused c.args.graph.now c.vertices-vertices.ensures.graph (plain_option c.args.tree.now) c.has_no_prime.result c.has_no_prime.ensures.no_prime c.if-not-has_no_prime.true
 
-pub returns-else-not-has_no_prime : goal.returns-else-not-has_no_prime
-returns-else-not-has_no_prime c =
+pub returns : goal.returns
+returns c =
     cograph_fits c.args.graph.now c.vertices-vertices.ensures.graph (plain_option c.args.tree.now) c.has_no_prime.result c.has_no_prime.ensures.no_prime c.if-not-has_no_prime.false c.fits.result c.fits.ensures
