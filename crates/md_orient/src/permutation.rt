@@ -162,7 +162,12 @@ mod tests {
             (3, 5),
         ];
         let alloc = rt.alloc();
-        expect_two(&rt, answer(&rt, alloc, 4, &path)?, &[0, 2, 1, 3], &[1, 0, 3, 2]);
+        expect_two(
+            &rt,
+            answer(&rt, alloc, 4, &path)?,
+            &[0, 2, 1, 3],
+            &[1, 0, 3, 2],
+        );
         expect_two(&rt, answer(&rt, alloc, 0, &[])?, &[], &[]);
         expect_two(&rt, answer(&rt, alloc, 1, &[])?, &[0], &[0]);
         let around = [(0, 1), (0, 4), (3, 4), (3, 2), (1, 2), (1, 0)];
