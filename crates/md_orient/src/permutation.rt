@@ -125,23 +125,32 @@ mod tests {
             PermVerdict::Orders(a, b) => {
                 assert!(rt; a.as_slice() == first && b.as_slice() == second);
             }
-            PermVerdict::ForcedIn(_) => assert!(rt; false),
-            PermVerdict::ForcedInComplement(_) => assert!(rt; false),
+            PermVerdict::ForcedIn(_chain) => assert!(rt; false),
+            PermVerdict::ForcedInComplement(_chain) => assert!(rt; false),
+        }
+    }
+
+    // Sees that these are the arcs of a chain.
+    fn expect_list(rt: &impl Abort, chain: &Chain, arcs: &[(u32, u32)]) {
+        assert!(rt; chain.len() == arcs.len() as u64);
+        for i in 0..arcs.len() {
+            let (tail, head) = arcs[i];
+            assert_eq!(rt; chain.get(i as u64), Arc { tail, head });
         }
     }
 
     // Sees that the answer is a chain of these arcs, in the graph or in its complement.
     fn expect_arcs(rt: &impl Abort, answer: PermVerdict, edges: bool, arcs: &[(u32, u32)]) {
-        let chain = match answer {
-            PermVerdict::Orders(_, _) => None,
-            PermVerdict::ForcedIn(chain) => if edges { Some(chain) } else { None },
-            PermVerdict::ForcedInComplement(chain) => if edges { None } else { Some(chain) },
-        };
-        let chain = chain.expect(rt, "a chain");
-        assert!(rt; chain.len() == arcs.len() as u64);
-        for i in 0..arcs.len() {
-            let (tail, head) = arcs[i];
-            assert_eq!(rt; chain.get(i as u64), Arc { tail, head });
+        match answer {
+            PermVerdict::Orders(_first, _second) => assert!(rt; false),
+            PermVerdict::ForcedIn(chain) => {
+                assert!(rt; edges);
+                expect_list(rt, &chain, arcs);
+            }
+            PermVerdict::ForcedInComplement(chain) => {
+                assert!(rt; !edges);
+                expect_list(rt, &chain, arcs);
+            }
         }
     }
 
@@ -162,7 +171,12 @@ mod tests {
             (3, 5),
         ];
         let alloc = rt.alloc();
-        expect_two(&rt, answer(&rt, alloc, 4, &path)?, &[0, 2, 1, 3], &[1, 0, 3, 2]);
+        expect_two(
+            &rt,
+            answer(&rt, alloc, 4, &path)?,
+            &[0, 2, 1, 3],
+            &[1, 0, 3, 2],
+        );
         expect_two(&rt, answer(&rt, alloc, 0, &[])?, &[], &[]);
         expect_two(&rt, answer(&rt, alloc, 1, &[])?, &[0], &[0]);
         let around = [(0, 1), (0, 4), (3, 4), (3, 2), (1, 2), (1, 0)];
