@@ -11,7 +11,6 @@ use Rattle.md_cotree.specs.PlaceTrees.{PlaceTree, tip, inner, PlaceTrees, no_mor
 use Rattle.md_cotree.proofs.Frames.{hit, miss}
 use Rattle.md_cotree_edit.specs.Counts.{kind_code, kind_in, kind_row, child_in, child_row}
 use Rattle.md_cotree_edit.specs.Contexts.{Frame, fill, plug, AreTreesKept}
-use Rattle.md_cotree_edit.proofs.Trees.SameRows.{SameRow}
 use Rattle.md_cotree_edit.proofs.Trees.LocalCounts.{cond_no, cond_yes, sum_no, sum_yes, children_none, kinds_none, cond_zero}
 use Rattle.md_cotree_edit.proofs.Trees.KeptTrees.{no_times, kept_once, kept_loose}
 use Rattle.std.proofs.Math.Nat.{add-zero}
