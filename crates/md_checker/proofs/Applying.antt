@@ -1,19 +1,17 @@
 -- The line of an applied edit: what it says of the graph after the edit, by the mode.
 use Rattle.std.proofs.Common.{◌≡◌, ◌↔◌, Bool, true, false, IsTrue, Option, None, Result, Ok, Err, IfOk, refl, sym, subst, inl, inr}
-use Rattle.md_graph.specs.PlainGraph.{PlainGraph, IsGraph, adjacent}
+use Rattle.md_graph.specs.PlainGraph.{PlainGraph, adjacent}
 use Rattle.md_graph.specs.declared.Memory.{Memory}
 use Rattle.md_modules.specs.declared.induced_paths.P4.{P4}
 use Rattle.md_tree.specs.Trees.{PlainTree}
 use Rattle.md_tree.specs.StrongTrees.{IsTree}
 use Rattle.md_script.specs.declared.edit.Edit as script
-use Rattle.md_script.specs.Edit.{HasNames, reason_of, after}
+use Rattle.md_script.specs.Edit.{reason_of, after}
 use Rattle.md_report.specs.declared.line.SessionMode.{SessionMode}
 use Rattle.md_report.specs.declared.line.SessionMode.TheVariants.{Edit, Cograph, Quiet}
 use Rattle.md_report.specs.Lines.{PlainLine, applied, applied_quiet, refused_p4}
 use Rattle.md_report.specs.Sessions.{IsLineBy}
 use Rattle.md_report.specs.Cographs.{IsP4Of, IsCograph, IsCographLineBy, IsQuietLineBy}
-use Rattle.md_report.specs.Made.{HasNoneMade}
-use Rattle.md_report.proofs.MadePaths.{still_cograph}
 use Rattle.md_report.specs.Places.{AnswersEdit}
 use Rattle.md_checker.specs.States.{IsStateTree, IsRefusedPath}
 
@@ -99,7 +97,5 @@ path_answers is mode g edit p line none same told =
 pub path_made : (g h : PlainGraph) (edit : script.Edit) (p : P4) → h ≡ after g edit → IsP4Of h p → IsTrue false ↔ IsCograph (after g edit)
 path_made g h edit p is path = ((λ yes. absurd (cc)), (λ free. absurd (subst IsCograph (sym is) free (p.a, p.b, p.c, p.d, path))))
 
-pub none_made : (g h : PlainGraph) (edit : script.Edit) → IsGraph g → IsCograph g → HasNames edit → reason_of g edit ≡ None → h ≡ after g edit → HasNoneMade h edit →
-    IsTrue true ↔ IsCograph (after g edit)
-none_made g h edit is_graph free names none is made =
-    ((λ yes. still_cograph g is_graph free edit names none (subst (λ x. HasNoneMade x edit) is made)), (λ kept. refl))
+pub none_made : (g h : PlainGraph) (edit : script.Edit) → h ≡ after g edit → IsCograph h → IsTrue true ↔ IsCograph (after g edit)
+none_made g h edit is free = ((λ yes. subst IsCograph is free), (λ kept. refl))

@@ -98,9 +98,11 @@ pub trait Files {
         ensures counted { IfOk result
             (λ bytes. taken self.new ≡ count_up (taken self.old) (length bytes.items)) }
 
-        // A fault comes only where its count rose.
+        // A fault comes only where its count rose, and `faults` counts nothing but failures.
         ensures failed { IsErrOf result LoadFault.Failed
             → Rose (faults self.old) (faults self.new) }
+        ensures faults_only { ¬ IsErrOf result LoadFault.Failed
+            → faults self.new ≡ faults self.old }
         ensures too_long { IsErrOf result LoadFault.TooLong
             → RoseBy (taken self.old) (taken self.new) (limit + 1) }
         ensures too_long_over { IsErrOf result LoadFault.TooLong
@@ -178,8 +180,10 @@ pub trait Sink {
         ensures memory { IsErrOf result PutFault.Memory
             → Rose (wants self.old) (wants self.new) }
 
-        // The counts never fall, and `wants` counts nothing else.
+        // The counts never fall, and each counts nothing else.
         ensures faults_never_fall { faults self.old ≤ faults self.new }
+        ensures faults_only { ¬ IsErrOf result PutFault.Failed
+            → faults self.new ≡ faults self.old }
         ensures wants_never_fall { wants self.old ≤ wants self.new }
         ensures wants_only { ¬ IsErrOf result PutFault.Memory
             → wants self.new ≡ wants self.old }

@@ -6,3 +6,4 @@ pub mod Fronts
 pub mod OneLine
 pub mod ByTrees
 pub mod MadePaths
+pub mod Alike

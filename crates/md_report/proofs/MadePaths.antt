@@ -1,5 +1,5 @@
 -- An induced P4 of the graph after an edit holds the change, where the graph before had none.
-use Rattle.std.proofs.Common.{◌≡◌, ◌≢◌, ℕ, ◌<◌, Bool, true, false, not, ◌&&◌, ◌||◌, ◌==◌, Option, None, IfNone, refl, sym, ◌∙◌, subst, inl, inr}
+use Rattle.std.proofs.Common.{◌≡◌, ◌≢◌, ℕ, ◌<◌, Bool, true, false, not, ◌&&◌, ◌||◌, ◌==◌, List, Option, None, IfNone, refl, sym, ◌∙◌, subst, inl, inr}
 use Rattle.std.proofs.lemmas.Bool.{eqb-false, ne_eqb}
 use Rattle.std.specs.FinSet as set
 use Rattle.md_graph.specs.declared.TheConstants.{NAMES}
@@ -9,11 +9,12 @@ use Rattle.md_graph.proofs.GraphLemmas.{IsGraph-with_vertex, adjacent-with_verte
 use Rattle.md_graph.proofs.SetLemmas.{same_name, of_insert, of_remove}
 use Rattle.md_graph.proofs.Search.{Decided}
 use Rattle.md_modules.specs.declared.induced_paths.P4.{P4}
-use Rattle.md_modules.specs.InducedPaths.{IsInducedPath, IsOneOf, IsInducedPathWithBoth}
+use Rattle.md_modules.specs.InducedPaths.{IsInducedPath, IsOneOf, IsInducedPathWith, IsInducedPathWithBoth}
 use Rattle.md_modules.proofs.PathSearch.{if_none_map}
 use Rattle.md_script.specs.declared.edit.Edit.{Edit}
 use Rattle.md_script.specs.declared.edit.Edit.TheVariants.{AddEdge, DelEdge, AddVertex, DelVertex}
 use Rattle.md_script.specs.Edit.{HasNames, reason_of, after}
+use Rattle.md_script.specs.TakenBack.{Led}
 use Rattle.md_script.proofs.ChangeLemmas.{ends_by_tests, vertex_added, neighbours_are_vertices}
 use Rattle.md_report.specs.Cographs.{IsCograph}
 use Rattle.md_report.specs.Made.{Shows, HoldsChange, HasNoneMade}
@@ -168,8 +169,14 @@ module _ (g : PlainGraph) (is_graph : IsGraph g) (free : IsCograph g) where
       (λ w member. graph.names w (neighbours_are_vertices g h (AddVertex x neighbours) x neighbours (set.from_list neighbours) refl none refl refl w member)) is
   holds_change (DelVertex x) names none a b c d is = vertex_gone x a b c d is
 
-  pub still_cograph : (edit : Edit) → HasNames edit → reason_of g edit ≡ None → HasNoneMade (after g edit) edit → IsCograph (after g edit)
+  still_cograph : (edit : Edit) → HasNames edit → reason_of g edit ≡ None → HasNoneMade (after g edit) edit → IsCograph (after g edit)
   still_cograph edit names none made path = made path.0 path.1 path.2 path.3 path.4 (holds_change edit names none path.0 path.1 path.2 path.3 path.4)
+
+-- a cograph from which an edit led to a graph without a path that holds the change gave a cograph
+pub cograph_if_none : (found : Option P4) (g h : PlainGraph) (edit : Edit) (row : NameSet) → IfNone found (HasNoneMade h edit) → Led g edit row h → IsCograph g → IfNone found (IsCograph h)
+cograph_if_none found g h edit row none led free =
+    if_none_map found (HasNoneMade h edit) (IsCograph h) (λ made.
+    subst IsCograph (sym led.next_is) (still_cograph g led.is_graph free edit led.names led.no_reason (subst (λ k. HasNoneMade k edit) led.next_is made))) none
 
 -- ---- what a search doesn't find
 
@@ -185,3 +192,14 @@ module _ (g : PlainGraph) (edit : Edit) (u v : ℕ) (found : Option P4)
 
   pub none_made_gone : edit ≡ DelEdge u v → IfNone found (HasNoneMade g edit)
   none_made_gone is = none_of_ends (λ a b c d holds. subst (λ e. HoldsChange e a b c d) is holds)
+
+-- nor does a search for the paths through a new vertex
+pub none_made_new : (g : PlainGraph) (edit : Edit) (x : ℕ) (neighbours : List ℕ) (found : Option P4) → IfNone found ((a b c d : ℕ) → IsInducedPathWith (adjacent g) g.vertices x a b c d → ⊥) → edit ≡ AddVertex x neighbours
+    → IfNone found (HasNoneMade g edit)
+none_made_new g edit x neighbours found none is =
+    if_none_map found _ (HasNoneMade g edit) (λ no a b c d path holds.
+    no a b c d (record { path = path; holds = subst (λ e. HoldsChange e a b c d) is holds })) none
+
+-- an edit that leaves out a vertex makes no path
+pub none_made_left : (g : PlainGraph) (edit : Edit) (x : ℕ) → edit ≡ DelVertex x → HasNoneMade g edit
+none_made_left g edit x is = λ a b c d path holds. subst (λ e. HoldsChange e a b c d) is holds

@@ -1,5 +1,5 @@
 -- The laws of reports.
-use Rattle.std.specs.Prelude.{◌≡◌, ◌↔◌, ◌⊎◌, ℕ, List, [], ◌∷◌, ◌++◌, ⊤}
+use Rattle.std.specs.Prelude.{◌≡◌, ◌↔◌, ◌⊎◌, ℕ, List, [], ◌∷◌, ◌++◌, map, ⊤}
 use Rattle.md_graph.specs.PlainGraph.{PlainGraph, IsGraph}
 use Rattle.std.specs.List.{All}
 use Rattle.md_modules.specs.declared.induced_paths.P4.{P4}
@@ -10,7 +10,7 @@ use Rattle.md_report.specs.declared.line.SessionMode.{SessionMode}
 use Rattle.md_report.specs.declared.line.SessionMode.TheVariants as session_modes
 use Rattle.md_report.specs.declared.line.Mode.TheVariants as modes
 use Rattle.md_report.specs.Lines.{PlainLine, mode_of, session_mode_of, line_text, head, tree, not_cograph, end}
-use Rattle.md_report.specs.Sessions.{HasTreeLine, last_state, SessionRun}
+use Rattle.md_report.specs.Sessions.{HasTreeLine, last_state, states_behind, is_applied, count_applied, count_refused, SessionRun}
 use Rattle.md_report.specs.Cographs.{IsP4Of, IsCograph, CographRun, QuietRun, edits_behind}
 use Rattle.md_report.specs.Places.{Place, before_head, at_graphs, before_session, at_state, at_edits, at_end, after_end, Reports, ReportsState, Lead}
 use Rattle.md_report.specs.Reports.{IsReport, IsFront}
@@ -96,6 +96,27 @@ abbrev pub SessionReportsAreRuns : Type 0
 SessionReportsAreRuns =
     (mode : SessionMode) (g : PlainGraph) (edits : List Edit) (lines : List PlainLine) →
     Lead (before_session mode g edits) lines after_end ↔ IsWholeSession mode g edits lines
+
+-- Two runs over the same edits apply the same of them, as many, and have the same state behind each.
+pub record ApplyAlike (g : PlainGraph) (edits : List Edit) (lines others : List PlainLine) : Type 0 where
+  pub each : map is_applied lines ≡ map is_applied others
+  pub done : count_applied lines ≡ count_applied others
+  pub undone : count_refused lines ≡ count_refused others
+  pub states : states_behind g edits lines ≡ states_behind g edits others
+  pub last : last_state g edits lines ≡ last_state g edits others
+
+-- the mode is one of sessions on cographs
+abbrev pub KeepsCographs : SessionMode → Type 0
+KeepsCographs session_modes.Edit = ⊥
+KeepsCographs session_modes.Cograph = ⊤
+KeepsCographs session_modes.Quiet = ⊤
+
+-- Two runs of sessions on cographs, each in mode cograph or quiet, do so.
+abbrev pub CographRunsApplyAlike : Type 0
+CographRunsApplyAlike =
+    (mode other : SessionMode) → KeepsCographs mode → KeepsCographs other →
+    (g : PlainGraph) (edits : List Edit) (lines others : List PlainLine) →
+    AnswerEach mode g edits lines → AnswerEach other g edits others → ApplyAlike g edits lines others
 
 -- Bytes are the front of a report by places exactly where a whole report begins with them.
 abbrev pub FrontsBeginReports : Type 0

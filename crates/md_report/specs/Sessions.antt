@@ -1,6 +1,7 @@
 -- Sessions: a graph that is kept under edits. The state is a graph alone; each edit has one line, and leads to one state.
 -- Source: Shamir and Sharan, A fully dynamic algorithm for modular decomposition and recognition of cographs.
-use Rattle.std.specs.Prelude.{◌≡◌, List, [], ◌∷◌, Option, Some, None}
+use Rattle.std.specs.Prelude.{◌≡◌, ℕ, Bool, true, false, not, List, [], ◌∷◌, length, Option, Some, None}
+use Rattle.std.specs.List.{filter}
 use Rattle.md_graph.specs.PlainGraph.{PlainGraph, adjacent}
 use Rattle.md_tree.specs.Trees.{PlainTree}
 use Rattle.md_tree.specs.StrongTrees.{IsTree}
@@ -52,6 +53,26 @@ abbrev pub last_state : PlainGraph → List Edit → List PlainLine → PlainGra
 last_state g [] lines = g
 last_state g (edit ∷ edits) [] = g
 last_state g (edit ∷ edits) (line ∷ lines) = last_state (state_behind g edit line) edits lines
+
+-- the states behind each of them
+abbrev pub states_behind : PlainGraph → List Edit → List PlainLine → List PlainGraph
+states_behind g [] lines = []
+states_behind g (edit ∷ edits) [] = []
+states_behind g (edit ∷ edits) (line ∷ lines) =
+    state_behind g edit line ∷ states_behind (state_behind g edit line) edits lines
+
+-- whether the line is that of an edit that was applied
+abbrev pub is_applied : PlainLine → Bool
+is_applied (applied t) = true
+is_applied applied_quiet = true
+is_applied _ = false
+
+-- how many of the lines are those of an edit that was applied, and how many aren't
+abbrev pub count_applied : List PlainLine → ℕ
+count_applied lines = length (filter is_applied lines)
+
+abbrev pub count_refused : List PlainLine → ℕ
+count_refused lines = length (filter (λ line. not (is_applied line)) lines)
 
 -- one step of a session: the line of the edit, and the state that it leaves
 pub record SessionStep (g : PlainGraph) (edit : Edit) (line : PlainLine) (next : PlainGraph) : Type 0 where

@@ -1,6 +1,6 @@
 //! The laws of reports, each the contract of a function that does nothing.
 
-ghost use Rattle.md_report.specs.Laws.{LinesLeadIfFirst, GraphReportsHaveLines, SessionReportsAreRuns, FrontsBeginReports, OneLineOneText};
+ghost use Rattle.md_report.specs.Laws.{LinesLeadIfFirst, GraphReportsHaveLines, SessionReportsAreRuns, CographRunsApplyAlike, FrontsBeginReports, OneLineOneText};
 
 // What is known of the lines of orientations, for readers of reports.
 pub use md_orientation::laws::{
@@ -25,6 +25,12 @@ pub fn graph_reports_have_lines()
 /// state, and the end, or, where the first state has an induced P4, the head, that, and the end.
 pub fn session_reports_are_runs()
     ensures { SessionReportsAreRuns }
+{}
+
+/// Two runs over the same edits from the same graph, each in mode cograph or quiet, apply the same
+/// edits, and have the same state behind each.
+pub fn cograph_runs_apply_alike()
+    ensures apply_alike { CographRunsApplyAlike }
 {}
 
 /// A text begins a whole report exactly where it is a front by places: the text of lines that lead

@@ -1,6 +1,9 @@
 //! The induced P4s that an edit makes.
 ghost use Rattle.std.specs.Prelude.{IfSome, IfNone};
-ghost use Rattle.md_report.specs.Cographs.{IsP4Of};
+ghost use Rattle.md_graph.specs.Sets.{NameSet};
+ghost use Rattle.md_graph.specs.PlainGraph.{PlainGraph};
+ghost use Rattle.md_script.specs.TakenBack.{Led};
+ghost use Rattle.md_report.specs.Cographs.{IsP4Of, IsCograph};
 ghost use Rattle.md_report.specs.Made.{Shows, HoldsChange, HasNoneMade};
 
 use md_graph::Graph;
@@ -8,14 +11,16 @@ use md_modules::{P4, find_p4_with, find_p4_with_both};
 use md_script::Edit;
 
 /// An induced P4 that holds both ends of the edge of an edit, or its new vertex; `None` exactly
-/// where there is none: then the graph is a cograph if the one before the edit was. It takes no
-/// memory, and a few row operations; for a new vertex those of `find_p4_with`. Condition: the edit
-/// led to the graph.
+/// where there is none. A cograph from which the edit led to the graph then gave a cograph. It
+/// takes no memory, and a few row operations; for a new vertex those of `find_p4_with`. Condition:
+/// the graph has both ends of the edge, or the new vertex.
 pub fn made_p4(graph: &Graph, edit: &Edit) -> Option<P4>
     requires { Shows graph.now edit.now }
     ensures found { IfSome result (λ p.
         IsP4Of graph.now p × HoldsChange edit.now p.a p.b p.c p.d) }
     ensures none { IfNone result (HasNoneMade graph.now edit.now) }
+    ensures cograph { (g : PlainGraph) (row : NameSet) → Led g edit.now row graph.now
+        → IsCograph g → IfNone result (IsCograph graph.now) }
 {
     match edit {
         Edit::AddEdge { u, v } => find_p4_with_both(graph, *u, *v),

@@ -3,7 +3,7 @@ use super::*;
 use md_forcing::{Arc, Arcs, Chain};
 use md_modules::P4;
 use md_script::EditReason;
-use md_tree::Tree;
+use md_tree::{Tree, read_tree};
 use std::test::Fail;
 
 #[test]
@@ -38,6 +38,7 @@ fn lines(rt: HostRuntime) -> Result<(), Fail> {
         (Line::Tree(None), "t empty"),
         (Line::Tree(Some(Tree::Leaf(12))), "t 12"),
         (Line::Applied(Some(Tree::Leaf(0))), "ok 0"),
+        (Line::Applied(read_tree(alloc, b"P(0,1)")?), "ok P(0,1)"),
         (Line::AppliedQuiet, "ok"),
         (Line::Refused(EditReason::Same), "no same"),
         (Line::Refused(EditReason::NoVertex(4095)), "no vertex 4095"),

@@ -118,7 +118,8 @@ impl CographSession {
     }
 
     /// Answers an edit: refuses it where there is a reason against it, or where the graph after it
-    /// would have an induced P4, and the graph then stays; else changes the graph. It takes no
+    /// would have an induced P4, and the graph then stays; else changes the graph. What a refusal
+    /// leaves is told of the graph: `cotree` lends a cotree of that graph, as before. It takes no
     /// memory. Condition: the names in the edit are names.
     pub fn apply<L: Ledger>(&mut self, edit: &Edit, steps: &mut Steps<L>) -> Answer
         requires { HasNames edit.now }

@@ -1,7 +1,5 @@
 -- What an ending says of a run, behind its loads.
-use Rattle.std.proofs.Common.{◌≡◌, ◌≢◌, ◌⊎◌, ℕ, ◌-◌, ◌^◌, ◌<◌, ◌≤◌, Bool, true, ◌&&◌, nat_lt, IsTrue, List, [], ◌∷◌, ◌++◌, Option, None, Some, Result, IsErrAnd, Ok, Err, refl, sym, ◌∙◌, ap, ap₂, subst, inl, inr, append-nil, append_assoc, arith}
-use Rattle.std.proofs.lemmas.Bool.{ltb-true}
-use Rattle.std.specs.Cmp.{first_so}
+use Rattle.std.proofs.Common.{◌≡◌, ◌≢◌, ◌⊎◌, ℕ, ◌<◌, ◌≤◌, Bool, IsTrue, List, [], ◌∷◌, ◌++◌, Option, None, Some, Result, IsErrAnd, Ok, Err, refl, sym, ◌∙◌, ap, ap₂, subst, inl, inr, append-nil, append_assoc, arith}
 use Rattle.std.specs.Io.KnownBytes.{Keeps}
 use Rattle.md_io.specs.Count.{Rose}
 use Rattle.md_io.specs.Told.{Told, IsToldAs, IsToldFile, IsToldLonger}
@@ -25,7 +23,7 @@ use Rattle.md_top.specs.Command.{CommandEnds}
 use Rattle.md_top.specs.Status.{status_of, status_of_verdict, status_of_stop, line_of_stop, stop_of_load}
 use Rattle.md_top.specs.Promise.{CanBeBad, IsLine, Ends}
 use Rattle.md_top.proofs.OneOutput.{not_done, rejected_answer}
-use Rattle.md_top.proofs.Loads.{Loads, onwards, both, all_before, all_at, none_past}
+use Rattle.md_top.proofs.Loads.{Loads, onwards, both, all_before, all_at, none_past, fronts_had, all_had}
 
 -- a run that stops at bad input names a fault
 pub stops_at_fault : (stop : Stop) (request : Option (Request (List ℕ))) (f : FilesRun) (o : SinkRun) → Ends request (Err stop) f o → status_of_stop stop ≡ statuses.BadInput → (fault : Fault) × CanBeBad f.holds request fault
@@ -69,22 +67,44 @@ module _ (request : Option (Request (List ℕ))) (ending : Result Verdict Stop) 
       subst (λ s. (s ≡ statuses.Rejected) ⊎ (s ≡ statuses.ReadFault) ⊎ (s ≡ statuses.WriteFault) ⊎ (s ≡ statuses.Memory)) (sym same)
       (ends.rejected_always input line is faultless has)
 
--- files that are told with contents are told as files
-told_files : (holds : List ℕ → Told) (names contents : List (List ℕ)) → AreFiles holds names contents → AllToldFiles holds names
-told_files holds [] contents files = tt
-told_files holds (name ∷ names) [] files = absurd files
-told_files holds (name ∷ names) (bytes ∷ contents) files = (subst IsToldFile (sym files.0) tt, told_files holds names contents files.2)
+-- where nothing is loaded, nothing is asked for
+pub none_asked : (holds : List ℕ → Told) (asked : List (List ℕ)) → AsksInOrder holds asked asked []
+none_asked holds asked = record {
+  part = [];
+  rest = [];
+  whole = refl;
+  grown = sym (append-nil asked);
+  had = λ front last same. fronts_had holds [] [] front last [] (omega arith) tt same;
+}
 
--- the files of an input are told
-pub told_input : (holds : List ℕ → Told) (request : Option (Request (List ℕ))) (input : Request (List ℕ)) → IsInput holds request input → AllToldFiles holds (names_of request)
-told_input holds request input is =
-    subst (λ r. AllToldFiles holds (names_of r)) (sym is.is) (told_files holds (files_of is.asked) is.contents is.files)
+-- a run over words in no form
+module _ (request : Option (Request (List ℕ))) (none : request ≡ None) (holds : List ℕ → Told) (asked : List (List ℕ)) (faults overs : ℕ) (sure : Bool) (o : SinkRun) (keeps : Keeps o.old o.new) where
+  abbrev untouched : FilesRun
+  untouched = record {
+    holds = holds; asked_old = asked; asked_new = asked; faults_old = faults; faults_new = faults; overs_old = overs; overs_new = overs;
+    sure_old = sure; sure_new = sure;
+  }
 
--- a count below its last value that stays didn't rise
-pub unrisen : (before now : ℕ) (other : Bool) → (nat_lt before (2 ^ 64 - 1) && other) ≡ true → now ≡ before → ¬ (Rose before now)
-unrisen before now other sure same rose =
-    let below : before < 2 ^ 64 - 1 = ltb-true before (2 ^ 64 - 1) (first_so (nat_lt before (2 ^ 64 - 1)) other sure) in
-    omega (arith, same, rose, below)
+  no_form : (input : Request (List ℕ)) → IsInput holds request input → ⊥
+  no_form input is = let form = is.is in cc
+
+  pub ends_at_usage : Ends request (Err Usage) untouched o
+  ends_at_usage = record {
+    usage = ((λ u. none), (λ n. refl));
+    asked = subst (λ (r : Option (Request (List ℕ))). AsksInOrder holds asked asked (names_of r)) (sym none) (none_asked holds asked);
+    bad_input = λ fault is. cc;
+    bad_input_always = λ input fault is faulty. absurd (no_form input is);
+    good_input = λ s. elim s [ inl d ↦ cc | inr (inl r) ↦ cc | inr (inr w) ↦ cc ];
+    rejected = λ s. cc;
+    rejected_always = λ input line is faultless has. absurd (no_form input is);
+    read_fault = λ s. cc;
+    failing_load = λ rose. absurd (omega (arith, rose));
+    write_fault = λ s. cc;
+    too_long = λ s. cc;
+    sure = λ s all. (refl, s, λ r. cc);
+    out = keeps;
+    complete = λ input is faultless no_read no_write. absurd (no_form input is);
+  }
 
 -- the files of one request have one list of contents
 same_contents : (holds : List ℕ → Told) (names contents others : List (List ℕ)) → AreToldAs holds names contents → AreFiles holds names others → contents ≡ others
@@ -120,11 +140,14 @@ module _ (asked : Request (List ℕ)) (contents : List (List ℕ)) (input : Requ
   can_be : CanBeInput f.holds (Some asked) input
   can_be = record { asked = asked; contents = contents; is = refl; told = loaded.told; filled = filled }
 
-  in_order : AsksInOrder f.asked_old f.asked_new (files_of asked)
-  in_order = record { part = files_of asked; rest = []; whole = sym (append-nil (files_of asked)); grown = loaded.asked }
+  in_order : AsksInOrder f.holds f.asked_old f.asked_new (files_of asked)
+  in_order = record { part = files_of asked; rest = []; whole = sym (append-nil (files_of asked)); grown = loaded.asked; had = all_had f (files_of asked) contents loaded }
 
   not_none : {fault : Fault} → ◌≡◌ {A = Option Fault} None (Some fault) → ⊥
   not_none is = cc
+
+  none_failed : f.faults_old < f.faults_new → ⊥
+  none_failed rose = omega (arith, loaded.faults, rose)
 
   pub ends_of_command : (ending : Result Verdict Stop) → CommandEnds input ending o → Ends (Some asked) ending f o
   ends_of_command (Ok Done) ends = record {
@@ -137,6 +160,7 @@ module _ (asked : Request (List ℕ)) (contents : List (List ℕ)) (input : Requ
     rejected_always = λ other line is faultless has.
         absurd (not_done input line ends.bytes (subst (λ (r : Request (List ℕ)). HasAnswer r (answers.Rejected line)) (one_input other is) has) ends.answer);
     read_fault = λ s. cc;
+    failing_load = λ rose. absurd (none_failed rose);
     write_fault = λ s. cc;
     too_long = λ s. cc;
     sure = λ s all. ((loaded.sure s all).0, (loaded.sure s all).1, λ r. cc);
@@ -152,6 +176,7 @@ module _ (asked : Request (List ℕ)) (contents : List (List ℕ)) (input : Requ
     rejected = λ s. (input, can_be, rejected_answer input ends.bytes ends.answer);
     rejected_always = λ other line is faultless has. inl refl;
     read_fault = λ s. cc;
+    failing_load = λ rose. absurd (none_failed rose);
     write_fault = λ s. cc;
     too_long = λ s. cc;
     sure = λ s all. ((loaded.sure s all).0, (loaded.sure s all).1, λ r. cc);
@@ -168,6 +193,7 @@ module _ (asked : Request (List ℕ)) (contents : List (List ℕ)) (input : Requ
     rejected = λ s. cc;
     rejected_always = λ other line is faultless has. absurd (not_none (sym faultless ∙ same_fault other is ∙ ends.0));
     read_fault = λ s. cc;
+    failing_load = λ rose. absurd (none_failed rose);
     write_fault = λ s. cc;
     too_long = λ s. cc;
     sure = λ s all. ((loaded.sure s all).0, (loaded.sure s all).1, λ r. cc);
@@ -184,6 +210,7 @@ module _ (asked : Request (List ℕ)) (contents : List (List ℕ)) (input : Requ
     rejected = λ s. cc;
     rejected_always = λ other line is faultless has. inr (inr (inl refl));
     read_fault = λ s. cc;
+    failing_load = λ rose. absurd (none_failed rose);
     write_fault = λ s. ends.1;
     too_long = λ s. cc;
     sure = λ s all. ((loaded.sure s all).0, (loaded.sure s all).1, λ r. cc);
@@ -199,6 +226,7 @@ module _ (asked : Request (List ℕ)) (contents : List (List ℕ)) (input : Requ
     rejected = λ s. cc;
     rejected_always = λ other line is faultless has. inr (inr (inr refl));
     read_fault = λ s. cc;
+    failing_load = λ rose. absurd (none_failed rose);
     write_fault = λ s. cc;
     too_long = λ s. cc;
     sure = λ s all. ((loaded.sure s all).0, (loaded.sure s all).1, λ r. cc);
@@ -210,15 +238,16 @@ module _ (asked : Request (List ℕ)) (contents : List (List ℕ)) (input : Requ
 -- an ending at a load, behind the loads of the files before
 module _ (asked : Request (List ℕ)) (f : FilesRun) (names contents : List (List ℕ)) (loaded : Loads f names contents) (name : List ℕ) (rest : List (List ℕ)) (files : files_of asked ≡ names ++ name ∷ rest)
     (mid : List ℕ → Told) (same : mid ≡ f.holds) (notes : List (List ℕ)) (faults overs : ℕ) (sure : Bool) (o : SinkRun) (keeps : Keeps o.old o.new) where
-  noted : (fault : LoadFault) → LoadEnds name (Err fault) (onwards f mid notes faults overs sure) → AsksInOrder f.asked_old notes (files_of asked)
+  noted : (fault : LoadFault) → LoadEnds name (Err fault) (onwards f mid notes faults overs sure) → AsksInOrder f.holds f.asked_old notes (files_of asked)
   noted fault load = elim load.asked [
     | inl new ↦ record {
       part = names ++ name ∷ [];
       rest = rest;
       whole = files ∙ sym (append_assoc names (name ∷ []) rest);
       grown = new ∙ ap (λ l. l ++ name ∷ []) loaded.asked ∙ append_assoc f.asked_old names (name ∷ []);
+      had = λ front last same. fronts_had f.holds names (name ∷ []) front last contents (omega arith) loaded.told same;
     }
-    | inr kept ↦ record { part = names; rest = name ∷ rest; whole = files; grown = kept.1 ∙ loaded.asked }
+    | inr kept ↦ record { part = names; rest = name ∷ rest; whole = files; grown = kept.1 ∙ loaded.asked; had = all_had f names contents loaded }
   ]
 
   all_of : AllToldFiles f.holds (files_of asked) → AllToldFiles f.holds (names ++ name ∷ rest)
@@ -239,6 +268,12 @@ module _ (asked : Request (List ℕ)) (f : FilesRun) (names contents : List (Lis
       AreFiles' : List (List ℕ) → List (List ℕ) → Type 0
       AreFiles' contents names = AreFiles f.holds names contents
 
+  rose_there : LoadEnds name (Err loads.Failed) (onwards f mid notes faults overs sure) → Rose f.faults_old faults
+  rose_there load = rose_behind f.faults_old f.faults_new faults (omega (arith, loaded.faults)) (load.failed refl)
+
+  stays_there : (fault : LoadFault) → fault ≢ loads.Failed → LoadEnds name (Err fault) (onwards f mid notes faults overs sure) → f.faults_old < faults → ⊥
+  stays_there fault other load rose = omega (arith, loaded.faults, load.faults_only (λ is. other (cc)), rose)
+
   ends_at_load : (fault : LoadFault) → LoadEnds name (Err fault) (onwards f mid notes faults overs sure) → Ends (Some asked) (Err (stop_of_load fault)) (both f notes faults overs sure) o
   ends_at_load loads.Failed load = record {
     usage = ((λ u. cc), (λ n. cc));
@@ -248,12 +283,13 @@ module _ (asked : Request (List ℕ)) (f : FilesRun) (names contents : List (Lis
     good_input = λ s. elim s [ inl d ↦ cc | inr (inl r) ↦ cc | inr (inr w) ↦ cc ];
     rejected = λ s. cc;
     rejected_always = λ other line is faultless has. inr (inl refl);
-    read_fault = λ s. rose_behind f.faults_old f.faults_new faults loaded.faults (load.failed refl);
+    read_fault = λ s. rose_there load;
+    failing_load = λ rose. refl;
     write_fault = λ s. cc;
     too_long = λ s. cc;
     sure = λ s all. ((surely loads.Failed load s all).0, (surely loads.Failed load s all).1, λ r. (surely loads.Failed load s all).2 refl);
     out = keeps;
-    complete = λ other is faultless no_read no_write. absurd (no_read (rose_behind f.faults_old f.faults_new faults loaded.faults (load.failed refl)));
+    complete = λ other is faultless no_read no_write. absurd (no_read (rose_there load));
   }
   ends_at_load loads.Memory load = record {
     usage = ((λ u. cc), (λ n. cc));
@@ -264,6 +300,7 @@ module _ (asked : Request (List ℕ)) (f : FilesRun) (names contents : List (Lis
     rejected = λ s. cc;
     rejected_always = λ other line is faultless has. inr (inr (inr refl));
     read_fault = λ s. cc;
+    failing_load = λ rose. absurd (stays_there loads.Memory (λ e. cc) load rose);
     write_fault = λ s. cc;
     too_long = λ s. cc;
     sure = λ s all. ((surely loads.Memory load s all).0, (surely loads.Memory load s all).1, λ r. cc);
@@ -279,6 +316,7 @@ module _ (asked : Request (List ℕ)) (f : FilesRun) (names contents : List (Lis
     rejected = λ s. cc;
     rejected_always = λ other line is faultless has. absurd (no_input (load.too_long refl).1 other is);
     read_fault = λ s. cc;
+    failing_load = λ rose. absurd (stays_there loads.TooLong (λ e. cc) load rose);
     write_fault = λ s. cc;
     too_long = λ s. rose_behind f.overs_old f.overs_new overs loaded.overs (load.too_long refl).0;
     sure = λ s all. ((surely loads.TooLong load s all).0, (surely loads.TooLong load s all).1, λ r. cc);

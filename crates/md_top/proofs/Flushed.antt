@@ -77,6 +77,7 @@ module _ (old now new : Option (List ℕ)) (faults_old faults_now faults_new : �
     rejected = ends.rejected;
     rejected_always = ends.rejected_always;
     read_fault = ends.read_fault;
+    failing_load = ends.failing_load;
     write_fault = λ is. rose_still (ends.write_fault is);
     too_long = ends.too_long;
     sure = ends.sure;
@@ -104,6 +105,7 @@ module _ (old now new : Option (List ℕ)) (faults_old faults_now faults_new : �
         rejected = λ s. cc;
         rejected_always = λ input line is faultless has. inr (inr (inl refl));
         read_fault = λ s. cc;
+        failing_load = λ rose. let is = ends.failing_load rose in cc;
         write_fault = λ s. rose_behind;
         too_long = λ s. cc;
         sure = λ s all. ((ends.sure s all).0, (ends.sure s all).1, λ r. cc);
@@ -119,6 +121,7 @@ module _ (old now new : Option (List ℕ)) (faults_old faults_now faults_new : �
         rejected = λ s. cc;
         rejected_always = λ input line is faultless has. inr (inr (inl refl));
         read_fault = λ s. cc;
+        failing_load = λ rose. let is = ends.failing_load rose in cc;
         write_fault = λ s. rose_behind;
         too_long = λ s. cc;
         sure = λ s all. ((ends.sure s all).0, (ends.sure s all).1, λ r. cc);

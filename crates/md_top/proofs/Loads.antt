@@ -1,5 +1,5 @@
 -- Loads of any number of files, one behind the other.
-use Rattle.std.proofs.Common.{◌≡◌, ◌⊎◌, ℕ, ◌<◌, ◌≤◌, length, Bool, IsTrue, List, [], ◌∷◌, ◌++◌, Vec, Ok, refl, sym, ◌∙◌, ap, subst, inl, inr, append-nil, append_assoc, arith}
+use Rattle.std.proofs.Common.{◌≡◌, ◌⊎◌, ℕ, ◌<◌, ◌≤◌, length, Bool, IsTrue, List, [], ◌∷◌, ◌++◌, Vec, Ok, refl, sym, ◌∙◌, ap, subst, inl, inr, append-nil, append_assoc, length-append, arith}
 use Rattle.std.specs.Global.{Global}
 use Rattle.md_io.specs.Told.{Told, IsToldAs, IsToldFile, IsToldLonger}
 use Rattle.md_io.specs.declared.TheConstants.{LIMIT}
@@ -10,7 +10,7 @@ pub record Loads (f : FilesRun) (names contents : List (List ℕ)) : Type 0 wher
   pub told : AreToldAs f.holds names contents
   pub asked : f.asked_new ≡ f.asked_old ++ names
   pub sure : IsTrue f.sure_old → AllToldFiles f.holds names → (f.faults_new ≡ f.faults_old) × IsTrue f.sure_new
-  pub faults : f.faults_old ≤ f.faults_new
+  pub faults : f.faults_new ≡ f.faults_old
   pub overs : f.overs_old ≤ f.overs_new
 
 -- one load behind a run, and both as one run
@@ -43,7 +43,7 @@ both f asked faults overs sure = record {
 pub no_loads : (holds : List ℕ → Told) (asked : List (List ℕ)) (faults overs : ℕ) (sure : Bool) →
     Loads (record { holds = holds; asked_old = asked; asked_new = asked; faults_old = faults; faults_new = faults; overs_old = overs; overs_new = overs; sure_old = sure; sure_new = sure }) [] []
 no_loads holds asked faults overs sure =
-    record { told = tt; asked = sym (append-nil asked); sure = λ s all. (refl, s); faults = omega arith; overs = omega arith }
+    record { told = tt; asked = sym (append-nil asked); sure = λ s all. (refl, s); faults = refl; overs = omega arith }
 
 told_more : (holds : List ℕ → Told) (names contents : List (List ℕ)) (name bytes : List ℕ) → AreToldAs holds names contents → IsToldAs (holds name) bytes → length bytes ≤ LIMIT → AreToldAs holds (names ++ name ∷ []) (contents ++ bytes ∷ [])
 told_more holds [] [] name bytes told one within = (one, within, tt)
@@ -85,6 +85,22 @@ one_more_load f names contents before mid same asked faults overs sure name file
           let so_far = before.sure s (all_before f.holds names name [] all) in
           let more = load.sure so_far.1 (subst (λ (h : List ℕ → Told). IsToldFile (h name)) (sym same) (all_at f.holds names name [] all)) in
           (more.0 ∙ so_far.0, more.1);
-      faults = omega (arith, before.faults, load.faults);
+      faults = load.faults_only (λ e. cc) ∙ before.faults;
       overs = omega (arith, before.overs, load.overs);
     }
+
+-- the files of names that stand before others, of which one at most isn't had, can be had
+pub fronts_had : (holds : List ℕ → Told) (names more front : List (List ℕ)) (last : List ℕ) (contents : List (List ℕ)) → length more ≤ 1 → AreToldAs holds names contents → names ++ more ≡ front ++ last ∷ []
+    → (some : List (List ℕ)) × AreToldAs holds front some
+fronts_had holds names more [] last contents few told same = ([], tt)
+fronts_had holds [] more (name ∷ front) last contents few told same =
+    absurd (omega (arith, few, ap length same, length-append {A = List ℕ} front (last ∷ [])))
+fronts_had holds (first ∷ names) more (name ∷ front) last [] few told same = absurd told
+fronts_had holds (first ∷ names) more (name ∷ front) last (bytes ∷ contents) few told same =
+    let behind : names ++ more ≡ front ++ last ∷ [] = cc in
+    let one : first ≡ name = cc in
+    let rest = fronts_had holds names more front last contents few told.2 behind in
+    (bytes ∷ rest.0, (subst (λ (n : List ℕ). IsToldAs (holds n) bytes) one told.0, told.1, rest.1))
+
+pub all_had : (f : FilesRun) (names contents : List (List ℕ)) → Loads f names contents → (front : List (List ℕ)) (last : List ℕ) → names ≡ front ++ last ∷ [] → (some : List (List ℕ)) × AreToldAs f.holds front some
+all_had f names contents loaded front last same = fronts_had f.holds names [] front last contents (omega arith) loaded.told (append-nil names ∙ same)

@@ -14,14 +14,14 @@ use Rattle.md_script.specs.declared.edit.Edit.TheVariants.{DelVertex}
 use Rattle.md_script.specs.declared.edit.EditReason.{EditReason}
 use Rattle.md_script.specs.Edit.{reason_of}
 use Rattle.md_report.specs.Lines.{PlainLine, applied_quiet, refused, refused_p4}
-use Rattle.md_report.specs.Sessions.{state_behind, last_state}
+use Rattle.md_report.specs.Sessions.{state_behind, last_state, is_applied}
 use Rattle.md_report.specs.Cographs.{IsP4Of, IsQuietLine, IsQuietLineBy, QuietRun}
 use Rattle.md_session.specs.declared.cograph.Answer as answers
 use Rattle.md_session.specs.declared.cograph.Answer.TheVariants.{Applied, Refused, RefusedP4}
 use Rattle.md_session.specs.Answers.{IsOpened, IsAnswered, IsAnsweredBy}
 use Rattle.md_session.specs.declared.cograph.Opened as opened
 use Rattle.md_session.specs.declared.cograph.Opened.TheVariants.{NotCograph}
-use Rattle.md_top.specs.Big.{edits_below, neighbours_before, deletions_at, is_applied, RunsTo}
+use Rattle.md_top.specs.Big.{edits_below, neighbours_before, deletions_at, RunsTo}
 
 -- no edit
 pub runs_none : (g : PlainGraph) → RunsTo g [] 0 0 g

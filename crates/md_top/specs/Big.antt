@@ -1,7 +1,6 @@
 -- A session on cographs from the graph without vertices over edits that a number alone gives, and the numbers that are told of it.
 -- Source: Shamir and Sharan, A fully dynamic algorithm for modular decomposition and recognition of cographs; the edits are this project's.
-use Rattle.std.specs.Prelude.{◌≡◌, ℕ, zero, suc, ◌%◌, ◌==◌, ◌&&◌, Bool, true, false, not, nat_le, List, [], ◌∷◌, ◌++◌, length, codes, Option, if◌then◌else◌}
-use Rattle.std.specs.List.{filter}
+use Rattle.std.specs.Prelude.{◌≡◌, ℕ, zero, suc, ◌%◌, ◌==◌, ◌&&◌, Bool, nat_le, List, [], ◌∷◌, ◌++◌, codes, Option, if◌then◌else◌}
 use Rattle.std.specs.FinSet as set
 use Rattle.md_text.specs.Numbers.{decimal}
 use Rattle.md_graph.specs.PlainGraph.{PlainGraph, adjacent, empty_graph}
@@ -11,8 +10,8 @@ use Rattle.md_tree.specs.Trees.{PlainTree, nodes_in}
 use Rattle.md_tree.specs.StrongTrees.{IsTree}
 use Rattle.md_script.specs.declared.edit.Edit.{Edit}
 use Rattle.md_script.specs.declared.edit.Edit.TheVariants.{DelEdge, AddVertex, DelVertex}
-use Rattle.md_report.specs.Lines.{PlainLine, head, tree, applied, applied_quiet, refused, refused_p4, not_cograph, oriented, forced, orders, forced_in, forced_in_complement, end}
-use Rattle.md_report.specs.Sessions.{last_state}
+use Rattle.md_report.specs.Lines.{PlainLine}
+use Rattle.md_report.specs.Sessions.{last_state, count_applied, count_refused}
 use Rattle.md_report.specs.Cographs.{QuietRun}
 use Rattle.md_top.specs.declared.big.Numbers.{Numbers}
 
@@ -51,29 +50,6 @@ cuts size = edits_below cuts_at size
 abbrev pub deletions : ℕ → List Edit
 deletions size = edits_below deletions_at size
 
--- whether the line is that of an edit that was applied, in mode quiet
-abbrev pub is_applied : PlainLine → Bool
-is_applied applied_quiet = true
-is_applied (head mode) = false
-is_applied (tree t) = false
-is_applied (applied t) = false
-is_applied (refused reason) = false
-is_applied (refused_p4 p) = false
-is_applied (not_cograph p) = false
-is_applied (oriented arcs) = false
-is_applied (forced chain) = false
-is_applied (orders first second) = false
-is_applied (forced_in chain) = false
-is_applied (forced_in_complement chain) = false
-is_applied end = false
-
--- how many of the lines are those of an edit that was applied, and how many aren't
-abbrev pub count_applied : List PlainLine → ℕ
-count_applied lines = length (filter is_applied lines)
-
-abbrev pub count_refused : List PlainLine → ℕ
-count_refused lines = length (filter (λ line. not (is_applied line)) lines)
-
 -- The run of a session on cographs over edits that leads from g to h, by its lines in mode quiet: so many edits are applied, and so many
 -- aren't.
 pub record RunsTo (g : PlainGraph) (edits : List Edit) (done undone : ℕ) (h : PlainGraph) : Type 0 where
@@ -88,7 +64,7 @@ abbrev pub HasNodes : PlainGraph → ℕ → Type 0
 HasNodes g n = (t : Option PlainTree) → IsTree (adjacent g) g.vertices t → n ≡ nodes_in t
 
 -- The numbers are those of the run over the edits for a size: all names below it are taken in, the graph is then cut, and its even names
--- are left out.
+-- are left out. The run is told in mode quiet; one in mode cograph has the same numbers, by the law `cograph_runs_apply_alike` of md_report.
 pub record AreNumbersOf (size : ℕ) (n : Numbers) : Type 0 where
   pub full : PlainGraph
   pub cut : PlainGraph

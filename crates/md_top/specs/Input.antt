@@ -79,14 +79,18 @@ abbrev pub names_of : Option (Request (List ℕ)) → List (List ℕ)
 names_of None = []
 names_of (Some asked) = files_of asked
 
--- the names asked for grew by the first of these names, in their order: by none, some or all of them
-pub record AsksInOrder (old new names : List (List ℕ)) : Type 0 where
+-- the names asked for grew by the first of these names, in their order: by none, some or all of them; and each of them but the last
+-- has a file that can be had
+pub record AsksInOrder (holds : List ℕ → Told) (old new names : List (List ℕ)) : Type 0 where
   pub part : List (List ℕ)
   pub rest : List (List ℕ)
   pub whole : names ≡ part ++ rest
   pub grown : new ≡ old ++ part
+  pub had : (front : List (List ℕ)) (last : List ℕ) → part ≡ front ++ last ∷ []
+      → (contents : List (List ℕ)) × AreToldAs holds front contents
 
 -- A load of the file of a name: its bytes, within the limit; or a fault, each where its count rose; or want of memory.
+-- The count of faults stays where the load didn't fail.
 pub record LoadEnds (name : List ℕ) (result : Result (Vec ℕ Global) LoadFault) (f : FilesRun) : Type 0 where
   pub told : IfOk result (λ bytes. IsToldAs (f.holds name) bytes.items)
   pub within : IfOk result (λ bytes. length bytes.items ≤ LIMIT)
@@ -96,5 +100,5 @@ pub record LoadEnds (name : List ℕ) (result : Result (Vec ℕ Global) LoadFaul
       ⊎ (IsErrOf result loads.Memory × (f.asked_new ≡ f.asked_old))
   pub sure : IsTrue f.sure_old → IsToldFile (f.holds name)
       → (f.faults_new ≡ f.faults_old) × IsTrue f.sure_new × ¬ (IsErrOf result loads.Failed)
-  pub faults : f.faults_old ≤ f.faults_new
+  pub faults_only : ¬ (IsErrOf result loads.Failed) → f.faults_new ≡ f.faults_old
   pub overs : f.overs_old ≤ f.overs_new

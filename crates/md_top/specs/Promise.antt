@@ -1,5 +1,5 @@
 -- What the top call promises of a run, whatever the forms are.
-use Rattle.std.specs.Prelude.{◌≡◌, ◌≢◌, ◌⊎◌, ℕ, Option, Some, None, List, [], IsTrue, Result, Err}
+use Rattle.std.specs.Prelude.{◌≡◌, ◌≢◌, ◌⊎◌, ◌<◌, ℕ, Option, Some, None, List, [], IsTrue, Result, Err}
 use Rattle.std.specs.Io.KnownBytes.{Keeps}
 use Rattle.md_io.specs.Told.{Told}
 use Rattle.md_io.specs.Count.{Rose}
@@ -72,7 +72,7 @@ pub record TakesLineOf (holds : List ℕ → Told) (request : Option (Request (L
 -- All of that of an ending, but for its line on `err`.
 pub record Ends (request : Option (Request (List ℕ))) (ending : Result Verdict Stop) (f : FilesRun) (o : SinkRun) : Type 0 where
   pub usage : (status_of ending ≡ Usage → request ≡ None) × (request ≡ None → status_of ending ≡ Usage)
-  pub asked : AsksInOrder f.asked_old f.asked_new (names_of request)
+  pub asked : AsksInOrder f.holds f.asked_old f.asked_new (names_of request)
   pub bad_input : (fault : Fault) → ending ≡ Err (stops.BadInput fault) → CanBeBad f.holds request fault
   pub bad_input_always : (input : Request (List ℕ)) (fault : Fault)
       → IsInput f.holds request input → fault_of input ≡ Some fault
@@ -85,6 +85,7 @@ pub record Ends (request : Option (Request (List ℕ))) (ending : Result Verdict
       → (status_of ending ≡ Rejected) ⊎ (status_of ending ≡ ReadFault) ⊎ (status_of ending ≡ WriteFault)
       ⊎ (status_of ending ≡ Memory)
   pub read_fault : status_of ending ≡ ReadFault → Rose f.faults_old f.faults_new
+  pub failing_load : f.faults_old < f.faults_new → status_of ending ≡ ReadFault
   pub write_fault : status_of ending ≡ WriteFault → Rose o.faults_old o.faults_new
   pub too_long : status_of ending ≡ TooLong → Rose f.overs_old f.overs_new
   pub sure : IsTrue f.sure_old → AllToldFiles f.holds (names_of request)

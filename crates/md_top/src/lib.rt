@@ -5,7 +5,6 @@ mod big;
 mod check;
 mod convert;
 mod err_line;
-mod in_memory;
 pub mod laws;
 mod load;
 mod put;
@@ -17,7 +16,6 @@ mod short;
 mod stop;
 mod top;
 
-pub use in_memory::run_in_memory;
 pub use stop::Status;
 pub use top::run;
 

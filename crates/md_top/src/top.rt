@@ -1,5 +1,5 @@
 //! The top call: all that the program does.
-ghost use Rattle.std.specs.Prelude.{◌≡◌, ◌≢◌, ◌↔◌, ◌⊎◌, ◌≤◌, ℕ, List, None, Some, IsTrue, OnOk};
+ghost use Rattle.std.specs.Prelude.{◌≡◌, ◌≢◌, ◌↔◌, ◌⊎◌, ◌<◌, ◌≤◌, ℕ, List, None, Some, IsTrue, OnOk};
 ghost use Rattle.md_graph.specs.declared.TheConstants.{NAMES as names};
 ghost use Rattle.md_io.specs.Count.{Rose};
 ghost use Rattle.md_input.specs.declared.fault.Fault.{Fault};
@@ -42,8 +42,9 @@ pub fn run<F: Files, O: Sink, E: Sink>(
     // Usage comes exactly where the words are in no form.
     ensures usage { (result ≡ Status.Usage) ↔ (request_of (texts words.now) ≡ None) }
 
-    // No file but those of the words is asked for, and these in their order.
-    ensures asked { AsksInOrder (F.asked files.old) (F.asked files.new)
+    // No file but those of the words is asked for, and these in their order, each behind files that
+    // can be had.
+    ensures asked { AsksInOrder (F.holds files.old) (F.asked files.old) (F.asked files.new)
         (names_of (request_of (texts words.now))) }
 
     // Bad input comes exactly where the input has a fault. A reading fault or want of memory may
@@ -75,6 +76,9 @@ pub fn run<F: Files, O: Sink, E: Sink>(
         → Rose (F.faults files.old) (F.faults files.new) }
     ensures write_fault { result ≡ Status.WriteFault → Rose (O.faults out.old) (O.faults out.new) }
     ensures too_long { result ≡ Status.TooLong → Rose (F.overs files.old) (F.overs files.new) }
+
+    // The failing load ends the run: where the count of faults rose, nothing else is answered.
+    ensures failing_load { F.faults files.old < F.faults files.new → result ≡ Status.ReadFault }
 
     // Where loads of told files can't fail, and the files of the words are told, none fails.
     ensures sure { IsTrue (F.sure files.old)

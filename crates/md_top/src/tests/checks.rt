@@ -2,6 +2,7 @@
 use super::{run, shown, words_of};
 use md_io::{MemFiles, MemSink};
 use std::alloc::Global;
+use std::process::Abort;
 use std::test::Fail;
 
 // A run over the files `g`, `s` and `r`: its status, and what stands on `out` and on `err`.
@@ -23,15 +24,41 @@ fn check_over(
     shown(alloc, status, &out, &err)
 }
 
+// Sees that each check of the report `r` over the file `g` ends as it is to be.
+fn expect_checks(
+    rt: &impl Abort,
+    alloc: Global,
+    table: &[(&str, &[u8], &[u8], &str)],
+) -> Result<(), Fail> {
+    for (line, file, report, want) in table {
+        let shown = check_over(alloc, line, file, b"*", report)?;
+        assert_eq!(rt; shown.as_str(), *want, "{line}");
+    }
+    Ok(())
+}
+
 #[test]
-fn checks_over_graphs(rt: HostRuntime) -> Result<(), Fail> {
+fn checks_of_trees(rt: HostRuntime) -> Result<(), Fail> {
     let alloc = rt.alloc();
-    let table: [(&str, &[u8], &[u8], &str); 18] = [
+    let table: [(&str, &[u8], &[u8], &str); 15] = [
+        (
+            "check tree g6 g r",
+            b"DhO\n",
+            b"mdt tree\nt R(P(0,4),1,2,3;0-1,1-2,2-3)\nend\n",
+            "0|accepted\n|",
+        ),
         (
             "check tree g6 g r",
             b"DhO\n@\n",
             b"mdt tree\nt R(P(0,4),1,2,3;0-1,1-2,2-3)\nt 0\nend\n",
             "0|accepted\n|",
+        ),
+        // The two vertices of a module stand as children of the prime node.
+        (
+            "check tree g6 g r",
+            b"DhO\n",
+            b"mdt tree\nt R(0,4,1,2,3;0-1,1-2,2-3)\nend\n",
+            "1|rejected line 2\n|",
         ),
         (
             "check tree g6 g r",
@@ -41,14 +68,14 @@ fn checks_over_graphs(rt: HostRuntime) -> Result<(), Fail> {
         ),
         (
             "check tree g6 g r",
-            b"Bw\n",
-            b"mdt tree\nt S(0,1,2)\n",
+            b"DhO\n",
+            b"mdt tree\nt R(P(0,4),1,2,3;0-1,1-2,2-3)\n",
             "1|rejected line 3\n|",
         ),
         (
             "check tree g6 g r",
-            b"Bw\n",
-            b"mdt tree\nt S(0,1,2)\nend\nend\n",
+            b"DhO\n",
+            b"mdt tree\nt R(P(0,4),1,2,3;0-1,1-2,2-3)\nend\nend\n",
             "1|rejected line 4\n|",
         ),
         (
@@ -57,42 +84,12 @@ fn checks_over_graphs(rt: HostRuntime) -> Result<(), Fail> {
             b"mdt tree\nt S(0,1,2)\nend",
             "1|rejected line 3\n|",
         ),
-        ("check tree g6 g r", b"Bw\n", b"", "1|rejected line 1\n|"),
+        ("check tree g6 g r", b"DhO\n", b"", "1|rejected line 1\n|"),
         (
             "check tree g6 g r",
             b"",
             b"mdt tree\nend\n",
             "0|accepted\n|",
-        ),
-        (
-            "check compare g6 g r",
-            b"Dhc\nBw\n",
-            b"mdt compare\nno 0>1 0>4 3>4 3>2 1>2 1>0\nyes 0>1 0>2 1>2\nend\n",
-            "0|accepted\n|",
-        ),
-        (
-            "check compare g6 g r",
-            b"Dhc\n",
-            b"mdt compare\nno 1>2 1>0 4>0 4>3 2>3 2>1\nend\n",
-            "1|rejected line 2\n|",
-        ),
-        (
-            "check compare g6 g r",
-            b"Bw\n",
-            b"mdt compare\nyes 0>1 2>0 2>1\nend\n",
-            "1|rejected line 2\n|",
-        ),
-        (
-            "check permute g6 g r",
-            b"Ch\nEhEG\n",
-            b"mdt permute\nyes 1 0 3 2 / 0 2 1 3\nno c 0>2 0>3 0>4 1>4 1>5 2>5 2>0\nend\n",
-            "0|accepted\n|",
-        ),
-        (
-            "check permute g6 g r",
-            b"A?\n",
-            b"mdt permute\nyes 0 1 / 1 0\nend\n",
-            "1|rejected line 2\n|",
         ),
         (
             "check tree g6 g r",
@@ -111,11 +108,72 @@ fn checks_over_graphs(rt: HostRuntime) -> Result<(), Fail> {
         ("check edges g6 g r", b"@\n", b"", "2||mdt: usage\n"),
         ("check g6 g r", b"@\n", b"", "2||mdt: usage\n"),
     ];
-    for (line, file, report, want) in table {
-        let shown = check_over(alloc, line, file, b"*", report)?;
-        assert_eq!(rt; shown.as_str(), want, "{line}");
-    }
-    Ok(())
+    expect_checks(&rt, alloc, &table)
+}
+
+#[test]
+fn checks_of_orientations(rt: HostRuntime) -> Result<(), Fail> {
+    let alloc = rt.alloc();
+    let table: [(&str, &[u8], &[u8], &str); 9] = [
+        // Two chains of a cycle of five.
+        (
+            "check compare g6 g r",
+            b"Dhc\n",
+            b"mdt compare\nno 0>1 2>1 2>3 4>3 4>0 1>0\nend\n",
+            "0|accepted\n|",
+        ),
+        (
+            "check compare g6 g r",
+            b"Dhc\nBw\n",
+            b"mdt compare\nno 0>1 0>4 3>4 3>2 1>2 1>0\nyes 0>1 0>2 1>2\nend\n",
+            "0|accepted\n|",
+        ),
+        // Two arcs that share neither their tail nor their head.
+        (
+            "check compare g6 g r",
+            b"Dhc\n",
+            b"mdt compare\nno 0>1 1>2 1>0\nend\n",
+            "1|rejected line 2\n|",
+        ),
+        (
+            "check compare g6 g r",
+            b"Dhc\n",
+            b"mdt compare\nno 1>2 1>0 4>0 4>3 2>3 2>1\nend\n",
+            "1|rejected line 2\n|",
+        ),
+        // A cycle of arcs, and an orientation that isn't the least one.
+        (
+            "check compare g6 g r",
+            b"Bw\n",
+            b"mdt compare\nyes 0>1 1>2 2>0\nend\n",
+            "1|rejected line 2\n|",
+        ),
+        (
+            "check compare g6 g r",
+            b"Bw\n",
+            b"mdt compare\nyes 0>1 2>0 2>1\nend\n",
+            "1|rejected line 2\n|",
+        ),
+        (
+            "check permute g6 g r",
+            b"Ch\nEhEG\nDhc\n?\nA?\n",
+            b"mdt permute\nyes 0 2 1 3 / 1 0 3 2\nno c 0>2 0>3 0>4 1>4 2>4 2>5 2>0\nno g 0>1 2>1 2>3 4>3 4>0 1>0\nyes /\nyes 0 1 / 0 1\nend\n",
+            "0|accepted\n|",
+        ),
+        (
+            "check permute g6 g r",
+            b"Ch\nEhEG\n",
+            b"mdt permute\nyes 1 0 3 2 / 0 2 1 3\nno c 0>2 0>3 0>4 1>4 1>5 2>5 2>0\nend\n",
+            "0|accepted\n|",
+        ),
+        (
+            "check permute g6 g r",
+            b"A?\n",
+            b"mdt permute\nyes 0 1 / 1 0\nend\n",
+            "1|rejected line 2\n|",
+        ),
+    ];
+    expect_checks(&rt, alloc, &table)
 }
 
 #[test]

@@ -48,7 +48,7 @@ fn failed(alloc: Global, lines: &[&str], place: usize, part: usize) -> Result<St
 #[test]
 fn puts_that_fail(rt: HostRuntime) -> Result<(), Fail> {
     let alloc = rt.alloc();
-    let table: [(&str, &[u8], &[u8], &[&str]); 5] = [
+    let table: [(&str, &[u8], &[u8], &[&str]); 4] = [
         COGRAPH,
         // The same two edits, of which a quiet report tells one tree.
         (
@@ -92,13 +92,6 @@ fn puts_that_fail(rt: HostRuntime) -> Result<(), Fail> {
                 "end\n",
             ],
         ),
-        // The answer of a check is one put.
-        (
-            "check tree g6 g s",
-            b"DhO\n",
-            b"mdt tree\nt R(P(0,4),1,2,3;0-1,1-2,2-3)\nend\n",
-            &["accepted\n"],
-        ),
     ];
     for (line, file, script, lines) in table {
         for place in 0..8 {
@@ -108,6 +101,42 @@ fn puts_that_fail(rt: HostRuntime) -> Result<(), Fail> {
                 assert_eq!(rt; shown.as_str(), want.as_str(), "{line}");
             }
         }
+    }
+    Ok(())
+}
+
+#[test]
+fn answers_of_one_put(rt: HostRuntime) -> Result<(), Fail> {
+    let alloc = rt.alloc();
+    // Each with its first put failing behind three bytes, and with its second, which never comes.
+    let table: [(&str, &[u8], &[u8], &str, &str); 3] = [
+        (
+            "check tree g6 g s",
+            b"DhO\n",
+            b"mdt tree\nt R(P(0,4),1,2,3;0-1,1-2,2-3)\nend\n",
+            "5|acc|mdt: write fault\n",
+            "0|accepted\n|",
+        ),
+        (
+            "check tree g6 g s",
+            b"DhO\n",
+            b"mdt tree\nend\n",
+            "5|rej|mdt: write fault\n",
+            "1|rejected line 2\n|",
+        ),
+        (
+            "big 5",
+            b"",
+            b"",
+            "5|ins|mdt: write fault\n",
+            "0|inserted 5 refused 1 nodes 9 left 2 nodes 3\n|",
+        ),
+    ];
+    for (line, file, script, cut, whole) in table {
+        let shown = run_over(alloc, line, file, script, 0, 1, 3)?;
+        assert_eq!(rt; shown.as_str(), cut, "{line}");
+        let shown = run_over(alloc, line, file, script, 0, 2, 3)?;
+        assert_eq!(rt; shown.as_str(), whole, "{line}");
     }
     Ok(())
 }

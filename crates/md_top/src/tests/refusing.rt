@@ -7,7 +7,8 @@ ghost use Rattle.md_io.specs.Asked.{names};
 use md_io::{Files, LIMIT, LoadFault};
 use std::alloc::Global;
 
-// Files that each have more bytes than any limit, or that have no memory for the bytes of one.
+// Files that each have more bytes than the limit of a run, or that have no memory for the bytes of
+// one. A load with another limit finds no memory either.
 #[derive(Drop)]
 pub(super) struct RefusingFiles {
     alloc: Global,
@@ -49,13 +50,11 @@ impl Files for RefusingFiles {
     fn load(&mut self, _alloc: Global, name: &str, limit: u64) -> Result<Vec<u8>, LoadFault> {
         let name = String::from_str(self.alloc, name).map_err(|_| LoadFault::Memory)?;
         self.asked.push(name).map_err(|_| LoadFault::Memory)?;
-        if !self.too_long {
+        if !self.too_long || limit != LIMIT {
             return Err(LoadFault::Memory);
         }
         self.taken = self.taken.saturating_add(limit).saturating_add(1);
-        if limit >= LIMIT {
-            self.overs = self.overs.saturating_add(1);
-        }
+        self.overs = self.overs.saturating_add(1);
         Err(LoadFault::TooLong)
     }
 }

@@ -2,6 +2,7 @@ use Rattle.std.proofs.Common.{sym, subst}
 use Rattle.md_report.specs.Made.{Shows}
 use Rattle.md_report.proofs.MadePaths.{shown}
 use Rattle.md_checker.proofs.Applying.{path_made, none_made}
+use Rattle.md_script.specs.TakenBack.{Led}
 use Rattle.md_script.proofs.BackLemmas.{led}
 use Rattle.md_checker.proofs.judgements.keeps_cograph.Goals as goal
 
@@ -18,4 +19,6 @@ returns-in-Some-clause-may c =
 
 pub returns-clause-may : goal.returns-clause-may
 returns-clause-may c =
-    none_made c.args.graph.now c.apply.new.graph c.args.edit.now c.lost_row-row.ensures.graph c.requires.cograph c.requires.names c.requires.applies c.apply.ensures c.in_default.ensures.none
+    let before : Led c.args.graph.now c.args.edit.now c.lost_row-row.result c.apply.new.graph =
+    led c.args.graph.now _ _ _ c.lost_row-row.ensures.graph c.requires.names c.requires.applies c.lost_row-row.ensures.row c.apply.ensures in
+    none_made c.args.graph.now c.apply.new.graph c.args.edit.now c.apply.ensures (c.in_default.ensures.cograph c.args.graph.now _ before c.requires.cograph)

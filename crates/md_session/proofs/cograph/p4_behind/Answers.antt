@@ -1,6 +1,8 @@
 use Rattle.std.proofs.Common.{subst, sym}
-use Rattle.md_report.specs.Made.{Shows, HasNoneMade}
-use Rattle.md_report.proofs.MadePaths.{shown, still_cograph}
+use Rattle.md_script.specs.TakenBack.{Led}
+use Rattle.md_report.specs.Made.{Shows}
+use Rattle.md_report.specs.Cographs.{IsCograph}
+use Rattle.md_report.proofs.MadePaths.{shown}
 use Rattle.md_script.proofs.BackLemmas.{led}
 use Rattle.md_session.proofs.cograph.p4_behind.Goals as goal
 
@@ -13,5 +15,6 @@ take_back-requires c =
 
 pub unreachable-requires : goal.unreachable-requires
 unreachable-requires c =
-    still_cograph c.args.graph.now c.lost_row-row.ensures.graph c.requires.cograph c.args.edit.now c.requires.names c.requires.applies
-    (subst (λ h. HasNoneMade h c.args.edit.now) c.apply.ensures c.in-None.ensures.none) c.requires.made
+    let before : Led c.args.graph.now c.args.edit.now c.lost_row-row.result c.apply.new.graph =
+    led c.args.graph.now _ _ _ c.lost_row-row.ensures.graph c.requires.names c.requires.applies c.lost_row-row.ensures.row c.apply.ensures in
+    subst IsCograph c.apply.ensures (c.in-None.ensures.cograph c.args.graph.now _ before c.requires.cograph) c.requires.made

@@ -11,6 +11,9 @@ returns-in-Ok-clause-bad_input_always g c = bad_always _ (Ok c.in-Ok.verdict) _ 
 pub returns-in-Ok-clause-rejected_always : goal.returns-in-Ok-clause-rejected_always
 returns-in-Ok-clause-rejected_always g c = rejected_always _ (Ok c.in-Ok.verdict) _ _ c.in-Ok.ensures.ends c.status.result c.status.ensures
 
+pub returns-in-Ok-clause-failing_load : goal.returns-in-Ok-clause-failing_load
+returns-in-Ok-clause-failing_load g c = λ rose. c.status.ensures ∙ c.in-Ok.ensures.ends.failing_load rose
+
 pub returns-in-Ok-clause-err : goal.returns-in-Ok-clause-err
 returns-in-Ok-clause-err g c = record {
   line = [];
@@ -26,6 +29,9 @@ returns-in-Err-clause-bad_input_always g c = bad_always _ (Err c.in-Err.stop) _ 
 
 pub returns-in-Err-clause-rejected_always : goal.returns-in-Err-clause-rejected_always
 returns-in-Err-clause-rejected_always g c = rejected_always _ (Err c.in-Err.stop) _ _ c.in-Err.ensures.ends c.status-in-Err.result c.status-in-Err.ensures
+
+pub returns-in-Err-clause-failing_load : goal.returns-in-Err-clause-failing_load
+returns-in-Err-clause-failing_load g c = λ rose. c.status-in-Err.ensures ∙ c.in-Err.ensures.ends.failing_load rose
 
 pub returns-in-Err-clause-err : goal.returns-in-Err-clause-err
 returns-in-Err-clause-err g c = record {
