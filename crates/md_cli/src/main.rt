@@ -2,12 +2,11 @@
 //! error.
 #![tactic(auto)]
 
-ghost use Rattle.std.specs.Prelude.{◌≡◌};
+ghost use Rattle.std.specs.Prelude.{◌≡◌, ◌↔◌, None};
 ghost use Rattle.std.specs.Process.{exit_status};
-ghost use Rattle.md_top.specs.declared.stop.Status.{Status};
-ghost use Rattle.md_top.specs.Status.{number_of};
+ghost use Rattle.md_top.specs.Request.{texts, request_of};
 
-use md_io::{DirFiles, GatheringSink, StdSink};
+use md_io::{DirFiles, GatheringSink, Sink, StdSink};
 use md_top::{Status, run};
 use std::env;
 use std::io::ErrorKind;
@@ -17,30 +16,40 @@ use std::process::ExitCode;
 mod tests;
 
 fn main(rt: HostRuntime) -> ExitCode {
-    end(&rt)
+    // Where the words can't be had, it writes nothing and ends as at a reading fault, or as at want
+    // of memory.
+    match words(&rt) {
+        Ok(words) => end(&rt, &words),
+        Err(status) => status.exit_code(),
+    }
 }
 
-// Ends with the number of the status of `run` over the words behind the program's name. Where the
-// words can't be had, it writes nothing and ends as at a reading fault, or as at want of memory.
-fn end(rt: &HostRuntime) -> ExitCode
-    ensures { (status : Status) × (exit_status result ≡ number_of status) }
+// Ends with the number of the status of `run` over the words: with 2 exactly where they are in no
+// form.
+fn end(rt: &HostRuntime, words: &[String]) -> ExitCode
+    ensures usage { (exit_status result ≡ 2) ↔ (request_of (texts words.now) ≡ None) }
 {
-    let status = match words(rt) {
-        Ok(words) => run_here(rt, &words),
-        Err(status) => status,
-    };
-    status.exit_code()
+    run_here(rt, words).exit_code()
 }
 
-// The status of `run` over the files of the system, standard output, which gathers small pieces,
-// and standard error. Where there is no memory to gather in, it writes nothing.
-fn run_here(rt: &HostRuntime, words: &[String]) -> Status {
-    let Ok(mut out) = GatheringSink::new(rt.alloc(), rt.stdout()) else {
-        return Status::Memory;
-    };
+// The status of `run` over the files of the system, standard output and standard error. Output is
+// gathered in small pieces where there is memory for that.
+fn run_here(rt: &HostRuntime, words: &[String]) -> Status
+    ensures usage { (result ≡ Status.Usage) ↔ (request_of (texts words.now) ≡ None) }
+{
+    match GatheringSink::new(rt.alloc(), rt.stdout()) {
+        Ok(mut out) => run_to(rt, words, &mut out),
+        Err(_) => run_to(rt, words, &mut StdSink::new(rt.stdout())),
+    }
+}
+
+// The status of `run` over the files of the system, an output and standard error.
+fn run_to<O: Sink>(rt: &HostRuntime, words: &[String], out: &mut O) -> Status
+    ensures usage { (result ≡ Status.Usage) ↔ (request_of (texts words.now) ≡ None) }
+{
     let mut files = DirFiles::new(rt, rt.alloc());
     let mut err = StdSink::new(rt.stderr());
-    run(rt.alloc(), words, &mut files, &mut out, &mut err)
+    run(rt.alloc(), words, &mut files, out, &mut err)
 }
 
 // The words behind the program's name.

@@ -81,8 +81,15 @@ none_asked holds asked = record {
 module _ (request : Option (Request (List ℕ))) (none : request ≡ None) (holds : List ℕ → Told) (asked : List (List ℕ)) (faults overs : ℕ) (sure : Bool) (o : SinkRun) (keeps : Keeps o.old o.new) where
   abbrev untouched : FilesRun
   untouched = record {
-    holds = holds; asked_old = asked; asked_new = asked; faults_old = faults; faults_new = faults; overs_old = overs; overs_new = overs;
-    sure_old = sure; sure_new = sure;
+    holds = holds;
+    asked_old = asked;
+    asked_new = asked;
+    faults_old = faults;
+    faults_new = faults;
+    overs_old = overs;
+    overs_new = overs;
+    sure_old = sure;
+    sure_new = sure;
   }
 
   no_form : (input : Request (List ℕ)) → IsInput holds request input → ⊥
