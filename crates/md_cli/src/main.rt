@@ -4,7 +4,9 @@
 
 ghost use Rattle.std.specs.Prelude.{◌≡◌, ◌↔◌, None};
 ghost use Rattle.std.specs.Process.{exit_status};
+ghost use Rattle.md_top.specs.declared.stop.Status.{Status};
 ghost use Rattle.md_top.specs.Request.{texts, request_of};
+ghost use Rattle.md_top.specs.Status.{number_of};
 
 use md_io::{DirFiles, GatheringSink, Sink, StdSink};
 use md_top::{Status, run};
@@ -27,6 +29,7 @@ fn main(rt: HostRuntime) -> ExitCode {
 // Ends with the number of the status of `run` over the words: with 2 exactly where they are in no
 // form.
 fn end(rt: &HostRuntime, words: &[String]) -> ExitCode
+    ensures number { (status : Status) × (exit_status result ≡ number_of status) }
     ensures usage { (exit_status result ≡ 2) ↔ (request_of (texts words.now) ≡ None) }
 {
     run_here(rt, words).exit_code()

@@ -15,10 +15,11 @@ is_usage WriteFault two = cc
 is_usage Memory two = cc
 is_usage TooLong two = cc
 
-pub returns : goal.returns
-returns c = record {
-  usage = (
-    (λ two. c.run_here.ensures.usage.0 (is_usage c.run_here.result (sym c.exit_code.ensures ∙ two))),
-    (λ none. c.exit_code.ensures ∙ ap number_of (c.run_here.ensures.usage.1 none)),
-  );
-}
+pub returns-clause-number : goal.returns-clause-number
+returns-clause-number c = (c.run_here.result, c.exit_code.ensures)
+
+pub returns-clause-usage : goal.returns-clause-usage
+returns-clause-usage c = (
+  (λ two. c.run_here.ensures.usage.0 (is_usage c.run_here.result (sym c.exit_code.ensures ∙ two))),
+  (λ none. c.exit_code.ensures ∙ ap number_of (c.run_here.ensures.usage.1 none)),
+)
