@@ -18,17 +18,23 @@ use std::process::ExitCode;
 mod tests;
 
 fn main(rt: HostRuntime) -> ExitCode {
-    // Where the words can't be had, it writes nothing and ends as at a reading fault, or as at want
-    // of memory.
-    match words(&rt) {
-        Ok(words) => end(&rt, &words),
+    end(&rt)
+}
+
+// Ends with the number of the status of `run` over the words behind the program's name. Where the
+// words can't be had, it writes nothing and ends as at a reading fault, or as at want of memory.
+fn end(rt: &HostRuntime) -> ExitCode
+    ensures { (status : Status) × (exit_status result ≡ number_of status) }
+{
+    match words(rt) {
+        Ok(words) => end_over(rt, &words),
         Err(status) => status.exit_code(),
     }
 }
 
 // Ends with the number of the status of `run` over the words: with 2 exactly where they are in no
 // form.
-fn end(rt: &HostRuntime, words: &[String]) -> ExitCode
+fn end_over(rt: &HostRuntime, words: &[String]) -> ExitCode
     ensures number { (status : Status) × (exit_status result ≡ number_of status) }
     ensures usage { (exit_status result ≡ 2) ↔ (request_of (texts words.now) ≡ None) }
 {

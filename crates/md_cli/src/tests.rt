@@ -24,7 +24,7 @@ fn ends_with_the_number_of_the_status(rt: HostRuntime) -> Result<(), Fail> {
         for word in line {
             words.push(String::from_str(alloc, word)?)?;
         }
-        let code = end(&rt, &words);
+        let code = end_over(&rt, &words);
         assert!(&rt; code == ExitCode::from(number), "{number}");
     }
     fs::remove_file(&rt, "mdt_graph.g6")?;

@@ -3,7 +3,7 @@ use Rattle.std.proofs.Common.{◌≡◌, refl, sym, ◌∙◌, ap}
 use Rattle.md_top.specs.declared.stop.Status.{Status}
 use Rattle.md_top.specs.declared.stop.Status.TheVariants.{Done, Rejected, Usage, BadInput, ReadFault, WriteFault, Memory, TooLong}
 use Rattle.md_top.specs.Status.{number_of}
-use Rattle.md_cli.proofs.end.Goals as goal
+use Rattle.md_cli.proofs.end_over.Goals as goal
 
 is_usage : (status : Status) → number_of status ≡ 2 → status ≡ Usage
 is_usage Done two = cc
