@@ -10,6 +10,8 @@ from .svg import FILL, MARKED, STROKE, Name, circle, picture, rounded, short, te
 from .trees import Node
 
 GAP = 8
+# Each disc is turned by this angle against the one round it, so that few vertices are in line with others.
+TURN = 1.1
 # Above this number of edges a thick line stands for all edges between two modules.
 MOST_EDGES = 400
 
@@ -79,10 +81,13 @@ class _Hulls:
             else:
                 self.arrange(node)
         self.at[id(tree)] = (self.radius[id(tree)] + EDGE,) * 2
+        turns = {id(tree): 0.0}
         for node in tree:
-            x, y = self.at[id(node)]
+            (x, y), turn = self.at[id(node)], turns.pop(id(node))
+            c, s = math.cos(turn), math.sin(turn)
             for child, (dx, dy) in zip(node.children, self.inside.get(id(node), ())):
-                self.at[id(child)] = (x + dx, y + dy)
+                self.at[id(child)] = (x + c * dx - s * dy, y + s * dx + c * dy)
+                turns[id(child)] = turn + TURN
 
     def arrange(self, node: Node) -> None:
         """Places the children's discs in that of a node: on a circle, or, where this takes much less room, round the
