@@ -67,7 +67,8 @@ def in_shells(radii: list[float], order: list[int]) -> list[Place]:
 
 
 class _Hulls:
-    """The disc of each node, by its identity: radius and, once it is placed, its middle."""
+    """The disc of each node, by its identity: radius and, once it is placed, its middle. A disc is turned so that two
+    children in it stand across the way from the middle of the disc round it: then neither hides the other."""
 
     def __init__(self, tree: Node, name: Name):
         self.radius: dict[int, float] = {}
@@ -79,10 +80,14 @@ class _Hulls:
             else:
                 self.arrange(node)
         self.at[id(tree)] = (self.radius[id(tree)] + EDGE,) * 2
+        turns = {id(tree): 0.0}
         for node in tree:
-            x, y = self.at[id(node)]
+            (x, y), turn = self.at[id(node)], turns.pop(id(node))
+            c, s = math.cos(turn), math.sin(turn)
             for child, (dx, dy) in zip(node.children, self.inside.get(id(node), ())):
+                dx, dy = c * dx - s * dy, s * dx + c * dy
                 self.at[id(child)] = (x + dx, y + dy)
+                turns[id(child)] = math.atan2(dy, dx) + math.pi / 2
 
     def arrange(self, node: Node) -> None:
         """Places the children's discs in that of a node: on a circle, or, where this takes much less room, round the
@@ -95,7 +100,7 @@ class _Hulls:
             ring[i] = (distance * math.sin(angle), -distance * math.cos(angle))
         ring, outer = centred(ring, radii)
         shells, least = centred(in_shells(radii, order), radii)
-        if least < outer * (1.0 if node.kind == "parallel" else 0.6):
+        if len(radii) > 2 and least < outer * (1.0 if node.kind == "parallel" else 0.6):
             ring, outer = shells, least
         self.inside[id(node)], self.radius[id(node)] = ring, outer + GAP / 2
 
