@@ -22,8 +22,8 @@ import tempfile
 TOP = pathlib.Path(__file__).resolve().parent.parent
 KEPT = TOP / "bench" / "wrong-bodies"
 # what the toolchain says of a wrong body that is refused
-REFUSED = re.compile(r"^(?:rt: )?(\S+\.edit): refused")
-OF_AN_EDIT = re.compile(r"^(?:rt: )?(\S+\.edit): ")
+REFUSED = re.compile(r"^(?:rt: )?must-fail (\S+\.edit): refused")
+OF_AN_EDIT = re.compile(r"^(?:rt: )?must-fail (\S+\.edit): ")
 
 
 def names(argv: list[str]) -> list[str]:

@@ -16,15 +16,15 @@ use Rattle.md_text.specs.Numbers.{decimal}
 use Rattle.md_text.specs.Pieces.{piece_text, text_at, texts_at}
 use Rattle.md_tree.specs.Positions.{ArePositions}
 use Rattle.md_forcing.specs.declared.arc.Arc.{Arc}
-use Rattle.md_forcing.specs.declared.seen.Side.TheVariants.{Edges}
+use Rattle.md_forcing.specs.declared.arc_set.Side.TheVariants.{Edges}
 use Rattle.md_forcing.specs.Forcing.{arc}
-use Rattle.md_forcing.specs.Seen.{IsSeen}
+use Rattle.md_forcing.specs.ArcSet.{HasArc}
 use Rattle.md_forcing.proofs.NameLists.{of_ascending}
-use Rattle.md_orientation.specs.Listed.{arcs_below}
-use Rattle.md_orientation.specs.Walking.{IsWhole}
-use Rattle.md_orientation.proofs.Chosen.{chosen_arc}
-use Rattle.md_orientation.proofs.Listing.{arcs_more, arcs_none}
-use Rattle.md_orientation.proofs.Reached.{side_premises}
+use Rattle.md_comparability.specs.Listed.{arcs_below}
+use Rattle.md_comparability.specs.Walking.{IsWholeOrientation}
+use Rattle.md_comparability.proofs.Chosen.{chosen_arc}
+use Rattle.md_comparability.proofs.Listing.{arcs_more, arcs_none}
+use Rattle.md_comparability.proofs.Reached.{side_premises}
 use Rattle.md_report.specs.Lines.{arc_text, arcs_text}
 use Rattle.md_checker.specs.Gathered.{Matches}
 use Rattle.md_checker.proofs.Ordering.{holds_item}
@@ -47,7 +47,7 @@ heads_text pieces are start tail is (v ∷ heads) there =
     ∙ ap (λ l. 32 ∷ l ++ arcs_text (map (arc tail) heads)) (append_assoc (decimal tail) (62 ∷ []) (decimal v))
 
 -- the heads of a row are names with a piece
-pub heads_there : (rows : List NameSet) (pieces : List Piece) (tail : ℕ) (heads : NameSet) → ((a : Arc) → IsSeen rows a → a.head < length rows) → length pieces ≡ length rows → heads ≡ row_of rows tail →
+pub heads_there : (rows : List NameSet) (pieces : List Piece) (tail : ℕ) (heads : NameSet) → ((a : Arc) → HasArc rows a → a.head < length rows) → length pieces ≡ length rows → heads ≡ row_of rows tail →
     All (λ v. v < length pieces) (ascending heads)
 heads_there rows pieces tail heads within count is k d below =
     let v = get_or (ascending heads) k d in
@@ -71,7 +71,7 @@ arcs_on rows pieces start tail heads list text rest gathered are is_start is_row
 
 -- ---- the heads of the least-edge orientation
 
-pub chosen_within : {g : PlainGraph} → IsGraph g → (chosen : List NameSet) → IsWhole (adjacent g) chosen → ((v : ℕ) → Has g.vertices v → v < length chosen) → (a : Arc) → IsSeen chosen a → a.head < length chosen
+pub chosen_within : {g : PlainGraph} → IsGraph g → (chosen : List NameSet) → IsWholeOrientation (adjacent g) chosen → ((v : ℕ) → Has g.vertices v → v < length chosen) → (a : Arc) → HasArc chosen a → a.head < length chosen
 chosen_within {g} is chosen whole room a seen =
     let side = side_premises is Edges in
     room a.head (adjacent_ends is a.tail a.head (chosen_arc (adjacent g) side.adjacency a ((whole.all a).0 seen))).1

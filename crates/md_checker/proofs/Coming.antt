@@ -12,14 +12,14 @@ use Rattle.md_graph.proofs.SetLemmas.{clash}
 use Rattle.md_modules.specs.declared.induced_paths.P4.{P4}
 use Rattle.md_modules.proofs.Turns.{graph_adjacency}
 use Rattle.md_forcing.specs.declared.arc.Arc.{Arc}
-use Rattle.md_forcing.specs.declared.seen.Side.TheVariants.{Edges, NonEdges}
+use Rattle.md_forcing.specs.declared.arc_set.Side.TheVariants.{Edges, NonEdges}
 use Rattle.md_forcing.specs.Forcing.{arc, IsArc, Leads}
 use Rattle.md_forcing.specs.Lists.{Holds}
 use Rattle.md_forcing.specs.Sides.{adjacent_on}
-use Rattle.md_orientation.specs.Chains.{IsForcingChain}
-use Rattle.md_orientation.specs.Orders.{IsOrder}
-use Rattle.md_orientation.specs.Laws.{MeetsPremises}
-use Rattle.md_orientation.proofs.Reached.{side_premises}
+use Rattle.md_comparability.specs.Chains.{IsForcingChain}
+use Rattle.md_comparability.specs.Orders.{IsOrder}
+use Rattle.md_comparability.specs.Laws.{MeetsPremises}
+use Rattle.md_comparability.proofs.Reached.{side_premises}
 use Rattle.md_tree.specs.Trees.{PlainTree}
 use Rattle.md_tree.specs.WellFormed.{IsWellFormed}
 use Rattle.md_tree.proofs.OneTree.{well_formed_proof}

@@ -5,7 +5,7 @@ use Rattle.std.proofs.lemmas.List.{take_more, drop_more, get_or-drop, get_or-rep
 use Rattle.std.proofs.Math.Bool.{or-false, or_assoc}
 use Rattle.std.specs.Cmp.{both_ways}
 use Rattle.std.specs.FinSet.{contains, empty, insert, union, intersection}
-use Rattle.md_graph.specs.NameSet.{IsLeastFrom, NoneFrom, told_apart}
+use Rattle.md_graph.specs.NameSet.{IsLeastFrom, NoneFrom, symmetric_difference}
 use Rattle.md_graph.specs.PlainGraph.{PlainGraph, IsGraph, adjacent, neighbours}
 use Rattle.md_graph.specs.Rows.{row_of}
 use Rattle.md_graph.specs.Sets.{NameSet, Has, Within}
@@ -87,12 +87,12 @@ name_set_within s xs each y h =
 -- ---- rows that agree on a set
 
 pub agree_test : (s first second : NameSet) (found : Option ℕ) (r : Bool) →
-    IfSome found (IsLeastFrom (intersection s (told_apart first second)) 0) → IfNone found (NoneFrom (intersection s (told_apart first second)) 0) →
+    IfSome found (IsLeastFrom (intersection s (symmetric_difference first second)) 0) → IfNone found (NoneFrom (intersection s (symmetric_difference first second)) 0) →
     is_some found ≡ not r → (r ≡ true) ↔ ((y : ℕ) → Has s y → contains first y ≡ contains second y)
 agree_test s first second (Some least) r some none is = (
   λ t. clash t (not-true r (sym is)),
   λ agree.
-      let two = of_meet s (told_apart first second) least some.member in
+      let two = of_meet s (symmetric_difference first second) least some.member in
       elim (of_union _ _ least two.1) [
         | inl a ↦ (let l = of_minus first second least a in clash (sym (agree least two.0) ∙ l.0) l.1)
         | inr b ↦ (let l = of_minus second first least b in clash (agree least two.0 ∙ l.0) l.1)
@@ -102,11 +102,11 @@ agree_test s first second None r some none is = (
   λ t y h. both_ways (contains first y) (contains second y)
       (λ f. elim (cases_Bool (contains second y)) [
         | inl g ↦ g
-        | inr l ↦ clash (meet_has s (told_apart first second) y h (union_left _ _ y (minus_has first second y f l))) (none_lacks _ none y)
+        | inr l ↦ clash (meet_has s (symmetric_difference first second) y h (union_left _ _ y (minus_has first second y f l))) (none_lacks _ none y)
       ])
       (λ g. elim (cases_Bool (contains first y)) [
         | inl f ↦ f
-        | inr l ↦ clash (meet_has s (told_apart first second) y h (union_right _ _ y (minus_has second first y g l))) (none_lacks _ none y)
+        | inr l ↦ clash (meet_has s (symmetric_difference first second) y h (union_right _ _ y (minus_has second first y g l))) (none_lacks _ none y)
       ]),
   λ agree. not-false r (sym is),
 )

@@ -18,7 +18,7 @@ use Rattle.md_tree.specs.Parts.{PlainPart, name, inner, part_of, parts_of}
 use Rattle.md_tree.specs.Stacks.{with_part}
 use Rattle.md_tree.specs.StrongTrees.{IsTreeOf}
 use Rattle.md_tree.specs.Trees.{PlainTree, leaf, node, PlainTrees, names, names_below, row, EachNode, EachNodeBelow}
-use Rattle.md_tree.specs.WellFormed.{IsCanonicalNode, IsCanonical}
+use Rattle.md_tree.specs.WellFormed.{IsCanonicalNode, IsCanonicalTree}
 use Rattle.md_tree.proofs.Folding.{count_row, each_join, each_parts, folded, folded_tree, IsFolding, fold_begin, fold_finds, fold_more, fold_end}
 use Rattle.md_tree.proofs.Nodes.{IsChild}
 use Rattle.md_checker.specs.Fits.{head, head_at, IsFitNode, Fits}
@@ -190,7 +190,7 @@ walk_begin g t parts sets list all none empty = record {
   finished = record { sets_are = none; heads_are = empty; are_fit = record { fit = tt; within = λ x h. clash h (empty_lacks x) } };
 }
 
-module _ {g : PlainGraph} {t : PlainTree} (canonical : IsCanonical t) {parts : List PlainPart} {sets : List NameSet} {list : List ℕ} (left : List PlainPart) (p : PlainPart) (last : parts ≡ left ++ p ∷ []) (walk : IsWalk g t parts sets list) where
+module _ {g : PlainGraph} {t : PlainTree} (canonical : IsCanonicalTree t) {parts : List PlainPart} {sets : List NameSet} {list : List ℕ} (left : List PlainPart) (p : PlainPart) (last : parts ≡ left ++ p ∷ []) (walk : IsWalk g t parts sets list) where
   next : IsFolding (parts_of t) left (with_part p walk.trees)
   next = fold_more (parts_of t) parts left p walk.trees (with_part p walk.trees) walk.folding last refl
 
@@ -220,7 +220,7 @@ pub walk_none : {g : PlainGraph} {t : PlainTree} {parts : List PlainPart} {sets 
 walk_none {t} none walk empty = let bad : [] ≡ names t ∷ [] = sym empty ∙ walk_some none walk in cc
 
 -- nothing is left, and the names of the tree are compared with the vertices
-pub walk_end : {g : PlainGraph} {t : PlainTree} {parts : List PlainPart} {sets : List NameSet} {list : List ℕ} (rest : List NameSet) → IsGraph g → IsCanonical t → parts ≡ [] → IsWalk g t parts sets list → (m : NameSet) →
+pub walk_end : {g : PlainGraph} {t : PlainTree} {parts : List PlainPart} {sets : List NameSet} {list : List ℕ} (rest : List NameSet) → IsGraph g → IsCanonicalTree t → parts ≡ [] → IsWalk g t parts sets list → (m : NameSet) →
     sets ≡ rest ++ m ∷ [] → (vertices : NameSet) → vertices ≡ g.vertices → (b : Bool) → IsTrue b ↔ (m ≡ vertices) → IsTrue b ↔ IsTreeOf (adjacent g) g.vertices t
 walk_end {g} {t} {parts} {sets} {list} rest graph canonical none walk m pop vertices are b same = (
   λ h. law.0 (sym is_names ∙ same.0 h ∙ are, fit),

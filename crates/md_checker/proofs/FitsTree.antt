@@ -15,7 +15,7 @@ use Rattle.md_tree.specs.declared.Kind.{Kind}
 use Rattle.md_tree.specs.declared.Kind.TheVariants.{Parallel, Series, Prime}
 use Rattle.md_tree.specs.declared.Pair.{Pair}
 use Rattle.md_tree.specs.Trees.{PlainTree, leaf, node, PlainTrees, no_tree, one_more, names, names_below, names_at, count, EachNode, EachNodeBelow}
-use Rattle.md_tree.specs.StrongTrees.{HasKind, IsJoined, ListsJoined}
+use Rattle.md_tree.specs.StrongTrees.{HasKind, AreTreesJoined, ListsJoined}
 use Rattle.md_tree.specs.WellFormed.{IsOfKind, NoneOfKind, IsCanonicalNode}
 use Rattle.md_tree.specs.TreeGraph.{position_of, lists_pair, joins, adjacent_below}
 use Rattle.md_tree.proofs.Nodes.{IsChild, child_inside}
@@ -118,7 +118,7 @@ module _ {e : ℕ → ℕ → Bool} (adj : IsAdjacency e) (s : NameSet) where
         let b : max i j ≡ j = omega arith in
         ap (λ w. lists_pair ps w (max i j)) a ∙ ap (lists_pair ps i) b
 
-    joined_of : (p : Pair) → Contains ps p → IsJoined e cs p.low p.high
+    joined_of : (p : Pair) → Contains ps p → AreTreesJoined e cs p.low p.high
     joined_of p h =
         let b : (p.low < p.high) × (p.high < count cs) = canon.shape.positions p h in
         let low_bound : p.low < count cs = (let x : p.low < p.high = b.0 in let y : p.high < count cs = b.1 in omega arith) in
@@ -135,7 +135,7 @@ module _ {e : ℕ → ℕ → Bool} (adj : IsAdjacency e) (s : NameSet) where
           );
         }
 
-    listed_of : (p : Pair) → IsJoined e cs p.low p.high → Contains ps p
+    listed_of : (p : Pair) → AreTreesJoined e cs p.low p.high → Contains ps p
     listed_of p is =
         let joined : lists_pair ps p.low p.high ≡ true =
         sym (ordered_pair p.low p.high is.ordered) ∙ sym (at_places adj s Prime cs ps canon own fit mods p.low p.high is.edge.0 is.edge.1 is.ordered is.edge.2 is.edge.3) ∙ is.edge.4 in

@@ -6,7 +6,7 @@ use Rattle.std.proofs.Math.Seq.{take-append_seam}
 use Rattle.std.specs.Cmp.{both_ways}
 use Rattle.std.specs.FinSet.{contains, empty, difference}
 use Rattle.md_graph.specs.Sets.{NameSet, Has}
-use Rattle.md_graph.specs.NameSet.{told_apart}
+use Rattle.md_graph.specs.NameSet.{symmetric_difference}
 use Rattle.md_graph.specs.Rows.{row_of}
 use Rattle.md_graph.specs.PlainGraph.{PlainGraph, IsGraph, adjacent, neighbours}
 use Rattle.md_graph.proofs.RowLemmas.{contains-set_row}
@@ -15,8 +15,8 @@ use Rattle.md_graph.proofs.SetLemmas.{clash, empty_lacks}
 use Rattle.md_graph.proofs.GraphLemmas.{adjacent_ends, adjacent_sym, contains-neighbours}
 use Rattle.md_forcing.specs.Lists.{Holds, NoRepeats}
 use Rattle.md_forcing.proofs.ListLemmas.{holds_left, holds_right}
-use Rattle.md_orientation.specs.Orders.{IsOrder, Before, Disagree, Realise}
-use Rattle.md_orientation.proofs.Sorted.{before_first, before_second, before_one_way, before_one, decide_before}
+use Rattle.md_comparability.specs.Orders.{IsOrder, Before, Disagree, Realise}
+use Rattle.md_comparability.proofs.Sorted.{before_first, before_second, before_one_way, before_one, decide_before}
 use Rattle.md_checker.specs.Flips.{AreFlipped}
 use Rattle.md_checker.proofs.Ordering.{new_item}
 
@@ -52,7 +52,7 @@ last_before (y ∷ l) x u (inr h) = inr (last_before l x u h)
 
 -- ---- a turn
 
-told_bit : (a b : NameSet) (q : ℕ) → contains (told_apart a b) q ≡ cond (contains b q) (not (contains a q)) (contains a q)
+told_bit : (a b : NameSet) (q : ℕ) → contains (symmetric_difference a b) q ≡ cond (contains b q) (not (contains a q)) (contains a q)
 told_bit a b q =
     contains-union (difference a b) (difference b a) q
     ∙ (λ i. contains-difference a b q i || contains-difference b a q i)
@@ -68,7 +68,7 @@ pub flip_start : (rows : List NameSet) → AreFlipped [] rows rows
 flip_start rows = record { kept = λ u v n. refl; turned = λ u v b. absurd b }
 
 module _ (list : List ℕ) (i : ℕ) (below : i < length list) (once : NoRepeats list) (first now : List NameSet) (seen old new : NameSet) where
-  pub flip_more : AreFlipped (take i list) first now → ((w : ℕ) → Has seen w ↔ Holds (take i list) w) → get_or list i 0 < length now → old ≡ get_or now (get_or list i 0) old → new ≡ told_apart old seen → AreFlipped (take (i + 1) list) first (set now (get_or list i 0) new)
+  pub flip_more : AreFlipped (take i list) first now → ((w : ℕ) → Has seen w ↔ Holds (take i list) w) → get_or list i 0 < length now → old ≡ get_or now (get_or list i 0) old → new ≡ symmetric_difference old seen → AreFlipped (take (i + 1) list) first (set now (get_or list i 0) new)
   flip_more before members room read made =
       let x = get_or list i 0 in
       let front = take i list in

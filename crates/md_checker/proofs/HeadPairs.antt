@@ -29,7 +29,7 @@ use Rattle.md_tree.proofs.Graph.{of_lists, to_lists}
 use Rattle.md_tree.proofs.Texts.{pair_spelled}
 use Rattle.md_checker.specs.FitTests.{name_set, AreJoined}
 use Rattle.md_checker.specs.Gathered.{Matches}
-use Rattle.md_checker.specs.HeadPairs.{near_pairs, head_pairs, near_heads, ArePlaces, mark_behind, MatchesPairs}
+use Rattle.md_checker.specs.HeadPairs.{near_pairs, head_pairs, near_heads, SpellPositions, mark_behind, MatchesPairs}
 
 -- ---- the text of the pairs of one head
 
@@ -43,7 +43,7 @@ module _ (e : ℕ → ℕ → Bool) (v low : ℕ) (pieces : List Piece) (start :
       ∙ ap (λ l. ((mark ∷ (decimal low ++ 45 ∷ [])) ++ decimal j) ++ l) more
       ∙ ap (λ l. mark ∷ l) (append_assoc (decimal low ++ 45 ∷ []) (decimal j) (pairs_text 44 ps) ∙ append_assoc (decimal low) (45 ∷ []) (decimal j ++ pairs_text 44 ps))
 
-  near_text : (j : ℕ) (ws : List ℕ) → ArePlaces pieces j ws → texts_at pieces start (near_heads e v ws) ≡ pairs_text 44 (near_pairs e v low j ws)
+  near_text : (j : ℕ) (ws : List ℕ) → SpellPositions pieces j ws → texts_at pieces start (near_heads e v ws) ≡ pairs_text 44 (near_pairs e v low j ws)
   unfolding texts_at
   near_text j [] places = refl
   near_text j (w ∷ ws) places = here (near_text (suc j) ws places.2) (e v w)
@@ -52,7 +52,7 @@ module _ (e : ℕ → ℕ → Bool) (v low : ℕ) (pieces : List Piece) (start :
       here more true = texts_append pieces start (w ∷ []) (near_heads e v ws) ∙ one_text 44 start is_start w j places.1 (near_pairs e v low (suc j) ws) (near_heads e v ws) more
       here more false = more
 
-  first_text : (mark : ℕ) (mstart : List ℕ) → mstart ≡ mark ∷ (decimal low ++ 45 ∷ []) → (j x : ℕ) (left ws : List ℕ) → ArePlaces pieces j ws → near_heads e v ws ≡ x ∷ left →
+  first_text : (mark : ℕ) (mstart : List ℕ) → mstart ≡ mark ∷ (decimal low ++ 45 ∷ []) → (j x : ℕ) (left ws : List ℕ) → SpellPositions pieces j ws → near_heads e v ws ≡ x ∷ left →
       (texts_at pieces mstart (x ∷ []) ++ texts_at pieces start left ≡ pairs_text mark (near_pairs e v low j ws)) × (near_pairs e v low j ws ≢ [])
   first_text mark mstart is j x left [] places cut = absurd (empty_list cut)
     where
@@ -97,7 +97,7 @@ mark_more (p ∷ ps) qs some = refl
 
 -- the pairs of one more head, of which there are some
 pub row_matched : (e : ℕ → ℕ → Bool) (v low j : ℕ) (ws : List ℕ) (pieces : List Piece) (start mstart : List ℕ) (mark x : ℕ) (left : List ℕ) (whole text mid rest before held gathered : List ℕ) (ps : List Pair) →
-    start ≡ 44 ∷ (decimal low ++ 45 ∷ []) → mstart ≡ mark ∷ (decimal low ++ 45 ∷ []) → ArePlaces pieces j ws → near_heads e v ws ≡ x ∷ left →
+    start ≡ 44 ∷ (decimal low ++ 45 ∷ []) → mstart ≡ mark ∷ (decimal low ++ 45 ∷ []) → SpellPositions pieces j ws → near_heads e v ws ≡ x ∷ left →
     ((w spelled : List ℕ) → Matches w text before spelled → Matches w mid held (spelled ++ texts_at pieces mstart (x ∷ []))) →
     ((w spelled : List ℕ) → Matches w mid held spelled → Matches w rest gathered (spelled ++ texts_at pieces start left)) →
     MatchesPairs whole text mark before ps → MatchesPairs whole rest 44 gathered (ps ++ near_pairs e v low j ws)
@@ -200,13 +200,13 @@ without_first v n ws r = same_members (remove (name_set (v ∷ ws)) v) (name_set
     (λ y h. let t = of_remove (name_set (v ∷ ws)) v y h in elim (of_insert (name_set ws) v y t.1) [ inl e ↦ absurd (t.0 e) | inr i ↦ i ])
     (λ y h. remove_left (name_set (v ∷ ws)) v y (λ e. rises_lacks v n ws r (subst (In ws) e (of_set ws y h))) (insert_old (name_set ws) v y h))
 
-places_rest : (pieces : List Piece) (j : ℕ) (vs : List ℕ) (i : ℕ) → ArePlaces pieces j vs → ArePlaces pieces (j + i) (drop i vs)
+places_rest : (pieces : List Piece) (j : ℕ) (vs : List ℕ) (i : ℕ) → SpellPositions pieces j vs → SpellPositions pieces (j + i) (drop i vs)
 places_rest pieces j [] zero p = tt
 places_rest pieces j [] (suc i) p = tt
-places_rest pieces j (v ∷ vs) zero p = let e : j + 0 ≡ j = omega arith in subst (λ k. ArePlaces pieces k (v ∷ vs)) (sym e) p
-places_rest pieces j (v ∷ vs) (suc i) p = let e : j + suc i ≡ suc j + i = omega arith in subst (λ k. ArePlaces pieces k (drop i vs)) (sym e) (places_rest pieces (suc j) vs i p.2)
+places_rest pieces j (v ∷ vs) zero p = let e : j + 0 ≡ j = omega arith in subst (λ k. SpellPositions pieces k (v ∷ vs)) (sym e) p
+places_rest pieces j (v ∷ vs) (suc i) p = let e : j + suc i ≡ suc j + i = omega arith in subst (λ k. SpellPositions pieces k (drop i vs)) (sym e) (places_rest pieces (suc j) vs i p.2)
 
-places_there : (e : ℕ → ℕ → Bool) (v : ℕ) (pieces : List Piece) (j : ℕ) (ws : List ℕ) → ArePlaces pieces j ws → All (λ w. w < length pieces) (near_heads e v ws)
+places_there : (e : ℕ → ℕ → Bool) (v : ℕ) (pieces : List Piece) (j : ℕ) (ws : List ℕ) → SpellPositions pieces j ws → All (λ w. w < length pieces) (near_heads e v ws)
 places_there e v pieces j [] p = λ k d below. let b : k < 0 = below in absurd (omega arith)
 places_there e v pieces j (w ∷ ws) p = here (places_there e v pieces (suc j) ws p.2) (e v w)
   where
@@ -221,9 +221,9 @@ pub record ArePassedHeads (g : PlainGraph) (list : List ℕ) (i : ℕ) (text res
   pub all : head_pairs (adjacent g) 0 list ≡ done ++ head_pairs (adjacent g) i (drop i list)
   pub matches : MatchesPairs text rest mark gathered done
   pub later_is : later ≡ name_set (drop i list)
-  pub places : ArePlaces pieces 0 list
+  pub places : SpellPositions pieces 0 list
 
-pub heads_begin : (g : PlainGraph) (list text : List ℕ) (mark : ℕ) (gathered : List ℕ) (later : NameSet) (pieces : List Piece) → mark ≡ 59 → gathered ≡ [] → later ≡ name_set list → ArePlaces pieces 0 list →
+pub heads_begin : (g : PlainGraph) (list text : List ℕ) (mark : ℕ) (gathered : List ℕ) (later : NameSet) (pieces : List Piece) → mark ≡ 59 → gathered ≡ [] → later ≡ name_set list → SpellPositions pieces 0 list →
     ArePassedHeads g list 0 text text mark gathered later pieces
 heads_begin g list text mark gathered later pieces is none all places = record {
   done = [];
@@ -265,14 +265,14 @@ module _ {g : PlainGraph} (graph : IsGraph g) (list : List ℕ) (up : (i j : ℕ
       lower [] r = tt
       lower (y ∷ ws) r = ((let a : 0 ≤ y = omega arith in a), r.1, r.2)
 
-  places_now : ArePlaces pieces (i + 1) ws
-  places_now = let e : 0 + (i + 1) ≡ i + 1 = omega arith in subst (λ k. ArePlaces pieces k ws) e (places_rest pieces 0 list (i + 1) p.places)
+  places_now : SpellPositions pieces (i + 1) ws
+  places_now = let e : 0 + (i + 1) ≡ i + 1 = omega arith in subst (λ k. SpellPositions pieces k ws) e (places_rest pieces 0 list (i + 1) p.places)
 
   pub near_there : All (λ w. w < length pieces) (ascending near)
   near_there = subst (All (λ w. w < length pieces)) (sym near_is) (places_there (adjacent g) v pieces (i + 1) ws places_now)
 
   pub heads_more : (far : List ℕ) (next : ℕ) (now : List ℕ) (kept : List Piece) → kept ≡ pieces →
-      ((e : ℕ → ℕ → Bool) (v j : ℕ) (ws whole : List ℕ) (ps : List Pair) → ArePlaces pieces j ws → ascending near ≡ near_heads e v ws → MatchesPairs whole rest mark gathered ps → MatchesPairs whole far next now (ps ++ near_pairs e v i j ws)) →
+      ((e : ℕ → ℕ → Bool) (v j : ℕ) (ws whole : List ℕ) (ps : List Pair) → SpellPositions pieces j ws → ascending near ≡ near_heads e v ws → MatchesPairs whole rest mark gathered ps → MatchesPairs whole far next now (ps ++ near_pairs e v i j ws)) →
       ArePassedHeads g list (i + 1) text far next now left kept
   heads_more far next now kept same row_done =
       let one : i + 1 ≡ suc i = omega arith in
@@ -283,7 +283,7 @@ module _ {g : PlainGraph} (graph : IsGraph g) (list : List ℕ) (up : (i j : ℕ
             ∙ sym (append_assoc p.done (near_pairs (adjacent g) v i (i + 1) ws) (head_pairs (adjacent g) (i + 1) ws));
         matches = row_done (adjacent g) v (i + 1) ws text p.done places_now near_is p.matches;
         later_is = left_is;
-        places = subst (λ l. ArePlaces l 0 list) (sym same) p.places;
+        places = subst (λ l. SpellPositions l 0 list) (sym same) p.places;
       }
 
 pub heads_end : (g : PlainGraph) (list : List ℕ) (i : ℕ) (text rest : List ℕ) (mark : ℕ) (gathered : List ℕ) (later : NameSet) (pieces : List Piece) → drop i list ≡ [] → ArePassedHeads g list i text rest mark gathered later pieces →
@@ -340,7 +340,7 @@ rest_there pieces now names x left same cut there k d below =
 
 -- ---- the places of heads
 
-places_from : (pieces : List Piece) (j : ℕ) (vs : List ℕ) → ((k : ℕ) → k < length vs → (get_or vs k 0 < length pieces) × (text_at pieces (get_or vs k 0) ≡ decimal (j + k))) → ArePlaces pieces j vs
+places_from : (pieces : List Piece) (j : ℕ) (vs : List ℕ) → ((k : ℕ) → k < length vs → (get_or vs k 0 < length pieces) × (text_at pieces (get_or vs k 0) ≡ decimal (j + k))) → SpellPositions pieces j vs
 places_from pieces j [] each = tt
 places_from pieces j (v ∷ vs) each =
     let here = each 0 (let b : 0 < suc (length vs) = omega arith in b) in
@@ -355,7 +355,7 @@ places_from pieces j (v ∷ vs) each =
     )
 
 pub places_all : (pieces : List Piece) (bound : ℕ) (vs : List ℕ) (n : ℕ) → length vs ≤ n → ((i : ℕ) → i < length vs → get_or vs i 0 < bound) → bound ≤ length pieces →
-    ((k : ℕ) → k < n → text_at pieces (get_or vs k 0) ≡ decimal k) → ArePlaces pieces 0 vs
+    ((k : ℕ) → k < n → text_at pieces (get_or vs k 0) ≡ decimal k) → SpellPositions pieces 0 vs
 places_all pieces bound vs n size below room spelled =
     places_from pieces 0 vs (λ k b. let a : get_or vs k 0 < bound = below k b in let sum : 0 + k ≡ k = omega arith in (omega arith, spelled k (omega arith) ∙ ap decimal (sym sum)))
 

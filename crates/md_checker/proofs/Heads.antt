@@ -11,7 +11,7 @@ use Rattle.md_tree.specs.declared.Kind.TheVariants.{Parallel, Series, Prime}
 use Rattle.md_tree.specs.declared.Pair.{Pair}
 use Rattle.md_tree.specs.Trees.{PlainTree, leaf, node, PlainTrees, no_tree, one_more, names, names_below, names_at, count, EachNode, EachNodeBelow}
 use Rattle.md_tree.specs.StrongTrees.{IsInOrder}
-use Rattle.md_tree.specs.WellFormed.{AreApart, HasShape, IsCanonicalNode}
+use Rattle.md_tree.specs.WellFormed.{AreDisjoint, HasShape, IsCanonicalNode}
 use Rattle.md_tree.proofs.Nodes.{IsChild, child_inside}
 use Rattle.md_checker.specs.Fits.{head, head_at, heads, HeadsAreLeast}
 
@@ -82,7 +82,7 @@ child_here (one_more t ts) (suc i) l =
     (c.0, inr c.1, c.2, c.3)
 
 -- a name lies in one tree alone
-pub one_holder : (cs : PlainTrees) → AreApart cs → (c d : PlainTree) (x : ℕ) → IsChild cs c → IsChild cs d → Has (names c) x → Has (names d) x → c ≡ d
+pub one_holder : (cs : PlainTrees) → AreDisjoint cs → (c d : PlainTree) (x : ℕ) → IsChild cs c → IsChild cs d → Has (names c) x → Has (names d) x → c ≡ d
 one_holder no_tree apart c d x i j p q = absurd i
 one_holder (one_more t ts) apart c d x (inl e) (inl f) p q = e ∙ sym f
 one_holder (one_more t ts) apart c d x (inl e) (inr j) p q = clash (child_inside ts d j x q) (apart.0 x (subst (λ w. Has (names w) x) e p))
@@ -94,7 +94,7 @@ abbrev pub lead : PlainTrees → ℕ → ℕ
 lead no_tree x = x
 lead (one_more t ts) x = cond (contains (names t) x) (head t) (lead ts x)
 
-pub lead_of : (cs : PlainTrees) → AreApart cs → (c : PlainTree) (x : ℕ) → IsChild cs c → Has (names c) x → lead cs x ≡ head c
+pub lead_of : (cs : PlainTrees) → AreDisjoint cs → (c : PlainTree) (x : ℕ) → IsChild cs c → Has (names c) x → lead cs x ≡ head c
 lead_of no_tree apart c x i h = absurd i
 lead_of (one_more t ts) apart c x (inl e) h = ap (λ w. cond w (head t) (lead ts x)) (subst (λ w. Has (names w) x) e h) ∙ ap (λ w. head w) (sym e)
 lead_of (one_more t ts) apart c x (inr i) h =
@@ -102,7 +102,7 @@ lead_of (one_more t ts) apart c x (inr i) h =
     ap (λ w. cond w (head t) (lead ts x)) l ∙ lead_of ts apart.1 c x i h
 
 -- there are as many heads as trees
-pub len_heads : (cs : PlainTrees) → AreApart cs → HaveHeads cs → len (heads cs) ≡ count cs
+pub len_heads : (cs : PlainTrees) → AreDisjoint cs → HaveHeads cs → len (heads cs) ≡ count cs
 len_heads no_tree apart own = len-empty nat_cmp
 len_heads (one_more t ts) apart own =
     let l : Lacks (heads ts) (head t) = false_from_ne_true _ (λ h.

@@ -6,16 +6,16 @@ use Rattle.md_graph.specs.NameSet.{ascending}
 use Rattle.md_graph.specs.PlainGraph.{PlainGraph, IsGraph, adjacent}
 use Rattle.md_graph.specs.declared.TheConstants.{NAMES}
 use Rattle.md_forcing.specs.declared.arc.Arc.{Arc}
-use Rattle.md_forcing.specs.declared.seen.Side.TheVariants.{Edges}
+use Rattle.md_forcing.specs.declared.arc_set.Side.TheVariants.{Edges}
 use Rattle.md_forcing.specs.Forcing.{arc}
 use Rattle.md_graph.specs.Rows.{row_of}
-use Rattle.md_orientation.specs.Listed.{arcs_below}
-use Rattle.md_orientation.specs.Orientations.{HasTransitiveOrientation, IsLeastEdgeOrientation}
-use Rattle.md_orientation.specs.Walking.{IsStopped, IsWhole}
-use Rattle.md_orientation.proofs.Listing.{oriented}
-use Rattle.md_orientation.proofs.OneList.{one_list_proof}
-use Rattle.md_orientation.proofs.Reached.{side_premises}
-use Rattle.md_orientation.proofs.Alternative.{orientation_free}
+use Rattle.md_comparability.specs.Listed.{arcs_below}
+use Rattle.md_comparability.specs.Orientations.{HasTransitiveOrientation, IsLeastEdgeOrientation}
+use Rattle.md_comparability.specs.Walking.{IsStopped, IsWholeOrientation}
+use Rattle.md_comparability.proofs.Listing.{oriented}
+use Rattle.md_comparability.proofs.OneList.{one_list_proof}
+use Rattle.md_comparability.proofs.Reached.{side_premises}
+use Rattle.md_comparability.proofs.Alternative.{orientation_free}
 
 -- the arcs of the first rows are a front of all
 rows_front : (rows : List NameSet) (k n : ℕ) → k ≤ n → (rest : List Arc) × (arcs_below rows n ≡ arcs_below rows k ++ rest)
@@ -42,7 +42,7 @@ module _ {g : PlainGraph} (is : IsGraph g) where
   stopped_has_none class stopped list has =
       orientation_free (adjacent g) has.0.0 (side_premises is Edges).adjacency has.0.1 (arc stopped.u stopped.v) ((stopped.is.reached (arc stopped.v stopped.u)).0 stopped.turns)
 
-  pub whole_listed : (chosen : List NameSet) → IsWhole (adjacent g) chosen → (list : List Arc) → (list ≡ arcs_below chosen (length chosen)) ↔ (HasTransitiveOrientation (adjacent g) × IsLeastEdgeOrientation (adjacent g) list)
+  pub whole_listed : (chosen : List NameSet) → IsWholeOrientation (adjacent g) chosen → (list : List Arc) → (list ≡ arcs_below chosen (length chosen)) ↔ (HasTransitiveOrientation (adjacent g) × IsLeastEdgeOrientation (adjacent g) list)
   whole_listed chosen whole list =
       let side = side_premises is Edges in (
         oriented is chosen whole list,

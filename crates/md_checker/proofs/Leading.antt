@@ -11,12 +11,12 @@ use Rattle.md_graph.proofs.SetLemmas.{clash, empty_if}
 use Rattle.md_forcing.specs.declared.arc.Arc.{Arc}
 use Rattle.md_forcing.specs.Lists.{Holds, NoRepeats}
 use Rattle.md_forcing.specs.Forcing.{arc, reverse, IsArc, ForcesDirectly, Leads, Reaches, IsListToReverse}
-use Rattle.md_forcing.specs.Seen.{IsSeen}
+use Rattle.md_forcing.specs.ArcSet.{HasArc}
 use Rattle.md_forcing.proofs.ListLemmas.{holds_left, holds_right, of_append, once_push, same_some}
-use Rattle.md_orientation.specs.Chains.{IsForcingChain, HasForcingChain}
-use Rattle.md_orientation.specs.Walking.{IsStopped, IsWhole}
-use Rattle.md_orientation.proofs.Cutting.{list_to_reverse, list_reaches}
-use Rattle.md_orientation.proofs.Least.{precedes_or_same}
+use Rattle.md_comparability.specs.Chains.{IsForcingChain, HasForcingChain}
+use Rattle.md_comparability.specs.Walking.{IsStopped, IsWholeOrientation}
+use Rattle.md_comparability.proofs.Cutting.{list_to_reverse, list_reaches}
+use Rattle.md_comparability.proofs.Least.{precedes_or_same}
 use Rattle.md_checker.proofs.Ordering.{split_at, twice, agreed}
 
 same_rest : (x y : Arc) (xs ys : List Arc) → x ∷ xs ≡ y ∷ ys → xs ≡ ys
@@ -53,9 +53,9 @@ module _ (e : ℕ → ℕ → Bool) where
   pub record IsLed (first last : Arc) (seen : List NameSet) (front : List Arc) : Type 0 where
     pub leads : Leads e first front last
     pub once : NoRepeats (first ∷ front)
-    pub known : (a : Arc) → IsSeen seen a ↔ Holds (first ∷ front) a
+    pub known : (a : Arc) → HasArc seen a ↔ Holds (first ∷ front) a
 
-  pub led_start : (first : Arc) (none seen : List NameSet) → ((v : ℕ) → row_of none v ≡ empty) → ((a : Arc) → IsSeen seen a ↔ (IsSeen none a ⊎ (a ≡ first))) → IsLed first first seen []
+  pub led_start : (first : Arc) (none seen : List NameSet) → ((v : ℕ) → row_of none v ≡ empty) → ((a : Arc) → HasArc seen a ↔ (HasArc none a ⊎ (a ≡ first))) → IsLed first first seen []
   led_start first none seen empties taken = record {
     leads = refl;
     once = (λ h. h, tt);
@@ -72,7 +72,7 @@ module _ (e : ℕ → ℕ → Bool) where
     split : take i rest ++ next ∷ drop (i + 1) rest ≡ rest
     split = ap (λ x. take i rest ++ x ∷ drop (i + 1) rest) read ∙ split_at rest i d below
 
-    pub led_more : (new : List NameSet) → IsLed first last seen (take i rest) → IsArc e next → ForcesDirectly e last next → (IsSeen seen next → ⊥) → ((a : Arc) → IsSeen new a ↔ (IsSeen seen a ⊎ (a ≡ next))) → IsLed first next new (take (i + 1) rest)
+    pub led_more : (new : List NameSet) → IsLed first last seen (take i rest) → IsArc e next → ForcesDirectly e last next → (HasArc seen next → ⊥) → ((a : Arc) → HasArc new a ↔ (HasArc seen a ⊎ (a ≡ next))) → IsLed first next new (take (i + 1) rest)
     led_more new led is forces unseen taken = subst (IsLed first next new) (sym pushed) (record {
       leads = leads_push (take i rest) first last next led.leads is forces;
       once = once_push (first ∷ take i rest) next led.once (λ h. unseen ((led.known next).1 h));
@@ -93,7 +93,7 @@ module _ (e : ℕ → ℕ → Bool) where
         not_forced (leads_front (take i rest) (drop (i + 1) rest) first last next (reverse first) led.leads
         (subst (λ r. Leads e first r (reverse first)) (sym (same_rest _ _ _ _ list.begins) ∙ sym split) list.leads))
 
-    pub led_again : IsLed first last seen (take i rest) → IsSeen seen next → IsListToReverse e first (first ∷ rest) → ⊥
+    pub led_again : IsLed first last seen (take i rest) → HasArc seen next → IsListToReverse e first (first ∷ rest) → ⊥
     led_again led known list =
         twice (first ∷ take i rest) (drop (i + 1) rest) next (subst (λ r. NoRepeats (first ∷ r)) (sym split) list.no_repeats) ((led.known next).0 known)
 
@@ -153,7 +153,7 @@ module _ (e : ℕ → ℕ → Bool) (class : List (Arc × ℕ)) (stopped : IsSto
         agreed is (subst (λ l. IsListToReverse e first l ↔ IsForcingChain e chain) (sym whole)
         (subst (λ a. IsListToReverse e a chain ↔ IsForcingChain e chain) (sym first_is_least) (chain_from chain)))
 
-pub whole_has_none : (e : ℕ → ℕ → Bool) (chosen : List NameSet) → IsWhole e chosen → (chain : List Arc) → IsForcingChain e chain → ⊥
+pub whole_has_none : (e : ℕ → ℕ → Bool) (chosen : List NameSet) → IsWholeOrientation e chosen → (chain : List Arc) → IsForcingChain e chain → ⊥
 whole_has_none e chosen whole chain is = whole.free (arc is.u is.v) (list_reaches e (arc is.u is.v) chain is.turns)
 
 -- ---- the complement

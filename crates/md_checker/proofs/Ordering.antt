@@ -9,7 +9,7 @@ use Rattle.md_graph.proofs.SetLemmas.{clash, empty_if, insert_new, insert_old, o
 use Rattle.md_forcing.specs.Lists.{Holds, NoRepeats}
 use Rattle.md_forcing.proofs.ListLemmas.{holds_left, holds_right, of_append, once_push}
 use Rattle.md_forcing.proofs.NameLists.{of_ascending, in_ascending}
-use Rattle.md_orientation.specs.Orders.{IsOrder}
+use Rattle.md_comparability.specs.Orders.{IsOrder}
 
 -- ---- fronts
 

@@ -9,7 +9,7 @@ use Rattle.md_tree.specs.Trees.{PlainTree}
 use Rattle.md_tree.specs.StrongTrees.{IsTreeOf}
 use Rattle.md_tree.specs.TreeTexts.{tree_text}
 use Rattle.md_forcing.specs.declared.arc.Arc.{Arc}
-use Rattle.md_orientation.specs.Orientations.{HasTransitiveOrientation, IsLeastEdgeOrientation}
+use Rattle.md_comparability.specs.Orientations.{HasTransitiveOrientation, IsLeastEdgeOrientation}
 use Rattle.md_report.specs.declared.line.GraphMode.{GraphMode}
 use Rattle.md_report.specs.declared.line.GraphMode.TheVariants as graph_modes
 use Rattle.md_report.specs.declared.line.SessionMode.{SessionMode}

@@ -5,6 +5,6 @@ use Rattle.md_checker.specs.declared.checker.Inner.{Inner}
 use Rattle.md_checker.specs.declared.checker.Inner.TheVariants.{OverGraphs, OverSession}
 
 -- the place of the checker inside
-abbrev pub place_of : Inner → Place
-place_of (OverGraphs p) = p
-place_of (OverSession p) = p
+abbrev pub report_place : Inner → Place
+report_place (OverGraphs p) = p
+report_place (OverSession p) = p

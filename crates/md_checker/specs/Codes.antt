@@ -61,13 +61,13 @@ edit_parts (DelEdge u v) = inr (inl (u, v))
 edit_parts (AddVertex x neighbours) = inr (inr (inl (x, neighbours)))
 edit_parts (DelVertex x) = inr (inr (inr x))
 
-abbrev pub edit_of : EditParts → script.Edit
-edit_of (inl p) = AddEdge p.0 p.1
-edit_of (inr (inl p)) = DelEdge p.0 p.1
-edit_of (inr (inr (inl p))) = AddVertex p.0 p.1
-edit_of (inr (inr (inr x))) = DelVertex x
+abbrev pub edit_of_parts : EditParts → script.Edit
+edit_of_parts (inl p) = AddEdge p.0 p.1
+edit_of_parts (inr (inl p)) = DelEdge p.0 p.1
+edit_of_parts (inr (inr (inl p))) = AddVertex p.0 p.1
+edit_of_parts (inr (inr (inr x))) = DelVertex x
 
-pub edit_back : (edit : script.Edit) → edit_of (edit_parts edit) ≡ edit
+pub edit_back : (edit : script.Edit) → edit_of_parts (edit_parts edit) ≡ edit
 edit_back (AddEdge u v) = refl
 edit_back (DelEdge u v) = refl
 edit_back (AddVertex x neighbours) = refl
@@ -76,7 +76,7 @@ edit_back (DelVertex x) = refl
 abbrev pub edit_code : Coded script.Edit
 edit_code =
     code_by EditParts (coded⊎ (coded× coded_ℕ coded_ℕ) (coded⊎ (coded× coded_ℕ coded_ℕ) (coded⊎ (coded× coded_ℕ (coded_list coded_ℕ)) coded_ℕ)))
-    edit_parts edit_of edit_back
+    edit_parts edit_of_parts edit_back
 
 -- what is left of a report over graphs, and of a session
 abbrev pub GraphParts : Type 0

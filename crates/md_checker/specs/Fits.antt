@@ -11,7 +11,7 @@ use Rattle.md_tree.specs.declared.Pair.{Pair}
 use Rattle.md_tree.specs.Trees.{PlainTree, leaf, node, PlainTrees, no_tree, one_more, names, names_below, count, EachNode}
 use Rattle.md_tree.specs.StrongTrees.{IsTreeOf}
 use Rattle.md_tree.specs.TreeGraph.{joins}
-use Rattle.md_tree.specs.WellFormed.{IsCanonical}
+use Rattle.md_tree.specs.WellFormed.{IsCanonicalTree}
 use Rattle.md_tree.specs.Held.{IsLeast}
 
 abbrev mutual
@@ -47,9 +47,9 @@ Fits e s t = (names t ≡ s) × EachNode (IsFitNode e s) t
 
 -- the head of a tree as well-formed trees are is the least of its names
 abbrev pub HeadsAreLeast : Type 0
-HeadsAreLeast = (t : PlainTree) → IsCanonical t → IsLeast (names t) (head t)
+HeadsAreLeast = (t : PlainTree) → IsCanonicalTree t → IsLeast (names t) (head t)
 
 -- a tree as well-formed trees are is the tree of strong modules of a graph exactly where it fits the graph
 abbrev pub FitsIfTree : Type 0
 FitsIfTree =
-    (e : ℕ → ℕ → Bool) → IsAdjacency e → (s : NameSet) (t : PlainTree) → IsCanonical t → Fits e s t ↔ IsTreeOf e s t
+    (e : ℕ → ℕ → Bool) → IsAdjacency e → (s : NameSet) (t : PlainTree) → IsCanonicalTree t → Fits e s t ↔ IsTreeOf e s t

@@ -4,7 +4,7 @@ use Rattle.std.specs.Prelude.{◌≡◌, ℕ, not, List}
 use Rattle.std.specs.FinSet as set
 use Rattle.md_graph.specs.Sets.{NameSet}
 use Rattle.md_graph.specs.Rows.{row_of}
-use Rattle.md_orientation.specs.Orders.{Before}
+use Rattle.md_comparability.specs.Orders.{Before}
 
 -- in the row of each name, those names are flipped that stand before it in the list
 pub record AreFlipped (list : List ℕ) (old new : List NameSet) : Type 0 where

@@ -26,9 +26,9 @@ near_heads e v [] = []
 near_heads e v (w ∷ ws) = cond (e v w) (w ∷ near_heads e v ws) (near_heads e v ws)
 
 -- at the place of each head stands its position, of which the first is j
-abbrev pub ArePlaces : List Piece → ℕ → List ℕ → Type 0
-ArePlaces pieces j [] = ⊤
-ArePlaces pieces j (w ∷ ws) = (w < length pieces) × (text_at pieces w ≡ decimal j) × ArePlaces pieces (suc j) ws
+abbrev pub SpellPositions : List Piece → ℕ → List ℕ → Type 0
+SpellPositions pieces j [] = ⊤
+SpellPositions pieces j (w ∷ ws) = (w < length pieces) × (text_at pieces w ≡ decimal j) × SpellPositions pieces (suc j) ws
 
 -- the mark before the pair that comes behind these
 abbrev pub mark_behind : List Pair → ℕ

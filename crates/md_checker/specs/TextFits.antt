@@ -23,7 +23,7 @@ MayHaveKinds Series kinds = (2 ≤ length kinds) × (Contains kinds (Some Series
 MayHaveKinds Prime kinds = 4 ≤ length kinds
 
 -- the sets, the heads and the kinds are those of finished trees that fit the graph, and all names are `seen`
-pub record AreWalked (g : PlainGraph) (sets : List NameSet) (list : List ℕ) (kinds : List (Option Kind)) (seen : NameSet)
+pub record AreParsed (g : PlainGraph) (sets : List NameSet) (list : List ℕ) (kinds : List (Option Kind)) (seen : NameSet)
     (trees : List PlainTree) : Type 0 where
   pub kept : AreKept trees list seen
   pub finished : AreFinished g sets list trees
@@ -33,14 +33,14 @@ pub record AreWalked (g : PlainGraph) (sets : List NameSet) (list : List ℕ) (k
 pub record IsReadBy (g : PlainGraph) (bytes rest : List ℕ) (behind : Bool) (sets : List NameSet) (list : List ℕ)
     (kinds : List (Option Kind)) (opens : List Opened) (seen : NameSet) : Type 0 where
   pub trees : List PlainTree
-  pub walked : AreWalked g sets list kinds seen trees
+  pub walked : AreParsed g sets list kinds seen trees
   pub comes : Comes behind bytes rest opens trees
 
 -- the same in a node that is taken off the open ones
 pub record IsReadInsideBy (g : PlainGraph) (bytes rest : List ℕ) (inner : Opened) (sets : List NameSet) (list : List ℕ)
     (kinds : List (Option Kind)) (opens : List Opened) (seen : NameSet) : Type 0 where
   pub trees : List PlainTree
-  pub walked : AreWalked g sets list kinds seen trees
+  pub walked : AreParsed g sets list kinds seen trees
   pub comes : IsInside bytes rest inner opens trees
 
 -- the bytes before the rest are read, and this is kept

@@ -4,12 +4,12 @@ ghost use Rattle.md_graph.specs.declared.TheConstants.{NAMES};
 ghost use Rattle.md_graph.specs.NameSet.{ascending};
 ghost use Rattle.md_tree.specs.Positions.{ArePositions};
 ghost use Rattle.md_forcing.specs.declared.arc.Arc.{Arc};
-ghost use Rattle.md_forcing.specs.Seen.{IsSeen};
-ghost use Rattle.md_orientation.specs.Listed.{arcs_below};
+ghost use Rattle.md_forcing.specs.ArcSet.{HasArc};
+ghost use Rattle.md_comparability.specs.Listed.{arcs_below};
 ghost use Rattle.md_report.specs.Lines.{arcs_text};
 
-use crate::gathered::past_each;
-use md_forcing::Seen;
+use crate::piece_compare::past_each;
+use md_forcing::ArcSet;
 use md_graph::{Memory, NAMES};
 use md_text::{Chunk, Piece, digits_piece, number_piece, piece_behind};
 use std::alloc::Global;
@@ -17,8 +17,8 @@ use std::alloc::Global;
 // Whether the text spells the arcs of the set in ascending order of tail, then head, a space before
 // each; a false says nothing. Condition: the heads are below the number below which the tails are.
 // Errors: want of memory.
-pub(crate) fn spells_arcs(alloc: Global, set: &Seen, text: &[u8]) -> Result<bool, Memory>
-    requires { (a : Arc) → IsSeen set.now a → a.head < length set.now }
+pub(crate) fn spells_arcs(alloc: Global, set: &ArcSet, text: &[u8]) -> Result<bool, Memory>
+    requires { (a : Arc) → HasArc set.now a → a.head < length set.now }
     ensures { IfOk result (λ is. IsTrue is
         → text.now ≡ arcs_text (arcs_below set.now (length set.now))) }
 {
@@ -43,8 +43,8 @@ fn spell_names(alloc: Global, size: u32) -> Result<Vec<Piece>, Memory>
 }
 
 // What stands behind the arcs of the set in a text that begins with them; a none says nothing.
-fn past_arcs<'a>(set: &Seen, text: &'a [u8], names: &[Piece]) -> Option<&'a [u8]>
-    requires heads { (a : Arc) → IsSeen set.now a → a.head < length set.now }
+fn past_arcs<'a>(set: &ArcSet, text: &'a [u8], names: &[Piece]) -> Option<&'a [u8]>
+    requires heads { (a : Arc) → HasArc set.now a → a.head < length set.now }
     requires names { ArePositions names.now }
     requires count { length names.now ≡ length set.now }
     ensures { IfSome result (λ rest. text.now

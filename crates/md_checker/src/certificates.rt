@@ -9,19 +9,19 @@ ghost use Rattle.md_graph.specs.Sets.{Has};
 ghost use Rattle.md_forcing.specs.declared.arc.Arc.{Arc};
 ghost use Rattle.md_forcing.specs.Forcing.{arc, IsArc, ForcesDirectly, IsListToReverse};
 ghost use Rattle.md_forcing.specs.Lists.{Holds, NoRepeats};
-ghost use Rattle.md_forcing.specs.Seen.{IsSeen};
+ghost use Rattle.md_forcing.specs.ArcSet.{HasArc};
 ghost use Rattle.md_forcing.specs.Sides.{adjacent_on};
-ghost use Rattle.md_orientation.specs.Chains.{IsForcingChain};
-ghost use Rattle.md_orientation.specs.Orientations.{HasTransitiveOrientation, IsLeastEdgeOrientation};
-ghost use Rattle.md_orientation.specs.Listed.{arcs_below};
-ghost use Rattle.md_orientation.specs.Orders.{IsOrder, Realise};
+ghost use Rattle.md_comparability.specs.Chains.{IsForcingChain};
+ghost use Rattle.md_comparability.specs.Orientations.{HasTransitiveOrientation, IsLeastEdgeOrientation};
+ghost use Rattle.md_comparability.specs.Listed.{arcs_below};
+ghost use Rattle.md_comparability.specs.Orders.{IsOrder, Realise};
 ghost use Rattle.md_report.specs.Lines.{arcs_text};
 ghost use Rattle.md_checker.specs.Flips.{AreFlipped};
 
 use crate::arc_text::spells_arcs;
-use md_forcing::{Arc, Arcs, Chain, Seen, Side};
+use md_comparability::{ClassOrChosen, orient_classes};
+use md_forcing::{Arc, ArcSet, Arcs, Chain, Side};
 use md_graph::{Graph, Memory, NAMES, Names, empty_rows};
-use md_orientation::{Ending, walk};
 use md_report::Order;
 use std::alloc::Global;
 
@@ -36,9 +36,9 @@ pub fn is_forcing_chain(
         ↔ IsForcingChain (adjacent_on side graph.now) chain.now) }
 {
     let _vertices = graph.vertices();
-    match walk(alloc, graph, side)? {
-        Ending::Whole(_) => Ok(false),
-        Ending::Stopped(trail) => {
+    match orient_classes(alloc, graph, side)? {
+        ClassOrChosen::Whole(_) => Ok(false),
+        ClassOrChosen::Stopped(trail) => {
             let (first, _) = trail.entry(0);
             let list = chain.as_slice();
             if !begins_with(list, first) {
@@ -104,7 +104,7 @@ fn put_arc(rows: &mut [Names], by: Arc)
     requires tail { by.tail < length rows.old }
     requires head { by.head < NAMES }
     ensures room { length rows.new ≡ length rows.old }
-    ensures taken { (a : Arc) → IsSeen rows.new a ↔ (IsSeen rows.old a ⊎ (a ≡ by)) }
+    ensures taken { (a : Arc) → HasArc rows.new a ↔ (HasArc rows.old a ⊎ (a ≡ by)) }
 {
     rows[by.tail as usize].insert(by.head);
 }
@@ -164,9 +164,9 @@ pub fn is_least_edge_orientation(alloc: Global, graph: &Graph, arcs: &Arcs) -> R
         × IsLeastEdgeOrientation (adjacent graph.now) arcs.now)) }
 {
     let _vertices = graph.vertices();
-    match walk(alloc, graph, Side::Edges)? {
-        Ending::Stopped(_) => Ok(false),
-        Ending::Whole(chosen) => Ok(are_listed(&chosen, arcs.as_slice())),
+    match orient_classes(alloc, graph, Side::Edges)? {
+        ClassOrChosen::Stopped(_) => Ok(false),
+        ClassOrChosen::Whole(chosen) => Ok(are_listed(&chosen, arcs.as_slice())),
     }
 }
 
@@ -187,14 +187,14 @@ pub(crate) fn is_word_and_orientation(
     let Some(behind) = text.strip_prefix(word) else {
         return Ok(false);
     };
-    match walk(alloc, graph, Side::Edges)? {
-        Ending::Stopped(_) => Ok(false),
-        Ending::Whole(chosen) => spells_arcs(alloc, &chosen, behind),
+    match orient_classes(alloc, graph, Side::Edges)? {
+        ClassOrChosen::Stopped(_) => Ok(false),
+        ClassOrChosen::Whole(chosen) => spells_arcs(alloc, &chosen, behind),
     }
 }
 
 // Whether the list has the arcs of the set in ascending order of tail, then head, and nothing else.
-fn are_listed(set: &Seen, list: &[Arc]) -> bool
+fn are_listed(set: &ArcSet, list: &[Arc]) -> bool
     ensures { IsTrue result ↔ (list.now ≡ arcs_below set.now (length set.now)) }
 {
     let mut at = 0;
@@ -271,7 +271,7 @@ fn flip_before(rows: &mut [Names], list: &[u32])
 {
     let mut before = Names::none();
     for v in list {
-        rows[*v as usize].flip(&before);
+        rows[*v as usize].symmetric_difference_with(&before);
         before.insert(*v);
     }
 }

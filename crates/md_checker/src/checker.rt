@@ -9,7 +9,7 @@ ghost use Rattle.md_input.specs.Faults.{graph_fault, one_graph_fault, script_fau
 ghost use Rattle.md_report.specs.Lines.{PlainLine, plain_line, line_text};
 ghost use Rattle.md_report.specs.WellFormedLines.{IsWellFormedLine};
 ghost use Rattle.md_report.specs.Places.{before_head, before_session, after_end, MayCome, next_place};
-ghost use Rattle.md_checker.specs.Checkers.{place_of};
+ghost use Rattle.md_checker.specs.Checkers.{report_place};
 ghost use Rattle.md_checker.specs.Standing.{Takes};
 
 use crate::graph_checker::GraphChecker;
@@ -44,11 +44,11 @@ impl<'a> Model for Checker<'a> {
     ghost coded = { place_code };
 
     ghost use Rattle.md_report.specs.Laws.{IsSound};
-    ghost use Rattle.md_checker.specs.Checkers.{place_of};
+    ghost use Rattle.md_checker.specs.Checkers.{report_place};
 
-    ghost view = { λ c. place_of c.inner };
+    ghost view = { λ c. report_place c.inner };
 
-    ghost invariant = { λ c. IsSound (place_of c.inner) };
+    ghost invariant = { λ c. IsSound (report_place c.inner) };
 }
 
 impl<'a> Checker<'a> {
@@ -171,10 +171,10 @@ impl<'a> Inner<'a> {
     // and else nothing changes. A false says nothing.
     fn takes_text(&mut self, alloc: Global, text: &[u8]) -> Result<bool, Memory>
         ensures takes { IfOk result (λ taken. IsTrue taken
-            → Takes (place_of self.old) text.now (place_of self.new)) }
+            → Takes (report_place self.old) text.now (report_place self.new)) }
         ensures refused { IfOk result (λ taken. ¬ IsTrue taken
-            → place_of self.new ≡ place_of self.old) }
-        ensures stays { IsErr result → place_of self.new ≡ place_of self.old }
+            → report_place self.new ≡ report_place self.old) }
+        ensures stays { IsErr result → report_place self.new ≡ report_place self.old }
     {
         match self {
             Inner::OverGraphs(checker) => checker.takes_text(alloc, text),
@@ -186,11 +186,11 @@ impl<'a> Inner<'a> {
     fn feed(&mut self, alloc: Global, line: &Line) -> Result<bool, Memory>
         requires { IsWellFormedLine (plain_line line.now) }
         ensures may { IfOk result (λ taken.
-            IsTrue taken ↔ MayCome (place_of self.old) (plain_line line.now)) }
-        ensures next { IfOk result (λ taken. place_of self.new
-            ≡ (if taken then next_place (place_of self.old) (plain_line line.now)
-            else place_of self.old)) }
-        ensures stays { IsErr result → place_of self.new ≡ place_of self.old }
+            IsTrue taken ↔ MayCome (report_place self.old) (plain_line line.now)) }
+        ensures next { IfOk result (λ taken. report_place self.new
+            ≡ (if taken then next_place (report_place self.old) (plain_line line.now)
+            else report_place self.old)) }
+        ensures stays { IsErr result → report_place self.new ≡ report_place self.old }
     {
         match self {
             Inner::OverGraphs(checker) => checker.feed(alloc, line),

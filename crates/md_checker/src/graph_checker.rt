@@ -5,8 +5,8 @@ ghost use Rattle.md_report.specs.WellFormedLines.{IsWellFormedLine};
 ghost use Rattle.md_report.specs.Places.{before_head, after_end, MayCome, next_place};
 ghost use Rattle.md_checker.specs.Standing.{Takes};
 
+use crate::due_graph::DueGraph;
 use crate::fixed_lines::{is_end, is_head};
-use crate::hand::Hand;
 use md_graph::Memory;
 use md_input::Graphs;
 use md_report::{GraphMode, Line};
@@ -29,7 +29,7 @@ enum GraphDue {
 #[derive(Drop)]
 pub(crate) struct GraphChecker<'a> {
     due: GraphDue,
-    hand: Hand,
+    hand: DueGraph,
     behind: Graphs<'a>,
 }
 
@@ -61,7 +61,7 @@ impl<'a> GraphChecker<'a> {
     {
         Ok(GraphChecker {
             due: GraphDue::Head,
-            hand: Hand::new(alloc, mode)?,
+            hand: DueGraph::new(alloc, mode)?,
             behind: graphs,
         })
     }

@@ -7,9 +7,9 @@ ghost use Rattle.md_graph.specs.PlainGraph.{adjacent};
 ghost use Rattle.md_tree.specs.declared.Pair.{Pair};
 ghost use Rattle.md_tree.specs.TreeTexts.{pairs_text};
 ghost use Rattle.md_checker.specs.FitTests.{AreHeads};
-ghost use Rattle.md_checker.specs.HeadPairs.{near_heads, near_pairs, head_pairs, ArePlaces, MatchesPairs};
+ghost use Rattle.md_checker.specs.HeadPairs.{near_heads, near_pairs, head_pairs, SpellPositions, MatchesPairs};
 
-use crate::gathered::{past_each, put_pair};
+use crate::piece_compare::{past_each, put_pair};
 use crate::tree_fit::set_of;
 use md_graph::{GraphOf, Memory, Set};
 use md_text::{Chunk, Piece, digits_piece, number_piece, piece_behind, skip_byte};
@@ -73,7 +73,7 @@ fn spell_places(places: &mut Vec<Piece>, bound: u32, heads: &[u32]) -> Result<()
     requires ascending { (i j : ℕ) → i < j → j < length heads.now
         → get_or heads.now i 0 < get_or heads.now j 0 }
     requires few { length heads.now ≤ NAMES }
-    ensures { IfOk result (λ _. ArePlaces places.new.items 0 heads.now) }
+    ensures { IfOk result (λ _. SpellPositions places.new.items 0 heads.now) }
 {
     make_places(places, bound as usize)?;
     for (position, head) in heads.iter().enumerate() {
@@ -101,7 +101,7 @@ fn past_heads<'a, const W: usize>(
 ) -> Option<&'a [u8]>
     requires heads { AreHeads graph.now.vertices [] heads.now }
     requires few { length heads.now ≤ NAMES }
-    requires places { ArePlaces space.old.places.items 0 heads.now }
+    requires places { SpellPositions space.old.places.items 0 heads.now }
     ensures { IfSome result (λ rest. MatchesPairs text.now rest.now space.new.mark space.new.chunk
         (head_pairs (adjacent graph.now) 0 heads.now)) }
 {
@@ -128,7 +128,7 @@ fn past_row<'a, const W: usize>(
     requires low { low < 10 ^ 5 }
     requires there { All (λ v. v < length space.old.places.items) (ascending near.now) }
     ensures matches { IfSome result (λ rest. (e : ℕ → ℕ → Bool) (v j : ℕ) (ws whole : List ℕ)
-        (ps : List Pair) → ArePlaces space.old.places.items j ws
+        (ps : List Pair) → SpellPositions space.old.places.items j ws
         → ascending near.now ≡ near_heads e v ws
         → MatchesPairs whole text.now space.old.mark space.old.chunk ps
         → MatchesPairs whole rest.now space.new.mark space.new.chunk

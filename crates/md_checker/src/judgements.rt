@@ -2,8 +2,8 @@
 ghost use Rattle.std.specs.Prelude.{◌≡◌, ◌↔◌, List, ◌∷◌, None, Ok, true, if◌then◌else◌, IfOk, IsErr, IsTrue};
 ghost use Rattle.md_graph.specs.PlainGraph.{PlainGraph, IsGraph, adjacent};
 ghost use Rattle.md_modules.specs.declared.induced_paths.P4.{P4};
-ghost use Rattle.md_orientation.specs.Chains.{HasForcingChain, IsForcingChain};
-ghost use Rattle.md_forcing.specs.declared.seen.Side.TheVariants.{NonEdges};
+ghost use Rattle.md_comparability.specs.Chains.{HasForcingChain, IsForcingChain};
+ghost use Rattle.md_forcing.specs.declared.arc_set.Side.TheVariants.{NonEdges};
 ghost use Rattle.md_forcing.specs.Sides.{adjacent_on};
 ghost use Rattle.md_tree.specs.Plain.{plain_option};
 ghost use Rattle.md_tree.specs.StrongTrees.{IsTree};
@@ -25,10 +25,10 @@ use crate::certificates::{is_forcing_chain, is_least_edge_orientation, realise};
 use crate::fixed_lines::is_end;
 use crate::text_fit::{is_word_and_cotree, is_word_and_tree};
 use crate::tree_fit::fits;
+use md_comparability::{ClassOrChosen, orient_classes};
 use md_forcing::{Chain, Side};
 use md_graph::{Graph, GraphOf, Memory};
 use md_modules::{P4, is_p4};
-use md_orientation::{Ending, walk};
 use md_report::{GraphMode, Line, SessionMode, made_p4};
 use md_script::{Edit, EditReason, apply, lost_row, reason, take_back};
 use md_tree::{Tree, has_no_prime};
@@ -107,9 +107,9 @@ fn has_forcing_chain(alloc: Global, graph: &Graph) -> Result<bool, Memory>
     ensures { IfOk result (λ has. IsTrue has ↔ HasForcingChain (adjacent graph.now)) }
 {
     let _vertices = graph.vertices();
-    match walk(alloc, graph, Side::Edges)? {
-        Ending::Whole(_) => Ok(false),
-        Ending::Stopped(_) => Ok(true),
+    match orient_classes(alloc, graph, Side::Edges)? {
+        ClassOrChosen::Whole(_) => Ok(false),
+        ClassOrChosen::Stopped(_) => Ok(true),
     }
 }
 

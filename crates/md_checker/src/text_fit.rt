@@ -21,7 +21,7 @@ ghost use Rattle.md_checker.specs.TextFits.{MayHaveKinds, IsRead, IsReadInside, 
 use crate::head_pairs::{PairSpace, past_pairs};
 use crate::tree_fit::{are_alike, has_trivial_modules_alone, is_fit, set_of, union_of};
 use md_graph::{GraphOf, Memory, NAMES, Set, WORDS};
-use md_modules::Block;
+use md_modules::CompactSet;
 use md_text::{skip_byte, small_number};
 use md_tree::{Kind, Opened, ascends, split_letter};
 use std::alloc::Global;
@@ -30,7 +30,7 @@ use std::alloc::Global;
 // its root, if that is a node; the nodes that are open; and all names.
 #[derive(Drop)]
 struct Walk<const W: usize> {
-    sets: Vec<Block<W>>,
+    sets: Vec<CompactSet<W>>,
     heads: Vec<u32>,
     kinds: Vec<Option<Kind>>,
     opens: Vec<Opened>,
@@ -166,7 +166,7 @@ fn take_name<'a, const W: usize>(
         return Ok(None);
     }
     walk.seen.insert(name);
-    walk.sets.push(Block::one(name))?;
+    walk.sets.push(CompactSet::one(name))?;
     walk.heads.push(name)?;
     walk.kinds.push(None)?;
     Ok(Some((tail, true)))
@@ -289,7 +289,7 @@ fn close<const W: usize>(
 {
     let first = inner.first as usize;
     walk.sets.truncate(first);
-    walk.sets.push(Block::of(alloc, &names)?)?;
+    walk.sets.push(CompactSet::of(alloc, &names)?)?;
     walk.heads.truncate(first + 1);
     walk.kinds.truncate(first);
     walk.kinds.push(Some(inner.kind))?;

@@ -15,7 +15,7 @@ ghost use Rattle.md_tree.specs.WellFormed.{IsWellFormed};
 ghost use Rattle.md_checker.specs.FitTests.{IsSingle, AreSingle, name_set, union_all, AreAlike, AreHeads, IsFit, AreFinished, MayPut, IsTested};
 
 use md_graph::{GraphOf, Memory, Set, WORDS};
-use md_modules::{Block, back, closure_in, maximal_modules};
+use md_modules::{CompactSet, back, closure_in, maximal_modules};
 use md_tree::{Kind, Pair, Tree, nodes_of};
 use std::alloc::Global;
 
@@ -69,7 +69,7 @@ fn put<const W: usize>(
     alloc: Global,
     graph: &GraphOf<W>,
     node: &Tree,
-    sets: &mut Vec<Block<W>>,
+    sets: &mut Vec<CompactSet<W>>,
     heads: &mut Vec<u32>,
 ) -> Result<bool, Memory>
     requires { (ts : List PlainTree) × MayPut graph.now sets.old.items heads.old.items
@@ -99,7 +99,7 @@ fn put<const W: usize>(
 fn put_leaf<const W: usize>(
     graph: &GraphOf<W>,
     name: u32,
-    sets: &mut Vec<Block<W>>,
+    sets: &mut Vec<CompactSet<W>>,
     heads: &mut Vec<u32>,
 ) -> Result<bool, Memory>
     ensures { IfOk result (λ fit. (ts : List PlainTree)
@@ -110,7 +110,7 @@ fn put_leaf<const W: usize>(
     if !graph.has_vertex(name) {
         return Ok(false);
     }
-    sets.push(Block::one(name))?;
+    sets.push(CompactSet::one(name))?;
     heads.push(name)?;
     Ok(true)
 }
@@ -122,7 +122,7 @@ fn put_node<const W: usize>(
     kind: Kind,
     count: u64,
     pairs: &[Pair],
-    sets: &mut Vec<Block<W>>,
+    sets: &mut Vec<CompactSet<W>>,
     heads: &mut Vec<u32>,
 ) -> Result<bool, Memory>
     requires { (ts : List PlainTree) × MayPut graph.now sets.old.items heads.old.items
@@ -138,7 +138,7 @@ fn put_node<const W: usize>(
     if !is_fit(alloc, graph, &names, kind, pairs, &heads[below..])? {
         return Ok(false);
     }
-    let block = Block::of(alloc, &names)?;
+    let block = CompactSet::of(alloc, &names)?;
     sets.truncate(below);
     sets.push(block)?;
     heads.truncate(below + 1);
@@ -146,7 +146,7 @@ fn put_node<const W: usize>(
 }
 
 // The union of sets.
-pub(crate) fn union_of<const W: usize>(sets: &[Block<W>]) -> Set<W>
+pub(crate) fn union_of<const W: usize>(sets: &[CompactSet<W>]) -> Set<W>
     requires { W ≤ WORDS }
     ensures { result ≡ union_all sets.now }
 {
@@ -205,7 +205,7 @@ fn agree<const W: usize>(set: &Set<W>, first: &Set<W>, second: &Set<W>) -> bool
     ensures { IsTrue result ↔ ((y : ℕ) → Has set.now y
         → contains first.now y ≡ contains second.now y) }
 {
-    set.first_told_apart(first, second).is_none()
+    set.first_in_symmetric_difference(first, second).is_none()
 }
 
 // A row for each position: of the names at later positions it has those that the node joins to the
@@ -334,7 +334,7 @@ pub(crate) fn has_trivial_modules_alone<const W: usize>(
 }
 
 // Whether each of the sets has one member.
-fn are_alone<const W: usize>(sets: &[Block<W>]) -> bool
+fn are_alone<const W: usize>(sets: &[CompactSet<W>]) -> bool
     ensures { IsTrue result ↔ AreSingle sets.now }
 {
     let mut rest = sets;
@@ -347,7 +347,7 @@ fn are_alone<const W: usize>(sets: &[Block<W>]) -> bool
     true
 }
 
-fn is_alone<const W: usize>(set: &Block<W>) -> bool
+fn is_alone<const W: usize>(set: &CompactSet<W>) -> bool
     ensures { IsTrue result ↔ IsSingle set.now }
 {
     match set.alone() {

@@ -6,7 +6,7 @@ ghost use Rattle.std.specs.Prelude.{◌≡◌, ◌↔◌, None};
 ghost use Rattle.std.specs.Process.{exit_status};
 ghost use Rattle.md_top.specs.declared.stop.Status.{Status};
 ghost use Rattle.md_top.specs.Request.{texts, request_of};
-ghost use Rattle.md_top.specs.Status.{number_of};
+ghost use Rattle.md_top.specs.Status.{exit_number};
 
 use md_io::{DirFiles, GatheringSink, Sink, StdSink};
 use md_top::{Status, run};
@@ -24,7 +24,7 @@ fn main(rt: HostRuntime) -> ExitCode {
 // Ends with the number of the status of `run` over the words behind the program's name. Where the
 // words can't be had, it writes nothing and ends as at a reading fault, or as at want of memory.
 fn end(rt: &HostRuntime) -> ExitCode
-    ensures { (status : Status) × (exit_status result ≡ number_of status) }
+    ensures { (status : Status) × (exit_status result ≡ exit_number status) }
 {
     match words(rt) {
         Ok(words) => end_over(rt, &words),
@@ -35,7 +35,7 @@ fn end(rt: &HostRuntime) -> ExitCode
 // Ends with the number of the status of `run` over the words: with 2 exactly where they are in no
 // form.
 fn end_over(rt: &HostRuntime, words: &[String]) -> ExitCode
-    ensures number { (status : Status) × (exit_status result ≡ number_of status) }
+    ensures number { (status : Status) × (exit_status result ≡ exit_number status) }
     ensures usage { (exit_status result ≡ 2) ↔ (request_of (texts words.now) ≡ None) }
 {
     run_here(rt, words).exit_code()

@@ -15,7 +15,7 @@ use Rattle.md_tree.specs.declared.Pair.{Pair}
 use Rattle.md_tree.specs.Trees.{PlainTree, leaf, node, PlainTrees, names, names_below, count, row, EachNodeBelow}
 use Rattle.md_tree.specs.StrongTrees.{IsInOrder}
 use Rattle.md_tree.specs.TreeGraph.{position_of, joins, adjacent_in, adjacent_below}
-use Rattle.md_tree.specs.WellFormed.{IsOfKind, NoneOfKind, AreApart, IsPlainNode, HasShape, IsCanonicalNode, IsCanonical, HasNoPrimeNode}
+use Rattle.md_tree.specs.WellFormed.{IsOfKind, NoneOfKind, AreDisjoint, IsPlainNode, HasShape, IsCanonicalNode, IsCanonicalTree, HasNoPrimeNode}
 use Rattle.md_tree.proofs.Folding.{count_row}
 use Rattle.md_tree.proofs.Nodes.{IsChild, child_inside, child_of_name}
 use Rattle.md_cotree.specs.Orders.{IsLooseNode, IsOrdered, PlainKeyed, tree_of, key_of, first_key}
@@ -95,7 +95,7 @@ row_has (t ∷ ts) v h =
       | inr there ↦ let rest = row_has ts v there in omega arith
     ]
 
-apart_once : (ts : List PlainTree) → AreApart (row ts) → (v : ℕ) → sum_by (one_if v) ts ≤ 1
+apart_once : (ts : List PlainTree) → AreDisjoint (row ts) → (v : ℕ) → sum_by (one_if v) ts ≤ 1
 apart_once [] apart v = omega arith
 apart_once (t ∷ ts) apart v =
     let all = sum_by-cons (one_if v) t ts in
@@ -104,7 +104,7 @@ apart_once (t ∷ ts) apart v =
       | inr l ↦ let none = one_lacks v t l in let rest = apart_once ts apart.1 v in omega arith
     ]
 
-once_apart : (ts : List PlainTree) → ((v : ℕ) → sum_by (one_if v) ts ≤ 1) → AreApart (row ts)
+once_apart : (ts : List PlainTree) → ((v : ℕ) → sum_by (one_if v) ts ≤ 1) → AreDisjoint (row ts)
 once_apart [] once = tt
 once_apart (t ∷ ts) once = (
   λ v h. false_from_ne_true _ (λ k. let all = sum_by-cons (one_if v) t ts in let one = one_has v t h in let some = row_has ts v k in let low = once v in absurd (omega arith)),
@@ -173,7 +173,7 @@ first_least y ys rising x h =
     let e = ap key_of h.2 in
     omega arith
 
-in_order : (ys : List PlainKeyed) → IsNonDecreasingBy key_of ys → AreApart (row (map tree_of ys)) → ((y : PlainKeyed) → Contains ys y → (s : PlainTree) × IsArranged y s) → IsInOrder (row (map tree_of ys))
+in_order : (ys : List PlainKeyed) → IsNonDecreasingBy key_of ys → AreDisjoint (row (map tree_of ys)) → ((y : PlainKeyed) → Contains ys y → (s : PlainTree) × IsArranged y s) → IsInOrder (row (map tree_of ys))
 in_order [] rising apart all = tt
 in_order (y ∷ ys) rising apart all = (
   (
@@ -201,7 +201,7 @@ none_kind : (ys : List PlainKeyed) (k : Kind) → ((y : PlainKeyed) → Contains
 none_kind [] k none = tt
 none_kind (y ∷ ys) k none = (none y (in_head y ys), none_kind ys k (λ x h. none x (in_tail y ys x h)))
 
-each_canonical : (ys : List PlainKeyed) → ((y : PlainKeyed) → Contains ys y → IsCanonical y.tree) → EachNodeBelow IsCanonicalNode (row (map tree_of ys))
+each_canonical : (ys : List PlainKeyed) → ((y : PlainKeyed) → Contains ys y → IsCanonicalTree y.tree) → EachNodeBelow IsCanonicalNode (row (map tree_of ys))
 each_canonical [] all = tt
 each_canonical (y ∷ ys) all = (all y (in_head y ys), each_canonical ys (λ x h. all x (in_tail y ys x h)))
 
@@ -210,11 +210,11 @@ each_no_prime [] all = tt
 each_no_prime (y ∷ ys) all = (all y (in_head y ys), each_no_prime ys (λ x h. all x (in_tail y ys x h)))
 
 -- two names of a node, in one child or in two
-told_one : (k : Kind) (cs : PlainTrees) (c : PlainTree) → AreApart cs → IsChild cs c → (u v : ℕ) → Has (names c) u → Has (names c) v → adjacent_in (node k cs []) u v ≡ adjacent_in c u v
+told_one : (k : Kind) (cs : PlainTrees) (c : PlainTree) → AreDisjoint cs → IsChild cs c → (u v : ℕ) → Has (names c) u → Has (names c) v → adjacent_in (node k cs []) u v ≡ adjacent_in c u v
 told_one k cs c apart i u v hu hv =
     ap (λ w. cond w (adjacent_below cs u v) (joins k [] (position_of cs u) (position_of cs v))) (eq-eqb _ _ (same_position cs c apart i u v hu hv)) ∙ below_is cs c apart i u v hu hv
 
-told_two : (k : Kind) (cs : PlainTrees) (c : PlainTree) → k ≢ Prime → AreApart cs → IsChild cs c → (u v : ℕ) → Has (names c) u → Has (names_below cs) v → Lacks (names c) v → adjacent_in (node k cs []) u v ≡ value k
+told_two : (k : Kind) (cs : PlainTrees) (c : PlainTree) → k ≢ Prime → AreDisjoint cs → IsChild cs c → (u v : ℕ) → Has (names c) u → Has (names_below cs) v → Lacks (names c) v → adjacent_in (node k cs []) u v ≡ value k
 told_two k cs c not apart i u v hu hv lv =
     ap (λ w. cond w (adjacent_below cs u v) (joins k [] (position_of cs u) (position_of cs v))) (ne_eqb _ _ (other_position cs c apart i u v hu hv lv)) ∙ joins_value k [] _ _ not
 
@@ -225,7 +225,7 @@ module _ (k : Kind) (ss : List PlainTree) (loose : IsLooseNode k (row ss) []) (z
   from : (s : PlainTree) → IsChild (row ss) s → (y : PlainKeyed) × Contains ys y × IsArranged y s
   from s i = let r = arranged_from zs ss all s i in (r.0, Contains-permutation zs ys r.0 moved r.1, r.2)
 
-  apart : AreApart (row (map tree_of ys))
+  apart : AreDisjoint (row (map tree_of ys))
   apart = once_apart (map tree_of ys) (λ v.
       let a = sum_map (one_if v) ys in
       let b = sum_by-IsPermutation (λ (z : PlainKeyed). one_if v z.tree) zs ys moved in

@@ -18,7 +18,7 @@ use Rattle.md_tree.specs.declared.Kind.TheVariants.{Parallel, Series, Prime}
 use Rattle.md_tree.specs.declared.Pair.{Pair}
 use Rattle.md_tree.specs.Trees.{PlainTree, leaf, node, PlainTrees, no_tree, one_more, names, names_below, names_at, count, EachNode, EachNodeBelow}
 use Rattle.md_tree.specs.StrongTrees.{HasKind, HasPairs, IsTreeOf, IsTree}
-use Rattle.md_tree.specs.WellFormed.{IsOfKind, NoneOfKind, AreApart, IsPlainNode, HasShape, IsCanonicalNode, IsCanonical, HasNoPrimeNode}
+use Rattle.md_tree.specs.WellFormed.{IsOfKind, NoneOfKind, AreDisjoint, IsPlainNode, HasShape, IsCanonicalNode, IsCanonicalTree, HasNoPrimeNode}
 use Rattle.md_tree.specs.TreeGraph.{position_of, joins, adjacent_in, adjacent_below, graph_of_tree}
 use Rattle.md_tree.proofs.Nodes.{IsChild, child_inside, child_of_name}
 use Rattle.md_tree.proofs.Built.{IsBuilt}
@@ -76,17 +76,17 @@ split_kind e s a Series not split = (a, split)
 split_kind e s a Prime not split = absurd (not refl)
 
 -- a tree has a name
-some_name : (t : PlainTree) → IsCanonical t → EachNode NotPrime t → HasSome (names t)
+some_name : (t : PlainTree) → IsCanonicalTree t → EachNode NotPrime t → HasSome (names t)
 some_name (leaf v) each not = (v, only_has v)
 some_name (node k no_tree ps) each not = absurd (let two = (plain_shape k no_tree ps not.0 each.0.shape).two in omega arith)
 some_name (node k (one_more t ts) ps) each not =
     let x = some_name t each.1.0 not.1.0 in (x.0, union_left (names t) (names_below ts) x.0 x.1)
 
 -- two names of one child have one position, and are adjacent below the node as they are in the child
-below_lacks : (t : PlainTree) (ts : PlainTrees) (x : ℕ) → AreApart (one_more t ts) → Has (names_below ts) x → Lacks (names t) x
+below_lacks : (t : PlainTree) (ts : PlainTrees) (x : ℕ) → AreDisjoint (one_more t ts) → Has (names_below ts) x → Lacks (names t) x
 below_lacks t ts x apart h = false_from_ne_true _ (λ k. clash h (apart.0 x k))
 
-pub same_position : (cs : PlainTrees) (c : PlainTree) → AreApart cs → IsChild cs c → (a b : ℕ) → Has (names c) a → Has (names c) b → position_of cs a ≡ position_of cs b
+pub same_position : (cs : PlainTrees) (c : PlainTree) → AreDisjoint cs → IsChild cs c → (a b : ℕ) → Has (names c) a → Has (names c) b → position_of cs a ≡ position_of cs b
 same_position no_tree c apart i a b ha hb = absurd i
 same_position (one_more t ts) c apart (inl e) a b ha hb =
     first_place t ts a (Has-along (names c) (names t) (ap names e) a ha) ∙ sym (first_place t ts b (Has-along (names c) (names t) (ap names e) b hb))
@@ -95,7 +95,7 @@ same_position (one_more t ts) c apart (inr i) a b ha hb =
     ∙ ap (λ n. suc n) (same_position ts c apart.1 i a b ha hb)
     ∙ sym (later_place t ts b (below_lacks t ts b apart (child_inside ts c i b hb)))
 
-pub below_is : (cs : PlainTrees) (c : PlainTree) → AreApart cs → IsChild cs c → (a b : ℕ) → Has (names c) a → Has (names c) b → adjacent_below cs a b ≡ adjacent_in c a b
+pub below_is : (cs : PlainTrees) (c : PlainTree) → AreDisjoint cs → IsChild cs c → (a b : ℕ) → Has (names c) a → Has (names c) b → adjacent_below cs a b ≡ adjacent_in c a b
 below_is no_tree c apart i a b ha hb = absurd i
 below_is (one_more t ts) c apart (inl e) a b ha hb =
     ap (λ w. cond w (adjacent_in t a b) (adjacent_below ts a b)) (Has-along (names c) (names t) (ap names e) a ha) ∙ ap (λ w. adjacent_in w a b) (sym e)
@@ -104,19 +104,19 @@ below_is (one_more t ts) c apart (inr i) a b ha hb =
     ∙ below_is ts c apart.1 i a b ha hb
 
 -- a name at the position of a child's name is the child's
-child_position : (cs : PlainTrees) (c : PlainTree) → AreApart cs → IsChild cs c → (a : ℕ) → Has (names c) a → names_at cs (position_of cs a) ≡ names c
+child_position : (cs : PlainTrees) (c : PlainTree) → AreDisjoint cs → IsChild cs c → (a : ℕ) → Has (names c) a → names_at cs (position_of cs a) ≡ names c
 child_position no_tree c apart i a ha = absurd i
 child_position (one_more t ts) c apart (inl e) a ha =
     ap (names_at (one_more t ts)) (first_place t ts a (Has-along (names c) (names t) (ap names e) a ha)) ∙ ap names (sym e)
 child_position (one_more t ts) c apart (inr i) a ha =
     ap (names_at (one_more t ts)) (later_place t ts a (below_lacks t ts a apart (child_inside ts c i a ha))) ∙ child_position ts c apart.1 i a ha
 
-pub other_position : (cs : PlainTrees) (c : PlainTree) → AreApart cs → IsChild cs c → (a b : ℕ) → Has (names c) a → Has (names_below cs) b → Lacks (names c) b → position_of cs a ≢ position_of cs b
+pub other_position : (cs : PlainTrees) (c : PlainTree) → AreDisjoint cs → IsChild cs c → (a b : ℕ) → Has (names c) a → Has (names_below cs) b → Lacks (names c) b → position_of cs a ≢ position_of cs b
 other_position cs c apart i a b ha hb lb same =
     clash (Has-along (names_at cs (position_of cs b)) (names c) (ap (names_at cs) (sym same) ∙ child_position cs c apart i a ha) b (at_position cs b hb)) lb
 
 -- another child has a name
-other_name : (cs : PlainTrees) (c : PlainTree) → AreApart cs → 2 ≤ count cs → ((d : PlainTree) → IsChild cs d → HasSome (names d)) → IsChild cs c → (x : ℕ) × Has (names_below cs) x × Lacks (names c) x
+other_name : (cs : PlainTrees) (c : PlainTree) → AreDisjoint cs → 2 ≤ count cs → ((d : PlainTree) → IsChild cs d → HasSome (names d)) → IsChild cs c → (x : ℕ) × Has (names_below cs) x × Lacks (names c) x
 other_name no_tree c apart two some i = absurd i
 other_name (one_more t no_tree) c apart two some i = absurd (omega arith)
 other_name (one_more t (one_more u us)) c apart two some (inl e) =
@@ -134,14 +134,14 @@ abbrev Agrees : (ℕ → ℕ → Bool) → PlainTree → Type 0
 Agrees e t = (a b : ℕ) → Has (names t) a → Has (names t) b → adjacent_in t a b ≡ e a b
 
 module _ (e : ℕ → ℕ → Bool) where
-  child_agrees : (k : Kind) (cs : PlainTrees) (ps : List Pair) (c : PlainTree) → Agrees e (node k cs ps) → AreApart cs → IsChild cs c → Agrees e c
+  child_agrees : (k : Kind) (cs : PlainTrees) (ps : List Pair) (c : PlainTree) → Agrees e (node k cs ps) → AreDisjoint cs → IsChild cs c → Agrees e c
   child_agrees k cs ps c agrees apart i a b ha hb =
       sym (ap (λ w. cond w (adjacent_below cs a b) (joins k ps (position_of cs a) (position_of cs b)))
       (eq-eqb (position_of cs a) (position_of cs b) (same_position cs c apart i a b ha hb)) ∙ below_is cs c apart i a b ha hb)
       ∙ agrees a b (child_inside cs c i a ha) (child_inside cs c i b hb)
 
   -- each child is one side of a split
-  child_split : (k : Kind) (cs : PlainTrees) (ps : List Pair) (c : PlainTree) → IsCanonical (node k cs ps) → EachNode NotPrime (node k cs ps) → Agrees e (node k cs ps) → IsChild cs c → IsSplit e (names_below cs) (names c) (value k)
+  child_split : (k : Kind) (cs : PlainTrees) (ps : List Pair) (c : PlainTree) → IsCanonicalTree (node k cs ps) → EachNode NotPrime (node k cs ps) → Agrees e (node k cs ps) → IsChild cs c → IsSplit e (names_below cs) (names c) (value k)
   child_split k cs ps c each not agrees i = record {
     some = some_of c i;
     inside = child_inside cs c i;
@@ -156,14 +156,14 @@ module _ (e : ℕ → ℕ → Bool) where
       some_of : (d : PlainTree) → IsChild cs d → HasSome (names d)
       some_of d j = some_name d (each_child IsCanonicalNode cs d each.1 j) (each_child NotPrime cs d not.1 j)
 
-  node_kind : (k : Kind) (cs : PlainTrees) (ps : List Pair) → IsCanonical (node k cs ps) → EachNode NotPrime (node k cs ps) → Agrees e (node k cs ps) → HasKind e (names_below cs) k
+  node_kind : (k : Kind) (cs : PlainTrees) (ps : List Pair) → IsCanonicalTree (node k cs ps) → EachNode NotPrime (node k cs ps) → Agrees e (node k cs ps) → HasKind e (names_below cs) k
   node_kind k cs ps each not agrees =
       let c = first_child cs (plain_shape k cs ps not.0 each.0.shape).two in
       split_kind e (names_below cs) (names c.0) k not.0 (child_split k cs ps c.0 each not agrees c.1)
 
   module _ (adj : IsAdjacency e) where
     -- a tree of another kind doesn't split as a node of this kind does
-    unsplit : (k : Kind) (c : PlainTree) → k ≢ Prime → IsCanonical c → EachNode NotPrime c → Agrees e c → (IsOfKind c k → ⊥) → (a : NameSet) → IsSplit e (names c) a (value k) → ⊥
+    unsplit : (k : Kind) (c : PlainTree) → k ≢ Prime → IsCanonicalTree c → EachNode NotPrime c → Agrees e c → (IsOfKind c k → ⊥) → (a : NameSet) → IsSplit e (names c) a (value k) → ⊥
     unsplit k (leaf v) differs each not agrees other a split =
         let x = of_only v split.some.0 (split.inside split.some.0 split.some.1) in
         let y = of_only v split.rest.0 split.rest.1 in
@@ -171,7 +171,7 @@ module _ (e : ℕ → ℕ → Bool) where
     unsplit k (node l ds qs) differs each not agrees other a split =
         other (one_kind adj (names_below ds) l k (node_kind l ds qs each not agrees) (split_kind e (names_below ds) a k differs split))
 
-    module _ (k : Kind) (cs : PlainTrees) (ps : List Pair) (each : IsCanonical (node k cs ps)) (not : EachNode NotPrime (node k cs ps)) (agrees : Agrees e (node k cs ps)) where
+    module _ (k : Kind) (cs : PlainTrees) (ps : List Pair) (each : IsCanonicalTree (node k cs ps)) (not : EachNode NotPrime (node k cs ps)) (agrees : Agrees e (node k cs ps)) where
       child_whole : (c : PlainTree) → IsChild cs c → (a : NameSet) → IsSplit e (names c) a (value k) → ⊥
       child_whole c i =
           unsplit k c not.0 (each_child IsCanonicalNode cs c each.1 i) (each_child NotPrime cs c not.1 i) (child_agrees k cs ps c agrees each.0.apart i)
@@ -220,7 +220,7 @@ module _ (e : ℕ → ℕ → Bool) where
       }
 
     mutual
-      all_built : (t : PlainTree) → IsCanonical t → EachNode NotPrime t → Agrees e t → EachNode (IsBuilt e) t
+      all_built : (t : PlainTree) → IsCanonicalTree t → EachNode NotPrime t → Agrees e t → EachNode (IsBuilt e) t
       all_built (leaf v) each not agrees = tt
       all_built (node k cs ps) each not agrees =
           (node_built k cs ps each not agrees, built_below cs each.1 not.1 (λ c i. child_agrees k cs ps c agrees each.0.apart i))
@@ -231,7 +231,7 @@ module _ (e : ℕ → ℕ → Bool) where
           (all_built t each.0 not.0 (agrees t (inl refl)), built_below ts each.1 not.1 (λ c i. agrees c (inr i)))
 
     -- such a tree is the tree of strong modules
-    pub tree_of_canonical : (t : PlainTree) → IsCanonical t → HasNoPrimeNode t → Agrees e t → IsTreeOf e (names t) t
+    pub tree_of_canonical : (t : PlainTree) → IsCanonicalTree t → HasNoPrimeNode t → Agrees e t → IsTreeOf e (names t) t
     tree_of_canonical t each not agrees = built_tree e (names t) t refl (all_built t each not agrees)
 
 pub tree_proof : TreeOfItsGraph

@@ -4,14 +4,15 @@ use Rattle.std.specs.Prelude.{⊤}
 use Rattle.std.proofs.lemmas.Bool.{eq-eqb, ne_eqb}
 use Rattle.std.proofs.lemmas.List.{map-append, length-map}
 use Rattle.md_lists.specs.declared.TheConstants.{PLACES}
-use Rattle.md_lists.specs.Words.{times, first_or, behind}
+use Rattle.md_lists.specs.Words.{behind}
+use Rattle.md_graph.specs.Linked.{first_or, times}
 use Rattle.md_lists.specs.Links.{Links, parent_at, children_at, IsLive, AreLinks, siblings}
 use Rattle.md_lists.proofs.ListLaws.{times-append, times-first}
 use Rattle.md_lists.proofs.LinkLaws.{child_once, child_parent, few_children}
 use Rattle.md_tree.specs.Trees.{row, count}
 use Rattle.md_tree.specs.Parts.{inner as inner_part, parts_of, parts_backward}
 use Rattle.md_cotree.specs.PlaceTrees.{PlaceTree, tip, inner, PlaceTrees, no_more, then, place_of, roots, place_kind, kind_of, node_count, shape, shapes, Stands, StandsBelow}
-use Rattle.md_cotree.specs.Forests.{joined, shape_list}
+use Rattle.md_cotree.specs.Forests.{row_append, shape_list}
 use Rattle.md_cotree.specs.Orders.{AllLive, part_of_kind, part_at}
 use Rattle.md_cotree.proofs.Rows.{roots-joined, shape_list-joined, row_shapes, length_roots}
 use Rattle.md_cotree.proofs.Rooted.{node_parts, count_shapes}
@@ -97,7 +98,7 @@ stand_below : (l : Links) (q : ℕ) (ts : PlaceTrees) → StandsBelow l q ts →
 stand_below l q no_more is = tt
 stand_below l q (then t ts) is = (is.1, stand_below l q ts is.2)
 
-stand_both : (l : Links) (ts us : PlaceTrees) → AllStand l ts → AllStand l us → AllStand l (joined ts us)
+stand_both : (l : Links) (ts us : PlaceTrees) → AllStand l ts → AllStand l us → AllStand l (row_append ts us)
 stand_both l no_more us a b = b
 stand_both l (then t ts) us a b = (a.0, stand_both l ts us a.1 b)
 
@@ -105,7 +106,7 @@ stand_both l (then t ts) us a b = (a.0, stand_both l ts us a.1 b)
 pub record Last (l : Links) (ws : PlaceTrees) (before : List ℕ) (place : ℕ) : Type 0 where
   pub front : PlaceTrees
   pub tree : PlaceTree
-  pub whole : ws ≡ joined front (then tree no_more)
+  pub whole : ws ≡ row_append front (then tree no_more)
   pub places : roots front ≡ before
   pub at : place_of tree ≡ place
   pub stands : Stands l tree
@@ -158,9 +159,9 @@ tree_live : (l : Links) (t : PlaceTree) → Stands l t → IsLive l (place_of t)
 tree_live l (tip p v) is = ap is_some is.0
 tree_live l (inner p k ts) is = ap is_some is.0
 
-backward_joined : (ts us : PlaceTrees) → parts_backward (shapes (joined ts us)) ≡ parts_backward (shapes us) ++ parts_backward (shapes ts)
+backward_joined : (ts us : PlaceTrees) → parts_backward (shapes (row_append ts us)) ≡ parts_backward (shapes us) ++ parts_backward (shapes ts)
 backward_joined ts us =
-    ap parts_backward (sym (row_shapes (joined ts us))) ∙ ap (λ l. parts_backward (row l)) (shape_list-joined ts us) ∙ backward-append (shape_list ts) (shape_list us)
+    ap parts_backward (sym (row_shapes (row_append ts us))) ∙ ap (λ l. parts_backward (row l)) (shape_list-joined ts us) ∙ backward-append (shape_list ts) (shape_list us)
     ∙ (λ i. parts_backward (row_shapes us i) ++ parts_backward (row_shapes ts i))
 
 -- the parts of the places that are listed, and those of the trees that wait, are those of the tree
@@ -187,15 +188,15 @@ module _ (l : Links) (t : PlaceTree) (places waiting popped : List ℕ) (place :
 
   pub emission_more : (listed more : List ℕ) → listed ≡ places ++ place ∷ [] → more ≡ popped ++ children_at l place → IsEmission l t listed more
   emission_more listed more push below = record {
-    trees = joined last.front (kids last.tree);
+    trees = row_append last.front (kids last.tree);
     all = stand_both l last.front (kids last.tree) last.rest (kids_stand l last.tree last.stands);
     on =
         roots-joined last.front (kids last.tree)
         ∙ (λ i. last.places i ++ (sym (kids_at l last.tree last.stands) ∙ ap (children_at l) last.at) i) ∙ sym below;
     whole =
-        ap (λ ps. map (part_at l) ps ++ parts_backward (shapes (joined last.front (kids last.tree)))) push
-        ∙ ap (λ xs. xs ++ parts_backward (shapes (joined last.front (kids last.tree)))) (map-append (part_at l) places (place ∷ []))
-        ∙ append_assoc (map (part_at l) places) (part_at l place ∷ []) (parts_backward (shapes (joined last.front (kids last.tree))))
+        ap (λ ps. map (part_at l) ps ++ parts_backward (shapes (row_append last.front (kids last.tree)))) push
+        ∙ ap (λ xs. xs ++ parts_backward (shapes (row_append last.front (kids last.tree)))) (map-append (part_at l) places (place ∷ []))
+        ∙ append_assoc (map (part_at l) places) (part_at l place ∷ []) (parts_backward (shapes (row_append last.front (kids last.tree))))
         ∙ ap (λ xs. map (part_at l) places ++ part_at l place ∷ xs) (backward_joined last.front (kids last.tree))
         ∙ ap (λ p. map (part_at l) places ++ part_at l p ∷ (parts_backward (shapes (kids last.tree)) ++ parts_backward (shapes last.front))) (sym last.at)
         ∙ ap (λ xs. map (part_at l) places ++ (xs ++ parts_backward (shapes last.front))) (sym (tree_part l last.tree last.stands))

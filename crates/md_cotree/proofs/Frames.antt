@@ -5,8 +5,8 @@ use Rattle.md_lists.specs.declared.kinds.PlaceKind.{PlaceKind}
 use Rattle.md_lists.specs.declared.TheConstants.{PLACES}
 use Rattle.md_lists.specs.Links.{Links, kind_at, parent_at, children_at, alive, IsLive, AreLinks, with_kind, attached}
 use Rattle.md_lists.proofs.LinkLaws.{attached_child, attached_other, attached_children, kind-with_kind}
-use Rattle.md_cotree.specs.PlaceTrees.{PlaceTree, tip, inner, PlaceTrees, no_more, then, place_of, Stands, StandsBelow, StandLoose, times_in, times_among, Fits}
-use Rattle.md_cotree.specs.Forests.{joined}
+use Rattle.md_cotree.specs.PlaceTrees.{PlaceTree, tip, inner, PlaceTrees, no_more, then, place_of, Stands, StandsBelow, StandLoose, times_in, times_among, FillsLists}
+use Rattle.md_cotree.specs.Forests.{row_append}
 use Rattle.md_cotree.proofs.Rows.{roots-joined, times-joined}
 
 -- the places below the root of a tree
@@ -73,38 +73,38 @@ module _ (l m : Links) where
 
 -- ---- rows
 
-loose_both : (l : Links) (ts us : PlaceTrees) → StandLoose l ts → StandLoose l us → StandLoose l (joined ts us)
+loose_both : (l : Links) (ts us : PlaceTrees) → StandLoose l ts → StandLoose l us → StandLoose l (row_append ts us)
 loose_both l no_more us a b = b
 loose_both l (then t ts) us a b = (a.0, a.1, loose_both l ts us a.2 b)
 
-loose_first : (l : Links) (ts us : PlaceTrees) → StandLoose l (joined ts us) → StandLoose l ts
+loose_first : (l : Links) (ts us : PlaceTrees) → StandLoose l (row_append ts us) → StandLoose l ts
 loose_first l no_more us a = tt
 loose_first l (then t ts) us a = (a.0, a.1, loose_first l ts us a.2)
 
-loose_rest : (l : Links) (ts us : PlaceTrees) → StandLoose l (joined ts us) → StandLoose l us
+loose_rest : (l : Links) (ts us : PlaceTrees) → StandLoose l (row_append ts us) → StandLoose l us
 loose_rest l no_more us a = a
 loose_rest l (then t ts) us a = loose_rest l ts us a.2
 
-below_both : (l : Links) (r : ℕ) (ts us : PlaceTrees) → StandsBelow l r ts → StandsBelow l r us → StandsBelow l r (joined ts us)
+below_both : (l : Links) (r : ℕ) (ts us : PlaceTrees) → StandsBelow l r ts → StandsBelow l r us → StandsBelow l r (row_append ts us)
 below_both l r no_more us a b = b
 below_both l r (then t ts) us a b = (a.0, a.1, below_both l r ts us a.2 b)
 
 -- the first tree becomes the last
-pub fits_last : (l : Links) (t : PlaceTree) (ts : PlaceTrees) → Fits l (then t ts) → Fits l (joined ts (then t no_more))
+pub fits_last : (l : Links) (t : PlaceTree) (ts : PlaceTrees) → FillsLists l (then t ts) → FillsLists l (row_append ts (then t no_more))
 fits_last l t ts fits = record {
   stand = loose_both l ts (then t no_more) fits.stand.2 (fits.stand.0, fits.stand.1, tt);
   each = λ p. let e = times-joined p ts (then t no_more) in let f = fits.each p in omega arith;
 }
 
 -- each place of the trees is live, and stands in them once
-pub place_live : (l : Links) (ts : PlaceTrees) → Fits l ts → (p : ℕ) → 0 < times_among p ts → IsLive l p
+pub place_live : (l : Links) (ts : PlaceTrees) → FillsLists l ts → (p : ℕ) → 0 < times_among p ts → IsLive l p
 place_live l ts fits p some = go (is_some (kind_at l p)) (fits.each p)
   where
     go : (b : Bool) → times_among p ts ≡ cond b 1 0 → b ≡ true
     go true e = refl
     go false e = absurd (omega arith)
 
-pub place_once : (l : Links) (ts : PlaceTrees) → Fits l ts → (p : ℕ) → times_among p ts ≤ 1
+pub place_once : (l : Links) (ts : PlaceTrees) → FillsLists l ts → (p : ℕ) → times_among p ts ≤ 1
 place_once l ts fits p = go (is_some (kind_at l p)) (fits.each p)
   where
     go : (b : Bool) → times_among p ts ≡ cond b 1 0 → times_among p ts ≤ 1
@@ -118,8 +118,8 @@ module _ (l : Links) (ok : AreLinks l) (p : ℕ) (free : kind_at l p ≡ None) (
   made_kind k x = kind-with_kind l ok p x (Some k) within
 
   -- a tree of one place more
-  pub fits_made : (ts : PlaceTrees) (t : PlaceTree) (k : PlaceKind) → Fits l ts → place_of t ≡ p → ((q : ℕ) → times_under q t ≡ 0) →
-      (kind_at (with_kind l p (Some k)) p ≡ Some k → children_at l p ≡ [] → Stands (with_kind l p (Some k)) t) → Fits (with_kind l p (Some k)) (then t ts)
+  pub fits_made : (ts : PlaceTrees) (t : PlaceTree) (k : PlaceKind) → FillsLists l ts → place_of t ≡ p → ((q : ℕ) → times_under q t ≡ 0) →
+      (kind_at (with_kind l p (Some k)) p ≡ Some k → children_at l p ≡ [] → Stands (with_kind l p (Some k)) t) → FillsLists (with_kind l p (Some k)) (then t ts)
   fits_made ts t k fits at alone stands = record {
     stand = (
       ap (parent_at l) at ∙ (ok.bare p free).no_parent,
@@ -156,9 +156,9 @@ module _ (l : Links) (ok : AreLinks l) (p : ℕ) (free : kind_at l p ≡ None) (
 
 -- ---- a tree becomes the last child of another
 
-module _ (l : Links) (ok : AreLinks l) (q : ℕ) (k : Bool) (done ts left : PlaceTrees) (t : PlaceTree) (fits : Fits l (then (inner q k done) (joined ts (then t left)))) where
+module _ (l : Links) (ok : AreLinks l) (q : ℕ) (k : Bool) (done ts left : PlaceTrees) (t : PlaceTree) (fits : FillsLists l (then (inner q k done) (row_append ts (then t left)))) where
   abbrev all : PlaceTrees
-  all = then (inner q k done) (joined ts (then t left))
+  all = then (inner q k done) (row_append ts (then t left))
 
   abbrev c : ℕ
   c = place_of t
@@ -207,7 +207,7 @@ module _ (l : Links) (ok : AreLinks l) (q : ℕ) (k : Bool) (done ts left : Plac
   apart : (f : ℕ → ℕ) (z x : ℕ) → f z ≡ 0 → 0 < f x → x ≢ z
   apart f z x none some same = let e = ap f same in omega arith
 
-  pub fits_attached : Fits m (then (inner q k (joined done (then t no_more))) (joined ts left))
+  pub fits_attached : FillsLists m (then (inner q k (row_append done (then t no_more))) (row_append ts left))
   fits_attached = record {
     stand = (
       attached_other l ok q c attach_parent attach_child attach_loose q attach_differ ∙ fits.stand.0,

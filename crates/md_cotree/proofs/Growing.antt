@@ -22,8 +22,8 @@ use Rattle.md_tree.specs.Trees.{node, row, count}
 use Rattle.md_tree.specs.Parts.{name, inner as inner_part, part_of}
 use Rattle.md_tree.specs.Stacks.{with_part, HasChildrenOf}
 use Rattle.md_cotree.specs.declared.cotree.Cotree.{Cotree}
-use Rattle.md_cotree.specs.PlaceTrees.{tip, inner, PlaceTrees, no_more, then, roots, row_length, place_kind, kind_of, leaves_among, node_counts, Fits}
-use Rattle.md_cotree.specs.Forests.{joined, shape_list, IsForest, IsReady}
+use Rattle.md_cotree.specs.PlaceTrees.{tip, inner, PlaceTrees, no_more, then, roots, row_length, place_kind, kind_of, leaves_among, node_counts, FillsLists}
+use Rattle.md_cotree.specs.Forests.{row_append, shape_list, IsForest, IsReady}
 use Rattle.md_cotree.proofs.Rows.{roots-joined, shape_list-joined, leaves-joined, leaf_counts-joined, row_shapes, length_shapes, length_roots, Split, split_row, some_nodes}
 use Rattle.md_cotree.proofs.Frames.{test_both, test_none, fits_made, fits_last}
 use Rattle.md_cotree.proofs.Room.{room}
@@ -40,7 +40,7 @@ module _ (xs : List (Option ℕ)) (v p : ℕ) (long : length xs ≡ NAMES) (low 
   set_at w = get_or-set xs v w (Some p) None (let e = long in omega arith)
 
   pub leaf_named : (ts : PlaceTrees) → ((w q : ℕ) → leaves_among q w ts ≡ holds_once (get_or xs w None) q) → (w q : ℕ) →
-      leaves_among q w (joined ts (then (tip p v) no_more)) ≡ holds_once (get_or (set xs v (Some p)) w None) q
+      leaves_among q w (row_append ts (then (tip p v) no_more)) ≡ holds_once (get_or (set xs v (Some p)) w None) q
   leaf_named ts names w q =
       leaves-joined q w ts (then (tip p v) no_more) ∙ elim (cases_eq w v) [ inl same ↦ here same | inr differ ↦ there differ ]
     where
@@ -63,9 +63,9 @@ module _ (xs : List (Option ℕ)) (v p : ℕ) (long : length xs ≡ NAMES) (low 
 -- a leaf on top of the stack
 pub leaf_forest : (c d : Cotree) (stack more : List ℕ) (v p : ℕ) → kind_at c.lists p ≡ None → p < PLACES → d.lists ≡ with_kind c.lists p (Some (Leaf v)) →
     AreLinks d.lists → d.places.items ≡ set c.places.items v (Some p) → d.leaves ≡ c.leaves + 1 → more ≡ stack ++ p ∷ [] → v < NAMES → get_or c.places.items v None ≡ None →
-    (ts : PlaceTrees) → IsForest c stack ts → IsForest d more (joined ts (then (tip p v) no_more))
+    (ts : PlaceTrees) → IsForest c stack ts → IsForest d more (row_append ts (then (tip p v) no_more))
 leaf_forest c d stack more v p free within made links placed counted pushed low absent ts forest = record {
-  fits = subst (λ l. Fits l (joined ts (then (tip p v) no_more))) (sym made)
+  fits = subst (λ l. FillsLists l (row_append ts (then (tip p v) no_more))) (sym made)
       (fits_last (with_kind c.lists p (Some (Leaf v))) (tip p v) ts
       (fits_made c.lists forest.links p free within ts (tip p v) (Leaf v) forest.fits refl (λ q. refl) (λ kind none. (kind, none))));
   links = links;
@@ -77,36 +77,36 @@ leaf_forest c d stack more v p free within made links placed counted pushed low 
 }
 
 -- a node without children beside the trees
-pub node_made : (l m : Links) (ts : PlaceTrees) (p : ℕ) (k : Bool) (kind : PlaceKind) → kind ≡ place_kind k → AreLinks l → kind_at l p ≡ None → p < PLACES → m ≡ with_kind l p (Some kind) → Fits l ts →
-    Fits m (then (inner p k no_more) ts)
+pub node_made : (l m : Links) (ts : PlaceTrees) (p : ℕ) (k : Bool) (kind : PlaceKind) → kind ≡ place_kind k → AreLinks l → kind_at l p ≡ None → p < PLACES → m ≡ with_kind l p (Some kind) → FillsLists l ts →
+    FillsLists m (then (inner p k no_more) ts)
 node_made l m ts p k kind is ok free within made fits =
-    subst (λ n. Fits n (then (inner p k no_more) ts)) (sym (made ∙ ap (λ z. with_kind l p (Some z)) is))
+    subst (λ n. FillsLists n (then (inner p k no_more) ts)) (sym (made ∙ ap (λ z. with_kind l p (Some z)) is))
     (fits_made l ok p free within ts (inner p k no_more) (place_kind k) fits refl (λ q. refl) (λ at none. (at, none, tt)))
 
 -- where the last trees of the stack begin
-stack_cut : (stack : List ℕ) (count below : ℕ) → below ≡ length stack - count → (ts us : PlaceTrees) → roots (joined ts us) ≡ stack → row_length us ≡ count → below ≡ length (roots ts)
+stack_cut : (stack : List ℕ) (count below : ℕ) → below ≡ length stack - count → (ts us : PlaceTrees) → roots (row_append ts us) ≡ stack → row_length us ≡ count → below ≡ length (roots ts)
 stack_cut stack count below at ts us on long =
     let all = ap length (sym (roots-joined ts us) ∙ on) in
     let a = length-append (roots ts) (roots us) in
     let b = length_roots us in
     omega arith
 
-roots_seen : (stack : List ℕ) (count below : ℕ) → below ≡ length stack - count → (ts us : PlaceTrees) → roots (joined ts us) ≡ stack → row_length us ≡ count → roots us ≡ drop below stack
+roots_seen : (stack : List ℕ) (count below : ℕ) → below ≡ length stack - count → (ts us : PlaceTrees) → roots (row_append ts us) ≡ stack → row_length us ≡ count → roots us ≡ drop below stack
 roots_seen stack count below at ts us on long =
     sym (drop-append_seam (roots ts) (roots us)) ∙ (λ i. drop (sym (stack_cut stack count below at ts us on long) i) ((sym (roots-joined ts us) ∙ on) i))
 
-roots_kept : (stack : List ℕ) (count below : ℕ) → below ≡ length stack - count → (ts us : PlaceTrees) → roots (joined ts us) ≡ stack → row_length us ≡ count → take below stack ≡ roots ts
+roots_kept : (stack : List ℕ) (count below : ℕ) → below ≡ length stack - count → (ts us : PlaceTrees) → roots (row_append ts us) ≡ stack → row_length us ≡ count → take below stack ≡ roots ts
 roots_kept stack count below at ts us on long =
     sym (sym (take-append_seam (roots ts) (roots us)) ∙ (λ i. take (sym (stack_cut stack count below at ts us on long) i) ((sym (roots-joined ts us) ∙ on) i)))
 
 -- a node on top of the stack
 pub node_forest : (c d : Cotree) (m : Links) (stack more : List ℕ) (p count below : ℕ) (k : Bool) (kind : PlaceKind) → kind ≡ place_kind k → kind_at c.lists p ≡ None → p < PLACES →
     m ≡ with_kind c.lists p (Some kind) → below ≡ length stack - count →
-    (seen : List ℕ) → seen ≡ drop below stack → ((ts us : PlaceTrees) → Fits m (then (inner p k no_more) (joined ts us)) → roots us ≡ seen → Fits d.lists (then (inner p k us) ts)) →
+    (seen : List ℕ) → seen ≡ drop below stack → ((ts us : PlaceTrees) → FillsLists m (then (inner p k no_more) (row_append ts us)) → roots us ≡ seen → FillsLists d.lists (then (inner p k us) ts)) →
     AreLinks d.lists → d.lists.marked ≡ m.marked → d.places.items ≡ c.places.items → d.leaves ≡ c.leaves → more ≡ take below stack ++ p ∷ [] →
-    (ts us : PlaceTrees) → IsForest c stack (joined ts us) → row_length us ≡ count → IsForest d more (joined ts (then (inner p k us) no_more))
+    (ts us : PlaceTrees) → IsForest c stack (row_append ts us) → row_length us ≡ count → IsForest d more (row_append ts (then (inner p k us) no_more))
 node_forest c d m stack more p count below k kind is free within made at seen shown attached links marked placed counted pushed ts us forest long = record {
-  fits = fits_last d.lists (inner p k us) ts (attached ts us (node_made c.lists m (joined ts us) p k kind is forest.links free within made forest.fits) (roots_seen stack count below at ts us forest.on_stack long ∙ sym shown));
+  fits = fits_last d.lists (inner p k us) ts (attached ts us (node_made c.lists m (row_append ts us) p k kind is forest.links free within made forest.fits) (roots_seen stack count below at ts us forest.on_stack long ∙ sym shown));
   links = links;
   on_stack = roots-joined ts (then (inner p k us) no_more) ∙ ap (λ xs. xs ++ p ∷ []) (sym (roots_kept stack count below at ts us forest.on_stack long)) ∙ sym pushed;
   entries = ap length placed ∙ forest.entries;
@@ -121,21 +121,21 @@ node_forest c d m stack more p count below k kind is free within made at seen sh
 }
 
 -- what the stack shows then
-pub leaf_shown : (ts : PlaceTrees) (p v : ℕ) → shape_list (joined ts (then (tip p v) no_more)) ≡ with_part (name v) (shape_list ts)
+pub leaf_shown : (ts : PlaceTrees) (p v : ℕ) → shape_list (row_append ts (then (tip p v) no_more)) ≡ with_part (name v) (shape_list ts)
 leaf_shown ts p v = shape_list-joined ts (then (tip p v) no_more)
 
-pub node_shown : (ts us : PlaceTrees) (p n : ℕ) (k : Bool) → row_length us ≡ n → shape_list (joined ts (then (inner p k us) no_more)) ≡ with_part (inner_part (kind_of k) n []) (shape_list (joined ts us))
+pub node_shown : (ts us : PlaceTrees) (p n : ℕ) (k : Bool) → row_length us ≡ n → shape_list (row_append ts (then (inner p k us) no_more)) ≡ with_part (inner_part (kind_of k) n []) (shape_list (row_append ts us))
 node_shown ts us p n k long =
     shape_list-joined ts (then (inner p k us) no_more)
-    ∙ sym (ap (λ i. take i (shape_list (joined ts us)) ++ node (kind_of k) (row (drop i (shape_list (joined ts us)))) [] ∷ []) seam
+    ∙ sym (ap (λ i. take i (shape_list (row_append ts us)) ++ node (kind_of k) (row (drop i (shape_list (row_append ts us)))) [] ∷ []) seam
     ∙ (λ i. take (length (shape_list ts)) (whole i) ++ node (kind_of k) (row (drop (length (shape_list ts)) (whole i))) [] ∷ [])
     ∙ (λ i. take-append_seam (shape_list ts) (shape_list us) i ++ node (kind_of k) (row (drop-append_seam (shape_list ts) (shape_list us) i)) [] ∷ [])
     ∙ ap (λ z. shape_list ts ++ node (kind_of k) z [] ∷ []) (row_shapes us))
   where
-    whole : shape_list (joined ts us) ≡ shape_list ts ++ shape_list us
+    whole : shape_list (row_append ts us) ≡ shape_list ts ++ shape_list us
     whole = shape_list-joined ts us
 
-    seam : length (shape_list (joined ts us)) - n ≡ length (shape_list ts)
+    seam : length (shape_list (row_append ts us)) - n ≡ length (shape_list ts)
     seam =
         let a = ap length (shape_list-joined ts us) in
         let b = length-append (shape_list ts) (shape_list us) in
@@ -143,7 +143,7 @@ node_shown ts us p n k long =
         omega arith
 
 -- the stack has as many trees
-pub forest_long : (c : Cotree) (stack : List ℕ) (ts us : PlaceTrees) (n : ℕ) → IsForest c stack (joined ts us) → row_length us ≡ n → n ≤ length stack
+pub forest_long : (c : Cotree) (stack : List ℕ) (ts us : PlaceTrees) (n : ℕ) → IsForest c stack (row_append ts us) → row_length us ≡ n → n ≤ length stack
 forest_long c stack ts us n forest long =
     let all = ap length (sym (roots-joined ts us) ∙ forest.on_stack) in
     let a = length-append (roots ts) (roots us) in
@@ -155,9 +155,9 @@ sliced xs ys i same = take_all (length ys - i) (drop i ys) (omega (arith, length
 
 pub node_seen : (c : Cotree) (m : Links) (stack : List ℕ) (p count below : ℕ) (k : Bool) (kind : PlaceKind) → kind ≡ place_kind k → kind_at c.lists p ≡ None → p < PLACES →
     m ≡ with_kind c.lists p (Some kind) → below ≡ length stack - count → (seen : List ℕ) → seen ≡ drop below stack →
-    (ts us : PlaceTrees) → IsForest c stack (joined ts us) → row_length us ≡ count → Fits m (then (inner p k no_more) (joined ts us)) × (roots us ≡ seen)
+    (ts us : PlaceTrees) → IsForest c stack (row_append ts us) → row_length us ≡ count → FillsLists m (then (inner p k no_more) (row_append ts us)) × (roots us ≡ seen)
 node_seen c m stack p count below k kind is free within made at seen shown ts us forest long = (
-  node_made c.lists m (joined ts us) p k kind is forest.links free within made forest.fits,
+  node_made c.lists m (row_append ts us) p k kind is forest.links free within made forest.fits,
   roots_seen stack count below at ts us forest.on_stack long ∙ sym shown,
 )
 
@@ -166,7 +166,7 @@ node_seen c m stack p count below k kind is free within made at seen shown ts us
 pub leaf_ready : (c : Cotree) (t : Tree) (v : ℕ) → t ≡ LeafTree v → IsReady c (part_of (plain t)) → (v < NAMES) × (get_or c.places.items v None ≡ None)
 leaf_ready c t v is ready = subst (λ p. IsReady c (part_of p)) (plain_is_leaf t v is) ready
 
-pub leaf_put : (t : Tree) (v p : ℕ) (ts : PlaceTrees) → t ≡ LeafTree v → shape_list (joined ts (then (tip p v) no_more)) ≡ with_part (part_of (plain t)) (shape_list ts)
+pub leaf_put : (t : Tree) (v p : ℕ) (ts : PlaceTrees) → t ≡ LeafTree v → shape_list (row_append ts (then (tip p v) no_more)) ≡ with_part (part_of (plain t)) (shape_list ts)
 leaf_put t v p ts is = leaf_shown ts p v ∙ sym (ap (λ z. with_part (part_of z) (shape_list ts)) (plain_is_leaf t v is))
 
 -- the number of the children of a node that is told
@@ -186,8 +186,8 @@ module _ (c : Cotree) (t : Tree) (k : Kind) (cs : Children) (es : QuotientEdges)
       split_row ts n (let e = counted cs n long in let f = length_shapes ts in omega arith)
 
   pub node_put : (j : Bool) (p : ℕ) (ts us : PlaceTrees) → k ≡ kind_of j → IsReady c (part_of (plain t)) → row_length us ≡ n →
-      shape_list (joined ts (then (inner p j us) no_more)) ≡ with_part (part_of (plain t)) (shape_list (joined ts us))
+      shape_list (row_append ts (then (inner p j us) no_more)) ≡ with_part (part_of (plain t)) (shape_list (row_append ts us))
   node_put j p ts us kind ready count_is =
       node_shown ts us p n j count_is
-      ∙ sym (ap (λ z. with_part (part_of z) (shape_list (joined ts us))) (plain_is_node t k cs es is)
-      ∙ (λ i. with_part (inner_part (kind i) (sym (counted cs n long) i) ((node_ready ready).1 i)) (shape_list (joined ts us))))
+      ∙ sym (ap (λ z. with_part (part_of z) (shape_list (row_append ts us))) (plain_is_node t k cs es is)
+      ∙ (λ i. with_part (inner_part (kind i) (sym (counted cs n long) i) ((node_ready ready).1 i)) (shape_list (row_append ts us))))

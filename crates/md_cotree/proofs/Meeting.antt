@@ -7,7 +7,7 @@ use Rattle.std.specs.Prelude.{⊤}
 use Rattle.md_graph.specs.Sets.{Has, Lacks}
 use Rattle.md_graph.proofs.SetLemmas.{clash, of_only, empty_lacks, of_union}
 use Rattle.md_lists.specs.declared.kinds.PlaceKind.TheVariants.{Leaf}
-use Rattle.md_lists.specs.Words.{times}
+use Rattle.md_graph.specs.Linked.{times}
 use Rattle.md_lists.specs.Links.{Links, kind_at, parent_at, children_at}
 use Rattle.md_tree.specs.Trees.{names, names_below}
 use Rattle.md_tree.specs.TreeGraph.{position_of, joins, adjacent_in, adjacent_below}

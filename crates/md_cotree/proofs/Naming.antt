@@ -6,12 +6,12 @@ use Rattle.std.specs.Prelude.{⊤}
 use Rattle.md_graph.specs.declared.TheConstants.{NAMES}
 use Rattle.md_graph.specs.Sets.{Has}
 use Rattle.md_graph.proofs.SetLemmas.{clash, only_has, union_left, union_right}
-use Rattle.md_lists.specs.Words.{times}
+use Rattle.md_graph.specs.Linked.{times}
 use Rattle.md_lists.proofs.ListLaws.{times-append, few}
 use Rattle.md_tree.specs.declared.Kind.TheVariants.{Prime}
 use Rattle.md_tree.specs.Trees.{PlainTree, leaf, node, PlainTrees, no_tree, one_more, names, names_below, count, EachNode, EachNodeBelow}
 use Rattle.md_tree.specs.Parts.{PlainPart, name, inner as inner_part, parts_of, parts_backward}
-use Rattle.md_tree.specs.WellFormed.{AreApart, IsCanonicalNode, IsCanonical, IsWellFormed}
+use Rattle.md_tree.specs.WellFormed.{AreDisjoint, IsCanonicalNode, IsCanonicalTree, IsWellFormed}
 use Rattle.md_cotree.proofs.Cographs.{NotPrime, plain_shape}
 
 -- the names among the parts
@@ -50,11 +50,11 @@ mutual
       ]
 
 mutual
-  pub name_once : (t : PlainTree) → IsCanonical t → (v : ℕ) → times v (named (parts_of t)) ≤ 1
+  pub name_once : (t : PlainTree) → IsCanonicalTree t → (v : ℕ) → times v (named (parts_of t)) ≤ 1
   name_once (leaf w) each v = elim (cases_Bool (w == v)) [ inl e ↦ rw e (omega arith) | inr e ↦ rw e (omega arith) ]
   name_once (node k cs ps) each v = names_once cs each.0.apart each.1 v
 
-  pub names_once : (ts : PlainTrees) → AreApart ts → EachNodeBelow IsCanonicalNode ts → (v : ℕ) → times v (named (parts_backward ts)) ≤ 1
+  pub names_once : (ts : PlainTrees) → AreDisjoint ts → EachNodeBelow IsCanonicalNode ts → (v : ℕ) → times v (named (parts_backward ts)) ≤ 1
   names_once no_tree apart each v = omega arith
   names_once (one_more t ts) apart each v =
       let e = times-named v (parts_backward ts) (parts_of t) in
@@ -77,7 +77,7 @@ few_names t is = few NAMES (named (parts_of t)) (name_once t is.1) (λ v high.
     ])
 
 mutual
-  pub few_parts : (t : PlainTree) → IsCanonical t → EachNode NotPrime t → length (parts_of t) + 1 ≤ 2 * length (named (parts_of t))
+  pub few_parts : (t : PlainTree) → IsCanonicalTree t → EachNode NotPrime t → length (parts_of t) + 1 ≤ 2 * length (named (parts_of t))
   few_parts (leaf v) each not = omega arith
   few_parts (node k cs ps) each not =
       let rest = few_parts_below cs each.1 not.1 in
@@ -115,7 +115,7 @@ plain_rest [] qs a = a
 plain_rest (p ∷ ps) qs a = plain_rest ps qs a.1
 
 mutual
-  pub plain_parts : (t : PlainTree) → IsCanonical t → EachNode NotPrime t → ArePlain (parts_of t)
+  pub plain_parts : (t : PlainTree) → IsCanonicalTree t → EachNode NotPrime t → ArePlain (parts_of t)
   plain_parts (leaf v) each not = (tt, tt)
   plain_parts (node k cs ps) each not = ((not.0, (plain_shape k cs ps not.0 each.0.shape).no_pairs), plain_parts_below cs each.1 not.1)
 

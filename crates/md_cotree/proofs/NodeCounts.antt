@@ -18,7 +18,7 @@ use Rattle.md_tree.specs.TreeGraph.{graph_of_tree}
 use Rattle.md_tree.proofs.Folding.{row_listed}
 use Rattle.md_tree.proofs.OneTree.{one_tree_proof}
 use Rattle.md_cotree.specs.declared.cotree.Cotree.{Cotree}
-use Rattle.md_cotree.specs.Cotrees.{trees_of, IsKeptAs}
+use Rattle.md_cotree.specs.Cotrees.{root_row, IsKeptAs}
 use Rattle.md_cotree.specs.PlaceTrees.{PlaceTree, tip, inner, PlaceTrees, no_more, then, node_count, node_counts, shape, shapes}
 use Rattle.md_cotree.specs.Orders.{IsLooseNode, IsLoose, PlainKeyed, tree_of, key_of, first_key}
 use Rattle.md_cotree.proofs.Arranging.{IsArranged, AllArranged, leaf_arranged, node_arranged}
@@ -166,7 +166,7 @@ module _ (c : Cotree) (g : PlainGraph) where
       let kb = Has-along (names t) (names (shape s)) o.same_names b hb in
       o.same_adjacent a b ka kb ∙ graph_tells (shape s) (kept_below c s kept) a b ka kb)))
 
-  pub nodes_told : IsGraph g → (o : Option PlaceTree) → IsKeptAs c o → graph_of_tree (option_map shape o) ≡ g → (p : Option PlainTree) → IsTree (adjacent g) g.vertices p → node_counts (trees_of o) ≡ nodes_in p
+  pub nodes_told : IsGraph g → (o : Option PlaceTree) → IsKeptAs c o → graph_of_tree (option_map shape o) ≡ g → (p : Option PlainTree) → IsTree (adjacent g) g.vertices p → node_counts (root_row o) ≡ nodes_in p
   nodes_told is None kept same p tree = ap nodes_in (one_of is None p (subst (λ k. IsTree (adjacent k) k.vertices None) same refl) tree)
   nodes_told is (Some s) kept same p tree =
       let made = counted (shape s) (loose_kept c s kept) in

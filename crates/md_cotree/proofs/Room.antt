@@ -7,7 +7,7 @@ use Rattle.std.specs.List.{count_by}
 use Rattle.md_lists.specs.declared.kinds.PlaceKind.{PlaceKind}
 use Rattle.md_lists.specs.declared.TheConstants.{PLACES}
 use Rattle.md_lists.specs.Links.{Links, alive, spare_count, AreLinks}
-use Rattle.md_cotree.specs.PlaceTrees.{PlaceTree, tip, inner, PlaceTrees, no_more, then, times_in, times_among, node_count, node_counts, Fits}
+use Rattle.md_cotree.specs.PlaceTrees.{PlaceTree, tip, inner, PlaceTrees, no_more, then, times_in, times_among, node_count, node_counts, FillsLists}
 
 -- the sum of f below n
 unfoldable sum_to : ℕ → (ℕ → ℕ) → ℕ
@@ -107,7 +107,7 @@ live_and_free (x ∷ xs) =
     add_up all first others free here later n a b c d = omega arith
 
 -- the number of nodes, and the free places, are all places
-pub room : (l : Links) (ts : PlaceTrees) → AreLinks l → Fits l ts → node_counts ts + spare_count l ≡ PLACES
+pub room : (l : Links) (ts : PlaceTrees) → AreLinks l → FillsLists l ts → node_counts ts + spare_count l ≡ PLACES
 room l ts ok fits =
     let live : sum_to PLACES (λ p. times_among p ts) ≡ node_counts ts = counted_among PLACES ts none in
     let same : sum_to PLACES (λ p. times_among p ts) ≡ sum_to PLACES (alive l) = sum_to-same PLACES (λ p. times_among p ts) (alive l) fits.each in

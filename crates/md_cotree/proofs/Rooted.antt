@@ -6,17 +6,18 @@ use Rattle.md_graph.specs.PlainGraph.{empty_graph}
 use Rattle.md_graph.specs.Sets.{Has, HasSome}
 use Rattle.md_graph.proofs.SetLemmas.{clash, only_has, union_left, empty_lacks}
 use Rattle.md_lists.specs.declared.TheConstants.{PLACES}
-use Rattle.md_lists.specs.Words.{times, holds_once}
+use Rattle.md_lists.specs.Words.{holds_once}
+use Rattle.md_graph.specs.Linked.{times}
 use Rattle.md_lists.specs.Links.{Links, AreLinks}
 use Rattle.md_lists.proofs.LinkLaws.{holds-once-same}
 use Rattle.md_tree.specs.Trees.{PlainTree, leaf, node, names, names_below, count, row, EachNodeBelow}
 use Rattle.md_tree.specs.Parts.{PlainPart, name, inner as inner_part, parts_of, parts_backward}
 use Rattle.md_tree.specs.Stacks.{with_part, HasChildrenOf}
 use Rattle.md_tree.specs.TreeGraph.{graph_of_tree}
-use Rattle.md_tree.specs.WellFormed.{NoneOfKind, IsCanonicalNode, IsCanonical, IsWellFormed, HasNoPrimeNode}
+use Rattle.md_tree.specs.WellFormed.{NoneOfKind, IsCanonicalNode, IsCanonicalTree, IsWellFormed, HasNoPrimeNode}
 use Rattle.md_tree.proofs.Folding.{count_row, folded, Finds, IsFolding, fold_begin, fold_finds, fold_more, fold_end}
 use Rattle.md_cotree.specs.declared.cotree.Cotree.{Cotree}
-use Rattle.md_cotree.specs.PlaceTrees.{PlaceTree, tip, inner, PlaceTrees, no_more, then, place_of, row_length, kind_of, leaves_in, leaves_among, node_count, node_counts, NoneInner, Alternates, AllAlternate, shape, shapes, Fits}
+use Rattle.md_cotree.specs.PlaceTrees.{PlaceTree, tip, inner, PlaceTrees, no_more, then, place_of, row_length, kind_of, leaves_in, leaves_among, node_count, node_counts, NoneInner, Alternates, AllAlternate, shape, shapes, FillsLists}
 use Rattle.md_cotree.specs.Forests.{shape_list, IsForest, IsReady}
 use Rattle.md_cotree.specs.Cotrees.{IsKeptAs, Denotes}
 use Rattle.md_cotree.proofs.Cographs.{plain_shape}
@@ -152,7 +153,7 @@ count_shapes no_more = refl
 count_shapes (then t ts) = let rest = count_shapes ts in omega arith
 
 mutual
-  alternates_of : (t : PlaceTree) → IsCanonical (shape t) → Alternates t
+  alternates_of : (t : PlaceTree) → IsCanonicalTree (shape t) → Alternates t
   alternates_of (tip p v) each = tt
   alternates_of (inner p k ts) each =
       let plain = plain_shape (kind_of k) (shapes ts) [] (kind_not_prime k) each.0.shape in
@@ -174,12 +175,12 @@ planted_one t is c d stack lists places leaves root so = go so.trees (one_tree t
         let same : shape u ≡ t = cc in (
           Some u,
           record {
-            fits = subst (λ l. Fits l (then u no_more)) (sym lists) forest.fits;
+            fits = subst (λ l. FillsLists l (then u no_more)) (sym lists) forest.fits;
             root = root (place_of u) (sym forest.on_stack);
             entries = ap length places ∙ forest.entries;
             names = λ v p. forest.names v p ∙ ap (λ xs. holds_once (get_or xs v None) p) (sym places);
             leaves = leaves ∙ forest.leaves;
-            alternates = (alternates_of u (subst IsCanonical (sym same) is.1), tt);
+            alternates = (alternates_of u (subst IsCanonicalTree (sym same) is.1), tt);
             unmarked = ap (λ (l : Links). l.marked) lists ∙ forest.unmarked;
           },
           ap (λ z. graph_of_tree (Some z)) same,

@@ -3,33 +3,33 @@ use Rattle.std.proofs.Common.{◌≡◌, ℕ, ◌+◌, ◌≤◌, ◌∷◌, ◌
 use Rattle.std.proofs.lemmas.Bool.{cases_lt}
 use Rattle.md_tree.specs.Trees.{one_more, row}
 use Rattle.md_cotree.specs.PlaceTrees.{PlaceTree, tip, inner, PlaceTrees, no_more, then, place_of, roots, times_among, leaves_among, leaf_count, leaf_counts, node_count, node_counts, row_length, shape, shapes}
-use Rattle.md_cotree.specs.Forests.{joined, shape_list}
+use Rattle.md_cotree.specs.Forests.{row_append, shape_list}
 
-pub roots-joined : (ts us : PlaceTrees) → roots (joined ts us) ≡ roots ts ++ roots us
+pub roots-joined : (ts us : PlaceTrees) → roots (row_append ts us) ≡ roots ts ++ roots us
 roots-joined no_more us = refl
 roots-joined (then t ts) us = ap (λ l. place_of t ∷ l) (roots-joined ts us)
 
-pub shape_list-joined : (ts us : PlaceTrees) → shape_list (joined ts us) ≡ shape_list ts ++ shape_list us
+pub shape_list-joined : (ts us : PlaceTrees) → shape_list (row_append ts us) ≡ shape_list ts ++ shape_list us
 shape_list-joined no_more us = refl
 shape_list-joined (then t ts) us = ap (λ l. shape t ∷ l) (shape_list-joined ts us)
 
-pub times-joined : (p : ℕ) (ts us : PlaceTrees) → times_among p (joined ts us) ≡ times_among p ts + times_among p us
+pub times-joined : (p : ℕ) (ts us : PlaceTrees) → times_among p (row_append ts us) ≡ times_among p ts + times_among p us
 times-joined p no_more us = omega arith
 times-joined p (then t ts) us = let rest = times-joined p ts us in omega arith
 
-pub leaves-joined : (p v : ℕ) (ts us : PlaceTrees) → leaves_among p v (joined ts us) ≡ leaves_among p v ts + leaves_among p v us
+pub leaves-joined : (p v : ℕ) (ts us : PlaceTrees) → leaves_among p v (row_append ts us) ≡ leaves_among p v ts + leaves_among p v us
 leaves-joined p v no_more us = omega arith
 leaves-joined p v (then t ts) us = let rest = leaves-joined p v ts us in omega arith
 
-pub leaf_counts-joined : (ts us : PlaceTrees) → leaf_counts (joined ts us) ≡ leaf_counts ts + leaf_counts us
+pub leaf_counts-joined : (ts us : PlaceTrees) → leaf_counts (row_append ts us) ≡ leaf_counts ts + leaf_counts us
 leaf_counts-joined no_more us = omega arith
 leaf_counts-joined (then t ts) us = let rest = leaf_counts-joined ts us in omega arith
 
-pub joined_assoc : (ts us vs : PlaceTrees) → joined (joined ts us) vs ≡ joined ts (joined us vs)
+pub joined_assoc : (ts us vs : PlaceTrees) → row_append (row_append ts us) vs ≡ row_append ts (row_append us vs)
 joined_assoc no_more us vs = refl
 joined_assoc (then t ts) us vs = ap (then t) (joined_assoc ts us vs)
 
-pub joined_none : (ts : PlaceTrees) → joined ts no_more ≡ ts
+pub joined_none : (ts : PlaceTrees) → row_append ts no_more ≡ ts
 joined_none no_more = refl
 joined_none (then t ts) = ap (then t) (joined_none ts)
 
@@ -49,7 +49,7 @@ length_roots (then t ts) = let rest = length_roots ts in omega arith
 pub record Split (ts : PlaceTrees) (n : ℕ) : Type 0 where
   pub before : PlaceTrees
   pub after : PlaceTrees
-  pub whole : ts ≡ joined before after
+  pub whole : ts ≡ row_append before after
   pub count : row_length after ≡ n
 
 pub split_row : (ts : PlaceTrees) (n : ℕ) → n ≤ row_length ts → Split ts n

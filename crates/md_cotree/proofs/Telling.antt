@@ -14,7 +14,7 @@ use Rattle.md_lists.proofs.LinkLaws.{held, holds-once-same}
 use Rattle.md_tree.specs.Trees.{PlainTree, names, EachNodeBelow}
 use Rattle.md_tree.specs.StrongTrees.{IsTreeOf}
 use Rattle.md_tree.specs.TreeGraph.{adjacent_in, graph_of_tree}
-use Rattle.md_tree.specs.WellFormed.{NoneOfKind, AreApart, IsWellFormed, HasNoPrimeNode}
+use Rattle.md_tree.specs.WellFormed.{NoneOfKind, AreDisjoint, IsWellFormed, HasNoPrimeNode}
 use Rattle.md_cotree.specs.declared.cotree.Cotree.{Cotree}
 use Rattle.md_cotree.specs.PlaceTrees.{PlaceTree, tip, inner, PlaceTrees, no_more, then, place_of, kind_of, leaves_in, leaves_among, NoneInner, Alternates, AllAlternate, shape, shapes, Stands}
 use Rattle.md_cotree.specs.Cotrees.{place_at, IsKeptAs, Denotes}
@@ -55,7 +55,7 @@ mutual
       )
 
   loose_below : (ts : PlaceTrees) → AllAlternate ts → ((v p : ℕ) → leaves_among p v ts ≤ 1) → ((v p q : ℕ) → 0 < leaves_among p v ts → 0 < leaves_among q v ts → p ≡ q) →
-      EachNodeBelow IsLooseNode (shapes ts) × AreApart (shapes ts)
+      EachNodeBelow IsLooseNode (shapes ts) × AreDisjoint (shapes ts)
   loose_below no_more alternates few one = (tt, tt)
   loose_below (then t ts) alternates few one =
       let first = loose_in t alternates.0 (λ v p. let low = few v p in omega arith) (λ v p q a b. one v p q (omega arith) (omega arith)) in

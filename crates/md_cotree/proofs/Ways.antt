@@ -3,7 +3,7 @@ use Rattle.std.proofs.Common.{◌≡◌, ◌≢◌, ℕ, zero, suc, ◌+◌, ◌
 use Rattle.std.proofs.lemmas.Bool.{cases_lt}
 use Rattle.std.proofs.lemmas.Option.{none-some, same_Some}
 use Rattle.md_lists.specs.Links.{Links, kind_at, parent_at, IsLive, AreLinks}
-use Rattle.md_lists.specs.Words.{times}
+use Rattle.md_graph.specs.Linked.{times}
 use Rattle.md_lists.proofs.LinkLaws.{parent_child}
 use Rattle.md_cotree.specs.PlaceTrees.{place_kind}
 use Rattle.md_cotree.specs.Climbs.{Climbs, Meet, Meets}

@@ -7,12 +7,12 @@ use Rattle.md_graph.specs.PlainGraph.{PlainGraph}
 use Rattle.md_lists.specs.Words.{holds_once}
 use Rattle.md_tree.specs.TreeGraph.{graph_of_tree}
 use Rattle.md_cotree.specs.declared.cotree.Cotree.{Cotree}
-use Rattle.md_cotree.specs.PlaceTrees.{PlaceTree, PlaceTrees, no_more, then, place_of, leaves_among, leaf_counts, AllAlternate, shape, Fits}
+use Rattle.md_cotree.specs.PlaceTrees.{PlaceTree, PlaceTrees, no_more, then, place_of, leaves_among, leaf_counts, AllAlternate, shape, FillsLists}
 
 -- the tree that there is, in a row
-abbrev pub trees_of : Option PlaceTree → PlaceTrees
-trees_of None = no_more
-trees_of (Some t) = then t no_more
+abbrev pub root_row : Option PlaceTree → PlaceTrees
+root_row None = no_more
+root_row (Some t) = then t no_more
 
 -- the place that is kept for a name, or none
 abbrev pub place_at : Cotree → ℕ → Option ℕ
@@ -21,12 +21,12 @@ place_at c v = slice_index_or c.places.items v None
 -- the cotree keeps this tree, or none: its places are the live ones, its root is the root that is kept, the place kept for a name is
 -- its leaf and none is kept for another name, its leaves are counted, its kinds alternate, and nothing is marked
 pub record IsKeptAs (c : Cotree) (o : Option PlaceTree) : Type 0 where
-  pub fits : Fits c.lists (trees_of o)
+  pub fits : FillsLists c.lists (root_row o)
   pub root : c.root ≡ option_map place_of o
   pub entries : length c.places.items ≡ NAMES
-  pub names : (v p : ℕ) → leaves_among p v (trees_of o) ≡ holds_once (place_at c v) p
-  pub leaves : c.leaves ≡ leaf_counts (trees_of o)
-  pub alternates : AllAlternate (trees_of o)
+  pub names : (v p : ℕ) → leaves_among p v (root_row o) ≡ holds_once (place_at c v) p
+  pub leaves : c.leaves ≡ leaf_counts (root_row o)
+  pub alternates : AllAlternate (root_row o)
   pub unmarked : c.lists.marked ≡ []
 
 -- the cotree keeps some tree, or none

@@ -8,12 +8,12 @@ use Rattle.md_tree.specs.declared.Kind.TheVariants.{Prime}
 use Rattle.md_tree.specs.Parts.{PlainPart, name, inner as inner_part}
 use Rattle.md_tree.specs.Trees.{PlainTree}
 use Rattle.md_cotree.specs.declared.cotree.Cotree.{Cotree}
-use Rattle.md_cotree.specs.PlaceTrees.{PlaceTrees, no_more, then, roots, leaves_among, leaf_counts, shape, Fits}
+use Rattle.md_cotree.specs.PlaceTrees.{PlaceTrees, no_more, then, roots, leaves_among, leaf_counts, shape, FillsLists}
 
 -- two rows, one behind the other
-abbrev pub joined : PlaceTrees → PlaceTrees → PlaceTrees
-joined no_more us = us
-joined (then t ts) us = then t (joined ts us)
+abbrev pub row_append : PlaceTrees → PlaceTrees → PlaceTrees
+row_append no_more us = us
+row_append (then t ts) us = then t (row_append ts us)
 
 -- the trees of a row without their places
 abbrev pub shape_list : PlaceTrees → List PlainTree
@@ -22,7 +22,7 @@ shape_list (then t ts) = shape t ∷ shape_list ts
 
 -- the cotree keeps these loose trees, whose roots are the stack, the last on top
 pub record IsForest (c : Cotree) (stack : List ℕ) (ts : PlaceTrees) : Type 0 where
-  pub fits : Fits c.lists ts
+  pub fits : FillsLists c.lists ts
   pub links : AreLinks c.lists
   pub on_stack : roots ts ≡ stack
   pub entries : length c.places.items ≡ NAMES

@@ -15,7 +15,7 @@ use Rattle.md_tree.specs.Parts.{PlainPart, name, inner as inner_part}
 use Rattle.md_tree.specs.Plain.{plain}
 use Rattle.md_tree.specs.TreeGraph.{adjacent_in}
 use Rattle.md_tree.specs.Trees.{PlainTree, leaf, node, PlainTrees, row, names, EachNode}
-use Rattle.md_tree.specs.WellFormed.{AreApart, IsPlainNode, IsCanonical, HasNoPrimeNode}
+use Rattle.md_tree.specs.WellFormed.{AreDisjoint, IsPlainNode, IsCanonicalTree, HasNoPrimeNode}
 use Rattle.md_cotree.specs.declared.ordering.Keyed.{Keyed}
 use Rattle.md_cotree.specs.PlaceTrees.{PlaceTree, place_of, node_count, shape, Stands}
 
@@ -32,7 +32,7 @@ part_at l p = part_of_kind (kind_at l p) (length (children_at l p))
 -- a node as well-formed trees have it but for the order of its children, and not prime
 pub record IsLooseNode (k : Kind) (cs : PlainTrees) (ps : List Pair) : Type 0 where
   pub not_prime : k ≢ Prime
-  pub apart : AreApart cs
+  pub apart : AreDisjoint cs
   pub plain : IsPlainNode k cs ps
 
 abbrev pub IsLoose : PlainTree → Type 0
@@ -40,7 +40,7 @@ IsLoose = EachNode IsLooseNode
 
 -- the tree has the other's names, adjacent as there, and its children in order
 pub record IsOrdered (t s : PlainTree) : Type 0 where
-  pub canonical : IsCanonical t
+  pub canonical : IsCanonicalTree t
   pub no_prime : HasNoPrimeNode t
   pub same_names : names t ≡ names s
   pub same_adjacent : (u v : ℕ) → Has (names s) u → Has (names s) v → adjacent_in t u v ≡ adjacent_in s u v

@@ -131,6 +131,6 @@ abbrev mutual
   shapes (then t ts) = one_more (shape t) (shapes ts)
 
 -- the trees stand in the lists, none below a place; each live place stands in them once, and no other place does
-pub record Fits (l : Links) (ts : PlaceTrees) : Type 0 where
+pub record FillsLists (l : Links) (ts : PlaceTrees) : Type 0 where
   pub stand : StandLoose l ts
   pub each : (p : ℕ) → times_among p ts ≡ alive l p

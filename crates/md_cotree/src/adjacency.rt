@@ -87,8 +87,8 @@ fn meets_at_series<L: Ledger>(lists: &Lists, p: u32, q: u32, blank: Blank) -> bo
     let mut steps = Steps::<L>::new(blank);
     let left = depth(lists, p, &mut steps);
     let right = depth(lists, q, &mut steps);
-    let a = climbed(lists, p, left.saturating_sub(right), &mut steps);
-    let b = climbed(lists, q, right.saturating_sub(left), &mut steps);
+    let a = ancestor(lists, p, left.saturating_sub(right), &mut steps);
+    let b = ancestor(lists, q, right.saturating_sub(left), &mut steps);
     meet_at_series(lists, a, b, left, &mut steps)
 }
 
@@ -111,7 +111,7 @@ fn depth<L: Ledger>(lists: &Lists, p: u32, steps: &mut Steps<L>) -> u32
 }
 
 // The place that as many steps up lead to.
-fn climbed<L: Ledger>(lists: &Lists, p: u32, count: u32, steps: &mut Steps<L>) -> u32
+fn ancestor<L: Ledger>(lists: &Lists, p: u32, count: u32, steps: &mut Steps<L>) -> u32
     requires links { AreLinks lists.now }
     requires way { (a : ℕ) × Climbs lists.now count p a }
     ensures { (a : ℕ) → Climbs lists.now count p a → result ≡ a }

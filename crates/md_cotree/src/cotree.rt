@@ -2,8 +2,8 @@
 ghost use Rattle.std.specs.Prelude.{◌≡◌, Option, IfOk};
 ghost use Rattle.md_graph.specs.PlainGraph.{empty_graph};
 
-use md_graph::{Memory, NAMES};
-use md_lists::{Lists, PLACES, filled};
+use md_graph::{Memory, NAMES, copies_of};
+use md_lists::{Lists, PLACES};
 use std::alloc::Global;
 
 /// A tree without prime nodes over places: its linked lists, a place or none for each name, the
@@ -21,7 +21,7 @@ impl Cotree {
     ghost use Rattle.md_tree.specs.StrongTrees.{IsTree};
     ghost use Rattle.md_tree.specs.Trees.{PlainTree, nodes_in};
     ghost use Rattle.md_cotree.specs.PlaceTrees.{PlaceTree, node_counts};
-    ghost use Rattle.md_cotree.specs.Cotrees.{trees_of, IsKeptAs, IsSoundCotree, Denotes};
+    ghost use Rattle.md_cotree.specs.Cotrees.{root_row, IsKeptAs, IsSoundCotree, Denotes};
 
     /// No vertex. Errors: want of memory.
     pub fn new(alloc: Global) -> Result<Cotree, Memory>
@@ -29,7 +29,7 @@ impl Cotree {
     {
         Ok(Cotree {
             lists: Lists::new(alloc)?,
-            places: filled(alloc, NAMES, None)?,
+            places: copies_of(alloc, NAMES, None)?,
             root: None,
             leaves: 0,
         })
@@ -40,7 +40,7 @@ impl Cotree {
     pub fn node_count(&self) -> u64
         requires { IsSoundCotree self.now }
         ensures places { (o : Option PlaceTree) → IsKeptAs self.now o →
-            result ≡ node_counts (trees_of o) }
+            result ≡ node_counts (root_row o) }
         ensures tree { (g : PlainGraph) (t : Option PlainTree) → Denotes self.now g →
             IsTree (adjacent g) g.vertices t → result ≡ nodes_in t }
     {

@@ -43,7 +43,7 @@ impl Cotree {
         let _spare = self.lists.spare();
         match self.root {
             Some(root) => {
-                let tree = ordered::<Brand>(alloc, &self.lists, root, Blank::new(1))?;
+                let tree = tree_at::<Brand>(alloc, &self.lists, root, Blank::new(1))?;
                 Ok(Some(tree))
             }
             None => Ok(None),
@@ -52,7 +52,7 @@ impl Cotree {
 }
 
 // The tree that stands at a place, with its children in order.
-fn ordered<L: Ledger>(alloc: Global, lists: &Lists, root: u32, blank: Blank) -> Result<Tree, Memory>
+fn tree_at<L: Ledger>(alloc: Global, lists: &Lists, root: u32, blank: Blank) -> Result<Tree, Memory>
     requires name { blank.name ≡ L.name }
     requires parts { blank.parts ≡ L.parts }
     requires some { 0 < blank.parts }

@@ -9,8 +9,8 @@ ghost use Rattle.md_tree.specs.TreeGraph.{graph_of_tree};
 ghost use Rattle.md_tree.specs.WellFormed.{IsWellFormed};
 ghost use Rattle.md_tree.specs.NoPrimes.{HasNoPrime};
 ghost use Rattle.md_cotree.specs.Cotrees.{Denotes};
-ghost use Rattle.md_cotree.specs.Forests.{joined, shape_list, IsForest, IsReady};
-ghost use Rattle.md_cotree.specs.PlaceTrees.{PlaceTrees, no_more, then, tip, inner, roots, row_length, node_counts, place_kind, kind_of, Fits};
+ghost use Rattle.md_cotree.specs.Forests.{row_append, shape_list, IsForest, IsReady};
+ghost use Rattle.md_cotree.specs.PlaceTrees.{PlaceTrees, no_more, then, tip, inner, roots, row_length, node_counts, place_kind, kind_of, FillsLists};
 
 use crate::Cotree;
 use md_graph::{Memory, NAMES, Steps};
@@ -28,13 +28,13 @@ pub fn from_tree(alloc: Global, tree: &Option<Tree>) -> Result<Cotree, Memory>
     ensures { IfOk result (λ cotree. Denotes cotree (graph_of_tree (plain_option tree.now))) }
 {
     match tree {
-        Some(tree) => planted::<Brand>(alloc, tree, Blank::new(1)),
+        Some(tree) => cotree_of_tree::<Brand>(alloc, tree, Blank::new(1)),
         None => Cotree::new(alloc),
     }
 }
 
 // The cotree of a tree: its nodes are put on a stack of loose trees, from the last to the first.
-fn planted<L: Ledger>(alloc: Global, tree: &Tree, blank: Blank) -> Result<Cotree, Memory>
+fn cotree_of_tree<L: Ledger>(alloc: Global, tree: &Tree, blank: Blank) -> Result<Cotree, Memory>
     requires name { blank.name ≡ L.name }
     requires parts { blank.parts ≡ L.parts }
     requires some { 0 < blank.parts }
@@ -89,7 +89,7 @@ fn put_leaf<L: Ledger>(
     requires absent { slice_index_or cotree.old.places.items name None ≡ None }
     ensures { IfOk result (λ _. (place : ℕ) ×
         ((ts : PlaceTrees) → IsForest cotree.old stack.old.items ts →
-        IsForest cotree.new stack.new.items (joined ts (then (tip place name) no_more)))) }
+        IsForest cotree.new stack.new.items (row_append ts (then (tip place name) no_more)))) }
 {
     let place = cotree.lists.make(PlaceKind::Leaf(name), steps);
     cotree.places[name as usize] = Some(place);
@@ -107,13 +107,13 @@ fn put_node<L: Ledger>(
     count: u64,
     steps: &mut Steps<L>,
 ) -> Result<(), Memory>
-    requires forest { (ts us : PlaceTrees) × IsForest cotree.old stack.old.items (joined ts us)
-        × (row_length us ≡ count) × (node_counts (joined ts us) < PLACES) }
+    requires forest { (ts us : PlaceTrees) × IsForest cotree.old stack.old.items (row_append ts us)
+        × (row_length us ≡ count) × (node_counts (row_append ts us) < PLACES) }
     requires kind { kind ≢ Prime }
     ensures { IfOk result (λ _. (place : ℕ) × (k : Bool) × (kind ≡ kind_of k) ×
-        ((ts us : PlaceTrees) → IsForest cotree.old stack.old.items (joined ts us) →
+        ((ts us : PlaceTrees) → IsForest cotree.old stack.old.items (row_append ts us) →
         row_length us ≡ count →
-        IsForest cotree.new stack.new.items (joined ts (then (inner place k us) no_more)))) }
+        IsForest cotree.new stack.new.items (row_append ts (then (inner place k us) no_more)))) }
 {
     let place = cotree.lists.make(place_kind(kind), steps);
     let below = stack.len() - count as usize;
@@ -139,11 +139,11 @@ fn place_kind(kind: Kind) -> PlaceKind
 // loose node without children.
 fn attach_all<L: Ledger>(lists: &mut Lists, place: u32, children: &[u32], steps: &mut Steps<L>)
     requires forest { (k : Bool) × (ts us : PlaceTrees) ×
-        Fits lists.old (then (inner place k no_more) (joined ts us)) × (roots us ≡ children.now) }
+        FillsLists lists.old (then (inner place k no_more) (row_append ts us)) × (roots us ≡ children.now) }
     requires links { AreLinks lists.old }
     ensures forest { (k : Bool) (ts us : PlaceTrees) →
-        Fits lists.old (then (inner place k no_more) (joined ts us)) → roots us ≡ children.now →
-        Fits lists.new (then (inner place k us) ts) }
+        FillsLists lists.old (then (inner place k no_more) (row_append ts us)) → roots us ≡ children.now →
+        FillsLists lists.new (then (inner place k us) ts) }
     ensures links { AreLinks lists.new }
     ensures marked { lists.new.marked ≡ lists.old.marked }
 {

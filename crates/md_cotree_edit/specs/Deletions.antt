@@ -4,7 +4,7 @@ use Rattle.std.specs.Prelude.{◌≡◌, ◌≢◌, ℕ, ◌+◌, ◌*◌, ◌<�
 use Rattle.std.specs.Option.{option_map}
 use Rattle.md_lists.specs.Links.{Links}
 use Rattle.md_cotree.specs.PlaceTrees.{PlaceTree, tip, inner, PlaceTrees, no_more, then, place_of, leaves_in, leaves_among, leaf_count, leaf_counts, row_length, IsInner, NoneInner, Alternates, AllAlternate}
-use Rattle.md_cotree.specs.Cotrees.{trees_of}
+use Rattle.md_cotree.specs.Cotrees.{root_row}
 use Rattle.md_cotree_edit.specs.Counts.{name_in, name_row, pair_row, edge_in, edge_row}
 use Rattle.md_cotree_edit.specs.Contexts.{Frame, plug, AreAround, AreTreesKept}
 use Rattle.md_cotree_edit.specs.Turns.{IsTurned}
@@ -195,10 +195,10 @@ pub record IsWithoutLeaf (leaf x : ℕ) (t : PlaceTree) (ss : PlaceTrees) : Type
 
 pub record IsPruned (l : Links) (r : Option ℕ) (leaf : ℕ) (d : PruneView) : Type 0 where
   pub tree : Option PlaceTree
-  pub kept : AreTreesKept l (trees_of tree)
+  pub kept : AreTreesKept l (root_row tree)
   pub root : r ≡ option_map place_of tree
-  pub alternates : AllAlternate (trees_of tree)
-  pub without : IsWithoutLeaf leaf d.name (leaf_tree leaf d) (trees_of tree)
+  pub alternates : AllAlternate (root_row tree)
+  pub without : IsWithoutLeaf leaf d.name (leaf_tree leaf d) (root_row tree)
 
 -- no more than n names are joined to x: trees that have only such names, each once, have no more leaves
 pub record HasFew (n x : ℕ) (t : PlaceTree) : Type 0 where

@@ -2,7 +2,7 @@
 -- Source: Corneil, Perl and Stewart, A linear recognition algorithm for cographs; the counts are this project's.
 use Rattle.std.specs.Prelude.{◌≡◌, ℕ, ◌+◌, ◌-◌, ◌*◌, ◌<◌, ◌≤◌, min, Bool, true, false, cond, ◌&&◌, ◌==◌, List, [], ◌∷◌, slice_index_or, Option, Some, None, ⊤}
 use Rattle.md_graph.specs.declared.TheConstants.{NAMES}
-use Rattle.md_lists.specs.Words.{times}
+use Rattle.md_graph.specs.Linked.{times}
 use Rattle.md_lists.specs.Links.{Links, tally_at, note_at}
 use Rattle.md_cotree.specs.PlaceTrees.{PlaceTree, tip, inner, PlaceTrees, no_more, then, place_of, leaves_in, leaf_count, row_length, Alternates}
 use Rattle.md_cotree.specs.declared.cotree.Cotree.{Cotree}

@@ -1,7 +1,8 @@
 -- How a lowest mixed node is parted into its full children and the others, and how a new leaf comes beside the ones or the others.
 -- Source: Corneil, Perl and Stewart, A linear recognition algorithm for cographs.
 use Rattle.std.specs.Prelude.{◌≡◌, ℕ, ◌+◌, ◌*◌, ◌<◌, Bool, cond, ◌&&◌, ◌==◌, List, Option, Some, ⊤}
-use Rattle.md_lists.specs.Words.{times, holds_once}
+use Rattle.md_lists.specs.Words.{holds_once}
+use Rattle.md_graph.specs.Linked.{times}
 use Rattle.md_lists.specs.Links.{Links, parent_at, note_at, attached, detached}
 use Rattle.md_cotree.specs.PlaceTrees.{PlaceTree, tip, inner, PlaceTrees, no_more, then, place_of, leaves_among, leaf_counts, row_length, NoneInner, AllAlternate}
 use Rattle.md_cotree_edit.specs.Counts.{name_row, pair_row, edge_row}

@@ -7,7 +7,7 @@ ghost use Rattle.md_graph.specs.declared.TheConstants.{NAMES};
 ghost use Rattle.md_graph.specs.PlainGraph.{PlainGraph, adjacent, empty_graph, joined_graph};
 ghost use Rattle.md_graph.specs.Sets.{Has, Lacks};
 ghost use Rattle.md_modules.specs.InducedPaths.{HasInducedPath};
-ghost use Rattle.md_lists.specs.Words.{times};
+ghost use Rattle.md_graph.specs.Linked.{times};
 ghost use Rattle.md_lists.specs.Links.{AreLinks, spare_count};
 ghost use Rattle.md_tree.specs.TreeGraph.{graph_of_tree};
 ghost use Rattle.md_cotree.specs.PlaceTrees.{PlaceTree, tip, no_more, then, place_of, shape};

@@ -1,6 +1,6 @@
 //! Names of a cotree are marked, and the nodes that are full then.
 ghost use Rattle.std.specs.Prelude.{◌≡◌, ℕ, ◌+◌, ◌*◌, ◌≤◌, List, [], length, Option};
-ghost use Rattle.md_lists.specs.Words.{times};
+ghost use Rattle.md_graph.specs.Linked.{times};
 ghost use Rattle.md_lists.specs.Links.{AreLinks};
 ghost use Rattle.md_cotree.specs.PlaceTrees.{PlaceTree, PlaceTrees};
 ghost use Rattle.md_cotree_edit.specs.Contexts.{AreTreesKept};

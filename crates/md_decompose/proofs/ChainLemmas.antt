@@ -7,7 +7,7 @@ use Rattle.std.proofs.lemmas.Bool.{cases_Bool, cases_lt}
 use Rattle.std.specs.FinSet.{contains, empty, insert, intersection, difference, from_list, len, len-empty}
 use Rattle.std.specs.Ordering.{nat_cmp}
 use Rattle.md_graph.specs.declared.TheConstants.{NAMES}
-use Rattle.md_graph.specs.NameSet.{AllBelow, IsLeastFrom, NoneFrom, ascending, told_apart}
+use Rattle.md_graph.specs.NameSet.{AllBelow, IsLeastFrom, NoneFrom, ascending, symmetric_difference}
 use Rattle.md_graph.specs.Sets.{NameSet, Has, Lacks, Within}
 use Rattle.md_graph.proofs.NameLemmas.{from_list-ascending}
 use Rattle.md_graph.proofs.SetLemmas.{clash, empty_lacks, insert_new, insert_old, of_insert, of_minus, minus_has, same_members, same_name, Has-along, along_two, rest_told}
@@ -18,8 +18,8 @@ use Rattle.md_modules.specs.Kinds.{IsPrime}
 use Rattle.md_modules.proofs.Modules.{module_inside, module_of_module}
 use Rattle.md_modules.proofs.Strong.{nested_if_meet}
 use Rattle.md_text.proofs.Lists.{In, of_contains}
-use Rattle.md_decompose.specs.declared.chains.Step.{Step}
-use Rattle.md_decompose.specs.declared.chains.Chain.{Chain}
+use Rattle.md_decompose.specs.declared.nested_modules.Step.{Step}
+use Rattle.md_decompose.specs.declared.nested_modules.Nested.{Nested}
 use Rattle.md_decompose.specs.Chains.{with_names, no_step, step_at, taken_with, IsGrown, IsStepOf, AreSteps, IsChainOf, IsChainFront}
 use Rattle.md_decompose.proofs.ChildLemmas.{IsHeld, held_begins, held_grown, held_falls, held_ends}
 
@@ -94,7 +94,7 @@ taken_before steps zero l = absurd (omega arith)
 taken_before steps (suc k) l = let same : k ≡ suc k - 1 = omega arith in ap (λ i. (step_at steps i).to) same
 
 -- the first name that is told apart
-pub told_out : (s begun : NameSet) (j : ℕ) → IsLeastFrom (intersection s (told_apart begun s)) 0 j → Has s j × Lacks begun j
+pub told_out : (s begun : NameSet) (j : ℕ) → IsLeastFrom (intersection s (symmetric_difference begun s)) 0 j → Has s j × Lacks begun j
 told_out s begun j least = of_minus s begun j (Has-along _ _ (rest_told s begun) j least.member)
 
 module _ {e : ℕ → ℕ → Bool} where
@@ -212,7 +212,7 @@ module _ {e : ℕ → ℕ → Bool} where
     ]
   ]
 
-  module _ (s y : NameSet) (v most : ℕ) (c front : Chain) (are : AreSteps e s v c.taken.items c.steps.items) (strong : IsStrong e s y) (hv : Has y v)
+  module _ (s y : NameSet) (v most : ℕ) (c front : Nested) (are : AreSteps e s v c.taken.items c.steps.items) (strong : IsStrong e s y) (hv : Has y v)
       (is : IsChainFront c most front) (size : most ≡ len y) where
     abbrev taken : List ℕ
     taken = c.taken.items
@@ -334,7 +334,7 @@ module _ {e : ℕ → ℕ → Bool} where
 
     -- ---- a turn of the search
 
-    module _ (begun copy held : NameSet) (last j : ℕ) (is : IsHeld e s v last begun) (least : IsLeastFrom (intersection s (told_apart begun s)) 0 j) (copied : copy ≡ begun)
+    module _ (begun copy held : NameSet) (last j : ℕ) (is : IsHeld e s v last begun) (least : IsLeastFrom (intersection s (symmetric_difference begun s)) 0 j) (copied : copy ≡ begun)
         (over : IsLeastModuleOver e s (insert copy j) held) where
       out : Has s j × Lacks begun j
       out = told_out s begun j least
@@ -349,7 +349,7 @@ module _ {e : ℕ → ℕ → Bool} where
       turn_grown = record { is_module = is.is_module; start = is.start; new = out.1; least = over_begun }
 
       pub turn_falls : len (difference s held) < len (difference s begun)
-      turn_falls = held_falls s begun held (intersection s (told_apart begun s)) j (rest_told s begun) least over_begun
+      turn_falls = held_falls s begun held (intersection s (symmetric_difference begun s)) j (rest_told s begun) least over_begun
 
       pub turn_whole : held ≡ s → (v ≢ j) × IsLeastModule e s v j s
       turn_whole same = turn_held.whole (Has-along s held (sym same))
@@ -357,11 +357,11 @@ module _ {e : ℕ → ℕ → Bool} where
       pub turn_names : (n : ℕ) → AllBelow s n → AllBelow (difference held begun) n
       turn_names n names x h = names x (over_begun.is_module.inside x (of_minus held begun x h).0)
 
-    pub search_ends : (begun : NameSet) (last : ℕ) → IsHeld e s v last begun → NoneFrom (intersection s (told_apart begun s)) 0 → (v ≢ last) × IsLeastModule e s v last s
-    search_ends begun last is none = held_ends s begun (intersection s (told_apart begun s)) v last (rest_told s begun) none is
+    pub search_ends : (begun : NameSet) (last : ℕ) → IsHeld e s v last begun → NoneFrom (intersection s (symmetric_difference begun s)) 0 → (v ≢ last) × IsLeastModule e s v last s
+    search_ends begun last is none = held_ends s begun (intersection s (symmetric_difference begun s)) v last (rest_told s begun) none is
 
 -- there is one least name
-pub chain_of : {e : ℕ → ℕ → Bool} (s : NameSet) (v : ℕ) (chain : Chain) → IsLeastFrom s 0 v → AreSteps e s v chain.taken.items chain.steps.items → IsChainOf e s chain
+pub chain_of : {e : ℕ → ℕ → Bool} (s : NameSet) (v : ℕ) (chain : Nested) → IsLeastFrom s 0 v → AreSteps e s v chain.taken.items chain.steps.items → IsChainOf e s chain
 chain_of {e} s v chain least are w other =
     let a : v ≤ w = least.first w other.member (omega arith) in
     let b : w ≤ v = other.first v least.member (omega arith) in

@@ -2,7 +2,7 @@
 use Rattle.std.proofs.Common.{◌≡◌, ℕ, ◌<◌, ◌≤◌, ◌≢◌, ◌⊎◌, ◌↔◌, Bool, true, false, not, Option, Some, None, IfSome, IfNone, refl, List, [], ◌∷◌, ◌++◌, sym, ◌∙◌, subst, inl, inr, arith, ap}
 use Rattle.std.specs.FinSet.{empty, difference, intersection}
 use Rattle.std.specs.Option.{is_some}
-use Rattle.md_graph.specs.NameSet.{IsLeastFrom, NoneFrom, told_apart}
+use Rattle.md_graph.specs.NameSet.{IsLeastFrom, NoneFrom, symmetric_difference}
 use Rattle.md_graph.specs.PlainGraph.{PlainGraph, IsGraph, adjacent}
 use Rattle.md_graph.specs.Sets.{NameSet, Has, Lacks, Within, HasSome}
 use Rattle.md_graph.specs.Adjacency.{IsAdjacency}
@@ -122,7 +122,7 @@ pub listing_end : {e : ℕ → ℕ → Bool} (s rest : NameSet) (v : Bool) (cs :
 listing_end s rest v cs listing none = listing_whole s rest v cs listing (λ w. let below : w.0 < 0 = none w.0 w.1 in omega arith)
 
 -- no first name is left exactly where nothing is left
-pub rest_test : (s c : NameSet) (found : Option ℕ) (r : Bool) → IfSome found (IsLeastFrom (intersection s (told_apart c s)) 0) → IfNone found (NoneFrom (intersection s (told_apart c s)) 0) →
+pub rest_test : (s c : NameSet) (found : Option ℕ) (r : Bool) → IfSome found (IsLeastFrom (intersection s (symmetric_difference c s)) 0) → IfNone found (NoneFrom (intersection s (symmetric_difference c s)) 0) →
     is_some found ≡ not r → (r ≡ true) ↔ (difference s c ≡ empty)
 rest_test s c (Some least) true some none is = absurd (cc)
 rest_test s c (Some least) false some none is = (

@@ -18,8 +18,8 @@ use Rattle.md_modules.proofs.PathSearch.{adjacency}
 use Rattle.md_tree.specs.StrongTrees.{IsBefore, IsPairBefore}
 use Rattle.md_tree.specs.declared.Pair.{Pair}
 use Rattle.md_text.proofs.Lists.{In, of_contains, to_contains, in_get, in_left, in_right, of_append, of_pairs, to_pairs, later_append}
-use Rattle.md_decompose.specs.Children.{AreChildren, ListsPairs, AreJoined, set_at}
-use Rattle.md_decompose.specs.Heads.{AreHeads, RisesOn, AreNear, ComesBefore, pair_at, ListsHeadPairs}
+use Rattle.md_decompose.specs.Children.{AreChildren, ListsPairs, AreSetsJoined, set_at}
+use Rattle.md_decompose.specs.Heads.{HoldsHeads, RisesOn, AreNear, ComesBefore, pair_at, ListsHeadPairs}
 use Rattle.md_decompose.proofs.Heads.{head_below, heads_rise}
 
 -- the pairs with the head h and a later head below low are put down, and the other names of near are left
@@ -296,14 +296,14 @@ module _ {g : PlainGraph} (is_graph : IsGraph g) (s : NameSet) (cs : List NameSe
       let b : is.0 < is.0 = is.2 is.0 (Has-along (set_at cs i) (set_at cs j) same is.0 is.1) in
       omega arith
 
-  module _ (heads : NameSet) (places : List ℕ) (is : AreHeads cs (length cs) heads places) where
-    to_joined : (a b : ℕ) → AreNear (adjacent g) heads a b → AreJoined (adjacent g) cs (get_or places a 0) (get_or places b 0)
+  module _ (heads : NameSet) (places : List ℕ) (is : HoldsHeads cs (length cs) heads places) where
+    to_joined : (a b : ℕ) → AreNear (adjacent g) heads a b → AreSetsJoined (adjacent g) cs (get_or places a 0) (get_or places b 0)
     to_joined a b near = record {
       ordered = heads_rise cs children.order (length cs) heads places (omega arith) is a b near.first near.second near.ordered;
       edge = (a, b, (is.least a near.first).member, (is.least b near.second).member, near.edge);
     }
 
-    of_joined : (i j : ℕ) → AreJoined (adjacent g) cs i j → (a : ℕ) × (b : ℕ) × AreNear (adjacent g) heads a b × (pair_at places a b ≡ record { low = i; high = j })
+    of_joined : (i j : ℕ) → AreSetsJoined (adjacent g) cs i j → (a : ℕ) × (b : ℕ) × AreNear (adjacent g) heads a b × (pair_at places a b ≡ record { low = i; high = j })
     of_joined i j joined =
         let x : ℕ = joined.edge.0 in
         let y : ℕ = joined.edge.1 in
@@ -332,7 +332,7 @@ module _ {g : PlainGraph} (is_graph : IsGraph g) (s : NameSet) (cs : List NameSe
       exactly = λ p. (
         (λ c.
             let r : (a : ℕ) × (b : ℕ) × AreNear (adjacent g) heads a b × ComesBefore a b NAMES 0 × (p ≡ pair_at places a b) = lists.each p c in
-            subst (λ q. AreJoined (adjacent g) cs q.low q.high) (sym r.4) (to_joined r.0 r.1 r.2)),
+            subst (λ q. AreSetsJoined (adjacent g) cs q.low q.high) (sym r.4) (to_joined r.0 r.1 r.2)),
         λ joined.
             let r : (a : ℕ) × (b : ℕ) × AreNear (adjacent g) heads a b × (pair_at places a b ≡ p) = of_joined p.low p.high joined in
             let inside : Has g.vertices r.0 = (adjacent_ends is_graph r.0 r.1 r.2.edge).0 in

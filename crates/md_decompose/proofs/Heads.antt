@@ -9,11 +9,11 @@ use Rattle.md_graph.specs.Sets.{NameSet, Has, HasSome}
 use Rattle.md_graph.proofs.SetLemmas.{clash, empty_lacks, insert_new, insert_old, of_insert}
 use Rattle.md_tree.specs.StrongTrees.{IsBefore}
 use Rattle.md_decompose.specs.Children.{set_at}
-use Rattle.md_decompose.specs.Heads.{AreHeads, RisesOn}
+use Rattle.md_decompose.specs.Heads.{HoldsHeads, RisesOn}
 
 -- the heads of the first n sets, none of which is below its place
 pub record IsHeading (cs : List NameSet) (n : ℕ) (heads : NameSet) (places : List ℕ) : Type 0 where
-  pub heads_of : AreHeads cs n heads places
+  pub heads_of : HoldsHeads cs n heads places
   pub room : (k v : ℕ) → k < length cs → Has (set_at cs k) v → v < length places
   pub early : (a : ℕ) → Has heads a → get_or places a 0 ≤ a
 
@@ -64,7 +64,7 @@ module _ (cs : List NameSet) (order : AllPairs IsBefore cs) where
         (r.0, insert_old heads h r.0 r.1, other r.0 r.1 ∙ r.2)
     more_each k b (inr e) = (h, insert_new heads h, here ∙ sym e)
 
-    more_heads : AreHeads cs (n + 1) (insert heads h) (set places h n)
+    more_heads : HoldsHeads cs (n + 1) (insert heads h) (set places h n)
     more_heads = record {
       below = λ a k. elim (of_insert heads h a k) [
         | inl e ↦ subst (λ w. get_or (set places h n) w 0 < n + 1) (sym e) (let p : get_or (set places h n) h 0 ≡ n = here in omega arith)
@@ -121,7 +121,7 @@ module _ (cs : List NameSet) (order : AllPairs IsBefore cs) where
       absurd (omega arith)
 
   -- of two heads the later one has the higher place
-  pub heads_rise : (n : ℕ) (heads : NameSet) (places : List ℕ) → n ≤ length cs → AreHeads cs n heads places → RisesOn heads places
+  pub heads_rise : (n : ℕ) (heads : NameSet) (places : List ℕ) → n ≤ length cs → HoldsHeads cs n heads places → RisesOn heads places
   heads_rise n heads places room is a b ha hb up =
       elim (cases_lt (get_or places a 0) (get_or places b 0)) [
         | inl l ↦ l

@@ -11,11 +11,11 @@ use Rattle.md_tree.specs.declared.Kind.{Kind}
 use Rattle.md_tree.specs.declared.Kind.TheVariants.{Parallel, Series, Prime}
 use Rattle.md_tree.specs.declared.Pair.{Pair}
 use Rattle.md_tree.specs.Trees.{PlainTree, names, names_below, names_at, row}
-use Rattle.md_tree.specs.StrongTrees.{HasKind, IsBefore, IsInOrder, IsJoined, HasPairs}
+use Rattle.md_tree.specs.StrongTrees.{HasKind, IsBefore, IsInOrder, AreTreesJoined, HasPairs}
 use Rattle.md_text.proofs.Lists.{In, Later, of_contains, to_contains, of_pairs}
 use Rattle.md_tree.proofs.Nodes.{IsChild, child_inside, child_of_name}
 use Rattle.md_tree.proofs.Built.{IsChildSet, IsBuilt}
-use Rattle.md_decompose.specs.Children.{AreChildren, set_at, AreJoined, ListsPairs}
+use Rattle.md_decompose.specs.Children.{AreChildren, set_at, AreSetsJoined, ListsPairs}
 use Rattle.md_decompose.specs.Turns.{ListsForKind}
 
 -- the leaf sets of the trees
@@ -57,13 +57,13 @@ module _ (e : ℕ → ℕ → Bool) where
     at_position : (i : ℕ) → names_at (row ts) i ≡ set_at cs i
     at_position i = at_row ts i ∙ ap (λ ds. set_at ds i) same
 
-    to_joined : (i j : ℕ) → AreJoined e cs i j → IsJoined e (row ts) i j
+    to_joined : (i j : ℕ) → AreSetsJoined e cs i j → AreTreesJoined e (row ts) i j
     to_joined i j is = record {
       ordered = is.ordered;
       edge = (is.edge.0, is.edge.1, subst (λ s. Has s is.edge.0) (sym (at_position i)) is.edge.2, subst (λ s. Has s is.edge.1) (sym (at_position j)) is.edge.3, is.edge.4);
     }
 
-    of_joined : (i j : ℕ) → IsJoined e (row ts) i j → AreJoined e cs i j
+    of_joined : (i j : ℕ) → AreTreesJoined e (row ts) i j → AreSetsJoined e cs i j
     of_joined i j is = record {
       ordered = is.ordered;
       edge = (is.edge.0, is.edge.1, subst (λ s. Has s is.edge.0) (at_position i) is.edge.2, subst (λ s. Has s is.edge.1) (at_position j) is.edge.3, is.edge.4);

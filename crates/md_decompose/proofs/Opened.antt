@@ -25,9 +25,9 @@ use Rattle.md_decompose.specs.declared.decomposition.Open.TheVariants.{One, Seve
 use Rattle.md_decompose.specs.declared.decomposition.OpenSet.{OpenSet}
 use Rattle.md_tree.specs.Parts.{PlainPart, name, inner, parts_of, parts_backward}
 use Rattle.md_decompose.specs.Children.{FitsBelow, AreChildren}
-use Rattle.md_decompose.specs.declared.chains.Chain.{Chain}
+use Rattle.md_decompose.specs.declared.nested_modules.Nested.{Nested}
 use Rattle.md_decompose.specs.Chains.{step_at, AreSteps, IsChainOf, IsChainFront}
-use Rattle.md_decompose.specs.Turns.{open_names, IsOpenOf, IsNoVertexAlone, IsUnder, FitsOpen, HasChain, HasNoChain, HasFront, sets_of, AreBare, IsFirstOpen, AreOpen, IsPartOf, IsTurn}
+use Rattle.md_decompose.specs.Turns.{open_names, IsOpenOf, IsNoVertexAlone, IsUnder, FitsOpen, HasChain, HasNoChain, HasFront, sets_of, AreBare, IsFirstOpen, AreOpen, IsPartOf, TakesApart}
 use Rattle.md_decompose.proofs.ChainLemmas.{steps_none, steps_inside}
 use Rattle.md_decompose.proofs.Joining.{all_names, node_built, weights, weights-append, child_maximal, children_fall}
 
@@ -89,25 +89,25 @@ behind_more {w} k begun now now' cs cs' c o is same_names below bare is_now is_c
 
 -- ---- what is opened
 
-pub opened_names : {w : ℕ} (s : NameSet) (p : Option Kind) (chain : Chain) (o : Open w) → IsOpenOf s p chain o → open_names o ≡ s
+pub opened_names : {w : ℕ} (s : NameSet) (p : Option Kind) (chain : Nested) (o : Open w) → IsOpenOf s p chain o → open_names o ≡ s
 opened_names {w} s p chain (One v) is = sym is
 opened_names {w} s p chain (Several b) is = ap (λ (x : OpenSet w). x.names) is.0
 
-pub opened_below : {w : ℕ} (s : NameSet) (p : Option Kind) (chain : Chain) (o : Open w) → IsOpenOf s p chain o → IsUnder p o
+pub opened_below : {w : ℕ} (s : NameSet) (p : Option Kind) (chain : Nested) (o : Open w) → IsOpenOf s p chain o → IsUnder p o
 opened_below {w} s p chain (One v) is = tt
 opened_below {w} s p chain (Several b) is =
     let same : s ≡ b.names = sym (ap (λ (x : OpenSet w). x.names) is.0) in
     (ap (λ (x : OpenSet w). x.parent) is.0, subst (λ n. HasSome n → HasTwo n) same is.1)
 
-pub opened_bare : {w : ℕ} (s : NameSet) (p : Option Kind) (chain : Chain) (o : Open w) → chain.taken.items ≡ [] → chain.steps.items ≡ [] → IsOpenOf s p chain o → HasNoChain o
+pub opened_bare : {w : ℕ} (s : NameSet) (p : Option Kind) (chain : Nested) (o : Open w) → chain.taken.items ≡ [] → chain.steps.items ≡ [] → IsOpenOf s p chain o → HasNoChain o
 opened_bare {w} s p chain (One v) no_names no_steps is = tt
 opened_bare {w} s p chain (Several b) no_names no_steps is = (ap (λ (x : OpenSet w). x.chain.taken.items) is.0 ∙ no_names, ap (λ (x : OpenSet w). x.chain.steps.items) is.0 ∙ no_steps)
 
-pub opened_front : {w : ℕ} (s : NameSet) (p : Option Kind) (chain whole : Chain) (n : ℕ) (o : Open w) → IsChainFront whole n chain → IsOpenOf s p chain o → HasFront whole n o
+pub opened_front : {w : ℕ} (s : NameSet) (p : Option Kind) (chain whole : Nested) (n : ℕ) (o : Open w) → IsChainFront whole n chain → IsOpenOf s p chain o → HasFront whole n o
 opened_front {w} s p chain whole n (One v) front is = tt
 opened_front {w} s p chain whole n (Several b) front is = subst (IsChainFront whole n) (sym (ap (λ (x : OpenSet w). x.chain) is.0)) front
 
-pub opened_all : {w : ℕ} (k : Kind) (c : NameSet) (cs all : List NameSet) (chain : Chain) (begun begun' now : List (Open w)) (o : Open w) → all ≡ c ∷ cs → IsFirstOpen k c chain o →
+pub opened_all : {w : ℕ} (k : Kind) (c : NameSet) (cs all : List NameSet) (chain : Nested) (begun begun' now : List (Open w)) (o : Open w) → all ≡ c ∷ cs → IsFirstOpen k c chain o →
     begun' ≡ begun ++ o ∷ [] → AreBehind k begun' now cs → (os : List (Open w)) × (now ≡ begun ++ os) × AreOpen k all chain os
 opened_all k c cs all chain begun begun' now o is_all first is_begun is = (
   o ∷ is.0,
@@ -145,7 +145,7 @@ module _ {e : ℕ → ℕ → Bool} where
               absurd (omega arith)
         ]
 
-  first_chain : {w : ℕ} (s c : NameSet) (cs : List NameSet) (chain : Chain) (o : Open w) → AreChildren e s (c ∷ cs) → HasTwo s → IsChainOf e s chain → open_names o ≡ c → HasFront chain (len c) o → HasChain e o
+  first_chain : {w : ℕ} (s c : NameSet) (cs : List NameSet) (chain : Nested) (o : Open w) → AreChildren e s (c ∷ cs) → HasTwo s → IsChainOf e s chain → open_names o ≡ c → HasFront chain (len c) o → HasChain e o
   first_chain s c cs chain (One v) are two chained is front = tt
   first_chain s c cs chain (Several b) are two chained is front = λ v least.
       let in_c : IsLeastFrom c 0 v = subst (λ n. IsLeastFrom n 0 v) is least in
@@ -154,7 +154,7 @@ module _ {e : ℕ → ℕ → Bool} where
       (steps_inside s c v (len c) chain b.chain (chained v (least_in_first s c cs are two v in_c)) child.is_strong in_c.member front refl)
 
   -- each child has modules of it
-  pub opened_children : {w : ℕ} (s : NameSet) (k : Kind) (cs : List NameSet) (chain : Chain) (os : List (Open w)) → AreChildren e s cs → HasTwo s → IsChainOf e s chain → AreOpen k cs chain os →
+  pub opened_children : {w : ℕ} (s : NameSet) (k : Kind) (cs : List NameSet) (chain : Nested) (os : List (Open w)) → AreChildren e s cs → HasTwo s → IsChainOf e s chain → AreOpen k cs chain os →
       (sets_of os ≡ cs) × ((o : Open w) → Contains os o → IsUnder (Some k) o × HasChain e o)
   opened_children {w} s k [] chain os are two chained is = (ap sets_of is, λ o c. absurd (of_contains [] o (subst (λ ws. Contains ws o) is c)))
   opened_children {w} s k (c ∷ cs) chain os are two chained is = (
@@ -165,7 +165,7 @@ module _ {e : ℕ → ℕ → Bool} where
     ],
   )
 
-  pub chain_known : (s : NameSet) (chain : Chain) → HasSome s → IsChainOf e s chain → (k : ℕ) → k < length chain.steps.items → (step_at chain.steps.items k).to ≤ length chain.taken.items
+  pub chain_known : (s : NameSet) (chain : Nested) → HasSome s → IsChainOf e s chain → (k : ℕ) → k < length chain.steps.items → (step_at chain.steps.items k).to ≤ length chain.taken.items
   chain_known s chain some chained k l =
       let z : (z : ℕ) × Has s z × ((y : ℕ) → Has s y → z ≤ y) = first_member s some.0 some.1 in
       ((chained z.0 (record { member = z.1; above = (let same : z.0 ≡ z.0 = refl in omega arith); first = λ w h b. z.2 w h })).each k l).known
@@ -277,7 +277,7 @@ module _ {e : ℕ → ℕ → Bool} (adj : IsAdjacency e) where
           )
 
       module _ (parts' : List PlainPart) (os' : List (Open w)) where
-        pub turn_falls : IsTurn e (open_names o) parts waiting parts' os' → weights (sets_of os') < weights (sets_of os)
+        pub turn_falls : TakesApart e (open_names o) parts waiting parts' os' → weights (sets_of os') < weights (sets_of os)
         turn_falls turn =
             let a : weights (sets_of os') ≡ weights (sets_of waiting) + weights (sets_of turn.1) =
             ap weights (ap sets_of turn.4 ∙ map-append open_names waiting turn.1) ∙ weights-append (sets_of waiting) (sets_of turn.1) in
@@ -321,7 +321,7 @@ module _ {e : ℕ → ℕ → Bool} (adj : IsAdjacency e) where
                 (parted ts (sets_of waiting) (sets_of added) (sets ∙ ap sets_of left ∙ map-append open_names waiting added));
           }
 
-        pub opened_more : IsTurn e (open_names o) parts waiting parts' os' → IsOpened e all parts' os'
+        pub opened_more : TakesApart e (open_names o) parts waiting parts' os' → IsOpened e all parts' os'
         opened_more turn = opened_by turn.0 turn.1 turn.2 turn.3 turn.4
 
     pub opened_end : {w : ℕ} (parts : List PlainPart) (os : List (Open w)) → IsOpened e all parts os → os ≡ [] → (t : PlainTree) × IsTreeOf e all t × (parts ≡ parts_of t)

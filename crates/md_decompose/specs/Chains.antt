@@ -6,8 +6,8 @@ use Rattle.std.specs.FinSet.{insert, from_list}
 use Rattle.md_graph.specs.NameSet.{IsLeastFrom}
 use Rattle.md_graph.specs.Sets.{NameSet, Has, Lacks}
 use Rattle.md_modules.specs.Modules.{IsModule, IsLeastModuleOver}
-use Rattle.md_decompose.specs.declared.chains.Step.{Step}
-use Rattle.md_decompose.specs.declared.chains.Chain.{Chain}
+use Rattle.md_decompose.specs.declared.nested_modules.Step.{Step}
+use Rattle.md_decompose.specs.declared.nested_modules.Nested.{Nested}
 
 -- v and the names of a list
 abbrev pub with_names : ℕ → List ℕ → NameSet
@@ -47,11 +47,11 @@ pub record AreSteps (e : ℕ → ℕ → Bool) (s : NameSet) (v : ℕ) (taken : 
   pub ends : length taken ≡ taken_with steps (length steps)
 
 -- the chain has modules of s that hold the least name of s
-abbrev pub IsChainOf : (ℕ → ℕ → Bool) → NameSet → Chain → Type 0
+abbrev pub IsChainOf : (ℕ → ℕ → Bool) → NameSet → Nested → Type 0
 IsChainOf e s c = (v : ℕ) → IsLeastFrom s 0 v → AreSteps e s v c.taken.items c.steps.items
 
 -- the front has the first steps of a chain, those that end before `most` names are taken, and the names taken in them
-pub record IsChainFront (c : Chain) (most : ℕ) (front : Chain) : Type 0 where
+pub record IsChainFront (c : Nested) (most : ℕ) (front : Nested) : Type 0 where
   pub count : ℕ
   pub known : count ≤ length c.steps.items
   pub steps : front.steps.items ≡ take count c.steps.items

@@ -21,14 +21,14 @@ abbrev pub set_at : List NameSet → ℕ → NameSet
 set_at cs i = get_or cs i empty
 
 -- i is before j, and an edge runs between the sets at the positions i and j
-pub record AreJoined (e : ℕ → ℕ → Bool) (cs : List NameSet) (i j : ℕ) : Type 0 where
+pub record AreSetsJoined (e : ℕ → ℕ → Bool) (cs : List NameSet) (i j : ℕ) : Type 0 where
   pub ordered : i < j
   pub edge : (a : ℕ) × (b : ℕ) × Has (set_at cs i) a × Has (set_at cs j) b × (e a b ≡ true)
 
 -- the list has exactly the pairs of positions between whose sets an edge runs, each once, in ascending order
 pub record ListsPairs (e : ℕ → ℕ → Bool) (cs : List NameSet) (ps : List Pair) : Type 0 where
   pub ascending : AllPairs IsPairBefore ps
-  pub exactly : (p : Pair) → Contains ps p ↔ AreJoined e cs p.low p.high
+  pub exactly : (p : Pair) → Contains ps p ↔ AreSetsJoined e cs p.low p.high
 
 -- a child of a parallel node is connected, and a child of a series node has a connected complement
 abbrev pub FitsBelow : (ℕ → ℕ → Bool) → NameSet → Option Kind → Type 0

@@ -8,7 +8,7 @@ use Rattle.md_tree.specs.declared.Pair.{Pair}
 use Rattle.md_decompose.specs.Children.{set_at}
 
 -- heads has exactly the least names of the first n sets, and places has the position of its set at each
-pub record AreHeads (cs : List NameSet) (n : ℕ) (heads : NameSet) (places : List ℕ) : Type 0 where
+pub record HoldsHeads (cs : List NameSet) (n : ℕ) (heads : NameSet) (places : List ℕ) : Type 0 where
   pub below : (a : ℕ) → Has heads a → slice_index places a < n
   pub least : (a : ℕ) → Has heads a → IsLeastFrom (set_at cs (slice_index places a)) 0 a
   pub each : (k : ℕ) → k < n → (a : ℕ) × Has heads a × (slice_index places a ≡ k)

@@ -11,7 +11,7 @@ use Rattle.md_decompose.specs.declared.decomposition.Open.{Open}
 use Rattle.md_decompose.specs.declared.decomposition.Open.TheVariants.{One, Several}
 use Rattle.md_tree.specs.Parts.{PlainPart, name, inner}
 use Rattle.md_decompose.specs.Children.{AreChildren, ListsPairs, FitsBelow}
-use Rattle.md_decompose.specs.declared.chains.Chain.{Chain}
+use Rattle.md_decompose.specs.declared.nested_modules.Nested.{Nested}
 use Rattle.md_decompose.specs.Chains.{IsChainOf, IsChainFront}
 
 -- the names of what waits
@@ -20,7 +20,7 @@ open_names (One v) = only_name v
 open_names (Several b) = b.names
 
 -- the set s below a node of kind p, if there is one, with a chain; a set of one name waits as a vertex alone
-abbrev pub IsOpenOf : {w : ℕ} → NameSet → Option Kind → Chain → Open w → Type 0
+abbrev pub IsOpenOf : {w : ℕ} → NameSet → Option Kind → Nested → Open w → Type 0
 IsOpenOf s p chain (One v) = s ≡ only_name v
 IsOpenOf s p chain (Several b) = (b ≡ record { names = s; parent = p; chain = chain }) × (HasSome s → HasTwo s)
 
@@ -50,7 +50,7 @@ HasNoChain (One v) = ⊤
 HasNoChain (Several b) = (b.chain.taken.items ≡ []) × (b.chain.steps.items ≡ [])
 
 -- the chain of a set is a front of another one, with modules of at most n names
-abbrev pub HasFront : {w : ℕ} → Chain → ℕ → Open w → Type 0
+abbrev pub HasFront : {w : ℕ} → Nested → ℕ → Open w → Type 0
 HasFront chain n (One v) = ⊤
 HasFront chain n (Several b) = IsChainFront chain n b.chain
 
@@ -63,13 +63,13 @@ abbrev pub AreBare : {w : ℕ} → Kind → List NameSet → List (Open w) → T
 AreBare {w} k cs os = (sets_of os ≡ cs) × ((o : Open w) → Contains os o → IsUnder (Some k) o × HasNoChain o)
 
 -- o is the set c below a node of kind k, with a front of a chain: modules with at most as many names as c
-pub record IsFirstOpen {w : ℕ} (k : Kind) (c : NameSet) (chain : Chain) (o : Open w) : Type 0 where
+pub record IsFirstOpen {w : ℕ} (k : Kind) (c : NameSet) (chain : Nested) (o : Open w) : Type 0 where
   pub is : open_names o ≡ c
   pub below : IsUnder (Some k) o
   pub front : HasFront chain (len c) o
 
 -- os are the sets cs below a node of kind k; the first one has a front of a chain, and the others have none
-abbrev pub AreOpen : {w : ℕ} → Kind → List NameSet → Chain → List (Open w) → Type 0
+abbrev pub AreOpen : {w : ℕ} → Kind → List NameSet → Nested → List (Open w) → Type 0
 AreOpen {w} k [] chain os = os ≡ []
 AreOpen {w} k (c ∷ cs) chain os =
     (o : Open w) × (us : List (Open w)) × (os ≡ o ∷ us) × IsFirstOpen k c chain o × AreBare k cs us
@@ -95,6 +95,6 @@ IsPartOf {w} e s (inner k n ps) os =
     ((o : Open w) → Contains os o → IsUnder (Some k) o × HasChain e o)
 
 -- when s is taken apart, its part comes behind the parts so far, and the sets of its children behind the waiting ones
-abbrev pub IsTurn : {w : ℕ} → (ℕ → ℕ → Bool) → NameSet → List PlainPart → List (Open w) → List PlainPart → List (Open w) → Type 0
-IsTurn {w} e s parts waiting parts' waiting' =
+abbrev pub TakesApart : {w : ℕ} → (ℕ → ℕ → Bool) → NameSet → List PlainPart → List (Open w) → List PlainPart → List (Open w) → Type 0
+TakesApart {w} e s parts waiting parts' waiting' =
     (p : PlainPart) × (os : List (Open w)) × IsPartOf e s p os × (parts' ≡ parts ++ p ∷ []) × (waiting' ≡ waiting ++ os)

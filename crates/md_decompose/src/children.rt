@@ -9,11 +9,11 @@ ghost use Rattle.md_decompose.specs.Children.{AreChildren, FitsBelow, Splits};
 ghost use Rattle.md_decompose.specs.Turns.{ListsForKind};
 ghost use Rattle.md_decompose.specs.Chains.{IsChainOf};
 
-use crate::chains::Chain;
+use crate::nested_modules::Nested;
 use crate::prime::prime_children;
 use crate::quotient::quotient_edges;
 use md_graph::{GraphOf, Memory, Set};
-use md_modules::{Block, co_component, component};
+use md_modules::{CompactSet, co_component, component};
 use md_tree::{Kind, QuotientEdges};
 use std::alloc::Global;
 
@@ -27,9 +27,9 @@ pub(crate) fn children<const W: usize>(
     graph: &GraphOf<W>,
     set: &Set<W>,
     parent: Option<Kind>,
-    chain: &mut Chain,
+    chain: &mut Nested,
     places: &mut Vec<u32>,
-) -> Result<(Kind, Vec<Block<W>>, QuotientEdges), Memory>
+) -> Result<(Kind, Vec<CompactSet<W>>, QuotientEdges), Memory>
     requires inside { Within set.now graph.now.vertices }
     requires two { HasTwo set.now }
     requires below { FitsBelow (adjacent graph.now) set.now parent }
@@ -71,7 +71,7 @@ fn components<const W: usize>(
     set: &Set<W>,
     whole: bool,
     value: bool,
-) -> Result<Option<Vec<Block<W>>>, Memory>
+) -> Result<Option<Vec<CompactSet<W>>>, Memory>
     requires graph { IsGraph graph.now }
     requires inside { Within set.now graph.now.vertices }
     requires some { HasSome set.now }
@@ -88,7 +88,7 @@ fn components<const W: usize>(
         return Ok(None);
     };
     let first = component_at(graph, set, v, value);
-    if set.first_told_apart(&first, set).is_none() {
+    if set.first_in_symmetric_difference(&first, set).is_none() {
         return Ok(None);
     }
     Ok(Some(component_list(alloc, graph, set, first, value)?))
@@ -101,7 +101,7 @@ fn component_list<const W: usize>(
     set: &Set<W>,
     first: Set<W>,
     value: bool,
-) -> Result<Vec<Block<W>>, Memory>
+) -> Result<Vec<CompactSet<W>>, Memory>
     requires graph { IsGraph graph.now }
     requires inside { Within set.now graph.now.vertices }
     requires split { Splits (adjacent graph.now) set.now value }
@@ -111,11 +111,11 @@ fn component_list<const W: usize>(
 {
     let mut rest = set.minus(&first);
     let mut sets = Vec::new(alloc);
-    sets.push(Block::of(alloc, &first)?)?;
+    sets.push(CompactSet::of(alloc, &first)?)?;
     while let Some(v) = rest.first_from(0) {
         let next = component_at(graph, &rest, v, value);
-        rest.flip(&next);
-        sets.push(Block::of(alloc, &next)?)?;
+        rest.symmetric_difference_with(&next);
+        sets.push(CompactSet::of(alloc, &next)?)?;
     }
     Ok(sets)
 }

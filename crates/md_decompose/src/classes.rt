@@ -6,7 +6,7 @@ ghost use Rattle.md_modules.specs.Classes.{HoldsModules, AreMaximalInside};
 
 use crate::refined::refined_classes;
 use md_graph::{GraphOf, Memory, Set};
-use md_modules::{Block, cut_classes, one_class};
+use md_modules::{CompactSet, cut_classes, one_class};
 use std::alloc::Global;
 
 // So many classes are cut one by one before it is asked whether the set is large and sparse: most
@@ -27,7 +27,7 @@ pub(crate) fn modules_inside<const W: usize>(
     graph: &GraphOf<W>,
     set: &Set<W>,
     rest: &Set<W>,
-) -> Result<Vec<Block<W>>, Memory>
+) -> Result<Vec<CompactSet<W>>, Memory>
     requires inside { Within set.now graph.now.vertices }
     requires part { Within rest.now set.now }
     requires some { HasSome rest.now }
@@ -50,8 +50,8 @@ fn finer_classes<const W: usize>(
     graph: &GraphOf<W>,
     set: &Set<W>,
     rest: &Set<W>,
-    begun: Vec<Block<W>>,
-) -> Result<Vec<Block<W>>, Memory>
+    begun: Vec<CompactSet<W>>,
+) -> Result<Vec<CompactSet<W>>, Memory>
     requires inside { Within set.now graph.now.vertices }
     requires part { Within rest.now set.now }
     requires some { HasSome rest.now }
@@ -76,7 +76,7 @@ fn is_large_and_sparse<const W: usize>(graph: &GraphOf<W>, set: &Set<W>) -> bool
     let mut from = 0;
     for _ in 0..ASKED {
         if let Some(v) = set.first_from(from) {
-            near.take_in(graph.row(v));
+            near.union_with(graph.row(v));
             from = v + 1;
         }
     }

@@ -10,14 +10,14 @@ ghost use Rattle.md_tree.specs.WellFormed.{IsWellFormed};
 ghost use Rattle.md_tree.specs.Plain.{plain_option};
 ghost use Rattle.md_decompose.specs.Children.{FitsBelow};
 ghost use Rattle.md_tree.specs.Parts.{plain_part, parts_of};
-ghost use Rattle.md_decompose.specs.Turns.{open_names, IsNoVertexAlone, FitsOpen, HasChain, IsOpenOf, AreOpen, IsTurn};
+ghost use Rattle.md_decompose.specs.Turns.{open_names, IsNoVertexAlone, FitsOpen, HasChain, IsOpenOf, AreOpen, TakesApart};
 ghost use Rattle.md_decompose.specs.Chains.{IsChainOf, step_at};
 ghost use Rattle.md_decompose.specs.declared.decomposition.Open.{Open};
 
-use crate::chains::Chain;
 use crate::children::children;
+use crate::nested_modules::Nested;
 use md_graph::{GraphOf, Memory};
-use md_modules::Block;
+use md_modules::CompactSet;
 use md_tree::{Kind, Part, Tree, build};
 use std::alloc::Global;
 
@@ -32,9 +32,9 @@ enum Open<const W: usize> {
 // of the set that hold its least name.
 #[derive(Drop)]
 struct OpenSet<const W: usize> {
-    names: Block<W>,
+    names: CompactSet<W>,
     parent: Option<Kind>,
-    chain: Chain,
+    chain: Nested,
 }
 
 /// The tree of the strong modules of a graph, none exactly for the graph without vertices: the leaf
@@ -66,8 +66,8 @@ fn parts<const W: usize>(alloc: Global, graph: &GraphOf<W>) -> Result<Vec<Part>,
     let vertices = graph.vertices();
     let mut parts = Vec::with_capacity(alloc, vertices.count() as usize + 1)?;
     let mut waiting = Vec::with_capacity(alloc, vertices.count() as usize + 1)?;
-    let whole = Block::of(alloc, vertices)?;
-    waiting.push(opened(whole, None, Chain::none(alloc)))?;
+    let whole = CompactSet::of(alloc, vertices)?;
+    waiting.push(open_set(whole, None, Nested::none(alloc)))?;
     let mut places = Vec::new(alloc);
     while let Some(next) = waiting.pop() {
         take_apart(alloc, graph, next, &mut parts, &mut waiting, &mut places)?;
@@ -88,7 +88,7 @@ fn take_apart<const W: usize>(
     requires inside { Within (open_names next) graph.now.vertices }
     requires below { FitsOpen (adjacent graph.now) next }
     requires chain { HasChain (adjacent graph.now) next }
-    ensures { IfOk result (λ _. IsTurn (adjacent graph.now) (open_names next.entry)
+    ensures { IfOk result (λ _. TakesApart (adjacent graph.now) (open_names next.entry)
         (map plain_part parts.old.items) waiting.old.items
         (map plain_part parts.new.items) waiting.new.items) }
 {
@@ -114,7 +114,7 @@ fn take_set_apart<const W: usize>(
     requires inside { Within set.names graph.now.vertices }
     requires below { FitsBelow (adjacent graph.now) set.names set.parent }
     requires chain { IsChainOf (adjacent graph.now) set.names set.chain }
-    ensures { IfOk result (λ _. IsTurn (adjacent graph.now) set.entry.names
+    ensures { IfOk result (λ _. TakesApart (adjacent graph.now) set.entry.names
         (map plain_part parts.old.items) waiting.old.items
         (map plain_part parts.new.items) waiting.new.items) }
 {
@@ -132,7 +132,7 @@ fn take_set_apart<const W: usize>(
 
 // A set that is to be taken apart, with its chain.
 #[inline(always)]
-fn opened<const W: usize>(names: Block<W>, parent: Option<Kind>, chain: Chain) -> Open<W>
+fn open_set<const W: usize>(names: CompactSet<W>, parent: Option<Kind>, chain: Nested) -> Open<W>
     ensures { IsOpenOf names.entry parent chain result }
 {
     if let Some(vertex) = names.alone() {
@@ -151,8 +151,8 @@ fn push_open<const W: usize>(
     alloc: Global,
     waiting: &mut Vec<Open<W>>,
     kind: Kind,
-    sets: Vec<Block<W>>,
-    chain: &Chain,
+    sets: Vec<CompactSet<W>>,
+    chain: &Nested,
 ) -> Result<(), Memory>
     requires { (k : ℕ) → k < length chain.now.steps.items
         → (step_at chain.now.steps.items k).to ≤ length chain.now.taken.items }
@@ -166,10 +166,10 @@ fn push_open<const W: usize>(
         return Ok(());
     };
     let chain = chain.within(alloc, first.count() as usize)?;
-    let next = opened(first, Some(kind), chain);
+    let next = open_set(first, Some(kind), chain);
     waiting.push_reserved(next);
     for names in rest {
-        let next = opened(names, Some(kind), Chain::none(alloc));
+        let next = open_set(names, Some(kind), Nested::none(alloc));
         waiting.push_reserved(next);
     }
     Ok(())

@@ -4,10 +4,10 @@
 //! tree, from which it is put together at the end: no call nests as deep as the tree.
 #![tactic(auto)]
 
-mod chains;
 mod children;
 mod classes;
 mod decomposition;
+mod nested_modules;
 mod ordered;
 mod prime;
 mod quotient;

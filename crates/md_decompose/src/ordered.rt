@@ -6,23 +6,23 @@ ghost use Rattle.md_modules.specs.Classes.{AreApart};
 ghost use Rattle.md_decompose.specs.Marks.{AreMarks, ListsInOrder};
 
 use md_graph::Memory;
-use md_modules::Block;
+use md_modules::CompactSet;
 use std::alloc::Global;
 
 // The least name of a class, and the class.
 #[derive(Drop)]
 struct Mark<const W: usize> {
     least: u32,
-    class: Block<W>,
+    class: CompactSet<W>,
 }
 
 // `first` and then the classes, in ascending order of their least names. Condition: no two classes
 // meet, none is empty, and `first` has a name below all of theirs.
 pub(crate) fn in_order<const W: usize>(
     alloc: Global,
-    first: Block<W>,
-    classes: Vec<Block<W>>,
-) -> Result<Vec<Block<W>>, Memory>
+    first: CompactSet<W>,
+    classes: Vec<CompactSet<W>>,
+) -> Result<Vec<CompactSet<W>>, Memory>
     requires apart { AreApart classes.items }
     requires lowest { (k : ℕ) → k < length classes.items
         → IsBefore first (set_at classes.items k) }
@@ -38,7 +38,7 @@ pub(crate) fn in_order<const W: usize>(
 }
 
 // One mark of each class, in ascending order of their least names.
-fn marks<const W: usize>(alloc: Global, classes: Vec<Block<W>>) -> Result<Vec<Mark<W>>, Memory>
+fn marks<const W: usize>(alloc: Global, classes: Vec<CompactSet<W>>) -> Result<Vec<Mark<W>>, Memory>
     requires { AreApart classes.items }
     ensures { IfOk result (λ marks. AreMarks classes.entry.items marks.items) }
 {

@@ -8,11 +8,11 @@ ghost use Rattle.md_modules.specs.Kinds.{IsPrime};
 ghost use Rattle.md_decompose.specs.Children.{AreChildren};
 ghost use Rattle.md_decompose.specs.Chains.{IsChainOf, AreSteps};
 
-use crate::chains::Chain;
 use crate::classes::modules_inside;
+use crate::nested_modules::Nested;
 use crate::ordered::in_order;
 use md_graph::{GraphOf, Memory, Set};
-use md_modules::{Block, back, grow};
+use md_modules::{CompactSet, back, grow};
 use std::alloc::Global;
 
 // The maximal proper modules of a prime set of vertices, in ascending order of their least names.
@@ -21,8 +21,8 @@ pub(crate) fn prime_children<const W: usize>(
     alloc: Global,
     graph: &GraphOf<W>,
     set: &Set<W>,
-    chain: &mut Chain,
-) -> Result<Vec<Block<W>>, Memory>
+    chain: &mut Nested,
+) -> Result<Vec<CompactSet<W>>, Memory>
     requires inside { Within set.now graph.now.vertices }
     requires prime { IsPrime (adjacent graph.now) set.now }
     requires chain { IsChainOf (adjacent graph.now) set.now chain.old }
@@ -38,7 +38,7 @@ pub(crate) fn prime_children<const W: usize>(
     let mut rest = Set::none();
     back(graph, set, v, j, &mut rest);
     let classes = modules_inside(alloc, graph, set, &rest)?;
-    let first = Block::of(alloc, &set.minus(&rest))?;
+    let first = CompactSet::of(alloc, &set.minus(&rest))?;
     in_order(alloc, first, classes)
 }
 
@@ -48,7 +48,7 @@ fn far_from<const W: usize>(
     graph: &GraphOf<W>,
     set: &Set<W>,
     v: u32,
-    chain: &mut Chain,
+    chain: &mut Nested,
 ) -> Result<u32, Memory>
     requires inside { Within set.now graph.now.vertices }
     requires prime { IsPrime (adjacent graph.now) set.now }
@@ -63,7 +63,7 @@ fn far_from<const W: usize>(
     let _vertices = graph.vertices();
     let mut begun = chain.names(v);
     let mut last = chain.last_led(v);
-    while let Some(j) = set.first_told_apart(&begun, set) {
+    while let Some(j) = set.first_in_symmetric_difference(&begun, set) {
         let mut held = begun.copy();
         hold(graph, set, v, j, &mut held);
         if held.is_same(set) {
@@ -107,7 +107,7 @@ mod tests {
         assert!(rt; g.has_vertex(1));
         assert!(rt; connected(g));
         assert!(rt; co_connected(g));
-        let sets = prime_children(alloc, g, g.vertices(), &mut Chain::none(alloc))?;
+        let sets = prime_children(alloc, g, g.vertices(), &mut Nested::none(alloc))?;
         assert_eq!(rt; sets.len(), lists.len());
         for (set, list) in sets.into_iter().zip(lists) {
             let mut room = None;

@@ -7,10 +7,10 @@ ghost use Rattle.md_graph.specs.Sets.{Has, Within, HasSome};
 ghost use Rattle.md_modules.specs.Kinds.{IsPrime};
 ghost use Rattle.md_tree.specs.StrongTrees.{IsBefore};
 ghost use Rattle.md_decompose.specs.Children.{AreChildren, ListsPairs, set_at};
-ghost use Rattle.md_decompose.specs.Heads.{AreHeads, RisesOn, pair_at, ListsHeadPairs};
+ghost use Rattle.md_decompose.specs.Heads.{HoldsHeads, RisesOn, pair_at, ListsHeadPairs};
 
 use md_graph::{GraphOf, Memory, NAMES, Set, WORDS};
-use md_modules::Block;
+use md_modules::CompactSet;
 use md_tree::{Pair, QuotientEdges};
 use std::alloc::Global;
 
@@ -24,7 +24,7 @@ pub(crate) fn quotient_edges<const W: usize>(
     alloc: Global,
     graph: &GraphOf<W>,
     set: &Set<W>,
-    sets: &[Block<W>],
+    sets: &[CompactSet<W>],
     places: &mut Vec<u32>,
 ) -> Result<QuotientEdges, Memory>
     requires inside { Within set.now graph.now.vertices }
@@ -54,7 +54,7 @@ fn pairs_by_places<const W: usize>(
     alloc: Global,
     graph: &GraphOf<W>,
     set: &Set<W>,
-    sets: &[Block<W>],
+    sets: &[CompactSet<W>],
     places: &mut [u32],
 ) -> Result<QuotientEdges, Memory>
     requires inside { Within set.now graph.now.vertices }
@@ -70,13 +70,13 @@ fn pairs_by_places<const W: usize>(
 }
 
 // The least name of each set, and at its place the position of the set.
-fn heads_of<const W: usize>(sets: &[Block<W>], places: &mut [u32]) -> Set<W>
+fn heads_of<const W: usize>(sets: &[CompactSet<W>], places: &mut [u32]) -> Set<W>
     requires limit { W ≤ WORDS }
     requires room { (k v : ℕ) → k < length sets.now → Has (set_at sets.now k) v
         → v < length places.old }
     requires some { (k : ℕ) → k < length sets.now → HasSome (set_at sets.now k) }
     requires order { AllPairs IsBefore sets.now }
-    ensures heads { AreHeads sets.now (length sets.now) result places.new }
+    ensures heads { HoldsHeads sets.now (length sets.now) result places.new }
     ensures size { length places.new ≡ length places.old }
 {
     let mut heads = Set::none();
@@ -123,7 +123,7 @@ fn pair_room<const W: usize>(graph: &GraphOf<W>, heads: &Set<W>) -> usize {
     let mut near = Set::none();
     let mut ends: usize = 0;
     for head in heads.members() {
-        near.become_alone(graph.row(head), &others, &others);
+        near.set_to_difference(graph.row(head), &others, &others);
         ends = ends.wrapping_add(near.count() as usize);
     }
     ends / 2

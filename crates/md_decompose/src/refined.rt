@@ -8,7 +8,7 @@ ghost use Rattle.md_refine.specs.Partitions.{ArePartition};
 ghost use Rattle.md_decompose.specs.Refined.{CutNoModule, IsNumbering, AreNumbered, number_at, set_or_empty, set_yet_at};
 
 use md_graph::{GraphOf, Memory, NAMES, Set, WORDS};
-use md_modules::Block;
+use md_modules::CompactSet;
 use md_refine::Partition;
 use std::alloc::Global;
 
@@ -23,7 +23,7 @@ pub(crate) fn refined_classes<const W: usize>(
     graph: &GraphOf<W>,
     set: &Set<W>,
     rest: &Set<W>,
-) -> Result<Vec<Block<W>>, Memory>
+) -> Result<Vec<CompactSet<W>>, Memory>
     requires inside { Within set.now graph.now.vertices }
     requires part { Within rest.now set.now }
     requires some { HasSome rest.now }
@@ -33,7 +33,7 @@ pub(crate) fn refined_classes<const W: usize>(
     let partition = cut_by_rows(alloc, graph, set, rest)?;
     let count = partition.class_count();
     let numbers = partition.class_numbers(alloc)?;
-    let sets = gathered(alloc, rest, count, &numbers)?;
+    let sets = sets_of_numbers(alloc, rest, count, &numbers)?;
     let made = all_made(alloc, sets)?;
     Ok(made)
 }
@@ -83,12 +83,12 @@ fn idle_after(idle: u32, is_cut: bool) -> u32
 
 // The names of `rest` with each number below `count`. Condition: these are the numbers of its
 // names.
-fn gathered<const W: usize>(
+fn sets_of_numbers<const W: usize>(
     alloc: Global,
     rest: &Set<W>,
     count: u32,
     numbers: &Vec<Option<u32>>,
-) -> Result<Vec<Option<Block<W>>>, Memory>
+) -> Result<Vec<Option<CompactSet<W>>>, Memory>
     requires len { vec_len numbers.now ≡ NAMES }
     requires numbers { IsNumbering rest.now numbers.now.items count }
     ensures len { IfOk result (λ sets. length sets.items ≡ count) }
@@ -109,7 +109,7 @@ fn gathered<const W: usize>(
 }
 
 // No set, `count` times.
-fn none_yet<const W: usize>(alloc: Global, count: u32) -> Result<Vec<Option<Block<W>>>, Memory>
+fn none_yet<const W: usize>(alloc: Global, count: u32) -> Result<Vec<Option<CompactSet<W>>>, Memory>
     ensures { IfOk result (λ sets. sets.items ≡ replicate count None) }
 {
     let mut sets = Vec::with_capacity(alloc, count as usize)?;
@@ -121,7 +121,11 @@ fn none_yet<const W: usize>(alloc: Global, count: u32) -> Result<Vec<Option<Bloc
 
 // Takes `v` in to a set, which is made where there is none yet. Errors: want of memory; the set
 // stays as it was then.
-fn take_in<const W: usize>(alloc: Global, set: &mut Option<Block<W>>, v: u32) -> Result<(), Memory>
+fn take_in<const W: usize>(
+    alloc: Global,
+    set: &mut Option<CompactSet<W>>,
+    v: u32,
+) -> Result<(), Memory>
     requires name { v < 64 * W }
     requires limit { W ≤ WORDS }
     ensures taken { OnOk result (set_or_empty set.new ≡ insert (set_or_empty set.old) v) }
@@ -130,7 +134,7 @@ fn take_in<const W: usize>(alloc: Global, set: &mut Option<Block<W>>, v: u32) ->
     match set {
         Some(set) => set.insert(alloc, v),
         None => {
-            *set = Some(Block::one(v));
+            *set = Some(CompactSet::one(v));
             Ok(())
         }
     }
@@ -139,8 +143,8 @@ fn take_in<const W: usize>(alloc: Global, set: &mut Option<Block<W>>, v: u32) ->
 // The sets, all of which there are.
 fn all_made<const W: usize>(
     alloc: Global,
-    sets: Vec<Option<Block<W>>>,
-) -> Result<Vec<Block<W>>, Memory>
+    sets: Vec<Option<CompactSet<W>>>,
+) -> Result<Vec<CompactSet<W>>, Memory>
     requires { (k : ℕ) → k < length sets.items → HasSome (set_yet_at sets.items k) }
     ensures len { IfOk result (λ made. length made.items ≡ length sets.entry.items) }
     ensures same { IfOk result (λ made. (k : ℕ) →

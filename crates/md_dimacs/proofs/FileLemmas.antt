@@ -14,14 +14,14 @@ use Rattle.md_graph.proofs.PairLaws.{pairs-empty}
 use Rattle.md_graph.proofs.GraphLemmas.{same_graph, IsGraph-with_edge, IsGraph-without_edges, adjacent-with_edge}
 use Rattle.md_text.specs.Lines.{lines}
 use Rattle.md_text.specs.Numbers.{number_of}
-use Rattle.md_text.specs.Spelling.{SpellsOnly, SpellsOne, SpellsNone, fault_or, words, fault_behind as first_fault_behind}
+use Rattle.md_text.specs.Spelling.{SpellsOnly, SpellsOne, SpellsNone, fault_or, words, first_fault_behind}
 use Rattle.md_dimacs.specs.declared.fault.DimacsFault.{DimacsFault}
 use Rattle.md_dimacs.specs.declared.fault.DimacsKind.{DimacsKind}
 use Rattle.md_dimacs.specs.declared.fault.DimacsKind.TheVariants.{VertexOutOfRange, Loop, UnknownLine, TooManyVertices}
 use Rattle.md_dimacs.specs.declared.line.LineClass.{LineClass}
 use Rattle.md_dimacs.specs.declared.line.LineClass.TheVariants.{Passed, Problem, Edge, Unknown}
 use Rattle.md_dimacs.specs.Line.{class_of_field, class_of, is_form, both, sizes_in, ends_in, sizes_by, ends_by, sizes_of, ends_of, sizes_fault, problem_fault, is_vertex, ends_fault, edge_fault, fault_by, fault_of_words, fault_of_line}
-use Rattle.md_dimacs.specs.File.{IsPassed, AreSizes, AreEnds, IsProblemLine, IsPassedOrEdge, are_ends, joins, Spells, seen_after, first_number, fault_behind, first_fault, fault_at}
+use Rattle.md_dimacs.specs.File.{IsPassed, AreSizes, AreEdgeEnds, IsProblemLine, IsPassedOrEdge, are_ends, is_edge_line, Spells, seen_after, first_number, fault_behind, first_fault, fault_at}
 use Rattle.md_graph.specs.NameSet.{range}
 use Rattle.md_graph.proofs.Ranges.{contains-range}
 use Rattle.md_dimacs.specs.Read.{IsBeforeProblem, IsBehindProblem, HasVertices, edgeless, with_ends, with_line, with_lines}
@@ -29,7 +29,7 @@ use Rattle.md_dimacs.specs.Read.{IsBeforeProblem, IsBehindProblem, HasVertices, 
 -- ---- one line behind the problem line
 
 ends_by_tests : (n u v : ℕ) (inside same : Bool) → (is_vertex n u && is_vertex n v) ≡ inside → (u == v) ≡ same
-    → cond (not inside) (Some VertexOutOfRange) (cond same (Some Loop) None) ≡ None → AreEnds n (Some (u, v))
+    → cond (not inside) (Some VertexOutOfRange) (cond same (Some Loop) None) ≡ None → AreEdgeEnds n (Some (u, v))
 ends_by_tests n u v false same i s h = absurd (cc)
 ends_by_tests n u v true true i s h = absurd (cc)
 ends_by_tests n u v true false i s h =
@@ -43,26 +43,26 @@ ends_by_tests n u v true false i s h =
       differ = eqb-false u v s;
     }
 
-ends_without_fault : (n : ℕ) (first second : Option ℕ) → ends_fault n first second ≡ None → AreEnds n (both first second)
+ends_without_fault : (n : ℕ) (first second : Option ℕ) → ends_fault n first second ≡ None → AreEdgeEnds n (both first second)
 ends_without_fault n None second h = absurd (cc)
 ends_without_fault n (Some u) None h = absurd (cc)
 ends_without_fault n (Some u) (Some v) h = ends_by_tests n u v _ _ refl refl h
 
-edge_without_fault : (n : ℕ) (rest : List (List ℕ)) → edge_fault (Some n) rest ≡ None → AreEnds n (ends_in rest)
+edge_without_fault : (n : ℕ) (rest : List (List ℕ)) → edge_fault (Some n) rest ≡ None → AreEdgeEnds n (ends_in rest)
 unfolding edge_fault ends_in
 edge_without_fault n [] h = absurd (cc)
 edge_without_fault n (a ∷ []) h = absurd (cc)
 edge_without_fault n (a ∷ b ∷ []) h = ends_without_fault n (number_of a) (number_of b) h
 edge_without_fault n (a ∷ b ∷ c ∷ more) h = absurd (cc)
 
-behind_by_class : (k : LineClass) (n : ℕ) (rest : List (List ℕ)) → fault_by k (Some n) rest ≡ None → (k ≡ Passed) ⊎ AreEnds n (ends_by k rest)
+behind_by_class : (k : LineClass) (n : ℕ) (rest : List (List ℕ)) → fault_by k (Some n) rest ≡ None → (k ≡ Passed) ⊎ AreEdgeEnds n (ends_by k rest)
 unfolding problem_fault
 behind_by_class Passed n rest h = inl refl
 behind_by_class Problem n rest h = absurd (cc)
 behind_by_class Edge n rest h = inr (edge_without_fault n rest h)
 behind_by_class Unknown n rest h = absurd (cc)
 
-words_behind : (n : ℕ) (ws : List (List ℕ)) → fault_of_words (Some n) ws ≡ None → (class_of ws ≡ Passed) ⊎ AreEnds n (ends_of ws)
+words_behind : (n : ℕ) (ws : List (List ℕ)) → fault_of_words (Some n) ws ≡ None → (class_of ws ≡ Passed) ⊎ AreEdgeEnds n (ends_of ws)
 words_behind n [] h = inl refl
 words_behind n (first ∷ rest) h = behind_by_class (class_of_field first) n rest h
 
@@ -70,7 +70,7 @@ words_behind n (first ∷ rest) h = behind_by_class (class_of_field first) n res
 line_behind : (n : ℕ) (line : List ℕ) → fault_of_line (Some n) line ≡ None → IsPassedOrEdge n line
 line_behind n line h = words_behind n (words line) h
 
-ends_have_no_fault : (n : ℕ) (first second : Option ℕ) → AreEnds n (both first second) → ends_fault n first second ≡ None
+ends_have_no_fault : (n : ℕ) (first second : Option ℕ) → AreEdgeEnds n (both first second) → ends_fault n first second ≡ None
 ends_have_no_fault n None second e = let h = e.numbers in absurd (cc)
 ends_have_no_fault n (Some u) None e = let h = e.numbers in absurd (cc)
 ends_have_no_fault n (Some u) (Some v) e = ends_pass n u v e.first e.second e.numbers e.first_vertex e.second_vertex e.differ where
@@ -84,7 +84,7 @@ ends_have_no_fault n (Some u) (Some v) e = ends_pass n u v e.first e.second e.nu
       let inside_v : is_vertex n v ≡ true = rw second vb in
       rw (inside_u, inside_v, other) refl
 
-edge_has_no_fault : (n : ℕ) (rest : List (List ℕ)) → AreEnds n (ends_in rest) → edge_fault (Some n) rest ≡ None
+edge_has_no_fault : (n : ℕ) (rest : List (List ℕ)) → AreEdgeEnds n (ends_in rest) → edge_fault (Some n) rest ≡ None
 unfolding edge_fault ends_in
 edge_has_no_fault n [] e = let h = e.numbers in absurd (cc)
 edge_has_no_fault n (a ∷ []) e = let h = e.numbers in absurd (cc)
@@ -95,13 +95,13 @@ passed_has_no_fault : (seen : Option ℕ) (ws : List (List ℕ)) → class_of ws
 passed_has_no_fault seen [] h = refl
 passed_has_no_fault seen (first ∷ rest) h = ap (λ k. fault_by k seen rest) h
 
-ends_by_class : (n : ℕ) (k : LineClass) (rest : List (List ℕ)) → AreEnds n (ends_by k rest) → fault_by k (Some n) rest ≡ None
+ends_by_class : (n : ℕ) (k : LineClass) (rest : List (List ℕ)) → AreEdgeEnds n (ends_by k rest) → fault_by k (Some n) rest ≡ None
 ends_by_class n Passed rest e = let h = e.numbers in absurd (cc)
 ends_by_class n Problem rest e = let h = e.numbers in absurd (cc)
 ends_by_class n Edge rest e = edge_has_no_fault n rest e
 ends_by_class n Unknown rest e = let h = e.numbers in absurd (cc)
 
-edge_words : (n : ℕ) (ws : List (List ℕ)) → AreEnds n (ends_of ws) → fault_of_words (Some n) ws ≡ None
+edge_words : (n : ℕ) (ws : List (List ℕ)) → AreEdgeEnds n (ends_of ws) → fault_of_words (Some n) ws ≡ None
 edge_words n [] e = let h = e.numbers in absurd (cc)
 edge_words n (first ∷ rest) e = ends_by_class n (class_of_field first) rest e
 
@@ -268,13 +268,13 @@ adjacent-with_ends g (Some p) u v = adjacent-with_edge g p.0 p.1 u v
 or_turned : (a b c : Bool) → (b || (a || c)) ≡ ((a || b) || c)
 or_turned a b c = grind arith
 
-adjacent-with_lines : (g : PlainGraph) (more : List (List ℕ)) (u v : ℕ) → adjacent (with_lines g more) u v ≡ (list_any (joins u v) more || adjacent g u v)
+adjacent-with_lines : (g : PlainGraph) (more : List (List ℕ)) (u v : ℕ) → adjacent (with_lines g more) u v ≡ (list_any (is_edge_line u v) more || adjacent g u v)
 unfolding with_lines
 adjacent-with_lines g [] u v = refl
 adjacent-with_lines g (line ∷ more) u v =
     adjacent-with_lines (with_line g line) more u v
-    ∙ ap (λ b. list_any (joins u v) more || b) (adjacent-with_ends g (ends_of (words line)) u v)
-    ∙ or_turned (joins u v line) (list_any (joins u v) more) (adjacent g u v)
+    ∙ ap (λ b. list_any (is_edge_line u v) more || b) (adjacent-with_ends g (ends_of (words line)) u v)
+    ∙ or_turned (is_edge_line u v line) (list_any (is_edge_line u v) more) (adjacent g u v)
 
 pub vertices-with_ends : (g : PlainGraph) (ends : Option (ℕ × ℕ)) → (with_ends g ends).vertices ≡ g.vertices
 vertices-with_ends g None = refl
@@ -285,7 +285,7 @@ unfolding with_lines
 vertices-with_lines g [] = refl
 vertices-with_lines g (line ∷ more) = vertices-with_lines (with_line g line) more ∙ vertices-with_ends g (ends_of (words line))
 
-IsGraph-with_ends : {g : PlainGraph} (n : ℕ) (ends : Option (ℕ × ℕ)) → IsGraph g → HasVertices n g → AreEnds n ends → IsGraph (with_ends g ends)
+IsGraph-with_ends : {g : PlainGraph} (n : ℕ) (ends : Option (ℕ × ℕ)) → IsGraph g → HasVertices n g → AreEdgeEnds n ends → IsGraph (with_ends g ends)
 IsGraph-with_ends n None is has e = is
 IsGraph-with_ends {g} n (Some p) is has e = by_ends e.first e.second e.numbers (has e.first ∙ e.first_vertex) (has e.second ∙ e.second_vertex) e.differ where
   by_ends : (u v : ℕ) → ◌≡◌ {A = Option (ℕ × ℕ)} (Some p) (Some (u, v)) → Has g.vertices u → Has g.vertices v → u ≢ v → IsGraph (with_ends g (Some p))
@@ -326,7 +326,7 @@ adjacent-edgeless n u v = pairs-empty _ _
 pub vertices_read : (n : ℕ) (behind : List (List ℕ)) (v : ℕ) → set.contains (with_lines (edgeless n) behind).vertices v ≡ is_vertex n v
 vertices_read n behind v = ap (λ s. set.contains s v) (vertices-with_lines (edgeless n) behind) ∙ contains-vertices n v
 
-pub edges_read : (n : ℕ) (behind : List (List ℕ)) (u v : ℕ) → adjacent (with_lines (edgeless n) behind) u v ≡ list_any (joins u v) behind
+pub edges_read : (n : ℕ) (behind : List (List ℕ)) (u v : ℕ) → adjacent (with_lines (edgeless n) behind) u v ≡ list_any (is_edge_line u v) behind
 edges_read n behind u v = or_nothing _ _ _ (adjacent-edgeless n u v) (adjacent-with_lines (edgeless n) behind u v)
 
 -- ---- a file without fault
@@ -424,7 +424,7 @@ one_graph bytes g h s t =
     (ap (λ line. sizes_of (words line)) split.0 ∙ t.problem_line.numbers) in
     same_graph s.graph t.graph
     (same_set g.vertices h.vertices (λ v. s.vertices v ∙ ap (λ n. is_vertex n v) same_n ∙ sym (t.vertices v)))
-    (λ u v. s.edges u v ∙ ap (list_any (joins u v)) split.1 ∙ sym (t.edges u v))
+    (λ u v. s.edges u v ∙ ap (list_any (is_edge_line u v)) split.1 ∙ sym (t.edges u v))
 
 pub spelled_only : (bytes : List ℕ) (g : PlainGraph) → Spells bytes g → SpellsOnly Spells bytes g
 spelled_only bytes g s = record { spells = s; only = λ other t. one_graph bytes other g t s }

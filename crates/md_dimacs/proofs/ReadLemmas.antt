@@ -8,7 +8,7 @@ use Rattle.md_graph.specs.PlainGraph.{PlainGraph, empty_graph}
 use Rattle.md_text.specs.Lines.{lines, without_return}
 use Rattle.md_text.specs.Fields.{fields}
 use Rattle.md_text.proofs.LineLemmas.{no_lines}
-use Rattle.md_text.specs.Spelling.{words, fault_behind as first_fault_behind}
+use Rattle.md_text.specs.Spelling.{words, first_fault_behind}
 use Rattle.md_dimacs.specs.declared.fault.DimacsFault.{DimacsFault}
 use Rattle.md_dimacs.specs.declared.fault.DimacsKind.{DimacsKind}
 use Rattle.md_dimacs.specs.declared.fault.DimacsKind.TheVariants.{NoProblemLine}

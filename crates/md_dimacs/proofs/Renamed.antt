@@ -14,7 +14,7 @@ use Rattle.md_graph.specs.PlainGraph.{PlainGraph, IsGraph, adjacent, neighbours}
 use Rattle.md_graph.proofs.GraphLemmas.{adjacent_sym, adjacent_ends, contains-neighbours}
 use Rattle.md_graph.proofs.NameLemmas.{IsItem, ascending_items, ascending_appears}
 use Rattle.md_text.proofs.ListLemmas.{any_map, any_flat_map, any_alike}
-use Rattle.md_dimacs.specs.File.{are_ends, joins}
+use Rattle.md_dimacs.specs.File.{are_ends, is_edge_line}
 use Rattle.md_dimacs.specs.Text.{position, edges_above, edge_places, edge_line, dimacs_text, IsRenamed}
 use Rattle.md_dimacs.specs.Laws.{SpellsRenamed}
 use Rattle.md_dimacs.proofs.FileLemmas.{vertices_read, edges_read, spelled_only, spelled_has_no_fault}
@@ -45,11 +45,11 @@ any_to p s low n w from below m passes =
 abbrev at_places : ℕ → ℕ → ℕ × ℕ → Bool
 at_places a b p = are_ends a b (Some p)
 
-lines_join : (g : PlainGraph) → IsGraph g → set.len g.vertices < NAMES → (a b : ℕ) → list_any (joins a b) (map edge_line (edge_places g)) ≡ list_any (at_places a b) (edge_places g)
+lines_join : (g : PlainGraph) → IsGraph g → set.len g.vertices < NAMES → (a b : ℕ) → list_any (is_edge_line a b) (map edge_line (edge_places g)) ≡ list_any (at_places a b) (edge_places g)
 lines_join g is small a b =
-    any_map (joins a b) edge_line (edge_places g)
-    ∙ any_alike (λ p. joins a b (edge_line p)) (at_places a b) (edge_places g)
-    (All-weaker (ArePlaces (set.len g.vertices)) (λ p. joins a b (edge_line p) ≡ at_places a b p) (λ p places. ap (are_ends a b) (ends-edge_line (set.len g.vertices) p small places)) (edge_places g) (all_places g is))
+    any_map (is_edge_line a b) edge_line (edge_places g)
+    ∙ any_alike (λ p. is_edge_line a b (edge_line p)) (at_places a b) (edge_places g)
+    (All-weaker (ArePlaces (set.len g.vertices)) (λ p. is_edge_line a b (edge_line p) ≡ at_places a b p) (λ p places. ap (are_ends a b) (ends-edge_line (set.len g.vertices) p small places)) (edge_places g) (all_places g is))
 
 -- the test of one row
 abbrev in_row : PlainGraph → ℕ → ℕ → ℕ → Bool

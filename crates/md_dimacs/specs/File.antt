@@ -6,7 +6,7 @@ use Rattle.std.specs.FinSet as set
 use Rattle.md_graph.specs.declared.TheConstants.{NAMES}
 use Rattle.md_graph.specs.PlainGraph.{PlainGraph, IsGraph, adjacent}
 use Rattle.md_text.specs.Lines.{lines}
-use Rattle.md_text.specs.Spelling.{words, fault_behind as first_fault_behind}
+use Rattle.md_text.specs.Spelling.{words, first_fault_behind}
 use Rattle.md_dimacs.specs.declared.fault.DimacsFault.{DimacsFault}
 use Rattle.md_dimacs.specs.declared.fault.DimacsKind.{DimacsKind}
 use Rattle.md_dimacs.specs.declared.fault.DimacsKind.TheVariants.{NoProblemLine}
@@ -24,7 +24,7 @@ pub record AreSizes (n : ℕ) (sizes : Option (ℕ × ℕ)) : Type 0 where
   pub named : n < NAMES
 
 -- two different ones of the vertices 1 to n
-pub record AreEnds (n : ℕ) (ends : Option (ℕ × ℕ)) : Type 0 where
+pub record AreEdgeEnds (n : ℕ) (ends : Option (ℕ × ℕ)) : Type 0 where
   pub first : ℕ
   pub second : ℕ
   pub numbers : ends ≡ Some (first, second)
@@ -38,7 +38,7 @@ IsProblemLine n line = AreSizes n (sizes_of (words line))
 
 -- an edge line between two of the vertices 1 to n
 abbrev pub IsEdgeLine : ℕ → List ℕ → Type 0
-IsEdgeLine n line = AreEnds n (ends_of (words line))
+IsEdgeLine n line = AreEdgeEnds n (ends_of (words line))
 
 -- a line that may stand behind the problem line
 abbrev pub IsPassedOrEdge : ℕ → List ℕ → Type 0
@@ -50,11 +50,11 @@ are_ends u v None = false
 are_ends u v (Some p) = (u == p.0 && v == p.1) || (u == p.1 && v == p.0)
 
 -- whether the line is an edge line between u and v
-abbrev pub joins : ℕ → ℕ → List ℕ → Bool
-joins u v line = are_ends u v (ends_of (words line))
+abbrev pub is_edge_line : ℕ → ℕ → List ℕ → Bool
+is_edge_line u v line = are_ends u v (ends_of (words line))
 
 -- The bytes of a file spell a graph: one problem line; before it only lines that are read past; behind it
--- those and edge lines. The vertices are 1 to n, and two are adjacent exactly where some line joins them.
+-- those and edge lines. The vertices are 1 to n, and two are adjacent exactly where some line is_edge_line them.
 pub record Spells (bytes : List ℕ) (g : PlainGraph) : Type 0 where
   pub n : ℕ
   pub before : List (List ℕ)
@@ -65,7 +65,7 @@ pub record Spells (bytes : List ℕ) (g : PlainGraph) : Type 0 where
   pub problem_line : IsProblemLine n problem
   pub edge_lines : All (IsPassedOrEdge n) behind
   pub vertices : (v : ℕ) → set.contains g.vertices v ≡ is_vertex n v
-  pub edges : (u v : ℕ) → adjacent g u v ≡ list_any (joins u v) behind
+  pub edges : (u v : ℕ) → adjacent g u v ≡ list_any (is_edge_line u v) behind
   pub graph : IsGraph g
 
 -- the number of vertices of the first of the two numbers, if there are any

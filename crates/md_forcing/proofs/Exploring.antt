@@ -10,9 +10,9 @@ use Rattle.md_graph.proofs.SetLemmas.{clash}
 use Rattle.md_forcing.specs.declared.arc.Arc.{Arc}
 use Rattle.md_forcing.specs.Lists.{Holds, NoRepeats}
 use Rattle.md_forcing.specs.Forcing.{IsArc, ForcesDirectly, Reaches}
-use Rattle.md_forcing.specs.Seen.{IsSeen, IsClosed}
+use Rattle.md_forcing.specs.ArcSet.{HasArc, IsForcingClosed}
 use Rattle.md_forcing.specs.Classes.{IsForcedAt, IsClass}
-use Rattle.md_forcing.specs.Turns.{IsTurn, placed_at}
+use Rattle.md_forcing.specs.Turns.{TakesForced, placed_at}
 use Rattle.md_forcing.proofs.ListLemmas.{holds_left, holds_right, of_append, once_append, of_map, get_left, get_of_append, place_within, keys-append, key_at, place_of_key, same_some}
 use Rattle.md_forcing.proofs.NameLists.{few_arcs, length-keys}
 use Rattle.md_forcing.proofs.Reaching.{Symmetric, forces_back, reaches_itself, reaches_step, reached_arc, over_reached}
@@ -20,11 +20,11 @@ use Rattle.md_forcing.proofs.Reaching.{Symmetric, forces_back, reaches_itself, r
 pub record Exploring (e : ℕ → ℕ → Bool) (first : Arc) (start rows : List NameSet) (es : List (Arc × ℕ)) (i : ℕ) : Type 0 where
   pub begins : slice_get es 0 ≡ Some (first, 0)
   pub once : NoRepeats (keys_of es)
-  pub seen : (a : Arc) → IsSeen rows a ↔ (IsSeen start a ⊎ Holds (keys_of es) a)
-  pub fresh : (a : Arc) → Holds (keys_of es) a → IsSeen start a → ⊥
+  pub seen : (a : Arc) → HasArc rows a ↔ (HasArc start a ⊎ Holds (keys_of es) a)
+  pub fresh : (a : Arc) → Holds (keys_of es) a → HasArc start a → ⊥
   pub reached : (a : Arc) → Holds (keys_of es) a → Reaches e first a
   pub forced : (j p : ℕ) (a : Arc) → 0 < j → slice_get es j ≡ Some (a, p) → IsForcedAt e es j p a
-  pub done : (j p : ℕ) (a b : Arc) → j < i → slice_get es j ≡ Some (a, p) → IsArc e b → ForcesDirectly e a b → IsSeen rows b
+  pub done : (j p : ℕ) (a b : Arc) → j < i → slice_get es j ≡ Some (a, p) → IsArc e b → ForcesDirectly e a b → HasArc rows b
 
 same_entry : (x y : Arc × ℕ) → Some x ≡ Some y → x ≡ y
 same_entry x y e = same_some x y e
@@ -38,7 +38,7 @@ module _ (e : ℕ → ℕ → Bool) (first : Arc) (start : List NameSet) where
   one_entry zero p a h s = absurd (omega arith)
   one_entry (suc j) p a h s = cc
 
-  pub exploring_start : IsArc e first → (IsSeen start first → ⊥) → (rows : List NameSet) (es : List (Arc × ℕ)) → ((a : Arc) → IsSeen rows a ↔ (IsSeen start a ⊎ (a ≡ first))) → es ≡ (first, 0) ∷ [] → Exploring e first start rows es 0
+  pub exploring_start : IsArc e first → (HasArc start first → ⊥) → (rows : List NameSet) (es : List (Arc × ℕ)) → ((a : Arc) → HasArc rows a ↔ (HasArc start a ⊎ (a ≡ first))) → es ≡ (first, 0) ∷ [] → Exploring e first start rows es 0
   exploring_start is fresh rows es taken made =
       let P : List (Arc × ℕ) → Type 0 = λ xs. Exploring e first start rows xs 0 in
       subst P (sym made) (record {
@@ -51,13 +51,13 @@ module _ (e : ℕ → ℕ → Bool) (first : Arc) (start : List NameSet) where
             | inr k ↦ elim k [ inl f ↦ (taken a).1 (inr f) | inr none ↦ absurd none ]
           ],
         );
-        fresh = λ a h s. elim h [ inl f ↦ fresh (subst (IsSeen start) f s) | inr none ↦ none ];
+        fresh = λ a h s. elim h [ inl f ↦ fresh (subst (HasArc start) f s) | inr none ↦ none ];
         reached = λ a h. elim h [ inl f ↦ subst (Reaches e first) (sym f) (reaches_itself e first is) | inr none ↦ absurd none ];
         forced = λ j p a above s. absurd (one_entry j p a above s);
         done = λ j p a b below _ _ _. absurd (omega arith);
       })
 
-  module _ (rows new_rows : List NameSet) (es new : List (Arc × ℕ)) (i : ℕ) (before : Exploring e first start rows es i) (turn : IsTurn e i rows es new_rows new) where
+  module _ (rows new_rows : List NameSet) (es new : List (Arc × ℕ)) (i : ℕ) (before : Exploring e first start rows es i) (turn : TakesForced e i rows es new_rows new) where
     new_keys : keys_of new ≡ keys_of es ++ turn.more
     new_keys = ap keys_of turn.longer ∙ keys-append es _ ∙ ap (λ l. keys_of es ++ l) (placed_keys i turn.more)
 
@@ -74,7 +74,7 @@ module _ (e : ℕ → ℕ → Bool) (first : Arc) (start : List NameSet) where
     more_once = subst NoRepeats (sym new_keys)
         (once_append (keys_of es) turn.more before.once turn.once (λ a l r. ((turn.exactly a).0 r).2 ((before.seen a).1 (inr l))))
 
-    more_seen : (a : Arc) → IsSeen new_rows a ↔ (IsSeen start a ⊎ Holds (keys_of new) a)
+    more_seen : (a : Arc) → HasArc new_rows a ↔ (HasArc start a ⊎ Holds (keys_of new) a)
     more_seen a = (
       λ h. elim ((turn.taken a).0 h) [
         | inl old ↦ elim ((before.seen a).0 old) [ inl s ↦ inl s | inr k ↦ inr (in_old a k) ]
@@ -89,7 +89,7 @@ module _ (e : ℕ → ℕ → Bool) (first : Arc) (start : List NameSet) where
       ],
     )
 
-    more_fresh : (a : Arc) → Holds (keys_of new) a → IsSeen start a → ⊥
+    more_fresh : (a : Arc) → Holds (keys_of new) a → HasArc start a → ⊥
     more_fresh a h s =
         elim (of_new a h) [
           | inl old ↦ before.fresh a old s
@@ -133,14 +133,14 @@ module _ (e : ℕ → ℕ → Bool) (first : Arc) (start : List NameSet) where
               }
         ]
 
-    handed : (b : Arc) → IsArc e b → ForcesDirectly e turn.by b → IsSeen new_rows b
+    handed : (b : Arc) → IsArc e b → ForcesDirectly e turn.by b → HasArc new_rows b
     handed b is f =
         elim (cases_Bool (set.contains (row_of rows b.tail) b.head)) [
           | inl t ↦ (turn.taken b).1 (inl t)
           | inr none ↦ (turn.taken b).1 (inr ((turn.exactly b).1 (is, f, λ t. clash t none)))
         ]
 
-    more_done : (j p : ℕ) (a b : Arc) → j < i + 1 → slice_get new j ≡ Some (a, p) → IsArc e b → ForcesDirectly e a b → IsSeen new_rows b
+    more_done : (j p : ℕ) (a b : Arc) → j < i + 1 → slice_get new j ≡ Some (a, p) → IsArc e b → ForcesDirectly e a b → HasArc new_rows b
     more_done j p a b below s is f =
         let within = place_within es i _ turn.stands in
         elim (at_new j p a s) [
@@ -165,11 +165,11 @@ module _ (e : ℕ → ℕ → Bool) (first : Arc) (start : List NameSet) where
       done = more_done;
     }
 
-  module _ (symmetric : Symmetric e) (closed : IsClosed e start) (rows : List NameSet) (es : List (Arc × ℕ)) (i : ℕ) (before : Exploring e first start rows es i) where
+  module _ (symmetric : Symmetric e) (closed : IsForcingClosed e start) (rows : List NameSet) (es : List (Arc × ℕ)) (i : ℕ) (before : Exploring e first start rows es i) where
     key_arc : (a : Arc) → Holds (keys_of es) a → IsArc e a
     key_arc a h = reached_arc e first a (before.reached a h)
 
-    pub key_seen : (a : Arc) → Holds (keys_of es) a → IsSeen rows a
+    pub key_seen : (a : Arc) → Holds (keys_of es) a → HasArc rows a
     key_seen a h = (before.seen a).1 (inr h)
 
     pub few_entries : ((u v : ℕ) → e u v ≡ true → (u < NAMES) × (v < NAMES)) → length es ≤ NAMES * NAMES
@@ -178,7 +178,7 @@ module _ (e : ℕ → ℕ → Bool) (first : Arc) (start : List NameSet) where
         subst (λ n. n ≤ NAMES * NAMES) (length-keys es) few
 
     module _ (all : length es ≤ i) where
-      handed_on : (a b : Arc) → Holds (keys_of es) a → IsArc e b → ForcesDirectly e a b → IsSeen rows b
+      handed_on : (a b : Arc) → Holds (keys_of es) a → IsArc e b → ForcesDirectly e a b → HasArc rows b
       handed_on a b h is f =
           let place = place_of_key es a h in
           let within = place_within es place.0 _ place.2 in
@@ -202,7 +202,7 @@ module _ (e : ℕ → ℕ → Bool) (first : Arc) (start : List NameSet) where
         forced = before.forced;
       }
 
-      pub exploring_closed : IsClosed e rows
+      pub exploring_closed : IsForcingClosed e rows
       exploring_closed a b s is f =
           elim ((before.seen a).0 s) [
             | inl old ↦ (before.seen b).1 (inl (closed a b old is f))

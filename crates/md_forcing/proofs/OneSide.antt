@@ -10,11 +10,11 @@ use Rattle.md_graph.proofs.SetLaws.{contains-difference, contains-union}
 use Rattle.md_graph.proofs.GraphLemmas.{adjacent_ends, adjacent_sym, contains-neighbours, IsGraph-complement, adjacent-complement}
 use Rattle.md_graph.proofs.SetLemmas.{clash}
 use Rattle.md_forcing.specs.declared.arc.Arc.{Arc}
-use Rattle.md_forcing.specs.declared.seen.Side.{Side}
-use Rattle.md_forcing.specs.declared.seen.Side.TheVariants.{Edges, NonEdges}
+use Rattle.md_forcing.specs.declared.arc_set.Side.{Side}
+use Rattle.md_forcing.specs.declared.arc_set.Side.TheVariants.{Edges, NonEdges}
 use Rattle.md_forcing.specs.Forcing.{arc, IsArc, ForceAtTail, ForceAtHead}
 use Rattle.md_forcing.specs.Sides.{adjacent_on}
-use Rattle.md_forcing.specs.Seen.{IsSeen}
+use Rattle.md_forcing.specs.ArcSet.{HasArc}
 
 pub side_ends : {g : PlainGraph} → IsGraph g → (side : Side) (u v : ℕ) → adjacent_on side g u v ≡ true → Has g.vertices u × Has g.vertices v × (u ≢ v)
 side_ends is Edges u v h = adjacent_ends is u v h
@@ -111,7 +111,7 @@ module _ {g : PlainGraph} (is : IsGraph g) (side : Side) (here there : ℕ) (kno
 
 -- ---- the arcs that are forced and not seen
 
-pub unseen_at_tail : (e : ℕ → ℕ → Bool) (rows : List NameSet) (by : Arc) (known : NameSet) → known ≡ row_of rows by.tail → IsSeen rows by → (into : NameSet) → ((w : ℕ) → Has into w ↔ SeesAlone e known by.tail by.head w) → (w : ℕ) → Has into w ↔ (IsArc e (arc by.tail w) × ForceAtTail e by (arc by.tail w) × (IsSeen rows (arc by.tail w) → ⊥))
+pub unseen_at_tail : (e : ℕ → ℕ → Bool) (rows : List NameSet) (by : Arc) (known : NameSet) → known ≡ row_of rows by.tail → HasArc rows by → (into : NameSet) → ((w : ℕ) → Has into w ↔ SeesAlone e known by.tail by.head w) → (w : ℕ) → Has into w ↔ (IsArc e (arc by.tail w) × ForceAtTail e by (arc by.tail w) × (HasArc rows (arc by.tail w) → ⊥))
 unseen_at_tail e rows by known is seen into alone w = (
   λ h.
       let p = (alone w).0 h in
@@ -120,7 +120,7 @@ unseen_at_tail e rows by known is seen into alone w = (
   λ q. (alone w).1 (q.0, q.1.2, ap (λ s. set.contains s w) is ∙ false_from_ne_true _ q.2),
 )
 
-pub unseen_at_head : (e : ℕ → ℕ → Bool) → ((u v : ℕ) → e u v ≡ e v u) → (rows : List NameSet) (by : Arc) (known : NameSet) → ((u : ℕ) → set.contains known u ≡ set.contains (row_of rows u) by.head) → IsSeen rows by → (into : NameSet) → ((w : ℕ) → Has into w ↔ SeesAlone e known by.head by.tail w) → (w : ℕ) → Has into w ↔ (IsArc e (arc w by.head) × ForceAtHead e by (arc w by.head) × (IsSeen rows (arc w by.head) → ⊥))
+pub unseen_at_head : (e : ℕ → ℕ → Bool) → ((u v : ℕ) → e u v ≡ e v u) → (rows : List NameSet) (by : Arc) (known : NameSet) → ((u : ℕ) → set.contains known u ≡ set.contains (row_of rows u) by.head) → HasArc rows by → (into : NameSet) → ((w : ℕ) → Has into w ↔ SeesAlone e known by.head by.tail w) → (w : ℕ) → Has into w ↔ (IsArc e (arc w by.head) × ForceAtHead e by (arc w by.head) × (HasArc rows (arc w by.head) → ⊥))
 unseen_at_head e symmetric rows by known is seen into alone w = (
   λ h.
       let p = (alone w).0 h in

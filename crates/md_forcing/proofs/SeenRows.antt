@@ -14,7 +14,7 @@ use Rattle.md_graph.proofs.PairLaws.{is_pair}
 use Rattle.md_graph.proofs.SetLemmas.{clash}
 use Rattle.md_forcing.specs.declared.arc.Arc.{Arc}
 use Rattle.md_forcing.specs.Forcing.{arc}
-use Rattle.md_forcing.specs.Seen.{IsSeen, AreTurned}
+use Rattle.md_forcing.specs.ArcSet.{HasArc, AreTransposed}
 
 -- the new rows have the arcs of the old ones, and those for which the test is true
 abbrev pub Adds : List NameSet → (ℕ → ℕ → Bool) → List NameSet → Type 0
@@ -40,21 +40,21 @@ each_row rows ws names v each u w =
       | inr f ↦ rw f (sym (or-false (set.contains (row_of rows u) w)))
     ]
 
-turned_added : (t : ℕ → ℕ → Bool) (a b a_new b_new : List NameSet) → AreTurned a b → length a_new ≡ length a → length b_new ≡ length b → Adds a t a_new → Adds b (λ v u. t u v) b_new → AreTurned a_new b_new
+turned_added : (t : ℕ → ℕ → Bool) (a b a_new b_new : List NameSet) → AreTransposed a b → length a_new ≡ length a → length b_new ≡ length b → Adds a t a_new → Adds b (λ v u. t u v) b_new → AreTransposed a_new b_new
 turned_added t a b a_new b_new is a_len b_len more more_turned = record {
   few = (let few = is.few in omega arith);
   same = b_len ∙ is.same ∙ sym a_len;
   both = λ u v. more_turned v u ∙ ap (λ x. x || t u v) (is.both u v) ∙ sym (more u v);
 }
 
-seen_added : (t : ℕ → ℕ → Bool) (P : Arc → Type 0) → ((x : Arc) → (t x.tail x.head ≡ true) ↔ P x) → (a now new : List NameSet) → a ≡ now → Adds a t new → (x : Arc) → IsSeen new x ↔ (IsSeen now x ⊎ P x)
+seen_added : (t : ℕ → ℕ → Bool) (P : Arc → Type 0) → ((x : Arc) → (t x.tail x.head ≡ true) ↔ P x) → (a now new : List NameSet) → a ≡ now → Adds a t new → (x : Arc) → HasArc new x ↔ (HasArc now x ⊎ P x)
 seen_added t P same a now new is more x = (
   λ h. elim (or_cases _ _ (sym (more x.tail x.head) ∙ h)) [
-    | inl old ↦ inl (subst (λ r. IsSeen r x) is old)
+    | inl old ↦ inl (subst (λ r. HasArc r x) is old)
     | inr added ↦ inr ((same x).0 added)
   ],
   λ h. more x.tail x.head ∙ elim h [
-    | inl old ↦ or_left _ _ (subst (λ r. IsSeen r x) (sym is) old)
+    | inl old ↦ or_left _ _ (subst (λ r. HasArc r x) (sym is) old)
     | inr added ↦ or_right _ _ ((same x).1 added)
   ],
 )
@@ -75,13 +75,13 @@ put_same u v x = (
   λ e. rw (eq-eqb x.tail u (ap (λ a. a.tail) e), eq-eqb x.head v (ap (λ a. a.head) e)) refl,
 )
 
-pub put_turned : (a b now : List NameSet) (u v : ℕ) → AreTurned a b → a ≡ now → u < length now → v < length now → (new_u old_u new_v old_v : NameSet) → new_u ≡ set.insert old_u v → old_u ≡ get_or a u old_u → new_v ≡ set.insert old_v u → old_v ≡ get_or b v old_v → AreTurned (set a u new_u) (set b v new_v)
+pub put_turned : (a b now : List NameSet) (u v : ℕ) → AreTransposed a b → a ≡ now → u < length now → v < length now → (new_u old_u new_v old_v : NameSet) → new_u ≡ set.insert old_u v → old_u ≡ get_or a u old_u → new_v ≡ set.insert old_v u → old_v ≡ get_or b v old_v → AreTransposed (set a u new_u) (set b v new_v)
 put_turned a b now u v is same room_u room_v new_u old_u new_v old_v is_u read_u is_v read_v =
     let len = ap length same in
     let len_b = is.same in
     turned_added (is_pair u v) a b _ _ is (length-set a u new_u) (length-set b v new_v) (put_tail a u v new_u old_u (omega arith) is_u read_u) (put_head b u v new_v old_v (omega arith) is_v read_v)
 
-pub put_taken : (a now : List NameSet) (by : Arc) → a ≡ now → by.tail < length now → (new old : NameSet) → new ≡ set.insert old by.head → old ≡ get_or a by.tail old → (x : Arc) → IsSeen (set a by.tail new) x ↔ (IsSeen now x ⊎ (x ≡ by))
+pub put_taken : (a now : List NameSet) (by : Arc) → a ≡ now → by.tail < length now → (new old : NameSet) → new ≡ set.insert old by.head → old ≡ get_or a by.tail old → (x : Arc) → HasArc (set a by.tail new) x ↔ (HasArc now x ⊎ (x ≡ by))
 put_taken a now by same room new old is read =
     let len = ap length same in
     seen_added (is_pair by.tail by.head) (λ x. x ≡ by) (put_same by.tail by.head) a now _ same (put_tail a by.tail by.head new old (omega arith) is read)
@@ -109,41 +109,41 @@ row_same k names u v = (
   λ p. rw (eq-eqb u k p.0, p.1) refl,
 )
 
-module _ (a b now : List NameSet) (k : ℕ) (names : NameSet) (is : AreTurned a b) (same : a ≡ now) (room : k < length now) (new old : NameSet) (made : new ≡ set.union old names) where
+module _ (a b now : List NameSet) (k : ℕ) (names : NameSet) (is : AreTransposed a b) (same : a ≡ now) (room : k < length now) (new old : NameSet) (made : new ≡ set.union old names) where
   module _ (read : old ≡ get_or a k old) where
-    pub heads_turned : (n : ℕ) (before ws : List NameSet) → n ≡ length b → before ≡ b → length ws ≡ length before → ((u : ℕ) → row_of ws u ≡ cond (set.contains names u) (set.insert (row_of before u) k) (row_of before u)) → AreTurned (set a k new) (refill n b ws)
+    pub heads_turned : (n : ℕ) (before ws : List NameSet) → n ≡ length b → before ≡ b → length ws ≡ length before → ((u : ℕ) → row_of ws u ≡ cond (set.contains names u) (set.insert (row_of before u) k) (row_of before u)) → AreTransposed (set a k new) (refill n b ws)
     heads_turned n before ws len same_b kept each =
         let len_a = ap length same in
         let other = turned_row n b before ws names k len same_b kept each in
         turned_added (row_test k names) a b _ _ is (length-set a k new) other.0 (whole_row a k names new old (omega arith) made read) other.1
 
-    pub heads_taken : (x : Arc) → IsSeen (set a k new) x ↔ (IsSeen now x ⊎ ((x.tail ≡ k) × Has names x.head))
+    pub heads_taken : (x : Arc) → HasArc (set a k new) x ↔ (HasArc now x ⊎ ((x.tail ≡ k) × Has names x.head))
     heads_taken =
         let len_a = ap length same in
         seen_added (row_test k names) (λ x. (x.tail ≡ k) × Has names x.head) (λ x. row_same k names x.tail x.head) a now _ same (whole_row a k names new old (omega arith) made read)
 
   module _ (read : old ≡ get_or b k old) (n : ℕ) (before ws : List NameSet) (len : n ≡ length a) (same_a : before ≡ a) (kept : length ws ≡ length before) (each : (u : ℕ) → row_of ws u ≡ cond (set.contains names u) (set.insert (row_of before u) k) (row_of before u)) where
-    pub tails_turned : AreTurned (refill n a ws) (set b k new)
+    pub tails_turned : AreTransposed (refill n a ws) (set b k new)
     tails_turned =
         let len_a = ap length same in
         let len_b = is.same in
         let other = turned_row n a before ws names k len same_a kept each in
         turned_added (λ u v. row_test k names v u) a b _ _ is other.0 (length-set b k new) other.1 (whole_row b k names new old (omega arith) made read)
 
-    pub tails_taken : (x : Arc) → IsSeen (refill n a ws) x ↔ (IsSeen now x ⊎ ((x.head ≡ k) × Has names x.tail))
+    pub tails_taken : (x : Arc) → HasArc (refill n a ws) x ↔ (HasArc now x ⊎ ((x.head ≡ k) × Has names x.tail))
     tails_taken =
         seen_added (λ u v. row_test k names v u) (λ x. (x.head ≡ k) × Has names x.tail) (λ x. row_same k names x.head x.tail) a now _ same (turned_row n a before ws names k len same_a kept each).1
 
 -- ---- rows without members
 
-pub turned_none : (a b : List NameSet) (n : ℕ) → n ≤ NAMES → length a ≡ n → length b ≡ n → ((v : ℕ) → row_of a v ≡ set.empty) → ((v : ℕ) → row_of b v ≡ set.empty) → AreTurned a b
+pub turned_none : (a b : List NameSet) (n : ℕ) → n ≤ NAMES → length a ≡ n → length b ≡ n → ((v : ℕ) → row_of a v ≡ set.empty) → ((v : ℕ) → row_of b v ≡ set.empty) → AreTransposed a b
 turned_none a b n few len_a len_b none_a none_b = record {
   few = omega arith;
   same = len_b ∙ sym len_a;
   both = λ u v. ap (λ s. set.contains s u) (none_b v) ∙ contains-empty u ∙ sym (ap (λ s. set.contains s v) (none_a u) ∙ contains-empty v);
 }
 
-pub none_seen : (rows : List NameSet) → ((v : ℕ) → row_of rows v ≡ set.empty) → (a : Arc) → IsSeen rows a → ⊥
+pub none_seen : (rows : List NameSet) → ((v : ℕ) → row_of rows v ≡ set.empty) → (a : Arc) → HasArc rows a → ⊥
 none_seen rows none a h = clash h (ap (λ s. set.contains s a.head) (none a.tail) ∙ contains-empty a.head)
 
 -- ---- where seen arcs end
@@ -155,10 +155,10 @@ row_within rows u v h =
       | inr past ↦ clash h (ap (λ s. set.contains s v) (get_or_past rows u set.empty past) ∙ contains-empty v)
     ]
 
-pub tail_within : (rows : List NameSet) (a : Arc) → IsSeen rows a → a.tail < length rows
+pub tail_within : (rows : List NameSet) (a : Arc) → HasArc rows a → a.tail < length rows
 tail_within rows a h = row_within rows a.tail a.head h
 
-pub head_within : (a b now : List NameSet) (x : Arc) → AreTurned a b → a ≡ now → IsSeen now x → x.head < length now
+pub head_within : (a b now : List NameSet) (x : Arc) → AreTransposed a b → a ≡ now → HasArc now x → x.head < length now
 head_within a b now x is same h =
     let inner : Has (row_of a x.tail) x.head = subst (λ r. Has (row_of r x.tail) x.head) (sym same) h in
     let below = row_within b x.head x.tail (is.both x.tail x.head ∙ inner) in

@@ -7,8 +7,8 @@ use Rattle.md_graph.specs.NameSet.{ascending}
 use Rattle.md_forcing.specs.declared.arc.Arc.{Arc}
 use Rattle.md_forcing.specs.Lists.{Holds, NoRepeats}
 use Rattle.md_forcing.specs.Forcing.{arc, IsArc, ForceAtTail, ForceAtHead, ForcesDirectly}
-use Rattle.md_forcing.specs.Seen.{IsSeen}
-use Rattle.md_forcing.specs.Turns.{IsTurn, tail_entry, head_entry, placed_at}
+use Rattle.md_forcing.specs.ArcSet.{HasArc}
+use Rattle.md_forcing.specs.Turns.{TakesForced, tail_entry, head_entry, placed_at}
 use Rattle.md_forcing.proofs.ListLemmas.{holds_left, holds_right, of_append, once_append, holds_map, of_map, once_map}
 use Rattle.md_forcing.proofs.NameLists.{of_ascending, in_ascending, ascending_once}
 
@@ -17,10 +17,10 @@ abbrev pub arc_to : ℕ → ℕ → Arc
 arc_to head w = arc w head
 
 abbrev pub NewHeads : (ℕ → ℕ → Bool) → List NameSet → Arc → NameSet → Type 0
-NewHeads e seen by heads = (w : ℕ) → Has heads w ↔ (IsArc e (arc by.tail w) × ForceAtTail e by (arc by.tail w) × (IsSeen seen (arc by.tail w) → ⊥))
+NewHeads e seen by heads = (w : ℕ) → Has heads w ↔ (IsArc e (arc by.tail w) × ForceAtTail e by (arc by.tail w) × (HasArc seen (arc by.tail w) → ⊥))
 
 abbrev pub NewTails : (ℕ → ℕ → Bool) → List NameSet → Arc → NameSet → Type 0
-NewTails e seen by tails = (w : ℕ) → Has tails w ↔ (IsArc e (arc w by.head) × ForceAtHead e by (arc w by.head) × (IsSeen seen (arc w by.head) → ⊥))
+NewTails e seen by tails = (w : ℕ) → Has tails w ↔ (IsArc e (arc w by.head) × ForceAtHead e by (arc w by.head) × (HasArc seen (arc w by.head) → ⊥))
 
 tail_entries : (tail place : ℕ) (xs : List ℕ) → map (tail_entry tail place) xs ≡ map (placed_at place) (map (arc tail) xs)
 tail_entries tail place [] = refl
@@ -74,7 +74,7 @@ module _ (e : ℕ → ℕ → Bool) (names : (u v : ℕ) → e u v ≡ true → 
       (λ b l r. not_both b (of_heads b l) (of_tails b r).0)
 
   abbrev pub IsNew : Arc → Type 0
-  IsNew b = IsArc e b × ForcesDirectly e by b × (IsSeen seen b → ⊥)
+  IsNew b = IsArc e b × ForcesDirectly e by b × (HasArc seen b → ⊥)
 
   found_exactly : (b : Arc) → Holds found_arcs b ↔ IsNew b
   found_exactly b = (
@@ -93,12 +93,12 @@ module _ (e : ℕ → ℕ → Bool) (names : (u v : ℕ) → e u v ≡ true → 
     λ n. elim n.1 as (λ _. Holds found_arcs b) [
       | inl f ↦
           let same : b ≡ arc by.tail b.head = λ i. record { tail = sym f.0 i; head = b.head } in
-          let P : Arc → Type 0 = λ x. IsArc e x × ForceAtTail e by x × (IsSeen seen x → ⊥) in
+          let P : Arc → Type 0 = λ x. IsArc e x × ForceAtTail e by x × (HasArc seen x → ⊥) in
           let at_tail : P (arc by.tail b.head) = subst P same (n.0, f, n.2) in
           holds_left from_tail to_head b (in_heads b (sym f.0, (is_heads b.head).1 at_tail))
       | inr f ↦
           let same : b ≡ arc b.tail by.head = λ i. record { tail = b.tail; head = sym f.0 i } in
-          let P : Arc → Type 0 = λ x. IsArc e x × ForceAtHead e by x × (IsSeen seen x → ⊥) in
+          let P : Arc → Type 0 = λ x. IsArc e x × ForceAtHead e by x × (HasArc seen x → ⊥) in
           let at_head : P (arc b.tail by.head) = subst P same (n.0, f, n.2) in
           holds_right from_tail to_head b (in_tails b (sym f.0, (is_tails b.tail).1 at_head))
     ],
@@ -112,7 +112,7 @@ module _ (e : ℕ → ℕ → Bool) (names : (u v : ℕ) → e u v ≡ true → 
       ∙ (λ i. old ++ (tail_entries by.tail place (ascending heads) i ++ head_entries by.head place (ascending tails) i))
       ∙ ap (λ l. old ++ l) (sym (map-append (placed_at place) from_tail to_head))
 
-  found_taken : (mid new : List NameSet) → ((a : Arc) → IsSeen mid a ↔ (IsSeen seen a ⊎ ((a.tail ≡ by.tail) × Has heads a.head))) → ((a : Arc) → IsSeen new a ↔ (IsSeen mid a ⊎ ((a.head ≡ by.head) × Has tails a.tail))) → (b : Arc) → IsSeen new b ↔ (IsSeen seen b ⊎ Holds found_arcs b)
+  found_taken : (mid new : List NameSet) → ((a : Arc) → HasArc mid a ↔ (HasArc seen a ⊎ ((a.tail ≡ by.tail) × Has heads a.head))) → ((a : Arc) → HasArc new a ↔ (HasArc mid a ⊎ ((a.head ≡ by.head) × Has tails a.tail))) → (b : Arc) → HasArc new b ↔ (HasArc seen b ⊎ Holds found_arcs b)
   found_taken mid new first second b = (
     λ h. elim ((second b).0 h) [
       | inl m ↦ elim ((first b).0 m) [
@@ -130,7 +130,7 @@ module _ (e : ℕ → ℕ → Bool) (names : (u v : ℕ) → e u v ≡ true → 
     ],
   )
 
-  pub found_turn : (place its_place : ℕ) (old mid new : List (Arc × ℕ)) (mid_seen new_seen : List NameSet) → slice_get old place ≡ Some (by, its_place) → mid ≡ old ++ map (tail_entry by.tail place) (ascending heads) → new ≡ mid ++ map (head_entry by.head place) (ascending tails) → ((a : Arc) → IsSeen mid_seen a ↔ (IsSeen seen a ⊎ ((a.tail ≡ by.tail) × Has heads a.head))) → ((a : Arc) → IsSeen new_seen a ↔ (IsSeen mid_seen a ⊎ ((a.head ≡ by.head) × Has tails a.tail))) → IsTurn e place seen old new_seen new
+  pub found_turn : (place its_place : ℕ) (old mid new : List (Arc × ℕ)) (mid_seen new_seen : List NameSet) → slice_get old place ≡ Some (by, its_place) → mid ≡ old ++ map (tail_entry by.tail place) (ascending heads) → new ≡ mid ++ map (head_entry by.head place) (ascending tails) → ((a : Arc) → HasArc mid_seen a ↔ (HasArc seen a ⊎ ((a.tail ≡ by.tail) × Has heads a.head))) → ((a : Arc) → HasArc new_seen a ↔ (HasArc mid_seen a ⊎ ((a.head ≡ by.head) × Has tails a.tail))) → TakesForced e place seen old new_seen new
   found_turn place its_place old mid new mid_seen new_seen stands first second taken_first taken_second = record {
     by = by;
     its_place = its_place;

@@ -6,7 +6,7 @@ use Rattle.md_graph.specs.Sets.{NameSet}
 use Rattle.md_forcing.specs.declared.arc.Arc.{Arc}
 use Rattle.md_forcing.specs.Lists.{Holds, NoRepeats}
 use Rattle.md_forcing.specs.Forcing.{reverse, ForcesDirectly, Reaches}
-use Rattle.md_forcing.specs.Seen.{IsSeen}
+use Rattle.md_forcing.specs.ArcSet.{HasArc}
 
 -- p is the place of an arc before place i that forces a directly
 pub record IsForcedAt (e : ℕ → ℕ → Bool) (entries : List (Arc × ℕ)) (i p : ℕ) (a : Arc) : Type 0 where
@@ -28,7 +28,7 @@ pub record IsClass (e : ℕ → ℕ → Bool) (first : Arc) (entries : List (Arc
 
 -- the set holds the arcs that it held and those of the class
 abbrev pub TakesClass : List NameSet → List (Arc × ℕ) → List NameSet → Type 0
-TakesClass old entries new = (a : Arc) → IsSeen new a ↔ (IsSeen old a ⊎ Holds (keys_of entries) a)
+TakesClass old entries new = (a : Arc) → HasArc new a ↔ (HasArc old a ⊎ Holds (keys_of entries) a)
 
 -- the arc at the place is the reverse of the first
 pub record TurnsAt (entries : List (Arc × ℕ)) (place : ℕ) : Type 0 where

@@ -1,6 +1,6 @@
 pub mod Lists
 pub mod Forcing
 pub mod Sides
-pub mod Seen
+pub mod ArcSet
 pub mod Classes
 pub mod Turns

@@ -7,7 +7,7 @@ ghost use Rattle.md_forcing.specs.Lists.{Holds};
 ghost use Rattle.md_forcing.specs.Forcing.{reverse, IsListToReverse};
 ghost use Rattle.md_forcing.specs.Classes.{IsClass, TurnsAt};
 
-use crate::{Arc, Class, Trail};
+use crate::{Arc, Class, ForcingTree};
 use md_graph::{Graph, Memory};
 use std::alloc::Global;
 use std::marker::Model;
@@ -121,16 +121,16 @@ pub fn chain_to_reverse(
         → Holds (keys_of class.now) (reverse first) → ⊥)) }
 {
     let (first, _) = class.entry(0);
-    let Some(last) = class.place_of(turned(first)) else {
+    let Some(last) = class.place_of(reverse_of(first)) else {
         return Ok(None);
     };
-    let trail = Trail::of_class(alloc, class)?;
+    let trail = ForcingTree::of_class(alloc, class)?;
     let chain = follow(alloc, &trail, last)?;
     Ok(Some(chain))
 }
 
 /// The same of a trail, of any graph, so of the complement of one.
-pub fn chain_of(alloc: Global, trail: &Trail) -> Result<Option<Chain>, Memory>
+pub fn chain_of(alloc: Global, trail: &ForcingTree) -> Result<Option<Chain>, Memory>
     requires { (e : ℕ → ℕ → Bool) × (first : Arc) × IsClass e first trail.now }
     ensures found { IfOk result (λ answer. IfSome answer (λ chain. (e : ℕ → ℕ → Bool) (first : Arc)
         → IsClass e first trail.now → IsListToReverse e first chain)) }
@@ -138,7 +138,7 @@ pub fn chain_of(alloc: Global, trail: &Trail) -> Result<Option<Chain>, Memory>
         → IsClass e first trail.now → Holds (keys_of trail.now) (reverse first) → ⊥)) }
 {
     let (first, _) = trail.entry(0);
-    let Some(last) = trail.place_of(turned(first)) else {
+    let Some(last) = trail.place_of(reverse_of(first)) else {
         return Ok(None);
     };
     let chain = follow(alloc, trail, last)?;
@@ -146,7 +146,7 @@ pub fn chain_of(alloc: Global, trail: &Trail) -> Result<Option<Chain>, Memory>
 }
 
 // The same edge in the other direction.
-fn turned(by: Arc) -> Arc
+fn reverse_of(by: Arc) -> Arc
     ensures { result ≡ reverse by }
 {
     Arc {
@@ -156,7 +156,7 @@ fn turned(by: Arc) -> Arc
 }
 
 // The list from the first arc of a trail to the one at a place, which is its reverse.
-fn follow(alloc: Global, trail: &Trail, last: usize) -> Result<Chain, Memory>
+fn follow(alloc: Global, trail: &ForcingTree, last: usize) -> Result<Chain, Memory>
     requires class { (e : ℕ → ℕ → Bool) × (first : Arc) × IsClass e first trail.now }
     requires turns { TurnsAt trail.now last }
     ensures { IfOk result (λ chain. (e : ℕ → ℕ → Bool) (first : Arc)

@@ -3,7 +3,7 @@ ghost use Rattle.std.specs.Prelude.{◌≡◌, ◌++◌, ◌∷◌, [], ℕ, ◌
 ghost use Rattle.std.specs.Map.{keys_of};
 ghost use Rattle.md_forcing.specs.Lists.{Holds, NoRepeats};
 
-use crate::{Arc, Trail};
+use crate::{Arc, ForcingTree};
 use indexmap::IndexMap;
 use md_graph::Memory;
 use std::alloc::Global;
@@ -37,7 +37,7 @@ impl Class {
 
     /// The arcs that a trail lists, with their places. Condition: each is listed once. Errors: want
     /// of memory.
-    pub fn from_trail(alloc: Global, trail: &Trail) -> Result<Class, Memory>
+    pub fn from_trail(alloc: Global, trail: &ForcingTree) -> Result<Class, Memory>
         requires { NoRepeats (keys_of trail.now) }
         ensures { IfOk result (λ class. class ≡ trail.now) }
     {

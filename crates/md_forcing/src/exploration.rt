@@ -8,19 +8,19 @@ ghost use Rattle.md_forcing.specs.declared.arc.Arc.{Arc};
 ghost use Rattle.md_forcing.specs.Lists.{Holds};
 ghost use Rattle.md_forcing.specs.Forcing.{arc, IsArc};
 ghost use Rattle.md_forcing.specs.Sides.{adjacent_on};
-ghost use Rattle.md_forcing.specs.Seen.{IsSeen, IsClosed};
+ghost use Rattle.md_forcing.specs.ArcSet.{HasArc, IsForcingClosed};
 ghost use Rattle.md_forcing.specs.Classes.{IsClass, TakesClass};
-ghost use Rattle.md_forcing.specs.Turns.{IsTurn, tail_entry, head_entry};
+ghost use Rattle.md_forcing.specs.Turns.{TakesForced, tail_entry, head_entry};
 
-use crate::{Arc, Class, Seen, Side, Trail};
+use crate::{Arc, ArcSet, Class, ForcingTree, Side};
 use md_graph::{Graph, Memory, Names};
 use std::alloc::Global;
 
 /// What explorations of a graph, one after the other, have seen, and the trail of the last of them.
 #[derive(Drop)]
 pub struct Explored {
-    pub seen: Seen,
-    pub trail: Trail,
+    pub seen: ArcSet,
+    pub trail: ForcingTree,
 }
 
 // What a turn finds, kept from turn to turn: the heads and the tails of new arcs.
@@ -36,10 +36,10 @@ pub fn close(alloc: Global, graph: &Graph, first: Arc) -> Result<Class, Memory>
     requires { IsArc (adjacent graph.now) first }
     ensures { IfOk result (IsClass (adjacent graph.now) first) }
 {
-    let seen = Seen::with_size(alloc, graph.bound())?;
+    let seen = ArcSet::with_size(alloc, graph.bound())?;
     let none = Explored {
         seen,
-        trail: Trail::new(alloc),
+        trail: ForcingTree::new(alloc),
     };
     let explored = explore(alloc, graph, Side::Edges, first, none)?;
     Class::from_trail(alloc, &explored.trail)
@@ -58,11 +58,11 @@ pub fn explore(
 ) -> Result<Explored, Memory>
     requires room { (v : ℕ) → Has graph.now.vertices v → v < length explored.seen }
     requires is_arc { IsArc (adjacent_on side graph.now) first }
-    requires fresh { IsSeen explored.seen first → ⊥ }
-    requires closed { IsClosed (adjacent_on side graph.now) explored.seen }
+    requires fresh { HasArc explored.seen first → ⊥ }
+    requires closed { IsForcingClosed (adjacent_on side graph.now) explored.seen }
     ensures class { IfOk result (λ r. IsClass (adjacent_on side graph.now) first r.trail) }
     ensures taken { IfOk result (λ r. TakesClass explored.seen r.trail r.seen) }
-    ensures closed { IfOk result (λ r. IsClosed (adjacent_on side graph.now) r.seen) }
+    ensures closed { IfOk result (λ r. IsForcingClosed (adjacent_on side graph.now) r.seen) }
     ensures room { IfOk result (λ r. length r.seen ≡ length explored.seen) }
 {
     let _vertices = graph.vertices();
@@ -91,17 +91,17 @@ fn turn(
     graph: &Graph,
     side: Side,
     at: usize,
-    seen: &mut Seen,
-    trail: &mut Trail,
+    seen: &mut ArcSet,
+    trail: &mut ForcingTree,
     found: &mut Found,
 ) -> Result<(), Memory>
     requires room { (v : ℕ) → Has graph.now.vertices v → v < length seen.old }
     requires more { at < length trail.old }
     requires few { at < 2 ^ 32 }
     requires arcs { (a : Arc) → Holds (keys_of trail.old) a → IsArc (adjacent_on side graph.now) a }
-    requires seen { (a : Arc) → Holds (keys_of trail.old) a → IsSeen seen.old a }
+    requires seen { (a : Arc) → Holds (keys_of trail.old) a → HasArc seen.old a }
     ensures taken { OnOk result
-        (IsTurn (adjacent_on side graph.now) at seen.old trail.old seen.new trail.new) }
+        (TakesForced (adjacent_on side graph.now) at seen.old trail.old seen.new trail.new) }
     ensures room { length seen.new ≡ length seen.old }
 {
     let _vertices = graph.vertices();
@@ -117,7 +117,7 @@ fn turn(
 }
 
 // Takes in the arcs from `tail` to each of `heads`, ascending, with a place.
-fn push_heads(trail: &mut Trail, tail: u32, heads: &Names, place: u32) -> Result<(), Memory>
+fn push_heads(trail: &mut ForcingTree, tail: u32, heads: &Names, place: u32) -> Result<(), Memory>
     ensures { OnOk result
         (trail.new ≡ trail.old ++ map (tail_entry tail place) (ascending heads.now)) }
 {
@@ -128,7 +128,7 @@ fn push_heads(trail: &mut Trail, tail: u32, heads: &Names, place: u32) -> Result
 }
 
 // Takes in the arcs from each of `tails`, ascending, to `head`, with a place.
-fn push_tails(trail: &mut Trail, tails: &Names, head: u32, place: u32) -> Result<(), Memory>
+fn push_tails(trail: &mut ForcingTree, tails: &Names, head: u32, place: u32) -> Result<(), Memory>
     ensures { OnOk result
         (trail.new ≡ trail.old ++ map (head_entry head place) (ascending tails.now)) }
 {

@@ -3,15 +3,15 @@
 #![tactic(auto)]
 
 mod arc;
+mod arc_set;
 mod chain;
 mod class;
 mod exploration;
-mod seen;
-mod trail;
+mod forcing_tree;
 
 pub use arc::Arc;
+pub use arc_set::{ArcSet, Side};
 pub use chain::{Arcs, Chain, chain_of, chain_to_reverse};
 pub use class::Class;
 pub use exploration::{Explored, close, explore};
-pub use seen::{Seen, Side};
-pub use trail::Trail;
+pub use forcing_tree::ForcingTree;

@@ -9,7 +9,7 @@ use Rattle.std.proofs.lemmas.Nat.{mod-pow-add, ones_cat, and_le_l, le_or_l, le_o
 use lib.Count.{ones}
 use Rattle.std.specs.FinSet as set
 use Rattle.md_graph.specs.Sets.{NameSet}
-use Rattle.md_graph.specs.NameSet.{IsLeastFrom, NoneFrom, block_below, told_apart}
+use Rattle.md_graph.specs.NameSet.{IsLeastFrom, NoneFrom, block_below, symmetric_difference}
 use Rattle.md_graph.specs.Words.{bit_of, bit_apart, names_below, IsWithout}
 use Rattle.md_graph.proofs.SetLaws.{len-empty, len-insert, contains-empty, contains-insert, contains-remove, contains-union, contains-intersection, contains-difference, same_set}
 
@@ -405,7 +405,7 @@ apart_within false x y z e = refl
 apart_test : (b : Bool) (x y z : ℕ) → x < 2 → y < 2 → z ≡ (x + y) % 2 → (((b && (x == 1)) && not (b && (y == 1))) || ((b && (y == 1)) && not (b && (x == 1)))) ≡ (b && (z == 1))
 apart_test b x y z p q e = apart_within b (x == 1) (y == 1) (z == 1) (ap (λ t. t == 1) e ∙ apart_bits x y p q)
 
-pub keeps_apart : (f g : List ℕ) (n : ℕ) (s t : NameSet) → names_below f n ≡ s → names_below g n ≡ t → Keeps (λ k. bit_xor (get_or f k 0) (get_or g k 0)) n (told_apart s t)
+pub keeps_apart : (f g : List ℕ) (n : ℕ) (s t : NameSet) → names_below f n ≡ s → names_below g n ≡ t → Keeps (λ k. bit_xor (get_or f k 0) (get_or g k 0)) n (symmetric_difference s t)
 keeps_apart f g n s t is_s is_t q =
     rw (contains-union (set.difference s t) (set.difference t s) q, contains-difference s t q, contains-difference t s q, keeps_words f n s is_s q, keeps_words g n t is_t q)
     (apart_test (ltb q n) _ _ _ (bit_at-lt _ _) (bit_at-lt _ _) (bit_at_xor (get_or f (q / 64) 0) (get_or g (q / 64) 0) (q % 64)))
@@ -492,7 +492,7 @@ others_to a c d m n u s r t is keeps is_t ra first rest =
 flipped_bit : (x y z : ℕ) → x ≡ (y + z) % 2 → z ≡ 0 → y < 2 → x ≡ y
 flipped_bit x y z e none two = omega (arith, e, none)
 
-pub flipped_words : (a b c : List ℕ) (n u : ℕ) (s t : NameSet) → names_below a n ≡ s → names_below b n ≡ t → InUse b u → ((k : ℕ) → k < u → get_or c k 0 ≡ bit_xor (get_or a k 0) (get_or b k 0)) → ((k : ℕ) → u ≤ k → get_or c k 0 ≡ get_or a k 0) → names_below c n ≡ told_apart s t
+pub flipped_words : (a b c : List ℕ) (n u : ℕ) (s t : NameSet) → names_below a n ≡ s → names_below b n ≡ t → InUse b u → ((k : ℕ) → k < u → get_or c k 0 ≡ bit_xor (get_or a k 0) (get_or b k 0)) → ((k : ℕ) → u ≤ k → get_or c k 0 ≡ get_or a k 0) → names_below c n ≡ symmetric_difference s t
 flipped_words a b c n u s t is is_t rb first rest =
     from_bits c n _ (λ q.
     keeps_apart a b n s t is is_t q
@@ -537,9 +537,9 @@ apart_found a f g i u below some fits before =
           ap (bit_apart a f g) (sym place) ∙ apart_word a f g i (x - 64 * i) (omega arith) ∙ facts.2 (x - 64 * i) (omega arith)) q refl;
     }
 
-apart_member : (a f g : List ℕ) (n : ℕ) (s r t : NameSet) → names_below a n ≡ s → names_below f n ≡ r → names_below g n ≡ t → (q : ℕ) → set.contains (set.intersection s (told_apart r t)) q ≡ (ltb q n && (bit_apart a f g q == 1))
+apart_member : (a f g : List ℕ) (n : ℕ) (s r t : NameSet) → names_below a n ≡ s → names_below f n ≡ r → names_below g n ≡ t → (q : ℕ) → set.contains (set.intersection s (symmetric_difference r t)) q ≡ (ltb q n && (bit_apart a f g q == 1))
 apart_member a f g n s r t is is_r is_t q =
-    rw (contains-intersection s (told_apart r t) q, keeps_words a n s is q, keeps_apart f g n r t is_r is_t q)
+    rw (contains-intersection s (symmetric_difference r t) q, keeps_words a n s is q, keeps_apart f g n r t is_r is_t q)
     (and_within _ _ _ _ (ap (λ x. min (bit_of a q) x == 1) (sym (bit_at_xor _ _ _)) ∙ and_bits _ _ (bit_at-lt _ _) (bit_at-lt _ _)))
 
 pub member_bit : (n q x : ℕ) (b : Bool) → b ≡ (ltb q n && (x == 1)) → b ≡ true → x ≡ 1
@@ -548,7 +548,7 @@ member_bit n q x b is h = grind (arith, nat_tests)
 pub member_here : (n q x : ℕ) → q < n → x ≡ 1 → (ltb q n && (x == 1)) ≡ true
 member_here n q x h e = grind (arith, nat_tests)
 
-pub least_apart : (a f g : List ℕ) (n w u : ℕ) (s r t : NameSet) (least : ℕ) → n ≡ 64 * w → u ≤ w → names_below a n ≡ s → names_below f n ≡ r → names_below g n ≡ t → IsFirstApart a f g u least → (IsLeastFrom (set.intersection s (told_apart r t)) 0 least) × (least < n)
+pub least_apart : (a f g : List ℕ) (n w u : ℕ) (s r t : NameSet) (least : ℕ) → n ≡ 64 * w → u ≤ w → names_below a n ≡ s → names_below f n ≡ r → names_below g n ≡ t → IsFirstApart a f g u least → (IsLeastFrom (set.intersection s (symmetric_difference r t)) 0 least) × (least < n)
 least_apart a f g n w u s r t least whole used is is_r is_t found =
     let within = found.within in
     let below : least < n = omega arith in (
@@ -556,7 +556,7 @@ least_apart a f g n w u s r t least whole used is is_r is_t found =
         member = apart_member a f g n s r t is is_r is_t least ∙ member_here n least _ below found.here;
         above = omega arith;
         first = λ q m _. from_both (λ x. x ≡ q → least ≤ x) least
-            (λ x l e. let one = member_bit n x _ _ (apart_member a f g n s r t is is_r is_t x) (ap (set.contains (set.intersection s (told_apart r t))) e ∙ m) in let none = found.first x l in absurd (omega arith))
+            (λ x l e. let one = member_bit n x _ _ (apart_member a f g n s r t is is_r is_t x) (ap (set.contains (set.intersection s (symmetric_difference r t))) e ∙ m) in let none = found.first x l in absurd (omega arith))
             (λ x l _. l) q refl;
       },
       below,
@@ -565,14 +565,14 @@ least_apart a f g n w u s r t least whole used is is_r is_t found =
 apart_unused : (a f g : List ℕ) (u q : ℕ) → InUse a u → 64 * u ≤ q → bit_apart a f g q ≡ 0
 apart_unused a f g u q ra h = let none = zero_bit _ (q % 64) (ra (q / 64) (omega arith)) in omega arith
 
-pub none_apart : (a f g : List ℕ) (n u : ℕ) (s r t : NameSet) → InUse a u → names_below a n ≡ s → names_below f n ≡ r → names_below g n ≡ t → ((q : ℕ) → q < 64 * u → bit_apart a f g q ≡ 0) → NoneFrom (set.intersection s (told_apart r t)) 0
+pub none_apart : (a f g : List ℕ) (n u : ℕ) (s r t : NameSet) → InUse a u → names_below a n ≡ s → names_below f n ≡ r → names_below g n ≡ t → ((q : ℕ) → q < 64 * u → bit_apart a f g q ≡ 0) → NoneFrom (set.intersection s (symmetric_difference r t)) 0
 none_apart a f g n u s r t ra is is_r is_t none q m =
     let one = member_bit n q _ _ (apart_member a f g n s r t is is_r is_t q) m in
     let zero_here : bit_apart a f g q ≡ 0 = from_both (λ x. bit_apart a f g x ≡ 0) (64 * u) none (λ x l. apart_unused a f g u x ra l) q in
     absurd (omega arith)
 
 -- what the first bit that is told apart says of the sets
-pub least_or_none : (a f g : List ℕ) (n w u : ℕ) (s r t : NameSet) (found : Option ℕ) → n ≡ 64 * w → u ≤ w → InUse a u → names_below a n ≡ s → names_below f n ≡ r → names_below g n ≡ t → IfSome found (λ least. (least < 64 * u) × (bit_apart a f g least ≡ 1) × ((q : ℕ) → q < least → bit_apart a f g q ≡ 0)) → IfNone found ((q : ℕ) → q < 64 * u → bit_apart a f g q ≡ 0) → (IfSome found (IsLeastFrom (set.intersection s (told_apart r t)) 0)) × (IfNone found (NoneFrom (set.intersection s (told_apart r t)) 0)) × (IfSome found (λ least. least < n))
+pub least_or_none : (a f g : List ℕ) (n w u : ℕ) (s r t : NameSet) (found : Option ℕ) → n ≡ 64 * w → u ≤ w → InUse a u → names_below a n ≡ s → names_below f n ≡ r → names_below g n ≡ t → IfSome found (λ least. (least < 64 * u) × (bit_apart a f g least ≡ 1) × ((q : ℕ) → q < least → bit_apart a f g q ≡ 0)) → IfNone found ((q : ℕ) → q < 64 * u → bit_apart a f g q ≡ 0) → (IfSome found (IsLeastFrom (set.intersection s (symmetric_difference r t)) 0)) × (IfNone found (NoneFrom (set.intersection s (symmetric_difference r t)) 0)) × (IfSome found (λ least. least < n))
 least_or_none a f g n w u s r t None whole used ra is is_r is_t some none = (tt, none_apart a f g n u s r t ra is is_r is_t none, tt)
 least_or_none a f g n w u s r t (Some least) whole used ra is is_r is_t some none =
     let both = least_apart a f g n w u s r t least whole used is is_r is_t (record { within = some.0; here = some.1; first = some.2 }) in

@@ -18,3 +18,4 @@ pub mod Comparing
 pub mod Ranges
 mod ListedLemmas
 pub mod Walks
+pub mod LinkedLists

@@ -7,7 +7,7 @@ use Rattle.std.specs.FinSet.{contains, empty, insert, remove, retain, union, int
 use Rattle.std.specs.Cmp.{both_ways, nat_cmp_total, unsigned_tied}
 use Rattle.std.specs.Ordering.{nat_cmp, eq_by_cmp}
 use Rattle.md_graph.specs.Sets.{NameSet, Has, Lacks, Within, Disjoint, only_name}
-use Rattle.md_graph.specs.NameSet.{NoneFrom, told_apart}
+use Rattle.md_graph.specs.NameSet.{NoneFrom, symmetric_difference}
 
 pub clash : {A : Type 0} {b : Bool} → b ≡ true → b ≡ false → A
 clash p q = absurd (true≢false (sym p ∙ q))
@@ -178,7 +178,7 @@ taken_whole s none t is_none is = is ∙ same_members _ _
     (λ y h. union_right none s y h)
 
 -- what is told apart from a set is the rest of it, for a part
-pub flipped_part : (s t : NameSet) → Within t s → told_apart t s ≡ difference s t
+pub flipped_part : (s t : NameSet) → Within t s → symmetric_difference t s ≡ difference s t
 flipped_part s t inside = same_members _ _
     (λ y h. elim (of_union (difference t s) (difference s t) y h) [
       | inl o ↦ let two : Has t y × Lacks s y = of_minus t s y o in clash (inside y two.0) two.1
@@ -186,7 +186,7 @@ flipped_part s t inside = same_members _ _
     ])
     (λ y h. union_right (difference t s) (difference s t) y h)
 
-pub flipped_along : (s t u : NameSet) → Within t s → u ≡ told_apart t s → u ≡ difference s t
+pub flipped_along : (s t u : NameSet) → Within t s → u ≡ symmetric_difference t s → u ≡ difference s t
 flipped_along s t u inside is = is ∙ flipped_part s t inside
 
 pub lacks_along : (s t : NameSet) → s ≡ t → (y : ℕ) → Lacks t y → Lacks s y
@@ -231,16 +231,16 @@ pub pair_first : (begun : NameSet) (u v : ℕ) → begun ≡ insert (only_name u
 pair_first begun u v is = Has-along _ _ (sym is) u (insert_old (only_name u) v u (only_has u))
 
 -- what exactly one of a set and another one has, in the first, is what the other one leaves of it
-pub rest_told : (s c : NameSet) → intersection s (told_apart c s) ≡ difference s c
+pub rest_told : (s c : NameSet) → intersection s (symmetric_difference c s) ≡ difference s c
 rest_told s c = same_members _ _
-    (λ y h. let two : Has s y × Has (told_apart c s) y = of_meet s (told_apart c s) y h in elim (of_union (difference c s) (difference s c) y two.1) [
+    (λ y h. let two : Has s y × Has (symmetric_difference c s) y = of_meet s (symmetric_difference c s) y h in elim (of_union (difference c s) (difference s c) y two.1) [
       | inl o ↦ clash two.0 (of_minus c s y o).1
       | inr i ↦ i
     ])
-    (λ y h. meet_has s (told_apart c s) y (of_minus s c y h).0 (union_right (difference c s) (difference s c) y h))
+    (λ y h. meet_has s (symmetric_difference c s) y (of_minus s c y h).0 (union_right (difference c s) (difference s c) y h))
 
 -- a set without a part of it
-pub flipped_off : (rest c rest' : NameSet) → Within c rest → rest' ≡ told_apart rest c → rest' ≡ difference rest c
+pub flipped_off : (rest c rest' : NameSet) → Within c rest → rest' ≡ symmetric_difference rest c → rest' ≡ difference rest c
 flipped_off rest c rest' inside is = is ∙ same_members _ _
     (λ y h. elim (of_union (difference rest c) (difference c rest) y h) [
       | inl i ↦ i
@@ -284,7 +284,7 @@ taken_then s left todo new w inside taken of_new y h =
       | inr j ↦ (inside y (of_new y j), minus_lacks left new y j)
     ]
 
-pub told_value : (row mark : NameSet) (value : Bool) (y : ℕ) → contains mark y ≡ not value → Has (told_apart row mark) y → contains row y ≡ value
+pub told_value : (row mark : NameSet) (value : Bool) (y : ℕ) → contains mark y ≡ not value → Has (symmetric_difference row mark) y → contains row y ≡ value
 told_value row mark true y is h = elim (of_union (difference row mark) (difference mark row) y h) [
   | inl i ↦ (of_minus row mark y i).0
   | inr i ↦ clash (of_minus mark row y i).0 is
@@ -294,7 +294,7 @@ told_value row mark false y is h = elim (of_union (difference row mark) (differe
   | inr i ↦ (of_minus mark row y i).1
 ]
 
-pub value_told : (row mark : NameSet) (value : Bool) (y : ℕ) → contains mark y ≡ not value → contains row y ≡ value → Has (told_apart row mark) y
+pub value_told : (row mark : NameSet) (value : Bool) (y : ℕ) → contains mark y ≡ not value → contains row y ≡ value → Has (symmetric_difference row mark) y
 value_told row mark true y is here = union_left (difference row mark) (difference mark row) y (minus_has row mark y here is)
 value_told row mark false y is here = union_right (difference row mark) (difference mark row) y (minus_has mark row y is here)
 

@@ -7,3 +7,4 @@ pub mod Listed
 pub mod Rows
 pub mod Blocks
 pub mod Laws
+pub mod Linked

@@ -26,8 +26,8 @@ abbrev pub AllBelow : NameSet → ℕ → Type 0
 AllBelow s n = (w : ℕ) → Has s w → w < n
 
 -- the symmetric difference: the numbers that exactly one of `a` and `b` has
-abbrev pub told_apart : NameSet → NameSet → NameSet
-told_apart a b = set.union (set.difference a b) (set.difference b a)
+abbrev pub symmetric_difference : NameSet → NameSet → NameSet
+symmetric_difference a b = set.union (set.difference a b) (set.difference b a)
 
 -- the members of `s` from `low` on and below `bound`, ascending
 unfoldable pub ascending_between : NameSet → ℕ → ℕ → List ℕ

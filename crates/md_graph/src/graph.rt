@@ -45,7 +45,7 @@ impl<const W: usize> GraphOf<W> {
     /// The graph without vertices. Condition: `W` is at most `WORDS`. Errors: want of memory.
     pub fn new(alloc: Global) -> Result<GraphOf<W>, Memory>
         requires { W ≤ WORDS }
-        ensures { IfOk result (λ g. g ≡ empty_graph) }
+        ensures made { IfOk result (λ g. g ≡ empty_graph) }
     {
         Ok(GraphOf {
             live: Set::none(),
@@ -55,14 +55,14 @@ impl<const W: usize> GraphOf<W> {
 
     /// Whether `v`, any number, is a vertex.
     pub fn has_vertex(&self, v: u32) -> bool
-        ensures { result ≡ set.contains self.now.vertices v }
+        ensures value { result ≡ set.contains self.now.vertices v }
     {
         self.live.has(v)
     }
 
     /// Whether an edge runs between `u` and `v`, any numbers.
     pub fn has_edge(&self, u: u32, v: u32) -> bool
-        ensures { result ≡ adjacent self.now u v }
+        ensures value { result ≡ adjacent self.now u v }
     {
         let row = u as usize;
         row < self.rows.len() && self.rows[row].has(v)
@@ -71,7 +71,7 @@ impl<const W: usize> GraphOf<W> {
     /// The number of neighbours of `v`. Condition: it is a vertex.
     pub fn degree(&self, v: u32) -> u32
         requires { Has self.now.vertices v }
-        ensures { result ≡ set.len (neighbours self.now v) }
+        ensures value { result ≡ set.len (neighbours self.now v) }
     {
         let row = &self.rows[v as usize];
         row.count()
@@ -79,14 +79,14 @@ impl<const W: usize> GraphOf<W> {
 
     /// The number of vertices.
     pub fn count(&self) -> u32
-        ensures { result ≡ set.len self.now.vertices }
+        ensures value { result ≡ set.len self.now.vertices }
     {
         self.live.count()
     }
 
     /// The number of edges.
     pub fn edge_count(&self) -> u32
-        ensures { result ≡ set.len self.now.edges }
+        ensures value { result ≡ set.len self.now.edges }
     {
         let mut ends = 0;
         for v in self.live.members() {
@@ -143,7 +143,7 @@ impl<const W: usize> GraphOf<W> {
     pub fn add_vertex(&mut self, v: u32)
         requires name { v < 64 * W }
         requires absent { Lacks self.old.vertices v }
-        ensures { self.new ≡ with_vertex self.old v }
+        ensures changed { self.new ≡ with_vertex self.old v }
     {
         self.live.insert(v);
     }
@@ -153,7 +153,7 @@ impl<const W: usize> GraphOf<W> {
     pub fn add_range(&mut self, from: u32, count: u32)
         requires names { from + count ≤ 64 * W }
         requires absent { (v : ℕ) → from ≤ v → v < from + count → Lacks self.old.vertices v }
-        ensures { self.new ≡ with_range self.old from count }
+        ensures changed { self.new ≡ with_range self.old from count }
     {
         self.live.insert_range(from, count);
     }
@@ -165,7 +165,7 @@ impl<const W: usize> GraphOf<W> {
         requires second { Has self.old.vertices v }
         requires differ { u ≢ v }
         requires absent { adjacent self.old u v ≡ false }
-        ensures { self.new ≡ with_edge self.old u v }
+        ensures changed { self.new ≡ with_edge self.old u v }
     {
         self.rows[u as usize].insert(v);
         self.rows[v as usize].insert(u);
@@ -177,9 +177,9 @@ impl<const W: usize> GraphOf<W> {
         requires vertex { Has self.old.vertices v }
         requires vertices { (u : ℕ) → Has others.now u → Has self.old.vertices u }
         requires differ { Lacks others.now v }
-        ensures { self.new ≡ with_edges self.old v others.now }
+        ensures changed { self.new ≡ with_edges self.old v others.now }
     {
-        self.rows[v as usize].take_in(others);
+        self.rows[v as usize].union_with(others);
         insert_in_rows(&mut self.rows, others, v);
     }
 
@@ -194,7 +194,7 @@ impl<const W: usize> GraphOf<W> {
         requires high_aligned { high % 64 ≡ 0 }
         requires ends { (u v : ℕ) → in_block block.now high low u v ≡ true
             → Has self.old.vertices u × Has self.old.vertices v × (u ≢ v) }
-        ensures { IsWithBlock self.old high low block.now self.new }
+        ensures block { IsWithBlock self.old high low block.now self.new }
     {
         join_block(&mut self.rows, low, high, block);
     }
@@ -202,7 +202,7 @@ impl<const W: usize> GraphOf<W> {
     /// Leaves out the vertex `v` and the edges at it. Condition: it is a vertex.
     pub fn remove_vertex(&mut self, v: u32)
         requires { Has self.old.vertices v }
-        ensures { self.new ≡ without_vertex self.old v }
+        ensures changed { self.new ≡ without_vertex self.old v }
     {
         let others = self.rows[v as usize].copy();
         remove_from_rows(&mut self.rows, &others, v);
@@ -213,7 +213,7 @@ impl<const W: usize> GraphOf<W> {
     /// Leaves out the edge between `u` and `v`. Condition: it is there.
     pub fn remove_edge(&mut self, u: u32, v: u32)
         requires { adjacent self.old u v ≡ true }
-        ensures { self.new ≡ without_edge self.old u v }
+        ensures changed { self.new ≡ without_edge self.old u v }
     {
         self.rows[u as usize].remove(v);
         self.rows[v as usize].remove(u);
@@ -221,7 +221,7 @@ impl<const W: usize> GraphOf<W> {
 
     /// All vertices and edges go. It passes over the rows of the vertices alone.
     pub fn clear(&mut self)
-        ensures { self.new ≡ empty_graph }
+        ensures changed { self.new ≡ empty_graph }
     {
         clear_rows(&mut self.rows, &self.live);
         self.live.clear();
@@ -229,7 +229,7 @@ impl<const W: usize> GraphOf<W> {
 
     /// An equal graph. Errors: want of memory.
     pub fn copy(&self, alloc: Global) -> Result<GraphOf<W>, Memory>
-        ensures { IfOk result (λ g. g ≡ self.now) }
+        ensures made { IfOk result (λ g. g ≡ self.now) }
     {
         let mut rows = Vec::with_capacity(alloc, self.rows.len())?;
         for v in 0..self.rows.len() {
@@ -244,7 +244,7 @@ impl<const W: usize> GraphOf<W> {
     /// The complement: the same vertices, and an edge between two of them where this graph has
     /// none. Errors: want of memory.
     pub fn complement(&self, alloc: Global) -> Result<GraphOf<W>, Memory>
-        ensures { IfOk result (λ g. g ≡ complement self.now) }
+        ensures made { IfOk result (λ g. g ≡ complement self.now) }
     {
         let mut rows = Vec::with_capacity(alloc, self.rows.len())?;
         for v in 0..self.rows.len() as u32 {
@@ -259,7 +259,7 @@ impl<const W: usize> GraphOf<W> {
     /// The graph that this graph induces on `names`: the vertices among them, and the edges between
     /// these. Errors: want of memory.
     pub fn induced(&self, alloc: Global, names: &Set<W>) -> Result<GraphOf<W>, Memory>
-        ensures { IfOk result (λ g. g ≡ induced self.now names.now) }
+        ensures made { IfOk result (λ g. g ≡ induced self.now names.now) }
     {
         let live = &self.live;
         let mut rows = Vec::with_capacity(alloc, self.rows.len())?;
@@ -276,7 +276,7 @@ impl<const W: usize> GraphOf<W> {
     /// is a name below `64 * W`.
     pub fn complement_row(&self, v: u32) -> Set<W>
         requires { v < 64 * W }
-        ensures { result ≡ neighbours (complement self.now) v }
+        ensures value { result ≡ neighbours (complement self.now) v }
     {
         if !self.live.has(v) {
             return Set::none();
@@ -368,7 +368,7 @@ pub fn empty_rows<const W: usize>(alloc: Global, size: u32) -> Result<Vec<Set<W>
 pub fn insert_in_rows<const W: usize>(rows: &mut [Set<W>], names: &Set<W>, v: u32)
     requires name { v < 64 * W }
     requires in_rows { (u : ℕ) → Has names.now u → u < length rows.old }
-    ensures { (u : ℕ) → row_of rows.new u
+    ensures rows { (u : ℕ) → row_of rows.new u
         ≡ (if set.contains names.now u
         then set.insert (row_of rows.old u) v
         else row_of rows.old u) }

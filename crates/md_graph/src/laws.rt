@@ -6,15 +6,15 @@ use crate::{NAMES, WORDS};
 
 /// There are 4,096 names.
 pub fn number_of_names()
-    ensures { NAMES ≡ 4096 }
+    ensures number { NAMES ≡ 4096 }
 {}
 
 /// The rows of the largest graphs have 64 words.
 pub fn number_of_words()
-    ensures { WORDS ≡ 64 }
+    ensures number { WORDS ≡ 64 }
 {}
 
 /// A graph without vertices is the empty graph.
 pub fn graph_without_vertices_is_empty()
-    ensures { GraphWithoutVerticesIsEmpty }
+    ensures law { GraphWithoutVerticesIsEmpty }
 {}

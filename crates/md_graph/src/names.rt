@@ -3,7 +3,7 @@ ghost use Rattle.std.specs.Prelude.{◌≡◌, ℕ, ◌+◌, ◌*◌, ◌%◌, �
 ghost use Rattle.std.specs.Int.{bit_at};
 ghost use Rattle.std.specs.FinSet as set;
 ghost use Rattle.md_graph.specs.Sets.{Has, HasSome, HasTwo, Within, only_name};
-ghost use Rattle.md_graph.specs.NameSet.{IsLeastFrom, IsGreatest, NoneFrom, AllBelow, ascending, ascending_from, block, range, told_apart};
+ghost use Rattle.md_graph.specs.NameSet.{IsLeastFrom, IsGreatest, NoneFrom, AllBelow, ascending, ascending_from, block, range, symmetric_difference};
 
 use crate::members::Members;
 use crate::words::{
@@ -52,7 +52,7 @@ impl<const W: usize> Set<W> {
     /// The empty set. Condition: `W` is at most `WORDS`.
     pub fn none() -> Set<W>
         requires { W ≤ WORDS }
-        ensures { result ≡ set.empty }
+        ensures value { result ≡ set.empty }
     {
         Set {
             words: no_words(),
@@ -76,14 +76,14 @@ impl<const W: usize> Set<W> {
 
     /// What holds of every set, and costs nothing to say: it has at most `WORDS` words.
     pub fn within_limit(&self)
-        ensures { W ≤ WORDS }
+        ensures limit { W ≤ WORDS }
     {
         let _used = self.used;
     }
 
     /// An equal set.
     pub fn copy(&self) -> Set<W>
-        ensures { result ≡ self.now }
+        ensures value { result ≡ self.now }
     {
         Set {
             words: self.words,
@@ -94,7 +94,7 @@ impl<const W: usize> Set<W> {
     /// Takes `v` in. Condition: it is a name below `64 * W`.
     pub fn insert(&mut self, v: u32)
         requires { v < 64 * W }
-        ensures { self.new ≡ set.insert self.old v }
+        ensures changed { self.new ≡ set.insert self.old v }
     {
         let word = v as usize / 64;
         self.words[word] |= 1 << (v % 64);
@@ -107,7 +107,7 @@ impl<const W: usize> Set<W> {
     /// `64 * W`.
     pub fn insert_range(&mut self, from: u32, count: u32)
         requires { from + count ≤ 64 * W }
-        ensures { self.new ≡ set.union self.old (range from count) }
+        ensures changed { self.new ≡ set.union self.old (range from count) }
     {
         self.within_limit();
         let to = from + count;
@@ -119,34 +119,34 @@ impl<const W: usize> Set<W> {
     /// Leaves `v` out. Condition: it is a name below `64 * W`.
     pub fn remove(&mut self, v: u32)
         requires { v < 64 * W }
-        ensures { self.new ≡ set.remove self.old v }
+        ensures changed { self.new ≡ set.remove self.old v }
     {
         self.words[v as usize / 64] &= !(1 << (v % 64));
     }
 
     /// All members go. It passes over the words in use.
     pub fn clear(&mut self)
-        ensures { self.new ≡ set.empty }
+        ensures changed { self.new ≡ set.empty }
     {
-        wipe(&mut self.words, passed::<W>(self.used));
+        wipe(&mut self.words, words_passed::<W>(self.used));
         self.used = 0;
     }
 
     /// Takes in the members of `other`. It passes over the words that `other` uses.
-    pub fn take_in(&mut self, other: &Set<W>)
-        ensures { self.new ≡ set.union self.old other.now }
+    pub fn union_with(&mut self, other: &Set<W>)
+        ensures changed { self.new ≡ set.union self.old other.now }
     {
-        let used = passed::<W>(other.used);
+        let used = words_passed::<W>(other.used);
         join_in(&mut self.words, &other.words, used);
         self.used = self.used.max(used);
     }
 
     /// Takes in the members of `other` that it doesn't have, and leaves out those that it has. It
     /// passes over the words that `other` uses.
-    pub fn flip(&mut self, other: &Set<W>)
-        ensures { self.new ≡ told_apart self.old other.now }
+    pub fn symmetric_difference_with(&mut self, other: &Set<W>)
+        ensures changed { self.new ≡ symmetric_difference self.old other.now }
     {
-        let used = passed::<W>(other.used);
+        let used = words_passed::<W>(other.used);
         flip_bits(&mut self.words, &other.words, used);
         self.used = self.used.max(used);
     }
@@ -156,7 +156,7 @@ impl<const W: usize> Set<W> {
         ensures rest { self.new ≡ set.difference self.old row.now }
         ensures moved { to.new ≡ set.union to.old (set.intersection self.old row.now) }
     {
-        let used = passed::<W>(self.used);
+        let used = words_passed::<W>(self.used);
         move_both(&mut self.words, &row.words, &mut to.words, used);
         to.used = to.used.max(used);
     }
@@ -166,19 +166,19 @@ impl<const W: usize> Set<W> {
         ensures rest { self.new ≡ set.intersection self.old row.now }
         ensures moved { to.new ≡ set.union to.old (set.difference self.old row.now) }
     {
-        let used = passed::<W>(self.used);
+        let used = words_passed::<W>(self.used);
         move_alone(&mut self.words, &row.words, &mut to.words, used);
         to.used = to.used.max(used);
     }
 
     /// Moves the members that exactly one of `first` and `second` has to `to`. It passes over the
     /// words in use.
-    pub fn move_told_apart(&mut self, first: &Set<W>, second: &Set<W>, to: &mut Set<W>)
-        ensures rest { self.new ≡ set.difference self.old (told_apart first.now second.now) }
+    pub fn move_symmetric_difference(&mut self, first: &Set<W>, second: &Set<W>, to: &mut Set<W>)
+        ensures rest { self.new ≡ set.difference self.old (symmetric_difference first.now second.now) }
         ensures moved { to.new
-            ≡ set.union to.old (set.intersection self.old (told_apart first.now second.now)) }
+            ≡ set.union to.old (set.intersection self.old (symmetric_difference first.now second.now)) }
     {
-        let used = passed::<W>(self.used);
+        let used = words_passed::<W>(self.used);
         move_apart(
             &mut self.words,
             &first.words,
@@ -191,11 +191,11 @@ impl<const W: usize> Set<W> {
 
     /// The least member that exactly one of `first` and `second` has; `None` exactly where there is
     /// none.
-    pub fn first_told_apart(&self, first: &Set<W>, second: &Set<W>) -> Option<u32>
+    pub fn first_in_symmetric_difference(&self, first: &Set<W>, second: &Set<W>) -> Option<u32>
         ensures found { IfSome result (IsLeastFrom
-            (set.intersection self.now (told_apart first.now second.now)) 0) }
+            (set.intersection self.now (symmetric_difference first.now second.now)) 0) }
         ensures none { IfNone result (NoneFrom
-            (set.intersection self.now (told_apart first.now second.now)) 0) }
+            (set.intersection self.now (symmetric_difference first.now second.now)) 0) }
         ensures name { IfSome result (λ least. least < NAMES) }
         ensures below { IfSome result (λ least. least < 64 * W) }
     {
@@ -203,14 +203,14 @@ impl<const W: usize> Set<W> {
             &self.words,
             &first.words,
             &second.words,
-            passed::<W>(self.used),
+            words_passed::<W>(self.used),
         )
     }
 
     /// Becomes the members of `of` that neither `first` nor `second` has. It passes over the words
     /// in use of both.
-    pub fn become_alone(&mut self, of: &Set<W>, first: &Set<W>, second: &Set<W>)
-        ensures { self.new ≡ set.difference of.now (set.union first.now second.now) }
+    pub fn set_to_difference(&mut self, of: &Set<W>, first: &Set<W>, second: &Set<W>)
+        ensures changed { self.new ≡ set.difference of.now (set.union first.now second.now) }
     {
         wipe(&mut self.words, self.used);
         let any = keep_alone(
@@ -225,7 +225,7 @@ impl<const W: usize> Set<W> {
 
     /// Whether `v`, any number, is a member.
     pub fn has(&self, v: u32) -> bool
-        ensures { result ≡ set.contains self.now v }
+        ensures value { result ≡ set.contains self.now v }
     {
         let word = v as usize / 64;
         word < W && (self.words[word] >> (v % 64)) & 1 == 1
@@ -233,9 +233,9 @@ impl<const W: usize> Set<W> {
 
     /// The members of both.
     pub fn and(&self, other: &Set<W>) -> Set<W>
-        ensures { result ≡ set.intersection self.now other.now }
+        ensures value { result ≡ set.intersection self.now other.now }
     {
-        let used = passed::<W>(self.used).min(passed::<W>(other.used));
+        let used = words_passed::<W>(self.used).min(words_passed::<W>(other.used));
         let mut words = no_words();
         become_both(&mut words, &self.words, &other.words, used);
         Set { words, used }
@@ -243,9 +243,9 @@ impl<const W: usize> Set<W> {
 
     /// The members of either.
     pub fn or(&self, other: &Set<W>) -> Set<W>
-        ensures { result ≡ set.union self.now other.now }
+        ensures value { result ≡ set.union self.now other.now }
     {
-        let used = passed::<W>(self.used).max(passed::<W>(other.used));
+        let used = words_passed::<W>(self.used).max(words_passed::<W>(other.used));
         let mut words = no_words();
         become_either(&mut words, &self.words, &other.words, used);
         Set { words, used }
@@ -253,9 +253,9 @@ impl<const W: usize> Set<W> {
 
     /// The members that `other` doesn't have.
     pub fn minus(&self, other: &Set<W>) -> Set<W>
-        ensures { result ≡ set.difference self.now other.now }
+        ensures value { result ≡ set.difference self.now other.now }
     {
-        let used = passed::<W>(self.used);
+        let used = words_passed::<W>(self.used);
         let mut words = no_words();
         become_first_alone(&mut words, &self.words, &other.words, used);
         Set { words, used }
@@ -268,7 +268,7 @@ impl<const W: usize> Set<W> {
         ensures name { IfSome result (λ least. least < NAMES) }
         ensures below { IfSome result (λ least. least < 64 * W) }
     {
-        first_place(&self.words, v, passed::<W>(self.used))
+        first_place(&self.words, v, words_passed::<W>(self.used))
     }
 
     /// The greatest member; `None` exactly where there is none.
@@ -278,7 +278,7 @@ impl<const W: usize> Set<W> {
         ensures name { IfSome result (λ greatest. greatest < NAMES) }
         ensures below { IfSome result (λ greatest. greatest < 64 * W) }
     {
-        last_place(&self.words, passed::<W>(self.used))
+        last_place(&self.words, words_passed::<W>(self.used))
     }
 
     /// The member of a set with one member; `None` where it has more, or none.
@@ -297,31 +297,31 @@ impl<const W: usize> Set<W> {
 
     /// The number of members.
     pub fn count(&self) -> u32
-        ensures { result ≡ set.len self.now }
+        ensures value { result ≡ set.len self.now }
     {
-        count_bits(&self.words, passed::<W>(self.used))
+        count_bits(&self.words, words_passed::<W>(self.used))
     }
 
     /// Whether no name is a member.
     pub fn is_empty(&self) -> bool
-        ensures { IsTrue result ↔ (self.now ≡ set.empty) }
+        ensures exactly { IsTrue result ↔ (self.now ≡ set.empty) }
     {
-        are_all_zero(&self.words, passed::<W>(self.used))
+        are_all_zero(&self.words, words_passed::<W>(self.used))
     }
 
     /// Whether `other` has the same members.
     pub fn is_same(&self, other: &Set<W>) -> bool
-        ensures { IsTrue result ↔ (self.now ≡ other.now) }
+        ensures exactly { IsTrue result ↔ (self.now ≡ other.now) }
     {
-        let used = passed::<W>(self.used).max(passed::<W>(other.used));
+        let used = words_passed::<W>(self.used).max(words_passed::<W>(other.used));
         are_equal(&self.words, &other.words, used)
     }
 
     /// Whether `other` has each member.
     pub fn is_subset(&self, other: &Set<W>) -> bool
-        ensures { IsTrue result ↔ Within self.now other.now }
+        ensures exactly { IsTrue result ↔ Within self.now other.now }
     {
-        are_within(&self.words, &other.words, passed::<W>(self.used))
+        are_within(&self.words, &other.words, words_passed::<W>(self.used))
     }
 
     /// The members, ascending.
@@ -340,7 +340,7 @@ impl<const W: usize> Set<W> {
         ensures below { AllBelow self.now (64 * W) }
     {
         let at = v as usize / 64;
-        let used = passed::<W>(self.used);
+        let used = words_passed::<W>(self.used);
         if used <= at {
             return Members {
                 words: &self.words,
@@ -362,7 +362,7 @@ impl<const W: usize> Set<W> {
     pub fn insert_block(&mut self, first: u32, bits: u64)
         requires name { first < 64 * W }
         requires aligned { first % 64 ≡ 0 }
-        ensures { self.new ≡ set.union self.old (block first bits) }
+        ensures changed { self.new ≡ set.union self.old (block first bits) }
     {
         let block = first as usize / 64;
         self.words[block] |= bits;
@@ -376,7 +376,7 @@ impl<const W: usize> Set<W> {
     pub fn block(&self, first: u32) -> u64
         requires name { first < 64 * W }
         requires aligned { first % 64 ≡ 0 }
-        ensures { (k : ℕ) → k < 64 → set.contains self.now (first + k) ≡ (bit_at result k == 1) }
+        ensures bits { (k : ℕ) → k < 64 → set.contains self.now (first + k) ≡ (bit_at result k == 1) }
     {
         self.words[first as usize / 64]
     }
@@ -385,7 +385,7 @@ impl<const W: usize> Set<W> {
 // How many words are passed over where so many are in use: a word that is alone always is, so that
 // the operations on it are no loops.
 #[inline(always)]
-fn passed<const W: usize>(used: usize) -> usize
+fn words_passed<const W: usize>(used: usize) -> usize
     requires { used ≤ W }
     ensures few { result ≤ W }
     ensures all { used ≤ result }
@@ -470,7 +470,7 @@ mod tests {
         let rest = first.minus(&second);
         assert!(rt; rest.count() == 3 && !rest.has(127) && rest.has(NAMES - 1));
         let mut all = second.copy();
-        all.take_in(&rest);
+        all.union_with(&rest);
         assert_eq!(rt; all.count(), 5);
         assert!(rt; !all.is_empty());
     }
@@ -505,18 +505,18 @@ mod tests {
         names.move_unshared(&second, &mut to);
         assert!(rt; names.count() == 1 && names.has(65) && to.count() == 4 && to.has(NAMES - 1));
         let mut left = borders();
-        assert_eq!(rt; left.first_told_apart(&to, &to), None);
-        assert_eq!(rt; left.first_told_apart(&second, &to), Some(63));
-        left.move_told_apart(&second, &to, &mut names);
+        assert_eq!(rt; left.first_in_symmetric_difference(&to, &to), None);
+        assert_eq!(rt; left.first_in_symmetric_difference(&second, &to), Some(63));
+        left.move_symmetric_difference(&second, &to, &mut names);
         assert!(rt; left.count() == 1 && left.has(127) && names.count() == 4 && names.has(64));
-        assert_eq!(rt; left.first_told_apart(&second, &to), None);
-        left.flip(&names);
-        left.flip(&second);
+        assert_eq!(rt; left.first_in_symmetric_difference(&second, &to), None);
+        left.symmetric_difference_with(&names);
+        left.symmetric_difference_with(&second);
         assert!(rt; left.count() == 3 && left.has(64) && !left.has(65) && !left.has(127));
-        names.become_alone(&borders(), &left, &second);
+        names.set_to_difference(&borders(), &left, &second);
         assert!(rt; names.is_empty());
         left.remove(NAMES - 1);
-        names.become_alone(&borders(), &left, &second);
+        names.set_to_difference(&borders(), &left, &second);
         assert!(rt; names.count() == 1 && names.has(NAMES - 1));
     }
 }

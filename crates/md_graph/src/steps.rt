@@ -27,7 +27,7 @@ impl<L: Ledger> Steps<L> {
         requires name { blank.name ≡ L.name }
         requires parts { blank.parts ≡ L.parts }
         requires some { 0 < blank.parts }
-        ensures { result ≡ 0 }
+        ensures value { result ≡ 0 }
     {
         let (book, share) = blank.open::<L>();
         Steps { book, share }
@@ -35,7 +35,7 @@ impl<L: Ledger> Steps<L> {
 
     /// One step more.
     pub fn tick(&mut self)
-        ensures { self.new ≡ self.old + 1 }
+        ensures changed { self.new ≡ self.old + 1 }
     {
         self.book.add(&mut self.share, 1);
     }

@@ -9,7 +9,7 @@ use Rattle.md_graph.specs.PlainGraph.{PlainGraph}
 use Rattle.md_graph6.specs.Bits.{bit, pair_number, body_length}
 use Rattle.md_graph6.specs.Size.{size_text}
 use Rattle.md_graph6.specs.Written.{bit_if, are_adjacent, IsWritten}
-use Rattle.md_graph6.specs.Text.{column_bits, pair_bits, six_bits, bytes_of_bits, line_text, graph6_text}
+use Rattle.md_graph6.specs.Text.{column_bits, pair_bits, six_bits, bytes_of_bits, graph_line_text, graph6_text}
 use Rattle.md_graph6.proofs.WriteLemmas.{pair_next}
 
 length-column_bits : (g : PlainGraph) (j i : ℕ) → length (column_bits g j i) ≡ i
@@ -108,4 +108,4 @@ pub line_written : (line : List ℕ) (g : PlainGraph) (size n : ℕ) → n ≡ l
 unfolding graph6_text
 line_written line g size n count begins long written =
     ap (λ (l : List ℕ). l ++ 10 ∷ [])
-    (sym (take-append-drop size line) ∙ ap (λ (s : List ℕ). s ++ drop size line) begins ∙ ap (λ (b : List ℕ). size_text n ++ b) (written_bytes (drop size line) g n written long) ∙ ap (line_text g) count)
+    (sym (take-append-drop size line) ∙ ap (λ (s : List ℕ). s ++ drop size line) begins ∙ ap (λ (b : List ℕ). size_text n ++ b) (written_bytes (drop size line) g n written long) ∙ ap (graph_line_text g) count)

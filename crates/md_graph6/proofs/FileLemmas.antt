@@ -7,7 +7,7 @@ use Rattle.std.proofs.lemmas.Bool.{ne_eqb}
 use Rattle.md_graph.specs.PlainGraph.{PlainGraph, IsGraph}
 use Rattle.md_text.specs.Lines.{ended, LacksFeed, without_return}
 use Rattle.md_text.proofs.LineLemmas.{lines-ended, without_return-stays}
-use Rattle.md_text.specs.Spelling.{SpellsOnly, SpellsNone, fault_behind}
+use Rattle.md_text.specs.Spelling.{SpellsOnly, SpellsNone, first_fault_behind}
 use Rattle.md_graph6.specs.declared.fault.G6Fault.{G6Fault}
 use Rattle.md_graph6.specs.Line.{SpellsLine, line_fault, graph_of_line}
 use Rattle.md_graph6.specs.File.{without_header, file_lines, SpellEach, Spells, fault_after, HasNoFault, first_fault, graphs_of_lines, graphs_of}
@@ -20,7 +20,7 @@ use Rattle.md_graph6.proofs.ReadLemmas.{fault_or-none}
 -- lines that spell graphs have no fault, and are decoded to these graphs
 each_sound : (all : List (List ℕ)) (graphs : List PlainGraph) (before : ℕ) → SpellEach all graphs
     → (fault_after before all ≡ None) × (graphs_of_lines all ≡ graphs)
-unfolding SpellEach fault_behind graphs_of_lines line_fault
+unfolding SpellEach first_fault_behind graphs_of_lines line_fault
 each_sound [] graphs before spells = (refl, sym spells)
 each_sound ([] ∷ more) graphs before spells = each_sound more graphs (before + 1) spells
 each_sound ((byte ∷ line) ∷ more) [] before spells = absurd spells
@@ -31,7 +31,7 @@ each_sound ((byte ∷ line) ∷ more) (g ∷ graphs) before spells =
 
 -- lines without fault spell the graphs that are decoded
 sound_each : (all : List (List ℕ)) (before : ℕ) → fault_after before all ≡ None → SpellEach all (graphs_of_lines all)
-unfolding SpellEach fault_behind graphs_of_lines line_fault
+unfolding SpellEach first_fault_behind graphs_of_lines line_fault
 sound_each [] before sound = refl
 sound_each ([] ∷ more) before sound = sound_each more (before + 1) sound
 sound_each ((byte ∷ line) ∷ more) before sound =

@@ -8,7 +8,7 @@ use Rattle.md_graph.specs.declared.TheConstants.{NAMES}
 use Rattle.md_graph.specs.NameSet.{AllBelow}
 use Rattle.md_graph.specs.PlainGraph.{PlainGraph, IsGraph}
 use Rattle.md_text.specs.Lines.{lines, without_return}
-use Rattle.md_text.specs.Spelling.{fault_behind}
+use Rattle.md_text.specs.Spelling.{first_fault_behind}
 use Rattle.md_text.proofs.LineLemmas.{lines-nil, lines-feed, lines-other}
 use Rattle.md_graph6.specs.Bits.{IsBodyOf}
 use Rattle.md_graph6.specs.File.{HasNoFault, fault_after, stripped_lines, graphs_of_lines, graphs_in}
@@ -119,7 +119,7 @@ begins_with byte (line ∷ more) other =
 
 -- the first of lines without fault has none
 first_sound : (line : List ℕ) (more : List (List ℕ)) → HasNoFault (line ∷ more) → line_fault line ≡ None
-unfolding fault_behind
+unfolding first_fault_behind
 first_sound line more sound = (fault_or-none (line_fault line) 1 (fault_after 1 more) sound).0
 
 -- the first byte that ends no line tells whether the first graph is small

@@ -5,7 +5,7 @@ use Rattle.std.proofs.lemmas.Bool.{eq-eqb}
 use Rattle.std.proofs.lemmas.Bool.Decides.{eqb_tells}
 use Rattle.md_text.specs.Lines.{lines, without_return}
 use Rattle.md_text.proofs.LineLemmas.{no_lines}
-use Rattle.md_text.specs.Spelling.{fault_or, fault_behind}
+use Rattle.md_text.specs.Spelling.{fault_or, first_fault_behind}
 use Rattle.md_graph6.specs.declared.fault.G6Fault.{G6Fault}
 use Rattle.md_graph6.specs.declared.fault.G6Kind.{G6Kind}
 use Rattle.md_graph6.specs.Line.{line_fault, graph_of_line}
@@ -22,7 +22,7 @@ stripped_lines-cut text line rest cut = rw cut refl
 
 -- no lines have no fault
 pub fault_after-end : (before : ℕ) (text : List ℕ) → length text ≡ 0 → fault_after before (stripped_lines text) ≡ None
-unfolding fault_behind
+unfolding first_fault_behind
 fault_after-end before text none = rw (stripped_lines-empty text none) refl
 
 -- no lines give no graphs
@@ -34,7 +34,7 @@ graphs_of_lines-end text none = rw (stripped_lines-empty text none) refl
 pub fault_after-cut : (before : ℕ) (text line rest : List ℕ) → lines text ≡ line ∷ lines rest
     → fault_after before (stripped_lines text)
     ≡ fault_or fault_at (line_fault (without_return line)) (before + 1) (fault_after (before + 1) (stripped_lines rest))
-unfolding fault_behind
+unfolding first_fault_behind
 fault_after-cut before text line rest cut = rw (stripped_lines-cut text line rest cut) refl
 
 -- the graphs behind an empty line
@@ -137,7 +137,7 @@ fault_or-none (Some kind) number later e = cc
 -- whether there is a fault doesn't depend on the numbers of the lines
 fault_after-renumbered : (all : List (List ℕ)) (before other : ℕ) → fault_after before all ≡ None
     → fault_after other all ≡ None
-unfolding fault_behind
+unfolding first_fault_behind
 fault_after-renumbered [] before other sound = refl
 fault_after-renumbered (line ∷ more) before other sound =
     let parts = fault_or-none (line_fault line) (before + 1) (fault_after (before + 1) more) sound in

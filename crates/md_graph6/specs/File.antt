@@ -4,7 +4,7 @@ use Rattle.std.specs.Prelude.{◌≡◌, ℕ, List, [], ◌∷◌, length, map, 
 use Rattle.std.specs.List.{starts_with}
 use Rattle.md_graph.specs.PlainGraph.{PlainGraph}
 use Rattle.md_text.specs.Lines.{lines, without_return}
-use Rattle.md_text.specs.Spelling.{fault_behind}
+use Rattle.md_text.specs.Spelling.{first_fault_behind}
 use Rattle.md_graph6.specs.declared.fault.G6Fault.{G6Fault}
 use Rattle.md_graph6.specs.declared.fault.G6Kind.{G6Kind}
 use Rattle.md_graph6.specs.Line.{SpellsLine, line_fault, graph_of_line}
@@ -42,7 +42,7 @@ fault_at kind line = record { kind = kind; line = line }
 
 -- the first fault of lines behind `before` others
 abbrev pub fault_after : ℕ → List (List ℕ) → Option G6Fault
-fault_after = fault_behind {S = Unit {0}} fault_at (λ _ line. line_fault line) (λ seen _. seen) (λ _ _. None) tt
+fault_after = first_fault_behind {S = Unit {0}} fault_at (λ _ line. line_fault line) (λ seen _. seen) (λ _ _. None) tt
 
 -- the first fault of a file: that of its first faulty line, with the number of the line, counted from 1
 abbrev pub first_fault : List ℕ → Option G6Fault

@@ -29,9 +29,9 @@ bytes_of_bits bits zero = []
 bytes_of_bits bits (suc k) = bytes_of_bits bits k ++ (63 + six_bits bits (6 * k)) ∷ []
 
 -- the line of a graph of n vertices: the size in its shortest spelling, and the bits, filled up with zeros
-abbrev pub line_text : PlainGraph → ℕ → List ℕ
-line_text g n = size_text n ++ bytes_of_bits (pair_bits g n) (body_length n)
+abbrev pub graph_line_text : PlainGraph → ℕ → List ℕ
+graph_line_text g n = size_text n ++ bytes_of_bits (pair_bits g n) (body_length n)
 
 -- the line of a graph, and a line feed
 unfoldable pub graph6_text : PlainGraph → List ℕ
-graph6_text g = line_text g (length (ascending g.vertices)) ++ 10 ∷ []
+graph6_text g = graph_line_text g (length (ascending g.vertices)) ++ 10 ∷ []

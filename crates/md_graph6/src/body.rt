@@ -26,7 +26,7 @@ const MOST_SHORT: u32 = 24;
 
 // Six bits turned round.
 #[inline]
-pub(crate) fn turned(group: u64) -> u8
+pub(crate) fn reversed_group(group: u64) -> u8
     requires { group < 64 }
     ensures below { result < 64 }
     ensures bits { (k : ℕ) → k < 6 → bit_at result k ≡ bit_at group (5 - k) }
@@ -42,12 +42,12 @@ pub(crate) fn bits_of(byte: u8) -> u64
     ensures below { result < 64 }
     ensures bits { (k : ℕ) → k < 6 → bit_at result k ≡ bit_at (byte - 63) (5 - k) }
 {
-    turned(u64::from(byte) - 63) as u64
+    reversed_group(u64::from(byte) - 63) as u64
 }
 
 // The bits of `low`, n of them, and those of `high` behind them.
 #[inline]
-fn joined(low: u64, high: u64, n: u32) -> u64
+fn join_bits(low: u64, high: u64, n: u32) -> u64
     requires low { low < 2 ^ n }
     requires high { high < 2 ^ 12 }
     requires room { n ≤ 52 }
@@ -63,7 +63,7 @@ fn two_groups(body: &[u8], at: usize) -> u64
     requires inside { at + 1 < length body.now }
     ensures { IsWindow body.now (6 * at) 12 result }
 {
-    joined(bits_of(body[at]), bits_of(body[at + 1]), 6)
+    join_bits(bits_of(body[at]), bits_of(body[at + 1]), 6)
 }
 
 // The sixty bits of ten bytes.
@@ -73,10 +73,10 @@ fn ten_groups(body: &[u8], at: usize) -> u64
     requires inside { at + 9 < length body.now }
     ensures { IsWindow body.now (6 * at) 60 result }
 {
-    let word = joined(two_groups(body, at), two_groups(body, at + 2), 12);
-    let word = joined(word, two_groups(body, at + 4), 24);
-    let word = joined(word, two_groups(body, at + 6), 36);
-    joined(word, two_groups(body, at + 8), 48)
+    let word = join_bits(two_groups(body, at), two_groups(body, at + 2), 12);
+    let word = join_bits(word, two_groups(body, at + 4), 24);
+    let word = join_bits(word, two_groups(body, at + 6), 36);
+    join_bits(word, two_groups(body, at + 8), 48)
 }
 
 // 64 bits of the body from bit `shift` of byte `at` on.
@@ -93,7 +93,7 @@ fn bits_inside(body: &[u8], at: usize, shift: u32) -> u64
 }
 
 // Twelve bytes of the body from `at` on; behind its end they have no bit.
-fn padded(body: &[u8], at: usize) -> [u8; 12]
+fn twelve_bytes(body: &[u8], at: usize) -> [u8; 12]
     requires groups { AreGroups body.now }
     requires place { at < 2 ^ 62 }
     ensures groups { AreGroups result }
@@ -120,7 +120,7 @@ pub(crate) fn bits_from(body: &[u8], place: usize) -> u64
     if body.len() >= 12 && at <= body.len() - 12 {
         return bits_inside(body, at, shift);
     }
-    bits_inside(&padded(body, at), 0, shift)
+    bits_inside(&twelve_bytes(body, at), 0, shift)
 }
 
 // The lowest `count` bits.

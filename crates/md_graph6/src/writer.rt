@@ -13,7 +13,7 @@ ghost use Rattle.md_graph6.specs.Short.{put_bit, IsUnput};
 ghost use Rattle.md_graph6.specs.Written.{bit_if, nth, renumbered, AreFrom, IsWritten, IsTextOf};
 ghost use Rattle.md_graph6.specs.Text.{graph6_text};
 
-use crate::body::{bits_of, column_place, low_bits, turned};
+use crate::body::{bits_of, column_place, low_bits, reversed_group};
 use crate::line::{MOST_IN_ONE_BYTE, body_length};
 use md_graph::{GraphOf, Memory, NAMES, Set, WORDS};
 use std::alloc::Global;
@@ -31,7 +31,7 @@ fn byte_of(bits: u64) -> u8
     ensures high { result < 127 }
     ensures bits { (k : ℕ) → k < 6 → bit_at (result - 63) (5 - k) ≡ bit_at bits k }
 {
-    NO_BITS + turned(bits & 63)
+    NO_BITS + reversed_group(bits & 63)
 }
 
 // Sets one byte.

@@ -4,7 +4,7 @@ use Rattle.std.specs.Bool.{OnTrue, OnFalse}
 use Rattle.md_graph.specs.PlainGraph.{PlainGraph}
 use Rattle.md_graph6.specs.File.{first_fault, graphs_of, graphs_of_lines, Spells}
 use Rattle.md_text.specs.Lines.{lines}
-use Rattle.md_text.specs.Spelling.{fault_behind}
+use Rattle.md_text.specs.Spelling.{first_fault_behind}
 use Rattle.md_graph6.proofs.FileLemmas.{spelled_or_faulty}
 use Rattle.md_input.specs.declared.format.Format.{Format}
 use Rattle.md_input.specs.declared.format.Format.TheVariants.{G6}
@@ -20,7 +20,7 @@ spelled_lines from is file graphs faultless same =
 
 -- no bytes have no fault and no graphs
 pub faultless_nothing : first_fault [] ≡ None
-unfolding lines fault_behind
+unfolding lines first_fault_behind
 faultless_nothing = refl
 
 pub none_of_nothing : graphs_of [] ≡ []

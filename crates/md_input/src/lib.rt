@@ -6,8 +6,8 @@ mod fault;
 mod format;
 mod graphs;
 mod inputs;
-mod narrow;
 mod room;
+mod small_copy;
 #[cfg(test)]
 mod tests;
 

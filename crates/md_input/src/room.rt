@@ -5,7 +5,7 @@ ghost use Rattle.md_graph.specs.PlainGraph.{empty_graph};
 ghost use Rattle.md_graph6.specs.First.{FirstBelow};
 ghost use Rattle.md_input.specs.Rooms.{IsGraphBySize};
 
-use crate::narrow::{is_small, narrow};
+use crate::small_copy::{copy_small, is_small};
 use md_graph::{Graph, GraphOf, Memory};
 use md_graph6::Lines;
 use std::alloc::Global;
@@ -92,7 +92,7 @@ impl Room {
         if self.is_large {
             self.large = Some(graph);
         } else {
-            narrow(&graph, &mut self.small);
+            copy_small(&graph, &mut self.small);
         }
         true
     }

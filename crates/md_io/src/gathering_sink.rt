@@ -6,7 +6,7 @@ ghost use Rattle.md_io.specs.Count.{count_up};
 ghost use Rattle.md_io.specs.Front.{AppendsFront, Begins};
 ghost use Rattle.md_io.specs.StdSink.{IsWriterPut};
 
-use crate::system::{flushed, put_whole};
+use crate::system::{end_flush, put_whole};
 use crate::{PutFault, Sink};
 use std::alloc::Global;
 use std::io::{BufWriter, Write};
@@ -76,6 +76,6 @@ impl<W: Write + Drop> Sink for GatheringSink<W> {
 
     fn flush(&mut self) -> Result<(), PutFault> {
         let done = !self.broken && self.writer.flush().is_ok();
-        flushed(done, &mut self.broken, &mut self.faults)
+        end_flush(done, &mut self.broken, &mut self.faults)
     }
 }

@@ -299,22 +299,22 @@ pub(crate) fn put_whole<W: Write>(
     if piece.is_empty() {
         return Ok(());
     }
-    counted(!broken && write_whole(writer, piece), faults)
+    put_end(!broken && write_whole(writer, piece), faults)
 }
 
 // The answer of a flush, given whether it was done: if it wasn't, the sink is broken from then on.
-pub(crate) fn flushed(done: bool, broken: &mut bool, faults: &mut u64) -> Result<(), PutFault>
+pub(crate) fn end_flush(done: bool, broken: &mut bool, faults: &mut u64) -> Result<(), PutFault>
     ensures done { IsOk result ↔ IsTrue done }
     ensures broken { broken.new ≡ not done }
     ensures counts { IsWriterPut result faults.old faults.new }
     ensures never_fall { faults.old ≤ faults.new }
 {
     *broken = !done;
-    counted(done, faults)
+    put_end(done, faults)
 }
 
 // Ok where a piece was taken or a flush done, else a fault that is counted.
-fn counted(done: bool, faults: &mut u64) -> Result<(), PutFault>
+fn put_end(done: bool, faults: &mut u64) -> Result<(), PutFault>
     ensures done { IsOk result ↔ IsTrue done }
     ensures counts { IsWriterPut result faults.old faults.new }
     ensures never_fall { faults.old ≤ faults.new }
@@ -365,6 +365,6 @@ impl<W: Write + Drop> Sink for StdSink<W> {
 
     fn flush(&mut self) -> Result<(), PutFault> {
         let done = !self.broken && self.writer.flush().is_ok();
-        flushed(done, &mut self.broken, &mut self.faults)
+        end_flush(done, &mut self.broken, &mut self.faults)
     }
 }

@@ -7,8 +7,9 @@ use Rattle.std.specs.List.{count_by}
 use Rattle.md_lists.specs.declared.span.Span.{Span}
 use Rattle.md_lists.specs.declared.kinds.PlaceKind.{PlaceKind}
 use Rattle.md_lists.specs.declared.TheConstants.{PLACES}
-use Rattle.md_lists.specs.Words.{times, holds_once}
-use Rattle.md_lists.specs.Spans.{span_of, Follow, Precede}
+use Rattle.md_lists.specs.Words.{holds_once}
+use Rattle.md_graph.specs.Linked.{Follow, times}
+use Rattle.md_lists.specs.Spans.{span_of, Precede}
 use Rattle.md_lists.specs.Links.{all_free}
 use Rattle.md_lists.specs.Store.{Store, Shows}
 

@@ -6,7 +6,8 @@ use Rattle.std.proofs.lemmas.List.{get_or_read}
 use Rattle.md_lists.specs.declared.span.Span.{Span}
 use Rattle.md_lists.specs.declared.TheConstants.{PLACES}
 use Rattle.md_lists.specs.declared.lists.Lists.TheInside.{Inside}
-use Rattle.md_lists.specs.Words.{times, first_or, last_or}
+use Rattle.md_lists.specs.Words.{last_or}
+use Rattle.md_graph.specs.Linked.{first_or, times}
 use Rattle.md_lists.specs.Spans.{span_of, linked}
 use Rattle.md_lists.specs.Links.{Links, parent_at, children_at, IsLive, attached, detached, replaced}
 use Rattle.md_lists.specs.Store.{Shows}

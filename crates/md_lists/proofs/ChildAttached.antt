@@ -3,8 +3,9 @@ use Rattle.std.proofs.Common.{◌≡◌, ◌≢◌, ℕ, ◌+◌, List, [], ◌�
 use Rattle.std.proofs.lemmas.Bool.{eq-eqb, ne_eqb}
 use Rattle.std.proofs.lemmas.List.{get_or-set_same, get_or-set_other, length-set}
 use Rattle.md_lists.specs.declared.span.Span.{Span}
-use Rattle.md_lists.specs.Words.{times, last_or}
-use Rattle.md_lists.specs.Spans.{span_of, linked, Follow}
+use Rattle.md_lists.specs.Words.{last_or}
+use Rattle.md_graph.specs.Linked.{Follow, times}
+use Rattle.md_lists.specs.Spans.{span_of, linked}
 use Rattle.md_lists.specs.Links.{Links, parent_at, children_at, IsLive, attached}
 use Rattle.md_lists.specs.Store.{Store, Shows}
 use Rattle.md_lists.proofs.Following.{linked-other, length-linked, relinked}

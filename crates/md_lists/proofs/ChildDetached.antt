@@ -4,8 +4,9 @@ use Rattle.std.proofs.lemmas.Bool.{eq-eqb, ne_eqb}
 use Rattle.std.proofs.lemmas.List.{get_or-set_same, get_or-set_other, length-set}
 use Rattle.md_lists.specs.declared.span.Span.{Span}
 use Rattle.md_lists.specs.declared.TheConstants.{PLACES}
-use Rattle.md_lists.specs.Words.{times, first_or, last_or, without, exchanged}
-use Rattle.md_lists.specs.Spans.{span_of, linked, Follow, Precede}
+use Rattle.md_lists.specs.Words.{last_or, without, exchanged}
+use Rattle.md_graph.specs.Linked.{first_or, Follow, times}
+use Rattle.md_lists.specs.Spans.{span_of, linked, Precede}
 use Rattle.md_lists.specs.Links.{Links, parent_at, children_at, IsLive, detached, replaced}
 use Rattle.md_lists.specs.Store.{Store, Shows}
 use Rattle.md_lists.proofs.ListLaws.{times-split, first_low, last_low, without-split, exchanged-split, SplitsAt, split_once}

@@ -3,8 +3,10 @@ use Rattle.std.proofs.Common.{◌≡◌, ◌≢◌, ℕ, ◌<◌, ◌≤◌, Lis
 use Rattle.std.proofs.lemmas.Bool.{cases_eq, eq-eqb, ne_eqb}
 use Rattle.std.proofs.lemmas.List.{get_or-set_same, get_or-set_other, length-set}
 use Rattle.md_lists.specs.declared.span.Span.{Span}
-use Rattle.md_lists.specs.Words.{times, first_or, last_or, behind}
-use Rattle.md_lists.specs.Spans.{span_of, Follow, Precede, linked, walk, span_list}
+use Rattle.md_lists.specs.Words.{last_or, behind}
+use Rattle.md_graph.specs.Linked.{first_or, Follow, times}
+use Rattle.md_graph.proofs.LinkedLists.{walk-follow}
+use Rattle.md_lists.specs.Spans.{span_of, Precede, linked, span_list}
 use Rattle.md_lists.proofs.ListLaws.{times-first, times-other, first_or-append, last_in}
 
 -- ---- one link
@@ -100,10 +102,5 @@ follow_behind ns (x ∷ xs) p h some =
       | inr other ↦ rw (ne_eqb x p other) (follow_behind ns xs p h.1 (let e = times-other p x xs other in omega arith))
     ]
 
-walked : (ns : List (Option ℕ)) (xs : List ℕ) → Follow ns xs None → walk ns (length xs) (first_or xs None) ≡ xs
-unfolding walk
-walked ns [] h = refl
-walked ns (x ∷ xs) h = ap (λ l. x ∷ l) (ap (walk ns (length xs)) h.0 ∙ walked ns xs h.1)
-
 pub span_list-is : (ns : List (Option ℕ)) (r : Span) (xs : List ℕ) → r ≡ span_of xs → Follow ns xs None → span_list ns r ≡ xs
-span_list-is ns r xs is h = ap (span_list ns) is ∙ walked ns xs h
+span_list-is ns r xs is h = ap (span_list ns) is ∙ walk-follow ns xs h

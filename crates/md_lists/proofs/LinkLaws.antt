@@ -5,7 +5,8 @@ use Rattle.std.proofs.lemmas.Option.{none-some, same_Some}
 use Rattle.std.proofs.lemmas.List.{get_or-set_same, get_or-set_other, get_or_past, length-set}
 use Rattle.md_lists.specs.declared.kinds.PlaceKind.{PlaceKind}
 use Rattle.md_lists.specs.declared.TheConstants.{PLACES}
-use Rattle.md_lists.specs.Words.{times, holds_once, without, exchanged, joined}
+use Rattle.md_lists.specs.Words.{holds_once, without, exchanged, added_once}
+use Rattle.md_graph.specs.Linked.{times}
 use Rattle.md_lists.specs.Links.{Links, kind_at, parent_at, children_at, tally_at, note_at, IsLive, IsBare, AreLinks, with_kind, attached, detached, replaced, raised, noted, unmarked_first}
 use Rattle.md_lists.proofs.ListLaws.{times-split, times-first, times-without, exchanged-split, times-joined-same, times-joined-other, few, split_once}
 
@@ -339,7 +340,7 @@ module _ (l : Links) (ok : AreLinks l) where
   -- ---- marks
 
   -- a live place is marked from now on, whatever its tally and its note are, if they aren't both 0
-  marked_links : (p : ℕ) (tallies notes : List ℕ) → IsLive l p → length tallies ≡ PLACES → length notes ≡ PLACES → 0 < get_or tallies p 0 + get_or notes p 0 → ((x : ℕ) → x ≢ p → get_or tallies x 0 ≡ tally_at l x) → ((x : ℕ) → x ≢ p → get_or notes x 0 ≡ note_at l x) → AreLinks (record l { tallies = tallies; notes = notes; marked = joined p l.marked })
+  marked_links : (p : ℕ) (tallies notes : List ℕ) → IsLive l p → length tallies ≡ PLACES → length notes ≡ PLACES → 0 < get_or tallies p 0 + get_or notes p 0 → ((x : ℕ) → x ≢ p → get_or tallies x 0 ≡ tally_at l x) → ((x : ℕ) → x ≢ p → get_or notes x 0 ≡ note_at l x) → AreLinks (record l { tallies = tallies; notes = notes; marked = added_once p l.marked })
   marked_links p tallies notes live tallies_len notes_len some tally note = record {
     kinds_len = ok.kinds_len;
     parents_len = ok.parents_len;
@@ -350,7 +351,7 @@ module _ (l : Links) (ok : AreLinks l) where
     marks = λ x. elim (cases_eq x p) [
       | inl same ↦
           let here : 0 < get_or tallies x 0 + get_or notes x 0 = subst (λ z. 0 < get_or tallies z 0 + get_or notes z 0) (sym same) some in
-          let one : times x (joined p l.marked) ≡ 1 = ap (λ z. times z (joined p l.marked)) same ∙ times-joined-same p l.marked (mark_once p) in
+          let one : times x (added_once p l.marked) ≡ 1 = ap (λ z. times z (added_once p l.marked)) same ∙ times-joined-same p l.marked (mark_once p) in
           omega arith
       | inr other ↦
           let t = tally x other in

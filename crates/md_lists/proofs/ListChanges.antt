@@ -2,7 +2,8 @@
 use Rattle.std.proofs.Common.{◌≡◌, ◌≢◌, ℕ, ◌<◌, List, [], ◌∷◌, length, get_or, set, Some, None, refl, sym, ◌∙◌, ap, subst, inl, inr, arith}
 use Rattle.std.proofs.lemmas.Bool.{cases_eq, eq-eqb, ne_eqb}
 use Rattle.md_lists.specs.declared.span.Span.{Span}
-use Rattle.md_lists.specs.Words.{times, first_or, last_or}
+use Rattle.md_lists.specs.Words.{last_or}
+use Rattle.md_graph.specs.Linked.{first_or, times}
 use Rattle.md_lists.specs.Spans.{span_of}
 use Rattle.md_lists.specs.Links.{Links, children_at}
 use Rattle.md_lists.proofs.ListLaws.{first_in, last_in}

@@ -4,7 +4,8 @@ use Rattle.std.specs.Option.{option_or}
 use Rattle.std.proofs.lemmas.Bool.{cases_eq, eq-eqb, ne_eqb}
 use Rattle.std.proofs.lemmas.Option.{none-some, same_Some}
 use Rattle.md_lists.specs.declared.span.Span.{Span}
-use Rattle.md_lists.specs.Words.{times, first_or, last_or, without, exchanged, joined}
+use Rattle.md_lists.specs.Words.{last_or, without, exchanged, added_once}
+use Rattle.md_graph.specs.Linked.{first_or, times}
 use Rattle.md_lists.specs.Spans.{span_of}
 
 -- ---- how often
@@ -48,14 +49,14 @@ split_once c xs one =
     let all : times c at.0 + (1 + times c at.1) ≡ 1 = rw e at (sym parts ∙ counted) in
     (at.0, at.1, record { whole = at.2; left = omega arith; right = omega arith })
 
-pub times-joined-same : (p : ℕ) (xs : List ℕ) → times p xs ≤ 1 → times p (joined p xs) ≡ 1
+pub times-joined-same : (p : ℕ) (xs : List ℕ) → times p xs ≤ 1 → times p (added_once p xs) ≡ 1
 times-joined-same p xs once =
     elim (cases_eq (times p xs) 0) [
       | inl none ↦ rw (eq-eqb (times p xs) 0 none) (times-split p p xs [] ∙ rw (eq-eqb p p refl) (omega arith))
       | inr some ↦ rw (ne_eqb (times p xs) 0 some) (omega arith)
     ]
 
-pub times-joined-other : (x p : ℕ) (xs : List ℕ) → x ≢ p → times x (joined p xs) ≡ times x xs
+pub times-joined-other : (x p : ℕ) (xs : List ℕ) → x ≢ p → times x (added_once p xs) ≡ times x xs
 times-joined-other x p xs other =
     elim (cases_eq (times p xs) 0) [
       | inl none ↦ rw (eq-eqb (times p xs) 0 none) (times-split x p xs [] ∙ rw (ne_eqb p x (λ e. other (sym e))) (omega arith))

@@ -3,8 +3,9 @@ use Rattle.std.proofs.Common.{◌≡◌, ◌≢◌, ℕ, ◌+◌, ◌<◌, cond,
 use Rattle.std.proofs.lemmas.Bool.{cases_eq, cases_Bool, eq-eqb, ne_eqb}
 use Rattle.std.proofs.lemmas.List.{get_or-set_same, get_or-set_other, length-set}
 use Rattle.md_lists.specs.declared.span.Span.{Span}
-use Rattle.md_lists.specs.Words.{times, last_or, joined}
-use Rattle.md_lists.specs.Spans.{span_of, linked, Follow}
+use Rattle.md_lists.specs.Words.{last_or, added_once}
+use Rattle.md_graph.specs.Linked.{Follow, times}
+use Rattle.md_lists.specs.Spans.{span_of, linked}
 use Rattle.md_lists.specs.Links.{Links, tally_at, note_at, IsLive, raised, noted, unmarked_first}
 use Rattle.md_lists.specs.Store.{Store, ShowsMarked, Shows}
 use Rattle.md_lists.proofs.Following.{length-linked, follow_same, follow_together, relinked}
@@ -24,7 +25,7 @@ module _ (f : Store) (l : Links) (s : Shows f l) where
     joined_nexts : ms ≡ cond (times p l.marked == 0) (set (linked f.mark_nexts f.marks.last (Some p)) p None) f.mark_nexts
     joined_nexts = nexts ∙ ap (λ b. cond b (set (linked f.mark_nexts f.marks.last (Some p)) p None) f.mark_nexts) (sym same_test)
 
-    joined_forward : Follow ms (joined p l.marked) None
+    joined_forward : Follow ms (added_once p l.marked) None
     joined_forward =
         elim (cases_eq (times p l.marked) 0) [
           | inl none ↦
@@ -44,7 +45,7 @@ module _ (f : Store) (l : Links) (s : Shows f l) where
         longer : List (Option ℕ)
         longer = linked f.mark_nexts (last_or l.marked None) (Some p)
 
-    joins : ShowsMarked (joined p l.marked) r ms
+    joins : ShowsMarked (added_once p l.marked) r ms
     joins = record {
       mark_nexts_len = ap length joined_nexts ∙ elim (cases_Bool (times p l.marked == 0)) [
         | inl t ↦ rw t (length-set (linked f.mark_nexts f.marks.last (Some p)) p None ∙ length-linked f.mark_nexts f.marks.last (Some p) ∙ s.mark_nexts_len)

@@ -5,8 +5,9 @@ use Rattle.std.proofs.lemmas.List.{get_or_read}
 use Rattle.md_lists.specs.declared.span.Span.{Span}
 use Rattle.md_lists.specs.declared.TheConstants.{PLACES}
 use Rattle.md_lists.specs.declared.lists.Lists.TheInside.{Inside}
-use Rattle.md_lists.specs.Words.{first_or, last_or}
-use Rattle.md_lists.specs.Spans.{span_of, Follow, linked}
+use Rattle.md_lists.specs.Words.{last_or}
+use Rattle.md_graph.specs.Linked.{first_or, Follow}
+use Rattle.md_lists.specs.Spans.{span_of, linked}
 use Rattle.md_lists.specs.Links.{Links, tally_at, note_at, IsLive, raised, noted, unmarked_first, unmarked}
 use Rattle.md_lists.specs.Store.{Shows}
 use Rattle.md_lists.specs.Kept.{store_of, links_kept, IsKept}

@@ -1,8 +1,9 @@
 -- Links after one list of children changes in the middle: some items go, others come.
 use Rattle.std.proofs.Common.{◌≡◌, ◌≢◌, ℕ, ◌+◌, ◌<◌, List, ◌++◌, get_or, Option, None, sym, ◌∙◌, ap, subst, inl, inr, arith}
 use Rattle.std.proofs.lemmas.Bool.{cases_eq, cases_lt}
-use Rattle.md_lists.specs.Words.{times, first_or, last_or}
-use Rattle.md_lists.specs.Spans.{Follow, Precede}
+use Rattle.md_lists.specs.Words.{last_or}
+use Rattle.md_graph.specs.Linked.{first_or, Follow, times}
+use Rattle.md_lists.specs.Spans.{Precede}
 use Rattle.md_lists.specs.Links.{Links, parent_at, children_at, AreLinks}
 use Rattle.md_lists.proofs.ListLaws.{times-append}
 use Rattle.md_lists.proofs.LinkLaws.{child_once, loose_child, one_parent}

@@ -4,7 +4,8 @@ use Rattle.std.specs.Prelude.{Option, Some, None, ◌≡◌, ℕ, ◌+◌, min, 
 use Rattle.std.specs.List.{count_by}
 use Rattle.md_lists.specs.declared.kinds.PlaceKind.{PlaceKind}
 use Rattle.md_lists.specs.declared.TheConstants.{PLACES}
-use Rattle.md_lists.specs.Words.{times, holds_once, without, exchanged, joined}
+use Rattle.md_lists.specs.Words.{holds_once, without, exchanged, added_once}
+use Rattle.md_graph.specs.Linked.{times}
 
 -- what is kept, one item a place; `marked` is the list of marked places
 pub record Links : Type 0 where
@@ -107,11 +108,11 @@ replaced l q p n = record l {
 
 -- the tally of p is one more, and p is marked
 abbrev pub raised : Links → ℕ → Links
-raised l p = record l { tallies = slice_set l.tallies p (tally_at l p + 1); marked = joined p l.marked }
+raised l p = record l { tallies = slice_set l.tallies p (tally_at l p + 1); marked = added_once p l.marked }
 
 -- p has another note, and is marked
 abbrev pub noted : Links → ℕ → ℕ → Links
-noted l p note = record l { notes = slice_set l.notes p note; marked = joined p l.marked }
+noted l p note = record l { notes = slice_set l.notes p note; marked = added_once p l.marked }
 
 -- of marked places, the first leaves them, and its tally and its note are 0
 abbrev pub unmarked_first : Links → List ℕ → Links

@@ -5,9 +5,9 @@ use Rattle.std.specs.List.{count_by}
 use Rattle.md_lists.specs.declared.kinds.PlaceKind.{PlaceKind}
 use Rattle.md_lists.specs.declared.span.Span.{Span}
 use Rattle.md_lists.specs.declared.TheConstants.{PLACES}
-use Rattle.md_lists.specs.Words.{times}
+use Rattle.md_graph.specs.Linked.{Follow, times}
 use Rattle.md_lists.specs.Links.{Links, AreLinks}
-use Rattle.md_lists.specs.Spans.{span_of, span_list, Follow, Precede}
+use Rattle.md_lists.specs.Spans.{span_of, span_list, Precede}
 
 -- what the lists keep, one item a place, but for `marks`, the ends of the list of marked places, and `free`, the free places
 pub record Store : Type 0 where

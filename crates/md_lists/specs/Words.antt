@@ -1,22 +1,13 @@
--- What is said of lists of places: how often one stands there, what is first, last, next.
+-- What is said of lists of places: what is last, what is behind one, what is left without one.
 -- Source: finite sequences, as in any textbook.
 use Rattle.std.specs.Prelude.{Option, Some, None, ℕ, ◌+◌, cond, not, List, [], ◌∷◌, ◌++◌, map, ◌==◌, if◌then◌else◌}
 use Rattle.std.specs.List.{filter}
-
--- how often p stands in the list
-abbrev pub times : ℕ → List ℕ → ℕ
-times p [] = 0
-times p (x ∷ xs) = cond (x == p) 1 0 + times p xs
+use Rattle.md_graph.specs.Linked.{times, first_or}
 
 -- 1 where there is a place and it is p, else 0
 abbrev pub holds_once : Option ℕ → ℕ → ℕ
 holds_once None p = 0
 holds_once (Some q) p = cond (q == p) 1 0
-
--- the first item, or `after` where there is none
-abbrev pub first_or : List ℕ → Option ℕ → Option ℕ
-first_or [] after = after
-first_or (x ∷ xs) after = Some x
 
 -- the last item, or `before` where there is none
 abbrev pub last_or : List ℕ → Option ℕ → Option ℕ
@@ -37,5 +28,5 @@ abbrev pub exchanged : ℕ → ℕ → List ℕ → List ℕ
 exchanged p n xs = map (λ x. if x == p then n else x) xs
 
 -- the list with p at its end, unless p stands there already
-abbrev pub joined : ℕ → List ℕ → List ℕ
-joined p xs = if times p xs == 0 then xs ++ p ∷ [] else xs
+abbrev pub added_once : ℕ → List ℕ → List ℕ
+added_once p xs = if times p xs == 0 then xs ++ p ∷ [] else xs

@@ -1,6 +1,7 @@
 //! Linked lists in place.
 ghost use Rattle.std.specs.Prelude.{◌≡◌, ◌≢◌, ℕ, ◌+◌, ◌<◌, ◌≤◌, List, [], ◌∷◌, ◌++◌, length, IfOk, IsSome, vec_len, vec_capacity, IfSome, ◌^◌, Some, None, slice_set, ◌==◌, if◌then◌else◌};
-ghost use Rattle.md_lists.specs.Words.{times, first_or, behind};
+ghost use Rattle.md_lists.specs.Words.{behind};
+ghost use Rattle.md_graph.specs.Linked.{first_or, times};
 ghost use Rattle.md_lists.specs.Links.{kind_at, parent_at, children_at, tally_at, note_at, IsLive, IsMarked, IsBare, AreLinks, spare_count, siblings, all_free, with_kind, attached, detached, replaced, raised, noted, unmarked};
 ghost use Rattle.md_lists.specs.Spans.{span_of, linked};
 

@@ -1,6 +1,7 @@
 //! The ends of a list in place, and its links.
 ghost use Rattle.std.specs.Prelude.{◌≡◌, ℕ, ◌+◌, ◌-◌, ◌^◌, ◌<◌, List, [], ◌∷◌, ◌++◌, IfSome, is_some, if◌then◌else◌, vec_len};
-ghost use Rattle.md_lists.specs.Words.{first_or, last_or};
+ghost use Rattle.md_lists.specs.Words.{last_or};
+ghost use Rattle.md_graph.specs.Linked.{first_or};
 ghost use Rattle.md_lists.specs.Spans.{span_of, linked};
 
 // The first and the last item of a list in place, and the number of its items.

@@ -2,7 +2,7 @@
 use Rattle.std.proofs.Common.{◌≡◌, ℕ, ◌+◌, ◌<◌, ◌≤◌, ◌≢◌, ◌⊎◌, Bool, List, [], ◌∷◌, length, refl, sym, ◌∙◌, ap, ap₂, subst, inl, inr, arith}
 use Rattle.md_graph.proofs.Search.{alike_unless}
 use Rattle.std.specs.FinSet.{contains, union, intersection, difference}
-use Rattle.md_graph.specs.NameSet.{IsLeastFrom, NoneFrom, told_apart}
+use Rattle.md_graph.specs.NameSet.{IsLeastFrom, NoneFrom, symmetric_difference}
 use Rattle.md_graph.specs.PlainGraph.{PlainGraph, IsGraph, adjacent, neighbours}
 use Rattle.md_graph.proofs.GraphLemmas.{adjacent_sym}
 use Rattle.md_graph.specs.Sets.{NameSet, Has, Lacks, Within, Disjoint, HasSome, only_name}
@@ -18,12 +18,12 @@ use Rattle.md_modules.proofs.ClassLists.{at_known, at_one, in_one, IsCutAt, plac
 -- ---- splitters
 
 module _ {g : PlainGraph} (graph : IsGraph g) where
-  apart : (a x : ℕ) (first second out : NameSet) → first ≡ neighbours g a → second ≡ neighbours g x → ToldApart graph a x out (intersection out (told_apart first second))
+  apart : (a x : ℕ) (first second out : NameSet) → first ≡ neighbours g a → second ≡ neighbours g x → ToldApart graph a x out (intersection out (symmetric_difference first second))
   apart a x first second out is_first is_second =
-      subst (ToldApart graph a x out) (ap₂ (λ s t. intersection out (told_apart s t)) (sym is_first) (sym is_second)) (told_all graph a x out)
+      subst (ToldApart graph a x out) (ap₂ (λ s t. intersection out (symmetric_difference s t)) (sym is_first) (sym is_second)) (told_all graph a x out)
 
   pub splitter_found : (c first second left : NameSet) (a x p : ℕ) → Has c a → Has c x → Disjoint c left → first ≡ neighbours g a → second ≡ neighbours g x →
-      IsLeastFrom (intersection left (told_apart first second)) 0 p → IsSplitter (adjacent g) left c p
+      IsLeastFrom (intersection left (symmetric_difference first second)) 0 p → IsSplitter (adjacent g) left c p
   splitter_found c first second left a x p ha hx out is_first is_second is =
       let two : Has left p × (adjacent g a p ≢ adjacent g x p) = (apart a x first second left is_first is_second).1 p is.member in
       let outside : Lacks c p = false_from_ne_true _ (λ h. clash two.0 (out p h)) in
@@ -43,7 +43,7 @@ module _ {g : PlainGraph} (graph : IsGraph g) where
       ]
 
   pub splitter_none : (first second out : NameSet) (a x : ℕ) → first ≡ neighbours g a → second ≡ neighbours g x →
-      NoneFrom (intersection out (told_apart first second)) 0 → (y : ℕ) → Has out y → adjacent g a y ≡ adjacent g x y
+      NoneFrom (intersection out (symmetric_difference first second)) 0 → (y : ℕ) → Has out y → adjacent g a y ≡ adjacent g x y
   splitter_none first second out a x is_first is_second none y h =
       alike_unless (adjacent g a y) (adjacent g x y) (λ differ. clash ((apart a x first second out is_first is_second).0 y h differ) (none_lacks _ none y))
 

@@ -2,7 +2,7 @@
 use Rattle.std.proofs.Common.{◌≡◌, ◌↔◌, ℕ, Bool, true, false, not, ◌≢◌, ◌⊎◌, refl, sym, ◌∙◌, ap, ap₂, subst, inl, inr, Option, Some, None, IfSome, IfNone}
 use Rattle.std.specs.Option.{is_some}
 use Rattle.std.specs.FinSet.{contains, empty, insert, remove, union, intersection, difference}
-use Rattle.md_graph.specs.NameSet.{NoneFrom, IsLeastFrom, told_apart}
+use Rattle.md_graph.specs.NameSet.{NoneFrom, IsLeastFrom, symmetric_difference}
 use Rattle.md_graph.specs.PlainGraph.{PlainGraph, IsGraph, adjacent, neighbours}
 use Rattle.md_graph.proofs.GraphLemmas.{adjacent_sym, adjacent_self, contains-neighbours}
 use Rattle.md_graph.specs.Sets.{NameSet, Has, Lacks, Within, Disjoint, only_name}
@@ -23,7 +23,7 @@ use Rattle.md_modules.proofs.Growth.{IsGrowing, IsGoingBack, IsBackFrom, reach_s
 
 -- the members of `among` that are adjacent to one of v and w, and not to both
 abbrev pub apart_in : PlainGraph → ℕ → ℕ → NameSet → NameSet
-apart_in g v w among = intersection among (told_apart (neighbours g v) (neighbours g w))
+apart_in g v w among = intersection among (symmetric_difference (neighbours g v) (neighbours g w))
 
 module _ {g : PlainGraph} (graph : IsGraph g) where
   pub graph_adjacency : IsAdjacency (adjacent g)
@@ -65,7 +65,7 @@ module _ {g : PlainGraph} (graph : IsGraph g) where
     of_second y = contains-neighbours graph w y
 
     has : (y : ℕ) → Has among y → adjacent g v y ≢ adjacent g w y → Has (apart_in g v w among) y
-    has y h differ = meet_has among (told_apart first second) y h (elim (cases_Bool (adjacent g v y)) [
+    has y h differ = meet_has among (symmetric_difference first second) y h (elim (cases_Bool (adjacent g v y)) [
       | inl t ↦ union_left (difference first second) (difference second first) y
           (minus_has first second y (of_first y ∙ t) (of_second y ∙ false_from_ne_true _ (λ k. differ (t ∙ sym k))))
       | inr f ↦ union_right (difference first second) (difference second first) y
@@ -74,7 +74,7 @@ module _ {g : PlainGraph} (graph : IsGraph g) where
 
     only : (y : ℕ) → Has (apart_in g v w among) y → Has among y × (adjacent g v y ≢ adjacent g w y)
     only y h =
-        let in_both : Has among y × Has (told_apart first second) y = of_meet among (told_apart first second) y h in (
+        let in_both : Has among y × Has (symmetric_difference first second) y = of_meet among (symmetric_difference first second) y h in (
           in_both.0,
           elim (of_union (difference first second) (difference second first) y in_both.1) [
             | inl i ↦
@@ -103,13 +103,13 @@ moved_unshared g w v left row left' todo todo' is_false is_row is_left is_todo =
 )
 
 -- the rest of those that are told apart
-pub rest_apart : (g : PlainGraph) (v w : ℕ) (left first second left' : NameSet) → first ≡ neighbours g v → second ≡ neighbours g w → left' ≡ difference left (told_apart first second) → left' ≡ difference left (apart_in g v w left)
+pub rest_apart : (g : PlainGraph) (v w : ℕ) (left first second left' : NameSet) → first ≡ neighbours g v → second ≡ neighbours g w → left' ≡ difference left (symmetric_difference first second) → left' ≡ difference left (apart_in g v w left)
 rest_apart g v w left first second left' is_first is_second is_left =
-    is_left ∙ minus_shared left (told_apart first second) ∙ ap₂ (λ a b. difference left (intersection left (told_apart a b))) is_first is_second
+    is_left ∙ minus_shared left (symmetric_difference first second) ∙ ap₂ (λ a b. difference left (intersection left (symmetric_difference a b))) is_first is_second
 
-pub taken_apart : (g : PlainGraph) (v w : ℕ) (left first second todo todo' : NameSet) → first ≡ neighbours g v → second ≡ neighbours g w → todo' ≡ union todo (intersection left (told_apart first second)) → todo' ≡ union todo (apart_in g v w left)
+pub taken_apart : (g : PlainGraph) (v w : ℕ) (left first second todo todo' : NameSet) → first ≡ neighbours g v → second ≡ neighbours g w → todo' ≡ union todo (intersection left (symmetric_difference first second)) → todo' ≡ union todo (apart_in g v w left)
 taken_apart g v w left first second todo todo' is_first is_second is_todo =
-    is_todo ∙ ap₂ (λ a b. union todo (intersection left (told_apart a b))) is_first is_second
+    is_todo ∙ ap₂ (λ a b. union todo (intersection left (symmetric_difference a b))) is_first is_second
 
 -- ---- turns
 
@@ -334,11 +334,11 @@ Sees g w v among = (t : ℕ) × Has among t × (adjacent g w t ≡ v)
 
 -- a first name told apart from a mark is one that is seen, where the mark says of no name of the set that it is seen
 pub sees_test : {g : PlainGraph} → IsGraph g → (w : ℕ) (value : Bool) (among mark row : NameSet) (found : Option ℕ) (r : Bool) → row ≡ neighbours g w →
-    ((y : ℕ) → Has among y → contains mark y ≡ not value) → IfSome found (IsLeastFrom (intersection among (told_apart row mark)) 0) → IfNone found (NoneFrom (intersection among (told_apart row mark)) 0) →
+    ((y : ℕ) → Has among y → contains mark y ≡ not value) → IfSome found (IsLeastFrom (intersection among (symmetric_difference row mark)) 0) → IfNone found (NoneFrom (intersection among (symmetric_difference row mark)) 0) →
     r ≡ is_some found → (r ≡ true) ↔ Sees g w value among
 sees_test {g} graph w value among mark row (Some least) r is_row is_mark some none is = (
   λ _.
-      let two : Has among least × Has (told_apart row mark) least = of_meet among (told_apart row mark) least some.member in
+      let two : Has among least × Has (symmetric_difference row mark) least = of_meet among (symmetric_difference row mark) least some.member in
       (least, two.0, sym (ap (λ s. contains s least) is_row ∙ contains-neighbours graph w least) ∙ told_value row mark value least (is_mark least two.0) two.1),
   λ _. is,
 )
@@ -346,18 +346,18 @@ sees_test {g} graph w value among mark row None r is_row is_mark some none is = 
   λ t. clash t is,
   λ seen.
       let here : contains row seen.0 ≡ value = ap (λ s. contains s seen.0) is_row ∙ contains-neighbours graph w seen.0 ∙ seen.2 in
-      clash (meet_has among (told_apart row mark) seen.0 seen.1 (value_told row mark value seen.0 (is_mark seen.0 seen.1) here))
-      (none_lacks (intersection among (told_apart row mark)) none seen.0),
+      clash (meet_has among (symmetric_difference row mark) seen.0 seen.1 (value_told row mark value seen.0 (is_mark seen.0 seen.1) here))
+      (none_lacks (intersection among (symmetric_difference row mark)) none seen.0),
 )
 
 pub sees_seen : {g : PlainGraph} → IsGraph g → (w : ℕ) (value : Bool) (among apart row : NameSet) (found : Option ℕ) (r : Bool) → value ≡ true → row ≡ neighbours g w →
-    Disjoint among apart → IfSome found (IsLeastFrom (intersection among (told_apart row apart)) 0) → IfNone found (NoneFrom (intersection among (told_apart row apart)) 0) →
+    Disjoint among apart → IfSome found (IsLeastFrom (intersection among (symmetric_difference row apart)) 0) → IfNone found (NoneFrom (intersection among (symmetric_difference row apart)) 0) →
     r ≡ is_some found → (r ≡ true) ↔ Sees g w value among
 sees_seen {g} graph w value among apart row found r is_value is_row out some none is =
     sees_test graph w value among apart row found r is_row (λ y h. out y h ∙ ap not (sym is_value)) some none is
 
 pub sees_unseen : {g : PlainGraph} → IsGraph g → (w : ℕ) (value : Bool) (among row : NameSet) (found : Option ℕ) (r : Bool) → value ≡ false → row ≡ neighbours g w →
-    IfSome found (IsLeastFrom (intersection among (told_apart row among)) 0) → IfNone found (NoneFrom (intersection among (told_apart row among)) 0) →
+    IfSome found (IsLeastFrom (intersection among (symmetric_difference row among)) 0) → IfNone found (NoneFrom (intersection among (symmetric_difference row among)) 0) →
     r ≡ is_some found → (r ≡ true) ↔ Sees g w value among
 sees_unseen {g} graph w value among row found r is_value is_row some none is =
     sees_test graph w value among among row found r is_row (λ y h. h ∙ ap not (sym is_value)) some none is
@@ -366,19 +366,19 @@ sees_unseen {g} graph w value among row found r is_value is_row some none is =
 
 -- no first name is told apart exactly where all are alike
 pub alike_test : {g : PlainGraph} → IsGraph g → (v w : ℕ) (others first second : NameSet) (found : Option ℕ) (r : Bool) → first ≡ neighbours g v → second ≡ neighbours g w →
-    IfSome found (IsLeastFrom (intersection others (told_apart first second)) 0) → IfNone found (NoneFrom (intersection others (told_apart first second)) 0) →
+    IfSome found (IsLeastFrom (intersection others (symmetric_difference first second)) 0) → IfNone found (NoneFrom (intersection others (symmetric_difference first second)) 0) →
     is_some found ≡ not r → (r ≡ true) ↔ ((y : ℕ) → Has others y → adjacent g v y ≡ adjacent g w y)
 alike_test {g} graph v w others first second (Some least) r is_first is_second some none is = (
   λ t. clash t (not-true r (sym is)),
   λ alike.
-      let here : Has (apart_in g v w others) least = Has-along _ _ (ap₂ (λ a b. intersection others (told_apart a b)) is_first is_second) least some.member in
+      let here : Has (apart_in g v w others) least = Has-along _ _ (ap₂ (λ a b. intersection others (symmetric_difference a b)) is_first is_second) least some.member in
       let two = (told_all graph v w others).1 least here in
       absurd (two.1 (alike least two.0)),
 )
 alike_test {g} graph v w others first second None r is_first is_second some none is = (
   λ t y h. alike_unless (adjacent g v y) (adjacent g w y) (λ differ.
-      clash (Has-along _ _ (sym (ap₂ (λ a b. intersection others (told_apart a b)) is_first is_second)) y ((told_all graph v w others).0 y h differ))
-      (none_lacks (intersection others (told_apart first second)) none y)),
+      clash (Has-along _ _ (sym (ap₂ (λ a b. intersection others (symmetric_difference a b)) is_first is_second)) y ((told_all graph v w others).0 y h differ))
+      (none_lacks (intersection others (symmetric_difference first second)) none y)),
   λ alike. not-false r (sym is),
 )
 

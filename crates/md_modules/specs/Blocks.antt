@@ -3,8 +3,8 @@
 use Rattle.std.specs.Prelude.{◌≡◌, ℕ, ◌*◌, ◌<◌, ⊤}
 use Rattle.md_graph.specs.Sets.{NameSet, only_name}
 use Rattle.md_graph.specs.NameSet.{block}
-use Rattle.md_modules.specs.declared.blocks.Held.{Held}
-use Rattle.md_modules.specs.declared.blocks.Held.TheVariants.{One, Low, Several}
+use Rattle.md_modules.specs.declared.compact_set.Held.{Held}
+use Rattle.md_modules.specs.declared.compact_set.Held.TheVariants.{One, Low, Several}
 
 -- the names that a block holds
 abbrev pub held_names : (w : ℕ) → Held w → NameSet

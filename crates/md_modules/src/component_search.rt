@@ -14,14 +14,14 @@ use md_graph::{GraphOf, NAMES, Set};
 
 /// Whether the graph is connected, as it is with no vertex or one.
 pub fn connected<const W: usize>(graph: &GraphOf<W>) -> bool
-    ensures { IsTrue result ↔ IsConnected (adjacent graph.now) graph.now.vertices }
+    ensures exactly { IsTrue result ↔ IsConnected (adjacent graph.now) graph.now.vertices }
 {
     is_whole(graph, false)
 }
 
 /// Whether the complement of the graph is connected, as it is with no vertex or one.
 pub fn co_connected<const W: usize>(graph: &GraphOf<W>) -> bool
-    ensures { IsTrue result ↔ IsCoConnected (adjacent graph.now) graph.now.vertices }
+    ensures exactly { IsTrue result ↔ IsCoConnected (adjacent graph.now) graph.now.vertices }
 {
     is_whole(graph, true)
 }
@@ -31,10 +31,10 @@ pub fn co_connected<const W: usize>(graph: &GraphOf<W>) -> bool
 pub fn component<const W: usize>(graph: &GraphOf<W>, within: &Set<W>, x: u32, into: &mut Set<W>)
     requires inside { Within within.now graph.now.vertices }
     requires member { Has within.now x }
-    ensures { IsComponent (adjacent graph.now) within.now x into.new false }
+    ensures component { IsComponent (adjacent graph.now) within.now x into.new false }
 {
-    unreached(graph, within, x, false, into);
-    into.flip(within);
+    rest_of_component(graph, within, x, false, into);
+    into.symmetric_difference_with(within);
 }
 
 /// Puts into `into` the component of `x` in the complement of the graph on `within`. Condition:
@@ -42,10 +42,10 @@ pub fn component<const W: usize>(graph: &GraphOf<W>, within: &Set<W>, x: u32, in
 pub fn co_component<const W: usize>(graph: &GraphOf<W>, within: &Set<W>, x: u32, into: &mut Set<W>)
     requires inside { Within within.now graph.now.vertices }
     requires member { Has within.now x }
-    ensures { IsComponent (adjacent graph.now) within.now x into.new true }
+    ensures component { IsComponent (adjacent graph.now) within.now x into.new true }
 {
-    unreached(graph, within, x, true, into);
-    into.flip(within);
+    rest_of_component(graph, within, x, true, into);
+    into.symmetric_difference_with(within);
 }
 
 // Whether `w` is adjacent to one of `among` (`value` is true), or not adjacent to one (`value` is
@@ -63,9 +63,9 @@ pub(crate) fn sees<const W: usize>(
 {
     let row = graph.row(w);
     if value {
-        return among.first_told_apart(row, apart).is_some();
+        return among.first_in_symmetric_difference(row, apart).is_some();
     }
-    among.first_told_apart(row, among).is_some()
+    among.first_in_symmetric_difference(row, among).is_some()
 }
 
 // Whether the graph (`value` is false) or its complement (`value` is true) is connected.
@@ -78,13 +78,13 @@ fn is_whole<const W: usize>(graph: &GraphOf<W>, value: bool) -> bool
         return true;
     };
     let mut left = Set::none();
-    unreached(graph, vertices, x, value, &mut left);
+    rest_of_component(graph, vertices, x, value, &mut left);
     left.is_empty()
 }
 
 // Puts into `left` what the component of `x` leaves of `within`, in the graph (`value` is false) or
 // its complement (`value` is true).
-fn unreached<const W: usize>(
+fn rest_of_component<const W: usize>(
     graph: &GraphOf<W>,
     within: &Set<W>,
     x: u32,
@@ -99,7 +99,7 @@ fn unreached<const W: usize>(
 {
     let _vertices = graph.vertices();
     left.clear();
-    left.take_in(within);
+    left.union_with(within);
     left.remove(x);
     let mut todo = Set::none();
     todo.insert(x);

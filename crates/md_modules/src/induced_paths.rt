@@ -24,7 +24,7 @@ pub struct P4 {
 /// Whether `p`, any four numbers, is an induced path of the graph: four different vertices, the
 /// edges among them exactly a-b, b-c and c-d, and `a < d`.
 pub fn is_p4(graph: &Graph, p: &P4) -> bool
-    ensures { IsTrue result
+    ensures exactly { IsTrue result
         ↔ IsInducedPath (adjacent graph.now) graph.now.vertices p.now.a p.now.b p.now.c p.now.d }
 {
     let vertices = graph.vertices();

@@ -6,26 +6,26 @@ ghost use Rattle.md_modules.specs.Laws.{ChildrenAreByKind, ComplementTurnsKinds,
 /// The strong modules of a graph with a vertex are a tree under inclusion, whose root is the set of
 /// all vertices and whose leaves are the single vertices.
 pub fn strong_modules_are_tree()
-    ensures { StrongModulesAreTree }
+    ensures law { StrongModulesAreTree }
 {}
 
 /// A set with two or more members, so each strong module with two or more, is exactly one of
 /// parallel, series and prime.
 pub fn one_kind()
-    ensures { HasOneKind }
+    ensures law { HasOneKind }
 {}
 
 /// The strong modules of a graph with a vertex are the set of all vertices and the strong modules
 /// of the graph on each maximal strong module properly inside it.
 pub fn strong_modules_descend()
-    ensures { StrongModulesDescend }
+    ensures law { StrongModulesDescend }
 {}
 
 /// The children of a set in the tree of strong modules, its maximal proper strong modules, are
 /// exactly its components where it is parallel, the components of its complement where it is
 /// series, and its maximal proper modules where it is prime.
 pub fn children_by_kind()
-    ensures { ChildrenAreByKind }
+    ensures law { ChildrenAreByKind }
 {}
 
 /// In a graph with two or more vertices that is connected, as its complement is: two vertices lie
@@ -33,28 +33,28 @@ pub fn children_by_kind()
 /// all; different maximal proper modules are disjoint; their quotient has trivial modules alone,
 /// and four vertices or more.
 pub fn prime_has_maximal_modules()
-    ensures { PrimeHasMaximalModules }
+    ensures law { PrimeHasMaximalModules }
 {}
 
 /// A graph with two or more vertices that is connected, as its complement is, has an induced path
 /// on four vertices.
 pub fn prime_has_induced_path()
-    ensures { PrimeHasInducedPath }
+    ensures law { PrimeHasInducedPath }
 {}
 
 /// A graph has no induced path on four vertices exactly where none of its strong modules is prime.
 pub fn no_induced_path_if_none_prime()
-    ensures { NoInducedPathIfNonePrime }
+    ensures law { NoInducedPathIfNonePrime }
 {}
 
 /// A graph has an induced path on four vertices, or it has none.
 pub fn induced_paths_are_decided()
-    ensures { InducedPathsAreDecided }
+    ensures law { InducedPathsAreDecided }
 {}
 
 /// The complement of a graph has the same modules and the same strong modules, with parallel and
 /// series the other way round. So a graph's complement is connected exactly where the graph has no
 /// split with every edge across.
 pub fn complement_turns_kinds()
-    ensures { ComplementTurnsKinds }
+    ensures law { ComplementTurnsKinds }
 {}

@@ -1,7 +1,7 @@
 //! Modules of an undirected graph: their definitions and laws, and the searches for them.
 #![tactic(auto)]
 
-mod blocks;
+mod compact_set;
 mod component_search;
 mod induced_paths;
 pub mod laws;
@@ -12,7 +12,7 @@ mod shared;
 #[cfg(test)]
 mod tests;
 
-pub use blocks::Block;
+pub use compact_set::CompactSet;
 pub use component_search::{co_component, co_connected, component, connected};
 pub use induced_paths::{P4, find_p4, find_p4_with, is_p4};
 pub use module_search::{back, closure, closure_in, grow, is_module};

@@ -14,7 +14,7 @@ use md_graph::{GraphOf, NAMES, Set};
 /// of which each other vertex is adjacent. It is false for the empty set, and for a set with a name
 /// that is no vertex.
 pub fn is_module<const W: usize>(graph: &GraphOf<W>, names: &Set<W>) -> bool
-    ensures { IsTrue result ↔ IsModule (adjacent graph.now) graph.now.vertices names.now }
+    ensures exactly { IsTrue result ↔ IsModule (adjacent graph.now) graph.now.vertices names.now }
 {
     let vertices = graph.vertices();
     let Some(v) = names.first_from(0) else {
@@ -31,7 +31,7 @@ pub fn is_module<const W: usize>(graph: &GraphOf<W>, names: &Set<W>) -> bool
 pub fn closure<const W: usize>(graph: &GraphOf<W>, u: u32, v: u32, into: &mut Set<W>)
     requires first { Has graph.now.vertices u }
     requires second { Has graph.now.vertices v }
-    ensures { IsLeastModule (adjacent graph.now) graph.now.vertices u v into.new }
+    ensures least { IsLeastModule (adjacent graph.now) graph.now.vertices u v into.new }
 {
     closure_in(graph, graph.vertices(), u, v, into);
 }
@@ -48,7 +48,7 @@ pub fn closure_in<const W: usize>(
     requires inside { Within within.now graph.now.vertices }
     requires first { Has within.now u }
     requires second { Has within.now v }
-    ensures { IsLeastModule (adjacent graph.now) within.now u v into.new }
+    ensures least { IsLeastModule (adjacent graph.now) within.now u v into.new }
 {
     let _vertices = graph.vertices();
     into.clear();
@@ -80,10 +80,10 @@ pub fn grow<const W: usize>(
     requires seen { (w : ℕ) → Has into.old w → Lacks todo w
         → (y : ℕ) → Has within.now y → Lacks into.old y
         → adjacent graph.now v y ≡ adjacent graph.now w y }
-    ensures { IsLeastModuleOver (adjacent graph.now) within.now into.old into.new }
+    ensures least { IsLeastModuleOver (adjacent graph.now) within.now into.old into.new }
 {
     not_grown(graph, within, v, into, todo);
-    into.flip(within);
+    into.symmetric_difference_with(within);
 }
 
 /// Puts into `into` the names of `within` other than `v` that no module holds with `v` but `within`
@@ -101,7 +101,7 @@ pub fn back<const W: usize>(graph: &GraphOf<W>, within: &Set<W>, v: u32, j: u32,
     ensures fixed { Has (difference within.now into.new) v }
 {
     not_back(graph, within, v, j, into);
-    into.flip(within);
+    into.symmetric_difference_with(within);
 }
 
 // Whether each of `others` is adjacent to `v` and to all of `names`, or to none of these.
@@ -126,7 +126,7 @@ fn see_alike<const W: usize>(graph: &GraphOf<W>, v: u32, w: u32, others: &Set<W>
         → adjacent graph.now v y ≡ adjacent graph.now w y) }
 {
     others
-        .first_told_apart(graph.row(v), graph.row(w))
+        .first_in_symmetric_difference(graph.row(v), graph.row(w))
         .is_none()
 }
 
@@ -151,11 +151,11 @@ fn not_grown<const W: usize>(
         (difference within.now left.new) }
 {
     let _vertices = graph.vertices();
-    left.flip(within);
+    left.symmetric_difference_with(within);
     let mut from_end = false;
     while let Some(w) = next(left, &todo, from_end) {
         todo.remove(w);
-        left.move_told_apart(graph.row(v), graph.row(w), &mut todo);
+        left.move_symmetric_difference(graph.row(v), graph.row(w), &mut todo);
         from_end = !from_end;
     }
 }
@@ -174,7 +174,7 @@ fn not_back<const W: usize>(graph: &GraphOf<W>, within: &Set<W>, v: u32, j: u32,
 {
     let _vertices = graph.vertices();
     left.clear();
-    left.take_in(within);
+    left.union_with(within);
     left.remove(j);
     // Without `v`, so that the search ends where nothing else is left.
     left.remove(v);

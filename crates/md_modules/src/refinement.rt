@@ -6,8 +6,8 @@ ghost use Rattle.md_graph.specs.Sets.{NameSet, Has, Within, Disjoint, HasSome, o
 ghost use Rattle.md_modules.specs.Classes.{class_at};
 ghost use Rattle.md_modules.specs.Classes.{AreFiner, IsSplitter, IsSideOf, HoldsSplitters, HoldsModules, AreMaximalInside};
 
-use crate::Block;
-use crate::blocks::FEW;
+use crate::CompactSet;
+use crate::compact_set::FEW;
 use crate::component_search::sees;
 use md_graph::{GraphOf, Memory, NAMES, Set};
 use std::alloc::Global;
@@ -21,11 +21,11 @@ pub fn maximal_modules<const W: usize>(
     graph: &GraphOf<W>,
     set: &Set<W>,
     rest: &Set<W>,
-) -> Result<Vec<Block<W>>, Memory>
+) -> Result<Vec<CompactSet<W>>, Memory>
     requires inside { Within set.now graph.now.vertices }
     requires part { Within rest.now set.now }
     requires some { HasSome rest.now }
-    ensures { IfOk result
+    ensures maximal { IfOk result
         (λ classes. AreMaximalInside (adjacent graph.now) set.now rest.now classes.items) }
 {
     let classes = one_class(alloc, rest)?;
@@ -34,13 +34,13 @@ pub fn maximal_modules<const W: usize>(
 
 /// The set `rest` as the one class of a partition of it, in any graph and any set. Condition: it
 /// isn't empty. Errors: want of memory.
-pub fn one_class<const W: usize>(alloc: Global, rest: &Set<W>) -> Result<Vec<Block<W>>, Memory>
+pub fn one_class<const W: usize>(alloc: Global, rest: &Set<W>) -> Result<Vec<CompactSet<W>>, Memory>
     requires some { HasSome rest.now }
-    ensures { IfOk result (λ classes. (e : ℕ → ℕ → Bool) → (s : NameSet)
+    ensures holds { IfOk result (λ classes. (e : ℕ → ℕ → Bool) → (s : NameSet)
         → HoldsModules e s rest.now classes.items) }
 {
     let mut classes = Vec::with_capacity(alloc, rest.count().min(FEW) as usize)?;
-    classes.push(Block::of(alloc, rest)?)?;
+    classes.push(CompactSet::of(alloc, rest)?)?;
     Ok(classes)
 }
 
@@ -53,9 +53,9 @@ pub fn cut_classes<const W: usize>(
     graph: &GraphOf<W>,
     set: &Set<W>,
     rest: &Set<W>,
-    classes: Vec<Block<W>>,
+    classes: Vec<CompactSet<W>>,
     most: usize,
-) -> Result<Vec<Block<W>>, Memory>
+) -> Result<Vec<CompactSet<W>>, Memory>
     requires inside { Within set.now graph.now.vertices }
     requires part { Within rest.now set.now }
     requires holds { HoldsModules (adjacent graph.now) set.now rest.now classes.items }
@@ -88,7 +88,7 @@ pub fn cut_classes<const W: usize>(
 
 // The first place from `from` on at which no class is kept as a name alone: nothing cuts a name
 // alone.
-fn next_several<const W: usize>(classes: &[Block<W>], from: usize) -> usize
+fn next_several<const W: usize>(classes: &[CompactSet<W>], from: usize) -> usize
     ensures from { from ≤ result }
     ensures names { (k : ℕ) → from ≤ k → k < result
         → (v : ℕ) × (class_at classes.now k ≡ only_name v) }
@@ -101,7 +101,7 @@ fn next_several<const W: usize>(classes: &[Block<W>], from: usize) -> usize
 }
 
 // Puts into `left` the names of `set` outside the class at a place, if there is one.
-fn begin<const W: usize>(set: &Set<W>, classes: &[Block<W>], at: usize, left: &mut Set<W>)
+fn begin<const W: usize>(set: &Set<W>, classes: &[CompactSet<W>], at: usize, left: &mut Set<W>)
     requires { at < length classes.now → Within (class_at classes.now at) set.now }
     ensures { at < length classes.now → (e : ℕ → ℕ → Bool)
         → HoldsSplitters e set.now (class_at classes.now at) left.new }
@@ -110,8 +110,8 @@ fn begin<const W: usize>(set: &Set<W>, classes: &[Block<W>], at: usize, left: &m
     if at < classes.len() {
         let mut room = None;
         left.clear();
-        left.take_in(set);
-        left.flip(classes[at].set_in(&mut room));
+        left.union_with(set);
+        left.symmetric_difference_with(classes[at].set_in(&mut room));
     }
 }
 
@@ -119,7 +119,7 @@ fn begin<const W: usize>(set: &Set<W>, classes: &[Block<W>], at: usize, left: &m
 // a new class, the last one; `left` takes in its names. `other` is empty before and after.
 fn split<const W: usize>(
     alloc: Global,
-    classes: &mut Vec<Block<W>>,
+    classes: &mut Vec<CompactSet<W>>,
     at: usize,
     row: &Set<W>,
     left: &mut Set<W>,
@@ -136,8 +136,8 @@ fn split<const W: usize>(
     ensures empty { other.new ≡ empty }
 {
     classes[at].divide(row, other);
-    left.take_in(other);
-    let goes = Block::of(alloc, other);
+    left.union_with(other);
+    let goes = CompactSet::of(alloc, other);
     other.clear();
     classes.push(goes?)?;
     Ok(())
@@ -145,7 +145,11 @@ fn split<const W: usize>(
 
 // A name of `left` that is adjacent to some of `class` and not to all; none exactly where there is
 // none. Other names may go from `left`.
-fn splitter<const W: usize>(graph: &GraphOf<W>, class: &Block<W>, left: &mut Set<W>) -> Option<u32>
+fn splitter<const W: usize>(
+    graph: &GraphOf<W>,
+    class: &CompactSet<W>,
+    left: &mut Set<W>,
+) -> Option<u32>
     requires some { HasSome class.now }
     requires apart { Disjoint class.now left.old }
     ensures found { IfSome result (IsSplitter (adjacent graph.now) left.new class.now) }
@@ -185,7 +189,7 @@ pub(crate) fn splitter_of_few<const W: usize>(
         unreachable!();
     };
     for x in class.members_from(first + 1) {
-        if let Some(p) = left.first_told_apart(graph.row(first), graph.row(x)) {
+        if let Some(p) = left.first_in_symmetric_difference(graph.row(first), graph.row(x)) {
             return Some(p);
         }
     }

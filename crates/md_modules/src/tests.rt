@@ -1,7 +1,7 @@
 //! The searches on small graphs.
 
 use crate::{
-    Block, back, closure, closure_in, co_component, co_connected, component, connected,
+    CompactSet, back, closure, closure_in, co_component, co_connected, component, connected,
     cut_classes, is_module, maximal_modules, one_class,
 };
 use md_graph::{Graph, Memory, NAMES, Names, WORDS};
@@ -97,7 +97,7 @@ fn refined(
 // Sees what a block is once names were taken in.
 fn inserted(rt: &impl Abort, alloc: Global, names: [u32; 4], list: &[u32]) -> Result<(), Memory> {
     assert!(rt; names[0] < NAMES);
-    let mut block = Block::<WORDS>::one(names[0]);
+    let mut block = CompactSet::<WORDS>::one(names[0]);
     for name in names {
         assert!(rt; name < NAMES);
         block.insert(alloc, name)?;

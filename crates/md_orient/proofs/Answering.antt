@@ -5,9 +5,9 @@ use Rattle.md_forcing.specs.declared.arc.Arc.{Arc}
 use Rattle.md_forcing.specs.Lists.{Holds}
 use Rattle.md_forcing.specs.Forcing.{arc, reverse, IsListToReverse}
 use Rattle.md_forcing.specs.Classes.{IsClass}
-use Rattle.md_orientation.specs.Chains.{IsForcingChain}
-use Rattle.md_orientation.specs.Walking.{IsStopped}
-use Rattle.md_orientation.proofs.Cutting.{list_reaches}
+use Rattle.md_comparability.specs.Chains.{IsForcingChain}
+use Rattle.md_comparability.specs.Walking.{IsStopped}
+use Rattle.md_comparability.proofs.Cutting.{list_reaches}
 
 module _ (e : ℕ → ℕ → Bool) (class : List (Arc × ℕ)) (stopped : IsStopped e class) where
   pub forced : (chain : List Arc) → ((f : ℕ → ℕ → Bool) (first : Arc) → IsClass f first class → IsListToReverse f first chain) → IsForcingChain e chain

@@ -10,21 +10,21 @@ use Rattle.md_graph.specs.NameSet.{ascending}
 use Rattle.md_graph.specs.Rows.{row_of}
 use Rattle.md_graph.specs.PlainGraph.{PlainGraph, IsGraph, adjacent}
 use Rattle.md_graph.proofs.SetLemmas.{same_name, retain_has, of_retain, union_left, union_right, of_union, same_members}
-use Rattle.md_forcing.specs.declared.seen.Side.{Side}
-use Rattle.md_forcing.specs.declared.seen.Side.TheVariants.{Edges, NonEdges}
+use Rattle.md_forcing.specs.declared.arc_set.Side.{Side}
+use Rattle.md_forcing.specs.declared.arc_set.Side.TheVariants.{Edges, NonEdges}
 use Rattle.md_forcing.specs.Lists.{Holds}
 use Rattle.md_forcing.specs.Forcing.{arc}
 use Rattle.md_forcing.specs.Sides.{adjacent_on}
 use Rattle.md_forcing.proofs.NameLists.{of_ascending, in_ascending}
-use Rattle.md_orientation.specs.Chains.{HasForcingChain}
-use Rattle.md_orientation.specs.Orientations.{IsTransitiveOrientation}
-use Rattle.md_orientation.specs.Orders.{Realise, IsLinear, place_in}
-use Rattle.md_orientation.specs.Walking.{IsWhole}
-use Rattle.md_orientation.proofs.Reached.{side_premises, sides_proof}
-use Rattle.md_orientation.proofs.Chosen.{least_edge_proof}
-use Rattle.md_orientation.proofs.Alternative.{chain_has_no_orientation}
-use Rattle.md_orientation.proofs.OrderLaws.{one_side, merged_linear, back_linear, realised}
-use Rattle.md_orientation.proofs.Placed.{len_disjoint, place_within, one_at_place, placed_order}
+use Rattle.md_comparability.specs.Chains.{HasForcingChain}
+use Rattle.md_comparability.specs.Orientations.{IsTransitiveOrientation}
+use Rattle.md_comparability.specs.Orders.{Realise, IsLinear, place_in}
+use Rattle.md_comparability.specs.Walking.{IsWholeOrientation}
+use Rattle.md_comparability.proofs.Reached.{side_premises, sides_proof}
+use Rattle.md_comparability.proofs.Chosen.{least_edge_proof}
+use Rattle.md_comparability.proofs.Alternative.{chain_has_no_orientation}
+use Rattle.md_comparability.proofs.OrderLaws.{one_side, merged_linear, back_linear, realised}
+use Rattle.md_comparability.proofs.Placed.{len_disjoint, place_within, one_at_place, placed_order}
 use Rattle.md_orient.specs.Models.{AreSides, ArePlaced, has_arc, comes_before}
 
 -- ---- the place of a vertex, counted
@@ -126,17 +126,17 @@ placing_end r s list left before is = record {
 -- ---- the two orders
 
 module _ {g : PlainGraph} (is : IsGraph g) where
-  whole_orients : (side : Side) (chosen : List NameSet) → IsWhole (adjacent_on side g) chosen → IsTransitiveOrientation (adjacent_on side g) (has_arc chosen)
+  whole_orients : (side : Side) (chosen : List NameSet) → IsWholeOrientation (adjacent_on side g) chosen → IsTransitiveOrientation (adjacent_on side g) (has_arc chosen)
   whole_orients side chosen whole =
       let premises = side_premises is side in
       (least_edge_proof (adjacent_on side g) premises.adjacency NAMES premises.below).transitive (has_arc chosen) (λ u v. whole.all (arc u v)) whole.free
 
-  pub whole_has_no_chain : (chosen : List NameSet) → IsWhole (adjacent g) chosen → HasForcingChain (adjacent g) → ⊥
+  pub whole_has_no_chain : (chosen : List NameSet) → IsWholeOrientation (adjacent g) chosen → HasForcingChain (adjacent g) → ⊥
   whole_has_no_chain chosen whole chain =
       let premises = side_premises is Edges in
       chain_has_no_orientation (adjacent g) premises.adjacency NAMES premises.below chain (has_arc chosen, whole_orients Edges chosen whole)
 
-  module _ (edges others : List NameSet) (whole : IsWhole (adjacent g) edges) (other_whole : IsWhole (adjacent_on NonEdges g) others) where
+  module _ (edges others : List NameSet) (whole : IsWholeOrientation (adjacent g) edges) (other_whole : IsWholeOrientation (adjacent_on NonEdges g) others) where
     pub two_sides : ((v : ℕ) → Has g.vertices v → v < length edges) → ((v : ℕ) → Has g.vertices v → v < length others) → AreSides g.vertices edges others
     two_sides room other_room =
         let sides = (sides_proof g is).complement in

@@ -6,12 +6,12 @@ use Rattle.md_graph.specs.Sets.{NameSet, Has}
 use Rattle.md_graph.specs.PlainGraph.{PlainGraph, adjacent}
 use Rattle.md_graph.specs.Rows.{row_of}
 use Rattle.md_forcing.specs.declared.arc.Arc.{Arc}
-use Rattle.md_forcing.specs.declared.seen.Side.TheVariants.{NonEdges}
+use Rattle.md_forcing.specs.declared.arc_set.Side.TheVariants.{NonEdges}
 use Rattle.md_forcing.specs.Forcing.{arc}
-use Rattle.md_forcing.specs.Seen.{IsSeen}
+use Rattle.md_forcing.specs.ArcSet.{HasArc}
 use Rattle.md_forcing.specs.Sides.{adjacent_on}
-use Rattle.md_orientation.specs.Chains.{IsForcingChain, HasForcingChain}
-use Rattle.md_orientation.specs.Orders.{Realise, place_in}
+use Rattle.md_comparability.specs.Chains.{IsForcingChain, HasForcingChain}
+use Rattle.md_comparability.specs.Orders.{Realise, place_in}
 use Rattle.md_orient.specs.declared.permutation.PermVerdict.{PermVerdict}
 use Rattle.md_orient.specs.declared.permutation.PermVerdict.TheVariants.{Orders, ForcedIn, ForcedInComplement}
 
@@ -26,10 +26,10 @@ IsModel g (ForcedInComplement chain) = (¬ HasForcingChain (adjacent g)) × IsFo
 pub record AreSides (s : NameSet) (edges others : List NameSet) : Type 0 where
   pub room : (v : ℕ) → Has s v → v < length edges
   pub other_room : (v : ℕ) → Has s v → v < length others
-  pub tails : (a : Arc) → IsSeen edges a → Has s a.tail
-  pub heads : (a : Arc) → IsSeen edges a → Has s a.head
-  pub other_tails : (a : Arc) → IsSeen others a → Has s a.tail
-  pub apart : (u v : ℕ) → IsSeen edges (arc u v) → IsSeen others (arc u v) ⊎ IsSeen others (arc v u) → ⊥
+  pub tails : (a : Arc) → HasArc edges a → Has s a.tail
+  pub heads : (a : Arc) → HasArc edges a → Has s a.head
+  pub other_tails : (a : Arc) → HasArc others a → Has s a.tail
+  pub apart : (u v : ℕ) → HasArc edges (arc u v) → HasArc others (arc u v) ⊎ HasArc others (arc v u) → ⊥
 
 -- whether the set has the arc from u to v
 abbrev pub has_arc : List NameSet → ℕ → ℕ → Bool

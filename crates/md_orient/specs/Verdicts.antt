@@ -1,8 +1,8 @@
 -- The answer on orientations.
 -- Source: Golumbic, Algorithmic Graph Theory and Perfect Graphs, chapter 5; the rule of the least edge is this project's.
 use Rattle.std.specs.Prelude.{ℕ, Bool}
-use Rattle.md_orientation.specs.Chains.{IsForcingChain}
-use Rattle.md_orientation.specs.Orientations.{HasTransitiveOrientation, IsLeastEdgeOrientation}
+use Rattle.md_comparability.specs.Chains.{IsForcingChain}
+use Rattle.md_comparability.specs.Orientations.{HasTransitiveOrientation, IsLeastEdgeOrientation}
 use Rattle.md_orient.specs.declared.orientation.Verdict.{Verdict}
 use Rattle.md_orient.specs.declared.orientation.Verdict.TheVariants.{Transitive, Forced}
 

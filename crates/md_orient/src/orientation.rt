@@ -3,14 +3,14 @@ ghost use Rattle.std.specs.Prelude.{◌≡◌, ◌++◌, ℕ, Bool, length, map,
 ghost use Rattle.md_graph.specs.NameSet.{ascending};
 ghost use Rattle.md_graph.specs.PlainGraph.{adjacent};
 ghost use Rattle.md_forcing.specs.Forcing.{arc};
-ghost use Rattle.md_orientation.specs.Chains.{IsForcingChain};
-ghost use Rattle.md_orientation.specs.Listed.{arcs_below};
-ghost use Rattle.md_orientation.specs.Walking.{IsStopped};
+ghost use Rattle.md_comparability.specs.Chains.{IsForcingChain};
+ghost use Rattle.md_comparability.specs.Listed.{arcs_below};
+ghost use Rattle.md_comparability.specs.Walking.{IsStopped};
 ghost use Rattle.md_orient.specs.Verdicts.{IsVerdict};
 
-use md_forcing::{Arc, Arcs, Chain, Seen, Side, Trail, chain_of};
+use md_comparability::{ClassOrChosen, orient_classes};
+use md_forcing::{Arc, ArcSet, Arcs, Chain, ForcingTree, Side, chain_of};
 use md_graph::{Graph, Memory, Names};
-use md_orientation::{Ending, walk};
 use std::alloc::Global;
 
 /// A transitive orientation, or a forcing chain.
@@ -26,20 +26,20 @@ pub fn orient(alloc: Global, graph: &Graph) -> Result<Verdict, Memory>
     ensures { IfOk result (IsVerdict (adjacent graph.now)) }
 {
     let _vertices = graph.vertices();
-    match walk(alloc, graph, Side::Edges)? {
-        Ending::Stopped(trail) => {
+    match orient_classes(alloc, graph, Side::Edges)? {
+        ClassOrChosen::Stopped(trail) => {
             let chain = chain_along(alloc, &trail)?;
             Ok(Verdict::Forced(chain))
         }
-        Ending::Whole(chosen) => {
-            let list = listed(alloc, &chosen)?;
+        ClassOrChosen::Whole(chosen) => {
+            let list = list_of_arcs(alloc, &chosen)?;
             Ok(Verdict::Transitive(Arcs::from_list(list)))
         }
     }
 }
 
 // The forcing chain along a trail. Condition: a walk through some graph stopped with the trail.
-pub(crate) fn chain_along(alloc: Global, trail: &Trail) -> Result<Chain, Memory>
+pub(crate) fn chain_along(alloc: Global, trail: &ForcingTree) -> Result<Chain, Memory>
     requires { (e : ℕ → ℕ → Bool) × IsStopped e trail.now }
     ensures { IfOk result (λ chain. (e : ℕ → ℕ → Bool)
         → IsStopped e trail.now → IsForcingChain e chain) }
@@ -51,7 +51,7 @@ pub(crate) fn chain_along(alloc: Global, trail: &Trail) -> Result<Chain, Memory>
 }
 
 // The arcs of a set, in ascending order of tail, then head.
-fn listed(alloc: Global, arcs: &Seen) -> Result<Vec<Arc>, Memory>
+fn list_of_arcs(alloc: Global, arcs: &ArcSet) -> Result<Vec<Arc>, Memory>
     ensures { IfOk result (λ list. list.items ≡ arcs_below arcs.now (length arcs.now)) }
 {
     let mut list = Vec::new(alloc);

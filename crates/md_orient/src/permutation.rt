@@ -2,15 +2,15 @@
 ghost use Rattle.std.specs.Prelude.{◌≡◌, ◌<◌, length, IfOk};
 ghost use Rattle.md_graph.specs.Sets.{NameSet};
 ghost use Rattle.md_graph.specs.PlainGraph.{adjacent};
-ghost use Rattle.md_orientation.specs.Orders.{IsLinear, place_in};
-ghost use Rattle.md_orientation.specs.Walking.{IsWhole, HasRoom};
-ghost use Rattle.md_orientation.specs.declared.edge_walk.Ending.TheVariants.{Whole};
+ghost use Rattle.md_comparability.specs.Orders.{IsLinear, place_in};
+ghost use Rattle.md_comparability.specs.Walking.{IsWholeOrientation, HasRoom};
+ghost use Rattle.md_comparability.specs.declared.edge_walk.ClassOrChosen.TheVariants.{Whole};
 ghost use Rattle.md_orient.specs.Models.{IsModel, AreSides, ArePlaced, comes_before};
 
 use crate::orientation::chain_along;
-use md_forcing::{Chain, Seen, Side};
+use md_comparability::{ClassOrChosen, Order, orient_classes};
+use md_forcing::{ArcSet, Chain, Side};
 use md_graph::{Graph, Memory};
-use md_orientation::{Ending, Order, walk};
 use std::alloc::Global;
 
 /// Two orders that realise a graph, or a forcing chain of it or of its complement.
@@ -24,34 +24,34 @@ pub enum PermVerdict {
 /// A forcing chain of the graph, if it has one; else one of its complement, if that has one; else
 /// two orders that realise the graph. The three exclude each other: a chain of the complement comes
 /// only where the graph has none, and two orders realise a graph exactly where neither it nor its
-/// complement has a chain (`md_orientation::laws::orders_if_no_chain`). Errors: want of memory.
+/// complement has a chain (`md_comparability::laws::orders_if_no_chain`). Errors: want of memory.
 pub fn model(alloc: Global, graph: &Graph) -> Result<PermVerdict, Memory>
     ensures { IfOk result (IsModel graph.now) }
 {
     let _vertices = graph.vertices();
-    match walk(alloc, graph, Side::Edges)? {
-        Ending::Stopped(trail) => {
+    match orient_classes(alloc, graph, Side::Edges)? {
+        ClassOrChosen::Stopped(trail) => {
             let chain = chain_along(alloc, &trail)?;
             Ok(PermVerdict::ForcedIn(chain))
         }
-        Ending::Whole(edges) => model_of_oriented(alloc, graph, &edges),
+        ClassOrChosen::Whole(edges) => model_of_oriented(alloc, graph, &edges),
     }
 }
 
 // The answer on a graph by its least-edge orientation. Condition: it has one, and these are its
 // arcs.
-fn model_of_oriented(alloc: Global, graph: &Graph, edges: &Seen) -> Result<PermVerdict, Memory>
-    requires whole { IsWhole (adjacent graph.now) edges.now }
+fn model_of_oriented(alloc: Global, graph: &Graph, edges: &ArcSet) -> Result<PermVerdict, Memory>
+    requires whole { IsWholeOrientation (adjacent graph.now) edges.now }
     requires room { HasRoom graph.now.vertices (Whole edges.now) }
     ensures { IfOk result (IsModel graph.now) }
 {
     let _vertices = graph.vertices();
-    match walk(alloc, graph, Side::NonEdges)? {
-        Ending::Stopped(trail) => {
+    match orient_classes(alloc, graph, Side::NonEdges)? {
+        ClassOrChosen::Stopped(trail) => {
             let chain = chain_along(alloc, &trail)?;
             Ok(PermVerdict::ForcedInComplement(chain))
         }
-        Ending::Whole(others) => {
+        ClassOrChosen::Whole(others) => {
             let first = in_order(alloc, graph, edges, &others, false)?;
             let second = in_order(alloc, graph, edges, &others, true)?;
             Ok(PermVerdict::Orders(first, second))
@@ -64,8 +64,8 @@ fn model_of_oriented(alloc: Global, graph: &Graph, edges: &Seen) -> Result<PermV
 fn in_order(
     alloc: Global,
     graph: &Graph,
-    edges: &Seen,
-    others: &Seen,
+    edges: &ArcSet,
+    others: &ArcSet,
     turned: bool,
 ) -> Result<Order, Memory>
     requires sides { AreSides graph.now.vertices edges.now others.now }
@@ -84,7 +84,7 @@ fn in_order(
 
 // The number of names that come before `v`: those with an arc to it, where the arcs of the first
 // set are turned or not.
-fn place_of(edges: &Seen, others: &Seen, turned: bool, v: u32) -> usize
+fn place_of(edges: &ArcSet, others: &ArcSet, turned: bool, v: u32) -> usize
     requires room { v < length edges.now }
     requires other_room { v < length others.now }
     ensures { (s : NameSet) → AreSides s edges.now others.now

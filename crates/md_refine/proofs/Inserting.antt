@@ -5,7 +5,8 @@ use Rattle.std.proofs.lemmas.Bool.{cases_eq, eq-eqb, ne_eqb, false≢true}
 use Rattle.std.proofs.lemmas.Bool.Decides.{nat_tests}
 use Rattle.std.proofs.lemmas.List.{get_or-set_same, get_or-set_other, length-set}
 use Rattle.md_refine.specs.Partitions.{is_in}
-use Rattle.md_refine.specs.Slots.{first_place, times, AreLinked, IsPlaceOrder}
+use Rattle.md_refine.specs.Slots.{IsPlaceOrder}
+use Rattle.md_graph.specs.Linked.{first_or, Follow, times}
 use Rattle.md_refine.proofs.Lists.{in_first, in_later, in_other}
 use Rattle.md_refine.proofs.Showing.{in_times}
 
@@ -15,9 +16,9 @@ inserted p n [] = []
 inserted p n (x ∷ xs) = if x == p then x ∷ n ∷ xs else x ∷ inserted p n xs
 
 module _ (p n : ℕ) where
-  inserted_first : (xs : List ℕ) → first_place (inserted p n xs) ≡ first_place xs
+  inserted_first : (xs : List ℕ) → first_or (inserted p n xs) None ≡ first_or xs None
   inserted_first [] = refl
-  inserted_first (x ∷ xs) = elim (x == p) as (λ b. first_place (if b then x ∷ n ∷ xs else x ∷ inserted p n xs) ≡ Some x) [ true ↦ refl | false ↦ refl ]
+  inserted_first (x ∷ xs) = elim (x == p) as (λ b. first_or (if b then x ∷ n ∷ xs else x ∷ inserted p n xs) None ≡ Some x) [ true ↦ refl | false ↦ refl ]
 
   inserted_times : (q : ℕ) (xs : List ℕ) → is_in xs p ≡ true → times q (inserted p n xs) ≡ times q xs + cond (n == q) 1 0
   inserted_times q [] m = absurd (false≢true m)
@@ -50,13 +51,13 @@ module _ (p n : ℕ) where
     relinked_other q first second =
         get_or-set_other (set ns n (get_or ns p None)) p q (Some n) None first ∙ get_or-set_other ns n q (get_or ns p None) None second
 
-    follow_same : (xs : List ℕ) → ((q : ℕ) → is_in xs q ≡ true → (q ≢ p) × (q ≢ n)) → AreLinked ns xs → AreLinked (set (set ns n (get_or ns p None)) p (Some n)) xs
+    follow_same : (xs : List ℕ) → ((q : ℕ) → is_in xs q ≡ true → (q ≢ p) × (q ≢ n)) → Follow ns xs None → Follow (set (set ns n (get_or ns p None)) p (Some n)) xs None
     follow_same [] apart h = tt
     follow_same (x ∷ xs) apart h =
         let first = apart x (in_first x xs) in
         (relinked_other x first.0 first.1 ∙ h.0, follow_same xs (λ q m. apart q (in_later x q xs m)) h.1)
 
-    follow_inserted : (xs : List ℕ) → is_in xs p ≡ true → times p xs ≤ 1 → ((q : ℕ) → is_in xs q ≡ true → q ≢ n) → AreLinked ns xs → AreLinked (set (set ns n (get_or ns p None)) p (Some n)) (inserted p n xs)
+    follow_inserted : (xs : List ℕ) → is_in xs p ≡ true → times p xs ≤ 1 → ((q : ℕ) → is_in xs q ≡ true → q ≢ n) → Follow ns xs None → Follow (set (set ns n (get_or ns p None)) p (Some n)) (inserted p n xs) None
     follow_inserted [] m once new h = absurd (false≢true m)
     follow_inserted (x ∷ xs) m once new h =
         elim (cases_eq x p) [
@@ -65,7 +66,7 @@ module _ (p n : ℕ) where
               let long = length-set ns n (get_or ns p None) in
               let none = gone x xs here once in
               let at_p : get_or (set ns2 p (Some n)) x None ≡ Some n = ap (λ z. get_or (set ns2 p (Some n)) z None) here ∙ get_or-set_same ns2 p (Some n) None (omega arith) in
-              let at_n : get_or (set ns2 p (Some n)) n None ≡ first_place xs = get_or-set_other ns2 p n (Some n) None (λ e. differ (sym e)) ∙ get_or-set_same ns n (get_or ns p None) None n_low ∙ ap (λ z. get_or ns z None) (sym here) ∙ h.0 in
+              let at_n : get_or (set ns2 p (Some n)) n None ≡ first_or xs None = get_or-set_other ns2 p n (Some n) None (λ e. differ (sym e)) ∙ get_or-set_same ns n (get_or ns p None) None n_low ∙ ap (λ z. get_or ns z None) (sym here) ∙ h.0 in
               rw (eq-eqb x p here) (at_p, (at_n, follow_same xs (λ q k. (not_in q xs none k, new q (in_later x q xs k))) h.1))
           | inr other ↦
               rw (ne_eqb x p other) (

@@ -5,7 +5,8 @@ use Rattle.std.proofs.lemmas.Bool.{cases_eq, eq-eqb, ne_eqb, false≢true}
 use Rattle.std.proofs.lemmas.Bool.Decides.{nat_tests}
 use Rattle.std.proofs.lemmas.List.{get_or-set_same, get_or-set_other}
 use Rattle.md_refine.specs.Partitions.{is_in}
-use Rattle.md_refine.specs.Slots.{times, IsPlaceOrder}
+use Rattle.md_refine.specs.Slots.{IsPlaceOrder}
+use Rattle.md_graph.specs.Linked.{times}
 use Rattle.md_refine.proofs.Lists.{in_first, in_later, in_other}
 use Rattle.md_refine.proofs.Showing.{in_times}
 

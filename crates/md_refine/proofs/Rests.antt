@@ -4,15 +4,16 @@ use Rattle.std.specs.List.{position_from}
 use Rattle.std.proofs.lemmas.Bool.Decides.{nat_tests}
 use Rattle.std.proofs.lemmas.Option.{none-some, same_Some}
 use Rattle.md_refine.specs.Partitions.{is_in}
-use Rattle.md_refine.specs.Slots.{first_place, AreLinked, IsPlaceOrder}
+use Rattle.md_refine.specs.Slots.{IsPlaceOrder}
+use Rattle.md_graph.specs.Linked.{first_or, Follow}
 use Rattle.md_refine.proofs.Lists.{in_first, in_later}
 use Rattle.md_refine.proofs.Showing.{in_times}
 
 -- `rest` is what is left behind the first `index` places of an order of `count` places, of which
 -- none passes the test
 pub record IsRest (test : ℕ → Bool) (nexts : List (Option ℕ)) (count index : ℕ) (next : Option ℕ) (rest order : List ℕ) : Type 0 where
-  pub begins : next ≡ first_place rest
-  pub follow : AreLinked nexts rest
+  pub begins : next ≡ first_or rest None
+  pub follow : Follow nexts rest None
   pub low : (p : ℕ) → is_in rest p ≡ true → p < length nexts
   pub long : index + length rest ≡ count
   pub same : (j : ℕ) → get_or rest j 0 ≡ get_or order (index + j) 0

@@ -13,7 +13,8 @@ use Rattle.md_graph.proofs.SetLemmas.{remove_left, of_remove, Has-along}
 use Rattle.md_graph.specs.NameSet.{IsLeastFrom}
 use Rattle.md_refine.specs.declared.partition.Partition.TheInside.{Inside}
 use Rattle.md_refine.specs.Partitions.{is_in, class_with, parts, settled_by, settled}
-use Rattle.md_refine.specs.Slots.{MarkStore, numbers, home, owner, main, half, is_mark_of, is_half, stands, marked, place_names, times, IsPlaceOrder, ArePlaceMarks, IsHome, Keeps}
+use Rattle.md_refine.specs.Slots.{MarkStore, numbers, home, owner, main, half, is_mark_of, is_half, stands, marked, place_names, IsPlaceOrder, ArePlaceMarks, IsHome, Keeps}
+use Rattle.md_graph.specs.Linked.{times}
 use Rattle.md_refine.specs.Kept.{marks_kept, KeepsPartition}
 use Rattle.md_refine.proofs.Lists.{filter_twice, filter_all, filter_none, filter_same, in_some, least_first, numbers_order, few}
 use Rattle.md_refine.proofs.Refining.{one_part}

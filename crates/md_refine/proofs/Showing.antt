@@ -1,5 +1,5 @@
 -- Vectors that keep a partition: what is read of them.
-use Rattle.std.proofs.Common.{◌≡◌, ◌≢◌, ℕ, ◌+◌, ◌<◌, ◌≤◌, Bool, true, false, cond, not, ◌&&◌, ◌||◌, ◌==◌, nat_lt, List, [], ◌∷◌, map, length, vec_len, Option, Some, None, is_some, AllPairs, refl, sym, ◌∙◌, ap, subst, inl, inr, arith}
+use Rattle.std.proofs.Common.{◌≡◌, ◌≢◌, ℕ, ◌+◌, ◌<◌, ◌≤◌, Bool, true, false, cond, not, ◌&&◌, ◌||◌, ◌==◌, nat_lt, List, [], ◌∷◌, map, vec_len, Option, Some, None, is_some, AllPairs, refl, sym, ◌∙◌, ap, subst, inl, inr, arith}
 use Rattle.std.specs.List.{filter, list_any, position_from}
 use Rattle.std.proofs.lemmas.Bool.{cases_eq, eq-eqb, ne_eqb, false≢true, lt-ltb, cases_lt}
 use Rattle.std.proofs.lemmas.Bool.Decides.{nat_tests}
@@ -9,7 +9,9 @@ use Rattle.std.proofs.lemmas.List.Elements.{All-map}
 use Rattle.std.proofs.lemmas.List.Kept.{AllPairs-filter}
 use Rattle.md_graph.specs.declared.TheConstants.{NAMES}
 use Rattle.md_refine.specs.Partitions.{Classes, is_in, is_name, class_position, holders, is_outside, class_with, ArePartition}
-use Rattle.md_refine.specs.Slots.{MarkStore, numbers, home, owner, is_mark_of, is_half, stands, marked, walk, place_names, partition_of, first_place, times, AreLinked, Keeps}
+use Rattle.md_refine.specs.Slots.{MarkStore, numbers, home, owner, is_mark_of, is_half, stands, marked, place_names, partition_of, Keeps}
+use Rattle.md_graph.specs.Linked.{times, walk}
+use Rattle.md_graph.proofs.LinkedLists.{walk-follow}
 use Rattle.md_refine.specs.declared.partition.Partition.TheInside.{Inside}
 use Rattle.md_refine.specs.Kept.{marks_kept, partition_kept, KeepsPartition}
 use Rattle.md_refine.proofs.Lists.{in_all, in_some, in_filter, in_numbers, numbers_order, in_other}
@@ -23,11 +25,6 @@ in_times p (x ∷ xs) =
       | true ↦ grind (arith, nat_tests)
       | false ↦ in_times p xs ∙ grind (arith, nat_tests)
     ]
-
-walked : (ns : List (Option ℕ)) (xs : List ℕ) → AreLinked ns xs → walk ns (length xs) (first_place xs) ≡ xs
-unfolding walk
-walked ns [] h = refl
-walked ns (x ∷ xs) h = ap (λ l. x ∷ l) (ap (walk ns (length xs)) h.0 ∙ walked ns xs h.1)
 
 -- ---- classes at places: v is in the class at q alone
 
@@ -96,7 +93,7 @@ module _ (s : MarkStore) (order : List ℕ) (k : Keeps s order) where
   pub shown : partition_of s ≡ seen s order
   unfolding partition_of
   shown =
-      let found : walk s.nexts s.used s.first ≡ order = (λ i. walk s.nexts (sym k.is_order.long i) (k.is_order.begins i)) ∙ walked s.nexts order k.is_order.follow in
+      let found : walk s.nexts s.used s.first ≡ order = (λ i. walk s.nexts (sym k.is_order.long i) (k.is_order.begins i)) ∙ walk-follow s.nexts order k.is_order.follow in
       λ i. record { classes = map (place_names s) (found i); touched = filter (marked s) (numbers NAMES) }
 
   pub name_low : (v i : ℕ) → home s v ≡ Some i → v < NAMES

@@ -5,6 +5,7 @@ use Rattle.std.specs.Prelude.{Option, Some, None, ◌≡◌, ◌≢◌, ◌⊎�
 use Rattle.std.specs.List.{filter, count_by}
 use Rattle.md_graph.specs.declared.TheConstants.{NAMES}
 use Rattle.md_graph.specs.Sets.{NameSet, Has}
+use Rattle.md_graph.specs.Linked.{first_or, times, Follow, walk}
 use Rattle.md_refine.specs.Partitions.{Classes}
 
 -- what is kept: of each name its mark; of each mark its place and the number of its names; of each
@@ -54,9 +55,9 @@ abbrev pub IsPlaced : List ℕ → List ℕ → ℕ → Type 0
 IsPlaced owners positions i = (i < length owners) × (slice_index_or owners i 0 < length positions)
 
 -- the position of the place of a mark, if there is one
-abbrev pub number_of : List ℕ → List ℕ → Option ℕ → Option ℕ
-number_of owners positions None = None
-number_of owners positions (Some i) = Some (slice_index_or positions (slice_index_or owners i 0) 0)
+abbrev pub position_of_mark : List ℕ → List ℕ → Option ℕ → Option ℕ
+position_of_mark owners positions None = None
+position_of_mark owners positions (Some i) = Some (slice_index_or positions (slice_index_or owners i 0) 0)
 
 -- a mark is one of touched names
 abbrev pub is_half : MarkStore → Option ℕ → Bool
@@ -76,12 +77,6 @@ stands s p v = is_mark_of s.owners p (home s v)
 abbrev pub marked : MarkStore → ℕ → Bool
 marked s v = is_half s (home s v)
 
--- the places that are found from one on, by the links
-unfoldable pub walk : List (Option ℕ) → ℕ → Option ℕ → List ℕ
-walk nexts zero from = []
-walk nexts (suc n) None = []
-walk nexts (suc n) (Some p) = p ∷ walk nexts n (slice_index_or nexts p None)
-
 -- the names below n whose mark is one of the place p
 abbrev pub names_placed : List (Option ℕ) → List ℕ → ℕ → ℕ → List ℕ
 names_placed homes owners n p = filter (λ v. is_mark_of owners p (slice_index_or homes v None)) (numbers n)
@@ -97,26 +92,11 @@ partition_of s = record {
   touched = filter (marked s) (numbers NAMES);
 }
 
--- the first item, if there is one
-abbrev pub first_place : List ℕ → Option ℕ
-first_place [] = None
-first_place (x ∷ xs) = Some x
-
--- how often p stands in the list
-abbrev pub times : ℕ → List ℕ → ℕ
-times p [] = 0
-times p (x ∷ xs) = cond (x == p) 1 0 + times p xs
-
--- each place leads to the one behind it, the last to none
-abbrev pub AreLinked : List (Option ℕ) → List ℕ → Type 0
-AreLinked nexts [] = Unit {0}
-AreLinked nexts (x ∷ xs) = (slice_index_or nexts x None ≡ first_place xs) × AreLinked nexts xs
-
 -- the order has all places below `count`, each once; it begins at `first`, and is what the links
 -- lead along
 pub record IsPlaceOrder (nexts : List (Option ℕ)) (first : Option ℕ) (order : List ℕ) (count : ℕ) : Type 0 where
-  pub begins : first ≡ first_place order
-  pub follow : AreLinked nexts order
+  pub begins : first ≡ first_or order None
+  pub follow : Follow nexts order None
   pub once : (p : ℕ) → times p order ≡ cond (nat_lt p count) 1 0
   pub long : length order ≡ count
   pub within : count ≤ length nexts

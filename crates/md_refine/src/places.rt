@@ -2,7 +2,7 @@
 ghost use Rattle.std.specs.Prelude.{◌≡◌, ◌≢◌, ℕ, ◌<◌, ◌≤◌, List, length, vec_len, IfOk, Some, None, IfSome, slice_index_or, ◌==◌, if◌then◌else◌};
 ghost use Rattle.std.specs.List.{count_by, position_from};
 ghost use Rattle.std.specs.FinSet as set;
-ghost use Rattle.md_refine.specs.Slots.{IsPlaceOrder, IsPlaced, is_mark, is_mark_of, names_placed, number_of};
+ghost use Rattle.md_refine.specs.Slots.{IsPlaceOrder, IsPlaced, is_mark, is_mark_of, names_placed, position_of_mark};
 ghost use Rattle.md_graph.specs.NameSet.{ascending_between};
 
 use md_graph::{Memory, NAMES, Names, Set, copies_of};
@@ -124,7 +124,7 @@ pub(crate) fn numbers_of(
         IsPlaced owners.now.items positions.now.items i }
     ensures len { IfOk result (λ numbers. length numbers.items ≡ NAMES) }
     ensures numbers { IfOk result (λ numbers. (v : ℕ) → slice_index_or numbers.items v None
-        ≡ number_of owners.now.items positions.now.items
+        ≡ position_of_mark owners.now.items positions.now.items
         (slice_index_or homes.now.items v None)) }
 {
     let mut numbers = Vec::with_capacity(alloc, NAMES as usize)?;
@@ -137,7 +137,7 @@ pub(crate) fn numbers_of(
 // The position of the place of a mark, or none. Condition: a mark has a place, and this a position.
 fn number_at(home: Option<u32>, owners: &Vec<u32>, positions: &Vec<u32>) -> Option<u32>
     requires { IfSome home (IsPlaced owners.now.items positions.now.items) }
-    ensures { result ≡ number_of owners.now.items positions.now.items home }
+    ensures { result ≡ position_of_mark owners.now.items positions.now.items home }
 {
     match home {
         Some(home) => Some(positions[owners[home as usize] as usize]),

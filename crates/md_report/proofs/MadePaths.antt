@@ -17,7 +17,7 @@ use Rattle.md_script.specs.Edit.{HasNames, reason_of, after}
 use Rattle.md_script.specs.TakenBack.{Led}
 use Rattle.md_script.proofs.ChangeLemmas.{ends_by_tests, vertex_added, neighbours_are_vertices}
 use Rattle.md_report.specs.Cographs.{IsCograph}
-use Rattle.md_report.specs.Made.{Shows, HoldsChange, HasNoneMade}
+use Rattle.md_report.specs.Made.{HasChange, HoldsChange, HasNoneMade}
 
 decide_one : (x a b c d : ℕ) → Decided (IsOneOf x a b c d)
 decide_one x a b c d =
@@ -98,7 +98,7 @@ none_gone p q g hp hq = rw (hp, hq) (by_test g) where
 
 -- ---- what an edit shows
 
-pub shown : (g : PlainGraph) (edit : Edit) → reason_of g edit ≡ None → Shows (after g edit) edit
+pub shown : (g : PlainGraph) (edit : Edit) → reason_of g edit ≡ None → HasChange (after g edit) edit
 shown g (AddEdge u v) none =
     let ends = ends_by_tests u v (u == v) (set.contains g.vertices u) (set.contains g.vertices v) _ none in (ends.1, ends.2, eqb-false u v ends.0)
 shown g (DelEdge u v) none =

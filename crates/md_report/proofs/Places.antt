@@ -8,13 +8,13 @@ use Rattle.md_modules.specs.declared.induced_paths.P4.{P4}
 use Rattle.md_tree.specs.Trees.{PlainTree}
 use Rattle.md_tree.specs.StrongTrees.{IsTree}
 use Rattle.md_tree.proofs.OneTree.{one_tree_proof}
-use Rattle.md_forcing.specs.declared.seen.Side.TheVariants.{Edges, NonEdges}
+use Rattle.md_forcing.specs.declared.arc_set.Side.TheVariants.{Edges, NonEdges}
 use Rattle.md_forcing.specs.Sides.{adjacent_on}
-use Rattle.md_orientation.specs.Laws.{MeetsPremises, HasTwoSides, HasChainOrOrientation}
-use Rattle.md_orientation.proofs.Reached.{side_premises, sides_proof}
-use Rattle.md_orientation.proofs.Alternative.{alternative_proof}
-use Rattle.md_orientation.proofs.OneList.{one_list_proof}
-use Rattle.md_orientation.proofs.OrderLaws.{orders_proof}
+use Rattle.md_comparability.specs.Laws.{MeetsPremises, HasTwoSides, HasChainOrOrientation}
+use Rattle.md_comparability.proofs.Reached.{side_premises, sides_proof}
+use Rattle.md_comparability.proofs.Alternative.{alternative_proof}
+use Rattle.md_comparability.proofs.OneList.{one_list_proof}
+use Rattle.md_comparability.proofs.OrderLaws.{orders_proof}
 use Rattle.std.specs.List.{All}
 use Rattle.std.proofs.lemmas.List.Elements.{All-nil, All-head, All-tail}
 use Rattle.md_script.specs.declared.edit.Edit as script

@@ -8,11 +8,11 @@ use Rattle.md_script.specs.declared.edit.Edit.{Edit}
 use Rattle.md_script.specs.declared.edit.Edit.TheVariants.{AddEdge, DelEdge, AddVertex, DelVertex}
 
 -- the graph has what an edit that led to it names: two ends, or the new vertex
-abbrev pub Shows : PlainGraph → Edit → Type 0
-Shows g (AddEdge u v) = Has g.vertices u × Has g.vertices v × (u ≢ v)
-Shows g (DelEdge u v) = Has g.vertices u × Has g.vertices v × (u ≢ v)
-Shows g (AddVertex x neighbours) = Has g.vertices x
-Shows g (DelVertex x) = ⊤
+abbrev pub HasChange : PlainGraph → Edit → Type 0
+HasChange g (AddEdge u v) = Has g.vertices u × Has g.vertices v × (u ≢ v)
+HasChange g (DelEdge u v) = Has g.vertices u × Has g.vertices v × (u ≢ v)
+HasChange g (AddVertex x neighbours) = Has g.vertices x
+HasChange g (DelVertex x) = ⊤
 
 -- both ends of the edge of an edit are among four names, or its new vertex is
 abbrev pub HoldsChange : Edit → ℕ → ℕ → ℕ → ℕ → Type 0

@@ -1,10 +1,10 @@
 -- The line that says whether a graph has a permutation model.
 -- Source: Golumbic, Algorithmic Graph Theory and Perfect Graphs, chapter 7.
 use Rattle.md_graph.specs.PlainGraph.{PlainGraph, adjacent}
-use Rattle.md_forcing.specs.declared.seen.Side.TheVariants.{NonEdges}
+use Rattle.md_forcing.specs.declared.arc_set.Side.TheVariants.{NonEdges}
 use Rattle.md_forcing.specs.Sides.{adjacent_on}
-use Rattle.md_orientation.specs.Chains.{IsForcingChain, HasForcingChain}
-use Rattle.md_orientation.specs.Orders.{Realise}
+use Rattle.md_comparability.specs.Chains.{IsForcingChain, HasForcingChain}
+use Rattle.md_comparability.specs.Orders.{Realise}
 use Rattle.md_report.specs.Lines.{PlainLine, head, tree, applied, applied_quiet, refused, refused_p4, not_cograph, oriented, forced, orders, forced_in, forced_in_complement, end}
 
 -- a forcing chain of the graph; where it has none, a forcing chain of its complement; or two orders that realise the graph, which

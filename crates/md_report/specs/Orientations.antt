@@ -1,8 +1,8 @@
 -- The line that says whether a graph has a transitive orientation.
 -- Source: Golumbic, Algorithmic Graph Theory and Perfect Graphs, chapter 5; the rule of the least edge is this project's.
 use Rattle.std.specs.Prelude.{ℕ, Bool}
-use Rattle.md_orientation.specs.Chains.{IsForcingChain}
-use Rattle.md_orientation.specs.Orientations.{HasTransitiveOrientation, IsLeastEdgeOrientation}
+use Rattle.md_comparability.specs.Chains.{IsForcingChain}
+use Rattle.md_comparability.specs.Orientations.{HasTransitiveOrientation, IsLeastEdgeOrientation}
 use Rattle.md_report.specs.Lines.{PlainLine, head, tree, applied, applied_quiet, refused, refused_p4, not_cograph, oriented, forced, orders, forced_in, forced_in_complement, end}
 
 -- the arcs of the least-edge orientation, in ascending order, where there is a transitive orientation; or a forcing chain

@@ -3,7 +3,7 @@
 ghost use Rattle.md_report.specs.Laws.{LinesLeadIfFirst, GraphReportsHaveLines, SessionReportsAreRuns, CographRunsApplyAlike, FrontsBeginReports, OneLineOneText};
 
 // What is known of the lines of orientations, for readers of reports.
-pub use md_orientation::laws::{
+pub use md_comparability::laws::{
     chain_or_orientation, classes_are_transitive, least_edge_is_transitive,
     one_least_edge_orientation, orders_if_no_chain, orientations_give_orders, sides_meet_premises,
     triangle_lemma,

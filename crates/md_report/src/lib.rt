@@ -12,7 +12,7 @@ mod writer;
 
 pub use line::{GraphMode, Line, Mode, SessionMode};
 pub use made::made_p4;
-pub use md_orientation::Order;
+pub use md_comparability::Order;
 pub use reader::{LineFault, read_line};
 pub use writer::write_line;
 

@@ -4,7 +4,7 @@ ghost use Rattle.md_graph.specs.Sets.{NameSet};
 ghost use Rattle.md_graph.specs.PlainGraph.{PlainGraph};
 ghost use Rattle.md_script.specs.TakenBack.{Led};
 ghost use Rattle.md_report.specs.Cographs.{IsP4Of, IsCograph};
-ghost use Rattle.md_report.specs.Made.{Shows, HoldsChange, HasNoneMade};
+ghost use Rattle.md_report.specs.Made.{HasChange, HoldsChange, HasNoneMade};
 
 use md_graph::Graph;
 use md_modules::{P4, find_p4_with, find_p4_with_both};
@@ -15,7 +15,7 @@ use md_script::Edit;
 /// takes no memory, and a few row operations; for a new vertex those of `find_p4_with`. Condition:
 /// the graph has both ends of the edge, or the new vertex.
 pub fn made_p4(graph: &Graph, edit: &Edit) -> Option<P4>
-    requires { Shows graph.now edit.now }
+    requires { HasChange graph.now edit.now }
     ensures found { IfSome result (λ p.
         IsP4Of graph.now p × HoldsChange edit.now p.a p.b p.c p.d) }
     ensures none { IfNone result (HasNoneMade graph.now edit.now) }

@@ -18,14 +18,14 @@ use Rattle.md_script.specs.declared.fault.ScriptKind.TheVariants.{FieldCount, Na
 use Rattle.md_script.specs.declared.line.EditWord.{EditWord}
 use Rattle.md_script.specs.declared.line.EditWord.TheVariants.{PlusEdge, MinusEdge, PlusVertex, MinusVertex}
 use Rattle.md_script.specs.Edit.{HasNames}
-use Rattle.md_script.specs.Line.{is_skipped, word_of, name_in, number_fault, before_names, names_of, names_fault, edit_with, edit_by, edit_of, count_fault, vertex_fault, fault_with, fault_by, edit_fault, fault_of_words}
+use Rattle.md_script.specs.Line.{is_skipped, word_of, name_in, number_fault, before_names, names_written, names_fault, edit_with, edit_by, edit_of, count_fault, vertex_fault, fault_with, fault_by, edit_fault, fault_of_words}
 use Rattle.md_script.proofs.NameListLemmas.{ascending_is_list}
 
 -- ---- fields that are all names
 
 -- fields that write names
 record AreNames (rest : List (List ℕ)) (list : List ℕ) : Type 0 where
-  written : names_of rest ≡ Some list
+  written : names_written rest ≡ Some list
   size : length list ≡ length rest
   below : All (λ v. v < NAMES) list
   faultless : names_fault rest ≡ None
@@ -54,11 +54,11 @@ that_name (Some n) v h = by_test (nat_le NAMES n) refl h where
   by_test false e h = let same : n ≡ v = cc in subst (IsName (Some n)) same (name_at n e)
 
 no_names : AreNames [] []
-unfolding names_of names_fault
+unfolding names_written names_fault
 no_names = record { written = refl; size = refl; below = All-nil _; faultless = refl }
 
 more_names : (field : List ℕ) (rest : List (List ℕ)) (v : ℕ) (list : List ℕ) → IsName (number_of field) v → AreNames rest list → AreNames (field ∷ rest) (v ∷ list)
-unfolding names_of names_fault
+unfolding names_written names_fault
 more_names field rest v list name others = record {
   written = (λ i. before_names (name.written i) (others.written i));
   size = ap suc others.size;
@@ -85,11 +85,11 @@ both_there None others list h = absurd (cc)
 both_there (Some v) None list h = absurd (cc)
 both_there (Some v) (Some rest) list h = (v, rest, refl, refl, cc)
 
-names_are : (rest : List (List ℕ)) (list : List ℕ) → names_of rest ≡ Some list → AreNames rest list
-unfolding names_of
+names_are : (rest : List (List ℕ)) (list : List ℕ) → names_written rest ≡ Some list → AreNames rest list
+unfolding names_written
 names_are [] list h = let same : [] ≡ list = cc in subst (AreNames []) same no_names
 names_are (field ∷ rest) list h =
-    let parts = both_there (name_in (number_of field)) (names_of rest) list h in
+    let parts = both_there (name_in (number_of field)) (names_written rest) list h in
     subst (AreNames (field ∷ rest)) (sym parts.4)
     (more_names field rest parts.0 parts.1 (that_name (number_of field) parts.0 parts.2) (names_are rest parts.1 parts.3))
 
@@ -201,7 +201,7 @@ by_names word (Some list) edit h = (list, refl, made_edit word list edit h)
 edit_spelled : (word : Option EditWord) (rest : List (List ℕ)) (edit : Edit) → edit_by word rest ≡ Some edit → (fault_by word rest ≡ None) × HasNames edit
 edit_spelled None rest edit h = absurd (cc)
 edit_spelled (Some word) rest edit h =
-    let made = by_names word (names_of rest) edit h in
+    let made = by_names word (names_written rest) edit h in
     let names = names_are rest made.0 made.1 in
     (made.2.faultless rest names.size names.faultless, made.2.names names.below)
 

@@ -7,7 +7,7 @@ use Rattle.std.proofs.lemmas.List.Elements.{All-nil, All-cons}
 use Rattle.md_text.specs.Lines.{lines, without_return}
 use Rattle.md_text.specs.Fields.{fields}
 use Rattle.md_text.proofs.LineLemmas.{no_lines}
-use Rattle.md_text.specs.Spelling.{SpellsOne, SpellsNone, fault_or, words, fault_behind as first_fault_behind}
+use Rattle.md_text.specs.Spelling.{SpellsOne, SpellsNone, fault_or, words, first_fault_behind}
 use Rattle.md_script.specs.declared.TheConstants.{EDITS}
 use Rattle.md_script.specs.declared.edit.Edit.{Edit}
 use Rattle.md_script.specs.declared.fault.ScriptKind.{ScriptKind}

@@ -10,7 +10,7 @@ use Rattle.md_graph.specs.Sets.{NameSet}
 use Rattle.md_text.specs.Fields.{fields}
 use Rattle.md_text.specs.Numbers.{number_of, BeginsWithNumber}
 use Rattle.md_script.specs.declared.fault.ScriptKind.{ScriptKind}
-use Rattle.md_script.specs.Line.{name_in, number_fault, before_names, names_of, names_fault, count_fault, vertex_fault}
+use Rattle.md_script.specs.Line.{name_in, number_fault, before_names, names_written, names_fault, count_fault, vertex_fault}
 use Rattle.md_script.specs.Read.{NamesSet, NamesVertex}
 
 option_or-none : {T : Type 0} (o : Option T) → option_or o None ≡ o
@@ -22,7 +22,7 @@ option_or-none (Some x) = refl
 -- of the fields, those up to `rest` are names, the members of s
 pub record HasRead (whole rest : List (List ℕ)) (s : NameSet) : Type 0 where
   pub done : List ℕ
-  pub names : names_of whole ≡ option_map (λ more. done ++ more) (names_of rest)
+  pub names : names_written whole ≡ option_map (λ more. done ++ more) (names_written rest)
   pub members : s ≡ set.from_list done
   pub fault : names_fault whole ≡ names_fault rest
 
@@ -30,9 +30,9 @@ one_before : (done : List ℕ) (v : ℕ) (o : Option (List ℕ)) → option_map 
 one_before done v None = refl
 one_before done v (Some xs) = ap (λ l. Some l) (sym (append_assoc done (v ∷ []) xs))
 
-names-cons : (field : List ℕ) (rest : List (List ℕ)) (v : ℕ) → name_in (number_of field) ≡ Some v → names_of (field ∷ rest) ≡ before_names (Some v) (names_of rest)
-unfolding names_of
-names-cons field rest v is = ap (λ o. before_names o (names_of rest)) is
+names-cons : (field : List ℕ) (rest : List (List ℕ)) (v : ℕ) → name_in (number_of field) ≡ Some v → names_written (field ∷ rest) ≡ before_names (Some v) (names_written rest)
+unfolding names_written
+names-cons field rest v is = ap (λ o. before_names o (names_written rest)) is
 
 fault-cons : (field : List ℕ) (rest : List (List ℕ)) → number_fault (number_of field) ≡ None → names_fault (field ∷ rest) ≡ names_fault rest
 unfolding names_fault
@@ -47,9 +47,9 @@ pub read_more : (whole : List (List ℕ)) (line more : List ℕ) (number : Optio
 read_more whole line more number v s t h b name fault added = record {
   done = h.done ++ v ∷ [];
   names =
-      h.names ∙ ap (λ l. option_map (λ xs. h.done ++ xs) (names_of l)) b.is_first
+      h.names ∙ ap (λ l. option_map (λ xs. h.done ++ xs) (names_written l)) b.is_first
       ∙ ap (option_map (λ xs. h.done ++ xs)) (names-cons b.field (fields more) v (ap name_in (sym b.is_number) ∙ name))
-      ∙ one_before h.done v (names_of (fields more));
+      ∙ one_before h.done v (names_written (fields more));
   members = added ∙ ap (λ u. set.insert u v) h.members ∙ sym (set.from_list_push nat_cmp_total nat_cmp-IsAntisymmetric h.done v);
   fault = h.fault ∙ ap names_fault b.is_first ∙ fault-cons b.field (fields more) (ap number_fault (sym b.is_number) ∙ fault);
 }
@@ -59,8 +59,8 @@ pub read_refused : (whole : List (List ℕ)) (line more : List ℕ) (number : Op
 read_refused whole line more number kind s h b fault =
     h.fault ∙ ap names_fault b.is_first ∙ fault-here b.field (fields more) kind (ap number_fault (sym b.is_number) ∙ fault)
 
-names-nil : names_of [] ≡ Some []
-unfolding names_of
+names-nil : names_written [] ≡ Some []
+unfolding names_written
 names-nil = refl
 
 fault-nil : names_fault [] ≡ None
@@ -70,7 +70,7 @@ fault-nil = refl
 pub read_all : (whole rest : List (List ℕ)) (s : NameSet) → HasRead whole rest s → rest ≡ [] → NamesSet whole s
 read_all whole rest s h end = record {
   list = h.done ++ [];
-  written = h.names ∙ ap (λ l. option_map (λ more. h.done ++ more) (names_of l)) end ∙ ap (option_map (λ more. h.done ++ more)) names-nil;
+  written = h.names ∙ ap (λ l. option_map (λ more. h.done ++ more) (names_written l)) end ∙ ap (option_map (λ more. h.done ++ more)) names-nil;
   members = h.members ∙ ap set.from_list (sym (append-nil h.done));
 }
 
@@ -84,7 +84,7 @@ pub vertex_read : (line more : List ℕ) (number : Option ℕ) (x : ℕ) (s : Na
 vertex_read line more number x s b name others = record {
   list = others.list;
   written =
-      ap names_of b.is_first ∙ names-cons b.field (fields more) x (ap name_in (sym b.is_number) ∙ name)
+      ap names_written b.is_first ∙ names-cons b.field (fields more) x (ap name_in (sym b.is_number) ∙ name)
       ∙ ap (before_names (Some x)) others.written;
   members = others.members;
 }
@@ -101,13 +101,13 @@ others_fault line more number fault b none later =
 
 -- ---- one name, or two
 
-names_one : (rest : List (List ℕ)) (a : List ℕ) (u : ℕ) → rest ≡ a ∷ [] → name_in (number_of a) ≡ Some u → names_of rest ≡ Some (u ∷ [])
-names_one rest a u cut name = ap names_of cut ∙ names-cons a [] u name ∙ ap (before_names (Some u)) names-nil
+names_one : (rest : List (List ℕ)) (a : List ℕ) (u : ℕ) → rest ≡ a ∷ [] → name_in (number_of a) ≡ Some u → names_written rest ≡ Some (u ∷ [])
+names_one rest a u cut name = ap names_written cut ∙ names-cons a [] u name ∙ ap (before_names (Some u)) names-nil
 
 names_two : (rest : List (List ℕ)) (a b : List ℕ) (u v : ℕ) → rest ≡ a ∷ b ∷ [] → name_in (number_of a) ≡ Some u → name_in (number_of b) ≡ Some v
-    → names_of rest ≡ Some (u ∷ v ∷ [])
+    → names_written rest ≡ Some (u ∷ v ∷ [])
 names_two rest a b u v cut first second =
-    ap names_of cut ∙ names-cons a (b ∷ []) u first ∙ ap (before_names (Some u)) (names_one (b ∷ []) b v refl second)
+    ap names_written cut ∙ names-cons a (b ∷ []) u first ∙ ap (before_names (Some u)) (names_one (b ∷ []) b v refl second)
 
 fault_one : (rest : List (List ℕ)) (a : List ℕ) → rest ≡ a ∷ [] → count_fault 1 rest ≡ number_fault (number_of a)
 unfolding names_fault
@@ -119,7 +119,7 @@ fault_two rest a b cut = ap (count_fault 2) cut ∙ ap (option_or (number_fault 
 
 -- what a result says of two numbers, it says of the fields that write them
 pub ends_named : (r : Result (ℕ × ℕ) ScriptKind) (rest : List (List ℕ)) (a b : List ℕ) (u v : Option ℕ) → rest ≡ a ∷ b ∷ [] → u ≡ number_of a → v ≡ number_of b
-    → IfOk r (λ p. name_in u ≡ Some p.0) → IfOk r (λ p. name_in v ≡ Some p.1) → IfOk r (λ p. names_of rest ≡ Some (p.0 ∷ p.1 ∷ []))
+    → IfOk r (λ p. name_in u ≡ Some p.0) → IfOk r (λ p. name_in v ≡ Some p.1) → IfOk r (λ p. names_written rest ≡ Some (p.0 ∷ p.1 ∷ []))
 ends_named (Ok p) rest a b u v cut eu ev first second = names_two rest a b p.0 p.1 cut (ap name_in (sym eu) ∙ first) (ap name_in (sym ev) ∙ second)
 ends_named (Err kind) rest a b u v cut eu ev first second = tt
 
@@ -137,7 +137,7 @@ ends_refused r rest a b u v cut eu ev h = subst (λ o. IfErr r (λ kind. o ≡ S
 
 -- and of one
 pub vertex_named : (r : Result ℕ ScriptKind) (rest : List (List ℕ)) (a : List ℕ) (u : Option ℕ) → rest ≡ a ∷ [] → u ≡ number_of a
-    → IfOk r (λ x. name_in u ≡ Some x) → IfOk r (λ x. names_of rest ≡ Some (x ∷ []))
+    → IfOk r (λ x. name_in u ≡ Some x) → IfOk r (λ x. names_written rest ≡ Some (x ∷ []))
 vertex_named (Ok x) rest a u cut eu name = names_one rest a x cut (ap name_in (sym eu) ∙ name)
 vertex_named (Err kind) rest a u cut eu name = tt
 

@@ -2,7 +2,7 @@
 -- Source: the format and its faults are this project's.
 use Rattle.std.specs.Prelude.{◌≡◌, ℕ, ◌+◌, ◌≤◌, not, List, length, map, filter, Option, None, Some, if◌then◌else◌}
 use Rattle.md_text.specs.Lines.{lines}
-use Rattle.md_text.specs.Spelling.{words, fault_behind as first_fault_behind}
+use Rattle.md_text.specs.Spelling.{words, first_fault_behind}
 use Rattle.md_script.specs.declared.TheConstants.{EDITS}
 use Rattle.md_script.specs.declared.edit.Edit.{Edit}
 use Rattle.md_script.specs.declared.fault.ScriptKind.{ScriptKind}

@@ -46,9 +46,9 @@ before_names (Some v) None = None
 before_names (Some v) (Some names) = Some (v ∷ names)
 
 -- the names that fields write, if each writes one
-unfoldable pub names_of : List (List ℕ) → Option (List ℕ)
-names_of [] = Some []
-names_of (field ∷ rest) = before_names (name_in (number_of field)) (names_of rest)
+unfoldable pub names_written : List (List ℕ) → Option (List ℕ)
+names_written [] = Some []
+names_written (field ∷ rest) = before_names (name_in (number_of field)) (names_written rest)
 
 -- the first fault of fields that are all to be names
 unfoldable pub names_fault : List (List ℕ) → Option ScriptKind
@@ -67,7 +67,7 @@ edit_with _ _ = None
 -- the edit of a word with these fields behind it
 abbrev pub edit_by : Option EditWord → List (List ℕ) → Option Edit
 edit_by None rest = None
-edit_by (Some word) rest = option_and_then (edit_with word) (names_of rest)
+edit_by (Some word) rest = option_and_then (edit_with word) (names_written rest)
 
 -- the edit that fields spell, if they spell one
 abbrev pub edit_of : List (List ℕ) → Option Edit

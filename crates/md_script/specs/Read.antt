@@ -8,7 +8,7 @@ use Rattle.md_script.specs.declared.fault.ScriptFault.{ScriptFault}
 use Rattle.md_script.specs.declared.fault.ScriptFault.TheVariants.{Bad as BadLine, Memory as NoMemory}
 use Rattle.md_script.specs.declared.line.Refusal.{Refusal}
 use Rattle.md_script.specs.declared.line.Refusal.TheVariants.{Bad, Memory}
-use Rattle.md_script.specs.Line.{is_skipped, names_of, edit_of}
+use Rattle.md_script.specs.Line.{is_skipped, names_written, edit_of}
 use Rattle.md_script.specs.File.{first_fault}
 
 -- a fault that is named is the first one; want of memory may come at any time
@@ -24,13 +24,13 @@ IsRefusal fault Memory = Unit {0}
 -- fields write the names that are the members of a set
 pub record NamesSet (rest : List (List ℕ)) (s : NameSet) : Type 0 where
   pub list : List ℕ
-  pub written : names_of rest ≡ Some list
+  pub written : names_written rest ≡ Some list
   pub members : s ≡ set.from_list list
 
 -- fields write a name and then those of a set
 pub record NamesVertex (rest : List (List ℕ)) (x : ℕ) (s : NameSet) : Type 0 where
   pub list : List ℕ
-  pub written : names_of rest ≡ Some (x ∷ list)
+  pub written : names_written rest ≡ Some (x ∷ list)
   pub members : s ≡ set.from_list list
 
 -- the edit that fields spell, and none of a line that is skipped

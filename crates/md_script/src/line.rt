@@ -3,7 +3,7 @@ ghost use Rattle.std.specs.Prelude.{◌≡◌, ◌<◌, ◌∷◌, [], None, Som
 ghost use Rattle.std.specs.Option.{option_or};
 ghost use Rattle.md_text.specs.Fields.{fields};
 ghost use Rattle.md_script.specs.declared.line.Refusal.TheVariants.{Bad, Memory as NoMemory};
-ghost use Rattle.md_script.specs.Line.{word_of, name_in, number_fault, names_of, names_fault, count_fault, vertex_fault, edit_by, fault_by};
+ghost use Rattle.md_script.specs.Line.{word_of, name_in, number_fault, names_written, names_fault, count_fault, vertex_fault, edit_by, fault_by};
 ghost use Rattle.md_script.specs.Read.{NamesSet, NamesVertex, IsRefusal};
 
 use crate::{Edit, Neighbours, ScriptKind};
@@ -113,7 +113,7 @@ pub(crate) fn read_edit(
 
 // Reads the two names behind `+e` or `-e`.
 fn read_ends(rest: &[u8]) -> Result<(u32, u32), ScriptKind>
-    ensures names { IfOk result (λ p. names_of (fields rest.now) ≡ Some (p.0 ∷ p.1 ∷ [])) }
+    ensures names { IfOk result (λ p. names_written (fields rest.now) ≡ Some (p.0 ∷ p.1 ∷ [])) }
     ensures faultless { OnOk result (count_fault 2 (fields rest.now) ≡ None) }
     ensures fault { IfErr result (λ kind. count_fault 2 (fields rest.now) ≡ Some kind) }
 {
@@ -125,7 +125,7 @@ fn read_ends(rest: &[u8]) -> Result<(u32, u32), ScriptKind>
 
 // Reads the name behind `-v`.
 fn read_vertex(rest: &[u8]) -> Result<u32, ScriptKind>
-    ensures names { IfOk result (λ x. names_of (fields rest.now) ≡ Some (x ∷ [])) }
+    ensures names { IfOk result (λ x. names_written (fields rest.now) ≡ Some (x ∷ [])) }
     ensures faultless { OnOk result (count_fault 1 (fields rest.now) ≡ None) }
     ensures fault { IfErr result (λ kind. count_fault 1 (fields rest.now) ≡ Some kind) }
 {

@@ -37,8 +37,8 @@ fault_or fault_at (Some kind) number later = Some (fault_at kind number)
 
 -- The first fault of lines behind `count` others, which count too: that of the first faulty line, with its number,
 -- or else that of the end. What stood before a line is `seen`, and `after` the line this with it.
-unfoldable pub fault_behind : {S K F : Type 0} → (K → ℕ → F) → (S → List ℕ → Option K) → (S → List ℕ → S) → (S → ℕ → Option F)
+unfoldable pub first_fault_behind : {S K F : Type 0} → (K → ℕ → F) → (S → List ℕ → Option K) → (S → List ℕ → S) → (S → ℕ → Option F)
     → S → ℕ → List (List ℕ) → Option F
-fault_behind fault_at of_line after at_end seen count [] = at_end seen count
-fault_behind fault_at of_line after at_end seen count (line ∷ more) =
-    fault_or fault_at (of_line seen line) (count + 1) (fault_behind fault_at of_line after at_end (after seen line) (count + 1) more)
+first_fault_behind fault_at of_line after at_end seen count [] = at_end seen count
+first_fault_behind fault_at of_line after at_end seen count (line ∷ more) =
+    fault_or fault_at (of_line seen line) (count + 1) (first_fault_behind fault_at of_line after at_end (after seen line) (count + 1) more)

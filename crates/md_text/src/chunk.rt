@@ -33,7 +33,7 @@ impl Model for Chunk {
 impl Chunk {
     /// A chunk without bytes.
     pub fn new() -> Self
-        ensures { result ≡ [] }
+        ensures value { result ≡ [] }
     {
         Chunk {
             used: 0,
@@ -44,7 +44,7 @@ impl Chunk {
     /// For how many bytes more there is room.
     #[inline]
     pub fn room(&self) -> usize
-        ensures { length self.now + result ≡ CHUNK_SIZE }
+        ensures size { length self.now + result ≡ CHUNK_SIZE }
     {
         CHUNK_SIZE - self.used as usize
     }
@@ -52,7 +52,7 @@ impl Chunk {
     /// Lets the bytes go.
     #[inline]
     pub fn clear(&mut self)
-        ensures { self.new ≡ [] }
+        ensures changed { self.new ≡ [] }
     {
         self.used = 0;
     }

@@ -82,7 +82,7 @@ fn first_feed_from(text: &[u8], from: usize) -> usize
 
 /// The line without the byte 13 at its end, if there is one; of two, one stays.
 pub fn without_return(line: &[u8]) -> &[u8]
-    ensures { result.now ≡ without_return line.now }
+    ensures value { result.now ≡ without_return line.now }
 {
     match line {
         [front @ .., CARRIAGE_RETURN] => front,

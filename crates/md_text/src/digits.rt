@@ -15,7 +15,7 @@ const MOST_DIGITS: usize = 20;
 /// The number that a field writes: 1 to `DIGITS` bytes, all of them `0` to `9`. None for any other
 /// field. Leading zeros are allowed, and are counted. (DIMACS.)
 pub fn number(field: &[u8]) -> Option<u64>
-    ensures { result ≡ number_of field.now }
+    ensures value { result ≡ number_of field.now }
 {
     let (count, value) = leading_digits(field);
     if count == 0 || count < field.len() {

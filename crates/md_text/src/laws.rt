@@ -21,7 +21,7 @@ pub fn lines_of_written()
 /// `lines` is the one way to cut a text after each byte 10, where a last line without one has some
 /// byte.
 pub fn lines_are_the_cut()
-    ensures { LinesAreTheCut }
+    ensures law { LinesAreTheCut }
 {}
 
 /// What is taken off the end of a line.
@@ -62,7 +62,7 @@ pub fn number_of_written()
 
 /// How many digits a number that is read has at most.
 pub fn digits_of_a_number()
-    ensures { DIGITS ≡ 18 }
+    ensures number { DIGITS ≡ 18 }
 {}
 
 /// Digits and values, a digit at a time; and `{n}` displays the same digits.

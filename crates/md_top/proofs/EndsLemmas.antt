@@ -16,7 +16,7 @@ use Rattle.md_top.specs.declared.stop.Verdict.{Verdict}
 use Rattle.md_top.specs.declared.stop.Verdict.TheVariants.{Done, Rejected}
 use Rattle.md_checker.specs.declared.answer.CheckAnswer.TheVariants as answers
 use Rattle.md_top.specs.Request.{files_of, with_files}
-use Rattle.md_top.specs.Input.{FilesRun, AreToldAs, AreFiles, AllToldFiles, CanBeInput, IsInput, AsksInOrder, names_of, LoadEnds}
+use Rattle.md_top.specs.Input.{FilesRun, AreToldAs, AreFiles, AllToldFiles, CanBeInput, IsInput, AsksInOrder, file_names, LoadEnds}
 use Rattle.md_top.specs.Answer.{fault_of, HasAnswer}
 use Rattle.md_top.specs.Sinks.{SinkRun}
 use Rattle.md_top.specs.Command.{CommandEnds}
@@ -98,7 +98,7 @@ module _ (request : Option (Request (List ℕ))) (none : request ≡ None) (hold
   pub ends_at_usage : Ends request (Err Usage) untouched o
   ends_at_usage = record {
     usage = ((λ u. none), (λ n. refl));
-    asked = subst (λ (r : Option (Request (List ℕ))). AsksInOrder holds asked asked (names_of r)) (sym none) (none_asked holds asked);
+    asked = subst (λ (r : Option (Request (List ℕ))). AsksInOrder holds asked asked (file_names r)) (sym none) (none_asked holds asked);
     bad_input = λ fault is. cc;
     bad_input_always = λ input fault is faulty. absurd (no_form input is);
     good_input = λ s. elim s [ inl d ↦ cc | inr (inl r) ↦ cc | inr (inr w) ↦ cc ];

@@ -75,9 +75,9 @@ pub record IsInput (holds : List ℕ → Told) (request : Option (Request (List 
   pub filled : with_files asked contents ≡ Some input
 
 -- the names of the files of a request, none where the words are in no form
-abbrev pub names_of : Option (Request (List ℕ)) → List (List ℕ)
-names_of None = []
-names_of (Some asked) = files_of asked
+abbrev pub file_names : Option (Request (List ℕ)) → List (List ℕ)
+file_names None = []
+file_names (Some asked) = files_of asked
 
 -- the names asked for grew by the first of these names, in their order: by none, some or all of them; and each of them but the last
 -- has a file that can be had

@@ -12,7 +12,7 @@ use Rattle.md_top.specs.declared.stop.Stop.{Stop}
 use Rattle.md_top.specs.declared.stop.Stop.TheVariants as stops
 use Rattle.md_top.specs.declared.stop.Status.{Status}
 use Rattle.md_top.specs.declared.stop.Status.TheVariants.{Done, Rejected, Usage, BadInput, ReadFault, WriteFault, Memory, TooLong}
-use Rattle.md_top.specs.Input.{FilesRun, CanBeInput, IsInput, AllToldFiles, AsksInOrder, names_of}
+use Rattle.md_top.specs.Input.{FilesRun, CanBeInput, IsInput, AllToldFiles, AsksInOrder, file_names}
 use Rattle.md_top.specs.Answer.{fault_of, HasAnswer}
 use Rattle.md_top.specs.Command.{PutsAnswer, PutsFront}
 use Rattle.md_top.specs.Sinks.{SinkRun, TakesLine}
@@ -72,7 +72,7 @@ pub record TakesLineOf (holds : List ℕ → Told) (request : Option (Request (L
 -- All of that of an ending, but for its line on `err`.
 pub record Ends (request : Option (Request (List ℕ))) (ending : Result Verdict Stop) (f : FilesRun) (o : SinkRun) : Type 0 where
   pub usage : (status_of ending ≡ Usage → request ≡ None) × (request ≡ None → status_of ending ≡ Usage)
-  pub asked : AsksInOrder f.holds f.asked_old f.asked_new (names_of request)
+  pub asked : AsksInOrder f.holds f.asked_old f.asked_new (file_names request)
   pub bad_input : (fault : Fault) → ending ≡ Err (stops.BadInput fault) → CanBeBad f.holds request fault
   pub bad_input_always : (input : Request (List ℕ)) (fault : Fault)
       → IsInput f.holds request input → fault_of input ≡ Some fault
@@ -88,7 +88,7 @@ pub record Ends (request : Option (Request (List ℕ))) (ending : Result Verdict
   pub failing_load : f.faults_old < f.faults_new → status_of ending ≡ ReadFault
   pub write_fault : status_of ending ≡ WriteFault → Rose o.faults_old o.faults_new
   pub too_long : status_of ending ≡ TooLong → Rose f.overs_old f.overs_new
-  pub sure : IsTrue f.sure_old → AllToldFiles f.holds (names_of request)
+  pub sure : IsTrue f.sure_old → AllToldFiles f.holds (file_names request)
       → (f.faults_new ≡ f.faults_old) × IsTrue f.sure_new × (status_of ending ≢ ReadFault)
   pub out : Puts f.holds request (status_of ending) o
   pub complete : (input : Request (List ℕ))

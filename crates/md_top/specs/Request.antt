@@ -112,8 +112,8 @@ size_within (Some n) = if nat_le 1 n && nat_le n NAMES then Some n else None
 size_within None = None
 
 -- the number of names that a word writes: 1 to 18 decimal digits, leading zeros among them
-abbrev pub size_of : List ℕ → Option ℕ
-size_of word = size_within (number_of word)
+abbrev pub size_written : List ℕ → Option ℕ
+size_written word = size_within (number_of word)
 
 -- a request of such a session, if the words ask for it and write a number of names
 abbrev pub big_request : Bool → Option ℕ → Option (Request (List ℕ))
@@ -130,7 +130,7 @@ HasSize (Big size) = size ≤ NAMES
 
 -- the request that the words make
 abbrev pub request_of : List (List ℕ) → Option (Request (List ℕ))
-request_of (command ∷ size ∷ []) = big_request (is_big command) (size_of size)
+request_of (command ∷ size ∷ []) = big_request (is_big command) (size_written size)
 request_of (command ∷ format ∷ graph ∷ []) = graph_request (graph_form command) (format_of format) graph
 request_of (command ∷ format ∷ graph ∷ script ∷ []) = session_request (session_mode command) (format_of format) graph script
 request_of (check ∷ mode ∷ format ∷ graph ∷ report ∷ []) =

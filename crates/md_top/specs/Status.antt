@@ -63,15 +63,15 @@ status_of (Ok verdict) = status_of_verdict verdict
 status_of (Err stop) = status_of_stop stop
 
 -- the exit code of the program, by the status. Source: 0 is success, other small numbers tell why.
-abbrev pub number_of : Status → ℕ
-number_of Done = 0
-number_of Rejected = 1
-number_of Usage = 2
-number_of BadInput = 3
-number_of ReadFault = 4
-number_of WriteFault = 5
-number_of Memory = 6
-number_of TooLong = 7
+abbrev pub exit_number : Status → ℕ
+exit_number Done = 0
+exit_number Rejected = 1
+exit_number Usage = 2
+exit_number BadInput = 3
+exit_number ReadFault = 4
+exit_number WriteFault = 5
+exit_number Memory = 6
+exit_number TooLong = 7
 
 -- a kind of fault by its name
 abbrev pub g6_name : G6Kind → List ℕ

@@ -2,7 +2,7 @@
 ghost use Rattle.std.specs.Prelude.{◌≡◌, ◌≤◌, IfSome};
 ghost use Rattle.std.specs.Option.{option_map};
 ghost use Rattle.md_graph.specs.declared.TheConstants.{NAMES as names};
-ghost use Rattle.md_top.specs.Request.{texts, format_of, graph_form, graph_mode, session_mode, is_check, is_big, size_of, HasSize, request_of, seen};
+ghost use Rattle.md_top.specs.Request.{texts, format_of, graph_form, graph_mode, session_mode, is_check, is_big, size_written, HasSize, request_of, seen};
 
 use md_graph::NAMES;
 use md_input::Format;
@@ -94,7 +94,7 @@ fn is_big(word: &str) -> bool
 
 // The number of names that a word writes; none for any other word.
 fn size_of(word: &str) -> Option<u32>
-    ensures size { result ≡ size_of word.now }
+    ensures size { result ≡ size_written word.now }
     ensures within { IfSome result (λ size. size ≤ names) }
 {
     let size = number(word.as_bytes())?;

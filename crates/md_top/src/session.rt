@@ -176,11 +176,11 @@ pub(crate) fn answer(session: &mut CographSession, edit: &Edit) -> Answer
     requires { HasNames edit.now }
     ensures { IsAnswered session.old edit.now result session.new }
 {
-    counted::<Brand>(session, edit, Blank::new(1))
+    apply_counting::<Brand>(session, edit, Blank::new(1))
 }
 
 // The answer to an edit; nobody reads the steps. Condition: the names in the edit are names.
-fn counted<L: Ledger>(session: &mut CographSession, edit: &Edit, blank: Blank) -> Answer
+fn apply_counting<L: Ledger>(session: &mut CographSession, edit: &Edit, blank: Blank) -> Answer
     requires name { blank.name ≡ L.name }
     requires parts { blank.parts ≡ L.parts }
     requires some { 0 < blank.parts }

@@ -161,18 +161,18 @@ impl Stop {
 
 impl Status {
     ghost use Rattle.std.specs.Process.{exit_status};
-    ghost use Rattle.md_top.specs.Status.{number_of};
+    ghost use Rattle.md_top.specs.Status.{exit_number};
 
     /// The exit code of the program, as a number.
     pub fn number(self) -> u8
-        ensures { result ≡ number_of self }
+        ensures { result ≡ exit_number self }
     {
         self as u8
     }
 
     /// The exit code of the program.
     pub fn exit_code(self) -> ExitCode
-        ensures { exit_status result ≡ number_of self }
+        ensures { exit_status result ≡ exit_number self }
     {
         ExitCode::from(self.number())
     }

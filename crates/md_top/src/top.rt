@@ -5,7 +5,7 @@ ghost use Rattle.md_io.specs.Count.{Rose};
 ghost use Rattle.md_input.specs.declared.fault.Fault.{Fault};
 ghost use Rattle.md_top.specs.declared.request.Request.{Request};
 ghost use Rattle.md_top.specs.Request.{texts, request_of};
-ghost use Rattle.md_top.specs.Input.{IsInput, AllToldFiles, AsksInOrder, names_of, files_run};
+ghost use Rattle.md_top.specs.Input.{IsInput, AllToldFiles, AsksInOrder, file_names, files_run};
 ghost use Rattle.md_top.specs.Answer.{fault_of, HasAnswer};
 ghost use Rattle.md_top.specs.Sinks.{sink_run};
 ghost use Rattle.md_checker.specs.declared.answer.CheckAnswer.{CheckAnswer};
@@ -45,7 +45,7 @@ pub fn run<F: Files, O: Sink, E: Sink>(
     // No file but those of the words is asked for, and these in their order, each behind files that
     // can be had.
     ensures asked { AsksInOrder (F.holds files.old) (F.asked files.old) (F.asked files.new)
-        (names_of (request_of (texts words.now))) }
+        (file_names (request_of (texts words.now))) }
 
     // Bad input comes exactly where the input has a fault. A reading fault or want of memory may
     // come first.
@@ -82,7 +82,7 @@ pub fn run<F: Files, O: Sink, E: Sink>(
 
     // Where loads of told files can't fail, and the files of the words are told, none fails.
     ensures sure { IsTrue (F.sure files.old)
-        → AllToldFiles (F.holds files.old) (names_of (request_of (texts words.now)))
+        → AllToldFiles (F.holds files.old) (file_names (request_of (texts words.now)))
         → (F.faults files.new ≡ F.faults files.old)
         × IsTrue (F.sure files.new) × (result ≢ Status.ReadFault) }
 

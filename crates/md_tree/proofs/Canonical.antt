@@ -18,8 +18,8 @@ use Rattle.md_tree.specs.declared.Kind.{Kind}
 use Rattle.md_tree.specs.declared.Kind.TheVariants.{Parallel, Series, Prime}
 use Rattle.md_tree.specs.declared.Pair.{Pair}
 use Rattle.md_tree.specs.Trees.{PlainTree, leaf, node, PlainTrees, no_tree, one_more, names, names_below, names_at, node_sets, node_sets_below, count, EachNode, EachNodeBelow}
-use Rattle.md_tree.specs.StrongTrees.{HasKind, IsInOrder, IsJoined, ListsJoined, IsNodeOf, IsTreeOf}
-use Rattle.md_tree.specs.WellFormed.{IsOfKind, NoneOfKind, AreApart, IsPlainNode, HasShape, IsCanonicalNode}
+use Rattle.md_tree.specs.StrongTrees.{HasKind, IsInOrder, AreTreesJoined, ListsJoined, IsNodeOf, IsTreeOf}
+use Rattle.md_tree.specs.WellFormed.{IsOfKind, NoneOfKind, AreDisjoint, IsPlainNode, HasShape, IsCanonicalNode}
 use Rattle.md_text.proofs.Lists.{In, Later, of_append, in_left, in_right, of_contains, to_contains, to_pairs, later_append}
 use Rattle.md_tree.proofs.Nodes.{IsChild, Differ, set_inside, sets_inside, child_inside, child_of_name, child_of_set}
 use Rattle.md_tree.proofs.Built.{IsChildSet, IsBuilt}
@@ -32,7 +32,7 @@ module _ (e : ℕ → ℕ → Bool) where
   children_maximal k cs ps built c i = (built.children (names c)).1 (c, i, refl)
 
   -- such children in order have no name in common
-  pub apart_of : (s : NameSet) (cs : PlainTrees) → ((c : PlainTree) → IsChild cs c → IsMaximalStrong e s (names c)) → IsInOrder cs → AreApart cs
+  pub apart_of : (s : NameSet) (cs : PlainTrees) → ((c : PlainTree) → IsChild cs c → IsMaximalStrong e s (names c)) → IsInOrder cs → AreDisjoint cs
   apart_of s no_tree max order = tt
   apart_of s (one_more t ts) max order = ((λ x h. false_from_ne_true _ (λ k. shared x h k)), apart_of s ts (λ c i. max c (inr i)) order.1) where
     shared : (x : ℕ) → Has (names t) x → Has (names_below ts) x → ⊥
@@ -95,7 +95,7 @@ module _ (e : ℕ → ℕ → Bool) where
       once_below cs each.1 (apart_of (names_below cs) cs (children_maximal k cs ps each.0) each.0.node_of.order),
     )
 
-    once_below : (cs : PlainTrees) → EachNodeBelow (IsBuilt e) cs → AreApart cs → Later Differ (node_sets_below cs)
+    once_below : (cs : PlainTrees) → EachNodeBelow (IsBuilt e) cs → AreDisjoint cs → Later Differ (node_sets_below cs)
     once_below no_tree each apart = tt
     once_below (one_more t ts) each apart =
         later_append Differ (node_sets t) (node_sets_below ts) (once_of t each.0) (once_below ts each.1 apart.1)
@@ -205,7 +205,7 @@ module _ (e : ℕ → ℕ → Bool) (adj : IsAdjacency e) where
         | inl i ↦ clash i l
         | inr j ↦ (
             let p : (i : ℕ) × Has (names_at ts i) b = place_of ts b j in
-            let is : IsJoined e (one_more t ts) 0 (suc p.0) = record { ordered = omega arith; edge = (a, b, ha, p.1, h) } in
+            let is : AreTreesJoined e (one_more t ts) 0 (suc p.0) = record { ordered = omega arith; edge = (a, b, ha, p.1, h) } in
             of_contains [] (pair 0 (suc p.0)) (subst (λ w. Contains w (pair 0 (suc p.0))) none ((lists.exactly (pair 0 (suc p.0))).1 is)))
       ]);
     },
@@ -231,7 +231,7 @@ module _ (e : ℕ → ℕ → Bool) (adj : IsAdjacency e) where
     four = four_children cs ps built;
     some_pair = some_pair_of cs ps built.node_of.kind lists (children_maximal e Prime cs ps built);
     ascending = lists.ascending;
-    positions = λ p c. let is : IsJoined e cs p.low p.high = (lists.exactly p).0 c in (is.ordered, position_below cs p.high is.edge.1 is.edge.3);
+    positions = λ p c. let is : AreTreesJoined e cs p.low p.high = (lists.exactly p).0 c in (is.ordered, position_below cs p.high is.edge.1 is.edge.3);
   }
 
   mutual

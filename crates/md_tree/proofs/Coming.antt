@@ -19,10 +19,10 @@ use Rattle.md_tree.specs.declared.builder.Step.{Step}
 use Rattle.md_tree.specs.declared.builder.Step.TheVariants.{Onward, Useless, End}
 use Rattle.md_tree.specs.Trees.{PlainTree, leaf, node, PlainTrees, no_tree, one_more, names, names_below, count, row, EachNode, EachNodeBelow}
 use Rattle.md_tree.specs.TreeTexts.{letter, pairs_text, tree_text, row_text}
-use Rattle.md_tree.specs.WellFormed.{AreApart, IsCanonicalNode, IsWellFormed, IsCanonical}
+use Rattle.md_tree.specs.WellFormed.{AreDisjoint, IsCanonicalNode, IsWellFormed, IsCanonicalTree}
 use Rattle.md_tree.specs.Residual.{OpenNode, ahead, closed, with_child, Follows, Due}
 use Rattle.md_text.specs.Fronts.{LacksFirst, LacksNumber, IsNumberSplit}
-use Rattle.md_tree.specs.Held.{AreLeast, Ascends, AreKept, MayHave, MayList, IsDue, IsBehind, IsInside, befores, opened, opened_node, AreUseless, IsBuilt, IsStep, LacksEnd, IsEnd, HasBuiltInside, HasReadTree, trees_held}
+use Rattle.md_tree.specs.Held.{AreLeast, Ascends, AreKept, MayHave, MayList, IsDue, IsBehind, IsInside, befores, opened, opened_node, AreUseless, IsBuilt, IsBuildStep, LacksEnd, IsEnd, HasBuiltInside, HasReadTree, trees_held}
 use Rattle.std.specs.Ordering.{nat_cmp}
 use Rattle.md_tree.proofs.Texts.{leaf_is_no_node, node_spelled, row_spelled}
 use Rattle.md_tree.proofs.Residuals.{ahead_row, follows_stops, tree_step, open_step, comma_step, end_step, each_follows}
@@ -99,7 +99,7 @@ pub behind_comma : (bytes rest : List ℕ) (opens : List Opened) (ts : List Plai
 behind_comma bytes rest opens ts tail b some e = comma_in bytes rest opens ts tail b.nodes b.tree b.open_is b.trees_are b.means some e
 
 -- a step from a later place is one from an earlier place
-pub step_from : (bytes text tail : List ℕ) (step : Step) (held : Held) → length tail ≤ length text → IsStep bytes tail step held → IsStep bytes text step held
+pub step_from : (bytes text tail : List ℕ) (step : Step) (held : Held) → length tail ≤ length text → IsBuildStep bytes tail step held → IsBuildStep bytes text step held
 step_from bytes text tail (Onward rest) held l s = (s.0, (let m = s.1 in omega arith))
 step_from bytes text tail Useless held l s = s
 step_from bytes text tail End held l s = s
@@ -142,7 +142,7 @@ module _ (bytes rest : List ℕ) (inner : Opened) (opens : List Opened) (ts : Li
       }
 
   last_of : (w : PlainTree) (others : PlainTrees) (ps : List Pair) (r : List ℕ) → LacksFirst 44 rest → rest ≡ row_text 44 others ++ (pairs_text 59 ps ++ 41 ∷ r) →
-      Follows i.nodes (closed i.node i.tree others ps) r w → IsCanonical w → (ps : List Pair) × (r : List ℕ) × (rest ≡ pairs_text 59 ps ++ 41 ∷ r) × IsCanonicalNode inner.kind (row (drop inner.first ts)) ps
+      Follows i.nodes (closed i.node i.tree others ps) r w → IsCanonicalTree w → (ps : List Pair) × (r : List ℕ) × (rest ≡ pairs_text 59 ps ++ 41 ∷ r) × IsCanonicalNode inner.kind (row (drop inner.first ts)) ps
   last_of w no_tree ps r lacks e f c =
       let t : EachNode IsCanonicalNode (closed i.node i.tree no_tree ps) = each_follows IsCanonicalNode i.nodes (closed i.node i.tree no_tree ps) r w f c in
       let u : EachNode IsCanonicalNode (node inner.kind (row (drop inner.first ts)) ps) = subst (EachNode IsCanonicalNode) (closed_is ps) t in
@@ -150,7 +150,7 @@ module _ (bytes rest : List ℕ) (inner : Opened) (opens : List Opened) (ts : Li
   last_of w (one_more u us) ps r lacks e f c = absurd (lacks (tree_text u ++ (row_text 44 us ++ (pairs_text 59 ps ++ 41 ∷ r))) (e ∙ row_spelled 44 u us (pairs_text 59 ps ++ 41 ∷ r)))
 
   -- in the text of a well-formed tree the node ends, and is such as well-formed trees have it
-  inside_part : (w : PlainTree) → LacksFirst 44 rest → bytes ≡ tree_text w → IsCanonical w → (ps : List Pair) × (r : List ℕ) × (rest ≡ pairs_text 59 ps ++ 41 ∷ r) × IsCanonicalNode inner.kind (row (drop inner.first ts)) ps
+  inside_part : (w : PlainTree) → LacksFirst 44 rest → bytes ≡ tree_text w → IsCanonicalTree w → (ps : List Pair) × (r : List ℕ) × (rest ≡ pairs_text 59 ps ++ 41 ∷ r) × IsCanonicalNode inner.kind (row (drop inner.first ts)) ps
   inside_part w lacks e c = let f = (i.means w).0 e in last_of w f.others f.pairs f.behind lacks f.text f.whole c
 
   pub useless_children : LacksFirst 44 rest → (ms : List ℕ) → AreLeast ts ms → (MayHave inner.kind (row (drop inner.first ts)) × Ascends (drop inner.first ms) → ⊥) → AreUseless bytes
@@ -248,7 +248,7 @@ ahead_has [] t cs x h = union_left (names t) (names_below cs) x h
 ahead_has (y ∷ xs) t cs x h = union_right (names y) (names_below (ahead xs (one_more t cs))) x (ahead_has xs t cs x h)
 
 -- and no name of the children before it
-ahead_apart : (xs : List PlainTree) (t : PlainTree) (cs : PlainTrees) → AreApart (ahead xs (one_more t cs)) → (x : ℕ) → Has (names t) x → Has (names_below (row xs)) x → ⊥
+ahead_apart : (xs : List PlainTree) (t : PlainTree) (cs : PlainTrees) → AreDisjoint (ahead xs (one_more t cs)) → (x : ℕ) → Has (names t) x → Has (names_below (row xs)) x → ⊥
 ahead_apart [] t cs a x h g = clash g (empty_lacks x)
 ahead_apart (y ∷ xs) t cs a x h g = elim (of_union (names y) (names_below (row xs)) x g) [
   | inl i ↦ clash (ahead_has xs t cs x h) (a.0 x i)
@@ -259,7 +259,7 @@ part_names : (s : List OpenNode) (t : PlainTree) (r : List ℕ) (w : PlainTree) 
 part_names [] t r w f x h = subst (λ y. Has (names y) x) (sym f.1) h
 part_names (o ∷ s) t r w f x h = part_names s (closed o t f.others f.pairs) f.behind w f.whole x (ahead_has o.before t f.others x h)
 
-part_apart : (s : List OpenNode) (t : PlainTree) (r : List ℕ) (w : PlainTree) → Follows s t r w → IsCanonical w → (x : ℕ) → Has (names t) x → Has (names_below (row (befores s))) x → ⊥
+part_apart : (s : List OpenNode) (t : PlainTree) (r : List ℕ) (w : PlainTree) → Follows s t r w → IsCanonicalTree w → (x : ℕ) → Has (names t) x → Has (names_below (row (befores s))) x → ⊥
 part_apart [] t r w f c x h g = clash g (empty_lacks x)
 part_apart (o ∷ s) t r w f c x h g =
     let u : PlainTree = closed o t f.others f.pairs in
@@ -298,7 +298,7 @@ no_child Series h = let g : 2 ≤ 0 = h.0 in omega arith
 no_child Prime h = let g : 4 ≤ 0 = h in omega arith
 
 -- a node has a child, so that a bracket stands behind its letter
-letter_due : (k : Kind) (tail : List ℕ) (t : PlainTree) (r : List ℕ) → LacksFirst 40 tail → IsCanonical t → letter k ∷ tail ≡ tree_text t ++ r → ⊥
+letter_due : (k : Kind) (tail : List ℕ) (t : PlainTree) (r : List ℕ) → LacksFirst 40 tail → IsCanonicalTree t → letter k ∷ tail ≡ tree_text t ++ r → ⊥
 letter_due k tail (leaf v) r lacks c e = leaf_is_no_node v k r tail (sym e)
 letter_due k tail (node l no_tree ps) r lacks c e = no_child l (shape_has l no_tree ps c.0.shape)
 letter_due k tail (node l (one_more u us) ps) r lacks c e =
@@ -312,13 +312,13 @@ useless_letter bytes rest opens ts k tail d is lacks w good e =
     letter_due k tail t.tree t.behind lacks (each_follows IsCanonicalNode d.nodes t.tree t.behind w t.follows good.1) (sym is ∙ t.text)
 
 -- how many names a tree has
-some_name : (t : PlainTree) → IsCanonical t → (x : ℕ) × Has (names t) x
+some_name : (t : PlainTree) → IsCanonicalTree t → (x : ℕ) × Has (names t) x
 some_name (leaf v) c = (v, only_has v)
 some_name (node k no_tree ps) c = absurd (no_child k (shape_has k no_tree ps c.0.shape))
 some_name (node k (one_more t ts) ps) c = let x = some_name t c.1.0 in (x.0, union_left (names t) (names_below ts) x.0 x.1)
 
 -- another child has a name that the child has not
-other_name : (xs : List PlainTree) (t : PlainTree) (ts : PlainTrees) → EachNodeBelow IsCanonicalNode (ahead xs (one_more t ts)) → AreApart (ahead xs (one_more t ts)) → 2 ≤ count (ahead xs (one_more t ts)) →
+other_name : (xs : List PlainTree) (t : PlainTree) (ts : PlainTrees) → EachNodeBelow IsCanonicalNode (ahead xs (one_more t ts)) → AreDisjoint (ahead xs (one_more t ts)) → 2 ≤ count (ahead xs (one_more t ts)) →
     (x : ℕ) × Has (names_below (ahead xs (one_more t ts))) x × Lacks (names t) x
 other_name [] t no_tree c a two = let g : 2 ≤ 1 = two in absurd (omega arith)
 other_name [] t (one_more u us) c a two =
@@ -335,7 +335,7 @@ two_children Series cs h = h.0
 two_children Prime cs h = let four : 4 ≤ count cs = h in omega arith
 
 -- the open nodes are fewer than the names of the whole tree
-open_few : (s : List OpenNode) (t : PlainTree) (r : List ℕ) (w : PlainTree) → Follows s t r w → IsCanonical w → length s + len (names t) ≤ len (names w)
+open_few : (s : List OpenNode) (t : PlainTree) (r : List ℕ) (w : PlainTree) → Follows s t r w → IsCanonicalTree w → length s + len (names t) ≤ len (names w)
 open_few [] t r w f c = let same : len (names w) ≡ len (names t) = ap (λ u. len (names u)) f.1 in omega arith
 open_few (o ∷ s) t r w f c =
     let n : EachNode IsCanonicalNode (closed o t f.others f.pairs) = each_follows IsCanonicalNode s (closed o t f.others f.pairs) f.behind w f.whole c in
@@ -367,7 +367,7 @@ useless_deep bytes rest opens ts d deep w good e =
     omega arith
 
 -- so are the trees that are held
-few_trees : (ts : List PlainTree) (ms : List ℕ) → AreLeast ts ms → AreApart (row ts) → length ts ≤ len (names_below (row ts))
+few_trees : (ts : List PlainTree) (ms : List ℕ) → AreLeast ts ms → AreDisjoint (row ts) → length ts ≤ len (names_below (row ts))
 few_trees [] ms l a = let h : 0 ≤ len (empty {R = nat_cmp}) = omega arith in h
 few_trees (t ∷ ts) [] l a = absurd l
 few_trees (t ∷ ts) (m ∷ ms) l a =

@@ -15,7 +15,7 @@ use Rattle.md_tree.specs.declared.Pair.{Pair}
 use Rattle.md_tree.specs.declared.Tree.{Tree}
 use Rattle.md_tree.specs.Trees.{PlainTree, PlainTrees, names, names_below, names_at, count, row}
 use Rattle.md_tree.specs.Plain.{plain, plain_option}
-use Rattle.md_tree.specs.WellFormed.{AreApart, IsCanonical}
+use Rattle.md_tree.specs.WellFormed.{AreDisjoint, IsCanonicalTree}
 use Rattle.md_tree.specs.TreeGraph.{position_of, adjacent_in, graph_of_tree}
 use Rattle.md_tree.specs.TreeEdges.{crosses, in_listed, has_edge_in}
 use Rattle.md_text.proofs.Lists.{in_get, to_contains}
@@ -35,7 +35,7 @@ listed_at zs qs i d same less = subst (λ l. Contains l (get_or zs i d)) same (t
 pub at_listed : (xs : List Tree) (i : ℕ) (r : Tree) → r ≡ get_or xs i r → i < length xs → names_at (row (map plain xs)) i ≡ names (plain r)
 at_listed xs i r is less = names_at_row xs i r less ∙ ap (λ q. names (plain q)) (sym is)
 
-pub at_apart : (cs : PlainTrees) → AreApart cs → (i j : ℕ) → i < j → (a b : NameSet) → names_at cs i ≡ a → names_at cs j ≡ b → Disjoint a b
+pub at_apart : (cs : PlainTrees) → AreDisjoint cs → (i j : ℕ) → i < j → (a b : NameSet) → names_at cs i ≡ a → names_at cs j ≡ b → Disjoint a b
 at_apart cs apart i j less a b p q x h = false_from_ne_true _ (λ k.
     let m : position_of cs x ≡ i = position_at cs apart i x (Has-along a (names_at cs i) (sym p) x h) in
     let n : position_of cs x ≡ j = position_at cs apart j x (Has-along b (names_at cs j) (sym q) x k) in
@@ -66,7 +66,7 @@ within_limit true false false f = refl
 abbrev pub joined_names : PlainTree → ℕ → ℕ → Bool
 joined_names t a b = (contains (names t) a && contains (names t) b) && adjacent_in t a b
 
-pub tree_graph : (g : PlainGraph) (t : PlainTree) → IsGraph g → IsCanonical t → AllBelow (names t) NAMES → g.vertices ≡ names t →
+pub tree_graph : (g : PlainGraph) (t : PlainTree) → IsGraph g → IsCanonicalTree t → AllBelow (names t) NAMES → g.vertices ≡ names t →
     ((x y : ℕ) → adjacent g x y ≡ has_edge_in t x y) → g ≡ graph_of_tree (Some t)
 tree_graph g t is canonical below same edges n = record { vertices = same n; edges = same_edges n } where
   same_edges : g.edges ≡ pairs_where (joined_names t) NAMES
@@ -99,7 +99,7 @@ union_empty_left s a none = same_members (union s a) a
 
 -- what an empty graph becomes
 pub filled_graph : (start named g : PlainGraph) (o : Option Tree) (t : Tree) → o ≡ Some t → IsGraph start → IsGraph g → start.vertices ≡ empty →
-    (IsCanonical (plain t)) → AllBelow (names (plain t)) NAMES →
+    (IsCanonicalTree (plain t)) → AllBelow (names (plain t)) NAMES →
     named.vertices ≡ union start.vertices (names (plain t)) → named.edges ≡ start.edges → g.vertices ≡ named.vertices →
     ((x y : ℕ) → adjacent g x y ≡ (adjacent named x y || has_edge_in (plain t) x y)) → g ≡ graph_of_tree (plain_option o)
 unfolding adjacent

@@ -11,7 +11,7 @@ use Rattle.md_tree.specs.declared.Kind.{Kind}
 use Rattle.md_tree.specs.declared.Kind.TheVariants.{Parallel, Series, Prime}
 use Rattle.md_tree.specs.declared.Pair.{Pair}
 use Rattle.md_tree.specs.Trees.{PlainTree, leaf, node, PlainTrees, no_tree, one_more, names, names_below, names_at, EachNode, EachNodeBelow}
-use Rattle.md_tree.specs.WellFormed.{AreApart, IsCanonicalNode, IsPrimeNode}
+use Rattle.md_tree.specs.WellFormed.{AreDisjoint, IsCanonicalNode, IsPrimeNode}
 use Rattle.md_tree.specs.TreeGraph.{position_of, lists_pair, joins, adjacent_in, adjacent_below}
 use Rattle.md_tree.specs.TreeEdges.{crosses, in_two, in_listed, edge_across, has_edge_in, has_edge_below}
 use Rattle.md_text.proofs.Lists.{In, to_contains}
@@ -53,7 +53,7 @@ two_here t ts x y apart hx hy same =
     let r : 0 ≡ suc (position_of ts y) = sym p ∙ same ∙ q in
     omega arith
 
-of_two : (cs : PlainTrees) (x y : ℕ) → AreApart cs → in_two cs x y ≡ true → InTwo cs x y
+of_two : (cs : PlainTrees) (x y : ℕ) → AreDisjoint cs → in_two cs x y ≡ true → InTwo cs x y
 of_two no_tree x y apart h = absurd (true≢false (sym h))
 of_two (one_more t ts) x y apart h = elim (or_cases (crosses (names t) (names_below ts) x y) (in_two ts x y) h) [
   | inl l ↦ elim (of_crosses (names t) (names_below ts) x y l) [
@@ -125,7 +125,7 @@ sorted ps i j l h =
     let d : max j i ≡ j = omega arith in
     (ap (λ w. lists_pair ps w (max i j)) a ∙ ap (lists_pair ps i) b ∙ h, ap (λ w. lists_pair ps w (max j i)) c ∙ ap (lists_pair ps i) d ∙ h)
 
-of_across_prime : (cs : PlainTrees) (ps : List Pair) (x y : ℕ) → AreApart cs → IsPrimeNode cs ps → in_listed cs ps x y ≡ true → AcrossEdge Prime cs ps x y
+of_across_prime : (cs : PlainTrees) (ps : List Pair) (x y : ℕ) → AreDisjoint cs → IsPrimeNode cs ps → in_listed cs ps x y ≡ true → AcrossEdge Prime cs ps x y
 of_across_prime cs ps x y apart shape h =
     let p : (p : Pair) × In ps p × (crosses (names_at cs p.low) (names_at cs p.high) x y ≡ true) = of_listed cs ps x y h in
     let less : p.0.low < p.0.high = (shape.positions p.0 (to_contains ps p.0 p.1)).0 in
@@ -209,7 +209,7 @@ mutual
         })
   ]
 
-  of_edge_below : (cs : PlainTrees) → EachNodeBelow IsCanonicalNode cs → AreApart cs → (x y : ℕ) → has_edge_below cs x y ≡ true → IsEdgeBelow cs x y
+  of_edge_below : (cs : PlainTrees) → EachNodeBelow IsCanonicalNode cs → AreDisjoint cs → (x y : ℕ) → has_edge_below cs x y ≡ true → IsEdgeBelow cs x y
   of_edge_below no_tree each apart x y h = absurd (true≢false (sym h))
   of_edge_below (one_more t ts) each apart x y h = elim (or_cases (has_edge_in t x y) (has_edge_below ts x y) h) [
     | inl l ↦ (

@@ -12,7 +12,7 @@ use Rattle.md_tree.specs.declared.Kind.{Kind}
 use Rattle.md_tree.specs.declared.Kind.TheVariants.{Parallel, Series, Prime}
 use Rattle.md_tree.specs.declared.Pair.{Pair}
 use Rattle.md_tree.specs.Trees.{PlainTree, leaf, node, PlainTrees, no_tree, one_more, names, names_below, names_at, count, EachNode, EachNodeBelow}
-use Rattle.md_tree.specs.StrongTrees.{HasKind, IsInOrder, IsJoined, IsPairBefore, ListsJoined, HasPairs}
+use Rattle.md_tree.specs.StrongTrees.{HasKind, IsInOrder, AreTreesJoined, IsPairBefore, ListsJoined, HasPairs}
 use Rattle.md_text.proofs.Lists.{of_contains, to_contains, to_pairs}
 use Rattle.md_tree.proofs.Nodes.{IsChild}
 use Rattle.md_tree.proofs.Built.{IsChildSet, IsBuilt}
@@ -45,7 +45,7 @@ join_rest rest c w = same_members (union c (difference rest c)) rest
     (λ x h. elim (cases_Bool (contains c x)) [ inl i ↦ union_left c (difference rest c) x i | inr l ↦ union_right c (difference rest c) x (minus_has rest c x h l) ])
 
 module _ (e : ℕ → ℕ → Bool) where
-  decide_joined : (cs : PlainTrees) (i j : ℕ) → Decided (IsJoined e cs i j)
+  decide_joined : (cs : PlainTrees) (i j : ℕ) → Decided (AreTreesJoined e cs i j)
   decide_joined cs i j =
       decide_like
       (λ w. record { ordered = w.0; edge = (w.1.0, w.1.2.0, w.1.1, w.1.2.1, w.1.2.2) })

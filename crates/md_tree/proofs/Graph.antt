@@ -17,8 +17,8 @@ use Rattle.md_tree.specs.declared.Kind.{Kind}
 use Rattle.md_tree.specs.declared.Kind.TheVariants.{Parallel, Series, Prime}
 use Rattle.md_tree.specs.declared.Pair.{Pair}
 use Rattle.md_tree.specs.Trees.{PlainTree, leaf, node, PlainTrees, no_tree, one_more, names, names_below, names_at, node_sets, node_sets_below, EachNode, EachNodeBelow}
-use Rattle.md_tree.specs.StrongTrees.{HasKind, IsJoined, ListsJoined, IsNodeOf, IsTreeOf}
-use Rattle.md_tree.specs.WellFormed.{AreApart, HasNoPrimeNode}
+use Rattle.md_tree.specs.StrongTrees.{HasKind, AreTreesJoined, ListsJoined, IsNodeOf, IsTreeOf}
+use Rattle.md_tree.specs.WellFormed.{AreDisjoint, HasNoPrimeNode}
 use Rattle.md_tree.specs.TreeGraph.{position_of, lists_pair, joins, adjacent_in, adjacent_below}
 use Rattle.md_text.proofs.Lists.{In, of_append, in_left, in_right, of_contains, to_contains}
 use Rattle.md_tree.proofs.Nodes.{IsChild}
@@ -40,7 +40,7 @@ at_inside no_tree i x h = h
 at_inside (one_more t ts) zero x h = union_left (names t) (names_below ts) x h
 at_inside (one_more t ts) (suc i) x h = union_right (names t) (names_below ts) x (at_inside ts i x h)
 
-pub position_at : (cs : PlainTrees) → AreApart cs → (i x : ℕ) → Has (names_at cs i) x → position_of cs x ≡ i
+pub position_at : (cs : PlainTrees) → AreDisjoint cs → (i x : ℕ) → Has (names_at cs i) x → position_of cs x ≡ i
 position_at no_tree apart i x h = clash h (empty_lacks x)
 position_at (one_more t ts) apart zero x h = ap (λ w. cond w 0 (suc (position_of ts x))) h
 position_at (one_more t ts) apart (suc i) x h =
@@ -87,7 +87,7 @@ module _ (e : ℕ → ℕ → Bool) (adj : IsAdjacency e) where
     abbrev s : NameSet
     s = names_below cs
 
-    apart : AreApart cs
+    apart : AreDisjoint cs
     apart = apart_of e s cs (children_maximal e k cs ps built) built.node_of.order
 
     -- the child of a name, which lacks each name at another position
@@ -117,7 +117,7 @@ module _ (e : ℕ → ℕ → Bool) (adj : IsAdjacency e) where
 
       edge_if_listed : lists_pair ps (position_of cs a) (position_of cs b) ≡ true → e a b ≡ true
       edge_if_listed h =
-          let is : IsJoined e cs (position_of cs a) (position_of cs b) =
+          let is : AreTreesJoined e cs (position_of cs a) (position_of cs b) =
           (lists.exactly (pair (position_of cs a) (position_of cs b))).0 (to_contains ps (pair (position_of cs a) (position_of cs b)) (of_lists ps (position_of cs a) (position_of cs b) h)) in
           let c : (c : PlainTree) × IsChild cs c × Has (names c) a × (names_at cs (position_of cs a) ≡ names c) = child_with a ha in
           let d : (c : PlainTree) × IsChild cs c × Has (names c) b × (names_at cs (position_of cs b) ≡ names c) = child_with b hb in

@@ -12,7 +12,7 @@ use Rattle.md_tree.specs.declared.Kind.TheVariants.{Parallel, Series, Prime}
 use Rattle.md_tree.specs.declared.Pair.{Pair}
 use Rattle.md_tree.specs.Trees.{PlainTree, leaf, node, PlainTrees, names, names_below, count, row}
 use Rattle.md_tree.specs.StrongTrees.{IsInOrder}
-use Rattle.md_tree.specs.WellFormed.{AreApart, IsCanonicalNode, HasShape}
+use Rattle.md_tree.specs.WellFormed.{AreDisjoint, IsCanonicalNode, HasShape}
 use Rattle.md_tree.specs.Held.{IsLeast, AreLeast, Ascends, AreKept, MayHave, MayList}
 use Rattle.md_tree.proofs.Folding.{count_row, each_join, each_parts}
 
@@ -47,22 +47,22 @@ names_to_one t x h = union_left (names t) empty x h
 pub lacks_if : (s : NameSet) (x : ℕ) → (Has s x → ⊥) → Lacks s x
 lacks_if s x n = false_from_ne_true _ n
 
-apart_left : (xs ys : List PlainTree) → AreApart (row (xs ++ ys)) → AreApart (row xs)
+apart_left : (xs ys : List PlainTree) → AreDisjoint (row (xs ++ ys)) → AreDisjoint (row xs)
 apart_left [] ys a = tt
 apart_left (t ∷ xs) ys a = ((λ x h. lacks_if (all_names xs) x (λ g. clash (names_left xs ys x g) (a.0 x h))), apart_left xs ys a.1)
 
-apart_right : (xs ys : List PlainTree) → AreApart (row (xs ++ ys)) → AreApart (row ys)
+apart_right : (xs ys : List PlainTree) → AreDisjoint (row (xs ++ ys)) → AreDisjoint (row ys)
 apart_right [] ys a = a
 apart_right (t ∷ xs) ys a = apart_right xs ys a.1
 
-apart_across : (xs ys : List PlainTree) → AreApart (row (xs ++ ys)) → (x : ℕ) → Has (all_names xs) x → Has (all_names ys) x → ⊥
+apart_across : (xs ys : List PlainTree) → AreDisjoint (row (xs ++ ys)) → (x : ℕ) → Has (all_names xs) x → Has (all_names ys) x → ⊥
 apart_across [] ys a x h g = clash h (empty_lacks x)
 apart_across (t ∷ xs) ys a x h g = elim (of_union (names t) (all_names xs) x h) [
   | inl i ↦ clash (names_right xs ys x g) (a.0 x i)
   | inr i ↦ apart_across xs ys a.1 x i g
 ]
 
-apart_both : (xs ys : List PlainTree) → AreApart (row xs) → AreApart (row ys) → ((x : ℕ) → Has (all_names xs) x → Has (all_names ys) x → ⊥) → AreApart (row (xs ++ ys))
+apart_both : (xs ys : List PlainTree) → AreDisjoint (row xs) → AreDisjoint (row ys) → ((x : ℕ) → Has (all_names xs) x → Has (all_names ys) x → ⊥) → AreDisjoint (row (xs ++ ys))
 apart_both [] ys a b n = b
 apart_both (t ∷ xs) ys a b n = (
   (λ x h. lacks_if (all_names (xs ++ ys)) x (λ g. elim (names_either xs ys x g) [
@@ -72,7 +72,7 @@ apart_both (t ∷ xs) ys a b n = (
   apart_both xs ys a.1 b (λ x h g. n x (union_right (names t) (all_names xs) x h) g),
 )
 
-apart_one : (t : PlainTree) → AreApart (row (t ∷ []))
+apart_one : (t : PlainTree) → AreDisjoint (row (t ∷ []))
 apart_one t = ((λ x h. empty_lacks x), tt)
 
 -- least names

@@ -1,11 +1,11 @@
 -- How texts go on behind a part that is read, and where they can't.
-use Rattle.std.proofs.Common.{◌≡◌, ◌≢◌, ℕ, ◌+◌, ◌<◌, ◌≤◌, true, false, List, [], ◌∷◌, ◌++◌, length, get_or, take, drop, zero, suc, true≢false, append_assoc, length-append, refl, sym, ◌∙◌, ap, subst, inl, inr, arith}
+use Rattle.std.proofs.Common.{◌≡◌, ◌≢◌, ℕ, ◌+◌, ◌<◌, ◌≤◌, true, false, List, [], ◌∷◌, ◌++◌, length, get_or, take, drop, zero, suc, true≢false, append_assoc, refl, sym, ◌∙◌, ap, subst, inl, inr, arith}
 use Rattle.std.specs.Prelude.{Result, Ok, Err, IfErr}
 use Rattle.md_text.specs.Numbers.{decimal, value, IsCanonical}
 use Rattle.std.specs.Char.{is_ascii_digit}
 use Rattle.std.specs.List.{list_all}
 use Rattle.std.proofs.lemmas.List.{take-append-drop, length-take-le, get_or-take, same_from_push}
-use Rattle.md_text.proofs.NumberLemmas.{decimal_is_canonical, decimal_digit, decimal-value, digit_within, digit_bounds, AllPass-from_list_all}
+use Rattle.md_text.proofs.NumberLemmas.{decimal_digit, decimal-value, digit_within, digit_bounds, AllPass-from_list_all}
 use Rattle.md_tree.specs.declared.Kind.{Kind}
 use Rattle.md_tree.specs.declared.Kind.TheVariants.{Parallel, Series, Prime}
 use Rattle.md_tree.specs.declared.Pair.{Pair}

@@ -10,7 +10,7 @@ use Rattle.md_graph.specs.PlainGraph.{PlainGraph, adjacent}
 use Rattle.md_graph.specs.Sets.{NameSet, Has, Lacks, Within, Disjoint, only_name}
 use Rattle.std.proofs.lemmas.Bool.{false_from_ne_true}
 use Rattle.md_graph.proofs.SetLemmas.{clash, of_insert, insert_old, insert_new, of_only, only_has, empty_lacks, same_members, union_left, union_right, of_union}
-use Rattle.md_tree.specs.WellFormed.{AreApart, IsCanonicalNode}
+use Rattle.md_tree.specs.WellFormed.{AreDisjoint, IsCanonicalNode}
 use Rattle.md_tree.specs.declared.Tree.{Tree}
 use Rattle.md_tree.specs.Trees.{PlainTree, PlainTrees, no_tree, one_more, names, names_below, names_at, count, row, EachNode, EachNodeBelow}
 use Rattle.md_tree.specs.Plain.{plain}
@@ -76,7 +76,7 @@ module _ (F : PlainTrees → ℕ → ℕ → Bool) (P : PlainTrees → Type 0) w
 pub record NameLoop (start g : PlainGraph) (xs : List Tree) (i : ℕ) : Type 0 where
   pub names_left : AllBelow (names_below (rest xs i)) NAMES
   pub absent : Disjoint (names_below (rest xs i)) g.vertices
-  pub apart : AreApart (rest xs i)
+  pub apart : AreDisjoint (rest xs i)
   pub canonical : EachNodeBelow IsCanonicalNode (rest xs i)
   pub vertices : union g.vertices (names_below (rest xs i)) ≡ union start.vertices (names_below (row (map plain xs)))
   pub edges : g.edges ≡ start.edges
@@ -131,8 +131,8 @@ module _ (start g : PlainGraph) (xs : List Tree) (i : ℕ) (loop : NameLoop star
         ∙ sym (ap (λ us. union g.vertices (names_below us)) cut_names) ∙ loop.vertices;
     edges = kept ∙ loop.edges;
   } where
-    apart_now : AreApart (one_more c ts)
-    apart_now = subst AreApart cut_names loop.apart
+    apart_now : AreDisjoint (one_more c ts)
+    apart_now = subst AreDisjoint cut_names loop.apart
 
 pub names_end : (start g : PlainGraph) (xs : List Tree) (i : ℕ) → NameLoop start g xs i → (ys : List Tree) → ys ≡ xs → length ys ≤ i → g.vertices ≡ union start.vertices (names_below (row (map plain xs)))
 names_end start g xs i loop ys same past =

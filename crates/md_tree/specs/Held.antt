@@ -1,6 +1,6 @@
 -- What is held while a tree is built from its text: the finished children of the nodes that are open.
 -- Source: bottom-up parsing on a stack, as in any textbook of compilers.
-use Rattle.std.specs.Prelude.{◌≡◌, ◌≢◌, ◌↔◌, ◌+◌, ◌-◌, ◌<◌, ◌≤◌, ℕ, suc, Bool, true, false, List, [], ◌∷◌, ◌++◌, length, get_or, take, drop, map, AllPairs, Contains, Some, ⊤, IsTrue, Option, MatchOption}
+use Rattle.std.specs.Prelude.{◌≡◌, ◌≢◌, ◌↔◌, ◌+◌, ◌-◌, ◌<◌, ◌≤◌, ℕ, suc, Bool, true, false, List, [], ◌∷◌, ◌++◌, length, get_or, map, AllPairs, Contains, Some, ⊤, IsTrue, Option, MatchOption}
 use Rattle.std.specs.Borrow.{Bor}
 use Rattle.md_graph.specs.declared.TheConstants.{NAMES}
 use Rattle.md_graph.specs.NameSet.{AllBelow}
@@ -17,8 +17,7 @@ use Rattle.md_tree.specs.Trees.{PlainTree, PlainTrees, count, names, names_below
 use Rattle.md_tree.specs.Plain.{plain}
 use Rattle.md_tree.specs.StrongTrees.{IsPairBefore}
 use Rattle.md_tree.specs.TreeTexts.{pairs_text, tree_text}
-use Rattle.md_tree.specs.WellFormed.{AreApart, IsCanonicalNode, IsWellFormed, NoneOfKind}
-use Rattle.md_text.specs.Fronts.{IsPastDigits}
+use Rattle.md_tree.specs.WellFormed.{AreDisjoint, IsCanonicalNode, IsWellFormed, NoneOfKind}
 use Rattle.md_tree.specs.Residual.{OpenNode, Due, Follows}
 
 -- the least member of s
@@ -40,7 +39,7 @@ Ascends ms = (k : ℕ) → suc k < length ms → get_or ms k 0 < get_or ms (suc 
 -- the trees are as well-formed trees have them, with their least names and all their names
 pub record AreKept (ts : List PlainTree) (ms : List ℕ) (seen : NameSet) : Type 0 where
   pub canonical : EachNodeBelow IsCanonicalNode (row ts)
-  pub apart : AreApart (row ts)
+  pub apart : AreDisjoint (row ts)
   pub same : (x : ℕ) → Has seen x ↔ Has (names_below (row ts)) x
   pub below : AllBelow seen NAMES
   pub least : AreLeast ts ms
@@ -126,10 +125,10 @@ EndsNode text inner before rest after =
     (bytes : List ℕ) → HasBuiltInside bytes text inner before → MatchOption rest (AreUseless bytes) (λ tail. HasReadTree bytes text tail.now after)
 
 -- what a step makes of what is held
-abbrev pub IsStep : List ℕ → List ℕ → Step → Held → Type 0
-IsStep bytes text (Onward tail) held = HasBuilt bytes tail.now false held × (length tail.now < length text)
-IsStep bytes text Useless held = AreUseless bytes
-IsStep bytes text End held = IsBuilt bytes (trees_held held)
+abbrev pub IsBuildStep : List ℕ → List ℕ → Step → Held → Type 0
+IsBuildStep bytes text (Onward tail) held = HasBuilt bytes tail.now false held × (length tail.now < length text)
+IsBuildStep bytes text Useless held = AreUseless bytes
+IsBuildStep bytes text End held = IsBuilt bytes (trees_held held)
 
 -- a node of kind k with n children may list the pairs
 abbrev pub MayList : Kind → ℕ → List Pair → Type 0

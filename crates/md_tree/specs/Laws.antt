@@ -8,7 +8,7 @@ use Rattle.md_graph.specs.Adjacency.{IsAdjacency}
 use Rattle.md_modules.specs.InducedPaths.{HasInducedPath}
 use Rattle.md_tree.specs.Trees.{PlainTree, names}
 use Rattle.md_tree.specs.StrongTrees.{IsTreeOf, IsTree}
-use Rattle.md_tree.specs.WellFormed.{IsCanonical, IsWellFormed, HasNoPrimeNode}
+use Rattle.md_tree.specs.WellFormed.{IsCanonicalTree, IsWellFormed, HasNoPrimeNode}
 use Rattle.md_tree.specs.TreeGraph.{adjacent_in, graph_of_tree}
 use Rattle.md_tree.specs.TreeTexts.{text_of}
 use Rattle.md_tree.specs.declared.Tree.{Tree}
@@ -26,7 +26,7 @@ OneTree =
 -- the leaf set of a graph's tree is the set of its vertices, and the tree is as well-formed trees are
 abbrev pub TreeIsCanonical : Type 0
 TreeIsCanonical =
-    (e : ℕ → ℕ → Bool) → IsAdjacency e → (s : NameSet) (t : PlainTree) → IsTreeOf e s t → (names t ≡ s) × IsCanonical t
+    (e : ℕ → ℕ → Bool) → IsAdjacency e → (s : NameSet) (t : PlainTree) → IsTreeOf e s t → (names t ≡ s) × IsCanonicalTree t
 
 -- the tree of a graph on names below the limit is well-formed
 abbrev pub TreeIsWellFormed : Type 0

@@ -23,8 +23,8 @@ abbrev pub trees_of : Children → List Tree
 trees_of children = (out-Children children).list.items
 
 -- the children of a node in a row
-abbrev pub row_of : Children → PlainTrees
-row_of children = row (map plain (trees_of children))
+abbrev pub row_of_children : Children → PlainTrees
+row_of_children children = row (map plain (trees_of children))
 
 -- its children from a position on, in a row
 abbrev pub row_from : Children → ℕ → PlainTrees

@@ -26,7 +26,7 @@ IsInOrder no_tree = ⊤
 IsInOrder (one_more t ts) = IsBefore (names t) (names_below ts) × IsInOrder ts
 
 -- i is before j, and an edge runs between the trees at the positions i and j
-pub record IsJoined (e : ℕ → ℕ → Bool) (cs : PlainTrees) (i j : ℕ) : Type 0 where
+pub record AreTreesJoined (e : ℕ → ℕ → Bool) (cs : PlainTrees) (i j : ℕ) : Type 0 where
   pub ordered : i < j
   pub edge : (a : ℕ) × (b : ℕ) × Has (names_at cs i) a × Has (names_at cs j) b × (e a b ≡ true)
 
@@ -37,7 +37,7 @@ IsPairBefore p q = (p.low < q.low) ⊎ ((p.low ≡ q.low) × (p.high < q.high))
 -- the list has exactly the pairs of positions between which an edge runs, each once, in ascending order
 pub record ListsJoined (e : ℕ → ℕ → Bool) (cs : PlainTrees) (ps : List Pair) : Type 0 where
   pub ascending : AllPairs IsPairBefore ps
-  pub exactly : (p : Pair) → Contains ps p ↔ IsJoined e cs p.low p.high
+  pub exactly : (p : Pair) → Contains ps p ↔ AreTreesJoined e cs p.low p.high
 
 -- a prime node lists the pairs of its children between which an edge runs, and no other node lists pairs
 abbrev pub HasPairs : (ℕ → ℕ → Bool) → Kind → PlainTrees → List Pair → Type 0

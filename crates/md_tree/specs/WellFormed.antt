@@ -21,9 +21,9 @@ NoneOfKind no_tree k = ⊤
 NoneOfKind (one_more t ts) k = (¬ (IsOfKind t k)) × NoneOfKind ts k
 
 -- no two of the trees have a name in common
-abbrev pub AreApart : PlainTrees → Type 0
-AreApart no_tree = ⊤
-AreApart (one_more t ts) = Disjoint (names t) (names_below ts) × AreApart ts
+abbrev pub AreDisjoint : PlainTrees → Type 0
+AreDisjoint no_tree = ⊤
+AreDisjoint (one_more t ts) = Disjoint (names t) (names_below ts) × AreDisjoint ts
 
 -- a parallel or series node has two children or more, none of its own kind, and no pairs
 pub record IsPlainNode (k : Kind) (cs : PlainTrees) (ps : List Pair) : Type 0 where
@@ -45,13 +45,13 @@ HasShape Prime cs ps = IsPrimeNode cs ps
 
 -- the children of a node have no name in common, stand in order, and are as many and of such kinds as the node's kind asks
 pub record IsCanonicalNode (k : Kind) (cs : PlainTrees) (ps : List Pair) : Type 0 where
-  pub apart : AreApart cs
+  pub apart : AreDisjoint cs
   pub order : IsInOrder cs
   pub shape : HasShape k cs ps
 
 -- each node is as well-formed trees have it, so that the names differ
-abbrev pub IsCanonical : PlainTree → Type 0
-IsCanonical = EachNode IsCanonicalNode
+abbrev pub IsCanonicalTree : PlainTree → Type 0
+IsCanonicalTree = EachNode IsCanonicalNode
 
 -- no node of the tree is prime
 abbrev pub HasNoPrimeNode : PlainTree → Type 0
@@ -64,4 +64,4 @@ HaveNoPrimeNode = EachNodeBelow (λ k cs ps. k ≢ Prime)
 -- a tree is well-formed: its names are below the limit, and each node is as well-formed trees have it; so is no tree
 abbrev pub IsWellFormed : Option PlainTree → Type 0
 IsWellFormed None = ⊤
-IsWellFormed (Some t) = AllBelow (names t) NAMES × IsCanonical t
+IsWellFormed (Some t) = AllBelow (names t) NAMES × IsCanonicalTree t

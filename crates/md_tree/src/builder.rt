@@ -9,7 +9,7 @@ ghost use Rattle.md_tree.specs.Trees.{node, row};
 ghost use Rattle.md_tree.specs.TreeTexts.{letter, tree_text};
 ghost use Rattle.md_tree.specs.WellFormed.{IsWellFormed, IsOfKind, NoneOfKind};
 ghost use Rattle.md_text.specs.Fronts.{LacksFirst, IsNumberSplit};
-ghost use Rattle.md_tree.specs.Held.{HasBuilt, HasBuiltInside, HasReadTree, EndsNode, IsStep, AreUseless, Ascends, MayHave, trees_held};
+ghost use Rattle.md_tree.specs.Held.{HasBuilt, HasBuiltInside, HasReadTree, EndsNode, IsBuildStep, AreUseless, Ascends, MayHave, trees_held};
 
 use crate::grammar::split_letter;
 use crate::growing::append;
@@ -47,7 +47,7 @@ enum Step<'a> {
 
 // The well-formed tree with this text; none if there is no such tree. No call nests as deep as the
 // tree. Errors: out of memory.
-pub(crate) fn built(alloc: Global, bytes: &[u8]) -> Result<Option<Tree>, Memory>
+pub(crate) fn tree_of_text(alloc: Global, bytes: &[u8]) -> Result<Option<Tree>, Memory>
     ensures { IfOk result (λ o. MatchOption o (AreUseless bytes.now)
         (λ t. IsWellFormed (Some (plain t)) × (bytes.now ≡ tree_text (plain t)))) }
 {
@@ -73,7 +73,7 @@ pub(crate) fn built(alloc: Global, bytes: &[u8]) -> Result<Option<Tree>, Memory>
 fn take_step<'a>(alloc: Global, text: &'a [u8], held: &mut Held) -> Result<Step<'a>, Memory>
     requires { (bytes : List ℕ) × HasBuilt bytes text.now false held.old }
     ensures { IfOk result (λ step. (bytes : List ℕ) → HasBuilt bytes text.now false held.old
-        → IsStep bytes text.now step held.new) }
+        → IsBuildStep bytes text.now step held.new) }
 {
     if let Some((name, tail)) = small_number(text) {
         return step_name(alloc, text, name, tail, held);
@@ -96,7 +96,7 @@ fn step_name<'a>(
     requires built { (bytes : List ℕ) × HasBuilt bytes text.now false held.old }
     requires name { IsNumberSplit text.now name tail.now }
     ensures { IfOk result (λ step. (bytes : List ℕ) → HasBuilt bytes text.now false held.old
-        → IsStep bytes text.now step held.new) }
+        → IsBuildStep bytes text.now step held.new) }
 {
     match take_name(text, name, tail, held)? {
         Some(behind) => end_nodes(alloc, behind, held),
@@ -141,7 +141,7 @@ fn begin_node<'a>(
     requires built { (bytes : List ℕ) × HasBuilt bytes text.now false held.old }
     requires letter { text.now ≡ letter kind ∷ behind.now }
     ensures { IfOk result (λ step. (bytes : List ℕ) → HasBuilt bytes text.now false held.old
-        → IsStep bytes text.now step held.new) }
+        → IsBuildStep bytes text.now step held.new) }
 {
     if held.opens.len() >= NAMES as usize {
         return Ok(Step::Useless);
@@ -161,7 +161,7 @@ fn begin_node<'a>(
 fn end_nodes<'a>(alloc: Global, text: &'a [u8], held: &mut Held) -> Result<Step<'a>, Memory>
     requires { (bytes : List ℕ) × HasBuilt bytes text.now true held.old }
     ensures { IfOk result (λ step. (bytes : List ℕ) → HasBuilt bytes text.now true held.old
-        → IsStep bytes text.now step held.new) }
+        → IsBuildStep bytes text.now step held.new) }
 {
     let mut rest = text;
     loop {
@@ -186,7 +186,7 @@ fn end_nodes<'a>(alloc: Global, text: &'a [u8], held: &mut Held) -> Result<Step<
 fn step_comma<'a>(text: &'a [u8], tail: &'a [u8], held: &Held) -> Step<'a>
     requires { text.now ≡ 44 ∷ tail.now }
     ensures { (bytes : List ℕ) → HasBuilt bytes text.now true held.now
-        → IsStep bytes text.now result held.now }
+        → IsBuildStep bytes text.now result held.now }
 {
     if held.opens.is_empty() {
         return Step::Useless;
@@ -199,7 +199,7 @@ fn step_comma<'a>(text: &'a [u8], tail: &'a [u8], held: &Held) -> Step<'a>
 fn step_at_end<'a>(text: &'a [u8], held: &Held) -> Step<'a>
     requires { text.now ≡ [] }
     ensures { (bytes : List ℕ) → HasBuilt bytes text.now true held.now
-        → IsStep bytes text.now result held.now }
+        → IsBuildStep bytes text.now result held.now }
 {
     if held.opens.is_empty() {
         return Step::End;
@@ -311,7 +311,7 @@ fn is_of_kind(tree: &Tree, kind: Kind) -> bool
 
 /// Whether each number is below the next one.
 pub fn ascends(numbers: &[u32]) -> bool
-    ensures { IsTrue result ↔ Ascends numbers.now }
+    ensures exactly { IsTrue result ↔ Ascends numbers.now }
 {
     for i in 1..numbers.len() {
         if numbers[i - 1] >= numbers[i] {

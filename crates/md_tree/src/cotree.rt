@@ -1,7 +1,7 @@
 //! Whether a tree is one of a cograph.
 ghost use Rattle.std.specs.Prelude.{◌≡◌, ◌≢◌, ◌↔◌, true, false, IsTrue};
 ghost use Rattle.md_tree.specs.declared.Kind.TheVariants.{Prime};
-ghost use Rattle.md_tree.specs.Plain.{plain, plain_option, row_of};
+ghost use Rattle.md_tree.specs.Plain.{plain, plain_option, row_of_children};
 ghost use Rattle.md_tree.specs.WellFormed.{HasNoPrimeNode, HaveNoPrimeNode};
 ghost use Rattle.md_tree.specs.NoPrimes.{HasNoPrime};
 
@@ -11,7 +11,7 @@ use crate::{Children, Kind, Tree};
 #[cycle(look)]
 #[tactic(auto, using(crate::proofs::Plain::plain_is_leaf, crate::proofs::Plain::plain_is_node))]
 pub fn is_cotree(tree: &Tree) -> bool
-    ensures { IsTrue result ↔ HasNoPrimeNode (plain tree.now) }
+    ensures exactly { IsTrue result ↔ HasNoPrimeNode (plain tree.now) }
 {
     match tree {
         Tree::Leaf(_) => true,
@@ -31,7 +31,7 @@ pub fn has_no_prime(tree: &Option<Tree>) -> bool
 
 #[cycle(look)]
 fn are_cotrees(children: &Children) -> bool
-    ensures { IsTrue result ↔ HaveNoPrimeNode (row_of children.now) }
+    ensures { IsTrue result ↔ HaveNoPrimeNode (row_of_children children.now) }
 {
     for child in &children.list {
         if !is_cotree(child) {

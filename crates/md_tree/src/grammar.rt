@@ -225,7 +225,7 @@ fn skip_mark<'a>(text: &'a [u8]) -> Result<(&'a [u8], bool), &'a [u8]>
 
 /// The kind that the first byte is the letter of, and what stands behind it.
 pub fn split_letter<'a>(text: &'a [u8]) -> Option<(Kind, &'a [u8])>
-    ensures { MatchOption result ((k : Kind) → LacksFirst (letter k) text.now)
+    ensures split { MatchOption result ((k : Kind) → LacksFirst (letter k) text.now)
         (λ p. text.now ≡ letter p.0 ∷ p.1.now) }
 {
     let (first, tail) = text.split_first()?;

@@ -6,41 +6,41 @@ ghost use Rattle.md_tree.specs.Laws.{OneTree, TreeIsCanonical, TreeIsWellFormed,
 /// Each graph has exactly one tree of strong modules; the graph without vertices has none in its
 /// place.
 pub fn one_tree()
-    ensures { OneTree }
+    ensures law { OneTree }
 {}
 
 /// The leaves of a graph's tree are its vertices, and the tree is well-formed.
 pub fn tree_is_canonical()
-    ensures { TreeIsCanonical }
+    ensures law { TreeIsCanonical }
 {}
 
 /// The tree of a graph on names below the limit is well-formed.
 pub fn tree_is_well_formed()
-    ensures { TreeIsWellFormed }
+    ensures law { TreeIsWellFormed }
 {}
 
 /// A graph is the graph that its tree denotes, so that different graphs have different trees.
 pub fn graph_of_the_tree()
-    ensures { GraphOfTheTree }
+    ensures law { GraphOfTheTree }
 {}
 
 /// Two vertices are adjacent in a graph exactly as its tree says: where their least common node is
 /// series, or is prime and lists the pair of the children that hold them.
 pub fn tree_tells_graph()
-    ensures { TreeTellsGraph }
+    ensures law { TreeTellsGraph }
 {}
 
 /// A graph has no induced path on four vertices exactly where its tree has no prime node.
 pub fn no_induced_path_if_no_prime_node()
-    ensures { NoInducedPathIfNoPrimeNode }
+    ensures law { NoInducedPathIfNoPrimeNode }
 {}
 
 /// Different trees have different texts, and no tree has the text of a graph without vertices.
 pub fn one_tree_one_text()
-    ensures { OneTreeOneText }
+    ensures law { OneTreeOneText }
 {}
 
 /// The text of a well-formed tree is read as that tree, if memory suffices.
 pub fn written_trees_are_read()
-    ensures { WrittenTreesAreRead }
+    ensures law { WrittenTreesAreRead }
 {}

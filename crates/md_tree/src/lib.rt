@@ -79,7 +79,7 @@ pub struct QuotientEdges {
 impl Children {
     /// How many children there are.
     pub fn len(&self) -> u64
-        ensures { result ≡ length (trees_of self.now) }
+        ensures value { result ≡ length (trees_of self.now) }
     {
         self.list.len() as u64
     }
@@ -87,7 +87,7 @@ impl Children {
     /// The child at a position, counted from 0.
     pub fn get(&self, i: u64) -> &Tree
         requires { i < length (trees_of self.now) }
-        ensures { result.now ≡ slice_index_or (trees_of self.now) i result.now }
+        ensures value { result.now ≡ slice_index_or (trees_of self.now) i result.now }
     {
         &self.list[i as usize]
     }
@@ -96,7 +96,7 @@ impl Children {
 impl QuotientEdges {
     /// How many pairs there are.
     pub fn len(&self) -> u64
-        ensures { result ≡ vec_len self.now.list }
+        ensures value { result ≡ vec_len self.now.list }
     {
         self.list.len() as u64
     }
@@ -104,7 +104,7 @@ impl QuotientEdges {
     /// The pair at a position, counted from 0.
     pub fn get(&self, i: u64) -> &Pair
         requires { i < vec_len self.now.list }
-        ensures { result.now ≡ slice_index_or self.now.list.items i result.now }
+        ensures value { result.now ≡ slice_index_or self.now.list.items i result.now }
     {
         &self.list[i as usize]
     }

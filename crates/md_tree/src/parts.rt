@@ -22,7 +22,7 @@ pub enum Part {
 /// first. No call nests as deep as the tree. Errors: want of memory.
 pub fn build(alloc: Global, mut parts: Vec<Part>) -> Result<Tree, Memory>
     requires { (t : PlainTree) × (map plain_part parts.items ≡ parts_of t) }
-    ensures { IfOk result (λ tree. (t : PlainTree)
+    ensures tree { IfOk result (λ tree. (t : PlainTree)
         → map plain_part parts.items ≡ parts_of t → plain tree ≡ t) }
 {
     let mut stack = Vec::with_capacity(alloc, parts.len())?;

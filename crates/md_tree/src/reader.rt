@@ -5,7 +5,7 @@ ghost use Rattle.md_tree.specs.Held.{AreUseless};
 ghost use Rattle.md_tree.specs.Reading.{IsTreeReading};
 
 use crate::Tree;
-use crate::builder::built;
+use crate::builder::tree_of_text;
 use crate::grammar::leaves_grammar_at;
 use md_graph::Memory;
 use std::alloc::Global;
@@ -41,12 +41,12 @@ impl From<Memory> for TreeFault {
 /// open node its kind. No call nests as deep as the tree. Errors: where the bytes leave the
 /// grammar; or they are the text of no well-formed tree; or want of memory.
 pub fn read_tree(alloc: Global, bytes: &[u8]) -> Result<Option<Tree>, TreeFault>
-    ensures { IsTreeReading bytes.now result }
+    ensures reading { IsTreeReading bytes.now result }
 {
     if bytes == b"empty".as_slice() {
         return Ok(None);
     }
-    if let Some(tree) = built(alloc, bytes)? {
+    if let Some(tree) = tree_of_text(alloc, bytes)? {
         return Ok(Some(tree));
     }
     refuse(alloc, bytes)

@@ -5,8 +5,8 @@ ghost use Rattle.md_graph.specs.Sets.{Has, Lacks, Within, Disjoint, only_name};
 ghost use Rattle.md_graph.specs.NameSet.{AllBelow};
 ghost use Rattle.md_graph.specs.PlainGraph.{adjacent, with_edge};
 ghost use Rattle.md_tree.specs.Trees.{names, names_below, names_at, count, EachNodeBelow};
-ghost use Rattle.md_tree.specs.Plain.{plain, plain_option, trees_of, row_of, row_from};
-ghost use Rattle.md_tree.specs.WellFormed.{AreApart, IsCanonicalNode, IsCanonical, IsWellFormed};
+ghost use Rattle.md_tree.specs.Plain.{plain, plain_option, trees_of, row_of_children, row_from};
+ghost use Rattle.md_tree.specs.WellFormed.{AreDisjoint, IsCanonicalNode, IsCanonicalTree, IsWellFormed};
 ghost use Rattle.md_tree.specs.TreeGraph.{graph_of_tree};
 ghost use Rattle.md_tree.specs.TreeEdges.{crosses, in_two, in_listed, edge_across, has_edge_in, has_edge_below};
 ghost use Rattle.md_tree.specs.declared.Pair.{Pair};
@@ -21,7 +21,7 @@ use md_graph::{Graph, NAMES};
 pub fn graph_of(tree: &Option<Tree>, graph: &mut Graph)
     requires well_formed { IsWellFormed (plain_option tree.now) }
     requires no_vertices { graph.old.vertices ≡ set.empty }
-    ensures { graph.new ≡ graph_of_tree (plain_option tree.now) }
+    ensures graph { graph.new ≡ graph_of_tree (plain_option tree.now) }
 {
     let _vertices = graph.vertices();
     if let Some(tree) = tree {
@@ -35,7 +35,7 @@ pub fn graph_of(tree: &Option<Tree>, graph: &mut Graph)
 fn add_names(tree: &Tree, graph: &mut Graph)
     requires names { AllBelow (names (plain tree.now)) NAMES }
     requires absent { Disjoint (names (plain tree.now)) graph.old.vertices }
-    requires canonical { IsCanonical (plain tree.now) }
+    requires canonical { IsCanonicalTree (plain tree.now) }
     ensures vertices { graph.new.vertices ≡ set.union graph.old.vertices (names (plain tree.now)) }
     ensures edges { graph.new.edges ≡ graph.old.edges }
 {
@@ -47,12 +47,12 @@ fn add_names(tree: &Tree, graph: &mut Graph)
 
 #[cycle(vertices)]
 fn add_names_below(children: &Children, graph: &mut Graph)
-    requires names { AllBelow (names_below (row_of children.now)) NAMES }
-    requires absent { Disjoint (names_below (row_of children.now)) graph.old.vertices }
-    requires apart { AreApart (row_of children.now) }
-    requires canonical { EachNodeBelow IsCanonicalNode (row_of children.now) }
+    requires names { AllBelow (names_below (row_of_children children.now)) NAMES }
+    requires absent { Disjoint (names_below (row_of_children children.now)) graph.old.vertices }
+    requires apart { AreDisjoint (row_of_children children.now) }
+    requires canonical { EachNodeBelow IsCanonicalNode (row_of_children children.now) }
     ensures vertices { graph.new.vertices
-        ≡ set.union graph.old.vertices (names_below (row_of children.now)) }
+        ≡ set.union graph.old.vertices (names_below (row_of_children children.now)) }
     ensures edges { graph.new.edges ≡ graph.old.edges }
 {
     for child in &children.list {
@@ -63,7 +63,7 @@ fn add_names_below(children: &Children, graph: &mut Graph)
 #[cycle(edges)]
 fn add_tree_edges(tree: &Tree, graph: &mut Graph)
     requires inside { Within (names (plain tree.now)) graph.old.vertices }
-    requires canonical { IsCanonical (plain tree.now) }
+    requires canonical { IsCanonicalTree (plain tree.now) }
     ensures vertices { graph.new.vertices ≡ graph.old.vertices }
     ensures edges { (x y : ℕ) → adjacent graph.new x y
         ≡ (adjacent graph.old x y || has_edge_in (plain tree.now) x y) }
@@ -79,11 +79,11 @@ fn add_tree_edges(tree: &Tree, graph: &mut Graph)
 
 #[cycle(edges)]
 fn add_edges_below(children: &Children, graph: &mut Graph)
-    requires inside { Within (names_below (row_of children.now)) graph.old.vertices }
-    requires canonical { EachNodeBelow IsCanonicalNode (row_of children.now) }
+    requires inside { Within (names_below (row_of_children children.now)) graph.old.vertices }
+    requires canonical { EachNodeBelow IsCanonicalNode (row_of_children children.now) }
     ensures vertices { graph.new.vertices ≡ graph.old.vertices }
     ensures edges { (x y : ℕ) → adjacent graph.new x y
-        ≡ (adjacent graph.old x y || has_edge_below (row_of children.now) x y) }
+        ≡ (adjacent graph.old x y || has_edge_below (row_of_children children.now) x y) }
 {
     for child in &children.list {
         add_tree_edges(child, graph);
@@ -92,12 +92,12 @@ fn add_edges_below(children: &Children, graph: &mut Graph)
 
 // The edges between different children of a node.
 fn add_edges_across(kind: Kind, children: &Children, edges: &QuotientEdges, graph: &mut Graph)
-    requires inside { Within (names_below (row_of children.now)) graph.old.vertices }
-    requires canonical { IsCanonicalNode kind (row_of children.now) edges.now.list.items }
+    requires inside { Within (names_below (row_of_children children.now)) graph.old.vertices }
+    requires canonical { IsCanonicalNode kind (row_of_children children.now) edges.now.list.items }
     ensures vertices { graph.new.vertices ≡ graph.old.vertices }
     ensures edges { (x y : ℕ) → adjacent graph.new x y
         ≡ (adjacent graph.old x y
-        || edge_across kind (row_of children.now) edges.now.list.items x y) }
+        || edge_across kind (row_of_children children.now) edges.now.list.items x y) }
 {
     match kind {
         Kind::Parallel => {}
@@ -107,11 +107,11 @@ fn add_edges_across(kind: Kind, children: &Children, edges: &QuotientEdges, grap
 }
 
 fn join_each_two(children: &Children, graph: &mut Graph)
-    requires inside { Within (names_below (row_of children.now)) graph.old.vertices }
-    requires apart { AreApart (row_of children.now) }
+    requires inside { Within (names_below (row_of_children children.now)) graph.old.vertices }
+    requires apart { AreDisjoint (row_of_children children.now) }
     ensures vertices { graph.new.vertices ≡ graph.old.vertices }
     ensures edges { (x y : ℕ) → adjacent graph.new x y
-        ≡ (adjacent graph.old x y || in_two (row_of children.now) x y) }
+        ≡ (adjacent graph.old x y || in_two (row_of_children children.now) x y) }
 {
     for (i, child) in children.list.iter().enumerate() {
         join_later(child, children, i + 1, graph);
@@ -135,13 +135,13 @@ fn join_later(tree: &Tree, children: &Children, from: usize, graph: &mut Graph)
 }
 
 fn join_listed(children: &Children, edges: &QuotientEdges, graph: &mut Graph)
-    requires inside { Within (names_below (row_of children.now)) graph.old.vertices }
-    requires apart { AreApart (row_of children.now) }
+    requires inside { Within (names_below (row_of_children children.now)) graph.old.vertices }
+    requires apart { AreDisjoint (row_of_children children.now) }
     requires positions { (p : Pair) → Contains edges.now.list.items p
-        → (p.low < p.high) × (p.high < count (row_of children.now)) }
+        → (p.low < p.high) × (p.high < count (row_of_children children.now)) }
     ensures vertices { graph.new.vertices ≡ graph.old.vertices }
     ensures edges { (x y : ℕ) → adjacent graph.new x y
-        ≡ (adjacent graph.old x y || in_listed (row_of children.now) edges.now.list.items x y) }
+        ≡ (adjacent graph.old x y || in_listed (row_of_children children.now) edges.now.list.items x y) }
 {
     for pair in &edges.list {
         join_trees(
@@ -171,13 +171,13 @@ fn join_trees(left: &Tree, right: &Tree, graph: &mut Graph)
 
 #[cycle(trees)]
 fn join_below(children: &Children, right: &Tree, graph: &mut Graph)
-    requires inside_left { Within (names_below (row_of children.now)) graph.old.vertices }
+    requires inside_left { Within (names_below (row_of_children children.now)) graph.old.vertices }
     requires inside_right { Within (names (plain right.now)) graph.old.vertices }
-    requires apart { Disjoint (names_below (row_of children.now)) (names (plain right.now)) }
+    requires apart { Disjoint (names_below (row_of_children children.now)) (names (plain right.now)) }
     ensures vertices { graph.new.vertices ≡ graph.old.vertices }
     ensures edges { (x y : ℕ) → adjacent graph.new x y
         ≡ (adjacent graph.old x y
-        || crosses (names_below (row_of children.now)) (names (plain right.now)) x y) }
+        || crosses (names_below (row_of_children children.now)) (names (plain right.now)) x y) }
 {
     for child in &children.list {
         join_trees(child, right, graph);
@@ -203,12 +203,12 @@ fn join_name(name: u32, tree: &Tree, graph: &mut Graph)
 #[cycle(name)]
 fn join_name_below(name: u32, children: &Children, graph: &mut Graph)
     requires vertex { Has graph.old.vertices name }
-    requires inside { Within (names_below (row_of children.now)) graph.old.vertices }
-    requires apart { Lacks (names_below (row_of children.now)) name }
+    requires inside { Within (names_below (row_of_children children.now)) graph.old.vertices }
+    requires apart { Lacks (names_below (row_of_children children.now)) name }
     ensures vertices { graph.new.vertices ≡ graph.old.vertices }
     ensures edges { (x y : ℕ) → adjacent graph.new x y
         ≡ (adjacent graph.old x y
-        || crosses (only_name name) (names_below (row_of children.now)) x y) }
+        || crosses (only_name name) (names_below (row_of_children children.now)) x y) }
 {
     for child in &children.list {
         join_name(name, child, graph);

@@ -16,7 +16,7 @@ use std::alloc::Global;
 /// `0-2`, with commas between them. The text `empty` where there is no tree. Errors: want of
 /// memory.
 pub fn text(alloc: Global, tree: &Option<Tree>) -> Result<Vec<u8>, Memory>
-    ensures { IfOk result (λ v. v.items ≡ text_of (plain_option tree.now)) }
+    ensures text { IfOk result (λ v. v.items ≡ text_of (plain_option tree.now)) }
 {
     let mut text = Vec::new(alloc);
     push_text(alloc, &mut text, tree)?;

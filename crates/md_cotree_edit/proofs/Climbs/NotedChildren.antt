@@ -1,6 +1,6 @@
 -- What the notes of the children of a lowest mixed node say: each child is noted as full exactly where it is.
 use Rattle.std.proofs.Common.{◌≡◌, ℕ, ◌+◌, ◌-◌, ◌*◌, min, sym, ◌∙◌, ap, inl, inr, arith}
-use Rattle.md_lists.specs.Words.{times}
+use Rattle.md_graph.specs.Linked.{times}
 use Rattle.md_lists.specs.Links.{Links, tally_at, note_at, AreLinks}
 use Rattle.md_cotree.specs.PlaceTrees.{PlaceTree, tip, inner, PlaceTrees, no_more, then, place_of, Alternates}
 use Rattle.md_cotree_edit.specs.Contexts.{AreTreesKept}

@@ -3,7 +3,8 @@ use Rattle.std.proofs.Common.{◌≡◌, ℕ, ◌+◌, ◌-◌, ◌<◌, ◌≤�
 use Rattle.std.proofs.lemmas.Bool.{cases_eq, eq-eqb, ne_eqb}
 use Rattle.md_lists.specs.declared.kinds.PlaceKind.{PlaceKind}
 use Rattle.md_lists.specs.declared.TheConstants.{PLACES}
-use Rattle.md_lists.specs.Words.{times, first_or, behind}
+use Rattle.md_lists.specs.Words.{behind}
+use Rattle.md_graph.specs.Linked.{first_or, times}
 use Rattle.md_lists.specs.Links.{Links, kind_at, note_at, IsLive, AreLinks}
 use Rattle.md_lists.proofs.ListLaws.{times-first, times-other, times-split}
 use Rattle.md_cotree.proofs.Emitting.{behind_front}

@@ -1,7 +1,8 @@
 -- A marked place is walked over: what its parent is told then, and what shows that a vertex can't be taken in.
 use Rattle.std.proofs.Common.{◌≡◌, ℕ, ◌+◌, ◌-◌, ◌*◌, ◌<◌, ◌≤◌, min, Bool, cond, ◌==◌, List, [], ◌∷◌, ◌++◌, length, Some, None, refl, sym, ◌∙◌, ap, subst, inl, inr, arith}
 use Rattle.std.proofs.lemmas.Bool.{cases_eq, cases_lt, eq-eqb, ne_eqb}
-use Rattle.md_lists.specs.Words.{times, holds_once}
+use Rattle.md_lists.specs.Words.{holds_once}
+use Rattle.md_graph.specs.Linked.{times}
 use Rattle.md_lists.specs.Links.{Links, kind_at, parent_at, children_at, tally_at, note_at, IsMarked, AreLinks, noted}
 use Rattle.md_lists.proofs.ListLaws.{times-split}
 use Rattle.md_lists.proofs.LinkLaws.{mark_once, get_or-set, holds-once-same, holds-once-other, owner_within}

@@ -1,7 +1,7 @@
 -- A node of one child goes.
 use Rattle.std.proofs.Common.{◌≡◌, ℕ, ◌+◌, Bool, true, false, not, cond, ◌∷◌, Option, Some, None, refl, sym, ◌∙◌, ap, subst, inl, inr, arith}
 use Rattle.std.proofs.lemmas.Bool.{cases_eq}
-use Rattle.md_lists.specs.Words.{first_or}
+use Rattle.md_graph.specs.Linked.{first_or}
 use Rattle.md_lists.specs.Links.{Links, parent_at, children_at, IsLive, AreLinks, with_kind}
 use Rattle.md_lists.proofs.ListLaws.{first_in}
 use Rattle.md_cotree.specs.PlaceTrees.{PlaceTree, inner, PlaceTrees, no_more, then, place_of, row_length, IsInner, Alternates}

@@ -1,6 +1,6 @@
 -- Children that move from one node to another.
 use Rattle.std.proofs.Common.{◌≡◌, ℕ, ◌+◌, ◌*◌, List, [], ◌∷◌, length, Option, Some, None, refl, sym, ◌∙◌, ap, subst, arith}
-use Rattle.md_lists.specs.Words.{times, first_or}
+use Rattle.md_graph.specs.Linked.{first_or, times}
 use Rattle.md_lists.specs.Links.{Links, parent_at, children_at, IsLive, AreLinks, attached}
 use Rattle.md_lists.proofs.ListLaws.{first_in}
 use Rattle.md_cotree.specs.PlaceTrees.{PlaceTree, inner, PlaceTrees, no_more, then, place_of, roots, row_length}

@@ -11,8 +11,8 @@ use Rattle.md_lists.specs.Links.{Links, AreLinks}
 use Rattle.md_lists.proofs.LinkLaws.{get_or-set, some_within}
 use Rattle.md_tree.specs.Trees.{names}
 use Rattle.md_cotree.specs.declared.cotree.Cotree.{Cotree}
-use Rattle.md_cotree.specs.PlaceTrees.{PlaceTree, tip, inner, PlaceTrees, no_more, then, place_of, leaves_among, leaf_count, Alternates, shape, Fits}
-use Rattle.md_cotree.specs.Cotrees.{trees_of, place_at, IsKeptAs, Denotes}
+use Rattle.md_cotree.specs.PlaceTrees.{PlaceTree, tip, inner, PlaceTrees, no_more, then, place_of, leaves_among, leaf_count, Alternates, shape, FillsLists}
+use Rattle.md_cotree.specs.Cotrees.{root_row, place_at, IsKeptAs, Denotes}
 use Rattle.md_cotree.proofs.Frames.{hit, test_both, test_none}
 use Rattle.md_cotree.proofs.Kept.{one_graph}
 use Rattle.md_cotree_edit.specs.Counts.{name_in, name_row, edge_in, edge_row}
@@ -30,11 +30,11 @@ use Rattle.md_cotree_edit.proofs.Trees.GraphWithoutName.{graph_without, has_few}
 -- the trees that are kept stand in the lists with their children in some order
 record AreFound (n : Links) (o : Option PlaceTree) : Type 0 where
   tree : Option PlaceTree
-  fits : Fits n (trees_of tree)
-  same : SameRow (trees_of o) (trees_of tree)
+  fits : FillsLists n (root_row tree)
+  same : SameRow (root_row o) (root_row tree)
   root : option_map place_of tree ≡ option_map place_of o
 
-found : (n : Links) → AreLinks n → (o : Option PlaceTree) → AreTreesKept n (trees_of o) → AreFound n o
+found : (n : Links) → AreLinks n → (o : Option PlaceTree) → AreTreesKept n (root_row o) → AreFound n o
 found n ok None kept = record { tree = None; fits = record { stand = tt; each = kept.each }; same = same_refl no_more; root = refl }
 found n ok (Some s) kept =
     let f = to_fits n ok s kept in
@@ -104,7 +104,7 @@ module _ (c : Cotree) (x : ℕ) (can : CanDelete c x) where
       spot = found n ok_n pruned.tree pruned.kept
 
       abbrev row : PlaceTrees
-      row = trees_of spot.tree
+      row = root_row spot.tree
 
       without_named : (v : ℕ) → name_row v row + cond (x == v) 1 0 ≡ name_in v t
       without_named v = let e = spot.same.named v in let f = pruned.without.named v in let g = tree_name t whole site.same v in omega arith
@@ -139,7 +139,7 @@ module _ (c : Cotree) (x : ℕ) (can : CanDelete c x) where
 
       new_kept : IsKeptAs e spot.tree
       new_kept = record {
-        fits = subst (λ z. Fits z row) (sym lists) spot.fits;
+        fits = subst (λ z. FillsLists z row) (sym lists) spot.fits;
         root = root ∙ pruned.root ∙ sym spot.root;
         entries = ap length places ∙ length-set c.places.items x None ∙ kept.entries;
         names = new_names;

@@ -5,7 +5,7 @@ use Rattle.std.specs.FinSet as set
 use Rattle.md_graph.specs.PlainGraph.{PlainGraph, adjacent}
 use Rattle.md_graph.proofs.GraphLemmas.{adjacent_sym}
 use Rattle.md_modules.specs.InducedPaths.{HasInducedPath}
-use Rattle.md_lists.specs.Words.{times}
+use Rattle.md_graph.specs.Linked.{times}
 use Rattle.md_lists.specs.Links.{Links, parent_at, AreLinks}
 use Rattle.md_cotree.specs.PlaceTrees.{PlaceTree, tip, inner, PlaceTrees, no_more, then, place_of, roots, leaves_in, leaves_among, Alternates}
 use Rattle.md_cotree.proofs.Frames.{hit, some_of}

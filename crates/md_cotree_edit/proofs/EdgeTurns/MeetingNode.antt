@@ -2,7 +2,8 @@
 use Rattle.std.proofs.Common.{◌≡◌, ◌≢◌, ◌⊎◌, ℕ, ◌<◌, ◌≤◌, Bool, not, cond, ◌==◌, List, [], ◌∷◌, Some, refl, sym, ◌∙◌, ap, subst, inl, inr, arith}
 use Rattle.std.proofs.lemmas.Bool.{cases_eq, cases_lt, eqb-true}
 use Rattle.std.proofs.lemmas.Option.{same_Some}
-use Rattle.md_lists.specs.Words.{times, holds_once}
+use Rattle.md_lists.specs.Words.{holds_once}
+use Rattle.md_graph.specs.Linked.{times}
 use Rattle.md_lists.specs.Links.{Links, parent_at, AreLinks}
 use Rattle.md_lists.proofs.LinkLaws.{holds-once-same, held}
 use Rattle.md_cotree.specs.PlaceTrees.{PlaceTree, tip, inner, PlaceTrees, no_more, then, place_of, roots, times_in, times_among, leaves_in, leaves_among, IsInner, Alternates}

@@ -1,7 +1,7 @@
 -- A loose node of one child gives its child.
 use Rattle.std.proofs.Common.{◌≡◌, ◌≢◌, ℕ, zero, suc, ◌<◌, ◌≤◌, Bool, true, false, [], length, Some, None, refl, sym, ◌∙◌, ap, subst, inl, inr, arith}
 use Rattle.std.proofs.lemmas.Bool.{cases_eq}
-use Rattle.md_lists.specs.Words.{first_or}
+use Rattle.md_graph.specs.Linked.{first_or}
 use Rattle.md_lists.specs.Links.{Links, parent_at, children_at, IsLive, IsBare, AreLinks, with_kind, detached, spare_count}
 use Rattle.md_lists.proofs.ListLaws.{first_in}
 use Rattle.md_lists.proofs.LinkLaws.{live_within}

@@ -3,7 +3,8 @@ use Rattle.std.proofs.Common.{◌≡◌, ◌≢◌, ℕ, ◌+◌, ◌*◌, ◌<�
 use Rattle.std.proofs.lemmas.Bool.{cases_eq, cases_lt, eq-eqb, ne_eqb}
 use Rattle.std.proofs.lemmas.Option.{none-some, same_Some}
 use Rattle.md_lists.specs.declared.kinds.PlaceKind.{PlaceKind}
-use Rattle.md_lists.specs.Words.{times, holds_once, first_or, behind}
+use Rattle.md_lists.specs.Words.{holds_once, behind}
+use Rattle.md_graph.specs.Linked.{first_or, times}
 use Rattle.md_lists.specs.Links.{Links, kind_at, parent_at, children_at, note_at, IsLive, IsMarked, AreLinks, attached, detached}
 use Rattle.md_lists.proofs.ListLaws.{times-append, times-first, times-other}
 use Rattle.md_lists.proofs.LinkLaws.{held, holds-once-same, child_parent, parent_child, mark_once, detached_parent, detached_links}

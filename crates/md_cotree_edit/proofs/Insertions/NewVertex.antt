@@ -17,11 +17,12 @@ use Rattle.md_graph.proofs.GraphLemmas.{same_graph, adjacent_ends, IsGraph-empty
 use Rattle.md_modules.specs.InducedPaths.{HasInducedPath}
 use Rattle.md_lists.specs.declared.TheConstants.{PLACES}
 use Rattle.md_lists.specs.declared.kinds.PlaceKind.TheVariants.{Leaf}
-use Rattle.md_lists.specs.Words.{times, holds_once}
+use Rattle.md_lists.specs.Words.{holds_once}
+use Rattle.md_graph.specs.Linked.{times}
 use Rattle.md_lists.specs.Links.{Links, kind_at, AreLinks, with_kind, spare_count}
 use Rattle.md_tree.specs.TreeGraph.{graph_of_tree}
 use Rattle.md_cotree.specs.declared.cotree.Cotree.{Cotree}
-use Rattle.md_cotree.specs.PlaceTrees.{PlaceTree, tip, no_more, then, place_of, leaves_in, leaf_count, shape, Fits}
+use Rattle.md_cotree.specs.PlaceTrees.{PlaceTree, tip, no_more, then, place_of, leaves_in, leaf_count, shape, FillsLists}
 use Rattle.md_cotree.specs.Cotrees.{place_at, IsKeptAs, Denotes}
 use Rattle.md_cotree.specs.Forests.{IsForest}
 use Rattle.md_cotree.proofs.Frames.{hit, miss}
@@ -214,7 +215,7 @@ module _ (c : Cotree) (x : ℕ) (ns : List ℕ) (t : PlaceTree) (can : CanGrow c
 
   module _ (d : Cotree) (leaf : ℕ) (placed : d.places.items ≡ set c.places.items x (Some leaf)) (counted : d.leaves ≡ c.leaves + 1) (ok_d : AreLinks d.lists) (unmarked : d.lists.marked ≡ [])
       (taken : IsLinkedIn d.lists d.root (λ v. times v ns) x leaf t) where
-    found : (s : PlaceTree) × Fits d.lists (then s no_more) × SameTree taken.tree s
+    found : (s : PlaceTree) × FillsLists d.lists (then s no_more) × SameTree taken.tree s
     found = to_fits d.lists ok_d taken.tree taken.kept
 
     absent : place_at c x ≡ None

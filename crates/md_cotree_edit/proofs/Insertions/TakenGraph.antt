@@ -13,7 +13,7 @@ use Rattle.md_graph.proofs.GraphLemmas.{adjacent_ends, adjacent_self, adjacent_s
 use Rattle.md_modules.specs.InducedPaths.{HasInducedPath}
 use Rattle.md_modules.proofs.Paths.{path_of_values}
 use Rattle.md_modules.proofs.Turns.{graph_adjacency}
-use Rattle.md_lists.specs.Words.{times}
+use Rattle.md_graph.specs.Linked.{times}
 use Rattle.md_tree.specs.Trees.{names}
 use Rattle.md_cotree.specs.PlaceTrees.{PlaceTree, shape}
 use Rattle.md_cotree.proofs.Frames.{hit, miss}

@@ -3,7 +3,7 @@ use Rattle.std.specs.Prelude.{⊤}
 use Rattle.std.proofs.Common.{◌≡◌, ℕ, zero, suc, ◌+◌, ◌-◌, ◌*◌, ◌<◌, ◌≤◌, min, Bool, true, false, cond, ◌==◌, List, [], ◌∷◌, ◌++◌, length, replicate, refl, sym, ◌∙◌, ap, inl, inr, arith, length-append}
 use Rattle.std.proofs.lemmas.List.{length-replicate}
 use Rattle.std.proofs.lemmas.Bool.{cases_eq, cases_lt}
-use Rattle.md_lists.specs.Words.{times}
+use Rattle.md_graph.specs.Linked.{times}
 use Rattle.md_lists.specs.Links.{Links, AreLinks}
 use Rattle.md_lists.proofs.ListLaws.{times-append, times-split, times-first, split}
 use Rattle.md_cotree.specs.PlaceTrees.{PlaceTree, tip, inner, PlaceTrees, no_more, then, place_of, times_in, times_among, row_length, IsInner, NoneInner, Alternates, AllAlternate}

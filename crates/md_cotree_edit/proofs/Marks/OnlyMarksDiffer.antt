@@ -3,7 +3,8 @@ use Rattle.std.proofs.Common.{◌≡◌, ℕ, cond, [], None, is_some, refl, sym
 use Rattle.std.specs.List.{count_by}
 use Rattle.std.proofs.Common.{get_or, is_none}
 use Rattle.std.proofs.lemmas.Grind.{same_number_lists}
-use Rattle.md_lists.specs.Words.{times, holds_once}
+use Rattle.md_lists.specs.Words.{holds_once}
+use Rattle.md_graph.specs.Linked.{times}
 use Rattle.md_lists.specs.Links.{Links, kind_at, parent_at, tally_at, note_at, AreLinks, spare_count}
 use Rattle.md_cotree.specs.PlaceTrees.{PlaceTrees}
 use Rattle.md_cotree_edit.specs.Counts.{kind_code}

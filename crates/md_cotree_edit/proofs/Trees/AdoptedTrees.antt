@@ -1,6 +1,6 @@
 -- Loose trees that become children of a node.
 use Rattle.std.proofs.Common.{◌≡◌, ◌≢◌, ℕ, Bool, List, length, None, refl, sym, ◌∙◌, ap, subst, arith}
-use Rattle.md_lists.specs.Words.{times}
+use Rattle.md_graph.specs.Linked.{times}
 use Rattle.md_lists.specs.Links.{Links, parent_at, children_at, IsLive, AreLinks, attached}
 use Rattle.md_cotree.specs.PlaceTrees.{PlaceTree, inner, PlaceTrees, then, place_of, roots, row_length, times_in}
 use Rattle.md_cotree.proofs.Rows.{length_roots}

@@ -8,7 +8,7 @@ use Rattle.md_lists.specs.Links.{Links, AreLinks}
 use Rattle.md_tree.specs.Trees.{names}
 use Rattle.md_tree.specs.TreeGraph.{graph_of_tree}
 use Rattle.md_cotree.specs.declared.cotree.Cotree.{Cotree}
-use Rattle.md_cotree.specs.PlaceTrees.{PlaceTree, tip, no_more, then, shape, Fits}
+use Rattle.md_cotree.specs.PlaceTrees.{PlaceTree, tip, no_more, then, shape, FillsLists}
 use Rattle.md_cotree.specs.Cotrees.{IsKeptAs, IsSoundCotree, Denotes, place_at}
 use Rattle.md_cotree_edit.specs.Counts.{name_in, edge_in, crossing}
 use Rattle.md_cotree_edit.specs.Turns.{IsLifted, turned_graph}
@@ -36,7 +36,7 @@ kept_some c g u is h = go is.0 is.1 is.2
 
 module _ (c : Cotree) (t : PlaceTree) (kept : IsKeptAs c (Some t)) (whole : PlaceTree) (same : SameTree t whole) (m : Links) (ok : AreLinks m) (unmarked : m.marked ≡ [])
     (series : Bool) (a b u v : ℕ) (lifted : IsLifted m whole series (crossing (tip a u) (tip b v))) where
-  abbrev found : (s : PlaceTree) × Fits m (then s no_more) × SameTree lifted.tree s
+  abbrev found : (s : PlaceTree) × FillsLists m (then s no_more) × SameTree lifted.tree s
   found = to_fits m ok lifted.tree lifted.kept
 
   abbrev s : PlaceTree

@@ -9,11 +9,11 @@ use Rattle.md_graph.specs.PlainGraph.{PlainGraph, IsGraph, adjacent, neighbours,
 use Rattle.md_graph.proofs.SetLaws.{len-remove}
 use Rattle.md_graph.proofs.SetLemmas.{clash, empty_lacks, same_members, remove_left, of_remove}
 use Rattle.md_graph.proofs.GraphLemmas.{same_graph, adjacent_ends, IsGraph-empty_graph, IsGraph-without_vertex, adjacent-without_vertex, contains-neighbours}
-use Rattle.md_lists.specs.Words.{times}
+use Rattle.md_graph.specs.Linked.{times}
 use Rattle.md_tree.specs.Trees.{names}
 use Rattle.md_tree.specs.TreeGraph.{graph_of_tree}
 use Rattle.md_cotree.specs.PlaceTrees.{PlaceTree, no_more, then, leaf_count, shape}
-use Rattle.md_cotree.specs.Cotrees.{trees_of}
+use Rattle.md_cotree.specs.Cotrees.{root_row}
 use Rattle.md_cotree.proofs.Frames.{hit, miss}
 use Rattle.md_cotree.proofs.TreeGraphs.{some_graph}
 use Rattle.md_cotree_edit.specs.Counts.{name_in, name_row, edge_in, edge_row}
@@ -45,12 +45,12 @@ graph_by_vertices g h is_g is_h vertices pairs = same_graph is_g is_h vertices (
 -- what the graph of a tree, or of none, tells by counts
 record IsCounted (o : Option PlaceTree) : Type 0 where
   graph : IsGraph (graph_of_tree (option_map shape o))
-  has : (v : ℕ) → Has (graph_of_tree (option_map shape o)).vertices v → 0 < name_row v (trees_of o)
-  there : (v : ℕ) → 0 < name_row v (trees_of o) → Has (graph_of_tree (option_map shape o)).vertices v
-  told : (a b : ℕ) → 0 < name_row a (trees_of o) → 0 < name_row b (trees_of o) →
-      edge_row a b (trees_of o) ≡ cond (adjacent (graph_of_tree (option_map shape o)) a b) 1 0
+  has : (v : ℕ) → Has (graph_of_tree (option_map shape o)).vertices v → 0 < name_row v (root_row o)
+  there : (v : ℕ) → 0 < name_row v (root_row o) → Has (graph_of_tree (option_map shape o)).vertices v
+  told : (a b : ℕ) → 0 < name_row a (root_row o) → 0 < name_row b (root_row o) →
+      edge_row a b (root_row o) ≡ cond (adjacent (graph_of_tree (option_map shape o)) a b) 1 0
 
-counted : (o : Option PlaceTree) → ((v : ℕ) → name_row v (trees_of o) ≤ 1) → ((v : ℕ) → 0 < name_row v (trees_of o) → v < NAMES) → IsCounted o
+counted : (o : Option PlaceTree) → ((v : ℕ) → name_row v (root_row o) ≤ 1) → ((v : ℕ) → 0 < name_row v (root_row o) → v < NAMES) → IsCounted o
 counted None once low = record {
   graph = IsGraph-empty_graph;
   has = λ v h. clash h (empty_lacks v);
@@ -73,15 +73,15 @@ and_both : (a b c : Bool) → b ≡ false → c ≡ false → (a && (not b && no
 and_both true b c eb ec = λ i. not (eb i) && not (ec i)
 and_both false b c eb ec = refl
 
-module _ (t : PlaceTree) (is : AreNamed t) (x : ℕ) (o : Option PlaceTree) (named : (v : ℕ) → name_row v (trees_of o) + cond (x == v) 1 0 ≡ name_in v t)
-    (edges : (a b : ℕ) → x ≢ a → x ≢ b → edge_row a b (trees_of o) ≡ edge_in a b t) where
+module _ (t : PlaceTree) (is : AreNamed t) (x : ℕ) (o : Option PlaceTree) (named : (v : ℕ) → name_row v (root_row o) + cond (x == v) 1 0 ≡ name_in v t)
+    (edges : (a b : ℕ) → x ≢ a → x ≢ b → edge_row a b (root_row o) ≡ edge_in a b t) where
   abbrev left : PlainGraph
   left = graph_of_tree (option_map shape o)
 
   is_counted : IsCounted o
   is_counted = counted o (λ v. (let e = named v in let f = is.once v in omega arith)) (λ v some. is.low v (counted_has t v (let e = named v in omega arith)))
 
-  not_x : (v : ℕ) → 0 < name_row v (trees_of o) → x ≢ v
+  not_x : (v : ℕ) → 0 < name_row v (root_row o) → x ≢ v
   not_x v some same = let h = hit x v same in let e = named v in let f = is.once v in omega arith
 
   left_vertices : left.vertices ≡ set.remove (names (shape t)) x

@@ -2,7 +2,8 @@
 use Rattle.std.proofs.Common.{◌≡◌, ℕ, ◌+◌, ◌*◌, ◌<◌, ◌≤◌, Bool, true, false, cond, ◌&&◌, ◌==◌, List, [], ◌∷◌, ◌++◌, length, Option, Some, None, refl, sym, ◌∙◌, ap, subst, inl, inr, arith, length-append}
 use Rattle.std.proofs.lemmas.Bool.{cases_eq, cases_lt, eq-eqb}
 use Rattle.md_graph.specs.declared.TheConstants.{NAMES}
-use Rattle.md_lists.specs.Words.{times, holds_once}
+use Rattle.md_lists.specs.Words.{holds_once}
+use Rattle.md_graph.specs.Linked.{times}
 use Rattle.md_lists.specs.Links.{AreLinks, spare_count}
 use Rattle.md_lists.proofs.ListLaws.{times-append, few}
 use Rattle.md_cotree.specs.declared.cotree.Cotree.{Cotree}

@@ -3,10 +3,11 @@ use Rattle.std.proofs.Common.{◌≡◌, ℕ, ◌+◌, ◌<◌, ◌≤◌, Bool,
 use Rattle.std.proofs.lemmas.Bool.{cases_eq, cases_lt}
 use Rattle.md_lists.specs.declared.kinds.PlaceKind.{PlaceKind}
 use Rattle.md_lists.specs.declared.kinds.PlaceKind.TheVariants.{Leaf, Parallel, Series}
-use Rattle.md_lists.specs.Words.{times, holds_once}
+use Rattle.md_lists.specs.Words.{holds_once}
+use Rattle.md_graph.specs.Linked.{times}
 use Rattle.md_lists.specs.Links.{Links, kind_at, parent_at, children_at, IsLive, AreLinks}
 use Rattle.md_lists.proofs.LinkLaws.{not_alive, holds-once-same, child_parent}
-use Rattle.md_cotree.specs.PlaceTrees.{PlaceTree, tip, inner, PlaceTrees, no_more, then, place_of, roots, place_kind, times_in, times_among, Stands, StandsBelow, Fits}
+use Rattle.md_cotree.specs.PlaceTrees.{PlaceTree, tip, inner, PlaceTrees, no_more, then, place_of, roots, place_kind, times_in, times_among, Stands, StandsBelow, FillsLists}
 use Rattle.md_cotree.proofs.Frames.{hit, miss, root_in}
 use Rattle.md_cotree_edit.specs.Counts.{kind_code, kind_in, kind_row, child_in, child_row}
 use Rattle.md_cotree_edit.specs.Contexts.{AreTreesKept}
@@ -154,7 +155,7 @@ module _ (l : Links) where
           | inr not ↦ let e = kinds_stand ts r p is.2 (omega arith) (omega arith) in let none = kind_none p t (omega arith) in omega arith
         ]
 
-pub from_fits : (l : Links) (t : PlaceTree) → AreLinks l → Fits l (then t no_more) → AreTreesKept l (then t no_more)
+pub from_fits : (l : Links) (t : PlaceTree) → AreLinks l → FillsLists l (then t no_more) → AreTreesKept l (then t no_more)
 from_fits l t ok fits = record {
   each = fits.each;
   kinds = λ p. elim (cases_lt 0 (times_in p t)) [
@@ -254,7 +255,7 @@ module _ (l : Links) (ok : AreLinks l) where
           same_trans (then t ts) (then first.0 ts) (then first.0 rest.0) (same_first t first.0 ts first.2) (same_rest first.0 ts rest.0 rest.2),
         )
 
-  pub to_fits : (t : PlaceTree) → AreTreesKept l (then t no_more) → (s : PlaceTree) × Fits l (then s no_more) × SameTree t s
+  pub to_fits : (t : PlaceTree) → AreTreesKept l (then t no_more) → (s : PlaceTree) × FillsLists l (then s no_more) × SameTree t s
   to_fits t kept =
       let stand = stand_in t (record {
         one = kept_once l (then t no_more) kept;

@@ -2,11 +2,11 @@
 //! graphs of up to five vertices, and on larger ones of many kinds. The slow program also writes
 //! the text of its tree, which is that of the fast one.
 use super::{is_same_set, join};
-use crate::chains::Chain;
 use crate::children::children;
 use crate::decompose;
+use crate::nested_modules::Nested;
 use md_graph::{Graph, Memory, NAMES, Names, WORDS};
-use md_modules::{Block, closure_in};
+use md_modules::{CompactSet, closure_in};
 use md_tree::{Kind, QuotientEdges, text};
 use std::alloc::Global;
 use std::process::Abort;
@@ -106,7 +106,7 @@ fn take_closure(rt: &impl Abort, graph: &Graph, set: &Names, u: u32, v: u32, blo
     let mut closure = Names::none();
     closure_in(graph, &within, u, v, &mut closure);
     if !is_same_set(&closure, set) {
-        block.take_in(&closure);
+        block.union_with(&closure);
     }
 }
 
@@ -175,7 +175,7 @@ fn divide(
         written.push_str(word.as_str())?;
         return Ok(());
     }
-    let mut chain = Chain::none(alloc);
+    let mut chain = Nested::none(alloc);
     let mut places = Vec::new(alloc);
     let (kind, sets, edges) = children(alloc, graph, &within, None, &mut chain, &mut places)?;
     let sets = unpacked(alloc, sets)?;
@@ -187,7 +187,7 @@ fn divide(
     push_sets(alloc, sets, waiting)
 }
 
-fn unpacked(alloc: Global, blocks: Vec<Block<WORDS>>) -> Result<Vec<Names>, Memory> {
+fn unpacked(alloc: Global, blocks: Vec<CompactSet<WORDS>>) -> Result<Vec<Names>, Memory> {
     let mut sets = Vec::new(alloc);
     for block in blocks {
         let mut room = None;

@@ -1,13 +1,13 @@
 use Rattle.std.proofs.Common.{◌∷◌, ◌<◌, ◌∙◌, length, ap, sym, subst}
 use Rattle.std.specs.List.{All}
 use Rattle.md_text.specs.Pieces.{piece_text}
-use Rattle.md_orientation.specs.Listed.{arcs_below}
+use Rattle.md_comparability.specs.Listed.{arcs_below}
 use Rattle.md_report.specs.Lines.{arcs_text}
 use Rattle.md_checker.proofs.ArcTexts.{arcs_begin, arcs_on, heads_there}
 use Rattle.md_checker.proofs.arc_text.past_arcs.Goals as goal
 
 pub loop-tail-init : goal.loop-tail-init
-loop-tail-init c = arcs_begin c.args.set.now c.args.text.now c.new-chunk.result c.new-chunk.ensures
+loop-tail-init c = arcs_begin c.args.set.now c.args.text.now c.new-chunk.result c.new-chunk.ensures.value
 
 pub past_each-requires : goal.past_each-requires
 past_each-requires c =

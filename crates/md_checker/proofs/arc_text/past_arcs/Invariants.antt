@@ -1,4 +1,4 @@
-use Rattle.md_orientation.specs.Listed.{arcs_below}
+use Rattle.md_comparability.specs.Listed.{arcs_below}
 use Rattle.md_report.specs.Lines.{arcs_text}
 use Rattle.md_checker.specs.Gathered.{Matches}
 use Rattle.md_checker.proofs.arc_text.past_arcs.Given as goal

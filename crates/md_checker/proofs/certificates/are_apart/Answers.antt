@@ -7,12 +7,12 @@ returns-then-u-v c = apart_self c.vertices-vertices.ensures.graph c.args.u c.arg
 
 pub returns-then-has_edge : goal.returns-then-has_edge
 returns-then-has_edge c =
-    apart_edge c.vertices-vertices.ensures.graph c.args.u c.args.v c.if-u-v.false (sym c.has_edge.ensures ∙ c.if-has_edge.true)
+    apart_edge c.vertices-vertices.ensures.graph c.args.u c.args.v c.if-u-v.false (sym c.has_edge.ensures.value ∙ c.if-has_edge.true)
 
 pub returns-then-has_vertex : goal.returns-then-has_vertex
 returns-then-has_vertex c =
-    apart_both c.vertices-vertices.ensures.graph c.args.u c.args.v c.if-u-v.false (sym c.has_edge.ensures ∙ c.if-has_edge.false) (sym c.has_vertex.ensures ∙ c.if-has_vertex.true) _ c.has_vertex-then-has_vertex.ensures
+    apart_both c.vertices-vertices.ensures.graph c.args.u c.args.v c.if-u-v.false (sym c.has_edge.ensures.value ∙ c.if-has_edge.false) (sym c.has_vertex.ensures.value ∙ c.if-has_vertex.true) _ c.has_vertex-then-has_vertex.ensures.value
 
 pub returns-else-has_vertex : goal.returns-else-has_vertex
 returns-else-has_vertex c =
-    c.if-has_vertex.false ∙ apart_none c.vertices-vertices.ensures.graph c.args.u c.args.v c.if-u-v.false (sym c.has_vertex.ensures ∙ c.if-has_vertex.false)
+    c.if-has_vertex.false ∙ apart_none c.vertices-vertices.ensures.graph c.args.u c.args.v c.if-u-v.false (sym c.has_vertex.ensures.value ∙ c.if-has_vertex.false)

@@ -1,5 +1,5 @@
 use Rattle.std.proofs.Common.{sym, arith, take}
-use Rattle.md_orientation.proofs.Listing.{arcs_none, arcs_more}
+use Rattle.md_comparability.proofs.Listing.{arcs_none, arcs_more}
 use Rattle.md_checker.proofs.Ordering.{refused}
 use Rattle.md_checker.proofs.InStep.{row_missing}
 use Rattle.md_checker.proofs.certificates.are_listed.Goals as goal

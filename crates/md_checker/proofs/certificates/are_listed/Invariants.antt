@@ -1,5 +1,5 @@
 use Rattle.std.proofs.Common.{◌≡◌, ◌≤◌, take, length}
-use Rattle.md_orientation.specs.Listed.{arcs_below}
+use Rattle.md_comparability.specs.Listed.{arcs_below}
 use Rattle.md_checker.proofs.certificates.are_listed.Given as goal
 
 abbrev pub invariant-loop-tail : goal.invariant-loop-tail

@@ -1,5 +1,5 @@
 use Rattle.std.proofs.Common.{◌≤◌, take, length}
-use Rattle.md_orientation.proofs.Listing.{RowListed}
+use Rattle.md_comparability.proofs.Listing.{RowListed}
 use Rattle.md_checker.proofs.certificates.behind_row.Given as goal
 
 abbrev pub invariant-loop-head : goal.invariant-loop-head

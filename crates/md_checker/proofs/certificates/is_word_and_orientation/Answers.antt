@@ -1,8 +1,8 @@
 use Rattle.std.proofs.Common.{◌++◌, length, refl, subst, eqb-true, eq-eqb, ◌∙◌, ap}
 use Rattle.std.proofs.lemmas.Slice.Eq.{strip_prefix_is}
 use Rattle.md_graph.specs.PlainGraph.{adjacent}
-use Rattle.md_orientation.specs.Listed.{arcs_below}
-use Rattle.md_orientation.specs.Walking.{IsEnding, HasRoom}
+use Rattle.md_comparability.specs.Listed.{arcs_below}
+use Rattle.md_comparability.specs.Walking.{IsClassOrChosen, HasRoom}
 use Rattle.md_tree.proofs.Stacking.{if_ok}
 use Rattle.md_checker.proofs.ArcTexts.{chosen_within}
 use Rattle.md_checker.proofs.InStep.{whole_listed}
@@ -10,7 +10,7 @@ use Rattle.md_checker.proofs.certificates.is_word_and_orientation.Goals as goal
 
 pub spells_arcs-requires : goal.spells_arcs-requires
 spells_arcs-requires c =
-    chosen_within c.vertices-vertices.ensures.graph c.in-Whole.chosen (subst (IsEnding (adjacent c.args.graph.now)) c.in-Whole.is c.in_ok-walk.ensures.ending) (subst (HasRoom c.args.graph.now.vertices) c.in-Whole.is c.in_ok-walk.ensures.room)
+    chosen_within c.vertices-vertices.ensures.graph c.in-Whole.chosen (subst (IsClassOrChosen (adjacent c.args.graph.now)) c.in-Whole.is c.in_ok-orient_classes.ensures.ending) (subst (HasRoom c.args.graph.now.vertices) c.in-Whole.is c.in_ok-orient_classes.ensures.room)
 
 pub returns : goal.returns
 returns c =
@@ -19,5 +19,5 @@ returns c =
     let is = c.in-Some.is in
     let cut = rw is at p in
     let all = arcs_below chosen (length chosen) in
-    let least = (whole_listed c.vertices-vertices.ensures.graph chosen (subst (IsEnding (adjacent c.args.graph.now)) c.in-Whole.is c.in_ok-walk.ensures.ending) all).0 refl in
+    let least = (whole_listed c.vertices-vertices.ensures.graph chosen (subst (IsClassOrChosen (adjacent c.args.graph.now)) c.in-Whole.is c.in_ok-orient_classes.ensures.ending) all).0 refl in
     if_ok c.spells_arcs.result (λ is spelled yes. (all, least.0, least.1, cut ∙ ap (λ l. c.args.word.now ++ l) (spelled yes))) c.spells_arcs.ensures

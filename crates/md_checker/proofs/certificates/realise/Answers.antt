@@ -2,7 +2,7 @@ use Rattle.std.proofs.Common.{◌≡◌, ◌↔◌, ℕ, ◌∙◌, sym, subst}
 use Rattle.md_graph.specs.Sets.{Has}
 use Rattle.md_graph.specs.Rows.{row_of}
 use Rattle.md_graph.specs.PlainGraph.{adjacent, neighbours}
-use Rattle.md_orientation.specs.Orders.{IsOrder, Realise}
+use Rattle.md_comparability.specs.Orders.{IsOrder, Realise}
 use Rattle.md_checker.proofs.Ordering.{agreed}
 use Rattle.md_checker.proofs.Flipping.{written_back, flipped_along, realised_by_rows}
 use Rattle.md_checker.proofs.certificates.realise.Goals as goal

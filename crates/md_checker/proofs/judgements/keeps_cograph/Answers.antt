@@ -1,5 +1,5 @@
 use Rattle.std.proofs.Common.{sym, subst}
-use Rattle.md_report.specs.Made.{Shows}
+use Rattle.md_report.specs.Made.{HasChange}
 use Rattle.md_report.proofs.MadePaths.{shown}
 use Rattle.md_checker.proofs.Applying.{path_made, none_made}
 use Rattle.md_script.specs.TakenBack.{Led}
@@ -7,7 +7,7 @@ use Rattle.md_script.proofs.BackLemmas.{led}
 use Rattle.md_checker.proofs.judgements.keeps_cograph.Goals as goal
 
 pub made_p4-requires : goal.made_p4-requires
-made_p4-requires c = subst (λ h. Shows h c.args.edit.now) (sym c.apply.ensures) (shown c.args.graph.now c.args.edit.now c.requires.applies)
+made_p4-requires c = subst (λ h. HasChange h c.args.edit.now) (sym c.apply.ensures) (shown c.args.graph.now c.args.edit.now c.requires.applies)
 
 pub take_back-requires : goal.take_back-requires
 take_back-requires c =

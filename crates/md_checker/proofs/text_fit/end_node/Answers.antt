@@ -16,7 +16,7 @@ past_end-requires g c =
     let few = few_heads c.requires.1 in
     let size = ap length sub ∙ length-drop first c.args.walk.now.heads.items in (
       search rules,
-      (search rules, (inside_heads c.requires.1 _ sub (subst Ascends (other ∙ sym sub) (c.ascends.ensures.0 yes)), omega arith)),
+      (search rules, (inside_heads c.requires.1 _ sub (subst Ascends (other ∙ sym sub) (c.ascends.ensures.exactly.0 yes)), omega arith)),
     )
 
 pub returns : goal.returns
@@ -33,7 +33,7 @@ returns g c bytes r =
     let s = c.in_ok-close.ensures in (
       subst (λ o. IsReadBy c.args.graph.now bytes c.in-Some.tail.now true new.sets.items new.heads.items new.kinds.items o new.seen) (sym s.opens)
           (subst (λ n. IsReadBy c.args.graph.now bytes c.in-Some.tail.now true new.sets.items new.heads.items new.kinds.items c.args.walk.now.opens.items n) (sym s.seen)
-          (read_end r c.vertices-vertices.ensures.graph q.0 _ sub (subst Ascends (other ∙ sym sub) (c.ascends.ensures.0 up)) _ (take_rest c.deref.result.now first ∙ ap (drop first) c.deref.ensures.value) (c.may_have.ensures may)
+          (read_end r c.vertices-vertices.ensures.graph q.0 _ sub (subst Ascends (other ∙ sym sub) (c.ascends.ensures.exactly.0 up)) _ (take_rest c.deref.result.now first ∙ ap (drop first) c.deref.ensures.value) (c.may_have.ensures may)
           c.union_of-names.result _ c.union_of-names.ensures (take_rest c.deref-3.result.now first ∙ ap (drop first) c.deref-3.ensures.value) q.1 q.2
           c.in-Some.tail.now new.sets.items new.heads.items new.kinds.items q.3 s.sets s.heads s.kinds)),
       end_shorter _ _ q.0 q.3,

@@ -6,7 +6,7 @@ use Rattle.md_checker.proofs.text_fit.is_text_of_tree.Goals as goal
 
 pub loop-behind-init : goal.loop-behind-init
 loop-behind-init g c =
-    read_start c.args.graph.now c.args.text.now c.in_ok-sets.sets.items c.in_ok-heads.heads.items c.in_ok-kinds.kinds.items c.new.result.items c.none.result c.in_ok-sets.ensures.items c.in_ok-heads.ensures.items c.in_ok-kinds.ensures.items c.new.ensures.items c.none.ensures
+    read_start c.args.graph.now c.args.text.now c.in_ok-sets.sets.items c.in_ok-heads.heads.items c.in_ok-kinds.kinds.items c.new.result.items c.none.result c.in_ok-sets.ensures.items c.in_ok-heads.ensures.items c.in_ok-kinds.ensures.items c.new.ensures.items c.none.ensures.value
 
 pub loop-behind-smaller : goal.loop-behind-smaller
 loop-behind-smaller g c =

@@ -20,7 +20,7 @@ returns g c =
     let listed = rw is at some in
     let text = c.in_ok-tail.ensures.text in
     let spelled = rw is at text in
-    let others = c.minus-others.ensures ∙ ap (λ s. difference s c.args.names.now) c.vertices.ensures.set in (
+    let others = c.minus-others.ensures.value ∙ ap (λ s. difference s c.args.names.now) c.vertices.ensures.set in (
       head_pairs (adjacent c.args.graph.now) 0 c.args.heads.now,
       heads_listed (adjacent c.args.graph.now) c.args.heads.now listed,
       record {

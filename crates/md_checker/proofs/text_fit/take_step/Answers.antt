@@ -20,5 +20,5 @@ pub returns-in-Some-split_letter : goal.returns-in-Some-split_letter
 returns-in-Some-split_letter g c =
     if_ok c.begin_node.result
     (λ o each. if_some o
-    (λ p on bytes r. on c.args.graph.now bytes c.args.text.now c.in-Some-split_letter.ensures (subst (λ b. IsRead c.args.graph.now bytes c.args.text.now b c.args.walk.now) c.if-behind.false r)) each)
+    (λ p on bytes r. on c.args.graph.now bytes c.args.text.now c.in-Some-split_letter.ensures.split (subst (λ b. IsRead c.args.graph.now bytes c.args.text.now b c.args.walk.now) c.if-behind.false r)) each)
     c.begin_node.ensures

@@ -27,7 +27,7 @@ loop-at-preserved g c =
     let so = c.loop-at.invariant.later ∙ ap (λ k. name_set (drop k c.args.list.now)) next in
     record {
       within = (let a = below in omega arith);
-      later = later_more list (c.loop-at.at - 1) c.loop-at.at c.loop-at.later c.insert.new.self below next c.loop-at.invariant.later c.insert.ensures;
+      later = later_more list (c.loop-at.at - 1) c.loop-at.at c.loop-at.later c.insert.new.self below next c.loop-at.invariant.later c.insert.ensures.changed;
       joined = joined_more (c.loop-at.at - 1) c.loop-at.at c.args.graph.now list rows next c.loop-at.invariant.joined
           (agreed_at c.row.ensures.graph list rows (c.loop-at.at - 1) below c.loop-at.later c.row.result.now c.index-rows-at.result so c.row.ensures.set is_row (c.agree.ensures.0 c.if-not-agree.false));
     }

@@ -15,7 +15,7 @@ has_trivial_modules_alone-requires g c =
 
 pub returns : goal.returns
 returns g c =
-    let others = c.minus-others.ensures ∙ ap (λ s. difference s c.args.names.now) c.vertices.ensures.set in
+    let others = c.minus-others.ensures.value ∙ ap (λ s. difference s c.args.names.now) c.vertices.ensures.set in
     if_ok c.has_trivial_modules_alone.result
     (λ fit same. (
       λ t. record {

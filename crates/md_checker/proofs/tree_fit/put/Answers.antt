@@ -8,7 +8,7 @@ use Rattle.md_checker.proofs.tree_fit.put.Goals as goal
 
 pub put_node-requires : goal.put_node-requires
 put_node-requires g c =
-    let is = node_part_is c.args.node.now c.in-Node.kind c.in-Node.children c.in-Node.edges c.len.result c.deref.result.now c.in-Node.is c.len.ensures c.deref.ensures.value in
+    let is = node_part_is c.args.node.now c.in-Node.kind c.in-Node.children c.in-Node.edges c.len.result c.deref.result.now c.in-Node.is c.len.ensures.value c.deref.ensures.value in
     (search rules, (search rules, (c.requires.0, subst (λ p. MayPut c.args.graph.now c.args.sets.now.items c.args.heads.now.items p c.requires.0) is c.requires.1)))
 
 pub returns-in-Leaf : goal.returns-in-Leaf
@@ -20,7 +20,7 @@ returns-in-Leaf g c =
 
 pub returns-in-Node : goal.returns-in-Node
 returns-in-Node g c =
-    let is = node_part_is c.args.node.now c.in-Node.kind c.in-Node.children c.in-Node.edges c.len.result c.deref.result.now c.in-Node.is c.len.ensures c.deref.ensures.value in
+    let is = node_part_is c.args.node.now c.in-Node.kind c.in-Node.children c.in-Node.edges c.len.result c.deref.result.now c.in-Node.is c.len.ensures.value c.deref.ensures.value in
     if_ok c.put_node.result
     (λ fit tested. subst (λ p. (ts : List PlainTree) → MayPut c.args.graph.now c.args.sets.now.items c.args.heads.now.items p ts → IsTested c.args.graph.now fit c.put_node.new.sets.items c.put_node.new.heads.items (with_part p ts)) (sym is) tested)
     c.put_node.ensures

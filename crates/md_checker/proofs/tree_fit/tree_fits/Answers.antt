@@ -41,4 +41,4 @@ pub returns : goal.returns
 returns g c =
     walk_end _ c.vertices-vertices.ensures.graph c.requires.1
     (ap (map (λ r. part_of (plain_at r))) (nil_from_length c.loop-node.nodes.items (sym c.loop-node.nodes.ok.0 ∙ c.in_default.ensures.cases.0))) c.loop-node.invariant
-    c.set_in.result.now (c.in-Some-pop.ensures.items ∙ ap (λ m. c.pop-2.new.self.items ++ m ∷ []) (sym c.set_in.ensures)) c.vertices-vertices.result.now c.vertices-vertices.ensures.set c.is_same.result c.is_same.ensures
+    c.set_in.result.now (c.in-Some-pop.ensures.items ∙ ap (λ m. c.pop-2.new.self.items ++ m ∷ []) (sym c.set_in.ensures.value)) c.vertices-vertices.result.now c.vertices-vertices.ensures.set c.is_same.result c.is_same.ensures.exactly

@@ -13,8 +13,8 @@ depth-right-requires-clause-way g c =
     let m = c.requires.ways.1 in
     (_, m.root, way_right c.args.lists.now c.args.p c.args.q c.requires.ways.0 m, m.no_parent, m.right_few)
 
-pub climbed-a-requires-clause-way : goal.climbed-a-requires-clause-way
-climbed-a-requires-clause-way g c =
+pub ancestor-a-requires-clause-way : goal.ancestor-a-requires-clause-way
+ancestor-a-requires-clause-way g c =
     let b = c.requires.ways.0 in
     let m = c.requires.ways.1 in
     let at = level c.args.lists.now c.args.p c.args.q c.depth-left.result c.depth-right.result (c.depth-left.result - c.depth-right.result) (c.depth-right.result - c.depth-left.result) b m
@@ -22,8 +22,8 @@ climbed-a-requires-clause-way g c =
     (c.depth-right.ensures.depth _ m.root (way_right c.args.lists.now c.args.p c.args.q b m) m.no_parent) refl refl in
     (at.left, subst (λ n. Climbs c.args.lists.now n c.args.p at.left) (sym c.saturating_sub.ensures) at.from_left)
 
-pub climbed-b-requires-clause-way : goal.climbed-b-requires-clause-way
-climbed-b-requires-clause-way g c =
+pub ancestor-b-requires-clause-way : goal.ancestor-b-requires-clause-way
+ancestor-b-requires-clause-way g c =
     let b = c.requires.ways.0 in
     let m = c.requires.ways.1 in
     let at = level c.args.lists.now c.args.p c.args.q c.depth-left.result c.depth-right.result (c.depth-left.result - c.depth-right.result) (c.depth-right.result - c.depth-left.result) b m
@@ -40,7 +40,7 @@ meet_at_series-requires-clause-ways g c =
     (c.depth-right.ensures.depth _ m.root (way_right c.args.lists.now c.args.p c.args.q b m) m.no_parent) c.saturating_sub.ensures c.saturating_sub-2.ensures in (
       at.steps,
       b,
-      meet_from c.args.lists.now at.left c.climbed-a.result at.right c.climbed-b.result at.steps b (c.climbed-a.ensures at.left at.from_left) (c.climbed-b.ensures at.right at.from_right) at.meet,
+      meet_from c.args.lists.now at.left c.ancestor-a.result at.right c.ancestor-b.result at.steps b (c.ancestor-a.ensures at.left at.from_left) (c.ancestor-b.ensures at.right at.from_right) at.meet,
       at.few,
     )
 
@@ -50,4 +50,4 @@ returns g c b m =
     (c.depth-left.ensures.depth _ m.root (way_left c.args.lists.now c.args.p c.args.q b m) m.no_parent)
     (c.depth-right.ensures.depth _ m.root (way_right c.args.lists.now c.args.p c.args.q b m) m.no_parent) c.saturating_sub.ensures c.saturating_sub-2.ensures in
     c.meet_at_series.ensures at.steps b
-    (meet_from c.args.lists.now at.left c.climbed-a.result at.right c.climbed-b.result at.steps b (c.climbed-a.ensures at.left at.from_left) (c.climbed-b.ensures at.right at.from_right) at.meet)
+    (meet_from c.args.lists.now at.left c.ancestor-a.result at.right c.ancestor-b.result at.steps b (c.ancestor-a.ensures at.left at.from_left) (c.ancestor-b.ensures at.right at.from_right) at.meet)

@@ -1,4 +1,4 @@
 use Rattle.md_cotree.proofs.planting.from_tree.Given as goal
 
-abbrev pub ghosts-planted : goal.ghosts-planted
-ghosts-planted a = record { name = a.blank.name; parts = a.blank.parts }
+abbrev pub ghosts-cotree_of_tree : goal.ghosts-cotree_of_tree
+ghosts-cotree_of_tree a = record { name = a.blank.name; parts = a.blank.parts }

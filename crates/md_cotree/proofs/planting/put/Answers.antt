@@ -17,7 +17,7 @@ put_leaf-requires g c =
 pub put_node-requires : goal.put_node-requires
 put_node-requires g c =
     let ts = c.requires.forest.0 in
-    let cut = node_split c.args.cotree.now c.args.node.now c.in-Node.kind c.in-Node.children c.in-Node.field-2 c.in-Node.is c.len.result c.len.ensures ts c.requires.forest.3 in
+    let cut = node_split c.args.cotree.now c.args.node.now c.in-Node.kind c.in-Node.children c.in-Node.field-2 c.in-Node.is c.len.result c.len.ensures.value ts c.requires.forest.3 in
     record {
       forest = (
         cut.before,
@@ -26,7 +26,7 @@ put_node-requires g c =
         cut.count,
         subst (λ us. node_counts us < PLACES) cut.whole c.requires.forest.2,
       );
-      kind = (node_ready c.args.cotree.now c.args.node.now c.in-Node.kind c.in-Node.children c.in-Node.field-2 c.in-Node.is c.len.result c.len.ensures c.requires.ready).0;
+      kind = (node_ready c.args.cotree.now c.args.node.now c.in-Node.kind c.in-Node.children c.in-Node.field-2 c.in-Node.is c.len.result c.len.ensures.value c.requires.ready).0;
     }
 
 pub returns-in-Leaf : goal.returns-in-Leaf
@@ -37,10 +37,10 @@ pub returns-in-Node : goal.returns-in-Node
 returns-in-Node g c =
     if_ok c.put_node.result
     (λ x made ts forest has.
-    let cut = node_split c.args.cotree.now c.args.node.now c.in-Node.kind c.in-Node.children c.in-Node.field-2 c.in-Node.is c.len.result c.len.ensures ts has in (
+    let cut = node_split c.args.cotree.now c.args.node.now c.in-Node.kind c.in-Node.children c.in-Node.field-2 c.in-Node.is c.len.result c.len.ensures.value ts has in (
       _,
       made.3 cut.before cut.after (subst (IsForest c.args.cotree.now c.args.stack.now.items) cut.whole forest) cut.count,
-      node_put c.args.cotree.now c.args.node.now c.in-Node.kind c.in-Node.children c.in-Node.field-2 c.in-Node.is c.len.result c.len.ensures made.1 made.0 cut.before cut.after made.2 c.requires.ready cut.count
+      node_put c.args.cotree.now c.args.node.now c.in-Node.kind c.in-Node.children c.in-Node.field-2 c.in-Node.is c.len.result c.len.ensures.value made.1 made.0 cut.before cut.after made.2 c.requires.ready cut.count
           ∙ ap (λ us. with_part (part_of (plain c.args.node.now)) (shape_list us)) (sym cut.whole),
     ))
     c.put_node.ensures

@@ -1,6 +1,6 @@
 use Rattle.std.proofs.Common.{◌<◌, ◌∷◌, [], ◌++◌, sym, ap, subst, inl, inr, arith, append-nil}
 use Rattle.std.proofs.lemmas.Bool.{cases_eq}
-use Rattle.md_lists.specs.Words.{times}
+use Rattle.md_graph.specs.Linked.{times}
 use Rattle.md_lists.proofs.LinkLaws.{mark_once, few_marked}
 use Rattle.md_cotree_edit.proofs.Climbs.LowestHasNoNote.{are_noted}
 use Rattle.md_cotree_edit.proofs.Climbs.WalkedList.{IsPassing, pass_marked, pass_more, pass_end, room_left, room_less, marked_live, noted_more, length_more}

@@ -1,5 +1,5 @@
 use Rattle.std.proofs.Common.{ℕ, ◌+◌, ◌*◌, ◌<◌, ◌≤◌, List, length}
-use Rattle.md_lists.specs.Words.{times}
+use Rattle.md_graph.specs.Linked.{times}
 use Rattle.md_lists.specs.Links.{note_at}
 use Rattle.md_cotree_edit.proofs.Climbs.WalkedList.{IsPassing, room_left}
 use Rattle.md_cotree_edit.proofs.climbing.lowest.Given as goal

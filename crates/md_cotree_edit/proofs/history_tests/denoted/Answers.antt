@@ -14,5 +14,5 @@ returns c =
     let is = cotree_graph c.args.cotree.now g (o, c.requires.1, refl) in (
       o,
       c.requires.1,
-      sym (graph_proof g is (plain_option c.in_ok-tree.tree) (c.in_ok-tree.ensures.tree g (o, c.requires.1, refl))) ∙ sym c.graph_of.ensures,
+      sym (graph_proof g is (plain_option c.in_ok-tree.tree) (c.in_ok-tree.ensures.tree g (o, c.requires.1, refl))) ∙ sym c.graph_of.ensures.graph,
     )

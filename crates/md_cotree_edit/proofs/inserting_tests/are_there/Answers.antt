@@ -10,7 +10,7 @@ loop-name-init c = All-nil (Has c.args.graph.now.vertices)
 
 pub loop-name-preserved : goal.loop-name-preserved
 loop-name-preserved c =
-    All-more (Has c.args.graph.now.vertices) c.args.names.now c.loop-name.name-index 0 c.loop-name-test.true c.loop-name.invariant (sym c.has_vertex.ensures ∙ c.if-not-has_vertex.false)
+    All-more (Has c.args.graph.now.vertices) c.args.names.now c.loop-name.name-index 0 c.loop-name-test.true c.loop-name.invariant (sym c.has_vertex.ensures.value ∙ c.if-not-has_vertex.false)
 
 pub returns : goal.returns
 returns c = λ yes. subst (All (Has c.args.graph.now.vertices)) (take_all c.loop-name.name-index c.args.names.now c.loop-name-test.false) c.loop-name.invariant

@@ -7,7 +7,7 @@ add_vertex-requires g c = (
   c.args.graph.now,
   c.requires.denotes,
   c.if-x-ge-NAMES.false,
-  sym c.has_vertex.ensures ∙ c.if-has_vertex.false,
+  sym c.has_vertex.ensures.value ∙ c.if-has_vertex.false,
   c.are_there.ensures c.if-not-are_there.false,
   c.ascend.ensures c.if-not-ascend.false,
 )

@@ -1,6 +1,6 @@
 use Rattle.std.proofs.Common.{refl, subst, arith}
 use Rattle.std.specs.Prelude.{IfSome}
-use Rattle.md_lists.specs.Words.{times}
+use Rattle.md_graph.specs.Linked.{times}
 use Rattle.md_cotree_edit.specs.Marks.{IsLinkedIn}
 use Rattle.md_cotree_edit.proofs.Marks.OnlyMarksDiffer.{still_trans}
 use Rattle.md_cotree_edit.proofs.Insertions.NewVertex.{decided_none, grow_marks, grow_view, grow_take, grow_fits, grow_none, grow_bound, grow_same, marked_room, grown}

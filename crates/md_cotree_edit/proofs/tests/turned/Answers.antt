@@ -6,10 +6,10 @@ pub del_edge-requires : goal.del_edge-requires
 del_edge-requires g c = (
   c.args.graph.now,
   c.requires.denotes,
-  sym c.has_vertex.ensures ∙ c.if-not-has_vertex.false,
-  sym c.has_vertex-else-not-has_vertex.ensures ∙ c.if-not-has_vertex-2.false,
+  sym c.has_vertex.ensures.value ∙ c.if-not-has_vertex.false,
+  sym c.has_vertex-else-not-has_vertex.ensures.value ∙ c.if-not-has_vertex-2.false,
   c.if-u-v.false,
-  sym c.has_edge.ensures ∙ c.if-has_edge.true,
+  sym c.has_edge.ensures.value ∙ c.if-has_edge.true,
 )
 
 pub returns-then-has_edge : goal.returns-then-has_edge
@@ -20,10 +20,10 @@ pub add_edge-requires : goal.add_edge-requires
 add_edge-requires g c = (
   c.args.graph.now,
   c.requires.denotes,
-  sym c.has_vertex.ensures ∙ c.if-not-has_vertex.false,
-  sym c.has_vertex-else-not-has_vertex.ensures ∙ c.if-not-has_vertex-2.false,
+  sym c.has_vertex.ensures.value ∙ c.if-not-has_vertex.false,
+  sym c.has_vertex-else-not-has_vertex.ensures.value ∙ c.if-not-has_vertex-2.false,
   c.if-u-v.false,
-  sym c.has_edge.ensures ∙ c.if-has_edge.false,
+  sym c.has_edge.ensures.value ∙ c.if-has_edge.false,
 )
 
 pub returns : goal.returns

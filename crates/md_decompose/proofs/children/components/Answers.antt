@@ -5,7 +5,7 @@ use Rattle.md_decompose.proofs.children.components.Goals as goal
 pub returns-then-is_none : goal.returns-then-is_none
 returns-then-is_none g c =
     whole_unsplit c.requires.graph c.args.set.now c.component_at-first.result _ c.args.value c.in-Some.v c.component_at-first.ensures refl
-    ((rest_test c.args.set.now c.component_at-first.result c.first_told_apart.result c.is_none.result c.first_told_apart.ensures.found c.first_told_apart.ensures.none c.is_none.ensures).0 c.if-is_none.true)
+    ((rest_test c.args.set.now c.component_at-first.result c.first_in_symmetric_difference.result c.is_none.result c.first_in_symmetric_difference.ensures.found c.first_in_symmetric_difference.ensures.none c.is_none.ensures).0 c.if-is_none.true)
 
 pub component_list-requires : goal.component_list-requires
 component_list-requires g c = (
@@ -20,7 +20,7 @@ component_list-requires g c = (
           c.requires.inside,
           (
             part_splits c.args.set.now c.component_at-first.result _ c.args.value c.in-Some.v c.component_at-first.ensures refl
-                (λ none. true≢false (sym ((rest_test c.args.set.now c.component_at-first.result c.first_told_apart.result c.is_none.result c.first_told_apart.ensures.found c.first_told_apart.ensures.none c.is_none.ensures).1 none) ∙ c.if-is_none.false)),
+                (λ none. true≢false (sym ((rest_test c.args.set.now c.component_at-first.result c.first_in_symmetric_difference.result c.is_none.result c.first_in_symmetric_difference.ensures.found c.first_in_symmetric_difference.ensures.none c.is_none.ensures).1 none) ∙ c.if-is_none.false)),
             (c.in-Some.v, c.in-Some.ensures.found, c.component_at-first.ensures),
           ),
         ),
@@ -32,6 +32,6 @@ component_list-requires g c = (
 pub returns : goal.returns
 returns g c = (
   part_splits c.args.set.now c.component_at-first.result _ c.args.value c.in-Some.v c.component_at-first.ensures refl
-      (λ none. true≢false (sym ((rest_test c.args.set.now c.component_at-first.result c.first_told_apart.result c.is_none.result c.first_told_apart.ensures.found c.first_told_apart.ensures.none c.is_none.ensures).1 none) ∙ c.if-is_none.false)),
+      (λ none. true≢false (sym ((rest_test c.args.set.now c.component_at-first.result c.first_in_symmetric_difference.result c.is_none.result c.first_in_symmetric_difference.ensures.found c.first_in_symmetric_difference.ensures.none c.is_none.ensures).1 none) ∙ c.if-is_none.false)),
   c.in_ok-component_list.ensures,
 )

@@ -18,10 +18,10 @@ pub returns-clause-well_formed : goal.returns-clause-well_formed
 returns-clause-well_formed g c =
     let is = c.in_ok-parts.ensures in
     well_formed_proof (adjacent c.args.graph.now) (graph_adjacency c.vertices-vertices.ensures.graph) c.args.graph.now.vertices (Some (plain c.in_ok-build.field-0))
-    (subst (IsTreeOf (adjacent c.args.graph.now) c.args.graph.now.vertices) (sym (c.in_ok-build.ensures is.0 is.2)) is.1) c.vertices-vertices.ensures.graph.names
+    (subst (IsTreeOf (adjacent c.args.graph.now) c.args.graph.now.vertices) (sym (c.in_ok-build.ensures.tree is.0 is.2)) is.1) c.vertices-vertices.ensures.graph.names
 
 pub returns-clause-denotes : goal.returns-clause-denotes
 returns-clause-denotes g c =
     let is = c.in_ok-parts.ensures in
     graph_proof c.args.graph.now c.vertices-vertices.ensures.graph (Some (plain c.in_ok-build.field-0))
-    (subst (IsTreeOf (adjacent c.args.graph.now) c.args.graph.now.vertices) (sym (c.in_ok-build.ensures is.0 is.2)) is.1)
+    (subst (IsTreeOf (adjacent c.args.graph.now) c.args.graph.now.vertices) (sym (c.in_ok-build.ensures.tree is.0 is.2)) is.1)

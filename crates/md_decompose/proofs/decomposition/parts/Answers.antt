@@ -9,10 +9,10 @@ use Rattle.md_decompose.proofs.decomposition.parts.Goals as goal
 pub loop-next-init : goal.loop-next-init
 loop-next-init g c =
     let names = c.in_ok-whole.whole in
-    let whole = c.opened.result in
-    let is = c.opened.ensures in
+    let whole = c.open_set.result in
+    let is = c.open_set.ensures in
     opened_begin (graph_adjacency c.vertices-vertices.ensures.graph) c.args.graph.now.vertices whole c.push.new.self.items
-    (map plain_part c.in_ok-parts.parts.items) c.requires (opened_names names None c.none.result whole is ∙ c.in_ok-whole.ensures ∙ c.vertices-vertices.ensures.set)
+    (map plain_part c.in_ok-parts.parts.items) c.requires (opened_names names None c.none.result whole is ∙ c.in_ok-whole.ensures.made ∙ c.vertices-vertices.ensures.set)
     (opened_below names None c.none.result whole is) (opened_bare names None c.none.result whole c.none.ensures.taken c.none.ensures.steps is)
     (c.in_ok-push.ensures.items ∙ ap (λ os. os ++ whole ∷ []) c.in_ok-waiting.ensures.items)
     (ap (map plain_part) c.in_ok-parts.ensures.items)

@@ -25,8 +25,8 @@ loop-names-preserved g c =
     let steps = c.in-Some-names.ensures.steps in
     let yielded = c.loop-names.yielded in
     let names = c.in-Some-names.names in
-    let next = c.opened-next-in-loop-names.result in
-    let is = c.opened-next-in-loop-names.ensures in
+    let next = c.open_set-next-in-loop-names.result in
+    let is = c.open_set-next-in-loop-names.ensures in
     record {
       behind = behind_more c.args.kind c.push_reserved.new.self.items c.loop-names.waiting.items c.push_reserved-in-loop-names.new.self.items yielded (yielded ++ names ∷ []) names
           next c.loop-names.invariant.behind (opened_names names (Some c.args.kind) c.none.result next is) (opened_below names (Some c.args.kind) c.none.result next is)
@@ -50,14 +50,14 @@ returns g c =
     sym c.into_iter-rest.ensures.rest ∙ c.in-Some.ensures.items
     ∙ ap (λ ns. c.in-Some.first ∷ ns) (sym (ap (λ (r : _). r.rest.items) c.into_iter-names-iterator.ensures.into_iter_gives) ∙ others)
     in
-    let next = c.opened-next.result in
-    let is = c.opened-next.ensures in
+    let next = c.open_set-next.result in
+    let is = c.open_set-next.ensures in
     opened_all c.args.kind c.in-Some.first yielded c.args.sets.items c.args.chain.now c.args.waiting.now.items c.push_reserved.new.self.items c.loop-names.waiting.items
     next all
     (record {
       is = opened_names c.in-Some.first (Some c.args.kind) c.in_ok-chain.chain next is;
       below = opened_below c.in-Some.first (Some c.args.kind) c.in_ok-chain.chain next is;
-      front = subst (λ m. HasFront c.args.chain.now m next) c.count.ensures (opened_front c.in-Some.first (Some c.args.kind) c.in_ok-chain.chain c.args.chain.now c.count.result next c.in_ok-chain.ensures is);
+      front = subst (λ m. HasFront c.args.chain.now m next) c.count.ensures.value (opened_front c.in-Some.first (Some c.args.kind) c.in_ok-chain.chain c.args.chain.now c.count.result next c.in_ok-chain.ensures is);
     })
     (c.push_reserved.ensures.items ∙ ap (λ os. os ++ next ∷ []) c.in_ok-reserve.ensures.items)
     c.loop-names.invariant.behind

@@ -15,7 +15,7 @@ returns g c =
     if_ok c.push_open.result (λ _ grown.
     let s = c.args.set.names in
     let e = adjacent c.args.graph.now in
-    let first : c.set_in-set.result.now ≡ s = c.set_in-set.ensures in
+    let first : c.set_in-set.result.now ≡ s = c.set_in-set.ensures.value in
     let sets : AreChildren e s c.in_ok-kind.sets.items = subst (λ t. AreChildren e t c.in_ok-kind.sets.items) first c.in_ok-kind.ensures.sets in
     let chain : IsChainOf e s c.children.new.chain = subst (λ t. IsChainOf e t c.children.new.chain) first c.in_ok-kind.ensures.chain in
     let opened = opened_children s c.in_ok-kind.kind c.in_ok-kind.sets.items c.children.new.chain grown.0 sets c.requires.two chain grown.2 in (
@@ -40,7 +40,7 @@ pub children-requires : goal.children-requires
 children-requires g c =
     let s = c.args.set.names in
     let e = adjacent c.args.graph.now in
-    let first : c.set_in-set.result.now ≡ s = c.set_in-set.ensures in
+    let first : c.set_in-set.result.now ≡ s = c.set_in-set.ensures.value in
     let second : s ≡ c.set_in-set.result.now = sym first in (
       search rules,
       (
@@ -63,7 +63,7 @@ children-requires g c =
 
 pub push_open-requires : goal.push_open-requires
 push_open-requires g c =
-    let same : c.set_in-set.result.now ≡ c.args.set.names = c.set_in-set.ensures in (
+    let same : c.set_in-set.result.now ≡ c.args.set.names = c.set_in-set.ensures.value in (
       search rules,
       (
         search rules,

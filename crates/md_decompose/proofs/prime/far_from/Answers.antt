@@ -32,7 +32,7 @@ loop-j-init g c = record {
 
 pub hold-requires : goal.hold-requires
 hold-requires g c =
-    let held = sym c.copy-held.ensures in
+    let held = sym c.copy-held.ensures.value in
     let out = told_out c.args.set.now c.loop-j.begun c.in-Some.j c.in-Some.ensures.found in (
       search rules,
       (
@@ -50,17 +50,17 @@ hold-requires g c =
 pub returns-then-is_same-clause-differ : goal.returns-then-is_same-clause-differ
 returns-then-is_same-clause-differ g c =
     (turn_whole (graph_adjacency c.vertices-vertices.ensures.graph) c.args.set.now c.args.v c.requires.prime c.requires.member c.loop-j.begun c.copy-held.result c.hold.new.held c.loop-j.last c.in-Some.j
-    c.loop-j.invariant.is_held c.in-Some.ensures.found c.copy-held.ensures c.hold.ensures (c.is_same.ensures.0 c.if-is_same.true)).0
+    c.loop-j.invariant.is_held c.in-Some.ensures.found c.copy-held.ensures.value c.hold.ensures (c.is_same.ensures.exactly.0 c.if-is_same.true)).0
 
 pub returns-then-is_same-clause-whole : goal.returns-then-is_same-clause-whole
 returns-then-is_same-clause-whole g c =
     (turn_whole (graph_adjacency c.vertices-vertices.ensures.graph) c.args.set.now c.args.v c.requires.prime c.requires.member c.loop-j.begun c.copy-held.result c.hold.new.held c.loop-j.last c.in-Some.j
-    c.loop-j.invariant.is_held c.in-Some.ensures.found c.copy-held.ensures c.hold.ensures (c.is_same.ensures.0 c.if-is_same.true)).1
+    c.loop-j.invariant.is_held c.in-Some.ensures.found c.copy-held.ensures.value c.hold.ensures (c.is_same.ensures.exactly.0 c.if-is_same.true)).1
 
 pub loop-j-smaller : goal.loop-j-smaller
 loop-j-smaller g c =
     turn_falls (graph_adjacency c.vertices-vertices.ensures.graph) c.args.set.now c.args.v c.requires.prime c.requires.member c.loop-j.begun c.copy-held.result c.hold.new.held c.loop-j.last c.in-Some.j
-    c.loop-j.invariant.is_held c.in-Some.ensures.found c.copy-held.ensures c.hold.ensures
+    c.loop-j.invariant.is_held c.in-Some.ensures.found c.copy-held.ensures.value c.hold.ensures
 
 pub loop-j-preserved : goal.loop-j-preserved
 loop-j-preserved g c =
@@ -75,12 +75,12 @@ loop-j-preserved g c =
     let found = c.in-Some.ensures.found in
     let pushed =
     steps_pushed s v c.loop-j.chain.taken.items c.push.new.self.taken.items c.loop-j.chain.steps.items c.push.new.self.steps.items begun held j c.loop-j.invariant.steps c.loop-j.invariant.is_last
-    (turn_grown adj s v c.requires.prime c.requires.member begun c.copy-held.result held c.loop-j.last j is found c.copy-held.ensures c.hold.ensures)
-    (turn_names adj s v c.requires.prime c.requires.member begun c.copy-held.result held c.loop-j.last j is found c.copy-held.ensures c.hold.ensures NAMES (λ x h. graph.names x (c.requires.inside x h)))
+    (turn_grown adj s v c.requires.prime c.requires.member begun c.copy-held.result held c.loop-j.last j is found c.copy-held.ensures.value c.hold.ensures)
+    (turn_names adj s v c.requires.prime c.requires.member begun c.copy-held.result held c.loop-j.last j is found c.copy-held.ensures.value c.hold.ensures NAMES (λ x h. graph.names x (c.requires.inside x h)))
     c.in_ok-push.ensures.taken c.in_ok-push.ensures.steps
     in
     record {
-      is_held = turn_held adj s v c.requires.prime c.requires.member begun c.copy-held.result held c.loop-j.last j is found c.copy-held.ensures c.hold.ensures;
+      is_held = turn_held adj s v c.requires.prime c.requires.member begun c.copy-held.result held c.loop-j.last j is found c.copy-held.ensures.value c.hold.ensures;
       is_last = pushed.1;
       steps = pushed.0;
     }

@@ -7,20 +7,20 @@ use Rattle.md_decompose.proofs.prime.hold.Goals as goal
 
 pub grow-requires : goal.grow-requires
 grow-requires g c =
-    let todo = c.insert.ensures ∙ ap (λ s. insert s c.args.j) c.none-todo.ensures in (
+    let todo = c.insert.ensures.changed ∙ ap (λ s. insert s c.args.j) c.none-todo.ensures.value in (
       search rules,
       (
         search rules,
         (
           c.requires.inside,
           (
-            λ x h. insert_within c.args.held.now c.args.set.now c.args.j c.requires.begun.inside c.requires.member x (Has-along _ _ c.insert-2.ensures x h),
+            λ x h. insert_within c.args.held.now c.args.set.now c.args.j c.requires.begun.inside c.requires.member x (Has-along _ _ c.insert-2.ensures.changed x h),
             (
-              Has-along _ _ (sym c.insert-2.ensures) c.args.v (insert_old c.args.held.now c.args.j c.args.v c.requires.fixed),
+              Has-along _ _ (sym c.insert-2.ensures.changed) c.args.v (insert_old c.args.held.now c.args.j c.args.v c.requires.fixed),
               (
-                hold_among c.args.held.now c.insert-2.new.self c.insert.new.self c.args.j c.insert-2.ensures todo,
+                hold_among c.args.held.now c.insert-2.new.self c.insert.new.self c.args.j c.insert-2.ensures.changed todo,
                 grow_seen (graph_adjacency c.vertices-vertices.ensures.graph) c.args.set.now c.args.held.now c.insert-2.new.self c.insert.new.self c.args.v c.args.j
-                    c.requires.begun c.requires.fixed c.insert-2.ensures todo,
+                    c.requires.begun c.requires.fixed c.insert-2.ensures.changed todo,
               ),
             ),
           ),

@@ -10,7 +10,7 @@ returns-clause-children g c =
     IfOk-weaker c.in_order.result _ _
     (λ sets listed. children_found (graph_adjacency c.vertices-vertices.ensures.graph) c.args.set.now c.back.new.into c.in_ok-first.first c.in-Some.v c.in_ok-j.j
     c.in_ok-classes.classes.items sets.items c.requires.prime c.in_ok-j.ensures.differ c.in_ok-j.ensures.whole
-    c.back.ensures.names c.back.ensures.rest c.back.ensures.fixed c.in_ok-classes.ensures (c.in_ok-first.ensures ∙ c.minus.ensures) listed)
+    c.back.ensures.names c.back.ensures.rest c.back.ensures.fixed c.in_ok-classes.ensures (c.in_ok-first.ensures.made ∙ c.minus.ensures.value) listed)
     c.in_order.ensures
 
 pub returns-clause-chain : goal.returns-clause-chain

@@ -4,7 +4,7 @@ use Rattle.md_decompose.proofs.quotient.head_pairs.Goals as goal
 
 pub loop-head-init : goal.loop-head-init
 loop-head-init g c =
-    later_begin c.args.heads.now c.args.places.now c.copy-later.result c.into_iter-head-iterator.result c.in_ok-edges.edges.items c.copy-later.ensures
+    later_begin c.args.heads.now c.args.places.now c.copy-later.result c.into_iter-head-iterator.result c.in_ok-edges.edges.items c.copy-later.ensures.value
     (c.into_iter-head-iterator.ensures.into_iter_gives ∙ c.members-head-items.ensures.list) c.members-head-items.ensures.names c.in_ok-edges.ensures.items
 
 pub remove-requires : goal.remove-requires
@@ -20,7 +20,7 @@ push_near-requires g c =
           c.members-head-items.ensures.below _ own,
           (
             c.requires.room c.in-Some.head own,
-            λ v h. c.requires.room v ((later_behind c.args.heads.now c.args.places.now c.loop-head.head-iterator c.loop-head.edges.items c.loop-head.invariant.listing c.loop-head.later c.remove.new.self c.in-Some.head _ c.in-Some.ensures.steps c.loop-head.invariant.is c.remove.ensures v).0 h).0,
+            λ v h. c.requires.room v ((later_behind c.args.heads.now c.args.places.now c.loop-head.head-iterator c.loop-head.edges.items c.loop-head.invariant.listing c.loop-head.later c.remove.new.self c.in-Some.head _ c.in-Some.ensures.steps c.loop-head.invariant.is c.remove.ensures.changed v).0 h).0,
           ),
         ),
       ),
@@ -28,7 +28,7 @@ push_near-requires g c =
 
 pub loop-head-preserved : goal.loop-head-preserved
 loop-head-preserved g c =
-    let behind = later_behind c.args.heads.now c.args.places.now c.loop-head.head-iterator c.loop-head.edges.items c.loop-head.invariant.listing c.loop-head.later c.remove.new.self c.in-Some.head _ c.in-Some.ensures.steps c.loop-head.invariant.is c.remove.ensures in
+    let behind = later_behind c.args.heads.now c.args.places.now c.loop-head.head-iterator c.loop-head.edges.items c.loop-head.invariant.listing c.loop-head.later c.remove.new.self c.in-Some.head _ c.in-Some.ensures.steps c.loop-head.invariant.is c.remove.ensures.changed in
     pairs_more c.args.heads.now c.args.places.now c.loop-head.head-iterator c.loop-head.edges.items c.loop-head.invariant.listing c.remove.new.self c.in-Some.head _ c.push_near.new.edges.items c.in-Some.ensures.steps behind
     (pairs_pushed c.vertices-vertices.ensures.graph c.args.heads.now c.args.places.now c.in-Some.head c.remove.new.self c.loop-head.edges.items c.push_near.new.edges.items c.requires.rising
     (pairs_head c.args.heads.now c.args.places.now c.loop-head.head-iterator c.loop-head.edges.items c.loop-head.invariant.listing c.in-Some.head _ c.in-Some.ensures.steps)

@@ -13,8 +13,8 @@ loop-init g c =
     record {
       cut = subst (λ q. CutNoModule (adjacent c.args.graph.now) c.args.set.now c.args.rest.now q.classes) (sym whole) (cut_none (adjacent c.args.graph.now) c.args.set.now c.args.rest.now c.members-members.ensures.names);
       untouched = ap (λ q. q.touched) whole;
-      near = λ x h. (of_minus c.args.set.now c.args.rest.now x (Has-along _ _ c.minus-near.ensures x h)).0;
-      left = λ x h. (of_meet c.args.set.now c.args.rest.now x (Has-along _ _ c.and-left.ensures x h)).0;
+      near = λ x h. (of_minus c.args.set.now c.args.rest.now x (Has-along _ _ c.minus-near.ensures.value x h)).0;
+      left = λ x h. (of_meet c.args.set.now c.args.rest.now x (Has-along _ _ c.and-left.ensures.value x h)).0;
     }
 
 pub loop-preserved : goal.loop-preserved
@@ -26,7 +26,7 @@ loop-preserved g c =
           (λ x. ap (λ row. contains row x) c.row-in-loop.ensures.set ∙ contains-neighbours c.row-in-loop.ensures.graph c.in-Some.p x) c.loop.partition.classes c.loop.invariant.cut);
       untouched = c.refine_outside.ensures.untouched;
       near = λ x h. elim (of_union c.remove.new.self (intersection c.loop.left c.row.result.now) x (Has-along _ _ c.move_shared.ensures.moved x h)) [
-        | inl old ↦ c.loop.invariant.near x (of_remove c.loop.near c.in-Some.p x (Has-along _ _ c.remove.ensures x old)).1
+        | inl old ↦ c.loop.invariant.near x (of_remove c.loop.near c.in-Some.p x (Has-along _ _ c.remove.ensures.changed x old)).1
         | inr new ↦ c.loop.invariant.left x (of_meet c.loop.left c.row.result.now x new).0
       ];
       left = λ x h. c.loop.invariant.left x (of_minus c.loop.left c.row.result.now x (Has-along _ _ c.move_shared.ensures.rest x h)).0;

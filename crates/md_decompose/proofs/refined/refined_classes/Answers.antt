@@ -3,8 +3,8 @@ use Rattle.md_graph.specs.PlainGraph.{adjacent}
 use Rattle.md_decompose.proofs.RefinedLemmas.{is_numbering, holds_modules, sets_numbered}
 use Rattle.md_decompose.proofs.refined.refined_classes.Goals as goal
 
-pub gathered-requires : goal.gathered-requires
-gathered-requires g c = (
+pub sets_of_numbers-requires : goal.sets_of_numbers-requires
+sets_of_numbers-requires g c = (
   search rules,
   (
     search rules,

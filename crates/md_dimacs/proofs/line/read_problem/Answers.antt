@@ -8,11 +8,11 @@ returns-then-not-names_edges-clause-fault c = problem_unknown (fields c.args.res
 
 pub returns-else-not-names_edges-clause-sizes : goal.returns-else-not-names_edges-clause-sizes
 returns-else-not-names_edges-clause-sizes c =
-    sizes_read c.checked_size.result (fields c.args.rest.now) _ _ _ _ _ c.in-Some.ensures.fields (sym c.names_edges.ensures ∙ c.if-not-names_edges.false) c.number.ensures c.number-in-Some.ensures c.checked_size.ensures.sizes
+    sizes_read c.checked_size.result (fields c.args.rest.now) _ _ _ _ _ c.in-Some.ensures.fields (sym c.names_edges.ensures ∙ c.if-not-names_edges.false) c.number.ensures.value c.number-in-Some.ensures.value c.checked_size.ensures.sizes
 
 pub returns-else-not-names_edges-clause-fault : goal.returns-else-not-names_edges-clause-fault
 returns-else-not-names_edges-clause-fault c =
-    sizes_refused c.checked_size.result (fields c.args.rest.now) _ _ _ _ _ c.in-Some.ensures.fields (sym c.names_edges.ensures ∙ c.if-not-names_edges.false) c.number.ensures c.number-in-Some.ensures c.checked_size.ensures.fault
+    sizes_refused c.checked_size.result (fields c.args.rest.now) _ _ _ _ _ c.in-Some.ensures.fields (sym c.names_edges.ensures ∙ c.if-not-names_edges.false) c.number.ensures.value c.number-in-Some.ensures.value c.checked_size.ensures.fault
 
 pub returns-in-None-clause-fault : goal.returns-in-None-clause-fault
 returns-in-None-clause-fault c = problem_field_count (fields c.args.rest.now) c.in-None.ensures.other_count

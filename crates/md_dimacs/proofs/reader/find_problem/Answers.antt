@@ -5,13 +5,13 @@ use Rattle.md_dimacs.proofs.reader.find_problem.Goals as goal
 
 pub loop-rest-preserved : goal.loop-rest-preserved
 loop-rest-preserved c = record {
-  before = one_passed _ c.loop-rest.count _ c.split_line.result.0.now c.without_return.result.now _ c.loop-rest.invariant.before c.split_line.ensures.cut c.without_return.ensures (rw c.in-Ok-None.field-0-is at c.in-Ok-None.ensures.read);
+  before = one_passed _ c.loop-rest.count _ c.split_line.result.0.now c.without_return.result.now _ c.loop-rest.invariant.before c.split_line.ensures.cut c.without_return.ensures.value (rw c.in-Ok-None.field-0-is at c.in-Ok-None.ensures.read);
   room = omega (arith, c.split_line.ensures.rest_shorter);
 }
 
 pub returns-in-Err-clause-fault : goal.returns-in-Err-clause-fault
 returns-in-Err-clause-fault c =
-    refused_before _ c.loop-rest.count _ c.split_line.result.0.now c.without_return.result.now _ c.in-Err.kind c.loop-rest.invariant.before c.split_line.ensures.cut c.without_return.ensures c.in-Err.ensures.fault
+    refused_before _ c.loop-rest.count _ c.split_line.result.0.now c.without_return.result.now _ c.in-Err.kind c.loop-rest.invariant.before c.split_line.ensures.cut c.without_return.ensures.value c.in-Err.ensures.fault
 
 pub returns-clause-fault : goal.returns-clause-fault
 returns-clause-fault c =

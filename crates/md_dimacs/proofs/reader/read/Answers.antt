@@ -8,7 +8,7 @@ pub add_range-requires : goal.add_range-requires
 add_range-requires c = (search rules, (omega (arith, c.in_ok-n.ensures.found.problem_line.named), λ v low high. none_there c.requires v))
 
 pub read_edges-outcome-requires-clause-vertices : goal.read_edges-outcome-requires-clause-vertices
-read_edges-outcome-requires-clause-vertices c = vertices-edgeless c.add_range.new.self c.in_ok-n.n (edgeless_by_range c.in_ok-n.n c.requires c.add_range.ensures)
+read_edges-outcome-requires-clause-vertices c = vertices-edgeless c.add_range.new.self c.in_ok-n.n (edgeless_by_range c.in_ok-n.n c.requires c.add_range.ensures.changed)
 
 pub returns-then-is_err-clause-spells : goal.returns-then-is_err-clause-spells
 returns-then-is_err-clause-spells c = nothing_on_ok c.read_edges-outcome.result _ (sym c.is_err.ensures.value ∙ c.if-is_err.true)
@@ -21,12 +21,12 @@ returns-then-is_err-clause-fault c =
     outcome_fault c.read_edges-outcome.result c.args.bytes.now c.in_ok-n.n c.in_ok-n.count (lines c.in_ok-n.rest.now) c.in_ok-n.ensures.found c.read_edges-outcome.ensures.fault
 
 pub returns-then-is_err-clause-refused : goal.returns-then-is_err-clause-refused
-returns-then-is_err-clause-refused c = always_on_err c.read_edges-outcome.result _ c.clear.ensures
+returns-then-is_err-clause-refused c = always_on_err c.read_edges-outcome.result _ c.clear.ensures.changed
 
 pub returns-else-is_err-clause-spells : goal.returns-else-is_err-clause-spells
 returns-else-is_err-clause-spells c =
     outcome_spells c.read_edges-outcome.result c.args.bytes.now c.in_ok-n.n c.in_ok-n.count (lines c.in_ok-n.rest.now) c.add_range.new.self c.read_edges-outcome.new.graph
-    c.in_ok-n.ensures.found (edgeless_by_range c.in_ok-n.n c.requires c.add_range.ensures) c.read_edges-outcome.ensures.faultless c.read_edges-outcome.ensures.added
+    c.in_ok-n.ensures.found (edgeless_by_range c.in_ok-n.n c.requires c.add_range.ensures.changed) c.read_edges-outcome.ensures.faultless c.read_edges-outcome.ensures.added
 
 pub returns-else-is_err-clause-faultless : goal.returns-else-is_err-clause-faultless
 returns-else-is_err-clause-faultless c =

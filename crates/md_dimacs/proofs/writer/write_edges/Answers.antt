@@ -30,7 +30,7 @@ loop-v-init g c =
     let list = c.into_iter-v-iterator.ensures.into_iter_gives ∙ c.members-v-items.ensures.list ∙ ap ascending c.vertices.ensures.set in
     record {
       coming = (0, list);
-      written = ap (λ l. (c.args.text.now.items ++ l) ++ rows_lines c.args.graph.now c.into_iter-v-iterator.result) c.new-chunk.ensures ∙ ap (λ l. l ++ rows_lines c.args.graph.now c.into_iter-v-iterator.result) (append-nil c.args.text.now.items) ∙ ap (λ l. c.args.text.now.items ++ l) (edges_text_is c.args.graph.now _ list);
+      written = ap (λ l. (c.args.text.now.items ++ l) ++ rows_lines c.args.graph.now c.into_iter-v-iterator.result) c.new-chunk.ensures.value ∙ ap (λ l. l ++ rows_lines c.args.graph.now c.into_iter-v-iterator.result) (append-nil c.args.text.now.items) ∙ ap (λ l. c.args.text.now.items ++ l) (edges_text_is c.args.graph.now _ list);
     }
 
 -- the place of the next vertex

@@ -20,7 +20,7 @@ loop-u-preserved g c =
     let below = c.requires c.in-Some.u (Lists-head c.loop-u.invariant.left _ _ c.in-Some.ensures.steps) in
     record {
       left = Lists-rest c.loop-u.invariant.left _ _ c.in-Some.ensures.steps;
-      result = λ u. each_step (λ _. set.empty) (λ _. refl) c.loop-u.rows c.in-Some.u _ _ c.in-Some.ensures.steps (omega arith) _ c.index-rows-u.result (c.clear.ensures ∙ ap (λ _. set.empty) (sym c.index-rows-u.is)) c.index-rows-u.is u ∙ c.loop-u.invariant.result u;
+      result = λ u. each_step (λ _. set.empty) (λ _. refl) c.loop-u.rows c.in-Some.u _ _ c.in-Some.ensures.steps (omega arith) _ c.index-rows-u.result (c.clear.ensures.changed ∙ ap (λ _. set.empty) (sym c.index-rows-u.is)) c.index-rows-u.is u ∙ c.loop-u.invariant.result u;
     }
 
 pub returns : goal.returns

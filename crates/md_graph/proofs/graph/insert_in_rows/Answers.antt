@@ -20,12 +20,14 @@ loop-u-preserved g c =
     let below = c.requires.in_rows c.in-Some.u (Lists-head c.loop-u.invariant.left _ _ c.in-Some.ensures.steps) in
     record {
       left = Lists-rest c.loop-u.invariant.left _ _ c.in-Some.ensures.steps;
-      result = λ u. each_step (λ s. set.insert s c.args.v) (insert_twice c.args.v) c.loop-u.rows c.in-Some.u _ _ c.in-Some.ensures.steps (omega arith) _ c.index-rows-u.result (c.insert.ensures ∙ ap (λ s. set.insert s c.args.v) (sym c.index-rows-u.is)) c.index-rows-u.is u ∙ c.loop-u.invariant.result u;
+      result = λ u. each_step (λ s. set.insert s c.args.v) (insert_twice c.args.v) c.loop-u.rows c.in-Some.u _ _ c.in-Some.ensures.steps (omega arith) _ c.index-rows-u.result (c.insert.ensures.changed ∙ ap (λ s. set.insert s c.args.v) (sym c.index-rows-u.is)) c.index-rows-u.is u ∙ c.loop-u.invariant.result u;
     }
 
 pub returns : goal.returns
-returns g c =
-    λ u. each_end (λ s. set.insert s c.args.v) c.loop-u.rows _ c.in-None.ensures.steps.0 u ∙ c.loop-u.invariant.result u
+returns g c = record {
+  rows =
+      λ u. each_end (λ s. set.insert s c.args.v) c.loop-u.rows _ c.in-None.ensures.steps.0 u ∙ c.loop-u.invariant.result u;
+}
 
 pub offset_bounds-rows-u : goal.offset_bounds-rows-u
 offset_bounds-rows-u g c =

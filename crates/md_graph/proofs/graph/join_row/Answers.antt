@@ -10,4 +10,4 @@ returns-then-bits-eq0 g c = λ u v. row_without c.args.rows.now c.args.at c.args
 pub returns : goal.returns
 returns g c =
     row_with c.args.rows.now c.args.at c.args.first c.args.bits c.index-rows-at.result _ c.requires.inside c.requires.aligned c.index-rows-at.is
-    (c.insert_block.ensures ∙ ap (λ s. set.union s (block c.args.first c.args.bits)) (sym c.index-rows-at.is))
+    (c.insert_block.ensures.changed ∙ ap (λ s. set.union s (block c.args.first c.args.bits)) (sym c.index-rows-at.is))

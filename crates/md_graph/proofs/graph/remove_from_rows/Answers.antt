@@ -20,7 +20,7 @@ loop-u-preserved g c =
     let below = c.requires.in_rows c.in-Some.u (Lists-head c.loop-u.invariant.left _ _ c.in-Some.ensures.steps) in
     record {
       left = Lists-rest c.loop-u.invariant.left _ _ c.in-Some.ensures.steps;
-      result = λ u. each_step (λ s. set.remove s c.args.v) (remove_twice c.args.v) c.loop-u.rows c.in-Some.u _ _ c.in-Some.ensures.steps (omega arith) _ c.index-rows-u.result (c.remove.ensures ∙ ap (λ s. set.remove s c.args.v) (sym c.index-rows-u.is)) c.index-rows-u.is u ∙ c.loop-u.invariant.result u;
+      result = λ u. each_step (λ s. set.remove s c.args.v) (remove_twice c.args.v) c.loop-u.rows c.in-Some.u _ _ c.in-Some.ensures.steps (omega arith) _ c.index-rows-u.result (c.remove.ensures.changed ∙ ap (λ s. set.remove s c.args.v) (sym c.index-rows-u.is)) c.index-rows-u.is u ∙ c.loop-u.invariant.result u;
     }
 
 pub returns : goal.returns

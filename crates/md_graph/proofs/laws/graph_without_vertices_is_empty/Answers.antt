@@ -2,4 +2,6 @@ use Rattle.md_graph.proofs.GraphLemmas.{empty_without_vertices}
 use Rattle.md_graph.proofs.laws.graph_without_vertices_is_empty.Goals as goal
 
 pub returns : goal.returns
-returns c = empty_without_vertices
+returns c = record {
+  law = empty_without_vertices;
+}

@@ -7,7 +7,7 @@ add_block-requires g c =
     (search rules, (omega (arith, c.requires.inside), (omega arith, (omega (arith, c.requires.inside), (omega arith, block_ends c.args.body.now c.args.n c.loop-l.l c.args.h c.block_bits-block.result c.block_bits-block.ensures c.loop-l.invariant)))))
 
 pub loop-l-preserved : goal.loop-l-preserved
-loop-l-preserved g c = filled_more c.args.body.now c.args.n c.loop-l.l c.args.h c.block_bits-block.result c.block_bits-block.ensures c.loop-l.invariant c.add_block.ensures
+loop-l-preserved g c = filled_more c.args.body.now c.args.n c.loop-l.l c.args.h c.block_bits-block.result c.block_bits-block.ensures c.loop-l.invariant c.add_block.ensures.block
 
 pub returns : goal.returns
 returns g c = filled_columns c.args.body.now c.args.n c.args.h c.loop-l.l (omega arith) c.loop-l.invariant

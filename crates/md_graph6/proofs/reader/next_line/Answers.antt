@@ -7,12 +7,12 @@ use Rattle.md_graph6.proofs.reader.next_line.Goals as goal
 
 pub returns-then-not-is_empty-clause-first : goal.returns-then-not-is_empty-clause-first
 returns-then-not-is_empty-clause-first c =
-    rw c.without_return-line.ensures
+    rw c.without_return-line.ensures.value
     (λ some. sym c.loop-rest.invariant.same ∙ graphs-cut_more _ _ _ c.split_line.ensures.cut some)
 
 pub returns-then-not-is_empty-clause-sound : goal.returns-then-not-is_empty-clause-sound
 returns-then-not-is_empty-clause-sound c =
-    rw c.without_return-line.ensures (HasNoFault-cut _ _ _ c.split_line.ensures.cut c.loop-rest.invariant.sound).0
+    rw c.without_return-line.ensures.value (HasNoFault-cut _ _ _ c.split_line.ensures.cut c.loop-rest.invariant.sound).0
 
 pub returns-then-not-is_empty-clause-rest_sound : goal.returns-then-not-is_empty-clause-rest_sound
 returns-then-not-is_empty-clause-rest_sound c =

@@ -11,7 +11,7 @@ pub loop-u-init : goal.loop-u-init
 loop-u-init g c = record {
   place = at_start (ascending c.args.graph.now.vertices) c.into_iter-u-iterator.result (c.into_iter-u-iterator.ensures.into_iter_gives ∙ c.members-u-items.ensures.list ∙ ap ascending c.vertices.ensures.set);
   below = omega arith;
-  members = gathered_none c.clear.new.self (λ k. set.contains c.args.row.now (nth c.args.graph.now k)) c.clear.ensures;
+  members = gathered_none c.clear.new.self (λ k. set.contains c.args.row.now (nth c.args.graph.now k)) c.clear.ensures.changed;
 }
 
 pub returns-then-i-j : goal.returns-then-i-j
@@ -31,7 +31,7 @@ loop-u-preserved g c =
       place = turn.2;
       below = omega arith;
       members = gathered_more c.loop-u.column c.insert_if.new.column (λ k. set.contains c.args.row.now (nth c.args.graph.now k)) c.loop-u.i c.has.result
-          (c.has.ensures ∙ ap (set.contains c.args.row.now) turn.1) c.insert_if.ensures c.loop-u.invariant.members;
+          (c.has.ensures.value ∙ ap (set.contains c.args.row.now) turn.1) c.insert_if.ensures c.loop-u.invariant.members;
     }
 
 pub returns : goal.returns

@@ -6,5 +6,5 @@ use Rattle.md_graph6.proofs.writer.insert_if.Goals as goal
 
 pub returns-then-wanted : goal.returns-then-wanted
 returns-then-wanted g c = λ k.
-    let e = ap (λ s. set.contains s k) c.insert.ensures ∙ contains-insert c.args.column.now c.args.i k in
+    let e = ap (λ s. set.contains s k) c.insert.ensures.changed ∙ contains-insert c.args.column.now c.args.i k in
     grind (arith, nat_tests, e, c.if-wanted.true)

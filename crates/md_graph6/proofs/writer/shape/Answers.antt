@@ -21,13 +21,13 @@ listed s vertices n counted same below = counted ∙ ap set.len same ∙ sym (le
 pub overflow_add-consecutive : goal.overflow_add-consecutive
 overflow_add-consecutive g c =
     let vertices = c.args.graph.now.vertices in
-    let members = listed vertices _ _ c.count-count.ensures c.vertices.ensures.set c.vertices.ensures.graph.names in
+    let members = listed vertices _ _ c.count-count.ensures.value c.vertices.ensures.set c.vertices.ensures.graph.names in
     omega (arith, members, few_below vertices 0 NAMES, c.least_vertex-least.ensures.few, NAMES-lt)
 
 pub returns : goal.returns
 returns g c =
     let vertices = c.args.graph.now.vertices in
-    let members = listed vertices _ _ c.count-count.ensures c.vertices.ensures.set c.vertices.ensures.graph.names in
+    let members = listed vertices _ _ c.count-count.ensures.value c.vertices.ensures.set c.vertices.ensures.graph.names in
     record {
       count = members;
       few = omega (arith, members, few_below vertices 0 NAMES);

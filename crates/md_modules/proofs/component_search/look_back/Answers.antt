@@ -5,14 +5,14 @@ use Rattle.md_modules.proofs.Turns.{graph_adjacency, reach_backed}
 use Rattle.md_modules.proofs.component_search.look_back.Goals as goal
 
 pub seeing-new-requires : goal.seeing-new-requires
-seeing-new-requires g c = (search rules, (search rules, λ y h. (of_minus c.args.within.now c.args.left.now y (Has-along _ _ c.minus-taken.ensures y h)).1))
+seeing-new-requires g c = (search rules, (search rules, λ y h. (of_minus c.args.within.now c.args.left.now y (Has-along _ _ c.minus-taken.ensures.value y h)).1))
 
 pub returns-clause-kept : goal.returns-clause-kept
 returns-clause-kept g c x is =
     reach_backed (graph_adjacency c.vertices-vertices.ensures.graph) c.args.within.now c.args.left.now c.args.todo.now c.minus-taken.result c.seeing-new.result c.clear.new.self
-    c.move_shared.new.self c.move_shared.new.to c.args.value x is c.minus-taken.ensures c.seeing-new.ensures c.clear.ensures c.move_shared.ensures.rest c.move_shared.ensures.moved
+    c.move_shared.new.self c.move_shared.new.to c.args.value x is c.minus-taken.ensures.value c.seeing-new.ensures c.clear.ensures.changed c.move_shared.ensures.rest c.move_shared.ensures.moved
 
 pub returns-clause-fewer : goal.returns-clause-fewer
 returns-clause-fewer g c =
-    back_falls c.args.left.now c.seeing-new.result c.clear.new.self c.move_shared.new.self c.move_shared.new.to c.clear.ensures
+    back_falls c.args.left.now c.seeing-new.result c.clear.new.self c.move_shared.new.self c.move_shared.new.to c.clear.ensures.changed
     (λ y h. ((c.seeing-new.ensures y).0 h).0) c.move_shared.ensures.rest c.move_shared.ensures.moved

@@ -8,7 +8,7 @@ use Rattle.md_graph.proofs.Walks.{Walked-start, Walked-item, Walked-more, Walked
 pub loop-y-init : goal.loop-y-init
 loop-y-init g c = record {
   all = Walked-start (c.into_iter-y-iterator.ensures.into_iter_gives ∙ c.members-y-items.ensures.list) c.members-y-items.ensures.names;
-  alone = λ y h. clash h (empty_if c.none-new.result c.none-new.ensures y);
+  alone = λ y h. clash h (empty_if c.none-new.result c.none-new.ensures.value y);
 }
 
 pub sees-requires : goal.sees-requires
@@ -21,9 +21,9 @@ pub loop-y-preserved-then-sees : goal.loop-y-preserved-then-sees
 loop-y-preserved-then-sees g c = record {
   all = Walked-more
       (Walked-map {Wider = λ w. Sees c.args.graph.now w c.args.value c.args.taken.now → Has c.insert.new.self w} c.loop-y.invariant.all
-      (λ w done seen. Has-along _ _ (sym c.insert.ensures) w (insert_old c.loop-y.new c.in-Some.y w (done seen))))
-      c.in-Some.y _ c.in-Some.ensures.steps (λ _. Has-along _ _ (sym c.insert.ensures) c.in-Some.y (insert_new c.loop-y.new c.in-Some.y));
-  alone = λ y h. elim (of_insert c.loop-y.new c.in-Some.y y (Has-along _ _ c.insert.ensures y h)) [
+      (λ w done seen. Has-along _ _ (sym c.insert.ensures.changed) w (insert_old c.loop-y.new c.in-Some.y w (done seen))))
+      c.in-Some.y _ c.in-Some.ensures.steps (λ _. Has-along _ _ (sym c.insert.ensures.changed) c.in-Some.y (insert_new c.loop-y.new c.in-Some.y));
+  alone = λ y h. elim (of_insert c.loop-y.new c.in-Some.y y (Has-along _ _ c.insert.ensures.changed y h)) [
     | inl same ↦ subst (λ z. Has c.args.left.now z × Sees c.args.graph.now z c.args.value c.args.taken.now) (sym same)
         ((Walked-item c.loop-y.invariant.all c.in-Some.y _ c.in-Some.ensures.steps), c.sees.ensures.0 c.if-sees.true)
     | inr old ↦ c.loop-y.invariant.alone y old

@@ -10,11 +10,11 @@ path_by_sides-requires-clause-first c = near_side c.row-near.ensures.graph c.arg
 
 pub path_by_sides-requires-clause-second : goal.path_by_sides-requires-clause-second
 path_by_sides-requires-clause-second c =
-    far_side c.row-near.ensures.graph c.args.x _ _ _ _ c.vertices-vertices.ensures.set c.row-near.ensures.set c.minus-far.ensures c.remove.ensures
+    far_side c.row-near.ensures.graph c.args.x _ _ _ _ c.vertices-vertices.ensures.set c.row-near.ensures.set c.minus-far.ensures.value c.remove.ensures.changed
 
 pub path_by_sides-requires-2-clause-first : goal.path_by_sides-requires-2-clause-first
 path_by_sides-requires-2-clause-first c =
-    far_side c.row-near.ensures.graph c.args.x _ _ _ _ c.vertices-vertices.ensures.set c.row-near.ensures.set c.minus-far.ensures c.remove.ensures
+    far_side c.row-near.ensures.graph c.args.x _ _ _ _ c.vertices-vertices.ensures.set c.row-near.ensures.set c.minus-far.ensures.value c.remove.ensures.changed
 
 pub path_by_sides-requires-2-clause-second : goal.path_by_sides-requires-2-clause-second
 path_by_sides-requires-2-clause-second c = near_side c.row-near.ensures.graph c.args.x _ c.row-near.ensures.set

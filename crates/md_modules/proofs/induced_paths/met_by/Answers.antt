@@ -5,7 +5,7 @@ use Rattle.md_modules.proofs.induced_paths.met_by.Goals as goal
 
 pub loop-o-init : goal.loop-o-init
 loop-o-init c =
-    Meeting-start c.args.graph.now c.args.names.now c.args.others.now c.args.value _ _ _ c.copy-left.ensures c.none-met.ensures
+    Meeting-start c.args.graph.now c.args.names.now c.args.others.now c.args.value _ _ _ c.copy-left.ensures.value c.none-met.ensures.value
     (Walked-start (c.into_iter-o-iterator.ensures.into_iter_gives ∙ c.members-o-items.ensures.list) c.members-o-items.ensures.names)
 
 pub move_seen-requires : goal.move_seen-requires

@@ -12,8 +12,8 @@ path_by_part-requires-clause-whole c =
 
 pub loop-y-smaller : goal.loop-y-smaller
 loop-y-smaller c =
-    rest_falls c.loop-y.left c.part_of.new.into c.minus-left.result c.in-Some.y c.in-Some.ensures.found.member c.part_of.ensures.holds c.minus-left.ensures
+    rest_falls c.loop-y.left c.part_of.new.into c.minus-left.result c.in-Some.y c.in-Some.ensures.found.member c.part_of.ensures.holds c.minus-left.ensures.value
 
 pub loop-y-preserved : goal.loop-y-preserved
 loop-y-preserved c =
-    Searched-more c.args.graph.now c.args.names.now c.args.others.now c.args.value c.loop-y.left c.part_of.new.into c.minus-left.result c.in-Some.y c.loop-y.invariant c.part_of.ensures c.minus-left.ensures c.in_default-path_by_part.ensures.none
+    Searched-more c.args.graph.now c.args.names.now c.args.others.now c.args.value c.loop-y.left c.part_of.new.into c.minus-left.result c.in-Some.y c.loop-y.invariant c.part_of.ensures c.minus-left.ensures.value c.in_default-path_by_part.ensures.none

@@ -6,7 +6,7 @@ use Rattle.md_modules.proofs.induced_paths.path_over.Goals as goal
 
 pub loop-m-init : goal.loop-m-init
 loop-m-init c =
-    Walked-along (c.and-seen.ensures ∙ ap (intersection c.args.part.now) c.row-row.ensures.set)
+    Walked-along (c.and-seen.ensures.value ∙ ap (intersection c.args.part.now) c.row-row.ensures.set)
     (Walked-start (c.into_iter-m-iterator.ensures.into_iter_gives ∙ c.members-m-items.ensures.list) c.members-m-items.ensures.names)
 
 pub first_across-requires : goal.first_across-requires
@@ -16,7 +16,7 @@ first_across-requires c =
 pub returns-in-Some-first_across-clause-found : goal.returns-in-Some-first_across-clause-found
 returns-in-Some-first_across-clause-found c =
     let m = of_seen c.row-row.ensures.graph c.args.o c.args.part.now _ c.row-row.ensures.set c.in-Some.m (Walked-item c.loop-m.invariant c.in-Some.m _ c.in-Some.ensures.steps) in
-    let z = of_rest c.row-row.ensures.graph c.args.o c.args.part.now _ c.row-row.ensures.set _ c.minus-rest.ensures c.in-Some-first_across.z c.in-Some-first_across.ensures.found.0 in
+    let z = of_rest c.row-row.ensures.graph c.args.o c.args.part.now _ c.row-row.ensures.set _ c.minus-rest.ensures.value c.in-Some-first_across.z c.in-Some-first_across.ensures.found.0 in
     path_found c.row-row.ensures.graph c.args.x c.args.o c.in-Some.m c.in-Some-first_across.z c.args.value c.requires.across
     (c.requires.alike c.in-Some.m m.0)
     (c.requires.alike c.in-Some-first_across.z z.0)
@@ -25,7 +25,7 @@ returns-in-Some-first_across-clause-found c =
 pub loop-m-preserved : goal.loop-m-preserved
 loop-m-preserved c =
     Walked-more c.loop-m.invariant c.in-Some.m _ c.in-Some.ensures.steps
-    (NothingAcross-if c.row-row.ensures.graph c.args.o c.args.part.now _ c.row-row.ensures.set _ c.minus-rest.ensures c.args.value c.in-Some.m c.in_default.ensures.none)
+    (NothingAcross-if c.row-row.ensures.graph c.args.o c.args.part.now _ c.row-row.ensures.set _ c.minus-rest.ensures.value c.args.value c.in-Some.m c.in_default.ensures.none)
 
 pub returns-clause-none : goal.returns-clause-none
 returns-clause-none c =

@@ -2,4 +2,6 @@ use Rattle.md_modules.proofs.Children.{children_of_kinds}
 use Rattle.md_modules.proofs.laws.children_by_kind.Goals as goal
 
 pub returns : goal.returns
-returns c e adj s = children_of_kinds adj s
+returns c = record {
+  law = λ e adj s. children_of_kinds adj s;
+}

@@ -2,4 +2,6 @@ use Rattle.md_modules.proofs.DecidedPaths.{induced_paths_are_decided}
 use Rattle.md_modules.proofs.laws.induced_paths_are_decided.Goals as goal
 
 pub returns : goal.returns
-returns c = induced_paths_are_decided
+returns c = record {
+  law = induced_paths_are_decided;
+}

@@ -2,4 +2,6 @@ use Rattle.md_modules.proofs.Paths.{no_path_proof}
 use Rattle.md_modules.proofs.laws.no_induced_path_if_none_prime.Goals as goal
 
 pub returns : goal.returns
-returns c = no_path_proof
+returns c = record {
+  law = no_path_proof;
+}

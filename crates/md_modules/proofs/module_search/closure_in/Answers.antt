@@ -6,8 +6,10 @@ use Rattle.md_modules.proofs.Turns.{least_alone, least_pair, pair_seen}
 use Rattle.md_modules.proofs.module_search.closure_in.Goals as goal
 
 pub returns-then-u-v : goal.returns-then-u-v
-returns-then-u-v g c =
-    least_alone c.args.within.now c.insert.new.self c.args.u c.args.v c.if-u-v.true c.requires.first (c.insert.ensures ∙ ap (λ s. insert s c.args.u) c.clear.ensures)
+returns-then-u-v g c = record {
+  least =
+      least_alone c.args.within.now c.insert.new.self c.args.u c.args.v c.if-u-v.true c.requires.first (c.insert.ensures.changed ∙ ap (λ s. insert s c.args.u) c.clear.ensures.changed);
+}
 
 pub grow-requires : goal.grow-requires
 grow-requires g c = (
@@ -18,17 +20,17 @@ grow-requires g c = (
       c.requires.inside,
       (
         pair_within c.args.within.now c.insert-2.new.self c.args.u c.args.v
-            (c.insert-2.ensures ∙ ap (λ s. insert s c.args.v) (c.insert.ensures ∙ ap (λ s. insert s c.args.u) c.clear.ensures)) c.requires.first c.requires.second,
+            (c.insert-2.ensures.changed ∙ ap (λ s. insert s c.args.v) (c.insert.ensures.changed ∙ ap (λ s. insert s c.args.u) c.clear.ensures.changed)) c.requires.first c.requires.second,
         (
           pair_first c.insert-2.new.self c.args.u c.args.v
-              (c.insert-2.ensures ∙ ap (λ s. insert s c.args.v) (c.insert.ensures ∙ ap (λ s. insert s c.args.u) c.clear.ensures)),
+              (c.insert-2.ensures.changed ∙ ap (λ s. insert s c.args.v) (c.insert.ensures.changed ∙ ap (λ s. insert s c.args.u) c.clear.ensures.changed)),
           (
             pair_among c.insert-2.new.self c.insert-3.new.self c.args.u c.args.v
-                (c.insert-2.ensures ∙ ap (λ s. insert s c.args.v) (c.insert.ensures ∙ ap (λ s. insert s c.args.u) c.clear.ensures))
-                (c.insert-3.ensures ∙ ap (λ s. insert s c.args.v) c.none-todo.ensures),
+                (c.insert-2.ensures.changed ∙ ap (λ s. insert s c.args.v) (c.insert.ensures.changed ∙ ap (λ s. insert s c.args.u) c.clear.ensures.changed))
+                (c.insert-3.ensures.changed ∙ ap (λ s. insert s c.args.v) c.none-todo.ensures.value),
             λ w h l y hy out. pair_seen (adjacent c.args.graph.now) c.insert-2.new.self c.insert-3.new.self c.args.u c.args.v
-                (c.insert-2.ensures ∙ ap (λ s. insert s c.args.v) (c.insert.ensures ∙ ap (λ s. insert s c.args.u) c.clear.ensures))
-                (c.insert-3.ensures ∙ ap (λ s. insert s c.args.v) c.none-todo.ensures) w h l y,
+                (c.insert-2.ensures.changed ∙ ap (λ s. insert s c.args.v) (c.insert.ensures.changed ∙ ap (λ s. insert s c.args.u) c.clear.ensures.changed))
+                (c.insert-3.ensures.changed ∙ ap (λ s. insert s c.args.v) c.none-todo.ensures.value) w h l y,
           ),
         ),
       ),
@@ -37,6 +39,8 @@ grow-requires g c = (
 )
 
 pub returns : goal.returns
-returns g c =
-    least_pair c.args.within.now c.insert-2.new.self c.grow.new.into c.args.u c.args.v
-    (c.insert-2.ensures ∙ ap (λ s. insert s c.args.v) (c.insert.ensures ∙ ap (λ s. insert s c.args.u) c.clear.ensures)) c.grow.ensures
+returns g c = record {
+  least =
+      least_pair c.args.within.now c.insert-2.new.self c.grow.new.into c.args.u c.args.v
+      (c.insert-2.ensures.changed ∙ ap (λ s. insert s c.args.v) (c.insert.ensures.changed ∙ ap (λ s. insert s c.args.u) c.clear.ensures.changed)) c.grow.ensures.least;
+}

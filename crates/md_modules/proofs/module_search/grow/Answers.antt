@@ -4,6 +4,8 @@ use Rattle.md_modules.proofs.Turns.{least_over_along}
 use Rattle.md_modules.proofs.module_search.grow.Goals as goal
 
 pub returns : goal.returns
-returns g c =
-    least_over_along c.args.within.now c.args.into.now (difference c.args.within.now c.not_grown.new.left) c.flip.new.self
-    (flipped_along c.args.within.now c.not_grown.new.left c.flip.new.self c.not_grown.ensures.part c.flip.ensures) c.not_grown.ensures.grown
+returns g c = record {
+  least =
+      least_over_along c.args.within.now c.args.into.now (difference c.args.within.now c.not_grown.new.left) c.symmetric_difference_with.new.self
+      (flipped_along c.args.within.now c.not_grown.new.left c.symmetric_difference_with.new.self c.not_grown.ensures.part c.symmetric_difference_with.ensures.changed) c.not_grown.ensures.grown;
+}

@@ -17,7 +17,7 @@ loop-at-init g c = record {
   cutting = cutting_skips c.args.set.now c.args.rest.now c.args.classes.items 0 c.next_several-at.result c.requires.part (cutting_begins c.args.set.now c.args.rest.now c.args.classes.items c.requires.holds)
       (λ k low up. subst (λ (ds : List NameSet). (v : ℕ) × (class_at ds k ≡ only_name v)) c.deref.ensures.value (c.next_several-at.ensures.names k low up));
   finer = λ k. (k, λ x h. h);
-  empty = c.none-other.ensures;
+  empty = c.none-other.ensures.value;
   left = subst (λ (ds : List NameSet). c.next_several-at.result < length ds → HoldsSplitters (adjacent c.args.graph.now) c.args.set.now (class_at ds c.next_several-at.result) c.begin.new.left) c.deref-2.ensures.value
       (λ known. c.begin.ensures known (adjacent c.args.graph.now));
 }

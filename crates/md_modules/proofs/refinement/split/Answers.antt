@@ -17,6 +17,6 @@ returns-clause-parts g c =
       c.in_ok-push.ensures.items
           ∙ ap₂ (λ (a b : NameSet). slice_set cs c.args.at a ++ b ∷ [])
           (c.divide.ensures.2 ∙ ap (λ (s : NameSet). intersection s part) class)
-          (c.in_ok-goes.ensures ∙ c.divide.ensures.3 ∙ ap (λ (s : NameSet). difference s part) class),
-      c.take_in.ensures ∙ ap (union c.args.left.now) (c.divide.ensures.3 ∙ ap (λ (s : NameSet). difference s part) class),
+          (c.in_ok-goes.ensures.made ∙ c.divide.ensures.3 ∙ ap (λ (s : NameSet). difference s part) class),
+      c.union_with.ensures.changed ∙ ap (union c.args.left.now) (c.divide.ensures.3 ∙ ap (λ (s : NameSet). difference s part) class),
     )

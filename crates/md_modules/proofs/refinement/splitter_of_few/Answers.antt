@@ -11,18 +11,18 @@ loop-x-init g c =
 pub row-requires-in-loop-x : goal.row-requires-in-loop-x
 row-requires-in-loop-x g c = (search rules, (search rules, c.members_from-x-items.ensures.below _ (Walked-item c.loop-x.invariant c.in-Some-x.x _ c.in-Some-x.ensures.steps)))
 
-pub returns-in-Some-first_told_apart-clause-found : goal.returns-in-Some-first_told_apart-clause-found
-returns-in-Some-first_told_apart-clause-found g c =
+pub returns-in-Some-first_in_symmetric_difference-clause-found : goal.returns-in-Some-first_in_symmetric_difference-clause-found
+returns-in-Some-first_in_symmetric_difference-clause-found g c =
     splitter_found c.row.ensures.graph c.args.class.now c.row.result.now c.row-in-loop-x.result.now c.args.left.now
-    c.in-Some.first c.in-Some-x.x c.in-Some-first_told_apart.p c.in-Some.ensures.found.member
+    c.in-Some.first c.in-Some-x.x c.in-Some-first_in_symmetric_difference.p c.in-Some.ensures.found.member
     (Walked-item c.loop-x.invariant c.in-Some-x.x _ c.in-Some-x.ensures.steps)
-    c.requires.apart c.row.ensures.set c.row-in-loop-x.ensures.set c.in-Some-first_told_apart.ensures.found
+    c.requires.apart c.row.ensures.set c.row-in-loop-x.ensures.set c.in-Some-first_in_symmetric_difference.ensures.found
 
 pub loop-x-preserved : goal.loop-x-preserved
 loop-x-preserved g c =
     Walked-more c.loop-x.invariant c.in-Some-x.x _ c.in-Some-x.ensures.steps
     (splitter_none c.row.ensures.graph c.row.result.now c.row-in-loop-x.result.now c.args.left.now c.in-Some.first c.in-Some-x.x
-    c.row.ensures.set c.row-in-loop-x.ensures.set c.in_default-first_told_apart.ensures.none)
+    c.row.ensures.set c.row-in-loop-x.ensures.set c.in_default-first_in_symmetric_difference.ensures.none)
 
 pub returns-clause-none : goal.returns-clause-none
 returns-clause-none g c =

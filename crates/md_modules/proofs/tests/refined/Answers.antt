@@ -7,6 +7,6 @@ cut_classes-requires g c = (
   search rules,
   (
     search rules,
-    (search rules, (search rules, (search rules, c.in_ok-one_class.ensures (adjacent c.args.g.now) c.vertices-3.result.now))),
+    (search rules, (search rules, (search rules, c.in_ok-one_class.ensures.holds (adjacent c.args.g.now) c.vertices-3.result.now))),
   ),
 )

@@ -4,7 +4,7 @@ use Rattle.md_modules.proofs.Turns.{least_whole}
 use Rattle.md_modules.proofs.tests.turned.Goals as goal
 
 pub closure_in-requires : goal.closure_in-requires
-closure_in-requires g c = (search rules, (search rules, (meet_inside c.set.result c.vertices.result.now _ c.and-within.result c.vertices.ensures.set c.and-within.ensures, (search rules, search rules))))
+closure_in-requires g c = (search rules, (search rules, (meet_inside c.set.result c.vertices.result.now _ c.and-within.result c.vertices.ensures.set c.and-within.ensures.value, (search rules, search rules))))
 
 pub back-requires : goal.back-requires
 back-requires g c =
@@ -13,10 +13,10 @@ back-requires g c =
       (
         search rules,
         (
-          meet_inside c.set.result c.vertices.result.now _ c.and-within.result c.vertices.ensures.set c.and-within.ensures,
+          meet_inside c.set.result c.vertices.result.now _ c.and-within.result c.vertices.ensures.set c.and-within.ensures.value,
           (
             search rules,
-            least_whole c.and-within.result c.closure_in.new.into c.minus-rest.result c.args.v c.args.j c.closure_in.ensures c.minus-rest.ensures (c.is_empty.ensures.0 none),
+            least_whole c.and-within.result c.closure_in.new.into c.minus-rest.result c.args.v c.args.j c.closure_in.ensures.least c.minus-rest.ensures.value (c.is_empty.ensures.exactly.0 none),
           ),
         ),
       ),

@@ -1,5 +1,5 @@
 use Rattle.std.proofs.Common.{◌∙◌}
-use Rattle.md_orientation.proofs.Listing.{row_start, row_more, row_end}
+use Rattle.md_comparability.proofs.Listing.{row_start, row_more, row_end}
 use Rattle.md_orient.proofs.orientation.list_row.Goals as goal
 
 pub loop-head-init : goal.loop-head-init

@@ -1,4 +1,4 @@
-use Rattle.md_orientation.proofs.Listing.{RowListed}
+use Rattle.md_comparability.proofs.Listing.{RowListed}
 use Rattle.md_orient.proofs.orientation.list_row.Given as goal
 
 abbrev pub invariant-loop-head : goal.invariant-loop-head

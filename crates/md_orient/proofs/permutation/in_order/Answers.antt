@@ -7,7 +7,7 @@ use Rattle.md_orient.proofs.permutation.in_order.Goals as goal
 
 pub loop-v-init : goal.loop-v-init
 loop-v-init c =
-    placing_start _ c.args.graph.now.vertices _ _ c.vertices-vertices.ensures.graph.names (sym c.in_ok-list.list.ok.0 ∙ c.in_ok-list.ensures.len ∙ c.count.ensures ∙ ap len c.vertices-vertices.ensures.set) (c.into_iter-v-iterator.ensures.into_iter_gives ∙ c.members-v-items.ensures.list ∙ ap ascending c.vertices-vertices.ensures.set)
+    placing_start _ c.args.graph.now.vertices _ _ c.vertices-vertices.ensures.graph.names (sym c.in_ok-list.list.ok.0 ∙ c.in_ok-list.ensures.len ∙ c.count.ensures.value ∙ ap len c.vertices-vertices.ensures.set) (c.into_iter-v-iterator.ensures.into_iter_gives ∙ c.members-v-items.ensures.list ∙ ap ascending c.vertices-vertices.ensures.set)
 
 pub place_of-place-requires-clause-room : goal.place_of-place-requires-clause-room
 place_of-place-requires-clause-room c =

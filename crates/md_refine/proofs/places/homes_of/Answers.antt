@@ -30,7 +30,7 @@ loop-name-preserved g c =
     let l = c.loop-name in
     let s = c.args.names.now in
     let o = c.home_if.result in
-    let is = c.home_if.ensures ∙ ap (λ b. if b then Some 0 else None) c.has.ensures in
+    let is = c.home_if.ensures ∙ ap (λ b. if b then Some 0 else None) c.has.ensures.value in
     let e = c.push_reserved.ensures.items in
     record {
       homes = λ k low. ap (λ xs. get_or xs k None) e ∙ homes_more s l.name l.homes.items o l.invariant.len l.invariant.homes is k low;

@@ -26,7 +26,7 @@ read homes n None p k is low = _
 read homes n (Some i) p k is low = low i (sym is)
 
 pub loop-v-init : goal.loop-v-init
-loop-v-init c = c.none-names.ensures ∙ ap (λ l. set.from_list l) (sym (none c.args.homes.now.items c.args.owners.now.items c.args.place))
+loop-v-init c = c.none-names.ensures.value ∙ ap (λ l. set.from_list l) (sym (none c.args.homes.now.items c.args.owners.now.items c.args.place))
 
 pub is_at-requires : goal.is_at-requires
 is_at-requires c =

@@ -12,7 +12,7 @@ returns-in_err-checked_name-clause-fault c =
 pub loop-number-preserved : goal.loop-number-preserved
 loop-number-preserved c =
     read_more (fields c.args.text.now) c.loop-number.rest.now c.in-Some.more.now c.in-Some.number c.in_ok-checked_name.field-0 c.loop-number.names c.insert.new.self c.loop-number.invariant
-    c.in-Some.ensures.number c.in_ok-checked_name.ensures.name c.in_ok-checked_name.ensures.faultless c.insert.ensures
+    c.in-Some.ensures.number c.in_ok-checked_name.ensures.name c.in_ok-checked_name.ensures.faultless c.insert.ensures.changed
 
 pub returns-clause-names : goal.returns-clause-names
 returns-clause-names c = read_all _ (fields c.loop-number.rest.now) _ c.loop-number.invariant c.in_default.ensures.none

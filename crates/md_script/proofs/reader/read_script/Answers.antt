@@ -8,7 +8,7 @@ pub loop-rest-preserved : goal.loop-rest-preserved
 loop-rest-preserved c = record {
   lines_read =
       line_read (lines c.args.bytes.now) c.loop-rest.count _ (lines c.loop-rest.rest.now) c.split_line.result.0.now c.without_return.result.now (lines c.split_line.result.1.now) c.loop-rest.edits.items c.read_line.new.edits.items c.loop-rest.invariant.lines_read
-      c.split_line.ensures.cut c.without_return.ensures c.loop-rest.edits.ok.0 c.in-Ok.ensures.read c.in-Ok.ensures.faultless;
+      c.split_line.ensures.cut c.without_return.ensures.value c.loop-rest.edits.ok.0 c.in-Ok.ensures.read c.in-Ok.ensures.faultless;
   room = omega (arith, c.split_line.ensures.rest_shorter);
   few = c.in-Ok.ensures.few;
 }
@@ -16,7 +16,7 @@ loop-rest-preserved c = record {
 pub returns-in-Err-Bad-clause-fault : goal.returns-in-Err-Bad-clause-fault
 returns-in-Err-Bad-clause-fault c =
     line_refused (lines c.args.bytes.now) c.loop-rest.count _ (lines c.loop-rest.rest.now) c.split_line.result.0.now c.without_return.result.now (lines c.split_line.result.1.now) c.loop-rest.edits.items c.in-Err-Bad.field-0 c.in-Err-Bad.kind _
-    c.loop-rest.invariant.lines_read c.split_line.ensures.cut c.without_return.ensures c.loop-rest.edits.ok.0 c.in-Err-Bad.ensures.fault c.in-Err-Bad.field-0-is c.in-Err-Bad.kind-is
+    c.loop-rest.invariant.lines_read c.split_line.ensures.cut c.without_return.ensures.value c.loop-rest.edits.ok.0 c.in-Err-Bad.ensures.fault c.in-Err-Bad.field-0-is c.in-Err-Bad.kind-is
 
 -- at the end all lines are read
 whole : (c : goal.After-from_list) → SpellsScript c.args.bytes.now c.loop-rest.edits.items

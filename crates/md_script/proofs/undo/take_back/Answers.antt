@@ -22,9 +22,9 @@ add_edges-requires c = (
   (
     search rules,
     (
-      vertex_added c.args.graph.now c.add_vertex.new.self c.in-DelVertex.x c.add_vertex.ensures,
+      vertex_added c.args.graph.now c.add_vertex.new.self c.in-DelVertex.x c.add_vertex.ensures.changed,
       (
-        row_are_vertices _ _ _ _ _ c.in-DelVertex.is c.add_vertex.ensures c.requires,
+        row_are_vertices _ _ _ _ _ c.in-DelVertex.is c.add_vertex.ensures.changed c.requires,
         row_has_no_loop _ _ _ _ c.in-DelVertex.is c.requires,
       ),
     ),
@@ -32,13 +32,13 @@ add_edges-requires c = (
 )
 
 pub returns-in-AddEdge : goal.returns-in-AddEdge
-returns-in-AddEdge c = added_edge_back _ _ _ _ _ _ c.in-AddEdge.is c.remove_edge.ensures
+returns-in-AddEdge c = added_edge_back _ _ _ _ _ _ c.in-AddEdge.is c.remove_edge.ensures.changed
 
 pub returns-in-DelEdge : goal.returns-in-DelEdge
-returns-in-DelEdge c = deleted_edge_back _ _ _ _ _ _ c.in-DelEdge.is c.add_edge.ensures
+returns-in-DelEdge c = deleted_edge_back _ _ _ _ _ _ c.in-DelEdge.is c.add_edge.ensures.changed
 
 pub returns-in-AddVertex : goal.returns-in-AddVertex
-returns-in-AddVertex c = added_vertex_back _ _ _ _ _ _ c.in-AddVertex.is c.remove_vertex.ensures
+returns-in-AddVertex c = added_vertex_back _ _ _ _ _ _ c.in-AddVertex.is c.remove_vertex.ensures.changed
 
 pub returns-in-DelVertex : goal.returns-in-DelVertex
-returns-in-DelVertex c = deleted_vertex_back _ _ _ _ _ _ c.in-DelVertex.is c.add_vertex.ensures c.add_edges.ensures
+returns-in-DelVertex c = deleted_vertex_back _ _ _ _ _ _ c.in-DelVertex.is c.add_vertex.ensures.changed c.add_edges.ensures.changed

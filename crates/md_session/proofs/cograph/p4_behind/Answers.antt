@@ -1,13 +1,13 @@
 use Rattle.std.proofs.Common.{subst, sym}
 use Rattle.md_script.specs.TakenBack.{Led}
-use Rattle.md_report.specs.Made.{Shows}
+use Rattle.md_report.specs.Made.{HasChange}
 use Rattle.md_report.specs.Cographs.{IsCograph}
 use Rattle.md_report.proofs.MadePaths.{shown}
 use Rattle.md_script.proofs.BackLemmas.{led}
 use Rattle.md_session.proofs.cograph.p4_behind.Goals as goal
 
 pub made_p4-found-requires : goal.made_p4-found-requires
-made_p4-found-requires c = subst (λ h. Shows h c.args.edit.now) (sym c.apply.ensures) (shown c.args.graph.now c.args.edit.now c.requires.applies)
+made_p4-found-requires c = subst (λ h. HasChange h c.args.edit.now) (sym c.apply.ensures) (shown c.args.graph.now c.args.edit.now c.requires.applies)
 
 pub take_back-requires : goal.take_back-requires
 take_back-requires c =

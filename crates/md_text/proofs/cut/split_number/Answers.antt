@@ -35,4 +35,4 @@ returns-clause-number c =
       within = c.first_blank.ensures.within;
       others = c.first_blank.ensures.before;
       found = c.first_blank.ensures.found;
-    }) c.split_at.ensures.front c.split_at.ensures.back c.number.ensures
+    }) c.split_at.ensures.front c.split_at.ensures.back c.number.ensures.value

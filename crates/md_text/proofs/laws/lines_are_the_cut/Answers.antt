@@ -2,4 +2,6 @@ use Rattle.md_text.proofs.LineLemmas.{lines_are_the_cut_lem}
 use Rattle.md_text.proofs.laws.lines_are_the_cut.Goals as goal
 
 pub returns : goal.returns
-returns c = lines_are_the_cut_lem
+returns c = record {
+  law = lines_are_the_cut_lem;
+}

@@ -20,6 +20,6 @@ loop-alloc-preserved g c = record {
       (subst (λ (lines : List PlainGraph). AppendsLines (at_graphs c.args.mode c.args.graphs) (at_graphs c.args.mode lines) (g.O.Sink.holds c.args.out.now) (g.O.Sink.holds c.loop-alloc.out))
       c.loop-alloc-test.ensures.first c.loop-alloc.invariant.progress)
       (c.in_ok-put_graph_line.ensures.puts c.next.new.self);
-  no_vertex = c.clear.ensures;
+  no_vertex = c.clear.ensures.changed;
   faults = omega (arith, c.loop-alloc.invariant.faults, c.put_graph_line.ensures.faults_never_fall);
 }

@@ -39,7 +39,7 @@ pub returns-then-children-ge4 : goal.returns-then-children-ge4
 returns-then-children-ge4 c =
     let n = count_plain c.args.children.now in
     subst (λ k. IsTrue c.ascends.result ↔ (MayHave k (row (map plain c.args.children.now)) × Ascends c.args.least.now)) (sym c.in-Prime.is)
-    ((λ h. (let four = c.if-children-ge4.true in omega arith, c.ascends.ensures.0 h)), (λ m. c.ascends.ensures.1 m.1))
+    ((λ h. (let four = c.if-children-ge4.true in omega arith, c.ascends.ensures.exactly.0 h)), (λ m. c.ascends.ensures.exactly.1 m.1))
 
 pub returns-else-children-ge4 : goal.returns-else-children-ge4
 returns-else-children-ge4 c =

@@ -14,7 +14,7 @@ pub returns-then-name-ge-NAMES : goal.returns-then-name-ge-NAMES
 returns-then-name-ge-NAMES c bytes h = useless_name bytes _ _ _ _ _ c.args.name _ h.kept h.comes c.requires (inl c.if-name-ge-NAMES.true)
 
 pub returns-then-has : goal.returns-then-has
-returns-then-has c bytes h = useless_name bytes _ _ _ _ _ c.args.name _ h.kept h.comes c.requires (inr (sym c.has.ensures ∙ c.if-has.true))
+returns-then-has c bytes h = useless_name bytes _ _ _ _ _ c.args.name _ h.kept h.comes c.requires (inr (sym c.has.ensures.value ∙ c.if-has.true))
 
 pub returns : goal.returns
 returns c bytes h =
@@ -25,8 +25,8 @@ returns c bytes h =
       record {
         kept = subst (λ us. AreKept us c.append.new.list.items c.insert.new.self) (sym trees)
             (subst (λ ms. AreKept (ts ++ leaf v ∷ []) ms c.insert.new.self) (sym c.in_ok-append.ensures)
-            (subst (AreKept (ts ++ leaf v ∷ []) (held.least.items ++ v ∷ [])) (sym c.insert.ensures)
-            (kept_name ts held.least.items held.seen v h.kept c.if-name-ge-NAMES.false (sym c.has.ensures ∙ c.if-has.false))));
+            (subst (AreKept (ts ++ leaf v ∷ []) (held.least.items ++ v ∷ [])) (sym c.insert.ensures.changed)
+            (kept_name ts held.least.items held.seen v h.kept c.if-name-ge-NAMES.false (sym c.has.ensures.value ∙ c.if-has.false))));
         comes = subst (IsBehind bytes c.args.tail.now held.opens.items) (sym trees) (due_name bytes _ _ ts v _ h.comes c.requires);
       },
       number_shorter _ _ v c.requires,

@@ -10,12 +10,12 @@ returns-in-Ok c ks are =
       record {
         kinds = ks;
         are = are;
-        on = goes_then (TreeThen ks) (NumberThen (Tail ks)) (Tail ks) _ _ _ (due_number ks _ c.in_default.ensures) (number_goes (Tail ks) (tail_stops ks) _ _ n);
+        on = goes_then (TreeThen ks) (NumberThen (Tail ks)) (Tail ks) _ _ _ (due_number ks _ c.in_default.ensures.split) (number_goes (Tail ks) (tail_stops ks) _ _ n);
       },
       grind (arith, ap length n.1, (decimal_is_canonical n.0).0.some_digit, length-append),
     )
 
 pub returns-in-Err : goal.returns-in-Err
 returns-in-Err c ks are =
-    stuck_then (TreeThen ks) (NumberThen (Tail ks)) _ _ _ (due_number ks _ c.in_default.ensures)
+    stuck_then (TreeThen ks) (NumberThen (Tail ks)) _ _ _ (due_number ks _ c.in_default.ensures.split)
     (number_stuck (Tail ks) (tail_stops ks) (some_tail ks).0 (some_tail ks).1 _ _ c.in-Err.ensures.stuck)

@@ -2,4 +2,6 @@ use Rattle.md_tree.proofs.OneTree.{graph_proof}
 use Rattle.md_tree.proofs.laws.graph_of_the_tree.Goals as goal
 
 pub returns : goal.returns
-returns c = graph_proof
+returns c = record {
+  law = graph_proof;
+}

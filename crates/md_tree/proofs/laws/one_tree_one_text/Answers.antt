@@ -2,4 +2,6 @@ use Rattle.md_tree.proofs.Texts.{one_text_proof}
 use Rattle.md_tree.proofs.laws.one_tree_one_text.Goals as goal
 
 pub returns : goal.returns
-returns c = one_text_proof
+returns c = record {
+  law = one_text_proof;
+}

@@ -2,4 +2,6 @@ use Rattle.md_tree.proofs.OneTree.{tells_proof}
 use Rattle.md_tree.proofs.laws.tree_tells_graph.Goals as goal
 
 pub returns : goal.returns
-returns c = tells_proof
+returns c = record {
+  law = tells_proof;
+}

@@ -2,4 +2,6 @@ use Rattle.md_tree.proofs.ReadBack.{read_back_proof}
 use Rattle.md_tree.proofs.laws.written_trees_are_read.Goals as goal
 
 pub returns : goal.returns
-returns c = read_back_proof
+returns c = record {
+  law = read_back_proof;
+}

@@ -1,4 +1,4 @@
-use Rattle.std.proofs.Common.{true, sym, subst, ap, ◌∙◌, ◌∷◌, ◌++◌, arith}
+use Rattle.std.proofs.Common.{true, sym, subst, ap, ◌∙◌, ◌∷◌, ◌++◌}
 use Rattle.std.specs.Prelude.{◌↔◌, IsTrue}
 use Rattle.md_tree.specs.TreeTexts.{pairs_text}
 use Rattle.md_tree.specs.Held.{no_pair, HasRead, AreListed}

@@ -27,7 +27,9 @@ unreachable-requires c =
     (ap (map plain) (nil_from_length c.loop-part.stack.items (sym c.loop-part.stack.ok.0 ∙ c.in-None.ensures.cases.0))) c.requires.0 c.requires.1
 
 pub returns : goal.returns
-returns c =
-    fold_top _ _ _ _ _ c.loop-part.invariant
-    (ap (map plain_part) (nil_from_length c.loop-part.parts.items (sym c.loop-part.parts.ok.0 ∙ c.in_default.ensures.cases.0)))
-    (map_one_more plain c.loop-part.stack.items c.pop-2.new.self.items c.in-Some-pop.tree c.in-Some-pop.ensures.items)
+returns c = record {
+  tree =
+      fold_top _ _ _ _ _ c.loop-part.invariant
+      (ap (map plain_part) (nil_from_length c.loop-part.parts.items (sym c.loop-part.parts.ok.0 ∙ c.in_default.ensures.cases.0)))
+      (map_one_more plain c.loop-part.stack.items c.pop-2.new.self.items c.in-Some-pop.tree c.in-Some-pop.ensures.items);
+}

@@ -35,7 +35,7 @@ add_names-add_names_below-requires t c =
 
 pub add_names-returns-in-Leaf-clause-vertices : goal.add_names-returns-in-Leaf-clause-vertices
 add_names-returns-in-Leaf-clause-vertices t c =
-    ap (λ g. g.vertices) c.add_vertex.ensures ∙ insert_is_union c.args.graph.now.vertices c.in-Leaf.name
+    ap (λ g. g.vertices) c.add_vertex.ensures.changed ∙ insert_is_union c.args.graph.now.vertices c.in-Leaf.name
     ∙ sym (ap (union c.args.graph.now.vertices) (names_leaf c.args.tree.now c.in-Leaf.name c.in-Leaf.is))
 
 pub add_names-returns-in-Node-clause-vertices : goal.add_names-returns-in-Node-clause-vertices

@@ -19,13 +19,15 @@ add_tree_edges-requires-clause-inside c x h =
     subst (λ s. Has s x) (sym c.add_names.ensures.vertices) (union_right c.args.graph.now.vertices (names (plain c.in-Some.tree)) x h)
 
 pub returns : goal.returns
-returns c = elim c.match-tree.branch [
-  | in-Some w ↦ (
-      let well = subst (λ o. IsWellFormed (plain_option o)) w.in-Some.is c.requires.well_formed in
-      filled_graph c.args.graph.now w.add_names.new.graph c.match-tree.graph c.args.tree.now w.in-Some.tree w.in-Some.is c.vertices-vertices.ensures.graph c.vertices-vertices-2.ensures.graph
-      c.requires.no_vertices well.1 well.0 w.add_names.ensures.vertices w.add_names.ensures.edges
-      (ap (λ g. g.vertices) w.graph-is ∙ w.add_tree_edges.ensures.vertices)
-      (λ x y. ap (λ g. adjacent g x y) w.graph-is ∙ w.add_tree_edges.ensures.edges x y))
-  | in_default w ↦ w.graph-is ∙ empty_without_vertices c.args.graph.now c.vertices-vertices.ensures.graph c.requires.no_vertices
-      ∙ sym (ap (λ o. graph_of_tree (plain_option o)) w.in_default.is)
-]
+returns c = record {
+  graph = elim c.match-tree.branch [
+    | in-Some w ↦ (
+        let well = subst (λ o. IsWellFormed (plain_option o)) w.in-Some.is c.requires.well_formed in
+        filled_graph c.args.graph.now w.add_names.new.graph c.match-tree.graph c.args.tree.now w.in-Some.tree w.in-Some.is c.vertices-vertices.ensures.graph c.vertices-vertices-2.ensures.graph
+        c.requires.no_vertices well.1 well.0 w.add_names.ensures.vertices w.add_names.ensures.edges
+        (ap (λ g. g.vertices) w.graph-is ∙ w.add_tree_edges.ensures.vertices)
+        (λ x y. ap (λ g. adjacent g x y) w.graph-is ∙ w.add_tree_edges.ensures.edges x y))
+    | in_default w ↦ w.graph-is ∙ empty_without_vertices c.args.graph.now c.vertices-vertices.ensures.graph c.requires.no_vertices
+        ∙ sym (ap (λ o. graph_of_tree (plain_option o)) w.in_default.is)
+  ];
+}

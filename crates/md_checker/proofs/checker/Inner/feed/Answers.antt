@@ -3,15 +3,15 @@ use Rattle.std.specs.Prelude.{IsTrue}
 use Rattle.md_report.specs.Lines.{plain_line}
 use Rattle.md_report.specs.Places.{MayCome}
 use Rattle.md_checker.specs.declared.checker.Inner.{Inner}
-use Rattle.md_checker.specs.Checkers.{place_of}
+use Rattle.md_checker.specs.Checkers.{report_place}
 use Rattle.md_checker.proofs.checker.Inner.feed.Goals as goal
 
 pub returns-in-OverGraphs-clause-may : goal.returns-in-OverGraphs-clause-may
 returns-in-OverGraphs-clause-may c =
-    subst (λ (z : Inner). IfOk c.feed.result (λ taken. IsTrue taken ↔ MayCome (place_of z) (plain_line c.args.line.now)))
+    subst (λ (z : Inner). IfOk c.feed.result (λ taken. IsTrue taken ↔ MayCome (report_place z) (plain_line c.args.line.now)))
     (sym c.in-OverGraphs.is) c.feed.ensures.may
 
 pub returns-in-OverSession-clause-may : goal.returns-in-OverSession-clause-may
 returns-in-OverSession-clause-may c =
-    subst (λ (z : Inner). IfOk c.feed-in-OverSession.result (λ taken. IsTrue taken ↔ MayCome (place_of z) (plain_line c.args.line.now)))
+    subst (λ (z : Inner). IfOk c.feed-in-OverSession.result (λ taken. IsTrue taken ↔ MayCome (report_place z) (plain_line c.args.line.now)))
     (sym c.in-OverSession.is) c.feed-in-OverSession.ensures.may

@@ -1,5 +1,5 @@
 use Rattle.std.proofs.Common.{◌≡◌, Option, ◌∙◌, arith}
-use Rattle.md_cotree.specs.Cotrees.{trees_of, IsKeptAs}
+use Rattle.md_cotree.specs.Cotrees.{root_row, IsKeptAs}
 use Rattle.md_cotree.specs.PlaceTrees.{PlaceTree, node_counts}
 use Rattle.md_cotree.proofs.NodeCounts.{nodes_told}
 use Rattle.md_cotree.proofs.NoPaths.{cotree_graph}
@@ -14,9 +14,9 @@ returns c = record {
       ∙ nodes_told c.args.self.now g (cotree_graph c.args.self.now g denotes) denotes.0 denotes.1 denotes.2 t is;
 }
   where
-    counted : (o : Option PlaceTree) → IsKeptAs c.args.self.now o → c.from.result ≡ node_counts (trees_of o)
+    counted : (o : Option PlaceTree) → IsKeptAs c.args.self.now o → c.from.result ≡ node_counts (root_row o)
     counted o kept =
-        let all = room c.args.self.now.lists (trees_of o) c.spare.ensures.links kept.fits in
+        let all = room c.args.self.now.lists (root_row o) c.spare.ensures.links kept.fits in
         let free = c.spare.ensures.spare in
         let cast = c.from.ensures in
         omega arith

@@ -1,8 +1,8 @@
 use Rattle.md_cotree.proofs.Telling.{has_tree, told_well_formed, told_no_prime, told_tree}
 use Rattle.md_cotree.proofs.cotree.Cotree.to_tree.Goals as goal
 
-pub ordered-requires-clause-stands : goal.ordered-requires-clause-stands
-ordered-requires-clause-stands c = has_tree c.args.self.now c.requires.sound.0 c.requires.sound.1 c.spare-spare.ensures.links c.in-Some.root c.in-Some.is
+pub tree_at-requires-clause-stands : goal.tree_at-requires-clause-stands
+tree_at-requires-clause-stands c = has_tree c.args.self.now c.requires.sound.0 c.requires.sound.1 c.spare-spare.ensures.links c.in-Some.root c.in-Some.is
 
 pub returns-in_ok-tree-in-Some-clause-tree : goal.returns-in_ok-tree-in-Some-clause-tree
 returns-in_ok-tree-in-Some-clause-tree c = told_tree c.args.self.now c.in-Some.root c.in-Some.is _ c.in_ok-tree-in-Some.ensures

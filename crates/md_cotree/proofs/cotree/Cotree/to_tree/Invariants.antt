@@ -1,4 +1,4 @@
 use Rattle.md_cotree.proofs.cotree.Cotree.to_tree.Given as goal
 
-abbrev pub ghosts-ordered : goal.ghosts-ordered
-ghosts-ordered a = record { name = a.blank.name; parts = a.blank.parts }
+abbrev pub ghosts-tree_at : goal.ghosts-tree_at
+ghosts-tree_at a = record { name = a.blank.name; parts = a.blank.parts }

@@ -20,9 +20,9 @@ prime_children-requires g c =
             search rules,
             (
               subst (λ (t : NameSet). IsPrime (adjacent c.args.g.now) t) (sym c.vertices.ensures.set) (record {
-                two = (0, 1, sym c.has_vertex.ensures ∙ first, sym c.has_vertex-2.ensures ∙ second, λ (e : 0 ≡ 1). absurd (omega arith));
-                connected = c.connected.ensures.0 whole;
-                co_connected = c.co_connected.ensures.0 co_whole;
+                two = (0, 1, sym c.has_vertex.ensures.value ∙ first, sym c.has_vertex-2.ensures.value ∙ second, λ (e : 0 ≡ 1). absurd (omega arith));
+                connected = c.connected.ensures.exactly.0 whole;
+                co_connected = c.co_connected.ensures.exactly.0 co_whole;
               }),
               λ v least. steps_none c.vertices.result.now v c.none.result.taken.items c.none.result.steps.items c.none.ensures.taken c.none.ensures.steps,
             ),

@@ -14,7 +14,7 @@ children-requires g c = (
       search rules,
       (
         λ x h. subst (λ (s : NameSet). Has s x) c.vertices.ensures.set
-            (of_meet c.args.set.now c.vertices.result.now x (Has-along c.and-within.result (intersection c.args.set.now c.vertices.result.now) c.and-within.ensures x h)).1,
+            (of_meet c.args.set.now c.vertices.result.now x (Has-along c.and-within.result (intersection c.args.set.now c.vertices.result.now) c.and-within.ensures.value x h)).1,
         (
           search rules,
           (

@@ -10,12 +10,14 @@ loop-v-init g c = Made-start (complement c.args.self.now) _ (c.in_ok-rows.ensure
 pub loop-v-preserved : goal.loop-v-preserved
 loop-v-preserved g c =
     let pushed : c.push.new.self.items ≡ c.loop-v.rows.items ++ c.complement_row.result ∷ [] = search rules in
-    Made-more c.loop-v.invariant _ (c.complement_row.ensures) _ pushed
+    Made-more c.loop-v.invariant _ (c.complement_row.ensures.value) _ pushed
 
 pub invariant_of-result : goal.invariant_of-result
 invariant_of-result g c =
-    (Made-end (IsGraph-complement (graph_is c.self.invariant c.self.view_is)) c.loop-v.invariant (omega (arith, c.len-v-end.ensures, c.self.invariant.one_each)) c.self.invariant.few (still_below c.self.invariant c.self.view_is) (c.copy.ensures ∙ ap (λ g. g.vertices) c.self.view_is)).0
+    (Made-end (IsGraph-complement (graph_is c.self.invariant c.self.view_is)) c.loop-v.invariant (omega (arith, c.len-v-end.ensures, c.self.invariant.one_each)) c.self.invariant.few (still_below c.self.invariant c.self.view_is) (c.copy.ensures.value ∙ ap (λ g. g.vertices) c.self.view_is)).0
 
 pub returns : goal.returns
-returns g c =
-    (Made-end (IsGraph-complement (graph_is c.self.invariant c.self.view_is)) c.loop-v.invariant (omega (arith, c.len-v-end.ensures, c.self.invariant.one_each)) c.self.invariant.few (still_below c.self.invariant c.self.view_is) (c.copy.ensures ∙ ap (λ g. g.vertices) c.self.view_is)).1
+returns g c = record {
+  made =
+      (Made-end (IsGraph-complement (graph_is c.self.invariant c.self.view_is)) c.loop-v.invariant (omega (arith, c.len-v-end.ensures, c.self.invariant.one_each)) c.self.invariant.few (still_below c.self.invariant c.self.view_is) (c.copy.ensures.value ∙ ap (λ g. g.vertices) c.self.view_is)).1;
+}

@@ -3,9 +3,13 @@ use Rattle.md_graph.proofs.RowLemmas.{complement_dead, complement_row_is}
 use Rattle.md_graph.proofs.graph.GraphOf.complement_row.Goals as goal
 
 pub returns-then-not-has : goal.returns-then-not-has
-returns-then-not-has g c =
-    complement_dead c.self.invariant c.self.view_is c.args.v (sym c.has.ensures ∙ c.if-not-has.true) c.none.ensures
+returns-then-not-has g c = record {
+  value =
+      complement_dead c.self.invariant c.self.view_is c.args.v (sym c.has.ensures.value ∙ c.if-not-has.true) c.none.ensures.value;
+}
 
 pub returns : goal.returns
-returns g c =
-    complement_row_is c.self.invariant c.self.view_is c.args.v c.requires (sym c.has.ensures ∙ c.if-not-has.false) _ c.index.ensures _ c.minus-others.ensures _ c.remove.ensures
+returns g c = record {
+  value =
+      complement_row_is c.self.invariant c.self.view_is c.args.v c.requires (sym c.has.ensures.value ∙ c.if-not-has.false) _ c.index.ensures _ c.minus-others.ensures.value _ c.remove.ensures.changed;
+}

@@ -9,6 +9,8 @@ index-row-requires g c =
     omega (arith, c.self.invariant.one_each)
 
 pub returns : goal.returns
-returns g c =
-    let name = still_below c.self.invariant c.self.view_is c.args.v c.requires in
-    c.count.ensures ∙ ap set.len (row_is c.self.invariant c.self.view_is c.args.v name _ c.index-row.ensures)
+returns g c = record {
+  value =
+      let name = still_below c.self.invariant c.self.view_is c.args.v c.requires in
+      c.count.ensures.value ∙ ap set.len (row_is c.self.invariant c.self.view_is c.args.v name _ c.index-row.ensures);
+}

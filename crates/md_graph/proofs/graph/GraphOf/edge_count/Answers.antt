@@ -14,12 +14,14 @@ index-requires g c =
 
 pub overflow_add-ends : goal.overflow_add-ends
 overflow_add-ends g c =
-    let fits = Counted-fits c.self.invariant (Counted-more c.self.invariant c.loop-v.invariant _ _ c.in-Some.ensures.steps _ c.index.ensures _ c.count-ends.ensures) in
+    let fits = Counted-fits c.self.invariant (Counted-more c.self.invariant c.loop-v.invariant _ _ c.in-Some.ensures.steps _ c.index.ensures _ c.count-ends.ensures.value) in
     omega arith
 
 pub loop-v-preserved : goal.loop-v-preserved
 loop-v-preserved g c =
-    Counted-more c.self.invariant c.loop-v.invariant _ _ c.in-Some.ensures.steps _ c.index.ensures _ c.count-ends.ensures
+    Counted-more c.self.invariant c.loop-v.invariant _ _ c.in-Some.ensures.steps _ c.index.ensures _ c.count-ends.ensures.value
 
 pub returns : goal.returns
-returns g c = Counted-end c.self.invariant c.self.view_is c.loop-v.invariant c.in-None.ensures.steps.0
+returns g c = record {
+  value = Counted-end c.self.invariant c.self.view_is c.loop-v.invariant c.in-None.ensures.steps.0;
+}

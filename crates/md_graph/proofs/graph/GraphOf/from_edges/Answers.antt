@@ -4,11 +4,11 @@ use Rattle.md_graph.proofs.ListedLemmas.{list_begins, list_more, sound_more, all
 use Rattle.md_graph.proofs.graph.GraphOf.from_edges.Goals as goal
 
 pub add_range-requires : goal.add_range-requires
-add_range-requires g c = (search rules, (omega (arith, c.requires.count), λ v _ _. none_there c.in_ok-graph.ensures v))
+add_range-requires g c = (search rules, (omega (arith, c.requires.count), λ v _ _. none_there c.in_ok-graph.ensures.made v))
 
 pub loop-pair-init : goal.loop-pair-init
 loop-pair-init g c = record {
-  graph = list_begins c.args.count c.in_ok-graph.ensures c.add_range.ensures;
+  graph = list_begins c.args.count c.in_ok-graph.ensures.made c.add_range.ensures.changed;
   sound = λ k below. absurd (omega (arith, below));
 }
 

@@ -16,8 +16,10 @@ loop-v-preserved g c =
 
 pub invariant_of-result : goal.invariant_of-result
 invariant_of-result g c =
-    (Made-end (IsGraph-induced (graph_is c.self.invariant c.self.view_is) c.args.names.now) c.loop-v.invariant (omega (arith, c.len-v-end.ensures, c.self.invariant.one_each)) c.self.invariant.few (λ w m. still_below c.self.invariant c.self.view_is w (of_meet _ c.args.names.now w m).0) (c.and.ensures ∙ ap (λ g. set.intersection g.vertices c.args.names.now) c.self.view_is)).0
+    (Made-end (IsGraph-induced (graph_is c.self.invariant c.self.view_is) c.args.names.now) c.loop-v.invariant (omega (arith, c.len-v-end.ensures, c.self.invariant.one_each)) c.self.invariant.few (λ w m. still_below c.self.invariant c.self.view_is w (of_meet _ c.args.names.now w m).0) (c.and.ensures.value ∙ ap (λ g. set.intersection g.vertices c.args.names.now) c.self.view_is)).0
 
 pub returns : goal.returns
-returns g c =
-    (Made-end (IsGraph-induced (graph_is c.self.invariant c.self.view_is) c.args.names.now) c.loop-v.invariant (omega (arith, c.len-v-end.ensures, c.self.invariant.one_each)) c.self.invariant.few (λ w m. still_below c.self.invariant c.self.view_is w (of_meet _ c.args.names.now w m).0) (c.and.ensures ∙ ap (λ g. set.intersection g.vertices c.args.names.now) c.self.view_is)).1
+returns g c = record {
+  made =
+      (Made-end (IsGraph-induced (graph_is c.self.invariant c.self.view_is) c.args.names.now) c.loop-v.invariant (omega (arith, c.len-v-end.ensures, c.self.invariant.one_each)) c.self.invariant.few (λ w m. still_below c.self.invariant c.self.view_is w (of_meet _ c.args.names.now w m).0) (c.and.ensures.value ∙ ap (λ g. set.intersection g.vertices c.args.names.now) c.self.view_is)).1;
+}

@@ -20,8 +20,10 @@ remove-requires-2 g c = (search rules, (ends_are_names c.self.invariant c.self.v
 
 pub invariant_of-self : goal.invariant_of-self
 invariant_of-self g c =
-    (rows_remove_edge c.self.invariant c.self.view_is c.args.u c.args.v c.requires c.remove.ensures c.index_mut.ensures.value c.remove-2.ensures c.index_mut-2.ensures.value).0
+    (rows_remove_edge c.self.invariant c.self.view_is c.args.u c.args.v c.requires c.remove.ensures.changed c.index_mut.ensures.value c.remove-2.ensures.changed c.index_mut-2.ensures.value).0
 
 pub returns : goal.returns
-returns g c =
-    (rows_remove_edge c.self.invariant c.self.view_is c.args.u c.args.v c.requires c.remove.ensures c.index_mut.ensures.value c.remove-2.ensures c.index_mut-2.ensures.value).1
+returns g c = record {
+  changed =
+      (rows_remove_edge c.self.invariant c.self.view_is c.args.u c.args.v c.requires c.remove.ensures.changed c.index_mut.ensures.value c.remove-2.ensures.changed c.index_mut-2.ensures.value).1;
+}

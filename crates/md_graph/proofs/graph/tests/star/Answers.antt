@@ -13,7 +13,7 @@ add_edges-requires g c = (
       (
         λ u m.
             let empty : c.is_empty.result ≡ true = search rules in
-            ap (λ s. set.contains s u) (sym c.vertices.ensures.set) ∙ member_from_difference _ _ _ c.minus-strange.ensures (c.is_empty.ensures.0 empty) u m,
+            ap (λ s. set.contains s u) (sym c.vertices.ensures.set) ∙ member_from_difference _ _ _ c.minus-strange.ensures.value (c.is_empty.ensures.exactly.0 empty) u m,
         search rules,
       ),
     ),

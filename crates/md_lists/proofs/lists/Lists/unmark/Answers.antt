@@ -1,5 +1,5 @@
 use Rattle.std.proofs.Common.{None, sym, ◌∙◌, ap}
-use Rattle.md_lists.specs.Words.{first_or}
+use Rattle.md_graph.specs.Linked.{first_or}
 use Rattle.md_lists.specs.Links.{unmarked, unmarked_first}
 use Rattle.md_lists.proofs.Showing.{opened, shown, links_shown}
 use Rattle.md_lists.proofs.Marks.{marks_first, marks_none, first_items, unmarks_first}

@@ -68,7 +68,7 @@ invariant_of-self g c =
     let kept = c.self.invariant in
     let turn = turn_read c.self.inside c.self.invariant c.in-Some.least c.in-Some-index.half c.index.result.now c.in-Some.ensures.found c.in-Some.ensures.name c.index.ensures c.in-Some-index.is c.index-place.result.now c.index-place.ensures c.index-main.result.now c.index-main.ensures in
     let none = whole_read c.self.inside c.self.invariant c.in-Some.least c.in-Some-index.half c.index.result.now c.in-Some.ensures.found c.in-Some.ensures.name c.index.ensures c.in-Some-index.is c.index-place.result.now c.index-place.ensures c.index-main.result.now c.index-main.ensures c.index-2.result.now c.index-2.ensures c.if-index-eq0.true in
-    (kept.0, whole_keeps (marks_kept a) kept.0 kept.1 c.in-Some.least c.in-Some-index.half c.index-place.result.now c.index-main.result.now turn c.remove.new.self c.remove.ensures none)
+    (kept.0, whole_keeps (marks_kept a) kept.0 kept.1 c.in-Some.least c.in-Some-index.half c.index-place.result.now c.index-main.result.now turn c.remove.new.self c.remove.ensures.changed none)
 
 pub returns-then-index-eq0-clause-settled : goal.returns-then-index-eq0-clause-settled
 returns-then-index-eq0-clause-settled g c =
@@ -76,14 +76,14 @@ returns-then-index-eq0-clause-settled g c =
     let kept = c.self.invariant in
     let turn = turn_read c.self.inside c.self.invariant c.in-Some.least c.in-Some-index.half c.index.result.now c.in-Some.ensures.found c.in-Some.ensures.name c.index.ensures c.in-Some-index.is c.index-place.result.now c.index-place.ensures c.index-main.result.now c.index-main.ensures in
     let none = whole_read c.self.inside c.self.invariant c.in-Some.least c.in-Some-index.half c.index.result.now c.in-Some.ensures.found c.in-Some.ensures.name c.index.ensures c.in-Some-index.is c.index-place.result.now c.index-place.ensures c.index-main.result.now c.index-main.ensures c.index-2.result.now c.index-2.ensures c.if-index-eq0.true in
-    shown _ kept.0 (whole_keeps (marks_kept a) kept.0 kept.1 c.in-Some.least c.in-Some-index.half c.index-place.result.now c.index-main.result.now turn c.remove.new.self c.remove.ensures none) ∙ whole_shows (marks_kept a) kept.0 kept.1 c.in-Some.least c.in-Some-index.half c.index-place.result.now c.index-main.result.now turn c.remove.new.self c.remove.ensures none ∙ ap settled (sym (opened a c.args.self.now kept c.self.view_is))
+    shown _ kept.0 (whole_keeps (marks_kept a) kept.0 kept.1 c.in-Some.least c.in-Some-index.half c.index-place.result.now c.index-main.result.now turn c.remove.new.self c.remove.ensures.changed none) ∙ whole_shows (marks_kept a) kept.0 kept.1 c.in-Some.least c.in-Some-index.half c.index-place.result.now c.index-main.result.now turn c.remove.new.self c.remove.ensures.changed none ∙ ap settled (sym (opened a c.args.self.now kept c.self.view_is))
 
 pub returns-then-index-eq0-clause-none : goal.returns-then-index-eq0-clause-none
 returns-then-index-eq0-clause-none g c =
     let a = c.self.inside in
     let kept = c.self.invariant in
     let turn = turn_read c.self.inside c.self.invariant c.in-Some.least c.in-Some-index.half c.index.result.now c.in-Some.ensures.found c.in-Some.ensures.name c.index.ensures c.in-Some-index.is c.index-place.result.now c.index-place.ensures c.index-main.result.now c.index-main.ensures in
-    let first = first_touched (marks_kept a) kept.0 kept.1 c.in-Some.least c.in-Some-index.half c.index-place.result.now c.index-main.result.now turn c.remove.new.self c.remove.ensures in
+    let first = first_touched (marks_kept a) kept.0 kept.1 c.in-Some.least c.in-Some-index.half c.index-place.result.now c.index-main.result.now turn c.remove.new.self c.remove.ensures.changed in
     let touched = ap (λ (q : Classes). q.touched) (opened a c.args.self.now kept c.self.view_is) ∙ first.1 in
     (λ e. absurd (false≢true (sym e)), λ e. absurd (nothing c.in-Some.least first.0 (sym touched ∙ e)))
 
@@ -93,7 +93,7 @@ returns-then-index-eq0-clause-partition g c =
     let kept = c.self.invariant in
     let turn = turn_read c.self.inside c.self.invariant c.in-Some.least c.in-Some-index.half c.index.result.now c.in-Some.ensures.found c.in-Some.ensures.name c.index.ensures c.in-Some-index.is c.index-place.result.now c.index-place.ensures c.index-main.result.now c.index-main.ensures in
     let none = whole_read c.self.inside c.self.invariant c.in-Some.least c.in-Some-index.half c.index.result.now c.in-Some.ensures.found c.in-Some.ensures.name c.index.ensures c.in-Some-index.is c.index-place.result.now c.index-place.ensures c.index-main.result.now c.index-main.ensures c.index-2.result.now c.index-2.ensures c.if-index-eq0.true in
-    kept_partition _ kept.0 (whole_keeps (marks_kept a) kept.0 kept.1 c.in-Some.least c.in-Some-index.half c.index-place.result.now c.index-main.result.now turn c.remove.new.self c.remove.ensures none)
+    kept_partition _ kept.0 (whole_keeps (marks_kept a) kept.0 kept.1 c.in-Some.least c.in-Some-index.half c.index-place.result.now c.index-main.result.now turn c.remove.new.self c.remove.ensures.changed none)
 
 pub index_mut-requires-2 : goal.index_mut-requires-2
 index_mut-requires-2 g c =
@@ -158,7 +158,7 @@ invariant_of-self-2 g c =
     let low = place_fits c.self.inside c.self.invariant c.in-Some.least c.in-Some-index.half c.index.result.now c.in-Some.ensures.found c.in-Some.ensures.name c.index.ensures c.in-Some-index.is c.index-place.result.now c.index-place.ensures in
     let long = kept.1.nexts_len in
     let next = get_or_read a.nexts.items c.index-place.result.now c.index-3.result.now (omega arith) c.index-3.ensures None in
-    (inserted c.index-place.result.now a.used kept.0, part_keeps (marks_kept a) kept.0 kept.1 c.in-Some.least c.in-Some-index.half c.index-place.result.now c.index-main.result.now turn c.remove.new.self c.remove.ensures c.index-3.result.now next some)
+    (inserted c.index-place.result.now a.used kept.0, part_keeps (marks_kept a) kept.0 kept.1 c.in-Some.least c.in-Some-index.half c.index-place.result.now c.index-main.result.now turn c.remove.new.self c.remove.ensures.changed c.index-3.result.now next some)
 
 pub returns-clause-settled : goal.returns-clause-settled
 returns-clause-settled g c =
@@ -169,14 +169,14 @@ returns-clause-settled g c =
     let low = place_fits c.self.inside c.self.invariant c.in-Some.least c.in-Some-index.half c.index.result.now c.in-Some.ensures.found c.in-Some.ensures.name c.index.ensures c.in-Some-index.is c.index-place.result.now c.index-place.ensures in
     let long = kept.1.nexts_len in
     let next = get_or_read a.nexts.items c.index-place.result.now c.index-3.result.now (omega arith) c.index-3.ensures None in
-    shown _ (inserted c.index-place.result.now a.used kept.0) (part_keeps (marks_kept a) kept.0 kept.1 c.in-Some.least c.in-Some-index.half c.index-place.result.now c.index-main.result.now turn c.remove.new.self c.remove.ensures c.index-3.result.now next some) ∙ part_shows (marks_kept a) kept.0 kept.1 c.in-Some.least c.in-Some-index.half c.index-place.result.now c.index-main.result.now turn c.remove.new.self c.remove.ensures c.index-3.result.now next some ∙ ap settled (sym (opened a c.args.self.now kept c.self.view_is))
+    shown _ (inserted c.index-place.result.now a.used kept.0) (part_keeps (marks_kept a) kept.0 kept.1 c.in-Some.least c.in-Some-index.half c.index-place.result.now c.index-main.result.now turn c.remove.new.self c.remove.ensures.changed c.index-3.result.now next some) ∙ part_shows (marks_kept a) kept.0 kept.1 c.in-Some.least c.in-Some-index.half c.index-place.result.now c.index-main.result.now turn c.remove.new.self c.remove.ensures.changed c.index-3.result.now next some ∙ ap settled (sym (opened a c.args.self.now kept c.self.view_is))
 
 pub returns-clause-none : goal.returns-clause-none
 returns-clause-none g c =
     let a = c.self.inside in
     let kept = c.self.invariant in
     let turn = turn_read c.self.inside c.self.invariant c.in-Some.least c.in-Some-index.half c.index.result.now c.in-Some.ensures.found c.in-Some.ensures.name c.index.ensures c.in-Some-index.is c.index-place.result.now c.index-place.ensures c.index-main.result.now c.index-main.ensures in
-    let first = first_touched (marks_kept a) kept.0 kept.1 c.in-Some.least c.in-Some-index.half c.index-place.result.now c.index-main.result.now turn c.remove.new.self c.remove.ensures in
+    let first = first_touched (marks_kept a) kept.0 kept.1 c.in-Some.least c.in-Some-index.half c.index-place.result.now c.index-main.result.now turn c.remove.new.self c.remove.ensures.changed in
     let touched = ap (λ (q : Classes). q.touched) (opened a c.args.self.now kept c.self.view_is) ∙ first.1 in
     (λ e. absurd (false≢true (sym e)), λ e. absurd (nothing c.in-Some.least first.0 (sym touched ∙ e)))
 
@@ -189,4 +189,4 @@ returns-clause-partition g c =
     let low = place_fits c.self.inside c.self.invariant c.in-Some.least c.in-Some-index.half c.index.result.now c.in-Some.ensures.found c.in-Some.ensures.name c.index.ensures c.in-Some-index.is c.index-place.result.now c.index-place.ensures in
     let long = kept.1.nexts_len in
     let next = get_or_read a.nexts.items c.index-place.result.now c.index-3.result.now (omega arith) c.index-3.ensures None in
-    kept_partition _ (inserted c.index-place.result.now a.used kept.0) (part_keeps (marks_kept a) kept.0 kept.1 c.in-Some.least c.in-Some-index.half c.index-place.result.now c.index-main.result.now turn c.remove.new.self c.remove.ensures c.index-3.result.now next some)
+    kept_partition _ (inserted c.index-place.result.now a.used kept.0) (part_keeps (marks_kept a) kept.0 kept.1 c.in-Some.least c.in-Some-index.half c.index-place.result.now c.index-main.result.now turn c.remove.new.self c.remove.ensures.changed c.index-3.result.now next some)

@@ -1,0 +1,198 @@
+//! The walk through the edges of a graph.
+ghost use Rattle.std.specs.Prelude.{◌≡◌, ℕ, ◌+◌, ◌<◌, ◌↔◌, true, false, length, IfOk};
+ghost use Rattle.md_graph.specs.Sets.{Has};
+ghost use Rattle.md_forcing.specs.Forcing.{IsArc};
+ghost use Rattle.md_forcing.specs.Sides.{adjacent_on};
+ghost use Rattle.md_comparability.specs.Walking.{HasArcOf, JoinsAlso, IsWalked, IsStopped, IsClassOrChosen, HasRoom};
+
+use md_forcing::{Arc, ArcSet, Explored, ForcingTree, Side, explore};
+use md_graph::{Graph, Memory, NAMES, Names};
+use std::alloc::Global;
+
+/// Where a walk ends: at a class that holds the reverse of its first arc, with its trail, or with
+/// the chosen arcs.
+#[derive(Drop)]
+pub enum ClassOrChosen {
+    Stopped(ForcingTree),
+    Whole(ArcSet),
+}
+
+/// Walks through the edges of a graph or of its complement, smaller ends first: to the first edge
+/// that reaches its own reverse, with its trail; or, where there is none, through all edges, with
+/// the arcs of the least-edge orientation. Each arc is explored once. Errors: want of memory.
+pub fn orient_classes(alloc: Global, graph: &Graph, side: Side) -> Result<ClassOrChosen, Memory>
+    ensures ending { IfOk result (IsClassOrChosen (adjacent_on side graph.now)) }
+    ensures room { IfOk result (HasRoom graph.now.vertices) }
+{
+    let _vertices = graph.vertices();
+    let chosen = ArcSet::with_size(alloc, graph.bound())?;
+    let mut explored = Explored {
+        seen: chosen,
+        trail: ForcingTree::new(alloc),
+    };
+    for u in 0..explored.seen.size() {
+        let (next, stopped) = orient_classes_at(alloc, graph, side, u, explored)?;
+        explored = next;
+        if stopped {
+            return Ok(ClassOrChosen::Stopped(explored.trail));
+        }
+    }
+    Ok(ClassOrChosen::Whole(explored.seen))
+}
+
+// Walks through the edges whose smaller end is `u`. Says whether it stopped, at the class of the
+// trail; the seen arcs are the chosen ones.
+fn orient_classes_at(
+    alloc: Global,
+    graph: &Graph,
+    side: Side,
+    u: u32,
+    explored: Explored,
+) -> Result<(Explored, bool), Memory>
+    requires name { u < NAMES }
+    requires size { u < length explored.seen }
+    requires room { (v : ℕ) → Has graph.now.vertices v → v < length explored.seen }
+    requires walked { IsWalked (adjacent_on side graph.now) u explored.seen }
+    ensures stopped { IfOk result (λ r. r.1 ≡ true
+        → IsStopped (adjacent_on side graph.now) r.0.trail) }
+    ensures walked { IfOk result (λ r. r.1 ≡ false
+        → IsWalked (adjacent_on side graph.now) (u + 1) r.0.seen) }
+    ensures room { IfOk result (λ r. length r.0.seen ≡ length explored.seen) }
+{
+    let _vertices = graph.vertices();
+    let left = unoriented_neighbours(graph, side, u, &explored.seen);
+    let mut explored = explored;
+    for v in left.members() {
+        let first = Arc { tail: u, head: v };
+        let (next, stopped) = orient_class_of(alloc, graph, side, first, explored)?;
+        explored = next;
+        if stopped {
+            return Ok((explored, true));
+        }
+    }
+    Ok((explored, false))
+}
+
+// Explores the class of an arc, unless its edge has a chosen arc. Says whether the class holds the
+// reverse of the arc. Condition: the edges that are less are walked through.
+fn orient_class_of(
+    alloc: Global,
+    graph: &Graph,
+    side: Side,
+    first: Arc,
+    explored: Explored,
+) -> Result<(Explored, bool), Memory>
+    requires is_arc { IsArc (adjacent_on side graph.now) first }
+    requires room { (v : ℕ) → Has graph.now.vertices v → v < length explored.seen }
+    requires walked { IsWalked (adjacent_on side graph.now) first.tail explored.seen }
+    requires passed { (y : ℕ) → adjacent_on side graph.now first.tail y ≡ true → y < first.head
+        → HasArcOf explored.seen first.tail y }
+    ensures stopped { IfOk result (λ r. r.1 ≡ true
+        → IsStopped (adjacent_on side graph.now) r.0.trail) }
+    ensures walked { IfOk result (λ r. r.1 ≡ false
+        → IsWalked (adjacent_on side graph.now) first.tail r.0.seen) }
+    ensures joined { IfOk result (λ r. r.1 ≡ false
+        → JoinsAlso first.tail first.head explored.seen r.0.seen) }
+    ensures room { IfOk result (λ r. length r.0.seen ≡ length explored.seen) }
+{
+    let _vertices = graph.vertices();
+    let back = Arc {
+        tail: first.head,
+        head: first.tail,
+    };
+    if explored.seen.has(first) || explored.seen.has(back) {
+        return Ok((explored, false));
+    }
+    let explored = explore(alloc, graph, side, first, explored)?;
+    let stopped = explored.seen.has(back);
+    Ok((explored, stopped))
+}
+
+// The names that `u` is adjacent to on this side by edges of which no arc is in the set.
+fn unoriented_neighbours(graph: &Graph, side: Side, u: u32, arcs: &ArcSet) -> Names
+    requires name { u < NAMES }
+    requires size { u < length arcs.now }
+    ensures { (v : ℕ) → Has result v
+        ↔ ((adjacent_on side graph.now u v ≡ true) × (HasArcOf arcs.now u v → ⊥)) }
+{
+    let near = neighbours_on(graph, side, u);
+    let mut left = Names::none();
+    left.set_to_difference(&near, arcs.heads(u), arcs.tails(u));
+    left
+}
+
+// The names that `u` is adjacent to on this side.
+fn neighbours_on(graph: &Graph, side: Side, u: u32) -> Names
+    requires { u < NAMES }
+    ensures { (v : ℕ) → Has result v ↔ (adjacent_on side graph.now u v ≡ true) }
+{
+    let _vertices = graph.vertices();
+    match side {
+        Side::Edges => graph.row(u).copy(),
+        Side::NonEdges => graph.complement_row(u),
+    }
+}
+
+#[cfg(test)]
+mod tests {
+    use super::*;
+    use std::process::Abort;
+    use std::test::Fail;
+
+    // Sees whether the walk stops, how many arcs its class has, or how many it chooses, and that
+    // these are the listed ones.
+    fn expect(
+        rt: &impl Abort,
+        alloc: Global,
+        n: u32,
+        edges: &[(u32, u32)],
+        side: Side,
+        stopped: u64,
+        arcs: &[(u32, u32)],
+    ) -> Result<(), Memory> {
+        assert!(rt; n <= NAMES);
+        let graph = Graph::from_edges(alloc, n, edges)?.expect(rt, "edges");
+        match orient_classes(alloc, &graph, side)? {
+            ClassOrChosen::Stopped(trail) => assert_eq!(rt; trail.len(), stopped),
+            ClassOrChosen::Whole(chosen) => {
+                assert_eq!(rt; stopped, 0);
+                let mut count = 0u64;
+                for tail in 0..chosen.size() {
+                    let here = chosen.heads(tail).count() as u64;
+                    assert!(rt; here < 10 && count < 10);
+                    count += here;
+                }
+                assert_eq!(rt; count, arcs.len() as u64);
+                for (tail, head) in arcs {
+                    assert!(rt; *tail < chosen.size() && *head < chosen.size());
+                    assert!(rt;
+                        chosen.has(Arc {
+                            tail: *tail,
+                            head: *head
+                        })
+                    );
+                    assert!(rt; chosen.tails(*head).has(*tail));
+                }
+            }
+        }
+        Ok(())
+    }
+
+    #[test]
+    fn both_sides(rt: HostRuntime) -> Result<(), Fail> {
+        let path = [(0, 1), (1, 2), (2, 3)];
+        let triangle = [(0, 1), (1, 2), (0, 2)];
+        let cycle = [(0, 1), (1, 2), (2, 3), (3, 4), (0, 4)];
+        let chosen = [(0, 1), (2, 1), (2, 3)];
+        let others = [(0, 2), (0, 3), (1, 3)];
+        let ordered = [(0, 1), (0, 2), (1, 2)];
+        expect(&rt, rt.alloc(), 4, &path, Side::Edges, 0, &chosen)?;
+        expect(&rt, rt.alloc(), 4, &path, Side::NonEdges, 0, &others)?;
+        expect(&rt, rt.alloc(), 3, &triangle, Side::Edges, 0, &ordered)?;
+        expect(&rt, rt.alloc(), 3, &triangle, Side::NonEdges, 0, &[])?;
+        expect(&rt, rt.alloc(), 5, &cycle, Side::Edges, 10, &[])?;
+        expect(&rt, rt.alloc(), 5, &cycle, Side::NonEdges, 10, &[])?;
+        expect(&rt, rt.alloc(), 0, &[], Side::Edges, 0, &[])?;
+        Ok(())
+    }
+}

@@ -1,6 +1,0 @@
-use Rattle.std.proofs.Common.{◌≡◌}
-use Rattle.md_orientation.specs.Listed.{arcs_below}
-use Rattle.md_orient.proofs.orientation.listed.Given as goal
-
-abbrev pub invariant-loop-tail : goal.invariant-loop-tail
-invariant-loop-tail l = l.list.items ≡ arcs_below l.arcs l.tail

@@ -1,7 +1,0 @@
-use Rattle.md_forcing.specs.Sides.{adjacent_on}
-use Rattle.md_orientation.proofs.Near.{unjoined_are}
-use Rattle.md_orientation.proofs.edge_walk.unjoined.Goals as goal
-
-pub returns : goal.returns
-returns c =
-    unjoined_are (adjacent_on c.args.side c.args.graph.now) c.args.u c.args.arcs.now c.neighbours_on-near.result c.heads.result.now c.tails.result.now _ c.neighbours_on-near.ensures c.heads.ensures c.tails.ensures c.become_alone.ensures

@@ -1,5 +1,0 @@
-use Rattle.md_orientation.proofs.Alternative.{alternative_proof}
-use Rattle.md_orientation.proofs.laws.chain_or_orientation.Goals as goal
-
-pub returns : goal.returns
-returns c = alternative_proof

@@ -1,5 +1,0 @@
-use Rattle.md_orientation.proofs.OrderLaws.{no_chain_proof}
-use Rattle.md_orientation.proofs.laws.orders_if_no_chain.Goals as goal
-
-pub returns : goal.returns
-returns c = no_chain_proof

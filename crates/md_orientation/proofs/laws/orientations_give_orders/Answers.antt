@@ -1,5 +1,0 @@
-use Rattle.md_orientation.proofs.OrderLaws.{orders_proof}
-use Rattle.md_orientation.proofs.laws.orientations_give_orders.Goals as goal
-
-pub returns : goal.returns
-returns c = orders_proof

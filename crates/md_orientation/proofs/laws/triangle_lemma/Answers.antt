@@ -1,5 +1,0 @@
-use Rattle.md_orientation.proofs.Triangles.{triangle_proof}
-use Rattle.md_orientation.proofs.laws.triangle_lemma.Goals as goal
-
-pub returns : goal.returns
-returns c = triangle_proof

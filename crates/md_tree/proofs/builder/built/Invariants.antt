@@ -1,9 +1,0 @@
-use Rattle.std.proofs.Common.{length, false}
-use Rattle.md_tree.specs.Held.{HasBuilt}
-use Rattle.md_tree.proofs.builder.built.Given as goal
-
-abbrev pub invariant-loop-held : goal.invariant-loop-held
-invariant-loop-held l = HasBuilt l.bytes l.rest false l.held
-
-abbrev pub decreases-loop-held : goal.decreases-loop-held
-decreases-loop-held l = length l.rest
