@@ -18,13 +18,12 @@ use std::marker::Model;
 /// is empty for a name that is no vertex. Room for all rows is taken when the graph is made; the
 /// rows themselves are made when a vertex comes, so that what no vertex has reached costs nothing.
 /// Its value is a plain graph whatever `W`, which is at most `WORDS`.
-///
-/// `rows` are those of the names below some bound that no vertex has reached, and `none` is the row
-/// of each other name.
 #[derive(Drop)]
 pub struct GraphOf<const W: usize> {
     live: Set<W>,
+    // The rows of the names below some bound that no vertex has reached.
     rows: Vec<Set<W>>,
+    // The row of each other name.
     none: Set<W>,
 }
 
