@@ -5,7 +5,7 @@ use Rattle.md_comparability.proofs.Near.{row_start}
 use Rattle.md_comparability.proofs.edge_walk.orient_classes_at.Goals as goal
 
 pub loop-v-init : goal.loop-v-init
-loop-v-init c = record {
+loop-v-init g c = record {
   row = row_start (adjacent_on c.args.side c.args.graph.now) c.args.u c.args.explored.seen
       (λ y t. ((side_premises c.vertices-vertices.ensures.graph c.args.side).below c.args.u y t).1) c.requires.walked c.unoriented_neighbours-left.result c.unoriented_neighbours-left.ensures _
       (c.into_iter-v-iterator.ensures.into_iter_gives ∙ c.members-v-items.ensures.list);
