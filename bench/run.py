@@ -204,6 +204,10 @@ INPUTS = {
     "complete4096.g6": lambda: g6(complete(4096)),
     "bipartite4096.g6": lambda: g6(complete_bipartite(4096)),
     "permutation1024.g6": lambda: g6(permutation_graph(1024, 12)),
+    "dense100.g6": lambda: g6(dense(100, 14)),
+    "dense300.g6": lambda: g6(dense(300, 15)),
+    "vertex.g6": lambda: g6(rows_of(1, [])),
+    "none.txt": lambda: b"",
 }
 for order in (oldest_lowest, oldest_highest, in_any_order):
     for n in (1024, 2047, 4096):
@@ -243,7 +247,15 @@ CASES = [
     ("permute", "g6", "dense256.g6"),
     ("permute", "g6", "cograph1024.g6"),
     ("permute", "g6", "permutation1024.g6"),
-] + [("tree", "g6", name) for name in INPUTS if name.startswith("p4_")]
+] + [("tree", "g6", name) for name in INPUTS if name.startswith("p4_")] + [
+    (command, "g6", "dense100.g6") for command in ("edges", "graph6", "tree", "compare", "permute")
+] + [
+    ("compare", "g6", "dense300.g6"),
+    ("permute", "g6", "dense300.g6"),
+    ("edit", "g6", "vertex.g6", "none.txt"),
+    ("cograph", "g6", "vertex.g6", "none.txt"),
+    ("quiet", "g6", "vertex.g6", "none.txt"),
+]
 
 
 def measure(binary, words, where):
@@ -266,6 +278,10 @@ def measure(binary, words, where):
         found = re.search(rb"Collected : (\d+)", run.stderr)
         count = int(found.group(1)) if found else 0
     return seconds, count, peak / 1024
+
+
+def millions(count):
+    return "%.2f" % (count / 1e6) if count < 10e6 else "%.1f" % (count / 1e6)
 
 
 def measure_checks(binary, only):
@@ -366,10 +382,10 @@ def main():
             if chosen.only not in name:
                 continue
             seconds, count, peak = measure(binary, words, where)
-            line = "| `%s` | %.3f | %.1f | %.1f |" % (name, seconds, count / 1e6, peak)
+            line = "| `%s` | %.3f | %s | %.1f |" % (name, seconds, millions(count), peak)
             if peer:
                 _, other, its_peak = measure(peer, words, where)
-                line += " %.1f | %.2f | %.1f |" % (other / 1e6, count / max(other, 1), its_peak)
+                line += " %s | %.2f | %.1f |" % (millions(other), count / max(other, 1), its_peak)
             print(line, flush=True)
 
 

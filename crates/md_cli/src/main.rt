@@ -8,7 +8,7 @@ ghost use Rattle.md_top.specs.declared.stop.Status.{Status};
 ghost use Rattle.md_top.specs.Request.{texts, request_of};
 ghost use Rattle.md_top.specs.Status.{exit_number};
 
-use md_io::{DirFiles, GatheringSink, Sink, StdSink};
+use md_io::{DirFiles, GatheringSink, StdSink};
 use md_top::{Status, run};
 use std::env;
 use std::io::ErrorKind;
@@ -46,19 +46,13 @@ fn end_over(rt: &HostRuntime, words: &[String]) -> ExitCode
 fn run_here(rt: &HostRuntime, words: &[String]) -> Status
     ensures usage { (result ≡ Status.Usage) ↔ (request_of (texts words.now) ≡ None) }
 {
-    match GatheringSink::new(rt.alloc(), rt.stdout()) {
-        Ok(mut out) => run_to(rt, words, &mut out),
-        Err(_) => run_to(rt, words, &mut StdSink::new(rt.stdout())),
-    }
-}
-
-// The status of `run` over the files of the system, an output and standard error.
-fn run_to<O: Sink>(rt: &HostRuntime, words: &[String], out: &mut O) -> Status
-    ensures usage { (result ≡ Status.Usage) ↔ (request_of (texts words.now) ≡ None) }
-{
     let mut files = DirFiles::new(rt, rt.alloc());
+    let mut out = match GatheringSink::new(rt.alloc(), rt.stdout()) {
+        Ok(out) => out,
+        Err(_) => GatheringSink::without_room(rt.alloc(), rt.stdout()),
+    };
     let mut err = StdSink::new(rt.stderr());
-    run(rt.alloc(), words, &mut files, out, &mut err)
+    run(rt.alloc(), words, &mut files, &mut out, &mut err)
 }
 
 // The words behind the program's name.

@@ -1,16 +1,17 @@
 -- Rows of arcs after more arcs are taken in.
-use Rattle.std.proofs.Common.{◌≡◌, ◌⊎◌, ◌↔◌, ℕ, ◌<◌, ◌≤◌, Bool, true, cond, ◌&&◌, ◌||◌, ◌==◌, List, length, get_or, set, refl, sym, ◌∙◌, ap, subst, inl, inr, arith}
+use Rattle.std.proofs.Common.{◌≡◌, ◌⊎◌, ◌↔◌, ℕ, ◌*◌, ◌<◌, ◌≤◌, Bool, true, cond, ◌&&◌, ◌||◌, ◌==◌, List, length, get_or, set, refl, sym, ◌∙◌, ap, subst, inl, inr, arith}
 use Rattle.std.proofs.lemmas.Bool.{cases_Bool, cases_eq, cases_lt, eq-eqb, ne_eqb, eqb-true, and_parts, or_cases, or_left, or_right}
 use Rattle.std.proofs.Math.Bool.{or-false, or_comm, and_comm}
 use Rattle.std.proofs.lemmas.List.{get_or_read, get_or_past, length-set}
 use Rattle.std.specs.List.{refill}
 use Rattle.std.specs.FinSet as set
-use Rattle.md_graph.specs.declared.TheConstants.{NAMES}
+use Rattle.md_graph.specs.declared.TheConstants.{WORDS}
 use Rattle.md_graph.specs.Sets.{NameSet, Has}
 use Rattle.md_graph.specs.Rows.{row_of}
 use Rattle.md_graph.proofs.RowLemmas.{contains-set_row, refilled}
 use Rattle.md_graph.proofs.SetLaws.{contains-empty, contains-insert, contains-union}
 use Rattle.md_graph.proofs.PairLaws.{is_pair}
+use Rattle.md_graph.proofs.Limits.{words_few}
 use Rattle.md_graph.proofs.SetLemmas.{clash}
 use Rattle.md_forcing.specs.declared.arc.Arc.{Arc}
 use Rattle.md_forcing.specs.Forcing.{arc}
@@ -40,9 +41,10 @@ each_row rows ws names v each u w =
       | inr f ↦ rw f (sym (or-false (set.contains (row_of rows u) w)))
     ]
 
-turned_added : (t : ℕ → ℕ → Bool) (a b a_new b_new : List NameSet) → AreTransposed a b → length a_new ≡ length a → length b_new ≡ length b → Adds a t a_new → Adds b (λ v u. t u v) b_new → AreTransposed a_new b_new
+turned_added : {limit : ℕ} (t : ℕ → ℕ → Bool) (a b a_new b_new : List NameSet) → AreTransposed limit a b → length a_new ≡ length a → length b_new ≡ length b → Adds a t a_new → Adds b (λ v u. t u v) b_new → AreTransposed limit a_new b_new
 turned_added t a b a_new b_new is a_len b_len more more_turned = record {
   few = (let few = is.few in omega arith);
+  names = is.names;
   same = b_len ∙ is.same ∙ sym a_len;
   both = λ u v. more_turned v u ∙ ap (λ x. x || t u v) (is.both u v) ∙ sym (more u v);
 }
@@ -75,7 +77,7 @@ put_same u v x = (
   λ e. rw (eq-eqb x.tail u (ap (λ a. a.tail) e), eq-eqb x.head v (ap (λ a. a.head) e)) refl,
 )
 
-pub put_turned : (a b now : List NameSet) (u v : ℕ) → AreTransposed a b → a ≡ now → u < length now → v < length now → (new_u old_u new_v old_v : NameSet) → new_u ≡ set.insert old_u v → old_u ≡ get_or a u old_u → new_v ≡ set.insert old_v u → old_v ≡ get_or b v old_v → AreTransposed (set a u new_u) (set b v new_v)
+pub put_turned : {limit : ℕ} (a b now : List NameSet) (u v : ℕ) → AreTransposed limit a b → a ≡ now → u < length now → v < length now → (new_u old_u new_v old_v : NameSet) → new_u ≡ set.insert old_u v → old_u ≡ get_or a u old_u → new_v ≡ set.insert old_v u → old_v ≡ get_or b v old_v → AreTransposed limit (set a u new_u) (set b v new_v)
 put_turned a b now u v is same room_u room_v new_u old_u new_v old_v is_u read_u is_v read_v =
     let len = ap length same in
     let len_b = is.same in
@@ -109,9 +111,9 @@ row_same k names u v = (
   λ p. rw (eq-eqb u k p.0, p.1) refl,
 )
 
-module _ (a b now : List NameSet) (k : ℕ) (names : NameSet) (is : AreTransposed a b) (same : a ≡ now) (room : k < length now) (new old : NameSet) (made : new ≡ set.union old names) where
+module _ {limit : ℕ} (a b now : List NameSet) (k : ℕ) (names : NameSet) (is : AreTransposed limit a b) (same : a ≡ now) (room : k < length now) (new old : NameSet) (made : new ≡ set.union old names) where
   module _ (read : old ≡ get_or a k old) where
-    pub heads_turned : (n : ℕ) (before ws : List NameSet) → n ≡ length b → before ≡ b → length ws ≡ length before → ((u : ℕ) → row_of ws u ≡ cond (set.contains names u) (set.insert (row_of before u) k) (row_of before u)) → AreTransposed (set a k new) (refill n b ws)
+    pub heads_turned : (n : ℕ) (before ws : List NameSet) → n ≡ length b → before ≡ b → length ws ≡ length before → ((u : ℕ) → row_of ws u ≡ cond (set.contains names u) (set.insert (row_of before u) k) (row_of before u)) → AreTransposed limit (set a k new) (refill n b ws)
     heads_turned n before ws len same_b kept each =
         let len_a = ap length same in
         let other = turned_row n b before ws names k len same_b kept each in
@@ -123,7 +125,7 @@ module _ (a b now : List NameSet) (k : ℕ) (names : NameSet) (is : AreTranspose
         seen_added (row_test k names) (λ x. (x.tail ≡ k) × Has names x.head) (λ x. row_same k names x.tail x.head) a now _ same (whole_row a k names new old (omega arith) made read)
 
   module _ (read : old ≡ get_or b k old) (n : ℕ) (before ws : List NameSet) (len : n ≡ length a) (same_a : before ≡ a) (kept : length ws ≡ length before) (each : (u : ℕ) → row_of ws u ≡ cond (set.contains names u) (set.insert (row_of before u) k) (row_of before u)) where
-    pub tails_turned : AreTransposed (refill n a ws) (set b k new)
+    pub tails_turned : AreTransposed limit (refill n a ws) (set b k new)
     tails_turned =
         let len_a = ap length same in
         let len_b = is.same in
@@ -136,9 +138,10 @@ module _ (a b now : List NameSet) (k : ℕ) (names : NameSet) (is : AreTranspose
 
 -- ---- rows without members
 
-pub turned_none : (a b : List NameSet) (n : ℕ) → n ≤ NAMES → length a ≡ n → length b ≡ n → ((v : ℕ) → row_of a v ≡ set.empty) → ((v : ℕ) → row_of b v ≡ set.empty) → AreTransposed a b
-turned_none a b n few len_a len_b none_a none_b = record {
+pub turned_none : (w : ℕ) (a b : List NameSet) (n : ℕ) → n ≤ 64 * w → w ≤ WORDS → length a ≡ n → length b ≡ n → ((v : ℕ) → row_of a v ≡ set.empty) → ((v : ℕ) → row_of b v ≡ set.empty) → AreTransposed (64 * w) a b
+turned_none w a b n few limit len_a len_b none_a none_b = record {
   few = omega arith;
+  names = words_few w limit;
   same = len_b ∙ sym len_a;
   both = λ u v. ap (λ s. set.contains s u) (none_b v) ∙ contains-empty u ∙ sym (ap (λ s. set.contains s v) (none_a u) ∙ contains-empty v);
 }
@@ -158,7 +161,7 @@ row_within rows u v h =
 pub tail_within : (rows : List NameSet) (a : Arc) → HasArc rows a → a.tail < length rows
 tail_within rows a h = row_within rows a.tail a.head h
 
-pub head_within : (a b now : List NameSet) (x : Arc) → AreTransposed a b → a ≡ now → HasArc now x → x.head < length now
+pub head_within : {limit : ℕ} (a b now : List NameSet) (x : Arc) → AreTransposed limit a b → a ≡ now → HasArc now x → x.head < length now
 head_within a b now x is same h =
     let inner : Has (row_of a x.tail) x.head = subst (λ r. Has (row_of r x.tail) x.head) (sym same) h in
     let below = row_within b x.head x.tail (is.both x.tail x.head ∙ inner) in

@@ -12,9 +12,10 @@ use Rattle.md_forcing.specs.Forcing.{IsArc, ForcesDirectly}
 abbrev pub HasArc : List NameSet → Arc → Type 0
 HasArc rows a = Has (row_of rows a.tail) a.head
 
--- rows by tail and rows by head of the same arcs
-pub record AreTransposed (by_tail by_head : List NameSet) : Type 0 where
-  pub few : length by_tail ≤ NAMES
+-- rows by tail and rows by head of the same arcs, on names below `limit`
+pub record AreTransposed (limit : ℕ) (by_tail by_head : List NameSet) : Type 0 where
+  pub few : length by_tail ≤ limit
+  pub names : limit ≤ NAMES
   pub same : length by_head ≡ length by_tail
   pub both : (u v : ℕ) → set.contains (row_of by_head v) u ≡ set.contains (row_of by_tail u) v
 

@@ -1,5 +1,5 @@
 //! Sets of arcs, as rows of heads and rows of tails.
-ghost use Rattle.std.specs.Prelude.{◌≡◌, ℕ, ◌<◌, ◌≤◌, ◌⊎◌, ◌↔◌, true, false, length, IfOk};
+ghost use Rattle.std.specs.Prelude.{◌≡◌, ℕ, ◌*◌, ◌<◌, ◌≤◌, ◌⊎◌, ◌↔◌, true, false, length, IfOk};
 ghost use Rattle.std.specs.FinSet as set;
 ghost use Rattle.md_graph.specs.Sets.{Has};
 ghost use Rattle.md_graph.specs.Rows.{row_of};
@@ -9,7 +9,7 @@ ghost use Rattle.md_forcing.specs.Sides.{adjacent_on};
 ghost use Rattle.md_forcing.specs.ArcSet.{HasArc};
 
 use crate::Arc;
-use md_graph::{Graph, Memory, NAMES, Names, empty_rows, insert_in_rows};
+use md_graph::{GraphOf, Memory, NAMES, Set, WORDS, empty_rows, insert_in_rows};
 use std::alloc::Global;
 use std::marker::Model;
 
@@ -20,15 +20,18 @@ pub enum Side {
     NonEdges,
 }
 
-/// A set of arcs on the names below some number, as the heads of the arcs with each tail, and the
-/// tails of those with each head.
+/// A set of arcs on the names below some number, which is at most `64 * W`, as the heads of the arcs
+/// with each tail, and the tails of those with each head.
 #[derive(Drop)]
-pub struct ArcSet {
-    by_tail: Vec<Names>,
-    by_head: Vec<Names>,
+pub struct ArcSetOf<const W: usize> {
+    by_tail: Vec<Set<W>>,
+    by_head: Vec<Set<W>>,
 }
 
-impl Model for ArcSet {
+/// A set of arcs on names.
+pub type ArcSet = ArcSetOf<WORDS>;
+
+impl<const W: usize> Model for ArcSetOf<W> {
     ghost use Rattle.std.specs.Prelude.{List};
     ghost use Rattle.md_graph.specs.Sets.{NameSet};
 
@@ -39,24 +42,26 @@ impl Model for ArcSet {
 
     ghost coded = { coded_list (set.code coded_ℕ) };
 
+    ghost use Rattle.std.specs.Prelude.{◌*◌};
     ghost use Rattle.md_forcing.specs.ArcSet.{AreTransposed};
 
     ghost view = { λ s. s.by_tail.items };
 
-    ghost invariant = { λ s. AreTransposed s.by_tail.items s.by_head.items };
+    ghost invariant = { λ s. AreTransposed (64 * W) s.by_tail.items s.by_head.items };
 }
 
-impl ArcSet {
-    /// No arc, with room for the arcs on the names below `size`. Condition: these are names.
-    /// Errors: want of memory.
+impl<const W: usize> ArcSetOf<W> {
+    /// No arc, with room for the arcs on the names below `size`. Conditions: `size` is at most
+    /// `64 * W`, and `W` at most `WORDS`. Errors: want of memory.
     // Never inlined, so that the set stays in memory, and a walk has the registers to itself.
     #[inline(never)]
-    pub fn with_size(alloc: Global, size: u32) -> Result<ArcSet, Memory>
-        requires { size ≤ NAMES }
+    pub fn with_size(alloc: Global, size: u32) -> Result<ArcSetOf<W>, Memory>
+        requires size { size ≤ 64 * W }
+        requires limit { W ≤ WORDS }
         ensures room { IfOk result (λ s. length s ≡ size) }
         ensures none { IfOk result (λ s. (v : ℕ) → row_of s v ≡ set.empty) }
     {
-        Ok(ArcSet {
+        Ok(ArcSetOf {
             by_tail: empty_rows(alloc, size)?,
             by_head: empty_rows(alloc, size)?,
         })
@@ -71,7 +76,7 @@ impl ArcSet {
     }
 
     /// The heads of the arcs from `tail`. Condition: it has room.
-    pub fn heads(&self, tail: u32) -> &Names
+    pub fn heads(&self, tail: u32) -> &Set<W>
         requires { tail < length self.now }
         ensures { result.now ≡ row_of self.now tail }
     {
@@ -79,7 +84,7 @@ impl ArcSet {
     }
 
     /// The tails of the arcs to `head`. Condition: it has room.
-    pub fn tails(&self, head: u32) -> &Names
+    pub fn tails(&self, head: u32) -> &Set<W>
         requires { head < length self.now }
         ensures { (u : ℕ) → set.contains result.now u ≡ set.contains (row_of self.now u) head }
     {
@@ -90,6 +95,7 @@ impl ArcSet {
     pub fn size(&self) -> u32
         ensures size { result ≡ length self.now }
         ensures few { result ≤ NAMES }
+        ensures within { result ≤ 64 * W }
     {
         self.by_tail.len() as u32
     }
@@ -106,7 +112,7 @@ impl ArcSet {
     }
 
     // Takes in the arcs from `tail` to each of `heads`. Condition: all these ends have room.
-    pub(crate) fn take_heads(&mut self, tail: u32, heads: &Names)
+    pub(crate) fn take_heads(&mut self, tail: u32, heads: &Set<W>)
         requires room { tail < length self.old }
         requires heads_room { (w : ℕ) → Has heads.now w → w < length self.old }
         ensures room { length self.new ≡ length self.old }
@@ -118,7 +124,7 @@ impl ArcSet {
     }
 
     // Takes in the arcs from each of `tails` to `head`. Condition: all these ends have room.
-    pub(crate) fn take_tails(&mut self, tails: &Names, head: u32)
+    pub(crate) fn take_tails(&mut self, tails: &Set<W>, head: u32)
         requires room { head < length self.old }
         requires tails_room { (w : ℕ) → Has tails.now w → w < length self.old }
         ensures room { length self.new ≡ length self.old }
@@ -131,7 +137,7 @@ impl ArcSet {
 
     // Puts into `into` the heads of the arcs that `by` forces directly at its tail and that aren't
     // in the set. Condition: `by` is an arc of this side, and in the set.
-    pub(crate) fn unseen_heads(&self, graph: &Graph, side: Side, by: Arc, into: &mut Names)
+    pub(crate) fn unseen_heads(&self, graph: &GraphOf<W>, side: Side, by: Arc, into: &mut Set<W>)
         requires is_arc { IsArc (adjacent_on side graph.now) by }
         requires seen { HasArc self.now by }
         ensures { (w : ℕ) → Has into.new w ↔ (IsArc (adjacent_on side graph.now) (arc by.tail w)
@@ -143,7 +149,7 @@ impl ArcSet {
 
     // Puts into `into` the tails of the arcs that `by` forces directly at its head and that aren't
     // in the set. Condition: `by` is an arc of this side, and in the set.
-    pub(crate) fn unseen_tails(&self, graph: &Graph, side: Side, by: Arc, into: &mut Names)
+    pub(crate) fn unseen_tails(&self, graph: &GraphOf<W>, side: Side, by: Arc, into: &mut Set<W>)
         requires is_arc { IsArc (adjacent_on side graph.now) by }
         requires seen { HasArc self.now by }
         ensures { (w : ℕ) → Has into.new w ↔ (IsArc (adjacent_on side graph.now) (arc w by.head)
@@ -157,7 +163,14 @@ impl ArcSet {
 
 // Puts into `into` the names outside `known` that, on this side, `here` is adjacent to and `there`
 // isn't. Conditions: `here` and `there` are adjacent, and `there` is known.
-fn apart(graph: &Graph, side: Side, here: u32, there: u32, known: &Names, into: &mut Names)
+fn apart<const W: usize>(
+    graph: &GraphOf<W>,
+    side: Side,
+    here: u32,
+    there: u32,
+    known: &Set<W>,
+    into: &mut Set<W>,
+)
     requires adjacent { adjacent_on side graph.now here there ≡ true }
     requires known { Has known.now there }
     ensures { (w : ℕ) → Has into.new w ↔ ((adjacent_on side graph.now here w ≡ true)

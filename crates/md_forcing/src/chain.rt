@@ -8,7 +8,7 @@ ghost use Rattle.md_forcing.specs.Forcing.{reverse, IsListToReverse};
 ghost use Rattle.md_forcing.specs.Classes.{IsClass, TurnsAt};
 
 use crate::{Arc, Class, ForcingTree};
-use md_graph::{Graph, Memory};
+use md_graph::{GraphOf, Memory};
 use std::alloc::Global;
 use std::marker::Model;
 
@@ -107,9 +107,9 @@ impl Chain {
 /// A list without repeats from the first arc of a class to its reverse, in which neighbours force
 /// each other directly; `None` exactly where the class doesn't hold the reverse. Condition: it is
 /// the class of an arc of the graph. Errors: want of memory.
-pub fn chain_to_reverse(
+pub fn chain_to_reverse<const W: usize>(
     alloc: Global,
-    graph: &Graph,
+    graph: &GraphOf<W>,
     class: &Class,
 ) -> Result<Option<Chain>, Memory>
     requires { (first : Arc) × IsClass (adjacent graph.now) first class.now }
@@ -179,12 +179,13 @@ fn follow(alloc: Global, trail: &ForcingTree, last: usize) -> Result<Chain, Memo
 mod tests {
     use super::*;
     use crate::close;
+    use md_graph::WORDS;
     use std::process::Abort;
     use std::test::Fail;
 
     // Sees how many arcs 0>1 reaches, what the second of them is, and how long the list to 1>0 is:
     // 0 where there is none.
-    fn expect(
+    fn expect<const W: usize>(
         rt: &impl Abort,
         alloc: Global,
         edges: &[(u32, u32)],
@@ -192,7 +193,8 @@ mod tests {
         second: Arc,
         steps: u64,
     ) -> Result<(), Memory> {
-        let graph = Graph::from_edges(alloc, 6, edges)?.expect(rt, "edges");
+        assert!(rt; 0 < W && W <= WORDS);
+        let graph: GraphOf<W> = GraphOf::from_edges(alloc, 6, edges)?.expect(rt, "edges");
         assert!(rt; graph.has_edge(0, 1));
         let first = Arc { tail: 0, head: 1 };
         let class = close(alloc, &graph, first)?;
@@ -219,10 +221,21 @@ mod tests {
         let cycle = [(0, 1), (1, 2), (2, 3), (3, 4), (0, 4)];
         let tail = [(0, 2), (2, 4), (4, 5), (3, 5), (0, 3), (0, 1)];
         let none = Arc { tail: 0, head: 0 };
-        expect(&rt, rt.alloc(), &path, 2, Arc { tail: 2, head: 1 }, 0)?;
-        expect(&rt, rt.alloc(), &triangle, 1, none, 0)?;
-        expect(&rt, rt.alloc(), &cycle, 10, Arc { tail: 0, head: 4 }, 6)?;
-        expect(&rt, rt.alloc(), &tail, 12, Arc { tail: 0, head: 2 }, 7)?;
+        expect::<WORDS>(&rt, rt.alloc(), &path, 2, Arc { tail: 2, head: 1 }, 0)?;
+        expect::<WORDS>(&rt, rt.alloc(), &triangle, 1, none, 0)?;
+        expect::<WORDS>(&rt, rt.alloc(), &cycle, 10, Arc { tail: 0, head: 4 }, 6)?;
+        expect::<WORDS>(&rt, rt.alloc(), &tail, 12, Arc { tail: 0, head: 2 }, 7)?;
+        Ok(())
+    }
+
+    #[test]
+    fn classes_and_chains_over_few_words(rt: HostRuntime) -> Result<(), Fail> {
+        let path = [(0, 1), (1, 2)];
+        let cycle = [(0, 1), (1, 2), (2, 3), (3, 4), (0, 4)];
+        expect::<1>(&rt, rt.alloc(), &path, 2, Arc { tail: 2, head: 1 }, 0)?;
+        expect::<1>(&rt, rt.alloc(), &cycle, 10, Arc { tail: 0, head: 4 }, 6)?;
+        expect::<16>(&rt, rt.alloc(), &path, 2, Arc { tail: 2, head: 1 }, 0)?;
+        expect::<16>(&rt, rt.alloc(), &cycle, 10, Arc { tail: 0, head: 4 }, 6)?;
         Ok(())
     }
 

@@ -12,31 +12,32 @@ ghost use Rattle.md_forcing.specs.ArcSet.{HasArc, IsForcingClosed};
 ghost use Rattle.md_forcing.specs.Classes.{IsClass, TakesClass};
 ghost use Rattle.md_forcing.specs.Turns.{TakesForced, tail_entry, head_entry};
 
-use crate::{Arc, ArcSet, Class, ForcingTree, Side};
-use md_graph::{Graph, Memory, Names};
+use crate::{Arc, ArcSetOf, Class, ForcingTree, Side};
+use md_graph::{GraphOf, Memory, Set};
 use std::alloc::Global;
 
 /// What explorations of a graph, one after the other, have seen, and the trail of the last of them.
 #[derive(Drop)]
-pub struct Explored {
-    pub seen: ArcSet,
+pub struct Explored<const W: usize> {
+    pub seen: ArcSetOf<W>,
     pub trail: ForcingTree,
 }
 
 // What a turn finds, kept from turn to turn: the heads and the tails of new arcs.
 #[derive(Drop)]
-struct Found {
-    heads: Names,
-    tails: Names,
+struct Found<const W: usize> {
+    heads: Set<W>,
+    tails: Set<W>,
 }
 
 /// The class of `first`: the arcs that it reaches by direct forcings. Condition: it is an arc of
 /// the graph. Errors: want of memory.
-pub fn close(alloc: Global, graph: &Graph, first: Arc) -> Result<Class, Memory>
+pub fn close<const W: usize>(alloc: Global, graph: &GraphOf<W>, first: Arc) -> Result<Class, Memory>
     requires { IsArc (adjacent graph.now) first }
     ensures { IfOk result (IsClass (adjacent graph.now) first) }
 {
-    let seen = ArcSet::with_size(alloc, graph.bound())?;
+    let _vertices = graph.vertices();
+    let seen = ArcSetOf::with_size(alloc, graph.bound())?;
     let none = Explored {
         seen,
         trail: ForcingTree::new(alloc),
@@ -49,21 +50,21 @@ pub fn close(alloc: Global, graph: &Graph, first: Arc) -> Result<Class, Memory>
 /// join the seen arcs. The trail takes the memory. Conditions: `first` is an arc of this side that
 /// isn't seen; the seen arcs have room for the vertices, and with an arc all that it forces are
 /// seen. Errors: want of memory; what was explored is given up then.
-pub fn explore(
+pub fn explore<const W: usize>(
     _alloc: Global,
-    graph: &Graph,
+    graph: &GraphOf<W>,
     side: Side,
     first: Arc,
-    explored: Explored,
-) -> Result<Explored, Memory>
+    explored: Explored<W>,
+) -> Result<Explored<W>, Memory>
     requires room { (v : ℕ) → Has graph.now.vertices v → v < length explored.seen }
     requires is_arc { IsArc (adjacent_on side graph.now) first }
     requires fresh { HasArc explored.seen first → ⊥ }
     requires closed { IsForcingClosed (adjacent_on side graph.now) explored.seen }
     ensures class { IfOk result (λ r. IsClass (adjacent_on side graph.now) first r.trail) }
-    ensures taken { IfOk result (λ r. TakesClass explored.seen r.trail r.seen) }
+    ensures taken { IfOk result (λ r. TakesClass explored.entry.seen r.trail r.seen) }
     ensures closed { IfOk result (λ r. IsForcingClosed (adjacent_on side graph.now) r.seen) }
-    ensures room { IfOk result (λ r. length r.seen ≡ length explored.seen) }
+    ensures room { IfOk result (λ r. length r.seen ≡ length explored.entry.seen) }
 {
     let _vertices = graph.vertices();
     let Explored {
@@ -74,8 +75,8 @@ pub fn explore(
     trail.push(first, 0)?;
     seen.put(first);
     let mut found = Found {
-        heads: Names::none(),
-        tails: Names::none(),
+        heads: Set::none(),
+        tails: Set::none(),
     };
     let mut at = 0usize;
     while (at as u64) < trail.len() {
@@ -87,13 +88,13 @@ pub fn explore(
 
 // Takes in the arcs that the arc at a place forces directly and that aren't seen. Condition: the
 // arcs of the trail are seen, and are arcs of this side; the seen arcs have room for the vertices.
-fn turn(
-    graph: &Graph,
+fn turn<const W: usize>(
+    graph: &GraphOf<W>,
     side: Side,
     at: usize,
-    seen: &mut ArcSet,
+    seen: &mut ArcSetOf<W>,
     trail: &mut ForcingTree,
-    found: &mut Found,
+    found: &mut Found<W>,
 ) -> Result<(), Memory>
     requires room { (v : ℕ) → Has graph.now.vertices v → v < length seen.old }
     requires more { at < length trail.old }
@@ -117,7 +118,12 @@ fn turn(
 }
 
 // Takes in the arcs from `tail` to each of `heads`, ascending, with a place.
-fn push_heads(trail: &mut ForcingTree, tail: u32, heads: &Names, place: u32) -> Result<(), Memory>
+fn push_heads<const W: usize>(
+    trail: &mut ForcingTree,
+    tail: u32,
+    heads: &Set<W>,
+    place: u32,
+) -> Result<(), Memory>
     ensures { OnOk result
         (trail.new ≡ trail.old ++ map (tail_entry tail place) (ascending heads.now)) }
 {
@@ -128,7 +134,12 @@ fn push_heads(trail: &mut ForcingTree, tail: u32, heads: &Names, place: u32) -> 
 }
 
 // Takes in the arcs from each of `tails`, ascending, to `head`, with a place.
-fn push_tails(trail: &mut ForcingTree, tails: &Names, head: u32, place: u32) -> Result<(), Memory>
+fn push_tails<const W: usize>(
+    trail: &mut ForcingTree,
+    tails: &Set<W>,
+    head: u32,
+    place: u32,
+) -> Result<(), Memory>
     ensures { OnOk result
         (trail.new ≡ trail.old ++ map (head_entry head place) (ascending tails.now)) }
 {

@@ -10,7 +10,7 @@ mod exploration;
 mod forcing_tree;
 
 pub use arc::Arc;
-pub use arc_set::{ArcSet, Side};
+pub use arc_set::{ArcSet, ArcSetOf, Side};
 pub use chain::{Arcs, Chain, chain_of, chain_to_reverse};
 pub use class::Class;
 pub use exploration::{Explored, close, explore};

@@ -12,7 +12,7 @@ use Rattle.md_graph.specs.declared.TheConstants.{NAMES}
 use Rattle.md_graph.specs.Sets.{NameSet, Has}
 use Rattle.md_graph.specs.NameSet.{AllBelow, ascending, range}
 use Rattle.md_graph.specs.PlainGraph.{PlainGraph, IsGraph, adjacent, neighbours, empty_graph, with_vertex, with_range, with_edge, with_edges, without_vertex, without_edge, induced, complement}
-use Rattle.md_graph.specs.Rows.{row_of, edges_of, graph_of, AreRows}
+use Rattle.md_graph.specs.Rows.{row_of, edges_of, graph_of, AreRows, HasRoom}
 use Rattle.md_graph.proofs.Counting.{rows_twice, rows_le}
 use Rattle.md_graph.proofs.EachRow.{Lists, Lists-ascending, Lists-head, Lists-rest}
 use Rattle.md_graph.proofs.Limits.{NAMES-lt}
@@ -53,10 +53,36 @@ row_of-replicate n v =
       | inr past ↦ get_or_past (replicate n set.empty) v set.empty (rw (length-replicate n set.empty) past)
     ]
 
+-- more rows, those behind the old ones without members
+pub rows_grown : {limit : ℕ} {live : NameSet} {rows : List NameSet} {g : PlainGraph} → AreRows limit live rows → graph_of live rows ≡ g → (new : List NameSet) → ((v : ℕ) → row_of new v ≡ row_of rows v) → (more : ℕ) → length new ≡ more → limit ≤ more → more ≤ NAMES → AreRows more live new × (graph_of live new ≡ g)
+rows_grown {limit} {live} {rows} {g} a e new same more n above few =
+    let is : IsGraph g = subst IsGraph e (IsGraph-graph_of a) in
+    let below : AllBelow g.vertices more = λ v m. (let old = still_below a e v m in omega arith) in
+    rows_of_graph is below few (ap (λ h. h.vertices) e) n (λ u v. ap (λ s. set.contains s v) (same u) ∙ sym (adjacent-graph_of a u v) ∙ ap (λ h. adjacent h u v) e)
+
+-- the row of a name behind those made
+pub row_past : {limit : ℕ} {live : NameSet} {rows : List NameSet} {g : PlainGraph} → AreRows limit live rows → graph_of live rows ≡ g → (v : ℕ) → limit ≤ v → {none : NameSet} → none ≡ set.empty → none ≡ neighbours g v
+row_past {limit} {live} {rows} {g} a e v past {none} empty =
+    empty ∙ sym (get_or_past rows v set.empty (omega (arith, a.one_each))) ∙ sym (neighbours-graph_of a v) ∙ ap (λ h. neighbours h v) e
+
 -- rows without members are those of the graph without vertices
 pub rows_new : {limit : ℕ} {live : NameSet} {rows : List NameSet} → limit ≤ NAMES → live ≡ set.empty → length rows ≡ limit → ((v : ℕ) → row_of rows v ≡ set.empty) → AreRows limit live rows × (graph_of live rows ≡ empty_graph)
 rows_new {limit} {live} {rows} few none n empty =
     rows_of_graph IsGraph-empty_graph (λ v m. absurd (true≢false (sym m ∙ contains-empty v))) few none n (λ u v. ap (λ s. set.contains s v) (empty u) ∙ contains-empty v ∙ sym (adjacent-empty_graph u v))
+
+-- no row is made yet
+pub no_rows_yet : {live : NameSet} {rows : List NameSet} → live ≡ set.empty → rows ≡ [] → (n : ℕ) → n ≡ 0 → AreRows n live rows × (graph_of live rows ≡ empty_graph)
+no_rows_yet {live} {rows} none e n zero =
+    rows_new (omega (arith, zero)) none (ap length e ∙ sym zero) (λ v. ap (λ r. row_of r v) e)
+
+-- the room for other rows, as much or more
+pub room_for : {limit size room : ℕ} {none : NameSet} → HasRoom limit size room none → (size' room' : ℕ) → size' ≤ limit → limit ≤ room' → {none' : NameSet} → none' ≡ none → HasRoom limit size' room' none'
+room_for has size' room' made fits same = record {
+  made = made;
+  names = has.names;
+  fits = fits;
+  empty = same ∙ has.empty;
+}
 
 below_with_vertex : {limit : ℕ} {live : NameSet} {rows : List NameSet} {g : PlainGraph} → AreRows limit live rows → graph_of live rows ≡ g → (v : ℕ) → v < limit → AllBelow (with_vertex g v).vertices limit
 below_with_vertex {limit} a e v name w m =
@@ -244,12 +270,18 @@ Made-more {h} {n} {rows} before row is new e = record {
   ];
 }
 
-pub Made-end : {limit : ℕ} {h : PlainGraph} {n : ℕ} {rows : List NameSet} → IsGraph h → Made h n rows → n ≡ limit → limit ≤ NAMES → AllBelow h.vertices limit → {live : NameSet} → live ≡ h.vertices → AreRows limit live rows × (graph_of live rows ≡ h)
-Made-end {limit} {h} {n} {rows} is made all few below {live} e =
+Made-all : {limit : ℕ} {h : PlainGraph} {n : ℕ} {rows : List NameSet} → IsGraph h → Made h n rows → n ≡ limit → limit ≤ NAMES → AllBelow h.vertices limit → {live : NameSet} → live ≡ h.vertices → AreRows limit live rows × (graph_of live rows ≡ h)
+Made-all {limit} {h} {n} {rows} is made all few below {live} e =
     rows_of_graph is below few e (made.size ∙ all) (λ u v. elim (cases_lt u n) [
       | inl below ↦ ap (λ s. set.contains s v) (made.each u below) ∙ contains-neighbours is u v
       | inr past ↦ ap (λ s. set.contains s v) (get_or_past rows u set.empty (omega (arith, made.size))) ∙ contains-empty v ∙ sym (false_from_ne_true (adjacent h u v) (λ there. let name = below u (adjacent_ends is u v there).0 in omega arith))
     ])
+
+-- where the rows are counted as `size`
+pub Made-end : {limit : ℕ} {h : PlainGraph} {n : ℕ} {rows : List NameSet} → IsGraph h → Made h n rows → n ≡ limit → limit ≤ NAMES → AllBelow h.vertices limit → {live : NameSet} → live ≡ h.vertices → (size : ℕ) → size ≡ length rows → AreRows size live rows × (graph_of live rows ≡ h)
+Made-end {limit} {h} {n} {rows} is made all few below {live} e size counted =
+    let same : limit ≡ size = omega (arith, made.size) in
+    subst (λ k. AreRows k live rows × (graph_of live rows ≡ h)) same (Made-all is made all few below e)
 
 pub graph_is : {limit : ℕ} {live : NameSet} {rows : List NameSet} {g : PlainGraph} → AreRows limit live rows → graph_of live rows ≡ g → IsGraph g
 graph_is a e = subst IsGraph e (IsGraph-graph_of a)
@@ -281,12 +313,12 @@ pub induced_dead : {limit : ℕ} {live : NameSet} {rows : List NameSet} {g : Pla
 induced_dead {limit} {live} {rows} {g} a e s v out {none} is_none =
     is_none ∙ same_set set.empty (neighbours (induced g s) v) (λ q. contains-empty q ∙ sym (contains-neighbours (IsGraph-induced (graph_is a e) s) v q ∙ adjacent-induced g s v q ∙ rw out (grind arith)))
 
-pub induced_row_is : {limit : ℕ} {live : NameSet} {rows : List NameSet} {g : PlainGraph} → AreRows limit live rows → graph_of live rows ≡ g → (s : NameSet) (v : ℕ) → v < limit → set.contains s v ≡ true → (row : NameSet) → row ≡ get_or rows v row → (both : NameSet) → both ≡ set.intersection row s → both ≡ neighbours (induced g s) v
-induced_row_is {limit} {live} {rows} {g} a e s v name in_s row read both is_both =
+pub induced_row_is : {limit : ℕ} {live : NameSet} {rows : List NameSet} {g : PlainGraph} → AreRows limit live rows → graph_of live rows ≡ g → (s : NameSet) (v : ℕ) → set.contains s v ≡ true → (row : NameSet) → row ≡ neighbours g v → (both : NameSet) → both ≡ set.intersection row s → both ≡ neighbours (induced g s) v
+induced_row_is {limit} {live} {rows} {g} a e s v in_s row is both is_both =
     same_set both (neighbours (induced g s) v) (λ q.
     ap (λ t. set.contains t q) is_both
     ∙ contains-intersection row s q
-    ∙ ap (λ b. b && set.contains s q) (bit_is a e v q name row read)
+    ∙ ap (λ b. b && set.contains s q) (ap (λ t. set.contains t q) is ∙ contains-neighbours (graph_is a e) v q)
     ∙ sym (contains-neighbours (IsGraph-induced (graph_is a e) s) v q ∙ adjacent-induced g s v q ∙ rw in_s refl))
 
 -- ---- the number of edges

@@ -18,8 +18,8 @@ edges_of rows = pairs_where (λ u v. set.contains (row_of rows v) u) NAMES
 abbrev pub graph_of : NameSet → List NameSet → PlainGraph
 graph_of live rows = record { vertices = live; edges = edges_of rows }
 
--- What holds of the rows of a graph on names below `limit`: one for each of these; an edge stands
--- in the rows of both its ends, which are live and differ.
+-- What holds of the rows of a graph whose vertices are below `limit`: one for each name below it; an
+-- edge stands in the rows of both its ends, which are live and differ.
 pub record AreRows (limit : ℕ) (live : NameSet) (rows : List NameSet) : Type 0 where
   pub one_each : length rows ≡ limit
   pub few : limit ≤ NAMES
@@ -27,3 +27,11 @@ pub record AreRows (limit : ℕ) (live : NameSet) (rows : List NameSet) : Type 0
   pub no_loop : (v : ℕ) → Lacks (row_of rows v) v
   pub inside : (u v : ℕ) → Has (row_of rows u) v → Has live v
   pub names : (v : ℕ) → Has live v → v < limit
+
+-- What holds of the room for the rows of a graph on names below `limit`, of which `size` are made:
+-- `room` rows fit without new memory, and `none` is the row of each name behind those made.
+pub record HasRoom (limit size room : ℕ) (none : NameSet) : Type 0 where
+  pub made : size ≤ limit
+  pub names : limit ≤ NAMES
+  pub fits : limit ≤ room
+  pub empty : none ≡ set.empty

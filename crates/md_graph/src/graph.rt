@@ -1,5 +1,5 @@
 //! Undirected graphs without loops and parallel edges.
-ghost use Rattle.std.specs.Prelude.{◌≡◌, ℕ, ◌+◌, ◌*◌, ◌<◌, ◌≤◌, ◌≢◌, true, false, IfOk, IfSome, IfNone, length, if◌then◌else◌, ◌/◌, ◌%◌, ◌==◌, ◌&&◌, ◌||◌};
+ghost use Rattle.std.specs.Prelude.{◌≡◌, ℕ, ◌+◌, ◌*◌, ◌<◌, ◌≤◌, ◌≢◌, true, false, IfOk, IfSome, IfNone, length, vec_len, vec_capacity, if◌then◌else◌, ◌/◌, ◌%◌, ◌==◌, ◌&&◌, ◌||◌};
 ghost use Rattle.std.specs.Int.{bit_at};
 ghost use Rattle.std.specs.FinSet as set;
 ghost use Rattle.md_graph.specs.Sets.{Has, Lacks};
@@ -14,13 +14,17 @@ use crate::{Memory, NAMES, Set, WORDS};
 use std::alloc::Global;
 use std::marker::Model;
 
-/// A graph on names below `64 * W`: each of these names has a row, the set of its neighbours. All
-/// rows are taken when the graph is made, and the row of a name that is no vertex is empty. Its
-/// value is a plain graph whatever `W`, which is at most `WORDS`.
+/// A graph on names below `64 * W`: each of these names has a row, the set of its neighbours, which
+/// is empty for a name that is no vertex. Room for all rows is taken when the graph is made; the
+/// rows themselves are made when a vertex comes, so that what no vertex has reached costs nothing.
+/// Its value is a plain graph whatever `W`, which is at most `WORDS`.
 #[derive(Drop)]
 pub struct GraphOf<const W: usize> {
     live: Set<W>,
+    // The rows of the names below some bound that no vertex has reached.
     rows: Vec<Set<W>>,
+    // The row of each other name.
+    none: Set<W>,
 }
 
 /// A graph on names.
@@ -33,12 +37,13 @@ impl<const W: usize> Model for GraphOf<W> {
 
     ghost coded = { graph_code };
 
-    ghost use Rattle.std.specs.Prelude.{◌*◌};
-    ghost use Rattle.md_graph.specs.Rows.{graph_of, AreRows};
+    ghost use Rattle.std.specs.Prelude.{◌*◌, vec_len, vec_capacity};
+    ghost use Rattle.md_graph.specs.Rows.{graph_of, AreRows, HasRoom};
 
     ghost view = { λ g. graph_of g.live g.rows.items };
 
-    ghost invariant = { λ g. AreRows (64 * W) g.live g.rows.items };
+    ghost invariant = { λ g. AreRows (vec_len g.rows) g.live g.rows.items
+        × HasRoom (64 * W) (vec_len g.rows) (vec_capacity g.rows) g.none };
 }
 
 impl<const W: usize> GraphOf<W> {
@@ -49,7 +54,8 @@ impl<const W: usize> GraphOf<W> {
     {
         Ok(GraphOf {
             live: Set::none(),
-            rows: empty_rows(alloc, 64 * W as u32)?,
+            rows: Vec::with_capacity(alloc, 64 * W)?,
+            none: Set::none(),
         })
     }
 
@@ -135,7 +141,11 @@ impl<const W: usize> GraphOf<W> {
         ensures set { result.now ≡ neighbours self.now v }
         ensures graph { IsGraph self.now }
     {
-        &self.rows[v as usize]
+        let at = v as usize;
+        if self.rows.len() <= at {
+            return &self.none;
+        }
+        &self.rows[at]
     }
 
     /// Takes in the vertex `v`, without edges. Condition: it is a name below `64 * W` and no vertex
@@ -145,6 +155,7 @@ impl<const W: usize> GraphOf<W> {
         requires absent { Lacks self.old.vertices v }
         ensures changed { self.new ≡ with_vertex self.old v }
     {
+        grow_rows(&mut self.rows, v as usize + 1);
         self.live.insert(v);
     }
 
@@ -155,6 +166,7 @@ impl<const W: usize> GraphOf<W> {
         requires absent { (v : ℕ) → from ≤ v → v < from + count → Lacks self.old.vertices v }
         ensures changed { self.new ≡ with_range self.old from count }
     {
+        grow_rows(&mut self.rows, (from + count) as usize);
         self.live.insert_range(from, count);
     }
 
@@ -196,6 +208,7 @@ impl<const W: usize> GraphOf<W> {
             → Has self.old.vertices u × Has self.old.vertices v × (u ≢ v) }
         ensures block { IsWithBlock self.old high low block.now self.new }
     {
+        grow_rows(&mut self.rows, low.max(high) as usize + 64);
         join_block(&mut self.rows, low, high, block);
     }
 
@@ -231,13 +244,15 @@ impl<const W: usize> GraphOf<W> {
     pub fn copy(&self, alloc: Global) -> Result<GraphOf<W>, Memory>
         ensures made { IfOk result (λ g. g ≡ self.now) }
     {
-        let mut rows = Vec::with_capacity(alloc, self.rows.len())?;
+        let live = &self.live;
+        let mut rows = Vec::with_capacity(alloc, 64 * W)?;
         for v in 0..self.rows.len() {
-            rows.push(self.rows[v].copy())?;
+            rows.push_reserved(self.rows[v].copy());
         }
         Ok(GraphOf {
-            live: self.live.copy(),
+            live: live.copy(),
             rows,
+            none: self.none.copy(),
         })
     }
 
@@ -246,13 +261,15 @@ impl<const W: usize> GraphOf<W> {
     pub fn complement(&self, alloc: Global) -> Result<GraphOf<W>, Memory>
         ensures made { IfOk result (λ g. g ≡ complement self.now) }
     {
-        let mut rows = Vec::with_capacity(alloc, self.rows.len())?;
+        let live = &self.live;
+        let mut rows = Vec::with_capacity(alloc, 64 * W)?;
         for v in 0..self.rows.len() as u32 {
-            rows.push(self.complement_row(v))?;
+            rows.push_reserved(self.complement_row(v));
         }
         Ok(GraphOf {
-            live: self.live.copy(),
+            live: live.copy(),
             rows,
+            none: self.none.copy(),
         })
     }
 
@@ -262,13 +279,14 @@ impl<const W: usize> GraphOf<W> {
         ensures made { IfOk result (λ g. g ≡ induced self.now names.now) }
     {
         let live = &self.live;
-        let mut rows = Vec::with_capacity(alloc, self.rows.len())?;
+        let mut rows = Vec::with_capacity(alloc, 64 * W)?;
         for v in 0..self.rows.len() as u32 {
-            rows.push(self.induced_row(v, names))?;
+            rows.push_reserved(self.induced_row(v, names));
         }
         Ok(GraphOf {
             live: live.and(names),
             rows,
+            none: self.none.copy(),
         })
     }
 
@@ -279,7 +297,7 @@ impl<const W: usize> GraphOf<W> {
         ensures value { result ≡ neighbours (complement self.now) v }
     {
         if !self.live.has(v) {
-            return Set::none();
+            return self.none.copy();
         }
         let mut others = self.live.minus(&self.rows[v as usize]);
         others.remove(v);
@@ -291,22 +309,39 @@ impl<const W: usize> GraphOf<W> {
         requires { v < 64 * W }
         ensures { result ≡ neighbours (induced self.now names.now) v }
     {
-        let row = &self.rows[v as usize];
+        let row = self.row(v);
         if !names.has(v) {
-            return Set::none();
+            return self.none.copy();
         }
         row.and(names)
+    }
+}
+
+// Makes the rows of all names below `size`. Condition: there is room for them.
+#[inline]
+fn grow_rows<const W: usize>(rows: &mut Vec<Set<W>>, size: usize)
+    requires limit { W ≤ WORDS }
+    requires room { size ≤ vec_capacity rows.old }
+    ensures same { (v : ℕ) → row_of rows.new.items v ≡ row_of rows.old.items v }
+    ensures enough { size ≤ vec_len rows.new }
+    ensures more { vec_len rows.old ≤ vec_len rows.new }
+    ensures few { (most : ℕ) → vec_len rows.old ≤ most → size ≤ most → vec_len rows.new ≤ most }
+    ensures capacity { vec_capacity rows.new ≡ vec_capacity rows.old }
+{
+    for _ in rows.len()..size {
+        rows.push_reserved(Set::none());
     }
 }
 
 // Takes a block into the rows of both ends of its edges.
 fn join_block<const W: usize>(rows: &mut [Set<W>], low: u32, high: u32, block: &[u64; 64])
     requires limit { W ≤ WORDS }
-    requires rows { length rows.old ≡ 64 * W }
     requires low { low < 64 * W }
     requires low_aligned { low % 64 ≡ 0 }
+    requires low_rows { low + 64 ≤ length rows.old }
     requires high { high < 64 * W }
     requires high_aligned { high % 64 ≡ 0 }
+    requires high_rows { high + 64 ≤ length rows.old }
     ensures { (u v : ℕ) → set.contains (row_of rows.new u) v ≡ (set.contains (row_of rows.old u) v
         || (in_block block.now high low u v || in_block block.now high low v u)) }
 {
@@ -321,9 +356,8 @@ fn join_block<const W: usize>(rows: &mut [Set<W>], low: u32, high: u32, block: &
 // r`.
 fn join_rows<const W: usize>(rows: &mut [Set<W>], from: u32, first: u32, block: &[u64; 64])
     requires limit { W ≤ WORDS }
-    requires rows { length rows.old ≡ 64 * W }
-    requires from { from < 64 * W }
     requires from_aligned { from % 64 ≡ 0 }
+    requires from_rows { from + 64 ≤ length rows.old }
     requires first { first < 64 * W }
     requires first_aligned { first % 64 ≡ 0 }
     ensures { (u v : ℕ) → set.contains (row_of rows.new u) v
@@ -468,8 +502,13 @@ mod tests {
     fn derived_graphs(rt: HostRuntime) -> Result<(), Fail> {
         let path = made(&rt, rt.alloc(), &[0, 1, 2], &[(0, 1), (1, 2)])?;
         expect(&rt, &path, &[0, 1, 2], &[(0, 1), (1, 2)]);
-        let copy = path.copy(rt.alloc())?;
+        let mut copy = path.copy(rt.alloc())?;
         expect(&rt, &copy, &[0, 1, 2], &[(0, 1), (1, 2)]);
+        let last = NAMES - 1;
+        assert!(rt; copy.row(last).is_empty() && !copy.has_edge(last, 0) && !copy.has_vertex(last));
+        copy.add_vertex(last);
+        join(&rt, &mut copy, 0, last);
+        expect(&rt, &copy, &[0, 1, 2, last], &[(0, 1), (1, 2), (0, last)]);
         let complement = path.complement(rt.alloc())?;
         expect(&rt, &complement, &[0, 1, 2], &[(0, 2)]);
         let mut ends = Names::none();

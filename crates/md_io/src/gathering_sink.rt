@@ -50,6 +50,26 @@ impl<W: Write + Drop> GatheringSink<W> {
             Err(_) => Err(PutFault::Memory),
         }
     }
+
+    /// A sink over a writer that writes each put at once, since it keeps nothing back, and has
+    /// failed at no put yet. It takes no memory.
+    pub fn without_room(alloc: Global, writer: W) -> GatheringSink<W>
+        ensures reached { ⟦<GatheringSink<W> as Sink>⟧.reached result ≡ W.contents writer }
+        ensures holds { ⟦<GatheringSink<W> as Sink>⟧.holds result
+            ≡ append_known (W.contents writer) [] }
+        ensures faults { ⟦<GatheringSink<W> as Sink>⟧.faults result ≡ 0 }
+        ensures wants { ⟦<GatheringSink<W> as Sink>⟧.wants result ≡ 0 }
+        ensures broken { ⟦<GatheringSink<W> as Sink>⟧.broken result ≡ false }
+    {
+        let Ok(writer) = BufWriter::with_capacity(alloc, 0, writer) else {
+            unreachable!();
+        };
+        GatheringSink {
+            writer,
+            faults: 0,
+            broken: false,
+        }
+    }
 }
 
 impl<W: Write + Drop> Sink for GatheringSink<W> {

@@ -334,6 +334,30 @@ fn passes_large_puts_through(rt: HostRuntime) -> Result<(), Fail> {
 }
 
 #[test]
+fn writes_each_put_at_once_without_room(rt: HostRuntime) -> Result<(), Fail> {
+    let alloc = rt.alloc();
+    let mut written = Vec::new(alloc);
+    let mut lengths = Vec::new(alloc);
+    let mut sink = GatheringSink::without_room(
+        alloc,
+        NotingWriter {
+            written: &mut written,
+            lengths: &mut lengths,
+            most: 2,
+        },
+    );
+    sink.put(b"ab")?;
+    sink.put(b"")?;
+    sink.put(b"c")?;
+    let third = sink.put(b"d");
+    drop(sink);
+    let got = format!(in alloc; "{third:?} {lengths:?}")?;
+    assert_eq!(rt; got.as_str(), "Err(Failed) [2, 1]");
+    assert_eq!(rt; written.as_slice(), b"abc".as_slice());
+    Ok(())
+}
+
+#[test]
 fn flushes_fail_for_good(rt: HostRuntime) -> Result<(), Fail> {
     let alloc = rt.alloc();
     let mut sink = MemSink::new(alloc, Vec::new(alloc), 0);

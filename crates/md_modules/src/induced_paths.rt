@@ -1,5 +1,5 @@
 //! Induced paths on four vertices.
-ghost use Rattle.std.specs.Prelude.{◌≡◌, ℕ, ◌<◌, ◌↔◌, true, false, not, IsTrue, IfSome, IfNone};
+ghost use Rattle.std.specs.Prelude.{◌≡◌, ◌*◌, ℕ, ◌<◌, ◌↔◌, true, false, not, IsTrue, IfSome, IfNone};
 ghost use Rattle.md_graph.specs.Sets.{NameSet, Has, Within, HasSome};
 ghost use Rattle.md_graph.specs.PlainGraph.{adjacent, IsGraph};
 ghost use Rattle.md_modules.specs.Kinds.{IsSplit};
@@ -10,7 +10,7 @@ ghost use Rattle.md_modules.specs.PathSearch.{ToldApart, IsPathOf, IsSide, IsMet
 use crate::refinement::splitter_of_few;
 use crate::shared::move_seen;
 use crate::{co_component, component};
-use md_graph::{Graph, NAMES, Names};
+use md_graph::{GraphOf, Set};
 
 /// Four vertices in the order of a path on them, as an induced path of a graph with `a < d`.
 #[derive(Clone, Copy, Debug, PartialEq, Eq)]
@@ -23,7 +23,7 @@ pub struct P4 {
 
 /// Whether `p`, any four numbers, is an induced path of the graph: four different vertices, the
 /// edges among them exactly a-b, b-c and c-d, and `a < d`.
-pub fn is_p4(graph: &Graph, p: &P4) -> bool
+pub fn is_p4<const W: usize>(graph: &GraphOf<W>, p: &P4) -> bool
     ensures exactly { IsTrue result
         ↔ IsInducedPath (adjacent graph.now) graph.now.vertices p.now.a p.now.b p.now.c p.now.d }
 {
@@ -35,7 +35,7 @@ pub fn is_p4(graph: &Graph, p: &P4) -> bool
 /// memory, and at most a fixed number of row operations for each vertex: some for each vertex of
 /// the smaller side, those that `x` sees or the others, and of the other side for each in a part
 /// that one of the smaller side meets. Condition: `x` is a vertex.
-pub fn find_p4_with(graph: &Graph, x: u32) -> Option<P4>
+pub fn find_p4_with<const W: usize>(graph: &GraphOf<W>, x: u32) -> Option<P4>
     requires { Has graph.now.vertices x }
     ensures found { IfSome result (λ p.
         IsInducedPathWith (adjacent graph.now) graph.now.vertices x p.a p.b p.c p.d) }
@@ -56,7 +56,7 @@ pub fn find_p4_with(graph: &Graph, x: u32) -> Option<P4>
 /// An induced path on four vertices; `None` exactly where there is none, for cographs. It takes no
 /// memory, and for each vertex that lies in none as many row operations as `find_p4_with`: where a
 /// tree is at hand, `md_tree::is_cotree` says sooner that there is none.
-pub fn find_p4(graph: &Graph) -> Option<P4>
+pub fn find_p4<const W: usize>(graph: &GraphOf<W>) -> Option<P4>
     ensures found { IfSome result (λ p.
         IsInducedPath (adjacent graph.now) graph.now.vertices p.a p.b p.c p.d) }
     ensures none { IfNone result (HasInducedPath (adjacent graph.now) graph.now.vertices → ⊥) }
@@ -71,7 +71,7 @@ pub fn find_p4(graph: &Graph) -> Option<P4>
 }
 
 // Whether the edges among `a`, `b`, `c` and `d`, any numbers, are exactly a-b, b-c and c-d.
-fn has_path_edges(graph: &Graph, a: u32, b: u32, c: u32, d: u32) -> bool
+fn has_path_edges<const W: usize>(graph: &GraphOf<W>, a: u32, b: u32, c: u32, d: u32) -> bool
     ensures { IsTrue result ↔ HasPathEdges (adjacent graph.now) a b c d }
 {
     let edges = graph.has_edge(a, b) && graph.has_edge(b, c) && graph.has_edge(c, d);
@@ -81,7 +81,13 @@ fn has_path_edges(graph: &Graph, a: u32, b: u32, c: u32, d: u32) -> bool
 
 // An induced path with `x`: two of it lie on one side of `x`, in one part, and one on the other
 // side. `x` sees all of `first` and none of `second` (`value` is true), or the other way round.
-fn path_by_sides(graph: &Graph, x: u32, first: &Names, second: &Names, value: bool) -> Option<P4>
+fn path_by_sides<const W: usize>(
+    graph: &GraphOf<W>,
+    x: u32,
+    first: &Set<W>,
+    second: &Set<W>,
+    value: bool,
+) -> Option<P4>
     requires graph { IsGraph graph.now }
     requires first { IsSide graph.now x value first.now }
     requires second { IsSide graph.now x (not value) second.now }
@@ -101,7 +107,13 @@ fn path_by_sides(graph: &Graph, x: u32, first: &Names, second: &Names, value: bo
 // `others` sees only one. The parts are the components of `names`, none of which `x` sees (`value`
 // is false), or the components of its complement, all of which `x` sees (`value` is true); `x` sees
 // all of `others`, or none.
-fn path_by_parts(graph: &Graph, x: u32, names: &Names, others: &Names, value: bool) -> Option<P4>
+fn path_by_parts<const W: usize>(
+    graph: &GraphOf<W>,
+    x: u32,
+    names: &Set<W>,
+    others: &Set<W>,
+    value: bool,
+) -> Option<P4>
     requires graph { IsGraph graph.now }
     requires inside { Within names.now graph.now.vertices }
     requires alike { (z : ℕ) → Has names.now z → adjacent graph.now x z ≡ value }
@@ -111,8 +123,9 @@ fn path_by_parts(graph: &Graph, x: u32, names: &Names, others: &Names, value: bo
     ensures none { IfNone result ((o m z : ℕ) → Has others.now o → Has names.now m → Has names.now z
         → adjacent graph.now m z ≡ not value → ToldApart graph.now o m z → ⊥) }
 {
+    let _vertices = graph.vertices();
     let mut left = to_begin_from(graph, names, others, value);
-    let mut part = Names::none();
+    let mut part = Set::none();
     while let Some(y) = left.first_from(0) {
         part_of(graph, names, y, value, &mut part);
         if let Some(p) = path_by_part(graph, x, &part, others, value) {
@@ -126,7 +139,12 @@ fn path_by_parts(graph: &Graph, x: u32, names: &Names, others: &Names, value: bo
 // Names of `names` to begin parts from: a part without one has no name that one of `others` meets,
 // so that none of `others` tells two of the part apart. All of `names`, where `others` is no
 // smaller.
-fn to_begin_from(graph: &Graph, names: &Names, others: &Names, value: bool) -> Names
+fn to_begin_from<const W: usize>(
+    graph: &GraphOf<W>,
+    names: &Set<W>,
+    others: &Set<W>,
+    value: bool,
+) -> Set<W>
     requires { IsGraph graph.now }
     ensures inside { Within result names.now }
     ensures met { (z : ℕ) → IsMet graph.now names.now others.now value z → Has result z }
@@ -139,12 +157,18 @@ fn to_begin_from(graph: &Graph, names: &Names, others: &Names, value: bool) -> N
 
 // The names of `names` that one of `others` sees (`value` is false), or doesn't see (`value` is
 // true).
-fn met_by(graph: &Graph, names: &Names, others: &Names, value: bool) -> Names
+fn met_by<const W: usize>(
+    graph: &GraphOf<W>,
+    names: &Set<W>,
+    others: &Set<W>,
+    value: bool,
+) -> Set<W>
     requires { IsGraph graph.now }
     ensures { (z : ℕ) → Has result z ↔ IsMet graph.now names.now others.now value z }
 {
+    let _vertices = graph.vertices();
     let mut left = names.copy();
-    let mut met = Names::none();
+    let mut met = Set::none();
     for o in others.members() {
         move_seen(graph, o, !value, &mut left, &mut met);
     }
@@ -153,7 +177,13 @@ fn met_by(graph: &Graph, names: &Names, others: &Names, value: bool) -> Names
 
 // The component of `y` in the graph on `within` (`value` is false), or in its complement (`value`
 // is true).
-fn part_of(graph: &Graph, within: &Names, y: u32, value: bool, into: &mut Names)
+fn part_of<const W: usize>(
+    graph: &GraphOf<W>,
+    within: &Set<W>,
+    y: u32,
+    value: bool,
+    into: &mut Set<W>,
+)
     requires inside { Within within.now graph.now.vertices }
     requires member { Has within.now y }
     ensures { IsComponent (adjacent graph.now) within.now y into.new value }
@@ -167,7 +197,13 @@ fn part_of(graph: &Graph, within: &Names, y: u32, value: bool, into: &mut Names)
 
 // An induced path with `x`, one of `others` and two of `part`. Conditions: `part` has a name, and
 // doesn't split.
-fn path_by_part(graph: &Graph, x: u32, part: &Names, others: &Names, value: bool) -> Option<P4>
+fn path_by_part<const W: usize>(
+    graph: &GraphOf<W>,
+    x: u32,
+    part: &Set<W>,
+    others: &Set<W>,
+    value: bool,
+) -> Option<P4>
     requires graph { IsGraph graph.now }
     requires some { HasSome part.now }
     requires whole { (a : NameSet) → IsSplit (adjacent graph.now) part.now a value → ⊥ }
@@ -185,8 +221,14 @@ fn path_by_part(graph: &Graph, x: u32, part: &Names, others: &Names, value: bool
 }
 
 // An induced path with `x`, `o` and two of `part`, of which `o` sees only one.
-fn path_over(graph: &Graph, x: u32, o: u32, part: &Names, value: bool) -> Option<P4>
-    requires name { o < NAMES }
+fn path_over<const W: usize>(
+    graph: &GraphOf<W>,
+    x: u32,
+    o: u32,
+    part: &Set<W>,
+    value: bool,
+) -> Option<P4>
+    requires name { o < 64 * W }
     requires alike { (z : ℕ) → Has part.now z → adjacent graph.now x z ≡ value }
     requires across { adjacent graph.now x o ≡ not value }
     ensures found { IfSome result (λ p.
@@ -206,8 +248,13 @@ fn path_over(graph: &Graph, x: u32, o: u32, part: &Names, value: bool) -> Option
 }
 
 // The first of `rest` that isn't to `m` as `value` says.
-pub(crate) fn first_across(graph: &Graph, m: u32, rest: &Names, value: bool) -> Option<u32>
-    requires { m < NAMES }
+pub(crate) fn first_across<const W: usize>(
+    graph: &GraphOf<W>,
+    m: u32,
+    rest: &Set<W>,
+    value: bool,
+) -> Option<u32>
+    requires { m < 64 * W }
     ensures found { IfSome result (λ z. Has rest.now z × (adjacent graph.now m z ≡ not value)) }
     ensures none { IfNone result ((z : ℕ) → Has rest.now z
         → adjacent graph.now m z ≡ not value → ⊥) }
@@ -250,7 +297,7 @@ pub(crate) fn ascending(a: u32, b: u32, c: u32, d: u32) -> P4
 #[cfg(test)]
 mod tests {
     use super::*;
-    use md_graph::Memory;
+    use md_graph::{Graph, Memory};
     use std::alloc::Global;
     use std::process::Abort;
     use std::test::Fail;
@@ -302,6 +349,12 @@ mod tests {
         ] {
             assert_eq!(rt; is_p4(&bull, &P4 { a, b, c, d }), want, "{a} {b} {c} {d}");
         }
+        let edges = [(0, 1), (1, 2), (2, 3)];
+        let path = GraphOf::<1>::from_edges(rt.alloc(), 4, &edges)?.expect(&rt, "edges");
+        let found = find_p4(&path).expect(&rt, "a path");
+        assert!(rt; is_p4(&path, &found));
+        assert!(rt; path.has_vertex(2));
+        assert!(rt; find_p4_with(&path, 2).is_some());
         Ok(())
     }
 }

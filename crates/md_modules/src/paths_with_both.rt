@@ -1,5 +1,5 @@
 //! Induced paths on four vertices that hold two given vertices.
-ghost use Rattle.std.specs.Prelude.{◌≡◌, ◌≢◌, ℕ, ◌<◌, ◌↔◌, Bool, true, false, not, IfSome, IfNone};
+ghost use Rattle.std.specs.Prelude.{◌≡◌, ◌≢◌, ◌*◌, ℕ, ◌<◌, ◌↔◌, Bool, true, false, not, IfSome, IfNone};
 ghost use Rattle.md_graph.specs.Sets.{Has};
 ghost use Rattle.md_graph.specs.PlainGraph.{adjacent};
 ghost use Rattle.md_modules.specs.InducedPaths.{IsInducedPathWithBoth};
@@ -7,12 +7,12 @@ ghost use Rattle.md_modules.specs.PathSearch.{IsPathOf, IsSeenAlone, IsSeenAlike
 
 use crate::P4;
 use crate::induced_paths::{ascending, first_across};
-use md_graph::{Graph, NAMES, Names};
+use md_graph::{GraphOf, Set};
 
 /// An induced path on four vertices that holds both `u` and `v`; `None` exactly where there is
 /// none. It takes no memory, and at most one row operation for each vertex that one of the two sees
 /// alone, or both see. Condition: they are two different vertices.
-pub fn find_p4_with_both(graph: &Graph, u: u32, v: u32) -> Option<P4>
+pub fn find_p4_with_both<const W: usize>(graph: &GraphOf<W>, u: u32, v: u32) -> Option<P4>
     requires first { Has graph.now.vertices u }
     requires second { Has graph.now.vertices v }
     requires differ { u ≢ v }
@@ -40,9 +40,9 @@ pub fn find_p4_with_both(graph: &Graph, u: u32, v: u32) -> Option<P4>
 }
 
 // The names other than `v` that `u` sees and `v` doesn't.
-fn seen_alone(graph: &Graph, u: u32, v: u32) -> Names
-    requires first { u < NAMES }
-    requires second { v < NAMES }
+fn seen_alone<const W: usize>(graph: &GraphOf<W>, u: u32, v: u32) -> Set<W>
+    requires first { u < 64 * W }
+    requires second { v < 64 * W }
     ensures { (z : ℕ) → Has result z ↔ IsSeenAlone graph.now u v z }
 {
     let mut names = graph.row(u).minus(graph.row(v));
@@ -51,9 +51,9 @@ fn seen_alone(graph: &Graph, u: u32, v: u32) -> Names
 }
 
 // The vertices that neither sees (`joined`), or both see.
-fn seen_alike(graph: &Graph, u: u32, v: u32, joined: bool) -> Names
-    requires first { u < NAMES }
-    requires second { v < NAMES }
+fn seen_alike<const W: usize>(graph: &GraphOf<W>, u: u32, v: u32, joined: bool) -> Set<W>
+    requires first { u < 64 * W }
+    requires second { v < 64 * W }
     ensures { (z : ℕ) → Has result z ↔ IsSeenAlike graph.now u v joined z }
 {
     let near = graph.row(u);
@@ -64,7 +64,12 @@ fn seen_alike(graph: &Graph, u: u32, v: u32, joined: bool) -> Names
 }
 
 // A member of each of two sets that aren't to each other as `value` says.
-fn pair_across(graph: &Graph, firsts: &Names, seconds: &Names, value: bool) -> Option<(u32, u32)>
+fn pair_across<const W: usize>(
+    graph: &GraphOf<W>,
+    firsts: &Set<W>,
+    seconds: &Set<W>,
+    value: bool,
+) -> Option<(u32, u32)>
     ensures found { IfSome result (λ p. Has firsts.now p.0 × Has seconds.now p.1
         × (adjacent graph.now p.0 p.1 ≡ not value)) }
     ensures none { IfNone result ((m z : ℕ) → Has firsts.now m → Has seconds.now z
@@ -103,6 +108,7 @@ fn path_past(u: u32, v: u32, m: u32, z: u32, joined: bool) -> P4
 #[cfg(test)]
 mod tests {
     use super::*;
+    use md_graph::Graph;
     use std::process::Abort;
     use std::test::Fail;
 
@@ -132,6 +138,10 @@ mod tests {
         expect(&rt, &five, 0, 3, path);
         expect(&rt, &five, 1, 4, Some((1, 2, 3, 4)));
         expect(&rt, &five, 0, 4, None);
+        let narrow = [(0, 1), (1, 2), (2, 3)];
+        let narrow = GraphOf::<1>::from_edges(rt.alloc(), 4, &narrow)?.expect(&rt, "edges");
+        assert!(rt; narrow.has_vertex(0) && narrow.has_vertex(3));
+        assert!(rt; find_p4_with_both(&narrow, 0, 3).is_some());
         Ok(())
     }
 }

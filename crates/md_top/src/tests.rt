@@ -3,6 +3,7 @@ mod checks;
 mod failing;
 mod flushes;
 mod refusing;
+mod sizes;
 
 use super::*;
 use md_io::{MemFiles, MemSink};

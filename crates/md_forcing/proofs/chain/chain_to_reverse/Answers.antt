@@ -4,6 +4,6 @@ use Rattle.md_forcing.proofs.Following.{turns_there}
 use Rattle.md_forcing.proofs.chain.chain_to_reverse.Goals as goal
 
 pub follow-requires-clause-turns : goal.follow-requires-clause-turns
-follow-requires-clause-turns c =
+follow-requires-clause-turns g c =
     subst (λ es. TurnsAt es c.in-Some.last) (sym c.in_ok-trail.ensures)
     (turns_there c.args.class.now c.in-Some.last c.entry.result.1 c.in-Some.ensures.found.0 c.entry.result.0 c.reverse_of.result c.entry.ensures c.reverse_of.ensures c.in-Some.ensures.found.1)

@@ -1,4 +1,4 @@
-use Rattle.std.proofs.Common.{◌∙◌, ◌<◌, sym, subst}
+use Rattle.std.proofs.Common.{◌∙◌, rules, ◌<◌, sym, subst}
 use Rattle.md_forcing.specs.Forcing.{arc}
 use Rattle.md_forcing.specs.Sides.{adjacent_on}
 use Rattle.md_forcing.proofs.ListLemmas.{key_at}
@@ -6,37 +6,63 @@ use Rattle.md_forcing.proofs.OneSide.{side_names, arc_within}
 use Rattle.md_forcing.proofs.TurnLemmas.{found_turn}
 use Rattle.md_forcing.proofs.exploration.turn.Goals as goal
 
-pub unseen_heads-requires-clause-is_arc : goal.unseen_heads-requires-clause-is_arc
-unseen_heads-requires-clause-is_arc c = c.requires.arcs c.entry.result.0 (key_at _ _ _ c.entry.result.1 c.entry.ensures)
+pub unseen_heads-requires : goal.unseen_heads-requires
+unseen_heads-requires g c = (
+  search rules,
+  (
+    search rules,
+    (
+      search rules,
+      (
+        c.requires.arcs c.entry.result.0 (key_at _ _ _ c.entry.result.1 c.entry.ensures),
+        c.requires.seen c.entry.result.0 (key_at _ _ _ c.entry.result.1 c.entry.ensures),
+      ),
+    ),
+  ),
+)
 
-pub unseen_heads-requires-clause-seen : goal.unseen_heads-requires-clause-seen
-unseen_heads-requires-clause-seen c = c.requires.seen c.entry.result.0 (key_at _ _ _ c.entry.result.1 c.entry.ensures)
+pub unseen_tails-requires : goal.unseen_tails-requires
+unseen_tails-requires g c = (
+  search rules,
+  (
+    search rules,
+    (
+      search rules,
+      (
+        c.requires.arcs c.entry.result.0 (key_at _ _ _ c.entry.result.1 c.entry.ensures),
+        c.requires.seen c.entry.result.0 (key_at _ _ _ c.entry.result.1 c.entry.ensures),
+      ),
+    ),
+  ),
+)
 
-pub unseen_tails-requires-clause-is_arc : goal.unseen_tails-requires-clause-is_arc
-unseen_tails-requires-clause-is_arc c = c.requires.arcs c.entry.result.0 (key_at _ _ _ c.entry.result.1 c.entry.ensures)
+pub take_heads-requires : goal.take_heads-requires
+take_heads-requires g c = (
+  search rules,
+  (
+    search rules,
+    (
+      (arc_within c.vertices-vertices.ensures.graph c.args.side _ c.requires.room c.entry.result.0 (c.requires.arcs c.entry.result.0 (key_at _ _ _ c.entry.result.1 c.entry.ensures))).0,
+      λ w h. (arc_within c.vertices-vertices.ensures.graph c.args.side _ c.requires.room (arc c.entry.result.0.tail w) ((c.unseen_heads.ensures w).0 h).0).1,
+    ),
+  ),
+)
 
-pub unseen_tails-requires-clause-seen : goal.unseen_tails-requires-clause-seen
-unseen_tails-requires-clause-seen c = c.requires.seen c.entry.result.0 (key_at _ _ _ c.entry.result.1 c.entry.ensures)
-
-pub take_heads-requires-clause-room : goal.take_heads-requires-clause-room
-take_heads-requires-clause-room c =
-    (arc_within c.vertices-vertices.ensures.graph c.args.side _ c.requires.room c.entry.result.0 (c.requires.arcs c.entry.result.0 (key_at _ _ _ c.entry.result.1 c.entry.ensures))).0
-
-pub take_heads-requires-clause-heads_room : goal.take_heads-requires-clause-heads_room
-take_heads-requires-clause-heads_room c =
-    λ w h. (arc_within c.vertices-vertices.ensures.graph c.args.side _ c.requires.room (arc c.entry.result.0.tail w) ((c.unseen_heads.ensures w).0 h).0).1
-
-pub take_tails-requires-clause-room : goal.take_tails-requires-clause-room
-take_tails-requires-clause-room c =
-    let within = (arc_within c.vertices-vertices.ensures.graph c.args.side _ c.requires.room c.entry.result.0 (c.requires.arcs c.entry.result.0 (key_at _ _ _ c.entry.result.1 c.entry.ensures))).1 in
-    subst (λ n. c.entry.result.0.head < n) (sym c.take_heads.ensures.room) within
-
-pub take_tails-requires-clause-tails_room : goal.take_tails-requires-clause-tails_room
-take_tails-requires-clause-tails_room c =
-    λ w h. subst (λ n. w < n) (sym c.take_heads.ensures.room) (arc_within c.vertices-vertices.ensures.graph c.args.side _ c.requires.room (arc w c.entry.result.0.head) ((c.unseen_tails.ensures w).0 h).0).0
+pub take_tails-requires : goal.take_tails-requires
+take_tails-requires g c = (
+  search rules,
+  (
+    search rules,
+    (
+      let within = (arc_within c.vertices-vertices.ensures.graph c.args.side _ c.requires.room c.entry.result.0 (c.requires.arcs c.entry.result.0 (key_at _ _ _ c.entry.result.1 c.entry.ensures))).1 in
+          subst (λ n. c.entry.result.0.head < n) (sym c.take_heads.ensures.room) within,
+      λ w h. subst (λ n. w < n) (sym c.take_heads.ensures.room) (arc_within c.vertices-vertices.ensures.graph c.args.side _ c.requires.room (arc w c.entry.result.0.head) ((c.unseen_tails.ensures w).0 h).0).0,
+    ),
+  ),
+)
 
 pub returns : goal.returns
-returns c = record {
+returns g c = record {
   taken =
       found_turn (adjacent_on c.args.side c.args.graph.now) (side_names c.vertices-vertices.ensures.graph c.args.side) _ c.entry.result.0 _ _ c.unseen_heads.ensures c.unseen_tails.ensures c.args.at c.entry.result.1 _ _ _ _ _ c.entry.ensures c.in_ok-push_heads.ensures c.in_ok-push_tails.ensures c.take_heads.ensures.taken c.take_tails.ensures.taken;
   room = c.take_tails.ensures.room ∙ c.take_heads.ensures.room;

@@ -6,7 +6,7 @@ pub loop-r-init : goal.loop-r-init
 loop-r-init g c = λ u v. no_rows c.args.rows.now c.args.block.now c.args.from c.args.first u v c.requires.from_aligned
 
 pub join_row-requires : goal.join_row-requires
-join_row-requires g c = (search rules, (c.requires.limit, (omega (arith, c.requires.rows, c.requires.from, c.requires.from_aligned), (c.requires.first, c.requires.first_aligned))))
+join_row-requires g c = (search rules, (c.requires.limit, (omega (arith, c.requires.from_rows), (c.requires.first, c.requires.first_aligned))))
 
 pub loop-r-preserved : goal.loop-r-preserved
 loop-r-preserved g c =

@@ -6,7 +6,7 @@ use Rattle.md_modules.proofs.induced_paths.is_p4.Goals as goal
 use Rattle.md_modules.proofs.induced_paths.is_p4.Goals.{then-p, else-p}
 
 pub returns-then-has : goal.returns-then-has
-returns-then-has c = record {
+returns-then-has g c = record {
   exactly =
       elim c.if-p.branch [
         | then-p w ↦ path_by_edges c.vertices-vertices.ensures.graph c.args.p.now.a c.args.p.now.b c.args.p.now.c c.args.p.now.d w.if-p.true c.has_path_edges.result c.has_path_edges.ensures

@@ -3,10 +3,10 @@ use Rattle.md_graph.proofs.graph.GraphOf.add_edge.Goals as goal
 
 pub invariant_of-self : goal.invariant_of-self
 invariant_of-self g c =
-    (rows_add_edge c.self.invariant c.self.view_is c.args.u c.args.v c.requires.first c.requires.second c.requires.differ c.insert.ensures.changed c.index_mut.ensures.value c.insert-2.ensures.changed c.index_mut-2.ensures.value).0
+    ((rows_add_edge c.self.invariant.0 c.self.view_is c.args.u c.args.v c.requires.first c.requires.second c.requires.differ c.insert.ensures.changed c.index_mut.ensures.value c.insert-2.ensures.changed c.index_mut-2.ensures.value).0, c.self.invariant.1)
 
 pub returns : goal.returns
 returns g c = record {
   changed =
-      (rows_add_edge c.self.invariant c.self.view_is c.args.u c.args.v c.requires.first c.requires.second c.requires.differ c.insert.ensures.changed c.index_mut.ensures.value c.insert-2.ensures.changed c.index_mut-2.ensures.value).1;
+      (rows_add_edge c.self.invariant.0 c.self.view_is c.args.u c.args.v c.requires.first c.requires.second c.requires.differ c.insert.ensures.changed c.index_mut.ensures.value c.insert-2.ensures.changed c.index_mut-2.ensures.value).1;
 }

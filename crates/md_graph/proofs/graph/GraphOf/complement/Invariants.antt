@@ -1,6 +1,10 @@
+use Rattle.std.proofs.Common.{◌*◌, ◌≤◌, vec_capacity}
 use Rattle.md_graph.specs.PlainGraph.{complement}
 use Rattle.md_graph.proofs.RowLemmas.{Made}
 use Rattle.md_graph.proofs.graph.GraphOf.complement.Given as goal
 
 abbrev pub invariant-loop-v : goal.invariant-loop-v
-invariant-loop-v g l = Made (complement l.self) l.v l.rows.items
+invariant-loop-v g l = record {
+  made : Made (complement l.self) l.v l.rows.items;
+  room : 64 * g.row.W ≤ vec_capacity l.rows;
+}
