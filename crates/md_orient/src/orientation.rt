@@ -79,6 +79,15 @@ mod tests {
     use std::process::Abort;
     use std::test::Fail;
 
+    // Sees that these are the listed arcs, in this order.
+    fn expect_list(rt: &impl Abort, found: &[Arc], arcs: &[(u32, u32)]) {
+        assert!(rt; found.len() == arcs.len());
+        for i in 0..arcs.len() {
+            let (tail, head) = arcs[i];
+            assert_eq!(rt; found[i], Arc { tail, head });
+        }
+    }
+
     // Sees that these are the arcs of the orientation, in this order, or those of the chain.
     fn expect<const W: usize>(
         rt: &impl Abort,
@@ -92,18 +101,12 @@ mod tests {
         let graph: GraphOf<W> = GraphOf::from_edges(alloc, n, edges)?.expect(rt, "edges");
         match orient(alloc, &graph)? {
             Verdict::Transitive(list) => {
-                assert!(rt; !forced && list.len() == arcs.len() as u64);
-                for i in 0..arcs.len() {
-                    let (tail, head) = arcs[i];
-                    assert_eq!(rt; list.get(i as u64), Arc { tail, head });
-                }
+                assert!(rt; !forced);
+                expect_list(rt, list.as_slice(), arcs);
             }
             Verdict::Forced(chain) => {
-                assert!(rt; forced && chain.len() == arcs.len() as u64);
-                for i in 0..arcs.len() {
-                    let (tail, head) = arcs[i];
-                    assert_eq!(rt; chain.get(i as u64), Arc { tail, head });
-                }
+                assert!(rt; forced);
+                expect_list(rt, chain.as_slice(), arcs);
             }
         }
         Ok(())
