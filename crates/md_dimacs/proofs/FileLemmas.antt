@@ -2,7 +2,7 @@
 use Rattle.std.specs.Prelude.{◌≡◌, ℕ, ◌+◌, ◌<◌, ◌≤◌, ◌≢◌, ◌⊎◌, Bool, true, false, cond, not, ◌&&◌, ◌||◌, ◌==◌, nat_lt, nat_le, List, [], ◌∷◌, ◌++◌, length, Option, Some, None, MatchOption, refl}
 use Rattle.std.specs.List.{All, list_any}
 use Rattle.std.proofs.Common.{subst, ap, sym, ◌∙◌, arith, inl, inr}
-use Rattle.std.proofs.lemmas.Bool.{and_parts, eqb-false, ne_eqb, leb-true, leb-false, lt-leb}
+use Rattle.std.proofs.lemmas.Bool.{and_parts, cases_lt, eqb-false, ne_eqb, leb-true, leb-false, lt-leb, le-leb}
 use Rattle.std.proofs.lemmas.Bool.Decides.{nat_tests}
 use Rattle.std.proofs.lemmas.List.Elements.{All-nil, All-cons, All-head, All-tail}
 use Rattle.std.specs.FinSet as set
@@ -22,6 +22,7 @@ use Rattle.md_dimacs.specs.declared.line.LineClass.{LineClass}
 use Rattle.md_dimacs.specs.declared.line.LineClass.TheVariants.{Passed, Problem, Edge, Unknown}
 use Rattle.md_dimacs.specs.Line.{class_of_field, class_of, is_form, both, sizes_in, ends_in, sizes_by, ends_by, sizes_of, ends_of, sizes_fault, problem_fault, is_vertex, ends_fault, edge_fault, fault_by, fault_of_words, fault_of_line}
 use Rattle.md_dimacs.specs.File.{IsPassed, AreSizes, AreEdgeEnds, IsProblemLine, IsPassedOrEdge, are_ends, is_edge_line, Spells, seen_after, first_number, fault_behind, first_fault, fault_at}
+use Rattle.md_dimacs.specs.Laws.{LimitsAgree}
 use Rattle.md_graph.specs.NameSet.{range}
 use Rattle.md_graph.proofs.Ranges.{contains-range}
 use Rattle.md_dimacs.specs.Read.{IsBeforeProblem, IsBehindProblem, HasVertices, edgeless, with_ends, with_line, with_lines}
@@ -55,19 +56,19 @@ edge_without_fault n (a ∷ []) h = absurd (cc)
 edge_without_fault n (a ∷ b ∷ []) h = ends_without_fault n (number_of a) (number_of b) h
 edge_without_fault n (a ∷ b ∷ c ∷ more) h = absurd (cc)
 
-behind_by_class : (k : LineClass) (n : ℕ) (rest : List (List ℕ)) → fault_by k (Some n) rest ≡ None → (k ≡ Passed) ⊎ AreEdgeEnds n (ends_by k rest)
+behind_by_class : (k : LineClass) (n : ℕ) (rest : List (List ℕ)) → fault_by NAMES k (Some n) rest ≡ None → (k ≡ Passed) ⊎ AreEdgeEnds n (ends_by k rest)
 unfolding problem_fault
 behind_by_class Passed n rest h = inl refl
 behind_by_class Problem n rest h = absurd (cc)
 behind_by_class Edge n rest h = inr (edge_without_fault n rest h)
 behind_by_class Unknown n rest h = absurd (cc)
 
-words_behind : (n : ℕ) (ws : List (List ℕ)) → fault_of_words (Some n) ws ≡ None → (class_of ws ≡ Passed) ⊎ AreEdgeEnds n (ends_of ws)
+words_behind : (n : ℕ) (ws : List (List ℕ)) → fault_of_words NAMES (Some n) ws ≡ None → (class_of ws ≡ Passed) ⊎ AreEdgeEnds n (ends_of ws)
 words_behind n [] h = inl refl
 words_behind n (first ∷ rest) h = behind_by_class (class_of_field first) n rest h
 
 -- a line without fault behind the problem line
-line_behind : (n : ℕ) (line : List ℕ) → fault_of_line (Some n) line ≡ None → IsPassedOrEdge n line
+line_behind : (n : ℕ) (line : List ℕ) → fault_of_line NAMES (Some n) line ≡ None → IsPassedOrEdge n line
 line_behind n line h = words_behind n (words line) h
 
 ends_have_no_fault : (n : ℕ) (first second : Option ℕ) → AreEdgeEnds n (both first second) → ends_fault n first second ≡ None
@@ -91,22 +92,22 @@ edge_has_no_fault n (a ∷ []) e = let h = e.numbers in absurd (cc)
 edge_has_no_fault n (a ∷ b ∷ []) e = ends_have_no_fault n (number_of a) (number_of b) e
 edge_has_no_fault n (a ∷ b ∷ c ∷ more) e = let h = e.numbers in absurd (cc)
 
-passed_has_no_fault : (seen : Option ℕ) (ws : List (List ℕ)) → class_of ws ≡ Passed → fault_of_words seen ws ≡ None
-passed_has_no_fault seen [] h = refl
-passed_has_no_fault seen (first ∷ rest) h = ap (λ k. fault_by k seen rest) h
+passed_has_no_fault : (limit : ℕ) (seen : Option ℕ) (ws : List (List ℕ)) → class_of ws ≡ Passed → fault_of_words limit seen ws ≡ None
+passed_has_no_fault limit seen [] h = refl
+passed_has_no_fault limit seen (first ∷ rest) h = ap (λ k. fault_by limit k seen rest) h
 
-ends_by_class : (n : ℕ) (k : LineClass) (rest : List (List ℕ)) → AreEdgeEnds n (ends_by k rest) → fault_by k (Some n) rest ≡ None
+ends_by_class : (n : ℕ) (k : LineClass) (rest : List (List ℕ)) → AreEdgeEnds n (ends_by k rest) → fault_by NAMES k (Some n) rest ≡ None
 ends_by_class n Passed rest e = let h = e.numbers in absurd (cc)
 ends_by_class n Problem rest e = let h = e.numbers in absurd (cc)
 ends_by_class n Edge rest e = edge_has_no_fault n rest e
 ends_by_class n Unknown rest e = let h = e.numbers in absurd (cc)
 
-edge_words : (n : ℕ) (ws : List (List ℕ)) → AreEdgeEnds n (ends_of ws) → fault_of_words (Some n) ws ≡ None
+edge_words : (n : ℕ) (ws : List (List ℕ)) → AreEdgeEnds n (ends_of ws) → fault_of_words NAMES (Some n) ws ≡ None
 edge_words n [] e = let h = e.numbers in absurd (cc)
 edge_words n (first ∷ rest) e = ends_by_class n (class_of_field first) rest e
 
-line_has_no_fault : (n : ℕ) (line : List ℕ) → IsPassedOrEdge n line → fault_of_line (Some n) line ≡ None
-line_has_no_fault n line (inl passed) = passed_has_no_fault (Some n) (words line) passed
+line_has_no_fault : (n : ℕ) (line : List ℕ) → IsPassedOrEdge n line → fault_of_line NAMES (Some n) line ≡ None
+line_has_no_fault n line (inl passed) = passed_has_no_fault NAMES (Some n) (words line) passed
 line_has_no_fault n line (inr edge) = edge_words n (words line) edge
 
 -- ---- the lines behind the problem line
@@ -115,18 +116,18 @@ pub no_fault : (kind : Option DimacsKind) (number : ℕ) (later : Option DimacsF
 no_fault None number later h = (refl, h)
 no_fault (Some kind) number later h = absurd (cc)
 
-pub lines_behind : (n count : ℕ) (more : List (List ℕ)) → fault_behind (Some n) count more ≡ None → All (IsPassedOrEdge n) more
+pub lines_behind : (n count : ℕ) (more : List (List ℕ)) → fault_behind NAMES (Some n) count more ≡ None → All (IsPassedOrEdge n) more
 unfolding first_fault_behind
 lines_behind n count [] h = All-nil _
 lines_behind n count (line ∷ more) h =
     let parts = no_fault _ _ _ h in
     All-cons (IsPassedOrEdge n) line more (line_behind n line parts.0) (lines_behind n (count + 1) more parts.1)
 
-pub behind_has_no_fault : (n count : ℕ) (more : List (List ℕ)) → All (IsPassedOrEdge n) more → fault_behind (Some n) count more ≡ None
+pub behind_has_no_fault : (n count : ℕ) (more : List (List ℕ)) → All (IsPassedOrEdge n) more → fault_behind NAMES (Some n) count more ≡ None
 unfolding first_fault_behind
 behind_has_no_fault n count [] all = refl
 behind_has_no_fault n count (line ∷ more) all =
-    ap (λ kind. fault_or fault_at kind (count + 1) (fault_behind (Some n) (count + 1) more)) (line_has_no_fault n line (All-head (IsPassedOrEdge n) line more all))
+    ap (λ kind. fault_or fault_at kind (count + 1) (fault_behind NAMES (Some n) (count + 1) more)) (line_has_no_fault n line (All-head (IsPassedOrEdge n) line more all))
     ∙ behind_has_no_fault n (count + 1) more (All-tail (IsPassedOrEdge n) line more all)
 
 -- ---- one line before the problem line
@@ -136,7 +137,7 @@ data First (sizes : Option (ℕ × ℕ)) (class : LineClass) : Type 0 where
   read_past : class ≡ Passed → sizes ≡ None → First sizes class
   names_size : (n : ℕ) → AreSizes n sizes → First sizes class
 
-sizes_without_fault : (k : LineClass) (vertices edges : Option ℕ) → sizes_fault vertices edges ≡ None → First (both vertices edges) k
+sizes_without_fault : (k : LineClass) (vertices edges : Option ℕ) → sizes_fault NAMES vertices edges ≡ None → First (both vertices edges) k
 sizes_without_fault k None edges h = absurd (cc)
 sizes_without_fault k (Some n) None h = absurd (cc)
 sizes_without_fault k (Some n) (Some m) h = by_test (nat_le NAMES n) refl h where
@@ -144,12 +145,12 @@ sizes_without_fault k (Some n) (Some m) h = by_test (nat_le NAMES n) refl h wher
   by_test true e h = absurd (cc)
   by_test false e h = names_size n (record { edge_count = m; numbers = refl; named = leb-false NAMES n e })
 
-form_without_fault : (k : LineClass) (right : Bool) (vertices edges : Option ℕ) → cond right (sizes_fault vertices edges) (Some UnknownLine) ≡ None
+form_without_fault : (k : LineClass) (right : Bool) (vertices edges : Option ℕ) → cond right (sizes_fault NAMES vertices edges) (Some UnknownLine) ≡ None
     → First (cond right (both vertices edges) None) k
 form_without_fault k true vertices edges h = sizes_without_fault k vertices edges h
 form_without_fault k false vertices edges h = absurd (cc)
 
-problem_without_fault : (k : LineClass) (rest : List (List ℕ)) → problem_fault None rest ≡ None → First (sizes_in rest) k
+problem_without_fault : (k : LineClass) (rest : List (List ℕ)) → problem_fault NAMES None rest ≡ None → First (sizes_in rest) k
 unfolding problem_fault sizes_in
 problem_without_fault k [] h = absurd (cc)
 problem_without_fault k (a ∷ []) h = absurd (cc)
@@ -157,14 +158,14 @@ problem_without_fault k (a ∷ b ∷ []) h = absurd (cc)
 problem_without_fault k (a ∷ b ∷ c ∷ []) h = form_without_fault k (is_form a) (number_of b) (number_of c) h
 problem_without_fault k (a ∷ b ∷ c ∷ d ∷ more) h = absurd (cc)
 
-first_by_class : (k : LineClass) (rest : List (List ℕ)) → fault_by k None rest ≡ None → First (sizes_by k rest) k
+first_by_class : (k : LineClass) (rest : List (List ℕ)) → fault_by NAMES k None rest ≡ None → First (sizes_by k rest) k
 unfolding edge_fault
 first_by_class Passed rest h = read_past refl refl
 first_by_class Problem rest h = problem_without_fault Problem rest h
 first_by_class Edge rest h = absurd (cc)
 first_by_class Unknown rest h = absurd (cc)
 
-first_words : (ws : List (List ℕ)) → fault_of_words None ws ≡ None → First (sizes_of ws) (class_of ws)
+first_words : (ws : List (List ℕ)) → fault_of_words NAMES None ws ≡ None → First (sizes_of ws) (class_of ws)
 first_words [] h = read_past refl refl
 first_words (first ∷ rest) h = first_by_class (class_of_field first) rest h
 
@@ -179,84 +180,99 @@ passed_names_none : (ws : List (List ℕ)) → class_of ws ≡ Passed → (sizes
 passed_names_none [] h = (refl, refl)
 passed_names_none (first ∷ rest) h = passed_by_class (class_of_field first) rest h
 
-sizes_have_no_fault : (n : ℕ) (vertices edges : Option ℕ) → AreSizes n (both vertices edges) → sizes_fault vertices edges ≡ None
-sizes_have_no_fault n None edges a = let h = a.numbers in absurd (cc)
-sizes_have_no_fault n (Some k) None a = let h = a.numbers in absurd (cc)
-sizes_have_no_fault n (Some k) (Some m) a = by_number a.edge_count a.numbers where
-  by_number : (count : ℕ) → ◌≡◌ {A = Option (ℕ × ℕ)} (Some (k, m)) (Some (n, count)) → sizes_fault (Some k) (Some m) ≡ None
+sizes_have_no_fault : (limit : ℕ) (n : ℕ) (vertices edges : Option ℕ) → n < limit → AreSizes n (both vertices edges) → sizes_fault limit vertices edges ≡ None
+sizes_have_no_fault limit n None edges below a = let h = a.numbers in absurd (cc)
+sizes_have_no_fault limit n (Some k) None below a = let h = a.numbers in absurd (cc)
+sizes_have_no_fault limit n (Some k) (Some m) below a = by_number a.edge_count a.numbers where
+  by_number : (count : ℕ) → ◌≡◌ {A = Option (ℕ × ℕ)} (Some (k, m)) (Some (n, count)) → sizes_fault limit (Some k) (Some m) ≡ None
   by_number count same =
       let pairs : ◌≡◌ {A = ℕ × ℕ} (k, m) (n, count) = cc in
       let first = ap (λ (p : ℕ × ℕ). p.0) pairs in
-      let below = a.named in
-      let small : nat_le NAMES k ≡ false = lt-leb NAMES k (omega arith) in
+      let small : nat_le limit k ≡ false = lt-leb limit k (omega (arith, first, below)) in
       rw small refl
 
-form_has_no_fault : (n : ℕ) (right : Bool) (vertices edges : Option ℕ) → AreSizes n (cond right (both vertices edges) None)
-    → cond right (sizes_fault vertices edges) (Some UnknownLine) ≡ None
-form_has_no_fault n true vertices edges a = sizes_have_no_fault n vertices edges a
-form_has_no_fault n false vertices edges a = let h = a.numbers in absurd (cc)
+form_has_no_fault : (limit : ℕ) (n : ℕ) (right : Bool) (vertices edges : Option ℕ) → n < limit → AreSizes n (cond right (both vertices edges) None)
+    → cond right (sizes_fault limit vertices edges) (Some UnknownLine) ≡ None
+form_has_no_fault limit n true vertices edges below a = sizes_have_no_fault limit n vertices edges below a
+form_has_no_fault limit n false vertices edges below a = let h = a.numbers in absurd (cc)
 
-problem_has_no_fault : (n : ℕ) (rest : List (List ℕ)) → AreSizes n (sizes_in rest) → problem_fault None rest ≡ None
+problem_has_no_fault : (limit : ℕ) (n : ℕ) (rest : List (List ℕ)) → n < limit → AreSizes n (sizes_in rest) → problem_fault limit None rest ≡ None
 unfolding problem_fault sizes_in
-problem_has_no_fault n [] a = let h = a.numbers in absurd (cc)
-problem_has_no_fault n (x ∷ []) a = let h = a.numbers in absurd (cc)
-problem_has_no_fault n (x ∷ y ∷ []) a = let h = a.numbers in absurd (cc)
-problem_has_no_fault n (x ∷ y ∷ z ∷ []) a = form_has_no_fault n (is_form x) (number_of y) (number_of z) a
-problem_has_no_fault n (x ∷ y ∷ z ∷ w ∷ more) a = let h = a.numbers in absurd (cc)
+problem_has_no_fault limit n [] below a = let h = a.numbers in absurd (cc)
+problem_has_no_fault limit n (x ∷ []) below a = let h = a.numbers in absurd (cc)
+problem_has_no_fault limit n (x ∷ y ∷ []) below a = let h = a.numbers in absurd (cc)
+problem_has_no_fault limit n (x ∷ y ∷ z ∷ []) below a = form_has_no_fault limit n (is_form x) (number_of y) (number_of z) below a
+problem_has_no_fault limit n (x ∷ y ∷ z ∷ w ∷ more) below a = let h = a.numbers in absurd (cc)
 
-sizes_by_class : (n : ℕ) (k : LineClass) (rest : List (List ℕ)) → AreSizes n (sizes_by k rest) → (fault_by k None rest ≡ None) × (k ≡ Problem)
-sizes_by_class n Passed rest a = let h = a.numbers in absurd (cc)
-sizes_by_class n Problem rest a = (problem_has_no_fault n rest a, refl)
-sizes_by_class n Edge rest a = let h = a.numbers in absurd (cc)
-sizes_by_class n Unknown rest a = let h = a.numbers in absurd (cc)
+sizes_by_class : (limit : ℕ) (n : ℕ) (k : LineClass) (rest : List (List ℕ)) → n < limit → AreSizes n (sizes_by k rest) → (fault_by limit k None rest ≡ None) × (k ≡ Problem)
+sizes_by_class limit n Passed rest below a = let h = a.numbers in absurd (cc)
+sizes_by_class limit n Problem rest below a = (problem_has_no_fault limit n rest below a, refl)
+sizes_by_class limit n Edge rest below a = let h = a.numbers in absurd (cc)
+sizes_by_class limit n Unknown rest below a = let h = a.numbers in absurd (cc)
 
-problem_words : (n : ℕ) (ws : List (List ℕ)) → AreSizes n (sizes_of ws) → (fault_of_words None ws ≡ None) × (class_of ws ≡ Problem)
-problem_words n [] a = let h = a.numbers in absurd (cc)
-problem_words n (first ∷ rest) a = sizes_by_class n (class_of_field first) rest a
+problem_words : (limit : ℕ) (n : ℕ) (ws : List (List ℕ)) → n < limit → AreSizes n (sizes_of ws) → (fault_of_words limit None ws ≡ None) × (class_of ws ≡ Problem)
+problem_words limit n [] below a = let h = a.numbers in absurd (cc)
+problem_words limit n (first ∷ rest) below a = sizes_by_class limit n (class_of_field first) rest below a
 
 -- ---- the lines up to the problem line
 
-passed_first : (count : ℕ) (line : List ℕ) (more : List (List ℕ)) → IsPassed line
-    → fault_behind None count (line ∷ more) ≡ fault_behind None (count + 1) more
+passed_first : (limit : ℕ) (count : ℕ) (line : List ℕ) (more : List (List ℕ)) → IsPassed line
+    → fault_behind limit None count (line ∷ more) ≡ fault_behind limit None (count + 1) more
 unfolding first_fault_behind
-passed_first count line more h =
-    let fault = passed_has_no_fault None (words line) h in
+passed_first limit count line more h =
+    let fault = passed_has_no_fault limit None (words line) h in
     let sizes = (passed_names_none (words line) h).0 in
     rw (fault, sizes) refl
 
-problem_first : (n count : ℕ) (line : List ℕ) (more : List (List ℕ)) → IsProblemLine n line
-    → fault_behind None count (line ∷ more) ≡ fault_behind (Some n) (count + 1) more
+-- behind the problem line no limit matters
+words_limit : (limit n : ℕ) (ws : List (List ℕ)) → fault_of_words limit (Some n) ws ≡ fault_of_words NAMES (Some n) ws
+unfolding problem_fault
+words_limit limit n [] = refl
+words_limit limit n (first ∷ rest) = by_class (class_of_field first) where
+  by_class : (k : LineClass) → fault_by limit k (Some n) rest ≡ fault_by NAMES k (Some n) rest
+  by_class Passed = refl
+  by_class Problem = refl
+  by_class Edge = refl
+  by_class Unknown = refl
+
+lines_limit : (limit n count : ℕ) (more : List (List ℕ)) → fault_behind limit (Some n) count more ≡ fault_behind NAMES (Some n) count more
 unfolding first_fault_behind
-problem_first n count line more p =
-    let fault = (problem_words n (words line) p).0 in
+lines_limit limit n count [] = refl
+lines_limit limit n count (line ∷ more) = λ i. fault_or fault_at (words_limit limit n (words line) i) (count + 1) (lines_limit limit n (count + 1) more i)
+
+problem_first : (limit : ℕ) (n count : ℕ) (line : List ℕ) (more : List (List ℕ)) → n < limit → IsProblemLine n line
+    → fault_behind limit None count (line ∷ more) ≡ fault_behind NAMES (Some n) (count + 1) more
+unfolding first_fault_behind
+problem_first limit n count line more below p =
+    let fault = (problem_words limit n (words line) below p).0 in
     let sizes = p.numbers in
-    rw (fault, sizes) refl
+    rw (fault, sizes) (lines_limit limit n (count + 1) more)
 
-fault-passed : (count : ℕ) (before rest : List (List ℕ)) → All IsPassed before
-    → fault_behind None count (before ++ rest) ≡ fault_behind None (count + length before) rest
-fault-passed count [] rest all = ap (λ k. fault_behind None k rest) (omega arith)
-fault-passed count (line ∷ before) rest all =
-    passed_first count line (before ++ rest) (All-head IsPassed line before all)
-    ∙ fault-passed (count + 1) before rest (All-tail IsPassed line before all)
-    ∙ ap (λ k. fault_behind None k rest) (omega arith)
+fault-passed : (limit : ℕ) (count : ℕ) (before rest : List (List ℕ)) → All IsPassed before
+    → fault_behind limit None count (before ++ rest) ≡ fault_behind limit None (count + length before) rest
+fault-passed limit count [] rest all = ap (λ k. fault_behind limit None k rest) (omega arith)
+fault-passed limit count (line ∷ before) rest all =
+    passed_first limit count line (before ++ rest) (All-head IsPassed line before all)
+    ∙ fault-passed limit (count + 1) before rest (All-tail IsPassed line before all)
+    ∙ ap (λ k. fault_behind limit None k rest) (omega arith)
 
-pub fault_before : (all : List (List ℕ)) (count : ℕ) (rest : List (List ℕ)) → IsBeforeProblem all count rest
-    → fault_behind None 0 all ≡ fault_behind None count rest
-fault_before all count rest b =
-    ap (fault_behind None 0) b.cut ∙ fault-passed 0 b.before rest b.passed
-    ∙ let same = b.counted in ap (λ k. fault_behind None k rest) (omega arith)
+pub fault_before : (limit : ℕ) (all : List (List ℕ)) (count : ℕ) (rest : List (List ℕ)) → IsBeforeProblem all count rest
+    → fault_behind limit None 0 all ≡ fault_behind limit None count rest
+fault_before limit all count rest b =
+    ap (fault_behind limit None 0) b.cut ∙ fault-passed limit 0 b.before rest b.passed
+    ∙ let same = b.counted in ap (λ k. fault_behind limit None k rest) (omega arith)
 
-pub fault-behind_problem : (all : List (List ℕ)) (n count : ℕ) (rest : List (List ℕ)) → IsBehindProblem all n count rest
-    → fault_behind None 0 all ≡ fault_behind (Some n) count rest
-fault-behind_problem all n count rest b =
-    ap (fault_behind None 0) b.cut ∙ fault-passed 0 b.before (b.problem ∷ rest) b.passed
-    ∙ problem_first n (0 + length b.before) b.problem rest b.problem_line
-    ∙ let same = b.counted in ap (λ k. fault_behind (Some n) k rest) (omega arith)
+pub fault-behind_problem : (limit : ℕ) (all : List (List ℕ)) (n count : ℕ) (rest : List (List ℕ)) → n < limit → IsBehindProblem all n count rest
+    → fault_behind limit None 0 all ≡ fault_behind NAMES (Some n) count rest
+fault-behind_problem limit all n count rest below b =
+    ap (fault_behind limit None 0) b.cut ∙ fault-passed limit 0 b.before (b.problem ∷ rest) b.passed
+    ∙ problem_first limit n (0 + length b.before) b.problem rest below b.problem_line
+    ∙ let same = b.counted in ap (λ k. fault_behind NAMES (Some n) k rest) (omega arith)
 
 pub spelled_has_no_fault : (bytes : List ℕ) (g : PlainGraph) → Spells bytes g → first_fault bytes ≡ None
 spelled_has_no_fault bytes g s =
-    ap (fault_behind None 0) s.whole ∙ fault-passed 0 s.before (s.problem ∷ s.behind) s.passed
-    ∙ problem_first s.n (0 + length s.before) s.problem s.behind s.problem_line
+    ap (fault_behind NAMES None 0) s.whole ∙ fault-passed NAMES 0 s.before (s.problem ∷ s.behind) s.passed
+    ∙ problem_first NAMES s.n (0 + length s.before) s.problem s.behind s.problem_line.named s.problem_line
     ∙ behind_has_no_fault s.n _ s.behind s.edge_lines
 
 -- ---- the graph that lines name
@@ -343,9 +359,9 @@ record Parts (all : List (List ℕ)) : Type 0 where
   are_edges : All (IsPassedOrEdge n) behind
 
 parts_by_first : (count : ℕ) (line : List ℕ) (more : List (List ℕ)) → First (sizes_of (words line)) (class_of (words line))
-    → fault_behind (seen_after None line) (count + 1) more ≡ None → (fault_behind None (count + 1) more ≡ None → Parts more) → Parts (line ∷ more)
+    → fault_behind NAMES (seen_after None line) (count + 1) more ≡ None → (fault_behind NAMES None (count + 1) more ≡ None → Parts more) → Parts (line ∷ more)
 parts_by_first count line more (read_past class sizes) h later =
-    let rest = later (ap (λ s. fault_behind (first_number s) (count + 1) more) (sym sizes) ∙ h) in
+    let rest = later (ap (λ s. fault_behind NAMES (first_number s) (count + 1) more) (sym sizes) ∙ h) in
     record {
       n = rest.n;
       before = line ∷ rest.before;
@@ -365,10 +381,10 @@ parts_by_first count line more (names_size n sizes) h later =
       whole = refl;
       are_passed = All-nil IsPassed;
       is_problem = sizes;
-      are_edges = lines_behind n (count + 1) more (ap (λ s. fault_behind (first_number s) (count + 1) more) (sym sizes.numbers) ∙ h);
+      are_edges = lines_behind n (count + 1) more (ap (λ s. fault_behind NAMES (first_number s) (count + 1) more) (sym sizes.numbers) ∙ h);
     }
 
-parts_without_fault : (count : ℕ) (all : List (List ℕ)) → fault_behind None count all ≡ None → Parts all
+parts_without_fault : (count : ℕ) (all : List (List ℕ)) → fault_behind NAMES None count all ≡ None → Parts all
 unfolding first_fault_behind
 parts_without_fault count [] h = absurd (cc)
 parts_without_fault count (line ∷ more) h =
@@ -419,7 +435,7 @@ one_size n m c d o a b =
 pub one_graph : (bytes : List ℕ) (g h : PlainGraph) → Spells bytes g → Spells bytes h → g ≡ h
 one_graph bytes g h s t =
     let split = one_split s.before t.before s.problem t.problem s.behind t.behind (sym s.whole ∙ t.whole) s.passed t.passed
-    (problem_words s.n (words s.problem) s.problem_line).1 (problem_words t.n (words t.problem) t.problem_line).1 in
+    (problem_words NAMES s.n (words s.problem) s.problem_line.named s.problem_line).1 (problem_words NAMES t.n (words t.problem) t.problem_line.named t.problem_line).1 in
     let same_n : s.n ≡ t.n = one_size s.n t.n s.problem_line.edge_count t.problem_line.edge_count (sizes_of (words s.problem)) s.problem_line.numbers
     (ap (λ line. sizes_of (words line)) split.0 ∙ t.problem_line.numbers) in
     same_graph s.graph t.graph
@@ -438,3 +454,70 @@ by_fault bytes (Some fault) h = λ g s. let none = spelled_has_no_fault bytes g 
 
 pub spelled_or_faulty : (bytes : List ℕ) → MatchOption (first_fault bytes) (SpellsOne Spells bytes) (λ _. SpellsNone Spells bytes)
 spelled_or_faulty bytes = by_fault bytes (first_fault bytes) refl
+
+-- ---- another limit
+
+-- where the limit isn't at fault, a greater one changes nothing
+abbrev Agree : {F : Type 0} → (ℕ → Option F) → Option F → ℕ → ℕ → Type 0
+Agree fault many low high = (fault low ≡ many) ⊎ (fault high ≡ fault low)
+
+sizes_agree : (low high : ℕ) → low ≤ high → (vertices edges : Option ℕ) → Agree (λ limit. sizes_fault limit vertices edges) (Some TooManyVertices) low high
+sizes_agree low high more None edges = inr refl
+sizes_agree low high more (Some n) None = inr refl
+sizes_agree low high more (Some n) (Some m) =
+    elim (cases_lt n low) [
+      | inl below ↦ inr (rw (lt-leb low n below, lt-leb high n (omega (arith, below, more))) refl)
+      | inr above ↦ inl (rw (le-leb low n above) refl)
+    ]
+
+form_agree : (low high : ℕ) → low ≤ high → (right : Bool) (vertices edges : Option ℕ)
+    → Agree (λ limit. cond right (sizes_fault limit vertices edges) (Some UnknownLine)) (Some TooManyVertices) low high
+form_agree low high more true vertices edges = sizes_agree low high more vertices edges
+form_agree low high more false vertices edges = inr refl
+
+problem_agree : (low high : ℕ) → low ≤ high → (seen : Option ℕ) (rest : List (List ℕ)) → Agree (λ limit. problem_fault limit seen rest) (Some TooManyVertices) low high
+unfolding problem_fault
+problem_agree low high more (Some n) rest = inr refl
+problem_agree low high more None [] = inr refl
+problem_agree low high more None (a ∷ []) = inr refl
+problem_agree low high more None (a ∷ b ∷ []) = inr refl
+problem_agree low high more None (a ∷ b ∷ c ∷ []) = form_agree low high more (is_form a) (number_of b) (number_of c)
+problem_agree low high more None (a ∷ b ∷ c ∷ d ∷ rest) = inr refl
+
+class_agree : (low high : ℕ) → low ≤ high → (k : LineClass) (seen : Option ℕ) (rest : List (List ℕ)) → Agree (λ limit. fault_by limit k seen rest) (Some TooManyVertices) low high
+class_agree low high more Passed seen rest = inr refl
+class_agree low high more Problem seen rest = problem_agree low high more seen rest
+class_agree low high more Edge seen rest = inr refl
+class_agree low high more Unknown seen rest = inr refl
+
+words_agree : (low high : ℕ) → low ≤ high → (seen : Option ℕ) (ws : List (List ℕ)) → Agree (λ limit. fault_of_words limit seen ws) (Some TooManyVertices) low high
+words_agree low high more seen [] = inr refl
+words_agree low high more seen (first ∷ rest) = class_agree low high more (class_of_field first) seen rest
+
+-- some line has too many vertices, or the first fault stays
+abbrev FaultsAgree : Option DimacsFault → Option DimacsFault → Type 0
+FaultsAgree low high = ((number : ℕ) × (low ≡ Some (fault_at TooManyVertices number))) ⊎ (high ≡ low)
+
+fault_or_agree : (low high : Option DimacsKind) (number : ℕ) (later_low later_high : Option DimacsFault)
+    → (low ≡ Some TooManyVertices) ⊎ (high ≡ low) → FaultsAgree later_low later_high
+    → FaultsAgree (fault_or fault_at low number later_low) (fault_or fault_at high number later_high)
+fault_or_agree low high number later_low later_high (inl many) later = inl (number, rw many refl)
+fault_or_agree None high number later_low later_high (inr same) later = rw same later
+fault_or_agree (Some kind) high number later_low later_high (inr same) later = inr (rw same refl)
+
+lines_agree : (low high : ℕ) → low ≤ high → (seen : Option ℕ) (count : ℕ) (all : List (List ℕ)) → FaultsAgree (fault_behind low seen count all) (fault_behind high seen count all)
+unfolding first_fault_behind
+lines_agree low high more seen count [] = inr refl
+lines_agree low high more seen count (line ∷ all) =
+    fault_or_agree _ _ (count + 1) _ _ (words_agree low high more seen (words line)) (lines_agree low high more (seen_after seen line) (count + 1) all)
+
+limits_by_file : (low high : Option DimacsFault) → FaultsAgree low high
+    → (low ≡ None → high ≡ None) × ((fault : DimacsFault) → low ≡ Some fault → fault.kind ≢ TooManyVertices → high ≡ Some fault)
+limits_by_file low high (inl many) = (λ none. cc (many.1), λ fault is other. absurd (other (kind_of (sym is ∙ many.1))))
+  where
+    kind_of : {fault : DimacsFault} {number : ℕ} → ◌≡◌ {A = Option DimacsFault} (Some fault) (Some (fault_at TooManyVertices number)) → fault.kind ≡ TooManyVertices
+    kind_of e = cc
+limits_by_file low high (inr same) = (λ none. same ∙ none, λ fault is other. same ∙ is)
+
+pub limits_agree : LimitsAgree
+limits_agree bytes low high more = limits_by_file _ _ (lines_agree low high more None 0 (lines bytes))

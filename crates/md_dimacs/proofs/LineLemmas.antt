@@ -7,13 +7,13 @@ use Rattle.md_dimacs.specs.declared.fault.DimacsKind.TheVariants.{UnknownLine, F
 use Rattle.md_dimacs.specs.Line.{is_form, both, sizes_in, ends_in, sizes_fault, problem_fault, ends_fault, edge_fault}
 use Rattle.md_dimacs.specs.File.{AreSizes}
 
-pub problem_field_count : (rest : List (List ℕ)) → length rest ≢ 3 → problem_fault None rest ≡ Some FieldCount
+pub problem_field_count : (limit : ℕ) (rest : List (List ℕ)) → length rest ≢ 3 → problem_fault limit None rest ≡ Some FieldCount
 unfolding problem_fault
-problem_field_count [] h = refl
-problem_field_count (a ∷ []) h = refl
-problem_field_count (a ∷ b ∷ []) h = refl
-problem_field_count (a ∷ b ∷ c ∷ []) h = absurd (h refl)
-problem_field_count (a ∷ b ∷ c ∷ d ∷ more) h = refl
+problem_field_count limit [] h = refl
+problem_field_count limit (a ∷ []) h = refl
+problem_field_count limit (a ∷ b ∷ []) h = refl
+problem_field_count limit (a ∷ b ∷ c ∷ []) h = absurd (h refl)
+problem_field_count limit (a ∷ b ∷ c ∷ d ∷ more) h = refl
 
 pub edge_field_count : (n : ℕ) (rest : List (List ℕ)) → length rest ≢ 2 → edge_fault (Some n) rest ≡ Some FieldCount
 unfolding edge_fault
@@ -23,15 +23,15 @@ edge_field_count n (a ∷ b ∷ []) h = absurd (h refl)
 edge_field_count n (a ∷ b ∷ c ∷ more) h = refl
 
 -- at the three fields behind a `p`
-pub problem_unknown : (rest : List (List ℕ)) (form vertices edges : List ℕ) → rest ≡ form ∷ vertices ∷ edges ∷ []
-    → is_form form ≡ false → problem_fault None rest ≡ Some UnknownLine
+pub problem_unknown : (limit : ℕ) (rest : List (List ℕ)) (form vertices edges : List ℕ) → rest ≡ form ∷ vertices ∷ edges ∷ []
+    → is_form form ≡ false → problem_fault limit None rest ≡ Some UnknownLine
 unfolding problem_fault
-problem_unknown rest form vertices edges cut f = rw (cut, f) refl
+problem_unknown limit rest form vertices edges cut f = rw (cut, f) refl
 
-pub problem_numbers : (rest : List (List ℕ)) (form vertices edges : List ℕ) → rest ≡ form ∷ vertices ∷ edges ∷ []
-    → is_form form ≡ true → problem_fault None rest ≡ sizes_fault (number_of vertices) (number_of edges)
+pub problem_numbers : (limit : ℕ) (rest : List (List ℕ)) (form vertices edges : List ℕ) → rest ≡ form ∷ vertices ∷ edges ∷ []
+    → is_form form ≡ true → problem_fault limit None rest ≡ sizes_fault limit (number_of vertices) (number_of edges)
 unfolding problem_fault
-problem_numbers rest form vertices edges cut t = rw (cut, t) refl
+problem_numbers limit rest form vertices edges cut t = rw (cut, t) refl
 
 pub sizes_numbers : (rest : List (List ℕ)) (form vertices edges : List ℕ) → rest ≡ form ∷ vertices ∷ edges ∷ []
     → is_form form ≡ true → sizes_in rest ≡ both (number_of vertices) (number_of edges)
@@ -68,10 +68,10 @@ sizes_read r rest form vertices edges n m cut t en em h =
     let same : both n m ≡ sizes_in rest = (λ i. both (en i) (em i)) ∙ sym (sizes_numbers rest form vertices edges cut t) in
     subst (λ o. IfOk r (λ k. AreSizes k o)) same h
 
-pub sizes_refused : (r : Result ℕ DimacsKind) (rest : List (List ℕ)) (form vertices edges : List ℕ) (n m : Option ℕ) → rest ≡ form ∷ vertices ∷ edges ∷ []
-    → is_form form ≡ true → n ≡ number_of vertices → m ≡ number_of edges → IfErr r (λ kind. sizes_fault n m ≡ Some kind) → IfErr r (λ kind. problem_fault None rest ≡ Some kind)
-sizes_refused r rest form vertices edges n m cut t en em h =
-    let same : sizes_fault n m ≡ problem_fault None rest = (λ i. sizes_fault (en i) (em i)) ∙ sym (problem_numbers rest form vertices edges cut t) in
+pub sizes_refused : (limit : ℕ) (r : Result ℕ DimacsKind) (rest : List (List ℕ)) (form vertices edges : List ℕ) (n m : Option ℕ) → rest ≡ form ∷ vertices ∷ edges ∷ []
+    → is_form form ≡ true → n ≡ number_of vertices → m ≡ number_of edges → IfErr r (λ kind. sizes_fault limit n m ≡ Some kind) → IfErr r (λ kind. problem_fault limit None rest ≡ Some kind)
+sizes_refused limit r rest form vertices edges n m cut t en em h =
+    let same : sizes_fault limit n m ≡ problem_fault limit None rest = (λ i. sizes_fault limit (en i) (em i)) ∙ sym (problem_numbers limit rest form vertices edges cut t) in
     subst (λ o. IfErr r (λ kind. o ≡ Some kind)) same h
 
 pub ends_passed : (r : Result (ℕ × ℕ) DimacsKind) (n : ℕ) (rest : List (List ℕ)) (first second : List ℕ) (u v : Option ℕ) → rest ≡ first ∷ second ∷ []

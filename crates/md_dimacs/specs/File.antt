@@ -88,9 +88,14 @@ abbrev pub fault_at : DimacsKind → ℕ → DimacsFault
 fault_at kind line = record { kind = kind; line = line }
 
 -- the first fault of lines behind `count` others, which count too
-abbrev pub fault_behind : Option ℕ → ℕ → List (List ℕ) → Option DimacsFault
-fault_behind = first_fault_behind fault_at fault_of_line seen_after end_fault
+abbrev pub fault_behind : ℕ → Option ℕ → ℕ → List (List ℕ) → Option DimacsFault
+fault_behind limit = first_fault_behind fault_at (fault_of_line limit) seen_after end_fault
 
--- the first fault of a file: that of its first faulty line, with the number of the line, counted from 1
+-- the first fault of a file, where names from the limit on are too many: that of its first faulty line, with the
+-- number of the line, counted from 1
+abbrev pub first_fault_within : ℕ → List ℕ → Option DimacsFault
+first_fault_within limit bytes = fault_behind limit None 0 (lines bytes)
+
+-- the first fault of a file
 abbrev pub first_fault : List ℕ → Option DimacsFault
-first_fault bytes = fault_behind None 0 (lines bytes)
+first_fault bytes = first_fault_within NAMES bytes

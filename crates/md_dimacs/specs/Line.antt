@@ -2,7 +2,6 @@
 -- Source: DIMACS, "Clique and coloring problems: graph format" (1993); the faults are this project's.
 use Rattle.std.specs.Prelude.{ℕ, ◌==◌, ◌&&◌, ◌||◌, nat_eq, nat_lt, nat_le, Bool, not, List, [], ◌∷◌, length, slice_index, if◌then◌else◌, Option, None, Some, codes}
 use Rattle.std.specs.Cmp.Lexicographic.{pointwise}
-use Rattle.md_graph.specs.declared.TheConstants.{NAMES}
 use Rattle.md_text.specs.Numbers.{number_of}
 use Rattle.md_text.specs.Spelling.{words}
 use Rattle.md_dimacs.specs.declared.fault.DimacsKind.{DimacsKind}
@@ -75,19 +74,19 @@ abbrev pub ends_of : List (List ℕ) → Option (ℕ × ℕ)
 ends_of [] = None
 ends_of (first ∷ rest) = ends_by (class_of_field first) rest
 
--- the fault of the two numbers of a problem line: neither may lack, and there is a name for each vertex
-abbrev pub sizes_fault : Option ℕ → Option ℕ → Option DimacsKind
-sizes_fault None edges = Some BadNumber
-sizes_fault (Some n) None = Some BadNumber
-sizes_fault (Some n) (Some m) = if nat_le NAMES n then Some TooManyVertices else None
+-- the fault of the two numbers of a problem line: neither may lack, and all vertices are below the limit
+abbrev pub sizes_fault : ℕ → Option ℕ → Option ℕ → Option DimacsKind
+sizes_fault limit None edges = Some BadNumber
+sizes_fault limit (Some n) None = Some BadNumber
+sizes_fault limit (Some n) (Some m) = if nat_le limit n then Some TooManyVertices else None
 
 -- the fault of a problem line, by its fields behind the first; `seen` is the number of vertices of the
 -- problem line that stood before, if one did
-unfoldable pub problem_fault : Option ℕ → List (List ℕ) → Option DimacsKind
-problem_fault (Some n) rest = Some SecondProblemLine
-problem_fault None (form ∷ vertices ∷ edges ∷ []) =
-    if is_form form then sizes_fault (number_of vertices) (number_of edges) else Some UnknownLine
-problem_fault None _ = Some FieldCount
+unfoldable pub problem_fault : ℕ → Option ℕ → List (List ℕ) → Option DimacsKind
+problem_fault limit (Some n) rest = Some SecondProblemLine
+problem_fault limit None (form ∷ vertices ∷ edges ∷ []) =
+    if is_form form then sizes_fault limit (number_of vertices) (number_of edges) else Some UnknownLine
+problem_fault limit None _ = Some FieldCount
 
 -- whether u is one of the vertices 1 to n
 abbrev pub is_vertex : ℕ → ℕ → Bool
@@ -108,17 +107,17 @@ edge_fault (Some n) (first ∷ second ∷ []) = ends_fault n (number_of first) (
 edge_fault (Some n) _ = Some FieldCount
 
 -- the fault of a line of a class
-abbrev pub fault_by : LineClass → Option ℕ → List (List ℕ) → Option DimacsKind
-fault_by Passed seen rest = None
-fault_by Problem seen rest = problem_fault seen rest
-fault_by Edge seen rest = edge_fault seen rest
-fault_by Unknown seen rest = Some UnknownLine
+abbrev pub fault_by : ℕ → LineClass → Option ℕ → List (List ℕ) → Option DimacsKind
+fault_by limit Passed seen rest = None
+fault_by limit Problem seen rest = problem_fault limit seen rest
+fault_by limit Edge seen rest = edge_fault seen rest
+fault_by limit Unknown seen rest = Some UnknownLine
 
 -- the fault of a line with these fields
-abbrev pub fault_of_words : Option ℕ → List (List ℕ) → Option DimacsKind
-fault_of_words seen [] = None
-fault_of_words seen (first ∷ rest) = fault_by (class_of_field first) seen rest
+abbrev pub fault_of_words : ℕ → Option ℕ → List (List ℕ) → Option DimacsKind
+fault_of_words limit seen [] = None
+fault_of_words limit seen (first ∷ rest) = fault_by limit (class_of_field first) seen rest
 
 -- the fault of a line, where `seen` is the number of vertices of the problem line that stood before
-abbrev pub fault_of_line : Option ℕ → List ℕ → Option DimacsKind
-fault_of_line seen line = fault_of_words seen (words line)
+abbrev pub fault_of_line : ℕ → Option ℕ → List ℕ → Option DimacsKind
+fault_of_line limit seen line = fault_of_words limit seen (words line)

@@ -2,7 +2,7 @@
 //! the statement stands in `specs/Laws.antt`.
 ghost use Rattle.md_text.specs.Spelling.{SpelledOrFaulty, SpelledHasNoFault};
 ghost use Rattle.md_dimacs.specs.File.{Spells, first_fault};
-ghost use Rattle.md_dimacs.specs.Laws.{TextIsRead};
+ghost use Rattle.md_dimacs.specs.Laws.{TextIsRead, LimitsAgree};
 
 /// A file has either a first fault or exactly one graph that it spells.
 pub fn files_are_spelled_or_faulty()
@@ -14,4 +14,10 @@ pub fn files_are_spelled_or_faulty()
 /// vertices named by their places from 1 on.
 pub fn written_text_is_read()
     ensures { TextIsRead }
+{}
+
+/// A file without fault has none where more names are there, and each first fault other than too
+/// many vertices is the first one there too.
+pub fn limits_agree()
+    ensures { LimitsAgree }
 {}

@@ -1,5 +1,5 @@
 //! One line of a DIMACS edge file.
-ghost use Rattle.std.specs.Prelude.{◌≡◌, ◌≢◌, ◌<◌, length, None, Some, IfOk, IfErr, OnOk, IsTrue};
+ghost use Rattle.std.specs.Prelude.{◌≡◌, ◌≢◌, ◌<◌, ◌≤◌, length, None, Some, IfOk, IfErr, OnOk, IsTrue};
 ghost use Rattle.md_text.specs.Fields.{fields};
 ghost use Rattle.md_dimacs.specs.Line.{class_of_field, is_form, both, sizes_in, ends_in, is_vertex, sizes_fault, problem_fault, ends_fault, edge_fault};
 ghost use Rattle.md_dimacs.specs.File.{AreSizes};
@@ -49,26 +49,31 @@ fn names_edges(field: &[u8]) -> bool
     field == b"edge".as_slice() || field == b"col".as_slice()
 }
 
-// Reads the fields behind the `p` of a first problem line: the number of vertices.
-pub(crate) fn read_problem(rest: &[u8]) -> Result<u32, DimacsKind>
+// Reads the fields behind the `p` of a first problem line: the number of vertices, which is below
+// the limit.
+pub(crate) fn read_problem(limit: u32, rest: &[u8]) -> Result<u32, DimacsKind>
+    requires { limit ≤ NAMES }
     ensures sizes { IfOk result (λ n. AreSizes n (sizes_in (fields rest.now))) }
-    ensures fault { IfErr result (λ kind. problem_fault None (fields rest.now) ≡ Some kind) }
+    ensures below { IfOk result (λ n. n < limit) }
+    ensures fault { IfErr result (λ kind. problem_fault limit None (fields rest.now) ≡ Some kind) }
 {
     match three_fields(rest) {
         Some((form, vertices, edges)) => {
             if !names_edges(form) {
                 return Err(DimacsKind::UnknownLine);
             }
-            checked_size(number(vertices), number(edges))
+            checked_size(limit, number(vertices), number(edges))
         }
         None => Err(DimacsKind::FieldCount),
     }
 }
 
 // The number of vertices that the two numbers of a problem line give.
-fn checked_size(vertices: Option<u64>, edges: Option<u64>) -> Result<u32, DimacsKind>
+fn checked_size(limit: u32, vertices: Option<u64>, edges: Option<u64>) -> Result<u32, DimacsKind>
+    requires { limit ≤ NAMES }
     ensures sizes { IfOk result (λ n. AreSizes n (both vertices edges)) }
-    ensures fault { IfErr result (λ kind. sizes_fault vertices edges ≡ Some kind) }
+    ensures below { IfOk result (λ n. n < limit) }
+    ensures fault { IfErr result (λ kind. sizes_fault limit vertices edges ≡ Some kind) }
 {
     let Some(n) = vertices else {
         return Err(DimacsKind::BadNumber);
@@ -76,7 +81,7 @@ fn checked_size(vertices: Option<u64>, edges: Option<u64>) -> Result<u32, Dimacs
     if edges.is_none() {
         return Err(DimacsKind::BadNumber);
     }
-    if n >= u64::from(NAMES) {
+    if n >= u64::from(limit) {
         return Err(DimacsKind::TooManyVertices);
     }
     Ok(n as u32)

@@ -1,17 +1,17 @@
 //! Reads a DIMACS edge file.
-ghost use Rattle.std.specs.Prelude.{◌≡◌, ◌≢◌, ◌<◌, ◌≤◌, ◌+◌, ◌^◌, length, None, Some, MatchOption, IfOk, IfErr, OnOk, OnErr};
+ghost use Rattle.std.specs.Prelude.{◌≡◌, ◌≢◌, ◌<◌, ◌≤◌, ◌+◌, ◌*◌, ◌^◌, length, None, Some, IfSome, MatchOption, IfOk, IfErr, OnOk, OnErr};
 ghost use Rattle.md_graph.specs.PlainGraph.{empty_graph, with_edge};
 ghost use Rattle.md_graph.specs.Sets.{Has};
 ghost use Rattle.md_text.specs.Lines.{lines};
 ghost use Rattle.md_text.specs.Fields.{fields};
 ghost use Rattle.md_dimacs.specs.declared.line.LineClass.TheVariants.{Passed};
 ghost use Rattle.md_dimacs.specs.Line.{class_of, sizes_of, ends_of, fault_of_words};
-ghost use Rattle.md_dimacs.specs.File.{Spells, AreSizes, fault_behind, first_fault};
+ghost use Rattle.md_dimacs.specs.File.{Spells, AreSizes, fault_behind, first_fault, first_fault_within};
 ghost use Rattle.md_dimacs.specs.Read.{IsBehindProblem, HasVertices, edgeless, with_ends, with_lines};
 
 use crate::line::{LineClass, class_of, read_ends, read_problem};
 use crate::{DimacsFault, DimacsKind};
-use md_graph::{Graph, NAMES};
+use md_graph::{Graph, GraphOf, NAMES};
 use md_text::{split_field, split_line, without_return};
 
 /// Reads the graph that the bytes of a DIMACS edge file spell: the vertices 1 to N of its problem
@@ -29,7 +29,29 @@ pub fn read(bytes: &[u8], graph: &mut Graph) -> Result<(), DimacsFault>
     ensures fault { IfErr result (λ fault. first_fault bytes.now ≡ Some fault) }
     ensures refused { OnErr result (graph.new ≡ empty_graph) }
 {
-    let (n, count, rest) = find_problem(bytes)?;
+    read_within(bytes, NAMES, graph)
+}
+
+/// As `read`, where names from `limit` on are too many, into a graph with any number of words a
+/// row. Conditions: the graph has no vertices, and room for names below the limit.
+///
+/// # Errors
+///
+/// As those of `read`, with `TooManyVertices` where a name from `limit` on were needed.
+pub fn read_within<const W: usize>(
+    bytes: &[u8],
+    limit: u32,
+    graph: &mut GraphOf<W>,
+) -> Result<(), DimacsFault>
+    requires empty { graph.old ≡ empty_graph }
+    requires few { limit ≤ NAMES }
+    requires room { limit ≤ 64 * W }
+    ensures spells { OnOk result (Spells bytes.now graph.new) }
+    ensures faultless { OnOk result (first_fault_within limit bytes.now ≡ None) }
+    ensures fault { IfErr result (λ fault. first_fault_within limit bytes.now ≡ Some fault) }
+    ensures refused { OnErr result (graph.new ≡ empty_graph) }
+{
+    let (n, count, rest) = find_problem(bytes, limit)?;
     graph.add_range(1, n);
     let outcome = read_edges(n, rest, count, graph);
     if outcome.is_err() {
@@ -40,10 +62,12 @@ pub fn read(bytes: &[u8], graph: &mut Graph) -> Result<(), DimacsFault>
 
 // Reads the lines up to the problem line: the number of vertices, how many lines that were, and
 // what stands behind them.
-fn find_problem(bytes: &[u8]) -> Result<(u32, u64, &[u8]), DimacsFault>
+fn find_problem(bytes: &[u8], limit: u32) -> Result<(u32, u64, &[u8]), DimacsFault>
+    requires { limit ≤ NAMES }
     ensures found { IfOk result (λ p. IsBehindProblem (lines bytes.now) p.0 p.1 (lines p.2.now)) }
     ensures room { IfOk result (λ p. p.1 + length p.2.now ≤ length bytes.now) }
-    ensures fault { IfErr result (λ fault. first_fault bytes.now ≡ Some fault) }
+    ensures below { IfOk result (λ p. p.0 < limit) }
+    ensures fault { IfErr result (λ fault. first_fault_within limit bytes.now ≡ Some fault) }
 {
     let mut rest = bytes;
     let mut count = 0u64;
@@ -51,7 +75,7 @@ fn find_problem(bytes: &[u8]) -> Result<(u32, u64, &[u8]), DimacsFault>
         let (line, more) = split_line(rest);
         rest = more;
         count += 1;
-        match read_first(without_return(line)) {
+        match read_first(limit, without_return(line)) {
             Ok(None) => {}
             Ok(Some(n)) => return Ok((n, count, rest)),
             Err(kind) => return Err(DimacsFault { kind, line: count }),
@@ -66,10 +90,13 @@ fn find_problem(bytes: &[u8]) -> Result<(u32, u64, &[u8]), DimacsFault>
 // Reads a line before which no problem line stood: the number of vertices if it is one, and none if
 // it is read past.
 #[tactic(auto, unfolding(crate::specs::Line::edge_fault))]
-fn read_first(line: &[u8]) -> Result<Option<u32>, DimacsKind>
+fn read_first(limit: u32, line: &[u8]) -> Result<Option<u32>, DimacsKind>
+    requires { limit ≤ NAMES }
     ensures read { IfOk result (λ size. MatchOption size (class_of (fields line.now) ≡ Passed)
         (λ n. AreSizes n (sizes_of (fields line.now)))) }
-    ensures fault { IfErr result (λ kind. fault_of_words None (fields line.now) ≡ Some kind) }
+    ensures below { IfOk result (λ size. IfSome size (λ n. n < limit)) }
+    ensures fault { IfErr result (λ kind. fault_of_words limit None (fields line.now)
+        ≡ Some kind) }
 {
     let Some((first, rest)) = split_field(line) else {
         return Ok(None);
@@ -77,7 +104,7 @@ fn read_first(line: &[u8]) -> Result<Option<u32>, DimacsKind>
     match class_of(first) {
         LineClass::Passed => Ok(None),
         LineClass::Problem => {
-            let n = read_problem(rest)?;
+            let n = read_problem(limit, rest)?;
             Ok(Some(n))
         }
         LineClass::Edge => Err(DimacsKind::EdgeBeforeProblem),
@@ -86,12 +113,17 @@ fn read_first(line: &[u8]) -> Result<Option<u32>, DimacsKind>
 }
 
 // Reads the lines behind the problem line, before which `count` lines stood.
-fn read_edges(n: u32, bytes: &[u8], count: u64, graph: &mut Graph) -> Result<(), DimacsFault>
+fn read_edges<const W: usize>(
+    n: u32,
+    bytes: &[u8],
+    count: u64,
+    graph: &mut GraphOf<W>,
+) -> Result<(), DimacsFault>
     requires vertices { HasVertices n graph.old }
     requires room { count + length bytes.now < 2 ^ 64 }
     ensures added { OnOk result (graph.new ≡ with_lines graph.old (lines bytes.now)) }
-    ensures faultless { OnOk result (fault_behind (Some n) count (lines bytes.now) ≡ None) }
-    ensures fault { IfErr result (λ fault. fault_behind (Some n) count (lines bytes.now)
+    ensures faultless { OnOk result (fault_behind NAMES (Some n) count (lines bytes.now) ≡ None) }
+    ensures fault { IfErr result (λ fault. fault_behind NAMES (Some n) count (lines bytes.now)
         ≡ Some fault) }
 {
     let mut rest = bytes;
@@ -109,11 +141,12 @@ fn read_edges(n: u32, bytes: &[u8], count: u64, graph: &mut Graph) -> Result<(),
 
 // Reads one line behind the problem line, and takes in the edge that it names, if it names one.
 #[tactic(auto, unfolding(crate::specs::Line::problem_fault))]
-fn read_line(n: u32, line: &[u8], graph: &mut Graph) -> Result<(), DimacsKind>
+fn read_line<const W: usize>(n: u32, line: &[u8], graph: &mut GraphOf<W>) -> Result<(), DimacsKind>
     requires { HasVertices n graph.old }
     ensures added { OnOk result (graph.new ≡ with_ends graph.old (ends_of (fields line.now))) }
-    ensures faultless { OnOk result (fault_of_words (Some n) (fields line.now) ≡ None) }
-    ensures fault { IfErr result (λ kind. fault_of_words (Some n) (fields line.now) ≡ Some kind) }
+    ensures faultless { OnOk result (fault_of_words NAMES (Some n) (fields line.now) ≡ None) }
+    ensures fault { IfErr result (λ kind. fault_of_words NAMES (Some n) (fields line.now)
+        ≡ Some kind) }
 {
     let Some((first, rest)) = split_field(line) else {
         return Ok(());
@@ -131,7 +164,7 @@ fn read_line(n: u32, line: &[u8], graph: &mut Graph) -> Result<(), DimacsKind>
 }
 
 // Takes in the edge between u and v, unless it is there.
-fn take_edge(u: u32, v: u32, graph: &mut Graph)
+fn take_edge<const W: usize>(u: u32, v: u32, graph: &mut GraphOf<W>)
     requires first { Has graph.old.vertices u }
     requires second { Has graph.old.vertices v }
     requires differ { u ≢ v }

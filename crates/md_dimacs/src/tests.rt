@@ -82,6 +82,23 @@ fn files(rt: HostRuntime) -> Result<(), Fail> {
     Ok(())
 }
 
+#[test]
+fn limits(rt: HostRuntime) -> Result<(), Fail> {
+    let many = DimacsFault {
+        kind: TooManyVertices,
+        line: 1,
+    };
+    let mut small: GraphOf<1> = GraphOf::new(rt.alloc())?;
+    assert_eq!(&rt; read_within(b"p edge 64 0\n", 64, &mut small), Err(many));
+    small.clear();
+    let file = b"p edge 63 1\ne 63 1\n";
+    assert_eq!(&rt; read_within(file, 63, &mut small), Err(many));
+    small.clear();
+    assert_eq!(&rt; read_within(file, 64, &mut small), Ok(()));
+    assert!(&rt; small.has_edge(1, 63));
+    Ok(())
+}
+
 // Takes in a vertex and its edge to the vertex 0.
 fn take_ray(graph: &mut Graph, v: u32) {
     if v < NAMES && !graph.has_vertex(v) {

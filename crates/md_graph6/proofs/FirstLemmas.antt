@@ -1,9 +1,10 @@
 -- How many vertices the graph of a line has, and how that shows in its first byte.
-use Rattle.std.proofs.Common.{◌≡◌, ◌≢◌, ◌⊎◌, ℕ, zero, suc, ◌+◌, ◌-◌, ◌<◌, ◌≤◌, ◌==◌, Bool, not, true, false, List, [], ◌∷◌, ◌++◌, length, get_or, slice_index, map, take, drop, None, Some, if◌then◌else◌, ap, subst, inl, inr, refl, sym, ◌∙◌, arith, ltb-true}
-use Rattle.std.specs.Prelude.{◌↔◌, IsTrue}
-use Rattle.std.specs.List.{All, onto_first}
+use Rattle.std.proofs.Common.{◌≡◌, ◌≢◌, ◌⊎◌, ℕ, zero, suc, ◌+◌, ◌-◌, ◌*◌, ◌/◌, ◌%◌, ◌<◌, ◌≤◌, ◌==◌, Bool, true, false, List, [], ◌∷◌, ◌++◌, length, get_or, slice_index, map, take, drop, None, Some, if◌then◌else◌, ap, subst, inl, inr, refl, sym, ◌∙◌, arith, ltb-true}
+use Rattle.std.specs.List.{All, AllPass, onto_first}
+use Rattle.std.proofs.lemmas.List.{take-append-drop, append-nil, append_assoc}
+use Rattle.std.proofs.lemmas.List.Sums.{AllPass-from_list_all}
 use Rattle.std.proofs.lemmas.Bool.{lt-ltb, ne_eqb, cases_lt}
-use Rattle.std.proofs.lemmas.Bool.Decides.{nat_tests, eqb_tells}
+use Rattle.std.proofs.lemmas.Bool.Decides.{eqb_tells}
 use Rattle.md_graph.specs.declared.TheConstants.{NAMES}
 use Rattle.md_graph.specs.NameSet.{AllBelow}
 use Rattle.md_graph.specs.PlainGraph.{PlainGraph, IsGraph}
@@ -12,11 +13,11 @@ use Rattle.md_text.specs.Spelling.{first_fault_behind}
 use Rattle.md_text.proofs.LineLemmas.{lines-nil, lines-feed, lines-other}
 use Rattle.md_graph6.specs.Bits.{IsBodyOf}
 use Rattle.md_graph6.specs.File.{HasNoFault, fault_after, stripped_lines, graphs_of_lines, graphs_in}
-use Rattle.md_graph6.specs.First.{FirstBelow}
+use Rattle.md_graph6.specs.First.{FirstBelow, IsFirstBound}
 use Rattle.md_graph6.specs.Line.{SpellsLine, is_group, line_fault, graph_of_line, graph_of_sized}
-use Rattle.md_graph6.specs.Size.{size_text, size_of, most_in_four_bytes}
+use Rattle.md_graph6.specs.Size.{size_text, size_of, eighteen_bits, most_in_four_bytes}
 use Rattle.md_graph6.proofs.LineLemmas.{IsSoundBody}
-use Rattle.md_graph6.proofs.SizeLemmas.{is_group-range, size_text-one, size_text-four}
+use Rattle.md_graph6.proofs.SizeLemmas.{is_group-range, size_text-one, size_text-four, size_text-groups}
 use Rattle.md_graph6.proofs.SpellLemmas.{name_size, sound-spells, sound_line-body, sound_line-groups}
 use Rattle.md_graph6.proofs.DecodeLemmas.{decoded_is_body}
 use Rattle.md_graph6.proofs.ReadLemmas.{stripped_lines-cut, graphs-cut_skip, fault_or-none, HasNoFault-cut}
@@ -31,42 +32,22 @@ vertices_few body zero g m is below = omega arith
 vertices_few body (suc k) g m is below =
     let last : k < m = below k (is.vertices k ∙ lt-ltb k (suc k) (omega arith)) in omega (arith, last)
 
--- a small size is in the first byte, another isn't
-begins_small : (n : ℕ) (body : List ℕ) → n ≤ 62 → get_or (size_text n ++ body) 0 0 ≡ n + 63
-begins_small n body small = rw (size_text-one n small) refl
+-- the number of vertices bounds the graph of a line
+line_bound : {graphs more : List PlainGraph} (line : List ℕ) → graphs ≡ graph_of_line line ∷ more → (s : SpellsLine line (graph_of_line line)) → IsFirstBound s.n graphs
+line_bound line e s = rw e (record {
+  below = few_vertices s.n s.bits (omega arith);
+  least = λ m below. vertices_few s.body s.n (graph_of_line line) m s.bits below;
+  few = s.few;
+})
 
-begins_large : (n : ℕ) (body : List ℕ) → 63 ≤ n → n ≤ most_in_four_bytes → get_or (size_text n ++ body) 0 0 ≡ 126
-begins_large n body large small = rw (size_text-four n large small) refl
+-- no graph has a vertex
+pub none_bound : {graphs : List PlainGraph} → graphs ≡ [] → IsFirstBound 0 graphs
+none_bound e = rw e (record { below = tt; least = λ m below. omega arith; few = omega arith })
 
-first_byte : (n byte : ℕ) (body : List ℕ) → n ≤ NAMES → byte ≡ get_or (size_text n ++ body) 0 0
-    → (byte ≢ 126 → n ≤ 62) × (n ≤ 62 → byte ≢ 126)
-first_byte n byte body few is =
-    elim (cases_lt n 63) [
-      | inl small ↦
-          let e : byte ≡ n + 63 = is ∙ begins_small n body (omega (arith, small)) in
-          (λ other. omega (arith, small), λ one same. absurd (omega (arith, small, e, same)))
-      | inr large ↦
-          let e : byte ≡ 126 = is ∙ begins_large n body (omega (arith, large)) (name_size n few) in
-          (λ other. absurd (other e), λ one. absurd (omega (arith, large, one)))
-    ]
-
-differs : (a b : ℕ) → IsTrue (not (a == b)) ↔ (a ≢ b)
-differs a b = (λ told same. grind (arith, nat_tests), λ other. rw (ne_eqb a b other) refl)
-
--- one byte spells the size of a line exactly where its graph is small
-pub line_small : {graphs more : List PlainGraph} (line : List ℕ) → graphs ≡ graph_of_line line ∷ more → 0 < length line
-    → line_fault line ≡ None → IsTrue (not (get_or line 0 0 == 126)) ↔ FirstBelow 62 graphs
-line_small {graphs} {more} line e some sound =
-    let spells : SpellsLine line (graph_of_line line) = sound-spells line some sound in
-    let byte = first_byte spells.n (get_or line 0 0) spells.body spells.few (ap (λ l. get_or l 0 0) spells.text) in
-    rw e (
-      λ told. few_vertices 62 spells.bits (byte.0 ((differs (get_or line 0 0) 126).0 told)),
-      λ below. (differs (get_or line 0 0) 126).1 (byte.1 (vertices_few spells.body spells.n (graph_of_line line) 62 spells.bits below)),
-    )
-
--- no graph is small
-pub none_small : {graphs : List PlainGraph} (m : ℕ) → graphs ≡ [] → FirstBelow m graphs
-none_small m e = rw e tt
+-- a greater number is above them too
+pub first_below : (graphs : List PlainGraph) (n m : ℕ) → n ≤ m → FirstBelow n graphs → FirstBelow m graphs
+first_below [] n m more below = tt
+first_below (g ∷ graphs) n m more below = λ v member. omega (arith, more, below v member)
 
 -- a size has room where the vertices have
 pub size_fits : (line : List ℕ) (taken n m : ℕ) → 0 < length line → line_fault line ≡ None → size_of line ≡ Some (taken, n)
@@ -109,29 +90,142 @@ begins_more byte next (line ∷ more) =
     let kept = stripped_begins byte (next ∷ line) (inr (omega arith)) in
     (kept.0, map without_return more, λ i. kept.1 i ∷ map without_return more)
 
--- a byte in front of any text
-begins_with : (byte : ℕ) (all : List (List ℕ)) → byte ≢ 13
-    → (line : List ℕ) × (more : List (List ℕ)) × (map without_return (onto_first byte all) ≡ (byte ∷ line) ∷ more)
-begins_with byte [] other = let kept = stripped_begins byte [] (inl other) in (kept.0, [], λ i. kept.1 i ∷ [])
-begins_with byte (line ∷ more) other =
-    let kept = stripped_begins byte line (inl other) in
-    (kept.0, map without_return more, λ i. kept.1 i ∷ map without_return more)
-
 -- the first of lines without fault has none
 first_sound : (line : List ℕ) (more : List (List ℕ)) → HasNoFault (line ∷ more) → line_fault line ≡ None
 unfolding first_fault_behind
 first_sound line more sound = (fault_or-none (line_fault line) 1 (fault_after 1 more) sound).0
 
--- the first byte that ends no line tells whether the first graph is small
-pub first_small : (text rest : List ℕ) (byte : ℕ) → text ≡ byte ∷ rest → byte ≢ 10 → byte ≢ 13 → HasNoFault (stripped_lines text)
-    → IsTrue (not (byte == 126)) ↔ FirstBelow 62 (graphs_in text)
+-- the first line is the front of the text
+first_front : (text line : List ℕ) (more : List (List ℕ)) → lines text ≡ line ∷ more → (behind : List ℕ) × (text ≡ line ++ behind)
+first_front [] line more is = let none = lines-nil in cc
+first_front (byte ∷ text) line more is =
+    elim (eqb_tells byte 10) [
+      | inl (_, feed) ↦
+          let at_feed : lines (byte ∷ text) ≡ [] ∷ lines text = rw feed (lines-feed text) in
+          let none : line ≡ [] = head_of (sym is ∙ at_feed) in
+          (byte ∷ text, rw none refl)
+      | inr (_, other) ↦ by_lines (lines text) (first_front text) refl (sym (lines-other byte text other) ∙ is)
+    ]
+  where
+    head_of : {a b : List ℕ} {x y : List (List ℕ)} → a ∷ x ≡ b ∷ y → a ≡ b
+    head_of e = cc
+
+    by_lines : (all : List (List ℕ)) → ((line : List ℕ) (more : List (List ℕ)) → lines text ≡ line ∷ more → (behind : List ℕ) × (text ≡ line ++ behind))
+        → lines text ≡ all → onto_first byte all ≡ line ∷ more → (behind : List ℕ) × (byte ∷ text ≡ line ++ behind)
+    by_lines [] front has is = (text, rw (sym (head_of is)) refl)
+    by_lines (first ∷ others) front has is =
+        let rest = front first others has in
+        (rest.0, ap (λ l. byte ∷ l) rest.1 ∙ ap (λ l. l ++ rest.0) (head_of is))
+
+-- a line without its last byte is a front of it
+kept_front : (line : List ℕ) → (tail : List ℕ) × (line ≡ without_return line ++ tail)
+kept_front line = by_last (slice_index line (length line - 1) == 13)
+  where
+    by_last : (last : Bool) → (tail : List ℕ) × (line ≡ (if last then take (length line - 1) line else line) ++ tail)
+    by_last true = (drop (length line - 1) line, sym (take-append-drop (length line - 1) line))
+    by_last false = ([], sym (append-nil line))
+
+-- how a text begins that begins with no end of a line
+record Begins (text : List ℕ) (byte : ℕ) : Type 0 where
+  kept : List ℕ
+  behind : List ℕ
+  more : List (List ℕ)
+  cut : stripped_lines text ≡ (byte ∷ kept) ∷ more
+  whole : text ≡ (byte ∷ kept) ++ behind
+
+begins_with : (byte : ℕ) (rest : List ℕ) → byte ≢ 10 → byte ≢ 13 → Begins (byte ∷ rest) byte
+begins_with byte rest no_feed no_return = by_lines (lines rest) refl
+  where
+    cut_at : (line : List ℕ) (more : List (List ℕ)) → lines (byte ∷ rest) ≡ (byte ∷ line) ∷ more → Begins (byte ∷ rest) byte
+    cut_at line more cut =
+        let kept = stripped_begins byte line (inl no_return) in
+        let tail = kept_front (byte ∷ line) in
+        let front = first_front (byte ∷ rest) (byte ∷ line) more cut in
+        record {
+          kept = kept.0;
+          behind = tail.0 ++ front.0;
+          more = map without_return more;
+          cut = ap (map without_return) cut ∙ ap (λ l. l ∷ map without_return more) kept.1;
+          whole = front.1 ∙ ap (λ l. l ++ front.0) (tail.1 ∙ ap (λ l. l ++ tail.0) kept.1) ∙ append_assoc (byte ∷ kept.0) tail.0 front.0;
+        }
+
+    by_lines : (all : List (List ℕ)) → lines rest ≡ all → Begins (byte ∷ rest) byte
+    by_lines [] has = cut_at [] [] (lines-other byte rest no_feed ∙ ap (onto_first byte) has)
+    by_lines (line ∷ more) has = cut_at line more (lines-other byte rest no_feed ∙ ap (onto_first byte) has)
+
+-- what the first line of such a text spells, and where it is
+record Leads (text : List ℕ) : Type 0 where
+  n : ℕ
+  body : List ℕ
+  named : n ≤ most_in_four_bytes
+  whole : text ≡ size_text n ++ body
+  bound : IsFirstBound n (graphs_in text)
+
+leads : (byte : ℕ) (rest : List ℕ) → byte ≢ 10 → byte ≢ 13 → HasNoFault (stripped_lines (byte ∷ rest)) → Leads (byte ∷ rest)
 unfolding graphs_of_lines
-first_small text rest byte is no_feed no_return sound =
-    let begins = begins_with byte (lines rest) no_return in
-    let cut : stripped_lines text ≡ (byte ∷ begins.0) ∷ begins.1 =
-    ap stripped_lines is ∙ ap (map without_return) (lines-other byte rest no_feed) ∙ begins.2 in
-    line_small (byte ∷ begins.0) (ap graphs_of_lines cut) (omega arith)
-    (first_sound (byte ∷ begins.0) begins.1 (subst HasNoFault cut sound))
+leads byte rest no_feed no_return sound =
+    let b = begins_with byte rest no_feed no_return in
+    let none = first_sound (byte ∷ b.kept) b.more (subst HasNoFault b.cut sound) in
+    let s : SpellsLine (byte ∷ b.kept) (graph_of_line (byte ∷ b.kept)) = sound-spells (byte ∷ b.kept) (omega arith) none in
+    record {
+      n = s.n;
+      body = s.body ++ b.behind;
+      named = name_size s.n s.few;
+      whole = b.whole ∙ ap (λ l. l ++ b.behind) s.text ∙ append_assoc (size_text s.n) s.body b.behind;
+      bound = line_bound (byte ∷ b.kept) (ap graphs_of_lines b.cut) s;
+    }
+
+-- the first byte tells how many bytes the size has
+begins_small : (n : ℕ) (body : List ℕ) → n ≤ 62 → get_or (size_text n ++ body) 0 0 ≡ n + 63
+begins_small n body small = rw (size_text-one n small) refl
+
+begins_large : (n : ℕ) (body : List ℕ) → 63 ≤ n → n ≤ most_in_four_bytes → get_or (size_text n ++ body) 0 0 ≡ 126
+begins_large n body large small = rw (size_text-four n large small) refl
+
+-- one byte spells the size
+pub first_one : (text : List ℕ) → 0 < length text → get_or text 0 0 ≢ 10 → get_or text 0 0 ≢ 13 → HasNoFault (stripped_lines text) → get_or text 0 0 ≢ 126
+    → (63 ≤ get_or text 0 0) × IsFirstBound (get_or text 0 0 - 63) (graphs_in text)
+first_one [] some no_feed no_return sound other = absurd (omega (arith, some))
+first_one (byte ∷ rest) some no_feed no_return sound other =
+    let l = leads byte rest no_feed no_return sound in
+    let begins : byte ≡ get_or (size_text l.n ++ l.body) 0 0 = ap (λ t. get_or t 0 0) l.whole in
+    elim (cases_lt l.n 63) [
+      | inl small ↦
+          let e : byte ≡ l.n + 63 = begins ∙ begins_small l.n l.body (omega (arith, small)) in
+          let same : l.n ≡ byte - 63 = omega (arith, e) in
+          (omega (arith, e), subst (λ n. IsFirstBound n (graphs_in (byte ∷ rest))) same l.bound)
+      | inr large ↦ absurd (other (begins ∙ begins_large l.n l.body (omega (arith, large)) l.named))
+    ]
+
+-- four bytes spell the size
+pub record HasFour (text : List ℕ) : Type 0 where
+  pub long : 4 ≤ length text
+  pub groups : AllPass is_group (take 4 text)
+  pub bound : IsFirstBound (eighteen_bits (take 4 text) 1) (graphs_in text)
+
+four_bytes : (n : ℕ) (text body : List ℕ) → 63 ≤ n → n ≤ most_in_four_bytes → text ≡ size_text n ++ body
+    → (4 ≤ length text) × (take 4 text ≡ size_text n) × (eighteen_bits (size_text n) 1 ≡ n)
+four_bytes n text body large small is =
+    let value : ((n / 64 / 64 % 64 + 63 - 63) * 64 + (n / 64 % 64 + 63 - 63)) * 64 + (n % 64 + 63 - 63) ≡ n = omega (arith, small) in
+    rw (is, size_text-four n large small) (omega arith, refl, value)
+
+pub first_four : (text : List ℕ) → 0 < length text → get_or text 0 0 ≢ 10 → get_or text 0 0 ≢ 13 → HasNoFault (stripped_lines text) → get_or text 0 0 ≡ 126 → HasFour text
+first_four [] some no_feed no_return sound long = absurd (omega (arith, some))
+first_four (byte ∷ rest) some no_feed no_return sound long =
+    let l = leads byte rest no_feed no_return sound in
+    let begins : byte ≡ get_or (size_text l.n ++ l.body) 0 0 = ap (λ t. get_or t 0 0) l.whole in
+    elim (cases_lt l.n 63) [
+      | inl small ↦
+          let e : byte ≡ l.n + 63 = begins ∙ begins_small l.n l.body (omega (arith, small)) in
+          absurd (omega (arith, e, long, small))
+      | inr large ↦
+          let four = four_bytes l.n (byte ∷ rest) l.body (omega (arith, large)) l.named l.whole in
+          record {
+            long = four.0;
+            groups = subst (AllPass is_group) (sym four.1) (AllPass-from_list_all is_group (size_text l.n) (size_text-groups l.n l.named));
+            bound = subst (λ n. IsFirstBound n (graphs_in (byte ∷ rest))) (sym (ap (λ t. eighteen_bits t 1) four.1 ∙ four.2)) l.bound;
+          }
+    ]
 
 -- a text that is cut behind an empty line
 abbrev Skips : List ℕ → List ℕ → Type 0

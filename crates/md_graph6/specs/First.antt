@@ -1,6 +1,7 @@
--- How large the first of some graphs is. A graph6 line spells at most 62 vertices by one byte.
--- Source: B. McKay, "Description of graph6, sparse6 and digraph6 encodings".
-use Rattle.std.specs.Prelude.{ℕ, List, [], ◌∷◌}
+-- How large the first of some graphs is.
+-- Source: B. McKay, "Description of graph6, sparse6 and digraph6 encodings", whose lines begin with the number of vertices.
+use Rattle.std.specs.Prelude.{ℕ, ◌≤◌, List, [], ◌∷◌}
+use Rattle.md_graph.specs.declared.TheConstants.{NAMES}
 use Rattle.md_graph.specs.NameSet.{AllBelow}
 use Rattle.md_graph.specs.PlainGraph.{PlainGraph}
 
@@ -8,3 +9,9 @@ use Rattle.md_graph.specs.PlainGraph.{PlainGraph}
 abbrev pub FirstBelow : ℕ → List PlainGraph → Type 0
 FirstBelow n [] = Unit {0}
 FirstBelow n (g ∷ more) = AllBelow g.vertices n
+
+-- n is the least number above all vertices of the first graph, or 0 if there is none
+pub record IsFirstBound (n : ℕ) (graphs : List PlainGraph) : Type 0 where
+  pub below : FirstBelow n graphs
+  pub least : (m : ℕ) → FirstBelow m graphs → n ≤ m
+  pub few : n ≤ NAMES

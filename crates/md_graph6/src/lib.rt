@@ -1,8 +1,8 @@
 //! graph6: files of one line a graph, read and written.
 //!
 //! `scan` says whether a whole file is without fault, or names its first one. `Lines` then reads
-//! the graphs of such a file one after the other, into a graph of one word where the next one is
-//! small, and `write` writes one graph as a line.
+//! the graphs of such a file one after the other, into graphs of as many words a row as the next
+//! one needs, and `write` writes one graph as a line.
 #![tactic(auto)]
 
 mod body;

@@ -21,7 +21,7 @@ pub(crate) const MOST_IN_ONE_BYTE: u32 = 62;
 const MOST_IN_FOUR_BYTES: u64 = 258_047;
 
 // The 18 bits of the three bytes from `place` on.
-fn eighteen(line: &[u8], place: usize) -> u64
+pub(crate) fn eighteen(line: &[u8], place: usize) -> u64
     requires groups { AllPass is_group line.now }
     requires inside { place + 2 < length line.now }
     ensures value { result ≡ eighteen_bits line.now place }

@@ -1,14 +1,14 @@
 //! The graphs of a file without fault, one after the other.
-ghost use Rattle.std.specs.Prelude.{◌≡◌, ◌*◌, ◌<◌, ◌≤◌, ◌↔◌, [], ◌∷◌, length, None, IsTrue};
+ghost use Rattle.std.specs.Prelude.{◌≡◌, ◌≢◌, ℕ, ◌*◌, ◌<◌, ◌≤◌, [], ◌∷◌, length, None, slice_index};
 ghost use Rattle.std.specs.Bool.{OnTrue, OnFalse};
 ghost use Rattle.md_graph.specs.PlainGraph.{empty_graph};
 ghost use Rattle.md_graph6.specs.Line.{line_fault, graph_of_line};
 ghost use Rattle.md_graph6.specs.File.{stripped_lines, graphs_in, HasNoFault, first_fault, graphs_of};
-ghost use Rattle.md_graph6.specs.First.{FirstBelow};
+ghost use Rattle.md_graph6.specs.First.{FirstBelow, IsFirstBound};
 
 use crate::file::without_header;
-use crate::line::{LONG, fill_line};
-use md_graph::{Graph, GraphOf};
+use crate::line::{LONG, eighteen, fill_line};
+use md_graph::{Graph, GraphOf, NAMES};
 use md_text::{split_line, without_return};
 use std::marker::Model;
 
@@ -58,29 +58,18 @@ impl<'a> Lines<'a> {
         self.take_first(graph)
     }
 
-    /// Whether the next graph, if there is one, has no vertex from 62 on: one byte then spells the
-    /// size of its line.
-    pub fn is_next_small(&self) -> bool
-        ensures { IsTrue result ↔ FirstBelow 62 self.now }
+    /// The least number above all vertices of the next graph; 0 where none is left.
+    pub fn next_bound(&self) -> u32
+        ensures below { FirstBelow result self.now }
+        ensures least { (n : ℕ) → FirstBelow n self.now → result ≤ n }
+        ensures few { result ≤ NAMES }
     {
-        is_first_small(self.rest)
+        first_bound(self.rest)
     }
 
-    /// As `next`, into a graph of one word. Conditions: the graph has no vertices, and the next
-    /// graph is small, which `is_next_small` tests.
-    pub fn next_small(&mut self, graph: &mut GraphOf<1>) -> bool
-        requires empty { graph.old ≡ empty_graph }
-        requires small { FirstBelow 62 self.old }
-        ensures first { OnTrue result (self.old ≡ graph.new ∷ self.new) }
-        ensures none { OnFalse result (self.old ≡ []) }
-        ensures none_left { OnFalse result (self.new ≡ []) }
-        ensures stays { OnFalse result (graph.new ≡ empty_graph) }
-    {
-        self.take_first(graph)
-    }
-
-    // As `next`, into a graph with room for the next one.
-    fn take_first<const W: usize>(&mut self, graph: &mut GraphOf<W>) -> bool
+    /// As `next`, into a graph with any number of words a row. Conditions: the graph has no
+    /// vertices, and room for the next one (`next_bound`).
+    pub fn take_first<const W: usize>(&mut self, graph: &mut GraphOf<W>) -> bool
         requires empty { graph.old ≡ empty_graph }
         requires room { FirstBelow (64 * W) self.old }
         ensures first { OnTrue result (self.old ≡ graph.new ∷ self.new) }
@@ -98,18 +87,34 @@ impl<'a> Lines<'a> {
     }
 }
 
-// Whether the first line that isn't empty, if there is one, has its size in one byte. The lines
-// before it have no bytes but those that end them.
-fn is_first_small(text: &[u8]) -> bool
+// The number of vertices of the first line that isn't empty; 0 where there is none. The lines before
+// it have no bytes but those that end them.
+fn first_bound(text: &[u8]) -> u32
     requires { HasNoFault (stripped_lines text.now) }
-    ensures { IsTrue result ↔ FirstBelow 62 (graphs_in text.now) }
+    ensures { IsFirstBound result (graphs_in text.now) }
 {
-    for byte in text {
-        if *byte != b'\n' && *byte != b'\r' {
-            return *byte != LONG;
+    let mut rest = text;
+    while !rest.is_empty() {
+        if rest[0] != b'\n' && rest[0] != b'\r' {
+            return leading_size(rest);
         }
+        rest = &rest[1..];
     }
-    true
+    0
+}
+
+// The number of vertices of a text's first line, which isn't empty.
+fn leading_size(text: &[u8]) -> u32
+    requires sound { HasNoFault (stripped_lines text.now) }
+    requires some { 0 < length text.now }
+    requires no_feed { slice_index text.now 0 ≢ 10 }
+    requires no_return { slice_index text.now 0 ≢ 13 }
+    ensures { IsFirstBound result (graphs_in text.now) }
+{
+    if text[0] != LONG {
+        return u32::from(text[0] - 63);
+    }
+    eighteen(&text[..4], 1) as u32
 }
 
 // The first line that isn't empty, and what stands behind it; an empty one where there is none.

@@ -79,10 +79,10 @@ fn empty_lines_are_passed_over(rt: HostRuntime) -> Result<(), Fail> {
     };
     let mut graph: GraphOf<1> = GraphOf::new(rt.alloc())?;
     let mut lines = Lines::new(bytes);
-    assert!(&rt; lines.is_next_small());
-    assert!(&rt; lines.next_small(&mut graph));
+    assert_eq!(&rt; lines.next_bound(), 2);
+    assert!(&rt; lines.take_first(&mut graph));
     assert!(&rt; graph.has_edge(0, 1));
-    assert!(&rt; lines.is_next_small());
+    assert_eq!(&rt; lines.next_bound(), 0);
     Ok(())
 }
 

@@ -207,7 +207,7 @@ fn copies(
     copy(rt, alloc, graph, n, text)
 }
 
-// The same, by a graph of one word where the next graph is small.
+// The same, by a graph of one word where the next graph has room in it.
 fn copies_by_size(
     rt: &impl Abort,
     alloc: Global,
@@ -222,12 +222,12 @@ fn copies_by_size(
     ensures small { small.new ≡ empty_graph }
     ensures large { large.new ≡ empty_graph }
 {
-    let is_small = lines.is_next_small();
-    assert_eq!(rt; is_small, n <= 62);
-    if !is_small {
+    let bound = lines.next_bound();
+    assert_eq!(rt; bound, n);
+    if bound > 64 {
         return copies(rt, alloc, lines, large, n, text);
     }
-    assert!(rt; lines.next_small(small));
+    assert!(rt; lines.take_first(small));
     copy(rt, alloc, small, n, text)
 }
 
@@ -256,16 +256,19 @@ fn comes_back_by_size(rt: &impl Abort, alloc: Global, sizes: &[u32]) -> Result<(
     for n in sizes {
         copies_by_size(rt, alloc, &mut lines, &mut small, &mut large, *n, &mut text)?;
     }
-    assert!(rt; lines.is_next_small());
-    assert!(rt; !lines.next_small(&mut small));
+    let bound = lines.next_bound();
+    assert_eq!(rt; bound, 0);
+    if bound <= 64 {
+        assert!(rt; !lines.take_first(&mut small));
+    }
     assert_eq!(rt; text.as_slice(), file.as_slice());
     Ok(())
 }
 
 #[test]
 fn small_lines_are_read_by_one_word(rt: HostRuntime) -> Result<(), Fail> {
-    comes_back_by_size(&rt, rt.alloc(), &[0, 1, 58, 59, 62, 63, 64])?;
-    comes_back_by_size(&rt, rt.alloc(), &[64, 63, 62, 59, 58, 1, 0])?;
+    comes_back_by_size(&rt, rt.alloc(), &[0, 1, 58, 59, 62, 63, 64, 65])?;
+    comes_back_by_size(&rt, rt.alloc(), &[65, 64, 63, 62, 59, 58, 1, 0])?;
     Ok(())
 }
 

@@ -11,8 +11,8 @@ loop-rest-preserved c = record {
 
 pub returns-in-Err-clause-fault : goal.returns-in-Err-clause-fault
 returns-in-Err-clause-fault c =
-    refused_before _ c.loop-rest.count _ c.split_line.result.0.now c.without_return.result.now _ c.in-Err.kind c.loop-rest.invariant.before c.split_line.ensures.cut c.without_return.ensures.value c.in-Err.ensures.fault
+    refused_before c.args.limit _ c.loop-rest.count _ c.split_line.result.0.now c.without_return.result.now _ c.in-Err.kind c.loop-rest.invariant.before c.split_line.ensures.cut c.without_return.ensures.value c.in-Err.ensures.fault
 
 pub returns-clause-fault : goal.returns-clause-fault
 returns-clause-fault c =
-    no_problem (lines c.args.bytes.now) c.loop-rest.count c.loop-rest.rest.now (c.loop-rest.count + 1) c.loop-rest.invariant.before (sym c.is_empty.ensures ∙ c.loop-rest-test.false) refl
+    no_problem c.args.limit (lines c.args.bytes.now) c.loop-rest.count c.loop-rest.rest.now (c.loop-rest.count + 1) c.loop-rest.invariant.before (sym c.is_empty.ensures ∙ c.loop-rest-test.false) refl

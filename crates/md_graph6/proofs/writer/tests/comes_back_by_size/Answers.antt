@@ -1,0 +1,7 @@
+use Rattle.std.proofs.Common.{rules}
+use Rattle.md_graph6.proofs.FirstLemmas.{first_below}
+use Rattle.md_graph6.proofs.writer.tests.comes_back_by_size.Goals as goal
+
+pub take_first-requires : goal.take_first-requires
+take_first-requires g c =
+    (search rules, (c.loop-n.invariant.small, first_below c.loop-n.lines c.next_bound-bound.result 64 c.if-bound-le64.true c.next_bound-bound.ensures.below))
