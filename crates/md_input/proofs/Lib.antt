@@ -1,2 +1,1 @@
 pub mod GraphFiles
-mod Narrowing

@@ -1,5 +1,5 @@
 //! The graphs of a file, one after the other.
-ghost use Rattle.std.specs.Prelude.{◌≡◌, [], ◌∷◌, None, IfOk, IfErr, IsErr};
+ghost use Rattle.std.specs.Prelude.{◌≡◌, [], ◌∷◌, None, Some, IfOk, IfErr, IsErr};
 ghost use Rattle.std.specs.Bool.{OnTrue, OnFalse};
 ghost use Rattle.md_graph.specs.PlainGraph.{empty_graph};
 ghost use Rattle.md_input.specs.Spelling.{SpellsGraphs};
@@ -8,7 +8,7 @@ ghost use Rattle.md_input.specs.Faults.{graph_fault, IsStopAt};
 use crate::fault::InputStop;
 use crate::format::Format;
 use crate::room::Room;
-use md_graph::{Graph, Memory};
+use md_graph::Memory;
 use md_graph6::{Lines, scan};
 use std::alloc::Global;
 use std::marker::Model;
@@ -16,7 +16,7 @@ use std::marker::Model;
 /// The graphs of a file that aren't handed over yet, whatever the format of the file.
 #[derive(Drop)]
 pub struct Graphs<'a> {
-    first: Option<Graph>,
+    first: Option<Room>,
     lines: Lines<'a>,
 }
 
@@ -48,40 +48,17 @@ impl<'a> Graphs<'a> {
                     lines: Lines::new(file),
                 })
             }
-            Format::Dimacs => {
-                let mut graph = Graph::new(alloc)?;
-                md_dimacs::read(file, &mut graph)?;
-                Ok(Graphs {
-                    first: Some(graph),
-                    lines: Lines::new(&[]),
-                })
-            }
+            Format::Dimacs => Ok(Graphs {
+                first: Some(Room::of_edges(alloc, file)?),
+                lines: Lines::new(&[]),
+            }),
         }
-    }
-
-    /// Makes the graph the first of the graphs, takes that off, and answers true. It answers false
-    /// exactly where no graph is left, and the graph then stays without vertices.
-    /// Condition: the graph has no vertices.
-    pub fn next(&mut self, graph: &mut Graph) -> bool
-        requires { graph.old ≡ empty_graph }
-        ensures first { OnTrue result (self.old ≡ graph.new ∷ self.new) }
-        ensures none { OnFalse result (self.old ≡ []) }
-        ensures none_left { OnFalse result (self.new ≡ []) }
-        ensures stays { OnFalse result (graph.new ≡ empty_graph) }
-    {
-        if self.first.is_some() {
-            if let Some(first) = self.first.take() {
-                *graph = first;
-                return true;
-            }
-        }
-        self.lines.next(graph)
     }
 
     /// Makes the graph in the room the first of the graphs, takes that off, and answers true; a
-    /// small one is read into one word a row. It answers false exactly where no graph is left, and
-    /// the room then stays without vertices. Condition: the graph in the room has no vertices.
-    /// Errors: want of memory; nothing changes then.
+    /// line is read into as few words a row as its graph needs. It answers false exactly where no
+    /// graph is left, and the room then stays without vertices. Condition: the graph in the room
+    /// has no vertices. Errors: want of memory; nothing changes then.
     pub fn next_into(&mut self, alloc: Global, room: &mut Room) -> Result<bool, Memory>
         requires { room.old ≡ empty_graph }
         ensures first { IfOk result (λ found. OnTrue found (self.old ≡ room.new ∷ self.new)) }
@@ -91,12 +68,25 @@ impl<'a> Graphs<'a> {
         ensures err { IsErr result → self.new ≡ self.old }
         ensures err_room { IsErr result → room.new ≡ empty_graph }
     {
-        if self.first.is_some() && room.put(&mut self.first) {
+        if self.first.is_some() && hand_over(&mut self.first, room) {
             return Ok(true);
         }
-        if self.lines.is_next_small() {
-            return Ok(room.fill_small(&mut self.lines));
-        }
-        room.fill_large(alloc, &mut self.lines)
+        room.fill(alloc, &mut self.lines)
     }
+}
+
+// The room whose graph is read already, if there is one, takes the place of the room; false where
+// there is none. Never inlined, so that graphs of lines don't pay for the move.
+#[inline(never)]
+fn hand_over(first: &mut Option<Room>, room: &mut Room) -> bool
+    ensures handed { OnTrue result (first.old ≡ Some room.new) }
+    ensures none { OnFalse result (first.old ≡ None) }
+    ensures taken { first.new ≡ None }
+    ensures stays { OnFalse result (room.new ≡ room.old) }
+{
+    let Some(read) = first.take() else {
+        return false;
+    };
+    *room = read;
+    true
 }

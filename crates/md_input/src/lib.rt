@@ -7,7 +7,6 @@ mod format;
 mod graphs;
 mod inputs;
 mod room;
-mod small_copy;
 #[cfg(test)]
 mod tests;
 

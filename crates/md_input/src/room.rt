@@ -1,30 +1,50 @@
 //! Room for one graph after the other, whatever their sizes.
-ghost use Rattle.std.specs.Prelude.{◌≡◌, [], ◌∷◌, None, Some, IfOk, IsErr};
+ghost use Rattle.std.specs.Prelude.{◌≡◌, ◌*◌, ◌≤◌, [], ◌∷◌, None, Some, IfOk, IfErr, IsErr};
 ghost use Rattle.std.specs.Bool.{OnTrue, OnFalse};
 ghost use Rattle.md_graph.specs.PlainGraph.{empty_graph};
 ghost use Rattle.md_graph6.specs.First.{FirstBelow};
-ghost use Rattle.md_input.specs.Rooms.{IsGraphBySize};
+ghost use Rattle.md_dimacs.specs.File.{Spells, first_fault};
+ghost use Rattle.md_input.specs.declared.format.Format.TheVariants.{Dimacs};
+ghost use Rattle.md_input.specs.Faults.{graph_fault, IsStopAt};
+ghost use Rattle.md_input.specs.Rooms.{IsGraphBySize, graph_or_empty};
 
-use crate::small_copy::{copy_small, is_small};
-use md_graph::{Graph, GraphOf, Memory};
+use crate::fault::InputStop;
+use md_dimacs::{DimacsFault, DimacsKind, read_within};
+use md_graph::{Graph, GraphOf, Memory, NAMES, WORDS};
 use md_graph6::Lines;
 use std::alloc::Global;
 use std::marker::Model;
 
-/// A graph by the number of words in its rows: one, or as many as there may be.
+// How many names fit into rows of one word, and into rows of sixteen.
+const SMALL: u32 = 64;
+
+const MEDIUM: u32 = 1_024;
+
+/// A graph by the number of words in its rows: one, sixteen, or as many as there may be.
 #[derive(Clone, Copy)]
 pub enum GraphBySize<'a> {
     Small(&'a GraphOf<1>),
+    Medium(&'a GraphOf<16>),
     Large(&'a Graph),
 }
 
-/// Room for one graph after the other, seen as the graph that is in it. A small graph takes one
-/// word a row; the rows of large ones are taken when the first of them comes.
+// How many words a row has of the graph that is in use.
+#[derive(Clone, Copy)]
+enum Width {
+    One,
+    Sixteen,
+    Most,
+}
+
+/// Room for one graph after the other, seen as the graph that is in it. A graph takes the fewest
+/// words a row that have its vertices. The rows of a width are taken when the first graph of that
+/// width comes, and stay.
 #[derive(Drop)]
 pub struct Room {
+    width: Width,
     small: GraphOf<1>,
+    medium: Option<GraphOf<16>>,
     large: Option<Graph>,
-    is_large: bool,
 }
 
 impl Model for Room {
@@ -35,9 +55,9 @@ impl Model for Room {
 
     ghost coded = { graph_code };
 
-    ghost view = { λ r. graph_in r.is_large r.small r.large };
+    ghost view = { λ r. graph_in r.width r.small r.medium r.large };
 
-    ghost invariant = { λ r. IsOneIn r.is_large r.small r.large };
+    ghost invariant = { λ r. IsOneIn r.width r.small r.medium r.large };
 }
 
 impl Room {
@@ -46,19 +66,58 @@ impl Room {
         ensures { IfOk result (λ room. room ≡ empty_graph) }
     {
         Ok(Room {
+            width: Width::One,
             small: GraphOf::new(alloc)?,
+            medium: None,
             large: None,
-            is_large: false,
         })
+    }
+
+    // Room with the graph of a DIMACS file in it; or its first fault; or want of memory.
+    pub(crate) fn of_edges(alloc: Global, file: &[u8]) -> Result<Room, InputStop>
+        ensures spells { IfOk result (Spells file.now) }
+        ensures faultless { IfOk result (λ _. first_fault file.now ≡ None) }
+        ensures stops { IfErr result (IsStopAt (graph_fault Dimacs file.now)) }
+    {
+        let mut small = GraphOf::new(alloc)?;
+        let is_small = is_read(file, SMALL, &mut small)?;
+        let mut room = Room {
+            width: Width::One,
+            small,
+            medium: None,
+            large: None,
+        };
+        if is_small {
+            return Ok(room);
+        }
+        let mut medium = GraphOf::new(alloc)?;
+        if is_read(file, MEDIUM, &mut medium)? {
+            room.width = Width::Sixteen;
+            room.medium = Some(medium);
+            return Ok(room);
+        }
+        let mut large = Graph::new(alloc)?;
+        md_dimacs::read(file, &mut large)?;
+        room.width = Width::Most;
+        room.large = Some(large);
+        Ok(room)
     }
 
     /// The graph that is in it.
     pub fn graph(&self) -> GraphBySize<'_>
         ensures { IsGraphBySize result self.now }
     {
-        if self.is_large {
-            if let Some(large) = &self.large {
-                return GraphBySize::Large(large);
+        match self.width {
+            Width::One => {}
+            Width::Sixteen => {
+                if let Some(medium) = &self.medium {
+                    return GraphBySize::Medium(medium);
+                }
+            }
+            Width::Most => {
+                if let Some(large) = &self.large {
+                    return GraphBySize::Large(large);
+                }
             }
         }
         GraphBySize::Small(&self.small)
@@ -68,54 +127,25 @@ impl Room {
     pub fn clear(&mut self)
         ensures { self.new ≡ empty_graph }
     {
-        self.small.clear();
-        if let Some(large) = &mut self.large {
-            large.clear();
+        match self.width {
+            Width::One => self.small.clear(),
+            Width::Sixteen => {
+                if let Some(medium) = &mut self.medium {
+                    medium.clear();
+                }
+            }
+            Width::Most => {
+                if let Some(large) = &mut self.large {
+                    large.clear();
+                }
+            }
         }
     }
 
-    // The graph that is read already, if there is one, comes into the room, a small one with one
-    // word a row; false where there is none. Condition: the graph in the room has no vertices.
-    // Never inlined, so that graphs of lines don't pay for its room.
-    #[inline(never)]
-    pub(crate) fn put(&mut self, first: &mut Option<Graph>) -> bool
-        requires { self.old ≡ empty_graph }
-        ensures put { OnTrue result (first.old ≡ Some self.new) }
-        ensures none { OnFalse result (first.old ≡ None) }
-        ensures taken { first.new ≡ None }
-        ensures stays { OnFalse result (self.new ≡ empty_graph) }
-    {
-        let Some(graph) = first.take() else {
-            return false;
-        };
-        self.is_large = !is_small(&graph);
-        if self.is_large {
-            self.large = Some(graph);
-        } else {
-            copy_small(&graph, &mut self.small);
-        }
-        true
-    }
-
-    // The next graph of the lines comes into the room for small ones; false where none is left, and
-    // the room stays without vertices. Conditions: the graph in the room has no vertices, and the
-    // next one is small.
-    pub(crate) fn fill_small(&mut self, lines: &mut Lines) -> bool
-        requires empty { self.old ≡ empty_graph }
-        requires small { FirstBelow 62 lines.old }
-        ensures first { OnTrue result (lines.old ≡ self.new ∷ lines.new) }
-        ensures none { OnFalse result (lines.old ≡ []) }
-        ensures none_left { OnFalse result (lines.new ≡ []) }
-        ensures stays { OnFalse result (self.new ≡ empty_graph) }
-    {
-        self.is_large = false;
-        lines.next_small(&mut self.small)
-    }
-
-    // The same into the room for large ones, which is taken if it isn't there. Errors: want of
-    // memory; nothing changes then. Never inlined, so that small graphs don't pay for its room.
-    #[inline(never)]
-    pub(crate) fn fill_large(&mut self, alloc: Global, lines: &mut Lines) -> Result<bool, Memory>
+    // The next graph of the lines comes into the room, with as few words a row as it needs; false
+    // where none is left, and the room stays without vertices. Condition: the graph in the room has
+    // no vertices. Errors: want of memory; nothing changes then.
+    pub(crate) fn fill(&mut self, alloc: Global, lines: &mut Lines) -> Result<bool, Memory>
         requires { self.old ≡ empty_graph }
         ensures first { IfOk result (λ found. OnTrue found (lines.old ≡ self.new ∷ lines.new)) }
         ensures none { IfOk result (λ found. OnFalse found (lines.old ≡ [])) }
@@ -124,13 +154,73 @@ impl Room {
         ensures err { IsErr result → lines.new ≡ lines.old }
         ensures err_room { IsErr result → self.new ≡ empty_graph }
     {
-        let mut graph = match self.large.take() {
-            Some(graph) => graph,
-            None => Graph::new(alloc)?,
-        };
-        let found = lines.next(&mut graph);
-        self.large = Some(graph);
-        self.is_large = true;
-        Ok(found)
+        let bound = lines.next_bound();
+        if bound <= SMALL {
+            self.width = Width::One;
+            return Ok(lines.take_first(&mut self.small));
+        }
+        if bound <= MEDIUM {
+            self.width = Width::Sixteen;
+            return fill_rows(alloc, &mut self.medium, lines);
+        }
+        self.width = Width::Most;
+        fill_rows(alloc, &mut self.large, lines)
+    }
+}
+
+// The next graph of the lines comes into the rows, which are taken if they aren't there; false where
+// none is left, and the rows stay without vertices. Conditions: the rows have no vertices, and room
+// for the next graph. Errors: want of memory; nothing changes then. Never inlined, so that small
+// graphs don't pay for its room.
+#[inline(never)]
+fn fill_rows<const W: usize>(
+    alloc: Global,
+    rows: &mut Option<GraphOf<W>>,
+    lines: &mut Lines,
+) -> Result<bool, Memory>
+    requires limit { W ≤ WORDS }
+    requires empty { graph_or_empty rows.old ≡ empty_graph }
+    requires room { FirstBelow (64 * W) lines.old }
+    ensures first { IfOk result (λ found.
+        OnTrue found (lines.old ≡ graph_or_empty rows.new ∷ lines.new)) }
+    ensures none { IfOk result (λ found. OnFalse found (lines.old ≡ [])) }
+    ensures none_left { IfOk result (λ found. OnFalse found (lines.new ≡ [])) }
+    ensures stays { IfOk result (λ found. OnFalse found (graph_or_empty rows.new ≡ empty_graph)) }
+    ensures err { IsErr result → lines.new ≡ lines.old }
+    ensures err_rows { IsErr result → graph_or_empty rows.new ≡ empty_graph }
+{
+    let mut graph = match rows.take() {
+        Some(graph) => graph,
+        None => GraphOf::new(alloc)?,
+    };
+    let found = lines.take_first(&mut graph);
+    *rows = Some(graph);
+    Ok(found)
+}
+
+// Reads the graph of a DIMACS file with fewer vertices than the limit, and answers true; false where
+// it has as many or more, and the graph then stays without vertices. Conditions: the graph has no
+// vertices, and room for names below the limit. Errors: the first fault of the file.
+fn is_read<const W: usize>(
+    file: &[u8],
+    limit: u32,
+    graph: &mut GraphOf<W>,
+) -> Result<bool, DimacsFault>
+    requires empty { graph.old ≡ empty_graph }
+    requires few { limit ≤ NAMES }
+    requires room { limit ≤ 64 * W }
+    ensures spells { IfOk result (λ read. OnTrue read (Spells file.now graph.new)) }
+    ensures faultless { IfOk result (λ read. OnTrue read (first_fault file.now ≡ None)) }
+    ensures stays { IfOk result (λ read. OnFalse read (graph.new ≡ empty_graph)) }
+    ensures fault { IfErr result (λ fault. first_fault file.now ≡ Some fault) }
+{
+    match read_within(file, limit, graph) {
+        Ok(()) => Ok(true),
+        Err(fault) => {
+            if fault.kind == DimacsKind::TooManyVertices {
+                return Ok(false);
+            }
+            Err(fault)
+        }
     }
 }

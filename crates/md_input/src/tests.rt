@@ -1,24 +1,40 @@
 //! What the calls answer with memory enough.
-ghost use Rattle.std.specs.Prelude.{◌≡◌};
+ghost use Rattle.std.specs.Prelude.{◌≡◌, OnOk};
 ghost use Rattle.md_graph.specs.PlainGraph.{empty_graph};
 
 use super::*;
 use md_dimacs::{DimacsFault, DimacsKind};
-use md_graph::{Graph, GraphOf};
+use md_graph::{Graph, Memory, NAMES};
 use md_graph6::{G6Fault, G6Kind};
 use md_script::ScriptKind;
 use std::alloc::Global;
 use std::process::Abort;
 use std::test::Fail;
 
-// The next graph has so many vertices.
-fn next_has(rt: &impl Abort, graphs: &mut Graphs, graph: &mut Graph, size: u32)
-    requires { graph.old ≡ empty_graph }
-    ensures { graph.new ≡ empty_graph }
+// What the room has: the words a row, the vertices, and the edges.
+fn has(room: &Room) -> (u32, u32, u32) {
+    match room.graph() {
+        GraphBySize::Small(graph) => (1, graph.count(), graph.edge_count()),
+        GraphBySize::Medium(graph) => (16, graph.count(), graph.edge_count()),
+        GraphBySize::Large(graph) => (64, graph.count(), graph.edge_count()),
+    }
+}
+
+// This is what the room has of the next graph.
+fn next_has(
+    rt: &impl Abort,
+    alloc: Global,
+    graphs: &mut Graphs,
+    room: &mut Room,
+    wanted: (u32, u32, u32),
+) -> Result<(), Fail>
+    requires { room.old ≡ empty_graph }
+    ensures { OnOk result (room.new ≡ empty_graph) }
 {
-    assert!(rt; graphs.next(graph));
-    assert_eq!(rt; graph.count(), size);
-    graph.clear();
+    assert!(rt; graphs.next_into(alloc, room)?);
+    assert_eq!(rt; has(room), wanted);
+    room.clear();
+    Ok(())
 }
 
 // The file has this fault.
@@ -32,20 +48,14 @@ fn refuses(rt: &impl Abort, alloc: Global, from: Format, file: &[u8], fault: Fau
 #[test]
 fn graphs_of_files(rt: HostRuntime) -> Result<(), Fail> {
     let alloc = rt.alloc();
-    let mut graph = Graph::new(alloc)?;
+    let mut room = Room::new(alloc)?;
     let Ok(mut graphs) = Graphs::read(alloc, Format::G6, b"@\nA?\n\nBw") else {
         panic!(rt; "a fault");
     };
-    next_has(&rt, &mut graphs, &mut graph, 1);
-    next_has(&rt, &mut graphs, &mut graph, 2);
-    next_has(&rt, &mut graphs, &mut graph, 3);
-    assert!(rt; !graphs.next(&mut graph));
-    graph.clear();
-    let Ok(mut graphs) = Graphs::read(alloc, Format::Dimacs, b"p edge 3 1\ne 1 2\n") else {
-        panic!(rt; "a fault");
-    };
-    next_has(&rt, &mut graphs, &mut graph, 3);
-    assert!(rt; !graphs.next(&mut graph));
+    next_has(&rt, alloc, &mut graphs, &mut room, (1, 1, 0))?;
+    next_has(&rt, alloc, &mut graphs, &mut room, (1, 2, 0))?;
+    next_has(&rt, alloc, &mut graphs, &mut room, (1, 3, 3))?;
+    assert!(rt; !graphs.next_into(alloc, &mut room)?);
     let padded = G6Fault {
         kind: G6Kind::BadPadding,
         line: 2,
@@ -59,37 +69,99 @@ fn graphs_of_files(rt: HostRuntime) -> Result<(), Fail> {
     Ok(())
 }
 
-// The one graph of the file comes into the room with one word a row, and has so many vertices and
-// edges; or it comes with the largest rows.
-fn comes(
-    rt: &impl Abort,
-    alloc: Global,
-    from: Format,
-    file: &[u8],
-    small: Option<(u32, u32)>,
-) -> Result<(), Fail> {
-    let mut room = Room::new(alloc)?;
-    let Ok(mut graphs) = Graphs::read(alloc, from, file) else {
+// Puts the line of a graph of n vertices, whose first and last are joined.
+fn push_line(alloc: Global, n: u32, text: &mut Vec<u8>) -> Result<(), Memory> {
+    let mut graph = Graph::new(alloc)?;
+    if n <= NAMES {
+        graph.add_range(0, n);
+    }
+    let last = n.saturating_sub(1);
+    if last > 0 && graph.has_vertex(0) && graph.has_vertex(last) && !graph.has_edge(0, last) {
+        graph.add_edge(0, last);
+    }
+    text.extend_from_slice(md_graph6::write(alloc, &graph)?.as_slice())?;
+    Ok(())
+}
+
+// The lines of graphs of so many vertices come one after the other into rows of so many words.
+fn come(rt: &impl Abort, alloc: Global, sizes: &[(u32, u32)]) -> Result<(), Fail> {
+    let mut text = Vec::new(alloc);
+    for (n, _) in sizes {
+        push_line(alloc, *n, &mut text)?;
+    }
+    let Ok(mut graphs) = Graphs::read(alloc, Format::G6, &text) else {
         panic!(rt; "a fault");
     };
-    assert!(rt; graphs.next_into(alloc, &mut room)?);
-    let found = match room.graph() {
-        GraphBySize::Small(graph) => Some((graph.count(), graph.edge_count())),
-        GraphBySize::Large(_) => None,
-    };
-    assert_eq!(rt; found, small);
-    room.clear();
+    let mut room = Room::new(alloc)?;
+    for (n, words) in sizes {
+        let edges = u32::from(*n > 1);
+        next_has(rt, alloc, &mut graphs, &mut room, (*words, *n, edges))?;
+    }
     assert!(rt; !graphs.next_into(alloc, &mut room)?);
     Ok(())
 }
 
 #[test]
-fn rooms(rt: HostRuntime) -> Result<(), Fail> {
+fn lines_of_all_sizes(rt: HostRuntime) -> Result<(), Fail> {
     let alloc = rt.alloc();
-    let edges = b"p edge 61 2\ne 61 1\ne 2 61\n";
-    comes(&rt, alloc, Format::G6, b"Bw\n", Some((3, 3)))?;
-    comes(&rt, alloc, Format::Dimacs, edges, Some((61, 2)))?;
-    comes(&rt, alloc, Format::Dimacs, b"p edge 62 0\n", None)?;
+    let small = [(0, 1), (62, 1), (63, 1), (64, 1)];
+    let medium = [(65, 16), (1_023, 16), (1_024, 16)];
+    let large = [(1_025, 64), (4_096, 64)];
+    let mut sizes = Vec::new(alloc);
+    sizes.extend_from_slice(&small)?;
+    sizes.extend_from_slice(&medium)?;
+    sizes.extend_from_slice(&large)?;
+    come(&rt, alloc, &sizes)?;
+    sizes.reverse();
+    come(&rt, alloc, &sizes)
+}
+
+// The graph of the edge file comes into rows of so many words, and no other behind it.
+fn comes(rt: &impl Abort, alloc: Global, file: &str, wanted: (u32, u32, u32)) -> Result<(), Fail> {
+    let Ok(mut graphs) = Graphs::read(alloc, Format::Dimacs, file.as_bytes()) else {
+        panic!(rt; "a fault");
+    };
+    let mut room = Room::new(alloc)?;
+    next_has(rt, alloc, &mut graphs, &mut room, wanted)?;
+    assert!(rt; !graphs.next_into(alloc, &mut room)?);
+    Ok(())
+}
+
+#[test]
+fn edge_files_of_all_sizes(rt: HostRuntime) -> Result<(), Fail> {
+    for (file, wanted) in [
+        ("p edge 3 1\ne 1 2\n", (1, 3, 1)),
+        ("p edge 62 2\ne 62 1\ne 2 62\n", (1, 62, 2)),
+        ("p edge 63 2\ne 63 1\ne 2 63\n", (1, 63, 2)),
+        ("p edge 64 2\ne 64 1\ne 2 64\n", (16, 64, 2)),
+        ("p edge 1023 2\ne 1023 1\ne 2 1023\n", (16, 1_023, 2)),
+        ("p edge 1024 2\ne 1024 1\ne 2 1024\n", (64, 1_024, 2)),
+        ("p edge 4095 2\ne 4095 1\ne 2 4095\n", (64, 4_095, 2)),
+    ] {
+        comes(&rt, rt.alloc(), file, wanted)?;
+    }
+    let many = DimacsFault {
+        kind: DimacsKind::TooManyVertices,
+        line: 1,
+    };
+    refuses(
+        &rt,
+        rt.alloc(),
+        Format::Dimacs,
+        b"p edge 4096 0\n",
+        Fault::Dimacs(many),
+    );
+    let loops = DimacsFault {
+        kind: DimacsKind::Loop,
+        line: 2,
+    };
+    refuses(
+        &rt,
+        rt.alloc(),
+        Format::Dimacs,
+        b"p edge 70 1\ne 70 70\n",
+        Fault::Dimacs(loops),
+    );
     Ok(())
 }
 

@@ -4,14 +4,14 @@ use Rattle.md_input.specs.Spelling.{SpellsGraphs}
 use Rattle.md_input.proofs.GraphFiles.{spelled_lines, none_of_nothing, faultless_nothing}
 use Rattle.md_input.proofs.graphs.Graphs.read.Goals as goal
 
-pub new-requires-in-Dimacs-2 : goal.new-requires-in-Dimacs-2
-new-requires-in-Dimacs-2 c = faultless_nothing
+pub new-requires-in-Dimacs : goal.new-requires-in-Dimacs
+new-requires-in-Dimacs c = faultless_nothing
 
 pub returns-in_ok-scan-in-G6-clause-spells : goal.returns-in_ok-scan-in-G6-clause-spells
 returns-in_ok-scan-in-G6-clause-spells c =
     spelled_lines _ c.in-G6.is _ _ c.in_ok-scan-in-G6.ensures.sound c.new.ensures
 
-pub returns-in_ok-read-in-Dimacs-clause-spells : goal.returns-in_ok-read-in-Dimacs-clause-spells
-returns-in_ok-read-in-Dimacs-clause-spells c =
-    subst (λ f. SpellsGraphs f c.args.file.now (c.read.new.graph ∷ c.new-in-Dimacs-2.result)) (sym c.in-Dimacs.is)
-    (c.read.new.graph, ap (λ more. c.read.new.graph ∷ more) (c.new-in-Dimacs-2.ensures ∙ none_of_nothing), c.in_ok-read-in-Dimacs.ensures.spells)
+pub returns-in_ok-of_edges-in-Dimacs-clause-spells : goal.returns-in_ok-of_edges-in-Dimacs-clause-spells
+returns-in_ok-of_edges-in-Dimacs-clause-spells c =
+    subst (λ f. SpellsGraphs f c.args.file.now (c.in_ok-of_edges-in-Dimacs.field-0 ∷ c.new-in-Dimacs.result)) (sym c.in-Dimacs.is)
+    (c.in_ok-of_edges-in-Dimacs.field-0, ap (λ more. c.in_ok-of_edges-in-Dimacs.field-0 ∷ more) (c.new-in-Dimacs.ensures ∙ none_of_nothing), c.in_ok-of_edges-in-Dimacs.ensures.spells)
