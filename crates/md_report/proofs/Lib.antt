@@ -7,4 +7,3 @@ pub mod OneLine
 pub mod ByTrees
 pub mod MadePaths
 pub mod Alike
-pub mod ModeWords
