@@ -15,7 +15,7 @@ use Rattle.md_forcing.specs.Lists.{Holds}
 use Rattle.md_forcing.specs.Sides.{adjacent_on}
 use Rattle.md_forcing.proofs.ListLemmas.{of_append}
 use Rattle.md_forcing.proofs.NameLists.{of_ascending, in_ascending}
-use Rattle.md_comparability.specs.Walking.{HasArcOf, IsWalked}
+use Rattle.md_comparability.specs.Walking.{HasArcOf, JoinsAlso, IsWalked}
 use Rattle.md_comparability.proofs.WalkLemmas.{apart_if}
 
 -- numbers in ascending order
@@ -73,6 +73,21 @@ module _ (e : ℕ → ℕ → Bool) (u : ℕ) (chosen : List NameSet) where
         edges = λ y h. ((has y).0 (of_ascending s NAMES y h).0).0;
         up = ascending_up s NAMES;
       })
+
+  -- an arc of the edge to the first listed name came
+  pub row_more : (new : List NameSet) (left rest : List ℕ) (x : ℕ) → IsRow e u chosen left → left ≡ x ∷ rest → IsWalked e u new → JoinsAlso u x chosen new → IsRow e u new rest
+  row_more new left rest x before is walked joins = record {
+    walked = walked;
+    rest = λ y t. elim (before.rest y t) [
+      | inl j ↦ inl (joins y (inl j))
+      | inr h ↦ elim (subst (λ l. Holds l y) is h) [
+        | inl same ↦ inl (joins y (inr same))
+        | inr behind ↦ inr behind
+      ]
+    ];
+    edges = λ y h. before.edges y (subst (λ l. Holds l y) (sym is) (inr h));
+    up = (subst AreUp is before.up).1;
+  }
 
 -- the neighbours of u that no arc of the set joins to it
 pub unjoined_are : (e : ℕ → ℕ → Bool) (u : ℕ) (arcs : List NameSet) (near heads tails left : NameSet) → ((v : ℕ) → Has near v ↔ (e u v ≡ true)) → heads ≡ row_of arcs u → ((w : ℕ) → set.contains tails w ≡ set.contains (row_of arcs w) u) → left ≡ set.difference near (set.union heads tails) → (v : ℕ) → Has left v ↔ ((e u v ≡ true) × (HasArcOf arcs u v → ⊥))

@@ -45,11 +45,11 @@ pub record IsWholeOrientation (e : ℕ → ℕ → Bool) (chosen : List NameSet)
   pub all : (a : Arc) → HasArc chosen a ↔ IsChosen e a
 
 -- where a walk ends
-abbrev pub IsClassOrChosen : (ℕ → ℕ → Bool) → ClassOrChosen → Type 0
+abbrev pub IsClassOrChosen : {w : ℕ} → (ℕ → ℕ → Bool) → ClassOrChosen w → Type 0
 IsClassOrChosen e (Stopped class) = IsStopped e class
 IsClassOrChosen e (Whole chosen) = IsWholeOrientation e chosen
 
 -- the chosen arcs have room for each member of s
-abbrev pub HasRoom : NameSet → ClassOrChosen → Type 0
+abbrev pub HasRoom : {w : ℕ} → NameSet → ClassOrChosen w → Type 0
 HasRoom s (Stopped class) = Unit {0}
 HasRoom s (Whole chosen) = (v : ℕ) → Has s v → v < length chosen

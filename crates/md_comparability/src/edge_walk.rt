@@ -1,31 +1,35 @@
 //! The walk through the edges of a graph.
-ghost use Rattle.std.specs.Prelude.{◌≡◌, ℕ, ◌+◌, ◌<◌, ◌↔◌, true, false, length, IfOk};
+ghost use Rattle.std.specs.Prelude.{◌≡◌, ℕ, ◌+◌, ◌*◌, ◌<◌, ◌↔◌, true, false, length, IfOk};
 ghost use Rattle.md_graph.specs.Sets.{Has};
 ghost use Rattle.md_forcing.specs.Forcing.{IsArc};
 ghost use Rattle.md_forcing.specs.Sides.{adjacent_on};
 ghost use Rattle.md_comparability.specs.Walking.{HasArcOf, JoinsAlso, IsWalked, IsStopped, IsClassOrChosen, HasRoom};
 
-use md_forcing::{Arc, ArcSet, Explored, ForcingTree, Side, explore};
-use md_graph::{Graph, Memory, NAMES, Names};
+use md_forcing::{Arc, ArcSetOf, Explored, ForcingTree, Side, explore};
+use md_graph::{GraphOf, Memory, Set};
 use std::alloc::Global;
 
 /// Where a walk ends: at a class that holds the reverse of its first arc, with its trail, or with
 /// the chosen arcs.
 #[derive(Drop)]
-pub enum ClassOrChosen {
+pub enum ClassOrChosen<const W: usize> {
     Stopped(ForcingTree),
-    Whole(ArcSet),
+    Whole(ArcSetOf<W>),
 }
 
 /// Walks through the edges of a graph or of its complement, smaller ends first: to the first edge
 /// that reaches its own reverse, with its trail; or, where there is none, through all edges, with
 /// the arcs of the least-edge orientation. Each arc is explored once. Errors: want of memory.
-pub fn orient_classes(alloc: Global, graph: &Graph, side: Side) -> Result<ClassOrChosen, Memory>
+pub fn orient_classes<const W: usize>(
+    alloc: Global,
+    graph: &GraphOf<W>,
+    side: Side,
+) -> Result<ClassOrChosen<W>, Memory>
     ensures ending { IfOk result (IsClassOrChosen (adjacent_on side graph.now)) }
     ensures room { IfOk result (HasRoom graph.now.vertices) }
 {
     let _vertices = graph.vertices();
-    let chosen = ArcSet::with_size(alloc, graph.bound())?;
+    let chosen = ArcSetOf::with_size(alloc, graph.bound())?;
     let mut explored = Explored {
         seen: chosen,
         trail: ForcingTree::new(alloc),
@@ -42,14 +46,14 @@ pub fn orient_classes(alloc: Global, graph: &Graph, side: Side) -> Result<ClassO
 
 // Walks through the edges whose smaller end is `u`. Says whether it stopped, at the class of the
 // trail; the seen arcs are the chosen ones.
-fn orient_classes_at(
+fn orient_classes_at<const W: usize>(
     alloc: Global,
-    graph: &Graph,
+    graph: &GraphOf<W>,
     side: Side,
     u: u32,
-    explored: Explored,
-) -> Result<(Explored, bool), Memory>
-    requires name { u < NAMES }
+    explored: Explored<W>,
+) -> Result<(Explored<W>, bool), Memory>
+    requires name { u < 64 * W }
     requires size { u < length explored.seen }
     requires room { (v : ℕ) → Has graph.now.vertices v → v < length explored.seen }
     requires walked { IsWalked (adjacent_on side graph.now) u explored.seen }
@@ -57,7 +61,7 @@ fn orient_classes_at(
         → IsStopped (adjacent_on side graph.now) r.0.trail) }
     ensures walked { IfOk result (λ r. r.1 ≡ false
         → IsWalked (adjacent_on side graph.now) (u + 1) r.0.seen) }
-    ensures room { IfOk result (λ r. length r.0.seen ≡ length explored.seen) }
+    ensures room { IfOk result (λ r. length r.0.seen ≡ length explored.entry.seen) }
 {
     let _vertices = graph.vertices();
     let left = unoriented_neighbours(graph, side, u, &explored.seen);
@@ -75,13 +79,13 @@ fn orient_classes_at(
 
 // Explores the class of an arc, unless its edge has a chosen arc. Says whether the class holds the
 // reverse of the arc. Condition: the edges that are less are walked through.
-fn orient_class_of(
+fn orient_class_of<const W: usize>(
     alloc: Global,
-    graph: &Graph,
+    graph: &GraphOf<W>,
     side: Side,
     first: Arc,
-    explored: Explored,
-) -> Result<(Explored, bool), Memory>
+    explored: Explored<W>,
+) -> Result<(Explored<W>, bool), Memory>
     requires is_arc { IsArc (adjacent_on side graph.now) first }
     requires room { (v : ℕ) → Has graph.now.vertices v → v < length explored.seen }
     requires walked { IsWalked (adjacent_on side graph.now) first.tail explored.seen }
@@ -92,8 +96,8 @@ fn orient_class_of(
     ensures walked { IfOk result (λ r. r.1 ≡ false
         → IsWalked (adjacent_on side graph.now) first.tail r.0.seen) }
     ensures joined { IfOk result (λ r. r.1 ≡ false
-        → JoinsAlso first.tail first.head explored.seen r.0.seen) }
-    ensures room { IfOk result (λ r. length r.0.seen ≡ length explored.seen) }
+        → JoinsAlso first.tail first.head explored.entry.seen r.0.seen) }
+    ensures room { IfOk result (λ r. length r.0.seen ≡ length explored.entry.seen) }
 {
     let _vertices = graph.vertices();
     let back = Arc {
@@ -109,21 +113,26 @@ fn orient_class_of(
 }
 
 // The names that `u` is adjacent to on this side by edges of which no arc is in the set.
-fn unoriented_neighbours(graph: &Graph, side: Side, u: u32, arcs: &ArcSet) -> Names
-    requires name { u < NAMES }
+fn unoriented_neighbours<const W: usize>(
+    graph: &GraphOf<W>,
+    side: Side,
+    u: u32,
+    arcs: &ArcSetOf<W>,
+) -> Set<W>
+    requires name { u < 64 * W }
     requires size { u < length arcs.now }
     ensures { (v : ℕ) → Has result v
         ↔ ((adjacent_on side graph.now u v ≡ true) × (HasArcOf arcs.now u v → ⊥)) }
 {
     let near = neighbours_on(graph, side, u);
-    let mut left = Names::none();
+    let mut left = Set::none();
     left.set_to_difference(&near, arcs.heads(u), arcs.tails(u));
     left
 }
 
 // The names that `u` is adjacent to on this side.
-fn neighbours_on(graph: &Graph, side: Side, u: u32) -> Names
-    requires { u < NAMES }
+fn neighbours_on<const W: usize>(graph: &GraphOf<W>, side: Side, u: u32) -> Set<W>
+    requires { u < 64 * W }
     ensures { (v : ℕ) → Has result v ↔ (adjacent_on side graph.now u v ≡ true) }
 {
     let _vertices = graph.vertices();
@@ -136,12 +145,13 @@ fn neighbours_on(graph: &Graph, side: Side, u: u32) -> Names
 #[cfg(test)]
 mod tests {
     use super::*;
+    use md_graph::WORDS;
     use std::process::Abort;
     use std::test::Fail;
 
     // Sees whether the walk stops, how many arcs its class has, or how many it chooses, and that
     // these are the listed ones.
-    fn expect(
+    fn expect<const W: usize>(
         rt: &impl Abort,
         alloc: Global,
         n: u32,
@@ -150,8 +160,8 @@ mod tests {
         stopped: u64,
         arcs: &[(u32, u32)],
     ) -> Result<(), Memory> {
-        assert!(rt; n <= NAMES);
-        let graph = Graph::from_edges(alloc, n, edges)?.expect(rt, "edges");
+        assert!(rt; W <= WORDS && n as usize <= 64 * W);
+        let graph: GraphOf<W> = GraphOf::from_edges(alloc, n, edges)?.expect(rt, "edges");
         match orient_classes(alloc, &graph, side)? {
             ClassOrChosen::Stopped(trail) => assert_eq!(rt; trail.len(), stopped),
             ClassOrChosen::Whole(chosen) => {
@@ -186,13 +196,28 @@ mod tests {
         let chosen = [(0, 1), (2, 1), (2, 3)];
         let others = [(0, 2), (0, 3), (1, 3)];
         let ordered = [(0, 1), (0, 2), (1, 2)];
-        expect(&rt, rt.alloc(), 4, &path, Side::Edges, 0, &chosen)?;
-        expect(&rt, rt.alloc(), 4, &path, Side::NonEdges, 0, &others)?;
-        expect(&rt, rt.alloc(), 3, &triangle, Side::Edges, 0, &ordered)?;
-        expect(&rt, rt.alloc(), 3, &triangle, Side::NonEdges, 0, &[])?;
-        expect(&rt, rt.alloc(), 5, &cycle, Side::Edges, 10, &[])?;
-        expect(&rt, rt.alloc(), 5, &cycle, Side::NonEdges, 10, &[])?;
-        expect(&rt, rt.alloc(), 0, &[], Side::Edges, 0, &[])?;
+        expect::<WORDS>(&rt, rt.alloc(), 4, &path, Side::Edges, 0, &chosen)?;
+        expect::<WORDS>(&rt, rt.alloc(), 4, &path, Side::NonEdges, 0, &others)?;
+        expect::<WORDS>(&rt, rt.alloc(), 3, &triangle, Side::Edges, 0, &ordered)?;
+        expect::<WORDS>(&rt, rt.alloc(), 3, &triangle, Side::NonEdges, 0, &[])?;
+        expect::<WORDS>(&rt, rt.alloc(), 5, &cycle, Side::Edges, 10, &[])?;
+        expect::<WORDS>(&rt, rt.alloc(), 5, &cycle, Side::NonEdges, 10, &[])?;
+        expect::<WORDS>(&rt, rt.alloc(), 0, &[], Side::Edges, 0, &[])?;
+        Ok(())
+    }
+
+    #[test]
+    fn both_sides_over_few_words(rt: HostRuntime) -> Result<(), Fail> {
+        let path = [(0, 1), (1, 2), (2, 3)];
+        let cycle = [(0, 1), (1, 2), (2, 3), (3, 4), (0, 4)];
+        let chosen = [(0, 1), (2, 1), (2, 3)];
+        let others = [(0, 2), (0, 3), (1, 3)];
+        expect::<1>(&rt, rt.alloc(), 4, &path, Side::Edges, 0, &chosen)?;
+        expect::<1>(&rt, rt.alloc(), 4, &path, Side::NonEdges, 0, &others)?;
+        expect::<1>(&rt, rt.alloc(), 5, &cycle, Side::NonEdges, 10, &[])?;
+        expect::<16>(&rt, rt.alloc(), 4, &path, Side::Edges, 0, &chosen)?;
+        expect::<16>(&rt, rt.alloc(), 4, &path, Side::NonEdges, 0, &others)?;
+        expect::<16>(&rt, rt.alloc(), 5, &cycle, Side::Edges, 10, &[])?;
         Ok(())
     }
 }

@@ -96,6 +96,7 @@ impl<const W: usize> ArcSetOf<W> {
         ensures size { result ≡ length self.now }
         ensures few { result ≤ NAMES }
         ensures within { result ≤ 64 * W }
+        ensures limit { W ≤ WORDS }
     {
         self.by_tail.len() as u32
     }

@@ -19,3 +19,4 @@ pub mod Ranges
 mod ListedLemmas
 pub mod Walks
 pub mod LinkedLists
+pub mod TableLaws

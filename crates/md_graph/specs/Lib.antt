@@ -8,3 +8,4 @@ pub mod Rows
 pub mod Blocks
 pub mod Laws
 pub mod Linked
+pub mod Tables

@@ -56,9 +56,9 @@ impl<'a> Graphs<'a> {
     }
 
     /// Makes the graph in the room the first of the graphs, takes that off, and answers true; a
-    /// line is read into as few words a row as its graph needs. It answers false exactly where no graph is left, and
-    /// the room then stays without vertices. Condition: the graph in the room has no vertices.
-    /// Errors: want of memory; nothing changes then.
+    /// line is read into as few words a row as its graph needs. It answers false exactly where no
+    /// graph is left, and the room then stays without vertices. Condition: the graph in the room
+    /// has no vertices. Errors: want of memory; nothing changes then.
     pub fn next_into(&mut self, alloc: Global, room: &mut Room) -> Result<bool, Memory>
         requires { room.old ≡ empty_graph }
         ensures first { IfOk result (λ found. OnTrue found (self.old ≡ room.new ∷ self.new)) }

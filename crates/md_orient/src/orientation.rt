@@ -9,8 +9,8 @@ ghost use Rattle.md_comparability.specs.Walking.{IsStopped};
 ghost use Rattle.md_orient.specs.Verdicts.{IsVerdict};
 
 use md_comparability::{ClassOrChosen, orient_classes};
-use md_forcing::{Arc, ArcSet, Arcs, Chain, ForcingTree, Side, chain_of};
-use md_graph::{Graph, Memory, Names};
+use md_forcing::{Arc, ArcSetOf, Arcs, Chain, ForcingTree, Side, chain_of};
+use md_graph::{GraphOf, Memory, Set};
 use std::alloc::Global;
 
 /// A transitive orientation, or a forcing chain.
@@ -22,7 +22,7 @@ pub enum Verdict {
 
 /// The arcs of the least-edge orientation, in ascending order of tail, then head, where the graph
 /// has a transitive orientation; else a forcing chain. Errors: want of memory.
-pub fn orient(alloc: Global, graph: &Graph) -> Result<Verdict, Memory>
+pub fn orient<const W: usize>(alloc: Global, graph: &GraphOf<W>) -> Result<Verdict, Memory>
     ensures { IfOk result (IsVerdict (adjacent graph.now)) }
 {
     let _vertices = graph.vertices();
@@ -51,7 +51,7 @@ pub(crate) fn chain_along(alloc: Global, trail: &ForcingTree) -> Result<Chain, M
 }
 
 // The arcs of a set, in ascending order of tail, then head.
-fn list_of_arcs(alloc: Global, arcs: &ArcSet) -> Result<Vec<Arc>, Memory>
+fn list_of_arcs<const W: usize>(alloc: Global, arcs: &ArcSetOf<W>) -> Result<Vec<Arc>, Memory>
     ensures { IfOk result (λ list. list.items ≡ arcs_below arcs.now (length arcs.now)) }
 {
     let mut list = Vec::new(alloc);
@@ -62,7 +62,7 @@ fn list_of_arcs(alloc: Global, arcs: &ArcSet) -> Result<Vec<Arc>, Memory>
 }
 
 // Takes in the arcs from `tail` to each of `heads`, ascending.
-fn list_row(list: &mut Vec<Arc>, tail: u32, heads: &Names) -> Result<(), Memory>
+fn list_row<const W: usize>(list: &mut Vec<Arc>, tail: u32, heads: &Set<W>) -> Result<(), Memory>
     ensures { OnOk result
         (list.new.items ≡ list.old.items ++ map (arc tail) (ascending heads.now)) }
 {
@@ -75,12 +75,21 @@ fn list_row(list: &mut Vec<Arc>, tail: u32, heads: &Names) -> Result<(), Memory>
 #[cfg(test)]
 mod tests {
     use super::*;
-    use md_graph::NAMES;
+    use md_graph::{Graph, WORDS};
     use std::process::Abort;
     use std::test::Fail;
 
+    // Sees that these are the listed arcs, in this order.
+    fn expect_list(rt: &impl Abort, found: &[Arc], arcs: &[(u32, u32)]) {
+        assert!(rt; found.len() == arcs.len());
+        for i in 0..arcs.len() {
+            let (tail, head) = arcs[i];
+            assert_eq!(rt; found[i], Arc { tail, head });
+        }
+    }
+
     // Sees that these are the arcs of the orientation, in this order, or those of the chain.
-    fn expect(
+    fn expect<const W: usize>(
         rt: &impl Abort,
         alloc: Global,
         n: u32,
@@ -88,22 +97,16 @@ mod tests {
         forced: bool,
         arcs: &[(u32, u32)],
     ) -> Result<(), Memory> {
-        assert!(rt; n <= NAMES);
-        let graph = Graph::from_edges(alloc, n, edges)?.expect(rt, "edges");
+        assert!(rt; W <= WORDS && n as usize <= 64 * W);
+        let graph: GraphOf<W> = GraphOf::from_edges(alloc, n, edges)?.expect(rt, "edges");
         match orient(alloc, &graph)? {
             Verdict::Transitive(list) => {
-                assert!(rt; !forced && list.len() == arcs.len() as u64);
-                for i in 0..arcs.len() {
-                    let (tail, head) = arcs[i];
-                    assert_eq!(rt; list.get(i as u64), Arc { tail, head });
-                }
+                assert!(rt; !forced);
+                expect_list(rt, list.as_slice(), arcs);
             }
             Verdict::Forced(chain) => {
-                assert!(rt; forced && chain.len() == arcs.len() as u64);
-                for i in 0..arcs.len() {
-                    let (tail, head) = arcs[i];
-                    assert_eq!(rt; chain.get(i as u64), Arc { tail, head });
-                }
+                assert!(rt; forced);
+                expect_list(rt, chain.as_slice(), arcs);
             }
         }
         Ok(())
@@ -224,10 +227,14 @@ mod tests {
         let chosen = [(0, 1), (2, 1), (2, 3)];
         let ordered = [(0, 1), (0, 2), (1, 2)];
         let chain = [(0, 1), (0, 4), (3, 4), (3, 2), (1, 2), (1, 0)];
-        expect(&rt, rt.alloc(), 4, &path, false, &chosen)?;
-        expect(&rt, rt.alloc(), 3, &triangle, false, &ordered)?;
-        expect(&rt, rt.alloc(), 0, &[], false, &[])?;
-        expect(&rt, rt.alloc(), 5, &cycle, true, &chain)?;
+        expect::<WORDS>(&rt, rt.alloc(), 4, &path, false, &chosen)?;
+        expect::<WORDS>(&rt, rt.alloc(), 3, &triangle, false, &ordered)?;
+        expect::<WORDS>(&rt, rt.alloc(), 0, &[], false, &[])?;
+        expect::<WORDS>(&rt, rt.alloc(), 5, &cycle, true, &chain)?;
+        expect::<1>(&rt, rt.alloc(), 4, &path, false, &chosen)?;
+        expect::<1>(&rt, rt.alloc(), 5, &cycle, true, &chain)?;
+        expect::<16>(&rt, rt.alloc(), 4, &path, false, &chosen)?;
+        expect::<16>(&rt, rt.alloc(), 5, &cycle, true, &chain)?;
         Ok(())
     }
 }

@@ -9,8 +9,8 @@ ghost use Rattle.md_orient.specs.Models.{IsModel, AreSides, ArePlaced, comes_bef
 
 use crate::orientation::chain_along;
 use md_comparability::{ClassOrChosen, Order, orient_classes};
-use md_forcing::{ArcSet, Chain, Side};
-use md_graph::{Graph, Memory};
+use md_forcing::{ArcSetOf, Chain, Side};
+use md_graph::{GraphOf, Memory};
 use std::alloc::Global;
 
 /// Two orders that realise a graph, or a forcing chain of it or of its complement.
@@ -25,7 +25,7 @@ pub enum PermVerdict {
 /// two orders that realise the graph. The three exclude each other: a chain of the complement comes
 /// only where the graph has none, and two orders realise a graph exactly where neither it nor its
 /// complement has a chain (`md_comparability::laws::orders_if_no_chain`). Errors: want of memory.
-pub fn model(alloc: Global, graph: &Graph) -> Result<PermVerdict, Memory>
+pub fn model<const W: usize>(alloc: Global, graph: &GraphOf<W>) -> Result<PermVerdict, Memory>
     ensures { IfOk result (IsModel graph.now) }
 {
     let _vertices = graph.vertices();
@@ -40,9 +40,13 @@ pub fn model(alloc: Global, graph: &Graph) -> Result<PermVerdict, Memory>
 
 // The answer on a graph by its least-edge orientation. Condition: it has one, and these are its
 // arcs.
-fn model_of_oriented(alloc: Global, graph: &Graph, edges: &ArcSet) -> Result<PermVerdict, Memory>
+fn model_of_oriented<const W: usize>(
+    alloc: Global,
+    graph: &GraphOf<W>,
+    edges: &ArcSetOf<W>,
+) -> Result<PermVerdict, Memory>
     requires whole { IsWholeOrientation (adjacent graph.now) edges.now }
-    requires room { HasRoom graph.now.vertices (Whole edges.now) }
+    requires room { HasRoom {w = W} graph.now.vertices (Whole edges.now) }
     ensures { IfOk result (IsModel graph.now) }
 {
     let _vertices = graph.vertices();
@@ -61,11 +65,11 @@ fn model_of_oriented(alloc: Global, graph: &Graph, edges: &ArcSet) -> Result<Per
 
 // The vertices in the order of the arcs of two sets, those of the first one turned or not.
 // Condition: this is a linear order.
-fn in_order(
+fn in_order<const W: usize>(
     alloc: Global,
-    graph: &Graph,
-    edges: &ArcSet,
-    others: &ArcSet,
+    graph: &GraphOf<W>,
+    edges: &ArcSetOf<W>,
+    others: &ArcSetOf<W>,
     turned: bool,
 ) -> Result<Order, Memory>
     requires sides { AreSides graph.now.vertices edges.now others.now }
@@ -84,12 +88,18 @@ fn in_order(
 
 // The number of names that come before `v`: those with an arc to it, where the arcs of the first
 // set are turned or not.
-fn place_of(edges: &ArcSet, others: &ArcSet, turned: bool, v: u32) -> usize
+fn place_of<const W: usize>(
+    edges: &ArcSetOf<W>,
+    others: &ArcSetOf<W>,
+    turned: bool,
+    v: u32,
+) -> usize
     requires room { v < length edges.now }
     requires other_room { v < length others.now }
     ensures { (s : NameSet) → AreSides s edges.now others.now
         → result ≡ place_in (comes_before edges.now others.now turned) s v }
 {
+    let _size = edges.size();
     let others_before = others.tails(v).count() as usize;
     if turned {
         edges.heads(v).count() as usize + others_before
@@ -103,19 +113,19 @@ mod tests {
     use super::*;
     use crate::{Verdict, orient};
     use md_forcing::Arc;
-    use md_graph::NAMES;
+    use md_graph::{Graph, NAMES, WORDS};
     use std::process::Abort;
     use std::test::Fail;
 
     // The answer on the graph of these edges.
-    fn answer(
+    fn answer<const W: usize>(
         rt: &impl Abort,
         alloc: Global,
         n: u32,
         edges: &[(u32, u32)],
     ) -> Result<PermVerdict, Memory> {
-        assert!(rt; n <= NAMES);
-        let graph = Graph::from_edges(alloc, n, edges)?.expect(rt, "edges");
+        assert!(rt; W <= WORDS && n as usize <= 64 * W);
+        let graph: GraphOf<W> = GraphOf::from_edges(alloc, n, edges)?.expect(rt, "edges");
         model(alloc, &graph)
     }
 
@@ -173,17 +183,32 @@ mod tests {
         let alloc = rt.alloc();
         expect_two(
             &rt,
-            answer(&rt, alloc, 4, &path)?,
+            answer::<WORDS>(&rt, alloc, 4, &path)?,
             &[0, 2, 1, 3],
             &[1, 0, 3, 2],
         );
-        expect_two(&rt, answer(&rt, alloc, 0, &[])?, &[], &[]);
-        expect_two(&rt, answer(&rt, alloc, 1, &[])?, &[0], &[0]);
+        expect_two(&rt, answer::<WORDS>(&rt, alloc, 0, &[])?, &[], &[]);
+        expect_two(&rt, answer::<WORDS>(&rt, alloc, 1, &[])?, &[0], &[0]);
         let around = [(0, 1), (0, 4), (3, 4), (3, 2), (1, 2), (1, 0)];
-        expect_arcs(&rt, answer(&rt, alloc, 5, &five)?, true, &around);
+        expect_arcs(&rt, answer::<WORDS>(&rt, alloc, 5, &five)?, true, &around);
         let beside = [(0, 2), (0, 3), (0, 4), (1, 4), (1, 5), (2, 5), (2, 0)];
-        expect_arcs(&rt, answer(&rt, alloc, 6, &six)?, false, &beside);
-        expect_arcs(&rt, answer(&rt, alloc, 6, &prism)?, true, &beside);
+        expect_arcs(&rt, answer::<WORDS>(&rt, alloc, 6, &six)?, false, &beside);
+        expect_arcs(&rt, answer::<WORDS>(&rt, alloc, 6, &prism)?, true, &beside);
+        Ok(())
+    }
+
+    #[test]
+    fn orders_and_chains_over_few_words(rt: HostRuntime) -> Result<(), Fail> {
+        let path = [(0, 1), (1, 2), (2, 3)];
+        let six = [(0, 1), (1, 2), (2, 3), (3, 4), (4, 5), (0, 5)];
+        let beside = [(0, 2), (0, 3), (0, 4), (1, 4), (1, 5), (2, 5), (2, 0)];
+        let alloc = rt.alloc();
+        let narrow = answer::<1>(&rt, alloc, 4, &path)?;
+        expect_two(&rt, narrow, &[0, 2, 1, 3], &[1, 0, 3, 2]);
+        expect_arcs(&rt, answer::<1>(&rt, alloc, 6, &six)?, false, &beside);
+        let wider = answer::<16>(&rt, alloc, 4, &path)?;
+        expect_two(&rt, wider, &[0, 2, 1, 3], &[1, 0, 3, 2]);
+        expect_arcs(&rt, answer::<16>(&rt, alloc, 6, &six)?, false, &beside);
         Ok(())
     }
 

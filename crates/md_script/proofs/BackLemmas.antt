@@ -1,5 +1,5 @@
 -- What taking an edit back finds in the graph, and that it gives the graph before the edit.
-use Rattle.std.specs.Prelude.{◌≡◌, ℕ, ◌<◌, Bool, true, false, not, ◌&&◌, ◌||◌, ◌==◌, min, max, List, Option, Some, None, refl}
+use Rattle.std.specs.Prelude.{◌≡◌, ℕ, ◌<◌, ◌≤◌, Bool, true, false, not, ◌&&◌, ◌||◌, ◌==◌, min, max, List, Option, Some, None, refl}
 use Rattle.std.specs.Bool.{then_some}
 use Rattle.std.specs.Option.{option_or}
 use Rattle.std.proofs.Common.{ap, sym, ◌∙◌, subst, arith, inl, inr}
@@ -16,8 +16,8 @@ use Rattle.md_graph.proofs.SetLemmas.{remove_insert, clash}
 use Rattle.md_script.specs.declared.edit.Edit.{Edit}
 use Rattle.md_script.specs.declared.edit.Edit.TheVariants.{AddEdge, DelEdge, AddVertex, DelVertex}
 use Rattle.md_script.specs.declared.edit.EditReason.{EditReason}
-use Rattle.md_script.proofs.ChangeLemmas.{neighbours_are_vertices, after_is_graph, vertex_added}
-use Rattle.md_script.specs.Edit.{HasNames, reason_of, after}
+use Rattle.md_script.proofs.ChangeLemmas.{names_within, neighbours_are_vertices, after_is_graph, vertex_added}
+use Rattle.md_script.specs.Edit.{HasNamesBelow, reason_of, after}
 use Rattle.md_script.specs.TakenBack.{Led, lost_row}
 
 -- ---- sets
@@ -133,8 +133,8 @@ pub only_passes : (b : Bool) (reason : EditReason) → then_some (not b) reason 
 only_passes true reason h = refl
 only_passes false reason h = absurd (cc)
 
-led_by : {g h : PlainGraph} {edit other : Edit} {row : NameSet} → edit ≡ other → Led g edit row h → Led g other row h
-led_by {g} {h} {edit} {other} {row} same led = subst (λ e. Led g e row h) same led
+led_by : {limit : ℕ} {g h : PlainGraph} {edit other : Edit} {row : NameSet} → edit ≡ other → Led limit g edit row h → Led limit g other row h
+led_by {limit} {g} {h} {edit} {other} {row} same led = subst (λ e. Led limit g e row h) same led
 
 -- ---- the edge of an edit
 
@@ -144,59 +144,60 @@ added_was_absent g u v none = last_fails _ (adjacent g u v) _ none
 pub deleted_was_there : (g : PlainGraph) (u v : ℕ) → reason_of g (DelEdge u v) ≡ None → adjacent g u v ≡ true
 deleted_was_there g u v none = last_passes _ (adjacent g u v) _ none
 
-pub added_is_there : (h : PlainGraph) (edit : Edit) (row : NameSet) (u v : ℕ) → edit ≡ AddEdge u v → (g : PlainGraph) × Led g edit row h → adjacent h u v ≡ true
+pub added_is_there : {limit : ℕ} (h : PlainGraph) (edit : Edit) (row : NameSet) (u v : ℕ) → edit ≡ AddEdge u v → (g : PlainGraph) × Led limit g edit row h → adjacent h u v ≡ true
 added_is_there h edit row u v same some =
     let led = led_by same some.1 in
     ap (λ (k : PlainGraph). adjacent k u v) led.next_is ∙ adjacent-with_edge some.0 u v u v ∙ grind (arith, nat_tests)
 
-pub deleted_is_absent : (h : PlainGraph) (edit : Edit) (row : NameSet) (u v : ℕ) → edit ≡ DelEdge u v → (g : PlainGraph) × Led g edit row h → adjacent h u v ≡ false
+pub deleted_is_absent : {limit : ℕ} (h : PlainGraph) (edit : Edit) (row : NameSet) (u v : ℕ) → edit ≡ DelEdge u v → (g : PlainGraph) × Led limit g edit row h → adjacent h u v ≡ false
 deleted_is_absent h edit row u v same some =
     let led = led_by same some.1 in
     ap (λ (k : PlainGraph). adjacent k u v) led.next_is ∙ adjacent-without_edge some.0 u v u v ∙ grind (arith, nat_tests)
 
-pub added_edge_back : (h back : PlainGraph) (edit : Edit) (row : NameSet) (u v : ℕ) → edit ≡ AddEdge u v → back ≡ without_edge h u v → (g : PlainGraph) → Led g edit row h → back ≡ g
+pub added_edge_back : {limit : ℕ} (h back : PlainGraph) (edit : Edit) (row : NameSet) (u v : ℕ) → edit ≡ AddEdge u v → back ≡ without_edge h u v → (g : PlainGraph) → Led limit g edit row h → back ≡ g
 added_edge_back h back edit row u v same made g before =
     let led = led_by same before in
     made ∙ ap (λ (k : PlainGraph). without_edge k u v) led.next_is ∙ edge_and_back g u v (added_was_absent g u v led.no_reason)
 
-pub deleted_edge_back : (h back : PlainGraph) (edit : Edit) (row : NameSet) (u v : ℕ) → edit ≡ DelEdge u v → back ≡ with_edge h u v → (g : PlainGraph) → Led g edit row h → back ≡ g
+pub deleted_edge_back : {limit : ℕ} (h back : PlainGraph) (edit : Edit) (row : NameSet) (u v : ℕ) → edit ≡ DelEdge u v → back ≡ with_edge h u v → (g : PlainGraph) → Led limit g edit row h → back ≡ g
 deleted_edge_back h back edit row u v same made g before =
     let led = led_by same before in
     made ∙ ap (λ (k : PlainGraph). with_edge k u v) led.next_is ∙ no_edge_and_back g u v (deleted_was_there g u v led.no_reason)
 
 -- ---- the vertex of an edit
 
-pub added_is_vertex : (h : PlainGraph) (edit : Edit) (row : NameSet) (x : ℕ) (list : List ℕ) → edit ≡ AddVertex x list → (g : PlainGraph) × Led g edit row h → Has h.vertices x
+pub added_is_vertex : {limit : ℕ} (h : PlainGraph) (edit : Edit) (row : NameSet) (x : ℕ) (list : List ℕ) → edit ≡ AddVertex x list → (g : PlainGraph) × Led limit g edit row h → Has h.vertices x
 added_is_vertex h edit row x list same some =
     let led = led_by same some.1 in
     ap (λ (k : PlainGraph). set.contains k.vertices x) led.next_is ∙ vertex_added some.0 (with_vertex some.0 x) x refl
 
-pub added_vertex_back : (h back : PlainGraph) (edit : Edit) (row : NameSet) (x : ℕ) (list : List ℕ) → edit ≡ AddVertex x list → back ≡ without_vertex h x → (g : PlainGraph) → Led g edit row h → back ≡ g
-added_vertex_back h back edit row x list same made g before =
+pub added_vertex_back : {limit : ℕ} → limit ≤ NAMES → (h back : PlainGraph) (edit : Edit) (row : NameSet) (x : ℕ) (list : List ℕ) → edit ≡ AddVertex x list → back ≡ without_vertex h x → (g : PlainGraph) → Led limit g edit row h → back ≡ g
+added_vertex_back few h back edit row x list same made g before =
     let led = led_by same before in
+    let names = names_within few (AddVertex x list) led.names in
     let others = set.from_list list in
     let members = neighbours_are_vertices g (with_vertex g x) (AddVertex x list) x list others refl led.no_reason refl refl in
     made
     ∙ ap (λ (k : PlainGraph). without_vertex k x) led.next_is
-    ∙ vertex_and_back g x others led.is_graph (after_is_graph g (AddVertex x list) led.is_graph led.names led.no_reason) (last_fails _ (set.contains g.vertices x) _ led.no_reason) (λ w m. (IsGraph-with_vertex led.is_graph x led.names.0).names w (members w m))
+    ∙ vertex_and_back g x others led.is_graph (after_is_graph g (AddVertex x list) led.is_graph names led.no_reason) (last_fails _ (set.contains g.vertices x) _ led.no_reason) (λ w m. (IsGraph-with_vertex led.is_graph x names.0).names w (members w m))
 
-pub deleted_is_no_vertex : (h : PlainGraph) (edit : Edit) (row : NameSet) (x : ℕ) → edit ≡ DelVertex x → (g : PlainGraph) × Led g edit row h → set.contains h.vertices x ≡ false
+pub deleted_is_no_vertex : {limit : ℕ} (h : PlainGraph) (edit : Edit) (row : NameSet) (x : ℕ) → edit ≡ DelVertex x → (g : PlainGraph) × Led limit g edit row h → set.contains h.vertices x ≡ false
 deleted_is_no_vertex h edit row x same some =
     let led = led_by same some.1 in
     ap (λ (k : PlainGraph). set.contains k.vertices x) led.next_is ∙ contains-remove some.0.vertices x x ∙ grind (arith, nat_tests)
 
-pub row_are_vertices : (h next : PlainGraph) (edit : Edit) (row : NameSet) (x : ℕ) → edit ≡ DelVertex x → next ≡ with_vertex h x → (g : PlainGraph) × Led g edit row h → (u : ℕ) → Has row u → Has next.vertices u
+pub row_are_vertices : {limit : ℕ} (h next : PlainGraph) (edit : Edit) (row : NameSet) (x : ℕ) → edit ≡ DelVertex x → next ≡ with_vertex h x → (g : PlainGraph) × Led limit g edit row h → (u : ℕ) → Has row u → Has next.vertices u
 row_are_vertices h next edit row x same made some u member =
     let led = led_by same some.1 in
     ap (λ (k : PlainGraph). set.contains k.vertices u) (made ∙ ap (λ (k : PlainGraph). with_vertex k x) led.next_is)
     ∙ neighbours_back some.0 x u led.is_graph (ap (λ s. set.contains s u) (sym led.row_is) ∙ member)
 
-pub row_has_no_loop : (h : PlainGraph) (edit : Edit) (row : NameSet) (x : ℕ) → edit ≡ DelVertex x → (g : PlainGraph) × Led g edit row h → set.contains row x ≡ false
+pub row_has_no_loop : {limit : ℕ} (h : PlainGraph) (edit : Edit) (row : NameSet) (x : ℕ) → edit ≡ DelVertex x → (g : PlainGraph) × Led limit g edit row h → set.contains row x ≡ false
 row_has_no_loop h edit row x same some =
     let led = led_by same some.1 in
     ap (λ s. set.contains s x) led.row_is ∙ no_loop some.0 x led.is_graph
 
-pub deleted_vertex_back : (h next back : PlainGraph) (edit : Edit) (row : NameSet) (x : ℕ) → edit ≡ DelVertex x → next ≡ with_vertex h x → back ≡ with_edges next x row → (g : PlainGraph) → Led g edit row h → back ≡ g
+pub deleted_vertex_back : {limit : ℕ} (h next back : PlainGraph) (edit : Edit) (row : NameSet) (x : ℕ) → edit ≡ DelVertex x → next ≡ with_vertex h x → back ≡ with_edges next x row → (g : PlainGraph) → Led limit g edit row h → back ≡ g
 deleted_vertex_back h next back edit row x same added made g before =
     let led = led_by same before in
     made
@@ -205,7 +206,7 @@ deleted_vertex_back h next back edit row x same added made g before =
     ∙ no_vertex_and_back g x led.is_graph (only_passes (set.contains g.vertices x) _ led.no_reason)
 
 -- what taking an edit back asks of the one who applied it
-pub led : (g h : PlainGraph) (edit : Edit) (row : NameSet) → IsGraph g → HasNames edit → reason_of g edit ≡ None
-    → row ≡ lost_row g edit → h ≡ after g edit → Led g edit row h
+pub led : {limit : ℕ} (g h : PlainGraph) (edit : Edit) (row : NameSet) → IsGraph g → HasNamesBelow limit edit → reason_of g edit ≡ None
+    → row ≡ lost_row g edit → h ≡ after g edit → Led limit g edit row h
 led g h edit row is_graph names no_reason row_is next_is =
     record { is_graph = is_graph; names = names; no_reason = no_reason; row_is = row_is; next_is = next_is }

@@ -7,6 +7,7 @@ use Rattle.std.specs.List.Sorted.{IsStrictlyIncreasing}
 use Rattle.std.proofs.Common.{ap, sym, ◌∙◌, inl, inr, arith, subst}
 use Rattle.std.proofs.lemmas.Bool.{cases_Bool, eqb-true, eqb-false, or_cases, or_left, or_right, and_from, and_parts}
 use Rattle.std.proofs.lemmas.Bool.Decides.{nat_tests}
+use Rattle.std.proofs.lemmas.List.Elements.{All-weaker}
 use Rattle.std.specs.FinSet as set
 use Rattle.std.specs.FinSet.{contains-from_list_nat}
 use Rattle.md_graph.specs.Sets.{NameSet, Has}
@@ -19,7 +20,7 @@ use Rattle.md_script.specs.declared.edit.Edit.{Edit}
 use Rattle.md_script.specs.declared.edit.Edit.TheVariants.{AddEdge, DelEdge, AddVertex, DelVertex}
 use Rattle.md_script.specs.declared.edit.EditReason.{EditReason}
 use Rattle.md_script.specs.declared.edit.EditReason.TheVariants.{Same, NoVertex, NameTaken}
-use Rattle.md_script.specs.Edit.{HasNames, least_absent, reason_of, after}
+use Rattle.md_script.specs.Edit.{HasNames, HasNamesBelow, least_absent, reason_of, after}
 
 -- the new vertex isn't there, and all its neighbours are
 record MayAdd (g : PlainGraph) (x : ℕ) (neighbours : List ℕ) : Type 0 where
@@ -82,6 +83,17 @@ no_own_neighbour g edit x neighbours others is none made =
     ]
 
 -- ---- the graph after an edit
+
+below_more : {limit more : ℕ} → limit ≤ more → (v : ℕ) → v < limit → v < more
+below_more few v below = omega arith
+
+-- names below a limit are below every greater one
+pub names_within : {limit more : ℕ} → limit ≤ more → (edit : Edit) → HasNamesBelow limit edit → HasNamesBelow more edit
+names_within few (AddEdge u v) names = (below_more few u names.0, below_more few v names.1)
+names_within few (DelEdge u v) names = (below_more few u names.0, below_more few v names.1)
+names_within {limit} {more} few (AddVertex x neighbours) names =
+    (below_more few x names.0, All-weaker (λ v. v < limit) (λ v. v < more) (below_more few) neighbours names.1)
+names_within few (DelVertex x) names = below_more few x names
 
 pub ends_by_tests : (u v : ℕ) (same first second : Bool) (last : Option EditReason)
     → option_or (cond same (Some Same) (cond (not first) (Some (NoVertex u)) (cond (not second) (Some (NoVertex v)) None))) last ≡ None → (same ≡ false) × (first ≡ true) × (second ≡ true)

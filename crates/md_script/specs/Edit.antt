@@ -12,12 +12,16 @@ use Rattle.md_script.specs.declared.edit.Edit.TheVariants.{AddEdge, DelEdge, Add
 use Rattle.md_script.specs.declared.edit.EditReason.{EditReason}
 use Rattle.md_script.specs.declared.edit.EditReason.TheVariants.{Same, NoVertex, NameTaken, EdgeThere, EdgeAbsent}
 
+-- the names in an edit are below a limit
+abbrev pub HasNamesBelow : ℕ → Edit → Type 0
+HasNamesBelow limit (AddEdge u v) = (u < limit) × (v < limit)
+HasNamesBelow limit (DelEdge u v) = (u < limit) × (v < limit)
+HasNamesBelow limit (AddVertex x neighbours) = (x < limit) × All (λ v. v < limit) neighbours
+HasNamesBelow limit (DelVertex x) = x < limit
+
 -- the names in an edit are names
 abbrev pub HasNames : Edit → Type 0
-HasNames (AddEdge u v) = (u < NAMES) × (v < NAMES)
-HasNames (DelEdge u v) = (u < NAMES) × (v < NAMES)
-HasNames (AddVertex x neighbours) = (x < NAMES) × All (λ v. v < NAMES) neighbours
-HasNames (DelVertex x) = x < NAMES
+HasNames = HasNamesBelow NAMES
 
 -- why u and v can't be the ends of an edge of g: they are the same, or one is no vertex
 abbrev pub ends_reason : PlainGraph → ℕ → ℕ → Option EditReason

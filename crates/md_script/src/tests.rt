@@ -2,7 +2,7 @@
 use super::*;
 use EditReason::*;
 use ScriptKind::*;
-use md_graph::{Graph, NAMES, Names};
+use md_graph::{Graph, GraphOf, NAMES, Names};
 use std::alloc::Global;
 use std::process::Abort;
 use std::test::Fail;
@@ -170,6 +170,14 @@ fn edits(rt: HostRuntime) -> Result<(), Fail> {
     )?;
     assert!(rt; graph.count() == 3 && graph.edge_count() == 2);
     assert!(rt; graph.has_edge(1, 2) && graph.has_edge(4095, 1) && !graph.has_vertex(3));
+    let mut narrow = GraphOf::<1>::from_edges(rt.alloc(), 3, &[(0, 1)])?.expect(&rt, "edges");
+    let edit = Edit::DelVertex { x: 1 };
+    assert!(rt; reason(&narrow, &edit).is_none());
+    let row = lost_row(&narrow, &edit);
+    apply(&mut narrow, &edit);
+    assert!(rt; narrow.count() == 2 && narrow.edge_count() == 0);
+    take_back(&mut narrow, &edit, &row);
+    assert!(rt; narrow.count() == 3 && narrow.has_edge(0, 1));
     Ok(())
 }
 

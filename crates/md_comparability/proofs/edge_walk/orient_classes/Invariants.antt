@@ -4,7 +4,7 @@ use Rattle.md_comparability.specs.Walking.{IsWalked}
 use Rattle.md_comparability.proofs.edge_walk.orient_classes.Given as goal
 
 abbrev pub invariant-loop-u : goal.invariant-loop-u
-invariant-loop-u l = record {
+invariant-loop-u g l = record {
   walked : IsWalked (adjacent_on l.side l.graph) l.u l.explored.seen;
   room : length l.explored.seen ≡ length l.initial.explored.seen;
 }

@@ -3,4 +3,4 @@ use Rattle.md_comparability.specs.Listed.{arcs_below}
 use Rattle.md_orient.proofs.orientation.list_of_arcs.Given as goal
 
 abbrev pub invariant-loop-tail : goal.invariant-loop-tail
-invariant-loop-tail l = l.list.items ≡ arcs_below l.arcs l.tail
+invariant-loop-tail g l = l.list.items ≡ arcs_below l.arcs l.tail

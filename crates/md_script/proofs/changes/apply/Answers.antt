@@ -4,7 +4,7 @@ use Rattle.md_script.proofs.ChangeLemmas.{vertex_added, neighbours_are_vertices,
 use Rattle.md_script.proofs.changes.apply.Goals as goal
 
 pub add_edges-requires : goal.add_edges-requires
-add_edges-requires c = (
+add_edges-requires g c = (
   search rules,
   (
     search rules,
