@@ -4,11 +4,11 @@ use Rattle.md_checker.proofs.Moves.{edit_step, edit_lacks}
 use Rattle.md_checker.proofs.session_checker.comes.Goals as goal
 
 pub returns-then-not-branch-2-clause-none : goal.returns-then-not-branch-2-clause-none
-returns-then-not-branch-2-clause-none c =
+returns-then-not-branch-2-clause-none g c =
     edit_lacks c.args.mode c.args.graph.now c.answers_edit.new.graph c.args.script.now c.args.answered c.get-edit.result.now (plain_line c.args.line.now) _
     c.get-edit.ensures.edit c.in_ok-answers_edit.ensures.may c.in_ok-answers_edit.ensures.next c.if-not-branch-2.true
 
 pub returns-clause-leads : goal.returns-clause-leads
-returns-clause-leads c =
+returns-clause-leads g c =
     edit_step c.args.mode c.args.graph.now c.answers_edit.new.graph c.args.script.now c.args.answered c.get-edit.result.now (plain_line c.args.line.now) _
     c.get-edit.ensures.edit c.in_ok-answers_edit.ensures.may c.in_ok-answers_edit.ensures.next _ refl refl c.if-not-branch-2.false c.requires.cograph

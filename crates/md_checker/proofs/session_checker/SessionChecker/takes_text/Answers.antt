@@ -5,14 +5,14 @@ use Rattle.md_checker.proofs.Taking.{takes_first, takes_edited, takes_last}
 use Rattle.md_checker.proofs.session_checker.SessionChecker.takes_text.Goals as goal
 
 pub returns-else-not-branch-clause-takes : goal.returns-else-not-branch-clause-takes
-returns-else-not-branch-clause-takes c t =
+returns-else-not-branch-clause-takes g c t =
     let s = c.self.inside in
     let is = c.in-First.is in let p = c.in-Some.ensures in let may = rw is at p in
     takes_first true s.due s.mode s.graph (drop s.answered s.script) c.args.text.now c.args.self.now c.self.view_is may
     (c.in_ok-is_word_and_state-in-First.ensures c.if-not-branch.false)
 
 pub returns-else-not-branch-2-clause-takes : goal.returns-else-not-branch-2-clause-takes
-returns-else-not-branch-2-clause-takes c t =
+returns-else-not-branch-2-clause-takes g c t =
     let s = c.self.inside in
     let is = c.in-Edited.is in let p = c.in-Some.ensures in let may = rw is at p in
     subst (λ d. Takes c.args.self.now c.args.text.now (session_place d s.mode c.applies_by_text.new.graph (drop (s.answered + 1) s.script))) (sym may.0)
@@ -20,7 +20,7 @@ returns-else-not-branch-2-clause-takes c t =
     (c.in_ok-applies_by_text-in-Edited.ensures.takes c.if-not-branch-2.false))
 
 pub returns-else-not-branch-3-clause-takes : goal.returns-else-not-branch-3-clause-takes
-returns-else-not-branch-3-clause-takes c t =
+returns-else-not-branch-3-clause-takes g c t =
     let s = c.self.inside in
     let is = c.in-Last.is in let p = c.in-Some.ensures in let may = rw is at p in
     let left = may.2 in

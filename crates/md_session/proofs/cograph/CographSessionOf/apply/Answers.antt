@@ -5,7 +5,7 @@ use Rattle.md_cotree.proofs.NoPaths.{cotree_no_path}
 use Rattle.md_session.specs.Answers.{IsAnswered}
 use Rattle.md_session.specs.declared.cograph.Answer.TheVariants.{Applied, RefusedP4}
 use Rattle.md_session.proofs.MadePaths.{refused_with, applied_to}
-use Rattle.md_session.proofs.cograph.CographSession.apply.Goals as goal
+use Rattle.md_session.proofs.cograph.CographSessionOf.apply.Goals as goal
 
 pub change-requires-clause-denotes : goal.change-requires-clause-denotes
 change-requires-clause-denotes g c = (c.self.inside.graph, c.self.invariant.1, sym c.reason.ensures ∙ c.in_default.is)
