@@ -3,49 +3,35 @@ ghost use Rattle.std.specs.Prelude.{◌≡◌, ◌↔◌, [], false, IfOk, IsTru
 ghost use Rattle.md_report.specs.Lines.{PlainLine, line_text, plain_line};
 ghost use Rattle.md_report.specs.WellFormedLines.{IsWellFormedLine};
 ghost use Rattle.md_report.specs.Places.{Reports};
-ghost use Rattle.md_checker.specs.Hands.{kept_in, graphs_left, IsHand};
+ghost use Rattle.md_checker.specs.Hands.{graphs_left, IsHand};
 
 use crate::certificates::is_word_and_orientation;
-use crate::judgements::{is_tree_line, reports};
+use crate::judgements::reports;
 use crate::text_fit::is_word_and_tree;
-use md_graph::{Graph, Memory};
+use md_graph::{GraphOf, Memory};
 use md_input::{GraphBySize, Graphs, Room};
 use md_report::{GraphMode, Line};
 use std::alloc::Global;
 
-// The rows of the graph at hand.
-#[derive(Drop)]
-enum Rows {
-    // In mode tree: a small graph takes one word a row.
-    BySize(Room),
-    // In another mode.
-    Wide(Graph),
-}
-
-// The graph at hand in a report of the mode, if it is there; else the rows have no vertices.
+// The graph at hand in a report of the mode, if it is there; else the room has no vertices.
 #[derive(Drop)]
 pub(crate) struct DueGraph {
     pub(crate) mode: GraphMode,
     pub(crate) is_there: bool,
-    rows: Rows,
+    room: Room,
 }
 
 impl DueGraph {
-    // No graph, but the rows for one. Errors: want of memory.
+    // No graph, but the room for one. Errors: want of memory.
     pub(crate) fn new(alloc: Global, mode: GraphMode) -> Result<DueGraph, Memory>
         ensures mode { IfOk result (λ hand. hand.mode ≡ mode) }
         ensures none { IfOk result (λ hand. hand.is_there ≡ false) }
         ensures hand { IfOk result IsHand }
     {
-        let rows = match mode {
-            GraphMode::Tree => Rows::BySize(Room::new(alloc)?),
-            GraphMode::Compare => Rows::Wide(Graph::new(alloc)?),
-            GraphMode::Permute => Rows::Wide(Graph::new(alloc)?),
-        };
         Ok(DueGraph {
             mode,
             is_there: false,
-            rows,
+            room: Room::new(alloc)?,
         })
     }
 
@@ -61,10 +47,7 @@ impl DueGraph {
         if self.is_there {
             return Ok(());
         }
-        self.is_there = match &mut self.rows {
-            Rows::BySize(room) => behind.next_into(alloc, room)?,
-            Rows::Wide(graph) => behind.next(graph),
-        };
+        self.is_there = behind.next_into(alloc, &mut self.room)?;
         Ok(())
     }
 
@@ -75,45 +58,49 @@ impl DueGraph {
         ensures mode { self.new.mode ≡ self.old.mode }
         ensures hand { IsHand self.new }
     {
-        match &mut self.rows {
-            Rows::BySize(room) => room.clear(),
-            Rows::Wide(graph) => graph.clear(),
-        }
+        self.room.clear();
         self.is_there = false;
     }
 
     // Whether the line reports the graph. Condition: the line is well-formed.
     pub(crate) fn is_reported(&self, alloc: Global, line: &Line) -> Result<bool, Memory>
         requires line { IsWellFormedLine (plain_line line.now) }
-        requires hand { IsHand self.now }
         ensures { IfOk result (λ fit. IsTrue fit
-            ↔ Reports self.now.mode (kept_in self.now.rows) (plain_line line.now)) }
+            ↔ Reports self.now.mode self.now.room (plain_line line.now)) }
     {
-        match &self.rows {
-            Rows::BySize(room) => match room.graph() {
-                GraphBySize::Small(graph) => is_tree_line(alloc, graph, line),
-                GraphBySize::Large(graph) => is_tree_line(alloc, graph, line),
-            },
-            Rows::Wide(graph) => reports(alloc, self.mode, graph, line),
+        match self.room.graph() {
+            GraphBySize::Small(graph) => reports(alloc, self.mode, graph, line),
+            GraphBySize::Medium(graph) => reports(alloc, self.mode, graph, line),
+            GraphBySize::Large(graph) => reports(alloc, self.mode, graph, line),
         }
     }
 
     // Whether the text is that of a line that reports the graph; a false says nothing.
     pub(crate) fn is_reported_by_text(&self, alloc: Global, text: &[u8]) -> Result<bool, Memory>
-        requires { IsHand self.now }
         ensures { IfOk result (λ fit. IsTrue fit → (line : PlainLine)
-            × Reports self.now.mode (kept_in self.now.rows) line × (text.now ≡ line_text line)) }
+            × Reports self.now.mode self.now.room line × (text.now ≡ line_text line)) }
     {
-        match &self.rows {
-            Rows::BySize(room) => match room.graph() {
-                GraphBySize::Small(graph) => is_word_and_tree(alloc, graph, b"t ", text),
-                GraphBySize::Large(graph) => is_word_and_tree(alloc, graph, b"t ", text),
-            },
-            Rows::Wide(graph) => match self.mode {
-                GraphMode::Tree => Ok(false),
-                GraphMode::Compare => is_word_and_orientation(alloc, graph, b"yes", text),
-                GraphMode::Permute => Ok(false),
-            },
+        match self.room.graph() {
+            GraphBySize::Small(graph) => reports_by_text(alloc, self.mode, graph, text),
+            GraphBySize::Medium(graph) => reports_by_text(alloc, self.mode, graph, text),
+            GraphBySize::Large(graph) => reports_by_text(alloc, self.mode, graph, text),
         }
+    }
+}
+
+// Whether the text is that of a line that reports the graph; a false says nothing.
+fn reports_by_text<const W: usize>(
+    alloc: Global,
+    mode: GraphMode,
+    graph: &GraphOf<W>,
+    text: &[u8],
+) -> Result<bool, Memory>
+    ensures { IfOk result (λ fit. IsTrue fit → (line : PlainLine)
+        × Reports mode graph.now line × (text.now ≡ line_text line)) }
+{
+    match mode {
+        GraphMode::Tree => is_word_and_tree(alloc, graph, b"t ", text),
+        GraphMode::Compare => is_word_and_orientation(alloc, graph, b"yes", text),
+        GraphMode::Permute => Ok(false),
     }
 }

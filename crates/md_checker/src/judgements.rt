@@ -35,10 +35,10 @@ use md_tree::{Tree, has_no_prime};
 use std::alloc::Global;
 
 // Whether the line reports the graph. Condition: the line is well-formed.
-pub(crate) fn reports(
+pub(crate) fn reports<const W: usize>(
     alloc: Global,
     mode: GraphMode,
-    graph: &Graph,
+    graph: &GraphOf<W>,
     line: &Line,
 ) -> Result<bool, Memory>
     requires { IsWellFormedLine (plain_line line.now) }
@@ -52,7 +52,7 @@ pub(crate) fn reports(
 }
 
 // Whether the line is that of the tree of the graph. Condition: the line is well-formed.
-pub(crate) fn is_tree_line<const W: usize>(
+fn is_tree_line<const W: usize>(
     alloc: Global,
     graph: &GraphOf<W>,
     line: &Line,
@@ -67,7 +67,11 @@ pub(crate) fn is_tree_line<const W: usize>(
 }
 
 // Whether the line tells of the least-edge orientation of the graph, or of a forcing chain.
-fn is_orientation_line(alloc: Global, graph: &Graph, line: &Line) -> Result<bool, Memory>
+fn is_orientation_line<const W: usize>(
+    alloc: Global,
+    graph: &GraphOf<W>,
+    line: &Line,
+) -> Result<bool, Memory>
     ensures { IfOk result (λ fit. IsTrue fit
         ↔ IsOrientationLine (adjacent graph.now) (plain_line line.now)) }
 {
@@ -80,7 +84,11 @@ fn is_orientation_line(alloc: Global, graph: &Graph, line: &Line) -> Result<bool
 
 // Whether the line tells of two orders that realise the graph, or of a forcing chain of it or of
 // its complement.
-fn is_model_line(alloc: Global, graph: &Graph, line: &Line) -> Result<bool, Memory>
+fn is_model_line<const W: usize>(
+    alloc: Global,
+    graph: &GraphOf<W>,
+    line: &Line,
+) -> Result<bool, Memory>
     ensures { IfOk result (λ fit. IsTrue fit ↔ IsModelLine graph.now (plain_line line.now)) }
 {
     match line {
@@ -92,7 +100,11 @@ fn is_model_line(alloc: Global, graph: &Graph, line: &Line) -> Result<bool, Memo
 }
 
 // Whether the graph has no forcing chain, and the chain is one of its complement.
-fn is_forced_in_complement(alloc: Global, graph: &Graph, chain: &Chain) -> Result<bool, Memory>
+fn is_forced_in_complement<const W: usize>(
+    alloc: Global,
+    graph: &GraphOf<W>,
+    chain: &Chain,
+) -> Result<bool, Memory>
     ensures { IfOk result (λ fit. IsTrue fit ↔ ((¬ HasForcingChain (adjacent graph.now))
         × IsForcingChain (adjacent_on NonEdges graph.now) chain.now)) }
 {
@@ -103,7 +115,7 @@ fn is_forced_in_complement(alloc: Global, graph: &Graph, chain: &Chain) -> Resul
 }
 
 // Whether the graph has a forcing chain.
-fn has_forcing_chain(alloc: Global, graph: &Graph) -> Result<bool, Memory>
+fn has_forcing_chain<const W: usize>(alloc: Global, graph: &GraphOf<W>) -> Result<bool, Memory>
     ensures { IfOk result (λ has. IsTrue has ↔ HasForcingChain (adjacent graph.now)) }
 {
     let _vertices = graph.vertices();

@@ -70,15 +70,11 @@ fn graphs_of_files(rt: HostRuntime) -> Result<(), Fail> {
 }
 
 // Puts the line of a graph of n vertices, whose first and last are joined.
-fn push_line(alloc: Global, n: u32, text: &mut Vec<u8>) -> Result<(), Memory> {
-    let mut graph = Graph::new(alloc)?;
-    if n <= NAMES {
-        graph.add_range(0, n);
-    }
-    let last = n.saturating_sub(1);
-    if last > 0 && graph.has_vertex(0) && graph.has_vertex(last) && !graph.has_edge(0, last) {
-        graph.add_edge(0, last);
-    }
+fn push_line(rt: &impl Abort, alloc: Global, n: u32, text: &mut Vec<u8>) -> Result<(), Memory> {
+    assert!(rt; n <= NAMES);
+    let ends = [(0, n.saturating_sub(1))];
+    let edges = if n > 1 { ends.as_slice() } else { &[] };
+    let graph = Graph::from_edges(alloc, n, edges)?.expect(rt, "edges");
     text.extend_from_slice(md_graph6::write(alloc, &graph)?.as_slice())?;
     Ok(())
 }
@@ -87,7 +83,7 @@ fn push_line(alloc: Global, n: u32, text: &mut Vec<u8>) -> Result<(), Memory> {
 fn come(rt: &impl Abort, alloc: Global, sizes: &[(u32, u32)]) -> Result<(), Fail> {
     let mut text = Vec::new(alloc);
     for (n, _) in sizes {
-        push_line(alloc, *n, &mut text)?;
+        push_line(rt, alloc, *n, &mut text)?;
     }
     let Ok(mut graphs) = Graphs::read(alloc, Format::G6, &text) else {
         panic!(rt; "a fault");

@@ -15,7 +15,7 @@ ghost use Rattle.md_top.specs.Sinks.{sink_run, PutsLines};
 use crate::put::put_report_line;
 use crate::stop::{PutStop, Stop, Verdict};
 use md_decompose::decompose;
-use md_graph::{Graph, GraphOf, Memory};
+use md_graph::{GraphOf, Memory};
 use md_input::{Format, GraphBySize, Graphs, Room};
 use md_io::Sink;
 use md_orient::{PermVerdict, Verdict as Orientation, model, orient};
@@ -55,62 +55,58 @@ fn put_report<O: Sink>(
     put_report_line(alloc, Line::End, out)
 }
 
-// Puts the line of each of the graphs. Trees of small ones are computed over one word a row.
+// Puts the line of each of the graphs.
 fn put_graph_lines<O: Sink>(
-    alloc: Global,
-    mode: GraphMode,
-    graphs: Graphs,
-    out: &mut O,
-) -> Result<(), PutStop>
-    ensures puts { PutsLines (at_graphs mode graphs.entry) (at_graphs mode []) result
-        (sink_run O.Sink out.old out.new) }
-    ensures faults_never_fall { O.faults out.old ≤ O.faults out.new }
-{
-    match mode {
-        GraphMode::Tree => put_trees(alloc, mode, graphs, out),
-        GraphMode::Compare => put_lines_of_large(alloc, mode, graphs, out),
-        GraphMode::Permute => put_lines_of_large(alloc, mode, graphs, out),
-    }
-}
-
-// Puts the line of the tree of each of the graphs.
-fn put_trees<O: Sink>(
     alloc: Global,
     mode: GraphMode,
     mut graphs: Graphs,
     out: &mut O,
 ) -> Result<(), PutStop>
-    requires { mode ≡ GraphMode.Tree }
     ensures puts { PutsLines (at_graphs mode graphs.entry) (at_graphs mode []) result
         (sink_run O.Sink out.old out.new) }
     ensures faults_never_fall { O.faults out.old ≤ O.faults out.new }
 {
     let mut room = Room::new(alloc)?;
     while graphs.next_into(alloc, &mut room)? {
-        put_tree(alloc, mode, &room, out)?;
+        put_line(alloc, mode, &room, out)?;
         room.clear();
     }
     Ok(())
 }
 
-// Puts the line of the tree of the graph in the room.
-fn put_tree<O: Sink>(
+// Puts the line that reports the graph in the room.
+fn put_line<O: Sink>(
     alloc: Global,
     mode: GraphMode,
     room: &Room,
     out: &mut O,
 ) -> Result<(), PutStop>
-    requires { mode ≡ GraphMode.Tree }
     ensures puts { (graphs : List PlainGraph)
         → PutsLines (at_graphs mode (room.now ∷ graphs)) (at_graphs mode graphs) result
         (sink_run O.Sink out.old out.new) }
     ensures faults_never_fall { O.faults out.old ≤ O.faults out.new }
 {
     let line = match room.graph() {
-        GraphBySize::Small(graph) => tree_line(alloc, graph)?,
-        GraphBySize::Large(graph) => tree_line(alloc, graph)?,
+        GraphBySize::Small(graph) => line_of(alloc, mode, graph)?,
+        GraphBySize::Medium(graph) => line_of(alloc, mode, graph)?,
+        GraphBySize::Large(graph) => line_of(alloc, mode, graph)?,
     };
     put_report_line(alloc, line, out)
+}
+
+// The line that reports a graph.
+fn line_of<const W: usize>(
+    alloc: Global,
+    mode: GraphMode,
+    graph: &GraphOf<W>,
+) -> Result<Line, Memory>
+    ensures { IfOk result (λ line. Reports mode graph.now (plain_line line)) }
+{
+    match mode {
+        GraphMode::Tree => tree_line(alloc, graph),
+        GraphMode::Compare => orientation_line(alloc, graph),
+        GraphMode::Permute => model_line(alloc, graph),
+    }
 }
 
 // The line of the tree of a graph.
@@ -121,54 +117,8 @@ fn tree_line<const W: usize>(alloc: Global, graph: &GraphOf<W>) -> Result<Line, 
     Ok(Line::Tree(tree))
 }
 
-// Puts the line of each of the graphs, which are read into the longest rows.
-fn put_lines_of_large<O: Sink>(
-    alloc: Global,
-    mode: GraphMode,
-    mut graphs: Graphs,
-    out: &mut O,
-) -> Result<(), PutStop>
-    ensures puts { PutsLines (at_graphs mode graphs.entry) (at_graphs mode []) result
-        (sink_run O.Sink out.old out.new) }
-    ensures faults_never_fall { O.faults out.old ≤ O.faults out.new }
-{
-    let mut graph = Graph::new(alloc)?;
-    while graphs.next(&mut graph) {
-        put_graph_line(alloc, mode, &graph, out)?;
-        graph.clear();
-    }
-    Ok(())
-}
-
-// Puts the line that reports a graph.
-fn put_graph_line<O: Sink>(
-    alloc: Global,
-    mode: GraphMode,
-    graph: &Graph,
-    out: &mut O,
-) -> Result<(), PutStop>
-    ensures puts { (graphs : List PlainGraph)
-        → PutsLines (at_graphs mode (graph.now ∷ graphs)) (at_graphs mode graphs) result
-        (sink_run O.Sink out.old out.new) }
-    ensures faults_never_fall { O.faults out.old ≤ O.faults out.new }
-{
-    let line = graph_line(alloc, mode, graph)?;
-    put_report_line(alloc, line, out)
-}
-
-// The line that reports a graph.
-fn graph_line(alloc: Global, mode: GraphMode, graph: &Graph) -> Result<Line, Memory>
-    ensures { IfOk result (λ line. Reports mode graph.now (plain_line line)) }
-{
-    match mode {
-        GraphMode::Tree => tree_line(alloc, graph),
-        GraphMode::Compare => orientation_line(alloc, graph),
-        GraphMode::Permute => model_line(alloc, graph),
-    }
-}
-
 // The line of the least-edge orientation of a graph, or of a forcing chain of it.
-fn orientation_line(alloc: Global, graph: &Graph) -> Result<Line, Memory>
+fn orientation_line<const W: usize>(alloc: Global, graph: &GraphOf<W>) -> Result<Line, Memory>
     ensures { IfOk result (λ line. IsOrientationLine (adjacent graph.now) (plain_line line)) }
 {
     match orient(alloc, graph)? {
@@ -178,7 +128,7 @@ fn orientation_line(alloc: Global, graph: &Graph) -> Result<Line, Memory>
 }
 
 // The line of two orders that realise a graph, or of a forcing chain of it or of its complement.
-fn model_line(alloc: Global, graph: &Graph) -> Result<Line, Memory>
+fn model_line<const W: usize>(alloc: Global, graph: &GraphOf<W>) -> Result<Line, Memory>
     ensures { IfOk result (λ line. IsModelLine graph.now (plain_line line)) }
 {
     match model(alloc, graph)? {

@@ -1,10 +1,10 @@
 use Rattle.md_checker.proofs.judgements.reports.Goals as goal
 
 pub returns-in-Tree : goal.returns-in-Tree
-returns-in-Tree c = rw c.in-Tree.is c.is_tree_line.ensures
+returns-in-Tree g c = rw c.in-Tree.is c.is_tree_line.ensures
 
 pub returns-in-Compare : goal.returns-in-Compare
-returns-in-Compare c = rw c.in-Compare.is c.is_orientation_line.ensures
+returns-in-Compare g c = rw c.in-Compare.is c.is_orientation_line.ensures
 
 pub returns-in-Permute : goal.returns-in-Permute
-returns-in-Permute c = rw c.in-Permute.is c.is_model_line.ensures
+returns-in-Permute g c = rw c.in-Permute.is c.is_model_line.ensures

@@ -2,7 +2,7 @@ use Rattle.std.proofs.Common.{◌≡◌, ◌≤◌, length}
 use Rattle.md_graph.specs.PlainGraph.{empty_graph}
 use Rattle.md_report.specs.Places.{at_graphs}
 use Rattle.md_top.specs.Sinks.{AppendsLines}
-use Rattle.md_top.proofs.report.put_trees.Given as goal
+use Rattle.md_top.proofs.report.put_graph_lines.Given as goal
 
 abbrev pub invariant-loop-room : goal.invariant-loop-room
 invariant-loop-room g l = record {
