@@ -1,5 +1,7 @@
-use Rattle.std.proofs.Common.{◌≤◌, ◌+◌, true, length, drop, sym, subst, arith}
+use Rattle.std.proofs.Common.{rules, ◌*◌, ◌≤◌, ◌+◌, true, length, drop, sym, subst, arith}
 use Rattle.std.proofs.lemmas.Bool.Decides.{nat_tests}
+use Rattle.md_script.specs.Edit.{HasNamesBelow}
+use Rattle.md_script.proofs.ChangeLemmas.{holds_at}
 use Rattle.md_checker.specs.Standing.{session_place, Takes}
 use Rattle.md_checker.proofs.Taking.{takes_first, takes_edited, takes_last}
 use Rattle.md_checker.proofs.session_checker.SessionChecker.takes_text.Goals as goal
@@ -28,3 +30,9 @@ returns-else-not-branch-3-clause-takes g c t =
     let past : length s.script ≤ s.answered = grind (arith, nat_tests) in
     takes_last _ s.due s.mode s.graph s.script s.answered c.args.text.now c.args.self.now c.self.view_is may past
     (c.in_ok-is_word_and_state-in-Last.ensures c.if-not-branch-3.false)
+
+pub applies_by_text-requires : goal.applies_by_text-requires
+applies_by_text-requires g c =
+    let s = c.self.inside in
+    let is = c.in-Edited.is in let p = c.in-Some.ensures in let may = rw is at p in
+    (search rules, (search rules, (holds_at (HasNamesBelow (64 * g.row.W)) s.script s.answered c.get-edit.result.now c.get-edit.ensures.edit c.self.invariant.2, may.1)))
