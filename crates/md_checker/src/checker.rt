@@ -14,7 +14,7 @@ ghost use Rattle.md_checker.specs.Standing.{Takes};
 
 use crate::graph_checker::GraphChecker;
 use crate::session_checker::SessionChecker;
-use md_graph::Memory;
+use md_graph::{Memory, WORDS};
 use md_input::{Format, Graphs, InputStop, one_graph, read_script};
 use md_report::{GraphMode, Line, LineFault, SessionMode, read_line};
 use std::alloc::Global;
@@ -32,7 +32,7 @@ enum Inner<'a> {
     // The report is over the graphs of a file.
     OverGraphs(GraphChecker<'a>),
     // The report is of a session.
-    OverSession(SessionChecker),
+    OverSession(SessionChecker<WORDS>),
 }
 
 impl<'a> Model for Checker<'a> {

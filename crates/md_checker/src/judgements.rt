@@ -1,5 +1,5 @@
 //! Whether a line is one that may report a graph, or answer an edit.
-ghost use Rattle.std.specs.Prelude.{◌≡◌, ◌↔◌, List, ◌∷◌, None, Ok, true, if◌then◌else◌, IfOk, IsErr, IsTrue};
+ghost use Rattle.std.specs.Prelude.{◌≡◌, ◌*◌, ◌↔◌, List, ◌∷◌, None, Ok, true, if◌then◌else◌, IfOk, IsErr, IsTrue};
 ghost use Rattle.md_graph.specs.PlainGraph.{PlainGraph, IsGraph, adjacent};
 ghost use Rattle.md_modules.specs.declared.induced_paths.P4.{P4};
 ghost use Rattle.md_comparability.specs.Chains.{HasForcingChain, IsForcingChain};
@@ -8,7 +8,7 @@ ghost use Rattle.md_forcing.specs.Sides.{adjacent_on};
 ghost use Rattle.md_tree.specs.Plain.{plain_option};
 ghost use Rattle.md_tree.specs.StrongTrees.{IsTree};
 ghost use Rattle.md_tree.specs.WellFormed.{IsWellFormed};
-ghost use Rattle.md_script.specs.Edit.{HasNames, reason_of, after};
+ghost use Rattle.md_script.specs.Edit.{HasNamesBelow, reason_of, after};
 ghost use Rattle.md_script.specs.declared.edit.Edit as script;
 ghost use Rattle.md_report.specs.declared.line.SessionMode.TheVariants.{Quiet};
 ghost use Rattle.md_report.specs.Lines.{PlainLine, line_text, plain_line, tree, applied, refused, not_cograph};
@@ -126,10 +126,10 @@ fn has_forcing_chain<const W: usize>(alloc: Global, graph: &GraphOf<W>) -> Resul
 }
 
 // Whether the line reports the first state of a session. Condition: the line is well-formed.
-pub(crate) fn reports_state(
+pub(crate) fn reports_state<const W: usize>(
     alloc: Global,
     mode: SessionMode,
-    graph: &Graph,
+    graph: &GraphOf<W>,
     line: &Line,
 ) -> Result<bool, Memory>
     requires { IsWellFormedLine (plain_line line.now) }
@@ -144,10 +144,10 @@ pub(crate) fn reports_state(
 
 // Whether the text is the word and behind it that of the tree of the graph, which may be a state of
 // a session of the mode; a false says nothing.
-pub(crate) fn is_word_and_state(
+pub(crate) fn is_word_and_state<const W: usize>(
     alloc: Global,
     mode: SessionMode,
-    graph: &Graph,
+    graph: &GraphOf<W>,
     word: &[u8],
     text: &[u8],
 ) -> Result<bool, Memory>
@@ -161,7 +161,7 @@ pub(crate) fn is_word_and_state(
 }
 
 // Whether the line tells of an induced P4 of the graph.
-fn is_path_line(graph: &Graph, line: &Line) -> bool
+fn is_path_line<const W: usize>(graph: &GraphOf<W>, line: &Line) -> bool
     ensures { IsTrue result ↔ HasP4Line not_cograph graph.now (plain_line line.now) }
 {
     match line {
@@ -172,10 +172,10 @@ fn is_path_line(graph: &Graph, line: &Line) -> bool
 
 // Whether the line is the one behind all answers, where the graph is the last state. Condition: the
 // line is well-formed.
-pub(crate) fn closes_edits(
+pub(crate) fn closes_edits<const W: usize>(
     alloc: Global,
     mode: SessionMode,
-    graph: &Graph,
+    graph: &GraphOf<W>,
     line: &Line,
 ) -> Result<bool, Memory>
     requires { IsWellFormedLine (plain_line line.now) }
@@ -189,7 +189,11 @@ pub(crate) fn closes_edits(
 }
 
 // Whether the line tells of an induced P4 of the graph, or of its tree where it is a cograph.
-fn is_opening_line(alloc: Global, graph: &Graph, line: &Line) -> Result<bool, Memory>
+fn is_opening_line<const W: usize>(
+    alloc: Global,
+    graph: &GraphOf<W>,
+    line: &Line,
+) -> Result<bool, Memory>
     requires { IsWellFormedLine (plain_line line.now) }
     ensures { IfOk result (λ fit. IsTrue fit ↔ IsOpeningLine graph.now (plain_line line.now)) }
 {
@@ -201,10 +205,10 @@ fn is_opening_line(alloc: Global, graph: &Graph, line: &Line) -> Result<bool, Me
 }
 
 // Whether the tree is that of the graph, which may be a state of a session of the mode.
-fn is_state_tree(
+fn is_state_tree<const W: usize>(
     alloc: Global,
     mode: SessionMode,
-    graph: &Graph,
+    graph: &GraphOf<W>,
     tree: &Option<Tree>,
 ) -> Result<bool, Memory>
     requires { IsWellFormed (plain_option tree.now) }
@@ -219,7 +223,11 @@ fn is_state_tree(
 }
 
 // Whether the graph is a cograph, and the tree is that of it.
-fn is_tree_of_cograph(alloc: Global, graph: &Graph, tree: &Option<Tree>) -> Result<bool, Memory>
+fn is_tree_of_cograph<const W: usize>(
+    alloc: Global,
+    graph: &GraphOf<W>,
+    tree: &Option<Tree>,
+) -> Result<bool, Memory>
     requires { IsWellFormed (plain_option tree.now) }
     ensures { IfOk result (λ fit. IsTrue fit ↔ (IsCograph graph.now
         × IsTree (adjacent graph.now) graph.now.vertices (plain_option tree.now))) }
@@ -233,16 +241,16 @@ fn is_tree_of_cograph(alloc: Global, graph: &Graph, tree: &Option<Tree>) -> Resu
 
 // Whether the line answers the edit at the graph, which then is the state behind it; else, and for
 // want of memory, it stays. Conditions: the line is well-formed, and the names in the edit are
-// names; in mode quiet the graph is a cograph.
-pub(crate) fn answers_edit(
+// below `64 * W`; in mode quiet the graph is a cograph.
+pub(crate) fn answers_edit<const W: usize>(
     alloc: Global,
     mode: SessionMode,
-    graph: &mut Graph,
+    graph: &mut GraphOf<W>,
     edit: &Edit,
     line: &Line,
 ) -> Result<bool, Memory>
     requires line { IsWellFormedLine (plain_line line.now) }
-    requires names { HasNames edit.now }
+    requires names { HasNamesBelow (64 * W) edit.now }
     requires cograph { mode ≡ Quiet → IsCograph graph.old }
     ensures may { IfOk result (λ taken.
         IsTrue taken ↔ AnswersEdit mode graph.old edit.now (plain_line line.now)) }
@@ -263,15 +271,15 @@ pub(crate) fn answers_edit(
 
 // Whether the text is that of a line that tells the tree of the graph after the edit, which then is
 // the state; else, and for want of memory, the graph stays. A false says nothing. Conditions: the
-// names in the edit are names, and the mode is not quiet.
-pub(crate) fn applies_by_text(
+// names in the edit are below `64 * W`, and the mode is not quiet.
+pub(crate) fn applies_by_text<const W: usize>(
     alloc: Global,
     mode: SessionMode,
-    graph: &mut Graph,
+    graph: &mut GraphOf<W>,
     edit: &Edit,
     text: &[u8],
 ) -> Result<bool, Memory>
-    requires names { HasNames edit.now }
+    requires names { HasNamesBelow (64 * W) edit.now }
     requires told { mode ≡ Quiet → ⊥ }
     ensures takes { IfOk result (λ taken. IsTrue taken → (edits : List script.Edit)
         → Takes (at_edits mode graph.old (edit.now ∷ edits)) text.now
@@ -307,15 +315,15 @@ fn is_refusal(line: &Line, reason: EditReason) -> bool
 // Whether the tree is that of the graph after the edit, which may be a state of a session of the
 // mode: the graph is that one then; else, and for want of memory, it stays. Condition: there is no
 // reason against the edit.
-fn is_applied(
+fn is_applied<const W: usize>(
     alloc: Global,
     mode: SessionMode,
-    graph: &mut Graph,
+    graph: &mut GraphOf<W>,
     edit: &Edit,
     tree: &Option<Tree>,
 ) -> Result<bool, Memory>
     requires applies { reason_of graph.old edit.now ≡ None }
-    requires names { HasNames edit.now }
+    requires names { HasNamesBelow (64 * W) edit.now }
     requires tree { IsWellFormed (plain_option tree.now) }
     ensures may { IfOk result (λ fit. IsTrue fit
         ↔ IsStateTree mode (after graph.old edit.now) (plain_option tree.now)) }
@@ -335,9 +343,9 @@ fn is_applied(
 // Whether the graph after the edit may be a state of a session of the mode, of which no tree is
 // told: the graph is that one then, and else stays. Conditions: there is no reason against the
 // edit, and in mode quiet the graph is a cograph.
-fn is_applied_alone(mode: SessionMode, graph: &mut Graph, edit: &Edit) -> bool
+fn is_applied_alone<const W: usize>(mode: SessionMode, graph: &mut GraphOf<W>, edit: &Edit) -> bool
     requires applies { reason_of graph.old edit.now ≡ None }
-    requires names { HasNames edit.now }
+    requires names { HasNamesBelow (64 * W) edit.now }
     requires cograph { mode ≡ Quiet → IsCograph graph.old }
     ensures may { IsTrue result ↔ IsStateAlone mode (after graph.old edit.now) }
     ensures next { graph.new ≡ (if result then after graph.old edit.now else graph.old) }
@@ -351,9 +359,9 @@ fn is_applied_alone(mode: SessionMode, graph: &mut Graph, edit: &Edit) -> bool
 
 // Whether the graph after the edit is a cograph: the graph is that one then, and else stays.
 // Conditions: there is no reason against the edit, and the graph is a cograph.
-fn keeps_cograph(graph: &mut Graph, edit: &Edit) -> bool
+fn keeps_cograph<const W: usize>(graph: &mut GraphOf<W>, edit: &Edit) -> bool
     requires applies { reason_of graph.old edit.now ≡ None }
-    requires names { HasNames edit.now }
+    requires names { HasNamesBelow (64 * W) edit.now }
     requires cograph { IsCograph graph.old }
     ensures may { IsTrue result ↔ IsCograph (after graph.old edit.now) }
     ensures next { graph.new ≡ (if result then after graph.old edit.now else graph.old) }
@@ -379,9 +387,14 @@ fn is_true(answer: &Result<bool, Memory>) -> bool
 
 // Whether the mode refuses the edit since the graph after it has the induced P4. The graph stays.
 // Condition: there is no reason against the edit.
-fn is_refused_p4(mode: SessionMode, graph: &mut Graph, edit: &Edit, p: &P4) -> bool
+fn is_refused_p4<const W: usize>(
+    mode: SessionMode,
+    graph: &mut GraphOf<W>,
+    edit: &Edit,
+    p: &P4,
+) -> bool
     requires applies { reason_of graph.old edit.now ≡ None }
-    requires names { HasNames edit.now }
+    requires names { HasNamesBelow (64 * W) edit.now }
     ensures is { IsTrue result ↔ IsRefusedPath mode (after graph.old edit.now) p.now }
     ensures stays { graph.new ≡ graph.old }
 {
@@ -393,7 +406,7 @@ fn is_refused_p4(mode: SessionMode, graph: &mut Graph, edit: &Edit, p: &P4) -> b
 }
 
 // Whether no state of a session of the mode may have an induced P4, and the graph has this one.
-fn is_path_of_state(mode: SessionMode, graph: &Graph, p: &P4) -> bool
+fn is_path_of_state<const W: usize>(mode: SessionMode, graph: &GraphOf<W>, p: &P4) -> bool
     ensures { IsTrue result ↔ IsRefusedPath mode graph.now p.now }
 {
     match mode {

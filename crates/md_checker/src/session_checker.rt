@@ -1,6 +1,8 @@
 //! Checks the lines of a report of a session, one after the other.
-ghost use Rattle.std.specs.Prelude.{◌≡◌, ◌≤◌, ◌<◌, ◌+◌, ◌↔◌, List, [], if◌then◌else◌, length, drop, IfOk, IfSome, IfNone, IsErr, IsTrue};
+ghost use Rattle.std.specs.Prelude.{◌≡◌, ◌*◌, ◌≤◌, ◌<◌, ◌+◌, ◌↔◌, List, [], if◌then◌else◌, length, drop, IfOk, IfSome, IfNone, IsErr, IsTrue};
 ghost use Rattle.md_graph.specs.PlainGraph.{PlainGraph};
+ghost use Rattle.std.specs.List.{All};
+ghost use Rattle.md_script.specs.Edit.{HasNamesBelow};
 ghost use Rattle.md_script.specs.declared.edit.Edit as script;
 ghost use Rattle.md_report.specs.declared.line.SessionMode.TheVariants.{Quiet};
 ghost use Rattle.md_report.specs.Lines.{plain_line};
@@ -14,7 +16,7 @@ use crate::fixed_lines::{is_end, is_head};
 use crate::judgements::{
     answers_edit, applies_by_text, closes_edits, is_word_and_state, reports_state,
 };
-use md_graph::{Graph, Memory};
+use md_graph::{GraphOf, Memory};
 use md_modules::find_p4;
 use md_report::{Line, SessionMode};
 use md_script::Script;
@@ -56,17 +58,17 @@ struct Step {
 }
 
 // What may still come of a report of a session: it is seen as a place of the report. It keeps the
-// state, and how many edits of the script are answered or need no answer.
+// state, on names below `64 * W`, and how many edits of the script are answered or need no answer.
 #[derive(Drop)]
-pub(crate) struct SessionChecker {
+pub(crate) struct SessionChecker<const W: usize> {
     mode: SessionMode,
     due: SessionDue,
-    graph: Graph,
+    graph: GraphOf<W>,
     script: Script,
     answered: u64,
 }
 
-impl Model for SessionChecker {
+impl<const W: usize> Model for SessionChecker<W> {
     ghost use Rattle.std.specs.Prelude.{◌≤◌, length, drop};
     ghost use Rattle.md_report.specs.Places.{Place};
     ghost use Rattle.md_checker.specs.Codes.{place_code};
@@ -78,12 +80,19 @@ impl Model for SessionChecker {
 
     ghost view = { λ c. session_place c.due c.mode c.graph (drop c.answered c.script) };
 
-    ghost invariant = { λ c. (c.answered ≤ length c.script) × StaysCograph c.due c.mode c.graph };
+    ghost use Rattle.std.specs.Prelude.{◌*◌};
+    ghost use Rattle.std.specs.List.{All};
+    ghost use Rattle.md_script.specs.Edit.{HasNamesBelow};
+
+    ghost invariant = { λ c. (c.answered ≤ length c.script) × StaysCograph c.due c.mode c.graph
+        × All (HasNamesBelow (64 * W)) c.script };
 }
 
-impl SessionChecker {
+impl<const W: usize> SessionChecker<W> {
     // The checker of a report of a session on this graph over this script, before its head.
-    pub(crate) fn new(mode: SessionMode, graph: Graph, script: Script) -> SessionChecker
+    // Condition: the names in the script are below `64 * W`.
+    pub(crate) fn new(mode: SessionMode, graph: GraphOf<W>, script: Script) -> SessionChecker<W>
+        requires { All (HasNamesBelow (64 * W)) script }
         ensures { result ≡ before_session mode graph script }
     {
         SessionChecker {
@@ -191,16 +200,18 @@ impl SessionChecker {
 
 // Where the line leads behind the head of a session, the graph being the first state; the graph is
 // then the state behind the line. None where the line may not come; the graph stays then, and for
-// want of memory. Condition: the line is well-formed.
-fn opens(
+// want of memory. Conditions: the line is well-formed, and
+// the names in the script are below `64 * W`.
+fn opens<const W: usize>(
     alloc: Global,
     mode: SessionMode,
-    graph: &mut Graph,
+    graph: &mut GraphOf<W>,
     script: &Script,
     answered: u64,
     line: &Line,
 ) -> Result<Option<Step>, Memory>
     requires line { IsWellFormedLine (plain_line line.now) }
+    requires names { All (HasNamesBelow (64 * W)) script.now }
     requires room { answered ≤ length script.now }
     ensures leads { IfOk result (λ next. IfSome next (λ step. IsStep
         (at_state mode graph.old (drop answered script.now)) (plain_line line.now) step mode
@@ -219,10 +230,10 @@ fn opens(
 
 // The same in a mode whose reports tell of the first state. Condition: the line is well-formed, and
 // the mode is not quiet.
-fn opens_told(
+fn opens_told<const W: usize>(
     alloc: Global,
     mode: SessionMode,
-    graph: &Graph,
+    graph: &GraphOf<W>,
     script: &Script,
     answered: u64,
     line: &Line,
@@ -260,14 +271,15 @@ fn answered_behind(script: &Script, answered: u64, line: &Line) -> u64
 
 // The same in mode quiet, where a cograph has no line of its own. Condition: the line is
 // well-formed.
-fn opens_quiet(
+fn opens_quiet<const W: usize>(
     alloc: Global,
-    graph: &mut Graph,
+    graph: &mut GraphOf<W>,
     script: &Script,
     answered: u64,
     line: &Line,
 ) -> Result<Option<Step>, Memory>
     requires line { IsWellFormedLine (plain_line line.now) }
+    requires names { All (HasNamesBelow (64 * W)) script.now }
     requires room { answered ≤ length script.now }
     ensures leads { IfOk result (λ next. IfSome next (λ step. IsStep
         (at_state Quiet graph.old (drop answered script.now)) (plain_line line.now) step Quiet
@@ -293,15 +305,16 @@ fn opens_quiet(
 // Where the line leads at the edits, the graph being the state; the graph is then the state behind
 // the line. None where the line may not come; the graph stays then, and for want of memory.
 // Conditions: the line is well-formed; in mode quiet the graph is a cograph.
-fn comes(
+fn comes<const W: usize>(
     alloc: Global,
     mode: SessionMode,
-    graph: &mut Graph,
+    graph: &mut GraphOf<W>,
     script: &Script,
     answered: u64,
     line: &Line,
 ) -> Result<Option<Step>, Memory>
     requires line { IsWellFormedLine (plain_line line.now) }
+    requires names { All (HasNamesBelow (64 * W)) script.now }
     requires room { answered ≤ length script.now }
     requires cograph { mode ≡ Quiet → IsCograph graph.old }
     ensures leads { IfOk result (λ next. IfSome next (λ step. IsStep

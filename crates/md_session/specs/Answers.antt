@@ -1,19 +1,19 @@
 -- What a session on cographs answers, and the graph that it then has.
 -- Source: Corneil, Perl and Stewart, A linear recognition algorithm for cographs; the answers are this project's.
-use Rattle.std.specs.Prelude.{◌≡◌, ◌⊎◌, Option, Some, None}
+use Rattle.std.specs.Prelude.{◌≡◌, ℕ, ◌⊎◌, Option, Some, None}
 use Rattle.md_graph.specs.PlainGraph.{PlainGraph}
 use Rattle.md_modules.specs.declared.induced_paths.P4.{P4}
 use Rattle.md_script.specs.declared.edit.Edit.{Edit}
 use Rattle.md_script.specs.declared.edit.EditReason.{EditReason}
 use Rattle.md_script.specs.Edit.{reason_of, after}
 use Rattle.md_report.specs.Cographs.{IsP4Of, IsCograph}
-use Rattle.md_session.specs.declared.cograph.Opened as opened
-use Rattle.md_session.specs.declared.cograph.Opened.TheVariants.{Session, NotCograph}
+use Rattle.md_session.specs.declared.cograph.OpenedOf as opened
+use Rattle.md_session.specs.declared.cograph.OpenedOf.TheVariants.{Session, NotCograph}
 use Rattle.md_session.specs.declared.cograph.Answer as answers
 use Rattle.md_session.specs.declared.cograph.Answer.TheVariants.{Applied, Refused, RefusedP4}
 
 -- a session is opened on a cograph, and has that graph; of any other graph an induced P4 is told
-abbrev pub IsOpened : PlainGraph → opened.Opened → Type 0
+abbrev pub IsOpened : {w : ℕ} → PlainGraph → opened.OpenedOf w → Type 0
 IsOpened g (Session s) = (s ≡ g) × IsCograph g
 IsOpened g (NotCograph p) = IsP4Of g p
 

@@ -1,5 +1,5 @@
 //! Sessions on cographs: an edit that would make an induced P4 is refused with it.
-ghost use Rattle.std.specs.Prelude.{◌≡◌, ◌+◌, ◌≤◌, Bool, true, false, Option, None, IfOk};
+ghost use Rattle.std.specs.Prelude.{◌≡◌, ◌+◌, ◌*◌, ◌≤◌, Bool, true, false, Option, None, IfOk};
 ghost use Rattle.std.specs.FinSet as set;
 ghost use Rattle.md_graph.specs.PlainGraph.{PlainGraph, adjacent};
 ghost use Rattle.md_modules.specs.InducedPaths.{HasInducedPath};
@@ -7,7 +7,7 @@ ghost use Rattle.md_tree.specs.StrongTrees.{IsTree};
 ghost use Rattle.md_tree.specs.Trees.{PlainTree, nodes_in};
 ghost use Rattle.md_tree.specs.Plain.{plain_option};
 ghost use Rattle.md_cotree.specs.Cotrees.{Denotes};
-ghost use Rattle.md_script.specs.Edit.{HasNames, reason_of, after};
+ghost use Rattle.md_script.specs.Edit.{HasNames, HasNamesBelow, reason_of, after};
 ghost use Rattle.md_report.specs.Cographs.{IsP4Of, IsCograph};
 ghost use Rattle.md_session.specs.Answers.{IsOpened, IsAnswered};
 ghost use Rattle.md_session.specs.Costs.{edit_cost};
@@ -16,7 +16,7 @@ use crate::first_path::any_p4;
 use md_cotree::{Cotree, from_tree};
 use md_cotree_edit::{add_edge, add_vertex, del_edge, del_vertex};
 use md_decompose::decompose;
-use md_graph::{Graph, Memory, Steps};
+use md_graph::{GraphOf, Memory, Steps, WORDS};
 use md_modules::P4;
 use md_report::made_p4;
 use md_script::{Edit, EditReason, lost_row, reason, take_back};
@@ -25,14 +25,18 @@ use std::alloc::Global;
 use std::marker::Model;
 use std::sync::ledger::Ledger;
 
-/// A session on a cograph. It keeps the graph and its cotree, which an edit changes in place.
+/// A session on a cograph on names below `64 * W`. It keeps the graph and its cotree, which an edit
+/// changes in place.
 #[derive(Drop)]
-pub struct CographSession {
-    graph: Graph,
+pub struct CographSessionOf<const W: usize> {
+    graph: GraphOf<W>,
     tree: Cotree,
 }
 
-impl Model for CographSession {
+/// A session on a cograph.
+pub type CographSession = CographSessionOf<WORDS>;
+
+impl<const W: usize> Model for CographSessionOf<W> {
     ghost use Rattle.md_graph.specs.PlainGraph.{PlainGraph, graph_code};
 
     ghost Value = { PlainGraph };
@@ -49,12 +53,15 @@ impl Model for CographSession {
 
 /// What comes of a graph that a session on cographs is to begin with.
 #[derive(Drop)]
-pub enum Opened {
+pub enum OpenedOf<const W: usize> {
     /// The session.
-    Session(CographSession),
+    Session(CographSessionOf<W>),
     /// The graph has this induced P4.
     NotCograph(P4),
 }
+
+/// What comes of a graph that a session on cographs is to begin with, at the widest rows.
+pub type Opened = OpenedOf<WORDS>;
 
 /// What comes of an edit.
 #[derive(Clone, Copy, Debug, PartialEq, Eq)]
@@ -67,21 +74,21 @@ pub enum Answer {
     RefusedP4(P4),
 }
 
-impl CographSession {
+impl<const W: usize> CographSessionOf<W> {
     /// The session whose graph is the one handed in; `NotCograph` exactly where that has an induced
     /// P4, with one. It decomposes the graph, and looks for a P4 from the names of a prime node's
     /// children. Errors: want of memory.
-    pub fn new(alloc: Global, graph: Graph) -> Result<Opened, Memory>
+    pub fn new(alloc: Global, graph: GraphOf<W>) -> Result<OpenedOf<W>, Memory>
         ensures { IfOk result (λ opened. IsOpened graph opened) }
     {
         let _vertices = graph.vertices();
         let tree = decompose(alloc, &graph)?;
         if has_no_prime(&tree) {
             let tree = from_tree(alloc, &tree)?;
-            return Ok(Opened::Session(CographSession { graph, tree }));
+            return Ok(OpenedOf::Session(CographSessionOf { graph, tree }));
         }
         match any_p4(&graph, &tree) {
-            Some(p) => Ok(Opened::NotCograph(p)),
+            Some(p) => Ok(OpenedOf::NotCograph(p)),
             None => unreachable!(),
         }
     }
@@ -120,12 +127,13 @@ impl CographSession {
     /// Answers an edit: refuses it where there is a reason against it, or where the graph after it
     /// would have an induced P4, and the graph then stays; else changes the graph. What a refusal
     /// leaves is told of the graph: `cotree` lends a cotree of that graph, as before. It takes no
-    /// memory. Condition: the names in the edit are names.
+    /// memory. Condition: the names in the edit are below `64 * W`.
     pub fn apply<L: Ledger>(&mut self, edit: &Edit, steps: &mut Steps<L>) -> Answer
-        requires { HasNames edit.now }
+        requires { HasNamesBelow (64 * W) edit.now }
         ensures answer { IsAnswered self.old edit.now result self.new }
         ensures bound { steps.new ≤ steps.old + edit_cost self.old edit.now }
     {
+        let _vertices = self.graph.vertices();
         if let Some(reason) = reason(&self.graph, edit) {
             return Answer::Refused(reason);
         }
@@ -165,11 +173,12 @@ fn change<L: Ledger>(tree: &mut Cotree, edit: &Edit, steps: &mut Steps<L>) -> bo
 }
 
 // An induced P4 of the graph after an edit; the graph stays. Conditions: the graph is a cograph,
-// and the one after the edit isn't; no reason speaks against the edit, and its names are names.
-fn p4_behind(graph: &mut Graph, edit: &Edit) -> P4
+// and the one after the edit isn't; no reason speaks against the edit, and its names are below
+// `64 * W`.
+fn p4_behind<const W: usize>(graph: &mut GraphOf<W>, edit: &Edit) -> P4
     requires cograph { IsCograph graph.old }
     requires applies { reason_of graph.old edit.now ≡ None }
-    requires names { HasNames edit.now }
+    requires names { HasNamesBelow (64 * W) edit.now }
     requires made { HasInducedPath (adjacent (after graph.old edit.now))
         (after graph.old edit.now).vertices }
     ensures path { IsP4Of (after graph.old edit.now) result }

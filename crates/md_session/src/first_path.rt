@@ -4,14 +4,14 @@ ghost use Rattle.md_graph.specs.PlainGraph.{adjacent};
 ghost use Rattle.md_modules.specs.InducedPaths.{HasInducedPath};
 ghost use Rattle.md_report.specs.Cographs.{IsP4Of};
 
-use md_graph::{Graph, NAMES};
+use md_graph::{GraphOf, NAMES};
 use md_modules::{P4, find_p4, find_p4_with};
 use md_tree::{Children, Kind, Tree};
 
 /// An induced P4 of a graph; none exactly where it has none. The tree only says where to look: in a
 /// prime node at most one child has no name in a P4, so that two searches suffice where the tree is
 /// that of the graph and has such a node.
-pub(crate) fn any_p4(graph: &Graph, tree: &Option<Tree>) -> Option<P4>
+pub(crate) fn any_p4<const W: usize>(graph: &GraphOf<W>, tree: &Option<Tree>) -> Option<P4>
     ensures found { IfSome result (IsP4Of graph.now) }
     ensures none { IfNone result (HasInducedPath (adjacent graph.now) graph.now.vertices → ⊥) }
 {
@@ -25,7 +25,7 @@ pub(crate) fn any_p4(graph: &Graph, tree: &Option<Tree>) -> Option<P4>
 
 // An induced P4 through a child of a prime node, the first in the order of the tree that gives one.
 #[cycle(search)]
-fn p4_at_prime(graph: &Graph, tree: &Tree) -> Option<P4>
+fn p4_at_prime<const W: usize>(graph: &GraphOf<W>, tree: &Tree) -> Option<P4>
     ensures { IfSome result (IsP4Of graph.now) }
 {
     match tree {
@@ -36,7 +36,7 @@ fn p4_at_prime(graph: &Graph, tree: &Tree) -> Option<P4>
 }
 
 #[cycle(search)]
-fn p4_below(graph: &Graph, children: &Children) -> Option<P4>
+fn p4_below<const W: usize>(graph: &GraphOf<W>, children: &Children) -> Option<P4>
     ensures { IfSome result (IsP4Of graph.now) }
 {
     for child in &children.list {
@@ -48,7 +48,7 @@ fn p4_below(graph: &Graph, children: &Children) -> Option<P4>
 }
 
 // An induced P4 through the first leaf of a child.
-fn p4_through(graph: &Graph, children: &Children) -> Option<P4>
+fn p4_through<const W: usize>(graph: &GraphOf<W>, children: &Children) -> Option<P4>
     ensures { IfSome result (IsP4Of graph.now) }
 {
     for child in &children.list {

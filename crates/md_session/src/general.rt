@@ -1,27 +1,30 @@
 //! Sessions on any graph: the tree is computed anew after each edit.
-ghost use Rattle.std.specs.Prelude.{◌≡◌, IfOk, IsErr};
+ghost use Rattle.std.specs.Prelude.{◌≡◌, ◌*◌, IfOk, IsErr};
 ghost use Rattle.md_graph.specs.PlainGraph.{adjacent};
 ghost use Rattle.md_tree.specs.StrongTrees.{IsTree};
 ghost use Rattle.md_tree.specs.Plain.{plain_option};
-ghost use Rattle.md_script.specs.Edit.{HasNames};
+ghost use Rattle.md_script.specs.Edit.{HasNamesBelow};
 ghost use Rattle.md_report.specs.Lines.{plain_line};
 ghost use Rattle.md_report.specs.Sessions.{SessionStep};
 
 use md_decompose::decompose;
-use md_graph::{Graph, Memory};
+use md_graph::{GraphOf, Memory, WORDS};
 use md_report::Line;
 use md_script::{Edit, lost_row, reason, take_back};
 use md_tree::Tree;
 use std::alloc::Global;
 use std::marker::Model;
 
-/// A session on any graph. It keeps the graph alone.
+/// A session on any graph on names below `64 * W`. It keeps the graph alone.
 #[derive(Drop)]
-pub struct GeneralSession {
-    graph: Graph,
+pub struct GeneralSessionOf<const W: usize> {
+    graph: GraphOf<W>,
 }
 
-impl Model for GeneralSession {
+/// A session on any graph.
+pub type GeneralSession = GeneralSessionOf<WORDS>;
+
+impl<const W: usize> Model for GeneralSessionOf<W> {
     ghost use Rattle.md_graph.specs.PlainGraph.{PlainGraph, graph_code};
 
     ghost Value = { PlainGraph };
@@ -31,12 +34,12 @@ impl Model for GeneralSession {
     ghost view = { λ s. s.graph };
 }
 
-impl GeneralSession {
+impl<const W: usize> GeneralSessionOf<W> {
     /// The session whose graph is the one handed in.
-    pub fn new(graph: Graph) -> GeneralSession
+    pub fn new(graph: GraphOf<W>) -> GeneralSessionOf<W>
         ensures { result ≡ graph }
     {
-        GeneralSession { graph }
+        GeneralSessionOf { graph }
     }
 
     /// The tree of strong modules of the graph, none where it has no vertices. Errors: want of
@@ -49,10 +52,10 @@ impl GeneralSession {
     }
 
     /// Answers an edit: refuses it where there is a reason against it, and the graph stays; else
-    /// changes the graph, and gives its tree. Condition: the names in the edit are names. Errors:
-    /// want of memory; the graph then stays.
+    /// changes the graph, and gives its tree. Condition: the names in the edit are below
+    /// `64 * W`. Errors: want of memory; the graph then stays.
     pub fn apply(&mut self, alloc: Global, edit: &Edit) -> Result<Line, Memory>
-        requires { HasNames edit.now }
+        requires { HasNamesBelow (64 * W) edit.now }
         ensures step { IfOk result (λ line.
             SessionStep self.old edit.now (plain_line line) self.new) }
         ensures stays { IsErr result → self.new ≡ self.old }

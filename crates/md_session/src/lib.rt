@@ -5,8 +5,8 @@ mod cograph;
 mod first_path;
 mod general;
 
-pub use cograph::{Answer, CographSession, Opened};
-pub use general::GeneralSession;
+pub use cograph::{Answer, CographSession, CographSessionOf, Opened, OpenedOf};
+pub use general::{GeneralSession, GeneralSessionOf};
 
 #[cfg(test)]
 mod tests;

@@ -2,10 +2,10 @@
 ghost use Rattle.std.specs.Prelude.{◌≡◌, ◌<◌};
 
 use super::*;
-use md_graph::{Graph, Memory, Steps};
+use md_graph::{Graph, GraphOf, Memory, Steps};
 use md_modules::P4;
 use md_report::{Line, write_line};
-use md_script::{EditReason, Script, read_script};
+use md_script::{Edit, EditReason, Script, read_script};
 use std::alloc::Global;
 use std::marker::Brand;
 use std::process::Abort;
@@ -70,6 +70,11 @@ fn sessions(rt: HostRuntime) -> Result<(), Fail> {
         let script = read_script(rt.alloc(), file.as_bytes())?;
         check(&rt, rt.alloc(), &script, &lines, last)?;
     }
+    let graph = GraphOf::<1>::from_edges(rt.alloc(), 3, &[(0, 1)])?.expect(&rt, "edges");
+    let mut narrow = GeneralSessionOf::new(graph);
+    let line = narrow.apply(rt.alloc(), &Edit::AddEdge { u: 1, v: 2 })?;
+    let text = write_line(rt.alloc(), &line)?;
+    assert_eq!(&rt; text.as_slice(), "ok S(P(0,2),1)".as_bytes());
     Ok(())
 }
 
@@ -103,6 +108,13 @@ fn answers<L: Ledger>(
     assert_eq!(rt; text.as_slice(), "t S(P(0,2),1)".as_bytes());
     assert_eq!(rt; session.node_count(), 5);
     assert_eq!(rt; session.cotree().leaves, 3);
+    let graph = GraphOf::<1>::from_edges(alloc, 3, &[(0, 1)])?.expect(rt, "edges");
+    let OpenedOf::Session(mut narrow) = CographSessionOf::new(alloc, graph)? else {
+        panic!(rt; "no session at one word");
+    };
+    let edit = Edit::DelVertex { x: 1 };
+    assert_eq!(rt; narrow.apply(&edit, &mut steps), Answer::Applied);
+    assert_eq!(rt; narrow.vertex_count(), 2);
     Ok(())
 }
 

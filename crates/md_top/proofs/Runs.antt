@@ -19,8 +19,8 @@ use Rattle.md_report.specs.Cographs.{IsP4Of, IsQuietLine, IsQuietLineBy, QuietRu
 use Rattle.md_session.specs.declared.cograph.Answer as answers
 use Rattle.md_session.specs.declared.cograph.Answer.TheVariants.{Applied, Refused, RefusedP4}
 use Rattle.md_session.specs.Answers.{IsOpened, IsAnswered, IsAnsweredBy}
-use Rattle.md_session.specs.declared.cograph.Opened as opened
-use Rattle.md_session.specs.declared.cograph.Opened.TheVariants.{NotCograph}
+use Rattle.md_session.specs.declared.cograph.OpenedOf as opened
+use Rattle.md_session.specs.declared.cograph.OpenedOf.TheVariants.{NotCograph}
 use Rattle.md_top.specs.Big.{edits_below, neighbours_before, deletions_at, RunsTo}
 
 -- no edit
@@ -94,7 +94,7 @@ runs_next edits_at v g h k a b c d r s =
     (runs_append g h k (edits_below edits_at v) (edits_at v) a b c d r s)
 
 -- the graph without vertices has no induced P4
-pub no_p4 : (g : PlainGraph) (o : opened.Opened) (p : P4) → o ≡ NotCograph p → g ≡ empty_graph → IsOpened g o → ⊥
+pub no_p4 : {w : ℕ} (g : PlainGraph) (o : opened.OpenedOf w) (p : P4) → o ≡ NotCograph p → g ≡ empty_graph → IsOpened g o → ⊥
 no_p4 g o p is none told =
     let path : IsP4Of g p = subst (IsOpened g) is told in
     clash (subst (λ (x : PlainGraph). Has x.vertices p.a) none path.inside.0) (empty_lacks p.a)

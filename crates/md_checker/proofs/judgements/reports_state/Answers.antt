@@ -1,7 +1,7 @@
 use Rattle.md_checker.proofs.judgements.reports_state.Goals as goal
 
 pub returns-in-Edit : goal.returns-in-Edit
-returns-in-Edit c = rw c.in-Edit.is c.is_tree_line.ensures
+returns-in-Edit g c = rw c.in-Edit.is c.is_tree_line.ensures
 
 pub returns-in-Cograph : goal.returns-in-Cograph
-returns-in-Cograph c = rw c.in-Cograph.is c.is_opening_line.ensures
+returns-in-Cograph g c = rw c.in-Cograph.is c.is_opening_line.ensures

@@ -1,14 +1,19 @@
-use Rattle.std.proofs.Common.{◌≡◌, None, sym, ◌∙◌, subst, refl}
+use Rattle.std.proofs.Common.{◌≡◌, None, sym, ◌∙◌, subst, refl, rules}
+use Rattle.md_graph.proofs.Limits.{words_few}
 use Rattle.md_script.specs.Edit.{reason_of}
+use Rattle.md_script.proofs.ChangeLemmas.{names_within}
 use Rattle.md_cotree.specs.Cotrees.{Denotes}
 use Rattle.md_cotree.proofs.NoPaths.{cotree_no_path}
 use Rattle.md_session.specs.Answers.{IsAnswered}
 use Rattle.md_session.specs.declared.cograph.Answer.TheVariants.{Applied, RefusedP4}
 use Rattle.md_session.proofs.MadePaths.{refused_with, applied_to}
-use Rattle.md_session.proofs.cograph.CographSession.apply.Goals as goal
+use Rattle.md_session.proofs.cograph.CographSessionOf.apply.Goals as goal
 
 pub change-requires-clause-denotes : goal.change-requires-clause-denotes
 change-requires-clause-denotes g c = (c.self.inside.graph, c.self.invariant.1, sym c.reason.ensures ∙ c.in_default.is)
+
+pub change-requires-clause-names : goal.change-requires-clause-names
+change-requires-clause-names g c = names_within (words_few g.row.W c.vertices-vertices.ensures.limit) c.args.edit.now c.requires
 
 pub invariant_of-self : goal.invariant_of-self
 invariant_of-self g c =
@@ -27,9 +32,10 @@ returns-then-change-clause-answer g c =
     subst (λ h. IsAnswered h edit Applied c.apply.new.graph) c.self.view_is
     (applied_to s edit none c.apply.new.graph c.apply.ensures (cotree_no_path c.change.new.tree c.apply.new.graph den))
 
-pub p4_behind-requires-clause-made : goal.p4_behind-requires-clause-made
-p4_behind-requires-clause-made g c =
-    c.change.ensures.refused c.self.inside.graph c.self.invariant.1 (sym c.reason.ensures ∙ c.in_default.is) c.if-change.false
+pub p4_behind-requires : goal.p4_behind-requires
+p4_behind-requires g c =
+    (search rules, (search rules, (c.self.invariant.0, (sym c.reason.ensures ∙ c.in_default.is, (c.requires,
+    c.change.ensures.refused c.self.inside.graph c.self.invariant.1 (sym c.reason.ensures ∙ c.in_default.is) c.if-change.false)))))
 
 pub returns-clause-answer : goal.returns-clause-answer
 returns-clause-answer g c =
