@@ -200,8 +200,8 @@ impl<const W: usize> SessionChecker<W> {
 
 // Where the line leads behind the head of a session, the graph being the first state; the graph is
 // then the state behind the line. None where the line may not come; the graph stays then, and for
-// want of memory. Conditions: the line is well-formed, and
-// the names in the script are below `64 * W`.
+// want of memory. Conditions: the line is well-formed, and the names in the script are below
+// `64 * W`.
 fn opens<const W: usize>(
     alloc: Global,
     mode: SessionMode,
