@@ -13,3 +13,4 @@ pub mod AllFree
 pub mod Beside
 pub mod Marks
 pub mod Loose
+pub mod Fresh

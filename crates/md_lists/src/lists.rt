@@ -1,13 +1,14 @@
 //! Linked lists in place.
-ghost use Rattle.std.specs.Prelude.{◌≡◌, ◌≢◌, ℕ, ◌+◌, ◌<◌, ◌≤◌, List, [], ◌∷◌, ◌++◌, length, IfOk, IsSome, vec_len, vec_capacity, IfSome, ◌^◌, Some, None, slice_set, ◌==◌, if◌then◌else◌};
+ghost use Rattle.std.specs.Prelude.{◌≡◌, ◌≢◌, ℕ, ◌+◌, ◌-◌, ◌<◌, ◌≤◌, List, [], ◌∷◌, ◌++◌, length, IfOk, IsSome, IfSome, vec_len, vec_capacity, ◌^◌, Some, None, slice_set, ◌==◌, if◌then◌else◌};
+ghost use Rattle.md_lists.specs.Kept.{last_places};
 ghost use Rattle.md_lists.specs.Words.{behind};
-ghost use Rattle.md_graph.specs.Linked.{first_or, times};
+ghost use Rattle.md_graph.specs.Linked.{first_or};
 ghost use Rattle.md_lists.specs.Links.{kind_at, parent_at, children_at, tally_at, note_at, IsLive, IsMarked, IsBare, AreLinks, spare_count, siblings, all_free, with_kind, attached, detached, replaced, raised, noted, unmarked};
 ghost use Rattle.md_lists.specs.Spans.{span_of, linked};
 
 use crate::span::{Span, link};
 use crate::{PLACES, PlaceKind};
-use md_graph::{Memory, Steps, copies_of};
+use md_graph::{Memory, Steps, Table};
 use std::alloc::Global;
 use std::marker::Model;
 use std::sync::ledger::Ledger;
@@ -17,20 +18,23 @@ use std::sync::ledger::Ledger;
 /// and the marked places are a list in the order in which they came onto it. That no place is below
 /// itself is for the caller to keep.
 ///
-/// All memory is taken when the lists are made. Each call but `new` and `spare` is one step on the
-/// counter that it is lent, and reads or changes a bounded number of places.
+/// All memory is taken when the lists are made; a place costs nothing before it is first used. Each
+/// call but `new` and `spare` is one step on the counter that it is lent, and reads or changes a
+/// bounded number of places.
 #[derive(Drop)]
 pub struct Lists {
-    kinds: Vec<Option<PlaceKind>>,
-    parents: Vec<Option<u32>>,
-    spans: Vec<Span>,
-    nexts: Vec<Option<u32>>,
-    previous: Vec<Option<u32>>,
-    tallies: Vec<u32>,
-    notes: Vec<u32>,
+    kinds: Table<Option<PlaceKind>>,
+    parents: Table<Option<u32>>,
+    spans: Table<Span>,
+    nexts: Table<Option<u32>>,
+    previous: Table<Option<u32>>,
+    tallies: Table<u32>,
+    notes: Table<u32>,
     marks: Span,
-    mark_nexts: Vec<Option<u32>>,
+    mark_nexts: Table<Option<u32>>,
+    // The free places below `fresh`; all places from `fresh` on are free too, and never were live.
     free: Vec<u32>,
+    fresh: u32,
 }
 
 impl Model for Lists {
@@ -52,16 +56,17 @@ impl Lists {
         ensures links { IfOk result AreLinks }
     {
         Ok(Lists {
-            kinds: copies_of(alloc, PLACES, None)?,
-            parents: copies_of(alloc, PLACES, None)?,
-            spans: copies_of(alloc, PLACES, Span::empty())?,
-            nexts: copies_of(alloc, PLACES, None)?,
-            previous: copies_of(alloc, PLACES, None)?,
-            tallies: copies_of(alloc, PLACES, 0)?,
-            notes: copies_of(alloc, PLACES, 0)?,
+            kinds: Table::new(alloc, PLACES, None)?,
+            parents: Table::new(alloc, PLACES, None)?,
+            spans: Table::new(alloc, PLACES, Span::empty())?,
+            nexts: Table::new(alloc, PLACES, None)?,
+            previous: Table::new(alloc, PLACES, None)?,
+            tallies: Table::new(alloc, PLACES, 0)?,
+            notes: Table::new(alloc, PLACES, 0)?,
             marks: Span::empty(),
-            mark_nexts: copies_of(alloc, PLACES, None)?,
-            free: all_places(alloc)?,
+            mark_nexts: Table::new(alloc, PLACES, None)?,
+            free: Vec::with_capacity(alloc, PLACES as usize)?,
+            fresh: 0,
         })
     }
 
@@ -70,7 +75,7 @@ impl Lists {
         ensures spare { result ≡ spare_count self.now }
         ensures links { AreLinks self.now }
     {
-        self.free.len() as u32
+        self.free.len() as u32 + (PLACES - self.fresh)
     }
 
     /// A place that was free, now live, without parent, children and marks. Condition: a place is
@@ -85,13 +90,9 @@ impl Lists {
         ensures step { steps.new ≡ steps.old + 1 }
     {
         steps.tick();
-        match self.free.pop() {
-            Some(place) => {
-                self.kinds[place as usize] = Some(kind);
-                place
-            }
-            None => unreachable!(),
-        }
+        let place = take_free(&mut self.free, &mut self.fresh);
+        self.kinds.set(place, Some(kind));
+        place
     }
 
     /// The place is free again. Condition: it is live, without parent, children and marks.
@@ -103,7 +104,7 @@ impl Lists {
         ensures step { steps.new ≡ steps.old + 1 }
     {
         steps.tick();
-        self.kinds[p as usize] = None;
+        self.kinds.set(p, None);
         self.free.push_reserved(p);
     }
 
@@ -119,11 +120,11 @@ impl Lists {
         ensures step { steps.new ≡ steps.old + 1 }
     {
         steps.tick();
-        let span = self.spans[parent as usize];
+        let span = self.spans.item(parent);
         link(&mut self.nexts, span.last, Some(child));
         link(&mut self.previous, Some(child), span.last);
-        self.spans[parent as usize] = span.with_last(child);
-        self.parents[child as usize] = Some(parent);
+        self.spans.set(parent, span.with_last(child));
+        self.parents.set(child, Some(parent));
     }
 
     /// A place leaves its parent, and has none. Condition: it has one.
@@ -135,15 +136,15 @@ impl Lists {
         ensures step { steps.new ≡ steps.old + 1 }
     {
         steps.tick();
-        let (previous, next) = (self.previous[child as usize], self.nexts[child as usize]);
-        match self.parents[child as usize] {
+        let (previous, next) = (self.previous.item(child), self.nexts.item(child));
+        match self.parents.item(child) {
             Some(parent) => {
-                let span = self.spans[parent as usize];
+                let span = self.spans.item(parent);
                 link(&mut self.nexts, previous, next);
                 link(&mut self.nexts, Some(child), None);
                 link(&mut self.previous, next, previous);
-                self.spans[parent as usize] = span.without(previous, next);
-                self.parents[child as usize] = None;
+                self.spans.set(parent, span.without(previous, next));
+                self.parents.set(child, None);
             }
             None => unreachable!(),
         }
@@ -164,16 +165,16 @@ impl Lists {
         ensures step { steps.new ≡ steps.old + 1 }
     {
         steps.tick();
-        let (previous, next) = (self.previous[old as usize], self.nexts[old as usize]);
-        match self.parents[old as usize] {
+        let (previous, next) = (self.previous.item(old), self.nexts.item(old));
+        match self.parents.item(old) {
             Some(parent) => {
-                let span = self.spans[parent as usize];
+                let span = self.spans.item(parent);
                 link(&mut self.nexts, previous, Some(new));
                 link(&mut self.nexts, Some(new), next);
                 link(&mut self.nexts, Some(old), None);
                 link(&mut self.previous, next, Some(new));
                 link(&mut self.previous, Some(new), previous);
-                self.spans[parent as usize] = span.with_other(previous, next, new);
+                self.spans.set(parent, span.with_other(previous, next, new));
                 link(&mut self.parents, Some(old), None);
                 link(&mut self.parents, Some(new), Some(parent));
             }
@@ -189,7 +190,7 @@ impl Lists {
         ensures step { steps.new ≡ steps.old + 1 }
     {
         steps.tick();
-        match self.kinds[p as usize] {
+        match self.kinds.item(p) {
             Some(kind) => kind,
             None => unreachable!(),
         }
@@ -203,7 +204,7 @@ impl Lists {
         ensures step { steps.new ≡ steps.old + 1 }
     {
         steps.tick();
-        self.kinds[p as usize] = Some(kind);
+        self.kinds.set(p, Some(kind));
     }
 
     /// The parent of a place, or none. Condition: it is live.
@@ -214,7 +215,7 @@ impl Lists {
         ensures step { steps.new ≡ steps.old + 1 }
     {
         steps.tick();
-        self.parents[p as usize]
+        self.parents.item(p)
     }
 
     /// The first child of a place; none exactly where it has no children. Condition: it is live.
@@ -225,7 +226,7 @@ impl Lists {
         ensures step { steps.new ≡ steps.old + 1 }
     {
         steps.tick();
-        self.spans[p as usize].first
+        self.spans.item(p).first
     }
 
     /// The place behind another among the children of its parent; none exactly at their end, or
@@ -237,7 +238,7 @@ impl Lists {
         ensures step { steps.new ≡ steps.old + 1 }
     {
         steps.tick();
-        self.nexts[p as usize]
+        self.nexts.item(p)
     }
 
     /// The number of the children of a place. Condition: it is live.
@@ -248,7 +249,7 @@ impl Lists {
         ensures step { steps.new ≡ steps.old + 1 }
     {
         steps.tick();
-        self.spans[p as usize].count
+        self.spans.item(p).count
     }
 
     /// The tally of a place. Condition: it is live.
@@ -259,7 +260,7 @@ impl Lists {
         ensures step { steps.new ≡ steps.old + 1 }
     {
         steps.tick();
-        self.tallies[p as usize]
+        self.tallies.item(p)
     }
 
     /// The note of a place. Condition: it is live.
@@ -270,7 +271,7 @@ impl Lists {
         ensures step { steps.new ≡ steps.old + 1 }
     {
         steps.tick();
-        self.notes[p as usize]
+        self.notes.item(p)
     }
 
     /// The tally of a place is one more; the place joins the end of the marked places if it wasn't
@@ -283,10 +284,10 @@ impl Lists {
         ensures step { steps.new ≡ steps.old + 1 }
     {
         steps.tick();
-        let tally = self.tallies[p as usize];
-        let note = self.notes[p as usize];
+        let tally = self.tallies.item(p);
+        let note = self.notes.item(p);
         self.marks = join(self.marks, &mut self.mark_nexts, p, tally, note);
-        self.tallies[p as usize] = tally + 1;
+        self.tallies.set(p, tally + 1);
     }
 
     /// The place has another note, and joins the end of the marked places if it wasn't among them.
@@ -299,9 +300,9 @@ impl Lists {
         ensures step { steps.new ≡ steps.old + 1 }
     {
         steps.tick();
-        let (tally, note) = (self.tallies[p as usize], self.notes[p as usize]);
+        let (tally, note) = (self.tallies.item(p), self.notes.item(p));
         self.marks = join(self.marks, &mut self.mark_nexts, p, tally, note);
-        self.notes[p as usize] = value;
+        self.notes.set(p, value);
     }
 
     /// The first marked place; none exactly where no place is marked.
@@ -322,7 +323,7 @@ impl Lists {
         ensures step { steps.new ≡ steps.old + 1 }
     {
         steps.tick();
-        self.mark_nexts[p as usize]
+        self.mark_nexts.item(p)
     }
 
     /// Takes the first marked place off, whose tally and note become 0; none exactly where no place
@@ -336,10 +337,10 @@ impl Lists {
         steps.tick();
         match self.marks.first {
             Some(first) => {
-                let next = self.mark_nexts[first as usize];
+                let next = self.mark_nexts.item(first);
                 self.marks = self.marks.without(None, next);
-                self.tallies[first as usize] = 0;
-                self.notes[first as usize] = 0;
+                self.tallies.set(first, 0);
+                self.notes.set(first, 0);
                 Some(first)
             }
             None => None,
@@ -349,16 +350,15 @@ impl Lists {
 
 // The marks with a place at their end, unless its tally or its note says that it is marked already.
 // Condition: the last marked place and this one have a link, and the number of marks fits.
-fn join(marks: Span, nexts: &mut Vec<Option<u32>>, place: u32, tally: u32, note: u32) -> Span
-    requires last { IfSome marks.last (λ p. p < vec_len nexts.old) }
-    requires place { place < vec_len nexts.old }
+fn join(marks: Span, nexts: &mut Table<Option<u32>>, place: u32, tally: u32, note: u32) -> Span
+    requires last { IfSome marks.last (λ p. p < length nexts.old) }
+    requires place { place < length nexts.old }
     requires count { marks.count + 1 < 2 ^ 32 }
     ensures span { (xs : List ℕ) → marks ≡ span_of xs →
         result ≡ span_of (if tally + note == 0 then xs ++ place ∷ [] else xs) }
-    ensures nexts { nexts.new.items ≡ (if tally + note == 0
-        then slice_set (linked nexts.old.items marks.last (Some place)) place None
-        else nexts.old.items) }
-    ensures len { vec_len nexts.new ≡ vec_len nexts.old }
+    ensures nexts { nexts.new ≡ (if tally + note == 0
+        then slice_set (linked nexts.old marks.last (Some place)) place None
+        else nexts.old) }
 {
     if tally != 0 || note != 0 {
         return marks;
@@ -368,16 +368,22 @@ fn join(marks: Span, nexts: &mut Vec<Option<u32>>, place: u32, tally: u32, note:
     marks.with_last(place)
 }
 
-// All places.
-fn all_places(alloc: Global) -> Result<Vec<u32>, Memory>
-    ensures room { IfOk result (λ v. PLACES ≤ vec_capacity v) }
-    ensures once { IfOk result (λ v. (p : ℕ) → p < PLACES → times p v.items ≡ 1) }
-    ensures within { IfOk result (λ v. (p : ℕ) → PLACES ≤ p → times p v.items ≡ 0) }
-    ensures count { IfOk result (λ v. length v.items ≡ PLACES) }
+// A place leaves the free ones, those of the list and those from `fresh` on. Condition: there is
+// one.
+fn take_free(free: &mut Vec<u32>, fresh: &mut u32) -> u32
+    requires some { 0 < vec_len free.old + (PLACES - fresh.old) }
+    requires within { fresh.old ≤ PLACES }
+    ensures taken { last_places PLACES (PLACES - fresh.old) ++ free.old.items
+        ≡ (last_places PLACES (PLACES - fresh.new) ++ free.new.items) ++ result ∷ [] }
+    ensures within { fresh.new ≤ PLACES }
+    ensures capacity { vec_capacity free.new ≡ vec_capacity free.old }
 {
-    let mut places = Vec::with_capacity(alloc, PLACES as usize)?;
-    for place in 0..PLACES {
-        places.push_reserved(place);
+    match free.pop() {
+        Some(place) => place,
+        None => {
+            let place = *fresh;
+            *fresh = place + 1;
+            place
+        }
     }
-    Ok(places)
 }
