@@ -9,7 +9,7 @@ ghost use Rattle.md_comparability.specs.Listed.{arcs_below};
 ghost use Rattle.md_report.specs.Lines.{arcs_text};
 
 use crate::piece_compare::past_each;
-use md_forcing::ArcSet;
+use md_forcing::ArcSetOf;
 use md_graph::{Memory, NAMES};
 use md_text::{Chunk, Piece, digits_piece, number_piece, piece_behind};
 use std::alloc::Global;
@@ -17,7 +17,11 @@ use std::alloc::Global;
 // Whether the text spells the arcs of the set in ascending order of tail, then head, a space before
 // each; a false says nothing. Condition: the heads are below the number below which the tails are.
 // Errors: want of memory.
-pub(crate) fn spells_arcs(alloc: Global, set: &ArcSet, text: &[u8]) -> Result<bool, Memory>
+pub(crate) fn spells_arcs<const W: usize>(
+    alloc: Global,
+    set: &ArcSetOf<W>,
+    text: &[u8],
+) -> Result<bool, Memory>
     requires { (a : Arc) → HasArc set.now a → a.head < length set.now }
     ensures { IfOk result (λ is. IsTrue is
         → text.now ≡ arcs_text (arcs_below set.now (length set.now))) }
@@ -43,7 +47,11 @@ fn spell_names(alloc: Global, size: u32) -> Result<Vec<Piece>, Memory>
 }
 
 // What stands behind the arcs of the set in a text that begins with them; a none says nothing.
-fn past_arcs<'a>(set: &ArcSet, text: &'a [u8], names: &[Piece]) -> Option<&'a [u8]>
+fn past_arcs<'a, const W: usize>(
+    set: &ArcSetOf<W>,
+    text: &'a [u8],
+    names: &[Piece],
+) -> Option<&'a [u8]>
     requires heads { (a : Arc) → HasArc set.now a → a.head < length set.now }
     requires names { ArePositions names.now }
     requires count { length names.now ≡ length set.now }

@@ -1,7 +1,6 @@
 //! Whether a chain, an orientation or two orders are what a report may say of a graph.
-ghost use Rattle.std.specs.Prelude.{◌≡◌, ℕ, List, ◌∷◌, ◌<◌, ◌≤◌, ◌↔◌, ◌⊎◌, ◌++◌, length, take, map, IfOk, IfSome, IfNone, IsTrue};
+ghost use Rattle.std.specs.Prelude.{◌≡◌, ℕ, List, ◌∷◌, ◌*◌, ◌<◌, ◌≤◌, ◌↔◌, ◌⊎◌, ◌++◌, length, take, map, IfOk, IfSome, IfNone, IsTrue};
 ghost use Rattle.std.specs.FinSet as set;
-ghost use Rattle.md_graph.specs.declared.TheConstants.{NAMES};
 ghost use Rattle.md_graph.specs.NameSet.{ascending};
 ghost use Rattle.md_graph.specs.PlainGraph.{adjacent, neighbours, complement};
 ghost use Rattle.md_graph.specs.Rows.{row_of};
@@ -20,15 +19,15 @@ ghost use Rattle.md_checker.specs.Flips.{AreFlipped};
 
 use crate::arc_text::spells_arcs;
 use md_comparability::{ClassOrChosen, orient_classes};
-use md_forcing::{Arc, ArcSet, Arcs, Chain, Side};
-use md_graph::{Graph, Memory, NAMES, Names, empty_rows};
+use md_forcing::{Arc, ArcSetOf, Arcs, Chain, Side};
+use md_graph::{GraphOf, Memory, Set, WORDS, empty_rows};
 use md_report::Order;
 use std::alloc::Global;
 
 /// Whether the list is a forcing chain of the graph, or of its complement. Errors: want of memory.
-pub fn is_forcing_chain(
+pub fn is_forcing_chain<const W: usize>(
     alloc: Global,
-    graph: &Graph,
+    graph: &GraphOf<W>,
     side: Side,
     chain: &Chain,
 ) -> Result<bool, Memory>
@@ -59,9 +58,9 @@ fn begins_with(list: &[Arc], first: Arc) -> bool
 
 // Whether an arc and those behind it lead to its reverse, without repeats. Condition: it is an arc
 // of this side.
-fn leads_back(
+fn leads_back<const W: usize>(
     alloc: Global,
-    graph: &Graph,
+    graph: &GraphOf<W>,
     side: Side,
     first: Arc,
     rest: &[Arc],
@@ -70,12 +69,19 @@ fn leads_back(
     ensures { IfOk result (λ is. IsTrue is
         ↔ IsListToReverse (adjacent_on side graph.now) first (first ∷ rest.now)) }
 {
+    let _vertices = graph.vertices();
     let mut rows = empty_rows(alloc, graph.bound())?;
     Ok(leads_on(graph, side, first, rest, &mut rows))
 }
 
 // The same with rows in which the arcs are put down, by their tails. Condition: there is no arc yet.
-fn leads_on(graph: &Graph, side: Side, first: Arc, rest: &[Arc], rows: &mut [Names]) -> bool
+fn leads_on<const W: usize>(
+    graph: &GraphOf<W>,
+    side: Side,
+    first: Arc,
+    rest: &[Arc],
+    rows: &mut [Set<W>],
+) -> bool
     requires arc { IsArc (adjacent_on side graph.now) first }
     requires room { (v : ℕ) → Has graph.now.vertices v → v < length rows.old }
     requires none { (v : ℕ) → row_of rows.old v ≡ set.empty }
@@ -100,9 +106,10 @@ fn leads_on(graph: &Graph, side: Side, first: Arc, rest: &[Arc], rows: &mut [Nam
 }
 
 // Puts an arc down in the row of its tail.
-fn put_arc(rows: &mut [Names], by: Arc)
+fn put_arc<const W: usize>(rows: &mut [Set<W>], by: Arc)
+    requires limit { W ≤ WORDS }
     requires tail { by.tail < length rows.old }
-    requires head { by.head < NAMES }
+    requires head { by.head < 64 * W }
     ensures room { length rows.new ≡ length rows.old }
     ensures taken { (a : Arc) → HasArc rows.new a ↔ (HasArc rows.old a ⊎ (a ≡ by)) }
 {
@@ -110,15 +117,16 @@ fn put_arc(rows: &mut [Names], by: Arc)
 }
 
 // Whether an arc is put down.
-fn has_arc(rows: &[Names], by: Arc) -> bool
-    requires { by.tail < length rows.now }
+fn has_arc<const W: usize>(rows: &[Set<W>], by: Arc) -> bool
+    requires limit { W ≤ WORDS }
+    requires tail { by.tail < length rows.now }
     ensures { result ≡ set.contains (row_of rows.now by.tail) by.head }
 {
     rows[by.tail as usize].has(by.head)
 }
 
 // Whether `next` is an arc of this side that `last` forces directly.
-fn is_forced(graph: &Graph, side: Side, last: Arc, next: Arc) -> bool
+fn is_forced<const W: usize>(graph: &GraphOf<W>, side: Side, last: Arc, next: Arc) -> bool
     ensures { IsTrue result ↔ (IsArc (adjacent_on side graph.now) next
         × ForcesDirectly (adjacent_on side graph.now) last next) }
 {
@@ -133,7 +141,7 @@ fn is_forced(graph: &Graph, side: Side, last: Arc, next: Arc) -> bool
 }
 
 // Whether two names, any numbers, are adjacent on this side.
-fn are_adjacent(graph: &Graph, side: Side, u: u32, v: u32) -> bool
+fn are_adjacent<const W: usize>(graph: &GraphOf<W>, side: Side, u: u32, v: u32) -> bool
     ensures { result ≡ adjacent_on side graph.now u v }
 {
     let _vertices = graph.vertices();
@@ -144,7 +152,7 @@ fn are_adjacent(graph: &Graph, side: Side, u: u32, v: u32) -> bool
 }
 
 // Whether two names, any numbers, are different vertices without an edge between them.
-fn are_apart(graph: &Graph, u: u32, v: u32) -> bool
+fn are_apart<const W: usize>(graph: &GraphOf<W>, u: u32, v: u32) -> bool
     ensures { result ≡ adjacent (complement graph.now) u v }
 {
     let _vertices = graph.vertices();
@@ -159,7 +167,11 @@ fn are_apart(graph: &Graph, u: u32, v: u32) -> bool
 
 /// Whether the graph has a transitive orientation, and the list is the least-edge one, in ascending
 /// order. Errors: want of memory.
-pub fn is_least_edge_orientation(alloc: Global, graph: &Graph, arcs: &Arcs) -> Result<bool, Memory>
+pub fn is_least_edge_orientation<const W: usize>(
+    alloc: Global,
+    graph: &GraphOf<W>,
+    arcs: &Arcs,
+) -> Result<bool, Memory>
     ensures { IfOk result (λ is. IsTrue is ↔ (HasTransitiveOrientation (adjacent graph.now)
         × IsLeastEdgeOrientation (adjacent graph.now) arcs.now)) }
 {
@@ -172,9 +184,9 @@ pub fn is_least_edge_orientation(alloc: Global, graph: &Graph, arcs: &Arcs) -> R
 
 // Whether the text is a word and behind it the arcs of the least-edge orientation of a graph that
 // has a transitive one; a false says nothing. Errors: want of memory.
-pub(crate) fn is_word_and_orientation(
+pub(crate) fn is_word_and_orientation<const W: usize>(
     alloc: Global,
-    graph: &Graph,
+    graph: &GraphOf<W>,
     word: &[u8],
     text: &[u8],
 ) -> Result<bool, Memory>
@@ -194,7 +206,7 @@ pub(crate) fn is_word_and_orientation(
 }
 
 // Whether the list has the arcs of the set in ascending order of tail, then head, and nothing else.
-fn are_listed(set: &ArcSet, list: &[Arc]) -> bool
+fn are_listed<const W: usize>(set: &ArcSetOf<W>, list: &[Arc]) -> bool
     ensures { IsTrue result ↔ (list.now ≡ arcs_below set.now (length set.now)) }
 {
     let mut at = 0;
@@ -209,7 +221,7 @@ fn are_listed(set: &ArcSet, list: &[Arc]) -> bool
 
 // The place behind the arcs from `tail` to each of `heads`, ascending, where these stand in the
 // list from the place `at` on.
-fn behind_row(list: &[Arc], at: usize, tail: u32, heads: &Names) -> Option<usize>
+fn behind_row<const W: usize>(list: &[Arc], at: usize, tail: u32, heads: &Set<W>) -> Option<usize>
     requires { at ≤ length list.now }
     ensures within { IfSome result (λ next. next ≤ length list.now) }
     ensures found { IfSome result (λ next. take next list.now
@@ -231,7 +243,12 @@ fn behind_row(list: &[Arc], at: usize, tail: u32, heads: &Names) -> Option<usize
 }
 
 /// Whether the two orders realise the graph. Errors: want of memory.
-pub fn realise(alloc: Global, graph: &Graph, first: &Order, second: &Order) -> Result<bool, Memory>
+pub fn realise<const W: usize>(
+    alloc: Global,
+    graph: &GraphOf<W>,
+    first: &Order,
+    second: &Order,
+) -> Result<bool, Memory>
     ensures { IfOk result (λ is. IsTrue is
         ↔ Realise (adjacent graph.now) graph.now.vertices first.now second.now) }
 {
@@ -246,11 +263,11 @@ pub fn realise(alloc: Global, graph: &Graph, first: &Order, second: &Order) -> R
 }
 
 // Whether the list holds each vertex once, and nothing else.
-fn is_order(graph: &Graph, list: &[u32]) -> bool
+fn is_order<const W: usize>(graph: &GraphOf<W>, list: &[u32]) -> bool
     ensures { IsTrue result ↔ IsOrder graph.now.vertices list.now }
 {
     let vertices = graph.vertices();
-    let mut seen = Names::none();
+    let mut seen = Set::none();
     for v in list {
         if !vertices.has(*v) || seen.has(*v) {
             return false;
@@ -262,14 +279,15 @@ fn is_order(graph: &Graph, list: &[u32]) -> bool
 
 // Flips, in the row of each name of the list, the names that stand before it. Condition: no name
 // stands there twice.
-fn flip_before(rows: &mut [Names], list: &[u32])
-    requires names { (v : ℕ) → Holds list.now v → v < NAMES }
+fn flip_before<const W: usize>(rows: &mut [Set<W>], list: &[u32])
+    requires limit { W ≤ WORDS }
+    requires names { (v : ℕ) → Holds list.now v → v < 64 * W }
     requires room { (v : ℕ) → Holds list.now v → v < length rows.old }
     requires once { NoRepeats list.now }
     ensures room { length rows.new ≡ length rows.old }
     ensures flipped { AreFlipped list.now rows.old rows.new }
 {
-    let mut before = Names::none();
+    let mut before = Set::none();
     for v in list {
         rows[*v as usize].symmetric_difference_with(&before);
         before.insert(*v);
@@ -277,7 +295,7 @@ fn flip_before(rows: &mut [Names], list: &[u32])
 }
 
 // Whether the row of each vertex has its neighbours, and nothing else.
-fn are_neighbours(graph: &Graph, rows: &[Names]) -> bool
+fn are_neighbours<const W: usize>(graph: &GraphOf<W>, rows: &[Set<W>]) -> bool
     requires { (v : ℕ) → Has graph.now.vertices v → v < length rows.now }
     ensures { IsTrue result ↔ ((v : ℕ) → Has graph.now.vertices v
         → row_of rows.now v ≡ neighbours graph.now v) }
@@ -293,6 +311,7 @@ fn are_neighbours(graph: &Graph, rows: &[Names]) -> bool
 #[cfg(test)]
 mod tests {
     use super::*;
+    use md_graph::Graph;
     use std::process::Abort;
     use std::test::Fail;
 
@@ -300,14 +319,14 @@ mod tests {
 
     const CYCLE: [(u32, u32); 5] = [(0, 1), (1, 2), (2, 3), (3, 4), (0, 4)];
 
-    fn graph_of(
+    fn graph_of<const W: usize>(
         rt: &impl Abort,
         alloc: Global,
         n: u32,
         edges: &[(u32, u32)],
-    ) -> Result<Graph, Memory> {
-        assert!(rt; n <= NAMES);
-        Ok(Graph::from_edges(alloc, n, edges)?.expect(rt, "edges"))
+    ) -> Result<GraphOf<W>, Memory> {
+        assert!(rt; W <= WORDS && n as usize <= 64 * W);
+        Ok(GraphOf::from_edges(alloc, n, edges)?.expect(rt, "edges"))
     }
 
     fn arcs_of(alloc: Global, pairs: &[(u32, u32)]) -> Result<Vec<Arc>, Memory> {
@@ -323,7 +342,7 @@ mod tests {
 
     #[test]
     fn orders(rt: HostRuntime) -> Result<(), Fail> {
-        let path = graph_of(&rt, rt.alloc(), 4, &PATH)?;
+        let path: Graph = graph_of(&rt, rt.alloc(), 4, &PATH)?;
         let cases: [(&[u32], &[u32], bool); 7] = [
             (&[0, 2, 1, 3], &[1, 0, 3, 2], true),
             (&[1, 0, 3, 2], &[0, 2, 1, 3], true),
@@ -343,7 +362,7 @@ mod tests {
 
     #[test]
     fn chains(rt: HostRuntime) -> Result<(), Fail> {
-        let cycle = graph_of(&rt, rt.alloc(), 5, &CYCLE)?;
+        let cycle: Graph = graph_of(&rt, rt.alloc(), 5, &CYCLE)?;
         let cases: [(&[(u32, u32)], Side, bool); 6] = [
             (
                 &[(0, 1), (0, 4), (3, 4), (3, 2), (1, 2), (1, 0)],
@@ -381,8 +400,8 @@ mod tests {
 
     #[test]
     fn orientations(rt: HostRuntime) -> Result<(), Fail> {
-        let path = graph_of(&rt, rt.alloc(), 4, &PATH)?;
-        let cycle = graph_of(&rt, rt.alloc(), 5, &CYCLE)?;
+        let path: Graph = graph_of(&rt, rt.alloc(), 4, &PATH)?;
+        let cycle: Graph = graph_of(&rt, rt.alloc(), 5, &CYCLE)?;
         let cases: [(&Graph, &[(u32, u32)], bool); 6] = [
             (&path, &[(0, 1), (2, 1), (2, 3)], true),
             (&path, &[(1, 0), (1, 2), (3, 2)], false),
@@ -398,6 +417,31 @@ mod tests {
                 *want
             );
         }
+        Ok(())
+    }
+    // Sees what is said of a path and of a cycle over rows of `W` words.
+    fn certificates_over<const W: usize>(rt: &impl Abort, alloc: Global) -> Result<(), Memory> {
+        let path: GraphOf<W> = graph_of(rt, alloc, 4, &PATH)?;
+        let first = Order::new(alloc, &[0, 2, 1, 3])?;
+        let second = Order::new(alloc, &[1, 0, 3, 2])?;
+        assert!(rt; realise(alloc, &path, &first, &second)?);
+        assert!(rt; !realise(alloc, &path, &first, &first)?);
+        let arcs = Arcs::from_list(arcs_of(alloc, &[(0, 1), (2, 1), (2, 3)])?);
+        assert!(rt; is_least_edge_orientation(alloc, &path, &arcs)?);
+        assert!(rt; is_word_and_orientation(alloc, &path, b"yes", b"yes 0>1 2>1 2>3")?);
+        assert!(rt; !is_word_and_orientation(alloc, &path, b"yes", b"yes 0>1 1>2 2>3")?);
+        let cycle: GraphOf<W> = graph_of(rt, alloc, 5, &CYCLE)?;
+        let list = arcs_of(alloc, &[(0, 1), (0, 4), (3, 4), (3, 2), (1, 2), (1, 0)])?;
+        let chain = Chain::from_list(list);
+        assert!(rt; is_forcing_chain(alloc, &cycle, Side::Edges, &chain)?);
+        assert!(rt; !is_forcing_chain(alloc, &cycle, Side::NonEdges, &chain)?);
+        Ok(())
+    }
+
+    #[test]
+    fn certificates_over_few_words(rt: HostRuntime) -> Result<(), Fail> {
+        certificates_over::<1>(&rt, rt.alloc())?;
+        certificates_over::<16>(&rt, rt.alloc())?;
         Ok(())
     }
 }

@@ -1,6 +1,7 @@
 -- The lines of a report, and their texts.
 -- Source: this project's own format of reports.
-use Rattle.std.specs.Prelude.{ℕ, List, ◌∷◌, [], ◌++◌, codes, Option}
+use Rattle.std.specs.Prelude.{ℕ, List, ◌∷◌, [], ◌++◌, codes, Option, Some, None, find}
+use Rattle.std.specs.Str.{bytes_eq}
 use Rattle.std.specs.List.{flat_map}
 use Rattle.md_text.specs.Numbers.{decimal}
 use Rattle.md_forcing.specs.declared.arc.Arc.{Arc}
@@ -71,6 +72,28 @@ mode_word modes.Cograph = codes "cograph"
 mode_word modes.Compare = codes "compare"
 mode_word modes.Permute = codes "permute"
 mode_word modes.Quiet = codes "quiet"
+
+-- all modes
+abbrev pub all_modes : List Mode
+all_modes = modes.Tree ∷ modes.Edit ∷ modes.Cograph ∷ modes.Compare ∷ modes.Permute ∷ modes.Quiet ∷ []
+
+-- the mode with this word
+abbrev pub mode_of_word : List ℕ → Option Mode
+mode_of_word word = find (λ mode. bytes_eq word (mode_word mode)) all_modes
+
+-- the mode of reports over graphs that a mode is
+abbrev pub as_graph_mode : Mode → Option GraphMode
+as_graph_mode modes.Tree = Some graph_modes.Tree
+as_graph_mode modes.Compare = Some graph_modes.Compare
+as_graph_mode modes.Permute = Some graph_modes.Permute
+as_graph_mode mode = None
+
+-- the mode of reports of sessions that a mode is
+abbrev pub as_session_mode : Mode → Option SessionMode
+as_session_mode modes.Edit = Some session_modes.Edit
+as_session_mode modes.Cograph = Some session_modes.Cograph
+as_session_mode modes.Quiet = Some session_modes.Quiet
+as_session_mode mode = None
 
 -- the words of a reason
 abbrev pub reason_words : EditReason → List ℕ

@@ -5,6 +5,7 @@ mod arc_reader;
 pub mod laws;
 mod line;
 mod made;
+mod mode_words;
 mod pieces;
 mod reader;
 mod words;
@@ -13,6 +14,7 @@ mod writer;
 pub use line::{GraphMode, Line, Mode, SessionMode};
 pub use made::made_p4;
 pub use md_comparability::Order;
+pub use mode_words::{mode_of_word, mode_word};
 pub use reader::{LineFault, read_line};
 pub use writer::write_line;
 

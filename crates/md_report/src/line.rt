@@ -22,6 +22,35 @@ pub enum Mode {
     Quiet,
 }
 
+impl Mode {
+    ghost use Rattle.std.specs.Prelude.{◌≡◌};
+    ghost use Rattle.md_report.specs.Lines.{as_graph_mode, as_session_mode};
+
+    /// What such a report says of each graph of a file; none where it is of a session.
+    pub fn as_graph_mode(self) -> Option<GraphMode>
+        ensures value { result ≡ as_graph_mode self }
+    {
+        match self {
+            Mode::Tree => Some(GraphMode::Tree),
+            Mode::Compare => Some(GraphMode::Compare),
+            Mode::Permute => Some(GraphMode::Permute),
+            Mode::Edit | Mode::Cograph | Mode::Quiet => None,
+        }
+    }
+
+    /// What such a report says of each state of a session; none where it is over graphs.
+    pub fn as_session_mode(self) -> Option<SessionMode>
+        ensures value { result ≡ as_session_mode self }
+    {
+        match self {
+            Mode::Edit => Some(SessionMode::Edit),
+            Mode::Cograph => Some(SessionMode::Cograph),
+            Mode::Quiet => Some(SessionMode::Quiet),
+            Mode::Tree | Mode::Compare | Mode::Permute => None,
+        }
+    }
+}
+
 /// What a report over the graphs of a file says of each of them.
 #[derive(Clone, Copy, Debug, PartialEq, Eq)]
 pub enum GraphMode {

@@ -8,6 +8,7 @@ ghost use Rattle.md_report.specs.WellFormedLines.{IsLineReading};
 ghost use Rattle.md_report.specs.Words.{ReadsBehind, ReadsRefusal, ReadsOrders, ReadsTree};
 
 use crate::arc_reader::{arcs, chain};
+use crate::mode_words::mode_of_word;
 use crate::pieces::{behind_space, name_behind, names, path, split_before, split_piece};
 use crate::words::{Refusal, Word, first_word, refusal_word};
 use crate::{Line, Mode, Order};
@@ -83,25 +84,8 @@ fn mode_behind(rest: &[u8]) -> Option<Mode>
     ensures { MatchOption result ((mode : Mode) → rest.now ≢ 32 ∷ mode_word mode)
         (λ mode. rest.now ≡ 32 ∷ mode_word mode) }
 {
-    if rest == b" tree".as_slice() {
-        return Some(Mode::Tree);
-    }
-    if rest == b" edit".as_slice() {
-        return Some(Mode::Edit);
-    }
-    if rest == b" cograph".as_slice() {
-        return Some(Mode::Cograph);
-    }
-    if rest == b" compare".as_slice() {
-        return Some(Mode::Compare);
-    }
-    if rest == b" permute".as_slice() {
-        return Some(Mode::Permute);
-    }
-    if rest == b" quiet".as_slice() {
-        return Some(Mode::Quiet);
-    }
-    None
+    let word = behind_space(rest)?;
+    mode_of_word(word)
 }
 
 fn end_line(rest: &[u8]) -> Result<Line, LineFault>

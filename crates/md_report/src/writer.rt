@@ -1,9 +1,10 @@
 //! The texts of lines.
 ghost use Rattle.std.specs.Prelude.{◌≡◌, ◌++◌, IfOk, OnOk, codes};
 ghost use Rattle.md_text.specs.Numbers.{decimal};
-ghost use Rattle.md_report.specs.Lines.{plain_line, mode_word, reason_words, names_text, p4_text, arc_text, arcs_text, line_text};
+ghost use Rattle.md_report.specs.Lines.{plain_line, reason_words, names_text, p4_text, arc_text, arcs_text, line_text};
 
-use crate::{Line, Mode};
+use crate::Line;
+use crate::mode_words::mode_word;
 use md_forcing::Arc;
 use md_graph::Memory;
 use md_modules::P4;
@@ -72,19 +73,6 @@ pub fn write_line(alloc: Global, line: &Line) -> Result<Vec<u8>, Memory>
         Line::End => text.extend_from_slice(b"end")?,
     }
     Ok(text)
-}
-
-fn mode_word(mode: Mode) -> &'static str
-    ensures { result.now ≡ mode_word mode }
-{
-    match mode {
-        Mode::Tree => "tree",
-        Mode::Edit => "edit",
-        Mode::Cograph => "cograph",
-        Mode::Compare => "compare",
-        Mode::Permute => "permute",
-        Mode::Quiet => "quiet",
-    }
 }
 
 fn push_reason(text: &mut Vec<u8>, reason: EditReason) -> Result<(), Memory>

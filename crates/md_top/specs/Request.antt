@@ -1,6 +1,6 @@
 -- What the program can be asked: each list of words makes one request, or none.
 -- Source: the command words of docs/FORMATS.md. A word is seen as the bytes of its text.
-use Rattle.std.specs.Prelude.{ℕ, ◌≤◌, ◌&&◌, nat_le, Bool, true, Option, Some, None, List, [], ◌∷◌, if◌then◌else◌, codes, map, option_map, string_bytes}
+use Rattle.std.specs.Prelude.{ℕ, ◌≤◌, ◌&&◌, nat_le, Bool, true, Option, Some, None, List, [], ◌∷◌, if◌then◌else◌, codes, map, option_map, option_and_then, string_bytes}
 use Rattle.std.specs.Borrow.{Bor}
 use Rattle.std.specs.declared.alloc.Global.{Global}
 use Rattle.std.specs.declared.string.String.{String}
@@ -10,9 +10,8 @@ use Rattle.md_graph.specs.declared.TheConstants.{NAMES}
 use Rattle.md_input.specs.declared.format.Format.{Format}
 use Rattle.md_input.specs.declared.format.Format.TheVariants.{G6, Dimacs}
 use Rattle.md_report.specs.declared.line.GraphMode.{GraphMode}
-use Rattle.md_report.specs.declared.line.GraphMode.TheVariants as modes
 use Rattle.md_report.specs.declared.line.SessionMode.{SessionMode}
-use Rattle.md_report.specs.declared.line.SessionMode.TheVariants as session_modes
+use Rattle.md_report.specs.Lines.{mode_of_word, as_graph_mode, as_session_mode}
 use Rattle.md_top.specs.declared.request.GraphForm.{GraphForm}
 use Rattle.md_top.specs.declared.request.GraphForm.TheVariants.{Convert, Report}
 use Rattle.md_top.specs.declared.request.Request.{Request}
@@ -59,10 +58,7 @@ format_of word =
 
 -- the mode of a report over the graphs of a file
 abbrev pub graph_mode : List ℕ → Option GraphMode
-graph_mode word =
-    if bytes_eq word (codes "tree") then Some modes.Tree
-    else (if bytes_eq word (codes "compare") then Some modes.Compare
-    else (if bytes_eq word (codes "permute") then Some modes.Permute else None))
+graph_mode word = option_and_then as_graph_mode (mode_of_word word)
 
 -- the form of a command over the graphs of a file
 abbrev pub graph_form : List ℕ → Option GraphForm
@@ -78,10 +74,7 @@ graph_request form from graph = None
 
 -- the mode of a report over a graph and a script
 abbrev pub session_mode : List ℕ → Option SessionMode
-session_mode word =
-    if bytes_eq word (codes "edit") then Some session_modes.Edit
-    else (if bytes_eq word (codes "cograph") then Some session_modes.Cograph
-    else (if bytes_eq word (codes "quiet") then Some session_modes.Quiet else None))
+session_mode word = option_and_then as_session_mode (mode_of_word word)
 
 -- a request of a session, if the words name a mode and a format
 abbrev pub session_request : Option SessionMode → Option Format → List ℕ → List ℕ → Option (Request (List ℕ))

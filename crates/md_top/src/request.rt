@@ -6,7 +6,7 @@ ghost use Rattle.md_top.specs.Request.{texts, format_of, graph_form, graph_mode,
 
 use md_graph::NAMES;
 use md_input::Format;
-use md_report::{GraphMode, SessionMode};
+use md_report::{GraphMode, SessionMode, mode_of_word};
 use md_text::number;
 
 /// What is made of the graphs of a file.
@@ -130,22 +130,12 @@ fn graph_form(command: &str) -> Option<GraphForm>
 fn graph_mode(word: &str) -> Option<GraphMode>
     ensures { result ≡ graph_mode word.now }
 {
-    match word {
-        "tree" => Some(GraphMode::Tree),
-        "compare" => Some(GraphMode::Compare),
-        "permute" => Some(GraphMode::Permute),
-        _ => None,
-    }
+    mode_of_word(word.as_bytes())?.as_graph_mode()
 }
 
 // The mode of a report over a graph and a script; none for any other word.
 fn session_mode(word: &str) -> Option<SessionMode>
     ensures { result ≡ session_mode word.now }
 {
-    match word {
-        "edit" => Some(SessionMode::Edit),
-        "cograph" => Some(SessionMode::Cograph),
-        "quiet" => Some(SessionMode::Quiet),
-        _ => None,
-    }
+    mode_of_word(word.as_bytes())?.as_session_mode()
 }

@@ -4,4 +4,4 @@ use Rattle.md_checker.specs.Gathered.{Matches}
 use Rattle.md_checker.proofs.arc_text.past_arcs.Given as goal
 
 abbrev pub invariant-loop-tail : goal.invariant-loop-tail
-invariant-loop-tail l = Matches l.text l.rest l.chunk (arcs_text (arcs_below l.set l.tail))
+invariant-loop-tail g l = Matches l.text l.rest l.chunk (arcs_text (arcs_below l.set l.tail))

@@ -6,7 +6,7 @@ use Rattle.md_forcing.specs.Lists.{Holds}
 use Rattle.md_checker.proofs.certificates.are_neighbours.Given as goal
 
 abbrev pub invariant-loop-v : goal.invariant-loop-v
-invariant-loop-v l = record {
+invariant-loop-v g l = record {
   within : (v : ℕ) → Holds l.v-iterator v → Has l.graph.vertices v;
   passed : (v : ℕ) → Has l.graph.vertices v → Holds l.v-iterator v ⊎ (row_of l.rows v ≡ neighbours l.graph v);
 }

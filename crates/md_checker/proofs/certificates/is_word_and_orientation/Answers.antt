@@ -1,4 +1,4 @@
-use Rattle.std.proofs.Common.{◌++◌, length, refl, subst, eqb-true, eq-eqb, ◌∙◌, ap}
+use Rattle.std.proofs.Common.{rules, ◌++◌, length, refl, subst, eqb-true, eq-eqb, ◌∙◌, ap}
 use Rattle.std.proofs.lemmas.Slice.Eq.{strip_prefix_is}
 use Rattle.md_graph.specs.PlainGraph.{adjacent}
 use Rattle.md_comparability.specs.Listed.{arcs_below}
@@ -9,11 +9,12 @@ use Rattle.md_checker.proofs.InStep.{whole_listed}
 use Rattle.md_checker.proofs.certificates.is_word_and_orientation.Goals as goal
 
 pub spells_arcs-requires : goal.spells_arcs-requires
-spells_arcs-requires c =
-    chosen_within c.vertices-vertices.ensures.graph c.in-Whole.chosen (subst (IsClassOrChosen (adjacent c.args.graph.now)) c.in-Whole.is c.in_ok-orient_classes.ensures.ending) (subst (HasRoom c.args.graph.now.vertices) c.in-Whole.is c.in_ok-orient_classes.ensures.room)
+spells_arcs-requires g c =
+    let within = chosen_within c.vertices-vertices.ensures.graph c.in-Whole.chosen (subst (IsClassOrChosen (adjacent c.args.graph.now)) c.in-Whole.is c.in_ok-orient_classes.ensures.ending) (subst (HasRoom c.args.graph.now.vertices) c.in-Whole.is c.in_ok-orient_classes.ensures.room) in
+    (search rules, within)
 
 pub returns : goal.returns
-returns c =
+returns g c =
     let chosen = c.in-Whole.chosen in
     let p = strip_prefix_is (λ a b. (eqb-true a b, eq-eqb a b)) c.args.text.now _ c.strip_prefix.result c.strip_prefix.ensures.cases in
     let is = c.in-Some.is in

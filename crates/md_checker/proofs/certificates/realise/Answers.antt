@@ -8,7 +8,7 @@ use Rattle.md_checker.proofs.Flipping.{written_back, flipped_along, realised_by_
 use Rattle.md_checker.proofs.certificates.realise.Goals as goal
 
 pub returns : goal.returns
-returns c =
+returns g c =
     let s = c.args.graph.now.vertices in
     let p = c.args.first.now in
     let q = c.args.second.now in
