@@ -93,7 +93,7 @@ impl<const W: usize> SessionChecker<W> {
     // Condition: the names in the script are below `64 * W`.
     pub(crate) fn new(mode: SessionMode, graph: GraphOf<W>, script: Script) -> SessionChecker<W>
         requires { All (HasNamesBelow (64 * W)) script }
-        ensures { result ≡ before_session mode graph script }
+        ensures { result ≡ before_session mode graph.entry script }
     {
         SessionChecker {
             mode,

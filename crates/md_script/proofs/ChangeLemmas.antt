@@ -1,13 +1,13 @@
 -- What an edit that may be applied to a graph finds there, and what it leaves.
-use Rattle.std.specs.Prelude.{◌≡◌, ℕ, ◌<◌, ◌≤◌, Bool, true, false, not, ◌||◌, ◌&&◌, ◌==◌, nat_eq, find, List, [], ◌∷◌, Option, Some, None, option_map, cond, refl}
+use Rattle.std.specs.Prelude.{◌≡◌, ℕ, zero, suc, slice_get, ◌<◌, ◌≤◌, Bool, true, false, not, ◌||◌, ◌&&◌, ◌==◌, nat_eq, find, List, [], ◌∷◌, Option, Some, None, option_map, cond, refl}
 use Rattle.std.specs.Bool.{then_some}
 use Rattle.std.specs.Option.{option_or}
-use Rattle.std.specs.List.{list_any}
+use Rattle.std.specs.List.{All, list_any}
 use Rattle.std.specs.List.Sorted.{IsStrictlyIncreasing}
 use Rattle.std.proofs.Common.{ap, sym, ◌∙◌, inl, inr, arith, subst}
 use Rattle.std.proofs.lemmas.Bool.{cases_Bool, eqb-true, eqb-false, or_cases, or_left, or_right, and_from, and_parts}
 use Rattle.std.proofs.lemmas.Bool.Decides.{nat_tests}
-use Rattle.std.proofs.lemmas.List.Elements.{All-weaker}
+use Rattle.std.proofs.lemmas.List.Elements.{All-head, All-tail, All-weaker}
 use Rattle.std.specs.FinSet as set
 use Rattle.std.specs.FinSet.{contains-from_list_nat}
 use Rattle.md_graph.specs.Sets.{NameSet, Has}
@@ -94,6 +94,12 @@ names_within few (DelEdge u v) names = (below_more few u names.0, below_more few
 names_within {limit} {more} few (AddVertex x neighbours) names =
     (below_more few x names.0, All-weaker (λ v. v < limit) (λ v. v < more) (below_more few) neighbours names.1)
 names_within few (DelVertex x) names = below_more few x names
+
+-- what holds of each holds of the one at a place
+pub holds_at : {X : Type 0} (P : X → Type 0) (xs : List X) (i : ℕ) (x : X) → slice_get xs i ≡ Some x → All P xs → P x
+holds_at P [] i x found all = absurd (cc)
+holds_at P (y ∷ ys) zero x found all = let same : y ≡ x = cc in subst P same (All-head P y ys all)
+holds_at P (y ∷ ys) (suc i) x found all = holds_at P ys i x found (All-tail P y ys all)
 
 pub ends_by_tests : (u v : ℕ) (same first second : Bool) (last : Option EditReason)
     → option_or (cond same (Some Same) (cond (not first) (Some (NoVertex u)) (cond (not second) (Some (NoVertex v)) None))) last ≡ None → (same ≡ false) × (first ≡ true) × (second ≡ true)

@@ -79,7 +79,7 @@ impl<const W: usize> CographSessionOf<W> {
     /// P4, with one. It decomposes the graph, and looks for a P4 from the names of a prime node's
     /// children. Errors: want of memory.
     pub fn new(alloc: Global, graph: GraphOf<W>) -> Result<OpenedOf<W>, Memory>
-        ensures { IfOk result (λ opened. IsOpened graph opened) }
+        ensures { IfOk result (λ opened. IsOpened graph.entry opened) }
     {
         let _vertices = graph.vertices();
         let tree = decompose(alloc, &graph)?;

@@ -37,7 +37,7 @@ impl<const W: usize> Model for GeneralSessionOf<W> {
 impl<const W: usize> GeneralSessionOf<W> {
     /// The session whose graph is the one handed in.
     pub fn new(graph: GraphOf<W>) -> GeneralSessionOf<W>
-        ensures { result ≡ graph }
+        ensures { result ≡ graph.entry }
     {
         GeneralSessionOf { graph }
     }

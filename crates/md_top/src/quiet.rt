@@ -28,7 +28,7 @@ pub fn put_quiet<const W: usize, O: Sink>(
     out: &mut O,
 ) -> Result<(), PutStop>
     requires names { All (HasNamesBelow (64 * W)) script.now }
-    ensures puts { PutsLines (at_state SessionMode.Quiet graph script.now) after_end result
+    ensures puts { PutsLines (at_state SessionMode.Quiet graph.entry script.now) after_end result
         (sink_run O.Sink out.old out.new) }
     ensures faults_never_fall { O.faults out.old ≤ O.faults out.new }
 {
@@ -49,7 +49,7 @@ fn put_quiet_answers<const W: usize, O: Sink>(
     out: &mut O,
 ) -> Result<(), PutStop>
     requires names { All (HasNamesBelow (64 * W)) script.now }
-    ensures puts { PutsLines (at_edits SessionMode.Quiet session script.now) after_end result
+    ensures puts { PutsLines (at_edits SessionMode.Quiet session.entry script.now) after_end result
         (sink_run O.Sink out.old out.new) }
     ensures faults_never_fall { O.faults out.old ≤ O.faults out.new }
 {

@@ -53,7 +53,7 @@ fn put_session<const W: usize, O: Sink>(
     out: &mut O,
 ) -> Result<(), PutStop>
     requires names { All (HasNamesBelow (64 * W)) script.now }
-    ensures puts { PutsLines (before_session mode graph script.now) after_end result
+    ensures puts { PutsLines (before_session mode graph.entry script.now) after_end result
         (sink_run O.Sink out.old out.new) }
     ensures faults_never_fall { O.faults out.old ≤ O.faults out.new }
 {
@@ -73,7 +73,7 @@ fn put_states<const W: usize, O: Sink>(
     out: &mut O,
 ) -> Result<(), PutStop>
     requires names { All (HasNamesBelow (64 * W)) script.now }
-    ensures puts { PutsLines (at_state SessionMode.Edit graph script.now) after_end result
+    ensures puts { PutsLines (at_state SessionMode.Edit graph.entry script.now) after_end result
         (sink_run O.Sink out.old out.new) }
     ensures faults_never_fall { O.faults out.old ≤ O.faults out.new }
 {
@@ -91,7 +91,7 @@ fn put_edits<const W: usize, O: Sink>(
     out: &mut O,
 ) -> Result<(), PutStop>
     requires names { All (HasNamesBelow (64 * W)) script.now }
-    ensures puts { PutsLines (at_edits SessionMode.Edit session script.now) after_end result
+    ensures puts { PutsLines (at_edits SessionMode.Edit session.entry script.now) after_end result
         (sink_run O.Sink out.old out.new) }
     ensures faults_never_fall { O.faults out.old ≤ O.faults out.new }
 {
@@ -111,7 +111,7 @@ fn put_cographs<const W: usize, O: Sink>(
     out: &mut O,
 ) -> Result<(), PutStop>
     requires names { All (HasNamesBelow (64 * W)) script.now }
-    ensures puts { PutsLines (at_state SessionMode.Cograph graph script.now) after_end result
+    ensures puts { PutsLines (at_state SessionMode.Cograph graph.entry script.now) after_end result
         (sink_run O.Sink out.old out.new) }
     ensures faults_never_fall { O.faults out.old ≤ O.faults out.new }
 {
@@ -133,7 +133,7 @@ fn put_opened<const W: usize, O: Sink>(
 ) -> Result<(), PutStop>
     requires names { All (HasNamesBelow (64 * W)) script.now }
     requires cograph { IsCograph session }
-    ensures puts { PutsLines (at_state SessionMode.Cograph session script.now) after_end result
+    ensures puts { PutsLines (at_state SessionMode.Cograph session.entry script.now) after_end result
         (sink_run O.Sink out.old out.new) }
     ensures faults_never_fall { O.faults out.old ≤ O.faults out.new }
 {
@@ -150,7 +150,7 @@ fn put_answers<const W: usize, O: Sink>(
     out: &mut O,
 ) -> Result<(), PutStop>
     requires names { All (HasNamesBelow (64 * W)) script.now }
-    ensures puts { PutsLines (at_edits SessionMode.Cograph session script.now) after_end result
+    ensures puts { PutsLines (at_edits SessionMode.Cograph session.entry script.now) after_end result
         (sink_run O.Sink out.old out.new) }
     ensures faults_never_fall { O.faults out.old ≤ O.faults out.new }
 {

@@ -16,6 +16,13 @@ returns-clause-leads g c =
     c.get-edit.ensures.edit c.in_ok-answers_edit.ensures.may c.in_ok-answers_edit.ensures.next _ refl refl c.if-not-branch-2.false c.requires.cograph
 
 pub answers_edit-requires : goal.answers_edit-requires
-answers_edit-requires g c =
-    (search rules, (search rules, (c.requires.line,
-    (holds_at (HasNamesBelow (64 * g.row.W)) c.args.script.now c.args.answered c.get-edit.result.now c.get-edit.ensures.edit c.requires.names, c.requires.cograph))))
+answers_edit-requires g c = (
+  search rules,
+  (
+    search rules,
+    (
+      c.requires.line,
+      (holds_at (HasNamesBelow (64 * g.row.W)) c.args.script.now c.args.answered c.get-edit.result.now c.get-edit.ensures.edit c.requires.names, c.requires.cograph),
+    ),
+  ),
+)

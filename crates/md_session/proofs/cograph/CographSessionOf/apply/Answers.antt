@@ -33,9 +33,22 @@ returns-then-change-clause-answer g c =
     (applied_to s edit none c.apply.new.graph c.apply.ensures (cotree_no_path c.change.new.tree c.apply.new.graph den))
 
 pub p4_behind-requires : goal.p4_behind-requires
-p4_behind-requires g c =
-    (search rules, (search rules, (c.self.invariant.0, (sym c.reason.ensures ∙ c.in_default.is, (c.requires,
-    c.change.ensures.refused c.self.inside.graph c.self.invariant.1 (sym c.reason.ensures ∙ c.in_default.is) c.if-change.false)))))
+p4_behind-requires g c = (
+  search rules,
+  (
+    search rules,
+    (
+      c.self.invariant.0,
+      (
+        sym c.reason.ensures ∙ c.in_default.is,
+        (
+          c.requires,
+          c.change.ensures.refused c.self.inside.graph c.self.invariant.1 (sym c.reason.ensures ∙ c.in_default.is) c.if-change.false,
+        ),
+      ),
+    ),
+  ),
+)
 
 pub returns-clause-answer : goal.returns-clause-answer
 returns-clause-answer g c =
