@@ -23,13 +23,11 @@ fn line_of(alloc: Global, n: u32) -> Result<Vec<u8>, Fail> {
     line.push((n % 64 + 63) as u8)?;
     let before = u64::from(n.saturating_sub(1)).saturating_mul(u64::from(n.saturating_sub(2))) / 2;
     let pairs = u64::from(n).saturating_mul(u64::from(n.saturating_sub(1))) / 2;
-    for group in 0..pairs.div_ceil(6) {
-        let bit = if group == before / 6 {
-            32u8 >> (before % 6)
-        } else {
-            0
-        };
-        line.push(bit.saturating_add(63))?;
+    let groups = vec![in alloc; b'?'; pairs.div_ceil(6) as usize]?;
+    let at = line.len().saturating_add((before / 6) as usize);
+    line.extend_from_slice(&groups)?;
+    if at < line.len() {
+        line[at] = 63 + (32u8 >> (before % 6));
     }
     line.push(b'\n')?;
     Ok(line)
@@ -43,60 +41,69 @@ fn tree_of(alloc: Global, first: u32, n: u32) -> Result<String, Fail> {
 }
 
 // What each command over graphs is to put for that graph, of which the least name is given.
-fn put_for(alloc: Global, command: &str, first: u32, n: u32) -> Result<String, Fail> {
+fn put_for(alloc: Global, command: &str, first: u32, n: u32) -> Result<Vec<u8>, Fail> {
     let last = first.saturating_add(n).saturating_sub(1);
     match command {
-        "edges" => Ok(format!(in alloc; "p edge {n} 1\ne 1 {n}\n")?),
-        "graph6" => {
-            let mut text = String::new(alloc);
-            for byte in &line_of(alloc, n)? {
-                text.push(char::from(*byte))?;
-            }
-            Ok(text)
-        }
+        "edges" => Ok(format!(in alloc; "p edge {n} 1\ne 1 {n}\n")?.into_bytes()),
+        "graph6" => line_of(alloc, n),
         "tree" => {
             let tree = tree_of(alloc, first, n)?;
-            Ok(format!(in alloc; "t {tree}\n")?)
+            Ok(format!(in alloc; "t {tree}\n")?.into_bytes())
         }
-        _ => Ok(format!(in alloc; "yes {first}>{last}\n")?),
+        _ => Ok(format!(in alloc; "yes {first}>{last}\n")?.into_bytes()),
     }
 }
 
 // What a command is to put for those graphs of these sizes.
-fn whole_for(alloc: Global, command: &str, sizes: &[u32]) -> Result<String, Fail> {
-    let mut text = String::new(alloc);
+fn whole_for(alloc: Global, command: &str, first: u32, sizes: &[u32]) -> Result<Vec<u8>, Fail> {
+    let mut text = Vec::new(alloc);
     let is_report = command == "tree" || command == "compare";
     if is_report {
-        text.push_str(format!(in alloc; "mdt {command}\n")?.as_str())?;
+        text.extend_from_slice(format!(in alloc; "mdt {command}\n")?.as_bytes())?;
     }
     for n in sizes {
-        text.push_str(put_for(alloc, command, 0, *n)?.as_str())?;
+        text.extend_from_slice(&put_for(alloc, command, first, *n)?)?;
     }
     if is_report {
-        text.push_str("end\n")?;
+        text.extend_from_slice(b"end\n")?;
     }
     Ok(text)
 }
 
-// Sees what the commands over graphs put for those graphs of these sizes in one file, and that the
-// checks accept it; in mode permute, which has several answers, the check alone.
-fn expect_sizes(rt: &impl Abort, alloc: Global, sizes: &[u32]) -> Result<(), Fail> {
+// What a run over the files `g` and `s` puts; nothing where it isn't Done.
+fn output_of(alloc: Global, line: &str, file: &[u8], script: &[u8]) -> Result<Vec<u8>, Fail> {
+    let words = words_of(alloc, line)?;
+    let mut files = MemFiles::new(alloc, Vec::new(alloc));
+    files.add("g", file)?;
+    files.add("s", script)?;
+    let mut out = MemSink::new(alloc, Vec::new(alloc), 0);
+    let mut err = MemSink::new(alloc, Vec::new(alloc), 0);
+    let status = run(alloc, &words, &mut files, &mut out, &mut err);
+    let mut bytes = Vec::new(alloc);
+    if status.number() == 0 {
+        bytes.extend_from_slice(out.bytes())?;
+    }
+    Ok(bytes)
+}
+
+// Sees what a command over graphs puts for those graphs of these sizes in one file, and that a
+// report is accepted by its check.
+fn expect_sizes(rt: &impl Abort, alloc: Global, command: &str, sizes: &[u32]) -> Result<(), Fail> {
     let mut file = Vec::new(alloc);
     for n in sizes {
         file.extend_from_slice(&line_of(alloc, *n)?)?;
     }
-    for command in ["edges", "graph6", "tree", "compare"] {
-        let whole = whole_for(alloc, command, sizes)?;
-        let want = format!(in alloc; "0|{whole}|")?;
-        let line = format!(in alloc; "{command} g6 g")?;
-        let shown = run_over(alloc, line.as_str(), &file, b"", 0, 0, 0)?;
-        assert!(rt; shown.as_str() == want.as_str(), "{command}");
-    }
-    for command in ["tree", "compare"] {
-        let report = whole_for(alloc, command, sizes)?;
+    let want = whole_for(alloc, command, 0, sizes)?;
+    let line = format!(in alloc; "{command} g6 g")?;
+    let put = output_of(alloc, line.as_str(), &file, b"")?;
+    assert!(rt; put.as_slice() == want.as_slice(), "{command}");
+    if command == "tree" || command == "compare" {
         let line = format!(in alloc; "check {command} g6 g s")?;
-        let shown = run_over(alloc, line.as_str(), &file, report.as_bytes(), 0, 0, 0)?;
-        assert_eq!(rt; shown.as_str(), "0|accepted\n|", "check {command}");
+        let put = output_of(alloc, line.as_str(), &file, &want)?;
+        assert!(rt;
+            put.as_slice() == b"accepted\n".as_slice(),
+            "check {command}"
+        );
     }
     Ok(())
 }
@@ -104,50 +111,43 @@ fn expect_sizes(rt: &impl Abort, alloc: Global, sizes: &[u32]) -> Result<(), Fai
 #[test]
 fn runs_over_graphs_of_all_sizes(rt: HostRuntime) -> Result<(), Fail> {
     let alloc = rt.alloc();
-    expect_sizes(&rt, alloc, &[62, 63, 64, 65, 1_023, 1_024, 1_025, 4_096])?;
-    expect_sizes(&rt, alloc, &[4_096, 1_025, 1_024, 1_023, 65, 64, 63, 62])
-}
-
-// The output of a run, which stands between the number of its status and what it put to `err`.
-fn output_of(shown: &str) -> &str {
-    shown.split('|').nth(1).unwrap_or("")
-}
-
-#[test]
-fn models_of_graphs_of_all_sizes_are_accepted(rt: HostRuntime) -> Result<(), Fail> {
-    let alloc = rt.alloc();
-    for sizes in [[62, 63, 64, 65, 130], [130, 65, 64, 63, 62]] {
-        let mut file = Vec::new(alloc);
-        for n in sizes {
-            file.extend_from_slice(&line_of(alloc, n)?)?;
-        }
-        let shown = run_over(alloc, "permute g6 g", &file, b"", 0, 0, 0)?;
-        let report = output_of(shown.as_str()).as_bytes();
-        assert!(&rt; report.len() > 1_000);
-        let shown = run_over(alloc, "check permute g6 g s", &file, report, 0, 0, 0)?;
-        assert_eq!(&rt; shown.as_str(), "0|accepted\n|");
+    expect_sizes(&rt, alloc, "edges", &[65, 1_025, 4_096, 64, 1_024])?;
+    for command in ["graph6", "tree", "compare"] {
+        expect_sizes(&rt, alloc, command, &[62, 63, 64, 65, 1_024, 1_025])?;
+        expect_sizes(&rt, alloc, command, &[1_025, 1_024, 65, 64, 63, 62])?;
     }
     Ok(())
 }
 
 #[test]
-fn edge_files_of_all_sizes(rt: HostRuntime) -> Result<(), Fail> {
+fn models_of_graphs_of_all_sizes_are_accepted(rt: HostRuntime) -> Result<(), Fail> {
+    let alloc = rt.alloc();
+    for sizes in [[62, 64, 65], [65, 64, 62]] {
+        let mut file = Vec::new(alloc);
+        for n in sizes {
+            file.extend_from_slice(&line_of(alloc, n)?)?;
+        }
+        let report = output_of(alloc, "permute g6 g", &file, b"")?;
+        assert!(&rt; report.len() > 1_000);
+        let put = output_of(alloc, "check permute g6 g s", &file, &report)?;
+        assert_eq!(&rt; put.as_slice(), b"accepted\n".as_slice());
+    }
+    Ok(())
+}
+
+#[test]
+fn runs_over_edge_files_of_all_sizes(rt: HostRuntime) -> Result<(), Fail> {
     let alloc = rt.alloc();
     for n in [62, 63, 64, 1_023, 1_024, 4_095] {
         let file = put_for(alloc, "edges", 1, n)?;
-        for command in ["edges", "graph6"] {
-            let want = put_for(alloc, command, 1, n)?;
+        for command in ["edges", "tree", "compare"] {
+            let want = whole_for(alloc, command, 1, &[n])?;
             let line = format!(in alloc; "{command} dimacs g")?;
-            let shown = run_over(alloc, line.as_str(), file.as_bytes(), b"", 0, 0, 0)?;
-            let whole = format!(in alloc; "0|{want}|")?;
-            assert!(&rt; shown.as_str() == whole.as_str(), "{command}, {n} vertices");
-        }
-        for command in ["tree", "compare"] {
-            let line = put_for(alloc, command, 1, n)?;
-            let want = format!(in alloc; "0|mdt {command}\n{line}end\n|")?;
-            let line = format!(in alloc; "{command} dimacs g")?;
-            let shown = run_over(alloc, line.as_str(), file.as_bytes(), b"", 0, 0, 0)?;
-            assert!(&rt; shown.as_str() == want.as_str(), "{command}, {n} vertices");
+            let put = output_of(alloc, line.as_str(), &file, b"")?;
+            assert!(&rt;
+                put.as_slice() == want.as_slice(),
+                "{command}, {n} vertices"
+            );
         }
     }
     Ok(())
@@ -156,22 +156,27 @@ fn edge_files_of_all_sizes(rt: HostRuntime) -> Result<(), Fail> {
 #[test]
 fn sessions_over_graphs_of_all_sizes(rt: HostRuntime) -> Result<(), Fail> {
     let alloc = rt.alloc();
-    for n in [62, 63, 64, 65, 1_023, 1_024, 1_025, 4_095] {
+    for n in [62, 63, 64, 65, 1_023, 1_024, 1_025] {
         let file = line_of(alloc, n)?;
         let tree = tree_of(alloc, 0, n)?;
         let others = names(alloc, 1, n)?;
-        // The last name comes, and goes again.
-        let script = format!(in alloc; "-e 0 {}\n+v 4095\n-v 4095\n", n - 1)?;
-        let less = format!(in alloc; "P(0{others})")?;
-        let more = format!(in alloc; "P(0{others},4095)")?;
+        let last = n.saturating_sub(1);
+        // The last of all names comes, and goes again.
+        let script = format!(in alloc; "-e 0 {last}\n+v 4095\n-v 4095\n")?;
+        let less = format!(in alloc; "ok P(0{others})")?;
+        let more = format!(in alloc; "ok P(0{others},4095)")?;
         for mode in ["edit", "cograph"] {
-            let want = format!(in alloc; "0|mdt {mode}\nt {tree}\nok {less}\nok {more}\nok {less}\nend\n|")?;
             let line = format!(in alloc; "{mode} g6 g s")?;
-            let shown = run_over(alloc, line.as_str(), &file, script.as_bytes(), 0, 0, 0)?;
-            assert!(&rt; shown.as_str() == want.as_str(), "{mode}, {n} vertices");
+            let head = format!(in alloc; "mdt {mode}\nt {tree}\n{less}\n")?;
+            let want = format!(in alloc; "{head}{more}\n{less}\nend\n")?;
+            let put = output_of(alloc, line.as_str(), &file, script.as_bytes())?;
+            assert!(&rt; put.as_slice() == want.as_bytes(), "{mode}, {n} vertices");
         }
     }
-    let last = run_over(alloc, "edit g6 g s", b"@\n", b"+v 4095 0\n", 0, 0, 0)?;
-    assert_eq!(&rt; last.as_str(), "0|mdt edit\nt 0\nok S(0,4095)\nend\n|");
+    let last = output_of(alloc, "edit g6 g s", b"@\n", b"+v 4095 0\n")?;
+    assert_eq!(&rt;
+        last.as_slice(),
+        b"mdt edit\nt 0\nok S(0,4095)\nend\n".as_slice()
+    );
     Ok(())
 }
