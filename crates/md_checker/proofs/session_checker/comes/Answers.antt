@@ -19,10 +19,7 @@ pub answers_edit-requires : goal.answers_edit-requires
 answers_edit-requires g c = (
   search rules,
   (
-    search rules,
-    (
-      c.requires.line,
-      (holds_at (HasNamesBelow (64 * g.row.W)) c.args.script.now c.args.answered c.get-edit.result.now c.get-edit.ensures.edit c.requires.names, c.requires.cograph),
-    ),
+    c.requires.line,
+    (holds_at (HasNamesBelow (64 * g.row.W)) c.args.script.now c.args.answered c.get-edit.result.now c.get-edit.ensures.edit c.requires.names, c.requires.cograph),
   ),
 )

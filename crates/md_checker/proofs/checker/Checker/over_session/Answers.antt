@@ -10,4 +10,4 @@ invariant_of-result c =
     ((are_graphs c.args.from c.args.file.now (c.in_ok-graph.graph ∷ []) c.in_ok-graph.ensures.spells).0, script_has_names c.args.script.now c.in_ok-edits.edits c.in_ok-edits.ensures.spells)
 
 pub new-requires : goal.new-requires
-new-requires c = (search rules, script_has_names c.args.script.now c.in_ok-edits.edits c.in_ok-edits.ensures.spells)
+new-requires c = (search rules, (search rules, script_has_names c.args.script.now c.in_ok-edits.edits c.in_ok-edits.ensures.spells))

@@ -35,4 +35,4 @@ pub applies_by_text-requires : goal.applies_by_text-requires
 applies_by_text-requires g c =
     let s = c.self.inside in
     let is = c.in-Edited.is in let p = c.in-Some.ensures in let may = rw is at p in
-    (search rules, (search rules, (holds_at (HasNamesBelow (64 * g.row.W)) s.script s.answered c.get-edit.result.now c.get-edit.ensures.edit c.self.invariant.2, may.1)))
+    (search rules, (holds_at (HasNamesBelow (64 * g.row.W)) s.script s.answered c.get-edit.result.now c.get-edit.ensures.edit c.self.invariant.2, may.1))
