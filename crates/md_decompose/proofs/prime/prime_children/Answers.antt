@@ -1,9 +1,28 @@
-use Rattle.std.proofs.Common.{◌∙◌}
+use Rattle.std.proofs.Common.{rules, arith, sym, ◌∙◌}
 use Rattle.std.proofs.lemmas.Result.{IfOk-weaker}
 use Rattle.md_modules.proofs.Turns.{graph_adjacency}
+use Rattle.md_graph.proofs.SetLemmas.{Has-along}
 use Rattle.md_decompose.proofs.ChildLemmas.{children_found}
 use Rattle.md_decompose.proofs.ChainLemmas.{chain_of}
 use Rattle.md_decompose.proofs.prime.prime_children.Goals as goal
+
+pub in_order-requires : goal.in_order-requires
+in_order-requires g c =
+    let parts = c.in_ok-classes.ensures.holds.partition in (
+      search rules,
+      (
+        parts.are_apart,
+        λ k low. (
+          c.in-Some.v,
+          Has-along _ _ (sym (c.in_ok-first.ensures.made ∙ c.minus.ensures.value)) c.in-Some.v c.back.ensures.fixed,
+          λ y h.
+              let in_rest = (c.back.ensures.names y).0 (parts.inside k y h) in
+              let least = c.in-Some.ensures.found.first y in_rest.0 (omega arith) in
+              let other = in_rest.1 in
+              omega arith,
+        ),
+      ),
+    )
 
 pub returns-clause-children : goal.returns-clause-children
 returns-clause-children g c =
