@@ -36,15 +36,12 @@ pub p4_behind-requires : goal.p4_behind-requires
 p4_behind-requires g c = (
   search rules,
   (
-    search rules,
+    c.self.invariant.0,
     (
-      c.self.invariant.0,
+      sym c.reason.ensures ∙ c.in_default.is,
       (
-        sym c.reason.ensures ∙ c.in_default.is,
-        (
-          c.requires,
-          c.change.ensures.refused c.self.inside.graph c.self.invariant.1 (sym c.reason.ensures ∙ c.in_default.is) c.if-change.false,
-        ),
+        c.requires,
+        c.change.ensures.refused c.self.inside.graph c.self.invariant.1 (sym c.reason.ensures ∙ c.in_default.is) c.if-change.false,
       ),
     ),
   ),
