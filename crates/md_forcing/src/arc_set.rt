@@ -20,8 +20,8 @@ pub enum Side {
     NonEdges,
 }
 
-/// A set of arcs on the names below some number, which is at most `64 * W`, as the heads of the arcs
-/// with each tail, and the tails of those with each head.
+/// A set of arcs on the names below some number, which is at most `64 * W`, as the heads of the
+/// arcs with each tail, and the tails of those with each head.
 #[derive(Drop)]
 pub struct ArcSetOf<const W: usize> {
     by_tail: Vec<Set<W>>,

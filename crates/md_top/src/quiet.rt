@@ -75,8 +75,8 @@ fn put_last<const W: usize, O: Sink>(
     put_report_line(alloc, Line::End, out)
 }
 
-// The line of an edit, which the session answers. Condition: the names in the edit are
-// below `64 * W`.
+// The line of an edit, which the session answers. Condition: the names in the edit are below
+// `64 * W`.
 fn quiet_line<const W: usize>(session: &mut CographSessionOf<W>, edit: &Edit) -> Line
     requires { HasNamesBelow (64 * W) edit.now }
     ensures line { IsQuietLine session.old edit.now (plain_line result) }

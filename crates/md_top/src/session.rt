@@ -161,8 +161,8 @@ fn put_answers<const W: usize, O: Sink>(
     put_report_line(alloc, Line::End, out)
 }
 
-// The line of an edit, which the session answers. Condition: the names in the edit are
-// below `64 * W`.
+// The line of an edit, which the session answers. Condition: the names in the edit are below
+// `64 * W`.
 fn answer_line<const W: usize>(
     alloc: Global,
     session: &mut CographSessionOf<W>,
@@ -183,8 +183,7 @@ fn answer_line<const W: usize>(
     }
 }
 
-// The answer to an edit. Condition: the names in the edit are
-// below `64 * W`.
+// The answer to an edit. Condition: the names in the edit are below `64 * W`.
 pub(crate) fn answer<const W: usize>(session: &mut CographSessionOf<W>, edit: &Edit) -> Answer
     requires { HasNamesBelow (64 * W) edit.now }
     ensures { IsAnswered session.old edit.now result session.new }
@@ -192,8 +191,8 @@ pub(crate) fn answer<const W: usize>(session: &mut CographSessionOf<W>, edit: &E
     apply_counting::<W, Brand>(session, edit, Blank::new(1))
 }
 
-// The answer to an edit; nobody reads the steps. Condition: the names in the edit are
-// below `64 * W`.
+// The answer to an edit; nobody reads the steps. Condition: the names in the edit are below
+// `64 * W`.
 fn apply_counting<const W: usize, L: Ledger>(
     session: &mut CographSessionOf<W>,
     edit: &Edit,
