@@ -19,8 +19,8 @@ use std::sync::ledger::Ledger;
 /// itself is for the caller to keep.
 ///
 /// All memory is taken when the lists are made; a place costs nothing before it is first used, when
-/// what is kept of it and of those before it is made. Each call but `new` and `spare` is one step on
-/// the counter that it is lent, and beside that reads or changes a bounded number of places.
+/// what is kept of it and of those before it is made. Each call but `new` and `spare` is one step
+/// on the counter that it is lent, and beside that reads or changes a bounded number of places.
 #[derive(Drop)]
 pub struct Lists {
     kinds: Table<Option<PlaceKind>>,
