@@ -419,8 +419,9 @@ mod tests {
         }
         Ok(())
     }
-    // Sees what is said of a path and of a cycle over rows of `W` words.
-    fn certificates_over<const W: usize>(rt: &impl Abort, alloc: Global) -> Result<(), Memory> {
+
+    // Sees what is said of a path over rows of `W` words.
+    fn path_over<const W: usize>(rt: &impl Abort, alloc: Global) -> Result<(), Memory> {
         let path: GraphOf<W> = graph_of(rt, alloc, 4, &PATH)?;
         let first = Order::new(alloc, &[0, 2, 1, 3])?;
         let second = Order::new(alloc, &[1, 0, 3, 2])?;
@@ -430,6 +431,11 @@ mod tests {
         assert!(rt; is_least_edge_orientation(alloc, &path, &arcs)?);
         assert!(rt; is_word_and_orientation(alloc, &path, b"yes", b"yes 0>1 2>1 2>3")?);
         assert!(rt; !is_word_and_orientation(alloc, &path, b"yes", b"yes 0>1 1>2 2>3")?);
+        Ok(())
+    }
+
+    // Sees what is said of a cycle over rows of `W` words.
+    fn cycle_over<const W: usize>(rt: &impl Abort, alloc: Global) -> Result<(), Memory> {
         let cycle: GraphOf<W> = graph_of(rt, alloc, 5, &CYCLE)?;
         let list = arcs_of(alloc, &[(0, 1), (0, 4), (3, 4), (3, 2), (1, 2), (1, 0)])?;
         let chain = Chain::from_list(list);
@@ -440,8 +446,10 @@ mod tests {
 
     #[test]
     fn certificates_over_few_words(rt: HostRuntime) -> Result<(), Fail> {
-        certificates_over::<1>(&rt, rt.alloc())?;
-        certificates_over::<16>(&rt, rt.alloc())?;
+        path_over::<1>(&rt, rt.alloc())?;
+        cycle_over::<1>(&rt, rt.alloc())?;
+        path_over::<16>(&rt, rt.alloc())?;
+        cycle_over::<16>(&rt, rt.alloc())?;
         Ok(())
     }
 }
