@@ -1,12 +1,11 @@
 //! Sessions on the one graph of a file: both files are read whole before the first put.
-ghost use Rattle.std.specs.Prelude.{◌≡◌, ◌*◌, ◌<◌, ◌≤◌, IfOk};
-ghost use Rattle.std.specs.List.{All};
+ghost use Rattle.std.specs.Prelude.{◌≡◌, ◌<◌, ◌≤◌, IfOk};
 ghost use Rattle.md_report.specs.declared.line.SessionMode.{SessionMode};
 ghost use Rattle.md_report.specs.Places.{before_session, at_state, at_edits, after_end};
 ghost use Rattle.md_report.specs.Lines.{plain_line};
 ghost use Rattle.md_report.specs.Sessions.{state_behind};
 ghost use Rattle.md_report.specs.Cographs.{IsCograph, IsCographLine};
-ghost use Rattle.md_script.specs.Edit.{HasNamesBelow};
+ghost use Rattle.md_script.specs.Edit.{HasNames};
 ghost use Rattle.md_session.specs.Answers.{IsAnswered};
 ghost use Rattle.md_top.specs.declared.request.Request.{Request};
 ghost use Rattle.md_top.specs.Command.{CommandEnds};
@@ -15,12 +14,12 @@ ghost use Rattle.md_top.specs.Sinks.{sink_run, PutsLines};
 use crate::put::put_report_line;
 use crate::quiet::put_quiet;
 use crate::stop::{PutStop, Stop, Verdict};
-use md_graph::{GraphOf, Memory, Steps};
+use md_graph::{Graph, Memory, Steps};
 use md_input::{Format, one_graph, read_script};
 use md_io::Sink;
 use md_report::{Line, SessionMode};
 use md_script::{Edit, Script};
-use md_session::{Answer, CographSessionOf, GeneralSessionOf, OpenedOf};
+use md_session::{Answer, CographSession, GeneralSession, OpenedOf};
 use std::alloc::Global;
 use std::marker::Brand;
 use std::sync::ledger::{Blank, Ledger};
@@ -45,15 +44,14 @@ pub fn session_report<O: Sink>(
 }
 
 // Puts the report of a session.
-fn put_session<const W: usize, O: Sink>(
+fn put_session<O: Sink>(
     alloc: Global,
     mode: SessionMode,
-    graph: GraphOf<W>,
+    graph: Graph,
     script: &Script,
     out: &mut O,
 ) -> Result<(), PutStop>
-    requires names { All (HasNamesBelow (64 * W)) script.now }
-    ensures puts { PutsLines (before_session mode graph.entry script.now) after_end result
+    ensures puts { PutsLines (before_session mode graph script.now) after_end result
         (sink_run O.Sink out.old out.new) }
     ensures faults_never_fall { O.faults out.old ≤ O.faults out.new }
 {
@@ -66,32 +64,30 @@ fn put_session<const W: usize, O: Sink>(
 }
 
 // Puts the tree of the first graph, the line of each edit, and the last line.
-fn put_states<const W: usize, O: Sink>(
+fn put_states<O: Sink>(
     alloc: Global,
-    graph: GraphOf<W>,
+    graph: Graph,
     script: &Script,
     out: &mut O,
 ) -> Result<(), PutStop>
-    requires names { All (HasNamesBelow (64 * W)) script.now }
-    ensures puts { PutsLines (at_state SessionMode.Edit graph.entry script.now) after_end result
+    ensures puts { PutsLines (at_state SessionMode.Edit graph script.now) after_end result
         (sink_run O.Sink out.old out.new) }
     ensures faults_never_fall { O.faults out.old ≤ O.faults out.new }
 {
-    let session = GeneralSessionOf::new(graph);
+    let session = GeneralSession::new(graph);
     let tree = session.tree(alloc)?;
     put_report_line(alloc, Line::Tree(tree), out)?;
     put_edits(alloc, session, script, out)
 }
 
 // Puts the line of each edit, and the last line.
-fn put_edits<const W: usize, O: Sink>(
+fn put_edits<O: Sink>(
     alloc: Global,
-    mut session: GeneralSessionOf<W>,
+    mut session: GeneralSession,
     script: &Script,
     out: &mut O,
 ) -> Result<(), PutStop>
-    requires names { All (HasNamesBelow (64 * W)) script.now }
-    ensures puts { PutsLines (at_edits SessionMode.Edit session.entry script.now) after_end result
+    ensures puts { PutsLines (at_edits SessionMode.Edit session script.now) after_end result
         (sink_run O.Sink out.old out.new) }
     ensures faults_never_fall { O.faults out.old ≤ O.faults out.new }
 {
@@ -104,18 +100,17 @@ fn put_edits<const W: usize, O: Sink>(
 
 // Puts the tree of the first graph, the line of each edit, and the last line; or an induced P4 of
 // the first graph, and the last line.
-fn put_cographs<const W: usize, O: Sink>(
+fn put_cographs<O: Sink>(
     alloc: Global,
-    graph: GraphOf<W>,
+    graph: Graph,
     script: &Script,
     out: &mut O,
 ) -> Result<(), PutStop>
-    requires names { All (HasNamesBelow (64 * W)) script.now }
-    ensures puts { PutsLines (at_state SessionMode.Cograph graph.entry script.now) after_end result
+    ensures puts { PutsLines (at_state SessionMode.Cograph graph script.now) after_end result
         (sink_run O.Sink out.old out.new) }
     ensures faults_never_fall { O.faults out.old ≤ O.faults out.new }
 {
-    match CographSessionOf::new(alloc, graph)? {
+    match CographSession::new(alloc, graph)? {
         OpenedOf::Session(session) => put_opened(alloc, session, script, out),
         OpenedOf::NotCograph(p) => {
             put_report_line(alloc, Line::NotCograph(p), out)?;
@@ -125,15 +120,14 @@ fn put_cographs<const W: usize, O: Sink>(
 }
 
 // Puts the tree of the first graph, the line of each edit, and the last line.
-fn put_opened<const W: usize, O: Sink>(
+fn put_opened<O: Sink>(
     alloc: Global,
-    session: CographSessionOf<W>,
+    session: CographSession,
     script: &Script,
     out: &mut O,
 ) -> Result<(), PutStop>
-    requires names { All (HasNamesBelow (64 * W)) script.now }
-    requires cograph { IsCograph session }
-    ensures puts { PutsLines (at_state SessionMode.Cograph session.entry script.now) after_end result
+    requires { IsCograph session }
+    ensures puts { PutsLines (at_state SessionMode.Cograph session script.now) after_end result
         (sink_run O.Sink out.old out.new) }
     ensures faults_never_fall { O.faults out.old ≤ O.faults out.new }
 {
@@ -143,14 +137,13 @@ fn put_opened<const W: usize, O: Sink>(
 }
 
 // Puts the line of each edit, and the last line.
-fn put_answers<const W: usize, O: Sink>(
+fn put_answers<O: Sink>(
     alloc: Global,
-    mut session: CographSessionOf<W>,
+    mut session: CographSession,
     script: &Script,
     out: &mut O,
 ) -> Result<(), PutStop>
-    requires names { All (HasNamesBelow (64 * W)) script.now }
-    ensures puts { PutsLines (at_edits SessionMode.Cograph session.entry script.now) after_end result
+    ensures puts { PutsLines (at_edits SessionMode.Cograph session script.now) after_end result
         (sink_run O.Sink out.old out.new) }
     ensures faults_never_fall { O.faults out.old ≤ O.faults out.new }
 {
@@ -161,14 +154,9 @@ fn put_answers<const W: usize, O: Sink>(
     put_report_line(alloc, Line::End, out)
 }
 
-// The line of an edit, which the session answers. Condition: the names in the edit are below
-// `64 * W`.
-fn answer_line<const W: usize>(
-    alloc: Global,
-    session: &mut CographSessionOf<W>,
-    edit: &Edit,
-) -> Result<Line, Memory>
-    requires { HasNamesBelow (64 * W) edit.now }
+// The line of an edit, which the session answers. Condition: the names in the edit are names.
+fn answer_line(alloc: Global, session: &mut CographSession, edit: &Edit) -> Result<Line, Memory>
+    requires { HasNames edit.now }
     ensures line { IfOk result (λ line. IsCographLine session.old edit.now (plain_line line)) }
     ensures state { IfOk result (λ line.
         session.new ≡ state_behind session.old edit.now (plain_line line)) }
@@ -183,25 +171,20 @@ fn answer_line<const W: usize>(
     }
 }
 
-// The answer to an edit. Condition: the names in the edit are below `64 * W`.
-pub(crate) fn answer<const W: usize>(session: &mut CographSessionOf<W>, edit: &Edit) -> Answer
-    requires { HasNamesBelow (64 * W) edit.now }
+// The answer to an edit. Condition: the names in the edit are names.
+pub(crate) fn answer(session: &mut CographSession, edit: &Edit) -> Answer
+    requires { HasNames edit.now }
     ensures { IsAnswered session.old edit.now result session.new }
 {
-    apply_counting::<W, Brand>(session, edit, Blank::new(1))
+    apply_counting::<Brand>(session, edit, Blank::new(1))
 }
 
-// The answer to an edit; nobody reads the steps. Condition: the names in the edit are below
-// `64 * W`.
-fn apply_counting<const W: usize, L: Ledger>(
-    session: &mut CographSessionOf<W>,
-    edit: &Edit,
-    blank: Blank,
-) -> Answer
+// The answer to an edit; nobody reads the steps. Condition: the names in the edit are names.
+fn apply_counting<L: Ledger>(session: &mut CographSession, edit: &Edit, blank: Blank) -> Answer
     requires name { blank.name ≡ L.name }
     requires parts { blank.parts ≡ L.parts }
     requires some { 0 < blank.parts }
-    requires names { HasNamesBelow (64 * W) edit.now }
+    requires names { HasNames edit.now }
     ensures { IsAnswered session.old edit.now result session.new }
 {
     let mut steps = Steps::<L>::new(blank);

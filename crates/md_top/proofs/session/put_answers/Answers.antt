@@ -1,13 +1,11 @@
 -- One more line is put, or the call stopped within it.
-use Rattle.std.proofs.Common.{rules, ◌*◌, ◌+◌, List, [], ◌∷◌, drop, refl, sym, subst, arith}
+use Rattle.std.proofs.Common.{◌+◌, List, [], ◌∷◌, drop, refl, sym, subst, arith}
 use Rattle.std.proofs.lemmas.List.{drop_all}
 use Rattle.md_script.specs.declared.edit.Edit.{Edit}
 use Rattle.md_graph.specs.PlainGraph.{PlainGraph}
 use Rattle.md_report.specs.declared.line.SessionMode.TheVariants as modes
 use Rattle.md_report.specs.Places.{at_edits, after_end}
 use Rattle.md_top.specs.Sinks.{AppendsLines}
-use Rattle.md_script.specs.Edit.{HasNamesBelow}
-use Rattle.md_script.proofs.ChangeLemmas.{holds_at}
 use Rattle.md_top.proofs.Lines.{stopped_behind, stopped_before, puts_behind, lines_behind}
 use Rattle.md_top.proofs.Edits.{next_edit}
 use Rattle.md_top.proofs.session.put_answers.Goals as goal
@@ -43,6 +41,3 @@ returns-clause-puts g c =
     (drop_all c.loop-i.i c.args.script.now (omega arith)) c.loop-i.invariant.progress)
     c.loop-i.invariant.faults
     (c.put_report_line-2.ensures.puts (at_edits modes.Cograph c.loop-i.session []) refl)
-
-pub answer_line-requires : goal.answer_line-requires
-answer_line-requires g c = (search rules, holds_at (HasNamesBelow (64 * g.row.W)) c.args.script.now c.loop-i.i c.get.result.now c.get.ensures.edit c.requires)

@@ -1,5 +1,5 @@
 -- One more line is put, or the call stopped within it.
-use Rattle.std.proofs.Common.{rules, ◌*◌, ◌+◌, List, [], ◌∷◌, drop, refl, sym, ◌∙◌, subst, arith}
+use Rattle.std.proofs.Common.{◌+◌, List, [], ◌∷◌, drop, refl, sym, ◌∙◌, subst, arith}
 use Rattle.std.proofs.lemmas.List.{drop_all}
 use Rattle.md_script.specs.declared.edit.Edit.{Edit}
 use Rattle.md_graph.specs.PlainGraph.{PlainGraph}
@@ -8,8 +8,6 @@ use Rattle.md_report.specs.Lines.{plain_line}
 use Rattle.md_report.proofs.Places.{state_is}
 use Rattle.md_report.specs.Places.{at_edits, after_end}
 use Rattle.md_top.specs.Sinks.{AppendsLines}
-use Rattle.md_script.specs.Edit.{HasNamesBelow}
-use Rattle.md_script.proofs.ChangeLemmas.{holds_at}
 use Rattle.md_top.proofs.Lines.{stopped_behind, puts_behind, lines_behind}
 use Rattle.md_top.proofs.Edits.{next_edit}
 use Rattle.md_top.proofs.session.put_edits.Goals as goal
@@ -40,6 +38,3 @@ returns-clause-puts g c =
     (drop_all c.loop-i.i c.args.script.now (omega arith)) c.loop-i.invariant.progress)
     c.loop-i.invariant.faults
     (c.put_report_line-2.ensures.puts (at_edits modes.Edit c.loop-i.session []) refl)
-
-pub apply-requires : goal.apply-requires
-apply-requires g c = (search rules, holds_at (HasNamesBelow (64 * g.row.W)) c.args.script.now c.loop-i.i c.get.result.now c.get.ensures.edit c.requires)

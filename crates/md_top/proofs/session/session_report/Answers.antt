@@ -1,6 +1,5 @@
 -- The report of the session on what the files spell, or the stop.
-use Rattle.std.proofs.Common.{rules, refl}
-use Rattle.md_script.proofs.FileLemmas.{script_has_names}
+use Rattle.std.proofs.Common.{refl}
 use Rattle.md_report.specs.Places.{before_session}
 use Rattle.md_top.specs.Answer.{report}
 use Rattle.md_top.specs.declared.stop.Verdict.TheVariants.{Done}
@@ -20,6 +19,3 @@ returns-clause-ends g c =
     (c.in_ok-graph.graph, c.in_ok-script.script, c.in_ok-graph.ensures.spells, c.in_ok-script.ensures.spells, refl)
     (rw (c.in_ok-graph.ensures.faultless, c.in_ok-script.ensures.faultless) refl) _ Done
     c.in_ok-put_session.ensures.puts
-
-pub put_session-requires : goal.put_session-requires
-put_session-requires g c = (search rules, script_has_names c.args.script.now c.in_ok-script.script c.in_ok-script.ensures.spells)
