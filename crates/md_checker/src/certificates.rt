@@ -420,36 +420,47 @@ mod tests {
         Ok(())
     }
 
-    // Sees what is said of a path over rows of `W` words.
-    fn path_over<const W: usize>(rt: &impl Abort, alloc: Global) -> Result<(), Memory> {
-        let path: GraphOf<W> = graph_of(rt, alloc, 4, &PATH)?;
+    // Sees what is said of a path, whatever the width of its rows.
+    fn expect_path<const W: usize>(
+        rt: &impl Abort,
+        alloc: Global,
+        path: &GraphOf<W>,
+    ) -> Result<(), Memory> {
         let first = Order::new(alloc, &[0, 2, 1, 3])?;
         let second = Order::new(alloc, &[1, 0, 3, 2])?;
-        assert!(rt; realise(alloc, &path, &first, &second)?);
-        assert!(rt; !realise(alloc, &path, &first, &first)?);
+        assert!(rt; realise(alloc, path, &first, &second)?);
+        assert!(rt; !realise(alloc, path, &first, &first)?);
         let arcs = Arcs::from_list(arcs_of(alloc, &[(0, 1), (2, 1), (2, 3)])?);
-        assert!(rt; is_least_edge_orientation(alloc, &path, &arcs)?);
-        assert!(rt; is_word_and_orientation(alloc, &path, b"yes", b"yes 0>1 2>1 2>3")?);
-        assert!(rt; !is_word_and_orientation(alloc, &path, b"yes", b"yes 0>1 1>2 2>3")?);
+        assert!(rt; is_least_edge_orientation(alloc, path, &arcs)?);
+        assert!(rt; is_word_and_orientation(alloc, path, b"yes", b"yes 0>1 2>1 2>3")?);
+        assert!(rt; !is_word_and_orientation(alloc, path, b"yes", b"yes 0>1 1>2 2>3")?);
         Ok(())
     }
 
-    // Sees what is said of a cycle over rows of `W` words.
-    fn cycle_over<const W: usize>(rt: &impl Abort, alloc: Global) -> Result<(), Memory> {
-        let cycle: GraphOf<W> = graph_of(rt, alloc, 5, &CYCLE)?;
+    // Sees what is said of a cycle, whatever the width of its rows.
+    fn expect_cycle<const W: usize>(
+        rt: &impl Abort,
+        alloc: Global,
+        cycle: &GraphOf<W>,
+    ) -> Result<(), Memory> {
         let list = arcs_of(alloc, &[(0, 1), (0, 4), (3, 4), (3, 2), (1, 2), (1, 0)])?;
         let chain = Chain::from_list(list);
-        assert!(rt; is_forcing_chain(alloc, &cycle, Side::Edges, &chain)?);
-        assert!(rt; !is_forcing_chain(alloc, &cycle, Side::NonEdges, &chain)?);
+        assert!(rt; is_forcing_chain(alloc, cycle, Side::Edges, &chain)?);
+        assert!(rt; !is_forcing_chain(alloc, cycle, Side::NonEdges, &chain)?);
         Ok(())
     }
 
     #[test]
     fn certificates_over_few_words(rt: HostRuntime) -> Result<(), Fail> {
-        path_over::<1>(&rt, rt.alloc())?;
-        cycle_over::<1>(&rt, rt.alloc())?;
-        path_over::<16>(&rt, rt.alloc())?;
-        cycle_over::<16>(&rt, rt.alloc())?;
+        let alloc = rt.alloc();
+        let path: GraphOf<1> = graph_of(&rt, alloc, 4, &PATH)?;
+        expect_path(&rt, alloc, &path)?;
+        let path: GraphOf<16> = graph_of(&rt, alloc, 4, &PATH)?;
+        expect_path(&rt, alloc, &path)?;
+        let cycle: GraphOf<1> = graph_of(&rt, alloc, 5, &CYCLE)?;
+        expect_cycle(&rt, alloc, &cycle)?;
+        let cycle: GraphOf<16> = graph_of(&rt, alloc, 5, &CYCLE)?;
+        expect_cycle(&rt, alloc, &cycle)?;
         Ok(())
     }
 }
