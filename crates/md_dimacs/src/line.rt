@@ -88,6 +88,8 @@ fn checked_size(limit: u32, vertices: Option<u64>, edges: Option<u64>) -> Result
 }
 
 // Reads the fields behind the `e` of an edge line, where there are `n` vertices: the two ends.
+// Always inlined: with a reader for each width it would be a call an edge.
+#[inline(always)]
 pub(crate) fn read_ends(n: u32, rest: &[u8]) -> Result<(u32, u32), DimacsKind>
     ensures ends { IfOk result (λ p. ends_in (fields rest.now) ≡ Some p) }
     ensures first { IfOk result (λ p. IsTrue (is_vertex n p.0)) }

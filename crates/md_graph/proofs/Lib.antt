@@ -19,4 +19,3 @@ pub mod Ranges
 mod ListedLemmas
 pub mod Walks
 pub mod LinkedLists
-pub mod TableLaws

@@ -8,4 +8,3 @@ pub mod Rows
 pub mod Blocks
 pub mod Laws
 pub mod Linked
-pub mod Tables

@@ -9,7 +9,6 @@ mod listed;
 mod members;
 mod names;
 mod steps;
-mod tables;
 mod transposition;
 mod words;
 
@@ -19,7 +18,6 @@ pub use members::Members;
 pub use names::{Names, Set};
 use std::alloc::{AllocError, AllocFailed};
 pub use steps::Steps;
-pub use tables::Table;
 pub use words::lowest;
 
 /// How many names there are: a name is a number below it.

@@ -1,5 +1,5 @@
 -- Store of which all places are free.
-use Rattle.std.proofs.Common.{◌≡◌, ℕ, zero, suc, ◌+◌, ◌-◌, ◌<◌, ◌≤◌, min, cond, List, [], ◌++◌, append-nil, length, get_or, replicate, Option, None, is_some, is_none, refl, sym, ◌∙◌, ap, subst, inl, inr, arith}
+use Rattle.std.proofs.Common.{◌≡◌, ℕ, zero, suc, ◌+◌, ◌<◌, ◌≤◌, min, cond, List, [], length, get_or, replicate, Option, None, is_some, is_none, refl, sym, ◌∙◌, ap, subst, inl, inr, arith}
 use Rattle.std.proofs.lemmas.Bool.{cases_lt}
 use Rattle.std.proofs.lemmas.List.{get_or-replicate, get_or_past, length-replicate}
 use Rattle.std.proofs.lemmas.List.Sums.{sum_by-cons}
@@ -12,8 +12,6 @@ use Rattle.md_graph.specs.Linked.{Follow, times}
 use Rattle.md_lists.specs.Spans.{span_of, Precede}
 use Rattle.md_lists.specs.Links.{all_free}
 use Rattle.md_lists.specs.Store.{Store, Shows}
-use Rattle.md_lists.specs.Kept.{last_places}
-use Rattle.md_lists.proofs.Fresh.{length-last_places, all_once, all_within}
 
 abbrev all_none : ℕ → List (Option PlaceKind)
 all_none n = replicate n None
@@ -74,12 +72,3 @@ starts f kinds parents spans nexts previous tallies notes marks mark_nexts once 
         free_count = count ∙ sym (count-all PLACES);
       };
     }
-
--- no place was live yet, and no other is free
-pub all_fresh : {xs : List ℕ} → xs ≡ [] → ((p : ℕ) → p < PLACES → times p (last_places PLACES (PLACES - 0) ++ xs) ≡ 1) × ((p : ℕ) → PLACES ≤ p → times p (last_places PLACES (PLACES - 0) ++ xs) ≡ 0) × (length (last_places PLACES (PLACES - 0) ++ xs) ≡ PLACES)
-all_fresh {xs} none =
-    let all : last_places PLACES (PLACES - 0) ++ xs ≡ last_places PLACES PLACES = ap (λ z. last_places PLACES (PLACES - 0) ++ z) none ∙ append-nil (last_places PLACES (PLACES - 0)) ∙ ap (last_places PLACES) (nothing_less PLACES) in
-    (λ p low. ap (times p) all ∙ all_once PLACES p low, λ p high. ap (times p) all ∙ all_within PLACES p high, ap length all ∙ length-last_places PLACES PLACES)
-  where
-    nothing_less : (n : ℕ) → n - 0 ≡ n
-    nothing_less n = omega arith

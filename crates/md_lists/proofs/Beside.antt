@@ -1,5 +1,5 @@
 -- A child, and what its links are; the fields after a child comes, leaves, or has another in its place.
-use Rattle.std.proofs.Common.{◌≡◌, ℕ, ◌<◌, ◌≤◌, List, [], ◌∷◌, ◌++◌, get_or, set, is_some, length, Option, Some, None, IsSome, IfSome, sym, ◌∙◌, ap, arith}
+use Rattle.std.proofs.Common.{vec_len, ◌≡◌, ℕ, ◌<◌, ◌≤◌, List, [], ◌∷◌, ◌++◌, get_or, set, is_some, length, Option, Some, None, IsSome, IfSome, sym, ◌∙◌, ap, arith}
 use Rattle.std.proofs.lemmas.Bool.{false≢true}
 use Rattle.std.proofs.lemmas.Option.{same_Some}
 use Rattle.std.proofs.lemmas.List.{get_or_read}
@@ -28,20 +28,20 @@ module _ (a : Inside) (l : Links) (kept : IsKept a) (kept_is : links_kept a ≡ 
   pub child_items : HasItems a c
   child_items = place_items a l s c c_within
 
-  previous_is : (o : Option ℕ) → o ≡ get_or a.previous c o → o ≡ get_or a.previous c None
-  previous_is o read = get_or_read a.previous c o (let w = c_within in let e = s.previous_len in omega arith) read None
+  previous_is : (o : Option ℕ) → o ≡ get_or a.previous.items c o → o ≡ get_or a.previous.items c None
+  previous_is o read = get_or_read a.previous.items c o (let w = c_within in let e = s.previous_len in omega arith) read None
 
-  next_is : (o : Option ℕ) → o ≡ get_or a.nexts c o → o ≡ get_or a.nexts c None
-  next_is o read = get_or_read a.nexts c o (let w = c_within in let e = s.nexts_len in omega arith) read None
+  next_is : (o : Option ℕ) → o ≡ get_or a.nexts.items c o → o ≡ get_or a.nexts.items c None
+  next_is o read = get_or_read a.nexts.items c o (let w = c_within in let e = s.nexts_len in omega arith) read None
 
-  parent_is : (o : Option ℕ) → o ≡ get_or a.parents c o → o ≡ parent_at l c
-  parent_is o read = read_as a.parents l.parents c PLACES o None s.parents s.links.parents_len c_within read
+  parent_is : (o : Option ℕ) → o ≡ get_or a.parents.items c o → o ≡ parent_at l c
+  parent_is o read = read_as a.parents.items l.parents c PLACES o None s.parents s.links.parents_len c_within read
 
   -- a child has a parent
-  pub not_none : (o : Option ℕ) → o ≡ get_or a.parents c o → o ≡ None → ⊥
+  pub not_none : (o : Option ℕ) → o ≡ get_or a.parents.items c o → o ≡ None → ⊥
   not_none o read none = let e = parent_is o read in false≢true (sym (ap is_some (sym e ∙ none)) ∙ some)
 
-  module _ (o : Option ℕ) (q : ℕ) (read : o ≡ get_or a.parents c o) (found : o ≡ Some q) where
+  module _ (o : Option ℕ) (q : ℕ) (read : o ≡ get_or a.parents.items c o) (found : o ≡ Some q) where
     owner_is : parent_at l c ≡ Some q
     owner_is = sym (parent_is o read) ∙ found
 
@@ -54,16 +54,16 @@ module _ (a : Inside) (l : Links) (kept : IsKept a) (kept_is : links_kept a ≡ 
     pub owner_items : HasItems a q
     owner_items = place_items a l s q q_within
 
-    pub low_before : (b : Option ℕ) → b ≡ get_or a.previous c b → IfSome b (λ p. p < length a.nexts)
-    low_before b at = before_low (store_of a) l s q c owner_is b (length a.nexts) (previous_is b at) (let e = (sizes a l s).nexts_size in omega arith)
+    pub low_before : (b : Option ℕ) → b ≡ get_or a.previous.items c b → IfSome b (λ p. p < vec_len a.nexts)
+    low_before b at = before_low (store_of a) l s q c owner_is b (vec_len a.nexts) (previous_is b at) (let e = (sizes a l s).nexts_size in omega arith)
 
-    pub low_after : (b : Option ℕ) → b ≡ get_or a.nexts c b → IfSome b (λ p. p < length a.previous)
-    low_after b at = after_low (store_of a) l s q c owner_is b (length a.previous) (next_is b at) (let e = (sizes a l s).previous_size in omega arith)
+    pub low_after : (b : Option ℕ) → b ≡ get_or a.nexts.items c b → IfSome b (λ p. p < vec_len a.previous)
+    low_after b at = after_low (store_of a) l s q c owner_is b (vec_len a.previous) (next_is b at) (let e = (sizes a l s).previous_size in omega arith)
 
-    span_is : (r : Span) → r ≡ get_or a.spans q r → r ≡ span_of (children_at l q)
-    span_is r at = get_or_read a.spans q r (let w = q_within in let e = s.spans_len in omega arith) at (span_of []) ∙ s.spans q
+    span_is : (r : Span) → r ≡ get_or a.spans.items q r → r ≡ span_of (children_at l q)
+    span_is r at = get_or_read a.spans.items q r (let w = q_within in let e = s.spans_len in omega arith) at (span_of []) ∙ s.spans q
 
-    pub some_children : (r : Span) → r ≡ get_or a.spans q r → 0 < r.count
+    pub some_children : (r : Span) → r ≡ get_or a.spans.items q r → 0 < r.count
     some_children r at =
         let e = ap (λ (w : Span). w.count) (span_is r at) in
         let long = few_some (children_at l q) (parent_child l s.links q c owner_is) in
@@ -74,31 +74,31 @@ module _ (a : Inside) (l : Links) (kept : IsKept a) (kept_is : links_kept a ≡ 
         few_some (x ∷ xs) one = omega arith
 
     -- the fields after the child leaves
-    pub detaches_child : (before after : Option ℕ) (r0 r : Span) (parents : List (Option ℕ)) (spans : List Span) (ns ps : List (Option ℕ)) → parents ≡ set a.parents c None → spans ≡ set a.spans q r → before ≡ get_or a.previous c before → after ≡ get_or a.nexts c after → r0 ≡ get_or a.spans q r0 → ((us vs : List ℕ) (x : ℕ) → r0 ≡ span_of (us ++ x ∷ vs) → before ≡ last_or us None → after ≡ first_or vs None → r ≡ span_of (us ++ vs)) → ns ≡ set (linked a.nexts before after) c None → ps ≡ linked a.previous after before → Shows (record (store_of a) { parents = parents; spans = spans; nexts = ns; previous = ps }) (detached l q c)
-    detaches_child before after r0 r parents spans ns ps parents_are spans_are prev next span made nexts prevs =
-        detaches (store_of a) l s q c owner_is before after r0 r parents spans ns ps parents_are spans_are (previous_is before prev) (next_is after next) (span_is r0 span) made nexts prevs
+    pub detaches_child : (before after : Option ℕ) (r0 r : Span) (ns ps : List (Option ℕ)) → before ≡ get_or a.previous.items c before → after ≡ get_or a.nexts.items c after → r0 ≡ get_or a.spans.items q r0 → ((us vs : List ℕ) (x : ℕ) → r0 ≡ span_of (us ++ x ∷ vs) → before ≡ last_or us None → after ≡ first_or vs None → r ≡ span_of (us ++ vs)) → ns ≡ set (linked a.nexts.items before after) c None → ps ≡ linked a.previous.items after before → Shows (record (store_of a) { parents = set a.parents.items c None; spans = set a.spans.items q r; nexts = ns; previous = ps }) (detached l q c)
+    detaches_child before after r0 r ns ps prev next span made nexts prevs =
+        detaches (store_of a) l s q c owner_is before after r0 r ns ps (previous_is before prev) (next_is after next) (span_is r0 span) made nexts prevs
 
     -- the fields after another place stands where the child stood
-    pub replaces_child : (n : ℕ) → IsLive l n → parent_at l n ≡ None → (before after : Option ℕ) (r0 r : Span) (spans : List Span) (parents ns ps : List (Option ℕ)) → spans ≡ set a.spans q r → parents ≡ set (set a.parents c None) n (Some q) → before ≡ get_or a.previous c before → after ≡ get_or a.nexts c after → r0 ≡ get_or a.spans q r0 → ((us vs : List ℕ) (x : ℕ) → r0 ≡ span_of (us ++ x ∷ vs) → before ≡ last_or us None → after ≡ first_or vs None → r ≡ span_of (us ++ n ∷ vs)) → ns ≡ set (set (linked a.nexts before (Some n)) n after) c None → ps ≡ set (linked a.previous after (Some n)) n before → Shows (record (store_of a) { parents = parents; spans = spans; nexts = ns; previous = ps }) (replaced l q c n)
-    replaces_child n live loose before after r0 r spans parents ns ps spans_are parents_are prev next span made nexts prevs =
-        replaces (store_of a) l s q c owner_is n live loose before after r0 r spans parents ns ps spans_are parents_are (previous_is before prev) (next_is after next) (span_is r0 span) made nexts prevs
+    pub replaces_child : (n : ℕ) → IsLive l n → parent_at l n ≡ None → (before after : Option ℕ) (r0 r : Span) (parents ns ps : List (Option ℕ)) → parents ≡ set (set a.parents.items c None) n (Some q) → before ≡ get_or a.previous.items c before → after ≡ get_or a.nexts.items c after → r0 ≡ get_or a.spans.items q r0 → ((us vs : List ℕ) (x : ℕ) → r0 ≡ span_of (us ++ x ∷ vs) → before ≡ last_or us None → after ≡ first_or vs None → r ≡ span_of (us ++ n ∷ vs)) → ns ≡ set (set (linked a.nexts.items before (Some n)) n after) c None → ps ≡ set (linked a.previous.items after (Some n)) n before → Shows (record (store_of a) { parents = parents; spans = set a.spans.items q r; nexts = ns; previous = ps }) (replaced l q c n)
+    replaces_child n live loose before after r0 r parents ns ps parents_are prev next span made nexts prevs =
+        replaces (store_of a) l s q c owner_is n live loose before after r0 r parents ns ps parents_are (previous_is before prev) (next_is after next) (span_is r0 span) made nexts prevs
 
 -- ---- a place that becomes the last child of another
 
-module _ (a : Inside) (l : Links) (kept : IsKept a) (kept_is : links_kept a ≡ l) (q : ℕ) (parent : IsLive l q) (r0 : Span) (read : r0 ≡ get_or a.spans q r0) where
+module _ (a : Inside) (l : Links) (kept : IsKept a) (kept_is : links_kept a ≡ l) (q : ℕ) (parent : IsLive l q) (r0 : Span) (read : r0 ≡ get_or a.spans.items q r0) where
   abbrev t : Shows (store_of a) l
   t = opened a l kept kept_is
 
   is : r0 ≡ span_of (children_at l q)
   is = span_read a l kept kept_is q parent r0 read
 
-  pub low_last : IfSome r0.last (λ p. p < length a.nexts)
+  pub low_last : IfSome r0.last (λ p. p < vec_len a.nexts)
   low_last =
-      last_low r0.last (children_at l q) (length a.nexts) (ap (λ (r : Span). r.last) is)
+      last_low r0.last (children_at l q) (vec_len a.nexts) (ap (λ (r : Span). r.last) is)
       (λ x some. (place_items a l t x (child_within l t.links q x some)).in_nexts)
 
   pub few_before : r0.count ≤ PLACES
   few_before = let e = ap (λ (r : Span). r.count) is in let few = few_children l t.links q in omega arith
 
-  pub attaches_child : (c : ℕ) → IsLive l c → parent_at l c ≡ None → (r : Span) (parents : List (Option ℕ)) (spans : List Span) (ns ps : List (Option ℕ)) → parents ≡ set a.parents c (Some q) → spans ≡ set a.spans q r → ((xs : List ℕ) → r0 ≡ span_of xs → r ≡ span_of (xs ++ c ∷ [])) → ns ≡ linked a.nexts r0.last (Some c) → ps ≡ linked a.previous (Some c) r0.last → Shows (record (store_of a) { parents = parents; spans = spans; nexts = ns; previous = ps }) (attached l q c)
-  attaches_child c live loose r parents spans ns ps parents_are spans_are made nexts prevs = attaches (store_of a) l t q c parent live loose r0 r parents spans ns ps parents_are spans_are is (made (children_at l q) is) nexts prevs
+  pub attaches_child : (c : ℕ) → IsLive l c → parent_at l c ≡ None → (r : Span) (ns ps : List (Option ℕ)) → ((xs : List ℕ) → r0 ≡ span_of xs → r ≡ span_of (xs ++ c ∷ [])) → ns ≡ linked a.nexts.items r0.last (Some c) → ps ≡ linked a.previous.items (Some c) r0.last → Shows (record (store_of a) { parents = set a.parents.items c (Some q); spans = set a.spans.items q r; nexts = ns; previous = ps }) (attached l q c)
+  attaches_child c live loose r ns ps made nexts prevs = attaches (store_of a) l t q c parent live loose r0 r ns ps is (made (children_at l q) is) nexts prevs

@@ -1,5 +1,5 @@
 -- Store after a place becomes the last child of another, and the links that it keeps then.
-use Rattle.std.proofs.Common.{◌≡◌, ◌≢◌, ℕ, List, [], ◌∷◌, ◌++◌, length, get_or, set, Option, Some, None, refl, sym, ◌∙◌, ap, subst, arith, append-nil}
+use Rattle.std.proofs.Common.{◌≡◌, ◌≢◌, ℕ, ◌+◌, List, [], ◌∷◌, ◌++◌, length, get_or, set, Option, Some, None, refl, sym, ◌∙◌, ap, subst, arith, append-nil}
 use Rattle.std.proofs.lemmas.Bool.{eq-eqb, ne_eqb}
 use Rattle.std.proofs.lemmas.List.{get_or-set_same, get_or-set_other, length-set}
 use Rattle.md_lists.specs.declared.span.Span.{Span}
@@ -38,19 +38,19 @@ module _ (f : Store) (l : Links) (s : Shows f l) where
       loose = λ x came. ap (λ z. parent_at l z) (alone x c came) ∙ loose;
     }
 
-    pub attaches : (r0 r : Span) (parents : List (Option ℕ)) (spans : List Span) (ns ps : List (Option ℕ)) → parents ≡ set f.parents c (Some q) → spans ≡ set f.spans q r → r0 ≡ span_of xs → r ≡ span_of (xs ++ c ∷ []) → ns ≡ linked f.nexts r0.last (Some c) → ps ≡ linked f.previous (Some c) r0.last → Shows (record f { parents = parents; spans = spans; nexts = ns; previous = ps }) new
-    attaches r0 r parents spans ns ps parents_are spans_are read made nexts prevs =
+    pub attaches : (r0 r : Span) (ns ps : List (Option ℕ)) → r0 ≡ span_of xs → r ≡ span_of (xs ++ c ∷ []) → ns ≡ linked f.nexts r0.last (Some c) → ps ≡ linked f.previous (Some c) r0.last → Shows (record f { parents = set f.parents c (Some q); spans = set f.spans q r; nexts = ns; previous = ps }) new
+    attaches r0 r ns ps read made nexts prevs =
         record {
           links = attached_links l s.links q c parent child loose;
           kinds = s.kinds;
-          parents = parents_are ∙ ap (λ z. set z c (Some q)) s.parents;
+          parents = ap (λ z. set z c (Some q)) s.parents;
           tallies = s.tallies;
           notes = s.notes;
           children = record {
-            spans_len = ap length spans_are ∙ length-set f.spans q r ∙ s.spans_len;
+            spans_len = length-set f.spans q r ∙ s.spans_len;
             nexts_len = ap length nexts ∙ length-linked f.nexts r0.last (Some c) ∙ s.nexts_len;
             previous_len = ap length prevs ∙ length-set f.previous c r0.last ∙ s.previous_len;
-            spans = λ p. ap (λ z. get_or z p (span_of [])) spans_are ∙ spans_shown f.spans l new q r (let w = live_within l s.links q parent in let e = s.spans_len in omega arith) s.spans attached_others (made ∙ ap span_of (sym attached_here)) p;
+            spans = spans_shown f.spans l new q r (let w = live_within l s.links q parent in let e = s.spans_len in omega arith) s.spans attached_others (made ∙ ap span_of (sym attached_here));
             forward = spliced_forward l new q xs [] (c ∷ []) [] attached_spliced f.nexts ns same s.forward at_left (at_c, tt);
             back = spliced_back l new q xs [] (c ∷ []) [] attached_spliced f.previous ps same_back s.back (prev_c, tt);
             loose = spliced_loose l new q xs [] (c ∷ []) [] attached_spliced f.nexts ns same s.loose (λ x none. absurd (omega arith));

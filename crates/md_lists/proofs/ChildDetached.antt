@@ -88,19 +88,19 @@ module _ (f : Store) (l : Links) (s : Shows f l) where
       loose = λ x came. absurd (omega arith);
     }
 
-    pub detaches : (before after : Option ℕ) (r0 r : Span) (parents : List (Option ℕ)) (spans : List Span) (ns ps : List (Option ℕ)) → parents ≡ set f.parents c None → spans ≡ set f.spans q r → before ≡ get_or f.previous c None → after ≡ get_or f.nexts c None → r0 ≡ span_of (children_at l q) → ((us vs : List ℕ) (x : ℕ) → r0 ≡ span_of (us ++ x ∷ vs) → before ≡ last_or us None → after ≡ first_or vs None → r ≡ span_of (us ++ vs)) → ns ≡ set (linked f.nexts before after) c None → ps ≡ linked f.previous after before → Shows (record f { parents = parents; spans = spans; nexts = ns; previous = ps }) gone
-    detaches before after r0 r parents spans ns ps parents_are spans_are prev next read made nexts prevs =
+    pub detaches : (before after : Option ℕ) (r0 r : Span) (ns ps : List (Option ℕ)) → before ≡ get_or f.previous c None → after ≡ get_or f.nexts c None → r0 ≡ span_of (children_at l q) → ((us vs : List ℕ) (x : ℕ) → r0 ≡ span_of (us ++ x ∷ vs) → before ≡ last_or us None → after ≡ first_or vs None → r ≡ span_of (us ++ vs)) → ns ≡ set (linked f.nexts before after) c None → ps ≡ linked f.previous after before → Shows (record f { parents = set f.parents c None; spans = set f.spans q r; nexts = ns; previous = ps }) gone
+    detaches before after r0 r ns ps prev next read made nexts prevs =
         record {
           links = detached_links l s.links q c is;
           kinds = s.kinds;
-          parents = parents_are ∙ ap (λ z. set z c None) s.parents;
+          parents = ap (λ z. set z c None) s.parents;
           tallies = s.tallies;
           notes = s.notes;
           children = record {
-            spans_len = ap length spans_are ∙ length-set f.spans q r ∙ s.spans_len;
+            spans_len = length-set f.spans q r ∙ s.spans_len;
             nexts_len = ap length nexts ∙ length-set (linked f.nexts before after) c None ∙ length-linked f.nexts before after ∙ s.nexts_len;
             previous_len = ap length prevs ∙ length-linked f.previous after before ∙ s.previous_len;
-            spans = λ p. ap (λ z. get_or z p (span_of [])) spans_are ∙ spans_shown f.spans l gone q r (let w = owner_within l s.links q c is in let e = s.spans_len in omega arith) s.spans detached_others (made left right c (read ∙ ap span_of split_child.2.whole) before_is after_is ∙ ap span_of (sym detached_here)) p;
+            spans = spans_shown f.spans l gone q r (let w = owner_within l s.links q c is in let e = s.spans_len in omega arith) s.spans detached_others (made left right c (read ∙ ap span_of split_child.2.whole) before_is after_is ∙ ap span_of (sym detached_here));
             forward = spliced_forward l gone q left (c ∷ []) [] right detached_spliced f.nexts ns same s.forward at_left tt;
             back = spliced_back l gone q left (c ∷ []) [] right detached_spliced f.previous ps same_back s.back at_right;
             loose = spliced_loose l gone q left (c ∷ []) [] right detached_spliced f.nexts ns same s.loose (λ x some. ap (λ z. get_or ns z None) (alone x c some) ∙ at_c);
@@ -182,8 +182,8 @@ module _ (f : Store) (l : Links) (s : Shows f l) where
         loose = λ x came. ap (λ z. parent_at l z) (alone x n came) ∙ loose;
       }
 
-      pub replaces : (before after : Option ℕ) (r0 r : Span) (spans : List Span) (parents ns ps : List (Option ℕ)) → spans ≡ set f.spans q r → parents ≡ set (set f.parents c None) n (Some q) → before ≡ get_or f.previous c None → after ≡ get_or f.nexts c None → r0 ≡ span_of (children_at l q) → ((us vs : List ℕ) (x : ℕ) → r0 ≡ span_of (us ++ x ∷ vs) → before ≡ last_or us None → after ≡ first_or vs None → r ≡ span_of (us ++ n ∷ vs)) → ns ≡ set (set (linked f.nexts before (Some n)) n after) c None → ps ≡ set (linked f.previous after (Some n)) n before → Shows (record f { parents = parents; spans = spans; nexts = ns; previous = ps }) put
-      replaces before after r0 r spans parents ns ps spans_are parents_are prev next read made nexts prevs =
+      pub replaces : (before after : Option ℕ) (r0 r : Span) (parents ns ps : List (Option ℕ)) → parents ≡ set (set f.parents c None) n (Some q) → before ≡ get_or f.previous c None → after ≡ get_or f.nexts c None → r0 ≡ span_of (children_at l q) → ((us vs : List ℕ) (x : ℕ) → r0 ≡ span_of (us ++ x ∷ vs) → before ≡ last_or us None → after ≡ first_or vs None → r ≡ span_of (us ++ n ∷ vs)) → ns ≡ set (set (linked f.nexts before (Some n)) n after) c None → ps ≡ set (linked f.previous after (Some n)) n before → Shows (record f { parents = parents; spans = set f.spans q r; nexts = ns; previous = ps }) put
+      replaces before after r0 r parents ns ps parents_are prev next read made nexts prevs =
           record {
             links = replaced_links l s.links q c n is live loose;
             kinds = s.kinds;
@@ -191,10 +191,10 @@ module _ (f : Store) (l : Links) (s : Shows f l) where
             tallies = s.tallies;
             notes = s.notes;
             children = record {
-              spans_len = ap length spans_are ∙ length-set f.spans q r ∙ s.spans_len;
+              spans_len = length-set f.spans q r ∙ s.spans_len;
               nexts_len = ap length nexts ∙ length-set (set (linked f.nexts before (Some n)) n after) c None ∙ length-set (linked f.nexts before (Some n)) n after ∙ length-linked f.nexts before (Some n) ∙ s.nexts_len;
               previous_len = ap length prevs ∙ length-set (linked f.previous after (Some n)) n before ∙ length-linked f.previous after (Some n) ∙ s.previous_len;
-              spans = λ p. ap (λ z. get_or z p (span_of [])) spans_are ∙ spans_shown f.spans l put q r (let w = owner_within l s.links q c is in let e = s.spans_len in omega arith) s.spans replaced_others (made left right c (read ∙ ap span_of split_child.2.whole) before_is after_is ∙ ap span_of (sym replaced_here)) p;
+              spans = spans_shown f.spans l put q r (let w = owner_within l s.links q c is in let e = s.spans_len in omega arith) s.spans replaced_others (made left right c (read ∙ ap span_of split_child.2.whole) before_is after_is ∙ ap span_of (sym replaced_here));
               forward = spliced_forward l put q left (c ∷ []) (n ∷ []) right replaced_spliced f.nexts ns same s.forward at_left (at_n, tt);
               back = spliced_back l put q left (c ∷ []) (n ∷ []) right replaced_spliced f.previous ps same_back s.back (prev_n, at_right);
               loose = spliced_loose l put q left (c ∷ []) (n ∷ []) right replaced_spliced f.nexts ns same s.loose (λ x some. ap (λ z. get_or ns z None) (alone x c some) ∙ at_c);

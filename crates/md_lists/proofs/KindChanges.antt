@@ -50,10 +50,10 @@ module _ (f : Store) (l : Links) (s : Shows f l) where
         omega arith;
   }
 
-  rekinds : (p : ℕ) (k : Option PlaceKind) (ks : List (Option PlaceKind)) (fs : List ℕ) → ks ≡ set f.kinds p k → p < PLACES → (k ≡ None → IsBare l p) → ShowsFree (set l.kinds p k) fs → Shows (record f { kinds = ks; free = fs }) (with_kind l p k)
-  rekinds p k ks fs changed within bare spare = record {
+  rekinds : (p : ℕ) (k : Option PlaceKind) (fs : List ℕ) → p < PLACES → (k ≡ None → IsBare l p) → ShowsFree (set l.kinds p k) fs → Shows (record f { kinds = set f.kinds p k; free = fs }) (with_kind l p k)
+  rekinds p k fs within bare spare = record {
     links = with_kind_links l s.links p k within bare;
-    kinds = changed ∙ ap (λ z. set z p k) s.kinds;
+    kinds = ap (λ z. set z p k) s.kinds;
     parents = s.parents;
     tallies = s.tallies;
     notes = s.notes;
@@ -62,11 +62,11 @@ module _ (f : Store) (l : Links) (s : Shows f l) where
     spare = spare;
   }
 
-  pub makes : (fs : List ℕ) (p : ℕ) (k : PlaceKind) → f.free ≡ fs ++ p ∷ [] → (p < PLACES) × (kind_at l p ≡ None) × ((ks : List (Option PlaceKind)) → ks ≡ set f.kinds p (Some k) → Shows (record f { kinds = ks; free = fs }) (with_kind l p (Some k)))
+  pub makes : (fs : List ℕ) (p : ℕ) (k : PlaceKind) → f.free ≡ fs ++ p ∷ [] → (p < PLACES) × (kind_at l p ≡ None) × Shows (record f { kinds = set f.kinds p (Some k); free = fs }) (with_kind l p (Some k))
   makes fs p k popped = (
     within,
     is_free,
-    λ ks changed. rekinds p (Some k) ks fs changed within (λ e. absurd (none-some k (sym e))) (free_after p (Some k) fs within (let e = left_out in omega arith) others long),
+    rekinds p (Some k) fs within (λ e. absurd (none-some k (sym e))) (free_after p (Some k) fs within (let e = left_out in omega arith) others long),
   )
     where
       counted : (x : ℕ) → times x f.free ≡ times x fs + (cond (p == x) 1 0 + 0)
@@ -109,8 +109,8 @@ module _ (f : Store) (l : Links) (s : Shows f l) where
       let was = s.free_count in
       omega arith
 
-  pub frees : (ks : List (Option PlaceKind)) (fs : List ℕ) (p : ℕ) → ks ≡ set f.kinds p None → IsLive l p → IsBare l p → fs ≡ f.free ++ p ∷ [] → Shows (record f { kinds = ks; free = fs }) (with_kind l p None)
-  frees ks fs p changed live is_bare pushed = rekinds p None ks fs changed within (λ e. is_bare) (free_after p None fs within here (others_stay f.free fs p pushed) long)
+  pub frees : (fs : List ℕ) (p : ℕ) → IsLive l p → IsBare l p → fs ≡ f.free ++ p ∷ [] → Shows (record f { kinds = set f.kinds p None; free = fs }) (with_kind l p None)
+  frees fs p live is_bare pushed = rekinds p None fs within (λ e. is_bare) (free_after p None fs within here (others_stay f.free fs p pushed) long)
     where
       within : p < PLACES
       within = live_within l s.links p live
@@ -128,10 +128,10 @@ module _ (f : Store) (l : Links) (s : Shows f l) where
       long : length fs + cond (is_none (kind_at l p)) 1 0 ≡ length f.free + 1
       long = let not_none = not_free (kind_at l p) live in let e = ap length pushed ∙ length-append f.free (p ∷ []) in omega arith
 
-  pub renames : (ks : List (Option PlaceKind)) (p : ℕ) (k : PlaceKind) → ks ≡ set f.kinds p (Some k) → IsLive l p → Shows (record f { kinds = ks }) (with_kind l p (Some k))
-  renames ks p k changed live =
+  pub renames : (p : ℕ) (k : PlaceKind) → IsLive l p → Shows (record f { kinds = set f.kinds p (Some k) }) (with_kind l p (Some k))
+  renames p k live =
       let within = live_within l s.links p live in
       let was = s.free_once p within in
       let one = live_alive p live in
       let not_none = not_free (kind_at l p) live in
-      rekinds p (Some k) ks f.free changed within (λ e. absurd (none-some k (sym e))) (free_after p (Some k) f.free within (omega arith) (λ x other. refl) (omega arith))
+      rekinds p (Some k) f.free within (λ e. absurd (none-some k (sym e))) (free_after p (Some k) f.free within (omega arith) (λ x other. refl) (omega arith))

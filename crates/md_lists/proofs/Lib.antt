@@ -13,4 +13,3 @@ pub mod AllFree
 pub mod Beside
 pub mod Marks
 pub mod Loose
-pub mod Fresh

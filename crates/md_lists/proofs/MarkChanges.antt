@@ -55,40 +55,40 @@ module _ (f : Store) (l : Links) (s : Shows f l) where
       mark_forward = joined_forward;
     }
 
-    pub raises : (t : ℕ) → t ≡ tally_at l p → (ts : List ℕ) → ts ≡ set f.tallies p (t + 1) → Shows (record f { tallies = ts; marks = r; mark_nexts = ms }) (raised l p)
-    raises t is ts changed =
+    pub raises : (t : ℕ) → t ≡ tally_at l p → Shows (record f { tallies = set f.tallies p (t + 1); marks = r; mark_nexts = ms }) (raised l p)
+    raises t is =
         record {
           links = raised_links l s.links p live;
           kinds = s.kinds;
           parents = s.parents;
-          tallies = changed ∙ (λ i. set (s.tallies i) p (is i + 1));
+          tallies = λ i. set (s.tallies i) p (is i + 1);
           notes = s.notes;
           children = s.children;
           marked = joins;
           spare = s.spare;
         }
 
-    pub writes_note : (note : ℕ) → note ≢ 0 → (ns : List ℕ) → ns ≡ set f.notes p note → Shows (record f { notes = ns; marks = r; mark_nexts = ms }) (noted l p note)
-    writes_note note some ns changed =
+    pub writes_note : (note : ℕ) → note ≢ 0 → Shows (record f { notes = set f.notes p note; marks = r; mark_nexts = ms }) (noted l p note)
+    writes_note note some =
         record {
           links = noted_links l s.links p note live some;
           kinds = s.kinds;
           parents = s.parents;
           tallies = s.tallies;
-          notes = changed ∙ ap (λ z. set z p note) s.notes;
+          notes = ap (λ z. set z p note) s.notes;
           children = s.children;
           marked = joins;
           spare = s.spare;
         }
 
-  pub unmarks : (p : ℕ) (rest : List ℕ) (r : Span) (ts ns : List ℕ) → ts ≡ set f.tallies p 0 → ns ≡ set f.notes p 0 → l.marked ≡ p ∷ rest → r ≡ span_of rest → Shows (record f { tallies = ts; notes = ns; marks = r }) (unmarked_first l (p ∷ rest))
-  unmarks p rest r ts ns ts_are ns_are is span =
+  pub unmarks : (p : ℕ) (rest : List ℕ) (r : Span) → l.marked ≡ p ∷ rest → r ≡ span_of rest → Shows (record f { tallies = set f.tallies p 0; notes = set f.notes p 0; marks = r }) (unmarked_first l (p ∷ rest))
+  unmarks p rest r is span =
       record {
         links = unmarked_links l s.links p rest is;
         kinds = s.kinds;
         parents = s.parents;
-        tallies = ts_are ∙ ap (λ z. set z p 0) s.tallies;
-        notes = ns_are ∙ ap (λ z. set z p 0) s.notes;
+        tallies = ap (λ z. set z p 0) s.tallies;
+        notes = ap (λ z. set z p 0) s.notes;
         children = s.children;
         marked = record {
           mark_nexts_len = s.mark_nexts_len;

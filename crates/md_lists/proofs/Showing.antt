@@ -1,5 +1,5 @@
 -- Store that keep links: what is read of them.
-use Rattle.std.proofs.Common.{◌≡◌, ℕ, ◌<◌, List, [], map, length, get_or, Option, Some, None, refl, sym, ◌∙◌, ap, subst, arith}
+use Rattle.std.proofs.Common.{vec_len, ◌≡◌, ℕ, ◌<◌, List, [], map, length, get_or, Option, Some, None, refl, sym, ◌∙◌, ap, subst, arith}
 use Rattle.std.proofs.lemmas.List.{ext_get_or, get_or-map, length-map, get_or_read}
 use Rattle.md_lists.specs.declared.kinds.PlaceKind.{PlaceKind}
 use Rattle.md_lists.specs.declared.span.Span.{Span}
@@ -41,37 +41,37 @@ opened a l kept is = let was = kept.1 in subst (Shows (store_of a)) (sym (shown 
 
 -- how long each field is
 pub record Sizes (a : Inside) : Type 0 where
-  pub kinds_size : length a.kinds ≡ PLACES
-  pub parents_size : length a.parents ≡ PLACES
-  pub spans_size : length a.spans ≡ PLACES
-  pub nexts_size : length a.nexts ≡ PLACES
-  pub previous_size : length a.previous ≡ PLACES
-  pub tallies_size : length a.tallies ≡ PLACES
-  pub notes_size : length a.notes ≡ PLACES
-  pub mark_nexts_size : length a.mark_nexts ≡ PLACES
+  pub kinds_size : vec_len a.kinds ≡ PLACES
+  pub parents_size : vec_len a.parents ≡ PLACES
+  pub spans_size : vec_len a.spans ≡ PLACES
+  pub nexts_size : vec_len a.nexts ≡ PLACES
+  pub previous_size : vec_len a.previous ≡ PLACES
+  pub tallies_size : vec_len a.tallies ≡ PLACES
+  pub notes_size : vec_len a.notes ≡ PLACES
+  pub mark_nexts_size : vec_len a.mark_nexts ≡ PLACES
 
 pub sizes : (a : Inside) (l : Links) → Shows (store_of a) l → Sizes a
 sizes a l s = record {
-  kinds_size = ap length s.kinds ∙ s.links.kinds_len;
-  parents_size = ap length s.parents ∙ s.links.parents_len;
-  spans_size = s.spans_len;
-  nexts_size = s.nexts_len;
-  previous_size = s.previous_len;
-  tallies_size = ap length s.tallies ∙ s.links.tallies_len;
-  notes_size = ap length s.notes ∙ s.links.notes_len;
-  mark_nexts_size = s.mark_nexts_len;
+  kinds_size = a.kinds.ok.0 ∙ ap length s.kinds ∙ s.links.kinds_len;
+  parents_size = a.parents.ok.0 ∙ ap length s.parents ∙ s.links.parents_len;
+  spans_size = a.spans.ok.0 ∙ s.spans_len;
+  nexts_size = a.nexts.ok.0 ∙ s.nexts_len;
+  previous_size = a.previous.ok.0 ∙ s.previous_len;
+  tallies_size = a.tallies.ok.0 ∙ ap length s.tallies ∙ s.links.tallies_len;
+  notes_size = a.notes.ok.0 ∙ ap length s.notes ∙ s.links.notes_len;
+  mark_nexts_size = a.mark_nexts.ok.0 ∙ s.mark_nexts_len;
 }
 
 -- a place has an item in each field
 pub record HasItems (a : Inside) (p : ℕ) : Type 0 where
-  pub in_kinds : p < length a.kinds
-  pub in_parents : p < length a.parents
-  pub in_spans : p < length a.spans
-  pub in_nexts : p < length a.nexts
-  pub in_previous : p < length a.previous
-  pub in_tallies : p < length a.tallies
-  pub in_notes : p < length a.notes
-  pub in_mark_nexts : p < length a.mark_nexts
+  pub in_kinds : p < vec_len a.kinds
+  pub in_parents : p < vec_len a.parents
+  pub in_spans : p < vec_len a.spans
+  pub in_nexts : p < vec_len a.nexts
+  pub in_previous : p < vec_len a.previous
+  pub in_tallies : p < vec_len a.tallies
+  pub in_notes : p < vec_len a.notes
+  pub in_mark_nexts : p < vec_len a.mark_nexts
 
 pub place_items : (a : Inside) (l : Links) → Shows (store_of a) l → (p : ℕ) → p < PLACES → HasItems a p
 place_items a l s p within =
@@ -105,27 +105,27 @@ module _ (a : Inside) (l : Links) (kept : IsKept a) (is : links_kept a ≡ l) (p
   pub live_items : HasItems a p
   live_items = place_items a l s p within
 
-  pub kind_read : (o : Option PlaceKind) → o ≡ get_or a.kinds p o → o ≡ kind_at l p
-  kind_read o read = read_as a.kinds l.kinds p PLACES o None s.kinds s.links.kinds_len within read
+  pub kind_read : (o : Option PlaceKind) → o ≡ get_or a.kinds.items p o → o ≡ kind_at l p
+  kind_read o read = read_as a.kinds.items l.kinds p PLACES o None s.kinds s.links.kinds_len within read
 
-  pub parent_read : (o : Option ℕ) → o ≡ get_or a.parents p o → o ≡ parent_at l p
-  parent_read o read = read_as a.parents l.parents p PLACES o None s.parents s.links.parents_len within read
+  pub parent_read : (o : Option ℕ) → o ≡ get_or a.parents.items p o → o ≡ parent_at l p
+  parent_read o read = read_as a.parents.items l.parents p PLACES o None s.parents s.links.parents_len within read
 
-  pub tally_read : (t : ℕ) → t ≡ get_or a.tallies p t → t ≡ tally_at l p
-  tally_read t read = read_as a.tallies l.tallies p PLACES t 0 s.tallies s.links.tallies_len within read
+  pub tally_read : (t : ℕ) → t ≡ get_or a.tallies.items p t → t ≡ tally_at l p
+  tally_read t read = read_as a.tallies.items l.tallies p PLACES t 0 s.tallies s.links.tallies_len within read
 
-  pub note_read : (n : ℕ) → n ≡ get_or a.notes p n → n ≡ note_at l p
-  note_read n read = read_as a.notes l.notes p PLACES n 0 s.notes s.links.notes_len within read
+  pub note_read : (n : ℕ) → n ≡ get_or a.notes.items p n → n ≡ note_at l p
+  note_read n read = read_as a.notes.items l.notes p PLACES n 0 s.notes s.links.notes_len within read
 
-  pub span_read : (r : Span) → r ≡ get_or a.spans p r → r ≡ span_of (children_at l p)
-  span_read r read = let w = within in let e = s.spans_len in get_or_read a.spans p r (omega arith) read (span_of []) ∙ s.spans p
+  pub span_read : (r : Span) → r ≡ get_or a.spans.items p r → r ≡ span_of (children_at l p)
+  span_read r read = let w = within in let e = s.spans_len in get_or_read a.spans.items p r (omega arith) read (span_of []) ∙ s.spans p
 
-  pub next_read : (o : Option ℕ) → o ≡ get_or a.nexts p o → o ≡ behind p (siblings l (parent_at l p))
+  pub next_read : (o : Option ℕ) → o ≡ get_or a.nexts.items p o → o ≡ behind p (siblings l (parent_at l p))
   next_read o read =
       let w = within in
       let e = s.nexts_len in
-      get_or_read a.nexts p o (omega arith) read None ∙ go (parent_at l p) refl
+      get_or_read a.nexts.items p o (omega arith) read None ∙ go (parent_at l p) refl
     where
-      go : (q : Option ℕ) → parent_at l p ≡ q → get_or a.nexts p None ≡ behind p (siblings l q)
+      go : (q : Option ℕ) → parent_at l p ≡ q → get_or a.nexts.items p None ≡ behind p (siblings l q)
       go None none = s.loose p none
-      go (Some q) some = follow_behind a.nexts (children_at l q) p (s.forward q) (let one = parent_child l s.links q p some in omega arith)
+      go (Some q) some = follow_behind a.nexts.items (children_at l q) p (s.forward q) (let one = parent_child l s.links q p some in omega arith)

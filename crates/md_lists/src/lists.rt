@@ -1,14 +1,13 @@
 //! Linked lists in place.
-ghost use Rattle.std.specs.Prelude.{◌≡◌, ◌≢◌, ℕ, ◌+◌, ◌-◌, ◌<◌, ◌≤◌, List, [], ◌∷◌, ◌++◌, length, IfOk, IsSome, IfSome, vec_len, vec_capacity, ◌^◌, Some, None, slice_set, ◌==◌, if◌then◌else◌};
-ghost use Rattle.md_lists.specs.Kept.{last_places};
+ghost use Rattle.std.specs.Prelude.{◌≡◌, ◌≢◌, ℕ, ◌+◌, ◌<◌, ◌≤◌, List, [], ◌∷◌, ◌++◌, length, IfOk, IsSome, vec_len, vec_capacity, IfSome, ◌^◌, Some, None, slice_set, ◌==◌, if◌then◌else◌};
 ghost use Rattle.md_lists.specs.Words.{behind};
-ghost use Rattle.md_graph.specs.Linked.{first_or};
+ghost use Rattle.md_graph.specs.Linked.{first_or, times};
 ghost use Rattle.md_lists.specs.Links.{kind_at, parent_at, children_at, tally_at, note_at, IsLive, IsMarked, IsBare, AreLinks, spare_count, siblings, all_free, with_kind, attached, detached, replaced, raised, noted, unmarked};
 ghost use Rattle.md_lists.specs.Spans.{span_of, linked};
 
 use crate::span::{Span, link};
 use crate::{PLACES, PlaceKind};
-use md_graph::{Memory, Steps, Table};
+use md_graph::{Memory, Steps, copies_of};
 use std::alloc::Global;
 use std::marker::Model;
 use std::sync::ledger::Ledger;
@@ -18,23 +17,20 @@ use std::sync::ledger::Ledger;
 /// and the marked places are a list in the order in which they came onto it. That no place is below
 /// itself is for the caller to keep.
 ///
-/// All memory is taken when the lists are made; a place costs nothing before it is first used, when
-/// what is kept of it and of those before it is made. Each call but `new` and `spare` is one step
-/// on the counter that it is lent, and beside that reads or changes a bounded number of places.
+/// All memory is taken when the lists are made. Each call but `new` and `spare` is one step on the
+/// counter that it is lent, and reads or changes a bounded number of places.
 #[derive(Drop)]
 pub struct Lists {
-    kinds: Table<Option<PlaceKind>>,
-    parents: Table<Option<u32>>,
-    spans: Table<Span>,
-    nexts: Table<Option<u32>>,
-    previous: Table<Option<u32>>,
-    tallies: Table<u32>,
-    notes: Table<u32>,
+    kinds: Vec<Option<PlaceKind>>,
+    parents: Vec<Option<u32>>,
+    spans: Vec<Span>,
+    nexts: Vec<Option<u32>>,
+    previous: Vec<Option<u32>>,
+    tallies: Vec<u32>,
+    notes: Vec<u32>,
     marks: Span,
-    mark_nexts: Table<Option<u32>>,
-    // The free places below `fresh`; all places from `fresh` on are free too, and never were live.
+    mark_nexts: Vec<Option<u32>>,
     free: Vec<u32>,
-    fresh: u32,
 }
 
 impl Model for Lists {
@@ -56,17 +52,16 @@ impl Lists {
         ensures links { IfOk result AreLinks }
     {
         Ok(Lists {
-            kinds: Table::new(alloc, PLACES, None)?,
-            parents: Table::new(alloc, PLACES, None)?,
-            spans: Table::new(alloc, PLACES, Span::empty())?,
-            nexts: Table::new(alloc, PLACES, None)?,
-            previous: Table::new(alloc, PLACES, None)?,
-            tallies: Table::new(alloc, PLACES, 0)?,
-            notes: Table::new(alloc, PLACES, 0)?,
+            kinds: copies_of(alloc, PLACES, None)?,
+            parents: copies_of(alloc, PLACES, None)?,
+            spans: copies_of(alloc, PLACES, Span::empty())?,
+            nexts: copies_of(alloc, PLACES, None)?,
+            previous: copies_of(alloc, PLACES, None)?,
+            tallies: copies_of(alloc, PLACES, 0)?,
+            notes: copies_of(alloc, PLACES, 0)?,
             marks: Span::empty(),
-            mark_nexts: Table::new(alloc, PLACES, None)?,
-            free: Vec::with_capacity(alloc, PLACES as usize)?,
-            fresh: 0,
+            mark_nexts: copies_of(alloc, PLACES, None)?,
+            free: all_places(alloc)?,
         })
     }
 
@@ -75,7 +70,7 @@ impl Lists {
         ensures spare { result ≡ spare_count self.now }
         ensures links { AreLinks self.now }
     {
-        self.free.len() as u32 + (PLACES - self.fresh)
+        self.free.len() as u32
     }
 
     /// A place that was free, now live, without parent, children and marks. Condition: a place is
@@ -90,9 +85,13 @@ impl Lists {
         ensures step { steps.new ≡ steps.old + 1 }
     {
         steps.tick();
-        let place = take_free(&mut self.free, &mut self.fresh);
-        self.kinds.set(place, Some(kind));
-        place
+        match self.free.pop() {
+            Some(place) => {
+                self.kinds[place as usize] = Some(kind);
+                place
+            }
+            None => unreachable!(),
+        }
     }
 
     /// The place is free again. Condition: it is live, without parent, children and marks.
@@ -104,7 +103,7 @@ impl Lists {
         ensures step { steps.new ≡ steps.old + 1 }
     {
         steps.tick();
-        self.kinds.set(p, None);
+        self.kinds[p as usize] = None;
         self.free.push_reserved(p);
     }
 
@@ -120,11 +119,11 @@ impl Lists {
         ensures step { steps.new ≡ steps.old + 1 }
     {
         steps.tick();
-        let span = self.spans.item(parent);
+        let span = self.spans[parent as usize];
         link(&mut self.nexts, span.last, Some(child));
         link(&mut self.previous, Some(child), span.last);
-        self.spans.set(parent, span.with_last(child));
-        self.parents.set(child, Some(parent));
+        self.spans[parent as usize] = span.with_last(child);
+        self.parents[child as usize] = Some(parent);
     }
 
     /// A place leaves its parent, and has none. Condition: it has one.
@@ -136,15 +135,15 @@ impl Lists {
         ensures step { steps.new ≡ steps.old + 1 }
     {
         steps.tick();
-        let (previous, next) = (self.previous.item(child), self.nexts.item(child));
-        match self.parents.item(child) {
+        let (previous, next) = (self.previous[child as usize], self.nexts[child as usize]);
+        match self.parents[child as usize] {
             Some(parent) => {
-                let span = self.spans.item(parent);
+                let span = self.spans[parent as usize];
                 link(&mut self.nexts, previous, next);
                 link(&mut self.nexts, Some(child), None);
                 link(&mut self.previous, next, previous);
-                self.spans.set(parent, span.without(previous, next));
-                self.parents.set(child, None);
+                self.spans[parent as usize] = span.without(previous, next);
+                self.parents[child as usize] = None;
             }
             None => unreachable!(),
         }
@@ -165,16 +164,16 @@ impl Lists {
         ensures step { steps.new ≡ steps.old + 1 }
     {
         steps.tick();
-        let (previous, next) = (self.previous.item(old), self.nexts.item(old));
-        match self.parents.item(old) {
+        let (previous, next) = (self.previous[old as usize], self.nexts[old as usize]);
+        match self.parents[old as usize] {
             Some(parent) => {
-                let span = self.spans.item(parent);
+                let span = self.spans[parent as usize];
                 link(&mut self.nexts, previous, Some(new));
                 link(&mut self.nexts, Some(new), next);
                 link(&mut self.nexts, Some(old), None);
                 link(&mut self.previous, next, Some(new));
                 link(&mut self.previous, Some(new), previous);
-                self.spans.set(parent, span.with_other(previous, next, new));
+                self.spans[parent as usize] = span.with_other(previous, next, new);
                 link(&mut self.parents, Some(old), None);
                 link(&mut self.parents, Some(new), Some(parent));
             }
@@ -190,7 +189,7 @@ impl Lists {
         ensures step { steps.new ≡ steps.old + 1 }
     {
         steps.tick();
-        match self.kinds.item(p) {
+        match self.kinds[p as usize] {
             Some(kind) => kind,
             None => unreachable!(),
         }
@@ -204,7 +203,7 @@ impl Lists {
         ensures step { steps.new ≡ steps.old + 1 }
     {
         steps.tick();
-        self.kinds.set(p, Some(kind));
+        self.kinds[p as usize] = Some(kind);
     }
 
     /// The parent of a place, or none. Condition: it is live.
@@ -215,7 +214,7 @@ impl Lists {
         ensures step { steps.new ≡ steps.old + 1 }
     {
         steps.tick();
-        self.parents.item(p)
+        self.parents[p as usize]
     }
 
     /// The first child of a place; none exactly where it has no children. Condition: it is live.
@@ -226,7 +225,7 @@ impl Lists {
         ensures step { steps.new ≡ steps.old + 1 }
     {
         steps.tick();
-        self.spans.item(p).first
+        self.spans[p as usize].first
     }
 
     /// The place behind another among the children of its parent; none exactly at their end, or
@@ -238,7 +237,7 @@ impl Lists {
         ensures step { steps.new ≡ steps.old + 1 }
     {
         steps.tick();
-        self.nexts.item(p)
+        self.nexts[p as usize]
     }
 
     /// The number of the children of a place. Condition: it is live.
@@ -249,7 +248,7 @@ impl Lists {
         ensures step { steps.new ≡ steps.old + 1 }
     {
         steps.tick();
-        self.spans.item(p).count
+        self.spans[p as usize].count
     }
 
     /// The tally of a place. Condition: it is live.
@@ -260,7 +259,7 @@ impl Lists {
         ensures step { steps.new ≡ steps.old + 1 }
     {
         steps.tick();
-        self.tallies.item(p)
+        self.tallies[p as usize]
     }
 
     /// The note of a place. Condition: it is live.
@@ -271,7 +270,7 @@ impl Lists {
         ensures step { steps.new ≡ steps.old + 1 }
     {
         steps.tick();
-        self.notes.item(p)
+        self.notes[p as usize]
     }
 
     /// The tally of a place is one more; the place joins the end of the marked places if it wasn't
@@ -284,10 +283,10 @@ impl Lists {
         ensures step { steps.new ≡ steps.old + 1 }
     {
         steps.tick();
-        let tally = self.tallies.item(p);
-        let note = self.notes.item(p);
+        let tally = self.tallies[p as usize];
+        let note = self.notes[p as usize];
         self.marks = join(self.marks, &mut self.mark_nexts, p, tally, note);
-        self.tallies.set(p, tally + 1);
+        self.tallies[p as usize] = tally + 1;
     }
 
     /// The place has another note, and joins the end of the marked places if it wasn't among them.
@@ -300,9 +299,9 @@ impl Lists {
         ensures step { steps.new ≡ steps.old + 1 }
     {
         steps.tick();
-        let (tally, note) = (self.tallies.item(p), self.notes.item(p));
+        let (tally, note) = (self.tallies[p as usize], self.notes[p as usize]);
         self.marks = join(self.marks, &mut self.mark_nexts, p, tally, note);
-        self.notes.set(p, value);
+        self.notes[p as usize] = value;
     }
 
     /// The first marked place; none exactly where no place is marked.
@@ -323,7 +322,7 @@ impl Lists {
         ensures step { steps.new ≡ steps.old + 1 }
     {
         steps.tick();
-        self.mark_nexts.item(p)
+        self.mark_nexts[p as usize]
     }
 
     /// Takes the first marked place off, whose tally and note become 0; none exactly where no place
@@ -337,10 +336,10 @@ impl Lists {
         steps.tick();
         match self.marks.first {
             Some(first) => {
-                let next = self.mark_nexts.item(first);
+                let next = self.mark_nexts[first as usize];
                 self.marks = self.marks.without(None, next);
-                self.tallies.set(first, 0);
-                self.notes.set(first, 0);
+                self.tallies[first as usize] = 0;
+                self.notes[first as usize] = 0;
                 Some(first)
             }
             None => None,
@@ -350,15 +349,16 @@ impl Lists {
 
 // The marks with a place at their end, unless its tally or its note says that it is marked already.
 // Condition: the last marked place and this one have a link, and the number of marks fits.
-fn join(marks: Span, nexts: &mut Table<Option<u32>>, place: u32, tally: u32, note: u32) -> Span
-    requires last { IfSome marks.last (λ p. p < length nexts.old) }
-    requires place { place < length nexts.old }
+fn join(marks: Span, nexts: &mut Vec<Option<u32>>, place: u32, tally: u32, note: u32) -> Span
+    requires last { IfSome marks.last (λ p. p < vec_len nexts.old) }
+    requires place { place < vec_len nexts.old }
     requires count { marks.count + 1 < 2 ^ 32 }
     ensures span { (xs : List ℕ) → marks ≡ span_of xs →
         result ≡ span_of (if tally + note == 0 then xs ++ place ∷ [] else xs) }
-    ensures nexts { nexts.new ≡ (if tally + note == 0
-        then slice_set (linked nexts.old marks.last (Some place)) place None
-        else nexts.old) }
+    ensures nexts { nexts.new.items ≡ (if tally + note == 0
+        then slice_set (linked nexts.old.items marks.last (Some place)) place None
+        else nexts.old.items) }
+    ensures len { vec_len nexts.new ≡ vec_len nexts.old }
 {
     if tally != 0 || note != 0 {
         return marks;
@@ -368,22 +368,16 @@ fn join(marks: Span, nexts: &mut Table<Option<u32>>, place: u32, tally: u32, not
     marks.with_last(place)
 }
 
-// A place leaves the free ones, those of the list and those from `fresh` on. Condition: there is
-// one.
-fn take_free(free: &mut Vec<u32>, fresh: &mut u32) -> u32
-    requires some { 0 < vec_len free.old + (PLACES - fresh.old) }
-    requires within { fresh.old ≤ PLACES }
-    ensures taken { last_places PLACES (PLACES - fresh.old) ++ free.old.items
-        ≡ (last_places PLACES (PLACES - fresh.new) ++ free.new.items) ++ result ∷ [] }
-    ensures within { fresh.new ≤ PLACES }
-    ensures capacity { vec_capacity free.new ≡ vec_capacity free.old }
+// All places.
+fn all_places(alloc: Global) -> Result<Vec<u32>, Memory>
+    ensures room { IfOk result (λ v. PLACES ≤ vec_capacity v) }
+    ensures once { IfOk result (λ v. (p : ℕ) → p < PLACES → times p v.items ≡ 1) }
+    ensures within { IfOk result (λ v. (p : ℕ) → PLACES ≤ p → times p v.items ≡ 0) }
+    ensures count { IfOk result (λ v. length v.items ≡ PLACES) }
 {
-    match free.pop() {
-        Some(place) => place,
-        None => {
-            let place = *fresh;
-            *fresh = place + 1;
-            place
-        }
+    let mut places = Vec::with_capacity(alloc, PLACES as usize)?;
+    for place in 0..PLACES {
+        places.push_reserved(place);
     }
+    Ok(places)
 }

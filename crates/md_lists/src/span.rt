@@ -1,10 +1,8 @@
 //! The ends of a list in place, and its links.
-ghost use Rattle.std.specs.Prelude.{◌≡◌, ℕ, ◌+◌, ◌-◌, ◌^◌, ◌<◌, List, [], ◌∷◌, ◌++◌, IfSome, is_some, if◌then◌else◌, length};
+ghost use Rattle.std.specs.Prelude.{◌≡◌, ℕ, ◌+◌, ◌-◌, ◌^◌, ◌<◌, List, [], ◌∷◌, ◌++◌, IfSome, is_some, if◌then◌else◌, vec_len};
 ghost use Rattle.md_lists.specs.Words.{last_or};
 ghost use Rattle.md_graph.specs.Linked.{first_or};
 ghost use Rattle.md_lists.specs.Spans.{span_of, linked};
-
-use md_graph::Table;
 
 // The first and the last item of a list in place, and the number of its items.
 #[derive(Clone, Copy)]
@@ -76,12 +74,12 @@ fn end_of(beside: Option<u32>, had: Option<u32>, other: Option<u32>) -> Option<u
 }
 
 // Writes a link at a place, if there is one. Condition: it has a link.
-pub(crate) fn link(links: &mut Table<Option<u32>>, place: Option<u32>, to: Option<u32>)
-    requires { IfSome place (λ p. p < length links.old) }
-    ensures items { links.new ≡ linked links.old place to }
-    ensures len { length links.new ≡ length links.old }
+pub(crate) fn link(links: &mut Vec<Option<u32>>, place: Option<u32>, to: Option<u32>)
+    requires { IfSome place (λ p. p < vec_len links.old) }
+    ensures items { links.new.items ≡ linked links.old.items place to }
+    ensures len { vec_len links.new ≡ vec_len links.old }
 {
     if let Some(place) = place {
-        links.set(place, to);
+        links[place as usize] = to;
     }
 }

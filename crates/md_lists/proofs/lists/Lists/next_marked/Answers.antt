@@ -5,8 +5,8 @@ use Rattle.md_lists.proofs.Following.{follow_behind}
 use Rattle.md_lists.proofs.Showing.{opened, sizes}
 use Rattle.md_lists.proofs.lists.Lists.next_marked.Goals as goal
 
-pub item-requires : goal.item-requires
-item-requires g c =
+pub index-requires : goal.index-requires
+index-requires g c =
     let s = opened c.self.inside c.args.self.now c.self.invariant c.self.view_is in
     let z = sizes c.self.inside c.args.self.now s in
     let r = c.requires in
@@ -19,7 +19,7 @@ returns-clause-next g c =
     let r = c.requires in
     let w = mark_within c.args.self.now s.links c.args.p (omega arith) in
     let e = s.mark_nexts_len in
-    get_or_read _ c.args.p _ (omega arith) c.item.ensures.item None ∙ follow_behind _ c.args.self.now.marked c.args.p s.mark_forward (omega arith)
+    get_or_read _ c.args.p _ (omega arith) c.index.ensures None ∙ follow_behind _ c.args.self.now.marked c.args.p s.mark_forward (omega arith)
 
 pub returns-clause-links : goal.returns-clause-links
 returns-clause-links g c = (opened c.self.inside c.args.self.now c.self.invariant c.self.view_is).links

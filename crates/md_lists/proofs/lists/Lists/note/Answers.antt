@@ -1,11 +1,11 @@
 use Rattle.md_lists.proofs.Showing.{opened, live_items, note_read}
 use Rattle.md_lists.proofs.lists.Lists.note.Goals as goal
 
-pub item-requires : goal.item-requires
-item-requires g c = (live_items c.self.inside c.args.self.now c.self.invariant c.self.view_is c.args.p c.requires).in_notes
+pub index-requires : goal.index-requires
+index-requires g c = (live_items c.self.inside c.args.self.now c.self.invariant c.self.view_is c.args.p c.requires).in_notes
 
 pub returns-clause-note : goal.returns-clause-note
-returns-clause-note g c = note_read c.self.inside c.args.self.now c.self.invariant c.self.view_is c.args.p c.requires _ c.item.ensures.item
+returns-clause-note g c = note_read c.self.inside c.args.self.now c.self.invariant c.self.view_is c.args.p c.requires _ c.index.ensures
 
 pub returns-clause-links : goal.returns-clause-links
 returns-clause-links g c = (opened c.self.inside c.args.self.now c.self.invariant c.self.view_is).links

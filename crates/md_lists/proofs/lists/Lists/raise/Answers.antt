@@ -5,11 +5,11 @@ use Rattle.md_lists.proofs.Showing.{live_items, shown, links_shown, tally_read}
 use Rattle.md_lists.proofs.Marks.{marks_last, marks_count, raises_mark}
 use Rattle.md_lists.proofs.lists.Lists.raise.Goals as goal
 
-pub item-tally-requires : goal.item-tally-requires
-item-tally-requires g c = (live_items c.self.inside c.args.self.now c.self.invariant c.self.view_is c.args.p c.requires.live).in_tallies
+pub index-tally-requires : goal.index-tally-requires
+index-tally-requires g c = (live_items c.self.inside c.args.self.now c.self.invariant c.self.view_is c.args.p c.requires.live).in_tallies
 
-pub item-note-requires : goal.item-note-requires
-item-note-requires g c = (live_items c.self.inside c.args.self.now c.self.invariant c.self.view_is c.args.p c.requires.live).in_notes
+pub index-note-requires : goal.index-note-requires
+index-note-requires g c = (live_items c.self.inside c.args.self.now c.self.invariant c.self.view_is c.args.p c.requires.live).in_notes
 
 pub join-self-inside-requires-clause-last : goal.join-self-inside-requires-clause-last
 join-self-inside-requires-clause-last g c = marks_last c.self.inside c.args.self.now c.self.invariant c.self.view_is
@@ -22,19 +22,19 @@ join-self-inside-requires-clause-count g c = let few = marks_count c.self.inside
 
 pub overflow_add-tally : goal.overflow_add-tally
 overflow_add-tally g c =
-    let tally = tally_read c.self.inside c.args.self.now c.self.invariant c.self.view_is c.args.p c.requires.live _ c.item-tally.ensures.item in
+    let tally = tally_read c.self.inside c.args.self.now c.self.invariant c.self.view_is c.args.p c.requires.live _ c.index-tally.ensures in
     let room = c.requires.room in
     let low = PLACES-lt in
     omega arith
 
-pub set-requires : goal.set-requires
-set-requires g c = (live_items c.self.inside c.args.self.now c.self.invariant c.self.view_is c.args.p c.requires.live).in_tallies
+pub index_mut-requires : goal.index_mut-requires
+index_mut-requires g c = (live_items c.self.inside c.args.self.now c.self.invariant c.self.view_is c.args.p c.requires.live).in_tallies
 
 pub invariant_of-self : goal.invariant_of-self
-invariant_of-self g c = (c.self.invariant.0, (raised c.args.self.now c.args.p, raises_mark c.self.inside c.args.self.now c.self.invariant c.self.view_is c.args.p c.requires.live _ _ c.item-tally.ensures.item c.item-note.ensures.item _ _ c.join-self-inside.ensures.span c.join-self-inside.ensures.nexts _ c.set.ensures.changed))
+invariant_of-self g c = (c.self.invariant.0, (raised c.args.self.now c.args.p, raises_mark c.self.inside c.args.self.now c.self.invariant c.self.view_is c.args.p c.requires.live _ _ c.index-tally.ensures c.index-note.ensures _ _ c.join-self-inside.ensures.span c.join-self-inside.ensures.nexts))
 
 pub returns-clause-raised : goal.returns-clause-raised
-returns-clause-raised g c = shown _ _ (raises_mark c.self.inside c.args.self.now c.self.invariant c.self.view_is c.args.p c.requires.live _ _ c.item-tally.ensures.item c.item-note.ensures.item _ _ c.join-self-inside.ensures.span c.join-self-inside.ensures.nexts _ c.set.ensures.changed)
+returns-clause-raised g c = shown _ _ (raises_mark c.self.inside c.args.self.now c.self.invariant c.self.view_is c.args.p c.requires.live _ _ c.index-tally.ensures c.index-note.ensures _ _ c.join-self-inside.ensures.span c.join-self-inside.ensures.nexts)
 
 pub returns-clause-links : goal.returns-clause-links
-returns-clause-links g c = links_shown _ _ (raises_mark c.self.inside c.args.self.now c.self.invariant c.self.view_is c.args.p c.requires.live _ _ c.item-tally.ensures.item c.item-note.ensures.item _ _ c.join-self-inside.ensures.span c.join-self-inside.ensures.nexts _ c.set.ensures.changed)
+returns-clause-links g c = links_shown _ _ (raises_mark c.self.inside c.args.self.now c.self.invariant c.self.view_is c.args.p c.requires.live _ _ c.index-tally.ensures c.index-note.ensures _ _ c.join-self-inside.ensures.span c.join-self-inside.ensures.nexts)

@@ -5,11 +5,11 @@ use Rattle.md_lists.proofs.Showing.{live_items, shown, links_shown}
 use Rattle.md_lists.proofs.Marks.{marks_last, marks_count, notes_mark}
 use Rattle.md_lists.proofs.lists.Lists.set_note.Goals as goal
 
-pub item-tally-requires : goal.item-tally-requires
-item-tally-requires g c = (live_items c.self.inside c.args.self.now c.self.invariant c.self.view_is c.args.p c.requires.live).in_tallies
+pub index-requires : goal.index-requires
+index-requires g c = (live_items c.self.inside c.args.self.now c.self.invariant c.self.view_is c.args.p c.requires.live).in_tallies
 
-pub item-note-requires : goal.item-note-requires
-item-note-requires g c = (live_items c.self.inside c.args.self.now c.self.invariant c.self.view_is c.args.p c.requires.live).in_notes
+pub index-requires-2 : goal.index-requires-2
+index-requires-2 g c = (live_items c.self.inside c.args.self.now c.self.invariant c.self.view_is c.args.p c.requires.live).in_notes
 
 pub join-self-inside-requires-clause-last : goal.join-self-inside-requires-clause-last
 join-self-inside-requires-clause-last g c = marks_last c.self.inside c.args.self.now c.self.invariant c.self.view_is
@@ -20,14 +20,14 @@ join-self-inside-requires-clause-place g c = (live_items c.self.inside c.args.se
 pub join-self-inside-requires-clause-count : goal.join-self-inside-requires-clause-count
 join-self-inside-requires-clause-count g c = let few = marks_count c.self.inside c.args.self.now c.self.invariant c.self.view_is in let low = PLACES-lt in omega arith
 
-pub set-requires : goal.set-requires
-set-requires g c = (live_items c.self.inside c.args.self.now c.self.invariant c.self.view_is c.args.p c.requires.live).in_notes
+pub index_mut-requires : goal.index_mut-requires
+index_mut-requires g c = (live_items c.self.inside c.args.self.now c.self.invariant c.self.view_is c.args.p c.requires.live).in_notes
 
 pub invariant_of-self : goal.invariant_of-self
-invariant_of-self g c = (c.self.invariant.0, (noted c.args.self.now c.args.p c.args.value, notes_mark c.self.inside c.args.self.now c.self.invariant c.self.view_is c.args.p c.requires.live _ _ c.item-tally.ensures.item c.item-note.ensures.item _ _ c.join-self-inside.ensures.span c.join-self-inside.ensures.nexts c.args.value c.requires.some _ c.set.ensures.changed))
+invariant_of-self g c = (c.self.invariant.0, (noted c.args.self.now c.args.p c.args.value, notes_mark c.self.inside c.args.self.now c.self.invariant c.self.view_is c.args.p c.requires.live _ _ c.index.ensures c.index-2.ensures _ _ c.join-self-inside.ensures.span c.join-self-inside.ensures.nexts c.args.value c.requires.some))
 
 pub returns-clause-noted : goal.returns-clause-noted
-returns-clause-noted g c = shown _ _ (notes_mark c.self.inside c.args.self.now c.self.invariant c.self.view_is c.args.p c.requires.live _ _ c.item-tally.ensures.item c.item-note.ensures.item _ _ c.join-self-inside.ensures.span c.join-self-inside.ensures.nexts c.args.value c.requires.some _ c.set.ensures.changed)
+returns-clause-noted g c = shown _ _ (notes_mark c.self.inside c.args.self.now c.self.invariant c.self.view_is c.args.p c.requires.live _ _ c.index.ensures c.index-2.ensures _ _ c.join-self-inside.ensures.span c.join-self-inside.ensures.nexts c.args.value c.requires.some)
 
 pub returns-clause-links : goal.returns-clause-links
-returns-clause-links g c = links_shown _ _ (notes_mark c.self.inside c.args.self.now c.self.invariant c.self.view_is c.args.p c.requires.live _ _ c.item-tally.ensures.item c.item-note.ensures.item _ _ c.join-self-inside.ensures.span c.join-self-inside.ensures.nexts c.args.value c.requires.some _ c.set.ensures.changed)
+returns-clause-links g c = links_shown _ _ (notes_mark c.self.inside c.args.self.now c.self.invariant c.self.view_is c.args.p c.requires.live _ _ c.index.ensures c.index-2.ensures _ _ c.join-self-inside.ensures.span c.join-self-inside.ensures.nexts c.args.value c.requires.some)
