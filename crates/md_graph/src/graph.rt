@@ -134,6 +134,15 @@ impl<const W: usize> GraphOf<W> {
         self.live.first_from(from)
     }
 
+    /// The neighbours of `v`. Condition: it is a vertex.
+    pub fn neighbours(&self, v: u32) -> &Set<W>
+        requires { Has self.now.vertices v }
+        ensures set { result.now ≡ neighbours self.now v }
+        ensures graph { IsGraph self.now }
+    {
+        &self.rows[v as usize]
+    }
+
     /// The neighbours of `v`: none for a name that is no vertex. Condition: `v` is a name below
     /// `64 * W`.
     pub fn row(&self, v: u32) -> &Set<W>

@@ -5,7 +5,7 @@ use Rattle.md_modules.proofs.Turns.{graph_adjacency, reach_backed}
 use Rattle.md_modules.proofs.component_search.look_back.Goals as goal
 
 pub seeing-new-requires : goal.seeing-new-requires
-seeing-new-requires g c = (search rules, (search rules, λ y h. (of_minus c.args.within.now c.args.left.now y (Has-along _ _ c.minus-taken.ensures.value y h)).1))
+seeing-new-requires g c = (search rules, (search rules, ((λ y h. (of_minus c.args.within.now c.args.left.now y (Has-along _ _ c.minus-taken.ensures.value y h)).1), c.requires.part)))
 
 pub returns-clause-kept : goal.returns-clause-kept
 returns-clause-kept g c x is =

@@ -6,7 +6,7 @@ use Rattle.md_modules.proofs.Turns.{reach_more, reach_passed, seen_all, not_seen
 use Rattle.md_modules.proofs.component_search.turn.Goals as goal
 
 pub sees-requires : goal.sees-requires
-sees-requires g c = (search rules, (search rules, (c.requires.name, rest_apart_from c.args.left.now c.args.todo.now c.remove.new.self c.args.w c.remove.ensures.changed c.requires.apart)))
+sees-requires g c = (search rules, (search rules, (c.requires.vertex, rest_apart_from c.args.left.now c.args.todo.now c.remove.new.self c.args.w c.remove.ensures.changed c.requires.apart)))
 
 pub returns-then-sees-clause-kept : goal.returns-then-sees-clause-kept
 returns-then-sees-clause-kept g c x is =

@@ -34,7 +34,10 @@ splitter-requires g c =
           search rules,
           (
             subst HasSome (sym class) (c.loop-at.invariant.cutting.holds.partition.are_apart.some c.loop-at.at known),
-            subst (λ (t : NameSet). Disjoint t c.loop-at.left) (sym class) (c.loop-at.invariant.left known).outside,
+            (
+              subst (λ (t : NameSet). Disjoint t c.loop-at.left) (sym class) (c.loop-at.invariant.left known).outside,
+              λ p h. c.requires.inside p ((c.loop-at.invariant.left known).inside p h),
+            ),
           ),
         ),
       ),
