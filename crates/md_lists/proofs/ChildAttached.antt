@@ -3,13 +3,16 @@ use Rattle.std.proofs.Common.{◌≡◌, ◌≢◌, ℕ, ◌+◌, List, [], ◌�
 use Rattle.std.proofs.lemmas.Bool.{eq-eqb, ne_eqb}
 use Rattle.std.proofs.lemmas.List.{get_or-set_same, get_or-set_other, length-set}
 use Rattle.md_lists.specs.declared.span.Span.{Span}
+use Rattle.md_lists.specs.declared.TheConstants.{PLACES}
 use Rattle.md_lists.specs.Words.{last_or}
 use Rattle.md_graph.specs.Linked.{Follow, times}
 use Rattle.md_lists.specs.Spans.{span_of, linked}
 use Rattle.md_lists.specs.Links.{Links, parent_at, children_at, IsLive, attached}
 use Rattle.md_lists.specs.Store.{Store, Shows}
 use Rattle.md_lists.proofs.Following.{linked-other, length-linked, relinked}
-use Rattle.md_lists.proofs.LinkLaws.{live_within, child_once, child_within, loose_child, attached_other, attached_children, attached_links}
+use Rattle.md_lists.proofs.LinkLaws.{child_once, loose_child, attached_other, attached_children, attached_links}
+use Rattle.md_lists.proofs.FilledUp.{filled_up-set}
+use Rattle.md_lists.proofs.MadePlaces.{live_made, child_made}
 use Rattle.md_lists.proofs.Splicing.{Spliced, spliced_forward, spliced_loose, spliced_back}
 use Rattle.md_lists.proofs.ListChanges.{alone, not_alone, not_last, spans_shown}
 
@@ -43,14 +46,18 @@ module _ (f : Store) (l : Links) (s : Shows f l) where
         record {
           links = attached_links l s.links q c parent child loose;
           kinds = s.kinds;
-          parents = ap (λ z. set z c (Some q)) s.parents;
+          kinds_len = s.kinds_len;
+          parents_len = length-set f.parents c (Some q) ∙ s.parents_len;
+          tallies_len = s.tallies_len;
+          notes_len = s.notes_len;
+          parents = filled_up-set f.parents None PLACES c (Some q) (let w = live_made f l s c child in let e = s.parents_len in omega arith) ∙ ap (λ z. set z c (Some q)) s.parents;
           tallies = s.tallies;
           notes = s.notes;
           children = record {
             spans_len = length-set f.spans q r ∙ s.spans_len;
             nexts_len = ap length nexts ∙ length-linked f.nexts r0.last (Some c) ∙ s.nexts_len;
             previous_len = ap length prevs ∙ length-set f.previous c r0.last ∙ s.previous_len;
-            spans = spans_shown f.spans l new q r (let w = live_within l s.links q parent in let e = s.spans_len in omega arith) s.spans attached_others (made ∙ ap span_of (sym attached_here));
+            spans = spans_shown f.spans l new q r (let w = live_made f l s q parent in let e = s.spans_len in omega arith) s.spans attached_others (made ∙ ap span_of (sym attached_here));
             forward = spliced_forward l new q xs [] (c ∷ []) [] attached_spliced f.nexts ns same s.forward at_left (at_c, tt);
             back = spliced_back l new q xs [] (c ∷ []) [] attached_spliced f.previous ps same_back s.back (prev_c, tt);
             loose = spliced_loose l new q xs [] (c ∷ []) [] attached_spliced f.nexts ns same s.loose (λ x none. absurd (omega arith));
@@ -72,7 +79,7 @@ module _ (f : Store) (l : Links) (s : Shows f l) where
         same x none gone came = same_at x none
 
         at_left : Follow ns xs (Some c)
-        at_left = subst (λ z. Follow z xs (Some c)) (sym ns_is) (relinked f.nexts xs None (Some c) (s.forward q) (child_once l s.links q) (λ p some. let w = child_within l s.links q p some in let e = s.nexts_len in omega arith))
+        at_left = subst (λ z. Follow z xs (Some c)) (sym ns_is) (relinked f.nexts xs None (Some c) (s.forward q) (child_once l s.links q) (λ p some. let w = child_made f l s q p some in let e = s.nexts_len in omega arith))
 
         at_c : get_or ns c None ≡ None
         at_c = same_at c (loose_child l s.links q c loose) ∙ s.loose c loose
@@ -81,4 +88,4 @@ module _ (f : Store) (l : Links) (s : Shows f l) where
         same_back x gone came right = ap (λ z. get_or z x None) prevs ∙ get_or-set_other f.previous c x r0.last None (not_alone x c came)
 
         prev_c : get_or ps c None ≡ last_or xs None
-        prev_c = ap (λ z. get_or z c None) prevs ∙ get_or-set_same f.previous c r0.last None (let w = live_within l s.links c child in let e = s.previous_len in omega arith) ∙ last_is
+        prev_c = ap (λ z. get_or z c None) prevs ∙ get_or-set_same f.previous c r0.last None (let w = live_made f l s c child in let e = s.previous_len in omega arith) ∙ last_is

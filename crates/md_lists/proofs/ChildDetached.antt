@@ -1,5 +1,5 @@
 -- Store after a place leaves its parent, or another comes in its stead, and the links that it keeps then.
-use Rattle.std.proofs.Common.{◌≡◌, ◌≢◌, ℕ, ◌+◌, ◌<◌, ◌≤◌, List, [], ◌∷◌, ◌++◌, length, get_or, set, Option, Some, None, IfSome, refl, sym, ◌∙◌, ap, subst, arith}
+use Rattle.std.proofs.Common.{◌≡◌, ◌≢◌, ℕ, ◌+◌, ◌<◌, ◌≤◌, List, [], ◌∷◌, ◌++◌, length, get_or, set, Option, Some, None, IfSome, is_some, refl, sym, ◌∙◌, ap, subst, arith}
 use Rattle.std.proofs.lemmas.Bool.{eq-eqb, ne_eqb}
 use Rattle.std.proofs.lemmas.List.{get_or-set_same, get_or-set_other, length-set}
 use Rattle.md_lists.specs.declared.span.Span.{Span}
@@ -8,10 +8,12 @@ use Rattle.md_lists.specs.Words.{last_or, without, exchanged}
 use Rattle.md_graph.specs.Linked.{first_or, Follow, times}
 use Rattle.md_lists.specs.Spans.{span_of, linked, Precede}
 use Rattle.md_lists.specs.Links.{Links, parent_at, children_at, IsLive, detached, replaced}
-use Rattle.md_lists.specs.Store.{Store, Shows}
+use Rattle.md_lists.specs.Store.{Store, filled_up, Shows}
 use Rattle.md_lists.proofs.ListLaws.{times-split, first_low, last_low, without-split, exchanged-split, SplitsAt, split_once}
 use Rattle.md_lists.proofs.Following.{linked-other, length-linked, follow_same, follow_apart, precede_same, precede_apart, relinked, repreceded}
-use Rattle.md_lists.proofs.LinkLaws.{live_within, parent_within, owner_within, child_once, child_within, parent_child, loose_child, detached_parent, detached_children, detached_links, replaced_differ, replaced_parent, replaced_children, replaced_links}
+use Rattle.md_lists.proofs.LinkLaws.{child_once, parent_child, loose_child, detached_parent, detached_children, detached_links, replaced_differ, replaced_parent, replaced_children, replaced_links}
+use Rattle.md_lists.proofs.FilledUp.{filled_up-set}
+use Rattle.md_lists.proofs.MadePlaces.{live_made, parent_made, child_made, owner_made}
 use Rattle.md_lists.proofs.Splicing.{Spliced, spliced_forward, spliced_loose, spliced_back}
 use Rattle.md_lists.proofs.ListChanges.{alone, not_alone, not_last, not_first, spans_shown}
 
@@ -36,17 +38,20 @@ module _ (f : Store) (l : Links) (s : Shows f l) where
     pub child_previous : (get_or f.previous c None ≡ last_or left None) × Precede f.previous (Some c) right
     child_previous = (precede_apart f.previous None left (c ∷ right) (subst (λ z. Precede f.previous None z) split_child.2.whole (s.back q))).1
 
+    c_made : c < f.made
+    c_made = parent_made f l s c (ap is_some is)
+
     left_once : (p : ℕ) → times p left ≤ 1
     left_once p = let o = child_once l s.links q p in let e = ap (times p) split_child.2.whole ∙ times-split p c left right in omega arith
 
     right_once : (p : ℕ) → times p right ≤ 1
     right_once p = let o = child_once l s.links q p in let e = ap (times p) split_child.2.whole ∙ times-split p c left right in omega arith
 
-    left_within : (p : ℕ) → 0 < times p left → p < PLACES
-    left_within p some = let e = ap (times p) split_child.2.whole ∙ times-split p c left right in child_within l s.links q p (omega arith)
+    left_made : (p : ℕ) → 0 < times p left → p < f.made
+    left_made p some = let e = ap (times p) split_child.2.whole ∙ times-split p c left right in child_made f l s q p (omega arith)
 
-    right_within : (p : ℕ) → 0 < times p right → p < PLACES
-    right_within p some = let e = ap (times p) split_child.2.whole ∙ times-split p c left right in child_within l s.links q p (omega arith)
+    right_made : (p : ℕ) → 0 < times p right → p < f.made
+    right_made p some = let e = ap (times p) split_child.2.whole ∙ times-split p c left right in child_made f l s q p (omega arith)
 
     -- no item stands on both sides
     apart : (x : ℕ) → 0 < times x right → times x left ≡ 0
@@ -58,12 +63,12 @@ module _ (f : Store) (l : Links) (s : Shows f l) where
     in_right : (x : ℕ) → 0 < times x right → x ≢ c
     in_right x some same = let e = split_child.2.right in let h : 0 < times c right = subst (λ z. 0 < times z right) same some in omega arith
 
-    -- what stands beside it is a place
-    pub before_low : (o : Option ℕ) (n : ℕ) → o ≡ get_or f.previous c None → PLACES ≤ n → IfSome o (λ p. p < n)
-    before_low o n is_before high = last_low o left n (is_before ∙ child_previous.0) (λ x some. let w = left_within x some in omega arith)
+    -- what stands beside it was made
+    pub before_low : (o : Option ℕ) (n : ℕ) → o ≡ get_or f.previous c None → f.made ≤ n → IfSome o (λ p. p < n)
+    before_low o n is_before high = last_low o left n (is_before ∙ child_previous.0) (λ x some. let w = left_made x some in omega arith)
 
-    pub after_low : (o : Option ℕ) (n : ℕ) → o ≡ get_or f.nexts c None → PLACES ≤ n → IfSome o (λ p. p < n)
-    after_low o n is_after high = first_low o right n (is_after ∙ child_next.1) (λ x some. let w = right_within x some in omega arith)
+    pub after_low : (o : Option ℕ) (n : ℕ) → o ≡ get_or f.nexts c None → f.made ≤ n → IfSome o (λ p. p < n)
+    after_low o n is_after high = first_low o right n (is_after ∙ child_next.1) (λ x some. let w = right_made x some in omega arith)
 
     -- ---- a place leaves its parent
 
@@ -93,14 +98,18 @@ module _ (f : Store) (l : Links) (s : Shows f l) where
         record {
           links = detached_links l s.links q c is;
           kinds = s.kinds;
-          parents = ap (λ z. set z c None) s.parents;
+          kinds_len = s.kinds_len;
+          parents_len = length-set f.parents c None ∙ s.parents_len;
+          tallies_len = s.tallies_len;
+          notes_len = s.notes_len;
+          parents = filled_up-set f.parents None PLACES c None (let w = c_made in let e = s.parents_len in omega arith) ∙ ap (λ z. set z c None) s.parents;
           tallies = s.tallies;
           notes = s.notes;
           children = record {
             spans_len = length-set f.spans q r ∙ s.spans_len;
             nexts_len = ap length nexts ∙ length-set (linked f.nexts before after) c None ∙ length-linked f.nexts before after ∙ s.nexts_len;
             previous_len = ap length prevs ∙ length-linked f.previous after before ∙ s.previous_len;
-            spans = spans_shown f.spans l gone q r (let w = owner_within l s.links q c is in let e = s.spans_len in omega arith) s.spans detached_others (made left right c (read ∙ ap span_of split_child.2.whole) before_is after_is ∙ ap span_of (sym detached_here));
+            spans = spans_shown f.spans l gone q r (let w = owner_made f l s q c is in let e = s.spans_len in omega arith) s.spans detached_others (made left right c (read ∙ ap span_of split_child.2.whole) before_is after_is ∙ ap span_of (sym detached_here));
             forward = spliced_forward l gone q left (c ∷ []) [] right detached_spliced f.nexts ns same s.forward at_left tt;
             back = spliced_back l gone q left (c ∷ []) [] right detached_spliced f.previous ps same_back s.back at_right;
             loose = spliced_loose l gone q left (c ∷ []) [] right detached_spliced f.nexts ns same s.loose (λ x some. ap (λ z. get_or ns z None) (alone x c some) ∙ at_c);
@@ -115,9 +124,6 @@ module _ (f : Store) (l : Links) (s : Shows f l) where
         after_is : after ≡ first_or right None
         after_is = next ∙ child_next.1
 
-        c_within : c < PLACES
-        c_within = parent_within l s.links c q is
-
         ns_is : ns ≡ set (linked f.nexts (last_or left None) (first_or right None)) c None
         ns_is = nexts ∙ (λ i. set (linked f.nexts (before_is i) (after_is i)) c None)
 
@@ -127,7 +133,7 @@ module _ (f : Store) (l : Links) (s : Shows f l) where
         at_c : get_or ns c None ≡ None
         at_c =
             ap (λ z. get_or z c None) ns_is
-            ∙ get_or-set_same (linked f.nexts (last_or left None) (first_or right None)) c None None (let w = c_within in let e = length-linked f.nexts (last_or left None) (first_or right None) in let n = s.nexts_len in omega arith)
+            ∙ get_or-set_same (linked f.nexts (last_or left None) (first_or right None)) c None None (let w = c_made in let e = length-linked f.nexts (last_or left None) (first_or right None) in let n = s.nexts_len in omega arith)
 
         beside_c : (x : ℕ) → x ≢ c → get_or ns x None ≡ get_or (linked f.nexts (last_or left None) (first_or right None)) x None
         beside_c x other = ap (λ z. get_or z x None) ns_is ∙ get_or-set_other (linked f.nexts (last_or left None) (first_or right None)) c x None None other
@@ -138,7 +144,7 @@ module _ (f : Store) (l : Links) (s : Shows f l) where
         at_left : Follow ns left (first_or right None)
         at_left =
             follow_same (linked f.nexts (last_or left None) (first_or right None)) ns left (first_or right None) (λ x some. beside_c x (in_left x some))
-            (relinked f.nexts left (Some c) (first_or right None) child_next.0 left_once (λ p some. let w = left_within p some in let e = s.nexts_len in omega arith))
+            (relinked f.nexts left (Some c) (first_or right None) child_next.0 left_once (λ p some. let w = left_made p some in let e = s.nexts_len in omega arith))
 
         same_back : (x : ℕ) → times x (c ∷ []) ≡ 0 → times x [] ≡ 0 → times x right ≡ 0 → get_or ps x None ≡ get_or f.previous x None
         same_back x went came none = ap (λ z. get_or z x None) ps_is ∙ linked-other f.previous (first_or right None) (last_or left None) x (λ z e. not_first right x z none e)
@@ -146,7 +152,7 @@ module _ (f : Store) (l : Links) (s : Shows f l) where
         at_right : Precede ps (last_or left None) right
         at_right =
             subst (λ z. Precede z (last_or left None) right) (sym ps_is)
-            (repreceded f.previous right (Some c) (last_or left None) child_previous.1 right_once (λ p some. let w = right_within p some in let e = s.previous_len in omega arith))
+            (repreceded f.previous right (Some c) (last_or left None) child_previous.1 right_once (λ p some. let w = right_made p some in let e = s.previous_len in omega arith))
 
     -- ---- another place stands there
 
@@ -187,14 +193,22 @@ module _ (f : Store) (l : Links) (s : Shows f l) where
           record {
             links = replaced_links l s.links q c n is live loose;
             kinds = s.kinds;
-            parents = parents_are ∙ ap (λ z. set (set z c None) n (Some q)) s.parents;
+            kinds_len = s.kinds_len;
+            parents_len = ap length parents_are ∙ length-set (set f.parents c None) n (Some q) ∙ length-set f.parents c None ∙ s.parents_len;
+            tallies_len = s.tallies_len;
+            notes_len = s.notes_len;
+            parents =
+                ap (λ z. filled_up z None PLACES) parents_are
+                ∙ filled_up-set (set f.parents c None) None PLACES n (Some q) (let w = n_made in let e = s.parents_len in let k = length-set f.parents c None in omega arith)
+                ∙ ap (λ z. set z n (Some q)) (filled_up-set f.parents None PLACES c None (let w = c_made in let e = s.parents_len in omega arith))
+                ∙ ap (λ z. set (set z c None) n (Some q)) s.parents;
             tallies = s.tallies;
             notes = s.notes;
             children = record {
               spans_len = length-set f.spans q r ∙ s.spans_len;
               nexts_len = ap length nexts ∙ length-set (set (linked f.nexts before (Some n)) n after) c None ∙ length-set (linked f.nexts before (Some n)) n after ∙ length-linked f.nexts before (Some n) ∙ s.nexts_len;
               previous_len = ap length prevs ∙ length-set (linked f.previous after (Some n)) n before ∙ length-linked f.previous after (Some n) ∙ s.previous_len;
-              spans = spans_shown f.spans l put q r (let w = owner_within l s.links q c is in let e = s.spans_len in omega arith) s.spans replaced_others (made left right c (read ∙ ap span_of split_child.2.whole) before_is after_is ∙ ap span_of (sym replaced_here));
+              spans = spans_shown f.spans l put q r (let w = owner_made f l s q c is in let e = s.spans_len in omega arith) s.spans replaced_others (made left right c (read ∙ ap span_of split_child.2.whole) before_is after_is ∙ ap span_of (sym replaced_here));
               forward = spliced_forward l put q left (c ∷ []) (n ∷ []) right replaced_spliced f.nexts ns same s.forward at_left (at_n, tt);
               back = spliced_back l put q left (c ∷ []) (n ∷ []) right replaced_spliced f.previous ps same_back s.back (prev_n, at_right);
               loose = spliced_loose l put q left (c ∷ []) (n ∷ []) right replaced_spliced f.nexts ns same s.loose (λ x some. ap (λ z. get_or ns z None) (alone x c some) ∙ at_c);
@@ -212,31 +226,31 @@ module _ (f : Store) (l : Links) (s : Shows f l) where
           after_is : after ≡ first_or right None
           after_is = next ∙ child_next.1
 
-          one_len : length one ≡ PLACES
+          one_len : length one ≡ f.made
           one_len = length-linked f.nexts (last_or left None) (Some n) ∙ s.nexts_len
 
-          two_len : length two ≡ PLACES
+          two_len : length two ≡ f.made
           two_len = length-set one n (first_or right None) ∙ one_len
 
           ns_is : ns ≡ set two c None
           ns_is = nexts ∙ (λ i. set (set (linked f.nexts (before_is i) (Some n)) n (after_is i)) c None)
 
-          back_len : length back_one ≡ PLACES
+          back_len : length back_one ≡ f.made
           back_len = length-linked f.previous (first_or right None) (Some n) ∙ s.previous_len
 
           ps_is : ps ≡ set back_one n (last_or left None)
           ps_is = prevs ∙ (λ i. set (linked f.previous (after_is i) (Some n)) n (before_is i))
 
-          n_within : n < PLACES
-          n_within = live_within l s.links n live
+          n_made : n < f.made
+          n_made = live_made f l s n live
 
           at_c : get_or ns c None ≡ None
-          at_c = ap (λ z. get_or z c None) ns_is ∙ get_or-set_same two c None None (let w = parent_within l s.links c q is in let e = two_len in omega arith)
+          at_c = ap (λ z. get_or z c None) ns_is ∙ get_or-set_same two c None None (let w = c_made in let e = two_len in omega arith)
 
           at_n : get_or ns n None ≡ first_or right None
           at_n =
               ap (λ z. get_or z n None) ns_is ∙ get_or-set_other two c n None None differ
-              ∙ get_or-set_same one n (first_or right None) None (let w = n_within in let e = one_len in omega arith)
+              ∙ get_or-set_same one n (first_or right None) None (let w = n_made in let e = one_len in omega arith)
 
           beside : (x : ℕ) → x ≢ c → x ≢ n → get_or ns x None ≡ get_or one x None
           beside x other apart_n =
@@ -256,7 +270,7 @@ module _ (f : Store) (l : Links) (s : Shows f l) where
           at_left : Follow ns left (Some n)
           at_left =
               follow_same one ns left (Some n) (λ x some. beside x (in_left x some) (not_n x (omega arith)))
-              (relinked f.nexts left (Some c) (Some n) child_next.0 left_once (λ p some. let w = left_within p some in let e = s.nexts_len in omega arith))
+              (relinked f.nexts left (Some c) (Some n) child_next.0 left_once (λ p some. let w = left_made p some in let e = s.nexts_len in omega arith))
 
           same_back : (x : ℕ) → times x (c ∷ []) ≡ 0 → times x (n ∷ []) ≡ 0 → times x right ≡ 0 → get_or ps x None ≡ get_or f.previous x None
           same_back x went came none =
@@ -264,10 +278,10 @@ module _ (f : Store) (l : Links) (s : Shows f l) where
               ∙ linked-other f.previous (first_or right None) (Some n) x (λ z e. not_first right x z none e)
 
           prev_n : get_or ps n None ≡ last_or left None
-          prev_n = ap (λ z. get_or z n None) ps_is ∙ get_or-set_same back_one n (last_or left None) None (let w = n_within in let e = back_len in omega arith)
+          prev_n = ap (λ z. get_or z n None) ps_is ∙ get_or-set_same back_one n (last_or left None) None (let w = n_made in let e = back_len in omega arith)
 
           at_right : Precede ps (Some n) right
           at_right =
               precede_same back_one ps (Some n) right
               (λ x some. ap (λ z. get_or z x None) ps_is ∙ get_or-set_other back_one n x (last_or left None) None (not_n x (omega arith)))
-              (repreceded f.previous right (Some c) (Some n) child_previous.1 right_once (λ p some. let w = right_within p some in let e = s.previous_len in omega arith))
+              (repreceded f.previous right (Some c) (Some n) child_previous.1 right_once (λ p some. let w = right_made p some in let e = s.previous_len in omega arith))

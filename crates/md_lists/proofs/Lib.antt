@@ -2,6 +2,8 @@ pub mod Limits
 pub mod ListLaws
 pub mod Following
 pub mod LinkLaws
+pub mod FilledUp
+pub mod MadePlaces
 pub mod Splicing
 pub mod Showing
 pub mod ListChanges
@@ -13,3 +15,4 @@ pub mod AllFree
 pub mod Beside
 pub mod Marks
 pub mod Loose
+pub mod NextPlace

@@ -23,6 +23,11 @@ times-other p x xs other = rw (ne_eqb x p other) (omega arith)
 pub times-split : (p c : ℕ) (xs ys : List ℕ) → times p (xs ++ c ∷ ys) ≡ times p xs + (cond (c == p) 1 0 + times p ys)
 times-split p c xs ys = times-append p xs (c ∷ ys)
 
+-- a list in which something stands isn't empty
+pub some_items : (c : ℕ) (xs : List ℕ) → 0 < times c xs → 0 < length xs
+some_items c [] some = absurd (omega arith)
+some_items c (x ∷ xs) some = omega arith
+
 -- a list falls apart at what stands in it
 pub split : (c : ℕ) (xs : List ℕ) → 0 < times c xs → (before after : List ℕ) × (xs ≡ before ++ c ∷ after)
 split c [] some = absurd (omega arith)

@@ -12,7 +12,8 @@ use Rattle.md_lists.specs.Links.{Links, tally_at, note_at, IsLive, raised, noted
 use Rattle.md_lists.specs.Store.{Shows}
 use Rattle.md_lists.specs.Kept.{store_of, links_kept, IsKept}
 use Rattle.md_lists.proofs.ListLaws.{first_in, last_low}
-use Rattle.md_lists.proofs.LinkLaws.{mark_within, few_marked}
+use Rattle.md_lists.proofs.LinkLaws.{few_marked}
+use Rattle.md_lists.proofs.MadePlaces.{mark_made}
 use Rattle.md_lists.proofs.Showing.{HasItems, opened, place_items, tally_read, note_read}
 use Rattle.md_lists.proofs.MarkChanges.{unmarks, raises, writes_note}
 
@@ -37,17 +38,17 @@ module _ (a : Inside) (l : Links) (kept : IsKept a) (kept_is : links_kept a ≡ 
 
   -- the last of them has a link, and one more can be counted
   pub marks_last : IfSome a.marks.last (λ p. p < vec_len a.mark_nexts)
-  marks_last = last_low a.marks.last l.marked (vec_len a.mark_nexts) (ap (λ (r : Span). r.last) s.marks) (λ x some. (place_items a l s x (mark_within l s.links x some)).in_mark_nexts)
+  marks_last = last_low a.marks.last l.marked (vec_len a.mark_nexts) (ap (λ (r : Span). r.last) s.marks) (λ x some. (place_items a l s x (mark_made (store_of a) l s x some)).in_mark_nexts)
 
   pub marks_count : a.marks.count ≤ PLACES
   marks_count = let e = ap (λ (r : Span). r.count) s.marks in let few = few_marked l s.links in omega arith
 
   module _ (p : ℕ) (is : a.marks.first ≡ Some p) where
-    first_within : p < PLACES
-    first_within = mark_within l s.links p (first_in l.marked p (sym marks_first ∙ is))
+    first_made : p < vec_len a.kinds
+    first_made = mark_made (store_of a) l s p (first_in l.marked p (sym marks_first ∙ is))
 
     pub first_items : HasItems a p
-    first_items = place_items a l s p first_within
+    first_items = place_items a l s p first_made
 
     pub left_marked : (rest : List ℕ) × (l.marked ≡ p ∷ rest)
     left_marked = starts_with l.marked p (sym marks_first ∙ is)
@@ -56,7 +57,7 @@ module _ (a : Inside) (l : Links) (kept : IsKept a) (kept_is : links_kept a ≡ 
     unmarks_first o r read made =
         let rest = left_marked.0 in
         let whole = left_marked.1 in
-        let next = get_or_read a.mark_nexts.items p o (let w = first_within in let e = s.mark_nexts_len in omega arith) read None in
+        let next = get_or_read a.mark_nexts.items p o (let w = first_made in let e = s.mark_nexts_len in omega arith) read None in
         let follows = subst (λ z. Follow a.mark_nexts.items z None) whole s.mark_forward in
         subst (Shows (record (store_of a) { tallies = set a.tallies.items p 0; notes = set a.notes.items p 0; marks = r })) (ap (unmarked_first l) (sym whole))
         (unmarks (store_of a) l s p rest r whole (made [] rest p (s.marks ∙ ap span_of whole) refl (next ∙ follows.0)))

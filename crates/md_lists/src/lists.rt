@@ -1,13 +1,13 @@
 //! Linked lists in place.
 ghost use Rattle.std.specs.Prelude.{◌≡◌, ◌≢◌, ℕ, ◌+◌, ◌<◌, ◌≤◌, List, [], ◌∷◌, ◌++◌, length, IfOk, IsSome, vec_len, vec_capacity, IfSome, ◌^◌, Some, None, slice_set, ◌==◌, if◌then◌else◌};
 ghost use Rattle.md_lists.specs.Words.{behind};
-ghost use Rattle.md_graph.specs.Linked.{first_or, times};
+ghost use Rattle.md_graph.specs.Linked.{first_or};
 ghost use Rattle.md_lists.specs.Links.{kind_at, parent_at, children_at, tally_at, note_at, IsLive, IsMarked, IsBare, AreLinks, spare_count, siblings, all_free, with_kind, attached, detached, replaced, raised, noted, unmarked};
 ghost use Rattle.md_lists.specs.Spans.{span_of, linked};
 
 use crate::span::{Span, link};
 use crate::{PLACES, PlaceKind};
-use md_graph::{Memory, Steps, copies_of};
+use md_graph::{Memory, Steps};
 use std::alloc::Global;
 use std::marker::Model;
 use std::sync::ledger::Ledger;
@@ -17,8 +17,9 @@ use std::sync::ledger::Ledger;
 /// and the marked places are a list in the order in which they came onto it. That no place is below
 /// itself is for the caller to keep.
 ///
-/// All memory is taken when the lists are made. Each call but `new` and `spare` is one step on the
-/// counter that it is lent, and reads or changes a bounded number of places.
+/// All memory is taken when the lists are made: room for all places, each of which is made when it
+/// is first asked for. Each call but `new` and `spare` is one step on the counter that it is lent,
+/// and reads or changes a bounded number of places.
 #[derive(Drop)]
 pub struct Lists {
     kinds: Vec<Option<PlaceKind>>,
@@ -30,6 +31,7 @@ pub struct Lists {
     notes: Vec<u32>,
     marks: Span,
     mark_nexts: Vec<Option<u32>>,
+    // The free ones of the places that were made; all others are free too.
     free: Vec<u32>,
 }
 
@@ -52,16 +54,16 @@ impl Lists {
         ensures links { IfOk result AreLinks }
     {
         Ok(Lists {
-            kinds: copies_of(alloc, PLACES, None)?,
-            parents: copies_of(alloc, PLACES, None)?,
-            spans: copies_of(alloc, PLACES, Span::empty())?,
-            nexts: copies_of(alloc, PLACES, None)?,
-            previous: copies_of(alloc, PLACES, None)?,
-            tallies: copies_of(alloc, PLACES, 0)?,
-            notes: copies_of(alloc, PLACES, 0)?,
+            kinds: Vec::with_capacity(alloc, PLACES as usize)?,
+            parents: Vec::with_capacity(alloc, PLACES as usize)?,
+            spans: Vec::with_capacity(alloc, PLACES as usize)?,
+            nexts: Vec::with_capacity(alloc, PLACES as usize)?,
+            previous: Vec::with_capacity(alloc, PLACES as usize)?,
+            tallies: Vec::with_capacity(alloc, PLACES as usize)?,
+            notes: Vec::with_capacity(alloc, PLACES as usize)?,
             marks: Span::empty(),
-            mark_nexts: copies_of(alloc, PLACES, None)?,
-            free: all_places(alloc)?,
+            mark_nexts: Vec::with_capacity(alloc, PLACES as usize)?,
+            free: Vec::with_capacity(alloc, PLACES as usize)?,
         })
     }
 
@@ -70,7 +72,7 @@ impl Lists {
         ensures spare { result ≡ spare_count self.now }
         ensures links { AreLinks self.now }
     {
-        self.free.len() as u32
+        self.free.len() as u32 + (PLACES - self.kinds.len() as u32)
     }
 
     /// A place that was free, now live, without parent, children and marks. Condition: a place is
@@ -85,13 +87,20 @@ impl Lists {
         ensures step { steps.new ≡ steps.old + 1 }
     {
         steps.tick();
-        match self.free.pop() {
-            Some(place) => {
-                self.kinds[place as usize] = Some(kind);
-                place
-            }
-            None => unreachable!(),
+        if let Some(place) = self.free.pop() {
+            self.kinds[place as usize] = Some(kind);
+            return place;
         }
+        let place = self.kinds.len() as u32;
+        self.kinds.push_reserved(Some(kind));
+        self.parents.push_reserved(None);
+        self.spans.push_reserved(Span::empty());
+        self.nexts.push_reserved(None);
+        self.previous.push_reserved(None);
+        self.tallies.push_reserved(0);
+        self.notes.push_reserved(0);
+        self.mark_nexts.push_reserved(None);
+        place
     }
 
     /// The place is free again. Condition: it is live, without parent, children and marks.
@@ -359,6 +368,7 @@ fn join(marks: Span, nexts: &mut Vec<Option<u32>>, place: u32, tally: u32, note:
         then slice_set (linked nexts.old.items marks.last (Some place)) place None
         else nexts.old.items) }
     ensures len { vec_len nexts.new ≡ vec_len nexts.old }
+    ensures capacity { vec_capacity nexts.new ≡ vec_capacity nexts.old }
 {
     if tally != 0 || note != 0 {
         return marks;
@@ -366,18 +376,4 @@ fn join(marks: Span, nexts: &mut Vec<Option<u32>>, place: u32, tally: u32, note:
     link(nexts, marks.last, Some(place));
     link(nexts, Some(place), None);
     marks.with_last(place)
-}
-
-// All places.
-fn all_places(alloc: Global) -> Result<Vec<u32>, Memory>
-    ensures room { IfOk result (λ v. PLACES ≤ vec_capacity v) }
-    ensures once { IfOk result (λ v. (p : ℕ) → p < PLACES → times p v.items ≡ 1) }
-    ensures within { IfOk result (λ v. (p : ℕ) → PLACES ≤ p → times p v.items ≡ 0) }
-    ensures count { IfOk result (λ v. length v.items ≡ PLACES) }
-{
-    let mut places = Vec::with_capacity(alloc, PLACES as usize)?;
-    for place in 0..PLACES {
-        places.push_reserved(place);
-    }
-    Ok(places)
 }

@@ -1,5 +1,5 @@
 //! The ends of a list in place, and its links.
-ghost use Rattle.std.specs.Prelude.{◌≡◌, ℕ, ◌+◌, ◌-◌, ◌^◌, ◌<◌, List, [], ◌∷◌, ◌++◌, IfSome, is_some, if◌then◌else◌, vec_len};
+ghost use Rattle.std.specs.Prelude.{◌≡◌, ℕ, ◌+◌, ◌-◌, ◌^◌, ◌<◌, List, [], ◌∷◌, ◌++◌, IfSome, is_some, if◌then◌else◌, vec_len, vec_capacity};
 ghost use Rattle.md_lists.specs.Words.{last_or};
 ghost use Rattle.md_graph.specs.Linked.{first_or};
 ghost use Rattle.md_lists.specs.Spans.{span_of, linked};
@@ -78,6 +78,7 @@ pub(crate) fn link(links: &mut Vec<Option<u32>>, place: Option<u32>, to: Option<
     requires { IfSome place (λ p. p < vec_len links.old) }
     ensures items { links.new.items ≡ linked links.old.items place to }
     ensures len { vec_len links.new ≡ vec_len links.old }
+    ensures capacity { vec_capacity links.new ≡ vec_capacity links.old }
 {
     if let Some(place) = place {
         links[place as usize] = to;

@@ -1,6 +1,6 @@
 use Rattle.std.proofs.Common.{None, set, ◌∙◌, ap, arith}
 use Rattle.md_lists.specs.Links.{detached}
-use Rattle.md_lists.proofs.Showing.{shown, links_shown}
+use Rattle.md_lists.proofs.Showing.{same_room, shown, links_shown}
 use Rattle.md_lists.proofs.Beside.{child_items, not_none, owner_only, owner_items, low_before, low_after, some_children, detaches_child}
 use Rattle.md_lists.proofs.lists.Lists.detach.Goals as goal
 
@@ -35,7 +35,9 @@ pub index_mut-requires-in-Some : goal.index_mut-requires-in-Some
 index_mut-requires-in-Some g c = (child_items c.self.inside c.args.self.now c.self.invariant c.self.view_is c.args.child c.requires).in_parents
 
 pub invariant_of-self : goal.invariant_of-self
-invariant_of-self g c = (c.self.invariant.0, (detached c.args.self.now c.in-Some.parent c.args.child, detaches_child c.self.inside c.args.self.now c.self.invariant c.self.view_is c.args.child c.requires _ c.in-Some.parent c.index-3.ensures c.in-Some.is _ _ _ _ _ _ c.index.ensures c.index-2.ensures c.index-span.ensures c.without.ensures (c.link-in-Some.ensures.items ∙ ap (λ z. set z c.args.child None) c.link.ensures.items) c.link-in-Some-2.ensures.items))
+invariant_of-self g c =
+    let room = c.self.invariant.0 in
+    ((room.0, room.1, room.2, same_room _ _ room.3 (c.link-in-Some.ensures.capacity ∙ c.link.ensures.capacity), same_room _ _ room.4 c.link-in-Some-2.ensures.capacity, room.5, room.6, room.7, room.8), (detached c.args.self.now c.in-Some.parent c.args.child, detaches_child c.self.inside c.args.self.now c.self.invariant c.self.view_is c.args.child c.requires _ c.in-Some.parent c.index-3.ensures c.in-Some.is _ _ _ _ _ _ c.index.ensures c.index-2.ensures c.index-span.ensures c.without.ensures (c.link-in-Some.ensures.items ∙ ap (λ z. set z c.args.child None) c.link.ensures.items) c.link-in-Some-2.ensures.items))
 
 pub unreachable-requires : goal.unreachable-requires
 unreachable-requires g c = not_none c.self.inside c.args.self.now c.self.invariant c.self.view_is c.args.child c.requires _ c.index-3.ensures c.in-None.is

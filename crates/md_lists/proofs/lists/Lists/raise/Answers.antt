@@ -1,7 +1,7 @@
 use Rattle.std.proofs.Common.{arith}
 use Rattle.md_lists.specs.Links.{raised}
 use Rattle.md_lists.proofs.Limits.{PLACES-lt}
-use Rattle.md_lists.proofs.Showing.{live_items, shown, links_shown, tally_read}
+use Rattle.md_lists.proofs.Showing.{live_items, same_room, shown, links_shown, tally_read}
 use Rattle.md_lists.proofs.Marks.{marks_last, marks_count, raises_mark}
 use Rattle.md_lists.proofs.lists.Lists.raise.Goals as goal
 
@@ -31,7 +31,9 @@ pub index_mut-requires : goal.index_mut-requires
 index_mut-requires g c = (live_items c.self.inside c.args.self.now c.self.invariant c.self.view_is c.args.p c.requires.live).in_tallies
 
 pub invariant_of-self : goal.invariant_of-self
-invariant_of-self g c = (c.self.invariant.0, (raised c.args.self.now c.args.p, raises_mark c.self.inside c.args.self.now c.self.invariant c.self.view_is c.args.p c.requires.live _ _ c.index-tally.ensures c.index-note.ensures _ _ c.join-self-inside.ensures.span c.join-self-inside.ensures.nexts))
+invariant_of-self g c =
+    let room = c.self.invariant.0 in
+    ((room.0, room.1, room.2, room.3, room.4, room.5, room.6, same_room _ _ room.7 c.join-self-inside.ensures.capacity, room.8), (raised c.args.self.now c.args.p, raises_mark c.self.inside c.args.self.now c.self.invariant c.self.view_is c.args.p c.requires.live _ _ c.index-tally.ensures c.index-note.ensures _ _ c.join-self-inside.ensures.span c.join-self-inside.ensures.nexts))
 
 pub returns-clause-raised : goal.returns-clause-raised
 returns-clause-raised g c = shown _ _ (raises_mark c.self.inside c.args.self.now c.self.invariant c.self.view_is c.args.p c.requires.live _ _ c.index-tally.ensures c.index-note.ensures _ _ c.join-self-inside.ensures.span c.join-self-inside.ensures.nexts)

@@ -1,6 +1,6 @@
 use Rattle.std.proofs.Common.{Some, None, is_some, set, ◌∙◌, ap, arith}
 use Rattle.md_lists.specs.Links.{replaced}
-use Rattle.md_lists.proofs.Showing.{live_items, shown, links_shown}
+use Rattle.md_lists.proofs.Showing.{live_items, same_room, shown, links_shown}
 use Rattle.md_lists.proofs.Beside.{child_items, not_none, owner_only, owner_items, low_before, low_after, replaces_child}
 use Rattle.md_lists.proofs.lists.Lists.replace.Goals as goal
 
@@ -41,7 +41,9 @@ pub link-requires-in-Some-6 : goal.link-requires-in-Some-6
 link-requires-in-Some-6 g c = let w = (live_items c.self.inside c.args.self.now c.self.invariant c.self.view_is c.args.new c.requires.new).in_parents in let e = c.link-in-Some-5.ensures.len in omega arith
 
 pub invariant_of-self : goal.invariant_of-self
-invariant_of-self g c = (c.self.invariant.0, (replaced c.args.self.now c.in-Some.parent c.args.old c.args.new, replaces_child c.self.inside c.args.self.now c.self.invariant c.self.view_is c.args.old (ap is_some c.requires.parent.1) _ c.in-Some.parent c.index-3.ensures c.in-Some.is c.args.new c.requires.new c.requires.loose _ _ _ _ _ _ _ (c.link-in-Some-6.ensures.items ∙ ap (λ z. set z c.args.new (Some c.in-Some.parent)) c.link-in-Some-5.ensures.items) c.index.ensures c.index-2.ensures c.index-span.ensures c.with_other.ensures (c.link-in-Some-2.ensures.items ∙ ap (λ z. set z c.args.old None) (c.link-in-Some.ensures.items ∙ ap (λ z. set z c.args.new c.index-2.result.now) c.link.ensures.items)) (c.link-in-Some-4.ensures.items ∙ ap (λ z. set z c.args.new c.index.result.now) c.link-in-Some-3.ensures.items)))
+invariant_of-self g c =
+    let room = c.self.invariant.0 in
+    ((room.0, same_room _ _ room.1 (c.link-in-Some-6.ensures.capacity ∙ c.link-in-Some-5.ensures.capacity), room.2, same_room _ _ room.3 (c.link-in-Some-2.ensures.capacity ∙ c.link-in-Some.ensures.capacity ∙ c.link.ensures.capacity), same_room _ _ room.4 (c.link-in-Some-4.ensures.capacity ∙ c.link-in-Some-3.ensures.capacity), room.5, room.6, room.7, room.8), (replaced c.args.self.now c.in-Some.parent c.args.old c.args.new, replaces_child c.self.inside c.args.self.now c.self.invariant c.self.view_is c.args.old (ap is_some c.requires.parent.1) _ c.in-Some.parent c.index-3.ensures c.in-Some.is c.args.new c.requires.new c.requires.loose _ _ _ _ _ _ _ (c.link-in-Some-6.ensures.items ∙ ap (λ z. set z c.args.new (Some c.in-Some.parent)) c.link-in-Some-5.ensures.items) c.index.ensures c.index-2.ensures c.index-span.ensures c.with_other.ensures (c.link-in-Some-2.ensures.items ∙ ap (λ z. set z c.args.old None) (c.link-in-Some.ensures.items ∙ ap (λ z. set z c.args.new c.index-2.result.now) c.link.ensures.items)) (c.link-in-Some-4.ensures.items ∙ ap (λ z. set z c.args.new c.index.result.now) c.link-in-Some-3.ensures.items)))
 
 pub unreachable-requires : goal.unreachable-requires
 unreachable-requires g c = not_none c.self.inside c.args.self.now c.self.invariant c.self.view_is c.args.old (ap is_some c.requires.parent.1) _ c.index-3.ensures c.in-None.is
