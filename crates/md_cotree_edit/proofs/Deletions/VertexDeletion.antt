@@ -1,7 +1,6 @@
 -- A vertex leaves the graph of a cotree, from the cotree to the cotree.
 use Rattle.std.proofs.Common.{◌≡◌, ◌≢◌, ℕ, ◌+◌, ◌-◌, ◌<◌, true, cond, ◌&&◌, ◌==◌, [], length, get_or, set, Option, Some, None, is_some, refl, sym, ◌∙◌, ap, subst, inl, inr, arith}
 use Rattle.std.proofs.lemmas.Bool.{cases_eq, eq-eqb, ne_eqb}
-use Rattle.std.proofs.lemmas.List.{length-set}
 use Rattle.std.specs.FinSet as sets
 use Rattle.std.specs.Option.{option_map}
 use Rattle.md_graph.specs.Sets.{Has}
