@@ -1,15 +1,15 @@
 -- One node more of a cotree that is put together.
-use Rattle.std.proofs.Common.{◌≡◌, ◌≢◌, ℕ, ◌+◌, ◌-◌, ◌<◌, ◌≤◌, Bool, cond, ◌&&◌, ◌==◌, List, [], ◌∷◌, ◌++◌, length, get_or, set, take, drop, map, Option, Some, None, refl, sym, ◌∙◌, ap, subst, inl, inr, arith, length-append, length-drop}
+use Rattle.std.proofs.Common.{◌≡◌, ◌≢◌, ℕ, ◌+◌, ◌-◌, ◌<◌, ◌≤◌, Bool, cond, ◌&&◌, ◌==◌, List, [], ◌∷◌, ◌++◌, length, get_or, take, drop, map, Option, Some, None, refl, sym, ◌∙◌, ap, subst, inl, inr, arith, length-append, length-drop}
+use Rattle.std.specs.Prelude.{vec_items}
 use Rattle.std.proofs.Math.Seq.{take-append_seam, drop-append_seam}
 use Rattle.std.proofs.lemmas.Bool.{cases_eq, eq-eqb, ne_eqb}
-use Rattle.std.proofs.lemmas.List.{length-set, length-map, take_all}
+use Rattle.std.proofs.lemmas.List.{length-map, take_all}
 use Rattle.md_graph.specs.declared.TheConstants.{NAMES}
 use Rattle.md_lists.specs.declared.kinds.PlaceKind.{PlaceKind}
 use Rattle.md_lists.specs.declared.kinds.PlaceKind.TheVariants.{Leaf}
 use Rattle.md_lists.specs.declared.TheConstants.{PLACES}
 use Rattle.md_lists.specs.Words.{holds_once}
 use Rattle.md_lists.specs.Links.{Links, kind_at, AreLinks, with_kind, spare_count}
-use Rattle.md_lists.proofs.LinkLaws.{get_or-set}
 use Rattle.md_tree.specs.declared.Kind.{Kind}
 use Rattle.md_tree.specs.declared.Kind.TheVariants.{Prime}
 use Rattle.md_tree.specs.declared.Children.{Children, out-Children}
@@ -22,6 +22,7 @@ use Rattle.md_tree.specs.Trees.{node, row, count}
 use Rattle.md_tree.specs.Parts.{name, inner as inner_part, part_of}
 use Rattle.md_tree.specs.Stacks.{with_part, HasChildrenOf}
 use Rattle.md_cotree.specs.declared.cotree.Cotree.{Cotree}
+use Rattle.md_cotree.specs.Cotrees.{AreEntries, place_at}
 use Rattle.md_cotree.specs.PlaceTrees.{tip, inner, PlaceTrees, no_more, then, roots, row_length, place_kind, kind_of, leaves_among, node_counts, FillsLists}
 use Rattle.md_cotree.specs.Forests.{row_append, shape_list, IsForest, IsReady}
 use Rattle.md_cotree.proofs.Rows.{roots-joined, shape_list-joined, leaves-joined, leaf_counts-joined, row_shapes, length_shapes, length_roots, Split, split_row, some_nodes}
@@ -35,43 +36,40 @@ pub forest_leaves : (c : Cotree) (stack : List ℕ) (ts : PlaceTrees) → IsFore
 forest_leaves c stack ts forest few = let e = forest.leaves in let low = some_nodes ts in omega arith
 
 -- the leaf of a name that no leaf had
-module _ (xs : List (Option ℕ)) (v p : ℕ) (long : length xs ≡ NAMES) (low : v < NAMES) (absent : get_or xs v None ≡ None) where
-  set_at : (w : ℕ) → get_or (set xs v (Some p)) w None ≡ cond (w == v) (Some p) (get_or xs w None)
-  set_at w = get_or-set xs v w (Some p) None (let e = long in omega arith)
-
+module _ (xs ys : List (Option ℕ)) (v p : ℕ) (put : (w : ℕ) → get_or ys w None ≡ cond (w == v) (Some p) (get_or xs w None)) (absent : get_or xs v None ≡ None) where
   pub leaf_named : (ts : PlaceTrees) → ((w q : ℕ) → leaves_among q w ts ≡ holds_once (get_or xs w None) q) → (w q : ℕ) →
-      leaves_among q w (row_append ts (then (tip p v) no_more)) ≡ holds_once (get_or (set xs v (Some p)) w None) q
+      leaves_among q w (row_append ts (then (tip p v) no_more)) ≡ holds_once (get_or ys w None) q
   leaf_named ts names w q =
       leaves-joined q w ts (then (tip p v) no_more) ∙ elim (cases_eq w v) [ inl same ↦ here same | inr differ ↦ there differ ]
     where
-      here : w ≡ v → leaves_among q w ts + (cond ((p == q) && (v == w)) 1 0 + 0) ≡ holds_once (get_or (set xs v (Some p)) w None) q
+      here : w ≡ v → leaves_among q w ts + (cond ((p == q) && (v == w)) 1 0 + 0) ≡ holds_once (get_or ys w None) q
       here same =
           let none : leaves_among q w ts ≡ 0 = names w q ∙ ap (λ z. holds_once (get_or xs z None) q) same ∙ ap (λ o. holds_once o q) absent in
-          let is : holds_once (get_or (set xs v (Some p)) w None) q ≡ cond (p == q) 1 0 =
-          ap (λ o. holds_once o q) (set_at w ∙ ap (λ b. cond b (Some p) (get_or xs w None)) (eq-eqb w v same)) in
+          let is : holds_once (get_or ys w None) q ≡ cond (p == q) 1 0 =
+          ap (λ o. holds_once o q) (put w ∙ ap (λ b. cond b (Some p) (get_or xs w None)) (eq-eqb w v same)) in
           let one : ◌≡◌ {A = ℕ} (cond ((p == q) && (v == w)) 1 0) (cond (p == q) 1 0) = test_both (p == q) (v == w) (eq-eqb v w (sym same)) in
           omega arith
 
-      there : (w ≡ v → ⊥) → leaves_among q w ts + (cond ((p == q) && (v == w)) 1 0 + 0) ≡ holds_once (get_or (set xs v (Some p)) w None) q
+      there : (w ≡ v → ⊥) → leaves_among q w ts + (cond ((p == q) && (v == w)) 1 0 + 0) ≡ holds_once (get_or ys w None) q
       there differ =
           let was = names w q in
-          let is : holds_once (get_or (set xs v (Some p)) w None) q ≡ holds_once (get_or xs w None) q =
-          ap (λ o. holds_once o q) (set_at w ∙ ap (λ b. cond b (Some p) (get_or xs w None)) (ne_eqb w v differ)) in
+          let is : holds_once (get_or ys w None) q ≡ holds_once (get_or xs w None) q =
+          ap (λ o. holds_once o q) (put w ∙ ap (λ b. cond b (Some p) (get_or xs w None)) (ne_eqb w v differ)) in
           let none : ◌≡◌ {A = ℕ} (cond ((p == q) && (v == w)) 1 0) 0 = test_none (p == q) (v == w) (ne_eqb v w (λ e. differ (sym e))) in
           omega arith
 
 -- a leaf on top of the stack
 pub leaf_forest : (c d : Cotree) (stack more : List ℕ) (v p : ℕ) → kind_at c.lists p ≡ None → p < PLACES → d.lists ≡ with_kind c.lists p (Some (Leaf v)) →
-    AreLinks d.lists → d.places.items ≡ set c.places.items v (Some p) → d.leaves ≡ c.leaves + 1 → more ≡ stack ++ p ∷ [] → v < NAMES → get_or c.places.items v None ≡ None →
+    AreLinks d.lists → ((w : ℕ) → place_at d w ≡ cond (w == v) (Some p) (place_at c w)) → AreEntries d.places → d.leaves ≡ c.leaves + 1 → more ≡ stack ++ p ∷ [] → place_at c v ≡ None →
     (ts : PlaceTrees) → IsForest c stack ts → IsForest d more (row_append ts (then (tip p v) no_more))
-leaf_forest c d stack more v p free within made links placed counted pushed low absent ts forest = record {
+leaf_forest c d stack more v p free within made links placed entries counted pushed absent ts forest = record {
   fits = subst (λ l. FillsLists l (row_append ts (then (tip p v) no_more))) (sym made)
       (fits_last (with_kind c.lists p (Some (Leaf v))) (tip p v) ts
       (fits_made c.lists forest.links p free within ts (tip p v) (Leaf v) forest.fits refl (λ q. refl) (λ kind none. (kind, none))));
   links = links;
   on_stack = roots-joined ts (then (tip p v) no_more) ∙ ap (λ xs. xs ++ p ∷ []) forest.on_stack ∙ sym pushed;
-  entries = ap length placed ∙ length-set c.places.items v (Some p) ∙ forest.entries;
-  names = λ w q. leaf_named c.places.items v p forest.entries low absent ts forest.names w q ∙ ap (λ xs. holds_once (get_or xs w None) q) (sym placed);
+  entries = entries;
+  names = leaf_named c.places.items d.places.items v p placed absent ts forest.names;
   leaves = let e = forest.leaves in let all = leaf_counts-joined ts (then (tip p v) no_more) in omega arith;
   unmarked = ap (λ (l : Links). l.marked) made ∙ forest.unmarked;
 }
@@ -103,18 +101,18 @@ roots_kept stack count below at ts us on long =
 pub node_forest : (c d : Cotree) (m : Links) (stack more : List ℕ) (p count below : ℕ) (k : Bool) (kind : PlaceKind) → kind ≡ place_kind k → kind_at c.lists p ≡ None → p < PLACES →
     m ≡ with_kind c.lists p (Some kind) → below ≡ length stack - count →
     (seen : List ℕ) → seen ≡ drop below stack → ((ts us : PlaceTrees) → FillsLists m (then (inner p k no_more) (row_append ts us)) → roots us ≡ seen → FillsLists d.lists (then (inner p k us) ts)) →
-    AreLinks d.lists → d.lists.marked ≡ m.marked → d.places.items ≡ c.places.items → d.leaves ≡ c.leaves → more ≡ take below stack ++ p ∷ [] →
+    AreLinks d.lists → d.lists.marked ≡ m.marked → d.places ≡ c.places → d.leaves ≡ c.leaves → more ≡ take below stack ++ p ∷ [] →
     (ts us : PlaceTrees) → IsForest c stack (row_append ts us) → row_length us ≡ count → IsForest d more (row_append ts (then (inner p k us) no_more))
 node_forest c d m stack more p count below k kind is free within made at seen shown attached links marked placed counted pushed ts us forest long = record {
   fits = fits_last d.lists (inner p k us) ts (attached ts us (node_made c.lists m (row_append ts us) p k kind is forest.links free within made forest.fits) (roots_seen stack count below at ts us forest.on_stack long ∙ sym shown));
   links = links;
   on_stack = roots-joined ts (then (inner p k us) no_more) ∙ ap (λ xs. xs ++ p ∷ []) (sym (roots_kept stack count below at ts us forest.on_stack long)) ∙ sym pushed;
-  entries = ap length placed ∙ forest.entries;
+  entries = subst AreEntries (sym placed) forest.entries;
   names = λ w q.
       let was = forest.names w q in
       let a = leaves-joined q w ts us in
       let b = leaves-joined q w ts (then (inner p k us) no_more) in
-      let same = ap (λ xs. holds_once (get_or xs w None) q) placed in
+      let same = ap (λ places. holds_once (get_or (vec_items places) w None) q) placed in
       omega arith;
   leaves = let e = forest.leaves in let a = leaf_counts-joined ts us in let b = leaf_counts-joined ts (then (inner p k us) no_more) in omega arith;
   unmarked = marked ∙ ap (λ (l : Links). l.marked) made ∙ forest.unmarked;

@@ -1,5 +1,5 @@
 -- No tree without prime nodes has an induced path on four names: the names would lie in one child of each node.
-use Rattle.std.proofs.Common.{◌≡◌, ◌≢◌, ℕ, suc, ◌<◌, Bool, true, false, cond, ◌&&◌, ◌==◌, List, Option, Some, None, is_some, refl, sym, ◌∙◌, ap, subst, inl, inr, arith}
+use Rattle.std.proofs.Common.{vec_len, ◌≡◌, ◌≢◌, ℕ, suc, ◌<◌, Bool, true, false, cond, ◌&&◌, ◌==◌, List, Option, Some, None, is_some, refl, sym, ◌∙◌, ap, subst, inl, inr, arith}
 use Rattle.std.proofs.lemmas.Bool.{cases_Bool, cases_eq, eq-eqb, ne_eqb, true≢false, false≢true}
 use Rattle.std.specs.FinSet.{contains}
 use Rattle.std.specs.Option.{option_map}
@@ -166,7 +166,9 @@ kept_below c t kept v h =
     let at = name_stands t v h in
     let e = kept.names v at.0 in
     let some = at.1 in
-    some_within c.places.items NAMES v kept.entries (ap is_some (held (place_at c v) at.0 (omega arith)))
+    let low = some_within c.places.items (vec_len c.places) v (sym c.places.ok.0) (ap is_some (held (place_at c v) at.0 (omega arith))) in
+    let few = kept.entries.0 in
+    omega arith
 
 pub cotree_graph : CotreeDenotesGraph
 cotree_graph c g is = go is.0 is.1 is.2

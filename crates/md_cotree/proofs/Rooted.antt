@@ -1,6 +1,7 @@
 -- The loose trees that the nodes of a tree have become: what is left of its parts, and the parts of the loose trees, are its parts.
 use Rattle.std.proofs.Common.{◌≡◌, ℕ, ◌+◌, ◌-◌, ◌<◌, ◌≤◌, Bool, true, false, cond, ◌&&◌, ◌==◌, List, [], ◌∷◌, ◌++◌, length, get_or, take, drop, Option, Some, None, refl, sym, ◌∙◌, ap, subst, arith, append_assoc, append-nil, length-append, length-drop}
 use Rattle.std.proofs.lemmas.List.{take-append-drop}
+use Rattle.std.specs.Prelude.{vec_items}
 use Rattle.std.specs.Option.{option_map}
 use Rattle.md_graph.specs.PlainGraph.{empty_graph}
 use Rattle.md_graph.specs.Sets.{Has, HasSome}
@@ -19,7 +20,7 @@ use Rattle.md_tree.proofs.Folding.{count_row, folded, Finds, IsFolding, fold_beg
 use Rattle.md_cotree.specs.declared.cotree.Cotree.{Cotree}
 use Rattle.md_cotree.specs.PlaceTrees.{PlaceTree, tip, inner, PlaceTrees, no_more, then, place_of, row_length, kind_of, leaves_in, leaves_among, node_count, node_counts, NoneInner, Alternates, AllAlternate, shape, shapes, FillsLists}
 use Rattle.md_cotree.specs.Forests.{shape_list, IsForest, IsReady}
-use Rattle.md_cotree.specs.Cotrees.{IsKeptAs, Denotes}
+use Rattle.md_cotree.specs.Cotrees.{AreEntries, IsKeptAs, Denotes}
 use Rattle.md_cotree.proofs.Cographs.{plain_shape}
 use Rattle.md_cotree.proofs.Rows.{row_shapes}
 use Rattle.md_cotree.proofs.Frames.{hit}
@@ -164,7 +165,7 @@ mutual
   all_alternate (then t ts) each = (alternates_of t each.0, all_alternate ts each.1)
 
 -- the one tree that is left is kept
-pub planted_one : (t : PlainTree) → IsWellFormed (Some t) → (c d : Cotree) (stack : List ℕ) → d.lists ≡ c.lists → d.places.items ≡ c.places.items → d.leaves ≡ c.leaves →
+pub planted_one : (t : PlainTree) → IsWellFormed (Some t) → (c d : Cotree) (stack : List ℕ) → d.lists ≡ c.lists → d.places ≡ c.places → d.leaves ≡ c.leaves →
     ((p : ℕ) → stack ≡ p ∷ [] → d.root ≡ Some p) → IsPlanting t c [] stack → Denotes d (graph_of_tree (Some t))
 planted_one t is c d stack lists places leaves root so = go so.trees (one_tree t (shape_list so.trees) so.folding) so.forest
   where
@@ -177,8 +178,8 @@ planted_one t is c d stack lists places leaves root so = go so.trees (one_tree t
           record {
             fits = subst (λ l. FillsLists l (then u no_more)) (sym lists) forest.fits;
             root = root (place_of u) (sym forest.on_stack);
-            entries = ap length places ∙ forest.entries;
-            names = λ v p. forest.names v p ∙ ap (λ xs. holds_once (get_or xs v None) p) (sym places);
+            entries = subst AreEntries (sym places) forest.entries;
+            names = λ v p. forest.names v p ∙ ap (λ z. holds_once (get_or (vec_items z) v None) p) (sym places);
             leaves = leaves ∙ forest.leaves;
             alternates = (alternates_of u (subst IsCanonicalTree (sym same) is.1), tt);
             unmarked = ap (λ (l : Links). l.marked) lists ∙ forest.unmarked;

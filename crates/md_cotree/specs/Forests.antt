@@ -1,6 +1,6 @@
 -- Loose trees over places on a stack, as a cotree is put together from the nodes of a tree.
 -- Source: the evaluation of prefix notation, read from right to left.
-use Rattle.std.specs.Prelude.{◌≡◌, ◌≢◌, ◌<◌, ℕ, List, [], ◌∷◌, length, slice_index_or, None}
+use Rattle.std.specs.Prelude.{◌≡◌, ◌≢◌, ◌<◌, ℕ, List, [], ◌∷◌, slice_index_or, None}
 use Rattle.md_graph.specs.declared.TheConstants.{NAMES}
 use Rattle.md_lists.specs.Links.{AreLinks}
 use Rattle.md_lists.specs.Words.{holds_once}
@@ -8,6 +8,7 @@ use Rattle.md_tree.specs.declared.Kind.TheVariants.{Prime}
 use Rattle.md_tree.specs.Parts.{PlainPart, name, inner as inner_part}
 use Rattle.md_tree.specs.Trees.{PlainTree}
 use Rattle.md_cotree.specs.declared.cotree.Cotree.{Cotree}
+use Rattle.md_cotree.specs.Cotrees.{AreEntries}
 use Rattle.md_cotree.specs.PlaceTrees.{PlaceTrees, no_more, then, roots, leaves_among, leaf_counts, shape, FillsLists}
 
 -- two rows, one behind the other
@@ -25,7 +26,7 @@ pub record IsForest (c : Cotree) (stack : List ℕ) (ts : PlaceTrees) : Type 0 w
   pub fits : FillsLists c.lists ts
   pub links : AreLinks c.lists
   pub on_stack : roots ts ≡ stack
-  pub entries : length c.places.items ≡ NAMES
+  pub entries : AreEntries c.places
   pub names : (v p : ℕ) → leaves_among p v ts ≡ holds_once (slice_index_or c.places.items v None) p
   pub leaves : c.leaves ≡ leaf_counts ts
   pub unmarked : c.lists.marked ≡ []

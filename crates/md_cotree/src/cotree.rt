@@ -1,13 +1,14 @@
 //! Cotrees over linked lists.
-ghost use Rattle.std.specs.Prelude.{◌≡◌, Option, IfOk};
+ghost use Rattle.std.specs.Prelude.{◌≡◌, ℕ, ◌<◌, Option, Some, None, IfOk, slice_index_or, ◌==◌, if◌then◌else◌};
 ghost use Rattle.md_graph.specs.PlainGraph.{empty_graph};
+ghost use Rattle.md_cotree.specs.Cotrees.{AreEntries};
 
-use md_graph::{Memory, NAMES, copies_of};
+use md_graph::{Memory, NAMES};
 use md_lists::{Lists, PLACES};
 use std::alloc::Global;
 
-/// A tree without prime nodes over places: its linked lists, a place or none for each name, the
-/// place of its root or none, and the number of its leaves.
+/// A tree without prime nodes over places: its linked lists, a place or none for each name up to
+/// the greatest that came, the place of its root or none, and the number of its leaves.
 #[derive(Drop)]
 pub struct Cotree {
     pub lists: Lists,
@@ -29,7 +30,7 @@ impl Cotree {
     {
         Ok(Cotree {
             lists: Lists::new(alloc)?,
-            places: copies_of(alloc, NAMES, None)?,
+            places: Vec::with_capacity(alloc, NAMES as usize)?,
             root: None,
             leaves: 0,
         })
@@ -46,6 +47,20 @@ impl Cotree {
     {
         u64::from(PLACES - self.lists.spare())
     }
+}
+
+/// A place is kept for a name, in the room that is there for all names.
+pub fn keep_place(places: &mut Vec<Option<u32>>, name: u32, place: u32)
+    requires entries { AreEntries places.old }
+    requires name { name < NAMES }
+    ensures kept { (v : ℕ) → slice_index_or places.new.items v None
+        ≡ (if v == name then Some place else slice_index_or places.old.items v None) }
+    ensures entries { AreEntries places.new }
+{
+    for _ in places.len()..name as usize + 1 {
+        places.push_reserved(None);
+    }
+    places[name as usize] = Some(place);
 }
 
 #[cfg(test)]

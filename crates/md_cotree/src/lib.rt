@@ -8,7 +8,7 @@ mod ordering;
 mod planting;
 
 pub use adjacency::parent_of;
-pub use cotree::Cotree;
+pub use cotree::{Cotree, keep_place};
 pub use planting::from_tree;
 
 #[cfg(test)]

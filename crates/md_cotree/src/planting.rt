@@ -13,6 +13,7 @@ ghost use Rattle.md_cotree.specs.Forests.{row_append, shape_list, IsForest, IsRe
 ghost use Rattle.md_cotree.specs.PlaceTrees.{PlaceTrees, no_more, then, tip, inner, roots, row_length, node_counts, place_kind, kind_of, FillsLists};
 
 use crate::Cotree;
+use crate::cotree::keep_place;
 use md_graph::{Memory, NAMES, Steps};
 use md_lists::{Lists, PLACES, PlaceKind};
 use md_tree::{Kind, Tree, nodes_of};
@@ -92,7 +93,7 @@ fn put_leaf<L: Ledger>(
         IsForest cotree.new stack.new.items (row_append ts (then (tip place name) no_more)))) }
 {
     let place = cotree.lists.make(PlaceKind::Leaf(name), steps);
-    cotree.places[name as usize] = Some(place);
+    keep_place(&mut cotree.places, name, place);
     cotree.leaves += 1;
     stack.push(place)?;
     Ok(())

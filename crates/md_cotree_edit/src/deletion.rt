@@ -4,7 +4,7 @@ ghost use Rattle.std.specs.FinSet as set;
 ghost use Rattle.md_graph.specs.PlainGraph.{PlainGraph, neighbours, without_vertex};
 ghost use Rattle.md_graph.specs.Sets.{Has};
 ghost use Rattle.md_lists.specs.Links.{AreLinks, children_at};
-ghost use Rattle.md_cotree.specs.Cotrees.{Denotes};
+ghost use Rattle.md_cotree.specs.Cotrees.{AreEntries, Denotes};
 ghost use Rattle.md_cotree.specs.PlaceTrees.{inner, no_more, then, place_of, row_length};
 ghost use Rattle.md_cotree_edit.specs.Contexts.{AreTreesKept, plug};
 ghost use Rattle.md_cotree_edit.specs.Deletions.{PassView, CanPass, two_trees, MoveView, CanMove, AreAllMoved, PlaceView, CanReplace, IsKeptFrom, MergeView, CanMerge, IsMerged, SettleView, CanSettle, IsSettled, below_count, beside_count, CloseView, CanClose, open_tree, IsNodeClosed, PruneView, CanPrune, IsPruned, leaf_tree, HasFew};
@@ -33,6 +33,7 @@ fn take_place(places: &mut Vec<Option<u32>>, name: u32) -> u32
     requires { IsSome (slice_index_or places.old.items name None) }
     ensures place { slice_index_or places.old.items name None ≡ Some result }
     ensures taken { places.new.items ≡ slice_set places.old.items name None }
+    ensures entries { AreEntries places.old → AreEntries places.new }
 {
     match places[name as usize] {
         Some(place) => {

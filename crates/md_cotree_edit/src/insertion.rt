@@ -21,7 +21,7 @@ use crate::edges::NotCograph;
 use crate::lifting::join;
 use crate::marking::{clear, mark_all};
 use crate::relinking::relink;
-use md_cotree::Cotree;
+use md_cotree::{Cotree, keep_place};
 use md_graph::Steps;
 use md_lists::{Lists, PlaceKind};
 use std::sync::ledger::Ledger;
@@ -65,7 +65,7 @@ fn plant<L: Ledger>(tree: &mut Cotree, x: u32, steps: &mut Steps<L>)
     let _spare = tree.lists.spare();
     let leaf = tree.lists.make(PlaceKind::Leaf(x), steps);
     tree.root = Some(leaf);
-    tree.places[x as usize] = Some(leaf);
+    keep_place(&mut tree.places, x, leaf);
     tree.leaves += 1;
 }
 
@@ -107,7 +107,7 @@ fn join_all<L: Ledger>(tree: &mut Cotree, top: u32, x: u32, steps: &mut Steps<L>
 {
     let _spare = tree.lists.spare();
     let leaf = over_root(&mut tree.lists, &mut tree.root, top, x, true, steps);
-    tree.places[x as usize] = Some(leaf);
+    keep_place(&mut tree.places, x, leaf);
     tree.leaves += 1;
 }
 
@@ -136,7 +136,7 @@ fn join_listed<L: Ledger>(
     let Some(leaf) = take_in(&mut tree.lists, &mut tree.root, top, x, none, steps) else {
         return Err(NotCograph);
     };
-    tree.places[x as usize] = Some(leaf);
+    keep_place(&mut tree.places, x, leaf);
     tree.leaves += 1;
     Ok(())
 }

@@ -1,6 +1,6 @@
 -- Names in lists: what is in a filtered list, lists of all numbers below a bound, and how many
 -- numbers there can be.
-use Rattle.std.proofs.Common.{◌≡◌, ◌≢◌, ℕ, zero, suc, ◌<◌, ◌≤◌, Bool, true, false, cond, ◌&&◌, ◌==◌, if◌then◌else◌, ltb, List, [], ◌∷◌, ◌++◌, All, AllPairs, refl, sym, ◌∙◌, ap, subst, inl, inr, arith, append-nil}
+use Rattle.std.proofs.Common.{◌≡◌, ◌≢◌, ℕ, zero, suc, ◌<◌, ◌≤◌, Bool, true, false, cond, ◌&&◌, ◌==◌, if◌then◌else◌, ltb, List, [], ◌∷◌, ◌++◌, length, get_or, All, AllPairs, refl, sym, ◌∙◌, ap, subst, inl, inr, arith, append-nil}
 use Rattle.std.specs.List.{filter}
 use Rattle.std.proofs.lemmas.Bool.{or_right, cases_eq, eq-eqb, ne_eqb, false≢true}
 use Rattle.std.proofs.lemmas.Bool.Decides.{nat_tests}
@@ -132,6 +132,15 @@ one_more f g (suc n) v low off on same above =
     ]
 
 -- ---- as many numbers as places
+
+-- a number in a list stands at some place there
+pub place_in : (xs : List ℕ) (v : ℕ) → is_in xs v ≡ true → (k : ℕ) × (k < length xs) × (get_or xs k 0 ≡ v)
+place_in [] v m = absurd (false≢true m)
+place_in (x ∷ xs) v m =
+    elim (cases_eq x v) [
+      | inl same ↦ (zero, omega arith, same)
+      | inr other ↦ let rest = place_in xs v (sym (in_other x v xs other) ∙ m) in (suc rest.0, (let low = rest.1 in omega arith), rest.2)
+    ]
 
 -- where each number below m comes from one below n, m is at most n
 pub few : (n m : ℕ) (f : ℕ → ℕ) → ((q : ℕ) → q < m → (w : ℕ) × (w < n) × (f w ≡ q)) → m ≤ n

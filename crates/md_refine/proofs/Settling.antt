@@ -1,5 +1,5 @@
 -- A class is settled: its touched names stand alone, or get a place before the others.
-use Rattle.std.proofs.Common.{◌≡◌, ◌≢◌, ◌⊎◌, ℕ, ◌+◌, ◌*◌, ◌<◌, ◌≤◌, true, false, not, ◌&&◌, ◌==◌, if◌then◌else◌, List, [], ◌∷◌, map, get_or, set, Option, Some, None, refl, sym, ◌∙◌, ap, subst, inl, inr, arith}
+use Rattle.std.proofs.Common.{◌≡◌, ◌≢◌, ◌⊎◌, ℕ, ◌+◌, ◌*◌, ◌<◌, ◌≤◌, true, false, not, ◌&&◌, ◌==◌, if◌then◌else◌, List, [], ◌∷◌, map, length, vec_len, get_or, set, Option, Some, None, refl, sym, ◌∙◌, ap, subst, inl, inr, arith}
 use Rattle.std.specs.List.{filter, flat_map}
 use Rattle.std.specs.FinSet as sets
 use Rattle.std.proofs.lemmas.Bool.{and_right, cases_eq, eq-eqb, ne_eqb, eqb-true, false≢true, false_from_ne_true, and_parts, not-true}
@@ -16,9 +16,9 @@ use Rattle.md_refine.specs.Partitions.{is_in, class_with, parts, settled_by, set
 use Rattle.md_refine.specs.Slots.{MarkStore, numbers, home, owner, main, half, is_mark_of, is_half, stands, marked, place_names, IsPlaceOrder, ArePlaceMarks, IsHome, Keeps}
 use Rattle.md_graph.specs.Linked.{times}
 use Rattle.md_refine.specs.Kept.{marks_kept, KeepsPartition}
-use Rattle.md_refine.proofs.Lists.{filter_twice, filter_all, filter_none, filter_same, in_some, least_first, numbers_order, few}
+use Rattle.md_refine.proofs.Lists.{filter_twice, filter_all, filter_none, filter_same, in_some, least_first, numbers_order, place_in, few}
 use Rattle.md_refine.proofs.Refining.{one_part}
-use Rattle.md_refine.proofs.Showing.{where_true, seen, with_at, low_order, order_low, name_low, stands_home, in_names, in_touched, at_home}
+use Rattle.md_refine.proofs.Showing.{where_true, seen, with_at, low_order, order_low, name_within, marked_home, stands_home, in_names, in_touched, at_home}
 use Rattle.md_refine.proofs.Counts.{counted_one, some_counted}
 use Rattle.md_refine.proofs.Inserting.{inserted, order_inserted, classes_inserted, classes_same}
 
@@ -183,12 +183,14 @@ module _ (s : MarkStore) (order : List ℕ) (k : Keeps s order) (v i p m : ℕ) 
 
     pub whole_keeps : Keeps whole_store order
     whole_keeps = record {
-      homes_len = k.homes_len;
+      homes_few = k.homes_few;
+      size_few = k.size_few;
       owners_len = k.owners_len;
       counts_len = k.counts_len;
       mains_len = length-set s.mains p i ∙ k.mains_len;
       halves_len = length-set s.halves p m ∙ k.halves_len;
       nexts_len = k.nexts_len;
+      fits = k.fits;
       is_order = k.is_order;
       homes = homes;
       marks = marks;
@@ -263,7 +265,7 @@ module _ (s : MarkStore) (order : List ℕ) (k : Keeps s order) (v i p m : ℕ) 
   -- ---- some names of the class aren't touched: they get a place of their own, behind
 
   module _ (nx : Option ℕ) (nx_is : nx ≡ get_or s.nexts p None) (some : get_or s.counts m 0 ≢ 0) where
-    most : s.used ≤ NAMES
+    most : s.used ≤ s.size
     most = let l = k.is_order.within in let e = k.nexts_len in omega arith
 
     other_name : (w : ℕ) × (home s w ≡ Some m)
@@ -280,19 +282,28 @@ module _ (s : MarkStore) (order : List ℕ) (k : Keeps s order) (v i p m : ℕ) 
     then_main : place_then (Some m) ≡ s.used
     then_main = rw (eq-eqb m m refl) refl
 
-    pub room : s.used + 1 ≤ NAMES
-    room = few NAMES (s.used + 1) (λ w. place_then (home s w)) onto
+    -- the places then, by the places in the list of names
+    abbrev place_of_name : ℕ → ℕ
+    place_of_name z = place_then (home s (get_or k.fits.0 z 0))
+
+    by_name : (w j q : ℕ) → home s w ≡ Some j → place_then (Some j) ≡ q → (z : ℕ) × (z < length k.fits.0) × (place_of_name z ≡ q)
+    by_name w j q e is =
+        let at = place_in k.fits.0 w (k.fits.2 w j e) in
+        (at.0, at.1, ap (λ z. place_then (home s z)) at.2 ∙ ap place_then e ∙ is)
+
+    pub room : s.used + 1 ≤ s.size
+    room = let named = few (length k.fits.0) (s.used + 1) place_of_name onto in let most_names = k.fits.1 in omega arith
       where
-        onto : (q : ℕ) → q < s.used + 1 → (w : ℕ) × (w < NAMES) × (place_then (home s w) ≡ q)
+        onto : (q : ℕ) → q < s.used + 1 → (z : ℕ) × (z < length k.fits.0) × (place_of_name z ≡ q)
         onto q low =
             elim (cases_eq q s.used) [
-              | inl last ↦ (other_name.0, name_low s order k other_name.0 m other_name.1, ap place_then other_name.1 ∙ then_main ∙ sym last)
+              | inl last ↦ by_name other_name.0 m q other_name.1 (then_main ∙ sym last)
               | inr before ↦ elim (cases_eq q p) [
-                | inl here ↦ (v, name_low s order k v i turn.is, ap place_then turn.is ∙ then_other i (λ e. differ (sym e)) ∙ sym turn.p_is ∙ sym here)
+                | inl here ↦ by_name v i q turn.is (then_other i (λ e. differ (sym e)) ∙ sym turn.p_is ∙ sym here)
                 | inr there ↦
                     let w = k.some q (omega arith) in
                     let h = stands_home s order k q w.0 w.1 in
-                    (w.0, name_low s order k w.0 h.0 h.1, ap place_then h.1 ∙ then_other h.0 (λ e. there (h.2 ∙ ap (owner s) e ∙ main_owner)) ∙ sym h.2)
+                    by_name w.0 h.0 q h.1 (then_other h.0 (λ e. there (h.2 ∙ ap (owner s) e ∙ main_owner)) ∙ sym h.2)
               ]
             ]
 
@@ -537,12 +548,14 @@ module _ (s : MarkStore) (order : List ℕ) (k : Keeps s order) (v i p m : ℕ) 
 
     pub part_keeps : Keeps part_store (inserted p s.used order)
     part_keeps = record {
-      homes_len = k.homes_len;
+      homes_few = k.homes_few;
+      size_few = k.size_few;
       owners_len = length-set (set (set s.owners m s.used) (2 * s.used) p) (2 * s.used + 1) s.used ∙ length-set (set s.owners m s.used) (2 * s.used) p ∙ length-set s.owners m s.used ∙ k.owners_len;
       counts_len = k.counts_len;
       mains_len = length-set (set s.mains p i) s.used m ∙ length-set s.mains p i ∙ k.mains_len;
       halves_len = length-set (set s.halves p (2 * s.used)) s.used (2 * s.used + 1) ∙ length-set s.halves p (2 * s.used) ∙ k.halves_len;
       nexts_len = length-set (set s.nexts s.used nx) p (Some s.used) ∙ length-set s.nexts s.used nx ∙ k.nexts_len;
+      fits = k.fits;
       is_order = part_order;
       homes = λ w j e. let h = k.homes w j e in part_home j h.low (mark_of w j e) h.own;
       marks = part_marks;
@@ -588,21 +601,26 @@ module _ (s : MarkStore) (order : List ℕ) (k : Keeps s order) (v i p m : ℕ) 
 
 -- ---- what `settle` reads
 
-module _ (a : Inside) (kept : KeepsPartition a) (v i : ℕ) (o : Option ℕ) (found : IsLeastFrom a.leads a.low v) (v_low : v < NAMES) (read : o ≡ get_or a.homes.items v o) (o_is : o ≡ Some i) where
-  read_home : home (marks_kept a) v ≡ Some i
-  read_home = sym (get_or_read a.homes.items v o (let e = kept.1.homes_len in omega arith) read None) ∙ o_is
+pub lead_within : (a : Inside) (kept : KeepsPartition a) (v : ℕ) → Has a.leads v → v < length a.homes.items
+lead_within a kept v lead =
+    let h = marked_home (marks_kept a) kept.0 kept.1 v (kept.1.leads_marked v lead) in
+    name_within (marks_kept a) kept.0 kept.1 v h.0 h.1
 
-  used_most : a.used ≤ NAMES
+module _ (a : Inside) (kept : KeepsPartition a) (v i : ℕ) (o : Option ℕ) (found : IsLeastFrom a.leads a.low v) (read : o ≡ get_or a.homes.items v o) (o_is : o ≡ Some i) where
+  read_home : home (marks_kept a) v ≡ Some i
+  read_home = sym (get_or_read a.homes.items v o (let w = lead_within a kept v found.member in omega arith) read None) ∙ o_is
+
+  used_most : a.used ≤ vec_len a.nexts
   used_most = let l = kept.1.is_order.within in let e = kept.1.nexts_len in omega arith
 
-  pub half_fits : i < 2 * NAMES
+  pub half_fits : i < 2 * vec_len a.nexts
   half_fits = let h = (kept.1.homes v i read_home).low in let u = used_most in omega arith
 
   module _ (p : ℕ) (p_read : p ≡ get_or a.owners.items i p) where
     place_is : p ≡ owner (marks_kept a) i
     place_is = get_or_read a.owners.items i p (let e = kept.1.owners_len in let h = half_fits in omega arith) p_read 0
 
-    pub place_fits : p < NAMES
+    pub place_fits : p < vec_len a.nexts
     place_fits = let h = (kept.1.homes v i read_home).place in let e = place_is in let u = used_most in omega arith
 
     module _ (m : ℕ) (m_read : m ≡ get_or a.mains.items p m) where
@@ -615,7 +633,7 @@ module _ (a : Inside) (kept : KeepsPartition a) (v i : ℕ) (o : Option ℕ) (fo
         m_is = get_or_read a.mains.items p m (let e = kept.1.mains_len in let h = place_fits in omega arith) m_read 0;
       }
 
-      pub main_fits : m < 2 * NAMES
+      pub main_fits : m < 2 * vec_len a.nexts
       main_fits = let h = main_low (marks_kept a) kept.0 kept.1 v i p m turn_read (sets.remove a.leads v) refl in let u = used_most in omega arith
 
       module _ (n : ℕ) (n_read : n ≡ get_or a.counts.items m n) where
@@ -628,5 +646,5 @@ module _ (a : Inside) (kept : KeepsPartition a) (v i : ℕ) (o : Option ℕ) (fo
         pub part_read : (n ≡ 0 → ⊥) → get_or a.counts.items m 0 ≢ 0
         part_read e z = e (count_is ∙ z)
 
-        pub room_fits : (n ≡ 0 → ⊥) → a.used < NAMES
+        pub room_fits : (n ≡ 0 → ⊥) → a.used < vec_len a.nexts
         room_fits e = let r = room (marks_kept a) kept.0 kept.1 v i p m turn_read (sets.remove a.leads v) refl (get_or a.nexts.items p None) refl (part_read e) in omega arith

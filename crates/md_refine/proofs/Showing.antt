@@ -1,5 +1,5 @@
 -- Vectors that keep a partition: what is read of them.
-use Rattle.std.proofs.Common.{◌≡◌, ◌≢◌, ℕ, ◌+◌, ◌<◌, ◌≤◌, Bool, true, false, cond, not, ◌&&◌, ◌||◌, ◌==◌, nat_lt, List, [], ◌∷◌, map, vec_len, Option, Some, None, is_some, AllPairs, refl, sym, ◌∙◌, ap, subst, inl, inr, arith}
+use Rattle.std.proofs.Common.{◌≡◌, ◌≢◌, ℕ, ◌+◌, ◌<◌, ◌≤◌, Bool, true, false, cond, not, ◌&&◌, ◌||◌, ◌==◌, nat_lt, List, [], ◌∷◌, map, length, vec_len, Option, Some, None, is_some, AllPairs, refl, sym, ◌∙◌, ap, subst, inl, inr, arith}
 use Rattle.std.specs.List.{filter, list_any, position_from}
 use Rattle.std.proofs.lemmas.Bool.{cases_eq, eq-eqb, ne_eqb, false≢true, lt-ltb, cases_lt}
 use Rattle.std.proofs.lemmas.Bool.Decides.{nat_tests}
@@ -96,12 +96,16 @@ module _ (s : MarkStore) (order : List ℕ) (k : Keeps s order) where
       let found : walk s.nexts s.used s.first ≡ order = (λ i. walk s.nexts (sym k.is_order.long i) (k.is_order.begins i)) ∙ walk-follow s.nexts order k.is_order.follow in
       λ i. record { classes = map (place_names s) (found i); touched = filter (marked s) (numbers NAMES) }
 
-  pub name_low : (v i : ℕ) → home s v ≡ Some i → v < NAMES
-  name_low v i is =
-      elim (cases_lt v NAMES) [
+  -- a name that has a mark is below the number of names kept
+  pub name_within : (v i : ℕ) → home s v ≡ Some i → v < length s.homes
+  name_within v i is =
+      elim (cases_lt v (length s.homes)) [
         | inl low ↦ low
-        | inr high ↦ absurd (none-some i (sym (get_or_past s.homes v None (let e = k.homes_len in omega arith)) ∙ is))
+        | inr high ↦ absurd (none-some i (sym (get_or_past s.homes v None high) ∙ is))
       ]
+
+  pub name_low : (v i : ℕ) → home s v ≡ Some i → v < NAMES
+  name_low v i is = let low = name_within v i is in let few = k.homes_few in omega arith
 
   pub stands_home : (p v : ℕ) → stands s p v ≡ true → (i : ℕ) × (home s v ≡ Some i) × (p ≡ owner s i)
   stands_home p v m = go (home s v) refl m

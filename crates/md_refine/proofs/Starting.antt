@@ -1,5 +1,5 @@
 -- The partition of one class.
-use Rattle.std.proofs.Common.{◌≡◌, ℕ, zero, suc, ◌+◌, ◌*◌, ◌<◌, Bool, true, false, cond, min, ◌&&◌, ◌==◌, nat_le, if◌then◌else◌, ltb, List, [], ◌∷◌, ◌++◌, map, length, replicate, get_or, set, Option, Some, None, refl, sym, ◌∙◌, ap, inl, inr, arith, add-one, length-append, append-nil}
+use Rattle.std.proofs.Common.{◌≡◌, ℕ, zero, suc, ◌+◌, ◌*◌, ◌<◌, ◌≤◌, Bool, true, false, cond, min, max, ◌&&◌, ◌==◌, nat_le, if◌then◌else◌, ltb, List, [], ◌∷◌, ◌++◌, map, length, replicate, get_or, set, Option, Some, None, refl, sym, ◌∙◌, ap, inl, inr, arith, add-one, length-append, append-nil}
 use Rattle.std.specs.List.{filter, count_by}
 use Rattle.std.specs.FinSet as sets
 use Rattle.std.proofs.lemmas.Bool.{cases_eq, eq-eqb, ne_eqb, le-leb, cases_lt, lt-ltb, ltb-true, ltb-false, and_from, false≢true, false_from_ne_true}
@@ -15,10 +15,11 @@ use Rattle.md_graph.proofs.BitWords.{get_or-zeros}
 use Rattle.md_graph.proofs.SetLaws.{len-empty}
 use Rattle.md_graph.proofs.SetLemmas.{if_empty, empty_lacks}
 use Rattle.md_graph.proofs.Search.{decide_has_some, some_len}
-use Rattle.md_graph.proofs.NameLemmas.{length-ascending}
+use Rattle.md_graph.proofs.NameLemmas.{few_below, length-ascending}
 use Rattle.md_refine.specs.Partitions.{unless_empty, one_class}
 use Rattle.md_refine.specs.Slots.{MarkStore, numbers, home, is_mark_of, is_half, is_mark, stands, marked, place_names, partition_of, IsPlaceOrder, ArePlaceMarks, Keeps}
-use Rattle.md_refine.proofs.Lists.{in_numbers, filter_same, filter_none, in_some}
+use Rattle.md_refine.proofs.Limits.{some_names}
+use Rattle.md_refine.proofs.Lists.{filter_same, filter_none, in_some}
 use Rattle.md_refine.proofs.Refining.{one_part, in_ascending}
 use Rattle.md_refine.proofs.Showing.{seen, shown}
 
@@ -53,25 +54,35 @@ ascending_filter s (suc n) =
     let low : nat_le 0 n ≡ true = le-leb 0 n (omega arith) in
     sym (filter-append (sets.contains s) (numbers n) (n ∷ []) ∙ rw (← ascending_filter s n, low) refl)
 
-module _ (names : NameSet) (low : AllBelow names NAMES) (s : MarkStore) (cnt : ℕ)
+-- there are no more names than numbers below the limit, and one at least
+pub size_low : (names : NameSet) → AllBelow names NAMES → (cnt size : ℕ) → cnt ≡ sets.len names → size ≡ max cnt 1 → size ≤ NAMES
+size_low names below cnt size cnt_is size_is =
+    let most = few_below names 0 NAMES in let e = length-ascending names NAMES below in let some = some_names in omega arith
+
+module _ (names : NameSet) (n : ℕ) (below : AllBelow names n) (few : n ≤ NAMES) (s : MarkStore) (cnt size : ℕ)
     (cnt_is : cnt ≡ sets.len names)
-    (homes_len : length s.homes ≡ NAMES)
-    (homes_are : (k : ℕ) → k < NAMES → get_or s.homes k None ≡ (if sets.contains names k then Some 0 else None))
-    (homes_count : (i : ℕ) → count_by (is_mark i) s.homes ≡ (if i == 0 then length (ascending_between names 0 NAMES) else 0))
-    (owners : s.owners ≡ replicate (2 * NAMES) 0)
-    (counts : s.counts ≡ set (replicate (2 * NAMES) 0) 0 cnt)
-    (mains : s.mains ≡ replicate NAMES 0)
-    (halves : s.halves ≡ replicate NAMES 1)
-    (nexts : s.nexts ≡ replicate NAMES None)
+    (size_is : size ≡ max cnt 1)
+    (sized : s.size ≡ size)
+    (homes_len : length s.homes ≡ n)
+    (homes_are : (k : ℕ) → k < n → get_or s.homes k None ≡ (if sets.contains names k then Some 0 else None))
+    (homes_count : (i : ℕ) → count_by (is_mark i) s.homes ≡ (if i == 0 then length (ascending_between names 0 n) else 0))
+    (owners : s.owners ≡ replicate (2 * size) 0)
+    (counts : s.counts ≡ set (replicate (2 * size) 0) 0 cnt)
+    (mains : s.mains ≡ replicate size 0)
+    (halves : s.halves ≡ replicate size 1)
+    (nexts : s.nexts ≡ replicate size None)
     (first : s.first ≡ (if ltb 0 cnt then Some 0 else None))
     (used : s.used ≡ min cnt 1)
     (leads : s.leads ≡ sets.empty) where
+  some_size : 0 < size
+  some_size = let e = size_is in omega arith
+
   owner_is : (i : ℕ) → get_or s.owners i 0 ≡ 0
-  owner_is i = ap (λ xs. get_or xs i 0) owners ∙ get_or-zeros (2 * NAMES) i
+  owner_is i = ap (λ xs. get_or xs i 0) owners ∙ get_or-zeros (2 * size) i
 
   home_is : (k i : ℕ) → home s k ≡ Some i → (i ≡ 0) × Has names k
   home_is k i is =
-      elim (cases_lt k NAMES) [
+      elim (cases_lt k n) [
         | inr high ↦ absurd (none-some i (sym (get_or_past s.homes k None (omega arith)) ∙ is))
         | inl low ↦ go (sets.contains names k) refl (sym (homes_are k low) ∙ is)
       ]
@@ -94,14 +105,23 @@ module _ (names : NameSet) (low : AllBelow names NAMES) (s : MarkStore) (cnt : �
       go None e = refl
       go (Some i) e =
           let z = (home_is v i e).0 in
-          let h : get_or s.halves (get_or s.owners i 0) 0 ≡ 1 = ap (λ p. get_or s.halves p 0) (owner_is i) ∙ ap (λ xs. get_or xs 0 0) halves ∙ get_or-replicate NAMES 0 1 0 (omega arith) in
+          let h : get_or s.halves (get_or s.owners i 0) 0 ≡ 1 = ap (λ p. get_or s.halves p 0) (owner_is i) ∙ ap (λ xs. get_or xs 0 0) halves ∙ get_or-replicate size 0 1 0 some_size in
           ne_eqb _ i (λ q. omega arith)
 
   no_touched : filter (marked s) (numbers NAMES) ≡ []
   no_touched = filter_none (marked s) (numbers NAMES) (λ v _. not_marked v)
 
-  stands_is : (v : ℕ) → v < NAMES → stands s 0 v ≡ sets.contains names v
-  stands_is v h = ap (is_mark_of s.owners 0) (homes_are v h) ∙ go (sets.contains names v)
+  home_of : (v : ℕ) → home s v ≡ (if sets.contains names v then Some 0 else None)
+  home_of v =
+      elim (cases_lt v n) [
+        | inl low ↦ homes_are v low
+        | inr high ↦
+            let none : sets.contains names v ≡ false = false_from_ne_true (sets.contains names v) (λ m. let low = below v m in omega arith) in
+            get_or_past s.homes v None (omega arith) ∙ sym (ap (λ b. if b then Some 0 else None) none)
+      ]
+
+  stands_is : (v : ℕ) → stands s 0 v ≡ sets.contains names v
+  stands_is v = ap (is_mark_of s.owners 0) (home_of v) ∙ go (sets.contains names v)
     where
       go : (b : Bool) → is_mark_of s.owners 0 (if b then Some 0 else None) ≡ b
       go true = eq-eqb 0 _ (sym (owner_is 0))
@@ -109,8 +129,11 @@ module _ (names : NameSet) (low : AllBelow names NAMES) (s : MarkStore) (cnt : �
 
   names_are : place_names s 0 ≡ ascending names
   names_are =
-      filter_same (stands s 0) (sets.contains names) (numbers NAMES) (λ v m. stands_is v (let e = in_numbers NAMES v in grind (arith, nat_tests)))
+      filter_same (stands s 0) (sets.contains names) (numbers NAMES) (λ v m. stands_is v)
       ∙ sym (ascending_filter names NAMES)
+
+  low : AllBelow names NAMES
+  low v h = let b = below v h in omega arith
 
   used_one : (k i : ℕ) → home s k ≡ Some i → s.used ≡ 1
   used_one k i is = let some = some_len names k (home_is k i is).1 in omega arith
@@ -121,10 +144,10 @@ module _ (names : NameSet) (low : AllBelow names NAMES) (s : MarkStore) (cnt : �
       let one : s.used ≡ 1 = omega arith in
       record {
         begins = first ∙ ap (λ b. if b then Some 0 else None) e;
-        follow = (ap (λ xs. get_or xs 0 None) nexts ∙ get_or-replicate NAMES 0 None None (omega arith), tt);
+        follow = (ap (λ xs. get_or xs 0 None) nexts ∙ get_or-replicate size 0 None None some_size, tt);
         once = λ p. elim (cases_eq 0 p) [ inl here ↦ grind (arith, nat_tests) | inr other ↦ grind (arith, nat_tests) ];
         long = sym one;
-        within = (let l = ap length nexts ∙ length-replicate {A = Option ℕ} NAMES None in omega arith);
+        within = (let l = ap length nexts ∙ length-replicate {A = Option ℕ} size None in let more = some_size in omega arith);
       }
   is_order false e =
       let less = ltb-false 0 cnt e in
@@ -137,25 +160,25 @@ module _ (names : NameSet) (low : AllBelow names NAMES) (s : MarkStore) (cnt : �
         within = omega arith;
       }
 
-  count_is : (i : ℕ) → i < 2 * NAMES → get_or s.counts i 0 ≡ count_by (is_mark i) s.homes
-  count_is i h =
+  count_is : (i : ℕ) → get_or s.counts i 0 ≡ count_by (is_mark i) s.homes
+  count_is i =
       ap (λ xs. get_or xs i 0) counts ∙ elim (cases_eq i 0) [
         | inl here ↦
-            ap (λ j. get_or (set (replicate (2 * NAMES) 0) 0 cnt) j 0) here
-            ∙ get_or-set_same (replicate (2 * NAMES) 0) 0 cnt 0 (let l = length-replicate {A = ℕ} (2 * NAMES) 0 in omega arith)
-            ∙ cnt_is ∙ sym (length-ascending names NAMES low)
+            ap (λ j. get_or (set (replicate (2 * size) 0) 0 cnt) j 0) here
+            ∙ get_or-set_same (replicate (2 * size) 0) 0 cnt 0 (let l = length-replicate {A = ℕ} (2 * size) 0 in let more = some_size in omega arith)
+            ∙ cnt_is ∙ sym (length-ascending names n below)
             ∙ sym (homes_count i ∙ rw (eq-eqb i 0 here) refl)
         | inr other ↦
-            get_or-set_other (replicate (2 * NAMES) 0) 0 i cnt 0 other
-            ∙ get_or-zeros (2 * NAMES) i
+            get_or-set_other (replicate (2 * size) 0) 0 i cnt 0 other
+            ∙ get_or-zeros (2 * size) i
             ∙ sym (homes_count i ∙ rw (ne_eqb i 0 other) refl)
       ]
 
   marks_are : (p : ℕ) → p < s.used → ArePlaceMarks s.owners s.mains s.halves s.used p
   marks_are p h =
       let here : p ≡ 0 = omega arith in
-      let main : get_or s.mains p 0 ≡ 0 = ap (λ xs. get_or xs p 0) mains ∙ get_or-zeros NAMES p in
-      let half : get_or s.halves p 0 ≡ 1 = ap (λ xs. get_or xs p 0) halves ∙ get_or-replicate NAMES p 1 0 (omega arith) in
+      let main : get_or s.mains p 0 ≡ 0 = ap (λ xs. get_or xs p 0) mains ∙ get_or-zeros size p in
+      let half : get_or s.halves p 0 ≡ 1 = ap (λ xs. get_or xs p 0) halves ∙ get_or-replicate size p 1 0 (let more = some_size in omega arith) in
       record {
         main_owner = owner_is _ ∙ sym here;
         half_owner = owner_is _ ∙ sym here;
@@ -166,12 +189,18 @@ module _ (names : NameSet) (low : AllBelow names NAMES) (s : MarkStore) (cnt : �
 
   pub starts : Keeps s (if ltb 0 cnt then 0 ∷ [] else [])
   starts = record {
-    homes_len = homes_len;
-    owners_len = ap length owners ∙ length-replicate {A = ℕ} (2 * NAMES) 0;
-    counts_len = ap length counts ∙ length-set {A = ℕ} (replicate (2 * NAMES) 0) 0 cnt ∙ length-replicate {A = ℕ} (2 * NAMES) 0;
-    mains_len = ap length mains ∙ length-replicate {A = ℕ} NAMES 0;
-    halves_len = ap length halves ∙ length-replicate {A = ℕ} NAMES 1;
-    nexts_len = ap length nexts ∙ length-replicate {A = Option ℕ} NAMES None;
+    homes_few = (let e = homes_len in omega arith);
+    size_few = (let most = size_low names low cnt size cnt_is size_is in let z = sized in omega arith);
+    owners_len = ap length owners ∙ length-replicate {A = ℕ} (2 * size) 0 ∙ ap (λ z. 2 * z) (sym sized);
+    counts_len = ap length counts ∙ length-set {A = ℕ} (replicate (2 * size) 0) 0 cnt ∙ length-replicate {A = ℕ} (2 * size) 0 ∙ ap (λ z. 2 * z) (sym sized);
+    mains_len = ap length mains ∙ length-replicate {A = ℕ} size 0 ∙ sym sized;
+    halves_len = ap length halves ∙ length-replicate {A = ℕ} size 1 ∙ sym sized;
+    nexts_len = ap length nexts ∙ length-replicate {A = Option ℕ} size None ∙ sym sized;
+    fits = (
+      ascending names,
+      (let all = length-ascending names NAMES low in let is = cnt_is in let e = size_is in let z = sized in omega arith),
+      λ v i is. let h = (home_is v i is).1 in in_ascending names NAMES v ∙ and_from _ _ (lt-ltb v NAMES (low v h)) h,
+    );
     is_order = is_order (ltb 0 cnt) refl;
     homes = λ v i is.
         let here = (home_is v i is).0 in
@@ -179,14 +208,14 @@ module _ (names : NameSet) (low : AllBelow names NAMES) (s : MarkStore) (cnt : �
         record {
           low = omega arith;
           place = (let e = owner_is i in omega arith);
-          own = inl (here ∙ sym (ap (λ xs. get_or xs (get_or s.owners i 0) 0) mains ∙ get_or-zeros NAMES (get_or s.owners i 0)));
+          own = inl (here ∙ sym (ap (λ xs. get_or xs (get_or s.owners i 0) 0) mains ∙ get_or-zeros size (get_or s.owners i 0)));
         };
     marks = marks_are;
     some = λ p h.
         let here : p ≡ 0 = omega arith in
         let w = some_name (omega arith) in
-        (w.0, ap (λ q. stands s q w.0) here ∙ stands_is w.0 (low w.0 w.1) ∙ w.1);
-    counted = count_is;
+        (w.0, ap (λ q. stands s q w.0) here ∙ stands_is w.0 ∙ w.1);
+    counted = λ i _. count_is i;
     leads_marked = λ v m. absurd (false≢true (sym (empty_lacks v) ∙ sym (ap (λ z. sets.contains z v) leads) ∙ m));
     leads_all = λ v m. absurd (false≢true (sym (not_marked v) ∙ m));
     leads_low = λ v m. absurd (false≢true (sym (empty_lacks v) ∙ sym (ap (λ z. sets.contains z v) leads) ∙ m));

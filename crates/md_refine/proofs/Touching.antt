@@ -1,5 +1,5 @@
 -- A name becomes touched: it gets the other mark of its place.
-use Rattle.std.proofs.Common.{Option, None, ◌*◌, ◌≤◌, ◌≡◌, ◌≢◌, ℕ, ◌+◌, ◌-◌, ◌<◌, true, false, ◌==◌, if◌then◌else◌, List, [], ◌∷◌, map, length, get_or, set, Some, is_some, refl, sym, ◌∙◌, ap, subst, inl, inr, arith, min}
+use Rattle.std.proofs.Common.{Option, None, ◌*◌, ◌≤◌, ◌≡◌, ◌≢◌, ℕ, ◌+◌, ◌-◌, ◌<◌, true, false, ◌==◌, if◌then◌else◌, List, [], ◌∷◌, map, length, vec_len, get_or, set, Some, is_some, refl, sym, ◌∙◌, ap, subst, inl, inr, arith, min}
 use Rattle.std.specs.List.{count_by}
 use Rattle.std.specs.FinSet as sets
 use Rattle.std.proofs.lemmas.Bool.{cases_eq, eq-eqb, ne_eqb, false≢true, false_from_ne_true}
@@ -12,10 +12,10 @@ use Rattle.md_graph.specs.Sets.{NameSet, Has}
 use Rattle.md_graph.proofs.SetLemmas.{insert_new, insert_old, of_insert, Has-along}
 use Rattle.md_refine.specs.declared.partition.Partition.TheInside.{Inside}
 use Rattle.md_refine.specs.Partitions.{Classes, is_in, is_name, touching}
-use Rattle.md_refine.specs.Slots.{MarkStore, numbers, home, owner, half, is_mark_of, is_half, is_mark, stands, marked, place_names, ArePlaceMarks, IsHome, Keeps, partition_of}
+use Rattle.md_refine.specs.Slots.{MarkStore, numbers, home, owner, half, is_mark_of, is_half, is_mark, stands, marked, place_names, ArePlaceMarks, IsHome, MarksFit, Keeps, partition_of}
 use Rattle.md_refine.specs.Kept.{marks_kept, partition_kept, KeepsPartition}
 use Rattle.md_refine.proofs.Lists.{one_more}
-use Rattle.md_refine.proofs.Showing.{seen, shown, name_low, named, in_touched, opened, opened_partition}
+use Rattle.md_refine.proofs.Showing.{seen, shown, name_within, name_low, named, in_touched, opened, opened_partition}
 use Rattle.md_refine.proofs.Counts.{counted_one, some_counted, counted_less, counted_more, counted_same}
 
 -- ---- maps
@@ -41,19 +41,19 @@ module _ (a : Inside) (p : Classes) (kept : KeepsPartition a) (is : partition_ke
       above w (ap (λ (q : Classes). is_in q.touched w) (opened a p kept is) ∙ in_touched (marks_kept a) kept.0 kept.1 w ∙ m)
 
 module _ (s : MarkStore) (order : List ℕ) (k : Keeps s order) (v i : ℕ) (is : home s v ≡ Some i) (above : (w : ℕ) → marked s w ≡ true → w < v) where
-  touch_low : v < NAMES
-  touch_low = name_low s order k v i is
+  touch_low : v < length s.homes
+  touch_low = name_within s order k v i is
 
-  mark_low : i < 2 * NAMES
+  mark_low : i < 2 * s.size
   mark_low = let h = k.homes v i is in let low = h.low in let most = k.is_order.within in let long = k.nexts_len in omega arith
 
-  place_low : owner s i < NAMES
+  place_low : owner s i < s.size
   place_low = let h = k.homes v i is in let low = h.place in let most = k.is_order.within in let long = k.nexts_len in omega arith
 
   its_marks : ArePlaceMarks s.owners s.mains s.halves s.used (owner s i)
   its_marks = k.marks (owner s i) (k.homes v i is).place
 
-  half_low : half s (owner s i) < 2 * NAMES
+  half_low : half s (owner s i) < 2 * s.size
   half_low = let low = its_marks.half_low in let most = k.is_order.within in let long = k.nexts_len in omega arith
 
   untouched : marked s v ≡ false
@@ -65,8 +65,8 @@ module _ (s : MarkStore) (order : List ℕ) (k : Keeps s order) (v i : ℕ) (is 
   count_some : 1 ≤ get_or s.counts i 0
   count_some = let e = k.counted i mark_low in let one = counted_one i s.homes v is in omega arith
 
-  count_most : (j : ℕ) → j < 2 * NAMES → get_or s.counts j 0 ≤ NAMES
-  count_most j low = let e = k.counted j low in let most = count_by-le-length (is_mark j) s.homes in let long = k.homes_len in omega arith
+  count_most : (j : ℕ) → j < 2 * s.size → get_or s.counts j 0 ≤ NAMES
+  count_most j low = let e = k.counted j low in let most = count_by-le-length (is_mark j) s.homes in let long = k.homes_few in omega arith
 
   module _ (x y low : ℕ) (ls : NameSet) (low_is : low ≡ min s.low v) (x_is : x ≡ get_or s.counts i 0) (y_is : y ≡ get_or (set s.counts i (x - 1)) (half s (owner s i)) 0)
       (ls_are : ls ≡ (if get_or s.counts (half s (owner s i)) 0 == 0 then sets.insert s.leads v else s.leads)) where
@@ -75,7 +75,7 @@ module _ (s : MarkStore) (order : List ℕ) (k : Keeps s order) (v i : ℕ) (is 
     touched_store = record s { homes = set s.homes v (Some (half s (owner s i))); counts = set (set s.counts i (x - 1)) (half s (owner s i)) (y + 1); leads = ls; low = low }
 
     home_here : home touched_store v ≡ Some (half s (owner s i))
-    home_here = get_or-set_same s.homes v (Some (half s (owner s i))) None (let l = touch_low in let e = k.homes_len in omega arith)
+    home_here = get_or-set_same s.homes v (Some (half s (owner s i))) None touch_low
 
     home_there : (w : ℕ) → w ≢ v → home touched_store w ≡ home s w
     home_there w other = get_or-set_other s.homes v w (Some (half s (owner s i))) None other
@@ -114,15 +114,13 @@ module _ (s : MarkStore) (order : List ℕ) (k : Keeps s order) (v i : ℕ) (is 
           | inr other ↦ k.homes w j (sym (home_there w other) ∙ e)
         ]
 
-    counted_kept : (j : ℕ) → j < 2 * NAMES → get_or (set (set s.counts i (x - 1)) (half s (owner s i)) (y + 1)) j 0 ≡ count_by (is_mark j) (set s.homes v (Some (half s (owner s i))))
+    counted_kept : (j : ℕ) → j < 2 * s.size → get_or (set (set s.counts i (x - 1)) (half s (owner s i)) (y + 1)) j 0 ≡ count_by (is_mark j) (set s.homes v (Some (half s (owner s i))))
     counted_kept j low =
         let long = length-set s.counts i (x - 1) in
         let counts_long = k.counts_len in
-        let homes_long = k.homes_len in
-        let vlow = touch_low in
         let ilow = mark_low in
         let dlow = half_low in
-        let within : v < length s.homes = omega arith in
+        let within = touch_low in
         let before = k.counted j low in
         elim (cases_eq j (half s (owner s i))) [
           | inl here ↦
@@ -223,14 +221,26 @@ module _ (s : MarkStore) (order : List ℕ) (k : Keeps s order) (v i : ℕ) (is 
     leads_kept : Leads
     leads_kept = elim (cases_eq (get_or s.counts (half s (owner s i)) 0) 0) [ inl none ↦ leads_first none | inr some ↦ leads_more some ]
 
+    fits_kept : MarksFit touched_store.homes s.size
+    fits_kept = (
+      k.fits.0,
+      k.fits.1,
+      λ w j e. elim (cases_eq w v) [
+        | inl here ↦ ap (is_in k.fits.0) here ∙ k.fits.2 v i is
+        | inr other ↦ k.fits.2 w j (sym (home_there w other) ∙ e)
+      ],
+    )
+
     touch_keeps : Keeps touched_store order
     touch_keeps = record {
-      homes_len = length-set s.homes v (Some (half s (owner s i))) ∙ k.homes_len;
+      homes_few = (let e = length-set s.homes v (Some (half s (owner s i))) in let few = k.homes_few in omega arith);
+      size_few = k.size_few;
       owners_len = k.owners_len;
       counts_len = length-set (set s.counts i (x - 1)) (half s (owner s i)) (y + 1) ∙ length-set s.counts i (x - 1) ∙ k.counts_len;
       mains_len = k.mains_len;
       halves_len = k.halves_len;
       nexts_len = k.nexts_len;
+      fits = fits_kept;
       is_order = k.is_order;
       homes = homes_kept;
       marks = k.marks;
@@ -245,7 +255,7 @@ module _ (s : MarkStore) (order : List ℕ) (k : Keeps s order) (v i : ℕ) (is 
     touch_shows : seen touched_store order ≡ touching (seen s order) v
     touch_shows =
         let same = map_same (place_names touched_store) (place_names s) order (λ q. filter_agree (stands touched_store q) (stands s q) (stands_same q) (numbers NAMES)) in
-        let more = one_more (marked s) (marked touched_store) NAMES v touch_low untouched marked_here marked_there above in
+        let more = one_more (marked s) (marked touched_store) NAMES v (name_low s order k v i is) untouched marked_here marked_there above in
         λ j. record { classes = same j; touched = more j }
 
   count_fits : (h x y : ℕ) → h ≡ half s (owner s i) → y ≡ get_or (set s.counts i (x - 1)) h 0 → y ≤ NAMES
@@ -276,9 +286,16 @@ module _ (a : Inside) (p : Classes) (kept : KeepsPartition a) (is : partition_ke
   pub name_fits : v < NAMES
   name_fits = (opened_partition a p kept is).names v name
 
+  pub name_kept : v < vec_len a.homes
+  name_kept = go (home (marks_kept a) v) refl (has_mark a p kept is v name)
+    where
+      go : (o : Option ℕ) → home (marks_kept a) v ≡ o → is_some o ≡ true → v < vec_len a.homes
+      go None e t = absurd (false≢true t)
+      go (Some i) e t = let w = name_within (marks_kept a) kept.0 kept.1 v i e in let long = a.homes.ok.0 in omega arith
+
   module _ (o : Option ℕ) (read : o ≡ get_or a.homes.items v o) where
     o_is : o ≡ home (marks_kept a) v
-    o_is = get_or_read a.homes.items v o (let e = kept.1.homes_len in let l = name_fits in omega arith) read None
+    o_is = get_or_read a.homes.items v o (let w = name_kept in let long = a.homes.ok.0 in omega arith) read None
 
     pub some_read : o ≡ None → ⊥
     some_read none = false≢true (ap is_some (sym none ∙ o_is) ∙ has_mark a p kept is v name)
@@ -290,21 +307,21 @@ module _ (a : Inside) (p : Classes) (kept : KeepsPartition a) (is : partition_ke
       all_above : (w : ℕ) → marked (marks_kept a) w ≡ true → w < v
       all_above = above_marked a p kept is v above
 
-      pub mark_fits : i < 2 * NAMES
+      pub mark_fits : i < 2 * vec_len a.nexts
       mark_fits = mark_low (marks_kept a) kept.0 kept.1 v i read_home all_above
 
       module _ (q : ℕ) (q_read : q ≡ get_or a.owners.items i q) where
         place_is : q ≡ owner (marks_kept a) i
         place_is = get_or_read a.owners.items i q (let e = kept.1.owners_len in let l = mark_fits in omega arith) q_read 0
 
-        pub place_fits : q < NAMES
+        pub place_fits : q < vec_len a.nexts
         place_fits = let e = place_is in let l = place_low (marks_kept a) kept.0 kept.1 v i read_home all_above in omega arith
 
         module _ (h : ℕ) (h_read : h ≡ get_or a.halves.items q h) where
           half_is : h ≡ half (marks_kept a) (owner (marks_kept a) i)
           half_is = get_or_read a.halves.items q h (let e = kept.1.halves_len in let l = place_fits in omega arith) h_read 0 ∙ ap (half (marks_kept a)) place_is
 
-          pub half_fits : h < 2 * NAMES
+          pub half_fits : h < 2 * vec_len a.nexts
           half_fits = let e = half_is in let l = half_low (marks_kept a) kept.0 kept.1 v i read_home all_above in omega arith
 
           module _ (x : ℕ) (x_read : x ≡ get_or a.counts.items i x) where

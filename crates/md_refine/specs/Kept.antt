@@ -1,5 +1,6 @@
 -- What contracts see of an ordered partition, by its fields.
 -- Source: this project's.
+use Rattle.std.specs.Prelude.{vec_len}
 use Rattle.md_refine.specs.declared.partition.Partition.TheInside.{Inside}
 use Rattle.md_refine.specs.Partitions.{Classes}
 use Rattle.md_refine.specs.Slots.{MarkStore, partition_of, IsMarkStore}
@@ -13,6 +14,7 @@ marks_kept a = record {
   mains = a.mains.items;
   halves = a.halves.items;
   nexts = a.nexts.items;
+  size = vec_len a.nexts;
   first = a.first;
   used = a.used;
   leads = a.leads;

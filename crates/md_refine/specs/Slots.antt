@@ -1,17 +1,17 @@
 -- How vectors keep an ordered partition. Each class has a place, and two marks: its untouched names
 -- have the one, its touched names the other. Places lead to the places behind them.
 -- Source: Habib and Paul, partition refinement in linked lists; the marks are this project's.
-use Rattle.std.specs.Prelude.{Option, Some, None, ◌≡◌, ◌≢◌, ◌⊎◌, ℕ, zero, suc, ◌+◌, ◌*◌, ◌<◌, ◌≤◌, Bool, true, false, cond, ◌==◌, nat_lt, List, [], ◌∷◌, ◌++◌, map, length, slice_index_or}
+use Rattle.std.specs.Prelude.{Option, Some, None, ◌≡◌, ◌≢◌, ◌⊎◌, ℕ, zero, suc, ◌*◌, ◌<◌, ◌≤◌, Bool, true, false, cond, ◌==◌, nat_lt, List, [], ◌∷◌, ◌++◌, map, length, slice_index_or}
 use Rattle.std.specs.List.{filter, count_by}
 use Rattle.md_graph.specs.declared.TheConstants.{NAMES}
 use Rattle.md_graph.specs.Sets.{NameSet, Has}
 use Rattle.md_graph.specs.Linked.{first_or, times, Follow, walk}
-use Rattle.md_refine.specs.Partitions.{Classes}
+use Rattle.md_refine.specs.Partitions.{Classes, is_in}
 
--- what is kept: of each name its mark; of each mark its place and the number of its names; of each
--- place the mark of its untouched and of its touched names and the place behind it; the first place
--- and the number of places; of each class with touched names the least of them, and a number that
--- none of these is below
+-- what is kept: of each name below some number its mark; of each mark its place and the number of
+-- its names; of each place the mark of its untouched and of its touched names and the place behind
+-- it; how many places there is room for; the first place and the number of places; of each class
+-- with touched names the least of them, and a number that none of these is below
 pub record MarkStore : Type 0 where
   pub homes : List (Option ℕ)
   pub owners : List ℕ
@@ -19,6 +19,7 @@ pub record MarkStore : Type 0 where
   pub mains : List ℕ
   pub halves : List ℕ
   pub nexts : List (Option ℕ)
+  pub size : ℕ
   pub first : Option ℕ
   pub used : ℕ
   pub leads : NameSet
@@ -115,19 +116,25 @@ pub record IsHome (owners mains halves : List ℕ) (used i : ℕ) : Type 0 where
   pub place : slice_index_or owners i 0 < used
   pub own : (i ≡ slice_index_or mains (slice_index_or owners i 0) 0) ⊎ (i ≡ slice_index_or halves (slice_index_or owners i 0) 0)
 
+-- the names that have a mark are among `size` names
+abbrev pub MarksFit : List (Option ℕ) → ℕ → Type 0
+MarksFit homes size = (names : List ℕ) × (length names ≤ size) × ((v i : ℕ) → slice_index_or homes v None ≡ Some i → is_in names v ≡ true)
+
 -- the fields keep a partition with its places in this order
 pub record Keeps (s : MarkStore) (order : List ℕ) : Type 0 where
-  pub homes_len : length s.homes ≡ NAMES
-  pub owners_len : length s.owners ≡ 2 * NAMES
-  pub counts_len : length s.counts ≡ 2 * NAMES
-  pub mains_len : length s.mains ≡ NAMES
-  pub halves_len : length s.halves ≡ NAMES
-  pub nexts_len : length s.nexts ≡ NAMES
+  pub homes_few : length s.homes ≤ NAMES
+  pub size_few : s.size ≤ NAMES
+  pub owners_len : length s.owners ≡ 2 * s.size
+  pub counts_len : length s.counts ≡ 2 * s.size
+  pub mains_len : length s.mains ≡ s.size
+  pub halves_len : length s.halves ≡ s.size
+  pub nexts_len : length s.nexts ≡ s.size
+  pub fits : MarksFit s.homes s.size
   pub is_order : IsPlaceOrder s.nexts s.first order s.used
   pub homes : (v i : ℕ) → home s v ≡ Some i → IsHome s.owners s.mains s.halves s.used i
   pub marks : (p : ℕ) → p < s.used → ArePlaceMarks s.owners s.mains s.halves s.used p
   pub some : (p : ℕ) → p < s.used → (v : ℕ) × (stands s p v ≡ true)
-  pub counted : (i : ℕ) → i < 2 * NAMES → slice_index_or s.counts i 0 ≡ count_by (is_mark i) s.homes
+  pub counted : (i : ℕ) → i < 2 * s.size → slice_index_or s.counts i 0 ≡ count_by (is_mark i) s.homes
   pub leads_marked : (v : ℕ) → Has s.leads v → marked s v ≡ true
   pub leads_all : (v : ℕ) → marked s v ≡ true → (l : ℕ) × Has s.leads l × (l ≤ v) × (home s l ≡ home s v)
   pub leads_low : (v : ℕ) → Has s.leads v → s.low ≤ v

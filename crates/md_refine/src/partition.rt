@@ -7,8 +7,8 @@ ghost use Rattle.md_graph.specs.NameSet.{ascending};
 ghost use Rattle.md_refine.specs.Partitions.{is_in, is_name, is_outside, class_position, ArePartition, cut, cut_outside, met, one_class, touching, settled};
 
 use crate::places::{
-    home_at, home_if, homes_of, insert_if, is_at, names_at, numbers_of, place_at, position,
-    positions_of,
+    bound_of, home_at, home_if, homes_of, insert_if, is_at, names_at, numbers_of, place_at,
+    position, positions_of,
 };
 use md_graph::{Members, Memory, NAMES, Names, Set, Steps, copies_of};
 use std::alloc::Global;
@@ -18,12 +18,13 @@ use std::sync::ledger::{Blank, Ledger};
 /// An ordered partition of a set of names: nonempty classes in order. Names can be touched, in
 /// ascending order; a class with touched names is cut in two when it is settled.
 ///
-/// No change takes memory: all is taken when the partition is made. `touch` and `settle` are one
-/// step each on the counter that they are lent: each reads or changes a bounded number of items of
-/// vectors, and `settle` finds the least touched name in a set, from the one before on.
+/// No change takes memory: all is taken when the partition is made, as much as the names of the set
+/// and the greatest of them ask for. `touch` and `settle` are one step each on the counter that they
+/// are lent: each reads or changes a bounded number of items of vectors, and `settle` finds the
+/// least touched name in a set, from the one before on.
 #[derive(Drop)]
 pub struct Partition {
-    // The mark of each name.
+    // The mark of each name up to the greatest one.
     homes: Vec<Option<u32>>,
     // The place of each mark, and the number of its names.
     owners: Vec<u32>,
@@ -61,15 +62,16 @@ impl Partition {
     {
         let _members = names.members();
         let count = names.count();
-        let mut counts = copies_of(alloc, 2 * NAMES, 0)?;
+        let size = count.max(1);
+        let mut counts = copies_of(alloc, 2 * size, 0)?;
         counts[0] = count;
         Ok(Partition {
-            homes: homes_of(alloc, NAMES, names)?,
-            owners: copies_of(alloc, 2 * NAMES, 0)?,
+            homes: homes_of(alloc, bound_of(names), names)?,
+            owners: copies_of(alloc, 2 * size, 0)?,
             counts,
-            mains: copies_of(alloc, NAMES, 0)?,
-            halves: copies_of(alloc, NAMES, 1)?,
-            nexts: copies_of(alloc, NAMES, None)?,
+            mains: copies_of(alloc, size, 0)?,
+            halves: copies_of(alloc, size, 1)?,
+            nexts: copies_of(alloc, size, None)?,
             first: home_if(count > 0),
             used: count.min(1),
             leads: Names::none(),
@@ -264,10 +266,7 @@ impl Partition {
         ensures partition { ArePartition self.now }
     {
         let homes = &self.homes;
-        if v >= NAMES {
-            return None;
-        }
-        match homes[v as usize] {
+        match home_at(homes, v) {
             Some(home) => {
                 let place = self.owners[home as usize];
                 position(&self.nexts, self.first, self.used, place)

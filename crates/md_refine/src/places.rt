@@ -3,10 +3,21 @@ ghost use Rattle.std.specs.Prelude.{◌≡◌, ◌≢◌, ℕ, ◌<◌, ◌≤�
 ghost use Rattle.std.specs.List.{count_by, position_from};
 ghost use Rattle.std.specs.FinSet as set;
 ghost use Rattle.md_refine.specs.Slots.{IsPlaceOrder, IsPlaced, is_mark, is_mark_of, names_placed, position_of_mark};
-ghost use Rattle.md_graph.specs.NameSet.{ascending_between};
+ghost use Rattle.md_graph.specs.NameSet.{AllBelow, ascending_between};
 
 use md_graph::{Memory, NAMES, Names, Set, copies_of};
 use std::alloc::Global;
+
+// The least number that all members of the set are below.
+pub(crate) fn bound_of<const W: usize>(names: &Set<W>) -> u32
+    ensures above { AllBelow names.now result }
+    ensures few { result ≤ NAMES }
+{
+    match names.last() {
+        Some(last) => last + 1,
+        None => 0,
+    }
+}
 
 // Where each member of the set has `Some(0)`, and each other number below `count` none.
 // Errors: want of memory.
@@ -119,7 +130,7 @@ pub(crate) fn numbers_of(
     owners: &Vec<u32>,
     positions: &Vec<u32>,
 ) -> Result<Vec<Option<u32>>, Memory>
-    requires homes { vec_len homes.now ≡ NAMES }
+    requires few { vec_len homes.now ≤ NAMES }
     requires owners { (v i : ℕ) → slice_index_or homes.now.items v None ≡ Some i →
         IsPlaced owners.now.items positions.now.items i }
     ensures len { IfOk result (λ numbers. length numbers.items ≡ NAMES) }
@@ -129,7 +140,7 @@ pub(crate) fn numbers_of(
 {
     let mut numbers = Vec::with_capacity(alloc, NAMES as usize)?;
     for v in 0..NAMES {
-        numbers.push_reserved(number_at(homes[v as usize], owners, positions));
+        numbers.push_reserved(number_at(home_at(homes, v), owners, positions));
     }
     Ok(numbers)
 }
@@ -174,17 +185,15 @@ pub(crate) fn is_at(home: Option<u32>, owners: &Vec<u32>, place: u32) -> bool
     }
 }
 
-// The names whose mark is one of a place. Condition: there is a mark or none for each name, and
-// each mark has a place.
+// The names whose mark is one of a place. Condition: each mark has a place.
 pub(crate) fn names_at(homes: &Vec<Option<u32>>, owners: &Vec<u32>, place: u32) -> Names
-    requires homes { vec_len homes.now ≡ NAMES }
-    requires owners { (v i : ℕ) → slice_index_or homes.now.items v None ≡ Some i →
+    requires { (v i : ℕ) → slice_index_or homes.now.items v None ≡ Some i →
         i < vec_len owners.now }
     ensures { result ≡ set.from_list (names_placed homes.now.items owners.now.items NAMES place) }
 {
     let mut names = Names::none();
     for v in 0..NAMES {
-        insert_if(&mut names, v, is_at(homes[v as usize], owners, place));
+        insert_if(&mut names, v, is_at(home_at(homes, v), owners, place));
     }
     names
 }

@@ -1,7 +1,6 @@
 -- A vertex leaves the graph of a cotree, from the cotree to the cotree.
 use Rattle.std.proofs.Common.{◌≡◌, ◌≢◌, ℕ, ◌+◌, ◌-◌, ◌<◌, true, cond, ◌&&◌, ◌==◌, [], length, get_or, set, Option, Some, None, is_some, refl, sym, ◌∙◌, ap, subst, inl, inr, arith}
 use Rattle.std.proofs.lemmas.Bool.{cases_eq, eq-eqb, ne_eqb}
-use Rattle.std.proofs.lemmas.List.{length-set}
 use Rattle.std.specs.FinSet as sets
 use Rattle.std.specs.Option.{option_map}
 use Rattle.md_graph.specs.Sets.{Has}
@@ -12,7 +11,7 @@ use Rattle.md_lists.proofs.LinkLaws.{get_or-set, some_within}
 use Rattle.md_tree.specs.Trees.{names}
 use Rattle.md_cotree.specs.declared.cotree.Cotree.{Cotree}
 use Rattle.md_cotree.specs.PlaceTrees.{PlaceTree, tip, inner, PlaceTrees, no_more, then, place_of, leaves_among, leaf_count, Alternates, shape, FillsLists}
-use Rattle.md_cotree.specs.Cotrees.{root_row, place_at, IsKeptAs, Denotes}
+use Rattle.md_cotree.specs.Cotrees.{AreEntries, root_row, place_at, IsKeptAs, Denotes}
 use Rattle.md_cotree.proofs.Frames.{hit, test_both, test_none}
 use Rattle.md_cotree.proofs.Kept.{one_graph}
 use Rattle.md_cotree_edit.specs.Counts.{name_in, name_row, edge_in, edge_row}
@@ -99,7 +98,7 @@ module _ (c : Cotree) (x : ℕ) (can : CanDelete c x) where
             record { few = λ zs once joined. is.few zs once (λ y some. (let j = joined y some in let e = tree_edge t whole site.same x y in omega arith)) }
 
     module _ (n : Links) (ok_n : AreLinks n) (unmarked : n.marked ≡ []) (r : Option ℕ) (pruned : IsPruned n r a delete_view) (e : Cotree)
-        (lists : e.lists ≡ n) (root : e.root ≡ r) (places : e.places.items ≡ set c.places.items x None) (leaves : e.leaves ≡ c.leaves - 1) where
+        (lists : e.lists ≡ n) (root : e.root ≡ r) (places : e.places.items ≡ set c.places.items x None) (entries : AreEntries c.places → AreEntries e.places) (leaves : e.leaves ≡ c.leaves - 1) where
       abbrev spot : AreFound n pruned.tree
       spot = found n ok_n pruned.tree pruned.kept
 
@@ -141,7 +140,7 @@ module _ (c : Cotree) (x : ℕ) (can : CanDelete c x) where
       new_kept = record {
         fits = subst (λ z. FillsLists z row) (sym lists) spot.fits;
         root = root ∙ pruned.root ∙ sym spot.root;
-        entries = ap length places ∙ length-set c.places.items x None ∙ kept.entries;
+        entries = entries kept.entries;
         names = new_names;
         leaves = let e = spot.same.leaves in let f = pruned.without.leaves in let g = site.same.leaves in let h = kept.leaves in omega arith;
         alternates = spot.same.alternates pruned.alternates;

@@ -1,7 +1,6 @@
 -- A vertex more of a cotree: the first, or one beside others.
-use Rattle.std.proofs.Common.{◌≡◌, ◌≢◌, ℕ, ◌+◌, ◌*◌, ◌<◌, ◌≤◌, ◌^◌, ◌↔◌, Bool, true, false, cond, ◌&&◌, ◌||◌, ◌==◌, List, [], ◌∷◌, length, set, slice_index_or, Result, Ok, Err, Option, Some, None, refl, sym, ◌∙◌, ap, subst, inl, inr, arith}
+use Rattle.std.proofs.Common.{◌≡◌, ◌≢◌, ℕ, ◌+◌, ◌*◌, ◌<◌, ◌≤◌, ◌^◌, ◌↔◌, Bool, true, false, cond, ◌&&◌, ◌||◌, ◌==◌, List, [], ◌∷◌, length, Result, Ok, Err, Option, Some, None, refl, sym, ◌∙◌, ap, subst, inl, inr, arith}
 use Rattle.std.proofs.lemmas.Bool.{cases_eq, cases_lt, false_from_ne_true, eq-eqb, eqb-true}
-use Rattle.std.proofs.lemmas.List.{length-set}
 use Rattle.std.proofs.lemmas.List.Elements.{All-head, All-tail}
 use Rattle.std.proofs.lemmas.Option.{same_Some}
 use Rattle.std.specs.Result.{OnOk, IsErr}
@@ -23,7 +22,7 @@ use Rattle.md_lists.specs.Links.{Links, kind_at, AreLinks, with_kind, spare_coun
 use Rattle.md_tree.specs.TreeGraph.{graph_of_tree}
 use Rattle.md_cotree.specs.declared.cotree.Cotree.{Cotree}
 use Rattle.md_cotree.specs.PlaceTrees.{PlaceTree, tip, no_more, then, place_of, leaves_in, leaf_count, shape, FillsLists}
-use Rattle.md_cotree.specs.Cotrees.{place_at, IsKeptAs, Denotes}
+use Rattle.md_cotree.specs.Cotrees.{AreEntries, place_at, IsKeptAs, Denotes}
 use Rattle.md_cotree.specs.Forests.{IsForest}
 use Rattle.md_cotree.proofs.Frames.{hit, miss}
 use Rattle.md_cotree.proofs.Growing.{leaf_named, leaf_forest}
@@ -102,8 +101,8 @@ module _ (x : ℕ) (within : x < NAMES) where
       last false false r = refl
 
   pub planted : (c d : Cotree) → IsKeptAs c None → AreLinks c.lists → (p : ℕ) → kind_at c.lists p ≡ None → p < PLACES → d.lists ≡ with_kind c.lists p (Some (Leaf x)) → AreLinks d.lists →
-      d.places.items ≡ set c.places.items x (Some p) → d.root ≡ Some p → d.leaves ≡ c.leaves + 1 → Denotes d (joined_graph empty_graph x [])
-  planted c d kept ok p free inside made links placed root counted = (
+      ((w : ℕ) → place_at d w ≡ cond (w == x) (Some p) (place_at c w)) → AreEntries d.places → d.root ≡ Some p → d.leaves ≡ c.leaves + 1 → Denotes d (joined_graph empty_graph x [])
+  planted c d kept ok p free inside made links placed entries root counted = (
     Some (tip p x),
     record {
       fits = forest.fits;
@@ -119,7 +118,7 @@ module _ (x : ℕ) (within : x < NAMES) where
     where
       forest : IsForest d (p ∷ []) (then (tip p x) no_more)
       forest =
-          leaf_forest c d [] (p ∷ []) x p free inside made links placed counted refl within
+          leaf_forest c d [] (p ∷ []) x p free inside made links placed entries counted refl
           (no_parent (place_at c x) (λ q. sym (kept.names x q))) no_more (empty_forest c kept ok)
 
 -- ---- a vertex beside others
@@ -213,7 +212,7 @@ module _ (c : Cotree) (x : ℕ) (ns : List ℕ) (t : PlaceTree) (can : CanGrow c
       let same = still_same c.lists m ok ok_m still can.kept.unmarked unmarked in
       λ i. record c { lists = same i; root = root i }
 
-  module _ (d : Cotree) (leaf : ℕ) (placed : d.places.items ≡ set c.places.items x (Some leaf)) (counted : d.leaves ≡ c.leaves + 1) (ok_d : AreLinks d.lists) (unmarked : d.lists.marked ≡ [])
+  module _ (d : Cotree) (leaf : ℕ) (placed : (w : ℕ) → place_at d w ≡ cond (w == x) (Some leaf) (place_at c w)) (entries : AreEntries d.places) (counted : d.leaves ≡ c.leaves + 1) (ok_d : AreLinks d.lists) (unmarked : d.lists.marked ≡ [])
       (taken : IsLinkedIn d.lists d.root (λ v. times v ns) x leaf t) where
     found : (s : PlaceTree) × FillsLists d.lists (then s no_more) × SameTree taken.tree s
     found = to_fits d.lists ok_d taken.tree taken.kept
@@ -225,13 +224,12 @@ module _ (c : Cotree) (x : ℕ) (ns : List ℕ) (t : PlaceTree) (can : CanGrow c
     grown_kept = record {
       fits = found.1;
       root = taken.root ∙ ap Some (sym (same_root taken.tree found.0 found.2));
-      entries = ap length placed ∙ length-set c.places.items x (Some leaf) ∙ can.kept.entries;
+      entries = entries;
       names = λ v p.
           let e = found.2.tips p v in
           let f = taken.inserted.tips p v in
           let named : (leaves_in p v t + 0) + (cond ((leaf == p) && (x == v)) 1 0 + 0) ≡ holds_once (place_at d v) p =
-          sym (leaves-joined p v (then t no_more) (then (tip leaf x) no_more)) ∙ leaf_named c.places.items x leaf can.kept.entries can.within absent (then t no_more) can.kept.names v p
-          ∙ ap (λ xs. holds_once (slice_index_or xs v None) p) (sym placed) in
+          sym (leaves-joined p v (then t no_more) (then (tip leaf x) no_more)) ∙ leaf_named c.places.items d.places.items x leaf placed absent (then t no_more) can.kept.names v p in
           omega arith;
       leaves = let e = found.2.leaves in let f = taken.inserted.leaves in let g = can.kept.leaves in omega arith;
       alternates = found.2.alternates (taken.alternates, tt);

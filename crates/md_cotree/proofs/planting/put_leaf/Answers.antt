@@ -12,5 +12,5 @@ pub returns : goal.returns
 returns g c = (
   c.make-place.result,
   leaf_forest c.args.cotree.now _ c.args.stack.now.items c.push.new.self.items c.args.name c.make-place.result c.make-place.ensures.place c.make-place.ensures.inside c.make-place.ensures.made
-      c.make-place.ensures.links refl refl c.in_ok-push.ensures.items c.requires.name c.requires.absent,
+      c.make-place.ensures.links c.keep_place.ensures.kept c.keep_place.ensures.entries refl c.in_ok-push.ensures.items c.requires.absent,
 )

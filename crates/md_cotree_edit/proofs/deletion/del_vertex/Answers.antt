@@ -17,7 +17,7 @@ pub returns-clause-done : goal.returns-clause-done
 returns-clause-done g c =
     deleted c.args.tree.now c.args.x c.requires c.spare-spare.ensures.links c.take_place-leaf.result c.take_place-leaf.ensures.place
     c.prune-tree.new.lists c.prune-tree.ensures.links c.prune-tree.ensures.unmarked c.prune-tree.result (c.prune-tree.ensures.tree (delete_view c.args.tree.now c.args.x c.requires c.spare-spare.ensures.links c.take_place-leaf.result c.take_place-leaf.ensures.place) (delete_can c.args.tree.now c.args.x c.requires c.spare-spare.ensures.links c.take_place-leaf.result c.take_place-leaf.ensures.place))
-    _ refl refl c.take_place-leaf.ensures.taken refl
+    _ refl refl c.take_place-leaf.ensures.taken c.take_place-leaf.ensures.entries refl
 
 pub returns-clause-bound : goal.returns-clause-bound
 returns-clause-bound g c =

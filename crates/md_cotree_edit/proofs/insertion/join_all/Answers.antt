@@ -14,6 +14,12 @@ over_root-leaf-requires-clause-tree g c =
     let links = c.spare-spare.ensures.links in
     (r.1, kept_lists c.args.tree.now c.args.x r.0 r.1 r.2 links, grow_top c.args.tree.now c.args.x r.0 r.1 r.2 links c.args.top c.requires.top)
 
+pub keep_place-requires-clause-entries : goal.keep_place-requires-clause-entries
+keep_place-requires-clause-entries g c = c.requires.tree.2.kept.entries
+
+pub keep_place-requires-clause-name : goal.keep_place-requires-clause-name
+keep_place-requires-clause-name g c = c.requires.tree.2.within
+
 pub overflow_add-tree : goal.overflow_add-tree
 overflow_add-tree g c =
     let r = c.requires.tree in
@@ -25,7 +31,7 @@ returns-clause-done g c = λ ns t can all.
     let links = c.spare-spare.ensures.links in
     let beside =
     c.over_root-leaf.ensures.tree t (kept_lists c.args.tree.now c.args.x ns t can links) (grow_top c.args.tree.now c.args.x ns t can links c.args.top c.requires.top) in
-    grown c.args.tree.now c.args.x ns t can links _ c.over_root-leaf.result refl refl c.over_root-leaf.ensures.links c.over_root-leaf.ensures.unmarked
+    grown c.args.tree.now c.args.x ns t can links _ c.over_root-leaf.result c.keep_place.ensures.kept c.keep_place.ensures.entries refl c.over_root-leaf.ensures.links c.over_root-leaf.ensures.unmarked
     (grow_joined c.args.tree.now c.args.x ns t can links all c.over_root-leaf.new.lists c.over_root-leaf.new.root c.over_root-leaf.result beside)
 
 pub returns-clause-steps : goal.returns-clause-steps

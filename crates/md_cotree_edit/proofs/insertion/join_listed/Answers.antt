@@ -50,6 +50,12 @@ returns-in_default-clause-bound g c =
     let told = c.mark_all.ensures.told t.0 (grow_marks c.args.tree.now c.args.x c.args.neighbours.now t.0 t.1 links c.deref.result.now c.deref.ensures.value) in
     grow_bound c.args.tree.now c.args.x c.args.neighbours.now t.0 t.1 links c.mark_all.new.lists c.mark_all.ensures.still told c.requires.not_all c.is_empty-none.result (decided_none c.is_empty-none.result c.args.neighbours.now c.is_empty-none.ensures) _ _ _ c.mark_all.ensures.steps c.take_in.ensures.steps
 
+pub keep_place-requires-clause-entries : goal.keep_place-requires-clause-entries
+keep_place-requires-clause-entries g c = c.requires.tree.1.kept.entries
+
+pub keep_place-requires-clause-name : goal.keep_place-requires-clause-name
+keep_place-requires-clause-name g c = c.requires.tree.1.within
+
 pub overflow_add-tree : goal.overflow_add-tree
 overflow_add-tree g c =
     let t = c.requires.tree in
@@ -65,7 +71,7 @@ returns-clause-done g c = λ t can.
     (grow_take c.args.tree.now c.args.x c.args.neighbours.now t can links c.mark_all.new.lists c.mark_all.ensures.still told c.requires.not_all)
     (grow_none c.args.tree.now c.args.x c.args.neighbours.now t can links c.is_empty-none.result (decided_none c.is_empty-none.result c.args.neighbours.now c.is_empty-none.ensures)) in
     let one = subst (λ o. IfSome o (λ leaf. IsLinkedIn c.take_in.new.lists c.take_in.new.root (λ v. times v c.args.neighbours.now) c.args.x leaf t)) c.in-Some.is taken in
-    grown c.args.tree.now c.args.x c.args.neighbours.now t can links _ c.in-Some.leaf refl refl c.take_in.ensures.links c.take_in.ensures.unmarked one
+    grown c.args.tree.now c.args.x c.args.neighbours.now t can links _ c.in-Some.leaf c.keep_place.ensures.kept c.keep_place.ensures.entries refl c.take_in.ensures.links c.take_in.ensures.unmarked one
 
 pub returns-clause-bound : goal.returns-clause-bound
 returns-clause-bound g c =

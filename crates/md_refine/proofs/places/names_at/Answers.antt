@@ -1,9 +1,8 @@
-use Rattle.std.proofs.Common.{◌≡◌, ℕ, ◌+◌, ◌<◌, true, false, if◌then◌else◌, List, [], ◌∷◌, ◌++◌, get_or, Option, Some, None, IfSome, refl, sym, ◌∙◌, ap, arith, add-one, append-nil}
+use Rattle.std.proofs.Common.{◌≡◌, ℕ, ◌+◌, ◌<◌, true, false, if◌then◌else◌, List, [], ◌∷◌, ◌++◌, get_or, Option, Some, None, IfSome, refl, sym, ◌∙◌, ap, add-one, append-nil}
 use Rattle.std.specs.List.{filter}
 use Rattle.std.specs.Cmp.{nat_cmp_total}
 use Rattle.std.specs.FinSet.{nat_cmp-IsAntisymmetric}
 use Rattle.std.specs.FinSet as set
-use Rattle.std.proofs.lemmas.List.{get_or_read}
 use Rattle.std.proofs.lemmas.List.Elements.{filter-append}
 use Rattle.md_graph.specs.Sets.{NameSet}
 use Rattle.md_refine.specs.Slots.{numbers, is_mark_of, names_placed}
@@ -32,8 +31,7 @@ pub is_at-requires : goal.is_at-requires
 is_at-requires c =
     let homes = c.args.homes.now.items in
     let v = c.loop-v.v in
-    let is = get_or_read homes v c.index.result.now (omega arith) c.index.ensures None in
-    read homes v c.index.result.now (get_or homes v None) _ is (c.requires.owners v)
+    read homes v c.home_at.result (get_or homes v None) _ c.home_at.ensures (c.requires v)
 
 pub loop-v-preserved : goal.loop-v-preserved
 loop-v-preserved c =
@@ -41,8 +39,7 @@ loop-v-preserved c =
     let owners = c.args.owners.now.items in
     let v = c.loop-v.v in
     let f = λ (w : ℕ). is_mark_of owners c.args.place (get_or homes w None) in
-    let is = get_or_read homes v c.index.result.now (omega arith) c.index.ensures None in
-    let test = c.is_at.ensures ∙ ap (is_mark_of owners c.args.place) is in
+    let test = c.is_at.ensures ∙ ap (is_mark_of owners c.args.place) c.home_at.ensures in
     pushed (filter f (numbers v)) v c.loop-v.names c.insert_if.new.names (f v) c.loop-v.invariant
     (c.insert_if.ensures ∙ ap (λ b. if b then set.insert c.loop-v.names v else c.loop-v.names) test)
     ∙ ap (λ l. set.from_list l) (sym (one_more f v))

@@ -2,14 +2,12 @@ use Rattle.std.proofs.Common.{◌-◌, arith}
 use Rattle.std.proofs.lemmas.List.{length-set}
 use Rattle.md_refine.proofs.Limits.{NAMES-low}
 use Rattle.md_refine.proofs.Showing.{kept_partition}
-use Rattle.md_refine.proofs.Touching.{name_fits, some_read, mark_fits, place_fits, half_fits, less_fits, more_fits, touch_kept, touch_seen}
+use Rattle.md_refine.proofs.Touching.{name_fits, name_kept, some_read, mark_fits, place_fits, half_fits, less_fits, more_fits, touch_kept, touch_seen}
 use Rattle.md_refine.proofs.partition.Partition.touch.Goals as goal
 
 pub index-requires : goal.index-requires
 index-requires g c =
-    let low = name_fits c.self.inside c.args.self.now c.self.invariant c.self.view_is c.args.v c.requires.name c.requires.above in
-    let long = c.self.invariant.1.homes_len in
-    omega arith
+    name_kept c.self.inside c.args.self.now c.self.invariant c.self.view_is c.args.v c.requires.name c.requires.above
 
 pub index-place-requires : goal.index-place-requires
 index-place-requires g c =
@@ -58,9 +56,7 @@ overflow_add-index_mut g c =
 
 pub index_mut-requires-in-Some-2 : goal.index_mut-requires-in-Some-2
 index_mut-requires-in-Some-2 g c =
-    let low = name_fits c.self.inside c.args.self.now c.self.invariant c.self.view_is c.args.v c.requires.name c.requires.above in
-    let long = c.self.invariant.1.homes_len in
-    omega arith
+    name_kept c.self.inside c.args.self.now c.self.invariant c.self.view_is c.args.v c.requires.name c.requires.above
 
 pub unreachable-requires : goal.unreachable-requires
 unreachable-requires g c =
