@@ -61,7 +61,7 @@ module _ (e : ℕ → ℕ → Bool) where
       (decide_some (LeadsOver k a b) (λ c. decide_three (decide_is_arc e c) (decide_forces e a c) (decide_leads l all k c b)) l)
 
   -- all forcing chains begin with one arc
-  one_begin : (list other : List Arc) (is : IsForcingChain e list) (that : IsForcingChain e other) → (that.u ≡ is.u) × (that.v ≡ is.v)
+  pub one_begin : (list other : List Arc) (is : IsForcingChain e list) (that : IsForcingChain e other) → (that.u ≡ is.u) × (that.v ≡ is.v)
   one_begin list other is that =
       elim (precedes_or_same that.u that.v is.u is.v) [
         | inl before ↦ absurd (is.least that.u that.v other that.ascending that.turns before)
