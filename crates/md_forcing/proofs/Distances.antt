@@ -3,18 +3,13 @@ use Rattle.std.proofs.Common.{◌≡◌, ℕ, zero, suc, ◌+◌, ◌<◌, ◌�
 use Rattle.std.proofs.lemmas.Bool.{cases_lt}
 use Rattle.md_forcing.specs.declared.arc.Arc.{Arc}
 use Rattle.md_forcing.specs.Forcing.{IsArc, ForcesDirectly, Leads, Reaches}
-use Rattle.md_forcing.specs.Classes.{IsClass}
+use Rattle.md_forcing.specs.Classes.{IsAtDistance, IsClass}
 use Rattle.md_forcing.proofs.ListLemmas.{get_some, key_at, one_place, place_of_key, place_within, same_some}
 use Rattle.md_forcing.proofs.Reaching.{reaches_step}
 
--- n steps lead from the entry at place k to the first, each to the place of the arc that forced it
-abbrev pub IsAt : List (Arc × ℕ) → ℕ → ℕ → Type 0
-IsAt es zero k = k ≡ 0
-IsAt es (suc n) k = (0 < k) × (p : ℕ) × (a : Arc) × (slice_get es k ≡ Some (a, p)) × IsAt es n p
-
 module _ (e : ℕ → ℕ → Bool) (first : Arc) (es : List (Arc × ℕ)) (is : IsClass e first es) where
   -- a later place is no nearer
-  at_in_order : (n m k l : ℕ) → k ≤ l → IsAt es n k → IsAt es m l → n ≤ m
+  pub at_in_order : (n m k l : ℕ) → k ≤ l → IsAtDistance es n k → IsAtDistance es m l → n ≤ m
   at_in_order zero m k l order near far = omega arith
   at_in_order (suc n) zero k l order near far = let above = near.0 in absurd (omega arith)
   at_in_order (suc n) (suc m) k l order near far =
@@ -24,7 +19,7 @@ module _ (e : ℕ → ℕ → Bool) (first : Arc) (es : List (Arc × ℕ)) (is :
       omega arith
 
   -- what an arc forces is at most one step further
-  one_step : (n m k l p q : ℕ) (a b : Arc) → slice_get es k ≡ Some (a, p) → slice_get es l ≡ Some (b, q) → ForcesDirectly e a b → IsAt es n k → IsAt es m l → m ≤ suc n
+  pub one_step : (n m k l p q : ℕ) (a b : Arc) → slice_get es k ≡ Some (a, p) → slice_get es l ≡ Some (b, q) → ForcesDirectly e a b → IsAtDistance es n k → IsAtDistance es m l → m ≤ suc n
   one_step n zero k l p q a b s t f near far = omega arith
   one_step n (suc m) k l p q a b s t f near far =
       let (above, r, c, u, rest) = far in
@@ -35,7 +30,7 @@ module _ (e : ℕ → ℕ → Bool) (first : Arc) (es : List (Arc × ℕ)) (is :
       ]
 
   -- each arc is some steps away; the bound is that of its place
-  at_some : (bound k : ℕ) → k < bound → k < length es → (n : ℕ) × IsAt es n k
+  pub at_some : (bound k : ℕ) → k < bound → k < length es → (n : ℕ) × IsAtDistance es n k
   at_some zero k below within = absurd (omega arith)
   at_some (suc bound) k below within =
       elim (cases_lt 0 k) [
@@ -49,7 +44,7 @@ module _ (e : ℕ → ℕ → Bool) (first : Arc) (es : List (Arc × ℕ)) (is :
       ]
 
   -- a list of arcs is as long as its last arc is far behind the arc that it leads from
-  pub as_long : (list : List Arc) (a b : Arc) (n m k l p q : ℕ) → Leads e a list b → slice_get es k ≡ Some (a, p) → slice_get es l ≡ Some (b, q) → IsAt es n k → IsAt es m l → m ≤ n + length list
+  pub as_long : (list : List Arc) (a b : Arc) (n m k l p q : ℕ) → Leads e a list b → slice_get es k ≡ Some (a, p) → slice_get es l ≡ Some (b, q) → IsAtDistance es n k → IsAtDistance es m l → m ≤ n + length list
   as_long [] a b n m k l p q same s t near far =
       let here : l ≡ k = one_place es l k a q p is.once (subst (λ x. slice_get es l ≡ Some (x, q)) (sym same) t) s in
       let less = at_in_order m n l k (omega arith) far near in

@@ -4,10 +4,10 @@ use Rattle.std.proofs.lemmas.List.{reverse-append, length-reverse}
 use Rattle.md_forcing.specs.declared.arc.Arc.{Arc}
 use Rattle.md_forcing.specs.Lists.{Holds, NoRepeats}
 use Rattle.md_forcing.specs.Forcing.{reverse, ForcesDirectly, Leads, IsListToReverse, IsShortestToReverse}
-use Rattle.md_forcing.specs.Classes.{IsClass, TurnsAt}
+use Rattle.md_forcing.specs.Classes.{IsAtDistance, IsClass, TurnsAt}
 use Rattle.md_forcing.proofs.ListLemmas.{key_at, one_place, place_within, same_some}
 use Rattle.md_forcing.proofs.Reaching.{reached_arc}
-use Rattle.md_forcing.proofs.Distances.{IsAt, as_long}
+use Rattle.md_forcing.proofs.Distances.{as_long}
 
 -- The collected arcs, the last first, lead from the arc at the place to the target, and stand behind that place.
 pub record Following (es : List (Arc × ℕ)) (target : Arc) (place : ℕ) (list : List Arc) : Type 0 where
@@ -16,7 +16,7 @@ pub record Following (es : List (Arc × ℕ)) (target : Arc) (place : ℕ) (list
   pub once : NoRepeats (back_to_front list)
   pub within : place < length es
   -- as many steps as there are arcs lead from the target to the place
-  pub further : (n : ℕ) → IsAt es n place → (t : ℕ) × (q : ℕ) × (slice_get es t ≡ Some (target, q)) × IsAt es (n + length list) t
+  pub further : (n : ℕ) → IsAtDistance es n place → (t : ℕ) × (q : ℕ) × (slice_get es t ≡ Some (target, q)) × IsAtDistance es (n + length list) t
 
 pushed_back : (list : List Arc) (a : Arc) → back_to_front (list ++ a ∷ []) ≡ a ∷ back_to_front list
 pushed_back list a = reverse-append list (a ∷ [])
@@ -46,7 +46,7 @@ following_start es target place p stands = record {
   later = λ y h. absurd h;
   once = tt;
   within = place_within es place _ stands;
-  further = λ n near. let same : n ≡ n + 0 = omega arith in (place, p, stands, subst (λ m. IsAt es m place) same near);
+  further = λ n near. let same : n ≡ n + 0 = omega arith in (place, p, stands, subst (λ m. IsAtDistance es m place) same near);
 }
 
 module _ (es : List (Arc × ℕ)) (target : Arc) (place : ℕ) (list : List Arc) (before : Following es target place list) where
@@ -84,7 +84,7 @@ module _ (es : List (Arc × ℕ)) (target : Arc) (place : ℕ) (list : List Arc)
               let (t, q, there, far) = before.further (suc n) (above, p, a, s, near) in
               let longer = length-append list (a ∷ []) in
               let same : suc n + length list ≡ n + length (list ++ a ∷ []) = omega arith in
-              (t, q, there, subst (λ m. IsAt es m t) same far);
+              (t, q, there, subst (λ m. IsAtDistance es m t) same far);
         },
       )
 
