@@ -21,7 +21,7 @@ pub enum PermVerdict {
     ForcedInComplement(Chain),
 }
 
-/// A forcing chain of the graph, if it has one; else one of its complement, if that has one; else
+/// A shortest forcing chain of the graph, if it has one; else one of its complement, if that has one; else
 /// two orders that realise the graph. The three exclude each other: a chain of the complement comes
 /// only where the graph has none, and two orders realise a graph exactly where neither it nor its
 /// complement has a chain (`md_comparability::laws::orders_if_no_chain`). Errors: want of memory.
