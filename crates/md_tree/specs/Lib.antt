@@ -5,6 +5,7 @@ pub mod WellFormed
 pub mod NoPrimes
 pub mod TreeGraph
 pub mod TreeEdges
+pub mod Spellings
 pub mod TreeTexts
 pub mod Laws
 pub mod Positions

@@ -20,10 +20,10 @@ const MOST_DIGITS: usize = 10;
 // So many bytes have room for a pair of two of them.
 const PAIR_ROOM: usize = 16;
 
-// What a writer of pairs needs beside the text: the positions of children as pieces, and a chunk in
-// which pairs are gathered.
+/// What a writer of pairs needs beside the text: the positions of children as pieces, and a chunk
+/// in which pairs are gathered.
 #[derive(Drop)]
-pub(crate) struct Workspace {
+pub struct Workspace {
     positions: Vec<Piece>,
     chunk: Chunk,
     ghost spelled: { ArePositions positions.items },
@@ -48,7 +48,7 @@ struct Start {
 }
 
 // The semicolon and the pairs, where there are some, of a node with `count` children.
-pub(crate) fn push_pairs(
+pub(crate) fn push_edges(
     text: &mut Vec<u8>,
     edges: &QuotientEdges,
     count: usize,
