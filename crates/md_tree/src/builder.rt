@@ -2,7 +2,9 @@
 //! other machines go over the same texts: `grammar` says where a text leaves their grammar, and
 //! md_checker's `text_fit` compares a text with a graph; neither builds anything.
 ghost use Rattle.std.specs.Prelude.{◌≡◌, ◌≢◌, ◌<◌, ◌≤◌, ◌↔◌, ◌+◌, ℕ, List, true, false, [], ◌∷◌, ◌++◌, length, take, drop, vec_len, vec_capacity, map, IfOk, OnOk, MatchOption, IsTrue, Some};
-ghost use Rattle.md_tree.specs.declared.Tree.{Tree, Leaf};
+ghost use Rattle.md_tree.specs.declared.TreeOf.{TreeOf};
+ghost use Rattle.md_tree.specs.declared.Kind.{Kind};
+ghost use Rattle.md_tree.specs.declared.Pair.{Pair};
 ghost use Rattle.md_tree.specs.declared.Kind.TheVariants.{Prime};
 ghost use Rattle.md_tree.specs.Plain.{plain};
 ghost use Rattle.md_tree.specs.Trees.{node, row};
@@ -236,7 +238,7 @@ fn end_node<'a>(
 #[inline(always)]
 fn close(inner: Opened, list: Vec<Tree>, pairs: Vec<Pair>, held: &mut Held) -> Result<(), Memory>
     requires { inner.first ≤ vec_len held.old.trees }
-    ensures trees { IfOk result (λ _. (all : List Tree)
+    ensures trees { IfOk result (λ _. (all : List (TreeOf Kind Pair))
         → held.old.trees.items ≡ take inner.first all → list.items ≡ drop inner.first all
         → trees_held held.new ≡ take inner.first (map plain all)
         ++ node inner.kind (row (drop inner.first (map plain all))) pairs.items ∷ []) }
