@@ -4,9 +4,10 @@ use Rattle.std.proofs.lemmas.List.{append-nil}
 use Rattle.md_text.specs.Numbers.{decimal}
 use Rattle.md_tree.specs.declared.writer.Open.{Open}
 use Rattle.md_tree.specs.declared.Kind.{Kind}
-use Rattle.md_tree.specs.declared.QuotientEdges.{QuotientEdges}
-use Rattle.md_tree.specs.declared.Children.{Children, out-Children}
-use Rattle.md_tree.specs.declared.Tree.{Tree, Leaf, Node}
+use Rattle.md_tree.specs.declared.PairsOf.{PairsOf}
+use Rattle.md_tree.specs.declared.ChildrenOf.{ChildrenOf, out-ChildrenOf}
+use Rattle.md_tree.specs.declared.Pair.{Pair}
+use Rattle.md_tree.specs.declared.TreeOf.{TreeOf, Leaf, Node}
 use Rattle.md_tree.specs.Trees.{row}
 use Rattle.md_tree.specs.Plain.{plain}
 use Rattle.md_tree.specs.TreeTexts.{letter, tree_text, row_text, pairs_text}
@@ -19,13 +20,13 @@ rest_text_push [] o = sym (append-nil (open_text o))
 rest_text_push (p ∷ os) o = ap (λ l. l ++ open_text p) (rest_text_push os o) ∙ append_assoc (open_text o) (rest_text os) (open_text p)
 
 -- a name that is written
-pub leaf_begun : (t : Tree) (v n : ℕ) (text new rest : List ℕ) → t ≡ Leaf v → n ≡ v → new ≡ text ++ decimal n → new ++ rest ≡ text ++ (tree_text (plain t) ++ rest)
+pub leaf_begun : (t : TreeOf Kind Pair) (v n : ℕ) (text new rest : List ℕ) → t ≡ Leaf v → n ≡ v → new ≡ text ++ decimal n → new ++ rest ≡ text ++ (tree_text (plain t) ++ rest)
 leaf_begun t v n text new rest is same e =
     ap (λ l. l ++ rest) (e ∙ ap (λ m. text ++ decimal m) same) ∙ append_assoc text (decimal v) rest ∙ ap (λ p. text ++ (tree_text p ++ rest)) (sym (plain_is_leaf t v is))
 
 -- a node of which the letter is written
-pub node_begun : (t : Tree) (k : Kind) (cs : Children) (es : QuotientEdges) (first : ℕ) (text new : List ℕ) (os opened : List Open) (o : Open) → t ≡ Node k cs es → first ≡ letter k →
-    open_text o ≡ row_text 40 (row (map plain (out-Children cs).list.items)) ++ (pairs_text 59 es.list.items ++ 41 ∷ []) →
+pub node_begun : (t : TreeOf Kind Pair) (k : Kind) (cs : ChildrenOf Kind Pair) (es : PairsOf Pair) (first : ℕ) (text new : List ℕ) (os opened : List Open) (o : Open) → t ≡ Node k cs es → first ≡ letter k →
+    open_text o ≡ row_text 40 (row (map plain (out-ChildrenOf _ _ cs).list.items)) ++ (pairs_text 59 es.list.items ++ 41 ∷ []) →
     new ≡ text ++ first ∷ [] → opened ≡ os ++ o ∷ [] → new ++ rest_text opened ≡ text ++ (tree_text (plain t) ++ rest_text os)
 node_begun t k cs es first text new os opened o is same left e more =
     ap (λ l. l ++ rest_text opened) (e ∙ ap (λ m. text ++ m ∷ []) same) ∙ append_assoc text (letter k ∷ []) (rest_text opened)
@@ -33,13 +34,13 @@ node_begun t k cs es first text new os opened o is same left e more =
     ∙ ap (λ p. text ++ (tree_text p ++ rest_text os)) (sym (plain_is_node t k cs es is))
 
 -- a child more, in front of what is left behind it
-pub child_text : (mark : ℕ) (ts others : List Tree) (t : Tree) (behind : List ℕ) → ts ≡ t ∷ others →
+pub child_text : (mark : ℕ) (ts others : List (TreeOf Kind Pair)) (t : TreeOf Kind Pair) (behind : List ℕ) → ts ≡ t ∷ others →
     row_text mark (row (map plain ts)) ++ behind ≡ mark ∷ (tree_text (plain t) ++ (row_text 44 (row (map plain others)) ++ behind))
 child_text mark ts others t behind cut =
     ap (λ l. row_text mark (row (map plain l)) ++ behind) cut ∙ ap (λ l. mark ∷ l) (append_assoc (tree_text (plain t)) (row_text 44 (row (map plain others))) behind)
 
 -- a name more of an open node
-pub leaf_more : (mark v n : ℕ) (ts others : List Tree) (t : Tree) (text marked new behind total : List ℕ) → ts ≡ t ∷ others → t ≡ Leaf v → n ≡ v →
+pub leaf_more : (mark v n : ℕ) (ts others : List (TreeOf Kind Pair)) (t : TreeOf Kind Pair) (text marked new behind total : List ℕ) → ts ≡ t ∷ others → t ≡ Leaf v → n ≡ v →
     marked ≡ text ++ mark ∷ [] → new ≡ marked ++ decimal n → text ++ (row_text mark (row (map plain ts)) ++ behind) ≡ total →
     new ++ (row_text 44 (row (map plain others)) ++ behind) ≡ total
 leaf_more mark v n ts others t text marked new behind total cut is same one two before =
@@ -49,7 +50,7 @@ leaf_more mark v n ts others t text marked new behind total cut is same one two 
     ∙ ap (λ l. text ++ l) (sym (child_text mark ts others t behind cut)) ∙ before
 
 -- a child more of an open node, of which the other children are left
-pub child_more : (mark : ℕ) (ts others : List Tree) (t : Tree) (behind text leaves marked new : List ℕ) (os opened last : List Open) (o : Open) (whole : List ℕ) → ts ≡ t ∷ others →
+pub child_more : (mark : ℕ) (ts others : List (TreeOf Kind Pair)) (t : TreeOf Kind Pair) (behind text leaves marked new : List ℕ) (os opened last : List Open) (o : Open) (whole : List ℕ) → ts ≡ t ∷ others →
     leaves ++ (row_text mark (row (map plain ts)) ++ behind) ≡ text ++ whole → marked ≡ leaves ++ mark ∷ [] →
     opened ≡ os ++ o ∷ [] → open_text o ≡ row_text 44 (row (map plain others)) ++ behind →
     new ++ rest_text last ≡ marked ++ (tree_text (plain t) ++ rest_text opened) → new ++ rest_text last ≡ text ++ (whole ++ rest_text os)

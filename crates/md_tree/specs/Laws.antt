@@ -11,7 +11,9 @@ use Rattle.md_tree.specs.StrongTrees.{IsTreeOf, IsTree}
 use Rattle.md_tree.specs.WellFormed.{IsCanonicalTree, IsWellFormed, HasNoPrimeNode}
 use Rattle.md_tree.specs.TreeGraph.{adjacent_in, graph_of_tree}
 use Rattle.md_tree.specs.TreeTexts.{text_of}
-use Rattle.md_tree.specs.declared.Tree.{Tree}
+use Rattle.md_tree.specs.declared.Kind.{Kind}
+use Rattle.md_tree.specs.declared.Pair.{Pair}
+use Rattle.md_tree.specs.declared.TreeOf.{TreeOf}
 use Rattle.md_tree.specs.declared.reader.TreeFault.{TreeFault}
 use Rattle.md_tree.specs.declared.reader.TreeFault.TheVariants.{Memory}
 use Rattle.md_tree.specs.Plain.{plain_option}
@@ -54,10 +56,10 @@ abbrev pub OneTreeOneText : Type 0
 OneTreeOneText = (o p : Option PlainTree) → text_of o ≡ text_of p → o ≡ p
 
 -- the answer is the tree, or out of memory
-abbrev pub IsReadAs : Option PlainTree → Result (Option Tree) TreeFault → Type 0
-IsReadAs o answer = ((r : Option Tree) × (answer ≡ Ok r) × (plain_option r ≡ o)) ⊎ (answer ≡ Err Memory)
+abbrev pub IsReadAs : Option PlainTree → Result (Option (TreeOf Kind Pair)) TreeFault → Type 0
+IsReadAs o answer = ((r : Option (TreeOf Kind Pair)) × (answer ≡ Ok r) × (plain_option r ≡ o)) ⊎ (answer ≡ Err Memory)
 
 -- the text of each well-formed tree is read as that tree
 abbrev pub WrittenTreesAreRead : Type 0
 WrittenTreesAreRead =
-    (o : Option PlainTree) → IsWellFormed o → (answer : Result (Option Tree) TreeFault) → IsTreeReading (text_of o) answer → IsReadAs o answer
+    (o : Option PlainTree) → IsWellFormed o → (answer : Result (Option (TreeOf Kind Pair)) TreeFault) → IsTreeReading (text_of o) answer → IsReadAs o answer

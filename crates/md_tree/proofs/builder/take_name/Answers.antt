@@ -1,5 +1,5 @@
 use Rattle.std.proofs.Common.{[], ◌∷◌, ◌++◌, map, inl, inr, sym, refl, ◌∙◌, ap, subst}
-use Rattle.md_tree.specs.declared.Tree.{Leaf}
+use Rattle.md_tree.specs.declared.TreeOf.{Leaf}
 use Rattle.md_tree.specs.Trees.{leaf}
 use Rattle.md_tree.specs.Plain.{plain}
 use Rattle.md_tree.specs.Held.{AreKept, IsBehind}
