@@ -330,6 +330,20 @@ module _ {K P : Type 0} {sp : Spelling K P} (law : IsSpelling sp) where
   pub some_pair_then : (ks : List K) → (x : List ℕ) × PairThen sp ks x
   some_pair_then ks = let r = some_hyphen ks in (decimal 0 ++ r.0, record { number = 0; behind = r.0; text = refl; then = r.1 })
 
+  -- past the first number of a pair, the mark between and the second one
+  pub past_first : (ks : List K) (text mark : List ℕ) → IsNumberBefore text mark → GoesOn (PairThen sp ks) text (ByteThen between (NumberThen (PairsThen sp ks))) mark
+  past_first ks text mark n = number_goes (ByteThen between (NumberThen (PairsThen sp ks))) (between_stops (NumberThen (PairsThen sp ks))) text mark n
+
+  pub past_between : (ks : List K) (text mark second : List ℕ) → IsNumberBefore text mark → mark ≡ between ∷ second → GoesOn (PairThen sp ks) text (NumberThen (PairsThen sp ks)) second
+  past_between ks text mark second n e =
+      goes_then (PairThen sp ks) (ByteThen between (NumberThen (PairsThen sp ks))) (NumberThen (PairsThen sp ks)) text mark second (past_first ks text mark n)
+      (byte_goes between (NumberThen (PairsThen sp ks)) mark second e)
+
+  pub past_second : (ks : List K) (text mark second rest : List ℕ) → IsNumberBefore text mark → mark ≡ between ∷ second → IsNumberBefore second rest → GoesOn (PairThen sp ks) text (PairsThen sp ks) rest
+  past_second ks text mark second rest n e m =
+      goes_then (PairThen sp ks) (NumberThen (PairsThen sp ks)) (PairsThen sp ks) text second rest (past_between ks text mark second n e)
+      (number_goes (PairsThen sp ks) (pairs_then_stops ks) second rest m)
+
   -- the mark behind the children of a node, and what comes behind it
   abbrev pub end_mark : Bool → ℕ
   end_mark true = 59

@@ -7,6 +7,7 @@ pub mod Exists
 pub mod Canonical
 pub mod Graph
 pub mod OneTree
+pub mod Spelled
 pub mod Texts
 pub mod Plain
 pub mod Written

@@ -6,18 +6,17 @@ use Rattle.md_graph.specs.PlainGraph.{PlainGraph, IsGraph, adjacent}
 use Rattle.md_graph.specs.Sets.{NameSet, Has}
 use Rattle.md_graph.specs.Adjacency.{IsAdjacency}
 use Rattle.md_modules.specs.InducedPaths.{HasInducedPath}
-use Rattle.md_tree.specs.Trees.{PlainTree, names}
+use Rattle.md_tree.specs.Trees.{PlainTreeOf, PlainTree, names}
 use Rattle.md_tree.specs.StrongTrees.{IsTreeOf, IsTree}
-use Rattle.md_tree.specs.WellFormed.{IsCanonicalTree, IsWellFormed, HasNoPrimeNode}
+use Rattle.md_tree.specs.WellFormed.{IsCanonicalTree, IsWellFormed, IsWellFormedBy, HasNoPrimeNode}
 use Rattle.md_tree.specs.TreeGraph.{adjacent_in, graph_of_tree}
-use Rattle.md_tree.specs.TreeTexts.{text_of}
-use Rattle.md_tree.specs.declared.Kind.{Kind}
-use Rattle.md_tree.specs.declared.Pair.{Pair}
+use Rattle.md_tree.specs.Spellings.{Spelling, graph_spelling}
+use Rattle.md_tree.specs.TreeTexts.{text_of_by}
 use Rattle.md_tree.specs.declared.TreeOf.{TreeOf}
 use Rattle.md_tree.specs.declared.reader.TreeFault.{TreeFault}
 use Rattle.md_tree.specs.declared.reader.TreeFault.TheVariants.{Memory}
 use Rattle.md_tree.specs.Plain.{plain_option}
-use Rattle.md_tree.specs.Reading.{IsTreeReading}
+use Rattle.md_tree.specs.Reading.{IsTreeReadingBy}
 
 -- each graph has exactly one tree, none where it has no vertex
 abbrev pub OneTree : Type 0
@@ -52,14 +51,20 @@ NoInducedPathIfNoPrimeNode =
     (¬ (HasInducedPath e s)) ↔ HasNoPrimeNode t
 
 -- different trees have different texts
+abbrev pub OneTreeOneTextBy : {K P : Type 0} → Spelling K P → Type 0
+OneTreeOneTextBy {K} {P} sp = (o p : Option (PlainTreeOf K P)) → text_of_by sp o ≡ text_of_by sp p → o ≡ p
+
 abbrev pub OneTreeOneText : Type 0
-OneTreeOneText = (o p : Option PlainTree) → text_of o ≡ text_of p → o ≡ p
+OneTreeOneText = OneTreeOneTextBy graph_spelling
 
 -- the answer is the tree, or out of memory
-abbrev pub IsReadAs : Option PlainTree → Result (Option (TreeOf Kind Pair)) TreeFault → Type 0
-IsReadAs o answer = ((r : Option (TreeOf Kind Pair)) × (answer ≡ Ok r) × (plain_option r ≡ o)) ⊎ (answer ≡ Err Memory)
+abbrev pub IsReadAs : {K P : Type 0} → Option (PlainTreeOf K P) → Result (Option (TreeOf K P)) TreeFault → Type 0
+IsReadAs {K} {P} o answer = ((r : Option (TreeOf K P)) × (answer ≡ Ok r) × (plain_option r ≡ o)) ⊎ (answer ≡ Err Memory)
 
 -- the text of each well-formed tree is read as that tree
+abbrev pub WrittenTreesAreReadBy : {K P : Type 0} → Spelling K P → Type 0
+WrittenTreesAreReadBy {K} {P} sp =
+    (o : Option (PlainTreeOf K P)) → IsWellFormedBy sp o → (answer : Result (Option (TreeOf K P)) TreeFault) → IsTreeReadingBy sp (text_of_by sp o) answer → IsReadAs o answer
+
 abbrev pub WrittenTreesAreRead : Type 0
-WrittenTreesAreRead =
-    (o : Option PlainTree) → IsWellFormed o → (answer : Result (Option (TreeOf Kind Pair)) TreeFault) → IsTreeReading (text_of o) answer → IsReadAs o answer
+WrittenTreesAreRead = WrittenTreesAreReadBy graph_spelling

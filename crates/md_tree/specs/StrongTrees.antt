@@ -1,6 +1,6 @@
 -- The tree of the strong modules of the graph on a set of names s with the adjacency e.
 -- Source: Habib and Paul, A survey of the algorithmic aspects of modular decomposition; the order of the children is our own.
-use Rattle.std.specs.Prelude.{◌≡◌, ◌≢◌, ◌<◌, ◌⊎◌, ◌↔◌, ℕ, Bool, true, List, [], Contains, AllPairs, Option, Some, None, ⊤}
+use Rattle.std.specs.Prelude.{◌≡◌, ◌≢◌, ◌<◌, ◌↔◌, ℕ, Bool, true, List, [], Contains, AllPairs, Option, Some, None, ⊤}
 use Rattle.std.specs.FinSet.{empty}
 use Rattle.md_graph.specs.Sets.{NameSet, Has}
 use Rattle.md_modules.specs.Modules.{IsStrong}
@@ -8,7 +8,8 @@ use Rattle.md_modules.specs.Kinds.{IsParallel, IsSeries, IsPrime}
 use Rattle.md_tree.specs.declared.Kind.{Kind}
 use Rattle.md_tree.specs.declared.Kind.TheVariants.{Parallel, Series, Prime}
 use Rattle.md_tree.specs.declared.Pair.{Pair}
-use Rattle.md_tree.specs.Trees.{PlainTree, PlainTrees, no_tree, one_more, names, names_below, names_at, node_sets, EachNode}
+use Rattle.md_tree.specs.Spellings.{IsPairBeforeBy, graph_pairs}
+use Rattle.md_tree.specs.Trees.{PlainTreesOf, PlainTree, PlainTrees, no_tree, one_more, names, names_below, names_at, node_sets, EachNode}
 
 -- s is of kind k
 abbrev pub HasKind : (ℕ → ℕ → Bool) → NameSet → Kind → Type 0
@@ -21,7 +22,7 @@ abbrev pub IsBefore : NameSet → NameSet → Type 0
 IsBefore s t = (x : ℕ) × Has s x × ((y : ℕ) → Has t y → x < y)
 
 -- the trees stand in ascending order of their least names: each has a name below all names of those after it
-abbrev pub IsInOrder : PlainTrees → Type 0
+abbrev pub IsInOrder : {K P : Type 0} → PlainTreesOf K P → Type 0
 IsInOrder no_tree = ⊤
 IsInOrder (one_more t ts) = IsBefore (names t) (names_below ts) × IsInOrder ts
 
@@ -32,7 +33,7 @@ pub record AreTreesJoined (e : ℕ → ℕ → Bool) (cs : PlainTrees) (i j : �
 
 -- the one pair comes before the other, by the lower and then by the higher position
 abbrev pub IsPairBefore : Pair → Pair → Type 0
-IsPairBefore p q = (p.low < q.low) ⊎ ((p.low ≡ q.low) × (p.high < q.high))
+IsPairBefore = IsPairBeforeBy graph_pairs
 
 -- the list has exactly the pairs of positions between which an edge runs, each once, in ascending order
 pub record ListsJoined (e : ℕ → ℕ → Bool) (cs : PlainTrees) (ps : List Pair) : Type 0 where

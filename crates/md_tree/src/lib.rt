@@ -15,6 +15,7 @@ mod pair_reader;
 mod pair_writer;
 mod parts;
 mod reader;
+mod spelling;
 mod tree_graph;
 mod writer;
 
@@ -22,9 +23,10 @@ pub use builder::{Opened, ascends};
 pub use cotree::{has_no_prime, is_cotree};
 pub use grammar::split_letter;
 pub use parts::{Part, PartOf, build, nodes_of};
-pub use reader::{TreeFault, read_tree};
+pub use reader::{TreeFault, read_tree, read_tree_of};
+pub use spelling::{Lettered, Paired};
 pub use tree_graph::graph_of;
-pub use writer::{push_text, text};
+pub use writer::{push_text, push_text_of, text};
 
 /// The kind of a node of a tree: its leaf set has no edge across some split, every edge across some
 /// split, or neither.

@@ -4,7 +4,7 @@ ghost use Rattle.md_graph.specs.declared.TheConstants.{NAMES};
 ghost use Rattle.md_text.specs.Numbers.{decimal};
 ghost use Rattle.md_tree.specs.TreeTexts.{pairs_text_by};
 ghost use Rattle.md_text.specs.Fronts.{LacksFirst};
-ghost use Rattle.md_tree.specs.Held.{LacksEnd, IsEnd, LacksPairs, LacksPair, pair_before, AreListed};
+ghost use Rattle.md_tree.specs.Held.{LacksEnd, IsEnd, LacksPairs, LacksPair, pair_before, AreListed, MayFollow};
 
 use crate::growing::append;
 use crate::Paired;
@@ -86,7 +86,7 @@ fn read_pairs<'a, P: Paired>(
         let Some((pair, more, tail)) = read_any_pair::<P>(rest) else {
             return Ok(None);
         };
-        listed = listed && pair.may_follow(last, count);
+        listed = still_listed(listed, last, pair, count);
         append(&mut pairs, pair)?;
         if !more {
             return Ok(Some((pairs, listed, tail)));
@@ -94,6 +94,14 @@ fn read_pairs<'a, P: Paired>(
         last = pair;
         rest = tail;
     }
+}
+
+// Whether pairs may be listed with one more behind the last of them.
+#[inline(always)]
+fn still_listed<P: Paired>(listed: bool, last: P, pair: P, count: usize) -> bool
+    ensures { IsTrue result ↔ (IsTrue listed × MayFollow P.rules count last pair) }
+{
+    listed && pair.may_follow(last, count)
 }
 
 // A pair, whether another one follows, and what stands behind the mark that tells it.

@@ -10,7 +10,7 @@ pub record AreEndsRead (text rest : List ℕ) (before now : Held) : Type 0 where
   pub within : length rest ≤ length text
 
 abbrev pub invariant-loop-first : goal.invariant-loop-first
-invariant-loop-first l = AreEndsRead l.text l.rest l.initial.held l.held
+invariant-loop-first g l = AreEndsRead l.text l.rest l.initial.held l.held
 
 abbrev pub decreases-loop-first : goal.decreases-loop-first
-decreases-loop-first l = length l.rest
+decreases-loop-first g l = length l.rest

@@ -3,7 +3,9 @@ use Rattle.md_tree.specs.Held.{HasRead}
 use Rattle.md_tree.proofs.pair_reader.read_pairs.Given as goal
 
 abbrev pub invariant-loop-pair : goal.invariant-loop-pair
-invariant-loop-pair l = HasRead l.count l.text l.rest l.pairs.items l.last l.listed
+invariant-loop-pair g l =
+    let rules = g.P.Paired.rules in
+    HasRead rules l.count l.text l.rest l.pairs.items l.last l.listed
 
 abbrev pub decreases-loop-pair : goal.decreases-loop-pair
-decreases-loop-pair l = length l.rest
+decreases-loop-pair g l = length l.rest
