@@ -19,6 +19,7 @@ use Rattle.md_tree.specs.declared.Kind.TheVariants.{Parallel, Series, Prime}
 use Rattle.md_tree.specs.declared.Pair.{Pair}
 use Rattle.md_tree.specs.Trees.{PlainTree, leaf, node, PlainTrees, no_tree, one_more, names, names_below, names_at, node_sets, node_sets_below, count, EachNode, EachNodeBelow}
 use Rattle.md_tree.specs.StrongTrees.{HasKind, IsInOrder, AreTreesJoined, ListsJoined, IsNodeOf, IsTreeOf}
+use Rattle.md_tree.specs.Spellings.{least_count}
 use Rattle.md_tree.specs.WellFormed.{IsOfKind, NoneOfKind, AreDisjoint, IsPlainNode, HasShape, IsCanonicalNode}
 use Rattle.md_text.proofs.Lists.{In, Later, of_append, in_left, in_right, of_contains, to_contains, to_pairs, later_append}
 use Rattle.md_tree.proofs.Nodes.{IsChild, Differ, set_inside, sets_inside, child_inside, child_of_name, child_of_set}
@@ -211,12 +212,12 @@ module _ (e : ℕ → ℕ → Bool) (adj : IsAdjacency e) where
     },
   )
 
-  plain_node : (k : Kind) (v : Bool) (cs : PlainTrees) (ps : List Pair) → IsBuilt e k cs ps → EachNodeBelow (IsBuilt e) cs →
+  plain_node : (k : Kind) → least_count k ≡ 2 → (v : Bool) (cs : PlainTrees) (ps : List Pair) → IsBuilt e k cs ps → EachNodeBelow (IsBuilt e) cs →
       ((s : NameSet) → HasKind e s k → (part : NameSet) × IsSplit e s part v) → ps ≡ [] → IsPlainNode k cs ps
-  plain_node k v cs ps built each splits none =
+  plain_node k few v cs ps built each splits none =
       let two : HasTwo (names_below cs) = two_of_kind e (names_below cs) k built.node_of.kind in
       record {
-        two = two_children e cs (two.0, two.2) (children_maximal e k cs ps built);
+        enough = subst (λ n. n ≤ count cs) (sym few) (two_children e cs (two.0, two.2) (children_maximal e k cs ps built));
         other_kinds = none_of_kind k cs each (λ c i h.
             let whole : (part : NameSet) × IsSplit e (names_below cs) part v = splits (names_below cs) built.node_of.kind in
             let inner : (part : NameSet) × IsSplit e (names c) part v = splits (names c) h in
@@ -225,10 +226,10 @@ module _ (e : ℕ → ℕ → Bool) (adj : IsAdjacency e) where
       }
 
   shape_of : (k : Kind) (cs : PlainTrees) (ps : List Pair) → IsBuilt e k cs ps → EachNodeBelow (IsBuilt e) cs → HasShape k cs ps
-  shape_of Parallel cs ps built each = plain_node Parallel false cs ps built each (λ s h. h) built.node_of.pairs
-  shape_of Series cs ps built each = plain_node Series true cs ps built each (λ s h. h) built.node_of.pairs
+  shape_of Parallel cs ps built each = plain_node Parallel refl false cs ps built each (λ s h. h) built.node_of.pairs
+  shape_of Series cs ps built each = plain_node Series refl true cs ps built each (λ s h. h) built.node_of.pairs
   shape_of Prime cs ps built each = let lists : ListsJoined e cs ps = built.node_of.pairs in record {
-    four = four_children cs ps built;
+    enough = four_children cs ps built;
     some_pair = some_pair_of cs ps built.node_of.kind lists (children_maximal e Prime cs ps built);
     ascending = lists.ascending;
     positions = λ p c. let is : AreTreesJoined e cs p.low p.high = (lists.exactly p).0 c in (is.ordered, position_below cs p.high is.edge.1 is.edge.3);

@@ -195,26 +195,29 @@ module _ {K P : Type 0} {sp : Spelling K P} (law : IsSpelling sp) where
     least = tt;
   }
 
+  abbrev name : ℕ → PlainTreeOf K P
+  name v = leaf v
+
   -- a new name
   pub kept_name : (ts : List (PlainTreeOf K P)) (ms : List ℕ) (seen : NameSet) (v : ℕ) → AreKept sp ts ms seen → v < NAMES → Lacks seen v →
       AreKept sp (ts ++ leaf v ∷ []) (ms ++ v ∷ []) (insert seen v)
   kept_name ts ms seen v k below lacks = record {
-    canonical = each_join (IsCanonicalNodeBy sp) ts (leaf v ∷ []) k.canonical (tt, tt);
-    apart = apart_both ts (leaf v ∷ []) k.apart (apart_one (leaf v)) (λ x h g.
-        let e : x ≡ v = of_only v x (names_of_one (leaf v) x g) in
+    canonical = each_join (IsCanonicalNodeBy sp) ts (name v ∷ []) k.canonical (tt, tt);
+    apart = apart_both ts (name v ∷ []) k.apart (apart_one (name v)) (λ x h g.
+        let e : x ≡ v = of_only v x (names_of_one (name v) x g) in
         clash ((k.same x).1 h) (subst (λ y. Lacks seen y) (sym e) lacks));
     same = λ x. (
       (λ h. elim (of_insert seen v x h) [
-        | inl e ↦ names_right ts (leaf v ∷ []) x (names_to_one (leaf v) x (subst (Has (only_name v)) (sym e) (only_has v)))
-        | inr i ↦ names_left ts (leaf v ∷ []) x ((k.same x).0 i)
+        | inl e ↦ names_right ts (name v ∷ []) x (names_to_one (name v) x (subst (Has (only_name v)) (sym e) (only_has v)))
+        | inr i ↦ names_left ts (name v ∷ []) x ((k.same x).0 i)
       ]),
-      (λ h. elim (names_either ts (leaf v ∷ []) x h) [
+      (λ h. elim (names_either ts (name v ∷ []) x h) [
         | inl i ↦ insert_old seen v x ((k.same x).1 i)
-        | inr i ↦ subst (Has (insert seen v)) (sym (of_only v x (names_of_one (leaf v) x i))) (insert_new seen v)
+        | inr i ↦ subst (Has (insert seen v)) (sym (of_only v x (names_of_one (name v) x i))) (insert_new seen v)
       ]),
     );
     below = λ x h. elim (of_insert seen v x h) [ inl e ↦ omega arith | inr i ↦ k.below x i ];
-    least = least_both ts (leaf v ∷ []) ms (v ∷ []) k.least (record { member = only_has v; first = λ x h. let e : x ≡ v = of_only v x h in omega arith }, tt);
+    least = least_both ts (name v ∷ []) ms (v ∷ []) k.least (record { member = only_has v; first = λ x h. let e : x ≡ v = of_only v x h in omega arith }, tt);
   }
 
   -- a node's shape, by its children and its pairs

@@ -1,5 +1,5 @@
 -- How texts go on behind a part that is read, and where they can't.
-use Rattle.std.proofs.Common.{◌≡◌, ◌≢◌, ℕ, ◌+◌, ◌<◌, ◌≤◌, Bool, true, false, List, [], ◌∷◌, ◌++◌, length, get_or, take, drop, zero, suc, true≢false, append_assoc, refl, sym, ◌∙◌, ap, subst, inl, inr, arith}
+use Rattle.std.proofs.Common.{◌≡◌, ◌≢◌, ℕ, ◌+◌, ◌<◌, ◌≤◌, Bool, true, false, List, [], ◌∷◌, ◌++◌, length, get_or, take, drop, zero, suc, true≢false, append_assoc, append-nil, refl, sym, ◌∙◌, ap, subst, inl, inr, arith}
 use Rattle.std.specs.Prelude.{Result, Ok, Err, IfErr}
 use Rattle.md_text.specs.Numbers.{decimal, value, IsCanonical}
 use Rattle.std.specs.Char.{is_ascii_digit}
@@ -11,7 +11,7 @@ use Rattle.md_tree.specs.Spellings.{Spelling, IsSpelling}
 use Rattle.md_tree.specs.TreeTexts.{pairs_text_by, tree_text_by, row_text_by}
 use Rattle.md_tree.specs.Grammar.{HasPairsIf, IsSpelledNode}
 use Rattle.md_text.specs.Fronts.{IsDigit, IsPastDigits, LacksFirst}
-use Rattle.md_tree.specs.Languages.{HeadsAgree, Tail, TreeThen, NumberThen, ByteThen, PairsThen, PairThen, GoesOn, IsStuck, IsNumberBefore, IsNoNumber, outermost_first}
+use Rattle.md_tree.specs.Languages.{HeadsAgree, IsTreeText, Tail, TreeThen, NumberThen, ByteThen, PairsThen, PairThen, GoesOn, IsStuck, IsNumberBefore, IsNoNumber, outermost_first}
 use Rattle.md_text.proofs.FrontLemmas.{same_number, number_first, stops_at, number_no_stop, zero_alone}
 use Rattle.md_tree.proofs.Texts.{pairs_stop, pair_spelled, row_stops, pairs_end, node_spelled, row_spelled}
 
@@ -243,7 +243,7 @@ module _ {K P : Type 0} {sp : Spelling K P} (law : IsSpelling sp) where
   bracket_of k ks x r no_tree ps n h e t = record { behind = r; text = e ∙ ap (λ y. pairs_text 59 y ++ 41 ∷ r) h; then = t }
   bracket_of k ks x r (one_more u us) ps n h e t = absurd (n (tree_text u ++ (row_text 44 us ++ (pairs_text 59 ps ++ 41 ∷ r))) (e ∙ row_spelled law 44 u us (pairs_text 59 ps ++ 41 ∷ r)))
 
-  pub tail_bracket : (k : K) (ks : List K) (text : List ℕ) → LacksFirst 44 text → ((ps : List P) → HasPairsIf (lists k) ps → ps ≡ []) → HasPairsIf (lists k) [] →
+  pub tail_bracket : (k : K) (ks : List K) (text : List ℕ) → LacksFirst 44 text → ((ps : List P) → HasPairsIf (lists k) ps → ps ≡ []) → HasPairsIf {P = P} (lists k) [] →
       GoesOn (Tail sp (k ∷ ks)) text (ByteThen 41 (Tail sp ks)) text
   tail_bracket k ks text lacks none right = record {
     front = [];
@@ -316,6 +316,15 @@ module _ {K P : Type 0} {sp : Spelling K P} (law : IsSpelling sp) where
           then = c.then;
         };
     leaves = λ x h l. letter_of k ks x l.behind l.tree l.spelled l.text l.then;
+  }
+
+  -- a tree's text is a tree with nothing behind it
+  pub start_goes : (text : List ℕ) → GoesOn (IsTreeText sp) text (TreeThen sp []) text
+  start_goes text = record {
+    front = [];
+    whole = refl;
+    makes = λ x p. (p.tree, p.spelled, p.text ∙ ap (λ w. tree_text p.tree ++ w) p.then ∙ append-nil (tree_text p.tree));
+    leaves = λ x h l. record { tree = l.0; behind = []; spelled = l.1; text = l.2 ∙ sym (append-nil (tree_text l.0)); then = refl };
   }
 
   pub some_due : (ks : List K) → (x : List ℕ) × TreeThen sp ks x

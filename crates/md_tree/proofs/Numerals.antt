@@ -65,6 +65,13 @@ module _ {P : Type 0} {rules : PairRules P} (law : ArePairRules rules) where
   lacks_mark text hyphen second mark low high n h m comma bracket p false tail small e =
       bracket tail (same_number high (snd p) mark (41 ∷ tail) m.1 (mark_stops false tail) (sym m.0 ∙ behind_hyphen text hyphen second low n h p false tail e)).1
 
+  -- the pair of two positions that stand there
+  pub pair_read : (text tail : List ℕ) (i j : ℕ) (more : Bool) (p : P) → p ≡ rules.pair i j → text ≡ decimal i ++ between ∷ (decimal j ++ mark_of more ∷ tail) → text ≡ pair_before rules p more tail
+  pair_read text tail i j more p is e =
+      let first : i ≡ fst p = sym (ap fst is ∙ law.first_of i j) in
+      let second : j ≡ snd p = sym (ap snd is ∙ law.second_of i j) in
+      e ∙ (λ n. decimal (first n) ++ between ∷ (decimal (second n) ++ mark_of more ∷ tail))
+
   -- pairs in a row
   pub pairs_start : (text : List ℕ) → ArePairsRead rules text text []
   pairs_start text = record { forth = λ others r e. e; back = λ ps r small e. (ps, small, e) }

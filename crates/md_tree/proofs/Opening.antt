@@ -39,7 +39,7 @@ module _ {K P : Type 0} (sp : Spelling K P) where
       new ≡ text ++ first ∷ [] → opened ≡ os ++ o ∷ [] → new ++ rest_text sp opened ≡ text ++ (tree_text (plain t) ++ rest_text sp os)
   node_begun t k cs es first text new os opened o is same left e more =
       ap (λ l. l ++ rest_text sp opened) (e ∙ ap (λ m. text ++ m ∷ []) same) ∙ append_assoc text (letter k ∷ []) (rest_text sp opened)
-      ∙ ap (λ l. text ++ (letter k ∷ l)) (ap rest_text sp more ∙ rest_text_push os o ∙ ap (λ l. l ++ rest_text sp os) left)
+      ∙ ap (λ l. text ++ (letter k ∷ l)) (ap (rest_text sp) more ∙ rest_text_push os o ∙ ap (λ l. l ++ rest_text sp os) left)
       ∙ ap (λ p. text ++ (tree_text p ++ rest_text sp os)) (sym (plain_is_node t k cs es is))
 
   -- a child more, in front of what is left behind it
@@ -66,7 +66,7 @@ module _ {K P : Type 0} (sp : Spelling K P) where
   child_more mark ts others t behind text leaves marked new os opened last o whole cut before one more left child =
       let rest = row_text 44 (row (map plain others)) ++ behind in
       child ∙ ap (λ l. l ++ (tree_text (plain t) ++ rest_text sp opened)) one ∙ append_assoc leaves (mark ∷ []) (tree_text (plain t) ++ rest_text sp opened)
-      ∙ ap (λ l. leaves ++ (mark ∷ (tree_text (plain t) ++ l))) (ap rest_text sp more ∙ rest_text_push os o ∙ ap (λ l. l ++ rest_text sp os) left)
+      ∙ ap (λ l. leaves ++ (mark ∷ (tree_text (plain t) ++ l))) (ap (rest_text sp) more ∙ rest_text_push os o ∙ ap (λ l. l ++ rest_text sp os) left)
       ∙ ap (λ l. leaves ++ (mark ∷ l)) (sym (append_assoc (tree_text (plain t)) rest (rest_text sp os)))
       ∙ ap (λ l. leaves ++ (l ++ rest_text sp os)) (sym (child_text mark ts others t behind cut))
       ∙ sym (append_assoc leaves (row_text mark (row (map plain ts)) ++ behind) (rest_text sp os))
@@ -76,7 +76,7 @@ module _ {K P : Type 0} (sp : Spelling K P) where
   pub turn_written : (text new total : List ℕ) (os rest last : List (Open K P)) (o : Open K P) → os ≡ rest ++ o ∷ [] → text ++ rest_text sp os ≡ total →
       new ++ rest_text sp last ≡ text ++ (open_text sp o ++ rest_text sp rest) → new ++ rest_text sp last ≡ total
   turn_written text new total os rest last o popped before turn =
-      turn ∙ ap (λ l. text ++ l) (sym (ap rest_text sp popped ∙ rest_text_push rest o)) ∙ before
+      turn ∙ ap (λ l. text ++ l) (sym (ap (rest_text sp) popped ∙ rest_text_push rest o)) ∙ before
 
   -- what is left to write becomes shorter where the text becomes longer
   pub less_left : (text new : List ℕ) (os last : List (Open K P)) → new ++ rest_text sp last ≡ text ++ rest_text sp os → length text < length new → length (rest_text sp last) < length (rest_text sp os)

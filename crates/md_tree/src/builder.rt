@@ -1,7 +1,7 @@
 //! Builds the tree whose text is read, and gives up where the text is no well-formed tree's. Two
 //! other machines go over the same texts: `grammar` says where a text leaves their grammar, and
 //! md_checker's `text_fit` compares a text with a graph; neither builds anything.
-ghost use Rattle.std.specs.Prelude.{◌≡◌, ◌≢◌, ◌<◌, ◌≤◌, ◌↔◌, ◌+◌, ℕ, List, true, false, [], ◌∷◌, ◌++◌, length, take, drop, vec_len, vec_capacity, map, IfOk, OnOk, MatchOption, IsTrue, Some};
+ghost use Rattle.std.specs.Prelude.{◌≡◌, ◌≢◌, ◌<◌, ◌≤◌, ◌↔◌, ◌⊎◌, ◌+◌, ℕ, List, true, false, [], ◌∷◌, ◌++◌, length, take, drop, vec_len, vec_capacity, map, IfOk, OnOk, MatchOption, IsTrue, Some};
 ghost use Rattle.md_tree.specs.declared.TreeOf.{TreeOf};
 ghost use Rattle.md_tree.specs.Plain.{plain};
 ghost use Rattle.md_tree.specs.Trees.{node, row};
@@ -312,11 +312,20 @@ fn least_of(numbers: &[u32]) -> u32
 {
     let mut least = numbers[0];
     for number in numbers {
-        if *number < least {
-            least = *number;
-        }
+        least = lesser(*number, least);
     }
     least
+}
+
+fn lesser(first: u32, second: u32) -> u32
+    ensures one { (result ≡ first) ⊎ (result ≡ second) }
+    ensures first { result ≤ first }
+    ensures second { result ≤ second }
+{
+    if first < second {
+        return first;
+    }
+    second
 }
 
 // Takes off the trees from a place on. All trees are handed over where they lie if no others come.
@@ -346,10 +355,11 @@ fn may_have<K: Lettered, P: Drop>(kind: K, children: &[TreeOf<K, P>], least: &[u
     if children.len() < kind.least_count() {
         return false;
     }
+    let sorts = kind.sorts();
     if kind.lists() {
-        return !kind.sorts() || ascends(least);
+        return !sorts || ascends(least);
     }
-    are_others(kind, kind.sorts(), children, least)
+    are_others(kind, sorts, children, least)
 }
 
 // Whether no child is a node of the kind, and the least names ascend if they have to.

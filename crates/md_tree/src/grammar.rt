@@ -224,9 +224,7 @@ fn skip_pairs<'a, K: Lettered, P: Paired>(text: &'a [u8]) -> Result<&'a [u8], &'
 }
 
 // Past a pair and the mark behind it, which says whether another pair is due.
-fn skip_pair<'a, K: Lettered, P: Paired>(
-    text: &'a [u8],
-) -> Result<(&'a [u8], bool), &'a [u8]>
+fn skip_pair<'a, K: Lettered, P: Paired>(text: &'a [u8]) -> Result<(&'a [u8], bool), &'a [u8]>
     ensures on { IfOk result (λ p. (ks : List K)
         → GoesOn (PairThen (spelling K.rules P.rules) ks) text.now
         (PairsGoOn (spelling K.rules P.rules) p.1 ks) p.0.now) }
@@ -240,9 +238,7 @@ fn skip_pair<'a, K: Lettered, P: Paired>(
     skip_mark::<K, P>(mark)
 }
 
-fn skip_mark<'a, K: Lettered, P: Paired>(
-    text: &'a [u8],
-) -> Result<(&'a [u8], bool), &'a [u8]>
+fn skip_mark<'a, K: Lettered, P: Paired>(text: &'a [u8]) -> Result<(&'a [u8], bool), &'a [u8]>
     ensures on { IfOk result (λ p. (ks : List K)
         → GoesOn (PairsThen (spelling K.rules P.rules) ks) text.now
         (PairsGoOn (spelling K.rules P.rules) p.1 ks) p.0.now) }

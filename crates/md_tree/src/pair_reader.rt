@@ -4,10 +4,10 @@ ghost use Rattle.md_graph.specs.declared.TheConstants.{NAMES};
 ghost use Rattle.md_text.specs.Numbers.{decimal};
 ghost use Rattle.md_tree.specs.TreeTexts.{pairs_text_by};
 ghost use Rattle.md_text.specs.Fronts.{LacksFirst};
-ghost use Rattle.md_tree.specs.Held.{LacksEnd, IsEnd, LacksPairs, LacksPair, pair_before, AreListed, MayFollow};
+ghost use Rattle.md_tree.specs.Held.{LacksEnd, IsEnd, LacksPairs, LacksPair, mark_of, AreListed, MayFollow};
 
-use crate::growing::append;
 use crate::Paired;
+use crate::growing::append;
 use md_graph::Memory;
 use md_text::{skip_byte, small_number};
 use std::alloc::Global;
@@ -83,9 +83,10 @@ fn read_pairs<'a, P: Paired>(
     let mut last = P::pair(0, 0);
     let mut listed = true;
     loop {
-        let Some((pair, more, tail)) = read_any_pair::<P>(rest) else {
+        let Some((first, second, more, tail)) = read_positions::<P>(rest) else {
             return Ok(None);
         };
+        let pair = P::pair(first, second);
         listed = still_listed(listed, last, pair, count);
         append(&mut pairs, pair)?;
         if !more {
@@ -104,23 +105,25 @@ fn still_listed<P: Paired>(listed: bool, last: P, pair: P, count: usize) -> bool
     listed && pair.may_follow(last, count)
 }
 
-// A pair, whether another one follows, and what stands behind the mark that tells it.
+// The positions of a pair, whether another one follows, and what stands behind the mark that tells
+// it.
 #[inline(always)]
-fn read_any_pair<'a, P: Paired>(text: &'a [u8]) -> Option<(P, bool, &'a [u8])>
+fn read_positions<'a, P: Paired>(text: &'a [u8]) -> Option<(u32, u32, bool, &'a [u8])>
     ensures { MatchOption result (LacksPair P.rules text.now)
-        (λ p. text.now ≡ pair_before P.rules p.0 p.1 p.2.now) }
+        (λ p. text.now
+        ≡ decimal p.0 ++ P.rules.between ∷ (decimal p.1 ++ mark_of p.2 ∷ p.3.now)) }
 {
-    let (low, hyphen) = small_number(text)?;
-    let Ok(second) = skip_byte(hyphen, P::between()) else {
+    let (first, between) = small_number(text)?;
+    let Ok(behind) = skip_byte(between, P::between()) else {
         return None;
     };
-    let (high, mark) = small_number(second)?;
-    let (first, tail) = mark.split_first()?;
-    if *first == b',' {
-        return Some((P::pair(low, high), true, tail));
+    let (second, end) = small_number(behind)?;
+    let (mark, tail) = end.split_first()?;
+    if *mark == b',' {
+        return Some((first, second, true, tail));
     }
-    if *first == b')' {
-        return Some((P::pair(low, high), false, tail));
+    if *mark == b')' {
+        return Some((first, second, false, tail));
     }
     None
 }

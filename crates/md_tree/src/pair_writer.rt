@@ -278,9 +278,25 @@ fn push_pair(text: &mut Vec<u8>, mark: u8, pair: Pair) -> Result<(), Memory>
         ≡ text.old.items ++ mark ∷ (decimal pair.low ++ 45 ∷ decimal pair.high)) }
     ensures begun { OnErr result (BeginsWith text.new.items text.old.items) }
 {
+    push_positions(text, mark, pair.low, b'-', pair.high)
+}
+
+// Two positions with a mark between them, behind another mark.
+#[inline(always)]
+pub(crate) fn push_positions(
+    text: &mut Vec<u8>,
+    mark: u8,
+    first: u32,
+    between: u8,
+    second: u32,
+) -> Result<(), Memory>
+    ensures written { OnOk result (text.new.items
+        ≡ text.old.items ++ mark ∷ (decimal first ++ between ∷ decimal second)) }
+    ensures begun { OnErr result (BeginsWith text.new.items text.old.items) }
+{
     text.push(mark)?;
-    push_number(text, u64::from(pair.low))?;
-    text.push(b'-')?;
-    push_number(text, u64::from(pair.high))?;
+    push_number(text, u64::from(first))?;
+    text.push(between)?;
+    push_number(text, u64::from(second))?;
     Ok(())
 }

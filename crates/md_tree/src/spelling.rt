@@ -6,10 +6,9 @@ ghost use Rattle.md_tree.specs.TreeTexts.{pairs_text_by};
 ghost use Rattle.md_tree.specs.Held.{MayFollow};
 
 use crate::pair_order::is_listed_behind;
-use crate::pair_writer::{Workspace, push_edges};
+use crate::pair_writer::{Workspace, push_edges, push_positions};
 use crate::{Kind, Pair, PairsOf};
 use md_graph::Memory;
-use md_text::push_number;
 
 /// The kinds of the nodes of trees: their letters, and the rules of their nodes.
 pub trait Lettered: Copy + Drop {
@@ -137,10 +136,7 @@ pub trait Paired: Copy + Drop {
     {
         let mut mark = b';';
         for pair in &pairs.list {
-            text.push(mark)?;
-            push_number(text, u64::from(pair.first()))?;
-            text.push(Self::between())?;
-            push_number(text, u64::from(pair.second()))?;
+            push_positions(text, mark, pair.first(), Self::between(), pair.second())?;
             mark = b',';
         }
         Ok(())

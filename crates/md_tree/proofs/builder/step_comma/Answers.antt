@@ -16,8 +16,7 @@ returns-then-is_empty g c bytes h =
 
 pub returns : goal.returns
 returns g c bytes h =
-    let law = is_spelling g.met.K.Lettered.laws g.met.P.Paired.laws in
-    (
-  record { kept = h.kept; comes = behind_comma law bytes c.args.text.now c.args.held.now.opens.items _ c.args.tail.now h.comes (let o = c.args.held.now.opens.ok.0 in grind (arith, c.is_empty.ensures, c.if-is_empty.false, o)) c.requires },
-  shorter_tail 44 _ _ c.requires,
-)
+    let law = is_spelling g.met.K.Lettered.laws g.met.P.Paired.laws in (
+      record { kept = h.kept; comes = behind_comma law bytes c.args.text.now c.args.held.now.opens.items _ c.args.tail.now h.comes (let o = c.args.held.now.opens.ok.0 in grind (arith, c.is_empty.ensures, c.if-is_empty.false, o)) c.requires },
+      shorter_tail 44 _ _ c.requires,
+    )

@@ -17,7 +17,7 @@ loop-held-init g c =
     let bytes = c.args.bytes.now in
     record {
       kept = subst (λ us. AreKept sp us c.in_ok-with_capacity-2.field-0.items c.none.result) (sym trees)
-          (subst (λ ms. AreKept sp [] ms c.none.result) (sym c.in_ok-with_capacity-2.ensures.items) (subst (AreKept sp [] []) (sym c.none.ensures.value) kept_none law));
+          (subst (λ ms. AreKept sp [] ms c.none.result) (sym c.in_ok-with_capacity-2.ensures.items) (subst (AreKept sp [] []) (sym c.none.ensures.value) (kept_none law)));
       comes = subst (λ us. IsDue sp bytes bytes c.in_ok-with_capacity-3.field-0.items us) (sym trees)
           (subst (λ os. IsDue sp bytes bytes os []) (sym c.in_ok-with_capacity-3.ensures.items) (due_start law bytes));
     }

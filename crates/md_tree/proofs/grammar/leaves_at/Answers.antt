@@ -1,8 +1,12 @@
 use Rattle.md_tree.specs.Languages.{IsTreeText, ComesNext, IsReadingTurn}
-use Rattle.std.proofs.Common.{subst}
+use Rattle.std.proofs.Common.{[], subst}
 use Rattle.md_tree.specs.Spellings.{spelling}
-use Rattle.md_tree.proofs.Leaving.{goes_then, stuck_then}
+use Rattle.md_tree.proofs.Spelled.{is_spelling}
+use Rattle.md_tree.proofs.Leaving.{start_goes, goes_then, stuck_then}
 use Rattle.md_tree.proofs.grammar.leaves_at.Goals as goal
+
+pub loop-opens-init : goal.loop-opens-init
+loop-opens-init g c = record { kinds = []; are = c.new-opens.ensures.items; on = start_goes (is_spelling g.met.K.Lettered.laws g.met.P.Paired.laws) _ }
 
 pub loop-opens-preserved : goal.loop-opens-preserved
 loop-opens-preserved g c =

@@ -18,26 +18,26 @@ returns-in_err-high-clause-stuck g c =
     let p = err_from_is_err_and c.from_residual-in_err-high.result c.from_residual-in_err-high.ensures.1 in
     rw (p.1, p.2) (λ ks.
     stuck_then (PairThen sp ks) (ByteThen sp.pairs.between (NumberThen (PairsThen sp ks))) _ _ _ (past_first law ks _ _ c.in_ok-hyphen.ensures.on)
-    (byte_stuck sp.pairs.between (NumberThen (PairsThen sp ks)) (some_high law ks).0 (some_high law ks).1 _ _ c.in_err-high.ensures.stuck c.in_err-high.ensures.other))
+    (byte_stuck sp.pairs.between (NumberThen (PairsThen sp ks)) (some_high law ks).0 (some_high law ks).1 _ _ c.in_err-high.ensures.stuck (rw c.between.ensures at c.in_err-high.ensures.other)))
 
 pub returns-in_err-mark-clause-stuck : goal.returns-in_err-mark-clause-stuck
 returns-in_err-mark-clause-stuck g c =
     let sp = spelling g.K.Lettered.rules g.P.Paired.rules in let law = is_spelling g.met.K.Lettered.laws g.met.P.Paired.laws in
     let p = err_from_is_err_and c.from_residual-in_err-mark.result c.from_residual-in_err-mark.ensures.1 in
     rw (p.1, p.2) (λ ks.
-    stuck_then (PairThen sp ks) (NumberThen (PairsThen sp ks)) _ _ _ (past_between law ks _ _ _ c.in_ok-hyphen.ensures.on c.in_ok-high.ensures.on)
+    stuck_then (PairThen sp ks) (NumberThen (PairsThen sp ks)) _ _ _ (past_between law ks _ _ _ c.in_ok-hyphen.ensures.on (rw c.between.ensures at c.in_ok-high.ensures.on))
     (number_stuck (PairsThen sp ks) (pairs_then_stops law ks) (some_pairs_then law ks).0 (some_pairs_then law ks).1 _ _ c.in_err-mark.ensures.stuck))
 
 pub returns-clause-on : goal.returns-clause-on
 returns-clause-on g c =
     let sp = spelling g.K.Lettered.rules g.P.Paired.rules in let law = is_spelling g.met.K.Lettered.laws g.met.P.Paired.laws in
     IfOk-weaker c.skip_mark.result _ _
-    (λ p h ks. goes_then (PairThen sp ks) (PairsThen sp ks) (PairsGoOn sp p.1 ks) _ _ _ (past_second law ks _ _ _ _ c.in_ok-hyphen.ensures.on c.in_ok-high.ensures.on c.in_ok-mark.ensures.on) (h ks))
+    (λ p h ks. goes_then (PairThen sp ks) (PairsThen sp ks) (PairsGoOn sp p.1 ks) _ _ _ (past_second law ks _ _ _ _ c.in_ok-hyphen.ensures.on (rw c.between.ensures at c.in_ok-high.ensures.on) c.in_ok-mark.ensures.on) (h ks))
     c.skip_mark.ensures.on
 
 pub returns-clause-stuck : goal.returns-clause-stuck
 returns-clause-stuck g c =
     let sp = spelling g.K.Lettered.rules g.P.Paired.rules in let law = is_spelling g.met.K.Lettered.laws g.met.P.Paired.laws in
     IfErr-weaker c.skip_mark.result _ _
-    (λ tail h ks. stuck_then (PairThen sp ks) (PairsThen sp ks) _ _ _ (past_second law ks _ _ _ _ c.in_ok-hyphen.ensures.on c.in_ok-high.ensures.on c.in_ok-mark.ensures.on) (h ks))
+    (λ tail h ks. stuck_then (PairThen sp ks) (PairsThen sp ks) _ _ _ (past_second law ks _ _ _ _ c.in_ok-hyphen.ensures.on (rw c.between.ensures at c.in_ok-high.ensures.on) c.in_ok-mark.ensures.on) (h ks))
     c.skip_mark.ensures.stuck

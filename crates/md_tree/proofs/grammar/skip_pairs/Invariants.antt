@@ -5,7 +5,7 @@ use Rattle.md_tree.proofs.grammar.skip_pairs.Given as goal
 
 abbrev pub invariant-loop-tail : goal.invariant-loop-tail
 invariant-loop-tail g l = record {
-  on : (ks : List g.K.Self) → GoesOn (PairThen (spelling g.K.Lettered.rules g.P.Paired.rules) ks) l.text (PairThen (spelling g.K.Lettered.rules g.P.Paired.rules) ks) l.rest;
+  on : (ks : List g.row.K.Denot) → GoesOn (PairThen (spelling g.K.Lettered.rules g.P.Paired.rules) ks) l.text (PairThen (spelling g.K.Lettered.rules g.P.Paired.rules) ks) l.rest;
   within : length l.rest ≤ length l.text;
 }
 

@@ -14,3 +14,9 @@ returns-in-Ok g c ks are =
       },
       grind (arith, ap length c.in-Ok.ensures.on),
     )
+
+pub returns-in-Ok-skip_end : goal.returns-in-Ok-skip_end
+returns-in-Ok-skip_end g c ks are = (record { kinds = ks; are = are; on = c.in-Ok-skip_end.ensures.on ks }, c.in-Ok-skip_end.ensures.shorter)
+
+pub returns-in-Err : goal.returns-in-Err
+returns-in-Err g c ks are = c.in-Err.ensures.stuck ks

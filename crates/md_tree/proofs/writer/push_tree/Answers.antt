@@ -8,11 +8,11 @@ pub loop-node-preserved : goal.loop-node-preserved
 loop-node-preserved g c =
     let sp = spelling g.K.Lettered.rules g.P.Paired.rules in
     record {
-  begun = begins_on c.loop-node.invariant.begun c.push_some.ensures.begun;
-  written =
-      turn_written sp c.loop-node.text.items c.push_some.new.text.items _ c.loop-node.open.items c.pop.new.self.items c.push_some.new.open.items c.in-Some.node c.in-Some.ensures.items
-      c.loop-node.invariant.written c.in_ok-push_some.ensures.written;
-}
+      begun = begins_on c.loop-node.invariant.begun c.push_some.ensures.begun;
+      written =
+          turn_written sp c.loop-node.text.items c.push_some.new.text.items _ c.loop-node.open.items c.pop.new.self.items c.push_some.new.open.items c.in-Some.node c.in-Some.ensures.items
+          c.loop-node.invariant.written c.in_ok-push_some.ensures.written;
+    }
 
 pub loop-node-smaller : goal.loop-node-smaller
 loop-node-smaller g c =
