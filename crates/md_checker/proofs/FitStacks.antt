@@ -9,9 +9,9 @@ use Rattle.md_modules.specs.Modules.{IsModule}
 use Rattle.md_modules.proofs.Turns.{graph_adjacency}
 use Rattle.md_tree.specs.declared.Kind.{Kind}
 use Rattle.md_tree.specs.declared.Pair.{Pair}
-use Rattle.md_tree.specs.declared.Children.{Children}
-use Rattle.md_tree.specs.declared.QuotientEdges.{QuotientEdges}
-use Rattle.md_tree.specs.declared.Tree.{Tree, Leaf, Node}
+use Rattle.md_tree.specs.declared.ChildrenOf.{ChildrenOf}
+use Rattle.md_tree.specs.declared.PairsOf.{PairsOf}
+use Rattle.md_tree.specs.declared.TreeOf.{TreeOf, Leaf, Node}
 use Rattle.md_tree.specs.Plain.{plain, trees_of}
 use Rattle.md_tree.proofs.Plain.{plain_is_leaf, plain_is_node}
 use Rattle.md_tree.specs.Parts.{PlainPart, name, inner, part_of, parts_of}
@@ -169,10 +169,10 @@ module _ {g : PlainGraph} (graph : IsGraph g) (sets : List NameSet) (list : List
 
 -- ---- the part of a node of the program
 
-pub leaf_part_is : (t : Tree) (v : ℕ) → t ≡ Leaf v → part_of (plain t) ≡ name v
+pub leaf_part_is : (t : TreeOf Kind Pair) (v : ℕ) → t ≡ Leaf v → part_of (plain t) ≡ name v
 leaf_part_is t v is = ap part_of (plain_is_leaf t v is)
 
-pub node_part_is : (t : Tree) (k : Kind) (cs : Children) (es : QuotientEdges) (n : ℕ) (ps : List Pair) → t ≡ Node k cs es → n ≡ length (trees_of cs) → ps ≡ es.list.items → part_of (plain t) ≡ inner k n ps
+pub node_part_is : (t : TreeOf Kind Pair) (k : Kind) (cs : ChildrenOf Kind Pair) (es : PairsOf Pair) (n : ℕ) (ps : List Pair) → t ≡ Node k cs es → n ≡ length (trees_of cs) → ps ≡ es.list.items → part_of (plain t) ≡ inner k n ps
 node_part_is t k cs es n ps is size listed =
     ap part_of (plain_is_node t k cs es is) ∙ ap₂ (inner k) (count_row (map plain (trees_of cs)) ∙ length-map (trees_of cs) plain ∙ sym size) (sym listed)
 
