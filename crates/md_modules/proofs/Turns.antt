@@ -15,7 +15,7 @@ use Rattle.md_modules.specs.Seen.{seen_as}
 use Rattle.std.proofs.lemmas.Bool.{cases_Bool, true_from_ne_false, false_from_ne_true, not-true, not-false}
 use Rattle.md_graph.proofs.SetLemmas.{clash, empty_lacks, insert_new, insert_old, of_insert, meet_has, of_meet, union_left, union_right, of_union, only_has, of_only, minus_has, of_minus, same_members, Has-along, remove_is, none_lacks, empty_if, if_empty, lacks_along, along_two, remove_insert, remove_left, remove_gone, of_remove, insert_lacks, minus_shared, meet_unshared, minus_twice, only_new, told_value, value_told}
 use Rattle.md_graph.proofs.Search.{alike_unless}
-use Rattle.md_modules.proofs.Modules.{single_module}
+use Rattle.md_modules.proofs.Modules.{undirected, single_module}
 use Rattle.md_modules.proofs.Components.{component_unsplit, unsplit_component}
 use Rattle.md_modules.proofs.Growth.{IsGrowing, IsGoingBack, IsBackFrom, reach_start, reach_turn, reach_idle, reach_back, reach_end, grow_start, grow_turn, grow_end, back_start, back_turn, back_end, least_of_two}
 
@@ -304,7 +304,7 @@ module _ {e : ℕ → ℕ → Bool} where
     whole_is s left v x part is = (
       λ none split.
           let all : difference s left ≡ s = same_members _ _ (λ y h. (of_minus s left y h).0) (λ y h. minus_has s left y h (empty_if left none y)) in
-          component_unsplit adj s s v x (component_along s (difference s left) s v x (sym all) is) split.0 split.1,
+          component_unsplit (undirected adj) s s v x refl (component_along s (difference s left) s v x (sym all) is) split.0 split.1,
       λ no_split. if_empty left (λ y. false_from_ne_true _ (λ h.
           let all : difference s left ≡ s = unsplit_component s (difference s left) v x (λ a split. no_split (a, split)) is in
           clash h (of_minus s left y (Has-along _ _ (sym all) y (part y h))).1)),
