@@ -1,9 +1,9 @@
 pub mod Loops
 pub mod Nodes
 pub mod Built
-pub mod Unique
+pub mod Kinded
 pub mod Pairs
-pub mod Exists
+pub mod GraphKinds
 pub mod Canonical
 pub mod Graph
 pub mod OneTree

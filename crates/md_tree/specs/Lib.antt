@@ -1,6 +1,7 @@
 pub mod Trees
 pub mod Plain
 pub mod StrongTrees
+pub mod NodeKinds
 pub mod WellFormed
 pub mod NoPrimes
 pub mod TreeGraph

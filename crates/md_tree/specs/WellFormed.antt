@@ -7,21 +7,21 @@ use Rattle.md_graph.specs.NameSet.{AllBelow}
 use Rattle.md_tree.specs.declared.Kind.{Kind}
 use Rattle.md_tree.specs.declared.Kind.TheVariants.{Parallel, Series, Prime}
 use Rattle.md_tree.specs.declared.Pair.{Pair}
-use Rattle.md_tree.specs.Trees.{PlainTree, leaf, node, PlainTrees, no_tree, one_more, names, names_below, count, EachNode, EachNodeBelow}
+use Rattle.md_tree.specs.Trees.{PlainTreeOf, PlainTreesOf, PlainTree, leaf, node, PlainTrees, no_tree, one_more, names, names_below, count, EachNode, EachNodeBelow}
 use Rattle.md_tree.specs.StrongTrees.{IsInOrder, IsPairBefore}
 
 -- the tree is a node of kind k
-abbrev pub IsOfKind : PlainTree → Kind → Type 0
+abbrev pub IsOfKind : {K P : Type 0} → PlainTreeOf K P → K → Type 0
 IsOfKind (leaf v) k = ⊥
 IsOfKind (node l cs ps) k = l ≡ k
 
 -- none of the trees is a node of kind k
-abbrev pub NoneOfKind : PlainTrees → Kind → Type 0
+abbrev pub NoneOfKind : {K P : Type 0} → PlainTreesOf K P → K → Type 0
 NoneOfKind no_tree k = ⊤
 NoneOfKind (one_more t ts) k = (¬ (IsOfKind t k)) × NoneOfKind ts k
 
 -- no two of the trees have a name in common
-abbrev pub AreDisjoint : PlainTrees → Type 0
+abbrev pub AreDisjoint : {K P : Type 0} → PlainTreesOf K P → Type 0
 AreDisjoint no_tree = ⊤
 AreDisjoint (one_more t ts) = Disjoint (names t) (names_below ts) × AreDisjoint ts
 
