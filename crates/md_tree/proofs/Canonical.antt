@@ -10,9 +10,12 @@ use Rattle.md_modules.specs.Quotients.{IsQuotient}
 use Rattle.md_modules.specs.Laws.{MaximalModules}
 use Rattle.std.proofs.lemmas.Bool.{cases_Bool, false_from_ne_true}
 use Rattle.md_graph.proofs.SetLemmas.{clash, only_has, of_only, empty_lacks, Has-along, same_members, union_left, union_right, of_union, meet_has, of_meet, minus_has, of_minus}
-use Rattle.md_graph.proofs.Search.{decide_has_some, len_within, len_union, len_single}
+use Rattle.md_graph.proofs.Search.{decide_test, decide_has_some, len_within, len_union, len_single}
 use Rattle.md_modules.proofs.Strong.{whole_strong, strong_of_strong, children_meet, child_leaves, strong_descends}
-use Rattle.md_modules.proofs.Children.{child_unsplit, child_maximal}
+use Rattle.md_modules.proofs.Modules.{undirected}
+use Rattle.md_modules.proofs.Splits.{child_unsplit}
+use Rattle.md_modules.proofs.Components.{prime_unsplit}
+use Rattle.md_modules.proofs.Children.{child_maximal}
 use Rattle.md_modules.proofs.Quotients.{maximal_modules_proof}
 use Rattle.md_tree.specs.declared.Kind.{Kind}
 use Rattle.md_tree.specs.declared.Kind.TheVariants.{Parallel, Series, Prime}
@@ -54,7 +57,7 @@ module _ (e : ℕ → ℕ → Bool) where
     to_sets (leaf v) each m st =
         let x : HasSome m = st.is_module.some in
         inl (same_members m (only_name v) st.is_module.inside (λ y h. subst (Has m) (of_only v x.0 (st.is_module.inside x.0 x.1) ∙ sym (of_only v y h)) x.1))
-    to_sets (node k cs ps) each m st = elim (strong_descends (names_below cs) m st) [
+    to_sets (node k cs ps) each m st = elim (strong_descends decide_test (names_below cs) m st) [
       | inl same ↦ inl same
       | inr below ↦ inr (let d : IsChildSet cs below.0 = (each.0.children below.0).0 below.1 in to_sets_below cs each.1 m d.0 d.1 (subst (λ w. IsStrong e w m) d.2 below.2))
     ]
@@ -182,12 +185,12 @@ module _ (e : ℕ → ℕ → Bool) (adj : IsAdjacency e) where
   four_children : (cs : PlainTrees) (ps : List Pair) → IsBuilt e Prime cs ps → 4 ≤ count cs
   four_children cs ps built =
       let prime : IsPrime e (names_below cs) = built.node_of.kind in
-      let laws : MaximalModules e (names_below cs) = maximal_modules_proof e adj (names_below cs) prime in
+      let laws : MaximalModules e (names_below cs) 4 = maximal_modules_proof e adj (names_below cs) prime in
       let r : (r : NameSet) × IsQuotient e (names_below cs) r = laws.quotient in
-      let a : 4 ≤ len r.0 = laws.four r.0 r.1 in
+      let a : 4 ≤ len r.0 = laws.many r.0 r.1 in
       let b : len r.0 ≤ count cs = few_names cs r.0 r.1.inside (λ c i x y hx hy p q.
       let z : (z : ℕ) × Has (names c) z × Has r.0 z × ((w : ℕ) → Has (names c) w → Has r.0 w → w ≡ z) =
-      r.1.one (names c) (child_maximal adj (names_below cs) (names c) prime (children_maximal e Prime cs ps built c i)) in
+      r.1.one (names c) (child_maximal (undirected adj) decide_test (names_below cs) (names c) (prime_unsplit (names_below cs) prime) (children_maximal e Prime cs ps built c i)) in
       z.3 x hx p ∙ sym (z.3 y hy q)) in
       omega arith
 
@@ -220,7 +223,7 @@ module _ (e : ℕ → ℕ → Bool) (adj : IsAdjacency e) where
         other_kinds = none_of_kind k cs each (λ c i h.
             let whole : (part : NameSet) × IsSplit e (names_below cs) part v = splits (names_below cs) built.node_of.kind in
             let inner : (part : NameSet) × IsSplit e (names c) part v = splits (names c) h in
-            child_unsplit adj (names_below cs) (names c) whole.0 v whole.1 (children_maximal e k cs ps built c i) inner.0 inner.1);
+            child_unsplit (undirected adj) decide_test (names_below cs) (names c) whole.0 v whole.1 (children_maximal e k cs ps built c i) inner.0 inner.1);
         no_pairs = none;
       }
 

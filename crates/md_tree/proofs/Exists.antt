@@ -139,7 +139,7 @@ module _ {e : ℕ → ℕ → Bool} where
       | inr none ↦ (no_tree, row_none rest none)
       | inl some ↦
           let z : (z : ℕ) × Has rest z × ((y : ℕ) → Has rest y → z ≤ y) = first_member rest some.0 some.1 in
-          let c : (c : NameSet) × IsMaximalStrong e s c × Has c z.0 = child_of s z.0 two (w z.0 z.1) in
+          let c : (c : NameSet) × IsMaximalStrong e s c × Has c z.0 = child_of decide_test s z.0 two (w z.0 z.1) in
           let inside : Within c.0 rest = whole c.0 c.1 z.0 c.2 z.1 in
           let less : len (difference rest c.0) < len rest =
           len_proper (difference rest c.0) rest z.0 (λ x h. (of_minus rest c.0 x h).0) z.1 (minus_lacks rest c.0 z.0 c.2) in

@@ -9,7 +9,10 @@ use Rattle.md_modules.specs.Laws.{MaximalModules}
 use Rattle.std.proofs.lemmas.Bool.{cases_Bool, false_from_ne_true}
 use Rattle.std.specs.Cmp.{both_ways}
 use Rattle.md_graph.proofs.SetLemmas.{clash, of_only, empty_lacks, Has-along, union_left, union_right, of_union, ascending_or_not}
-use Rattle.md_modules.proofs.Children.{child_component, child_maximal}
+use Rattle.md_graph.proofs.Search.{decide_test}
+use Rattle.md_modules.proofs.Modules.{undirected}
+use Rattle.md_modules.proofs.Components.{child_component, prime_unsplit}
+use Rattle.md_modules.proofs.Children.{child_maximal}
 use Rattle.md_modules.proofs.Quotients.{maximal_modules_proof}
 use Rattle.md_modules.proofs.Strong.{larger_than_single}
 use Rattle.md_modules.proofs.Paths.{no_path_proof}
@@ -104,7 +107,7 @@ module _ (e : ℕ → ℕ → Bool) (adj : IsAdjacency e) where
     across_split : (part : NameSet) (v : Bool) → IsSplit e s part v → (a b : ℕ) → Has s a → Has s b → position_of cs a ≢ position_of cs b → e a b ≡ v
     across_split part v split a b ha hb differ =
         let c : (c : PlainTree) × IsChild cs c × Has (names c) a × (names_at cs (position_of cs a) ≡ names c) = child_with a ha in
-        (child_component adj s (names c.0) part v a split (children_maximal e k cs ps built c.0 c.1) c.2).closed.across a b c.2 hb (lacks_other a b c.0 c.3 differ)
+        (child_component (undirected adj) decide_test s (names c.0) part v a refl split (children_maximal e k cs ps built c.0 c.1) c.2).closed.across a b c.2 hb (lacks_other a b c.0 c.3 differ)
 
     listed : IsPrime e s → ListsJoined e cs ps → (a b : ℕ) → Has s a → Has s b → position_of cs a < position_of cs b →
         lists_pair ps (position_of cs a) (position_of cs b) ≡ e a b
@@ -121,10 +124,10 @@ module _ (e : ℕ → ℕ → Bool) (adj : IsAdjacency e) where
           (lists.exactly (pair (position_of cs a) (position_of cs b))).0 (to_contains ps (pair (position_of cs a) (position_of cs b)) (of_lists ps (position_of cs a) (position_of cs b) h)) in
           let c : (c : PlainTree) × IsChild cs c × Has (names c) a × (names_at cs (position_of cs a) ≡ names c) = child_with a ha in
           let d : (c : PlainTree) × IsChild cs c × Has (names c) b × (names_at cs (position_of cs b) ≡ names c) = child_with b hb in
-          let laws : MaximalModules e s = maximal_modules_proof e adj s prime in
+          let laws : MaximalModules e s 4 = maximal_modules_proof e adj s prime in
           laws.alike (names c.0) (names d.0) a b is.edge.0 is.edge.1
-          (child_maximal adj s (names c.0) prime (children_maximal e k cs ps built c.0 c.1))
-          (child_maximal adj s (names d.0) prime (children_maximal e k cs ps built d.0 d.1))
+          (child_maximal (undirected adj) decide_test s (names c.0) (prime_unsplit s prime) (children_maximal e k cs ps built c.0 c.1))
+          (child_maximal (undirected adj) decide_test s (names d.0) (prime_unsplit s prime) (children_maximal e k cs ps built d.0 d.1))
           (λ same. clash (Has-along (names d.0) (names c.0) (sym same) b d.2) (lacks_other a b c.0 c.3 (λ p. omega arith)))
           c.2 (Has-along (names_at cs (position_of cs a)) (names c.0) c.3 is.edge.0 is.edge.2)
           d.2 (Has-along (names_at cs (position_of cs b)) (names d.0) d.3 is.edge.1 is.edge.3) ∙ is.edge.4
