@@ -1,6 +1,5 @@
 -- Classes that are cut until they are modules.
 use Rattle.std.proofs.Common.{◌≡◌, ℕ, ◌+◌, ◌<◌, ◌≤◌, ◌≢◌, ◌⊎◌, Bool, true, false, List, [], ◌∷◌, length, refl, sym, ◌∙◌, ap, ap₂, subst, inl, inr, arith}
-use Rattle.md_graph.proofs.Search.{alike_unless}
 use Rattle.md_modules.specs.Colours.{AreTold}
 use Rattle.md_modules.proofs.Modules.{alike_or_told}
 use Rattle.std.specs.FinSet.{contains, union, intersection, difference}
@@ -12,7 +11,8 @@ use Rattle.md_modules.specs.Modules.{IsModule}
 use Rattle.std.proofs.lemmas.Bool.{cases_Bool, true_from_ne_false, false_from_ne_true}
 use Rattle.md_graph.proofs.SetLemmas.{clash, same_name, of_only, Has-along, meet_has, of_meet, minus_has, of_minus, minus_lacks, union_left, union_right, of_union, union_lacks, lacks_within, none_lacks}
 use Rattle.md_graph.proofs.BitWords.{from_both}
-use Rattle.md_modules.proofs.Turns.{ToldApart, told_all}
+use Rattle.md_modules.proofs.Growth.{TakesUnless}
+use Rattle.md_modules.proofs.Turns.{told_all}
 use Rattle.md_modules.specs.Classes.{class_at}
 use Rattle.md_modules.specs.Classes.{IsSplitter, HoldsSplitters, IsSideOf, IsPartition, HoldsModules, AreMaximalInside}
 use Rattle.md_modules.proofs.ClassLists.{at_known, at_one, in_one, IsCutAt, place_of}
@@ -20,9 +20,9 @@ use Rattle.md_modules.proofs.ClassLists.{at_known, at_one, in_one, IsCutAt, plac
 -- ---- splitters
 
 module _ {g : PlainGraph} (graph : IsGraph g) where
-  apart : (a x : ℕ) (first second out : NameSet) → first ≡ neighbours g a → second ≡ neighbours g x → ToldApart graph a x out (intersection out (symmetric_difference first second))
+  apart : (a x : ℕ) (first second out : NameSet) → first ≡ neighbours g a → second ≡ neighbours g x → TakesUnless (λ y. adjacent g a y ≡ adjacent g x y) out (intersection out (symmetric_difference first second))
   apart a x first second out is_first is_second =
-      subst (ToldApart graph a x out) (ap₂ (λ s t. intersection out (symmetric_difference s t)) (sym is_first) (sym is_second)) (told_all graph a x out)
+      subst (TakesUnless (λ y. adjacent g a y ≡ adjacent g x y) out) (ap₂ (λ s t. intersection out (symmetric_difference s t)) (sym is_first) (sym is_second)) (told_all graph a x out)
 
   pub splitter_found : (c first second left : NameSet) (a x p : ℕ) → Has c a → Has c x → Disjoint c left → first ≡ neighbours g a → second ≡ neighbours g x →
       IsLeastFrom (intersection left (symmetric_difference first second)) 0 p → IsSplitter (adjacent g) left c p
@@ -37,7 +37,7 @@ module _ {g : PlainGraph} (graph : IsGraph g) where
   pub splitter_none : (first second out : NameSet) (a x : ℕ) → first ≡ neighbours g a → second ≡ neighbours g x →
       NoneFrom (intersection out (symmetric_difference first second)) 0 → (y : ℕ) → Has out y → adjacent g a y ≡ adjacent g x y
   splitter_none first second out a x is_first is_second none y h =
-      alike_unless (adjacent g a y) (adjacent g x y) (λ differ. clash ((apart a x first second out is_first is_second).0 y h differ) (none_lacks _ none y))
+      (apart a x first second out is_first is_second).0 y h (none_lacks _ none y)
 
   -- where all members of a class see the names left alike
   pub no_splitter : (c left : NameSet) (first : ℕ) → ((w : ℕ) → Has c w → (y : ℕ) → Has left y → adjacent g first y ≡ adjacent g w y) → (p : ℕ) → IsSplitter (adjacent g) left c p → ⊥
