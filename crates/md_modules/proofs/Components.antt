@@ -1,7 +1,7 @@
 -- Components: the least segments of a colour that is its own reverse, as both colours of a graph are. And the kinds of the sets of a graph.
-use Rattle.std.proofs.Common.{◌≡◌, ℕ, Bool, true, false, not, ◌≢◌, ◌⊎◌, refl, sym, subst, inl, inr}
-use Rattle.std.specs.FinSet.{retain, intersection}
-use Rattle.md_graph.specs.Sets.{NameSet, Has, Lacks, HasTwo}
+use Rattle.std.proofs.Common.{◌≡◌, ℕ, Bool, true, false, not, ◌⊎◌, refl, sym, subst, inl, inr}
+use Rattle.std.specs.FinSet.{retain}
+use Rattle.md_graph.specs.Sets.{NameSet, Has, HasTwo}
 use Rattle.md_modules.specs.Colours.{IsColouring, AreTold}
 use Rattle.md_modules.specs.Modules.{IsStrong, IsMaximalStrong}
 use Rattle.md_modules.specs.Kinds.{IsSplit, IsParallel, IsSeries, IsPrime, IsUnsplit}

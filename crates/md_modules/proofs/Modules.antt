@@ -27,6 +27,10 @@ undirected adj = record { reversed = λ a b. adj.symmetric b a }
 pub other_way : {C : Type 0} {reverse : C → C} {e : ℕ → ℕ → C} → IsColouring reverse e → (a b c d : ℕ) → e a b ≡ e c d → e b a ≡ e d c
 other_way {reverse = reverse} col a b c d same = col.reversed a b ∙ ap reverse same ∙ sym (col.reversed c d)
 
+-- colours that aren't different are equal
+pub alike_or_told : {C : Type 0} → AreTold C → (a b : C) → (a ≢ b → ⊥) → a ≡ b
+alike_or_told told a b none = elim (told a b) [ inl same ↦ same | inr differ ↦ absurd (none differ) ]
+
 module _ {C : Type 0} {e : ℕ → ℕ → C} where
   -- the whole set
   pub whole_module : (s : NameSet) → HasSome s → IsModule e s s

@@ -1,18 +1,18 @@
 -- Partitions into modules and their quotients; the maximal proper modules of a set that doesn't split, for any colours.
-use Rattle.std.proofs.Common.{◌≡◌, ℕ, ◌+◌, ◌<◌, ◌≤◌, Bool, true, false, nat_eq, ◌≢◌, ◌⊎◌, refl, sym, ◌∙◌, ap, subst, inl, inr, arith, eqb-true, eq-eqb}
-use Rattle.std.specs.FinSet.{contains, insert, remove, retain, difference, len}
+use Rattle.std.proofs.Common.{◌≡◌, ℕ, ◌+◌, ◌<◌, ◌≤◌, Bool, true, nat_eq, ◌≢◌, ◌⊎◌, refl, sym, ◌∙◌, ap, subst, inl, inr, arith, eqb-true, eq-eqb}
+use Rattle.std.specs.FinSet.{contains, remove, retain, len}
 use Rattle.md_graph.specs.Sets.{NameSet, Has, Lacks, Within, Disjoint, HasSome, HasTwo, only_name}
 use Rattle.md_graph.specs.Adjacency.{IsAdjacency}
 use Rattle.md_modules.specs.Colours.{IsColouring, AreTold}
-use Rattle.md_modules.specs.Modules.{IsModule, IsMaximalModule, IsMaximalStrong, HasTrivialModulesAlone}
+use Rattle.md_modules.specs.Modules.{IsModule, IsMaximalModule, HasTrivialModulesAlone}
 use Rattle.md_modules.specs.Kinds.{IsSplit, IsPrime, IsUnsplit}
 use Rattle.md_modules.specs.Quotients.{IsQuotient, IsModularPartition, class}
 use Rattle.md_modules.specs.InducedPaths.{IsInducedPath, HasInducedPath}
 use Rattle.md_modules.specs.Laws.{MaximalModules, PrimeHasMaximalModules, UnsplitHasMaximalModules}
-use Rattle.std.proofs.lemmas.Bool.{cases_Bool, false_from_ne_true}
+use Rattle.std.proofs.lemmas.Bool.{false_from_ne_true}
 use Rattle.std.proofs.Math.Nat.{ne_of_lt}
-use Rattle.md_graph.proofs.SetLemmas.{clash, same_name, Has-along, same_members, insert_new, insert_old, remove_gone, remove_left, of_remove, retain_has, of_retain, retain_lacks, of_retain_lacks, minus_has, of_minus}
-use Rattle.md_graph.proofs.Search.{Decided, decide_test, decide_both, decide_not, decide_if, decide_same, decide_like, decide_below, decide_some, decide_some_set, decide_all, test_of, test_holds, of_test, larger_or_same, choose, len_single, other_or_alone, two_of_len, len_fewer, len_one_more, len_within, len_four, some_len, first_member}
+use Rattle.md_graph.proofs.SetLemmas.{clash, same_name, Has-along, same_members, remove_gone, remove_left, of_remove, retain_has, of_retain, retain_lacks, of_retain_lacks}
+use Rattle.md_graph.proofs.Search.{Decided, decide_test, decide_both, decide_not, decide_if, decide_same, decide_like, decide_below, decide_some, decide_some_set, decide_all, test_of, test_holds, of_test, larger_or_same, choose, len_single, other_or_alone, two_of_len, len_fewer, len_four, some_len, first_member}
 use Rattle.md_modules.proofs.Modules.{undirected, across_modules, least_module, decide_maximal}
 use Rattle.md_modules.proofs.Splits.{pair_splits}
 use Rattle.md_modules.proofs.Components.{prime_unsplit, unsplit_prime}

@@ -9,7 +9,7 @@ use Rattle.md_modules.specs.Components.{IsClosed, IsComponent}
 use Rattle.md_modules.specs.Segments.{IsSegment, IsLeastSegment}
 use Rattle.md_modules.specs.Laws.{SplitChildren, SplitsHaveOneColour, ChildrenOfSplit}
 use Rattle.std.proofs.lemmas.Bool.{cases_Bool, true_from_ne_false, false_from_ne_true}
-use Rattle.md_graph.proofs.SetLemmas.{clash, only_has, of_only, only_lacks, remove_left, Within-refl, Within-trans, Has-along, lacks_along, same_members, meet_has, of_meet, of_meet_lacks, union_left, union_right, of_union, of_union_lacks, minus_has, of_minus, of_minus_lacks, minus_lacks}
+use Rattle.md_graph.proofs.SetLemmas.{clash, only_has, of_only, only_lacks, remove_left, Within-refl, Within-trans, Has-along, lacks_along, same_members, meet_has, of_meet, of_meet_lacks, union_left, of_union, of_union_lacks, minus_has, of_minus, of_minus_lacks, minus_lacks}
 use Rattle.md_graph.proofs.Search.{Decided, decide_test, decide_both, decide_if, decide_like, decide_some, decide_all, decide_some_set, decide_within, decide_has_some, outside_or_within, smallest, least}
 use Rattle.md_modules.proofs.Modules.{other_way, meet_module}
 use Rattle.md_modules.proofs.Strong.{nested_if_meet}
