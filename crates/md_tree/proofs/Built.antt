@@ -93,8 +93,9 @@ module _ {K P C : Type 0} {N : K → PlainTreesOf K P → List P → Type 0} {e 
   pub children_maximal : (k : K) (cs : PlainTreesOf K P) (ps : List P) → IsBuiltBy N e k cs ps → (c : PlainTreeOf K P) → IsChild cs c → IsMaximalStrong e (names_below cs) (names c)
   children_maximal k cs ps built c i = (built.children (names c)).1 (c, i, refl)
 
+module _ {K P C : Type 0} (N : K → PlainTreesOf K P → List P → Type 0) {e : ℕ → ℕ → C} where
   mutual
-    pub built_of : (t : PlainTreeOf K P) → IsFitting e t → EachNode N t → EachNode (IsBuiltBy N e) t
+    built_of : (t : PlainTreeOf K P) → IsFitting e t → EachNode N t → EachNode (IsBuiltBy N e) t
     built_of (leaf v) fit each = tt
     built_of (node k cs ps) fit each =
         (record { node_of = each.0; children = has_children k cs ps fit }, built_below cs (child_fits k cs ps fit) each.1)
@@ -103,6 +104,7 @@ module _ {K P C : Type 0} {N : K → PlainTreesOf K P → List P → Type 0} {e 
     built_below no_tree fits each = tt
     built_below (one_more t ts) fits each = (built_of t (fits t (inl refl)) each.0, built_below ts (λ c i. fits c (inr i)) each.1)
 
+module _ {K P C : Type 0} {N : K → PlainTreesOf K P → List P → Type 0} {e : ℕ → ℕ → C} where
   -- the root of the tree of strong modules has all names
   pub tree_names : (s : NameSet) (t : PlainTreeOf K P) → IsTreeBy N e s t → names t ≡ s
   tree_names s t is =
@@ -113,7 +115,7 @@ module _ {K P C : Type 0} {N : K → PlainTreesOf K P → List P → Type 0} {e 
       root = (is.strong (names t)).1 (to_contains (node_sets t) (names t) (own_set t))
 
   pub tree_built : (s : NameSet) (t : PlainTreeOf K P) → IsTreeBy N e s t → EachNode (IsBuiltBy N e) t
-  tree_built s t is = built_of t (record {
+  tree_built s t is = built_of N t (record {
     strong = λ m. (
       (λ st. of_contains (node_sets t) m ((is.strong m).0 (subst (λ w. IsStrong e w m) (tree_names s t is) st))),
       λ i. subst (λ w. IsStrong e w m) (sym (tree_names s t is)) ((is.strong m).1 (to_contains (node_sets t) m i)),
