@@ -24,7 +24,7 @@ use Rattle.md_tree.proofs.Nodes.{IsChild, child_inside, child_of_name}
 use Rattle.md_tree.proofs.Built.{IsBuilt}
 use Rattle.md_tree.proofs.Unique.{one_kind}
 use Rattle.md_tree.proofs.Canonical.{built_tree}
-use Rattle.md_tree.proofs.Graph.{at_position}
+use Rattle.md_tree.proofs.Nodes.{at_position}
 use Rattle.md_tree.proofs.OneTree.{one_tree_proof, no_path_proof}
 use Rattle.md_cotree.specs.Laws.{TreeOfItsGraph, OneTreeOfAGraph, NoPathInItsGraph}
 use Rattle.md_tree.proofs.Edges.{here as first_place, later as later_place}

@@ -19,44 +19,16 @@ use Rattle.md_modules.proofs.Paths.{no_path_proof}
 use Rattle.md_tree.specs.declared.Kind.{Kind}
 use Rattle.md_tree.specs.declared.Kind.TheVariants.{Parallel, Series, Prime}
 use Rattle.md_tree.specs.declared.Pair.{Pair}
-use Rattle.md_tree.specs.Trees.{PlainTreeOf, PlainTreesOf, PlainTree, leaf, node, PlainTrees, no_tree, one_more, names, names_below, names_at, node_sets, node_sets_below, EachNode, EachNodeBelow}
+use Rattle.md_tree.specs.Trees.{PlainTree, leaf, node, PlainTrees, no_tree, one_more, names, names_below, names_at, node_sets, node_sets_below, EachNode, EachNodeBelow}
 use Rattle.md_tree.specs.StrongTrees.{HasKind, AreTreesJoined, ListsJoined, IsNodeOf, IsTreeOf}
 use Rattle.md_tree.specs.WellFormed.{AreDisjoint, HasNoPrimeNode}
 use Rattle.md_tree.specs.TreeGraph.{position_of, lists_pair, joins, adjacent_in, adjacent_below}
 use Rattle.md_text.proofs.Lists.{In, of_append, in_left, in_right, of_contains, to_contains}
-use Rattle.md_tree.proofs.Nodes.{IsChild}
+use Rattle.md_tree.proofs.Nodes.{IsChild, at_position, position_at, child_at}
 use Rattle.md_tree.proofs.Built.{IsBuilt, children_maximal}
 use Rattle.md_tree.proofs.Pairs.{pair}
 use Rattle.md_tree.proofs.Kinded.{apart_of}
 use Rattle.md_tree.proofs.GraphKinds.{graph_kinds}
-
--- a name stands in the tree at its position, and at no other one
-pub at_position : {K P : Type 0} (cs : PlainTreesOf K P) (a : ℕ) → Has (names_below cs) a → Has (names_at cs (position_of cs a)) a
-at_position no_tree a h = clash h (empty_lacks a)
-at_position (one_more t ts) a h = elim (cases_Bool (contains (names t) a)) [
-  | inl i ↦ subst (λ w. Has (names_at (one_more t ts) (cond w 0 (suc (position_of ts a)))) a) (sym i) i
-  | inr l ↦ subst (λ w. Has (names_at (one_more t ts) (cond w 0 (suc (position_of ts a)))) a) (sym l)
-      (at_position ts a (elim (of_union (names t) (names_below ts) a h) [ inl i ↦ clash i l | inr j ↦ j ]))
-]
-
-pub at_inside : {K P : Type 0} (cs : PlainTreesOf K P) (i : ℕ) → Within (names_at cs i) (names_below cs)
-at_inside no_tree i x h = h
-at_inside (one_more t ts) zero x h = union_left (names t) (names_below ts) x h
-at_inside (one_more t ts) (suc i) x h = union_right (names t) (names_below ts) x (at_inside ts i x h)
-
-pub position_at : {K P : Type 0} (cs : PlainTreesOf K P) → AreDisjoint cs → (i x : ℕ) → Has (names_at cs i) x → position_of cs x ≡ i
-position_at no_tree apart i x h = clash h (empty_lacks x)
-position_at (one_more t ts) apart zero x h = ap (λ w. cond w 0 (suc (position_of ts x))) h
-position_at (one_more t ts) apart (suc i) x h =
-    let l : Lacks (names t) x = false_from_ne_true _ (λ k. clash (at_inside ts i x h) (apart.0 x k)) in
-    ap (λ w. cond w 0 (suc (position_of ts x))) l ∙ ap (λ n. suc n) (position_at ts apart.1 i x h)
-
-child_at : {K P : Type 0} (cs : PlainTreesOf K P) (i x : ℕ) → Has (names_at cs i) x → (c : PlainTreeOf K P) × IsChild cs c × (names_at cs i ≡ names c)
-child_at no_tree i x h = clash h (empty_lacks x)
-child_at (one_more t ts) zero x h = (t, inl refl, refl)
-child_at (one_more t ts) (suc i) x h =
-    let c : (c : PlainTreeOf _ _) × IsChild ts c × (names_at ts i ≡ names c) = child_at ts i x h in
-    (c.0, inr c.1, c.2)
 
 -- the test of a list of pairs
 same_numbers : (p : Pair) (i j : ℕ) → (eqb p.low i && eqb p.high j) ≡ true → pair i j ≡ p

@@ -89,12 +89,20 @@ next_least : (e : ℕ → ℕ → Bool) (s rest : NameSet) → HasTwo s → IsLe
     (c : NameSet) × IsMaximalStrong e s c × Within c rest × IsBefore c (difference rest c)
 next_least e s rest two is some =
     let z : (z : ℕ) × Has rest z × ((y : ℕ) → Has rest y → z ≤ y) = first_member rest some.0 some.1 in
-    let c : (c : NameSet) × IsMaximalStrong e s c × Has c z.0 = child_of decide_test s z.0 two (is.inside z.0 z.1) in
-    (c.0, c.1, is.whole c.0 c.1 z.0 c.2 z.1, (z.0, c.2, λ y h.
-    let k = of_minus rest c.0 y h in
-    let a : z.0 ≤ y = z.2 y k.0 in
-    let b : z.0 ≢ y = λ same. clash (subst (Has c.0) same c.2) k.1 in
-    omega arith))
+    let c : (c : NameSet) × IsMaximalStrong e s c × Has c z.0 = child_of decide_test s z.0 two (is.inside z.0 z.1) in (
+      c.0,
+      c.1,
+      is.whole c.0 c.1 z.0 c.2 z.1,
+      (
+        z.0,
+        c.2,
+        λ y h.
+            let k = of_minus rest c.0 y h in
+            let a : z.0 ≤ y = z.2 y k.0 in
+            let b : z.0 ≢ y = λ same. clash (subst (Has c.0) same c.2) k.1 in
+            omega arith,
+      ),
+    )
 
 not_both_before_other : (a b : NameSet) → IsBefore a b → IsBefore b a → ⊥
 not_both_before_other a b p q =

@@ -7,6 +7,8 @@ pub mod GraphKinds
 pub mod Canonical
 pub mod Graph
 pub mod OneTree
+pub mod Heads
+pub mod Fitted
 pub mod Texts
 pub mod Plain
 pub mod Written

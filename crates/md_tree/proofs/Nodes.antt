@@ -1,7 +1,11 @@
 -- The nodes of a tree: their leaf sets, and the children of a node.
-use Rattle.std.proofs.Common.{◌≡◌, ◌≢◌, ℕ, zero, suc, ◌<◌, ◌⊎◌, refl, sym, ◌∙◌, ap, subst, inl, inr, arith}
-use Rattle.md_graph.specs.Sets.{NameSet, Has, Within, only_name}
-use Rattle.md_graph.proofs.SetLemmas.{clash, of_only, empty_lacks, union_left, union_right, of_union}
+use Rattle.std.proofs.Common.{◌≡◌, ◌≢◌, ℕ, zero, suc, cond, ◌<◌, ◌⊎◌, refl, sym, ◌∙◌, ap, subst, inl, inr, arith}
+use Rattle.md_graph.specs.Sets.{NameSet, Has, Lacks, Within, Disjoint, only_name}
+use Rattle.md_graph.proofs.SetLemmas.{clash, of_only, empty_lacks, Has-along, union_left, union_right, of_union}
+use Rattle.std.specs.FinSet.{contains}
+use Rattle.std.proofs.lemmas.Bool.{cases_Bool, false_from_ne_true}
+use Rattle.md_tree.specs.WellFormed.{AreDisjoint}
+use Rattle.md_tree.specs.TreeGraph.{position_of}
 use Rattle.md_tree.specs.Trees.{PlainTreeOf, leaf, node, PlainTreesOf, no_tree, one_more, names, names_below, names_at, node_sets, node_sets_below, count}
 use Rattle.md_text.proofs.Lists.{In, Later, in_left, in_right, of_append, later_left, later_right, later_across}
 
@@ -95,3 +99,38 @@ position_below (one_more t ts) zero x h = let b : 0 < suc (count ts) = omega ari
 position_below (one_more t ts) (suc i) x h =
     let a : i < count ts = position_below ts i x h in
     let b : suc i < suc (count ts) = omega arith in b
+
+-- a name stands in the tree at its position, and at no other one
+pub at_position : {K P : Type 0} (cs : PlainTreesOf K P) (a : ℕ) → Has (names_below cs) a → Has (names_at cs (position_of cs a)) a
+at_position no_tree a h = clash h (empty_lacks a)
+at_position (one_more t ts) a h = elim (cases_Bool (contains (names t) a)) [
+  | inl i ↦ subst (λ w. Has (names_at (one_more t ts) (cond w 0 (suc (position_of ts a)))) a) (sym i) i
+  | inr l ↦ subst (λ w. Has (names_at (one_more t ts) (cond w 0 (suc (position_of ts a)))) a) (sym l)
+      (at_position ts a (elim (of_union (names t) (names_below ts) a h) [ inl i ↦ clash i l | inr j ↦ j ]))
+]
+
+pub at_inside : {K P : Type 0} (cs : PlainTreesOf K P) (i : ℕ) → Within (names_at cs i) (names_below cs)
+at_inside no_tree i x h = h
+at_inside (one_more t ts) zero x h = union_left (names t) (names_below ts) x h
+at_inside (one_more t ts) (suc i) x h = union_right (names t) (names_below ts) x (at_inside ts i x h)
+
+pub position_at : {K P : Type 0} (cs : PlainTreesOf K P) → AreDisjoint cs → (i x : ℕ) → Has (names_at cs i) x → position_of cs x ≡ i
+position_at no_tree apart i x h = clash h (empty_lacks x)
+position_at (one_more t ts) apart zero x h = ap (λ w. cond w 0 (suc (position_of ts x))) h
+position_at (one_more t ts) apart (suc i) x h =
+    let l : Lacks (names t) x = false_from_ne_true _ (λ k. clash (at_inside ts i x h) (apart.0 x k)) in
+    ap (λ w. cond w 0 (suc (position_of ts x))) l ∙ ap (λ n. suc n) (position_at ts apart.1 i x h)
+
+pub child_at : {K P : Type 0} (cs : PlainTreesOf K P) (i x : ℕ) → Has (names_at cs i) x → (c : PlainTreeOf K P) × IsChild cs c × (names_at cs i ≡ names c)
+child_at no_tree i x h = clash h (empty_lacks x)
+child_at (one_more t ts) zero x h = (t, inl refl, refl)
+child_at (one_more t ts) (suc i) x h =
+    let c : (c : PlainTreeOf _ _) × IsChild ts c × (names_at ts i ≡ names c) = child_at ts i x h in
+    (c.0, inr c.1, c.2)
+
+-- trees at two positions have no name in common
+pub at_apart : {K P : Type 0} (cs : PlainTreesOf K P) → AreDisjoint cs → (i j : ℕ) → i < j → (a b : NameSet) → names_at cs i ≡ a → names_at cs j ≡ b → Disjoint a b
+at_apart cs apart i j less a b p q x h = false_from_ne_true _ (λ k.
+    let m : position_of cs x ≡ i = position_at cs apart i x (Has-along a (names_at cs i) (sym p) x h) in
+    let n : position_of cs x ≡ j = position_at cs apart j x (Has-along b (names_at cs j) (sym q) x k) in
+    omega arith)

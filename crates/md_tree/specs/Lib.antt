@@ -3,6 +3,7 @@ pub mod Plain
 pub mod StrongTrees
 pub mod NodeKinds
 pub mod WellFormed
+pub mod Heads
 pub mod NoPrimes
 pub mod TreeGraph
 pub mod TreeEdges
