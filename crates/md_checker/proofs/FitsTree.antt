@@ -7,8 +7,9 @@ use Rattle.md_graph.specs.Adjacency.{IsAdjacency}
 use Rattle.md_modules.specs.Modules.{IsModule, IsMaximalModule}
 use Rattle.md_modules.specs.Kinds.{IsPrime}
 use Rattle.md_modules.specs.Quotients.{IsQuotient}
-use Rattle.md_modules.proofs.Modules.{whole_module, single_module, module_of_module}
+use Rattle.md_modules.proofs.Modules.{undirected, whole_module, single_module, module_of_module}
 use Rattle.md_modules.proofs.Strong.{larger_than_single}
+use Rattle.md_modules.proofs.Components.{prime_unsplit}
 use Rattle.md_modules.proofs.Children.{maximal_child}
 use Rattle.md_modules.proofs.Quotients.{maximal_modules_proof}
 use Rattle.md_tree.specs.declared.Kind.{Kind}
@@ -55,7 +56,7 @@ module _ {e : ℕ → ℕ → Bool} (adj : IsAdjacency e) (s : NameSet) where
 
       one_head : (n : NameSet) → IsMaximalModule e (names_below cs) n → (x : ℕ) × Has n x × Has (heads cs) x × ((y : ℕ) → Has n y → Has (heads cs) y → y ≡ x)
       one_head n max =
-          let c : IsChildSet cs n = (built.children n).0 (maximal_child adj (names_below cs) n prime max) in (
+          let c : IsChildSet cs n = (built.children n).0 (maximal_child (undirected adj) (names_below cs) n (prime_unsplit (names_below cs) prime) max) in (
             head c.0,
             Has-along (names c.0) n (sym c.2) (head c.0) (own c.0 c.1),
             head_of_child cs c.0 c.1,

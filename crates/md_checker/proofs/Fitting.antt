@@ -1,5 +1,5 @@
 -- A node that fits a graph is a node of its tree of strong modules, where its children are.
-use Rattle.std.proofs.Common.{◌≡◌, ◌≢◌, ℕ, ◌+◌, ◌<◌, ◌≤◌, ◌⊎◌, Bool, true, false, not, max, List, sym, ◌∙◌, ap, subst, inl, inr, arith}
+use Rattle.std.proofs.Common.{◌≡◌, ◌≢◌, ℕ, ◌+◌, ◌<◌, ◌≤◌, ◌⊎◌, Bool, true, false, max, List, refl, sym, ◌∙◌, ap, subst, inl, inr, arith}
 use Rattle.std.proofs.lemmas.Bool.{cases_Bool, false_from_ne_true}
 use Rattle.std.specs.FinSet.{contains, insert, difference, len}
 use Rattle.md_graph.specs.Sets.{NameSet, Has, Lacks, Within, HasTwo, only_name}
@@ -10,10 +10,11 @@ use Rattle.md_modules.specs.Modules.{IsModule, IsMaximalModule, IsMaximalStrong}
 use Rattle.md_modules.specs.Kinds.{IsSplit, IsPrime}
 use Rattle.md_modules.specs.Components.{IsClosed, IsComponent}
 use Rattle.md_modules.specs.Quotients.{class, IsModularPartition}
-use Rattle.md_modules.proofs.Modules.{module_inside, across_modules}
-use Rattle.md_modules.proofs.Components.{not_own, split_closed, closed_split, crossing_pair, closed_module, split_rest}
+use Rattle.md_modules.proofs.Modules.{undirected, module_inside, across_modules}
+use Rattle.md_modules.proofs.Splits.{split_closed, closed_split, closed_module, split_rest, unsplit_within}
+use Rattle.md_modules.proofs.Components.{component_child, prime_unsplit}
 use Rattle.md_modules.proofs.Strong.{children_meet}
-use Rattle.md_modules.proofs.Children.{component_child, maximal_child}
+use Rattle.md_modules.proofs.Children.{maximal_child}
 use Rattle.md_modules.proofs.Quotients.{class_has, of_class, module_in_class}
 use Rattle.md_tree.specs.declared.Kind.{Kind}
 use Rattle.md_tree.specs.declared.Kind.TheVariants.{Prime}
@@ -43,7 +44,7 @@ module _ {e : ℕ → ℕ → Bool} (adj : IsAdjacency e) (s : NameSet) (k : Kin
       let n : j < count cs = position_below cs j b hb in
       let c : (c : PlainTree) × IsChild cs c × (names_at cs i ≡ names c) × (head_at cs i ≡ head c) = child_here cs i (omega arith) in
       let d : (c : PlainTree) × IsChild cs c × (names_at cs j ≡ names c) × (head_at cs j ≡ head c) = child_here cs j n in
-      across_modules adj m (names c.0) (names d.0) (child_module c.0 c.1) (child_module d.0 d.1)
+      across_modules (undirected adj) m (names c.0) (names d.0) (child_module c.0 c.1) (child_module d.0 d.1)
       (at_apart cs canon.apart i j less (names c.0) (names d.0) c.2 d.2)
       a (head_at cs i) b (head_at cs j)
       (Has-along (names_at cs i) (names c.0) c.2 a ha) (subst (Has (names c.0)) (sym c.3) (own c.0 c.1))
@@ -86,13 +87,7 @@ module _ {e : ℕ → ℕ → Bool} (adj : IsAdjacency e) (s : NameSet) (k : Kin
     child_component : (c : PlainTree) → IsChild cs c → IsComponent e m (head c) (names c) v
     child_component c i = record { holds = own c i; closed = closed_child c i; least = least_part } where
       least_part : (part : NameSet) → IsClosed e m part v → Has part (head c) → Within (names c) part
-      least_part part closed hp y hy = elim (cases_Bool (contains part y)) [
-        | inl h ↦ h
-        | inr l ↦
-            let r : (a : ℕ) × (b : ℕ) × Has (names c) a × Has (names c) b × (contains part a ≡ true) × (contains part b ≡ false) × (e a b ≡ not v) =
-            crossing_pair (names c) v (contains part) (head c) y (unsplit c i) (own c i) hy hp l in
-            not_own (e r.0 r.1) v (closed.across r.0 r.1 r.4 (child_inside cs c i r.1 r.3) r.5) r.6
-      ]
+      least_part part closed hp = unsplit_within m (names c) part v (head c) (child_inside cs c i) (unsplit c i) closed (own c i) hp
 
     pub split_node : (part : NameSet) × IsSplit e m part v
     split_node =
@@ -104,7 +99,7 @@ module _ {e : ℕ → ℕ → Bool} (adj : IsAdjacency e) (s : NameSet) (k : Kin
         (names c.0, closed_split m (names c.0) v (closed_child c.0 c.1) (head c.0, own c.0 c.1) (head d.0, child_inside cs d.0 d.1 (head d.0) (own d.0 d.1), l))
 
     pub split_children : HasChildren e cs
-    split_children = children_from (λ c i. component_child adj m (names c) split_node.0 v (head c) split_node.1 (child_component c i))
+    split_children = children_from (λ c i. component_child (undirected adj) m (names c) split_node.0 v (head c) refl split_node.1 (child_component c i))
 
   -- a prime node
   module _ (prime : k ≡ Prime) (four : 4 ≤ count cs) where
@@ -143,7 +138,7 @@ module _ {e : ℕ → ℕ → Bool} (adj : IsAdjacency e) (s : NameSet) (k : Kin
 
     -- each module is the whole or lies in one child
     in_child : (n : NameSet) → IsModule e m n → (n ≡ m) ⊎ ((c : PlainTree) × IsChild cs c × Within n (names c))
-    in_child n is = elim (module_in_class adj m (heads cs) (lead cs) partition n is many (fit.trivial prime)) [
+    in_child n is = elim (module_in_class (undirected adj) m (heads cs) (lead cs) partition n is many (fit.trivial prime)) [
       | inl same ↦ inl same
       | inr p ↦
           let c : (c : PlainTree) × IsChild cs c × (p.0 ≡ head c) = child_of_head cs p.0 p.1 in
@@ -171,10 +166,10 @@ module _ {e : ℕ → ℕ → Bool} (adj : IsAdjacency e) (s : NameSet) (k : Kin
         omega arith
 
     no_split : (v : Bool) (a : NameSet) → IsSplit e m a v → ⊥
-    no_split v a split = both (in_child a (closed_module adj m a v (split_closed m a v split) split.some))
-        (in_child (difference m a) (closed_module adj m (difference m a) v (split_closed m (difference m a) v rest) rest.some)) where
+    no_split v a split = both (in_child a (closed_module (undirected adj) m a v (split_closed m a v split) split.some))
+        (in_child (difference m a) (closed_module (undirected adj) m (difference m a) v (split_closed m (difference m a) v rest) rest.some)) where
           rest : IsSplit e m (difference m a) v
-          rest = split_rest adj m a v split
+          rest = split_rest (undirected adj) m a v split
 
           both : (a ≡ m) ⊎ ((c : PlainTree) × IsChild cs c × Within a (names c)) → (difference m a ≡ m) ⊎ ((c : PlainTree) × IsChild cs c × Within (difference m a) (names c)) → ⊥
           both (inl same) other = clash (Has-along m a (sym same) split.rest.0 split.rest.1) split.rest.2
@@ -207,4 +202,4 @@ module _ {e : ℕ → ℕ → Bool} (adj : IsAdjacency e) (s : NameSet) (k : Kin
     }
 
     pub prime_children : HasChildren e cs
-    prime_children = children_from (λ c i. maximal_child adj m (names c) prime_node (maximal c i))
+    prime_children = children_from (λ c i. maximal_child (undirected adj) m (names c) (prime_unsplit m prime_node) (maximal c i))

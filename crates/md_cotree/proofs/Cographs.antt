@@ -11,8 +11,10 @@ use Rattle.md_modules.specs.Modules.{IsMaximalStrong}
 use Rattle.md_modules.specs.Kinds.{IsSplit}
 use Rattle.md_modules.specs.Components.{IsComponent}
 use Rattle.md_modules.proofs.Turns.{graph_adjacency}
-use Rattle.md_modules.proofs.Components.{split_closed, one_component}
-use Rattle.md_modules.proofs.Children.{component_child, child_component}
+use Rattle.md_graph.proofs.Search.{decide_test}
+use Rattle.md_modules.proofs.Modules.{undirected}
+use Rattle.md_modules.proofs.Splits.{split_closed}
+use Rattle.md_modules.proofs.Components.{one_component, component_child, child_component}
 use Rattle.md_tree.specs.declared.Kind.{Kind}
 use Rattle.md_tree.specs.declared.Kind.TheVariants.{Parallel, Series, Prime}
 use Rattle.md_tree.specs.declared.Pair.{Pair}
@@ -209,13 +211,13 @@ module _ (e : ℕ → ℕ → Bool) where
                 c.0,
                 c.1,
                 one_component (names_below cs) m (names c.0) (value k) x.0
-                    (child_component adj (names_below cs) m (names c.0) (value k) x.0 (child_split k cs ps c.0 each not agrees c.1) max x.1)
+                    (child_component (undirected adj) decide_test (names_below cs) m (names c.0) (value k) x.0 refl (child_split k cs ps c.0 each not agrees c.1) max x.1)
                     (child_is_component c.0 c.1 x.0 c.2),
               ),
           λ is.
               let split = child_split k cs ps is.0 each not agrees is.1 in
               subst (IsMaximalStrong e (names_below cs)) (sym is.2)
-              (component_child adj (names_below cs) (names is.0) (names is.0) (value k) split.some.0 split (child_is_component is.0 is.1 split.some.0 split.some.1)),
+              (component_child (undirected adj) (names_below cs) (names is.0) (names is.0) (value k) split.some.0 refl split (child_is_component is.0 is.1 split.some.0 split.some.1)),
         );
       }
 
