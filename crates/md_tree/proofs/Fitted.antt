@@ -1,27 +1,29 @@
 -- What the heads of trees tell of all their names, where the leaf sets of the trees are modules of these.
-use Rattle.std.proofs.Common.{◌≡◌, ◌≢◌, ℕ, suc, ◌+◌, ◌<◌, ◌≤◌, ◌⊎◌, refl, sym, ◌∙◌, ap, subst, inl, inr, arith}
+use Rattle.std.proofs.Common.{◌≡◌, ◌≢◌, ℕ, suc, List, ◌+◌, ◌<◌, ◌≤◌, ◌⊎◌, refl, sym, ◌∙◌, ap, subst, inl, inr, arith}
 use Rattle.std.proofs.lemmas.Bool.{cases_Bool, cases_lt, false_from_ne_true}
 use Rattle.std.specs.FinSet.{contains, insert, retain, intersection, difference, len}
 use Rattle.md_graph.specs.Sets.{NameSet, Has, Lacks, Within, HasSome, HasTwo, only_name}
-use Rattle.md_graph.proofs.SetLemmas.{clash, of_only, only_has, Has-along, same_members, insert_new, insert_old, retain_has, of_retain, meet_has, of_meet, of_minus, minus_has}
+use Rattle.md_graph.proofs.SetLemmas.{clash, of_only, only_has, Has-along, same_members, insert_new, insert_old, union_left, union_right, retain_has, of_retain, meet_has, of_meet, of_minus, minus_has}
 use Rattle.md_graph.proofs.Search.{decide_below, test_of, test_holds, of_test, len_within, len_single, len_one_more, two_of_len}
-use Rattle.md_modules.specs.Colours.{IsColouring}
+use Rattle.md_modules.specs.Colours.{IsColouring, AreTold}
 use Rattle.md_modules.specs.Modules.{IsModule, IsMaximalModule, IsMaximalStrong, HasTrivialModulesAlone}
 use Rattle.md_modules.specs.Kinds.{IsSplit, IsUnsplit}
 use Rattle.md_modules.specs.Components.{IsClosed}
 use Rattle.md_modules.specs.Segments.{IsSegment}
-use Rattle.md_modules.specs.Quotients.{class, IsModularPartition}
-use Rattle.md_modules.proofs.Modules.{across_modules}
+use Rattle.md_modules.specs.Quotients.{class, IsQuotient, IsModularPartition}
+use Rattle.md_modules.proofs.Modules.{module_inside, module_of_module, single_module, across_modules}
 use Rattle.md_modules.proofs.Splits.{AreReverses, split_closed, closed_split, closed_module, split_rest, split_reverses, unsplit_segment, segment_child}
 use Rattle.md_modules.proofs.Strong.{children_meet}
 use Rattle.md_modules.proofs.Children.{maximal_child}
-use Rattle.md_modules.proofs.Quotients.{class_has, of_class, module_in_class}
-use Rattle.md_tree.specs.Trees.{PlainTreesOf, names_below, names_at, count}
+use Rattle.md_modules.proofs.Quotients.{class_has, of_class, module_in_class, unsplit_proof}
+use Rattle.md_tree.specs.Trees.{PlainTreeOf, leaf, node, PlainTreesOf, no_tree, one_more, names, names_below, names_at, count, EachNode, EachNodeBelow}
+use Rattle.md_tree.specs.WellFormed.{AreDisjoint}
 use Rattle.md_tree.specs.TreeGraph.{position_of}
 use Rattle.md_tree.specs.Heads.{head_at, heads, HeadsAlong, AreChildModules, AreStrongChildren}
 use Rattle.md_tree.specs.Laws.{AreToldByHeads, HeadsTellNodes}
-use Rattle.md_tree.proofs.Nodes.{position_below, at_position, at_inside, position_at, at_apart}
-use Rattle.md_tree.proofs.Heads.{to_heads, of_heads, len_heads}
+use Rattle.md_tree.proofs.Nodes.{IsChild, position_below, at_position, at_inside, position_at, at_apart}
+use Rattle.md_tree.proofs.Heads.{child_here, place_of_child, to_heads, of_heads, len_heads}
+use Rattle.md_tree.proofs.Built.{HasChildren, IsBuiltBy, children_maximal}
 
 module _ {K P C : Type 0} {reverse : C → C} {e : ℕ → ℕ → C} (col : IsColouring reverse e) (cs : PlainTreesOf K P) (mods : AreChildModules e cs) where
   abbrev m : NameSet
@@ -33,6 +35,12 @@ module _ {K P C : Type 0} {reverse : C → C} {e : ℕ → ℕ → C} (col : IsC
 
   place_head : (i : ℕ) → i < count cs → place (head_at cs i) ≡ i
   place_head i l = position_at cs mods.apart i (head_at cs i) (mods.heads i l)
+
+  -- the head that lies in a leaf set is its own
+  own_head : (i x : ℕ) → Has (heads cs) x → Has (names_at cs i) x → x ≡ head_at cs i
+  own_head i x h hx =
+      let j : (j : ℕ) × (j < count cs) × (x ≡ head_at cs j) = of_heads cs x h in
+      j.2 ∙ ap (head_at cs) (sym (place_head j.0 j.1) ∙ ap place (sym j.2) ∙ position_at cs mods.apart i x hx)
 
   -- two names of different trees have the colour of the heads of these
   pub at_places : (i j a b : ℕ) → i < j → Has (names_at cs i) a → Has (names_at cs j) b → e a b ≡ e (head_at cs i) (head_at cs j)
@@ -189,12 +197,6 @@ module _ {K P C : Type 0} {reverse : C → C} {e : ℕ → ℕ → C} (col : IsC
           inr (i.0, i.1, subst (Within n) (class_is i.0 i.1 p.0 i.2) p.2)
     ]
 
-    -- the head that lies in a leaf set is its own
-    own_head : (i x : ℕ) → Has (heads cs) x → Has (names_at cs i) x → x ≡ head_at cs i
-    own_head i x h hx =
-        let j : (j : ℕ) × (j < count cs) × (x ≡ head_at cs j) = of_heads cs x h in
-        j.2 ∙ ap (head_at cs) (sym (place_head j.0 j.1) ∙ ap place (sym j.2) ∙ position_at cs mods.apart i x hx)
-
     -- two leaf sets don't hold all names
     not_two : (i j : ℕ) → ((x : ℕ) → Has m x → Has (names_at cs i) x ⊎ Has (names_at cs j) x) → ⊥
     not_two i j all =
@@ -249,11 +251,105 @@ module _ {K P C : Type 0} {reverse : C → C} {e : ℕ → ℕ → C} (col : IsC
     unsplit_children : AreStrongChildren e cs
     unsplit_children = children_from (λ i l. maximal_child col m (names_at cs i) unsplit_names (maximal i l))
 
-  pub told_by_heads : AreToldByHeads e cs
-  told_by_heads = record {
+  -- one name of each child of names that don't split: a quotient
+  heads_quotient : IsUnsplit e m → AreStrongChildren e cs → IsQuotient e m (heads cs)
+  heads_quotient whole children = record {
+    inside = λ x h. let i : (i : ℕ) × (i < count cs) × (x ≡ head_at cs i) = of_heads cs x h in
+        subst (Has m) (sym i.2) (at_inside cs i.0 (head_at cs i.0) (mods.heads i.0 i.1));
+    one = λ n max.
+        let i : (i : ℕ) × (i < count cs) × (n ≡ names_at cs i) = (children n).0 (maximal_child col m n whole max) in (
+          head_at cs i.0,
+          Has-along (names_at cs i.0) n (sym i.2) (head_at cs i.0) (mods.heads i.0 i.1),
+          to_heads cs i.0 i.1,
+          λ y hy h. own_head i.0 y h (Has-along n (names_at cs i.0) i.2 y hy),
+        );
+  }
+
+  pub told_by_heads : AreTold C → AreToldByHeads e cs
+  told_by_heads told = record {
     split = λ v two along none. (split_names v two along, split_children v two along none);
     unsplit = λ three trivial. (unsplit_names three trivial, unsplit_children three trivial);
+    trivial = λ whole children. (unsplit_proof C reverse e col told m whole).1.trivial (heads cs) (heads_quotient whole children);
   }
 
 pub heads_proof : (K P C : Type 0) → HeadsTellNodes K P C
-heads_proof K P C reverse e col cs mods = told_by_heads col cs mods
+heads_proof K P C told reverse e col cs mods = told_by_heads col cs mods told
+
+-- ---- children
+
+module _ {K P C : Type 0} {e : ℕ → ℕ → C} where
+  -- the children of a node, as trees and by their positions
+  pub by_positions : (cs : PlainTreesOf K P) → HasChildren e cs → AreStrongChildren e cs
+  by_positions cs has m = (
+    λ max.
+        let c : (c : PlainTreeOf K P) × IsChild cs c × (m ≡ names c) = (has m).0 max in
+        let i = place_of_child cs c.0 c.1 in
+        (i.0, i.1, c.2 ∙ sym i.2),
+    λ i. let c = child_here cs i.0 i.1 in (has m).1 (c.0, c.1, i.2 ∙ c.2),
+  )
+
+  pub by_trees : (cs : PlainTreesOf K P) → AreStrongChildren e cs → HasChildren e cs
+  by_trees cs are m = (
+    λ max.
+        let i : (i : ℕ) × (i < count cs) × (m ≡ names_at cs i) = (are m).0 max in
+        let c = child_here cs i.0 i.1 in
+        (c.0, c.1, i.2 ∙ c.2),
+    λ c. let i = place_of_child cs c.0 c.1 in (are m).1 (i.0, i.1, c.2 ∙ sym i.2),
+  )
+
+  -- modules of s that are the children of a module of s
+  pub modules_below : (s : NameSet) (cs : PlainTreesOf K P) → AreDisjoint cs → ((i : ℕ) → i < count cs → Has (names_at cs i) (head_at cs i)) → Within (names_below cs) s →
+      ((c : PlainTreeOf K P) → IsChild cs c → IsModule e s (names c)) → AreChildModules e cs
+  modules_below s cs apart own inside mods = record {
+    apart = apart;
+    heads = own;
+    modules = λ i l.
+        let c = child_here cs i l in
+        module_inside s (names_below cs) (names_at cs i) (subst (IsModule e s) (sym c.2) (mods c.0 c.1)) inside (at_inside cs i);
+  }
+
+-- ---- a tree, node by node: each node of a tree fits, where each node is one of the tree of strong modules, and the other way round
+
+module _ {K P C : Type 0} {e : ℕ → ℕ → C} (s : NameSet) (F : K → PlainTreesOf K P → List P → Type 0) (is_module : (k : K) (cs : PlainTreesOf K P) (ps : List P) → F k cs ps → IsModule e s (names_below cs)) where
+  -- the leaf sets of the children of a node that fits are modules
+  tree_module : (t : PlainTreeOf K P) → EachNode F t → Within (names t) s → IsModule e s (names t)
+  tree_module (leaf v) fit w = single_module s v (w v (only_has v))
+  tree_module (node k cs ps) fit w = is_module k cs ps fit.0
+
+  pub child_modules : (cs : PlainTreesOf K P) → EachNodeBelow F cs → Within (names_below cs) s → (c : PlainTreeOf K P) → IsChild cs c → IsModule e s (names c)
+  child_modules no_tree fit w c i = absurd i
+  child_modules (one_more t ts) fit w c (inl same) =
+      subst (λ d. IsModule e s (names d)) (sym same) (tree_module t fit.0 (λ x h. w x (union_left (names t) (names_below ts) x h)))
+  child_modules (one_more t ts) fit w c (inr i) = child_modules ts fit.1 (λ x h. w x (union_right (names t) (names_below ts) x h)) c i
+
+  module _ (N Canonical : K → PlainTreesOf K P → List P → Type 0) where
+    abbrev B : K → PlainTreesOf K P → List P → Type 0
+    B = IsBuiltBy N e
+
+    module _ (to_node : (k : K) (cs : PlainTreesOf K P) (ps : List P) → Canonical k cs ps → EachNodeBelow Canonical cs → B k cs ps → EachNodeBelow B cs →
+        IsModule e s (names_below cs) → F k cs ps) where
+      mutual
+        pub to_fit : (t : PlainTreeOf K P) → EachNode B t → EachNode Canonical t → IsModule e s (names t) → EachNode F t
+        to_fit (leaf v) built canon is = tt
+        to_fit (node k cs ps) built canon is = (
+          to_node k cs ps canon.0 canon.1 built.0 built.1 is,
+          to_fit_below cs built.1 canon.1 (λ c i. module_of_module s (names_below cs) (names c) is (children_maximal k cs ps built.0 c i).is_strong.is_module),
+        )
+
+        to_fit_below : (cs : PlainTreesOf K P) → EachNodeBelow B cs → EachNodeBelow Canonical cs → ((c : PlainTreeOf K P) → IsChild cs c → IsModule e s (names c)) → EachNodeBelow F cs
+        to_fit_below no_tree built canon mods = tt
+        to_fit_below (one_more t ts) built canon mods = (to_fit t built.0 canon.0 (mods t (inl refl)), to_fit_below ts built.1 canon.1 (λ c i. mods c (inr i)))
+
+    module _ (of_node : (k : K) (cs : PlainTreesOf K P) (ps : List P) → Canonical k cs ps → EachNodeBelow Canonical cs → F k cs ps →
+        ((c : PlainTreeOf K P) → IsChild cs c → IsModule e s (names c)) → EachNodeBelow B cs → B k cs ps) where
+      mutual
+        pub of_fit : (t : PlainTreeOf K P) → EachNode Canonical t → EachNode F t → EachNode B t
+        of_fit (leaf v) canon fit = tt
+        of_fit (node k cs ps) canon fit = (
+          of_node k cs ps canon.0 canon.1 fit.0 (child_modules cs fit.1 (is_module k cs ps fit.0).inside) (of_fit_below cs canon.1 fit.1),
+          of_fit_below cs canon.1 fit.1,
+        )
+
+        of_fit_below : (cs : PlainTreesOf K P) → EachNodeBelow Canonical cs → EachNodeBelow F cs → EachNodeBelow B cs
+        of_fit_below no_tree canon fit = tt
+        of_fit_below (one_more t ts) canon fit = (of_fit t canon.0 fit.0, of_fit_below ts canon.1 fit.1)
