@@ -21,10 +21,11 @@ use Rattle.md_tree.specs.Trees.{PlainTree, leaf, node, PlainTrees, names, names_
 use Rattle.md_tree.specs.WellFormed.{IsCanonicalNode, IsCanonicalTree}
 use Rattle.md_tree.proofs.Folding.{count_row, each_join, each_parts, folded, folded_tree, IsFolding, fold_begin, fold_finds, fold_more, fold_end}
 use Rattle.md_tree.proofs.Nodes.{IsChild}
-use Rattle.md_checker.specs.Fits.{head, head_at, IsFitNode, Fits}
+use Rattle.md_tree.specs.Heads.{head, head_at}
+use Rattle.md_checker.specs.Fits.{IsFitNode, Fits}
 use Rattle.md_checker.specs.FitTests.{union_all, AreHeads, IsFit, AreFit, AreFinished, MayPut, IsTested}
 use Rattle.md_checker.proofs.FitNodes.{head_item, names_union, node_heads, fit_node, node_fit}
-use Rattle.md_checker.proofs.FitsTree.{child_modules, fits_proof}
+use Rattle.md_checker.proofs.FitsTree.{fit_modules, fits_proof}
 
 -- ---- trees in a row, one behind the other
 
@@ -118,7 +119,7 @@ module _ {g : PlainGraph} (graph : IsGraph g) (sets : List NameSet) (list : List
   within_whole = subst (λ l. Within (names_below (row l)) g.vertices) (sym (take-append-drop (length ts - n) ts)) may.finished.are_fit.within
 
   mods : (c : PlainTree) → IsChild (row after) c → IsModule (adjacent g) g.vertices (names c)
-  mods = child_modules (graph_adjacency graph) g.vertices (row after) fit_parts.1 (λ x h. within_whole x (below_right before after x h))
+  mods = fit_modules (adjacent g) g.vertices (row after) fit_parts.1 (λ x h. within_whole x (below_right before after x h))
 
   module _ (below : ℕ) (at_place : below ≡ length sets - n) (sub : List ℕ) (is_sub : sub ≡ drop below list) where
     same_place : below ≡ length ts - n

@@ -24,8 +24,8 @@ use Rattle.md_tree.specs.WellFormed.{IsOfKind, NoneOfKind, AreDisjoint, IsPlainN
 use Rattle.md_tree.specs.TreeGraph.{position_of, joins, adjacent_in, adjacent_below, graph_of_tree}
 use Rattle.md_tree.proofs.Nodes.{IsChild, child_inside, child_of_name}
 use Rattle.md_tree.proofs.Built.{IsBuilt}
-use Rattle.md_tree.proofs.Unique.{one_kind}
-use Rattle.md_tree.proofs.Canonical.{built_tree}
+use Rattle.md_tree.proofs.Kinded.{built_tree}
+use Rattle.md_tree.proofs.GraphKinds.{one_kind, graph_kinds}
 use Rattle.md_tree.proofs.Nodes.{at_position}
 use Rattle.md_tree.proofs.OneTree.{one_tree_proof, no_path_proof}
 use Rattle.md_cotree.specs.Laws.{TreeOfItsGraph, OneTreeOfAGraph, NoPathInItsGraph}
@@ -171,7 +171,7 @@ module _ (e : ℕ → ℕ → Bool) where
         let y = of_only v split.rest.0 split.rest.1 in
         clash (subst (λ w. Has a w) (x ∙ sym y) split.some.1) split.rest.2
     unsplit k (node l ds qs) differs each not agrees other a split =
-        other (one_kind adj (names_below ds) l k (node_kind l ds qs each not agrees) (split_kind e (names_below ds) a k differs split))
+        other (one_kind (undirected adj) (names_below ds) l k (node_kind l ds qs each not agrees) (split_kind e (names_below ds) a k differs split))
 
     module _ (k : Kind) (cs : PlainTrees) (ps : List Pair) (each : IsCanonicalTree (node k cs ps)) (not : EachNode NotPrime (node k cs ps)) (agrees : Agrees e (node k cs ps)) where
       child_whole : (c : PlainTree) → IsChild cs c → (a : NameSet) → IsSplit e (names c) a (value k) → ⊥
@@ -234,7 +234,7 @@ module _ (e : ℕ → ℕ → Bool) where
 
     -- such a tree is the tree of strong modules
     pub tree_of_canonical : (t : PlainTree) → IsCanonicalTree t → HasNoPrimeNode t → Agrees e t → IsTreeOf e (names t) t
-    tree_of_canonical t each not agrees = built_tree e (names t) t refl (all_built t each not agrees)
+    tree_of_canonical t each not agrees = built_tree (graph_kinds (undirected adj)) decide_test (names t) t refl (all_built t each not agrees)
 
 pub tree_proof : TreeOfItsGraph
 tree_proof None is not = refl
