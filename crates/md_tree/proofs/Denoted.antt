@@ -20,7 +20,7 @@ use Rattle.md_tree.specs.WellFormed.{AreDisjoint, IsCanonicalTree}
 use Rattle.md_tree.specs.TreeGraph.{position_of, adjacent_in, graph_of_tree}
 use Rattle.md_tree.specs.TreeEdges.{crosses, in_listed, has_edge_in}
 use Rattle.md_text.proofs.Lists.{in_get, to_contains}
-use Rattle.md_tree.proofs.Graph.{at_inside, position_at}
+use Rattle.md_tree.proofs.Nodes.{at_inside}
 use Rattle.md_tree.proofs.Edges.{edges_are}
 use Rattle.md_tree.proofs.Loops.{or_moved, count_plain, names_at_row}
 
@@ -35,12 +35,6 @@ listed_at zs qs i d same less = subst (λ l. Contains l (get_or zs i d)) same (t
 
 pub at_listed : (xs : List (TreeOf Kind Pair)) (i : ℕ) (r : TreeOf Kind Pair) → r ≡ get_or xs i r → i < length xs → names_at (row (map plain xs)) i ≡ names (plain r)
 at_listed xs i r is less = names_at_row xs i r less ∙ ap (λ q. names (plain q)) (sym is)
-
-pub at_apart : (cs : PlainTrees) → AreDisjoint cs → (i j : ℕ) → i < j → (a b : NameSet) → names_at cs i ≡ a → names_at cs j ≡ b → Disjoint a b
-at_apart cs apart i j less a b p q x h = false_from_ne_true _ (λ k.
-    let m : position_of cs x ≡ i = position_at cs apart i x (Has-along a (names_at cs i) (sym p) x h) in
-    let n : position_of cs x ≡ j = position_at cs apart j x (Has-along b (names_at cs j) (sym q) x k) in
-    omega arith)
 
 pub at_within : (cs : PlainTrees) (s : NameSet) → Within (names_below cs) s → (i : ℕ) (a : NameSet) → names_at cs i ≡ a → Within a s
 at_within cs s w i a p x h = w x (at_inside cs i x (Has-along a (names_at cs i) (sym p) x h))

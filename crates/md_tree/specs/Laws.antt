@@ -1,12 +1,16 @@
 -- The laws of trees.
-use Rattle.std.specs.Prelude.{◌≡◌, ◌↔◌, ◌⊎◌, ℕ, Bool, Option, Result, Ok, Err}
+use Rattle.std.specs.Prelude.{◌≡◌, ◌<◌, ◌≤◌, ◌↔◌, ◌⊎◌, ℕ, Bool, Option, Result, Ok, Err}
 use Rattle.md_graph.specs.declared.TheConstants.{NAMES}
 use Rattle.md_graph.specs.NameSet.{AllBelow}
 use Rattle.md_graph.specs.PlainGraph.{PlainGraph, IsGraph, adjacent}
 use Rattle.md_graph.specs.Sets.{NameSet, Has}
 use Rattle.md_graph.specs.Adjacency.{IsAdjacency}
+use Rattle.md_modules.specs.Colours.{IsColouring, AreTold}
+use Rattle.md_modules.specs.Kinds.{IsSplit, IsUnsplit}
+use Rattle.md_modules.specs.Modules.{HasTrivialModulesAlone}
 use Rattle.md_modules.specs.InducedPaths.{HasInducedPath}
-use Rattle.md_tree.specs.Trees.{PlainTreeOf, PlainTree, names}
+use Rattle.md_tree.specs.Trees.{PlainTreeOf, PlainTreesOf, PlainTree, names, names_below, names_at, count}
+use Rattle.md_tree.specs.Heads.{heads, HeadsAlong, AreChildModules, AreStrongChildren}
 use Rattle.md_tree.specs.StrongTrees.{IsTreeOf, IsTree}
 use Rattle.md_tree.specs.WellFormed.{IsCanonicalTree, IsWellFormed, IsWellFormedBy, HasNoPrimeNode}
 use Rattle.md_tree.specs.TreeGraph.{adjacent_in, graph_of_tree}
@@ -49,6 +53,20 @@ abbrev pub NoInducedPathIfNoPrimeNode : Type 0
 NoInducedPathIfNoPrimeNode =
     (e : ℕ → ℕ → Bool) → IsAdjacency e → (s : NameSet) (t : PlainTree) → IsTreeOf e s t →
     (¬ (HasInducedPath e s)) ↔ HasNoPrimeNode t
+
+-- what the heads of trees tell of all their names, where the leaf sets are modules of these: if one colour runs from each head to
+-- those after it, and no tree splits with it, then the names split with it; if the heads have trivial modules alone, the names
+-- don't split; either way the leaf sets are the children of all names in the tree of strong modules; and the other way round the
+-- heads of the children of names that don't split have trivial modules alone
+pub record AreToldByHeads {K P C : Type 0} (e : ℕ → ℕ → C) (cs : PlainTreesOf K P) : Type 0 where
+  pub split : (v : C) → 2 ≤ count cs → HeadsAlong e cs v → ((i : ℕ) (part : NameSet) → i < count cs → ¬ (IsSplit e (names_at cs i) part v)) →
+      ((part : NameSet) × IsSplit e (names_below cs) part v) × AreStrongChildren e cs
+  pub unsplit : 3 ≤ count cs → HasTrivialModulesAlone e (heads cs) → IsUnsplit e (names_below cs) × AreStrongChildren e cs
+  pub trivial : IsUnsplit e (names_below cs) → AreStrongChildren e cs → HasTrivialModulesAlone e (heads cs)
+
+-- the heads of trees tell this, for any kinds, pairs and colours
+abbrev pub HeadsTellNodes : Type 0 → Type 0 → Type 0 → Type 0
+HeadsTellNodes K P C = AreTold C → (reverse : C → C) (e : ℕ → ℕ → C) → IsColouring reverse e → (cs : PlainTreesOf K P) → AreChildModules e cs → AreToldByHeads e cs
 
 -- different trees have different texts
 abbrev pub OneTreeOneTextBy : {K P : Type 0} → Spelling K P → Type 0

@@ -1,7 +1,9 @@
 pub mod Trees
 pub mod Plain
 pub mod StrongTrees
+pub mod NodeKinds
 pub mod WellFormed
+pub mod Heads
 pub mod NoPrimes
 pub mod TreeGraph
 pub mod TreeEdges

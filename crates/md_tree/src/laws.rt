@@ -1,7 +1,7 @@
 //! The laws of trees, each the contract of a function that does nothing. They speak of any set of
 //! names with a test of adjacency, and stand on no call that computes a tree.
 
-ghost use Rattle.md_tree.specs.Laws.{OneTree, TreeIsCanonical, TreeIsWellFormed, TreeTellsGraph, GraphOfTheTree, NoInducedPathIfNoPrimeNode, OneTreeOneText, OneTreeOneTextBy, WrittenTreesAreRead, WrittenTreesAreReadBy};
+ghost use Rattle.md_tree.specs.Laws.{OneTree, TreeIsCanonical, TreeIsWellFormed, TreeTellsGraph, GraphOfTheTree, NoInducedPathIfNoPrimeNode, HeadsTellNodes, OneTreeOneText, OneTreeOneTextBy, WrittenTreesAreRead, WrittenTreesAreReadBy};
 ghost use Rattle.md_tree.specs.Spellings.{spelling};
 
 use crate::{Lettered, Paired};
@@ -36,6 +36,13 @@ pub fn tree_tells_graph()
 /// A graph has no induced path on four vertices exactly where its tree has no prime node.
 pub fn no_induced_path_if_no_prime_node()
     ensures law { NoInducedPathIfNoPrimeNode }
+{}
+
+/// Whether the leaf sets of trees, which are modules, are the children of a node, and whether the
+/// node splits, is told by the heads of the trees, one name of each: for any kinds, pairs and
+/// colours, so of directed graphs too.
+pub fn heads_tell_nodes<K, P, C>()
+    ensures law { HeadsTellNodes K P C }
 {}
 
 /// Different trees have different texts, and no tree has the text of a graph without vertices.
