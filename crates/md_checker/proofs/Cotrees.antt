@@ -4,7 +4,8 @@ use Rattle.md_graph.specs.declared.Memory.{Memory}
 use Rattle.md_graph.specs.PlainGraph.{PlainGraph, IsGraph, adjacent}
 use Rattle.md_graph.proofs.SetLemmas.{clash}
 use Rattle.md_text.proofs.Lists.{In, in_left, in_right}
-use Rattle.md_tree.specs.TreeTexts.{letter, pairs_text, row_text, tree_text}
+use Rattle.md_tree.specs.Spellings.{letter}
+use Rattle.md_tree.specs.TreeTexts.{pairs_text, row_text, tree_text}
 use Rattle.md_tree.specs.Trees.{PlainTree, leaf, node, PlainTrees, no_tree, one_more}
 use Rattle.md_tree.specs.StrongTrees.{IsTree, IsTreeOf}
 use Rattle.md_tree.specs.WellFormed.{HasNoPrimeNode, HaveNoPrimeNode}

@@ -2,6 +2,7 @@
 use Rattle.std.proofs.Common.{◌≡◌, ◌↔◌, ℕ, ◌+◌, ◌-◌, ◌<◌, Bool, true, List, [], ◌∷◌, ◌++◌, length, get_or, take, drop, map, refl, sym, ◌∙◌, ap, ap₂, subst, inl, inr, length-drop, arith}
 use Rattle.std.proofs.lemmas.List.{map-append, take-map, drop-map, take-append-drop, take_more, get_or-drop, same_from_push, length-map}
 use Rattle.std.specs.Prelude.{IsTrue}
+use Rattle.std.specs.FinSet.{empty}
 use Rattle.md_graph.specs.PlainGraph.{PlainGraph, IsGraph, adjacent}
 use Rattle.md_graph.specs.Sets.{NameSet, Has, Lacks, Within, only_name}
 use Rattle.md_graph.proofs.SetLemmas.{clash, empty_lacks, only_has, of_only, union_left, union_right, of_union, Has-along}
@@ -56,10 +57,10 @@ below_both s (t ∷ xs) ys a b x h = elim (of_union (names t) (names_below (row 
 ]
 
 alone_below : (t : PlainTree) → Within (names t) (names_below (row (t ∷ [])))
-alone_below t x h = union_left (names t) (names_below (row [])) x h
+alone_below t x h = union_left (names t) empty x h
 
 of_alone : (t : PlainTree) → Within (names_below (row (t ∷ []))) (names t)
-of_alone t x h = elim (of_union (names t) (names_below (row [])) x h) [ inl a ↦ a | inr none ↦ clash none (empty_lacks x) ]
+of_alone t x h = elim (of_union (names t) empty x h) [ inl a ↦ a | inr none ↦ clash none (empty_lacks x) ]
 
 within_before : (s : NameSet) (p : PlainPart) (ts : List PlainTree) → Within (names_below (row (with_part p ts))) s → Within (names_below (row ts)) s
 within_before s (name v) ts w = λ x h. w x (below_left ts (leaf v ∷ []) x h)

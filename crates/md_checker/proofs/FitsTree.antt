@@ -122,15 +122,15 @@ module _ {e : ℕ → ℕ → Bool} (adj : IsAdjacency e) (s : NameSet) where
   node_built : (k : Kind) (cs : PlainTrees) (ps : List Pair) → IsCanonicalNode k cs ps → EachNodeBelow IsCanonicalNode cs → IsFitNode e s k cs ps →
       ((c : PlainTree) → IsChild cs c → IsModule e s (names c)) → EachNodeBelow (IsBuilt e) cs → IsBuilt e k cs ps
   node_built Parallel cs ps canon each fit mods built =
-      let r = (told Parallel cs ps canon each fit.is_module.inside mods).split false canon.shape.two fit.joined
+      let r = (told Parallel cs ps canon each fit.is_module.inside mods).split false canon.shape.enough fit.joined
       (no_child_splits Parallel false cs (λ t part split. (part, split)) canon.shape.other_kinds built) in
       record { node_of = record { kind = r.0; order = canon.order; pairs = canon.shape.no_pairs }; children = by_trees cs r.1 }
   node_built Series cs ps canon each fit mods built =
-      let r = (told Series cs ps canon each fit.is_module.inside mods).split true canon.shape.two fit.joined
+      let r = (told Series cs ps canon each fit.is_module.inside mods).split true canon.shape.enough fit.joined
       (no_child_splits Series true cs (λ t part split. (part, split)) canon.shape.other_kinds built) in
       record { node_of = record { kind = r.0; order = canon.order; pairs = canon.shape.no_pairs }; children = by_trees cs r.1 }
   node_built Prime cs ps canon each fit mods built =
-      let three : 3 ≤ count cs = (let four : 4 ≤ count cs = canon.shape.four in omega arith) in
+      let three : 3 ≤ count cs = (let four : 4 ≤ count cs = canon.shape.enough in omega arith) in
       let r = (told Prime cs ps canon each fit.is_module.inside mods).unsplit three (fit.trivial refl) in
       record {
         node_of = record {

@@ -26,6 +26,7 @@ use Rattle.md_tree.specs.StrongTrees.{IsPairBefore}
 use Rattle.md_tree.specs.TreeGraph.{lists_pair}
 use Rattle.md_tree.specs.TreeTexts.{pairs_text}
 use Rattle.md_tree.proofs.Graph.{of_lists, to_lists}
+use Rattle.md_tree.proofs.Spelled.{graph_pairs_law}
 use Rattle.md_tree.proofs.Texts.{pair_spelled}
 use Rattle.md_checker.specs.FitTests.{name_set, AreJoined}
 use Rattle.md_checker.specs.Gathered.{Matches}
@@ -84,11 +85,11 @@ near_none e v low j (w ∷ ws) none = here (near_none e v low (suc j) ws) (e v w
 
 commas : (ps qs : List Pair) → pairs_text 44 (ps ++ qs) ≡ pairs_text 44 ps ++ pairs_text 44 qs
 commas [] qs = refl
-commas (p ∷ ps) qs = ap (λ l. 44 ∷ (decimal p.low ++ 45 ∷ (decimal p.high ++ l))) (commas ps qs) ∙ sym (pair_spelled 44 p ps (pairs_text 44 qs))
+commas (p ∷ ps) qs = ap (λ l. 44 ∷ (decimal p.low ++ 45 ∷ (decimal p.high ++ l))) (commas ps qs) ∙ sym (pair_spelled graph_pairs_law 44 p ps (pairs_text 44 qs))
 
 pairs-append : (ps qs : List Pair) → pairs_text 59 (ps ++ qs) ≡ pairs_text 59 ps ++ pairs_text (mark_behind ps) qs
 pairs-append [] qs = refl
-pairs-append (p ∷ ps) qs = ap (λ l. 59 ∷ (decimal p.low ++ 45 ∷ (decimal p.high ++ l))) (commas ps qs) ∙ sym (pair_spelled 59 p ps (pairs_text 44 qs))
+pairs-append (p ∷ ps) qs = ap (λ l. 59 ∷ (decimal p.low ++ 45 ∷ (decimal p.high ++ l))) (commas ps qs) ∙ sym (pair_spelled graph_pairs_law 59 p ps (pairs_text 44 qs))
 
 mark_more : (ps qs : List Pair) → qs ≢ [] → mark_behind (ps ++ qs) ≡ 44
 mark_more [] [] some = absurd (some refl)

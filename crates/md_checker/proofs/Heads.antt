@@ -15,9 +15,9 @@ use Rattle.md_checker.specs.Fits.{HeadsAreLeast}
 
 -- each node has two children
 pub two_of_shape : (k : Kind) (cs : PlainTrees) (ps : List Pair) → HasShape k cs ps → 2 ≤ count cs
-two_of_shape Parallel cs ps shape = shape.two
-two_of_shape Series cs ps shape = shape.two
-two_of_shape Prime cs ps shape = let b : 4 ≤ count cs = shape.four in omega arith
+two_of_shape Parallel cs ps shape = shape.enough
+two_of_shape Series cs ps shape = shape.enough
+two_of_shape Prime cs ps shape = let b : 4 ≤ count cs = shape.enough in omega arith
 
 pub some_child : (k : Kind) (cs : PlainTrees) (ps : List Pair) → IsCanonicalNode k cs ps → 1 ≤ count cs
 some_child k cs ps canon = let two : 2 ≤ count cs = two_of_shape k cs ps canon.shape in omega arith

@@ -6,7 +6,8 @@ use Rattle.md_tree.specs.declared.Kind.{Kind}
 use Rattle.md_tree.specs.declared.Kind.TheVariants.{Parallel, Series, Prime}
 use Rattle.md_tree.specs.declared.Pair.{Pair}
 use Rattle.md_tree.specs.Trees.{PlainTree, leaf, node, PlainTrees, no_tree, one_more}
-use Rattle.md_tree.specs.TreeTexts.{letter, pairs_text, tree_text, row_text, text_of}
+use Rattle.md_tree.specs.Spellings.{letter}
+use Rattle.md_tree.specs.TreeTexts.{pairs_text, tree_text, row_text, text_of}
 use Rattle.md_script.specs.declared.edit.EditReason.{EditReason}
 use Rattle.md_script.specs.declared.edit.EditReason.TheVariants.{Same, NoVertex, NameTaken, EdgeThere, EdgeAbsent}
 use Rattle.md_report.specs.declared.line.Mode.{Mode}

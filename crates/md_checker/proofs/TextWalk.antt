@@ -1,5 +1,5 @@
 -- The steps of a comparison of a tree's text with a graph.
-use Rattle.std.proofs.Common.{◌≡◌, ℕ, zero, suc, ◌+◌, ◌-◌, ◌<◌, ◌≤◌, true, false, List, [], ◌∷◌, ◌++◌, Contains, length, get_or, take, drop, map, Option, Some, None, sym, ◌∙◌, ap, subst, inl, inr, length-drop, arith}
+use Rattle.std.proofs.Common.{◌≡◌, ℕ, zero, suc, ◌+◌, ◌-◌, ◌<◌, ◌≤◌, true, false, List, [], ◌∷◌, ◌++◌, Contains, length, get_or, take, drop, map, Option, Some, None, sym, ◌∙◌, ap, subst, inl, inr, refl, length-drop, arith}
 use Rattle.std.proofs.lemmas.List.{length-map, map-append, take-map, drop-map, get_or-drop}
 use Rattle.std.specs.Prelude.{◌↔◌}
 use Rattle.md_graph.specs.PlainGraph.{PlainGraph, IsGraph, adjacent}
@@ -18,11 +18,13 @@ use Rattle.md_tree.specs.Held.{AreKept, IsDue, AreLeast, Ascends, MayHave, MayLi
 use Rattle.md_tree.specs.Parts.{inner}
 use Rattle.md_tree.specs.Stacks.{with_part}
 use Rattle.md_tree.specs.StrongTrees.{IsTreeOf}
-use Rattle.md_tree.specs.TreeTexts.{letter, pairs_text, tree_text}
+use Rattle.md_tree.specs.Spellings.{letter, graph_kinds, graph_spelling}
+use Rattle.md_tree.specs.TreeTexts.{pairs_text, tree_text}
 use Rattle.md_tree.specs.Trees.{PlainTree, leaf, node, names, names_below, row, EachNodeBelow}
 use Rattle.md_tree.specs.WellFormed.{IsCanonicalNode, IsWellFormed, IsOfKind, NoneOfKind}
 use Rattle.md_tree.proofs.Folding.{count_row}
-use Rattle.md_tree.proofs.Holding.{kept_none, kept_name, kept_closed, names_to_one, names_of_one}
+use Rattle.md_tree.proofs.Spelled.{graph_law}
+use Rattle.md_tree.proofs.Holding.{first_least, kept_none, kept_name, kept_closed, names_to_one, names_of_one}
 use Rattle.md_tree.proofs.Coming.{due_start, due_name, due_node, behind_comma, behind_inside, behind_end, inside_end, inside_first, few_held}
 use Rattle.md_tree.specs.Heads.{head}
 use Rattle.md_checker.specs.Fits.{IsFitNode}
@@ -44,28 +46,28 @@ none_of_kinds k ts lacks = each ts (λ i. lacks (to_contains (map root_kind ts) 
     each [] lacks = tt
     each (t ∷ ts) lacks = (first t (map root_kind ts) lacks, each ts (λ i. lacks (inr i)))
 
-has_of_kinds : (k : Kind) (ts : List PlainTree) → MayHaveKinds k (map root_kind ts) → MayHave k (row ts)
+has_of_kinds : (k : Kind) (ts : List PlainTree) → MayHaveKinds k (map root_kind ts) → MayHave graph_kinds k (row ts)
 has_of_kinds Parallel ts h = (subst (λ n. 2 ≤ n) (length-map ts root_kind ∙ sym (count_row ts)) h.0, none_of_kinds Parallel ts h.1)
 has_of_kinds Series ts h = (subst (λ n. 2 ≤ n) (length-map ts root_kind ∙ sym (count_row ts)) h.0, none_of_kinds Series ts h.1)
-has_of_kinds Prime ts h = subst (λ n. 4 ≤ n) (length-map ts root_kind ∙ sym (count_row ts)) h
+has_of_kinds Prime ts h = (subst (λ n. 4 ≤ n) (length-map ts root_kind ∙ sym (count_row ts)) h, tt)
 
 -- ---- the beginning
 
-pub read_start : (g : PlainGraph) (bytes : List ℕ) (sets : List NameSet) (list : List ℕ) (kinds : List (Option Kind)) (opens : List Opened) (seen : NameSet) →
+pub read_start : (g : PlainGraph) (bytes : List ℕ) (sets : List NameSet) (list : List ℕ) (kinds : List (Option Kind)) (opens : List (Opened Kind)) (seen : NameSet) →
     sets ≡ [] → list ≡ [] → kinds ≡ [] → opens ≡ [] → seen ≡ empty → IsReadBy g bytes bytes false sets list kinds opens seen
 read_start g bytes sets list kinds opens seen no_sets no_list no_kinds no_opens no_names = record {
   trees = [];
   walked = record {
-    kept = subst (λ l. AreKept [] l seen) (sym no_list) (subst (AreKept [] []) (sym no_names) kept_none);
+    kept = subst (λ l. AreKept graph_spelling [] l seen) (sym no_list) (subst (AreKept graph_spelling [] []) (sym no_names) (kept_none graph_law));
     finished = record { sets_are = no_sets; heads_are = no_list; are_fit = record { fit = tt; within = λ x h. clash h (empty_lacks x) } };
     kinds_are = no_kinds;
   };
-  comes = subst (λ o. IsDue bytes bytes o []) (sym no_opens) (due_start bytes);
+  comes = subst (λ o. IsDue graph_spelling bytes bytes o []) (sym no_opens) (due_start graph_law bytes);
 }
 
 -- ---- a name
 
-pub read_name : (g : PlainGraph) (bytes text tail : List ℕ) (sets more : List NameSet) (list longer : List ℕ) (kinds kinds_more : List (Option Kind)) (opens : List Opened) (seen new only : NameSet) (v : ℕ) →
+pub read_name : (g : PlainGraph) (bytes text tail : List ℕ) (sets more : List NameSet) (list longer : List ℕ) (kinds kinds_more : List (Option Kind)) (opens : List (Opened Kind)) (seen new only : NameSet) (v : ℕ) →
     IsReadBy g bytes text false sets list kinds opens seen → IsNumberSplit text v tail → Has g.vertices v → v < NAMES → Lacks seen v → only ≡ only_name v → more ≡ sets ++ only ∷ [] → longer ≡ list ++ v ∷ [] →
     kinds_more ≡ kinds ++ None ∷ [] → new ≡ insert seen v → IsReadBy g bytes tail true more longer kinds_more opens new
 read_name g bytes text tail sets more list longer kinds kinds_more opens seen new only v r split vertex below lacks is push put kind made =
@@ -73,16 +75,16 @@ read_name g bytes text tail sets more list longer kinds kinds_more opens seen ne
     record {
       trees = ts ++ leaf v ∷ [];
       walked = record {
-        kept = subst (λ l. AreKept (ts ++ leaf v ∷ []) l new) (sym put) (subst (AreKept (ts ++ leaf v ∷ []) (list ++ v ∷ [])) (sym made) (kept_name ts list seen v r.walked.kept below lacks));
+        kept = subst (λ l. AreKept graph_spelling (ts ++ leaf v ∷ []) l new) (sym put) (subst (AreKept graph_spelling (ts ++ leaf v ∷ []) (list ++ v ∷ [])) (sym made) (kept_name graph_law ts list seen v r.walked.kept below lacks));
         finished = leaf_finished g sets more list longer ts v only r.walked.finished vertex is push put;
         kinds_are = kind ∙ ap (λ l. l ++ None ∷ []) r.walked.kinds_are ∙ sym (map-append root_kind ts (leaf v ∷ []));
       };
-      comes = due_name bytes text opens ts v tail r.comes split;
+      comes = due_name graph_law bytes text opens ts v tail r.comes split;
     }
 
 -- ---- a letter and a bracket
 
-pub read_letter : (g : PlainGraph) (bytes text tail : List ℕ) (sets : List NameSet) (list : List ℕ) (kinds : List (Option Kind)) (opens more : List Opened) (seen : NameSet) (k : Kind) (first : ℕ) →
+pub read_letter : (g : PlainGraph) (bytes text tail : List ℕ) (sets : List NameSet) (list : List ℕ) (kinds : List (Option Kind)) (opens more : List (Opened Kind)) (seen : NameSet) (k : Kind) (first : ℕ) →
     IsReadBy g bytes text false sets list kinds opens seen → text ≡ letter k ∷ 40 ∷ tail → first ≡ length list → more ≡ opens ++ record { kind = k; first = first } ∷ [] →
     IsReadBy g bytes tail false sets list kinds more seen
 read_letter g bytes text tail sets list kinds opens more seen k first r is size push =
@@ -90,27 +92,27 @@ read_letter g bytes text tail sets list kinds opens more seen k first r is size 
     record {
       trees = r.trees;
       walked = r.walked;
-      comes = subst (λ o. IsDue bytes tail o r.trees) (sym (push ∙ ap (λ n. opens ++ record { kind = k; first = n } ∷ []) same)) (due_node bytes text opens r.trees k tail r.comes is);
+      comes = subst (λ o. IsDue graph_spelling bytes tail o r.trees) (sym (push ∙ ap (λ n. opens ++ record { kind = k; first = n } ∷ []) same)) (due_node graph_law bytes text opens r.trees k tail r.comes is);
     }
 
 -- ---- a comma
 
-pub read_comma : (g : PlainGraph) (bytes text tail : List ℕ) (sets : List NameSet) (list : List ℕ) (kinds : List (Option Kind)) (opens : List Opened) (seen : NameSet) →
+pub read_comma : (g : PlainGraph) (bytes text tail : List ℕ) (sets : List NameSet) (list : List ℕ) (kinds : List (Option Kind)) (opens : List (Opened Kind)) (seen : NameSet) →
     IsReadBy g bytes text true sets list kinds opens seen → 0 < length opens → text ≡ 44 ∷ tail → IsReadBy g bytes tail false sets list kinds opens seen
 read_comma g bytes text tail sets list kinds opens seen r some is = record {
   trees = r.trees;
   walked = r.walked;
-  comes = behind_comma bytes text opens r.trees tail r.comes some is;
+  comes = behind_comma graph_law bytes text opens r.trees tail r.comes some is;
 }
 
 -- ---- the end of a node
 
-pub read_inside : (g : PlainGraph) (bytes text : List ℕ) (sets : List NameSet) (list : List ℕ) (kinds : List (Option Kind)) (opens others : List Opened) (seen : NameSet) (last : Opened) →
+pub read_inside : (g : PlainGraph) (bytes text : List ℕ) (sets : List NameSet) (list : List ℕ) (kinds : List (Option Kind)) (opens others : List (Opened Kind)) (seen : NameSet) (last : Opened Kind) →
     IsReadBy g bytes text true sets list kinds opens seen → opens ≡ others ++ last ∷ [] → IsReadInsideBy g bytes text last sets list kinds others seen
 read_inside g bytes text sets list kinds opens others seen last r is = record {
   trees = r.trees;
   walked = r.walked;
-  comes = behind_inside bytes text opens others last r.trees r.comes is;
+  comes = behind_inside graph_law bytes text opens others last r.trees r.comes is;
 }
 
 least_there : (ts : List PlainTree) (ms : List ℕ) (i : ℕ) → AreLeast ts ms → i < length ms → Has (names_below (row ts)) (get_or ms i 0)
@@ -137,7 +139,15 @@ ascend_two ms up i j less below =
     let sum : i + suc (j - suc i) ≡ j = omega arith in
     subst (λ n. get_or ms i 0 < get_or ms n 0) sum (ascend_far ms up i (j - suc i) (omega arith))
 
-module _ {g : PlainGraph} {bytes text : List ℕ} {node_open : Opened} {sets : List NameSet} {list : List ℕ} {kinds : List (Option Kind)} {opens : List Opened} {seen : NameSet}
+take_one_more : (n : ℕ) (ms : List ℕ) → n < length ms → take n ms ++ get_or (drop n ms) 0 0 ∷ [] ≡ take (n + 1) ms
+take_one_more n [] within = let none : n < 0 = within in absurd (omega arith)
+take_one_more zero (m ∷ ms) within = refl
+take_one_more (suc n) (m ∷ ms) within =
+    let more : suc n < suc (length ms) = within in
+    let same : suc n + 1 ≡ suc (n + 1) = omega arith in
+    ap (λ l. m ∷ l) (take_one_more n ms (omega arith)) ∙ ap (λ k. take k (m ∷ ms)) (sym same)
+
+module _ {g : PlainGraph} {bytes text : List ℕ} {node_open : Opened Kind} {sets : List NameSet} {list : List ℕ} {kinds : List (Option Kind)} {opens : List (Opened Kind)} {seen : NameSet}
     (r : IsReadInsideBy g bytes text node_open sets list kinds opens seen) where
   abbrev ts : List PlainTree
   ts = r.trees
@@ -146,7 +156,7 @@ module _ {g : PlainGraph} {bytes text : List ℕ} {node_open : Opened} {sets : L
   first = node_open.first
 
   inside : first < length ts
-  inside = inside_first bytes text node_open opens ts r.comes
+  inside = inside_first graph_law bytes text node_open opens ts r.comes
 
   same_heads : length list ≡ length ts
   same_heads = ap length r.walked.finished.heads_are ∙ length-map ts head
@@ -155,7 +165,7 @@ module _ {g : PlainGraph} {bytes text : List ℕ} {node_open : Opened} {sets : L
   first_head = let a = inside in let b = same_heads in omega arith
 
   pub few_heads : length list ≤ NAMES
-  few_heads = let a = few_held ts list seen r.walked.kept in let b = same_heads in omega arith
+  few_heads = let a = few_held graph_law ts list seen r.walked.kept in let b = same_heads in omega arith
 
   pub inside_heads : (sub : List ℕ) → sub ≡ drop first list → Ascends sub → AreHeads g.vertices [] sub
   inside_heads sub is up =
@@ -176,14 +186,18 @@ module _ {g : PlainGraph} {bytes text : List ℕ} {node_open : Opened} {sets : L
     abbrev made : PlainTree
     made = node node_open.kind (row (drop first ts)) ps
 
-    may_have : MayHave node_open.kind (row (drop first ts))
+    may_have : MayHave graph_kinds node_open.kind (row (drop first ts))
     may_have = has_of_kinds node_open.kind (drop first ts) (subst (MayHaveKinds node_open.kind) (are_kinds ∙ ap (drop first) r.walked.kinds_are ∙ drop-map root_kind first ts) has)
 
     sub_size : length sub ≡ length ts - first
     sub_size = ap length is_sub ∙ length-drop first list ∙ ap (λ n. n - first) same_heads
 
-    kept : AreKept (take first ts ++ made ∷ []) (take (first + 1) list) seen
-    kept = kept_closed ts list seen first node_open.kind ps inside r.walked.kept may_have (subst (λ n. MayList node_open.kind n ps) sub_size lists) (subst Ascends is_sub up)
+    kept : AreKept graph_spelling (take first ts ++ made ∷ []) (take (first + 1) list) seen
+    kept =
+        let f = first_head in let last = length-drop first list in
+        subst (λ l. AreKept graph_spelling (take first ts ++ made ∷ []) l seen) (take_one_more first list first_head)
+        (kept_closed graph_law ts list seen first node_open.kind ps (get_or (drop first list) 0 0) inside r.walked.kept may_have (subst (λ n. MayList node_open.kind n ps) sub_size lists) (subst Ascends is_sub up)
+        (first_least (drop first list) (omega arith) (subst Ascends is_sub up)))
 
     back : length ts - (length ts - first) ≡ first
     back = let a = inside in omega arith
@@ -206,20 +220,20 @@ module _ {g : PlainGraph} {bytes text : List ℕ} {node_open : Opened} {sets : L
     read_end tail more longer kinds_more is push cut kind = record {
       trees = take first ts ++ made ∷ [];
       walked = record {
-        kept = subst (λ l. AreKept (take first ts ++ made ∷ []) l seen) (sym cut) kept;
+        kept = subst (λ l. AreKept graph_spelling (take first ts ++ made ∷ []) l seen) (sym cut) kept;
         finished = subst (AreFinished g more longer) with_is
             (node_finished graph sets list node_open.kind (length ts - first) ps ts may first place sub is_sub m of is_union is_of more longer fit push cut);
         kinds_are = kind ∙ ap (λ l. l ++ Some node_open.kind ∷ []) (ap (take first) r.walked.kinds_are ∙ take-map root_kind first ts) ∙ sym (map-append root_kind (take first ts) (made ∷ []));
       };
-      comes = inside_end bytes text node_open opens ts r.comes ps tail is;
+      comes = inside_end graph_law bytes text node_open opens ts r.comes ps tail is;
     }
 
 -- ---- the end of the text
 
-pub read_whole : (g : PlainGraph) (bytes rest : List ℕ) (sets : List NameSet) (list : List ℕ) (kinds : List (Option Kind)) (opens : List Opened) (seen : NameSet) → IsGraph g →
+pub read_whole : (g : PlainGraph) (bytes rest : List ℕ) (sets : List NameSet) (list : List ℕ) (kinds : List (Option Kind)) (opens : List (Opened Kind)) (seen : NameSet) → IsGraph g →
     IsReadBy g bytes rest true sets list kinds opens seen → rest ≡ [] → opens ≡ [] → seen ≡ g.vertices → (t : PlainTree) × IsWellFormed (Some t) × IsTreeOf (adjacent g) g.vertices t × (bytes ≡ tree_text t)
 read_whole g bytes rest sets list kinds opens seen graph r none closed all =
-    let b = behind_end bytes rest opens r.trees list seen r.walked.kept r.comes closed none in
+    let b = behind_end graph_law bytes rest opens r.trees list seen r.walked.kept r.comes closed none in
     let t = b.tree in
     let fit : EachNodeBelow (IsFitNode (adjacent g) g.vertices) (row (t ∷ [])) = subst (λ us. EachNodeBelow (IsFitNode (adjacent g) g.vertices) (row us)) b.only r.walked.finished.are_fit.fit in
     let same : (x : ℕ) → Has seen x ↔ Has (names_below (row (t ∷ []))) x = subst (λ us. (x : ℕ) → Has seen x ↔ Has (names_below (row us)) x) b.only r.walked.kept.same in

@@ -6,6 +6,7 @@ use Rattle.md_graph.specs.Sets.{NameSet}
 use Rattle.md_tree.specs.declared.Kind.{Kind}
 use Rattle.md_tree.specs.declared.Kind.TheVariants.{Parallel, Series, Prime}
 use Rattle.md_tree.specs.declared.builder.Opened.{Opened}
+use Rattle.md_tree.specs.Spellings.{graph_spelling}
 use Rattle.md_tree.specs.Held.{AreKept, Comes, IsInside}
 use Rattle.md_tree.specs.Trees.{PlainTree, leaf, node}
 use Rattle.md_checker.specs.declared.text_fit.Walk.{Walk}
@@ -25,30 +26,30 @@ MayHaveKinds Prime kinds = 4 ≤ length kinds
 -- the sets, the heads and the kinds are those of finished trees that fit the graph, and all names are `seen`
 pub record AreParsed (g : PlainGraph) (sets : List NameSet) (list : List ℕ) (kinds : List (Option Kind)) (seen : NameSet)
     (trees : List PlainTree) : Type 0 where
-  pub kept : AreKept trees list seen
+  pub kept : AreKept graph_spelling trees list seen
   pub finished : AreFinished g sets list trees
   pub kinds_are : kinds ≡ map root_kind trees
 
 -- the bytes before the rest are read, and these are their open nodes
 pub record IsReadBy (g : PlainGraph) (bytes rest : List ℕ) (behind : Bool) (sets : List NameSet) (list : List ℕ)
-    (kinds : List (Option Kind)) (opens : List Opened) (seen : NameSet) : Type 0 where
+    (kinds : List (Option Kind)) (opens : List (Opened Kind)) (seen : NameSet) : Type 0 where
   pub trees : List PlainTree
   pub walked : AreParsed g sets list kinds seen trees
-  pub comes : Comes behind bytes rest opens trees
+  pub comes : Comes graph_spelling behind bytes rest opens trees
 
 -- the same in a node that is taken off the open ones
-pub record IsReadInsideBy (g : PlainGraph) (bytes rest : List ℕ) (inner : Opened) (sets : List NameSet) (list : List ℕ)
-    (kinds : List (Option Kind)) (opens : List Opened) (seen : NameSet) : Type 0 where
+pub record IsReadInsideBy (g : PlainGraph) (bytes rest : List ℕ) (inner : Opened Kind) (sets : List NameSet) (list : List ℕ)
+    (kinds : List (Option Kind)) (opens : List (Opened Kind)) (seen : NameSet) : Type 0 where
   pub trees : List PlainTree
   pub walked : AreParsed g sets list kinds seen trees
-  pub comes : IsInside bytes rest inner opens trees
+  pub comes : IsInside graph_spelling bytes rest inner opens trees
 
 -- the bytes before the rest are read, and this is kept
 abbrev pub IsRead : {w : ℕ} → PlainGraph → List ℕ → List ℕ → Bool → Walk w → Type 0
 IsRead g bytes rest behind w =
     IsReadBy g bytes rest behind w.sets.items w.heads.items w.kinds.items w.opens.items w.seen
 
-abbrev pub IsReadInside : {w : ℕ} → PlainGraph → List ℕ → List ℕ → Opened → Walk w → Type 0
+abbrev pub IsReadInside : {w : ℕ} → PlainGraph → List ℕ → List ℕ → Opened Kind → Walk w → Type 0
 IsReadInside g bytes rest inner w =
     IsReadInsideBy g bytes rest inner w.sets.items w.heads.items w.kinds.items w.opens.items w.seen
 

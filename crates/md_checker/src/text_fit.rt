@@ -12,7 +12,8 @@ ghost use Rattle.md_text.specs.Fronts.{IsNumberSplit};
 ghost use Rattle.md_tree.specs.Held.{MayList};
 ghost use Rattle.md_tree.specs.StrongTrees.{IsTreeOf};
 ghost use Rattle.md_tree.specs.Trees.{PlainTree};
-ghost use Rattle.md_tree.specs.TreeTexts.{letter, pairs_text, tree_text};
+ghost use Rattle.md_tree.specs.Spellings.{letter};
+ghost use Rattle.md_tree.specs.TreeTexts.{pairs_text, tree_text};
 ghost use Rattle.md_tree.specs.WellFormed.{IsWellFormed};
 ghost use Rattle.md_report.specs.Cographs.{IsCograph};
 ghost use Rattle.md_checker.specs.FitTests.{AreHeads, IsFit};
@@ -33,7 +34,7 @@ struct Walk<const W: usize> {
     sets: Vec<CompactSet<W>>,
     heads: Vec<u32>,
     kinds: Vec<Option<Kind>>,
-    opens: Vec<Opened>,
+    opens: Vec<Opened<Kind>>,
     seen: Set<W>,
     space: PairSpace,
 }
@@ -236,7 +237,7 @@ fn end_node<'a, const W: usize>(
     alloc: Global,
     graph: &GraphOf<W>,
     text: &'a [u8],
-    inner: Opened,
+    inner: Opened<Kind>,
     walk: &mut Walk<W>,
 ) -> Result<Option<&'a [u8]>, Memory>
     requires { (bytes : List ℕ) × IsReadInside graph.now bytes text.now inner walk.old }
@@ -273,7 +274,7 @@ fn end_node<'a, const W: usize>(
 // A node takes the place of its children.
 fn close<const W: usize>(
     alloc: Global,
-    inner: Opened,
+    inner: Opened<Kind>,
     names: Set<W>,
     walk: &mut Walk<W>,
 ) -> Result<(), Memory>

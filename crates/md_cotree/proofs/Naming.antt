@@ -12,6 +12,7 @@ use Rattle.md_tree.specs.declared.Kind.TheVariants.{Prime}
 use Rattle.md_tree.specs.Trees.{PlainTree, leaf, node, PlainTrees, no_tree, one_more, names, names_below, count, EachNode, EachNodeBelow}
 use Rattle.md_tree.specs.Parts.{PlainPart, name, inner as inner_part, parts_of, parts_backward}
 use Rattle.md_tree.specs.WellFormed.{AreDisjoint, IsCanonicalNode, IsCanonicalTree, IsWellFormed}
+use Rattle.md_tree.proofs.Spelled.{plain_two}
 use Rattle.md_cotree.proofs.Cographs.{NotPrime, plain_shape}
 
 -- the names among the parts
@@ -81,7 +82,7 @@ mutual
   few_parts (leaf v) each not = omega arith
   few_parts (node k cs ps) each not =
       let rest = few_parts_below cs each.1 not.1 in
-      let two = (plain_shape k cs ps not.0 each.0.shape).two in
+      let two = plain_two (plain_shape k cs ps not.0 each.0.shape) in
       omega arith
 
   few_parts_below : (ts : PlainTrees) → EachNodeBelow IsCanonicalNode ts → EachNodeBelow NotPrime ts → length (parts_backward ts) + count ts ≤ 2 * length (named (parts_backward ts))

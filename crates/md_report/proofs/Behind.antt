@@ -12,6 +12,7 @@ use Rattle.md_tree.specs.Trees.{PlainTree}
 use Rattle.md_tree.specs.TreeTexts.{text_of}
 use Rattle.md_tree.specs.WellFormed.{IsWellFormed}
 use Rattle.md_tree.specs.Grammar.{InGrammar, LeavesAt}
+use Rattle.md_tree.proofs.Spelled.{graph_law}
 use Rattle.md_tree.proofs.ReadBack.{spelled_good}
 use Rattle.md_script.specs.declared.edit.EditReason.TheVariants.{Same, NoVertex, NameTaken, EdgeThere, EdgeAbsent}
 use Rattle.md_report.specs.declared.line.Line.{Line}
@@ -231,7 +232,7 @@ pub no_tree_text : (rest text : List ℕ) (place : ℕ) → rest ≡ 32 ∷ text
 no_tree_text rest text place at leaves o is e =
     let f : 32 ∷ text ≡ 32 ∷ text_of o = sym at ∙ e in
     let g : text_of o ≡ text = cc in
-    leaves.outside (subst InGrammar g (o, spelled_good o is, refl))
+    leaves.outside (subst InGrammar g (o, spelled_good graph_law o is, refl))
 
 -- what is read of one text is read of an equal one
 pub reads_on : (w v : List ℕ) (A B : Type 0) → w ≡ v → (A → B) → (r : Result Line LineFault) → Reads w A r → Reads v B r

@@ -9,6 +9,7 @@ use Rattle.md_forcing.specs.declared.arc.Arc.{Arc}
 use Rattle.md_modules.specs.declared.induced_paths.P4.{P4}
 use Rattle.md_tree.specs.Trees.{PlainTree}
 use Rattle.md_tree.specs.TreeTexts.{text_of}
+use Rattle.md_tree.proofs.Spelled.{graph_law}
 use Rattle.md_tree.proofs.Texts.{one_text_proof}
 use Rattle.md_script.specs.declared.edit.EditReason.TheVariants.{Same, NoVertex, NameTaken, EdgeThere, EdgeAbsent}
 use Rattle.md_report.specs.declared.line.Mode.{Mode}
@@ -192,10 +193,10 @@ same_line (head m) l is e =
     ap head (one_mode m is.0 (cc)) ∙ sym is.1
 same_line (tree t) l is e =
     let f : codes "t " ++ text_of t ≡ codes "t " ++ text_of is.0 = e ∙ ap line_text is.1 in
-    ap tree (one_text_proof t is.0 (cc)) ∙ sym is.1
+    ap tree (one_text_proof graph_law t is.0 (cc)) ∙ sym is.1
 same_line (applied t) l is e =
     let f : codes "ok " ++ text_of t ≡ codes "ok " ++ text_of is.0 = e ∙ ap line_text is.1 in
-    ap applied (one_text_proof t is.0 (cc)) ∙ sym is.1
+    ap applied (one_text_proof graph_law t is.0 (cc)) ∙ sym is.1
 same_line applied_quiet l is e = sym is
 same_line (not_cograph p) l is e =
     let f : codes "p4" ++ p4_text p ≡ codes "p4" ++ p4_text is.0 = e ∙ ap line_text is.1 in

@@ -1,5 +1,5 @@
 use Rattle.std.proofs.Common.{◌∷◌, ◌∙◌, ap, arith}
-use Rattle.md_tree.specs.TreeTexts.{letter}
+use Rattle.md_tree.specs.Spellings.{letter}
 use Rattle.md_text.proofs.FrontLemmas.{shorter_tail}
 use Rattle.md_checker.proofs.TextWalk.{read_letter}
 use Rattle.md_checker.proofs.text_fit.begin_node.Goals as goal

@@ -2,6 +2,7 @@ use Rattle.std.proofs.Common.{rules, true, drop, length, sym, ◌∙◌, ap, sub
 use Rattle.std.proofs.lemmas.List.{take_rest}
 use Rattle.std.specs.Prelude.{IsTrue}
 use Rattle.md_tree.specs.Held.{Ascends}
+use Rattle.md_tree.proofs.Spelled.{graph_pairs_law}
 use Rattle.md_tree.proofs.Numerals.{end_shorter}
 use Rattle.md_checker.specs.TextFits.{IsReadBy}
 use Rattle.md_checker.proofs.TextWalk.{few_heads, inside_heads, read_end}
@@ -36,5 +37,5 @@ returns g c bytes r =
           (read_end r c.vertices-vertices.ensures.graph q.0 _ sub (subst Ascends (other ∙ sym sub) (c.ascends.ensures.exactly.0 up)) _ (take_rest c.deref.result.now first ∙ ap (drop first) c.deref.ensures.value) (c.may_have.ensures may)
           c.union_of-names.result _ c.union_of-names.ensures (take_rest c.deref-3.result.now first ∙ ap (drop first) c.deref-3.ensures.value) q.1 q.2
           c.in-Some.tail.now new.sets.items new.heads.items new.kinds.items q.3 s.sets s.heads s.kinds)),
-      end_shorter _ _ q.0 q.3,
+      end_shorter graph_pairs_law _ _ q.0 q.3,
     )
