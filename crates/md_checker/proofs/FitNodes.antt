@@ -16,9 +16,11 @@ use Rattle.md_tree.specs.StrongTrees.{IsInOrder}
 use Rattle.md_tree.specs.WellFormed.{HasShape, IsCanonicalNode}
 use Rattle.md_tree.proofs.Folding.{count_row}
 use Rattle.md_tree.proofs.Nodes.{IsChild, child_inside, child_of_name}
-use Rattle.md_checker.specs.Fits.{head, head_at, heads, IsFitNode}
+use Rattle.md_tree.specs.Heads.{head, head_at, heads}
+use Rattle.md_checker.specs.Fits.{IsFitNode}
 use Rattle.md_checker.specs.FitTests.{name_set, union_all, AreHeads, IsFit}
-use Rattle.md_checker.proofs.Heads.{two_of_shape, HaveHeads, have_heads, child_here, least_proof}
+use Rattle.md_tree.proofs.Heads.{child_here, place_of_child}
+use Rattle.md_checker.proofs.Heads.{two_of_shape, HaveHeads, have_heads, least_proof}
 
 -- ---- lists of heads and sets
 
@@ -34,13 +36,6 @@ heads_set (t ∷ ts) = ap (λ s. insert s (head t)) (heads_set ts)
 pub names_union : (ts : List PlainTree) → names_below (row ts) ≡ union_all (map names ts)
 names_union [] = refl
 names_union (t ∷ ts) = ap (union (names t)) (names_union ts)
-
-position_of_child : (cs : PlainTrees) (c : PlainTree) → IsChild cs c → (i : ℕ) × (i < count cs) × (head_at cs i ≡ head c)
-position_of_child no_tree c is = absurd is
-position_of_child (one_more t ts) c (inl same) = (0, (let b : 0 < suc (count ts) = omega arith in b), ap (λ w. head w) (sym same))
-position_of_child (one_more t ts) c (inr is) =
-    let i : (i : ℕ) × (i < count ts) × (head_at ts i ≡ head c) = position_of_child ts c is in
-    (suc i.0, (let b : i.0 < count ts = i.1 in let d : suc i.0 < suc (count ts) = omega arith in d), i.2)
 
 -- the heads ascend
 ascend : (cs : PlainTrees) → IsInOrder cs → EachNodeBelow IsCanonicalNode cs → (i j : ℕ) → i < j → j < count cs → head_at cs i < head_at cs j
@@ -124,12 +119,12 @@ module _ {e : ℕ → ℕ → Bool} (adj : IsAdjacency e) (s : NameSet) (k : Kin
     first_like : (a x : ℕ) → Has (names_below cs) a → Has s x → Lacks (names_below cs) x → e x a ≡ e (get_or list 0 0) x
     first_like a x ha hx l =
         let c : (c : PlainTree) × IsChild cs c × Has (names c) a = child_of_name cs a ha in
-        let i : (i : ℕ) × (i < count cs) × (head_at cs i ≡ head c.0) = position_of_child cs c.0 c.1 in
+        let i : (i : ℕ) × (i < count cs) × (names_at cs i ≡ names c.0) × (head_at cs i ≡ head c.0) = place_of_child cs c.0 c.1 in
         let out : Lacks (names c.0) x = false_from_ne_true _ (λ h. clash (child_inside cs c.0 c.1 x h) l) in
         let n = size in
         let b : i.0 < count cs = i.1 in
         (mods c.0 c.1).alike a (head c.0) x c.2 (own c.0 c.1) hx out
-        ∙ adj.symmetric x (head c.0) ∙ ap (λ h. e h x) (sym (head_item ts i.0 ∙ i.2)) ∙ sym (fit.alike i.0 x (omega arith) (minus_has s (names_below cs) x hx l))
+        ∙ adj.symmetric x (head c.0) ∙ ap (λ h. e h x) (sym (head_item ts i.0 ∙ i.3)) ∙ sym (fit.alike i.0 x (omega arith) (minus_has s (names_below cs) x hx l))
 
   pub node_fit : IsFitNode e s k cs ps → IsFit e s (names_below cs) k ps list
   node_fit fit = record {

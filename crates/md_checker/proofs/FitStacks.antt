@@ -9,9 +9,9 @@ use Rattle.md_modules.specs.Modules.{IsModule}
 use Rattle.md_modules.proofs.Turns.{graph_adjacency}
 use Rattle.md_tree.specs.declared.Kind.{Kind}
 use Rattle.md_tree.specs.declared.Pair.{Pair}
-use Rattle.md_tree.specs.declared.Children.{Children}
-use Rattle.md_tree.specs.declared.QuotientEdges.{QuotientEdges}
-use Rattle.md_tree.specs.declared.Tree.{Tree, Leaf, Node}
+use Rattle.md_tree.specs.declared.ChildrenOf.{ChildrenOf}
+use Rattle.md_tree.specs.declared.PairsOf.{PairsOf}
+use Rattle.md_tree.specs.declared.TreeOf.{TreeOf, Leaf, Node}
 use Rattle.md_tree.specs.Plain.{plain, trees_of}
 use Rattle.md_tree.proofs.Plain.{plain_is_leaf, plain_is_node}
 use Rattle.md_tree.specs.Parts.{PlainPart, name, inner, part_of, parts_of}
@@ -21,10 +21,11 @@ use Rattle.md_tree.specs.Trees.{PlainTree, leaf, node, PlainTrees, names, names_
 use Rattle.md_tree.specs.WellFormed.{IsCanonicalNode, IsCanonicalTree}
 use Rattle.md_tree.proofs.Folding.{count_row, each_join, each_parts, folded, folded_tree, IsFolding, fold_begin, fold_finds, fold_more, fold_end}
 use Rattle.md_tree.proofs.Nodes.{IsChild}
-use Rattle.md_checker.specs.Fits.{head, head_at, IsFitNode, Fits}
+use Rattle.md_tree.specs.Heads.{head, head_at}
+use Rattle.md_checker.specs.Fits.{IsFitNode, Fits}
 use Rattle.md_checker.specs.FitTests.{union_all, AreHeads, IsFit, AreFit, AreFinished, MayPut, IsTested}
 use Rattle.md_checker.proofs.FitNodes.{head_item, names_union, node_heads, fit_node, node_fit}
-use Rattle.md_checker.proofs.FitsTree.{child_modules, fits_proof}
+use Rattle.md_checker.proofs.FitsTree.{fit_modules, fits_proof}
 
 -- ---- trees in a row, one behind the other
 
@@ -118,7 +119,7 @@ module _ {g : PlainGraph} (graph : IsGraph g) (sets : List NameSet) (list : List
   within_whole = subst (λ l. Within (names_below (row l)) g.vertices) (sym (take-append-drop (length ts - n) ts)) may.finished.are_fit.within
 
   mods : (c : PlainTree) → IsChild (row after) c → IsModule (adjacent g) g.vertices (names c)
-  mods = child_modules (graph_adjacency graph) g.vertices (row after) fit_parts.1 (λ x h. within_whole x (below_right before after x h))
+  mods = fit_modules (adjacent g) g.vertices (row after) fit_parts.1 (λ x h. within_whole x (below_right before after x h))
 
   module _ (below : ℕ) (at_place : below ≡ length sets - n) (sub : List ℕ) (is_sub : sub ≡ drop below list) where
     same_place : below ≡ length ts - n
@@ -169,10 +170,10 @@ module _ {g : PlainGraph} (graph : IsGraph g) (sets : List NameSet) (list : List
 
 -- ---- the part of a node of the program
 
-pub leaf_part_is : (t : Tree) (v : ℕ) → t ≡ Leaf v → part_of (plain t) ≡ name v
+pub leaf_part_is : (t : TreeOf Kind Pair) (v : ℕ) → t ≡ Leaf v → part_of (plain t) ≡ name v
 leaf_part_is t v is = ap part_of (plain_is_leaf t v is)
 
-pub node_part_is : (t : Tree) (k : Kind) (cs : Children) (es : QuotientEdges) (n : ℕ) (ps : List Pair) → t ≡ Node k cs es → n ≡ length (trees_of cs) → ps ≡ es.list.items → part_of (plain t) ≡ inner k n ps
+pub node_part_is : (t : TreeOf Kind Pair) (k : Kind) (cs : ChildrenOf Kind Pair) (es : PairsOf Pair) (n : ℕ) (ps : List Pair) → t ≡ Node k cs es → n ≡ length (trees_of cs) → ps ≡ es.list.items → part_of (plain t) ≡ inner k n ps
 node_part_is t k cs es n ps is size listed =
     ap part_of (plain_is_node t k cs es is) ∙ ap₂ (inner k) (count_row (map plain (trees_of cs)) ∙ length-map (trees_of cs) plain ∙ sym size) (sym listed)
 

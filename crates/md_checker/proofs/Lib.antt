@@ -4,7 +4,6 @@ mod Leading
 mod InStep
 mod Heads
 mod Listed
-mod Fitting
 mod FitsTree
 mod OneAnswer
 mod Applying

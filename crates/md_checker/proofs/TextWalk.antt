@@ -24,7 +24,8 @@ use Rattle.md_tree.specs.WellFormed.{IsCanonicalNode, IsWellFormed, IsOfKind, No
 use Rattle.md_tree.proofs.Folding.{count_row}
 use Rattle.md_tree.proofs.Holding.{kept_none, kept_name, kept_closed, names_to_one, names_of_one}
 use Rattle.md_tree.proofs.Coming.{due_start, due_name, due_node, behind_comma, behind_inside, behind_end, inside_end, inside_first, few_held}
-use Rattle.md_checker.specs.Fits.{head, IsFitNode}
+use Rattle.md_tree.specs.Heads.{head}
+use Rattle.md_checker.specs.Fits.{IsFitNode}
 use Rattle.md_checker.specs.FitTests.{union_all, AreHeads, IsFit, AreFinished, MayPut}
 use Rattle.md_checker.specs.TextFits.{root_kind, MayHaveKinds, IsReadBy, IsReadInsideBy}
 use Rattle.md_checker.proofs.FitsTree.{fits_proof}

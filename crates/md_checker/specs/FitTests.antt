@@ -13,7 +13,8 @@ use Rattle.md_tree.specs.Stacks.{with_part, HasChildrenOf}
 use Rattle.md_tree.specs.TreeGraph.{joins}
 use Rattle.md_tree.specs.Trees.{PlainTree, names, names_below, row, EachNodeBelow}
 use Rattle.md_tree.specs.WellFormed.{IsCanonicalNode}
-use Rattle.md_checker.specs.Fits.{head, IsFitNode}
+use Rattle.md_tree.specs.Heads.{head}
+use Rattle.md_checker.specs.Fits.{IsFitNode}
 
 -- the set has one member
 abbrev pub IsSingle : NameSet → Type 0

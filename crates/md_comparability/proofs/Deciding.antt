@@ -26,7 +26,7 @@ module _ (e : ℕ → ℕ → Bool) where
   pub decide_is_arc : (a : Arc) → Decided (IsArc e a)
   decide_is_arc a = decide_test (e a.tail a.head) true
 
-  decide_forces : (a b : Arc) → Decided (ForcesDirectly e a b)
+  pub decide_forces : (a b : Arc) → Decided (ForcesDirectly e a b)
   decide_forces a b =
       decide_either
       (decide_three (same_name a.tail b.tail) (decide_not (same_name a.head b.head)) (decide_test (e a.head b.head) false))

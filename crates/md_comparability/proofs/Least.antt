@@ -7,11 +7,11 @@ use Rattle.md_comparability.specs.Chains.{Precedes}
 use Rattle.md_comparability.proofs.Deciding.{decide_either}
 
 -- the least number with a property, and none below n
-record IsLeastNumber (P : ℕ → Type 0) (m : ℕ) : Type 0 where
-  has : P m
-  least : (y : ℕ) → P y → m ≤ y
+pub record IsLeastNumber (P : ℕ → Type 0) (m : ℕ) : Type 0 where
+  pub has : P m
+  pub least : (y : ℕ) → P y → m ≤ y
 
-search_below : (P : ℕ → Type 0) → ((x : ℕ) → Decided (P x)) → (n : ℕ) → ((m : ℕ) × (m < n) × IsLeastNumber P m) ⊎ ((y : ℕ) → y < n → P y → ⊥)
+pub search_below : (P : ℕ → Type 0) → ((x : ℕ) → Decided (P x)) → (n : ℕ) → ((m : ℕ) × (m < n) × IsLeastNumber P m) ⊎ ((y : ℕ) → y < n → P y → ⊥)
 search_below P decided zero = inr (λ y l _. omega arith)
 search_below P decided (suc n) =
     elim (search_below P decided n) [

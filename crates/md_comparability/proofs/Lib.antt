@@ -14,3 +14,4 @@ pub mod Sorted
 pub mod OrderLaws
 pub mod Placed
 pub mod Listing
+pub mod Shortest

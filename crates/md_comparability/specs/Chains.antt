@@ -1,6 +1,6 @@
 -- Forcing chains: lists of arcs that lead from an arc to its reverse.
 -- Source: Golumbic, Algorithmic Graph Theory and Perfect Graphs, chapter 5; the choice of the edge is this project's.
-use Rattle.std.specs.Prelude.{◌≡◌, ◌<◌, ◌⊎◌, ℕ, Bool, List}
+use Rattle.std.specs.Prelude.{◌≡◌, ◌<◌, ◌≤◌, ◌⊎◌, ℕ, Bool, List, length}
 use Rattle.md_forcing.specs.declared.arc.Arc.{Arc}
 use Rattle.md_forcing.specs.Forcing.{arc, IsListToReverse}
 
@@ -21,3 +21,8 @@ pub record IsForcingChain (e : ℕ → ℕ → Bool) (list : List Arc) : Type 0 
 -- the graph has a forcing chain
 abbrev pub HasForcingChain : (ℕ → ℕ → Bool) → Type 0
 HasForcingChain e = (list : List Arc) × IsForcingChain e list
+
+-- a forcing chain, and no forcing chain has fewer arcs
+pub record IsShortestChain (e : ℕ → ℕ → Bool) (list : List Arc) : Type 0 where
+  pub chain : IsForcingChain e list
+  pub shortest : (other : List Arc) → IsForcingChain e other → length list ≤ length other

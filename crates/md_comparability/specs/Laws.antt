@@ -10,7 +10,7 @@ use Rattle.md_forcing.specs.declared.arc_set.Side.{Side}
 use Rattle.md_forcing.specs.declared.arc_set.Side.TheVariants.{Edges, NonEdges}
 use Rattle.md_forcing.specs.Forcing.{arc, reverse, Reaches}
 use Rattle.md_forcing.specs.Sides.{adjacent_on}
-use Rattle.md_comparability.specs.Chains.{HasForcingChain}
+use Rattle.md_comparability.specs.Chains.{HasForcingChain, IsShortestChain}
 use Rattle.md_comparability.specs.Orientations.{IsTransitiveOrientation, HasTransitiveOrientation, IsChosen, IsLeastEdgeOrientation}
 use Rattle.md_comparability.specs.Orders.{Realise}
 
@@ -59,6 +59,11 @@ pub record HasChainOrOrientation (e : ℕ → ℕ → Bool) : Type 0 where
 
 abbrev pub ChainOrOrientation : Type 0
 ChainOrOrientation = (e : ℕ → ℕ → Bool) → IsAdjacency e → (n : ℕ) → IsBelow e n → HasChainOrOrientation e
+
+-- A graph with a forcing chain has a shortest one.
+abbrev pub ChainHasShortest : Type 0
+ChainHasShortest =
+    (e : ℕ → ℕ → Bool) → IsAdjacency e → (n : ℕ) → IsBelow e n → HasForcingChain e → (list : List Arc) × IsShortestChain e list
 
 -- There is one list of the arcs of the least-edge orientation in ascending order, and one alone.
 pub record HasOneList (e : ℕ → ℕ → Bool) : Type 0 where

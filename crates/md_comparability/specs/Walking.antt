@@ -50,6 +50,6 @@ IsClassOrChosen e (Stopped class) = IsStopped e class
 IsClassOrChosen e (Whole chosen) = IsWholeOrientation e chosen
 
 -- the chosen arcs have room for each member of s
-abbrev pub HasRoom : {w : ℕ} → NameSet → ClassOrChosen w → Type 0
-HasRoom s (Stopped class) = Unit {0}
-HasRoom s (Whole chosen) = (v : ℕ) → Has s v → v < length chosen
+abbrev pub HasArcRoom : {w : ℕ} → NameSet → ClassOrChosen w → Type 0
+HasArcRoom s (Stopped class) = Unit {0}
+HasArcRoom s (Whole chosen) = (v : ℕ) → Has s v → v < length chosen

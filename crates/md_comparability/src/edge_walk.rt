@@ -3,7 +3,7 @@ ghost use Rattle.std.specs.Prelude.{◌≡◌, ℕ, ◌+◌, ◌*◌, ◌<◌, �
 ghost use Rattle.md_graph.specs.Sets.{Has};
 ghost use Rattle.md_forcing.specs.Forcing.{IsArc};
 ghost use Rattle.md_forcing.specs.Sides.{adjacent_on};
-ghost use Rattle.md_comparability.specs.Walking.{HasArcOf, JoinsAlso, IsWalked, IsStopped, IsClassOrChosen, HasRoom};
+ghost use Rattle.md_comparability.specs.Walking.{HasArcOf, JoinsAlso, IsWalked, IsStopped, IsClassOrChosen, HasArcRoom};
 
 use md_forcing::{Arc, ArcSetOf, Explored, ForcingTree, Side, explore};
 use md_graph::{GraphOf, Memory, Set};
@@ -26,7 +26,7 @@ pub fn orient_classes<const W: usize>(
     side: Side,
 ) -> Result<ClassOrChosen<W>, Memory>
     ensures ending { IfOk result (IsClassOrChosen (adjacent_on side graph.now)) }
-    ensures room { IfOk result (HasRoom graph.now.vertices) }
+    ensures room { IfOk result (HasArcRoom graph.now.vertices) }
 {
     let _vertices = graph.vertices();
     let chosen = ArcSetOf::with_size(alloc, graph.bound())?;

@@ -6,6 +6,7 @@ ghost use Rattle.md_comparability.specs.Laws.{
   ClassesAreTransitive,
   LeastEdgeIsTransitive,
   ChainOrOrientation,
+  ChainHasShortest,
   OneLeastEdgeOrientation,
   OrientationsGiveOrders,
   OrdersIfNoChain,
@@ -31,6 +32,11 @@ pub fn least_edge_is_transitive()
 /// A graph has a forcing chain or a transitive orientation, and not both.
 pub fn chain_or_orientation()
     ensures { ChainOrOrientation }
+{}
+
+/// A graph with a forcing chain has a shortest one.
+pub fn chain_has_shortest()
+    ensures { ChainHasShortest }
 {}
 
 /// There is one list of the arcs of the least-edge orientation in ascending order, and one alone.

@@ -11,8 +11,10 @@ use Rattle.md_modules.specs.Modules.{IsMaximalStrong}
 use Rattle.md_modules.specs.Kinds.{IsSplit}
 use Rattle.md_modules.specs.Components.{IsComponent}
 use Rattle.md_modules.proofs.Turns.{graph_adjacency}
-use Rattle.md_modules.proofs.Components.{split_closed, one_component}
-use Rattle.md_modules.proofs.Children.{component_child, child_component}
+use Rattle.md_graph.proofs.Search.{decide_test}
+use Rattle.md_modules.proofs.Modules.{undirected}
+use Rattle.md_modules.proofs.Splits.{split_closed}
+use Rattle.md_modules.proofs.Components.{one_component, component_child, child_component}
 use Rattle.md_tree.specs.declared.Kind.{Kind}
 use Rattle.md_tree.specs.declared.Kind.TheVariants.{Parallel, Series, Prime}
 use Rattle.md_tree.specs.declared.Pair.{Pair}
@@ -22,9 +24,9 @@ use Rattle.md_tree.specs.WellFormed.{IsOfKind, NoneOfKind, AreDisjoint, IsPlainN
 use Rattle.md_tree.specs.TreeGraph.{position_of, joins, adjacent_in, adjacent_below, graph_of_tree}
 use Rattle.md_tree.proofs.Nodes.{IsChild, child_inside, child_of_name}
 use Rattle.md_tree.proofs.Built.{IsBuilt}
-use Rattle.md_tree.proofs.Unique.{one_kind}
-use Rattle.md_tree.proofs.Canonical.{built_tree}
-use Rattle.md_tree.proofs.Graph.{at_position}
+use Rattle.md_tree.proofs.Kinded.{built_tree}
+use Rattle.md_tree.proofs.GraphKinds.{one_kind, graph_kinds}
+use Rattle.md_tree.proofs.Nodes.{at_position}
 use Rattle.md_tree.proofs.OneTree.{one_tree_proof, no_path_proof}
 use Rattle.md_cotree.specs.Laws.{TreeOfItsGraph, OneTreeOfAGraph, NoPathInItsGraph}
 use Rattle.md_tree.proofs.Edges.{here as first_place, later as later_place}
@@ -169,7 +171,7 @@ module _ (e : ℕ → ℕ → Bool) where
         let y = of_only v split.rest.0 split.rest.1 in
         clash (subst (λ w. Has a w) (x ∙ sym y) split.some.1) split.rest.2
     unsplit k (node l ds qs) differs each not agrees other a split =
-        other (one_kind adj (names_below ds) l k (node_kind l ds qs each not agrees) (split_kind e (names_below ds) a k differs split))
+        other (one_kind (undirected adj) (names_below ds) l k (node_kind l ds qs each not agrees) (split_kind e (names_below ds) a k differs split))
 
     module _ (k : Kind) (cs : PlainTrees) (ps : List Pair) (each : IsCanonicalTree (node k cs ps)) (not : EachNode NotPrime (node k cs ps)) (agrees : Agrees e (node k cs ps)) where
       child_whole : (c : PlainTree) → IsChild cs c → (a : NameSet) → IsSplit e (names c) a (value k) → ⊥
@@ -209,13 +211,13 @@ module _ (e : ℕ → ℕ → Bool) where
                 c.0,
                 c.1,
                 one_component (names_below cs) m (names c.0) (value k) x.0
-                    (child_component adj (names_below cs) m (names c.0) (value k) x.0 (child_split k cs ps c.0 each not agrees c.1) max x.1)
+                    (child_component (undirected adj) decide_test (names_below cs) m (names c.0) (value k) x.0 refl (child_split k cs ps c.0 each not agrees c.1) max x.1)
                     (child_is_component c.0 c.1 x.0 c.2),
               ),
           λ is.
               let split = child_split k cs ps is.0 each not agrees is.1 in
               subst (IsMaximalStrong e (names_below cs)) (sym is.2)
-              (component_child adj (names_below cs) (names is.0) (names is.0) (value k) split.some.0 split (child_is_component is.0 is.1 split.some.0 split.some.1)),
+              (component_child (undirected adj) (names_below cs) (names is.0) (names is.0) (value k) split.some.0 refl split (child_is_component is.0 is.1 split.some.0 split.some.1)),
         );
       }
 
@@ -232,7 +234,7 @@ module _ (e : ℕ → ℕ → Bool) where
 
     -- such a tree is the tree of strong modules
     pub tree_of_canonical : (t : PlainTree) → IsCanonicalTree t → HasNoPrimeNode t → Agrees e t → IsTreeOf e (names t) t
-    tree_of_canonical t each not agrees = built_tree e (names t) t refl (all_built t each not agrees)
+    tree_of_canonical t each not agrees = built_tree (graph_kinds (undirected adj)) decide_test (names t) t refl (all_built t each not agrees)
 
 pub tree_proof : TreeOfItsGraph
 tree_proof None is not = refl

@@ -12,9 +12,10 @@ use Rattle.md_lists.specs.Words.{holds_once}
 use Rattle.md_lists.specs.Links.{Links, kind_at, AreLinks, with_kind, spare_count}
 use Rattle.md_tree.specs.declared.Kind.{Kind}
 use Rattle.md_tree.specs.declared.Kind.TheVariants.{Prime}
-use Rattle.md_tree.specs.declared.Children.{Children, out-Children}
-use Rattle.md_tree.specs.declared.QuotientEdges.{QuotientEdges}
-use Rattle.md_tree.specs.declared.Tree.{Tree, Leaf as LeafTree, Node as NodeTree}
+use Rattle.md_tree.specs.declared.Pair.{Pair}
+use Rattle.md_tree.specs.declared.ChildrenOf.{ChildrenOf, out-ChildrenOf}
+use Rattle.md_tree.specs.declared.PairsOf.{PairsOf}
+use Rattle.md_tree.specs.declared.TreeOf.{TreeOf, Leaf as LeafTree, Node as NodeTree}
 use Rattle.md_tree.specs.Plain.{plain}
 use Rattle.md_tree.proofs.Folding.{count_row}
 use Rattle.md_tree.proofs.Plain.{plain_is_leaf, plain_is_node}
@@ -161,20 +162,20 @@ node_seen c m stack p count below k kind is free within made at seen shown ts us
 
 -- ---- one node
 
-pub leaf_ready : (c : Cotree) (t : Tree) (v : ℕ) → t ≡ LeafTree v → IsReady c (part_of (plain t)) → (v < NAMES) × (get_or c.places.items v None ≡ None)
+pub leaf_ready : (c : Cotree) (t : TreeOf Kind Pair) (v : ℕ) → t ≡ LeafTree v → IsReady c (part_of (plain t)) → (v < NAMES) × (get_or c.places.items v None ≡ None)
 leaf_ready c t v is ready = subst (λ p. IsReady c (part_of p)) (plain_is_leaf t v is) ready
 
-pub leaf_put : (t : Tree) (v p : ℕ) (ts : PlaceTrees) → t ≡ LeafTree v → shape_list (row_append ts (then (tip p v) no_more)) ≡ with_part (part_of (plain t)) (shape_list ts)
+pub leaf_put : (t : TreeOf Kind Pair) (v p : ℕ) (ts : PlaceTrees) → t ≡ LeafTree v → shape_list (row_append ts (then (tip p v) no_more)) ≡ with_part (part_of (plain t)) (shape_list ts)
 leaf_put t v p ts is = leaf_shown ts p v ∙ sym (ap (λ z. with_part (part_of z) (shape_list ts)) (plain_is_leaf t v is))
 
 -- the number of the children of a node that is told
-abbrev children_of : Children → ℕ
-children_of cs = count (row (map plain (out-Children cs).list.items))
+abbrev children_of : ChildrenOf Kind Pair → ℕ
+children_of cs = count (row (map plain (out-ChildrenOf _ _ cs).list.items))
 
-counted : (cs : Children) (n : ℕ) → n ≡ length (out-Children cs).list.items → n ≡ children_of cs
-counted cs n e = e ∙ sym (length-map (out-Children cs).list.items plain) ∙ sym (count_row (map plain (out-Children cs).list.items))
+counted : (cs : ChildrenOf Kind Pair) (n : ℕ) → n ≡ length (out-ChildrenOf _ _ cs).list.items → n ≡ children_of cs
+counted cs n e = e ∙ sym (length-map (out-ChildrenOf _ _ cs).list.items plain) ∙ sym (count_row (map plain (out-ChildrenOf _ _ cs).list.items))
 
-module _ (c : Cotree) (t : Tree) (k : Kind) (cs : Children) (es : QuotientEdges) (is : t ≡ NodeTree k cs es) (n : ℕ) (long : n ≡ length (out-Children cs).list.items) where
+module _ (c : Cotree) (t : TreeOf Kind Pair) (k : Kind) (cs : ChildrenOf Kind Pair) (es : PairsOf Pair) (is : t ≡ NodeTree k cs es) (n : ℕ) (long : n ≡ length (out-ChildrenOf _ _ cs).list.items) where
   pub node_ready : IsReady c (part_of (plain t)) → (k ≢ Prime) × (es.list.items ≡ [])
   node_ready ready = subst (λ p. IsReady c (part_of p)) (plain_is_node t k cs es is) ready
 

@@ -6,9 +6,10 @@ use Rattle.std.specs.List.Sorted.{IsPermutation, IsNonDecreasingBy}
 use Rattle.md_lists.specs.declared.kinds.PlaceKind.TheVariants.{Leaf as LeafKind}
 use Rattle.md_lists.specs.Links.{Links, kind_at, children_at}
 use Rattle.md_tree.specs.declared.Kind.{Kind}
-use Rattle.md_tree.specs.declared.QuotientEdges.{QuotientEdges}
-use Rattle.md_tree.specs.declared.Children.{roll-Children}
-use Rattle.md_tree.specs.declared.Tree.{Tree, Leaf, Node}
+use Rattle.md_tree.specs.declared.Pair.{Pair}
+use Rattle.md_tree.specs.declared.PairsOf.{PairsOf}
+use Rattle.md_tree.specs.declared.ChildrenOf.{roll-ChildrenOf}
+use Rattle.md_tree.specs.declared.TreeOf.{TreeOf, Leaf, Node}
 use Rattle.md_tree.specs.Trees.{node, row}
 use Rattle.md_tree.specs.Plain.{plain}
 use Rattle.md_tree.proofs.Plain.{plain_is_leaf, plain-node}
@@ -17,7 +18,7 @@ use Rattle.md_cotree.specs.Orders.{part_of_kind, part_at, plain_keyed, tree_of, 
 
 -- ---- trees without their keys
 
-pub trees_more : (now more : List Tree) (seen : List Keyed) (k : Keyed) → map plain now ≡ map tree_of (map plain_keyed seen) → more ≡ now ++ k.tree ∷ [] →
+pub trees_more : (now more : List (TreeOf Kind Pair)) (seen : List Keyed) (k : Keyed) → map plain now ≡ map tree_of (map plain_keyed seen) → more ≡ now ++ k.tree ∷ [] →
     map plain more ≡ map tree_of (map plain_keyed (seen ++ k ∷ []))
 trees_more now more seen k so push =
     ap (map plain) push ∙ map-append plain now (k.tree ∷ []) ∙ ap (λ l. l ++ plain k.tree ∷ []) so
@@ -59,10 +60,10 @@ falling_long below stack fallen low is =
 
 -- ---- trees that leave the stack
 
-pub taken_none : (zs : List Keyed) (ts : List Tree) → ts ≡ [] → AreTaken zs zs ts
+pub taken_none : (zs : List Keyed) (ts : List (TreeOf Kind Pair)) → ts ≡ [] → AreTaken zs zs ts
 taken_none zs ts none = record { rest = []; whole = sym (append-nil zs); told = ap (map plain) none }
 
-pub taken_more : (zs ws vs : List Keyed) (ts us : List Tree) (k : Keyed) → AreTaken zs ws ts → ws ≡ vs ++ k ∷ [] → us ≡ ts ++ k.tree ∷ [] → AreTaken zs vs us
+pub taken_more : (zs ws vs : List Keyed) (ts us : List (TreeOf Kind Pair)) (k : Keyed) → AreTaken zs ws ts → ws ≡ vs ++ k ∷ [] → us ≡ ts ++ k.tree ∷ [] → AreTaken zs vs us
 taken_more zs ws vs ts us k taken pop push = record {
   rest = k ∷ taken.rest;
   whole = taken.whole ∙ ap (λ l. l ++ taken.rest) pop ∙ append_assoc vs (k ∷ []) taken.rest;
@@ -111,10 +112,10 @@ over_some count below stack children sorted at some few is_children moved =
     let rest = length-drop below stack in
     omega arith
 
-module _ (kind : Kind) (count below : ℕ) (stack kept children sorted new : List Keyed) (first : Keyed) (list : Vec Tree Global) (edges : QuotientEdges) where
+module _ (kind : Kind) (count below : ℕ) (stack kept children sorted new : List Keyed) (first : Keyed) (list : Vec (TreeOf Kind Pair) Global) (edges : PairsOf Pair) where
   pub over_is_put : below ≡ length stack - count → kept ≡ take below stack → children ≡ drop below stack → IsPermutation children sorted → IsNonDecreasingBy (λ (k : Keyed). k.least) sorted →
       0 < length sorted → first ≡ get_or sorted 0 first → map plain list.items ≡ map tree_of (map plain_keyed sorted) → edges.list.items ≡ [] →
-      new ≡ kept ++ record { least = first.least; tree = Node kind (roll-Children (record { list = list })) edges } ∷ [] → IsPutOver kind count (map plain_keyed stack) (map plain_keyed new)
+      new ≡ kept ++ record { least = first.least; tree = Node kind (roll-ChildrenOf _ _ (record { list = list })) edges } ∷ [] → IsPutOver kind count (map plain_keyed stack) (map plain_keyed new)
   over_is_put at is_kept is_children moved rising some is_first is_list none push =
       let where_at : below ≡ length (map plain_keyed stack) - count = at ∙ sym (ap (λ n. n - count) (length-map stack plain_keyed)) in
       record {
@@ -124,16 +125,16 @@ module _ (kind : Kind) (count below : ℕ) (stack kept children sorted new : Lis
             (IsPermutation-map plain_keyed children sorted moved);
         rising = rising_plain sorted rising;
         whole =
-            ap (map plain_keyed) push ∙ map-append plain_keyed kept (record { least = first.least; tree = Node kind (roll-Children (record { list = list })) edges } ∷ [])
+            ap (map plain_keyed) push ∙ map-append plain_keyed kept (record { least = first.least; tree = Node kind (roll-ChildrenOf _ _ (record { list = list })) edges } ∷ [])
             ∙ (λ i. (ap (map plain_keyed) is_kept ∙ sym (take-map plain_keyed below stack) ∙ ap (λ n. take n (map plain_keyed stack)) where_at) i
             ++ record {
               least = first_plain sorted first some is_first i;
-              tree = (plain-node kind (roll-Children (record { list = list })) edges ∙ (λ j. node kind (row (is_list j)) (none j))) i;
+              tree = (plain-node kind (roll-ChildrenOf _ _ (record { list = list })) edges ∙ (λ j. node kind (row (is_list j)) (none j))) i;
             } ∷ []);
       }
 
 -- the trees were put in order, and have left the stack
-module _ (count below : ℕ) (stack fallen left : List Keyed) (list : Vec Tree Global) (at : below ≡ length stack - count) (some : 0 < count) (few : count ≤ length stack)
+module _ (count below : ℕ) (stack fallen left : List Keyed) (list : Vec (TreeOf Kind Pair) Global) (at : below ≡ length stack - count) (some : 0 < count) (few : count ≤ length stack)
     (is : AreFalling below stack fallen) (taken : AreTaken fallen left list.items) (long : length left ≡ below) where
   kept_long : length (take below stack) ≡ below
   kept_long = let e = length-take below stack in omega arith
@@ -154,8 +155,8 @@ module _ (count below : ℕ) (stack fallen left : List Keyed) (list : Vec Tree G
       all : length (take below stack ++ reverse is.sorted) ≡ below + length is.sorted
       all = let e = length-append (take below stack) (reverse is.sorted) in let f = length-reverse is.sorted in let g = kept_long in omega arith
 
-  pub taken_is_put : (kind : Kind) (new : List Keyed) (first : Keyed) (edges : QuotientEdges) → first ≡ get_or fallen (length fallen - 1) first → edges.list.items ≡ [] →
-      new ≡ left ++ record { least = first.least; tree = Node kind (roll-Children (record { list = list })) edges } ∷ [] → IsPutOver kind count (map plain_keyed stack) (map plain_keyed new)
+  pub taken_is_put : (kind : Kind) (new : List Keyed) (first : Keyed) (edges : PairsOf Pair) → first ≡ get_or fallen (length fallen - 1) first → edges.list.items ≡ [] →
+      new ≡ left ++ record { least = first.least; tree = Node kind (roll-ChildrenOf _ _ (record { list = list })) edges } ∷ [] → IsPutOver kind count (map plain_keyed stack) (map plain_keyed new)
   taken_is_put kind new first edges last none push =
       over_is_put kind count below stack left (drop below stack) is.sorted new first list edges at parts.0 refl is.moved is.rising sorted_some (last_first first last)
       (taken.told ∙ ap (λ l. map tree_of (map plain_keyed l)) (ap reverse parts.1 ∙ reverse-reverse is.sorted)) none push

@@ -10,7 +10,7 @@ use Rattle.md_lists.specs.Links.{Links, kind_at, children_at, IsLive}
 use Rattle.md_tree.specs.declared.Kind.{Kind}
 use Rattle.md_tree.specs.declared.Kind.TheVariants.{Prime, Parallel as ParallelKind, Series as SeriesKind}
 use Rattle.md_tree.specs.declared.Pair.{Pair}
-use Rattle.md_tree.specs.declared.Tree.{Tree}
+use Rattle.md_tree.specs.declared.TreeOf.{TreeOf}
 use Rattle.md_tree.specs.Parts.{PlainPart, name, inner as inner_part}
 use Rattle.md_tree.specs.Plain.{plain}
 use Rattle.md_tree.specs.TreeGraph.{adjacent_in}
@@ -88,7 +88,7 @@ pub record AreFalling (below : ℕ) (zs ws : List Keyed) : Type 0 where
   pub whole : ws ≡ take below zs ++ reverse sorted
 
 -- trees were taken off the end, the last first
-pub record AreTaken (zs ws : List Keyed) (ts : List Tree) : Type 0 where
+pub record AreTaken (zs ws : List Keyed) (ts : List (TreeOf Kind Pair)) : Type 0 where
   pub rest : List Keyed
   pub whole : zs ≡ ws ++ rest
   pub told : map plain ts ≡ map tree_of (map plain_keyed (reverse rest))

@@ -8,8 +8,9 @@ use Rattle.md_modules.specs.Modules.{IsModule, IsLeastModule, IsLeastModuleOver,
 use Rattle.md_modules.specs.Kinds.{IsPrime}
 use Rattle.std.proofs.lemmas.Bool.{cases_Bool, true_from_ne_false, false_from_ne_true}
 use Rattle.md_graph.proofs.SetLemmas.{clash, only_has, of_only, insert_new, insert_old, of_insert, union_left, union_right, of_union, minus_has, of_minus, minus_lacks, Has-along, same_members, none_lacks}
-use Rattle.md_graph.proofs.Search.{decide_same, len_proper}
-use Rattle.md_modules.proofs.Modules.{single_module, join_module}
+use Rattle.md_graph.proofs.Search.{decide_test, decide_same, len_proper}
+use Rattle.md_modules.proofs.Modules.{undirected, single_module, join_module}
+use Rattle.md_modules.proofs.Components.{prime_unsplit}
 use Rattle.md_modules.proofs.Children.{in_maximal, maximal_leaves, maximal_meet, maximal_child, child_maximal}
 use Rattle.md_decompose.specs.Children.{set_at, AreChildren}
 use Rattle.md_modules.specs.Classes.{AreMaximalInside}
@@ -92,9 +93,9 @@ module _ {e : ℕ → ℕ → Bool} where
       covered : Within s more → (m : NameSet) → IsModule e s m → Has m v → Has m j → m ≢ s → ⊥
       covered all m module_is hv hj differs =
           let held_differs : held ≢ s = λ q. clash (Has-along s held (sym q) j inside) out in
-          let x : (x : NameSet) × IsMaximalModule e s x × Within held x = in_maximal s held is held_differs in
-          let y : (y : NameSet) × IsMaximalModule e s y × Within m y = in_maximal s m module_is differs in
-          let one : x.0 ≡ y.0 = maximal_meet adj s x.0 y.0 v prime x.1 y.1 (x.2 v start) (y.2 v hv) in
+          let x : (x : NameSet) × IsMaximalModule e s x × Within held x = in_maximal decide_test s held is held_differs in
+          let y : (y : NameSet) × IsMaximalModule e s y × Within m y = in_maximal decide_test s m module_is differs in
+          let one : x.0 ≡ y.0 = maximal_meet (undirected adj) s x.0 y.0 v (prime_unsplit s prime) x.1 y.1 (x.2 v start) (y.2 v hv) in
           let t : (t : ℕ) × Has s t × Lacks x.0 t = maximal_leaves s x.0 x.1 in
           let joined : IsModule e s (union held m) = join_module s held m v is module_is start hv in
           let in_join : Has (union held m) t.0 =
@@ -112,7 +113,7 @@ module _ {e : ℕ → ℕ → Bool} where
       -- a maximal module other than that of v lies in the rest
       away : (m : NameSet) (x : ℕ) → IsMaximalModule e s m → Has m x → Has rest x → Within m rest
       away m x m_max h hr y hy = true_from_ne_false _ (λ out.
-          let one : m ≡ difference s rest = maximal_meet adj s m (difference s rest) y prime m_max max hy (minus_has s rest y (m_max.is_module.inside y hy) out) in
+          let one : m ≡ difference s rest = maximal_meet (undirected adj) s m (difference s rest) y (prime_unsplit s prime) m_max max hy (minus_has s rest y (m_max.is_module.inside y hy) out) in
           clash hr (of_minus s rest x (Has-along _ _ one x h)).1)
 
       class_child : (k : ℕ) → k < length cs → IsMaximalStrong e s (set_at cs k)
@@ -122,10 +123,10 @@ module _ {e : ℕ → ℕ → Bool} where
           let hx : Has (set_at cs k) x = c_module.some.1 in
           let differs : set_at cs k ≢ s = λ same.
           clash (is.holds.partition.inside k v (Has-along s _ (sym same) v (of_minus s rest v hv).0)) (of_minus s rest v hv).1 in
-          let y : (y : NameSet) × IsMaximalModule e s y × Within (set_at cs k) y = in_maximal s (set_at cs k) c_module differs in
+          let y : (y : NameSet) × IsMaximalModule e s y × Within (set_at cs k) y = in_maximal decide_test s (set_at cs k) c_module differs in
           let y_in : Within y.0 rest = away y.0 x y.1 (y.2 x hx) (is.holds.partition.inside k x hx) in
           let same : y.0 ≡ set_at cs k = same_members y.0 (set_at cs k) (is.holds.whole y.0 y.1.is_module y_in k x hx (y.2 x hx)) y.2 in
-          subst (IsMaximalStrong e s) same (maximal_child adj s y.0 prime y.1)
+          subst (IsMaximalStrong e s) same (maximal_child (undirected adj) s y.0 (prime_unsplit s prime) y.1)
 
       child_class : (m : NameSet) (x : ℕ) → IsMaximalModule e s m → Has m x → Has rest x → Contains cs m
       child_class m x m_max h hr =
@@ -141,15 +142,15 @@ module _ {e : ℕ → ℕ → Bool} where
       children_are listed = record {
         exactly = λ m. (
           λ child.
-              let m_max : IsMaximalModule e s m = child_maximal adj s m prime child in
+              let m_max : IsMaximalModule e s m = child_maximal (undirected adj) decide_test s m (prime_unsplit s prime) child in
               let x : ℕ = m_max.is_module.some.0 in
               let h : Has m x = m_max.is_module.some.1 in
               (listed.exactly m).1 (elim (cases_Bool (contains rest x)) [
                 | inl hr ↦ inr (child_class m x m_max h hr)
-                | inr out ↦ inl (maximal_meet adj s m (difference s rest) x prime m_max max h (minus_has s rest x (m_max.is_module.inside x h) out))
+                | inr out ↦ inl (maximal_meet (undirected adj) s m (difference s rest) x (prime_unsplit s prime) m_max max h (minus_has s rest x (m_max.is_module.inside x h) out))
               ]),
           λ has. elim ((listed.exactly m).0 has) [
-            | inl first ↦ subst (IsMaximalStrong e s) (sym first) (maximal_child adj s (difference s rest) prime max)
+            | inl first ↦ subst (IsMaximalStrong e s) (sym first) (maximal_child (undirected adj) s (difference s rest) (prime_unsplit s prime) max)
             | inr class ↦ (let at : (k : ℕ) × (k < length cs) × (set_at cs k ≡ m) = at_contained cs m class in subst (IsMaximalStrong e s) at.2 (class_child at.0 at.1))
           ],
         );

@@ -12,9 +12,10 @@ use Rattle.md_modules.specs.Components.{IsClosed, IsComponent}
 use Rattle.std.proofs.lemmas.Bool.{false_from_ne_true}
 use Rattle.md_graph.proofs.SetLemmas.{clash, empty_lacks, meet_has, of_meet, of_meet_lacks, minus_has, of_minus, Has-along, same_members, none_lacks, if_empty, lacks_along, rest_told}
 use Rattle.md_graph.proofs.Search.{decide_same, larger_or_same}
-use Rattle.md_modules.proofs.Components.{closed_of_closed, closed_whole, closed_rest, closed_split, component_unsplit}
+use Rattle.md_modules.proofs.Modules.{undirected}
+use Rattle.md_modules.proofs.Splits.{closed_of_closed, closed_whole, closed_rest, closed_split}
+use Rattle.md_modules.proofs.Components.{component_unsplit, component_child}
 use Rattle.md_modules.proofs.Strong.{children_meet}
-use Rattle.md_modules.proofs.Children.{component_child}
 use Rattle.md_modules.proofs.PathSearch.{adjacency}
 use Rattle.md_tree.specs.StrongTrees.{IsBefore}
 use Rattle.md_text.proofs.Lists.{In, Later, in_left, in_right, of_append, later_append, of_contains, to_contains, to_pairs}
@@ -45,7 +46,7 @@ module _ {e : ℕ → ℕ → Bool} where
   }
 
   closed_outside : (adj : IsAdjacency e) (s rest c : NameSet) (v : Bool) → IsClosed e s rest v → IsClosed e rest c v → IsClosed e s (difference rest c) v
-  closed_outside adj s rest c v closed inner = closed_of_closed s rest (difference rest c) v closed (closed_rest adj rest c v inner)
+  closed_outside adj s rest c v closed inner = closed_of_closed s rest (difference rest c) v closed (closed_rest (undirected adj) rest c v inner)
 
   listing_none : (s : NameSet) (v : Bool) → IsListing e s v s []
   listing_none s v = record {
@@ -79,7 +80,7 @@ module _ {e : ℕ → ℕ → Bool} where
     ];
   } where
     child : IsMaximalStrong e s c
-    child = component_child adj s c split.0 v x split.1 (component_of_rest s rest c v x listing.closed is)
+    child = component_child (undirected adj) s c split.0 v x refl split.1 (component_of_rest s rest c v x listing.closed is)
 
     after : (y : ℕ) → Has (difference rest c) y → x < y
     after y h =
@@ -138,7 +139,7 @@ module _ {g : PlainGraph} (is_graph : IsGraph g) where
   whole_unsplit s c left v x is is_left none split =
       elim (larger_or_same c s is.closed.inside) [
         | inl rest ↦ clash (Has-along (difference s c) empty (sym is_left ∙ none) rest.0 (minus_has s c rest.0 rest.1 rest.2)) (empty_lacks rest.0)
-        | inr same ↦ component_unsplit (adjacency is_graph) s c v x is split.0 (subst (λ t. IsSplit (adjacent g) t split.0 v) (sym same) split.1)
+        | inr same ↦ component_unsplit (undirected (adjacency is_graph)) s c v x refl is split.0 (subst (λ t. IsSplit (adjacent g) t split.0 v) (sym same) split.1)
       ]
 
 pub part_splits : {e : ℕ → ℕ → Bool} (s c left : NameSet) (v : Bool) (x : ℕ) → IsComponent e s x c v → left ≡ difference s c → (left ≡ empty → ⊥) → Splits e s v

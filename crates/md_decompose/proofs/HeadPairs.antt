@@ -12,6 +12,9 @@ use Rattle.md_graph.specs.Sets.{NameSet, Has, HasSome}
 use Rattle.md_modules.specs.Modules.{IsMaximalModule}
 use Rattle.md_modules.specs.Kinds.{IsPrime}
 use Rattle.md_graph.proofs.SetLemmas.{of_meet, meet_has, of_remove, remove_left, clash, empty_lacks, Has-along}
+use Rattle.md_graph.proofs.Search.{decide_test}
+use Rattle.md_modules.proofs.Modules.{undirected}
+use Rattle.md_modules.proofs.Components.{prime_unsplit}
 use Rattle.md_modules.proofs.Children.{child_maximal}
 use Rattle.md_modules.proofs.Quotients.{maximal_modules_proof}
 use Rattle.md_modules.proofs.PathSearch.{adjacency}
@@ -276,7 +279,7 @@ module _ {e : ℕ → ℕ → Bool} (heads : NameSet) (places : List ℕ) (left 
 -- the pairs of all heads are those of the sets between which an edge runs
 module _ {g : PlainGraph} (is_graph : IsGraph g) (s : NameSet) (cs : List NameSet) (prime : IsPrime (adjacent g) s) (children : AreChildren (adjacent g) s cs) where
   child_at : (k : ℕ) → k < length cs → IsMaximalModule (adjacent g) s (set_at cs k)
-  child_at k room = child_maximal (adjacency is_graph) s (set_at cs k) prime ((children.exactly (set_at cs k)).1 (to_contains cs (set_at cs k) (in_get cs k empty room)))
+  child_at k room = child_maximal (undirected (adjacency is_graph)) decide_test s (set_at cs k) (prime_unsplit s prime) ((children.exactly (set_at cs k)).1 (to_contains cs (set_at cs k) (in_get cs k empty room)))
 
   pub child_some : (k : ℕ) → k < length cs → HasSome (set_at cs k)
   child_some k room = (child_at k room).is_module.some

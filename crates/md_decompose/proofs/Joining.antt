@@ -5,7 +5,7 @@ use Rattle.md_graph.specs.Sets.{NameSet, Has, Lacks, Within, Disjoint, HasSome, 
 use Rattle.md_modules.specs.Modules.{IsMaximalStrong}
 use Rattle.std.proofs.lemmas.Bool.{false_from_ne_true}
 use Rattle.md_graph.proofs.SetLemmas.{clash, same_members, minus_has}
-use Rattle.md_graph.proofs.Search.{first_member, some_len, len_minus}
+use Rattle.md_graph.proofs.Search.{decide_test, first_member, some_len, len_minus}
 use Rattle.md_modules.proofs.Strong.{children_meet, child_of, child_leaves}
 use Rattle.md_tree.specs.declared.Kind.{Kind}
 use Rattle.md_tree.specs.declared.Kind.TheVariants.{Parallel, Series, Prime}
@@ -93,7 +93,7 @@ module _ (e : ℕ → ℕ → Bool) where
           let c : (c : PlainTree) × IsChild (row ts) c × Has (names c) x = child_of_name (row ts) x h in
           (maximal c.0 c.1).is_strong.is_module.inside x c.2)
           (λ x h.
-          let m : (m : NameSet) × IsMaximalStrong e s m × Has m x = child_of s x two h in
+          let m : (m : NameSet) × IsMaximalStrong e s m × Has m x = child_of decide_test s x two h in
           let c : IsChildSet (row ts) m.0 = to_child m.0 m.1 in
           child_inside (row ts) c.0 c.1 x (subst (λ w. Has w x) c.2 m.2))
 
@@ -160,6 +160,6 @@ module _ {e : ℕ → ℕ → Bool} (s : NameSet) where
         spread cs s (λ c i. ((child_maximal c i).is_strong.is_module.some, (child_maximal c i).is_strong.is_module.inside)) (apart cs child_maximal (of_pairs IsBefore cs are.order)) in
         let b : 2 ≤ length cs =
         two_parts s cs (two.0, two.2)
-        (λ x h. let m : (m : NameSet) × IsMaximalStrong e s m × Has m x = child_of s x two h in (m.0, of_contains cs m.0 ((are.exactly m.0).0 m.1), m.2))
+        (λ x h. let m : (m : NameSet) × IsMaximalStrong e s m × Has m x = child_of decide_test s x two h in (m.0, of_contains cs m.0 ((are.exactly m.0).0 m.1), m.2))
         (λ c i. child_leaves s c (child_maximal c i)) in
         omega arith

@@ -7,9 +7,10 @@ use Rattle.md_graph.specs.Sets.{NameSet, Has, Within, HasSome, HasTwo}
 use Rattle.md_graph.specs.Adjacency.{IsAdjacency}
 use Rattle.md_modules.specs.Modules.{IsMaximalStrong}
 use Rattle.md_graph.proofs.SetLemmas.{Has-along}
-use Rattle.md_modules.proofs.Children.{child_unsplit}
+use Rattle.md_modules.proofs.Modules.{undirected}
+use Rattle.md_modules.proofs.Splits.{child_unsplit}
 use Rattle.md_modules.proofs.Strong.{child_of}
-use Rattle.md_graph.proofs.Search.{some_len, first_member}
+use Rattle.md_graph.proofs.Search.{decide_test, some_len, first_member}
 use Rattle.md_tree.specs.declared.Kind.{Kind}
 use Rattle.md_tree.specs.declared.Kind.TheVariants.{Parallel, Series, Prime}
 use Rattle.md_tree.proofs.Folding.{each_join, each_parts}
@@ -18,8 +19,8 @@ use Rattle.md_tree.specs.Trees.{PlainTree, leaf, node, names, row, count, EachNo
 use Rattle.md_tree.specs.StrongTrees.{HasKind, IsBefore, IsTreeOf}
 use Rattle.md_text.proofs.Lists.{In, of_append, in_left, in_right, of_contains, to_contains, of_pairs}
 use Rattle.md_tree.proofs.Built.{IsBuilt}
-use Rattle.md_tree.proofs.Unique.{two_of_kind}
-use Rattle.md_tree.proofs.Canonical.{built_tree}
+use Rattle.md_tree.proofs.Kinded.{built_tree}
+use Rattle.md_tree.proofs.GraphKinds.{two_of_kind, graph_kinds}
 use Rattle.md_decompose.specs.declared.decomposition.Open.{Open}
 use Rattle.md_decompose.specs.declared.decomposition.Open.TheVariants.{One, Several}
 use Rattle.md_decompose.specs.declared.decomposition.OpenSet.{OpenSet}
@@ -135,7 +136,7 @@ module _ {e : ℕ → ℕ → Bool} where
 
     inside : Has c z.0
     inside =
-        let m : (m : NameSet) × IsMaximalStrong e s m × Has m z.0 = child_of s z.0 two z.1 in
+        let m : (m : NameSet) × IsMaximalStrong e s m × Has m z.0 = child_of decide_test s z.0 two z.1 in
         elim (of_contains (c ∷ cs) m.0 ((are.exactly m.0).0 m.1)) [
           | inl same ↦ Has-along m.0 c same z.0 m.2
           | inr later ↦
@@ -194,8 +195,8 @@ pub record IsOpened {w : ℕ} (e : ℕ → ℕ → Bool) (all : NameSet) (parts 
 
 module _ {e : ℕ → ℕ → Bool} (adj : IsAdjacency e) where
   child_fits : (s c : NameSet) (k : Kind) → HasKind e s k → IsMaximalStrong e s c → FitsBelow e c (Some k)
-  child_fits s c Parallel kind max = λ inner. child_unsplit adj s c kind.0 false kind.1 max inner.0 inner.1
-  child_fits s c Series kind max = λ inner. child_unsplit adj s c kind.0 true kind.1 max inner.0 inner.1
+  child_fits s c Parallel kind max = λ inner. child_unsplit (undirected adj) decide_test s c kind.0 false kind.1 max inner.0 inner.1
+  child_fits s c Series kind max = λ inner. child_unsplit (undirected adj) decide_test s c kind.0 true kind.1 max inner.0 inner.1
   child_fits s c Prime kind max = tt
 
   fits_open : {w : ℕ} (q : Open w) (k : Kind) → IsUnder (Some k) q → FitsBelow e (open_names q) (Some k) → FitsOpen e q
@@ -327,4 +328,4 @@ module _ {e : ℕ → ℕ → Bool} (adj : IsAdjacency e) where
     pub opened_end : {w : ℕ} (parts : List PlainPart) (os : List (Open w)) → IsOpened e all parts os → os ≡ [] → (t : PlainTree) × IsTreeOf e all t × (parts ≡ parts_of t)
     opened_end parts os is none =
         let b : IsBegun e all (parts ++ []) = is.goes_on [] (sym (ap sets_of none)) tt in
-        (b.0, built_tree e all b.0 b.1 b.2, sym (append-nil parts) ∙ b.3)
+        (b.0, built_tree (graph_kinds (undirected adj)) decide_test all b.0 b.1 b.2, sym (append-nil parts) ∙ b.3)

@@ -2,6 +2,7 @@
 ghost use Rattle.std.specs.Prelude.{◌≡◌, ℕ, ◌+◌, ◌*◌, ◌<◌, ◌≤◌, [], ◌∷◌, ◌++◌, length, replicate, vec_len, IfOk, OnOk};
 ghost use Rattle.md_dimacs.specs.Text.{dimacs_text, problem_line};
 ghost use Rattle.md_text.specs.Pieces.{piece_text};
+ghost use Rattle.md_graph.specs.Sets.{Has};
 ghost use Rattle.md_dimacs.specs.Places.{ArePlaces, line_start, row_text, edges_text};
 
 use crate::blocks::{bits_from, write_block};
@@ -101,14 +102,14 @@ fn write_row<const W: usize>(
     text: &mut Vec<u8>,
 ) -> Result<(), Memory>
     requires name { v < NAMES }
-    requires row { v < 64 * W }
+    requires vertex { Has graph.now.vertices v }
     requires room { length places.now ≤ 64 * W }
     requires start { piece_text start ≡ line_start graph.now v }
     requires places { ArePlaces graph.now places.now }
     ensures { OnOk result (text.new.items ++ chunk.new
         ≡ (text.old.items ++ chunk.old) ++ row_text graph.now v) }
 {
-    let row = graph.row(v);
+    let row = graph.neighbours(v);
     let from = v + 1;
     let mut first = from / 64 * 64;
     while (first as usize) < places.len() {

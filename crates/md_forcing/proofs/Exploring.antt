@@ -11,7 +11,7 @@ use Rattle.md_forcing.specs.declared.arc.Arc.{Arc}
 use Rattle.md_forcing.specs.Lists.{Holds, NoRepeats}
 use Rattle.md_forcing.specs.Forcing.{IsArc, ForcesDirectly, Reaches}
 use Rattle.md_forcing.specs.ArcSet.{HasArc, IsForcingClosed}
-use Rattle.md_forcing.specs.Classes.{IsForcedAt, IsClass}
+use Rattle.md_forcing.specs.Classes.{IsForcedAt, AreByDistance, IsClass}
 use Rattle.md_forcing.specs.Turns.{TakesForced, placed_at}
 use Rattle.md_forcing.proofs.ListLemmas.{holds_left, holds_right, of_append, once_append, of_map, get_left, get_of_append, place_within, keys-append, key_at, place_of_key, same_some}
 use Rattle.md_forcing.proofs.NameLists.{few_arcs, length-keys}
@@ -25,6 +25,8 @@ pub record Exploring (e : ℕ → ℕ → Bool) (first : Arc) (start rows : List
   pub reached : (a : Arc) → Holds (keys_of es) a → Reaches e first a
   pub forced : (j p : ℕ) (a : Arc) → 0 < j → slice_get es j ≡ Some (a, p) → IsForcedAt e es j p a
   pub done : (j p : ℕ) (a b : Arc) → j < i → slice_get es j ≡ Some (a, p) → IsArc e b → ForcesDirectly e a b → HasArc rows b
+  pub low : (j p : ℕ) (a : Arc) → slice_get es j ≡ Some (a, p) → p ≤ i
+  pub by_distance : AreByDistance e es
 
 same_entry : (x y : Arc × ℕ) → Some x ≡ Some y → x ≡ y
 same_entry x y e = same_some x y e
@@ -37,6 +39,10 @@ module _ (e : ℕ → ℕ → Bool) (first : Arc) (start : List NameSet) where
   one_entry : (j p : ℕ) (a : Arc) → 0 < j → slice_get {X = Arc × ℕ} ((first, 0) ∷ []) j ≡ Some (a, p) → ⊥
   one_entry zero p a h s = absurd (omega arith)
   one_entry (suc j) p a h s = cc
+
+  only_place : (j p : ℕ) (a : Arc) → slice_get {X = Arc × ℕ} ((first, 0) ∷ []) j ≡ Some (a, p) → p ≡ 0
+  only_place zero p a s = ap (λ x. x.1) (same_entry (a, p) (first, 0) (sym s))
+  only_place (suc j) p a s = cc
 
   pub exploring_start : IsArc e first → (HasArc start first → ⊥) → (rows : List NameSet) (es : List (Arc × ℕ)) → ((a : Arc) → HasArc rows a ↔ (HasArc start a ⊎ (a ≡ first))) → es ≡ (first, 0) ∷ [] → Exploring e first start rows es 0
   exploring_start is fresh rows es taken made =
@@ -55,6 +61,11 @@ module _ (e : ℕ → ℕ → Bool) (first : Arc) (start : List NameSet) where
         reached = λ a h. elim h [ inl f ↦ subst (Reaches e first) (sym f) (reaches_itself e first is) | inr none ↦ absurd none ];
         forced = λ j p a above s. absurd (one_entry j p a above s);
         done = λ j p a b below _ _ _. absurd (omega arith);
+        low = λ j p a s. let here = only_place j p a s in omega arith;
+        by_distance = record {
+          in_order = λ j k p q a b _ s _. let here = only_place j p a s in omega arith;
+          earliest = λ j k p q a b s _ less. let here = only_place j p a s in absurd (omega arith);
+        };
       })
 
   module _ (rows new_rows : List NameSet) (es new : List (Arc × ℕ)) (i : ℕ) (before : Exploring e first start rows es i) (turn : TakesForced e i rows es new_rows new) where
@@ -109,6 +120,9 @@ module _ (e : ℕ → ℕ → Bool) (first : Arc) (start : List NameSet) where
     at_new : (j p : ℕ) (a : Arc) → slice_get new j ≡ Some (a, p) → (slice_get es j ≡ Some (a, p)) ⊎ ((length es ≤ j) × Holds (map (placed_at i) turn.more) (a, p))
     at_new j p a s = get_of_append es _ j (a, p) (subst (λ l. slice_get l j ≡ Some (a, p)) turn.longer s)
 
+    new_place : (p : ℕ) (a : Arc) → Holds (map (placed_at i) turn.more) (a, p) → p ≡ i
+    new_place p a h = ap (λ x. x.1) (of_map (placed_at i) turn.more (a, p) h).2
+
     still : (j p : ℕ) (a : Arc) → slice_get es j ≡ Some (a, p) → slice_get new j ≡ Some (a, p)
     still j p a s = subst (λ l. slice_get l j ≡ Some (a, p)) (sym turn.longer) (get_left es _ j (a, p) s)
 
@@ -154,6 +168,49 @@ module _ (e : ℕ → ℕ → Bool) (first : Arc) (start : List NameSet) where
           | inr behind ↦ let far = behind.0 in absurd (omega arith)
         ]
 
+    more_low : (j p : ℕ) (a : Arc) → slice_get new j ≡ Some (a, p) → p ≤ i + 1
+    more_low j p a s =
+        elim (at_new j p a s) [
+          | inl old ↦ let low = before.low j p a old in omega arith
+          | inr behind ↦ let here = new_place p a behind.1 in omega arith
+        ]
+
+    more_in_order : (j k p q : ℕ) (a b : Arc) → j ≤ k → slice_get new j ≡ Some (a, p) → slice_get new k ≡ Some (b, q) → p ≤ q
+    more_in_order j k p q a b order s t =
+        elim (at_new j p a s) [
+          | inl old ↦ elim (at_new k q b t) [
+            | inl older ↦ before.by_distance.in_order j k p q a b order old older
+            | inr behind ↦ let low = before.low j p a old in let here = new_place q b behind.1 in omega arith
+          ]
+          | inr behind ↦ elim (at_new k q b t) [
+            | inl older ↦ let within = place_within es k _ older in let far = behind.0 in absurd (omega arith)
+            | inr last ↦ let here = new_place p a behind.1 in let there = new_place q b last.1 in omega arith
+          ]
+        ]
+
+    -- a place before one that has handed on is an old one
+    old_place : (k q : ℕ) (b : Arc) → k < i → slice_get new k ≡ Some (b, q) → slice_get es k ≡ Some (b, q)
+    old_place k q b below t =
+        elim (at_new k q b t) [
+          | inl old ↦ old
+          | inr behind ↦ let within = place_within es i _ turn.stands in let far = behind.0 in absurd (omega arith)
+        ]
+
+    more_earliest : (j k p q : ℕ) (a b : Arc) → slice_get new j ≡ Some (a, p) → slice_get new k ≡ Some (b, q) → k < p → ForcesDirectly e b a → ⊥
+    more_earliest j k p q a b s t less f =
+        elim (at_new j p a s) [
+          | inl old ↦
+              let low = before.low j p a old in
+              before.by_distance.earliest j k p q a b old (old_place k q b (omega arith) t) less f
+          | inr behind ↦
+              let w = of_map (placed_at i) turn.more (a, p) behind.1 in
+              let same_arc : a ≡ w.0 = ap (λ x. x.0) w.2 in
+              let same_place : p ≡ i = ap (λ x. x.1) w.2 in
+              let new_one = (turn.exactly w.0).0 w.1 in
+              let below : k < i = omega arith in
+              new_one.2 (before.done k q b w.0 below (old_place k q b below t) new_one.0 (subst (ForcesDirectly e b) same_arc f))
+        ]
+
     pub exploring_more : Exploring e first start new_rows new (i + 1)
     exploring_more = record {
       begins = still 0 0 first before.begins;
@@ -163,6 +220,8 @@ module _ (e : ℕ → ℕ → Bool) (first : Arc) (start : List NameSet) where
       reached = more_reached;
       forced = more_forced;
       done = more_done;
+      low = more_low;
+      by_distance = record { in_order = more_in_order; earliest = more_earliest };
     }
 
   module _ (symmetric : Symmetric e) (closed : IsForcingClosed e start) (rows : List NameSet) (es : List (Arc × ℕ)) (i : ℕ) (before : Exploring e first start rows es i) where
@@ -200,6 +259,7 @@ module _ (e : ℕ → ℕ → Bool) (first : Arc) (start : List NameSet) where
           over_reached e (Holds (keys_of es)) (λ x y _ h is f. keys_closed x y h is f) first a (key_at es 0 first 0 before.begins),
         );
         forced = before.forced;
+        by_distance = before.by_distance;
       }
 
       pub exploring_closed : IsForcingClosed e rows

@@ -8,4 +8,5 @@ pub mod OneSide
 pub mod Pushing
 pub mod TurnLemmas
 pub mod Exploring
+pub mod Distances
 pub mod Following

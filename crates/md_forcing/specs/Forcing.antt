@@ -1,6 +1,6 @@
 -- Direct forcing of arcs, and the arcs that an arc reaches. A graph is its test of adjacency, so that its complement is
 -- another test. Source: Golumbic, Algorithmic Graph Theory and Perfect Graphs, chapter 5.
-use Rattle.std.specs.Prelude.{◌≡◌, ◌≢◌, ◌⊎◌, ℕ, Bool, true, false, List, [], ◌∷◌}
+use Rattle.std.specs.Prelude.{◌≡◌, ◌≢◌, ◌≤◌, ◌⊎◌, ℕ, Bool, true, false, List, [], ◌∷◌, length}
 use Rattle.md_forcing.specs.declared.arc.Arc.{Arc}
 use Rattle.md_forcing.specs.Lists.{NoRepeats}
 
@@ -46,3 +46,8 @@ pub record IsListToReverse (e : ℕ → ℕ → Bool) (a : Arc) (list : List Arc
   pub starts : IsArc e a
   pub leads : Leads e a rest (reverse a)
   pub no_repeats : NoRepeats list
+
+-- such a list, and none is shorter
+pub record IsShortestToReverse (e : ℕ → ℕ → Bool) (a : Arc) (list : List Arc) : Type 0 where
+  pub to_reverse : IsListToReverse e a list
+  pub shortest : (other : List Arc) → IsListToReverse e a other → length list ≤ length other

@@ -4,7 +4,7 @@ ghost use Rattle.std.specs.Map.{keys_of};
 ghost use Rattle.md_graph.specs.PlainGraph.{adjacent};
 ghost use Rattle.md_forcing.specs.declared.arc.Arc.{Arc};
 ghost use Rattle.md_forcing.specs.Lists.{Holds};
-ghost use Rattle.md_forcing.specs.Forcing.{reverse, IsListToReverse};
+ghost use Rattle.md_forcing.specs.Forcing.{reverse, IsShortestToReverse};
 ghost use Rattle.md_forcing.specs.Classes.{IsClass, TurnsAt};
 
 use crate::{Arc, Class, ForcingTree};
@@ -104,9 +104,9 @@ impl Chain {
     }
 }
 
-/// A list without repeats from the first arc of a class to its reverse, in which neighbours force
-/// each other directly; `None` exactly where the class doesn't hold the reverse. Condition: it is
-/// the class of an arc of the graph. Errors: want of memory.
+/// A shortest list from the first arc of a class to its reverse in which neighbours force each
+/// other directly, so without repeats; `None` exactly where the class doesn't hold the reverse.
+/// Condition: it is the class of an arc of the graph. Errors: want of memory.
 pub fn chain_to_reverse<const W: usize>(
     alloc: Global,
     graph: &GraphOf<W>,
@@ -115,7 +115,7 @@ pub fn chain_to_reverse<const W: usize>(
     requires { (first : Arc) × IsClass (adjacent graph.now) first class.now }
     ensures found { IfOk result (λ answer. IfSome answer (λ chain. (first : Arc)
         → IsClass (adjacent graph.now) first class.now
-        → IsListToReverse (adjacent graph.now) first chain)) }
+        → IsShortestToReverse (adjacent graph.now) first chain)) }
     ensures none { IfOk result (λ answer. IfNone answer ((first : Arc)
         → IsClass (adjacent graph.now) first class.now
         → Holds (keys_of class.now) (reverse first) → ⊥)) }
@@ -133,7 +133,7 @@ pub fn chain_to_reverse<const W: usize>(
 pub fn chain_of(alloc: Global, trail: &ForcingTree) -> Result<Option<Chain>, Memory>
     requires { (e : ℕ → ℕ → Bool) × (first : Arc) × IsClass e first trail.now }
     ensures found { IfOk result (λ answer. IfSome answer (λ chain. (e : ℕ → ℕ → Bool) (first : Arc)
-        → IsClass e first trail.now → IsListToReverse e first chain)) }
+        → IsClass e first trail.now → IsShortestToReverse e first chain)) }
     ensures none { IfOk result (λ answer. IfNone answer ((e : ℕ → ℕ → Bool) (first : Arc)
         → IsClass e first trail.now → Holds (keys_of trail.now) (reverse first) → ⊥)) }
 {
@@ -155,12 +155,12 @@ fn reverse_of(by: Arc) -> Arc
     }
 }
 
-// The list from the first arc of a trail to the one at a place, which is its reverse.
+// A shortest list from the first arc of a trail to the one at a place, which is its reverse.
 fn follow(alloc: Global, trail: &ForcingTree, last: usize) -> Result<Chain, Memory>
     requires class { (e : ℕ → ℕ → Bool) × (first : Arc) × IsClass e first trail.now }
     requires turns { TurnsAt trail.now last }
     ensures { IfOk result (λ chain. (e : ℕ → ℕ → Bool) (first : Arc)
-        → IsClass e first trail.now → IsListToReverse e first chain) }
+        → IsClass e first trail.now → IsShortestToReverse e first chain) }
 {
     let (first, _) = trail.entry(0);
     let mut list = Vec::new(alloc);

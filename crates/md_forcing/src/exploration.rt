@@ -36,6 +36,20 @@ pub fn close<const W: usize>(alloc: Global, graph: &GraphOf<W>, first: Arc) -> R
     requires { IsArc (adjacent graph.now) first }
     ensures { IfOk result (IsClass (adjacent graph.now) first) }
 {
+    let trail = trail_of(alloc, graph, first)?;
+    Class::from_trail(alloc, &trail)
+}
+
+/// The same class as the trail of its exploration, in which the arcs stand by how far they are from
+/// the first. Condition: it is an arc of the graph. Errors: want of memory.
+pub fn trail_of<const W: usize>(
+    alloc: Global,
+    graph: &GraphOf<W>,
+    first: Arc,
+) -> Result<ForcingTree, Memory>
+    requires { IsArc (adjacent graph.now) first }
+    ensures class { IfOk result (IsClass (adjacent graph.now) first) }
+{
     let _vertices = graph.vertices();
     let seen = ArcSetOf::with_size(alloc, graph.bound())?;
     let none = Explored {
@@ -43,7 +57,7 @@ pub fn close<const W: usize>(alloc: Global, graph: &GraphOf<W>, first: Arc) -> R
         trail: ForcingTree::new(alloc),
     };
     let explored = explore(alloc, graph, Side::Edges, first, none)?;
-    Class::from_trail(alloc, &explored.trail)
+    Ok(explored.trail)
 }
 
 /// Makes the trail that of `first` in the graph or in its complement: the arcs of its class, which

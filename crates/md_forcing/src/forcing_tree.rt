@@ -76,8 +76,8 @@ impl ForcingTree {
         self.entries[i]
     }
 
-    // The place of an arc; `None` exactly where it isn't there.
-    pub(crate) fn place_of(&self, by: Arc) -> Option<usize>
+    /// The place of an arc; `None` exactly where it isn't there.
+    pub fn place_of(&self, by: Arc) -> Option<usize>
         ensures found { IfSome result (λ i. (p : ℕ) × (slice_get self.now i ≡ Some (by, p))) }
         ensures none { IfNone result (Holds (keys_of self.now) by → ⊥) }
     {

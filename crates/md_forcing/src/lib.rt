@@ -13,5 +13,5 @@ pub use arc::Arc;
 pub use arc_set::{ArcSet, ArcSetOf, Side};
 pub use chain::{Arcs, Chain, chain_of, chain_to_reverse};
 pub use class::Class;
-pub use exploration::{Explored, close, explore};
+pub use exploration::{Explored, close, explore, trail_of};
 pub use forcing_tree::ForcingTree;

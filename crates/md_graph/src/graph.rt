@@ -134,6 +134,15 @@ impl<const W: usize> GraphOf<W> {
         self.live.first_from(from)
     }
 
+    /// The neighbours of `v`. Condition: it is a vertex.
+    pub fn neighbours(&self, v: u32) -> &Set<W>
+        requires { Has self.now.vertices v }
+        ensures set { result.now ≡ neighbours self.now v }
+        ensures graph { IsGraph self.now }
+    {
+        &self.rows[v as usize]
+    }
+
     /// The neighbours of `v`: none for a name that is no vertex. Condition: `v` is a name below
     /// `64 * W`.
     pub fn row(&self, v: u32) -> &Set<W>
@@ -549,7 +558,7 @@ mod tests {
         ] {
             assert!(rt; !g.has_edge(u, v), "no edge {u} {v}");
         }
-        assert!(rt; g.row(64).count() == 2 && g.row(64).has(200) && g.row(7).is_empty());
+        assert!(rt; g.neighbours(64).count() == 2 && g.row(64).has(200) && g.row(7).is_empty());
         assert_eq!(rt; g.vertices().count(), 4);
         assert_eq!(rt; g.next_vertex(6), Some(64));
         assert_eq!(rt; g.next_vertex(last), Some(last));

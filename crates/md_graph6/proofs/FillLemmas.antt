@@ -14,11 +14,11 @@ use Rattle.md_graph.specs.NameSet.{range}
 use Rattle.md_graph.proofs.Ranges.{contains-range, range_alone}
 use Rattle.md_graph.proofs.GraphLemmas.{IsGraph-without_edges, adjacent-without_edges}
 use Rattle.md_graph6.specs.Bits.{bit, pair_number, IsBodyOf}
-use Rattle.md_graph6.specs.Filled.{HasVertices, IsBlock, is_before, IsFilled}
+use Rattle.md_graph6.specs.Filled.{IsEdgeless, IsBlock, is_before, IsFilled}
 
 -- ---- the vertices
 
-pub vertices_ranged : {g h : PlainGraph} (n : ℕ) → n ≤ NAMES → g ≡ empty_graph → h ≡ with_range g 0 n → HasVertices n h
+pub vertices_ranged : {g h : PlainGraph} (n : ℕ) → n ≤ NAMES → g ≡ empty_graph → h ≡ with_range g 0 n → IsEdgeless n h
 vertices_ranged {g} {h} n few none is = rw (range_alone {g = g} {h = h} 0 n none is) (record {
   vertices = members;
   graph = IsGraph-without_edges (range 0 n) (λ v member. omega (arith, few, ltb-true v n (sym (members v) ∙ member)));
@@ -154,7 +154,7 @@ filled_columns body n h l {g} all filled = record {
     columns_test : (i j h l : ℕ) → l ≡ h + 1 → i ≤ j → (nat_lt j h || ((j == h) && nat_lt i l)) ≡ (nat_lt j (h + 1) || ((j == h + 1) && nat_lt i 0))
     columns_test i j h l e le = grind (arith, nat_tests)
 
-pub filled_none : (body : List ℕ) (n : ℕ) {g : PlainGraph} → HasVertices n g → IsFilled body n 0 0 g
+pub filled_none : (body : List ℕ) (n : ℕ) {g : PlainGraph} → IsEdgeless n g → IsFilled body n 0 0 g
 filled_none body n {g} has = record {
   vertices = has.vertices;
   graph = has.graph;

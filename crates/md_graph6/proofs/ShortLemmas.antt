@@ -14,7 +14,7 @@ use Rattle.md_graph.proofs.BitWords.{contains-block_below}
 use Rattle.md_graph.proofs.GraphLemmas.{IsGraph-with_edges, adjacent-with_edges}
 use Rattle.md_graph6.specs.Bits.{bit, pair_number}
 use Rattle.md_graph6.specs.Window.{IsWindow}
-use Rattle.md_graph6.specs.Filled.{HasVertices}
+use Rattle.md_graph6.specs.Filled.{IsEdgeless}
 use Rattle.md_graph6.specs.Short.{IsUnread, IsWithColumn, IsFilledTo}
 use Rattle.md_graph6.proofs.BitLemmas.{joined_window}
 use Rattle.md_graph6.proofs.WriteLemmas.{pair_next}
@@ -96,7 +96,7 @@ column_added {g} {new} j word column short is ends has e = rw e (record {
 
 -- ---- the columns
 
-pub filled_no_column : {body : List ℕ} {n : ℕ} {g : PlainGraph} → HasVertices n g → IsFilledTo body n 0 g
+pub filled_no_column : {body : List ℕ} {n : ℕ} {g : PlainGraph} → IsEdgeless n g → IsFilledTo body n 0 g
 filled_no_column {body} {n} {g} has = record {
   vertices = has.vertices;
   graph = has.graph;

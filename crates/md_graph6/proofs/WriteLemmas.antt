@@ -15,7 +15,7 @@ use Rattle.md_graph6.specs.Line.{SpellsLine, is_group}
 use Rattle.md_graph6.proofs.DecodeLemmas.{contains-numbers_below}
 use Rattle.std.proofs.lemmas.Bool.Decides.{nat_tests}
 use Rattle.std.specs.FinSet as set
-use Rattle.md_graph.specs.Sets.{NameSet}
+use Rattle.md_graph.specs.Sets.{NameSet, Has}
 use Rattle.md_graph.specs.NameSet.{AllBelow, ascending}
 use Rattle.md_graph6.specs.Bits.{bit, pair_number, body_length, IsBodyOf}
 use Rattle.md_graph6.specs.Window.{AreGroups}
@@ -191,13 +191,15 @@ IsWritten-more {old} {new} {g} {j} f written groups before here is = record {
 row_at : {g : PlainGraph} (row : NameSet) (v u : ℕ) → IsGraph g → row ≡ neighbours g v → set.contains row u ≡ adjacent g u v
 row_at {g} row v u is e = ap (λ s. set.contains s u) e ∙ contains-neighbours is v u ∙ adjacent_sym g v u
 
--- consecutive vertices are below what all vertices are
+-- the consecutive numbers are the vertices, so they are below what all vertices are
+pub consecutive_vertex : (g : PlainGraph) (least n j : ℕ) → n ≡ length (ascending g.vertices) → AreFrom g least n → j < n → Has g.vertices (least + j)
+consecutive_vertex g least n j count consecutive inside =
+    let item = ascending_items g.vertices 0 NAMES j 0 (omega arith) in
+    subst (Has g.vertices) (consecutive j inside) item.member
+
 pub consecutive_name : (g : PlainGraph) (limit least n j : ℕ) → AllBelow g.vertices limit → n ≡ length (ascending g.vertices)
     → AreFrom g least n → j < n → least + j < limit
-consecutive_name g limit least n j all count consecutive inside =
-    let item = ascending_items g.vertices 0 NAMES j 0 (omega arith) in
-    let below = all _ item.member in
-    omega (arith, below, consecutive j inside)
+consecutive_name g limit least n j all count consecutive inside = all _ (consecutive_vertex g least n j count consecutive inside)
 
 -- where the vertices are consecutive numbers, a row is a column
 pub consecutive_column : {g : PlainGraph} (row : NameSet) (least n j v : ℕ) → IsGraph g → v ≡ least + j → row ≡ neighbours g v

@@ -6,7 +6,7 @@ use Rattle.md_graph.specs.PlainGraph.{PlainGraph, IsGraph, adjacent}
 use Rattle.md_graph6.specs.Bits.{bit, pair_number}
 
 -- a graph without edges whose vertices are the numbers below n
-pub record HasVertices (n : ℕ) (g : PlainGraph) : Type 0 where
+pub record IsEdgeless (n : ℕ) (g : PlainGraph) : Type 0 where
   pub vertices : (v : ℕ) → set.contains g.vertices v ≡ nat_lt v n
   pub graph : IsGraph g
   pub no_edge : (a b : ℕ) → adjacent g a b ≡ false

@@ -302,7 +302,7 @@ fn put_consecutive<const W: usize>(body: &mut [u8], graph: &GraphOf<W>, n: u32, 
 {
     let _vertices = graph.vertices();
     for j in 0..n {
-        put_column(body, j, graph.row(least + j), least);
+        put_column(body, j, graph.neighbours(least + j), least);
     }
 }
 
@@ -322,7 +322,7 @@ fn put_few_columns<const W: usize>(body: &mut [u8], graph: &GraphOf<W>, n: u32, 
         at: 0,
     };
     for j in 0..n {
-        unput = with_column(unput, j, graph.row(least + j), least);
+        unput = with_column(unput, j, graph.neighbours(least + j), least);
         unput = put_whole(body, unput);
     }
     put_rest(body, unput);
@@ -338,7 +338,7 @@ fn put_any<const W: usize>(body: &mut [u8], graph: &GraphOf<W>)
     let mut column = Set::none();
     let mut j = 0;
     for v in vertices.members() {
-        gather(graph, graph.row(v), j, &mut column);
+        gather(graph, graph.neighbours(v), j, &mut column);
         put_column(body, j, &column, 0);
         j += 1;
     }

@@ -27,8 +27,8 @@ abbrev pub links_kept : Inside → Links
 links_kept a = links_of (store_of a)
 
 -- each field has room for all places
-abbrev pub HasRoom : Inside → Type 0
-HasRoom a =
+abbrev pub HasRoomForPlaces : Inside → Type 0
+HasRoomForPlaces a =
     (PLACES ≤ vec_capacity a.kinds)
     × (PLACES ≤ vec_capacity a.parents)
     × (PLACES ≤ vec_capacity a.spans)
@@ -41,4 +41,4 @@ HasRoom a =
 
 -- the fields have room, and keep links
 abbrev pub IsKept : Inside → Type 0
-IsKept a = HasRoom a × IsStore (store_of a)
+IsKept a = HasRoomForPlaces a × IsStore (store_of a)

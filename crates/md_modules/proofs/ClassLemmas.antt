@@ -1,6 +1,7 @@
 -- Classes that are cut until they are modules.
-use Rattle.std.proofs.Common.{◌≡◌, ℕ, ◌+◌, ◌<◌, ◌≤◌, ◌≢◌, ◌⊎◌, Bool, List, [], ◌∷◌, length, refl, sym, ◌∙◌, ap, ap₂, subst, inl, inr, arith}
-use Rattle.md_graph.proofs.Search.{alike_unless}
+use Rattle.std.proofs.Common.{◌≡◌, ℕ, ◌+◌, ◌<◌, ◌≤◌, ◌≢◌, ◌⊎◌, Bool, true, false, List, [], ◌∷◌, length, refl, sym, ◌∙◌, ap, ap₂, subst, inl, inr, arith}
+use Rattle.md_modules.specs.Colours.{AreTold}
+use Rattle.md_modules.proofs.Modules.{alike_or_told}
 use Rattle.std.specs.FinSet.{contains, union, intersection, difference}
 use Rattle.md_graph.specs.NameSet.{IsLeastFrom, NoneFrom, symmetric_difference}
 use Rattle.md_graph.specs.PlainGraph.{PlainGraph, IsGraph, adjacent, neighbours}
@@ -10,7 +11,8 @@ use Rattle.md_modules.specs.Modules.{IsModule}
 use Rattle.std.proofs.lemmas.Bool.{cases_Bool, true_from_ne_false, false_from_ne_true}
 use Rattle.md_graph.proofs.SetLemmas.{clash, same_name, of_only, Has-along, meet_has, of_meet, minus_has, of_minus, minus_lacks, union_left, union_right, of_union, union_lacks, lacks_within, none_lacks}
 use Rattle.md_graph.proofs.BitWords.{from_both}
-use Rattle.md_modules.proofs.Turns.{ToldApart, told_all}
+use Rattle.md_modules.proofs.Growth.{TakesUnless}
+use Rattle.md_modules.proofs.Turns.{told_all}
 use Rattle.md_modules.specs.Classes.{class_at}
 use Rattle.md_modules.specs.Classes.{IsSplitter, HoldsSplitters, IsSideOf, IsPartition, HoldsModules, AreMaximalInside}
 use Rattle.md_modules.proofs.ClassLists.{at_known, at_one, in_one, IsCutAt, place_of}
@@ -18,57 +20,75 @@ use Rattle.md_modules.proofs.ClassLists.{at_known, at_one, in_one, IsCutAt, plac
 -- ---- splitters
 
 module _ {g : PlainGraph} (graph : IsGraph g) where
-  apart : (a x : ℕ) (first second out : NameSet) → first ≡ neighbours g a → second ≡ neighbours g x → ToldApart graph a x out (intersection out (symmetric_difference first second))
+  apart : (a x : ℕ) (first second out : NameSet) → first ≡ neighbours g a → second ≡ neighbours g x → TakesUnless (λ y. adjacent g a y ≡ adjacent g x y) out (intersection out (symmetric_difference first second))
   apart a x first second out is_first is_second =
-      subst (ToldApart graph a x out) (ap₂ (λ s t. intersection out (symmetric_difference s t)) (sym is_first) (sym is_second)) (told_all graph a x out)
+      subst (TakesUnless (λ y. adjacent g a y ≡ adjacent g x y) out) (ap₂ (λ s t. intersection out (symmetric_difference s t)) (sym is_first) (sym is_second)) (told_all graph a x out)
 
   pub splitter_found : (c first second left : NameSet) (a x p : ℕ) → Has c a → Has c x → Disjoint c left → first ≡ neighbours g a → second ≡ neighbours g x →
       IsLeastFrom (intersection left (symmetric_difference first second)) 0 p → IsSplitter (adjacent g) left c p
   splitter_found c first second left a x p ha hx out is_first is_second is =
       let two : Has left p × (adjacent g a p ≢ adjacent g x p) = (apart a x first second left is_first is_second).1 p is.member in
-      let outside : Lacks c p = false_from_ne_true _ (λ h. clash two.0 (out p h)) in
-      elim (cases_Bool (adjacent g p a)) [
-        | inl t ↦ record {
-          inside = two.0;
-          outside = outside;
-          sees = (a, ha, t);
-          misses = (x, hx, false_from_ne_true _ (λ k. two.1 (adjacent_sym g a p ∙ t ∙ sym k ∙ adjacent_sym g p x)));
-        }
-        | inr f ↦ record {
-          inside = two.0;
-          outside = outside;
-          sees = (x, hx, true_from_ne_false _ (λ k. two.1 (adjacent_sym g a p ∙ f ∙ sym k ∙ adjacent_sym g p x)));
-          misses = (a, ha, f);
-        }
-      ]
+      record {
+        inside = two.0;
+        outside = false_from_ne_true _ (λ h. clash two.0 (out p h));
+        tells = (a, x, ha, hx, λ same. two.1 (adjacent_sym g a p ∙ same ∙ adjacent_sym g p x));
+      }
 
   pub splitter_none : (first second out : NameSet) (a x : ℕ) → first ≡ neighbours g a → second ≡ neighbours g x →
       NoneFrom (intersection out (symmetric_difference first second)) 0 → (y : ℕ) → Has out y → adjacent g a y ≡ adjacent g x y
   splitter_none first second out a x is_first is_second none y h =
-      alike_unless (adjacent g a y) (adjacent g x y) (λ differ. clash ((apart a x first second out is_first is_second).0 y h differ) (none_lacks _ none y))
+      (apart a x first second out is_first is_second).0 y h (none_lacks _ none y)
 
   -- where all members of a class see the names left alike
   pub no_splitter : (c left : NameSet) (first : ℕ) → ((w : ℕ) → Has c w → (y : ℕ) → Has left y → adjacent g first y ≡ adjacent g w y) → (p : ℕ) → IsSplitter (adjacent g) left c p → ⊥
-  no_splitter c left first alike p tells =
-      let same : adjacent g tells.sees.0 p ≡ adjacent g tells.misses.0 p = sym (alike tells.sees.0 tells.sees.1 p tells.inside) ∙ alike tells.misses.0 tells.misses.1 p tells.inside in
-      clash (adjacent_sym g tells.sees.0 p ∙ tells.sees.2) (same ∙ adjacent_sym g tells.misses.0 p ∙ tells.misses.2)
+  no_splitter c left first alike p is =
+      let (a, b, ha, hb, differ) = is.tells in
+      differ (adjacent_sym g p a ∙ sym (alike a ha p is.inside) ∙ alike b hb p is.inside ∙ adjacent_sym g b p)
+
+-- p is a name of s outside c; row has members of c and lacks others, and of two names that p has in one colour it has both or none
+pub record IsCutBy {C : Type 0} (e : ℕ → ℕ → C) (s c row : NameSet) (p : ℕ) : Type 0 where
+  pub inside : Has s p
+  pub outside : Lacks c p
+  pub alike : (x y : ℕ) → e p x ≡ e p y → contains row x ≡ contains row y
+  pub sees : (a : ℕ) × Has c a × Has row a
+  pub misses : (a : ℕ) × Has c a × Lacks row a
+
+-- a splitter of a graph cuts by its neighbours
+pub cut_by_row : {e : ℕ → ℕ → Bool} (s c row : NameSet) (p : ℕ) → ((y : ℕ) → contains row y ≡ e p y) → IsSplitter e s c p → IsCutBy e s c row p
+cut_by_row {e} s c row p rows is = elim (cases_Bool (e p a)) [
+  | inl t ↦ cut_by a b is.tells.2 is.tells.3 t (false_from_ne_true _ (λ k. is.tells.4 (t ∙ sym k)))
+  | inr f ↦ cut_by b a is.tells.3 is.tells.2 (true_from_ne_false _ (λ k. is.tells.4 (f ∙ sym k))) f
+] where
+  a : ℕ
+  a = is.tells.0
+
+  b : ℕ
+  b = is.tells.1
+
+  cut_by : (x y : ℕ) → Has c x → Has c y → e p x ≡ true → e p y ≡ false → IsCutBy e s c row p
+  cut_by x y hx hy sees misses = record {
+    inside = is.inside;
+    outside = is.outside;
+    alike = λ u v same. rows u ∙ same ∙ sym (rows v);
+    sees = (x, hx, rows x ∙ sees);
+    misses = (y, hy, rows y ∙ misses);
+  }
 
 -- ---- a name alone, which nothing cuts
 
-module _ (e : ℕ → ℕ → Bool) (s c : NameSet) (v : ℕ) (alone : c ≡ only_name v) where
+module _ {C : Type 0} (e : ℕ → ℕ → C) (s c : NameSet) (v : ℕ) (alone : c ≡ only_name v) where
   is_it : (x : ℕ) → Has c x → x ≡ v
   is_it x h = of_only v x (Has-along c (only_name v) alone x h)
 
   pub alone_uncut : (p : ℕ) → IsSplitter e s c p → ⊥
-  alone_uncut p tells =
-      clash tells.sees.2 (ap (e p) (is_it tells.sees.0 tells.sees.1 ∙ sym (is_it tells.misses.0 tells.misses.1)) ∙ tells.misses.2)
+  alone_uncut p is = let (a, b, ha, hb, differ) = is.tells in differ (ap (e p) (is_it a ha ∙ sym (is_it b hb)))
 
   pub alone_module : HasSome c → Within c s → IsModule e s c
   alone_module some inside = record { some = some; inside = inside; alike = λ a b x ha hb _ _. ap (e x) (is_it a ha ∙ sym (is_it b hb)) }
 
 -- ---- the names left, which may cut a class
 
-module _ {e : ℕ → ℕ → Bool} (s c : NameSet) where
+module _ {C : Type 0} {e : ℕ → ℕ → C} (s c : NameSet) where
   pub left_begins : (left : NameSet) → left ≡ difference s c → HoldsSplitters e s c left
   left_begins left is = subst (HoldsSplitters e s c) (sym is) (record {
     inside = λ x h. (of_minus s c x h).0;
@@ -77,10 +97,10 @@ module _ {e : ℕ → ℕ → Bool} (s c : NameSet) where
   })
 
   splits_left : (left : NameSet) → HoldsSplitters e s c left → (p : ℕ) → IsSplitter e s c p → IsSplitter e left c p
-  splits_left left holds p tells = record { inside = holds.all p tells; outside = tells.outside; sees = tells.sees; misses = tells.misses }
+  splits_left left holds p is = record { inside = holds.all p is; outside = is.outside; tells = is.tells }
 
   splits_all : (left : NameSet) → Within left s → (p : ℕ) → IsSplitter e left c p → IsSplitter e s c p
-  splits_all left inside p tells = record { inside = inside p tells.inside; outside = tells.outside; sees = tells.sees; misses = tells.misses }
+  splits_all left inside p is = record { inside = inside p is.inside; outside = is.outside; tells = is.tells }
 
   left_falls : (left new : NameSet) → HoldsSplitters e s c left → Within new left → ((p : ℕ) → IsSplitter e left c p → Has new p) → HoldsSplitters e s c new
   left_falls left new holds less kept = record {
@@ -97,14 +117,12 @@ module _ {e : ℕ → ℕ → Bool} (s c : NameSet) where
       (falls, splits_all new falls.inside p (subst (λ t. IsSplitter e new t p) same tells))
 
   -- a class that no name left cuts
-  pub module_unless_cut : (class left : NameSet) → class ≡ c → HoldsSplitters e s c left → HasSome c → Within c s → ((p : ℕ) → IsSplitter e left class p → ⊥) → IsModule e s c
-  module_unless_cut class left same holds some inside uncut = record {
+  pub module_unless_cut : AreTold C → (class left : NameSet) → class ≡ c → HoldsSplitters e s c left → HasSome c → Within c s → ((p : ℕ) → IsSplitter e left class p → ⊥) → IsModule e s c
+  module_unless_cut told class left same holds some inside uncut = record {
     some = some;
     inside = inside;
-    alike = λ a b x ha hb hx out. alike_unless (e x a) (e x b) (λ differ. elim (cases_Bool (e x a)) [
-      | inl t ↦ none x (splits_left left holds x (record { inside = hx; outside = out; sees = (a, ha, t); misses = (b, hb, false_from_ne_true _ (λ k. differ (t ∙ sym k))) }))
-      | inr f ↦ none x (splits_left left holds x (record { inside = hx; outside = out; sees = (b, hb, true_from_ne_false _ (λ k. differ (f ∙ sym k))); misses = (a, ha, f) }))
-    ]);
+    alike = λ a b x ha hb hx out.
+        alike_or_told told (e x a) (e x b) (λ differ. none x (splits_left left holds x (record { inside = hx; outside = out; tells = (a, b, ha, hb, differ) })));
   } where
     none : (p : ℕ) → IsSplitter e left c p → ⊥
     none p tells = uncut p (subst (λ t. IsSplitter e left t p) (sym same) tells)
@@ -121,8 +139,7 @@ module _ {e : ℕ → ℕ → Bool} (s c : NameSet) where
       | inr f ↦ union_left left (difference c part) p (holds.all p (record {
         inside = tells.inside;
         outside = f;
-        sees = (tells.sees.0, (of_meet c part tells.sees.0 tells.sees.1).0, tells.sees.2);
-        misses = (tells.misses.0, (of_meet c part tells.misses.0 tells.misses.1).0, tells.misses.2);
+        tells = let (a, b, ha, hb, differ) = tells.tells in (a, b, (of_meet c part a ha).0, (of_meet c part b hb).0, differ);
       }))
     ];
   })
@@ -207,11 +224,11 @@ module _ (b row : NameSet) (cs new : List NameSet) (i : ℕ) (is : IsCutAt cs ne
     ]
 
 -- the classes in front of place i are modules, and each module of s inside b lies in one class
-pub record IsCutting (e : ℕ → ℕ → Bool) (s b : NameSet) (cs : List NameSet) (i : ℕ) : Type 0 where
+pub record IsCutting {C : Type 0} (e : ℕ → ℕ → C) (s b : NameSet) (cs : List NameSet) (i : ℕ) : Type 0 where
   pub holds : HoldsModules e s b cs
   pub modules : (k : ℕ) → k < i → k < length cs → IsModule e s (class_at cs k)
 
-module _ {e : ℕ → ℕ → Bool} where
+module _ {C : Type 0} {e : ℕ → ℕ → C} where
   pub one_class_holds : (s b c : NameSet) (cs : List NameSet) → HasSome b → c ≡ b → cs ≡ c ∷ [] → HoldsModules e s b cs
   one_class_holds s b c cs some same is = subst (HoldsModules e s b) (sym (is ∙ ap (λ t. t ∷ []) same)) (record {
     partition = record {
@@ -251,25 +268,17 @@ module _ {e : ℕ → ℕ → Bool} where
   pub cutting_ends : (s b : NameSet) (cs : List NameSet) (i : ℕ) → IsCutting e s b cs i → length cs ≤ i → AreMaximalInside e s b cs
   cutting_ends s b cs i is end = record { holds = is.holds; modules = λ k l. is.modules k (omega arith) l }
 
-  module _ (s row part : NameSet) (cs : List NameSet) (i p : ℕ) (rows : (y : ℕ) → contains row y ≡ e p y) (tells : IsSplitter e s (class_at cs i) p) (side : IsSideOf part (class_at cs i) row) where
+  module _ (s row part : NameSet) (cs : List NameSet) (i p : ℕ) (cut_by : IsCutBy e s (class_at cs i) row p) (side : IsSideOf part (class_at cs i) row) where
     pub sees_some : HasSome (intersection (class_at cs i) part)
     sees_some = elim side [
-      | inl is ↦ (tells.sees.0, meet_has (class_at cs i) part tells.sees.0 tells.sees.1 (Has-along row part (sym is) tells.sees.0 (rows tells.sees.0 ∙ tells.sees.2)))
-      | inr is ↦ (
-        tells.misses.0,
-        meet_has (class_at cs i) part tells.misses.0 tells.misses.1
-            (Has-along (difference (class_at cs i) row) part (sym is) tells.misses.0 (minus_has (class_at cs i) row tells.misses.0 tells.misses.1 (rows tells.misses.0 ∙ tells.misses.2))),
-      )
+      | inl is ↦ let (a, ha, h) = cut_by.sees in (a, meet_has (class_at cs i) part a ha (Has-along row part (sym is) a h))
+      | inr is ↦ let (a, ha, l) = cut_by.misses in (a, meet_has (class_at cs i) part a ha (Has-along (difference (class_at cs i) row) part (sym is) a (minus_has (class_at cs i) row a ha l)))
     ]
 
     pub misses_some : HasSome (difference (class_at cs i) part)
     misses_some = elim side [
-      | inl is ↦ (tells.misses.0, minus_has (class_at cs i) part tells.misses.0 tells.misses.1 (ap (λ t. contains t tells.misses.0) is ∙ rows tells.misses.0 ∙ tells.misses.2))
-      | inr is ↦ (
-        tells.sees.0,
-        minus_has (class_at cs i) part tells.sees.0 tells.sees.1
-            (ap (λ t. contains t tells.sees.0) is ∙ minus_lacks (class_at cs i) row tells.sees.0 (rows tells.sees.0 ∙ tells.sees.2)),
-      )
+      | inl is ↦ let (a, ha, l) = cut_by.misses in (a, minus_has (class_at cs i) part a ha (ap (λ t. contains t a) is ∙ l))
+      | inr is ↦ let (a, ha, h) = cut_by.sees in (a, minus_has (class_at cs i) part a ha (ap (λ t. contains t a) is ∙ minus_lacks (class_at cs i) row a h))
     ]
 
     alike_sides : (x y : ℕ) → Has (class_at cs i) x → Has (class_at cs i) y → contains row x ≡ contains row y → contains part x ≡ contains part y
@@ -286,7 +295,7 @@ module _ {e : ℕ → ℕ → Bool} where
     -- a module inside the class lies in one of its two parts
     stays : (m : NameSet) (x y : ℕ) → IsModule e s m → Within m (class_at cs i) → Has m x → Has m y → contains part y ≡ contains part x
     stays m x y module_is w hx hy =
-        alike_sides y x (w y hy) (w x hx) (rows y ∙ module_is.alike y x p hy hx tells.inside (false_from_ne_true _ (λ h. clash (w p h) tells.outside)) ∙ sym (rows x))
+        alike_sides y x (w y hy) (w x hx) (cut_by.alike y x (module_is.alike y x p hy hx cut_by.inside (false_from_ne_true _ (λ h. clash (w p h) cut_by.outside))))
 
     -- the class at place i is cut by a name outside it
     pub cutting_cuts : (b : NameSet) (new : List NameSet) → IsCutAt cs new i (intersection (class_at cs i) part) (difference (class_at cs i) part) → i < length cs →

@@ -1,6 +1,7 @@
 pub mod Modules
-pub mod Components
 pub mod Strong
+pub mod Splits
+pub mod Components
 pub mod Children
 pub mod Paths
 pub mod Quotients

@@ -1,6 +1,6 @@
 -- The search for an induced path with a given vertex.
 use Rattle.std.proofs.Common.{◌≡◌, ℕ, ◌<◌, ◌≤◌, Bool, true, false, not, IsTrue, ◌↔◌, ◌≢◌, ◌⊎◌, List, [], ◌∷◌, refl, sym, ◌∙◌, ap, subst, inl, inr, arith}
-use Rattle.std.proofs.lemmas.Bool.{cases_lt, cases_Bool, false_from_ne_true}
+use Rattle.std.proofs.lemmas.Bool.{cases_lt, cases_Bool, true_from_ne_false, false_from_ne_true}
 use Rattle.std.specs.Prelude.{Option, Some, None, IfSome, IfNone}
 use Rattle.std.specs.FinSet.{contains, empty, remove, union, difference, intersection}
 use Rattle.md_graph.specs.NameSet.{NoneFrom, IsLeastFrom}
@@ -16,6 +16,7 @@ use Rattle.md_modules.specs.Classes.{IsSplitter}
 use Rattle.md_modules.specs.Seen.{seen_as}
 use Rattle.md_modules.specs.declared.induced_paths.P4.{P4}
 use Rattle.md_graph.proofs.SetLemmas.{clash, empty_if, union_left, union_right, of_union, meet_has, of_meet, minus_has, of_minus, of_minus_lacks, remove_left, of_remove, Has-along, none_lacks}
+use Rattle.md_modules.proofs.Modules.{undirected}
 use Rattle.md_modules.proofs.Components.{not_own, closed_follow, component_unsplit, crossing_pair}
 use Rattle.md_modules.proofs.Turns.{SeenAs, seen_all}
 use Rattle.md_graph.proofs.Walks.{Walked, Walked-item, Walked-more, Walked-map, Walked-end}
@@ -181,14 +182,33 @@ module _ {g : PlainGraph} (is_graph : IsGraph g) where
   adjacency = record { symmetric = adjacent_sym g; irreflexive = adjacent_self is_graph }
 
   pub part_whole : (names part : NameSet) (value : Bool) (y : ℕ) → IsComponent (adjacent g) names y part value → (a : NameSet) → IsSplit (adjacent g) part a value → ⊥
-  part_whole names part value y is = component_unsplit adjacency names part value y is
+  part_whole names part value y is = component_unsplit (undirected adjacency) names part value y refl is
 
   -- a name that tells two of a part apart tells two apart that are to each other as value doesn't say
   pub no_telling : (part others : NameSet) (value : Bool) (o : ℕ) → ((a : NameSet) → IsSplit (adjacent g) part a value → ⊥) → IsSplitter (adjacent g) others part o →
       ((m z : ℕ) → Has part m → Has part z → adjacent g m z ≡ not value → ToldApart g o m z → ⊥) → ⊥
   no_telling part others value o whole tells none =
-      let pair = crossing_pair part value (λ z. adjacent g o z) tells.sees.0 tells.misses.0 whole tells.sees.1 tells.misses.1 tells.sees.2 tells.misses.2 in
-      none pair.0 pair.1 pair.2 pair.3 pair.6 (record { sees = pair.4; misses = pair.5 })
+      elim (cases_Bool (adjacent g o p)) [
+        | inl seen ↦ crossing p q hp hq seen (false_from_ne_true _ (λ k. tells.tells.4 (seen ∙ sym k)))
+        | inr missed ↦ crossing q p hq hp (true_from_ne_false _ (λ k. tells.tells.4 (missed ∙ sym k))) missed
+      ]
+    where
+      p : ℕ
+      p = tells.tells.0
+
+      q : ℕ
+      q = tells.tells.1
+
+      hp : Has part p
+      hp = tells.tells.2
+
+      hq : Has part q
+      hq = tells.tells.3
+
+      crossing : (a b : ℕ) → Has part a → Has part b → adjacent g o a ≡ true → adjacent g o b ≡ false → ⊥
+      crossing a b ha hb sees misses =
+          let pair = crossing_pair part value (λ z. adjacent g o z) a b whole ha hb sees misses in
+          none pair.0 pair.1 pair.2 pair.3 pair.6 (record { sees = pair.4; misses = pair.5 })
 
   -- where no name tells two of a part apart
   pub none_tells : (part others : NameSet) → Disjoint part others → ((o : ℕ) → IsSplitter (adjacent g) others part o → ⊥) →
@@ -196,8 +216,7 @@ module _ {g : PlainGraph} (is_graph : IsGraph g) where
   none_tells part others apart none o m z ho hm hz told = none o (record {
     inside = ho;
     outside = false_from_ne_true _ (λ h. clash ho (apart o h));
-    sees = (m, hm, told.sees);
-    misses = (z, hz, told.misses);
+    tells = (m, z, hm, hz, λ same. clash told.sees (same ∙ told.misses));
   })
 
 -- ---- the search over the parts

@@ -13,10 +13,10 @@ use Rattle.std.proofs.Math.Logic.{⊎_swap}
 use mathlib.Mathlib.Data.Bool.Basic.{eq-or-eq-not}
 use Rattle.md_graph.proofs.SetLemmas.{clash, same_name, only_has, of_only, only_lacks, remove_gone, remove_left, of_remove, minus_has, of_minus, ascending_or_not}
 use Rattle.md_graph.proofs.Search.{Decided, decide_test, decide_both, decide_like, search_members, larger_or_same, smallest, len_proper}
-use Rattle.md_modules.proofs.Components.{closed_rest, closed_follow, decide_split, component_of, crossing_pair, component_unsplit}
+use Rattle.md_modules.proofs.Splits.{closed_rest, decide_split, component_of, pair_splits}
+use Rattle.md_modules.proofs.Components.{closed_follow, crossing_pair, component_unsplit, component_strong, prime_unsplit}
 use Rattle.md_modules.proofs.Strong.{whole_strong, strong_of_strong}
-use Rattle.md_modules.proofs.Modules.{decide_strong}
-use Rattle.md_modules.proofs.Children.{prime_unsplit, component_strong}
+use Rattle.md_modules.proofs.Modules.{undirected, decide_strong}
 
 -- a test for the other value than v
 abbrev is_other : Bool → Bool → Bool
@@ -129,7 +129,7 @@ module _ {e : ℕ → ℕ → Bool} where
       seen_as =
           elim (search_members (λ z. e x z ≡ v) (λ z. e x z ≡ not v) (remove s x) (λ z h. eq-or-eq-not (e x z) v)) [
             | inl f ↦ f
-            | inr none ↦ absurd (prime_unsplit s prime (not v) (only_name x) (record {
+            | inr none ↦ absurd ((prime_unsplit s prime).unsplit (not v) (only_name x) (record {
               some = (x, only_has x);
               inside = λ z h. subst (Has s) (sym (of_only x z h)) hx;
               rest = (split.some.0, in_s split.some.0 (split.inside split.some.0 split.some.1), only_lacks x split.some.0 (of_remove s x split.some.0 (split.inside split.some.0 split.some.1)).0);
@@ -142,7 +142,7 @@ module _ {e : ℕ → ℕ → Bool} where
       seen_otherwise c closed some =
           elim (search_members (λ z. e x z ≡ not v) (λ z. e x z ≡ v) c (λ z h. ⊎_swap (eq-or-eq-not (e x z) v))) [
             | inl f ↦ f
-            | inr none ↦ absurd (prime_unsplit s prime v c (record {
+            | inr none ↦ absurd ((prime_unsplit s prime).unsplit v c (record {
               some = some;
               inside = λ z h. in_s z (closed.inside z h);
               rest = (x, hx, false_from_ne_true _ (λ h. (of_remove s x x (closed.inside x h)).0 refl));
@@ -156,13 +156,13 @@ module _ {e : ℕ → ℕ → Bool} where
       path_with : (y : ℕ) → e x y ≡ v → (c : NameSet) → IsComponent e (remove s x) y c v → HasInducedPath e s
       path_with y sees c comp =
           elim (larger_or_same c (remove s x) comp.closed.inside) [
-            | inr same ↦ absurd (component_unsplit adj (remove s x) c v y comp part (subst (λ t. IsSplit e t part v) (sym same) split))
+            | inr same ↦ absurd (component_unsplit (undirected adj) (remove s x) c v y refl comp part (subst (λ t. IsSplit e t part v) (sym same) split))
             | inl rest ↦
                 let u : (z : ℕ) × Has c z × (e x z ≡ not v) = seen_otherwise c comp.closed (y, comp.holds) in
                 let r : (z : ℕ) × Has (difference (remove s x) c) z × (e x z ≡ not v) =
-                seen_otherwise (difference (remove s x) c) (closed_rest adj (remove s x) c v comp.closed) (rest.0, minus_has (remove s x) c rest.0 rest.1 rest.2) in
+                seen_otherwise (difference (remove s x) c) (closed_rest (undirected adj) (remove s x) c v comp.closed) (rest.0, minus_has (remove s x) c rest.0 rest.1 rest.2) in
                 let w : (a : ℕ) × (b : ℕ) × Has c a × Has c b × (is_other v (e x a) ≡ true) × (is_other v (e x b) ≡ false) × (e a b ≡ not v) =
-                crossing_pair c v (λ z. is_other v (e x z)) u.0 y (component_unsplit adj (remove s x) c v y comp) u.1 comp.holds (other_told v (e x u.0) u.2) (own_told v (e x y) sees) in
+                crossing_pair c v (λ z. is_other v (e x z)) u.0 y (component_unsplit (undirected adj) (remove s x) c v y refl comp) u.1 comp.holds (other_told v (e x u.0) u.2) (own_told v (e x y) sees) in
                 let out : Has (remove s x) r.0 × Lacks c r.0 = of_minus (remove s x) c r.0 r.1 in
                 path_at s v r.0 x w.0 w.1
                 (in_s r.0 out.0, hx, in_s w.0 (comp.closed.inside w.0 w.2), in_s w.1 (comp.closed.inside w.1 w.3))
@@ -173,26 +173,17 @@ module _ {e : ℕ → ℕ → Bool} where
       path_from_split : HasInducedPath e s
       path_from_split =
           let y : (z : ℕ) × Has (remove s x) z × (e x z ≡ v) = seen_as in
-          let c : (c : NameSet) × IsComponent e (remove s x) y.0 c v = component_of (remove s x) v y.0 y.1 in
+          let c : (c : NameSet) × IsComponent e (remove s x) y.0 c v = component_of decide_test (remove s x) v y.0 y.1 in
           path_with y.0 y.2 c.0 c.1
-
-    -- two names alone split
-    pair_splits : (s : NameSet) (x y : ℕ) → Has s x → Has s y → y ≢ x → ((z : ℕ) → Has (remove s x) z → z ≡ y) → IsSplit e s (only_name x) (e x y)
-    pair_splits s x y hx hy n alone = record {
-      some = (x, only_has x);
-      inside = λ z h. subst (Has s) (sym (of_only x z h)) hx;
-      rest = (y, hy, only_lacks x y n);
-      across = λ a b ha hb l. ap (λ z. e z b) (of_only x a ha) ∙ ap (e x) (alone b (remove_left s x b (λ same. clash (subst (Has (only_name x)) (sym same) (only_has x)) l) hb));
-    }
 
     path_step : (s : NameSet) → IsPrime e s → HasTwo s → ((t : NameSet) → len t < len s → IsPrime e t → HasInducedPath e t) → HasInducedPath e s
     path_step s prime two smaller =
-        elim (decide_split {e = e} (remove s two.0) false) [
+        elim (decide_split {e = e} decide_test (remove s two.0) false) [
           | inl f ↦ path_from_split s two.0 false prime two.2 f.0 f.1
-          | inr whole ↦ elim (decide_split {e = e} (remove s two.0) true) [
+          | inr whole ↦ elim (decide_split {e = e} decide_test (remove s two.0) true) [
             | inl f ↦ path_from_split s two.0 true prime two.2 f.0 f.1
             | inr co_whole ↦ elim (search_members (λ z. z ≢ two.1) (λ z. z ≡ two.1) (remove s two.0) (λ z h. ⊎_swap (same_name z two.1))) [
-              | inr alone ↦ absurd (prime_unsplit s prime (e two.0 two.1) (only_name two.0)
+              | inr alone ↦ absurd ((prime_unsplit s prime).unsplit (e two.0 two.1) (only_name two.0)
                   (pair_splits s two.0 two.1 two.2 two.3 (λ same. two.4 (sym same)) alone))
               | inl f ↦ path_within (remove s two.0) s (λ z h. (of_remove s two.0 z h).1)
                   (smaller (remove s two.0)
@@ -232,14 +223,14 @@ module _ {e : ℕ → ℕ → Bool} where
 
       smallest_unsplit : (m : NameSet) → IsStrong e s m → HasAll m → ((k : NameSet) → Within k m → IsStrong e s k × HasAll k → k ≡ m) → (v : Bool) (part : NameSet) → IsSplit e m part v → ⊥
       smallest_unsplit m st all min v part split =
-          let r : (k : NameSet) × IsComponent e m a k v = component_of m v a all.0 in
-          let same : r.0 ≡ m = min r.0 r.1.closed.inside (strong_of_strong s m r.0 st (component_strong adj m r.0 v a r.1), in_component m r.0 v all r.1) in
-          component_unsplit adj m r.0 v a r.1 part (subst (λ t. IsSplit e t part v) (sym same) split)
+          let r : (k : NameSet) × IsComponent e m a k v = component_of decide_test m v a all.0 in
+          let same : r.0 ≡ m = min r.0 r.1.closed.inside (strong_of_strong s m r.0 st (component_strong (undirected adj) m r.0 v a refl r.1), in_component m r.0 v all r.1) in
+          component_unsplit (undirected adj) m r.0 v a refl r.1 part (subst (λ t. IsSplit e t part v) (sym same) split)
 
       prime_of_path : (m : NameSet) × IsStrong e s m × IsPrime e m
       prime_of_path =
           let r : (m : NameSet) × Within m s × (IsStrong e s m × HasAll m) × ((k : NameSet) → Within k m → IsStrong e s k × HasAll k → k ≡ m) =
-          smallest (λ m. IsStrong e s m × HasAll m) s (whole_strong s (a, is.inside.0), is.inside) (λ m w. decide_both (decide_strong s m) (decide_has_all m)) in (
+          smallest (λ m. IsStrong e s m × HasAll m) s (whole_strong s (a, is.inside.0), is.inside) (λ m w. decide_both (decide_strong decide_test s m) (decide_has_all m)) in (
             r.0,
             r.2.0,
             record {

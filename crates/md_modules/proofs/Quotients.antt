@@ -1,20 +1,22 @@
--- Partitions into modules and their quotients; the maximal proper modules of a prime set.
-use Rattle.std.proofs.Common.{◌≡◌, ℕ, ◌+◌, ◌<◌, ◌≤◌, Bool, true, false, nat_eq, ◌≢◌, ◌⊎◌, refl, sym, ◌∙◌, ap, subst, inl, inr, arith, eqb-true, eq-eqb}
-use Rattle.std.specs.FinSet.{contains, insert, remove, retain, difference, len}
-use Rattle.md_graph.specs.Sets.{NameSet, Has, Lacks, Within, Disjoint, HasSome, HasTwo}
+-- Partitions into modules and their quotients; the maximal proper modules of a set that doesn't split, for any colours.
+use Rattle.std.proofs.Common.{◌≡◌, ℕ, ◌+◌, ◌<◌, ◌≤◌, Bool, true, nat_eq, ◌≢◌, ◌⊎◌, refl, sym, ◌∙◌, ap, subst, inl, inr, arith, eqb-true, eq-eqb}
+use Rattle.std.specs.FinSet.{contains, remove, retain, len}
+use Rattle.md_graph.specs.Sets.{NameSet, Has, Lacks, Within, Disjoint, HasSome, HasTwo, only_name}
 use Rattle.md_graph.specs.Adjacency.{IsAdjacency}
+use Rattle.md_modules.specs.Colours.{IsColouring, AreTold}
 use Rattle.md_modules.specs.Modules.{IsModule, IsMaximalModule, HasTrivialModulesAlone}
-use Rattle.md_modules.specs.Kinds.{IsSplit, IsPrime}
+use Rattle.md_modules.specs.Kinds.{IsSplit, IsPrime, IsUnsplit}
 use Rattle.md_modules.specs.Quotients.{IsQuotient, IsModularPartition, class}
 use Rattle.md_modules.specs.InducedPaths.{IsInducedPath, HasInducedPath}
-use Rattle.md_modules.specs.Laws.{MaximalModules, PrimeHasMaximalModules}
-use Rattle.std.proofs.lemmas.Bool.{cases_Bool, false_from_ne_true}
+use Rattle.md_modules.specs.Laws.{MaximalModules, PrimeHasMaximalModules, UnsplitHasMaximalModules}
+use Rattle.std.proofs.lemmas.Bool.{false_from_ne_true}
 use Rattle.std.proofs.Math.Nat.{ne_of_lt}
-use Rattle.md_graph.proofs.SetLemmas.{clash, same_name, Has-along, same_members, insert_new, insert_old, remove_gone, remove_left, of_remove, retain_has, of_retain, retain_lacks, of_retain_lacks, minus_has, of_minus}
-use Rattle.md_graph.proofs.Search.{Decided, decide_test, decide_both, decide_not, decide_if, decide_same, decide_like, decide_below, decide_some, decide_some_set, decide_all, test_of, test_holds, of_test, larger_or_same, choose, len_single, other_or_alone, two_of_len, len_fewer, len_one_more, len_within, len_four, first_member}
-use Rattle.md_modules.proofs.Components.{split_rest, closed_module, split_closed}
-use Rattle.md_modules.proofs.Modules.{across_modules, least_module, decide_maximal}
-use Rattle.md_modules.proofs.Children.{prime_unsplit, in_maximal, maximal_of, maximal_leaves, maximal_meet, together_if_least_proper, least_proper_if_together}
+use Rattle.md_graph.proofs.SetLemmas.{clash, same_name, Has-along, same_members, remove_gone, remove_left, of_remove, retain_has, of_retain, retain_lacks, of_retain_lacks}
+use Rattle.md_graph.proofs.Search.{Decided, decide_test, decide_both, decide_not, decide_if, decide_same, decide_like, decide_below, decide_some, decide_some_set, decide_all, test_of, test_holds, of_test, larger_or_same, choose, len_single, other_or_alone, two_of_len, len_fewer, len_four, some_len, first_member}
+use Rattle.md_modules.proofs.Modules.{undirected, across_modules, least_module, decide_maximal}
+use Rattle.md_modules.proofs.Splits.{pair_splits}
+use Rattle.md_modules.proofs.Components.{prime_unsplit, unsplit_prime}
+use Rattle.md_modules.proofs.Children.{in_maximal, maximal_of, maximal_leaves, maximal_meet, maximal_child, child_maximal, together_if_least_proper, least_proper_if_together}
 use Rattle.md_modules.proofs.Paths.{prime_path}
 
 -- the class of p has the names that lead to p
@@ -33,14 +35,14 @@ lifted s rep k = retain s (λ x. contains k (rep x))
 pub not_same_in : (k : NameSet) (x y : ℕ) → Has k x → Lacks k y → x ≢ y
 not_same_in k x y h l same = clash (subst (Has k) same h) l
 
-module _ {e : ℕ → ℕ → Bool} (adj : IsAdjacency e) (s r : NameSet) (rep : ℕ → ℕ) (part : IsModularPartition e s r rep) where
+module _ {C : Type 0} {reverse : C → C} {e : ℕ → ℕ → C} (col : IsColouring reverse e) (s r : NameSet) (rep : ℕ → ℕ) (part : IsModularPartition e s r rep) where
   own_class : (p : ℕ) → Has r p → Has (class s rep p) p
   own_class p h = class_has s rep p p (part.inside p h) (part.own p h)
 
   -- between two classes all pairs are alike
   pub across_classes : (a b : ℕ) → Has s a → Has s b → rep a ≢ rep b → e a b ≡ e (rep a) (rep b)
   across_classes a b ha hb differ =
-      across_modules adj s (class s rep (rep a)) (class s rep (rep b)) (part.modules (rep a) (part.leads a ha)) (part.modules (rep b) (part.leads b hb))
+      across_modules col s (class s rep (rep a)) (class s rep (rep b)) (part.modules (rep a) (part.leads a ha)) (part.modules (rep b) (part.leads b hb))
       (λ x h. false_from_ne_true _ (λ k. differ (sym (of_class s rep (rep a) x h).1 ∙ (of_class s rep (rep b) x k).1)))
       a (rep a) b (rep b) (class_has s rep (rep a) a ha refl) (own_class (rep a) (part.leads a ha)) (class_has s rep (rep b) b hb refl) (own_class (rep b) (part.leads b hb))
 
@@ -65,7 +67,7 @@ module _ {e : ℕ → ℕ → Bool} (adj : IsAdjacency e) (s r : NameSet) (rep :
   }
 
   -- a split of the quotient is one of s
-  pub lifted_split : (k : NameSet) (v : Bool) → IsSplit e r k v → IsSplit e s (lifted s rep k) v
+  pub lifted_split : (k : NameSet) (v : C) → IsSplit e r k v → IsSplit e s (lifted s rep k) v
   lifted_split k v is = record {
     some = lifted_some k is.inside is.some;
     inside = λ x h. (of_retain s _ x h).0;
@@ -158,47 +160,18 @@ module _ {e : ℕ → ℕ → Bool} (adj : IsAdjacency e) (s r : NameSet) (rep :
           omega arith
       no_rest z hz (inr same) = clash (Has-along r (remove r (rep z)) (sym same) (rep z) (part.leads z hz)) (remove_gone r (rep z))
 
--- three names or more and trivial modules alone: a prime set
-module _ {e : ℕ → ℕ → Bool} (adj : IsAdjacency e) (r : NameSet) (many : 3 ≤ len r) (trivial : HasTrivialModulesAlone e r) where
-  trivial_unsplit : (v : Bool) (a : NameSet) → IsSplit e r a v → ⊥
-  trivial_unsplit v a split =
-      elim (trivial a (closed_module adj r a v (split_closed r a v split) split.some)) [
-        | inr same ↦ clash (Has-along r a (sym same) split.rest.0 split.rest.1) split.rest.2
-        | inl one ↦ elim (trivial (difference r a) (closed_module adj r (difference r a) v (split_closed r (difference r a) v rest) rest.some)) [
-          | inr same ↦ clash split.some.1 (of_minus r a split.some.0 (Has-along r (difference r a) (sym same) split.some.0 (split.inside split.some.0 split.some.1))).1
-          | inl other ↦
-              let small : len (difference r a) ≤ 1 = len_single (difference r a) other.0 other.1 in
-              let one_more : len (insert (difference r a) one.0) ≤ len (difference r a) + 1 = len_one_more (difference r a) one.0 in
-              let all : len r ≤ len (insert (difference r a) one.0) = len_within r (insert (difference r a) one.0) (λ x h. elim (cases_Bool (contains a x)) [
-                | inl i ↦ subst (Has (insert (difference r a) one.0)) (sym (one.1 x i)) (insert_new (difference r a) one.0)
-                | inr o ↦ insert_old (difference r a) one.0 x (minus_has r a x h o)
-              ]) in
-              absurd (omega arith)
-        ]
-      ]
-    where
-      rest : IsSplit e r (difference r a) v
-      rest = split_rest adj r a v split
-
-  pub trivial_prime : IsPrime e r
-  trivial_prime = record {
-    two = two_of_len r (omega arith);
-    connected = λ w. trivial_unsplit false w.0 w.1;
-    co_connected = λ w. trivial_unsplit true w.0 w.1;
-  }
-
 -- x and y lie in one maximal proper module
-abbrev pub Together : (ℕ → ℕ → Bool) → NameSet → ℕ → ℕ → Type 0
+abbrev pub Together : {C : Type 0} → (ℕ → ℕ → C) → NameSet → ℕ → ℕ → Type 0
 Together e s x y = (m : NameSet) × IsMaximalModule e s m × Has m x × Has m y
 
-module _ (e : ℕ → ℕ → Bool) (s : NameSet) where
+module _ {C : Type 0} (told : AreTold C) (e : ℕ → ℕ → C) (s : NameSet) where
   pub decide_together : (x y : ℕ) → Decided (Together e s x y)
   decide_together x y =
       decide_like
       (λ w. (w.0, w.2.0, w.2.1.0, w.2.1.1))
       (λ w. (w.0, w.1.is_module.inside, (w.1, (w.2, w.3))))
       (decide_some_set s (λ m. IsMaximalModule e s m × (Has m x × Has m y))
-      (λ m w. decide_both (decide_maximal s m) (decide_both (decide_test (contains m x) true) (decide_test (contains m y) true))))
+      (λ m w. decide_both (decide_maximal told s m) (decide_both (decide_test (contains m x) true) (decide_test (contains m y) true))))
 
   -- x is the first of its maximal proper module
   abbrev pub IsFirst : ℕ → Type 0
@@ -210,9 +183,9 @@ module _ (e : ℕ → ℕ → Bool) (s : NameSet) where
   abbrev pub firsts : NameSet
   firsts = retain s (λ x. test_of (decide_first x))
 
-  module _ (adj : IsAdjacency e) (prime : IsPrime e s) where
+  module _ {reverse : C → C} (col : IsColouring reverse e) (whole : IsUnsplit e s) where
     together_in : (m : NameSet) (x y : ℕ) → IsMaximalModule e s m → Has m x → Together e s x y → Has m y
-    together_in m x y max h t = Has-along t.0 m (maximal_meet adj s t.0 m x prime t.1 max t.2 h) y t.3
+    together_in m x y max h t = Has-along t.0 m (maximal_meet col s t.0 m x whole t.1 max t.2 h) y t.3
 
     -- the first names of the maximal proper modules are the names of a quotient
     pub firsts_quotient : IsQuotient e s firsts
@@ -242,7 +215,7 @@ module _ (e : ℕ → ℕ → Bool) (s : NameSet) where
 
       represent : (rep : ℕ → ℕ) × ((x : ℕ) → Has s x → Has r (rep x) × Together e s x (rep x))
       represent = choose s (λ x y. Has r y × Together e s x y) (λ x h.
-          let m : (m : NameSet) × IsMaximalModule e s m × Has m x = maximal_of s x prime.two h in
+          let m : (m : NameSet) × IsMaximalModule e s m × Has m x = maximal_of told s x whole.two h in
           let o : (z : ℕ) × Has m.0 z × Has r z × ((y : ℕ) → Has m.0 y → Has r y → y ≡ z) = quotient.one m.0 m.1 in
           (o.0, (o.2, (m.0, m.1, m.2, o.1))))
 
@@ -264,7 +237,7 @@ module _ (e : ℕ → ℕ → Bool) (s : NameSet) where
 
         class_maximal : (p : ℕ) → Has r p → IsMaximalModule e s (class s rep p)
         class_maximal p h =
-            let m : (m : NameSet) × IsMaximalModule e s m × Has m p = maximal_of s p prime.two (quotient.inside p h) in
+            let m : (m : NameSet) × IsMaximalModule e s m × Has m p = maximal_of told s p whole.two (quotient.inside p h) in
             subst (IsMaximalModule e s) (sym (class_same p m.0 h m.1 m.2)) m.1
 
         partition : IsModularPartition e s r rep
@@ -282,7 +255,7 @@ module _ (e : ℕ → ℕ → Bool) (s : NameSet) where
               | inl y ↦ elim (decide_same (lifted s rep k) s) [
                 | inl same ↦ inr (same_members k r is.inside (λ x h.
                     subst (Has k) (leads_to_own x h) (of_retain s (λ z. contains k (rep z)) x (Has-along s (lifted s rep k) (sym same) x (quotient.inside x h))).1))
-                | inr differs ↦ absurd (no_two y (in_maximal s (lifted s rep k) (lifted_module adj s r rep partition k is) differs))
+                | inr differs ↦ absurd (no_two y (in_maximal told s (lifted s rep k) (lifted_module col s r rep partition k is) differs))
               ]
             ]
           where
@@ -292,8 +265,8 @@ module _ (e : ℕ → ℕ → Bool) (s : NameSet) where
             no_two : (y : ℕ) × Has k y × (y ≢ is.some.0) → (x : NameSet) × IsMaximalModule e s x × Within (lifted s rep k) x → ⊥
             no_two y m = y.2 (one_in_class m.0 y.0 is.some.0 m.1 (m.2 y.0 (in_lifted y.0 y.1)) (m.2 is.some.0 (in_lifted is.some.0 is.some.1)) (is.inside y.0 y.1) (is.inside is.some.0 is.some.1))
 
-        prime_from : IsPrime e r
-        prime_from = record {
+        unsplit_from : IsUnsplit e r
+        unsplit_from = record {
           two = (
             rep x,
             rep y.0,
@@ -304,14 +277,13 @@ module _ (e : ℕ → ℕ → Bool) (s : NameSet) where
                 let ty : Together e s y.0 (rep y.0) = (fits y.0 y.1).1 in
                 clash (together_in (class s rep (rep x)) (rep x) y.0 cx own_rep (ty.0, ty.1, subst (Has ty.0) (sym same) ty.3, ty.2)) y.2,
           );
-          connected = λ w. prime_unsplit s prime false (lifted s rep w.0) (lifted_split adj s r rep partition w.0 false w.1);
-          co_connected = λ w. prime_unsplit s prime true (lifted s rep w.0) (lifted_split adj s r rep partition w.0 true w.1);
+          unsplit = λ v k split. whole.unsplit v (lifted s rep k) (lifted_split col s r rep partition k v split);
         } where
           x : ℕ
-          x = prime.two.0
+          x = whole.two.0
 
           hx : Has s x
-          hx = prime.two.2
+          hx = whole.two.2
 
           cx : IsMaximalModule e s (class s rep (rep x))
           cx = class_maximal (rep x) (fits x hx).0
@@ -325,30 +297,57 @@ module _ (e : ℕ → ℕ → Bool) (s : NameSet) where
       pub quotient_trivial : HasTrivialModulesAlone e r
       quotient_trivial = trivial_from represent.0 represent.1
 
-      pub quotient_prime : IsPrime e r
-      quotient_prime = prime_from represent.0 represent.1
-
-      pub quotient_four : 4 ≤ len r
-      quotient_four =
-          let path : HasInducedPath e r = prime_path adj r quotient_prime in
-          let is : IsInducedPath e r path.0 path.1 path.2 path.3 = path.4 in
-          len_four r path.0 path.1 path.2 path.3 is.inside.0 is.inside.1 is.inside.2 is.inside.3
-          is.different.0 is.different.1 is.different.2 (ne_of_lt is.ascending) is.different.3 is.different.4
+      pub quotient_unsplit : IsUnsplit e r
+      quotient_unsplit = unsplit_from represent.0 represent.1
 
     maximal_disjoint : (m n : NameSet) → IsMaximalModule e s m → IsMaximalModule e s n → m ≢ n → Disjoint m n
-    maximal_disjoint m n a b differ x h = false_from_ne_true _ (λ k. differ (maximal_meet adj s m n x prime a b h k))
+    maximal_disjoint m n a b differ x h = false_from_ne_true _ (λ k. differ (maximal_meet col s m n x whole a b h k))
 
-    pub maximal_modules : MaximalModules e s
-    maximal_modules = record {
-      least = least_module s;
-      together = λ u v k is. ((λ w. least_proper_if_together s k w.0 u v is w.1 w.2 w.3), together_if_least_proper s k u v is);
-      covered = λ u h. maximal_of s u prime.two h;
+    pub maximal_modules : (few : ℕ) → ((r : NameSet) → IsUnsplit e r → few ≤ len r) → MaximalModules e s few
+    maximal_modules few many = record {
+      least = least_module told s;
+      together = λ u v k is. ((λ w. least_proper_if_together s k w.0 u v is w.1 w.2 w.3), together_if_least_proper told s k u v is);
+      covered = λ u h. maximal_of told s u whole.two h;
       disjoint = maximal_disjoint;
-      alike = λ m n a b p q mm mn differ ha hp hb hq. across_modules adj s m n mm.is_module mn.is_module (maximal_disjoint m n mm mn differ) a p b q ha hp hb hq;
+      alike = λ m n a b p q mm mn differ ha hp hb hq. across_modules col s m n mm.is_module mn.is_module (maximal_disjoint m n mm mn differ) a p b q ha hp hb hq;
       quotient = (firsts, firsts_quotient);
       trivial = quotient_trivial;
-      four = quotient_four;
+      many = λ r quotient. many r (quotient_unsplit r quotient);
     }
 
+-- a set that doesn't split has three names or more
+unsplit_three : {C : Type 0} {e : ℕ → ℕ → C} (r : NameSet) → IsUnsplit e r → 3 ≤ len r
+unsplit_three {e = e} r whole = elim (other_or_alone (remove r x) y) [
+  | inr alone ↦ absurd (whole.unsplit (e x y) (only_name x) (pair_splits r x y whole.two.2 whole.two.3 y_other alone))
+  | inl z ↦
+      let one : len (remove r x) + 1 ≡ len r = len_fewer r x whole.two.2 in
+      let two : len (remove (remove r x) y) + 1 ≡ len (remove r x) = len_fewer (remove r x) y (remove_left r x y y_other whole.two.3) in
+      let more : 1 ≤ len (remove (remove r x) y) = some_len (remove (remove r x) y) z.0 (remove_left (remove r x) y z.0 z.2 z.1) in
+      omega arith
+] where
+  x : ℕ
+  x = whole.two.0
+
+  y : ℕ
+  y = whole.two.1
+
+  y_other : y ≢ x
+  y_other same = whole.two.4 (sym same)
+
+pub unsplit_proof : (C : Type 0) → UnsplitHasMaximalModules C
+unsplit_proof C reverse e col told s whole = (
+  λ c. (child_maximal col told s c whole, maximal_child col s c whole),
+  maximal_modules told e s col whole 3 unsplit_three,
+)
+
+-- a set of a graph that is prime has four names or more: those of an induced path
+prime_four : {e : ℕ → ℕ → Bool} → IsAdjacency e → (r : NameSet) → IsPrime e r → 4 ≤ len r
+prime_four {e} adj r prime =
+    let path : HasInducedPath e r = prime_path adj r prime in
+    let is : IsInducedPath e r path.0 path.1 path.2 path.3 = path.4 in
+    len_four r path.0 path.1 path.2 path.3 is.inside.0 is.inside.1 is.inside.2 is.inside.3
+    is.different.0 is.different.1 is.different.2 (ne_of_lt is.ascending) is.different.3 is.different.4
+
 pub maximal_modules_proof : PrimeHasMaximalModules
-maximal_modules_proof e adj s prime = maximal_modules e s adj prime
+maximal_modules_proof e adj s prime =
+    maximal_modules decide_test e s (undirected adj) (prime_unsplit s prime) 4 (λ r whole. prime_four adj r (unsplit_prime r whole))

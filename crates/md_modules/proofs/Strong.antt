@@ -1,10 +1,11 @@
 -- Strong modules: the tree that they are, and the children of a set of each kind.
-use Rattle.std.proofs.Common.{◌≡◌, ℕ, Bool, ◌≢◌, ◌⊎◌, sym, ◌∙◌, subst, inl, inr}
+use Rattle.std.proofs.Common.{◌≡◌, ℕ, ◌≢◌, ◌⊎◌, sym, ◌∙◌, subst, inl, inr}
 use Rattle.md_graph.specs.Sets.{NameSet, Has, Lacks, Within, Disjoint, HasSome, HasTwo, Proper, only_name}
+use Rattle.md_modules.specs.Colours.{AreTold}
 use Rattle.md_modules.specs.Modules.{Overlap, IsStrong, IsMaximalStrong, IsParent}
-use Rattle.md_modules.specs.Laws.{StrongModulesAreTree, StrongModulesDescend}
+use Rattle.md_modules.specs.Laws.{AreTree, Descends, StrongModulesAreTree, StrongModulesDescend, ColouredStrongModules}
 use Rattle.md_graph.proofs.SetLemmas.{clash, only_has, of_only, Has-along, same_members}
-use Rattle.md_graph.proofs.Search.{decide_both, decide_not, decide_same, decide_within, outside_or_within, meet_or_disjoint, larger_or_same, smallest, largest}
+use Rattle.md_graph.proofs.Search.{decide_test, decide_both, decide_not, decide_same, decide_within, outside_or_within, meet_or_disjoint, larger_or_same, smallest, largest}
 use Rattle.md_modules.proofs.Modules.{whole_module, single_module, module_inside, module_of_module, decide_strong}
 
 -- sets that don't overlap don't meet, or one holds the other
@@ -29,7 +30,7 @@ nested_if_meet a b x free p q = elim (apart_or_nested a b free) [ inl apart ↦ 
 pub larger_than_single : (s : NameSet) (v : ℕ) → HasTwo s → only_name v ≢ s
 larger_than_single s v two e = two.4 (of_only v two.0 (Has-along s _ (sym e) two.0 two.2) ∙ sym (of_only v two.1 (Has-along s _ (sym e) two.1 two.3)))
 
-module _ {e : ℕ → ℕ → Bool} where
+module _ {C : Type 0} {e : ℕ → ℕ → C} where
   pub whole_strong : (s : NameSet) → HasSome s → IsStrong e s s
   whole_strong s some = record {
     is_module = whole_module s some;
@@ -65,10 +66,10 @@ module _ {e : ℕ → ℕ → Bool} where
   strong_nested s m n x a b p q = nested_if_meet m n x (a.free n b.is_module) p q
 
   -- each strong module but s lies in a child
-  pub in_child : (s m : NameSet) → IsStrong e s m → m ≢ s → (c : NameSet) × IsMaximalStrong e s c × Within m c
-  in_child s m is differs =
+  pub in_child : AreTold C → (s m : NameSet) → IsStrong e s m → m ≢ s → (c : NameSet) × IsMaximalStrong e s c × Within m c
+  in_child told s m is differs =
       let r : (c : NameSet) × Within m c × Within c s × (IsStrong e s c × (c ≢ s)) × ((b : NameSet) → Within c b → Within b s → IsStrong e s b × (b ≢ s) → b ≡ c) =
-      largest (λ c. IsStrong e s c × (c ≢ s)) s m is.is_module.inside (is, differs) (λ c w. decide_both (decide_strong s c) (decide_not (decide_same c s))) in
+      largest (λ c. IsStrong e s c × (c ≢ s)) s m is.is_module.inside (is, differs) (λ c w. decide_both (decide_strong told s c) (decide_not (decide_same c s))) in
       (r.0, record { is_strong = r.3.0; proper = r.3.1; maximal = λ n st d w. r.4 n w st.is_module.inside (st, d) }, r.1)
 
   -- two children that meet are one
@@ -80,9 +81,9 @@ module _ {e : ℕ → ℕ → Bool} where
       ]
 
   -- each member of a set with two lies in a child
-  pub child_of : (s : NameSet) (x : ℕ) → HasTwo s → Has s x → (c : NameSet) × IsMaximalStrong e s c × Has c x
-  child_of s x two h =
-      let r : (c : NameSet) × IsMaximalStrong e s c × Within (only_name x) c = in_child s (only_name x) (single_strong s x h) (larger_than_single s x two) in
+  pub child_of : AreTold C → (s : NameSet) (x : ℕ) → HasTwo s → Has s x → (c : NameSet) × IsMaximalStrong e s c × Has c x
+  child_of told s x two h =
+      let r : (c : NameSet) × IsMaximalStrong e s c × Within (only_name x) c = in_child told s (only_name x) (single_strong s x h) (larger_than_single s x two) in
       (r.0, r.1, r.2 x (only_has x))
 
   -- a child leaves a member out
@@ -90,11 +91,11 @@ module _ {e : ℕ → ℕ → Bool} where
   child_leaves s c is = elim (larger_or_same c s is.is_strong.is_module.inside) [ inl rest ↦ rest | inr same ↦ absurd (is.proper same) ]
 
   -- the parent of a strong module
-  pub parent_of : (s m : NameSet) → IsStrong e s m → m ≢ s → (p : NameSet) × IsParent e s m p
-  parent_of s m is differs =
+  pub parent_of : AreTold C → (s m : NameSet) → IsStrong e s m → m ≢ s → (p : NameSet) × IsParent e s m p
+  parent_of told s m is differs =
       let r : (p : NameSet) × Within p s × (IsStrong e s p × Proper m p) × ((a : NameSet) → Within a p → IsStrong e s a × Proper m a → a ≡ p) =
       smallest (λ p. IsStrong e s p × Proper m p) s (whole_strong s (m_some.0, is.is_module.inside m_some.0 m_some.1), (is.is_module.inside, differs))
-      (λ a w. decide_both (decide_strong s a) (decide_both (decide_within m a) (decide_not (decide_same m a)))) in (
+      (λ a w. decide_both (decide_strong told s a) (decide_both (decide_within m a) (decide_not (decide_same m a)))) in (
         r.0,
         record {
           is_strong = r.2.0;
@@ -137,29 +138,38 @@ module _ {e : ℕ → ℕ → Bool} where
       h = is.is_module.some.1
 
   -- the strong modules are s and those of its children
-  pub strong_descends : (s m : NameSet) → IsStrong e s m → (m ≡ s) ⊎ ((c : NameSet) × IsMaximalStrong e s c × IsStrong e c m)
-  strong_descends s m is =
+  pub strong_descends : AreTold C → (s m : NameSet) → IsStrong e s m → (m ≡ s) ⊎ ((c : NameSet) × IsMaximalStrong e s c × IsStrong e c m)
+  strong_descends told s m is =
       elim (decide_same m s) [
         | inl same ↦ inl same
-        | inr differs ↦ inr (let r : (c : NameSet) × IsMaximalStrong e s c × Within m c = in_child s m is differs in (r.0, r.1, strong_inside s r.0 m r.1.is_strong r.2 is))
+        | inr differs ↦ inr (let r : (c : NameSet) × IsMaximalStrong e s c × Within m c = in_child told s m is differs in (r.0, r.1, strong_inside s r.0 m r.1.is_strong r.2 is))
       ]
 
+  pub strong_tree : AreTold C → (s : NameSet) → HasSome s → AreTree e s
+  strong_tree told s some = record {
+    root = whole_strong s some;
+    below_root = λ m is. is.is_module.inside;
+    nested = λ m n a b. apart_or_nested m n (a.free n b.is_module);
+    parent = parent_of told s;
+    one_parent = one_parent s;
+    singles = single_strong s;
+    leaves = λ m is. ((λ w. leaf_if_single s m w.0 w.1), single_if_leaf s m is);
+  }
+
+  pub strong_descent : AreTold C → (s : NameSet) → HasSome s → Descends e s
+  strong_descent told s some m = (
+    strong_descends told s m,
+    λ w. elim w [
+      | inl same ↦ subst (IsStrong e s) (sym same) (whole_strong s some)
+      | inr below ↦ strong_of_strong s below.0 m below.1.is_strong below.2
+    ],
+  )
+
 pub tree_proof : StrongModulesAreTree
-tree_proof e s some = record {
-  root = whole_strong s some;
-  below_root = λ m is. is.is_module.inside;
-  nested = λ m n a b. apart_or_nested m n (a.free n b.is_module);
-  parent = parent_of s;
-  one_parent = one_parent s;
-  singles = single_strong s;
-  leaves = λ m is. ((λ w. leaf_if_single s m w.0 w.1), single_if_leaf s m is);
-}
+tree_proof e s some = strong_tree decide_test s some
 
 pub descend_proof : StrongModulesDescend
-descend_proof e s some m = (
-  strong_descends s m,
-  λ w. elim w [
-    | inl same ↦ subst (IsStrong e s) (sym same) (whole_strong s some)
-    | inr below ↦ strong_of_strong s below.0 m below.1.is_strong below.2
-  ],
-)
+descend_proof e s some = strong_descent decide_test s some
+
+pub coloured_tree_proof : (C : Type 0) → ColouredStrongModules C
+coloured_tree_proof C told e s some = (strong_tree told s some, strong_descent told s some)

@@ -7,6 +7,7 @@ use Rattle.md_graph.specs.PlainGraph.{PlainGraph, IsGraph, adjacent, neighbours}
 use Rattle.md_graph.proofs.GraphLemmas.{adjacent_sym, adjacent_self, contains-neighbours}
 use Rattle.md_graph.specs.Sets.{NameSet, Has, Lacks, Within, Disjoint, only_name}
 use Rattle.md_graph.specs.Adjacency.{IsAdjacency}
+use Rattle.md_modules.specs.Colours.{IsColouring}
 use Rattle.md_modules.specs.Modules.{IsModule, IsLeastModule, IsLeastModuleOver}
 use Rattle.md_modules.specs.Kinds.{IsSplit}
 use Rattle.md_modules.specs.Components.{IsComponent}
@@ -15,9 +16,9 @@ use Rattle.md_modules.specs.Seen.{seen_as}
 use Rattle.std.proofs.lemmas.Bool.{cases_Bool, true_from_ne_false, false_from_ne_true, not-true, not-false}
 use Rattle.md_graph.proofs.SetLemmas.{clash, empty_lacks, insert_new, insert_old, of_insert, meet_has, of_meet, union_left, union_right, of_union, only_has, of_only, minus_has, of_minus, same_members, Has-along, remove_is, none_lacks, empty_if, if_empty, lacks_along, along_two, remove_insert, remove_left, remove_gone, of_remove, insert_lacks, minus_shared, meet_unshared, minus_twice, only_new, told_value, value_told}
 use Rattle.md_graph.proofs.Search.{alike_unless}
-use Rattle.md_modules.proofs.Modules.{single_module}
-use Rattle.md_modules.proofs.Components.{component_unsplit, unsplit_component}
-use Rattle.md_modules.proofs.Growth.{IsGrowing, IsGoingBack, IsBackFrom, reach_start, reach_turn, reach_idle, reach_back, reach_end, grow_start, grow_turn, grow_end, back_start, back_turn, back_end, least_of_two}
+use Rattle.md_modules.proofs.Modules.{undirected, other_way, single_module}
+use Rattle.md_modules.proofs.Components.{other_value, not_own, component_unsplit, unsplit_component}
+use Rattle.md_modules.proofs.Growth.{TakesUnless, IsGrowing, IsGoingBack, IsBackFrom, reach_start, reach_turn, reach_idle, reach_back, reach_end, grow_start, grow_turn, grow_end, back_start, back_turn, back_end, least_of_two}
 
 -- ---- adjacency
 
@@ -46,12 +47,17 @@ module _ {g : PlainGraph} (graph : IsGraph g) where
         (two.0, sym (contains-neighbours graph w y) ∙ two.1),
   )
 
-  abbrev pub ToldApart : ℕ → ℕ → NameSet → NameSet → Type 0
-  ToldApart v w among result =
-      ((y : ℕ) → Has among y → adjacent g v y ≢ adjacent g w y → Has result y) × ((y : ℕ) → Has result y → Has among y × (adjacent g v y ≢ adjacent g w y))
+  -- those that w sees otherwise
+  pub seen_otherwise : (w : ℕ) (v : Bool) (among : NameSet) → TakesUnless (λ y. adjacent g w y ≡ v) among (seen_as g w (not v) among)
+  seen_otherwise w v among =
+      let seen : SeenAs w (not v) among (seen_as g w (not v) among) = seen_all w (not v) among in (
+        λ y h l. other_value (adjacent g w y) v (λ k. clash (seen.0 y h k) l),
+        λ y h. ((seen.1 y h).0, λ same. not_own (adjacent g w y) v same (seen.1 y h).1),
+      )
 
-  pub told_all : (v w : ℕ) (among : NameSet) → ToldApart v w among (apart_in g v w among)
-  told_all v w among = (has, only) where
+  -- those that v and w see otherwise
+  pub told_all : (v w : ℕ) (among : NameSet) → TakesUnless (λ y. adjacent g v y ≡ adjacent g w y) among (apart_in g v w among)
+  told_all v w among = (λ y h l. alike_unless (adjacent g v y) (adjacent g w y) (λ differ. clash (has y h differ) l), only) where
     first : NameSet
     first = neighbours g v
 
@@ -126,18 +132,6 @@ insert_minus s new v out = same_members _ _
       | inr old ↦ insert_old (difference s new) v y (minus_has s new y old two.1)
     ])
 
-not_like : (a b : Bool) → a ≢ b → a ≡ not b
-not_like true true n = absurd (n refl)
-not_like true false n = refl
-not_like false true n = refl
-not_like false false n = absurd (n refl)
-
-of_not_like : (a b : Bool) → a ≡ not b → a ≢ b
-of_not_like true true p q = clash refl p
-of_not_like true false p q = clash refl q
-of_not_like false true p q = clash q refl
-of_not_like false false p q = clash p refl
-
 pub back_fixed : (s left into : NameSet) (v : ℕ) → Within left s → into ≡ difference s left → Has left v → Has (difference s into) v
 back_fixed s left into v part is h = Has-along _ _ (sym (minus_twice s left into part is)) v h
 
@@ -148,37 +142,43 @@ pair_seen e begun todo u v is is_todo w h l y = elim (of_insert (only_name u) v 
   | inr old ↦ ap (λ b. e b y) (sym (of_only u w old))
 ]
 
--- w sees none of those left
-pub not_seen : (g : PlainGraph) (left : NameSet) (w : ℕ) (v : Bool) (r : Bool) → r ≡ false → ((r ≡ true) ↔ ((t : ℕ) × Has left t × (adjacent g w t ≡ v))) → (y : ℕ) → Has left y → adjacent g w y ≡ v → ⊥
-not_seen g left w v r is test y h same = clash (test.1 (y, h, same)) is
+-- w sees none of those left otherwise
+pub not_seen : (g : PlainGraph) (left : NameSet) (w : ℕ) (v : Bool) (r : Bool) → r ≡ false → ((r ≡ true) ↔ ((t : ℕ) × Has left t × (adjacent g w t ≡ not v))) → (y : ℕ) → Has left y → adjacent g w y ≡ v
+not_seen g left w v r is test y h = other_value (adjacent g w y) v (λ other. clash (test.1 (y, h, other)) is)
 
-module _ {e : ℕ → ℕ → Bool} where
-  pub reach_begin : (s left todo : NameSet) (v : Bool) (x : ℕ) → Has s x → left ≡ remove s x → todo ≡ insert empty x → IsReaching e s v x left todo
+-- those that see one of the names taken otherwise
+pub seeing_otherwise : (g : PlainGraph) (left taken new : NameSet) (v : Bool) → ((y : ℕ) → Has new y ↔ (Has left y × ((t : ℕ) × Has taken t × (adjacent g y t ≡ not v)))) →
+    TakesUnless (λ y. (t : ℕ) → Has taken t → adjacent g y t ≡ v) left new
+seeing_otherwise g left taken new v sees = (
+  λ y h l t ht. other_value (adjacent g y t) v (λ other. clash ((sees y).1 (h, (t, ht, other))) l),
+  λ y h. let (hl, seen) = (sees y).0 h in (hl, λ all. not_own (adjacent g y seen.0) v (all seen.0 seen.1) seen.2),
+)
+
+module _ {C : Type 0} {e : ℕ → ℕ → C} where
+  pub reach_begin : (s left todo : NameSet) (v : C) (x : ℕ) → Has s x → left ≡ remove s x → todo ≡ insert empty x → IsReaching e s v x left todo
   reach_begin s left todo v x h is_left is_todo =
       along_two (IsReaching e s v x) _ _ left todo (is_left ∙ remove_is s x) is_todo (reach_start s v x h)
 
-  pub reach_more : (s left todo new left' todo' : NameSet) (v : Bool) (x w : ℕ) → IsReaching e s v x left todo → Has todo w →
-      ((y : ℕ) → Has left y → e w y ≡ not v → Has new y) → ((y : ℕ) → Has new y → Has left y × (e w y ≡ not v)) →
+  pub reach_more : (s left todo new left' todo' : NameSet) (v : C) (x w : ℕ) → IsReaching e s v x left todo → Has todo w → TakesUnless (λ y. e w y ≡ v) left new →
       left' ≡ difference left new → todo' ≡ union (remove todo w) new → IsReaching e s v x left' todo'
-  reach_more s left todo new left' todo' v x w is h has only is_left is_todo =
-      along_two (IsReaching e s v x) _ _ left' todo' is_left is_todo (reach_turn s left todo new v x w is h has only)
+  reach_more s left todo new left' todo' v x w is h takes is_left is_todo =
+      along_two (IsReaching e s v x) _ _ left' todo' is_left is_todo (reach_turn s left todo new v x w is h takes)
 
-  pub reach_passed : (s left todo todo' : NameSet) (v : Bool) (x w : ℕ) → IsReaching e s v x left todo → todo' ≡ remove todo w → ((y : ℕ) → Has left y → e w y ≡ not v → ⊥) →
+  pub reach_passed : (s left todo todo' : NameSet) (v : C) (x w : ℕ) → IsReaching e s v x left todo → todo' ≡ remove todo w → ((y : ℕ) → Has left y → e w y ≡ v) →
       IsReaching e s v x left todo'
-  reach_passed s left todo todo' v x w is is_todo none = subst (IsReaching e s v x left) (sym is_todo) (reach_idle s left todo v x w is none)
+  reach_passed s left todo todo' v x w is is_todo all = subst (IsReaching e s v x left) (sym is_todo) (reach_idle s left todo v x w is all)
 
-  pub reach_backed : IsAdjacency e → (s left todo taken new none left' todo' : NameSet) (v : Bool) (x : ℕ) → IsReaching e s v x left todo → taken ≡ difference s left →
-      ((y : ℕ) → Has new y ↔ (Has left y × ((t : ℕ) × Has taken t × (e y t ≡ not v)))) → none ≡ empty →
-      left' ≡ difference left new → todo' ≡ union none (intersection left new) → IsReaching e s v x left' todo'
-  reach_backed adj s left todo taken new none left' todo' v x is is_taken sees is_none is_left is_todo =
-      along_two (IsReaching e s v x) _ _ left' todo' is_left (is_todo ∙ only_new left new none is_none (λ y h. ((sees y).0 h).0))
-      (reach_back adj s left todo new v x is (subst (λ (t : NameSet). (y : ℕ) → Has new y ↔ (Has left y × ((z : ℕ) × Has t z × (e y z ≡ not v)))) is_taken sees))
+  pub reach_backed : {reverse : C → C} → IsColouring reverse e → (s left todo taken new none left' todo' : NameSet) (v : C) (x : ℕ) → reverse v ≡ v → IsReaching e s v x left todo → taken ≡ difference s left →
+      TakesUnless (λ y. (t : ℕ) → Has taken t → e y t ≡ v) left new → none ≡ empty → left' ≡ difference left new → todo' ≡ union none (intersection left new) → IsReaching e s v x left' todo'
+  reach_backed col s left todo taken new none left' todo' v x own is is_taken takes is_none is_left is_todo =
+      along_two (IsReaching e s v x) _ _ left' todo' is_left (is_todo ∙ only_new left new none is_none (λ y h. (takes.1 y h).0))
+      (reach_back col s left todo new v x own is (subst (λ t. TakesUnless (λ y. (z : ℕ) → Has t z → e y z ≡ v) left new) is_taken takes))
 
   -- what is left isn't taken
-  pub left_apart : (s left todo : NameSet) (v : Bool) (x : ℕ) → IsReaching e s v x left todo → Disjoint left todo
+  pub left_apart : (s left todo : NameSet) (v : C) (x : ℕ) → IsReaching e s v x left todo → Disjoint left todo
   left_apart s left todo v x is y h = false_from_ne_true _ (λ k. clash h (is.taken y k).1)
 
-  pub reach_stop : (s left todo : NameSet) (v : Bool) (x : ℕ) → IsReaching e s v x left todo → ((y : ℕ) → Lacks left y) ⊎ ((y : ℕ) → Lacks todo y) → IsComponent e s x (difference s left) v
+  pub reach_stop : (s left todo : NameSet) (v : C) (x : ℕ) → IsReaching e s v x left todo → ((y : ℕ) → Lacks left y) ⊎ ((y : ℕ) → Lacks todo y) → IsComponent e s x (difference s left) v
   reach_stop s left todo v x is (inl all) =
       reach_end s left empty v x (record {
         start = is.start;
@@ -189,7 +189,7 @@ module _ {e : ℕ → ℕ → Bool} where
       }) empty_lacks
   reach_stop s left todo v x is (inr none) = reach_end s left todo v x is none
 
-  pub component_along : (s c d : NameSet) (v : Bool) (x : ℕ) → d ≡ c → IsComponent e s x c v → IsComponent e s x d v
+  pub component_along : (s c d : NameSet) (v : C) (x : ℕ) → d ≡ c → IsComponent e s x c v → IsComponent e s x d v
   component_along s c d v x same is = subst (λ t. IsComponent e s x t v) (sym same) is
 
   pub grow_begin : (s begun todo left : NameSet) (v : ℕ) → Has begun v → Within begun s → Within todo begun →
@@ -205,18 +205,15 @@ module _ {e : ℕ → ℕ → Bool} where
     begun = lacks_along left _ is_left j (false_from_ne_true _ (λ h. clash (of_remove (remove s j) v j h).1 (remove_gone s j)));
   }
 
-  pub back_more : (s left todo new left' todo' : NameSet) (v j w : ℕ) (value : Bool) → IsBackFrom e s v j left todo → Has todo w → value ≡ e w v →
-      ((y : ℕ) → Has left y → e w y ≡ not value → Has new y) → ((y : ℕ) → Has new y → Has left y × (e w y ≡ not value)) →
+  pub back_more : (s left todo new left' todo' : NameSet) (v j w : ℕ) (value : C) → IsBackFrom e s v j left todo → Has todo w → value ≡ e w v → TakesUnless (λ y. e w y ≡ value) left new →
       left' ≡ difference left new → todo' ≡ union (remove todo w) new → IsBackFrom e s v j left' todo'
-  back_more s left todo new left' todo' v j w value is h same has only is_left is_todo = record {
+  back_more s left todo new left' todo' v j w value is h same takes is_left is_todo = record {
     going = along_two (IsGoingBack e s v) _ _ (insert left' v) todo'
-        (ap (λ t. insert t v) is_left ∙ insert_minus left new v (false_from_ne_true _ (λ k. clash (only v k).0 is.without))) is_todo
-        (back_turn s (insert left v) todo new v w is.going h
-        (λ y k differ. elim (of_insert left v y k) [
-          | inl same_v ↦ absurd (differ (ap (e w) same_v))
-          | inr old ↦ has y old (not_like (e w y) value (λ p. differ (p ∙ same)))
-        ])
-        (λ y k. (insert_old left v y (only y k).0, λ p. of_not_like (e w y) value (only y k).1 (p ∙ sym same))));
+        (ap (λ t. insert t v) is_left ∙ insert_minus left new v (false_from_ne_true _ (λ k. clash (takes.1 v k).0 is.without))) is_todo
+        (back_turn s (insert left v) todo new v w is.going h (
+          λ y k l. elim (of_insert left v y k) [ inl same_v ↦ ap (e w) same_v | inr old ↦ takes.0 y old l ∙ same ],
+          λ y k. (insert_old left v y (takes.1 y k).0, λ p. (takes.1 y k).1 (p ∙ sym same)),
+        ));
     without = lacks_along left' _ is_left v (false_from_ne_true _ (λ k. clash (of_minus left new v k).0 is.without));
     begun = lacks_along left' _ is_left j (false_from_ne_true _ (λ k. clash (of_minus left new j k).0 is.begun));
   }
@@ -280,16 +277,15 @@ module _ {e : ℕ → ℕ → Bool} where
       (Has-along _ _ (sym is) u (insert_old (only_name u) v u (only_has u)))
       (Has-along _ _ (sym is) v (insert_new (only_name u) v)) least
 
-  module _ (adj : IsAdjacency e) where
-    pub grow_more : (s begun left todo new left' todo' : NameSet) (v w : ℕ) → IsGrowing e s v begun left todo → Has todo w →
-        ((y : ℕ) → Has left y → e v y ≢ e w y → Has new y) → ((y : ℕ) → Has new y → Has left y × (e v y ≢ e w y)) →
+  module _ {reverse : C → C} (col : IsColouring reverse e) where
+    pub grow_more : (s begun left todo new left' todo' : NameSet) (v w : ℕ) → IsGrowing e s v begun left todo → Has todo w → TakesUnless (λ y. e v y ≡ e w y) left new →
         left' ≡ difference left new → todo' ≡ union (remove todo w) new → IsGrowing e s v begun left' todo'
-    grow_more s begun left todo new left' todo' v w is h has only is_left is_todo =
-        along_two (IsGrowing e s v begun) _ _ left' todo' is_left is_todo (grow_turn adj s begun left todo new v w is h has only)
+    grow_more s begun left todo new left' todo' v w is h takes is_left is_todo =
+        along_two (IsGrowing e s v begun) _ _ left' todo' is_left is_todo (grow_turn col s begun left todo new v w is h takes)
 
     pub grow_stop : (s begun left todo : NameSet) (v : ℕ) → IsGrowing e s v begun left todo → ((y : ℕ) → Lacks left y) ⊎ ((y : ℕ) → Lacks todo y) → IsLeastModuleOver e s begun (difference s left)
     grow_stop s begun left todo v is (inl all) =
-        grow_end adj s begun left empty v (record {
+        grow_end col s begun left empty v (record {
           start = is.start;
           begins = is.begins;
           inside = is.inside;
@@ -297,14 +293,14 @@ module _ {e : ℕ → ℕ → Bool} where
           least = is.least;
           looked = λ w hs l t y k. clash k (all y);
         }) empty_lacks
-    grow_stop s begun left todo v is (inr none) = grow_end adj s begun left todo v is none
+    grow_stop s begun left todo v is (inr none) = grow_end col s begun left todo v is none
 
     -- a set whose component leaves nothing doesn't split, and the other way round
-    pub whole_is : (s left : NameSet) (v : Bool) (x : ℕ) → Within left s → IsComponent e s x (difference s left) v → (left ≡ empty) ↔ (((part : NameSet) × IsSplit e s part v) → ⊥)
-    whole_is s left v x part is = (
+    pub whole_is : (s left : NameSet) (v : C) (x : ℕ) → reverse v ≡ v → Within left s → IsComponent e s x (difference s left) v → (left ≡ empty) ↔ (((part : NameSet) × IsSplit e s part v) → ⊥)
+    whole_is s left v x own part is = (
       λ none split.
           let all : difference s left ≡ s = same_members _ _ (λ y h. (of_minus s left y h).0) (λ y h. minus_has s left y h (empty_if left none y)) in
-          component_unsplit adj s s v x (component_along s (difference s left) s v x (sym all) is) split.0 split.1,
+          component_unsplit col s s v x own (component_along s (difference s left) s v x (sym all) is) split.0 split.1,
       λ no_split. if_empty left (λ y. false_from_ne_true _ (λ h.
           let all : difference s left ≡ s = unsplit_component s (difference s left) v x (λ a split. no_split (a, split)) is in
           clash h (of_minus s left y (Has-along _ _ (sym all) y (part y h))).1)),
@@ -320,11 +316,11 @@ module _ {e : ℕ → ℕ → Bool} where
         inside = inside;
         alike = λ a b x ha hb hx l.
             let out : Has others x = Has-along _ _ (sym is) x (minus_has s m x hx l) in
-            adj.symmetric x a ∙ sym (alike a ha x out) ∙ alike b hb x out ∙ adj.symmetric b x;
+            other_way col a x b x (sym (alike a ha x out) ∙ alike b hb x out);
       },
       λ module_is w hw y hy.
           let two : Has s y × Lacks m y = of_minus s m y (Has-along _ _ is y hy) in
-          adj.symmetric v y ∙ module_is.alike v w y hv hw two.0 two.1 ∙ adj.symmetric y w,
+          other_way col y v y w (module_is.alike v w y hv hw two.0 two.1),
     )
 
 -- ---- whether a name sees one of a set
@@ -376,9 +372,8 @@ alike_test {g} graph v w others first second (Some least) r is_first is_second s
       absurd (two.1 (alike least two.0)),
 )
 alike_test {g} graph v w others first second None r is_first is_second some none is = (
-  λ t y h. alike_unless (adjacent g v y) (adjacent g w y) (λ differ.
-      clash (Has-along _ _ (sym (ap₂ (λ a b. intersection others (symmetric_difference a b)) is_first is_second)) y ((told_all graph v w others).0 y h differ))
-      (none_lacks (intersection others (symmetric_difference first second)) none y)),
+  λ t y h. (told_all graph v w others).0 y h
+      (lacks_along (apart_in g v w others) _ (sym (ap₂ (λ a b. intersection others (symmetric_difference a b)) is_first is_second)) y (none_lacks (intersection others (symmetric_difference first second)) none y)),
   λ alike. not-false r (sym is),
 )
 
@@ -388,7 +383,7 @@ pub module_test : {e : ℕ → ℕ → Bool} → IsAdjacency e → (s vertices m
     others ≡ difference vertices m → (b ≡ true) ↔ ((w : ℕ) → Has m w → (y : ℕ) → Has others y → e v y ≡ e w y) → (b ≡ true) ↔ IsModule e s m
 module_test {e} adj s vertices m others v b same hv inside is_others alike =
     subst (λ t. (b ≡ true) ↔ IsModule e t m) same
-    (let if_alike = module_if_alike adj vertices m others v hv inside is_others in
+    (let if_alike = module_if_alike (undirected adj) vertices m others v hv inside is_others in
     (λ t. if_alike.0 (alike.0 t), λ module_is. alike.1 (if_alike.1 module_is)))
 
 -- ---- whether a graph splits
@@ -397,7 +392,7 @@ pub whole_test : {e : ℕ → ℕ → Bool} → IsAdjacency e → (s vertices le
     (r ≡ true) ↔ (left ≡ empty) → (r ≡ true) ↔ (((part : NameSet) × IsSplit e vertices part v) → ⊥)
 whole_test {e} adj s vertices left v x r same part is test =
     subst (λ t. (r ≡ true) ↔ (((part : NameSet) × IsSplit e t part v) → ⊥)) same
-    (let whole = whole_is adj s left v x part is in
+    (let whole = whole_is (undirected adj) s left v x refl part is in
     (λ t. whole.0 (test.0 t), λ no_split. test.1 (whole.1 no_split)))
 
 -- ---- for the tests

@@ -4,8 +4,9 @@ use Rattle.std.specs.Prelude.{◌≡◌, ℕ, Bool, true, false}
 use Rattle.md_graph.specs.Sets.{NameSet, Has, Lacks, Within, HasSome, HasTwo}
 
 -- part and the rest of s are both nonempty, and every pair across is adjacent (`joined` is true),
--- or no pair across is (`joined` is false)
-pub record IsSplit (e : ℕ → ℕ → Bool) (s part : NameSet) (joined : Bool) : Type 0 where
+-- or no pair across is (`joined` is false); of any colouring: every pair from part to the rest has
+-- the colour `joined`
+pub record IsSplit {C : Type 0} (e : ℕ → ℕ → C) (s part : NameSet) (joined : C) : Type 0 where
   pub some : HasSome part
   pub inside : Within part s
   pub rest : (x : ℕ) × Has s x × Lacks part x
@@ -33,3 +34,8 @@ pub record IsPrime (e : ℕ → ℕ → Bool) (s : NameSet) : Type 0 where
   pub two : HasTwo s
   pub connected : IsConnected e s
   pub co_connected : IsCoConnected e s
+
+-- s has two members, and no split of any colour: in a graph, s is prime
+pub record IsUnsplit {C : Type 0} (e : ℕ → ℕ → C) (s : NameSet) : Type 0 where
+  pub two : HasTwo s
+  pub unsplit : (joined : C) (part : NameSet) → ¬ (IsSplit e s part joined)

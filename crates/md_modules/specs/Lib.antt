@@ -1,6 +1,8 @@
+pub mod Colours
 pub mod Modules
 pub mod Kinds
 pub mod Components
+pub mod Segments
 pub mod Quotients
 pub mod InducedPaths
 pub mod Laws

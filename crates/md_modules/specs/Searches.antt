@@ -1,13 +1,13 @@
 -- How far a search for a component has come: the names that it left, and those that it took and
 -- hasn't looked at.
 -- Source: the search of a graph, as in any textbook on algorithms.
-use Rattle.std.specs.Prelude.{◌≡◌, ℕ, Bool}
+use Rattle.std.specs.Prelude.{◌≡◌, ℕ}
 use Rattle.md_graph.specs.Sets.{NameSet, Has, Lacks, Within}
 use Rattle.md_modules.specs.Components.{IsClosed}
 
 -- the component of x in the graph on s (`joined` is false) or in its complement (`joined` is true)
 -- holds all names of s but those left, and no name that was looked at sees one of those
-pub record IsReaching (e : ℕ → ℕ → Bool) (s : NameSet) (joined : Bool) (x : ℕ)
+pub record IsReaching {C : Type 0} (e : ℕ → ℕ → C) (s : NameSet) (joined : C) (x : ℕ)
     (left todo : NameSet) : Type 0 where
   pub start : Has s x × Lacks left x
   pub inside : Within left s

@@ -49,7 +49,7 @@ pub fn co_component<const W: usize>(graph: &GraphOf<W>, within: &Set<W>, x: u32,
 }
 
 // Whether `w` is adjacent to one of `among` (`value` is true), or not adjacent to one (`value` is
-// false). Conditions: `w` is a name, and `apart` is a set without a member of `among`.
+// false). Conditions: `w` is a vertex, and `apart` is a set without a member of `among`.
 pub(crate) fn sees<const W: usize>(
     graph: &GraphOf<W>,
     w: u32,
@@ -57,11 +57,11 @@ pub(crate) fn sees<const W: usize>(
     among: &Set<W>,
     apart: &Set<W>,
 ) -> bool
-    requires name { w < 64 * W }
+    requires vertex { Has graph.now.vertices w }
     requires apart { Disjoint among.now apart.now }
     ensures { IsTrue result ↔ ((t : ℕ) × Has among.now t × (adjacent graph.now w t ≡ value)) }
 {
-    let row = graph.row(w);
+    let row = graph.neighbours(w);
     if value {
         return among.first_in_symmetric_difference(row, apart).is_some();
     }
@@ -129,8 +129,9 @@ fn turn<const W: usize>(
     todo: &mut Set<W>,
 )
     requires member { Has todo.old w }
-    requires name { w < 64 * W }
+    requires vertex { Has graph.now.vertices w }
     requires apart { Disjoint left.old todo.old }
+    requires part { Within left.old graph.now.vertices }
     ensures kept { (x : ℕ) → IsReaching (adjacent graph.now) within.now value x left.old todo.old
         → IsReaching (adjacent graph.now) within.now value x left.new todo.new }
     ensures fewer { len left.new + len todo.new < len left.old + len todo.old }
@@ -155,6 +156,7 @@ fn look_back<const W: usize>(
     left: &mut Set<W>,
     todo: &mut Set<W>,
 )
+    requires part { Within left.old graph.now.vertices }
     ensures kept { (x : ℕ) → IsReaching (adjacent graph.now) within.now value x left.old todo.old
         → IsReaching (adjacent graph.now) within.now value x left.new todo.new }
     ensures fewer { len left.new + len todo.new ≤ len left.old }
@@ -169,7 +171,8 @@ fn look_back<const W: usize>(
 // The members of `left` that are adjacent to one of `taken` (`value` is true), or that aren't
 // (`value` is false).
 fn seeing<const W: usize>(graph: &GraphOf<W>, value: bool, left: &Set<W>, taken: &Set<W>) -> Set<W>
-    requires { Disjoint taken.now left.now }
+    requires apart { Disjoint taken.now left.now }
+    requires part { Within left.now graph.now.vertices }
     ensures { (y : ℕ) → Has result y ↔ (Has left.now y
         × ((t : ℕ) × Has taken.now t × (adjacent graph.now y t ≡ value))) }
 {

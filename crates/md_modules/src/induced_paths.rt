@@ -117,6 +117,7 @@ fn path_by_parts<const W: usize>(
     requires graph { IsGraph graph.now }
     requires inside { Within names.now graph.now.vertices }
     requires alike { (z : ℕ) → Has names.now z → adjacent graph.now x z ≡ value }
+    requires others { Within others.now graph.now.vertices }
     requires across { (o : ℕ) → Has others.now o → adjacent graph.now x o ≡ not value }
     ensures found { IfSome result (λ p.
         IsInducedPathWith (adjacent graph.now) graph.now.vertices x p.a p.b p.c p.d) }
@@ -145,7 +146,8 @@ fn to_begin_from<const W: usize>(
     others: &Set<W>,
     value: bool,
 ) -> Set<W>
-    requires { IsGraph graph.now }
+    requires graph { IsGraph graph.now }
+    requires others { Within others.now graph.now.vertices }
     ensures inside { Within result names.now }
     ensures met { (z : ℕ) → IsMet graph.now names.now others.now value z → Has result z }
 {
@@ -163,7 +165,8 @@ fn met_by<const W: usize>(
     others: &Set<W>,
     value: bool,
 ) -> Set<W>
-    requires { IsGraph graph.now }
+    requires graph { IsGraph graph.now }
+    requires others { Within others.now graph.now.vertices }
     ensures { (z : ℕ) → Has result z ↔ IsMet graph.now names.now others.now value z }
 {
     let _vertices = graph.vertices();

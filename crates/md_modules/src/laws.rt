@@ -1,7 +1,8 @@
 //! The laws of modules, each the contract of a function that does nothing. They speak of any set of
 //! names with a test of adjacency, so of a graph, of the graph on a part of its names, and of the
-//! complement of each.
-ghost use Rattle.md_modules.specs.Laws.{ChildrenAreByKind, ComplementTurnsKinds, HasOneKind, StrongModulesAreTree, StrongModulesDescend, PrimeHasMaximalModules, PrimeHasInducedPath, NoInducedPathIfNonePrime, InducedPathsAreDecided};
+//! complement of each. The last ones speak of any colours `C` of the ordered pairs of names, so of
+//! directed graphs too.
+ghost use Rattle.md_modules.specs.Laws.{ChildrenAreByKind, ChildrenOfSplit, ColouredStrongModules, ComplementTurnsKinds, HasOneKind, SplitsHaveOneColour, StrongModulesAreTree, StrongModulesDescend, PrimeHasMaximalModules, PrimeHasInducedPath, NoInducedPathIfNonePrime, InducedPathsAreDecided, UnsplitHasMaximalModules};
 
 /// The strong modules of a graph with a vertex are a tree under inclusion, whose root is the set of
 /// all vertices and whose leaves are the single vertices.
@@ -57,4 +58,27 @@ pub fn induced_paths_are_decided()
 /// split with every edge across.
 pub fn complement_turns_kinds()
     ensures law { ComplementTurnsKinds }
+{}
+
+/// The strong modules of a colouring are a tree, and descend, as those of a graph.
+pub fn coloured_strong_modules<C>()
+    ensures law { ColouredStrongModules C }
+{}
+
+/// Where a set splits with two colours, these are one, or each is the reverse of the other.
+pub fn splits_have_one_colour<C>()
+    ensures law { SplitsHaveOneColour C }
+{}
+
+/// The children of a set that splits with a colour are its least segments. None splits with that
+/// colour or its reverse, and they stand in a row: the pairs from each to those behind it have the
+/// colour.
+pub fn children_of_split<C>()
+    ensures law { ChildrenOfSplit C }
+{}
+
+/// The children of a set that doesn't split are its maximal proper modules. Their quotient has
+/// trivial modules alone, and three names or more.
+pub fn unsplit_has_maximal_modules<C>()
+    ensures law { UnsplitHasMaximalModules C }
 {}

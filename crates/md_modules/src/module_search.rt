@@ -155,7 +155,7 @@ fn not_grown<const W: usize>(
     let mut from_end = false;
     while let Some(w) = next(left, &todo, from_end) {
         todo.remove(w);
-        left.move_symmetric_difference(graph.row(v), graph.row(w), &mut todo);
+        left.move_symmetric_difference(graph.neighbours(v), graph.neighbours(w), &mut todo);
         from_end = !from_end;
     }
 }

@@ -152,6 +152,7 @@ fn splitter<const W: usize>(
 ) -> Option<u32>
     requires some { HasSome class.now }
     requires apart { Disjoint class.now left.old }
+    requires part { Within left.old graph.now.vertices }
     ensures found { IfSome result (IsSplitter (adjacent graph.now) left.new class.now) }
     ensures none { IfNone result ((p : ℕ)
         → IsSplitter (adjacent graph.now) left.old class.now p → ⊥) }
@@ -203,6 +204,7 @@ fn splitter_of_many<const W: usize>(
     left: &mut Set<W>,
 ) -> Option<u32>
     requires apart { Disjoint class.now left.old }
+    requires part { Within left.old graph.now.vertices }
     ensures found { IfSome result (IsSplitter (adjacent graph.now) left.new class.now) }
     ensures none { IfNone result ((p : ℕ)
         → IsSplitter (adjacent graph.now) left.old class.now p → ⊥) }
@@ -222,8 +224,8 @@ fn splitter_of_many<const W: usize>(
 // Whether `p`, a member of `left`, is adjacent to some of a class and not to all. Condition: the
 // class and `left` don't meet.
 fn is_splitter<const W: usize>(graph: &GraphOf<W>, p: u32, class: &Set<W>, left: &Set<W>) -> bool
-    requires name { p < 64 * W }
     requires member { Has left.now p }
+    requires part { Within left.now graph.now.vertices }
     requires apart { Disjoint class.now left.now }
     ensures { IsTrue result ↔ IsSplitter (adjacent graph.now) left.now class.now p }
 {

@@ -31,11 +31,11 @@ pub(crate) fn move_seen<const W: usize>(
     left: &mut Set<W>,
     todo: &mut Set<W>,
 )
-    requires { w < 64 * W }
+    requires { Has graph.now.vertices w }
     ensures left { left.new ≡ difference left.old (seen_as graph.now w value left.old) }
     ensures todo { todo.new ≡ union todo.old (seen_as graph.now w value left.old) }
 {
-    let row = graph.row(w);
+    let row = graph.neighbours(w);
     if value {
         left.move_shared(row, todo);
     } else {

@@ -10,17 +10,17 @@ use Rattle.md_forcing.specs.declared.arc_set.Side.TheVariants.{NonEdges}
 use Rattle.md_forcing.specs.Forcing.{arc}
 use Rattle.md_forcing.specs.ArcSet.{HasArc}
 use Rattle.md_forcing.specs.Sides.{adjacent_on}
-use Rattle.md_comparability.specs.Chains.{IsForcingChain, HasForcingChain}
+use Rattle.md_comparability.specs.Chains.{HasForcingChain, IsShortestChain}
 use Rattle.md_comparability.specs.Orders.{Realise, place_in}
 use Rattle.md_orient.specs.declared.permutation.PermVerdict.{PermVerdict}
 use Rattle.md_orient.specs.declared.permutation.PermVerdict.TheVariants.{Orders, ForcedIn, ForcedInComplement}
 
--- a forcing chain of the graph; where it has none, a forcing chain of its complement; or two orders that realise the graph, which
+-- a shortest forcing chain of the graph; where it has none, one of its complement; or two orders that realise the graph, which
 -- there are exactly where neither has a chain
 abbrev pub IsModel : PlainGraph → PermVerdict → Type 0
 IsModel g (Orders first second) = Realise (adjacent g) g.vertices first second
-IsModel g (ForcedIn chain) = IsForcingChain (adjacent g) chain
-IsModel g (ForcedInComplement chain) = (¬ HasForcingChain (adjacent g)) × IsForcingChain (adjacent_on NonEdges g) chain
+IsModel g (ForcedIn chain) = IsShortestChain (adjacent g) chain
+IsModel g (ForcedInComplement chain) = (¬ HasForcingChain (adjacent g)) × IsShortestChain (adjacent_on NonEdges g) chain
 
 -- two sets of arcs on s, with room for each member of s, of which no arc of the one joins the ends of an arc of the other
 pub record AreSides (s : NameSet) (edges others : List NameSet) : Type 0 where

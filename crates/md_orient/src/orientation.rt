@@ -3,7 +3,7 @@ ghost use Rattle.std.specs.Prelude.{◌≡◌, ◌++◌, ℕ, Bool, length, map,
 ghost use Rattle.md_graph.specs.NameSet.{ascending};
 ghost use Rattle.md_graph.specs.PlainGraph.{adjacent};
 ghost use Rattle.md_forcing.specs.Forcing.{arc};
-ghost use Rattle.md_comparability.specs.Chains.{IsForcingChain};
+ghost use Rattle.md_comparability.specs.Chains.{IsShortestChain};
 ghost use Rattle.md_comparability.specs.Listed.{arcs_below};
 ghost use Rattle.md_comparability.specs.Walking.{IsStopped};
 ghost use Rattle.md_orient.specs.Verdicts.{IsVerdict};
@@ -21,7 +21,7 @@ pub enum Verdict {
 }
 
 /// The arcs of the least-edge orientation, in ascending order of tail, then head, where the graph
-/// has a transitive orientation; else a forcing chain. Errors: want of memory.
+/// has a transitive orientation; else a shortest forcing chain. Errors: want of memory.
 pub fn orient<const W: usize>(alloc: Global, graph: &GraphOf<W>) -> Result<Verdict, Memory>
     ensures { IfOk result (IsVerdict (adjacent graph.now)) }
 {
@@ -38,11 +38,11 @@ pub fn orient<const W: usize>(alloc: Global, graph: &GraphOf<W>) -> Result<Verdi
     }
 }
 
-// The forcing chain along a trail. Condition: a walk through some graph stopped with the trail.
+// The shortest forcing chain along a trail. Condition: a walk through some graph stopped with the trail.
 pub(crate) fn chain_along(alloc: Global, trail: &ForcingTree) -> Result<Chain, Memory>
     requires { (e : ℕ → ℕ → Bool) × IsStopped e trail.now }
     ensures { IfOk result (λ chain. (e : ℕ → ℕ → Bool)
-        → IsStopped e trail.now → IsForcingChain e chain) }
+        → IsStopped e trail.now → IsShortestChain e chain) }
 {
     match chain_of(alloc, trail)? {
         Some(chain) => Ok(chain),

@@ -3,7 +3,7 @@ ghost use Rattle.std.specs.Prelude.{◌≡◌, ◌<◌, length, IfOk};
 ghost use Rattle.md_graph.specs.Sets.{NameSet};
 ghost use Rattle.md_graph.specs.PlainGraph.{adjacent};
 ghost use Rattle.md_comparability.specs.Orders.{IsLinear, place_in};
-ghost use Rattle.md_comparability.specs.Walking.{IsWholeOrientation, HasRoom};
+ghost use Rattle.md_comparability.specs.Walking.{IsWholeOrientation, HasArcRoom};
 ghost use Rattle.md_comparability.specs.declared.edge_walk.ClassOrChosen.TheVariants.{Whole};
 ghost use Rattle.md_orient.specs.Models.{IsModel, AreSides, ArePlaced, comes_before};
 
@@ -21,7 +21,7 @@ pub enum PermVerdict {
     ForcedInComplement(Chain),
 }
 
-/// A forcing chain of the graph, if it has one; else one of its complement, if that has one; else
+/// A shortest forcing chain of the graph, if it has one; else one of its complement, if that has one; else
 /// two orders that realise the graph. The three exclude each other: a chain of the complement comes
 /// only where the graph has none, and two orders realise a graph exactly where neither it nor its
 /// complement has a chain (`md_comparability::laws::orders_if_no_chain`). Errors: want of memory.
@@ -46,7 +46,7 @@ fn model_of_oriented<const W: usize>(
     edges: &ArcSetOf<W>,
 ) -> Result<PermVerdict, Memory>
     requires whole { IsWholeOrientation (adjacent graph.now) edges.now }
-    requires room { HasRoom {w = W} graph.now.vertices (Whole edges.now) }
+    requires room { HasArcRoom {w = W} graph.now.vertices (Whole edges.now) }
     ensures { IfOk result (IsModel graph.now) }
 {
     let _vertices = graph.vertices();

@@ -5,7 +5,9 @@ use Rattle.std.specs.List.{All}
 use Rattle.md_text.specs.Numbers.{decimal}
 use Rattle.md_forcing.specs.declared.arc.Arc.{Arc}
 use Rattle.md_modules.specs.declared.induced_paths.P4.{P4}
-use Rattle.md_tree.specs.declared.Tree.{Tree}
+use Rattle.md_tree.specs.declared.Kind.{Kind}
+use Rattle.md_tree.specs.declared.Pair.{Pair}
+use Rattle.md_tree.specs.declared.TreeOf.{TreeOf}
 use Rattle.md_tree.specs.Trees.{PlainTree}
 use Rattle.md_tree.specs.Plain.{plain_option}
 use Rattle.md_tree.specs.TreeTexts.{text_of}
@@ -99,7 +101,7 @@ ReadsOrders front back result = Reads (codes "yes" ++ (front ++ 47 ∷ back))
     ((first second : List ℕ) → All IsVertexName first → All IsVertexName second → front ≡ names_text first ++ 32 ∷ [] → back ≢ names_text second) result
 
 -- of a tree behind its word
-abbrev pub ReadsTree : List ℕ → Result (Option Tree) LineFault → Type 0
+abbrev pub ReadsTree : List ℕ → Result (Option (TreeOf Kind Pair)) LineFault → Type 0
 ReadsTree text (Ok o) = IsWellFormed (plain_option o) × (text ≡ 32 ∷ text_of (plain_option o))
 ReadsTree text (Err Syntax) = (o : Option PlainTree) → IsWellFormed o → text ≢ 32 ∷ text_of o
 ReadsTree text (Err Memory) = ⊤

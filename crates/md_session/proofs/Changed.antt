@@ -7,7 +7,9 @@ use Rattle.md_graph.specs.Sets.{NameSet, Has, Lacks}
 use Rattle.md_graph.specs.PlainGraph.{PlainGraph, IsGraph, adjacent}
 use Rattle.md_modules.specs.InducedPaths.{HasInducedPath}
 use Rattle.md_modules.proofs.Turns.{graph_adjacency}
-use Rattle.md_tree.specs.declared.Tree.{Tree}
+use Rattle.md_tree.specs.declared.Kind.{Kind}
+use Rattle.md_tree.specs.declared.Pair.{Pair}
+use Rattle.md_tree.specs.declared.TreeOf.{TreeOf}
 use Rattle.md_tree.specs.Plain.{plain_option}
 use Rattle.md_tree.specs.Trees.{PlainTree}
 use Rattle.md_tree.specs.StrongTrees.{IsTree}
@@ -77,6 +79,6 @@ no_prime_of g is (Some t) tree free = (no_path_proof (adjacent g) (graph_adjacen
 -- ---- the tree that is told of the cotree
 
 module _ {E : Type 0} (c : Cotree) (g h : PlainGraph) (den : Denotes c g) (same : g ≡ h) where
-  pub told_of : (r : Result (Option Tree) E) → IfOk r (λ tree. (k : PlainGraph) → Denotes c k → IsTree (adjacent k) k.vertices (plain_option tree)) → IfOk r (λ tree. IsTree (adjacent h) h.vertices (plain_option tree))
+  pub told_of : (r : Result (Option (TreeOf Kind Pair)) E) → IfOk r (λ tree. (k : PlainGraph) → Denotes c k → IsTree (adjacent k) k.vertices (plain_option tree)) → IfOk r (λ tree. IsTree (adjacent h) h.vertices (plain_option tree))
   told_of (Ok tree) told = subst (λ k. IsTree (adjacent k) k.vertices (plain_option tree)) same (told g den)
   told_of (Err e) told = told

@@ -4,7 +4,7 @@ use Rattle.std.specs.FinSet as set
 use Rattle.md_graph.specs.PlainGraph.{PlainGraph, adjacent, empty_graph}
 use Rattle.md_tree.specs.Trees.{PlainTree}
 use Rattle.md_tree.specs.StrongTrees.{IsTree}
-use Rattle.md_tree.proofs.OneTree.{one_at_least}
+use Rattle.md_tree.proofs.OneTree.{one_option}
 use Rattle.md_script.specs.declared.edit.Edit.{Edit}
 use Rattle.md_report.specs.declared.line.SessionMode.TheVariants.{Quiet}
 use Rattle.md_report.specs.Sessions.{last_state}
@@ -31,7 +31,7 @@ runs_alike g g' edits a b c d h k same r s =
 -- a graph has one tree, so that its nodes are one number
 nodes_alike : (g h : PlainGraph) (n m : ℕ) → g ≡ h → HasNodes g n → HasNodes h m → n ≡ m
 nodes_alike g h n m same a b =
-    let some : (t : Option PlainTree) × IsTree (adjacent g) g.vertices t = one_at_least (adjacent g) g.vertices in
+    let some : (t : Option PlainTree) × IsTree (adjacent g) g.vertices t = one_option g in
     a some.0 some.1 ∙ sym (b some.0 (subst (λ (x : PlainGraph). IsTree (adjacent x) x.vertices some.0) same some.1))
 
 abbrev made : ℕ → ℕ → ℕ → ℕ → ℕ → Numbers

@@ -11,20 +11,21 @@ use Rattle.md_graph.proofs.GraphLemmas.{contains-pairs_where, contains-edges, ad
 use Rattle.md_graph.proofs.PairLaws.{same_pairs}
 use Rattle.md_graph.specs.Sets.{NameSet, Within, Disjoint}
 use Rattle.md_graph.proofs.SetLemmas.{clash, empty_lacks, Has-along, same_members, union_right, of_union}
+use Rattle.md_tree.specs.declared.Kind.{Kind}
 use Rattle.md_tree.specs.declared.Pair.{Pair}
-use Rattle.md_tree.specs.declared.Tree.{Tree}
+use Rattle.md_tree.specs.declared.TreeOf.{TreeOf}
 use Rattle.md_tree.specs.Trees.{PlainTree, PlainTrees, names, names_below, names_at, count, row}
 use Rattle.md_tree.specs.Plain.{plain, plain_option}
 use Rattle.md_tree.specs.WellFormed.{AreDisjoint, IsCanonicalTree}
 use Rattle.md_tree.specs.TreeGraph.{position_of, adjacent_in, graph_of_tree}
 use Rattle.md_tree.specs.TreeEdges.{crosses, in_listed, has_edge_in}
 use Rattle.md_text.proofs.Lists.{in_get, to_contains}
-use Rattle.md_tree.proofs.Graph.{at_inside, position_at}
+use Rattle.md_tree.proofs.Nodes.{at_inside}
 use Rattle.md_tree.proofs.Edges.{edges_are}
 use Rattle.md_tree.proofs.Loops.{or_moved, count_plain, names_at_row}
 
 -- the children from a position on
-pub later_items : (zs xs : List Tree) (from : ℕ) → zs ≡ xs → take (length zs - from) (drop from zs) ≡ drop from xs
+pub later_items : (zs xs : List (TreeOf Kind Pair)) (from : ℕ) → zs ≡ xs → take (length zs - from) (drop from zs) ≡ drop from xs
 later_items zs xs from same =
     ap (λ n. take n (drop from zs)) (sym (length-drop from zs)) ∙ take-length (drop from zs) ∙ ap (drop from) same
 
@@ -32,14 +33,8 @@ later_items zs xs from same =
 listed_at : (zs qs : List Pair) (i : ℕ) (d : Pair) → zs ≡ qs → i < length zs → Contains qs (get_or zs i d)
 listed_at zs qs i d same less = subst (λ l. Contains l (get_or zs i d)) same (to_contains zs (get_or zs i d) (in_get zs i d less))
 
-pub at_listed : (xs : List Tree) (i : ℕ) (r : Tree) → r ≡ get_or xs i r → i < length xs → names_at (row (map plain xs)) i ≡ names (plain r)
+pub at_listed : (xs : List (TreeOf Kind Pair)) (i : ℕ) (r : TreeOf Kind Pair) → r ≡ get_or xs i r → i < length xs → names_at (row (map plain xs)) i ≡ names (plain r)
 at_listed xs i r is less = names_at_row xs i r less ∙ ap (λ q. names (plain q)) (sym is)
-
-pub at_apart : (cs : PlainTrees) → AreDisjoint cs → (i j : ℕ) → i < j → (a b : NameSet) → names_at cs i ≡ a → names_at cs j ≡ b → Disjoint a b
-at_apart cs apart i j less a b p q x h = false_from_ne_true _ (λ k.
-    let m : position_of cs x ≡ i = position_at cs apart i x (Has-along a (names_at cs i) (sym p) x h) in
-    let n : position_of cs x ≡ j = position_at cs apart j x (Has-along b (names_at cs j) (sym q) x k) in
-    omega arith)
 
 pub at_within : (cs : PlainTrees) (s : NameSet) → Within (names_below cs) s → (i : ℕ) (a : NameSet) → names_at cs i ≡ a → Within a s
 at_within cs s w i a p x h = w x (at_inside cs i x (Has-along a (names_at cs i) (sym p) x h))
@@ -78,12 +73,12 @@ tree_graph g t is canonical below same edges n = record { vertices = same n; edg
       ∙ sym (contains-pairs_where (joined_names t) NAMES u v))
 
 -- a pair that is listed: its positions are those of two trees
-pub record PairHere (xs : List Tree) (p : Pair) : Type 0 where
+pub record PairHere (xs : List (TreeOf Kind Pair)) (p : Pair) : Type 0 where
   pub ordered : p.low < p.high
   pub low : p.low < length xs
   pub high : p.high < length xs
 
-pub pair_here : {xs : List Tree} {zs qs : List Pair} {i : ℕ} (d : Pair) →
+pub pair_here : {xs : List (TreeOf Kind Pair)} {zs qs : List Pair} {i : ℕ} (d : Pair) →
     ((p : Pair) → Contains qs p → (p.low < p.high) × (p.high < count (row (map plain xs)))) → zs ≡ qs → i < length zs → PairHere xs (get_or zs i d)
 pair_here {xs} {zs} {qs} {i} d positions same less =
     let p : Pair = get_or zs i d in
@@ -98,7 +93,7 @@ union_empty_left s a none = same_members (union s a) a
     (λ x h. elim (of_union s a x h) [ inl i ↦ clash (Has-along s empty none x i) (empty_lacks x) | inr i ↦ i ]) (union_right s a)
 
 -- what an empty graph becomes
-pub filled_graph : (start named g : PlainGraph) (o : Option Tree) (t : Tree) → o ≡ Some t → IsGraph start → IsGraph g → start.vertices ≡ empty →
+pub filled_graph : (start named g : PlainGraph) (o : Option (TreeOf Kind Pair)) (t : TreeOf Kind Pair) → o ≡ Some t → IsGraph start → IsGraph g → start.vertices ≡ empty →
     (IsCanonicalTree (plain t)) → AllBelow (names (plain t)) NAMES →
     named.vertices ≡ union start.vertices (names (plain t)) → named.edges ≡ start.edges → g.vertices ≡ named.vertices →
     ((x y : ℕ) → adjacent g x y ≡ (adjacent named x y || has_edge_in (plain t) x y)) → g ≡ graph_of_tree (plain_option o)

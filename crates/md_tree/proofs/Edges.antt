@@ -16,7 +16,8 @@ use Rattle.md_tree.specs.TreeGraph.{position_of, lists_pair, joins, adjacent_in,
 use Rattle.md_tree.specs.TreeEdges.{crosses, in_two, in_listed, edge_across, has_edge_in, has_edge_below}
 use Rattle.md_text.proofs.Lists.{In, to_contains}
 use Rattle.md_tree.proofs.Pairs.{pair}
-use Rattle.md_tree.proofs.Graph.{at_position, at_inside, position_at, of_lists, to_lists}
+use Rattle.md_tree.proofs.Nodes.{at_position, at_inside, position_at}
+use Rattle.md_tree.proofs.Graph.{of_lists, to_lists}
 
 pub of_crosses : (a b : NameSet) (x y : ℕ) → crosses a b x y ≡ true → (Has a x × Has b y) ⊎ (Has a y × Has b x)
 unfolding crosses

@@ -9,7 +9,10 @@ use Rattle.md_modules.specs.Laws.{MaximalModules}
 use Rattle.std.proofs.lemmas.Bool.{cases_Bool, false_from_ne_true}
 use Rattle.std.specs.Cmp.{both_ways}
 use Rattle.md_graph.proofs.SetLemmas.{clash, of_only, empty_lacks, Has-along, union_left, union_right, of_union, ascending_or_not}
-use Rattle.md_modules.proofs.Children.{child_component, child_maximal}
+use Rattle.md_graph.proofs.Search.{decide_test}
+use Rattle.md_modules.proofs.Modules.{undirected}
+use Rattle.md_modules.proofs.Components.{child_component, prime_unsplit}
+use Rattle.md_modules.proofs.Children.{child_maximal}
 use Rattle.md_modules.proofs.Quotients.{maximal_modules_proof}
 use Rattle.md_modules.proofs.Strong.{larger_than_single}
 use Rattle.md_modules.proofs.Paths.{no_path_proof}
@@ -21,38 +24,11 @@ use Rattle.md_tree.specs.StrongTrees.{HasKind, AreTreesJoined, ListsJoined, IsNo
 use Rattle.md_tree.specs.WellFormed.{AreDisjoint, HasNoPrimeNode}
 use Rattle.md_tree.specs.TreeGraph.{position_of, lists_pair, joins, adjacent_in, adjacent_below}
 use Rattle.md_text.proofs.Lists.{In, of_append, in_left, in_right, of_contains, to_contains}
-use Rattle.md_tree.proofs.Nodes.{IsChild}
-use Rattle.md_tree.proofs.Built.{IsBuilt}
+use Rattle.md_tree.proofs.Nodes.{IsChild, at_position, position_at, child_at}
+use Rattle.md_tree.proofs.Built.{IsBuilt, children_maximal}
 use Rattle.md_tree.proofs.Pairs.{pair}
-use Rattle.md_tree.proofs.Canonical.{children_maximal, apart_of}
-
--- a name stands in the tree at its position, and at no other one
-pub at_position : (cs : PlainTrees) (a : ℕ) → Has (names_below cs) a → Has (names_at cs (position_of cs a)) a
-at_position no_tree a h = clash h (empty_lacks a)
-at_position (one_more t ts) a h = elim (cases_Bool (contains (names t) a)) [
-  | inl i ↦ subst (λ w. Has (names_at (one_more t ts) (cond w 0 (suc (position_of ts a)))) a) (sym i) i
-  | inr l ↦ subst (λ w. Has (names_at (one_more t ts) (cond w 0 (suc (position_of ts a)))) a) (sym l)
-      (at_position ts a (elim (of_union (names t) (names_below ts) a h) [ inl i ↦ clash i l | inr j ↦ j ]))
-]
-
-pub at_inside : (cs : PlainTrees) (i : ℕ) → Within (names_at cs i) (names_below cs)
-at_inside no_tree i x h = h
-at_inside (one_more t ts) zero x h = union_left (names t) (names_below ts) x h
-at_inside (one_more t ts) (suc i) x h = union_right (names t) (names_below ts) x (at_inside ts i x h)
-
-pub position_at : (cs : PlainTrees) → AreDisjoint cs → (i x : ℕ) → Has (names_at cs i) x → position_of cs x ≡ i
-position_at no_tree apart i x h = clash h (empty_lacks x)
-position_at (one_more t ts) apart zero x h = ap (λ w. cond w 0 (suc (position_of ts x))) h
-position_at (one_more t ts) apart (suc i) x h =
-    let l : Lacks (names t) x = false_from_ne_true _ (λ k. clash (at_inside ts i x h) (apart.0 x k)) in
-    ap (λ w. cond w 0 (suc (position_of ts x))) l ∙ ap (λ n. suc n) (position_at ts apart.1 i x h)
-
-child_at : (cs : PlainTrees) (i x : ℕ) → Has (names_at cs i) x → (c : PlainTree) × IsChild cs c × (names_at cs i ≡ names c)
-child_at no_tree i x h = clash h (empty_lacks x)
-child_at (one_more t ts) zero x h = (t, inl refl, refl)
-child_at (one_more t ts) (suc i) x h =
-    let c : (c : PlainTree) × IsChild ts c × (names_at ts i ≡ names c) = child_at ts i x h in
-    (c.0, inr c.1, c.2)
+use Rattle.md_tree.proofs.Kinded.{apart_of}
+use Rattle.md_tree.proofs.GraphKinds.{graph_kinds}
 
 -- the test of a list of pairs
 same_numbers : (p : Pair) (i j : ℕ) → (eqb p.low i && eqb p.high j) ≡ true → pair i j ≡ p
@@ -88,7 +64,7 @@ module _ (e : ℕ → ℕ → Bool) (adj : IsAdjacency e) where
     s = names_below cs
 
     apart : AreDisjoint cs
-    apart = apart_of e s cs (children_maximal e k cs ps built) built.node_of.order
+    apart = apart_of (graph_kinds (undirected adj)) k s cs (children_maximal k cs ps built) built.node_of.order
 
     -- the child of a name, which lacks each name at another position
     child_with : (a : ℕ) → Has s a → (c : PlainTree) × IsChild cs c × Has (names c) a × (names_at cs (position_of cs a) ≡ names c)
@@ -104,7 +80,7 @@ module _ (e : ℕ → ℕ → Bool) (adj : IsAdjacency e) where
     across_split : (part : NameSet) (v : Bool) → IsSplit e s part v → (a b : ℕ) → Has s a → Has s b → position_of cs a ≢ position_of cs b → e a b ≡ v
     across_split part v split a b ha hb differ =
         let c : (c : PlainTree) × IsChild cs c × Has (names c) a × (names_at cs (position_of cs a) ≡ names c) = child_with a ha in
-        (child_component adj s (names c.0) part v a split (children_maximal e k cs ps built c.0 c.1) c.2).closed.across a b c.2 hb (lacks_other a b c.0 c.3 differ)
+        (child_component (undirected adj) decide_test s (names c.0) part v a refl split (children_maximal k cs ps built c.0 c.1) c.2).closed.across a b c.2 hb (lacks_other a b c.0 c.3 differ)
 
     listed : IsPrime e s → ListsJoined e cs ps → (a b : ℕ) → Has s a → Has s b → position_of cs a < position_of cs b →
         lists_pair ps (position_of cs a) (position_of cs b) ≡ e a b
@@ -121,10 +97,10 @@ module _ (e : ℕ → ℕ → Bool) (adj : IsAdjacency e) where
           (lists.exactly (pair (position_of cs a) (position_of cs b))).0 (to_contains ps (pair (position_of cs a) (position_of cs b)) (of_lists ps (position_of cs a) (position_of cs b) h)) in
           let c : (c : PlainTree) × IsChild cs c × Has (names c) a × (names_at cs (position_of cs a) ≡ names c) = child_with a ha in
           let d : (c : PlainTree) × IsChild cs c × Has (names c) b × (names_at cs (position_of cs b) ≡ names c) = child_with b hb in
-          let laws : MaximalModules e s = maximal_modules_proof e adj s prime in
+          let laws : MaximalModules e s 4 = maximal_modules_proof e adj s prime in
           laws.alike (names c.0) (names d.0) a b is.edge.0 is.edge.1
-          (child_maximal adj s (names c.0) prime (children_maximal e k cs ps built c.0 c.1))
-          (child_maximal adj s (names d.0) prime (children_maximal e k cs ps built d.0 d.1))
+          (child_maximal (undirected adj) decide_test s (names c.0) (prime_unsplit s prime) (children_maximal k cs ps built c.0 c.1))
+          (child_maximal (undirected adj) decide_test s (names d.0) (prime_unsplit s prime) (children_maximal k cs ps built d.0 d.1))
           (λ same. clash (Has-along (names d.0) (names c.0) (sym same) b d.2) (lacks_other a b c.0 c.3 (λ p. omega arith)))
           c.2 (Has-along (names_at cs (position_of cs a)) (names c.0) c.3 is.edge.0 is.edge.2)
           d.2 (Has-along (names_at cs (position_of cs b)) (names d.0) d.3 is.edge.1 is.edge.3) ∙ is.edge.4

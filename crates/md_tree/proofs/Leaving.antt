@@ -1,21 +1,19 @@
 -- How texts go on behind a part that is read, and where they can't.
-use Rattle.std.proofs.Common.{◌≡◌, ◌≢◌, ℕ, ◌+◌, ◌<◌, ◌≤◌, true, false, List, [], ◌∷◌, ◌++◌, length, get_or, take, drop, zero, suc, true≢false, append_assoc, refl, sym, ◌∙◌, ap, subst, inl, inr, arith}
+use Rattle.std.proofs.Common.{◌≡◌, ◌≢◌, ℕ, ◌+◌, ◌<◌, ◌≤◌, Bool, true, false, List, [], ◌∷◌, ◌++◌, length, get_or, take, drop, zero, suc, true≢false, append_assoc, append-nil, refl, sym, ◌∙◌, ap, subst, inl, inr, arith}
 use Rattle.std.specs.Prelude.{Result, Ok, Err, IfErr}
 use Rattle.md_text.specs.Numbers.{decimal, value, IsCanonical}
 use Rattle.std.specs.Char.{is_ascii_digit}
 use Rattle.std.specs.List.{list_all}
 use Rattle.std.proofs.lemmas.List.{take-append-drop, length-take-le, get_or-take, same_from_push}
 use Rattle.md_text.proofs.NumberLemmas.{decimal_digit, decimal-value, digit_within, digit_bounds, AllPass-from_list_all}
-use Rattle.md_tree.specs.declared.Kind.{Kind}
-use Rattle.md_tree.specs.declared.Kind.TheVariants.{Parallel, Series, Prime}
-use Rattle.md_tree.specs.declared.Pair.{Pair}
-use Rattle.md_tree.specs.Trees.{PlainTree, leaf, node, PlainTrees, no_tree, one_more, count, EachNode, EachNodeBelow}
-use Rattle.md_tree.specs.TreeTexts.{letter, pairs_text, tree_text, row_text}
-use Rattle.md_tree.specs.Grammar.{HasPairsIfPrime, IsSpelledNode}
+use Rattle.md_tree.specs.Trees.{PlainTreeOf, PlainTreesOf, leaf, node, no_tree, one_more, count, EachNode, EachNodeBelow}
+use Rattle.md_tree.specs.Spellings.{Spelling, IsSpelling}
+use Rattle.md_tree.specs.TreeTexts.{pairs_text_by, tree_text_by, row_text_by}
+use Rattle.md_tree.specs.Grammar.{HasPairsIf, IsSpelledNode}
 use Rattle.md_text.specs.Fronts.{IsDigit, IsPastDigits, LacksFirst}
-use Rattle.md_tree.specs.Languages.{HeadsAgree, Tail, TreeThen, NumberThen, ByteThen, PairsThen, PairThen, GoesOn, IsStuck, IsNumberBefore, IsNoNumber, outermost_first}
+use Rattle.md_tree.specs.Languages.{HeadsAgree, IsTreeText, Tail, TreeThen, NumberThen, ByteThen, PairsThen, PairThen, GoesOn, IsStuck, IsNumberBefore, IsNoNumber, outermost_first}
 use Rattle.md_text.proofs.FrontLemmas.{same_number, number_first, stops_at, number_no_stop, zero_alone}
-use Rattle.md_tree.proofs.Texts.{same_letter, letter_large, pairs_stop, pair_spelled, row_stops, pairs_end, node_spelled, row_spelled}
+use Rattle.md_tree.proofs.Texts.{pairs_stop, pair_spelled, row_stops, pairs_end, node_spelled, row_spelled}
 
 agree_more : (tail front x : List ℕ) → HeadsAgree tail x → HeadsAgree (front ++ tail) (front ++ x)
 agree_more tail [] x h = h
@@ -99,255 +97,294 @@ module _ (b : ℕ) (P : List ℕ → Type 0) where
       (stuck_here (ByteThen b P) text (b ∷ some) (record { behind = some; text = refl; then = p })
       (λ x h l. agree_lacks b text x h lacks l.behind l.text))
 
--- the ends of nodes
-first_pair : Pair
-first_pair = record { low = 0; high = 1 }
+module _ {K P : Type 0} {sp : Spelling K P} (law : IsSpelling sp) where
+  abbrev letter : K → ℕ
+  letter = sp.kinds.letter
 
-abbrev some_pairs : Kind → List Pair
-some_pairs Parallel = []
-some_pairs Series = []
-some_pairs Prime = first_pair ∷ []
+  abbrev lists : K → Bool
+  lists = sp.kinds.lists
 
-some_right : (k : Kind) → HasPairsIfPrime k (some_pairs k)
-some_right Parallel = refl
-some_right Series = refl
-some_right Prime = λ e. cc
+  abbrev fst : P → ℕ
+  fst = sp.pairs.first
 
-pub some_tail : (ks : List Kind) → (x : List ℕ) × Tail ks x
-some_tail [] = ([], refl)
-some_tail (k ∷ ks) =
-    let r = some_tail ks in
-    (pairs_text 59 (some_pairs k) ++ 41 ∷ r.0, record { others = no_tree; pairs = some_pairs k; behind = r.0; spelled = tt; right = some_right k; text = refl; then = r.1 })
+  abbrev snd : P → ℕ
+  snd = sp.pairs.second
 
-pub tail_stops : (ks : List Kind) (x : List ℕ) → Tail ks x → IsPastDigits x
-tail_stops [] x t = subst IsPastDigits (sym t) tt
-tail_stops (k ∷ ks) x t = subst IsPastDigits (sym t.text) (row_stops t.others (pairs_text 59 t.pairs ++ 41 ∷ t.behind) (pairs_end t.pairs t.behind))
+  abbrev between : ℕ
+  between = sp.pairs.between
 
-pub pairs_then_stops : (ks : List Kind) (x : List ℕ) → PairsThen ks x → IsPastDigits x
-pairs_then_stops ks x p = subst IsPastDigits (sym p.text) (pairs_stop p.pairs p.behind)
+  abbrev pairs_text : ℕ → List P → List ℕ
+  pairs_text = pairs_text_by sp.pairs
 
-pub hyphen_stops : (P : List ℕ → Type 0) (x : List ℕ) → ByteThen 45 P x → IsPastDigits x
-hyphen_stops P x p = subst IsPastDigits (sym p.text) (stops_at 45 p.behind (inl (omega arith)))
+  abbrev tree_text : PlainTreeOf K P → List ℕ
+  tree_text = tree_text_by sp
 
-pub some_pairs_then : (ks : List Kind) → (x : List ℕ) × PairsThen ks x
-some_pairs_then ks = let r = some_tail ks in (41 ∷ r.0, record { pairs = []; behind = r.0; text = refl; then = r.1 })
+  abbrev row_text : ℕ → PlainTreesOf K P → List ℕ
+  row_text = row_text_by sp
 
--- the marks behind a pair
-pair_made : (mark : ℕ) (ks : List Kind) (x : List ℕ) → PairThen ks x → (ps : List Pair) × (r : List ℕ) × (ps ≢ []) × (mark ∷ x ≡ pairs_text mark ps ++ 41 ∷ r) × Tail ks r
-pair_made mark ks x p =
-    let h = p.then in let n = h.then in let q = n.then in
-    let pair : Pair = record { low = p.number; high = n.number } in (
-      pair ∷ q.pairs,
-      q.behind,
-      (λ e. cc),
-      ap (λ w. mark ∷ w) (p.text ∙ ap (λ w. decimal p.number ++ w) (h.text ∙ ap (λ w. 45 ∷ w) (n.text ∙ ap (λ w. decimal n.number ++ w) q.text)))
-          ∙ sym (pair_spelled mark pair q.pairs (41 ∷ q.behind)),
-      q.then,
-    )
+  -- the ends of nodes
+  abbrev some_pairs : Bool → List P
+  some_pairs true = sp.pairs.pair 0 1 ∷ []
+  some_pairs false = []
 
-pair_of : (mark : ℕ) (ks : List Kind) (x r : List ℕ) (ps : List Pair) → mark ≢ 41 → mark ∷ x ≡ pairs_text mark ps ++ 41 ∷ r → Tail ks r → PairThen ks x
-pair_of mark ks x r [] n e t = let f : mark ∷ x ≡ 41 ∷ r = e in let g : mark ≡ 41 = cc in absurd (n g)
-pair_of mark ks x r (p ∷ ps) n e t =
-    let f : mark ∷ x ≡ mark ∷ (decimal p.low ++ 45 ∷ (decimal p.high ++ (pairs_text 44 ps ++ 41 ∷ r))) = e ∙ pair_spelled mark p ps (41 ∷ r) in
-    record {
-      number = p.low;
-      behind = 45 ∷ (decimal p.high ++ (pairs_text 44 ps ++ 41 ∷ r));
-      text = cc;
-      then = record {
-        behind = decimal p.high ++ (pairs_text 44 ps ++ 41 ∷ r);
-        text = refl;
-        then = record {
-          number = p.high;
-          behind = pairs_text 44 ps ++ 41 ∷ r;
-          text = refl;
-          then = record { pairs = ps; behind = r; text = refl; then = t };
-        };
-      };
-    }
+  some_right : (b : Bool) → HasPairsIf b (some_pairs b)
+  some_right true = λ e. cc
+  some_right false = refl
 
-pub comma_pairs : (ks : List Kind) (text tail : List ℕ) → text ≡ 44 ∷ tail → GoesOn (PairsThen ks) text (PairThen ks) tail
-comma_pairs ks text tail e = record {
-  front = 44 ∷ [];
-  whole = e;
-  makes = λ x p. let m = pair_made 44 ks x p in record { pairs = m.0; behind = m.1; text = m.3; then = m.4 };
-  leaves = λ x h l. pair_of 44 ks x l.behind l.pairs (λ w. omega arith) l.text l.then;
-}
+  pub some_tail : (ks : List K) → (x : List ℕ) × Tail sp ks x
+  some_tail [] = ([], refl)
+  some_tail (k ∷ ks) =
+      let r = some_tail ks in
+      (pairs_text 59 (some_pairs (lists k)) ++ 41 ∷ r.0, record { others = no_tree; pairs = some_pairs (lists k); behind = r.0; spelled = tt; right = some_right (lists k); text = refl; then = r.1 })
 
--- where no comma stands, the bracket has to
-last_pair : (ks : List Kind) (x r : List ℕ) (ps : List Pair) → LacksFirst 44 x → x ≡ pairs_text 44 ps ++ 41 ∷ r → Tail ks r → ByteThen 41 (Tail ks) x
-last_pair ks x r [] n e t = record { behind = r; text = e; then = t }
-last_pair ks x r (p ∷ ps) n e t = absurd (n ((decimal p.low ++ 45 ∷ (decimal p.high ++ pairs_text 44 ps)) ++ 41 ∷ r) e)
+  pub tail_stops : (ks : List K) (x : List ℕ) → Tail sp ks x → IsPastDigits x
+  tail_stops [] x t = subst IsPastDigits (sym t) tt
+  tail_stops (k ∷ ks) x t = subst IsPastDigits (sym t.text) (row_stops law t.others (pairs_text 59 t.pairs ++ 41 ∷ t.behind) (pairs_end law.pairs t.pairs t.behind))
 
-pub pairs_last : (ks : List Kind) (text : List ℕ) → LacksFirst 44 text → GoesOn (PairsThen ks) text (ByteThen 41 (Tail ks)) text
-pairs_last ks text lacks = record {
-  front = [];
-  whole = refl;
-  makes = λ x p. record { pairs = []; behind = p.behind; text = p.text; then = p.then };
-  leaves = λ x h l. last_pair ks x l.behind l.pairs (agree_lacks 44 text x h lacks) l.text l.then;
-}
+  pub pairs_then_stops : (ks : List K) (x : List ℕ) → PairsThen sp ks x → IsPastDigits x
+  pairs_then_stops ks x p = subst IsPastDigits (sym p.text) (pairs_stop law.pairs p.pairs p.behind)
 
--- behind a child
-child_of : (k : Kind) (ks : List Kind) (x r : List ℕ) (ts : PlainTrees) (ps : List Pair) → EachNodeBelow IsSpelledNode ts → HasPairsIfPrime k ps →
-    44 ∷ x ≡ row_text 44 ts ++ (pairs_text 59 ps ++ 41 ∷ r) → Tail ks r → TreeThen (k ∷ ks) x
-child_of k ks x r no_tree [] s h e t = let f : 44 ∷ x ≡ 41 ∷ r = e in let g : ◌≡◌ {A = ℕ} 44 41 = cc in absurd (omega arith)
-child_of k ks x r no_tree (p ∷ ps) s h e t = let f : 44 ∷ x ≡ 59 ∷ ((decimal p.low ++ 45 ∷ (decimal p.high ++ pairs_text 44 ps)) ++ 41 ∷ r) = e in let g : ◌≡◌ {A = ℕ} 44 59 = cc in absurd (omega arith)
-child_of k ks x r (one_more u us) ps s h e t =
-    let f : 44 ∷ x ≡ 44 ∷ (tree_text u ++ (row_text 44 us ++ (pairs_text 59 ps ++ 41 ∷ r))) = e ∙ row_spelled 44 u us (pairs_text 59 ps ++ 41 ∷ r) in
-    record {
-      tree = u;
-      behind = row_text 44 us ++ (pairs_text 59 ps ++ 41 ∷ r);
-      spelled = s.0;
-      text = cc;
-      then = record { others = us; pairs = ps; behind = r; spelled = s.1; right = h; text = refl; then = t };
-    }
+  pub between_stops : (L : List ℕ → Type 0) (x : List ℕ) → ByteThen between L x → IsPastDigits x
+  between_stops L x p = subst IsPastDigits (sym p.text) law.pairs.no_digit
 
-pub comma_tail : (k : Kind) (ks : List Kind) (text tail : List ℕ) → text ≡ 44 ∷ tail → GoesOn (Tail (k ∷ ks)) text (TreeThen (k ∷ ks)) tail
-comma_tail k ks text tail e = record {
-  front = 44 ∷ [];
-  whole = e;
-  makes = λ x p.
-      let t = p.then in
+  pub some_pairs_then : (ks : List K) → (x : List ℕ) × PairsThen sp ks x
+  some_pairs_then ks = let r = some_tail ks in (41 ∷ r.0, record { pairs = []; behind = r.0; text = refl; then = r.1 })
+
+  -- the marks behind a pair
+  pair_made : (mark : ℕ) (ks : List K) (x : List ℕ) → PairThen sp ks x → (ps : List P) × (r : List ℕ) × (ps ≢ []) × (mark ∷ x ≡ pairs_text mark ps ++ 41 ∷ r) × Tail sp ks r
+  pair_made mark ks x p =
+      let h = p.then in let n = h.then in let q = n.then in
+      let pair : P = sp.pairs.pair p.number n.number in (
+        pair ∷ q.pairs,
+        q.behind,
+        (λ e. cc),
+        ap (λ w. mark ∷ w) (p.text ∙ ap (λ w. decimal p.number ++ w) (h.text ∙ ap (λ w. between ∷ w) (n.text ∙ ap (λ w. decimal n.number ++ w) q.text)))
+            ∙ (λ i. mark ∷ (decimal (sym (law.pairs.first_of p.number n.number) i) ++ between ∷ (decimal (sym (law.pairs.second_of p.number n.number) i) ++ (pairs_text 44 q.pairs ++ 41 ∷ q.behind))))
+            ∙ sym (pair_spelled law.pairs mark pair q.pairs (41 ∷ q.behind)),
+        q.then,
+      )
+
+  pair_of : (mark : ℕ) (ks : List K) (x r : List ℕ) (ps : List P) → mark ≢ 41 → mark ∷ x ≡ pairs_text mark ps ++ 41 ∷ r → Tail sp ks r → PairThen sp ks x
+  pair_of mark ks x r [] n e t = let f : mark ∷ x ≡ 41 ∷ r = e in let g : mark ≡ 41 = cc in absurd (n g)
+  pair_of mark ks x r (p ∷ ps) n e t =
+      let f : mark ∷ x ≡ mark ∷ (decimal (fst p) ++ between ∷ (decimal (snd p) ++ (pairs_text 44 ps ++ 41 ∷ r))) = e ∙ pair_spelled law.pairs mark p ps (41 ∷ r) in
       record {
-        others = one_more p.tree t.others;
-        pairs = t.pairs;
-        behind = t.behind;
-        spelled = (p.spelled, t.spelled);
-        right = t.right;
-        text = ap (λ w. 44 ∷ w) (p.text ∙ ap (λ w. tree_text p.tree ++ w) t.text) ∙ sym (row_spelled 44 p.tree t.others (pairs_text 59 t.pairs ++ 41 ∷ t.behind));
-        then = t.then;
-      };
-  leaves = λ x h l. child_of k ks x l.behind l.others l.pairs l.spelled l.right l.text l.then;
-}
+        number = fst p;
+        behind = between ∷ (decimal (snd p) ++ (pairs_text 44 ps ++ 41 ∷ r));
+        text = cc;
+        then = record {
+          behind = decimal (snd p) ++ (pairs_text 44 ps ++ 41 ∷ r);
+          text = refl;
+          then = record {
+            number = snd p;
+            behind = pairs_text 44 ps ++ 41 ∷ r;
+            text = refl;
+            then = record { pairs = ps; behind = r; text = refl; then = t };
+          };
+        };
+      }
 
-bracket_of : (k : Kind) (ks : List Kind) (x r : List ℕ) (ts : PlainTrees) (ps : List Pair) → LacksFirst 44 x → ps ≡ [] →
-    x ≡ row_text 44 ts ++ (pairs_text 59 ps ++ 41 ∷ r) → Tail ks r → ByteThen 41 (Tail ks) x
-bracket_of k ks x r no_tree ps n h e t = record { behind = r; text = e ∙ ap (λ y. pairs_text 59 y ++ 41 ∷ r) h; then = t }
-bracket_of k ks x r (one_more u us) ps n h e t = absurd (n (tree_text u ++ (row_text 44 us ++ (pairs_text 59 ps ++ 41 ∷ r))) (e ∙ row_spelled 44 u us (pairs_text 59 ps ++ 41 ∷ r)))
+  pub comma_pairs : (ks : List K) (text tail : List ℕ) → text ≡ 44 ∷ tail → GoesOn (PairsThen sp ks) text (PairThen sp ks) tail
+  comma_pairs ks text tail e = record {
+    front = 44 ∷ [];
+    whole = e;
+    makes = λ x p. let m = pair_made 44 ks x p in record { pairs = m.0; behind = m.1; text = m.3; then = m.4 };
+    leaves = λ x h l. pair_of 44 ks x l.behind l.pairs (λ w. omega arith) l.text l.then;
+  }
 
-pub tail_bracket : (k : Kind) (ks : List Kind) (text : List ℕ) → LacksFirst 44 text → ((ps : List Pair) → HasPairsIfPrime k ps → ps ≡ []) → HasPairsIfPrime k [] →
-    GoesOn (Tail (k ∷ ks)) text (ByteThen 41 (Tail ks)) text
-tail_bracket k ks text lacks none right = record {
-  front = [];
-  whole = refl;
-  makes = λ x p. record { others = no_tree; pairs = []; behind = p.behind; spelled = tt; right = right; text = p.text; then = p.then };
-  leaves = λ x h l. bracket_of k ks x l.behind l.others l.pairs (agree_lacks 44 text x h lacks) (none l.pairs l.right) l.text l.then;
-}
+  -- where no comma stands, the bracket has to
+  last_pair : (ks : List K) (x r : List ℕ) (ps : List P) → LacksFirst 44 x → x ≡ pairs_text 44 ps ++ 41 ∷ r → Tail sp ks r → ByteThen 41 (Tail sp ks) x
+  last_pair ks x r [] n e t = record { behind = r; text = e; then = t }
+  last_pair ks x r (p ∷ ps) n e t = absurd (n ((decimal (fst p) ++ between ∷ (decimal (snd p) ++ pairs_text 44 ps)) ++ 41 ∷ r) e)
 
-semicolon_of : (ks : List Kind) (x r : List ℕ) (ts : PlainTrees) (ps : List Pair) → LacksFirst 44 x → ps ≢ [] →
-    x ≡ row_text 44 ts ++ (pairs_text 59 ps ++ 41 ∷ r) → Tail ks r → ByteThen 59 (PairThen ks) x
-semicolon_of ks x r no_tree [] n h e t = absurd (h refl)
-semicolon_of ks x r no_tree (p ∷ ps) n h e t =
-    let inner : List ℕ = (decimal p.low ++ 45 ∷ (decimal p.high ++ pairs_text 44 ps)) ++ 41 ∷ r in
-    record { behind = inner; text = e; then = pair_of 59 ks inner r (p ∷ ps) (λ w. omega arith) refl t }
-semicolon_of ks x r (one_more u us) ps n h e t = absurd (n (tree_text u ++ (row_text 44 us ++ (pairs_text 59 ps ++ 41 ∷ r))) (e ∙ row_spelled 44 u us (pairs_text 59 ps ++ 41 ∷ r)))
+  pub pairs_last : (ks : List K) (text : List ℕ) → LacksFirst 44 text → GoesOn (PairsThen sp ks) text (ByteThen 41 (Tail sp ks)) text
+  pairs_last ks text lacks = record {
+    front = [];
+    whole = refl;
+    makes = λ x p. record { pairs = []; behind = p.behind; text = p.text; then = p.then };
+    leaves = λ x h l. last_pair ks x l.behind l.pairs (agree_lacks 44 text x h lacks) l.text l.then;
+  }
 
-pub tail_semicolon : (ks : List Kind) (text : List ℕ) → LacksFirst 44 text → GoesOn (Tail (Prime ∷ ks)) text (ByteThen 59 (PairThen ks)) text
-tail_semicolon ks text lacks = record {
-  front = [];
-  whole = refl;
-  makes = λ x p. let m = pair_made 59 ks p.behind p.then in record { others = no_tree; pairs = m.0; behind = m.1; spelled = tt; right = m.2; text = p.text ∙ m.3; then = m.4 };
-  leaves = λ x h l. semicolon_of ks x l.behind l.others l.pairs (agree_lacks 44 text x h lacks) l.right l.text l.then;
-}
-
--- where a tree is due
-leaf_of : (ks : List Kind) (x r : List ℕ) (t : PlainTree) → ((k : Kind) → LacksFirst (letter k) x) → x ≡ tree_text t ++ r → Tail ks r → NumberThen (Tail ks) x
-leaf_of ks x r (leaf v) n e t = record { number = v; behind = r; text = e; then = t }
-leaf_of ks x r (node k cs ps) n e t = absurd (n k (row_text 40 cs ++ (pairs_text 59 ps ++ 41 ∷ r)) (e ∙ node_spelled k cs ps r))
-
-pub due_number : (ks : List Kind) (text : List ℕ) → ((k : Kind) → LacksFirst (letter k) text) → GoesOn (TreeThen ks) text (NumberThen (Tail ks)) text
-due_number ks text lacks = record {
-  front = [];
-  whole = refl;
-  makes = λ x p. record { tree = leaf p.number; behind = p.behind; spelled = tt; text = p.text; then = p.then };
-  leaves = λ x h l. leaf_of ks x l.behind l.tree (λ k. agree_lacks (letter k) text x h (lacks k)) l.text l.then;
-}
-
-letter_of : (k : Kind) (ks : List Kind) (x r : List ℕ) (t : PlainTree) → EachNode IsSpelledNode t → letter k ∷ x ≡ tree_text t ++ r → Tail ks r → ByteThen 40 (TreeThen (k ∷ ks)) x
-letter_of k ks x r (leaf v) s e t =
-    let d : IsDigit (letter k) = number_first v r (letter k) x (sym e) in
-    let a : letter k ≤ 57 = d.1 in
-    let b : 80 ≤ letter k = letter_large k in
-    absurd (omega arith)
-letter_of k ks x r (node l no_tree ps) s e t = let c : 1 ≤ 0 = s.0.some_child in absurd (omega arith)
-letter_of k ks x r (node l (one_more u us) ps) s e t =
-    let f : letter k ∷ x ≡ letter l ∷ (row_text 40 (one_more u us) ++ (pairs_text 59 ps ++ 41 ∷ r)) = e ∙ node_spelled l (one_more u us) ps r in
-    let g : letter k ≡ letter l = cc in
-    let same : l ≡ k = same_letter l k (sym g) in
-    record {
-      behind = tree_text u ++ (row_text 44 us ++ (pairs_text 59 ps ++ 41 ∷ r));
-      text = (let y : x ≡ row_text 40 (one_more u us) ++ (pairs_text 59 ps ++ 41 ∷ r) = cc in y ∙ row_spelled 40 u us (pairs_text 59 ps ++ 41 ∷ r));
-      then = record {
+  -- behind a child
+  child_of : (k : K) (ks : List K) (x r : List ℕ) (ts : PlainTreesOf K P) (ps : List P) → EachNodeBelow (IsSpelledNode sp) ts → HasPairsIf (lists k) ps →
+      44 ∷ x ≡ row_text 44 ts ++ (pairs_text 59 ps ++ 41 ∷ r) → Tail sp ks r → TreeThen sp (k ∷ ks) x
+  child_of k ks x r no_tree [] s h e t = let f : 44 ∷ x ≡ 41 ∷ r = e in let g : ◌≡◌ {A = ℕ} 44 41 = cc in absurd (omega arith)
+  child_of k ks x r no_tree (p ∷ ps) s h e t = let f : 44 ∷ x ≡ 59 ∷ ((decimal (fst p) ++ between ∷ (decimal (snd p) ++ pairs_text 44 ps)) ++ 41 ∷ r) = e in let g : ◌≡◌ {A = ℕ} 44 59 = cc in absurd (omega arith)
+  child_of k ks x r (one_more u us) ps s h e t =
+      let f : 44 ∷ x ≡ 44 ∷ (tree_text u ++ (row_text 44 us ++ (pairs_text 59 ps ++ 41 ∷ r))) = e ∙ row_spelled law 44 u us (pairs_text 59 ps ++ 41 ∷ r) in
+      record {
         tree = u;
         behind = row_text 44 us ++ (pairs_text 59 ps ++ 41 ∷ r);
-        spelled = s.1.0;
-        text = refl;
-        then = record { others = us; pairs = ps; behind = r; spelled = s.1.1; right = subst (λ y. HasPairsIfPrime y ps) same s.0.pairs; text = refl; then = t };
-      };
-    }
+        spelled = s.0;
+        text = cc;
+        then = record { others = us; pairs = ps; behind = r; spelled = s.1; right = h; text = refl; then = t };
+      }
 
-pub due_letter : (k : Kind) (ks : List Kind) (text tail : List ℕ) → text ≡ letter k ∷ tail → GoesOn (TreeThen ks) text (ByteThen 40 (TreeThen (k ∷ ks))) tail
-due_letter k ks text tail e = record {
-  front = letter k ∷ [];
-  whole = e;
-  makes = λ x p.
-      let d = p.then in let c = d.then in
+  pub comma_tail : (k : K) (ks : List K) (text tail : List ℕ) → text ≡ 44 ∷ tail → GoesOn (Tail sp (k ∷ ks)) text (TreeThen sp (k ∷ ks)) tail
+  comma_tail k ks text tail e = record {
+    front = 44 ∷ [];
+    whole = e;
+    makes = λ x p.
+        let t = p.then in
+        record {
+          others = one_more p.tree t.others;
+          pairs = t.pairs;
+          behind = t.behind;
+          spelled = (p.spelled, t.spelled);
+          right = t.right;
+          text = ap (λ w. 44 ∷ w) (p.text ∙ ap (λ w. tree_text p.tree ++ w) t.text) ∙ sym (row_spelled law 44 p.tree t.others (pairs_text 59 t.pairs ++ 41 ∷ t.behind));
+          then = t.then;
+        };
+    leaves = λ x h l. child_of k ks x l.behind l.others l.pairs l.spelled l.right l.text l.then;
+  }
+
+  bracket_of : (k : K) (ks : List K) (x r : List ℕ) (ts : PlainTreesOf K P) (ps : List P) → LacksFirst 44 x → ps ≡ [] →
+      x ≡ row_text 44 ts ++ (pairs_text 59 ps ++ 41 ∷ r) → Tail sp ks r → ByteThen 41 (Tail sp ks) x
+  bracket_of k ks x r no_tree ps n h e t = record { behind = r; text = e ∙ ap (λ y. pairs_text 59 y ++ 41 ∷ r) h; then = t }
+  bracket_of k ks x r (one_more u us) ps n h e t = absurd (n (tree_text u ++ (row_text 44 us ++ (pairs_text 59 ps ++ 41 ∷ r))) (e ∙ row_spelled law 44 u us (pairs_text 59 ps ++ 41 ∷ r)))
+
+  pub tail_bracket : (k : K) (ks : List K) (text : List ℕ) → LacksFirst 44 text → ((ps : List P) → HasPairsIf (lists k) ps → ps ≡ []) → HasPairsIf {P = P} (lists k) [] →
+      GoesOn (Tail sp (k ∷ ks)) text (ByteThen 41 (Tail sp ks)) text
+  tail_bracket k ks text lacks none right = record {
+    front = [];
+    whole = refl;
+    makes = λ x p. record { others = no_tree; pairs = []; behind = p.behind; spelled = tt; right = right; text = p.text; then = p.then };
+    leaves = λ x h l. bracket_of k ks x l.behind l.others l.pairs (agree_lacks 44 text x h lacks) (none l.pairs l.right) l.text l.then;
+  }
+
+  semicolon_of : (ks : List K) (x r : List ℕ) (ts : PlainTreesOf K P) (ps : List P) → LacksFirst 44 x → ps ≢ [] →
+      x ≡ row_text 44 ts ++ (pairs_text 59 ps ++ 41 ∷ r) → Tail sp ks r → ByteThen 59 (PairThen sp ks) x
+  semicolon_of ks x r no_tree [] n h e t = absurd (h refl)
+  semicolon_of ks x r no_tree (p ∷ ps) n h e t =
+      let inner : List ℕ = (decimal (fst p) ++ between ∷ (decimal (snd p) ++ pairs_text 44 ps)) ++ 41 ∷ r in
+      record { behind = inner; text = e; then = pair_of 59 ks inner r (p ∷ ps) (λ w. omega arith) refl t }
+  semicolon_of ks x r (one_more u us) ps n h e t = absurd (n (tree_text u ++ (row_text 44 us ++ (pairs_text 59 ps ++ 41 ∷ r))) (e ∙ row_spelled law 44 u us (pairs_text 59 ps ++ 41 ∷ r)))
+
+  pub tail_semicolon : (k : K) (ks : List K) (text : List ℕ) → LacksFirst 44 text → ((ps : List P) → HasPairsIf (lists k) ps → ps ≢ []) → ((ps : List P) → ps ≢ [] → HasPairsIf (lists k) ps) →
+      GoesOn (Tail sp (k ∷ ks)) text (ByteThen 59 (PairThen sp ks)) text
+  tail_semicolon k ks text lacks some right = record {
+    front = [];
+    whole = refl;
+    makes = λ x p. let m = pair_made 59 ks p.behind p.then in record { others = no_tree; pairs = m.0; behind = m.1; spelled = tt; right = right m.0 m.2; text = p.text ∙ m.3; then = m.4 };
+    leaves = λ x h l. semicolon_of ks x l.behind l.others l.pairs (agree_lacks 44 text x h lacks) (some l.pairs l.right) l.text l.then;
+  }
+
+  -- where a tree is due
+  leaf_of : (ks : List K) (x r : List ℕ) (t : PlainTreeOf K P) → ((k : K) → LacksFirst (letter k) x) → x ≡ tree_text t ++ r → Tail sp ks r → NumberThen (Tail sp ks) x
+  leaf_of ks x r (leaf v) n e t = record { number = v; behind = r; text = e; then = t }
+  leaf_of ks x r (node k cs ps) n e t = absurd (n k (row_text 40 cs ++ (pairs_text 59 ps ++ 41 ∷ r)) (e ∙ node_spelled law k cs ps r))
+
+  pub due_number : (ks : List K) (text : List ℕ) → ((k : K) → LacksFirst (letter k) text) → GoesOn (TreeThen sp ks) text (NumberThen (Tail sp ks)) text
+  due_number ks text lacks = record {
+    front = [];
+    whole = refl;
+    makes = λ x p. record { tree = leaf p.number; behind = p.behind; spelled = tt; text = p.text; then = p.then };
+    leaves = λ x h l. leaf_of ks x l.behind l.tree (λ k. agree_lacks (letter k) text x h (lacks k)) l.text l.then;
+  }
+
+  letter_of : (k : K) (ks : List K) (x r : List ℕ) (t : PlainTreeOf K P) → EachNode (IsSpelledNode sp) t → letter k ∷ x ≡ tree_text t ++ r → Tail sp ks r → ByteThen 40 (TreeThen sp (k ∷ ks)) x
+  letter_of k ks x r (leaf v) s e t = absurd (law.kinds.no_digit k (number_first v r (letter k) x (sym e)))
+  letter_of k ks x r (node l no_tree ps) s e t = let c : 1 ≤ 0 = s.0.some_child in absurd (omega arith)
+  letter_of k ks x r (node l (one_more u us) ps) s e t =
+      let f : letter k ∷ x ≡ letter l ∷ (row_text 40 (one_more u us) ++ (pairs_text 59 ps ++ 41 ∷ r)) = e ∙ node_spelled law l (one_more u us) ps r in
+      let g : letter k ≡ letter l = cc in
+      let same : l ≡ k = law.kinds.one_letter l k (sym g) in
       record {
-        tree = node k (one_more d.tree c.others) c.pairs;
-        behind = c.behind;
-        spelled = (record { some_child = (let h : 1 ≤ suc (count c.others) = omega arith in h); pairs = c.right }, (d.spelled, c.spelled));
-        text = ap (λ w. letter k ∷ w) (p.text ∙ ap (λ w. 40 ∷ w) (d.text ∙ ap (λ w. tree_text d.tree ++ w) c.text))
-            ∙ sym (node_spelled k (one_more d.tree c.others) c.pairs c.behind ∙ ap (λ w. letter k ∷ w) (row_spelled 40 d.tree c.others (pairs_text 59 c.pairs ++ 41 ∷ c.behind)));
-        then = c.then;
-      };
-  leaves = λ x h l. letter_of k ks x l.behind l.tree l.spelled l.text l.then;
-}
+        behind = tree_text u ++ (row_text 44 us ++ (pairs_text 59 ps ++ 41 ∷ r));
+        text = (let y : x ≡ row_text 40 (one_more u us) ++ (pairs_text 59 ps ++ 41 ∷ r) = cc in y ∙ row_spelled law 40 u us (pairs_text 59 ps ++ 41 ∷ r));
+        then = record {
+          tree = u;
+          behind = row_text 44 us ++ (pairs_text 59 ps ++ 41 ∷ r);
+          spelled = s.1.0;
+          text = refl;
+          then = record { others = us; pairs = ps; behind = r; spelled = s.1.1; right = subst (λ y. HasPairsIf (lists y) ps) same s.0.pairs; text = refl; then = t };
+        };
+      }
 
-pub some_due : (ks : List Kind) → (x : List ℕ) × TreeThen ks x
-some_due ks = let r = some_tail ks in (decimal 0 ++ r.0, record { tree = leaf 0; behind = r.0; spelled = tt; text = refl; then = r.1 })
+  pub due_letter : (k : K) (ks : List K) (text tail : List ℕ) → text ≡ letter k ∷ tail → GoesOn (TreeThen sp ks) text (ByteThen 40 (TreeThen sp (k ∷ ks))) tail
+  due_letter k ks text tail e = record {
+    front = letter k ∷ [];
+    whole = e;
+    makes = λ x p.
+        let d = p.then in let c = d.then in
+        record {
+          tree = node k (one_more d.tree c.others) c.pairs;
+          behind = c.behind;
+          spelled = (record { some_child = (let h : 1 ≤ suc (count c.others) = omega arith in h); pairs = c.right }, (d.spelled, c.spelled));
+          text = ap (λ w. letter k ∷ w) (p.text ∙ ap (λ w. 40 ∷ w) (d.text ∙ ap (λ w. tree_text d.tree ++ w) c.text))
+              ∙ sym (node_spelled law k (one_more d.tree c.others) c.pairs c.behind ∙ ap (λ w. letter k ∷ w) (row_spelled law 40 d.tree c.others (pairs_text 59 c.pairs ++ 41 ∷ c.behind)));
+          then = c.then;
+        };
+    leaves = λ x h l. letter_of k ks x l.behind l.tree l.spelled l.text l.then;
+  }
 
-pub some_high : (ks : List Kind) → (x : List ℕ) × NumberThen (PairsThen ks) x
-some_high ks = let r = some_pairs_then ks in (decimal 0 ++ r.0, record { number = 0; behind = r.0; text = refl; then = r.1 })
+  -- a tree's text is a tree with nothing behind it
+  pub start_goes : (text : List ℕ) → GoesOn (IsTreeText sp) text (TreeThen sp []) text
+  start_goes text = record {
+    front = [];
+    whole = refl;
+    makes = λ x p. (p.tree, p.spelled, p.text ∙ ap (λ w. tree_text p.tree ++ w) p.then ∙ append-nil (tree_text p.tree));
+    leaves = λ x h l. record { tree = l.0; behind = []; spelled = l.1; text = l.2 ∙ sym (append-nil (tree_text l.0)); then = refl };
+  }
 
-pub some_hyphen : (ks : List Kind) → (x : List ℕ) × ByteThen 45 (NumberThen (PairsThen ks)) x
-some_hyphen ks = let r = some_high ks in (45 ∷ r.0, record { behind = r.0; text = refl; then = r.1 })
+  pub some_due : (ks : List K) → (x : List ℕ) × TreeThen sp ks x
+  some_due ks = let r = some_tail ks in (decimal 0 ++ r.0, record { tree = leaf 0; behind = r.0; spelled = tt; text = refl; then = r.1 })
 
-pub some_pair_then : (ks : List Kind) → (x : List ℕ) × PairThen ks x
-some_pair_then ks = let r = some_hyphen ks in (decimal 0 ++ r.0, record { number = 0; behind = r.0; text = refl; then = r.1 })
+  pub some_high : (ks : List K) → (x : List ℕ) × NumberThen (PairsThen sp ks) x
+  some_high ks = let r = some_pairs_then ks in (decimal 0 ++ r.0, record { number = 0; behind = r.0; text = refl; then = r.1 })
 
--- the mark behind the children of a node, and what comes behind it
-abbrev pub end_mark : Kind → ℕ
-end_mark Parallel = 41
-end_mark Series = 41
-end_mark Prime = 59
+  pub some_hyphen : (ks : List K) → (x : List ℕ) × ByteThen between (NumberThen (PairsThen sp ks)) x
+  some_hyphen ks = let r = some_high ks in (between ∷ r.0, record { behind = r.0; text = refl; then = r.1 })
 
-abbrev pub EndThen : Kind → List Kind → List ℕ → Type 0
-EndThen Parallel ks = Tail ks
-EndThen Series ks = Tail ks
-EndThen Prime ks = PairThen ks
+  pub some_pair_then : (ks : List K) → (x : List ℕ) × PairThen sp ks x
+  some_pair_then ks = let r = some_hyphen ks in (decimal 0 ++ r.0, record { number = 0; behind = r.0; text = refl; then = r.1 })
 
-pub some_end : (k : Kind) (ks : List Kind) → (x : List ℕ) × EndThen k ks x
-some_end Parallel ks = some_tail ks
-some_end Series ks = some_tail ks
-some_end Prime ks = some_pair_then ks
+  -- past the first number of a pair, the mark between and the second one
+  pub past_first : (ks : List K) (text mark : List ℕ) → IsNumberBefore text mark → GoesOn (PairThen sp ks) text (ByteThen between (NumberThen (PairsThen sp ks))) mark
+  past_first ks text mark n = number_goes (ByteThen between (NumberThen (PairsThen sp ks))) (between_stops (NumberThen (PairsThen sp ks))) text mark n
 
-pub tail_end : (k : Kind) (ks : List Kind) (text : List ℕ) → LacksFirst 44 text → GoesOn (Tail (k ∷ ks)) text (ByteThen (end_mark k) (EndThen k ks)) text
-tail_end Parallel ks text lacks = tail_bracket Parallel ks text lacks (λ ps h. h) refl
-tail_end Series ks text lacks = tail_bracket Series ks text lacks (λ ps h. h) refl
-tail_end Prime ks text lacks = tail_semicolon ks text lacks
+  pub past_between : (ks : List K) (text mark second : List ℕ) → IsNumberBefore text mark → mark ≡ between ∷ second → GoesOn (PairThen sp ks) text (NumberThen (PairsThen sp ks)) second
+  past_between ks text mark second n e =
+      goes_then (PairThen sp ks) (ByteThen between (NumberThen (PairsThen sp ks))) (NumberThen (PairsThen sp ks)) text mark second (past_first ks text mark n)
+      (byte_goes between (NumberThen (PairsThen sp ks)) mark second e)
 
-pub end_goes : (k : Kind) (ks : List Kind) (text tail : List ℕ) → LacksFirst 44 text → text ≡ end_mark k ∷ tail → GoesOn (Tail (k ∷ ks)) text (EndThen k ks) tail
-end_goes k ks text tail lacks e =
-    goes_then (Tail (k ∷ ks)) (ByteThen (end_mark k) (EndThen k ks)) (EndThen k ks) text text tail (tail_end k ks text lacks) (byte_goes (end_mark k) (EndThen k ks) text tail e)
+  pub past_second : (ks : List K) (text mark second rest : List ℕ) → IsNumberBefore text mark → mark ≡ between ∷ second → IsNumberBefore second rest → GoesOn (PairThen sp ks) text (PairsThen sp ks) rest
+  past_second ks text mark second rest n e m =
+      goes_then (PairThen sp ks) (NumberThen (PairsThen sp ks)) (PairsThen sp ks) text second rest (past_between ks text mark second n e)
+      (number_goes (PairsThen sp ks) (pairs_then_stops ks) second rest m)
 
-pub end_stuck : (k : Kind) (ks : List Kind) (text tail : List ℕ) → LacksFirst 44 text → tail ≡ text → LacksFirst (end_mark k) text → IsStuck (Tail (k ∷ ks)) text tail
-end_stuck k ks text tail lacks e other =
-    stuck_then (Tail (k ∷ ks)) (ByteThen (end_mark k) (EndThen k ks)) text text tail (tail_end k ks text lacks)
-    (byte_stuck (end_mark k) (EndThen k ks) (some_end k ks).0 (some_end k ks).1 text tail e other)
+  -- the mark behind the children of a node, and what comes behind it
+  abbrev pub end_mark : Bool → ℕ
+  end_mark true = 59
+  end_mark false = 41
 
--- at the outside of all nodes
-pub tail_over : (text : List ℕ) → 0 < length text → IsStuck (Tail []) text text
-tail_over [] some = absurd (omega arith)
-tail_over (b ∷ text) some = stuck_here (Tail []) (b ∷ text) [] refl (λ x h l. let f : b ∷ h.0 ≡ [] = sym h.1 ∙ l in cc)
+  abbrev pub EndThen : Bool → List K → List ℕ → Type 0
+  EndThen true ks = PairThen sp ks
+  EndThen false ks = Tail sp ks
+
+  some_end : (b : Bool) (ks : List K) → (x : List ℕ) × EndThen b ks x
+  some_end true ks = some_pair_then ks
+  some_end false ks = some_tail ks
+
+  tail_end : (k : K) (ks : List K) (b : Bool) → lists k ≡ b → (text : List ℕ) → LacksFirst 44 text → GoesOn (Tail sp (k ∷ ks)) text (ByteThen (end_mark b) (EndThen b ks)) text
+  tail_end k ks true e text lacks =
+      tail_semicolon k ks text lacks (λ ps h. subst (λ y. HasPairsIf y ps) e h) (λ ps h. subst (λ y. HasPairsIf y ps) (sym e) h)
+  tail_end k ks false e text lacks =
+      tail_bracket k ks text lacks (λ ps h. subst (λ y. HasPairsIf y ps) e h) (subst (λ y. HasPairsIf {P = P} y []) (sym e) refl)
+
+  pub end_goes : (k : K) (ks : List K) (b : Bool) → lists k ≡ b → (text tail : List ℕ) → LacksFirst 44 text → text ≡ end_mark b ∷ tail → GoesOn (Tail sp (k ∷ ks)) text (EndThen b ks) tail
+  end_goes k ks b e text tail lacks f =
+      goes_then (Tail sp (k ∷ ks)) (ByteThen (end_mark b) (EndThen b ks)) (EndThen b ks) text text tail (tail_end k ks b e text lacks) (byte_goes (end_mark b) (EndThen b ks) text tail f)
+
+  pub end_stuck : (k : K) (ks : List K) (b : Bool) → lists k ≡ b → (text tail : List ℕ) → LacksFirst 44 text → tail ≡ text → LacksFirst (end_mark b) text → IsStuck (Tail sp (k ∷ ks)) text tail
+  end_stuck k ks b e text tail lacks f other =
+      stuck_then (Tail sp (k ∷ ks)) (ByteThen (end_mark b) (EndThen b ks)) text text tail (tail_end k ks b e text lacks)
+      (byte_stuck (end_mark b) (EndThen b ks) (some_end b ks).0 (some_end b ks).1 text tail f other)
+
+  -- at the outside of all nodes
+  pub tail_over : (text : List ℕ) → 0 < length text → IsStuck (Tail sp []) text text
+  tail_over [] some = absurd (omega arith)
+  tail_over (b ∷ text) some = stuck_here (Tail sp []) (b ∷ text) [] refl (λ x h l. let f : b ∷ h.0 ≡ [] = sym h.1 ∙ l in cc)
 
 -- digits at the beginning of a text
 stops_drop : (text : List ℕ) (end : ℕ) → (end < length text → is_ascii_digit (get_or text end 0) ≡ false) → IsPastDigits (drop end text)
@@ -387,7 +424,7 @@ zero_before (b ∷ c ∷ text) tail end within all some first is =
     inr (cc, subst (λ w. ¬ (IsPastDigits w)) (sym is) (λ s. s is_digit))
 
 -- the open nodes
-pub opened_again : (k : Kind) (ks : List Kind) (opens : List Kind) → opens ≡ outermost_first ks → opens ++ k ∷ [] ≡ outermost_first (k ∷ ks)
+pub opened_again : {K : Type 0} (k : K) (ks : List K) (opens : List K) → opens ≡ outermost_first ks → opens ++ k ∷ [] ≡ outermost_first (k ∷ ks)
 opened_again k ks opens e = ap (λ w. w ++ k ∷ []) e
 
 pub no_snoc : {A : Type 0} (xs : List A) (k : A) → [] ≡ xs ++ k ∷ [] → ⊥
@@ -395,14 +432,14 @@ no_snoc [] k e = cc
 no_snoc (x ∷ xs) k e = let f : [] ≡ x ∷ (xs ++ k ∷ []) = e in cc
 
 -- the innermost node is taken off
-pub popped : (ks opens others : List Kind) (k : Kind) → opens ≡ outermost_first ks → opens ≡ others ++ k ∷ [] → (js : List Kind) × (ks ≡ k ∷ js) × (others ≡ outermost_first js)
+pub popped : {K : Type 0} (ks opens others : List K) (k : K) → opens ≡ outermost_first ks → opens ≡ others ++ k ∷ [] → (js : List K) × (ks ≡ k ∷ js) × (others ≡ outermost_first js)
 popped [] opens others k a e = absurd (no_snoc others k (sym a ∙ e))
 popped (j ∷ ks) opens others k a e =
     let r = same_from_push (outermost_first ks) others j k (sym a ∙ e) in
     let s : j ≡ k = r.1 in
     (ks, cc, sym r.0)
 
-pub none_open : (ks opens : List Kind) → opens ≡ outermost_first ks → opens ≡ [] → ks ≡ []
+pub none_open : {K : Type 0} (ks opens : List K) → opens ≡ outermost_first ks → opens ≡ [] → ks ≡ []
 none_open [] opens a e = refl
 none_open (k ∷ ks) opens a e = absurd (no_snoc (outermost_first ks) k (sym e ∙ a))
 

@@ -1,12 +1,15 @@
 pub mod Loops
 pub mod Nodes
 pub mod Built
-pub mod Unique
+pub mod Kinded
 pub mod Pairs
-pub mod Exists
+pub mod GraphKinds
 pub mod Canonical
 pub mod Graph
 pub mod OneTree
+pub mod Heads
+pub mod Fitted
+pub mod Spelled
 pub mod Texts
 pub mod Plain
 pub mod Written

@@ -11,27 +11,29 @@ use Rattle.md_graph.specs.Sets.{NameSet, Has, Lacks, Within, Disjoint, only_name
 use Rattle.std.proofs.lemmas.Bool.{false_from_ne_true}
 use Rattle.md_graph.proofs.SetLemmas.{clash, of_insert, insert_old, insert_new, of_only, only_has, empty_lacks, same_members, union_left, union_right, of_union}
 use Rattle.md_tree.specs.WellFormed.{AreDisjoint, IsCanonicalNode}
-use Rattle.md_tree.specs.declared.Tree.{Tree}
+use Rattle.md_tree.specs.declared.Kind.{Kind}
+use Rattle.md_tree.specs.declared.Pair.{Pair}
+use Rattle.md_tree.specs.declared.TreeOf.{TreeOf}
 use Rattle.md_tree.specs.Trees.{PlainTree, PlainTrees, no_tree, one_more, names, names_below, names_at, count, row, EachNode, EachNodeBelow}
 use Rattle.md_tree.specs.Plain.{plain}
 use Rattle.md_tree.proofs.Folding.{count_row}
 
 -- the trees from a position on
-abbrev pub rest : List Tree → ℕ → PlainTrees
+abbrev pub rest : List (TreeOf Kind Pair) → ℕ → PlainTrees
 rest xs i = row (map plain (drop i xs))
 
-pub rest_at : (xs : List Tree) (i : ℕ) (d : Tree) → i < length xs → rest xs i ≡ one_more (plain (get_or xs i d)) (rest xs (i + 1))
+pub rest_at : (xs : List (TreeOf Kind Pair)) (i : ℕ) (d : TreeOf Kind Pair) → i < length xs → rest xs i ≡ one_more (plain (get_or xs i d)) (rest xs (i + 1))
 rest_at xs i d h = at_drop_more (λ l. row (map plain l)) xs i d h
 
-pub rest_end : (xs : List Tree) (i : ℕ) → length xs ≤ i → rest xs i ≡ no_tree
+pub rest_end : (xs : List (TreeOf Kind Pair)) (i : ℕ) → length xs ≤ i → rest xs i ≡ no_tree
 rest_end xs i h = ap (λ l. row (map plain l)) (drop_of_length-le xs h)
 
-pub first_of_rest : (xs ys : List Tree) (i : ℕ) (r : Tree) → ys ≡ xs → r ≡ get_or ys i r → i < length ys → rest xs i ≡ one_more (plain r) (rest xs (i + 1))
+pub first_of_rest : (xs ys : List (TreeOf Kind Pair)) (i : ℕ) (r : TreeOf Kind Pair) → ys ≡ xs → r ≡ get_or ys i r → i < length ys → rest xs i ≡ one_more (plain r) (rest xs (i + 1))
 first_of_rest xs ys i r same is less =
     rest_at xs i r (subst (λ l. i < length l) same less) ∙ ap (λ q. one_more (plain q) (rest xs (i + 1))) (sym (is ∙ ap (λ l. get_or l i r) same))
 
 -- a loop that adds the edges F of the trees; P holds of the trees still to come
-pub record EdgeLoop (F : PlainTrees → ℕ → ℕ → Bool) (P : PlainTrees → Type 0) (start g : PlainGraph) (xs : List Tree) (i : ℕ) : Type 0 where
+pub record EdgeLoop (F : PlainTrees → ℕ → ℕ → Bool) (P : PlainTrees → Type 0) (start g : PlainGraph) (xs : List (TreeOf Kind Pair)) (i : ℕ) : Type 0 where
   pub vertices : g.vertices ≡ start.vertices
   pub inside : Within (names_below (rest xs i)) g.vertices
   pub others : P (rest xs i)
@@ -42,8 +44,8 @@ or_moved true b g f r w p q e = ap (λ z. z || r) p ∙ q
 or_moved false b g f r w p q e = ap (λ z. z || r) p ∙ sym e ∙ q
 
 module _ (F : PlainTrees → ℕ → ℕ → Bool) (P : PlainTrees → Type 0) where
-  module _ (start g : PlainGraph) (xs : List Tree) (i : ℕ) (loop : EdgeLoop F P start g xs i) where
-    module _ (ys : List Tree) (same : ys ≡ xs) (r : Tree) (is : r ≡ get_or ys i r) (less : i < length ys) where
+  module _ (start g : PlainGraph) (xs : List (TreeOf Kind Pair)) (i : ℕ) (loop : EdgeLoop F P start g xs i) where
+    module _ (ys : List (TreeOf Kind Pair)) (same : ys ≡ xs) (r : TreeOf Kind Pair) (is : r ≡ get_or ys i r) (less : i < length ys) where
       cut_rest : rest xs i ≡ one_more (plain r) (rest xs (i + 1))
       cut_rest = first_of_rest xs ys i r same is less
 
@@ -68,12 +70,12 @@ module _ (F : PlainTrees → ℕ → ℕ → Bool) (P : PlainTrees → Type 0) w
             (ap (λ ts. F ts x y) cut_rest ∙ cut (plain r) (rest xs (i + 1)) x y);
       }
 
-    pub loop_end : ((x y : ℕ) → F no_tree x y ≡ false) → (ys : List Tree) → ys ≡ xs → length ys ≤ i → (x y : ℕ) → adjacent g x y ≡ (adjacent start x y || F (row (map plain xs)) x y)
+    pub loop_end : ((x y : ℕ) → F no_tree x y ≡ false) → (ys : List (TreeOf Kind Pair)) → ys ≡ xs → length ys ≤ i → (x y : ℕ) → adjacent g x y ≡ (adjacent start x y || F (row (map plain xs)) x y)
     loop_end none ys same past x y =
         sym (or-false (adjacent g x y)) ∙ sym (ap (λ f. adjacent g x y || f) (ap (λ ts. F ts x y) (rest_end xs i (subst (λ l. length l ≤ i) same past)) ∙ none x y)) ∙ loop.edges x y
 
 -- a loop that adds the names of the trees
-pub record NameLoop (start g : PlainGraph) (xs : List Tree) (i : ℕ) : Type 0 where
+pub record NameLoop (start g : PlainGraph) (xs : List (TreeOf Kind Pair)) (i : ℕ) : Type 0 where
   pub names_left : AllBelow (names_below (rest xs i)) NAMES
   pub absent : Disjoint (names_below (rest xs i)) g.vertices
   pub apart : AreDisjoint (rest xs i)
@@ -96,7 +98,7 @@ pub union_none : (a : NameSet) → union a empty ≡ a
 union_none a = same_members (union a empty) a
     (λ x h. elim (of_union a empty x h) [ inl i ↦ i | inr i ↦ clash i (empty_lacks x) ]) (union_left a empty)
 
-module _ (start g : PlainGraph) (xs : List Tree) (i : ℕ) (loop : NameLoop start g xs i) (ys : List Tree) (same : ys ≡ xs) (r : Tree) (is : r ≡ get_or ys i r) (less : i < length ys) where
+module _ (start g : PlainGraph) (xs : List (TreeOf Kind Pair)) (i : ℕ) (loop : NameLoop start g xs i) (ys : List (TreeOf Kind Pair)) (same : ys ≡ xs) (r : TreeOf Kind Pair) (is : r ≡ get_or ys i r) (less : i < length ys) where
   abbrev c : PlainTree
   c = plain r
 
@@ -134,7 +136,7 @@ module _ (start g : PlainGraph) (xs : List Tree) (i : ℕ) (loop : NameLoop star
     apart_now : AreDisjoint (one_more c ts)
     apart_now = subst AreDisjoint cut_names loop.apart
 
-pub names_end : (start g : PlainGraph) (xs : List Tree) (i : ℕ) → NameLoop start g xs i → (ys : List Tree) → ys ≡ xs → length ys ≤ i → g.vertices ≡ union start.vertices (names_below (row (map plain xs)))
+pub names_end : (start g : PlainGraph) (xs : List (TreeOf Kind Pair)) (i : ℕ) → NameLoop start g xs i → (ys : List (TreeOf Kind Pair)) → ys ≡ xs → length ys ≤ i → g.vertices ≡ union start.vertices (names_below (row (map plain xs)))
 names_end start g xs i loop ys same past =
     sym (union_none g.vertices) ∙ sym (ap (λ us. union g.vertices (names_below us)) (rest_end xs i (subst (λ l. length l ≤ i) same past))) ∙ loop.vertices
 
@@ -167,10 +169,10 @@ insert_is_union a v = same_members (insert a v) (union a (only_name v))
     ])
 
 -- a position of a list of trees
-pub count_plain : (xs : List Tree) → count (row (map plain xs)) ≡ length xs
+pub count_plain : (xs : List (TreeOf Kind Pair)) → count (row (map plain xs)) ≡ length xs
 count_plain xs = count_row (map plain xs) ∙ length-map xs plain
 
-pub names_at_row : (xs : List Tree) (i : ℕ) (d : Tree) → i < length xs → names_at (row (map plain xs)) i ≡ names (plain (get_or xs i d))
+pub names_at_row : (xs : List (TreeOf Kind Pair)) (i : ℕ) (d : TreeOf Kind Pair) → i < length xs → names_at (row (map plain xs)) i ≡ names (plain (get_or xs i d))
 names_at_row [] i d h = let b : i < 0 = h in absurd (omega arith)
 names_at_row (x ∷ xs) zero d h = refl
 names_at_row (x ∷ xs) (suc i) d h = names_at_row xs i d (let b : suc i < suc (length xs) = h in omega arith)

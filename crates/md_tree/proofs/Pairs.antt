@@ -1,9 +1,30 @@
--- The list of the pairs of positions that pass a test.
-use Rattle.std.proofs.Common.{◌≡◌, ℕ, zero, suc, ◌+◌, ◌<◌, ◌≤◌, Bool, true, false, ◌⊎◌, List, [], ◌∷◌, ◌++◌, refl, sym, subst, inl, inr, true≢false, arith}
+-- The list of the pairs of positions that pass a test, and when two ascending lists are equal.
+use Rattle.std.proofs.Common.{◌≡◌, ℕ, zero, suc, ◌+◌, ◌<◌, ◌≤◌, Bool, true, false, ◌⊎◌, List, [], ◌∷◌, ◌++◌, refl, sym, ◌∙◌, subst, inl, inr, true≢false, arith}
 use Rattle.std.proofs.lemmas.Bool.{cases_lt}
 use Rattle.md_tree.specs.declared.Pair.{Pair}
 use Rattle.md_tree.specs.StrongTrees.{IsPairBefore}
 use Rattle.md_text.proofs.Lists.{In, Later, in_left, in_right, of_append, later_append}
+
+-- two lists in which each item comes before those after it are equal if they have the same items
+module _ {X : Type 0} (Before : X → X → Type 0) (never_both : (x y : X) → Before x y → Before y x → ⊥) where
+  first_item : (x y : X) (xs ys : List X) → Later Before (x ∷ xs) → Later Before (y ∷ ys) → In (y ∷ ys) x → In (x ∷ xs) y → x ≡ y
+  first_item x y xs ys l m (inl e) j = e
+  first_item x y xs ys l m (inr i) (inl f) = sym f
+  first_item x y xs ys l m (inr i) (inr j) = absurd (never_both x y (l.0 y j) (m.0 x i))
+
+  rest_items : (x y z : X) (xs ys : List X) → x ≡ y → Later Before (x ∷ xs) → In xs z → In (y ∷ ys) z → In ys z
+  rest_items x y z xs ys e l i (inl f) = let own = l.0 x (subst (In xs) (f ∙ sym e) i) in absurd (never_both x x own own)
+  rest_items x y z xs ys e l i (inr j) = j
+
+  pub same_ascending : (xs ys : List X) → Later Before xs → Later Before ys → ((z : X) → In xs z → In ys z) → ((z : X) → In ys z → In xs z) → xs ≡ ys
+  same_ascending [] [] l m f g = refl
+  same_ascending [] (y ∷ ys) l m f g = absurd (g y (inl refl))
+  same_ascending (x ∷ xs) [] l m f g = absurd (f x (inl refl))
+  same_ascending (x ∷ xs) (y ∷ ys) l m f g =
+      let e : x ≡ y = first_item x y xs ys l m (f x (inl refl)) (g y (inl refl)) in
+      let r : xs ≡ ys =
+      same_ascending xs ys l.1 m.1 (λ z i. rest_items x y z xs ys e l i (f z (inr i))) (λ z i. rest_items y x z ys xs (sym e) m i (g z (inr i))) in
+      cc
 
 abbrev pub pair : ℕ → ℕ → Pair
 pair i j = record { low = i; high = j }

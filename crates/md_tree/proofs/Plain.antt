@@ -1,42 +1,42 @@
 -- The plain tree of a node is the node of its children's plain trees.
 use Rattle.std.proofs.Common.{◌≡◌, ℕ, map, refl, ◌∙◌, ap}
 use mathlib.Core.Former.{Count}
-use Rattle.md_tree.specs.declared.Kind.{Kind}
-use Rattle.md_tree.specs.declared.QuotientEdges.{QuotientEdges}
-use Rattle.md_tree.specs.declared.Children.{Children, out-Children}
-use Rattle.md_tree.specs.declared.Tree.{Tree, Leaf, Node, Node', Row_of-Tree, end_of-Tree, more_of-Tree, items-the_row-Tree, items_hidden-the_row-Tree-0}
+use Rattle.md_tree.specs.declared.PairsOf.{PairsOf}
+use Rattle.md_tree.specs.declared.ChildrenOf.{ChildrenOf, out-ChildrenOf}
+use Rattle.md_tree.specs.declared.TreeOf.{TreeOf, Leaf, Node, Node', Row_of-TreeOf, end_of-TreeOf, more_of-TreeOf, items-the_row-TreeOf, items_hidden-the_row-TreeOf-0}
 use Rattle.md_tree.specs.Trees.{leaf, node, one_more, names, names_below, row}
 use Rattle.md_graph.specs.Sets.{only_name}
 use Rattle.md_tree.specs.Plain.{plain, plain_row}
 
-row_items : (n : _) (ts : Row_of-Tree n) → plain_row ts ≡ row (map plain (items-the_row-Tree n ts))
-unfolding plain
-row_items n end_of-Tree = refl
-row_items n (more_of-Tree t rest) = ap (one_more (plain t)) (row_items _ rest)
+module _ {K P : Type 0} where
+  row_items : (n : _) (ts : Row_of-TreeOf K P n) → plain_row ts ≡ row (map plain (items-the_row-TreeOf _ _ n ts))
+  unfolding plain
+  row_items n end_of-TreeOf = refl
+  row_items n (more_of-TreeOf t rest) = ap (one_more (plain t)) (row_items _ rest)
 
-abbrev children_row : Tree → (n : Count) × Row_of-Tree n
-children_row (Leaf v) = (_, end_of-Tree)
-children_row (Node' k shape ts es) = (_, ts)
+  abbrev children_row : TreeOf K P → (n : Count) × Row_of-TreeOf K P n
+  children_row (Leaf v) = (_, end_of-TreeOf)
+  children_row (Node' k shape ts ps) = (_, ts)
 
-pub plain-node : (k : Kind) (cs : Children) (es : QuotientEdges) → plain (Node k cs es) ≡ node k (row (map plain (out-Children cs).list.items)) es.list.items
-unfolding plain
-plain-node k cs es =
-    let r = children_row (Node k cs es) in
-    let same = items_hidden-the_row-Tree-0 cs.list in
-    ap (λ w. node k w es.list.items) (row_items r.0 r.1 ∙ ap (λ l. row (map plain l)) same)
+  pub plain-node : (k : K) (cs : ChildrenOf K P) (ps : PairsOf P) → plain (Node k cs ps) ≡ node k (row (map plain (out-ChildrenOf _ _ cs).list.items)) ps.list.items
+  unfolding plain
+  plain-node k cs ps =
+      let r = children_row (Node k cs ps) in
+      let same = items_hidden-the_row-TreeOf-0 _ _ cs.list in
+      ap (λ w. node k w ps.list.items) (row_items r.0 r.1 ∙ ap (λ l. row (map plain l)) same)
 
--- the same for a tree that is told to be a leaf or a node
-pub plain_is_leaf : (t : Tree) (v : ℕ) → t ≡ Leaf v → plain t ≡ leaf v
-unfolding plain
-plain_is_leaf t v e = ap plain e
+  -- the same for a tree that is told to be a leaf or a node
+  pub plain_is_leaf : (t : TreeOf K P) (v : ℕ) → t ≡ Leaf v → plain t ≡ leaf v
+  unfolding plain
+  plain_is_leaf t v e = ap plain e
 
-pub plain_is_node : (t : Tree) (k : Kind) (cs : Children) (es : QuotientEdges) → t ≡ Node k cs es →
-    plain t ≡ node k (row (map plain (out-Children cs).list.items)) es.list.items
-plain_is_node t k cs es e = ap plain e ∙ plain-node k cs es
+  pub plain_is_node : (t : TreeOf K P) (k : K) (cs : ChildrenOf K P) (ps : PairsOf P) → t ≡ Node k cs ps →
+      plain t ≡ node k (row (map plain (out-ChildrenOf _ _ cs).list.items)) ps.list.items
+  plain_is_node t k cs ps e = ap plain e ∙ plain-node k cs ps
 
--- their names
-pub names_leaf : (t : Tree) (v : ℕ) → t ≡ Leaf v → names (plain t) ≡ only_name v
-names_leaf t v e = ap names (plain_is_leaf t v e)
+  -- their names
+  pub names_leaf : (t : TreeOf K P) (v : ℕ) → t ≡ Leaf v → names (plain t) ≡ only_name v
+  names_leaf t v e = ap names (plain_is_leaf t v e)
 
-pub names_node : (t : Tree) (k : Kind) (cs : Children) (es : QuotientEdges) → t ≡ Node k cs es → names (plain t) ≡ names_below (row (map plain (out-Children cs).list.items))
-names_node t k cs es e = ap names (plain_is_node t k cs es e)
+  pub names_node : (t : TreeOf K P) (k : K) (cs : ChildrenOf K P) (ps : PairsOf P) → t ≡ Node k cs ps → names (plain t) ≡ names_below (row (map plain (out-ChildrenOf _ _ cs).list.items))
+  names_node t k cs ps e = ap names (plain_is_node t k cs ps e)

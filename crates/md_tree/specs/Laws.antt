@@ -1,21 +1,26 @@
 -- The laws of trees.
-use Rattle.std.specs.Prelude.{◌≡◌, ◌↔◌, ◌⊎◌, ℕ, Bool, Option, Result, Ok, Err}
+use Rattle.std.specs.Prelude.{◌≡◌, ◌<◌, ◌≤◌, ◌↔◌, ◌⊎◌, ℕ, Bool, Option, Result, Ok, Err}
 use Rattle.md_graph.specs.declared.TheConstants.{NAMES}
 use Rattle.md_graph.specs.NameSet.{AllBelow}
 use Rattle.md_graph.specs.PlainGraph.{PlainGraph, IsGraph, adjacent}
 use Rattle.md_graph.specs.Sets.{NameSet, Has}
 use Rattle.md_graph.specs.Adjacency.{IsAdjacency}
+use Rattle.md_modules.specs.Colours.{IsColouring, AreTold}
+use Rattle.md_modules.specs.Kinds.{IsSplit, IsUnsplit}
+use Rattle.md_modules.specs.Modules.{HasTrivialModulesAlone}
 use Rattle.md_modules.specs.InducedPaths.{HasInducedPath}
-use Rattle.md_tree.specs.Trees.{PlainTree, names}
+use Rattle.md_tree.specs.Trees.{PlainTreeOf, PlainTreesOf, PlainTree, names, names_below, names_at, count}
+use Rattle.md_tree.specs.Heads.{heads, HeadsAlong, AreChildModules, AreStrongChildren}
 use Rattle.md_tree.specs.StrongTrees.{IsTreeOf, IsTree}
-use Rattle.md_tree.specs.WellFormed.{IsCanonicalTree, IsWellFormed, HasNoPrimeNode}
+use Rattle.md_tree.specs.WellFormed.{IsCanonicalTree, IsWellFormed, IsWellFormedBy, HasNoPrimeNode}
 use Rattle.md_tree.specs.TreeGraph.{adjacent_in, graph_of_tree}
-use Rattle.md_tree.specs.TreeTexts.{text_of}
-use Rattle.md_tree.specs.declared.Tree.{Tree}
+use Rattle.md_tree.specs.Spellings.{Spelling, graph_spelling}
+use Rattle.md_tree.specs.TreeTexts.{text_of_by}
+use Rattle.md_tree.specs.declared.TreeOf.{TreeOf}
 use Rattle.md_tree.specs.declared.reader.TreeFault.{TreeFault}
 use Rattle.md_tree.specs.declared.reader.TreeFault.TheVariants.{Memory}
 use Rattle.md_tree.specs.Plain.{plain_option}
-use Rattle.md_tree.specs.Reading.{IsTreeReading}
+use Rattle.md_tree.specs.Reading.{IsTreeReadingBy}
 
 -- each graph has exactly one tree, none where it has no vertex
 abbrev pub OneTree : Type 0
@@ -49,15 +54,35 @@ NoInducedPathIfNoPrimeNode =
     (e : ℕ → ℕ → Bool) → IsAdjacency e → (s : NameSet) (t : PlainTree) → IsTreeOf e s t →
     (¬ (HasInducedPath e s)) ↔ HasNoPrimeNode t
 
+-- what the heads of trees tell of all their names, where the leaf sets are modules of these: if one colour runs from each head to
+-- those after it, and no tree splits with it, then the names split with it; if the heads have trivial modules alone, the names
+-- don't split; either way the leaf sets are the children of all names in the tree of strong modules; and the other way round the
+-- heads of the children of names that don't split have trivial modules alone
+pub record AreToldByHeads {K P C : Type 0} (e : ℕ → ℕ → C) (cs : PlainTreesOf K P) : Type 0 where
+  pub split : (v : C) → 2 ≤ count cs → HeadsAlong e cs v → ((i : ℕ) (part : NameSet) → i < count cs → ¬ (IsSplit e (names_at cs i) part v)) →
+      ((part : NameSet) × IsSplit e (names_below cs) part v) × AreStrongChildren e cs
+  pub unsplit : 3 ≤ count cs → HasTrivialModulesAlone e (heads cs) → IsUnsplit e (names_below cs) × AreStrongChildren e cs
+  pub trivial : IsUnsplit e (names_below cs) → AreStrongChildren e cs → HasTrivialModulesAlone e (heads cs)
+
+-- the heads of trees tell this, for any kinds, pairs and colours
+abbrev pub HeadsTellNodes : Type 0 → Type 0 → Type 0 → Type 0
+HeadsTellNodes K P C = AreTold C → (reverse : C → C) (e : ℕ → ℕ → C) → IsColouring reverse e → (cs : PlainTreesOf K P) → AreChildModules e cs → AreToldByHeads e cs
+
 -- different trees have different texts
+abbrev pub OneTreeOneTextBy : {K P : Type 0} → Spelling K P → Type 0
+OneTreeOneTextBy {K} {P} sp = (o p : Option (PlainTreeOf K P)) → text_of_by sp o ≡ text_of_by sp p → o ≡ p
+
 abbrev pub OneTreeOneText : Type 0
-OneTreeOneText = (o p : Option PlainTree) → text_of o ≡ text_of p → o ≡ p
+OneTreeOneText = OneTreeOneTextBy graph_spelling
 
 -- the answer is the tree, or out of memory
-abbrev pub IsReadAs : Option PlainTree → Result (Option Tree) TreeFault → Type 0
-IsReadAs o answer = ((r : Option Tree) × (answer ≡ Ok r) × (plain_option r ≡ o)) ⊎ (answer ≡ Err Memory)
+abbrev pub IsReadAs : {K P : Type 0} → Option (PlainTreeOf K P) → Result (Option (TreeOf K P)) TreeFault → Type 0
+IsReadAs {K} {P} o answer = ((r : Option (TreeOf K P)) × (answer ≡ Ok r) × (plain_option r ≡ o)) ⊎ (answer ≡ Err Memory)
 
 -- the text of each well-formed tree is read as that tree
+abbrev pub WrittenTreesAreReadBy : {K P : Type 0} → Spelling K P → Type 0
+WrittenTreesAreReadBy {K} {P} sp =
+    (o : Option (PlainTreeOf K P)) → IsWellFormedBy sp o → (answer : Result (Option (TreeOf K P)) TreeFault) → IsTreeReadingBy sp (text_of_by sp o) answer → IsReadAs o answer
+
 abbrev pub WrittenTreesAreRead : Type 0
-WrittenTreesAreRead =
-    (o : Option PlainTree) → IsWellFormed o → (answer : Result (Option Tree) TreeFault) → IsTreeReading (text_of o) answer → IsReadAs o answer
+WrittenTreesAreRead = WrittenTreesAreReadBy graph_spelling

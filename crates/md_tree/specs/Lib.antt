@@ -1,10 +1,13 @@
 pub mod Trees
 pub mod Plain
 pub mod StrongTrees
+pub mod NodeKinds
 pub mod WellFormed
+pub mod Heads
 pub mod NoPrimes
 pub mod TreeGraph
 pub mod TreeEdges
+pub mod Spellings
 pub mod TreeTexts
 pub mod Laws
 pub mod Positions

@@ -7,10 +7,10 @@ use Rattle.md_graph.specs.PlainGraph.{PlainGraph, pairs_where, empty_graph}
 use Rattle.md_tree.specs.declared.Kind.{Kind}
 use Rattle.md_tree.specs.declared.Kind.TheVariants.{Parallel, Series, Prime}
 use Rattle.md_tree.specs.declared.Pair.{Pair}
-use Rattle.md_tree.specs.Trees.{PlainTree, leaf, node, PlainTrees, no_tree, one_more, names}
+use Rattle.md_tree.specs.Trees.{PlainTreesOf, PlainTree, leaf, node, PlainTrees, no_tree, one_more, names}
 
 -- the position of the tree that holds a name; past the end where none does
-abbrev pub position_of : PlainTrees → ℕ → ℕ
+abbrev pub position_of : {K P : Type 0} → PlainTreesOf K P → ℕ → ℕ
 position_of no_tree a = 0
 position_of (one_more t ts) a = cond (contains (names t) a) 0 (suc (position_of ts a))
 

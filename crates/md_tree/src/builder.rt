@@ -1,20 +1,20 @@
 //! Builds the tree whose text is read, and gives up where the text is no well-formed tree's. Two
 //! other machines go over the same texts: `grammar` says where a text leaves their grammar, and
 //! md_checker's `text_fit` compares a text with a graph; neither builds anything.
-ghost use Rattle.std.specs.Prelude.{◌≡◌, ◌≢◌, ◌<◌, ◌≤◌, ◌↔◌, ◌+◌, ℕ, List, true, false, [], ◌∷◌, ◌++◌, length, take, drop, vec_len, vec_capacity, map, IfOk, OnOk, MatchOption, IsTrue, Some};
-ghost use Rattle.md_tree.specs.declared.Tree.{Tree, Leaf};
-ghost use Rattle.md_tree.specs.declared.Kind.TheVariants.{Prime};
+ghost use Rattle.std.specs.Prelude.{◌≡◌, ◌≢◌, ◌<◌, ◌≤◌, ◌↔◌, ◌⊎◌, ◌+◌, ℕ, List, true, false, [], ◌∷◌, ◌++◌, length, take, drop, vec_len, vec_capacity, map, IfOk, OnOk, MatchOption, IsTrue, Some};
+ghost use Rattle.md_tree.specs.declared.TreeOf.{TreeOf};
 ghost use Rattle.md_tree.specs.Plain.{plain};
 ghost use Rattle.md_tree.specs.Trees.{node, row};
-ghost use Rattle.md_tree.specs.TreeTexts.{letter, tree_text};
-ghost use Rattle.md_tree.specs.WellFormed.{IsWellFormed, IsOfKind, NoneOfKind};
+ghost use Rattle.md_tree.specs.Spellings.{spelling};
+ghost use Rattle.md_tree.specs.TreeTexts.{tree_text_by};
+ghost use Rattle.md_tree.specs.WellFormed.{IsWellFormedBy, IsOfKind};
 ghost use Rattle.md_text.specs.Fronts.{LacksFirst, IsNumberSplit};
-ghost use Rattle.md_tree.specs.Held.{HasBuilt, HasBuiltInside, HasReadTree, EndsNode, IsBuildStep, AreUseless, Ascends, MayHave, trees_held};
+ghost use Rattle.md_tree.specs.Held.{HasBuilt, HasBuiltInside, HasReadTree, EndsNode, IsBuildStep, AreUseless, Ascends, AscendsIf, IsMinimum, MayHave, HasOthersIf, trees_held};
 
 use crate::grammar::split_letter;
 use crate::growing::append;
 use crate::pair_reader::read_end;
-use crate::{Children, Kind, Pair, QuotientEdges, Tree};
+use crate::{ChildrenOf, Lettered, Paired, PairsOf, TreeOf};
 use md_graph::{Memory, NAMES, Names};
 use md_text::{skip_byte, small_number};
 use std::alloc::Global;
@@ -22,17 +22,17 @@ use std::mem;
 
 /// A node of which a part is read: its kind, and how many trees stand before its first child.
 #[derive(Clone, Copy)]
-pub struct Opened {
-    pub kind: Kind,
+pub struct Opened<K> {
+    pub kind: K,
     pub first: u32,
 }
 
 // The trees that are read, with their least names, the nodes that are open, and all names.
 #[derive(Drop)]
-struct Held {
-    trees: Vec<Tree>,
+struct Held<K: Drop, P: Drop> {
+    trees: Vec<TreeOf<K, P>>,
     least: Vec<u32>,
-    opens: Vec<Opened>,
+    opens: Vec<Opened<K>>,
     seen: Names,
 }
 
@@ -47,9 +47,13 @@ enum Step<'a> {
 
 // The well-formed tree with this text; none if there is no such tree. No call nests as deep as the
 // tree. Errors: out of memory.
-pub(crate) fn tree_of_text(alloc: Global, bytes: &[u8]) -> Result<Option<Tree>, Memory>
-    ensures { IfOk result (λ o. MatchOption o (AreUseless bytes.now)
-        (λ t. IsWellFormed (Some (plain t)) × (bytes.now ≡ tree_text (plain t)))) }
+pub(crate) fn tree_of_text<K: Lettered, P: Paired>(
+    alloc: Global,
+    bytes: &[u8],
+) -> Result<Option<TreeOf<K, P>>, Memory>
+    ensures { IfOk result (λ o. MatchOption o (AreUseless (spelling K.rules P.rules) bytes.now)
+        (λ t. IsWellFormedBy (spelling K.rules P.rules) (Some (plain t))
+        × (bytes.now ≡ tree_text_by (spelling K.rules P.rules) (plain t)))) }
 {
     let room = (bytes.len() / 4).min(NAMES as usize);
     let mut held = Held {
@@ -70,10 +74,16 @@ pub(crate) fn tree_of_text(alloc: Global, bytes: &[u8]) -> Result<Option<Tree>, 
 
 // Where a tree is due: a name, and the ends of nodes behind it; or the beginning of a node.
 #[inline(always)]
-fn take_step<'a>(alloc: Global, text: &'a [u8], held: &mut Held) -> Result<Step<'a>, Memory>
-    requires { (bytes : List ℕ) × HasBuilt bytes text.now false held.old }
-    ensures { IfOk result (λ step. (bytes : List ℕ) → HasBuilt bytes text.now false held.old
-        → IsBuildStep bytes text.now step held.new) }
+fn take_step<'a, K: Lettered, P: Paired>(
+    alloc: Global,
+    text: &'a [u8],
+    held: &mut Held<K, P>,
+) -> Result<Step<'a>, Memory>
+    requires { (bytes : List ℕ)
+        × HasBuilt (spelling K.rules P.rules) bytes text.now false held.old }
+    ensures { IfOk result (λ step. (bytes : List ℕ)
+        → HasBuilt (spelling K.rules P.rules) bytes text.now false held.old
+        → IsBuildStep (spelling K.rules P.rules) bytes text.now step held.new) }
 {
     if let Some((name, tail)) = small_number(text) {
         return step_name(alloc, text, name, tail, held);
@@ -86,17 +96,19 @@ fn take_step<'a>(alloc: Global, text: &'a [u8], held: &mut Held) -> Result<Step<
 
 // A name, and the ends of nodes behind it.
 #[inline(always)]
-fn step_name<'a>(
+fn step_name<'a, K: Lettered, P: Paired>(
     alloc: Global,
     text: &'a [u8],
     name: u32,
     tail: &'a [u8],
-    held: &mut Held,
+    held: &mut Held<K, P>,
 ) -> Result<Step<'a>, Memory>
-    requires built { (bytes : List ℕ) × HasBuilt bytes text.now false held.old }
+    requires built { (bytes : List ℕ)
+        × HasBuilt (spelling K.rules P.rules) bytes text.now false held.old }
     requires name { IsNumberSplit text.now name tail.now }
-    ensures { IfOk result (λ step. (bytes : List ℕ) → HasBuilt bytes text.now false held.old
-        → IsBuildStep bytes text.now step held.new) }
+    ensures { IfOk result (λ step. (bytes : List ℕ)
+        → HasBuilt (spelling K.rules P.rules) bytes text.now false held.old
+        → IsBuildStep (spelling K.rules P.rules) bytes text.now step held.new) }
 {
     match take_name(text, name, tail, held)? {
         Some(behind) => end_nodes(alloc, behind, held),
@@ -106,16 +118,17 @@ fn step_name<'a>(
 
 // Past a name, if it is below the limit and new.
 #[inline(always)]
-fn take_name<'a>(
+fn take_name<'a, K: Lettered, P: Paired>(
     text: &'a [u8],
     name: u32,
     tail: &'a [u8],
-    held: &mut Held,
+    held: &mut Held<K, P>,
 ) -> Result<Option<&'a [u8]>, Memory>
     requires { IsNumberSplit text.now name tail.now }
-    ensures { IfOk result (λ o. (bytes : List ℕ) → HasBuilt bytes text.now false held.old
-        → MatchOption o (AreUseless bytes)
-        (λ behind. HasReadTree bytes text.now behind.now held.new)) }
+    ensures { IfOk result (λ o. (bytes : List ℕ)
+        → HasBuilt (spelling K.rules P.rules) bytes text.now false held.old
+        → MatchOption o (AreUseless (spelling K.rules P.rules) bytes)
+        (λ behind. HasReadTree (spelling K.rules P.rules) bytes text.now behind.now held.new)) }
 {
     if name >= NAMES {
         return Ok(None);
@@ -125,23 +138,25 @@ fn take_name<'a>(
     }
     held.seen.insert(name);
     append(&mut held.least, name)?;
-    append(&mut held.trees, Tree::Leaf(name))?;
+    append(&mut held.trees, TreeOf::Leaf(name))?;
     Ok(Some(tail))
 }
 
 // The letter of a node is read. In the text of a well-formed tree fewer nodes are open than there
 // are names.
 #[inline(always)]
-fn begin_node<'a>(
+fn begin_node<'a, K: Lettered, P: Paired>(
     text: &'a [u8],
-    kind: Kind,
+    kind: K,
     behind: &'a [u8],
-    held: &mut Held,
+    held: &mut Held<K, P>,
 ) -> Result<Step<'a>, Memory>
-    requires built { (bytes : List ℕ) × HasBuilt bytes text.now false held.old }
-    requires letter { text.now ≡ letter kind ∷ behind.now }
-    ensures { IfOk result (λ step. (bytes : List ℕ) → HasBuilt bytes text.now false held.old
-        → IsBuildStep bytes text.now step held.new) }
+    requires built { (bytes : List ℕ)
+        × HasBuilt (spelling K.rules P.rules) bytes text.now false held.old }
+    requires letter { text.now ≡ K.rules.letter kind ∷ behind.now }
+    ensures { IfOk result (λ step. (bytes : List ℕ)
+        → HasBuilt (spelling K.rules P.rules) bytes text.now false held.old
+        → IsBuildStep (spelling K.rules P.rules) bytes text.now step held.new) }
 {
     if held.opens.len() >= NAMES as usize {
         return Ok(Step::Useless);
@@ -158,10 +173,16 @@ fn begin_node<'a>(
 
 // Behind a tree: the ends of nodes, as long as they follow; then a comma or the end of the text.
 #[inline(always)]
-fn end_nodes<'a>(alloc: Global, text: &'a [u8], held: &mut Held) -> Result<Step<'a>, Memory>
-    requires { (bytes : List ℕ) × HasBuilt bytes text.now true held.old }
-    ensures { IfOk result (λ step. (bytes : List ℕ) → HasBuilt bytes text.now true held.old
-        → IsBuildStep bytes text.now step held.new) }
+fn end_nodes<'a, K: Lettered, P: Paired>(
+    alloc: Global,
+    text: &'a [u8],
+    held: &mut Held<K, P>,
+) -> Result<Step<'a>, Memory>
+    requires { (bytes : List ℕ)
+        × HasBuilt (spelling K.rules P.rules) bytes text.now true held.old }
+    ensures { IfOk result (λ step. (bytes : List ℕ)
+        → HasBuilt (spelling K.rules P.rules) bytes text.now true held.old
+        → IsBuildStep (spelling K.rules P.rules) bytes text.now step held.new) }
 {
     let mut rest = text;
     loop {
@@ -183,10 +204,15 @@ fn end_nodes<'a>(alloc: Global, text: &'a [u8], held: &mut Held) -> Result<Step<
 
 // A comma, behind which a tree is due.
 #[inline(always)]
-fn step_comma<'a>(text: &'a [u8], tail: &'a [u8], held: &Held) -> Step<'a>
+fn step_comma<'a, K: Lettered, P: Paired>(
+    text: &'a [u8],
+    tail: &'a [u8],
+    held: &Held<K, P>,
+) -> Step<'a>
     requires { text.now ≡ 44 ∷ tail.now }
-    ensures { (bytes : List ℕ) → HasBuilt bytes text.now true held.now
-        → IsBuildStep bytes text.now result held.now }
+    ensures { (bytes : List ℕ)
+        → HasBuilt (spelling K.rules P.rules) bytes text.now true held.now
+        → IsBuildStep (spelling K.rules P.rules) bytes text.now result held.now }
 {
     if held.opens.is_empty() {
         return Step::Useless;
@@ -196,10 +222,11 @@ fn step_comma<'a>(text: &'a [u8], tail: &'a [u8], held: &Held) -> Step<'a>
 
 // The end of the text, where no node may be open.
 #[inline(always)]
-fn step_at_end<'a>(text: &'a [u8], held: &Held) -> Step<'a>
+fn step_at_end<'a, K: Lettered, P: Paired>(text: &'a [u8], held: &Held<K, P>) -> Step<'a>
     requires { text.now ≡ [] }
-    ensures { (bytes : List ℕ) → HasBuilt bytes text.now true held.now
-        → IsBuildStep bytes text.now result held.now }
+    ensures { (bytes : List ℕ)
+        → HasBuilt (spelling K.rules P.rules) bytes text.now true held.now
+        → IsBuildStep (spelling K.rules P.rules) bytes text.now result held.now }
 {
     if held.opens.is_empty() {
         return Step::End;
@@ -209,15 +236,17 @@ fn step_at_end<'a>(text: &'a [u8], held: &Held) -> Step<'a>
 
 // The end of a node: its children have to be such as its kind asks, and in order.
 #[inline(always)]
-fn end_node<'a>(
+fn end_node<'a, K: Lettered, P: Paired>(
     alloc: Global,
     text: &'a [u8],
-    inner: Opened,
-    held: &mut Held,
+    inner: Opened<K>,
+    held: &mut Held<K, P>,
 ) -> Result<Option<&'a [u8]>, Memory>
-    requires inside { (bytes : List ℕ) × HasBuiltInside bytes text.now inner held.old }
+    requires inside { (bytes : List ℕ)
+        × HasBuiltInside (spelling K.rules P.rules) bytes text.now inner held.old }
     requires no_comma { LacksFirst 44 text.now }
-    ensures { IfOk result (λ o. EndsNode text.now inner held.old o held.new) }
+    ensures { IfOk result (λ o.
+        EndsNode (spelling K.rules P.rules) text.now inner held.old o held.new) }
 {
     let first = inner.first as usize;
     if !may_have(inner.kind, &held.trees[first..], &held.least[first..]) {
@@ -225,7 +254,7 @@ fn end_node<'a>(
     }
     let outermost = held.opens.is_empty();
     let list = take_from(alloc, first, outermost, &mut held.trees)?;
-    let Some((pairs, tail)) = read_end(alloc, text, inner.kind, list.len())? else {
+    let Some((pairs, tail)) = read_end(alloc, text, inner.kind.lists(), list.len())? else {
         return Ok(None);
     };
     close(inner, list, pairs, held)?;
@@ -234,30 +263,78 @@ fn end_node<'a>(
 
 // A node of the trees that are taken off takes their place.
 #[inline(always)]
-fn close(inner: Opened, list: Vec<Tree>, pairs: Vec<Pair>, held: &mut Held) -> Result<(), Memory>
-    requires { inner.first ≤ vec_len held.old.trees }
-    ensures trees { IfOk result (λ _. (all : List Tree)
+fn close<K: Lettered, P: Paired>(
+    inner: Opened<K>,
+    list: Vec<TreeOf<K, P>>,
+    pairs: Vec<P>,
+    held: &mut Held<K, P>,
+) -> Result<(), Memory>
+    requires first { inner.first ≤ vec_len held.old.trees }
+    requires some { inner.first < length held.old.least.items }
+    requires ascends { AscendsIf (K.rules.sorts inner.kind)
+        (drop inner.first held.old.least.items) }
+    ensures trees { IfOk result (λ _. (all : List (TreeOf K P))
         → held.old.trees.items ≡ take inner.first all → list.items ≡ drop inner.first all
         → trees_held held.new ≡ take inner.first (map plain all)
         ++ node inner.kind (row (drop inner.first (map plain all))) pairs.items ∷ []) }
-    ensures least { IfOk result (λ _. held.new.least.items
-        ≡ take (inner.first + 1) held.old.least.items) }
+    ensures least { IfOk result (λ _. (m : ℕ)
+        × IsMinimum (drop inner.first held.old.least.items) m
+        × (held.new.least.items ≡ take inner.first held.old.least.items ++ m ∷ [])) }
     ensures opens { held.new.opens.items ≡ held.old.opens.items }
     ensures seen { held.new.seen ≡ held.old.seen }
 {
-    let node = Tree::Node(inner.kind, Children { list }, QuotientEdges { list: pairs });
+    let node = TreeOf::Node(inner.kind, ChildrenOf { list }, PairsOf { list: pairs });
     append(&mut held.trees, node)?;
-    held.least.truncate(inner.first as usize + 1);
+    let first = inner.first as usize;
+    let least = minimum(&held.least[first..], inner.kind.sorts());
+    held.least[first] = least;
+    held.least.truncate(first + 1);
     Ok(())
 }
 
+// The least of some numbers, which is the first where they ascend.
+#[inline(always)]
+fn minimum(numbers: &[u32], ascending: bool) -> u32
+    requires some { 0 < length numbers.now }
+    requires ascends { AscendsIf ascending numbers.now }
+    ensures { IsMinimum numbers.now result }
+{
+    if ascending {
+        return numbers[0];
+    }
+    least_of(numbers)
+}
+
+// The same of numbers in any order.
+fn least_of(numbers: &[u32]) -> u32
+    requires { 0 < length numbers.now }
+    ensures { IsMinimum numbers.now result }
+{
+    let mut least = numbers[0];
+    for number in numbers {
+        least = lesser(*number, least);
+    }
+    least
+}
+
+fn lesser(first: u32, second: u32) -> u32
+    ensures one { (result ≡ first) ⊎ (result ≡ second) }
+    ensures first { result ≤ first }
+    ensures second { result ≤ second }
+{
+    if first < second {
+        return first;
+    }
+    second
+}
+
 // Takes off the trees from a place on. All trees are handed over where they lie if no others come.
-fn take_from(
+fn take_from<K: Drop, P: Drop>(
     alloc: Global,
     first: usize,
     outermost: bool,
-    trees: &mut Vec<Tree>,
-) -> Result<Vec<Tree>, Memory>
+    trees: &mut Vec<TreeOf<K, P>>,
+) -> Result<Vec<TreeOf<K, P>>, Memory>
     requires { first ≤ vec_len trees.old }
     ensures items { IfOk result (λ _. trees.new.items ≡ take first trees.old.items) }
     ensures tail { IfOk result (λ list. list.items ≡ drop first trees.old.items) }
@@ -270,29 +347,38 @@ fn take_from(
 }
 
 // Whether a node of the kind may have the children, whose least names are told.
-fn may_have(kind: Kind, children: &[Tree], least: &[u32]) -> bool
+fn may_have<K: Lettered, P: Drop>(kind: K, children: &[TreeOf<K, P>], least: &[u32]) -> bool
     requires { length least.now ≡ length children.now }
-    ensures { IsTrue result ↔ (MayHave kind (row (map plain children.now)) × Ascends least.now) }
+    ensures { IsTrue result ↔ (MayHave K.rules kind (row (map plain children.now))
+        × AscendsIf (K.rules.sorts kind) least.now) }
 {
-    match kind {
-        Kind::Parallel => children.len() >= 2 && are_others(Kind::Parallel, children, least),
-        Kind::Series => children.len() >= 2 && are_others(Kind::Series, children, least),
-        Kind::Prime => children.len() >= 4 && ascends(least),
+    if children.len() < kind.least_count() {
+        return false;
     }
+    let sorts = kind.sorts();
+    if kind.lists() {
+        return !sorts || ascends(least);
+    }
+    are_others(kind, sorts, children, least)
 }
 
-// Whether no child is a node of the kind, and the least names ascend.
-fn are_others(kind: Kind, children: &[Tree], least: &[u32]) -> bool
+// Whether no child is a node of the kind, and the least names ascend if they have to.
+fn are_others<K: Lettered, P: Drop>(
+    kind: K,
+    sorts: bool,
+    children: &[TreeOf<K, P>],
+    least: &[u32],
+) -> bool
     requires some { 1 ≤ length children.now }
     requires same { length least.now ≡ length children.now }
-    ensures { IsTrue result
-        ↔ (NoneOfKind (row (map plain children.now)) kind × Ascends least.now) }
+    ensures { IsTrue result ↔ (HasOthersIf false kind (row (map plain children.now))
+        × AscendsIf sorts least.now) }
 {
     if is_of_kind(&children[0], kind) {
         return false;
     }
     for i in 1..children.len() {
-        if is_of_kind(&children[i], kind) || least[i - 1] >= least[i] {
+        if is_of_kind(&children[i], kind) || sorts && least[i - 1] >= least[i] {
             return false;
         }
     }
@@ -300,12 +386,12 @@ fn are_others(kind: Kind, children: &[Tree], least: &[u32]) -> bool
 }
 
 #[tactic(auto, using(crate::proofs::Plain::plain_is_leaf, crate::proofs::Plain::plain_is_node))]
-fn is_of_kind(tree: &Tree, kind: Kind) -> bool
+fn is_of_kind<K: Lettered, P: Drop>(tree: &TreeOf<K, P>, kind: K) -> bool
     ensures { IsTrue result ↔ IsOfKind (plain tree.now) kind }
 {
     match tree {
-        Tree::Leaf(_) => false,
-        Tree::Node(own, _, _) => *own == kind,
+        TreeOf::Leaf(_) => false,
+        TreeOf::Node(own, _, _) => own.is(kind),
     }
 }
 

@@ -1,7 +1,10 @@
 //! The laws of trees, each the contract of a function that does nothing. They speak of any set of
 //! names with a test of adjacency, and stand on no call that computes a tree.
 
-ghost use Rattle.md_tree.specs.Laws.{OneTree, TreeIsCanonical, TreeIsWellFormed, TreeTellsGraph, GraphOfTheTree, NoInducedPathIfNoPrimeNode, OneTreeOneText, WrittenTreesAreRead};
+ghost use Rattle.md_tree.specs.Laws.{OneTree, TreeIsCanonical, TreeIsWellFormed, TreeTellsGraph, GraphOfTheTree, NoInducedPathIfNoPrimeNode, HeadsTellNodes, OneTreeOneText, OneTreeOneTextBy, WrittenTreesAreRead, WrittenTreesAreReadBy};
+ghost use Rattle.md_tree.specs.Spellings.{spelling};
+
+use crate::{Lettered, Paired};
 
 /// Each graph has exactly one tree of strong modules; the graph without vertices has none in its
 /// place.
@@ -35,6 +38,13 @@ pub fn no_induced_path_if_no_prime_node()
     ensures law { NoInducedPathIfNoPrimeNode }
 {}
 
+/// Whether the leaf sets of trees, which are modules, are the children of a node, and whether the
+/// node splits, is told by the heads of the trees, one name of each: for any kinds, pairs and
+/// colours, so of directed graphs too.
+pub fn heads_tell_nodes<K, P, C>()
+    ensures law { HeadsTellNodes K P C }
+{}
+
 /// Different trees have different texts, and no tree has the text of a graph without vertices.
 pub fn one_tree_one_text()
     ensures law { OneTreeOneText }
@@ -43,4 +53,14 @@ pub fn one_tree_one_text()
 /// The text of a well-formed tree is read as that tree, if memory suffices.
 pub fn written_trees_are_read()
     ensures law { WrittenTreesAreRead }
+{}
+
+/// Of trees over any kinds and pairs that are spelled, different ones have different texts.
+pub fn one_spelled_tree_one_text<K: Lettered, P: Paired>()
+    ensures law { OneTreeOneTextBy (spelling K.rules P.rules) }
+{}
+
+/// The text of such a tree, if it is well-formed, is read as that tree, if memory suffices.
+pub fn spelled_trees_are_read<K: Lettered, P: Paired>()
+    ensures law { WrittenTreesAreReadBy (spelling K.rules P.rules) }
 {}

@@ -15,16 +15,18 @@ mod pair_reader;
 mod pair_writer;
 mod parts;
 mod reader;
+mod spelling;
 mod tree_graph;
 mod writer;
 
 pub use builder::{Opened, ascends};
 pub use cotree::{has_no_prime, is_cotree};
 pub use grammar::split_letter;
-pub use parts::{Part, build, nodes_of};
-pub use reader::{TreeFault, read_tree};
+pub use parts::{Part, PartOf, build, nodes_of};
+pub use reader::{TreeFault, read_tree, read_tree_of};
+pub use spelling::{Lettered, Paired};
 pub use tree_graph::graph_of;
-pub use writer::{push_text, text};
+pub use writer::{push_text, push_text_of, text};
 
 /// The kind of a node of a tree: its leaf set has no edge across some split, every edge across some
 /// split, or neither.
@@ -46,19 +48,22 @@ pub struct Pair {
 /// A tree over names: a name, or a node with its kind, its children, and the pairs of children that
 /// it lists.
 #[cycle(tree)]
-pub enum Tree {
+pub enum TreeOf<K: Drop, P: Drop> {
     Leaf(u32),
-    Node(Kind, Children, QuotientEdges),
+    Node(K, ChildrenOf<K, P>, PairsOf<P>),
 }
+
+/// A tree of a graph.
+pub type Tree = TreeOf<Kind, Pair>;
 
 // Each drop of a tree is written into the code that drops a list of trees: a level of a deep tree
 // takes one frame of it, where a derived drop takes a second one.
-impl Drop for Tree {
+impl<K: Drop, P: Drop> Drop for TreeOf<K, P> {
     #[inline(always)]
     fn drop(self) {
         match self {
-            Tree::Leaf(_) => {}
-            Tree::Node(_, _, _) => {}
+            TreeOf::Leaf(_) => {}
+            TreeOf::Node(_, _, _) => {}
         }
     }
 }
@@ -66,17 +71,23 @@ impl Drop for Tree {
 /// The children of a node, in their order.
 #[cycle(tree)]
 #[derive(Drop)]
-pub struct Children {
-    pub list: Vec<Tree>,
+pub struct ChildrenOf<K: Drop, P: Drop> {
+    pub list: Vec<TreeOf<K, P>>,
 }
+
+/// The children of a node of a graph's tree.
+pub type Children = ChildrenOf<Kind, Pair>;
 
 /// The pairs of children that a node lists, in their order.
 #[derive(Drop)]
-pub struct QuotientEdges {
-    pub list: Vec<Pair>,
+pub struct PairsOf<P: Drop> {
+    pub list: Vec<P>,
 }
 
-impl Children {
+/// The pairs of children of a prime node between which edges run.
+pub type QuotientEdges = PairsOf<Pair>;
+
+impl<K: Drop, P: Drop> ChildrenOf<K, P> {
     /// How many children there are.
     pub fn len(&self) -> u64
         ensures value { result ≡ length (trees_of self.now) }
@@ -85,7 +96,7 @@ impl Children {
     }
 
     /// The child at a position, counted from 0.
-    pub fn get(&self, i: u64) -> &Tree
+    pub fn get(&self, i: u64) -> &TreeOf<K, P>
         requires { i < length (trees_of self.now) }
         ensures value { result.now ≡ slice_index_or (trees_of self.now) i result.now }
     {
@@ -93,7 +104,7 @@ impl Children {
     }
 }
 
-impl QuotientEdges {
+impl<P: Drop> PairsOf<P> {
     /// How many pairs there are.
     pub fn len(&self) -> u64
         ensures value { result ≡ vec_len self.now.list }
@@ -102,7 +113,7 @@ impl QuotientEdges {
     }
 
     /// The pair at a position, counted from 0.
-    pub fn get(&self, i: u64) -> &Pair
+    pub fn get(&self, i: u64) -> &P
         requires { i < vec_len self.now.list }
         ensures value { result.now ≡ slice_index_or self.now.list.items i result.now }
     {

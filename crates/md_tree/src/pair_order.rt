@@ -1,16 +1,17 @@
 //! The order in which a prime node lists its pairs, and the positions that they may be of.
 ghost use Rattle.std.specs.Prelude.{◌≡◌, ◌<◌, ◌+◌, ◌*◌, ◌↔◌, IsTrue};
+ghost use Rattle.md_tree.specs.Spellings.{graph_pairs};
 ghost use Rattle.md_tree.specs.StrongTrees.{IsPairBefore};
 ghost use Rattle.md_tree.specs.Held.{MayFollow};
 
 use crate::Pair;
 
-// Whether pairs may be listed with one more behind the last of them.
+// Whether a node with so many children may list the pair behind another one.
 #[inline(always)]
-pub(crate) fn still_listed(listed: bool, last: Pair, pair: Pair, count: usize) -> bool
-    ensures { IsTrue result ↔ (IsTrue listed × MayFollow count last pair) }
+pub(crate) fn is_listed_behind(last: Pair, pair: Pair, count: usize) -> bool
+    ensures { IsTrue result ↔ MayFollow graph_pairs count last pair }
 {
-    listed && is_before(last, pair) && is_of_positions(pair, count)
+    is_before(last, pair) && is_of_positions(pair, count)
 }
 
 #[inline(always)]

@@ -1,42 +1,37 @@
-//! Reads the end of a node: the pairs of a prime one, and the bracket.
+//! Reads the end of a node: the pairs that it lists, and the bracket.
 ghost use Rattle.std.specs.Prelude.{◌≡◌, ◌≢◌, ◌+◌, ◌<◌, ◌≤◌, ◌↔◌, ℕ, List, [], ◌∷◌, ◌++◌, true, length, take, drop, IfOk, IfSome, MatchOption, IsTrue};
 ghost use Rattle.md_graph.specs.declared.TheConstants.{NAMES};
 ghost use Rattle.md_text.specs.Numbers.{decimal};
-ghost use Rattle.md_tree.specs.declared.Pair.{Pair};
-ghost use Rattle.md_tree.specs.TreeTexts.{pairs_text};
-ghost use Rattle.md_tree.specs.declared.Kind.TheVariants.{Prime};
-ghost use Rattle.md_tree.specs.StrongTrees.{IsPairBefore};
+ghost use Rattle.md_tree.specs.TreeTexts.{pairs_text_by};
 ghost use Rattle.md_text.specs.Fronts.{LacksFirst};
-ghost use Rattle.md_tree.specs.Held.{LacksEnd, IsEnd, LacksPairs, LacksPair, pair_before, AreListed};
+ghost use Rattle.md_tree.specs.Held.{LacksEnd, IsEnd, LacksPairs, LacksPair, mark_of, AreListed, MayFollow};
 
+use crate::Paired;
 use crate::growing::append;
-use crate::pair_order::still_listed;
-use crate::{Kind, Pair};
 use md_graph::Memory;
 use md_text::{skip_byte, small_number};
 use std::alloc::Global;
 
-// The pairs of a node of the kind with so many children, and what stands behind its bracket; none
-// if no pairs that it may list stand there, with the bracket behind them.
-pub(crate) fn read_end<'a>(
+// The pairs of a node with so many children, if its kind lists some, and what stands behind its
+// bracket; none if no pairs that it may list stand there, with the bracket behind them.
+pub(crate) fn read_end<'a, P: Paired>(
     alloc: Global,
     text: &'a [u8],
-    kind: Kind,
+    lists: bool,
     count: usize,
-) -> Result<Option<(Vec<Pair>, &'a [u8])>, Memory>
+) -> Result<Option<(Vec<P>, &'a [u8])>, Memory>
     requires { count ≤ NAMES }
-    ensures { IfOk result (λ o. MatchOption o (LacksEnd kind count text.now)
-        (λ p. IsEnd kind count text.now p.0.items p.1.now)) }
+    ensures { IfOk result (λ o. MatchOption o (LacksEnd P.rules lists count text.now)
+        (λ p. IsEnd P.rules lists count text.now p.0.items p.1.now)) }
 {
-    match kind {
-        Kind::Parallel => Ok(read_bracket(alloc, text)),
-        Kind::Series => Ok(read_bracket(alloc, text)),
-        Kind::Prime => read_prime_end(alloc, text, count),
+    if lists {
+        return read_listing_end(alloc, text, count);
     }
+    Ok(read_bracket(alloc, text))
 }
 
 // The bracket of a node without pairs.
-fn read_bracket<'a>(alloc: Global, text: &'a [u8]) -> Option<(Vec<Pair>, &'a [u8])>
+fn read_bracket<'a, P: Paired>(alloc: Global, text: &'a [u8]) -> Option<(Vec<P>, &'a [u8])>
     ensures { MatchOption result (LacksFirst 41 text.now)
         (λ p. (p.0.items ≡ []) × (text.now ≡ 41 ∷ p.1.now)) }
 {
@@ -46,15 +41,15 @@ fn read_bracket<'a>(alloc: Global, text: &'a [u8]) -> Option<(Vec<Pair>, &'a [u8
     }
 }
 
-// The end of a prime node.
-fn read_prime_end<'a>(
+// The end of a node that lists pairs.
+fn read_listing_end<'a, P: Paired>(
     alloc: Global,
     text: &'a [u8],
     count: usize,
-) -> Result<Option<(Vec<Pair>, &'a [u8])>, Memory>
+) -> Result<Option<(Vec<P>, &'a [u8])>, Memory>
     requires { count ≤ NAMES }
-    ensures { IfOk result (λ o. MatchOption o (LacksEnd Prime count text.now)
-        (λ p. IsEnd Prime count text.now p.0.items p.1.now)) }
+    ensures { IfOk result (λ o. MatchOption o (LacksEnd P.rules true count text.now)
+        (λ p. IsEnd P.rules true count text.now p.0.items p.1.now)) }
 {
     let Ok(behind) = skip_byte(text, b';') else {
         return Ok(None);
@@ -73,24 +68,25 @@ fn read_prime_end<'a>(
 // The pairs behind a semicolon, whether a node with so many children may list them, and what stands
 // behind the bracket. Not inlined, so that the loop over a tree's text stays small.
 #[inline(never)]
-fn read_pairs<'a>(
+fn read_pairs<'a, P: Paired>(
     alloc: Global,
     text: &'a [u8],
     count: usize,
-) -> Result<Option<(Vec<Pair>, bool, &'a [u8])>, Memory>
+) -> Result<Option<(Vec<P>, bool, &'a [u8])>, Memory>
     requires { count ≤ NAMES }
-    ensures { IfOk result (λ o. MatchOption o (LacksPairs text.now)
-        (λ p. (p.0.items ≢ []) × (IsTrue p.1 ↔ AreListed count p.0.items)
-        × (59 ∷ text.now ≡ pairs_text 59 p.0.items ++ 41 ∷ p.2.now))) }
+    ensures { IfOk result (λ o. MatchOption o (LacksPairs P.rules text.now)
+        (λ p. (p.0.items ≢ []) × (IsTrue p.1 ↔ AreListed P.rules count p.0.items)
+        × (59 ∷ text.now ≡ pairs_text_by P.rules 59 p.0.items ++ 41 ∷ p.2.now))) }
 {
     let mut pairs = Vec::new(alloc);
     let mut rest = text;
-    let mut last = Pair { low: 0, high: 0 };
+    let mut last = P::pair(0, 0);
     let mut listed = true;
     loop {
-        let Some((pair, more, tail)) = read_any_pair(rest) else {
+        let Some((first, second, more, tail)) = read_positions::<P>(rest) else {
             return Ok(None);
         };
+        let pair = P::pair(first, second);
         listed = still_listed(listed, last, pair, count);
         append(&mut pairs, pair)?;
         if !more {
@@ -101,23 +97,33 @@ fn read_pairs<'a>(
     }
 }
 
-// A pair, whether another one follows, and what stands behind the mark that tells it.
+// Whether pairs may be listed with one more behind the last of them.
 #[inline(always)]
-fn read_any_pair<'a>(text: &'a [u8]) -> Option<(Pair, bool, &'a [u8])>
-    ensures { MatchOption result (LacksPair text.now)
-        (λ p. text.now ≡ pair_before p.0 p.1 p.2.now) }
+fn still_listed<P: Paired>(listed: bool, last: P, pair: P, count: usize) -> bool
+    ensures { IsTrue result ↔ (IsTrue listed × MayFollow P.rules count last pair) }
 {
-    let (low, hyphen) = small_number(text)?;
-    let Ok(second) = skip_byte(hyphen, b'-') else {
+    listed && pair.may_follow(last, count)
+}
+
+// The positions of a pair, whether another one follows, and what stands behind the mark that tells
+// it.
+#[inline(always)]
+fn read_positions<'a, P: Paired>(text: &'a [u8]) -> Option<(u32, u32, bool, &'a [u8])>
+    ensures { MatchOption result (LacksPair P.rules text.now)
+        (λ p. text.now
+        ≡ decimal p.0 ++ P.rules.between ∷ (decimal p.1 ++ mark_of p.2 ∷ p.3.now)) }
+{
+    let (first, between) = small_number(text)?;
+    let Ok(behind) = skip_byte(between, P::between()) else {
         return None;
     };
-    let (high, mark) = small_number(second)?;
-    let (first, tail) = mark.split_first()?;
-    if *first == b',' {
-        return Some((Pair { low, high }, true, tail));
+    let (second, end) = small_number(behind)?;
+    let (mark, tail) = end.split_first()?;
+    if *mark == b',' {
+        return Some((first, second, true, tail));
     }
-    if *first == b')' {
-        return Some((Pair { low, high }, false, tail));
+    if *mark == b')' {
+        return Some((first, second, false, tail));
     }
     None
 }

@@ -20,10 +20,10 @@ const MOST_DIGITS: usize = 10;
 // So many bytes have room for a pair of two of them.
 const PAIR_ROOM: usize = 16;
 
-// What a writer of pairs needs beside the text: the positions of children as pieces, and a chunk in
-// which pairs are gathered.
+/// What a writer of pairs needs beside the text: the positions of children as pieces, and a chunk
+/// in which pairs are gathered.
 #[derive(Drop)]
-pub(crate) struct Workspace {
+pub struct Workspace {
     positions: Vec<Piece>,
     chunk: Chunk,
     ghost spelled: { ArePositions positions.items },
@@ -48,7 +48,7 @@ struct Start {
 }
 
 // The semicolon and the pairs, where there are some, of a node with `count` children.
-pub(crate) fn push_pairs(
+pub(crate) fn push_edges(
     text: &mut Vec<u8>,
     edges: &QuotientEdges,
     count: usize,
@@ -278,9 +278,25 @@ fn push_pair(text: &mut Vec<u8>, mark: u8, pair: Pair) -> Result<(), Memory>
         ≡ text.old.items ++ mark ∷ (decimal pair.low ++ 45 ∷ decimal pair.high)) }
     ensures begun { OnErr result (BeginsWith text.new.items text.old.items) }
 {
+    push_positions(text, mark, pair.low, b'-', pair.high)
+}
+
+// Two positions with a mark between them, behind another mark.
+#[inline(always)]
+pub(crate) fn push_positions(
+    text: &mut Vec<u8>,
+    mark: u8,
+    first: u32,
+    between: u8,
+    second: u32,
+) -> Result<(), Memory>
+    ensures written { OnOk result (text.new.items
+        ≡ text.old.items ++ mark ∷ (decimal first ++ between ∷ decimal second)) }
+    ensures begun { OnErr result (BeginsWith text.new.items text.old.items) }
+{
     text.push(mark)?;
-    push_number(text, u64::from(pair.low))?;
-    text.push(b'-')?;
-    push_number(text, u64::from(pair.high))?;
+    push_number(text, u64::from(first))?;
+    text.push(between)?;
+    push_number(text, u64::from(second))?;
     Ok(())
 }

@@ -1,28 +1,34 @@
 //! The parts of a tree, and the tree that is put together from them.
 ghost use Rattle.std.specs.Prelude.{◌≡◌, [], ◌∷◌, ◌++◌, map, IfOk};
-ghost use Rattle.md_tree.specs.Trees.{PlainTree};
+ghost use Rattle.md_tree.specs.Trees.{PlainTreeOf};
 ghost use Rattle.md_tree.specs.Plain.{plain};
 ghost use Rattle.md_tree.specs.Parts.{plain_part, part_of, parts_of, plain_at, below_node};
 ghost use Rattle.md_tree.specs.NodeLists.{nodes_backward};
 ghost use Rattle.md_tree.specs.Stacks.{with_part, HasChildrenOf};
 
-use crate::{Children, Kind, QuotientEdges, Tree};
+use crate::{ChildrenOf, Kind, Pair, PairsOf, TreeOf};
 use md_graph::Memory;
 use std::alloc::Global;
 
 /// A node of a tree without those below it: a name, or a kind with the number of children and the
 /// pairs of them that it lists.
 #[derive(Drop)]
-pub enum Part {
+pub enum PartOf<K: Drop, P: Drop> {
     Leaf(u32),
-    Node(Kind, u64, QuotientEdges),
+    Node(K, u64, PairsOf<P>),
 }
+
+/// A node of a graph's tree without those below it.
+pub type Part = PartOf<Kind, Pair>;
 
 /// The tree whose parts these are: each node before its children, and these from the last to the
 /// first. No call nests as deep as the tree. Errors: want of memory.
-pub fn build(alloc: Global, mut parts: Vec<Part>) -> Result<Tree, Memory>
-    requires { (t : PlainTree) × (map plain_part parts.items ≡ parts_of t) }
-    ensures tree { IfOk result (λ tree. (t : PlainTree)
+pub fn build<K: Drop, P: Drop>(
+    alloc: Global,
+    mut parts: Vec<PartOf<K, P>>,
+) -> Result<TreeOf<K, P>, Memory>
+    requires { (t : PlainTreeOf K P) × (map plain_part parts.items ≡ parts_of t) }
+    ensures tree { IfOk result (λ tree. (t : PlainTreeOf K P)
         → map plain_part parts.items ≡ parts_of t → plain tree ≡ t) }
 {
     let mut stack = Vec::with_capacity(alloc, parts.len())?;
@@ -36,17 +42,20 @@ pub fn build(alloc: Global, mut parts: Vec<Part>) -> Result<Tree, Memory>
 }
 
 // A name becomes a tree, and a node takes its children, which are the last trees, in order.
-fn put_part(stack: &mut Vec<Tree>, part: Part) -> Result<(), Memory>
+fn put_part<K: Drop, P: Drop>(
+    stack: &mut Vec<TreeOf<K, P>>,
+    part: PartOf<K, P>,
+) -> Result<(), Memory>
     requires { HasChildrenOf (plain_part part) (map plain stack.old.items) }
     ensures { IfOk result (λ _. map plain stack.new.items
         ≡ with_part (plain_part part) (map plain stack.old.items)) }
 {
     match part {
-        Part::Leaf(name) => stack.push(Tree::Leaf(name))?,
-        Part::Node(kind, number, edges) => {
+        PartOf::Leaf(name) => stack.push(TreeOf::Leaf(name))?,
+        PartOf::Node(kind, number, pairs) => {
             let below = stack.len() - number as usize;
             let list = stack.split_off(below)?;
-            stack.push(Tree::Node(kind, Children { list }, edges))?;
+            stack.push(TreeOf::Node(kind, ChildrenOf { list }, pairs))?;
         }
     }
     Ok(())
@@ -54,7 +63,10 @@ fn put_part(stack: &mut Vec<Tree>, part: Part) -> Result<(), Memory>
 
 /// The nodes of a tree: each before its children, and these from the last to the first. No call
 /// nests as deep as the tree. Errors: want of memory.
-pub fn nodes_of(alloc: Global, tree: &Tree) -> Result<Vec<&Tree>, Memory>
+pub fn nodes_of<K: Drop, P: Drop>(
+    alloc: Global,
+    tree: &TreeOf<K, P>,
+) -> Result<Vec<&TreeOf<K, P>>, Memory>
     ensures nodes { IfOk result (λ list. map plain_at list.items
         ≡ nodes_backward (plain tree.now)) }
     ensures parts { IfOk result (λ list. map (λ r. part_of (plain_at r)) list.items
@@ -71,11 +83,14 @@ pub fn nodes_of(alloc: Global, tree: &Tree) -> Result<Vec<&Tree>, Memory>
 }
 
 // Appends the children of a node.
-fn push_children<'a>(node: &'a Tree, waiting: &mut Vec<&'a Tree>) -> Result<(), Memory>
+fn push_children<'a, K: Drop, P: Drop>(
+    node: &'a TreeOf<K, P>,
+    waiting: &mut Vec<&'a TreeOf<K, P>>,
+) -> Result<(), Memory>
     ensures { IfOk result (λ _. map plain_at waiting.new.items
         ≡ map plain_at waiting.old.items ++ below_node (plain node.now)) }
 {
-    if let Tree::Node(_, children, _) = node {
+    if let TreeOf::Node(_, children, _) = node {
         for child in &children.list {
             waiting.push(child)?;
         }

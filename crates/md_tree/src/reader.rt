@@ -1,12 +1,13 @@
 //! Reads the text of a tree.
 ghost use Rattle.std.specs.Prelude.{◌≡◌, ◌≢◌, codes};
 ghost use Rattle.md_tree.specs.declared.reader.TreeFault.TheVariants.{Memory as NoMemory};
+ghost use Rattle.md_tree.specs.Spellings.{spelling};
 ghost use Rattle.md_tree.specs.Held.{AreUseless};
-ghost use Rattle.md_tree.specs.Reading.{IsTreeReading};
+ghost use Rattle.md_tree.specs.Reading.{IsTreeReading, IsTreeReadingBy};
 
-use crate::Tree;
 use crate::builder::tree_of_text;
 use crate::grammar::leaves_grammar_at;
+use crate::{Lettered, Paired, Tree, TreeOf};
 use md_graph::Memory;
 use std::alloc::Global;
 use thiserror::Error;
@@ -43,6 +44,16 @@ impl From<Memory> for TreeFault {
 pub fn read_tree(alloc: Global, bytes: &[u8]) -> Result<Option<Tree>, TreeFault>
     ensures reading { IsTreeReading bytes.now result }
 {
+    read_tree_of(alloc, bytes)
+}
+
+/// The same of trees over any kinds and pairs that are spelled.
+pub fn read_tree_of<K: Lettered, P: Paired>(
+    alloc: Global,
+    bytes: &[u8],
+) -> Result<Option<TreeOf<K, P>>, TreeFault>
+    ensures reading { IsTreeReadingBy (spelling K.rules P.rules) bytes.now result }
+{
     if bytes == b"empty".as_slice() {
         return Ok(None);
     }
@@ -55,12 +66,15 @@ pub fn read_tree(alloc: Global, bytes: &[u8]) -> Result<Option<Tree>, TreeFault>
 // Why bytes are not read that are no well-formed tree's text. Not inlined, so that the loop over a
 // tree's text stays small.
 #[inline(never)]
-fn refuse(alloc: Global, bytes: &[u8]) -> Result<Option<Tree>, TreeFault>
-    requires tree { AreUseless bytes.now }
+fn refuse<K: Lettered, P: Paired>(
+    alloc: Global,
+    bytes: &[u8],
+) -> Result<Option<TreeOf<K, P>>, TreeFault>
+    requires tree { AreUseless (spelling K.rules P.rules) bytes.now }
     requires word { bytes.now ≢ codes "empty" }
-    ensures { IsTreeReading bytes.now result }
+    ensures { IsTreeReadingBy (spelling K.rules P.rules) bytes.now result }
 {
-    match leaves_grammar_at(alloc, bytes)? {
+    match leaves_grammar_at::<K, P>(alloc, bytes)? {
         Some(place) => Err(TreeFault::Syntax { place }),
         None => Err(TreeFault::NotCanonical),
     }

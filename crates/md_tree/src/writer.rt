@@ -3,10 +3,11 @@ ghost use Rattle.std.specs.Prelude.{◌≡◌, ◌<◌, [], ◌++◌, length, If
 ghost use Rattle.md_text.specs.Fronts.{BeginsWith};
 ghost use Rattle.md_tree.specs.Plain.{plain, plain_option};
 ghost use Rattle.md_tree.specs.OpenNodes.{open_text, rest_text};
-ghost use Rattle.md_tree.specs.TreeTexts.{letter, tree_text, text_of};
+ghost use Rattle.md_tree.specs.Spellings.{spelling};
+ghost use Rattle.md_tree.specs.TreeTexts.{tree_text_by, text_of, text_of_by};
 
-use crate::pair_writer::{Workspace, push_pairs};
-use crate::{Kind, QuotientEdges, Tree};
+use crate::pair_writer::Workspace;
+use crate::{Lettered, Paired, PairsOf, Tree, TreeOf};
 use md_graph::Memory;
 use md_text::push_number;
 use std::alloc::Global;
@@ -30,6 +31,19 @@ pub fn push_text(alloc: Global, text: &mut Vec<u8>, tree: &Option<Tree>) -> Resu
         ≡ text.old.items ++ text_of (plain_option tree.now)) }
     ensures stays { OnErr result (text.new.items ≡ text.old.items) }
 {
+    push_text_of(alloc, text, tree)
+}
+
+/// The same of trees over any kinds and pairs that are spelled.
+pub fn push_text_of<K: Lettered, P: Paired>(
+    alloc: Global,
+    text: &mut Vec<u8>,
+    tree: &Option<TreeOf<K, P>>,
+) -> Result<(), Memory>
+    ensures written { OnOk result (text.new.items
+        ≡ text.old.items ++ text_of_by (spelling K.rules P.rules) (plain_option tree.now)) }
+    ensures stays { OnErr result (text.new.items ≡ text.old.items) }
+{
     let Some(tree) = tree else {
         text.extend_from_slice(b"empty")?;
         return Ok(());
@@ -43,36 +57,26 @@ pub fn push_text(alloc: Global, text: &mut Vec<u8>, tree: &Option<Tree>) -> Resu
     Ok(())
 }
 
-fn letter(kind: Kind) -> u8
-    ensures { result ≡ letter kind }
-{
-    match kind {
-        Kind::Parallel => b'P',
-        Kind::Series => b'S',
-        Kind::Prime => b'R',
-    }
-}
-
 // A node whose letter stands in the text: its children that are still to come, the mark before the
 // first of them, and its pairs.
 #[derive(Drop)]
-struct Open<'a> {
+struct Open<'a, K: Drop, P: Drop> {
     mark: u8,
-    children: &'a [Tree],
+    children: &'a [TreeOf<K, P>],
     count: usize,
-    edges: &'a QuotientEdges,
+    pairs: &'a PairsOf<P>,
 }
 
 // The open nodes stand on a stack of their own, the innermost last, so that no call nests as deep
 // as the tree.
-fn push_tree(
+fn push_tree<K: Lettered, P: Paired>(
     alloc: Global,
     text: &mut Vec<u8>,
-    tree: &Tree,
+    tree: &TreeOf<K, P>,
     space: &mut Workspace,
 ) -> Result<(), Memory>
     ensures written { OnOk result (text.new.items
-        ≡ text.old.items ++ tree_text (plain tree.now)) }
+        ≡ text.old.items ++ tree_text_by (spelling K.rules P.rules) (plain tree.now)) }
     ensures begun { BeginsWith text.new.items text.old.items }
 {
     let mut open = Vec::new(alloc);
@@ -85,24 +89,26 @@ fn push_tree(
 
 // A name, or the letter of a node, which then is open.
 #[tactic(auto, using(crate::proofs::Plain::plain_is_leaf, crate::proofs::Plain::plain_is_node))]
-fn push_begin<'a>(
+fn push_begin<'a, K: Lettered, P: Paired>(
     text: &mut Vec<u8>,
-    tree: &'a Tree,
-    open: &mut Vec<Open<'a>>,
+    tree: &'a TreeOf<K, P>,
+    open: &mut Vec<Open<'a, K, P>>,
 ) -> Result<(), Memory>
-    ensures written { OnOk result (text.new.items ++ rest_text open.new.items
-        ≡ text.old.items ++ (tree_text (plain tree.now) ++ rest_text open.old.items)) }
+    ensures written { OnOk result (text.new.items
+        ++ rest_text (spelling K.rules P.rules) open.new.items
+        ≡ text.old.items ++ (tree_text_by (spelling K.rules P.rules) (plain tree.now)
+        ++ rest_text (spelling K.rules P.rules) open.old.items)) }
     ensures begun { BeginsWith text.new.items text.old.items }
 {
     match tree {
-        Tree::Leaf(name) => push_number(text, u64::from(*name))?,
-        Tree::Node(kind, children, edges) => {
-            text.push(letter(*kind))?;
+        TreeOf::Leaf(name) => push_number(text, u64::from(*name))?,
+        TreeOf::Node(kind, children, pairs) => {
+            text.push(kind.letter())?;
             open.push(Open {
                 mark: b'(',
                 children: &children.list,
                 count: children.list.len(),
-                edges,
+                pairs,
             })?;
         }
     }
@@ -111,14 +117,16 @@ fn push_begin<'a>(
 
 // What comes next of a node that was open: its children up to the beginning of one that is a node,
 // or its end.
-fn push_some<'a>(
+fn push_some<'a, K: Lettered, P: Paired>(
     text: &mut Vec<u8>,
-    node: Open<'a>,
-    open: &mut Vec<Open<'a>>,
+    node: Open<'a, K, P>,
+    open: &mut Vec<Open<'a, K, P>>,
     space: &mut Workspace,
 ) -> Result<(), Memory>
-    ensures written { OnOk result (text.new.items ++ rest_text open.new.items
-        ≡ text.old.items ++ (open_text node.entry ++ rest_text open.old.items)) }
+    ensures written { OnOk result (text.new.items
+        ++ rest_text (spelling K.rules P.rules) open.new.items
+        ≡ text.old.items ++ (open_text (spelling K.rules P.rules) node.entry
+        ++ rest_text (spelling K.rules P.rules) open.old.items)) }
     ensures begun { BeginsWith text.new.items text.old.items }
     ensures longer { OnOk result (length text.old.items < length text.new.items) }
 {
@@ -131,21 +139,25 @@ fn push_some<'a>(
         mark: b',',
         children: others,
         count: node.count,
-        edges: node.edges,
+        pairs: node.pairs,
     })?;
     push_begin(text, child, open)?;
     Ok(())
 }
 
 // The children that are names, up to the first that is none: the node has the others left.
-fn push_leaves<'a>(text: &mut Vec<u8>, node: Open<'a>) -> Result<Open<'a>, Memory>
-    ensures written { IfOk result (λ left. text.new.items ++ open_text left
-        ≡ text.old.items ++ open_text node.entry) }
+fn push_leaves<'a, K: Lettered, P: Paired>(
+    text: &mut Vec<u8>,
+    node: Open<'a, K, P>,
+) -> Result<Open<'a, K, P>, Memory>
+    ensures written { IfOk result (λ left.
+        text.new.items ++ open_text (spelling K.rules P.rules) left
+        ≡ text.old.items ++ open_text (spelling K.rules P.rules) node.entry) }
     ensures begun { BeginsWith text.new.items text.old.items }
 {
     let mut mark = node.mark;
     let mut children = node.children;
-    while let Some((Tree::Leaf(name), others)) = children.split_first() {
+    while let Some((TreeOf::Leaf(name), others)) = children.split_first() {
         text.push(mark)?;
         push_number(text, u64::from(*name))?;
         mark = b',';
@@ -155,18 +167,23 @@ fn push_leaves<'a>(text: &mut Vec<u8>, node: Open<'a>) -> Result<Open<'a>, Memor
         mark,
         children,
         count: node.count,
-        edges: node.edges,
+        pairs: node.pairs,
     })
 }
 
 // The pairs and the closing bracket of a node without children left.
-fn push_end(text: &mut Vec<u8>, node: Open, space: &mut Workspace) -> Result<(), Memory>
+fn push_end<K: Lettered, P: Paired>(
+    text: &mut Vec<u8>,
+    node: Open<K, P>,
+    space: &mut Workspace,
+) -> Result<(), Memory>
     requires { node.children.now ≡ [] }
-    ensures written { OnOk result (text.new.items ≡ text.old.items ++ open_text node.entry) }
+    ensures written { OnOk result (text.new.items
+        ≡ text.old.items ++ open_text (spelling K.rules P.rules) node.entry) }
     ensures begun { BeginsWith text.new.items text.old.items }
     ensures longer { OnOk result (length text.old.items < length text.new.items) }
 {
-    push_pairs(text, node.edges, node.count, space)?;
+    P::push_pairs(text, node.pairs, node.count, space)?;
     text.push(b')')?;
     Ok(())
 }

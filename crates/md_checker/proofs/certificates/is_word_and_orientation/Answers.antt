@@ -2,7 +2,7 @@ use Rattle.std.proofs.Common.{rules, ◌++◌, length, refl, subst, eqb-true, eq
 use Rattle.std.proofs.lemmas.Slice.Eq.{strip_prefix_is}
 use Rattle.md_graph.specs.PlainGraph.{adjacent}
 use Rattle.md_comparability.specs.Listed.{arcs_below}
-use Rattle.md_comparability.specs.Walking.{IsClassOrChosen, HasRoom}
+use Rattle.md_comparability.specs.Walking.{IsClassOrChosen, HasArcRoom}
 use Rattle.md_tree.proofs.Stacking.{if_ok}
 use Rattle.md_checker.proofs.ArcTexts.{chosen_within}
 use Rattle.md_checker.proofs.InStep.{whole_listed}
@@ -10,7 +10,7 @@ use Rattle.md_checker.proofs.certificates.is_word_and_orientation.Goals as goal
 
 pub spells_arcs-requires : goal.spells_arcs-requires
 spells_arcs-requires g c =
-    let within = chosen_within c.vertices-vertices.ensures.graph c.in-Whole.chosen (subst (IsClassOrChosen (adjacent c.args.graph.now)) c.in-Whole.is c.in_ok-orient_classes.ensures.ending) (subst (HasRoom c.args.graph.now.vertices) c.in-Whole.is c.in_ok-orient_classes.ensures.room) in
+    let within = chosen_within c.vertices-vertices.ensures.graph c.in-Whole.chosen (subst (IsClassOrChosen (adjacent c.args.graph.now)) c.in-Whole.is c.in_ok-orient_classes.ensures.ending) (subst (HasArcRoom c.args.graph.now.vertices) c.in-Whole.is c.in_ok-orient_classes.ensures.room) in
     (search rules, within)
 
 pub returns : goal.returns

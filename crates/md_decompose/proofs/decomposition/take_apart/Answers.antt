@@ -1,6 +1,6 @@
 use Rattle.std.proofs.Common.{◌≡◌, [], map, IfOk, refl, sym, ap, subst, append-nil}
 use Rattle.md_graph.specs.PlainGraph.{adjacent}
-use Rattle.md_tree.specs.declared.parts.Part.TheVariants.{Leaf}
+use Rattle.md_tree.specs.declared.parts.PartOf.TheVariants.{Leaf}
 use Rattle.md_tree.specs.Parts.{plain_part, name}
 use Rattle.md_tree.proofs.Stacking.{map_one_more}
 use Rattle.md_decompose.specs.Turns.{open_names, TakesApart}

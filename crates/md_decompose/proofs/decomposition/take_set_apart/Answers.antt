@@ -4,7 +4,7 @@ use Rattle.md_graph.specs.Sets.{Within, HasTwo}
 use Rattle.md_tree.specs.StrongTrees.{HasKind}
 use Rattle.md_decompose.specs.Children.{AreChildren, FitsBelow}
 use Rattle.md_decompose.specs.Chains.{IsChainOf}
-use Rattle.md_tree.specs.declared.parts.Part.TheVariants.{Node}
+use Rattle.md_tree.specs.declared.parts.PartOf.TheVariants.{Node}
 use Rattle.md_tree.specs.Parts.{plain_part, inner}
 use Rattle.md_decompose.proofs.Opened.{opened_children, chain_known}
 use Rattle.md_tree.proofs.Stacking.{map_one_more, if_ok}

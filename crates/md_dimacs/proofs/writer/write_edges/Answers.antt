@@ -54,8 +54,7 @@ write_row-requires g c =
     let turn = walk_turn c.args.graph.now.vertices c.loop-v.invariant.coming.0 NAMES c.in-Some.v _ _ c.loop-v.invariant.coming.1 c.in-Some.ensures.steps in
     let place = c.requires.places.place_of c.in-Some.v turn.item.member in
     let start = c.start_piece-start.ensures (32 ∷ decimal (position c.args.graph.now c.in-Some.v)) 10 (ap piece_text c.index-places-v.is ∙ place.text c.index-places-v.result) in
-    let row = c.vertices.ensures.below c.in-Some.v turn.item.member in
-    (search rules, (turn.item.below, (row, (c.requires.room, (start, c.requires.places)))))
+    (search rules, (turn.item.below, (turn.item.member, (c.requires.room, (start, c.requires.places)))))
 
 pub loop-v-preserved : goal.loop-v-preserved
 loop-v-preserved g c =

@@ -17,16 +17,16 @@ loop-first-init g c = record {
 pub write_block-requires-clause-there : goal.write_block-requires-clause-there
 write_block-requires-clause-there g c =
     let fits = word_fits c.loop-first.first c.loop-first.invariant.aligned (omega (arith, c.requires.places.named)) in
-    let has = λ (k : ℕ) (h : k < 64). ap (λ s. set.contains s (c.loop-first.first + k)) (sym c.row-row.ensures.set) ∙ c.block.ensures.bits k h in
+    let has = λ (k : ℕ) (h : k < 64). ap (λ s. set.contains s (c.loop-first.first + k)) (sym c.neighbours-row.ensures.set) ∙ c.block.ensures.bits k h in
     let cut = block_split (neighbours c.args.graph.now c.args.v) (c.args.v + 1) c.loop-first.first c.block.result c.bits_from-bits.result c.loop-first.invariant.near fits has c.bits_from-bits.ensures in
-    all_there c.args.graph.now c.args.places.now _ (block_places c.args.graph.now c.row-row.ensures.graph c.args.v c.args.places.now c.requires.places _ _ _ cut)
+    all_there c.args.graph.now c.args.places.now _ (block_places c.args.graph.now c.neighbours-row.ensures.graph c.args.v c.args.places.now c.requires.places _ _ _ cut)
 
 pub loop-first-preserved : goal.loop-first-preserved
 loop-first-preserved g c =
     let fits = word_fits c.loop-first.first c.loop-first.invariant.aligned (omega (arith, c.requires.places.named)) in
-    let has = λ (k : ℕ) (h : k < 64). ap (λ s. set.contains s (c.loop-first.first + k)) (sym c.row-row.ensures.set) ∙ c.block.ensures.bits k h in
+    let has = λ (k : ℕ) (h : k < 64). ap (λ s. set.contains s (c.loop-first.first + k)) (sym c.neighbours-row.ensures.set) ∙ c.block.ensures.bits k h in
     let cut = block_split (neighbours c.args.graph.now c.args.v) (c.args.v + 1) c.loop-first.first c.block.result c.bits_from-bits.result c.loop-first.invariant.near fits has c.bits_from-bits.ensures in
-    let places = block_places c.args.graph.now c.row-row.ensures.graph c.args.v c.args.places.now c.requires.places _ _ _ cut in
+    let places = block_places c.args.graph.now c.neighbours-row.ensures.graph c.args.v c.args.places.now c.requires.places _ _ _ cut in
     record {
       aligned = omega (arith, c.loop-first.invariant.aligned);
       named = fits;
@@ -38,4 +38,4 @@ loop-first-preserved g c =
 
 pub returns : goal.returns
 returns g c =
-    block_end c.args.graph.now c.row-row.ensures.graph c.args.v (c.args.v + 1) c.loop-first.first c.args.places.now _ _ c.requires.places c.loop-first-test.false c.loop-first.invariant.written
+    block_end c.args.graph.now c.neighbours-row.ensures.graph c.args.v (c.args.v + 1) c.loop-first.first c.args.places.now _ _ c.requires.places c.loop-first-test.false c.loop-first.invariant.written

@@ -1,7 +1,8 @@
-use Rattle.std.proofs.Common.{◌+◌, ◌*◌, length, arith, ◌∙◌, ap, subst, rules}
+use Rattle.std.proofs.Common.{◌+◌, ◌*◌, length, arith, ◌∙◌, ap, subst, sym, rules}
 use Rattle.std.specs.FinSet as set
 use Rattle.md_graph.specs.declared.TheConstants.{NAMES}
 use Rattle.md_graph.specs.NameSet.{ascending}
+use Rattle.md_graph.specs.Sets.{Has}
 use Rattle.md_graph6.specs.Written.{IsWritten}
 use Rattle.md_graph.proofs.Limits.{NAMES-lt, words_few}
 use Rattle.md_graph.proofs.NameLemmas.{few_below, ascending_items}
@@ -16,12 +17,11 @@ loop-v-init g c = record {
   written = c.requires.blank;
 }
 
-pub row-requires : goal.row-requires
-row-requires g c =
+pub neighbours-requires : goal.neighbours-requires
+neighbours-requires g c =
     let turn = at_turn c.loop-v.invariant.place c.in-Some.v c.next.new.self c.in-Some.ensures.steps in
     let item = ascending_items c.args.graph.now.vertices 0 NAMES c.loop-v.j 0 turn.0 in
-    let below = c.vertices-vertices.ensures.below _ item.member in
-    (search rules, (search rules, omega (arith, turn.1, below)))
+    (search rules, (search rules, subst (Has c.args.graph.now.vertices) (sym turn.1) item.member))
 
 pub gather-requires : goal.gather-requires
 gather-requires g c = (search rules, (search rules, c.loop-v.invariant.place.inside))
@@ -30,7 +30,7 @@ pub put_column-requires : goal.put_column-requires
 put_column-requires g c =
     let turn = at_turn c.loop-v.invariant.place c.in-Some.v c.next.new.self c.in-Some.ensures.steps in
     let limit = c.vertices-vertices.ensures.limit in
-    let few = few_in c.args.graph.now.vertices (64 * g.row.W) c.vertices-vertices.ensures.below (words_few g.row.W limit) in
+    let few = few_in c.args.graph.now.vertices _ c.vertices-vertices.ensures.below (words_few _ limit) in
     let room = pair_mono (c.loop-v.j + 1) (length (ascending c.args.graph.now.vertices)) (omega (arith, turn.0)) in
     (search rules, (limit, (omega (arith, turn.0, few), (c.loop-v.invariant.written.groups, (omega (arith, c.requires.room, pair_next c.loop-v.j, room), c.loop-v.invariant.written.blank)))))
 
@@ -41,7 +41,7 @@ loop-v-preserved g c =
       place = turn.2;
       written =
           IsWritten-more (λ i. set.contains c.gather.new.column (0 + i)) c.loop-v.invariant.written c.put_column.ensures.groups c.put_column.ensures.before c.put_column.ensures.column
-          (gathered_column c.row.result.now c.gather.new.column c.in-Some.v c.loop-v.j c.row.ensures.graph c.row.ensures.set turn.1 c.gather.ensures);
+          (gathered_column c.neighbours.result.now c.gather.new.column c.in-Some.v c.loop-v.j c.neighbours.ensures.graph c.neighbours.ensures.set turn.1 c.gather.ensures);
     }
 
 pub returns : goal.returns

@@ -10,7 +10,22 @@ loop-w-init g c =
     (c.remove.ensures.changed ∙ ap (λ s. remove s c.args.x) (taken_whole c.args.within.now c.clear.new.self c.union_with.new.self c.clear.ensures.changed c.union_with.ensures.changed)) (c.insert.ensures.changed ∙ ap (λ s. insert s c.args.x) c.none-todo.ensures.value)
 
 pub turn-requires : goal.turn-requires
-turn-requires g c = (search rules, (search rules, (c.in-Some.ensures.found.0, (c.in-Some.ensures.found.1, left_apart c.args.within.now c.loop-w.left c.loop-w.todo c.args.value c.args.x c.loop-w.invariant))))
+turn-requires g c = (
+  search rules,
+  (
+    search rules,
+    (
+      c.in-Some.ensures.found.0,
+      (
+        c.requires.inside c.in-Some.w (c.loop-w.invariant.taken c.in-Some.w c.in-Some.ensures.found.0).0,
+        (
+          left_apart c.args.within.now c.loop-w.left c.loop-w.todo c.args.value c.args.x c.loop-w.invariant,
+          λ y h. c.requires.inside y (c.loop-w.invariant.inside y h),
+        ),
+      ),
+    ),
+  ),
+)
 
 pub loop-w-preserved : goal.loop-w-preserved
 loop-w-preserved g c = c.turn.ensures.kept c.args.x c.loop-w.invariant

@@ -12,7 +12,7 @@ loop-y-init g c = record {
 }
 
 pub sees-requires : goal.sees-requires
-sees-requires g c = (search rules, (search rules, (c.members-y-items.ensures.below _ (Walked-item c.loop-y.invariant.all c.in-Some.y _ c.in-Some.ensures.steps), search rules)))
+sees-requires g c = (search rules, (search rules, (c.requires.part c.in-Some.y (Walked-item c.loop-y.invariant.all c.in-Some.y _ c.in-Some.ensures.steps), c.requires.apart)))
 
 pub insert-requires : goal.insert-requires
 insert-requires g c = (search rules, c.members-y-items.ensures.below _ (Walked-item c.loop-y.invariant.all c.in-Some.y _ c.in-Some.ensures.steps))

@@ -9,11 +9,11 @@ loop-o-init g c =
     (Walked-start (c.into_iter-o-iterator.ensures.into_iter_gives ∙ c.members-o-items.ensures.list) c.members-o-items.ensures.names)
 
 pub move_seen-requires : goal.move_seen-requires
-move_seen-requires g c = (search rules, (search rules, c.members-o-items.ensures.below _ (Walked-item c.loop-o.invariant.walked c.in-Some.o _ c.in-Some.ensures.steps)))
+move_seen-requires g c = (search rules, (search rules, c.requires.others c.in-Some.o (Walked-item c.loop-o.invariant.walked c.in-Some.o _ c.in-Some.ensures.steps)))
 
 pub loop-o-preserved : goal.loop-o-preserved
 loop-o-preserved g c =
-    Meeting-more c.requires c.args.names.now c.args.others.now c.args.value c.loop-o.left c.loop-o.met c.move_seen.new.left c.move_seen.new.todo c.loop-o.o-iterator c.loop-o.invariant
+    Meeting-more c.requires.graph c.args.names.now c.args.others.now c.args.value c.loop-o.left c.loop-o.met c.move_seen.new.left c.move_seen.new.todo c.loop-o.o-iterator c.loop-o.invariant
     c.in-Some.o _ c.in-Some.ensures.steps c.move_seen.ensures.left c.move_seen.ensures.todo
 
 pub returns : goal.returns

@@ -20,8 +20,7 @@ loop-p-preserved g c = record {
       let here : IsSplitter (adjacent c.args.graph.now) c.loop-p.left c.args.class.now q = record {
         inside = c.loop-p.invariant.kept q tells;
         outside = tells.outside;
-        sees = tells.sees;
-        misses = tells.misses;
+        tells = tells.tells;
       } in
       clash (c.is_splitter.ensures.1 (subst (IsSplitter (adjacent c.args.graph.now) c.loop-p.left c.args.class.now) same here)) c.if-is_splitter.false
       in

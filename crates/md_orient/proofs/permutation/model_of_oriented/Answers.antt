@@ -1,21 +1,21 @@
 use Rattle.std.proofs.Common.{rules, subst}
 use Rattle.md_forcing.specs.declared.arc_set.Side.TheVariants.{NonEdges}
 use Rattle.md_forcing.specs.Sides.{adjacent_on}
-use Rattle.md_comparability.specs.Walking.{IsClassOrChosen, HasRoom}
+use Rattle.md_comparability.specs.Walking.{IsClassOrChosen, HasArcRoom}
 use Rattle.md_orient.proofs.Modelling.{whole_has_no_chain, two_sides, first_linear, second_linear, placed_realise}
 use Rattle.md_orient.proofs.permutation.model_of_oriented.Goals as goal
 
 pub in_order-requires : goal.in_order-requires
 in_order-requires g c =
     let others = subst (IsClassOrChosen (adjacent_on NonEdges c.args.graph.now)) c.in-Whole.is c.in_ok-trail.ensures.ending in
-    let room = subst (HasRoom c.args.graph.now.vertices) c.in-Whole.is c.in_ok-trail.ensures.room in
+    let room = subst (HasArcRoom c.args.graph.now.vertices) c.in-Whole.is c.in_ok-trail.ensures.room in
     let sides = two_sides c.vertices-vertices.ensures.graph c.args.edges.now c.in-Whole.others c.requires.whole others c.requires.room room in
     (search rules, (search rules, (sides, first_linear c.vertices-vertices.ensures.graph c.args.edges.now c.in-Whole.others c.requires.whole others)))
 
 pub in_order-requires-in-Whole : goal.in_order-requires-in-Whole
 in_order-requires-in-Whole g c =
     let others = subst (IsClassOrChosen (adjacent_on NonEdges c.args.graph.now)) c.in-Whole.is c.in_ok-trail.ensures.ending in
-    let room = subst (HasRoom c.args.graph.now.vertices) c.in-Whole.is c.in_ok-trail.ensures.room in
+    let room = subst (HasArcRoom c.args.graph.now.vertices) c.in-Whole.is c.in_ok-trail.ensures.room in
     let sides = two_sides c.vertices-vertices.ensures.graph c.args.edges.now c.in-Whole.others c.requires.whole others c.requires.room room in
     (search rules, (search rules, (sides, second_linear c.vertices-vertices.ensures.graph c.args.edges.now c.in-Whole.others c.requires.whole others)))
 

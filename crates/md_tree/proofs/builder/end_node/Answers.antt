@@ -4,14 +4,15 @@ use Rattle.std.specs.Prelude.{IsTrue}
 use Rattle.md_graph.specs.declared.TheConstants.{NAMES}
 use Rattle.md_tree.specs.Plain.{plain}
 use Rattle.md_tree.specs.Trees.{row}
-use Rattle.md_tree.specs.Held.{MayHave, Ascends, IsEnd, LacksEnd}
+use Rattle.md_tree.specs.Held.{MayHave, AscendsIf, IsEnd, LacksEnd}
+use Rattle.md_tree.proofs.Spelled.{is_spelling}
 use Rattle.md_tree.proofs.Stacking.{plain_from, items_from}
 use Rattle.md_tree.proofs.Holding.{least_length}
 use Rattle.md_tree.proofs.Coming.{inside_first, node_ended, useless_children, useless_end, few_held}
 use Rattle.md_tree.proofs.builder.end_node.Goals as goal
 
 pub may_have-requires : goal.may_have-requires
-may_have-requires c =
+may_have-requires g c =
     let held = c.args.held.now in let inner = c.args.inner in
     let b : length (map plain held.trees.items) ≡ length held.least.items = least_length _ _ c.requires.inside.1.kept.least in
     ap length (items_from c.deref-2.result.now held.least.items inner.first c.deref-2.ensures.value) ∙ length-drop inner.first held.least.items
@@ -19,44 +20,49 @@ may_have-requires c =
     ∙ sym (length-drop inner.first held.trees.items) ∙ sym (ap length (items_from c.deref.result.now held.trees.items inner.first c.deref.ensures.value))
 
 pub slice_bounds-may_have-count-2 : goal.slice_bounds-may_have-count-2
-slice_bounds-may_have-count-2 c =
+slice_bounds-may_have-count-2 g c =
+    let law = is_spelling g.met.K.Lettered.laws g.met.P.Paired.laws in
     let held = c.args.held.now in
     let h = c.requires.inside.1 in
-    let a : c.args.inner.first < length (map plain held.trees.items) = inside_first _ _ c.args.inner _ _ h.comes in
+    let a : c.args.inner.first < length (map plain held.trees.items) = inside_first law _ _ c.args.inner _ _ h.comes in
     let b : length (map plain held.trees.items) ≡ length held.least.items = least_length _ _ h.kept.least in
     let d : length c.deref-2.result.now ≡ length held.least.items = ap length c.deref-2.ensures.value in
     omega arith
 
 pub slice_bounds-may_have-start-2 : goal.slice_bounds-may_have-start-2
-slice_bounds-may_have-start-2 c =
+slice_bounds-may_have-start-2 g c =
+    let law = is_spelling g.met.K.Lettered.laws g.met.P.Paired.laws in
     let held = c.args.held.now in
     let h = c.requires.inside.1 in
-    let a : c.args.inner.first < length (map plain held.trees.items) = inside_first _ _ c.args.inner _ _ h.comes in
+    let a : c.args.inner.first < length (map plain held.trees.items) = inside_first law _ _ c.args.inner _ _ h.comes in
     let b : length (map plain held.trees.items) ≡ length held.least.items = least_length _ _ h.kept.least in
     let d : length c.deref-2.result.now ≡ length held.least.items = ap length c.deref-2.ensures.value in
     let f : c.args.inner.first ≤ length c.deref-2.result.now = omega arith in
     f
 
 pub returns-then-not-may_have : goal.returns-then-not-may_have
-returns-then-not-may_have c bytes h =
+returns-then-not-may_have g c bytes h =
+    let law = is_spelling g.met.K.Lettered.laws g.met.P.Paired.laws in
     let held = c.args.held.now in let inner = c.args.inner in
     let e = plain_from c.deref.result.now held.trees.items inner.first c.deref.ensures.value in
     let f = items_from c.deref-2.result.now held.least.items inner.first c.deref-2.ensures.value in
-    useless_children bytes c.args.text.now inner held.opens.items (map plain held.trees.items) h.comes c.requires.no_comma held.least.items h.kept.least
+    useless_children law bytes c.args.text.now inner held.opens.items (map plain held.trees.items) h.comes c.requires.no_comma held.least.items h.kept.least
     (λ m.
-    let yes = c.may_have.ensures.1 (subst (λ us. MayHave inner.kind (row us)) (sym e) m.0, subst Ascends (sym f) m.1) in let no_one = c.if-not-may_have.true in grind arith)
+    let yes = c.may_have.ensures.1 (subst (λ us. MayHave g.K.Lettered.rules inner.kind (row us)) (sym e) m.0, subst (AscendsIf (g.K.Lettered.rules.sorts inner.kind)) (sym f) m.1) in let no_one = c.if-not-may_have.true in grind arith)
 
 pub read_end-requires : goal.read_end-requires
-read_end-requires c =
+read_end-requires g c =
+    let law = is_spelling g.met.K.Lettered.laws g.met.P.Paired.laws in
     let held = c.args.held.now in
-    let few : length (map plain held.trees.items) ≤ NAMES = few_held _ _ _ c.requires.inside.1.kept in
+    let few : length (map plain held.trees.items) ≤ NAMES = few_held law _ _ _ c.requires.inside.1.kept in
     let all : length (map plain held.trees.items) ≡ length held.trees.items = length-map held.trees.items plain in
     let count : c.len.result ≡ length held.trees.items - c.args.inner.first =
     c.len.ensures ∙ c.in_ok-list.list.ok.0 ∙ ap length c.in_ok-list.ensures.tail ∙ length-drop c.args.inner.first held.trees.items in
     omega arith
 
 pub returns : goal.returns
-returns c bytes h =
+returns g c bytes h =
+    let law = is_spelling g.met.K.Lettered.laws g.met.P.Paired.laws in
     let held = c.args.held.now in let inner = c.args.inner in let ts = map plain held.trees.items in
     let s = c.in_ok-close.ensures in
     let is = c.in-Some.is in let p = c.in_ok-pairs.ensures in let q = rw is at p in
@@ -67,16 +73,33 @@ returns c bytes h =
     let f = items_from c.deref-2.result.now held.least.items inner.first c.deref-2.ensures.value in
     let yes : IsTrue c.may_have.result = (let y = c.if-not-may_have.false in grind arith) in
     let both = c.may_have.ensures.0 yes in
-    node_ended bytes c.args.text.now inner held c.close.new.held c.in-Some.pairs.items c.in-Some.tail.now h
-    (subst (λ us. MayHave inner.kind (row us)) e both.0) (subst Ascends f both.1)
-    (subst (λ n. IsEnd inner.kind n c.args.text.now c.in-Some.pairs.items c.in-Some.tail.now) count q)
-    (s.trees held.trees.items c.in_ok-list.ensures.items c.in_ok-list.ensures.tail) s.least s.opens s.seen
+    node_ended law bytes c.args.text.now inner held c.close.new.held c.in-Some.pairs.items s.least.0 c.in-Some.tail.now h
+    (subst (λ us. MayHave g.K.Lettered.rules inner.kind (row us)) e both.0) (subst (AscendsIf (g.K.Lettered.rules.sorts inner.kind)) f both.1)
+    (subst (λ b. IsEnd g.P.Paired.rules b (length ts - inner.first) c.args.text.now c.in-Some.pairs.items c.in-Some.tail.now) c.lists.ensures
+    (subst (λ n. IsEnd g.P.Paired.rules c.lists.result n c.args.text.now c.in-Some.pairs.items c.in-Some.tail.now) count q)) s.least.1
+    (s.trees held.trees.items c.in_ok-list.ensures.items c.in_ok-list.ensures.tail) s.least.2 s.opens s.seen
 
 pub returns-in_default : goal.returns-in_default
-returns-in_default c bytes h =
+returns-in_default g c bytes h =
+    let law = is_spelling g.met.K.Lettered.laws g.met.P.Paired.laws in
     let held = c.args.held.now in let inner = c.args.inner in let ts = map plain held.trees.items in
     let is = c.in_default.is in let p = c.in_ok-pairs.ensures in let q = rw is at p in
     let size : c.len.result ≡ length (drop inner.first ts) =
     c.len.ensures ∙ c.in_ok-list.list.ok.0 ∙ ap length c.in_ok-list.ensures.tail ∙ sym (length-map (drop inner.first held.trees.items) plain)
     ∙ ap length (sym (drop-map plain inner.first held.trees.items)) in
-    useless_end bytes c.args.text.now inner held.opens.items ts h.comes c.requires.no_comma (subst (λ n. LacksEnd inner.kind n c.args.text.now) size q)
+    useless_end law bytes c.args.text.now inner held.opens.items ts h.comes c.requires.no_comma (subst (λ b. LacksEnd g.P.Paired.rules b (length (drop inner.first ts)) c.args.text.now) c.lists.ensures
+    (subst (λ n. LacksEnd g.P.Paired.rules c.lists.result n c.args.text.now) size q))
+
+pub close-requires-clause-some : goal.close-requires-clause-some
+close-requires-clause-some g c =
+    let h = c.requires.inside.1 in
+    let a = inside_first (is_spelling g.met.K.Lettered.laws g.met.P.Paired.laws) _ _ c.args.inner _ _ h.comes in
+    let b = least_length _ _ h.kept.least in
+    omega arith
+
+pub close-requires-clause-ascends : goal.close-requires-clause-ascends
+close-requires-clause-ascends g c =
+    let held = c.args.held.now in let inner = c.args.inner in
+    let f = items_from c.deref-2.result.now held.least.items inner.first c.deref-2.ensures.value in
+    let yes : IsTrue c.may_have.result = (let y = c.if-not-may_have.false in grind arith) in
+    subst (AscendsIf (g.K.Lettered.rules.sorts inner.kind)) f (c.may_have.ensures.0 yes).1

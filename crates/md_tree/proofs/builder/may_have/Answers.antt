@@ -1,49 +1,59 @@
-use Rattle.std.proofs.Common.{ℕ, ◌≤◌, length, map, arith, sym, subst, leb}
+use Rattle.std.proofs.Common.{◌≡◌, ◌≤◌, ◌<◌, ℕ, Bool, true, false, List, length, map, true≢false, refl, sym, ◌∙◌, subst, arith}
+use Rattle.std.proofs.lemmas.List.{length-map}
 use Rattle.std.specs.Prelude.{◌↔◌, IsTrue}
-use Rattle.md_tree.specs.Trees.{row}
+use Rattle.md_tree.specs.Trees.{PlainTreesOf, count, row}
 use Rattle.md_tree.specs.Plain.{plain}
-use Rattle.md_tree.specs.Held.{MayHave, Ascends}
-use Rattle.md_tree.proofs.Loops.{count_plain}
+use Rattle.md_tree.specs.Held.{MayHave, HasOthersIf, AscendsIf, Ascends}
+use Rattle.md_tree.proofs.Folding.{count_row}
 use Rattle.md_tree.proofs.builder.may_have.Goals as goal
 
-ge_true : (m n : ℕ) → IsTrue (leb m n) → m ≤ n
-ge_true m n h = grind arith
+-- what is asked of the children and of their least names, by the two tests of the kind
+module _ {K P : Type 0} (k : K) (cs : PlainTreesOf K P) (least : ℕ) (ms : List ℕ) (enough : least ≤ count cs) where
+  abbrev Asked : Bool → Bool → Type 0
+  Asked lists sorts = ((least ≤ count cs) × HasOthersIf lists k cs) × AscendsIf sorts ms
 
-pub returns-then-children-ge2 : goal.returns-then-children-ge2
-returns-then-children-ge2 c =
-    let n = count_plain c.args.children.now in
-    subst (λ k. IsTrue c.are_others.result ↔ (MayHave k (row (map plain c.args.children.now)) × Ascends c.args.least.now)) (sym c.in-Parallel.is)
-    ((λ h. let both = c.are_others.ensures.0 h in ((let two = c.if-children-ge2.true in omega arith, both.0), both.1)), (λ m. c.are_others.ensures.1 (m.0.1, m.1)))
+  listing_any : (lists sorts : Bool) → lists ≡ true → sorts ≡ false → IsTrue true ↔ Asked lists sorts
+  listing_any true false e f = ((λ h. ((enough, tt), tt)), (λ m. refl))
+  listing_any true true e f = absurd (true≢false f)
+  listing_any false sorts e f = absurd (true≢false (sym e))
 
-pub returns-else-children-ge2 : goal.returns-else-children-ge2
-returns-else-children-ge2 c =
-    let n = count_plain c.args.children.now in
-    let few = c.if-children-ge2.false in
-    subst (λ k. IsTrue (leb 2 (length c.args.children.now)) ↔ (MayHave k (row (map plain c.args.children.now)) × Ascends c.args.least.now)) (sym c.in-Parallel.is)
-    ((λ h. let two = ge_true 2 (length c.args.children.now) h in absurd (omega arith)), (λ m. let two = m.0.0 in absurd (omega arith)))
+  listing_sorted : (lists sorts up : Bool) → lists ≡ true → sorts ≡ true → (IsTrue up ↔ Ascends ms) → IsTrue up ↔ Asked lists sorts
+  listing_sorted true true up e f a = ((λ h. ((enough, tt), a.0 h)), (λ m. a.1 m.1))
+  listing_sorted true false up e f a = absurd (true≢false (sym f))
+  listing_sorted false sorts up e f a = absurd (true≢false (sym e))
 
-pub returns-then-children-ge2-2 : goal.returns-then-children-ge2-2
-returns-then-children-ge2-2 c =
-    let n = count_plain c.args.children.now in
-    subst (λ k. IsTrue c.are_others-then-children-ge2-2.result ↔ (MayHave k (row (map plain c.args.children.now)) × Ascends c.args.least.now)) (sym c.in-Series.is)
-    ((λ h. let both = c.are_others-then-children-ge2-2.ensures.0 h in ((let two = c.if-children-ge2-2.true in omega arith, both.0), both.1)), (λ m. c.are_others-then-children-ge2-2.ensures.1 (m.0.1, m.1)))
+  plain_other : (lists sorts other : Bool) → lists ≡ false → (IsTrue other ↔ (HasOthersIf false k cs × AscendsIf sorts ms)) → IsTrue other ↔ Asked lists sorts
+  plain_other false sorts other e a = ((λ h. let both = a.0 h in ((enough, both.0), both.1)), (λ m. a.1 (m.0.1, m.1)))
+  plain_other true sorts other e a = absurd (true≢false e)
 
-pub returns-else-children-ge2-2 : goal.returns-else-children-ge2-2
-returns-else-children-ge2-2 c =
-    let n = count_plain c.args.children.now in
-    let few = c.if-children-ge2-2.false in
-    subst (λ k. IsTrue (leb 2 (length c.args.children.now)) ↔ (MayHave k (row (map plain c.args.children.now)) × Ascends c.args.least.now)) (sym c.in-Series.is)
-    ((λ h. let two = ge_true 2 (length c.args.children.now) h in absurd (omega arith)), (λ m. let two = m.0.0 in absurd (omega arith)))
+pub returns-then-children-least_count : goal.returns-then-children-least_count
+returns-then-children-least_count g c =
+    let xs = c.args.children.now in
+    let size = count_row (map plain xs) ∙ length-map xs plain in
+    let few = c.if-children-least_count.true in let least = c.least_count.ensures in
+    ((λ h. absurd (true≢false (sym h))), (λ m. let enough = m.0.0 in absurd (omega arith)))
 
-pub returns-then-children-ge4 : goal.returns-then-children-ge4
-returns-then-children-ge4 c =
-    let n = count_plain c.args.children.now in
-    subst (λ k. IsTrue c.ascends.result ↔ (MayHave k (row (map plain c.args.children.now)) × Ascends c.args.least.now)) (sym c.in-Prime.is)
-    ((λ h. (let four = c.if-children-ge4.true in omega arith, c.ascends.ensures.exactly.0 h)), (λ m. c.ascends.ensures.exactly.1 m.1))
+pub returns-then-not-sorts : goal.returns-then-not-sorts
+returns-then-not-sorts g c =
+    let xs = c.args.children.now in let k = c.args.kind in let r = g.K.Lettered.rules in
+    let size = count_row (map plain xs) ∙ length-map xs plain in
+    let many = c.if-children-least_count.false in let least = c.least_count.ensures in
+    let enough : r.least_count k ≤ count (row (map plain xs)) = omega arith in
+    rw c.if-not-sorts.true (listing_any k (row (map plain xs)) (r.least_count k) c.args.least.now enough (r.lists k) (r.sorts k) (sym c.lists.ensures ∙ c.if-lists.true) (sym c.sorts-sorts.ensures ∙ c.if-not-sorts.true))
 
-pub returns-else-children-ge4 : goal.returns-else-children-ge4
-returns-else-children-ge4 c =
-    let n = count_plain c.args.children.now in
-    let few = c.if-children-ge4.false in
-    subst (λ k. IsTrue (leb 4 (length c.args.children.now)) ↔ (MayHave k (row (map plain c.args.children.now)) × Ascends c.args.least.now)) (sym c.in-Prime.is)
-    ((λ h. let four = ge_true 4 (length c.args.children.now) h in absurd (omega arith)), (λ m. let four = m.0 in absurd (omega arith)))
+pub returns-else-not-sorts : goal.returns-else-not-sorts
+returns-else-not-sorts g c =
+    let xs = c.args.children.now in let k = c.args.kind in let r = g.K.Lettered.rules in
+    let size = count_row (map plain xs) ∙ length-map xs plain in
+    let many = c.if-children-least_count.false in let least = c.least_count.ensures in
+    let enough : r.least_count k ≤ count (row (map plain xs)) = omega arith in
+    listing_sorted k (row (map plain xs)) (r.least_count k) c.args.least.now enough (r.lists k) (r.sorts k) _ (sym c.lists.ensures ∙ c.if-lists.true) (sym c.sorts-sorts.ensures ∙ c.if-not-sorts.false) c.ascends.ensures.exactly
+
+pub returns : goal.returns
+returns g c =
+    let xs = c.args.children.now in let k = c.args.kind in let r = g.K.Lettered.rules in
+    let size = count_row (map plain xs) ∙ length-map xs plain in
+    let many = c.if-children-least_count.false in let least = c.least_count.ensures in
+    let enough : r.least_count k ≤ count (row (map plain xs)) = omega arith in
+    plain_other k (row (map plain xs)) (r.least_count k) c.args.least.now enough (r.lists k) (r.sorts k) _ (sym c.lists.ensures ∙ c.if-lists.false)
+    (subst (λ b. IsTrue c.are_others.result ↔ (HasOthersIf false k (row (map plain xs)) × AscendsIf b c.args.least.now)) c.sorts-sorts.ensures c.are_others.ensures)

@@ -1,5 +1,8 @@
+use Rattle.md_tree.proofs.Spelled.{is_spelling}
 use Rattle.md_tree.proofs.Coming.{useless_number}
 use Rattle.md_tree.proofs.builder.take_step.Goals as goal
 
 pub returns-in-None : goal.returns-in-None
-returns-in-None c bytes h = useless_number bytes _ _ _ h.comes c.in-None.ensures.split c.in_default.ensures.number
+returns-in-None g c bytes h =
+    let law = is_spelling g.met.K.Lettered.laws g.met.P.Paired.laws in
+    useless_number law bytes _ _ _ h.comes c.in-None.ensures.split c.in_default.ensures.number

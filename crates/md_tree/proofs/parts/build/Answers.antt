@@ -7,27 +7,27 @@ use Rattle.md_tree.proofs.Stacking.{map_one_more}
 use Rattle.md_tree.proofs.parts.build.Goals as goal
 
 pub loop-part-init : goal.loop-part-init
-loop-part-init c =
+loop-part-init g c =
     subst (IsFolding (map plain_part c.args.parts.items) (map plain_part c.args.parts.items)) (sym (ap (map plain) c.in_ok-stack.ensures.items))
     (fold_begin (map plain_part c.args.parts.items) c.requires.0 c.requires.1)
 
 pub put_part-requires : goal.put_part-requires
-put_part-requires c =
+put_part-requires g c =
     fold_finds _ _ _ _ _ c.loop-part.invariant (map_one_more plain_part c.loop-part.parts.items c.pop.new.self.items c.in-Some.part c.in-Some.ensures.items)
 
 pub loop-part-preserved : goal.loop-part-preserved
-loop-part-preserved c =
+loop-part-preserved g c =
     fold_more _ _ _ _ _ _ c.loop-part.invariant (map_one_more plain_part c.loop-part.parts.items c.pop.new.self.items c.in-Some.part c.in-Some.ensures.items)
     c.in_ok-put_part.ensures
 
 pub unreachable-requires : goal.unreachable-requires
-unreachable-requires c =
+unreachable-requires g c =
     fold_some _ _ _ c.loop-part.invariant
     (ap (map plain_part) (nil_from_length c.loop-part.parts.items (sym c.loop-part.parts.ok.0 ∙ c.in_default.ensures.cases.0)))
     (ap (map plain) (nil_from_length c.loop-part.stack.items (sym c.loop-part.stack.ok.0 ∙ c.in-None.ensures.cases.0))) c.requires.0 c.requires.1
 
 pub returns : goal.returns
-returns c = record {
+returns g c = record {
   tree =
       fold_top _ _ _ _ _ c.loop-part.invariant
       (ap (map plain_part) (nil_from_length c.loop-part.parts.items (sym c.loop-part.parts.ok.0 ∙ c.in_default.ensures.cases.0)))

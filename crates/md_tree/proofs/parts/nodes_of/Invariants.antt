@@ -7,7 +7,7 @@ use Rattle.md_tree.proofs.Listing.{nodes_listed}
 use Rattle.md_tree.proofs.parts.nodes_of.Given as goal
 
 abbrev pub invariant-loop-node : goal.invariant-loop-node
-invariant-loop-node l = nodes_listed l.nodes.items l.waiting.items ≡ nodes_backward (plain l.tree)
+invariant-loop-node g l = nodes_listed l.nodes.items l.waiting.items ≡ nodes_backward (plain l.tree)
 
 abbrev pub decreases-loop-node : goal.decreases-loop-node
-decreases-loop-node l = length (row_nodes_backward (row (map plain_at l.waiting.items)))
+decreases-loop-node g l = length (row_nodes_backward (row (map plain_at l.waiting.items)))

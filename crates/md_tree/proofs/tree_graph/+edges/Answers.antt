@@ -5,7 +5,7 @@ use Rattle.md_graph.specs.Sets.{Has, Within}
 use Rattle.md_tree.specs.Trees.{EachNode, EachNodeBelow}
 use Rattle.md_tree.specs.WellFormed.{IsCanonicalNode}
 use Rattle.md_tree.specs.TreeEdges.{has_edge_in, has_edge_below}
-use Rattle.md_tree.specs.declared.Tree.{the_lemmas}
+use Rattle.md_tree.specs.declared.TreeOf.{the_lemmas}
 use Rattle.md_tree.proofs.Plain.{plain_is_leaf, plain_is_node, names_node}
 use Rattle.md_tree.proofs.Loops.{loop_child, loop_others, loop_step, loop_end, or_chain}
 use Rattle.md_tree.proofs.tree_graph.+edges.Goals as goal

@@ -5,7 +5,7 @@ use Rattle.md_graph.proofs.SetLemmas.{only_has, union_left, union_right}
 use Rattle.md_tree.specs.Trees.{PlainTrees, names, names_below}
 use Rattle.md_tree.specs.Plain.{plain}
 use Rattle.md_tree.specs.TreeEdges.{crosses}
-use Rattle.md_tree.specs.declared.Tree.{the_lemmas}
+use Rattle.md_tree.specs.declared.TreeOf.{the_lemmas}
 use Rattle.md_tree.proofs.Plain.{names_leaf, names_node}
 use Rattle.md_tree.proofs.Edges.{crosses_left, none_crosses}
 use Rattle.md_tree.proofs.Loops.{loop_child, loop_others, loop_step, loop_end}

@@ -6,7 +6,7 @@ use Rattle.md_graph.specs.Sets.{Has, Disjoint}
 use Rattle.md_graph.proofs.SetLemmas.{only_has}
 use Rattle.md_tree.specs.Trees.{EachNode}
 use Rattle.md_tree.specs.WellFormed.{IsCanonicalNode}
-use Rattle.md_tree.specs.declared.Tree.{the_lemmas}
+use Rattle.md_tree.specs.declared.TreeOf.{the_lemmas}
 use Rattle.md_tree.proofs.Plain.{plain_is_node, names_leaf, names_node}
 use Rattle.md_tree.proofs.Loops.{names_child_below, names_child_absent, names_child_canonical, names_step, names_end, insert_is_union}
 use Rattle.md_tree.proofs.tree_graph.+vertices.Goals as goal

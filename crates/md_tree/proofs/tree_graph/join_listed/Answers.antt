@@ -3,7 +3,8 @@ use Rattle.md_graph.specs.Sets.{Within}
 use Rattle.md_tree.specs.declared.Pair.{Pair}
 use Rattle.md_tree.specs.Trees.{names, names_below}
 use Rattle.md_tree.specs.Plain.{plain, row_of_children}
-use Rattle.md_tree.proofs.Denoted.{pair_here, at_listed, at_apart, at_within, pair_step}
+use Rattle.md_tree.proofs.Nodes.{at_apart}
+use Rattle.md_tree.proofs.Denoted.{pair_here, at_listed, at_within, pair_step}
 use Rattle.md_tree.proofs.tree_graph.join_listed.Goals as goal
 
 abbrev none : Pair

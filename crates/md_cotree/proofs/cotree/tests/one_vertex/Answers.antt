@@ -1,7 +1,7 @@
 use Rattle.std.proofs.Common.{◌<◌, Some, refl, sym, subst, lit<}
 use Rattle.md_graph.specs.declared.TheConstants.{NAMES}
 use Rattle.md_graph.proofs.SetLemmas.{of_only}
-use Rattle.md_tree.specs.declared.Tree.{Leaf}
+use Rattle.md_tree.specs.declared.TreeOf.{Leaf}
 use Rattle.md_tree.specs.WellFormed.{IsWellFormed, HasNoPrimeNode}
 use Rattle.md_tree.proofs.Plain.{plain_is_leaf}
 use Rattle.md_cotree.proofs.cotree.tests.one_vertex.Goals as goal
