@@ -16,6 +16,7 @@ use Rattle.md_tree.specs.Trees.{PlainTree, leaf, node, PlainTrees, names, names_
 use Rattle.md_tree.specs.StrongTrees.{IsInOrder}
 use Rattle.md_tree.specs.TreeGraph.{position_of, joins, adjacent_in, adjacent_below}
 use Rattle.md_tree.specs.WellFormed.{IsOfKind, NoneOfKind, AreDisjoint, IsPlainNode, HasShape, IsCanonicalNode, IsCanonicalTree, HasNoPrimeNode}
+use Rattle.md_tree.proofs.Spelled.{plain_two}
 use Rattle.md_tree.proofs.Folding.{count_row}
 use Rattle.md_tree.proofs.Nodes.{IsChild, child_inside, child_of_name}
 use Rattle.md_cotree.specs.Orders.{IsLooseNode, IsOrdered, PlainKeyed, tree_of, key_of, first_key}
@@ -270,7 +271,7 @@ module _ (k : Kind) (ss : List PlainTree) (loose : IsLooseNode k (row ss) []) (z
     apart = apart;
     order = in_order ys rising apart (λ y h. let s = to y h in (s.0, s.2));
     shape = plain_has_shape k (row (map tree_of ys)) [] loose.not_prime (record {
-      two = let two = loose.plain.two in let a = count_map ys in let b = long in let e = count_row ss in omega arith;
+      enough = let two = loose.plain.enough in let a = count_map ys in let b = long in let e = count_row ss in omega arith;
       other_kinds = none_kind ys k (λ y h is. let s = to y h in child_other_kind (row ss) k s.0 loose.plain.other_kinds s.1 (s.2.kind k is));
       no_pairs = refl;
     });
@@ -284,7 +285,7 @@ module _ (k : Kind) (ss : List PlainTree) (loose : IsLooseNode k (row ss) []) (z
       go (y ∷ xs) up h = let low = h.1 in let r = up 0 h.0 x (omega arith) (omega arith) in let e = ap key_of h.2 in omega arith
 
   has_first : Has (names_below (row (map tree_of ys))) (first_key ys)
-  has_first = go ys (λ y h. let s = to y h in s.2.has_key) (let two = loose.plain.two in let a = count_map ys in let c = canonical.shape in let b = long in some_long ss two b)
+  has_first = go ys (λ y h. let s = to y h in s.2.has_key) (let two = plain_two loose.plain in let a = count_map ys in let c = canonical.shape in let b = long in some_long ss two b)
     where
       some_long : (ts : List PlainTree) → 2 ≤ count (row ts) → length ys ≡ length ts → 0 < length ys
       some_long [] two e = absurd (omega arith)

@@ -22,6 +22,7 @@ use Rattle.md_tree.specs.Trees.{PlainTree, leaf, node, PlainTrees, no_tree, one_
 use Rattle.md_tree.specs.StrongTrees.{HasKind, HasPairs, IsTreeOf, IsTree}
 use Rattle.md_tree.specs.WellFormed.{IsOfKind, NoneOfKind, AreDisjoint, IsPlainNode, HasShape, IsCanonicalNode, IsCanonicalTree, HasNoPrimeNode}
 use Rattle.md_tree.specs.TreeGraph.{position_of, joins, adjacent_in, adjacent_below, graph_of_tree}
+use Rattle.md_tree.proofs.Spelled.{plain_two}
 use Rattle.md_tree.proofs.Nodes.{IsChild, child_inside, child_of_name}
 use Rattle.md_tree.proofs.Built.{IsBuilt}
 use Rattle.md_tree.proofs.Kinded.{built_tree}
@@ -80,7 +81,7 @@ split_kind e s a Prime not split = absurd (not refl)
 -- a tree has a name
 some_name : (t : PlainTree) → IsCanonicalTree t → EachNode NotPrime t → HasSome (names t)
 some_name (leaf v) each not = (v, only_has v)
-some_name (node k no_tree ps) each not = absurd (let two = (plain_shape k no_tree ps not.0 each.0.shape).two in omega arith)
+some_name (node k no_tree ps) each not = absurd (let two = (plain_two (plain_shape k no_tree ps not.0 each.0.shape)) in omega arith)
 some_name (node k (one_more t ts) ps) each not =
     let x = some_name t each.1.0 not.1.0 in (x.0, union_left (names t) (names_below ts) x.0 x.1)
 
@@ -147,7 +148,7 @@ module _ (e : ℕ → ℕ → Bool) where
   child_split k cs ps c each not agrees i = record {
     some = some_of c i;
     inside = child_inside cs c i;
-    rest = other_name cs c each.0.apart (plain_shape k cs ps not.0 each.0.shape).two some_of i;
+    rest = other_name cs c each.0.apart (plain_two (plain_shape k cs ps not.0 each.0.shape)) some_of i;
     across = λ a b ha hb lb.
         sym (agrees a b (child_inside cs c i a ha) hb)
         ∙ ap (λ w. cond w (adjacent_below cs a b) (joins k ps (position_of cs a) (position_of cs b)))
@@ -160,7 +161,7 @@ module _ (e : ℕ → ℕ → Bool) where
 
   node_kind : (k : Kind) (cs : PlainTrees) (ps : List Pair) → IsCanonicalTree (node k cs ps) → EachNode NotPrime (node k cs ps) → Agrees e (node k cs ps) → HasKind e (names_below cs) k
   node_kind k cs ps each not agrees =
-      let c = first_child cs (plain_shape k cs ps not.0 each.0.shape).two in
+      let c = first_child cs (plain_two (plain_shape k cs ps not.0 each.0.shape)) in
       split_kind e (names_below cs) (names c.0) k not.0 (child_split k cs ps c.0 each not agrees c.1)
 
   module _ (adj : IsAdjacency e) where

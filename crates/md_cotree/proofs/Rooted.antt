@@ -16,6 +16,7 @@ use Rattle.md_tree.specs.Parts.{PlainPart, name, inner as inner_part, parts_of, 
 use Rattle.md_tree.specs.Stacks.{with_part, HasChildrenOf}
 use Rattle.md_tree.specs.TreeGraph.{graph_of_tree}
 use Rattle.md_tree.specs.WellFormed.{NoneOfKind, IsCanonicalNode, IsCanonicalTree, IsWellFormed, HasNoPrimeNode}
+use Rattle.md_tree.proofs.Spelled.{plain_two}
 use Rattle.md_tree.proofs.Folding.{count_row, folded, Finds, IsFolding, fold_begin, fold_finds, fold_more, fold_end}
 use Rattle.md_cotree.specs.declared.cotree.Cotree.{Cotree}
 use Rattle.md_cotree.specs.PlaceTrees.{PlaceTree, tip, inner, PlaceTrees, no_more, then, place_of, row_length, kind_of, leaves_in, leaves_among, node_count, node_counts, NoneInner, Alternates, AllAlternate, shape, shapes, FillsLists}
@@ -158,7 +159,7 @@ mutual
   alternates_of (tip p v) each = tt
   alternates_of (inner p k ts) each =
       let plain = plain_shape (kind_of k) (shapes ts) [] (kind_not_prime k) each.0.shape in
-      (let e = count_shapes ts in let two = plain.two in omega arith, none_inner ts k plain.other_kinds, all_alternate ts each.1)
+      (let e = count_shapes ts in let two = plain_two plain in omega arith, none_inner ts k plain.other_kinds, all_alternate ts each.1)
 
   all_alternate : (ts : PlaceTrees) → EachNodeBelow IsCanonicalNode (shapes ts) → AllAlternate ts
   all_alternate no_more each = tt

@@ -9,6 +9,7 @@ use Rattle.md_tree.specs.declared.Kind.TheVariants.{Parallel as ParallelKind, Se
 use Rattle.md_tree.specs.Trees.{PlainTree, leaf, node, PlainTrees, no_tree, one_more, row, EachNodeBelow}
 use Rattle.md_tree.specs.Parts.{PlainPart, name, inner as inner_part, parts_of, parts_backward}
 use Rattle.md_tree.specs.Stacks.{with_part, HasChildrenOf}
+use Rattle.md_tree.proofs.Spelled.{plain_two}
 use Rattle.md_tree.proofs.Folding.{IsFolding, fold_begin, fold_finds, fold_more}
 use Rattle.md_cotree.specs.Orders.{part_of_kind, PlainKeyed, tree_of, first_key, IsLooseNode, IsLoose, IsOrdered, IsPutOver, IsPartPut, HasBelow}
 use Rattle.md_cotree.proofs.Arranging.{IsArranged, Along, along_long, AllArranged, leaf_arranged, node_arranged}
@@ -87,7 +88,7 @@ big_last (q ∷ ps) p a = big_last ps p a.1
 mutual
   big_parts : (t : PlainTree) → IsLoose t → AreBig (parts_of t)
   big_parts (leaf v) loose = (tt, tt)
-  big_parts (node k cs ps) loose = (let two = loose.0.plain.two in omega arith, big_below cs loose.1)
+  big_parts (node k cs ps) loose = (let two = plain_two loose.0.plain in omega arith, big_below cs loose.1)
 
   big_below : (ts : PlainTrees) → EachNodeBelow IsLooseNode ts → AreBig (parts_backward ts)
   big_below no_tree loose = tt

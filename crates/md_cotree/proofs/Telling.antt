@@ -15,6 +15,7 @@ use Rattle.md_tree.specs.Trees.{PlainTree, names, EachNodeBelow}
 use Rattle.md_tree.specs.StrongTrees.{IsTreeOf}
 use Rattle.md_tree.specs.TreeGraph.{adjacent_in, graph_of_tree}
 use Rattle.md_tree.specs.WellFormed.{NoneOfKind, AreDisjoint, IsWellFormed, HasNoPrimeNode}
+use Rattle.md_tree.proofs.Spelled.{least_two}
 use Rattle.md_cotree.specs.declared.cotree.Cotree.{Cotree}
 use Rattle.md_cotree.specs.PlaceTrees.{PlaceTree, tip, inner, PlaceTrees, no_more, then, place_of, kind_of, leaves_in, leaves_among, NoneInner, Alternates, AllAlternate, shape, shapes, Stands}
 use Rattle.md_cotree.specs.Cotrees.{place_at, IsKeptAs, Denotes}
@@ -46,7 +47,7 @@ mutual
           not_prime = kind_not_prime k;
           apart = below.1;
           plain = record {
-            two = let two = alternates.0 in let e = count_shapes ts in omega arith;
+            enough = let two = alternates.0 in let e = count_shapes ts in let least = least_two (kind_of k) (kind_not_prime k) in omega arith;
             other_kinds = none_of_kind ts k alternates.1;
             no_pairs = refl;
           };
