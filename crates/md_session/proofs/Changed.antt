@@ -1,5 +1,5 @@
 -- What an edit of a cotree needs to know of the graph, and what its answer says of the graph after the edit.
-use Rattle.std.proofs.Common.{◌≡◌, ◌≢◌, ℕ, Bool, true, false, not, cond, ◌==◌, find, is_ok, List, [], ◌∷◌, All, Option, Some, None, Result, Ok, Err, IfOk, IsErr, OnOk, ◌↔◌, refl, sym, ◌∙◌, subst}
+use Rattle.std.proofs.Common.{◌≡◌, ◌≢◌, ℕ, Bool, true, false, not, cond, ◌==◌, find, is_ok, List, [], ◌∷◌, All, Option, Some, None, Result, Ok, Err, IfOk, IsErr, OnOk, ◌↔◌, refl, sym, ◌∙◌, ap, subst}
 use Rattle.std.proofs.lemmas.Bool.{eqb-false}
 use Rattle.std.proofs.lemmas.List.Elements.{All-nil, All-cons}
 use Rattle.std.specs.FinSet as set
@@ -22,6 +22,8 @@ use Rattle.md_script.specs.declared.edit.Edit.TheVariants.{AddEdge, DelEdge, Add
 use Rattle.md_script.specs.Edit.{least_absent, reason_of, after}
 use Rattle.md_script.proofs.ChangeLemmas.{ends_by_tests, by_parts}
 use Rattle.md_report.specs.Cographs.{IsCograph}
+use Rattle.md_report.specs.Lines.{applied}
+use Rattle.md_report.specs.Sessions.{SessionStep, IsLineBy, state_by}
 use Rattle.md_script.proofs.BackLemmas.{only_passes, added_was_absent, deleted_was_there}
 
 -- ---- no reason speaks against the edit
@@ -69,6 +71,13 @@ module _ {A B : Type 0} (edit form : Edit) (is : edit ≡ form) (r : Result A B)
 
   pub refused_by : (IsErr r ↔ HasInducedPath (adjacent (after g form)) (after g form).vertices) → ok ≡ false → HasInducedPath (adjacent (after g edit)) (after g edit).vertices
   refused_by refused fails = subst (λ e. HasInducedPath (adjacent (after g e)) (after g e).vertices) (sym is) (refused.0 (is_error r (sym told ∙ fails)))
+
+-- the line with the tree of the changed graph
+pub applied_step : (g h next : PlainGraph) (edit : Edit) (t : Option PlainTree) → g ≡ h → reason_of g edit ≡ None → next ≡ after g edit → IsTree (adjacent next) next.vertices t → SessionStep h edit (applied t) next
+applied_step g h next edit t same none is tree = subst (λ k. SessionStep k edit (applied t) next) same (record {
+  line_is = subst (λ r. IsLineBy r g edit (applied t)) (sym none) (t, subst (λ k. IsTree (adjacent k) k.vertices t) is tree, refl);
+  next_is = is ∙ sym (ap (λ r. state_by r g edit) none);
+})
 
 -- ---- a cograph's tree has no prime node
 

@@ -1,4 +1,6 @@
 use Rattle.std.proofs.Common.{sym, ◌∙◌, rules}
+use Rattle.md_tree.specs.Plain.{plain_option}
+use Rattle.md_session.proofs.Changed.{applied_step}
 use Rattle.md_session.proofs.general.GeneralSessionOf.apply.Goals as goal
 
 pub take_back-requires : goal.take_back-requires
@@ -12,3 +14,8 @@ take_back-requires g c = (
     ),
   ),
 )
+
+pub returns-in-Ok-clause-step : goal.returns-in-Ok-clause-step
+returns-in-Ok-clause-step g c =
+    applied_step c.self.inside.graph c.args.self.now c.apply.new.graph c.args.edit.now (plain_option c.in-Ok.tree) c.self.view_is
+    (sym c.reason.ensures ∙ c.in_default.is) c.apply.ensures c.in-Ok.ensures.tree
