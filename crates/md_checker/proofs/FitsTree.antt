@@ -1,7 +1,7 @@
 -- A tree as well-formed trees are is the tree of strong modules of a graph exactly where it fits the graph.
 use Rattle.std.proofs.Common.{◌≡◌, ℕ, ◌<◌, ◌≤◌, Bool, true, false, cond, eqb, min, max, List, Contains, refl, sym, ◌∙◌, ap, subst, inl, inr, eqb-true, arith}
 use Rattle.std.proofs.lemmas.Bool.{false_from_ne_true}
-use Rattle.md_graph.specs.Sets.{NameSet, Has, Within}
+use Rattle.md_graph.specs.Sets.{NameSet, Has, Within, only_name}
 use Rattle.md_graph.proofs.SetLemmas.{Has-along}
 use Rattle.md_graph.proofs.Search.{decide_test}
 use Rattle.md_graph.specs.Adjacency.{IsAdjacency}
@@ -71,7 +71,7 @@ module _ {e : ℕ → ℕ → Bool} (adj : IsAdjacency e) (s : NameSet) where
 
   -- no child has the kind of its parallel or series node
   other_kind : (t : PlainTree) → EachNode (IsBuilt e) t → (k : Kind) → (IsOfKind t k → ⊥) → HasKind e (names t) k → ⊥
-  other_kind (leaf v) built k other kind = larger_than_single (names (leaf v)) v (two_of_kind e (names (leaf v)) k kind) refl
+  other_kind (leaf v) built k other kind = larger_than_single (only_name v) v (two_of_kind e (only_name v) k kind) refl
   other_kind (node l cs ps) built k other kind = other (one_kind (undirected adj) (names_below cs) l k built.0.node_of.kind kind)
 
   other_kinds : (cs : PlainTrees) → EachNodeBelow (IsBuilt e) cs → (k : Kind) → NoneOfKind cs k → (c : PlainTree) → IsChild cs c → HasKind e (names c) k → ⊥
