@@ -30,7 +30,7 @@ use Rattle.md_script.specs.declared.edit.EditReason.TheVariants.{Same, NoVertex,
 use Rattle.md_script.specs.Edit.{HasNames, ends_reason, least_absent, reason_of, after}
 use Rattle.md_script.proofs.ChangeLemmas.{after_is_graph}
 use Rattle.md_report.specs.declared.line.GraphMode.{GraphMode}
-use Rattle.md_report.specs.declared.line.GraphMode.TheVariants.{Tree, Compare, Permute}
+use Rattle.md_report.specs.declared.line.GraphMode.TheVariants.{Tree, Compare, Shortest, Permute}
 use Rattle.md_report.specs.declared.line.SessionMode.{SessionMode}
 use Rattle.md_report.specs.declared.line.SessionMode.TheVariants.{Edit, Cograph, Quiet}
 use Rattle.md_report.specs.Lines.{PlainLine, head, tree, applied, applied_quiet, refused, refused_p4, not_cograph, oriented, forced, orders, forced_in, forced_in_complement, end}
@@ -167,6 +167,7 @@ module _ (g : PlainGraph) (is : IsGraph g) where
   graph_good : (mode : GraphMode) (line : PlainLine) → Reports mode g line → IsWellFormedLine line
   graph_good Tree line may = tree_good tree (λ o w. w) g is line may
   graph_good Compare line may = orientation_good line may
+  graph_good Shortest line may = orientation_good line may.is
   graph_good Permute line may = model_good line may
 
   state_good : (mode : SessionMode) (line : PlainLine) → ReportsState mode g line → IsWellFormedLine line

@@ -15,6 +15,7 @@ use Rattle.md_report.specs.declared.line.GraphMode.TheVariants as graph_modes
 use Rattle.md_report.specs.declared.line.SessionMode.{SessionMode}
 use Rattle.md_report.specs.declared.line.SessionMode.TheVariants.{Edit, Cograph, Quiet}
 use Rattle.md_report.specs.Lines.{PlainLine, tree, applied, oriented, arcs_text, line_text}
+use Rattle.md_report.specs.Orientations.{IsShortestLine}
 use Rattle.md_report.specs.Places.{Place, at_state, at_edits, at_end, Reports, AnswersEdit}
 use Rattle.md_report.specs.Sessions.{IsLineBy}
 use Rattle.md_report.specs.Cographs.{IsCographLineBy}
@@ -30,10 +31,16 @@ pub tree_reports : (mode : GraphMode) (g : PlainGraph) (t : PlainTree) (text : L
     (line : PlainLine) × Reports mode g line × (text ≡ line_text line)
 tree_reports mode g t text is fits spelled = (tree (Some t), subst (λ m. Reports m g (tree (Some t))) (sym is) (Some t, fits, refl), spelled)
 
--- its least-edge orientation is one in mode compare
+-- its least-edge orientation is one in modes compare and shortest
 pub orientation_reports : (mode : GraphMode) (g : PlainGraph) (arcs : List Arc) (text : List ℕ) → mode ≡ graph_modes.Compare → HasTransitiveOrientation (adjacent g) → IsLeastEdgeOrientation (adjacent g) arcs →
     text ≡ codes "yes" ++ arcs_text arcs → (line : PlainLine) × Reports mode g line × (text ≡ line_text line)
 orientation_reports mode g arcs text is has least spelled = (oriented arcs, subst (λ m. Reports m g (oriented arcs)) (sym is) (has, least), spelled)
+
+pub shortest_reports : (mode : GraphMode) (g : PlainGraph) (arcs : List Arc) (text : List ℕ) → mode ≡ graph_modes.Shortest → HasTransitiveOrientation (adjacent g) → IsLeastEdgeOrientation (adjacent g) arcs →
+    text ≡ codes "yes" ++ arcs_text arcs → (line : PlainLine) × Reports mode g line × (text ≡ line_text line)
+shortest_reports mode g arcs text is has least spelled =
+    let line : IsShortestLine (adjacent g) (oriented arcs) = record { is = (has, least); shortest = λ chain same. cc } in
+    (oriented arcs, subst (λ m. Reports m g (oriented arcs)) (sym is) line, spelled)
 
 -- the tree of the first state of a session
 pub first_taken : (mode : SessionMode) (g : PlainGraph) (edits : List script.Edit) (text : List ℕ) → (mode ≡ Quiet → ⊥) → IsStateText mode g (codes "t ") text →

@@ -8,7 +8,7 @@ use Rattle.md_graph.specs.PlainGraph.{PlainGraph, graph_code}
 use Rattle.md_script.specs.declared.edit.Edit as script
 use Rattle.md_script.specs.declared.edit.Edit.TheVariants.{AddEdge, DelEdge, AddVertex, DelVertex}
 use Rattle.md_report.specs.declared.line.GraphMode.{GraphMode}
-use Rattle.md_report.specs.declared.line.GraphMode.TheVariants.{Tree, Compare, Permute}
+use Rattle.md_report.specs.declared.line.GraphMode.TheVariants.{Tree, Compare, Shortest, Permute}
 use Rattle.md_report.specs.declared.line.SessionMode.{SessionMode}
 use Rattle.md_report.specs.declared.line.SessionMode.TheVariants.{Edit, Cograph, Quiet}
 use Rattle.md_report.specs.Places.{Place, before_head, at_graphs, before_session, at_state, at_edits, at_end, after_end}
@@ -18,16 +18,19 @@ abbrev pub graph_mode_number : GraphMode → ℕ
 graph_mode_number Tree = 0
 graph_mode_number Compare = 1
 graph_mode_number Permute = 2
+graph_mode_number Shortest = 3
 
 abbrev pub graph_mode_at : ℕ → GraphMode
 graph_mode_at zero = Tree
 graph_mode_at (suc zero) = Compare
-graph_mode_at (suc (suc n)) = Permute
+graph_mode_at (suc (suc zero)) = Permute
+graph_mode_at (suc (suc (suc n))) = Shortest
 
 pub graph_mode_back : (mode : GraphMode) → graph_mode_at (graph_mode_number mode) ≡ mode
 graph_mode_back Tree = refl
 graph_mode_back Compare = refl
 graph_mode_back Permute = refl
+graph_mode_back Shortest = refl
 
 abbrev pub graph_mode_code : Coded GraphMode
 graph_mode_code = code_by ℕ coded_ℕ graph_mode_number graph_mode_at graph_mode_back

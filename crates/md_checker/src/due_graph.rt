@@ -101,6 +101,7 @@ fn reports_by_text<const W: usize>(
     match mode {
         GraphMode::Tree => is_word_and_tree(alloc, graph, b"t ", text),
         GraphMode::Compare => is_word_and_orientation(alloc, graph, b"yes", text),
+        GraphMode::Shortest => is_word_and_orientation(alloc, graph, b"yes", text),
         GraphMode::Permute => Ok(false),
     }
 }

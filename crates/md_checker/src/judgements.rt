@@ -2,7 +2,7 @@
 ghost use Rattle.std.specs.Prelude.{◌≡◌, ◌*◌, ◌↔◌, List, ◌∷◌, None, Ok, true, if◌then◌else◌, IfOk, IsErr, IsTrue};
 ghost use Rattle.md_graph.specs.PlainGraph.{PlainGraph, IsGraph, adjacent};
 ghost use Rattle.md_modules.specs.declared.induced_paths.P4.{P4};
-ghost use Rattle.md_comparability.specs.Chains.{HasForcingChain, IsForcingChain};
+ghost use Rattle.md_comparability.specs.Chains.{HasForcingChain, IsForcingChain, IsShortestChain};
 ghost use Rattle.md_forcing.specs.declared.arc_set.Side.TheVariants.{NonEdges};
 ghost use Rattle.md_forcing.specs.Sides.{adjacent_on};
 ghost use Rattle.md_tree.specs.Plain.{plain_option};
@@ -15,7 +15,7 @@ ghost use Rattle.md_report.specs.Lines.{PlainLine, line_text, plain_line, tree, 
 ghost use Rattle.md_report.specs.WellFormedLines.{IsWellFormedLine};
 ghost use Rattle.md_report.specs.Places.{at_state, at_edits, Reports, ReportsState, AnswersEdit, ClosesEdits};
 ghost use Rattle.md_report.specs.Sessions.{HasTreeLine, state_behind};
-ghost use Rattle.md_report.specs.Orientations.{IsOrientationLine};
+ghost use Rattle.md_report.specs.Orientations.{IsOrientationLine, IsShortestLine};
 ghost use Rattle.md_report.specs.Models.{IsModelLine};
 ghost use Rattle.md_report.specs.Cographs.{IsCograph, IsP4Of, HasP4Line, IsOpeningLine};
 ghost use Rattle.md_checker.specs.Standing.{Takes};
@@ -28,6 +28,7 @@ use crate::tree_fit::fits;
 use md_comparability::{ClassOrChosen, orient_classes};
 use md_forcing::{Chain, Side};
 use md_graph::{Graph, GraphOf, Memory};
+use md_levels::is_shortest;
 use md_modules::{P4, is_p4};
 use md_report::{GraphMode, Line, SessionMode, made_p4};
 use md_script::{Edit, EditReason, apply, lost_row, reason, take_back};
@@ -47,6 +48,7 @@ pub(crate) fn reports<const W: usize>(
     match mode {
         GraphMode::Tree => is_tree_line(alloc, graph, line),
         GraphMode::Compare => is_orientation_line(alloc, graph, line),
+        GraphMode::Shortest => is_shortest_line(alloc, graph, line),
         GraphMode::Permute => is_model_line(alloc, graph, line),
     }
 }
@@ -80,6 +82,37 @@ fn is_orientation_line<const W: usize>(
         Line::Forced(chain) => is_forcing_chain(alloc, graph, Side::Edges, chain),
         _ => Ok(false),
     }
+}
+
+// Whether the line tells of the least-edge orientation of the graph, or of a shortest forcing
+// chain.
+fn is_shortest_line<const W: usize>(
+    alloc: Global,
+    graph: &GraphOf<W>,
+    line: &Line,
+) -> Result<bool, Memory>
+    ensures { IfOk result (λ fit. IsTrue fit
+        ↔ IsShortestLine (adjacent graph.now) (plain_line line.now)) }
+{
+    match line {
+        Line::Oriented(arcs) => is_least_edge_orientation(alloc, graph, arcs),
+        Line::Forced(chain) => is_shortest_chain(alloc, graph, chain),
+        _ => Ok(false),
+    }
+}
+
+// Whether the chain is a forcing chain of the graph, and none has fewer arcs.
+fn is_shortest_chain<const W: usize>(
+    alloc: Global,
+    graph: &GraphOf<W>,
+    chain: &Chain,
+) -> Result<bool, Memory>
+    ensures { IfOk result (λ fit. IsTrue fit ↔ IsShortestChain (adjacent graph.now) chain.now) }
+{
+    if !is_forcing_chain(alloc, graph, Side::Edges, chain)? {
+        return Ok(false);
+    }
+    is_shortest(alloc, graph, chain)
 }
 
 // Whether the line tells of two orders that realise the graph, or of a forcing chain of it or of

@@ -4,7 +4,7 @@ use Rattle.std.proofs.Common.{◌≡◌, ◌≢◌, ℕ, ◌+◌, ◌*◌, ◌<�
 use Rattle.std.proofs.lemmas.Bool.{cases_eq, cases_lt, cases_Bool, ne_eqb}
 use Rattle.std.specs.Prelude.{⊤}
 use Rattle.md_graph.specs.declared.TheConstants.{NAMES}
-use Rattle.md_graph.specs.Sets.{Has}
+use Rattle.md_graph.specs.Sets.{Has, only_name}
 use Rattle.md_graph.proofs.SetLemmas.{clash, only_has, union_left, union_right}
 use Rattle.md_graph.specs.Linked.{times}
 use Rattle.md_lists.proofs.ListLaws.{times-append, few}
@@ -36,7 +36,7 @@ mutual
   pub name_has : (t : PlainTree) (v : ℕ) → 0 < times v (named (parts_of t)) → Has (names t) v
   name_has (leaf w) v some =
       elim (cases_eq w v) [
-        | inl same ↦ subst (λ z. Has (names (leaf w)) z) same (only_has w)
+        | inl same ↦ subst (Has (only_name w)) same (only_has w)
         | inr other ↦ absurd (let e : ◌≡◌ {A = ℕ} (cond (w == v) 1 0) 0 = rw (ne_eqb w v other) refl in omega arith)
       ]
   name_has (node k cs ps) v some = names_have cs v some

@@ -110,7 +110,7 @@ abbrev mutual
   note_row m w p (then t ts) = note_in m w p t + note_row m w p ts
 
 -- the lists tell of a tree which of its names are marked, and which places were walked over
-pub record AreTold (l : Links) (m w : ℕ → ℕ) (t : PlaceTree) : Type 0 where
+pub record TellMarks (l : Links) (m w : ℕ → ℕ) (t : PlaceTree) : Type 0 where
   pub tallies : (p : ℕ) → tally_at l p ≡ tally_in m p t
   pub notes : (p : ℕ) → note_at l p ≡ note_in m w p t
 
@@ -136,7 +136,7 @@ pub record MarkView : Type 0 where
 
 pub record CanMark (l : Links) (place : ℕ) (d : MarkView) : Type 0 where
   pub kept : AreTreesKept l (then d.tree no_more)
-  pub told : AreTold l d.marks none_walked d.tree
+  pub told : TellMarks l d.marks none_walked d.tree
   pub marks : AreNameMarks d.marks
   pub fresh : d.marks d.name ≡ 0
   pub once : name_in d.name d.tree ≡ 1
@@ -160,7 +160,7 @@ pub record ClimbView : Type 0 where
 
 pub record CanClimb (l : Links) (d : ClimbView) : Type 0 where
   pub kept : AreTreesKept l (then d.tree no_more)
-  pub told : AreTold l d.marks none_walked d.tree
+  pub told : TellMarks l d.marks none_walked d.tree
   pub marks : AreNameMarks d.marks
   pub alternates : Alternates d.tree
 
@@ -199,7 +199,7 @@ pub record AreHalves (m : ℕ → ℕ) (ts : PlaceTrees) : Type 0 where
 -- and what is around it is ready
 pub record IsLowest (l : Links) (d : LowestView) : Type 0 where
   pub kept : AreTreesKept l (then (whole d) no_more)
-  pub told : AreTold l d.marks d.walked (whole d)
+  pub told : TellMarks l d.marks d.walked (whole d)
   pub walked : (p : ℕ) → d.walked p ≡ times p l.marked
   pub marks : AreNameMarks d.marks
   pub ready : AreReady d.marks d.frames
@@ -277,7 +277,7 @@ pub record AreWalkedOver (l : Links) (d : WalkView) : Type 0 where
   pub kept : AreTreesKept l (then d.tree no_more)
   pub marks : AreNameMarks d.marks
   pub alternates : Alternates d.tree
-  pub told : AreTold l d.marks d.walked d.tree
+  pub told : TellMarks l d.marks d.walked d.tree
   pub walked : Walked d.marks d.walked d.tree
 
 -- what was walked over is marked, and the place wasn't walked over

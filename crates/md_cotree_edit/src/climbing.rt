@@ -2,7 +2,7 @@
 ghost use Rattle.std.specs.Prelude.{◌≡◌, ℕ, ◌+◌, ◌*◌, ◌≤◌, ◌++◌, ◌↔◌, IsTrue, IsFalse, Bool, List, [], length, Some};
 ghost use Rattle.md_lists.specs.Links.{kind_at, tally_at, children_at, IsMarked, AreLinks};
 ghost use Rattle.md_cotree.specs.PlaceTrees.{place_kind, Alternates};
-ghost use Rattle.md_cotree_edit.specs.Marks.{WalkView, CanWalk, AreWalkedOver, walked_on, ClimbView, CanClimb, CanTake, LowestView, IsLowest, whole, AreTold, AreStill, Passes, hits_in, marked_walked};
+ghost use Rattle.md_cotree_edit.specs.Marks.{WalkView, CanWalk, AreWalkedOver, walked_on, ClimbView, CanClimb, CanTake, LowestView, IsLowest, whole, TellMarks, AreStill, Passes, hits_in, marked_walked};
 
 use crate::marking::FULL;
 use md_graph::Steps;
@@ -68,7 +68,7 @@ pub(crate) fn climb<L: Ledger>(lists: &mut Lists, steps: &mut Steps<L>) -> bool
     ensures can_take { (d : ClimbView) → CanClimb lists.old d →
         IsTrue result ↔ CanTake d.marks d.tree }
     ensures told { (d : ClimbView) → CanClimb lists.old d → IsTrue result →
-        AreTold lists.new d.marks (marked_walked lists.new) d.tree }
+        TellMarks lists.new d.marks (marked_walked lists.new) d.tree }
     ensures count { (d : ClimbView) → CanClimb lists.old d →
         length lists.new.marked ≤ 4 * hits_in d.marks d.tree }
     ensures steps { steps.new ≤ steps.old + 1 + 8 * length lists.new.marked }

@@ -4,7 +4,7 @@ ghost use Rattle.md_graph.specs.Linked.{times};
 ghost use Rattle.md_lists.specs.Links.{AreLinks};
 ghost use Rattle.md_cotree.specs.PlaceTrees.{PlaceTree, PlaceTrees};
 ghost use Rattle.md_cotree_edit.specs.Contexts.{AreTreesKept};
-ghost use Rattle.md_cotree_edit.specs.Marks.{MarkView, CanMark, CanMarkAll, AreTold, AreStill, full_nodes, more, none_walked};
+ghost use Rattle.md_cotree_edit.specs.Marks.{MarkView, CanMark, CanMarkAll, TellMarks, AreStill, full_nodes, more, none_walked};
 
 use md_graph::Steps;
 use md_lists::Lists;
@@ -19,7 +19,7 @@ fn mark<L: Ledger>(lists: &mut Lists, leaf: u32, steps: &mut Steps<L>)
     requires links { AreLinks lists.old }
     requires tree { (d : MarkView) × CanMark lists.old leaf d }
     ensures told { (d : MarkView) → CanMark lists.old leaf d →
-        AreTold lists.new (more d.marks d.name) none_walked d.tree }
+        TellMarks lists.new (more d.marks d.name) none_walked d.tree }
     ensures steps { (d : MarkView) → CanMark lists.old leaf d →
         steps.new + 5 * full_nodes d.marks d.tree ≤
         steps.old + 5 + 5 * full_nodes (more d.marks d.name) d.tree }
@@ -49,7 +49,7 @@ pub(crate) fn mark_all<L: Ledger>(
     requires links { AreLinks lists.old }
     requires tree { (t : PlaceTree) × CanMarkAll lists.old places.now names.now t }
     ensures told { (t : PlaceTree) → CanMarkAll lists.old places.now names.now t →
-        AreTold lists.new (λ v. times v names.now) none_walked t }
+        TellMarks lists.new (λ v. times v names.now) none_walked t }
     ensures steps { steps.new ≤ steps.old + 10 * length names.now }
     ensures still { AreStill lists.old lists.new }
     ensures links { AreLinks lists.new }

@@ -191,6 +191,14 @@ module _ (e : ℕ → ℕ → Bool) (s b : NameSet) (q : Classes) (cut : CutNoMo
 
 -- ---- the sets by number
 
+-- a name that has a number is below the length of the list
+pub numbered_within : (b : NameSet) (numbers : List (Option ℕ)) (count : ℕ) → IsNumbering b numbers count → (v : ℕ) → Has b v → v < length numbers
+numbered_within b numbers count is v member =
+    elim (cases_lt v (length numbers)) [
+      | inl within ↦ within
+      | inr past ↦ let known = is.known v member in absurd (none-some known.0 (sym (get_or_past numbers v None past) ∙ known.1))
+    ]
+
 pub number_low : (b : NameSet) (numbers : List (Option ℕ)) (count : ℕ) → IsNumbering b numbers count → (v n : ℕ) → Has b v → number_at numbers v ≡ Some n → n < count
 number_low b numbers count is v n member number =
     let known = is.known v member in

@@ -1,5 +1,5 @@
 //! Parts of a set that its modules lie in, by partition refinement.
-ghost use Rattle.std.specs.Prelude.{◌≡◌, ◌+◌, ◌*◌, ◌<◌, if◌then◌else◌, ◌≤◌, ℕ, IfOk, OnOk, OnErr, Some, None, length, vec_len, replicate};
+ghost use Rattle.std.specs.Prelude.{◌≡◌, ◌+◌, ◌*◌, ◌<◌, if◌then◌else◌, ◌≤◌, ℕ, IfOk, OnOk, OnErr, Some, None, length, replicate};
 ghost use Rattle.std.specs.FinSet.{insert};
 ghost use Rattle.md_graph.specs.PlainGraph.{adjacent};
 ghost use Rattle.md_graph.specs.Sets.{Has, HasSome, Within};
@@ -7,7 +7,7 @@ ghost use Rattle.md_modules.specs.Classes.{class_at, HoldsModules};
 ghost use Rattle.md_refine.specs.Partitions.{ArePartition};
 ghost use Rattle.md_decompose.specs.Refined.{CutNoModule, IsNumbering, AreNumbered, number_at, set_or_empty, set_yet_at};
 
-use md_graph::{GraphOf, Memory, NAMES, Set, WORDS};
+use md_graph::{GraphOf, Memory, Set, WORDS};
 use md_modules::CompactSet;
 use md_refine::Partition;
 use std::alloc::Global;
@@ -32,7 +32,7 @@ pub(crate) fn refined_classes<const W: usize>(
 {
     let partition = cut_by_rows(alloc, graph, set, rest)?;
     let count = partition.class_count();
-    let numbers = partition.class_numbers(alloc)?;
+    let numbers = partition.class_positions(alloc)?;
     let sets = sets_of_numbers(alloc, rest, count, &numbers)?;
     let made = all_made(alloc, sets)?;
     Ok(made)
@@ -89,8 +89,7 @@ fn sets_of_numbers<const W: usize>(
     count: u32,
     numbers: &Vec<Option<u32>>,
 ) -> Result<Vec<Option<CompactSet<W>>>, Memory>
-    requires len { vec_len numbers.now ≡ NAMES }
-    requires numbers { IsNumbering rest.now numbers.now.items count }
+    requires { IsNumbering rest.now numbers.now.items count }
     ensures len { IfOk result (λ sets. length sets.items ≡ count) }
     ensures members { IfOk result (λ sets. (k v : ℕ) → Has (set_yet_at sets.items k) v →
         Has rest.now v × (number_at numbers.now.items v ≡ Some k)) }

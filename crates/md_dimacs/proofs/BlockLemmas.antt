@@ -21,7 +21,7 @@ use Rattle.md_text.proofs.ListLemmas.{All-front}
 use Rattle.md_text.specs.declared.piece.Piece.{Piece}
 use Rattle.md_dimacs.specs.Text.{position}
 use Rattle.md_text.specs.Pieces.{piece_text, text_at, texts_at}
-use Rattle.md_dimacs.specs.Places.{IsPlaceOf, ArePlaces, line_start, row_text}
+use Rattle.md_dimacs.specs.Places.{IsPlaceOf, ArePlaces, line_start, vertex_lines}
 use Rattle.md_dimacs.proofs.AscendingLemmas.{at_most_one_more, nothing_below, neighbour_is_vertex}
 use Rattle.md_dimacs.proofs.TextLemmas.{row_lines, row_lines-nil, row_lines-cons, row_lines-append, row_text_is, row_end}
 
@@ -107,7 +107,7 @@ block_end g is v from first places held total all past before =
     (ascending_none (neighbours g v) (max from first) NAMES (λ w above below. false_from_ne_true _ (λ m.
     let there = (all.place_of w (neighbour_is_vertex g v w is m)).there in omega arith)))
 
-pub block_start : (g : PlainGraph) (v from first : ℕ) → from ≡ v + 1 → first ≤ from → row_lines g v (ascending_between (neighbours g v) (max from first) NAMES) ≡ row_text g v
+pub block_start : (g : PlainGraph) (v from first : ℕ) → from ≡ v + 1 → first ≤ from → row_lines g v (ascending_between (neighbours g v) (max from first) NAMES) ≡ vertex_lines g v
 block_start g v from first is within =
     let low : max from first ≡ v + 1 = omega arith in
     row_text_is g v (ascending_between (neighbours g v) (max from first) NAMES) (ap (λ k. ascending_between (neighbours g v) k NAMES) low)

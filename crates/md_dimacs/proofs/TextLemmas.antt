@@ -10,7 +10,7 @@ use Rattle.md_text.specs.Lines.{ended}
 use Rattle.md_text.specs.Numbers.{decimal}
 use Rattle.md_text.proofs.LineLemmas.{ended-nil, ended-cons, ended-append}
 use Rattle.md_dimacs.specs.Text.{position, edges_above, edge_places, edge_line, problem_line, dimacs_text}
-use Rattle.md_dimacs.specs.Places.{line_start, row_text, edges_text}
+use Rattle.md_dimacs.specs.Places.{line_start, vertex_lines, edges_text}
 
 -- ---- one row
 
@@ -22,8 +22,8 @@ places_of g v w = (position g v, position g w)
 abbrev pub row_lines : PlainGraph → ℕ → List ℕ → List ℕ
 row_lines g v ws = ended (map edge_line (map (places_of g v) ws))
 
-pub row_text_is : (g : PlainGraph) (v : ℕ) (ws : List ℕ) → ws ≡ ascending_from (neighbours g v) (v + 1) → row_lines g v ws ≡ row_text g v
-unfolding row_text edges_above
+pub row_text_is : (g : PlainGraph) (v : ℕ) (ws : List ℕ) → ws ≡ ascending_from (neighbours g v) (v + 1) → row_lines g v ws ≡ vertex_lines g v
+unfolding vertex_lines edges_above
 row_text_is g v ws e = ap (row_lines g v) e
 
 line_cut : (a b : List ℕ) → ((101 ∷ 32 ∷ (a ++ 32 ∷ b)) ++ 10 ∷ []) ≡ ((101 ∷ 32 ∷ a) ++ (32 ∷ (b ++ 10 ∷ [])))
@@ -56,16 +56,16 @@ pub edges_text_is : (g : PlainGraph) (vs : List ℕ) → vs ≡ ascending g.vert
 unfolding edges_text edge_places
 edges_text_is g vs e = ap (rows_lines g) e
 
-rows_lines-cons : (g : PlainGraph) (v : ℕ) (vs : List ℕ) → rows_lines g (v ∷ vs) ≡ row_text g v ++ rows_lines g vs
-unfolding row_text
+rows_lines-cons : (g : PlainGraph) (v : ℕ) (vs : List ℕ) → rows_lines g (v ∷ vs) ≡ vertex_lines g v ++ rows_lines g vs
+unfolding vertex_lines
 rows_lines-cons g v vs =
     ap ended (map-append edge_line (edges_above g v) (flat_map (edges_above g) vs))
     ∙ ended-append (map edge_line (edges_above g v)) (map edge_line (flat_map (edges_above g) vs))
 
-pub rows_step : (g : PlainGraph) (v : ℕ) (xs vs held new_held total : List ℕ) → held ++ rows_lines g xs ≡ total → xs ≡ v ∷ vs → new_held ≡ held ++ row_text g v
+pub rows_step : (g : PlainGraph) (v : ℕ) (xs vs held new_held total : List ℕ) → held ++ rows_lines g xs ≡ total → xs ≡ v ∷ vs → new_held ≡ held ++ vertex_lines g v
     → new_held ++ rows_lines g vs ≡ total
 rows_step g v xs vs held new_held total before cut more =
-    ap (λ l. l ++ rows_lines g vs) more ∙ append_assoc held (row_text g v) (rows_lines g vs)
+    ap (λ l. l ++ rows_lines g vs) more ∙ append_assoc held (vertex_lines g v) (rows_lines g vs)
     ∙ ap (λ l. held ++ l) (sym (ap (rows_lines g) cut ∙ rows_lines-cons g v vs)) ∙ before
 
 pub rows_end : (g : PlainGraph) (xs held total : List ℕ) → held ++ rows_lines g xs ≡ total → xs ≡ [] → held ≡ total

@@ -25,8 +25,8 @@ abbrev pub line_start : PlainGraph → ℕ → List ℕ
 line_start g v = codes "e " ++ decimal (position g v)
 
 -- the lines of the edges of v to the vertices above it
-unfoldable pub row_text : PlainGraph → ℕ → List ℕ
-row_text g v = ended (map edge_line (edges_above g v))
+unfoldable pub vertex_lines : PlainGraph → ℕ → List ℕ
+vertex_lines g v = ended (map edge_line (edges_above g v))
 
 -- the lines of all edges
 unfoldable pub edges_text : PlainGraph → List ℕ

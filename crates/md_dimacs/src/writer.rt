@@ -3,7 +3,7 @@ ghost use Rattle.std.specs.Prelude.{◌≡◌, ℕ, ◌+◌, ◌*◌, ◌<◌, �
 ghost use Rattle.md_dimacs.specs.Text.{dimacs_text, problem_line};
 ghost use Rattle.md_text.specs.Pieces.{piece_text};
 ghost use Rattle.md_graph.specs.Sets.{Has};
-ghost use Rattle.md_dimacs.specs.Places.{ArePlaces, line_start, row_text, edges_text};
+ghost use Rattle.md_dimacs.specs.Places.{ArePlaces, line_start, vertex_lines, edges_text};
 
 use crate::blocks::{bits_from, write_block};
 use crate::spelling::start_piece;
@@ -107,7 +107,7 @@ fn write_row<const W: usize>(
     requires start { piece_text start ≡ line_start graph.now v }
     requires places { ArePlaces graph.now places.now }
     ensures { OnOk result (text.new.items ++ chunk.new
-        ≡ (text.old.items ++ chunk.old) ++ row_text graph.now v) }
+        ≡ (text.old.items ++ chunk.old) ++ vertex_lines graph.now v) }
 {
     let row = graph.neighbours(v);
     let from = v + 1;

@@ -12,7 +12,7 @@ use Rattle.md_forcing.proofs.ListLemmas.{get_some, get_left, get_of_append, key_
 use Rattle.md_forcing.proofs.Reaching.{reached_arc, reaches_step}
 use Rattle.md_forcing.proofs.Distances.{at_in_order, at_some, one_step}
 use Rattle.md_levels.specs.Levels.{InLevel, InLevelTo, IsForcedFrom, AreLevels}
-use Rattle.md_levels.specs.Depths.{place_in, depth_within, depth, arcs_at, level, levels_to, levels_of}
+use Rattle.md_levels.specs.Depths.{entry_place, depth_within, depth, arcs_at, level, levels_to, levels_of}
 
 -- the arc stands at a place so far from the first
 abbrev pub StandsAt : List (Arc × ℕ) → ℕ → Arc → Type 0
@@ -106,8 +106,8 @@ module _ (e : ℕ → ℕ → Bool) (first : Arc) (es : List (Arc × ℕ)) (is :
       let entry = get_some es (suc k) within in
       let forced = is.forced (suc k) entry.0.1 entry.0.0 (omega arith) entry.1 in
       let before = forced.before in
-      let there : place_in (slice_get es (suc k)) ≡ entry.0.1 = ap place_in entry.1 in
-      let far : IsAtDistance es (depth_within es b (place_in (slice_get es (suc k)))) entry.0.1 =
+      let there : entry_place (slice_get es (suc k)) ≡ entry.0.1 = ap entry_place entry.1 in
+      let far : IsAtDistance es (depth_within es b (entry_place (slice_get es (suc k)))) entry.0.1 =
       subst (λ q. IsAtDistance es (depth_within es b q) entry.0.1) (sym there) (depth_far b entry.0.1 (omega arith) (omega arith))
       in
       (omega arith, entry.0.1, entry.0.0, entry.1, far)

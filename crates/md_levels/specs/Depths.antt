@@ -5,15 +5,15 @@ use Rattle.md_forcing.specs.declared.arc.Arc.{Arc}
 use Rattle.md_forcing.specs.Classes.{IsClass}
 
 -- the place that an entry has, if there is one
-abbrev pub place_in : Option (Arc × ℕ) → ℕ
-place_in None = 0
-place_in (Some entry) = entry.1
+abbrev pub entry_place : Option (Arc × ℕ) → ℕ
+entry_place None = 0
+entry_place (Some entry) = entry.1
 
 -- how many steps lead from a place back to the first, within a bound
 unfoldable pub depth_within : List (Arc × ℕ) → ℕ → ℕ → ℕ
 depth_within es zero k = 0
 depth_within es (suc n) zero = 0
-depth_within es (suc n) (suc k) = suc (depth_within es n (place_in (slice_get es (suc k))))
+depth_within es (suc n) (suc k) = suc (depth_within es n (entry_place (slice_get es (suc k))))
 
 -- how many steps lead from a place back to the first: places fall, so there are no more than the place says
 abbrev pub depth : List (Arc × ℕ) → ℕ → ℕ

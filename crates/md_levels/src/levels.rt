@@ -75,3 +75,51 @@ fn depth_of(trail: &ForcingTree, place: usize) -> u64
     }
     depth
 }
+
+#[cfg(test)]
+mod tests {
+    use super::*;
+    use std::process::Abort;
+    use std::test::Fail;
+
+    // Sees that the levels of 0>1 have so many arcs of the graph, and that the last has 1>0 alone.
+    fn expect(
+        rt: &impl Abort,
+        alloc: Global,
+        edges: &[(u32, u32)],
+        sizes: &[u32],
+    ) -> Result<(), Memory> {
+        let graph: GraphOf<1> = GraphOf::from_edges(alloc, 6, edges)?.expect(rt, "edges");
+        assert!(rt; graph.has_edge(0, 1));
+        let levels = levels_from(alloc, &graph, Arc { tail: 0, head: 1 })?;
+        for k in 0..sizes.len() {
+            let mut count = 0u32;
+            for tail in 0..6 {
+                for head in 0..6 {
+                    if levels.level_of(Arc { tail, head }) == Some(k as u64) {
+                        count = count.wrapping_add(1);
+                    }
+                }
+            }
+            assert_eq!(rt; count, sizes[k], "level {k}");
+        }
+        Ok(())
+    }
+
+    #[test]
+    fn levels_of_cycles_and_paths(rt: HostRuntime) -> Result<(), Fail> {
+        let cycle = [(0, 1), (1, 2), (2, 3), (3, 4), (0, 4)];
+        let path = [(0, 1), (1, 2), (2, 3)];
+        let triangle = [(0, 1), (1, 2), (0, 2)];
+        expect(&rt, rt.alloc(), &cycle, &[1, 2, 2, 2, 2, 1, 0])?;
+        expect(&rt, rt.alloc(), &path, &[1, 1, 1, 0])?;
+        expect(&rt, rt.alloc(), &triangle, &[1, 0])?;
+        let graph: GraphOf<1> = GraphOf::from_edges(rt.alloc(), 5, &cycle)?.expect(&rt, "edges");
+        assert!(rt; graph.has_edge(0, 1));
+        let levels = levels_from(rt.alloc(), &graph, Arc { tail: 0, head: 1 })?;
+        assert_eq!(rt; levels.level_of(Arc { tail: 0, head: 1 }), Some(0));
+        assert_eq!(rt; levels.level_of(Arc { tail: 1, head: 0 }), Some(5));
+        assert_eq!(rt; levels.level_of(Arc { tail: 0, head: 2 }), None);
+        Ok(())
+    }
+}

@@ -275,16 +275,29 @@ impl Partition {
         }
     }
 
-    /// The position of the class of each name, None for those that are in no class: it costs one
-    /// look at each class and each name. Errors: want of memory.
+    /// The position of the class of each name up to the greatest of the set, None for those that are
+    /// in no class: it costs one look at each class and each of these names. Errors: want of memory.
+    pub fn class_positions(&self, alloc: Global) -> Result<Vec<Option<u32>>, Memory>
+        ensures few { IfOk result (λ positions. length positions.items ≤ NAMES) }
+        ensures positions { IfOk result (λ positions. (v : ℕ) →
+            slice_index_or positions.items v None ≡ class_position self.now.classes v) }
+    {
+        let homes = &self.homes;
+        let positions = positions_of(alloc, &self.nexts, self.first, self.used)?;
+        let numbers = numbers_of(alloc, homes, &self.owners, &positions)?;
+        Ok(numbers)
+    }
+
+    /// The same for all names. Errors: want of memory.
     pub fn class_numbers(&self, alloc: Global) -> Result<Vec<Option<u32>>, Memory>
         ensures len { IfOk result (λ numbers. length numbers.items ≡ NAMES) }
         ensures numbers { IfOk result (λ numbers. (v : ℕ) →
             slice_index_or numbers.items v None ≡ class_position self.now.classes v) }
     {
-        let homes = &self.homes;
-        let positions = positions_of(alloc, &self.nexts, self.first, self.used)?;
-        let numbers = numbers_of(alloc, homes, &self.owners, &positions)?;
+        let mut numbers = self.class_positions(alloc)?;
+        for _ in numbers.len()..NAMES as usize {
+            numbers.push(None)?;
+        }
         Ok(numbers)
     }
 

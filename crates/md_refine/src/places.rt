@@ -130,17 +130,16 @@ pub(crate) fn numbers_of(
     owners: &Vec<u32>,
     positions: &Vec<u32>,
 ) -> Result<Vec<Option<u32>>, Memory>
-    requires few { vec_len homes.now ≤ NAMES }
-    requires owners { (v i : ℕ) → slice_index_or homes.now.items v None ≡ Some i →
+    requires { (v i : ℕ) → slice_index_or homes.now.items v None ≡ Some i →
         IsPlaced owners.now.items positions.now.items i }
-    ensures len { IfOk result (λ numbers. length numbers.items ≡ NAMES) }
+    ensures len { IfOk result (λ numbers. length numbers.items ≡ vec_len homes.now) }
     ensures numbers { IfOk result (λ numbers. (v : ℕ) → slice_index_or numbers.items v None
         ≡ position_of_mark owners.now.items positions.now.items
         (slice_index_or homes.now.items v None)) }
 {
-    let mut numbers = Vec::with_capacity(alloc, NAMES as usize)?;
-    for v in 0..NAMES {
-        numbers.push_reserved(number_at(home_at(homes, v), owners, positions));
+    let mut numbers = Vec::with_capacity(alloc, homes.len())?;
+    for v in 0..homes.len() {
+        numbers.push_reserved(number_at(homes[v], owners, positions));
     }
     Ok(numbers)
 }

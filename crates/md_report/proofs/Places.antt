@@ -14,6 +14,9 @@ use Rattle.md_comparability.specs.Laws.{MeetsPremises, HasTwoSides, HasChainOrOr
 use Rattle.md_comparability.proofs.Reached.{side_premises, sides_proof}
 use Rattle.md_comparability.proofs.Alternative.{alternative_proof}
 use Rattle.md_comparability.proofs.OneList.{one_list_proof}
+use Rattle.md_comparability.proofs.Shortest.{shortest_proof}
+use Rattle.md_comparability.specs.Chains.{IsShortestChain}
+use Rattle.md_forcing.specs.declared.arc.Arc.{Arc}
 use Rattle.md_comparability.proofs.OrderLaws.{orders_proof}
 use Rattle.std.specs.List.{All}
 use Rattle.std.proofs.lemmas.List.Elements.{All-nil, All-head, All-tail}
@@ -22,16 +25,16 @@ use Rattle.md_script.specs.declared.edit.EditReason.{EditReason}
 use Rattle.md_script.specs.Edit.{HasNames, reason_of, after}
 use Rattle.md_script.proofs.ChangeLemmas.{after_is_graph}
 use Rattle.md_report.specs.declared.line.GraphMode.{GraphMode}
-use Rattle.md_report.specs.declared.line.GraphMode.TheVariants.{Tree, Compare, Permute}
+use Rattle.md_report.specs.declared.line.GraphMode.TheVariants.{Tree, Compare, Shortest, Permute}
 use Rattle.md_report.specs.declared.line.SessionMode.{SessionMode}
 use Rattle.md_report.specs.declared.line.SessionMode.TheVariants.{Edit, Cograph, Quiet}
 use Rattle.md_report.specs.Lines.{PlainLine, mode_of, session_mode_of, head, tree, applied, applied_quiet, refused, refused_p4, not_cograph, oriented, forced, orders, forced_in, forced_in_complement, end}
-use Rattle.md_report.specs.Orientations.{IsOrientationLine}
+use Rattle.md_report.specs.Orientations.{IsOrientationLine, IsShortestLine}
 use Rattle.md_report.specs.Models.{IsModelLine}
 use Rattle.md_report.specs.Sessions.{HasTreeLine, IsLineBy, state_by, IsStepLine, state_after, state_behind, last_state, SessionRun}
 use Rattle.md_report.specs.Cographs.{IsP4Of, IsCograph, HasP4Line, IsOpeningLine, IsCographLineBy, IsCographLine, IsQuietLineBy, IsQuietLine, edits_behind, CographRun, QuietRun}
 use Rattle.md_report.specs.Places.{Place, before_head, at_graphs, before_session, at_state, at_edits, at_end, after_end, Reports, ReportsState, ComesAtEdits, place_behind, quiet_place, MayCome, next_place, Lead}
-use Rattle.md_report.specs.Laws.{AreGraphs, IsSound, LinesLeadIfFirst, ReportEach, IsGraphReport, GraphReportsHaveLines, AnswerEach, IsSessionReport, IsWholeSession, SessionReportsAreRuns}
+use Rattle.md_report.specs.Laws.{AreGraphs, IsSound, LinesLeadIfFirst, ReportEach, IsGraphReport, GraphReportsHaveLines, ShortestReportsCompare, AnswerEach, IsSessionReport, IsWholeSession, SessionReportsAreRuns}
 
 pub lead_append : (p q r : Place) (lines more : List PlainLine) → Lead p lines q → Lead q more r → Lead p (lines ++ more) r
 lead_append p q r [] more leads on = subst (λ z. Lead z more r) (sym leads) on
@@ -148,6 +151,22 @@ orientation_line g is =
           (oriented list.0, (has, list.1))
     ]
 
+-- each graph has a line with its least-edge orientation, or with a shortest forcing chain
+shortest_line : (g : PlainGraph) → IsGraph g → (line : PlainLine) × IsShortestLine (adjacent g) line
+shortest_line g is =
+    let side : MeetsPremises (adjacent g) = side_premises is Edges in
+    elim ((alternative_proof (adjacent g) side.adjacency NAMES side.below).one) [
+      | inl chain ↦
+          let short = shortest_proof (adjacent g) side.adjacency NAMES side.below chain in
+          (
+            forced short.0,
+            record { is = short.1.chain; shortest = λ other same. subst (IsShortestChain (adjacent g)) (let e : short.0 ≡ other = cc in e) short.1 },
+          )
+      | inr has ↦
+          let list = (one_list_proof (adjacent g) side.adjacency NAMES side.below).some in
+          (oriented list.0, record { is = (has, list.1); shortest = λ other same. cc })
+    ]
+
 -- each graph has a line with two orders that realise it, or with a forcing chain of it or of its complement
 model_line : (g : PlainGraph) → IsGraph g → (line : PlainLine) × IsModelLine g line
 model_line g is =
@@ -170,6 +189,7 @@ model_line g is =
 some_line : (mode : GraphMode) (g : PlainGraph) → IsGraph g → (line : PlainLine) × Reports mode g line
 some_line Tree g is = tree_line tree g is
 some_line Compare g is = orientation_line g is
+some_line Shortest g is = shortest_line g is
 some_line Permute g is = model_line g is
 
 -- each edit has a line
@@ -326,6 +346,18 @@ graph_reports_proof mode graphs lines = (
   graph_report mode graphs lines,
   λ is. subst (λ l. Lead (before_head mode graphs) l after_end) (sym is.whole) (refl, each_graphs mode graphs is.run is.each),
 )
+
+-- lines with shortest chains are lines of orientations
+shortest_each : (graphs : List PlainGraph) (run : List PlainLine) → ReportEach Shortest graphs run → ReportEach Compare graphs run
+shortest_each [] run each = each
+shortest_each (g ∷ graphs) [] each = each
+shortest_each (g ∷ graphs) (line ∷ run) each = (each.0.is, shortest_each graphs run each.1)
+
+pub shortest_reports_proof : ShortestReportsCompare
+shortest_reports_proof graphs bytes is =
+    let report = (graph_reports_proof Shortest graphs is.lines).0 is.leads in
+    let other : IsGraphReport Compare graphs is.lines = record { run = report.run; each = shortest_each graphs report.run report.each; whole = report.whole } in
+    record { lines = is.lines; leads = (graph_reports_proof Compare graphs is.lines).1 other; text = is.text }
 
 -- the lines of edits are one for each, and the end
 edits_run : (edits : List script.Edit) (g : PlainGraph) (lines : List PlainLine) → Lead (at_edits Edit g edits) lines after_end → (run : List PlainLine) × SessionRun g edits run × (lines ≡ run ++ end ∷ [])

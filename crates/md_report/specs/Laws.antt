@@ -6,6 +6,7 @@ use Rattle.md_modules.specs.declared.induced_paths.P4.{P4}
 use Rattle.md_script.specs.declared.edit.Edit.{Edit}
 use Rattle.md_script.specs.Edit.{HasNames}
 use Rattle.md_report.specs.declared.line.GraphMode.{GraphMode}
+use Rattle.md_report.specs.declared.line.GraphMode.TheVariants as graph_modes
 use Rattle.md_report.specs.declared.line.SessionMode.{SessionMode}
 use Rattle.md_report.specs.declared.line.SessionMode.TheVariants as session_modes
 use Rattle.md_report.specs.declared.line.Mode.TheVariants as modes
@@ -53,6 +54,12 @@ abbrev pub GraphReportsHaveLines : Type 0
 GraphReportsHaveLines =
     (mode : GraphMode) (graphs : List PlainGraph) (lines : List PlainLine) →
     Lead (before_head mode graphs) lines after_end ↔ IsGraphReport mode graphs lines
+
+-- A valid report of shortest forcing chains is one of transitive orientations.
+abbrev pub ShortestReportsCompare : Type 0
+ShortestReportsCompare =
+    (graphs : List PlainGraph) (bytes : List ℕ) →
+    IsReport (before_head graph_modes.Shortest graphs) bytes → IsReport (before_head graph_modes.Compare graphs) bytes
 
 -- the lines answer the edits of a script, one each
 abbrev pub AnswerEach : SessionMode → PlainGraph → List Edit → List PlainLine → Type 0

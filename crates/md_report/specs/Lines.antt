@@ -56,6 +56,7 @@ plain_line lines.End = end
 abbrev pub mode_of : GraphMode → Mode
 mode_of graph_modes.Tree = modes.Tree
 mode_of graph_modes.Compare = modes.Compare
+mode_of graph_modes.Shortest = modes.Compare
 mode_of graph_modes.Permute = modes.Permute
 
 -- what a report of a session is about

@@ -4,11 +4,11 @@ use Rattle.std.specs.Prelude.{◌≡◌, ◌⊎◌, List, [], ◌∷◌}
 use Rattle.md_graph.specs.PlainGraph.{PlainGraph, adjacent}
 use Rattle.md_script.specs.declared.edit.Edit as script
 use Rattle.md_report.specs.declared.line.GraphMode.{GraphMode}
-use Rattle.md_report.specs.declared.line.GraphMode.TheVariants.{Tree, Compare, Permute}
+use Rattle.md_report.specs.declared.line.GraphMode.TheVariants.{Tree, Compare, Shortest, Permute}
 use Rattle.md_report.specs.declared.line.SessionMode.{SessionMode}
 use Rattle.md_report.specs.declared.line.SessionMode.TheVariants.{Edit, Cograph, Quiet}
 use Rattle.md_report.specs.Lines.{PlainLine, mode_of, session_mode_of, head, tree, applied, applied_quiet, refused, refused_p4, not_cograph, oriented, forced, orders, forced_in, forced_in_complement, end}
-use Rattle.md_report.specs.Orientations.{IsOrientationLine}
+use Rattle.md_report.specs.Orientations.{IsOrientationLine, IsShortestLine}
 use Rattle.md_report.specs.Models.{IsModelLine}
 use Rattle.md_report.specs.Sessions.{HasTreeLine, IsStepLine, state_behind}
 use Rattle.md_report.specs.Cographs.{IsCograph, HasP4Line, IsOpeningLine, IsCographLine, IsQuietLine, edits_behind}
@@ -25,10 +25,12 @@ pub data Place : Type 0 where
   after_end : Place
 
 -- the line that reports one graph: in mode tree its tree of strong modules, in mode compare its least-edge orientation
--- or a forcing chain of it, in mode permute two orders that realise it or a forcing chain of it or of its complement
+-- or a forcing chain of it, in mode shortest the same with a shortest chain, in mode permute two orders that realise it or a
+-- forcing chain of it or of its complement
 abbrev pub Reports : GraphMode → PlainGraph → PlainLine → Type 0
 Reports Tree g line = HasTreeLine tree g line
 Reports Compare g line = IsOrientationLine (adjacent g) line
+Reports Shortest g line = IsShortestLine (adjacent g) line
 Reports Permute g line = IsModelLine g line
 
 -- the line that reports the first state of a session: in mode edit its tree of strong modules, in mode cograph that tree or an

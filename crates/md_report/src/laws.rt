@@ -1,10 +1,10 @@
 //! The laws of reports, each the contract of a function that does nothing.
 
-ghost use Rattle.md_report.specs.Laws.{LinesLeadIfFirst, GraphReportsHaveLines, SessionReportsAreRuns, CographRunsApplyAlike, FrontsBeginReports, OneLineOneText};
+ghost use Rattle.md_report.specs.Laws.{LinesLeadIfFirst, GraphReportsHaveLines, ShortestReportsCompare, SessionReportsAreRuns, CographRunsApplyAlike, FrontsBeginReports, OneLineOneText};
 
 // What is known of the lines of orientations, for readers of reports.
 pub use md_comparability::laws::{
-    chain_or_orientation, classes_are_transitive, least_edge_is_transitive,
+    chain_has_shortest, chain_or_orientation, classes_are_transitive, least_edge_is_transitive,
     one_least_edge_orientation, orders_if_no_chain, orientations_give_orders, sides_meet_premises,
     triangle_lemma,
 };
@@ -18,6 +18,11 @@ pub fn lines_lead_if_first()
 /// A whole report over graphs is the head, one line for each graph, in their order, and the end.
 pub fn graph_reports_have_lines()
     ensures { GraphReportsHaveLines }
+{}
+
+/// A valid report in mode shortest is one in mode compare.
+pub fn shortest_reports_compare()
+    ensures { ShortestReportsCompare }
 {}
 
 /// A whole report of a session is the head, the line of the first state, the lines of the run over

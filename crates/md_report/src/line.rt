@@ -58,6 +58,8 @@ pub enum GraphMode {
     Tree,
     /// Its least-edge orientation, or a forcing chain where it has no transitive orientation.
     Compare,
+    /// The same with a shortest forcing chain: a report of mode compare.
+    Shortest,
     /// Two orders of its vertices that realise it, or a forcing chain of it or of its complement.
     Permute,
 }
@@ -72,7 +74,7 @@ impl GraphMode {
     {
         match self {
             GraphMode::Tree => Mode::Tree,
-            GraphMode::Compare => Mode::Compare,
+            GraphMode::Compare | GraphMode::Shortest => Mode::Compare,
             GraphMode::Permute => Mode::Permute,
         }
     }

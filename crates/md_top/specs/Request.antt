@@ -10,6 +10,7 @@ use Rattle.md_graph.specs.declared.TheConstants.{NAMES}
 use Rattle.md_input.specs.declared.format.Format.{Format}
 use Rattle.md_input.specs.declared.format.Format.TheVariants.{G6, Dimacs}
 use Rattle.md_report.specs.declared.line.GraphMode.{GraphMode}
+use Rattle.md_report.specs.declared.line.GraphMode.TheVariants.{Shortest}
 use Rattle.md_report.specs.declared.line.SessionMode.{SessionMode}
 use Rattle.md_report.specs.Lines.{mode_of_word, as_graph_mode, as_session_mode}
 use Rattle.md_top.specs.declared.request.GraphForm.{GraphForm}
@@ -56,9 +57,11 @@ format_of word =
     if bytes_eq word (codes "g6") then Some G6
     else (if bytes_eq word (codes "dimacs") then Some Dimacs else None)
 
--- the mode of a report over the graphs of a file
+-- the mode of a report over the graphs of a file: the head of a report of shortest chains has no word of its own
 abbrev pub graph_mode : List ℕ → Option GraphMode
-graph_mode word = option_and_then as_graph_mode (mode_of_word word)
+graph_mode word =
+    if bytes_eq word (codes "shortest") then Some Shortest
+    else option_and_then as_graph_mode (mode_of_word word)
 
 -- the form of a command over the graphs of a file
 abbrev pub graph_form : List ℕ → Option GraphForm

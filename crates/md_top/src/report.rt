@@ -4,7 +4,7 @@ ghost use Rattle.std.specs.Prelude.{◌≡◌, ◌≤◌, List, [], ◌∷◌, I
 ghost use Rattle.md_graph.specs.PlainGraph.{PlainGraph, adjacent};
 ghost use Rattle.md_report.specs.declared.line.GraphMode.{GraphMode};
 ghost use Rattle.md_report.specs.Lines.{plain_line};
-ghost use Rattle.md_report.specs.Orientations.{IsOrientationLine};
+ghost use Rattle.md_report.specs.Orientations.{IsShortestLine};
 ghost use Rattle.md_report.specs.Models.{IsModelLine};
 ghost use Rattle.md_report.specs.Places.{before_head, at_graphs, after_end, Reports};
 ghost use Rattle.md_top.specs.declared.request.GraphForm.{GraphForm};
@@ -105,6 +105,7 @@ fn line_of<const W: usize>(
     match mode {
         GraphMode::Tree => tree_line(alloc, graph),
         GraphMode::Compare => orientation_line(alloc, graph),
+        GraphMode::Shortest => orientation_line(alloc, graph),
         GraphMode::Permute => model_line(alloc, graph),
     }
 }
@@ -117,9 +118,9 @@ fn tree_line<const W: usize>(alloc: Global, graph: &GraphOf<W>) -> Result<Line, 
     Ok(Line::Tree(tree))
 }
 
-// The line of the least-edge orientation of a graph, or of a forcing chain of it.
+// The line of the least-edge orientation of a graph, or of a shortest forcing chain of it.
 fn orientation_line<const W: usize>(alloc: Global, graph: &GraphOf<W>) -> Result<Line, Memory>
-    ensures { IfOk result (λ line. IsOrientationLine (adjacent graph.now) (plain_line line)) }
+    ensures { IfOk result (λ line. IsShortestLine (adjacent graph.now) (plain_line line)) }
 {
     match orient(alloc, graph)? {
         Orientation::Transitive(arcs) => Ok(Line::Oriented(arcs)),

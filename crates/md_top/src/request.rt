@@ -130,6 +130,9 @@ fn graph_form(command: &str) -> Option<GraphForm>
 fn graph_mode(word: &str) -> Option<GraphMode>
     ensures { result ≡ graph_mode word.now }
 {
+    if word == "shortest" {
+        return Some(GraphMode::Shortest);
+    }
     mode_of_word(word.as_bytes())?.as_graph_mode()
 }
 

@@ -289,12 +289,18 @@ fn trees(rt: HostRuntime) -> Result<(), Fail> {
 #[test]
 fn orientations(rt: HostRuntime) -> Result<(), Fail> {
     let alloc = rt.alloc();
-    let table: [(&str, &[u8], &str); 5] = [
+    let table: [(&str, &[u8], &str); 7] = [
         (
             "compare g6 g",
             b"Dhc\n",
             "0|mdt compare\nno 0>1 0>4 3>4 3>2 1>2 1>0\nend\n|",
         ),
+        (
+            "shortest g6 g",
+            b"Bw\nDhc\n",
+            "0|mdt compare\nyes 0>1 0>2 1>2\nno 0>1 0>4 3>4 3>2 1>2 1>0\nend\n|",
+        ),
+        ("shortest g6 g s", b"Dhc\n", "2||mdt: usage\n"),
         (
             "compare g6 g",
             b"Ch\nBw\n?\n",

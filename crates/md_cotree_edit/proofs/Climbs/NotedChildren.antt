@@ -4,7 +4,7 @@ use Rattle.md_graph.specs.Linked.{times}
 use Rattle.md_lists.specs.Links.{Links, tally_at, note_at, AreLinks}
 use Rattle.md_cotree.specs.PlaceTrees.{PlaceTree, tip, inner, PlaceTrees, no_more, then, place_of, Alternates}
 use Rattle.md_cotree_edit.specs.Contexts.{AreTreesKept}
-use Rattle.md_cotree_edit.specs.Marks.{AreNameMarks, hits_in, full_in, full_row, mixed_in, mixed_count, AreTold, LowestView, whole, IsLowest}
+use Rattle.md_cotree_edit.specs.Marks.{AreNameMarks, hits_in, full_in, full_row, mixed_in, mixed_count, TellMarks, LowestView, whole, IsLowest}
 use Rattle.md_cotree_edit.specs.Relinks.{AreNoted}
 use Rattle.md_cotree_edit.proofs.Marks.MarksAroundHole.{fulls_low}
 use Rattle.md_cotree_edit.proofs.Marks.MarkedBelow.{bit, full_walked, unhit_walks, are_shown}
@@ -15,7 +15,7 @@ pub not_mixed : (m : ℕ → ℕ) (t : PlaceTree) → mixed_in m t ≡ 0 → ful
 not_mixed m t none e = let f : (1 - 0) * min 1 (hits_in m t) ≡ 0 = ap (λ z. (1 - z) * min 1 (hits_in m t)) (sym e) ∙ none in omega arith
 
 module _ (l : Links) (ok : AreLinks l) (t : PlaceTree) (kept : AreTreesKept l (then t no_more)) (alternates : Alternates t)
-    (m w : ℕ → ℕ) (marks : AreNameMarks m) (told : AreTold l m w t) (walked : (p : ℕ) → w p ≡ times p l.marked) where
+    (m w : ℕ → ℕ) (marks : AreNameMarks m) (told : TellMarks l m w t) (walked : (p : ℕ) → w p ≡ times p l.marked) where
   noted_in : (s : PlaceTree) → Sub s t → mixed_in m s ≡ 0 → note_at l (place_of s) ≡ full_in m s
   noted_in (tip q v) sub none = tip_note l t kept m w told q v sub
   noted_in (inner q k ts) sub none =

@@ -9,7 +9,7 @@ use Rattle.md_lists.proofs.LinkLaws.{mark_once, get_or-set, holds-once-same, hol
 use Rattle.md_cotree.specs.PlaceTrees.{PlaceTree, tip, inner, PlaceTrees, no_more, then, place_of, place_kind, roots, row_length}
 use Rattle.md_cotree.proofs.Frames.{hit, miss}
 use Rattle.md_cotree_edit.specs.Counts.{child_in, child_row}
-use Rattle.md_cotree_edit.specs.Marks.{more, hits_in, full_in, full_row, full_count, mixed_count, walked_count, note_in, note_row, Passes, CanTake, AllCanTake, Walked, AllWalked, AreTold, none_walked, WalkView, AreWalkedOver, CanWalk, walked_on, ClimbView, CanClimb, walked_to, marked_walked}
+use Rattle.md_cotree_edit.specs.Marks.{more, hits_in, full_in, full_row, full_count, mixed_count, walked_count, note_in, note_row, Passes, CanTake, AllCanTake, Walked, AllWalked, TellMarks, none_walked, WalkView, AreWalkedOver, CanWalk, walked_on, ClimbView, CanClimb, walked_to, marked_walked}
 use Rattle.md_cotree_edit.proofs.Trees.LocalCounts.{cond_no, cond_yes}
 use Rattle.md_cotree_edit.proofs.Trees.CountsAtNode.{Sub, SubRow, sub_refl, sub_trans, take_sub, walked_sub, at_in, at_row, nothing, node_child, node_kind, node_length, node_tally, node_note, tip_note, find_parent}
 use Rattle.md_cotree_edit.proofs.Climbs.WalkedList.{IsPassing, pass_seen, pass_fresh}
@@ -362,8 +362,8 @@ climb_at l ok d done c pass is = record {
 pub climb_marked : (l : Links) (ok : AreLinks l) (c : ℕ) → 0 < times c l.marked → IsMarked l c
 climb_marked l ok c some = let once = mark_once l ok c in omega arith
 
-pub climb_told : (l : Links) (d : ClimbView) (done : List ℕ) → l.marked ≡ done → AreWalkedOver l (walked_to d done) → AreTold l d.marks (marked_walked l) d.tree
-climb_told l d done all is = subst (λ xs. AreTold l d.marks (λ p. times p xs) d.tree) (sym all) is.told
+pub climb_told : (l : Links) (d : ClimbView) (done : List ℕ) → l.marked ≡ done → AreWalkedOver l (walked_to d done) → TellMarks l d.marks (marked_walked l) d.tree
+climb_told l d done all is = subst (λ xs. TellMarks l d.marks (λ p. times p xs) d.tree) (sym all) is.told
 
 pub climb_takes : (l : Links) (ok : AreLinks l) (d : ClimbView) (done : List ℕ) → l.marked ≡ done → AreWalkedOver l (walked_to d done) → CanTake d.marks d.tree
 climb_takes l ok d done all is = walked_takes l ok (walked_to d done) is (λ p. sym (ap (times p) all))

@@ -3,7 +3,7 @@ use Rattle.std.proofs.Common.{ℕ, Bool, List, Option, Some, refl, sym, ◌∙�
 use Rattle.md_lists.specs.Links.{Links, AreLinks}
 use Rattle.md_cotree.specs.PlaceTrees.{PlaceTree, inner, PlaceTrees, no_more, then, Alternates}
 use Rattle.md_cotree_edit.specs.Contexts.{Frame, plug}
-use Rattle.md_cotree_edit.specs.Marks.{CanTake, ClimbView, LowestView, whole, IsLowest, CanRelink, CanLinkIn, IsLinkedIn, AreTold, AreStill, AreReady, AreHalves, marked_walked}
+use Rattle.md_cotree_edit.specs.Marks.{CanTake, ClimbView, LowestView, whole, IsLowest, CanRelink, CanLinkIn, IsLinkedIn, TellMarks, AreStill, AreReady, AreHalves, marked_walked}
 use Rattle.md_cotree_edit.proofs.Trees.SameRows.{SameTree, tree_name}
 use Rattle.md_cotree_edit.proofs.Marks.SameMarks.{SameMarks, told_same}
 use Rattle.md_cotree_edit.proofs.Trees.KeptTrees.{same_root, kept_along}
@@ -17,7 +17,7 @@ Found m t =
     (fs : List Frame) × (p : ℕ) × (k : Bool) × (ts : PlaceTrees) × SameTree t (plug fs (inner p k ts))
     × ((w : ℕ → ℕ) → SameMarks m w (then t no_more) (then (plug fs (inner p k ts)) no_more)) × AreReady m fs × AreHalves m ts
 
-module _ (l k : Links) (top : Option ℕ) (x : ℕ) (d : ClimbView) (can : CanLinkIn l top x d) (still : AreStill l k) (ok_k : AreLinks k) (told : AreTold k d.marks (marked_walked k) d.tree) (takes : CanTake d.marks d.tree) where
+module _ (l k : Links) (top : Option ℕ) (x : ℕ) (d : ClimbView) (can : CanLinkIn l top x d) (still : AreStill l k) (ok_k : AreLinks k) (told : TellMarks k d.marks (marked_walked k) d.tree) (takes : CanTake d.marks d.tree) where
   abbrev found : Found d.marks d.tree
   found = find_lowest d.marks d.tree can.take.climb.marks can.take.climb.alternates takes can.some can.take.not_all
 

@@ -34,7 +34,7 @@ use Rattle.md_cotree.proofs.Rows.{leaves-joined}
 use Rattle.md_cotree.proofs.TreeGraphs.{some_graph}
 use Rattle.md_cotree_edit.specs.Counts.{name_in}
 use Rattle.md_cotree_edit.specs.Contexts.{AreTreesKept}
-use Rattle.md_cotree_edit.specs.Marks.{CanTake, hits_in, full_in, none_walked, AreTold, AreStill, ClimbView, CanMarkAll, CanTakeIn, CanGrow, IsLinkedIn}
+use Rattle.md_cotree_edit.specs.Marks.{CanTake, hits_in, full_in, none_walked, TellMarks, AreStill, ClimbView, CanMarkAll, CanTakeIn, CanGrow, IsLinkedIn}
 use Rattle.md_cotree_edit.proofs.Trees.SameRows.{SameTree, tree_name, tree_edge}
 use Rattle.md_cotree_edit.proofs.Trees.KeptTrees.{no_parent, same_root, from_fits, to_fits}
 use Rattle.md_cotree_edit.proofs.Trees.AdjacencyByCounts.{AreNamed, graph_in, counted_has, has_counted}
@@ -174,7 +174,7 @@ module _ (c : Cotree) (x : ℕ) (ns : List ℕ) (t : PlaceTree) (can : CanGrow c
       WholeBeside true t l r leaf x → IsLinkedIn l r (λ v. times v ns) x leaf t
   grow_joined all l r leaf is = taken_all (λ v. times v ns) can.different t can.kept.alternates.0 (grow_all all) l r leaf x is
 
-  module _ (k : Links) (still : AreStill c.lists k) (told : AreTold k (λ v. times v ns) none_walked t) where
+  module _ (k : Links) (still : AreStill c.lists k) (told : TellMarks k (λ v. times v ns) none_walked t) where
     abbrev pub grow_view : ClimbView
     grow_view = record { marks = λ v. times v ns; tree = t }
 
@@ -198,7 +198,7 @@ module _ (c : Cotree) (x : ℕ) (ns : List ℕ) (t : PlaceTree) (can : CanGrow c
   grow_none none is = ((λ e. grow_hits ∙ is.0 e), (λ e. is.1 (sym grow_hits ∙ e)))
 
   -- the steps of both calls
-  pub grow_bound : (k : Links) → AreStill c.lists k → AreTold k (λ v. times v ns) none_walked t → length ns ≢ c.leaves → (none : Bool) → (none ≡ true) ↔ (length ns ≡ 0) → (begun marked ended : ℕ) → marked ≤ begun + 10 * length ns →
+  pub grow_bound : (k : Links) → AreStill c.lists k → TellMarks k (λ v. times v ns) none_walked t → length ns ≢ c.leaves → (none : Bool) → (none ≡ true) ↔ (length ns ≡ 0) → (begun marked ended : ℕ) → marked ≤ begun + 10 * length ns →
       ((d : ClimbView) → CanTakeIn k c.root x d → (none ≡ true) ↔ (hits_in d.marks d.tree ≡ 0) → ended ≤ marked + 23 + 64 * hits_in d.marks d.tree) → ended ≤ begun + 23 + 74 * length ns
   grow_bound k still told other none is begun marked ended few more =
       let e = more (grow_view k still told) (grow_take k still told other) (grow_none none is) in

@@ -9,7 +9,7 @@ use Rattle.md_lists.proofs.ListLaws.{times-append, times-split, times-first, spl
 use Rattle.md_cotree.specs.PlaceTrees.{PlaceTree, tip, inner, PlaceTrees, no_more, then, place_of, times_in, times_among, row_length, IsInner, NoneInner, Alternates, AllAlternate}
 use Rattle.md_cotree.proofs.Frames.{hit, miss}
 use Rattle.md_cotree_edit.specs.Contexts.{AreTreesKept}
-use Rattle.md_cotree_edit.specs.Marks.{AreNameMarks, hits_in, hits_row, full_in, full_row, full_count, walked_count, tally_in, tally_row, note_in, note_row, Passes, Walked, AllWalked, AreTold}
+use Rattle.md_cotree_edit.specs.Marks.{AreNameMarks, hits_in, hits_row, full_in, full_row, full_count, walked_count, tally_in, tally_row, note_in, note_row, Passes, Walked, AllWalked, TellMarks}
 use Rattle.md_cotree_edit.proofs.Trees.LocalCounts.{cond_no, cond_yes, not_at}
 use Rattle.md_cotree_edit.proofs.Trees.KeptTrees.{kept_once}
 use Rattle.md_cotree_edit.proofs.Marks.MarkedBelow.{root_mark}
@@ -245,7 +245,7 @@ module _ (m w : ℕ → ℕ) where
           sum_not : (c h x cs hs xs o v : ℕ) → c + 2 * o ≤ 4 * h → cs + 2 * xs ≤ 4 * hs → x ≡ v → v ≤ o → (c + cs) + 2 * (x + xs) ≤ 4 * (h + hs)
           sum_not c h x cs hs xs o v a b e low = omega arith
 
-pub few_marked : (l : Links) (m w : ℕ → ℕ) (t : PlaceTree) → AreLinks l → AreTreesKept l (then t no_more) → AreTold l m w t → Walked m w t → AreNameMarks m → Alternates t → ((p : ℕ) → w p ≤ times p l.marked) → length l.marked ≤ 4 * hits_in m t
+pub few_marked : (l : Links) (m w : ℕ → ℕ) (t : PlaceTree) → AreLinks l → AreTreesKept l (then t no_more) → TellMarks l m w t → Walked m w t → AreNameMarks m → Alternates t → ((p : ℕ) → w p ≤ times p l.marked) → length l.marked ≤ 4 * hits_in m t
 few_marked l m w t ok kept told walked marks alternates below =
     let backed = backed_in m w t (λ p. let o = kept_once l (then t no_more) kept p in omega arith) (λ p some. let low = below p in let e = is_marked p in omega arith) in
     let light = light_in m w marks t walked alternates backed in

@@ -9,7 +9,7 @@ use Rattle.md_lists.proofs.ListLaws.{times-append, times-first}
 use Rattle.md_cotree.specs.PlaceTrees.{PlaceTree, tip, inner, PlaceTrees, no_more, then, leaves_in, Alternates, AllAlternate}
 use Rattle.md_cotree.proofs.Frames.{hit, miss}
 use Rattle.md_cotree_edit.specs.Counts.{name_in, name_row}
-use Rattle.md_cotree_edit.specs.Marks.{AreNameMarks, more, hits_in, hits_row, full_in, full_row, full_count, full_nodes, full_nodes_row, walked_count, tally_in, tally_row, note_in, note_row, none_walked, AreTold, AreStill, MarkView, CanMark, CanMarkAll}
+use Rattle.md_cotree_edit.specs.Marks.{AreNameMarks, more, hits_in, hits_row, full_in, full_row, full_count, full_nodes, full_nodes_row, walked_count, tally_in, tally_row, note_in, note_row, none_walked, TellMarks, AreStill, MarkView, CanMark, CanMarkAll}
 use Rattle.md_cotree_edit.proofs.Trees.LocalCounts.{cond_zero, sum_none}
 use Rattle.md_cotree_edit.proofs.Marks.OnlyMarksDiffer.{kept_still, unmarked_tally, unmarked_note}
 use Rattle.md_cotree_edit.proofs.Marks.MarksAroundHole.{all_full, fulls_low, walked_none}
@@ -99,7 +99,7 @@ abbrev pub first_marks : List ℕ → ℕ → ℕ → ℕ
 first_marks names i v = times v (take i names)
 
 pub record IsMarkedTo (l : Links) (names : List ℕ) (i begun steps : ℕ) (t : PlaceTree) : Type 0 where
-  pub told : AreTold l (first_marks names i) none_walked t
+  pub told : TellMarks l (first_marks names i) none_walked t
   pub few : steps ≤ begun + (5 * i + 5 * full_nodes (first_marks names i) t)
 
 module _ (l0 : Links) (ok0 : AreLinks l0) (places : List (Option ℕ)) (names : List ℕ) (t : PlaceTree) (can : CanMarkAll l0 places names t) where
@@ -160,10 +160,10 @@ module _ (l0 : Links) (ok0 : AreLinks l0) (places : List (Option ℕ)) (names : 
           subst (λ p. leaves_in p (get_or names i 0) t ≡ 1) (same_Some here.0 leaf (sym here.1 ∙ at)) here.2;
     }
 
-    pub marked_more : (k : Links) (after : ℕ) → AreTold k (more (first_marks names i) (get_or names i 0)) none_walked t →
+    pub marked_more : (k : Links) (after : ℕ) → TellMarks k (more (first_marks names i) (get_or names i 0)) none_walked t →
         after + 5 * full_nodes (first_marks names i) t ≤ steps + 5 + 5 * full_nodes (more (first_marks names i) (get_or names i 0)) t → IsMarkedTo k names (i + 1) begun after t
     marked_more k after told few = record {
-      told = subst (λ m. AreTold k m none_walked t) (sym same) told;
+      told = subst (λ m. TellMarks k m none_walked t) (sym same) told;
       few = let e = is.few in let f : full_nodes (first_marks names (i + 1)) t ≡ full_nodes (more (first_marks names i) (get_or names i 0)) t = ap (λ m. full_nodes m t) same in omega arith;
     }
       where
@@ -171,10 +171,10 @@ module _ (l0 : Links) (ok0 : AreLinks l0) (places : List (Option ℕ)) (names : 
         same = λ j. λ v. taken i v low j
 
   pub marked_end : (l : Links) (i begun steps : ℕ) → length names ≤ i → i ≤ length names → IsMarkedTo l names i begun steps t →
-      AreTold l (λ v. times v names) none_walked t × (steps ≤ begun + 10 * length names)
+      TellMarks l (λ v. times v names) none_walked t × (steps ≤ begun + 10 * length names)
   marked_end l i begun steps past within is =
       let all : take i names ≡ names = take_all i names past in (
-        subst (λ (xs : List ℕ). AreTold l (λ v. times v xs) none_walked t) all is.told,
+        subst (λ (xs : List ℕ). TellMarks l (λ v. times v xs) none_walked t) all is.told,
         (let a = is.few in
             let b : full_nodes (first_marks names i) t ≡ full_nodes (λ v. times v names) t = ap (λ (xs : List ℕ). full_nodes (λ v. times v xs) t) all in
             let c = nodes_hits (λ v. times v names) can.different t can.alternates in

@@ -5,7 +5,7 @@ use Rattle.std.proofs.lemmas.Bool.{cases_lt}
 use Rattle.md_lists.specs.Links.{Links, tally_at, note_at}
 use Rattle.md_cotree.specs.PlaceTrees.{PlaceTree, tip, inner, PlaceTrees, no_more, then, place_of, Alternates, AllAlternate}
 use Rattle.md_cotree_edit.specs.Contexts.{AreTreesKept}
-use Rattle.md_cotree_edit.specs.Marks.{AreTold, AreNameMarks, hits_in, hits_row, full_in, full_row, full_count, mixed_count, walked_count}
+use Rattle.md_cotree_edit.specs.Marks.{TellMarks, AreNameMarks, hits_in, hits_row, full_in, full_row, full_count, mixed_count, walked_count}
 use Rattle.md_cotree_edit.proofs.Trees.CountsAtNode.{Sub, SubRow, sub_refl, sub_trans, alternates_sub, node_tally, node_note, tip_tally, tip_note}
 use Rattle.md_cotree_edit.proofs.Marks.MarksAroundHole.{full_low}
 
@@ -139,7 +139,7 @@ walk_hit f m w low t shown is v each s sub =
     ]
 
 -- the lists that tell of a tree have the marks of its places
-pub are_shown : (l : Links) (t : PlaceTree) (kept : AreTreesKept l (then t no_more)) (m w : ℕ → ℕ) (told : AreTold l m w t) → IsShown (λ p. tally_at l p + note_at l p) m w t
+pub are_shown : (l : Links) (t : PlaceTree) (kept : AreTreesKept l (then t no_more)) (m w : ℕ → ℕ) (told : TellMarks l m w t) → IsShown (λ p. tally_at l p + note_at l p) m w t
 are_shown l t kept m w told (tip q v) sub = let a = tip_tally l t kept m w told q v sub in let b = tip_note l t kept m w told q v sub in omega arith
 are_shown l t kept m w told (inner q k us) sub = let a = node_tally l t kept m w told q k us sub in let b = node_note l t kept m w told q k us sub in omega arith
 

@@ -11,7 +11,7 @@ use Rattle.md_cotree.proofs.Frames.{hit, some_of}
 use Rattle.md_cotree.proofs.Room.{room}
 use Rattle.md_cotree_edit.specs.Counts.{name_in, name_row}
 use Rattle.md_cotree_edit.specs.Contexts.{Frame, fill, plug, AreTreesKept}
-use Rattle.md_cotree_edit.specs.Marks.{more, full_in, full_row, full_count, full_nodes, tally_in, note_in, note_row, none_walked, AreTold, AreStill, MarkView, CanMark}
+use Rattle.md_cotree_edit.specs.Marks.{more, full_in, full_row, full_count, full_nodes, tally_in, note_in, note_row, none_walked, TellMarks, AreStill, MarkView, CanMark}
 use Rattle.md_cotree_edit.proofs.Trees.SameRows.{plug_last, tree_name}
 use Rattle.md_cotree_edit.proofs.Trees.LocalCounts.{cond_zero, cond_no, cond_yes, child_plug, sum_no}
 use Rattle.md_cotree_edit.proofs.Trees.KeptTrees.{kept_once, kept_live, kept_loose, to_fits, kept_along}
@@ -154,7 +154,7 @@ module _ (l0 : Links) (ok0 : AreLinks l0) (leaf : ℕ) (d : MarkView) (can : Can
       let o = kept_once l0 (then (plug start.frames (tip leaf n)) no_more) start_kept leaf in
       omega arith
 
-  start_told : AreTold l0 m none_walked (plug start.frames (tip leaf n))
+  start_told : TellMarks l0 m none_walked (plug start.frames (tip leaf n))
   start_told = told_same l0 m none_walked t (plug start.frames (tip leaf n)) can.told (start.alike.marks m none_walked)
 
   more_here : k n ≡ 1
@@ -207,17 +207,17 @@ module _ (l0 : Links) (ok0 : AreLinks l0) (leaf : ℕ) (d : MarkView) (can : Can
       omega arith
 
   module _ (l : Links) (ok : AreLinks l) (still : AreStill l0 l) (place begun steps : ℕ) where
-    told_back : (s : PlaceTree) → AlikeTree t s → AreTold l k none_walked s → AreTold l k none_walked t
+    told_back : (s : PlaceTree) → AlikeTree t s → TellMarks l k none_walked s → TellMarks l k none_walked t
     told_back s alike told = told_same l k none_walked s t told (marks_back k none_walked (then t no_more) (then s no_more) (alike.marks k none_walked))
 
     whole_kept : (s : PlaceTree) → AlikeTree t s → AreTreesKept l (then s no_more)
     whole_kept s alike = kept_along l (then t no_more) (then s no_more) alike.same (kept_still l0 l (then t no_more) still can.kept)
 
     -- at the root
-    pub rise_end : parent_at l place ≡ None → IsRising l m n t place begun steps → AreTold l k none_walked t × (steps + 5 * full_nodes m t ≤ begun + 1 + 5 * full_nodes k t)
+    pub rise_end : parent_at l place ≡ None → IsRising l m n t place begun steps → TellMarks l k none_walked t × (steps + 5 * full_nodes m t ≤ begun + 1 + 5 * full_nodes k t)
     rise_end none is = go is.0 is.1 is.2
       where
-        go : (fs : List Frame) (sub : PlaceTree) → IsRiseAt l m n t place begun steps fs sub → AreTold l k none_walked t × (steps + 5 * full_nodes m t ≤ begun + 1 + 5 * full_nodes k t)
+        go : (fs : List Frame) (sub : PlaceTree) → IsRiseAt l m n t place begun steps fs sub → TellMarks l k none_walked t × (steps + 5 * full_nodes m t ≤ begun + 1 + 5 * full_nodes k t)
         go [] sub at = (
           told_back sub at.alike (record { tallies = λ p. at.tallies p ∙ omega arith; notes = λ p. at.notes p ∙ omega arith }),
           let s = tree_nodes k none_walked t sub (at.alike.marks k none_walked) in let e = at.few in omega arith,
@@ -312,7 +312,7 @@ module _ (l0 : Links) (ok0 : AreLinks l0) (leaf : ℕ) (d : MarkView) (can : Can
             let long = frame_long l ok f fs sub kept in
             (omega arith, omega arith)
 
-        turn_out : (tally ≡ count → ⊥) → AreTold j k none_walked t × (steps + 5 * full_nodes m t ≤ begun + 1 + 5 * full_nodes k t)
+        turn_out : (tally ≡ count → ⊥) → TellMarks j k none_walked t × (steps + 5 * full_nodes m t ≤ begun + 1 + 5 * full_nodes k t)
         turn_out other = (
           told_on,
           (let a = tree_nodes k none_walked t (plug fs (fill f sub)) (at.alike.marks k none_walked) in
@@ -339,9 +339,9 @@ module _ (l0 : Links) (ok0 : AreLinks l0) (leaf : ℕ) (d : MarkView) (can : Can
             plus_zero : (a b c : ℕ) → b ≡ 0 → a + b ≡ c → a ≡ c
             plus_zero a b c e f = omega arith
 
-            told_on : AreTold j k none_walked t
+            told_on : TellMarks j k none_walked t
             told_on =
-                subst (λ z. AreTold z k none_walked t) (sym is)
+                subst (λ z. TellMarks z k none_walked t) (sym is)
                 (told_same (raised l f.place) k none_walked (plug fs (fill f sub)) t
                 (record {
                   tallies = λ p. tally_turned p ∙ ap (λ z. tally_in k p (fill f sub) + z) (sym (ap (frames_tally k p fs) none ∙ frames_tally_same m n fs p 0 no_names.1)) ∙ sym (tally_hole k p fs (fill f sub));
@@ -394,7 +394,7 @@ module _ (l0 : Links) (ok0 : AreLinks l0) (leaf : ℕ) (d : MarkView) (can : Can
       rise_room = subst (λ z. tally_at l z < PLACES) found.4 (turn_room found.0 found.1 found.2 found.3)
 
       module _ (j : Links) (raised_is : j ≡ raised l above) (tally count : ℕ) (is_tally : tally ≡ tally_at j above) (is_count : count ≡ length (children_at j above)) where
-        pub rise_out : (tally ≡ count → ⊥) → AreTold j k none_walked t × (steps + 5 * full_nodes m t ≤ begun + 1 + 5 * full_nodes k t)
+        pub rise_out : (tally ≡ count → ⊥) → TellMarks j k none_walked t × (steps + 5 * full_nodes m t ≤ begun + 1 + 5 * full_nodes k t)
         rise_out other =
             turn_out found.0 found.1 found.2 found.3 j (raised_is ∙ ap (raised l) (sym found.4)) tally count (is_tally ∙ ap (tally_at j) (sym found.4)) (is_count ∙ ap (λ z. length (children_at j z)) (sym found.4)) other
 

@@ -3,7 +3,7 @@ use Rattle.std.proofs.Common.{◌≡◌, ℕ, ◌+◌, ◌-◌, ◌*◌, min, Bo
 use Rattle.md_lists.specs.Links.{Links}
 use Rattle.md_cotree.specs.PlaceTrees.{PlaceTree, inner, PlaceTrees, no_more, then, place_of}
 use Rattle.md_cotree_edit.specs.Contexts.{Frame, fill, plug}
-use Rattle.md_cotree_edit.specs.Marks.{hits_in, hits_row, full_in, full_row, full_count, full_nodes, full_nodes_row, mixed_in, mixed_count, walked_count, tally_in, tally_row, note_in, note_row, AreTold}
+use Rattle.md_cotree_edit.specs.Marks.{hits_in, hits_row, full_in, full_row, full_count, full_nodes, full_nodes_row, mixed_in, mixed_count, walked_count, tally_in, tally_row, note_in, note_row, TellMarks}
 use Rattle.md_cotree_edit.proofs.Trees.SameRows.{SameRow, plus_none, same_refl, same_trans, same_swap, same_rest, same_first, same_inner}
 
 pub record SameMarks (m w : ℕ → ℕ) (ts us : PlaceTrees) : Type 0 where
@@ -126,7 +126,7 @@ pub marks_plug : (m w : ℕ → ℕ) (fs : List Frame) (t s : PlaceTree) → Sam
 marks_plug m w [] t s a = a
 marks_plug m w (f ∷ fs) t s a = marks_plug m w fs (fill f t) (fill f s) (marks_inner m w f.place f.series (then t f.others) (then s f.others) (marks_first m w t s f.others a))
 
-pub told_same : (l : Links) (m w : ℕ → ℕ) (t s : PlaceTree) → AreTold l m w t → SameMarks m w (then t no_more) (then s no_more) → AreTold l m w s
+pub told_same : (l : Links) (m w : ℕ → ℕ) (t s : PlaceTree) → TellMarks l m w t → SameMarks m w (then t no_more) (then s no_more) → TellMarks l m w s
 told_same l m w t s told a = record {
   tallies = λ p. told.tallies p ∙ sym (tree_tally m w t s a p);
   notes = λ p. told.notes p ∙ sym (tree_note m w t s a p);

@@ -11,7 +11,7 @@ use Rattle.md_cotree.proofs.Frames.{hit}
 use Rattle.md_cotree.proofs.Rows.{length_roots}
 use Rattle.md_cotree_edit.specs.Counts.{kind_code, kind_in, kind_row, child_in, child_row}
 use Rattle.md_cotree_edit.specs.Contexts.{Frame, fill, plug, AreTreesKept}
-use Rattle.md_cotree_edit.specs.Marks.{full_count, full_row, walked_count, tally_in, tally_row, note_in, note_row, CanTake, AllCanTake, Walked, AllWalked, AreTold}
+use Rattle.md_cotree_edit.specs.Marks.{full_count, full_row, walked_count, tally_in, tally_row, note_in, note_row, CanTake, AllCanTake, Walked, AllWalked, TellMarks}
 use Rattle.md_cotree_edit.proofs.Trees.LocalCounts.{cond_no, cond_yes, not_at}
 use Rattle.md_cotree_edit.proofs.Trees.SameRows.{in_order}
 use Rattle.md_cotree_edit.proofs.Trees.KeptTrees.{kept_once, kind_is}
@@ -254,7 +254,7 @@ module _ (l : Links) (t : PlaceTree) (kept : AreTreesKept l (then t no_more)) wh
   find_parent q c is =
       find_row q c t (let e = kept.links q c in let f = ap (λ o. holds_once o q) is in let one = holds-once-same q in omega arith)
 
-  module _ (m w : ℕ → ℕ) (told : AreTold l m w t) where
+  module _ (m w : ℕ → ℕ) (told : TellMarks l m w t) where
     pub node_tally : (q : ℕ) (k : Bool) (us : PlaceTrees) → Sub (inner q k us) t → tally_at l q ≡ full_count m us
     node_tally q k us sub = told.tallies q ∙ tally_is m w q t ∙ at_node (λ v. 0) (λ j ts. full_count m ts) q k us t sub (kept_one q)
 

@@ -114,7 +114,33 @@ fn checks_of_trees(rt: HostRuntime) -> Result<(), Fail> {
 #[test]
 fn checks_of_orientations(rt: HostRuntime) -> Result<(), Fail> {
     let alloc = rt.alloc();
-    let table: [(&str, &[u8], &[u8], &str); 9] = [
+    let table: [(&str, &[u8], &[u8], &str); 14] = [
+        // A cycle of five with a twin of one vertex: a chain of six arcs, and one of seven.
+        (
+            "check shortest g6 g r",
+            b"Ehe_\n",
+            b"mdt compare\nno 0>1 2>1 2>3 4>3 4>0 1>0\nend\n",
+            "0|accepted\n|",
+        ),
+        (
+            "check compare g6 g r",
+            b"Ehe_\n",
+            b"mdt compare\nno 0>1 0>5 2>5 2>3 4>3 4>0 1>0\nend\n",
+            "0|accepted\n|",
+        ),
+        (
+            "check shortest g6 g r",
+            b"Ehe_\n",
+            b"mdt compare\nno 0>1 0>5 2>5 2>3 4>3 4>0 1>0\nend\n",
+            "1|rejected line 2\n|",
+        ),
+        (
+            "check shortest g6 g r",
+            b"Bw\nCh\n",
+            b"mdt compare\nyes 0>1 0>2 1>2\nno 0>1 1>0\nend\n",
+            "1|rejected line 3\n|",
+        ),
+        ("check shortest g6 g s r", b"Bw\n", b"", "2||mdt: usage\n"),
         // Two chains of a cycle of five.
         (
             "check compare g6 g r",

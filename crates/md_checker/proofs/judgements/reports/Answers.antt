@@ -8,3 +8,6 @@ returns-in-Compare g c = rw c.in-Compare.is c.is_orientation_line.ensures
 
 pub returns-in-Permute : goal.returns-in-Permute
 returns-in-Permute g c = rw c.in-Permute.is c.is_model_line.ensures
+
+pub returns-in-Shortest : goal.returns-in-Shortest
+returns-in-Shortest g c = rw c.in-Shortest.is c.is_shortest_line.ensures

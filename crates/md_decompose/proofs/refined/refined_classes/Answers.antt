@@ -8,11 +8,8 @@ sets_of_numbers-requires g c = (
   search rules,
   (
     search rules,
-    (
-      (let e = c.in_ok-numbers.ensures.len in omega arith),
-      is_numbering (adjacent c.args.graph.now) c.args.set.now c.args.rest.now c.in_ok-partition.partition c.in_ok-partition.ensures c.class_count-count.ensures.partition
-          c.in_ok-numbers.numbers.items c.class_count-count.result c.class_count-count.ensures.count c.in_ok-numbers.ensures.numbers,
-    ),
+    is_numbering (adjacent c.args.graph.now) c.args.set.now c.args.rest.now c.in_ok-partition.partition c.in_ok-partition.ensures c.class_count-count.ensures.partition
+        c.in_ok-numbers.numbers.items c.class_count-count.result c.class_count-count.ensures.count c.in_ok-numbers.ensures.positions,
   ),
 )
 
@@ -21,13 +18,13 @@ all_made-requires g c = (
   search rules,
   λ k low.
       let used = (is_numbering (adjacent c.args.graph.now) c.args.set.now c.args.rest.now c.in_ok-partition.partition c.in_ok-partition.ensures c.class_count-count.ensures.partition
-      c.in_ok-numbers.numbers.items c.class_count-count.result c.class_count-count.ensures.count c.in_ok-numbers.ensures.numbers).used k (let e = c.in_ok-sets.ensures.len in omega arith) in
+      c.in_ok-numbers.numbers.items c.class_count-count.result c.class_count-count.ensures.count c.in_ok-numbers.ensures.positions).used k (let e = c.in_ok-sets.ensures.len in omega arith) in
       (used.0, c.in_ok-sets.ensures.cover k used.0 used.1 used.2),
 )
 
 pub returns : goal.returns
 returns g c =
     holds_modules (adjacent c.args.graph.now) c.args.set.now c.args.rest.now c.in_ok-partition.partition c.in_ok-partition.ensures c.class_count-count.ensures.partition
-    c.in_ok-numbers.numbers.items c.class_count-count.result c.class_count-count.ensures.count c.in_ok-numbers.ensures.numbers c.in_ok-made.made.items
+    c.in_ok-numbers.numbers.items c.class_count-count.result c.class_count-count.ensures.count c.in_ok-numbers.ensures.positions c.in_ok-made.made.items
     (sets_numbered c.args.rest.now c.in_ok-numbers.numbers.items c.class_count-count.result c.in_ok-sets.sets.items c.in_ok-made.made.items
     c.in_ok-sets.ensures.len c.in_ok-sets.ensures.members c.in_ok-sets.ensures.cover c.in_ok-made.ensures.len c.in_ok-made.ensures.same)

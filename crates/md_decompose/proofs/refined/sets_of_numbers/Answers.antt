@@ -3,9 +3,9 @@ use Rattle.std.proofs.lemmas.List.{get_or_read, length-set, length-replicate}
 use Rattle.std.proofs.lemmas.Option.{none-some, same_Some}
 use Rattle.std.specs.FinSet.{insert}
 use Rattle.md_graph.specs.Sets.{Has}
-use Rattle.md_graph.proofs.Walks.{Walked-start, Walked-item, Walked-name, Walked-more, Walked-map, Walked-end}
+use Rattle.md_graph.proofs.Walks.{Walked-start, Walked-item, Walked-more, Walked-map, Walked-end}
 use Rattle.md_decompose.specs.Refined.{number_at, set_or_empty, set_yet_at}
-use Rattle.md_decompose.proofs.RefinedLemmas.{number_low, none_yet_has, members_more, members_kept, member_taken}
+use Rattle.md_decompose.proofs.RefinedLemmas.{numbered_within, number_low, none_yet_has, members_more, members_kept, member_taken}
 use Rattle.md_decompose.proofs.refined.sets_of_numbers.Goals as goal
 
 pub loop-v-init : goal.loop-v-init
@@ -19,25 +19,23 @@ loop-v-init g c =
 
 pub index-requires : goal.index-requires
 index-requires g c =
-    let low = Walked-name c.loop-v.invariant.walked c.in-Some.v _ c.in-Some.ensures.steps in
-    let long = c.requires.len in
+    let within = numbered_within c.args.rest.now c.args.numbers.now.items c.args.count c.requires c.in-Some.v (Walked-item c.loop-v.invariant.walked c.in-Some.v _ c.in-Some.ensures.steps) in
+    let long = c.args.numbers.now.ok.0 in
     omega arith
 
 pub unreachable-requires : goal.unreachable-requires
 unreachable-requires g c =
-    let known = c.requires.numbers.known c.in-Some.v (Walked-item c.loop-v.invariant.walked c.in-Some.v _ c.in-Some.ensures.steps) in
-    let low = Walked-name c.loop-v.invariant.walked c.in-Some.v _ c.in-Some.ensures.steps in
-    let long = c.requires.len in
+    let known = c.requires.known c.in-Some.v (Walked-item c.loop-v.invariant.walked c.in-Some.v _ c.in-Some.ensures.steps) in
+    let within = numbered_within c.args.rest.now c.args.numbers.now.items c.args.count c.requires c.in-Some.v (Walked-item c.loop-v.invariant.walked c.in-Some.v _ c.in-Some.ensures.steps) in
     let read = get_or_read c.args.numbers.now.items c.in-Some.v c.index.result.now (omega arith) c.index.ensures None in
     none-some known.0 (sym c.in_default.is ∙ read ∙ known.1)
 
 pub index_mut-requires : goal.index_mut-requires
 index_mut-requires g c =
     let member = Walked-item c.loop-v.invariant.walked c.in-Some.v _ c.in-Some.ensures.steps in
-    let low = Walked-name c.loop-v.invariant.walked c.in-Some.v _ c.in-Some.ensures.steps in
-    let long = c.requires.len in
+    let within = numbered_within c.args.rest.now c.args.numbers.now.items c.args.count c.requires c.in-Some.v (Walked-item c.loop-v.invariant.walked c.in-Some.v _ c.in-Some.ensures.steps) in
     let read = get_or_read c.args.numbers.now.items c.in-Some.v c.index.result.now (omega arith) c.index.ensures None in
-    let below = number_low c.args.rest.now c.args.numbers.now.items c.args.count c.requires.numbers c.in-Some.v c.in-Some-index.number member (sym read ∙ c.in-Some-index.is) in
+    let below = number_low c.args.rest.now c.args.numbers.now.items c.args.count c.requires c.in-Some.v c.in-Some-index.number member (sym read ∙ c.in-Some-index.is) in
     let all = c.loop-v.invariant.len in
     omega arith
 
@@ -53,11 +51,10 @@ loop-v-preserved g c =
     let sets = c.loop-v.sets.items in
     let o = c.take_in.new.set in
     let member = Walked-item i.walked v _ c.in-Some.ensures.steps in
-    let name = Walked-name i.walked v _ c.in-Some.ensures.steps in
-    let long = c.requires.len in
+    let numbered = numbered_within c.args.rest.now c.args.numbers.now.items c.args.count c.requires v member in
     let read = get_or_read c.args.numbers.now.items v c.index.result.now (omega arith) c.index.ensures None in
     let number : number_at c.args.numbers.now.items v ≡ Some n = sym read ∙ c.in-Some-index.is in
-    let below = number_low c.args.rest.now c.args.numbers.now.items c.args.count c.requires.numbers v n member number in
+    let below = number_low c.args.rest.now c.args.numbers.now.items c.args.count c.requires v n member number in
     let all = i.len in
     let within : n < length sets = omega arith in
     let was = get_or_read sets n c.index_mut.result.now within c.index_mut.ensures.value None in
