@@ -22,7 +22,7 @@ use Rattle.md_tree.specs.Laws.{AreToldByHeads}
 use Rattle.md_tree.proofs.Nodes.{IsChild, at_inside, position_at, position_below}
 use Rattle.md_tree.proofs.Built.{IsBuilt, tree_names, tree_built, children_maximal}
 use Rattle.md_tree.proofs.Kinded.{built_tree}
-use Rattle.md_tree.proofs.GraphKinds.{two_of_kind, one_kind, graph_kinds}
+use Rattle.md_tree.proofs.GraphKinds.{two_of_kind, one_kind, kinds_of_graphs}
 use Rattle.md_tree.proofs.Graph.{adjacent_right}
 use Rattle.md_tree.proofs.Heads.{child_here, heads_in}
 use Rattle.md_tree.proofs.Fitted.{at_places, told_by_heads, by_positions, by_trees, modules_below, child_modules, to_fit, of_fit}
@@ -147,7 +147,7 @@ fit_modules e s = child_modules s (IsFitNode e s) (λ k cs ps fit. fit.is_module
 
 pub fits_proof : FitsIfTree
 fits_proof e adj s t canon = (
-  (λ fits. built_tree (graph_kinds (undirected adj)) decide_test s t fits.0 (of_fit s (IsFitNode e s) (λ k cs ps fit. fit.is_module) (IsNodeOf e) IsCanonicalNode (node_built adj s) t canon fits.1)),
+  (λ fits. built_tree (kinds_of_graphs (undirected adj)) decide_test s t fits.0 (of_fit s (IsFitNode e s) (λ k cs ps fit. fit.is_module) (IsNodeOf e) IsCanonicalNode (node_built adj s) t canon fits.1)),
   λ is.
       let same : names t ≡ s = tree_names s t is in
       let whole : IsModule e s (names t) = subst (IsModule e s) (sym same) (whole_module s (head t, Has-along (names t) s same (head t) (tree_head t canon))) in
