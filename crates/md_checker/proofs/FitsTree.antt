@@ -1,7 +1,7 @@
 -- A tree as well-formed trees are is the tree of strong modules of a graph exactly where it fits the graph.
 use Rattle.std.proofs.Common.{◌≡◌, ℕ, ◌<◌, ◌≤◌, Bool, true, false, cond, eqb, min, max, List, Contains, refl, sym, ◌∙◌, ap, subst, inl, inr, eqb-true, arith}
 use Rattle.std.proofs.lemmas.Bool.{false_from_ne_true}
-use Rattle.md_graph.specs.Sets.{NameSet, Has, Within}
+use Rattle.md_graph.specs.Sets.{NameSet, Has, Within, only_name}
 use Rattle.md_graph.proofs.SetLemmas.{Has-along}
 use Rattle.md_graph.proofs.Search.{decide_test}
 use Rattle.md_graph.specs.Adjacency.{IsAdjacency}
@@ -22,7 +22,7 @@ use Rattle.md_tree.specs.Laws.{AreToldByHeads}
 use Rattle.md_tree.proofs.Nodes.{IsChild, at_inside, position_at, position_below}
 use Rattle.md_tree.proofs.Built.{IsBuilt, tree_names, tree_built, children_maximal}
 use Rattle.md_tree.proofs.Kinded.{built_tree}
-use Rattle.md_tree.proofs.GraphKinds.{two_of_kind, one_kind, graph_kinds}
+use Rattle.md_tree.proofs.GraphKinds.{two_of_kind, one_kind, kinds_of_graphs}
 use Rattle.md_tree.proofs.Graph.{adjacent_right}
 use Rattle.md_tree.proofs.Heads.{child_here, heads_in}
 use Rattle.md_tree.proofs.Fitted.{at_places, told_by_heads, by_positions, by_trees, modules_below, child_modules, to_fit, of_fit}
@@ -71,7 +71,7 @@ module _ {e : ℕ → ℕ → Bool} (adj : IsAdjacency e) (s : NameSet) where
 
   -- no child has the kind of its parallel or series node
   other_kind : (t : PlainTree) → EachNode (IsBuilt e) t → (k : Kind) → (IsOfKind t k → ⊥) → HasKind e (names t) k → ⊥
-  other_kind (leaf v) built k other kind = larger_than_single (names (leaf v)) v (two_of_kind e (names (leaf v)) k kind) refl
+  other_kind (leaf v) built k other kind = larger_than_single (only_name v) v (two_of_kind e (only_name v) k kind) refl
   other_kind (node l cs ps) built k other kind = other (one_kind (undirected adj) (names_below cs) l k built.0.node_of.kind kind)
 
   other_kinds : (cs : PlainTrees) → EachNodeBelow (IsBuilt e) cs → (k : Kind) → NoneOfKind cs k → (c : PlainTree) → IsChild cs c → HasKind e (names c) k → ⊥
@@ -147,7 +147,7 @@ fit_modules e s = child_modules s (IsFitNode e s) (λ k cs ps fit. fit.is_module
 
 pub fits_proof : FitsIfTree
 fits_proof e adj s t canon = (
-  (λ fits. built_tree (graph_kinds (undirected adj)) decide_test s t fits.0 (of_fit s (IsFitNode e s) (λ k cs ps fit. fit.is_module) (IsNodeOf e) IsCanonicalNode (node_built adj s) t canon fits.1)),
+  (λ fits. built_tree (kinds_of_graphs (undirected adj)) decide_test s t fits.0 (of_fit s (IsFitNode e s) (λ k cs ps fit. fit.is_module) (IsNodeOf e) IsCanonicalNode (node_built adj s) t canon fits.1)),
   λ is.
       let same : names t ≡ s = tree_names s t is in
       let whole : IsModule e s (names t) = subst (IsModule e s) (sym same) (whole_module s (head t, Has-along (names t) s same (head t) (tree_head t canon))) in

@@ -26,7 +26,7 @@ use Rattle.md_tree.proofs.Spelled.{plain_two}
 use Rattle.md_tree.proofs.Nodes.{IsChild, child_inside, child_of_name}
 use Rattle.md_tree.proofs.Built.{IsBuilt}
 use Rattle.md_tree.proofs.Kinded.{built_tree}
-use Rattle.md_tree.proofs.GraphKinds.{one_kind, graph_kinds}
+use Rattle.md_tree.proofs.GraphKinds.{one_kind, kinds_of_graphs}
 use Rattle.md_tree.proofs.Nodes.{at_position}
 use Rattle.md_tree.proofs.OneTree.{one_tree_proof, no_path_proof}
 use Rattle.md_cotree.specs.Laws.{TreeOfItsGraph, OneTreeOfAGraph, NoPathInItsGraph}
@@ -235,7 +235,7 @@ module _ (e : ℕ → ℕ → Bool) where
 
     -- such a tree is the tree of strong modules
     pub tree_of_canonical : (t : PlainTree) → IsCanonicalTree t → HasNoPrimeNode t → Agrees e t → IsTreeOf e (names t) t
-    tree_of_canonical t each not agrees = built_tree (graph_kinds (undirected adj)) decide_test (names t) t refl (all_built t each not agrees)
+    tree_of_canonical t each not agrees = built_tree (kinds_of_graphs (undirected adj)) decide_test (names t) t refl (all_built t each not agrees)
 
 pub tree_proof : TreeOfItsGraph
 tree_proof None is not = refl

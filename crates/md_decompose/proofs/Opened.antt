@@ -20,7 +20,7 @@ use Rattle.md_tree.specs.StrongTrees.{HasKind, IsBefore, IsTreeOf}
 use Rattle.md_text.proofs.Lists.{In, of_append, in_left, in_right, of_contains, to_contains, of_pairs}
 use Rattle.md_tree.proofs.Built.{IsBuilt}
 use Rattle.md_tree.proofs.Kinded.{built_tree}
-use Rattle.md_tree.proofs.GraphKinds.{two_of_kind, graph_kinds}
+use Rattle.md_tree.proofs.GraphKinds.{two_of_kind, kinds_of_graphs}
 use Rattle.md_decompose.specs.declared.decomposition.Open.{Open}
 use Rattle.md_decompose.specs.declared.decomposition.Open.TheVariants.{One, Several}
 use Rattle.md_decompose.specs.declared.decomposition.OpenSet.{OpenSet}
@@ -328,4 +328,4 @@ module _ {e : ℕ → ℕ → Bool} (adj : IsAdjacency e) where
     pub opened_end : {w : ℕ} (parts : List PlainPart) (os : List (Open w)) → IsOpened e all parts os → os ≡ [] → (t : PlainTree) × IsTreeOf e all t × (parts ≡ parts_of t)
     opened_end parts os is none =
         let b : IsBegun e all (parts ++ []) = is.goes_on [] (sym (ap sets_of none)) tt in
-        (b.0, built_tree (graph_kinds (undirected adj)) decide_test all b.0 b.1 b.2, sym (append-nil parts) ∙ b.3)
+        (b.0, built_tree (kinds_of_graphs (undirected adj)) decide_test all b.0 b.1 b.2, sym (append-nil parts) ∙ b.3)

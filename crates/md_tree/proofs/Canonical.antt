@@ -28,7 +28,7 @@ use Rattle.md_text.proofs.Lists.{of_contains}
 use Rattle.md_tree.proofs.Nodes.{IsChild, position_below}
 use Rattle.md_tree.proofs.Built.{IsBuilt, children_maximal}
 use Rattle.md_tree.proofs.Kinded.{apart_of}
-use Rattle.md_tree.proofs.GraphKinds.{two_of_kind, graph_kinds}
+use Rattle.md_tree.proofs.GraphKinds.{two_of_kind, kinds_of_graphs}
 use Rattle.md_tree.proofs.Pairs.{pair}
 
 -- a set that has one name of each child at most has no more members than there are children
@@ -148,7 +148,7 @@ module _ (e : ℕ → ℕ → Bool) (adj : IsAdjacency e) where
     canonical_of (leaf v) each = tt
     canonical_of (node k cs ps) each = (
       record {
-        apart = apart_of (graph_kinds (undirected adj)) k (names_below cs) cs (children_maximal k cs ps each.0) each.0.node_of.order;
+        apart = apart_of (kinds_of_graphs (undirected adj)) k (names_below cs) cs (children_maximal k cs ps each.0) each.0.node_of.order;
         order = each.0.node_of.order;
         shape = shape_of k cs ps each.0 each.1;
       },

@@ -28,7 +28,7 @@ use Rattle.md_tree.proofs.Nodes.{IsChild, at_position, position_at, child_at}
 use Rattle.md_tree.proofs.Built.{IsBuilt, children_maximal}
 use Rattle.md_tree.proofs.Pairs.{pair}
 use Rattle.md_tree.proofs.Kinded.{apart_of}
-use Rattle.md_tree.proofs.GraphKinds.{graph_kinds}
+use Rattle.md_tree.proofs.GraphKinds.{kinds_of_graphs}
 
 -- the test of a list of pairs
 same_numbers : (p : Pair) (i j : ℕ) → (eqb p.low i && eqb p.high j) ≡ true → pair i j ≡ p
@@ -64,7 +64,7 @@ module _ (e : ℕ → ℕ → Bool) (adj : IsAdjacency e) where
     s = names_below cs
 
     apart : AreDisjoint cs
-    apart = apart_of (graph_kinds (undirected adj)) k s cs (children_maximal k cs ps built) built.node_of.order
+    apart = apart_of (kinds_of_graphs (undirected adj)) k s cs (children_maximal k cs ps built) built.node_of.order
 
     -- the child of a name, which lacks each name at another position
     child_with : (a : ℕ) → Has s a → (c : PlainTree) × IsChild cs c × Has (names c) a × (names_at cs (position_of cs a) ≡ names c)

@@ -6,7 +6,7 @@ use Rattle.md_modules.specs.Colours.{IsColouring}
 use Rattle.md_modules.specs.Modules.{IsMaximalStrong}
 use Rattle.md_modules.specs.Kinds.{IsSplit, IsParallel, IsSeries}
 use Rattle.md_graph.proofs.SetLemmas.{clash, of_minus}
-use Rattle.md_graph.proofs.Search.{Decided, decide_test, decide_both, decide_like, decide_some, decide_below, first_member, test_of, test_holds, of_test}
+use Rattle.md_graph.proofs.Search.{Decided, decide_test, decide_both, decide_like, decide_some, decide_below, first_member}
 use Rattle.md_modules.proofs.Splits.{one_colour}
 use Rattle.md_modules.proofs.Components.{decide_prime}
 use Rattle.md_modules.proofs.Strong.{child_of}
@@ -14,19 +14,14 @@ use Rattle.md_tree.specs.declared.Kind.{Kind}
 use Rattle.md_tree.specs.declared.Kind.TheVariants.{Parallel, Series, Prime}
 use Rattle.md_tree.specs.declared.Pair.{Pair}
 use Rattle.md_tree.specs.Trees.{PlainTrees, names_at, count}
-use Rattle.md_tree.specs.StrongTrees.{HasKind, IsBefore, AreTreesJoined, IsPairBefore, ListsJoined, HasPairs}
+use Rattle.md_tree.specs.StrongTrees.{HasKind, IsBefore, AreTreesJoined, HasPairs}
 use Rattle.md_tree.specs.NodeKinds.{IsLeft, AreKinds}
-use Rattle.md_text.proofs.Lists.{of_contains, to_contains, to_pairs, of_pairs}
 use Rattle.md_tree.proofs.Nodes.{position_below}
-use Rattle.md_tree.proofs.Pairs.{same_ascending, passing, passing_ascends, of_passing, to_passing}
+use Rattle.md_tree.specs.Spellings.{graph_pairs}
+use Rattle.md_tree.proofs.Spelled.{graph_pairs_law}
+use Rattle.md_tree.proofs.Pairs.{some_list, one_list}
 
 -- ---- pairs
-
-not_both_before : (p q : Pair) → IsPairBefore p q → IsPairBefore q p → ⊥
-not_both_before p q (inl l) (inl m) = let b : p.low < q.low = l in let c : q.low < p.low = m in omega arith
-not_both_before p q (inl l) (inr m) = let b : p.low < q.low = l in let c : q.low ≡ p.low = m.0 in omega arith
-not_both_before p q (inr l) (inl m) = let b : p.low ≡ q.low = l.0 in let c : q.low < p.low = m in omega arith
-not_both_before p q (inr l) (inr m) = let b : p.high < q.high = l.1 in let c : q.high < p.high = m.1 in omega arith
 
 -- the pairs of children that are joined
 module _ (e : ℕ → ℕ → Bool) where
@@ -39,35 +34,17 @@ module _ (e : ℕ → ℕ → Bool) where
       (decide_some (names_at cs i) (λ a. (b : ℕ) × Has (names_at cs j) b × (e a b ≡ true))
       (λ a ha. decide_some (names_at cs j) (λ b. e a b ≡ true) (λ b hb. decide_test (e a b) true))))
 
-  joined : PlainTrees → List Pair
-  joined cs = passing (λ i j. test_of (decide_joined cs i j)) (count cs)
-
-  lists_joined : (cs : PlainTrees) → ListsJoined e cs (joined cs)
-  unfolding joined
-  lists_joined cs = record {
-    ascending = to_pairs IsPairBefore (joined cs) (passing_ascends (λ i j. test_of (decide_joined cs i j)) (count cs));
-    exactly = λ p. (
-      (λ c. of_test (decide_joined cs p.low p.high) (of_passing (λ i j. test_of (decide_joined cs i j)) (count cs) p (of_contains (joined cs) p c))),
-      λ is. to_contains (joined cs) p (to_passing (λ i j. test_of (decide_joined cs i j)) (count cs) p
-          (position_below cs p.low is.edge.0 is.edge.2) (position_below cs p.high is.edge.1 is.edge.3) (test_holds (decide_joined cs p.low p.high) is)),
-    );
-  }
-
   pairs_for : (k : Kind) (cs : PlainTrees) → (ps : List Pair) × HasPairs e k cs ps
   pairs_for Parallel cs = ([], refl)
   pairs_for Series cs = ([], refl)
-  pairs_for Prime cs = (joined cs, lists_joined cs)
-
-  one_list : (cs : PlainTrees) (ps qs : List Pair) → ListsJoined e cs ps → ListsJoined e cs qs → ps ≡ qs
-  one_list cs ps qs a b =
-      same_ascending IsPairBefore not_both_before ps qs (of_pairs IsPairBefore ps a.ascending) (of_pairs IsPairBefore qs b.ascending)
-      (λ r i. of_contains qs r ((b.exactly r).1 ((a.exactly r).0 (to_contains ps r i))))
-      (λ r i. of_contains ps r ((a.exactly r).1 ((b.exactly r).0 (to_contains qs r i))))
+  pairs_for Prime cs =
+      some_list graph_pairs graph_pairs_law (AreTreesJoined e cs) (decide_joined cs) (count cs)
+      (λ i j is. (position_below cs i is.edge.0 is.edge.2, position_below cs j is.edge.1 is.edge.3))
 
   one_pairs : (k : Kind) (cs : PlainTrees) (ps qs : List Pair) → HasPairs e k cs ps → HasPairs e k cs qs → ps ≡ qs
   one_pairs Parallel cs ps qs a b = a ∙ sym b
   one_pairs Series cs ps qs a b = a ∙ sym b
-  one_pairs Prime cs ps qs a b = one_list cs ps qs a b
+  one_pairs Prime cs ps qs a b = one_list graph_pairs ps qs a b
 
 -- ---- kinds
 
@@ -125,8 +102,8 @@ module _ {e : ℕ → ℕ → Bool} (col : IsColouring (λ c. c) e) where
   one_kind s Prime Series a b = absurd (a.co_connected b)
   one_kind s Prime Prime a b = refl
 
-  pub graph_kinds : AreKinds e (HasKind e) (λ k. IsBefore) (HasPairs e)
-  graph_kinds = record {
+  pub kinds_of_graphs : AreKinds e (HasKind e) (λ k. IsBefore) (HasPairs e)
+  kinds_of_graphs = record {
     two = two_of_kind e;
     some_kind = kind_for e;
     one_kind = one_kind;

@@ -20,7 +20,7 @@ use Rattle.md_tree.specs.StrongTrees.{IsTree}
 use Rattle.md_tree.specs.Laws.{OneTree, TreeIsCanonical, TreeIsWellFormed, TreeTellsGraph, GraphOfTheTree, NoInducedPathIfNoPrimeNode}
 use Rattle.md_tree.proofs.Built.{tree_names, tree_built}
 use Rattle.md_tree.proofs.Kinded.{one_at_least, one_at_most}
-use Rattle.md_tree.proofs.GraphKinds.{graph_kinds}
+use Rattle.md_tree.proofs.GraphKinds.{kinds_of_graphs}
 use Rattle.md_tree.proofs.Canonical.{canonical_of}
 use Rattle.md_tree.proofs.Graph.{adjacent_right, no_path_tree}
 use Rattle.md_tree.proofs.Edges.{edges_are}
@@ -28,11 +28,11 @@ use Rattle.md_tree.proofs.Denoted.{tree_graph}
 
 -- each graph has a tree, or none where it has no vertex
 pub one_option : (g : PlainGraph) → (o : Option PlainTree) × IsTree (adjacent g) g.vertices o
-one_option g = one_at_least (graph_kinds (record { reversed = λ a b. adjacent_sym g b a })) decide_test g.vertices
+one_option g = one_at_least (kinds_of_graphs (record { reversed = λ a b. adjacent_sym g b a })) decide_test g.vertices
 
 pub one_tree_proof : OneTree
 one_tree_proof e adj s =
-    let kinds = graph_kinds (undirected adj) in
+    let kinds = kinds_of_graphs (undirected adj) in
     let o : (o : Option PlainTree) × IsTree e s o = one_at_least kinds decide_test s in
     (o.0, o.1, λ p is. one_at_most kinds s o.0 p o.1 is)
 

@@ -8,7 +8,7 @@ use Rattle.md_modules.specs.Kinds.{IsParallel, IsSeries, IsPrime}
 use Rattle.md_tree.specs.declared.Kind.{Kind}
 use Rattle.md_tree.specs.declared.Kind.TheVariants.{Parallel, Series, Prime}
 use Rattle.md_tree.specs.declared.Pair.{Pair}
-use Rattle.md_tree.specs.Spellings.{IsPairBeforeBy, graph_pairs}
+use Rattle.md_tree.specs.Spellings.{PairRules, IsPairBeforeBy, graph_pairs}
 use Rattle.md_tree.specs.Trees.{PlainTreeOf, PlainTreesOf, PlainTree, PlainTrees, no_tree, one_more, names, names_below, names_at, node_sets, EachNode}
 
 -- the trees stand in a row: the leaf set of each before that of those after it
@@ -34,6 +34,11 @@ pub record IsTreeBy {K P C : Type 0} (N : K → PlainTreesOf K P → List P → 
 abbrev pub IsTreeOrNone : {K P C : Type 0} → (K → PlainTreesOf K P → List P → Type 0) → (ℕ → ℕ → C) → NameSet → Option (PlainTreeOf K P) → Type 0
 IsTreeOrNone N e s None = s ≡ empty
 IsTreeOrNone N e s (Some t) = IsTreeBy N e s t
+
+-- the list has exactly the pairs whose positions are joined, each once, in ascending order
+pub record ListsExactly {P : Type 0} (r : PairRules P) (Joined : ℕ → ℕ → Type 0) (ps : List P) : Type 0 where
+  pub ascending : AllPairs (IsPairBeforeBy r) ps
+  pub exactly : (p : P) → Contains ps p ↔ Joined (r.first p) (r.second p)
 
 -- ---- graphs
 
@@ -61,9 +66,8 @@ abbrev pub IsPairBefore : Pair → Pair → Type 0
 IsPairBefore = IsPairBeforeBy graph_pairs
 
 -- the list has exactly the pairs of positions between which an edge runs, each once, in ascending order
-pub record ListsJoined (e : ℕ → ℕ → Bool) (cs : PlainTrees) (ps : List Pair) : Type 0 where
-  pub ascending : AllPairs IsPairBefore ps
-  pub exactly : (p : Pair) → Contains ps p ↔ AreTreesJoined e cs p.low p.high
+abbrev pub ListsJoined : (ℕ → ℕ → Bool) → PlainTrees → List Pair → Type 0
+ListsJoined e cs = ListsExactly graph_pairs (AreTreesJoined e cs)
 
 -- a prime node lists the pairs of its children between which an edge runs, and no other node lists pairs
 abbrev pub HasPairs : (ℕ → ℕ → Bool) → Kind → PlainTrees → List Pair → Type 0
