@@ -558,7 +558,9 @@ mod tests {
         ] {
             assert!(rt; !g.has_edge(u, v), "no edge {u} {v}");
         }
-        assert!(rt; g.neighbours(64).count() == 2 && g.row(64).has(200) && g.row(7).is_empty());
+        assert!(rt; g.has_vertex(64));
+        assert!(rt; g.neighbours(64).count() == 2 && g.neighbours(64).has(200));
+        assert!(rt; g.row(64).count() == 2 && g.row(7).is_empty());
         assert_eq!(rt; g.vertices().count(), 4);
         assert_eq!(rt; g.next_vertex(6), Some(64));
         assert_eq!(rt; g.next_vertex(last), Some(last));

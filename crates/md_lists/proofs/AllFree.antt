@@ -1,9 +1,8 @@
 -- Store of which all places are free.
-use Rattle.std.proofs.Common.{◌≡◌, ℕ, zero, suc, ◌+◌, ◌<◌, ◌≤◌, min, cond, List, [], length, get_or, replicate, Option, None, is_some, is_none, refl, sym, ◌∙◌, ap, subst, inl, inr, arith}
+use Rattle.std.proofs.Common.{◌≡◌, ℕ, zero, suc, ◌+◌, min, cond, List, [], length, get_or, replicate, Option, None, is_none, refl, sym, ◌∙◌, ap, subst, arith}
 use Rattle.std.proofs.lemmas.List.{length-replicate}
 use Rattle.std.proofs.lemmas.List.Sums.{sum_by-cons}
 use Rattle.std.specs.List.{count_by}
-use Rattle.md_lists.specs.declared.span.Span.{Span}
 use Rattle.md_lists.specs.declared.kinds.PlaceKind.{PlaceKind}
 use Rattle.md_lists.specs.declared.TheConstants.{PLACES}
 use Rattle.md_lists.specs.Words.{holds_once}

@@ -1,5 +1,5 @@
 -- A child, and what its links are; the fields after a child comes, leaves, or has another in its place.
-use Rattle.std.proofs.Common.{vec_len, ◌≡◌, ℕ, ◌<◌, ◌≤◌, List, [], ◌∷◌, ◌++◌, get_or, set, is_some, length, Option, Some, None, IsSome, IfSome, sym, ◌∙◌, ap, arith}
+use Rattle.std.proofs.Common.{vec_len, ◌≡◌, ℕ, ◌<◌, ◌≤◌, List, [], ◌∷◌, ◌++◌, get_or, set, is_some, Option, Some, None, IsSome, IfSome, sym, ◌∙◌, ap, arith}
 use Rattle.std.proofs.lemmas.Bool.{false≢true}
 use Rattle.std.proofs.lemmas.Option.{same_Some}
 use Rattle.std.proofs.lemmas.List.{get_or_read}

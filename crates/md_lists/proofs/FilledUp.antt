@@ -1,5 +1,5 @@
 -- Lists that are filled up to some number of items: what is read of them, and what a write or an item more makes of them.
-use Rattle.std.proofs.Common.{◌≡◌, ℕ, zero, suc, ◌+◌, ◌-◌, ◌<◌, ◌≤◌, List, [], ◌∷◌, ◌++◌, length, get_or, replicate, set, Option, None, is_some, IsSome, refl, sym, ◌∙◌, ap, inl, inr, arith, length-append}
+use Rattle.std.proofs.Common.{◌≡◌, ℕ, suc, ◌-◌, ◌<◌, ◌≤◌, List, [], ◌∷◌, ◌++◌, length, get_or, replicate, set, Option, None, is_some, IsSome, refl, sym, ◌∙◌, ap, inl, inr, arith, length-append}
 use Rattle.std.proofs.Math.Seq.{set-append_seam}
 use Rattle.std.proofs.lemmas.Bool.{cases_lt}
 use Rattle.std.proofs.lemmas.List.{append_assoc, get_or_append_left, get_or-append_right, get_or-replicate, get_or_past, get_or_read, length-set, length-replicate, set-append_left}

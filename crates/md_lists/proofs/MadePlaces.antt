@@ -1,5 +1,5 @@
 -- A place that is live, has a parent or children, or is marked, is one of those that were made.
-use Rattle.std.proofs.Common.{◌≡◌, ℕ, ◌<◌, [], length, get_or, Some, is_some, IsSome, sym, ◌∙◌, ap, inl, inr, arith}
+use Rattle.std.proofs.Common.{◌≡◌, ℕ, ◌<◌, [], get_or, Some, is_some, IsSome, sym, ◌∙◌, ap, inl, inr, arith}
 use Rattle.std.proofs.lemmas.Bool.{cases_lt}
 use Rattle.std.proofs.lemmas.List.{get_or_past}
 use Rattle.md_lists.specs.declared.span.Span.{Span}

@@ -1,5 +1,5 @@
 -- Store that keep links: what is read of them.
-use Rattle.std.proofs.Common.{vec_len, ◌≡◌, ℕ, ◌<◌, ◌≤◌, List, [], map, length, get_or, Option, Some, None, refl, sym, ◌∙◌, ap, subst, arith}
+use Rattle.std.proofs.Common.{vec_len, ◌≡◌, ℕ, ◌<◌, ◌≤◌, [], map, get_or, Option, Some, None, refl, sym, ◌∙◌, ap, subst, arith}
 use Rattle.std.proofs.Math.ListN.{get_or-map}
 use Rattle.std.proofs.lemmas.List.{ext_get_or, length-map, get_or_read}
 use Rattle.md_lists.specs.declared.kinds.PlaceKind.{PlaceKind}

@@ -1,6 +1,6 @@
 -- What is said of lists of places: what is last, what is behind one, what is left without one.
 -- Source: finite sequences, as in any textbook.
-use Rattle.std.specs.Prelude.{Option, Some, None, ℕ, ◌+◌, cond, not, List, [], ◌∷◌, ◌++◌, map, ◌==◌, if◌then◌else◌}
+use Rattle.std.specs.Prelude.{Option, Some, None, ℕ, cond, not, List, [], ◌∷◌, ◌++◌, map, ◌==◌, if◌then◌else◌}
 use Rattle.std.specs.List.{filter}
 use Rattle.md_graph.specs.Linked.{times, first_or}
 
