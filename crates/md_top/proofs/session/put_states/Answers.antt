@@ -1,12 +1,12 @@
 -- The tree of the first state, and the lines of the edits, one behind the other.
-use Rattle.std.proofs.Common.{refl, subst}
+use Rattle.std.proofs.Common.{◌≤◌, refl, subst, arith}
 use Rattle.md_graph.specs.PlainGraph.{PlainGraph, adjacent}
 use Rattle.md_tree.specs.StrongTrees.{IsTree}
 use Rattle.md_tree.specs.Plain.{plain_option}
 use Rattle.md_report.specs.declared.line.SessionMode.TheVariants as modes
 use Rattle.md_report.specs.Places.{at_state, at_edits, after_end}
 use Rattle.md_top.specs.Sinks.{sink_run, PutsLines}
-use Rattle.md_top.proofs.Lines.{puts_behind}
+use Rattle.md_top.proofs.Lines.{puts_behind, stopped_behind, stopped_before, no_lines}
 use Rattle.md_top.proofs.session.put_states.Goals as goal
 
 pub returns-clause-puts : goal.returns-clause-puts
@@ -18,3 +18,10 @@ returns-clause-puts g c =
     (subst (λ (s : PlainGraph). PutsLines (at_edits modes.Edit s c.args.script.now) after_end c.put_edits.result
     (sink_run g.O.Sink c.put_report_line.new.out c.put_edits.new.out))
     c.new-session.ensures c.put_edits.ensures.puts)
+
+pub returns-in_err-put_report_line-clause-puts : goal.returns-in_err-put_report_line-clause-puts
+returns-in_err-put_report_line-clause-puts g c =
+    stopped_behind _ (at_state modes.Edit c.args.graph c.args.script.now) _ _ _ _ _ _ _ _ _ c.from_residual-in_err-put_report_line.ensures.1
+    (no_lines _ _) (let still : g.O.Sink.faults c.args.out.now ≤ g.O.Sink.faults c.args.out.now = omega arith in still)
+    (c.in_err-put_report_line.ensures.puts (at_state modes.Edit c.args.graph c.args.script.now)
+    (plain_option c.in_ok-tree.tree, subst (λ (s : PlainGraph). IsTree (adjacent s) s.vertices (plain_option c.in_ok-tree.tree)) c.new-session.ensures c.in_ok-tree.ensures, refl))
