@@ -85,8 +85,7 @@ shortest_proof e adjacency n below has =
     elim (search_below (λ k. LeadsIn e k (arc is.u is.v) (arc is.v is.u)) decided (suc (length is.turns.rest))) [
       | inl found ↦
           let least = found.2.has in
-          let short = list_no_longer e (arc is.u is.v) least.0 is.turns.starts least.2 in
-          (
+          let short = list_no_longer e (arc is.u is.v) least.0 is.turns.starts least.2 in (
             short.0,
             record {
               chain = record { u = is.u; v = is.v; ascending = is.ascending; turns = short.1; least = is.least };

@@ -179,7 +179,15 @@ fn apart<const W: usize>(
 {
     let _vertices = graph.vertices();
     match side {
-        Side::Edges => into.set_to_difference(graph.neighbours(here), graph.neighbours(there), known),
-        Side::NonEdges => into.set_to_difference(graph.neighbours(there), graph.neighbours(here), known),
+        Side::Edges => into.set_to_difference(
+            graph.neighbours(here),
+            graph.neighbours(there),
+            known,
+        ),
+        Side::NonEdges => into.set_to_difference(
+            graph.neighbours(there),
+            graph.neighbours(here),
+            known,
+        ),
     }
 }

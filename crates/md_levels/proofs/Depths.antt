@@ -37,8 +37,8 @@ listed es d i (x ∷ xs) a h =
           ]
       | inr other ↦ shift (listed es d (suc i) xs a (rw other at h))
     ] where
-  shift : ListedAt es d (suc i) xs a → ListedAt es d i (x ∷ xs) a
-  shift l = let P : ℕ → Type 0 = λ n. depth es n ≡ d in let e : suc i + l.0 ≡ i + suc l.0 = omega arith in (suc l.0, l.1, l.2, subst P e l.3)
+      shift : ListedAt es d (suc i) xs a → ListedAt es d i (x ∷ xs) a
+      shift l = let P : ℕ → Type 0 = λ n. depth es n ≡ d in let e : suc i + l.0 ≡ i + suc l.0 = omega arith in (suc l.0, l.1, l.2, subst P e l.3)
 
 listed_back : (es : List (Arc × ℕ)) (d i : ℕ) (xs : List (Arc × ℕ)) (a : Arc) (j p : ℕ) → slice_get xs j ≡ Some (a, p) → depth es (i + j) ≡ d → Holds (arcs_at es d i xs) a
 unfolding arcs_at

@@ -32,11 +32,11 @@ decide_to levels (suc k) a =
       | inr none ↦ elim (decide_level levels (suc k) a) [
         | inl here ↦ inl (suc k, omega arith, here)
         | inr not_here ↦ inr (λ h.
-          let (j, low, there) = h in
-          elim (cases_lt j (suc k)) [
-            | inl less ↦ none (j, omega arith, there)
-            | inr last ↦ let same : j ≡ suc k = omega arith in not_here (subst (λ n. InLevel levels n a) same there)
-          ])
+            let (j, low, there) = h in
+            elim (cases_lt j (suc k)) [
+              | inl less ↦ none (j, omega arith, there)
+              | inr last ↦ let same : j ≡ suc k = omega arith in not_here (subst (λ n. InLevel levels n a) same there)
+            ])
       ]
     ]
 
@@ -135,17 +135,17 @@ module _ (e : ℕ → ℕ → Bool) (first : Arc) (levels : List (List Arc)) (ar
     pub told_shortest : (length chain - 1 == steps) ≡ true ↔ IsShortestChain e chain
     told_shortest = (
       λ t.
-      let same = eqb-true (length chain - 1) steps t in
-      record {
-        chain = is;
-        shortest = λ other that. let more = more_than other that in let some = not_empty in omega arith;
-      },
+          let same = eqb-true (length chain - 1) steps t in
+          record {
+            chain = is;
+            shortest = λ other that. let more = more_than other that in let some = not_empty in omega arith;
+          },
       λ shortest.
-      let (other, that, few) = as_short in
-      let at_most = shortest.shortest other that in
-      let more = more_than chain is in
-      let same : length chain - 1 ≡ steps = omega arith in
-      grind (arith, nat_tests, same),
+          let (other, that, few) = as_short in
+          let at_most = shortest.shortest other that in
+          let more = more_than chain is in
+          let same : length chain - 1 ≡ steps = omega arith in
+          grind (arith, nat_tests, same),
     )
 
 -- the reverse of the first arc of a forcing chain is in some level

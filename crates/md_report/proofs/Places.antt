@@ -157,8 +157,7 @@ shortest_line g is =
     let side : MeetsPremises (adjacent g) = side_premises is Edges in
     elim ((alternative_proof (adjacent g) side.adjacency NAMES side.below).one) [
       | inl chain ↦
-          let short = shortest_proof (adjacent g) side.adjacency NAMES side.below chain in
-          (
+          let short = shortest_proof (adjacent g) side.adjacency NAMES side.below chain in (
             forced short.0,
             record { is = short.1.chain; shortest = λ other same. subst (IsShortestChain (adjacent g)) (let e : short.0 ≡ other = cc in e) short.1 },
           )

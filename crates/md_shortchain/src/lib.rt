@@ -15,11 +15,10 @@ use md_checker::{CheckAnswer, check_graphs};
 use md_forcing::Chain;
 use md_graph::{GraphOf, Memory};
 use md_input::{Format, InputStop};
+pub use md_levels::{Levels, is_shortest, levels_from};
 use md_orient::{Verdict, orient};
 use md_report::GraphMode;
 use std::alloc::Global;
-
-pub use md_levels::{Levels, is_shortest, levels_from};
 
 #[cfg(test)]
 mod tests;

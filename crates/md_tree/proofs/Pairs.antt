@@ -172,11 +172,14 @@ module _ {P : Type 0} (r : PairRules P) (laws : ArePairRules r) (Joined : ℕ �
   test i j = test_of (decide i j)
 
   pub some_list : (ps : List P) × ListsExactly r Joined ps
-  some_list = (passing r laws test n, record {
-    ascending = to_pairs (IsPairBeforeBy r) (passing r laws test n) (passing_ascends r laws test n);
-    exactly = λ p. (
-      (λ c. of_test (decide (r.first p) (r.second p)) (of_passing r laws test n p (of_contains (passing r laws test n) p c))),
-      λ is. to_contains (passing r laws test n) p
-          (to_passing r laws test n p (below (r.first p) (r.second p) is).0 (below (r.first p) (r.second p) is).1 (test_holds (decide (r.first p) (r.second p)) is)),
-    );
-  })
+  some_list = (
+    passing r laws test n,
+    record {
+      ascending = to_pairs (IsPairBeforeBy r) (passing r laws test n) (passing_ascends r laws test n);
+      exactly = λ p. (
+        (λ c. of_test (decide (r.first p) (r.second p)) (of_passing r laws test n p (of_contains (passing r laws test n) p c))),
+        λ is. to_contains (passing r laws test n) p
+            (to_passing r laws test n p (below (r.first p) (r.second p) is).0 (below (r.first p) (r.second p) is).1 (test_holds (decide (r.first p) (r.second p)) is)),
+      );
+    },
+  )

@@ -55,8 +55,7 @@ known_cut g c =
     let class : c.index.result.now ≡ class_at cs c.loop-at.at = get_or_read cs c.loop-at.at _ known c.index.ensures empty in
     let told = told_by_left c.args.set.now (class_at cs c.loop-at.at) c.index.result.now c.loop-at.left c.splitter.new.left c.in-Some.p class (c.loop-at.invariant.left known)
     c.in-Some.ensures.less c.in-Some.ensures.kept c.in-Some.ensures.found
-    in
-    (
+    in (
       known,
       told.0,
       cut_by_row c.args.set.now (class_at cs c.loop-at.at) c.row.result.now c.in-Some.p
