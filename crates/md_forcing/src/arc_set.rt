@@ -178,16 +178,10 @@ fn apart<const W: usize>(
         × (adjacent_on side graph.now there w ≡ false) × (set.contains known.now w ≡ false)) }
 {
     let _vertices = graph.vertices();
+    let near = graph.neighbours(here);
+    let far = graph.neighbours(there);
     match side {
-        Side::Edges => into.set_to_difference(
-            graph.neighbours(here),
-            graph.neighbours(there),
-            known,
-        ),
-        Side::NonEdges => into.set_to_difference(
-            graph.neighbours(there),
-            graph.neighbours(here),
-            known,
-        ),
+        Side::Edges => into.set_to_difference(near, far, known),
+        Side::NonEdges => into.set_to_difference(far, near, known),
     }
 }
