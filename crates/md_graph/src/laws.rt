@@ -4,14 +4,14 @@ ghost use Rattle.md_graph.specs.Laws.{GraphWithoutVerticesIsEmpty};
 
 use crate::{NAMES, WORDS};
 
-/// There are 4,096 names.
+/// There are 16,384 names.
 pub fn number_of_names()
-    ensures number { NAMES ≡ 4096 }
+    ensures number { NAMES ≡ 16384 }
 {}
 
-/// The rows of the largest graphs have 64 words.
+/// The rows of the largest graphs have 256 words.
 pub fn number_of_words()
-    ensures number { WORDS ≡ 64 }
+    ensures number { WORDS ≡ 256 }
 {}
 
 /// A graph without vertices is the empty graph.

@@ -21,10 +21,10 @@ pub use steps::Steps;
 pub use words::lowest;
 
 /// How many names there are: a name is a number below it.
-pub const NAMES: u32 = 4096;
+pub const NAMES: u32 = 16384;
 
 /// How many words of 64 bits hold one bit a name.
-pub const WORDS: usize = 64;
+pub const WORDS: usize = 256;
 
 /// Want of memory. `?` makes it of what a `Vec` answers then.
 #[derive(Clone, Copy, Debug, PartialEq, Eq)]

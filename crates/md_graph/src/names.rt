@@ -428,10 +428,10 @@ mod tests {
     fn first_from_at_the_last_name(rt: HostRuntime) {
         let mut names = Names::none();
         names.insert(3);
-        names.insert(4095);
-        assert_eq!(rt; names.first_from(4), Some(4095));
-        assert_eq!(rt; names.first_from(4096), None);
-        assert_eq!(rt; names.last(), Some(4095));
+        names.insert(NAMES - 1);
+        assert_eq!(rt; names.first_from(4), Some(NAMES - 1));
+        assert_eq!(rt; names.first_from(NAMES), None);
+        assert_eq!(rt; names.last(), Some(NAMES - 1));
     }
 
     #[test]
@@ -490,7 +490,7 @@ mod tests {
         names.remove(62);
         assert!(rt; names.is_same(&more) && names.is_subset(&more));
         more.insert_range(0, NAMES);
-        assert_eq!(rt; more.count(), 4096);
+        assert_eq!(rt; more.count(), 16384);
     }
 
     #[test]

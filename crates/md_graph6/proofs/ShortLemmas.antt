@@ -89,7 +89,7 @@ column_added {g} {new} j word column short is ends has e = rw e (record {
 })
   where
     names : (w : ℕ) → Has column w → w < NAMES
-    names w m = let less = in_column_below j word column has w m in let limit : NAMES ≡ 4096 = refl in omega arith
+    names w m = let less = in_column_below j word column has w m in let last = is.names j (ends j (omega arith)) in omega arith
 
     one_way : (a b : ℕ) → a < b → (x y z : Bool) → ((((a == j) && (nat_lt b j && y)) || ((b == j) && (nat_lt a j && x))) || z) ≡ (z || (((b == j) && nat_lt a j) && x))
     one_way a b less x y z = grind (arith, nat_tests)

@@ -3,7 +3,7 @@ ghost use Rattle.std.specs.Prelude.{◌≡◌};
 
 use crate::PLACES;
 
-/// There are 8,200 places.
+/// There are 32,800 places.
 pub fn number_of_places()
-    ensures { PLACES ≡ 8200 }
+    ensures { PLACES ≡ 32800 }
 {}

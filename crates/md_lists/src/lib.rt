@@ -13,4 +13,4 @@ pub use kinds::PlaceKind;
 pub use lists::Lists;
 
 /// How many places there are: a place is a number below it.
-pub const PLACES: u32 = 8200;
+pub const PLACES: u32 = 32800;

@@ -27,7 +27,7 @@ fn replaces<L: Ledger, R: Abort>(rt: &R, alloc: Global, blank: Blank) -> Result<
     let b = lists.make(PlaceKind::Leaf(1), &mut steps);
     assert!(rt; lists.spare() > 0);
     let c = lists.make(PlaceKind::Leaf(2), &mut steps);
-    assert_eq!(rt; lists.spare(), 8196);
+    assert_eq!(rt; lists.spare(), 32796);
     lists.attach(p, a, &mut steps);
     lists.attach(p, b, &mut steps);
     lists.replace(a, c, &mut steps);
@@ -52,5 +52,5 @@ fn a_place_takes_at_most_80_bytes(rt: HostRuntime) {
     let links = 4 * size_of::<Option<u32>>();
     let numbers = 3 * size_of::<u32>();
     assert!(rt; kind + links + numbers + size_of::<Span>() <= 80);
-    assert_eq!(rt; PLACES, 8200);
+    assert_eq!(rt; PLACES, 32800);
 }

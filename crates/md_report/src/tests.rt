@@ -93,7 +93,7 @@ fn texts_of_no_line(rt: HostRuntime) -> Result<(), Fail> {
         "yes/",
         "yes 1 0 /0 1",
         "yes 0>0",
-        "yes 0>4096",
+        "yes 0>16384",
         "yes 0>1 2",
     ];
     for text in &table {
@@ -104,7 +104,7 @@ fn texts_of_no_line(rt: HostRuntime) -> Result<(), Fail> {
         "no",
         "no ",
         "no same ",
-        "no vertex 4096",
+        "no vertex 16384",
         "no vertex 01",
         "no taken",
         "no edge",

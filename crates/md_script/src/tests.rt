@@ -63,10 +63,10 @@ fn scripts(rt: HostRuntime) -> Result<(), Fail> {
     check_script(
         &rt,
         rt.alloc(),
-        "# a script\r\n\r\n \t\n-v 0\r\n+v\t4095 \n#\n+v 5 5 64 63\n+e 007 7",
+        "# a script\r\n\r\n \t\n-v 0\r\n+v\t16383 \n#\n+v 5 5 64 63\n+e 007 7",
         &[
             ("-v", 0, &[]),
-            ("+v", 4095, &[]),
+            ("+v", 16383, &[]),
             ("+v", 5, &[5, 63, 64]),
             ("+e", 7, &[7]),
         ],
@@ -78,13 +78,13 @@ fn scripts(rt: HostRuntime) -> Result<(), Fail> {
         ("-e x", FieldCount, 1),
         ("+v\r\n", FieldCount, 1),
         ("#\n#\n-v 1 2\n", FieldCount, 3),
-        ("+e 4096 x\n", NameTooLarge, 1),
-        ("+e x 4096\n", BadNumber, 1),
+        ("+e 16384 x\n", NameTooLarge, 1),
+        ("+e x 16384\n", BadNumber, 1),
         ("-v -1\n", BadNumber, 1),
-        ("+v 1 2 3 4 5a 4096\n", BadNumber, 1),
+        ("+v 1 2 3 4 5a 16384\n", BadNumber, 1),
         ("-e 1 1234567890123456789\n", BadNumber, 1),
         ("-e 1 999999999999999999\n", NameTooLarge, 1),
-        ("+v 1 2 3 4096\n", NameTooLarge, 1),
+        ("+v 1 2 3 16384\n", NameTooLarge, 1),
     ] {
         check_fault(&rt, rt.alloc(), file, kind, line);
     }
@@ -165,11 +165,11 @@ fn edits(rt: HostRuntime) -> Result<(), Fail> {
         &rt,
         rt.alloc(),
         g,
-        "-e 2 1\n-e 1 2\n-v 3\n+v 4095 1\n+e 1 2\n",
+        "-e 2 1\n-e 1 2\n-v 3\n+v 16383 1\n+e 1 2\n",
         &[None, Some(EdgeAbsent), None, None, None],
     )?;
     assert!(rt; graph.count() == 3 && graph.edge_count() == 2);
-    assert!(rt; graph.has_edge(1, 2) && graph.has_edge(4095, 1) && !graph.has_vertex(3));
+    assert!(rt; graph.has_edge(1, 2) && graph.has_edge(16383, 1) && !graph.has_vertex(3));
     let mut narrow = GraphOf::<1>::from_edges(rt.alloc(), 3, &[(0, 1)])?.expect(&rt, "edges");
     let edit = Edit::DelVertex { x: 1 };
     assert!(rt; reason(&narrow, &edit).is_none());
@@ -190,6 +190,6 @@ fn neighbours(rt: HostRuntime) -> Result<(), Fail> {
     names.insert(3);
     names.insert(NAMES - 1);
     let some = Neighbours::new(rt.alloc(), &names)?;
-    assert_eq!(rt; some.as_slice(), [3, 64, 4095].as_slice());
+    assert_eq!(rt; some.as_slice(), [3, 64, 16383].as_slice());
     Ok(())
 }
