@@ -202,7 +202,7 @@ module _ (limit : ℕ) (g : PlainGraph) (few : limit ≤ NAMES) (is : IsGraph g)
       let listed = ascending row in
       let ends : (u : ℕ) → Has row u → Has g.vertices u = λ u m. (adjacent_ends is x u (sym (contains-neighbours is x u) ∙ m)).1 in
       let left : (u : ℕ) → IsItem row 0 NAMES u → Has (set.remove g.vertices x) u = λ u item.
-          remove_left g.vertices x u (λ same. clash (ap (set.contains row) (sym same) ∙ item.member) (no_loop g x is)) (ends u item.member) in
+      remove_left g.vertices x u (λ same. clash (ap (set.contains row) (sym same) ∙ item.member) (no_loop g x is)) (ends u item.member) in
       record {
         names = (names, All-weaker (IsItem row 0 NAMES) (λ u. u < limit) (λ u item. below u (ends u item.member)) listed (ascending_items row 0 NAMES));
         no_reason = new_applies _ _ x
