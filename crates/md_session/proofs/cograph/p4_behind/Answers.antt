@@ -1,4 +1,4 @@
-use Rattle.std.proofs.Common.{◌*◌, subst, sym, rules}
+use Rattle.std.proofs.Common.{subst, sym, rules}
 use Rattle.md_report.specs.Made.{HasChange}
 use Rattle.md_report.specs.Cographs.{IsCograph}
 use Rattle.md_report.proofs.MadePaths.{shown}
