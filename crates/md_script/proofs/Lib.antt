@@ -4,3 +4,5 @@ pub mod ChangeLemmas
 pub mod EditLemmas
 pub mod FileLemmas
 pub mod BackLemmas
+pub mod HistoryLemmas
+pub mod GroupLemmas
