@@ -1,10 +1,10 @@
 -- Edits that are applied one after the other, and taken back from the last to the first.
-use Rattle.std.proofs.Common.{◌≡◌, ℕ, zero, suc, ◌+◌, ◌-◌, ◌<◌, ◌≤◌, List, [], ◌∷◌, ◌++◌, length, take, slice_get, Option, Some, None, refl, sym, ◌∙◌, ap, ap₂, subst, arith}
-use Rattle.std.proofs.lemmas.List.{take_all}
+use Rattle.std.proofs.Common.{◌≡◌, ℕ, zero, suc, ◌+◌, ◌<◌, ◌≤◌, List, [], ◌∷◌, ◌++◌, length, take, slice_get, Some, None, refl, sym, ◌∙◌, ap, ap₂, subst, arith}
+use Rattle.std.proofs.lemmas.List.{take_all, length-append}
 use Rattle.md_graph.specs.PlainGraph.{PlainGraph}
 use Rattle.md_script.specs.declared.edit.Edit.{Edit}
 use Rattle.md_script.specs.Edit.{HasNamesBelow, reason_of, after}
-use Rattle.md_script.specs.Pasts.{inverse_of, all_after, taken_back, inverses_of, Applies, MayBack, AnyGraph, HasApplied, TakesBack}
+use Rattle.md_script.specs.Pasts.{inverse_of, all_after, taken_back, inverses_of, Applies, MayBack, HasApplied, TakesBack}
 
 -- ---- lists
 
@@ -16,12 +16,20 @@ read_within (y ∷ xs) (suc i) x is = let rest = read_within xs i x is in omega 
 pub take_read : {X : Type 0} (xs : List X) (i : ℕ) (x : X) → slice_get xs i ≡ Some x → take (i + 1) xs ≡ take i xs ++ x ∷ []
 take_read [] i x is = absurd (cc)
 take_read (y ∷ xs) zero x is = let same : y ≡ x = cc in ap (λ z. z ∷ []) same
-take_read (y ∷ xs) (suc i) x is = ap (λ l. y ∷ l) (take_read xs i x is)
+take_read (y ∷ xs) (suc i) x is = let on : suc i + 1 ≡ suc (i + 1) = omega arith in ap (λ n. take n (y ∷ xs)) on ∙ ap (λ l. y ∷ l) (take_read xs i x is)
 
 -- the length of the last item
 pub last_length : List (List Edit) → ℕ
 last_length [] = 0
 last_length (last ∷ others) = length last
+
+pub smaller_last : (items new behind : List (List Edit)) (left : List Edit) (e : Edit) → items ≡ (left ++ e ∷ []) ∷ behind → new ≡ left ∷ behind → last_length new < last_length items
+unfolding last_length
+smaller_last items new behind left e was is =
+    let a : last_length items ≡ length (left ++ e ∷ []) = ap last_length was in
+    let b : last_length new ≡ length left = ap last_length is in
+    let l = length-append left (e ∷ []) in
+    omega arith
 
 -- ---- one edit more
 
@@ -39,8 +47,8 @@ taken_back-push g (x ∷ edits) e = ap (λ (k : PlainGraph). after k x) (taken_b
 
 module _ (Kept : PlainGraph → Type 0) where
   Applies-push : (g : PlainGraph) (edits : List Edit) (e : Edit) → Applies Kept g edits → reason_of (all_after g edits) e ≡ None → Kept (after (all_after g edits) e) → Applies Kept g (edits ++ e ∷ [])
-  Applies-push g [] e applies none kept = (none, kept, tt)
-  Applies-push g (x ∷ edits) e applies none kept = (applies.0, applies.1, Applies-push (after g x) edits e applies.2 none kept)
+  Applies-push g [] e applies none kept = (none, (kept, tt))
+  Applies-push g (x ∷ edits) e applies none kept = (applies.0, (applies.1.0, Applies-push (after g x) edits e applies.1.1 none kept))
 
   pub applied_start : (g : PlainGraph) (edits : List Edit) → HasApplied Kept g edits g [] 0
   applied_start g edits = record { within = omega arith; applies = tt; graph_is = refl; back_is = refl }
@@ -75,7 +83,7 @@ module _ (limit : ℕ) (Kept : PlainGraph → Type 0) where
     pub others : MayBack limit Kept (after g e) edits
 
   pub back_first : (g : PlainGraph) (edits : List Edit) (e : Edit) → MayBack limit Kept g (edits ++ e ∷ []) → BackFirst g e edits
-  back_first g [] e may = record { no_reason = may.1; names = may.2; kept = may.3; others = tt }
+  back_first g [] e may = record { no_reason = may.1.0; names = may.1.1.0; kept = may.1.1.1; others = tt }
   back_first g (x ∷ edits) e may =
       let rest = back_first g edits e may.0 in
       let same = taken_back-push g edits e in
@@ -83,22 +91,22 @@ module _ (limit : ℕ) (Kept : PlainGraph → Type 0) where
         no_reason = rest.no_reason;
         names = rest.names;
         kept = rest.kept;
-        others = (rest.others, ap (λ (k : PlainGraph). reason_of k x) (sym same) ∙ may.1, may.2, subst (λ (k : PlainGraph). Kept (after k x)) same may.3);
+        others = (rest.others, (ap (λ (k : PlainGraph). reason_of k x) (sym same) ∙ may.1.0, (may.1.1.0, subst (λ (k : PlainGraph). Kept (after k x)) same may.1.1.1)));
       }
 
   pub back-push : (g : PlainGraph) (edits : List Edit) (e : Edit) → reason_of g e ≡ None → HasNamesBelow limit e → Kept (after g e) → MayBack limit Kept (after g e) edits → MayBack limit Kept g (edits ++ e ∷ [])
-  back-push g [] e none names kept others = (tt, none, names, kept)
+  back-push g [] e none names kept others = (tt, (none, (names, kept)))
   back-push g (x ∷ edits) e none names kept others =
       let same = taken_back-push g edits e in
-      (back-push g edits e none names kept others.0, ap (λ (k : PlainGraph). reason_of k x) same ∙ others.1, others.2, subst (λ (k : PlainGraph). Kept (after k x)) (sym same) others.3)
+      (back-push g edits e none names kept others.0, (ap (λ (k : PlainGraph). reason_of k x) same ∙ others.1.0, (others.1.1.0, subst (λ (k : PlainGraph). Kept (after k x)) (sym same) others.1.1.1)))
 
   -- a history of which the last item is being taken back: what is left of it leads from the graph to the one before the item
   abbrev pub IsGoingBack : PlainGraph → PlainGraph → List (List Edit) → List (List Edit) → Type 0
   IsGoingBack before g items others = (last : List Edit) × (items ≡ last ∷ others) × MayBack limit Kept g last × (taken_back g last ≡ before)
 
   -- the edit that comes next
-  pub next_back : (before g : PlainGraph) (items others last behind : List (List Edit)) (left : List Edit) (e : Edit) → IsGoingBack before g items others → items ≡ (left ++ e ∷ []) ∷ behind → BackFirst g e left
-  next_back before g items others last behind left e so is =
+  pub next_back : (before g : PlainGraph) (items others behind : List (List Edit)) (left : List Edit) (e : Edit) → IsGoingBack before g items others → items ≡ (left ++ e ∷ []) ∷ behind → BackFirst g e left
+  next_back before g items others behind left e so is =
       let f : so.0 ∷ others ≡ (left ++ e ∷ []) ∷ behind = sym so.1 ∙ is in
       let same : so.0 ≡ left ++ e ∷ [] = cc in
       back_first g left e (subst (MayBack limit Kept g) same so.2)
@@ -109,8 +117,7 @@ module _ (limit : ℕ) (Kept : PlainGraph → Type 0) where
       let f : so.0 ∷ others ≡ (left ++ e ∷ []) ∷ behind = sym so.1 ∙ is in
       let same : so.0 ≡ left ++ e ∷ [] = cc in
       let rest : others ≡ behind = cc in
-      let first = back_first g left e (subst (MayBack limit Kept g) same so.2) in
-      (
+      let first = back_first g left e (subst (MayBack limit Kept g) same so.2) in (
         left,
         made ∙ ap (λ l. left ∷ l) (sym rest),
         subst (λ (k : PlainGraph). MayBack limit Kept k left) (sym next) first.others,

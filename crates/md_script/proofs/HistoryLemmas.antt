@@ -1,5 +1,5 @@
 -- Histories, as edits and where items begin.
-use Rattle.std.proofs.Common.{◌≡◌, ◌≢◌, ℕ, ◌+◌, ◌-◌, ◌<◌, ◌≤◌, List, [], ◌∷◌, ◌++◌, length, map, reverse, take, drop, get_or, Bool, false, option_to_list, Option, Some, None, IfSome, IfNone, IsSome, refl, sym, ◌∙◌, ap, ap₂, subst, inl, inr, arith}
+use Rattle.std.proofs.Common.{◌≡◌, ◌≢◌, ℕ, ◌+◌, ◌-◌, ◌<◌, ◌≤◌, List, [], ◌∷◌, ◌++◌, length, map, reverse, take, drop, get_or, option_to_list, Option, Some, None, IfSome, IfNone, IsSome, refl, sym, ◌∙◌, ap, ap₂, subst, inl, inr, arith}
 use Rattle.std.proofs.lemmas.Bool.{cases_lt}
 use Rattle.std.proofs.lemmas.List.{length-map, length-drop, length-append, length-reverse, length-take-le, map-append, reverse-append, drop_all, take_all, take_more, drop-append-le, take-append-le}
 use Rattle.md_script.specs.declared.edit.Edit.{Edit}

@@ -5,7 +5,7 @@ use Rattle.std.specs.List.{All}
 use Rattle.md_script.specs.declared.TheConstants.{EDITS}
 use Rattle.md_script.specs.declared.item.Item.{Item}
 use Rattle.md_script.specs.declared.item.Item.TheVariants.{One, Undo, Group}
-use Rattle.md_script.specs.Edit.{HasNamesBelow, HasNames}
+use Rattle.md_script.specs.Edit.{HasNamesBelow}
 
 -- the names in an item are below a limit
 abbrev pub HasItemNamesBelow : ℕ → Item → Type 0

@@ -1,4 +1,4 @@
-use Rattle.std.proofs.Common.{◌≡◌, ◌+◌, ◌<◌, ◌≤◌, List, [], ◌∷◌, length}
+use Rattle.std.proofs.Common.{◌≡◌, ◌+◌, ◌≤◌, List, [], ◌∷◌, length}
 use Rattle.md_script.specs.declared.edit.Edit.{Edit}
 use Rattle.md_script.specs.Pasts.{AnyGraph, HasApplied}
 use Rattle.md_script.proofs.groups.apply_all.Given as goal

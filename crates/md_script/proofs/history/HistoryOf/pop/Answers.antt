@@ -16,8 +16,7 @@ invariant_of-self g c =
     let high = at.2 in
     let was = c.self.inside.edits.ok.0 in
     let len = c.pop.ensures.len in
-    let capacity = c.pop.ensures.capacity in
-    (
+    let capacity = c.pop.ensures.capacity in (
       popped_starts c.self.inside.edits.items c.pop.new.self.items c.self.inside.starts.items c.args.self.now.items c.last_len.result c.pop.result view c.requires c.last_len.ensures c.if-last_len-eq0.false at.0
           (one_less c.self.inside.edits.items c.pop.new.self.items _ c.pop.ensures.rest was some),
       omega arith,
