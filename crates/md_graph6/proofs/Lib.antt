@@ -15,3 +15,6 @@ pub mod Listed
 pub mod SizeText
 pub mod WriteLemmas
 pub mod ByteLemmas
+mod NumberLemmas
+mod WalkLemmas
+mod SparseLemmas

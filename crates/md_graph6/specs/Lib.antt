@@ -9,3 +9,6 @@ pub mod Filled
 pub mod Short
 pub mod Written
 pub mod Text
+pub mod Sparse
+pub mod Pairs
+pub mod SparseLine

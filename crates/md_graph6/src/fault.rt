@@ -19,6 +19,8 @@ pub enum G6Kind {
     BadPadding,
     /// The line begins as one of another format: `:`, `;` or `&`.
     OtherFormat,
+    /// An edge that isn't left out has equal ends. Only sparse6 lines have this fault.
+    Loop,
 }
 
 /// The first fault of a file.

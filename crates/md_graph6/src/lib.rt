@@ -11,6 +11,7 @@ mod file;
 pub mod laws;
 mod line;
 mod reader;
+pub mod sparse;
 mod writer;
 
 pub use fault::{G6Fault, G6Kind};

@@ -34,7 +34,7 @@ pub(crate) fn eighteen(line: &[u8], place: usize) -> u64
 }
 
 // How many bytes of a line spell its size, and the size; `None` where not all of them are there.
-fn size(line: &[u8]) -> Option<(usize, u64)>
+pub(crate) fn size(line: &[u8]) -> Option<(usize, u64)>
     requires some { 0 < length line.now }
     requires groups { AllPass is_group line.now }
     ensures value { result ≡ size_of line.now }
@@ -56,7 +56,7 @@ fn size(line: &[u8]) -> Option<(usize, u64)>
 }
 
 // Whether fewer bytes would spell the size.
-fn is_too_long(taken: usize, n: u64) -> bool
+pub(crate) fn is_too_long(taken: usize, n: u64) -> bool
     ensures { result ≡ is_too_long taken n }
 {
     taken == 4 && n <= u64::from(MOST_IN_ONE_BYTE) || taken == 8 && n <= MOST_IN_FOUR_BYTES
@@ -127,7 +127,7 @@ fn begins_other(first: u8) -> bool
 
 // Whether each byte is 63 with six bits added. The least and the greatest byte are found 16 bytes
 // at a time.
-fn are_groups(line: &[u8]) -> bool
+pub(crate) fn are_groups(line: &[u8]) -> bool
     ensures { result ≡ list_all is_group line.now }
 {
     let mut least = 126;
