@@ -19,3 +19,4 @@ pub mod ByteLemmas
 mod NumberLemmas
 mod WalkLemmas
 mod SparseLemmas
+mod FileLineLemmas

@@ -1,5 +1,5 @@
 -- What a sparse6 line spells behind its `:`: where it has no fault one graph, and else none.
-use Rattle.std.proofs.Common.{◌≡◌, ℕ, ◌+◌, ◌<◌, ◌≤◌, Bool, true, false, not, nat_lt, List, [], ◌∷◌, ◌++◌, length, take, drop, if◌then◌else◌, Option, None, Some, refl, sym, ap, ◌∙◌, arith}
+use Rattle.std.proofs.Common.{◌≡◌, ℕ, ◌+◌, ◌-◌, ◌<◌, ◌≤◌, Bool, true, false, not, nat_lt, List, [], ◌∷◌, ◌++◌, length, take, drop, if◌then◌else◌, Option, None, Some, refl, sym, ap, ◌∙◌, arith}
 use Rattle.std.specs.List.{list_all, AllPass}
 use Rattle.std.proofs.lemmas.Bool.Decides.{nat_tests}
 use Rattle.std.proofs.lemmas.List.Sums.{list_all-from_AllPass, AllPass-from_list_all}
@@ -7,12 +7,16 @@ use Rattle.std.proofs.Math.Seq.{drop-append_seam}
 use Rattle.std.proofs.lemmas.List.Elements.{All-drop}
 use Rattle.std.proofs.lemmas.List.Folds.{list_all-append}
 use Rattle.md_graph.specs.declared.TheConstants.{NAMES}
+use Rattle.std.specs.FinSet as set
+use Rattle.std.proofs.lemmas.List.{take_rest}
+use Rattle.md_graph.specs.NameSet.{AllBelow}
 use Rattle.md_graph.specs.PlainGraph.{PlainGraph, IsGraph}
 use Rattle.md_graph6.specs.declared.fault.G6Kind.{G6Kind}
 use Rattle.md_graph6.specs.declared.fault.G6Kind.TheVariants.{BadByte, BadSize, TooManyVertices, Truncated, Loop}
 use Rattle.md_graph6.specs.Size.{size_text, size_of, is_too_long}
 use Rattle.md_graph6.specs.Line.{is_group}
-use Rattle.md_graph6.specs.Sparse.{has_loop, graph_of_pairs}
+use Rattle.md_graph6.specs.Sparse.{is_pair_edge, has_loop, graph_of_pairs}
+use Rattle.md_graph6.proofs.DecodeLemmas.{contains-numbers_below, numbers_few, numbered_is_graph}
 use Rattle.md_graph6.specs.SparseLine.{SpellsSparse, pairs_fault, sparse_size_fault, sparse_fault, graph_of_sparse_size, graph_of_sparse}
 use Rattle.md_graph6.proofs.SizeLemmas.{size_text-read, size_text-shortest, size_text-groups, size_text-some, size_text-spelt}
 use Rattle.md_graph6.proofs.SpellLemmas.{name_size}
@@ -39,20 +43,25 @@ pub size_inside : (line : List ℕ) (taken n : ℕ) → 0 < length line → size
 unfolding size_of
 size_inside line taken n some sized = grind (arith, nat_tests)
 
--- what the faults rule out
+-- what the faults behind the size rule out
+pub record IsSoundPairs (limit : ℕ) (rest : List ℕ) (taken n : ℕ) : Type 0 where
+  pub shortest : is_too_long taken n ≡ false
+  pub few : n ≤ limit
+  pub no_loop : has_loop (drop taken rest) n ≡ false
+
+-- what all faults rule out
 pub record IsSoundSparse (limit : ℕ) (rest : List ℕ) : Type 0 where
   pub groups : AllPass is_group rest
   pub taken : ℕ
   pub n : ℕ
   pub sized : size_of rest ≡ Some (taken, n)
-  pub shortest : is_too_long taken n ≡ false
-  pub few : n ≤ limit
-  pub no_loop : has_loop (drop taken rest) n ≡ false
+  pub pairs : IsSoundPairs limit rest taken n
 
-pairs_fault-none : (limit : ℕ) (rest : List ℕ) (taken n : ℕ) → pairs_fault limit rest taken n ≡ None
-    → (is_too_long taken n ≡ false) × (n ≤ limit) × (has_loop (drop taken rest) n ≡ false)
+pairs_fault-none : (limit : ℕ) (rest : List ℕ) (taken n : ℕ) → pairs_fault limit rest taken n ≡ None → IsSoundPairs limit rest taken n
 unfolding pairs_fault
-pairs_fault-none limit rest taken n e = by_tests (is_too_long taken n) (has_loop (drop taken rest) n) limit n e
+pairs_fault-none limit rest taken n e =
+    let facts = by_tests (is_too_long taken n) (has_loop (drop taken rest) n) limit n e in
+    record { shortest = facts.0; few = facts.1; no_loop = facts.2 }
   where
     by_tests : (long loop : Bool) (limit n : ℕ)
         → (if long then Some BadSize else if nat_lt limit n then Some TooManyVertices else if loop then Some Loop else None) ≡ None
@@ -63,17 +72,13 @@ size_fault-none : (limit : ℕ) (rest : List ℕ) (size : Option (ℕ × ℕ)) �
     → sparse_size_fault limit rest size ≡ None → IsSoundSparse limit rest
 unfolding sparse_size_fault
 size_fault-none limit rest None groups sized sound = cc
-size_fault-none limit rest (Some size) groups sized sound =
-    let facts = pairs_fault-none limit rest size.0 size.1 sound in
-    record {
-      groups = groups;
-      taken = size.0;
-      n = size.1;
-      sized = sized;
-      shortest = facts.0;
-      few = facts.1;
-      no_loop = facts.2;
-    }
+size_fault-none limit rest (Some size) groups sized sound = record {
+  groups = groups;
+  taken = size.0;
+  n = size.1;
+  sized = sized;
+  pairs = pairs_fault-none limit rest size.0 size.1 sound;
+}
 
 first_faults-none : (groups : Bool) (later : Option G6Kind) → (if not groups then Some BadByte else later) ≡ None → (groups ≡ true) × (later ≡ None)
 first_faults-none true later e = (refl, e)
@@ -116,6 +121,10 @@ sparse_spells-graph limit rest g names s =
     let few : s.n ≤ NAMES = omega (arith, s.few, names) in
     rw s.text (text_graph s.n s.body few) ∙ sym s.edges
 
+pub sparse_some : (limit : ℕ) (rest : List ℕ) → sparse_fault limit rest ≡ None → 0 < length rest
+sparse_some limit [] sound = let none : sparse_fault limit [] ≡ Some Truncated = sparse_fault-empty limit [] refl in cc
+sparse_some limit (byte ∷ more) sound = omega arith
+
 -- what has no fault spells the graph that is decoded
 pub sound-sparse_spells : (limit : ℕ) (rest : List ℕ) → limit ≤ NAMES → sparse_fault limit rest ≡ None → SpellsSparse limit rest (graph_of_sparse rest)
 unfolding graph_of_sparse_size
@@ -124,13 +133,44 @@ sound-sparse_spells limit rest names sound =
     record {
       n = facts.n;
       body = drop facts.taken rest;
-      few = facts.few;
-      text = size_text-spelt rest facts.taken facts.n (sparse_some limit rest sound) facts.groups facts.sized facts.shortest (name_size facts.n (omega (arith, facts.few, names)));
+      few = facts.pairs.few;
+      text = size_text-spelt rest facts.taken facts.n (sparse_some limit rest sound) facts.groups facts.sized facts.pairs.shortest (name_size facts.n (omega (arith, facts.pairs.few, names)));
       groups = All-drop (λ byte. is_group byte ≡ true) facts.taken rest facts.groups;
-      no_loop = facts.no_loop;
+      no_loop = facts.pairs.no_loop;
       edges = rw (facts.sized) refl;
     }
-  where
-    sparse_some : (limit : ℕ) (rest : List ℕ) → sparse_fault limit rest ≡ None → 0 < length rest
-    sparse_some limit [] sound = let none : sparse_fault limit [] ≡ Some Truncated = sparse_fault-empty limit [] refl in cc
-    sparse_some limit (byte ∷ more) sound = omega arith
+
+-- ---- what is read
+
+-- the size is there, and what stands behind it has no fault
+pub sound_sparse-sized : (rest : List ℕ) → sparse_fault NAMES rest ≡ None → size_of rest ≡ None → ⊥
+sound_sparse-sized rest sound none =
+    let facts : IsSoundSparse NAMES rest = sound_sparse NAMES rest sound in
+    cc (facts.sized)
+
+pub sound_sparse-pairs : (rest : List ℕ) (taken n : ℕ) → sparse_fault NAMES rest ≡ None → size_of rest ≡ Some (taken, n)
+    → IsSoundPairs NAMES rest taken n
+unfolding sparse_size_fault
+sound_sparse-pairs rest taken n sound sized =
+    let groups : list_all is_group rest ≡ true = list_all-from_AllPass is_group rest (sound_sparse NAMES rest sound).groups in
+    pairs_fault-none NAMES rest taken n (sym (sparse_fault-sized NAMES rest (Some (taken, n)) (sparse_some NAMES rest sound) groups sized) ∙ sound)
+
+-- a size has room where the vertices have
+pub sparse_fits : (rest : List ℕ) (taken n m : ℕ) → size_of rest ≡ Some (taken, n) → AllBelow (graph_of_sparse rest).vertices m → n ≤ m
+unfolding graph_of_sparse_size graph_of_pairs
+sparse_fits rest taken n m sized below = numbers_few n m (rw sized at below)
+
+-- a graph that is filled from what stands behind the size
+pub filled_is_sparse : (rest : List ℕ) (taken n : ℕ) (g : PlainGraph) → size_of rest ≡ Some (taken, n)
+    → g ≡ graph_of_pairs (take (length rest - taken) (drop taken rest)) n → g ≡ graph_of_sparse rest
+unfolding graph_of_sparse_size
+filled_is_sparse rest taken n g sized is = rw sized (is ∙ ap (λ body. graph_of_pairs body n) (take_rest rest taken))
+
+-- what is spelt is a graph
+pub pairs_is_graph : (body : List ℕ) (n : ℕ) → n ≤ NAMES → IsGraph (graph_of_pairs body n)
+unfolding graph_of_pairs
+pairs_is_graph body n few = numbered_is_graph (is_pair_edge body n) n few
+
+pub pairs_vertices : (body : List ℕ) (n v : ℕ) → set.contains (graph_of_pairs body n).vertices v ≡ nat_lt v n
+unfolding graph_of_pairs
+pairs_vertices body n v = contains-numbers_below n v

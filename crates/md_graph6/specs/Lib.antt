@@ -12,3 +12,4 @@ pub mod Text
 pub mod Sparse
 pub mod Pairs
 pub mod SparseLine
+pub mod FileLine

@@ -1,13 +1,14 @@
 //! sparse6 lines: what stands behind their `:`, a size and the edges as pairs of a bit and an end.
-ghost use Rattle.std.specs.Prelude.{◌≡◌, ℕ, suc, ◌+◌, ◌*◌, ◌/◌, ◌%◌, ◌^◌, ◌<◌, ◌≤◌, ◌==◌, ◌&&◌, min, max, nat_lt, nat_le, length};
+ghost use Rattle.std.specs.Prelude.{◌≡◌, ℕ, suc, ◌+◌, ◌*◌, ◌/◌, ◌%◌, ◌^◌, ◌<◌, ◌≤◌, ◌==◌, ◌&&◌, min, max, nat_lt, nat_le, length, None};
 ghost use Rattle.std.specs.List.{AllPass};
+ghost use Rattle.md_graph.specs.NameSet.{AllBelow};
 ghost use Rattle.md_graph.specs.Sets.{Has};
 ghost use Rattle.md_graph.specs.PlainGraph.{IsGraph, empty_graph};
 ghost use Rattle.md_graph6.specs.Window.{AreGroups};
 ghost use Rattle.md_graph6.specs.Line.{is_group};
 ghost use Rattle.md_graph6.specs.Sparse.{width, number_at, has_loop, graph_of_pairs};
 ghost use Rattle.md_graph6.specs.Pairs.{HasPairs, IsWithPair};
-ghost use Rattle.md_graph6.specs.SparseLine.{sparse_fault, pairs_fault};
+ghost use Rattle.md_graph6.specs.SparseLine.{sparse_fault, pairs_fault, graph_of_sparse};
 
 use crate::fault::G6Kind;
 use crate::line::{are_groups, is_too_long, size};
@@ -214,10 +215,24 @@ fn add_pairs<const W: usize>(graph: &mut GraphOf<W>, n: u32, body: &[u8])
     }
 }
 
+// Fills the graph with the one that is spelt behind the `:` of a line. Conditions: there is no
+// fault, and the graph has no vertices, and room for those that are spelt.
+pub(crate) fn fill_sparse<const W: usize>(graph: &mut GraphOf<W>, rest: &[u8])
+    requires empty { graph.old ≡ empty_graph }
+    requires sound { sparse_fault NAMES rest.now ≡ None }
+    requires room { AllBelow (graph_of_sparse rest.now).vertices (64 * W) }
+    ensures { graph.new ≡ graph_of_sparse rest.now }
+{
+    let Some((taken, n)) = size(rest) else {
+        unreachable!();
+    };
+    fill_pairs(graph, n as u32, &rest[taken..]);
+}
+
 // Fills the graph with the numbers below n as vertices and the edges of the pairs. Conditions: the
 // graph has no vertices and room for n, n is at most the number of names, and each byte is from 63
 // to 126.
-pub fn fill_pairs<const W: usize>(graph: &mut GraphOf<W>, n: u32, body: &[u8])
+fn fill_pairs<const W: usize>(graph: &mut GraphOf<W>, n: u32, body: &[u8])
     requires empty { graph.old ≡ empty_graph }
     requires few { n ≤ NAMES }
     requires room { n ≤ 64 * W }
@@ -231,7 +246,7 @@ pub fn fill_pairs<const W: usize>(graph: &mut GraphOf<W>, n: u32, body: &[u8])
 }
 
 // The first fault of what stands behind the `:` of a line.
-pub fn sparse_fault(limit: u32, rest: &[u8]) -> Option<G6Kind>
+pub(crate) fn sparse_fault(limit: u32, rest: &[u8]) -> Option<G6Kind>
     requires { limit ≤ NAMES }
     ensures { result ≡ sparse_fault limit rest.now }
 {

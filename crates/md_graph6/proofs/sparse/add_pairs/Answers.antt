@@ -10,8 +10,7 @@ loop-place-init g c =
 
 pub loop-place-preserved : goal.loop-place-preserved
 loop-place-preserved g c =
-    let whole : nat_le (6 * c.loop-place.place.at + c.loop-place.place.shift + (c.width-digits.result + 1)) (6 * length c.args.body.now) ≡ true = cc in
-    (
+    let whole : nat_le (6 * c.loop-place.place.at + c.loop-place.place.shift + (c.width-digits.result + 1)) (6 * length c.args.body.now) ≡ true = cc in (
       _,
       at_next _ _ _ _ _ c.loop-place.invariant.1 whole c.pair_at-pair.ensures.vertex c.pair_at-pair.ensures.other c.behind_pair-place.ensures.shift c.behind_pair-place.ensures.place c.behind_pair-place.ensures.reached,
       pairs_more _ _ c.loop-place.invariant.1 whole c.pair_at-pair.ensures.vertex c.pair_at-pair.ensures.other c.add_pair.ensures c.loop-place.invariant.2,

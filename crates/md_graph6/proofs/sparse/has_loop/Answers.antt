@@ -19,8 +19,7 @@ returns-then-is_loop c =
 pub loop-place-preserved : goal.loop-place-preserved
 loop-place-preserved c =
     let whole : nat_le (6 * c.loop-place.place.at + c.loop-place.place.shift + (c.width-digits.result + 1)) (6 * length c.args.body.now) ≡ true = cc in
-    let none : ((c.pair_at-pair.result.other == c.pair_at-pair.result.vertex) && nat_lt c.pair_at-pair.result.vertex c.args.n) ≡ false = cc in
-    (
+    let none : ((c.pair_at-pair.result.other == c.pair_at-pair.result.vertex) && nat_lt c.pair_at-pair.result.vertex c.args.n) ≡ false = cc in (
       _,
       at_next _ _ _ _ _ c.loop-place.invariant.1 whole c.pair_at-pair.ensures.vertex c.pair_at-pair.ensures.other c.behind_pair-place.ensures.shift c.behind_pair-place.ensures.place c.behind_pair-place.ensures.reached,
       no_loop_more _ _ c.loop-place.invariant.1 c.pair_at-pair.ensures.vertex c.pair_at-pair.ensures.other none c.loop-place.invariant.2,
