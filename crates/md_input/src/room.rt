@@ -15,16 +15,19 @@ use md_graph6::Lines;
 use std::alloc::Global;
 use std::marker::Model;
 
-// How many names fit into rows of one word, and into rows of sixteen.
+// How many names fit into rows of one word, of sixteen, and of sixty-four.
 const SMALL: u32 = 64;
 
 const MEDIUM: u32 = 1_024;
 
-/// A graph by the number of words in its rows: one, sixteen, or as many as there may be.
+const BROAD: u32 = 4_096;
+
+/// A graph by the number of words in its rows: one, sixteen, sixty-four, or as many as there may be.
 #[derive(Clone, Copy)]
 pub enum GraphBySize<'a> {
     Small(&'a GraphOf<1>),
     Medium(&'a GraphOf<16>),
+    Broad(&'a GraphOf<64>),
     Large(&'a Graph),
 }
 
@@ -33,6 +36,7 @@ pub enum GraphBySize<'a> {
 enum Width {
     One,
     Sixteen,
+    SixtyFour,
     Most,
 }
 
@@ -44,6 +48,7 @@ pub struct Room {
     width: Width,
     small: GraphOf<1>,
     medium: Option<GraphOf<16>>,
+    broad: Option<GraphOf<64>>,
     large: Option<Graph>,
 }
 
@@ -55,9 +60,9 @@ impl Model for Room {
 
     ghost coded = { graph_code };
 
-    ghost view = { λ r. graph_in r.width r.small r.medium r.large };
+    ghost view = { λ r. graph_in r.width r.small r.medium r.broad r.large };
 
-    ghost invariant = { λ r. IsOneIn r.width r.small r.medium r.large };
+    ghost invariant = { λ r. IsOneIn r.width r.small r.medium r.broad r.large };
 }
 
 impl Room {
@@ -69,6 +74,7 @@ impl Room {
             width: Width::One,
             small: GraphOf::new(alloc)?,
             medium: None,
+            broad: None,
             large: None,
         })
     }
@@ -85,6 +91,7 @@ impl Room {
             width: Width::One,
             small,
             medium: None,
+            broad: None,
             large: None,
         };
         if is_small {
@@ -94,6 +101,12 @@ impl Room {
         if is_read(file, MEDIUM, &mut medium)? {
             room.width = Width::Sixteen;
             room.medium = Some(medium);
+            return Ok(room);
+        }
+        let mut broad = GraphOf::new(alloc)?;
+        if is_read(file, BROAD, &mut broad)? {
+            room.width = Width::SixtyFour;
+            room.broad = Some(broad);
             return Ok(room);
         }
         let mut large = Graph::new(alloc)?;
@@ -114,6 +127,11 @@ impl Room {
                     return GraphBySize::Medium(medium);
                 }
             }
+            Width::SixtyFour => {
+                if let Some(broad) = &self.broad {
+                    return GraphBySize::Broad(broad);
+                }
+            }
             Width::Most => {
                 if let Some(large) = &self.large {
                     return GraphBySize::Large(large);
@@ -129,16 +147,9 @@ impl Room {
     {
         match self.width {
             Width::One => self.small.clear(),
-            Width::Sixteen => {
-                if let Some(medium) = &mut self.medium {
-                    medium.clear();
-                }
-            }
-            Width::Most => {
-                if let Some(large) = &mut self.large {
-                    large.clear();
-                }
-            }
+            Width::Sixteen => clear_rows(&mut self.medium),
+            Width::SixtyFour => clear_rows(&mut self.broad),
+            Width::Most => clear_rows(&mut self.large),
         }
     }
 
@@ -163,8 +174,23 @@ impl Room {
             self.width = Width::Sixteen;
             return fill_rows(alloc, &mut self.medium, lines);
         }
+        if bound <= BROAD {
+            self.width = Width::SixtyFour;
+            return fill_rows(alloc, &mut self.broad, lines);
+        }
         self.width = Width::Most;
         fill_rows(alloc, &mut self.large, lines)
+    }
+}
+
+// All vertices and edges go. Never inlined, so that small graphs don't pay for it.
+#[inline(never)]
+fn clear_rows<const W: usize>(rows: &mut Option<GraphOf<W>>)
+    requires limit { W ≤ WORDS }
+    ensures { graph_or_empty rows.new ≡ empty_graph }
+{
+    if let Some(graph) = rows {
+        graph.clear();
     }
 }
 

@@ -16,7 +16,8 @@ fn has(room: &Room) -> (u32, u32, u32) {
     match room.graph() {
         GraphBySize::Small(graph) => (1, graph.count(), graph.edge_count()),
         GraphBySize::Medium(graph) => (16, graph.count(), graph.edge_count()),
-        GraphBySize::Large(graph) => (64, graph.count(), graph.edge_count()),
+        GraphBySize::Broad(graph) => (64, graph.count(), graph.edge_count()),
+        GraphBySize::Large(graph) => (256, graph.count(), graph.edge_count()),
     }
 }
 
@@ -102,10 +103,12 @@ fn lines_of_all_sizes(rt: HostRuntime) -> Result<(), Fail> {
     let alloc = rt.alloc();
     let small = [(0, 1), (62, 1), (63, 1), (64, 1)];
     let medium = [(65, 16), (1_023, 16), (1_024, 16)];
-    let large = [(1_025, 64), (4_096, 64)];
+    let broad = [(1_025, 64), (4_095, 64), (4_096, 64)];
+    let large = [(4_097, 256), (5_000, 256)];
     let mut sizes = Vec::new(alloc);
     sizes.extend_from_slice(&small)?;
     sizes.extend_from_slice(&medium)?;
+    sizes.extend_from_slice(&broad)?;
     sizes.extend_from_slice(&large)?;
     come(&rt, alloc, &sizes)?;
     sizes.reverse();
@@ -133,6 +136,8 @@ fn edge_files_of_all_sizes(rt: HostRuntime) -> Result<(), Fail> {
         ("p edge 1023 2\ne 1023 1\ne 2 1023\n", (16, 1_023, 2)),
         ("p edge 1024 2\ne 1024 1\ne 2 1024\n", (64, 1_024, 2)),
         ("p edge 4095 2\ne 4095 1\ne 2 4095\n", (64, 4_095, 2)),
+        ("p edge 4096 2\ne 4096 1\ne 2 4096\n", (256, 4_096, 2)),
+        ("p edge 16383 2\ne 16383 1\ne 2 16383\n", (256, 16_383, 2)),
     ] {
         comes(&rt, rt.alloc(), file, wanted)?;
     }
@@ -144,7 +149,7 @@ fn edge_files_of_all_sizes(rt: HostRuntime) -> Result<(), Fail> {
         &rt,
         rt.alloc(),
         Format::Dimacs,
-        b"p edge 4096 0\n",
+        b"p edge 16384 0\n",
         Fault::Dimacs(many),
     );
     let loops = DimacsFault {

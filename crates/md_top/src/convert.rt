@@ -59,6 +59,7 @@ fn put_text<O: Sink>(alloc: Global, to: Format, room: &Room, out: &mut O) -> Res
     let text = match room.graph() {
         GraphBySize::Small(graph) => text_of(alloc, to, graph)?,
         GraphBySize::Medium(graph) => text_of(alloc, to, graph)?,
+        GraphBySize::Broad(graph) => text_of(alloc, to, graph)?,
         GraphBySize::Large(graph) => text_of(alloc, to, graph)?,
     };
     put_piece(out, &text)

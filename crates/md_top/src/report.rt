@@ -89,6 +89,7 @@ fn put_line<O: Sink>(
     let line = match room.graph() {
         GraphBySize::Small(graph) => line_of(alloc, mode, graph)?,
         GraphBySize::Medium(graph) => line_of(alloc, mode, graph)?,
+        GraphBySize::Broad(graph) => line_of(alloc, mode, graph)?,
         GraphBySize::Large(graph) => line_of(alloc, mode, graph)?,
     };
     put_report_line(alloc, line, out)
