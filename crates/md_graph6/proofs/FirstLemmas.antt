@@ -33,7 +33,7 @@ vertices_few body (suc k) g m is below =
     let last : k < m = below k (is.vertices k ∙ lt-ltb k (suc k) (omega arith)) in omega (arith, last)
 
 -- the number of vertices bounds the graph of a line
-line_bound : {graphs more : List PlainGraph} (line : List ℕ) → graphs ≡ graph_of_line line ∷ more → (s : SpellsLine line (graph_of_line line)) → IsFirstBound s.n graphs
+line_bound : {graphs more : List PlainGraph} (line : List ℕ) → graphs ≡ graph_of_line line ∷ more → (s : SpellsLine NAMES line (graph_of_line line)) → IsFirstBound s.n graphs
 line_bound line e s = rw e (record {
   below = few_vertices s.n s.bits (omega arith);
   least = λ m below. vertices_few s.body s.n (graph_of_line line) m s.bits below;
@@ -50,11 +50,11 @@ first_below [] n m more below = tt
 first_below (g ∷ graphs) n m more below = λ v member. omega (arith, more, below v member)
 
 -- a size has room where the vertices have
-pub size_fits : (line : List ℕ) (taken n m : ℕ) → 0 < length line → line_fault line ≡ None → size_of line ≡ Some (taken, n)
+pub size_fits : (line : List ℕ) (taken n m : ℕ) → 0 < length line → line_fault NAMES line ≡ None → size_of line ≡ Some (taken, n)
     → AllBelow (graph_of_line line).vertices m → n ≤ m
 unfolding graph_of_sized
 size_fits line taken n m some sound sized below =
-    let body : IsSoundBody line taken n = sound_line-body line taken n some sound sized in
+    let body : IsSoundBody NAMES line taken n = sound_line-body line taken n some sound sized in
     vertices_few (drop taken line) n (graph_of_line line) m (rw sized (decoded_is_body (drop taken line) n body.few)) below
 
 -- the graphs of lines without fault have names as vertices
@@ -91,9 +91,9 @@ begins_more byte next (line ∷ more) =
     (kept.0, map without_return more, λ i. kept.1 i ∷ map without_return more)
 
 -- the first of lines without fault has none
-first_sound : (line : List ℕ) (more : List (List ℕ)) → HasNoFault (line ∷ more) → line_fault line ≡ None
+first_sound : (line : List ℕ) (more : List (List ℕ)) → HasNoFault (line ∷ more) → line_fault NAMES line ≡ None
 unfolding first_fault_behind
-first_sound line more sound = (fault_or-none (line_fault line) 1 (fault_after 1 more) sound).0
+first_sound line more sound = (fault_or-none (line_fault NAMES line) 1 (fault_after NAMES 1 more) sound).0
 
 -- the first line is the front of the text
 first_front : (text line : List ℕ) (more : List (List ℕ)) → lines text ≡ line ∷ more → (behind : List ℕ) × (text ≡ line ++ behind)
@@ -166,7 +166,7 @@ unfolding graphs_of_lines
 leads byte rest no_feed no_return sound =
     let b = begins_with byte rest no_feed no_return in
     let none = first_sound (byte ∷ b.kept) b.more (subst HasNoFault b.cut sound) in
-    let s : SpellsLine (byte ∷ b.kept) (graph_of_line (byte ∷ b.kept)) = sound-spells (byte ∷ b.kept) (omega arith) none in
+    let s : SpellsLine NAMES (byte ∷ b.kept) (graph_of_line (byte ∷ b.kept)) = sound-spells (byte ∷ b.kept) (omega arith) (omega arith) none in
     record {
       n = s.n;
       body = s.body ++ b.behind;

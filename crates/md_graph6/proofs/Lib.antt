@@ -1,5 +1,6 @@
 pub mod PaddingLemmas
 pub mod LineLemmas
+pub mod LimitLemmas
 pub mod ReadLemmas
 pub mod SizeLemmas
 pub mod DecodeLemmas

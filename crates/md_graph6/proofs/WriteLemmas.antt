@@ -260,7 +260,7 @@ IsBodyOf-written body g written = record {
 
 pub SpellsLine-written : (line : List ℕ) (size n : ℕ) (g : PlainGraph) → n ≡ length (ascending g.vertices)
     → take size line ≡ size_text n → length (drop size line) ≡ body_length n → IsWritten (drop size line) g n
-    → SpellsLine line (renumbered g)
+    → SpellsLine NAMES line (renumbered g)
 SpellsLine-written line size n g count begins long written = record {
   n = n;
   body = drop size line;

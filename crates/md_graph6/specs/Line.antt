@@ -1,8 +1,7 @@
 -- A graph6 line: what it spells, and its first fault.
 -- Source: B. McKay, "Description of graph6, sparse6 and digraph6 encodings"; the faults are this project's.
-use Rattle.std.specs.Prelude.{◌≡◌, ℕ, zero, suc, ◌+◌, ◌-◌, ◌*◌, ◌/◌, ◌<◌, ◌≤◌, ◌==◌, ◌&&◌, ◌||◌, nat_lt, nat_le, Bool, false, not, List, [], ◌∷◌, ◌++◌, length, drop, if◌then◌else◌, Option, None, Some}
+use Rattle.std.specs.Prelude.{◌≡◌, ℕ, zero, suc, ◌+◌, ◌-◌, ◌*◌, ◌/◌, ◌<◌, ◌≤◌, ◌==◌, ◌&&◌, ◌||◌, nat_lt, nat_le, Bool, false, not, List, [], ◌∷◌, ◌++◌, length, get_or, drop, if◌then◌else◌, Option, None, Some}
 use Rattle.std.specs.List.{AllPass, list_all}
-use Rattle.md_graph.specs.declared.TheConstants.{NAMES}
 use Rattle.md_graph.specs.NameSet.{range}
 use Rattle.md_graph.specs.PlainGraph.{PlainGraph, pairs_where}
 use Rattle.md_graph6.specs.declared.fault.G6Kind.{G6Kind}
@@ -18,11 +17,12 @@ pair_count n = n * (n - 1) / 2
 abbrev pub is_group : ℕ → Bool
 is_group byte = nat_le 63 byte && nat_le byte 126
 
--- The line is the size n in its shortest spelling and the bits of the graph, filled up with zeros to whole bytes.
-pub record SpellsLine (line : List ℕ) (g : PlainGraph) : Type 0 where
+-- The line is the size n, at most the limit, in its shortest spelling, and the bits of the graph, filled up with zeros
+-- to whole bytes.
+pub record SpellsLine (limit : ℕ) (line : List ℕ) (g : PlainGraph) : Type 0 where
   pub n : ℕ
   pub body : List ℕ
-  pub few : n ≤ NAMES
+  pub few : n ≤ limit
   pub text : line ≡ size_text n ++ body
   pub long : length body ≡ body_length n
   pub groups : AllPass is_group body
@@ -42,27 +42,31 @@ some_bit body first (suc count) = (bit body first == 1) || some_bit body (first 
 abbrev pub is_padding_set : List ℕ → ℕ → Bool
 is_padding_set body n = some_bit body (pair_count n) (6 * body_length n - pair_count n)
 
--- the first fault of a line of group bytes whose first `taken` bytes spell the size n
-unfoldable pub body_fault : List ℕ → ℕ → ℕ → Option G6Kind
-body_fault line taken n =
+-- the first fault of a line of group bytes whose first `taken` bytes spell the size n, of which the limit is the greatest
+unfoldable pub body_fault : ℕ → List ℕ → ℕ → ℕ → Option G6Kind
+body_fault limit line taken n =
     if is_too_long taken n then Some BadSize else
-    if nat_lt NAMES n then Some TooManyVertices else
+    if nat_lt limit n then Some TooManyVertices else
     if nat_lt (length line) (taken + body_length n) then Some Truncated else
     if nat_lt (taken + body_length n) (length line) then Some TrailingBytes else
     if is_padding_set (drop taken line) n then Some BadPadding else None
 
 -- the first fault of a line of group bytes, whose size is given as `size_of` gives it
-unfoldable pub size_fault : List ℕ → Option (ℕ × ℕ) → Option G6Kind
-size_fault line None = Some Truncated
-size_fault line (Some size) = body_fault line size.0 size.1
+unfoldable pub size_fault : ℕ → List ℕ → Option (ℕ × ℕ) → Option G6Kind
+size_fault limit line None = Some Truncated
+size_fault limit line (Some size) = body_fault limit line size.0 size.1
 
--- the first fault of a line, none if it has no fault; an empty line has none
-unfoldable pub line_fault : List ℕ → Option G6Kind
-line_fault [] = None
-line_fault (byte ∷ rest) =
-    if begins_other byte then Some OtherFormat else
-    if not (list_all is_group (byte ∷ rest)) then Some BadByte else
-    size_fault (byte ∷ rest) (size_of (byte ∷ rest))
+-- the first fault of a graph6 line that isn't empty, none if it has no fault
+unfoldable pub graph6_fault : ℕ → List ℕ → Option G6Kind
+graph6_fault limit line =
+    if begins_other (get_or line 0 0) then Some OtherFormat else
+    if not (list_all is_group line) then Some BadByte else
+    size_fault limit line (size_of line)
+
+-- the first fault of a line under a limit of the number of vertices; an empty line has none
+unfoldable pub line_fault : ℕ → List ℕ → Option G6Kind
+line_fault limit [] = None
+line_fault limit (byte ∷ rest) = graph6_fault limit (byte ∷ rest)
 
 -- whether the bit of the pair i < j is 1
 abbrev pub is_edge : List ℕ → ℕ → ℕ → Bool

@@ -9,7 +9,7 @@ pub enum G6Kind {
     BadByte = 1,
     /// Fewer bytes would spell the size.
     BadSize,
-    /// There are more vertices than names.
+    /// There are more vertices than the limit that was handed in.
     TooManyVertices,
     /// The line ends inside its size or inside its bits.
     Truncated,

@@ -5,7 +5,7 @@ ghost use Rattle.md_graph.specs.NameSet.{AllBelow};
 ghost use Rattle.md_graph.specs.PlainGraph.{empty_graph};
 ghost use Rattle.md_graph6.specs.Bits.{body_length};
 ghost use Rattle.md_graph6.specs.Size.{size_of, eighteen_bits, is_too_long};
-ghost use Rattle.md_graph6.specs.Line.{is_group, pair_count, is_padding_set, begins_other, line_fault, body_fault, graph_of_line};
+ghost use Rattle.md_graph6.specs.Line.{is_group, pair_count, is_padding_set, begins_other, line_fault, graph6_fault, body_fault, graph_of_line};
 
 use crate::body;
 use crate::fault::G6Kind;
@@ -94,15 +94,16 @@ fn is_padding_set(body: &[u8], n: u64) -> bool
 }
 
 // The first fault of a line of which `taken` bytes spell the size.
-fn body_fault(line: &[u8], taken: usize, n: u64) -> Option<G6Kind>
+fn body_fault(limit: u32, line: &[u8], taken: usize, n: u64) -> Option<G6Kind>
+    requires limit { limit ≤ NAMES }
     requires groups { AllPass is_group line.now }
     requires short { taken ≤ 8 }
-    ensures { result ≡ body_fault line.now taken n }
+    ensures { result ≡ body_fault limit line.now taken n }
 {
     if is_too_long(taken, n) {
         return Some(G6Kind::BadSize);
     }
-    if n > u64::from(NAMES) {
+    if n > u64::from(limit) {
         return Some(G6Kind::TooManyVertices);
     }
     let end = taken + body_length(n);
@@ -139,13 +140,23 @@ fn are_groups(line: &[u8]) -> bool
     63 <= least && greatest <= 126
 }
 
-// The first fault of a line; an empty one has none.
-pub fn line_fault(line: &[u8]) -> Option<G6Kind>
-    ensures { result ≡ line_fault line.now }
+// The first fault of a line under a limit of the number of vertices; an empty one has none.
+pub fn line_fault(limit: u32, line: &[u8]) -> Option<G6Kind>
+    requires { limit ≤ NAMES }
+    ensures { result ≡ line_fault limit line.now }
 {
     if line.is_empty() {
         return None;
     }
+    graph6_fault(limit, line)
+}
+
+// The first fault of a graph6 line.
+fn graph6_fault(limit: u32, line: &[u8]) -> Option<G6Kind>
+    requires limit { limit ≤ NAMES }
+    requires some { 0 < length line.now }
+    ensures { result ≡ graph6_fault limit line.now }
+{
     if begins_other(line[0]) {
         return Some(G6Kind::OtherFormat);
     }
@@ -153,7 +164,7 @@ pub fn line_fault(line: &[u8]) -> Option<G6Kind>
         return Some(G6Kind::BadByte);
     }
     match size(line) {
-        Some((taken, n)) => body_fault(line, taken, n),
+        Some((taken, n)) => body_fault(limit, line, taken, n),
         None => Some(G6Kind::Truncated),
     }
 }
@@ -163,7 +174,7 @@ pub fn line_fault(line: &[u8]) -> Option<G6Kind>
 pub fn fill_line<const W: usize>(graph: &mut GraphOf<W>, line: &[u8])
     requires empty { graph.old ≡ empty_graph }
     requires some { 0 < length line.now }
-    requires sound { line_fault line.now ≡ None }
+    requires sound { line_fault NAMES line.now ≡ None }
     requires room { AllBelow (graph_of_line line.now).vertices (64 * W) }
     ensures { graph.new ≡ graph_of_line line.now }
 {

@@ -34,9 +34,10 @@ impl<'a> Model for Lines<'a> {
 }
 
 impl<'a> Lines<'a> {
-    /// The graphs of a file. Condition: it has no fault, which `scan` tests.
+    /// The graphs of a file. Condition: it has no fault under some limit of the number of vertices,
+    /// which `scan` tests.
     pub fn new(bytes: &'a [u8]) -> Lines<'a>
-        requires { first_fault bytes.now ≡ None }
+        requires { (limit : ℕ) × (limit ≤ NAMES) × (first_fault limit bytes.now ≡ None) }
         ensures { result ≡ graphs_of bytes.now }
     {
         Lines {
@@ -124,7 +125,7 @@ fn next_line(text: &[u8]) -> (&[u8], &[u8])
         graphs_in text.now ≡ graph_of_line result.0.now ∷ graphs_in result.1.now }
     ensures none { length result.0.now ≡ 0 → graphs_in text.now ≡ [] }
     ensures none_left { length result.0.now ≡ 0 → graphs_in result.1.now ≡ [] }
-    ensures sound { line_fault result.0.now ≡ None }
+    ensures sound { line_fault NAMES result.0.now ≡ None }
     ensures rest_sound { HasNoFault (stripped_lines result.1.now) }
 {
     let mut rest = text;

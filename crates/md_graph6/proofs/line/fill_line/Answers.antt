@@ -18,7 +18,7 @@ unreachable-requires g c =
 
 pub overflow_cast-n : goal.overflow_cast-n
 overflow_cast-n g c =
-    let body : IsSoundBody c.args.line.now c.in-Some.taken c.in-Some.n =
+    let body : IsSoundBody NAMES c.args.line.now c.in-Some.taken c.in-Some.n =
     sound_line-body _ _ _ c.requires.some c.requires.sound (sym c.size.ensures.value ∙ c.in-Some.is) in
     let few : c.in-Some.n ≤ NAMES = body.few in
     let fits = NAMES-lt in
@@ -26,13 +26,13 @@ overflow_cast-n g c =
 
 pub slice_bounds-fill-count : goal.slice_bounds-fill-count
 slice_bounds-fill-count g c =
-    let body : IsSoundBody c.args.line.now c.in-Some.taken c.in-Some.n =
+    let body : IsSoundBody NAMES c.args.line.now c.in-Some.taken c.in-Some.n =
     sound_line-body _ _ _ c.requires.some c.requires.sound (sym c.size.ensures.value ∙ c.in-Some.is) in
     omega (arith, body.long)
 
 pub slice_bounds-fill-start : goal.slice_bounds-fill-start
 slice_bounds-fill-start g c =
-    let body : IsSoundBody c.args.line.now c.in-Some.taken c.in-Some.n =
+    let body : IsSoundBody NAMES c.args.line.now c.in-Some.taken c.in-Some.n =
     sound_line-body _ _ _ c.requires.some c.requires.sound (sym c.size.ensures.value ∙ c.in-Some.is) in
     let within : c.in-Some.taken ≤ length c.args.line.now = omega (arith, body.long) in
     search rules
@@ -40,7 +40,7 @@ slice_bounds-fill-start g c =
 pub fill-requires : goal.fill-requires
 fill-requires g c =
     let sized = sym c.size.ensures.value ∙ c.in-Some.is in
-    let body : IsSoundBody c.args.line.now c.in-Some.taken c.in-Some.n =
+    let body : IsSoundBody NAMES c.args.line.now c.in-Some.taken c.in-Some.n =
     sound_line-body _ _ _ c.requires.some c.requires.sound sized in
     let groups = sound_line-groups _ c.requires.some c.requires.sound in
     (search rules, (c.requires.empty, (body.few, (size_fits _ _ _ _ c.requires.some c.requires.sound sized c.requires.room, rw take_rest (All-drop (λ byte. is_group byte ≡ true) _ _ groups)))))
@@ -48,6 +48,6 @@ fill-requires g c =
 pub returns : goal.returns
 returns g c =
     let sized = sym c.size.ensures.value ∙ c.in-Some.is in
-    let body : IsSoundBody c.args.line.now c.in-Some.taken c.in-Some.n =
+    let body : IsSoundBody NAMES c.args.line.now c.in-Some.taken c.in-Some.n =
     sound_line-body _ _ _ c.requires.some c.requires.sound sized in
     filled_is_line _ _ _ _ sized body.few c.fill.ensures

@@ -35,4 +35,4 @@ returns-clause-none_left c = λ none. graphs_of_lines-end _ none
 pub returns-clause-sound : goal.returns-clause-sound
 returns-clause-sound c =
     let end : length c.loop-rest.rest.now ≡ 0 = grind (arith, common_steps) in
-    line_fault-empty _ end
+    line_fault-empty _ _ end
