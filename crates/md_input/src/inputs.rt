@@ -6,7 +6,7 @@ ghost use Rattle.md_input.specs.Faults.{one_graph_fault, script_fault, IsStopAt}
 
 use crate::fault::{Fault, InputStop};
 use crate::format::Format;
-use md_graph::Graph;
+use md_graph::{Graph, NAMES};
 use md_graph6::Lines;
 use md_script::Script;
 use std::alloc::Global;
@@ -19,7 +19,7 @@ pub fn one_graph(alloc: Global, from: Format, file: &[u8]) -> Result<Graph, Inpu
 {
     let mut graph = Graph::new(alloc)?;
     match from {
-        Format::G6 => match md_graph6::scan(file) {
+        Format::G6 => match md_graph6::scan(file, NAMES) {
             Ok(1) => {
                 let _ = Lines::new(file).next(&mut graph);
                 Ok(graph)
@@ -27,7 +27,7 @@ pub fn one_graph(alloc: Global, from: Format, file: &[u8]) -> Result<Graph, Inpu
             Ok(count) => Err(InputStop::BadInput(Fault::NotOneGraph(count))),
             Err(fault) => Err(InputStop::BadInput(Fault::Graph6(fault))),
         },
-        Format::Dimacs => match md_dimacs::read(file, &mut graph) {
+        Format::Dimacs => match md_dimacs::read(file, NAMES, &mut graph) {
             Ok(()) => Ok(graph),
             Err(fault) => Err(InputStop::BadInput(Fault::Dimacs(fault))),
         },

@@ -9,7 +9,7 @@ ghost use Rattle.md_input.specs.Faults.{graph_fault, IsStopAt};
 ghost use Rattle.md_input.specs.Rooms.{IsGraphBySize, graph_or_empty};
 
 use crate::fault::InputStop;
-use md_dimacs::{DimacsFault, DimacsKind, read_within};
+use md_dimacs::{DimacsFault, DimacsKind};
 use md_graph::{Graph, GraphOf, Memory, NAMES, WORDS};
 use md_graph6::Lines;
 use std::alloc::Global;
@@ -79,14 +79,16 @@ impl Room {
         })
     }
 
-    // Room with the graph of a DIMACS file in it; or its first fault; or want of memory.
-    pub(crate) fn of_edges(alloc: Global, file: &[u8]) -> Result<Room, InputStop>
-        ensures spells { IfOk result (Spells file.now) }
-        ensures faultless { IfOk result (λ _. first_fault file.now ≡ None) }
-        ensures stops { IfErr result (IsStopAt (graph_fault Dimacs file.now)) }
+    // Room with the graph of a DIMACS file in it, whose names are below the limit; or its first
+    // fault; or want of memory. Condition: the limit is at most the number of names.
+    pub(crate) fn of_edges(alloc: Global, limit: u32, file: &[u8]) -> Result<Room, InputStop>
+        requires { limit ≤ NAMES }
+        ensures spells { IfOk result (Spells NAMES file.now) }
+        ensures faultless { IfOk result (λ _. first_fault limit file.now ≡ None) }
+        ensures stops { IfErr result (IsStopAt (graph_fault limit Dimacs file.now)) }
     {
         let mut small = GraphOf::new(alloc)?;
-        let is_small = is_read(file, SMALL, &mut small)?;
+        let is_small = is_read(file, SMALL, limit, &mut small)?;
         let mut room = Room {
             width: Width::One,
             small,
@@ -98,19 +100,19 @@ impl Room {
             return Ok(room);
         }
         let mut medium = GraphOf::new(alloc)?;
-        if is_read(file, MEDIUM, &mut medium)? {
+        if is_read(file, MEDIUM, limit, &mut medium)? {
             room.width = Width::Sixteen;
             room.medium = Some(medium);
             return Ok(room);
         }
         let mut broad = GraphOf::new(alloc)?;
-        if is_read(file, BROAD, &mut broad)? {
+        if is_read(file, BROAD, limit, &mut broad)? {
             room.width = Width::SixtyFour;
             room.broad = Some(broad);
             return Ok(room);
         }
         let mut large = Graph::new(alloc)?;
-        md_dimacs::read(file, &mut large)?;
+        md_dimacs::read(file, limit, &mut large)?;
         room.width = Width::Most;
         room.large = Some(large);
         Ok(room)
@@ -224,26 +226,28 @@ fn fill_rows<const W: usize>(
     Ok(found)
 }
 
-// Reads the graph of a DIMACS file with fewer vertices than the limit, and answers true; false where
-// it has as many or more, and the graph then stays without vertices. Conditions: the graph has no
-// vertices, and room for names below the limit. Errors: the first fault of the file.
+// Reads the graph of a DIMACS file whose names are below the limit if they are below `most` too, and
+// answers true; false where the limit is greater and they aren't, and the graph then stays without
+// vertices. Conditions: the graph has no vertices, and room for names below `most`. Errors: the
+// first fault of the file under the limit.
 fn is_read<const W: usize>(
     file: &[u8],
+    most: u32,
     limit: u32,
     graph: &mut GraphOf<W>,
 ) -> Result<bool, DimacsFault>
     requires empty { graph.old ≡ empty_graph }
     requires few { limit ≤ NAMES }
-    requires room { limit ≤ 64 * W }
-    ensures spells { IfOk result (λ read. OnTrue read (Spells file.now graph.new)) }
-    ensures faultless { IfOk result (λ read. OnTrue read (first_fault file.now ≡ None)) }
+    requires room { most ≤ 64 * W }
+    ensures spells { IfOk result (λ read. OnTrue read (Spells NAMES file.now graph.new)) }
+    ensures faultless { IfOk result (λ read. OnTrue read (first_fault limit file.now ≡ None)) }
     ensures stays { IfOk result (λ read. OnFalse read (graph.new ≡ empty_graph)) }
-    ensures fault { IfErr result (λ fault. first_fault file.now ≡ Some fault) }
+    ensures fault { IfErr result (λ fault. first_fault limit file.now ≡ Some fault) }
 {
-    match read_within(file, limit, graph) {
+    match md_dimacs::read(file, most.min(limit), graph) {
         Ok(()) => Ok(true),
         Err(fault) => {
-            if fault.kind == DimacsKind::TooManyVertices {
+            if fault.kind == DimacsKind::TooManyVertices && most < limit {
                 return Ok(false);
             }
             Err(fault)

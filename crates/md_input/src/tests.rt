@@ -40,7 +40,7 @@ fn next_has(
 
 // The file has this fault.
 fn refuses(rt: &impl Abort, alloc: Global, from: Format, file: &[u8], fault: Fault) {
-    let Err(stop) = Graphs::read(alloc, from, file) else {
+    let Err(stop) = Graphs::read(alloc, NAMES, from, file) else {
         panic!(rt; "no fault");
     };
     assert!(rt; stop == InputStop::BadInput(fault));
@@ -50,7 +50,7 @@ fn refuses(rt: &impl Abort, alloc: Global, from: Format, file: &[u8], fault: Fau
 fn graphs_of_files(rt: HostRuntime) -> Result<(), Fail> {
     let alloc = rt.alloc();
     let mut room = Room::new(alloc)?;
-    let Ok(mut graphs) = Graphs::read(alloc, Format::G6, b"@\nA?\n\nBw") else {
+    let Ok(mut graphs) = Graphs::read(alloc, NAMES, Format::G6, b"@\nA?\n\nBw") else {
         panic!(rt; "a fault");
     };
     next_has(&rt, alloc, &mut graphs, &mut room, (1, 1, 0))?;
@@ -86,7 +86,7 @@ fn come(rt: &impl Abort, alloc: Global, sizes: &[(u32, u32)]) -> Result<(), Fail
     for (n, _) in sizes {
         push_line(rt, alloc, *n, &mut text)?;
     }
-    let Ok(mut graphs) = Graphs::read(alloc, Format::G6, &text) else {
+    let Ok(mut graphs) = Graphs::read(alloc, NAMES, Format::G6, &text) else {
         panic!(rt; "a fault");
     };
     let mut room = Room::new(alloc)?;
@@ -117,7 +117,7 @@ fn lines_of_all_sizes(rt: HostRuntime) -> Result<(), Fail> {
 
 // The graph of the edge file comes into rows of so many words, and no other behind it.
 fn comes(rt: &impl Abort, alloc: Global, file: &str, wanted: (u32, u32, u32)) -> Result<(), Fail> {
-    let Ok(mut graphs) = Graphs::read(alloc, Format::Dimacs, file.as_bytes()) else {
+    let Ok(mut graphs) = Graphs::read(alloc, NAMES, Format::Dimacs, file.as_bytes()) else {
         panic!(rt; "a fault");
     };
     let mut room = Room::new(alloc)?;
@@ -152,6 +152,16 @@ fn edge_files_of_all_sizes(rt: HostRuntime) -> Result<(), Fail> {
         b"p edge 16384 0\n",
         Fault::Dimacs(many),
     );
+    for (limit, wanted) in [
+        (9, false),
+        (10, false),
+        (11, true),
+        (64, true),
+        (4_096, true),
+    ] {
+        let read = Graphs::read(rt.alloc(), limit, Format::Dimacs, b"p edge 10 0\n");
+        assert!(&rt; read.is_ok() == wanted);
+    }
     let loops = DimacsFault {
         kind: DimacsKind::Loop,
         line: 2,

@@ -16,7 +16,6 @@ use Rattle.md_comparability.proofs.Alternative.{alternative_proof}
 use Rattle.md_comparability.proofs.OneList.{one_list_proof}
 use Rattle.md_comparability.proofs.Shortest.{shortest_proof}
 use Rattle.md_comparability.specs.Chains.{IsShortestChain}
-use Rattle.md_forcing.specs.declared.arc.Arc.{Arc}
 use Rattle.md_comparability.proofs.OrderLaws.{orders_proof}
 use Rattle.std.specs.List.{All}
 use Rattle.std.proofs.lemmas.List.Elements.{All-nil, All-head, All-tail}
