@@ -1,0 +1,6 @@
+mod Across
+mod TwoPairs
+mod NoPairs
+mod Leasts
+mod Witnesses
+mod BarLaw

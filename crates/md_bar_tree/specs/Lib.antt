@@ -1,0 +1,5 @@
+pub mod Bars
+pub mod Inner
+pub mod Laws
+pub mod Following
+pub mod Finding
