@@ -104,7 +104,7 @@ row_of_node e k cs ps canonical free f = record {
 }
 
 -- what holds of the first tree behind some leaves, and of those after it
-first_canonical : (cs : PlainTrees) (x : PlainTree) (xs : PlainTrees) → LeavesThen cs (one_more x xs) → EachNodeBelow IsCanonicalNode cs → IsCanonicalTree x × EachNodeBelow IsCanonicalNode xs
+pub first_canonical : (cs : PlainTrees) (x : PlainTree) (xs : PlainTrees) → LeavesThen cs (one_more x xs) → EachNodeBelow IsCanonicalNode cs → IsCanonicalTree x × EachNodeBelow IsCanonicalNode xs
 first_canonical no_tree x xs same each = subst (EachNodeBelow IsCanonicalNode) (sym same) each
 first_canonical (one_more t ts) x xs (inl same) each = subst (EachNodeBelow IsCanonicalNode) (sym same) each
 first_canonical (one_more t ts) x xs (inr later) each = first_canonical ts x xs later.1 each.1

@@ -4,3 +4,4 @@ mod NoPairs
 mod Leasts
 mod Witnesses
 mod BarLaw
+mod Children
