@@ -5,3 +5,4 @@ mod Leasts
 mod Witnesses
 mod BarLaw
 mod Children
+mod Tested

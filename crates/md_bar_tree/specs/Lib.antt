@@ -3,3 +3,4 @@ pub mod Inner
 pub mod Laws
 pub mod Following
 pub mod Finding
+pub mod Edges
