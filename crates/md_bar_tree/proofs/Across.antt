@@ -1,5 +1,5 @@
 -- The adjacency of a tree without prime nodes, taken apart at a node: in the first child, behind it, and between.
-use Rattle.std.proofs.Common.{◌≡◌, ◌≢◌, ℕ, suc, cond, Bool, true, false, eqb, min, max, List, refl, sym, ◌∙◌, ap, true≢false, arith}
+use Rattle.std.proofs.Common.{◌≡◌, ◌≢◌, ℕ, suc, cond, Bool, true, false, eqb, List, refl, sym, ◌∙◌, ap, true≢false, arith}
 use Rattle.std.specs.FinSet.{contains}
 use Rattle.std.proofs.lemmas.Bool.{false_from_ne_true}
 use Rattle.md_graph.specs.Sets.{Has, Lacks, Disjoint}
@@ -8,7 +8,7 @@ use Rattle.md_tree.specs.declared.Kind.{Kind}
 use Rattle.md_tree.specs.declared.Kind.TheVariants.{Parallel, Series, Prime}
 use Rattle.md_tree.specs.declared.Pair.{Pair}
 use Rattle.md_tree.specs.Trees.{PlainTree, leaf, node, PlainTrees, no_tree, one_more, names, names_below, EachNodeBelow}
-use Rattle.md_tree.specs.TreeGraph.{position_of, lists_pair, joins, adjacent_in, adjacent_below}
+use Rattle.md_tree.specs.TreeGraph.{position_of, joins, adjacent_in, adjacent_below}
 use Rattle.md_tree.specs.WellFormed.{AreDisjoint, IsCanonicalNode, IsCanonicalTree, HasNoPrimeNode, HaveNoPrimeNode}
 use Rattle.md_bar_tree.specs.Following.{across, FollowsTree, FollowsRow}
 
@@ -68,12 +68,12 @@ module _ (e : ℕ → ℕ → Bool) where
       (λ a b ha hb.
           sym (told a b (union_left (names t) (names_below ts) a ha) (union_right (names t) (names_below ts) b hb))
           ∙ first_and_rest (contains (names t) a) (contains (names t) b) (position_of ts a) (position_of ts b) (adjacent_in t a b) (adjacent_below ts a b) (joins k ps)
-              ha (lacks_of t ts apart.0 b hb)
+          ha (lacks_of t ts apart.0 b hb)
           ∙ joins_all k plain ps 0 (suc (position_of ts b))),
       follows_row k ps plain ts apart.1 canonical.1 free.1 (λ a b ha hb.
           ap (λ w. cond (eqb (position_of ts a) (position_of ts b)) (adjacent_below ts a b) w)
           (joins_all k plain ps (position_of ts a) (position_of ts b) ∙ sym (joins_all k plain ps (suc (position_of ts a)) (suc (position_of ts b))))
           ∙ sym (both_rest (contains (names t) a) (contains (names t) b) (position_of ts a) (position_of ts b) (adjacent_in t a b) (adjacent_below ts a b) (joins k ps)
-              (lacks_of t ts apart.0 a ha) (lacks_of t ts apart.0 b hb))
+          (lacks_of t ts apart.0 a ha) (lacks_of t ts apart.0 b hb))
           ∙ told a b (union_right (names t) (names_below ts) a ha) (union_right (names t) (names_below ts) b hb)),
     )

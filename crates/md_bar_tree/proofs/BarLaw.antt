@@ -1,7 +1,7 @@
 -- Where there is no induced path, there is no bar exactly where the nodes of the tree have few inner children.
-use Rattle.std.proofs.Common.{◌≡◌, ◌≢◌, ℕ, Bool, true, false, not, ◌⊎◌, List, Option, Some, None, refl, sym, subst, inl, inr}
+use Rattle.std.proofs.Common.{◌≡◌, ◌≢◌, ℕ, Bool, true, false, ◌⊎◌, List, Some, None, refl, sym, subst, inl, inr}
 use Rattle.std.specs.FinSet.{empty}
-use Rattle.md_graph.specs.Sets.{NameSet, Has, Within}
+use Rattle.md_graph.specs.Sets.{NameSet, Has}
 use Rattle.md_graph.specs.Adjacency.{IsAdjacency}
 use Rattle.md_graph.proofs.SetLemmas.{clash, empty_lacks, Has-along, union_left, union_right}
 use Rattle.md_modules.specs.InducedPaths.{HasInducedPath}
@@ -16,8 +16,7 @@ use Rattle.md_bar_tree.specs.declared.Class.{Class}
 use Rattle.md_bar_tree.specs.declared.Class.TheVariants.{Trivial, Threshold}
 use Rattle.md_bar_tree.specs.declared.BarKind.{BarKind}
 use Rattle.md_bar_tree.specs.declared.BarKind.TheVariants.{P4, C4, TwoK2}
-use Rattle.md_bar_tree.specs.declared.Bar.{Bar}
-use Rattle.md_bar_tree.specs.Bars.{AreInside, Bars, IsBarOfKind, IsBar, HasBar}
+use Rattle.md_bar_tree.specs.Bars.{Bars, IsBarOfKind, HasBar}
 use Rattle.md_bar_tree.specs.Inner.{IsInner, AreLeaves, HasOneInner, IsNarrow, HasFewInner, HaveFewInner}
 use Rattle.md_bar_tree.specs.Laws.{NoBarIfFewInner}
 use Rattle.md_bar_tree.specs.Following.{across, FollowsTree, FollowsRow}

@@ -1,5 +1,5 @@
 -- The children of a node, as the code reads them.
-use Rattle.std.proofs.Common.{◌≡◌, ◌≢◌, ℕ, zero, suc, ◌+◌, ◌<◌, ◌≤◌, List, [], ◌∷◌, length, get_or, drop, map, Bool, Option, Some, None, IfNone, refl, sym, ◌∙◌, ap, subst, inl, inr, arith}
+use Rattle.std.proofs.Common.{◌≡◌, ℕ, zero, suc, ◌+◌, ◌<◌, ◌≤◌, List, [], ◌∷◌, length, get_or, map, Bool, Option, Some, None, IfNone, refl, sym, ◌∙◌, ap, subst, inl, inr, arith}
 use Rattle.md_graph.specs.Sets.{NameSet}
 use Rattle.md_graph.specs.Adjacency.{IsAdjacency}
 use Rattle.md_tree.specs.declared.Kind.{Kind}
@@ -7,7 +7,7 @@ use Rattle.md_tree.specs.declared.Pair.{Pair}
 use Rattle.md_tree.specs.declared.PairsOf.{PairsOf}
 use Rattle.md_tree.specs.declared.ChildrenOf.{ChildrenOf}
 use Rattle.md_tree.specs.declared.TreeOf.{TreeOf, Leaf, Node}
-use Rattle.md_tree.specs.Trees.{PlainTree, leaf, node, PlainTrees, no_tree, one_more, names, names_below, names_at, count, row, EachNode, EachNodeBelow}
+use Rattle.md_tree.specs.Trees.{PlainTree, node, PlainTrees, no_tree, one_more, names, names_below, names_at, count, row, EachNode, EachNodeBelow}
 use Rattle.md_tree.specs.Plain.{plain, plain_option, row_of_children}
 use Rattle.md_tree.specs.NoPrimes.{HasNoPrime}
 use Rattle.md_tree.specs.StrongTrees.{IsTreeOf, IsTree}

@@ -1,5 +1,5 @@
 -- The least names of a tree: its first child has the least one.
-use Rattle.std.proofs.Common.{◌≡◌, ℕ, suc, ◌<◌, ◌≤◌, List, sym, subst, inl, inr, arith}
+use Rattle.std.proofs.Common.{◌≡◌, ℕ, suc, ◌<◌, ◌≤◌, List, inl, inr, arith}
 use Rattle.md_graph.specs.Sets.{NameSet, Has, only_name}
 use Rattle.md_graph.proofs.SetLemmas.{clash, of_only, only_has, empty_lacks, union_left, of_union}
 use Rattle.md_tree.specs.declared.Kind.{Kind}

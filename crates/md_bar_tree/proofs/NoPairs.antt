@@ -1,6 +1,6 @@
 -- In a tree without prime nodes whose nodes have few inner children there are no two such pairs.
 use Rattle.std.proofs.Common.{◌≡◌, ◌≢◌, ℕ, Bool, true, false, not, ◌⊎◌, refl, sym, ◌∙◌, inl, inr}
-use Rattle.md_graph.specs.Sets.{NameSet, Has}
+use Rattle.md_graph.specs.Sets.{Has}
 use Rattle.md_graph.specs.Adjacency.{IsAdjacency}
 use Rattle.md_graph.proofs.SetLemmas.{clash, of_only, empty_lacks, of_union}
 use Rattle.md_tree.specs.declared.Kind.{Kind}

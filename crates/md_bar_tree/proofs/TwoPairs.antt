@@ -1,6 +1,6 @@
 -- Two pairs with one value, edge or not, and the other one across: a cycle has them by its diagonals, two edges by themselves.
 use Rattle.std.proofs.Common.{◌≡◌, ◌≢◌, ℕ, ◌<◌, Bool, true, false, not, sym, ◌∙◌, ap, arith}
-use Rattle.md_graph.specs.Sets.{NameSet, Has}
+use Rattle.md_graph.specs.Sets.{NameSet}
 use Rattle.md_graph.specs.Adjacency.{IsAdjacency}
 use Rattle.md_graph.proofs.SetLemmas.{clash}
 use Rattle.md_bar_tree.specs.Bars.{AreInside, AreDifferent, IsInducedCycle, AreTwoEdges}

@@ -1,13 +1,12 @@
 -- Two children that are no leaves, below a node that may have one alone, give a bar.
-use Rattle.std.proofs.Common.{◌≡◌, ◌≢◌, ℕ, ◌<◌, Bool, true, false, not, ◌⊎◌, List, refl, sym, ◌∙◌, subst, inl, inr, arith}
+use Rattle.std.proofs.Common.{◌≡◌, ◌≢◌, ℕ, ◌<◌, Bool, not, refl, sym, ◌∙◌, subst, inl, inr}
 use Rattle.md_graph.specs.Sets.{NameSet, Has, Within}
 use Rattle.md_graph.specs.Adjacency.{IsAdjacency}
 use Rattle.md_graph.proofs.SetLemmas.{clash, empty_lacks, union_left, union_right}
 use Rattle.md_tree.specs.declared.Kind.{Kind}
 use Rattle.md_tree.specs.declared.Kind.TheVariants.{Parallel, Series, Prime}
-use Rattle.md_tree.specs.declared.Pair.{Pair}
 use Rattle.md_tree.specs.Trees.{PlainTree, leaf, node, PlainTrees, no_tree, one_more, names, names_below, EachNodeBelow}
-use Rattle.md_tree.specs.StrongTrees.{IsBefore, IsInOrder}
+use Rattle.md_tree.specs.StrongTrees.{IsInOrder}
 use Rattle.md_tree.specs.WellFormed.{NoneOfKind, IsCanonicalNode, HaveNoPrimeNode}
 use Rattle.md_bar_tree.specs.declared.Class.{Class}
 use Rattle.md_bar_tree.specs.declared.Class.TheVariants.{Trivial, Threshold}

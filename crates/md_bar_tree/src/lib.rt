@@ -37,3 +37,6 @@ pub struct Bar {
     pub c: u32,
     pub d: u32,
 }
+
+#[cfg(test)]
+mod tests;

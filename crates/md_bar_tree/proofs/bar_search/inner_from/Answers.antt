@@ -1,7 +1,7 @@
 use Rattle.std.proofs.Common.{◌<◌, ◌≤◌, subst}
 use Rattle.md_graph.proofs.SetLemmas.{clash}
 use Rattle.md_tree.specs.Plain.{row_from}
-use Rattle.md_bar_tree.proofs.Children.{then_self, skip_more, skip_end, skip_inner}
+use Rattle.md_bar_tree.proofs.Children.{then_self, skip_more, skip_end}
 use Rattle.md_bar_tree.proofs.bar_search.inner_from.Goals as goal
 
 pub loop-at-init : goal.loop-at-init

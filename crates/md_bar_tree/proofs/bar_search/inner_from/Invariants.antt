@@ -1,4 +1,3 @@
-use Rattle.std.proofs.Common.{◌≤◌}
 use Rattle.md_tree.specs.Plain.{row_from}
 use Rattle.md_bar_tree.specs.Finding.{LeavesThen}
 use Rattle.md_bar_tree.proofs.bar_search.inner_from.Given as goal
