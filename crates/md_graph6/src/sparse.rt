@@ -42,20 +42,55 @@ fn width(n: u32) -> u32
     32 - (n - 1).leading_zeros()
 }
 
-// The six bits of byte `at`; behind the body they are 0.
+// The six bits of byte `at`.
 #[inline]
+fn group_in(body: &[u8], at: usize) -> u32
+    requires groups { AreGroups body.now }
+    requires inside { at < length body.now }
+    ensures value { result ≡ number_at body.now (6 * at) 6 }
+    ensures below { result < 64 }
+{
+    u32::from(body[at]) - 63
+}
+
+// The six bits of byte `at`; behind the body they are 0.
 fn group_at(body: &[u8], at: usize) -> u32
     requires { AreGroups body.now }
     ensures value { result ≡ number_at body.now (6 * at) 6 }
     ensures below { result < 64 }
 {
     if at < body.len() {
-        return u32::from(body[at] - 63);
+        return group_in(body, at);
     }
     0
 }
 
-// The 24 bits of four bytes from `at` on.
+// The number of four groups of six bits.
+#[inline]
+fn joined(first: u32, second: u32, third: u32, fourth: u32) -> u32
+    requires first { first < 64 }
+    requires second { second < 64 }
+    requires third { third < 64 }
+    requires fourth { fourth < 64 }
+    ensures value { result ≡ (first * 64 + second) * 4096 + (third * 64 + fourth) }
+    ensures below { result < 16777216 }
+{
+    (first * 64 + second) * 4096 + (third * 64 + fourth)
+}
+
+// The 24 bits of the last bytes of a body from `at` on, and zeros behind them.
+fn last_word(body: &[u8], at: usize) -> u32
+    requires groups { AreGroups body.now }
+    requires inside { at ≤ length body.now }
+    ensures value { result ≡ number_at body.now (6 * at) 24 }
+    ensures below { result < 16777216 }
+{
+    let (first, second) = (group_at(body, at), group_at(body, at + 1));
+    let (third, fourth) = (group_at(body, at + 2), group_at(body, at + 3));
+    joined(first, second, third, fourth)
+}
+
+// The 24 bits of four bytes from `at` on; behind the body they are 0.
 #[inline]
 fn word_at(body: &[u8], at: usize) -> u32
     requires groups { AreGroups body.now }
@@ -63,9 +98,12 @@ fn word_at(body: &[u8], at: usize) -> u32
     ensures value { result ≡ number_at body.now (6 * at) 24 }
     ensures below { result < 16777216 }
 {
-    let high = group_at(body, at) * 64 + group_at(body, at + 1);
-    let low = group_at(body, at + 2) * 64 + group_at(body, at + 3);
-    high * 4096 + low
+    if body.len() - at < 4 {
+        return last_word(body, at);
+    }
+    let (first, second) = (group_in(body, at), group_in(body, at + 1));
+    let (third, fourth) = (group_in(body, at + 2), group_in(body, at + 3));
+    joined(first, second, third, fourth)
 }
 
 // The lowest `count` bits of a number.
