@@ -52,8 +52,9 @@ are_ends u v (Some p) = (u == p.0 && v == p.1) || (u == p.1 && v == p.0)
 abbrev pub is_edge_line : ℕ → ℕ → List ℕ → Bool
 is_edge_line u v line = are_ends u v (ends_of (words line))
 
--- The bytes of a file spell a graph whose names are below the limit: one problem line; before it only lines that are read past; behind it
--- those and edge lines. The vertices are 1 to n, and two are adjacent exactly where some line is_edge_line them.
+-- The bytes of a file spell a graph whose names are below the limit: one problem line; before it only lines that
+-- are read past; behind it those and edge lines. The vertices are 1 to n, and two are adjacent exactly where a line
+-- is an edge line of them.
 pub record Spells (limit : ℕ) (bytes : List ℕ) (g : PlainGraph) : Type 0 where
   pub n : ℕ
   pub before : List (List ℕ)

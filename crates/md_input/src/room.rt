@@ -15,14 +15,15 @@ use md_graph6::Lines;
 use std::alloc::Global;
 use std::marker::Model;
 
-// How many names fit into rows of one word, of sixteen, and of sixty-four.
+// How many names fit into rows of one word, and into rows of sixteen.
 const SMALL: u32 = 64;
 
 const MEDIUM: u32 = 1_024;
 
-const BROAD: u32 = 4_096;
+/// How many names fit into rows of sixty-four words.
+pub const BROAD: u32 = 4_096;
 
-/// A graph by the number of words in its rows: one, sixteen, sixty-four, or as many as there may be.
+/// A graph by the number of words in its rows: 1, 16, 64, or as many as there may be.
 #[derive(Clone, Copy)]
 pub enum GraphBySize<'a> {
     Small(&'a GraphOf<1>),
@@ -196,10 +197,10 @@ fn clear_rows<const W: usize>(rows: &mut Option<GraphOf<W>>)
     }
 }
 
-// The next graph of the lines comes into the rows, which are taken if they aren't there; false where
-// none is left, and the rows stay without vertices. Conditions: the rows have no vertices, and room
-// for the next graph. Errors: want of memory; nothing changes then. Never inlined, so that small
-// graphs don't pay for its room.
+// The next graph of the lines comes into the rows, which are taken if they aren't there; false
+// where none is left, and the rows stay without vertices. Conditions: the rows have no vertices,
+// and room for the next graph. Errors: want of memory; nothing changes then. Never inlined, so that
+// small graphs don't pay for its room.
 #[inline(never)]
 fn fill_rows<const W: usize>(
     alloc: Global,
@@ -226,11 +227,11 @@ fn fill_rows<const W: usize>(
     Ok(found)
 }
 
-// Reads the graph of a DIMACS file whose names are below the limit if they are below `most` too, and
-// answers true; false where the limit is greater and they aren't, and the graph then stays without
+// Reads the graph of a DIMACS file whose names are below the limit if they are below `most` too,
+// and answers true; false where the limit is greater and they aren't, and the graph then stays without
 // vertices. Conditions: the graph has no vertices, and room for names below `most`. Errors: the
 // first fault of the file under the limit.
-fn is_read<const W: usize>(
+pub(crate) fn is_read<const W: usize>(
     file: &[u8],
     most: u32,
     limit: u32,

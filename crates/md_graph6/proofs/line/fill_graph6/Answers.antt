@@ -7,14 +7,14 @@ use Rattle.md_graph.proofs.Limits.{NAMES-lt}
 use Rattle.md_graph6.proofs.LineLemmas.{IsSoundBody}
 use Rattle.md_graph6.proofs.FirstLemmas.{size_fits}
 use Rattle.md_graph6.proofs.SpellLemmas.{sound_line-sized, sound_line-groups, sound_line-body, filled_is_line}
-use Rattle.md_graph6.proofs.line.fill_line.Goals as goal
+use Rattle.md_graph6.proofs.line.fill_graph6.Goals as goal
 
 pub size-requires-clause-groups : goal.size-requires-clause-groups
-size-requires-clause-groups g c = sound_line-groups _ c.requires.some c.requires.sound
+size-requires-clause-groups g c = sound_line-groups _ c.requires.sound
 
 pub unreachable-requires : goal.unreachable-requires
 unreachable-requires g c =
-    sound_line-sized _ c.requires.some c.requires.sound (sym c.size.ensures.value ∙ c.in_default.is)
+    sound_line-sized _ c.requires.sound (sym c.size.ensures.value ∙ c.in_default.is)
 
 pub overflow_cast-n : goal.overflow_cast-n
 overflow_cast-n g c =
@@ -42,7 +42,7 @@ fill-requires g c =
     let sized = sym c.size.ensures.value ∙ c.in-Some.is in
     let body : IsSoundBody NAMES c.args.line.now c.in-Some.taken c.in-Some.n =
     sound_line-body _ _ _ c.requires.some c.requires.sound sized in
-    let groups = sound_line-groups _ c.requires.some c.requires.sound in
+    let groups = sound_line-groups _ c.requires.sound in
     (search rules, (c.requires.empty, (body.few, (size_fits _ _ _ _ c.requires.some c.requires.sound sized c.requires.room, rw take_rest (All-drop (λ byte. is_group byte ≡ true) _ _ groups)))))
 
 pub returns : goal.returns
