@@ -15,7 +15,7 @@ ghost use Rattle.md_checker.specs.Standing.{Takes};
 use crate::graph_checker::GraphChecker;
 use crate::session_checker::SessionChecker;
 use md_graph::{Memory, WORDS};
-use md_input::{Format, Graphs, InputStop, one_graph, read_script};
+use md_input::{Format, Graphs, InputStop, SessionInputs, session_inputs};
 use md_report::{GraphMode, Line, LineFault, SessionMode, read_line};
 use std::alloc::Global;
 use std::marker::Model;
@@ -31,8 +31,10 @@ pub struct Checker<'a> {
 enum Inner<'a> {
     // The report is over the graphs of a file.
     OverGraphs(GraphChecker<'a>),
-    // The report is of a session.
-    OverSession(SessionChecker<WORDS>),
+    // The report is of a session, on rows of sixty-four words.
+    OverBroad(SessionChecker<64>),
+    // The report is of a session, on rows of as many words as there may be.
+    OverLarge(SessionChecker<WORDS>),
 }
 
 impl<'a> Model for Checker<'a> {
@@ -92,11 +94,15 @@ impl<'a> Checker<'a> {
         ensures stops { IfErr result (IsStopAt
             (option_or (one_graph_fault from file.now) (script_fault script.now))) }
     {
-        let graph = one_graph(alloc, from, file)?;
-        let edits = read_script(alloc, script)?;
-        Ok(Checker {
-            inner: Inner::OverSession(SessionChecker::new(mode, graph, edits)),
-        })
+        let inner = match session_inputs(alloc, from, file, script)? {
+            SessionInputs::Broad(graph, edits) => {
+                Inner::OverBroad(SessionChecker::new(mode, graph, edits))
+            }
+            SessionInputs::Large(graph, edits) => {
+                Inner::OverLarge(SessionChecker::new(mode, graph, edits))
+            }
+        };
+        Ok(Checker { inner })
     }
 
     /// Whether the report is at its end.
@@ -105,7 +111,8 @@ impl<'a> Checker<'a> {
     {
         match &self.inner {
             Inner::OverGraphs(checker) => checker.complete(),
-            Inner::OverSession(checker) => checker.complete(),
+            Inner::OverBroad(checker) => checker.complete(),
+            Inner::OverLarge(checker) => checker.complete(),
         }
     }
 
@@ -180,7 +187,8 @@ impl<'a> Inner<'a> {
     {
         match self {
             Inner::OverGraphs(checker) => checker.takes_text(alloc, text),
-            Inner::OverSession(checker) => checker.takes_text(alloc, text),
+            Inner::OverBroad(checker) => checker.takes_text(alloc, text),
+            Inner::OverLarge(checker) => checker.takes_text(alloc, text),
         }
     }
 
@@ -196,7 +204,8 @@ impl<'a> Inner<'a> {
     {
         match self {
             Inner::OverGraphs(checker) => checker.feed(alloc, line),
-            Inner::OverSession(checker) => checker.feed(alloc, line),
+            Inner::OverBroad(checker) => checker.feed(alloc, line),
+            Inner::OverLarge(checker) => checker.feed(alloc, line),
         }
     }
 }
