@@ -6,7 +6,7 @@ ghost use Rattle.md_script.specs.declared.edit.Edit.{Edit};
 ghost use Rattle.md_script.specs.File.{SpellsScript};
 ghost use Rattle.md_input.specs.Spelling.{SpellsGraphs};
 ghost use Rattle.md_input.specs.Faults.{graph_fault, one_graph_fault, script_fault, IsStopAt};
-ghost use Rattle.md_report.specs.Lines.{PlainLine, plain_line, line_text};
+ghost use Rattle.md_report.specs.Lines.{PlainLine, plain_line, line_text, limit_of_mode};
 ghost use Rattle.md_report.specs.WellFormedLines.{IsWellFormedLine};
 ghost use Rattle.md_report.specs.Places.{before_head, before_session, after_end, MayCome, next_place};
 ghost use Rattle.md_checker.specs.Checkers.{report_place};
@@ -55,7 +55,7 @@ impl<'a> Model for Checker<'a> {
 
 impl<'a> Checker<'a> {
     /// The checker of a report of a mode over the graphs of a graph file, before its head. The file
-    /// is read whole first. Errors: the first fault of the graph file; want of memory.
+    /// is read whole first, under the limit of names of the mode. Errors: the first fault of the graph file; want of memory.
     pub fn over_graphs(
         alloc: Global,
         mode: GraphMode,
@@ -64,10 +64,12 @@ impl<'a> Checker<'a> {
     ) -> Result<Checker<'a>, InputStop>
         ensures first { IfOk result (λ c. (graphs : List PlainGraph)
             × SpellsGraphs from file.now graphs × (c ≡ before_head mode graphs)) }
-        ensures faultless { IfOk result (λ _. graph_fault from file.now ≡ None) }
-        ensures stops { IfErr result (IsStopAt (graph_fault from file.now)) }
+        ensures faultless { IfOk result (λ _.
+            graph_fault (limit_of_mode mode) from file.now ≡ None) }
+        ensures stops { IfErr result (IsStopAt
+            (graph_fault (limit_of_mode mode) from file.now)) }
     {
-        let graphs = Graphs::read(alloc, from, file)?;
+        let graphs = Graphs::read(alloc, mode.limit(), from, file)?;
         let checker = GraphChecker::new(alloc, mode, graphs)?;
         Ok(Checker {
             inner: Inner::OverGraphs(checker),
