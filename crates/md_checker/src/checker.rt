@@ -4,6 +4,7 @@ ghost use Rattle.std.specs.Option.{option_or};
 ghost use Rattle.md_graph.specs.PlainGraph.{PlainGraph};
 ghost use Rattle.md_script.specs.declared.edit.Edit.{Edit};
 ghost use Rattle.md_script.specs.File.{SpellsScript};
+ghost use Rattle.md_input.specs.Inputs.{graph_of_inputs, script_of_inputs, HaveRoom};
 ghost use Rattle.md_input.specs.Spelling.{SpellsGraphs};
 ghost use Rattle.md_input.specs.Faults.{graph_fault, one_graph_fault, script_fault, IsStopAt};
 ghost use Rattle.md_report.specs.Lines.{PlainLine, plain_line, line_text, limit_of_mode};
@@ -94,15 +95,10 @@ impl<'a> Checker<'a> {
         ensures stops { IfErr result (IsStopAt
             (option_or (one_graph_fault from file.now) (script_fault script.now))) }
     {
-        let inner = match session_inputs(alloc, from, file, script)? {
-            SessionInputs::Broad(graph, edits) => {
-                Inner::OverBroad(SessionChecker::new(mode, graph, edits))
-            }
-            SessionInputs::Large(graph, edits) => {
-                Inner::OverLarge(SessionChecker::new(mode, graph, edits))
-            }
-        };
-        Ok(Checker { inner })
+        let inputs = session_inputs(alloc, from, file, script)?;
+        Ok(Checker {
+            inner: Inner::over_inputs(mode, inputs),
+        })
     }
 
     /// Whether the report is at its end.
@@ -176,6 +172,23 @@ impl<'a> Checker<'a> {
 }
 
 impl<'a> Inner<'a> {
+    // The checker of a report of a session over these inputs, before its head. Condition: the rows
+    // of the graph have room for the names in the script.
+    fn over_inputs(mode: SessionMode, inputs: SessionInputs) -> Inner<'a>
+        requires { HaveRoom inputs }
+        ensures { report_place result
+            ≡ before_session mode (graph_of_inputs inputs) (script_of_inputs inputs) }
+    {
+        match inputs {
+            SessionInputs::Broad(graph, script) => {
+                Inner::OverBroad(SessionChecker::new(mode, graph, script))
+            }
+            SessionInputs::Large(graph, script) => {
+                Inner::OverLarge(SessionChecker::new(mode, graph, script))
+            }
+        }
+    }
+
     // Whether the text is that of the tree or the orientation that is due: the line is then taken,
     // and else nothing changes. A false says nothing.
     fn takes_text(&mut self, alloc: Global, text: &[u8]) -> Result<bool, Memory>
