@@ -16,13 +16,13 @@ abbrev pub width : ℕ → ℕ
 width n = digit_count 32 (n - 1)
 
 -- the number that `count` bits of a body from `place` on spell, the high bit first
-unfoldable pub number_at : List ℕ → ℕ → ℕ → ℕ
-number_at body place zero = 0
-number_at body place (suc count) = 2 * number_at body place count + bit body (place + count)
+unfoldable pub spelt_number : List ℕ → ℕ → ℕ → ℕ
+spelt_number body place zero = 0
+spelt_number body place (suc count) = 2 * spelt_number body place count + bit body (place + count)
 
 -- pair p as one number: its bit, and then k bits of an end
 abbrev pub pair_number_at : List ℕ → ℕ → ℕ → ℕ
-pair_number_at body k p = number_at body (p * (k + 1)) (k + 1)
+pair_number_at body k p = spelt_number body (p * (k + 1)) (k + 1)
 
 -- the bit of pair p
 abbrev pub step_at : List ℕ → ℕ → ℕ → ℕ
