@@ -11,7 +11,7 @@ use Rattle.md_graph.proofs.SetLaws.{same_set}
 use Rattle.md_graph.proofs.PairLaws.{same_pairs}
 use Rattle.md_graph.proofs.GraphLemmas.{contains-pairs_where, contains-edges, adjacent-with_edge, IsGraph-with_edge}
 use Rattle.md_graph6.specs.Filled.{IsEdgeless}
-use Rattle.md_graph6.specs.Sparse.{width, spelt_number, pair_number_at, step_at, other_end, reached, is_whole, some_pair, gives, gives_loop, is_pair_edge, has_loop, graph_of_pairs}
+use Rattle.md_graph6.specs.Sparse.{width, spelt_number, pair_number_at, step_of, other_end, reached, is_whole, some_pair, gives, gives_loop, is_pair_edge, has_loop, graph_of_pairs}
 use Rattle.md_graph6.specs.Pairs.{IsAtPair, HasPairEdges, IsWithPair}
 use Rattle.md_graph6.proofs.DecodeLemmas.{contains-numbers_below}
 
@@ -30,10 +30,10 @@ at_first body k n at from vertex ea ef ev = record {
 -- what is read at a place is its pair
 pub pair_read : {body : List ℕ} {k n p at from vertex : ℕ} (v other : ℕ) → IsAtPair body k n p at from vertex
     → v ≡ vertex + spelt_number body (6 * at + from) (k + 1) / 2 ^ k → other ≡ spelt_number body (6 * at + from) (k + 1) % 2 ^ k
-    → (v ≡ min (reached body k p) n + step_at body k p) × (other ≡ other_end body k p)
+    → (v ≡ min (reached body k p) n + step_of body k p) × (other ≡ other_end body k p)
 pair_read {body} {k} {n} {p} {at} {from} {vertex} v other is ev eo =
     let e : spelt_number body (6 * at + from) (k + 1) ≡ pair_number_at body k p = ap (λ x. spelt_number body x (k + 1)) is.place in
-    let step : spelt_number body (6 * at + from) (k + 1) / 2 ^ k ≡ step_at body k p = ap (λ x. x / 2 ^ k) e in
+    let step : spelt_number body (6 * at + from) (k + 1) / 2 ^ k ≡ step_of body k p = ap (λ x. x / 2 ^ k) e in
     (omega (arith, is.reached), eo ∙ ap (λ x. x % 2 ^ k) e)
 
 row_next : (p k : ℕ) → (p + 1) * (k + 1) ≡ p * (k + 1) + (k + 1)
@@ -65,7 +65,7 @@ at_next {body} {k} {n} {p} {at} {from} {vertex} v other at' from' vertex' is who
       place = follows ∙ (let row = row_next p k in omega (arith, is.place));
       shift = small;
       inside = inside_after at from (k + 1) at' from' (length body) whole follows;
-      reached = er ∙ capped (reached body k p) n (step_at body k p) other v read.0 ∙ ap (λ x. min (max (reached body k p + step_at body k p) x) n) read.1;
+      reached = er ∙ capped (reached body k p) n (step_of body k p) other v read.0 ∙ ap (λ x. min (max (reached body k p + step_of body k p) x) n) read.1;
     }
 
 -- ---- some pair
@@ -144,7 +144,7 @@ pub no_loop_more : {body : List ℕ} {k n p at from vertex : ℕ} (v other : ℕ
 unfolding some_pair
 no_loop_more {body} {k} {n} {p} {at} {from} {vertex} v other is ev eo none before =
     let read = pair_read v other is ev eo in
-    let test = loop_test (reached body k p) n (step_at body k p) other v (other_end body k p) read.0 read.1 ∙ none in
+    let test = loop_test (reached body k p) n (step_of body k p) other v (other_end body k p) read.0 read.1 ∙ none in
     both (is_whole body k p) _ _ test before
   where
     both : (w a b : Bool) → a ≡ false → b ≡ false → ((w && a) || b) ≡ false
@@ -158,7 +158,7 @@ pub loop_found : {body : List ℕ} {k n p at from vertex : ℕ} (v other : ℕ) 
 loop_found {body} {k} {n} {p} {at} {from} {vertex} v other is wide some whole ev eo found =
     let read = pair_read v other is ev eo in
     let there = pair_whole true is whole in
-    let test = loop_test (reached body k p) n (step_at body k p) other v (other_end body k p) read.0 read.1 ∙ found in
+    let test = loop_test (reached body k p) n (step_of body k p) other v (other_end body k p) read.0 read.1 ∙ found in
     let one : gives_loop body k n p ≡ true = rw (there, test) refl in
     let all : some_pair (gives_loop body k n) (6 * length body) ≡ true =
     some_pair-there (gives_loop body k n) p (6 * length body) one (whole_below body k p there) in
@@ -224,7 +224,7 @@ pairs_more {body} {k} {n} {p} {at} {from} {vertex} {g} {new} v other is whole ev
       pairs = λ a b up.
           pair.pairs a b up
           ∙ rw (has.pairs a b up, there)
-          (same_pair a b n (reached body k p) (step_at body k p) v other (other_end body k p) (some_pair (gives body k a b) p) read.0 read.1);
+          (same_pair a b n (reached body k p) (step_of body k p) v other (other_end body k p) (some_pair (gives body k a b) p) read.0 read.1);
     }
 
 pub pairs_all : {body : List ℕ} {k n p at from vertex : ℕ} {g : PlainGraph} → IsAtPair body k n p at from vertex → k ≡ width n

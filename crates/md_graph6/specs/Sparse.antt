@@ -25,8 +25,8 @@ abbrev pub pair_number_at : List ℕ → ℕ → ℕ → ℕ
 pair_number_at body k p = spelt_number body (p * (k + 1)) (k + 1)
 
 -- the bit of pair p
-abbrev pub step_at : List ℕ → ℕ → ℕ → ℕ
-step_at body k p = pair_number_at body k p / 2 ^ k
+abbrev pub step_of : List ℕ → ℕ → ℕ → ℕ
+step_of body k p = pair_number_at body k p / 2 ^ k
 
 -- the end that pair p spells
 abbrev pub other_end : List ℕ → ℕ → ℕ → ℕ
@@ -35,11 +35,11 @@ other_end body k p = pair_number_at body k p % 2 ^ k
 -- the vertex that the first p pairs reach: a bit goes on by one, and an end above the vertex becomes the vertex
 unfoldable pub reached : List ℕ → ℕ → ℕ → ℕ
 reached body k zero = 0
-reached body k (suc p) = max (reached body k p + step_at body k p) (other_end body k p)
+reached body k (suc p) = max (reached body k p + step_of body k p) (other_end body k p)
 
 -- the vertex that pair p stands at
 abbrev pub vertex_at : List ℕ → ℕ → ℕ → ℕ
-vertex_at body k p = reached body k p + step_at body k p
+vertex_at body k p = reached body k p + step_of body k p
 
 -- whether all bits of pair p stand in the body
 abbrev pub is_whole : List ℕ → ℕ → ℕ → Bool
