@@ -1,5 +1,6 @@
 -- The adjacency of a tree without prime nodes, taken apart at a node: in the first child, behind it, and between.
 use Rattle.std.proofs.Common.{◌≡◌, ◌≢◌, ℕ, suc, cond, Bool, true, false, eqb, List, refl, sym, ◌∙◌, ap, true≢false, arith}
+use Rattle.std.proofs.Math.Dec.{eqb-suc-suc}
 use Rattle.std.specs.FinSet.{contains}
 use Rattle.std.proofs.lemmas.Bool.{false_from_ne_true}
 use Rattle.md_graph.specs.Sets.{Has, Lacks, Disjoint}
@@ -18,9 +19,6 @@ zero_zero = grind arith
 zero_suc : (n : ℕ) → eqb 0 (suc n) ≡ false
 zero_suc n = grind arith
 
-suc_suc : (m n : ℕ) → eqb (suc m) (suc n) ≡ eqb m n
-suc_suc m n = grind arith
-
 -- the tests of adjacency at a node, by whether each of two names lies in the first child
 both_first : (i j : Bool) (m n : ℕ) (inner rest : Bool) (J : ℕ → ℕ → Bool) → i ≡ true → j ≡ true →
     cond (eqb (cond i 0 (suc m)) (cond j 0 (suc n))) (cond i inner rest) (J (cond i 0 (suc m)) (cond j 0 (suc n))) ≡ inner
@@ -36,7 +34,7 @@ first_and_rest false j m n inner rest J p q = absurd (true≢false (sym p))
 
 both_rest : (i j : Bool) (m n : ℕ) (inner rest : Bool) (J : ℕ → ℕ → Bool) → i ≡ false → j ≡ false →
     cond (eqb (cond i 0 (suc m)) (cond j 0 (suc n))) (cond i inner rest) (J (cond i 0 (suc m)) (cond j 0 (suc n))) ≡ cond (eqb m n) rest (J (suc m) (suc n))
-both_rest false false m n inner rest J p q = ap (λ w. cond w rest (J (suc m) (suc n))) (suc_suc m n)
+both_rest false false m n inner rest J p q = ap (λ w. cond w rest (J (suc m) (suc n))) (eqb-suc-suc m n)
 both_rest true j m n inner rest J p q = absurd (true≢false p)
 both_rest false true m n inner rest J p q = absurd (true≢false q)
 
