@@ -7,10 +7,11 @@ ghost use Rattle.md_tree.specs.Trees.{node, names, names_at, count, EachNodeBelo
 ghost use Rattle.md_tree.specs.Plain.{plain, plain_option, trees_of, row_of_children, row_from};
 ghost use Rattle.md_tree.specs.StrongTrees.{IsTree};
 ghost use Rattle.md_tree.specs.WellFormed.{IsCanonicalNode, IsCanonicalTree};
+ghost use Rattle.md_tree.specs.Held.{IsLeast};
 ghost use Rattle.md_tree.specs.NoPrimes.{HasNoPrime};
 ghost use Rattle.md_bar_tree.specs.Bars.{IsBar, HasBar};
-ghost use Rattle.md_bar_tree.specs.Inner.{IsInner, AreLeaves, HasOneInner, IsNarrow, HasFewInner, HaveFewInner};
-ghost use Rattle.md_bar_tree.specs.Finding.{IsFoundIn, IsNextInner, IsLeast, AreLeastTwo, IsBarOfTwo, bar_across};
+ghost use Rattle.md_bar_tree.specs.Inner.{IsInnerTree, AreLeaves, HasOneInner, IsNarrow, HasFewInner, HaveFewInner};
+ghost use Rattle.md_bar_tree.specs.Finding.{IsFoundIn, IsNextInner, AreLeastTwo, IsBarOfTwo, bar_across};
 
 use crate::{Bar, BarKind, Class};
 use md_tree::{Children, Kind, Tree};
@@ -110,7 +111,7 @@ fn inner_from(children: &Children, from: u64) -> Option<u64>
 
 // Whether a tree is no leaf.
 fn is_inner(tree: &Tree) -> bool
-    ensures { IsTrue result ↔ IsInner (plain tree.now) }
+    ensures { IsTrue result ↔ IsInnerTree (plain tree.now) }
 {
     match tree {
         Tree::Leaf(_) => false,
@@ -120,8 +121,8 @@ fn is_inner(tree: &Tree) -> bool
 
 // The bar at a node of this kind, below two of its children that are no leaves.
 fn bar_of_two(kind: Kind, first: &Tree, second: &Tree) -> Bar
-    ensures { IsCanonicalTree (plain first.now) → IsInner (plain first.now)
-        → IsCanonicalTree (plain second.now) → IsInner (plain second.now)
+    ensures { IsCanonicalTree (plain first.now) → IsInnerTree (plain first.now)
+        → IsCanonicalTree (plain second.now) → IsInnerTree (plain second.now)
         → IsBarOfTwo kind (plain first.now) (plain second.now) result }
 {
     let (p, q) = least_two(first);
@@ -149,7 +150,7 @@ fn bar_of_names(kind: Kind, p: u32, q: u32, r: u32, s: u32) -> Bar
 
 // The least names of the first two children of a node.
 fn least_two(tree: &Tree) -> (u32, u32)
-    ensures { IsCanonicalTree (plain tree.now) → IsInner (plain tree.now)
+    ensures { IsCanonicalTree (plain tree.now) → IsInnerTree (plain tree.now)
         → AreLeastTwo (plain tree.now) result.0 result.1 }
 {
     match tree {
