@@ -7,6 +7,7 @@
     python3 bench/run.py --only many     measures the cases whose name holds a word
     python3 bench/run.py --checks        measures `check` over the reports of the same cases, beside the reports
     python3 bench/run.py --sizes         seconds and peak memory by command at two sizes, sparse and dense, in one table
+    python3 bench/run.py --largest       the same over the largest graphs, of 16,384 vertices
 
 Inputs are made with fixed seeds, in a temporary folder. Instructions are counted by valgrind's callgrind, peak
 memory is told by GNU time, each where it is there. Instructions hardly change from run to run, as times do.
@@ -337,6 +338,39 @@ def measure_sizes(binary):
         print("| `big` |" + "".join(" | %s |" % timed(binary, ["big", str(n)], where) for n in (1024, 4096)))
 
 
+def measure_largest(binary):
+    """One row a command: seconds and peak megabytes on 16,384 vertices: a random sparse graph (average degree 8), a path,
+    a threshold graph and a random cograph; `quiet` has 200 edits. Last the files, in megabytes."""
+    n = 16384
+    graphs = {"sparse": sparse(n, 8, n), "path": path(n), "threshold": threshold(n), "cograph": cograph(n, n)}
+    rows = [("edges", ["sparse", "path"]), ("graph6", ["sparse", "path"]), ("tree", list(graphs)),
+            ("quiet", ["threshold", "cograph"])]
+    print("| command | " + " | ".join(graphs) + " |")
+    print("|---|" + "---|" * len(graphs))
+    with tempfile.TemporaryDirectory() as where:
+        for name, graph in graphs.items():
+            with open(os.path.join(where, name), "wb") as file:
+                file.write(g6(graph))
+        with open(os.path.join(where, "script"), "wb") as file:
+            file.write(script(n, 200, n))
+        for command, kinds in rows:
+            for is_check in (False, True) if command == "tree" else (False,):
+                row = "| `%s%s` |" % ("check " if is_check else "", command)
+                for kind in graphs:
+                    words = [command, "g6", kind] + (["script"] if command == "quiet" else [])
+                    if kind not in kinds:
+                        row += " |"
+                        continue
+                    if is_check:
+                        with open(os.path.join(where, "report"), "wb") as file:
+                            subprocess.run([binary, *words], cwd=where, stdout=file, check=True)
+                        words = ["check", *words, "report"]
+                    row += " %s |" % timed(binary, words, where)
+                print(row, flush=True)
+        sizes = (os.path.getsize(os.path.join(where, kind)) / 1024 ** 2 for kind in graphs)
+        print("| file |" + "".join(" %.0f MB |" % size for size in sizes))
+
+
 def timed(binary, words, where):
     """Seconds of processor time and peak megabytes of one run, as text; a report may be too long for a check."""
     with subprocess.Popen(["time", "-f", "%M", binary, *words], cwd=where, stdout=subprocess.DEVNULL,
@@ -364,6 +398,7 @@ def main():
     options.add_argument("--only", default="")
     options.add_argument("--checks", action="store_true")
     options.add_argument("--sizes", action="store_true")
+    options.add_argument("--largest", action="store_true")
     chosen = options.parse_args()
     binary = os.path.abspath(chosen.bin or build())
     peer = os.path.abspath(chosen.peer) if chosen.peer else None
@@ -371,6 +406,8 @@ def main():
         return measure_checks(binary, chosen.only)
     if chosen.sizes:
         return measure_sizes(binary)
+    if chosen.largest:
+        return measure_largest(binary)
     print("| run | seconds | million instructions | peak MB |" + (" the other's | ratio | its peak MB |" if peer else ""))
     print("|---|---|---|---|" + ("---|---|---|" if peer else ""))
     with tempfile.TemporaryDirectory() as where:

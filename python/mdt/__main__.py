@@ -73,7 +73,7 @@ def add_verify(commands) -> None:
         description="Judges a report as mdt check does, by the definitions, in plain Python and slowly: accepted, or "
                     "rejected line N with status 1. A faulty graph file or script has status 3.")
     parser.add_argument("mode", choices=list(reports.MODES))
-    parser.add_argument("graph", help="the graph file: graph6 or DIMACS, told apart by its content")
+    parser.add_argument("graph", help="the graph file: graph6, sparse6 or DIMACS, told apart by its content")
     parser.add_argument("files", nargs="+", metavar="[SCRIPT] REPORT",
                         help="the script, in the modes edit, cograph and quiet, and the report")
     parser.set_defaults(run=run_verify, parser=parser)
@@ -84,7 +84,7 @@ def run_verify(options: argparse.Namespace) -> int:
     if len(options.files) != 1 + is_session:
         options.parser.error("%s takes %s" % (options.mode, "a script and a report" if is_session else "one report"))
     graph, *script, report = [read_bytes(path) for path in (options.graph, *options.files)]
-    graphs = inputs.read_graphs(graph)
+    graphs = inputs.read_graphs(graph, limit=verify.limit_of(options.mode))
     if is_session and len(graphs) != 1:
         print("mdt verify: graph NotOneGraph count %d" % len(graphs), file=sys.stderr)
         return 3

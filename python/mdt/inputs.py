@@ -1,4 +1,4 @@
-"""Readers of graph files and scripts for the second opinion: graph6, DIMACS edge files, scripts of edits.
+"""Readers of graph files and scripts for the second opinion: graph6 and sparse6, DIMACS edge files, scripts of edits.
 
 They stand apart from the program: each is written from the formats alone (`docs/FORMATS.md`), for reading and not for
 speed. A graph is a dict that gives each vertex the set of its neighbours.
@@ -11,7 +11,9 @@ Graph = dict[int, set[int]]
 # An edit: its word (+e, -e, +v or -v) and its names.
 Edit = tuple[str, list[int]]
 
-NAMES = 4096
+NAMES = 16_384
+# How many vertices a graph may have at most whose orientations or permutation models are told.
+ORIENTED = 4_096
 EDITS = 200_000
 
 
@@ -45,35 +47,38 @@ def _number(field: bytes) -> int:
     return int(field)
 
 
-def read_graphs(content: bytes, form: Union[str, None] = None) -> list[Graph]:
-    """The graphs of a file in the format `g6` or `dimacs`. Without a format: a DIMACS file has a space or a tab in its
-    problem line, and a graph6 file has none anywhere. InputFault for the first fault."""
+def read_graphs(content: bytes, form: Union[str, None] = None, limit: int = NAMES) -> list[Graph]:
+    """The graphs of a file in the format `g6` or `dimacs`, with so many vertices at most in graph6 and sparse6, and
+    fewer in DIMACS. Without a format: a DIMACS file has a space or a tab in its problem line, and a graph6 file has
+    none anywhere. InputFault for the first fault."""
     if form is None:
         form = "dimacs" if b" " in content or b"\t" in content else "g6"
-    return read_graph6(content) if form == "g6" else [read_dimacs(content)]
+    return read_graph6(content, limit) if form == "g6" else [read_dimacs(content, limit)]
 
 
-def read_graph6(content: bytes) -> list[Graph]:
-    """The graphs of a graph6 file, on the vertices from 0 on."""
-    if content.startswith(b">>graph6<<"):
-        content = content[10:]
+def read_graph6(content: bytes, limit: int = NAMES) -> list[Graph]:
+    """The graphs of a file of graph6 and sparse6 lines, on the vertices from 0 on."""
+    for header in (b">>graph6<<", b">>sparse6<<"):
+        if content.startswith(header):
+            content = content[len(header):]
+            break
     graphs = []
     for number, line in enumerate(_lines(content), 1):
         if line:
             try:
-                graphs.append(_graph6_line(line))
+                graphs.append(_sparse6_line(line[1:], limit) if line[:1] == b":" else _graph6_line(line, limit))
             except _Fault as fault:
                 raise InputFault("graph", str(fault), number) from None
     return graphs
 
 
-def _graph6_line(line: bytes) -> Graph:
-    if line[:1] in (b":", b";", b"&"):
+def _graph6_line(line: bytes, limit: int) -> Graph:
+    if line[:1] in (b";", b"&"):
         raise _Fault("OtherFormat")
     if min(line) < 63 or max(line) > 126:
         raise _Fault("BadByte")
     count, groups = _graph6_size(line)
-    if count > NAMES:
+    if count > limit:
         raise _Fault("TooManyVertices")
     pairs = count * (count - 1) // 2
     if len(groups) != (pairs + 5) // 6:
@@ -92,6 +97,32 @@ def _graph6_line(line: bytes) -> Graph:
     return graph
 
 
+def _sparse6_line(line: bytes, limit: int) -> Graph:
+    """The graph of a sparse6 line behind its colon."""
+    if not line:
+        raise _Fault("Truncated")
+    if min(line) < 63 or max(line) > 126:
+        raise _Fault("BadByte")
+    count, groups = _graph6_size(line)
+    if count > limit:
+        raise _Fault("TooManyVertices")
+    graph: Graph = {v: set() for v in range(count)}
+    width = (count - 1).bit_length() if count > 1 else 0
+    bits = "".join(format(byte - 63, "06b") for byte in groups) if width else ""
+    v = 0
+    for place in range(0, len(bits) - width, width + 1):
+        x = int(bits[place + 1:place + 1 + width], 2)
+        v += bits[place] == "1"
+        if x > v:
+            v = x
+        elif v < count:
+            if x == v:
+                raise _Fault("Loop")
+            graph[x].add(v)
+            graph[v].add(x)
+    return graph
+
+
 def _graph6_size(line: bytes) -> tuple[int, bytes]:
     """The number of vertices, and the bytes behind it."""
     begin, end, least = (0, 1, 0) if line[0] != 126 else (1, 4, 63) if line[1:2] != b"~" else (2, 8, 258_048)
@@ -105,8 +136,8 @@ def _graph6_size(line: bytes) -> tuple[int, bytes]:
     return count, line[end:]
 
 
-def read_dimacs(content: bytes) -> Graph:
-    """The graph of a DIMACS edge file, on the vertices from 1 on."""
+def read_dimacs(content: bytes, limit: int = NAMES) -> Graph:
+    """The graph of a DIMACS edge file with fewer vertices than the limit, on the vertices from 1 on."""
     graph = None
     lines = _lines(content)
     for number, line in enumerate(lines, 1):
@@ -117,7 +148,7 @@ def read_dimacs(content: bytes) -> Graph:
             if fields[0] == b"p":
                 if graph is not None:
                     raise _Fault("SecondProblemLine")
-                graph = _problem(fields)
+                graph = _problem(fields, limit)
             elif fields[0] == b"e":
                 if graph is None:
                     raise _Fault("EdgeBeforeProblem")
@@ -131,13 +162,13 @@ def read_dimacs(content: bytes) -> Graph:
     return graph
 
 
-def _problem(fields: list[bytes]) -> Graph:
+def _problem(fields: list[bytes], limit: int) -> Graph:
     if len(fields) != 4:
         raise _Fault("FieldCount")
     if fields[1] not in (b"edge", b"col"):
         raise _Fault("UnknownLine")
     count, _ = _number(fields[2]), _number(fields[3])
-    if count >= NAMES:
+    if count >= limit:
         raise _Fault("TooManyVertices")
     return {v: set() for v in range(1, count + 1)}
 

@@ -119,7 +119,7 @@ def tree(graph: Any, vertices: Optional[Iterable[Hashable]] = None) -> Optional[
     Sage, or a list of pairs, and then `vertices` may name vertices without edges. Children stand by their least vertex.
 
     ValueError for a directed graph and a loop; MdtError where the program gives no answer, with the kind
-    TooManyVertices above 4,096 vertices."""
+    TooManyVertices above 16,384 vertices, in `orient` and `permutation_model` above 4,096."""
     return _answer("tree", graph, vertices).tree
 
 
@@ -217,6 +217,6 @@ def session(graph: Any, mode: str = "edit", vertices: Optional[Iterable[Hashable
 
     The modes: `edit` applies each edit that fits the graph and tells the tree after it; `cograph` refuses those that
     would leave the cographs, with a P4; `quiet` does so too, and tells the last tree alone. At most 200,000 edits;
-    names and numbers of vertices below 4,096 in all. ValueError for another mode and as in `tree`; MdtError at the end
+    names and numbers of vertices below 16,384 in all. ValueError for another mode and as in `tree`; MdtError at the end
     of the context, where the program gives no answer."""
     return Session(graph, mode, vertices)

@@ -25,8 +25,8 @@ OF_GRAPHS = ("tree", "compare", "permute")
 # How many vertices stand with each reason against an edit.
 REASONS = {"same": 0, "vertex": 1, "taken": 1, "edge-there": 0, "edge-absent": 0, "p4": 4}
 
-_NAME = re.compile(r"0|[1-9][0-9]{0,3}")
-_ARC = re.compile(r"(0|[1-9][0-9]{0,3})>(0|[1-9][0-9]{0,3})")
+_NAME = re.compile(r"0|[1-9][0-9]{0,4}")
+_ARC = re.compile(r"(0|[1-9][0-9]{0,4})>(0|[1-9][0-9]{0,4})")
 
 Source = Union[str, os.PathLike, Iterable[Union[str, bytes]]]
 

@@ -1,6 +1,6 @@
 """Trees of strong modules: nodes, their text, and the graph that a tree denotes.
 
-No function here calls itself, so a tree may be as deep as the program writes one: 4,095 levels.
+No function here calls itself, so a tree may be as deep as the program writes one: 16,383 levels.
 """
 from __future__ import annotations
 
@@ -10,7 +10,7 @@ from typing import Any, Callable, Hashable, Iterator, Optional
 KINDS = {"P": "parallel", "S": "series", "R": "prime"}
 LETTERS = {kind: letter for letter, kind in KINDS.items()}
 
-_NAME = r"(?:0|[1-9][0-9]{0,3})"
+_NAME = r"(?:0|[1-9][0-9]{0,4})"
 _TOKEN = re.compile(r"([PSR])\(|(%s)|([,)])|;((?:%s-%s,)*%s-%s)(?=\))" % ((_NAME,) * 5))
 
 

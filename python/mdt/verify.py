@@ -13,13 +13,13 @@ import re
 from itertools import combinations
 from typing import Callable, Iterator, Optional
 
-from .inputs import Edit, Graph
+from .inputs import NAMES, ORIENTED, Edit, Graph
 from .trees import Node, ReportError, parse_tree
 
 Arc = tuple[int, int]
 Judge = Callable[[str], bool]
 
-_NAME = re.compile(r"0|[1-9][0-9]{0,3}")
+_NAME = re.compile(r"0|[1-9][0-9]{0,4}")
 
 
 # Modules
@@ -309,6 +309,11 @@ LINES: dict[str, Callable[[Graph], Judge]] = {
     "permute": permute_line,
 }
 SESSIONS = ("edit", "cograph", "quiet")
+
+
+def limit_of(mode: str) -> int:
+    """How many vertices a graph of a report of this mode may have."""
+    return ORIENTED if mode in ("compare", "permute") else NAMES
 
 
 def report_lines(mode: str, graphs: list[Graph], script: list[Edit]) -> Iterator[Judge]:

@@ -151,12 +151,15 @@ class Answers(unittest.TestCase):
 
     def test_faults(self):
         with self.assertRaises(mdt.MdtError) as caught:
-            mdt.tree([], range(4097))
+            mdt.tree([], range(16_385))
         error = caught.exception
         self.assertEqual((error.status, error.file, error.kind, error.line), (3, "graph", "TooManyVertices", 1))
         with self.assertRaises(mdt.MdtError) as caught:
+            mdt.orient([], range(4097))
+        self.assertEqual(caught.exception.kind, "TooManyVertices")
+        with self.assertRaises(mdt.MdtError) as caught:
             with mdt.session([], "edit") as session:
-                session.add_vertex("last", range(4096))
+                session.add_vertex("last", range(16_384))
         self.assertEqual((caught.exception.file, caught.exception.kind), ("script", "NameTooLarge"))
         with self.assertRaises(mdt.MdtError) as caught:
             mdt.check("tree", "g6", "/no/such/file", "/no/such/file")

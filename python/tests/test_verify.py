@@ -11,7 +11,7 @@ from mdt import MdtError, Node, program
 from mdt.graphs import numbered
 from mdt.inputs import InputFault, read_graphs, read_script
 from mdt.reports import MODES
-from mdt.verify import SESSIONS, first_wrong_line, is_tree_of
+from mdt.verify import SESSIONS, first_wrong_line, is_tree_of, limit_of
 
 ALTERED = 12  # how many altered reports are tried of each report
 
@@ -170,22 +170,36 @@ class Definitions(unittest.TestCase):
             for tree in map(tree_of, [graph, *others]):
                 self.assertEqual(is_tree_of(graph, tree), str(tree) == right)
 
+    def test_sparse6(self):
+        path = read_graphs(b":Fa@x^\n")[0]
+        self.assertEqual(path, {0: {1, 2}, 1: {0, 2}, 2: {0, 1}, 3: set(), 4: set(), 5: {6}, 6: {5}})
+        edge, none = {0: {1}, 1: {0}}, {0: set(), 1: set()}
+        self.assertEqual(read_graphs(b">>sparse6<<:An\n:A\nA_\n"), [edge, none, edge])
+
+    def test_limits(self):
+        for content in (b"~@?@\n", b":~@?@\n", b"p edge 4096 0\n"):
+            with self.assertRaises(InputFault) as caught:
+                read_graphs(content, limit=limit_of("compare"))
+            self.assertEqual(caught.exception.kind, "TooManyVertices")
+        self.assertEqual(len(read_graphs(b":~@?@\n")[0]), 4097)
+
     def test_faulty_files(self):
         for content, kind, line in [
-            (b":Fa@x^\n", "OtherFormat", 1), (b"@\nB!\n", "BadByte", 2), (b"~?\n", "Truncated", 1),
-            (b"~??}\n", "BadSize", 1), (b"~@?@\n", "TooManyVertices", 1), (b"DhO\nDQ\n", "Truncated", 2),
+            (b";Fa@x^\n", "OtherFormat", 1), (b"@\nB!\n", "BadByte", 2), (b"~?\n", "Truncated", 1),
+            (b"~??}\n", "BadSize", 1), (b"~C?@\n", "TooManyVertices", 1), (b"DhO\nDQ\n", "Truncated", 2),
             (b"A__\n", "TrailingBytes", 1), (b"A`\n", "BadPadding", 1),
+            (b":\n", "Truncated", 1), (b"@\n:AN\n", "Loop", 2), (b":~C?@\n", "TooManyVertices", 1),
             (b"p edge 2 1\ne 1 3\n", "VertexOutOfRange", 2), (b"p edge 2 1\ne 2 2\n", "Loop", 2),
             (b"c x y\n", "NoProblemLine", 2), (b"p edge 1 0\np edge 1 0\n", "SecondProblemLine", 2),
             (b"e 1 2\n", "EdgeBeforeProblem", 1), (b"p edge x 0\n", "BadNumber", 1), (b"q x\n", "UnknownLine", 1),
-            (b"p edge 4096 0\n", "TooManyVertices", 1), (b"p edge 3\n", "FieldCount", 1),
+            (b"p edge 16384 0\n", "TooManyVertices", 1), (b"p edge 3\n", "FieldCount", 1),
         ]:
             with self.assertRaises(InputFault, msg=content) as caught:
                 read_graphs(content)
             self.assertEqual((caught.exception.kind, caught.exception.line), (kind, line), content)
         for content, kind, line in [
             (b"\n*e 0 1\n", "UnknownEdit", 2), (b"+e 0\n", "FieldCount", 1), (b"+v a\n", "BadNumber", 1),
-            (b"-v 4096\n", "NameTooLarge", 1),
+            (b"-v 16384\n", "NameTooLarge", 1),
         ]:
             with self.assertRaises(InputFault, msg=content) as caught:
                 read_script(content)

@@ -71,6 +71,7 @@ impl DueGraph {
         match self.room.graph() {
             GraphBySize::Small(graph) => reports(alloc, self.mode, graph, line),
             GraphBySize::Medium(graph) => reports(alloc, self.mode, graph, line),
+            GraphBySize::Broad(graph) => reports(alloc, self.mode, graph, line),
             GraphBySize::Large(graph) => reports(alloc, self.mode, graph, line),
         }
     }
@@ -83,6 +84,7 @@ impl DueGraph {
         match self.room.graph() {
             GraphBySize::Small(graph) => reports_by_text(alloc, self.mode, graph, text),
             GraphBySize::Medium(graph) => reports_by_text(alloc, self.mode, graph, text),
+            GraphBySize::Broad(graph) => reports_by_text(alloc, self.mode, graph, text),
             GraphBySize::Large(graph) => reports_by_text(alloc, self.mode, graph, text),
         }
     }

@@ -97,6 +97,7 @@ fn head_pairs<const W: usize>(
     heads: &Set<W>,
     places: &[u32],
 ) -> Result<Vec<Pair>, Memory>
+    requires inside { Within heads.now graph.now.vertices }
     requires room { (v : ℕ) → Has heads.now v → v < length places.now }
     requires rising { RisesOn heads.now places.now }
     ensures { IfOk result (λ edges.
@@ -137,7 +138,7 @@ fn push_near<const W: usize>(
     head: u32,
     edges: &mut Vec<Pair>,
 ) -> Result<(), Memory>
-    requires name { head < 64 * W }
+    requires vertex { Has graph.now.vertices head }
     requires own { head < length places.now }
     requires room { (v : ℕ) → Has later.now v → v < length places.now }
     ensures { IfOk result (λ _. edges.new.items ≡ edges.old.items
@@ -145,7 +146,7 @@ fn push_near<const W: usize>(
         (ascending (intersection (neighbours graph.now head) later.now))) }
 {
     let low = places[head as usize];
-    let near = graph.row(head).and(later);
+    let near = graph.neighbours(head).and(later);
     edges.reserve(near.count() as usize)?;
     for other in near.members() {
         edges.push_reserved(Pair {

@@ -1,42 +1,43 @@
 -- What a file spells: a file without fault spells one list of graphs, and a file that spells one has no fault.
-use Rattle.std.proofs.Common.{◌≡◌, ◌≢◌, ℕ, zero, suc, ◌+◌, ◌<◌, List, [], ◌∷◌, ◌++◌, length, map, get_or, Option, None, Some, refl, sym, ◌∙◌, arith}
+use Rattle.std.proofs.Common.{◌≡◌, ◌≢◌, inl, ℕ, zero, suc, ◌+◌, ◌<◌, ◌≤◌, List, [], ◌∷◌, ◌++◌, length, map, get_or, Option, None, Some, refl, sym, ◌∙◌, arith}
 use Rattle.std.specs.Prelude.{MatchOption}
 use Rattle.std.specs.List.{All}
 use Rattle.std.proofs.lemmas.List.{append-nil}
 use Rattle.std.proofs.lemmas.Bool.{ne_eqb}
+use Rattle.md_graph.specs.declared.TheConstants.{NAMES}
 use Rattle.md_graph.specs.PlainGraph.{PlainGraph, IsGraph}
 use Rattle.md_text.specs.Lines.{ended, LacksFeed, without_return}
 use Rattle.md_text.proofs.LineLemmas.{lines-ended, without_return-stays}
 use Rattle.md_text.specs.Spelling.{SpellsOnly, SpellsNone, first_fault_behind}
 use Rattle.md_graph6.specs.declared.fault.G6Fault.{G6Fault}
-use Rattle.md_graph6.specs.Line.{SpellsLine, line_fault, graph_of_line}
+use Rattle.md_graph6.specs.FileLine.{SpellsLine, line_fault, graph_of_line}
 use Rattle.md_graph6.specs.File.{without_header, file_lines, SpellEach, Spells, fault_after, HasNoFault, first_fault, graphs_of_lines, graphs_of}
 use Rattle.md_graph6.specs.Written.{renumbered, IsTextOf}
 use Rattle.md_graph6.specs.Laws.{SpellsItsGraphsOrNothing, SpelledAreItsGraphs, GraphsAreGraphs, AllSpell, EndedLinesSpell, EndedLineSpells, TextSpells}
-use Rattle.md_graph6.proofs.SizeLemmas.{is_group-range}
-use Rattle.md_graph6.proofs.SpellLemmas.{spells-some, spells-sound, spells-graph, spells-groups, sound-spells}
+use Rattle.md_graph6.proofs.FileLineLemmas.{spells-some, spells-sound, spells-graph, sound-spells, spells-is_graph, spells-bytes}
 use Rattle.md_graph6.proofs.ReadLemmas.{fault_or-none}
 
 -- lines that spell graphs have no fault, and are decoded to these graphs
-each_sound : (all : List (List ℕ)) (graphs : List PlainGraph) (before : ℕ) → SpellEach all graphs
-    → (fault_after before all ≡ None) × (graphs_of_lines all ≡ graphs)
+each_sound : (limit : ℕ) (all : List (List ℕ)) (graphs : List PlainGraph) (before : ℕ) → limit ≤ NAMES → SpellEach limit all graphs
+    → (fault_after limit before all ≡ None) × (graphs_of_lines all ≡ graphs)
 unfolding SpellEach first_fault_behind graphs_of_lines line_fault
-each_sound [] graphs before spells = (refl, sym spells)
-each_sound ([] ∷ more) graphs before spells = each_sound more graphs (before + 1) spells
-each_sound ((byte ∷ line) ∷ more) [] before spells = absurd spells
-each_sound ((byte ∷ line) ∷ more) (g ∷ graphs) before spells =
-    let rest = each_sound more graphs (before + 1) spells.1 in
-    let first : graph_of_line (byte ∷ line) ≡ g = spells-graph (byte ∷ line) g spells.0 in
-    (rw (spells-sound (byte ∷ line) g spells.0) rest.0, λ i. first i ∷ rest.1 i)
+each_sound limit [] graphs before most spells = (refl, sym spells)
+each_sound limit ([] ∷ more) graphs before most spells = each_sound limit more graphs (before + 1) most spells
+each_sound limit ((byte ∷ line) ∷ more) [] before most spells = absurd spells
+each_sound limit ((byte ∷ line) ∷ more) (g ∷ graphs) before most spells =
+    let rest = each_sound limit more graphs (before + 1) most spells.1 in
+    let first : graph_of_line (byte ∷ line) ≡ g = spells-graph (byte ∷ line) g most spells.0 in
+    (rw (spells-sound (byte ∷ line) g most spells.0) rest.0, λ i. first i ∷ rest.1 i)
 
 -- lines without fault spell the graphs that are decoded
-sound_each : (all : List (List ℕ)) (before : ℕ) → fault_after before all ≡ None → SpellEach all (graphs_of_lines all)
+sound_each : (limit : ℕ) (all : List (List ℕ)) (before : ℕ) → limit ≤ NAMES → fault_after limit before all ≡ None
+    → SpellEach limit all (graphs_of_lines all)
 unfolding SpellEach first_fault_behind graphs_of_lines line_fault
-sound_each [] before sound = refl
-sound_each ([] ∷ more) before sound = sound_each more (before + 1) sound
-sound_each ((byte ∷ line) ∷ more) before sound =
-    let parts = fault_or-none (line_fault (byte ∷ line)) (before + 1) (fault_after (before + 1) more) sound in
-    (sound-spells (byte ∷ line) (omega arith) parts.0, sound_each more (before + 1) parts.1)
+sound_each limit [] before most sound = refl
+sound_each limit ([] ∷ more) before most sound = sound_each limit more (before + 1) most sound
+sound_each limit ((byte ∷ line) ∷ more) before most sound =
+    let parts = fault_or-none (line_fault limit (byte ∷ line)) (before + 1) (fault_after limit (before + 1) more) sound in
+    (sound-spells (byte ∷ line) most (omega arith) parts.0, sound_each limit more (before + 1) most parts.1)
 
 -- by whether there is a fault
 by_fault : (fault : Option G6Fault) (P Q : Type 0) → (fault ≡ None → P) → ((f : G6Fault) → fault ≡ Some f → Q)
@@ -45,15 +46,16 @@ by_fault None P Q sound faulty = sound refl
 by_fault (Some f) P Q sound faulty = faulty f refl
 
 pub spelled_has_no_fault : SpelledAreItsGraphs
-spelled_has_no_fault = λ bytes graphs spells. each_sound (file_lines bytes) graphs 0 spells
+spelled_has_no_fault = λ limit bytes graphs most spells. each_sound limit (file_lines bytes) graphs 0 most spells
 
 pub spelled_or_faulty : SpellsItsGraphsOrNothing
-spelled_or_faulty = λ bytes. by_fault (first_fault bytes) (SpellsOnly Spells bytes (graphs_of bytes)) (SpellsNone Spells bytes)
+spelled_or_faulty = λ limit bytes most.
+    by_fault (first_fault limit bytes) (SpellsOnly (Spells limit) bytes (graphs_of bytes)) (SpellsNone (Spells limit) bytes)
     (λ sound. record {
-      spells = sound_each (file_lines bytes) 0 sound;
-      only = λ others spells. sym (spelled_has_no_fault bytes others spells).1;
+      spells = sound_each limit (file_lines bytes) 0 most sound;
+      only = λ others spells. sym (spelled_has_no_fault limit bytes others most spells).1;
     })
-    (λ f faulty graphs spells. no_fault (first_fault bytes) f (spelled_has_no_fault bytes graphs spells).0 faulty)
+    (λ f faulty graphs spells. no_fault (first_fault limit bytes) f (spelled_has_no_fault limit bytes graphs most spells).0 faulty)
   where
     no_fault : (fault : Option G6Fault) (f : G6Fault) → fault ≡ None → fault ≡ Some f → ⊥
     no_fault fault f none some = cc
@@ -65,38 +67,34 @@ all_graphs-cons g graphs is all zero d inside = is
 all_graphs-cons g graphs is all (suc k) d inside = all k d (omega arith)
 
 -- what lines spell are graphs
-each_graphs : (all : List (List ℕ)) (graphs : List PlainGraph) → SpellEach all graphs → All IsGraph graphs
+each_graphs : (limit : ℕ) (all : List (List ℕ)) (graphs : List PlainGraph) → limit ≤ NAMES → SpellEach limit all graphs → All IsGraph graphs
 unfolding SpellEach
-each_graphs [] [] spells = λ k d inside. absurd (omega arith)
-each_graphs [] (g ∷ graphs) spells = cc
-each_graphs ([] ∷ more) graphs spells = each_graphs more graphs spells
-each_graphs ((byte ∷ line) ∷ more) [] spells = absurd spells
-each_graphs ((byte ∷ line) ∷ more) (g ∷ graphs) spells =
-    all_graphs-cons g graphs spells.0.bits.graph (each_graphs more graphs spells.1)
+each_graphs limit [] [] most spells = λ k d inside. absurd (omega arith)
+each_graphs limit [] (g ∷ graphs) most spells = cc
+each_graphs limit ([] ∷ more) graphs most spells = each_graphs limit more graphs most spells
+each_graphs limit ((byte ∷ line) ∷ more) [] most spells = absurd spells
+each_graphs limit ((byte ∷ line) ∷ more) (g ∷ graphs) most spells =
+    all_graphs-cons g graphs (spells-is_graph {limit = limit} (byte ∷ line) g most spells.0) (each_graphs limit more graphs most spells.1)
 
 pub sound_graphs : (all : List (List ℕ)) → HasNoFault all → All IsGraph (graphs_of_lines all)
-sound_graphs all sound = each_graphs all (graphs_of_lines all) (sound_each all 0 sound)
+sound_graphs all sound = each_graphs NAMES all (graphs_of_lines all) (omega arith) (sound_each NAMES all 0 (omega arith) sound)
 
 pub graphs_are_graphs : GraphsAreGraphs
-graphs_are_graphs = λ bytes sound. sound_graphs (file_lines bytes) sound
+graphs_are_graphs = λ limit bytes most sound.
+    each_graphs limit (file_lines bytes) (graphs_of bytes) most (sound_each limit (file_lines bytes) 0 most sound)
 
 -- lines that are written spell their graphs
-all_spell-each : (all : List (List ℕ)) (graphs : List PlainGraph) → AllSpell all graphs → SpellEach all graphs
+all_spell-each : (all : List (List ℕ)) (graphs : List PlainGraph) → AllSpell all graphs → SpellEach NAMES all graphs
 unfolding SpellEach
 all_spell-each [] [] spells = refl
 all_spell-each [] (g ∷ graphs) spells = absurd spells
 all_spell-each (line ∷ more) [] spells = absurd spells
-all_spell-each ([] ∷ more) (g ∷ graphs) spells = absurd (omega (arith, spells-some [] g spells.0))
+all_spell-each ([] ∷ more) (g ∷ graphs) spells = absurd (omega (arith, spells-some {limit = NAMES} [] g (omega arith) spells.0))
 all_spell-each ((byte ∷ line) ∷ more) (g ∷ graphs) spells = (spells.0, all_spell-each more graphs spells.1)
 
--- a byte of six bits is none of a line's end
-group-other : (line : List ℕ) (g : PlainGraph) (other : ℕ) → other < 63 → SpellsLine line g → All (λ byte. byte ≢ other) line
-group-other line g other small spells = λ k d inside same.
-    let range = is_group-range (get_or line k d) (spells-groups line g spells k d inside) in omega (arith, range.0)
-
 -- a line that spells a graph keeps its end
-spelt-stays : (line : List ℕ) (g : PlainGraph) → SpellsLine line g → without_return line ≡ line
-spelt-stays line g spells = without_return-stays line (group-other line g 13 (omega arith) spells)
+spelt-stays : (line : List ℕ) (g : PlainGraph) → SpellsLine NAMES line g → without_return line ≡ line
+spelt-stays line g spells = without_return-stays line (spells-bytes line g 13 (omega arith) (λ same. absurd (omega arith)) spells)
 
 stays_each : (all : List (List ℕ)) (graphs : List PlainGraph) → AllSpell all graphs → map without_return all ≡ all
 stays_each [] [] spells = refl
@@ -112,7 +110,7 @@ lacks_each : (all : List (List ℕ)) (graphs : List PlainGraph) → AllSpell all
     → (k : ℕ) (d : List ℕ) → k < length all → LacksFeed (get_or all k d)
 lacks_each [] graphs spells k d inside = absurd (omega arith)
 lacks_each (line ∷ more) [] spells k d inside = absurd spells
-lacks_each (line ∷ more) (g ∷ graphs) spells zero d inside = group-other line g 10 (omega arith) spells.0
+lacks_each (line ∷ more) (g ∷ graphs) spells zero d inside = spells-bytes line g 10 (omega arith) (λ same. absurd (omega arith)) spells.0
 lacks_each (line ∷ more) (g ∷ graphs) spells (suc k) d inside =
     lacks_each more graphs spells.1 k d (omega arith)
 
@@ -125,26 +123,27 @@ no_header : (all : List (List ℕ)) (graphs : List PlainGraph) → AllSpell all 
 unfolding ended
 no_header [] graphs spells = refl
 no_header (line ∷ more) [] spells = absurd spells
-no_header ([] ∷ more) (g ∷ graphs) spells = absurd (omega (arith, spells-some [] g spells.0))
+no_header ([] ∷ more) (g ∷ graphs) spells = absurd (omega (arith, spells-some {limit = NAMES} [] g (omega arith) spells.0))
 no_header ((byte ∷ line) ∷ more) (g ∷ graphs) spells =
-    let other : 62 ≢ byte = λ same. group-other (byte ∷ line) g 62 (omega arith) spells.0 0 0 (omega arith) (sym same) in
+    let other : 62 ≢ byte = λ same. spells-bytes (byte ∷ line) g 62 (omega arith) (λ same. absurd (omega arith)) spells.0 0 0 (omega arith) (sym same) in
     other_first byte ((line ++ 10 ∷ []) ++ ended more) other
 
-ended_lines-each : (all : List (List ℕ)) (graphs : List PlainGraph) → AllSpell all graphs → Spells (ended all) graphs
+ended_lines-each : (all : List (List ℕ)) (graphs : List PlainGraph) → AllSpell all graphs → Spells NAMES (ended all) graphs
 ended_lines-each all graphs spells =
     rw (no_header all graphs spells, lines-ended all (lacks_each all graphs spells), stays_each all graphs spells)
     (all_spell-each all graphs spells)
 
 -- a file spells one list of graphs
-only_one : (bytes : List ℕ) (graphs : List PlainGraph) → Spells bytes graphs → SpellsOnly Spells bytes graphs
-only_one bytes graphs spells = record {
+only_one : (limit : ℕ) (bytes : List ℕ) (graphs : List PlainGraph) → limit ≤ NAMES → Spells limit bytes graphs
+    → SpellsOnly (Spells limit) bytes graphs
+only_one limit bytes graphs most spells = record {
   spells = spells;
   only = λ others spelt.
-      sym (spelled_has_no_fault bytes others spelt).1 ∙ (spelled_has_no_fault bytes graphs spells).1;
+      sym (spelled_has_no_fault limit bytes others most spelt).1 ∙ (spelled_has_no_fault limit bytes graphs most spells).1;
 }
 
 pub ended_lines_spell : EndedLinesSpell
-ended_lines_spell = λ all graphs spells. only_one (ended all) graphs (ended_lines-each all graphs spells)
+ended_lines_spell = λ all graphs spells. only_one NAMES (ended all) graphs (omega arith) (ended_lines-each all graphs spells)
 
 -- one line, ended
 ended-one : (line : List ℕ) → ended (line ∷ []) ≡ line ++ 10 ∷ []
@@ -155,8 +154,8 @@ pub ended_line_spells : EndedLineSpells
 ended_line_spells = λ line g spells. rw (← ended-one line) (ended_lines_spell (line ∷ []) (g ∷ []) (spells, tt))
 
 pub text_spells : TextSpells
-text_spells = λ text g is. rw (is.ended) (ended_line_spells is.line (renumbered g) is.spells)
+text_spells = λ text g is. rw (is.ended) (ended_line_spells is.line (renumbered g) (inl is.spells))
 
 -- what the text is as a file
-pub text_sound : {text : List ℕ} {g : PlainGraph} → IsTextOf text g → (first_fault text ≡ None) × (graphs_of text ≡ renumbered g ∷ [])
-text_sound {text} {g} is = spelled_has_no_fault text (renumbered g ∷ []) (text_spells text g is).spells
+pub text_sound : {text : List ℕ} {g : PlainGraph} → IsTextOf text g → (first_fault NAMES text ≡ None) × (graphs_of text ≡ renumbered g ∷ [])
+text_sound {text} {g} is = spelled_has_no_fault NAMES text (renumbered g ∷ []) (omega arith) (text_spells text g is).spells

@@ -1,5 +1,6 @@
 pub mod PaddingLemmas
 pub mod LineLemmas
+pub mod LimitLemmas
 pub mod ReadLemmas
 pub mod SizeLemmas
 pub mod DecodeLemmas
@@ -15,3 +16,7 @@ pub mod Listed
 pub mod SizeText
 pub mod WriteLemmas
 pub mod ByteLemmas
+mod NumberLemmas
+mod WalkLemmas
+mod SparseLemmas
+mod FileLineLemmas

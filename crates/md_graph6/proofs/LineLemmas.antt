@@ -1,45 +1,37 @@
--- The faults of one line, and what a line without fault is made of.
-use Rattle.std.proofs.Common.{◌≡◌, ℕ, ◌+◌, ◌<◌, ◌≤◌, Bool, true, false, not, List, [], ◌∷◌, length, get_or, drop, if◌then◌else◌, Option, None, Some, refl, sym, ◌∙◌, arith}
+-- The faults of one graph6 line, and what such a line without fault is made of.
+use Rattle.std.proofs.Common.{◌≡◌, ℕ, ◌+◌, ◌≤◌, Bool, true, false, not, List, length, get_or, drop, if◌then◌else◌, Option, None, Some, refl, sym, ◌∙◌, arith}
 use Rattle.std.specs.List.{list_all, AllPass}
 use Rattle.std.proofs.lemmas.List.Sums.{AllPass-from_list_all}
 use Rattle.std.proofs.lemmas.Bool.Decides.{nat_tests}
-use Rattle.md_graph.specs.declared.TheConstants.{NAMES}
 use Rattle.md_graph6.specs.declared.fault.G6Kind.{G6Kind}
 use Rattle.md_graph6.specs.declared.fault.G6Kind.TheVariants.{BadByte, OtherFormat}
 use Rattle.md_graph6.specs.Bits.{body_length}
 use Rattle.md_graph6.specs.Size.{size_of, is_too_long}
-use Rattle.md_graph6.specs.Line.{is_group, begins_other, line_fault, size_fault, body_fault, is_padding_set}
+use Rattle.md_graph6.specs.Line.{is_group, begins_other, graph6_fault, size_fault, body_fault, is_padding_set}
 
--- an empty line has no fault
-pub line_fault-empty : (line : List ℕ) → length line ≡ 0 → line_fault line ≡ None
-unfolding line_fault
-line_fault-empty [] none = refl
-line_fault-empty (byte ∷ rest) none = absurd (omega arith)
-
--- the faults of another line, by its first byte
-pub line_fault-some : (line : List ℕ) → 0 < length line
-    → line_fault line ≡ (if begins_other (get_or line 0 0) then Some OtherFormat else
-    if not (list_all is_group line) then Some BadByte else size_fault line (size_of line))
-unfolding line_fault
-line_fault-some [] some = absurd (omega arith)
-line_fault-some (byte ∷ rest) some = refl
+-- the faults of a graph6 line, by its first byte
+pub graph6_fault-is : (limit : ℕ) (line : List ℕ)
+    → graph6_fault limit line ≡ (if begins_other (get_or line 0 0) then Some OtherFormat else
+    if not (list_all is_group line) then Some BadByte else size_fault limit line (size_of line))
+unfolding graph6_fault
+graph6_fault-is limit line = refl
 
 -- a line of group bytes has the faults of its size
-pub line_fault-sized : (line : List ℕ) (size : Option (ℕ × ℕ)) → 0 < length line
+pub graph6_fault-sized : (limit : ℕ) (line : List ℕ) (size : Option (ℕ × ℕ))
     → begins_other (get_or line 0 0) ≡ false → list_all is_group line ≡ true → size_of line ≡ size
-    → line_fault line ≡ size_fault line size
-line_fault-sized line size some first groups sized = line_fault-some line some ∙ rw (first, groups, sized) refl
+    → graph6_fault limit line ≡ size_fault limit line size
+graph6_fault-sized limit line size first groups sized = graph6_fault-is limit line ∙ rw (first, groups, sized) refl
 
 -- what the faults of the body rule out
-pub record IsSoundBody (line : List ℕ) (taken n : ℕ) : Type 0 where
+pub record IsSoundBody (limit : ℕ) (line : List ℕ) (taken n : ℕ) : Type 0 where
   pub shortest : is_too_long taken n ≡ false
-  pub few : n ≤ NAMES
+  pub few : n ≤ limit
   pub long : length line ≡ taken + body_length n
   pub padding : is_padding_set (drop taken line) n ≡ false
 
-pub body_fault-none : (line : List ℕ) (taken n : ℕ) → body_fault line taken n ≡ None → IsSoundBody line taken n
+pub body_fault-none : {limit : ℕ} (line : List ℕ) (taken n : ℕ) → body_fault limit line taken n ≡ None → IsSoundBody limit line taken n
 unfolding body_fault
-body_fault-none line taken n e = record {
+body_fault-none {limit} line taken n e = record {
   shortest = grind (arith, nat_tests);
   few = grind (arith, nat_tests);
   long = grind (arith, nat_tests);
@@ -47,15 +39,15 @@ body_fault-none line taken n e = record {
 }
 
 -- a line without fault has a size, and a sound body
-pub record IsSoundLine (line : List ℕ) : Type 0 where
+pub record IsSoundLine (limit : ℕ) (line : List ℕ) : Type 0 where
   pub groups : AllPass is_group line
   pub taken : ℕ
   pub n : ℕ
   pub sized : size_of line ≡ Some (taken, n)
-  pub body : IsSoundBody line taken n
+  pub body : IsSoundBody limit line taken n
 
-size_fault-none : (line : List ℕ) (size : Option (ℕ × ℕ)) → AllPass is_group line → size_of line ≡ size
-    → size_fault line size ≡ None → IsSoundLine line
+size_fault-none : {limit : ℕ} (line : List ℕ) (size : Option (ℕ × ℕ)) → AllPass is_group line → size_of line ≡ size
+    → size_fault limit line size ≡ None → IsSoundLine limit line
 unfolding size_fault
 size_fault-none line None groups sized sound = cc
 size_fault-none line (Some size) groups sized sound = record {
@@ -73,14 +65,14 @@ first_faults-none line true groups later e = cc
 first_faults-none line false false later e = cc
 first_faults-none line false true later e = (refl, refl, e)
 
-pub line_fault-none : (line : List ℕ) → 0 < length line → line_fault line ≡ None → IsSoundLine line
-line_fault-none line some sound =
+pub graph6_fault-none : {limit : ℕ} (line : List ℕ) → graph6_fault limit line ≡ None → IsSoundLine limit line
+graph6_fault-none {limit} line sound =
     let parts = first_faults-none line (begins_other (get_or line 0 0)) (list_all is_group line)
-    (size_fault line (size_of line)) (sym (line_fault-some line some) ∙ sound) in
+    (size_fault limit line (size_of line)) (sym (graph6_fault-is limit line) ∙ sound) in
     size_fault-none line (size_of line) (AllPass-from_list_all is_group line parts.1) refl parts.2
 
 -- and a line of group bytes with a size and a sound body has no fault
-pub body_fault-sound : (line : List ℕ) (taken n : ℕ) → IsSoundBody line taken n → body_fault line taken n ≡ None
+pub body_fault-sound : {limit : ℕ} (line : List ℕ) (taken n : ℕ) → IsSoundBody limit line taken n → body_fault limit line taken n ≡ None
 unfolding body_fault
-body_fault-sound line taken n sound =
+body_fault-sound {limit} line taken n sound =
     grind (arith, nat_tests, sound.shortest, sound.few, sound.long, sound.padding)

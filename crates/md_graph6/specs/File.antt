@@ -1,21 +1,28 @@
--- A graph6 file: its lines, the graphs that it spells, and its first fault.
+-- A file of graph6 and sparse6 lines: its lines, the graphs that it spells, and its first fault.
 -- Source: B. McKay, "Description of graph6, sparse6 and digraph6 encodings"; the faults are this project's.
 use Rattle.std.specs.Prelude.{◌≡◌, ℕ, List, [], ◌∷◌, length, map, drop, if◌then◌else◌, nat_eq, Option, None, codes}
 use Rattle.std.specs.List.{starts_with}
+use Rattle.md_graph.specs.declared.TheConstants.{NAMES}
 use Rattle.md_graph.specs.PlainGraph.{PlainGraph}
 use Rattle.md_text.specs.Lines.{lines, without_return}
 use Rattle.md_text.specs.Spelling.{first_fault_behind}
 use Rattle.md_graph6.specs.declared.fault.G6Fault.{G6Fault}
 use Rattle.md_graph6.specs.declared.fault.G6Kind.{G6Kind}
-use Rattle.md_graph6.specs.Line.{SpellsLine, line_fault, graph_of_line}
+use Rattle.md_graph6.specs.FileLine.{SpellsLine, line_fault, graph_of_line}
 
 -- the bytes `>>graph6<<`, with which a file may begin
 abbrev pub header : List ℕ
 header = codes ">>graph6<<"
 
--- the file without the header
+-- the bytes `>>sparse6<<`, with which it may begin in place of these
+abbrev pub sparse_header : List ℕ
+sparse_header = codes ">>sparse6<<"
+
+-- the file without the header, which says nothing of the lines behind it
 abbrev pub without_header : List ℕ → List ℕ
-without_header bytes = if starts_with nat_eq bytes header then drop (length header) bytes else bytes
+without_header bytes =
+    if starts_with nat_eq bytes header then drop (length header) bytes else
+    if starts_with nat_eq bytes sparse_header then drop (length sparse_header) bytes else bytes
 
 -- the lines of a text, each without one byte 13 at its end; empty ones are among them
 abbrev pub stripped_lines : List ℕ → List (List ℕ)
@@ -26,31 +33,33 @@ abbrev pub file_lines : List ℕ → List (List ℕ)
 file_lines bytes = stripped_lines (without_header bytes)
 
 -- the lines that aren't empty spell the graphs, one each, in order
-unfoldable pub SpellEach : List (List ℕ) → List PlainGraph → Type 0
-SpellEach [] graphs = graphs ≡ []
-SpellEach ([] ∷ more) graphs = SpellEach more graphs
-SpellEach ((byte ∷ line) ∷ more) [] = ⊥
-SpellEach ((byte ∷ line) ∷ more) (g ∷ graphs) = SpellsLine (byte ∷ line) g × SpellEach more graphs
+unfoldable pub SpellEach : ℕ → List (List ℕ) → List PlainGraph → Type 0
+SpellEach limit [] graphs = graphs ≡ []
+SpellEach limit ([] ∷ more) graphs = SpellEach limit more graphs
+SpellEach limit ((byte ∷ line) ∷ more) [] = ⊥
+SpellEach limit ((byte ∷ line) ∷ more) (g ∷ graphs) = SpellsLine limit (byte ∷ line) g × SpellEach limit more graphs
 
--- the bytes of a file spell the graphs
-abbrev pub Spells : List ℕ → List PlainGraph → Type 0
-Spells bytes graphs = SpellEach (file_lines bytes) graphs
+-- the bytes of a file spell the graphs, under a limit of the number of vertices
+abbrev pub Spells : ℕ → List ℕ → List PlainGraph → Type 0
+Spells limit bytes graphs = SpellEach limit (file_lines bytes) graphs
 
 -- a kind as the fault of a line
 abbrev pub fault_at : G6Kind → ℕ → G6Fault
 fault_at kind line = record { kind = kind; line = line }
 
--- the first fault of lines behind `before` others
-abbrev pub fault_after : ℕ → List (List ℕ) → Option G6Fault
-fault_after = first_fault_behind {S = Unit {0}} fault_at (λ _ line. line_fault line) (λ seen _. seen) (λ _ _. None) tt
+-- the first fault of lines behind `before` others, under a limit of the number of vertices
+abbrev pub fault_after : ℕ → ℕ → List (List ℕ) → Option G6Fault
+fault_after limit =
+    first_fault_behind {S = Unit {0}} fault_at (λ _ line. line_fault limit line) (λ seen _. seen) (λ _ _. None) tt
 
--- the first fault of a file: that of its first faulty line, with the number of the line, counted from 1
-abbrev pub first_fault : List ℕ → Option G6Fault
-first_fault bytes = fault_after 0 (file_lines bytes)
+-- The first fault of a file under a limit of the number of vertices: that of its first faulty line, with the number of
+-- the line, counted from 1.
+abbrev pub first_fault : ℕ → List ℕ → Option G6Fault
+first_fault limit bytes = fault_after limit 0 (file_lines bytes)
 
--- no line has a fault
+-- no line has a fault under the greatest limit
 abbrev pub HasNoFault : List (List ℕ) → Type 0
-HasNoFault all = fault_after 0 all ≡ None
+HasNoFault all = fault_after NAMES 0 all ≡ None
 
 -- the graphs of lines without fault, one for each that isn't empty
 unfoldable pub graphs_of_lines : List (List ℕ) → List PlainGraph

@@ -2,12 +2,13 @@
 ghost use Rattle.std.specs.Prelude.{◌≡◌, ◌≢◌, ℕ, ◌*◌, ◌<◌, ◌≤◌, [], ◌∷◌, length, None, slice_index};
 ghost use Rattle.std.specs.Bool.{OnTrue, OnFalse};
 ghost use Rattle.md_graph.specs.PlainGraph.{empty_graph};
-ghost use Rattle.md_graph6.specs.Line.{line_fault, graph_of_line};
+ghost use Rattle.md_graph6.specs.FileLine.{line_fault, graph_of_line};
 ghost use Rattle.md_graph6.specs.File.{stripped_lines, graphs_in, HasNoFault, first_fault, graphs_of};
-ghost use Rattle.md_graph6.specs.First.{FirstBelow, IsFirstBound};
+ghost use Rattle.md_graph6.specs.First.{FirstBelow, IsFirstBound, BeginsWithSize};
 
 use crate::file::without_header;
-use crate::line::{LONG, eighteen, fill_line};
+use crate::file_line::{fill_line, from_size};
+use crate::line::{LONG, eighteen};
 use md_graph::{Graph, GraphOf, NAMES};
 use md_text::{split_line, without_return};
 use std::marker::Model;
@@ -34,9 +35,10 @@ impl<'a> Model for Lines<'a> {
 }
 
 impl<'a> Lines<'a> {
-    /// The graphs of a file. Condition: it has no fault, which `scan` tests.
+    /// The graphs of a file. Condition: it has no fault under some limit of the number of vertices,
+    /// which `scan` tests.
     pub fn new(bytes: &'a [u8]) -> Lines<'a>
-        requires { first_fault bytes.now ≡ None }
+        requires { (limit : ℕ) × (limit ≤ NAMES) × (first_fault limit bytes.now ≡ None) }
         ensures { result ≡ graphs_of bytes.now }
     {
         Lines {
@@ -111,6 +113,14 @@ fn leading_size(text: &[u8]) -> u32
     requires no_return { slice_index text.now 0 ≢ 13 }
     ensures { IsFirstBound result (graphs_in text.now) }
 {
+    spelt_size(from_size(text))
+}
+
+// The size that a text begins with, in its shortest spelling.
+fn spelt_size(text: &[u8]) -> u32
+    requires { (n : ℕ) × BeginsWithSize n text.now }
+    ensures { (n : ℕ) → BeginsWithSize n text.now → result ≡ n }
+{
     if text[0] != LONG {
         return u32::from(text[0] - 63);
     }
@@ -124,7 +134,7 @@ fn next_line(text: &[u8]) -> (&[u8], &[u8])
         graphs_in text.now ≡ graph_of_line result.0.now ∷ graphs_in result.1.now }
     ensures none { length result.0.now ≡ 0 → graphs_in text.now ≡ [] }
     ensures none_left { length result.0.now ≡ 0 → graphs_in result.1.now ≡ [] }
-    ensures sound { line_fault result.0.now ≡ None }
+    ensures sound { line_fault NAMES result.0.now ≡ None }
     ensures rest_sound { HasNoFault (stripped_lines result.1.now) }
 {
     let mut rest = text;

@@ -2,8 +2,10 @@
 ghost use Rattle.std.specs.Prelude.{◌≡◌};
 ghost use Rattle.md_graph.specs.PlainGraph.{empty_graph};
 
+mod sparse;
+
 use crate::{G6Fault, G6Kind, Lines, scan};
-use md_graph::{Graph, GraphOf};
+use md_graph::{Graph, GraphOf, NAMES};
 use std::process::Abort;
 use std::test::Fail;
 
@@ -29,7 +31,7 @@ fn spells(rt: &impl Abort, graph: &mut Graph, bytes: &[u8], graphs: &[Wanted])
     requires { graph.old ≡ empty_graph }
     ensures { graph.new ≡ empty_graph }
 {
-    let Ok(count) = scan(bytes) else {
+    let Ok(count) = scan(bytes, NAMES) else {
         panic!(rt; "a fault");
     };
     assert_eq!(rt; count as usize, graphs.len());
@@ -42,7 +44,7 @@ fn spells(rt: &impl Abort, graph: &mut Graph, bytes: &[u8], graphs: &[Wanted])
 
 // The file has this first fault.
 fn refuses(rt: &impl Abort, bytes: &[u8], kind: G6Kind, line: u64) {
-    assert_eq!(rt; scan(bytes), Err(G6Fault { kind, line }));
+    assert_eq!(rt; scan(bytes, NAMES), Err(G6Fault { kind, line }));
 }
 
 #[test]
@@ -74,7 +76,7 @@ fn files_spell(rt: HostRuntime) -> Result<(), Fail> {
 #[test]
 fn empty_lines_are_passed_over(rt: HostRuntime) -> Result<(), Fail> {
     let bytes = b"\r\n\nA_\n\r";
-    let Ok(_) = scan(bytes) else {
+    let Ok(_) = scan(bytes, NAMES) else {
         panic!(&rt; "a fault");
     };
     let mut graph: GraphOf<1> = GraphOf::new(rt.alloc())?;
@@ -105,16 +107,28 @@ fn long_sizes_are_read(rt: HostRuntime) -> Result<(), Fail> {
     Ok(())
 }
 
+// As many vertices as the limit aren't too many, one more is.
+#[test]
+fn limits(rt: HostRuntime) {
+    let many = G6Fault {
+        kind: G6Kind::TooManyVertices,
+        line: 2,
+    };
+    assert_eq!(&rt; scan(b"@\nA_\n", 2), Ok(2));
+    assert_eq!(&rt; scan(b"@\nA_\n", 1), Err(many));
+    assert_eq!(&rt; scan(b"@\n~@?@\n", 4_096), Err(many));
+}
+
 #[test]
 fn faults_are_named(rt: HostRuntime) {
     refuses(&rt, b"A`\n", G6Kind::BadPadding, 1);
     refuses(&rt, b"DhO\nDQ\n", G6Kind::Truncated, 2);
     refuses(&rt, b"~??}\n", G6Kind::BadSize, 1);
-    refuses(&rt, b"~@?@\n", G6Kind::TooManyVertices, 1);
+    refuses(&rt, b"~@?@\n", G6Kind::Truncated, 1);
+    refuses(&rt, b"~C?@\n", G6Kind::TooManyVertices, 1);
     refuses(&rt, b"~?\n", G6Kind::Truncated, 1);
     refuses(&rt, b"A__\n", G6Kind::TrailingBytes, 1);
     refuses(&rt, b"@\nB!\n", G6Kind::BadByte, 2);
-    refuses(&rt, b":Fa@x^\n", G6Kind::OtherFormat, 1);
     refuses(&rt, b";Fa@x^\n", G6Kind::OtherFormat, 1);
     refuses(&rt, b"&DI?AO?\n", G6Kind::OtherFormat, 1);
     refuses(&rt, b"~~??????\n", G6Kind::BadSize, 1);

@@ -428,8 +428,8 @@ pub fn write<const W: usize>(alloc: Global, graph: &GraphOf<W>) -> Result<Vec<u8
     ensures bytes { IfOk result (λ text. text.items ≡ graph6_text graph.now) }
     ensures text { IfOk result (λ text. IsTextOf text.items graph.now) }
     ensures spells { IfOk result (λ text.
-        SpellsOnly Spells text.items (renumbered graph.now ∷ [])) }
-    ensures no_fault { IfOk result (λ text. first_fault text.items ≡ None) }
+        SpellsOnly (Spells NAMES) text.items (renumbered graph.now ∷ [])) }
+    ensures no_fault { IfOk result (λ text. first_fault NAMES text.items ≡ None) }
     ensures graphs { IfOk result (λ text. graphs_of text.items ≡ renumbered graph.now ∷ []) }
 {
     let (n, least) = shape(graph);

@@ -9,7 +9,7 @@ ghost use Rattle.md_input.specs.Faults.{graph_fault, IsStopAt};
 ghost use Rattle.md_input.specs.Rooms.{IsGraphBySize, graph_or_empty};
 
 use crate::fault::InputStop;
-use md_dimacs::{DimacsFault, DimacsKind, read_within};
+use md_dimacs::{DimacsFault, DimacsKind};
 use md_graph::{Graph, GraphOf, Memory, NAMES, WORDS};
 use md_graph6::Lines;
 use std::alloc::Global;
@@ -20,11 +20,15 @@ const SMALL: u32 = 64;
 
 const MEDIUM: u32 = 1_024;
 
-/// A graph by the number of words in its rows: one, sixteen, or as many as there may be.
+/// How many names fit into rows of sixty-four words.
+pub const BROAD: u32 = 4_096;
+
+/// A graph by the number of words in its rows: 1, 16, 64, or as many as there may be.
 #[derive(Clone, Copy)]
 pub enum GraphBySize<'a> {
     Small(&'a GraphOf<1>),
     Medium(&'a GraphOf<16>),
+    Broad(&'a GraphOf<64>),
     Large(&'a Graph),
 }
 
@@ -33,6 +37,7 @@ pub enum GraphBySize<'a> {
 enum Width {
     One,
     Sixteen,
+    SixtyFour,
     Most,
 }
 
@@ -44,6 +49,7 @@ pub struct Room {
     width: Width,
     small: GraphOf<1>,
     medium: Option<GraphOf<16>>,
+    broad: Option<GraphOf<64>>,
     large: Option<Graph>,
 }
 
@@ -55,9 +61,9 @@ impl Model for Room {
 
     ghost coded = { graph_code };
 
-    ghost view = { λ r. graph_in r.width r.small r.medium r.large };
+    ghost view = { λ r. graph_in r.width r.small r.medium r.broad r.large };
 
-    ghost invariant = { λ r. IsOneIn r.width r.small r.medium r.large };
+    ghost invariant = { λ r. IsOneIn r.width r.small r.medium r.broad r.large };
 }
 
 impl Room {
@@ -69,35 +75,45 @@ impl Room {
             width: Width::One,
             small: GraphOf::new(alloc)?,
             medium: None,
+            broad: None,
             large: None,
         })
     }
 
-    // Room with the graph of a DIMACS file in it; or its first fault; or want of memory.
-    pub(crate) fn of_edges(alloc: Global, file: &[u8]) -> Result<Room, InputStop>
-        ensures spells { IfOk result (Spells file.now) }
-        ensures faultless { IfOk result (λ _. first_fault file.now ≡ None) }
-        ensures stops { IfErr result (IsStopAt (graph_fault Dimacs file.now)) }
+    // Room with the graph of a DIMACS file in it, whose names are below the limit; or its first
+    // fault; or want of memory. Condition: the limit is at most the number of names.
+    pub(crate) fn of_edges(alloc: Global, limit: u32, file: &[u8]) -> Result<Room, InputStop>
+        requires { limit ≤ NAMES }
+        ensures spells { IfOk result (Spells NAMES file.now) }
+        ensures faultless { IfOk result (λ _. first_fault limit file.now ≡ None) }
+        ensures stops { IfErr result (IsStopAt (graph_fault limit Dimacs file.now)) }
     {
         let mut small = GraphOf::new(alloc)?;
-        let is_small = is_read(file, SMALL, &mut small)?;
+        let is_small = is_read(file, SMALL, limit, &mut small)?;
         let mut room = Room {
             width: Width::One,
             small,
             medium: None,
+            broad: None,
             large: None,
         };
         if is_small {
             return Ok(room);
         }
         let mut medium = GraphOf::new(alloc)?;
-        if is_read(file, MEDIUM, &mut medium)? {
+        if is_read(file, MEDIUM, limit, &mut medium)? {
             room.width = Width::Sixteen;
             room.medium = Some(medium);
             return Ok(room);
         }
+        let mut broad = GraphOf::new(alloc)?;
+        if is_read(file, BROAD, limit, &mut broad)? {
+            room.width = Width::SixtyFour;
+            room.broad = Some(broad);
+            return Ok(room);
+        }
         let mut large = Graph::new(alloc)?;
-        md_dimacs::read(file, &mut large)?;
+        md_dimacs::read(file, limit, &mut large)?;
         room.width = Width::Most;
         room.large = Some(large);
         Ok(room)
@@ -112,6 +128,11 @@ impl Room {
             Width::Sixteen => {
                 if let Some(medium) = &self.medium {
                     return GraphBySize::Medium(medium);
+                }
+            }
+            Width::SixtyFour => {
+                if let Some(broad) = &self.broad {
+                    return GraphBySize::Broad(broad);
                 }
             }
             Width::Most => {
@@ -129,16 +150,9 @@ impl Room {
     {
         match self.width {
             Width::One => self.small.clear(),
-            Width::Sixteen => {
-                if let Some(medium) = &mut self.medium {
-                    medium.clear();
-                }
-            }
-            Width::Most => {
-                if let Some(large) = &mut self.large {
-                    large.clear();
-                }
-            }
+            Width::Sixteen => clear_rows(&mut self.medium),
+            Width::SixtyFour => clear_rows(&mut self.broad),
+            Width::Most => clear_rows(&mut self.large),
         }
     }
 
@@ -163,15 +177,30 @@ impl Room {
             self.width = Width::Sixteen;
             return fill_rows(alloc, &mut self.medium, lines);
         }
+        if bound <= BROAD {
+            self.width = Width::SixtyFour;
+            return fill_rows(alloc, &mut self.broad, lines);
+        }
         self.width = Width::Most;
         fill_rows(alloc, &mut self.large, lines)
     }
 }
 
-// The next graph of the lines comes into the rows, which are taken if they aren't there; false where
-// none is left, and the rows stay without vertices. Conditions: the rows have no vertices, and room
-// for the next graph. Errors: want of memory; nothing changes then. Never inlined, so that small
-// graphs don't pay for its room.
+// All vertices and edges go. Never inlined, so that small graphs don't pay for it.
+#[inline(never)]
+fn clear_rows<const W: usize>(rows: &mut Option<GraphOf<W>>)
+    requires limit { W ≤ WORDS }
+    ensures { graph_or_empty rows.new ≡ empty_graph }
+{
+    if let Some(graph) = rows {
+        graph.clear();
+    }
+}
+
+// The next graph of the lines comes into the rows, which are taken if they aren't there; false
+// where none is left, and the rows stay without vertices. Conditions: the rows have no vertices,
+// and room for the next graph. Errors: want of memory; nothing changes then. Never inlined, so that
+// small graphs don't pay for its room.
 #[inline(never)]
 fn fill_rows<const W: usize>(
     alloc: Global,
@@ -198,26 +227,28 @@ fn fill_rows<const W: usize>(
     Ok(found)
 }
 
-// Reads the graph of a DIMACS file with fewer vertices than the limit, and answers true; false where
-// it has as many or more, and the graph then stays without vertices. Conditions: the graph has no
-// vertices, and room for names below the limit. Errors: the first fault of the file.
-fn is_read<const W: usize>(
+// Reads the graph of a DIMACS file whose names are below the limit if they are below `most` too,
+// and answers true; false where the limit is greater and they aren't, and the graph then stays without
+// vertices. Conditions: the graph has no vertices, and room for names below `most`. Errors: the
+// first fault of the file under the limit.
+pub(crate) fn is_read<const W: usize>(
     file: &[u8],
+    most: u32,
     limit: u32,
     graph: &mut GraphOf<W>,
 ) -> Result<bool, DimacsFault>
     requires empty { graph.old ≡ empty_graph }
     requires few { limit ≤ NAMES }
-    requires room { limit ≤ 64 * W }
-    ensures spells { IfOk result (λ read. OnTrue read (Spells file.now graph.new)) }
-    ensures faultless { IfOk result (λ read. OnTrue read (first_fault file.now ≡ None)) }
+    requires room { most ≤ 64 * W }
+    ensures spells { IfOk result (λ read. OnTrue read (Spells NAMES file.now graph.new)) }
+    ensures faultless { IfOk result (λ read. OnTrue read (first_fault limit file.now ≡ None)) }
     ensures stays { IfOk result (λ read. OnFalse read (graph.new ≡ empty_graph)) }
-    ensures fault { IfErr result (λ fault. first_fault file.now ≡ Some fault) }
+    ensures fault { IfErr result (λ fault. first_fault limit file.now ≡ Some fault) }
 {
-    match read_within(file, limit, graph) {
+    match md_dimacs::read(file, most.min(limit), graph) {
         Ok(()) => Ok(true),
         Err(fault) => {
-            if fault.kind == DimacsKind::TooManyVertices {
+            if fault.kind == DimacsKind::TooManyVertices && most < limit {
                 return Ok(false);
             }
             Err(fault)

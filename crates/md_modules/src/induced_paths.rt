@@ -208,6 +208,7 @@ fn path_by_part<const W: usize>(
     value: bool,
 ) -> Option<P4>
     requires graph { IsGraph graph.now }
+    requires inside { Within part.now graph.now.vertices }
     requires some { HasSome part.now }
     requires whole { (a : NameSet) → IsSplit (adjacent graph.now) part.now a value → ⊥ }
     requires alike { (z : ℕ) → Has part.now z → adjacent graph.now x z ≡ value }

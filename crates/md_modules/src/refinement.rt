@@ -77,7 +77,7 @@ pub fn cut_classes<const W: usize>(
     // most two such looks a class. So k classes in a set of m names cost about 4km passes at most.
     while at < classes.len() && classes.len() < most {
         if let Some(p) = splitter(graph, &classes[at], &mut left) {
-            split(alloc, &mut classes, at, graph.row(p), &mut left, &mut other)?;
+            split(alloc, &mut classes, at, graph.neighbours(p), &mut left, &mut other)?;
         } else {
             at = next_several(&classes, at + 1);
             begin(set, &classes, at, &mut left);
@@ -153,12 +153,12 @@ fn splitter<const W: usize>(
     requires some { HasSome class.now }
     requires apart { Disjoint class.now left.old }
     requires part { Within left.old graph.now.vertices }
+    requires inside { Within class.now graph.now.vertices }
     ensures found { IfSome result (IsSplitter (adjacent graph.now) left.new class.now) }
     ensures none { IfNone result ((p : ℕ)
         → IsSplitter (adjacent graph.now) left.old class.now p → ⊥) }
     ensures less { Within left.new left.old }
     ensures kept { (p : ℕ) → IsSplitter (adjacent graph.now) left.old class.now p → Has left.new p }
-    ensures name { IfSome result (λ p. p < 64 * W) }
 {
     let _vertices = graph.vertices();
     if class.is_name() {
@@ -180,6 +180,7 @@ pub(crate) fn splitter_of_few<const W: usize>(
 ) -> Option<u32>
     requires some { HasSome class.now }
     requires apart { Disjoint class.now left.now }
+    requires inside { Within class.now graph.now.vertices }
     ensures found { IfSome result (IsSplitter (adjacent graph.now) left.now class.now) }
     ensures none { IfNone result ((p : ℕ)
         → IsSplitter (adjacent graph.now) left.now class.now p → ⊥) }
@@ -189,8 +190,9 @@ pub(crate) fn splitter_of_few<const W: usize>(
     let Some(first) = class.first_from(0) else {
         unreachable!();
     };
+    let row = graph.neighbours(first);
     for x in class.members_from(first + 1) {
-        if let Some(p) = left.first_in_symmetric_difference(graph.row(first), graph.row(x)) {
+        if let Some(p) = left.first_in_symmetric_difference(row, graph.neighbours(x)) {
             return Some(p);
         }
     }
@@ -210,7 +212,6 @@ fn splitter_of_many<const W: usize>(
         → IsSplitter (adjacent graph.now) left.old class.now p → ⊥) }
     ensures less { Within left.new left.old }
     ensures kept { (p : ℕ) → IsSplitter (adjacent graph.now) left.old class.now p → Has left.new p }
-    ensures name { IfSome result (λ p. p < 64 * W) }
 {
     while let Some(p) = left.first_from(0) {
         if is_splitter(graph, p, class, left) {

@@ -3,6 +3,7 @@
 use Rattle.std.specs.Prelude.{ℕ, List, ◌∷◌, [], ◌++◌, codes, Option, Some, None, find}
 use Rattle.std.specs.Str.{bytes_eq}
 use Rattle.std.specs.List.{flat_map}
+use Rattle.md_graph.specs.declared.TheConstants.{NAMES}
 use Rattle.md_text.specs.Numbers.{decimal}
 use Rattle.md_forcing.specs.declared.arc.Arc.{Arc}
 use Rattle.md_modules.specs.declared.induced_paths.P4.{P4}
@@ -11,6 +12,7 @@ use Rattle.md_tree.specs.Plain.{plain_option}
 use Rattle.md_tree.specs.TreeTexts.{text_of}
 use Rattle.md_script.specs.declared.edit.EditReason.{EditReason}
 use Rattle.md_script.specs.declared.edit.EditReason.TheVariants.{Same, NoVertex, NameTaken, EdgeThere, EdgeAbsent}
+use Rattle.md_report.specs.declared.line.TheConstants.{ORIENTED}
 use Rattle.md_report.specs.declared.line.GraphMode.{GraphMode}
 use Rattle.md_report.specs.declared.line.GraphMode.TheVariants as graph_modes
 use Rattle.md_report.specs.declared.line.SessionMode.{SessionMode}
@@ -64,6 +66,13 @@ mode_of graph_modes.Tree = modes.Tree
 mode_of graph_modes.Compare = modes.Compare
 mode_of graph_modes.Shortest = modes.Compare
 mode_of graph_modes.Permute = modes.Permute
+
+-- the limit of names of the graphs of a report
+abbrev pub limit_of_mode : GraphMode → ℕ
+limit_of_mode graph_modes.Tree = NAMES
+limit_of_mode graph_modes.Compare = ORIENTED
+limit_of_mode graph_modes.Shortest = ORIENTED
+limit_of_mode graph_modes.Permute = ORIENTED
 
 -- what a report of a session is about
 abbrev pub session_mode_of : SessionMode → Mode

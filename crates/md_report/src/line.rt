@@ -1,9 +1,13 @@
 //! The modes and the lines of reports.
 use crate::Order;
 use md_forcing::{Arcs, Chain};
+use md_graph::NAMES;
 use md_modules::P4;
 use md_script::EditReason;
 use md_tree::Tree;
+
+/// How many names a graph may have at most of which orientations are reported.
+pub const ORIENTED: u32 = 4_096;
 
 /// What a report is about.
 #[derive(Clone, Copy, Debug, PartialEq, Eq)]
@@ -65,8 +69,8 @@ pub enum GraphMode {
 }
 
 impl GraphMode {
-    ghost use Rattle.std.specs.Prelude.{◌≡◌};
-    ghost use Rattle.md_report.specs.Lines.{mode_of};
+    ghost use Rattle.std.specs.Prelude.{◌≡◌, ◌≤◌};
+    ghost use Rattle.md_report.specs.Lines.{mode_of, limit_of_mode};
 
     /// What the whole report is about.
     pub fn mode(self) -> Mode
@@ -76,6 +80,18 @@ impl GraphMode {
             GraphMode::Tree => Mode::Tree,
             GraphMode::Compare | GraphMode::Shortest => Mode::Compare,
             GraphMode::Permute => Mode::Permute,
+        }
+    }
+
+    /// The limit of names of the graphs that are reported so: trees are of all names, orientations
+    /// and orders of fewer.
+    pub fn limit(self) -> u32
+        ensures value { result ≡ limit_of_mode self }
+        ensures few { result ≤ NAMES }
+    {
+        match self {
+            GraphMode::Tree => NAMES,
+            GraphMode::Compare | GraphMode::Shortest | GraphMode::Permute => ORIENTED,
         }
     }
 }

@@ -6,3 +6,4 @@ pub mod FileLemmas
 pub mod BackLemmas
 pub mod HistoryLemmas
 pub mod GroupLemmas
+mod BoundLemmas

@@ -9,7 +9,7 @@ ghost use Rattle.md_top.specs.Command.{CommandEnds};
 
 use crate::put::put_piece;
 use crate::stop::{PutStop, Stop, Verdict};
-use md_graph::{GraphOf, Memory};
+use md_graph::{GraphOf, Memory, NAMES};
 use md_input::{Format, GraphBySize, Graphs, Room};
 use md_io::Sink;
 use std::alloc::Global;
@@ -27,7 +27,7 @@ pub fn convert<O: Sink>(
         (sink_run O.Sink out.old out.new) }
     ensures faults_never_fall { O.faults out.old ≤ O.faults out.new }
 {
-    let graphs = Graphs::read(alloc, from, file)?;
+    let graphs = Graphs::read(alloc, NAMES, from, file)?;
     put_texts(alloc, to, graphs, out)?;
     Ok(Verdict::Done)
 }
@@ -59,6 +59,7 @@ fn put_text<O: Sink>(alloc: Global, to: Format, room: &Room, out: &mut O) -> Res
     let text = match room.graph() {
         GraphBySize::Small(graph) => text_of(alloc, to, graph)?,
         GraphBySize::Medium(graph) => text_of(alloc, to, graph)?,
+        GraphBySize::Broad(graph) => text_of(alloc, to, graph)?,
         GraphBySize::Large(graph) => text_of(alloc, to, graph)?,
     };
     put_piece(out, &text)

@@ -17,7 +17,7 @@ push_near-requires g c =
       (
         search rules,
         (
-          c.members-head-items.ensures.below _ own,
+          c.requires.inside _ own,
           (
             c.requires.room c.in-Some.head own,
             λ v h. c.requires.room v ((later_behind c.args.heads.now c.args.places.now c.loop-head.head-iterator c.loop-head.edges.items c.loop-head.invariant.listing c.loop-head.later c.remove.new.self c.in-Some.head _ c.in-Some.ensures.steps c.loop-head.invariant.is c.remove.ensures.changed v).0 h).0,

@@ -1,4 +1,5 @@
-use Rattle.std.proofs.Common.{◌<◌, length, sym, subst, arith, rules}
+use Rattle.md_graph.specs.Sets.{Has}
+use Rattle.std.proofs.Common.{◌<◌, ℕ, length, sym, subst, arith, rules}
 use Rattle.md_decompose.proofs.Heads.{heads_rise}
 use Rattle.md_decompose.proofs.HeadPairs.{child_within, child_some, pairs_listed}
 use Rattle.md_decompose.proofs.quotient.pairs_by_places.Goals as goal
@@ -20,15 +21,19 @@ heads_of-heads-requires g c = (
 
 pub head_pairs-requires : goal.head_pairs-requires
 head_pairs-requires g c =
-    let heads = c.heads_of-heads.ensures.heads in (
+    let heads = c.heads_of-heads.ensures.heads in
+    let within : (v : ℕ) → Has c.heads_of-heads.result v → Has c.args.set.now v = λ v h.
+    child_within c.vertices-vertices.ensures.graph c.args.set.now c.args.sets.now c.requires.prime c.requires.children _ v (heads.below v h) (heads.least v h).member
+    in (
       search rules,
       (
         search rules,
         (
-          λ v h.
-              let within = child_within c.vertices-vertices.ensures.graph c.args.set.now c.args.sets.now c.requires.prime c.requires.children _ v (heads.below v h) (heads.least v h).member in
-              subst (λ z. v < z) (sym c.heads_of-heads.ensures.size) (c.requires.room v within),
-          heads_rise c.args.sets.now c.requires.children.order (length c.args.sets.now) c.heads_of-heads.result c.heads_of-heads.new.places (omega arith) heads,
+          λ v h. c.requires.inside v (within v h),
+          (
+            λ v h. subst (λ z. v < z) (sym c.heads_of-heads.ensures.size) (c.requires.room v (within v h)),
+            heads_rise c.args.sets.now c.requires.children.order (length c.args.sets.now) c.heads_of-heads.result c.heads_of-heads.new.places (omega arith) heads,
+          ),
         ),
       ),
     )

@@ -13,7 +13,7 @@ pub loop-other-init : goal.loop-other-init
 loop-other-init g c =
     let later = c.args.later.now in
     let row = neighbours c.args.graph.now c.args.head in
-    let near : c.and-near.result ≡ intersection row later = c.and-near.ensures.value ∙ ap (λ s. intersection s later) c.row.ensures.set in
+    let near : c.and-near.result ≡ intersection row later = c.and-near.ensures.value ∙ ap (λ s. intersection s later) c.neighbours.ensures.set in
     let listed : c.into_iter-other-iterator.result ≡ ascending c.and-near.result = c.into_iter-other-iterator.ensures.into_iter_gives ∙ c.members-other-items.ensures.list in
     let same : c.into_iter-other-iterator.result ≡ ascending (intersection row later) = listed ∙ ap ascending near in
     record {

@@ -1,7 +1,7 @@
 use Rattle.std.proofs.Common.{◌≡◌, length, sym, ◌∙◌, arith}
 use Rattle.std.proofs.lemmas.Grind.{common_steps}
 use Rattle.md_text.specs.Lines.{without_return}
-use Rattle.md_graph6.proofs.LineLemmas.{line_fault-empty}
+use Rattle.md_graph6.proofs.FileLineLemmas.{line_fault-empty}
 use Rattle.md_graph6.proofs.ReadLemmas.{HasNoFault-cut, graphs-cut_skip, graphs-cut_more, graphs_of_lines-end}
 use Rattle.md_graph6.proofs.reader.next_line.Goals as goal
 
@@ -35,4 +35,4 @@ returns-clause-none_left c = λ none. graphs_of_lines-end _ none
 pub returns-clause-sound : goal.returns-clause-sound
 returns-clause-sound c =
     let end : length c.loop-rest.rest.now ≡ 0 = grind (arith, common_steps) in
-    line_fault-empty _ end
+    line_fault-empty _ _ end

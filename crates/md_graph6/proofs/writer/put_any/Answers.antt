@@ -1,4 +1,4 @@
-use Rattle.std.proofs.Common.{◌+◌, ◌*◌, length, arith, ◌∙◌, ap, subst, sym, rules}
+use Rattle.std.proofs.Common.{◌+◌, length, arith, ◌∙◌, ap, subst, sym, rules}
 use Rattle.std.specs.FinSet as set
 use Rattle.md_graph.specs.declared.TheConstants.{NAMES}
 use Rattle.md_graph.specs.NameSet.{ascending}

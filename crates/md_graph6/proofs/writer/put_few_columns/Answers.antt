@@ -1,4 +1,4 @@
-use Rattle.std.proofs.Common.{◌≡◌, ◌+◌, ◌*◌, ◌∙◌, ap, subst, refl, arith, rules}
+use Rattle.std.proofs.Common.{◌≡◌, ◌+◌, ◌∙◌, ap, subst, refl, arith, rules}
 use Rattle.std.specs.FinSet as set
 use Rattle.md_graph.proofs.Limits.{NAMES-lt, words_few}
 use Rattle.md_graph6.proofs.WriteLemmas.{consecutive_column, consecutive_name, consecutive_vertex}

@@ -3,7 +3,7 @@ use Rattle.md_modules.proofs.PathSearch.{if_none_map, no_telling, none_tells, si
 use Rattle.md_modules.proofs.induced_paths.path_by_part.Goals as goal
 
 pub splitter_of_few-requires : goal.splitter_of_few-requires
-splitter_of_few-requires g c = (search rules, (search rules, (search rules, sides_apart c.requires.graph c.args.x c.args.value c.args.part.now c.args.others.now c.requires.alike c.requires.across)))
+splitter_of_few-requires g c = (search rules, (search rules, (search rules, (sides_apart c.requires.graph c.args.x c.args.value c.args.part.now c.args.others.now c.requires.alike c.requires.across, c.requires.inside))))
 
 pub returns-in-Some-clause-none : goal.returns-in-Some-clause-none
 returns-in-Some-clause-none g c =

@@ -15,10 +15,13 @@ path_by_part-requires g c = (
     (
       search rules,
       (
-        search rules,
+        λ w h. c.requires.inside w (c.part_of.ensures.closed.inside w h),
         (
-          part_whole c.requires.graph c.args.names.now c.part_of.new.into c.args.value c.in-Some.y c.part_of.ensures,
-          (search rules, search rules),
+          search rules,
+          (
+            part_whole c.requires.graph c.args.names.now c.part_of.new.into c.args.value c.in-Some.y c.part_of.ensures,
+            (search rules, search rules),
+          ),
         ),
       ),
     ),

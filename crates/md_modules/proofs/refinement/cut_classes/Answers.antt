@@ -4,7 +4,7 @@ use Rattle.std.specs.FinSet.{contains, empty, difference, intersection}
 use Rattle.md_graph.specs.PlainGraph.{adjacent}
 use Rattle.md_graph.proofs.GraphLemmas.{contains-neighbours}
 use Rattle.md_graph.proofs.Search.{decide_test}
-use Rattle.md_graph.specs.Sets.{NameSet, Within, Disjoint, HasSome, only_name}
+use Rattle.md_graph.specs.Sets.{NameSet, Has, Within, Disjoint, HasSome, only_name}
 use Rattle.md_modules.specs.Classes.{class_at}
 use Rattle.md_modules.specs.Classes.{HoldsSplitters}
 use Rattle.md_modules.proofs.ClassLists.{IsCutAt, work_passes, work_skips, work_falls, cut_at, finer_cut}
@@ -37,7 +37,10 @@ splitter-requires g c =
             subst HasSome (sym class) (c.loop-at.invariant.cutting.holds.partition.are_apart.some c.loop-at.at known),
             (
               subst (λ (t : NameSet). Disjoint t c.loop-at.left) (sym class) (c.loop-at.invariant.left known).outside,
-              λ p h. c.requires.inside p ((c.loop-at.invariant.left known).inside p h),
+              (
+                λ p h. c.requires.inside p ((c.loop-at.invariant.left known).inside p h),
+                λ x h. c.requires.inside x (c.requires.part x (c.loop-at.invariant.cutting.holds.partition.inside c.loop-at.at x (subst (λ (t : NameSet). Has t x) class h))),
+              ),
             ),
           ),
         ),
@@ -48,7 +51,7 @@ splitter-requires g c =
 known_cut : (g : Over) (c : In_ok-split g) →
     let e = adjacent c.args.graph.now in
     let class = class_at c.loop-at.classes.items c.loop-at.at in
-    (c.loop-at.at < length c.loop-at.classes.items) × HoldsSplitters e c.args.set.now class c.splitter.new.left × IsCutBy e c.args.set.now class c.row.result.now c.in-Some.p
+    (c.loop-at.at < length c.loop-at.classes.items) × HoldsSplitters e c.args.set.now class c.splitter.new.left × IsCutBy e c.args.set.now class c.neighbours.result.now c.in-Some.p
 known_cut g c =
     let cs = c.loop-at.classes.items in
     let known : c.loop-at.at < length cs = omega (arith, c.loop-at.classes.ok.0) in
@@ -58,8 +61,16 @@ known_cut g c =
     in (
       known,
       told.0,
-      cut_by_row c.args.set.now (class_at cs c.loop-at.at) c.row.result.now c.in-Some.p
-          (λ y. ap (λ s. contains s y) c.row.ensures.set ∙ contains-neighbours c.row.ensures.graph c.in-Some.p y) told.1,
+      cut_by_row c.args.set.now (class_at cs c.loop-at.at) c.neighbours.result.now c.in-Some.p
+          (λ y. ap (λ s. contains s y) c.neighbours.ensures.set ∙ contains-neighbours c.neighbours.ensures.graph c.in-Some.p y) told.1,
+    )
+
+pub neighbours-requires : goal.neighbours-requires
+neighbours-requires g c =
+    let known : c.loop-at.at < length c.loop-at.classes.items = omega (arith, c.loop-at.classes.ok.0) in
+    let left = (c.loop-at.invariant.left known).inside in (
+      search rules,
+      (search rules, c.requires.inside c.in-Some.p (left c.in-Some.p (c.in-Some.ensures.less c.in-Some.p c.in-Some.ensures.found.inside))),
     )
 
 pub loop-at-smaller-in-Continue-1 : goal.loop-at-smaller-in-Continue-1
@@ -68,8 +79,8 @@ loop-at-smaller-in-Continue-1 g c =
     let part : NameSet = c.in_ok-split.ensures.parts.0 in
     let (known, left, cut_by) = known_cut g (goal.at.loop-at-smaller-in-Continue-1 g c).In_ok-split in
     work_falls cs c.split.new.classes.items c.loop-at.at part known
-    (sees_some c.args.set.now c.row.result.now part cs c.loop-at.at c.in-Some.p cut_by c.in_ok-split.ensures.parts.1)
-    (misses_some c.args.set.now c.row.result.now part cs c.loop-at.at c.in-Some.p cut_by c.in_ok-split.ensures.parts.1) c.in_ok-split.ensures.parts.2
+    (sees_some c.args.set.now c.neighbours.result.now part cs c.loop-at.at c.in-Some.p cut_by c.in_ok-split.ensures.parts.1)
+    (misses_some c.args.set.now c.neighbours.result.now part cs c.loop-at.at c.in-Some.p cut_by c.in_ok-split.ensures.parts.1) c.in_ok-split.ensures.parts.2
 
 pub loop-at-preserved-in-Continue-1 : goal.loop-at-preserved-in-Continue-1
 loop-at-preserved-in-Continue-1 g c =
@@ -82,7 +93,7 @@ loop-at-preserved-in-Continue-1 g c =
     in
     let inside : Within (class_at cs c.loop-at.at) c.args.set.now = λ x h. c.requires.part x (c.loop-at.invariant.cutting.holds.partition.inside c.loop-at.at x h) in
     record {
-      cutting = cutting_cuts c.args.set.now c.row.result.now part cs c.loop-at.at c.in-Some.p cut_by c.in_ok-split.ensures.parts.1 c.args.rest.now c.split.new.classes.items cut known
+      cutting = cutting_cuts c.args.set.now c.neighbours.result.now part cs c.loop-at.at c.in-Some.p cut_by c.in_ok-split.ensures.parts.1 c.args.rest.now c.split.new.classes.items cut known
           c.loop-at.invariant.cutting;
       finer = finer_cut c.args.classes.items cs c.split.new.classes.items c.loop-at.at part cut c.loop-at.invariant.finer;
       empty = c.split.ensures.empty;
