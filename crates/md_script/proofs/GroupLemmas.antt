@@ -4,7 +4,7 @@ use Rattle.std.proofs.lemmas.List.{take_all, length-append}
 use Rattle.md_graph.specs.PlainGraph.{PlainGraph}
 use Rattle.md_script.specs.declared.edit.Edit.{Edit}
 use Rattle.md_script.specs.Edit.{HasNamesBelow, reason_of, after}
-use Rattle.md_script.specs.Pasts.{inverse_of, all_after, taken_back, inverses_of, Applies, MayBack, HasApplied, TakesBack}
+use Rattle.md_script.specs.Pasts.{inverse_of, all_after, taken_back, inverses_of, Applies, MayBack, AnyGraph, HasApplied, TakesBack}
 
 -- ---- lists
 
@@ -169,3 +169,7 @@ module _ (limit : ℕ) (Kept : PlainGraph → Type 0) where
             (subst (λ (k : PlainGraph). MayBack limit Kept k edits) (sym home) so.may);
         leads = taken_back-push h edits back ∙ ap (λ (k : PlainGraph). taken_back k edits) home ∙ so.leads;
       }
+
+-- one edit that was applied can be taken back
+pub one_may_back : {limit : ℕ} (g h : PlainGraph) (edit back : Edit) → TakesBack limit g edit back → h ≡ after g edit → MayBack limit AnyGraph h (back ∷ [])
+one_may_back g h edit back takes next = (tt, (ap (λ (k : PlainGraph). reason_of k back) next ∙ takes.no_reason, (takes.names, tt)))
