@@ -1,13 +1,12 @@
 -- The line of a group, past those of its edits that are applied.
-use Rattle.std.proofs.Common.{◌≡◌, ℕ, ◌+◌, ◌≤◌, List, [], ◌∷◌, ◌++◌, length, take, drop, slice_get, zero, suc, Option, Some, None, ◌↔◌, refl, sym, ◌∙◌, ap, subst, inl, inr, arith}
-use Rattle.std.proofs.lemmas.List.{take-append-drop, length-take-le, take_all, drop_all}
+use Rattle.std.proofs.Common.{◌≡◌, ℕ, ◌+◌, List, [], ◌∷◌, ◌++◌, length, take, drop, slice_get, zero, suc, Option, Some, None, ◌↔◌, sym, ◌∙◌, ap, subst, inl, inr, arith}
+use Rattle.std.proofs.lemmas.List.{take-append-drop, length-take-le, drop_all}
 use Rattle.md_graph.specs.PlainGraph.{PlainGraph}
 use Rattle.md_modules.specs.declared.induced_paths.P4.{P4}
 use Rattle.md_script.specs.declared.edit.Edit as script
 use Rattle.md_script.specs.declared.edit.EditReason.{EditReason}
 use Rattle.md_script.specs.Edit.{reason_of, after}
 use Rattle.md_script.specs.Pasts.{all_after, Applies, HasApplied}
-use Rattle.md_script.proofs.GroupLemmas.{read_within}
 use Rattle.md_report.specs.declared.line.SessionMode.{SessionMode}
 use Rattle.md_report.specs.declared.line.SessionMode.TheVariants.{Edit, Cograph, Quiet}
 use Rattle.md_report.specs.Lines.{PlainLine, group_refused, group_refused_p4}
@@ -41,8 +40,7 @@ module _ (mode : SessionMode) (g h : PlainGraph) (edits back : List script.Edit)
   past_applied =
       let split : take n edits ++ drop n edits ≡ edits = take-append-drop n edits in
       let l = length-take-le n edits so.within in
-      let told = past_front mode 0 n g (take n edits) (drop n edits) line so.applies (omega arith) in
-      (
+      let told = past_front mode 0 n g (take n edits) (drop n edits) line so.applies (omega arith) in (
         λ is. subst (λ (k : PlainGraph). IsGroupLine mode n k (drop n edits) line) (sym so.graph_is) (told.0 (subst (λ l. IsGroupLine mode 0 g l line) (sym split) is)),
         λ is. subst (λ l. IsGroupLine mode 0 g l line) split (told.1 (subst (λ (k : PlainGraph). IsGroupLine mode n k (drop n edits) line) so.graph_is is)),
       )
@@ -50,8 +48,7 @@ module _ (mode : SessionMode) (g h : PlainGraph) (edits back : List script.Edit)
   -- all edits are applied
   pub whole_line : n ≡ length edits → IsGroupLine mode 0 g edits line ↔ IsDoneLine mode h line
   whole_line all =
-      let none : drop n edits ≡ [] = drop_all n edits (omega arith) in
-      (
+      let none : drop n edits ≡ [] = drop_all n edits (omega arith) in (
         λ is. subst (λ l. IsGroupLine mode n h l line) none (past_applied.0 is),
         λ is. past_applied.1 (subst (λ l. IsGroupLine mode n h l line) (sym none) is),
       )

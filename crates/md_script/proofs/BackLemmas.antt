@@ -72,7 +72,7 @@ no_edge_and_back g u v there =
     let same = insert_old_pair g.edges (min u v) (max u v) there in λ i. record { vertices = g.vertices; edges = same i }
 
 -- what isn't a vertex has no neighbours
-apart : {g : PlainGraph} → IsGraph g → (x u v : ℕ) → set.contains g.vertices x ≡ false → ((u == x) || (v == x)) ≡ true → adjacent g u v ≡ false
+pub apart : {g : PlainGraph} → IsGraph g → (x u v : ℕ) → set.contains g.vertices x ≡ false → ((u == x) || (v == x)) ≡ true → adjacent g u v ≡ false
 apart {g} is x u v absent either =
     false_from_ne_true _ (λ there.
     let ends = adjacent_ends is u v there in

@@ -10,7 +10,7 @@ use Rattle.md_graph.proofs.SetLemmas.{of_insert, of_remove}
 use Rattle.md_script.specs.declared.edit.Edit.{Edit}
 use Rattle.md_script.specs.declared.edit.Edit.TheVariants.{AddEdge, DelEdge, AddVertex, DelVertex}
 use Rattle.md_script.specs.Edit.{HasNamesBelow, reason_of, after}
-use Rattle.md_script.specs.Pasts.{inverse_of, all_after, taken_back, inverses_of, Applies, MayBack, AnyGraph, HasApplied, TakesBack}
+use Rattle.md_script.specs.Pasts.{inverse_of, all_after, taken_back, inverses_of, Applies, MayBack, HasApplied, TakesBack}
 use Rattle.md_script.proofs.ChangeLemmas.{names_within, after_is_graph}
 use Rattle.md_script.proofs.BackLemmas.{inverse_back}
 
@@ -41,7 +41,7 @@ smaller_last items new behind left e was is =
 
 -- ---- one edit more
 
-all_after-push : (g : PlainGraph) (edits : List Edit) (e : Edit) → all_after g (edits ++ e ∷ []) ≡ after (all_after g edits) e
+pub all_after-push : (g : PlainGraph) (edits : List Edit) (e : Edit) → all_after g (edits ++ e ∷ []) ≡ after (all_after g edits) e
 all_after-push g [] e = refl
 all_after-push g (x ∷ edits) e = all_after-push (after g x) edits e
 
@@ -49,7 +49,7 @@ inverses_of-push : (g : PlainGraph) (edits : List Edit) (e : Edit) → inverses_
 inverses_of-push g [] e = refl
 inverses_of-push g (x ∷ edits) e = ap (λ l. inverse_of g x ∷ l) (inverses_of-push (after g x) edits e)
 
-taken_back-push : (g : PlainGraph) (edits : List Edit) (e : Edit) → taken_back g (edits ++ e ∷ []) ≡ taken_back (after g e) edits
+pub taken_back-push : (g : PlainGraph) (edits : List Edit) (e : Edit) → taken_back g (edits ++ e ∷ []) ≡ taken_back (after g e) edits
 taken_back-push g [] e = refl
 taken_back-push g (x ∷ edits) e = ap (λ (k : PlainGraph). after k x) (taken_back-push g edits e)
 
@@ -180,7 +180,7 @@ module _ (limit : ℕ) (Kept : PlainGraph → Type 0) where
 
 -- ---- what was applied can be taken back
 
-after_below : (limit : ℕ) (g : PlainGraph) (edit : Edit) → AllBelow g.vertices limit → HasNamesBelow limit edit → AllBelow (after g edit).vertices limit
+pub after_below : (limit : ℕ) (g : PlainGraph) (edit : Edit) → AllBelow g.vertices limit → HasNamesBelow limit edit → AllBelow (after g edit).vertices limit
 after_below limit g (AddEdge u v) below names = below
 after_below limit g (DelEdge u v) below names = below
 after_below limit g (AddVertex x list) below names = λ w has. elim (of_insert g.vertices x w has) [ inl same ↦ subst (λ y. y < limit) (sym same) names.0 | inr old ↦ below w old ]

@@ -1,3 +1,5 @@
 mod MadePaths
 mod Changed
 mod Stepping
+mod BackCosts
+mod Answering

@@ -9,9 +9,15 @@ ghost use Rattle.md_tree.specs.Plain.{plain_option};
 ghost use Rattle.md_cotree.specs.Cotrees.{Denotes};
 ghost use Rattle.md_script.specs.Edit.{HasNames, HasNamesBelow, reason_of, after};
 ghost use Rattle.md_report.specs.Cographs.{IsP4Of, IsCograph};
-ghost use Rattle.md_session.specs.Answers.{IsOpened, IsAnswered};
-ghost use Rattle.md_session.specs.Costs.{edit_cost};
+ghost use Rattle.md_script.specs.Histories.{Fits};
+ghost use Rattle.md_script.specs.Items.{HasItemNamesBelow};
+ghost use Rattle.md_report.specs.declared.line.SessionMode.TheVariants as modes;
+ghost use Rattle.md_report.specs.Items.{IsAllowed};
+ghost use Rattle.md_session.specs.Answers.{IsOpened, IsAnswered, answer_line};
+ghost use Rattle.md_session.specs.Costs.{edit_cost, item_cost};
+ghost use Rattle.md_session.specs.States.{room_for, ItemStep};
 
+use crate::cograph_items::{ItemAnswer, answer_group, answer_one, answer_undo};
 use crate::first_path::any_p4;
 use md_cotree::{Cotree, from_tree};
 use md_cotree_edit::{add_edge, add_vertex, del_edge, del_vertex};
@@ -19,7 +25,7 @@ use md_decompose::decompose;
 use md_graph::{GraphOf, Memory, Steps, WORDS};
 use md_modules::P4;
 use md_report::made_p4;
-use md_script::{Edit, EditReason, inverse, reason, take_back};
+use md_script::{Edit, EditReason, HistoryOf, Item, inverse, reason, take_back};
 use md_tree::{Tree, has_no_prime};
 use std::alloc::Global;
 use std::marker::Model;
@@ -31,6 +37,8 @@ use std::sync::ledger::Ledger;
 pub struct CographSessionOf<const W: usize> {
     graph: GraphOf<W>,
     tree: Cotree,
+    // Room for a list of neighbours.
+    near: Vec<u32>,
 }
 
 /// A session on a cograph.
@@ -47,8 +55,10 @@ impl<const W: usize> Model for CographSessionOf<W> {
 
     ghost use Rattle.md_report.specs.Cographs.{IsCograph};
     ghost use Rattle.md_cotree.specs.Cotrees.{Denotes};
+    ghost use Rattle.std.specs.Prelude.{◌*◌, ◌≤◌, vec_capacity};
 
-    ghost invariant = { λ s. IsCograph s.graph × Denotes s.tree s.graph };
+    ghost invariant = { λ s. IsCograph s.graph × Denotes s.tree s.graph
+        × (64 * W ≤ vec_capacity s.near) };
 }
 
 /// What comes of a graph that a session on cographs is to begin with.
@@ -85,7 +95,8 @@ impl<const W: usize> CographSessionOf<W> {
         let tree = decompose(alloc, &graph)?;
         if has_no_prime(&tree) {
             let tree = from_tree(alloc, &tree)?;
-            return Ok(OpenedOf::Session(CographSessionOf { graph, tree }));
+            let near = Vec::with_capacity(alloc, 64 * W)?;
+            return Ok(OpenedOf::Session(CographSessionOf { graph, tree, near }));
         }
         match any_p4(&graph, &tree) {
             Some(p) => Ok(OpenedOf::NotCograph(p)),
@@ -143,12 +154,41 @@ impl<const W: usize> CographSessionOf<W> {
         }
         Answer::RefusedP4(p4_behind(&mut self.graph, edit))
     }
+
+    /// Answers an item: an edit as `apply` does; the edits of a group one after the other, or none
+    /// where one is refused; an undo by taking the last item of the history back. The history is
+    /// that of this session: it gains the item, or loses the last one, and stays where the item is
+    /// refused. It takes no memory. Conditions: the names in the item are below `64 * W`, the
+    /// history has room for it, and fits.
+    pub fn apply_item<L: Ledger>(
+        &mut self,
+        item: &Item,
+        history: &mut HistoryOf<W>,
+        steps: &mut Steps<L>,
+    ) -> ItemAnswer
+        requires names { HasItemNamesBelow (64 * W) item.now }
+        requires room { room_for item.now ≤ history.old.spare }
+        requires fits { Fits (64 * W) (IsAllowed modes.Quiet) self.old history.old.items }
+        ensures step { ItemStep (64 * W) modes.Quiet self.old history.old.items item.now
+            (answer_line result) self.new history.new.items }
+        ensures bound { steps.new ≤ steps.old
+            + item_cost self.old history.old.items item.now result }
+    {
+        let (graph, tree) = (&mut self.graph, &mut self.tree);
+        match item {
+            Item::One(edit) => answer_one(graph, tree, edit, history, steps),
+            Item::Group(edits) => {
+                answer_group(graph, tree, &mut self.near, edits, history, steps)
+            }
+            Item::Undo => answer_undo(graph, tree, &mut self.near, history, steps),
+        }
+    }
 }
 
-// Changes the cotree of a graph as an edit changes the graph; whether that was done. Where it
-// wasn't, the graph after the edit has an induced P4, and the cotree stays. Condition: no reason
-// speaks against the edit, and its names are names.
-fn change<L: Ledger>(tree: &mut Cotree, edit: &Edit, steps: &mut Steps<L>) -> bool
+/// Changes the cotree of a graph as an edit changes the graph; whether that was done. Where it
+/// wasn't, the graph after the edit has an induced P4, and the cotree stays. Condition: no reason
+/// speaks against the edit, and its names are names.
+pub(crate) fn change<L: Ledger>(tree: &mut Cotree, edit: &Edit, steps: &mut Steps<L>) -> bool
     requires denotes { (g : PlainGraph) × Denotes tree.old g × (reason_of g edit.now ≡ None) }
     requires names { HasNames edit.now }
     ensures done { (g : PlainGraph) → Denotes tree.old g → reason_of g edit.now ≡ None →
@@ -172,10 +212,10 @@ fn change<L: Ledger>(tree: &mut Cotree, edit: &Edit, steps: &mut Steps<L>) -> bo
     }
 }
 
-// An induced P4 of the graph after an edit; the graph stays. Conditions: the graph is a cograph,
-// and the one after the edit isn't; no reason speaks against the edit, and its names are below
-// `64 * W`.
-fn p4_behind<const W: usize>(graph: &mut GraphOf<W>, edit: &Edit) -> P4
+/// An induced P4 of the graph after an edit; the graph stays. Conditions: the graph is a cograph,
+/// and the one after the edit isn't; no reason speaks against the edit, and its names are below
+/// `64 * W`.
+pub(crate) fn p4_behind<const W: usize>(graph: &mut GraphOf<W>, edit: &Edit) -> P4
     requires cograph { IsCograph graph.old }
     requires applies { reason_of graph.old edit.now ≡ None }
     requires names { HasNamesBelow (64 * W) edit.now }

@@ -2,11 +2,13 @@
 #![tactic(auto)]
 
 mod cograph;
+mod cograph_items;
 mod first_path;
 mod general;
 mod general_items;
 
 pub use cograph::{Answer, CographSession, CographSessionOf, Opened, OpenedOf};
+pub use cograph_items::ItemAnswer;
 pub use general::{GeneralSession, GeneralSessionOf};
 
 #[cfg(test)]

@@ -5,7 +5,7 @@ use super::*;
 use md_graph::{Graph, GraphOf, Memory, Steps};
 use md_modules::P4;
 use md_report::{Line, write_line};
-use md_script::{Edit, EditReason, History, Item, Script, read_script};
+use md_script::{Edit, EditReason, History, HistoryOf, Item, Script, read_script};
 use std::alloc::Global;
 use std::marker::Brand;
 use std::process::Abort;
@@ -115,6 +115,25 @@ fn answers<L: Ledger>(
     let edit = Edit::DelVertex { x: 1 };
     assert_eq!(rt; narrow.apply(&edit, &mut steps), Answer::Applied);
     assert_eq!(rt; narrow.vertex_count(), 2);
+    let graph = GraphOf::<1>::from_edges(alloc, 3, &[(0, 1)])?.expect(rt, "edges");
+    let OpenedOf::Session(mut undoing) = CographSessionOf::new(alloc, graph)? else {
+        panic!(rt; "no session with items");
+    };
+    let mut history = HistoryOf::<1>::new(alloc)?;
+    history.reserve(alloc, 2)?;
+    let item = Item::One(Edit::DelVertex { x: 1 });
+    assert_eq!(rt;
+        undoing.apply_item(&item, &mut history, &mut steps),
+        ItemAnswer::Applied
+    );
+    assert_eq!(rt; undoing.vertex_count(), 2);
+    assert_eq!(rt;
+        undoing.apply_item(&Item::Undo, &mut history, &mut steps),
+        ItemAnswer::Applied
+    );
+    assert_eq!(rt; undoing.vertex_count(), 3);
+    let nothing = undoing.apply_item(&Item::Undo, &mut history, &mut steps);
+    assert_eq!(rt; nothing, ItemAnswer::NothingToUndo);
     Ok(())
 }
 

@@ -20,7 +20,7 @@ invariant_of-self g c =
     let den : Denotes c.change.new.tree c.apply.new.graph =
     subst (Denotes c.change.new.tree) (sym c.apply.ensures)
     (c.change.ensures.done c.self.inside.graph c.self.invariant.1 (sym c.reason.ensures ∙ c.in_default.is) c.if-change.true) in
-    (cotree_no_path c.change.new.tree c.apply.new.graph den, den)
+    (cotree_no_path c.change.new.tree c.apply.new.graph den, den, c.self.invariant.2)
 
 pub returns-then-change-clause-answer : goal.returns-then-change-clause-answer
 returns-then-change-clause-answer g c =

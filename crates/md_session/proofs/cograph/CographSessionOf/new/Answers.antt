@@ -8,7 +8,7 @@ use Rattle.md_session.proofs.cograph.CographSessionOf.new.Goals as goal
 pub invariant_of-result : goal.invariant_of-result
 invariant_of-result g c =
     let den : Denotes c.in_ok-tree-2.tree c.args.graph = subst (Denotes c.in_ok-tree-2.tree) c.in_ok-tree.ensures.denotes c.in_ok-tree-2.ensures in
-    (cotree_no_path c.in_ok-tree-2.tree c.args.graph den, den)
+    (cotree_no_path c.in_ok-tree-2.tree c.args.graph den, den, c.in_ok-near.ensures.capacity)
 
 pub returns-then-has_no_prime : goal.returns-then-has_no_prime
 returns-then-has_no_prime g c =
