@@ -30,6 +30,9 @@ pub data PlainLine : Type 0 where
   applied_quiet : PlainLine
   refused : EditReason → PlainLine
   refused_p4 : P4 → PlainLine
+  group_refused : ℕ → EditReason → PlainLine
+  group_refused_p4 : ℕ → P4 → PlainLine
+  nothing_to_undo : PlainLine
   not_cograph : P4 → PlainLine
   oriented : List Arc → PlainLine
   forced : List Arc → PlainLine
@@ -46,6 +49,9 @@ plain_line (lines.Applied t) = applied (plain_option t)
 plain_line lines.AppliedQuiet = applied_quiet
 plain_line (lines.Refused reason) = refused reason
 plain_line (lines.RefusedP4 p) = refused_p4 p
+plain_line (lines.GroupRefused number reason) = group_refused number reason
+plain_line (lines.GroupRefusedP4 number p) = group_refused_p4 number p
+plain_line lines.NothingToUndo = nothing_to_undo
 plain_line (lines.NotCograph p) = not_cograph p
 plain_line (lines.Oriented arcs) = oriented arcs
 plain_line (lines.Forced chain) = forced chain
@@ -137,6 +143,9 @@ line_text (applied t) = codes "ok " ++ text_of t
 line_text applied_quiet = codes "ok"
 line_text (refused reason) = codes "no " ++ reason_words reason
 line_text (refused_p4 p) = codes "no p4" ++ p4_text p
+line_text (group_refused number reason) = codes "no edit " ++ (decimal number ++ (codes " " ++ reason_words reason))
+line_text (group_refused_p4 number p) = codes "no edit " ++ (decimal number ++ (codes " p4" ++ p4_text p))
+line_text nothing_to_undo = codes "no undo"
 line_text (not_cograph p) = codes "p4" ++ p4_text p
 line_text (oriented arcs) = codes "yes" ++ arcs_text arcs
 line_text (forced chain) = codes "no" ++ arcs_text chain

@@ -140,6 +140,14 @@ pub enum Line {
     Refused(EditReason),
     /// The edit was refused, since the graph after it has this induced P4, and the graph stays.
     RefusedP4(P4),
+    /// A group was refused, since there is this reason against its edit with this number, counted
+    /// from 1, and the graph stays.
+    GroupRefused(u64, EditReason),
+    /// A group was refused, since the graph after its edit with this number, counted from 1, has
+    /// this induced P4, and the graph stays.
+    GroupRefusedP4(u64, P4),
+    /// There is nothing to undo, and the graph stays.
+    NothingToUndo,
     /// The first graph of a session on cographs has this induced P4.
     NotCograph(P4),
     /// The graph has a transitive orientation: these arcs.

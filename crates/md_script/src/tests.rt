@@ -189,10 +189,10 @@ fn edits(rt: HostRuntime) -> Result<(), Fail> {
     let mut narrow = GraphOf::<1>::from_edges(rt.alloc(), 3, &[(0, 1)])?.expect(&rt, "edges");
     let edit = Edit::DelVertex { x: 1 };
     assert!(rt; reason(&narrow, &edit).is_none());
-    let row = lost_row(&narrow, &edit);
+    let past = inverse(&narrow, &edit);
     apply(&mut narrow, &edit);
     assert!(rt; narrow.count() == 2 && narrow.edge_count() == 0);
-    take_back(&mut narrow, &edit, &row);
+    take_back(&mut narrow, &past);
     assert!(rt; narrow.count() == 3 && narrow.has_edge(0, 1));
     Ok(())
 }

@@ -1,0 +1,6 @@
+pub mod Bars
+pub mod Inner
+pub mod Laws
+pub mod Following
+pub mod Finding
+pub mod Edges
