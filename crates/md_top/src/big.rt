@@ -39,7 +39,8 @@ pub struct Numbers {
     pub left_nodes: u64,
 }
 
-/// Puts the numbers of the session for a size, in one put. Condition: the size is at most `BIGGEST`.
+/// Puts the numbers of the session for a size, in one put. Condition: the size is at most
+/// `BIGGEST`.
 pub fn big<O: Sink>(alloc: Global, size: u32, out: &mut O) -> Result<Verdict, Stop>
     requires { size ≤ BIGGEST }
     ensures ends { CommandEnds (Request.Big size) result (sink_run O.Sink out.old out.new) }
@@ -186,7 +187,8 @@ fn answer(session: &mut CographSessionOf<64>, edit: &Edit) -> Answer
     apply_counting::<Brand>(session, edit, Blank::new(1))
 }
 
-// The answer to an edit; nobody reads the steps. Condition: the names in the edit are below `BIGGEST`.
+// The answer to an edit; nobody reads the steps. Condition: the names in the edit are below
+// `BIGGEST`.
 fn apply_counting<L: Ledger>(
     session: &mut CographSessionOf<64>,
     edit: &Edit,

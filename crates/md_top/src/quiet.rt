@@ -29,7 +29,7 @@ pub fn put_quiet<const W: usize, O: Sink, L: Ledger>(
     out: &mut O,
 ) -> Result<(), PutStop>
     requires names { All (HasNamesBelow (64 * W)) script.now }
-    ensures puts { PutsLines (at_state SessionMode.Quiet graph script.now) after_end result
+    ensures puts { PutsLines (at_state SessionMode.Quiet graph.entry script.now) after_end result
         (sink_run O.Sink out.old out.new) }
     ensures faults_never_fall { O.faults out.old ≤ O.faults out.new }
 {
@@ -42,8 +42,8 @@ pub fn put_quiet<const W: usize, O: Sink, L: Ledger>(
     }
 }
 
-// Puts the line of each edit, the tree of the last graph, and the last line. Condition: the names in
-// the script are below `64 * W`.
+// Puts the line of each edit, the tree of the last graph, and the last line. Condition: the names
+// in the script are below `64 * W`.
 fn put_quiet_answers<const W: usize, O: Sink, L: Ledger>(
     alloc: Global,
     mut session: CographSessionOf<W>,
@@ -52,7 +52,7 @@ fn put_quiet_answers<const W: usize, O: Sink, L: Ledger>(
     out: &mut O,
 ) -> Result<(), PutStop>
     requires names { All (HasNamesBelow (64 * W)) script.now }
-    ensures puts { PutsLines (at_edits SessionMode.Quiet session script.now) after_end result
+    ensures puts { PutsLines (at_edits SessionMode.Quiet session.entry script.now) after_end result
         (sink_run O.Sink out.old out.new) }
     ensures faults_never_fall { O.faults out.old ≤ O.faults out.new }
 {

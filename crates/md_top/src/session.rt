@@ -82,7 +82,7 @@ fn put_session<const W: usize, O: Sink, L: Ledger>(
     out: &mut O,
 ) -> Result<(), PutStop>
     requires names { All (HasNamesBelow (64 * W)) script.now }
-    ensures puts { PutsLines (before_session mode graph script.now) after_end result
+    ensures puts { PutsLines (before_session mode graph.entry script.now) after_end result
         (sink_run O.Sink out.old out.new) }
     ensures faults_never_fall { O.faults out.old ≤ O.faults out.new }
 {
@@ -94,8 +94,8 @@ fn put_session<const W: usize, O: Sink, L: Ledger>(
     }
 }
 
-// Puts the tree of the first graph, the line of each edit, and the last line. Condition: the names in
-// the script are below `64 * W`.
+// Puts the tree of the first graph, the line of each edit, and the last line. Condition: the names
+// in the script are below `64 * W`.
 fn put_states<const W: usize, O: Sink>(
     alloc: Global,
     graph: GraphOf<W>,
@@ -103,7 +103,7 @@ fn put_states<const W: usize, O: Sink>(
     out: &mut O,
 ) -> Result<(), PutStop>
     requires names { All (HasNamesBelow (64 * W)) script.now }
-    ensures puts { PutsLines (at_state SessionMode.Edit graph script.now) after_end result
+    ensures puts { PutsLines (at_state SessionMode.Edit graph.entry script.now) after_end result
         (sink_run O.Sink out.old out.new) }
     ensures faults_never_fall { O.faults out.old ≤ O.faults out.new }
 {
@@ -122,7 +122,7 @@ fn put_edits<const W: usize, O: Sink>(
     out: &mut O,
 ) -> Result<(), PutStop>
     requires names { All (HasNamesBelow (64 * W)) script.now }
-    ensures puts { PutsLines (at_edits SessionMode.Edit session script.now) after_end result
+    ensures puts { PutsLines (at_edits SessionMode.Edit session.entry script.now) after_end result
         (sink_run O.Sink out.old out.new) }
     ensures faults_never_fall { O.faults out.old ≤ O.faults out.new }
 {
@@ -143,7 +143,7 @@ fn put_cographs<const W: usize, O: Sink, L: Ledger>(
     out: &mut O,
 ) -> Result<(), PutStop>
     requires names { All (HasNamesBelow (64 * W)) script.now }
-    ensures puts { PutsLines (at_state SessionMode.Cograph graph script.now) after_end result
+    ensures puts { PutsLines (at_state SessionMode.Cograph graph.entry script.now) after_end result
         (sink_run O.Sink out.old out.new) }
     ensures faults_never_fall { O.faults out.old ≤ O.faults out.new }
 {
@@ -167,8 +167,8 @@ fn put_opened<const W: usize, O: Sink, L: Ledger>(
 ) -> Result<(), PutStop>
     requires cograph { IsCograph session }
     requires names { All (HasNamesBelow (64 * W)) script.now }
-    ensures puts { PutsLines (at_state SessionMode.Cograph session script.now) after_end result
-        (sink_run O.Sink out.old out.new) }
+    ensures puts { PutsLines (at_state SessionMode.Cograph session.entry script.now) after_end
+        result (sink_run O.Sink out.old out.new) }
     ensures faults_never_fall { O.faults out.old ≤ O.faults out.new }
 {
     let tree = session.tree(alloc)?;
@@ -186,8 +186,8 @@ fn put_answers<const W: usize, O: Sink, L: Ledger>(
     out: &mut O,
 ) -> Result<(), PutStop>
     requires names { All (HasNamesBelow (64 * W)) script.now }
-    ensures puts { PutsLines (at_edits SessionMode.Cograph session script.now) after_end result
-        (sink_run O.Sink out.old out.new) }
+    ensures puts { PutsLines (at_edits SessionMode.Cograph session.entry script.now) after_end
+        result (sink_run O.Sink out.old out.new) }
     ensures faults_never_fall { O.faults out.old ≤ O.faults out.new }
 {
     for i in 0..script.len() {

@@ -416,7 +416,7 @@ fn models(rt: HostRuntime) -> Result<(), Fail> {
 #[test]
 fn sessions_of_a_size(rt: HostRuntime) -> Result<(), Fail> {
     let alloc = rt.alloc();
-    let table: [(&str, &[u8], &str); 14] = [
+    let table: [(&str, &[u8], &str); 15] = [
         (
             "big 1",
             b"",
