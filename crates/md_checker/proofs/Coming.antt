@@ -33,7 +33,7 @@ use Rattle.md_report.specs.declared.line.GraphMode.{GraphMode}
 use Rattle.md_report.specs.declared.line.GraphMode.TheVariants.{Tree, Compare, Shortest, Permute}
 use Rattle.md_report.specs.declared.line.SessionMode.{SessionMode}
 use Rattle.md_report.specs.declared.line.SessionMode.TheVariants.{Edit, Cograph, Quiet}
-use Rattle.md_report.specs.Lines.{PlainLine, head, tree, applied, applied_quiet, refused, refused_p4, not_cograph, oriented, forced, orders, forced_in, forced_in_complement, end}
+use Rattle.md_report.specs.Lines.{PlainLine, head, tree, applied, applied_quiet, refused, refused_p4, group_refused, group_refused_p4, nothing_to_undo, not_cograph, oriented, forced, orders, forced_in, forced_in_complement, end}
 use Rattle.md_report.specs.WellFormedLines.{IsVertexName, IsNamedArc, IsNamedChain, IsNamedP4, IsNamedReason, IsWellFormedLine}
 use Rattle.md_report.specs.Orientations.{IsOrientationLine}
 use Rattle.md_report.specs.Models.{IsModelLine}
@@ -143,6 +143,9 @@ module _ (g : PlainGraph) (is : IsGraph g) where
   orientation_good applied_quiet may = absurd may
   orientation_good (refused reason) may = absurd may
   orientation_good (refused_p4 p) may = absurd may
+  orientation_good (group_refused number reason) may = absurd may
+  orientation_good (group_refused_p4 number p) may = absurd may
+  orientation_good nothing_to_undo may = absurd may
   orientation_good (not_cograph p) may = absurd may
   orientation_good (orders first second) may = absurd may
   orientation_good (forced_in chain) may = absurd may
@@ -159,6 +162,9 @@ module _ (g : PlainGraph) (is : IsGraph g) where
   model_good applied_quiet may = absurd may
   model_good (refused reason) may = absurd may
   model_good (refused_p4 p) may = absurd may
+  model_good (group_refused number reason) may = absurd may
+  model_good (group_refused_p4 number p) may = absurd may
+  model_good nothing_to_undo may = absurd may
   model_good (not_cograph p) may = absurd may
   model_good (oriented arcs) may = absurd may
   model_good (forced chain) may = absurd may

@@ -13,7 +13,7 @@ use Rattle.md_script.specs.declared.edit.EditReason.TheVariants.{Same, NoVertex,
 use Rattle.md_report.specs.declared.line.Mode.{Mode}
 use Rattle.md_report.specs.declared.line.Mode.TheVariants as modes
 use Rattle.md_report.specs.Cuts.{LacksByte}
-use Rattle.md_report.specs.Lines.{PlainLine, mode_word, reason_words, names_text, arc_text, arcs_text, line_text, fed_line, head, tree, applied, applied_quiet, refused, refused_p4, not_cograph, oriented, forced, orders, forced_in, forced_in_complement, end}
+use Rattle.md_report.specs.Lines.{PlainLine, mode_word, reason_words, names_text, arc_text, arcs_text, line_text, fed_line, head, tree, applied, applied_quiet, refused, refused_p4, group_refused, group_refused_p4, nothing_to_undo, not_cograph, oriented, forced, orders, forced_in, forced_in_complement, end}
 use Rattle.md_report.proofs.Cutting.{one_cut, lacks_when, lacks_append}
 use Rattle.md_report.proofs.Named.{lacks_number, lacks_arc}
 use Rattle.md_report.proofs.OneLine.{one_line_proof}
@@ -83,6 +83,14 @@ lacks_line (applied t) = lacks_append 10 (codes "ok ") (text_of t) (lacks_when 1
 lacks_line (refused r) = lacks_append 10 (codes "no ") (reason_words r) (lacks_when 10 (codes "no ") refl) (lacks_reason r)
 lacks_line (refused_p4 p) =
     lacks_append 10 (codes "no p4") (names_text (p.a ∷ p.b ∷ p.c ∷ p.d ∷ [])) (lacks_when 10 (codes "no p4") refl) (lacks_names (p.a ∷ p.b ∷ p.c ∷ p.d ∷ []))
+lacks_line (group_refused number r) =
+    lacks_append 10 (codes "no edit ") (decimal number ++ (codes " " ++ reason_words r)) (lacks_when 10 (codes "no edit ") refl)
+    (lacks_append 10 (decimal number) (codes " " ++ reason_words r) (no_feed number) ((λ same. omega arith), lacks_reason r))
+lacks_line (group_refused_p4 number p) =
+    lacks_append 10 (codes "no edit ") (decimal number ++ (codes " p4" ++ names_text (p.a ∷ p.b ∷ p.c ∷ p.d ∷ []))) (lacks_when 10 (codes "no edit ") refl)
+    (lacks_append 10 (decimal number) (codes " p4" ++ names_text (p.a ∷ p.b ∷ p.c ∷ p.d ∷ [])) (no_feed number)
+    (lacks_append 10 (codes " p4") (names_text (p.a ∷ p.b ∷ p.c ∷ p.d ∷ [])) (lacks_when 10 (codes " p4") refl) (lacks_names (p.a ∷ p.b ∷ p.c ∷ p.d ∷ []))))
+lacks_line nothing_to_undo = lacks_when 10 (codes "no undo") refl
 lacks_line (not_cograph p) =
     lacks_append 10 (codes "p4") (names_text (p.a ∷ p.b ∷ p.c ∷ p.d ∷ [])) (lacks_when 10 (codes "p4") refl) (lacks_names (p.a ∷ p.b ∷ p.c ∷ p.d ∷ []))
 lacks_line (oriented arcs) = lacks_append 10 (codes "yes") (arcs_text arcs) (lacks_when 10 (codes "yes") refl) (lacks_arcs arcs)

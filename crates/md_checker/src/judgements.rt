@@ -31,7 +31,7 @@ use md_graph::{Graph, GraphOf, Memory};
 use md_levels::is_shortest;
 use md_modules::{P4, is_p4};
 use md_report::{GraphMode, Line, SessionMode, made_p4};
-use md_script::{Edit, EditReason, apply, lost_row, reason, take_back};
+use md_script::{Edit, EditReason, apply, inverse, reason, take_back};
 use md_tree::{Tree, has_no_prime};
 use std::alloc::Global;
 
@@ -326,11 +326,11 @@ pub(crate) fn applies_by_text<const W: usize>(
     if let Some(_) = reason(graph, edit) {
         return Ok(false);
     }
-    let row = lost_row(graph, edit);
+    let past = inverse(graph, edit);
     apply(graph, edit);
     let fit = is_word_and_state(alloc, mode, graph, b"ok ", text);
     if !is_true(&fit) {
-        take_back(graph, edit, &row);
+        take_back(graph, &past);
     }
     fit
 }
@@ -364,11 +364,11 @@ fn is_applied<const W: usize>(
         ≡ (if fit then after graph.old edit.now else graph.old)) }
     ensures stays { IsErr result → graph.new ≡ graph.old }
 {
-    let row = lost_row(graph, edit);
+    let past = inverse(graph, edit);
     apply(graph, edit);
     let fit = is_state_tree(alloc, mode, graph, tree);
     if !is_true(&fit) {
-        take_back(graph, edit, &row);
+        take_back(graph, &past);
     }
     fit
 }
@@ -399,10 +399,10 @@ fn keeps_cograph<const W: usize>(graph: &mut GraphOf<W>, edit: &Edit) -> bool
     ensures may { IsTrue result ↔ IsCograph (after graph.old edit.now) }
     ensures next { graph.new ≡ (if result then after graph.old edit.now else graph.old) }
 {
-    let row = lost_row(graph, edit);
+    let past = inverse(graph, edit);
     apply(graph, edit);
     if let Some(_) = made_p4(graph, edit) {
-        take_back(graph, edit, &row);
+        take_back(graph, &past);
         return false;
     }
     true
@@ -431,10 +431,10 @@ fn is_refused_p4<const W: usize>(
     ensures is { IsTrue result ↔ IsRefusedPath mode (after graph.old edit.now) p.now }
     ensures stays { graph.new ≡ graph.old }
 {
-    let row = lost_row(graph, edit);
+    let past = inverse(graph, edit);
     apply(graph, edit);
     let is = is_path_of_state(mode, graph, p);
-    take_back(graph, edit, &row);
+    take_back(graph, &past);
     is
 }
 

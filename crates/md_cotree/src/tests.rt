@@ -75,7 +75,7 @@ fn trees_and_back(rt: HostRuntime) -> Result<(), Fail> {
         there_and_back(&rt, alloc, bytes.as_bytes())?;
     }
     there_and_back(&rt, alloc, &deep(alloc, 999)?)?;
-    there_and_back(&rt, alloc, &deep(alloc, NAMES - 1)?)?;
+    there_and_back(&rt, alloc, &deep(alloc, 4_095)?)?;
     Ok(())
 }
 

@@ -22,7 +22,7 @@ use Rattle.md_dimacs.specs.declared.line.LineClass.{LineClass}
 use Rattle.md_dimacs.specs.declared.line.LineClass.TheVariants.{Passed, Problem, Edge, Unknown}
 use Rattle.md_dimacs.specs.Line.{class_of_field, class_of, is_form, both, sizes_in, ends_in, sizes_by, ends_by, sizes_of, ends_of, sizes_fault, problem_fault, is_vertex, ends_fault, edge_fault, fault_by, fault_of_words, fault_of_line}
 use Rattle.md_dimacs.specs.File.{IsPassed, AreSizes, AreEdgeEnds, IsProblemLine, IsPassedOrEdge, are_ends, is_edge_line, Spells, seen_after, first_number, fault_behind, first_fault, fault_at}
-use Rattle.md_dimacs.specs.Laws.{LimitsAgree}
+use Rattle.md_dimacs.specs.Laws.{FilesAreSpelledOrFaulty, SpelledAreFaultless, LimitsAgree, SpelledUnderGreater}
 use Rattle.md_graph.specs.NameSet.{range}
 use Rattle.md_graph.proofs.Ranges.{contains-range}
 use Rattle.md_dimacs.specs.Read.{IsBeforeProblem, IsBehindProblem, HasVertices, edgeless, with_ends, with_line, with_lines}
@@ -133,41 +133,41 @@ behind_has_no_fault n count (line ∷ more) all =
 -- ---- one line before the problem line
 
 -- what a faultless line there is
-data First (sizes : Option (ℕ × ℕ)) (class : LineClass) : Type 0 where
-  read_past : class ≡ Passed → sizes ≡ None → First sizes class
-  names_size : (n : ℕ) → AreSizes n sizes → First sizes class
+data First (limit : ℕ) (sizes : Option (ℕ × ℕ)) (class : LineClass) : Type 0 where
+  read_past : class ≡ Passed → sizes ≡ None → First limit sizes class
+  names_size : (n : ℕ) → AreSizes limit n sizes → First limit sizes class
 
-sizes_without_fault : (k : LineClass) (vertices edges : Option ℕ) → sizes_fault NAMES vertices edges ≡ None → First (both vertices edges) k
-sizes_without_fault k None edges h = absurd (cc)
-sizes_without_fault k (Some n) None h = absurd (cc)
-sizes_without_fault k (Some n) (Some m) h = by_test (nat_le NAMES n) refl h where
-  by_test : (large : Bool) → nat_le NAMES n ≡ large → cond large (Some TooManyVertices) None ≡ None → First (Some (n, m)) k
+sizes_without_fault : (limit : ℕ) (k : LineClass) (vertices edges : Option ℕ) → sizes_fault limit vertices edges ≡ None → First limit (both vertices edges) k
+sizes_without_fault limit k None edges h = absurd (cc)
+sizes_without_fault limit k (Some n) None h = absurd (cc)
+sizes_without_fault limit k (Some n) (Some m) h = by_test (nat_le limit n) refl h where
+  by_test : (large : Bool) → nat_le limit n ≡ large → cond large (Some TooManyVertices) None ≡ None → First limit (Some (n, m)) k
   by_test true e h = absurd (cc)
-  by_test false e h = names_size n (record { edge_count = m; numbers = refl; named = leb-false NAMES n e })
+  by_test false e h = names_size n (record { edge_count = m; numbers = refl; named = leb-false limit n e })
 
-form_without_fault : (k : LineClass) (right : Bool) (vertices edges : Option ℕ) → cond right (sizes_fault NAMES vertices edges) (Some UnknownLine) ≡ None
-    → First (cond right (both vertices edges) None) k
-form_without_fault k true vertices edges h = sizes_without_fault k vertices edges h
-form_without_fault k false vertices edges h = absurd (cc)
+form_without_fault : (limit : ℕ) (k : LineClass) (right : Bool) (vertices edges : Option ℕ) → cond right (sizes_fault limit vertices edges) (Some UnknownLine) ≡ None
+    → First limit (cond right (both vertices edges) None) k
+form_without_fault limit k true vertices edges h = sizes_without_fault limit k vertices edges h
+form_without_fault limit k false vertices edges h = absurd (cc)
 
-problem_without_fault : (k : LineClass) (rest : List (List ℕ)) → problem_fault NAMES None rest ≡ None → First (sizes_in rest) k
+problem_without_fault : (limit : ℕ) (k : LineClass) (rest : List (List ℕ)) → problem_fault limit None rest ≡ None → First limit (sizes_in rest) k
 unfolding problem_fault sizes_in
-problem_without_fault k [] h = absurd (cc)
-problem_without_fault k (a ∷ []) h = absurd (cc)
-problem_without_fault k (a ∷ b ∷ []) h = absurd (cc)
-problem_without_fault k (a ∷ b ∷ c ∷ []) h = form_without_fault k (is_form a) (number_of b) (number_of c) h
-problem_without_fault k (a ∷ b ∷ c ∷ d ∷ more) h = absurd (cc)
+problem_without_fault limit k [] h = absurd (cc)
+problem_without_fault limit k (a ∷ []) h = absurd (cc)
+problem_without_fault limit k (a ∷ b ∷ []) h = absurd (cc)
+problem_without_fault limit k (a ∷ b ∷ c ∷ []) h = form_without_fault limit k (is_form a) (number_of b) (number_of c) h
+problem_without_fault limit k (a ∷ b ∷ c ∷ d ∷ more) h = absurd (cc)
 
-first_by_class : (k : LineClass) (rest : List (List ℕ)) → fault_by NAMES k None rest ≡ None → First (sizes_by k rest) k
+first_by_class : (limit : ℕ) (k : LineClass) (rest : List (List ℕ)) → fault_by limit k None rest ≡ None → First limit (sizes_by k rest) k
 unfolding edge_fault
-first_by_class Passed rest h = read_past refl refl
-first_by_class Problem rest h = problem_without_fault Problem rest h
-first_by_class Edge rest h = absurd (cc)
-first_by_class Unknown rest h = absurd (cc)
+first_by_class limit Passed rest h = read_past refl refl
+first_by_class limit Problem rest h = problem_without_fault limit Problem rest h
+first_by_class limit Edge rest h = absurd (cc)
+first_by_class limit Unknown rest h = absurd (cc)
 
-first_words : (ws : List (List ℕ)) → fault_of_words NAMES None ws ≡ None → First (sizes_of ws) (class_of ws)
-first_words [] h = read_past refl refl
-first_words (first ∷ rest) h = first_by_class (class_of_field first) rest h
+first_words : (limit : ℕ) (ws : List (List ℕ)) → fault_of_words limit None ws ≡ None → First limit (sizes_of ws) (class_of ws)
+first_words limit [] h = read_past refl refl
+first_words limit (first ∷ rest) h = first_by_class limit (class_of_field first) rest h
 
 -- a line that is read past names no numbers
 passed_by_class : (k : LineClass) (rest : List (List ℕ)) → k ≡ Passed → (sizes_by k rest ≡ None) × (ends_by k rest ≡ None)
@@ -180,39 +180,39 @@ passed_names_none : (ws : List (List ℕ)) → class_of ws ≡ Passed → (sizes
 passed_names_none [] h = (refl, refl)
 passed_names_none (first ∷ rest) h = passed_by_class (class_of_field first) rest h
 
-sizes_have_no_fault : (limit : ℕ) (n : ℕ) (vertices edges : Option ℕ) → n < limit → AreSizes n (both vertices edges) → sizes_fault limit vertices edges ≡ None
-sizes_have_no_fault limit n None edges below a = let h = a.numbers in absurd (cc)
-sizes_have_no_fault limit n (Some k) None below a = let h = a.numbers in absurd (cc)
-sizes_have_no_fault limit n (Some k) (Some m) below a = by_number a.edge_count a.numbers where
+sizes_have_no_fault : (limit : ℕ) (n : ℕ) (vertices edges : Option ℕ) → AreSizes limit n (both vertices edges) → sizes_fault limit vertices edges ≡ None
+sizes_have_no_fault limit n None edges a = let h = a.numbers in absurd (cc)
+sizes_have_no_fault limit n (Some k) None a = let h = a.numbers in absurd (cc)
+sizes_have_no_fault limit n (Some k) (Some m) a = by_number a.edge_count a.numbers where
   by_number : (count : ℕ) → ◌≡◌ {A = Option (ℕ × ℕ)} (Some (k, m)) (Some (n, count)) → sizes_fault limit (Some k) (Some m) ≡ None
   by_number count same =
       let pairs : ◌≡◌ {A = ℕ × ℕ} (k, m) (n, count) = cc in
       let first = ap (λ (p : ℕ × ℕ). p.0) pairs in
-      let small : nat_le limit k ≡ false = lt-leb limit k (omega (arith, first, below)) in
+      let small : nat_le limit k ≡ false = lt-leb limit k (omega (arith, first, a.named)) in
       rw small refl
 
-form_has_no_fault : (limit : ℕ) (n : ℕ) (right : Bool) (vertices edges : Option ℕ) → n < limit → AreSizes n (cond right (both vertices edges) None)
+form_has_no_fault : (limit : ℕ) (n : ℕ) (right : Bool) (vertices edges : Option ℕ) → AreSizes limit n (cond right (both vertices edges) None)
     → cond right (sizes_fault limit vertices edges) (Some UnknownLine) ≡ None
-form_has_no_fault limit n true vertices edges below a = sizes_have_no_fault limit n vertices edges below a
-form_has_no_fault limit n false vertices edges below a = let h = a.numbers in absurd (cc)
+form_has_no_fault limit n true vertices edges a = sizes_have_no_fault limit n vertices edges a
+form_has_no_fault limit n false vertices edges a = let h = a.numbers in absurd (cc)
 
-problem_has_no_fault : (limit : ℕ) (n : ℕ) (rest : List (List ℕ)) → n < limit → AreSizes n (sizes_in rest) → problem_fault limit None rest ≡ None
+problem_has_no_fault : (limit : ℕ) (n : ℕ) (rest : List (List ℕ)) → AreSizes limit n (sizes_in rest) → problem_fault limit None rest ≡ None
 unfolding problem_fault sizes_in
-problem_has_no_fault limit n [] below a = let h = a.numbers in absurd (cc)
-problem_has_no_fault limit n (x ∷ []) below a = let h = a.numbers in absurd (cc)
-problem_has_no_fault limit n (x ∷ y ∷ []) below a = let h = a.numbers in absurd (cc)
-problem_has_no_fault limit n (x ∷ y ∷ z ∷ []) below a = form_has_no_fault limit n (is_form x) (number_of y) (number_of z) below a
-problem_has_no_fault limit n (x ∷ y ∷ z ∷ w ∷ more) below a = let h = a.numbers in absurd (cc)
+problem_has_no_fault limit n [] a = let h = a.numbers in absurd (cc)
+problem_has_no_fault limit n (x ∷ []) a = let h = a.numbers in absurd (cc)
+problem_has_no_fault limit n (x ∷ y ∷ []) a = let h = a.numbers in absurd (cc)
+problem_has_no_fault limit n (x ∷ y ∷ z ∷ []) a = form_has_no_fault limit n (is_form x) (number_of y) (number_of z) a
+problem_has_no_fault limit n (x ∷ y ∷ z ∷ w ∷ more) a = let h = a.numbers in absurd (cc)
 
-sizes_by_class : (limit : ℕ) (n : ℕ) (k : LineClass) (rest : List (List ℕ)) → n < limit → AreSizes n (sizes_by k rest) → (fault_by limit k None rest ≡ None) × (k ≡ Problem)
-sizes_by_class limit n Passed rest below a = let h = a.numbers in absurd (cc)
-sizes_by_class limit n Problem rest below a = (problem_has_no_fault limit n rest below a, refl)
-sizes_by_class limit n Edge rest below a = let h = a.numbers in absurd (cc)
-sizes_by_class limit n Unknown rest below a = let h = a.numbers in absurd (cc)
+sizes_by_class : (limit : ℕ) (n : ℕ) (k : LineClass) (rest : List (List ℕ)) → AreSizes limit n (sizes_by k rest) → (fault_by limit k None rest ≡ None) × (k ≡ Problem)
+sizes_by_class limit n Passed rest a = let h = a.numbers in absurd (cc)
+sizes_by_class limit n Problem rest a = (problem_has_no_fault limit n rest a, refl)
+sizes_by_class limit n Edge rest a = let h = a.numbers in absurd (cc)
+sizes_by_class limit n Unknown rest a = let h = a.numbers in absurd (cc)
 
-problem_words : (limit : ℕ) (n : ℕ) (ws : List (List ℕ)) → n < limit → AreSizes n (sizes_of ws) → (fault_of_words limit None ws ≡ None) × (class_of ws ≡ Problem)
-problem_words limit n [] below a = let h = a.numbers in absurd (cc)
-problem_words limit n (first ∷ rest) below a = sizes_by_class limit n (class_of_field first) rest below a
+problem_words : (limit : ℕ) (n : ℕ) (ws : List (List ℕ)) → AreSizes limit n (sizes_of ws) → (fault_of_words limit None ws ≡ None) × (class_of ws ≡ Problem)
+problem_words limit n [] a = let h = a.numbers in absurd (cc)
+problem_words limit n (first ∷ rest) a = sizes_by_class limit n (class_of_field first) rest a
 
 -- ---- the lines up to the problem line
 
@@ -240,11 +240,11 @@ unfolding first_fault_behind
 lines_limit limit n count [] = refl
 lines_limit limit n count (line ∷ more) = λ i. fault_or fault_at (words_limit limit n (words line) i) (count + 1) (lines_limit limit n (count + 1) more i)
 
-problem_first : (limit : ℕ) (n count : ℕ) (line : List ℕ) (more : List (List ℕ)) → n < limit → IsProblemLine n line
+problem_first : (limit : ℕ) (n count : ℕ) (line : List ℕ) (more : List (List ℕ)) → IsProblemLine limit n line
     → fault_behind limit None count (line ∷ more) ≡ fault_behind NAMES (Some n) (count + 1) more
 unfolding first_fault_behind
-problem_first limit n count line more below p =
-    let fault = (problem_words limit n (words line) below p).0 in
+problem_first limit n count line more p =
+    let fault = (problem_words limit n (words line) p).0 in
     let sizes = p.numbers in
     rw (fault, sizes) (lines_limit limit n (count + 1) more)
 
@@ -262,17 +262,17 @@ fault_before limit all count rest b =
     ap (fault_behind limit None 0) b.cut ∙ fault-passed limit 0 b.before rest b.passed
     ∙ let same = b.counted in ap (λ k. fault_behind limit None k rest) (omega arith)
 
-pub fault-behind_problem : (limit : ℕ) (all : List (List ℕ)) (n count : ℕ) (rest : List (List ℕ)) → n < limit → IsBehindProblem all n count rest
+pub fault-behind_problem : (limit : ℕ) (all : List (List ℕ)) (n count : ℕ) (rest : List (List ℕ)) → IsBehindProblem limit all n count rest
     → fault_behind limit None 0 all ≡ fault_behind NAMES (Some n) count rest
-fault-behind_problem limit all n count rest below b =
+fault-behind_problem limit all n count rest b =
     ap (fault_behind limit None 0) b.cut ∙ fault-passed limit 0 b.before (b.problem ∷ rest) b.passed
-    ∙ problem_first limit n (0 + length b.before) b.problem rest below b.problem_line
+    ∙ problem_first limit n (0 + length b.before) b.problem rest b.problem_line
     ∙ let same = b.counted in ap (λ k. fault_behind NAMES (Some n) k rest) (omega arith)
 
-pub spelled_has_no_fault : (bytes : List ℕ) (g : PlainGraph) → Spells bytes g → first_fault bytes ≡ None
-spelled_has_no_fault bytes g s =
-    ap (fault_behind NAMES None 0) s.whole ∙ fault-passed NAMES 0 s.before (s.problem ∷ s.behind) s.passed
-    ∙ problem_first NAMES s.n (0 + length s.before) s.problem s.behind s.problem_line.named s.problem_line
+pub spelled_has_no_fault : SpelledAreFaultless
+spelled_has_no_fault = λ limit bytes g s.
+    ap (fault_behind limit None 0) s.whole ∙ fault-passed limit 0 s.before (s.problem ∷ s.behind) s.passed
+    ∙ problem_first limit s.n (0 + length s.before) s.problem s.behind s.problem_line
     ∙ behind_has_no_fault s.n _ s.behind s.edge_lines
 
 -- ---- the graph that lines name
@@ -348,20 +348,21 @@ edges_read n behind u v = or_nothing _ _ _ (adjacent-edgeless n u v) (adjacent-w
 -- ---- a file without fault
 
 -- what a file without fault is made of
-record Parts (all : List (List ℕ)) : Type 0 where
+record Parts (limit : ℕ) (all : List (List ℕ)) : Type 0 where
   n : ℕ
   before : List (List ℕ)
   problem_of : List ℕ
   behind : List (List ℕ)
   whole : all ≡ before ++ problem_of ∷ behind
   are_passed : All IsPassed before
-  is_problem : IsProblemLine n problem_of
+  is_problem : IsProblemLine limit n problem_of
   are_edges : All (IsPassedOrEdge n) behind
 
-parts_by_first : (count : ℕ) (line : List ℕ) (more : List (List ℕ)) → First (sizes_of (words line)) (class_of (words line))
-    → fault_behind NAMES (seen_after None line) (count + 1) more ≡ None → (fault_behind NAMES None (count + 1) more ≡ None → Parts more) → Parts (line ∷ more)
-parts_by_first count line more (read_past class sizes) h later =
-    let rest = later (ap (λ s. fault_behind NAMES (first_number s) (count + 1) more) (sym sizes) ∙ h) in
+parts_by_first : (limit count : ℕ) (line : List ℕ) (more : List (List ℕ)) → First limit (sizes_of (words line)) (class_of (words line))
+    → fault_behind limit (seen_after None line) (count + 1) more ≡ None → (fault_behind limit None (count + 1) more ≡ None → Parts limit more)
+    → Parts limit (line ∷ more)
+parts_by_first limit count line more (read_past class sizes) h later =
+    let rest = later (ap (λ s. fault_behind limit (first_number s) (count + 1) more) (sym sizes) ∙ h) in
     record {
       n = rest.n;
       before = line ∷ rest.before;
@@ -372,7 +373,7 @@ parts_by_first count line more (read_past class sizes) h later =
       is_problem = rest.is_problem;
       are_edges = rest.are_edges;
     }
-parts_by_first count line more (names_size n sizes) h later =
+parts_by_first limit count line more (names_size n sizes) h later =
     record {
       n = n;
       before = [];
@@ -381,20 +382,20 @@ parts_by_first count line more (names_size n sizes) h later =
       whole = refl;
       are_passed = All-nil IsPassed;
       is_problem = sizes;
-      are_edges = lines_behind n (count + 1) more (ap (λ s. fault_behind NAMES (first_number s) (count + 1) more) (sym sizes.numbers) ∙ h);
+      are_edges = lines_behind n (count + 1) more (sym (lines_limit limit n (count + 1) more) ∙ (ap (λ s. fault_behind limit (first_number s) (count + 1) more) (sym sizes.numbers) ∙ h));
     }
 
-parts_without_fault : (count : ℕ) (all : List (List ℕ)) → fault_behind NAMES None count all ≡ None → Parts all
+parts_without_fault : (limit count : ℕ) (all : List (List ℕ)) → fault_behind limit None count all ≡ None → Parts limit all
 unfolding first_fault_behind
-parts_without_fault count [] h = absurd (cc)
-parts_without_fault count (line ∷ more) h =
+parts_without_fault limit count [] h = absurd (cc)
+parts_without_fault limit count (line ∷ more) h =
     let parts = no_fault _ _ _ h in
-    parts_by_first count line more (first_words (words line) parts.0) parts.1 (parts_without_fault (count + 1) more)
+    parts_by_first limit count line more (first_words limit (words line) parts.0) parts.1 (parts_without_fault limit (count + 1) more)
 
-pub spelled_by_parts : (bytes : List ℕ) (n : ℕ) (before : List (List ℕ)) (problem_of : List ℕ) (behind : List (List ℕ))
-    → lines bytes ≡ before ++ problem_of ∷ behind → All IsPassed before → IsProblemLine n problem_of → All (IsPassedOrEdge n) behind
-    → Spells bytes (with_lines (edgeless n) behind)
-spelled_by_parts bytes n before problem_of behind whole are_passed is_problem are_edges = record {
+pub spelled_by_parts : (limit : ℕ) (bytes : List ℕ) (n : ℕ) (before : List (List ℕ)) (problem_of : List ℕ) (behind : List (List ℕ))
+    → limit ≤ NAMES → lines bytes ≡ before ++ problem_of ∷ behind → All IsPassed before → IsProblemLine limit n problem_of → All (IsPassedOrEdge n) behind
+    → Spells limit bytes (with_lines (edgeless n) behind)
+spelled_by_parts limit bytes n before problem_of behind most whole are_passed is_problem are_edges = record {
   n = n;
   before = before;
   problem = problem_of;
@@ -405,7 +406,7 @@ spelled_by_parts bytes n before problem_of behind whole are_passed is_problem ar
   edge_lines = are_edges;
   vertices = vertices_read n behind;
   edges = edges_read n behind;
-  graph = IsGraph-with_lines n behind (IsGraph-edgeless n is_problem.named) (contains-vertices n) are_edges;
+  graph = IsGraph-with_lines n behind (IsGraph-edgeless n (omega (arith, most, is_problem.named))) (contains-vertices n) are_edges;
 }
 
 -- ---- no other graph
@@ -432,28 +433,29 @@ one_size n m c d o a b =
     let pairs : ◌≡◌ {A = ℕ × ℕ} (n, c) (m, d) = cc in
     ap (λ (p : ℕ × ℕ). p.0) pairs
 
-pub one_graph : (bytes : List ℕ) (g h : PlainGraph) → Spells bytes g → Spells bytes h → g ≡ h
-one_graph bytes g h s t =
+pub one_graph : (limit : ℕ) (bytes : List ℕ) (g h : PlainGraph) → Spells limit bytes g → Spells limit bytes h → g ≡ h
+one_graph limit bytes g h s t =
     let split = one_split s.before t.before s.problem t.problem s.behind t.behind (sym s.whole ∙ t.whole) s.passed t.passed
-    (problem_words NAMES s.n (words s.problem) s.problem_line.named s.problem_line).1 (problem_words NAMES t.n (words t.problem) t.problem_line.named t.problem_line).1 in
+    (problem_words limit s.n (words s.problem) s.problem_line).1 (problem_words limit t.n (words t.problem) t.problem_line).1 in
     let same_n : s.n ≡ t.n = one_size s.n t.n s.problem_line.edge_count t.problem_line.edge_count (sizes_of (words s.problem)) s.problem_line.numbers
     (ap (λ line. sizes_of (words line)) split.0 ∙ t.problem_line.numbers) in
     same_graph s.graph t.graph
     (same_set g.vertices h.vertices (λ v. s.vertices v ∙ ap (λ n. is_vertex n v) same_n ∙ sym (t.vertices v)))
     (λ u v. s.edges u v ∙ ap (list_any (is_edge_line u v)) split.1 ∙ sym (t.edges u v))
 
-pub spelled_only : (bytes : List ℕ) (g : PlainGraph) → Spells bytes g → SpellsOnly Spells bytes g
-spelled_only bytes g s = record { spells = s; only = λ other t. one_graph bytes other g t s }
+pub spelled_only : (limit : ℕ) (bytes : List ℕ) (g : PlainGraph) → Spells limit bytes g → SpellsOnly (Spells limit) bytes g
+spelled_only limit bytes g s = record { spells = s; only = λ other t. one_graph limit bytes other g t s }
 
-by_fault : (bytes : List ℕ) (fault : Option DimacsFault) → first_fault bytes ≡ fault → MatchOption fault (SpellsOne Spells bytes) (λ _. SpellsNone Spells bytes)
-by_fault bytes None h =
-    let parts = parts_without_fault 0 (lines bytes) h in
+by_fault : (limit : ℕ) (bytes : List ℕ) (fault : Option DimacsFault) → limit ≤ NAMES → first_fault limit bytes ≡ fault
+    → MatchOption fault (SpellsOne (Spells limit) bytes) (λ _. SpellsNone (Spells limit) bytes)
+by_fault limit bytes None most h =
+    let parts = parts_without_fault limit 0 (lines bytes) h in
     let g = with_lines (edgeless parts.n) parts.behind in
-    (g, spelled_only bytes g (spelled_by_parts bytes parts.n parts.before parts.problem_of parts.behind parts.whole parts.are_passed parts.is_problem parts.are_edges))
-by_fault bytes (Some fault) h = λ g s. let none = spelled_has_no_fault bytes g s in cc
+    (g, spelled_only limit bytes g (spelled_by_parts limit bytes parts.n parts.before parts.problem_of parts.behind most parts.whole parts.are_passed parts.is_problem parts.are_edges))
+by_fault limit bytes (Some fault) most h = λ g s. let none = spelled_has_no_fault limit bytes g s in cc
 
-pub spelled_or_faulty : (bytes : List ℕ) → MatchOption (first_fault bytes) (SpellsOne Spells bytes) (λ _. SpellsNone Spells bytes)
-spelled_or_faulty bytes = by_fault bytes (first_fault bytes) refl
+pub spelled_or_faulty : FilesAreSpelledOrFaulty
+spelled_or_faulty = λ limit most bytes. by_fault limit bytes (first_fault limit bytes) most refl
 
 -- ---- another limit
 
@@ -521,3 +523,22 @@ limits_by_file low high (inr same) = (λ none. same ∙ none, λ fault is other.
 
 pub limits_agree : LimitsAgree
 limits_agree bytes low high more = limits_by_file _ _ (lines_agree low high more None 0 (lines bytes))
+
+pub spelled_under_greater : SpelledUnderGreater
+spelled_under_greater = λ bytes g low high more s. record {
+  n = s.n;
+  before = s.before;
+  problem = s.problem;
+  behind = s.behind;
+  whole = s.whole;
+  passed = s.passed;
+  problem_line = record {
+    edge_count = s.problem_line.edge_count;
+    numbers = s.problem_line.numbers;
+    named = omega (arith, more, s.problem_line.named);
+  };
+  edge_lines = s.edge_lines;
+  vertices = s.vertices;
+  edges = s.edges;
+  graph = s.graph;
+}

@@ -62,11 +62,11 @@ ends_refused r n rest first second u v cut eu ev h =
     let same : ends_fault n u v ≡ edge_fault (Some n) rest = (λ i. ends_fault n (eu i) (ev i)) ∙ sym (edge_numbers n rest first second cut) in
     subst (λ o. IfErr r (λ kind. o ≡ Some kind)) same h
 
-pub sizes_read : (r : Result ℕ DimacsKind) (rest : List (List ℕ)) (form vertices edges : List ℕ) (n m : Option ℕ) → rest ≡ form ∷ vertices ∷ edges ∷ []
-    → is_form form ≡ true → n ≡ number_of vertices → m ≡ number_of edges → IfOk r (λ k. AreSizes k (both n m)) → IfOk r (λ k. AreSizes k (sizes_in rest))
-sizes_read r rest form vertices edges n m cut t en em h =
+pub sizes_read : (limit : ℕ) (r : Result ℕ DimacsKind) (rest : List (List ℕ)) (form vertices edges : List ℕ) (n m : Option ℕ) → rest ≡ form ∷ vertices ∷ edges ∷ []
+    → is_form form ≡ true → n ≡ number_of vertices → m ≡ number_of edges → IfOk r (λ k. AreSizes limit k (both n m)) → IfOk r (λ k. AreSizes limit k (sizes_in rest))
+sizes_read limit r rest form vertices edges n m cut t en em h =
     let same : both n m ≡ sizes_in rest = (λ i. both (en i) (em i)) ∙ sym (sizes_numbers rest form vertices edges cut t) in
-    subst (λ o. IfOk r (λ k. AreSizes k o)) same h
+    subst (λ o. IfOk r (λ k. AreSizes limit k o)) same h
 
 pub sizes_refused : (limit : ℕ) (r : Result ℕ DimacsKind) (rest : List (List ℕ)) (form vertices edges : List ℕ) (n m : Option ℕ) → rest ≡ form ∷ vertices ∷ edges ∷ []
     → is_form form ≡ true → n ≡ number_of vertices → m ≡ number_of edges → IfErr r (λ kind. sizes_fault limit n m ≡ Some kind) → IfErr r (λ kind. problem_fault limit None rest ≡ Some kind)

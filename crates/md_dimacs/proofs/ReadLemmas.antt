@@ -1,5 +1,5 @@
 -- The steps of the reader.
-use Rattle.std.specs.Prelude.{◌≡◌, ℕ, ◌+◌, ◌<◌, true, false, ◌==◌, List, [], ◌∷◌, ◌++◌, length, Some, None, Result, Ok, Err, OnOk, OnErr, IfErr, refl}
+use Rattle.std.specs.Prelude.{◌≡◌, ℕ, ◌+◌, ◌≤◌, true, false, ◌==◌, List, [], ◌∷◌, ◌++◌, length, Some, None, Result, Ok, Err, OnOk, OnErr, IfErr, refl}
 use Rattle.std.specs.Result.{is_err}
 use Rattle.std.proofs.Common.{subst, ap, sym, ◌∙◌, append_assoc, length-append}
 use Rattle.std.proofs.lemmas.List.Elements.{All-push}
@@ -17,7 +17,7 @@ use Rattle.md_dimacs.specs.declared.line.LineClass.TheVariants.{Passed}
 use Rattle.md_dimacs.specs.Line.{class_of, ends_of, fault_of_words}
 use Rattle.md_graph.specs.PlainGraph.{with_range}
 use Rattle.md_graph.proofs.Ranges.{range_alone}
-use Rattle.md_dimacs.specs.File.{IsPassed, Spells, first_fault_within, fault_behind}
+use Rattle.md_dimacs.specs.File.{IsPassed, Spells, first_fault, fault_behind}
 use Rattle.md_dimacs.specs.Read.{IsBeforeProblem, IsBehindProblem, HasVertices, edgeless, with_ends, with_line, with_lines}
 use Rattle.md_dimacs.proofs.FileLemmas.{fault_before, fault-behind_problem, contains-vertices, vertices-with_ends, lines_behind, spelled_by_parts}
 
@@ -93,32 +93,32 @@ all_faultless n start count all rest same empty = same ∙ ap (fault_behind NAME
 
 -- ---- the whole file
 
-pub fault_of_rest : (limit : ℕ) (bytes : List ℕ) (n count : ℕ) (rest : List (List ℕ)) → n < limit → IsBehindProblem (lines bytes) n count rest → first_fault_within limit bytes ≡ fault_behind NAMES (Some n) count rest
-fault_of_rest limit bytes n count rest below b = fault-behind_problem limit (lines bytes) n count rest below b
+pub fault_of_rest : (limit : ℕ) (bytes : List ℕ) (n count : ℕ) (rest : List (List ℕ)) → IsBehindProblem limit (lines bytes) n count rest → first_fault limit bytes ≡ fault_behind NAMES (Some n) count rest
+fault_of_rest limit bytes n count rest b = fault-behind_problem limit (lines bytes) n count rest b
 
-pub file_spells : (bytes : List ℕ) (n count : ℕ) (rest : List (List ℕ)) (g : PlainGraph) → IsBehindProblem (lines bytes) n count rest
-    → fault_behind NAMES (Some n) count rest ≡ None → g ≡ with_lines (edgeless n) rest → Spells bytes g
-file_spells bytes n count rest g b fault e =
+pub file_spells : (limit : ℕ) (bytes : List ℕ) (n count : ℕ) (rest : List (List ℕ)) (g : PlainGraph) → limit ≤ NAMES → IsBehindProblem limit (lines bytes) n count rest
+    → fault_behind NAMES (Some n) count rest ≡ None → g ≡ with_lines (edgeless n) rest → Spells limit bytes g
+file_spells limit bytes n count rest g most b fault e =
     let edges = lines_behind n count rest fault in
-    let spelled = spelled_by_parts bytes n b.before b.problem rest b.cut b.passed b.problem_line edges in
-    subst (Spells bytes) (sym e) spelled
+    let spelled = spelled_by_parts limit bytes n b.before b.problem rest most b.cut b.passed b.problem_line edges in
+    subst (Spells limit bytes) (sym e) spelled
 
 -- ---- the outcome of the lines behind the problem line, in what it says of the file
 
-pub outcome_spells : {T : Type 0} (r : Result T DimacsFault) (bytes : List ℕ) (n count : ℕ) (rest : List (List ℕ)) (start g : PlainGraph) → IsBehindProblem (lines bytes) n count rest
-    → start ≡ edgeless n → OnOk r (fault_behind NAMES (Some n) count rest ≡ None) → OnOk r (g ≡ with_lines start rest) → OnOk r (Spells bytes g)
-outcome_spells (Ok x) bytes n count rest start g b empty fault added = file_spells bytes n count rest g b fault (added ∙ ap (λ h. with_lines h rest) empty)
-outcome_spells (Err e) bytes n count rest start g b empty fault added = tt
+pub outcome_spells : {T : Type 0} (limit : ℕ) (r : Result T DimacsFault) (bytes : List ℕ) (n count : ℕ) (rest : List (List ℕ)) (start g : PlainGraph) → limit ≤ NAMES → IsBehindProblem limit (lines bytes) n count rest
+    → start ≡ edgeless n → OnOk r (fault_behind NAMES (Some n) count rest ≡ None) → OnOk r (g ≡ with_lines start rest) → OnOk r (Spells limit bytes g)
+outcome_spells limit (Ok x) bytes n count rest start g most b empty fault added = file_spells limit bytes n count rest g most b fault (added ∙ ap (λ h. with_lines h rest) empty)
+outcome_spells limit (Err e) bytes n count rest start g most b empty fault added = tt
 
-pub outcome_faultless : {T : Type 0} (limit : ℕ) (r : Result T DimacsFault) (bytes : List ℕ) (n count : ℕ) (rest : List (List ℕ)) → n < limit → IsBehindProblem (lines bytes) n count rest
-    → OnOk r (fault_behind NAMES (Some n) count rest ≡ None) → OnOk r (first_fault_within limit bytes ≡ None)
-outcome_faultless limit (Ok x) bytes n count rest below b fault = fault_of_rest limit bytes n count rest below b ∙ fault
-outcome_faultless limit (Err e) bytes n count rest below b fault = tt
+pub outcome_faultless : {T : Type 0} (limit : ℕ) (r : Result T DimacsFault) (bytes : List ℕ) (n count : ℕ) (rest : List (List ℕ)) → IsBehindProblem limit (lines bytes) n count rest
+    → OnOk r (fault_behind NAMES (Some n) count rest ≡ None) → OnOk r (first_fault limit bytes ≡ None)
+outcome_faultless limit (Ok x) bytes n count rest b fault = fault_of_rest limit bytes n count rest b ∙ fault
+outcome_faultless limit (Err e) bytes n count rest b fault = tt
 
-pub outcome_fault : {T : Type 0} (limit : ℕ) (r : Result T DimacsFault) (bytes : List ℕ) (n count : ℕ) (rest : List (List ℕ)) → n < limit → IsBehindProblem (lines bytes) n count rest
-    → IfErr r (λ f. fault_behind NAMES (Some n) count rest ≡ Some f) → IfErr r (λ f. first_fault_within limit bytes ≡ Some f)
-outcome_fault limit (Ok x) bytes n count rest below b fault = tt
-outcome_fault limit (Err e) bytes n count rest below b fault = fault_of_rest limit bytes n count rest below b ∙ fault
+pub outcome_fault : {T : Type 0} (limit : ℕ) (r : Result T DimacsFault) (bytes : List ℕ) (n count : ℕ) (rest : List (List ℕ)) → IsBehindProblem limit (lines bytes) n count rest
+    → IfErr r (λ f. fault_behind NAMES (Some n) count rest ≡ Some f) → IfErr r (λ f. first_fault limit bytes ≡ Some f)
+outcome_fault limit (Ok x) bytes n count rest b fault = tt
+outcome_fault limit (Err e) bytes n count rest b fault = fault_of_rest limit bytes n count rest b ∙ fault
 
 pub nothing_on_ok : {T : Type 0} (r : Result T DimacsFault) (P : Type 0) → is_err r ≡ true → OnOk r P
 nothing_on_ok (Ok x) P h = absurd (cc)

@@ -128,6 +128,6 @@ text_is_read g is small =
     record {
       named = read_back g;
       renamed = is_renamed g is small;
-      spelled = spelled_only (dimacs_text g) (read_back g) spelled;
-      faultless = spelled_has_no_fault (dimacs_text g) (read_back g) spelled;
+      spelled = spelled_only NAMES (dimacs_text g) (read_back g) spelled;
+      faultless = spelled_has_no_fault NAMES (dimacs_text g) (read_back g) spelled;
     }

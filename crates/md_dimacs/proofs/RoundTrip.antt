@@ -214,7 +214,7 @@ edge_line_is n p small places =
       differ = λ e. omega arith;
     })
 
-problem_line_is : (g : PlainGraph) → IsGraph g → set.len g.vertices < NAMES → AreSizes (set.len g.vertices) (sizes_of (words (problem_line g)))
+problem_line_is : (g : PlainGraph) → IsGraph g → set.len g.vertices < NAMES → AreSizes NAMES (set.len g.vertices) (sizes_of (words (problem_line g)))
 problem_line_is g is small =
     let fits = NAMES-lt in
     record {
@@ -261,8 +261,8 @@ text_lines g =
 abbrev pub read_back : PlainGraph → PlainGraph
 read_back g = with_lines (edgeless (set.len g.vertices)) (map edge_line (edge_places g))
 
-pub text_spells : (g : PlainGraph) → IsGraph g → set.len g.vertices < NAMES → Spells (dimacs_text g) (read_back g)
+pub text_spells : (g : PlainGraph) → IsGraph g → set.len g.vertices < NAMES → Spells NAMES (dimacs_text g) (read_back g)
 text_spells g is small =
-    spelled_by_parts (dimacs_text g) (set.len g.vertices) [] (problem_line g) (map edge_line (edge_places g)) (text_lines g) (All-nil IsPassed) (problem_line_is g is small)
+    spelled_by_parts NAMES (dimacs_text g) (set.len g.vertices) [] (problem_line g) (map edge_line (edge_places g)) (omega arith) (text_lines g) (All-nil IsPassed) (problem_line_is g is small)
     (All-map (IsPassedOrEdge (set.len g.vertices)) edge_line (edge_places g)
     (All-weaker (ArePlaces (set.len g.vertices)) (λ p. IsPassedOrEdge (set.len g.vertices) (edge_line p)) (λ p places. edge_line_is (set.len g.vertices) p small places) (edge_places g) (all_places g is)))

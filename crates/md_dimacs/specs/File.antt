@@ -3,7 +3,6 @@
 use Rattle.std.specs.Prelude.{◌≡◌, ℕ, ◌+◌, ◌<◌, ◌≢◌, ◌==◌, ◌&&◌, ◌||◌, ◌⊎◌, Bool, false, List, ◌∷◌, ◌++◌, Option, None, Some, IsTrue}
 use Rattle.std.specs.List.{All, list_any}
 use Rattle.std.specs.FinSet as set
-use Rattle.md_graph.specs.declared.TheConstants.{NAMES}
 use Rattle.md_graph.specs.PlainGraph.{PlainGraph, IsGraph, adjacent}
 use Rattle.md_text.specs.Lines.{lines}
 use Rattle.md_text.specs.Spelling.{words, first_fault_behind}
@@ -17,11 +16,11 @@ use Rattle.md_dimacs.specs.Line.{class_of, sizes_of, ends_of, is_vertex, fault_o
 abbrev pub IsPassed : List ℕ → Type 0
 IsPassed line = class_of (words line) ≡ Passed
 
--- the two numbers of a problem line for n vertices, fewer than there are names; the other may be any
-pub record AreSizes (n : ℕ) (sizes : Option (ℕ × ℕ)) : Type 0 where
+-- the two numbers of a problem line for n vertices, fewer than the limit; the other may be any
+pub record AreSizes (limit n : ℕ) (sizes : Option (ℕ × ℕ)) : Type 0 where
   pub edge_count : ℕ
   pub numbers : sizes ≡ Some (n, edge_count)
-  pub named : n < NAMES
+  pub named : n < limit
 
 -- two different ones of the vertices 1 to n
 pub record AreEdgeEnds (n : ℕ) (ends : Option (ℕ × ℕ)) : Type 0 where
@@ -32,9 +31,9 @@ pub record AreEdgeEnds (n : ℕ) (ends : Option (ℕ × ℕ)) : Type 0 where
   pub second_vertex : IsTrue (is_vertex n second)
   pub differ : first ≢ second
 
--- a problem line for n vertices
-abbrev pub IsProblemLine : ℕ → List ℕ → Type 0
-IsProblemLine n line = AreSizes n (sizes_of (words line))
+-- a problem line for n vertices, fewer than the limit
+abbrev pub IsProblemLine : ℕ → ℕ → List ℕ → Type 0
+IsProblemLine limit n line = AreSizes limit n (sizes_of (words line))
 
 -- an edge line between two of the vertices 1 to n
 abbrev pub IsEdgeLine : ℕ → List ℕ → Type 0
@@ -53,16 +52,17 @@ are_ends u v (Some p) = (u == p.0 && v == p.1) || (u == p.1 && v == p.0)
 abbrev pub is_edge_line : ℕ → ℕ → List ℕ → Bool
 is_edge_line u v line = are_ends u v (ends_of (words line))
 
--- The bytes of a file spell a graph: one problem line; before it only lines that are read past; behind it
--- those and edge lines. The vertices are 1 to n, and two are adjacent exactly where some line is_edge_line them.
-pub record Spells (bytes : List ℕ) (g : PlainGraph) : Type 0 where
+-- The bytes of a file spell a graph whose names are below the limit: one problem line; before it only lines that
+-- are read past; behind it those and edge lines. The vertices are 1 to n, and two are adjacent exactly where a line
+-- is an edge line of them.
+pub record Spells (limit : ℕ) (bytes : List ℕ) (g : PlainGraph) : Type 0 where
   pub n : ℕ
   pub before : List (List ℕ)
   pub problem : List ℕ
   pub behind : List (List ℕ)
   pub whole : lines bytes ≡ before ++ problem ∷ behind
   pub passed : All IsPassed before
-  pub problem_line : IsProblemLine n problem
+  pub problem_line : IsProblemLine limit n problem
   pub edge_lines : All (IsPassedOrEdge n) behind
   pub vertices : (v : ℕ) → set.contains g.vertices v ≡ is_vertex n v
   pub edges : (u v : ℕ) → adjacent g u v ≡ list_any (is_edge_line u v) behind
@@ -93,9 +93,5 @@ fault_behind limit = first_fault_behind fault_at (fault_of_line limit) seen_afte
 
 -- the first fault of a file, where names from the limit on are too many: that of its first faulty line, with the
 -- number of the line, counted from 1
-abbrev pub first_fault_within : ℕ → List ℕ → Option DimacsFault
-first_fault_within limit bytes = fault_behind limit None 0 (lines bytes)
-
--- the first fault of a file
-abbrev pub first_fault : List ℕ → Option DimacsFault
-first_fault bytes = first_fault_within NAMES bytes
+abbrev pub first_fault : ℕ → List ℕ → Option DimacsFault
+first_fault limit bytes = fault_behind limit None 0 (lines bytes)

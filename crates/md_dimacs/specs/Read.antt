@@ -16,13 +16,13 @@ pub record IsBeforeProblem (all : List (List ℕ)) (count : ℕ) (rest : List (L
   pub passed : All IsPassed before
 
 -- behind `count` of all lines, the last of which is the problem line, the rest is to be read
-pub record IsBehindProblem (all : List (List ℕ)) (n count : ℕ) (rest : List (List ℕ)) : Type 0 where
+pub record IsBehindProblem (limit : ℕ) (all : List (List ℕ)) (n count : ℕ) (rest : List (List ℕ)) : Type 0 where
   pub before : List (List ℕ)
   pub problem : List ℕ
   pub cut : all ≡ before ++ problem ∷ rest
   pub counted : length before + 1 ≡ count
   pub passed : All IsPassed before
-  pub problem_line : IsProblemLine n problem
+  pub problem_line : IsProblemLine limit n problem
 
 -- the vertices of the graph are 1 to n
 abbrev pub HasVertices : ℕ → PlainGraph → Type 0

@@ -1,7 +1,7 @@
 //! DIMACS edge files: one graph a file, read and written.
 //!
-//! `read` reads a whole file, or names its first fault, `read_within` does with fewer names;
-//! `write` writes a graph as a file.
+//! `read` reads a whole file whose names are below a limit, or names its first fault; `write`
+//! writes a graph as a file.
 #![tactic(auto)]
 
 mod blocks;
@@ -15,5 +15,5 @@ mod tests;
 mod writer;
 
 pub use fault::{DimacsFault, DimacsKind};
-pub use reader::{read, read_within};
+pub use reader::read;
 pub use writer::write;

@@ -53,7 +53,7 @@ fn names_edges(field: &[u8]) -> bool
 // the limit.
 pub(crate) fn read_problem(limit: u32, rest: &[u8]) -> Result<u32, DimacsKind>
     requires { limit ≤ NAMES }
-    ensures sizes { IfOk result (λ n. AreSizes n (sizes_in (fields rest.now))) }
+    ensures sizes { IfOk result (λ n. AreSizes limit n (sizes_in (fields rest.now))) }
     ensures below { IfOk result (λ n. n < limit) }
     ensures fault { IfErr result (λ kind. problem_fault limit None (fields rest.now) ≡ Some kind) }
 {
@@ -71,7 +71,7 @@ pub(crate) fn read_problem(limit: u32, rest: &[u8]) -> Result<u32, DimacsKind>
 // The number of vertices that the two numbers of a problem line give.
 fn checked_size(limit: u32, vertices: Option<u64>, edges: Option<u64>) -> Result<u32, DimacsKind>
     requires { limit ≤ NAMES }
-    ensures sizes { IfOk result (λ n. AreSizes n (both vertices edges)) }
+    ensures sizes { IfOk result (λ n. AreSizes limit n (both vertices edges)) }
     ensures below { IfOk result (λ n. n < limit) }
     ensures fault { IfErr result (λ kind. sizes_fault limit vertices edges ≡ Some kind) }
 {

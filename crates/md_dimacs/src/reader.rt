@@ -6,39 +6,24 @@ ghost use Rattle.md_text.specs.Lines.{lines};
 ghost use Rattle.md_text.specs.Fields.{fields};
 ghost use Rattle.md_dimacs.specs.declared.line.LineClass.TheVariants.{Passed};
 ghost use Rattle.md_dimacs.specs.Line.{class_of, sizes_of, ends_of, fault_of_words};
-ghost use Rattle.md_dimacs.specs.File.{Spells, AreSizes, fault_behind, first_fault, first_fault_within};
+ghost use Rattle.md_dimacs.specs.File.{Spells, AreSizes, fault_behind, first_fault};
 ghost use Rattle.md_dimacs.specs.Read.{IsBehindProblem, HasVertices, edgeless, with_ends, with_lines};
 
 use crate::line::{LineClass, class_of, read_ends, read_problem};
 use crate::{DimacsFault, DimacsKind};
-use md_graph::{Graph, GraphOf, NAMES};
+use md_graph::{GraphOf, NAMES};
 use md_text::{split_field, split_line, without_return};
 
-/// Reads the graph that the bytes of a DIMACS edge file spell: the vertices 1 to N of its problem
-/// line, and the edges of its edge lines, each once. It takes no memory. Condition: the graph has
-/// no vertices.
+/// Reads the graph that the bytes of a DIMACS edge file spell, whose names are below the limit: the
+/// vertices 1 to N of its problem line, and the edges of its edge lines, each once. The graph may
+/// have any number of words a row. It takes no memory. Conditions: the graph has no vertices, and
+/// room for names below the limit.
 ///
 /// # Errors
 ///
 /// It refuses exactly where the file has a fault, and names the first; the graph then has no
 /// vertices.
-pub fn read(bytes: &[u8], graph: &mut Graph) -> Result<(), DimacsFault>
-    requires { graph.old ≡ empty_graph }
-    ensures spells { OnOk result (Spells bytes.now graph.new) }
-    ensures faultless { OnOk result (first_fault bytes.now ≡ None) }
-    ensures fault { IfErr result (λ fault. first_fault bytes.now ≡ Some fault) }
-    ensures refused { OnErr result (graph.new ≡ empty_graph) }
-{
-    read_within(bytes, NAMES, graph)
-}
-
-/// As `read`, where names from `limit` on are too many, into a graph with any number of words a
-/// row. Conditions: the graph has no vertices, and room for names below the limit.
-///
-/// # Errors
-///
-/// As those of `read`, with `TooManyVertices` where a name from `limit` on were needed.
-pub fn read_within<const W: usize>(
+pub fn read<const W: usize>(
     bytes: &[u8],
     limit: u32,
     graph: &mut GraphOf<W>,
@@ -46,9 +31,9 @@ pub fn read_within<const W: usize>(
     requires empty { graph.old ≡ empty_graph }
     requires few { limit ≤ NAMES }
     requires room { limit ≤ 64 * W }
-    ensures spells { OnOk result (Spells bytes.now graph.new) }
-    ensures faultless { OnOk result (first_fault_within limit bytes.now ≡ None) }
-    ensures fault { IfErr result (λ fault. first_fault_within limit bytes.now ≡ Some fault) }
+    ensures spells { OnOk result (Spells limit bytes.now graph.new) }
+    ensures faultless { OnOk result (first_fault limit bytes.now ≡ None) }
+    ensures fault { IfErr result (λ fault. first_fault limit bytes.now ≡ Some fault) }
     ensures refused { OnErr result (graph.new ≡ empty_graph) }
 {
     let (n, count, rest) = find_problem(bytes, limit)?;
@@ -64,10 +49,10 @@ pub fn read_within<const W: usize>(
 // what stands behind them.
 fn find_problem(bytes: &[u8], limit: u32) -> Result<(u32, u64, &[u8]), DimacsFault>
     requires { limit ≤ NAMES }
-    ensures found { IfOk result (λ p. IsBehindProblem (lines bytes.now) p.0 p.1 (lines p.2.now)) }
+    ensures found { IfOk result (λ p. IsBehindProblem limit (lines bytes.now) p.0 p.1 (lines p.2.now)) }
     ensures room { IfOk result (λ p. p.1 + length p.2.now ≤ length bytes.now) }
     ensures below { IfOk result (λ p. p.0 < limit) }
-    ensures fault { IfErr result (λ fault. first_fault_within limit bytes.now ≡ Some fault) }
+    ensures fault { IfErr result (λ fault. first_fault limit bytes.now ≡ Some fault) }
 {
     let mut rest = bytes;
     let mut count = 0u64;
@@ -93,7 +78,7 @@ fn find_problem(bytes: &[u8], limit: u32) -> Result<(u32, u64, &[u8]), DimacsFau
 fn read_first(limit: u32, line: &[u8]) -> Result<Option<u32>, DimacsKind>
     requires { limit ≤ NAMES }
     ensures read { IfOk result (λ size. MatchOption size (class_of (fields line.now) ≡ Passed)
-        (λ n. AreSizes n (sizes_of (fields line.now)))) }
+        (λ n. AreSizes limit n (sizes_of (fields line.now)))) }
     ensures below { IfOk result (λ size. IfSome size (λ n. n < limit)) }
     ensures fault { IfErr result (λ kind. fault_of_words limit None (fields line.now)
         ≡ Some kind) }

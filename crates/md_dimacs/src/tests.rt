@@ -19,7 +19,7 @@ fn check_fault(
 ) -> Result<(), Memory> {
     let mut graph = Graph::new(alloc)?;
     assert_eq!(rt;
-        read(file.as_bytes(), &mut graph),
+        read(file.as_bytes(), NAMES, &mut graph),
         Err(DimacsFault { kind, line })
     );
     assert_eq!(rt; graph.count(), 0);
@@ -28,7 +28,7 @@ fn check_fault(
 
 fn check_text(rt: &impl Abort, alloc: Global, file: &str, text: &str) -> Result<(), Memory> {
     let mut graph = Graph::new(alloc)?;
-    assert_eq!(rt; read(file.as_bytes(), &mut graph), Ok(()));
+    assert_eq!(rt; read(file.as_bytes(), NAMES, &mut graph), Ok(()));
     let written = write(alloc, &graph)?;
     assert_eq!(rt; written.as_slice(), text.as_bytes());
     Ok(())
@@ -46,7 +46,7 @@ fn files(rt: HostRuntime) -> Result<(), Fail> {
         ("p edge 2 1\ne 1 3\n", VertexOutOfRange, 2),
         ("p edge 2 1\ne 2 2\n", Loop, 2),
         ("q\n", UnknownLine, 1),
-        ("p edge 4096 0\n", TooManyVertices, 1),
+        ("p edge 16384 0\n", TooManyVertices, 1),
         ("p edge 3\n", FieldCount, 1),
         ("p edge 2 1\ne 1 2 5\n", FieldCount, 2),
         ("p col x\n", FieldCount, 1),
@@ -63,7 +63,8 @@ fn files(rt: HostRuntime) -> Result<(), Fail> {
         ("p edge 0 0\n", "p edge 0 0\n"),
         ("p edge 3 999999999999999999\n", "p edge 3 0\n"),
         ("p edge 3 2\ne 1 2\ne 2 3\n", "p edge 3 2\ne 1 2\ne 2 3\n"),
-        ("p edge 4095 0\n", "p edge 4095 0\n"),
+        ("p edge 4096 0\n", "p edge 4096 0\n"),
+        ("p edge 16383 0\n", "p edge 16383 0\n"),
         ("p edge 2 1\r\ne 1 2\r\n", "p edge 2 1\ne 1 2\n"),
         ("\tp edge 2 1\n  e 1 2", "p edge 2 1\ne 1 2\n"),
         ("comment\np edge 2 0\n", "p edge 2 0\n"),
@@ -89,13 +90,15 @@ fn limits(rt: HostRuntime) -> Result<(), Fail> {
         line: 1,
     };
     let mut small: GraphOf<1> = GraphOf::new(rt.alloc())?;
-    assert_eq!(&rt; read_within(b"p edge 64 0\n", 64, &mut small), Err(many));
+    assert_eq!(&rt; read(b"p edge 64 0\n", 64, &mut small), Err(many));
     small.clear();
     let file = b"p edge 63 1\ne 63 1\n";
-    assert_eq!(&rt; read_within(file, 63, &mut small), Err(many));
+    assert_eq!(&rt; read(file, 63, &mut small), Err(many));
     small.clear();
-    assert_eq!(&rt; read_within(file, 64, &mut small), Ok(()));
+    assert_eq!(&rt; read(file, 64, &mut small), Ok(()));
     assert!(&rt; small.has_edge(1, 63));
+    let mut large = Graph::new(rt.alloc())?;
+    assert_eq!(&rt; read(b"p edge 4096 0\n", 4_096, &mut large), Err(many));
     Ok(())
 }
 

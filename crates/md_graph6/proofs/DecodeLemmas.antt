@@ -1,15 +1,15 @@
 -- The graph that a body spells: there is one, and it is the one that is decoded.
-use Rattle.std.proofs.Common.{◌≡◌, ℕ, ◌<◌, ◌≤◌, ◌&&◌, Bool, true, nat_lt, List, inl, inr, refl, sym, ◌∙◌, arith}
+use Rattle.std.proofs.Common.{◌≡◌, ℕ, zero, suc, ◌<◌, ◌≤◌, ◌&&◌, Bool, true, nat_lt, List, inl, inr, refl, sym, ◌∙◌, arith}
 use Rattle.std.specs.FinSet as set
 use Rattle.std.proofs.lemmas.Bool.Decides.{nat_tests}
 use Rattle.std.proofs.lemmas.Bool.{cases_Bool, ltb-true, lt-ltb}
 use Rattle.md_graph.specs.declared.TheConstants.{NAMES}
 use Rattle.md_graph.specs.Sets.{Has}
-use Rattle.md_graph.specs.PlainGraph.{PlainGraph, IsGraph, adjacent}
+use Rattle.md_graph.specs.PlainGraph.{PlainGraph, IsGraph, adjacent, pairs_where}
 use Rattle.md_graph.proofs.SetLaws.{same_set}
 use Rattle.md_graph.proofs.PairLaws.{same_pairs}
 use Rattle.md_graph.proofs.GraphLemmas.{contains-pairs_where, adjacent_up}
-use Rattle.md_graph.specs.NameSet.{range}
+use Rattle.md_graph.specs.NameSet.{AllBelow, range}
 use Rattle.md_graph.proofs.Ranges.{contains-range}
 use Rattle.md_graph6.specs.Bits.{IsBodyOf}
 use Rattle.md_graph6.specs.Line.{is_edge, graph_of_body}
@@ -32,19 +32,28 @@ edge_parts u v n b e = (grind (arith, nat_tests), grind (arith, nat_tests))
 below_is_member : (n v : ℕ) → v < n → Has (range 0 n) v
 below_is_member n v small = contains-numbers_below n v ∙ lt-ltb v n small
 
+-- the numbers below n are below no smaller number
+pub numbers_few : (n m : ℕ) → AllBelow (range 0 n) m → n ≤ m
+numbers_few zero m below = omega arith
+numbers_few (suc k) m below =
+    let last : k < m = below k (below_is_member (suc k) k (omega arith)) in omega (arith, last)
+
+-- the numbers below n with the edges that pass a test are a graph
+pub numbered_is_graph : (test : ℕ → ℕ → Bool) (n : ℕ) → n ≤ NAMES → IsGraph (record { vertices = range 0 n; edges = pairs_where test n })
+numbered_is_graph test n few = record {
+  names = λ v member. omega (arith, few, ltb-true v n (sym (contains-numbers_below n v) ∙ member));
+  ordered = λ u v there. (ends u v there).0;
+  low_end = λ u v there. let range = ends u v there in below_is_member n u (omega (arith, range.0, range.1));
+  high_end = λ u v there. below_is_member n v (ends u v there).1;
+}
+  where
+    ends : (u v : ℕ) → set.contains (pairs_where test n) (u, v) ≡ true → (u < v) × (v < n)
+    ends u v there = edge_parts u v n (test u v) (sym (contains-pairs_where test n u v) ∙ there)
+
 -- what is decoded is a graph
 decoded_is_graph : (body : List ℕ) (n : ℕ) → n ≤ NAMES → IsGraph (graph_of_body body n)
 unfolding graph_of_body
-decoded_is_graph body n few = record {
-  names = λ v member. omega (arith, few, ltb-true v n (sym (contains-numbers_below n v) ∙ member));
-  ordered = λ u v there. (edge_parts u v n (is_edge body u v) (sym (contains-decoded body n u v) ∙ there)).0;
-  low_end = λ u v there.
-      let range : (u < v) × (v < n) = edge_parts u v n (is_edge body u v) (sym (contains-decoded body n u v) ∙ there) in
-      below_is_member n u (omega (arith, range.0, range.1));
-  high_end = λ u v there.
-      let range : (u < v) × (v < n) = edge_parts u v n (is_edge body u v) (sym (contains-decoded body n u v) ∙ there) in
-      below_is_member n v range.1;
-}
+decoded_is_graph body n few = numbered_is_graph (is_edge body) n few
 
 -- two names of a decoded graph
 adjacent-decoded : (body : List ℕ) (n i j : ℕ) → i < j → j < n → adjacent (graph_of_body body n) i j ≡ is_edge body i j

@@ -1,5 +1,5 @@
 -- What a file spells: a file without fault spells one list of graphs, and a file that spells one has no fault.
-use Rattle.std.proofs.Common.{◌≡◌, ◌≢◌, ℕ, zero, suc, ◌+◌, ◌<◌, ◌≤◌, List, [], ◌∷◌, ◌++◌, length, map, get_or, Option, None, Some, refl, sym, ◌∙◌, arith}
+use Rattle.std.proofs.Common.{◌≡◌, ◌≢◌, inl, ℕ, zero, suc, ◌+◌, ◌<◌, ◌≤◌, List, [], ◌∷◌, ◌++◌, length, map, get_or, Option, None, Some, refl, sym, ◌∙◌, arith}
 use Rattle.std.specs.Prelude.{MatchOption}
 use Rattle.std.specs.List.{All}
 use Rattle.std.proofs.lemmas.List.{append-nil}
@@ -10,12 +10,11 @@ use Rattle.md_text.specs.Lines.{ended, LacksFeed, without_return}
 use Rattle.md_text.proofs.LineLemmas.{lines-ended, without_return-stays}
 use Rattle.md_text.specs.Spelling.{SpellsOnly, SpellsNone, first_fault_behind}
 use Rattle.md_graph6.specs.declared.fault.G6Fault.{G6Fault}
-use Rattle.md_graph6.specs.Line.{SpellsLine, line_fault, graph_of_line}
+use Rattle.md_graph6.specs.FileLine.{SpellsLine, line_fault, graph_of_line}
 use Rattle.md_graph6.specs.File.{without_header, file_lines, SpellEach, Spells, fault_after, HasNoFault, first_fault, graphs_of_lines, graphs_of}
 use Rattle.md_graph6.specs.Written.{renumbered, IsTextOf}
 use Rattle.md_graph6.specs.Laws.{SpellsItsGraphsOrNothing, SpelledAreItsGraphs, GraphsAreGraphs, AllSpell, EndedLinesSpell, EndedLineSpells, TextSpells}
-use Rattle.md_graph6.proofs.SizeLemmas.{is_group-range}
-use Rattle.md_graph6.proofs.SpellLemmas.{spells-some, spells-sound, spells-graph, spells-groups, sound-spells}
+use Rattle.md_graph6.proofs.FileLineLemmas.{spells-some, spells-sound, spells-graph, sound-spells, spells-is_graph, spells-bytes}
 use Rattle.md_graph6.proofs.ReadLemmas.{fault_or-none}
 
 -- lines that spell graphs have no fault, and are decoded to these graphs
@@ -68,21 +67,21 @@ all_graphs-cons g graphs is all zero d inside = is
 all_graphs-cons g graphs is all (suc k) d inside = all k d (omega arith)
 
 -- what lines spell are graphs
-each_graphs : (limit : ℕ) (all : List (List ℕ)) (graphs : List PlainGraph) → SpellEach limit all graphs → All IsGraph graphs
+each_graphs : (limit : ℕ) (all : List (List ℕ)) (graphs : List PlainGraph) → limit ≤ NAMES → SpellEach limit all graphs → All IsGraph graphs
 unfolding SpellEach
-each_graphs limit [] [] spells = λ k d inside. absurd (omega arith)
-each_graphs limit [] (g ∷ graphs) spells = cc
-each_graphs limit ([] ∷ more) graphs spells = each_graphs limit more graphs spells
-each_graphs limit ((byte ∷ line) ∷ more) [] spells = absurd spells
-each_graphs limit ((byte ∷ line) ∷ more) (g ∷ graphs) spells =
-    all_graphs-cons g graphs spells.0.bits.graph (each_graphs limit more graphs spells.1)
+each_graphs limit [] [] most spells = λ k d inside. absurd (omega arith)
+each_graphs limit [] (g ∷ graphs) most spells = cc
+each_graphs limit ([] ∷ more) graphs most spells = each_graphs limit more graphs most spells
+each_graphs limit ((byte ∷ line) ∷ more) [] most spells = absurd spells
+each_graphs limit ((byte ∷ line) ∷ more) (g ∷ graphs) most spells =
+    all_graphs-cons g graphs (spells-is_graph {limit = limit} (byte ∷ line) g most spells.0) (each_graphs limit more graphs most spells.1)
 
 pub sound_graphs : (all : List (List ℕ)) → HasNoFault all → All IsGraph (graphs_of_lines all)
-sound_graphs all sound = each_graphs NAMES all (graphs_of_lines all) (sound_each NAMES all 0 (omega arith) sound)
+sound_graphs all sound = each_graphs NAMES all (graphs_of_lines all) (omega arith) (sound_each NAMES all 0 (omega arith) sound)
 
 pub graphs_are_graphs : GraphsAreGraphs
 graphs_are_graphs = λ limit bytes most sound.
-    each_graphs limit (file_lines bytes) (graphs_of bytes) (sound_each limit (file_lines bytes) 0 most sound)
+    each_graphs limit (file_lines bytes) (graphs_of bytes) most (sound_each limit (file_lines bytes) 0 most sound)
 
 -- lines that are written spell their graphs
 all_spell-each : (all : List (List ℕ)) (graphs : List PlainGraph) → AllSpell all graphs → SpellEach NAMES all graphs
@@ -93,14 +92,9 @@ all_spell-each (line ∷ more) [] spells = absurd spells
 all_spell-each ([] ∷ more) (g ∷ graphs) spells = absurd (omega (arith, spells-some {limit = NAMES} [] g (omega arith) spells.0))
 all_spell-each ((byte ∷ line) ∷ more) (g ∷ graphs) spells = (spells.0, all_spell-each more graphs spells.1)
 
--- a byte of six bits is none of a line's end
-group-other : (line : List ℕ) (g : PlainGraph) (other : ℕ) → other < 63 → SpellsLine NAMES line g → All (λ byte. byte ≢ other) line
-group-other line g other small spells = λ k d inside same.
-    let range = is_group-range (get_or line k d) (spells-groups {limit = NAMES} line g (omega arith) spells k d inside) in omega (arith, range.0)
-
 -- a line that spells a graph keeps its end
 spelt-stays : (line : List ℕ) (g : PlainGraph) → SpellsLine NAMES line g → without_return line ≡ line
-spelt-stays line g spells = without_return-stays line (group-other line g 13 (omega arith) spells)
+spelt-stays line g spells = without_return-stays line (spells-bytes line g 13 (omega arith) (λ same. absurd (omega arith)) spells)
 
 stays_each : (all : List (List ℕ)) (graphs : List PlainGraph) → AllSpell all graphs → map without_return all ≡ all
 stays_each [] [] spells = refl
@@ -116,7 +110,7 @@ lacks_each : (all : List (List ℕ)) (graphs : List PlainGraph) → AllSpell all
     → (k : ℕ) (d : List ℕ) → k < length all → LacksFeed (get_or all k d)
 lacks_each [] graphs spells k d inside = absurd (omega arith)
 lacks_each (line ∷ more) [] spells k d inside = absurd spells
-lacks_each (line ∷ more) (g ∷ graphs) spells zero d inside = group-other line g 10 (omega arith) spells.0
+lacks_each (line ∷ more) (g ∷ graphs) spells zero d inside = spells-bytes line g 10 (omega arith) (λ same. absurd (omega arith)) spells.0
 lacks_each (line ∷ more) (g ∷ graphs) spells (suc k) d inside =
     lacks_each more graphs spells.1 k d (omega arith)
 
@@ -131,7 +125,7 @@ no_header [] graphs spells = refl
 no_header (line ∷ more) [] spells = absurd spells
 no_header ([] ∷ more) (g ∷ graphs) spells = absurd (omega (arith, spells-some {limit = NAMES} [] g (omega arith) spells.0))
 no_header ((byte ∷ line) ∷ more) (g ∷ graphs) spells =
-    let other : 62 ≢ byte = λ same. group-other (byte ∷ line) g 62 (omega arith) spells.0 0 0 (omega arith) (sym same) in
+    let other : 62 ≢ byte = λ same. spells-bytes (byte ∷ line) g 62 (omega arith) (λ same. absurd (omega arith)) spells.0 0 0 (omega arith) (sym same) in
     other_first byte ((line ++ 10 ∷ []) ++ ended more) other
 
 ended_lines-each : (all : List (List ℕ)) (graphs : List PlainGraph) → AllSpell all graphs → Spells NAMES (ended all) graphs
@@ -160,7 +154,7 @@ pub ended_line_spells : EndedLineSpells
 ended_line_spells = λ line g spells. rw (← ended-one line) (ended_lines_spell (line ∷ []) (g ∷ []) (spells, tt))
 
 pub text_spells : TextSpells
-text_spells = λ text g is. rw (is.ended) (ended_line_spells is.line (renumbered g) is.spells)
+text_spells = λ text g is. rw (is.ended) (ended_line_spells is.line (renumbered g) (inl is.spells))
 
 -- what the text is as a file
 pub text_sound : {text : List ℕ} {g : PlainGraph} → IsTextOf text g → (first_fault NAMES text ≡ None) × (graphs_of text ≡ renumbered g ∷ [])

@@ -13,31 +13,33 @@ use Rattle.md_text.specs.Spelling.{first_fault_behind}
 use Rattle.md_text.proofs.LineLemmas.{lines-nil, lines-feed, lines-other}
 use Rattle.md_graph6.specs.Bits.{IsBodyOf}
 use Rattle.md_graph6.specs.File.{HasNoFault, fault_after, stripped_lines, graphs_of_lines, graphs_in}
-use Rattle.md_graph6.specs.First.{FirstBelow, IsFirstBound}
-use Rattle.md_graph6.specs.Line.{SpellsLine, is_group, line_fault, graph_of_line, graph_of_sized}
+use Rattle.md_graph6.specs.First.{FirstBelow, IsFirstBound, BeginsWithSize}
+use Rattle.md_graph6.specs.Line.{is_group, graph6_fault, graph_of_graph6, graph_of_sized}
+use Rattle.md_graph6.specs.FileLine.{SpellsLine, line_fault, graph_of_line, from_size}
 use Rattle.md_graph6.specs.Size.{size_text, size_of, eighteen_bits, most_in_four_bytes}
 use Rattle.md_graph6.proofs.LineLemmas.{IsSoundBody}
-use Rattle.md_graph6.proofs.SizeLemmas.{is_group-range, size_text-one, size_text-four, size_text-groups}
-use Rattle.md_graph6.proofs.SpellLemmas.{name_size, sound-spells, sound_line-body, sound_line-groups}
+use Rattle.md_graph6.proofs.SizeLemmas.{is_group-range, size_text-one, size_text-four, size_text-groups, size_text-some}
+use Rattle.md_graph6.proofs.SpellLemmas.{sound_line-body, sound_line-groups}
+use Rattle.md_graph6.proofs.FileLineLemmas.{HasNumbers, IsSized, line_fault-dense, spells-sized, sound-spells}
 use Rattle.md_graph6.proofs.DecodeLemmas.{decoded_is_body}
 use Rattle.md_graph6.proofs.ReadLemmas.{stripped_lines-cut, graphs-cut_skip, fault_or-none, HasNoFault-cut}
 use Rattle.md_graph6.proofs.FileLemmas.{sound_graphs}
 
 -- the vertices of a graph of n vertices are those below n
-few_vertices : {body : List ℕ} {n : ℕ} {g : PlainGraph} (m : ℕ) → IsBodyOf body n g → n ≤ m → AllBelow g.vertices m
-few_vertices {body} {n} {g} m is few v member = omega (arith, few, ltb-true v n (sym (is.vertices v) ∙ member))
+few_vertices : (n : ℕ) (g : PlainGraph) (m : ℕ) → HasNumbers n g → n ≤ m → AllBelow g.vertices m
+few_vertices n g m has few v member = omega (arith, few, ltb-true v n (sym (has v) ∙ member))
 
-vertices_few : (body : List ℕ) (n : ℕ) (g : PlainGraph) (m : ℕ) → IsBodyOf body n g → AllBelow g.vertices m → n ≤ m
-vertices_few body zero g m is below = omega arith
-vertices_few body (suc k) g m is below =
-    let last : k < m = below k (is.vertices k ∙ lt-ltb k (suc k) (omega arith)) in omega (arith, last)
+vertices_few : (n : ℕ) (g : PlainGraph) (m : ℕ) → HasNumbers n g → AllBelow g.vertices m → n ≤ m
+vertices_few zero g m has below = omega arith
+vertices_few (suc k) g m has below =
+    let last : k < m = below k (has k ∙ lt-ltb k (suc k) (omega arith)) in omega (arith, last)
 
 -- the number of vertices bounds the graph of a line
-line_bound : {graphs more : List PlainGraph} (line : List ℕ) → graphs ≡ graph_of_line line ∷ more → (s : SpellsLine NAMES line (graph_of_line line)) → IsFirstBound s.n graphs
-line_bound line e s = rw e (record {
-  below = few_vertices s.n s.bits (omega arith);
-  least = λ m below. vertices_few s.body s.n (graph_of_line line) m s.bits below;
-  few = s.few;
+line_bound : {graphs more : List PlainGraph} (line : List ℕ) (n : ℕ) → graphs ≡ graph_of_line line ∷ more → HasNumbers n (graph_of_line line) → n ≤ NAMES → IsFirstBound n graphs
+line_bound line n e has few = rw e (record {
+  below = few_vertices n (graph_of_line line) n has (omega arith);
+  least = λ m below. vertices_few n (graph_of_line line) m has below;
+  few = few;
 })
 
 -- no graph has a vertex
@@ -50,12 +52,12 @@ first_below [] n m more below = tt
 first_below (g ∷ graphs) n m more below = λ v member. omega (arith, more, below v member)
 
 -- a size has room where the vertices have
-pub size_fits : (line : List ℕ) (taken n m : ℕ) → 0 < length line → line_fault NAMES line ≡ None → size_of line ≡ Some (taken, n)
-    → AllBelow (graph_of_line line).vertices m → n ≤ m
+pub size_fits : (line : List ℕ) (taken n m : ℕ) → 0 < length line → graph6_fault NAMES line ≡ None → size_of line ≡ Some (taken, n)
+    → AllBelow (graph_of_graph6 line).vertices m → n ≤ m
 unfolding graph_of_sized
 size_fits line taken n m some sound sized below =
     let body : IsSoundBody NAMES line taken n = sound_line-body line taken n some sound sized in
-    vertices_few (drop taken line) n (graph_of_line line) m (rw sized (decoded_is_body (drop taken line) n body.few)) below
+    vertices_few n (graph_of_graph6 line) m (rw sized (decoded_is_body (drop taken line) n body.few).vertices) below
 
 -- the graphs of lines without fault have names as vertices
 graphs_fit : (graphs : List PlainGraph) → All IsGraph graphs → FirstBelow NAMES graphs
@@ -153,12 +155,18 @@ begins_with byte rest no_feed no_return = by_lines (lines rest) refl
     by_lines [] has = cut_at [] [] (lines-other byte rest no_feed ∙ ap (onto_first byte) has)
     by_lines (line ∷ more) has = cut_at line more (lines-other byte rest no_feed ∙ ap (onto_first byte) has)
 
+-- a text with more bytes behind it
+more_behind : {n : ℕ} (text behind : List ℕ) → BeginsWithSize n text → BeginsWithSize n (text ++ behind)
+more_behind {n} text behind size = record {
+  behind = size.behind ++ behind;
+  whole = ap (λ l. l ++ behind) size.whole ∙ append_assoc (size_text n) size.behind behind;
+  small = size.small;
+}
+
 -- what the first line of such a text spells, and where it is
 record Leads (text : List ℕ) : Type 0 where
   n : ℕ
-  body : List ℕ
-  named : n ≤ most_in_four_bytes
-  whole : text ≡ size_text n ++ body
+  size : BeginsWithSize n (from_size text)
   bound : IsFirstBound n (graphs_in text)
 
 leads : (byte : ℕ) (rest : List ℕ) → byte ≢ 10 → byte ≢ 13 → HasNoFault (stripped_lines (byte ∷ rest)) → Leads (byte ∷ rest)
@@ -166,14 +174,20 @@ unfolding graphs_of_lines
 leads byte rest no_feed no_return sound =
     let b = begins_with byte rest no_feed no_return in
     let none = first_sound (byte ∷ b.kept) b.more (subst HasNoFault b.cut sound) in
-    let s : SpellsLine NAMES (byte ∷ b.kept) (graph_of_line (byte ∷ b.kept)) = sound-spells (byte ∷ b.kept) (omega arith) (omega arith) none in
+    let s = spells-sized (byte ∷ b.kept) (graph_of_line (byte ∷ b.kept)) (sound-spells {limit = NAMES} (byte ∷ b.kept) (omega arith) (omega arith) none) in
     record {
       n = s.n;
-      body = s.body ++ b.behind;
-      named = name_size s.n s.few;
-      whole = b.whole ∙ ap (λ l. l ++ b.behind) s.text ∙ append_assoc (size_text s.n) s.body b.behind;
-      bound = line_bound (byte ∷ b.kept) (ap graphs_of_lines b.cut) s;
+      size = subst (λ t. BeginsWithSize s.n (from_size t)) (sym b.whole) (size_before byte b.kept b.behind s.size);
+      bound = line_bound (byte ∷ b.kept) s.n (ap graphs_of_lines b.cut) s.vertices s.few;
     }
+  where
+    -- bytes behind the line leave its size
+    size_before : {n : ℕ} (byte : ℕ) (line behind : List ℕ) → BeginsWithSize n (from_size (byte ∷ line))
+        → BeginsWithSize n (from_size ((byte ∷ line) ++ behind))
+    size_before {n} byte line behind size = elim (eqb_tells byte 58) [
+      | inl (test, _) ↦ rw test (more_behind line behind (rw test at size))
+      | inr (test, _) ↦ rw test (more_behind (byte ∷ line) behind (rw test at size))
+    ]
 
 -- the first byte tells how many bytes the size has
 begins_small : (n : ℕ) (body : List ℕ) → n ≤ 62 → get_or (size_text n ++ body) 0 0 ≡ n + 63
@@ -182,26 +196,33 @@ begins_small n body small = rw (size_text-one n small) refl
 begins_large : (n : ℕ) (body : List ℕ) → 63 ≤ n → n ≤ most_in_four_bytes → get_or (size_text n ++ body) 0 0 ≡ 126
 begins_large n body large small = rw (size_text-four n large small) refl
 
+-- a text that isn't empty begins with the size of its first graph
+pub first_leads : (text : List ℕ) → 0 < length text → get_or text 0 0 ≢ 10 → get_or text 0 0 ≢ 13 → HasNoFault (stripped_lines text)
+    → (n : ℕ) × BeginsWithSize n (from_size text) × IsFirstBound n (graphs_in text)
+first_leads [] some no_feed no_return sound = absurd (omega (arith, some))
+first_leads (byte ∷ rest) some no_feed no_return sound =
+    let l = leads byte rest no_feed no_return sound in (l.n, l.size, l.bound)
+
+-- a size has a byte
+pub size_some : {n : ℕ} (text : List ℕ) → BeginsWithSize n text → 0 < length text
+size_some {n} text size = rw size.whole (size_text-some n size.behind size.small)
+
 -- one byte spells the size
-pub first_one : (text : List ℕ) → 0 < length text → get_or text 0 0 ≢ 10 → get_or text 0 0 ≢ 13 → HasNoFault (stripped_lines text) → get_or text 0 0 ≢ 126
-    → (63 ≤ get_or text 0 0) × IsFirstBound (get_or text 0 0 - 63) (graphs_in text)
-first_one [] some no_feed no_return sound other = absurd (omega (arith, some))
-first_one (byte ∷ rest) some no_feed no_return sound other =
-    let l = leads byte rest no_feed no_return sound in
-    let begins : byte ≡ get_or (size_text l.n ++ l.body) 0 0 = ap (λ t. get_or t 0 0) l.whole in
-    elim (cases_lt l.n 63) [
+pub size_one : (n : ℕ) (text : List ℕ) → BeginsWithSize n text → get_or text 0 0 ≢ 126 → (63 ≤ get_or text 0 0) × (get_or text 0 0 - 63 ≡ n)
+size_one n text size other =
+    let begins : get_or text 0 0 ≡ get_or (size_text n ++ size.behind) 0 0 = ap (λ t. get_or t 0 0) size.whole in
+    elim (cases_lt n 63) [
       | inl small ↦
-          let e : byte ≡ l.n + 63 = begins ∙ begins_small l.n l.body (omega (arith, small)) in
-          let same : l.n ≡ byte - 63 = omega (arith, e) in
-          (omega (arith, e), subst (λ n. IsFirstBound n (graphs_in (byte ∷ rest))) same l.bound)
-      | inr large ↦ absurd (other (begins ∙ begins_large l.n l.body (omega (arith, large)) l.named))
+          let e : get_or text 0 0 ≡ n + 63 = begins ∙ begins_small n size.behind (omega (arith, small)) in
+          (omega (arith, e), omega (arith, e))
+      | inr large ↦ absurd (other (begins ∙ begins_large n size.behind (omega (arith, large)) size.small))
     ]
 
 -- four bytes spell the size
-pub record HasFour (text : List ℕ) : Type 0 where
+pub record HasFour (n : ℕ) (text : List ℕ) : Type 0 where
   pub long : 4 ≤ length text
   pub groups : AllPass is_group (take 4 text)
-  pub bound : IsFirstBound (eighteen_bits (take 4 text) 1) (graphs_in text)
+  pub value : eighteen_bits (take 4 text) 1 ≡ n
 
 four_bytes : (n : ℕ) (text body : List ℕ) → 63 ≤ n → n ≤ most_in_four_bytes → text ≡ size_text n ++ body
     → (4 ≤ length text) × (take 4 text ≡ size_text n) × (eighteen_bits (size_text n) 1 ≡ n)
@@ -209,21 +230,19 @@ four_bytes n text body large small is =
     let value : ((n / 64 / 64 % 64 + 63 - 63) * 64 + (n / 64 % 64 + 63 - 63)) * 64 + (n % 64 + 63 - 63) ≡ n = omega (arith, small) in
     rw (is, size_text-four n large small) (omega arith, refl, value)
 
-pub first_four : (text : List ℕ) → 0 < length text → get_or text 0 0 ≢ 10 → get_or text 0 0 ≢ 13 → HasNoFault (stripped_lines text) → get_or text 0 0 ≡ 126 → HasFour text
-first_four [] some no_feed no_return sound long = absurd (omega (arith, some))
-first_four (byte ∷ rest) some no_feed no_return sound long =
-    let l = leads byte rest no_feed no_return sound in
-    let begins : byte ≡ get_or (size_text l.n ++ l.body) 0 0 = ap (λ t. get_or t 0 0) l.whole in
-    elim (cases_lt l.n 63) [
+pub size_four : (n : ℕ) (text : List ℕ) → BeginsWithSize n text → get_or text 0 0 ≡ 126 → HasFour n text
+size_four n text size long =
+    let begins : get_or text 0 0 ≡ get_or (size_text n ++ size.behind) 0 0 = ap (λ t. get_or t 0 0) size.whole in
+    elim (cases_lt n 63) [
       | inl small ↦
-          let e : byte ≡ l.n + 63 = begins ∙ begins_small l.n l.body (omega (arith, small)) in
+          let e : get_or text 0 0 ≡ n + 63 = begins ∙ begins_small n size.behind (omega (arith, small)) in
           absurd (omega (arith, e, long, small))
       | inr large ↦
-          let four = four_bytes l.n (byte ∷ rest) l.body (omega (arith, large)) l.named l.whole in
+          let four = four_bytes n text size.behind (omega (arith, large)) size.small size.whole in
           record {
             long = four.0;
-            groups = subst (AllPass is_group) (sym four.1) (AllPass-from_list_all is_group (size_text l.n) (size_text-groups l.n l.named));
-            bound = subst (λ n. IsFirstBound n (graphs_in (byte ∷ rest))) (sym (ap (λ t. eighteen_bits t 1) four.1 ∙ four.2)) l.bound;
+            groups = subst (AllPass is_group) (sym four.1) (AllPass-from_list_all is_group (size_text n) (size_text-groups n size.small));
+            value = ap (λ t. eighteen_bits t 1) four.1 ∙ four.2;
           }
     ]
 
@@ -254,7 +273,7 @@ skipped_return (next ∷ rest) sound =
           let cut : stripped_lines (13 ∷ next ∷ rest) ≡ (13 ∷ begins.0) ∷ begins.1 =
           ap (map without_return) (lines-other 13 (next ∷ rest) (λ same. absurd (omega arith)) ∙ ap (onto_first 13) (lines-other next rest other)) ∙ begins.2 in
           let none = first_sound (13 ∷ begins.0) begins.1 (subst HasNoFault cut sound) in
-          let group : is_group 13 ≡ true = sound_line-groups (13 ∷ begins.0) (omega arith) none 0 0 (omega arith) in
+          let group : is_group 13 ≡ true = sound_line-groups (13 ∷ begins.0) (sym (line_fault-dense NAMES (13 ∷ begins.0) (omega arith) (λ same. absurd (omega arith))) ∙ none) 0 0 (omega arith) in
           absurd (omega (arith, (is_group-range 13 group).0))
     ]
 

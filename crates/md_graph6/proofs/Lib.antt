@@ -16,3 +16,7 @@ pub mod Listed
 pub mod SizeText
 pub mod WriteLemmas
 pub mod ByteLemmas
+mod NumberLemmas
+mod WalkLemmas
+mod SparseLemmas
+mod FileLineLemmas

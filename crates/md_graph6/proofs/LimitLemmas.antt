@@ -1,5 +1,5 @@
 -- Where the limit of the number of vertices isn't at fault, a greater one changes nothing.
-use Rattle.std.proofs.Common.{◌≡◌, ◌≢◌, ◌⊎◌, ℕ, ◌+◌, ◌≤◌, Bool, true, false, not, List, [], ◌∷◌, get_or, if◌then◌else◌, nat_lt, Option, None, Some, inl, inr, refl, sym, ◌∙◌, arith}
+use Rattle.std.proofs.Common.{◌≡◌, ◌≢◌, ◌⊎◌, ℕ, ◌+◌, ◌≤◌, ◌==◌, Bool, true, false, not, List, [], ◌∷◌, get_or, if◌then◌else◌, nat_lt, Option, None, Some, inl, inr, refl, sym, ◌∙◌, arith}
 use Rattle.std.specs.List.{list_all}
 use Rattle.std.proofs.lemmas.Bool.{cases_lt, lt-ltb, le-ltb}
 use Rattle.md_text.specs.Spelling.{fault_or, first_fault_behind}
@@ -8,7 +8,10 @@ use Rattle.md_graph6.specs.declared.fault.G6Fault.{G6Fault}
 use Rattle.md_graph6.specs.declared.fault.G6Kind.{G6Kind}
 use Rattle.md_graph6.specs.declared.fault.G6Kind.TheVariants.{BadByte, BadSize, TooManyVertices, OtherFormat}
 use Rattle.md_graph6.specs.Size.{size_of, is_too_long}
-use Rattle.md_graph6.specs.Line.{is_group, begins_other, body_fault, size_fault, graph6_fault, line_fault}
+use Rattle.md_graph6.specs.Line.{is_group, begins_other, body_fault, size_fault, graph6_fault}
+use Rattle.md_graph6.specs.Sparse.{has_loop}
+use Rattle.md_graph6.specs.SparseLine.{pairs_fault, sparse_size_fault, sparse_fault}
+use Rattle.md_graph6.specs.FileLine.{line_fault}
 use Rattle.md_graph6.specs.File.{fault_at, fault_after, file_lines, HasNoFault, first_fault}
 use Rattle.md_graph6.specs.Laws.{LimitsAgree}
 
@@ -46,10 +49,32 @@ graph6_agree low high more line =
     agree_behind (begins_other (get_or line 0 0)) (Some OtherFormat)
     (agree_behind (not (list_all is_group line)) (Some BadByte) (size_agree low high more line (size_of line)))
 
+pairs_agree : (low high : ℕ) → low ≤ high → (rest : List ℕ) (taken n : ℕ) → Agree (pairs_fault low rest taken n) (pairs_fault high rest taken n)
+unfolding pairs_fault
+pairs_agree low high more rest taken n =
+    agree_behind (is_too_long taken n) (Some BadSize) (agree_many low high n _ more)
+
+sparse_size_agree : (low high : ℕ) → low ≤ high → (rest : List ℕ) (size : Option (ℕ × ℕ)) → Agree (sparse_size_fault low rest size) (sparse_size_fault high rest size)
+unfolding sparse_size_fault
+sparse_size_agree low high more rest None = inr refl
+sparse_size_agree low high more rest (Some size) = pairs_agree low high more rest size.0 size.1
+
+sparse_agree : (low high : ℕ) → low ≤ high → (rest : List ℕ) → Agree (sparse_fault low rest) (sparse_fault high rest)
+unfolding sparse_fault
+sparse_agree low high more [] = inr refl
+sparse_agree low high more (byte ∷ rest) =
+    agree_behind (not (list_all is_group (byte ∷ rest))) (Some BadByte) (sparse_size_agree low high more (byte ∷ rest) (size_of (byte ∷ rest)))
+
+-- a test of the line, which no limit changes
+agree_either : (test : Bool) {a b c d : Option G6Kind} → Agree a b → Agree c d → Agree (if test then a else c) (if test then b else d)
+agree_either true first second = first
+agree_either false first second = second
+
 line_agree : (low high : ℕ) → low ≤ high → (line : List ℕ) → Agree (line_fault low line) (line_fault high line)
 unfolding line_fault
 line_agree low high more [] = inr refl
-line_agree low high more (byte ∷ rest) = graph6_agree low high more (byte ∷ rest)
+line_agree low high more (byte ∷ rest) =
+    agree_either (byte == 58) (sparse_agree low high more rest) (graph6_agree low high more (byte ∷ rest))
 
 -- some line has too many vertices, or the first fault stays
 abbrev FaultsAgree : Option G6Fault → Option G6Fault → Type 0

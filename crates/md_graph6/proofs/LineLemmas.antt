@@ -1,4 +1,4 @@
--- The faults of one line, and what a line without fault is made of.
+-- The faults of one graph6 line, and what such a line without fault is made of.
 use Rattle.std.proofs.Common.{◌≡◌, ℕ, ◌+◌, ◌<◌, ◌≤◌, Bool, true, false, not, List, [], ◌∷◌, length, get_or, drop, if◌then◌else◌, Option, None, Some, refl, sym, ◌∙◌, arith}
 use Rattle.std.specs.List.{list_all, AllPass}
 use Rattle.std.proofs.lemmas.List.Sums.{AllPass-from_list_all}
@@ -7,19 +7,7 @@ use Rattle.md_graph6.specs.declared.fault.G6Kind.{G6Kind}
 use Rattle.md_graph6.specs.declared.fault.G6Kind.TheVariants.{BadByte, OtherFormat}
 use Rattle.md_graph6.specs.Bits.{body_length}
 use Rattle.md_graph6.specs.Size.{size_of, is_too_long}
-use Rattle.md_graph6.specs.Line.{is_group, begins_other, line_fault, graph6_fault, size_fault, body_fault, is_padding_set}
-
--- an empty line has no fault
-pub line_fault-empty : (limit : ℕ) (line : List ℕ) → length line ≡ 0 → line_fault limit line ≡ None
-unfolding line_fault
-line_fault-empty limit [] none = refl
-line_fault-empty limit (byte ∷ rest) none = absurd (omega arith)
-
--- another line is a graph6 line
-pub line_fault-some : (limit : ℕ) (line : List ℕ) → 0 < length line → line_fault limit line ≡ graph6_fault limit line
-unfolding line_fault
-line_fault-some limit [] some = absurd (omega arith)
-line_fault-some limit (byte ∷ rest) some = refl
+use Rattle.md_graph6.specs.Line.{is_group, begins_other, graph6_fault, size_fault, body_fault, is_padding_set}
 
 -- the faults of a graph6 line, by its first byte
 pub graph6_fault-is : (limit : ℕ) (line : List ℕ)

@@ -9,7 +9,7 @@ use Rattle.md_text.proofs.LineLemmas.{no_lines}
 use Rattle.md_text.specs.Spelling.{fault_or, first_fault_behind}
 use Rattle.md_graph6.specs.declared.fault.G6Fault.{G6Fault}
 use Rattle.md_graph6.specs.declared.fault.G6Kind.{G6Kind}
-use Rattle.md_graph6.specs.Line.{line_fault, graph_of_line}
+use Rattle.md_graph6.specs.FileLine.{line_fault, graph_of_line}
 use Rattle.md_graph6.specs.File.{stripped_lines, fault_after, HasNoFault, graphs_of_lines, first_fault, graphs_of, fault_at}
 
 -- a text without bytes has no lines

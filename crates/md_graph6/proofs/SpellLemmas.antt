@@ -1,4 +1,4 @@
--- What a line spells: a line without fault spells one graph, and a line that spells one has no fault.
+-- What a graph6 line spells: a line without fault spells one graph, and a line that spells one has no fault.
 use Rattle.std.proofs.Common.{◌≡◌, ℕ, ◌+◌, ◌-◌, ◌*◌, ◌<◌, ◌≤◌, true, false, List, ◌++◌, length, get_or, take, drop, None, Some, refl, sym, ap, ◌∙◌, arith, length-append, length-drop}
 use Rattle.std.specs.List.{list_all, AllPass}
 use Rattle.std.proofs.lemmas.Bool.Decides.{nat_tests}
@@ -11,12 +11,12 @@ use Rattle.md_graph.specs.declared.TheConstants.{NAMES}
 use Rattle.md_graph.specs.PlainGraph.{PlainGraph}
 use Rattle.md_graph6.specs.Bits.{bit, body_length, IsBodyOf}
 use Rattle.md_graph6.specs.Size.{size_text, size_of, most_in_four_bytes}
-use Rattle.md_graph6.specs.Line.{SpellsLine, is_group, begins_other, pair_count, line_fault, graph6_fault, size_fault, body_fault, graph_of_body, graph_of_sized, graph_of_line}
+use Rattle.md_graph6.specs.Line.{SpellsGraph6, is_group, begins_other, pair_count, graph6_fault, size_fault, body_fault, graph_of_body, graph_of_sized, graph_of_graph6}
 use Rattle.md_graph.proofs.Limits.{NAMES-lt}
 use Rattle.md_graph6.proofs.SizeLemmas.{is_group-range, size_text-read, size_text-shortest, size_text-groups, size_text-some, size_text-spelt}
 use Rattle.md_graph6.proofs.PaddingLemmas.{padding-none, padding-all}
 use Rattle.md_graph6.proofs.DecodeLemmas.{decoded_is_body, IsBodyOf-one}
-use Rattle.md_graph6.proofs.LineLemmas.{IsSoundBody, IsSoundLine, line_fault-some, graph6_fault-sized, graph6_fault-none, body_fault-none, body_fault-sound}
+use Rattle.md_graph6.proofs.LineLemmas.{IsSoundBody, IsSoundLine, graph6_fault-sized, graph6_fault-none, body_fault-none, body_fault-sound}
 
 -- a name's size takes at most four bytes
 pub name_size : (n : ℕ) → n ≤ NAMES → n ≤ most_in_four_bytes
@@ -59,32 +59,29 @@ text_fault limit n body most few long groups blank =
     ∙ body_fault-sound (size_text n ++ body) (length (size_text n)) n (text_is_sound n body most few long blank)
 
 text_graph : (n : ℕ) (body : List ℕ) (g : PlainGraph) → n ≤ NAMES → IsBodyOf body n g
-    → graph_of_line (size_text n ++ body) ≡ g
+    → graph_of_graph6 (size_text n ++ body) ≡ g
 unfolding graph_of_sized
 text_graph n body g few bits =
     rw (size_text-read n body (name_size n few), drop-append_seam (size_text n) body)
     (IsBodyOf-one body n (graph_of_body body n) g (decoded_is_body body n few) bits)
 
 -- a line that spells a graph has no fault, and is decoded to that graph
-pub spells-some : {limit : ℕ} (line : List ℕ) (g : PlainGraph) → limit ≤ NAMES → SpellsLine limit line g → 0 < length line
-spells-some line g most s = rw s.text (size_text-some s.n s.body (name_size s.n (omega (arith, most, s.few))))
+pub graph6_spells-some : {limit : ℕ} (line : List ℕ) (g : PlainGraph) → limit ≤ NAMES → SpellsGraph6 limit line g → 0 < length line
+graph6_spells-some line g most s = rw s.text (size_text-some s.n s.body (name_size s.n (omega (arith, most, s.few))))
 
-spells-faultless : {limit : ℕ} (line : List ℕ) (g : PlainGraph) → limit ≤ NAMES → SpellsLine limit line g → graph6_fault limit line ≡ None
-spells-faultless {limit} line g most s = rw s.text (text_fault limit s.n s.body most s.few s.long s.groups s.padding)
+pub graph6_spells-sound : {limit : ℕ} (line : List ℕ) (g : PlainGraph) → limit ≤ NAMES → SpellsGraph6 limit line g → graph6_fault limit line ≡ None
+graph6_spells-sound {limit} line g most s = rw s.text (text_fault limit s.n s.body most s.few s.long s.groups s.padding)
 
-pub spells-sound : {limit : ℕ} (line : List ℕ) (g : PlainGraph) → limit ≤ NAMES → SpellsLine limit line g → line_fault limit line ≡ None
-spells-sound {limit} line g most s = line_fault-some limit line (spells-some line g most s) ∙ spells-faultless line g most s
-
-pub spells-graph : {limit : ℕ} (line : List ℕ) (g : PlainGraph) → limit ≤ NAMES → SpellsLine limit line g → graph_of_line line ≡ g
-spells-graph line g most s = rw s.text (text_graph s.n s.body g (omega (arith, most, s.few)) s.bits)
+pub graph6_spells-graph : {limit : ℕ} (line : List ℕ) (g : PlainGraph) → limit ≤ NAMES → SpellsGraph6 limit line g → graph_of_graph6 line ≡ g
+graph6_spells-graph line g most s = rw s.text (text_graph s.n s.body g (omega (arith, most, s.few)) s.bits)
 
 -- the bytes of a line that spells a graph
-pub spells-groups : {limit : ℕ} (line : List ℕ) (g : PlainGraph) → limit ≤ NAMES → SpellsLine limit line g → AllPass is_group line
-spells-groups line g most s = (graph6_fault-none line (spells-faultless line g most s)).groups
+pub graph6_spells-groups : {limit : ℕ} (line : List ℕ) (g : PlainGraph) → limit ≤ NAMES → SpellsGraph6 limit line g → AllPass is_group line
+graph6_spells-groups line g most s = (graph6_fault-none line (graph6_spells-sound line g most s)).groups
 
 -- a line without fault spells the graph that is decoded
 sound_line-spells : {limit : ℕ} (line : List ℕ) (taken n : ℕ) → limit ≤ NAMES → 0 < length line → AllPass is_group line
-    → size_of line ≡ Some (taken, n) → IsSoundBody limit line taken n → SpellsLine limit line (graph_of_line line)
+    → size_of line ≡ Some (taken, n) → IsSoundBody limit line taken n → SpellsGraph6 limit line (graph_of_graph6 line)
 unfolding graph_of_sized
 sound_line-spells line taken n most some groups sized sound = record {
   n = n;
@@ -97,37 +94,33 @@ sound_line-spells line taken n most some groups sized sound = record {
   padding = padding-all (drop taken line) n sound.padding;
 }
 
--- the parts of a line without fault
-line_fault-none : {limit : ℕ} (line : List ℕ) → 0 < length line → line_fault limit line ≡ None → IsSoundLine limit line
-line_fault-none {limit} line some sound = graph6_fault-none line (sym (line_fault-some limit line some) ∙ sound)
-
-pub sound-spells : {limit : ℕ} (line : List ℕ) → limit ≤ NAMES → 0 < length line → line_fault limit line ≡ None
-    → SpellsLine limit line (graph_of_line line)
-sound-spells {limit} line most some sound =
-    let facts : IsSoundLine limit line = line_fault-none line some sound in
+pub sound-graph6_spells : {limit : ℕ} (line : List ℕ) → limit ≤ NAMES → 0 < length line → graph6_fault limit line ≡ None
+    → SpellsGraph6 limit line (graph_of_graph6 line)
+sound-graph6_spells {limit} line most some sound =
+    let facts : IsSoundLine limit line = graph6_fault-none line sound in
     sound_line-spells line facts.taken facts.n most some facts.groups facts.sized facts.body
 
 -- the size of a line without fault is there, and its body is sound
-pub sound_line-sized : (line : List ℕ) → 0 < length line → line_fault NAMES line ≡ None → size_of line ≡ None → ⊥
-sound_line-sized line some sound none =
-    let facts : IsSoundLine NAMES line = line_fault-none line some sound in
+pub sound_line-sized : (line : List ℕ) → graph6_fault NAMES line ≡ None → size_of line ≡ None → ⊥
+sound_line-sized line sound none =
+    let facts : IsSoundLine NAMES line = graph6_fault-none line sound in
     cc (facts.sized)
 
-pub sound_line-groups : (line : List ℕ) → 0 < length line → line_fault NAMES line ≡ None → AllPass is_group line
-sound_line-groups line some sound = (line_fault-none line some sound).groups
+pub sound_line-groups : (line : List ℕ) → graph6_fault NAMES line ≡ None → AllPass is_group line
+sound_line-groups line sound = (graph6_fault-none line sound).groups
 
-pub sound_line-body : (line : List ℕ) (taken n : ℕ) → 0 < length line → line_fault NAMES line ≡ None
+pub sound_line-body : (line : List ℕ) (taken n : ℕ) → 0 < length line → graph6_fault NAMES line ≡ None
     → size_of line ≡ Some (taken, n) → IsSoundBody NAMES line taken n
 unfolding size_fault
 sound_line-body line taken n some sound sized =
-    let groups : list_all is_group line ≡ true = list_all-from_AllPass is_group line (sound_line-groups line some sound) in
+    let groups : list_all is_group line ≡ true = list_all-from_AllPass is_group line (sound_line-groups line sound) in
     let fault : graph6_fault NAMES line ≡ body_fault NAMES line taken n =
     graph6_fault-sized NAMES line (Some (taken, n)) (line_begins line some groups) groups sized in
-    body_fault-none line taken n (sym fault ∙ (sym (line_fault-some NAMES line some) ∙ sound))
+    body_fault-none line taken n (sym fault ∙ sound)
 
 -- a graph that is filled from what stands behind the size is the line's
 pub filled_is_line : (line : List ℕ) (taken n : ℕ) (g : PlainGraph) → size_of line ≡ Some (taken, n) → n ≤ NAMES
-    → IsBodyOf (take (length line - taken) (drop taken line)) n g → g ≡ graph_of_line line
+    → IsBodyOf (take (length line - taken) (drop taken line)) n g → g ≡ graph_of_graph6 line
 unfolding graph_of_sized
 filled_is_line line taken n g sized few bits =
     let behind : IsBodyOf (drop taken line) n g = rw take_rest at bits in

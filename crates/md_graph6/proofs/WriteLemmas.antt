@@ -11,7 +11,7 @@ use Rattle.md_graph.proofs.NameLemmas.{ascending_items, few_below}
 use Rattle.md_graph.proofs.Transposing.{bit_at_shl, bit_at_shr}
 use Rattle.md_graph6.proofs.BitLemmas.{bit_at_mod, bit_at_shl_low}
 use Rattle.md_graph6.specs.Size.{size_text}
-use Rattle.md_graph6.specs.Line.{SpellsLine, is_group}
+use Rattle.md_graph6.specs.Line.{SpellsGraph6, is_group}
 use Rattle.md_graph6.proofs.DecodeLemmas.{contains-numbers_below}
 use Rattle.std.proofs.lemmas.Bool.Decides.{nat_tests}
 use Rattle.std.specs.FinSet as set
@@ -260,7 +260,7 @@ IsBodyOf-written body g written = record {
 
 pub SpellsLine-written : (line : List ℕ) (size n : ℕ) (g : PlainGraph) → n ≡ length (ascending g.vertices)
     → take size line ≡ size_text n → length (drop size line) ≡ body_length n → IsWritten (drop size line) g n
-    → SpellsLine NAMES line (renumbered g)
+    → SpellsGraph6 NAMES line (renumbered g)
 SpellsLine-written line size n g count begins long written = record {
   n = n;
   body = drop size line;

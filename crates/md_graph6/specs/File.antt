@@ -1,4 +1,4 @@
--- A graph6 file: its lines, the graphs that it spells, and its first fault.
+-- A file of graph6 and sparse6 lines: its lines, the graphs that it spells, and its first fault.
 -- Source: B. McKay, "Description of graph6, sparse6 and digraph6 encodings"; the faults are this project's.
 use Rattle.std.specs.Prelude.{◌≡◌, ℕ, List, [], ◌∷◌, length, map, drop, if◌then◌else◌, nat_eq, Option, None, codes}
 use Rattle.std.specs.List.{starts_with}
@@ -8,15 +8,21 @@ use Rattle.md_text.specs.Lines.{lines, without_return}
 use Rattle.md_text.specs.Spelling.{first_fault_behind}
 use Rattle.md_graph6.specs.declared.fault.G6Fault.{G6Fault}
 use Rattle.md_graph6.specs.declared.fault.G6Kind.{G6Kind}
-use Rattle.md_graph6.specs.Line.{SpellsLine, line_fault, graph_of_line}
+use Rattle.md_graph6.specs.FileLine.{SpellsLine, line_fault, graph_of_line}
 
 -- the bytes `>>graph6<<`, with which a file may begin
 abbrev pub header : List ℕ
 header = codes ">>graph6<<"
 
--- the file without the header
+-- the bytes `>>sparse6<<`, with which it may begin in place of these
+abbrev pub sparse_header : List ℕ
+sparse_header = codes ">>sparse6<<"
+
+-- the file without the header, which says nothing of the lines behind it
 abbrev pub without_header : List ℕ → List ℕ
-without_header bytes = if starts_with nat_eq bytes header then drop (length header) bytes else bytes
+without_header bytes =
+    if starts_with nat_eq bytes header then drop (length header) bytes else
+    if starts_with nat_eq bytes sparse_header then drop (length sparse_header) bytes else bytes
 
 -- the lines of a text, each without one byte 13 at its end; empty ones are among them
 abbrev pub stripped_lines : List ℕ → List (List ℕ)

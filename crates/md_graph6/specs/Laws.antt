@@ -7,7 +7,7 @@ use Rattle.md_text.specs.Lines.{ended}
 use Rattle.md_text.specs.Spelling.{SpellsOnly, SpellsNone}
 use Rattle.md_graph6.specs.declared.fault.G6Fault.{G6Fault}
 use Rattle.md_graph6.specs.declared.fault.G6Kind.TheVariants.{TooManyVertices}
-use Rattle.md_graph6.specs.Line.{SpellsLine}
+use Rattle.md_graph6.specs.FileLine.{SpellsLine}
 use Rattle.md_graph6.specs.Written.{IsTextOf, renumbered}
 use Rattle.md_graph6.specs.File.{Spells, first_fault, graphs_of}
 

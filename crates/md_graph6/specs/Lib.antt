@@ -9,3 +9,7 @@ pub mod Filled
 pub mod Short
 pub mod Written
 pub mod Text
+pub mod Sparse
+pub mod Pairs
+pub mod SparseLine
+pub mod FileLine

@@ -19,7 +19,7 @@ is_group byte = nat_le 63 byte && nat_le byte 126
 
 -- The line is the size n, at most the limit, in its shortest spelling, and the bits of the graph, filled up with zeros
 -- to whole bytes.
-pub record SpellsLine (limit : ℕ) (line : List ℕ) (g : PlainGraph) : Type 0 where
+pub record SpellsGraph6 (limit : ℕ) (line : List ℕ) (g : PlainGraph) : Type 0 where
   pub n : ℕ
   pub body : List ℕ
   pub few : n ≤ limit
@@ -29,9 +29,9 @@ pub record SpellsLine (limit : ℕ) (line : List ℕ) (g : PlainGraph) : Type 0 
   pub bits : IsBodyOf body n g
   pub padding : (k : ℕ) → pair_count n ≤ k → k < 6 * body_length n → bit body k ≡ 0
 
--- the first byte of a sparse6, incremental sparse6 or digraph6 line: `:`, `;` or `&`
+-- the first byte of an incremental sparse6 or a digraph6 line: `;` or `&`
 abbrev pub begins_other : ℕ → Bool
-begins_other byte = byte == 58 || (byte == 59 || byte == 38)
+begins_other byte = byte == 59 || byte == 38
 
 -- whether one of `count` bits from `first` on is 1
 unfoldable pub some_bit : List ℕ → ℕ → ℕ → Bool
@@ -63,11 +63,6 @@ graph6_fault limit line =
     if not (list_all is_group line) then Some BadByte else
     size_fault limit line (size_of line)
 
--- the first fault of a line under a limit of the number of vertices; an empty line has none
-unfoldable pub line_fault : ℕ → List ℕ → Option G6Kind
-line_fault limit [] = None
-line_fault limit (byte ∷ rest) = graph6_fault limit (byte ∷ rest)
-
 -- whether the bit of the pair i < j is 1
 abbrev pub is_edge : List ℕ → ℕ → ℕ → Bool
 is_edge body i j = bit body (pair_number i j) == 1
@@ -81,6 +76,6 @@ unfoldable pub graph_of_sized : List ℕ → Option (ℕ × ℕ) → PlainGraph
 graph_of_sized line None = graph_of_body line 0
 graph_of_sized line (Some size) = graph_of_body (drop size.0 line) size.1
 
--- the graph that a line without fault spells
-abbrev pub graph_of_line : List ℕ → PlainGraph
-graph_of_line line = graph_of_sized line (size_of line)
+-- the graph that a graph6 line without fault spells
+abbrev pub graph_of_graph6 : List ℕ → PlainGraph
+graph_of_graph6 line = graph_of_sized line (size_of line)

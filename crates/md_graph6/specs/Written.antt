@@ -5,7 +5,7 @@ use Rattle.md_graph.specs.declared.TheConstants.{NAMES}
 use Rattle.md_graph.specs.NameSet.{ascending, range}
 use Rattle.md_graph.specs.PlainGraph.{PlainGraph, adjacent, pairs_where}
 use Rattle.md_graph6.specs.Bits.{bit, pair_number}
-use Rattle.md_graph6.specs.Line.{SpellsLine}
+use Rattle.md_graph6.specs.Line.{SpellsGraph6}
 use Rattle.md_graph6.specs.Window.{AreGroups}
 
 -- the i-th vertex in ascending order, counted from 0
@@ -41,4 +41,4 @@ pub record IsWritten (body : List ℕ) (g : PlainGraph) (n : ℕ) : Type 0 where
 pub record IsTextOf (text : List ℕ) (g : PlainGraph) : Type 0 where
   pub line : List ℕ
   pub ended : text ≡ line ++ 10 ∷ []
-  pub spells : SpellsLine NAMES line (renumbered g)
+  pub spells : SpellsGraph6 NAMES line (renumbered g)

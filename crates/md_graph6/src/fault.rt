@@ -1,8 +1,9 @@
-//! What may be wrong with a graph6 file.
+//! What may be wrong with a file of graph6 and sparse6 lines.
 
-/// What is wrong with a line. A line's first fault is named, in the order: another format, a bad
-/// byte, a size that isn't all there, a size that is spelt too long, too many vertices, too few
-/// bytes, too many bytes, padding that isn't zero.
+/// What is wrong with a line. A line's first fault is named. In a graph6 line the order is: another
+/// format, a bad byte, a size that isn't all there, a size that is spelt too long, too many
+/// vertices, too few bytes, too many bytes, padding that isn't zero. In a sparse6 line it is: a bad
+/// byte, a size that isn't all there, a size that is spelt too long, too many vertices, a loop.
 #[derive(Clone, Copy, Debug, PartialEq, Eq)]
 pub enum G6Kind {
     /// A byte is below 63 or above 126.
@@ -17,8 +18,10 @@ pub enum G6Kind {
     TrailingBytes,
     /// A bit that fills up the last byte is 1.
     BadPadding,
-    /// The line begins as one of another format: `:`, `;` or `&`.
+    /// The line begins as one of another format: `;` or `&`.
     OtherFormat,
+    /// An edge that isn't left out has equal ends. Only sparse6 lines have this fault.
+    Loop,
 }
 
 /// The first fault of a file.

@@ -3,7 +3,7 @@ ghost use Rattle.std.specs.Prelude.{◌≡◌, ◌≤◌, length, IfOk, IfErr, N
 ghost use Rattle.md_graph6.specs.File.{without_header, first_fault, graphs_of};
 
 use crate::fault::G6Fault;
-use crate::line::line_fault;
+use crate::file_line::line_fault;
 use md_graph::NAMES;
 use md_text::{split_line, without_return};
 
@@ -40,5 +40,8 @@ pub(crate) fn without_header(bytes: &[u8]) -> &[u8]
     ensures value { result.now ≡ without_header bytes.now }
     ensures shorter { length result.now ≤ length bytes.now }
 {
-    bytes.strip_prefix(b">>graph6<<").unwrap_or(bytes)
+    if let Some(rest) = bytes.strip_prefix(b">>graph6<<") {
+        return rest;
+    }
+    bytes.strip_prefix(b">>sparse6<<").unwrap_or(bytes)
 }

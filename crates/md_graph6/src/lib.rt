@@ -8,9 +8,11 @@
 mod body;
 mod fault;
 mod file;
+mod file_line;
 pub mod laws;
 mod line;
 mod reader;
+mod sparse;
 mod writer;
 
 pub use fault::{G6Fault, G6Kind};

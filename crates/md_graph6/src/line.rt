@@ -1,11 +1,11 @@
-//! One line of a graph6 file: its size, its first fault, and the graph that it spells.
+//! One graph6 line: its size, its first fault, and the graph that it spells.
 ghost use Rattle.std.specs.Prelude.{◌≡◌, ◌+◌, ◌*◌, ◌<◌, ◌≤◌, length, IfSome, None};
 ghost use Rattle.std.specs.List.{AllPass, list_all};
 ghost use Rattle.md_graph.specs.NameSet.{AllBelow};
 ghost use Rattle.md_graph.specs.PlainGraph.{empty_graph};
 ghost use Rattle.md_graph6.specs.Bits.{body_length};
 ghost use Rattle.md_graph6.specs.Size.{size_of, eighteen_bits, is_too_long};
-ghost use Rattle.md_graph6.specs.Line.{is_group, pair_count, is_padding_set, begins_other, line_fault, graph6_fault, body_fault, graph_of_line};
+ghost use Rattle.md_graph6.specs.Line.{is_group, pair_count, is_padding_set, begins_other, graph6_fault, body_fault, graph_of_graph6};
 
 use crate::body;
 use crate::fault::G6Kind;
@@ -34,7 +34,7 @@ pub(crate) fn eighteen(line: &[u8], place: usize) -> u64
 }
 
 // How many bytes of a line spell its size, and the size; `None` where not all of them are there.
-fn size(line: &[u8]) -> Option<(usize, u64)>
+pub(crate) fn size(line: &[u8]) -> Option<(usize, u64)>
     requires some { 0 < length line.now }
     requires groups { AllPass is_group line.now }
     ensures value { result ≡ size_of line.now }
@@ -56,7 +56,7 @@ fn size(line: &[u8]) -> Option<(usize, u64)>
 }
 
 // Whether fewer bytes would spell the size.
-fn is_too_long(taken: usize, n: u64) -> bool
+pub(crate) fn is_too_long(taken: usize, n: u64) -> bool
     ensures { result ≡ is_too_long taken n }
 {
     taken == 4 && n <= u64::from(MOST_IN_ONE_BYTE) || taken == 8 && n <= MOST_IN_FOUR_BYTES
@@ -123,12 +123,12 @@ fn body_fault(limit: u32, line: &[u8], taken: usize, n: u64) -> Option<G6Kind>
 fn begins_other(first: u8) -> bool
     ensures { result ≡ begins_other first }
 {
-    first == b':' || first == b';' || first == b'&'
+    first == b';' || first == b'&'
 }
 
 // Whether each byte is 63 with six bits added. The least and the greatest byte are found 16 bytes
 // at a time.
-fn are_groups(line: &[u8]) -> bool
+pub(crate) fn are_groups(line: &[u8]) -> bool
     ensures { result ≡ list_all is_group line.now }
 {
     let mut least = 126;
@@ -140,19 +140,8 @@ fn are_groups(line: &[u8]) -> bool
     63 <= least && greatest <= 126
 }
 
-// The first fault of a line under a limit of the number of vertices; an empty one has none.
-pub fn line_fault(limit: u32, line: &[u8]) -> Option<G6Kind>
-    requires { limit ≤ NAMES }
-    ensures { result ≡ line_fault limit line.now }
-{
-    if line.is_empty() {
-        return None;
-    }
-    graph6_fault(limit, line)
-}
-
-// The first fault of a graph6 line.
-fn graph6_fault(limit: u32, line: &[u8]) -> Option<G6Kind>
+// The first fault of a graph6 line under a limit of the number of vertices.
+pub(crate) fn graph6_fault(limit: u32, line: &[u8]) -> Option<G6Kind>
     requires limit { limit ≤ NAMES }
     requires some { 0 < length line.now }
     ensures { result ≡ graph6_fault limit line.now }
@@ -169,14 +158,14 @@ fn graph6_fault(limit: u32, line: &[u8]) -> Option<G6Kind>
     }
 }
 
-// Fills the graph with the one that a line spells. Conditions: the line isn't empty and has no
-// fault, and the graph has no vertices, and room for those of the line.
-pub fn fill_line<const W: usize>(graph: &mut GraphOf<W>, line: &[u8])
+// Fills the graph with the one that a graph6 line spells. Conditions: the line isn't empty and has
+// no fault, and the graph has no vertices, and room for those of the line.
+pub(crate) fn fill_graph6<const W: usize>(graph: &mut GraphOf<W>, line: &[u8])
     requires empty { graph.old ≡ empty_graph }
     requires some { 0 < length line.now }
-    requires sound { line_fault NAMES line.now ≡ None }
-    requires room { AllBelow (graph_of_line line.now).vertices (64 * W) }
-    ensures { graph.new ≡ graph_of_line line.now }
+    requires sound { graph6_fault NAMES line.now ≡ None }
+    requires room { AllBelow (graph_of_graph6 line.now).vertices (64 * W) }
+    ensures { graph.new ≡ graph_of_graph6 line.now }
 {
     let Some((taken, n)) = size(line) else {
         unreachable!();

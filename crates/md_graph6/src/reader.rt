@@ -2,12 +2,13 @@
 ghost use Rattle.std.specs.Prelude.{◌≡◌, ◌≢◌, ℕ, ◌*◌, ◌<◌, ◌≤◌, [], ◌∷◌, length, None, slice_index};
 ghost use Rattle.std.specs.Bool.{OnTrue, OnFalse};
 ghost use Rattle.md_graph.specs.PlainGraph.{empty_graph};
-ghost use Rattle.md_graph6.specs.Line.{line_fault, graph_of_line};
+ghost use Rattle.md_graph6.specs.FileLine.{line_fault, graph_of_line};
 ghost use Rattle.md_graph6.specs.File.{stripped_lines, graphs_in, HasNoFault, first_fault, graphs_of};
-ghost use Rattle.md_graph6.specs.First.{FirstBelow, IsFirstBound};
+ghost use Rattle.md_graph6.specs.First.{FirstBelow, IsFirstBound, BeginsWithSize};
 
 use crate::file::without_header;
-use crate::line::{LONG, eighteen, fill_line};
+use crate::file_line::{fill_line, from_size};
+use crate::line::{LONG, eighteen};
 use md_graph::{Graph, GraphOf, NAMES};
 use md_text::{split_line, without_return};
 use std::marker::Model;
@@ -111,6 +112,14 @@ fn leading_size(text: &[u8]) -> u32
     requires no_feed { slice_index text.now 0 ≢ 10 }
     requires no_return { slice_index text.now 0 ≢ 13 }
     ensures { IsFirstBound result (graphs_in text.now) }
+{
+    spelt_size(from_size(text))
+}
+
+// The size that a text begins with, in its shortest spelling.
+fn spelt_size(text: &[u8]) -> u32
+    requires { (n : ℕ) × BeginsWithSize n text.now }
+    ensures { (n : ℕ) → BeginsWithSize n text.now → result ≡ n }
 {
     if text[0] != LONG {
         return u32::from(text[0] - 63);

@@ -2,6 +2,8 @@
 ghost use Rattle.std.specs.Prelude.{◌≡◌};
 ghost use Rattle.md_graph.specs.PlainGraph.{empty_graph};
 
+mod sparse;
+
 use crate::{G6Fault, G6Kind, Lines, scan};
 use md_graph::{Graph, GraphOf, NAMES};
 use std::process::Abort;
@@ -127,7 +129,6 @@ fn faults_are_named(rt: HostRuntime) {
     refuses(&rt, b"~?\n", G6Kind::Truncated, 1);
     refuses(&rt, b"A__\n", G6Kind::TrailingBytes, 1);
     refuses(&rt, b"@\nB!\n", G6Kind::BadByte, 2);
-    refuses(&rt, b":Fa@x^\n", G6Kind::OtherFormat, 1);
     refuses(&rt, b";Fa@x^\n", G6Kind::OtherFormat, 1);
     refuses(&rt, b"&DI?AO?\n", G6Kind::OtherFormat, 1);
     refuses(&rt, b"~~??????\n", G6Kind::BadSize, 1);

@@ -1,6 +1,7 @@
 -- The first fault of an input, in the order of work. Source: the faults of docs/FORMATS.md.
 use Rattle.std.specs.Prelude.{◌≡◌, ℕ, nat_eq, Option, None, Some, List, length, if◌then◌else◌, ⊤}
 use Rattle.std.specs.Option.{option_map, option_or}
+use Rattle.md_graph.specs.declared.TheConstants.{NAMES}
 use Rattle.md_graph6.specs.File as graph6
 use Rattle.md_dimacs.specs.File as dimacs
 use Rattle.md_script.specs.File as scripts
@@ -13,10 +14,10 @@ use Rattle.md_input.specs.declared.fault.Fault.TheVariants as faults
 use Rattle.md_input.specs.declared.fault.InputStop.{InputStop}
 use Rattle.md_input.specs.declared.fault.InputStop.TheVariants.{BadInput, Memory}
 
--- the first fault of a graph file
-abbrev pub graph_fault : Format → List ℕ → Option Fault
-graph_fault G6 bytes = option_map faults.Graph6 (graph6.first_fault bytes)
-graph_fault Dimacs bytes = option_map faults.Dimacs (dimacs.first_fault bytes)
+-- the first fault of a graph file under a limit of names
+abbrev pub graph_fault : ℕ → Format → List ℕ → Option Fault
+graph_fault limit G6 bytes = option_map faults.Graph6 (graph6.first_fault limit bytes)
+graph_fault limit Dimacs bytes = option_map faults.Dimacs (dimacs.first_fault limit bytes)
 
 -- a graph file without fault has a number of graphs other than one
 abbrev pub graph_count_fault : Format → List ℕ → Option Fault
@@ -25,9 +26,9 @@ graph_count_fault G6 bytes =
     else Some (faults.NotOneGraph (length (graph6.graphs_of bytes)))
 graph_count_fault Dimacs bytes = None
 
--- the first fault of a graph file that is to have one graph
+-- the first fault of a graph file that is to have one graph, which may have all names
 abbrev pub one_graph_fault : Format → List ℕ → Option Fault
-one_graph_fault from graph = option_or (graph_fault from graph) (graph_count_fault from graph)
+one_graph_fault from graph = option_or (graph_fault NAMES from graph) (graph_count_fault from graph)
 
 -- the first fault of a script
 abbrev pub script_fault : List ℕ → Option Fault

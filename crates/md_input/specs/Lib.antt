@@ -2,3 +2,4 @@ pub mod Spelling
 pub mod Faults
 pub mod Graphs
 pub mod Rooms
+pub mod Inputs

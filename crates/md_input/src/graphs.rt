@@ -1,5 +1,5 @@
 //! The graphs of a file, one after the other.
-ghost use Rattle.std.specs.Prelude.{◌≡◌, [], ◌∷◌, None, Some, IfOk, IfErr, IsErr};
+ghost use Rattle.std.specs.Prelude.{◌≡◌, ◌≤◌, [], ◌∷◌, None, Some, IfOk, IfErr, IsErr};
 ghost use Rattle.std.specs.Bool.{OnTrue, OnFalse};
 ghost use Rattle.md_graph.specs.PlainGraph.{empty_graph};
 ghost use Rattle.md_input.specs.Spelling.{SpellsGraphs};
@@ -8,7 +8,7 @@ ghost use Rattle.md_input.specs.Faults.{graph_fault, IsStopAt};
 use crate::fault::InputStop;
 use crate::format::Format;
 use crate::room::Room;
-use md_graph::Memory;
+use md_graph::{Memory, NAMES};
 use md_graph6::{Lines, scan};
 use std::alloc::Global;
 use std::marker::Model;
@@ -34,22 +34,29 @@ impl<'a> Model for Graphs<'a> {
 }
 
 impl<'a> Graphs<'a> {
-    /// The graphs of a file, which is read whole; or its first fault; or want of memory.
-    pub fn read(alloc: Global, from: Format, file: &'a [u8]) -> Result<Graphs<'a>, InputStop>
+    /// The graphs of a file, which is read whole, under a limit of names; or its first fault; or
+    /// want of memory. Condition: the limit is at most the number of names.
+    pub fn read(
+        alloc: Global,
+        limit: u32,
+        from: Format,
+        file: &'a [u8],
+    ) -> Result<Graphs<'a>, InputStop>
+        requires { limit ≤ NAMES }
         ensures spells { IfOk result (SpellsGraphs from file.now) }
-        ensures faultless { IfOk result (λ _. graph_fault from file.now ≡ None) }
-        ensures stops { IfErr result (IsStopAt (graph_fault from file.now)) }
+        ensures faultless { IfOk result (λ _. graph_fault limit from file.now ≡ None) }
+        ensures stops { IfErr result (IsStopAt (graph_fault limit from file.now)) }
     {
         match from {
             Format::G6 => {
-                scan(file)?;
+                scan(file, limit)?;
                 Ok(Graphs {
                     first: None,
                     lines: Lines::new(file),
                 })
             }
             Format::Dimacs => Ok(Graphs {
-                first: Some(Room::of_edges(alloc, file)?),
+                first: Some(Room::of_edges(alloc, limit, file)?),
                 lines: Lines::new(&[]),
             }),
         }

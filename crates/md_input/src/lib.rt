@@ -6,6 +6,7 @@ mod fault;
 mod format;
 mod graphs;
 mod inputs;
+pub mod laws;
 mod room;
 #[cfg(test)]
 mod tests;
@@ -13,5 +14,5 @@ mod tests;
 pub use fault::{Fault, InputStop};
 pub use format::Format;
 pub use graphs::Graphs;
-pub use inputs::{one_graph, read_script};
-pub use room::{GraphBySize, Room};
+pub use inputs::{SessionInputs, session_inputs};
+pub use room::{BROAD, GraphBySize, Room};

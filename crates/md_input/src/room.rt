@@ -9,20 +9,21 @@ ghost use Rattle.md_input.specs.Faults.{graph_fault, IsStopAt};
 ghost use Rattle.md_input.specs.Rooms.{IsGraphBySize, graph_or_empty};
 
 use crate::fault::InputStop;
-use md_dimacs::{DimacsFault, DimacsKind, read_within};
+use md_dimacs::{DimacsFault, DimacsKind};
 use md_graph::{Graph, GraphOf, Memory, NAMES, WORDS};
 use md_graph6::Lines;
 use std::alloc::Global;
 use std::marker::Model;
 
-// How many names fit into rows of one word, of sixteen, and of sixty-four.
+// How many names fit into rows of one word, and into rows of sixteen.
 const SMALL: u32 = 64;
 
 const MEDIUM: u32 = 1_024;
 
-const BROAD: u32 = 4_096;
+/// How many names fit into rows of sixty-four words.
+pub const BROAD: u32 = 4_096;
 
-/// A graph by the number of words in its rows: one, sixteen, sixty-four, or as many as there may be.
+/// A graph by the number of words in its rows: 1, 16, 64, or as many as there may be.
 #[derive(Clone, Copy)]
 pub enum GraphBySize<'a> {
     Small(&'a GraphOf<1>),
@@ -79,14 +80,16 @@ impl Room {
         })
     }
 
-    // Room with the graph of a DIMACS file in it; or its first fault; or want of memory.
-    pub(crate) fn of_edges(alloc: Global, file: &[u8]) -> Result<Room, InputStop>
-        ensures spells { IfOk result (Spells file.now) }
-        ensures faultless { IfOk result (λ _. first_fault file.now ≡ None) }
-        ensures stops { IfErr result (IsStopAt (graph_fault Dimacs file.now)) }
+    // Room with the graph of a DIMACS file in it, whose names are below the limit; or its first
+    // fault; or want of memory. Condition: the limit is at most the number of names.
+    pub(crate) fn of_edges(alloc: Global, limit: u32, file: &[u8]) -> Result<Room, InputStop>
+        requires { limit ≤ NAMES }
+        ensures spells { IfOk result (Spells NAMES file.now) }
+        ensures faultless { IfOk result (λ _. first_fault limit file.now ≡ None) }
+        ensures stops { IfErr result (IsStopAt (graph_fault limit Dimacs file.now)) }
     {
         let mut small = GraphOf::new(alloc)?;
-        let is_small = is_read(file, SMALL, &mut small)?;
+        let is_small = is_read(file, SMALL, limit, &mut small)?;
         let mut room = Room {
             width: Width::One,
             small,
@@ -98,19 +101,19 @@ impl Room {
             return Ok(room);
         }
         let mut medium = GraphOf::new(alloc)?;
-        if is_read(file, MEDIUM, &mut medium)? {
+        if is_read(file, MEDIUM, limit, &mut medium)? {
             room.width = Width::Sixteen;
             room.medium = Some(medium);
             return Ok(room);
         }
         let mut broad = GraphOf::new(alloc)?;
-        if is_read(file, BROAD, &mut broad)? {
+        if is_read(file, BROAD, limit, &mut broad)? {
             room.width = Width::SixtyFour;
             room.broad = Some(broad);
             return Ok(room);
         }
         let mut large = Graph::new(alloc)?;
-        md_dimacs::read(file, &mut large)?;
+        md_dimacs::read(file, limit, &mut large)?;
         room.width = Width::Most;
         room.large = Some(large);
         Ok(room)
@@ -194,10 +197,10 @@ fn clear_rows<const W: usize>(rows: &mut Option<GraphOf<W>>)
     }
 }
 
-// The next graph of the lines comes into the rows, which are taken if they aren't there; false where
-// none is left, and the rows stay without vertices. Conditions: the rows have no vertices, and room
-// for the next graph. Errors: want of memory; nothing changes then. Never inlined, so that small
-// graphs don't pay for its room.
+// The next graph of the lines comes into the rows, which are taken if they aren't there; false
+// where none is left, and the rows stay without vertices. Conditions: the rows have no vertices,
+// and room for the next graph. Errors: want of memory; nothing changes then. Never inlined, so that
+// small graphs don't pay for its room.
 #[inline(never)]
 fn fill_rows<const W: usize>(
     alloc: Global,
@@ -224,26 +227,28 @@ fn fill_rows<const W: usize>(
     Ok(found)
 }
 
-// Reads the graph of a DIMACS file with fewer vertices than the limit, and answers true; false where
-// it has as many or more, and the graph then stays without vertices. Conditions: the graph has no
-// vertices, and room for names below the limit. Errors: the first fault of the file.
-fn is_read<const W: usize>(
+// Reads the graph of a DIMACS file whose names are below the limit if they are below `most` too,
+// and answers true; false where the limit is greater and they aren't, and the graph then stays without
+// vertices. Conditions: the graph has no vertices, and room for names below `most`. Errors: the
+// first fault of the file under the limit.
+pub(crate) fn is_read<const W: usize>(
     file: &[u8],
+    most: u32,
     limit: u32,
     graph: &mut GraphOf<W>,
 ) -> Result<bool, DimacsFault>
     requires empty { graph.old ≡ empty_graph }
     requires few { limit ≤ NAMES }
-    requires room { limit ≤ 64 * W }
-    ensures spells { IfOk result (λ read. OnTrue read (Spells file.now graph.new)) }
-    ensures faultless { IfOk result (λ read. OnTrue read (first_fault file.now ≡ None)) }
+    requires room { most ≤ 64 * W }
+    ensures spells { IfOk result (λ read. OnTrue read (Spells NAMES file.now graph.new)) }
+    ensures faultless { IfOk result (λ read. OnTrue read (first_fault limit file.now ≡ None)) }
     ensures stays { IfOk result (λ read. OnFalse read (graph.new ≡ empty_graph)) }
-    ensures fault { IfErr result (λ fault. first_fault file.now ≡ Some fault) }
+    ensures fault { IfErr result (λ fault. first_fault limit file.now ≡ Some fault) }
 {
-    match read_within(file, limit, graph) {
+    match md_dimacs::read(file, most.min(limit), graph) {
         Ok(()) => Ok(true),
         Err(fault) => {
-            if fault.kind == DimacsKind::TooManyVertices {
+            if fault.kind == DimacsKind::TooManyVertices && most < limit {
                 return Ok(false);
             }
             Err(fault)

@@ -40,7 +40,7 @@ fn next_has(
 
 // The file has this fault.
 fn refuses(rt: &impl Abort, alloc: Global, from: Format, file: &[u8], fault: Fault) {
-    let Err(stop) = Graphs::read(alloc, from, file) else {
+    let Err(stop) = Graphs::read(alloc, NAMES, from, file) else {
         panic!(rt; "no fault");
     };
     assert!(rt; stop == InputStop::BadInput(fault));
@@ -50,7 +50,7 @@ fn refuses(rt: &impl Abort, alloc: Global, from: Format, file: &[u8], fault: Fau
 fn graphs_of_files(rt: HostRuntime) -> Result<(), Fail> {
     let alloc = rt.alloc();
     let mut room = Room::new(alloc)?;
-    let Ok(mut graphs) = Graphs::read(alloc, Format::G6, b"@\nA?\n\nBw") else {
+    let Ok(mut graphs) = Graphs::read(alloc, NAMES, Format::G6, b"@\nA?\n\nBw") else {
         panic!(rt; "a fault");
     };
     next_has(&rt, alloc, &mut graphs, &mut room, (1, 1, 0))?;
@@ -86,7 +86,7 @@ fn come(rt: &impl Abort, alloc: Global, sizes: &[(u32, u32)]) -> Result<(), Fail
     for (n, _) in sizes {
         push_line(rt, alloc, *n, &mut text)?;
     }
-    let Ok(mut graphs) = Graphs::read(alloc, Format::G6, &text) else {
+    let Ok(mut graphs) = Graphs::read(alloc, NAMES, Format::G6, &text) else {
         panic!(rt; "a fault");
     };
     let mut room = Room::new(alloc)?;
@@ -117,7 +117,7 @@ fn lines_of_all_sizes(rt: HostRuntime) -> Result<(), Fail> {
 
 // The graph of the edge file comes into rows of so many words, and no other behind it.
 fn comes(rt: &impl Abort, alloc: Global, file: &str, wanted: (u32, u32, u32)) -> Result<(), Fail> {
-    let Ok(mut graphs) = Graphs::read(alloc, Format::Dimacs, file.as_bytes()) else {
+    let Ok(mut graphs) = Graphs::read(alloc, NAMES, Format::Dimacs, file.as_bytes()) else {
         panic!(rt; "a fault");
     };
     let mut room = Room::new(alloc)?;
@@ -152,6 +152,16 @@ fn edge_files_of_all_sizes(rt: HostRuntime) -> Result<(), Fail> {
         b"p edge 16384 0\n",
         Fault::Dimacs(many),
     );
+    for (limit, wanted) in [
+        (9, false),
+        (10, false),
+        (11, true),
+        (64, true),
+        (4_096, true),
+    ] {
+        let read = Graphs::read(rt.alloc(), limit, Format::Dimacs, b"p edge 10 0\n");
+        assert!(&rt; read.is_ok() == wanted);
+    }
     let loops = DimacsFault {
         kind: DimacsKind::Loop,
         line: 2,
@@ -166,42 +176,110 @@ fn edge_files_of_all_sizes(rt: HostRuntime) -> Result<(), Fail> {
     Ok(())
 }
 
-// The file has one graph, of so many vertices.
-fn has_one(rt: &impl Abort, alloc: Global, from: Format, file: &[u8], size: u32) {
-    let Ok(graph) = one_graph(alloc, from, file) else {
-        panic!(rt; "a fault");
-    };
-    assert_eq!(rt; graph.count(), size);
+// The words a row, the vertices, and the edits of the session's inputs.
+fn sizes_of(inputs: &SessionInputs) -> (u32, u32, u64) {
+    match inputs {
+        SessionInputs::Broad(graph, script) => (64, graph.count(), script.len()),
+        SessionInputs::Large(graph, script) => (256, graph.count(), script.len()),
+    }
 }
 
-// The file of lines has so many graphs, and not one.
-fn has_not_one(rt: &impl Abort, alloc: Global, file: &[u8], count: u64) {
-    let Err(stop) = one_graph(alloc, Format::G6, file) else {
+// The graph file and the script are read, into rows of so many words.
+fn are_read(
+    rt: &impl Abort,
+    alloc: Global,
+    from: Format,
+    file: &[u8],
+    script: &str,
+    wanted: (u32, u32, u64),
+) {
+    let Ok(inputs) = session_inputs(alloc, from, file, script.as_bytes()) else {
+        panic!(rt; "a fault");
+    };
+    assert_eq!(rt; sizes_of(&inputs), wanted, "{script}");
+}
+
+// The two have this first fault.
+fn are_refused(
+    rt: &impl Abort,
+    alloc: Global,
+    from: Format,
+    file: &[u8],
+    script: &str,
+    fault: Fault,
+) {
+    let Err(stop) = session_inputs(alloc, from, file, script.as_bytes()) else {
         panic!(rt; "no fault");
     };
-    assert!(rt; stop == InputStop::BadInput(Fault::NotOneGraph(count)));
+    assert!(rt; stop == InputStop::BadInput(fault));
 }
 
 #[test]
-fn one_graph_of_files(rt: HostRuntime) -> Result<(), Fail> {
+fn inputs_of_sessions(rt: HostRuntime) -> Result<(), Fail> {
     let alloc = rt.alloc();
-    has_one(&rt, alloc, Format::G6, b"Bw\n", 3);
-    has_one(&rt, alloc, Format::Dimacs, b"p edge 3 0\n", 3);
-    has_not_one(&rt, alloc, b"", 0);
-    has_not_one(&rt, alloc, b"@\n@\n", 2);
+    for (script, words, edits) in [
+        ("", 64, 0),
+        ("+e 0 1\n# none\n-v 1\n", 64, 2),
+        ("+e 4095 0\n", 64, 1),
+        ("-e 4095 4096\n", 256, 1),
+        ("-e 4096 0\n+v 1\n", 256, 2),
+        ("+v 9 4095\n", 64, 1),
+        ("+v 9 7 4096 8\n", 256, 1),
+        ("-v 16383\n", 256, 1),
+    ] {
+        are_read(&rt, alloc, Format::G6, b"Bw\n", script, (words, 3, edits));
+        are_read(
+            &rt,
+            alloc,
+            Format::Dimacs,
+            b"p edge 3 0\n",
+            script,
+            (words, 3, edits),
+        );
+    }
+    for (n, words) in [(4_095, 64), (4_096, 64), (4_097, 256)] {
+        let mut text = Vec::new(alloc);
+        push_line(&rt, alloc, n, &mut text)?;
+        are_read(&rt, alloc, Format::G6, &text, "-v 0\n", (words, n, 1));
+    }
+    for (file, n, words) in [
+        ("p edge 4095 0\n", 4_095, 64),
+        ("p edge 4096 0\n", 4_096, 256),
+    ] {
+        are_read(
+            &rt,
+            alloc,
+            Format::Dimacs,
+            file.as_bytes(),
+            "",
+            (words, n, 0),
+        );
+    }
     Ok(())
 }
 
 #[test]
-fn scripts(rt: HostRuntime) -> Result<(), Fail> {
+fn faults_of_inputs(rt: HostRuntime) -> Result<(), Fail> {
     let alloc = rt.alloc();
-    let Ok(script) = read_script(alloc, b"+e 0 1\n# none\n-v 1\n") else {
-        panic!(rt; "a fault");
+    let loops = DimacsFault {
+        kind: DimacsKind::Loop,
+        line: 2,
     };
-    assert_eq!(rt; script.len(), 2);
-    let Err(stop) = read_script(alloc, b"+e 0 1\n*\n") else {
-        panic!(rt; "no fault");
-    };
-    assert!(rt; stop == InputStop::BadInput(Fault::Script(ScriptKind::UnknownEdit, 2)));
+    let looped = b"p edge 70 1\ne 70 70\n";
+    are_refused(
+        &rt,
+        alloc,
+        Format::Dimacs,
+        looped,
+        "*\n",
+        Fault::Dimacs(loops),
+    );
+    are_refused(&rt, alloc, Format::G6, b"", "*\n", Fault::NotOneGraph(0));
+    are_refused(&rt, alloc, Format::G6, b"@\n@\n", "", Fault::NotOneGraph(2));
+    let unknown = Fault::Script(ScriptKind::UnknownEdit, 2);
+    are_refused(&rt, alloc, Format::G6, b"@\n", "+e 0 1\n*\n", unknown);
+    for file in [b"p edge 3 0\n".as_slice(), b"p edge 4096 0\n"] {
+        are_refused(&rt, alloc, Format::Dimacs, file, "+e 0 1\n*\n", unknown);
+    }
     Ok(())
 }

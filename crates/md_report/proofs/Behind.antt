@@ -14,6 +14,7 @@ use Rattle.md_tree.specs.WellFormed.{IsWellFormed}
 use Rattle.md_tree.specs.Grammar.{InGrammar, LeavesAt}
 use Rattle.md_tree.proofs.Spelled.{graph_law}
 use Rattle.md_tree.proofs.ReadBack.{spelled_good}
+use Rattle.md_script.specs.declared.edit.EditReason.{EditReason}
 use Rattle.md_script.specs.declared.edit.EditReason.TheVariants.{Same, NoVertex, NameTaken, EdgeThere, EdgeAbsent}
 use Rattle.md_report.specs.declared.line.Line.{Line}
 use Rattle.md_report.specs.declared.reader.LineFault.{LineFault}
@@ -22,12 +23,12 @@ use Rattle.md_report.specs.declared.words.Word.{Word}
 use Rattle.md_report.specs.declared.words.Word.TheVariants.{Head, Tree as TreeWord, Applied, Path, Yes, No, End}
 use Rattle.md_report.specs.declared.words.Refusal.{Refusal}
 use Rattle.md_report.specs.declared.words.Refusal.TheVariants as refusals
-use Rattle.md_report.specs.Cuts.{LacksByte, Opens, IsCutAt, IsPiece}
-use Rattle.md_report.specs.Lines.{PlainLine, mode_word, reason_words, names_text, p4_text, arc_text, arcs_text, line_text, head, tree, applied, applied_quiet, refused, refused_p4, not_cograph, oriented, forced, orders, forced_in, forced_in_complement, end}
-use Rattle.md_report.specs.WellFormedLines.{IsVertexName, IsNamedArc, IsNamedChain, IsNamedP4, AreFour, IsWellFormedLine, IsLineReading}
-use Rattle.md_report.specs.Words.{word_text, refusal_text, NoRefusal, NoNo, NoYes, NoLine, Reads}
+use Rattle.md_report.specs.Cuts.{LacksByte, Opens, IsCutAt, IsPiece, IsItem, NoItem}
+use Rattle.md_report.specs.Lines.{PlainLine, mode_word, reason_words, names_text, p4_text, arc_text, arcs_text, line_text, head, tree, applied, applied_quiet, refused, refused_p4, group_refused, group_refused_p4, nothing_to_undo, not_cograph, oriented, forced, orders, forced_in, forced_in_complement, end}
+use Rattle.md_report.specs.WellFormedLines.{IsVertexName, IsEditNumber, IsNamedArc, IsNamedChain, IsNamedP4, AreFour, IsNamedReason, IsWellFormedLine, IsLineReading}
+use Rattle.md_report.specs.Words.{word_text, refusal_text, NoReason, NoGroup, NoRefusal, NoNo, NoYes, NoLine, Reads}
 use Rattle.md_report.proofs.Cutting.{one_cut, one_row, lacks_when, lacks_append}
-use Rattle.md_report.proofs.Named.{lacks_number, lacks_arc, behind_first, name_words, one_name}
+use Rattle.md_report.proofs.Named.{lacks_number, lacks_arc, behind_first, name_words, one_name, one_edit}
 
 pub nothing_left : (xs : List ℕ) → (length xs == 0) ≡ true → xs ≡ []
 nothing_left [] e = refl
@@ -58,6 +59,9 @@ word_of (applied t) = Applied
 word_of applied_quiet = Applied
 word_of (refused reason) = No
 word_of (refused_p4 p) = No
+word_of (group_refused number reason) = No
+word_of (group_refused_p4 number p) = No
+word_of nothing_to_undo = No
 word_of (not_cograph p) = Path
 word_of (oriented arcs) = Yes
 word_of (forced chain) = No
@@ -73,6 +77,9 @@ tail_of (applied t) = 32 ∷ text_of t
 tail_of applied_quiet = []
 tail_of (refused reason) = 32 ∷ reason_words reason
 tail_of (refused_p4 p) = codes " p4" ++ p4_text p
+tail_of (group_refused number reason) = codes " edit " ++ (decimal number ++ (codes " " ++ reason_words reason))
+tail_of (group_refused_p4 number p) = codes " edit " ++ (decimal number ++ (codes " p4" ++ p4_text p))
+tail_of nothing_to_undo = codes " undo"
 tail_of (not_cograph p) = p4_text p
 tail_of (oriented arcs) = arcs_text arcs
 tail_of (forced chain) = arcs_text chain
@@ -88,6 +95,9 @@ by_word (applied t) = refl
 by_word applied_quiet = refl
 by_word (refused reason) = refl
 by_word (refused_p4 p) = refl
+by_word (group_refused number reason) = refl
+by_word (group_refused_p4 number p) = refl
+by_word nothing_to_undo = refl
 by_word (not_cograph p) = refl
 by_word (oriented arcs) = refl
 by_word (forced chain) = refl
@@ -107,6 +117,9 @@ tail_opens (applied t) = refl
 tail_opens applied_quiet = tt
 tail_opens (refused reason) = refl
 tail_opens (refused_p4 p) = refl
+tail_opens (group_refused number reason) = refl
+tail_opens (group_refused_p4 number p) = refl
+tail_opens nothing_to_undo = refl
 tail_opens (not_cograph p) = refl
 tail_opens (oriented arcs) = arcs_open arcs
 tail_opens (forced chain) = arcs_open chain
@@ -145,7 +158,7 @@ same_word v w e = sym (word_at_first v) ∙ ap (λ (t : List ℕ). word_at (get_
 abbrev refusal_at : ℕ → Refusal
 refusal_at n =
     cond (n == 115) refusals.Same (cond (n == 238) refusals.Vertex (cond (n == 116) refusals.Taken (cond (n == 217) refusals.There
-    (cond (n == 198) refusals.Absent (cond (n == 112) refusals.Path (cond (n == 103) refusals.Graph refusals.Complement))))))
+    (cond (n == 198) refusals.Absent (cond (n == 112) refusals.Path (cond (n == 103) refusals.Graph (cond (n == 99) refusals.Complement (cond (n == 101) refusals.Edit refusals.Undo))))))))
 
 refusal_at_first : (w : Refusal) → refusal_at (get_or (refusal_text w) 0 0 + get_or (refusal_text w) 5 0) ≡ w
 refusal_at_first refusals.Same = refl
@@ -156,6 +169,8 @@ refusal_at_first refusals.Absent = refl
 refusal_at_first refusals.Path = refl
 refusal_at_first refusals.Graph = refl
 refusal_at_first refusals.Complement = refl
+refusal_at_first refusals.Edit = refl
+refusal_at_first refusals.Undo = refl
 
 same_refusal : (v w : Refusal) → refusal_text v ≡ refusal_text w → v ≡ w
 same_refusal v w e = sym (refusal_at_first v) ∙ ap (λ (t : List ℕ). refusal_at (get_or t 0 0 + get_or t 5 0)) e ∙ refusal_at_first w
@@ -169,6 +184,8 @@ refusal_lacks refusals.Absent = lacks_when 32 (codes "edge-absent") refl
 refusal_lacks refusals.Path = lacks_when 32 (codes "p4") refl
 refusal_lacks refusals.Graph = lacks_when 32 (codes "g") refl
 refusal_lacks refusals.Complement = lacks_when 32 (codes "c") refl
+refusal_lacks refusals.Edit = lacks_when 32 (codes "edit") refl
+refusal_lacks refusals.Undo = lacks_when 32 (codes "undo") refl
 
 -- a word behind `no` is no arc
 refusal_first : (w : Refusal) → 97 ≤ get_or (refusal_text w) 0 0
@@ -180,6 +197,8 @@ refusal_first refusals.Absent = omega arith
 refusal_first refusals.Path = omega arith
 refusal_first refusals.Graph = omega arith
 refusal_first refusals.Complement = omega arith
+refusal_first refusals.Edit = omega arith
+refusal_first refusals.Undo = omega arith
 
 arc_first : (a : Arc) → get_or (arc_text a) 0 0 ≤ 57
 arc_first a =
@@ -206,6 +225,11 @@ no_tail text (refused (NameTaken v)) none is e = none.words refusals.Taken (32 �
 no_tail text (refused EdgeThere) none is e = none.words refusals.There [] tt e refl
 no_tail text (refused EdgeAbsent) none is e = none.words refusals.Absent [] tt e refl
 no_tail text (refused_p4 p) none is e = none.words refusals.Path (p4_text p) refl e p is refl
+no_tail text (group_refused number reason) none is e =
+    (none.words refusals.Edit (32 ∷ (decimal number ++ (codes " " ++ reason_words reason))) refl e).reasons number reason is.0 is.1 refl
+no_tail text (group_refused_p4 number p) none is e =
+    (none.words refusals.Edit (32 ∷ (decimal number ++ (codes " p4" ++ p4_text p))) refl e).paths number p is.0 is.1 refl
+no_tail text nothing_to_undo none is e = none.words refusals.Undo [] tt e refl
 no_tail text (not_cograph p) none is e = none p is e
 no_tail text (oriented arcs) none is e = none.arcs arcs is e
 no_tail text (forced chain) none is e = none.chains chain is e
@@ -278,6 +302,86 @@ chain_no text piece behind is no_word none =
 
 pub word_whole : (text piece behind : List ℕ) (w : Refusal) → IsPiece text piece behind → piece ≡ refusal_text w → codes "no " ++ (refusal_text w ++ behind) ≡ codes "no" ++ text
 word_whole text piece behind w is at = ap (λ (t : List ℕ). codes "no" ++ t) (ap (λ (t : List ℕ). 32 ∷ (t ++ behind)) (sym at) ∙ sym is.whole)
+
+-- ---- behind `no` and a word: a reason, or the number of an edit and a reason or an induced P4
+
+-- each reason is its word, and what stands behind it
+abbrev reason_word : EditReason → Refusal
+reason_word Same = refusals.Same
+reason_word (NoVertex v) = refusals.Vertex
+reason_word (NameTaken v) = refusals.Taken
+reason_word EdgeThere = refusals.There
+reason_word EdgeAbsent = refusals.Absent
+
+abbrev reason_tail : EditReason → List ℕ
+reason_tail Same = []
+reason_tail (NoVertex v) = 32 ∷ decimal v
+reason_tail (NameTaken v) = 32 ∷ decimal v
+reason_tail EdgeThere = []
+reason_tail EdgeAbsent = []
+
+reason_by_word : (r : EditReason) → reason_words r ≡ refusal_text (reason_word r) ++ reason_tail r
+reason_by_word Same = refl
+reason_by_word (NoVertex v) = refl
+reason_by_word (NameTaken v) = refl
+reason_by_word EdgeThere = refl
+reason_by_word EdgeAbsent = refl
+
+reason_opens : (r : EditReason) → Opens 32 (reason_tail r)
+reason_opens Same = tt
+reason_opens (NoVertex v) = refl
+reason_opens (NameTaken v) = refl
+reason_opens EdgeThere = tt
+reason_opens EdgeAbsent = tt
+
+no_reason_tail : (text : List ℕ) (r : EditReason) → NoReason (reason_word r) text → IsNamedReason r → text ≢ reason_tail r
+no_reason_tail text Same none is e = none e
+no_reason_tail text (NoVertex v) none is e = none v is e
+no_reason_tail text (NameTaken v) none is e = none v is e
+no_reason_tail text EdgeThere none is e = none e
+no_reason_tail text EdgeAbsent none is e = none e
+
+reason_cut : (text piece behind : List ℕ) → IsCutAt 32 text piece behind → (r : EditReason) → text ≡ reason_words r → (piece ≡ refusal_text (reason_word r)) × (behind ≡ reason_tail r)
+reason_cut text piece behind cut r e =
+    one_cut 32 piece (refusal_text (reason_word r)) behind (reason_tail r) cut.lacks (refusal_lacks (reason_word r)) cut.opens (reason_opens r) (sym cut.whole ∙ e ∙ reason_by_word r)
+
+pub no_reason_word : (text piece behind : List ℕ) → IsCutAt 32 text piece behind → ((w : Refusal) → piece ≢ refusal_text w) → (r : EditReason) → IsNamedReason r → text ≢ reason_words r
+no_reason_word text piece behind cut none r is e = none (reason_word r) (reason_cut text piece behind cut r e).0
+
+pub reason_read : (text piece behind : List ℕ) (w : Refusal) (o : Option EditReason) → IsCutAt 32 text piece behind → piece ≡ refusal_text w →
+    MatchOption o (NoReason w behind) (λ r. IsNamedReason r × (refusal_text w ++ behind ≡ reason_words r)) →
+    MatchOption o ((r : EditReason) → IsNamedReason r → text ≢ reason_words r) (λ r. IsNamedReason r × (text ≡ reason_words r))
+reason_read text piece behind w None cut at none = λ r is e.
+    let i = reason_cut text piece behind cut r e in
+    no_reason_tail behind r (subst (λ v. NoReason v behind) (same_refusal w (reason_word r) (sym at ∙ i.0)) none) is i.1
+reason_read text piece behind w (Some r) cut at found = (found.0, cut.whole ∙ ap (λ (t : List ℕ). t ++ behind) at ∙ found.1)
+
+pub no_number_group : (text : List ℕ) → NoItem decimal IsEditNumber text → NoGroup text
+no_number_group text none = record {
+  reasons = λ number reason is named e. none number (codes " " ++ reason_words reason) is refl e;
+  paths = λ number p is named e. none number (codes " p4" ++ p4_text p) is refl e;
+}
+
+module _ (text tail : List ℕ) (number : ℕ) (item : IsItem decimal IsEditNumber text number tail) where
+  -- what stands behind the number
+  group_cut : (other : ℕ) (rest : List ℕ) → IsEditNumber other → text ≡ 32 ∷ (decimal other ++ 32 ∷ rest) → tail ≡ 32 ∷ rest
+  group_cut other rest is e = one_edit number other tail (32 ∷ rest) item.fits is item.opens refl (sym item.whole ∙ e)
+
+  pub no_tail_group : ((rest : List ℕ) → tail ≢ 32 ∷ rest) → NoGroup text
+  no_tail_group none = record {
+    reasons = λ other reason is named e. none (reason_words reason) (group_cut other (reason_words reason) is e);
+    paths = λ other p is named e. none (codes "p4" ++ p4_text p) (group_cut other (codes "p4" ++ p4_text p) is e);
+  }
+
+  pub no_words_group : (words : List ℕ) → tail ≡ 32 ∷ words → ((r : EditReason) → IsNamedReason r → words ≢ reason_words r) → ((p : P4) → IsNamedP4 p → words ≢ codes "p4" ++ p4_text p) → NoGroup text
+  no_words_group words at no_reason no_path = record {
+    reasons = λ other reason is named e.
+        let f : 32 ∷ words ≡ 32 ∷ reason_words reason = sym at ∙ group_cut other (reason_words reason) is e in
+        no_reason reason named (cc);
+    paths = λ other p is named e.
+        let f : 32 ∷ words ≡ 32 ∷ (codes "p4" ++ p4_text p) = sym at ∙ group_cut other (codes "p4" ++ p4_text p) is e in
+        no_path p named (cc);
+  }
 
 -- behind `yes`: no slash, or one
 pub lacks_arcs : (arcs : List Arc) → LacksByte 47 (arcs_text arcs)

@@ -1,5 +1,5 @@
 -- Whether a graph is a cograph, by its tree of strong modules.
-use Rattle.std.proofs.Common.{◌≡◌, Option, Some, None, ◌↔◌, subst}
+use Rattle.std.proofs.Common.{Option, Some, None, ◌↔◌, subst}
 use Rattle.md_graph.specs.Sets.{Has}
 use Rattle.md_graph.specs.PlainGraph.{PlainGraph, IsGraph, adjacent}
 use Rattle.md_graph.proofs.SetLemmas.{clash, empty_lacks}

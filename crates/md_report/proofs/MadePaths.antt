@@ -14,7 +14,7 @@ use Rattle.md_modules.proofs.PathSearch.{if_none_map}
 use Rattle.md_script.specs.declared.edit.Edit.{Edit}
 use Rattle.md_script.specs.declared.edit.Edit.TheVariants.{AddEdge, DelEdge, AddVertex, DelVertex}
 use Rattle.md_script.specs.Edit.{HasNames, reason_of, after}
-use Rattle.md_script.specs.TakenBack.{Led}
+use Rattle.md_script.specs.Pasts.{Led}
 use Rattle.md_script.proofs.ChangeLemmas.{names_within, ends_by_tests, vertex_added, neighbours_are_vertices}
 use Rattle.md_report.specs.Cographs.{IsCograph}
 use Rattle.md_report.specs.Made.{HasChange, HoldsChange, HasNoneMade}
@@ -173,8 +173,8 @@ module _ (g : PlainGraph) (is_graph : IsGraph g) (free : IsCograph g) where
   still_cograph edit names none made path = made path.0 path.1 path.2 path.3 path.4 (holds_change edit names none path.0 path.1 path.2 path.3 path.4)
 
 -- a cograph from which an edit led to a graph without a path that holds the change gave a cograph
-pub cograph_if_none : {limit : ℕ} → limit ≤ NAMES → (found : Option P4) (g h : PlainGraph) (edit : Edit) (row : NameSet) → IfNone found (HasNoneMade h edit) → Led limit g edit row h → IsCograph g → IfNone found (IsCograph h)
-cograph_if_none few found g h edit row none led free =
+pub cograph_if_none : {limit : ℕ} → limit ≤ NAMES → (found : Option P4) (g h : PlainGraph) (edit : Edit) → IfNone found (HasNoneMade h edit) → Led limit g edit h → IsCograph g → IfNone found (IsCograph h)
+cograph_if_none few found g h edit none led free =
     if_none_map found (HasNoneMade h edit) (IsCograph h) (λ made.
     subst IsCograph (sym led.next_is) (still_cograph g led.is_graph free edit (names_within few edit led.names) led.no_reason (subst (λ k. HasNoneMade k edit) led.next_is made))) none
 

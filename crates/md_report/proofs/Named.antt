@@ -1,5 +1,5 @@
 -- Names and arcs by their texts.
-use Rattle.std.proofs.Common.{◌≡◌, ◌≢◌, ℕ, ◌<◌, ◌≤◌, ◌⊎◌, List, [], ◌∷◌, ◌++◌, length, get_or, take, drop, ◌-◌, Some, None, refl, sym, ◌∙◌, ltb, leb, ◌&&◌, ap, ap₂, subst, inl, inr, arith}
+use Rattle.std.proofs.Common.{◌≡◌, ◌≢◌, ℕ, ◌<◌, ◌≤◌, ◌⊎◌, List, [], ◌∷◌, ◌++◌, length, get_or, take, drop, ◌-◌, Some, None, refl, sym, ◌∙◌, ltb, leb, ◌&&◌, ◌^◌, lit<, ap, ap₂, subst, inl, inr, arith}
 use Rattle.std.specs.Char.{is_ascii_digit}
 use Rattle.std.specs.List.{All, list_all}
 use Rattle.std.proofs.lemmas.Bool.{cases_Bool, cases_lt, and_parts, ltb-true, cond-true, cond-false}
@@ -12,9 +12,10 @@ use Rattle.md_text.specs.Numbers.{value, decimal, number_of, is_number, IsCanoni
 use Rattle.md_text.proofs.NumberLemmas.{number_of-decimal, decimal_is_canonical, decimal_is_digits, decimal-value, decimal_injective, AllPass-from_list_all}
 use Rattle.md_forcing.specs.declared.arc.Arc.{Arc}
 use Rattle.md_report.specs.Lines.{arc_text}
-use Rattle.md_report.specs.WellFormedLines.{IsVertexName, IsNamedArc}
+use Rattle.md_script.specs.declared.TheConstants.{EDITS}
+use Rattle.md_report.specs.WellFormedLines.{IsVertexName, IsEditNumber, IsNamedArc}
 use Rattle.md_report.specs.Cuts.{LacksByte, Opens, IsCutAt}
-use Rattle.md_report.proofs.Cutting.{one_cut, lacks_append}
+use Rattle.md_report.proofs.Cutting.{one_cut, one_item, lacks_append}
 
 abbrev IsDigit : ℕ → Type 0
 IsDigit x = (48 ≤ x) × (x ≤ 57)
@@ -29,24 +30,38 @@ lacks_digits b other (x ∷ xs) all =
 pub lacks_number : (b v : ℕ) → (b < 48) ⊎ (57 < b) → LacksByte b (decimal v)
 lacks_number b v other = lacks_digits b other (decimal v) (decimal_is_digits v)
 
-number_of_name : (v : ℕ) → IsVertexName v → number_of (decimal v) ≡ Some v
-number_of_name v is = number_of-decimal v (omega (arith, NAMES-lt))
+-- what is no number of few digits, and what has a leading zero
+pub no_number : (piece : List ℕ) → number_of piece ≡ None → (n : ℕ) → n < 10 ^ DIGITS → piece ≢ decimal n
+no_number piece none n few same =
+    let e : Some n ≡ None = sym (number_of-decimal n few) ∙ ap number_of (sym same) ∙ none in cc
 
-pub no_number : (piece : List ℕ) → number_of piece ≡ None → (v : ℕ) → IsVertexName v → piece ≢ decimal v
-no_number piece none v is same =
-    let e : Some v ≡ None = sym (number_of_name v is) ∙ ap number_of (sym same) ∙ none in cc
-
-pub no_name : (piece : List ℕ) (n : ℕ) → number_of piece ≡ Some n → NAMES ≤ n → (v : ℕ) → IsVertexName v → piece ≢ decimal v
-no_name piece n some large v is same =
-    let e : Some v ≡ Some n = sym (number_of_name v is) ∙ ap number_of (sym same) ∙ some in
-    let f : v ≡ n = cc in
-    omega arith
-
-pub no_spelling : (piece : List ℕ) → 1 < length piece → get_or piece 0 0 ≡ 48 → (v : ℕ) → IsVertexName v → piece ≢ decimal v
-no_spelling piece long zero_first v is same =
-    let c : IsCanonical (decimal v) = (decimal_is_canonical v).0 in
-    let one : length (decimal v) ≡ 1 = c.no_leading_zero (ap (λ (w : List ℕ). get_or w 0 0) (sym same) ∙ zero_first) in
+pub no_spelling : (piece : List ℕ) → 1 < length piece → get_or piece 0 0 ≡ 48 → (n : ℕ) → piece ≢ decimal n
+no_spelling piece long zero_first n same =
+    let c : IsCanonical (decimal n) = (decimal_is_canonical n).0 in
+    let one : length (decimal n) ≡ 1 = c.no_leading_zero (ap (λ (w : List ℕ). get_or w 0 0) (sym same) ∙ zero_first) in
     omega (arith, ap length same)
+
+-- names and numbers of edits have few digits, and others spell none of them
+name_few : (v : ℕ) → IsVertexName v → v < 10 ^ DIGITS
+name_few v is = omega (arith, NAMES-lt)
+
+edits_few : EDITS < 10 ^ 6
+edits_few = lit< tt
+
+edit_few : (j : ℕ) → IsEditNumber j → j < 10 ^ DIGITS
+edit_few j is = omega (arith, edits_few, is.1)
+
+pub no_name : (piece : List ℕ) → ((n : ℕ) → n < 10 ^ DIGITS → piece ≢ decimal n) → (v : ℕ) → IsVertexName v → piece ≢ decimal v
+no_name piece none v is = none v (name_few v is)
+
+pub no_edit : (piece : List ℕ) → ((n : ℕ) → n < 10 ^ DIGITS → piece ≢ decimal n) → (j : ℕ) → IsEditNumber j → piece ≢ decimal j
+no_edit piece none j is = none j (edit_few j is)
+
+pub large_name : (piece : List ℕ) (n : ℕ) → piece ≡ decimal n → NAMES ≤ n → (v : ℕ) → IsVertexName v → piece ≢ decimal v
+large_name piece n at large v is same = let e : n ≡ v = decimal_injective n v (sym at ∙ same) in omega arith
+
+pub other_number : (piece : List ℕ) (n : ℕ) → piece ≡ decimal n → (IsEditNumber n → ⊥) → (j : ℕ) → IsEditNumber j → piece ≢ decimal j
+other_number piece n at none j is same = none (subst IsEditNumber (sym (decimal_injective n j (sym at ∙ same))) is)
 
 pub name_spelled : (piece : List ℕ) (n : ℕ) → number_of piece ≡ Some n → ((1 < length piece) × (get_or piece 0 0 ≡ 48) → ⊥) → piece ≡ decimal n
 name_spelled piece n some short = elim (cases_Bool (is_number piece)) [
@@ -119,6 +134,13 @@ no_loop piece front behind mark back tail head cut is_behind is_front is_back lo
 -- the texts of names and arcs are pieces, each of one name or arc
 pub name_words : (v : ℕ) → IsVertexName v → LacksByte 32 (decimal v)
 name_words v is = lacks_number 32 v (inl (omega arith))
+
+pub edit_words : (j : ℕ) → IsEditNumber j → LacksByte 32 (decimal j)
+edit_words j is = lacks_number 32 j (inl (omega arith))
+
+-- what stands behind the number of an edit
+pub one_edit : (i j : ℕ) (r s : List ℕ) → IsEditNumber i → IsEditNumber j → Opens 32 r → Opens 32 s → 32 ∷ (decimal i ++ r) ≡ 32 ∷ (decimal j ++ s) → r ≡ s
+one_edit i j r s is_i is_j at_r at_s e = (one_item decimal IsEditNumber edit_words (λ a b is_a is_b. decimal_injective a b) i j r s is_i is_j at_r at_s e).1
 
 pub one_name : (u v : ℕ) → IsVertexName u → IsVertexName v → decimal u ≡ decimal v → u ≡ v
 one_name u v is_u is_v = decimal_injective u v

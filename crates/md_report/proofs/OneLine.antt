@@ -1,5 +1,5 @@
 -- Each text is of one line at most.
-use Rattle.std.proofs.Common.{◌≡◌, ℕ, ◌<◌, ◌≤◌, ◌⊎◌, cond, leb, List, [], ◌∷◌, ◌++◌, codes, length, get_or, Option, refl, sym, ◌∙◌, ap, ap₂, subst, inl, inr, arith, append_assoc, append-nil}
+use Rattle.std.proofs.Common.{◌≡◌, ◌≢◌, ℕ, ◌<◌, ◌≤◌, ◌⊎◌, cond, leb, List, [], ◌∷◌, ◌++◌, codes, length, get_or, Option, refl, sym, ◌∙◌, ap, ap₂, subst, inl, inr, arith, append_assoc, append-nil}
 use Rattle.std.specs.Prelude.{⊤, ◌==◌}
 use Rattle.std.proofs.lemmas.Bool.{cond-true, le-leb}
 use Rattle.std.proofs.lemmas.List.{get_or_append_left, append_cancel_right}
@@ -11,11 +11,12 @@ use Rattle.md_tree.specs.Trees.{PlainTree}
 use Rattle.md_tree.specs.TreeTexts.{text_of}
 use Rattle.md_tree.proofs.Spelled.{graph_law}
 use Rattle.md_tree.proofs.Texts.{one_text_proof}
+use Rattle.md_script.specs.declared.edit.EditReason.{EditReason}
 use Rattle.md_script.specs.declared.edit.EditReason.TheVariants.{Same, NoVertex, NameTaken, EdgeThere, EdgeAbsent}
 use Rattle.md_report.specs.declared.line.Mode.{Mode}
 use Rattle.md_report.specs.declared.line.Mode.TheVariants as modes
 use Rattle.md_report.specs.Cuts.{LacksByte}
-use Rattle.md_report.specs.Lines.{PlainLine, mode_word, names_text, p4_text, arc_text, arcs_text, line_text, head, tree, applied, applied_quiet, refused, refused_p4, not_cograph, oriented, forced, orders, forced_in, forced_in_complement, end}
+use Rattle.md_report.specs.Lines.{PlainLine, mode_word, reason_words, names_text, p4_text, arc_text, arcs_text, line_text, head, tree, applied, applied_quiet, refused, refused_p4, group_refused, group_refused_p4, nothing_to_undo, not_cograph, oriented, forced, orders, forced_in, forced_in_complement, end}
 use Rattle.md_report.specs.Laws.{OneLineOneText}
 use Rattle.md_report.proofs.Cutting.{one_cut, one_row, lacks_append}
 use Rattle.md_report.proofs.Named.{lacks_number, lacks_arc, one_arc}
@@ -37,6 +38,8 @@ data Variant : Type 0 where
   edge_there : Variant
   edge_absent : Variant
   no_p4 : Variant
+  a_group : Variant
+  no_undo : Variant
   a_chain_in : Variant
   chain_in_complement : Variant
 
@@ -46,6 +49,9 @@ variant (head mode) = a_head
 variant (tree t) = a_tree
 variant (applied t) = applied_tree
 variant applied_quiet = an_ok
+variant (group_refused number reason) = a_group
+variant (group_refused_p4 number p) = a_group
+variant nothing_to_undo = no_undo
 variant (not_cograph p) = a_p4
 variant (oriented arcs) = a_yes
 variant (orders first second) = a_yes
@@ -75,6 +81,8 @@ IsVariant a_taken l = (v : ℕ) × (l ≡ refused (NameTaken v))
 IsVariant edge_there l = l ≡ refused EdgeThere
 IsVariant edge_absent l = l ≡ refused EdgeAbsent
 IsVariant no_p4 l = (p : P4) × (l ≡ refused_p4 p)
+IsVariant a_group l = ((number : ℕ) × (reason : EditReason) × (l ≡ group_refused number reason)) ⊎ ((number : ℕ) × (p : P4) × (l ≡ group_refused_p4 number p))
+IsVariant no_undo l = l ≡ nothing_to_undo
 IsVariant a_chain_in l = (chain : List Arc) × (l ≡ forced_in chain)
 IsVariant chain_in_complement l = (chain : List Arc) × (l ≡ forced_in_complement chain)
 
@@ -94,19 +102,22 @@ is_variant (refused (NameTaken v)) = (v, refl)
 is_variant (refused EdgeThere) = refl
 is_variant (refused EdgeAbsent) = refl
 is_variant (refused_p4 p) = (p, refl)
+is_variant (group_refused number reason) = inl (number, reason, refl)
+is_variant (group_refused_p4 number p) = inr (number, p, refl)
+is_variant nothing_to_undo = refl
 is_variant (forced_in chain) = (chain, refl)
 is_variant (forced_in_complement chain) = (chain, refl)
 
--- the variant of a line that begins with `no`, by two of its bytes
-abbrev refused_at : ℕ → ℕ → Variant
-refused_at b c =
-    cond (leb b 57) a_chain (cond (b == 115) a_same (cond (b == 118) no_vertex (cond (b == 116) a_taken (cond (b == 112) no_p4 (cond (b == 103) a_chain_in (cond (b == 99) chain_in_complement (cond (c == 116) edge_there edge_absent)))))))
+-- the variant of a line that begins with `no`, by three of its bytes
+abbrev refused_at : ℕ → ℕ → ℕ → Variant
+refused_at b d c =
+    cond (leb b 57) a_chain (cond (b == 115) a_same (cond (b == 118) no_vertex (cond (b == 116) a_taken (cond (b == 112) no_p4 (cond (b == 103) a_chain_in (cond (b == 99) chain_in_complement (cond (b == 117) no_undo (cond (d == 105) a_group (cond (c == 116) edge_there edge_absent)))))))))
 
 -- the variant of a line, by its text
 abbrev variant_at : List ℕ → Variant
 variant_at t =
     cond (get_or t 0 0 == 109) a_head (cond (get_or t 0 0 == 116) a_tree (cond (get_or t 0 0 == 111) (cond (get_or t 2 0 == 32) applied_tree an_ok) (cond (get_or t 0 0 == 112) a_p4
-    (cond (get_or t 0 0 == 121) a_yes (cond (get_or t 0 0 == 101) an_end (refused_at (get_or t 3 0) (get_or t 8 0)))))))
+    (cond (get_or t 0 0 == 121) a_yes (cond (get_or t 0 0 == 101) an_end (refused_at (get_or t 3 0) (get_or t 5 0) (get_or t 8 0)))))))
 
 variant_is : (l : PlainLine) → variant_at (line_text l) ≡ variant l
 variant_is (head mode) = refl
@@ -133,6 +144,9 @@ variant_is (refused (NameTaken v)) = refl
 variant_is (refused EdgeThere) = refl
 variant_is (refused EdgeAbsent) = refl
 variant_is (refused_p4 p) = refl
+variant_is (group_refused number reason) = refl
+variant_is (group_refused_p4 number p) = refl
+variant_is nothing_to_undo = refl
 variant_is (forced_in chain) = refl
 variant_is (forced_in_complement chain) = refl
 
@@ -186,6 +200,46 @@ orders_no_arcs p q arcs e =
     let f : 47 ∷ names_text q ≡ [] = i.1 in
     cc
 
+-- two lines of one variant and one text, where the first refuses for a reason
+same_refused : (r : EditReason) (l : PlainLine) → IsVariant (variant (refused r)) l → line_text (refused r) ≡ line_text l → refused r ≡ l
+same_refused Same l is e = sym is
+same_refused (NoVertex v) l is e =
+    let f : codes "no vertex " ++ decimal v ≡ codes "no vertex " ++ decimal is.0 = e ∙ ap line_text is.1 in
+    ap (λ (w : ℕ). refused (NoVertex w)) (decimal_injective v is.0 (cc)) ∙ sym is.1
+same_refused (NameTaken v) l is e =
+    let f : codes "no taken " ++ decimal v ≡ codes "no taken " ++ decimal is.0 = e ∙ ap line_text is.1 in
+    ap (λ (w : ℕ). refused (NameTaken w)) (decimal_injective v is.0 (cc)) ∙ sym is.1
+same_refused EdgeThere l is e = sym is
+same_refused EdgeAbsent l is e = sym is
+
+one_reason : (r s : EditReason) → reason_words r ≡ reason_words s → r ≡ s
+one_reason r s e =
+    let f : line_text (refused r) ≡ line_text (refused s) = ap (λ (t : List ℕ). codes "no " ++ t) e in
+    let g : refused r ≡ refused s =
+    same_refused r (refused s) (subst (λ v. IsVariant v (refused s)) (sym (variant_is (refused s)) ∙ ap variant_at (sym f) ∙ variant_is (refused r)) (is_variant (refused s))) f in
+    cc
+
+no_path_reason : (r : EditReason) → variant (refused r) ≢ no_p4
+no_path_reason Same e = absurd (cc)
+no_path_reason (NoVertex v) e = absurd (cc)
+no_path_reason (NameTaken v) e = absurd (cc)
+no_path_reason EdgeThere e = absurd (cc)
+no_path_reason EdgeAbsent e = absurd (cc)
+
+reason_no_path : (r : EditReason) (p : P4) → reason_words r ≢ codes "p4" ++ p4_text p
+reason_no_path r p e =
+    let f : line_text (refused r) ≡ line_text (refused_p4 p) = ap (λ (t : List ℕ). codes "no " ++ t) e in
+    no_path_reason r (sym (variant_is (refused r)) ∙ ap variant_at f ∙ variant_is (refused_p4 p))
+
+-- the line of a group is cut behind its number
+group_tell : (i j : ℕ) (r s : List ℕ) → codes "no edit " ++ (decimal i ++ 32 ∷ r) ≡ codes "no edit " ++ (decimal j ++ 32 ∷ s) → (i ≡ j) × (r ≡ s)
+group_tell i j r s e =
+    let f : decimal i ++ 32 ∷ r ≡ decimal j ++ 32 ∷ s = cc in
+    let cut : (decimal i ≡ decimal j) × (32 ∷ r ≡ 32 ∷ s) =
+    one_cut 32 (decimal i) (decimal j) (32 ∷ r) (32 ∷ s) (lacks_number 32 i (inl (omega arith))) (lacks_number 32 j (inl (omega arith))) refl refl f in
+    let g : 32 ∷ r ≡ 32 ∷ s = cut.1 in
+    (decimal_injective i j cut.0, cc)
+
 -- two lines of one variant and one text
 same_line : (k l : PlainLine) → IsVariant (variant k) l → line_text k ≡ line_text l → k ≡ l
 same_line (head m) l is e =
@@ -218,15 +272,19 @@ same_line end l is e = sym is
 same_line (forced chain) l is e =
     let f : codes "no" ++ arcs_text chain ≡ codes "no" ++ arcs_text is.0 = e ∙ ap line_text is.1 in
     ap forced (one_arcs chain is.0 (cc)) ∙ sym is.1
-same_line (refused Same) l is e = sym is
-same_line (refused (NoVertex v)) l is e =
-    let f : codes "no vertex " ++ decimal v ≡ codes "no vertex " ++ decimal is.0 = e ∙ ap line_text is.1 in
-    ap (λ (w : ℕ). refused (NoVertex w)) (decimal_injective v is.0 (cc)) ∙ sym is.1
-same_line (refused (NameTaken v)) l is e =
-    let f : codes "no taken " ++ decimal v ≡ codes "no taken " ++ decimal is.0 = e ∙ ap line_text is.1 in
-    ap (λ (w : ℕ). refused (NameTaken w)) (decimal_injective v is.0 (cc)) ∙ sym is.1
-same_line (refused EdgeThere) l is e = sym is
-same_line (refused EdgeAbsent) l is e = sym is
+same_line (refused r) l is e = same_refused r l is e
+same_line (group_refused number reason) l (inl is) e =
+    let i = group_tell number is.0 (reason_words reason) (reason_words is.1) (e ∙ ap line_text is.2) in
+    ap₂ group_refused i.0 (one_reason reason is.1 i.1) ∙ sym is.2
+same_line (group_refused number reason) l (inr is) e =
+    absurd (reason_no_path reason is.1 (group_tell number is.0 (reason_words reason) (codes "p4" ++ p4_text is.1) (e ∙ ap line_text is.2)).1)
+same_line (group_refused_p4 number p) l (inl is) e =
+    absurd (reason_no_path is.1 p (sym (group_tell number is.0 (codes "p4" ++ p4_text p) (reason_words is.1) (e ∙ ap line_text is.2)).1))
+same_line (group_refused_p4 number p) l (inr is) e =
+    let i = group_tell number is.0 (codes "p4" ++ p4_text p) (codes "p4" ++ p4_text is.1) (e ∙ ap line_text is.2) in
+    let f : codes "p4" ++ p4_text p ≡ codes "p4" ++ p4_text is.1 = i.1 in
+    ap₂ group_refused_p4 i.0 (one_p4 p is.1 (cc)) ∙ sym is.2
+same_line nothing_to_undo l is e = sym is
 same_line (refused_p4 p) l is e =
     let f : codes "no p4" ++ p4_text p ≡ codes "no p4" ++ p4_text is.0 = e ∙ ap line_text is.1 in
     ap refused_p4 (one_p4 p is.0 (cc)) ∙ sym is.1

@@ -16,7 +16,6 @@ use Rattle.md_comparability.proofs.Alternative.{alternative_proof}
 use Rattle.md_comparability.proofs.OneList.{one_list_proof}
 use Rattle.md_comparability.proofs.Shortest.{shortest_proof}
 use Rattle.md_comparability.specs.Chains.{IsShortestChain}
-use Rattle.md_forcing.specs.declared.arc.Arc.{Arc}
 use Rattle.md_comparability.proofs.OrderLaws.{orders_proof}
 use Rattle.std.specs.List.{All}
 use Rattle.std.proofs.lemmas.List.Elements.{All-nil, All-head, All-tail}
@@ -28,7 +27,7 @@ use Rattle.md_report.specs.declared.line.GraphMode.{GraphMode}
 use Rattle.md_report.specs.declared.line.GraphMode.TheVariants.{Tree, Compare, Shortest, Permute}
 use Rattle.md_report.specs.declared.line.SessionMode.{SessionMode}
 use Rattle.md_report.specs.declared.line.SessionMode.TheVariants.{Edit, Cograph, Quiet}
-use Rattle.md_report.specs.Lines.{PlainLine, mode_of, session_mode_of, head, tree, applied, applied_quiet, refused, refused_p4, not_cograph, oriented, forced, orders, forced_in, forced_in_complement, end}
+use Rattle.md_report.specs.Lines.{PlainLine, mode_of, session_mode_of, head, tree, applied, applied_quiet, refused, refused_p4, group_refused, group_refused_p4, nothing_to_undo, not_cograph, oriented, forced, orders, forced_in, forced_in_complement, end}
 use Rattle.md_report.specs.Orientations.{IsOrientationLine, IsShortestLine}
 use Rattle.md_report.specs.Models.{IsModelLine}
 use Rattle.md_report.specs.Sessions.{HasTreeLine, IsLineBy, state_by, IsStepLine, state_after, state_behind, last_state, SessionRun}
@@ -90,6 +89,9 @@ first_place g (edit ∷ edits) line step = by_reason (reason_of g edit) step whe
 
 names_behind : (line : PlainLine) (edits : List script.Edit) → All HasNames edits → All HasNames (edits_behind line edits)
 names_behind (not_cograph p) edits names = All-nil HasNames
+names_behind (group_refused number reason) edits names = names
+names_behind (group_refused_p4 number p) edits names = names
+names_behind nothing_to_undo edits names = names
 names_behind (head mode) edits names = names
 names_behind (tree t) edits names = names
 names_behind (applied t) edits names = names

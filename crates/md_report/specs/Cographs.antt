@@ -8,7 +8,7 @@ use Rattle.md_modules.specs.InducedPaths.{IsInducedPath, HasInducedPath}
 use Rattle.md_script.specs.declared.edit.Edit.{Edit}
 use Rattle.md_script.specs.declared.edit.EditReason.{EditReason}
 use Rattle.md_script.specs.Edit.{reason_of, after}
-use Rattle.md_report.specs.Lines.{PlainLine, head, tree, applied, applied_quiet, refused, refused_p4, not_cograph, oriented, forced, orders, forced_in, forced_in_complement, end}
+use Rattle.md_report.specs.Lines.{PlainLine, tree, applied, applied_quiet, refused, refused_p4, not_cograph}
 use Rattle.md_report.specs.Sessions.{HasTreeLine, state_behind}
 
 -- the four names are an induced P4 of g
@@ -52,18 +52,7 @@ IsQuietLine g edit line = IsQuietLineBy (reason_of g edit) g edit line
 -- what is still to be answered behind the line of the first state: nothing where that has an induced P4
 abbrev pub edits_behind : PlainLine → List Edit → List Edit
 edits_behind (not_cograph p) edits = []
-edits_behind (head mode) edits = edits
-edits_behind (tree t) edits = edits
-edits_behind (applied t) edits = edits
-edits_behind applied_quiet edits = edits
-edits_behind (refused reason) edits = edits
-edits_behind (refused_p4 p) edits = edits
-edits_behind (oriented arcs) edits = edits
-edits_behind (forced chain) edits = edits
-edits_behind (orders first second) edits = edits
-edits_behind (forced_in chain) edits = edits
-edits_behind (forced_in_complement chain) edits = edits
-edits_behind end edits = edits
+edits_behind _ edits = edits
 
 -- the run of a session over a script: one line for each edit, each at the state that those before it leave
 abbrev pub CographRun : PlainGraph → List Edit → List PlainLine → Type 0

@@ -3,6 +3,7 @@
 use Rattle.std.specs.Prelude.{ℕ, List, ◌∷◌, [], ◌++◌, codes, Option, Some, None, find}
 use Rattle.std.specs.Str.{bytes_eq}
 use Rattle.std.specs.List.{flat_map}
+use Rattle.md_graph.specs.declared.TheConstants.{NAMES}
 use Rattle.md_text.specs.Numbers.{decimal}
 use Rattle.md_forcing.specs.declared.arc.Arc.{Arc}
 use Rattle.md_modules.specs.declared.induced_paths.P4.{P4}
@@ -11,6 +12,7 @@ use Rattle.md_tree.specs.Plain.{plain_option}
 use Rattle.md_tree.specs.TreeTexts.{text_of}
 use Rattle.md_script.specs.declared.edit.EditReason.{EditReason}
 use Rattle.md_script.specs.declared.edit.EditReason.TheVariants.{Same, NoVertex, NameTaken, EdgeThere, EdgeAbsent}
+use Rattle.md_report.specs.declared.line.TheConstants.{ORIENTED}
 use Rattle.md_report.specs.declared.line.GraphMode.{GraphMode}
 use Rattle.md_report.specs.declared.line.GraphMode.TheVariants as graph_modes
 use Rattle.md_report.specs.declared.line.SessionMode.{SessionMode}
@@ -28,6 +30,9 @@ pub data PlainLine : Type 0 where
   applied_quiet : PlainLine
   refused : EditReason → PlainLine
   refused_p4 : P4 → PlainLine
+  group_refused : ℕ → EditReason → PlainLine
+  group_refused_p4 : ℕ → P4 → PlainLine
+  nothing_to_undo : PlainLine
   not_cograph : P4 → PlainLine
   oriented : List Arc → PlainLine
   forced : List Arc → PlainLine
@@ -44,6 +49,9 @@ plain_line (lines.Applied t) = applied (plain_option t)
 plain_line lines.AppliedQuiet = applied_quiet
 plain_line (lines.Refused reason) = refused reason
 plain_line (lines.RefusedP4 p) = refused_p4 p
+plain_line (lines.GroupRefused number reason) = group_refused number reason
+plain_line (lines.GroupRefusedP4 number p) = group_refused_p4 number p
+plain_line lines.NothingToUndo = nothing_to_undo
 plain_line (lines.NotCograph p) = not_cograph p
 plain_line (lines.Oriented arcs) = oriented arcs
 plain_line (lines.Forced chain) = forced chain
@@ -58,6 +66,13 @@ mode_of graph_modes.Tree = modes.Tree
 mode_of graph_modes.Compare = modes.Compare
 mode_of graph_modes.Shortest = modes.Compare
 mode_of graph_modes.Permute = modes.Permute
+
+-- the limit of names of the graphs of a report
+abbrev pub limit_of_mode : GraphMode → ℕ
+limit_of_mode graph_modes.Tree = NAMES
+limit_of_mode graph_modes.Compare = ORIENTED
+limit_of_mode graph_modes.Shortest = ORIENTED
+limit_of_mode graph_modes.Permute = ORIENTED
 
 -- what a report of a session is about
 abbrev pub session_mode_of : SessionMode → Mode
@@ -128,6 +143,9 @@ line_text (applied t) = codes "ok " ++ text_of t
 line_text applied_quiet = codes "ok"
 line_text (refused reason) = codes "no " ++ reason_words reason
 line_text (refused_p4 p) = codes "no p4" ++ p4_text p
+line_text (group_refused number reason) = codes "no edit " ++ (decimal number ++ (codes " " ++ reason_words reason))
+line_text (group_refused_p4 number p) = codes "no edit " ++ (decimal number ++ (codes " p4" ++ p4_text p))
+line_text nothing_to_undo = codes "no undo"
 line_text (not_cograph p) = codes "p4" ++ p4_text p
 line_text (oriented arcs) = codes "yes" ++ arcs_text arcs
 line_text (forced chain) = codes "no" ++ arcs_text chain

@@ -5,7 +5,7 @@ use Rattle.md_forcing.specs.declared.arc_set.Side.TheVariants.{NonEdges}
 use Rattle.md_forcing.specs.Sides.{adjacent_on}
 use Rattle.md_comparability.specs.Chains.{IsForcingChain, HasForcingChain}
 use Rattle.md_comparability.specs.Orders.{Realise}
-use Rattle.md_report.specs.Lines.{PlainLine, head, tree, applied, applied_quiet, refused, refused_p4, not_cograph, oriented, forced, orders, forced_in, forced_in_complement, end}
+use Rattle.md_report.specs.Lines.{PlainLine, orders, forced_in, forced_in_complement}
 
 -- a forcing chain of the graph; where it has none, a forcing chain of its complement; or two orders that realise the graph, which
 -- there are exactly where neither has a chain
@@ -13,13 +13,4 @@ abbrev pub IsModelLine : PlainGraph → PlainLine → Type 0
 IsModelLine g (orders first second) = Realise (adjacent g) g.vertices first second
 IsModelLine g (forced_in chain) = IsForcingChain (adjacent g) chain
 IsModelLine g (forced_in_complement chain) = (¬ HasForcingChain (adjacent g)) × IsForcingChain (adjacent_on NonEdges g) chain
-IsModelLine g (head mode) = ⊥
-IsModelLine g (tree t) = ⊥
-IsModelLine g (applied t) = ⊥
-IsModelLine g applied_quiet = ⊥
-IsModelLine g (refused reason) = ⊥
-IsModelLine g (refused_p4 p) = ⊥
-IsModelLine g (not_cograph p) = ⊥
-IsModelLine g (oriented arcs) = ⊥
-IsModelLine g (forced chain) = ⊥
-IsModelLine g end = ⊥
+IsModelLine g _ = ⊥

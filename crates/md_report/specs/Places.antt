@@ -7,7 +7,7 @@ use Rattle.md_report.specs.declared.line.GraphMode.{GraphMode}
 use Rattle.md_report.specs.declared.line.GraphMode.TheVariants.{Tree, Compare, Shortest, Permute}
 use Rattle.md_report.specs.declared.line.SessionMode.{SessionMode}
 use Rattle.md_report.specs.declared.line.SessionMode.TheVariants.{Edit, Cograph, Quiet}
-use Rattle.md_report.specs.Lines.{PlainLine, mode_of, session_mode_of, head, tree, applied, applied_quiet, refused, refused_p4, not_cograph, oriented, forced, orders, forced_in, forced_in_complement, end}
+use Rattle.md_report.specs.Lines.{PlainLine, mode_of, session_mode_of, head, tree, not_cograph, end}
 use Rattle.md_report.specs.Orientations.{IsOrientationLine, IsShortestLine}
 use Rattle.md_report.specs.Models.{IsModelLine}
 use Rattle.md_report.specs.Sessions.{HasTreeLine, IsStepLine, state_behind}
@@ -78,18 +78,7 @@ OpensSession Quiet g edits line = ReportsState Quiet g line ⊎ (IsCograph g × 
 -- the place behind the first line of a session in mode quiet: before the end where the line tells of an induced P4
 abbrev pub quiet_place : PlainGraph → List script.Edit → PlainLine → Place
 quiet_place g edits (not_cograph p) = at_end
-quiet_place g edits (head mode) = place_behind Quiet g edits (head mode)
-quiet_place g edits (tree t) = place_behind Quiet g edits (tree t)
-quiet_place g edits (applied t) = place_behind Quiet g edits (applied t)
-quiet_place g edits applied_quiet = place_behind Quiet g edits applied_quiet
-quiet_place g edits (refused reason) = place_behind Quiet g edits (refused reason)
-quiet_place g edits (refused_p4 p) = place_behind Quiet g edits (refused_p4 p)
-quiet_place g edits (oriented arcs) = place_behind Quiet g edits (oriented arcs)
-quiet_place g edits (forced chain) = place_behind Quiet g edits (forced chain)
-quiet_place g edits (orders first second) = place_behind Quiet g edits (orders first second)
-quiet_place g edits (forced_in chain) = place_behind Quiet g edits (forced_in chain)
-quiet_place g edits (forced_in_complement chain) = place_behind Quiet g edits (forced_in_complement chain)
-quiet_place g edits end = place_behind Quiet g edits end
+quiet_place g edits line = place_behind Quiet g edits line
 
 -- the place behind the line that came behind the head of a session
 abbrev pub opened_place : SessionMode → PlainGraph → List script.Edit → PlainLine → Place

@@ -8,7 +8,7 @@ use Rattle.md_tree.specs.StrongTrees.{IsTree}
 use Rattle.md_script.specs.declared.edit.Edit.{Edit}
 use Rattle.md_script.specs.declared.edit.EditReason.{EditReason}
 use Rattle.md_script.specs.Edit.{reason_of, after}
-use Rattle.md_report.specs.Lines.{PlainLine, head, tree, applied, applied_quiet, refused, refused_p4, not_cograph, oriented, forced, orders, forced_in, forced_in_complement, end}
+use Rattle.md_report.specs.Lines.{PlainLine, applied, applied_quiet, refused}
 
 -- the line is one with the tree of strong modules of g
 abbrev pub HasTreeLine : (Option PlainTree → PlainLine) → PlainGraph → PlainLine → Type 0
@@ -36,17 +36,7 @@ state_after g edit = state_by (reason_of g edit) g edit
 abbrev pub state_behind : PlainGraph → Edit → PlainLine → PlainGraph
 state_behind g edit (applied t) = after g edit
 state_behind g edit applied_quiet = after g edit
-state_behind g edit (refused reason) = g
-state_behind g edit (refused_p4 p) = g
-state_behind g edit (not_cograph p) = g
-state_behind g edit (head mode) = g
-state_behind g edit (tree t) = g
-state_behind g edit (oriented arcs) = g
-state_behind g edit (forced chain) = g
-state_behind g edit (orders first second) = g
-state_behind g edit (forced_in chain) = g
-state_behind g edit (forced_in_complement chain) = g
-state_behind g edit end = g
+state_behind g edit _ = g
 
 -- the state behind lines that came for edits, one each
 abbrev pub last_state : PlainGraph → List Edit → List PlainLine → PlainGraph

@@ -1,17 +1,18 @@
 -- Well-formed lines, and what reading a line says.
 -- Source: this project's own format of reports.
-use Rattle.std.specs.Prelude.{◌≡◌, ◌≢◌, ℕ, ◌<◌, List, [], ◌∷◌, Result, Ok, Err, ⊤}
+use Rattle.std.specs.Prelude.{◌≡◌, ◌≢◌, ℕ, ◌<◌, ◌≤◌, List, [], ◌∷◌, Result, Ok, Err, ⊤}
 use Rattle.std.specs.List.{All}
 use Rattle.md_graph.specs.declared.TheConstants.{NAMES}
 use Rattle.md_forcing.specs.declared.arc.Arc.{Arc}
 use Rattle.md_modules.specs.declared.induced_paths.P4.{P4}
 use Rattle.md_tree.specs.WellFormed.{IsWellFormed}
+use Rattle.md_script.specs.declared.TheConstants.{EDITS}
 use Rattle.md_script.specs.declared.edit.EditReason.{EditReason}
 use Rattle.md_script.specs.declared.edit.EditReason.TheVariants.{Same, NoVertex, NameTaken, EdgeThere, EdgeAbsent}
 use Rattle.md_report.specs.declared.line.Line.{Line}
 use Rattle.md_report.specs.declared.reader.LineFault.{LineFault}
 use Rattle.md_report.specs.declared.reader.LineFault.TheVariants.{Syntax, Memory}
-use Rattle.md_report.specs.Lines.{PlainLine, plain_line, line_text, head, tree, applied, applied_quiet, refused, refused_p4, not_cograph, oriented, forced, orders, forced_in, forced_in_complement, end}
+use Rattle.md_report.specs.Lines.{PlainLine, plain_line, line_text, head, tree, applied, applied_quiet, refused, refused_p4, group_refused, group_refused_p4, nothing_to_undo, not_cograph, oriented, forced, orders, forced_in, forced_in_complement, end}
 
 -- the number is a name
 abbrev pub IsVertexName : ℕ → Type 0
@@ -45,8 +46,12 @@ IsNamedReason (NameTaken v) = IsVertexName v
 IsNamedReason EdgeThere = ⊤
 IsNamedReason EdgeAbsent = ⊤
 
--- the trees of the line are well-formed, what it names are names, the ends of each arc differ, a chain has an arc, and an induced P4
--- has four different names, the first below the last
+-- the number counts an edit of a group, from 1
+abbrev pub IsEditNumber : ℕ → Type 0
+IsEditNumber n = (0 < n) × (n ≤ EDITS)
+
+-- the trees of the line are well-formed, what it names are names, the ends of each arc differ, a chain has an arc, an induced P4 has
+-- four different names, the first below the last, and the number of an edit of a group is one
 abbrev pub IsWellFormedLine : PlainLine → Type 0
 IsWellFormedLine (head mode) = ⊤
 IsWellFormedLine (tree t) = IsWellFormed t
@@ -54,6 +59,9 @@ IsWellFormedLine (applied t) = IsWellFormed t
 IsWellFormedLine applied_quiet = ⊤
 IsWellFormedLine (refused reason) = IsNamedReason reason
 IsWellFormedLine (refused_p4 p) = IsNamedP4 p
+IsWellFormedLine (group_refused number reason) = IsEditNumber number × IsNamedReason reason
+IsWellFormedLine (group_refused_p4 number p) = IsEditNumber number × IsNamedP4 p
+IsWellFormedLine nothing_to_undo = ⊤
 IsWellFormedLine (not_cograph p) = IsNamedP4 p
 IsWellFormedLine (oriented arcs) = All IsNamedArc arcs
 IsWellFormedLine (forced chain) = IsNamedChain chain

@@ -12,6 +12,7 @@ use Rattle.md_tree.specs.Trees.{PlainTree}
 use Rattle.md_tree.specs.Plain.{plain_option}
 use Rattle.md_tree.specs.TreeTexts.{text_of}
 use Rattle.md_tree.specs.WellFormed.{IsWellFormed}
+use Rattle.md_script.specs.declared.edit.EditReason.{EditReason}
 use Rattle.md_report.specs.declared.line.Mode.{Mode}
 use Rattle.md_report.specs.declared.line.Line.{Line}
 use Rattle.md_report.specs.declared.reader.LineFault.{LineFault}
@@ -21,8 +22,8 @@ use Rattle.md_report.specs.declared.words.Word.TheVariants.{Head, Tree as TreeWo
 use Rattle.md_report.specs.declared.words.Refusal.{Refusal}
 use Rattle.md_report.specs.declared.words.Refusal.TheVariants as refusals
 use Rattle.md_report.specs.Cuts.{Opens}
-use Rattle.md_report.specs.Lines.{plain_line, mode_word, names_text, p4_text, arcs_text, line_text}
-use Rattle.md_report.specs.WellFormedLines.{IsVertexName, IsNamedArc, IsNamedChain, IsNamedP4, IsWellFormedLine}
+use Rattle.md_report.specs.Lines.{plain_line, mode_word, reason_words, names_text, p4_text, arcs_text, line_text}
+use Rattle.md_report.specs.WellFormedLines.{IsVertexName, IsEditNumber, IsNamedArc, IsNamedChain, IsNamedP4, IsNamedReason, IsWellFormedLine}
 
 -- the first word of a line
 abbrev pub word_text : Word → List ℕ
@@ -44,17 +45,35 @@ refusal_text refusals.Absent = codes "edge-absent"
 refusal_text refusals.Path = codes "p4"
 refusal_text refusals.Graph = codes "g"
 refusal_text refusals.Complement = codes "c"
+refusal_text refusals.Edit = codes "edit"
+refusal_text refusals.Undo = codes "undo"
+
+-- nothing that may stand behind the word of a reason is this text
+abbrev pub NoReason : Refusal → List ℕ → Type 0
+NoReason refusals.Same text = text ≢ []
+NoReason refusals.Vertex text = (v : ℕ) → IsVertexName v → text ≢ 32 ∷ decimal v
+NoReason refusals.Taken text = (v : ℕ) → IsVertexName v → text ≢ 32 ∷ decimal v
+NoReason refusals.There text = text ≢ []
+NoReason refusals.Absent text = text ≢ []
+NoReason _ text = ⊤
+
+-- no number of an edit of a group, and a reason or an induced P4, have this text
+pub record NoGroup (text : List ℕ) : Type 0 where
+  pub reasons : (number : ℕ) (reason : EditReason) → IsEditNumber number → IsNamedReason reason → text ≢ 32 ∷ (decimal number ++ (codes " " ++ reason_words reason))
+  pub paths : (number : ℕ) (p : P4) → IsEditNumber number → IsNamedP4 p → text ≢ 32 ∷ (decimal number ++ (codes " p4" ++ p4_text p))
 
 -- nothing that may stand behind `no` and a word is this text
 abbrev pub NoRefusal : Refusal → List ℕ → Type 0
-NoRefusal refusals.Same text = text ≢ []
-NoRefusal refusals.Vertex text = (v : ℕ) → IsVertexName v → text ≢ 32 ∷ decimal v
-NoRefusal refusals.Taken text = (v : ℕ) → IsVertexName v → text ≢ 32 ∷ decimal v
-NoRefusal refusals.There text = text ≢ []
-NoRefusal refusals.Absent text = text ≢ []
+NoRefusal refusals.Same text = NoReason refusals.Same text
+NoRefusal refusals.Vertex text = NoReason refusals.Vertex text
+NoRefusal refusals.Taken text = NoReason refusals.Taken text
+NoRefusal refusals.There text = NoReason refusals.There text
+NoRefusal refusals.Absent text = NoReason refusals.Absent text
 NoRefusal refusals.Path text = (p : P4) → IsNamedP4 p → text ≢ p4_text p
 NoRefusal refusals.Graph text = (chain : List Arc) → IsNamedChain chain → text ≢ arcs_text chain
 NoRefusal refusals.Complement text = (chain : List Arc) → IsNamedChain chain → text ≢ arcs_text chain
+NoRefusal refusals.Edit text = NoGroup text
+NoRefusal refusals.Undo text = text ≢ []
 
 -- nothing that may stand behind `no` is this text
 pub record NoNo (text : List ℕ) : Type 0 where
@@ -94,6 +113,10 @@ ReadsBehind w text result = Reads (word_text w ++ text) (NoLine w text) result
 -- of what stands behind `no` and a word
 abbrev pub ReadsRefusal : Refusal → List ℕ → Result Line LineFault → Type 0
 ReadsRefusal w text result = Reads (codes "no " ++ (refusal_text w ++ text)) (NoRefusal w text) result
+
+-- of what stands behind `no` and the word of a reason
+abbrev pub ReadsReason : Refusal → List ℕ → Result Line LineFault → Type 0
+ReadsReason w text result = Reads (codes "no " ++ (refusal_text w ++ text)) (NoReason w text) result
 
 -- of two parts behind `yes`, between which a slash stands
 abbrev pub ReadsOrders : List ℕ → List ℕ → Result Line LineFault → Type 0

@@ -1,6 +1,9 @@
 //! The laws of reports, each the contract of a function that does nothing.
 
+ghost use Rattle.std.specs.Prelude.{◌≡◌};
 ghost use Rattle.md_report.specs.Laws.{LinesLeadIfFirst, GraphReportsHaveLines, ShortestReportsCompare, SessionReportsAreRuns, CographRunsApplyAlike, FrontsBeginReports, OneLineOneText};
+
+use crate::ORIENTED;
 
 // What is known of the lines of orientations, for readers of reports.
 pub use md_comparability::laws::{
@@ -8,6 +11,11 @@ pub use md_comparability::laws::{
     one_least_edge_orientation, orders_if_no_chain, orientations_give_orders, sides_meet_premises,
     triangle_lemma,
 };
+
+/// Orientations are reported of graphs of at most 4,096 names.
+pub fn number_of_names_oriented()
+    ensures number { ORIENTED ≡ 4096 }
+{}
 
 /// Lines are the first lines of a whole report exactly where each may come at the place to which
 /// those before it lead.

@@ -11,7 +11,7 @@ mod reader;
 mod words;
 mod writer;
 
-pub use line::{GraphMode, Line, Mode, SessionMode};
+pub use line::{GraphMode, Line, Mode, ORIENTED, SessionMode};
 pub use made::made_p4;
 pub use md_comparability::Order;
 pub use mode_words::{mode_of_word, mode_word};

@@ -1,9 +1,13 @@
 //! The modes and the lines of reports.
 use crate::Order;
 use md_forcing::{Arcs, Chain};
+use md_graph::NAMES;
 use md_modules::P4;
 use md_script::EditReason;
 use md_tree::Tree;
+
+/// How many names a graph may have at most of which orientations are reported.
+pub const ORIENTED: u32 = 4_096;
 
 /// What a report is about.
 #[derive(Clone, Copy, Debug, PartialEq, Eq)]
@@ -66,7 +70,7 @@ pub enum GraphMode {
 
 impl GraphMode {
     ghost use Rattle.std.specs.Prelude.{◌≡◌};
-    ghost use Rattle.md_report.specs.Lines.{mode_of};
+    ghost use Rattle.md_report.specs.Lines.{mode_of, limit_of_mode};
 
     /// What the whole report is about.
     pub fn mode(self) -> Mode
@@ -76,6 +80,17 @@ impl GraphMode {
             GraphMode::Tree => Mode::Tree,
             GraphMode::Compare | GraphMode::Shortest => Mode::Compare,
             GraphMode::Permute => Mode::Permute,
+        }
+    }
+
+    /// The limit of names of the graphs that are reported so: trees are of all names, orientations
+    /// and orders of fewer.
+    pub fn limit(self) -> u32
+        ensures { result ≡ limit_of_mode self }
+    {
+        match self {
+            GraphMode::Tree => NAMES,
+            GraphMode::Compare | GraphMode::Shortest | GraphMode::Permute => ORIENTED,
         }
     }
 }
@@ -124,6 +139,14 @@ pub enum Line {
     Refused(EditReason),
     /// The edit was refused, since the graph after it has this induced P4, and the graph stays.
     RefusedP4(P4),
+    /// A group was refused, since there is this reason against its edit with this number, counted
+    /// from 1, and the graph stays.
+    GroupRefused(u64, EditReason),
+    /// A group was refused, since the graph after its edit with this number, counted from 1, has
+    /// this induced P4, and the graph stays.
+    GroupRefusedP4(u64, P4),
+    /// There is nothing to undo, and the graph stays.
+    NothingToUndo,
     /// The first graph of a session on cographs has this induced P4.
     NotCograph(P4),
     /// The graph has a transitive orientation: these arcs.

@@ -1,8 +1,7 @@
 //! The induced P4s that an edit makes.
 ghost use Rattle.std.specs.Prelude.{◌*◌, IfSome, IfNone};
-ghost use Rattle.md_graph.specs.Sets.{NameSet};
 ghost use Rattle.md_graph.specs.PlainGraph.{PlainGraph};
-ghost use Rattle.md_script.specs.TakenBack.{Led};
+ghost use Rattle.md_script.specs.Pasts.{Led};
 ghost use Rattle.md_report.specs.Cographs.{IsP4Of, IsCograph};
 ghost use Rattle.md_report.specs.Made.{HasChange, HoldsChange, HasNoneMade};
 
@@ -19,7 +18,7 @@ pub fn made_p4<const W: usize>(graph: &GraphOf<W>, edit: &Edit) -> Option<P4>
     ensures found { IfSome result (λ p.
         IsP4Of graph.now p × HoldsChange edit.now p.a p.b p.c p.d) }
     ensures none { IfNone result (HasNoneMade graph.now edit.now) }
-    ensures cograph { (g : PlainGraph) (row : NameSet) → Led (64 * W) g edit.now row graph.now
+    ensures cograph { (g : PlainGraph) → Led (64 * W) g edit.now graph.now
         → IsCograph g → IfNone result (IsCograph graph.now) }
 {
     let _vertices = graph.vertices();

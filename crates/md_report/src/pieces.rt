@@ -1,16 +1,18 @@
 //! Names in the texts of lines: pieces, each behind a space.
-ghost use Rattle.std.specs.Prelude.{◌≡◌, ◌≢◌, ℕ, ◌<◌, ◌≤◌, ◌↔◌, [], ◌∷◌, List, length, slice_index, IfOk, IfSome, IsTrue, MatchOption};
+ghost use Rattle.std.specs.Prelude.{◌≡◌, ◌≢◌, ℕ, ◌^◌, ◌<◌, ◌≤◌, ◌↔◌, [], ◌∷◌, List, length, slice_index, IfOk, IfSome, IsTrue, MatchOption};
 ghost use Rattle.std.specs.List.{All};
 ghost use Rattle.md_forcing.specs.declared.arc.Arc.{Arc};
+ghost use Rattle.md_text.specs.declared.digits.TheConstants.{DIGITS};
 ghost use Rattle.md_text.specs.Numbers.{decimal};
 ghost use Rattle.md_modules.specs.declared.induced_paths.P4.{P4};
 ghost use Rattle.md_report.specs.Lines.{names_text, p4_text};
-ghost use Rattle.md_report.specs.WellFormedLines.{IsVertexName, IsNamedP4, AreFour};
+ghost use Rattle.md_report.specs.WellFormedLines.{IsVertexName, IsEditNumber, IsNamedP4, AreFour};
 ghost use Rattle.md_report.specs.Cuts.{Opens, IsCutAt, IsPiece, IsItem, NoItem};
 
 use md_forcing::{Arc, Chain};
 use md_graph::{Memory, NAMES};
 use md_modules::P4;
+use md_script::EDITS;
 use md_text::{number, skip_byte, small_number};
 use std::alloc::Global;
 
@@ -56,16 +58,25 @@ pub(crate) fn split_piece(text: &[u8]) -> Option<(&[u8], &[u8])>
     Some(split_before(behind, b' '))
 }
 
-// The name that a piece spells, if it spells one: the digits of a number, without leading zeros.
+// The number that a piece spells, if it spells one: its digits, not too many, without leading zeros.
+fn spelled(piece: &[u8]) -> Option<u64>
+    ensures { MatchOption result ((n : ℕ) → n < 10 ^ DIGITS → piece.now ≢ decimal n)
+        (λ n. piece.now ≡ decimal n) }
+{
+    let value = number(piece)?;
+    if has_leading_zero(piece) {
+        return None;
+    }
+    Some(value)
+}
+
+// The name that a piece spells, if it spells one.
 pub(crate) fn name(piece: &[u8]) -> Option<u32>
     ensures { MatchOption result ((v : ℕ) → IsVertexName v → piece.now ≢ decimal v)
         (λ v. IsVertexName v × (piece.now ≡ decimal v)) }
 {
-    let value = number(piece)?;
+    let value = spelled(piece)?;
     if value >= u64::from(NAMES) {
-        return None;
-    }
-    if has_leading_zero(piece) {
         return None;
     }
     Some(value as u32)
@@ -87,6 +98,27 @@ pub(crate) fn split_name(text: &[u8]) -> Option<(u32, &[u8])>
     }
     let (piece, rest) = split_piece(text)?;
     Some((name(piece)?, rest))
+}
+
+// The number of an edit of a group in the first piece, and the rest behind it.
+pub(crate) fn split_number(text: &[u8]) -> Option<(u64, &[u8])>
+    ensures { MatchOption result (NoItem decimal IsEditNumber text.now)
+        (λ p. IsItem decimal IsEditNumber text.now p.0 p.1.now) }
+{
+    let (piece, rest) = split_piece(text)?;
+    Some((edit_number(piece)?, rest))
+}
+
+// The number of an edit of a group that a piece spells, if it spells one.
+fn edit_number(piece: &[u8]) -> Option<u64>
+    ensures { MatchOption result ((j : ℕ) → IsEditNumber j → piece.now ≢ decimal j)
+        (λ j. IsEditNumber j × (piece.now ≡ decimal j)) }
+{
+    let value = spelled(piece)?;
+    if value == 0 || value > EDITS {
+        return None;
+    }
+    Some(value)
 }
 
 // The name in the first piece, read without a look for its end. None says nothing.

@@ -1,19 +1,24 @@
 //! Reads a line of a report.
-ghost use Rattle.std.specs.Prelude.{◌≡◌, ◌≢◌, [], ◌∷◌, IfOk, IfErr, MatchOption};
+ghost use Rattle.std.specs.Prelude.{◌≡◌, ◌≢◌, [], ◌∷◌, ◌++◌, codes, IfOk, MatchOption};
+ghost use Rattle.md_modules.specs.declared.induced_paths.P4.{P4};
+ghost use Rattle.md_script.specs.declared.edit.EditReason.{EditReason};
 ghost use Rattle.md_report.specs.declared.line.Mode.{Mode};
-ghost use Rattle.md_report.specs.declared.reader.LineFault.TheVariants.{Syntax};
 ghost use Rattle.md_report.specs.declared.words.Word.TheVariants as words;
-ghost use Rattle.md_report.specs.Lines.{plain_line, mode_word, refused};
-ghost use Rattle.md_report.specs.WellFormedLines.{IsLineReading};
-ghost use Rattle.md_report.specs.Words.{ReadsBehind, ReadsRefusal, ReadsOrders, ReadsTree};
+ghost use Rattle.md_report.specs.declared.words.Refusal.TheVariants as refusals;
+ghost use Rattle.md_report.specs.Lines.{mode_word, reason_words, p4_text};
+ghost use Rattle.md_report.specs.WellFormedLines.{IsNamedReason, IsNamedP4, IsLineReading};
+ghost use Rattle.md_report.specs.Words.{refusal_text, NoReason, ReadsBehind, ReadsRefusal, ReadsReason, ReadsOrders, ReadsTree};
 
 use crate::arc_reader::{arcs, chain};
 use crate::mode_words::mode_of_word;
-use crate::pieces::{behind_space, name_behind, names, path, split_before, split_piece};
+use crate::pieces::{
+    behind_space, name_behind, names, path, split_before, split_number, split_piece,
+};
 use crate::words::{Refusal, Word, first_word, refusal_word};
 use crate::{Line, Mode, Order};
 use md_forcing::Arcs;
 use md_graph::Memory;
+use md_modules::P4;
 use md_script::EditReason;
 use md_tree::{Tree, TreeFault, read_tree};
 use std::alloc::Global;
@@ -172,17 +177,11 @@ fn refusal_line(alloc: Global, word: Refusal, behind: &[u8]) -> Result<Line, Lin
     ensures { ReadsRefusal word behind.now result }
 {
     match word {
-        Refusal::Same => reason_line(behind, EditReason::Same),
-        Refusal::There => reason_line(behind, EditReason::EdgeThere),
-        Refusal::Absent => reason_line(behind, EditReason::EdgeAbsent),
-        Refusal::Vertex => match name_behind(behind) {
-            Some(v) => Ok(Line::Refused(EditReason::NoVertex(v))),
-            None => Err(LineFault::Syntax),
-        },
-        Refusal::Taken => match name_behind(behind) {
-            Some(v) => Ok(Line::Refused(EditReason::NameTaken(v))),
-            None => Err(LineFault::Syntax),
-        },
+        Refusal::Same => reason_line(Refusal::Same, behind),
+        Refusal::There => reason_line(Refusal::There, behind),
+        Refusal::Absent => reason_line(Refusal::Absent, behind),
+        Refusal::Vertex => reason_line(Refusal::Vertex, behind),
+        Refusal::Taken => reason_line(Refusal::Taken, behind),
         Refusal::Path => match path(alloc, behind)? {
             Some(p) => Ok(Line::RefusedP4(p)),
             None => Err(LineFault::Syntax),
@@ -195,16 +194,107 @@ fn refusal_line(alloc: Global, word: Refusal, behind: &[u8]) -> Result<Line, Lin
             Some(chain) => Ok(Line::ForcedInComplement(chain)),
             None => Err(LineFault::Syntax),
         },
+        Refusal::Edit => group_line(alloc, behind),
+        Refusal::Undo => undo_line(behind),
     }
 }
 
-// The refusal for a reason, where nothing is left.
-fn reason_line(behind: &[u8], reason: EditReason) -> Result<Line, LineFault>
-    ensures line { IfOk result (λ line. (behind.now ≡ []) × (plain_line line ≡ refused reason)) }
-    ensures fault { IfErr result (λ fault. (fault ≡ Syntax) × (behind.now ≢ [])) }
+// The refusal for the reason with this word, and what stands behind the word.
+fn reason_line(word: Refusal, behind: &[u8]) -> Result<Line, LineFault>
+    ensures { ReadsReason word behind.now result }
+{
+    match reason_behind(word, behind) {
+        Some(reason) => Ok(Line::Refused(reason)),
+        None => Err(LineFault::Syntax),
+    }
+}
+
+// The reason with this word, by what stands behind the word.
+fn reason_behind(word: Refusal, behind: &[u8]) -> Option<EditReason>
+    ensures { MatchOption result (NoReason word behind.now) (λ reason.
+        IsNamedReason reason × (refusal_text word ++ behind.now ≡ reason_words reason)) }
+{
+    match word {
+        Refusal::Same => at_end(behind, EditReason::Same),
+        Refusal::There => at_end(behind, EditReason::EdgeThere),
+        Refusal::Absent => at_end(behind, EditReason::EdgeAbsent),
+        Refusal::Vertex => match name_behind(behind) {
+            Some(v) => Some(EditReason::NoVertex(v)),
+            None => None,
+        },
+        Refusal::Taken => match name_behind(behind) {
+            Some(v) => Some(EditReason::NameTaken(v)),
+            None => None,
+        },
+        Refusal::Path => None,
+        Refusal::Graph => None,
+        Refusal::Complement => None,
+        Refusal::Edit => None,
+        Refusal::Undo => None,
+    }
+}
+
+// The reason, where nothing is left.
+fn at_end(behind: &[u8], reason: EditReason) -> Option<EditReason>
+    ensures { MatchOption result (behind.now ≢ []) (λ found.
+        (found ≡ reason) × (behind.now ≡ [])) }
 {
     if behind.is_empty() {
-        return Ok(Line::Refused(reason));
+        return Some(reason);
+    }
+    None
+}
+
+// The line that there is nothing to undo.
+fn undo_line(behind: &[u8]) -> Result<Line, LineFault>
+    ensures { ReadsRefusal refusals.Undo behind.now result }
+{
+    if behind.is_empty() {
+        return Ok(Line::NothingToUndo);
     }
     Err(LineFault::Syntax)
+}
+
+// The refusal of a group: the number of an edit, and a reason or an induced P4.
+fn group_line(alloc: Global, behind: &[u8]) -> Result<Line, LineFault>
+    ensures { ReadsRefusal refusals.Edit behind.now result }
+{
+    let Some((number, tail)) = split_number(behind) else {
+        return Err(LineFault::Syntax);
+    };
+    let Some(text) = behind_space(tail) else {
+        return Err(LineFault::Syntax);
+    };
+    if let Some(reason) = reason_of_text(text) {
+        return Ok(Line::GroupRefused(number, reason));
+    }
+    match path_of_text(alloc, text)? {
+        Some(p) => Ok(Line::GroupRefusedP4(number, p)),
+        None => Err(LineFault::Syntax),
+    }
+}
+
+// The reason with this text.
+fn reason_of_text(text: &[u8]) -> Option<EditReason>
+    ensures { MatchOption result
+        ((reason : EditReason) → IsNamedReason reason → text.now ≢ reason_words reason)
+        (λ reason. IsNamedReason reason × (text.now ≡ reason_words reason)) }
+{
+    let (piece, behind) = split_before(text, b' ');
+    match refusal_word(piece) {
+        Some(word) => reason_behind(word, behind),
+        None => None,
+    }
+}
+
+// The induced P4 whose four names stand behind its word.
+fn path_of_text(alloc: Global, text: &[u8]) -> Result<Option<P4>, Memory>
+    ensures { IfOk result (λ found. MatchOption found
+        ((p : P4) → IsNamedP4 p → text.now ≢ codes "p4" ++ p4_text p)
+        (λ p. IsNamedP4 p × (text.now ≡ codes "p4" ++ p4_text p))) }
+{
+    match text {
+        [b'p', b'4', behind @ ..] => path(alloc, behind),
+        _ => Ok(None),
+    }
 }

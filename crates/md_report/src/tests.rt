@@ -46,6 +46,17 @@ fn lines(rt: HostRuntime) -> Result<(), Fail> {
         (Line::Refused(EditReason::EdgeThere), "no edge-there"),
         (Line::Refused(EditReason::EdgeAbsent), "no edge-absent"),
         (Line::RefusedP4(path), "no p4 0 10 2 4095"),
+        (Line::GroupRefused(1, EditReason::Same), "no edit 1 same"),
+        (
+            Line::GroupRefused(20, EditReason::NoVertex(4095)),
+            "no edit 20 vertex 4095",
+        ),
+        (
+            Line::GroupRefused(200_000, EditReason::EdgeThere),
+            "no edit 200000 edge-there",
+        ),
+        (Line::GroupRefusedP4(3, path), "no edit 3 p4 0 10 2 4095"),
+        (Line::NothingToUndo, "no undo"),
         (Line::NotCograph(path), "p4 0 10 2 4095"),
         (Line::Oriented(Arcs::from_list(Vec::new(alloc))), "yes"),
         (Line::Oriented(Arcs::from_list(arcs)), "yes 0>1 4095>12"),
@@ -114,7 +125,24 @@ fn texts_of_no_line(rt: HostRuntime) -> Result<(), Fail> {
         "no c 0>1 ",
         "no 0>1,1>2",
     ];
+    let groups = [
+        "no edit",
+        "no edit 1",
+        "no edit 0 same",
+        "no edit 01 same",
+        "no edit 200001 same",
+        "no edit 1 undo",
+        "no edit 1 edit 2 same",
+        "no edit 1 same ",
+        "no edit 1 g 0>1",
+        "no edit 1 p4 3 2 1 0",
+        "no undo ",
+    ];
     for text in &refusals {
+        let read = read_line(alloc, text.as_bytes());
+        assert!(rt; matches!(read, Err(LineFault::Syntax)), "{text}");
+    }
+    for text in &groups {
         let read = read_line(alloc, text.as_bytes());
         assert!(rt; matches!(read, Err(LineFault::Syntax)), "{text}");
     }

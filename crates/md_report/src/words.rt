@@ -42,6 +42,10 @@ pub(crate) enum Refusal {
     Graph,
     // `c`
     Complement,
+    // `edit`
+    Edit,
+    // `undo`
+    Undo,
 }
 
 // The word that a piece is, if it is one of those with which lines begin.
@@ -101,6 +105,12 @@ pub(crate) fn refusal_word(piece: &[u8]) -> Option<Refusal>
     }
     if piece == b"c".as_slice() {
         return Some(Refusal::Complement);
+    }
+    if piece == b"edit".as_slice() {
+        return Some(Refusal::Edit);
+    }
+    if piece == b"undo".as_slice() {
+        return Some(Refusal::Undo);
     }
     None
 }

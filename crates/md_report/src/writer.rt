@@ -44,6 +44,17 @@ pub fn write_line(alloc: Global, line: &Line) -> Result<Vec<u8>, Memory>
             text.extend_from_slice(b"no p4")?;
             push_p4(&mut text, p)?;
         }
+        Line::GroupRefused(number, reason) => {
+            push_edit(&mut text, *number)?;
+            text.push(b' ')?;
+            push_reason(&mut text, *reason)?;
+        }
+        Line::GroupRefusedP4(number, p) => {
+            push_edit(&mut text, *number)?;
+            text.extend_from_slice(b" p4")?;
+            push_p4(&mut text, p)?;
+        }
+        Line::NothingToUndo => text.extend_from_slice(b"no undo")?,
         Line::NotCograph(p) => {
             text.extend_from_slice(b"p4")?;
             push_p4(&mut text, p)?;
@@ -73,6 +84,15 @@ pub fn write_line(alloc: Global, line: &Line) -> Result<Vec<u8>, Memory>
         Line::End => text.extend_from_slice(b"end")?,
     }
     Ok(text)
+}
+
+// Appends that the edit of a group with this number was refused.
+fn push_edit(text: &mut Vec<u8>, number: u64) -> Result<(), Memory>
+    ensures { OnOk result (text.new.items ≡ text.old.items ++ (codes "no edit " ++ decimal number)) }
+{
+    text.extend_from_slice(b"no edit ")?;
+    push_number(text, number)?;
+    Ok(())
 }
 
 fn push_reason(text: &mut Vec<u8>, reason: EditReason) -> Result<(), Memory>

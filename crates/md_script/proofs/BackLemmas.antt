@@ -1,24 +1,29 @@
 -- What taking an edit back finds in the graph, and that it gives the graph before the edit.
-use Rattle.std.specs.Prelude.{◌≡◌, ℕ, ◌<◌, ◌≤◌, Bool, true, false, not, ◌&&◌, ◌||◌, ◌==◌, min, max, List, Option, Some, None, refl}
+use Rattle.std.specs.Prelude.{◌≡◌, ℕ, ◌<◌, ◌≤◌, Bool, true, false, not, ◌&&◌, ◌||◌, ◌==◌, cond, find, min, max, List, [], ◌∷◌, Option, Some, None, option_map, refl}
 use Rattle.std.specs.Bool.{then_some}
 use Rattle.std.specs.Option.{option_or}
+use Rattle.std.specs.List.{All}
 use Rattle.std.proofs.Common.{ap, sym, ◌∙◌, subst, arith, inl, inr}
 use Rattle.std.proofs.lemmas.Bool.{cases_Bool, eqb-true, and_parts, or_cases, false_from_ne_true}
 use Rattle.std.proofs.lemmas.Bool.Decides.{nat_tests}
+use Rattle.std.proofs.lemmas.List.Elements.{All-head, All-tail, All-weaker}
 use Rattle.std.specs.FinSet as set
 use Rattle.md_graph.specs.declared.TheConstants.{NAMES}
 use Rattle.md_graph.specs.Sets.{NameSet, Has}
+use Rattle.md_graph.specs.NameSet.{AllBelow, ascending}
 use Rattle.md_graph.specs.PlainGraph.{PairSet, PlainGraph, IsGraph, adjacent, neighbours, with_vertex, with_edge, with_edges, without_vertex, without_edge}
 use Rattle.md_graph.proofs.SetLaws.{contains-insert, contains-remove, same_set}
 use Rattle.md_graph.proofs.PairLaws.{is_pair, pairs-insert, pairs-remove, same_pairs}
 use Rattle.md_graph.proofs.GraphLemmas.{same_graph, adjacent_sym, adjacent_self, adjacent_ends, contains-neighbours, adjacent-with_vertex, adjacent-with_edge, adjacent-with_edges, adjacent-without_vertex, adjacent-without_edge, IsGraph-with_vertex, IsGraph-with_edges, IsGraph-without_vertex}
-use Rattle.md_graph.proofs.SetLemmas.{remove_insert, clash}
+use Rattle.md_graph.proofs.NameLemmas.{IsItem, ascending_items, from_list-ascending}
+use Rattle.md_graph.proofs.SetLemmas.{remove_insert, remove_gone, remove_left, clash}
 use Rattle.md_script.specs.declared.edit.Edit.{Edit}
 use Rattle.md_script.specs.declared.edit.Edit.TheVariants.{AddEdge, DelEdge, AddVertex, DelVertex}
 use Rattle.md_script.specs.declared.edit.EditReason.{EditReason}
-use Rattle.md_script.proofs.ChangeLemmas.{names_within, neighbours_are_vertices, after_is_graph, vertex_added}
+use Rattle.md_script.specs.declared.edit.EditReason.TheVariants.{Same, NoVertex, NameTaken, EdgeThere, EdgeAbsent}
+use Rattle.md_script.proofs.ChangeLemmas.{names_within, neighbours_are_vertices, after_is_graph, vertex_added, ends_by_tests}
 use Rattle.md_script.specs.Edit.{HasNamesBelow, reason_of, after}
-use Rattle.md_script.specs.TakenBack.{Led, lost_row}
+use Rattle.md_script.specs.Pasts.{inverse_of, TakesBack, Led}
 
 -- ---- sets
 
@@ -133,9 +138,6 @@ pub only_passes : (b : Bool) (reason : EditReason) → then_some (not b) reason 
 only_passes true reason h = refl
 only_passes false reason h = absurd (cc)
 
-led_by : {limit : ℕ} {g h : PlainGraph} {edit other : Edit} {row : NameSet} → edit ≡ other → Led limit g edit row h → Led limit g other row h
-led_by {limit} {g} {h} {edit} {other} {row} same led = subst (λ e. Led limit g e row h) same led
-
 -- ---- the edge of an edit
 
 pub added_was_absent : (g : PlainGraph) (u v : ℕ) → reason_of g (AddEdge u v) ≡ None → adjacent g u v ≡ false
@@ -144,69 +146,99 @@ added_was_absent g u v none = last_fails _ (adjacent g u v) _ none
 pub deleted_was_there : (g : PlainGraph) (u v : ℕ) → reason_of g (DelEdge u v) ≡ None → adjacent g u v ≡ true
 deleted_was_there g u v none = last_passes _ (adjacent g u v) _ none
 
-pub added_is_there : {limit : ℕ} (h : PlainGraph) (edit : Edit) (row : NameSet) (u v : ℕ) → edit ≡ AddEdge u v → (g : PlainGraph) × Led limit g edit row h → adjacent h u v ≡ true
-added_is_there h edit row u v same some =
-    let led = led_by same some.1 in
-    ap (λ (k : PlainGraph). adjacent k u v) led.next_is ∙ adjacent-with_edge some.0 u v u v ∙ grind (arith, nat_tests)
+-- ---- the inverse of each edit
 
-pub deleted_is_absent : {limit : ℕ} (h : PlainGraph) (edit : Edit) (row : NameSet) (u v : ℕ) → edit ≡ DelEdge u v → (g : PlainGraph) × Led limit g edit row h → adjacent h u v ≡ false
-deleted_is_absent h edit row u v same some =
-    let led = led_by same some.1 in
-    ap (λ (k : PlainGraph). adjacent k u v) led.next_is ∙ adjacent-without_edge some.0 u v u v ∙ grind (arith, nat_tests)
+deleted_applies : (same first second there : Bool) (u v : ℕ) → same ≡ false → first ≡ true → second ≡ true → there ≡ true
+    → option_or (cond same (Some Same) (cond (not first) (Some (NoVertex u)) (cond (not second) (Some (NoVertex v)) None))) (then_some (not there) EdgeAbsent) ≡ None
+deleted_applies same first second there u v s f t h = rw (s, f, t, h) refl
 
-pub added_edge_back : {limit : ℕ} (h back : PlainGraph) (edit : Edit) (row : NameSet) (u v : ℕ) → edit ≡ AddEdge u v → back ≡ without_edge h u v → (g : PlainGraph) → Led limit g edit row h → back ≡ g
-added_edge_back h back edit row u v same made g before =
-    let led = led_by same before in
-    made ∙ ap (λ (k : PlainGraph). without_edge k u v) led.next_is ∙ edge_and_back g u v (added_was_absent g u v led.no_reason)
+added_applies : (same first second there : Bool) (u v : ℕ) → same ≡ false → first ≡ true → second ≡ true → there ≡ false
+    → option_or (cond same (Some Same) (cond (not first) (Some (NoVertex u)) (cond (not second) (Some (NoVertex v)) None))) (then_some there EdgeThere) ≡ None
+added_applies same first second there u v s f t h = rw (s, f, t, h) refl
 
-pub deleted_edge_back : {limit : ℕ} (h back : PlainGraph) (edit : Edit) (row : NameSet) (u v : ℕ) → edit ≡ DelEdge u v → back ≡ with_edge h u v → (g : PlainGraph) → Led limit g edit row h → back ≡ g
-deleted_edge_back h back edit row u v same made g before =
-    let led = led_by same before in
-    made ∙ ap (λ (k : PlainGraph). with_edge k u v) led.next_is ∙ no_edge_and_back g u v (deleted_was_there g u v led.no_reason)
+new_applies : (least : Option ℕ) (taken : Bool) (x : ℕ) → least ≡ None → taken ≡ false → option_or (option_map NoVertex least) (then_some taken (NameTaken x)) ≡ None
+new_applies least taken x l t = rw (l, t) refl
 
--- ---- the vertex of an edit
+gone_applies : (there : Bool) (x : ℕ) → there ≡ true → then_some (not there) (NoVertex x) ≡ None
+gone_applies there x h = rw h refl
 
-pub added_is_vertex : {limit : ℕ} (h : PlainGraph) (edit : Edit) (row : NameSet) (x : ℕ) (list : List ℕ) → edit ≡ AddVertex x list → (g : PlainGraph) × Led limit g edit row h → Has h.vertices x
-added_is_vertex h edit row x list same some =
-    let led = led_by same some.1 in
-    ap (λ (k : PlainGraph). set.contains k.vertices x) led.next_is ∙ vertex_added some.0 (with_vertex some.0 x) x refl
+none_absent : (s : NameSet) (list : List ℕ) → All (λ v. Has s v) list → find (λ v. not (set.contains s v)) list ≡ None
+none_absent s [] all = refl
+none_absent s (v ∷ rest) all = rw (All-head (λ w. Has s w) v rest all) (none_absent s rest (All-tail (λ w. Has s w) v rest all))
 
-pub added_vertex_back : {limit : ℕ} → limit ≤ NAMES → (h back : PlainGraph) (edit : Edit) (row : NameSet) (x : ℕ) (list : List ℕ) → edit ≡ AddVertex x list → back ≡ without_vertex h x → (g : PlainGraph) → Led limit g edit row h → back ≡ g
-added_vertex_back few h back edit row x list same made g before =
-    let led = led_by same before in
-    let names = names_within few (AddVertex x list) led.names in
-    let others = set.from_list list in
-    let members = neighbours_are_vertices g (with_vertex g x) (AddVertex x list) x list others refl led.no_reason refl refl in
-    made
-    ∙ ap (λ (k : PlainGraph). without_vertex k x) led.next_is
-    ∙ vertex_and_back g x others led.is_graph (after_is_graph g (AddVertex x list) led.is_graph names led.no_reason) (last_fails _ (set.contains g.vertices x) _ led.no_reason) (λ w m. (IsGraph-with_vertex led.is_graph x names.0).names w (members w m))
+module _ (limit : ℕ) (g : PlainGraph) (few : limit ≤ NAMES) (is : IsGraph g) where
+  edge_added : (u v : ℕ) → HasNamesBelow limit (AddEdge u v) → reason_of g (AddEdge u v) ≡ None → TakesBack limit g (AddEdge u v) (DelEdge u v)
+  edge_added u v names none =
+      let ends = ends_by_tests u v (u == v) (set.contains g.vertices u) (set.contains g.vertices v) _ none in
+      record {
+        names = names;
+        no_reason = deleted_applies _ _ _ (adjacent (with_edge g u v) u v) u v ends.0 ends.1 ends.2 (adjacent-with_edge g u v u v ∙ grind (arith, nat_tests));
+        gives = edge_and_back g u v (added_was_absent g u v none);
+      }
 
-pub deleted_is_no_vertex : {limit : ℕ} (h : PlainGraph) (edit : Edit) (row : NameSet) (x : ℕ) → edit ≡ DelVertex x → (g : PlainGraph) × Led limit g edit row h → set.contains h.vertices x ≡ false
-deleted_is_no_vertex h edit row x same some =
-    let led = led_by same some.1 in
-    ap (λ (k : PlainGraph). set.contains k.vertices x) led.next_is ∙ contains-remove some.0.vertices x x ∙ grind (arith, nat_tests)
+  edge_left_out : (u v : ℕ) → HasNamesBelow limit (DelEdge u v) → reason_of g (DelEdge u v) ≡ None → TakesBack limit g (DelEdge u v) (AddEdge u v)
+  edge_left_out u v names none =
+      let ends = ends_by_tests u v (u == v) (set.contains g.vertices u) (set.contains g.vertices v) _ none in
+      record {
+        names = names;
+        no_reason = added_applies _ _ _ (adjacent (without_edge g u v) u v) u v ends.0 ends.1 ends.2 (adjacent-without_edge g u v u v ∙ grind (arith, nat_tests));
+        gives = no_edge_and_back g u v (deleted_was_there g u v none);
+      }
 
-pub row_are_vertices : {limit : ℕ} (h next : PlainGraph) (edit : Edit) (row : NameSet) (x : ℕ) → edit ≡ DelVertex x → next ≡ with_vertex h x → (g : PlainGraph) × Led limit g edit row h → (u : ℕ) → Has row u → Has next.vertices u
-row_are_vertices h next edit row x same made some u member =
-    let led = led_by same some.1 in
-    ap (λ (k : PlainGraph). set.contains k.vertices u) (made ∙ ap (λ (k : PlainGraph). with_vertex k x) led.next_is)
-    ∙ neighbours_back some.0 x u led.is_graph (ap (λ s. set.contains s u) (sym led.row_is) ∙ member)
+  vertex_taken_in : (x : ℕ) (list : List ℕ) → HasNamesBelow limit (AddVertex x list) → reason_of g (AddVertex x list) ≡ None → TakesBack limit g (AddVertex x list) (DelVertex x)
+  vertex_taken_in x list names none =
+      let within = names_within few (AddVertex x list) names in
+      let others = set.from_list list in
+      let members = neighbours_are_vertices g (with_vertex g x) (AddVertex x list) x list others refl none refl refl in
+      record {
+        names = names.0;
+        no_reason = gone_applies _ x (vertex_added g (with_vertex g x) x refl);
+        gives = vertex_and_back g x others is (after_is_graph g (AddVertex x list) is within none) (last_fails _ (set.contains g.vertices x) _ none) (λ w m. (IsGraph-with_vertex is x within.0).names w (members w m));
+      }
 
-pub row_has_no_loop : {limit : ℕ} (h : PlainGraph) (edit : Edit) (row : NameSet) (x : ℕ) → edit ≡ DelVertex x → (g : PlainGraph) × Led limit g edit row h → set.contains row x ≡ false
-row_has_no_loop h edit row x same some =
-    let led = led_by same some.1 in
-    ap (λ s. set.contains s x) led.row_is ∙ no_loop some.0 x led.is_graph
+  vertex_left_out : AllBelow g.vertices limit → (x : ℕ) → HasNamesBelow limit (DelVertex x) → reason_of g (DelVertex x) ≡ None → TakesBack limit g (DelVertex x) (AddVertex x (ascending (neighbours g x)))
+  vertex_left_out below x names none =
+      let row = neighbours g x in
+      let listed = ascending row in
+      let ends : (u : ℕ) → Has row u → Has g.vertices u = λ u m. (adjacent_ends is x u (sym (contains-neighbours is x u) ∙ m)).1 in
+      let left : (u : ℕ) → IsItem row 0 NAMES u → Has (set.remove g.vertices x) u = λ u item.
+      remove_left g.vertices x u (λ same. clash (ap (set.contains row) (sym same) ∙ item.member) (no_loop g x is)) (ends u item.member) in
+      record {
+        names = (names, All-weaker (IsItem row 0 NAMES) (λ u. u < limit) (λ u item. below u (ends u item.member)) listed (ascending_items row 0 NAMES));
+        no_reason = new_applies _ _ x
+            (none_absent (set.remove g.vertices x) listed (All-weaker (IsItem row 0 NAMES) (λ u. Has (set.remove g.vertices x) u) left listed (ascending_items row 0 NAMES)))
+            (remove_gone g.vertices x);
+        gives = ap (with_edges (with_vertex (without_vertex g x) x) x) (from_list-ascending row NAMES (λ u m. is.names u (ends u m)))
+            ∙ no_vertex_and_back g x is (only_passes (set.contains g.vertices x) _ none);
+      }
 
-pub deleted_vertex_back : {limit : ℕ} (h next back : PlainGraph) (edit : Edit) (row : NameSet) (x : ℕ) → edit ≡ DelVertex x → next ≡ with_vertex h x → back ≡ with_edges next x row → (g : PlainGraph) → Led limit g edit row h → back ≡ g
-deleted_vertex_back h next back edit row x same added made g before =
-    let led = led_by same before in
-    made
-    ∙ ap (λ (k : PlainGraph). with_edges k x row) (added ∙ ap (λ (k : PlainGraph). with_vertex k x) led.next_is)
-    ∙ ap (with_edges (with_vertex (without_vertex g x) x) x) led.row_is
-    ∙ no_vertex_and_back g x led.is_graph (only_passes (set.contains g.vertices x) _ led.no_reason)
+  pub inverse_back : AllBelow g.vertices limit → (edit : Edit) → HasNamesBelow limit edit → reason_of g edit ≡ None → TakesBack limit g edit (inverse_of g edit)
+  inverse_back below (AddEdge u v) names none = edge_added u v names none
+  inverse_back below (DelEdge u v) names none = edge_left_out u v names none
+  inverse_back below (AddVertex x list) names none = vertex_taken_in x list names none
+  inverse_back below (DelVertex x) names none = vertex_left_out below x names none
 
--- what taking an edit back asks of the one who applied it
-pub led : {limit : ℕ} (g h : PlainGraph) (edit : Edit) (row : NameSet) → IsGraph g → HasNamesBelow limit edit → reason_of g edit ≡ None
-    → row ≡ lost_row g edit → h ≡ after g edit → Led limit g edit row h
-led g h edit row is_graph names no_reason row_is next_is =
-    record { is_graph = is_graph; names = names; no_reason = no_reason; row_is = row_is; next_is = next_is }
+-- the same of an edit that is kept, by the edit that it is
+pub kept_back : (limit : ℕ) (g : PlainGraph) (edit back : Edit) → limit ≤ NAMES → IsGraph g → AllBelow g.vertices limit → HasNamesBelow limit edit → reason_of g edit ≡ None
+    → back ≡ inverse_of g edit → TakesBack limit g edit back
+kept_back limit g edit back few is below names none same = subst (TakesBack limit g edit) (sym same) (inverse_back limit g few is below edit names none)
+
+-- ---- what a caller of both needs
+
+pub back_names : {limit : ℕ} {g : PlainGraph} {edit back : Edit} → TakesBack limit g edit back → HasNamesBelow limit back
+back_names takes = takes.names
+
+pub back_applies : {limit : ℕ} (g h : PlainGraph) (edit back : Edit) → TakesBack limit g edit back → h ≡ after g edit → reason_of h back ≡ None
+back_applies g h edit back takes same = ap (λ (k : PlainGraph). reason_of k back) same ∙ takes.no_reason
+
+pub back_gives : {limit : ℕ} (g h k : PlainGraph) (edit back : Edit) → TakesBack limit g edit back → h ≡ after g edit → k ≡ after h back → k ≡ g
+back_gives g h k edit back takes same made = made ∙ ap (λ (h : PlainGraph). after h back) same ∙ takes.gives
+
+-- ---- taking back a deleted vertex
+
+pub set_listed : (s : NameSet) (list : List ℕ) → list ≡ ascending s → AllBelow s NAMES → s ≡ set.from_list list
+set_listed s list is below = sym (ap set.from_list is ∙ from_list-ascending s NAMES below)
+
+-- what led from one graph to another
+pub led : {limit : ℕ} (g h : PlainGraph) (edit : Edit) → IsGraph g → HasNamesBelow limit edit → reason_of g edit ≡ None → h ≡ after g edit → Led limit g edit h
+led g h edit is_graph names no_reason next_is = record { is_graph = is_graph; names = names; no_reason = no_reason; next_is = next_is }

@@ -4,3 +4,4 @@ pub mod ChangeLemmas
 pub mod EditLemmas
 pub mod FileLemmas
 pub mod BackLemmas
+mod BoundLemmas

@@ -4,4 +4,4 @@ pub mod Line
 pub mod File
 pub mod Read
 pub mod Laws
-pub mod TakenBack
+pub mod Pasts

@@ -3,7 +3,7 @@
 ghost use Rattle.std.specs.Prelude.{◌≡◌};
 ghost use Rattle.md_text.specs.Spelling.{SpelledOrFaulty, SpelledHasNoFault};
 ghost use Rattle.md_script.specs.File.{SpellsScript, first_fault};
-ghost use Rattle.md_script.specs.Laws.{SpelledHasNames, GivesGraph, NamesLeast};
+ghost use Rattle.md_script.specs.Laws.{SpelledHasNames, GivesGraph, NamesLeast, InversesTakeBack};
 
 use crate::EDITS;
 
@@ -25,4 +25,10 @@ pub fn scripts_are_spelled_or_faulty()
 pub fn edits_give_graphs()
     ensures graph { GivesGraph }
     ensures least { NamesLeast }
+{}
+
+/// The inverse of an edit that can be applied to a graph can be applied to the graph behind it, has
+/// names below the same limit, and gives the first graph again.
+pub fn inverses_take_back()
+    ensures { InversesTakeBack }
 {}

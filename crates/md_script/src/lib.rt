@@ -1,7 +1,8 @@
 //! Scripts of edits: read from bytes, and applied to a graph one edit after the other.
 //!
 //! `read_script` reads a whole script, or names its first fault; `reason` says why an edit can't be
-//! applied to a graph, `apply` applies one that can, and `take_back` gives the graph before it.
+//! applied to a graph, and `apply` applies one that can. `inverse` keeps what `take_back` wants to
+//! give the graph before it again.
 #![tactic(auto)]
 
 mod changes;
@@ -10,6 +11,7 @@ mod fault;
 pub mod laws;
 mod line;
 mod neighbours;
+mod past;
 mod reader;
 mod script;
 #[cfg(test)]
@@ -20,9 +22,10 @@ pub use changes::{apply, reason};
 pub use edit::{Edit, EditReason};
 pub use fault::{ScriptFault, ScriptKind};
 pub use neighbours::Neighbours;
+pub use past::{Past, PastOf};
 pub use reader::read_script;
 pub use script::Script;
-pub use undo::{lost_row, take_back};
+pub use undo::{inverse, take_back};
 
 /// How many edits a script may have.
 pub const EDITS: u64 = 200_000;

@@ -1,5 +1,6 @@
 //! The neighbours that a new vertex is to have.
-ghost use Rattle.std.specs.Prelude.{◌≡◌, IfOk};
+ghost use Rattle.std.specs.Prelude.{◌≡◌, ◌<◌, ◌≤◌, ℕ, IfOk};
+ghost use Rattle.std.specs.List.{All};
 ghost use Rattle.md_graph.specs.NameSet.{ascending};
 ghost use Rattle.md_script.specs.Neighbours.{IsNameList};
 
@@ -40,5 +41,16 @@ impl Neighbours {
         ensures names { IsNameList self.now }
     {
         self.list.as_slice()
+    }
+
+    // The least number above every name: 0 where there is none.
+    pub(crate) fn bound(&self) -> u32
+        ensures below { All (λ v. v < result) self.now }
+        ensures least { (limit : ℕ) → All (λ v. v < limit) self.now → result ≤ limit }
+    {
+        match self.list.last() {
+            Some(v) => *v + 1,
+            None => 0,
+        }
     }
 }

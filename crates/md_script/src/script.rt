@@ -1,7 +1,7 @@
 //! Scripts.
-ghost use Rattle.std.specs.Prelude.{◌≡◌, ◌<◌, ◌≤◌, length, vec_len, slice_get, Some};
+ghost use Rattle.std.specs.Prelude.{◌≡◌, ◌<◌, ◌≤◌, ℕ, length, vec_len, slice_get, Some};
 ghost use Rattle.std.specs.List.{All};
-ghost use Rattle.md_script.specs.Edit.{HasNames};
+ghost use Rattle.md_script.specs.Edit.{HasNames, HasNamesBelow};
 
 use crate::{EDITS, Edit};
 use std::marker::Model;
@@ -45,6 +45,14 @@ impl Script {
         self.edits.len() as u64
     }
 
+    /// The least number above every name in the edits: 0 where they have none.
+    pub fn bound(&self) -> u32
+        ensures below { All (HasNamesBelow result) self.now }
+        ensures least { (limit : ℕ) → All (HasNamesBelow limit) self.now → result ≤ limit }
+    {
+        bound_of(&self.edits)
+    }
+
     /// The edit at a place, counted from 0. Condition: there are more.
     pub fn get(&self, i: u64) -> &Edit
         requires { i < length self.now }
@@ -52,5 +60,32 @@ impl Script {
         ensures names { HasNames result.now }
     {
         &self.edits[i as usize]
+    }
+}
+
+// The least number above every name in the edits. Condition: their names are names.
+fn bound_of(edits: &[Edit]) -> u32
+    requires { All HasNames edits.now }
+    ensures below { All (HasNamesBelow result) edits.now }
+    ensures least { (limit : ℕ) → All (HasNamesBelow limit) edits.now → result ≤ limit }
+{
+    let mut bound = 0;
+    for edit in edits {
+        bound = edit_bound(edit).max(bound);
+    }
+    bound
+}
+
+// The least number above every name in the edit. Condition: its names are names.
+fn edit_bound(edit: &Edit) -> u32
+    requires { HasNames edit.now }
+    ensures below { HasNamesBelow result edit.now }
+    ensures least { (limit : ℕ) → HasNamesBelow limit edit.now → result ≤ limit }
+{
+    match edit {
+        Edit::AddEdge { u, v } => (*u).max(*v) + 1,
+        Edit::DelEdge { u, v } => (*u).max(*v) + 1,
+        Edit::AddVertex { x, neighbours } => neighbours.bound().max(*x + 1),
+        Edit::DelVertex { x } => *x + 1,
     }
 }

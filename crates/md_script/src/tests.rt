@@ -93,6 +93,22 @@ fn scripts(rt: HostRuntime) -> Result<(), Fail> {
 
 // As many edits as a script may have, and then one more.
 #[test]
+fn bounds(rt: HostRuntime) -> Result<(), Fail> {
+    for (file, bound) in [
+        ("", 0),
+        ("-v 0\n", 1),
+        ("+e 3 9\n-e 9 4\n", 10),
+        ("+v 2 7 5\n", 8),
+        ("+v 9 7 5\n-v 3\n", 10),
+        ("-v 16383\n+v 0\n", 16_384),
+    ] {
+        let script = read_script(rt.alloc(), file.as_bytes())?;
+        assert_eq!(rt; script.bound(), bound, "{file}");
+    }
+    Ok(())
+}
+
+#[test]
 fn longest_script(rt: HostRuntime) -> Result<(), Fail> {
     let mut text = Vec::new(rt.alloc());
     for _ in 0..EDITS {
@@ -173,10 +189,10 @@ fn edits(rt: HostRuntime) -> Result<(), Fail> {
     let mut narrow = GraphOf::<1>::from_edges(rt.alloc(), 3, &[(0, 1)])?.expect(&rt, "edges");
     let edit = Edit::DelVertex { x: 1 };
     assert!(rt; reason(&narrow, &edit).is_none());
-    let row = lost_row(&narrow, &edit);
+    let past = inverse(&narrow, &edit);
     apply(&mut narrow, &edit);
     assert!(rt; narrow.count() == 2 && narrow.edge_count() == 0);
-    take_back(&mut narrow, &edit, &row);
+    take_back(&mut narrow, &past);
     assert!(rt; narrow.count() == 3 && narrow.has_edge(0, 1));
     Ok(())
 }

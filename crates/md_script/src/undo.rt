@@ -1,41 +1,50 @@
-//! Taking an edit back, in place.
-ghost use Rattle.std.specs.Prelude.{◌≡◌, ◌*◌};
-ghost use Rattle.md_graph.specs.PlainGraph.{PlainGraph, IsGraph};
-ghost use Rattle.md_script.specs.Edit.{HasNamesBelow};
-ghost use Rattle.md_script.specs.TakenBack.{lost_row, Led};
+//! Taking edits back, in place.
+ghost use Rattle.std.specs.Prelude.{◌≡◌, ◌*◌, None};
+ghost use Rattle.md_graph.specs.PlainGraph.{IsGraph};
+ghost use Rattle.md_script.specs.Edit.{HasNamesBelow, reason_of, after};
+ghost use Rattle.md_script.specs.Pasts.{inverse_of, as_edit, TakesBack};
 
-use crate::Edit;
-use md_graph::{GraphOf, Set};
+use crate::{Edit, PastOf};
+use md_graph::GraphOf;
 
-/// The neighbours of the vertex that an edit leaves out, none where it leaves out no vertex: what
-/// `take_back` wants to know once the edit is applied. Condition: the names in the edit are below
-/// `64 * W`.
-pub fn lost_row<const W: usize>(graph: &GraphOf<W>, edit: &Edit) -> Set<W>
-    requires { HasNamesBelow (64 * W) edit.now }
-    ensures row { result ≡ lost_row graph.now edit.now }
+/// The edit that gives the graph again once this one is applied. It takes no memory; of a vertex
+/// that is left out the row is kept. Conditions: no reason speaks against the edit, and its names
+/// are below `64 * W`.
+pub fn inverse<const W: usize>(graph: &GraphOf<W>, edit: &Edit) -> PastOf<W>
+    requires applies { reason_of graph.now edit.now ≡ None }
+    requires names { HasNamesBelow (64 * W) edit.now }
+    ensures inverse { as_edit result ≡ inverse_of graph.now edit.now }
+    ensures back { TakesBack (64 * W) graph.now edit.now (as_edit result) }
     ensures graph { IsGraph graph.now }
 {
     let _vertices = graph.vertices();
     match edit {
-        Edit::DelVertex { x } => graph.row(*x).copy(),
-        Edit::AddEdge { .. } | Edit::DelEdge { .. } | Edit::AddVertex { .. } => Set::none(),
+        Edit::AddEdge { u, v } => PastOf::DelEdge { u: *u, v: *v },
+        Edit::DelEdge { u, v } => PastOf::AddEdge { u: *u, v: *v },
+        Edit::AddVertex { x, .. } => PastOf::DelVertex { x: *x },
+        Edit::DelVertex { x } => PastOf::AddVertex {
+            x: *x,
+            neighbours: graph.row(*x).copy(),
+        },
     }
 }
 
-/// Takes an edit back that led from some graph to this one: the graph is then that one. Takes no
-/// memory. Condition: `row` is what `lost_row` gave before the edit.
-pub fn take_back<const W: usize>(graph: &mut GraphOf<W>, edit: &Edit, row: &Set<W>)
-    requires { (g : PlainGraph) × Led (64 * W) g edit.now row.now graph.old }
-    ensures { (g : PlainGraph) → Led (64 * W) g edit.now row.now graph.old → graph.new ≡ g }
+/// Applies the edit that an earlier one is taken back by. It takes no memory. Conditions: no
+/// reason speaks against it, and its names are below `64 * W`.
+pub fn take_back<const W: usize>(graph: &mut GraphOf<W>, past: &PastOf<W>)
+    requires applies { reason_of graph.old (as_edit past.now) ≡ None }
+    requires names { HasNamesBelow (64 * W) (as_edit past.now) }
+    ensures { graph.new ≡ after graph.old (as_edit past.now) }
 {
     let _vertices = graph.vertices();
-    match edit {
-        Edit::AddEdge { u, v } => graph.remove_edge(*u, *v),
-        Edit::DelEdge { u, v } => graph.add_edge(*u, *v),
-        Edit::AddVertex { x, .. } => graph.remove_vertex(*x),
-        Edit::DelVertex { x } => {
+    match past {
+        PastOf::AddEdge { u, v } => graph.add_edge(*u, *v),
+        PastOf::DelEdge { u, v } => graph.remove_edge(*u, *v),
+        PastOf::AddVertex { x, neighbours } => {
+            let _members = neighbours.members();
             graph.add_vertex(*x);
-            graph.add_edges(*x, row);
+            graph.add_edges(*x, neighbours);
         }
+        PastOf::DelVertex { x } => graph.remove_vertex(*x),
     }
 }

@@ -19,7 +19,7 @@ use md_decompose::decompose;
 use md_graph::{GraphOf, Memory, Steps, WORDS};
 use md_modules::P4;
 use md_report::made_p4;
-use md_script::{Edit, EditReason, lost_row, reason, take_back};
+use md_script::{Edit, EditReason, inverse, reason, take_back};
 use md_tree::{Tree, has_no_prime};
 use std::alloc::Global;
 use std::marker::Model;
@@ -184,10 +184,10 @@ fn p4_behind<const W: usize>(graph: &mut GraphOf<W>, edit: &Edit) -> P4
     ensures path { IsP4Of (after graph.old edit.now) result }
     ensures same { graph.new ≡ graph.old }
 {
-    let row = lost_row(graph, edit);
+    let past = inverse(graph, edit);
     md_script::apply(graph, edit);
     let found = made_p4(graph, edit);
-    take_back(graph, edit, &row);
+    take_back(graph, &past);
     match found {
         Some(p) => p,
         None => unreachable!(),

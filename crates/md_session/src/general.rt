@@ -10,7 +10,7 @@ ghost use Rattle.md_report.specs.Sessions.{SessionStep};
 use md_decompose::decompose;
 use md_graph::{GraphOf, Memory, WORDS};
 use md_report::Line;
-use md_script::{Edit, lost_row, reason, take_back};
+use md_script::{Edit, inverse, reason, take_back};
 use md_tree::Tree;
 use std::alloc::Global;
 use std::marker::Model;
@@ -63,12 +63,12 @@ impl<const W: usize> GeneralSessionOf<W> {
         if let Some(reason) = reason(&self.graph, edit) {
             return Ok(Line::Refused(reason));
         }
-        let row = lost_row(&self.graph, edit);
+        let past = inverse(&self.graph, edit);
         md_script::apply(&mut self.graph, edit);
         if let Ok(tree) = decompose(alloc, &self.graph) {
             return Ok(Line::Applied(tree));
         }
-        take_back(&mut self.graph, edit, &row);
+        take_back(&mut self.graph, &past);
         Err(Memory)
     }
 }

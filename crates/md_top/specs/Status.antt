@@ -82,6 +82,7 @@ g6_name g6.Truncated = codes "Truncated"
 g6_name g6.TrailingBytes = codes "TrailingBytes"
 g6_name g6.BadPadding = codes "BadPadding"
 g6_name g6.OtherFormat = codes "OtherFormat"
+g6_name g6.Loop = codes "Loop"
 
 abbrev pub dimacs_name : DimacsKind → List ℕ
 dimacs_name dimacs.NoProblemLine = codes "NoProblemLine"

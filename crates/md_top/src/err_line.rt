@@ -23,6 +23,7 @@ fn g6_name(kind: G6Kind) -> &'static str
         G6Kind::TrailingBytes => "TrailingBytes",
         G6Kind::BadPadding => "BadPadding",
         G6Kind::OtherFormat => "OtherFormat",
+        G6Kind::Loop => "Loop",
     }
 }
 

@@ -4,6 +4,7 @@ mod failing;
 mod flushes;
 mod refusing;
 mod sizes;
+mod sparse;
 
 use super::*;
 use md_io::{MemFiles, MemSink};
@@ -137,7 +138,7 @@ fn runs(rt: HostRuntime) -> Result<(), Fail> {
         ),
         (
             "edges g6 g",
-            b":Fa@x^\n",
+            b"&DI?AO?\n",
             "3||mdt: graph OtherFormat line 1\n",
         ),
     ];

@@ -234,7 +234,10 @@ fn copies_by_size(
 // The file of these graphs is read and written back, all by one graph.
 fn comes_back(rt: &impl Abort, alloc: Global, sizes: &[u32]) -> Result<(), Fail> {
     let file = file_of(alloc, sizes)?;
-    assert_eq!(rt; scan(&file, NAMES), Ok(sizes.len() as u64));
+    let Ok(count) = scan(&file, NAMES) else {
+        panic!(rt; "a fault");
+    };
+    assert_eq!(rt; count, sizes.len() as u64);
     let mut lines = Lines::new(&file);
     let mut graph = Graph::new(alloc)?;
     let mut text = Vec::new(alloc);
@@ -248,7 +251,10 @@ fn comes_back(rt: &impl Abort, alloc: Global, sizes: &[u32]) -> Result<(), Fail>
 // The same, each small graph by one of one word.
 fn comes_back_by_size(rt: &impl Abort, alloc: Global, sizes: &[u32]) -> Result<(), Fail> {
     let file = file_of(alloc, sizes)?;
-    assert_eq!(rt; scan(&file, NAMES), Ok(sizes.len() as u64));
+    let Ok(count) = scan(&file, NAMES) else {
+        panic!(rt; "a fault");
+    };
+    assert_eq!(rt; count, sizes.len() as u64);
     let mut lines = Lines::new(&file);
     let mut small: GraphOf<1> = GraphOf::new(alloc)?;
     let mut large = Graph::new(alloc)?;

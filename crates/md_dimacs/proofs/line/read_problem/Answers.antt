@@ -8,7 +8,7 @@ returns-then-not-names_edges-clause-fault c = problem_unknown c.args.limit (fiel
 
 pub returns-else-not-names_edges-clause-sizes : goal.returns-else-not-names_edges-clause-sizes
 returns-else-not-names_edges-clause-sizes c =
-    sizes_read c.checked_size.result (fields c.args.rest.now) _ _ _ _ _ c.in-Some.ensures.fields (sym c.names_edges.ensures ∙ c.if-not-names_edges.false) c.number.ensures.value c.number-in-Some.ensures.value c.checked_size.ensures.sizes
+    sizes_read c.args.limit c.checked_size.result (fields c.args.rest.now) _ _ _ _ _ c.in-Some.ensures.fields (sym c.names_edges.ensures ∙ c.if-not-names_edges.false) c.number.ensures.value c.number-in-Some.ensures.value c.checked_size.ensures.sizes
 
 pub returns-else-not-names_edges-clause-fault : goal.returns-else-not-names_edges-clause-fault
 returns-else-not-names_edges-clause-fault c =

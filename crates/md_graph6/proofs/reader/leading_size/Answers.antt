@@ -1,31 +1,17 @@
--- The first line begins with its size.
-use Rattle.std.proofs.Common.{arith}
-use Rattle.std.proofs.lemmas.Grind.{common_steps}
-use Rattle.md_graph6.proofs.FirstLemmas.{HasFour, first_one, first_four}
+use Rattle.std.proofs.Common.{◌≡◌, ℕ, subst, sym}
+use Rattle.md_graph6.specs.First.{BeginsWithSize, IsFirstBound}
+use Rattle.md_graph6.specs.FileLine.{from_size}
+use Rattle.md_graph6.specs.File.{graphs_in}
+use Rattle.md_graph6.proofs.FirstLemmas.{first_leads}
 use Rattle.md_graph6.proofs.reader.leading_size.Goals as goal
 
-pub overflow_sub-text : goal.overflow_sub-text
-overflow_sub-text c =
-    (first_one c.args.text.now c.requires.some c.requires.no_feed c.requires.no_return c.requires.sound c.if-text-ne-LONG.true).0
-
-pub returns-then-text-ne-LONG : goal.returns-then-text-ne-LONG
-returns-then-text-ne-LONG c =
-    rw c.from.ensures
-    (first_one c.args.text.now c.requires.some c.requires.no_feed c.requires.no_return c.requires.sound c.if-text-ne-LONG.true).1
-
-four : (c : goal.Else-text-ne-LONG) → HasFour c.args.text.now
-four c = first_four c.args.text.now c.requires.some c.requires.no_feed c.requires.no_return c.requires.sound c.if-text-ne-LONG.false
-
-pub slice_bounds-eighteen-end : goal.slice_bounds-eighteen-end
-slice_bounds-eighteen-end c = let long = (four c).long in grind (arith, common_steps)
-
-pub eighteen-requires-clause-groups : goal.eighteen-requires-clause-groups
-eighteen-requires-clause-groups c = (four c).groups
-
-pub eighteen-requires-clause-inside : goal.eighteen-requires-clause-inside
-eighteen-requires-clause-inside c = let long = (four c).long in grind (arith, common_steps)
+pub spelt_size-requires : goal.spelt_size-requires
+spelt_size-requires c =
+    let l = first_leads c.args.text.now c.requires.some c.requires.no_feed c.requires.no_return c.requires.sound in
+    (l.0, subst (BeginsWithSize l.0) (sym c.from_size.ensures) l.1)
 
 pub returns : goal.returns
 returns c =
-    rw c.eighteen.ensures.value
-    (first_four c.args.text.now c.requires.some c.requires.no_feed c.requires.no_return c.requires.sound c.if-text-ne-LONG.false).bound
+    let l = first_leads c.args.text.now c.requires.some c.requires.no_feed c.requires.no_return c.requires.sound in
+    let same : c.spelt_size.result ≡ l.0 = c.spelt_size.ensures l.0 (subst (BeginsWithSize l.0) (sym c.from_size.ensures) l.1) in
+    subst (λ n. IsFirstBound n (graphs_in c.args.text.now)) (sym same) l.2

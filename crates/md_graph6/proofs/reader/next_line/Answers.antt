@@ -1,7 +1,7 @@
 use Rattle.std.proofs.Common.{◌≡◌, length, sym, ◌∙◌, arith}
 use Rattle.std.proofs.lemmas.Grind.{common_steps}
 use Rattle.md_text.specs.Lines.{without_return}
-use Rattle.md_graph6.proofs.LineLemmas.{line_fault-empty}
+use Rattle.md_graph6.proofs.FileLineLemmas.{line_fault-empty}
 use Rattle.md_graph6.proofs.ReadLemmas.{HasNoFault-cut, graphs-cut_skip, graphs-cut_more, graphs_of_lines-end}
 use Rattle.md_graph6.proofs.reader.next_line.Goals as goal
 

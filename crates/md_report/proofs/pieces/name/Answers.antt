@@ -1,15 +1,6 @@
-use Rattle.std.proofs.Common.{◌∙◌, sym, arith}
-use Rattle.md_report.proofs.Named.{no_number, no_name, no_spelling, name_spelled}
+use Rattle.std.proofs.Common.{arith}
+use Rattle.md_report.proofs.Named.{large_name}
 use Rattle.md_report.proofs.pieces.name.Goals as goal
 
-pub returns-in_err-value : goal.returns-in_err-value
-returns-in_err-value c = rw c.from_residual.ensures (no_number c.args.piece.now (sym c.number.ensures.value ∙ c.in_err-value.was))
-
 pub returns-then-value-from : goal.returns-then-value-from
-returns-then-value-from c = no_name c.args.piece.now c.in_ok-value.value (sym c.number.ensures.value ∙ c.in_ok-value.was) (omega arith)
-
-pub returns-then-has_leading_zero : goal.returns-then-has_leading_zero
-returns-then-has_leading_zero c = let z = c.has_leading_zero.ensures.0 c.if-has_leading_zero.true in no_spelling c.args.piece.now z.0 z.1
-
-pub returns : goal.returns
-returns c = (omega arith, name_spelled c.args.piece.now c.in_ok-value.value (sym c.number.ensures.value ∙ c.in_ok-value.was) (λ z. let t = c.if-has_leading_zero.ensures.1 z in cc))
+returns-then-value-from c = large_name c.args.piece.now c.in_ok-value.value c.in_ok-value.ensures (omega arith)

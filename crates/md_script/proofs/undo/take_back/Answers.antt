@@ -1,21 +1,10 @@
-use Rattle.std.proofs.Common.{rules}
-use Rattle.md_graph.proofs.Limits.{words_few}
-use Rattle.md_script.proofs.ChangeLemmas.{vertex_added}
-use Rattle.md_script.proofs.BackLemmas.{added_is_there, deleted_is_absent, added_edge_back, deleted_edge_back, added_is_vertex, added_vertex_back, deleted_is_no_vertex, row_are_vertices, row_has_no_loop, deleted_vertex_back}
+use Rattle.std.proofs.Common.{ap, sym, ◌∙◌, refl, rules}
+use Rattle.md_graph.specs.PlainGraph.{PlainGraph, with_vertex, with_edges}
+use Rattle.md_script.specs.Edit.{after}
+use Rattle.md_script.specs.Pasts.{as_edit}
+use Rattle.md_script.proofs.ChangeLemmas.{vertex_added, neighbours_are_vertices, no_own_neighbour}
+use Rattle.md_script.proofs.BackLemmas.{set_listed}
 use Rattle.md_script.proofs.undo.take_back.Goals as goal
-
-pub remove_edge-requires : goal.remove_edge-requires
-remove_edge-requires g c = (search rules, added_is_there _ _ c.args.row.now _ _ c.in-AddEdge.is c.requires)
-
-pub add_edge-requires : goal.add_edge-requires
-add_edge-requires g c =
-    (search rules, (search rules, (search rules, (search rules, deleted_is_absent _ _ c.args.row.now _ _ c.in-DelEdge.is c.requires))))
-
-pub remove_vertex-requires : goal.remove_vertex-requires
-remove_vertex-requires g c = (search rules, added_is_vertex _ _ c.args.row.now _ _ c.in-AddVertex.is c.requires)
-
-pub add_vertex-requires : goal.add_vertex-requires
-add_vertex-requires g c = (search rules, (search rules, deleted_is_no_vertex _ _ c.args.row.now _ c.in-DelVertex.is c.requires))
 
 pub add_edges-requires : goal.add_edges-requires
 add_edges-requires g c = (
@@ -23,23 +12,20 @@ add_edges-requires g c = (
   (
     search rules,
     (
-      vertex_added c.args.graph.now c.add_vertex.new.self c.in-DelVertex.x c.add_vertex.ensures.changed,
+      vertex_added c.args.graph.now c.add_vertex.new.self c.in-AddVertex.x c.add_vertex.ensures.changed,
       (
-        row_are_vertices _ _ _ _ _ c.in-DelVertex.is c.add_vertex.ensures.changed c.requires,
-        row_has_no_loop _ _ _ _ c.in-DelVertex.is c.requires,
+        neighbours_are_vertices c.args.graph.now c.add_vertex.new.self (as_edit c.args.past.now) c.in-AddVertex.x _ c.in-AddVertex.neighbours (ap as_edit c.in-AddVertex.is) c.requires.applies
+            (set_listed c.in-AddVertex.neighbours _ refl c.members-members.ensures.names) c.add_vertex.ensures.changed,
+        no_own_neighbour c.args.graph.now (as_edit c.args.past.now) c.in-AddVertex.x _ c.in-AddVertex.neighbours (ap as_edit c.in-AddVertex.is) c.requires.applies
+            (set_listed c.in-AddVertex.neighbours _ refl c.members-members.ensures.names),
       ),
     ),
   ),
 )
 
-pub returns-in-AddEdge : goal.returns-in-AddEdge
-returns-in-AddEdge g c = added_edge_back _ _ _ _ _ _ c.in-AddEdge.is c.remove_edge.ensures.changed
-
-pub returns-in-DelEdge : goal.returns-in-DelEdge
-returns-in-DelEdge g c = deleted_edge_back _ _ _ _ _ _ c.in-DelEdge.is c.add_edge.ensures.changed
-
 pub returns-in-AddVertex : goal.returns-in-AddVertex
-returns-in-AddVertex g c = added_vertex_back (words_few g.row.W c.vertices-vertices.ensures.limit) _ _ _ _ _ _ c.in-AddVertex.is c.remove_vertex.ensures.changed
-
-pub returns-in-DelVertex : goal.returns-in-DelVertex
-returns-in-DelVertex g c = deleted_vertex_back _ _ _ _ _ _ c.in-DelVertex.is c.add_vertex.ensures.changed c.add_edges.ensures.changed
+returns-in-AddVertex g c =
+    c.add_edges.ensures.changed
+    ∙ ap (λ (k : PlainGraph). with_edges k c.in-AddVertex.x c.in-AddVertex.neighbours) c.add_vertex.ensures.changed
+    ∙ ap (with_edges (with_vertex c.args.graph.now c.in-AddVertex.x) c.in-AddVertex.x) (set_listed c.in-AddVertex.neighbours _ refl c.members-members.ensures.names)
+    ∙ sym (ap (λ p. after c.args.graph.now (as_edit p)) c.in-AddVertex.is)

@@ -1,9 +1,8 @@
-use Rattle.std.proofs.Common.{◌*◌, subst, sym, rules}
-use Rattle.md_script.specs.TakenBack.{Led}
+use Rattle.std.proofs.Common.{subst, sym, rules}
 use Rattle.md_report.specs.Made.{HasChange}
 use Rattle.md_report.specs.Cographs.{IsCograph}
 use Rattle.md_report.proofs.MadePaths.{shown}
-use Rattle.md_script.proofs.BackLemmas.{led}
+use Rattle.md_script.proofs.BackLemmas.{led, back_applies, back_gives, back_names}
 use Rattle.md_session.proofs.cograph.p4_behind.Goals as goal
 
 pub made_p4-found-requires : goal.made_p4-found-requires
@@ -11,10 +10,14 @@ made_p4-found-requires g c = (search rules, subst (λ h. HasChange h c.args.edit
 
 pub take_back-requires : goal.take_back-requires
 take_back-requires g c =
-    (search rules, (search rules, (c.args.graph.now, led c.args.graph.now _ _ _ c.lost_row-row.ensures.graph c.requires.names c.requires.applies c.lost_row-row.ensures.row c.apply.ensures)))
+    (search rules, (search rules, (back_applies c.args.graph.now c.apply.new.graph c.args.edit.now _ c.inverse-past.ensures.back c.apply.ensures, back_names c.inverse-past.ensures.back)))
+
+pub returns-clause-same : goal.returns-clause-same
+returns-clause-same g c = back_gives c.args.graph.now c.apply.new.graph c.take_back.new.graph c.args.edit.now _ c.inverse-past.ensures.back c.apply.ensures c.take_back.ensures
 
 pub unreachable-requires : goal.unreachable-requires
 unreachable-requires g c =
-    let before : Led (64 * g.row.W) c.args.graph.now c.args.edit.now c.lost_row-row.result c.apply.new.graph =
-    led c.args.graph.now _ _ _ c.lost_row-row.ensures.graph c.requires.names c.requires.applies c.lost_row-row.ensures.row c.apply.ensures in
-    subst IsCograph c.apply.ensures (c.in-None.ensures.cograph c.args.graph.now _ before c.requires.cograph) c.requires.made
+    subst IsCograph c.apply.ensures
+    (c.in-None.ensures.cograph c.args.graph.now
+    (led c.args.graph.now _ _ c.inverse-past.ensures.graph c.requires.names c.requires.applies c.apply.ensures)
+    c.requires.cograph) c.requires.made

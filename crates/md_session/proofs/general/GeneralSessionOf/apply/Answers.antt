@@ -1,19 +1,12 @@
 use Rattle.std.proofs.Common.{sym, ◌∙◌, rules}
 use Rattle.md_tree.specs.Plain.{plain_option}
+use Rattle.md_script.proofs.BackLemmas.{back_applies, back_names}
 use Rattle.md_session.proofs.Changed.{applied_step}
 use Rattle.md_session.proofs.general.GeneralSessionOf.apply.Goals as goal
 
 pub take_back-requires : goal.take_back-requires
-take_back-requires g c = (
-  search rules,
-  (
-    search rules,
-    (
-      c.self.inside.graph,
-      record { is_graph = c.lost_row-row.ensures.graph; names = c.requires; no_reason = sym c.reason.ensures ∙ c.in_default.is; row_is = c.lost_row-row.ensures.row; next_is = c.apply.ensures },
-    ),
-  ),
-)
+take_back-requires g c =
+    (search rules, (search rules, (back_applies c.self.inside.graph c.apply.new.graph c.args.edit.now _ c.inverse-past.ensures.back c.apply.ensures, back_names c.inverse-past.ensures.back)))
 
 pub returns-in-Ok-clause-step : goal.returns-in-Ok-clause-step
 returns-in-Ok-clause-step g c =
