@@ -1,5 +1,6 @@
 -- The adjacency of a tree without prime nodes, taken apart at a node: in the first child, behind it, and between.
-use Rattle.std.proofs.Common.{◌≡◌, ◌≢◌, ℕ, suc, cond, Bool, true, false, eqb, List, refl, sym, ◌∙◌, ap, true≢false, arith}
+use Rattle.std.proofs.Common.{◌≡◌, ◌≢◌, ℕ, suc, cond, Bool, true, false, eqb, eq-eqb, List, refl, sym, ◌∙◌, ap, true≢false}
+use Rattle.std.proofs.Math.Dec.{eqb-zero-suc, eqb-suc-suc}
 use Rattle.std.specs.FinSet.{contains}
 use Rattle.std.proofs.lemmas.Bool.{false_from_ne_true}
 use Rattle.md_graph.specs.Sets.{Has, Lacks, Disjoint}
@@ -12,31 +13,22 @@ use Rattle.md_tree.specs.TreeGraph.{position_of, joins, adjacent_in, adjacent_be
 use Rattle.md_tree.specs.WellFormed.{AreDisjoint, IsCanonicalNode, IsCanonicalTree, HasNoPrimeNode, HaveNoPrimeNode}
 use Rattle.md_bar_tree.specs.Following.{across, FollowsTree, FollowsRow}
 
-zero_zero : eqb 0 0 ≡ true
-zero_zero = grind arith
-
-zero_suc : (n : ℕ) → eqb 0 (suc n) ≡ false
-zero_suc n = grind arith
-
-suc_suc : (m n : ℕ) → eqb (suc m) (suc n) ≡ eqb m n
-suc_suc m n = grind arith
-
 -- the tests of adjacency at a node, by whether each of two names lies in the first child
 both_first : (i j : Bool) (m n : ℕ) (inner rest : Bool) (J : ℕ → ℕ → Bool) → i ≡ true → j ≡ true →
     cond (eqb (cond i 0 (suc m)) (cond j 0 (suc n))) (cond i inner rest) (J (cond i 0 (suc m)) (cond j 0 (suc n))) ≡ inner
-both_first true true m n inner rest J p q = ap (λ w. cond w inner (J 0 0)) zero_zero
+both_first true true m n inner rest J p q = ap (λ w. cond w inner (J 0 0)) (eq-eqb 0 0 refl)
 both_first true false m n inner rest J p q = absurd (true≢false (sym q))
 both_first false j m n inner rest J p q = absurd (true≢false (sym p))
 
 first_and_rest : (i j : Bool) (m n : ℕ) (inner rest : Bool) (J : ℕ → ℕ → Bool) → i ≡ true → j ≡ false →
     cond (eqb (cond i 0 (suc m)) (cond j 0 (suc n))) (cond i inner rest) (J (cond i 0 (suc m)) (cond j 0 (suc n))) ≡ J 0 (suc n)
-first_and_rest true false m n inner rest J p q = ap (λ w. cond w inner (J 0 (suc n))) (zero_suc n)
+first_and_rest true false m n inner rest J p q = ap (λ w. cond w inner (J 0 (suc n))) (eqb-zero-suc n)
 first_and_rest true true m n inner rest J p q = absurd (true≢false q)
 first_and_rest false j m n inner rest J p q = absurd (true≢false (sym p))
 
 both_rest : (i j : Bool) (m n : ℕ) (inner rest : Bool) (J : ℕ → ℕ → Bool) → i ≡ false → j ≡ false →
     cond (eqb (cond i 0 (suc m)) (cond j 0 (suc n))) (cond i inner rest) (J (cond i 0 (suc m)) (cond j 0 (suc n))) ≡ cond (eqb m n) rest (J (suc m) (suc n))
-both_rest false false m n inner rest J p q = ap (λ w. cond w rest (J (suc m) (suc n))) (suc_suc m n)
+both_rest false false m n inner rest J p q = ap (λ w. cond w rest (J (suc m) (suc n))) (eqb-suc-suc m n)
 both_rest true j m n inner rest J p q = absurd (true≢false p)
 both_rest false true m n inner rest J p q = absurd (true≢false q)
 

@@ -17,7 +17,7 @@ use Rattle.md_bar_tree.specs.declared.Class.TheVariants.{Trivial, Threshold}
 use Rattle.md_bar_tree.specs.declared.BarKind.{BarKind}
 use Rattle.md_bar_tree.specs.declared.BarKind.TheVariants.{P4, C4, TwoK2}
 use Rattle.md_bar_tree.specs.Bars.{Bars, IsBarOfKind, HasBar}
-use Rattle.md_bar_tree.specs.Inner.{IsInner, AreLeaves, HasOneInner, IsNarrow, HasFewInner, HaveFewInner}
+use Rattle.md_bar_tree.specs.Inner.{IsInnerTree, AreLeaves, HasOneInner, IsNarrow, HasFewInner, HaveFewInner}
 use Rattle.md_bar_tree.specs.Laws.{NoBarIfFewInner}
 use Rattle.md_bar_tree.specs.Following.{across, FollowsTree, FollowsRow}
 use Rattle.md_bar_tree.specs.Finding.{LeavesThen, AreLeastTwo, bar_across}
@@ -62,9 +62,9 @@ one_of_then (one_more t ts) x xs (inl same) leaves = subst HasOneInner same ((λ
 one_of_then (one_more t ts) x xs (inr later) leaves = ((λ i. absurd (later.0 i)), one_of_then ts x xs later.1 leaves)
 
 abbrev NextInner : PlainTrees → Type 0
-NextInner cs = (x : PlainTree) × (xs : PlainTrees) × LeavesThen cs (one_more x xs) × IsInner x
+NextInner cs = (x : PlainTree) × (xs : PlainTrees) × LeavesThen cs (one_more x xs) × IsInnerTree x
 
-inner_or_not : (t : PlainTree) → IsInner t ⊎ (¬ (IsInner t))
+inner_or_not : (t : PlainTree) → IsInnerTree t ⊎ (¬ (IsInnerTree t))
 inner_or_not (leaf v) = inr (λ i. i)
 inner_or_not (node k cs ps) = inl tt
 

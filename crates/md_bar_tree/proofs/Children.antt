@@ -1,5 +1,5 @@
 -- The children of a node, as the code reads them.
-use Rattle.std.proofs.Common.{◌≡◌, ℕ, zero, suc, ◌+◌, ◌<◌, ◌≤◌, List, [], ◌∷◌, length, get_or, map, Bool, Option, Some, None, IfNone, refl, sym, ◌∙◌, ap, subst, inl, inr, arith}
+use Rattle.std.proofs.Common.{◌≡◌, ℕ, zero, suc, ◌+◌, ◌<◌, ◌≤◌, List, [], ◌∷◌, length, get_or, map, Bool, Option, Some, None, refl, sym, ◌∙◌, ap, subst, inl, inr, arith}
 use Rattle.md_graph.specs.Sets.{NameSet}
 use Rattle.md_graph.specs.Adjacency.{IsAdjacency}
 use Rattle.md_tree.specs.declared.Kind.{Kind}
@@ -19,9 +19,10 @@ use Rattle.md_tree.proofs.Loops.{rest, rest_at, rest_end, first_of_rest, count_p
 use Rattle.md_bar_tree.specs.declared.Class.{Class}
 use Rattle.md_bar_tree.specs.declared.Bar.{Bar}
 use Rattle.md_bar_tree.specs.Bars.{IsBar, HasBar}
-use Rattle.md_bar_tree.specs.Inner.{IsInner, AreLeaves, HasOneInner, IsNarrow, HasFewInner, HaveFewInner}
+use Rattle.md_bar_tree.specs.Inner.{IsInnerTree, AreLeaves, HasOneInner, IsNarrow, HasFewInner, HaveFewInner}
 use Rattle.md_bar_tree.specs.Following.{across, FollowsTree, FollowsRow}
-use Rattle.md_bar_tree.specs.Finding.{IsFoundIn, LeavesThen, BeginsInner, IsNextInner, IsLeast, AreLeastTwo, IsBarOfTwo}
+use Rattle.md_tree.specs.Held.{IsLeast}
+use Rattle.md_bar_tree.specs.Finding.{IsFoundIn, LeavesThen, IsNextInner, AreLeastTwo, IsBarOfTwo}
 use Rattle.md_bar_tree.proofs.Leasts.{least_of_leaf, least_of_node, two_at_least}
 use Rattle.md_bar_tree.proofs.Witnesses.{witness, bar_within}
 use Rattle.md_bar_tree.proofs.BarLaw.{first_canonical, row_of_node, one_of_then, tree_follows, no_bar_of_tree, no_bar_of_none}
@@ -30,11 +31,11 @@ abbrev TreeNow : Type 0
 TreeNow = TreeOf Kind Pair
 
 -- leaves and nodes
-pub leaf_not_inner : (t : TreeNow) (v : ℕ) → t ≡ Leaf v → IsInner (plain t) → ⊥
-leaf_not_inner t v is i = subst IsInner (plain_is_leaf t v is) i
+pub leaf_not_inner : (t : TreeNow) (v : ℕ) → t ≡ Leaf v → IsInnerTree (plain t) → ⊥
+leaf_not_inner t v is i = subst IsInnerTree (plain_is_leaf t v is) i
 
-pub node_inner : (t : TreeNow) (k : Kind) (cs : ChildrenOf Kind Pair) (ps : PairsOf Pair) → t ≡ Node k cs ps → IsInner (plain t)
-node_inner t k cs ps is = subst IsInner (sym (plain_is_node t k cs ps is)) tt
+pub node_inner : (t : TreeNow) (k : Kind) (cs : ChildrenOf Kind Pair) (ps : PairsOf Pair) → t ≡ Node k cs ps → IsInnerTree (plain t)
+node_inner t k cs ps is = subst IsInnerTree (sym (plain_is_node t k cs ps is)) tt
 
 -- the child at a position
 at_row : (xs : List TreeNow) (i : ℕ) (d : TreeNow) → i < length xs → IsChild (row (map plain xs)) (plain (get_or xs i d))
@@ -100,11 +101,6 @@ least_item xs ys i r p same less is each least =
 pub no_item : {P : Type 0} (xs ys : List TreeNow) (i : ℕ) → ys ≡ xs → length ys ≤ i → i < count (row (map plain xs)) → P
 no_item xs ys i same past less = let a : count (row (map plain xs)) ≡ length xs = count_plain xs in let b : length ys ≡ length xs = ap length same in absurd (omega arith)
 
--- what holds of no answer
-pub if_none : {A P Q : Type 0} (o : Option A) → (P → Q) → IfNone o P → IfNone o Q
-if_none None f h = f h
-if_none (Some x) f h = tt
-
 -- leaves that are passed over
 pub then_self : (cs : PlainTrees) → LeavesThen cs cs
 then_self no_tree = refl
@@ -113,7 +109,7 @@ then_self (one_more t ts) = inl refl
 some_tree : {P : Type 0} (t : PlainTree) (ts : PlainTrees) → one_more t ts ≡ no_tree → P
 some_tree t ts same = let a : suc (count ts) ≡ 0 = ap count same in absurd (omega arith)
 
-then_more : (cs : PlainTrees) (t : PlainTree) (ts : PlainTrees) → LeavesThen cs (one_more t ts) → (IsInner t → ⊥) → LeavesThen cs ts
+then_more : (cs : PlainTrees) (t : PlainTree) (ts : PlainTrees) → LeavesThen cs (one_more t ts) → (IsInnerTree t → ⊥) → LeavesThen cs ts
 then_more no_tree t ts same bare = some_tree t ts same
 then_more (one_more u us) t ts (inl same) bare = subst (λ w. LeavesThen w ts) same (inr (bare, then_self ts))
 then_more (one_more u us) t ts (inr later) bare = inr (later.0, then_more us t ts later.1 bare)
@@ -123,17 +119,14 @@ then_end no_tree same = tt
 then_end (one_more t ts) (inl same) = some_tree t ts (sym same)
 then_end (one_more t ts) (inr later) = (later.0, then_end ts later.1)
 
-pub skip_more : (cs : PlainTrees) (xs : List TreeNow) (i : ℕ) (r : TreeNow) → LeavesThen cs (rest xs i) → r ≡ get_or xs i r → i < length xs → (IsInner (plain r) → ⊥) → LeavesThen cs (rest xs (i + 1))
+pub skip_more : (cs : PlainTrees) (xs : List TreeNow) (i : ℕ) (r : TreeNow) → LeavesThen cs (rest xs i) → r ≡ get_or xs i r → i < length xs → (IsInnerTree (plain r) → ⊥) → LeavesThen cs (rest xs (i + 1))
 skip_more cs xs i r h is less bare = then_more cs (plain r) (rest xs (i + 1)) (subst (LeavesThen cs) (first_of_rest xs xs i r refl is less) h) bare
 
 pub skip_end : (cs : PlainTrees) (xs : List TreeNow) (i : ℕ) → LeavesThen cs (rest xs i) → length xs ≤ i → AreLeaves cs
 skip_end cs xs i h past = then_end cs (subst (LeavesThen cs) (rest_end xs i past) h)
 
-pub skip_inner : (cs : PlainTrees) (xs : List TreeNow) (i : ℕ) (r : TreeNow) → LeavesThen cs (rest xs i) → r ≡ get_or xs i r → i < length xs → IsInner (plain r) → IsNextInner cs (rest xs i)
-skip_inner cs xs i r h is less inner = (h, subst BeginsInner (sym (first_of_rest xs xs i r refl is less)) inner)
-
 -- the first two children
-pub two_of_leaf : (t : TreeNow) (v p q : ℕ) → t ≡ Leaf v → IsInner (plain t) → AreLeastTwo (plain t) p q
+pub two_of_leaf : (t : TreeNow) (v p q : ℕ) → t ≡ Leaf v → IsInnerTree (plain t) → AreLeastTwo (plain t) p q
 two_of_leaf t v p q is inner = absurd (leaf_not_inner t v is inner)
 
 pub two_of_node : (t : TreeNow) (k : Kind) (cs : ChildrenOf Kind Pair) (ps : PairsOf Pair) (p q : ℕ) → t ≡ Node k cs ps →
@@ -147,8 +140,8 @@ two_of_node t k cs ps p q is first second canonical =
 
 -- the bar of two children that are no leaves
 found_two : (class : Class) (k : Kind) (cs : PlainTrees) (ps : List Pair) (x : PlainTree) (xs : PlainTrees) (y : PlainTree) (ys : PlainTrees) (bar : Bar) → IsNarrow class k →
-    LeavesThen cs (one_more x xs) → IsInner x → LeavesThen xs (one_more y ys) → IsInner y →
-    (IsCanonicalTree x → IsInner x → IsCanonicalTree y → IsInner y → IsBarOfTwo k x y bar) → IsFoundIn class (node k cs ps) bar
+    LeavesThen cs (one_more x xs) → IsInnerTree x → LeavesThen xs (one_more y ys) → IsInnerTree y →
+    (IsCanonicalTree x → IsInnerTree x → IsCanonicalTree y → IsInnerTree y → IsBarOfTwo k x y bar) → IsFoundIn class (node k cs ps) bar
 found_two class k cs ps x xs y ys bar narrow first inner second other of_two canonical free e adj f =
     let row = row_of_node e k cs ps canonical free f in
     let a : IsCanonicalTree x × EachNodeBelow IsCanonicalNode xs = first_canonical cs x xs first row.canonical in
@@ -159,7 +152,7 @@ found_two class k cs ps x xs y ys bar narrow first inner second other of_two can
 pub found_two_at : (class : Class) (k : Kind) (xs : List TreeNow) (i j : ℕ) (x y : TreeNow) (bar : Bar) → IsNarrow class k →
     IsNextInner (row (map plain xs)) (rest xs i) → x ≡ get_or xs i x → i < length xs →
     IsNextInner (rest xs (i + 1)) (rest xs j) → y ≡ get_or xs j y → j < length xs →
-    (IsCanonicalTree (plain x) → IsInner (plain x) → IsCanonicalTree (plain y) → IsInner (plain y) → IsBarOfTwo k (plain x) (plain y) bar) →
+    (IsCanonicalTree (plain x) → IsInnerTree (plain x) → IsCanonicalTree (plain y) → IsInnerTree (plain y) → IsBarOfTwo k (plain x) (plain y) bar) →
     (ps : List Pair) → IsFoundIn class (node k (row (map plain xs)) ps) bar
 found_two_at class k xs i j x y bar narrow first is_x less_i second is_y less_j of_two ps =
     let a : rest xs i ≡ one_more (plain x) (rest xs (i + 1)) = first_of_rest xs xs i x refl is_x less_i in

@@ -8,7 +8,7 @@ use Rattle.md_tree.specs.declared.Kind.TheVariants.{Prime}
 use Rattle.md_tree.specs.Trees.{PlainTree, leaf, node, PlainTrees, no_tree, one_more, names, names_below, EachNode, EachNodeBelow}
 use Rattle.md_tree.specs.WellFormed.{HasNoPrimeNode, HaveNoPrimeNode}
 use Rattle.md_bar_tree.specs.Bars.{AreInside}
-use Rattle.md_bar_tree.specs.Inner.{IsInner, AreLeaves, HasOneInner}
+use Rattle.md_bar_tree.specs.Inner.{IsInnerTree, AreLeaves, HasOneInner}
 use Rattle.md_bar_tree.specs.Following.{across, FollowsTree, FollowsRow}
 use Rattle.md_bar_tree.proofs.TwoPairs.{AreTwoPairs, not_both}
 
@@ -18,7 +18,7 @@ same_or_other true false = inr refl
 same_or_other false true = inr refl
 same_or_other false false = inl refl
 
-inner_of_two : (t : PlainTree) (a b : ℕ) → Has (names t) a → Has (names t) b → a ≢ b → IsInner t
+inner_of_two : (t : PlainTree) (a b : ℕ) → Has (names t) a → Has (names t) b → a ≢ b → IsInnerTree t
 inner_of_two (leaf v) a b ha hb differ = absurd (differ (of_only v a ha ∙ sym (of_only v b hb)))
 inner_of_two (node k cs ps) a b ha hb differ = tt
 

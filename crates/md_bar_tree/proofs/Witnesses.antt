@@ -16,7 +16,8 @@ use Rattle.md_bar_tree.specs.declared.Bar.{Bar}
 use Rattle.md_bar_tree.specs.Bars.{AreInside, Bars, IsBarOfKind, IsBar}
 use Rattle.md_bar_tree.specs.Inner.{IsNarrow}
 use Rattle.md_bar_tree.specs.Following.{across, FollowsRow}
-use Rattle.md_bar_tree.specs.Finding.{LeavesThen, IsLeast, AreLeastTwo, bar_across}
+use Rattle.md_tree.specs.Held.{IsLeast}
+use Rattle.md_bar_tree.specs.Finding.{LeavesThen, AreLeastTwo, bar_across}
 use Rattle.md_bar_tree.proofs.TwoPairs.{AreAscending, cycle_of, edges_of}
 use Rattle.md_bar_tree.proofs.Leasts.{least_before, least_of_row}
 
@@ -118,15 +119,15 @@ module _ {e : ℕ → ℕ → Bool} (adj : IsAdjacency e) where
 
     pair_of : (t : PlainTree) (ts : PlainTrees) → IsRow e k s (one_more t ts) → (p q : ℕ) → AreLeastTwo t p q → IsPairOf e k t p q
     pair_of (leaf v) ts is p q two = absurd two
-    pair_of (node l no_tree ps) ts is p q two = clash two.0.0 (empty_lacks p)
-    pair_of (node l (one_more a no_tree) ps) ts is p q two = clash two.1.0 (empty_lacks q)
+    pair_of (node l no_tree ps) ts is p q two = clash two.0.member (empty_lacks p)
+    pair_of (node l (one_more a no_tree) ps) ts is p q two = clash two.1.member (empty_lacks q)
     pair_of (node l (one_more a (one_more b bs)) ps) ts is p q two =
-        let inside : Has (names_below (one_more b bs)) q = union_left (names b) (names_below bs) q two.1.0 in
+        let inside : Has (names_below (one_more b bs)) q = union_left (names b) (names_below bs) q two.1.member in
         let order : IsInOrder (one_more a (one_more b bs)) = is.canonical.0.0.order in
         record {
           least = least_of_row a (one_more b bs) p order two.0;
           second = union_right (names a) (names_below (one_more b bs)) q inside;
-          value = is.follows.0.1 p q two.0.0 inside ∙ opposite l k is.other_kinds.0 is.free.0.0 plain;
+          value = is.follows.0.1 p q two.0.member inside ∙ opposite l k is.other_kinds.0 is.free.0.0 plain;
           ascending = least_before (names a) (names_below (one_more b bs)) p q order.0 two.0 inside;
         }
 
@@ -138,14 +139,14 @@ module _ {e : ℕ → ℕ → Bool} (adj : IsAdjacency e) where
         let c : IsPairOf e k x p q = pair_of x xs a p q two in
         let d : IsPairOf e k y r u = pair_of y ys b r u other in
         let later : Within (names y) (names_below xs) = λ z h. then_within xs (one_more y ys) second z (union_left (names y) (names_below ys) z h) in
-        let hr : Has (names_below xs) r = later r d.least.0 in
+        let hr : Has (names_below xs) r = later r d.least.member in
         let hu : Has (names_below xs) u = later u d.second in
         let in_x : Within (names x) s = λ z h. a.inside z (union_left (names x) (names_below xs) z h) in
         let in_y : Within (names y) s = λ z h. b.inside z (union_left (names y) (names_below ys) z h) in
         bar_by_kind class k plain narrow s p q r u
         (record {
           pairs = (c.value, d.value);
-          apart = (a.follows.1 p r c.least.0 hr, a.follows.1 p u c.least.0 hu, a.follows.1 q r c.second hr, a.follows.1 q u c.second hu);
+          apart = (a.follows.1 p r c.least.member hr, a.follows.1 p u c.least.member hu, a.follows.1 q r c.second hr, a.follows.1 q u c.second hu);
         })
-        (in_x p c.least.0, in_x q c.second, in_y r d.least.0, in_y u d.second)
+        (in_x p c.least.member, in_x q c.second, in_y r d.least.member, in_y u d.second)
         (c.ascending, d.ascending, least_before (names x) (names_below xs) p r a.order.0 c.least hr)

@@ -1,17 +1,17 @@
 -- What private contracts say of the search for a bar in a tree.
 -- Source: our own.
-use Rattle.std.specs.Prelude.{◌≡◌, ◌⊎◌, ◌≤◌, ℕ, Bool}
-use Rattle.md_graph.specs.Sets.{NameSet, Has}
+use Rattle.std.specs.Prelude.{◌≡◌, ◌⊎◌, ℕ, Bool}
 use Rattle.md_graph.specs.Adjacency.{IsAdjacency}
 use Rattle.md_tree.specs.declared.Kind.{Kind}
 use Rattle.md_tree.specs.declared.Kind.TheVariants.{Parallel, Series, Prime}
 use Rattle.md_tree.specs.Trees.{PlainTree, leaf, node, PlainTrees, no_tree, one_more, names, names_at}
+use Rattle.md_tree.specs.Held.{IsLeast}
 use Rattle.md_tree.specs.WellFormed.{IsCanonicalTree, HasNoPrimeNode}
 use Rattle.md_bar_tree.specs.declared.Class.{Class}
 use Rattle.md_bar_tree.specs.declared.BarKind.TheVariants.{C4, TwoK2}
 use Rattle.md_bar_tree.specs.declared.Bar.{Bar}
 use Rattle.md_bar_tree.specs.Bars.{IsBar}
-use Rattle.md_bar_tree.specs.Inner.{IsInner}
+use Rattle.md_bar_tree.specs.Inner.{IsInnerTree}
 use Rattle.md_bar_tree.specs.Following.{FollowsTree}
 
 -- if t is a tree of a graph without prime nodes, then the bar is one of the class in that graph
@@ -22,20 +22,16 @@ IsFoundIn class t bar =
 -- the trees are some leaves, and then those of the other row
 abbrev pub LeavesThen : PlainTrees → PlainTrees → Type 0
 LeavesThen no_tree ds = ds ≡ no_tree
-LeavesThen (one_more t ts) ds = (ds ≡ one_more t ts) ⊎ ((¬ (IsInner t)) × LeavesThen ts ds)
+LeavesThen (one_more t ts) ds = (ds ≡ one_more t ts) ⊎ ((¬ (IsInnerTree t)) × LeavesThen ts ds)
 
 -- the first of the trees is no leaf
 abbrev pub BeginsInner : PlainTrees → Type 0
 BeginsInner no_tree = ⊥
-BeginsInner (one_more t ts) = IsInner t
+BeginsInner (one_more t ts) = IsInnerTree t
 
 -- the other row begins with the first of the trees that is no leaf
 abbrev pub IsNextInner : PlainTrees → PlainTrees → Type 0
 IsNextInner cs ds = LeavesThen cs ds × BeginsInner ds
-
--- p is the least name of s
-abbrev pub IsLeast : NameSet → ℕ → Type 0
-IsLeast s p = Has s p × ((y : ℕ) → Has s y → p ≤ y)
 
 -- p and q are the least names of the first two children of the tree
 abbrev pub AreLeastTwo : PlainTree → ℕ → ℕ → Type 0

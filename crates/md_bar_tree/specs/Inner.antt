@@ -9,19 +9,19 @@ use Rattle.md_bar_tree.specs.declared.Class.{Class}
 use Rattle.md_bar_tree.specs.declared.Class.TheVariants.{Trivial, Threshold}
 
 -- the tree is no leaf
-abbrev pub IsInner : PlainTree → Type 0
-IsInner (leaf v) = ⊥
-IsInner (node k cs ps) = ⊤
+abbrev pub IsInnerTree : PlainTree → Type 0
+IsInnerTree (leaf v) = ⊥
+IsInnerTree (node k cs ps) = ⊤
 
 -- each of the trees is a leaf
 abbrev pub AreLeaves : PlainTrees → Type 0
 AreLeaves no_tree = ⊤
-AreLeaves (one_more t ts) = (¬ (IsInner t)) × AreLeaves ts
+AreLeaves (one_more t ts) = (¬ (IsInnerTree t)) × AreLeaves ts
 
 -- at most one of the trees is no leaf
 abbrev pub HasOneInner : PlainTrees → Type 0
 HasOneInner no_tree = ⊤
-HasOneInner (one_more t ts) = (IsInner t → AreLeaves ts) × HasOneInner ts
+HasOneInner (one_more t ts) = (IsInnerTree t → AreLeaves ts) × HasOneInner ts
 
 -- nodes of this kind are asked to have at most one child that is no leaf: series nodes, and of threshold graphs parallel nodes too
 abbrev pub IsNarrow : Class → Kind → Type 0

@@ -7,16 +7,17 @@ ghost use Rattle.md_tree.specs.Trees.{node, names, names_at, count, EachNodeBelo
 ghost use Rattle.md_tree.specs.Plain.{plain, plain_option, trees_of, row_of_children, row_from};
 ghost use Rattle.md_tree.specs.StrongTrees.{IsTree};
 ghost use Rattle.md_tree.specs.WellFormed.{IsCanonicalNode, IsCanonicalTree};
+ghost use Rattle.md_tree.specs.Held.{IsLeast};
 ghost use Rattle.md_tree.specs.NoPrimes.{HasNoPrime};
 ghost use Rattle.md_bar_tree.specs.Bars.{IsBar, HasBar};
-ghost use Rattle.md_bar_tree.specs.Inner.{IsInner, AreLeaves, HasOneInner, IsNarrow, HasFewInner, HaveFewInner};
-ghost use Rattle.md_bar_tree.specs.Finding.{IsFoundIn, IsNextInner, IsLeast, AreLeastTwo, IsBarOfTwo, bar_across};
+ghost use Rattle.md_bar_tree.specs.Inner.{IsInnerTree, AreLeaves, HasOneInner, IsNarrow, HasFewInner, HaveFewInner};
+ghost use Rattle.md_bar_tree.specs.Finding.{IsFoundIn, IsNextInner, AreLeastTwo, IsBarOfTwo, bar_across};
 
 use crate::{Bar, BarKind, Class};
 use md_tree::{Children, Kind, Tree};
 
-/// A bar of a class in the graph whose tree this is; `None` exactly where the graph has none. It takes
-/// no memory. Condition: no node of the tree is prime.
+/// A bar of a class in the graph whose tree this is; `None` exactly where the graph has none. It
+/// takes no memory. Condition: no node of the tree is prime.
 pub fn bar_of(tree: &Option<Tree>, class: Class) -> Option<Bar>
     requires no_prime { HasNoPrime (plain_option tree.now) }
     ensures found { IfSome result (λ bar. (e : ℕ → ℕ → Bool) (s : NameSet) → IsAdjacency e
@@ -60,12 +61,13 @@ fn bar_below(kind: Kind, children: &Children, class: Class) -> Option<Bar>
     None
 }
 
-// A bar at a node of this kind with these children: it has one where it has two children that are no
-// leaves, and is of a kind that may have one alone.
+// A bar at a node of this kind with these children: it has one where it has two children that are
+// no leaves, and is of a kind that may have one alone.
 fn bar_at(kind: Kind, children: &Children, class: Class) -> Option<Bar>
     ensures found { IfSome result (λ bar. (ps : List Pair)
         → IsFoundIn class (node kind (row_of_children children.now) ps) bar) }
-    ensures none { IfNone result (IsNarrow class kind → HasOneInner (row_of_children children.now)) }
+    ensures none { IfNone result (IsNarrow class kind
+        → HasOneInner (row_of_children children.now)) }
 {
     if !is_narrow(class, kind) {
         return None;
@@ -110,7 +112,7 @@ fn inner_from(children: &Children, from: u64) -> Option<u64>
 
 // Whether a tree is no leaf.
 fn is_inner(tree: &Tree) -> bool
-    ensures { IsTrue result ↔ IsInner (plain tree.now) }
+    ensures { IsTrue result ↔ IsInnerTree (plain tree.now) }
 {
     match tree {
         Tree::Leaf(_) => false,
@@ -120,8 +122,8 @@ fn is_inner(tree: &Tree) -> bool
 
 // The bar at a node of this kind, below two of its children that are no leaves.
 fn bar_of_two(kind: Kind, first: &Tree, second: &Tree) -> Bar
-    ensures { IsCanonicalTree (plain first.now) → IsInner (plain first.now)
-        → IsCanonicalTree (plain second.now) → IsInner (plain second.now)
+    ensures { IsCanonicalTree (plain first.now) → IsInnerTree (plain first.now)
+        → IsCanonicalTree (plain second.now) → IsInnerTree (plain second.now)
         → IsBarOfTwo kind (plain first.now) (plain second.now) result }
 {
     let (p, q) = least_two(first);
@@ -149,7 +151,7 @@ fn bar_of_names(kind: Kind, p: u32, q: u32, r: u32, s: u32) -> Bar
 
 // The least names of the first two children of a node.
 fn least_two(tree: &Tree) -> (u32, u32)
-    ensures { IsCanonicalTree (plain tree.now) → IsInner (plain tree.now)
+    ensures { IsCanonicalTree (plain tree.now) → IsInnerTree (plain tree.now)
         → AreLeastTwo (plain tree.now) result.0 result.1 }
 {
     match tree {

@@ -17,7 +17,7 @@ use Rattle.md_tree.specs.Trees.{PlainTree, leaf, node, PlainTrees, no_tree, one_
 use Rattle.md_tree.specs.StrongTrees.{HasKind, AreTreesJoined, ListsJoined, IsNodeOf}
 use Rattle.md_tree.specs.WellFormed.{IsOfKind, NoneOfKind, IsCanonicalNode}
 use Rattle.md_tree.specs.TreeGraph.{position_of, lists_pair, joins, adjacent_below}
-use Rattle.md_tree.specs.Heads.{head, head_at, AreChildModules, AreStrongChildren}
+use Rattle.md_tree.specs.Heads.{head, head_at, AreChildModules}
 use Rattle.md_tree.specs.Laws.{AreToldByHeads}
 use Rattle.md_tree.proofs.Nodes.{IsChild, at_inside, position_at, position_below}
 use Rattle.md_tree.proofs.Built.{IsBuilt, tree_names, tree_built, children_maximal}

@@ -118,3 +118,12 @@ stuck_empty q (x ∷ rest) none = absurd (clash none (ne_eqb (length (x ∷ rest
 
 pub some_left : (rest : List ℕ) → (length rest == 0) ≡ false → rest ≢ []
 some_left rest some none = let f : (length rest == 0) ≡ true = ap (λ (w : List ℕ). length w == 0) none in clash f some
+
+-- where nothing is left at the end, the report is whole
+pub accepted : (p q : Place) (bytes rest : List ℕ) (number : ℕ) → HaveCome p bytes q rest number → q ≡ after_end → (length rest == 0) ≡ true → IsReport p bytes
+accepted p q bytes [] number come is_end none = record {
+  lines = come.lines;
+  leads = subst (λ z. Lead p come.lines z) is_end come.leads;
+  text = come.text ∙ append-nil (lines_text come.lines);
+}
+accepted p q bytes (x ∷ rest) number come is_end none = absurd (clash none (ne_eqb (length (x ∷ rest)) 0 (λ e. omega arith)))

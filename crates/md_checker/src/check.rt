@@ -8,6 +8,7 @@ ghost use Rattle.md_input.specs.Spelling.{SpellsGraphs};
 ghost use Rattle.md_input.specs.Faults.{graph_fault, one_graph_fault, script_fault, IsStopAt};
 ghost use Rattle.md_report.specs.Cuts.{LacksByte};
 ghost use Rattle.md_report.specs.Laws.{IsSound};
+ghost use Rattle.md_report.specs.Lines.{limit_of_mode};
 ghost use Rattle.md_report.specs.Places.{before_head, before_session};
 ghost use Rattle.md_checker.specs.Answers.{IsCheckAnswer};
 
@@ -19,8 +20,8 @@ use md_report::{GraphMode, SessionMode};
 use md_text::split_line;
 use std::alloc::Global;
 
-/// Checks a report of a mode over the graphs of a graph file, which is read whole first. Errors:
-/// the first fault of the graph file; want of memory.
+/// Checks a report of a mode over the graphs of a graph file, which is read whole first, under the
+/// limit of names of the mode. Errors: the first fault of the graph file; want of memory.
 pub fn check_graphs(
     alloc: Global,
     mode: GraphMode,
@@ -31,8 +32,8 @@ pub fn check_graphs(
     ensures answer { IfOk result (λ answer. (graphs : List PlainGraph)
         × SpellsGraphs from graph.now graphs
         × IsCheckAnswer (before_head mode graphs) report.now answer) }
-    ensures faultless { IfOk result (λ _. graph_fault from graph.now ≡ None) }
-    ensures stops { IfErr result (IsStopAt (graph_fault from graph.now)) }
+    ensures faultless { IfOk result (λ _. graph_fault (limit_of_mode mode) from graph.now ≡ None) }
+    ensures stops { IfErr result (IsStopAt (graph_fault (limit_of_mode mode) from graph.now)) }
 {
     let checker = Checker::over_graphs(alloc, mode, from, graph)?;
     Ok(judge(alloc, checker, report)?)

@@ -4,9 +4,10 @@ ghost use Rattle.std.specs.Option.{option_or};
 ghost use Rattle.md_graph.specs.PlainGraph.{PlainGraph};
 ghost use Rattle.md_script.specs.declared.edit.Edit.{Edit};
 ghost use Rattle.md_script.specs.File.{SpellsScript};
+ghost use Rattle.md_input.specs.Inputs.{graph_of_inputs, script_of_inputs, HaveRoom};
 ghost use Rattle.md_input.specs.Spelling.{SpellsGraphs};
 ghost use Rattle.md_input.specs.Faults.{graph_fault, one_graph_fault, script_fault, IsStopAt};
-ghost use Rattle.md_report.specs.Lines.{PlainLine, plain_line, line_text};
+ghost use Rattle.md_report.specs.Lines.{PlainLine, plain_line, line_text, limit_of_mode};
 ghost use Rattle.md_report.specs.WellFormedLines.{IsWellFormedLine};
 ghost use Rattle.md_report.specs.Places.{before_head, before_session, after_end, MayCome, next_place};
 ghost use Rattle.md_checker.specs.Checkers.{report_place};
@@ -15,7 +16,7 @@ ghost use Rattle.md_checker.specs.Standing.{Takes};
 use crate::graph_checker::GraphChecker;
 use crate::session_checker::SessionChecker;
 use md_graph::{Memory, WORDS};
-use md_input::{Format, Graphs, InputStop, one_graph, read_script};
+use md_input::{Format, Graphs, InputStop, SessionInputs, session_inputs};
 use md_report::{GraphMode, Line, LineFault, SessionMode, read_line};
 use std::alloc::Global;
 use std::marker::Model;
@@ -31,8 +32,10 @@ pub struct Checker<'a> {
 enum Inner<'a> {
     // The report is over the graphs of a file.
     OverGraphs(GraphChecker<'a>),
-    // The report is of a session.
-    OverSession(SessionChecker<WORDS>),
+    // The report is of a session, on rows of sixty-four words.
+    OverBroad(SessionChecker<64>),
+    // The report is of a session, on rows of as many words as there may be.
+    OverLarge(SessionChecker<WORDS>),
 }
 
 impl<'a> Model for Checker<'a> {
@@ -53,7 +56,7 @@ impl<'a> Model for Checker<'a> {
 
 impl<'a> Checker<'a> {
     /// The checker of a report of a mode over the graphs of a graph file, before its head. The file
-    /// is read whole first. Errors: the first fault of the graph file; want of memory.
+    /// is read whole first, under the limit of names of the mode. Errors: the first fault of the graph file; want of memory.
     pub fn over_graphs(
         alloc: Global,
         mode: GraphMode,
@@ -62,10 +65,12 @@ impl<'a> Checker<'a> {
     ) -> Result<Checker<'a>, InputStop>
         ensures first { IfOk result (λ c. (graphs : List PlainGraph)
             × SpellsGraphs from file.now graphs × (c ≡ before_head mode graphs)) }
-        ensures faultless { IfOk result (λ _. graph_fault from file.now ≡ None) }
-        ensures stops { IfErr result (IsStopAt (graph_fault from file.now)) }
+        ensures faultless { IfOk result (λ _.
+            graph_fault (limit_of_mode mode) from file.now ≡ None) }
+        ensures stops { IfErr result (IsStopAt
+            (graph_fault (limit_of_mode mode) from file.now)) }
     {
-        let graphs = Graphs::read(alloc, from, file)?;
+        let graphs = Graphs::read(alloc, mode.limit(), from, file)?;
         let checker = GraphChecker::new(alloc, mode, graphs)?;
         Ok(Checker {
             inner: Inner::OverGraphs(checker),
@@ -90,10 +95,9 @@ impl<'a> Checker<'a> {
         ensures stops { IfErr result (IsStopAt
             (option_or (one_graph_fault from file.now) (script_fault script.now))) }
     {
-        let graph = one_graph(alloc, from, file)?;
-        let edits = read_script(alloc, script)?;
+        let inputs = session_inputs(alloc, from, file, script)?;
         Ok(Checker {
-            inner: Inner::OverSession(SessionChecker::new(mode, graph, edits)),
+            inner: Inner::over_inputs(mode, inputs),
         })
     }
 
@@ -103,7 +107,8 @@ impl<'a> Checker<'a> {
     {
         match &self.inner {
             Inner::OverGraphs(checker) => checker.complete(),
-            Inner::OverSession(checker) => checker.complete(),
+            Inner::OverBroad(checker) => checker.complete(),
+            Inner::OverLarge(checker) => checker.complete(),
         }
     }
 
@@ -167,6 +172,23 @@ impl<'a> Checker<'a> {
 }
 
 impl<'a> Inner<'a> {
+    // The checker of a report of a session over these inputs, before its head. Condition: the rows
+    // of the graph have room for the names in the script.
+    fn over_inputs(mode: SessionMode, inputs: SessionInputs) -> Inner<'a>
+        requires { HaveRoom inputs }
+        ensures { report_place result
+            ≡ before_session mode (graph_of_inputs inputs) (script_of_inputs inputs) }
+    {
+        match inputs {
+            SessionInputs::Broad(graph, script) => {
+                Inner::OverBroad(SessionChecker::new(mode, graph, script))
+            }
+            SessionInputs::Large(graph, script) => {
+                Inner::OverLarge(SessionChecker::new(mode, graph, script))
+            }
+        }
+    }
+
     // Whether the text is that of the tree or the orientation that is due: the line is then taken,
     // and else nothing changes. A false says nothing.
     fn takes_text(&mut self, alloc: Global, text: &[u8]) -> Result<bool, Memory>
@@ -178,7 +200,8 @@ impl<'a> Inner<'a> {
     {
         match self {
             Inner::OverGraphs(checker) => checker.takes_text(alloc, text),
-            Inner::OverSession(checker) => checker.takes_text(alloc, text),
+            Inner::OverBroad(checker) => checker.takes_text(alloc, text),
+            Inner::OverLarge(checker) => checker.takes_text(alloc, text),
         }
     }
 
@@ -194,7 +217,8 @@ impl<'a> Inner<'a> {
     {
         match self {
             Inner::OverGraphs(checker) => checker.feed(alloc, line),
-            Inner::OverSession(checker) => checker.feed(alloc, line),
+            Inner::OverBroad(checker) => checker.feed(alloc, line),
+            Inner::OverLarge(checker) => checker.feed(alloc, line),
         }
     }
 }

@@ -7,7 +7,7 @@ ghost use Rattle.md_graph.specs.PlainGraph.{adjacent};
 ghost use Rattle.md_modules.specs.InducedPaths.{HasInducedPath};
 
 use md_decompose::decompose;
-use md_graph::{Graph, Memory};
+use md_graph::{Graph, Memory, NAMES};
 use md_graph6::{Lines, scan};
 use md_modules::find_p4;
 use md_tree::push_text;
@@ -17,7 +17,7 @@ use std::io::{self, Read, Write};
 fn main(rt: HostRuntime) -> io::Result<()> {
     let mut file = Vec::new(rt.alloc());
     rt.stdin().read_to_end(&mut file)?;
-    let answer = match scan(&file) {
+    let answer = match scan(&file, NAMES) {
         Ok(count) => {
             let mut answer = Vec::new(rt.alloc());
             let mut lines = Lines::new(&file);

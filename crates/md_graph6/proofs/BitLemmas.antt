@@ -44,16 +44,20 @@ join_window body place n next m whole low high first second follows sum = record
       (cases_lt k n);
 }
 
--- the six bits of one byte
+-- the six bits of byte k of a body
+pub byte_bits : (body : List ℕ) (k r : ℕ) → r < 6 → bit body (6 * k + r) ≡ bit_at (get_or body k 63 - 63) (5 - r)
+byte_bits body k r below =
+    let at : (6 * k + r) / 6 ≡ k = omega (arith, below) in
+    let rest : (6 * k + r) % 6 ≡ r = omega (arith, below) in
+    rw (at, rest) refl
+
+-- the same as a word
 pub group_window : (body : List ℕ) (at group : ℕ) → group < 64
     → ((k : ℕ) → k < 6 → bit_at group k ≡ bit_at (get_or body at 63 - 63) (5 - k))
     → IsWindow body (6 * at) 6 group
 group_window body at group small bits = record {
   below = small;
-  bits = λ k h.
-      let e : (6 * at + k) / 6 ≡ at = omega arith in
-      let f : (6 * at + k) % 6 ≡ k = omega arith in
-      rw (e, f) (bits k h);
+  bits = λ k h. bits k h ∙ sym (byte_bits body at k h);
 }
 
 -- 64 bits out of 72

@@ -1,5 +1,5 @@
 -- A body that holds the bits of a graph is the one that the text of the graph has.
-use Rattle.std.proofs.Common.{◌≡◌, ℕ, zero, suc, ◌+◌, ◌-◌, ◌*◌, ◌/◌, ◌%◌, ◌<◌, ◌≤◌, List, [], ◌∷◌, ◌++◌, take, drop, length, get_or, length-append, refl, sym, ap, subst, ◌∙◌, arith, inl, inr}
+use Rattle.std.proofs.Common.{◌≡◌, ℕ, zero, suc, ◌+◌, ◌-◌, ◌*◌, ◌<◌, ◌≤◌, List, [], ◌∷◌, ◌++◌, take, drop, length, get_or, length-append, refl, sym, ap, subst, ◌∙◌, arith, inl, inr}
 use Rattle.std.specs.Int.{bit_at}
 use Rattle.std.proofs.lemmas.Bool.{cases_lt}
 use Rattle.std.proofs.lemmas.List.{get_or_append_left, get_or-append_right, get_or_default, get_or_past, take-append-drop, take_all}
@@ -10,6 +10,7 @@ use Rattle.md_graph6.specs.Bits.{bit, pair_number, body_length}
 use Rattle.md_graph6.specs.Size.{size_text}
 use Rattle.md_graph6.specs.Written.{bit_if, are_adjacent, IsWritten}
 use Rattle.md_graph6.specs.Text.{column_bits, pair_bits, six_bits, bytes_of_bits, graph_line_text, graph6_text}
+use Rattle.md_graph6.proofs.BitLemmas.{byte_bits}
 use Rattle.md_graph6.proofs.WriteLemmas.{pair_next}
 
 length-column_bits : (g : PlainGraph) (j i : ℕ) → length (column_bits g j i) ≡ i
@@ -70,13 +71,6 @@ text_bit body g n p written = elim (cases_lt p (pair_number 0 n)) [
 -- a number of six bits by its bits
 six_bits_of : (v : ℕ) → v < 64 → v ≡ 32 * bit_at v 5 + 16 * bit_at v 4 + 8 * bit_at v 3 + 4 * bit_at v 2 + 2 * bit_at v 1 + bit_at v 0
 six_bits_of v below = omega (arith, below)
-
--- the six bits of byte k of a body
-byte_bits : (body : List ℕ) (k r : ℕ) → r < 6 → bit body (6 * k + r) ≡ bit_at (get_or body k 63 - 63) (5 - r)
-byte_bits body k r below =
-    let at : (6 * k + r) / 6 ≡ k = omega (arith, below) in
-    let rest : (6 * k + r) % 6 ≡ r = omega (arith, below) in
-    rw (at, rest) refl
 
 body_byte : (body : List ℕ) (g : PlainGraph) (n k : ℕ) → IsWritten body g n → k < length body → get_or body k 0 ≡ 63 + six_bits (pair_bits g n) (6 * k)
 body_byte body g n k written within =

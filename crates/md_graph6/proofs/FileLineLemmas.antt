@@ -1,19 +1,18 @@
 -- What a line of a graph file spells, of either format: a line without fault one graph, and a line with a fault none.
-use Rattle.std.proofs.Common.{◌≡◌, ◌≢◌, ◌⊎◌, ℕ, zero, suc, ◌<◌, ◌≤◌, ◌==◌, true, false, nat_lt, List, [], ◌∷◌, ◌++◌, length, get_or, drop, if◌then◌else◌, None, inl, inr, refl, sym, ap, ◌∙◌, arith}
+use Rattle.std.proofs.Common.{◌≡◌, ◌≢◌, ℕ, zero, suc, ◌<◌, ◌≤◌, ◌==◌, nat_lt, List, [], ◌∷◌, length, get_or, drop, if◌then◌else◌, None, inl, inr, refl, sym, ap, ◌∙◌, arith}
 use Rattle.std.specs.List.{All, AllPass}
 use Rattle.std.specs.FinSet as set
 use Rattle.std.proofs.lemmas.Bool.{ne_eqb}
 use Rattle.std.proofs.lemmas.Bool.Decides.{eqb_tells}
 use Rattle.md_graph.specs.declared.TheConstants.{NAMES}
 use Rattle.md_graph.specs.PlainGraph.{PlainGraph, IsGraph}
-use Rattle.md_graph6.specs.Size.{size_text}
 use Rattle.md_graph6.specs.Line.{SpellsGraph6, is_group, graph6_fault, graph_of_graph6}
-use Rattle.md_graph6.specs.SparseLine.{SpellsSparse, sparse_fault, graph_of_sparse}
+use Rattle.md_graph6.specs.SparseLine.{sparse_fault, graph_of_sparse}
 use Rattle.md_graph6.specs.FileLine.{SpellsLine, line_fault, graph_of_line, from_size}
 use Rattle.md_graph6.specs.First.{BeginsWithSize}
 use Rattle.md_graph6.proofs.SizeLemmas.{is_group-range}
 use Rattle.md_graph6.proofs.SpellLemmas.{name_size, graph6_spells-some, graph6_spells-sound, graph6_spells-graph, graph6_spells-groups, sound-graph6_spells}
-use Rattle.md_graph6.proofs.SparseLemmas.{sparse_spells-some, sparse_spells-sound, sparse_spells-graph, sound-sparse_spells, sound_sparse, pairs_is_graph, pairs_vertices}
+use Rattle.md_graph6.proofs.SparseLemmas.{sparse_spells-sound, sparse_spells-graph, sound-sparse_spells, sound_sparse, pairs_is_graph, pairs_vertices}
 
 -- ---- the two cases
 

@@ -11,16 +11,15 @@ use Rattle.md_graph.specs.PlainGraph.{PlainGraph, IsGraph}
 use Rattle.md_text.specs.Lines.{lines, without_return}
 use Rattle.md_text.specs.Spelling.{first_fault_behind}
 use Rattle.md_text.proofs.LineLemmas.{lines-nil, lines-feed, lines-other}
-use Rattle.md_graph6.specs.Bits.{IsBodyOf}
 use Rattle.md_graph6.specs.File.{HasNoFault, fault_after, stripped_lines, graphs_of_lines, graphs_in}
 use Rattle.md_graph6.specs.First.{FirstBelow, IsFirstBound, BeginsWithSize}
 use Rattle.md_graph6.specs.Line.{is_group, graph6_fault, graph_of_graph6, graph_of_sized}
-use Rattle.md_graph6.specs.FileLine.{SpellsLine, line_fault, graph_of_line, from_size}
+use Rattle.md_graph6.specs.FileLine.{line_fault, graph_of_line, from_size}
 use Rattle.md_graph6.specs.Size.{size_text, size_of, eighteen_bits, most_in_four_bytes}
 use Rattle.md_graph6.proofs.LineLemmas.{IsSoundBody}
 use Rattle.md_graph6.proofs.SizeLemmas.{is_group-range, size_text-one, size_text-four, size_text-groups, size_text-some}
 use Rattle.md_graph6.proofs.SpellLemmas.{sound_line-body, sound_line-groups}
-use Rattle.md_graph6.proofs.FileLineLemmas.{HasNumbers, IsSized, line_fault-dense, spells-sized, sound-spells}
+use Rattle.md_graph6.proofs.FileLineLemmas.{HasNumbers, line_fault-dense, spells-sized, sound-spells}
 use Rattle.md_graph6.proofs.DecodeLemmas.{decoded_is_body}
 use Rattle.md_graph6.proofs.ReadLemmas.{stripped_lines-cut, graphs-cut_skip, fault_or-none, HasNoFault-cut}
 use Rattle.md_graph6.proofs.FileLemmas.{sound_graphs}

@@ -9,7 +9,6 @@ use Rattle.md_graph6.specs.declared.fault.G6Kind.{G6Kind}
 use Rattle.md_graph6.specs.declared.fault.G6Kind.TheVariants.{BadByte, BadSize, TooManyVertices, OtherFormat}
 use Rattle.md_graph6.specs.Size.{size_of, is_too_long}
 use Rattle.md_graph6.specs.Line.{is_group, begins_other, body_fault, size_fault, graph6_fault}
-use Rattle.md_graph6.specs.Sparse.{has_loop}
 use Rattle.md_graph6.specs.SparseLine.{pairs_fault, sparse_size_fault, sparse_fault}
 use Rattle.md_graph6.specs.FileLine.{line_fault}
 use Rattle.md_graph6.specs.File.{fault_at, fault_after, file_lines, HasNoFault, first_fault}

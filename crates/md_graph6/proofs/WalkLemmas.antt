@@ -1,10 +1,9 @@
 -- The way through the pairs of a sparse6 line, and the graph that grows on it.
-use Rattle.std.proofs.Common.{◌≡◌, ◌≢◌, ℕ, zero, suc, ◌+◌, ◌-◌, ◌*◌, ◌/◌, ◌%◌, ◌^◌, ◌<◌, ◌≤◌, ◌==◌, ◌&&◌, ◌||◌, min, max, nat_lt, nat_le, Bool, true, false, List, length, refl, sym, ap, ◌∙◌, arith, inl, inr, ltb-true, lt-ltb}
+use Rattle.std.proofs.Common.{◌≡◌, ℕ, zero, suc, ◌+◌, ◌*◌, ◌/◌, ◌%◌, ◌^◌, ◌<◌, ◌≤◌, ◌==◌, ◌&&◌, ◌||◌, min, max, nat_lt, nat_le, Bool, true, false, List, length, refl, sym, ap, ◌∙◌, arith, inl, inr, lt-ltb}
 use Rattle.std.specs.FinSet as set
 use Rattle.std.proofs.Math.Nat.{mul-le-mul_right, le-mul_of_pos_right}
-use Rattle.std.proofs.lemmas.Bool.{cases_Bool, cases_lt, cases_eq, eqb-true, true≢false}
+use Rattle.std.proofs.lemmas.Bool.{cases_Bool, cases_lt, cases_eq}
 use Rattle.std.proofs.lemmas.Bool.Decides.{nat_tests}
-use Rattle.md_graph.specs.declared.TheConstants.{NAMES}
 use Rattle.md_graph.specs.Sets.{Has}
 use Rattle.md_graph.specs.NameSet.{range}
 use Rattle.md_graph.specs.PlainGraph.{PlainGraph, IsGraph, adjacent, with_edge, pairs_where}
@@ -12,8 +11,8 @@ use Rattle.md_graph.proofs.SetLaws.{same_set}
 use Rattle.md_graph.proofs.PairLaws.{same_pairs}
 use Rattle.md_graph.proofs.GraphLemmas.{contains-pairs_where, contains-edges, adjacent-with_edge, IsGraph-with_edge}
 use Rattle.md_graph6.specs.Filled.{IsEdgeless}
-use Rattle.md_graph6.specs.Sparse.{width, number_at, pair_number_at, step_at, other_end, reached, vertex_at, is_whole, some_pair, gives, gives_loop, is_pair_edge, has_loop, graph_of_pairs}
-use Rattle.md_graph6.specs.Pairs.{IsAtPair, HasPairs, IsWithPair}
+use Rattle.md_graph6.specs.Sparse.{width, spelt_number, pair_number_at, step_of, other_end, reached, is_whole, some_pair, gives, gives_loop, is_pair_edge, has_loop, graph_of_pairs}
+use Rattle.md_graph6.specs.Pairs.{IsAtPair, HasPairEdges, IsWithPair}
 use Rattle.md_graph6.proofs.DecodeLemmas.{contains-numbers_below}
 
 -- ---- from pair to pair
@@ -30,11 +29,11 @@ at_first body k n at from vertex ea ef ev = record {
 
 -- what is read at a place is its pair
 pub pair_read : {body : List ℕ} {k n p at from vertex : ℕ} (v other : ℕ) → IsAtPair body k n p at from vertex
-    → v ≡ vertex + number_at body (6 * at + from) (k + 1) / 2 ^ k → other ≡ number_at body (6 * at + from) (k + 1) % 2 ^ k
-    → (v ≡ min (reached body k p) n + step_at body k p) × (other ≡ other_end body k p)
+    → v ≡ vertex + spelt_number body (6 * at + from) (k + 1) / 2 ^ k → other ≡ spelt_number body (6 * at + from) (k + 1) % 2 ^ k
+    → (v ≡ min (reached body k p) n + step_of body k p) × (other ≡ other_end body k p)
 pair_read {body} {k} {n} {p} {at} {from} {vertex} v other is ev eo =
-    let e : number_at body (6 * at + from) (k + 1) ≡ pair_number_at body k p = ap (λ x. number_at body x (k + 1)) is.place in
-    let step : number_at body (6 * at + from) (k + 1) / 2 ^ k ≡ step_at body k p = ap (λ x. x / 2 ^ k) e in
+    let e : spelt_number body (6 * at + from) (k + 1) ≡ pair_number_at body k p = ap (λ x. spelt_number body x (k + 1)) is.place in
+    let step : spelt_number body (6 * at + from) (k + 1) / 2 ^ k ≡ step_of body k p = ap (λ x. x / 2 ^ k) e in
     (omega (arith, is.reached), eo ∙ ap (λ x. x % 2 ^ k) e)
 
 row_next : (p k : ℕ) → (p + 1) * (k + 1) ≡ p * (k + 1) + (k + 1)
@@ -56,7 +55,7 @@ inside_after at from bits at' from' most whole is = let h : 6 * at + from + bits
 -- the next pair
 pub at_next : {body : List ℕ} {k n p at from vertex : ℕ} (v other at' from' vertex' : ℕ) → IsAtPair body k n p at from vertex
     → nat_le (6 * at + from + (k + 1)) (6 * length body) ≡ true
-    → v ≡ vertex + number_at body (6 * at + from) (k + 1) / 2 ^ k → other ≡ number_at body (6 * at + from) (k + 1) % 2 ^ k
+    → v ≡ vertex + spelt_number body (6 * at + from) (k + 1) / 2 ^ k → other ≡ spelt_number body (6 * at + from) (k + 1) % 2 ^ k
     → from' < 6 → 6 * at' + from' ≡ 6 * at + from + (k + 1) → vertex' ≡ min (max v other) n
     → IsAtPair body k n (suc p) at' from' vertex'
 unfolding reached
@@ -66,12 +65,8 @@ at_next {body} {k} {n} {p} {at} {from} {vertex} v other at' from' vertex' is who
       place = follows ∙ (let row = row_next p k in omega (arith, is.place));
       shift = small;
       inside = inside_after at from (k + 1) at' from' (length body) whole follows;
-      reached = er ∙ capped (reached body k p) n (step_at body k p) other v read.0 ∙ ap (λ x. min (max (reached body k p + step_at body k p) x) n) read.1;
+      reached = er ∙ capped (reached body k p) n (step_of body k p) other v read.0 ∙ ap (λ x. min (max (reached body k p + step_of body k p) x) n) read.1;
     }
-
-pub walk_shorter : (at from bits at' from' most : ℕ) → nat_le (6 * at + from + bits) (6 * most) ≡ true → 0 < bits
-    → 6 * at' + from' ≡ 6 * at + from + bits → 6 * most - (6 * at' + from') < 6 * most - (6 * at + from)
-walk_shorter at from bits at' from' most whole some is = let h : 6 * at + from + bits ≤ 6 * most = grind (arith, nat_tests) in omega arith
 
 -- ---- some pair
 
@@ -144,12 +139,12 @@ loop_test r n s x v y ev ex = grind (arith, nat_tests)
 
 -- a pair that is no loop
 pub no_loop_more : {body : List ℕ} {k n p at from vertex : ℕ} (v other : ℕ) → IsAtPair body k n p at from vertex
-    → v ≡ vertex + number_at body (6 * at + from) (k + 1) / 2 ^ k → other ≡ number_at body (6 * at + from) (k + 1) % 2 ^ k
+    → v ≡ vertex + spelt_number body (6 * at + from) (k + 1) / 2 ^ k → other ≡ spelt_number body (6 * at + from) (k + 1) % 2 ^ k
     → ((other == v) && nat_lt v n) ≡ false → some_pair (gives_loop body k n) p ≡ false → some_pair (gives_loop body k n) (suc p) ≡ false
 unfolding some_pair
 no_loop_more {body} {k} {n} {p} {at} {from} {vertex} v other is ev eo none before =
     let read = pair_read v other is ev eo in
-    let test = loop_test (reached body k p) n (step_at body k p) other v (other_end body k p) read.0 read.1 ∙ none in
+    let test = loop_test (reached body k p) n (step_of body k p) other v (other_end body k p) read.0 read.1 ∙ none in
     both (is_whole body k p) _ _ test before
   where
     both : (w a b : Bool) → a ≡ false → b ≡ false → ((w && a) || b) ≡ false
@@ -158,12 +153,12 @@ no_loop_more {body} {k} {n} {p} {at} {from} {vertex} v other is ev eo none befor
 -- a pair that is one
 pub loop_found : {body : List ℕ} {k n p at from vertex : ℕ} (v other : ℕ) → IsAtPair body k n p at from vertex → k ≡ width n → 1 < n
     → nat_le (6 * at + from + (k + 1)) (6 * length body) ≡ true
-    → v ≡ vertex + number_at body (6 * at + from) (k + 1) / 2 ^ k → other ≡ number_at body (6 * at + from) (k + 1) % 2 ^ k
+    → v ≡ vertex + spelt_number body (6 * at + from) (k + 1) / 2 ^ k → other ≡ spelt_number body (6 * at + from) (k + 1) % 2 ^ k
     → ((other == v) && nat_lt v n) ≡ true → has_loop body n ≡ true
 loop_found {body} {k} {n} {p} {at} {from} {vertex} v other is wide some whole ev eo found =
     let read = pair_read v other is ev eo in
     let there = pair_whole true is whole in
-    let test = loop_test (reached body k p) n (step_at body k p) other v (other_end body k p) read.0 read.1 ∙ found in
+    let test = loop_test (reached body k p) n (step_of body k p) other v (other_end body k p) read.0 read.1 ∙ found in
     let one : gives_loop body k n p ≡ true = rw (there, test) refl in
     let all : some_pair (gives_loop body k n) (6 * length body) ≡ true =
     some_pair-there (gives_loop body k n) p (6 * length body) one (whole_below body k p there) in
@@ -188,7 +183,7 @@ loop_small body n small = small_test n _ small
 -- ---- the graph
 
 -- a graph without edges has those of no pair
-pub no_pairs : (body : List ℕ) (k : ℕ) {n : ℕ} {g : PlainGraph} → IsEdgeless n g → HasPairs body k n 0 g
+pub no_pairs : (body : List ℕ) (k : ℕ) {n : ℕ} {g : PlainGraph} → IsEdgeless n g → HasPairEdges body k n 0 g
 unfolding some_pair
 no_pairs body k {n} {g} has = record {
   vertices = has.vertices;
@@ -200,7 +195,7 @@ no_pairs body k {n} {g} has = record {
     none b = grind arith
 
 -- so does one of at most one vertex, whatever the pairs
-pub no_pairs_small : (body : List ℕ) (k count : ℕ) {n : ℕ} {g : PlainGraph} → n ≤ 1 → IsEdgeless n g → HasPairs body k n count g
+pub no_pairs_small : (body : List ℕ) (k count : ℕ) {n : ℕ} {g : PlainGraph} → n ≤ 1 → IsEdgeless n g → HasPairEdges body k n count g
 no_pairs_small body k count {n} {g} small has = record {
   vertices = has.vertices;
   graph = has.graph;
@@ -217,8 +212,8 @@ same_pair a b n r s v x y t ev ex = grind (arith, nat_tests)
 -- the edges of one pair more
 pub pairs_more : {body : List ℕ} {k n p at from vertex : ℕ} {g new : PlainGraph} (v other : ℕ) → IsAtPair body k n p at from vertex
     → nat_le (6 * at + from + (k + 1)) (6 * length body) ≡ true
-    → v ≡ vertex + number_at body (6 * at + from) (k + 1) / 2 ^ k → other ≡ number_at body (6 * at + from) (k + 1) % 2 ^ k
-    → IsWithPair g n other v new → HasPairs body k n p g → HasPairs body k n (suc p) new
+    → v ≡ vertex + spelt_number body (6 * at + from) (k + 1) / 2 ^ k → other ≡ spelt_number body (6 * at + from) (k + 1) % 2 ^ k
+    → IsWithPair g n other v new → HasPairEdges body k n p g → HasPairEdges body k n (suc p) new
 unfolding some_pair
 pairs_more {body} {k} {n} {p} {at} {from} {vertex} {g} {new} v other is whole ev eo pair has =
     let read = pair_read v other is ev eo in
@@ -229,11 +224,11 @@ pairs_more {body} {k} {n} {p} {at} {from} {vertex} {g} {new} v other is whole ev
       pairs = λ a b up.
           pair.pairs a b up
           ∙ rw (has.pairs a b up, there)
-          (same_pair a b n (reached body k p) (step_at body k p) v other (other_end body k p) (some_pair (gives body k a b) p) read.0 read.1);
+          (same_pair a b n (reached body k p) (step_of body k p) v other (other_end body k p) (some_pair (gives body k a b) p) read.0 read.1);
     }
 
 pub pairs_all : {body : List ℕ} {k n p at from vertex : ℕ} {g : PlainGraph} → IsAtPair body k n p at from vertex → k ≡ width n
-    → nat_le (6 * at + from + (k + 1)) (6 * length body) ≡ false → HasPairs body k n p g → HasPairs body (width n) n (6 * length body) g
+    → nat_le (6 * at + from + (k + 1)) (6 * length body) ≡ false → HasPairEdges body k n p g → HasPairEdges body (width n) n (6 * length body) g
 pairs_all {body} {k} {n} {p} {at} {from} {vertex} {g} is wide end has = rw (← wide) (record {
   vertices = has.vertices;
   graph = has.graph;
@@ -244,7 +239,7 @@ pairs_all {body} {k} {n} {p} {at} {from} {vertex} {g} is wide end has = rw (← 
 })
 
 -- the graph that has the edges of all pairs is the one that they spell
-pub pairs_graph : {body : List ℕ} {n : ℕ} {g : PlainGraph} → HasPairs body (width n) n (6 * length body) g → g ≡ graph_of_pairs body n
+pub pairs_graph : {body : List ℕ} {n : ℕ} {g : PlainGraph} → HasPairEdges body (width n) n (6 * length body) g → g ≡ graph_of_pairs body n
 unfolding graph_of_pairs
 pairs_graph {body} {n} {g} has =
     let vertices : g.vertices ≡ range 0 n = same_set g.vertices (range 0 n) (λ v. has.vertices v ∙ sym (contains-numbers_below n v)) in
@@ -266,51 +261,6 @@ pairs_graph {body} {n} {g} has =
     ]
 
 -- ---- one pair
-
--- nothing is added for a pair that is no edge
-pub pair_left_out : {g : PlainGraph} {n : ℕ} (other vertex : ℕ) → IsGraph g → vertex ≤ other → IsWithPair g n other vertex g
-pair_left_out {g} {n} other vertex is none = record {
-  vertices = refl;
-  graph = is;
-  pairs = λ a b up. no_edge a b (adjacent g a b) up;
-}
-  where
-    no_edge : (a b : ℕ) (t : Bool) → a < b → t ≡ ((nat_lt b n && ((other == a) && (vertex == b))) || t)
-    no_edge a b t up = grind (arith, nat_tests)
-
-pub pair_past : {g : PlainGraph} {n : ℕ} (other vertex : ℕ) → IsGraph g → n ≤ vertex → IsWithPair g n other vertex g
-pair_past {g} {n} other vertex is none = record {
-  vertices = refl;
-  graph = is;
-  pairs = λ a b up. no_edge a b (adjacent g a b);
-}
-  where
-    no_edge : (a b : ℕ) (t : Bool) → t ≡ ((nat_lt b n && ((other == a) && (vertex == b))) || t)
-    no_edge a b t = grind (arith, nat_tests)
-
--- nor for an edge that is there
-pub pair_repeated : {g : PlainGraph} {n : ℕ} (other vertex : ℕ) → IsGraph g → adjacent g other vertex ≡ true → IsWithPair g n other vertex g
-pair_repeated {g} {n} other vertex is there = record {
-  vertices = refl;
-  graph = is;
-  pairs = λ a b up. elim (cases_Bool ((other == a) && (vertex == b))) [
-    | inl t ↦
-        let parts = both (other == a) (vertex == b) t in
-        let e : adjacent g a b ≡ true = rw (← eqb-true other a parts.0, ← eqb-true vertex b parts.1) there in
-        rw e (or_true (nat_lt b n && ((other == a) && (vertex == b))))
-    | inr f ↦ rw f (or_false (nat_lt b n) (adjacent g a b))
-  ];
-}
-  where
-    both : (p q : Bool) → (p && q) ≡ true → (p ≡ true) × (q ≡ true)
-    both true q e = (refl, e)
-    both false q e = absurd (true≢false (sym e))
-
-    or_true : (x : Bool) → true ≡ (x || true)
-    or_true x = grind arith
-
-    or_false : (x y : Bool) → y ≡ ((x && false) || y)
-    or_false x y = grind arith
 
 pub pair_added : {g new : PlainGraph} {n : ℕ} (other vertex : ℕ) → IsGraph g → other < vertex → vertex < n
     → Has g.vertices other → Has g.vertices vertex → new ≡ with_edge g other vertex → IsWithPair g n other vertex new

@@ -1,6 +1,6 @@
 -- A graph6 line: what it spells, and its first fault.
 -- Source: B. McKay, "Description of graph6, sparse6 and digraph6 encodings"; the faults are this project's.
-use Rattle.std.specs.Prelude.{◌≡◌, ℕ, zero, suc, ◌+◌, ◌-◌, ◌*◌, ◌/◌, ◌<◌, ◌≤◌, ◌==◌, ◌&&◌, ◌||◌, nat_lt, nat_le, Bool, false, not, List, [], ◌∷◌, ◌++◌, length, get_or, drop, if◌then◌else◌, Option, None, Some}
+use Rattle.std.specs.Prelude.{◌≡◌, ℕ, zero, suc, ◌+◌, ◌-◌, ◌*◌, ◌/◌, ◌<◌, ◌≤◌, ◌==◌, ◌&&◌, ◌||◌, nat_lt, nat_le, Bool, false, not, List, ◌++◌, length, get_or, drop, if◌then◌else◌, Option, None, Some}
 use Rattle.std.specs.List.{AllPass, list_all}
 use Rattle.md_graph.specs.NameSet.{range}
 use Rattle.md_graph.specs.PlainGraph.{PlainGraph, pairs_where}

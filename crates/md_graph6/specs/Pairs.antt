@@ -13,7 +13,7 @@ pub record IsAtPair (body : List ℕ) (k n p at from vertex : ℕ) : Type 0 wher
   pub reached : vertex ≡ min (reached body k p) n
 
 -- a graph on the numbers below n that has the edges of the first p pairs
-pub record HasPairs (body : List ℕ) (k n p : ℕ) (g : PlainGraph) : Type 0 where
+pub record HasPairEdges (body : List ℕ) (k n p : ℕ) (g : PlainGraph) : Type 0 where
   pub vertices : (v : ℕ) → set.contains g.vertices v ≡ nat_lt v n
   pub graph : IsGraph g
   pub pairs : (a b : ℕ) → a < b → adjacent g a b ≡ (nat_lt b n && some_pair (gives body k a b) p)

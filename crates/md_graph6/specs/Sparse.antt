@@ -16,17 +16,17 @@ abbrev pub width : ℕ → ℕ
 width n = digit_count 32 (n - 1)
 
 -- the number that `count` bits of a body from `place` on spell, the high bit first
-unfoldable pub number_at : List ℕ → ℕ → ℕ → ℕ
-number_at body place zero = 0
-number_at body place (suc count) = 2 * number_at body place count + bit body (place + count)
+unfoldable pub spelt_number : List ℕ → ℕ → ℕ → ℕ
+spelt_number body place zero = 0
+spelt_number body place (suc count) = 2 * spelt_number body place count + bit body (place + count)
 
 -- pair p as one number: its bit, and then k bits of an end
 abbrev pub pair_number_at : List ℕ → ℕ → ℕ → ℕ
-pair_number_at body k p = number_at body (p * (k + 1)) (k + 1)
+pair_number_at body k p = spelt_number body (p * (k + 1)) (k + 1)
 
 -- the bit of pair p
-abbrev pub step_at : List ℕ → ℕ → ℕ → ℕ
-step_at body k p = pair_number_at body k p / 2 ^ k
+abbrev pub step_of : List ℕ → ℕ → ℕ → ℕ
+step_of body k p = pair_number_at body k p / 2 ^ k
 
 -- the end that pair p spells
 abbrev pub other_end : List ℕ → ℕ → ℕ → ℕ
@@ -35,11 +35,11 @@ other_end body k p = pair_number_at body k p % 2 ^ k
 -- the vertex that the first p pairs reach: a bit goes on by one, and an end above the vertex becomes the vertex
 unfoldable pub reached : List ℕ → ℕ → ℕ → ℕ
 reached body k zero = 0
-reached body k (suc p) = max (reached body k p + step_at body k p) (other_end body k p)
+reached body k (suc p) = max (reached body k p + step_of body k p) (other_end body k p)
 
 -- the vertex that pair p stands at
 abbrev pub vertex_at : List ℕ → ℕ → ℕ → ℕ
-vertex_at body k p = reached body k p + step_at body k p
+vertex_at body k p = reached body k p + step_of body k p
 
 -- whether all bits of pair p stand in the body
 abbrev pub is_whole : List ℕ → ℕ → ℕ → Bool

@@ -1,5 +1,5 @@
-//! What holds of graph6 files. Each function has an empty body, and its contract is the law: the
-//! statement stands in `specs/Laws.antt`.
+//! What holds of files of graph6 and sparse6 lines. Each function has an empty body, and its
+//! contract is the law: the statement stands in `specs/Laws.antt`.
 ghost use Rattle.md_graph6.specs.Laws.{SpellsItsGraphsOrNothing, SpelledAreItsGraphs, GraphsAreGraphs, LimitsAgree, EndedLinesSpell, EndedLineSpells, TextSpells};
 
 /// Under each limit a file has either a first fault or one list of graphs that it spells.

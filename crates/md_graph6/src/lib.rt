@@ -1,4 +1,4 @@
-//! graph6: files of one line a graph, read and written.
+//! graph6 and sparse6: files of one line a graph, read, and written in graph6.
 //!
 //! `scan` says whether a whole file is without fault, or names its first one. `Lines` then reads
 //! the graphs of such a file one after the other, into graphs of as many words a row as the next

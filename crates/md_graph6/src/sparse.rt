@@ -6,8 +6,8 @@ ghost use Rattle.md_graph.specs.Sets.{Has};
 ghost use Rattle.md_graph.specs.PlainGraph.{IsGraph, empty_graph};
 ghost use Rattle.md_graph6.specs.Window.{AreGroups};
 ghost use Rattle.md_graph6.specs.Line.{is_group};
-ghost use Rattle.md_graph6.specs.Sparse.{width, number_at, has_loop, graph_of_pairs};
-ghost use Rattle.md_graph6.specs.Pairs.{HasPairs, IsWithPair};
+ghost use Rattle.md_graph6.specs.Sparse.{width, spelt_number, has_loop, graph_of_pairs};
+ghost use Rattle.md_graph6.specs.Pairs.{HasPairEdges, IsWithPair};
 ghost use Rattle.md_graph6.specs.SparseLine.{sparse_fault, pairs_fault, graph_of_sparse};
 
 use crate::fault::G6Kind;
@@ -47,7 +47,7 @@ fn width(n: u32) -> u32
 fn group_in(body: &[u8], at: usize) -> u32
     requires groups { AreGroups body.now }
     requires inside { at < length body.now }
-    ensures value { result ≡ number_at body.now (6 * at) 6 }
+    ensures value { result ≡ spelt_number body.now (6 * at) 6 }
     ensures below { result < 64 }
 {
     u32::from(body[at]) - 63
@@ -56,7 +56,7 @@ fn group_in(body: &[u8], at: usize) -> u32
 // The six bits of byte `at`; behind the body they are 0.
 fn group_at(body: &[u8], at: usize) -> u32
     requires { AreGroups body.now }
-    ensures value { result ≡ number_at body.now (6 * at) 6 }
+    ensures value { result ≡ spelt_number body.now (6 * at) 6 }
     ensures below { result < 64 }
 {
     if at < body.len() {
@@ -82,7 +82,7 @@ fn joined(first: u32, second: u32, third: u32, fourth: u32) -> u32
 fn last_word(body: &[u8], at: usize) -> u32
     requires groups { AreGroups body.now }
     requires inside { at ≤ length body.now }
-    ensures value { result ≡ number_at body.now (6 * at) 24 }
+    ensures value { result ≡ spelt_number body.now (6 * at) 24 }
     ensures below { result < 16777216 }
 {
     let (first, second) = (group_at(body, at), group_at(body, at + 1));
@@ -95,7 +95,7 @@ fn last_word(body: &[u8], at: usize) -> u32
 fn word_at(body: &[u8], at: usize) -> u32
     requires groups { AreGroups body.now }
     requires inside { at ≤ length body.now }
-    ensures value { result ≡ number_at body.now (6 * at) 24 }
+    ensures value { result ≡ spelt_number body.now (6 * at) 24 }
     ensures below { result < 16777216 }
 {
     if body.len() - at < 4 {
@@ -117,11 +117,11 @@ fn low_part(number: u32, count: u32) -> u32
 
 // The number that `count` bits from bit `shift` of byte `at` on spell.
 #[inline]
-fn number_at(body: &[u8], at: usize, shift: u32, count: u32) -> u32
+fn spelt_number(body: &[u8], at: usize, shift: u32, count: u32) -> u32
     requires groups { AreGroups body.now }
     requires inside { at ≤ length body.now }
     requires few { shift + count ≤ 24 }
-    ensures { result ≡ number_at body.now (6 * at + shift) count }
+    ensures { result ≡ spelt_number body.now (6 * at + shift) count }
 {
     low_part(word_at(body, at) >> (24 - shift - count), count)
 }
@@ -147,12 +147,12 @@ fn pair_at(body: &[u8], digits: u32, place: Place) -> Pair
     requires shift { place.shift < 6 }
     requires reached { place.reached ≤ NAMES }
     ensures vertex { result.vertex ≡ place.reached
-        + number_at body.now (6 * place.at + place.shift) (digits + 1) / 2 ^ digits }
+        + spelt_number body.now (6 * place.at + place.shift) (digits + 1) / 2 ^ digits }
     ensures other { result.other
-        ≡ number_at body.now (6 * place.at + place.shift) (digits + 1) % 2 ^ digits }
+        ≡ spelt_number body.now (6 * place.at + place.shift) (digits + 1) % 2 ^ digits }
     ensures near { result.vertex ≤ NAMES + 1 }
 {
-    let number = number_at(body, place.at, place.shift, digits + 1);
+    let number = spelt_number(body, place.at, place.shift, digits + 1);
     Pair {
         vertex: place.reached + (number >> digits),
         other: low_part(number, digits),
@@ -241,8 +241,8 @@ fn add_pairs<const W: usize>(graph: &mut GraphOf<W>, n: u32, body: &[u8])
     requires few { n ≤ NAMES }
     requires some { 1 < n }
     requires groups { AreGroups body.now }
-    requires before { HasPairs body.now (width n) n 0 graph.old }
-    ensures { HasPairs body.now (width n) n (6 * length body.now) graph.new }
+    requires before { HasPairEdges body.now (width n) n 0 graph.old }
+    ensures { HasPairEdges body.now (width n) n (6 * length body.now) graph.new }
 {
     let digits = width(n);
     let mut place = first_place();

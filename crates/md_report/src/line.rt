@@ -69,7 +69,7 @@ pub enum GraphMode {
 }
 
 impl GraphMode {
-    ghost use Rattle.std.specs.Prelude.{◌≡◌};
+    ghost use Rattle.std.specs.Prelude.{◌≡◌, ◌≤◌};
     ghost use Rattle.md_report.specs.Lines.{mode_of, limit_of_mode};
 
     /// What the whole report is about.
@@ -86,7 +86,8 @@ impl GraphMode {
     /// The limit of names of the graphs that are reported so: trees are of all names, orientations
     /// and orders of fewer.
     pub fn limit(self) -> u32
-        ensures { result ≡ limit_of_mode self }
+        ensures value { result ≡ limit_of_mode self }
+        ensures few { result ≤ NAMES }
     {
         match self {
             GraphMode::Tree => NAMES,

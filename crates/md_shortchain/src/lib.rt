@@ -6,6 +6,7 @@ ghost use Rattle.std.specs.Prelude.{◌≡◌, List, None, IfOk, IfErr, IfSome, 
 ghost use Rattle.md_graph.specs.PlainGraph.{PlainGraph, adjacent};
 ghost use Rattle.md_comparability.specs.Chains.{HasForcingChain, IsShortestChain};
 ghost use Rattle.md_report.specs.declared.line.GraphMode.TheVariants as graph_modes;
+ghost use Rattle.md_report.specs.Lines.{limit_of_mode};
 ghost use Rattle.md_report.specs.Places.{before_head};
 ghost use Rattle.md_input.specs.Spelling.{SpellsGraphs};
 ghost use Rattle.md_input.specs.Faults.{graph_fault, IsStopAt};
@@ -40,8 +41,8 @@ pub fn shortest_chain<const W: usize>(
 }
 
 /// Checks a report of the least-edge orientations and the shortest forcing chains of the graphs of
-/// a graph file, which is read whole first. Errors: the first fault of the graph file; want of
-/// memory.
+/// a graph file, which is read whole first, under the limit of names of orientations. Errors: the
+/// first fault of the graph file; want of memory.
 pub fn check_shortest(
     alloc: Global,
     from: Format,
@@ -51,8 +52,10 @@ pub fn check_shortest(
     ensures answer { IfOk result (λ answer. (graphs : List PlainGraph)
         × SpellsGraphs from graph.now graphs
         × IsCheckAnswer (before_head graph_modes.Shortest graphs) report.now answer) }
-    ensures faultless { IfOk result (λ _. graph_fault from graph.now ≡ None) }
-    ensures stops { IfErr result (IsStopAt (graph_fault from graph.now)) }
+    ensures faultless { IfOk result (λ _.
+        graph_fault (limit_of_mode graph_modes.Shortest) from graph.now ≡ None) }
+    ensures stops { IfErr result (IsStopAt
+        (graph_fault (limit_of_mode graph_modes.Shortest) from graph.now)) }
 {
     check_graphs(alloc, GraphMode::Shortest, from, graph, report)
 }

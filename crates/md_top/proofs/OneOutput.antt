@@ -1,5 +1,6 @@
 -- Contents are spelled in one way, so that a request over contents gives one output; and what a check says by its verdict.
-use Rattle.std.proofs.Common.{◌≡◌, ℕ, List, [], ◌∷◌, MatchOption, sym, ◌∙◌, ap, ap₂, subst}
+use Rattle.std.proofs.Common.{◌≡◌, ℕ, List, [], ◌∷◌, MatchOption, sym, ◌∙◌, ap, ap₂, subst, arith}
+use Rattle.md_graph.specs.declared.TheConstants.{NAMES}
 use Rattle.md_graph.specs.PlainGraph.{PlainGraph}
 use Rattle.md_text.specs.Spelling.{SpellsOne, SpellsNone}
 use Rattle.md_graph6.proofs.FileLemmas.{spelled_has_no_fault}
@@ -25,8 +26,8 @@ use Rattle.md_top.proofs.Alike.{numbers_alike}
 
 -- a file spells one list of graphs
 graphs_alike : (from : Format) (bytes : List ℕ) (g h : List PlainGraph) → SpellsGraphs from bytes g → SpellsGraphs from bytes h → g ≡ h
-graphs_alike G6 bytes g h a b = sym (spelled_has_no_fault bytes g a).1 ∙ (spelled_has_no_fault bytes h b).1
-graphs_alike Dimacs bytes g h a b = a.1 ∙ ap (λ (x : PlainGraph). x ∷ []) (one_graph bytes a.0 b.0 a.2 b.2) ∙ sym b.1
+graphs_alike G6 bytes g h a b = sym (spelled_has_no_fault NAMES bytes g (omega arith) a).1 ∙ (spelled_has_no_fault NAMES bytes h (omega arith) b).1
+graphs_alike Dimacs bytes g h a b = a.1 ∙ ap (λ (x : PlainGraph). x ∷ []) (one_graph NAMES bytes a.0 b.0 a.2 b.2) ∙ sym b.1
 
 -- or one graph
 abbrev first_or : PlainGraph → List PlainGraph → PlainGraph

@@ -4,6 +4,7 @@ use Rattle.std.specs.Prelude.{◌≡◌, ℕ, Option, None, List, [], ◌∷◌,
 use Rattle.std.specs.Option.{option_or}
 use Rattle.std.specs.List.{flat_map}
 use Rattle.md_text.specs.Numbers.{decimal}
+use Rattle.md_graph.specs.declared.TheConstants.{NAMES}
 use Rattle.md_graph.specs.PlainGraph.{PlainGraph}
 use Rattle.md_graph6.specs.Text.{graph6_text}
 use Rattle.md_dimacs.specs.Text.{dimacs_text}
@@ -14,6 +15,7 @@ use Rattle.md_input.specs.declared.format.Format.TheVariants.{G6, Dimacs}
 use Rattle.md_input.specs.declared.fault.Fault.{Fault}
 use Rattle.md_input.specs.Spelling.{SpellsGraphs}
 use Rattle.md_input.specs.Faults.{graph_fault, one_graph_fault, script_fault}
+use Rattle.md_report.specs.Lines.{limit_of_mode}
 use Rattle.md_report.specs.Places.{Place, before_head, before_session}
 use Rattle.md_report.specs.Reports.{IsReport, IsFront}
 use Rattle.md_checker.specs.declared.answer.CheckAnswer.{CheckAnswer}
@@ -28,11 +30,16 @@ use Rattle.md_top.specs.declared.stop.Verdict.{Verdict}
 use Rattle.md_top.specs.declared.stop.Verdict.TheVariants.{Done, Rejected}
 use Rattle.md_top.specs.Big.{AreNumbersOf, numbers_line}
 
+-- the limit of names of the graphs that are answered in a form
+abbrev pub limit_of_form : GraphForm → ℕ
+limit_of_form (Convert to) = NAMES
+limit_of_form (Report mode) = limit_of_mode mode
+
 -- the first cause of bad input, none where the input is well-formed
 abbrev pub fault_of : Request (List ℕ) → Option Fault
-fault_of (Graphs form from graph) = graph_fault from graph
+fault_of (Graphs form from graph) = graph_fault (limit_of_form form) from graph
 fault_of (Session mode from graph script) = option_or (one_graph_fault from graph) (script_fault script)
-fault_of (CheckGraphs mode from graph report) = graph_fault from graph
+fault_of (CheckGraphs mode from graph report) = graph_fault (limit_of_mode mode) from graph
 fault_of (CheckSession mode from graph script report) = option_or (one_graph_fault from graph) (script_fault script)
 fault_of (Big size) = None
 

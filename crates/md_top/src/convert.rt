@@ -9,7 +9,7 @@ ghost use Rattle.md_top.specs.Command.{CommandEnds};
 
 use crate::put::put_piece;
 use crate::stop::{PutStop, Stop, Verdict};
-use md_graph::{GraphOf, Memory};
+use md_graph::{GraphOf, Memory, NAMES};
 use md_input::{Format, GraphBySize, Graphs, Room};
 use md_io::Sink;
 use std::alloc::Global;
@@ -27,7 +27,7 @@ pub fn convert<O: Sink>(
         (sink_run O.Sink out.old out.new) }
     ensures faults_never_fall { O.faults out.old ≤ O.faults out.new }
 {
-    let graphs = Graphs::read(alloc, from, file)?;
+    let graphs = Graphs::read(alloc, NAMES, from, file)?;
     put_texts(alloc, to, graphs, out)?;
     Ok(Verdict::Done)
 }

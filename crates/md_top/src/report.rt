@@ -22,7 +22,8 @@ use md_orient::{PermVerdict, Verdict as Orientation, model, orient};
 use md_report::{GraphMode, Line};
 use std::alloc::Global;
 
-/// Puts the report of a mode over the graphs of a file.
+/// Puts the report of a mode over the graphs of a file, which is read under the limit of names of
+/// the mode.
 pub fn report<O: Sink>(
     alloc: Global,
     mode: GraphMode,
@@ -34,7 +35,7 @@ pub fn report<O: Sink>(
         (sink_run O.Sink out.old out.new) }
     ensures faults_never_fall { O.faults out.old ≤ O.faults out.new }
 {
-    let graphs = Graphs::read(alloc, from, file)?;
+    let graphs = Graphs::read(alloc, mode.limit(), from, file)?;
     put_report(alloc, mode, graphs, out)?;
     Ok(Verdict::Done)
 }

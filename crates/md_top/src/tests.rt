@@ -117,7 +117,7 @@ fn runs(rt: HostRuntime) -> Result<(), Fail> {
         ("edges g6 g", b"~??}\n", "3||mdt: graph BadSize line 1\n"),
         (
             "edges g6 g",
-            b"~@?@\n",
+            b"~C?@\n",
             "3||mdt: graph TooManyVertices line 1\n",
         ),
         (
@@ -201,7 +201,7 @@ fn runs_over_other_words(rt: HostRuntime) -> Result<(), Fail> {
         ),
         (
             "edges dimacs g",
-            b"p edge 4096 0\n",
+            b"p edge 16384 0\n",
             "3||mdt: graph TooManyVertices line 1\n",
         ),
         ("graph6 dimacs g", b"p edge 3 2\ne 1 2\ne 2 3\n", "0|Bg\n|"),
@@ -226,6 +226,76 @@ fn runs_over_other_words(rt: HostRuntime) -> Result<(), Fail> {
         ),
     ];
     expect(&rt, alloc, &table)
+}
+
+// Sees that each of the commands finds too many vertices in the file.
+fn expect_too_many(
+    rt: &impl Abort,
+    alloc: Global,
+    commands: &[&str],
+    file: &[u8],
+) -> Result<(), Fail> {
+    for command in commands {
+        let shown = run_over(alloc, command, file, b"", 0, 0, 0)?;
+        assert_eq!(rt;
+            shown.as_str(),
+            "3||mdt: graph TooManyVertices line 1\n",
+            "{command}"
+        );
+    }
+    Ok(())
+}
+
+#[test]
+fn limits_of_names(rt: HostRuntime) -> Result<(), Fail> {
+    let alloc = rt.alloc();
+    let table: [(&str, &[u8], &str); 7] = [
+        ("edges g6 g", b"~@?@\n", "3||mdt: graph Truncated line 1\n"),
+        ("tree g6 g", b"~@?@\n", "3||mdt: graph Truncated line 1\n"),
+        (
+            "check tree g6 g s",
+            b"~@?@\n",
+            "3||mdt: graph Truncated line 1\n",
+        ),
+        (
+            "compare g6 g",
+            b"~@??\n",
+            "3||mdt: graph Truncated line 1\n",
+        ),
+        ("edges dimacs g", b"p edge 4096 0\n", "0|p edge 4096 0\n|"),
+        ("edges dimacs g", b"p edge 16383 0\n", "0|p edge 16383 0\n|"),
+        (
+            "check tree dimacs g s",
+            b"p edge 4096 0\n",
+            "1|rejected line 1\n|",
+        ),
+    ];
+    expect(&rt, alloc, &table)?;
+    let all = [
+        "graph6 g6 g",
+        "tree g6 g",
+        "check tree g6 g s",
+        "edit g6 g s",
+    ];
+    expect_too_many(&rt, alloc, &all, b"~C?@\n")?;
+    let oriented = [
+        "compare g6 g",
+        "shortest g6 g",
+        "permute g6 g",
+        "check compare g6 g s",
+        "check shortest g6 g s",
+        "check permute g6 g s",
+    ];
+    expect_too_many(&rt, alloc, &oriented, b"~@?@\n")?;
+    let oriented = [
+        "compare dimacs g",
+        "shortest dimacs g",
+        "permute dimacs g",
+        "check compare dimacs g s",
+        "check shortest dimacs g s",
+        "check permute dimacs g s",
+    ];
+    expect_too_many(&rt, alloc, &oriented, b"p edge 4096 0\n")
 }
 
 #[test]

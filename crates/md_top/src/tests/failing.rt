@@ -305,10 +305,10 @@ fn refused_lines_on_err(rt: HostRuntime) -> Result<(), Fail> {
 fn graph_of_the_most_vertices(rt: HostRuntime) -> Result<(), Fail> {
     let alloc = rt.alloc();
     let mut file = Vec::new(alloc);
-    file.extend_from_slice(b"~@??")?;
-    file.resize(1_397_764, b'?')?;
+    file.extend_from_slice(b"~C??")?;
+    file.resize(22_368_260, b'?')?;
     file.push(b'\n')?;
     let shown = run_over(alloc, "edges g6 g", &file, b"", 0, 0, 0)?;
-    assert_eq!(rt; shown.as_str(), "0|p edge 4096 0\n|");
+    assert_eq!(rt; shown.as_str(), "0|p edge 16384 0\n|");
     Ok(())
 }

@@ -1,6 +1,6 @@
 use Rattle.std.proofs.Common.{sym, ◌∙◌, arith}
 use Rattle.md_graph.proofs.SetLemmas.{clash}
-use Rattle.md_checker.proofs.Judging.{rejected, came, stuck_line, stuck_rest, stuck_empty, some_left}
+use Rattle.md_checker.proofs.Judging.{rejected, came, stuck_line, stuck_rest, stuck_empty, some_left, accepted}
 use Rattle.md_checker.proofs.check.judge.Goals as goal
 
 pub returns-in_default : goal.returns-in_default
@@ -29,3 +29,8 @@ returns-then-not-complete c =
     rejected c.args.checker c.loop-rest.checker c.args.report.now c.loop-rest.rest.now c.loop-rest.line c.requires c.loop-rest.invariant.come
     (stuck_empty c.loop-rest.checker c.loop-rest.rest.now (sym c.is_empty.ensures ∙ c.loop-rest-test.false))
     (λ is_end none. clash (c.complete.ensures.1 is_end) c.if-not-complete.true)
+
+pub returns : goal.returns
+returns c =
+    accepted c.args.checker c.loop-rest.checker c.args.report.now c.loop-rest.rest.now c.loop-rest.line c.loop-rest.invariant.come
+    (c.complete.ensures.0 c.if-not-complete.false) (sym c.is_empty.ensures ∙ c.loop-rest-test.false)

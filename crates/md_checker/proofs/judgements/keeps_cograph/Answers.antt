@@ -1,4 +1,4 @@
-use Rattle.std.proofs.Common.{◌*◌, sym, subst, rules}
+use Rattle.std.proofs.Common.{sym, subst, rules}
 use Rattle.md_report.specs.Made.{HasChange}
 use Rattle.md_report.proofs.MadePaths.{shown}
 use Rattle.md_checker.proofs.Applying.{path_made, none_made}

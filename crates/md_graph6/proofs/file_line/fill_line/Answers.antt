@@ -1,8 +1,7 @@
-use Rattle.std.proofs.Common.{rules, ◌≡◌, None, get_or, length, drop, arith, subst, sym, ◌∙◌, ◌*◌}
+use Rattle.std.proofs.Common.{rules, ◌≡◌, None, get_or, drop, arith, sym, ◌∙◌}
 use Rattle.std.proofs.lemmas.Grind.{common_steps}
 use Rattle.std.proofs.lemmas.List.{take_rest}
 use Rattle.md_graph.specs.declared.TheConstants.{NAMES}
-use Rattle.md_graph.specs.NameSet.{AllBelow}
 use Rattle.md_graph6.specs.Line.{graph6_fault}
 use Rattle.md_graph6.specs.SparseLine.{sparse_fault}
 use Rattle.md_graph6.proofs.FileLineLemmas.{line_fault-dense, line_fault-sparse, graph-dense, graph-sparse}

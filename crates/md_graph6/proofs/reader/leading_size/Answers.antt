@@ -1,6 +1,5 @@
-use Rattle.std.proofs.Common.{◌≡◌, ℕ, subst, sym}
+use Rattle.std.proofs.Common.{◌≡◌, subst, sym}
 use Rattle.md_graph6.specs.First.{BeginsWithSize, IsFirstBound}
-use Rattle.md_graph6.specs.FileLine.{from_size}
 use Rattle.md_graph6.specs.File.{graphs_in}
 use Rattle.md_graph6.proofs.FirstLemmas.{first_leads}
 use Rattle.md_graph6.proofs.reader.leading_size.Goals as goal

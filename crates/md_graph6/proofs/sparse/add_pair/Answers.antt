@@ -1,5 +1,5 @@
-use Rattle.std.proofs.Common.{◌≡◌, ◌<◌, arith}
-use Rattle.md_graph6.proofs.WalkLemmas.{pair_left_out, pair_past, pair_repeated, pair_added}
+use Rattle.std.proofs.Common.{◌<◌, arith}
+use Rattle.md_graph6.proofs.WalkLemmas.{pair_added}
 use Rattle.md_graph6.proofs.sparse.add_pair.Goals as goal
 
 pub returns : goal.returns

@@ -1,11 +1,11 @@
-use Rattle.std.proofs.Common.{◌≡◌, ◌+◌, ◌*◌, true, false, nat_le, length, sym, ◌∙◌, arith}
-use Rattle.md_graph6.specs.Pairs.{HasPairs}
+use Rattle.std.proofs.Common.{◌≡◌, ◌+◌, ◌*◌, true, false, nat_le, length}
+use Rattle.md_graph6.specs.Pairs.{HasPairEdges}
 use Rattle.md_graph6.proofs.WalkLemmas.{at_first, at_next, pairs_more, pairs_all}
 use Rattle.md_graph6.proofs.sparse.add_pairs.Goals as goal
 
 pub loop-place-init : goal.loop-place-init
 loop-place-init g c =
-    let before : HasPairs c.args.body.now c.width-digits.result c.args.n 0 c.args.graph.now = rw c.width-digits.ensures.value c.requires.before in
+    let before : HasPairEdges c.args.body.now c.width-digits.result c.args.n 0 c.args.graph.now = rw c.width-digits.ensures.value c.requires.before in
     (0, at_first _ _ _ _ _ _ c.first_place-place.ensures.at c.first_place-place.ensures.shift c.first_place-place.ensures.reached, before)
 
 pub loop-place-preserved : goal.loop-place-preserved

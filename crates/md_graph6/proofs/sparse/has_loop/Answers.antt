@@ -1,6 +1,5 @@
-use Rattle.std.proofs.Common.{◌≡◌, ◌+◌, ◌*◌, ◌==◌, ◌&&◌, true, false, nat_lt, nat_le, length, sym, ◌∙◌, arith}
-use Rattle.std.proofs.lemmas.Bool.Decides.{nat_tests}
-use Rattle.md_graph6.proofs.WalkLemmas.{at_first, at_next, walk_shorter, no_loop_yet, no_loop_more, loop_found, loop_absent, loop_small}
+use Rattle.std.proofs.Common.{◌≡◌, ◌+◌, ◌*◌, ◌==◌, ◌&&◌, true, false, nat_lt, nat_le, length, sym, arith}
+use Rattle.md_graph6.proofs.WalkLemmas.{at_first, at_next, no_loop_yet, no_loop_more, loop_found, loop_absent, loop_small}
 use Rattle.md_graph6.proofs.sparse.has_loop.Goals as goal
 
 pub returns-then-n-lt2 : goal.returns-then-n-lt2

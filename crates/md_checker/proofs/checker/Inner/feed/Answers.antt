@@ -11,7 +11,12 @@ returns-in-OverGraphs-clause-may c =
     subst (λ (z : Inner). IfOk c.feed.result (λ taken. IsTrue taken ↔ MayCome (report_place z) (plain_line c.args.line.now)))
     (sym c.in-OverGraphs.is) c.feed.ensures.may
 
-pub returns-in-OverSession-clause-may : goal.returns-in-OverSession-clause-may
-returns-in-OverSession-clause-may c =
-    subst (λ (z : Inner). IfOk c.feed-in-OverSession.result (λ taken. IsTrue taken ↔ MayCome (report_place z) (plain_line c.args.line.now)))
-    (sym c.in-OverSession.is) c.feed-in-OverSession.ensures.may
+pub returns-in-OverBroad-clause-may : goal.returns-in-OverBroad-clause-may
+returns-in-OverBroad-clause-may c =
+    subst (λ (z : Inner). IfOk c.feed-in-OverBroad.result (λ taken. IsTrue taken ↔ MayCome (report_place z) (plain_line c.args.line.now)))
+    (sym c.in-OverBroad.is) c.feed-in-OverBroad.ensures.may
+
+pub returns-in-OverLarge-clause-may : goal.returns-in-OverLarge-clause-may
+returns-in-OverLarge-clause-may c =
+    subst (λ (z : Inner). IfOk c.feed-in-OverLarge.result (λ taken. IsTrue taken ↔ MayCome (report_place z) (plain_line c.args.line.now)))
+    (sym c.in-OverLarge.is) c.feed-in-OverLarge.ensures.may

@@ -6,5 +6,8 @@ returns-in-Small c = let same = rw c.in-Small.is at c.graph.ensures in rw (← s
 pub returns-in-Medium : goal.returns-in-Medium
 returns-in-Medium c = let same = rw c.in-Medium.is at c.graph.ensures in rw (← same) c.reports-in-Medium.ensures
 
+pub returns-in-Broad : goal.returns-in-Broad
+returns-in-Broad c = let same = rw c.in-Broad.is at c.graph.ensures in rw (← same) c.reports-in-Broad.ensures
+
 pub returns-in-Large : goal.returns-in-Large
 returns-in-Large c = let same = rw c.in-Large.is at c.graph.ensures in rw (← same) c.reports-in-Large.ensures

@@ -1,6 +1,6 @@
 use Rattle.std.proofs.Common.{◌∙◌, ◌-◌, ◌*◌, arith}
 use Rattle.md_graph6.proofs.NumberLemmas.{number_within}
-use Rattle.md_graph6.proofs.sparse.number_at.Goals as goal
+use Rattle.md_graph6.proofs.sparse.spelt_number.Goals as goal
 
 pub returns : goal.returns
 returns c =
