@@ -59,7 +59,7 @@ pub fn decompose_within<const W: usize>(
     names: &Set<W>,
 ) -> Result<Option<Tree>, Memory>
     requires { Within names.now graph.now.vertices }
-    ensures { IfOk result (λ tree.
+    ensures tree { IfOk result (λ tree.
         IsTree (adjacent graph.now) names.now (plain_option tree)) }
 {
     let Some(_) = names.first_from(0) else {

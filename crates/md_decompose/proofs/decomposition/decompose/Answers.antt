@@ -12,10 +12,10 @@ returns-clause-well_formed g c =
     let graph = c.vertices.ensures.graph in
     if_ok c.decompose_within.result
     (λ tree is. well_formed_proof (adjacent c.args.graph.now) (graph_adjacency graph) c.args.graph.now.vertices (plain_option tree)
-    (subst (λ s. IsTree (adjacent c.args.graph.now) s (plain_option tree)) c.vertices.ensures.set is) graph.names) c.decompose_within.ensures
+    (subst (λ s. IsTree (adjacent c.args.graph.now) s (plain_option tree)) c.vertices.ensures.set is) graph.names) c.decompose_within.ensures.tree
 
 pub returns-clause-denotes : goal.returns-clause-denotes
 returns-clause-denotes g c =
     if_ok c.decompose_within.result
     (λ tree is. graph_proof c.args.graph.now c.vertices.ensures.graph (plain_option tree)
-    (subst (λ s. IsTree (adjacent c.args.graph.now) s (plain_option tree)) c.vertices.ensures.set is)) c.decompose_within.ensures
+    (subst (λ s. IsTree (adjacent c.args.graph.now) s (plain_option tree)) c.vertices.ensures.set is)) c.decompose_within.ensures.tree
