@@ -1,17 +1,16 @@
 -- The strong modules after a change inside a strong module.
-use Rattle.std.proofs.Common.{◌≡◌, ◌≢◌, ◌↔◌, ◌⊎◌, ℕ, true, false, refl, sym, ◌∙◌, ap, subst, inl, inr}
+use Rattle.std.proofs.Common.{◌≡◌, ◌≢◌, ◌↔◌, ◌⊎◌, ℕ, sym, ◌∙◌, subst, inl, inr}
 use Rattle.std.proofs.lemmas.Bool.{cases_Bool, false_from_ne_true}
 use Rattle.std.specs.FinSet.{contains, union, intersection, difference}
 use Rattle.md_graph.specs.Sets.{NameSet, Has, Lacks, Within, Disjoint, HasSome, Proper}
-use Rattle.md_graph.proofs.SetLemmas.{clash, Within-refl, lacks_within, Has-along, same_members, union_left, union_right, of_union, union_lacks, meet_has, of_meet, of_meet_lacks, minus_has, of_minus, of_minus_lacks, minus_lacks}
-use Rattle.md_graph.proofs.Search.{Decided, decide_like, decide_some, decide_same, outside_or_within, meet_or_disjoint, larger_or_same}
+use Rattle.md_graph.proofs.SetLemmas.{clash, lacks_within, Has-along, same_members, union_left, union_right, of_union, union_lacks, meet_has, of_meet, of_meet_lacks, minus_has, of_minus, of_minus_lacks, minus_lacks}
+use Rattle.md_graph.proofs.Search.{Decided, decide_some, decide_same, outside_or_within, meet_or_disjoint, larger_or_same}
 use Rattle.md_modules.specs.Colours.{IsColouring, AreTold}
 use Rattle.md_modules.specs.Modules.{IsModule, Overlap, IsStrong, IsMaximalStrong, IsParent}
 use Rattle.md_modules.specs.Kinds.{IsSplit, IsUnsplit}
 use Rattle.md_modules.specs.Segments.{IsLeastSegment}
-use Rattle.md_modules.specs.Laws.{SplitChildren}
 use Rattle.md_modules.proofs.Modules.{other_way, decide_overlap, module_inside, module_of_module, join_module, meet_module, minus_module}
-use Rattle.md_modules.proofs.Strong.{apart_or_nested, nested_if_meet, whole_strong, strong_inside, strong_of_strong, strong_nested, in_child, parent_of}
+use Rattle.md_modules.proofs.Strong.{apart_or_nested, nested_if_meet, strong_inside, strong_of_strong, in_child, parent_of}
 use Rattle.md_modules.proofs.Splits.{decide_split, split_closed, split_rest, split_reverses, unsplit_within, child_segment, split_children}
 use Rattle.md_modules.proofs.Children.{child_maximal}
 use Rattle.md_local.specs.Changes.{AgreeOff, AgreeBut, IsLeastStrong, IsMerged, IsLocalChange, ChangesStayLocal, EdgeEditsStayLocal}

@@ -1,4 +1,6 @@
 //! The trees of parts of small graphs, and copies of them and of a deep tree.
+ghost use Rattle.std.specs.Prelude.{◌≡◌, ◌<◌};
+
 use super::*;
 use md_graph::{GraphOf, Memory, Set, Steps};
 use md_tree::{Tree, read_tree, text};
