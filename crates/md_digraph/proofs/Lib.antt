@@ -1,0 +1,4 @@
+pub mod DirectedLimits
+pub mod DigraphLemmas
+mod ArcRowLemmas
+mod ArcLaws

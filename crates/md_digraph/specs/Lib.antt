@@ -1,0 +1,4 @@
+pub mod PlainDigraph
+pub mod ArcRows
+pub mod Arcs
+pub mod Laws
