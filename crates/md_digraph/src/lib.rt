@@ -2,9 +2,14 @@
 //! the components of both kinds.
 #![tactic(auto)]
 
+mod closure_search;
+mod components;
 mod digraph;
 pub mod laws;
+mod shared;
 
+pub use closure_search::{directed_closure, directed_closure_in, directed_grow};
+pub use components::{parallel_component, series_component};
 pub use digraph::{Digraph, DigraphOf};
 
 /// How many names directed graphs have: a vertex is a number below it.
