@@ -1,10 +1,8 @@
 -- The laws of modules of directed graphs.
-use Rattle.std.specs.Prelude.{◌≡◌, ◌↔◌, ◌⊎◌, ℕ, Bool, true, false}
+use Rattle.std.specs.Prelude.{◌≡◌, ◌⊎◌, ℕ, Bool, true, false}
 use Rattle.std.proofs.Common.{ap, sym, ◌∙◌, inl, inr}
 use Rattle.std.proofs.lemmas.Bool.{cases_Bool}
-use Rattle.md_graph.specs.Sets.{NameSet, Has, Lacks, Within, HasSome}
-use Rattle.md_modules.specs.Modules.{IsModule}
-use Rattle.md_digraph.specs.Arcs.{between}
+use Rattle.md_graph.specs.Sets.{NameSet, Has}
 use Rattle.md_digraph.specs.Laws.{SeesAlike, DirectedModulesAreSeenAlike}
 
 all_or_none : (m : NameSet) (p : ℕ → Bool) (b : ℕ) → Has m b → ((a : ℕ) → Has m a → p a ≡ p b) → ((a : ℕ) → Has m a → p a ≡ true) ⊎ ((a : ℕ) → Has m a → p a ≡ false)

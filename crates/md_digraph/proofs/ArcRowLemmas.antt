@@ -1,8 +1,7 @@
 -- What writes to the rows of a directed graph make of it, one lemma for each method of `Digraph`.
-use Rattle.std.specs.Prelude.{◌≡◌, ℕ, ◌+◌, ◌*◌, ◌<◌, ◌≤◌, ◌≢◌, Bool, true, false, cond, ◌&&◌, ◌||◌, ◌==◌, List, [], length, get_or, refl}
+use Rattle.std.specs.Prelude.{◌≡◌, ℕ, ◌<◌, ◌≤◌, ◌≢◌, Bool, false, cond, ◌&&◌, ◌||◌, ◌==◌, List, [], length, get_or, refl}
 use Rattle.std.proofs.Common.{subst, ap, sym, ◌∙◌, arith, inl, inr, set}
 use Rattle.std.proofs.lemmas.Bool.{true≢false, cases_Bool, cases_eq, eq-eqb, ne_eqb, false_from_ne_true}
-use Rattle.std.proofs.lemmas.Bool.Decides.{nat_tests}
 use Rattle.std.proofs.lemmas.List.{get_or_read, length-set}
 use Rattle.std.specs.List.{refill}
 use Rattle.std.specs.FinSet as set
@@ -74,29 +73,29 @@ module _ {limit : ℕ} {live : NameSet} {out into : List NameSet} {g : PlainDigr
       (λ x y. set_row out u v x y new_u old_u inside_u is_u (out_read u name_u old_u read_u) ∙ ap (λ t. ((x == u) && (y == v)) || t) (arc_is x y) ∙ sym (has_arc-with_arc g u v x y))
       (λ x y. set_row into v u y x new_v old_v inside_v is_v (into_read v name_v old_v read_v) ∙ turned (y == v) (x == u) _ ∙ ap (λ t. ((x == u) && (y == v)) || t) (arc_back_is x y) ∙ sym (has_arc-with_arc g u v x y))
     where
-    name_u : u < limit
-    name_u = still_below u mu
+      name_u : u < limit
+      name_u = still_below u mu
 
-    name_v : v < limit
-    name_v = still_below v mv
+      name_v : v < limit
+      name_v = still_below v mv
 
-    inside_u : u < length out
-    inside_u = let n = a.out_each in let name = name_u in omega arith
+      inside_u : u < length out
+      inside_u = let n = a.out_each in let name = name_u in omega arith
 
-    inside_v : v < length into
-    inside_v = let n = a.into_each in let name = name_v in omega arith
+      inside_v : v < length into
+      inside_v = let n = a.into_each in let name = name_v in omega arith
 
-    turned : (p q r : Bool) → ((p && q) || r) ≡ ((q && p) || r)
-    turned p q r = grind arith
+      turned : (p q r : Bool) → ((p && q) || r) ≡ ((q && p) || r)
+      turned p q r = grind arith
 
-    -- a row that takes in one name
-    set_row : (rows : List NameSet) (at k x y : ℕ) (new old : NameSet) → at < length rows → new ≡ set.insert old k → old ≡ row_of rows at → set.contains (row_of (set rows at new) x) y ≡ (((x == at) && (y == k)) || set.contains (row_of rows x) y)
-    set_row rows at k x y new old inside is row =
-        contains-set_row rows at new x y inside
-        ∙ elim (cases_eq x at) [
-          | inl same ↦ rw (same, eq-eqb at at refl) (ap (λ s. set.contains s y) is ∙ contains-insert old k y ∙ ap (λ s. (y == k) || set.contains s y) row)
-          | inr other ↦ rw (ne_eqb x at other) refl
-        ]
+      -- a row that takes in one name
+      set_row : (rows : List NameSet) (at k x y : ℕ) (new old : NameSet) → at < length rows → new ≡ set.insert old k → old ≡ row_of rows at → set.contains (row_of (set rows at new) x) y ≡ (((x == at) && (y == k)) || set.contains (row_of rows x) y)
+      set_row rows at k x y new old inside is row =
+          contains-set_row rows at new x y inside
+          ∙ elim (cases_eq x at) [
+            | inl same ↦ rw (same, eq-eqb at at refl) (ap (λ s. set.contains s y) is ∙ contains-insert old k y ∙ ap (λ s. (y == k) || set.contains s y) row)
+            | inr other ↦ rw (ne_eqb x at other) refl
+          ]
 
   -- a name that is no vertex has empty rows
   out_dead : (u : ℕ) → set.contains live u ≡ false → row_of out u ≡ set.empty
@@ -123,8 +122,7 @@ no_rows_yet none no_out no_into n zero =
 cleared_row : (live : NameSet) (rows : List NameSet) (n : ℕ) (old ws : List NameSet) → n ≡ length rows → old ≡ rows → length ws ≡ length old → ((u : ℕ) → row_of ws u ≡ cond (set.contains live u) set.empty (row_of old u)) → ((u : ℕ) → set.contains live u ≡ false → row_of rows u ≡ set.empty) → (length (refill n rows ws) ≡ length rows) × ((u : ℕ) → row_of (refill n rows ws) u ≡ set.empty)
 cleared_row live rows n old ws len same kept cleared dead =
     let same_len = ap length same in
-    let whole = refilled n rows ws (omega arith) in
-    (
+    let whole = refilled n rows ws (omega arith) in (
       ap length whole ∙ kept ∙ same_len,
       λ u. ap (λ r. row_of r u) whole ∙ cleared u ∙ elim (cases_Bool (set.contains live u)) [
         | inl t ↦ rw t refl

@@ -1,8 +1,8 @@
 -- What the functions that search answer, from what they call: arcs by rows, and the turns of a search.
 use Rattle.std.proofs.Common.{◌≡◌, ◌↔◌, ℕ, ◌+◌, ◌<◌, ◌≤◌, Bool, true, false, not, ◌&&◌, ◌||◌, ◌≢◌, refl, sym, ◌∙◌, ap, ap₂, subst, ◌⊎◌, inl, inr, Option, Some, None, IfSome, IfNone, arith}
 use Rattle.std.specs.Option.{is_some}
-use Rattle.std.specs.FinSet.{contains, empty, insert, remove, union, intersection, difference, len}
-use Rattle.std.proofs.lemmas.Bool.{true≢false, cases_Bool, true_from_ne_false, false_from_ne_true, not-true, not-false}
+use Rattle.std.specs.FinSet.{contains, insert, union, intersection, difference}
+use Rattle.std.proofs.lemmas.Bool.{true≢false, true_from_ne_false}
 use Rattle.md_graph.specs.Sets.{NameSet, Has, Lacks, Disjoint, only_name}
 use Rattle.md_graph.specs.NameSet.{NoneFrom, IsLeastFrom, symmetric_difference}
 use Rattle.md_graph.proofs.SetLaws.{contains-union, contains-intersection, contains-difference, same_set}
@@ -107,14 +107,14 @@ module _ {g : PlainDigraph} (digraph : IsDigraph g) where
       contains-intersection among _ y ∙ ap (λ b. contains among y && b) (contains-union (successors g w) (predecessors g w) y ∙ ap₂ ◌||◌ (contains-successors digraph w y) (contains-predecessors digraph w y))
       ∙ plain (contains among y) (has_arc g w y) (has_arc g y w)
     where
-    plain : (a p q : Bool) → (a && (p || q)) ≡ (a && (((p && not false) || (false && not p)) || ((q && not false) || (false && not q))))
-    plain a p q = grind arith
+      plain : (a p q : Bool) → (a && (p || q)) ≡ (a && (((p && not false) || (false && not p)) || ((q && not false) || (false && not q))))
+      plain a p q = grind arith
   contains-others w true among y =
       contains-difference among _ y ∙ ap (λ b. contains among y && not b) (contains-intersection (successors g w) (predecessors g w) y ∙ ap₂ ◌&&◌ (contains-successors digraph w y) (contains-predecessors digraph w y))
       ∙ turned (contains among y) (has_arc g w y) (has_arc g y w)
     where
-    turned : (a p q : Bool) → (a && not (p && q)) ≡ (a && (((p && not true) || (true && not p)) || ((q && not true) || (true && not q))))
-    turned a p q = grind arith
+      turned : (a p q : Bool) → (a && not (p && q)) ≡ (a && (((p && not true) || (true && not p)) || ((q && not true) || (true && not q))))
+      turned a p q = grind arith
 
   pub others_all : (w : ℕ) (b : Bool) (among : NameSet) → TakesUnless (λ y. between (has_arc g) w y ≡ (b, b)) among (with_other_arcs g w b among)
   others_all w b among = (

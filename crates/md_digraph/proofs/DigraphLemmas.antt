@@ -1,5 +1,5 @@
 -- Facts of directed graphs that callers may cite.
-use Rattle.std.specs.Prelude.{◌≡◌, ℕ, zero, suc, ◌+◌, ◌<◌, ◌≤◌, ◌≢◌, Bool, true, false, not, ◌&&◌, ◌||◌, ◌==◌, ◌⊎◌, nat_lt, List, length, refl}
+use Rattle.std.specs.Prelude.{◌≡◌, ℕ, zero, suc, ◌<◌, ◌≤◌, ◌≢◌, Bool, true, false, ◌&&◌, ◌||◌, ◌==◌, ◌⊎◌, nat_lt, List, length, refl}
 use Rattle.std.proofs.Common.{ap, sym, ◌∙◌, arith, inl, inr}
 use Rattle.std.proofs.lemmas.Bool.{true≢false, cases_Bool, and_parts, or_cases, eqb-true, false_from_ne_true}
 use Rattle.std.proofs.lemmas.Bool.Decides.{nat_tests}
@@ -7,7 +7,7 @@ use Rattle.std.specs.FinSet as set
 use Rattle.md_graph.specs.Sets.{NameSet, Has}
 use Rattle.md_graph.specs.NameSet.{AllBelow}
 use Rattle.md_graph.specs.Rows.{row_of}
-use Rattle.md_graph.proofs.SetLaws.{contains-empty, contains-insert, contains-retain, same_set}
+use Rattle.md_graph.proofs.SetLaws.{contains-empty, contains-insert, contains-retain}
 use Rattle.md_graph.proofs.SetLemmas.{insert_old}
 use Rattle.md_graph.proofs.PairLaws.{pairs-empty, pairs-insert, same_pairs}
 use Rattle.md_graph.proofs.GraphLemmas.{contains-pairs_at}

@@ -7,6 +7,8 @@ mod components;
 mod digraph;
 pub mod laws;
 mod shared;
+#[cfg(test)]
+mod tests;
 
 pub use closure_search::{directed_closure, directed_closure_in, directed_grow};
 pub use components::{parallel_component, series_component};

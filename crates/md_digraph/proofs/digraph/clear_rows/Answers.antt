@@ -1,4 +1,4 @@
-use Rattle.std.proofs.Common.{rules, ◌<◌, length, arith, ◌∙◌, ap, sym, refl}
+use Rattle.std.proofs.Common.{arith, ◌∙◌, ap, sym, refl}
 use Rattle.std.specs.FinSet as set
 use Rattle.md_graph.proofs.EachRow.{Lists-ascending, Lists-head, Lists-rest, each_start, each_step, each_end}
 use Rattle.md_digraph.proofs.digraph.clear_rows.Goals as goal

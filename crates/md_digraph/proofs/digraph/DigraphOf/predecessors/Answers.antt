@@ -1,4 +1,3 @@
-use Rattle.std.proofs.Common.{arith}
 use Rattle.md_digraph.proofs.ArcRowLemmas.{still_below, predecessors_are, digraph_is}
 use Rattle.md_digraph.proofs.digraph.DigraphOf.predecessors.Goals as goal
 

@@ -1,4 +1,3 @@
-use Rattle.std.proofs.Common.{arith}
 use Rattle.md_digraph.proofs.ArcRowLemmas.{still_below, successors_are, digraph_is}
 use Rattle.md_digraph.proofs.digraph.DigraphOf.successors.Goals as goal
 
