@@ -5,3 +5,5 @@ pub mod File
 pub mod Read
 pub mod Laws
 pub mod Pasts
+pub mod Histories
+pub mod Items

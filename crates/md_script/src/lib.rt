@@ -8,6 +8,9 @@
 mod changes;
 mod edit;
 mod fault;
+mod groups;
+mod history;
+mod item;
 pub mod laws;
 mod line;
 mod neighbours;
@@ -21,11 +24,14 @@ mod undo;
 pub use changes::{apply, reason};
 pub use edit::{Edit, EditReason};
 pub use fault::{ScriptFault, ScriptKind};
+pub use groups::{apply_all, back_through, take_item_back};
+pub use history::{History, HistoryOf};
+pub use item::{Edits, Item};
 pub use neighbours::Neighbours;
 pub use past::{Past, PastOf};
 pub use reader::read_script;
 pub use script::Script;
-pub use undo::{inverse, take_back};
+pub use undo::{again, inverse, take_back};
 
 /// How many edits a script may have.
 pub const EDITS: u64 = 200_000;

@@ -209,3 +209,30 @@ fn neighbours(rt: HostRuntime) -> Result<(), Fail> {
     assert_eq!(rt; some.as_slice(), [3, 64, 16383].as_slice());
     Ok(())
 }
+
+// The graph with these edges, and its edits taken back as one item.
+#[test]
+fn histories(rt: HostRuntime) -> Result<(), Fail> {
+    let alloc = rt.alloc();
+    let mut graph = GraphOf::<1>::from_edges(alloc, 3, &[(0, 1)])?.expect(&rt, "edges");
+    let mut history = HistoryOf::<1>::new(alloc)?;
+    history.reserve(alloc, 3)?;
+    assert!(rt; history.spare() >= 3 && history.items() == 0);
+    let edit = Edit::DelVertex { x: 1 };
+    assert!(rt; reason(&graph, &edit).is_none());
+    let past = inverse(&graph, &edit);
+    apply(&mut graph, &edit);
+    history.open_item();
+    history.push(past);
+    assert!(rt; history.items() == 1 && history.last_len() == 1);
+    let mut redo = HistoryOf::<1>::new(alloc)?;
+    redo.reserve(alloc, 2)?;
+    redo.open_item();
+    back_through(&mut graph, &history, &mut redo);
+    assert!(rt; graph.has_edge(0, 1) && history.items() == 1);
+    take_item_back(&mut graph, &mut redo);
+    assert!(rt; graph.count() == 2 && redo.items() == 0);
+    take_item_back(&mut graph, &mut history);
+    assert!(rt; graph.has_edge(0, 1) && history.items() == 0);
+    Ok(())
+}

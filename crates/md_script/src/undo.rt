@@ -29,6 +29,27 @@ pub fn inverse<const W: usize>(graph: &GraphOf<W>, edit: &Edit) -> PastOf<W>
     }
 }
 
+/// The edit that gives the graph again once the edit by which an earlier one is taken back is
+/// applied. It takes no memory. Conditions: no reason speaks against that edit, and its names are
+/// below `64 * W`.
+pub fn again<const W: usize>(graph: &GraphOf<W>, past: &PastOf<W>) -> PastOf<W>
+    requires applies { reason_of graph.now (as_edit past.now) ≡ None }
+    requires names { HasNamesBelow (64 * W) (as_edit past.now) }
+    ensures inverse { as_edit result ≡ inverse_of graph.now (as_edit past.now) }
+    ensures back { TakesBack (64 * W) graph.now (as_edit past.now) (as_edit result) }
+{
+    let _vertices = graph.vertices();
+    match past {
+        PastOf::AddEdge { u, v } => PastOf::DelEdge { u: *u, v: *v },
+        PastOf::DelEdge { u, v } => PastOf::AddEdge { u: *u, v: *v },
+        PastOf::AddVertex { x, .. } => PastOf::DelVertex { x: *x },
+        PastOf::DelVertex { x } => PastOf::AddVertex {
+            x: *x,
+            neighbours: graph.row(*x).copy(),
+        },
+    }
+}
+
 /// Applies the edit that an earlier one is taken back by. It takes no memory. Conditions: no
 /// reason speaks against it, and its names are below `64 * W`.
 pub fn take_back<const W: usize>(graph: &mut GraphOf<W>, past: &PastOf<W>)

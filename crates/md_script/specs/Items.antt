@@ -1,0 +1,25 @@
+-- The items of scripts: an edit, an undo, or a group of edits.
+-- Source: the format of scripts is this project's.
+use Rattle.std.specs.Prelude.{ℕ, ◌+◌, ◌≤◌, length, ⊤}
+use Rattle.std.specs.List.{All}
+use Rattle.md_script.specs.declared.TheConstants.{EDITS}
+use Rattle.md_script.specs.declared.item.Item.{Item}
+use Rattle.md_script.specs.declared.item.Item.TheVariants.{One, Undo, Group}
+use Rattle.md_script.specs.Edit.{HasNamesBelow}
+
+-- the names in an item are below a limit
+abbrev pub HasItemNamesBelow : ℕ → Item → Type 0
+HasItemNamesBelow limit (One edit) = HasNamesBelow limit edit
+HasItemNamesBelow limit Undo = ⊤
+HasItemNamesBelow limit (Group edits) = All (HasNamesBelow limit) edits
+
+-- the lines of an item that count: those of its edits, and the first line of a group
+abbrev pub size_of : Item → ℕ
+size_of (One edit) = 1
+size_of Undo = 1
+size_of (Group edits) = length edits + 1
+
+-- what holds of each item of a script: its names are below a limit, and it isn't too large
+pub record IsItem (limit : ℕ) (item : Item) : Type 0 where
+  pub names : HasItemNamesBelow limit item
+  pub small : size_of item ≤ EDITS
