@@ -37,7 +37,7 @@ pub record AreArcRows (limit : ℕ) (live : NameSet) (out into : List NameSet) :
 
 -- What holds of the room for the rows of a directed graph on names of `words` words, of which `size`
 -- of each family are made: `out_room` and `into_room` rows fit without new memory.
-pub record HasArcRoom (words size out_room into_room : ℕ) : Type 0 where
+pub record HasRoomForArcs (words size out_room into_room : ℕ) : Type 0 where
   pub made : size ≤ 64 * words
   pub few : words ≤ DIRECTED_WORDS
   pub out_fits : 64 * words ≤ out_room
