@@ -67,7 +67,8 @@ pub fn directed_grow<const W: usize>(
     requires seen { (w : ℕ) → Has into.old w → Lacks todo w
         → (y : ℕ) → Has within.now y → Lacks into.old y
         → between (has_arc_to graph.now) v y ≡ between (has_arc_to graph.now) w y }
-    ensures least { IsLeastModuleOver (between (has_arc_to graph.now)) within.now into.old into.new }
+    ensures least { IsLeastModuleOver (between (has_arc_to graph.now)) within.now into.old
+        into.new }
 {
     not_grown(graph, within, v, into, todo);
     into.symmetric_difference_with(within);

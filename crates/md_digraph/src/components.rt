@@ -43,7 +43,8 @@ pub fn series_component<const W: usize>(
 )
     requires inside { Within within.now graph.now.vertices }
     requires member { Has within.now x }
-    ensures component { IsComponent (between (has_arc_to graph.now)) within.now x into.new both_arcs }
+    ensures component { IsComponent (between (has_arc_to graph.now)) within.now x into.new
+        both_arcs }
 {
     rest_of_component(graph, within, x, true, into);
     into.symmetric_difference_with(within);
