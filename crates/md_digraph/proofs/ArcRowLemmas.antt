@@ -12,9 +12,9 @@ use Rattle.md_graph.proofs.RowLemmas.{contains-set_row, refilled}
 use Rattle.md_graph.proofs.SetLemmas.{of_insert}
 use Rattle.md_graph.proofs.SetLaws.{contains-empty, contains-insert, same_set}
 use Rattle.md_digraph.specs.declared.TheConstants.{DIRECTED_NAMES}
-use Rattle.md_digraph.specs.PlainDigraph.{PlainDigraph, has_arc, successors, predecessors, IsDigraph, empty_digraph, digraph_with_vertex, with_arc}
+use Rattle.md_digraph.specs.PlainDigraph.{PlainDigraph, has_arc_to, successors, predecessors, IsDigraph, empty_digraph, digraph_with_vertex, with_arc}
 use Rattle.md_digraph.specs.ArcRows.{digraph_of, AreArcRows}
-use Rattle.md_digraph.proofs.DigraphLemmas.{contains-successors, contains-predecessors, has_arc-digraph_of, IsDigraph-digraph_of, rows_of_digraph, has_arc-empty_digraph, IsDigraph-empty_digraph, has_arc-with_vertex, IsDigraph-with_vertex, has_arc-with_arc, IsDigraph-with_arc}
+use Rattle.md_digraph.proofs.DigraphLemmas.{contains-successors, contains-predecessors, has_arc_to-digraph_of, IsDigraph-digraph_of, rows_of_digraph, has_arc_to-empty_digraph, IsDigraph-empty_digraph, has_arc_to-with_vertex, IsDigraph-with_vertex, has_arc_to-with_arc, IsDigraph-with_arc}
 
 module _ {limit : ℕ} {live : NameSet} {out into : List NameSet} {g : PlainDigraph} (a : AreArcRows limit live out into) (e : digraph_of live out ≡ g) where
   pub digraph_is : IsDigraph g
@@ -23,10 +23,10 @@ module _ {limit : ℕ} {live : NameSet} {out into : List NameSet} {g : PlainDigr
   pub still_below : AllBelow g.vertices limit
   still_below v m = a.names v (ap (λ h. set.contains h.vertices v) e ∙ m)
 
-  arc_is : (u v : ℕ) → set.contains (row_of out u) v ≡ has_arc g u v
-  arc_is u v = sym (has_arc-digraph_of a u v) ∙ ap (λ h. has_arc h u v) e
+  arc_is : (u v : ℕ) → set.contains (row_of out u) v ≡ has_arc_to g u v
+  arc_is u v = sym (has_arc_to-digraph_of a u v) ∙ ap (λ h. has_arc_to h u v) e
 
-  arc_back_is : (u v : ℕ) → set.contains (row_of into v) u ≡ has_arc g u v
+  arc_back_is : (u v : ℕ) → set.contains (row_of into v) u ≡ has_arc_to g u v
   arc_back_is u v = sym (a.both_ways u v) ∙ arc_is u v
 
   -- what `out[u]` and `into[v]` give
@@ -36,7 +36,7 @@ module _ {limit : ℕ} {live : NameSet} {out into : List NameSet} {g : PlainDigr
   into_read : (u : ℕ) → u < limit → (x : NameSet) → x ≡ get_or into u x → x ≡ row_of into u
   into_read u name x read = let inside : u < length into = omega (arith, a.into_each) in get_or_read into u x inside read set.empty
 
-  pub arc_bit : (u v : ℕ) → u < limit → (x : NameSet) → x ≡ get_or out u x → set.contains x v ≡ has_arc g u v
+  pub arc_bit : (u v : ℕ) → u < limit → (x : NameSet) → x ≡ get_or out u x → set.contains x v ≡ has_arc_to g u v
   arc_bit u v name x read = ap (λ s. set.contains s v) (out_read u name x read) ∙ arc_is u v
 
   pub successors_are : (u : ℕ) → u < limit → (x : NameSet) → x ≡ get_or out u x → x ≡ successors g u
@@ -47,7 +47,7 @@ module _ {limit : ℕ} {live : NameSet} {out into : List NameSet} {g : PlainDigr
       same_set _ _ (λ u. ap (λ s. set.contains s u) (into_read v name x read) ∙ arc_back_is u v ∙ sym (contains-predecessors digraph_is v u))
 
   -- no arc leaves a number that is no name
-  pub no_arc_from : (u v : ℕ) → limit ≤ u → has_arc g u v ≡ false
+  pub no_arc_from : (u v : ℕ) → limit ≤ u → has_arc_to g u v ≡ false
   no_arc_from u v past = false_from_ne_true _ (λ h. let name = still_below u (digraph_is.tail u v h) in omega arith)
 
   -- more rows, those behind the old ones without members
@@ -63,15 +63,15 @@ module _ {limit : ℕ} {live : NameSet} {out into : List NameSet} {g : PlainDigr
       rows_of_digraph (IsDigraph-with_vertex digraph_is v (let few = a.few in omega arith))
       (λ w m. elim (of_insert g.vertices v w m) [ inl same ↦ omega arith | inr old ↦ still_below w old ])
       a.few (is_new ∙ ap (λ h. set.insert h.vertices v) e) a.out_each a.into_each
-      (λ x y. arc_is x y ∙ sym (has_arc-with_vertex g v x y))
-      (λ x y. arc_back_is x y ∙ sym (has_arc-with_vertex g v x y))
+      (λ x y. arc_is x y ∙ sym (has_arc_to-with_vertex g v x y))
+      (λ x y. arc_back_is x y ∙ sym (has_arc_to-with_vertex g v x y))
 
   pub rows_add_arc : (u v : ℕ) → Has g.vertices u → Has g.vertices v → u ≢ v → {new_u old_u new_v old_v : NameSet} → new_u ≡ set.insert old_u v → old_u ≡ get_or out u old_u → new_v ≡ set.insert old_v u → old_v ≡ get_or into v old_v → AreArcRows limit live (set out u new_u) (set into v new_v) × (digraph_of live (set out u new_u) ≡ with_arc g u v)
   rows_add_arc u v mu mv differ {new_u} {old_u} {new_v} {old_v} is_u read_u is_v read_v =
       rows_of_digraph (IsDigraph-with_arc digraph_is u v mu mv differ) still_below a.few (ap (λ h. h.vertices) e)
       (length-set out u new_u ∙ a.out_each) (length-set into v new_v ∙ a.into_each)
-      (λ x y. set_row out u v x y new_u old_u inside_u is_u (out_read u name_u old_u read_u) ∙ ap (λ t. ((x == u) && (y == v)) || t) (arc_is x y) ∙ sym (has_arc-with_arc g u v x y))
-      (λ x y. set_row into v u y x new_v old_v inside_v is_v (into_read v name_v old_v read_v) ∙ turned (y == v) (x == u) _ ∙ ap (λ t. ((x == u) && (y == v)) || t) (arc_back_is x y) ∙ sym (has_arc-with_arc g u v x y))
+      (λ x y. set_row out u v x y new_u old_u inside_u is_u (out_read u name_u old_u read_u) ∙ ap (λ t. ((x == u) && (y == v)) || t) (arc_is x y) ∙ sym (has_arc_to-with_arc g u v x y))
+      (λ x y. set_row into v u y x new_v old_v inside_v is_v (into_read v name_v old_v read_v) ∙ turned (y == v) (x == u) _ ∙ ap (λ t. ((x == u) && (y == v)) || t) (arc_back_is x y) ∙ sym (has_arc_to-with_arc g u v x y))
     where
       name_u : u < limit
       name_u = still_below u mu
@@ -110,8 +110,8 @@ module _ {limit : ℕ} {live : NameSet} {out into : List NameSet} {g : PlainDigr
 pub rows_new : {limit : ℕ} {live : NameSet} {out into : List NameSet} → limit ≤ DIRECTED_NAMES → live ≡ set.empty → length out ≡ limit → length into ≡ limit → ((v : ℕ) → row_of out v ≡ set.empty) → ((v : ℕ) → row_of into v ≡ set.empty) → AreArcRows limit live out into × (digraph_of live out ≡ empty_digraph)
 rows_new few none n_out n_into no_out no_into =
     rows_of_digraph IsDigraph-empty_digraph (λ v m. absurd (true≢false (sym m ∙ contains-empty v))) few none n_out n_into
-    (λ u v. ap (λ s. set.contains s v) (no_out u) ∙ contains-empty v ∙ sym (has_arc-empty_digraph u v))
-    (λ u v. ap (λ s. set.contains s u) (no_into v) ∙ contains-empty u ∙ sym (has_arc-empty_digraph u v))
+    (λ u v. ap (λ s. set.contains s v) (no_out u) ∙ contains-empty v ∙ sym (has_arc_to-empty_digraph u v))
+    (λ u v. ap (λ s. set.contains s u) (no_into v) ∙ contains-empty u ∙ sym (has_arc_to-empty_digraph u v))
 
 -- no row is made yet
 pub no_rows_yet : {live : NameSet} {out into : List NameSet} → live ≡ set.empty → out ≡ [] → into ≡ [] → (n : ℕ) → n ≡ 0 → AreArcRows n live out into × (digraph_of live out ≡ empty_digraph)

@@ -1,17 +1,17 @@
 -- What the functions that search answer, from what they call: arcs by rows, and the turns of a search.
-use Rattle.std.proofs.Common.{◌≡◌, ◌↔◌, ℕ, ◌+◌, ◌<◌, ◌≤◌, Bool, true, false, not, ◌&&◌, ◌||◌, ◌≢◌, refl, sym, ◌∙◌, ap, ap₂, subst, ◌⊎◌, inl, inr, Option, Some, None, IfSome, IfNone, arith}
+use Rattle.std.proofs.Common.{◌≡◌, ◌↔◌, ℕ, ◌+◌, ◌<◌, ◌≤◌, Bool, true, false, not, ◌&&◌, ◌||◌, ◌≢◌, refl, sym, ◌∙◌, ap, ap₂, subst, inl, inr, Option, Some, None, IfSome, IfNone, arith}
 use Rattle.std.specs.Option.{is_some}
 use Rattle.std.specs.FinSet.{contains, insert, union, intersection, difference}
-use Rattle.std.proofs.lemmas.Bool.{true≢false, true_from_ne_false}
+use Rattle.std.proofs.lemmas.Bool.{true≢false, true_from_ne_false, or_parts}
 use Rattle.md_graph.specs.Sets.{NameSet, Has, Lacks, Disjoint, only_name}
 use Rattle.md_graph.specs.NameSet.{NoneFrom, IsLeastFrom, symmetric_difference}
 use Rattle.md_graph.proofs.SetLaws.{contains-union, contains-intersection, contains-difference, same_set}
 use Rattle.md_graph.proofs.SetLemmas.{clash, meet_has, of_meet, none_lacks, told_value, value_told, of_insert, Has-along, only_has, of_only}
 use Rattle.md_graph.proofs.Search.{decide_test}
-use Rattle.md_modules.specs.Colours.{IsColouring}
+use Rattle.md_modules.specs.Colours.{IsColouring, AreTold}
 use Rattle.md_modules.proofs.Growth.{TakesUnless}
-use Rattle.md_digraph.specs.PlainDigraph.{PlainDigraph, IsDigraph, has_arc, successors, predecessors}
-use Rattle.md_digraph.specs.Arcs.{Arcs, between, swapped}
+use Rattle.md_digraph.specs.PlainDigraph.{PlainDigraph, IsDigraph, has_arc_to, successors, predecessors}
+use Rattle.md_digraph.specs.ArcColours.{ArcColour, between, swapped}
 use Rattle.md_digraph.specs.ArcsSeen.{told_apart, with_other_arcs}
 use Rattle.md_digraph.proofs.DigraphLemmas.{contains-successors, contains-predecessors}
 
@@ -20,7 +20,17 @@ use Rattle.md_digraph.proofs.DigraphLemmas.{contains-successors, contains-predec
 pub arcs_turn : (arc : ℕ → ℕ → Bool) → IsColouring swapped (between arc)
 arcs_turn arc = record { reversed = λ a b. refl }
 
-same_pair : (p q r s : Bool) → p ≡ q → r ≡ s → ◌≡◌ {A = Arcs} (p, r) (q, s)
+-- of each two colours it is told whether they are equal
+pub arcs_told : AreTold ArcColour
+arcs_told c d = elim (decide_test c.0 d.0) [
+  | inl first ↦ elim (decide_test c.1 d.1) [
+    | inl second ↦ inl (λ i. (first i, second i))
+    | inr differ ↦ inr (λ same. differ (ap (λ x. x.1) same))
+  ]
+  | inr differ ↦ inr (λ same. differ (ap (λ x. x.0) same))
+]
+
+same_pair : (p q r s : Bool) → p ≡ q → r ≡ s → ◌≡◌ {A = ArcColour} (p, r) (q, s)
 same_pair p q r s left right = λ i. (left i, right i)
 
 -- ---- two passes over the names left
@@ -64,15 +74,15 @@ unfolding xor
 not_if_same p true e = rw e refl
 not_if_same p false e = rw e refl
 
-both_false : (p q : Bool) → (p || q) ≡ false → (p ≡ false) × (q ≡ false)
-both_false p q e = (grind arith, grind arith)
+and_none : (p : Bool) → (p && (false || false)) ≡ false
+and_none p = grind arith
 
 -- w has other arcs with one of a set
 abbrev pub HasOthers : PlainDigraph → ℕ → Bool → NameSet → Type 0
-HasOthers g w b among = (t : ℕ) × Has among t × (between (has_arc g) w t ≢ (b, b))
+HasOthers g w b among = (t : ℕ) × Has among t × (between (has_arc_to g) w t ≢ (b, b))
 
 module _ {g : PlainDigraph} (digraph : IsDigraph g) where
-  contains-told : (v w : ℕ) (among : NameSet) (y : ℕ) → contains (told_apart g v w among) y ≡ (contains among y && (xor (has_arc g v y) (has_arc g w y) || xor (has_arc g y v) (has_arc g y w)))
+  contains-told : (v w : ℕ) (among : NameSet) (y : ℕ) → contains (told_apart g v w among) y ≡ (contains among y && (xor (has_arc_to g v y) (has_arc_to g w y) || xor (has_arc_to g y v) (has_arc_to g y w)))
   contains-told v w among y =
       contains-intersection among _ y
       ∙ ap (λ b. contains among y && b) (contains-union (symmetric_difference (successors g v) (successors g w)) (symmetric_difference (predecessors g v) (predecessors g w)) y
@@ -81,59 +91,54 @@ module _ {g : PlainDigraph} (digraph : IsDigraph g) where
       (contains-symmetric (predecessors g v) (predecessors g w) y ∙ ap₂ xor (contains-predecessors digraph v y) (contains-predecessors digraph w y)))
 
   -- those that v and w have different arcs with
-  pub told_all : (v w : ℕ) (among : NameSet) → TakesUnless (λ y. between (has_arc g) v y ≡ between (has_arc g) w y) among (told_apart g v w among)
+  pub told_all : (v w : ℕ) (among : NameSet) → TakesUnless (λ y. between (has_arc_to g) v y ≡ between (has_arc_to g) w y) among (told_apart g v w among)
   told_all v w among = (
     λ y h l.
-        let none : (xor (has_arc g v y) (has_arc g w y) || xor (has_arc g y v) (has_arc g y w)) ≡ false = sym (ap (λ b. b && (xor (has_arc g v y) (has_arc g w y) || xor (has_arc g y v) (has_arc g y w))) h) ∙ sym (contains-told v w among y) ∙ l in
-        let two = both_false _ _ none in
+        let none : (xor (has_arc_to g v y) (has_arc_to g w y) || xor (has_arc_to g y v) (has_arc_to g y w)) ≡ false = sym (ap (λ b. b && (xor (has_arc_to g v y) (has_arc_to g w y) || xor (has_arc_to g y v) (has_arc_to g y w))) h) ∙ sym (contains-told v w among y) ∙ l in
+        let two = or_parts _ _ none in
         same_pair _ _ _ _ (same_if_not _ _ two.0) (same_if_not _ _ two.1),
     λ y h. (
       (of_meet among _ y h).0,
       λ same.
-          let out : xor (has_arc g v y) (has_arc g w y) ≡ false = not_if_same _ _ (ap (λ c. c.0) same) in
-          let into : xor (has_arc g y v) (has_arc g y w) ≡ false = not_if_same _ _ (ap (λ c. c.1) same) in
+          let out : xor (has_arc_to g v y) (has_arc_to g w y) ≡ false = not_if_same _ _ (ap (λ c. c.0) same) in
+          let into : xor (has_arc_to g y v) (has_arc_to g y w) ≡ false = not_if_same _ _ (ap (λ c. c.1) same) in
           let none : contains (told_apart g v w among) y ≡ (contains among y && (false || false)) = contains-told v w among y ∙ ap₂ (λ p q. contains among y && (p || q)) out into in
           clash h (none ∙ and_none (contains among y)),
     ),
-  ) where
-    and_none : (p : Bool) → (p && (false || false)) ≡ false
-    and_none p = grind arith
+  )
 
   -- ---- names with other arcs
 
-  contains-others : (w : ℕ) (b : Bool) (among : NameSet) (y : ℕ) → contains (with_other_arcs g w b among) y ≡ (contains among y && (xor (has_arc g w y) b || xor (has_arc g y w) b))
+  contains-others : (w : ℕ) (b : Bool) (among : NameSet) (y : ℕ) → contains (with_other_arcs g w b among) y ≡ (contains among y && (xor (has_arc_to g w y) b || xor (has_arc_to g y w) b))
   unfolding xor
   contains-others w false among y =
       contains-intersection among _ y ∙ ap (λ b. contains among y && b) (contains-union (successors g w) (predecessors g w) y ∙ ap₂ ◌||◌ (contains-successors digraph w y) (contains-predecessors digraph w y))
-      ∙ plain (contains among y) (has_arc g w y) (has_arc g y w)
+      ∙ plain (contains among y) (has_arc_to g w y) (has_arc_to g y w)
     where
       plain : (a p q : Bool) → (a && (p || q)) ≡ (a && (((p && not false) || (false && not p)) || ((q && not false) || (false && not q))))
       plain a p q = grind arith
   contains-others w true among y =
       contains-difference among _ y ∙ ap (λ b. contains among y && not b) (contains-intersection (successors g w) (predecessors g w) y ∙ ap₂ ◌&&◌ (contains-successors digraph w y) (contains-predecessors digraph w y))
-      ∙ turned (contains among y) (has_arc g w y) (has_arc g y w)
+      ∙ turned (contains among y) (has_arc_to g w y) (has_arc_to g y w)
     where
       turned : (a p q : Bool) → (a && not (p && q)) ≡ (a && (((p && not true) || (true && not p)) || ((q && not true) || (true && not q))))
       turned a p q = grind arith
 
-  pub others_all : (w : ℕ) (b : Bool) (among : NameSet) → TakesUnless (λ y. between (has_arc g) w y ≡ (b, b)) among (with_other_arcs g w b among)
+  pub others_all : (w : ℕ) (b : Bool) (among : NameSet) → TakesUnless (λ y. between (has_arc_to g) w y ≡ (b, b)) among (with_other_arcs g w b among)
   others_all w b among = (
     λ y h l.
-        let none : (xor (has_arc g w y) b || xor (has_arc g y w) b) ≡ false = sym (ap (λ k. k && (xor (has_arc g w y) b || xor (has_arc g y w) b)) h) ∙ sym (contains-others w b among y) ∙ l in
-        let two = both_false _ _ none in
+        let none : (xor (has_arc_to g w y) b || xor (has_arc_to g y w) b) ≡ false = sym (ap (λ k. k && (xor (has_arc_to g w y) b || xor (has_arc_to g y w) b)) h) ∙ sym (contains-others w b among y) ∙ l in
+        let two = or_parts _ _ none in
         same_pair _ _ _ _ (same_if_not _ _ two.0) (same_if_not _ _ two.1),
     λ y h. (
       in_among (contains among y) _ (sym (contains-others w b among y) ∙ h),
       λ same.
-          let out : xor (has_arc g w y) b ≡ false = not_if_same _ _ (ap (λ c. c.0) same) in
-          let into : xor (has_arc g y w) b ≡ false = not_if_same _ _ (ap (λ c. c.1) same) in
+          let out : xor (has_arc_to g w y) b ≡ false = not_if_same _ _ (ap (λ c. c.0) same) in
+          let into : xor (has_arc_to g y w) b ≡ false = not_if_same _ _ (ap (λ c. c.1) same) in
           let none : contains (with_other_arcs g w b among) y ≡ (contains among y && (false || false)) = contains-others w b among y ∙ ap₂ (λ p q. contains among y && (p || q)) out into in
           clash h (none ∙ and_none (contains among y)),
     ),
   ) where
-    and_none : (p : Bool) → (p && (false || false)) ≡ false
-    and_none p = grind arith
-
     in_among : (p q : Bool) → (p && q) ≡ true → p ≡ true
     in_among p q e = grind arith
 
@@ -158,10 +163,10 @@ module _ {g : PlainDigraph} (digraph : IsDigraph g) where
         (sym (out_bit some.0) ∙ told (contains out some.0) (λ differ. clash (test_out.1 (some.0, some.1, differ)) unseen))
         (sym (in_bit some.0) ∙ told (contains into some.0) (λ differ. clash (test_in.1 (some.0, some.1, differ)) none)))),
   ) where
-    out_bit : (t : ℕ) → contains out t ≡ has_arc g w t
+    out_bit : (t : ℕ) → contains out t ≡ has_arc_to g w t
     out_bit t = ap (λ s. contains s t) is_out ∙ contains-successors digraph w t
 
-    in_bit : (t : ℕ) → contains into t ≡ has_arc g t w
+    in_bit : (t : ℕ) → contains into t ≡ has_arc_to g t w
     in_bit t = ap (λ s. contains s t) is_into ∙ contains-predecessors digraph w t
 
     told : (a : Bool) → (a ≢ b → ⊥) → a ≡ b
@@ -190,20 +195,12 @@ module _ (g : PlainDigraph) (w : ℕ) (b : Bool) (left out into : NameSet) where
       ∙ ap₂ (λ s t. union todo (difference left (intersection s t))) is_out is_into ∙ ap (λ v. union todo (with_other_arcs g w v left)) (sym is)
 
 -- those that have other arcs with one of the names taken
-pub others_taken : (g : PlainDigraph) (left taken new : NameSet) (b : Bool) → ((y : ℕ) → Has new y ↔ (Has left y × ((t : ℕ) × Has taken t × (between (has_arc g) y t ≢ (b, b))))) →
-    TakesUnless (λ y. (t : ℕ) → Has taken t → between (has_arc g) y t ≡ (b, b)) left new
+pub others_taken : (g : PlainDigraph) (left taken new : NameSet) (b : Bool) → ((y : ℕ) → Has new y ↔ (Has left y × ((t : ℕ) × Has taken t × (between (has_arc_to g) y t ≢ (b, b))))) →
+    TakesUnless (λ y. (t : ℕ) → Has taken t → between (has_arc_to g) y t ≡ (b, b)) left new
 others_taken g left taken new b sees = (
-  λ y h l t ht. elim (decide_arcs (between (has_arc g) y t) (b, b)) [ inl same ↦ same | inr differ ↦ clash ((sees y).1 (h, (t, ht, differ))) l ],
+  λ y h l t ht. elim (arcs_told (between (has_arc_to g) y t) (b, b)) [ inl same ↦ same | inr differ ↦ clash ((sees y).1 (h, (t, ht, differ))) l ],
   λ y h. let (hl, seen) = (sees y).0 h in (hl, λ all. seen.2 (all seen.0 seen.1)),
-) where
-  decide_arcs : (c d : Arcs) → (c ≡ d) ⊎ (c ≢ d)
-  decide_arcs c d = elim (decide_test c.0 d.0) [
-    | inl first ↦ elim (decide_test c.1 d.1) [
-      | inl second ↦ inl (λ i. (first i, second i))
-      | inr differ ↦ inr (λ same. differ (ap (λ x. x.1) same))
-    ]
-    | inr differ ↦ inr (λ same. differ (ap (λ x. x.0) same))
-  ]
+)
 
 -- ---- rows and marks
 

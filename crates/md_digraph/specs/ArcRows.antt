@@ -35,9 +35,9 @@ pub record AreArcRows (limit : ℕ) (live : NameSet) (out into : List NameSet) :
   pub head : (u v : ℕ) → Has (row_of out u) v → Has live v
   pub names : (v : ℕ) → Has live v → v < limit
 
--- What holds of the room for the rows of a directed graph on names of `words` words, of which `size`
--- of each family are made: `out_room` and `into_room` rows fit without new memory.
-pub record HasArcRoom (words size out_room into_room : ℕ) : Type 0 where
+-- What holds of the room for the rows of a directed graph on names of `words` words, of which
+-- `size` of each family are made: `out_room` and `into_room` rows fit without new memory.
+pub record HasRoomForArcs (words size out_room into_room : ℕ) : Type 0 where
   pub made : size ≤ 64 * words
   pub few : words ≤ DIRECTED_WORDS
   pub out_fits : 64 * words ≤ out_room

@@ -14,8 +14,8 @@ told_apart g v w among =
     (symmetric_difference (successors g v) (successors g w))
     (symmetric_difference (predecessors g v) (predecessors g w)))
 
--- the members of `among` that w has an arc with (`both` is false), or that w lacks an arc with, there
--- or back (`both` is true)
+-- the members of `among` that w has an arc with (`both` is false), or that w lacks an arc with,
+-- there or back (`both` is true)
 abbrev pub with_other_arcs : PlainDigraph → ℕ → Bool → NameSet → NameSet
 with_other_arcs g w false among = intersection among (union (successors g w) (predecessors g w))
 with_other_arcs g w true among = difference among (intersection (successors g w) (predecessors g w))

@@ -5,7 +5,7 @@ use Rattle.std.specs.FinSet as set
 use Rattle.md_graph.specs.Sets.{NameSet, Has, Lacks, Within, HasSome}
 use Rattle.md_modules.specs.Modules.{IsModule}
 use Rattle.md_digraph.specs.PlainDigraph.{PlainDigraph, IsDigraph, empty_digraph}
-use Rattle.md_digraph.specs.Arcs.{between}
+use Rattle.md_digraph.specs.ArcColours.{between}
 
 -- a directed graph whose set of vertices is empty is the empty one
 abbrev pub DigraphWithoutVerticesIsEmpty : Type 0

@@ -19,24 +19,24 @@ digraph_code =
     (λ g. (g.vertices, g.arcs)) (λ p. record { vertices = p.0; arcs = p.1 }) (λ _. refl)
 
 -- whether an arc runs from u to v
-unfoldable pub has_arc : PlainDigraph → ℕ → ℕ → Bool
-has_arc g u v = set.contains g.arcs (u, v)
+unfoldable pub has_arc_to : PlainDigraph → ℕ → ℕ → Bool
+has_arc_to g u v = set.contains g.arcs (u, v)
 
 -- the vertices that the arcs from v enter
 unfoldable pub successors : PlainDigraph → ℕ → NameSet
-successors g v = set.retain g.vertices (has_arc g v)
+successors g v = set.retain g.vertices (has_arc_to g v)
 
 -- the vertices that the arcs to v leave
 unfoldable pub predecessors : PlainDigraph → ℕ → NameSet
-predecessors g v = set.retain g.vertices (λ u. has_arc g u v)
+predecessors g v = set.retain g.vertices (λ u. has_arc_to g u v)
 
 -- What holds of every directed graph: its vertices are names below DIRECTED_NAMES, and an arc runs
 -- between two different vertices.
 pub record IsDigraph (g : PlainDigraph) : Type 0 where
   pub names : (v : ℕ) → Has g.vertices v → v < DIRECTED_NAMES
-  pub differ : (u v : ℕ) → has_arc g u v ≡ true → u ≢ v
-  pub tail : (u v : ℕ) → has_arc g u v ≡ true → Has g.vertices u
-  pub head : (u v : ℕ) → has_arc g u v ≡ true → Has g.vertices v
+  pub differ : (u v : ℕ) → has_arc_to g u v ≡ true → u ≢ v
+  pub tail : (u v : ℕ) → has_arc_to g u v ≡ true → Has g.vertices u
+  pub head : (u v : ℕ) → has_arc_to g u v ≡ true → Has g.vertices v
 
 -- the directed graph without vertices
 abbrev pub empty_digraph : PlainDigraph

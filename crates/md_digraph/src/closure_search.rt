@@ -5,8 +5,8 @@ ghost use Rattle.std.specs.Prelude.{◌≡◌, ◌*◌, ℕ, ◌<◌};
 ghost use Rattle.std.specs.FinSet.{union, difference};
 ghost use Rattle.md_graph.specs.Sets.{Has, Lacks, Within};
 ghost use Rattle.md_modules.specs.Modules.{IsLeastModule, IsLeastModuleOver};
-ghost use Rattle.md_digraph.specs.PlainDigraph.{has_arc};
-ghost use Rattle.md_digraph.specs.Arcs.{between};
+ghost use Rattle.md_digraph.specs.PlainDigraph.{has_arc_to};
+ghost use Rattle.md_digraph.specs.ArcColours.{between};
 ghost use Rattle.md_digraph.specs.ArcsSeen.{told_apart};
 
 use crate::DigraphOf;
@@ -18,7 +18,7 @@ use md_graph::Set;
 pub fn directed_closure<const W: usize>(graph: &DigraphOf<W>, u: u32, v: u32, into: &mut Set<W>)
     requires first { Has graph.now.vertices u }
     requires second { Has graph.now.vertices v }
-    ensures least { IsLeastModule (between (has_arc graph.now)) graph.now.vertices u v into.new }
+    ensures least { IsLeastModule (between (has_arc_to graph.now)) graph.now.vertices u v into.new }
 {
     directed_closure_in(graph, graph.vertices(), u, v, into);
 }
@@ -35,7 +35,7 @@ pub fn directed_closure_in<const W: usize>(
     requires inside { Within within.now graph.now.vertices }
     requires first { Has within.now u }
     requires second { Has within.now v }
-    ensures least { IsLeastModule (between (has_arc graph.now)) within.now u v into.new }
+    ensures least { IsLeastModule (between (has_arc_to graph.now)) within.now u v into.new }
 {
     let _vertices = graph.vertices();
     into.clear();
@@ -66,8 +66,9 @@ pub fn directed_grow<const W: usize>(
     requires among { Within todo into.old }
     requires seen { (w : ℕ) → Has into.old w → Lacks todo w
         → (y : ℕ) → Has within.now y → Lacks into.old y
-        → between (has_arc graph.now) v y ≡ between (has_arc graph.now) w y }
-    ensures least { IsLeastModuleOver (between (has_arc graph.now)) within.now into.old into.new }
+        → between (has_arc_to graph.now) v y ≡ between (has_arc_to graph.now) w y }
+    ensures least { IsLeastModuleOver (between (has_arc_to graph.now)) within.now into.old
+        into.new }
 {
     not_grown(graph, within, v, into, todo);
     into.symmetric_difference_with(within);
@@ -88,9 +89,9 @@ fn not_grown<const W: usize>(
     requires among { Within todo left.old }
     requires seen { (w : ℕ) → Has left.old w → Lacks todo w
         → (y : ℕ) → Has within.now y → Lacks left.old y
-        → between (has_arc graph.now) v y ≡ between (has_arc graph.now) w y }
+        → between (has_arc_to graph.now) v y ≡ between (has_arc_to graph.now) w y }
     ensures part { Within left.new within.now }
-    ensures grown { IsLeastModuleOver (between (has_arc graph.now)) within.now left.old
+    ensures grown { IsLeastModuleOver (between (has_arc_to graph.now)) within.now left.old
         (difference within.now left.new) }
 {
     let _vertices = graph.vertices();

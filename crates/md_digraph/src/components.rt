@@ -7,8 +7,8 @@ ghost use Rattle.std.specs.FinSet.{contains, union, difference, len};
 ghost use Rattle.md_graph.specs.Sets.{Has, Within, Disjoint};
 ghost use Rattle.md_modules.specs.Components.{IsComponent};
 ghost use Rattle.md_modules.specs.Searches.{IsReaching};
-ghost use Rattle.md_digraph.specs.PlainDigraph.{has_arc};
-ghost use Rattle.md_digraph.specs.Arcs.{between, no_arc, both_arcs};
+ghost use Rattle.md_digraph.specs.PlainDigraph.{has_arc_to};
+ghost use Rattle.md_digraph.specs.ArcColours.{between, no_arc, both_arcs};
 ghost use Rattle.md_digraph.specs.ArcsSeen.{with_other_arcs};
 
 use crate::DigraphOf;
@@ -26,7 +26,7 @@ pub fn parallel_component<const W: usize>(
 )
     requires inside { Within within.now graph.now.vertices }
     requires member { Has within.now x }
-    ensures component { IsComponent (between (has_arc graph.now)) within.now x into.new no_arc }
+    ensures component { IsComponent (between (has_arc_to graph.now)) within.now x into.new no_arc }
 {
     rest_of_component(graph, within, x, false, into);
     into.symmetric_difference_with(within);
@@ -43,7 +43,8 @@ pub fn series_component<const W: usize>(
 )
     requires inside { Within within.now graph.now.vertices }
     requires member { Has within.now x }
-    ensures component { IsComponent (between (has_arc graph.now)) within.now x into.new both_arcs }
+    ensures component { IsComponent (between (has_arc_to graph.now)) within.now x into.new
+        both_arcs }
 {
     rest_of_component(graph, within, x, true, into);
     into.symmetric_difference_with(within);
@@ -61,7 +62,7 @@ fn rest_of_component<const W: usize>(
     requires inside { Within within.now graph.now.vertices }
     requires member { Has within.now x }
     ensures part { Within left.new within.now }
-    ensures taken { IsComponent (between (has_arc graph.now)) within.now x
+    ensures taken { IsComponent (between (has_arc_to graph.now)) within.now x
         (difference within.now left.new) (both, both) }
 {
     let _vertices = graph.vertices();
@@ -70,6 +71,9 @@ fn rest_of_component<const W: usize>(
     left.remove(x);
     let mut todo = Set::none();
     todo.insert(x);
+    // Each name is taken once. Then a turn looks at it, at some six operations on rows; or a look
+    // back, which costs two for each name left, saves the turns of as many names or more. So a
+    // search of k names costs some 8k operations on rows at most.
     let mut from_end = false;
     while let Some(w) = next(left, &todo, from_end) {
         turn(graph, within, both, w, left, &mut todo);
@@ -90,9 +94,9 @@ fn turn<const W: usize>(
     requires member { Has todo.old w }
     requires vertex { Has graph.now.vertices w }
     requires part { Within left.old graph.now.vertices }
-    ensures kept { (x : ℕ) → IsReaching (between (has_arc graph.now)) within.now (both, both) x
+    ensures kept { (x : ℕ) → IsReaching (between (has_arc_to graph.now)) within.now (both, both) x
         left.old todo.old
-        → IsReaching (between (has_arc graph.now)) within.now (both, both) x left.new todo.new }
+        → IsReaching (between (has_arc_to graph.now)) within.now (both, both) x left.new todo.new }
     ensures fewer { len left.new + len todo.new < len left.old + len todo.old }
 {
     let _vertices = graph.vertices();
@@ -114,9 +118,9 @@ fn look_back<const W: usize>(
     todo: &mut Set<W>,
 )
     requires part { Within left.old graph.now.vertices }
-    ensures kept { (x : ℕ) → IsReaching (between (has_arc graph.now)) within.now (both, both) x
+    ensures kept { (x : ℕ) → IsReaching (between (has_arc_to graph.now)) within.now (both, both) x
         left.old todo.old
-        → IsReaching (between (has_arc graph.now)) within.now (both, both) x left.new todo.new }
+        → IsReaching (between (has_arc_to graph.now)) within.now (both, both) x left.new todo.new }
     ensures fewer { len left.new + len todo.new ≤ len left.old }
 {
     let _vertices = graph.vertices();
@@ -137,7 +141,7 @@ fn having_others<const W: usize>(
     requires apart { Disjoint taken.now left.now }
     requires part { Within left.now graph.now.vertices }
     ensures { (y : ℕ) → Has result y ↔ (Has left.now y × ((t : ℕ) × Has taken.now t
-        × (between (has_arc graph.now) y t ≢ (both, both)))) }
+        × (between (has_arc_to graph.now) y t ≢ (both, both)))) }
 {
     let _vertices = graph.vertices();
     let mut new = Set::none();
@@ -161,7 +165,7 @@ fn has_others<const W: usize>(
     requires vertex { Has graph.now.vertices w }
     requires apart { Disjoint among.now apart.now }
     ensures { IsTrue result
-        ↔ ((t : ℕ) × Has among.now t × (between (has_arc graph.now) w t ≢ (both, both))) }
+        ↔ ((t : ℕ) × Has among.now t × (between (has_arc_to graph.now) w t ≢ (both, both))) }
 {
     differs(graph.successors(w), both, among, apart)
         || differs(graph.predecessors(w), both, among, apart)

@@ -4,7 +4,7 @@ ghost use Rattle.std.specs.FinSet as set;
 ghost use Rattle.md_graph.specs.Sets.{Has, Lacks};
 ghost use Rattle.md_graph.specs.NameSet.{AllBelow};
 ghost use Rattle.md_graph.specs.Rows.{row_of};
-ghost use Rattle.md_digraph.specs.PlainDigraph.{has_arc, successors, predecessors, IsDigraph, empty_digraph, digraph_with_vertex, with_arc};
+ghost use Rattle.md_digraph.specs.PlainDigraph.{has_arc_to, successors, predecessors, IsDigraph, empty_digraph, digraph_with_vertex, with_arc};
 
 use crate::{DIRECTED_NAMES, DIRECTED_WORDS};
 use md_graph::{Memory, Set};
@@ -36,12 +36,12 @@ impl<const W: usize> Model for DigraphOf<W> {
     ghost coded = { digraph_code };
 
     ghost use Rattle.std.specs.Prelude.{vec_len, vec_capacity};
-    ghost use Rattle.md_digraph.specs.ArcRows.{digraph_of, AreArcRows, HasArcRoom};
+    ghost use Rattle.md_digraph.specs.ArcRows.{digraph_of, AreArcRows, HasRoomForArcs};
 
     ghost view = { λ g. digraph_of g.live g.out.items };
 
     ghost invariant = { λ g. AreArcRows (vec_len g.out) g.live g.out.items g.into.items
-        × HasArcRoom W (vec_len g.out) (vec_capacity g.out) (vec_capacity g.into) };
+        × HasRoomForArcs W (vec_len g.out) (vec_capacity g.out) (vec_capacity g.into) };
 }
 
 impl<const W: usize> DigraphOf<W> {
@@ -67,7 +67,7 @@ impl<const W: usize> DigraphOf<W> {
 
     /// Whether an arc runs from `u` to `v`, any numbers.
     pub fn has_arc(&self, u: u32, v: u32) -> bool
-        ensures value { result ≡ has_arc self.now u v }
+        ensures value { result ≡ has_arc_to self.now u v }
     {
         let row = u as usize;
         row < self.out.len() && self.out[row].has(v)
@@ -125,7 +125,7 @@ impl<const W: usize> DigraphOf<W> {
         requires tail { Has self.old.vertices u }
         requires head { Has self.old.vertices v }
         requires differ { u ≢ v }
-        requires absent { has_arc self.old u v ≡ false }
+        requires absent { has_arc_to self.old u v ≡ false }
         ensures changed { self.new ≡ with_arc self.old u v }
     {
         self.out[u as usize].insert(v);

@@ -1,7 +1,7 @@
 use Rattle.std.specs.FinSet.{difference}
 use Rattle.md_graph.proofs.SetLemmas.{flipped_along}
 use Rattle.md_modules.proofs.Turns.{component_along}
-use Rattle.md_digraph.specs.Arcs.{no_arc}
+use Rattle.md_digraph.specs.ArcColours.{no_arc}
 use Rattle.md_digraph.proofs.components.parallel_component.Goals as goal
 
 pub returns : goal.returns

@@ -6,21 +6,21 @@
 use Rattle.std.specs.Prelude.{ℕ, Bool, true, false}
 
 -- an arc there, and an arc back
-abbrev pub Arcs : Type 0
-Arcs = Bool × Bool
+abbrev pub ArcColour : Type 0
+ArcColour = Bool × Bool
 
 -- the arcs between u and v
-abbrev pub between : (ℕ → ℕ → Bool) → ℕ → ℕ → Arcs
+abbrev pub between : (ℕ → ℕ → Bool) → ℕ → ℕ → ArcColour
 between arc u v = (arc u v, arc v u)
 
 -- the same arcs seen from the other end
-abbrev pub swapped : Arcs → Arcs
+abbrev pub swapped : ArcColour → ArcColour
 swapped c = (c.1, c.0)
 
 -- no arc: a split of this colour is parallel
-abbrev pub no_arc : Arcs
+abbrev pub no_arc : ArcColour
 no_arc = (false, false)
 
 -- both arcs: a split of this colour is series
-abbrev pub both_arcs : Arcs
+abbrev pub both_arcs : ArcColour
 both_arcs = (true, true)
