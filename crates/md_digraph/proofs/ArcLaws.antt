@@ -1,9 +1,12 @@
 -- The laws of modules of directed graphs.
-use Rattle.std.specs.Prelude.{◌≡◌, ◌⊎◌, ℕ, Bool, true, false}
+use Rattle.std.specs.Prelude.{◌≡◌, ◌⊎◌, ℕ, Bool, true, false, refl}
 use Rattle.std.proofs.Common.{ap, sym, ◌∙◌, inl, inr}
 use Rattle.std.proofs.lemmas.Bool.{cases_Bool}
-use Rattle.md_graph.specs.Sets.{NameSet, Has}
-use Rattle.md_digraph.specs.Laws.{SeesAlike, DirectedModulesAreSeenAlike}
+use Rattle.md_graph.specs.Sets.{NameSet, Has, HasSome}
+use Rattle.md_modules.proofs.Components.{component_child, child_component}
+use Rattle.md_digraph.specs.ArcColours.{ArcColour, swapped, no_arc, both_arcs}
+use Rattle.md_digraph.specs.Laws.{SeesAlike, DirectedModulesAreSeenAlike, ComponentsAreChildren, DirectedChildrenAreComponents}
+use Rattle.md_digraph.proofs.ArcTurns.{arcs_turn, arcs_told}
 
 all_or_none : (m : NameSet) (p : ℕ → Bool) (b : ℕ) → Has m b → ((a : ℕ) → Has m a → p a ≡ p b) → ((a : ℕ) → Has m a → p a ≡ true) ⊎ ((a : ℕ) → Has m a → p a ≡ false)
 all_or_none m p b h same = elim (cases_Bool (p b)) [
@@ -35,3 +38,15 @@ seen_alike_proof arc s m = (
         λ i. (there i, back i);
   },
 )
+
+-- the children of a set that splits with a colour that is its own reverse
+split_children : (arc : ℕ → ℕ → Bool) (s : NameSet) (colour : ArcColour) → swapped colour ≡ colour → ComponentsAreChildren arc s colour
+split_children arc s colour own part split c = (
+  λ is.
+      let some : HasSome c = is.is_strong.is_module.some in
+      (some.0, child_component (arcs_turn arc) arcs_told s c part colour some.0 own split is some.1),
+  λ found. component_child (arcs_turn arc) s c part colour found.0 own split found.1,
+)
+
+pub children_proof : DirectedChildrenAreComponents
+children_proof arc s = (split_children arc s no_arc refl, split_children arc s both_arcs refl)

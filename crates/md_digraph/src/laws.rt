@@ -1,6 +1,6 @@
 //! The laws of directed graphs, each the contract of a function that does nothing.
 ghost use Rattle.std.specs.Prelude.{◌≡◌, ◌*◌};
-ghost use Rattle.md_digraph.specs.Laws.{DigraphWithoutVerticesIsEmpty, DirectedModulesAreSeenAlike};
+ghost use Rattle.md_digraph.specs.Laws.{DigraphWithoutVerticesIsEmpty, DirectedChildrenAreComponents, DirectedModulesAreSeenAlike};
 
 use crate::{DIRECTED_NAMES, DIRECTED_WORDS};
 
@@ -24,4 +24,11 @@ pub fn digraph_without_vertices_is_empty()
 /// arcs to all of them or to none, and arcs from all of them or from none.
 pub fn directed_modules_are_seen_alike()
     ensures law { DirectedModulesAreSeenAlike }
+{}
+
+/// The children of a set of vertices in the tree of strong modules, its maximal proper strong
+/// modules, are exactly its components by arcs where it splits into two parts without an arc
+/// across, and those by the lack of an arc where it splits with both arcs across.
+pub fn directed_children_are_components()
+    ensures law { DirectedChildrenAreComponents }
 {}
