@@ -7,3 +7,4 @@ pub mod OneLine
 pub mod ByTrees
 pub mod MadePaths
 pub mod Alike
+pub mod Groups

@@ -10,3 +10,4 @@ pub mod WellFormedLines
 pub mod Cuts
 pub mod Words
 pub mod Laws
+pub mod Items

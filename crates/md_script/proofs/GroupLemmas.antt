@@ -1,10 +1,18 @@
 -- Edits that are applied one after the other, and taken back from the last to the first.
-use Rattle.std.proofs.Common.{◌≡◌, ℕ, zero, suc, ◌+◌, ◌<◌, ◌≤◌, List, [], ◌∷◌, ◌++◌, length, take, slice_get, Some, None, refl, sym, ◌∙◌, ap, ap₂, subst, arith}
+use Rattle.std.proofs.Common.{◌≡◌, ℕ, zero, suc, ◌+◌, ◌<◌, ◌≤◌, List, [], ◌∷◌, ◌++◌, length, take, slice_get, Some, None, refl, sym, ◌∙◌, ap, ap₂, subst, arith, inl, inr}
+use Rattle.std.specs.List.{All}
 use Rattle.std.proofs.lemmas.List.{take_all, length-append}
-use Rattle.md_graph.specs.PlainGraph.{PlainGraph}
+use Rattle.std.proofs.lemmas.List.Elements.{All-head, All-tail, All-take}
+use Rattle.md_graph.specs.declared.TheConstants.{NAMES}
+use Rattle.md_graph.specs.NameSet.{AllBelow}
+use Rattle.md_graph.specs.PlainGraph.{PlainGraph, IsGraph}
+use Rattle.md_graph.proofs.SetLemmas.{of_insert, of_remove}
 use Rattle.md_script.specs.declared.edit.Edit.{Edit}
+use Rattle.md_script.specs.declared.edit.Edit.TheVariants.{AddEdge, DelEdge, AddVertex, DelVertex}
 use Rattle.md_script.specs.Edit.{HasNamesBelow, reason_of, after}
 use Rattle.md_script.specs.Pasts.{inverse_of, all_after, taken_back, inverses_of, Applies, MayBack, AnyGraph, HasApplied, TakesBack}
+use Rattle.md_script.proofs.ChangeLemmas.{names_within, after_is_graph}
+use Rattle.md_script.proofs.BackLemmas.{inverse_back}
 
 -- ---- lists
 
@@ -170,6 +178,44 @@ module _ (limit : ℕ) (Kept : PlainGraph → Type 0) where
         leads = taken_back-push h edits back ∙ ap (λ (k : PlainGraph). taken_back k edits) home ∙ so.leads;
       }
 
--- one edit that was applied can be taken back
-pub one_may_back : {limit : ℕ} (g h : PlainGraph) (edit back : Edit) → TakesBack limit g edit back → h ≡ after g edit → MayBack limit AnyGraph h (back ∷ [])
-one_may_back g h edit back takes next = (tt, (ap (λ (k : PlainGraph). reason_of k back) next ∙ takes.no_reason, (takes.names, tt)))
+-- ---- what was applied can be taken back
+
+after_below : (limit : ℕ) (g : PlainGraph) (edit : Edit) → AllBelow g.vertices limit → HasNamesBelow limit edit → AllBelow (after g edit).vertices limit
+after_below limit g (AddEdge u v) below names = below
+after_below limit g (DelEdge u v) below names = below
+after_below limit g (AddVertex x list) below names = λ w has. elim (of_insert g.vertices x w has) [ inl same ↦ subst (λ y. y < limit) (sym same) names.0 | inr old ↦ below w old ]
+after_below limit g (DelVertex x) below names = λ w has. below w (of_remove g.vertices x w has).1
+
+-- edits can be taken back, and give a graph again
+pub record GoesBack (limit : ℕ) (Kept : PlainGraph → Type 0) (g h : PlainGraph) (edits : List Edit) : Type 0 where
+  pub may : MayBack limit Kept h edits
+  pub leads : taken_back h edits ≡ g
+
+pub applied_goes_back : (limit : ℕ) (Kept : PlainGraph → Type 0) (g : PlainGraph) (edits : List Edit) → limit ≤ NAMES → IsGraph g → AllBelow g.vertices limit → Kept g → All (HasNamesBelow limit) edits → Applies Kept g edits
+    → GoesBack limit Kept g (all_after g edits) (inverses_of g edits)
+applied_goes_back limit Kept g [] few is below kept names applies = record { may = tt; leads = refl }
+applied_goes_back limit Kept g (edit ∷ edits) few is below kept names applies =
+    let own = All-head (HasNamesBelow limit) edit edits names in
+    let takes = inverse_back limit g few is below edit own applies.0 in
+    let rest =
+    applied_goes_back limit Kept (after g edit) edits few (after_is_graph g edit is (names_within few edit own) applies.0) (after_below limit g edit below own) applies.1.0 (All-tail (HasNamesBelow limit) edit edits names) applies.1.1 in
+    let home : after (taken_back (all_after (after g edit) edits) (inverses_of (after g edit) edits)) (inverse_of g edit) ≡ g = ap (λ (k : PlainGraph). after k (inverse_of g edit)) rest.leads ∙ takes.gives in
+    record {
+      may = (rest.may, (ap (λ (k : PlainGraph). reason_of k (inverse_of g edit)) rest.leads ∙ takes.no_reason, (takes.names, subst Kept (sym home) kept)));
+      leads = home;
+    }
+
+-- the same of what a history keeps of the first edits of a list, or of all
+pub kept_goes_back : (limit : ℕ) (Kept : PlainGraph → Type 0) (g h : PlainGraph) (edits back : List Edit) (n : ℕ) → limit ≤ NAMES → IsGraph g → AllBelow g.vertices limit → Kept g → All (HasNamesBelow limit) edits → HasApplied Kept g edits h back n
+    → GoesBack limit Kept g h back
+kept_goes_back limit Kept g h edits back n few is below kept names so =
+    let goes = applied_goes_back limit Kept g (take n edits) few is below kept (All-take (HasNamesBelow limit) n edits names) so.applies in
+    subst (λ (k : PlainGraph). GoesBack limit Kept g k back) (sym so.graph_is) (subst (GoesBack limit Kept g (all_after g (take n edits))) (sym so.back_is) goes)
+
+pub one_goes_back : (limit : ℕ) (Kept : PlainGraph → Type 0) (g h : PlainGraph) (edit back : Edit) → Kept g → TakesBack limit g edit back → h ≡ after g edit → GoesBack limit Kept g h (back ∷ [])
+one_goes_back limit Kept g h edit back kept takes next =
+    let home : after h back ≡ g = ap (λ (k : PlainGraph). after k back) next ∙ takes.gives in
+    record {
+      may = (tt, (ap (λ (k : PlainGraph). reason_of k back) next ∙ takes.no_reason, (takes.names, subst Kept (sym home) kept)));
+      leads = home;
+    }

@@ -1,2 +1,3 @@
 mod MadePaths
 mod Changed
+mod Stepping

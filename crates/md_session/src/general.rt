@@ -1,16 +1,22 @@
 //! Sessions on any graph: the tree is computed anew after each edit.
-ghost use Rattle.std.specs.Prelude.{◌≡◌, ◌*◌, IfOk, IsErr};
+ghost use Rattle.std.specs.Prelude.{◌≡◌, ◌*◌, ◌≤◌, IfOk, IsErr};
 ghost use Rattle.md_graph.specs.PlainGraph.{adjacent};
 ghost use Rattle.md_tree.specs.StrongTrees.{IsTree};
 ghost use Rattle.md_tree.specs.Plain.{plain_option};
 ghost use Rattle.md_script.specs.Edit.{HasNamesBelow};
+ghost use Rattle.md_script.specs.Histories.{Fits};
+ghost use Rattle.md_script.specs.Items.{HasItemNamesBelow};
+ghost use Rattle.md_report.specs.declared.line.SessionMode.TheVariants as modes;
+ghost use Rattle.md_report.specs.Items.{IsAllowed};
 ghost use Rattle.md_report.specs.Lines.{plain_line};
 ghost use Rattle.md_report.specs.Sessions.{SessionStep};
+ghost use Rattle.md_session.specs.States.{room_for, ItemStep};
 
+use crate::general_items::{apply_group, apply_one, undo};
 use md_decompose::decompose;
 use md_graph::{GraphOf, Memory, WORDS};
 use md_report::Line;
-use md_script::{Edit, inverse, reason, take_back};
+use md_script::{Edit, HistoryOf, Item, inverse, reason, take_back};
 use md_tree::Tree;
 use std::alloc::Global;
 use std::marker::Model;
@@ -70,5 +76,31 @@ impl<const W: usize> GeneralSessionOf<W> {
         }
         take_back(&mut self.graph, &past);
         Err(Memory)
+    }
+
+    /// Answers an item: an edit as `apply` does; the edits of a group one after the other, or none
+    /// where there is a reason against one; an undo by taking the last item of the history back.
+    /// The history is that of this session: it gains the item, or loses the last one, and stays
+    /// where the item is refused. Conditions: the names in the item are below `64 * W`, the history
+    /// has room for it, and fits. Errors: want of memory; session and history then stay.
+    pub fn apply_item(
+        &mut self,
+        alloc: Global,
+        item: &Item,
+        history: &mut HistoryOf<W>,
+    ) -> Result<Line, Memory>
+        requires names { HasItemNamesBelow (64 * W) item.now }
+        requires room { room_for item.now ≤ history.old.spare }
+        requires fits { Fits (64 * W) (IsAllowed modes.Edit) self.old history.old.items }
+        ensures step { IfOk result (λ line. ItemStep (64 * W) modes.Edit self.old
+            history.old.items item.now (plain_line line) self.new history.new.items) }
+        ensures stays { IsErr result → self.new ≡ self.old }
+        ensures kept { IsErr result → history.new.items ≡ history.old.items }
+    {
+        match item {
+            Item::One(edit) => apply_one(alloc, &mut self.graph, edit, history),
+            Item::Group(edits) => apply_group(alloc, &mut self.graph, edits, history),
+            Item::Undo => undo(alloc, &mut self.graph, history),
+        }
     }
 }

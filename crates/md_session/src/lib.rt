@@ -4,6 +4,7 @@
 mod cograph;
 mod first_path;
 mod general;
+mod general_items;
 
 pub use cograph::{Answer, CographSession, CographSessionOf, Opened, OpenedOf};
 pub use general::{GeneralSession, GeneralSessionOf};

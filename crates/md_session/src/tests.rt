@@ -5,7 +5,7 @@ use super::*;
 use md_graph::{Graph, GraphOf, Memory, Steps};
 use md_modules::P4;
 use md_report::{Line, write_line};
-use md_script::{Edit, EditReason, Script, read_script};
+use md_script::{Edit, EditReason, History, Item, Script, read_script};
 use std::alloc::Global;
 use std::marker::Brand;
 use std::process::Abort;
@@ -147,5 +147,31 @@ fn sessions_on_cographs(rt: HostRuntime) -> Result<(), Fail> {
         panic!(&rt; "a session on a path");
     };
     assert_eq!(&rt; found, path);
+    Ok(())
+}
+
+// An edit that is applied, one that is refused, and two undos, of which the second has nothing left.
+#[test]
+fn items(rt: HostRuntime) -> Result<(), Fail> {
+    let alloc = rt.alloc();
+    let graph = Graph::from_edges(alloc, 3, &[(0, 1), (1, 2)])?.expect(&rt, "edges");
+    let mut session = GeneralSession::new(graph);
+    let mut history = History::new(alloc)?;
+    history.reserve(alloc, 2)?;
+    let item = Item::One(Edit::DelVertex { x: 1 });
+    let line = session.apply_item(alloc, &item, &mut history)?;
+    let text = write_line(alloc, &line)?;
+    assert_eq!(&rt; text.as_slice(), "ok P(0,2)".as_bytes());
+    history.reserve(alloc, 2)?;
+    let item = Item::One(Edit::AddEdge { u: 0, v: 1 });
+    let line = session.apply_item(alloc, &item, &mut history)?;
+    let text = write_line(alloc, &line)?;
+    assert_eq!(&rt; text.as_slice(), "no vertex 1".as_bytes());
+    let line = session.apply_item(alloc, &Item::Undo, &mut history)?;
+    let text = write_line(alloc, &line)?;
+    assert_eq!(&rt; text.as_slice(), "ok S(P(0,2),1)".as_bytes());
+    let line = session.apply_item(alloc, &Item::Undo, &mut history)?;
+    let text = write_line(alloc, &line)?;
+    assert_eq!(&rt; text.as_slice(), "no undo".as_bytes());
     Ok(())
 }

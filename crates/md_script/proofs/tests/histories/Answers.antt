@@ -2,7 +2,7 @@ use Rattle.std.proofs.Common.{◌≡◌, ◌∷◌, [], ◌∙◌, sym, subst, r
 use Rattle.md_graph.specs.PlainGraph.{PlainGraph}
 use Rattle.md_script.specs.declared.edit.Edit.TheVariants.{DelVertex}
 use Rattle.md_script.specs.Pasts.{as_edit, MayBack, AnyGraph}
-use Rattle.md_script.proofs.GroupLemmas.{one_may_back}
+use Rattle.md_script.proofs.GroupLemmas.{one_goes_back}
 use Rattle.md_script.proofs.tests.histories.Goals as goal
 
 pub back_through-requires : goal.back_through-requires
@@ -16,7 +16,7 @@ back_through-requires g c =
             _,
             _,
             c.push.ensures.items [] [] opened,
-            one_may_back c.expect-graph.result c.apply.new.graph (DelVertex 1) _ c.inverse-past.ensures.back c.apply.ensures,
+            (one_goes_back 64 AnyGraph c.expect-graph.result c.apply.new.graph (DelVertex 1) _ tt c.inverse-past.ensures.back c.apply.ensures).may,
             search rules,
           ),
           search rules,
@@ -37,7 +37,7 @@ take_item_back-requires-2 g c =
           _,
           c.push.ensures.items [] [] opened,
           subst (λ (k : PlainGraph). MayBack 64 AnyGraph k (as_edit c.inverse-past.result ∷ [])) (sym same)
-              (one_may_back c.expect-graph.result c.apply.new.graph (DelVertex 1) _ c.inverse-past.ensures.back c.apply.ensures),
+              ((one_goes_back 64 AnyGraph c.expect-graph.result c.apply.new.graph (DelVertex 1) _ tt c.inverse-past.ensures.back c.apply.ensures).may),
         ),
       ),
     )
