@@ -41,8 +41,7 @@ module _ (mode : SessionMode) (g h : PlainGraph) (edits back : List script.Edit)
   past_applied =
       let split : take n edits ++ drop n edits ≡ edits = take-append-drop n edits in
       let l = length-take-le n edits so.within in
-      let told = past_front mode 0 n g (take n edits) (drop n edits) line so.applies (omega arith) in
-      (
+      let told = past_front mode 0 n g (take n edits) (drop n edits) line so.applies (omega arith) in (
         λ is. subst (λ (k : PlainGraph). IsGroupLine mode n k (drop n edits) line) (sym so.graph_is) (told.0 (subst (λ l. IsGroupLine mode 0 g l line) (sym split) is)),
         λ is. subst (λ l. IsGroupLine mode 0 g l line) split (told.1 (subst (λ (k : PlainGraph). IsGroupLine mode n k (drop n edits) line) so.graph_is is)),
       )
@@ -50,8 +49,7 @@ module _ (mode : SessionMode) (g h : PlainGraph) (edits back : List script.Edit)
   -- all edits are applied
   pub whole_line : n ≡ length edits → IsGroupLine mode 0 g edits line ↔ IsDoneLine mode h line
   whole_line all =
-      let none : drop n edits ≡ [] = drop_all n edits (omega arith) in
-      (
+      let none : drop n edits ≡ [] = drop_all n edits (omega arith) in (
         λ is. subst (λ l. IsGroupLine mode n h l line) none (past_applied.0 is),
         λ is. past_applied.1 (subst (λ l. IsGroupLine mode n h l line) (sym none) is),
       )
