@@ -16,8 +16,8 @@ ghost use Rattle.md_bar_tree.specs.Finding.{IsFoundIn, IsNextInner, AreLeastTwo,
 use crate::{Bar, BarKind, Class};
 use md_tree::{Children, Kind, Tree};
 
-/// A bar of a class in the graph whose tree this is; `None` exactly where the graph has none. It takes
-/// no memory. Condition: no node of the tree is prime.
+/// A bar of a class in the graph whose tree this is; `None` exactly where the graph has none. It
+/// takes no memory. Condition: no node of the tree is prime.
 pub fn bar_of(tree: &Option<Tree>, class: Class) -> Option<Bar>
     requires no_prime { HasNoPrime (plain_option tree.now) }
     ensures found { IfSome result (λ bar. (e : ℕ → ℕ → Bool) (s : NameSet) → IsAdjacency e
@@ -61,12 +61,13 @@ fn bar_below(kind: Kind, children: &Children, class: Class) -> Option<Bar>
     None
 }
 
-// A bar at a node of this kind with these children: it has one where it has two children that are no
-// leaves, and is of a kind that may have one alone.
+// A bar at a node of this kind with these children: it has one where it has two children that are
+// no leaves, and is of a kind that may have one alone.
 fn bar_at(kind: Kind, children: &Children, class: Class) -> Option<Bar>
     ensures found { IfSome result (λ bar. (ps : List Pair)
         → IsFoundIn class (node kind (row_of_children children.now) ps) bar) }
-    ensures none { IfNone result (IsNarrow class kind → HasOneInner (row_of_children children.now)) }
+    ensures none { IfNone result (IsNarrow class kind
+        → HasOneInner (row_of_children children.now)) }
 {
     if !is_narrow(class, kind) {
         return None;

@@ -1,5 +1,5 @@
-//! The law of bars, the contract of a function that does nothing. It speaks of any set of names with
-//! a test of adjacency.
+//! The law of bars, the contract of a function that does nothing. It speaks of any set of names
+//! with a test of adjacency.
 ghost use Rattle.md_bar_tree.specs.Laws.{NoBarIfFewInner};
 
 /// A graph without an induced path on four vertices has no bar of a class exactly where in its tree

@@ -1,5 +1,5 @@
-//! Bars of trivially perfect graphs and of threshold graphs: four vertices by which a graph is none,
-//! found in its tree, and tested on the graph.
+//! Bars of trivially perfect graphs and of threshold graphs: four vertices by which a graph is
+//! none, found in its tree, and tested on the graph.
 #![tactic(auto)]
 
 mod bar_search;
@@ -9,16 +9,16 @@ pub mod laws;
 pub use bar_search::bar_of;
 pub use bar_test::is_bar;
 
-/// A class of graphs: trivially perfect graphs, which have no induced path or cycle on four vertices,
-/// or threshold graphs, which have besides no two edges without an edge between them.
+/// A class of graphs: trivially perfect graphs, which have no induced path or cycle on four
+/// vertices, or threshold graphs, which have besides no two edges without an edge between them.
 #[derive(Clone, Copy, PartialEq, Eq, Debug)]
 pub enum Class {
     Trivial,
     Threshold,
 }
 
-/// The kinds of bars: a path on four vertices, a cycle on four, and two edges without an edge between
-/// them.
+/// The kinds of bars: a path on four vertices, a cycle on four, and two edges without an edge
+/// between them.
 #[derive(Clone, Copy, PartialEq, Eq, Debug)]
 pub enum BarKind {
     P4,
@@ -26,9 +26,9 @@ pub enum BarKind {
     TwoK2,
 }
 
-/// Four vertices by which a graph is not of a class. Of a path a-b-c-d the end `a` is below `d`; of a
-/// cycle a-b-c-d `a` is the least and `b` below `d`; of the edges a-b and c-d each has its smaller end
-/// first, and `a` is below `c`.
+/// Four vertices by which a graph is not of a class. Of a path a-b-c-d the end `a` is below `d`; of
+/// a cycle a-b-c-d `a` is the least and `b` below `d`; of the edges a-b and c-d each has its
+/// smaller end first, and `a` is below `c`.
 #[derive(Clone, Copy, PartialEq, Eq, Debug)]
 pub struct Bar {
     pub kind: BarKind,

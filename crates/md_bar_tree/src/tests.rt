@@ -136,8 +136,8 @@ fn bars_of_graphs(rt: HostRuntime) -> Result<(), Fail> {
     Ok(())
 }
 
-// The shape of a tree, a text of its names, brackets and commas, with a name behind the part from the
-// byte at `from` to that at `to`, in new brackets with that part.
+// The shape of a tree, a text of its names, brackets and commas, with a name behind the part from
+// the byte at `from` to that at `to`, in new brackets with that part.
 fn with_name(
     alloc: Global,
     shape: &[u8],

@@ -16,7 +16,7 @@ ghost use Rattle.md_decompose.specs.declared.decomposition.Open.{Open};
 
 use crate::children::children;
 use crate::nested_modules::Nested;
-use md_graph::{GraphOf, Memory};
+use md_graph::{GraphOf, Memory, Set};
 use md_modules::CompactSet;
 use md_tree::{Kind, Part, Tree, build};
 use std::alloc::Global;
@@ -47,26 +47,45 @@ pub fn decompose<const W: usize>(alloc: Global, graph: &GraphOf<W>) -> Result<Op
     ensures well_formed { IfOk result (λ tree. IsWellFormed (plain_option tree)) }
     ensures denotes { IfOk result (λ tree. graph_of_tree (plain_option tree) ≡ graph.now) }
 {
-    let _vertices = graph.vertices();
-    let Some(_) = graph.next_vertex(0) else {
+    decompose_within(alloc, graph, graph.vertices())
+}
+
+/// The tree of the strong modules of the graph on a set of its vertices, none exactly for the set
+/// without members; no graph is made for it. Condition: the names are vertices. Errors: want of
+/// memory.
+pub fn decompose_within<const W: usize>(
+    alloc: Global,
+    graph: &GraphOf<W>,
+    names: &Set<W>,
+) -> Result<Option<Tree>, Memory>
+    requires { Within names.now graph.now.vertices }
+    ensures tree { IfOk result (λ tree.
+        IsTree (adjacent graph.now) names.now (plain_option tree)) }
+{
+    let Some(_) = names.first_from(0) else {
         return Ok(None);
     };
-    let parts = parts(alloc, graph)?;
+    let parts = parts(alloc, graph, names)?;
     Ok(Some(build(alloc, parts)?))
 }
 
-// The parts of the tree of a graph with a vertex. A prime graph has one more than vertices; room
-// for so many is taken at once, and for as many that wait.
-fn parts<const W: usize>(alloc: Global, graph: &GraphOf<W>) -> Result<Vec<Part>, Memory>
-    requires { HasSome graph.now.vertices }
+// The parts of the tree of the graph on the names, of which there is one. A prime graph has one
+// more than vertices; room for so many is taken at once, and for as many that wait.
+fn parts<const W: usize>(
+    alloc: Global,
+    graph: &GraphOf<W>,
+    names: &Set<W>,
+) -> Result<Vec<Part>, Memory>
+    requires some { HasSome names.now }
+    requires inside { Within names.now graph.now.vertices }
     ensures { IfOk result (λ parts. (t : PlainTree)
-        × IsTreeOf (adjacent graph.now) graph.now.vertices t
+        × IsTreeOf (adjacent graph.now) names.now t
         × (map plain_part parts.items ≡ parts_of t)) }
 {
-    let vertices = graph.vertices();
-    let mut parts = Vec::with_capacity(alloc, vertices.count() as usize + 1)?;
-    let mut waiting = Vec::with_capacity(alloc, vertices.count() as usize + 1)?;
-    let whole = CompactSet::of(alloc, vertices)?;
+    let _vertices = graph.vertices();
+    let mut parts = Vec::with_capacity(alloc, names.count() as usize + 1)?;
+    let mut waiting = Vec::with_capacity(alloc, names.count() as usize + 1)?;
+    let whole = CompactSet::of(alloc, names)?;
     waiting.push(open_set(whole, None, Nested::none(alloc)))?;
     let mut places = Vec::new(alloc);
     while let Some(next) = waiting.pop() {

@@ -13,7 +13,7 @@ mod prime;
 mod quotient;
 mod refined;
 
-pub use decomposition::decompose;
+pub use decomposition::{decompose, decompose_within};
 
 #[cfg(test)]
 mod tests;

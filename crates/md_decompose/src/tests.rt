@@ -122,6 +122,58 @@ fn prime_graphs_below(rt: HostRuntime) -> Result<(), Fail> {
     Ok(())
 }
 
+// Sees that the graph on the names has the tree with this text.
+fn check_within(
+    rt: &impl Abort,
+    alloc: Global,
+    graph: &Graph,
+    names: &[u32],
+    expected: &[u8],
+) -> Result<(), Memory> {
+    let mut listed = Names::none();
+    for v in names {
+        assert!(rt; *v < NAMES);
+        listed.insert(*v);
+    }
+    let set = graph.vertices().and(&listed);
+    let tree = decompose_within(alloc, graph, &set)?;
+    let written = text(alloc, &tree)?;
+    assert_eq!(rt; written.as_slice(), expected);
+    Ok(())
+}
+
+#[test]
+fn parts_of_a_prime_graph(rt: HostRuntime) -> Result<(), Fail> {
+    let a = rt.alloc();
+    let edges = [(0, 1), (1, 2), (2, 3), (1, 4)];
+    let graph = made(&rt, a, &[0, 1, 2, 3, 4], &edges)?;
+    let rows: [(&[u32], &[u8]); 7] = [
+        (&[], b"empty"),
+        (&[3], b"3"),
+        (&[0, 4], b"P(0,4)"),
+        (&[0, 2, 3], b"P(0,S(2,3))"),
+        (&[0, 1, 2, 4], b"S(P(0,2,4),1)"),
+        (&[1, 2, 3, 4], b"R(1,2,3,4;0-1,0-3,1-2)"),
+        (&[0, 1, 2, 3, 4], b"R(P(0,4),1,2,3;0-1,1-2,2-3)"),
+    ];
+    for (names, expected) in rows {
+        check_within(&rt, a, &graph, names, expected)?;
+    }
+    Ok(())
+}
+
+#[test]
+fn parts_of_a_cograph(rt: HostRuntime) -> Result<(), Fail> {
+    let a = rt.alloc();
+    let square = [(0, 1), (1, 2), (2, 3), (0, 3)];
+    let graph = made(&rt, a, &[0, 1, 2, 3], &square)?;
+    check_within(&rt, a, &graph, &[0, 2], b"P(0,2)")?;
+    check_within(&rt, a, &graph, &[1, 2], b"S(1,2)")?;
+    check_within(&rt, a, &graph, &[0, 1, 3], b"S(0,P(1,3))")?;
+    check_within(&rt, a, &graph, &[3, 2, 1, 0], b"S(P(0,2),P(1,3))")?;
+    Ok(())
+}
+
 // Each vertex with an even name is adjacent to all lower ones, and each other vertex to none of
 // them.
 fn threshold(rt: &impl Abort, alloc: Global) -> Result<Graph, Memory> {

@@ -17,10 +17,11 @@ use std::io::{self, Read, Write};
 fn main(rt: HostRuntime) -> io::Result<()> {
     let mut file = Vec::new(rt.alloc());
     rt.stdin().read_to_end(&mut file)?;
-    let answer = match scan(&file, NAMES) {
+    let bytes = file.as_slice();
+    let answer = match scan(bytes, NAMES) {
         Ok(count) => {
             let mut answer = Vec::new(rt.alloc());
-            let mut lines = Lines::new(&file);
+            let mut lines = Lines::new(bytes);
             for _ in 0..count {
                 let Ok(mut graph) = Graph::new(rt.alloc()) else {
                     return println!(rt; "out of memory");

@@ -1,30 +1,35 @@
 -- Rooms for graphs of four sizes, of which one is in use.
 -- Source: our own.
-use Rattle.std.specs.Prelude.{◌≡◌, Option, None, Some}
+use Rattle.std.specs.Prelude.{◌≡◌, Option, None, Some, Box}
+use Rattle.std.specs.declared.alloc.Global.{Global}
 use Rattle.md_graph.specs.PlainGraph.{PlainGraph, empty_graph}
 use Rattle.md_input.specs.declared.room.GraphBySize.{GraphBySize}
 use Rattle.md_input.specs.declared.room.GraphBySize.TheVariants.{Small, Medium, Broad, Large}
 use Rattle.md_input.specs.declared.room.Width.{Width}
 use Rattle.md_input.specs.declared.room.Width.TheVariants.{One, Sixteen, SixtyFour, Most}
 
--- the graph; without room for it the one without vertices
-abbrev pub graph_or_empty : Option PlainGraph → PlainGraph
+-- a graph in rows of a width, where these were taken
+abbrev pub BoxedGraph : Type 0
+BoxedGraph = Option (Box PlainGraph Global)
+
+-- the graph in the rows; where they weren't taken the one without vertices
+abbrev pub graph_or_empty : BoxedGraph → PlainGraph
 graph_or_empty None = empty_graph
-graph_or_empty (Some g) = g
+graph_or_empty (Some g) = g.value
 
 -- the graph in the room of the width that is in use
-abbrev pub graph_in : Width → PlainGraph → Option PlainGraph → Option PlainGraph → Option PlainGraph → PlainGraph
+abbrev pub graph_in : Width → PlainGraph → BoxedGraph → BoxedGraph → BoxedGraph → PlainGraph
 graph_in One small medium broad large = small
 graph_in Sixteen small medium broad large = graph_or_empty medium
 graph_in SixtyFour small medium broad large = graph_or_empty broad
 graph_in Most small medium broad large = graph_or_empty large
 
 -- this room has no vertices
-abbrev pub HasNone : Option PlainGraph → Type 0
+abbrev pub HasNone : BoxedGraph → Type 0
 HasNone room = graph_or_empty room ≡ empty_graph
 
 -- the other ones have no vertices
-abbrev pub IsOneIn : Width → PlainGraph → Option PlainGraph → Option PlainGraph → Option PlainGraph → Type 0
+abbrev pub IsOneIn : Width → PlainGraph → BoxedGraph → BoxedGraph → BoxedGraph → Type 0
 IsOneIn One small medium broad large = HasNone medium × (HasNone broad × HasNone large)
 IsOneIn Sixteen small medium broad large = (small ≡ empty_graph) × (HasNone broad × HasNone large)
 IsOneIn SixtyFour small medium broad large = (small ≡ empty_graph) × (HasNone medium × HasNone large)

@@ -43,14 +43,14 @@ enum Width {
 
 /// Room for one graph after the other, seen as the graph that is in it. A graph takes the fewest
 /// words a row that have its vertices. The rows of a width are taken when the first graph of that
-/// width comes, and stay.
+/// width comes, and stay; all but those of one word stand in a box, since a room is moved.
 #[derive(Drop)]
 pub struct Room {
     width: Width,
     small: GraphOf<1>,
-    medium: Option<GraphOf<16>>,
-    broad: Option<GraphOf<64>>,
-    large: Option<Graph>,
+    medium: Option<Box<GraphOf<16>>>,
+    broad: Option<Box<GraphOf<64>>>,
+    large: Option<Box<Graph>>,
 }
 
 impl Model for Room {
@@ -103,19 +103,19 @@ impl Room {
         let mut medium = GraphOf::new(alloc)?;
         if is_read(file, MEDIUM, limit, &mut medium)? {
             room.width = Width::Sixteen;
-            room.medium = Some(medium);
+            room.medium = Some(boxed(alloc, medium)?);
             return Ok(room);
         }
         let mut broad = GraphOf::new(alloc)?;
         if is_read(file, BROAD, limit, &mut broad)? {
             room.width = Width::SixtyFour;
-            room.broad = Some(broad);
+            room.broad = Some(boxed(alloc, broad)?);
             return Ok(room);
         }
         let mut large = Graph::new(alloc)?;
         md_dimacs::read(file, limit, &mut large)?;
         room.width = Width::Most;
-        room.large = Some(large);
+        room.large = Some(boxed(alloc, large)?);
         Ok(room)
     }
 
@@ -186,9 +186,16 @@ impl Room {
     }
 }
 
+// The graph in a box. Errors: want of memory.
+fn boxed<const W: usize>(alloc: Global, graph: GraphOf<W>) -> Result<Box<GraphOf<W>>, Memory>
+    ensures { IfOk result (λ boxed. boxed.value ≡ graph.entry) }
+{
+    Ok(Box::new(alloc, graph)?)
+}
+
 // All vertices and edges go. Never inlined, so that small graphs don't pay for it.
 #[inline(never)]
-fn clear_rows<const W: usize>(rows: &mut Option<GraphOf<W>>)
+fn clear_rows<const W: usize>(rows: &mut Option<Box<GraphOf<W>>>)
     requires limit { W ≤ WORDS }
     ensures { graph_or_empty rows.new ≡ empty_graph }
 {
@@ -204,7 +211,7 @@ fn clear_rows<const W: usize>(rows: &mut Option<GraphOf<W>>)
 #[inline(never)]
 fn fill_rows<const W: usize>(
     alloc: Global,
-    rows: &mut Option<GraphOf<W>>,
+    rows: &mut Option<Box<GraphOf<W>>>,
     lines: &mut Lines,
 ) -> Result<bool, Memory>
     requires limit { W ≤ WORDS }
@@ -220,7 +227,7 @@ fn fill_rows<const W: usize>(
 {
     let mut graph = match rows.take() {
         Some(graph) => graph,
-        None => GraphOf::new(alloc)?,
+        None => boxed(alloc, GraphOf::new(alloc)?)?,
     };
     let found = lines.take_first(&mut graph);
     *rows = Some(graph);
@@ -228,9 +235,9 @@ fn fill_rows<const W: usize>(
 }
 
 // Reads the graph of a DIMACS file whose names are below the limit if they are below `most` too,
-// and answers true; false where the limit is greater and they aren't, and the graph then stays without
-// vertices. Conditions: the graph has no vertices, and room for names below `most`. Errors: the
-// first fault of the file under the limit.
+// and answers true; false where the limit is greater and they aren't, and the graph then stays
+// without vertices. Conditions: the graph has no vertices, and room for names below `most`. Errors:
+// the first fault of the file under the limit.
 pub(crate) fn is_read<const W: usize>(
     file: &[u8],
     most: u32,

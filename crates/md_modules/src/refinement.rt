@@ -77,7 +77,14 @@ pub fn cut_classes<const W: usize>(
     // most two such looks a class. So k classes in a set of m names cost about 4km passes at most.
     while at < classes.len() && classes.len() < most {
         if let Some(p) = splitter(graph, &classes[at], &mut left) {
-            split(alloc, &mut classes, at, graph.neighbours(p), &mut left, &mut other)?;
+            split(
+                alloc,
+                &mut classes,
+                at,
+                graph.neighbours(p),
+                &mut left,
+                &mut other,
+            )?;
         } else {
             at = next_several(&classes, at + 1);
             begin(set, &classes, at, &mut left);

@@ -7,7 +7,7 @@ use Rattle.md_decompose.proofs.Opened.{IsOpened}
 use Rattle.md_decompose.proofs.decomposition.parts.Given as goal
 
 abbrev pub invariant-loop-next : goal.invariant-loop-next
-invariant-loop-next g l = IsOpened (adjacent l.graph) l.graph.vertices (map plain_part l.parts.items) l.waiting.items
+invariant-loop-next g l = IsOpened (adjacent l.graph) l.names (map plain_part l.parts.items) l.waiting.items
 
 abbrev pub decreases-loop-next : goal.decreases-loop-next
 decreases-loop-next g l = weights (sets_of l.waiting.items)

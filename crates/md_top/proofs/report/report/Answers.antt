@@ -9,14 +9,14 @@ use Rattle.md_top.proofs.report.report.Goals as goal
 
 pub returns-in_err-graphs-clause-ends : goal.returns-in_err-graphs-clause-ends
 returns-in_err-graphs-clause-ends g c =
-    command_refused (Graphs (Report c.args.mode) c.args.from c.args.file.now) _ _ _ _ _ (λ named is. is) c.in_err-graphs.ensures.stops c.from_residual.ensures.1
+    command_refused (Graphs (Report c.args.mode) c.args.from c.args.file.now) _ _ _ _ _ (λ named is. is) (rw c.limit.ensures.value at c.in_err-graphs.ensures.stops) c.from_residual.ensures.1
 
 pub returns-in_err-put_report-clause-ends : goal.returns-in_err-put_report-clause-ends
 returns-in_err-put_report-clause-ends g c =
-    command_stopped _ (over_graphs (Report c.args.mode) c.in_ok-graphs.graphs) (c.in_ok-graphs.graphs, c.in_ok-graphs.ensures.spells, refl) c.in_ok-graphs.ensures.faultless _ Done _ _
+    command_stopped _ (over_graphs (Report c.args.mode) c.in_ok-graphs.graphs) (c.in_ok-graphs.graphs, c.in_ok-graphs.ensures.spells, refl) (rw c.limit.ensures.value at c.in_ok-graphs.ensures.faultless) _ Done _ _
     c.in_err-put_report.ensures.puts c.from_residual-in_err-put_report.ensures.1
 
 pub returns-clause-ends : goal.returns-clause-ends
 returns-clause-ends g c =
-    command_done _ (over_graphs (Report c.args.mode) c.in_ok-graphs.graphs) (c.in_ok-graphs.graphs, c.in_ok-graphs.ensures.spells, refl) c.in_ok-graphs.ensures.faultless _ Done
+    command_done _ (over_graphs (Report c.args.mode) c.in_ok-graphs.graphs) (c.in_ok-graphs.graphs, c.in_ok-graphs.ensures.spells, refl) (rw c.limit.ensures.value at c.in_ok-graphs.ensures.faultless) _ Done
     c.in_ok-put_report.ensures.puts

@@ -1,0 +1,5 @@
+pub mod DirectedLimits
+pub mod DigraphLemmas
+mod ArcRowLemmas
+pub mod ArcTurns
+mod ArcLaws

@@ -1,0 +1,5 @@
+pub mod PlainDigraph
+pub mod ArcRows
+pub mod ArcColours
+pub mod ArcsSeen
+pub mod Laws

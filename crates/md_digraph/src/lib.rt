@@ -1,0 +1,21 @@
+//! Directed graphs: one row of successors and one of predecessors a name, the least modules, and
+//! the components of both kinds.
+#![tactic(auto)]
+
+mod closure_search;
+mod components;
+mod digraph;
+pub mod laws;
+mod shared;
+#[cfg(test)]
+mod tests;
+
+pub use closure_search::{directed_closure, directed_closure_in, directed_grow};
+pub use components::{parallel_component, series_component};
+pub use digraph::{Digraph, DigraphOf};
+
+/// How many names directed graphs have: a vertex is a number below it.
+pub const DIRECTED_NAMES: u32 = 4096;
+
+/// How many words of 64 bits hold one bit for each name of a directed graph.
+pub const DIRECTED_WORDS: usize = 64;

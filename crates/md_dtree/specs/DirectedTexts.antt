@@ -1,0 +1,19 @@
+-- The texts of trees of directed graphs, and the answers of their reader.
+-- Source: this project's own format of trees.
+use Rattle.std.specs.Prelude.{ℕ, List, Option, Result}
+use Rattle.md_tree.specs.declared.TreeOf.{TreeOf}
+use Rattle.md_tree.specs.declared.reader.TreeFault.{TreeFault}
+use Rattle.md_tree.specs.Trees.{PlainTreeOf}
+use Rattle.md_tree.specs.TreeTexts.{text_of_by}
+use Rattle.md_tree.specs.Reading.{IsTreeReadingBy}
+use Rattle.md_dtree.specs.declared.DKind.{DKind}
+use Rattle.md_dtree.specs.declared.DPair.{DPair}
+use Rattle.md_dtree.specs.DirectedSpelling.{directed_spelling}
+
+-- the text of a tree: `P(`, `S(`, `O(` or `R(`, and so on; the word `empty` where there is none
+abbrev pub directed_text_of : Option (PlainTreeOf DKind DPair) → List ℕ
+directed_text_of = text_of_by directed_spelling
+
+-- the answers of the reader for these texts
+abbrev pub IsDirectedReading : List ℕ → Result (Option (TreeOf DKind DPair)) TreeFault → Type 0
+IsDirectedReading = IsTreeReadingBy directed_spelling

@@ -1,0 +1,2 @@
+pub mod DirectedSpelling
+pub mod DirectedTexts

@@ -1,0 +1,44 @@
+//! Writes and reads the texts of trees of directed graphs.
+ghost use Rattle.std.specs.Prelude.{◌≡◌, ◌++◌, IfOk, OnOk, OnErr};
+ghost use Rattle.md_tree.specs.Plain.{plain_option};
+ghost use Rattle.md_dtree.specs.DirectedTexts.{directed_text_of, IsDirectedReading};
+
+use crate::DTree;
+use md_graph::Memory;
+use md_tree::{TreeFault, push_text_of, read_tree_of};
+use std::alloc::Global;
+
+/// The text of a tree: a name in digits, and a node as `P`, `S`, `O` or `R`, then in brackets its
+/// children with commas between them, and where the node is prime a semicolon and its pairs, as
+/// `0>2`, with commas between them. The text `empty` where there is no tree. Errors: want of
+/// memory.
+pub fn text_directed(alloc: Global, tree: &Option<DTree>) -> Result<Vec<u8>, Memory>
+    ensures text { IfOk result (λ v. v.items ≡ directed_text_of (plain_option tree.now)) }
+{
+    let mut text = Vec::new(alloc);
+    push_text_directed(alloc, &mut text, tree)?;
+    Ok(text)
+}
+
+/// Appends the text of a tree: the one that `text_directed` makes. Errors: want of memory; the text
+/// to which it was to be appended then stays.
+pub fn push_text_directed(
+    alloc: Global,
+    text: &mut Vec<u8>,
+    tree: &Option<DTree>,
+) -> Result<(), Memory>
+    ensures written { OnOk result (text.new.items
+        ≡ text.old.items ++ directed_text_of (plain_option tree.now)) }
+    ensures stays { OnErr result (text.new.items ≡ text.old.items) }
+{
+    push_text_of(alloc, text, tree)
+}
+
+/// The tree with this text, none for the word `empty`. No call nests as deep as the tree. Errors:
+/// where the bytes leave the grammar; or they are the text of no well-formed tree; or want of
+/// memory.
+pub fn read_directed(alloc: Global, bytes: &[u8]) -> Result<Option<DTree>, TreeFault>
+    ensures reading { IsDirectedReading bytes.now result }
+{
+    read_tree_of(alloc, bytes)
+}
