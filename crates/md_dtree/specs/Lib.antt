@@ -1,2 +1,0 @@
-pub mod DirectedSpelling
-pub mod DirectedTexts
