@@ -56,7 +56,8 @@ impl<'a> Model for Checker<'a> {
 
 impl<'a> Checker<'a> {
     /// The checker of a report of a mode over the graphs of a graph file, before its head. The file
-    /// is read whole first, under the limit of names of the mode. Errors: the first fault of the graph file; want of memory.
+    /// is read whole first, under the limit of names of the mode. Errors: the first fault of the
+    /// graph file; want of memory.
     pub fn over_graphs(
         alloc: Global,
         mode: GraphMode,

@@ -1,5 +1,5 @@
-//! What holds of the numbers of this crate. Each function has an empty body, and its contract is the
-//! law.
+//! What holds of the numbers of this crate. Each function has an empty body, and its contract is
+//! the law.
 ghost use Rattle.std.specs.Prelude.{◌≡◌};
 
 use crate::BROAD;

@@ -228,9 +228,9 @@ fn fill_rows<const W: usize>(
 }
 
 // Reads the graph of a DIMACS file whose names are below the limit if they are below `most` too,
-// and answers true; false where the limit is greater and they aren't, and the graph then stays without
-// vertices. Conditions: the graph has no vertices, and room for names below `most`. Errors: the
-// first fault of the file under the limit.
+// and answers true; false where the limit is greater and they aren't, and the graph then stays
+// without vertices. Conditions: the graph has no vertices, and room for names below `most`. Errors:
+// the first fault of the file under the limit.
 pub(crate) fn is_read<const W: usize>(
     file: &[u8],
     most: u32,

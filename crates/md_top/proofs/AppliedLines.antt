@@ -1,5 +1,5 @@
 -- The line of an edit that a session on cographs applied.
-use Rattle.std.proofs.Common.{◌≡◌, ◌⊎◌, ◌<◌, Option, Some, None, refl, subst, inl, inr}
+use Rattle.std.proofs.Common.{◌≡◌, Option, Some, None, refl, subst, inl, inr}
 use Rattle.md_graph.specs.PlainGraph.{PlainGraph, adjacent}
 use Rattle.md_tree.specs.Trees.{PlainTree}
 use Rattle.md_tree.specs.StrongTrees.{IsTree}

@@ -1,12 +1,16 @@
 -- Runs of sessions on cographs, one behind the other.
-use Rattle.std.proofs.Common.{◌≡◌, ℕ, suc, ◌+◌, ◌-◌, ◌%◌, Bool, not, length, List, [], ◌∷◌, ◌++◌, Option, Some, None, refl, sym, ◌∙◌, ap, subst, inl, inr, arith, length-append}
-use Rattle.std.proofs.lemmas.List.Elements.{filter-append}
-use Rattle.std.specs.List.{filter}
+use Rattle.std.proofs.Common.{◌≡◌, ◌<◌, ◌≤◌, ℕ, suc, true, false, nat_le, nat_lt, if◌then◌else◌, ◌+◌, ◌-◌, ◌%◌, Bool, not, length, List, [], ◌∷◌, ◌++◌, Option, Some, None, refl, sym, ◌∙◌, ap, subst, inl, inr, arith, length-append}
+use Rattle.std.proofs.lemmas.List.Elements.{filter-append, All-weaker}
+use Rattle.std.proofs.lemmas.Bool.{and_parts, ltb-true}
+use Rattle.std.specs.List.{All, filter}
 use Rattle.std.specs.FinSet.{empty, union}
 use Rattle.md_graph.specs.PlainGraph.{PlainGraph, empty_graph}
-use Rattle.md_graph.specs.NameSet.{range}
+use Rattle.md_graph.specs.declared.TheConstants.{NAMES}
+use Rattle.md_graph.specs.NameSet.{AllBelow, ascending, ascending_between, range}
 use Rattle.md_graph.specs.Sets.{NameSet, Has}
-use Rattle.md_graph.proofs.Ranges.{union_none}
+use Rattle.md_graph.proofs.MemberLists.{ascending_limit}
+use Rattle.md_graph.proofs.NameLemmas.{IsItem, ascending_items}
+use Rattle.md_graph.proofs.Ranges.{contains-range, union_none}
 use Rattle.md_graph.proofs.SetLemmas.{clash, empty_lacks}
 use Rattle.md_modules.specs.declared.induced_paths.P4.{P4}
 use Rattle.md_script.specs.declared.edit.Edit.{Edit}
@@ -21,7 +25,7 @@ use Rattle.md_session.specs.declared.cograph.Answer.TheVariants.{Applied, Refuse
 use Rattle.md_session.specs.Answers.{IsOpened, IsAnswered, IsAnsweredBy}
 use Rattle.md_session.specs.declared.cograph.OpenedOf as opened
 use Rattle.md_session.specs.declared.cograph.OpenedOf.TheVariants.{NotCograph}
-use Rattle.md_top.specs.Big.{edits_below, neighbours_before, deletions_at, RunsTo}
+use Rattle.md_top.specs.Big.{edits_below, is_odd, neighbours_before, deletions_at, RunsTo}
 
 -- no edit
 pub runs_none : (g : PlainGraph) → RunsTo g [] 0 0 g
@@ -108,3 +112,16 @@ odd_before v old new odd none is =
 -- an even name is left out
 pub even_left_out : (v : ℕ) (g h : PlainGraph) (a b : ℕ) → v % 2 ≡ 0 → RunsTo g (DelVertex v ∷ []) a b h → RunsTo g (deletions_at v) a b h
 even_left_out v g h a b even runs = rw even runs
+
+-- the neighbours of a new name come before it
+before_below : (v w : ℕ) → Has (neighbours_before v) w → w < v
+before_below v w = by_odd (is_odd v) where
+  by_odd : (b : Bool) → Has (if b then range 0 v else empty) w → w < v
+  by_odd true new = let less = ltb-true w (0 + v) (and_parts (nat_le 0 w) (nat_lt w (0 + v)) (sym (contains-range 0 v w) ∙ new)).1 in omega arith
+  by_odd false none = clash none (empty_lacks w)
+
+pub all_before : (v limit : ℕ) (s : NameSet) (names : List ℕ) → v < limit → limit ≤ NAMES → s ≡ neighbours_before v → names ≡ ascending s → All (λ w. w < limit) names
+all_before v limit s names below most is same =
+    let within : AllBelow s limit = λ w has. (let less = before_below v w (subst (λ (x : NameSet). Has x w) is has) in omega arith) in
+    subst (All (λ w. w < limit)) (ascending_limit s 0 limit within most ∙ sym same)
+    (All-weaker (IsItem s 0 limit) (λ w. w < limit) (λ w item. item.below) (ascending_between s 0 limit) (ascending_items s 0 limit))

@@ -6,13 +6,13 @@ use Rattle.std.specs.declared.alloc.Global.{Global}
 use Rattle.std.specs.declared.string.String.{String}
 use Rattle.std.specs.Str.{bytes_eq}
 use Rattle.md_text.specs.Numbers.{number_of}
-use Rattle.md_graph.specs.declared.TheConstants.{NAMES}
 use Rattle.md_input.specs.declared.format.Format.{Format}
 use Rattle.md_input.specs.declared.format.Format.TheVariants.{G6, Dimacs}
 use Rattle.md_report.specs.declared.line.GraphMode.{GraphMode}
 use Rattle.md_report.specs.declared.line.GraphMode.TheVariants.{Shortest}
 use Rattle.md_report.specs.declared.line.SessionMode.{SessionMode}
 use Rattle.md_report.specs.Lines.{mode_of_word, as_graph_mode, as_session_mode}
+use Rattle.md_top.specs.declared.big.TheConstants.{BIGGEST}
 use Rattle.md_top.specs.declared.request.GraphForm.{GraphForm}
 use Rattle.md_top.specs.declared.request.GraphForm.TheVariants.{Convert, Report}
 use Rattle.md_top.specs.declared.request.Request.{Request}
@@ -102,9 +102,9 @@ session_check_request check mode from graph script report = None
 abbrev pub is_big : List ℕ → Bool
 is_big word = bytes_eq word (codes "big")
 
--- a number of names, if it is one: from 1 to NAMES
+-- a number of names, if it is one that such a session may have: from 1 to BIGGEST
 abbrev pub size_within : Option ℕ → Option ℕ
-size_within (Some n) = if nat_le 1 n && nat_le n NAMES then Some n else None
+size_within (Some n) = if nat_le 1 n && nat_le n BIGGEST then Some n else None
 size_within None = None
 
 -- the number of names that a word writes: 1 to 18 decimal digits, leading zeros among them
@@ -116,13 +116,13 @@ abbrev pub big_request : Bool → Option ℕ → Option (Request (List ℕ))
 big_request true (Some size) = Some (Big size)
 big_request big size = None
 
--- the number of names in a request is one
+-- the number of names in a request is one that such a session may have
 abbrev pub HasSize : {A : Type 0} → Request A → Type 0
 HasSize (Graphs form from graph) = Unit {0}
 HasSize (Session mode from graph script) = Unit {0}
 HasSize (CheckGraphs mode from graph report) = Unit {0}
 HasSize (CheckSession mode from graph script report) = Unit {0}
-HasSize (Big size) = size ≤ NAMES
+HasSize (Big size) = size ≤ BIGGEST
 
 -- the request that the words make
 abbrev pub request_of : List (List ℕ) → Option (Request (List ℕ))

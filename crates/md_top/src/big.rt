@@ -1,9 +1,9 @@
 //! A session on cographs over the edits that a number gives, told in five numbers.
 ghost use Rattle.std.specs.Prelude.{◌≡◌, ◌<◌, ◌≤◌, ◌+◌, ◌-◌, ℕ, [], ◌∷◌, ◌++◌, length, IfOk};
-ghost use Rattle.md_graph.specs.declared.TheConstants.{NAMES as names};
 ghost use Rattle.md_graph.specs.PlainGraph.{empty_graph};
 ghost use Rattle.md_text.specs.Numbers.{decimal};
-ghost use Rattle.md_script.specs.Edit.{HasNames};
+ghost use Rattle.md_script.specs.Edit.{HasNamesBelow};
+ghost use Rattle.md_session.specs.Answers.{IsAnswered};
 ghost use Rattle.md_top.specs.declared.request.Request.{Request};
 ghost use Rattle.md_top.specs.declared.short.TheConstants.{ROOM};
 ghost use Rattle.md_top.specs.Big.{neighbours_before, insertion, cuts_at, deletions_at, inserts, cuts, deletions, RunsTo, AreNumbersOf, numbers_line};
@@ -11,14 +11,18 @@ ghost use Rattle.md_top.specs.Sinks.{sink_run};
 ghost use Rattle.md_top.specs.Command.{CommandEnds};
 
 use crate::put::put_piece;
-use crate::session::answer;
 use crate::short::ShortText;
 use crate::stop::{Stop, Verdict};
-use md_graph::{Graph, Memory, Names};
+use md_graph::{GraphOf, Memory, Names, Steps};
 use md_io::Sink;
 use md_script::{Edit, Neighbours};
-use md_session::{Answer, CographSession, Opened};
+use md_session::{Answer, CographSessionOf, OpenedOf};
 use std::alloc::Global;
+use std::marker::Brand;
+use std::sync::ledger::{Blank, Ledger};
+
+/// How many names a session over the edits that a number gives may have.
+pub const BIGGEST: u32 = 4_096;
 
 /// What is told of the session.
 #[derive(Clone, Copy, Debug, PartialEq, Eq)]
@@ -35,9 +39,10 @@ pub struct Numbers {
     pub left_nodes: u64,
 }
 
-/// Puts the numbers of the session for a size, in one put. Condition: the size is one of a graph.
+/// Puts the numbers of the session for a size, in one put. Condition: the size is at most
+/// `BIGGEST`.
 pub fn big<O: Sink>(alloc: Global, size: u32, out: &mut O) -> Result<Verdict, Stop>
-    requires { size ≤ names }
+    requires { size ≤ BIGGEST }
     ensures ends { CommandEnds (Request.Big size) result (sink_run O.Sink out.old out.new) }
     ensures faults_never_fall { O.faults out.old ≤ O.faults out.new }
 {
@@ -47,9 +52,9 @@ pub fn big<O: Sink>(alloc: Global, size: u32, out: &mut O) -> Result<Verdict, St
     Ok(Verdict::Done)
 }
 
-// The session for a size, told in numbers. Condition: the size is one of a graph.
+// The session for a size, told in numbers. Condition: the size is at most `BIGGEST`.
 fn run_session(alloc: Global, size: u32) -> Result<Numbers, Memory>
-    requires { size ≤ names }
+    requires { size ≤ BIGGEST }
     ensures told { IfOk result (λ n. AreNumbersOf size n) }
 {
     let mut session = first_session(alloc)?;
@@ -67,19 +72,19 @@ fn run_session(alloc: Global, size: u32) -> Result<Numbers, Memory>
 }
 
 // A session on the graph without vertices.
-fn first_session(alloc: Global) -> Result<CographSession, Memory>
+fn first_session(alloc: Global) -> Result<CographSessionOf<64>, Memory>
     ensures first { IfOk result (λ session. session ≡ empty_graph) }
 {
-    let graph = Graph::new(alloc)?;
-    match CographSession::new(alloc, graph)? {
-        Opened::Session(session) => Ok(session),
-        Opened::NotCograph(_) => unreachable!(),
+    let graph = GraphOf::new(alloc)?;
+    match CographSessionOf::new(alloc, graph)? {
+        OpenedOf::Session(session) => Ok(session),
+        OpenedOf::NotCograph(_) => unreachable!(),
     }
 }
 
 // Takes in each name below a size; how many were taken in.
-fn insert_all(alloc: Global, session: &mut CographSession, size: u32) -> Result<u32, Memory>
-    requires { size ≤ names }
+fn insert_all(alloc: Global, session: &mut CographSessionOf<64>, size: u32) -> Result<u32, Memory>
+    requires { size ≤ BIGGEST }
     ensures run { IfOk result (λ done.
         (undone : ℕ) × RunsTo session.old (inserts size) done undone session.new) }
 {
@@ -91,8 +96,8 @@ fn insert_all(alloc: Global, session: &mut CographSession, size: u32) -> Result<
 }
 
 // Takes in a name; how many edits were applied.
-fn insert(alloc: Global, session: &mut CographSession, v: u32) -> Result<u32, Memory>
-    requires { v < names }
+fn insert(alloc: Global, session: &mut CographSessionOf<64>, v: u32) -> Result<u32, Memory>
+    requires { v < BIGGEST }
     ensures run { IfOk result (λ done.
         (undone : ℕ) × RunsTo session.old (insertion v ∷ []) done undone session.new) }
     ensures few { IfOk result (λ done. done ≤ 1) }
@@ -104,7 +109,7 @@ fn insert(alloc: Global, session: &mut CographSession, v: u32) -> Result<u32, Me
 
 // The neighbours of a new name.
 fn neighbours_before(v: u32) -> Names
-    requires { v < names }
+    requires { v < BIGGEST }
     ensures { result ≡ neighbours_before v }
 {
     let mut before = Names::none();
@@ -115,8 +120,8 @@ fn neighbours_before(v: u32) -> Names
 }
 
 // Tries to leave out the edges between 1 and the names below a size; how many could not be.
-fn cut_all(session: &mut CographSession, size: u32) -> u32
-    requires { size ≤ names }
+fn cut_all(session: &mut CographSessionOf<64>, size: u32) -> u32
+    requires { size ≤ BIGGEST }
     ensures run { (done : ℕ) × RunsTo session.old (cuts size) done result session.new }
 {
     let mut refused = 0;
@@ -127,8 +132,8 @@ fn cut_all(session: &mut CographSession, size: u32) -> u32
 }
 
 // Tries to leave out the edge between 1 and a name; how many edits were refused.
-fn cut(session: &mut CographSession, v: u32) -> u32
-    requires { v < names }
+fn cut(session: &mut CographSessionOf<64>, v: u32) -> u32
+    requires { v < BIGGEST }
     ensures run { (done : ℕ) × RunsTo session.old (cuts_at v) done result session.new }
     ensures few { result ≤ 1 }
 {
@@ -139,8 +144,8 @@ fn cut(session: &mut CographSession, v: u32) -> u32
 }
 
 // Leaves out the even names below a size.
-fn delete_all(session: &mut CographSession, size: u32)
-    requires { size ≤ names }
+fn delete_all(session: &mut CographSessionOf<64>, size: u32)
+    requires { size ≤ BIGGEST }
     ensures run { (done : ℕ) × (undone : ℕ)
         × RunsTo session.old (deletions size) done undone session.new }
 {
@@ -150,8 +155,8 @@ fn delete_all(session: &mut CographSession, size: u32)
 }
 
 // Leaves out a name if it is even.
-fn delete(session: &mut CographSession, v: u32)
-    requires { v < names }
+fn delete(session: &mut CographSessionOf<64>, v: u32)
+    requires { v < BIGGEST }
     ensures run { (done : ℕ) × (undone : ℕ)
         × RunsTo session.old (deletions_at v) done undone session.new }
 {
@@ -161,9 +166,9 @@ fn delete(session: &mut CographSession, v: u32)
 }
 
 // How many edits are applied of one that the session answers. Condition: the names in the edit are
-// names.
-fn done(session: &mut CographSession, edit: &Edit) -> u32
-    requires { HasNames edit.now }
+// below `BIGGEST`.
+fn done(session: &mut CographSessionOf<64>, edit: &Edit) -> u32
+    requires { HasNamesBelow BIGGEST edit.now }
     ensures run { RunsTo session.old (edit.now ∷ []) result (1 - result) session.new }
     ensures few { result ≤ 1 }
 {
@@ -172,6 +177,31 @@ fn done(session: &mut CographSession, edit: &Edit) -> u32
         Answer::Refused(_) => 0,
         Answer::RefusedP4(_) => 0,
     }
+}
+
+// The answer to an edit. Condition: the names in the edit are below `BIGGEST`.
+fn answer(session: &mut CographSessionOf<64>, edit: &Edit) -> Answer
+    requires { HasNamesBelow BIGGEST edit.now }
+    ensures { IsAnswered session.old edit.now result session.new }
+{
+    apply_counting::<Brand>(session, edit, Blank::new(1))
+}
+
+// The answer to an edit; nobody reads the steps. Condition: the names in the edit are below
+// `BIGGEST`.
+fn apply_counting<L: Ledger>(
+    session: &mut CographSessionOf<64>,
+    edit: &Edit,
+    blank: Blank,
+) -> Answer
+    requires name { blank.name ≡ L.name }
+    requires parts { blank.parts ≡ L.parts }
+    requires some { 0 < blank.parts }
+    requires names { HasNamesBelow BIGGEST edit.now }
+    ensures { IsAnswered session.old edit.now result session.new }
+{
+    let mut steps = Steps::<L>::new(blank);
+    session.apply(edit, &mut steps)
 }
 
 // The line that tells numbers.

@@ -1,6 +1,13 @@
 //! The laws of valid outputs, each the contract of a function that does nothing.
-
+ghost use Rattle.std.specs.Prelude.{◌≡◌};
 ghost use Rattle.md_top.specs.Laws.{FrontsBeginAnswers, OneOutput};
+
+use crate::big::BIGGEST;
+
+/// How many names a session over the edits that a number gives may have.
+pub fn greatest_size()
+    ensures { BIGGEST ≡ 4096 }
+{}
 
 /// What may be put before a fault is exactly the beginning of a whole valid output.
 pub fn fronts_begin_answers()

@@ -1,10 +1,9 @@
 //! What the program can be asked: the request that words make.
 ghost use Rattle.std.specs.Prelude.{◌≡◌, ◌≤◌, IfSome};
 ghost use Rattle.std.specs.Option.{option_map};
-ghost use Rattle.md_graph.specs.declared.TheConstants.{NAMES as names};
 ghost use Rattle.md_top.specs.Request.{texts, format_of, graph_form, graph_mode, session_mode, is_check, is_big, size_written, HasSize, request_of, seen};
 
-use md_graph::NAMES;
+use crate::big::BIGGEST;
 use md_input::Format;
 use md_report::{GraphMode, SessionMode, mode_of_word};
 use md_text::number;
@@ -92,13 +91,13 @@ fn is_big(word: &str) -> bool
     word == "big"
 }
 
-// The number of names that a word writes; none for any other word.
+// The number that a word writes, if it is one of 1 to `BIGGEST`; none for any other word.
 fn size_of(word: &str) -> Option<u32>
     ensures size { result ≡ size_written word.now }
-    ensures within { IfSome result (λ size. size ≤ names) }
+    ensures within { IfSome result (λ size. size ≤ BIGGEST) }
 {
     let size = number(word.as_bytes())?;
-    if 1 <= size && size <= NAMES as u64 {
+    if 1 <= size && size <= u64::from(BIGGEST) {
         return Some(size as u32);
     }
     None

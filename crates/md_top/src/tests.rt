@@ -416,7 +416,7 @@ fn models(rt: HostRuntime) -> Result<(), Fail> {
 #[test]
 fn sessions_of_a_size(rt: HostRuntime) -> Result<(), Fail> {
     let alloc = rt.alloc();
-    let table: [(&str, &[u8], &str); 14] = [
+    let table: [(&str, &[u8], &str); 15] = [
         (
             "big 1",
             b"",
@@ -454,6 +454,7 @@ fn sessions_of_a_size(rt: HostRuntime) -> Result<(), Fail> {
         ),
         ("big 0", b"", "2||mdt: usage\n"),
         ("big 4097", b"", "2||mdt: usage\n"),
+        ("big 16384", b"", "2||mdt: usage\n"),
         ("big x", b"", "2||mdt: usage\n"),
         ("big", b"", "2||mdt: usage\n"),
         ("big 0000000000000000005", b"", "2||mdt: usage\n"),
@@ -638,7 +639,7 @@ fn quiet_sessions(rt: HostRuntime) -> Result<(), Fail> {
 #[test]
 fn sessions(rt: HostRuntime) -> Result<(), Fail> {
     let alloc = rt.alloc();
-    let table: [(&str, &[u8], &[u8], &str); 15] = [
+    let table: [(&str, &[u8], &[u8], &str); 16] = [
         (
             "edit dimacs g s",
             b"p edge 3 2\ne 1 2\ne 2 3\n",
@@ -696,8 +697,14 @@ fn sessions(rt: HostRuntime) -> Result<(), Fail> {
         (
             "edit g6 g s",
             b"@\n",
-            b"-v 4096\n",
+            b"-v 16384\n",
             "3||mdt: script NameTooLarge line 1\n",
+        ),
+        (
+            "edit g6 g s",
+            b"@\n",
+            b"-v 4096\n",
+            "0|mdt edit\nt 0\nno vertex 4096\nend\n|",
         ),
         (
             "edit g6 g s",

@@ -1,6 +1,5 @@
 //! The top call: all that the program does.
 ghost use Rattle.std.specs.Prelude.{◌≡◌, ◌≢◌, ◌↔◌, ◌⊎◌, ◌<◌, ◌≤◌, ℕ, List, None, Some, IsTrue, OnOk};
-ghost use Rattle.md_graph.specs.declared.TheConstants.{NAMES as names};
 ghost use Rattle.md_io.specs.Count.{Rose};
 ghost use Rattle.md_input.specs.declared.fault.Fault.{Fault};
 ghost use Rattle.md_top.specs.declared.request.Request.{Request};
@@ -11,7 +10,7 @@ ghost use Rattle.md_top.specs.Sinks.{sink_run};
 ghost use Rattle.md_checker.specs.declared.answer.CheckAnswer.{CheckAnswer};
 ghost use Rattle.md_top.specs.Promise.{CanBeBad, CanBeGood, CanBeRejected, Puts, TakesLineOf, Ends};
 
-use crate::big::big;
+use crate::big::{BIGGEST, big};
 use crate::check::{graphs_check, session_check};
 use crate::convert::convert;
 use crate::err_line::put_line;
@@ -176,14 +175,14 @@ fn end<F: Files, O: Sink>(
 }
 
 // Runs the session over the edits that a number of names gives; no file is asked for.
-// Condition: the number is one of names.
+// Condition: the number is at most `BIGGEST`.
 fn end_big<F: Files, O: Sink>(
     alloc: Global,
     size: u32,
     _files: &mut F,
     out: &mut O,
 ) -> Result<Verdict, Stop>
-    requires { size ≤ names }
+    requires { size ≤ BIGGEST }
     ensures ends { Ends (Some (Request.Big size)) result
         (files_run F.Files _files.old _files.new) (sink_run O.Sink out.old out.new) }
     ensures told { F.holds _files.new ≡ F.holds _files.old }

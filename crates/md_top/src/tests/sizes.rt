@@ -153,30 +153,73 @@ fn runs_over_edge_files_of_all_sizes(rt: HostRuntime) -> Result<(), Fail> {
     Ok(())
 }
 
+// Sees what sessions put for that graph of a size, where its one edge goes, and a vertex with this
+// name comes and goes again.
+fn expect_sessions(rt: &impl Abort, alloc: Global, n: u32, name: u32) -> Result<(), Fail> {
+    let file = line_of(alloc, n)?;
+    let tree = tree_of(alloc, 0, n)?;
+    let others = names(alloc, 1, n)?;
+    let last = n.saturating_sub(1);
+    let script = format!(in alloc; "-e 0 {last}\n+v {name}\n-v {name}\n")?;
+    let less = format!(in alloc; "ok P(0{others})")?;
+    let more = format!(in alloc; "ok P(0{others},{name})")?;
+    for mode in ["edit", "cograph"] {
+        let line = format!(in alloc; "{mode} g6 g s")?;
+        let head = format!(in alloc; "mdt {mode}\nt {tree}\n{less}\n")?;
+        let want = format!(in alloc; "{head}{more}\n{less}\nend\n")?;
+        let put = output_of(alloc, line.as_str(), &file, script.as_bytes())?;
+        assert!(rt; put.as_slice() == want.as_bytes(), "{mode}, {n} vertices");
+    }
+    Ok(())
+}
+
 #[test]
 fn sessions_over_graphs_of_all_sizes(rt: HostRuntime) -> Result<(), Fail> {
     let alloc = rt.alloc();
-    for n in [62, 63, 64, 65, 1_023, 1_024, 1_025] {
-        let file = line_of(alloc, n)?;
-        let tree = tree_of(alloc, 0, n)?;
-        let others = names(alloc, 1, n)?;
-        let last = n.saturating_sub(1);
-        // The last of all names comes, and goes again.
-        let script = format!(in alloc; "-e 0 {last}\n+v 4095\n-v 4095\n")?;
-        let less = format!(in alloc; "ok P(0{others})")?;
-        let more = format!(in alloc; "ok P(0{others},4095)")?;
-        for mode in ["edit", "cograph"] {
+    for (n, name) in [
+        (62, 4_095),
+        (63, 4_096),
+        (64, 64),
+        (65, 16_383),
+        (1_023, 4_095),
+        (1_024, 4_096),
+        (1_025, 4_095),
+        (4_095, 4_095),
+        (4_096, 4_096),
+        (4_097, 4_097),
+    ] {
+        expect_sessions(&rt, alloc, n, name)?;
+    }
+    for (script, want) in [
+        ("+v 4095 0\n", "mdt edit\nt 0\nok S(0,4095)\nend\n"),
+        ("+v 4096 0\n", "mdt edit\nt 0\nok S(0,4096)\nend\n"),
+        ("+v 16383 0\n", "mdt edit\nt 0\nok S(0,16383)\nend\n"),
+    ] {
+        let put = output_of(alloc, "edit g6 g s", b"@\n", script.as_bytes())?;
+        assert_eq!(&rt; put.as_slice(), want.as_bytes());
+    }
+    Ok(())
+}
+
+#[test]
+fn reports_of_sessions_of_all_widths(rt: HostRuntime) -> Result<(), Fail> {
+    let alloc = rt.alloc();
+    for name in [4_095, 4_096] {
+        for mode in ["edit", "cograph", "quiet"] {
+            let script = format!(in alloc; "+v {name} 0\n-v 1\n+e 0 {name}\n")?;
             let line = format!(in alloc; "{mode} g6 g s")?;
-            let head = format!(in alloc; "mdt {mode}\nt {tree}\n{less}\n")?;
-            let want = format!(in alloc; "{head}{more}\n{less}\nend\n")?;
-            let put = output_of(alloc, line.as_str(), &file, script.as_bytes())?;
-            assert!(&rt; put.as_slice() == want.as_bytes(), "{mode}, {n} vertices");
+            let report = output_of(alloc, line.as_str(), b"Bw\n", script.as_bytes())?;
+            let words = words_of(alloc, format!(in alloc; "check {mode} g6 g s r")?.as_str())?;
+            let mut files = MemFiles::new(alloc, Vec::new(alloc));
+            files.add("g", b"Bw\n")?;
+            files.add("s", script.as_bytes())?;
+            files.add("r", report.as_slice())?;
+            let mut out = MemSink::new(alloc, Vec::new(alloc), 0);
+            let mut err = MemSink::new(alloc, Vec::new(alloc), 0);
+            let status = run(alloc, &words, &mut files, &mut out, &mut err);
+            assert_eq!(&rt; status.number(), 0, "{mode}, {name}");
+            assert_eq!(&rt; out.bytes(), b"accepted\n".as_slice());
         }
     }
-    let last = output_of(alloc, "edit g6 g s", b"@\n", b"+v 4095 0\n")?;
-    assert_eq!(&rt;
-        last.as_slice(),
-        b"mdt edit\nt 0\nok S(0,4095)\nend\n".as_slice()
-    );
     Ok(())
 }

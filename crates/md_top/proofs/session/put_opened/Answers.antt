@@ -15,7 +15,7 @@ pub returns-clause-puts : goal.returns-clause-puts
 returns-clause-puts g c =
     puts_behind _ (at_edits modes.Cograph c.args.session c.args.script.now) after_end _ _ _ _ _ _ _
     (c.in_ok-put_report_line.ensures.puts (at_state modes.Cograph c.args.session c.args.script.now)
-    (inr (c.requires, (plain_option c.in_ok-tree.tree, c.in_ok-tree.ensures.tree, refl))))
+    (inr (c.requires.cograph, (plain_option c.in_ok-tree.tree, c.in_ok-tree.ensures.tree, refl))))
     c.put_report_line.ensures.faults_never_fall
     c.put_answers.ensures.puts
 
@@ -24,4 +24,4 @@ returns-in_err-put_report_line-clause-puts g c =
     stopped_behind _ (at_state modes.Cograph c.args.session c.args.script.now) _ _ _ _ _ _ _ _ _ c.from_residual-in_err-put_report_line.ensures.1
     (no_lines _ _) (let still : g.O.Sink.faults c.args.out.now ≤ g.O.Sink.faults c.args.out.now = omega arith in still)
     (c.in_err-put_report_line.ensures.puts (at_state modes.Cograph c.args.session c.args.script.now)
-    (inr (c.requires, (plain_option c.in_ok-tree.tree, c.in_ok-tree.ensures.tree, refl))))
+    (inr (c.requires.cograph, (plain_option c.in_ok-tree.tree, c.in_ok-tree.ensures.tree, refl))))

@@ -6,7 +6,7 @@ use Rattle.md_tree.specs.Plain.{plain_option}
 use Rattle.md_report.specs.declared.line.SessionMode.TheVariants as modes
 use Rattle.md_report.specs.Places.{at_state, at_edits, after_end}
 use Rattle.md_top.specs.Sinks.{sink_run, PutsLines}
-use Rattle.md_top.proofs.Lines.{puts_behind, stopped_behind, stopped_before, no_lines}
+use Rattle.md_top.proofs.Lines.{puts_behind, stopped_behind, no_lines}
 use Rattle.md_top.proofs.session.put_states.Goals as goal
 
 pub returns-clause-puts : goal.returns-clause-puts
