@@ -1,2 +1,4 @@
 pub mod DirectedSpelling
 pub mod DirectedTexts
+pub mod DirectedTrees
+pub mod Laws

@@ -5,7 +5,7 @@ pub mod laws;
 mod spelling;
 mod texts;
 
-pub use texts::{push_text_directed, read_directed, text_directed};
+pub use texts::{read_directed, text_directed};
 
 use md_tree::{ChildrenOf, PairsOf, TreeOf};
 

@@ -1,5 +1,5 @@
 //! Writes and reads the texts of trees of directed graphs.
-ghost use Rattle.std.specs.Prelude.{◌≡◌, ◌++◌, IfOk, OnOk, OnErr};
+ghost use Rattle.std.specs.Prelude.{◌≡◌, IfOk};
 ghost use Rattle.md_tree.specs.Plain.{plain_option};
 ghost use Rattle.md_dtree.specs.DirectedTexts.{directed_text_of, IsDirectedReading};
 
@@ -16,22 +16,8 @@ pub fn text_directed(alloc: Global, tree: &Option<DTree>) -> Result<Vec<u8>, Mem
     ensures text { IfOk result (λ v. v.items ≡ directed_text_of (plain_option tree.now)) }
 {
     let mut text = Vec::new(alloc);
-    push_text_directed(alloc, &mut text, tree)?;
+    push_text_of(alloc, &mut text, tree)?;
     Ok(text)
-}
-
-/// Appends the text of a tree: the one that `text_directed` makes. Errors: want of memory; the text
-/// to which it was to be appended then stays.
-pub fn push_text_directed(
-    alloc: Global,
-    text: &mut Vec<u8>,
-    tree: &Option<DTree>,
-) -> Result<(), Memory>
-    ensures written { OnOk result (text.new.items
-        ≡ text.old.items ++ directed_text_of (plain_option tree.now)) }
-    ensures stays { OnErr result (text.new.items ≡ text.old.items) }
-{
-    push_text_of(alloc, text, tree)
 }
 
 /// The tree with this text, none for the word `empty`. No call nests as deep as the tree. Errors:

@@ -1,0 +1,3 @@
+pub mod ArcKinds
+pub mod DirectedCanonical
+pub mod OneDirected
