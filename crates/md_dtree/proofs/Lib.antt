@@ -1,3 +1,4 @@
 pub mod ArcKinds
 pub mod DirectedCanonical
 pub mod OneDirected
+pub mod BalanceLaws

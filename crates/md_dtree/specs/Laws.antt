@@ -1,11 +1,16 @@
 -- The laws of trees of directed graphs.
 -- Source: Ehrenfeucht and Rozenberg, Theory of 2-structures, for the directed graph as one of its instances.
-use Rattle.std.specs.Prelude.{◌≡◌, ℕ, Bool, Option}
+use Rattle.std.specs.Prelude.{◌≡◌, ◌<◌, ◌+◌, ◌*◌, ◌↔◌, ℕ, Bool, List, length, Option}
+use Rattle.std.specs.List.{sum_by}
+use Rattle.std.specs.FinSet.{len, difference}
 use Rattle.md_graph.specs.NameSet.{AllBelow}
 use Rattle.md_graph.specs.declared.TheConstants.{NAMES}
-use Rattle.md_graph.specs.Sets.{NameSet}
+use Rattle.md_graph.specs.Sets.{NameSet, Has, Lacks, Within, HasSome}
+use Rattle.md_modules.specs.Kinds.{IsSplit}
+use Rattle.md_digraph.specs.ArcColours.{between}
 use Rattle.md_tree.specs.Trees.{names}
-use Rattle.md_dtree.specs.DirectedTrees.{PlainDTree, IsDirectedTreeOf, IsDirectedTree, IsCanonicalDTree, IsWellFormedDirected}
+use Rattle.md_dtree.specs.Balance.{arcs_from, arcs_to, ListsMembers}
+use Rattle.md_dtree.specs.DirectedTrees.{PlainDTree, arc_forth, IsDirectedTreeOf, IsDirectedTree, IsCanonicalDTree, IsWellFormedDirected}
 
 -- each directed graph has exactly one tree, none where it has no vertex
 abbrev pub OneDirectedTree : Type 0
@@ -22,3 +27,19 @@ DirectedTreeIsCanonical =
 abbrev pub DirectedTreeIsWellFormed : Type 0
 DirectedTreeIsWellFormed =
     (arc : ℕ → ℕ → Bool) (s : NameSet) (o : Option PlainDTree) → IsDirectedTree arc s o → AllBelow s NAMES → IsWellFormedDirected o
+
+-- where s splits with arcs from part to the rest alone, each name of part has the greater balance: more arcs from it less those
+-- to it than each name of the rest
+abbrev pub SplitsBalance : Type 0
+SplitsBalance =
+    (arc : ℕ → ℕ → Bool) (s part : NameSet) → IsSplit (between arc) s part arc_forth →
+    (x y : ℕ) → Has part x → Has s y → Lacks part y → arcs_from arc s y + arcs_to arc s x < arcs_from arc s x + arcs_to arc s y
+
+-- s splits so with a part exactly where the balances of the names of part sum to the number of pairs across: the arcs from them
+-- are as many as those to them and one for each such pair
+abbrev pub BalanceSplits : Type 0
+BalanceSplits =
+    (arc : ℕ → ℕ → Bool) (s part : NameSet) (xs : List ℕ) → ListsMembers part xs → HasSome part → Within part s →
+    ((x : ℕ) × Has s x × Lacks part x) →
+    IsSplit (between arc) s part arc_forth
+    ↔ (sum_by (arcs_from arc s) xs ≡ sum_by (arcs_to arc s) xs + length xs * len (difference s part))
