@@ -15,17 +15,21 @@ use Rattle.md_digraph.proofs.ArcTurns.{arcs_turn, arcs_told}
 use Rattle.md_tree.specs.Trees.{names_at, count}
 use Rattle.md_tree.specs.StrongTrees.{IsBefore}
 use Rattle.md_tree.specs.NodeKinds.{IsLeft, AreKinds}
-use Rattle.md_tree.specs.Spellings.{ArePairRules}
+use Rattle.md_tree.specs.Spellings.{ArePairRules, IsSpelling}
+use Rattle.md_tree.proofs.Spelled.{is_spelling}
 use Rattle.md_tree.proofs.Nodes.{position_below}
 use Rattle.md_tree.proofs.Pairs.{some_list, one_list}
 use Rattle.md_dtree.specs.declared.DKind.{DKind}
 use Rattle.md_dtree.specs.declared.DKind.TheVariants.{Parallel, Series, Order, Prime}
 use Rattle.md_dtree.specs.declared.DPair.{DPair}
-use Rattle.md_dtree.specs.DirectedSpelling.{directed_pairs}
+use Rattle.md_dtree.specs.DirectedSpelling.{directed_pairs, directed_spelling}
 use Rattle.md_dtree.specs.DirectedTrees.{PlainDTrees, arc_forth, SplitsWith, IsDirectedPrime, HasDirectedKind, AllArcsTo, StandsBefore, IsArcPair, HasArcPairs}
 
 pub directed_pairs_law : ArePairRules directed_pairs
 directed_pairs_law = search rules
+
+pub directed_spelling_law : IsSpelling directed_spelling
+directed_spelling_law = is_spelling (search rules) directed_pairs_law
 
 -- ---- pairs
 
@@ -99,7 +103,7 @@ module _ (arc : ℕ → ℕ → Bool) where
   series_order : (s : NameSet) → SplitsWith arc s both_arcs → SplitsWith arc s arc_forth → ⊥
   series_order s = not_both_splits s both_arcs arc_forth (λ p. true≢false (ap (λ c. c.1) p)) (λ p. true≢false (sym (ap (λ c. c.1) p)))
 
-  one_kind : (s : NameSet) (k l : DKind) → HasDirectedKind arc s k → HasDirectedKind arc s l → k ≡ l
+  pub one_kind : (s : NameSet) (k l : DKind) → HasDirectedKind arc s k → HasDirectedKind arc s l → k ≡ l
   one_kind s Parallel Parallel a b = refl
   one_kind s Parallel Series a b = absurd (parallel_series s a b)
   one_kind s Parallel Order a b = absurd (parallel_order s a b)

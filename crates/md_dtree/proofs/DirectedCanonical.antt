@@ -46,7 +46,7 @@ module _ (arc : ℕ → ℕ → Bool) where
   two_children (one_more t (one_more u us)) some max = let b : 2 ≤ suc (suc (count us)) = omega arith in b
 
   -- a set that is prime splits with no colour: with an arc back alone neither, since the rest would split with one forth
-  unsplit_prime : (s : NameSet) → IsDirectedPrime arc s → (v : ArcColour) → SplitsWith arc s v → ⊥
+  pub unsplit_prime : (s : NameSet) → IsDirectedPrime arc s → (v : ArcColour) → SplitsWith arc s v → ⊥
   unsplit_prime s prime (true, true) split = prime.not_series split
   unsplit_prime s prime (false, false) split = prime.not_parallel split
   unsplit_prime s prime (true, false) split = prime.not_order split

@@ -2,3 +2,4 @@ pub mod ArcKinds
 pub mod DirectedCanonical
 pub mod OneDirected
 pub mod BalanceLaws
+pub mod FitsDirected

@@ -10,6 +10,9 @@ use Rattle.md_modules.specs.Kinds.{IsSplit}
 use Rattle.md_digraph.specs.ArcColours.{between}
 use Rattle.md_tree.specs.Trees.{names}
 use Rattle.md_dtree.specs.Balance.{arcs_from, arcs_to, ListsMembers}
+use Rattle.md_tree.specs.Laws.{OneTreeOneTextBy, WrittenTreesAreReadBy}
+use Rattle.md_dtree.specs.DirectedSpelling.{directed_spelling}
+use Rattle.md_dtree.specs.DirectedFits.{FitsDirected}
 use Rattle.md_dtree.specs.DirectedTrees.{PlainDTree, arc_forth, IsDirectedTreeOf, IsDirectedTree, IsCanonicalDTree, IsWellFormedDirected}
 
 -- each directed graph has exactly one tree, none where it has no vertex
@@ -27,6 +30,19 @@ DirectedTreeIsCanonical =
 abbrev pub DirectedTreeIsWellFormed : Type 0
 DirectedTreeIsWellFormed =
     (arc : ℕ → ℕ → Bool) (s : NameSet) (o : Option PlainDTree) → IsDirectedTree arc s o → AllBelow s NAMES → IsWellFormedDirected o
+
+-- different trees have different texts
+abbrev pub OneDirectedTreeOneText : Type 0
+OneDirectedTreeOneText = OneTreeOneTextBy directed_spelling
+
+-- the text of each well-formed tree is read as that tree
+abbrev pub WrittenDirectedTreesAreRead : Type 0
+WrittenDirectedTreesAreRead = WrittenTreesAreReadBy directed_spelling
+
+-- a tree as well-formed trees are is the tree of a directed graph exactly where it fits the graph
+abbrev pub FitsIfDirectedTree : Type 0
+FitsIfDirectedTree =
+    (arc : ℕ → ℕ → Bool) (s : NameSet) (t : PlainDTree) → IsCanonicalDTree t → FitsDirected arc s t ↔ IsDirectedTreeOf arc s t
 
 -- where s splits with arcs from part to the rest alone, each name of part has the greater balance: more arcs from it less those
 -- to it than each name of the rest
