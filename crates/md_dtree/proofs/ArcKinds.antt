@@ -1,13 +1,12 @@
 -- The kinds of the nodes of directed graphs' trees keep the laws of kinds.
-use Rattle.std.proofs.Common.{◌≡◌, ◌≢◌, ℕ, ◌<◌, ◌≤◌, Bool, true, false, List, [], refl, sym, ◌∙◌, ap, subst, inl, inr, true≢false, rules, arith}
-use Rattle.std.proofs.lemmas.Bool.{cases_Bool}
-use Rattle.std.specs.FinSet.{contains, difference}
-use Rattle.md_graph.specs.Sets.{NameSet, Has, Lacks, Within, HasSome, HasTwo}
+use Rattle.std.proofs.Common.{◌≡◌, ◌≢◌, ℕ, ◌<◌, ◌≤◌, Bool, true, List, [], refl, sym, ◌∙◌, ap, subst, inl, inr, true≢false, rules, arith}
+use Rattle.std.specs.FinSet.{difference}
+use Rattle.md_graph.specs.Sets.{NameSet, Has, Within, HasSome, HasTwo}
 use Rattle.md_modules.specs.Modules.{IsMaximalStrong}
 use Rattle.md_modules.specs.Kinds.{IsSplit}
 use Rattle.md_modules.specs.Components.{IsClosed}
 use Rattle.md_graph.proofs.SetLemmas.{clash, of_minus}
-use Rattle.md_graph.proofs.Search.{Decided, decide_test, decide_both, decide_like, decide_some, decide_below, decide_not, first_member}
+use Rattle.md_graph.proofs.Search.{Decided, decide_test, decide_both, decide_like, decide_some, decide_below, first_member}
 use Rattle.md_modules.proofs.Splits.{AreReverses, one_colour, decide_split, front_child}
 use Rattle.md_modules.proofs.Strong.{child_of}
 use Rattle.md_digraph.specs.ArcColours.{ArcColour, between, swapped, no_arc, both_arcs}
@@ -23,7 +22,7 @@ use Rattle.md_dtree.specs.declared.DKind.{DKind}
 use Rattle.md_dtree.specs.declared.DKind.TheVariants.{Parallel, Series, Order, Prime}
 use Rattle.md_dtree.specs.declared.DPair.{DPair}
 use Rattle.md_dtree.specs.DirectedSpelling.{directed_pairs, directed_spelling}
-use Rattle.md_dtree.specs.DirectedTrees.{PlainDTrees, arc_forth, SplitsWith, IsDirectedPrime, HasDirectedKind, AllArcsTo, StandsBefore, IsArcPair, HasArcPairs}
+use Rattle.md_dtree.specs.DirectedTrees.{PlainDTrees, arc_forth, SplitsWith, HasDirectedKind, AllArcsTo, StandsBefore, IsArcPair, HasArcPairs}
 
 pub directed_pairs_law : ArePairRules directed_pairs
 directed_pairs_law = search rules
@@ -147,9 +146,14 @@ module _ (arc : ℕ → ℕ → Bool) where
 
   -- of the children that are left that from which all arcs run to the others
   next_in_order : (s rest : NameSet) → SplitsWith arc s arc_forth → IsLeft (between arc) (AllArcsTo arc) s rest → HasSome rest → HasNext (AllArcsTo arc) s rest
-  next_in_order s rest split is some = (found.0, found.1, found.2.inside, λ a b ha hb.
-      let k = of_minus rest found.0 b hb in
-      found.2.across a b ha k.0 k.1) where
+  next_in_order s rest split is some = (
+    found.0,
+    found.1,
+    found.2.inside,
+    λ a b ha hb.
+        let k = of_minus rest found.0 b hb in
+        found.2.across a b ha k.0 k.1,
+  ) where
     two : HasTwo s
     two = two_of_split s split.0 arc_forth split.1
 

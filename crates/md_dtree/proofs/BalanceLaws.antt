@@ -1,5 +1,5 @@
 -- Where a set of names splits as an order, by the arcs from and to its names.
-use Rattle.std.proofs.Common.{◌≡◌, ◌≢◌, ℕ, zero, suc, ◌+◌, ◌*◌, ◌<◌, ◌≤◌, Bool, true, false, List, [], ◌∷◌, length, Contains, refl, sym, ◌∙◌, ap, ap₂, subst, inl, inr, true≢false, arith}
+use Rattle.std.proofs.Common.{◌≡◌, ◌≢◌, ℕ, ◌+◌, ◌*◌, ◌<◌, ◌≤◌, Bool, true, false, List, [], ◌∷◌, length, refl, sym, ◌∙◌, ap, ap₂, subst, inl, inr, arith}
 use Rattle.std.proofs.Math.Nat.{suc-mul}
 use Rattle.std.specs.List.{sum_by}
 use Rattle.std.specs.FinSet.{contains, empty, len, len-empty, remove, retain, union, difference}
@@ -7,7 +7,7 @@ use Rattle.std.specs.Ordering.{nat_cmp}
 use Rattle.std.proofs.lemmas.Bool.{cases_Bool, false_from_ne_true, true_from_ne_false}
 use Rattle.std.proofs.lemmas.List.Sums.{sum_by-cons}
 use Rattle.md_graph.specs.Sets.{NameSet, Has, Lacks, Within, HasSome}
-use Rattle.md_graph.proofs.SetLemmas.{clash, empty_lacks, remove_left, of_remove, retain_has, of_retain, union_left, union_right, minus_has, of_minus, same_members, Has-along}
+use Rattle.md_graph.proofs.SetLemmas.{clash, empty_lacks, remove_left, of_remove, retain_has, of_retain, union_left, union_right, minus_has, of_minus, same_members}
 use Rattle.md_graph.proofs.Search.{len_within, len_proper, len_fewer, len_union, len_minus, some_len}
 use Rattle.md_modules.specs.Kinds.{IsSplit}
 use Rattle.md_digraph.specs.ArcColours.{between}
@@ -89,7 +89,8 @@ total_turned : {X Y : Type 0} (g : X → Y → ℕ) (xs : List X) (ys : List Y) 
 total_turned g [] ys = sym (total_none ys)
 total_turned g (x ∷ xs) ys = ap (λ n. total (g x) ys + n) (total_turned g xs ys) ∙ sym (total_both (g x) (λ y. total (λ z. g z y) xs) ys)
 
--- numbers up to q whose sum is q for each, and more than other ones: each is q, and the other ones are 0
+-- numbers up to q whose sum is q for each, and more than other ones: each is q, and the other ones
+-- are 0
 module _ {X : Type 0} (f g : X → ℕ) (q : ℕ) (most : (x : X) → f x ≤ q) where
   total_most : (xs : List X) → total f xs ≤ total (λ x. q) xs
   total_most [] = omega arith
@@ -119,16 +120,16 @@ len_one_more_counted : (p : ℕ → Bool) (x : ℕ) (xs : List ℕ) (s : NameSet
 len_one_more_counted p x xs s hx others = elim (cases_Bool (p x)) [
   | inl passes ↦ (
       let same : remove (retain s p) x ≡ retain (remove s x) p = same_members _ _
-          (λ y h. let k = of_remove (retain s p) x y h in let r = of_retain s p y k.1 in retain_has (remove s x) p y (remove_left s x y k.0 r.0) r.1)
-          (λ y h. let k = of_retain (remove s x) p y h in let r = of_remove s x y k.0 in remove_left (retain s p) x y r.0 (retain_has s p y r.1 k.1)) in
+      (λ y h. let k = of_remove (retain s p) x y h in let r = of_retain s p y k.1 in retain_has (remove s x) p y (remove_left s x y k.0 r.0) r.1)
+      (λ y h. let k = of_retain (remove s x) p y h in let r = of_remove s x y k.0 in remove_left (retain s p) x y r.0 (retain_has s p y r.1 k.1)) in
       let more : len (remove (retain s p) x) + 1 ≡ len (retain s p) = len_fewer (retain s p) x (retain_has s p x hx passes) in
       let moved : len (remove (retain s p) x) ≡ len (retain (remove s x) p) = ap len same in
       let one : bit (p x) ≡ 1 = ap bit passes in
       omega arith)
   | inr fails ↦ (
       let same : retain s p ≡ retain (remove s x) p = same_members _ _
-          (λ y h. let r = of_retain s p y h in retain_has (remove s x) p y (remove_left s x y (λ e. clash r.1 (ap p e ∙ fails)) r.0) r.1)
-          (λ y h. let k = of_retain (remove s x) p y h in retain_has s p y (of_remove s x y k.0).1 k.1) in
+      (λ y h. let r = of_retain s p y h in retain_has (remove s x) p y (remove_left s x y (λ e. clash r.1 (ap p e ∙ fails)) r.0) r.1)
+      (λ y h. let k = of_retain (remove s x) p y h in retain_has s p y (of_remove s x y k.0).1 k.1) in
       let moved : len (retain s p) ≡ len (retain (remove s x) p) = ap len same in
       let nothing : bit (p x) ≡ 0 = ap bit fails in
       omega arith)
@@ -151,19 +152,19 @@ len_parts : (s part : NameSet) (p : ℕ → Bool) → Within part s → len (ret
 len_parts s part p inside =
     let up : len (retain s p) ≤ len (union (retain part p) (retain (difference s part) p)) =
     len_within (retain s p) (union (retain part p) (retain (difference s part) p)) (λ y h.
-        let k = of_retain s p y h in
-        elim (cases_Bool (contains part y)) [
-          | inl i ↦ union_left (retain part p) (retain (difference s part) p) y (retain_has part p y i k.1)
-          | inr l ↦ union_right (retain part p) (retain (difference s part) p) y (retain_has (difference s part) p y (minus_has s part y k.0 l) k.1)
-        ]) in
+    let k = of_retain s p y h in
+    elim (cases_Bool (contains part y)) [
+      | inl i ↦ union_left (retain part p) (retain (difference s part) p) y (retain_has part p y i k.1)
+      | inr l ↦ union_right (retain part p) (retain (difference s part) p) y (retain_has (difference s part) p y (minus_has s part y k.0 l) k.1)
+    ]) in
     let both : len (union (retain part p) (retain (difference s part) p)) ≤ len (retain part p) + len (retain (difference s part) p) = len_union (retain part p) (retain (difference s part) p) in
     let down : len (difference (retain s p) (retain part p)) + len (retain part p) ≤ len (retain s p) =
     len_minus (retain s p) (retain part p) (λ y h. let k = of_retain part p y h in retain_has s p y (inside y k.0) k.1) in
     let rest : len (retain (difference s part) p) ≤ len (difference (retain s p) (retain part p)) =
     len_within (retain (difference s part) p) (difference (retain s p) (retain part p)) (λ y h.
-        let k = of_retain (difference s part) p y h in
-        let m = of_minus s part y k.0 in
-        minus_has (retain s p) (retain part p) y (retain_has s p y m.0 k.1) (false_from_ne_true _ (λ i. clash (of_retain part p y i).0 m.1))) in
+    let k = of_retain (difference s part) p y h in
+    let m = of_minus s part y k.0 in
+    minus_has (retain s p) (retain part p) y (retain_has s p y m.0 k.1) (false_from_ne_true _ (λ i. clash (of_retain part p y i).0 m.1))) in
     omega arith
 
 -- ---- the sums of a part
@@ -235,16 +236,16 @@ module _ (arc : ℕ → ℕ → Bool) (s part : NameSet) (xs : List ℕ) (lists 
     rest = other;
     across = λ x y hx hy l.
         let each : (ahead x ≡ len rest) × (behind x ≡ 0) = each_most ahead behind (len rest) (λ z. len_within (retain rest (arc z)) rest (λ y h. (of_retain rest (arc z) y h).0)) xs
-            equal x (of_part x hx) in
+        equal x (of_part x hx) in
         let there : arc x y ≡ true = true_from_ne_false _ (λ none.
-            let less : ahead x < len rest = len_proper (retain rest (arc x)) rest y (λ z h. (of_retain rest (arc x) z h).0) (minus_has s part y hy l)
-                (false_from_ne_true _ (λ h. clash (of_retain rest (arc x) y h).1 none)) in
-            let same : ahead x ≡ len rest = each.0 in
-            omega arith) in
+        let less : ahead x < len rest = len_proper (retain rest (arc x)) rest y (λ z h. (of_retain rest (arc x) z h).0) (minus_has s part y hy l)
+        (false_from_ne_true _ (λ h. clash (of_retain rest (arc x) y h).1 none)) in
+        let same : ahead x ≡ len rest = each.0 in
+        omega arith) in
         let back : arc y x ≡ false = false_from_ne_true _ (λ h.
-            let one : 1 ≤ behind x = some_len (retain rest (λ u. arc u x)) y (retain_has rest (λ u. arc u x) y (minus_has s part y hy l) h) in
-            let none : behind x ≡ 0 = each.1 in
-            omega arith) in
+        let one : 1 ≤ behind x = some_len (retain rest (λ u. arc u x)) y (retain_has rest (λ u. arc u x) y (minus_has s part y hy l) h) in
+        let none : behind x ≡ 0 = each.1 in
+        omega arith) in
         λ i. (there i, back i);
   } where
     equal : total ahead xs ≡ total behind xs + total (λ x. len rest) xs

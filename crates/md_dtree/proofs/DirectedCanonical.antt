@@ -1,11 +1,10 @@
 -- The tree of the strong modules of a directed graph is as well-formed trees are.
-use Rattle.std.proofs.Common.{◌≡◌, ◌≢◌, ℕ, zero, suc, ◌<◌, ◌≤◌, Bool, true, false, List, [], Contains, refl, sym, ◌∙◌, ap, subst, inl, inr, arith}
+use Rattle.std.proofs.Common.{◌≡◌, ◌≢◌, ℕ, suc, ◌≤◌, Bool, true, false, List, [], Contains, refl, sym, subst, inl, inr, arith}
 use Rattle.std.specs.FinSet.{empty, union}
-use Rattle.std.proofs.lemmas.Bool.{cases_Bool, false_from_ne_true}
+use Rattle.std.proofs.lemmas.Bool.{false_from_ne_true}
 use Rattle.md_graph.specs.Sets.{NameSet, Has, Lacks, HasSome, HasTwo}
 use Rattle.md_graph.proofs.SetLemmas.{clash, empty_lacks, same_members, union_left, union_right, of_union}
 use Rattle.md_modules.specs.Modules.{IsModule, IsMaximalStrong}
-use Rattle.md_modules.specs.Kinds.{IsSplit}
 use Rattle.md_modules.proofs.Modules.{across_modules}
 use Rattle.md_modules.proofs.Strong.{child_leaves}
 use Rattle.md_modules.proofs.Splits.{child_unsplit, split_rest}
@@ -13,7 +12,7 @@ use Rattle.md_digraph.specs.ArcColours.{ArcColour, between, no_arc, both_arcs}
 use Rattle.md_digraph.proofs.ArcTurns.{arcs_turn, arcs_told}
 use Rattle.md_text.proofs.Lists.{of_contains}
 use Rattle.md_tree.specs.Trees.{leaf, node, no_tree, one_more, names, names_below, names_at, count, EachNode, EachNodeBelow}
-use Rattle.md_tree.specs.StrongTrees.{ListsExactly, IsBefore, StandBy}
+use Rattle.md_tree.specs.StrongTrees.{ListsExactly, StandBy}
 use Rattle.md_tree.specs.WellFormed.{AreDisjoint, IsOfKind, NoneOfKind, IsInOrderIf, IsPlainNodeBy, HasShapeIf}
 use Rattle.md_tree.proofs.Nodes.{IsChild, position_below}
 use Rattle.md_tree.proofs.Built.{IsBuiltBy, children_maximal}
@@ -22,7 +21,7 @@ use Rattle.md_tree.proofs.Canonical.{place_of}
 use Rattle.md_dtree.specs.declared.DKind.{DKind}
 use Rattle.md_dtree.specs.declared.DKind.TheVariants.{Parallel, Series, Order, Prime}
 use Rattle.md_dtree.specs.declared.DPair.{DPair}
-use Rattle.md_dtree.specs.DirectedSpelling.{directed_spelling, directed_kinds, directed_pairs, least_children, stands_by_names, lists_arcs}
+use Rattle.md_dtree.specs.DirectedSpelling.{directed_spelling, directed_pairs, least_children, stands_by_names, lists_arcs}
 use Rattle.md_dtree.specs.DirectedTrees.{PlainDTree, PlainDTrees, arc_forth, SplitsWith, IsDirectedPrime, HasDirectedKind, StandsBefore, IsArcPair, IsDirectedNode, IsCanonicalDNode}
 use Rattle.md_dtree.proofs.ArcKinds.{two_of_kind, directed_kinds_law}
 
@@ -45,7 +44,8 @@ module _ (arc : ℕ → ℕ → Bool) where
   two_children (one_more t no_tree) some max = absurd (not_alone t (max t (inl refl)))
   two_children (one_more t (one_more u us)) some max = let b : 2 ≤ suc (suc (count us)) = omega arith in b
 
-  -- a set that is prime splits with no colour: with an arc back alone neither, since the rest would split with one forth
+  -- a set that is prime splits with no colour: with an arc back alone neither, since the rest would
+  -- split with one forth
   pub unsplit_prime : (s : NameSet) → IsDirectedPrime arc s → (v : ArcColour) → SplitsWith arc s v → ⊥
   unsplit_prime s prime (true, true) split = prime.not_series split
   unsplit_prime s prime (false, false) split = prime.not_parallel split
@@ -55,12 +55,18 @@ module _ (arc : ℕ → ℕ → Bool) where
   -- of two children the one is a part whose pairs with the other have one colour
   split_of_two : (t u : PlainDTree) → AreDisjoint (one_more t (one_more u no_tree)) → AreMaximal (one_more t (one_more u no_tree)) →
       (v : ArcColour) × SplitsWith arc (union (names t) (union (names u) empty)) v
-  split_of_two t u apart max = (between arc p.0 q.0, (names t, record {
-    some = p;
-    inside = union_left (names t) (union (names u) empty);
-    rest = (q.0, union_right (names t) (union (names u) empty) q.0 (union_left (names u) empty q.0 q.1), outside q.0 q.1);
-    across = λ a b ha hb l. across_modules (arcs_turn arc) (union (names t) (union (names u) empty)) (names t) (names u) mt mu (λ x h. false_from_ne_true _ (λ i. clash h (outside x i))) a p.0 b q.0 ha p.1 (second b hb l) q.1;
-  })) where
+  split_of_two t u apart max = (
+    between arc p.0 q.0,
+    (
+      names t,
+      record {
+        some = p;
+        inside = union_left (names t) (union (names u) empty);
+        rest = (q.0, union_right (names t) (union (names u) empty) q.0 (union_left (names u) empty q.0 q.1), outside q.0 q.1);
+        across = λ a b ha hb l. across_modules (arcs_turn arc) (union (names t) (union (names u) empty)) (names t) (names u) mt mu (λ x h. false_from_ne_true _ (λ i. clash h (outside x i))) a p.0 b q.0 ha p.1 (second b hb l) q.1;
+      },
+    ),
+  ) where
     mt : IsModule (between arc) (union (names t) (union (names u) empty)) (names t)
     mt = (max t (inl refl)).is_strong.is_module
 

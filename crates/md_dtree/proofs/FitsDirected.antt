@@ -1,10 +1,11 @@
--- A tree as well-formed trees are is the tree of strong modules of a directed graph exactly where it fits the graph.
-use Rattle.std.proofs.Common.{◌≡◌, ◌≢◌, ℕ, zero, suc, ◌<◌, ◌≤◌, Bool, true, false, eqb, ◌&&◌, ◌||◌, List, [], ◌∷◌, Contains, refl, sym, ◌∙◌, ap, subst, inl, inr, true≢false, eqb-true, eq-eqb, arith}
+-- A tree as well-formed trees are is the tree of strong modules of a directed graph exactly where
+-- it fits the graph.
+use Rattle.std.proofs.Common.{◌≡◌, ◌≢◌, ℕ, zero, suc, ◌<◌, ◌≤◌, Bool, true, eqb, ◌&&◌, ◌||◌, List, [], ◌∷◌, Contains, refl, sym, ◌∙◌, ap, subst, inl, inr, true≢false, eqb-true, eq-eqb, arith}
 use Rattle.std.proofs.lemmas.Bool.{cases_Bool, false_from_ne_true, and_parts}
 use Rattle.std.specs.Cmp.{both_ways}
-use Rattle.md_graph.specs.Sets.{NameSet, Has, Lacks, Within, Disjoint, only_name}
+use Rattle.md_graph.specs.Sets.{NameSet, Has, only_name}
 use Rattle.md_graph.proofs.SetLemmas.{clash, Has-along, ascending_or_not, empty_lacks}
-use Rattle.md_modules.specs.Modules.{IsModule, IsMaximalStrong}
+use Rattle.md_modules.specs.Modules.{IsModule}
 use Rattle.md_modules.specs.Kinds.{IsSplit, IsUnsplit}
 use Rattle.md_modules.specs.Components.{IsComponent}
 use Rattle.md_modules.proofs.Modules.{whole_module}
@@ -15,9 +16,8 @@ use Rattle.md_digraph.proofs.ArcTurns.{arcs_turn, arcs_told}
 use Rattle.md_text.proofs.Lists.{In, of_contains, to_contains}
 use Rattle.md_tree.specs.Trees.{leaf, node, no_tree, one_more, names, names_below, names_at, count, EachNode, EachNodeBelow}
 use Rattle.md_tree.specs.StrongTrees.{ListsExactly, StandBy}
-use Rattle.md_tree.specs.WellFormed.{AreDisjoint, IsOfKind, NoneOfKind, HasShapeIf}
+use Rattle.md_tree.specs.WellFormed.{IsOfKind, NoneOfKind, HasShapeIf}
 use Rattle.md_tree.specs.Heads.{head, head_at, AreChildModules}
-use Rattle.md_tree.specs.Laws.{AreToldByHeads}
 use Rattle.md_tree.proofs.Nodes.{IsChild, at_inside, at_apart, position_below}
 use Rattle.md_tree.proofs.Built.{tree_names, tree_built, children_maximal}
 use Rattle.md_tree.proofs.Kinded.{built_tree}
@@ -103,7 +103,7 @@ module _ (arc : ℕ → ℕ → Bool) where
       (i j : ℕ) → i ≢ j → i < count cs → j < count cs → arc (head_at cs i) (head_at cs j) ≡ lists_arc ps i j
   listed_heads cs ps mods lists i j differ bi bj = both_ways _ _
       (λ h. to_listed ps (arc_pair i j) (of_contains ps (arc_pair i j) ((lists.exactly (arc_pair i j)).1
-          (record { differ = differ; runs = (head_at cs i, head_at cs j, mods.heads i bi, mods.heads j bj, h) }))))
+      (record { differ = differ; runs = (head_at cs i, head_at cs j, mods.heads i bi, mods.heads j bj, h) }))))
       (λ h.
       let is : IsArcPair arc cs i j = (lists.exactly (arc_pair i j)).0 (to_contains ps (arc_pair i j) (of_listed ps i j h)) in
       sym (pair_at_heads cs mods i j is.runs.0 is.runs.1 differ is.runs.2 is.runs.3) ∙ is.runs.4)
@@ -117,7 +117,8 @@ module _ (arc : ℕ → ℕ → Bool) where
     inner_modules : AreChildModules (between arc) cs
     inner_modules = modules_below (names_below cs) cs canon.apart own (λ x h. h) (λ c i. (children_maximal k cs ps built c i).is_strong.is_module)
 
-    -- where the node splits with a colour that is its own reverse, names of different children have it
+    -- where the node splits with a colour that is its own reverse, names of different children have
+    -- it
     split_heads : (v : ArcColour) → swapped v ≡ v → SplitsWith arc (names_below cs) v → (i j : ℕ) → i < j → j < count cs → between arc (head_at cs i) (head_at cs j) ≡ v
     split_heads v own_reverse split i j less bj =
         let bi : i < count cs = omega arith in
@@ -127,7 +128,7 @@ module _ (arc : ℕ → ℕ → Bool) where
         child_component (arcs_turn arc) arcs_told (names_below cs) (names c.0) split.0 v (head_at cs i) own_reverse split.1 (children_maximal k cs ps built c.0 c.1) hc in
         is.closed.across (head_at cs i) (head_at cs j) hc (at_inside cs j (head_at cs j) (own j bj))
         (false_from_ne_true _ (λ h. clash (own j bj) (at_apart cs canon.apart i j less (names_at cs i) (names_at cs j) refl refl (head_at cs j)
-            (Has-along (names c.0) (names_at cs i) (sym c.2) (head_at cs j) h))))
+        (Has-along (names c.0) (names_at cs i) (sym c.2) (head_at cs j) h))))
 
   joined_heads : (k : DKind) (cs : PlainDTrees) (ps : List DPair) → IsCanonicalDNode k cs ps → EachNodeBelow IsCanonicalDNode cs → IsDBuilt arc k cs ps →
       (i j : ℕ) → i < j → j < count cs → between arc (head_at cs i) (head_at cs j) ≡ puts_arcs k ps i j

@@ -1,6 +1,5 @@
 -- Each directed graph has exactly one tree of strong modules, or none where it has no vertex.
-use Rattle.std.proofs.Common.{◌≡◌, ℕ, Option, Some, None, sym, subst}
-use Rattle.md_graph.specs.Sets.{NameSet}
+use Rattle.std.proofs.Common.{◌≡◌, Option, Some, None, sym, subst}
 use Rattle.md_graph.specs.NameSet.{AllBelow}
 use Rattle.md_graph.specs.declared.TheConstants.{NAMES}
 use Rattle.md_digraph.proofs.ArcTurns.{arcs_told}

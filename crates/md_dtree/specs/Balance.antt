@@ -1,5 +1,7 @@
--- The balance of the names of a directed graph: how many arcs run from a name, against how many run to it.
--- Source: Landau, On dominance relations and the structure of animal societies (1953), of the scores of tournaments.
+-- The balance of the names of a directed graph: how many arcs run from a name, against how many run
+-- to it.
+-- Source: Landau, On dominance relations and the structure of animal societies (1953), of the
+-- scores of tournaments.
 use Rattle.std.specs.Prelude.{◌≢◌, ◌↔◌, ℕ, Bool, List, Contains, AllPairs}
 use Rattle.std.specs.FinSet.{len, retain}
 use Rattle.md_graph.specs.Sets.{NameSet, Has}

@@ -15,18 +15,20 @@ abbrev pub lists_arc : List DPair → ℕ → ℕ → Bool
 lists_arc [] i j = false
 lists_arc (p ∷ ps) i j = (nat_eq p.from i && nat_eq p.to j) || lists_arc ps i j
 
--- the arcs that a node of kind k that lists ps puts between its children at i and j, i below j: a parallel node none, a series
--- node both, an order node those there, a prime node those that it lists
+-- the arcs that a node of kind k that lists ps puts between its children at i and j, i below j: a
+-- parallel node none, a series node both, an order node those there, a prime node those that it
+-- lists
 abbrev pub puts_arcs : DKind → List DPair → ℕ → ℕ → ArcColour
 puts_arcs Parallel ps i j = no_arc
 puts_arcs Series ps i j = both_arcs
 puts_arcs Order ps i j = arc_forth
 puts_arcs Prime ps i j = between (lists_arc ps) i j
 
--- a node of kind k with the children cs and the pairs ps fits the directed graph on s: its leaf set is a module; between the heads
--- of two children are the arcs that the node puts there; and the directed graph on the heads of a prime node's children has
--- trivial modules alone
-abbrev pub IsFitDNode : (ℕ → ℕ → Bool) → NameSet → DKind → PlainDTrees → List DPair → Type 0
+-- a node of kind k with the children cs and the pairs ps fits the directed graph on s: its leaf set
+-- is a module; between the heads of two children are the arcs that the node puts there; and the
+-- directed graph on the heads of a prime node's children has trivial modules alone
+abbrev pub IsFitDNode :
+    (ℕ → ℕ → Bool) → NameSet → DKind → PlainDTrees → List DPair → Type 0
 IsFitDNode arc = IsFitNodeBy puts_arcs (λ k. k ≡ Prime) (between arc)
 
 -- the leaves of t are s, and each of its nodes fits

@@ -36,7 +36,12 @@ least_children Prime = 3
 
 -- the kinds of the trees of directed graphs
 abbrev pub directed_kinds : KindRules DKind
-directed_kinds = record { letter = directed_letter; lists = lists_arcs; sorts = stands_by_names; least_count = least_children }
+directed_kinds = record {
+  letter = directed_letter;
+  lists = lists_arcs;
+  sorts = stands_by_names;
+  least_count = least_children;
+}
 
 -- a pair of n children: their positions differ
 abbrev pub IsPairOf : ℕ → DPair → Type 0

@@ -15,5 +15,6 @@ abbrev pub directed_text_of : Option (PlainTreeOf DKind DPair) → List ℕ
 directed_text_of = text_of_by directed_spelling
 
 -- the answers of the reader for these texts
-abbrev pub IsDirectedReading : List ℕ → Result (Option (TreeOf DKind DPair)) TreeFault → Type 0
+abbrev pub IsDirectedReading :
+    List ℕ → Result (Option (TreeOf DKind DPair)) TreeFault → Type 0
 IsDirectedReading = IsTreeReadingBy directed_spelling

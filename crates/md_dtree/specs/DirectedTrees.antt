@@ -1,6 +1,8 @@
--- The tree of the strong modules of the directed graph on a set of names s whose arcs the test `arc` tells.
--- Source: McConnell and de Montgolfier, Linear-time modular decomposition of directed graphs; the order of the children is our own.
-use Rattle.std.specs.Prelude.{◌≡◌, ◌≢◌, ◌<◌, ℕ, Bool, true, false, List, [], Option}
+-- The tree of the strong modules of the directed graph on a set of names s whose arcs the test
+-- `arc` tells.
+-- Source: McConnell and de Montgolfier, Linear-time modular decomposition of directed graphs; the
+-- order of the children is our own.
+use Rattle.std.specs.Prelude.{◌≡◌, ◌≢◌, ℕ, Bool, true, false, List, [], Option}
 use Rattle.md_graph.specs.Sets.{NameSet, Has, HasTwo}
 use Rattle.md_modules.specs.Kinds.{IsSplit}
 use Rattle.md_digraph.specs.ArcColours.{ArcColour, between, no_arc, both_arcs}
@@ -27,7 +29,8 @@ arc_forth = (true, false)
 abbrev pub SplitsWith : (ℕ → ℕ → Bool) → NameSet → ArcColour → Type 0
 SplitsWith arc s colour = (part : NameSet) × IsSplit (between arc) s part colour
 
--- s has two members, and splits neither without arcs, nor with both arcs, nor with the arcs there alone
+-- s has two members, and splits neither without arcs, nor with both arcs, nor with the arcs there
+-- alone
 pub record IsDirectedPrime (arc : ℕ → ℕ → Bool) (s : NameSet) : Type 0 where
   pub two : HasTwo s
   pub not_parallel : ¬ (SplitsWith arc s no_arc)
@@ -45,7 +48,8 @@ HasDirectedKind arc s Prime = IsDirectedPrime arc s
 abbrev pub AllArcsTo : (ℕ → ℕ → Bool) → NameSet → NameSet → Type 0
 AllArcsTo arc s t = (a b : ℕ) → Has s a → Has t b → between arc a b ≡ arc_forth
 
--- at an order node all arcs run from earlier children to later ones; other children stand by their least names
+-- at an order node all arcs run from earlier children to later ones; other children stand by their
+-- least names
 abbrev pub StandsBefore : (ℕ → ℕ → Bool) → DKind → NameSet → NameSet → Type 0
 StandsBefore arc Parallel = IsBefore
 StandsBefore arc Series = IsBefore
@@ -57,7 +61,8 @@ pub record IsArcPair (arc : ℕ → ℕ → Bool) (cs : PlainDTrees) (i j : ℕ)
   pub differ : i ≢ j
   pub runs : (a : ℕ) × (b : ℕ) × Has (names_at cs i) a × Has (names_at cs j) b × (arc a b ≡ true)
 
--- a prime node lists the pairs of its children with arcs from the one to the other, and no other node lists pairs
+-- a prime node lists the pairs of its children with arcs from the one to the other, and no other
+-- node lists pairs
 abbrev pub HasArcPairs : (ℕ → ℕ → Bool) → DKind → PlainDTrees → List DPair → Type 0
 HasArcPairs arc Parallel cs ps = ps ≡ []
 HasArcPairs arc Series cs ps = ps ≡ []
@@ -76,9 +81,10 @@ IsDirectedTreeOf arc = IsTreeBy (IsDirectedNode arc) (between arc)
 abbrev pub IsDirectedTree : (ℕ → ℕ → Bool) → NameSet → Option PlainDTree → Type 0
 IsDirectedTree arc = IsTreeOrNone (IsDirectedNode arc) (between arc)
 
--- Each node is as well-formed trees have it: parallel, series and order nodes have two children or more, none of their own kind,
--- and no pairs; prime nodes have three or more, and at least one pair, of different positions, in ascending order; children have
--- no name in common and stand by their least names, except in order nodes.
+-- Each node is as well-formed trees have it: parallel, series and order nodes have two children or
+-- more, none of their own kind, and no pairs; prime nodes have three or more, and at least one
+-- pair, of different positions, in ascending order; children have no name in common and stand by
+-- their least names, except in order nodes.
 abbrev pub IsCanonicalDNode : DKind → PlainDTrees → List DPair → Type 0
 IsCanonicalDNode = IsCanonicalNodeBy directed_spelling
 

@@ -1,5 +1,6 @@
 -- The laws of trees of directed graphs.
--- Source: Ehrenfeucht and Rozenberg, Theory of 2-structures, for the directed graph as one of its instances.
+-- Source: Ehrenfeucht and Rozenberg, Theory of 2-structures, for the directed graph as one of its
+-- instances.
 use Rattle.std.specs.Prelude.{◌≡◌, ◌<◌, ◌+◌, ◌*◌, ◌↔◌, ℕ, Bool, List, length, Option}
 use Rattle.std.specs.List.{sum_by}
 use Rattle.std.specs.FinSet.{len, difference}
@@ -19,17 +20,21 @@ use Rattle.md_dtree.specs.DirectedTrees.{PlainDTree, arc_forth, IsDirectedTreeOf
 abbrev pub OneDirectedTree : Type 0
 OneDirectedTree =
     (arc : ℕ → ℕ → Bool) (s : NameSet) →
-    (o : Option PlainDTree) × IsDirectedTree arc s o × ((p : Option PlainDTree) → IsDirectedTree arc s p → p ≡ o)
+    (o : Option PlainDTree) × IsDirectedTree arc s o
+    × ((p : Option PlainDTree) → IsDirectedTree arc s p → p ≡ o)
 
--- the leaf set of a directed graph's tree is the set of its vertices, and the tree is as well-formed trees are
+-- the leaf set of a directed graph's tree is the set of its vertices, and the tree is as
+-- well-formed trees are
 abbrev pub DirectedTreeIsCanonical : Type 0
 DirectedTreeIsCanonical =
-    (arc : ℕ → ℕ → Bool) (s : NameSet) (t : PlainDTree) → IsDirectedTreeOf arc s t → (names t ≡ s) × IsCanonicalDTree t
+    (arc : ℕ → ℕ → Bool) (s : NameSet) (t : PlainDTree) → IsDirectedTreeOf arc s t →
+    (names t ≡ s) × IsCanonicalDTree t
 
 -- the tree of a directed graph on names below the limit is well-formed
 abbrev pub DirectedTreeIsWellFormed : Type 0
 DirectedTreeIsWellFormed =
-    (arc : ℕ → ℕ → Bool) (s : NameSet) (o : Option PlainDTree) → IsDirectedTree arc s o → AllBelow s NAMES → IsWellFormedDirected o
+    (arc : ℕ → ℕ → Bool) (s : NameSet) (o : Option PlainDTree) → IsDirectedTree arc s o →
+    AllBelow s NAMES → IsWellFormedDirected o
 
 -- different trees have different texts
 abbrev pub OneDirectedTreeOneText : Type 0
@@ -42,20 +47,24 @@ WrittenDirectedTreesAreRead = WrittenTreesAreReadBy directed_spelling
 -- a tree as well-formed trees are is the tree of a directed graph exactly where it fits the graph
 abbrev pub FitsIfDirectedTree : Type 0
 FitsIfDirectedTree =
-    (arc : ℕ → ℕ → Bool) (s : NameSet) (t : PlainDTree) → IsCanonicalDTree t → FitsDirected arc s t ↔ IsDirectedTreeOf arc s t
+    (arc : ℕ → ℕ → Bool) (s : NameSet) (t : PlainDTree) → IsCanonicalDTree t →
+    FitsDirected arc s t ↔ IsDirectedTreeOf arc s t
 
--- where s splits with arcs from part to the rest alone, each name of part has the greater balance: more arcs from it less those
--- to it than each name of the rest
+-- where s splits with arcs from part to the rest alone, each name of part has the greater balance:
+-- more arcs from it less those to it than each name of the rest
 abbrev pub SplitsBalance : Type 0
 SplitsBalance =
     (arc : ℕ → ℕ → Bool) (s part : NameSet) → IsSplit (between arc) s part arc_forth →
-    (x y : ℕ) → Has part x → Has s y → Lacks part y → arcs_from arc s y + arcs_to arc s x < arcs_from arc s x + arcs_to arc s y
+    (x y : ℕ) → Has part x → Has s y → Lacks part y →
+    arcs_from arc s y + arcs_to arc s x < arcs_from arc s x + arcs_to arc s y
 
--- s splits so with a part exactly where the balances of the names of part sum to the number of pairs across: the arcs from them
--- are as many as those to them and one for each such pair
+-- s splits so with a part exactly where the balances of the names of part sum to the number of
+-- pairs across: the arcs from them are as many as those to them and one for each such pair
 abbrev pub BalanceSplits : Type 0
 BalanceSplits =
-    (arc : ℕ → ℕ → Bool) (s part : NameSet) (xs : List ℕ) → ListsMembers part xs → HasSome part → Within part s →
+    (arc : ℕ → ℕ → Bool) (s part : NameSet) (xs : List ℕ) → ListsMembers part xs →
+    HasSome part → Within part s →
     ((x : ℕ) × Has s x × Lacks part x) →
     IsSplit (between arc) s part arc_forth
-    ↔ (sum_by (arcs_from arc s) xs ≡ sum_by (arcs_to arc s) xs + length xs * len (difference s part))
+    ↔ (sum_by (arcs_from arc s) xs
+    ≡ sum_by (arcs_to arc s) xs + length xs * len (difference s part))

@@ -32,8 +32,8 @@ pub fn written_directed_trees_are_read()
 
 /// A tree as well-formed trees are is the tree of a directed graph exactly where its leaves are the
 /// vertices and each node that is no leaf fits: its leaf set is a module; between the first leaves
-/// of two children run the arcs that the node puts there; and for a prime node the directed graph on
-/// these leaves has trivial modules alone.
+/// of two children run the arcs that the node puts there; and for a prime node the directed graph
+/// on these leaves has trivial modules alone.
 pub fn fits_if_directed_tree()
     ensures law { FitsIfDirectedTree }
 {}
@@ -44,8 +44,8 @@ pub fn splits_balance()
     ensures law { SplitsBalance }
 {}
 
-/// A set splits so with a part exactly where the balances of the names of the part sum to the number
-/// of pairs across.
+/// A set splits so with a part exactly where the balances of the names of the part sum to the
+/// number of pairs across.
 pub fn balance_splits()
     ensures law { BalanceSplits }
 {}

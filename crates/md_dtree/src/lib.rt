@@ -5,9 +5,8 @@ pub mod laws;
 mod spelling;
 mod texts;
 
-pub use texts::{read_directed, text_directed};
-
 use md_tree::{ChildrenOf, PairsOf, TreeOf};
+pub use texts::{read_directed, text_directed};
 
 /// The kind of a node of a directed graph's tree: its leaf set has no arc across some split, both
 /// arcs for each pair across some split, every arc from the one part to the other of some split and
