@@ -1,7 +1,7 @@
 -- Each directed graph has exactly one tree of strong modules, or none where it has no vertex.
 use Rattle.std.proofs.Common.{◌≡◌, Option, Some, None, sym, subst}
 use Rattle.md_graph.specs.NameSet.{AllBelow}
-use Rattle.md_graph.specs.declared.TheConstants.{NAMES}
+use Rattle.md_digraph.specs.declared.TheConstants.{DIRECTED_NAMES}
 use Rattle.md_digraph.proofs.ArcTurns.{arcs_told}
 use Rattle.md_tree.specs.Trees.{names}
 use Rattle.md_tree.proofs.Built.{tree_names, tree_built}
@@ -23,4 +23,4 @@ pub well_formed_proof : DirectedTreeIsWellFormed
 well_formed_proof arc s None is below = tt
 well_formed_proof arc s (Some t) is below =
     let c : (names t ≡ s) × IsCanonicalDTree t = canonical_proof arc s t is in
-    (subst (λ w. AllBelow w NAMES) (sym c.0) below, c.1)
+    (subst (λ w. AllBelow w DIRECTED_NAMES) (sym c.0) below, c.1)

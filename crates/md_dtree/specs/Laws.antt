@@ -1,17 +1,22 @@
 -- The laws of trees of directed graphs.
 -- Source: Ehrenfeucht and Rozenberg, Theory of 2-structures, for the directed graph as one of its
 -- instances.
-use Rattle.std.specs.Prelude.{◌≡◌, ◌<◌, ◌+◌, ◌*◌, ◌↔◌, ℕ, Bool, List, length, Option}
+use Rattle.std.specs.Prelude.{◌≡◌, ◌<◌, ◌+◌, ◌*◌, ◌↔◌, ℕ, Bool, List, length, Option, Result}
 use Rattle.std.specs.List.{sum_by}
 use Rattle.std.specs.FinSet.{len, difference}
 use Rattle.md_graph.specs.NameSet.{AllBelow}
-use Rattle.md_graph.specs.declared.TheConstants.{NAMES}
 use Rattle.md_graph.specs.Sets.{NameSet, Has, Lacks, Within, HasSome}
 use Rattle.md_modules.specs.Kinds.{IsSplit}
 use Rattle.md_digraph.specs.ArcColours.{between}
+use Rattle.md_digraph.specs.declared.TheConstants.{DIRECTED_NAMES}
 use Rattle.md_tree.specs.Trees.{names}
 use Rattle.md_dtree.specs.Balance.{arcs_from, arcs_to, ListsMembers}
-use Rattle.md_tree.specs.Laws.{OneTreeOneTextBy, WrittenTreesAreReadBy}
+use Rattle.md_tree.specs.declared.TreeOf.{TreeOf}
+use Rattle.md_tree.specs.declared.reader.TreeFault.{TreeFault}
+use Rattle.md_tree.specs.Laws.{OneTreeOneTextBy, IsReadAs}
+use Rattle.md_dtree.specs.declared.DKind.{DKind}
+use Rattle.md_dtree.specs.declared.DPair.{DPair}
+use Rattle.md_dtree.specs.DirectedTexts.{directed_text_of, IsDirectedReading}
 use Rattle.md_dtree.specs.DirectedSpelling.{directed_spelling}
 use Rattle.md_dtree.specs.DirectedFits.{FitsDirected}
 use Rattle.md_dtree.specs.DirectedTrees.{PlainDTree, arc_forth, IsDirectedTreeOf, IsDirectedTree, IsCanonicalDTree, IsWellFormedDirected}
@@ -30,11 +35,11 @@ DirectedTreeIsCanonical =
     (arc : ℕ → ℕ → Bool) (s : NameSet) (t : PlainDTree) → IsDirectedTreeOf arc s t →
     (names t ≡ s) × IsCanonicalDTree t
 
--- the tree of a directed graph on names below the limit is well-formed
+-- the tree of a directed graph on names below the limit of these is well-formed
 abbrev pub DirectedTreeIsWellFormed : Type 0
 DirectedTreeIsWellFormed =
     (arc : ℕ → ℕ → Bool) (s : NameSet) (o : Option PlainDTree) → IsDirectedTree arc s o →
-    AllBelow s NAMES → IsWellFormedDirected o
+    AllBelow s DIRECTED_NAMES → IsWellFormedDirected o
 
 -- different trees have different texts
 abbrev pub OneDirectedTreeOneText : Type 0
@@ -42,7 +47,10 @@ OneDirectedTreeOneText = OneTreeOneTextBy directed_spelling
 
 -- the text of each well-formed tree is read as that tree
 abbrev pub WrittenDirectedTreesAreRead : Type 0
-WrittenDirectedTreesAreRead = WrittenTreesAreReadBy directed_spelling
+WrittenDirectedTreesAreRead =
+    (o : Option PlainDTree) → IsWellFormedDirected o →
+    (answer : Result (Option (TreeOf DKind DPair)) TreeFault) →
+    IsDirectedReading (directed_text_of o) answer → IsReadAs o answer
 
 -- a tree as well-formed trees are is the tree of a directed graph exactly where it fits the graph
 abbrev pub FitsIfDirectedTree : Type 0

@@ -66,6 +66,8 @@ fn texts_of_no_tree(rt: HostRuntime) -> Result<(), Fail> {
         b"O(0,P(1,0))",
         b"P(1,0)",
         b"P(1,O(2,0))",
+        b"O(4095,4096)",
+        b"16383",
     ] {
         check_refused(&rt, alloc, bytes, TreeFault::NotCanonical);
     }
