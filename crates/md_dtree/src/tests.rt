@@ -73,3 +73,28 @@ fn texts_of_no_tree(rt: HostRuntime) -> Result<(), Fail> {
     }
     Ok(())
 }
+
+// The tree in which node k has the leaf k and node k + 1, order nodes and parallel ones in turn;
+// the last node has the leaf `depth` in the place of a node.
+fn chain(alloc: Global, depth: u32) -> Result<Vec<u8>, Fail> {
+    let mut bytes = Vec::new(alloc);
+    for k in 0..depth {
+        let piece = format!(in alloc; "{}({k},", if k % 2 == 0 { 'O' } else { 'P' })?;
+        bytes.extend_from_slice(piece.as_bytes())?;
+    }
+    let last = format!(in alloc; "{depth}")?;
+    bytes.extend_from_slice(last.as_bytes())?;
+    for _ in 0..depth {
+        bytes.push(b')')?;
+    }
+    Ok(bytes)
+}
+
+#[test]
+fn deep_texts(rt: HostRuntime) -> Result<(), Fail> {
+    let alloc = rt.alloc();
+    check_read(&rt, alloc, &chain(alloc, 4_095)?);
+    let bytes = chain(alloc, 4_096)?;
+    check_refused(&rt, alloc, &bytes, TreeFault::NotCanonical);
+    Ok(())
+}

@@ -1,14 +1,15 @@
 //! Writes and reads the texts of trees of directed graphs.
-ghost use Rattle.std.specs.Prelude.{◌≡◌, ◌↔◌, IsTrue, IfOk};
+ghost use Rattle.std.specs.Prelude.{◌≡◌, ◌↔◌, map, IsTrue, IfOk};
 ghost use Rattle.md_digraph.specs.declared.TheConstants.{DIRECTED_NAMES};
-ghost use Rattle.md_tree.specs.Plain.{plain, plain_option, row_of_children};
-ghost use Rattle.md_dtree.specs.NamesBelow.{HasLeavesBelow, HaveLeavesBelow, HasLeavesBelowIn};
+ghost use Rattle.md_tree.specs.Plain.{plain, plain_option};
+ghost use Rattle.md_tree.specs.Parts.{plain_at};
+ghost use Rattle.md_dtree.specs.NamesBelow.{IsBelow, AreBelow, HasLeavesBelow};
 ghost use Rattle.md_dtree.specs.DirectedTexts.{directed_text_of, IsDirectedReading};
 
-use crate::{DChildren, DTree};
+use crate::DTree;
 use md_digraph::DIRECTED_NAMES;
 use md_graph::Memory;
-use md_tree::{TreeFault, push_text_of, read_tree_of};
+use md_tree::{TreeFault, nodes_of, push_text_of, read_tree_of};
 use std::alloc::Global;
 
 /// The text of a tree: a name in digits, and a node as `P`, `S`, `O` or `R`, then in brackets its
@@ -23,48 +24,52 @@ pub fn text_directed(alloc: Global, tree: &Option<DTree>) -> Result<Vec<u8>, Mem
     Ok(text)
 }
 
-/// The tree with this text, none for the word `empty`. Errors: where the bytes leave the grammar; or
-/// they are the text of no well-formed tree; or want of memory.
+/// The tree with this text, none for the word `empty`. No call nests as deep as the tree. Errors:
+/// where the bytes leave the grammar; or they are the text of no well-formed tree; or want of
+/// memory.
 pub fn read_directed(alloc: Global, bytes: &[u8]) -> Result<Option<DTree>, TreeFault>
     ensures reading { IsDirectedReading bytes.now result }
 {
     let tree = read_tree_of(alloc, bytes)?;
-    if is_within_limit(&tree) {
+    let within = is_within_limit(alloc, &tree)?;
+    if within {
         Ok(tree)
     } else {
         Err(TreeFault::NotCanonical)
     }
 }
 
-// Whether the names of a tree are names of directed graphs.
-fn is_within_limit(tree: &Option<DTree>) -> bool
-    ensures { IsTrue result ↔ HasLeavesBelowIn DIRECTED_NAMES (plain_option tree.now) }
+// Whether the names of a tree are names of directed graphs. Errors: out of memory.
+fn is_within_limit(alloc: Global, tree: &Option<DTree>) -> Result<bool, Memory>
+    ensures { IfOk result (λ within. IsTrue within
+        ↔ HasLeavesBelow DIRECTED_NAMES (plain_option tree.now)) }
 {
     match tree {
-        Some(tree) => has_leaves_within(tree),
-        None => true,
+        Some(tree) => {
+            let nodes = nodes_of(alloc, tree)?;
+            Ok(are_within_limit(&nodes))
+        }
+        None => Ok(true),
     }
 }
 
-#[cycle(look)]
-#[tactic(auto, using(md_tree::proofs::Plain::plain_is_leaf, md_tree::proofs::Plain::plain_is_node))]
-fn has_leaves_within(tree: &DTree) -> bool
-    ensures { IsTrue result ↔ HasLeavesBelow DIRECTED_NAMES (plain tree.now) }
+fn are_within_limit(nodes: &[&DTree]) -> bool
+    ensures { IsTrue result ↔ AreBelow DIRECTED_NAMES (map plain_at nodes.now) }
 {
-    match tree {
-        DTree::Leaf(name) => *name < DIRECTED_NAMES,
-        DTree::Node(_, children, _) => have_leaves_within(children),
-    }
-}
-
-#[cycle(look)]
-fn have_leaves_within(children: &DChildren) -> bool
-    ensures { IsTrue result ↔ HaveLeavesBelow DIRECTED_NAMES (row_of_children children.now) }
-{
-    for child in &children.list {
-        if !has_leaves_within(child) {
+    for node in nodes {
+        if !is_node_within_limit(node) {
             return false;
         }
     }
     true
+}
+
+#[tactic(auto, using(md_tree::proofs::Plain::plain_is_leaf, md_tree::proofs::Plain::plain_is_node))]
+fn is_node_within_limit(node: &DTree) -> bool
+    ensures { IsTrue result ↔ IsBelow DIRECTED_NAMES (plain node.now) }
+{
+    match node {
+        DTree::Leaf(name) => *name < DIRECTED_NAMES,
+        DTree::Node(_, _, _) => true,
+    }
 }
