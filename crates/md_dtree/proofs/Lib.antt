@@ -1,0 +1,6 @@
+pub mod ArcKinds
+pub mod DirectedCanonical
+pub mod OneDirected
+pub mod BalanceLaws
+pub mod FitsDirected
+pub mod DirectedReading
