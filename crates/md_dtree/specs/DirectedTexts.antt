@@ -16,8 +16,8 @@ use Rattle.md_dtree.specs.DirectedTrees.{PlainDTree, IsWellFormedDirected}
 abbrev pub directed_text_of : Option PlainDTree → List ℕ
 directed_text_of = text_of_by directed_spelling
 
--- a well-formed tree has this text, and is the answer; or the bytes leave the grammar, and the place
--- is told; or they are in it and no well-formed tree's text; out of memory, nothing is told
+-- a well-formed tree has this text, and is the answer; or the bytes leave the grammar, and the
+-- place is told; or they are in it and no well-formed tree's text; out of memory, nothing is told
 abbrev pub IsDirectedReading :
     List ℕ → Result (Option (TreeOf DKind DPair)) TreeFault → Type 0
 IsDirectedReading bytes (Ok o) =

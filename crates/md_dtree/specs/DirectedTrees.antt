@@ -93,8 +93,8 @@ IsCanonicalDNode = IsCanonicalNodeBy directed_spelling
 abbrev pub IsCanonicalDTree : PlainDTree → Type 0
 IsCanonicalDTree = IsCanonicalTreeBy directed_spelling
 
--- a tree of a directed graph is well-formed: its names are below the limit of these, and each node is
--- as well-formed trees have it; so is no tree
+-- a tree of a directed graph is well-formed: its names are below the limit of these, and each node
+-- is as well-formed trees have it; so is no tree
 abbrev pub IsWellFormedDirected : Option PlainDTree → Type 0
 IsWellFormedDirected None = ⊤
 IsWellFormedDirected (Some t) = AllBelow (names t) DIRECTED_NAMES × IsCanonicalDTree t
