@@ -3,14 +3,14 @@ use Rattle.std.proofs.Common.{◌≡◌, ◌<◌, ◌≤◌, ℕ, suc, true, fal
 use Rattle.std.proofs.lemmas.List.Elements.{filter-append, All-weaker}
 use Rattle.std.proofs.lemmas.Bool.{and_parts, ltb-true}
 use Rattle.std.specs.List.{All, filter}
-use Rattle.std.specs.FinSet.{empty, union}
+use Rattle.std.specs.FinSet.{empty, insert}
 use Rattle.md_graph.specs.PlainGraph.{PlainGraph, empty_graph}
 use Rattle.md_graph.specs.declared.TheConstants.{NAMES}
 use Rattle.md_graph.specs.NameSet.{AllBelow, ascending, ascending_between, range}
 use Rattle.md_graph.specs.Sets.{NameSet, Has}
 use Rattle.md_graph.proofs.MemberLists.{ascending_limit}
 use Rattle.md_graph.proofs.NameLemmas.{IsItem, ascending_items}
-use Rattle.md_graph.proofs.Ranges.{contains-range, union_none}
+use Rattle.md_graph.proofs.Ranges.{contains-range}
 use Rattle.md_graph.proofs.SetLemmas.{clash, empty_lacks}
 use Rattle.md_modules.specs.declared.induced_paths.P4.{P4}
 use Rattle.md_script.specs.declared.edit.Edit.{Edit}
@@ -103,11 +103,24 @@ no_p4 g o p is none told =
     let path : IsP4Of g p = subst (IsOpened g) is told in
     clash (subst (λ (x : PlainGraph). Has x.vertices p.a) none path.inside.0) (empty_lacks p.a)
 
--- the neighbours of an odd name
-pub odd_before : (v : ℕ) (old new : NameSet) → v % 2 ≡ 1 → old ≡ empty → new ≡ union old (range 0 v) → new ≡ neighbours_before v
-odd_before v old new odd none is =
+-- the names before an odd name are its neighbours
+pub odd_before : (v : ℕ) (s : NameSet) → v % 2 ≡ 1 → s ≡ range 0 v → s ≡ neighbours_before v
+odd_before v s odd is =
     let one : neighbours_before v ≡ range 0 v = rw odd refl in
-    is ∙ ap (λ (x : NameSet). union x (range 0 v)) none ∙ union_none (range 0 v) ∙ sym one
+    is ∙ sym one
+
+-- no name stands before the first one
+pub none_before : (s : NameSet) → s ≡ empty → s ≡ range 0 0
+unfolding range
+none_before s none = none
+
+-- with a name itself the names before it are those before the next one
+pub one_more_before : (v : ℕ) (s : NameSet) → s ≡ range 0 v → insert s v ≡ range 0 (v + 1)
+unfolding range
+one_more_before v s is =
+    let next : v + 1 ≡ suc v = omega arith in
+    let here : v ≡ 0 + v = omega arith in
+    ap (λ (x : NameSet). insert x v) is ∙ ap (insert (range 0 v)) here ∙ ap (range 0) (sym next)
 
 -- an even name is left out
 pub even_left_out : (v : ℕ) (g h : PlainGraph) (a b : ℕ) → v % 2 ≡ 0 → RunsTo g (DelVertex v ∷ []) a b h → RunsTo g (deletions_at v) a b h

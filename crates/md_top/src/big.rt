@@ -1,5 +1,7 @@
 //! A session on cographs over the edits that a number gives, told in five numbers.
 ghost use Rattle.std.specs.Prelude.{◌≡◌, ◌<◌, ◌≤◌, ◌+◌, ◌-◌, ℕ, [], ◌∷◌, ◌++◌, length, IfOk};
+ghost use Rattle.std.specs.FinSet.{empty};
+ghost use Rattle.md_graph.specs.NameSet.{range};
 ghost use Rattle.md_graph.specs.PlainGraph.{empty_graph};
 ghost use Rattle.md_text.specs.Numbers.{decimal};
 ghost use Rattle.md_script.specs.Edit.{HasNamesBelow};
@@ -88,35 +90,41 @@ fn insert_all(alloc: Global, session: &mut CographSessionOf<64>, size: u32) -> R
     ensures run { IfOk result (λ done.
         (undone : ℕ) × RunsTo session.old (inserts size) done undone session.new) }
 {
+    let none = Names::none();
+    let mut before = Names::none();
     let mut inserted = 0;
     for v in 0..size {
-        inserted += insert(alloc, session, v)?;
+        inserted += insert(alloc, session, v, neighbours_before(v, &before, &none))?;
+        before.insert(v);
     }
     Ok(inserted)
 }
 
-// Takes in a name; how many edits were applied.
-fn insert(alloc: Global, session: &mut CographSessionOf<64>, v: u32) -> Result<u32, Memory>
-    requires { v < BIGGEST }
+// Takes in a name with these neighbours; how many edits were applied.
+fn insert(
+    alloc: Global,
+    session: &mut CographSessionOf<64>,
+    v: u32,
+    names: &Names,
+) -> Result<u32, Memory>
+    requires few { v < BIGGEST }
+    requires names { names.now ≡ neighbours_before v }
     ensures run { IfOk result (λ done.
         (undone : ℕ) × RunsTo session.old (insertion v ∷ []) done undone session.new) }
     ensures few { IfOk result (λ done. done ≤ 1) }
 {
-    let neighbours = Neighbours::new(alloc, &neighbours_before(v))?;
+    let neighbours = Neighbours::new(alloc, names)?;
     let edit = Edit::AddVertex { x: v, neighbours };
     Ok(done(session, &edit))
 }
 
-// The neighbours of a new name.
-fn neighbours_before(v: u32) -> Names
-    requires { v < BIGGEST }
-    ensures { result ≡ neighbours_before v }
+// The neighbours of a new name: the names before it, or none.
+fn neighbours_before<'a>(v: u32, before: &'a Names, none: &'a Names) -> &'a Names
+    requires before { before.now ≡ range 0 v }
+    requires none { none.now ≡ empty }
+    ensures { result.now ≡ neighbours_before v }
 {
-    let mut before = Names::none();
-    if v % 2 == 1 {
-        before.insert_range(0, v);
-    }
-    before
+    if v % 2 == 1 { before } else { none }
 }
 
 // Tries to leave out the edges between 1 and the names below a size; how many could not be.

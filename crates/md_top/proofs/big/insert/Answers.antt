@@ -6,4 +6,4 @@ use Rattle.md_top.proofs.big.insert.Goals as goal
 
 pub done-requires : goal.done-requires
 done-requires c =
-    (c.requires, all_before c.args.v BIGGEST c.neighbours_before.result c.in_ok-neighbours.neighbours c.requires (omega arith) c.neighbours_before.ensures c.in_ok-neighbours.ensures)
+    (c.requires.few, all_before c.args.v BIGGEST c.args.names.now c.in_ok-neighbours.neighbours c.requires.few (omega arith) c.requires.names c.in_ok-neighbours.ensures)
