@@ -5,7 +5,7 @@ use super::*;
 use md_graph::{Graph, GraphOf, Memory, Steps};
 use md_modules::P4;
 use md_report::{Line, write_line};
-use md_script::{Edit, EditReason, History, HistoryOf, Item, Script, read_script};
+use md_script::{Edit, EditReason, HistoryOf, Item, Script, read_script};
 use std::alloc::Global;
 use std::marker::Brand;
 use std::process::Abort;
@@ -115,25 +115,6 @@ fn answers<L: Ledger>(
     let edit = Edit::DelVertex { x: 1 };
     assert_eq!(rt; narrow.apply(&edit, &mut steps), Answer::Applied);
     assert_eq!(rt; narrow.vertex_count(), 2);
-    let graph = GraphOf::<1>::from_edges(alloc, 3, &[(0, 1)])?.expect(rt, "edges");
-    let OpenedOf::Session(mut undoing) = CographSessionOf::new(alloc, graph)? else {
-        panic!(rt; "no session with items");
-    };
-    let mut history = HistoryOf::<1>::new(alloc)?;
-    history.reserve(alloc, 2)?;
-    let item = Item::One(Edit::DelVertex { x: 1 });
-    assert_eq!(rt;
-        undoing.apply_item(&item, &mut history, &mut steps),
-        ItemAnswer::Applied
-    );
-    assert_eq!(rt; undoing.vertex_count(), 2);
-    assert_eq!(rt;
-        undoing.apply_item(&Item::Undo, &mut history, &mut steps),
-        ItemAnswer::Applied
-    );
-    assert_eq!(rt; undoing.vertex_count(), 3);
-    let nothing = undoing.apply_item(&Item::Undo, &mut history, &mut steps);
-    assert_eq!(rt; nothing, ItemAnswer::NothingToUndo);
     Ok(())
 }
 
@@ -169,28 +150,55 @@ fn sessions_on_cographs(rt: HostRuntime) -> Result<(), Fail> {
     Ok(())
 }
 
-// An edit that is applied, one that is refused, and two undos, of which the second has nothing left.
+// Whether a line has this text.
+fn check_line(rt: &impl Abort, alloc: Global, line: &Line, expected: &str) -> Result<(), Memory> {
+    let text = write_line(alloc, line)?;
+    assert_eq!(rt; text.as_slice(), expected.as_bytes());
+    Ok(())
+}
+
+// An edit, and two undos, of which the second has nothing left.
 #[test]
 fn items(rt: HostRuntime) -> Result<(), Fail> {
     let alloc = rt.alloc();
-    let graph = Graph::from_edges(alloc, 3, &[(0, 1), (1, 2)])?.expect(&rt, "edges");
-    let mut session = GeneralSession::new(graph);
-    let mut history = History::new(alloc)?;
+    let graph = GraphOf::<1>::from_edges(alloc, 3, &[(0, 1), (1, 2)])?.expect(&rt, "edges");
+    let mut session = GeneralSessionOf::new(graph);
+    let mut history = HistoryOf::<1>::new(alloc)?;
     history.reserve(alloc, 2)?;
     let item = Item::One(Edit::DelVertex { x: 1 });
-    let line = session.apply_item(alloc, &item, &mut history)?;
-    let text = write_line(alloc, &line)?;
-    assert_eq!(&rt; text.as_slice(), "ok P(0,2)".as_bytes());
+    let first = session.apply_item(alloc, &item, &mut history)?;
+    let second = session.apply_item(alloc, &Item::Undo, &mut history)?;
+    let third = session.apply_item(alloc, &Item::Undo, &mut history)?;
+    check_line(&rt, alloc, &first, "ok P(0,2)")?;
+    check_line(&rt, alloc, &second, "ok S(P(0,2),1)")?;
+    check_line(&rt, alloc, &third, "no undo")?;
+    Ok(())
+}
+
+// An edit of a session on a cograph, and two undos, of which the second has nothing left.
+fn undo_on_a_cograph<L: Ledger>(rt: &impl Abort, alloc: Global, blank: Blank) -> Result<(), Memory>
+    requires name { blank.name ≡ L.name }
+    requires parts { blank.parts ≡ L.parts }
+    requires some { 0 < blank.parts }
+{
+    let mut steps = Steps::<L>::new(blank);
+    let graph = GraphOf::<1>::from_edges(alloc, 3, &[(0, 1)])?.expect(rt, "edges");
+    let OpenedOf::Session(mut session) = CographSessionOf::new(alloc, graph)? else {
+        panic!(rt; "no session with items");
+    };
+    let mut history = HistoryOf::<1>::new(alloc)?;
     history.reserve(alloc, 2)?;
-    let item = Item::One(Edit::AddEdge { u: 0, v: 1 });
-    let line = session.apply_item(alloc, &item, &mut history)?;
-    let text = write_line(alloc, &line)?;
-    assert_eq!(&rt; text.as_slice(), "no vertex 1".as_bytes());
-    let line = session.apply_item(alloc, &Item::Undo, &mut history)?;
-    let text = write_line(alloc, &line)?;
-    assert_eq!(&rt; text.as_slice(), "ok S(P(0,2),1)".as_bytes());
-    let line = session.apply_item(alloc, &Item::Undo, &mut history)?;
-    let text = write_line(alloc, &line)?;
-    assert_eq!(&rt; text.as_slice(), "no undo".as_bytes());
+    let item = Item::One(Edit::DelVertex { x: 1 });
+    let first = session.apply_item(&item, &mut history, &mut steps);
+    let second = session.apply_item(&Item::Undo, &mut history, &mut steps);
+    let third = session.apply_item(&Item::Undo, &mut history, &mut steps);
+    assert!(rt; matches!(first, ItemAnswer::Applied) && matches!(second, ItemAnswer::Applied));
+    assert!(rt; matches!(third, ItemAnswer::NothingToUndo) && session.vertex_count() == 3);
+    Ok(())
+}
+
+#[test]
+fn items_on_cographs(rt: HostRuntime) -> Result<(), Fail> {
+    undo_on_a_cograph::<Brand>(&rt, rt.alloc(), Blank::new(1))?;
     Ok(())
 }
