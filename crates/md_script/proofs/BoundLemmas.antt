@@ -1,4 +1,4 @@
--- Bounds of the names in edits.
+-- Bounds of the names in edits and items.
 use Rattle.std.specs.Prelude.{◌≡◌, ℕ, ◌+◌, ◌-◌, ◌<◌, ◌≤◌, List, length, take, Some, slice_get}
 use Rattle.std.specs.List.{All}
 use Rattle.std.specs.List.Sorted.{IsStrictlyIncreasing}
@@ -7,8 +7,10 @@ use Rattle.std.proofs.lemmas.Bool.{cases_eq}
 use Rattle.std.proofs.lemmas.List.Elements.{All-more, All-weaker}
 use Rattle.std.proofs.lemmas.List.Kept.{AllPairs-from_increasing}
 use Rattle.std.proofs.lemmas.Option.{get_or_from_slice_get}
-use Rattle.md_script.specs.declared.edit.Edit.{Edit}
+use Rattle.md_script.specs.declared.item.Item.{Item}
+use Rattle.md_script.specs.declared.item.Item.TheVariants.{One, Undo, Group}
 use Rattle.md_script.specs.Edit.{HasNamesBelow}
+use Rattle.md_script.specs.Items.{HasItemNamesBelow}
 use Rattle.md_script.proofs.ChangeLemmas.{names_within}
 
 -- the names of an ascending list are at most its last
@@ -24,10 +26,16 @@ below_last xs v increasing last k d below = ⊎_elim at_last before (cases_eq k 
     before : k ≢ length xs - 1 → slice_index_or xs k d < v + 1
     before other = let less = AllPairs-from_increasing xs increasing k (length xs - 1) d (omega arith) (omega arith) in omega (arith, is)
 
--- one more edit whose names are below a bound
-pub one_more_below : (edits : List Edit) (i : ℕ) (edit : Edit) (here bound more : ℕ) → i < length edits → edit ≡ slice_index_or edits i edit →
-    here ≤ more → bound ≤ more → HasNamesBelow here edit → All (HasNamesBelow bound) (take i edits) → All (HasNamesBelow more) (take (i + 1) edits)
-one_more_below edits i edit here bound more there is less least own before =
-    All-more (HasNamesBelow more) edits i edit there
-    (All-weaker (HasNamesBelow bound) (HasNamesBelow more) (names_within least) (take i edits) before)
-    (subst (HasNamesBelow more) is (names_within less edit own))
+-- the names in an item are below each greater limit
+pub item_within : {limit more : ℕ} → limit ≤ more → (item : Item) → HasItemNamesBelow limit item → HasItemNamesBelow more item
+item_within few (One edit) names = names_within few edit names
+item_within few Undo names = names
+item_within {limit} {more} few (Group edits) names = All-weaker (HasNamesBelow limit) (HasNamesBelow more) (names_within few) edits names
+
+-- one more edit or item whose names are below a bound
+pub one_more_below : {X : Type 0} (Below : ℕ → X → Type 0) (within : (limit more : ℕ) → limit ≤ more → (x : X) → Below limit x → Below more x) (xs : List X) (i : ℕ) (x : X) (here bound more : ℕ)
+    → i < length xs → x ≡ slice_index_or xs i x → here ≤ more → bound ≤ more → Below here x → All (Below bound) (take i xs) → All (Below more) (take (i + 1) xs)
+one_more_below Below within xs i x here bound more there is less least own before =
+    All-more (Below more) xs i x there
+    (All-weaker (Below bound) (Below more) (within bound more least) (take i xs) before)
+    (subst (Below more) is (within here more less x own))

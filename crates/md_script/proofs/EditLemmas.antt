@@ -1,24 +1,23 @@
--- The first fault of a line, and the edit that it spells.
+-- The first fault of an edit's line, and the edit that it spells.
 use Rattle.std.specs.Prelude.{◌≡◌, ℕ, suc, ◌<◌, Bool, true, false, cond, nat_le, ◌==◌, List, [], ◌∷◌, length, Option, Some, None, option_and_then, refl}
 use Rattle.std.specs.Option.{option_or}
 use Rattle.std.specs.List.{All}
 use Rattle.std.proofs.Common.{ap, sym, ◌∙◌, arith, subst}
-use Rattle.std.proofs.lemmas.Bool.{eqb-true, leb-false, lt-leb}
+use Rattle.std.proofs.lemmas.Bool.{eqb-true, leb-false}
 use Rattle.std.proofs.lemmas.Bool.Decides.{nat_tests}
 use Rattle.std.proofs.lemmas.List.Elements.{All-nil, All-cons, All-head, All-tail}
 use Rattle.std.specs.FinSet as set
 use Rattle.md_graph.specs.declared.TheConstants.{NAMES}
 use Rattle.md_graph.specs.NameSet.{ascending}
 use Rattle.md_text.specs.Numbers.{number_of}
-use Rattle.md_script.specs.declared.TheConstants.{EDITS}
 use Rattle.md_script.specs.declared.edit.Edit.{Edit}
 use Rattle.md_script.specs.declared.edit.Edit.TheVariants.{AddEdge, DelEdge, AddVertex, DelVertex}
 use Rattle.md_script.specs.declared.fault.ScriptKind.{ScriptKind}
-use Rattle.md_script.specs.declared.fault.ScriptKind.TheVariants.{FieldCount, NameTooLarge, TooManyEdits}
-use Rattle.md_script.specs.declared.line.EditWord.{EditWord}
-use Rattle.md_script.specs.declared.line.EditWord.TheVariants.{PlusEdge, MinusEdge, PlusVertex, MinusVertex}
+use Rattle.md_script.specs.declared.fault.ScriptKind.TheVariants.{FieldCount, NameTooLarge}
+use Rattle.md_script.specs.declared.word.EditWord.{EditWord}
+use Rattle.md_script.specs.declared.word.EditWord.TheVariants.{PlusEdge, MinusEdge, PlusVertex, MinusVertex}
 use Rattle.md_script.specs.Edit.{HasNames}
-use Rattle.md_script.specs.Line.{is_skipped, word_of, name_in, number_fault, before_names, names_written, names_fault, edit_with, edit_by, edit_of, count_fault, vertex_fault, fault_with, fault_by, edit_fault, fault_of_words}
+use Rattle.md_script.specs.Line.{name_in, number_fault, before_names, names_written, names_fault, edit_with, edit_by, count_fault, vertex_fault, fault_with}
 use Rattle.md_script.proofs.NameListLemmas.{ascending_is_list}
 
 -- ---- fields that are all names
@@ -146,9 +145,8 @@ with_word MinusEdge rest h = edge_spelled MinusEdge DelEdge rest (λ u v. refl) 
 with_word PlusVertex rest h = vertex_spelled rest h
 with_word MinusVertex rest h = gone_spelled rest h
 
-edit_without_fault : (word : Option EditWord) (rest : List (List ℕ)) → fault_by word rest ≡ None → (edit : Edit) × (edit_by word rest ≡ Some edit)
-edit_without_fault None rest h = absurd (cc)
-edit_without_fault (Some word) rest h =
+pub edit_without_fault : (word : EditWord) (rest : List (List ℕ)) → fault_with word rest ≡ None → (edit : Edit) × (edit_by word rest ≡ Some edit)
+edit_without_fault word rest h =
     let spelled = with_word word rest h in
     (spelled.0, ap (option_and_then (edit_with word)) spelled.1.names.written ∙ spelled.1.is)
 
@@ -198,42 +196,8 @@ by_names word None edit h = absurd (cc)
 by_names word (Some list) edit h = (list, refl, made_edit word list edit h)
 
 -- fields that spell an edit have no fault, and the edit's names are names
-edit_spelled : (word : Option EditWord) (rest : List (List ℕ)) (edit : Edit) → edit_by word rest ≡ Some edit → (fault_by word rest ≡ None) × HasNames edit
-edit_spelled None rest edit h = absurd (cc)
-edit_spelled (Some word) rest edit h =
+pub edit_spelled : (word : EditWord) (rest : List (List ℕ)) (edit : Edit) → edit_by word rest ≡ Some edit → (fault_with word rest ≡ None) × HasNames edit
+edit_spelled word rest edit h =
     let made = by_names word (names_written rest) edit h in
     let names = names_are rest made.0 made.1 in
     (made.2.faultless rest names.size names.faultless, made.2.names names.below)
-
--- ---- one line
-
-pub fault-skipped : (n : ℕ) (ws : List (List ℕ)) → is_skipped ws ≡ true → fault_of_words n ws ≡ None
-fault-skipped n ws skipped = ap (λ b. cond b None (edit_fault n ws)) skipped
-
-fault-edit : (n : ℕ) (ws : List (List ℕ)) → is_skipped ws ≡ false → fault_of_words n ws ≡ edit_fault n ws
-fault-edit n ws edit = ap (λ b. cond b None (edit_fault n ws)) edit
-
--- an edit's line without fault
-pub record IsEditLine (n : ℕ) (ws : List (List ℕ)) (edit : Edit) : Type 0 where
-  pub spelled : edit_of ws ≡ Some edit
-  pub room : n < EDITS
-
-pub line_without_fault : (n : ℕ) (ws : List (List ℕ)) → is_skipped ws ≡ false → fault_of_words n ws ≡ None → (edit : Edit) × IsEditLine n ws edit
-line_without_fault n [] edit h = absurd (cc)
-line_without_fault n (first ∷ rest) edit h = by_test (nat_le EDITS n) refl (sym (fault-edit n (first ∷ rest) edit) ∙ h) where
-  by_test : (many : Bool) → nat_le EDITS n ≡ many → cond many (Some TooManyEdits) (fault_by (word_of first) rest) ≡ None → (edit : Edit) × IsEditLine n (first ∷ rest) edit
-  by_test true e h = absurd (cc)
-  by_test false e h =
-      let spelled = edit_without_fault (word_of first) rest h in
-      (spelled.0, record { spelled = spelled.1; room = leb-false EDITS n e })
-
-pub line_has_no_fault : (n : ℕ) (ws : List (List ℕ)) (edit : Edit) → is_skipped ws ≡ false → edit_of ws ≡ Some edit → n < EDITS → fault_of_words n ws ≡ None
-line_has_no_fault n [] edit skipped spelled room = absurd (cc)
-line_has_no_fault n (first ∷ rest) edit skipped spelled room =
-    let few : nat_le EDITS n ≡ false = lt-leb EDITS n room in
-    fault-edit n (first ∷ rest) skipped ∙ ap (λ b. cond b (Some TooManyEdits) (fault_by (word_of first) rest)) few
-    ∙ (edit_spelled (word_of first) rest edit spelled).0
-
-pub line_has_names : (ws : List (List ℕ)) (edit : Edit) → edit_of ws ≡ Some edit → HasNames edit
-line_has_names [] edit h = absurd (cc)
-line_has_names (first ∷ rest) edit h = (edit_spelled (word_of first) rest edit h).1

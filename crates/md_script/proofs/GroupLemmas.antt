@@ -1,7 +1,7 @@
 -- Edits that are applied one after the other, and taken back from the last to the first.
 use Rattle.std.proofs.Common.{◌≡◌, ℕ, zero, suc, ◌+◌, ◌<◌, ◌≤◌, List, [], ◌∷◌, ◌++◌, length, take, slice_get, Some, None, refl, sym, ◌∙◌, ap, ap₂, subst, arith, inl, inr}
 use Rattle.std.specs.List.{All}
-use Rattle.std.proofs.lemmas.List.{take_all, length-append}
+use Rattle.std.proofs.lemmas.List.{length-append}
 use Rattle.std.proofs.lemmas.List.Elements.{All-head, All-tail, All-take}
 use Rattle.md_graph.specs.declared.TheConstants.{NAMES}
 use Rattle.md_graph.specs.NameSet.{AllBelow}
@@ -57,9 +57,6 @@ module _ (Kept : PlainGraph → Type 0) where
   Applies-push : (g : PlainGraph) (edits : List Edit) (e : Edit) → Applies Kept g edits → reason_of (all_after g edits) e ≡ None → Kept (after (all_after g edits) e) → Applies Kept g (edits ++ e ∷ [])
   Applies-push g [] e applies none kept = (none, (kept, tt))
   Applies-push g (x ∷ edits) e applies none kept = (applies.0, (applies.1.0, Applies-push (after g x) edits e applies.1.1 none kept))
-
-  pub applied_start : (g : PlainGraph) (edits : List Edit) → HasApplied Kept g edits g [] 0
-  applied_start g edits = record { within = omega arith; applies = tt; graph_is = refl; back_is = refl }
 
   pub applied_more : (g h k : PlainGraph) (edits back : List Edit) (i : ℕ) (e p : Edit) → HasApplied Kept g edits h back i → slice_get edits i ≡ Some e → reason_of h e ≡ None → Kept k → k ≡ after h e → p ≡ inverse_of h e
       → HasApplied Kept g edits k (back ++ p ∷ []) (i + 1)
@@ -143,11 +140,6 @@ module _ (limit : ℕ) (Kept : PlainGraph → Type 0) where
     pub within : left ≤ length last
     pub may : MayBack limit Kept g (take left last)
     pub leads : taken_back g (take left last) ≡ before
-
-  pub through_start : (g : PlainGraph) (last : List Edit) (n : ℕ) → n ≡ length last → MayBack limit Kept g last → IsThrough (taken_back g last) g last n
-  through_start g last n is may =
-      let all : take n last ≡ last = take_all n last (omega arith) in
-      record { within = omega arith; may = subst (MayBack limit Kept g) (sym all) may; leads = ap (taken_back g) all }
 
   module _ (before g : PlainGraph) (last : List Edit) (left new : ℕ) (e : Edit) (so : IsThrough before g last left) (less : left ≡ new + 1) (is : slice_get last new ≡ Some e) where
     front_is : take left last ≡ take new last ++ e ∷ []

@@ -32,10 +32,6 @@ opened edits starts new is =
     ap (λ s. cut_items seen (reverse s)) is ∙ ap (cut_items seen) (reverse-append starts (length edits ∷ []))
     ∙ ap₂ (λ (x y : List Edit). x ∷ cut_items y (reverse starts)) (drop_all (length edits) seen all) (take_all (length edits) seen all)
 
-pub opened_starts : (n : ℕ) (starts new : List ℕ) → new ≡ starts ++ n ∷ [] → AreStarts n (reverse starts) → AreStarts n (reverse new)
-opened_starts n starts new is at =
-    subst (AreStarts n) (sym (ap reverse is ∙ reverse-append starts (n ∷ []))) (omega arith, at)
-
 -- one edit more
 pushed_item : (edits : List Edit) (e : Edit) (start : ℕ) (starts : List ℕ) → start ≤ length edits →
     cut_items (edits ++ e ∷ []) (start ∷ starts) ≡ (drop start edits ++ e ∷ []) ∷ cut_items (take start edits) starts

@@ -1,12 +1,17 @@
 -- Histories: what the items that were applied are taken back by.
 -- Source: the undo lists of editors of texts, as in any textbook of data structures.
-use Rattle.std.specs.Prelude.{◌≡◌, ℕ, ◌≤◌, ◌⊎◌, List, [], ◌∷◌, map, reverse, take, drop, ⊤, refl}
+use Rattle.std.specs.Prelude.{◌≡◌, ℕ, ◌+◌, ◌<◌, ◌≤◌, ◌⊎◌, List, [], ◌∷◌, map, reverse, take, drop, get_or, ⊤, refl}
+use Rattle.std.specs.FinSet as set
 use Rattle.std.specs.Coded.{Coded, code_by, coded_ℕ, coded_list, coded×, coded⊎}
 use Rattle.std.proofs.Common.{inl, inr}
 use Rattle.md_graph.specs.PlainGraph.{PlainGraph}
+use Rattle.md_graph.specs.Sets.{NameSet}
 use Rattle.md_script.specs.declared.edit.Edit.{Edit}
 use Rattle.md_script.specs.declared.edit.Edit.TheVariants.{AddEdge, DelEdge, AddVertex, DelVertex}
+use Rattle.md_script.specs.declared.history.KeptEdit.{KeptEdit}
+use Rattle.md_script.specs.declared.history.KeptEdit.TheVariants as kept
 use Rattle.md_script.specs.declared.past.PastOf.{PastOf}
+use Rattle.md_script.specs.declared.past.PastOf.TheVariants as past
 use Rattle.md_script.specs.Pasts.{as_edit, taken_back, MayBack}
 
 -- the items, the last one first, of each the edits by which it is taken back, in the order in which its own were applied; and for how
@@ -25,6 +30,26 @@ abbrev pub AreStarts : ℕ → List ℕ → Type 0
 AreStarts n [] = ⊤
 AreStarts n (start ∷ starts) = (start ≤ n) × AreStarts start starts
 
+-- the edit that is kept, whose neighbours, if it has them, are the row that it names
+abbrev pub past_in : {w : ℕ} → List NameSet → KeptEdit → PastOf w
+past_in rows (kept.AddEdge u v) = past.AddEdge u v
+past_in rows (kept.DelEdge u v) = past.DelEdge u v
+past_in rows (kept.AddVertex x row) = past.AddVertex x (get_or rows row set.empty)
+past_in rows (kept.DelVertex x) = past.DelVertex x
+
+-- the row that the edit names is one of so many, if it names one
+abbrev pub HasRow : ℕ → KeptEdit → Type 0
+HasRow n (kept.AddVertex x row) = row < n
+HasRow n _ = ⊤
+
+-- the edits name the rows from the first number to the one before the second, in their order
+abbrev pub AreRows : ℕ → List KeptEdit → ℕ → Type 0
+AreRows n [] m = n ≡ m
+AreRows n (kept.AddVertex x row ∷ edits) m = (row ≡ n) × AreRows (n + 1) edits m
+AreRows n (kept.AddEdge u v ∷ edits) m = AreRows n edits m
+AreRows n (kept.DelEdge u v ∷ edits) m = AreRows n edits m
+AreRows n (kept.DelVertex x ∷ edits) m = AreRows n edits m
+
 -- the history that is kept as the edits of all items, where each item begins, and the room
 abbrev pub history_kept : {w : ℕ} → List (PastOf w) → List ℕ → ℕ → PlainHistory
 history_kept edits starts spare = record { items = cut_items (map as_edit edits) (reverse starts); spare = spare }
@@ -35,9 +60,9 @@ graphs_before g [] = []
 graphs_before g (item ∷ items) = taken_back g item ∷ graphs_before (taken_back g item) items
 
 -- a history fits a graph: each edit can be taken back in its turn, has names below a limit, and leads to a graph of those that may be kept
-abbrev pub Fits : ℕ → (PlainGraph → Type 0) → PlainGraph → List (List Edit) → Type 0
-Fits limit Kept g [] = ⊤
-Fits limit Kept g (item ∷ items) = MayBack limit Kept g item × Fits limit Kept (taken_back g item) items
+abbrev pub HistoryFits : ℕ → (PlainGraph → Type 0) → PlainGraph → List (List Edit) → Type 0
+HistoryFits limit Kept g [] = ⊤
+HistoryFits limit Kept g (item ∷ items) = MayBack limit Kept g item × HistoryFits limit Kept (taken_back g item) items
 
 -- an edit by its parts, and back
 abbrev pub EditParts : Type 0

@@ -1,6 +1,6 @@
 -- The items of scripts: an edit, an undo, or a group of edits.
 -- Source: the format of scripts is this project's.
-use Rattle.std.specs.Prelude.{ℕ, ◌+◌, ◌≤◌, length, ⊤}
+use Rattle.std.specs.Prelude.{ℕ, ◌+◌, ◌≤◌, Bool, true, false, length, ⊤}
 use Rattle.std.specs.List.{All}
 use Rattle.md_script.specs.declared.TheConstants.{EDITS}
 use Rattle.md_script.specs.declared.item.Item.{Item}
@@ -19,7 +19,18 @@ size_of (One edit) = 1
 size_of Undo = 1
 size_of (Group edits) = length edits + 1
 
+-- for how many edits and items a history needs room before the item
+abbrev pub room_for : Item → ℕ
+room_for (One edit) = 2
+room_for (Group edits) = length edits + 1
+room_for Undo = 0
+
 -- what holds of each item of a script: its names are below a limit, and it isn't too large
-pub record IsItem (limit : ℕ) (item : Item) : Type 0 where
+pub record IsScriptItem (limit : ℕ) (item : Item) : Type 0 where
   pub names : HasItemNamesBelow limit item
   pub small : size_of item ≤ EDITS
+
+-- whether an item is an undo
+abbrev pub is_undo : Item → Bool
+is_undo Undo = true
+is_undo _ = false

@@ -8,12 +8,14 @@ use Rattle.md_graph.specs.NameSet.{AllBelow, IsLeastFrom}
 use Rattle.md_graph.specs.PlainGraph.{PlainGraph, IsGraph}
 use Rattle.md_script.specs.declared.edit.Edit.{Edit}
 use Rattle.md_script.specs.Edit.{HasNames, HasNamesBelow, least_absent, reason_of, after}
+use Rattle.md_script.specs.declared.item.Item.{Item}
+use Rattle.md_script.specs.Items.{IsScriptItem}
 use Rattle.md_script.specs.File.{SpellsScript}
 use Rattle.md_script.specs.Pasts.{inverse_of, TakesBack}
 
--- all names in a script that is spelled are below the number of names
+-- all names in a script that is spelled are below the number of names, and no item is too large
 abbrev pub SpelledHasNames : Type 0
-SpelledHasNames = (bytes : List ℕ) (edits : List Edit) → SpellsScript bytes edits → All HasNames edits
+SpelledHasNames = (bytes : List ℕ) (items : List Item) → SpellsScript bytes items → All (IsScriptItem NAMES) items
 
 -- an edit that can be applied to a graph gives a graph
 abbrev pub GivesGraph : Type 0

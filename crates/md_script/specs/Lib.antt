@@ -1,8 +1,10 @@
 pub mod Neighbours
 pub mod Edit
 pub mod Line
+pub mod Tokens
 pub mod File
 pub mod Read
+pub mod Drafts
 pub mod Laws
 pub mod Pasts
 pub mod Histories

@@ -1,4 +1,4 @@
--- A line of a script: the edit that it spells, and its first fault.
+-- A line of a script: its first word, and of an edit's line the names and the edit that they spell.
 -- Source: the format and its faults are this project's.
 use Rattle.std.specs.Prelude.{ℕ, ◌==◌, nat_eq, nat_le, Bool, true, List, [], ◌∷◌, length, slice_index, if◌then◌else◌, Option, None, Some, codes, option_and_then}
 use Rattle.std.specs.Option.{option_or}
@@ -7,27 +7,31 @@ use Rattle.std.specs.FinSet as set
 use Rattle.md_graph.specs.declared.TheConstants.{NAMES}
 use Rattle.md_graph.specs.NameSet.{ascending}
 use Rattle.md_text.specs.Numbers.{number_of}
-use Rattle.md_script.specs.declared.TheConstants.{EDITS}
-use Rattle.md_script.specs.declared.edit.Edit.{Edit}
+use Rattle.md_script.specs.declared.edit.Edit.{Edit as EditOfGraph}
 use Rattle.md_script.specs.declared.edit.Edit.TheVariants.{AddEdge, DelEdge, AddVertex, DelVertex}
 use Rattle.md_script.specs.declared.fault.ScriptKind.{ScriptKind}
-use Rattle.md_script.specs.declared.fault.ScriptKind.TheVariants.{UnknownEdit, FieldCount, BadNumber, NameTooLarge, TooManyEdits}
-use Rattle.md_script.specs.declared.line.EditWord.{EditWord}
-use Rattle.md_script.specs.declared.line.EditWord.TheVariants.{PlusEdge, MinusEdge, PlusVertex, MinusVertex}
+use Rattle.md_script.specs.declared.fault.ScriptKind.TheVariants.{FieldCount, BadNumber, NameTooLarge}
+use Rattle.md_script.specs.declared.word.LineWord.{LineWord}
+use Rattle.md_script.specs.declared.word.LineWord.TheVariants.{Edit, Undo, Begin, Commit}
+use Rattle.md_script.specs.declared.word.EditWord.{EditWord}
+use Rattle.md_script.specs.declared.word.EditWord.TheVariants.{PlusEdge, MinusEdge, PlusVertex, MinusVertex}
 
 -- whether a line with these fields is skipped: it has none, or the first begins with `#`
 abbrev pub is_skipped : List (List ℕ) → Bool
 is_skipped [] = true
 is_skipped (first ∷ rest) = slice_index first 0 == 35
 
--- the word that a first field is, if it is one of the four
-unfoldable pub word_of : List ℕ → Option EditWord
+-- the word that a first field is, if it is one of the seven
+unfoldable pub word_of : List ℕ → Option LineWord
 word_of field =
-    if pointwise nat_eq field (codes "+e") then Some PlusEdge
-    else (if pointwise nat_eq field (codes "-e") then Some MinusEdge
-    else (if pointwise nat_eq field (codes "+v") then Some PlusVertex
-    else (if pointwise nat_eq field (codes "-v") then Some MinusVertex
-    else None)))
+    if pointwise nat_eq field (codes "+e") then Some (Edit PlusEdge)
+    else (if pointwise nat_eq field (codes "-e") then Some (Edit MinusEdge)
+    else (if pointwise nat_eq field (codes "+v") then Some (Edit PlusVertex)
+    else (if pointwise nat_eq field (codes "-v") then Some (Edit MinusVertex)
+    else (if pointwise nat_eq field (codes "undo") then Some Undo
+    else (if pointwise nat_eq field (codes "begin") then Some Begin
+    else (if pointwise nat_eq field (codes "commit") then Some Commit
+    else None))))))
 
 -- the number, if it is one and a name
 abbrev pub name_in : Option ℕ → Option ℕ
@@ -57,7 +61,7 @@ names_fault (field ∷ rest) = option_or (number_fault (number_of field)) (names
 
 -- the edit of a word with these names behind it, if they are as many as it takes; of the neighbours of
 -- a new vertex the order and repeats don't matter
-abbrev pub edit_with : EditWord → List ℕ → Option Edit
+abbrev pub edit_with : EditWord → List ℕ → Option EditOfGraph
 edit_with PlusEdge (u ∷ v ∷ []) = Some (AddEdge u v)
 edit_with MinusEdge (u ∷ v ∷ []) = Some (DelEdge u v)
 edit_with PlusVertex (x ∷ names) = Some (AddVertex x (ascending (set.from_list names)))
@@ -65,14 +69,8 @@ edit_with MinusVertex (x ∷ []) = Some (DelVertex x)
 edit_with _ _ = None
 
 -- the edit of a word with these fields behind it
-abbrev pub edit_by : Option EditWord → List (List ℕ) → Option Edit
-edit_by None rest = None
-edit_by (Some word) rest = option_and_then (edit_with word) (names_written rest)
-
--- the edit that fields spell, if they spell one
-abbrev pub edit_of : List (List ℕ) → Option Edit
-edit_of [] = None
-edit_of (first ∷ rest) = edit_by (word_of first) rest
+abbrev pub edit_by : EditWord → List (List ℕ) → Option EditOfGraph
+edit_by word rest = option_and_then (edit_with word) (names_written rest)
 
 -- the first fault of fields that are to be n names
 abbrev pub count_fault : ℕ → List (List ℕ) → Option ScriptKind
@@ -83,24 +81,9 @@ abbrev pub vertex_fault : List (List ℕ) → Option ScriptKind
 vertex_fault [] = Some FieldCount
 vertex_fault (field ∷ rest) = names_fault (field ∷ rest)
 
--- the first fault of the fields behind a word
+-- the first fault of the fields behind an edit's word
 abbrev pub fault_with : EditWord → List (List ℕ) → Option ScriptKind
 fault_with PlusEdge rest = count_fault 2 rest
 fault_with MinusEdge rest = count_fault 2 rest
 fault_with PlusVertex rest = vertex_fault rest
 fault_with MinusVertex rest = count_fault 1 rest
-
--- the first fault of a first field and those behind it
-abbrev pub fault_by : Option EditWord → List (List ℕ) → Option ScriptKind
-fault_by None rest = Some UnknownEdit
-fault_by (Some word) rest = fault_with word rest
-
--- the first fault of a line of an edit by its fields, where `edits` edits stood before
-abbrev pub edit_fault : ℕ → List (List ℕ) → Option ScriptKind
-edit_fault edits [] = None
-edit_fault edits (first ∷ rest) =
-    if nat_le EDITS edits then Some TooManyEdits else fault_by (word_of first) rest
-
--- the first fault of a line by its fields, where `edits` edits stood before
-abbrev pub fault_of_words : ℕ → List (List ℕ) → Option ScriptKind
-fault_of_words edits ws = if is_skipped ws then None else edit_fault edits ws

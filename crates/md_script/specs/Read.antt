@@ -1,14 +1,13 @@
 -- What a reader of a script has read.
-use Rattle.std.specs.Prelude.{◌≡◌, ℕ, List, [], ◌∷◌, Option, Some, option_to_list, if◌then◌else◌}
+use Rattle.std.specs.Prelude.{◌≡◌, ℕ, List, ◌∷◌, Option, Some}
 use Rattle.std.specs.FinSet as set
 use Rattle.md_graph.specs.Sets.{NameSet}
-use Rattle.md_script.specs.declared.edit.Edit.{Edit}
 use Rattle.md_script.specs.declared.fault.ScriptKind.{ScriptKind}
 use Rattle.md_script.specs.declared.fault.ScriptFault.{ScriptFault}
 use Rattle.md_script.specs.declared.fault.ScriptFault.TheVariants.{Bad as BadLine, Memory as NoMemory}
 use Rattle.md_script.specs.declared.line.Refusal.{Refusal}
 use Rattle.md_script.specs.declared.line.Refusal.TheVariants.{Bad, Memory}
-use Rattle.md_script.specs.Line.{is_skipped, names_written, edit_of}
+use Rattle.md_script.specs.Line.{names_written}
 use Rattle.md_script.specs.File.{first_fault}
 
 -- a fault that is named is the first one; want of memory may come at any time
@@ -32,7 +31,3 @@ pub record NamesVertex (rest : List (List ℕ)) (x : ℕ) (s : NameSet) : Type 0
   pub list : List ℕ
   pub written : names_written rest ≡ Some (x ∷ list)
   pub members : s ≡ set.from_list list
-
--- the edit that fields spell, and none of a line that is skipped
-abbrev pub edits_in : List (List ℕ) → List Edit
-edits_in ws = if is_skipped ws then [] else option_to_list (edit_of ws)

@@ -81,7 +81,7 @@ pub fn back_through<const W: usize>(
     while left > 0 {
         left -= 1;
         let past = history.last_edit(left);
-        redo.push(again(graph, past));
-        take_back(graph, past);
+        redo.push(again(graph, &past));
+        take_back(graph, &past);
     }
 }

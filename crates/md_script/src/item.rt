@@ -1,8 +1,10 @@
 //! Items of scripts.
-ghost use Rattle.std.specs.Prelude.{◌≡◌, ◌<◌, ◌≤◌, length, vec_len, slice_get, Some};
+ghost use Rattle.std.specs.Prelude.{◌≡◌, ◌<◌, ◌≤◌, ℕ, length, vec_len, slice_get, Some};
 ghost use Rattle.std.specs.List.{All};
-ghost use Rattle.md_script.specs.Edit.{HasNames};
+ghost use Rattle.md_script.specs.Edit.{HasNames, HasNamesBelow};
+ghost use Rattle.md_script.specs.Items.{room_for};
 
+use crate::bounds::edits_bound;
 use crate::{EDITS, Edit};
 use std::marker::Model;
 
@@ -15,6 +17,19 @@ pub enum Item {
     Undo,
     /// All of these edits, one after the other, or none of them.
     Group(Edits),
+}
+
+impl Item {
+    /// For how many edits and items a history needs room before the item.
+    pub fn room(&self) -> u64
+        ensures room { result ≡ room_for self.now }
+    {
+        match self {
+            Item::One(_) => 2,
+            Item::Undo => 0,
+            Item::Group(edits) => edits.len() + 1,
+        }
+    }
 }
 
 /// The edits of a group, whose names are below `NAMES`.
@@ -46,6 +61,14 @@ impl Edits {
         ensures { result ≡ list.items }
     {
         Edits { list }
+    }
+
+    // The least number above every name in the edits: 0 where they have none.
+    pub(crate) fn bound(&self) -> u32
+        ensures below { All (HasNamesBelow result) self.now }
+        ensures least { (limit : ℕ) → All (HasNamesBelow limit) self.now → result ≤ limit }
+    {
+        edits_bound(&self.list)
     }
 
     /// The number of edits.

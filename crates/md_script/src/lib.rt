@@ -5,7 +5,9 @@
 //! give the graph before it again.
 #![tactic(auto)]
 
+mod bounds;
 mod changes;
+mod draft;
 mod edit;
 mod fault;
 mod groups;
@@ -19,7 +21,9 @@ mod reader;
 mod script;
 #[cfg(test)]
 mod tests;
+mod token;
 mod undo;
+mod word;
 
 pub use changes::{apply, reason};
 pub use edit::{Edit, EditReason};

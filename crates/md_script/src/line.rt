@@ -1,28 +1,16 @@
-//! One line of a script.
+//! One line of an edit.
 ghost use Rattle.std.specs.Prelude.{◌≡◌, ◌<◌, ◌∷◌, [], None, Some, IfOk, IfErr, OnOk};
 ghost use Rattle.std.specs.Option.{option_or};
 ghost use Rattle.md_text.specs.Fields.{fields};
 ghost use Rattle.md_script.specs.declared.line.Refusal.TheVariants.{Bad, Memory as NoMemory};
-ghost use Rattle.md_script.specs.Line.{word_of, name_in, number_fault, names_written, names_fault, count_fault, vertex_fault, edit_by, fault_by};
+ghost use Rattle.md_script.specs.Line.{name_in, number_fault, names_written, names_fault, count_fault, vertex_fault, edit_by, fault_with};
 ghost use Rattle.md_script.specs.Read.{NamesSet, NamesVertex, IsRefusal};
 
+use crate::word::EditWord;
 use crate::{Edit, Neighbours, ScriptKind};
 use md_graph::{Memory, NAMES, Names};
 use md_text::{number, one_field, split_number, two_fields};
 use std::alloc::{AllocFailed, Global};
-
-// The first field of an edit's line.
-#[derive(Clone, Copy)]
-pub(crate) enum EditWord {
-    // `+e`
-    PlusEdge,
-    // `-e`
-    MinusEdge,
-    // `+v`
-    PlusVertex,
-    // `-v`
-    MinusVertex,
-}
 
 // Why a line isn't read. `?` makes it of a fault, and of want of memory.
 #[derive(Clone, Copy)]
@@ -57,39 +45,18 @@ impl<T: Drop> From<AllocFailed<T>> for Refusal {
     }
 }
 
-// The word that a field is, if it is one of the four.
-#[tactic(auto, unfolding(crate::specs::Line::word_of))]
-fn edit_word(field: &[u8]) -> Option<EditWord>
-    ensures { result ≡ word_of field.now }
-{
-    if field == b"+e".as_slice() {
-        return Some(EditWord::PlusEdge);
-    }
-    if field == b"-e".as_slice() {
-        return Some(EditWord::MinusEdge);
-    }
-    if field == b"+v".as_slice() {
-        return Some(EditWord::PlusVertex);
-    }
-    if field == b"-v".as_slice() {
-        return Some(EditWord::MinusVertex);
-    }
-    None
-}
-
-// Reads the line of an edit by its first field and what stands behind it. Only the neighbours of a
-// new vertex take memory. They are gathered in `names`; what it held is lost.
+// Reads the line of an edit by its word and what stands behind it. Only the neighbours of a new
+// vertex take memory. They are gathered in `names`; what it held is lost.
 pub(crate) fn read_edit(
     alloc: Global,
-    first: &[u8],
+    word: EditWord,
     rest: &[u8],
     names: &mut Names,
 ) -> Result<Edit, Refusal>
-    ensures edit { IfOk result (λ edit. edit_by (word_of first.now) (fields rest.now) ≡ Some edit) }
-    ensures faultless { OnOk result (fault_by (word_of first.now) (fields rest.now) ≡ None) }
-    ensures fault { IfErr result (IsRefusal (fault_by (word_of first.now) (fields rest.now))) }
+    ensures edit { IfOk result (λ edit. edit_by word (fields rest.now) ≡ Some edit) }
+    ensures faultless { OnOk result (fault_with word (fields rest.now) ≡ None) }
+    ensures fault { IfErr result (IsRefusal (fault_with word (fields rest.now))) }
 {
-    let word = edit_word(first).ok_or(ScriptKind::UnknownEdit)?;
     match word {
         EditWord::PlusEdge => {
             let (u, v) = read_ends(rest)?;

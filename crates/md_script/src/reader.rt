@@ -1,18 +1,22 @@
 //! Reads a script.
-ghost use Rattle.std.specs.Prelude.{◌≡◌, ◌≤◌, ◌++◌, length, vec_len, None, IfOk, IfErr, OnOk};
+ghost use Rattle.std.specs.Prelude.{◌≡◌, None, IfOk, IfErr, OnOk};
 ghost use Rattle.md_text.specs.Fields.{fields};
-ghost use Rattle.md_script.specs.Line.{fault_of_words};
+ghost use Rattle.md_script.specs.Drafts.{draft_seen, draft_after};
 ghost use Rattle.md_script.specs.File.{SpellsScript, first_fault};
-ghost use Rattle.md_script.specs.Read.{IsFaultOf, IsRefusal, edits_in};
+ghost use Rattle.md_script.specs.Read.{IsFaultOf, IsRefusal};
+ghost use Rattle.md_script.specs.Tokens.{fault_of_words};
 
-use crate::line::{Refusal, read_edit};
-use crate::{EDITS, Edit, Script, ScriptFault, ScriptKind};
+use crate::draft::Draft;
+use crate::line::Refusal;
+use crate::token::read_token;
+use crate::{Script, ScriptFault, ScriptKind};
 use md_graph::Names;
 use md_text::{split_field, split_line, without_return};
 use std::alloc::Global;
 
-/// Reads the script that bytes spell: one edit for each line that isn't skipped. Besides the
-/// script, only the neighbours of new vertices take memory.
+/// Reads the script that bytes spell: each line that isn't skipped is an edit, an undo, or the
+/// beginning or end of a group. Besides the script, only the neighbours of new vertices take
+/// memory.
 ///
 /// # Errors
 ///
@@ -22,7 +26,7 @@ pub fn read_script(alloc: Global, bytes: &[u8]) -> Result<Script, ScriptFault>
     ensures faultless { OnOk result (first_fault bytes.now ≡ None) }
     ensures fault { IfErr result (IsFaultOf bytes.now) }
 {
-    let mut edits = Vec::new(alloc);
+    let mut draft = Draft::new(alloc);
     let mut names = Names::none();
     let mut rest = bytes;
     let mut count = 0u64;
@@ -30,29 +34,34 @@ pub fn read_script(alloc: Global, bytes: &[u8]) -> Result<Script, ScriptFault>
         let (line, more) = split_line(rest);
         rest = more;
         count += 1;
-        match read_line(alloc, without_return(line), &mut names, &mut edits) {
+        match read_line(alloc, without_return(line), &mut names, &mut draft) {
             Ok(()) => {}
             Err(Refusal::Bad(kind)) => return Err(ScriptFault::Bad { kind, line: count }),
             Err(Refusal::Memory) => return Err(ScriptFault::Memory),
         }
     }
-    Ok(Script::from_list(edits))
+    if draft.is_open() {
+        return Err(ScriptFault::Bad {
+            kind: ScriptKind::OpenGroup,
+            line: count + 1,
+        });
+    }
+    Ok(draft.into_script())
 }
 
-// Reads one line, and puts its edit behind the others, unless it is skipped. Neighbours are
+// Reads one line, and puts its token behind the others, unless it is skipped. Neighbours are
 // gathered in `names`; what it held is lost.
 fn read_line(
     alloc: Global,
     line: &[u8],
     names: &mut Names,
-    edits: &mut Vec<Edit>,
+    draft: &mut Draft,
 ) -> Result<(), Refusal>
-    requires { vec_len edits.old ≤ EDITS }
-    ensures read { OnOk result (edits.new.items ≡ edits.old.items ++ edits_in (fields line.now)) }
-    ensures few { OnOk result (vec_len edits.new ≤ EDITS) }
-    ensures faultless { OnOk result (fault_of_words (vec_len edits.old) (fields line.now) ≡ None) }
+    ensures read { OnOk result (draft.new ≡ draft_after draft.old (fields line.now)) }
+    ensures faultless { OnOk result (fault_of_words (draft_seen draft.old) (fields line.now)
+        ≡ None) }
     ensures fault { IfErr result
-        (IsRefusal (fault_of_words (vec_len edits.old) (fields line.now))) }
+        (IsRefusal (fault_of_words (draft_seen draft.old) (fields line.now))) }
 {
     let Some((first, rest)) = split_field(line) else {
         return Ok(());
@@ -60,9 +69,8 @@ fn read_line(
     if first[0] == b'#' {
         return Ok(());
     }
-    if edits.len() as u64 >= EDITS {
-        return Err(Refusal::Bad(ScriptKind::TooManyEdits));
-    }
-    edits.push(read_edit(alloc, first, rest, names)?)?;
+    let counted = draft.counted();
+    let token = read_token(alloc, counted, draft.is_open(), first, rest, names)?;
+    draft.put(alloc, token)?;
     Ok(())
 }

@@ -1,91 +1,88 @@
 //! Scripts.
-ghost use Rattle.std.specs.Prelude.{◌≡◌, ◌<◌, ◌≤◌, ℕ, length, vec_len, slice_get, Some};
-ghost use Rattle.std.specs.List.{All};
-ghost use Rattle.md_script.specs.Edit.{HasNames, HasNamesBelow};
+ghost use Rattle.std.specs.Prelude.{◌≡◌, ◌<◌, ◌≤◌, ℕ, length, slice_get, Some};
+ghost use Rattle.std.specs.List.{All, count_by, sum_by};
+ghost use Rattle.md_graph.specs.declared.TheConstants.{NAMES};
+ghost use Rattle.md_script.specs.Items.{HasItemNamesBelow, IsScriptItem, is_undo, size_of};
 
-use crate::{EDITS, Edit};
+use crate::bounds::items_bound;
+use crate::{EDITS, Item};
 use std::marker::Model;
 
-/// A list of edits, whose names are below `NAMES`.
+/// A list of items, whose names are below `NAMES`.
 #[derive(Debug, Drop)]
 pub struct Script {
-    edits: Vec<Edit>,
+    items: Vec<Item>,
 }
 
 impl Model for Script {
-    ghost use Rattle.std.specs.Prelude.{ℕ, List, ◌≤◌, length};
-    ghost use Rattle.md_script.specs.declared.edit.Edit.{Edit};
+    ghost use Rattle.std.specs.Prelude.{ℕ, List, ◌≤◌};
+    ghost use Rattle.md_script.specs.declared.item.Item.{Item};
 
-    ghost Value = { List Edit };
+    ghost Value = { List Item };
 
-    ghost use Rattle.std.specs.List.{All};
-    ghost use Rattle.md_script.specs.Edit.{HasNames};
+    ghost use Rattle.std.specs.List.{All, sum_by};
+    ghost use Rattle.md_graph.specs.declared.TheConstants.{NAMES};
+    ghost use Rattle.md_script.specs.Items.{IsScriptItem, size_of};
     ghost use Rattle.md_script.specs.declared.TheConstants.{EDITS};
 
-    ghost view = { λ s. s.edits.items };
+    ghost view = { λ s. s.items.items };
 
-    ghost invariant = { λ s. (All HasNames s.edits.items) × (length s.edits.items ≤ EDITS) };
+    ghost invariant = { λ s. All (IsScriptItem NAMES) s.items.items
+        × (sum_by size_of s.items.items ≤ EDITS) };
 }
 
 impl Script {
-    // The script of these edits. Condition: their names are names, and they aren't too many.
-    pub(crate) fn from_list(edits: Vec<Edit>) -> Script
-        requires names { All HasNames edits.items }
-        requires few { vec_len edits ≤ EDITS }
-        ensures { result ≡ edits.items }
+    // The script of these items. Condition: their names are names, and they aren't too many.
+    pub(crate) fn from_list(items: Vec<Item>) -> Script
+        requires items { All (IsScriptItem NAMES) items.items }
+        requires few { sum_by size_of items.items ≤ EDITS }
+        ensures { result ≡ items.items }
     {
-        Script { edits }
+        Script { items }
     }
 
-    /// The number of edits.
+    /// The number of items.
     pub fn len(&self) -> u64
         ensures count { result ≡ length self.now }
         ensures few { length self.now ≤ EDITS }
     {
-        self.edits.len() as u64
+        self.items.len() as u64
     }
 
-    /// The least number above every name in the edits: 0 where they have none.
+    /// The least number above every name in the items: 0 where they have none.
     pub fn bound(&self) -> u32
-        ensures below { All (HasNamesBelow result) self.now }
-        ensures least { (limit : ℕ) → All (HasNamesBelow limit) self.now → result ≤ limit }
+        ensures below { All (HasItemNamesBelow result) self.now }
+        ensures least { (limit : ℕ) → All (HasItemNamesBelow limit) self.now → result ≤ limit }
     {
-        bound_of(&self.edits)
+        items_bound(&self.items)
     }
 
-    /// The edit at a place, counted from 0. Condition: there are more.
-    pub fn get(&self, i: u64) -> &Edit
+    /// How many of the items are undos.
+    pub fn undos(&self) -> u64
+        ensures { result ≡ count_by is_undo self.now }
+    {
+        undos_in(&self.items)
+    }
+
+    /// The item at a place, counted from 0. Condition: there are more.
+    pub fn get(&self, i: u64) -> &Item
         requires { i < length self.now }
-        ensures edit { slice_get self.now i ≡ Some result.now }
-        ensures names { HasNames result.now }
+        ensures item { slice_get self.now i ≡ Some result.now }
+        ensures whole { IsScriptItem NAMES result.now }
     {
-        &self.edits[i as usize]
+        &self.items[i as usize]
     }
 }
 
-// The least number above every name in the edits. Condition: their names are names.
-fn bound_of(edits: &[Edit]) -> u32
-    requires { All HasNames edits.now }
-    ensures below { All (HasNamesBelow result) edits.now }
-    ensures least { (limit : ℕ) → All (HasNamesBelow limit) edits.now → result ≤ limit }
+// How many of the items are undos.
+fn undos_in(items: &[Item]) -> u64
+    ensures { result ≡ count_by is_undo items.now }
 {
-    let mut bound = 0;
-    for edit in edits {
-        bound = edit_bound(edit).max(bound);
+    let mut count = 0;
+    for item in items {
+        if let Item::Undo = item {
+            count += 1;
+        }
     }
-    bound
-}
-
-// The least number above every name in the edit. Condition: its names are names.
-fn edit_bound(edit: &Edit) -> u32
-    requires { HasNames edit.now }
-    ensures below { HasNamesBelow result edit.now }
-    ensures least { (limit : ℕ) → HasNamesBelow limit edit.now → result ≤ limit }
-{
-    match edit {
-        Edit::AddEdge { u, v } => (*u).max(*v) + 1,
-        Edit::DelEdge { u, v } => (*u).max(*v) + 1,
-        Edit::AddVertex { x, neighbours } => neighbours.bound().max(*x + 1),
-        Edit::DelVertex { x } => *x + 1,
-    }
+    count
 }

@@ -2,7 +2,7 @@
 use super::*;
 use EditReason::*;
 use ScriptKind::*;
-use md_graph::{Graph, GraphOf, NAMES, Names};
+use md_graph::{Graph, GraphOf, Memory, NAMES, Names};
 use std::alloc::Global;
 use std::process::Abort;
 use std::test::Fail;
@@ -14,7 +14,15 @@ fn check_fault(rt: &impl Abort, alloc: Global, file: &str, kind: ScriptKind, lin
     }
 }
 
-// An edit as plain numbers: its word, its first two names, and the list of neighbours.
+// Compares an item of one edit with plain numbers: its word, its first name, and the others.
+fn check_one(rt: &impl Abort, item: &Item, word: &str, first: u32, others: &[u32]) {
+    match item {
+        Item::One(edit) => check_edit(rt, edit, word, first, others),
+        _ => assert!(rt; false, "no edit"),
+    }
+}
+
+// Compares an edit with plain numbers: its word, its first name, and the others.
 fn check_edit(rt: &impl Abort, edit: &Edit, word: &str, first: u32, others: &[u32]) {
     match edit {
         Edit::AddEdge { u, v } => {
@@ -46,7 +54,7 @@ fn check_script(
     assert_eq!(rt; script.len() as usize, edits.len(), "{file}");
     for (i, (word, first, others)) in edits.iter().enumerate() {
         assert!(rt; (i as u64) < script.len());
-        check_edit(rt, script.get(i as u64), word, *first, others);
+        check_one(rt, script.get(i as u64), word, *first, others);
     }
     Ok(())
 }
@@ -91,7 +99,6 @@ fn scripts(rt: HostRuntime) -> Result<(), Fail> {
     Ok(())
 }
 
-// As many edits as a script may have, and then one more.
 #[test]
 fn bounds(rt: HostRuntime) -> Result<(), Fail> {
     for (file, bound) in [
@@ -101,6 +108,7 @@ fn bounds(rt: HostRuntime) -> Result<(), Fail> {
         ("+v 2 7 5\n", 8),
         ("+v 9 7 5\n-v 3\n", 10),
         ("-v 16383\n+v 0\n", 16_384),
+        ("-v 3\nundo\nbegin\n+e 7 1\n-v 2\ncommit\n", 8),
     ] {
         let script = read_script(rt.alloc(), file.as_bytes())?;
         assert_eq!(rt; script.bound(), bound, "{file}");
@@ -108,24 +116,123 @@ fn bounds(rt: HostRuntime) -> Result<(), Fail> {
     Ok(())
 }
 
-#[test]
-fn longest_script(rt: HostRuntime) -> Result<(), Fail> {
-    let mut text = Vec::new(rt.alloc());
-    for _ in 0..EDITS {
-        text.extend_from_slice(b"-v 0\n")?;
+// Compares an item with its sort and how many edits it has.
+fn check_item(rt: &impl Abort, item: &Item, sort: &str, edits: u64) {
+    match item {
+        Item::One(_) => assert!(rt; sort == "edit" && edits == 1),
+        Item::Undo => assert!(rt; sort == "undo" && edits == 0),
+        Item::Group(group) => assert!(rt; sort == "group" && edits == group.len()),
     }
-    text.extend_from_slice(b"# end")?;
-    let script = read_script(rt.alloc(), &text)?;
-    assert_eq!(rt; script.len(), EDITS);
-    text.extend_from_slice(b"\nx")?;
-    match read_script(rt.alloc(), &text) {
-        Ok(_) => assert!(rt; false, "too many edits are read"),
-        Err(fault) => {
-            let kind = TooManyEdits;
-            let line = EDITS + 2;
+}
+
+fn check_items(
+    rt: &impl Abort,
+    alloc: Global,
+    file: &str,
+    undos: u64,
+    items: &[(&str, u64)],
+) -> Result<(), ScriptFault> {
+    let script = read_script(alloc, file.as_bytes())?;
+    assert_eq!(rt; script.undos(), undos, "{file}");
+    assert_eq!(rt; script.len() as usize, items.len(), "{file}");
+    for (i, (sort, edits)) in items.iter().enumerate() {
+        assert!(rt; (i as u64) < script.len());
+        check_item(rt, script.get(i as u64), sort, *edits);
+    }
+    Ok(())
+}
+
+#[test]
+fn groups(rt: HostRuntime) -> Result<(), Fail> {
+    check_items(&rt, rt.alloc(), "undo\n", 1, &[("undo", 0)])?;
+    check_items(&rt, rt.alloc(), "begin\ncommit\n", 0, &[("group", 0)])?;
+    check_items(
+        &rt,
+        rt.alloc(),
+        "begin\n# x\n\n+v 1\r\ncommit\r\n",
+        0,
+        &[("group", 1)],
+    )?;
+    check_items(
+        &rt,
+        rt.alloc(),
+        "-v 1\nbegin\n+e 0 2\n-v 1\ncommit\nundo\n+v 3\n undo \t\n",
+        2,
+        &[
+            ("edit", 1),
+            ("group", 2),
+            ("undo", 0),
+            ("edit", 1),
+            ("undo", 0),
+        ],
+    )?;
+    for (file, kind, line) in [
+        ("commit\n", NoGroup, 1),
+        ("begin\nundo\n", Nested, 2),
+        ("begin\nbegin\n", Nested, 2),
+        ("begin\n+e 0 1\n", OpenGroup, 3),
+        ("begin\n", OpenGroup, 2),
+        ("begin", OpenGroup, 2),
+        ("begin\n# x\n\n", OpenGroup, 4),
+        ("undo 1\n", FieldCount, 1),
+        ("begin\n+e 0\n", FieldCount, 2),
+        ("begin\nbegin 1\n", FieldCount, 2),
+        ("undo x\ncommit\n", FieldCount, 1),
+        ("commit 1\n", FieldCount, 1),
+        ("begin\n+e 0 16384\nundo\n", NameTooLarge, 2),
+        ("begin\ncommit\ncommit\n", NoGroup, 3),
+        ("undo\nbegins\n", UnknownEdit, 2),
+        ("Undo\n", UnknownEdit, 1),
+    ] {
+        check_fault(&rt, rt.alloc(), file, kind, line);
+    }
+    Ok(())
+}
+
+// Reads a text: so many items, or the fault and its line.
+fn check_long(
+    rt: &impl Abort,
+    alloc: Global,
+    text: &[u8],
+    expected: Result<u64, (ScriptKind, u64)>,
+) {
+    match (read_script(alloc, text), expected) {
+        (Ok(script), Ok(items)) => assert_eq!(rt; script.len(), items),
+        (Err(fault), Err((kind, line))) => {
             assert_eq!(rt; fault, ScriptFault::Bad { kind, line });
         }
+        (Ok(script), _) => assert!(rt; false, "{} items are read", script.len()),
+        (Err(fault), _) => assert!(rt; false, "{fault}"),
     }
+}
+
+// A text of a first line and so many lines of an edit.
+fn long_text(alloc: Global, first: &str, edits: u64) -> Result<Vec<u8>, Memory> {
+    let mut text = Vec::new(alloc);
+    text.extend_from_slice(first.as_bytes())?;
+    for _ in 0..edits {
+        text.extend_from_slice(b"-v 9\n")?;
+    }
+    Ok(text)
+}
+
+// As many lines that count as a script may have, and then others.
+#[test]
+fn longest_script(rt: HostRuntime) -> Result<(), Fail> {
+    let mut text = long_text(rt.alloc(), "# edits\n", EDITS)?;
+    let len = text.len();
+    for (behind, expected) in [
+        ("# end", Ok(200_000)),
+        ("begin 1\n", Err((TooManyEdits, 200_002))),
+        ("\ncommit\n", Err((NoGroup, 200_003))),
+    ] {
+        text.extend_from_slice(behind.as_bytes())?;
+        check_long(&rt, rt.alloc(), &text, expected);
+        text.truncate(len);
+    }
+    let mut group = long_text(rt.alloc(), "begin\n", EDITS - 1)?;
+    group.extend_from_slice(b"commit\n")?;
+    check_long(&rt, rt.alloc(), &group, Ok(1));
     Ok(())
 }
 
@@ -141,11 +248,15 @@ fn check_run(
     assert_eq!(rt; script.len() as usize, reasons.len(), "{file}");
     for (i, expected) in reasons.iter().enumerate() {
         assert!(rt; (i as u64) < script.len());
-        let edit = script.get(i as u64);
-        let found = reason(graph, edit);
-        assert_eq!(rt; found, *expected, "edit {i} of {file}");
-        if found.is_none() {
-            apply(graph, edit);
+        match script.get(i as u64) {
+            Item::One(edit) => {
+                let found = reason(graph, edit);
+                assert_eq!(rt; found, *expected, "edit {i} of {file}");
+                if found.is_none() {
+                    apply(graph, edit);
+                }
+            }
+            _ => assert!(rt; false, "no edit"),
         }
     }
     Ok(())
@@ -234,5 +345,8 @@ fn histories(rt: HostRuntime) -> Result<(), Fail> {
     assert!(rt; graph.count() == 2 && redo.items() == 0);
     take_item_back(&mut graph, &mut history);
     assert!(rt; graph.has_edge(0, 1) && history.items() == 0);
+    history.open_item();
+    history.forget();
+    assert_eq!(rt; history.items(), 0);
     Ok(())
 }

@@ -1,7 +1,7 @@
 use Rattle.std.proofs.Common.{◌≤◌, ℕ, take}
 use Rattle.std.specs.List.{All}
 use Rattle.md_script.specs.Edit.{HasNamesBelow}
-use Rattle.md_script.proofs.script.bound_of.Given as goal
+use Rattle.md_script.proofs.bounds.edits_bound.Given as goal
 
 abbrev pub invariant-loop-edit : goal.invariant-loop-edit
 invariant-loop-edit l =
