@@ -23,7 +23,7 @@ use Rattle.md_report.specs.declared.words.Word.{Word}
 use Rattle.md_report.specs.declared.words.Word.TheVariants.{Head, Tree as TreeWord, Applied, Path, Yes, No, End}
 use Rattle.md_report.specs.declared.words.Refusal.{Refusal}
 use Rattle.md_report.specs.declared.words.Refusal.TheVariants as refusals
-use Rattle.md_report.specs.Cuts.{LacksByte, Opens, IsCutAt, IsPiece, IsItem, NoItem}
+use Rattle.md_report.specs.Cuts.{LacksByte, Opens, IsCutAt, IsPiece, IsItem}
 use Rattle.md_report.specs.Lines.{PlainLine, mode_word, reason_words, names_text, p4_text, arc_text, arcs_text, line_text, head, tree, applied, applied_quiet, refused, refused_p4, group_refused, group_refused_p4, nothing_to_undo, not_cograph, oriented, forced, orders, forced_in, forced_in_complement, end}
 use Rattle.md_report.specs.WellFormedLines.{IsVertexName, IsEditNumber, IsNamedArc, IsNamedChain, IsNamedP4, AreFour, IsNamedReason, IsWellFormedLine, IsLineReading}
 use Rattle.md_report.specs.Words.{word_text, refusal_text, NoReason, NoGroup, NoRefusal, NoNo, NoYes, NoLine, Reads}
@@ -355,12 +355,6 @@ reason_read text piece behind w None cut at none = λ r is e.
     let i = reason_cut text piece behind cut r e in
     no_reason_tail behind r (subst (λ v. NoReason v behind) (same_refusal w (reason_word r) (sym at ∙ i.0)) none) is i.1
 reason_read text piece behind w (Some r) cut at found = (found.0, cut.whole ∙ ap (λ (t : List ℕ). t ++ behind) at ∙ found.1)
-
-pub no_number_group : (text : List ℕ) → NoItem decimal IsEditNumber text → NoGroup text
-no_number_group text none = record {
-  reasons = λ number reason is named e. none number (codes " " ++ reason_words reason) is refl e;
-  paths = λ number p is named e. none number (codes " p4" ++ p4_text p) is refl e;
-}
 
 module _ (text tail : List ℕ) (number : ℕ) (item : IsItem decimal IsEditNumber text number tail) where
   -- what stands behind the number

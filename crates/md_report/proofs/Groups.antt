@@ -1,6 +1,7 @@
 -- The line of a group, past those of its edits that are applied.
-use Rattle.std.proofs.Common.{◌≡◌, ℕ, ◌+◌, List, [], ◌∷◌, ◌++◌, length, take, drop, slice_get, zero, suc, Option, Some, None, ◌↔◌, sym, ◌∙◌, ap, subst, inl, inr, arith}
-use Rattle.std.proofs.lemmas.List.{take-append-drop, length-take-le, drop_all}
+use Rattle.std.proofs.Common.{◌≡◌, ℕ, ◌+◌, List, [], ◌∷◌, ◌++◌, length, take, drop, slice_get, Option, Some, None, ◌↔◌, sym, ◌∙◌, ap, subst, inl, inr, arith}
+use Rattle.std.proofs.lemmas.List.{take-append-drop, length-take-le, drop_all, drop_more}
+use Rattle.std.proofs.lemmas.Option.{slice_get_within, get_or_from_slice_get}
 use Rattle.md_graph.specs.PlainGraph.{PlainGraph}
 use Rattle.md_modules.specs.declared.induced_paths.P4.{P4}
 use Rattle.md_script.specs.declared.edit.Edit as script
@@ -10,7 +11,7 @@ use Rattle.md_script.specs.Pasts.{all_after, Applies, HasApplied}
 use Rattle.md_report.specs.declared.line.SessionMode.{SessionMode}
 use Rattle.md_report.specs.declared.line.SessionMode.TheVariants.{Edit, Cograph, Quiet}
 use Rattle.md_report.specs.Lines.{PlainLine, group_refused, group_refused_p4}
-use Rattle.md_report.specs.Items.{IsAllowed, IsBarred, IsDoneLine, IsLineAt, IsGroupLine}
+use Rattle.md_report.specs.ItemLines.{IsAllowed, IsBarred, IsDoneLine, IsLineAt, IsGroupLine}
 
 -- no graph is both
 not_both : (mode : SessionMode) (g : PlainGraph) (p : P4) → IsBarred mode g p → IsAllowed mode g → ⊥
@@ -53,10 +54,9 @@ module _ (mode : SessionMode) (g h : PlainGraph) (edits back : List script.Edit)
         λ is. past_applied.1 (subst (λ l. IsGroupLine mode n h l line) (sym none) is),
       )
 
-drop_read : {X : Type 0} (xs : List X) (i : ℕ) (x : X) → slice_get xs i ≡ Some x → drop i xs ≡ x ∷ drop (i + 1) xs
-drop_read [] i x is = absurd (cc)
-drop_read (y ∷ xs) zero x is = let same : y ≡ x = cc in ap (λ z. z ∷ xs) same
-drop_read (y ∷ xs) (suc i) x is = let on : suc i + 1 ≡ suc (i + 1) = omega arith in drop_read xs i x is ∙ ap (λ n. x ∷ drop n (y ∷ xs)) (sym on)
+-- a list from a place on begins with what stands there
+pub drop_read : {X : Type 0} (xs : List X) (i : ℕ) (x : X) → slice_get xs i ≡ Some x → drop i xs ≡ x ∷ drop (i + 1) xs
+drop_read xs i x is = drop_more xs i x (slice_get_within xs i x is) ∙ ap (λ y. y ∷ drop (i + 1) xs) (get_or_from_slice_get xs i x x is)
 
 -- a reason speaks against an edit; or the graph after it may be no state
 reason_line : (o : Option EditReason) (mode : SessionMode) (n : ℕ) (h : PlainGraph) (Behind : Type 0) (line : PlainLine) (reason : EditReason) → o ≡ Some reason → IsLineAt o mode n h Behind line ↔ (line ≡ group_refused n reason)

@@ -1,3 +1,4 @@
+pub mod ItemLines
 pub mod Places
 pub mod Cutting
 pub mod Named
@@ -8,3 +9,4 @@ pub mod ByTrees
 pub mod MadePaths
 pub mod Alike
 pub mod Groups
+pub mod Stepping

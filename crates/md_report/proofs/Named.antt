@@ -1,18 +1,16 @@
 -- Names and arcs by their texts.
-use Rattle.std.proofs.Common.{◌≡◌, ◌≢◌, ℕ, ◌<◌, ◌≤◌, ◌⊎◌, List, [], ◌∷◌, ◌++◌, length, get_or, take, drop, ◌-◌, Some, None, refl, sym, ◌∙◌, ltb, leb, ◌&&◌, ◌^◌, lit<, ap, ap₂, subst, inl, inr, arith}
+use Rattle.std.proofs.Common.{◌≡◌, ◌≢◌, ℕ, ◌<◌, ◌≤◌, ◌⊎◌, List, [], ◌∷◌, ◌++◌, length, get_or, take, drop, ◌-◌, Some, None, refl, sym, ◌∙◌, ltb, leb, ◌&&◌, ◌^◌, ap, ap₂, subst, inl, inr, arith}
 use Rattle.std.specs.Char.{is_ascii_digit}
 use Rattle.std.specs.List.{All, list_all}
 use Rattle.std.proofs.lemmas.Bool.{cases_Bool, cases_lt, and_parts, ltb-true, cond-true, cond-false}
 use Rattle.std.proofs.lemmas.List.{take_rest}
 use Rattle.std.proofs.lemmas.List.Elements.{All-head, All-tail}
 use Rattle.md_graph.specs.declared.TheConstants.{NAMES}
-use Rattle.md_graph.proofs.Limits.{NAMES-lt}
 use Rattle.md_text.specs.declared.digits.TheConstants.{DIGITS}
 use Rattle.md_text.specs.Numbers.{value, decimal, number_of, is_number, IsCanonical}
 use Rattle.md_text.proofs.NumberLemmas.{number_of-decimal, decimal_is_canonical, decimal_is_digits, decimal-value, decimal_injective, AllPass-from_list_all}
 use Rattle.md_forcing.specs.declared.arc.Arc.{Arc}
 use Rattle.md_report.specs.Lines.{arc_text}
-use Rattle.md_script.specs.declared.TheConstants.{EDITS}
 use Rattle.md_report.specs.WellFormedLines.{IsVertexName, IsEditNumber, IsNamedArc}
 use Rattle.md_report.specs.Cuts.{LacksByte, Opens, IsCutAt}
 use Rattle.md_report.proofs.Cutting.{one_cut, one_item, lacks_append}
@@ -40,22 +38,6 @@ no_spelling piece long zero_first n same =
     let c : IsCanonical (decimal n) = (decimal_is_canonical n).0 in
     let one : length (decimal n) ≡ 1 = c.no_leading_zero (ap (λ (w : List ℕ). get_or w 0 0) (sym same) ∙ zero_first) in
     omega (arith, ap length same)
-
--- names and numbers of edits have few digits, and others spell none of them
-name_few : (v : ℕ) → IsVertexName v → v < 10 ^ DIGITS
-name_few v is = omega (arith, NAMES-lt)
-
-edits_few : EDITS < 10 ^ 6
-edits_few = lit< tt
-
-edit_few : (j : ℕ) → IsEditNumber j → j < 10 ^ DIGITS
-edit_few j is = omega (arith, edits_few, is.1)
-
-pub no_name : (piece : List ℕ) → ((n : ℕ) → n < 10 ^ DIGITS → piece ≢ decimal n) → (v : ℕ) → IsVertexName v → piece ≢ decimal v
-no_name piece none v is = none v (name_few v is)
-
-pub no_edit : (piece : List ℕ) → ((n : ℕ) → n < 10 ^ DIGITS → piece ≢ decimal n) → (j : ℕ) → IsEditNumber j → piece ≢ decimal j
-no_edit piece none j is = none j (edit_few j is)
 
 pub large_name : (piece : List ℕ) (n : ℕ) → piece ≡ decimal n → NAMES ≤ n → (v : ℕ) → IsVertexName v → piece ≢ decimal v
 large_name piece n at large v is same = let e : n ≡ v = decimal_injective n v (sym at ∙ same) in omega arith

@@ -1,7 +1,7 @@
 -- Sessions on cographs: an edit that would make an induced P4 is refused with it, and the graph stays. In mode quiet the line of an
 -- edit that is applied has no tree.
 -- Source: Corneil, Perl and Stewart, A linear recognition algorithm for cographs; the lines are this project's.
-use Rattle.std.specs.Prelude.{◌≡◌, ◌⊎◌, List, [], ◌∷◌, Option, Some, None}
+use Rattle.std.specs.Prelude.{◌≡◌, ◌⊎◌, Option, Some, None}
 use Rattle.md_graph.specs.PlainGraph.{PlainGraph, adjacent}
 use Rattle.md_modules.specs.declared.induced_paths.P4.{P4}
 use Rattle.md_modules.specs.InducedPaths.{IsInducedPath, HasInducedPath}
@@ -9,7 +9,7 @@ use Rattle.md_script.specs.declared.edit.Edit.{Edit}
 use Rattle.md_script.specs.declared.edit.EditReason.{EditReason}
 use Rattle.md_script.specs.Edit.{reason_of, after}
 use Rattle.md_report.specs.Lines.{PlainLine, tree, applied, applied_quiet, refused, refused_p4, not_cograph}
-use Rattle.md_report.specs.Sessions.{HasTreeLine, state_behind}
+use Rattle.md_report.specs.Sessions.{HasTreeLine}
 
 -- the four names are an induced P4 of g
 abbrev pub IsP4Of : PlainGraph → P4 → Type 0
@@ -48,20 +48,3 @@ IsQuietLineBy None g edit line =
 -- the line of an edit at g in mode quiet
 abbrev pub IsQuietLine : PlainGraph → Edit → PlainLine → Type 0
 IsQuietLine g edit line = IsQuietLineBy (reason_of g edit) g edit line
-
--- what is still to be answered behind the line of the first state: nothing where that has an induced P4
-abbrev pub edits_behind : PlainLine → List Edit → List Edit
-edits_behind (not_cograph p) edits = []
-edits_behind _ edits = edits
-
--- the run of a session over a script: one line for each edit, each at the state that those before it leave
-abbrev pub CographRun : PlainGraph → List Edit → List PlainLine → Type 0
-CographRun g [] lines = lines ≡ []
-CographRun g (edit ∷ edits) [] = ⊥
-CographRun g (edit ∷ edits) (line ∷ lines) = IsCographLine g edit line × CographRun (state_behind g edit line) edits lines
-
--- the same in mode quiet
-abbrev pub QuietRun : PlainGraph → List Edit → List PlainLine → Type 0
-QuietRun g [] lines = lines ≡ []
-QuietRun g (edit ∷ edits) [] = ⊥
-QuietRun g (edit ∷ edits) (line ∷ lines) = IsQuietLine g edit line × QuietRun (state_behind g edit line) edits lines

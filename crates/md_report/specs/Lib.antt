@@ -5,9 +5,10 @@ pub mod Made
 pub mod Orientations
 pub mod Models
 pub mod Places
+pub mod Steps
 pub mod Reports
 pub mod WellFormedLines
 pub mod Cuts
 pub mod Words
 pub mod Laws
-pub mod Items
+pub mod ItemLines

@@ -35,13 +35,13 @@ pub fn shortest_reports_compare()
 
 /// A whole report of a session is the head, the line of the first state, the lines of the run over
 /// the script, and the end; in mode quiet the head, the lines of the run, the tree of the last
-/// state, and the end, or, where the first state has an induced P4, the head, that, and the end.
+/// graph, and the end, or, where the first graph has an induced P4, the head, that, and the end.
 pub fn session_reports_are_runs()
     ensures { SessionReportsAreRuns }
 {}
 
-/// Two runs over the same edits from the same graph, each in mode cograph or quiet, apply the same
-/// edits, and have the same state behind each.
+/// Two runs over the same items from the same state, each in mode cograph or quiet, apply the same
+/// items, and have the same state behind each.
 pub fn cograph_runs_apply_alike()
     ensures apply_alike { CographRunsApplyAlike }
 {}

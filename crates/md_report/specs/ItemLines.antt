@@ -1,7 +1,6 @@
--- Sessions over items: the state is the graph as it stands and the earlier ones, the last one first; each item has one line, and
--- leads to one state.
--- Source: the undo lists of editors of texts, as in any textbook of data structures; the lines are this project's.
-use Rattle.std.specs.Prelude.{◌≡◌, ℕ, ◌+◌, ◌⊎◌, List, [], ◌∷◌, Option, Some, None, if◌then◌else◌, ⊤}
+-- The lines that answer items: what a mode of sessions allows, bars and tells, and the run of a session over a script.
+-- Source: this project's own format of reports.
+use Rattle.std.specs.Prelude.{◌≡◌, ℕ, ◌+◌, ◌⊎◌, List, [], ◌∷◌, Option, Some, None, ⊤}
 use Rattle.md_graph.specs.PlainGraph.{PlainGraph}
 use Rattle.md_modules.specs.declared.induced_paths.P4.{P4}
 use Rattle.md_script.specs.declared.edit.Edit as script
@@ -9,41 +8,11 @@ use Rattle.md_script.specs.declared.edit.EditReason.{EditReason}
 use Rattle.md_script.specs.declared.item.Item.{Item}
 use Rattle.md_script.specs.declared.item.Item.TheVariants.{One, Undo, Group}
 use Rattle.md_script.specs.Edit.{reason_of, after}
-use Rattle.md_script.specs.Pasts.{all_after}
 use Rattle.md_report.specs.declared.line.SessionMode.{SessionMode}
 use Rattle.md_report.specs.declared.line.SessionMode.TheVariants.{Edit, Cograph, Quiet}
 use Rattle.md_report.specs.Lines.{PlainLine, applied, applied_quiet, group_refused, group_refused_p4, nothing_to_undo}
-use Rattle.md_report.specs.Sessions.{HasTreeLine, is_applied}
-use Rattle.md_report.specs.Cographs.{IsP4Of, IsCograph}
-use Rattle.md_report.specs.Places.{AnswersEdit}
-
--- the graph as it stands, and the graphs before the items that led to it, the last one first
-pub record State : Type 0 where
-  pub graph : PlainGraph
-  pub earlier : List PlainGraph
-
--- the state before all items
-abbrev pub first_state : PlainGraph → State
-first_state g = record { graph = g; earlier = [] }
-
--- the state behind an item that leads to g
-abbrev pub led_to : State → PlainGraph → State
-led_to s g = record { graph = g; earlier = s.graph ∷ s.earlier }
-
--- the state before the last item that is left, where g is the graph as it stands
-abbrev pub undone : PlainGraph → List PlainGraph → State
-undone g [] = first_state g
-undone g (h ∷ earlier) = record { graph = h; earlier = earlier }
-
--- the state behind an item that is applied
-abbrev pub applied_state : State → Item → State
-applied_state s (One edit) = led_to s (after s.graph edit)
-applied_state s (Group edits) = led_to s (all_after s.graph edits)
-applied_state s Undo = undone s.graph s.earlier
-
--- the state behind a line that came for an item: that of the item where it was applied, else the state before
-abbrev pub item_state : State → Item → PlainLine → State
-item_state s item line = if is_applied line then applied_state s item else s
+use Rattle.md_report.specs.Sessions.{State, HasTreeLine, IsStepLine, state_behind}
+use Rattle.md_report.specs.Cographs.{IsP4Of, IsCograph, IsCographLine, IsQuietLine}
 
 -- g may be a state of a session of the mode
 abbrev pub IsAllowed : SessionMode → PlainGraph → Type 0
@@ -62,6 +31,12 @@ abbrev pub IsDoneLine : SessionMode → PlainGraph → PlainLine → Type 0
 IsDoneLine Edit g line = HasTreeLine applied g line
 IsDoneLine Cograph g line = HasTreeLine applied g line
 IsDoneLine Quiet g line = line ≡ applied_quiet
+
+-- the line that answers an edit at g
+abbrev pub AnswersEdit : SessionMode → PlainGraph → script.Edit → PlainLine → Type 0
+AnswersEdit Edit g edit line = IsStepLine g edit line
+AnswersEdit Cograph g edit line = IsCographLine g edit line
+AnswersEdit Quiet g edit line = IsQuietLine g edit line
 
 -- the line of a group at its edit with this number, by the reason against it: the reason; or an induced P4 of the graph h after the
 -- edit; or what the edits behind it make, where h may be a state
@@ -86,3 +61,9 @@ abbrev pub AnswersItem : SessionMode → State → Item → PlainLine → Type 0
 AnswersItem mode s (One edit) line = AnswersEdit mode s.graph edit line
 AnswersItem mode s (Group edits) line = IsGroupLine mode 0 s.graph edits line
 AnswersItem mode s Undo line = IsUndoLine mode s.earlier line
+
+-- the run of a session over a script: one line for each item, each at the state that those before it leave
+abbrev pub Run : SessionMode → State → List Item → List PlainLine → Type 0
+Run mode s [] lines = lines ≡ []
+Run mode s (item ∷ items) [] = ⊥
+Run mode s (item ∷ items) (line ∷ lines) = AnswersItem mode s item line × Run mode (state_behind s item line) items lines
