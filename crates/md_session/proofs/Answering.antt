@@ -17,7 +17,7 @@ use Rattle.md_report.specs.declared.line.SessionMode.TheVariants.{Quiet}
 use Rattle.md_report.specs.Cographs.{IsP4Of, IsCograph}
 use Rattle.md_report.specs.Lines.{group_refused, group_refused_p4}
 use Rattle.md_report.specs.Sessions.{is_applied}
-use Rattle.md_report.specs.Items.{IsGroupLine}
+use Rattle.md_report.specs.ItemLines.{IsGroupLine}
 use Rattle.md_report.proofs.Groups.{stopped_line, barred_line}
 use Rattle.md_session.specs.declared.cograph.Answer.TheVariants.{Applied, Refused, RefusedP4}
 use Rattle.md_session.specs.declared.cograph_items.ItemAnswer.{ItemAnswer}

@@ -1,5 +1,4 @@
 mod MadePaths
 mod Changed
-mod Stepping
 mod BackCosts
 mod Answering

@@ -9,13 +9,13 @@ ghost use Rattle.md_tree.specs.Plain.{plain_option};
 ghost use Rattle.md_cotree.specs.Cotrees.{Denotes};
 ghost use Rattle.md_script.specs.Edit.{HasNames, HasNamesBelow, reason_of, after};
 ghost use Rattle.md_report.specs.Cographs.{IsP4Of, IsCograph};
-ghost use Rattle.md_script.specs.Histories.{Fits};
-ghost use Rattle.md_script.specs.Items.{HasItemNamesBelow};
+ghost use Rattle.md_script.specs.Histories.{HistoryFits};
+ghost use Rattle.md_script.specs.Items.{HasItemNamesBelow, room_for};
 ghost use Rattle.md_report.specs.declared.line.SessionMode.TheVariants as modes;
-ghost use Rattle.md_report.specs.Items.{IsAllowed};
+ghost use Rattle.md_report.specs.ItemLines.{IsAllowed};
 ghost use Rattle.md_session.specs.Answers.{IsOpened, IsAnswered, answer_line};
 ghost use Rattle.md_session.specs.Costs.{edit_cost, item_cost};
-ghost use Rattle.md_session.specs.States.{room_for, ItemStep};
+ghost use Rattle.md_report.specs.Steps.{ItemStep};
 
 use crate::cograph_items::{ItemAnswer, answer_group, answer_one, answer_undo};
 use crate::first_path::any_p4;
@@ -168,7 +168,7 @@ impl<const W: usize> CographSessionOf<W> {
     ) -> ItemAnswer
         requires names { HasItemNamesBelow (64 * W) item.now }
         requires room { room_for item.now ≤ history.old.spare }
-        requires fits { Fits (64 * W) (IsAllowed modes.Quiet) self.old history.old.items }
+        requires fits { HistoryFits (64 * W) (IsAllowed modes.Quiet) self.old history.old.items }
         ensures step { ItemStep (64 * W) modes.Quiet self.old history.old.items item.now
             (answer_line result) self.new history.new.items }
         ensures bound { steps.new ≤ steps.old

@@ -8,12 +8,12 @@ ghost use Rattle.md_script.specs.declared.edit.Edit as script;
 ghost use Rattle.md_script.specs.declared.item.Item.TheVariants.{One, Undo, Group};
 ghost use Rattle.md_script.specs.Edit.{HasNamesBelow, HasNames, reason_of, after};
 ghost use Rattle.md_script.specs.Pasts.{as_edit, taken_back, MayBack, HasApplied};
-ghost use Rattle.md_script.specs.Histories.{Fits};
+ghost use Rattle.md_script.specs.Histories.{HistoryFits};
 ghost use Rattle.md_report.specs.declared.line.SessionMode.TheVariants as modes;
 ghost use Rattle.md_report.specs.Cographs.{IsCograph};
 ghost use Rattle.md_session.specs.Answers.{IsAnswered, answer_line, IsPushed, IsStopped};
 ghost use Rattle.md_session.specs.Costs.{edit_cost, edits_cost, back_cost, tried_cost, group_cost, undo_cost};
-ghost use Rattle.md_session.specs.States.{ItemStep};
+ghost use Rattle.md_report.specs.Steps.{ItemStep};
 
 use crate::cograph::{Answer, change, p4_behind};
 use md_cotree::Cotree;
@@ -55,7 +55,7 @@ pub(crate) fn answer_one<const W: usize, L: Ledger>(
     requires cograph { IsCograph graph.old }
     requires denotes { Denotes tree.old graph.old }
     requires room { 2 ≤ history.old.spare }
-    requires fits { Fits (64 * W) IsCograph graph.old history.old.items }
+    requires fits { HistoryFits (64 * W) IsCograph graph.old history.old.items }
     ensures step { ItemStep (64 * W) modes.Quiet graph.old history.old.items (One edit.now)
         (answer_line result) graph.new history.new.items }
     ensures denotes { Denotes tree.new graph.new }
@@ -92,7 +92,7 @@ pub(crate) fn answer_group<const W: usize, L: Ledger>(
     requires denotes { Denotes tree.old graph.old }
     requires near { 64 * W ≤ vec_capacity near.old }
     requires room { length edits.now + 1 ≤ history.old.spare }
-    requires fits { Fits (64 * W) IsCograph graph.old history.old.items }
+    requires fits { HistoryFits (64 * W) IsCograph graph.old history.old.items }
     ensures step { ItemStep (64 * W) modes.Quiet graph.old history.old.items (Group edits.now)
         (answer_line result) graph.new history.new.items }
     ensures denotes { Denotes tree.new graph.new }
@@ -122,7 +122,7 @@ pub(crate) fn answer_undo<const W: usize, L: Ledger>(
     requires cograph { IsCograph graph.old }
     requires denotes { Denotes tree.old graph.old }
     requires near { 64 * W ≤ vec_capacity near.old }
-    requires fits { Fits (64 * W) IsCograph graph.old history.old.items }
+    requires fits { HistoryFits (64 * W) IsCograph graph.old history.old.items }
     ensures step { ItemStep (64 * W) modes.Quiet graph.old history.old.items Undo
         (answer_line result) graph.new history.new.items }
     ensures denotes { Denotes tree.new graph.new }

@@ -4,13 +4,13 @@ ghost use Rattle.md_graph.specs.PlainGraph.{adjacent};
 ghost use Rattle.md_tree.specs.StrongTrees.{IsTree};
 ghost use Rattle.md_tree.specs.Plain.{plain_option};
 ghost use Rattle.md_script.specs.Edit.{HasNamesBelow};
-ghost use Rattle.md_script.specs.Histories.{Fits};
-ghost use Rattle.md_script.specs.Items.{HasItemNamesBelow};
+ghost use Rattle.md_script.specs.Histories.{HistoryFits};
+ghost use Rattle.md_script.specs.Items.{HasItemNamesBelow, room_for};
 ghost use Rattle.md_report.specs.declared.line.SessionMode.TheVariants as modes;
-ghost use Rattle.md_report.specs.Items.{IsAllowed};
+ghost use Rattle.md_report.specs.ItemLines.{IsAllowed};
 ghost use Rattle.md_report.specs.Lines.{plain_line};
 ghost use Rattle.md_report.specs.Sessions.{SessionStep};
-ghost use Rattle.md_session.specs.States.{room_for, ItemStep};
+ghost use Rattle.md_report.specs.Steps.{ItemStep};
 
 use crate::general_items::{apply_group, apply_one, undo};
 use md_decompose::decompose;
@@ -91,7 +91,7 @@ impl<const W: usize> GeneralSessionOf<W> {
     ) -> Result<Line, Memory>
         requires names { HasItemNamesBelow (64 * W) item.now }
         requires room { room_for item.now ≤ history.old.spare }
-        requires fits { Fits (64 * W) (IsAllowed modes.Edit) self.old history.old.items }
+        requires fits { HistoryFits (64 * W) (IsAllowed modes.Edit) self.old history.old.items }
         ensures step { IfOk result (λ line. ItemStep (64 * W) modes.Edit self.old
             history.old.items item.now (plain_line line) self.new history.new.items) }
         ensures stays { IsErr result → self.new ≡ self.old }

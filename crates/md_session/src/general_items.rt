@@ -8,10 +8,10 @@ ghost use Rattle.md_script.specs.declared.edit.Edit as script;
 ghost use Rattle.md_script.specs.declared.item.Item.TheVariants.{One, Undo, Group};
 ghost use Rattle.md_script.specs.Edit.{HasNamesBelow};
 ghost use Rattle.md_script.specs.Pasts.{taken_back, MayBack, AnyGraph};
-ghost use Rattle.md_script.specs.Histories.{Fits};
+ghost use Rattle.md_script.specs.Histories.{HistoryFits};
 ghost use Rattle.md_report.specs.declared.line.SessionMode.TheVariants as modes;
 ghost use Rattle.md_report.specs.Lines.{plain_line};
-ghost use Rattle.md_session.specs.States.{ItemStep};
+ghost use Rattle.md_report.specs.Steps.{ItemStep};
 
 use md_decompose::decompose;
 use md_graph::{GraphOf, Memory};
@@ -33,7 +33,7 @@ pub(crate) fn apply_one<const W: usize>(
 ) -> Result<Line, Memory>
     requires names { HasNamesBelow (64 * W) edit.now }
     requires room { 2 ≤ history.old.spare }
-    requires fits { Fits (64 * W) AnyGraph graph.old history.old.items }
+    requires fits { HistoryFits (64 * W) AnyGraph graph.old history.old.items }
     ensures step { IfOk result (λ line. ItemStep (64 * W) modes.Edit graph.old history.old.items
         (One edit.now) (plain_line line) graph.new history.new.items) }
     ensures stays { IsErr result → graph.new ≡ graph.old }
@@ -63,7 +63,7 @@ pub(crate) fn apply_group<const W: usize>(
 ) -> Result<Line, Memory>
     requires names { All (HasNamesBelow (64 * W)) edits.now }
     requires room { length edits.now + 1 ≤ history.old.spare }
-    requires fits { Fits (64 * W) AnyGraph graph.old history.old.items }
+    requires fits { HistoryFits (64 * W) AnyGraph graph.old history.old.items }
     ensures step { IfOk result (λ line. ItemStep (64 * W) modes.Edit graph.old history.old.items
         (Group edits.now) (plain_line line) graph.new history.new.items) }
     ensures stays { IsErr result → graph.new ≡ graph.old }
@@ -89,7 +89,7 @@ pub(crate) fn undo<const W: usize>(
     graph: &mut GraphOf<W>,
     history: &mut HistoryOf<W>,
 ) -> Result<Line, Memory>
-    requires { Fits (64 * W) AnyGraph graph.old history.old.items }
+    requires { HistoryFits (64 * W) AnyGraph graph.old history.old.items }
     ensures step { IfOk result (λ line. ItemStep (64 * W) modes.Edit graph.old history.old.items
         Undo (plain_line line) graph.new history.new.items) }
     ensures stays { IsErr result → graph.new ≡ graph.old }

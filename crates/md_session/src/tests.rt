@@ -25,7 +25,10 @@ fn check(
     assert_eq!(rt; script.len() as usize, lines.len());
     for (i, expected) in lines.iter().enumerate() {
         assert!(rt; (i as u64) < script.len());
-        let line = session.apply(alloc, script.get(i as u64))?;
+        let Item::One(edit) = script.get(i as u64) else {
+            panic!(rt; "no edit");
+        };
+        let line = session.apply(alloc, edit)?;
         let text = write_line(alloc, &line)?;
         assert_eq!(rt; text.as_slice(), expected.as_bytes(), "edit {i}");
     }
@@ -97,11 +100,10 @@ fn answers<L: Ledger>(
     assert_eq!(rt; script.len() as usize, expected.len());
     for (i, answer) in expected.iter().enumerate() {
         assert!(rt; (i as u64) < script.len());
-        assert_eq!(rt;
-            session.apply(script.get(i as u64), &mut steps),
-            *answer,
-            "edit {i}"
-        );
+        let Item::One(edit) = script.get(i as u64) else {
+            panic!(rt; "no edit of a cograph");
+        };
+        assert_eq!(rt; session.apply(edit, &mut steps), *answer, "edit {i}");
     }
     let tree = session.tree(alloc)?;
     let text = write_line(alloc, &Line::Tree(tree))?;

@@ -5,11 +5,11 @@ use Rattle.md_script.proofs.GroupLemmas.{kept_goes_back}
 use Rattle.md_report.specs.declared.line.SessionMode.TheVariants.{Quiet}
 use Rattle.md_report.specs.Lines.{applied_quiet}
 use Rattle.md_report.specs.Cographs.{IsCograph}
-use Rattle.md_report.specs.Items.{led_to}
+use Rattle.md_report.specs.Sessions.{led_to}
 use Rattle.md_report.proofs.Groups.{whole_line}
 use Rattle.md_session.specs.Answers.{answer_line}
-use Rattle.md_session.specs.States.{state_of}
-use Rattle.md_session.proofs.Stepping.{refused_step, led_step, all_graph}
+use Rattle.md_report.specs.Steps.{state_of}
+use Rattle.md_report.proofs.Stepping.{refused_step, led_step, all_graph}
 use Rattle.md_session.proofs.Answering.{stopped_answer, not_applied, refused_bound}
 use Rattle.md_session.proofs.cograph_items.answer_group.Goals as goal
 

@@ -7,9 +7,9 @@ use Rattle.md_script.proofs.GroupLemmas.{one_goes_back}
 use Rattle.md_report.specs.declared.line.SessionMode.TheVariants.{Quiet}
 use Rattle.md_report.specs.Lines.{applied_quiet, refused, refused_p4}
 use Rattle.md_report.specs.Cographs.{IsCograph, IsQuietLineBy}
-use Rattle.md_report.specs.Items.{led_to}
-use Rattle.md_session.specs.States.{state_of}
-use Rattle.md_session.proofs.Stepping.{led_step, refused_step}
+use Rattle.md_report.specs.Sessions.{led_to}
+use Rattle.md_report.specs.Steps.{state_of}
+use Rattle.md_report.proofs.Stepping.{led_step, refused_step}
 use Rattle.md_session.proofs.Answering.{was_applied, was_refused, was_barred, same_rest}
 use Rattle.md_session.proofs.cograph_items.answer_one.Goals as goal
 

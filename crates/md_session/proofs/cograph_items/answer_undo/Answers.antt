@@ -2,7 +2,7 @@ use Rattle.std.proofs.Common.{◌*◌, refl, rules}
 use Rattle.md_report.specs.declared.line.SessionMode.TheVariants.{Quiet}
 use Rattle.md_report.specs.Lines.{applied_quiet}
 use Rattle.md_report.specs.Cographs.{IsCograph}
-use Rattle.md_session.proofs.Stepping.{undone_step, last_item}
+use Rattle.md_report.proofs.Stepping.{undone_step, last_item}
 use Rattle.md_session.proofs.cograph_items.answer_undo.Goals as goal
 
 pub take_back_item-requires : goal.take_back_item-requires

@@ -6,10 +6,10 @@ use Rattle.md_script.specs.Pasts.{AnyGraph}
 use Rattle.md_script.proofs.GroupLemmas.{kept_goes_back}
 use Rattle.md_report.specs.declared.line.SessionMode.TheVariants.{Edit}
 use Rattle.md_report.specs.Lines.{group_refused, applied}
-use Rattle.md_report.specs.Items.{led_to}
+use Rattle.md_report.specs.Sessions.{led_to}
 use Rattle.md_report.proofs.Groups.{whole_line, stopped_line}
-use Rattle.md_session.specs.States.{state_of}
-use Rattle.md_session.proofs.Stepping.{refused_step, led_step, all_graph}
+use Rattle.md_report.specs.Steps.{state_of}
+use Rattle.md_report.proofs.Stepping.{refused_step, led_step, all_graph}
 use Rattle.md_session.proofs.general_items.apply_group.Goals as goal
 
 pub take_item_back-requires : goal.take_item_back-requires

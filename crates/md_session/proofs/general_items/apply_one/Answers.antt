@@ -4,10 +4,10 @@ use Rattle.md_script.specs.declared.item.Item.TheVariants.{One}
 use Rattle.md_script.specs.Pasts.{AnyGraph}
 use Rattle.md_script.proofs.GroupLemmas.{one_goes_back}
 use Rattle.md_report.specs.declared.line.SessionMode.TheVariants.{Edit}
-use Rattle.md_report.specs.Items.{led_to}
-use Rattle.md_session.specs.States.{state_of}
+use Rattle.md_report.specs.Sessions.{led_to}
+use Rattle.md_report.specs.Steps.{state_of}
 use Rattle.md_session.proofs.Changed.{applied_step}
-use Rattle.md_session.proofs.Stepping.{led_step}
+use Rattle.md_report.proofs.Stepping.{led_step}
 use Rattle.md_session.proofs.general_items.apply_one.Goals as goal
 
 pub returns-in-Ok-clause-step : goal.returns-in-Ok-clause-step

@@ -3,7 +3,7 @@ use Rattle.md_tree.specs.Plain.{plain_option}
 use Rattle.md_graph.specs.PlainGraph.{PlainGraph}
 use Rattle.md_script.specs.Pasts.{taken_back, AnyGraph, MayBack}
 use Rattle.md_report.specs.declared.line.SessionMode.TheVariants.{Edit}
-use Rattle.md_session.proofs.Stepping.{undone_step, last_item}
+use Rattle.md_report.proofs.Stepping.{undone_step, last_item}
 use Rattle.md_session.proofs.general_items.undo.Goals as goal
 
 pub tree_before-requires : goal.tree_before-requires

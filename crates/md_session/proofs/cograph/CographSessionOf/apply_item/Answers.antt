@@ -3,9 +3,9 @@ use Rattle.md_graph.specs.PlainGraph.{PlainGraph}
 use Rattle.md_cotree.proofs.NoPaths.{cotree_no_path}
 use Rattle.md_script.specs.declared.item.Item.{Item}
 use Rattle.md_script.specs.Items.{HasItemNamesBelow}
-use Rattle.md_script.specs.Histories.{Fits}
+use Rattle.md_script.specs.Histories.{HistoryFits}
 use Rattle.md_report.specs.Cographs.{IsCograph}
-use Rattle.md_session.specs.States.{room_for}
+use Rattle.md_script.specs.Items.{room_for}
 use Rattle.md_session.proofs.cograph.CographSessionOf.apply_item.Goals as goal
 
 pub answer_one-requires : goal.answer_one-requires
@@ -21,7 +21,7 @@ answer_one-requires g c = (
           c.self.invariant.1,
           (
             subst (λ (i : Item). room_for i ≤ c.args.history.now.spare) c.in-One.is c.requires.room,
-            subst (λ (k : PlainGraph). Fits (64 * g.row.W) IsCograph k c.args.history.now.items) (sym c.self.view_is) c.requires.fits,
+            subst (λ (k : PlainGraph). HistoryFits (64 * g.row.W) IsCograph k c.args.history.now.items) (sym c.self.view_is) c.requires.fits,
           ),
         ),
       ),
@@ -44,7 +44,7 @@ answer_group-requires g c = (
             c.self.invariant.2,
             (
               subst (λ (i : Item). room_for i ≤ c.args.history.now.spare) c.in-Group.is c.requires.room,
-              subst (λ (k : PlainGraph). Fits (64 * g.row.W) IsCograph k c.args.history.now.items) (sym c.self.view_is) c.requires.fits,
+              subst (λ (k : PlainGraph). HistoryFits (64 * g.row.W) IsCograph k c.args.history.now.items) (sym c.self.view_is) c.requires.fits,
             ),
           ),
         ),
@@ -64,7 +64,7 @@ answer_undo-requires g c = (
         c.self.invariant.1,
         (
           c.self.invariant.2,
-          subst (λ (k : PlainGraph). Fits (64 * g.row.W) IsCograph k c.args.history.now.items) (sym c.self.view_is) c.requires.fits,
+          subst (λ (k : PlainGraph). HistoryFits (64 * g.row.W) IsCograph k c.args.history.now.items) (sym c.self.view_is) c.requires.fits,
         ),
       ),
     ),
