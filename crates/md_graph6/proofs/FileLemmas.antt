@@ -11,33 +11,46 @@ use Rattle.md_text.proofs.LineLemmas.{lines-ended, without_return-stays}
 use Rattle.md_text.specs.Spelling.{SpellsOnly, SpellsNone, first_fault_behind}
 use Rattle.md_graph6.specs.declared.fault.G6Fault.{G6Fault}
 use Rattle.md_graph6.specs.FileLine.{SpellsLine, line_fault, graph_of_line}
-use Rattle.md_graph6.specs.File.{without_header, file_lines, SpellEach, Spells, fault_after, HasNoFault, first_fault, graphs_of_lines, graphs_of}
+use Rattle.md_graph6.specs.declared.fault.G6Kind.{G6Kind}
+use Rattle.md_graph6.specs.File.{without_header, file_lines, SpellEach, Spells, fault_behind, fault_after, HasNoFault, first_fault, graphs_of_lines, graphs_of}
 use Rattle.md_graph6.specs.Written.{renumbered, IsTextOf}
 use Rattle.md_graph6.specs.Laws.{SpellsItsGraphsOrNothing, SpelledAreItsGraphs, GraphsAreGraphs, AllSpell, EndedLinesSpell, EndedLineSpells, TextSpells}
-use Rattle.md_graph6.proofs.FileLineLemmas.{spells-some, spells-sound, spells-graph, sound-spells, spells-is_graph, spells-bytes}
+use Rattle.md_graph6.proofs.FileLineLemmas.{line_fault-empty, spells-some, spells-sound, spells-graph, sound-spells, spells-is_graph, spells-bytes}
 use Rattle.md_graph6.proofs.ReadLemmas.{fault_or-none}
 
+-- What a line spells, its first fault and its graph belong together: a line that spells a graph has no fault and is
+-- decoded to it, and a line without fault spells what is decoded.
+pub record AreLines {G : Type 0} (Line : List ℕ → G → Type 0) (of_line : List ℕ → Option G6Kind) (graph_of : List ℕ → G) : Type 0 where
+  pub empty : of_line [] ≡ None
+  pub sound : (line : List ℕ) (g : G) → Line line g → of_line line ≡ None
+  pub graph : (line : List ℕ) (g : G) → Line line g → graph_of line ≡ g
+  pub spells : (line : List ℕ) → 0 < length line → of_line line ≡ None → Line line (graph_of line)
+
 -- lines that spell graphs have no fault, and are decoded to these graphs
-each_sound : (limit : ℕ) (all : List (List ℕ)) (graphs : List PlainGraph) (before : ℕ) → limit ≤ NAMES → SpellEach limit all graphs
-    → (fault_after limit before all ≡ None) × (graphs_of_lines all ≡ graphs)
-unfolding SpellEach first_fault_behind graphs_of_lines line_fault
-each_sound limit [] graphs before most spells = (refl, sym spells)
-each_sound limit ([] ∷ more) graphs before most spells = each_sound limit more graphs (before + 1) most spells
-each_sound limit ((byte ∷ line) ∷ more) [] before most spells = absurd spells
-each_sound limit ((byte ∷ line) ∷ more) (g ∷ graphs) before most spells =
-    let rest = each_sound limit more graphs (before + 1) most spells.1 in
-    let first : graph_of_line (byte ∷ line) ≡ g = spells-graph (byte ∷ line) g most spells.0 in
-    (rw (spells-sound (byte ∷ line) g most spells.0) rest.0, λ i. first i ∷ rest.1 i)
+pub each_sound : {G : Type 0} {Line : List ℕ → G → Type 0} {of_line : List ℕ → Option G6Kind} {graph_of : List ℕ → G} → AreLines Line of_line graph_of
+    → (all : List (List ℕ)) (graphs : List G) (before : ℕ) → SpellEach Line all graphs
+    → (fault_behind of_line before all ≡ None) × (graphs_of_lines graph_of all ≡ graphs)
+unfolding SpellEach first_fault_behind graphs_of_lines
+each_sound are [] graphs before spells = (refl, sym spells)
+each_sound are ([] ∷ more) graphs before spells =
+    let rest = each_sound are more graphs (before + 1) spells in
+    (rw are.empty rest.0, rest.1)
+each_sound are ((byte ∷ line) ∷ more) [] before spells = absurd spells
+each_sound {graph_of = graph_of} are ((byte ∷ line) ∷ more) (g ∷ graphs) before spells =
+    let rest = each_sound are more graphs (before + 1) spells.1 in
+    let first : graph_of (byte ∷ line) ≡ g = are.graph (byte ∷ line) g spells.0 in
+    (rw (are.sound (byte ∷ line) g spells.0) rest.0, λ i. first i ∷ rest.1 i)
 
 -- lines without fault spell the graphs that are decoded
-sound_each : (limit : ℕ) (all : List (List ℕ)) (before : ℕ) → limit ≤ NAMES → fault_after limit before all ≡ None
-    → SpellEach limit all (graphs_of_lines all)
-unfolding SpellEach first_fault_behind graphs_of_lines line_fault
-sound_each limit [] before most sound = refl
-sound_each limit ([] ∷ more) before most sound = sound_each limit more (before + 1) most sound
-sound_each limit ((byte ∷ line) ∷ more) before most sound =
-    let parts = fault_or-none (line_fault limit (byte ∷ line)) (before + 1) (fault_after limit (before + 1) more) sound in
-    (sound-spells (byte ∷ line) most (omega arith) parts.0, sound_each limit more (before + 1) most parts.1)
+pub sound_each : {G : Type 0} {Line : List ℕ → G → Type 0} {of_line : List ℕ → Option G6Kind} {graph_of : List ℕ → G} → AreLines Line of_line graph_of
+    → (all : List (List ℕ)) (before : ℕ) → fault_behind of_line before all ≡ None → SpellEach Line all (graphs_of_lines graph_of all)
+unfolding SpellEach first_fault_behind graphs_of_lines
+sound_each are [] before sound = refl
+sound_each {of_line = of_line} are ([] ∷ more) before sound =
+    sound_each are more (before + 1) (fault_or-none (of_line []) (before + 1) (fault_behind of_line (before + 1) more) sound).1
+sound_each {of_line = of_line} are ((byte ∷ line) ∷ more) before sound =
+    let parts = fault_or-none (of_line (byte ∷ line)) (before + 1) (fault_behind of_line (before + 1) more) sound in
+    (are.spells (byte ∷ line) (omega arith) parts.0, sound_each are more (before + 1) parts.1)
 
 -- by whether there is a fault
 by_fault : (fault : Option G6Fault) (P Q : Type 0) → (fault ≡ None → P) → ((f : G6Fault) → fault ≡ Some f → Q)
@@ -45,46 +58,69 @@ by_fault : (fault : Option G6Fault) (P Q : Type 0) → (fault ≡ None → P) �
 by_fault None P Q sound faulty = sound refl
 by_fault (Some f) P Q sound faulty = faulty f refl
 
-pub spelled_has_no_fault : SpelledAreItsGraphs
-spelled_has_no_fault = λ limit bytes graphs most spells. each_sound limit (file_lines bytes) graphs 0 most spells
-
-pub spelled_or_faulty : SpellsItsGraphsOrNothing
-spelled_or_faulty = λ limit bytes most.
-    by_fault (first_fault limit bytes) (SpellsOnly (Spells limit) bytes (graphs_of bytes)) (SpellsNone (Spells limit) bytes)
+-- a file, whose lines `lines_of` gives, has no fault and spells what is decoded alone, or has a fault and spells nothing
+pub spelled_or_fault : {G : Type 0} {Line : List ℕ → G → Type 0} {of_line : List ℕ → Option G6Kind} {graph_of : List ℕ → G} → AreLines Line of_line graph_of
+    → (lines_of : List ℕ → List (List ℕ)) (bytes : List ℕ)
+    → MatchOption (fault_behind of_line 0 (lines_of bytes))
+    (SpellsOnly (λ b graphs. SpellEach Line (lines_of b) graphs) bytes (graphs_of_lines graph_of (lines_of bytes)))
+    (λ _. SpellsNone (λ b graphs. SpellEach Line (lines_of b) graphs) bytes)
+spelled_or_fault {G} {Line} {of_line} {graph_of} are lines_of bytes =
+    by_fault (fault_behind of_line 0 (lines_of bytes))
+    (SpellsOnly (λ b graphs. SpellEach Line (lines_of b) graphs) bytes (graphs_of_lines graph_of (lines_of bytes)))
+    (SpellsNone (λ b graphs. SpellEach Line (lines_of b) graphs) bytes)
     (λ sound. record {
-      spells = sound_each limit (file_lines bytes) 0 most sound;
-      only = λ others spells. sym (spelled_has_no_fault limit bytes others most spells).1;
+      spells = sound_each are (lines_of bytes) 0 sound;
+      only = λ others spells. sym (each_sound are (lines_of bytes) others 0 spells).1;
     })
-    (λ f faulty graphs spells. no_fault (first_fault limit bytes) f (spelled_has_no_fault limit bytes graphs most spells).0 faulty)
+    (λ f faulty graphs spells. no_fault (fault_behind of_line 0 (lines_of bytes)) f (each_sound are (lines_of bytes) graphs 0 spells).0 faulty)
   where
     no_fault : (fault : Option G6Fault) (f : G6Fault) → fault ≡ None → fault ≡ Some f → ⊥
     no_fault fault f none some = cc
 
--- one more graph
-all_graphs-cons : (g : PlainGraph) (graphs : List PlainGraph) → IsGraph g → All IsGraph graphs
-    → (k : ℕ) (d : PlainGraph) → k < length (g ∷ graphs) → IsGraph (get_or (g ∷ graphs) k d)
-all_graphs-cons g graphs is all zero d inside = is
-all_graphs-cons g graphs is all (suc k) d inside = all k d (omega arith)
+-- the lines of a graph file
+graph_lines : {limit : ℕ} → limit ≤ NAMES → AreLines (SpellsLine limit) (line_fault limit) graph_of_line
+graph_lines {limit} most = record {
+  empty = line_fault-empty limit [] refl;
+  sound = λ line g spells. spells-sound line g most spells;
+  graph = λ line g spells. spells-graph line g most spells;
+  spells = λ line some sound. sound-spells line most some sound;
+}
 
--- what lines spell are graphs
-each_graphs : (limit : ℕ) (all : List (List ℕ)) (graphs : List PlainGraph) → limit ≤ NAMES → SpellEach limit all graphs → All IsGraph graphs
+pub spelled_has_no_fault : SpelledAreItsGraphs
+spelled_has_no_fault = λ limit bytes graphs most spells. each_sound (graph_lines most) (file_lines bytes) graphs 0 spells
+
+pub spelled_or_faulty : SpellsItsGraphsOrNothing
+spelled_or_faulty = λ limit bytes most. spelled_or_fault (graph_lines most) file_lines bytes
+
+-- one more item
+all-cons : {G : Type 0} (P : G → Type 0) (g : G) (graphs : List G) → P g → All P graphs
+    → (k : ℕ) (d : G) → k < length (g ∷ graphs) → P (get_or (g ∷ graphs) k d)
+all-cons P g graphs is all zero d inside = is
+all-cons P g graphs is all (suc k) d inside = all k d (omega arith)
+
+-- what holds of all that a line spells holds of all that lines spell
+pub all_each : {G : Type 0} (P : G → Type 0) {Line : List ℕ → G → Type 0} → ((line : List ℕ) (g : G) → Line line g → P g)
+    → (all : List (List ℕ)) (graphs : List G) → SpellEach Line all graphs → All P graphs
 unfolding SpellEach
-each_graphs limit [] [] most spells = λ k d inside. absurd (omega arith)
-each_graphs limit [] (g ∷ graphs) most spells = cc
-each_graphs limit ([] ∷ more) graphs most spells = each_graphs limit more graphs most spells
-each_graphs limit ((byte ∷ line) ∷ more) [] most spells = absurd spells
-each_graphs limit ((byte ∷ line) ∷ more) (g ∷ graphs) most spells =
-    all_graphs-cons g graphs (spells-is_graph {limit = limit} (byte ∷ line) g most spells.0) (each_graphs limit more graphs most spells.1)
+all_each P each [] [] spells = λ k d inside. absurd (omega arith)
+all_each P each [] (g ∷ graphs) spells = cc
+all_each P each ([] ∷ more) graphs spells = all_each P each more graphs spells
+all_each P each ((byte ∷ line) ∷ more) [] spells = absurd spells
+all_each P each ((byte ∷ line) ∷ more) (g ∷ graphs) spells =
+    all-cons P g graphs (each (byte ∷ line) g spells.0) (all_each P each more graphs spells.1)
 
-pub sound_graphs : (all : List (List ℕ)) → HasNoFault all → All IsGraph (graphs_of_lines all)
-sound_graphs all sound = each_graphs NAMES all (graphs_of_lines all) (omega arith) (sound_each NAMES all 0 (omega arith) sound)
+each_graphs : (limit : ℕ) (all : List (List ℕ)) → limit ≤ NAMES → fault_after limit 0 all ≡ None → All IsGraph (graphs_of_lines graph_of_line all)
+each_graphs limit all most sound =
+    all_each IsGraph (λ line g spells. spells-is_graph {limit = limit} line g most spells) all (graphs_of_lines graph_of_line all) (sound_each (graph_lines most) all 0 sound)
+
+pub sound_graphs : (all : List (List ℕ)) → HasNoFault all → All IsGraph (graphs_of_lines graph_of_line all)
+sound_graphs all sound = each_graphs NAMES all (omega arith) sound
 
 pub graphs_are_graphs : GraphsAreGraphs
-graphs_are_graphs = λ limit bytes most sound.
-    each_graphs limit (file_lines bytes) (graphs_of bytes) most (sound_each limit (file_lines bytes) 0 most sound)
+graphs_are_graphs = λ limit bytes most sound. each_graphs limit (file_lines bytes) most sound
 
 -- lines that are written spell their graphs
-all_spell-each : (all : List (List ℕ)) (graphs : List PlainGraph) → AllSpell all graphs → SpellEach NAMES all graphs
+all_spell-each : (all : List (List ℕ)) (graphs : List PlainGraph) → AllSpell all graphs → SpellEach (SpellsLine NAMES) all graphs
 unfolding SpellEach
 all_spell-each [] [] spells = refl
 all_spell-each [] (g ∷ graphs) spells = absurd spells

@@ -1,11 +1,13 @@
 -- How many vertices the graph of a line has, and how that shows in its first byte.
-use Rattle.std.proofs.Common.{◌≡◌, ◌≢◌, ◌⊎◌, ℕ, zero, suc, ◌+◌, ◌-◌, ◌*◌, ◌/◌, ◌%◌, ◌<◌, ◌≤◌, ◌==◌, Bool, true, false, List, [], ◌∷◌, ◌++◌, length, get_or, slice_index, map, take, drop, None, Some, if◌then◌else◌, ap, subst, inl, inr, refl, sym, ◌∙◌, arith, ltb-true}
+use Rattle.std.proofs.Common.{◌≡◌, ◌≢◌, ◌⊎◌, ℕ, zero, suc, ◌+◌, ◌-◌, ◌*◌, ◌/◌, ◌%◌, ◌<◌, ◌≤◌, ◌==◌, Bool, true, false, List, [], ◌∷◌, ◌++◌, length, get_or, slice_index, map, take, drop, None, Some, if◌then◌else◌, nat_lt, ap, subst, inl, inr, refl, sym, ◌∙◌, arith, ltb-true}
 use Rattle.std.specs.List.{All, AllPass, onto_first}
 use Rattle.std.proofs.lemmas.List.{take-append-drop, append-nil, append_assoc}
 use Rattle.std.proofs.lemmas.List.Sums.{AllPass-from_list_all}
 use Rattle.std.proofs.lemmas.Bool.{lt-ltb, ne_eqb, cases_lt}
 use Rattle.std.proofs.lemmas.Bool.Decides.{eqb_tells}
 use Rattle.md_graph.specs.declared.TheConstants.{NAMES}
+use Rattle.std.specs.FinSet as set
+use Rattle.md_graph.specs.Sets.{NameSet}
 use Rattle.md_graph.specs.NameSet.{AllBelow}
 use Rattle.md_graph.specs.PlainGraph.{PlainGraph, IsGraph}
 use Rattle.md_text.specs.Lines.{lines, without_return}
@@ -24,20 +26,20 @@ use Rattle.md_graph6.proofs.DecodeLemmas.{decoded_is_body}
 use Rattle.md_graph6.proofs.ReadLemmas.{stripped_lines-cut, graphs-cut_skip, fault_or-none, HasNoFault-cut}
 use Rattle.md_graph6.proofs.FileLemmas.{sound_graphs}
 
--- the vertices of a graph of n vertices are those below n
-few_vertices : (n : ℕ) (g : PlainGraph) (m : ℕ) → HasNumbers n g → n ≤ m → AllBelow g.vertices m
-few_vertices n g m has few v member = omega (arith, few, ltb-true v n (sym (has v) ∙ member))
+-- the numbers below n are below a number where n is at most that
+pub few_numbers : (n : ℕ) (s : NameSet) (m : ℕ) → ((v : ℕ) → set.contains s v ≡ nat_lt v n) → n ≤ m → AllBelow s m
+few_numbers n s m has few v member = omega (arith, few, ltb-true v n (sym (has v) ∙ member))
 
-vertices_few : (n : ℕ) (g : PlainGraph) (m : ℕ) → HasNumbers n g → AllBelow g.vertices m → n ≤ m
-vertices_few zero g m has below = omega arith
-vertices_few (suc k) g m has below =
+pub numbers_below : (n : ℕ) (s : NameSet) (m : ℕ) → ((v : ℕ) → set.contains s v ≡ nat_lt v n) → AllBelow s m → n ≤ m
+numbers_below zero s m has below = omega arith
+numbers_below (suc k) s m has below =
     let last : k < m = below k (has k ∙ lt-ltb k (suc k) (omega arith)) in omega (arith, last)
 
 -- the number of vertices bounds the graph of a line
 line_bound : {graphs more : List PlainGraph} (line : List ℕ) (n : ℕ) → graphs ≡ graph_of_line line ∷ more → HasNumbers n (graph_of_line line) → n ≤ NAMES → IsFirstBound n graphs
 line_bound line n e has few = rw e (record {
-  below = few_vertices n (graph_of_line line) n has (omega arith);
-  least = λ m below. vertices_few n (graph_of_line line) m has below;
+  below = few_numbers n (graph_of_line line).vertices n has (omega arith);
+  least = λ m below. numbers_below n (graph_of_line line).vertices m has below;
   few = few;
 })
 
@@ -56,7 +58,7 @@ pub size_fits : (line : List ℕ) (taken n m : ℕ) → 0 < length line → grap
 unfolding graph_of_sized
 size_fits line taken n m some sound sized below =
     let body : IsSoundBody NAMES line taken n = sound_line-body line taken n some sound sized in
-    vertices_few n (graph_of_graph6 line) m (rw sized (decoded_is_body (drop taken line) n body.few).vertices) below
+    numbers_below n (graph_of_graph6 line).vertices m (rw sized (decoded_is_body (drop taken line) n body.few).vertices) below
 
 -- the graphs of lines without fault have names as vertices
 graphs_fit : (graphs : List PlainGraph) → All IsGraph graphs → FirstBelow NAMES graphs
@@ -177,7 +179,7 @@ leads byte rest no_feed no_return sound =
     record {
       n = s.n;
       size = subst (λ t. BeginsWithSize s.n (from_size t)) (sym b.whole) (size_before byte b.kept b.behind s.size);
-      bound = line_bound (byte ∷ b.kept) s.n (ap graphs_of_lines b.cut) s.vertices s.few;
+      bound = line_bound (byte ∷ b.kept) s.n (ap (graphs_of_lines graph_of_line) b.cut) s.vertices s.few;
     }
   where
     -- bytes behind the line leave its size
@@ -217,6 +219,14 @@ size_one n text size other =
       | inr large ↦ absurd (other (begins ∙ begins_large n size.behind (omega (arith, large)) size.small))
     ]
 
+-- a text that begins with the byte of a size
+pub small_bound : (text : List ℕ) → 0 < length text → 63 ≤ get_or text 0 0 → get_or text 0 0 < 126 → HasNoFault (stripped_lines text)
+    → IsFirstBound (get_or text 0 0 - 63) (graphs_in text)
+small_bound text some low high sound =
+    let l = first_leads text some (λ feed. absurd (omega (arith, low, feed))) (λ returned. absurd (omega (arith, low, returned))) sound in
+    let size : BeginsWithSize l.0 text = rw (ne_eqb (get_or text 0 0) 58 (λ colon. absurd (omega (arith, low, colon)))) at l.1 in
+    subst (λ n. IsFirstBound n (graphs_in text)) (sym (size_one l.0 text size (λ long. absurd (omega (arith, high, long)))).1) l.2
+
 -- four bytes spell the size
 pub record HasFour (n : ℕ) (text : List ℕ) : Type 0 where
   pub long : 4 ≤ length text
@@ -251,13 +261,13 @@ Skips text rest = HasNoFault (stripped_lines rest) × (graphs_in rest ≡ graphs
 
 skipped_feed : (rest : List ℕ) → HasNoFault (stripped_lines (10 ∷ rest)) → Skips (10 ∷ rest) rest
 skipped_feed rest sound =
-    ((HasNoFault-cut (10 ∷ rest) [] rest (lines-feed rest) sound).1, sym (graphs-cut_skip (10 ∷ rest) [] rest (lines-feed rest) refl))
+    ((HasNoFault-cut (10 ∷ rest) [] rest (lines-feed rest) sound).1, sym (graphs-cut_skip graph_of_line (10 ∷ rest) [] rest (lines-feed rest) refl))
 
 -- the byte 13 stands before a line's end, or at that of the text
 skipped_return : (rest : List ℕ) → HasNoFault (stripped_lines (13 ∷ rest)) → Skips (13 ∷ rest) rest
 skipped_return [] sound =
     let cut : lines (13 ∷ []) ≡ (13 ∷ []) ∷ lines [] = lines-other 13 [] (λ same. absurd (omega arith)) ∙ rw lines-nil refl in
-    ((HasNoFault-cut (13 ∷ []) (13 ∷ []) [] cut sound).1, sym (graphs-cut_skip (13 ∷ []) (13 ∷ []) [] cut refl))
+    ((HasNoFault-cut (13 ∷ []) (13 ∷ []) [] cut sound).1, sym (graphs-cut_skip graph_of_line (13 ∷ []) (13 ∷ []) [] cut refl))
 skipped_return (next ∷ rest) sound =
     elim (eqb_tells next 10) [
       | inl (_, feed) ↦
@@ -266,7 +276,7 @@ skipped_return (next ∷ rest) sound =
           lines-other 13 (next ∷ rest) (λ same. absurd (omega arith)) ∙ ap (onto_first 13) at_feed in
           let same : stripped_lines (13 ∷ next ∷ rest) ≡ stripped_lines (next ∷ rest) =
           stripped_lines-cut (13 ∷ next ∷ rest) (13 ∷ []) rest cut ∙ sym (stripped_lines-cut (next ∷ rest) [] rest at_feed) in
-          (subst HasNoFault same sound, ap graphs_of_lines (sym same))
+          (subst HasNoFault same sound, ap (graphs_of_lines graph_of_line) (sym same))
       | inr (_, other) ↦
           let begins = begins_more 13 next (lines rest) in
           let cut : stripped_lines (13 ∷ next ∷ rest) ≡ (13 ∷ begins.0) ∷ begins.1 =

@@ -8,8 +8,8 @@ use Rattle.std.proofs.lemmas.Nat.Bits.{bit_at-lt}
 use Rattle.std.proofs.Math.Pow.{pow_mono}
 use Rattle.std.proofs.Math.Nat.{mod-eq_of_lt, mod-one, one-le-pow}
 use Rattle.std.proofs.lemmas.List.{get_or_default}
-use Rattle.md_graph6.specs.Bits.{bit, body_length}
-use Rattle.md_graph6.specs.Line.{some_bit, pair_count, is_padding_set}
+use Rattle.md_graph6.specs.Bits.{bit, group_count}
+use Rattle.md_graph6.specs.Line.{some_bit, is_set_behind}
 
 -- a number below 2 is 0 or 1
 small_digit : (b : ℕ) → b < 2 → (b ≡ 0) ⊎ (b ≡ 1)
@@ -50,27 +50,26 @@ some_bit-last body (suc p) first h e =
     rw (place, left, some_bit-last body p (first + 1) (omega arith) (omega arith))
     (sym (is_set-suc (get_or body (length body - 1) 63 - 63) p))
 
-pub is_padding_set-last : (body : List ℕ) (n : ℕ) → length body ≡ body_length n
-    → is_padding_set body n ≡ not ((get_or body (length body - 1) 63 - 63) % 2 ^ (6 * length body - pair_count n) == 0)
-is_padding_set-last body n e =
-    rw (← e) (some_bit-last body (6 * length body - pair_count n) (pair_count n) (omega arith) (omega arith))
+is_set_behind-last : (body : List ℕ) (count : ℕ) → length body ≡ group_count count
+    → is_set_behind body count ≡ not ((get_or body (length body - 1) 63 - 63) % 2 ^ (6 * length body - count) == 0)
+is_set_behind-last body count e =
+    rw (← e) (some_bit-last body (6 * length body - count) count (omega arith) (omega arith))
 
 -- a body without bytes has no padding
-pub is_padding_set-none : (body : List ℕ) (n : ℕ) → length body ≡ body_length n → length body < 1
-    → false ≡ is_padding_set body n
-is_padding_set-none body n e none =
-    let nothing : 6 * length body - pair_count n ≡ 0 = omega arith in
-    sym (is_padding_set-last body n e ∙ rw (nothing, mod-one) refl)
+pub is_set_behind-none : (body : List ℕ) (count : ℕ) → length body ≡ group_count count → length body < 1
+    → false ≡ is_set_behind body count
+is_set_behind-none body count e none =
+    let nothing : 6 * length body - count ≡ 0 = omega arith in
+    sym (is_set_behind-last body count e ∙ rw (nothing, mod-one) refl)
 
 -- the test of the code
-pub is_padding_set-shift : (body : List ℕ) (n pairs : ℕ) → length body ≡ body_length n → 1 ≤ length body
-    → pairs ≡ pair_count n
-    → not ((get_or body (length body - 1) 0 - 63) % (1 * 2 ^ (length body * 6 - pairs) % 256) == 0) ≡ is_padding_set body n
-is_padding_set-shift body n pairs e some is =
-    let width : length body * 6 - pairs ≡ 6 * length body - pair_count n = omega arith in
+pub is_set_behind-shift : (body : List ℕ) (count : ℕ) → length body ≡ group_count count → 1 ≤ length body
+    → not ((get_or body (length body - 1) 0 - 63) % (1 * 2 ^ (length body * 6 - count) % 256) == 0) ≡ is_set_behind body count
+is_set_behind-shift body count e some =
+    let width : length body * 6 - count ≡ 6 * length body - count = omega arith in
     let inside : length body - 1 < length body = omega arith in
-    rw (width, shifted (6 * length body - pair_count n) (omega arith), get_or_default body (length body - 1) 0 63)
-    (sym (is_padding_set-last body n e))
+    rw (width, shifted (6 * length body - count) (omega arith), get_or_default body (length body - 1) 0 63)
+    (sym (is_set_behind-last body count e))
 
 -- a bit is 0 or 1
 bit-zero : (b : ℕ) → b < 2 → (b == 1) ≡ false → b ≡ 0
@@ -98,12 +97,12 @@ some_bit-all body (suc count) first none k low high =
     ]
 
 -- the bits of a body without padding, and the padding of a body whose other bits are 0
-pub padding-none : (body : List ℕ) (n : ℕ) → ((k : ℕ) → pair_count n ≤ k → k < 6 * body_length n → bit body k ≡ 0)
-    → is_padding_set body n ≡ false
-padding-none body n blank =
-    some_bit-none body (6 * body_length n - pair_count n) (pair_count n) (λ k low high. blank k low (omega arith))
+pub padding-none : (body : List ℕ) (count : ℕ) → ((k : ℕ) → count ≤ k → k < 6 * group_count count → bit body k ≡ 0)
+    → is_set_behind body count ≡ false
+padding-none body count blank =
+    some_bit-none body (6 * group_count count - count) count (λ k low high. blank k low (omega arith))
 
-pub padding-all : (body : List ℕ) (n : ℕ) → is_padding_set body n ≡ false
-    → (k : ℕ) → pair_count n ≤ k → k < 6 * body_length n → bit body k ≡ 0
-padding-all body n none k low high =
-    some_bit-all body (6 * body_length n - pair_count n) (pair_count n) none k low (omega arith)
+pub padding-all : (body : List ℕ) (count : ℕ) → is_set_behind body count ≡ false
+    → (k : ℕ) → count ≤ k → k < 6 * group_count count → bit body k ≡ 0
+padding-all body count none k low high =
+    some_bit-all body (6 * group_count count - count) count none k low (omega arith)

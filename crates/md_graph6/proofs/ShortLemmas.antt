@@ -3,6 +3,7 @@ use Rattle.std.proofs.Common.{◌≡◌, ℕ, ◌+◌, ◌-◌, ◌*◌, ◌/◌
 use Rattle.std.specs.Int.{bit_at}
 use Rattle.std.specs.FinSet as set
 use Rattle.std.proofs.lemmas.Bool.{cases_eq, cases_lt}
+use Rattle.std.proofs.lemmas.Nat.{mul-le}
 use Rattle.std.proofs.lemmas.Bool.Decides.{nat_tests}
 use Rattle.std.proofs.lemmas.Nat.{shr-shr, shr_below, shl_whole, or_comm, or_shifted}
 use Rattle.md_graph.specs.declared.TheConstants.{NAMES}
@@ -35,20 +36,34 @@ unread_more body place word held at group room unread more = record {
   next = omega (arith, unread.next);
 }
 
-pub unread_behind : (body : List ℕ) (j word held at : ℕ) → j ≤ held → IsUnread body (pair_number 0 j) word held at
-    → IsUnread body (pair_number 0 (j + 1)) (word / 2 ^ j) (held - j) at
-unread_behind body j word held at enough unread = record {
+pub unread_behind : (body : List ℕ) (place count word held at : ℕ) → count ≤ held → IsUnread body place word held at
+    → IsUnread body (place + count) (word / 2 ^ count) (held - count) at
+unread_behind body place count word held at enough unread = record {
   window = record {
     below =
-        let split : held - j + j ≡ held = omega arith in
-        let fits : word < 2 ^ (held - j + j) = rw split unread.window.below in
-        shr_below word (held - j) j fits;
+        let split : held - count + count ≡ held = omega arith in
+        let fits : word < 2 ^ (held - count + count) = rw split unread.window.below in
+        shr_below word (held - count) count fits;
     bits = λ k h.
-        let e : pair_number 0 j + (j + k) ≡ pair_number 0 (j + 1) + k = omega (arith, pair_next j) in
-        ap (λ x. x % 2) (shr-shr word j k) ∙ unread.window.bits (j + k) (omega arith) ∙ ap (bit body) e;
+        let e : place + (count + k) ≡ place + count + k = omega arith in
+        ap (λ x. x % 2) (shr-shr word count k) ∙ unread.window.bits (count + k) (omega arith) ∙ ap (bit body) e;
   };
-  next = omega (arith, unread.next, pair_next j);
+  next = omega (arith, unread.next, enough);
 }
+
+-- the place of unread bits, told by the next byte
+pub placed : {body : List ℕ} {place word held at : ℕ} → IsUnread body place word held at → place ≡ 6 * at - held
+placed unread = omega (arith, unread.next)
+
+-- before a short column there are few bytes
+pub column_few : {body : List ℕ} {j word held at : ℕ} → j < 58 → held < 64 → IsUnread body (pair_number 0 j) word held at → at < 2 ^ 32
+column_few {j = j} short room unread =
+    let few : j * (j - 1) ≤ 58 * 58 = mul-le j (j - 1) 58 58 (omega arith) (omega arith) in
+    omega (arith, few, room, unread.next)
+
+-- where the next column begins
+pub next_column : {place : ℕ} (j : ℕ) → pair_number 0 j ≡ place → place + j ≡ pair_number 0 (j + 1)
+next_column j e = omega (arith, e, pair_next j)
 
 -- ---- one column
 

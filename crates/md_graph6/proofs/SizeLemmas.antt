@@ -1,8 +1,12 @@
 -- The spelling of a size, and how it is read.
-use Rattle.std.proofs.Common.{◌≡◌, ◌≢◌, ℕ, suc, ◌+◌, ◌-◌, ◌*◌, ◌/◌, ◌%◌, ◌<◌, ◌≤◌, true, false, List, [], ◌∷◌, ◌++◌, length, get_or, unwrap_or, drop, Option, None, Some, ◌⊎◌, inl, inr, refl, sym, ap, ◌∙◌, arith}
+use Rattle.std.proofs.Common.{◌≡◌, ◌≢◌, ℕ, suc, ◌+◌, ◌-◌, ◌*◌, ◌/◌, ◌%◌, ◌<◌, ◌≤◌, ◌&&◌, nat_lt, true, false, List, [], ◌∷◌, ◌++◌, length, get_or, unwrap_or, take, drop, Option, None, Some, ◌⊎◌, inl, inr, refl, sym, ap, ◌∙◌, arith, add-one}
 use Rattle.std.specs.List.{AllPass, list_all}
 use Rattle.std.proofs.lemmas.Bool.Decides.{nat_tests, eqb_tells}
-use Rattle.std.proofs.lemmas.Bool.{le-ltb, lt-ltb, ne_eqb}
+use Rattle.std.proofs.lemmas.Bool.{le-ltb, lt-ltb, ne_eqb, cases_lt}
+use Rattle.std.proofs.lemmas.Nat.{or_lt, le_or_l, le_or_r}
+use Rattle.std.specs.Int.Bits.{bit_or}
+use Rattle.std.proofs.Math.Seq.{take-suc}
+use Rattle.std.proofs.lemmas.List.Folds.{list_all-append}
 use Rattle.md_graph6.specs.Size.{size_text, size_of, is_too_long, eighteen_bits, most_in_four_bytes}
 use Rattle.md_graph6.specs.Line.{is_group}
 
@@ -16,6 +20,36 @@ is_group-range byte e = (grind (arith, nat_tests), grind (arith, nat_tests))
 
 pub range-is_group : (byte : ℕ) → 63 ≤ byte → byte ≤ 126 → is_group byte ≡ true
 range-is_group byte low high = grind (arith, nat_tests)
+
+-- round the end of a byte, 63 less it is below 64 exactly then
+is_group-wrapped : (byte : ℕ) → byte < 256 → is_group byte ≡ nat_lt ((byte + 193) % 256) 64
+is_group-wrapped byte fits = elim (cases_lt byte 63) [
+  | inl low ↦
+      let same : (byte + 193) % 256 ≡ byte + 193 = omega (arith, low) in
+      grind (arith, nat_tests)
+  | inr high ↦
+      let same : (byte + 193) % 256 ≡ byte - 63 = omega (arith, high, fits) in
+      grind (arith, nat_tests)
+]
+
+-- the bits of two numbers joined are below 64 where those of both are
+join_below : (a b : ℕ) → nat_lt (bit_or a b) 64 ≡ (nat_lt a 64 && nat_lt b 64)
+join_below a b = elim (cases_lt a 64) [
+  | inl first ↦ elim (cases_lt b 64) [
+    | inl second ↦ rw (lt-ltb a 64 first, lt-ltb b 64 second, lt-ltb (bit_or a b) 64 (or_lt 6 a b first second)) refl
+    | inr more ↦ rw (le-ltb b 64 more, le-ltb (bit_or a b) 64 (omega (arith, more, le_or_r a b))) (grind arith)
+  ]
+  | inr more ↦ rw (le-ltb a 64 more, le-ltb (bit_or a b) 64 (omega (arith, more, le_or_l a b))) refl
+]
+
+-- one byte more is joined
+pub join_group : (line : List ℕ) (i joined : ℕ) → i < length line → get_or line i 0 < 256
+    → list_all is_group (take i line) ≡ nat_lt joined 64
+    → list_all is_group (take (i + 1) line) ≡ nat_lt (bit_or joined ((get_or line i 0 + 193) % 256)) 64
+join_group line i joined inside fits before =
+    ap (λ k. list_all is_group (take k line)) (add-one i) ∙ ap (list_all is_group) (take-suc line i 0 inside)
+    ∙ list_all-append is_group (take i line) (get_or line i 0 ∷ [])
+    ∙ rw (before, is_group-wrapped (get_or line i 0) fits, join_below joined ((get_or line i 0 + 193) % 256)) (grind arith)
 
 -- a small size is one byte
 pub size_text-one : (n : ℕ) → n ≤ 62 → size_text n ≡ (n + 63) ∷ []
@@ -78,10 +112,10 @@ size_text-read n body small =
     ]
 
 -- the parts of a size that is there
-taken_of : (a b c d : ℕ) → ◌≡◌ {A = Option (ℕ × ℕ)} (Some (a, b)) (Some (c, d)) → a ≡ c
+pub taken_of : (a b c d : ℕ) → ◌≡◌ {A = Option (ℕ × ℕ)} (Some (a, b)) (Some (c, d)) → a ≡ c
 taken_of a b c d e = ap (λ (o : Option (ℕ × ℕ)). (unwrap_or o (0, 0)).0) e
 
-n_of : (a b c d : ℕ) → ◌≡◌ {A = Option (ℕ × ℕ)} (Some (a, b)) (Some (c, d)) → b ≡ d
+pub n_of : (a b c d : ℕ) → ◌≡◌ {A = Option (ℕ × ℕ)} (Some (a, b)) (Some (c, d)) → b ≡ d
 n_of a b c d e = ap (λ (o : Option (ℕ × ℕ)). (unwrap_or o (0, 0)).1) e
 
 -- four bytes spell no size of one byte, and eight no size of four

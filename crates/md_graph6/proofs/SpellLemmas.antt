@@ -37,14 +37,15 @@ text_is_sound n body most few long blank = record {
   shortest = size_text-shortest n (name_size n (omega (arith, most, few)));
   few = few;
   long = length-append (size_text n) body ∙ ap (λ k. length (size_text n) + k) long;
-  padding = rw (drop-append_seam (size_text n) body) (padding-none body n blank);
+  padding = rw (drop-append_seam (size_text n) body) (padding-none body (pair_count n) blank);
 }
 
-text_groups : (n : ℕ) (body : List ℕ) → n ≤ NAMES → AllPass is_group body
+-- a size and group bytes behind it are group bytes
+pub text_groups : (n : ℕ) (body : List ℕ) → n ≤ most_in_four_bytes → AllPass is_group body
     → list_all is_group (size_text n ++ body) ≡ true
-text_groups n body few groups =
+text_groups n body small groups =
     list_all-append is_group (size_text n) body
-    ∙ rw (size_text-groups n (name_size n few), list_all-from_AllPass is_group body groups) refl
+    ∙ rw (size_text-groups n small, list_all-from_AllPass is_group body groups) refl
 
 text_fault : (limit n : ℕ) (body : List ℕ) → limit ≤ NAMES → n ≤ limit → length body ≡ body_length n → AllPass is_group body
     → ((k : ℕ) → pair_count n ≤ k → k < 6 * body_length n → bit body k ≡ 0)
@@ -53,7 +54,7 @@ unfolding size_fault
 text_fault limit n body most few long groups blank =
     let named : n ≤ NAMES = omega (arith, most, few) in
     let some : 0 < length (size_text n ++ body) = size_text-some n body (name_size n named) in
-    let pass : list_all is_group (size_text n ++ body) ≡ true = text_groups n body named groups in
+    let pass : list_all is_group (size_text n ++ body) ≡ true = text_groups n body (name_size n named) groups in
     graph6_fault-sized limit (size_text n ++ body) (Some (length (size_text n), n))
     (line_begins (size_text n ++ body) some pass) pass (size_text-read n body (name_size n named))
     ∙ body_fault-sound (size_text n ++ body) (length (size_text n)) n (text_is_sound n body most few long blank)
@@ -91,7 +92,7 @@ sound_line-spells line taken n most some groups sized sound = record {
   long = rw (length-drop taken line) (omega (arith, sound.long));
   groups = All-drop (λ byte. is_group byte ≡ true) taken line groups;
   bits = rw sized (decoded_is_body (drop taken line) n (omega (arith, most, sound.few)));
-  padding = padding-all (drop taken line) n sound.padding;
+  padding = padding-all (drop taken line) (pair_count n) sound.padding;
 }
 
 pub sound-graph6_spells : {limit : ℕ} (line : List ℕ) → limit ≤ NAMES → 0 < length line → graph6_fault limit line ≡ None

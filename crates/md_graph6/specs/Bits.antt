@@ -13,9 +13,13 @@ bit body k = bit_at (get_or body (k / 6) 63 - 63) (5 - k % 6)
 abbrev pub pair_number : ℕ → ℕ → ℕ
 pair_number i j = j * (j - 1) / 2 + i
 
+-- how many bytes hold so many bits
+abbrev pub group_count : ℕ → ℕ
+group_count bits = (bits + 5) / 6
+
 -- how many bytes hold one bit for each pair of n vertices
 abbrev pub body_length : ℕ → ℕ
-body_length n = (n * (n - 1) / 2 + 5) / 6
+body_length n = group_count (n * (n - 1) / 2)
 
 -- The graph that a body spells: its vertices are the numbers below n, and two of them are adjacent exactly
 -- where the bit of their pair is 1.

@@ -6,7 +6,7 @@ use Rattle.md_graph.specs.NameSet.{range}
 use Rattle.md_graph.specs.PlainGraph.{PlainGraph, pairs_where}
 use Rattle.md_graph6.specs.declared.fault.G6Kind.{G6Kind}
 use Rattle.md_graph6.specs.declared.fault.G6Kind.TheVariants.{BadByte, BadSize, TooManyVertices, Truncated, TrailingBytes, BadPadding, OtherFormat}
-use Rattle.md_graph6.specs.Bits.{bit, pair_number, body_length, IsBodyOf}
+use Rattle.md_graph6.specs.Bits.{bit, pair_number, group_count, body_length, IsBodyOf}
 use Rattle.md_graph6.specs.Size.{size_text, size_of, is_too_long}
 
 -- the number of pairs of n vertices
@@ -38,9 +38,13 @@ unfoldable pub some_bit : List ℕ → ℕ → ℕ → Bool
 some_bit body first zero = false
 some_bit body first (suc count) = (bit body first == 1) || some_bit body (first + 1) count
 
+-- whether a bit behind the first `count` is 1, in the bytes that hold these
+abbrev pub is_set_behind : List ℕ → ℕ → Bool
+is_set_behind body count = some_bit body count (6 * group_count count - count)
+
 -- whether a bit behind those of the pairs is 1
 abbrev pub is_padding_set : List ℕ → ℕ → Bool
-is_padding_set body n = some_bit body (pair_count n) (6 * body_length n - pair_count n)
+is_padding_set body n = is_set_behind body (pair_count n)
 
 -- the first fault of a line of group bytes whose first `taken` bytes spell the size n, of which the limit is the greatest
 unfoldable pub body_fault : ℕ → List ℕ → ℕ → ℕ → Option G6Kind

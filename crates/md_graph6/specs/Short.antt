@@ -3,6 +3,7 @@ use Rattle.std.specs.Prelude.{◌≡◌, ℕ, ◌+◌, ◌-◌, ◌*◌, ◌<◌
 use Rattle.std.specs.Int.{bit_at}
 use Rattle.std.specs.FinSet as set
 use Rattle.md_graph.specs.PlainGraph.{PlainGraph, IsGraph, adjacent}
+use Rattle.md_graph6.specs.declared.body.Unread.{Unread}
 use Rattle.md_graph6.specs.Bits.{bit, pair_number}
 use Rattle.md_graph6.specs.Window.{AreGroups, IsWindow}
 
@@ -10,6 +11,10 @@ use Rattle.md_graph6.specs.Window.{AreGroups, IsWindow}
 pub record IsUnread (body : List ℕ) (place word held at : ℕ) : Type 0 where
   pub window : IsWindow body place held word
   pub next : 6 * at ≡ place + held
+
+-- the place of the first of some unread bits
+abbrev pub unread_place : Unread → ℕ
+unread_place unread = 6 * unread.at - unread.held
 
 -- g with an edge between j and each number below it whose bit is 1
 pub record IsWithColumn (g : PlainGraph) (j word : ℕ) (new : PlainGraph) : Type 0 where

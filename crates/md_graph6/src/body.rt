@@ -9,7 +9,7 @@ ghost use Rattle.md_graph6.specs.Bits.{bit, pair_number, IsBodyOf};
 ghost use Rattle.md_graph6.specs.Line.{is_group};
 ghost use Rattle.md_graph6.specs.Window.{AreGroups, IsWindow};
 ghost use Rattle.md_graph6.specs.Filled.{IsBlock, IsFilled};
-ghost use Rattle.md_graph6.specs.Short.{IsUnread, IsWithColumn, IsFilledTo};
+ghost use Rattle.md_graph6.specs.Short.{IsUnread, unread_place, IsWithColumn, IsFilledTo};
 
 use md_graph::{GraphOf, NAMES, Set};
 
@@ -109,9 +109,10 @@ fn twelve_bytes(body: &[u8], at: usize) -> [u8; 12]
     twelve
 }
 
-// 64 bits of the body from bit `place` on; behind the body they are 0.
+/// 64 bits of the body from bit `place` on, the first in the lowest place; behind the body they
+/// are 0. Condition: each byte is 63 with six bits added.
 #[inline]
-pub(crate) fn bits_from(body: &[u8], place: usize) -> u64
+pub fn bits_from(body: &[u8], place: usize) -> u64
     requires { AreGroups body.now }
     ensures { (k : ℕ) → k < 64 → bit_at result k ≡ bit body.now (place + k) }
 {
@@ -123,9 +124,9 @@ pub(crate) fn bits_from(body: &[u8], place: usize) -> u64
     bits_inside(&twelve_bytes(body, at), 0, shift)
 }
 
-// The lowest `count` bits.
+/// The lowest `count` bits.
 #[inline]
-pub(crate) fn low_bits(bits: u64, count: u32) -> u64
+pub fn low_bits(bits: u64, count: u32) -> u64
     ensures { (k : ℕ) → k < 64 → bit_at result k ≡ (if nat_lt k count then bit_at bits k else 0) }
 {
     if count < 64 {
@@ -187,13 +188,16 @@ fn fill_columns<const W: usize>(graph: &mut GraphOf<W>, n: u32, body: &[u8], h: 
     }
 }
 
-// Bits of a short line that were taken from its bytes and belong to no column yet: `held` of them,
-// the first in the lowest place. `at` is the number of the next byte.
+/// Bits that were taken from the bytes of a body and not read yet: `held` of them, the first in the
+/// lowest place. `at` is the number of the next byte.
 #[derive(Clone, Copy)]
-struct Unread {
-    bits: u64,
-    held: u32,
-    at: usize,
+pub struct Unread {
+    /// The bits.
+    pub bits: u64,
+    /// How many bits there are.
+    pub held: u32,
+    /// The number of the next byte.
+    pub at: usize,
 }
 
 // The six bits of byte `at`; behind the body they are 0.
@@ -208,19 +212,24 @@ fn group_at(body: &[u8], at: usize) -> u64
     0
 }
 
-// The unread bits, with as many bytes more as column j needs.
+/// The unread bits, with as many bytes more as hold `count` bits; behind the body all bits are 0.
+/// Conditions: each byte is 63 with six bits added, the unread bits stand before byte `at`, which
+/// is one of the first 2^32, there are fewer than 64 of them, and `count` is below 58.
 #[inline]
-fn with_column(body: &[u8], unread: Unread, j: u32) -> Unread
+pub fn with_bits(body: &[u8], unread: Unread, count: u32) -> Unread
     requires groups { AreGroups body.now }
-    requires short { j < 58 }
-    requires unread { IsUnread body.now (pair_number 0 j) unread.bits unread.held unread.at }
-    ensures unread { IsUnread body.now (pair_number 0 j) result.bits result.held result.at }
-    ensures enough { j ≤ result.held }
+    requires short { count < 58 }
+    requires few { unread.at < 2 ^ 32 }
+    requires room { unread.held < 64 }
+    requires unread { IsUnread body.now (unread_place unread) unread.bits unread.held unread.at }
+    ensures unread { IsUnread body.now (unread_place unread) result.bits result.held result.at }
+    ensures enough { count ≤ result.held }
+    ensures room { result.held < 64 }
 {
     let mut bits = unread.bits;
     let mut held = unread.held;
     let mut at = unread.at;
-    while held < j {
+    while held < count {
         bits |= group_at(body, at) << held;
         held += 6;
         at += 1;
@@ -228,17 +237,19 @@ fn with_column(body: &[u8], unread: Unread, j: u32) -> Unread
     Unread { bits, held, at }
 }
 
-// The unread bits without those of column j.
+/// The unread bits without the first `count`. Condition: there are so many, fewer than 58.
 #[inline]
-fn behind_column(body: &[u8], unread: Unread, j: u32) -> Unread
-    requires short { j < 58 }
-    requires enough { j ≤ unread.held }
-    requires unread { IsUnread body.now (pair_number 0 j) unread.bits unread.held unread.at }
-    ensures { IsUnread body.now (pair_number 0 (j + 1)) result.bits result.held result.at }
+pub fn behind_bits(body: &[u8], unread: Unread, count: u32) -> Unread
+    requires short { count < 58 }
+    requires enough { count ≤ unread.held }
+    requires unread { IsUnread body.now (unread_place unread) unread.bits unread.held unread.at }
+    ensures unread { IsUnread body.now (unread_place unread + count)
+        result.bits result.held result.at }
+    ensures held { result.held ≡ unread.held - count }
 {
     Unread {
-        bits: unread.bits >> j,
-        held: unread.held - j,
+        bits: unread.bits >> count,
+        held: unread.held - count,
         at: unread.at,
     }
 }
@@ -270,9 +281,9 @@ fn fill_short<const W: usize>(graph: &mut GraphOf<W>, n: u32, body: &[u8])
         at: 0,
     };
     for j in 0..n {
-        unread = with_column(body, unread, j);
+        unread = with_bits(body, unread, j);
         add_column(graph, j, unread.bits);
-        unread = behind_column(body, unread, j);
+        unread = behind_bits(body, unread, j);
     }
 }
 

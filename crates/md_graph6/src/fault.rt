@@ -3,7 +3,8 @@
 /// What is wrong with a line. A line's first fault is named. In a graph6 line the order is: another
 /// format, a bad byte, a size that isn't all there, a size that is spelt too long, too many
 /// vertices, too few bytes, too many bytes, padding that isn't zero. In a sparse6 line it is: a bad
-/// byte, a size that isn't all there, a size that is spelt too long, too many vertices, a loop.
+/// byte, a size that isn't all there, a size that is spelt too long, too many vertices, a loop. In a
+/// digraph6 line it is that of a graph6 line, with a loop before the padding.
 #[derive(Clone, Copy, Debug, PartialEq, Eq)]
 pub enum G6Kind {
     /// A byte is below 63 or above 126.
@@ -18,9 +19,11 @@ pub enum G6Kind {
     TrailingBytes,
     /// A bit that fills up the last byte is 1.
     BadPadding,
-    /// The line begins as one of another format: `;` or `&`.
+    /// The line begins as one of another format: with `;` or `&`, or, where directed graphs are
+    /// read, with another byte than `&`.
     OtherFormat,
-    /// An edge that isn't left out has equal ends. Only sparse6 lines have this fault.
+    /// An edge that isn't left out, or an arc, has equal ends. Only sparse6 and digraph6 lines have
+    /// this fault.
     Loop,
 }
 

@@ -11,6 +11,7 @@ mod file;
 mod file_line;
 pub mod laws;
 mod line;
+pub mod parts;
 mod reader;
 mod sparse;
 mod writer;

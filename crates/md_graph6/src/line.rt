@@ -1,11 +1,11 @@
 //! One graph6 line: its size, its first fault, and the graph that it spells.
-ghost use Rattle.std.specs.Prelude.{◌≡◌, ◌+◌, ◌*◌, ◌<◌, ◌≤◌, length, IfSome, None};
+ghost use Rattle.std.specs.Prelude.{◌≡◌, ◌+◌, ◌*◌, ◌^◌, ◌<◌, ◌≤◌, length, IfSome, None};
 ghost use Rattle.std.specs.List.{AllPass, list_all};
 ghost use Rattle.md_graph.specs.NameSet.{AllBelow};
 ghost use Rattle.md_graph.specs.PlainGraph.{empty_graph};
-ghost use Rattle.md_graph6.specs.Bits.{body_length};
+ghost use Rattle.md_graph6.specs.Bits.{group_count, body_length};
 ghost use Rattle.md_graph6.specs.Size.{size_of, eighteen_bits, is_too_long};
-ghost use Rattle.md_graph6.specs.Line.{is_group, pair_count, is_padding_set, begins_other, graph6_fault, body_fault, graph_of_graph6};
+ghost use Rattle.md_graph6.specs.Line.{is_group, pair_count, is_set_behind, begins_other, graph6_fault, body_fault, graph_of_graph6};
 
 use crate::body;
 use crate::fault::G6Kind;
@@ -33,8 +33,9 @@ pub(crate) fn eighteen(line: &[u8], place: usize) -> u64
     (high * 64 + middle) * 64 + low
 }
 
-// How many bytes of a line spell its size, and the size; `None` where not all of them are there.
-pub(crate) fn size(line: &[u8]) -> Option<(usize, u64)>
+/// How many bytes of a line spell its size, and the size; `None` where not all of them are there.
+/// Conditions: there is a byte, and each is 63 with six bits added.
+pub fn size(line: &[u8]) -> Option<(usize, u64)>
     requires some { 0 < length line.now }
     requires groups { AllPass is_group line.now }
     ensures value { result ≡ size_of line.now }
@@ -55,8 +56,8 @@ pub(crate) fn size(line: &[u8]) -> Option<(usize, u64)>
     Some((8, eighteen(line, 2) * 262_144 + eighteen(line, 5)))
 }
 
-// Whether fewer bytes would spell the size.
-pub(crate) fn is_too_long(taken: usize, n: u64) -> bool
+/// Whether fewer bytes would spell the size.
+pub fn is_too_long(taken: usize, n: u64) -> bool
     ensures { result ≡ is_too_long taken n }
 {
     taken == 4 && n <= u64::from(MOST_IN_ONE_BYTE) || taken == 8 && n <= MOST_IN_FOUR_BYTES
@@ -79,14 +80,15 @@ pub(crate) fn body_length(n: u64) -> usize
     pair_count(n).div_ceil(6)
 }
 
-// Whether a bit behind those of the pairs is 1. They stand in the last byte.
-fn is_padding_set(body: &[u8], n: u64) -> bool
-    requires few { n ≤ NAMES }
+/// Whether a bit behind the first `count` is 1. Such bits stand in the last byte. Conditions: each
+/// byte is 63 with six bits added, and there are as many bytes as hold so many bits.
+pub fn is_set_behind(body: &[u8], count: usize) -> bool
+    requires few { count < 2 ^ 32 }
     requires groups { AllPass is_group body.now }
-    requires long { length body.now ≡ body_length n }
-    ensures { result ≡ is_padding_set body.now n }
+    requires long { length body.now ≡ group_count count }
+    ensures { result ≡ is_set_behind body.now count }
 {
-    let padding = body.len() * 6 - pair_count(n);
+    let padding = body.len() * 6 - count;
     match body {
         [] => false,
         [.., last] => (last - 63) % (1 << padding) != 0,
@@ -113,7 +115,7 @@ fn body_fault(limit: u32, line: &[u8], taken: usize, n: u64) -> Option<G6Kind>
     if line.len() > end {
         return Some(G6Kind::TrailingBytes);
     }
-    if is_padding_set(&line[taken..], n) {
+    if is_set_behind(&line[taken..], pair_count(n)) {
         return Some(G6Kind::BadPadding);
     }
     None
@@ -126,18 +128,16 @@ fn begins_other(first: u8) -> bool
     first == b';' || first == b'&'
 }
 
-// Whether each byte is 63 with six bits added. The least and the greatest byte are found 16 bytes
-// at a time.
-pub(crate) fn are_groups(line: &[u8]) -> bool
+/// Whether each byte is 63 with six bits added: less 63, round the end of its type, it is below 64,
+/// and so is what joins the bits of all.
+pub fn are_groups(line: &[u8]) -> bool
     ensures { result ≡ list_all is_group line.now }
 {
-    let mut least = 126;
-    let mut greatest = 63;
+    let mut joined = 0;
     for byte in line {
-        least = least.min(*byte);
-        greatest = greatest.max(*byte);
+        joined |= byte.wrapping_sub(63);
     }
-    63 <= least && greatest <= 126
+    joined < 64
 }
 
 // The first fault of a graph6 line under a limit of the number of vertices.

@@ -1,9 +1,9 @@
 //! The graphs of a file without fault, one after the other.
-ghost use Rattle.std.specs.Prelude.{◌≡◌, ◌≢◌, ℕ, ◌*◌, ◌<◌, ◌≤◌, [], ◌∷◌, length, None, slice_index};
+ghost use Rattle.std.specs.Prelude.{◌≡◌, ◌≢◌, ℕ, ◌*◌, ◌<◌, ◌≤◌, ◌==◌, ◌&&◌, ◌||◌, nat_lt, nat_le, [], ◌∷◌, length, None, slice_index};
 ghost use Rattle.std.specs.Bool.{OnTrue, OnFalse};
 ghost use Rattle.md_graph.specs.PlainGraph.{empty_graph};
 ghost use Rattle.md_graph6.specs.FileLine.{line_fault, graph_of_line};
-ghost use Rattle.md_graph6.specs.File.{stripped_lines, graphs_in, HasNoFault, first_fault, graphs_of};
+ghost use Rattle.md_graph6.specs.File.{stripped_lines, from_first, graphs_in, HasNoFault, first_fault, graphs_of};
 ghost use Rattle.md_graph6.specs.First.{FirstBelow, IsFirstBound, BeginsWithSize};
 
 use crate::file::without_header;
@@ -90,19 +90,39 @@ impl<'a> Lines<'a> {
 }
 
 // The number of vertices of the first line that isn't empty; 0 where there is none. The lines before
-// it have no bytes but those that end them.
+// it have no bytes but those that end them. A size of one byte, which most lines have, is told from
+// all else in one test.
 fn first_bound(text: &[u8]) -> u32
     requires { HasNoFault (stripped_lines text.now) }
     ensures { IsFirstBound result (graphs_in text.now) }
 {
     let mut rest = text;
     while !rest.is_empty() {
-        if rest[0] != b'\n' && rest[0] != b'\r' {
+        if is_small_size(rest[0]) {
+            return u32::from(rest[0] - 63);
+        }
+        if !ends_line(rest[0]) {
             return leading_size(rest);
         }
         rest = &rest[1..];
     }
     0
+}
+
+// Whether a byte spells a size alone.
+#[inline]
+fn is_small_size(byte: u8) -> bool
+    ensures { result ≡ (nat_le 63 byte && nat_lt byte 126) }
+{
+    63 <= byte && byte < LONG
+}
+
+// Whether a byte stands at the end of a line alone.
+#[inline]
+fn ends_line(byte: u8) -> bool
+    ensures { result ≡ ((byte == 10) || (byte == 13)) }
+{
+    byte == b'\n' || byte == b'\r'
 }
 
 // The number of vertices of a text's first line, which isn't empty.
@@ -116,8 +136,8 @@ fn leading_size(text: &[u8]) -> u32
     spelt_size(from_size(text))
 }
 
-// The size that a text begins with, in its shortest spelling.
-fn spelt_size(text: &[u8]) -> u32
+/// The size that a text begins with. Condition: it begins with the shortest spelling of one.
+pub fn spelt_size(text: &[u8]) -> u32
     requires { (n : ℕ) × BeginsWithSize n text.now }
     ensures { (n : ℕ) → BeginsWithSize n text.now → result ≡ n }
 {
@@ -127,15 +147,13 @@ fn spelt_size(text: &[u8]) -> u32
     eighteen(&text[..4], 1) as u32
 }
 
-// The first line that isn't empty, and what stands behind it; an empty one where there is none.
-fn next_line(text: &[u8]) -> (&[u8], &[u8])
-    requires { HasNoFault (stripped_lines text.now) }
+/// The first line that isn't empty, without one byte 13 at its end, and what stands behind it; an
+/// empty one where there is none.
+pub fn next_line(text: &[u8]) -> (&[u8], &[u8])
     ensures first { 0 < length result.0.now →
-        graphs_in text.now ≡ graph_of_line result.0.now ∷ graphs_in result.1.now }
-    ensures none { length result.0.now ≡ 0 → graphs_in text.now ≡ [] }
-    ensures none_left { length result.0.now ≡ 0 → graphs_in result.1.now ≡ [] }
-    ensures sound { line_fault NAMES result.0.now ≡ None }
-    ensures rest_sound { HasNoFault (stripped_lines result.1.now) }
+        from_first (stripped_lines text.now) ≡ result.0.now ∷ stripped_lines result.1.now }
+    ensures none { length result.0.now ≡ 0 → from_first (stripped_lines text.now) ≡ [] }
+    ensures none_left { length result.0.now ≡ 0 → length result.1.now ≡ 0 }
 {
     let mut rest = text;
     while !rest.is_empty() {

@@ -5,19 +5,19 @@ use Rattle.md_graph6.proofs.file.scan.Goals as goal
 
 pub returns-in-Some-clause-fault : goal.returns-in-Some-clause-fault
 returns-in-Some-clause-fault c =
-    IsRead-fault _ _ _ _ _ _ _ c.loop-rest.invariant c.split_line.ensures.cut (cc)
+    IsRead-fault _ _ _ _ _ _ c.loop-rest.invariant c.split_line.ensures.cut (cc)
 
 pub loop-rest-preserved : goal.loop-rest-preserved
 loop-rest-preserved c =
-    IsRead-more _ _ _ _ _ _ _ c.is_empty-in-loop-rest.result c.loop-rest.invariant c.split_line.ensures.cut
+    IsRead-more _ _ _ _ _ _ c.is_empty-in-loop-rest.result c.loop-rest.invariant c.split_line.ensures.cut
     c.split_line.ensures.rest_shorter (cc) (cc) (c.from-count.ensures ∙ bool_byte-if _)
 
 pub returns-clause-sound : goal.returns-clause-sound
 returns-clause-sound c =
     let end : length c.loop-rest.rest.now ≡ 0 = grind (arith, common_steps) in
-    IsRead-sound _ _ _ _ c.loop-rest.invariant end
+    IsRead-sound _ _ _ c.loop-rest.invariant end
 
 pub returns-clause-count : goal.returns-clause-count
 returns-clause-count c =
     let end : length c.loop-rest.rest.now ≡ 0 = grind (arith, common_steps) in
-    IsRead-count _ _ _ _ c.loop-rest.invariant end
+    IsRead-count _ _ _ c.loop-rest.invariant end

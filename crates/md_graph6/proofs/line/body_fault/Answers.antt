@@ -20,9 +20,9 @@ pub returns-then-line-end-2 : goal.returns-then-line-end-2
 unfolding body_fault
 returns-then-line-end-2 c = grind (arith, common_steps)
 
-pub returns-then-is_padding_set : goal.returns-then-is_padding_set
+pub returns-then-is_set_behind : goal.returns-then-is_set_behind
 unfolding body_fault
-returns-then-is_padding_set c =
+returns-then-is_set_behind c =
     grind (arith, common_steps, take_rest c.args.line.now c.args.taken)
 
 pub returns : goal.returns

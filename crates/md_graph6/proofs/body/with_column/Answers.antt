@@ -1,6 +1,0 @@
-use Rattle.std.proofs.Common.{arith}
-use Rattle.md_graph6.proofs.ShortLemmas.{unread_more}
-use Rattle.md_graph6.proofs.body.with_column.Goals as goal
-
-pub loop-held-preserved : goal.loop-held-preserved
-loop-held-preserved c = unread_more _ _ _ _ _ _ (omega arith) c.loop-held.invariant c.group_at.ensures
