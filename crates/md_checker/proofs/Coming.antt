@@ -1,5 +1,5 @@
--- A line that may come where graphs and edits with names are left is well-formed.
-use Rattle.std.proofs.Common.{◌≡◌, ℕ, ◌<◌, Bool, true, false, not, cond, List, [], ◌∷◌, find, Option, None, Some, option_map, sym, ◌∙◌, subst, inl, inr, refl}
+-- A line that may come where graphs and items of scripts are left is well-formed.
+use Rattle.std.proofs.Common.{◌≡◌, ℕ, ◌+◌, ◌<◌, ◌≤◌, length, arith, Bool, true, false, not, cond, List, [], ◌∷◌, find, Option, None, Some, option_map, sym, ◌∙◌, subst, inl, inr, refl}
 use Rattle.std.specs.Prelude.{◌==◌, ⊤}
 use Rattle.std.specs.Bool.{then_some}
 use Rattle.std.specs.Option.{option_or}
@@ -27,20 +27,26 @@ use Rattle.md_script.specs.declared.edit.Edit as script
 use Rattle.md_script.specs.declared.edit.Edit.TheVariants.{AddEdge, DelEdge, AddVertex, DelVertex}
 use Rattle.md_script.specs.declared.edit.EditReason.{EditReason}
 use Rattle.md_script.specs.declared.edit.EditReason.TheVariants.{Same, NoVertex, NameTaken, EdgeThere, EdgeAbsent}
+use Rattle.md_script.specs.declared.TheConstants.{EDITS}
+use Rattle.md_script.specs.declared.item.Item.{Item}
+use Rattle.md_script.specs.declared.item.Item.TheVariants.{One, Undo, Group}
 use Rattle.md_script.specs.Edit.{HasNames, ends_reason, least_absent, reason_of, after}
+use Rattle.md_script.specs.Items.{IsScriptItem}
 use Rattle.md_script.proofs.ChangeLemmas.{after_is_graph}
 use Rattle.md_report.specs.declared.line.GraphMode.{GraphMode}
 use Rattle.md_report.specs.declared.line.GraphMode.TheVariants.{Tree, Compare, Shortest, Permute}
 use Rattle.md_report.specs.declared.line.SessionMode.{SessionMode}
 use Rattle.md_report.specs.declared.line.SessionMode.TheVariants.{Edit, Cograph, Quiet}
 use Rattle.md_report.specs.Lines.{PlainLine, head, tree, applied, applied_quiet, refused, refused_p4, group_refused, group_refused_p4, nothing_to_undo, not_cograph, oriented, forced, orders, forced_in, forced_in_complement, end}
-use Rattle.md_report.specs.WellFormedLines.{IsVertexName, IsNamedArc, IsNamedChain, IsNamedP4, IsNamedReason, IsWellFormedLine}
+use Rattle.md_report.specs.WellFormedLines.{IsVertexName, IsNamedArc, IsNamedChain, IsNamedP4, IsNamedReason, IsEditNumber, IsWellFormedLine}
 use Rattle.md_report.specs.Orientations.{IsOrientationLine}
 use Rattle.md_report.specs.Models.{IsModelLine}
-use Rattle.md_report.specs.Sessions.{HasTreeLine, IsLineBy}
-use Rattle.md_report.specs.Cographs.{IsP4Of, HasP4Line, IsCographLineBy, IsQuietLineBy}
-use Rattle.md_report.specs.Places.{Place, before_head, at_graphs, before_session, at_state, at_edits, at_end, after_end, Reports, ReportsState, AnswersEdit, ClosesEdits, ComesAtEdits, OpensSession, MayCome}
-use Rattle.md_report.specs.Laws.{IsSound}
+use Rattle.md_report.specs.Sessions.{State, first_state, HasTreeLine}
+use Rattle.md_report.specs.Cographs.{IsP4Of, HasP4Line}
+use Rattle.md_report.specs.ItemLines.{IsBarred, IsDoneLine, AnswersEdit, IsLineAt, IsGroupLine, IsUndoLine, AnswersItem}
+use Rattle.md_report.specs.Places.{Place, before_head, at_graphs, before_session, at_state, at_items, at_end, after_end, Reports, ReportsState, ClosesItems, ComesAtItems, OpensSession, MayCome}
+use Rattle.md_report.specs.Laws.{AreGraphs, IsSound}
+use Rattle.md_report.proofs.ItemLines.{IsEditLine, edit_line}
 
 -- a line with the tree of a graph
 tree_good : (made : Option PlainTree → PlainLine) → ((o : Option PlainTree) → IsWellFormed o → IsWellFormedLine (made o)) → (g : PlainGraph) → IsGraph g → (line : PlainLine) → HasTreeLine made g line → IsWellFormedLine line
@@ -126,7 +132,7 @@ named_reason g (AddVertex x neighbours) names =
     named_or (option_map NoVertex (least_absent g neighbours)) _ (named_absent (λ v. not (set.contains g.vertices v)) neighbours names.1) (named_then (set.contains g.vertices x) (NameTaken x) names.0)
 named_reason g (DelVertex x) names = named_then (not (set.contains g.vertices x)) (NoVertex x) names
 
--- the lines of graphs, of first states and of edits
+-- the lines of graphs and of first states
 module _ (g : PlainGraph) (is : IsGraph g) where
   near : MeetsPremises (adjacent g)
   near = side_premises is Edges
@@ -182,46 +188,72 @@ module _ (g : PlainGraph) (is : IsGraph g) where
   state_good Cograph line (inr whole) = tree_good tree (λ o w. w) g is line whole.1
   state_good Quiet line path = p4_good not_cograph (λ p w. w) g is line path
 
-  step_good : (edit : script.Edit) → HasNames edit → (o : Option EditReason) → reason_of g edit ≡ o → (line : PlainLine) → IsLineBy o g edit line → IsWellFormedLine line
-  step_good edit names (Some reason) same line may = subst IsWellFormedLine (sym may) (subst IsNamedOption same (named_reason g edit names))
-  step_good edit names None same line may = tree_good applied (λ o w. w) (after g edit) (after_is_graph g edit is names same) line may
-
-  cograph_good : (edit : script.Edit) → HasNames edit → (o : Option EditReason) → reason_of g edit ≡ o → (line : PlainLine) → IsCographLineBy o g edit line → IsWellFormedLine line
-  cograph_good edit names (Some reason) same line may = subst IsWellFormedLine (sym may) (subst IsNamedOption same (named_reason g edit names))
-  cograph_good edit names None same line (inl path) = p4_good refused_p4 (λ p w. w) (after g edit) (after_is_graph g edit is names same) line path
-  cograph_good edit names None same line (inr whole) = tree_good applied (λ o w. w) (after g edit) (after_is_graph g edit is names same) line whole.1
-
-  quiet_good : (edit : script.Edit) → HasNames edit → (o : Option EditReason) → reason_of g edit ≡ o → (line : PlainLine) → IsQuietLineBy o g edit line → IsWellFormedLine line
-  quiet_good edit names (Some reason) same line may = subst IsWellFormedLine (sym may) (subst IsNamedOption same (named_reason g edit names))
-  quiet_good edit names None same line (inl path) = p4_good refused_p4 (λ p w. w) (after g edit) (after_is_graph g edit is names same) line path
-  quiet_good edit names None same line (inr whole) = subst IsWellFormedLine (sym whole.1) tt
-
-  edit_good : (mode : SessionMode) (edit : script.Edit) → HasNames edit → (line : PlainLine) → AnswersEdit mode g edit line → IsWellFormedLine line
-  edit_good Edit edit names line may = step_good edit names (reason_of g edit) refl line may
-  edit_good Cograph edit names line may = cograph_good edit names (reason_of g edit) refl line may
-  edit_good Quiet edit names line may = quiet_good edit names (reason_of g edit) refl line may
-
-  last_good : (mode : SessionMode) (line : PlainLine) → ClosesEdits mode g line → IsWellFormedLine line
+  last_good : (mode : SessionMode) (line : PlainLine) → ClosesItems mode g line → IsWellFormedLine line
   last_good Edit line may = subst IsWellFormedLine (sym may) tt
   last_good Cograph line may = subst IsWellFormedLine (sym may) tt
   last_good Quiet line may = tree_good tree (λ o w. w) g is line may
 
-  edits_good : (mode : SessionMode) (edits : List script.Edit) → All HasNames edits → (line : PlainLine) → ComesAtEdits mode g edits line → IsWellFormedLine line
-  edits_good mode (edit ∷ edits) names line may = edit_good mode edit (All-head HasNames edit edits names) line may
-  edits_good mode [] names line may = last_good mode line may
+  -- the line of an item that was applied
+  done_good : (mode : SessionMode) (line : PlainLine) → IsDoneLine mode g line → IsWellFormedLine line
+  done_good Edit line done = tree_good applied (λ o w. w) g is line done
+  done_good Cograph line done = tree_good applied (λ o w. w) g is line done
+  done_good Quiet line done = subst IsWellFormedLine (sym done) tt
 
-  opening_good : (mode : SessionMode) (edits : List script.Edit) → All HasNames edits → (line : PlainLine) → OpensSession mode g edits line → IsWellFormedLine line
-  opening_good Edit edits names line may = state_good Edit line may
-  opening_good Cograph edits names line may = state_good Cograph line may
-  opening_good Quiet edits names line (inl path) = state_good Quiet line path
-  opening_good Quiet edits names line (inr whole) = edits_good Quiet edits names line whole.1
+  -- an induced P4 that no state may have
+  barred_good : (mode : SessionMode) (p : P4) → IsBarred mode g p → IsNamedP4 p
+  barred_good Edit p barred = absurd barred
+  barred_good Cograph p barred = path_good g is p barred
+  barred_good Quiet p barred = path_good g is p barred
+
+-- the line of an edit alone
+edit_good : (mode : SessionMode) (g : PlainGraph) (edit : script.Edit) (line : PlainLine) → IsGraph g → HasNames edit → AnswersEdit mode g edit line → IsWellFormedLine line
+edit_good mode g edit line is names answers = by_reason (reason_of g edit) refl ((edit_line mode g edit line).0 answers) where
+  by_reason : (o : Option EditReason) → reason_of g edit ≡ o → IsEditLine o mode (after g edit) line → IsWellFormedLine line
+  by_reason (Some reason) same told = subst IsWellFormedLine (sym told) (subst IsNamedOption same (named_reason g edit names))
+  by_reason None same (inl path) = subst IsWellFormedLine (sym path.2) (barred_good (after g edit) (after_is_graph g edit is names same) mode path.0 path.1)
+  by_reason None same (inr done) = done_good (after g edit) (after_is_graph g edit is names same) mode line done.1
+
+-- the line of a group at an edit, by the reason against it
+at_good : (mode : SessionMode) (n : ℕ) (g : PlainGraph) (edit : script.Edit) (Behind : Type 0) (line : PlainLine) (o : Option EditReason) → reason_of g edit ≡ o → IsGraph g → HasNames edit → IsEditNumber n → (IsGraph (after g edit) → Behind → IsWellFormedLine line)
+    → IsLineAt o mode n (after g edit) Behind line → IsWellFormedLine line
+at_good mode n g edit Behind line (Some reason) same is names number rest told = subst IsWellFormedLine (sym told) (number, subst IsNamedOption same (named_reason g edit names))
+at_good mode n g edit Behind line None same is names number rest (inl path) =
+    subst IsWellFormedLine (sym path.2) (number, barred_good (after g edit) (after_is_graph g edit is names same) mode path.0 path.1)
+at_good mode n g edit Behind line None same is names number rest (inr behind) = rest (after_is_graph g edit is names same) behind.1
+
+group_good : (mode : SessionMode) (n : ℕ) (g : PlainGraph) (edits : List script.Edit) (line : PlainLine) → IsGraph g → All HasNames edits → n + length edits ≤ EDITS → IsGroupLine mode n g edits line → IsWellFormedLine line
+group_good mode n g [] line is names few told = done_good g is mode line told
+group_good mode n g (edit ∷ edits) line is names few told =
+    at_good mode (n + 1) g edit (IsGroupLine mode (n + 1) (after g edit) edits line) line (reason_of g edit) refl is (All-head HasNames edit edits names) (omega arith, omega arith)
+    (λ next behind. group_good mode (n + 1) (after g edit) edits line next (All-tail HasNames edit edits names) (omega arith) behind) told
+
+-- the line of an undo
+undo_good : (mode : SessionMode) (earlier : List PlainGraph) (line : PlainLine) → AreGraphs earlier → IsUndoLine mode earlier line → IsWellFormedLine line
+undo_good mode [] line are told = subst IsWellFormedLine (sym told) tt
+undo_good mode (g ∷ earlier) line are told = done_good g are.0 mode line told
+
+-- the line of an item
+item_good : (mode : SessionMode) (s : State) (item : Item) (line : PlainLine) → IsGraph s.graph → AreGraphs s.earlier → IsScriptItem NAMES item → AnswersItem mode s item line → IsWellFormedLine line
+item_good mode s (One edit) line is are whole answers = edit_good mode s.graph edit line is whole.names answers
+item_good mode s (Group edits) line is are whole answers = let small = whole.small in group_good mode 0 s.graph edits line is whole.names (omega arith) answers
+item_good mode s Undo line is are whole answers = undo_good mode s.earlier line are answers
+
+items_good : (mode : SessionMode) (s : State) (items : List Item) (line : PlainLine) → IsGraph s.graph → AreGraphs s.earlier → All (IsScriptItem NAMES) items → ComesAtItems mode s items line → IsWellFormedLine line
+items_good mode s (item ∷ items) line is are whole may = item_good mode s item line is are (All-head (IsScriptItem NAMES) item items whole) may
+items_good mode s [] line is are whole may = last_good s.graph is mode line may
+
+opening_good : (mode : SessionMode) (g : PlainGraph) (items : List Item) (line : PlainLine) → IsGraph g → All (IsScriptItem NAMES) items → OpensSession mode g items line → IsWellFormedLine line
+opening_good Edit g items line is whole may = state_good g is Edit line may
+opening_good Cograph g items line is whole may = state_good g is Cograph line may
+opening_good Quiet g items line is whole (inl path) = state_good g is Quiet line path
+opening_good Quiet g items line is whole (inr rest) = items_good Quiet (first_state g) items line is tt whole rest.1
 
 pub coming_good : (p : Place) → IsSound p → (line : PlainLine) → MayCome p line → IsWellFormedLine line
 coming_good (before_head mode graphs) sound line may = subst IsWellFormedLine (sym may) tt
 coming_good (at_graphs mode (g ∷ graphs)) sound line may = graph_good g sound.0 mode line may
 coming_good (at_graphs mode []) sound line may = subst IsWellFormedLine (sym may) tt
-coming_good (before_session mode g edits) sound line may = subst IsWellFormedLine (sym may) tt
-coming_good (at_state mode g edits) sound line may = opening_good g sound.0 mode edits sound.1 line may
-coming_good (at_edits mode g edits) sound line may = edits_good g sound.0 mode edits sound.1 line may
+coming_good (before_session mode g items) sound line may = subst IsWellFormedLine (sym may) tt
+coming_good (at_state mode g items) sound line may = opening_good mode g items line sound.0 sound.1 may
+coming_good (at_items mode s items) sound line may = items_good mode s items line sound.0.0 sound.0.1 sound.1 may
 coming_good at_end sound line may = subst IsWellFormedLine (sym may) tt
 coming_good after_end sound line may = absurd may

@@ -6,7 +6,7 @@ mod Heads
 mod Listed
 mod FitsTree
 mod OneAnswer
-mod Applying
+mod Judged
 mod LineFeeds
 pub mod Spelled
 mod Judging

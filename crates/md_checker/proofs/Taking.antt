@@ -1,10 +1,14 @@
 -- Lines that are taken by their texts alone: they tell a tree or an orientation.
-use Rattle.std.proofs.Common.{◌≡◌, ◌⊎◌, ℕ, ◌+◌, ◌≤◌, Bool, List, [], ◌∷◌, ◌++◌, length, drop, Some, None, codes, refl, sym, ◌∙◌, ap, subst, inl, inr, length-drop, arith}
+use Rattle.std.proofs.Common.{◌≡◌, ◌⊎◌, ℕ, ◌+◌, ◌≤◌, Bool, true, List, [], ◌∷◌, ◌++◌, length, drop, Some, None, codes, refl, sym, ◌∙◌, ap, subst, inl, inr, length-drop, arith}
 use Rattle.std.specs.Prelude.{slice_get}
 use Rattle.std.proofs.lemmas.List.{nil_from_length}
 use Rattle.md_graph.specs.PlainGraph.{PlainGraph, adjacent}
 use Rattle.md_script.specs.declared.edit.Edit as script
+use Rattle.md_script.specs.declared.item.Item.{Item}
+use Rattle.md_script.specs.declared.item.Item.TheVariants.{One}
 use Rattle.md_script.specs.Edit.{reason_of, after}
+use Rattle.md_script.specs.Pasts.{TakesBack}
+use Rattle.md_script.specs.Histories.{HistoryFits}
 use Rattle.md_tree.specs.Trees.{PlainTree}
 use Rattle.md_tree.specs.StrongTrees.{IsTreeOf}
 use Rattle.md_tree.specs.TreeTexts.{tree_text}
@@ -16,15 +20,18 @@ use Rattle.md_report.specs.declared.line.SessionMode.{SessionMode}
 use Rattle.md_report.specs.declared.line.SessionMode.TheVariants.{Edit, Cograph, Quiet}
 use Rattle.md_report.specs.Lines.{PlainLine, tree, applied, oriented, arcs_text, line_text}
 use Rattle.md_report.specs.Orientations.{IsShortestLine}
-use Rattle.md_report.specs.Places.{Place, at_state, at_edits, at_end, Reports, AnswersEdit}
-use Rattle.md_report.specs.Sessions.{IsLineBy}
-use Rattle.md_report.specs.Cographs.{IsCographLineBy}
+use Rattle.md_report.specs.Sessions.{State, first_state}
+use Rattle.md_report.specs.ItemLines.{IsAllowed, IsDoneLine}
+use Rattle.md_report.specs.Places.{Place, at_state, at_items, at_end, Reports}
+use Rattle.md_report.specs.Steps.{state_of}
 use Rattle.md_checker.specs.declared.session_checker.SessionDue.{SessionDue}
-use Rattle.md_checker.specs.declared.session_checker.SessionDue.TheVariants.{State, Edits}
-use Rattle.md_checker.specs.declared.session_checker.DueTree.TheVariants.{First, Edited, Last}
+use Rattle.md_checker.specs.declared.session_checker.SessionDue.TheVariants.{State as state_due, Items}
+use Rattle.md_checker.specs.declared.session_checker.DueTree.TheVariants.{First, Answered, Last}
+use Rattle.md_checker.specs.Judged.{IsJudged}
 use Rattle.md_checker.specs.Standing.{session_place, MayTell, Takes}
 use Rattle.md_checker.specs.States.{IsStateText}
-use Rattle.md_checker.proofs.Moves.{left_edit}
+use Rattle.md_checker.proofs.Judged.{judged_edit}
+use Rattle.md_report.proofs.Groups.{drop_read}
 
 -- a graph's tree is a line that reports it
 pub tree_reports : (mode : GraphMode) (g : PlainGraph) (t : PlainTree) (text : List ℕ) → mode ≡ graph_modes.Tree → IsTreeOf (adjacent g) g.vertices t → text ≡ codes "t " ++ tree_text t →
@@ -43,52 +50,62 @@ shortest_reports mode g arcs text is has least spelled =
     (oriented arcs, subst (λ m. Reports m g (oriented arcs)) (sym is) line, spelled)
 
 -- the tree of the first state of a session
-pub first_taken : (mode : SessionMode) (g : PlainGraph) (edits : List script.Edit) (text : List ℕ) → (mode ≡ Quiet → ⊥) → IsStateText mode g (codes "t ") text →
-    Takes (at_state mode g edits) text (at_edits mode g edits)
-first_taken Edit g edits text told s = (tree (Some s.tree), (Some s.tree, s.fits, refl), s.spelled, refl)
-first_taken Cograph g edits text told s = (tree (Some s.tree), inr (s.cograph (λ e. cc), (Some s.tree, s.fits, refl)), s.spelled, refl)
-first_taken Quiet g edits text told s = absurd (told refl)
+pub first_taken : (mode : SessionMode) (g : PlainGraph) (items : List Item) (text : List ℕ) → (mode ≡ Quiet → ⊥) → IsStateText mode g (codes "t ") text →
+    Takes (at_state mode g items) text (at_items mode (first_state g) items)
+first_taken Edit g items text told s = (tree (Some s.tree), (Some s.tree, s.fits, refl), s.spelled, refl)
+first_taken Cograph g items text told s = (tree (Some s.tree), inr (s.cograph (λ e. cc), (Some s.tree, s.fits, refl)), s.spelled, refl)
+first_taken Quiet g items text told s = absurd (told refl)
+
+-- a graph of whose tree a text is may be a state
+pub text_allowed : (mode : SessionMode) (g : PlainGraph) (word text : List ℕ) → IsStateText mode g word text → IsAllowed mode g
+text_allowed Edit g word text s = tt
+text_allowed Cograph g word text s = s.cograph (λ e. cc)
+text_allowed Quiet g word text s = s.cograph (λ e. cc)
 
 -- the tree of the graph after an edit
-answers : (mode : SessionMode) (g : PlainGraph) (edit : script.Edit) (text : List ℕ) → (mode ≡ Quiet → ⊥) → reason_of g edit ≡ None → (s : IsStateText mode (after g edit) (codes "ok ") text) →
-    AnswersEdit mode g edit (applied (Some s.tree))
-answers Edit g edit text told none s = subst (λ r. IsLineBy r g edit (applied (Some s.tree))) (sym none) (Some s.tree, s.fits, refl)
-answers Cograph g edit text told none s =
-    subst (λ r. IsCographLineBy r g edit (applied (Some s.tree))) (sym none) (inr (s.cograph (λ e. cc), (Some s.tree, s.fits, refl)))
-answers Quiet g edit text told none s = absurd (told refl)
+text_done : (mode : SessionMode) (g : PlainGraph) (text : List ℕ) → (mode ≡ Quiet → ⊥) → (s : IsStateText mode g (codes "ok ") text) → IsDoneLine mode g (applied (Some s.tree))
+text_done Edit g text told s = (Some s.tree, s.fits, refl)
+text_done Cograph g text told s = (Some s.tree, s.fits, refl)
+text_done Quiet g text told s = absurd (told refl)
 
-pub edited_taken : (mode : SessionMode) (g next : PlainGraph) (edit : script.Edit) (edits : List script.Edit) (text : List ℕ) → (mode ≡ Quiet → ⊥) → reason_of g edit ≡ None → next ≡ after g edit →
-    IsStateText mode next (codes "ok ") text → Takes (at_edits mode g (edit ∷ edits)) text (at_edits mode next edits)
-edited_taken mode g next edit edits text told none is s =
-    let there : IsStateText mode (after g edit) (codes "ok ") text = subst (λ h. IsStateText mode h (codes "ok ") text) is s in
-    (applied (Some there.tree), answers mode g edit text told none there, there.spelled, ap (λ h. at_edits mode h edits) is)
+-- the edit is a step that the text tells
+pub edit_taken : (limit : ℕ) (mode : SessionMode) (g h : PlainGraph) (items left : List (List script.Edit)) (edit : script.Edit) (text : List ℕ) (told : mode ≡ Quiet → ⊥) (s : IsStateText mode h (codes "ok ") text)
+    → IsJudged true limit mode g items (One edit) (applied (Some s.tree)) h left → (more : List Item) → Takes (at_items mode (state_of g items) (One edit ∷ more)) text (at_items mode (state_of h left) more)
+edit_taken limit mode g h items left edit text told s judged more =
+    (applied (Some s.tree), judged.0.line_is, s.spelled, ap (λ x. at_items mode x more) judged.0.state_is)
 
--- the tree of the last state of a session in mode quiet
-pub last_taken : (due : SessionDue) (mode : SessionMode) (g : PlainGraph) (text : List ℕ) → (due ≡ State) ⊎ (due ≡ Edits) → mode ≡ Quiet → IsStateText mode g (codes "t ") text →
-    Takes (session_place due mode g []) text at_end
-last_taken due mode g text at quiet s =
-    subst (λ m. Takes (session_place due m g []) text at_end) (sym quiet)
+pub text_judged : (limit : ℕ) (mode : SessionMode) (g h : PlainGraph) (items left : List (List script.Edit)) (edit back : script.Edit) (text : List ℕ) (told : mode ≡ Quiet → ⊥) → HistoryFits limit (IsAllowed mode) g items → IsAllowed mode g → reason_of g edit ≡ None
+    → h ≡ after g edit → TakesBack limit g edit back → (s : IsStateText mode h (codes "ok ") text) → left ≡ (back ∷ []) ∷ items → IsJudged true limit mode g items (One edit) (applied (Some s.tree)) h left
+text_judged limit mode g h items left edit back text told fits allowed none next takes s is =
+    judged_edit limit mode g items (applied (Some s.tree)) h left fits allowed edit none h back next takes (text_allowed mode h (codes "ok ") text s) (text_done mode h text told s) refl is
+
+-- the tree of the last graph of a session in mode quiet
+last_taken : (due : SessionDue) (mode : SessionMode) (s : State) (text : List ℕ) → (due ≡ state_due) ⊎ (due ≡ Items) → (due ≡ state_due → s.earlier ≡ []) → mode ≡ Quiet → IsStateText mode s.graph (codes "t ") text →
+    Takes (session_place due mode s []) text at_end
+last_taken due mode s text at first quiet t =
+    subst (λ m. Takes (session_place due m s []) text at_end) (sym quiet)
     (elim at [
-      | inl is ↦ subst (λ d. Takes (session_place d Quiet g []) text at_end) (sym is) (tree (Some s.tree), inr (s.cograph (λ e. cc), (Some s.tree, s.fits, refl)), s.spelled, refl)
-      | inr is ↦ subst (λ d. Takes (session_place d Quiet g []) text at_end) (sym is) (tree (Some s.tree), (Some s.tree, s.fits, refl), s.spelled, refl)
+      | inl is ↦ subst (λ d. Takes (session_place d Quiet s []) text at_end) (sym is) (tree (Some t.tree), inr (t.cograph (λ e. (let f = sym quiet ∙ e in cc)), (Some t.tree, t.fits, refl)), t.spelled, refl)
+      | inr is ↦ subst (λ d. Takes (session_place d Quiet s []) text at_end) (sym is) (tree (Some t.tree), (Some t.tree, t.fits, refl), t.spelled, refl)
     ])
 
 -- ---- the same from the place at which the checker stands
 
-pub takes_first : (left : Bool) (due : SessionDue) (mode : SessionMode) (g : PlainGraph) (edits : List script.Edit) (text : List ℕ) (p : Place) → session_place due mode g edits ≡ p → MayTell First due mode left →
-    IsStateText mode g (codes "t ") text → Takes p text (at_edits mode g edits)
-takes_first left due mode g edits text p view may s =
-    subst (λ q. Takes q text (at_edits mode g edits)) (sym (ap (λ d. session_place d mode g edits) may.0) ∙ view) (first_taken mode g edits text may.1 s)
+pub takes_first : (left : Bool) (due : SessionDue) (mode : SessionMode) (s : State) (items : List Item) (text : List ℕ) (p : Place) → session_place due mode s items ≡ p → MayTell First due mode left → s.earlier ≡ [] →
+    IsStateText mode s.graph (codes "t ") text → Takes p text (at_items mode s items)
+takes_first left due mode s items text p view may none t =
+    subst (λ q. Takes q text (at_items mode s items)) (sym (ap (λ d. session_place d mode s items) may.0) ∙ view)
+    (subst (λ l. Takes (at_state mode s.graph items) text (at_items mode (record { graph = s.graph; earlier = l }) items)) (sym none) (first_taken mode s.graph items text may.1 t))
 
-pub takes_edited : (left : Bool) (due : SessionDue) (mode : SessionMode) (g next : PlainGraph) (all : List script.Edit) (n : ℕ) (edit : script.Edit) (text : List ℕ) (p : Place) →
-    session_place due mode g (drop n all) ≡ p → MayTell Edited due mode left → slice_get all n ≡ Some edit →
-    ((edits : List script.Edit) → Takes (at_edits mode g (edit ∷ edits)) text (at_edits mode next edits)) → Takes p text (at_edits mode next (drop (n + 1) all))
-takes_edited left due mode g next all n edit text p view may found takes =
-    subst (λ q. Takes q text (at_edits mode next (drop (n + 1) all)))
-    (sym (ap (λ d. session_place d mode g (drop n all)) may.0 ∙ ap (λ l. at_edits mode g l) (left_edit all n edit found)) ∙ view) (takes (drop (n + 1) all))
+pub takes_answered : (left : Bool) (due : SessionDue) (mode : SessionMode) (s next : State) (all : List Item) (n : ℕ) (item : Item) (text : List ℕ) (p : Place) →
+    session_place due mode s (drop n all) ≡ p → MayTell Answered due mode left → slice_get all n ≡ Some item →
+    ((items : List Item) → Takes (at_items mode s (item ∷ items)) text (at_items mode next items)) → Takes p text (at_items mode next (drop (n + 1) all))
+takes_answered left due mode s next all n item text p view may found takes =
+    subst (λ q. Takes q text (at_items mode next (drop (n + 1) all)))
+    (sym (ap (λ d. session_place d mode s (drop n all)) may.0 ∙ ap (λ l. at_items mode s l) (drop_read all n item found)) ∙ view) (takes (drop (n + 1) all))
 
-pub takes_last : (left : Bool) (due : SessionDue) (mode : SessionMode) (g : PlainGraph) (all : List script.Edit) (n : ℕ) (text : List ℕ) (p : Place) → session_place due mode g (drop n all) ≡ p →
-    MayTell Last due mode left → length all ≤ n → IsStateText mode g (codes "t ") text → Takes p text at_end
-takes_last left due mode g all n text p view may past s =
+pub takes_last : (left : Bool) (due : SessionDue) (mode : SessionMode) (s : State) (all : List Item) (n : ℕ) (text : List ℕ) (p : Place) → session_place due mode s (drop n all) ≡ p →
+    MayTell Last due mode left → length all ≤ n → (due ≡ state_due → s.earlier ≡ []) → IsStateText mode s.graph (codes "t ") text → Takes p text at_end
+takes_last left due mode s all n text p view may past first t =
     let none : drop n all ≡ [] = nil_from_length (drop n all) (omega (arith, length-drop n all)) in
-    subst (λ q. Takes q text at_end) (sym (ap (λ l. session_place due mode g l) none) ∙ view) (last_taken due mode g text may.0 may.1 s)
+    subst (λ q. Takes q text at_end) (sym (ap (λ l. session_place due mode s l) none) ∙ view) (last_taken due mode s text may.0 first may.1 t)

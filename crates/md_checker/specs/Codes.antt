@@ -6,12 +6,15 @@ use Rattle.std.proofs.Common.{inl, inr}
 use base.Stored.{coded_unit}
 use Rattle.md_graph.specs.PlainGraph.{PlainGraph, graph_code}
 use Rattle.md_script.specs.declared.edit.Edit as script
-use Rattle.md_script.specs.declared.edit.Edit.TheVariants.{AddEdge, DelEdge, AddVertex, DelVertex}
+use Rattle.md_script.specs.declared.item.Item.{Item}
+use Rattle.md_script.specs.declared.item.Item.TheVariants.{One, Undo, Group}
+use Rattle.md_script.specs.Histories.{edit_code}
 use Rattle.md_report.specs.declared.line.GraphMode.{GraphMode}
 use Rattle.md_report.specs.declared.line.GraphMode.TheVariants.{Tree, Compare, Shortest, Permute}
 use Rattle.md_report.specs.declared.line.SessionMode.{SessionMode}
 use Rattle.md_report.specs.declared.line.SessionMode.TheVariants.{Edit, Cograph, Quiet}
-use Rattle.md_report.specs.Places.{Place, before_head, at_graphs, before_session, at_state, at_edits, at_end, after_end}
+use Rattle.md_report.specs.Sessions.{State}
+use Rattle.md_report.specs.Places.{Place, before_head, at_graphs, before_session, at_state, at_items, at_end, after_end}
 
 -- a mode over graphs as a number, and back
 abbrev pub graph_mode_number : GraphMode → ℕ
@@ -54,32 +57,32 @@ session_mode_back Quiet = refl
 abbrev pub session_mode_code : Coded SessionMode
 session_mode_code = code_by ℕ coded_ℕ session_mode_number session_mode_at session_mode_back
 
--- an edit by its parts, and back
-abbrev pub EditParts : Type 0
-EditParts = (ℕ × ℕ) ⊎ ((ℕ × ℕ) ⊎ ((ℕ × List ℕ) ⊎ ℕ))
+-- an item by its parts, and back
+abbrev pub ItemParts : Type 0
+ItemParts = script.Edit ⊎ (List script.Edit ⊎ Unit {0})
 
-abbrev pub edit_parts : script.Edit → EditParts
-edit_parts (AddEdge u v) = inl (u, v)
-edit_parts (DelEdge u v) = inr (inl (u, v))
-edit_parts (AddVertex x neighbours) = inr (inr (inl (x, neighbours)))
-edit_parts (DelVertex x) = inr (inr (inr x))
+abbrev pub item_parts : Item → ItemParts
+item_parts (One edit) = inl edit
+item_parts (Group edits) = inr (inl edits)
+item_parts Undo = inr (inr tt)
 
-abbrev pub edit_of_parts : EditParts → script.Edit
-edit_of_parts (inl p) = AddEdge p.0 p.1
-edit_of_parts (inr (inl p)) = DelEdge p.0 p.1
-edit_of_parts (inr (inr (inl p))) = AddVertex p.0 p.1
-edit_of_parts (inr (inr (inr x))) = DelVertex x
+abbrev pub item_of_parts : ItemParts → Item
+item_of_parts (inl edit) = One edit
+item_of_parts (inr (inl edits)) = Group edits
+item_of_parts (inr (inr _)) = Undo
 
-pub edit_back : (edit : script.Edit) → edit_of_parts (edit_parts edit) ≡ edit
-edit_back (AddEdge u v) = refl
-edit_back (DelEdge u v) = refl
-edit_back (AddVertex x neighbours) = refl
-edit_back (DelVertex x) = refl
+pub item_back : (item : Item) → item_of_parts (item_parts item) ≡ item
+item_back (One edit) = refl
+item_back (Group edits) = refl
+item_back Undo = refl
 
-abbrev pub edit_code : Coded script.Edit
-edit_code =
-    code_by EditParts (coded⊎ (coded× coded_ℕ coded_ℕ) (coded⊎ (coded× coded_ℕ coded_ℕ) (coded⊎ (coded× coded_ℕ (coded_list coded_ℕ)) coded_ℕ)))
-    edit_parts edit_of_parts edit_back
+abbrev pub item_code : Coded Item
+item_code = code_by ItemParts (coded⊎ edit_code (coded⊎ (coded_list edit_code) coded_unit)) item_parts item_of_parts item_back
+
+-- a state is stored as its two parts
+abbrev pub state_code : Coded State
+state_code =
+    code_by (PlainGraph × List PlainGraph) (coded× graph_code (coded_list graph_code)) (λ s. (s.graph, s.earlier)) (λ p. record { graph = p.0; earlier = p.1 }) (λ _. refl)
 
 -- what is left of a report over graphs, and of a session
 abbrev pub GraphParts : Type 0
@@ -89,21 +92,28 @@ abbrev pub graph_parts_code : Coded GraphParts
 graph_parts_code = coded× graph_mode_code (coded_list graph_code)
 
 abbrev pub SessionParts : Type 0
-SessionParts = SessionMode × (PlainGraph × List script.Edit)
+SessionParts = SessionMode × (PlainGraph × List Item)
 
 abbrev pub session_parts_code : Coded SessionParts
-session_parts_code = coded× session_mode_code (coded× graph_code (coded_list edit_code))
+session_parts_code = coded× session_mode_code (coded× graph_code (coded_list item_code))
+
+-- the same at a state
+abbrev pub StateParts : Type 0
+StateParts = SessionMode × (State × List Item)
+
+abbrev pub state_parts_code : Coded StateParts
+state_parts_code = coded× session_mode_code (coded× state_code (coded_list item_code))
 
 -- a place by its parts, and back
 abbrev pub PlaceParts : Type 0
-PlaceParts = GraphParts ⊎ (GraphParts ⊎ (SessionParts ⊎ (SessionParts ⊎ (SessionParts ⊎ (Unit {0} ⊎ Unit {0})))))
+PlaceParts = GraphParts ⊎ (GraphParts ⊎ (SessionParts ⊎ (SessionParts ⊎ (StateParts ⊎ (Unit {0} ⊎ Unit {0})))))
 
 abbrev pub place_parts : Place → PlaceParts
 place_parts (before_head mode graphs) = inl (mode, graphs)
 place_parts (at_graphs mode graphs) = inr (inl (mode, graphs))
-place_parts (before_session mode g edits) = inr (inr (inl (mode, (g, edits))))
-place_parts (at_state mode g edits) = inr (inr (inr (inl (mode, (g, edits)))))
-place_parts (at_edits mode g edits) = inr (inr (inr (inr (inl (mode, (g, edits))))))
+place_parts (before_session mode g items) = inr (inr (inl (mode, (g, items))))
+place_parts (at_state mode g items) = inr (inr (inr (inl (mode, (g, items)))))
+place_parts (at_items mode s items) = inr (inr (inr (inr (inl (mode, (s, items))))))
 place_parts at_end = inr (inr (inr (inr (inr (inl tt)))))
 place_parts after_end = inr (inr (inr (inr (inr (inr tt)))))
 
@@ -112,20 +122,20 @@ place_of_parts (inl p) = before_head p.0 p.1
 place_of_parts (inr (inl p)) = at_graphs p.0 p.1
 place_of_parts (inr (inr (inl p))) = before_session p.0 p.1.0 p.1.1
 place_of_parts (inr (inr (inr (inl p)))) = at_state p.0 p.1.0 p.1.1
-place_of_parts (inr (inr (inr (inr (inl p))))) = at_edits p.0 p.1.0 p.1.1
+place_of_parts (inr (inr (inr (inr (inl p))))) = at_items p.0 p.1.0 p.1.1
 place_of_parts (inr (inr (inr (inr (inr (inl _)))))) = at_end
 place_of_parts (inr (inr (inr (inr (inr (inr _)))))) = after_end
 
 pub place_back : (p : Place) → place_of_parts (place_parts p) ≡ p
 place_back (before_head mode graphs) = refl
 place_back (at_graphs mode graphs) = refl
-place_back (before_session mode g edits) = refl
-place_back (at_state mode g edits) = refl
-place_back (at_edits mode g edits) = refl
+place_back (before_session mode g items) = refl
+place_back (at_state mode g items) = refl
+place_back (at_items mode s items) = refl
 place_back at_end = refl
 place_back after_end = refl
 
 abbrev pub place_code : Coded Place
 place_code =
-    code_by PlaceParts (coded⊎ graph_parts_code (coded⊎ graph_parts_code (coded⊎ session_parts_code (coded⊎ session_parts_code (coded⊎ session_parts_code (coded⊎ coded_unit coded_unit))))))
+    code_by PlaceParts (coded⊎ graph_parts_code (coded⊎ graph_parts_code (coded⊎ session_parts_code (coded⊎ session_parts_code (coded⊎ state_parts_code (coded⊎ coded_unit coded_unit))))))
     place_parts place_of_parts place_back

@@ -10,3 +10,4 @@ pub mod Gathered
 pub mod HeadPairs
 pub mod TextFits
 pub mod Hands
+pub mod Judged

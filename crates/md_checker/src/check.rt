@@ -2,7 +2,7 @@
 ghost use Rattle.std.specs.Prelude.{◌≡◌, ◌<◌, List, [], ◌∷◌, ◌++◌, None, length, IfOk, IfErr, IfSome, IfNone};
 ghost use Rattle.std.specs.Option.{option_or};
 ghost use Rattle.md_graph.specs.PlainGraph.{PlainGraph};
-ghost use Rattle.md_script.specs.declared.edit.Edit.{Edit};
+ghost use Rattle.md_script.specs.declared.item.Item.{Item};
 ghost use Rattle.md_script.specs.File.{SpellsScript};
 ghost use Rattle.md_input.specs.Spelling.{SpellsGraphs};
 ghost use Rattle.md_input.specs.Faults.{graph_fault, one_graph_fault, script_fault, IsStopAt};
@@ -50,9 +50,9 @@ pub fn check_session(
     script: &[u8],
     report: &[u8],
 ) -> Result<CheckAnswer, InputStop>
-    ensures answer { IfOk result (λ answer. (g : PlainGraph) × (edits : List Edit)
-        × SpellsGraphs from graph.now (g ∷ []) × SpellsScript script.now edits
-        × IsCheckAnswer (before_session mode g edits) report.now answer) }
+    ensures answer { IfOk result (λ answer. (g : PlainGraph) × (items : List Item)
+        × SpellsGraphs from graph.now (g ∷ []) × SpellsScript script.now items
+        × IsCheckAnswer (before_session mode g items) report.now answer) }
     ensures faultless { IfOk result (λ _.
         option_or (one_graph_fault from graph.now) (script_fault script.now) ≡ None) }
     ensures stops { IfErr result (IsStopAt

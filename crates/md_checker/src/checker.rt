@@ -2,7 +2,7 @@
 ghost use Rattle.std.specs.Prelude.{◌≡◌, ◌↔◌, List, [], ◌∷◌, None, if◌then◌else◌, IfOk, IfErr, IsErr, IsTrue};
 ghost use Rattle.std.specs.Option.{option_or};
 ghost use Rattle.md_graph.specs.PlainGraph.{PlainGraph};
-ghost use Rattle.md_script.specs.declared.edit.Edit.{Edit};
+ghost use Rattle.md_script.specs.declared.item.Item.{Item};
 ghost use Rattle.md_script.specs.File.{SpellsScript};
 ghost use Rattle.md_input.specs.Inputs.{graph_of_inputs, script_of_inputs, HaveRoom};
 ghost use Rattle.md_input.specs.Spelling.{SpellsGraphs};
@@ -88,18 +88,17 @@ impl<'a> Checker<'a> {
         file: &[u8],
         script: &[u8],
     ) -> Result<Checker<'a>, InputStop>
-        ensures first { IfOk result (λ c. (g : PlainGraph) × (edits : List Edit)
-            × SpellsGraphs from file.now (g ∷ []) × SpellsScript script.now edits
-            × (c ≡ before_session mode g edits)) }
+        ensures first { IfOk result (λ c. (g : PlainGraph) × (items : List Item)
+            × SpellsGraphs from file.now (g ∷ []) × SpellsScript script.now items
+            × (c ≡ before_session mode g items)) }
         ensures faultless { IfOk result (λ _.
             option_or (one_graph_fault from file.now) (script_fault script.now) ≡ None) }
         ensures stops { IfErr result (IsStopAt
             (option_or (one_graph_fault from file.now) (script_fault script.now))) }
     {
         let inputs = session_inputs(alloc, from, file, script)?;
-        Ok(Checker {
-            inner: Inner::over_inputs(mode, inputs),
-        })
+        let inner = Inner::over_inputs(alloc, mode, inputs)?;
+        Ok(Checker { inner })
     }
 
     /// Whether the report is at its end.
@@ -174,18 +173,24 @@ impl<'a> Checker<'a> {
 
 impl<'a> Inner<'a> {
     // The checker of a report of a session over these inputs, before its head. Condition: the rows
-    // of the graph have room for the names in the script.
-    fn over_inputs(mode: SessionMode, inputs: SessionInputs) -> Inner<'a>
+    // of the graph have room for the names in the script. Errors: want of memory.
+    fn over_inputs(
+        alloc: Global,
+        mode: SessionMode,
+        inputs: SessionInputs,
+    ) -> Result<Inner<'a>, Memory>
         requires { HaveRoom inputs }
-        ensures { report_place result
-            ≡ before_session mode (graph_of_inputs inputs) (script_of_inputs inputs) }
+        ensures { IfOk result (λ inner. report_place inner
+            ≡ before_session mode (graph_of_inputs inputs) (script_of_inputs inputs)) }
     {
         match inputs {
             SessionInputs::Broad(graph, script) => {
-                Inner::OverBroad(SessionChecker::new(mode, graph, script))
+                let checker = SessionChecker::new(alloc, mode, graph, script)?;
+                Ok(Inner::OverBroad(checker))
             }
             SessionInputs::Large(graph, script) => {
-                Inner::OverLarge(SessionChecker::new(mode, graph, script))
+                let checker = SessionChecker::new(alloc, mode, graph, script)?;
+                Ok(Inner::OverLarge(checker))
             }
         }
     }

@@ -1,25 +1,20 @@
-//! Whether a line is one that may report a graph, or answer an edit.
-ghost use Rattle.std.specs.Prelude.{◌≡◌, ◌*◌, ◌↔◌, List, ◌∷◌, None, Ok, true, if◌then◌else◌, IfOk, IsErr, IsTrue};
-ghost use Rattle.md_graph.specs.PlainGraph.{PlainGraph, IsGraph, adjacent};
-ghost use Rattle.md_modules.specs.declared.induced_paths.P4.{P4};
+//! Whether a line is one that may report a graph, or the first or last state of a session.
+ghost use Rattle.std.specs.Prelude.{◌≡◌, ◌*◌, ◌↔◌, Ok, true, IfOk, IsTrue};
+ghost use Rattle.md_graph.specs.PlainGraph.{adjacent};
 ghost use Rattle.md_comparability.specs.Chains.{HasForcingChain, IsForcingChain, IsShortestChain};
 ghost use Rattle.md_forcing.specs.declared.arc_set.Side.TheVariants.{NonEdges};
 ghost use Rattle.md_forcing.specs.Sides.{adjacent_on};
 ghost use Rattle.md_tree.specs.Plain.{plain_option};
 ghost use Rattle.md_tree.specs.StrongTrees.{IsTree};
 ghost use Rattle.md_tree.specs.WellFormed.{IsWellFormed};
-ghost use Rattle.md_script.specs.Edit.{HasNamesBelow, reason_of, after};
-ghost use Rattle.md_script.specs.declared.edit.Edit as script;
-ghost use Rattle.md_report.specs.declared.line.SessionMode.TheVariants.{Quiet};
-ghost use Rattle.md_report.specs.Lines.{PlainLine, line_text, plain_line, tree, applied, refused, not_cograph};
+ghost use Rattle.md_report.specs.Lines.{plain_line, tree, not_cograph};
 ghost use Rattle.md_report.specs.WellFormedLines.{IsWellFormedLine};
-ghost use Rattle.md_report.specs.Places.{at_state, at_edits, Reports, ReportsState, AnswersEdit, ClosesEdits};
-ghost use Rattle.md_report.specs.Sessions.{HasTreeLine, state_behind};
+ghost use Rattle.md_report.specs.Places.{Reports, ReportsState, ClosesItems};
+ghost use Rattle.md_report.specs.Sessions.{HasTreeLine};
 ghost use Rattle.md_report.specs.Orientations.{IsOrientationLine, IsShortestLine};
 ghost use Rattle.md_report.specs.Models.{IsModelLine};
-ghost use Rattle.md_report.specs.Cographs.{IsCograph, IsP4Of, HasP4Line, IsOpeningLine};
-ghost use Rattle.md_checker.specs.Standing.{Takes};
-ghost use Rattle.md_checker.specs.States.{IsStateTree, IsStateText, IsStateAlone, IsRefusedPath};
+ghost use Rattle.md_report.specs.Cographs.{IsCograph, HasP4Line, IsOpeningLine};
+ghost use Rattle.md_checker.specs.States.{IsStateText};
 
 use crate::certificates::{is_forcing_chain, is_least_edge_orientation, realise};
 use crate::fixed_lines::is_end;
@@ -29,9 +24,8 @@ use md_comparability::{ClassOrChosen, orient_classes};
 use md_forcing::{Chain, Side};
 use md_graph::{Graph, GraphOf, Memory};
 use md_levels::is_shortest;
-use md_modules::{P4, is_p4};
-use md_report::{GraphMode, Line, SessionMode, made_p4};
-use md_script::{Edit, EditReason, apply, inverse, reason, take_back};
+use md_modules::is_p4;
+use md_report::{GraphMode, Line, SessionMode};
 use md_tree::{Tree, has_no_prime};
 use std::alloc::Global;
 
@@ -203,16 +197,16 @@ fn is_path_line<const W: usize>(graph: &GraphOf<W>, line: &Line) -> bool
     }
 }
 
-// Whether the line is the one behind all answers, where the graph is the last state. Condition: the
+// Whether the line is the one behind all answers, where the graph is the last one. Condition: the
 // line is well-formed.
-pub(crate) fn closes_edits<const W: usize>(
+pub(crate) fn closes_items<const W: usize>(
     alloc: Global,
     mode: SessionMode,
     graph: &GraphOf<W>,
     line: &Line,
 ) -> Result<bool, Memory>
     requires { IsWellFormedLine (plain_line line.now) }
-    ensures { IfOk result (λ fit. IsTrue fit ↔ ClosesEdits mode graph.now (plain_line line.now)) }
+    ensures { IfOk result (λ fit. IsTrue fit ↔ ClosesItems mode graph.now (plain_line line.now)) }
 {
     match mode {
         SessionMode::Edit => Ok(is_end(line)),
@@ -231,32 +225,14 @@ fn is_opening_line<const W: usize>(
     ensures { IfOk result (λ fit. IsTrue fit ↔ IsOpeningLine graph.now (plain_line line.now)) }
 {
     match line {
-        Line::Tree(tree) => is_state_tree(alloc, SessionMode::Cograph, graph, tree),
+        Line::Tree(tree) => is_tree_of_cograph(alloc, graph, tree),
         Line::NotCograph(p) => Ok(is_p4(graph, p)),
         _ => Ok(false),
     }
 }
 
-// Whether the tree is that of the graph, which may be a state of a session of the mode.
-fn is_state_tree<const W: usize>(
-    alloc: Global,
-    mode: SessionMode,
-    graph: &GraphOf<W>,
-    tree: &Option<Tree>,
-) -> Result<bool, Memory>
-    requires { IsWellFormed (plain_option tree.now) }
-    ensures { IfOk result (λ fit. IsTrue fit
-        ↔ IsStateTree mode graph.now (plain_option tree.now)) }
-{
-    match mode {
-        SessionMode::Edit => fits(alloc, graph, tree),
-        SessionMode::Cograph => is_tree_of_cograph(alloc, graph, tree),
-        SessionMode::Quiet => Ok(false),
-    }
-}
-
 // Whether the graph is a cograph, and the tree is that of it.
-fn is_tree_of_cograph<const W: usize>(
+pub(crate) fn is_tree_of_cograph<const W: usize>(
     alloc: Global,
     graph: &GraphOf<W>,
     tree: &Option<Tree>,
@@ -272,179 +248,12 @@ fn is_tree_of_cograph<const W: usize>(
     fits(alloc, graph, tree)
 }
 
-// Whether the line answers the edit at the graph, which then is the state behind it; else, and for
-// want of memory, it stays. Conditions: the line is well-formed, and the names in the edit are
-// below `64 * W`; in mode quiet the graph is a cograph.
-pub(crate) fn answers_edit<const W: usize>(
-    alloc: Global,
-    mode: SessionMode,
-    graph: &mut GraphOf<W>,
-    edit: &Edit,
-    line: &Line,
-) -> Result<bool, Memory>
-    requires line { IsWellFormedLine (plain_line line.now) }
-    requires names { HasNamesBelow (64 * W) edit.now }
-    requires cograph { mode ≡ Quiet → IsCograph graph.old }
-    ensures may { IfOk result (λ taken.
-        IsTrue taken ↔ AnswersEdit mode graph.old edit.now (plain_line line.now)) }
-    ensures next { IfOk result (λ taken. graph.new
-        ≡ (if taken then state_behind graph.old edit.now (plain_line line.now) else graph.old)) }
-    ensures stays { IsErr result → graph.new ≡ graph.old }
-{
-    if let Some(reason) = reason(graph, edit) {
-        return Ok(is_refusal(line, reason));
-    }
-    match line {
-        Line::Applied(tree) => is_applied(alloc, mode, graph, edit, tree),
-        Line::AppliedQuiet => Ok(is_applied_alone(mode, graph, edit)),
-        Line::RefusedP4(p) => Ok(is_refused_p4(mode, graph, edit, p)),
-        _ => Ok(false),
-    }
-}
-
-// Whether the text is that of a line that tells the tree of the graph after the edit, which then is
-// the state; else, and for want of memory, the graph stays. A false says nothing. Conditions: the
-// names in the edit are below `64 * W`, and the mode is not quiet.
-pub(crate) fn applies_by_text<const W: usize>(
-    alloc: Global,
-    mode: SessionMode,
-    graph: &mut GraphOf<W>,
-    edit: &Edit,
-    text: &[u8],
-) -> Result<bool, Memory>
-    requires names { HasNamesBelow (64 * W) edit.now }
-    requires told { mode ≡ Quiet → ⊥ }
-    ensures takes { IfOk result (λ taken. IsTrue taken → (edits : List script.Edit)
-        → Takes (at_edits mode graph.old (edit.now ∷ edits)) text.now
-        (at_edits mode graph.new edits)) }
-    ensures refused { IfOk result (λ taken. ¬ IsTrue taken → graph.new ≡ graph.old) }
-    ensures stays { IsErr result → graph.new ≡ graph.old }
-{
-    if !text.starts_with(b"ok ") {
-        return Ok(false);
-    }
-    if let Some(_) = reason(graph, edit) {
-        return Ok(false);
-    }
-    let past = inverse(graph, edit);
-    apply(graph, edit);
-    let fit = is_word_and_state(alloc, mode, graph, b"ok ", text);
-    if !is_true(&fit) {
-        take_back(graph, &past);
-    }
-    fit
-}
-
-// Whether the line refuses an edit for the reason.
-fn is_refusal(line: &Line, reason: EditReason) -> bool
-    ensures { IsTrue result ↔ (plain_line line.now ≡ refused reason) }
-{
-    match line {
-        Line::Refused(named) => *named == reason,
-        _ => false,
-    }
-}
-
-// Whether the tree is that of the graph after the edit, which may be a state of a session of the
-// mode: the graph is that one then; else, and for want of memory, it stays. Condition: there is no
-// reason against the edit.
-fn is_applied<const W: usize>(
-    alloc: Global,
-    mode: SessionMode,
-    graph: &mut GraphOf<W>,
-    edit: &Edit,
-    tree: &Option<Tree>,
-) -> Result<bool, Memory>
-    requires applies { reason_of graph.old edit.now ≡ None }
-    requires names { HasNamesBelow (64 * W) edit.now }
-    requires tree { IsWellFormed (plain_option tree.now) }
-    ensures may { IfOk result (λ fit. IsTrue fit
-        ↔ IsStateTree mode (after graph.old edit.now) (plain_option tree.now)) }
-    ensures next { IfOk result (λ fit. graph.new
-        ≡ (if fit then after graph.old edit.now else graph.old)) }
-    ensures stays { IsErr result → graph.new ≡ graph.old }
-{
-    let past = inverse(graph, edit);
-    apply(graph, edit);
-    let fit = is_state_tree(alloc, mode, graph, tree);
-    if !is_true(&fit) {
-        take_back(graph, &past);
-    }
-    fit
-}
-
-// Whether the graph after the edit may be a state of a session of the mode, of which no tree is
-// told: the graph is that one then, and else stays. Conditions: there is no reason against the
-// edit, and in mode quiet the graph is a cograph.
-fn is_applied_alone<const W: usize>(mode: SessionMode, graph: &mut GraphOf<W>, edit: &Edit) -> bool
-    requires applies { reason_of graph.old edit.now ≡ None }
-    requires names { HasNamesBelow (64 * W) edit.now }
-    requires cograph { mode ≡ Quiet → IsCograph graph.old }
-    ensures may { IsTrue result ↔ IsStateAlone mode (after graph.old edit.now) }
-    ensures next { graph.new ≡ (if result then after graph.old edit.now else graph.old) }
-{
-    match mode {
-        SessionMode::Edit => false,
-        SessionMode::Cograph => false,
-        SessionMode::Quiet => keeps_cograph(graph, edit),
-    }
-}
-
-// Whether the graph after the edit is a cograph: the graph is that one then, and else stays.
-// Conditions: there is no reason against the edit, and the graph is a cograph.
-fn keeps_cograph<const W: usize>(graph: &mut GraphOf<W>, edit: &Edit) -> bool
-    requires applies { reason_of graph.old edit.now ≡ None }
-    requires names { HasNamesBelow (64 * W) edit.now }
-    requires cograph { IsCograph graph.old }
-    ensures may { IsTrue result ↔ IsCograph (after graph.old edit.now) }
-    ensures next { graph.new ≡ (if result then after graph.old edit.now else graph.old) }
-{
-    let past = inverse(graph, edit);
-    apply(graph, edit);
-    if let Some(_) = made_p4(graph, edit) {
-        take_back(graph, &past);
-        return false;
-    }
-    true
-}
-
 // Whether an answer is that something is so.
-fn is_true(answer: &Result<bool, Memory>) -> bool
+pub(crate) fn is_true(answer: &Result<bool, Memory>) -> bool
     ensures { IsTrue result ↔ (answer.now ≡ Ok true) }
 {
     match answer {
         Ok(yes) => *yes,
         Err(_) => false,
-    }
-}
-
-// Whether the mode refuses the edit since the graph after it has the induced P4. The graph stays.
-// Condition: there is no reason against the edit.
-fn is_refused_p4<const W: usize>(
-    mode: SessionMode,
-    graph: &mut GraphOf<W>,
-    edit: &Edit,
-    p: &P4,
-) -> bool
-    requires applies { reason_of graph.old edit.now ≡ None }
-    requires names { HasNamesBelow (64 * W) edit.now }
-    ensures is { IsTrue result ↔ IsRefusedPath mode (after graph.old edit.now) p.now }
-    ensures stays { graph.new ≡ graph.old }
-{
-    let past = inverse(graph, edit);
-    apply(graph, edit);
-    let is = is_path_of_state(mode, graph, p);
-    take_back(graph, &past);
-    is
-}
-
-// Whether no state of a session of the mode may have an induced P4, and the graph has this one.
-fn is_path_of_state<const W: usize>(mode: SessionMode, graph: &GraphOf<W>, p: &P4) -> bool
-    ensures { IsTrue result ↔ IsRefusedPath mode graph.now p.now }
-{
-    match mode {
-        SessionMode::Edit => false,
-        SessionMode::Cograph => is_p4(graph, p),
-        SessionMode::Quiet => is_p4(graph, p),
     }
 }

@@ -11,6 +11,7 @@ mod due_graph;
 mod fixed_lines;
 mod graph_checker;
 mod head_pairs;
+mod item_answers;
 mod judgements;
 pub mod laws;
 mod piece_compare;

@@ -1,25 +1,26 @@
 //! Checks the lines of a report of a session, one after the other.
 ghost use Rattle.std.specs.Prelude.{◌≡◌, ◌*◌, ◌≤◌, ◌<◌, ◌+◌, ◌↔◌, List, [], if◌then◌else◌, length, drop, IfOk, IfSome, IfNone, IsErr, IsTrue};
-ghost use Rattle.md_graph.specs.PlainGraph.{PlainGraph};
 ghost use Rattle.std.specs.List.{All};
-ghost use Rattle.md_script.specs.Edit.{HasNamesBelow};
-ghost use Rattle.md_script.specs.declared.edit.Edit as script;
+ghost use Rattle.md_script.specs.declared.item.Item.{Item};
+ghost use Rattle.md_script.specs.Items.{HasItemNamesBelow};
+ghost use Rattle.md_script.specs.Histories.{HistoryFits};
 ghost use Rattle.md_report.specs.declared.line.SessionMode.TheVariants.{Quiet};
 ghost use Rattle.md_report.specs.Lines.{plain_line};
 ghost use Rattle.md_report.specs.WellFormedLines.{IsWellFormedLine};
-ghost use Rattle.md_report.specs.Cographs.{IsCograph, edits_behind};
-ghost use Rattle.md_report.specs.Places.{before_session, at_state, at_edits, after_end, closed_place, MayCome, next_place};
-ghost use Rattle.md_checker.specs.declared.session_checker.SessionDue.TheVariants.{Edits};
+ghost use Rattle.md_report.specs.Sessions.{State, first_state};
+ghost use Rattle.md_report.specs.ItemLines.{IsAllowed};
+ghost use Rattle.md_report.specs.Places.{before_session, at_state, at_items, after_end, closed_place, items_behind, tells_path, MayCome, next_place};
+ghost use Rattle.md_report.specs.Steps.{state_of};
+ghost use Rattle.md_checker.specs.declared.session_checker.SessionDue.TheVariants.{Head, State as StateDue, Items};
 ghost use Rattle.md_checker.specs.Standing.{session_place, IsStep, MayTell, Takes};
 
 use crate::fixed_lines::{is_end, is_head};
-use crate::judgements::{
-    answers_edit, applies_by_text, closes_edits, is_word_and_state, reports_state,
-};
+use crate::item_answers::{answers_item, applies_by_text};
+use crate::judgements::{closes_items, is_word_and_state, reports_state};
 use md_graph::{GraphOf, Memory};
 use md_modules::find_p4;
 use md_report::{Line, SessionMode};
-use md_script::Script;
+use md_script::{HistoryOf, Item, Script};
 use std::alloc::Global;
 use std::marker::Model;
 
@@ -30,8 +31,8 @@ enum SessionDue {
     Head,
     // The line of the first state.
     State,
-    // The answer to the next edit; the line behind all answers where no edit is left.
-    Edits,
+    // The answer to the next item; the line behind all answers where no item is left.
+    Items,
     // The last line.
     End,
     // None.
@@ -43,13 +44,13 @@ enum SessionDue {
 enum DueTree {
     // The first.
     First,
-    // The one behind the next edit.
-    Edited,
-    // The one behind all edits, in mode quiet.
+    // The one behind the next item.
+    Answered,
+    // The one behind all items, in mode quiet.
     Last,
 }
 
-// Where a line that came leads: which line is due, and how many edits are answered or need no
+// Where a line that came leads: which line is due, and how many items are answered or need no
 // answer.
 #[derive(Clone, Copy, Debug, PartialEq, Eq)]
 struct Step {
@@ -58,12 +59,14 @@ struct Step {
 }
 
 // What may still come of a report of a session: it is seen as a place of the report. It keeps the
-// state, on names below `64 * W`, and how many edits of the script are answered or need no answer.
+// state as the graph, on names below `64 * W`, and what leads back to the earlier ones, and how many
+// items of the script are answered or need no answer.
 #[derive(Drop)]
 pub(crate) struct SessionChecker<const W: usize> {
     mode: SessionMode,
     due: SessionDue,
     graph: GraphOf<W>,
+    history: HistoryOf<W>,
     script: Script,
     answered: u64,
 }
@@ -71,37 +74,47 @@ pub(crate) struct SessionChecker<const W: usize> {
 impl<const W: usize> Model for SessionChecker<W> {
     ghost use Rattle.std.specs.Prelude.{◌≤◌, length, drop};
     ghost use Rattle.md_report.specs.Places.{Place};
+    ghost use Rattle.md_report.specs.Steps.{state_of};
     ghost use Rattle.md_checker.specs.Codes.{place_code};
-    ghost use Rattle.md_checker.specs.Standing.{session_place, StaysCograph};
+    ghost use Rattle.md_checker.specs.Standing.{session_place, IsStanding};
 
     ghost Value = { Place };
 
     ghost coded = { place_code };
 
-    ghost view = { λ c. session_place c.due c.mode c.graph (drop c.answered c.script) };
+    ghost view = { λ c. session_place c.due c.mode (state_of c.graph c.history.items)
+        (drop c.answered c.script) };
 
     ghost use Rattle.std.specs.Prelude.{◌*◌};
     ghost use Rattle.std.specs.List.{All};
-    ghost use Rattle.md_script.specs.Edit.{HasNamesBelow};
+    ghost use Rattle.md_script.specs.Items.{HasItemNamesBelow};
 
-    ghost invariant = { λ c. (c.answered ≤ length c.script) × StaysCograph c.due c.mode c.graph
-        × All (HasNamesBelow (64 * W)) c.script };
+    ghost invariant = { λ c. (c.answered ≤ length c.script)
+        × IsStanding (64 * W) c.due c.mode c.graph c.history.items (drop c.answered c.script)
+        × All (HasItemNamesBelow (64 * W)) c.script };
 }
 
 impl<const W: usize> SessionChecker<W> {
     // The checker of a report of a session on this graph over this script, before its head.
-    // Condition: the names in the script are below `64 * W`.
-    pub(crate) fn new(mode: SessionMode, graph: GraphOf<W>, script: Script) -> SessionChecker<W>
-        requires { All (HasNamesBelow (64 * W)) script }
-        ensures { result ≡ before_session mode graph.entry script }
+    // Condition: the names in the script are below `64 * W`. Errors: want of memory.
+    pub(crate) fn new(
+        alloc: Global,
+        mode: SessionMode,
+        graph: GraphOf<W>,
+        script: Script,
+    ) -> Result<SessionChecker<W>, Memory>
+        requires { All (HasItemNamesBelow (64 * W)) script }
+        ensures { IfOk result (λ c. c ≡ before_session mode graph.entry script) }
     {
-        SessionChecker {
+        let history = HistoryOf::new(alloc)?;
+        Ok(SessionChecker {
             mode,
             due: SessionDue::Head,
             graph,
+            history,
             script,
             answered: 0,
-        }
+        })
     }
 
     // Whether the report is at its end.
@@ -128,12 +141,15 @@ impl<const W: usize> SessionChecker<W> {
                 if !is_word_and_state(alloc, mode, &self.graph, b"t ", text)? {
                     return Ok(false);
                 }
-                self.due = SessionDue::Edits;
+                self.due = SessionDue::Items;
                 Ok(true)
             }
-            DueTree::Edited => {
-                let edit = self.script.get(answered);
-                if !applies_by_text(alloc, mode, &mut self.graph, edit, text)? {
+            DueTree::Answered => {
+                let Item::One(edit) = self.script.get(answered) else {
+                    return Ok(false);
+                };
+                let (graph, history) = (&mut self.graph, &mut self.history);
+                if !applies_by_text(alloc, mode, graph, history, edit, text)? {
                     return Ok(false);
                 }
                 self.answered = answered + 1;
@@ -168,7 +184,8 @@ impl<const W: usize> SessionChecker<W> {
             }
             SessionDue::State => {
                 let (mode, answered) = (self.mode, self.answered);
-                let first = opens(alloc, mode, &mut self.graph, &self.script, answered, line)?;
+                let (graph, history) = (&mut self.graph, &mut self.history);
+                let first = opens(alloc, mode, graph, history, &self.script, answered, line)?;
                 let Some(step) = first else {
                     return Ok(false);
                 };
@@ -176,9 +193,10 @@ impl<const W: usize> SessionChecker<W> {
                 self.answered = step.answered;
                 Ok(true)
             }
-            SessionDue::Edits => {
+            SessionDue::Items => {
                 let (mode, answered) = (self.mode, self.answered);
-                let next = comes(alloc, mode, &mut self.graph, &self.script, answered, line)?;
+                let (graph, history) = (&mut self.graph, &mut self.history);
+                let next = comes(alloc, mode, graph, history, &self.script, answered, line)?;
                 let Some(step) = next else {
                     return Ok(false);
                 };
@@ -198,52 +216,57 @@ impl<const W: usize> SessionChecker<W> {
     }
 }
 
-// Where the line leads behind the head of a session, the graph being the first state; the graph is
-// then the state behind the line. None where the line may not come; the graph stays then, and for
-// want of memory. Conditions: the line is well-formed, and the names in the script are below
-// `64 * W`.
+// Where the line leads behind the head of a session, the graph being the first state; graph and
+// history are then those behind the line. None where the line may not come; both stay then, and for
+// want of memory. Conditions: the line is well-formed, the names in the script are below `64 * W`,
+// and the history has no item.
 fn opens<const W: usize>(
     alloc: Global,
     mode: SessionMode,
     graph: &mut GraphOf<W>,
+    history: &mut HistoryOf<W>,
     script: &Script,
     answered: u64,
     line: &Line,
 ) -> Result<Option<Step>, Memory>
     requires line { IsWellFormedLine (plain_line line.now) }
-    requires names { All (HasNamesBelow (64 * W)) script.now }
+    requires names { All (HasItemNamesBelow (64 * W)) script.now }
     requires room { answered ≤ length script.now }
-    ensures leads { IfOk result (λ next. IfSome next (λ step. IsStep
+    requires first { history.old.items ≡ [] }
+    ensures leads { IfOk result (λ next. IfSome next (λ step. IsStep (64 * W)
         (at_state mode graph.old (drop answered script.now)) (plain_line line.now) step mode
-        graph.new script.now)) }
+        graph.new history.new.items script.now)) }
     ensures none { IfOk result (λ next. IfNone next ((MayCome
         (at_state mode graph.old (drop answered script.now)) (plain_line line.now) → ⊥)
-        × (graph.new ≡ graph.old))) }
+        × (graph.new ≡ graph.old) × (history.new.items ≡ history.old.items))) }
     ensures stays { IsErr result → graph.new ≡ graph.old }
+    ensures kept { IsErr result → history.new.items ≡ history.old.items }
 {
     match mode {
-        SessionMode::Edit => opens_told(alloc, mode, graph, script, answered, line),
-        SessionMode::Cograph => opens_told(alloc, mode, graph, script, answered, line),
-        SessionMode::Quiet => opens_quiet(alloc, graph, script, answered, line),
+        SessionMode::Edit => opens_told(alloc, mode, graph, history, script, answered, line),
+        SessionMode::Cograph => opens_told(alloc, mode, graph, history, script, answered, line),
+        SessionMode::Quiet => opens_quiet(alloc, graph, history, script, answered, line),
     }
 }
 
-// The same in a mode whose reports tell of the first state. Condition: the line is well-formed, and
-// the mode is not quiet.
+// The same in a mode whose reports tell of the first state. Conditions: the line is well-formed,
+// the history has no item, and the mode is not quiet.
 fn opens_told<const W: usize>(
     alloc: Global,
     mode: SessionMode,
     graph: &GraphOf<W>,
+    history: &HistoryOf<W>,
     script: &Script,
     answered: u64,
     line: &Line,
 ) -> Result<Option<Step>, Memory>
     requires line { IsWellFormedLine (plain_line line.now) }
     requires room { answered ≤ length script.now }
+    requires first { history.now.items ≡ [] }
     requires told { mode ≡ Quiet → ⊥ }
-    ensures leads { IfOk result (λ next. IfSome next (λ step. IsStep
+    ensures leads { IfOk result (λ next. IfSome next (λ step. IsStep (64 * W)
         (at_state mode graph.now (drop answered script.now)) (plain_line line.now) step mode
-        graph.now script.now)) }
+        graph.now history.now.items script.now)) }
     ensures none { IfOk result (λ next. IfNone next (MayCome
         (at_state mode graph.now (drop answered script.now)) (plain_line line.now) → ⊥)) }
 {
@@ -251,17 +274,17 @@ fn opens_told<const W: usize>(
         return Ok(None);
     }
     Ok(Some(Step {
-        due: SessionDue::Edits,
+        due: SessionDue::Items,
         answered: answered_behind(script, answered, line),
     }))
 }
 
-// How many edits are answered or need no answer behind the line of the first state.
+// How many items are answered or need no answer behind the line of the first state.
 fn answered_behind(script: &Script, answered: u64, line: &Line) -> u64
     requires { answered ≤ length script.now }
     ensures room { result ≤ length script.now }
     ensures left { drop result script.now
-        ≡ edits_behind (plain_line line.now) (drop answered script.now) }
+        ≡ items_behind (plain_line line.now) (drop answered script.now) }
 {
     if ends_session(line) {
         return script.len();
@@ -269,25 +292,28 @@ fn answered_behind(script: &Script, answered: u64, line: &Line) -> u64
     answered
 }
 
-// The same in mode quiet, where a cograph has no line of its own. Condition: the line is
-// well-formed.
+// The same in mode quiet, where a cograph has no line of its own. Conditions: the line is
+// well-formed, the names in the script are below `64 * W`, and the history has no item.
 fn opens_quiet<const W: usize>(
     alloc: Global,
     graph: &mut GraphOf<W>,
+    history: &mut HistoryOf<W>,
     script: &Script,
     answered: u64,
     line: &Line,
 ) -> Result<Option<Step>, Memory>
     requires line { IsWellFormedLine (plain_line line.now) }
-    requires names { All (HasNamesBelow (64 * W)) script.now }
+    requires names { All (HasItemNamesBelow (64 * W)) script.now }
     requires room { answered ≤ length script.now }
-    ensures leads { IfOk result (λ next. IfSome next (λ step. IsStep
+    requires first { history.old.items ≡ [] }
+    ensures leads { IfOk result (λ next. IfSome next (λ step. IsStep (64 * W)
         (at_state Quiet graph.old (drop answered script.now)) (plain_line line.now) step Quiet
-        graph.new script.now)) }
+        graph.new history.new.items script.now)) }
     ensures none { IfOk result (λ next. IfNone next ((MayCome
         (at_state Quiet graph.old (drop answered script.now)) (plain_line line.now) → ⊥)
-        × (graph.new ≡ graph.old))) }
+        × (graph.new ≡ graph.old) × (history.new.items ≡ history.old.items))) }
     ensures stays { IsErr result → graph.new ≡ graph.old }
+    ensures kept { IsErr result → history.new.items ≡ history.old.items }
 {
     let mode = SessionMode::Quiet;
     if reports_state(alloc, mode, graph, line)? {
@@ -299,58 +325,63 @@ fn opens_quiet<const W: usize>(
     if find_p4(graph).is_some() {
         return Ok(None);
     }
-    comes(alloc, mode, graph, script, answered, line)
+    comes(alloc, mode, graph, history, script, answered, line)
 }
 
-// Where the line leads at the edits, the graph being the state; the graph is then the state behind
-// the line. None where the line may not come; the graph stays then, and for want of memory.
-// Conditions: the line is well-formed; in mode quiet the graph is a cograph.
+// Where the line leads at the items, the graph being the one that stands; graph and history are
+// then those behind the line. None where the line may not come; both stay then, and for want of
+// memory. Conditions: the line is well-formed, the names in the script are below `64 * W`, the
+// history fits, and where an item is left the graph may be a state of a session of the mode.
 fn comes<const W: usize>(
     alloc: Global,
     mode: SessionMode,
     graph: &mut GraphOf<W>,
+    history: &mut HistoryOf<W>,
     script: &Script,
     answered: u64,
     line: &Line,
 ) -> Result<Option<Step>, Memory>
     requires line { IsWellFormedLine (plain_line line.now) }
-    requires names { All (HasNamesBelow (64 * W)) script.now }
+    requires names { All (HasItemNamesBelow (64 * W)) script.now }
     requires room { answered ≤ length script.now }
-    requires cograph { mode ≡ Quiet → IsCograph graph.old }
-    ensures leads { IfOk result (λ next. IfSome next (λ step. IsStep
-        (at_edits mode graph.old (drop answered script.now)) (plain_line line.now) step mode
-        graph.new script.now)) }
+    requires fits { HistoryFits (64 * W) (IsAllowed mode) graph.old history.old.items }
+    requires allowed { (drop answered script.now ≡ [] → ⊥) → IsAllowed mode graph.old }
+    ensures leads { IfOk result (λ next. IfSome next (λ step. IsStep (64 * W)
+        (at_items mode (state_of graph.old history.old.items) (drop answered script.now))
+        (plain_line line.now) step mode graph.new history.new.items script.now)) }
     ensures none { IfOk result (λ next. IfNone next ((MayCome
-        (at_edits mode graph.old (drop answered script.now)) (plain_line line.now) → ⊥)
-        × (graph.new ≡ graph.old))) }
+        (at_items mode (state_of graph.old history.old.items) (drop answered script.now))
+        (plain_line line.now) → ⊥)
+        × (graph.new ≡ graph.old) × (history.new.items ≡ history.old.items))) }
     ensures stays { IsErr result → graph.new ≡ graph.old }
+    ensures kept { IsErr result → history.new.items ≡ history.old.items }
 {
     if answered == script.len() {
-        if !closes_edits(alloc, mode, graph, line)? {
+        if !closes_items(alloc, mode, graph, line)? {
             return Ok(None);
         }
         return Ok(Some(Step {
-            due: due_behind_edits(mode),
+            due: due_behind_items(mode),
             answered,
         }));
     }
-    let edit = script.get(answered);
-    if !answers_edit(alloc, mode, graph, edit, line)? {
+    let item = script.get(answered);
+    if !answers_item(alloc, mode, graph, history, item, line)? {
         return Ok(None);
     }
     Ok(Some(Step {
-        due: SessionDue::Edits,
+        due: SessionDue::Items,
         answered: answered + 1,
     }))
 }
 
-// The state whose tree the line that is due may tell, by whether an edit is left; none if it tells
+// The state whose tree the line that is due may tell, by whether an item is left; none if it tells
 // none. A report of mode quiet tells the last state's alone, which may be the first.
 fn due_tree(due: SessionDue, mode: SessionMode, left: bool) -> Option<DueTree>
     ensures { IfSome result (λ tree. MayTell tree due mode left) }
 {
     let first = due == SessionDue::State;
-    if !first && due != SessionDue::Edits {
+    if !first && due != SessionDue::Items {
         return None;
     }
     if mode == SessionMode::Quiet {
@@ -359,14 +390,14 @@ fn due_tree(due: SessionDue, mode: SessionMode, left: bool) -> Option<DueTree>
     if first {
         return Some(DueTree::First);
     }
-    if left { Some(DueTree::Edited) } else { None }
+    if left { Some(DueTree::Answered) } else { None }
 }
 
 // Which line is due behind the one that came behind all answers.
-fn due_behind_edits(mode: SessionMode) -> SessionDue
-    ensures due { (g : PlainGraph) (edits : List script.Edit)
-        → session_place result mode g edits ≡ closed_place mode }
-    ensures none { result ≡ Edits → ⊥ }
+fn due_behind_items(mode: SessionMode) -> SessionDue
+    ensures due { (s : State) (items : List Item)
+        → session_place result mode s items ≡ closed_place mode }
+    ensures later { (result ≡ Head → ⊥) × (result ≡ StateDue → ⊥) × (result ≡ Items → ⊥) }
 {
     match mode {
         SessionMode::Edit => SessionDue::Nothing,
@@ -375,10 +406,9 @@ fn due_behind_edits(mode: SessionMode) -> SessionDue
     }
 }
 
-// Whether no edit is answered behind the line of the first state.
+// Whether no item is answered behind the line of the first state.
 fn ends_session(line: &Line) -> bool
-    ensures { (edits : List script.Edit) → edits_behind (plain_line line.now) edits
-        ≡ (if result then [] else edits) }
+    ensures { result ≡ tells_path (plain_line line.now) }
 {
     match line {
         Line::NotCograph(_) => true,

@@ -1,0 +1,16 @@
+use Rattle.std.proofs.Common.{◌≡◌, ◌*◌, refl, sym, ◌∙◌, ap}
+use Rattle.md_script.specs.declared.item.Item.TheVariants.{One}
+use Rattle.md_report.specs.Lines.{plain_line, refused}
+use Rattle.md_report.specs.Sessions.{is_applied}
+use Rattle.md_checker.proofs.Judged.{judged_refusal, reason_answers}
+use Rattle.md_checker.proofs.item_answers.answers_edit.Goals as goal
+
+pub returns-in-Some-clause-judged : goal.returns-in-Some-clause-judged
+returns-in-Some-clause-judged g c =
+    let limit = 64 * g.row.W in
+    let before = c.args.graph.now in
+    let items = c.args.history.now.items in
+    let line = plain_line c.args.line.now in
+    judged_refusal limit c.args.mode before items line before items c.requires.fits c.requires.allowed (One c.args.edit.now) (line ≡ refused c.in-Some.reason) c.is_refusal.result c.is_refusal.ensures
+    (reason_answers limit c.args.mode before items line before items c.requires.fits c.requires.allowed c.args.edit.now c.in-Some.reason (sym c.reason.ensures ∙ c.in-Some.is))
+    (λ e. ap is_applied e) refl refl

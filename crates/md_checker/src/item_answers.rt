@@ -1,0 +1,465 @@
+//! Whether a line answers an item of a script. The session's state is kept as the graph and what
+//! leads back to the earlier ones; nothing is copied.
+ghost use Rattle.std.specs.Prelude.{◌≡◌, ◌*◌, ◌+◌, ◌≤◌, ◌↔◌, List, [], ◌∷◌, length, None, Some, Ok, true, if◌then◌else◌, slice_get, IfOk, IsErr, IsTrue};
+ghost use Rattle.std.specs.List.{All};
+ghost use Rattle.md_graph.specs.PlainGraph.{PlainGraph};
+ghost use Rattle.md_modules.specs.declared.induced_paths.P4.{P4};
+ghost use Rattle.md_script.specs.declared.edit.Edit as script;
+ghost use Rattle.md_script.specs.declared.item.Item.{Item};
+ghost use Rattle.md_script.specs.declared.item.Item.TheVariants.{One, Undo, Group};
+ghost use Rattle.md_script.specs.Edit.{HasNamesBelow, reason_of, after};
+ghost use Rattle.md_script.specs.Items.{HasItemNamesBelow};
+ghost use Rattle.md_script.specs.Pasts.{Led};
+ghost use Rattle.md_script.specs.Histories.{HistoryFits};
+ghost use Rattle.md_report.specs.declared.line.SessionMode.TheVariants.{Quiet};
+ghost use Rattle.md_report.specs.Lines.{plain_line, applied, applied_quiet, refused, refused_p4, group_refused, group_refused_p4, nothing_to_undo};
+ghost use Rattle.md_report.specs.WellFormedLines.{IsWellFormedLine};
+ghost use Rattle.md_report.specs.Cographs.{IsCograph};
+ghost use Rattle.md_report.specs.Sessions.{HasTreeLine};
+ghost use Rattle.md_report.specs.ItemLines.{IsAllowed, IsBarred, IsDoneLine};
+ghost use Rattle.md_report.specs.Places.{at_items};
+ghost use Rattle.md_report.specs.Steps.{state_of};
+ghost use Rattle.md_checker.specs.Judged.{IsJudged, IsTried};
+ghost use Rattle.md_checker.specs.Standing.{Takes};
+
+use crate::judgements::{is_tree_of_cograph, is_true, is_word_and_state};
+use crate::tree_fit::fits;
+use md_graph::{GraphOf, Memory};
+use md_modules::{P4, is_p4};
+use md_report::{Line, SessionMode, made_p4};
+use md_script::{
+    Edit, EditReason, Edits, HistoryOf, Item, apply, back_through, inverse, reason, take_back,
+    take_item_back,
+};
+use std::alloc::Global;
+
+// What came of the edits of a group that were applied one after the other.
+#[derive(Clone, Copy)]
+enum Tried {
+    // All were applied.
+    All,
+    // A reason speaks against the edit behind so many.
+    Refused(u64, EditReason),
+    // The graph after the edit behind so many may be no state of the session.
+    Barred(u64),
+}
+
+// Whether the line answers the item: graph and history are then those behind it; else, and for want
+// of memory, they stay. Conditions: the line is well-formed, the names in the item are below
+// `64 * W`, the history fits, and the graph may be a state of a session of the mode.
+pub(crate) fn answers_item<const W: usize>(
+    alloc: Global,
+    mode: SessionMode,
+    graph: &mut GraphOf<W>,
+    history: &mut HistoryOf<W>,
+    item: &Item,
+    line: &Line,
+) -> Result<bool, Memory>
+    requires line { IsWellFormedLine (plain_line line.now) }
+    requires names { HasItemNamesBelow (64 * W) item.now }
+    requires fits { HistoryFits (64 * W) (IsAllowed mode) graph.old history.old.items }
+    requires allowed { IsAllowed mode graph.old }
+    ensures judged { IfOk result (λ taken. IsJudged taken (64 * W) mode graph.old
+        history.old.items item.now (plain_line line.now) graph.new history.new.items) }
+    ensures stays { IsErr result → graph.new ≡ graph.old }
+    ensures kept { IsErr result → history.new.items ≡ history.old.items }
+{
+    match item {
+        Item::One(edit) => answers_edit(alloc, mode, graph, history, edit, line),
+        Item::Group(edits) => answers_group(alloc, mode, graph, history, edits, line),
+        Item::Undo => answers_undo(alloc, mode, graph, history, line),
+    }
+}
+
+// The same of an edit alone.
+fn answers_edit<const W: usize>(
+    alloc: Global,
+    mode: SessionMode,
+    graph: &mut GraphOf<W>,
+    history: &mut HistoryOf<W>,
+    edit: &Edit,
+    line: &Line,
+) -> Result<bool, Memory>
+    requires line { IsWellFormedLine (plain_line line.now) }
+    requires names { HasNamesBelow (64 * W) edit.now }
+    requires fits { HistoryFits (64 * W) (IsAllowed mode) graph.old history.old.items }
+    requires allowed { IsAllowed mode graph.old }
+    ensures judged { IfOk result (λ taken. IsJudged taken (64 * W) mode graph.old
+        history.old.items (One edit.now) (plain_line line.now) graph.new history.new.items) }
+    ensures stays { IsErr result → graph.new ≡ graph.old }
+    ensures kept { IsErr result → history.new.items ≡ history.old.items }
+{
+    if let Some(reason) = reason(graph, edit) {
+        return Ok(is_refusal(line, reason));
+    }
+    match line {
+        Line::RefusedP4(p) => Ok(is_refused_p4(mode, graph, edit, p)),
+        _ => tells_applied(alloc, mode, graph, history, edit, line),
+    }
+}
+
+// The same of an edit against which no reason speaks, and a line that tells of no induced P4.
+fn tells_applied<const W: usize>(
+    alloc: Global,
+    mode: SessionMode,
+    graph: &mut GraphOf<W>,
+    history: &mut HistoryOf<W>,
+    edit: &Edit,
+    line: &Line,
+) -> Result<bool, Memory>
+    requires line { IsWellFormedLine (plain_line line.now) }
+    requires other { (p : P4) → plain_line line.now ≡ refused_p4 p → ⊥ }
+    requires applies { reason_of graph.old edit.now ≡ None }
+    requires names { HasNamesBelow (64 * W) edit.now }
+    requires fits { HistoryFits (64 * W) (IsAllowed mode) graph.old history.old.items }
+    requires allowed { IsAllowed mode graph.old }
+    ensures judged { IfOk result (λ taken. IsJudged taken (64 * W) mode graph.old
+        history.old.items (One edit.now) (plain_line line.now) graph.new history.new.items) }
+    ensures stays { IsErr result → graph.new ≡ graph.old }
+    ensures kept { IsErr result → history.new.items ≡ history.old.items }
+{
+    history.reserve(alloc, 2)?;
+    let past = inverse(graph, edit);
+    apply(graph, edit);
+    let fit = is_led_line(alloc, mode, graph, edit, line);
+    if is_true(&fit) {
+        history.open_item();
+        history.push(past);
+        return fit;
+    }
+    take_back(graph, &past);
+    fit
+}
+
+// Whether the graph, to which the edit led, may be a state of a session of the mode, and the line
+// tells that it is. Conditions: the line is well-formed, and the graph before was such a state.
+fn is_led_line<const W: usize>(
+    alloc: Global,
+    mode: SessionMode,
+    graph: &GraphOf<W>,
+    edit: &Edit,
+    line: &Line,
+) -> Result<bool, Memory>
+    requires line { IsWellFormedLine (plain_line line.now) }
+    requires led { (g : PlainGraph) × Led (64 * W) g edit.now graph.now × IsAllowed mode g }
+    ensures { IfOk result (λ fit. IsTrue fit ↔ (IsAllowed mode graph.now
+        × IsDoneLine mode graph.now (plain_line line.now))) }
+{
+    match mode {
+        SessionMode::Edit => is_applied_tree(alloc, graph, line),
+        SessionMode::Cograph => is_applied_cotree(alloc, graph, line),
+        SessionMode::Quiet => Ok(is_applied_quiet(line) && !is_barred(mode, graph, edit)),
+    }
+}
+
+// Whether the line tells that an item was applied, which left the graph. Condition: the line is
+// well-formed.
+fn is_done_line<const W: usize>(
+    alloc: Global,
+    mode: SessionMode,
+    graph: &GraphOf<W>,
+    line: &Line,
+) -> Result<bool, Memory>
+    requires { IsWellFormedLine (plain_line line.now) }
+    ensures { IfOk result (λ fit. IsTrue fit ↔ IsDoneLine mode graph.now (plain_line line.now)) }
+{
+    match mode {
+        SessionMode::Edit => is_applied_tree(alloc, graph, line),
+        SessionMode::Cograph => is_applied_tree(alloc, graph, line),
+        SessionMode::Quiet => Ok(is_applied_quiet(line)),
+    }
+}
+
+// Whether the line tells that an item was applied, with the tree of the graph. Condition: the line
+// is well-formed.
+fn is_applied_tree<const W: usize>(
+    alloc: Global,
+    graph: &GraphOf<W>,
+    line: &Line,
+) -> Result<bool, Memory>
+    requires { IsWellFormedLine (plain_line line.now) }
+    ensures { IfOk result (λ fit. IsTrue fit
+        ↔ HasTreeLine applied graph.now (plain_line line.now)) }
+{
+    match line {
+        Line::Applied(tree) => fits(alloc, graph, tree),
+        _ => Ok(false),
+    }
+}
+
+// The same, and the graph is a cograph.
+fn is_applied_cotree<const W: usize>(
+    alloc: Global,
+    graph: &GraphOf<W>,
+    line: &Line,
+) -> Result<bool, Memory>
+    requires { IsWellFormedLine (plain_line line.now) }
+    ensures { IfOk result (λ fit. IsTrue fit ↔ (IsCograph graph.now
+        × HasTreeLine applied graph.now (plain_line line.now))) }
+{
+    match line {
+        Line::Applied(tree) => is_tree_of_cograph(alloc, graph, tree),
+        _ => Ok(false),
+    }
+}
+
+// Whether the line tells that an item was applied, without a tree.
+fn is_applied_quiet(line: &Line) -> bool
+    ensures { IsTrue result ↔ plain_line line.now ≡ applied_quiet }
+{
+    match line {
+        Line::AppliedQuiet => true,
+        _ => false,
+    }
+}
+
+// Whether the graph, to which the edit led, may be no state of a session of the mode. Condition:
+// the graph before was one.
+fn is_barred<const W: usize>(mode: SessionMode, graph: &GraphOf<W>, edit: &Edit) -> bool
+    requires { (g : PlainGraph) × Led (64 * W) g edit.now graph.now × IsAllowed mode g }
+    ensures barred { IsTrue result → IsAllowed mode graph.now → ⊥ }
+    ensures allowed { ¬ IsTrue result → IsAllowed mode graph.now }
+{
+    match mode {
+        SessionMode::Edit => false,
+        SessionMode::Cograph => made_p4(graph, edit).is_some(),
+        SessionMode::Quiet => made_p4(graph, edit).is_some(),
+    }
+}
+
+// Whether the line refuses an edit for the reason.
+fn is_refusal(line: &Line, reason: EditReason) -> bool
+    ensures { IsTrue result ↔ (plain_line line.now ≡ refused reason) }
+{
+    match line {
+        Line::Refused(named) => *named == reason,
+        _ => false,
+    }
+}
+
+// Whether the mode refuses the edit since the graph after it has the induced P4. The graph stays.
+// Condition: there is no reason against the edit.
+fn is_refused_p4<const W: usize>(
+    mode: SessionMode,
+    graph: &mut GraphOf<W>,
+    edit: &Edit,
+    p: &P4,
+) -> bool
+    requires applies { reason_of graph.old edit.now ≡ None }
+    requires names { HasNamesBelow (64 * W) edit.now }
+    ensures is { IsTrue result ↔ IsBarred mode (after graph.old edit.now) p.now }
+    ensures stays { graph.new ≡ graph.old }
+{
+    let past = inverse(graph, edit);
+    apply(graph, edit);
+    let is = is_path_of_state(mode, graph, p);
+    take_back(graph, &past);
+    is
+}
+
+// Whether no state of a session of the mode may have an induced P4, and the graph has this one.
+fn is_path_of_state<const W: usize>(mode: SessionMode, graph: &GraphOf<W>, p: &P4) -> bool
+    ensures { IsTrue result ↔ IsBarred mode graph.now p.now }
+{
+    match mode {
+        SessionMode::Edit => false,
+        SessionMode::Cograph => is_p4(graph, p),
+        SessionMode::Quiet => is_p4(graph, p),
+    }
+}
+
+// The same as `answers_item`, of a group.
+fn answers_group<const W: usize>(
+    alloc: Global,
+    mode: SessionMode,
+    graph: &mut GraphOf<W>,
+    history: &mut HistoryOf<W>,
+    edits: &Edits,
+    line: &Line,
+) -> Result<bool, Memory>
+    requires line { IsWellFormedLine (plain_line line.now) }
+    requires names { All (HasNamesBelow (64 * W)) edits.now }
+    requires fits { HistoryFits (64 * W) (IsAllowed mode) graph.old history.old.items }
+    requires allowed { IsAllowed mode graph.old }
+    ensures judged { IfOk result (λ taken. IsJudged taken (64 * W) mode graph.old
+        history.old.items (Group edits.now) (plain_line line.now) graph.new history.new.items) }
+    ensures stays { IsErr result → graph.new ≡ graph.old }
+    ensures kept { IsErr result → history.new.items ≡ history.old.items }
+{
+    let _vertices = graph.vertices();
+    history.reserve(alloc, edits.len() + 1)?;
+    history.open_item();
+    match try_edits(mode, graph, history, edits) {
+        Tried::All => {
+            let fit = is_done_line(alloc, mode, graph, line);
+            if is_true(&fit) {
+                return fit;
+            }
+            take_item_back(graph, history);
+            fit
+        }
+        Tried::Refused(i, reason) => {
+            take_item_back(graph, history);
+            Ok(is_group_refusal(line, i + 1, reason))
+        }
+        Tried::Barred(i) => {
+            let fit = is_group_path(mode, graph, edits.get(i), line, i + 1);
+            take_item_back(graph, history);
+            Ok(fit)
+        }
+    }
+}
+
+// Applies the edits of a group one after the other, up to the first that is refused; what takes the
+// others back is pushed to the history. Conditions: the last item of the history has no edits,
+// there is room for the edits, their names are below `64 * W`, and the graph may be a state of a
+// session of the mode.
+fn try_edits<const W: usize>(
+    mode: SessionMode,
+    graph: &mut GraphOf<W>,
+    history: &mut HistoryOf<W>,
+    edits: &Edits,
+) -> Tried
+    requires names { All (HasNamesBelow (64 * W)) edits.now }
+    requires item { (others : List (List script.Edit)) × (history.old.items ≡ [] ∷ others) }
+    requires room { length edits.now ≤ history.old.spare }
+    requires allowed { IsAllowed mode graph.old }
+    ensures tried { (others : List (List script.Edit)) → history.old.items ≡ [] ∷ others →
+        IsTried result mode graph.old edits.now graph.new history.new.items others }
+{
+    for i in 0..edits.len() {
+        let edit = edits.get(i);
+        if let Some(found) = reason(graph, edit) {
+            return Tried::Refused(i, found);
+        }
+        let past = inverse(graph, edit);
+        apply(graph, edit);
+        if is_barred(mode, graph, edit) {
+            take_back(graph, &past);
+            return Tried::Barred(i);
+        }
+        history.push(past);
+    }
+    Tried::All
+}
+
+// Whether the line refuses the edit of a group with this number, for the reason.
+fn is_group_refusal(line: &Line, number: u64, reason: EditReason) -> bool
+    ensures { IsTrue result ↔ (plain_line line.now ≡ group_refused number reason) }
+{
+    match line {
+        Line::GroupRefused(told, named) => *told == number && *named == reason,
+        _ => false,
+    }
+}
+
+// Whether the line refuses the edit of a group with this number with an induced P4 of the graph
+// after it, and no state of a session of the mode may have one. The graph stays. Condition: there is
+// no reason against the edit.
+fn is_group_path<const W: usize>(
+    mode: SessionMode,
+    graph: &mut GraphOf<W>,
+    edit: &Edit,
+    line: &Line,
+    number: u64,
+) -> bool
+    requires applies { reason_of graph.old edit.now ≡ None }
+    requires names { HasNamesBelow (64 * W) edit.now }
+    ensures is { IsTrue result ↔ ((p : P4) × IsBarred mode (after graph.old edit.now) p
+        × (plain_line line.now ≡ group_refused_p4 number p)) }
+    ensures stays { graph.new ≡ graph.old }
+{
+    match line {
+        Line::GroupRefusedP4(told, p) => { *told == number && is_refused_p4(mode, graph, edit, p) }
+        _ => false,
+    }
+}
+
+// The same as `answers_item`, of an undo.
+fn answers_undo<const W: usize>(
+    alloc: Global,
+    mode: SessionMode,
+    graph: &mut GraphOf<W>,
+    history: &mut HistoryOf<W>,
+    line: &Line,
+) -> Result<bool, Memory>
+    requires line { IsWellFormedLine (plain_line line.now) }
+    requires fits { HistoryFits (64 * W) (IsAllowed mode) graph.old history.old.items }
+    requires allowed { IsAllowed mode graph.old }
+    ensures judged { IfOk result (λ taken. IsJudged taken (64 * W) mode graph.old
+        history.old.items Undo (plain_line line.now) graph.new history.new.items) }
+    ensures stays { IsErr result → graph.new ≡ graph.old }
+    ensures kept { IsErr result → history.new.items ≡ history.old.items }
+{
+    if history.items() == 0 {
+        return Ok(is_nothing_to_undo(line));
+    }
+    let mut redo = HistoryOf::new(alloc)?;
+    redo.reserve(alloc, 1)?;
+    redo.open_item();
+    redo.reserve(alloc, history.last_len())?;
+    back_through(graph, history, &mut redo);
+    let fit = is_done_line(alloc, mode, graph, line);
+    take_item_back(graph, &mut redo);
+    if is_true(&fit) {
+        take_item_back(graph, history);
+        return fit;
+    }
+    fit
+}
+
+// Whether the line tells that there is no item to undo.
+fn is_nothing_to_undo(line: &Line) -> bool
+    ensures { IsTrue result ↔ plain_line line.now ≡ nothing_to_undo }
+{
+    match line {
+        Line::NothingToUndo => true,
+        _ => false,
+    }
+}
+
+// Whether the text is that of a line that tells the tree of the graph after the edit: graph and
+// history are then those behind it; else, and for want of memory, they stay. A false says nothing.
+// Conditions: the names in the edit are below `64 * W`, the history fits, the graph may be a state
+// of a session of the mode, and the mode is not quiet.
+pub(crate) fn applies_by_text<const W: usize>(
+    alloc: Global,
+    mode: SessionMode,
+    graph: &mut GraphOf<W>,
+    history: &mut HistoryOf<W>,
+    edit: &Edit,
+    text: &[u8],
+) -> Result<bool, Memory>
+    requires names { HasNamesBelow (64 * W) edit.now }
+    requires told { mode ≡ Quiet → ⊥ }
+    requires fits { HistoryFits (64 * W) (IsAllowed mode) graph.old history.old.items }
+    requires allowed { IsAllowed mode graph.old }
+    ensures takes { IfOk result (λ taken. IsTrue taken → (items : List Item)
+        → Takes (at_items mode (state_of graph.old history.old.items) (One edit.now ∷ items))
+        text.now (at_items mode (state_of graph.new history.new.items) items)) }
+    ensures fits { IfOk result (λ taken. IsTrue taken
+        → HistoryFits (64 * W) (IsAllowed mode) graph.new history.new.items) }
+    ensures allowed { IfOk result (λ taken. IsTrue taken → IsAllowed mode graph.new) }
+    ensures refused { IfOk result (λ taken. ¬ IsTrue taken →
+        (graph.new ≡ graph.old) × (history.new.items ≡ history.old.items)) }
+    ensures stays { IsErr result → graph.new ≡ graph.old }
+    ensures kept { IsErr result → history.new.items ≡ history.old.items }
+{
+    if !text.starts_with(b"ok ") {
+        return Ok(false);
+    }
+    if let Some(_) = reason(graph, edit) {
+        return Ok(false);
+    }
+    history.reserve(alloc, 2)?;
+    let past = inverse(graph, edit);
+    apply(graph, edit);
+    let fit = is_word_and_state(alloc, mode, graph, b"ok ", text);
+    if is_true(&fit) {
+        history.open_item();
+        history.push(past);
+        return fit;
+    }
+    take_back(graph, &past);
+    fit
+}
