@@ -1,14 +1,14 @@
 -- A session on cographs over given edits has one state behind them, and one number of edits that are applied.
-use Rattle.std.proofs.Common.{◌≡◌, ℕ, List, Option, refl, sym, ◌∙◌, ap, subst}
+use Rattle.std.proofs.Common.{◌≡◌, ℕ, List, [], map, Option, refl, sym, ◌∙◌, ap, subst}
 use Rattle.std.specs.FinSet as set
 use Rattle.md_graph.specs.PlainGraph.{PlainGraph, adjacent, empty_graph}
 use Rattle.md_tree.specs.Trees.{PlainTree}
 use Rattle.md_tree.specs.StrongTrees.{IsTree}
 use Rattle.md_tree.proofs.OneTree.{one_option}
 use Rattle.md_script.specs.declared.edit.Edit.{Edit}
+use Rattle.md_script.specs.declared.item.Item.TheVariants.{One}
 use Rattle.md_report.specs.declared.line.SessionMode.TheVariants.{Quiet}
-use Rattle.md_report.specs.Sessions.{last_state}
-use Rattle.md_report.specs.Cographs.{QuietRun}
+use Rattle.md_report.specs.Sessions.{State, first_state}
 use Rattle.md_report.proofs.Alike.{cograph_runs_proof}
 use Rattle.md_top.specs.declared.big.Numbers.{Numbers}
 use Rattle.md_top.specs.Big.{RunsTo, HasNodes, AreNumbersOf, inserts, cuts, deletions}
@@ -20,12 +20,16 @@ record AreOne (a b c d : ℕ) (h k : PlainGraph) : Type 0 where
   last : h ≡ k
 
 runs_alike : (g g' : PlainGraph) (edits : List Edit) (a b c d : ℕ) (h k : PlainGraph) → g ≡ g' → RunsTo g edits a b h → RunsTo g' edits c d k → AreOne a b c d h k
-runs_alike g g' edits a b c d h k same r s =
-    let one = cograph_runs_proof Quiet Quiet tt tt g edits r.lines s.lines r.run (subst (λ (x : PlainGraph). QuietRun x edits s.lines) (sym same) s.run) in
+runs_alike g g' edits a b c d h k same from_one from_other =
+    let first = from_one [] in
+    let second = subst (λ (x : PlainGraph). RunsTo x edits c d k) (sym same) from_other [] in
+    let r = first.1 in
+    let s = second.1 in
+    let one = cograph_runs_proof Quiet Quiet tt tt (first_state g) (map One edits) r.lines s.lines r.run s.run in
     record {
       done = r.done_is ∙ one.done ∙ sym s.done_is;
       undone = r.undone_is ∙ one.undone ∙ sym s.undone_is;
-      last = r.last ∙ one.last ∙ ap (λ (x : PlainGraph). last_state x edits s.lines) same ∙ sym s.last;
+      last = ap (λ (x : State). x.graph) (r.last ∙ one.last ∙ sym s.last);
     }
 
 -- a graph has one tree, so that its nodes are one number

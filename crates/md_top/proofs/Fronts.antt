@@ -12,7 +12,7 @@ use Rattle.md_top.specs.declared.stop.Verdict.TheVariants.{Done, Rejected}
 use Rattle.md_top.specs.Answer.{Output, text, report, answer, verdict_of, Gives, IsWhole, IsBeginning, IsAnswer, IsAnswerFront}
 use Rattle.md_top.specs.Laws.{FrontsBeginAnswers}
 
--- a report is of graphs, and of edits with names
+-- a report is of graphs, and of items of scripts
 abbrev IsSoundOutput : Output → Type 0
 IsSoundOutput (text whole) = Unit {0}
 IsSoundOutput (report p) = IsSound p

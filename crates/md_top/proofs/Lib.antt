@@ -1,7 +1,7 @@
 pub mod Pieces
 pub mod Lines
-pub mod Edits
-mod AppliedLines
+pub mod ItemLoops
+mod ToldLines
 pub mod Outputs
 mod Alike
 mod OneOutput

@@ -5,7 +5,7 @@ use Rattle.md_graph.specs.PlainGraph.{PlainGraph}
 use Rattle.md_text.specs.Spelling.{SpellsOne, SpellsNone}
 use Rattle.md_graph6.proofs.FileLemmas.{spelled_has_no_fault}
 use Rattle.md_dimacs.proofs.FileLemmas.{one_graph}
-use Rattle.md_script.specs.declared.edit.Edit.{Edit}
+use Rattle.md_script.specs.declared.item.Item.{Item}
 use Rattle.md_script.specs.File.{SpellsScript}
 use Rattle.md_script.proofs.FileLemmas.{script_has_no_fault, script_spelled_or_faulty}
 use Rattle.md_input.specs.declared.format.Format.{Format}
@@ -38,7 +38,7 @@ graph_alike : (from : Format) (bytes : List ℕ) (g h : PlainGraph) → SpellsGr
 graph_alike from bytes g h a b = ap (first_or g) (graphs_alike from bytes (g ∷ []) (h ∷ []) a b)
 
 -- bytes spell one script
-script_alike : (bytes : List ℕ) (a b : List Edit) → SpellsScript bytes a → SpellsScript bytes b → a ≡ b
+script_alike : (bytes : List ℕ) (a b : List Item) → SpellsScript bytes a → SpellsScript bytes b → a ≡ b
 script_alike bytes a b sa sb =
     let one : SpellsOne SpellsScript bytes = subst (λ f. MatchOption f (SpellsOne SpellsScript bytes) (λ _. SpellsNone SpellsScript bytes)) (script_has_no_fault bytes a sa) (script_spelled_or_faulty bytes) in
     one.1.only a sa ∙ sym (one.1.only b sb)
@@ -47,12 +47,12 @@ pub one_output : OneOutput
 one_output (Graphs form from graph) a b ga gb =
     ga.2 ∙ ap (over_graphs form) (graphs_alike from graph ga.0 gb.0 ga.1 gb.1) ∙ sym gb.2
 one_output (Session mode from graph script) a b ga gb =
-    ga.4 ∙ ap₂ (λ (g : PlainGraph) (edits : List Edit). report (before_session mode g edits))
+    ga.4 ∙ ap₂ (λ (g : PlainGraph) (items : List Item). report (before_session mode g items))
     (graph_alike from graph ga.0 gb.0 ga.2 gb.2) (script_alike script ga.1 gb.1 ga.3 gb.3) ∙ sym gb.4
 one_output (CheckGraphs mode from graph bytes) a b ga gb =
     ga.2 ∙ ap (λ (graphs : List PlainGraph). answer (before_head mode graphs) bytes) (graphs_alike from graph ga.0 gb.0 ga.1 gb.1) ∙ sym gb.2
 one_output (CheckSession mode from graph script bytes) a b ga gb =
-    ga.4 ∙ ap₂ (λ (g : PlainGraph) (edits : List Edit). answer (before_session mode g edits) bytes)
+    ga.4 ∙ ap₂ (λ (g : PlainGraph) (items : List Item). answer (before_session mode g items) bytes)
     (graph_alike from graph ga.0 gb.0 ga.2 gb.2) (script_alike script ga.1 gb.1 ga.3 gb.3) ∙ sym gb.4
 one_output (Big size) a b ga gb =
     ga.2 ∙ ap (λ (n : Numbers). text (numbers_line n)) (numbers_alike size ga.0 gb.0 ga.1 gb.1) ∙ sym gb.2

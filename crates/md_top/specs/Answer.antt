@@ -8,7 +8,7 @@ use Rattle.md_graph.specs.declared.TheConstants.{NAMES}
 use Rattle.md_graph.specs.PlainGraph.{PlainGraph}
 use Rattle.md_graph6.specs.Text.{graph6_text}
 use Rattle.md_dimacs.specs.Text.{dimacs_text}
-use Rattle.md_script.specs.declared.edit.Edit as script_edits
+use Rattle.md_script.specs.declared.item.Item as script_items
 use Rattle.md_script.specs.File.{SpellsScript}
 use Rattle.md_input.specs.declared.format.Format.{Format}
 use Rattle.md_input.specs.declared.format.Format.TheVariants.{G6, Dimacs}
@@ -74,13 +74,13 @@ abbrev pub Gives : Request (List ℕ) → Output → Type 0
 Gives (Graphs form from graph) output =
     (graphs : List PlainGraph) × SpellsGraphs from graph graphs × (output ≡ over_graphs form graphs)
 Gives (Session mode from graph script) output =
-    (g : PlainGraph) × (edits : List script_edits.Edit) × SpellsGraphs from graph (g ∷ []) × SpellsScript script edits
-    × (output ≡ report (before_session mode g edits))
+    (g : PlainGraph) × (items : List script_items.Item) × SpellsGraphs from graph (g ∷ []) × SpellsScript script items
+    × (output ≡ report (before_session mode g items))
 Gives (CheckGraphs mode from graph bytes) output =
     (graphs : List PlainGraph) × SpellsGraphs from graph graphs × (output ≡ answer (before_head mode graphs) bytes)
 Gives (CheckSession mode from graph script bytes) output =
-    (g : PlainGraph) × (edits : List script_edits.Edit) × SpellsGraphs from graph (g ∷ []) × SpellsScript script edits
-    × (output ≡ answer (before_session mode g edits) bytes)
+    (g : PlainGraph) × (items : List script_items.Item) × SpellsGraphs from graph (g ∷ []) × SpellsScript script items
+    × (output ≡ answer (before_session mode g items) bytes)
 Gives (Big size) output = (n : Numbers) × AreNumbersOf size n × (output ≡ text (numbers_line n))
 
 -- the request over these contents is a check with this answer

@@ -1,6 +1,6 @@
 -- A session on cographs from the graph without vertices over edits that a number alone gives, and the numbers that are told of it.
 -- Source: Shamir and Sharan, A fully dynamic algorithm for modular decomposition and recognition of cographs; the edits are this project's.
-use Rattle.std.specs.Prelude.{◌≡◌, ℕ, zero, suc, ◌%◌, ◌==◌, ◌&&◌, Bool, nat_le, List, [], ◌∷◌, ◌++◌, codes, Option, if◌then◌else◌}
+use Rattle.std.specs.Prelude.{◌≡◌, ℕ, zero, suc, ◌%◌, ◌==◌, ◌&&◌, Bool, nat_le, List, [], ◌∷◌, ◌++◌, map, codes, Option, if◌then◌else◌}
 use Rattle.std.specs.FinSet as set
 use Rattle.md_text.specs.Numbers.{decimal}
 use Rattle.md_graph.specs.PlainGraph.{PlainGraph, adjacent, empty_graph}
@@ -10,9 +10,11 @@ use Rattle.md_tree.specs.Trees.{PlainTree, nodes_in}
 use Rattle.md_tree.specs.StrongTrees.{IsTree}
 use Rattle.md_script.specs.declared.edit.Edit.{Edit}
 use Rattle.md_script.specs.declared.edit.Edit.TheVariants.{DelEdge, AddVertex, DelVertex}
+use Rattle.md_script.specs.declared.item.Item.TheVariants.{One}
+use Rattle.md_report.specs.declared.line.SessionMode.TheVariants.{Quiet}
 use Rattle.md_report.specs.Lines.{PlainLine}
-use Rattle.md_report.specs.Sessions.{last_state, count_applied, count_refused}
-use Rattle.md_report.specs.Cographs.{QuietRun}
+use Rattle.md_report.specs.Sessions.{State, last_state, count_applied, count_refused}
+use Rattle.md_report.specs.ItemLines.{Run}
 use Rattle.md_top.specs.declared.big.Numbers.{Numbers}
 
 -- the edits at each name below a number, one name after the other
@@ -50,14 +52,19 @@ cuts size = edits_below cuts_at size
 abbrev pub deletions : ℕ → List Edit
 deletions size = edits_below deletions_at size
 
--- The run of a session on cographs over edits that leads from g to h, by its lines in mode quiet: so many edits are applied, and so many
--- aren't.
-pub record RunsTo (g : PlainGraph) (edits : List Edit) (done undone : ℕ) (h : PlainGraph) : Type 0 where
+-- The run of a session on cographs over edits, each an item, that leads from one state to another, by its lines in mode quiet: so many
+-- edits are applied, and so many aren't.
+pub record Runs (s : State) (edits : List Edit) (done undone : ℕ) (t : State) : Type 0 where
   pub lines : List PlainLine
-  pub run : QuietRun g edits lines
+  pub run : Run Quiet s (map One edits) lines
   pub done_is : done ≡ count_applied lines
   pub undone_is : undone ≡ count_refused lines
-  pub last : h ≡ last_state g edits lines
+  pub last : t ≡ last_state s (map One edits) lines
+
+-- the same from the graph g to the graph h, whatever the earlier graphs are
+abbrev pub RunsTo : PlainGraph → List Edit → ℕ → ℕ → PlainGraph → Type 0
+RunsTo g edits done undone h =
+    (earlier : List PlainGraph) → (later : List PlainGraph) × Runs (record { graph = g; earlier = earlier }) edits done undone (record { graph = h; earlier = later })
 
 -- the tree of strong modules of g has n nodes
 abbrev pub HasNodes : PlainGraph → ℕ → Type 0

@@ -7,3 +7,4 @@ pub mod Command
 pub mod Status
 pub mod Promise
 pub mod Laws
+pub mod CographModes

@@ -101,6 +101,9 @@ script_name script.FieldCount = codes "FieldCount"
 script_name script.BadNumber = codes "BadNumber"
 script_name script.NameTooLarge = codes "NameTooLarge"
 script_name script.TooManyEdits = codes "TooManyEdits"
+script_name script.Nested = codes "Nested"
+script_name script.NoGroup = codes "NoGroup"
+script_name script.OpenGroup = codes "OpenGroup"
 
 -- the line that names a fault of the graph file
 abbrev pub graph_fault_line : List ℕ → ℕ → List ℕ

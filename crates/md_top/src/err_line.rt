@@ -52,6 +52,9 @@ fn script_name(kind: ScriptKind) -> &'static str
         ScriptKind::BadNumber => "BadNumber",
         ScriptKind::NameTooLarge => "NameTooLarge",
         ScriptKind::TooManyEdits => "TooManyEdits",
+        ScriptKind::Nested => "Nested",
+        ScriptKind::NoGroup => "NoGroup",
+        ScriptKind::OpenGroup => "OpenGroup",
     }
 }
 

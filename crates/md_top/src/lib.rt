@@ -3,12 +3,12 @@
 
 mod big;
 mod check;
+mod cographs;
 mod convert;
 mod err_line;
 pub mod laws;
 mod load;
 mod put;
-mod quiet;
 mod report;
 mod request;
 mod session;

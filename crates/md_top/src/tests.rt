@@ -541,7 +541,7 @@ fn runs_over_files_that_refuse(rt: HostRuntime) -> Result<(), Fail> {
 #[test]
 fn sessions_on_cographs(rt: HostRuntime) -> Result<(), Fail> {
     let alloc = rt.alloc();
-    let table: [(&str, &[u8], &[u8], &str); 8] = [
+    let table: [(&str, &[u8], &[u8], &str); 13] = [
         (
             "cograph g6 g s",
             b"Cg\n",
@@ -584,6 +584,36 @@ fn sessions_on_cographs(rt: HostRuntime) -> Result<(), Fail> {
             b"*e 0 1\n",
             "3||mdt: script UnknownEdit line 1\n",
         ),
+        (
+            "cograph g6 g s",
+            b"Cg\n",
+            b"begin\n+e 0 2\n-e 0 2\n+e 2 3\ncommit\nbegin\n+e 1 3\n+e 2 2\ncommit\nbegin\ncommit\n",
+            "0|mdt cograph\nt P(S(P(0,2),1),3)\nno edit 3 p4 0 1 2 3\nno edit 2 same\nok P(S(P(0,2),1),3)\nend\n|",
+        ),
+        (
+            "cograph g6 g s",
+            b"Cg\n",
+            b"begin\n+e 2 3\n+e 1 3\ncommit\nundo\n",
+            "0|mdt cograph\nt P(S(P(0,2),1),3)\nno edit 1 p4 0 1 2 3\nno undo\nend\n|",
+        ),
+        (
+            "cograph g6 g s",
+            b"Ch\n",
+            b"undo\n",
+            "0|mdt cograph\np4 0 1 2 3\nend\n|",
+        ),
+        (
+            "cograph g6 g s",
+            b"@\n",
+            b"commit\n",
+            "3||mdt: script NoGroup line 1\n",
+        ),
+        (
+            "cograph g6 g s",
+            b"@\n",
+            b"undo 1\n",
+            "3||mdt: script FieldCount line 1\n",
+        ),
         ("cograph g6 g", b"@\n", b"", "2||mdt: usage\n"),
     ];
     for (line, file, script, want) in table {
@@ -596,7 +626,7 @@ fn sessions_on_cographs(rt: HostRuntime) -> Result<(), Fail> {
 #[test]
 fn quiet_sessions(rt: HostRuntime) -> Result<(), Fail> {
     let alloc = rt.alloc();
-    let table: [(&str, &[u8], &[u8], &str); 6] = [
+    let table: [(&str, &[u8], &[u8], &str); 8] = [
         (
             "quiet g6 g s",
             b"Cg\n",
@@ -627,6 +657,18 @@ fn quiet_sessions(rt: HostRuntime) -> Result<(), Fail> {
             b"*e 0 1\n",
             "3||mdt: script UnknownEdit line 1\n",
         ),
+        (
+            "quiet g6 g s",
+            b"Bg\n",
+            b"+e 0 2\nundo\nundo\n",
+            "0|mdt quiet\nok\nok\nno undo\nt S(P(0,2),1)\nend\n|",
+        ),
+        (
+            "quiet g6 g s",
+            b"@\n",
+            b"begin\nundo\n",
+            "3||mdt: script Nested line 2\n",
+        ),
         ("quiet g6 g", b"@\n", b"", "2||mdt: usage\n"),
     ];
     for (line, file, script, want) in table {
@@ -639,7 +681,7 @@ fn quiet_sessions(rt: HostRuntime) -> Result<(), Fail> {
 #[test]
 fn sessions(rt: HostRuntime) -> Result<(), Fail> {
     let alloc = rt.alloc();
-    let table: [(&str, &[u8], &[u8], &str); 16] = [
+    let table: [(&str, &[u8], &[u8], &str); 21] = [
         (
             "edit dimacs g s",
             b"p edge 3 2\ne 1 2\ne 2 3\n",
@@ -663,6 +705,36 @@ fn sessions(rt: HostRuntime) -> Result<(), Fail> {
             b"DhO\n",
             b"+e 0 4\n-v 3\n+v 3 0 1 2 4\n",
             "0|mdt edit\nt R(P(0,4),1,2,3;0-1,1-2,2-3)\nok R(S(0,4),1,2,3;0-1,1-2,2-3)\nok S(P(S(0,4),2),1)\nok S(P(S(0,4),2),1,3)\nend\n|",
+        ),
+        (
+            "edit g6 g s",
+            b"Bg\n",
+            b"begin\n+e 0 2\n-v 1\ncommit\nundo\nundo\n",
+            "0|mdt edit\nt S(P(0,2),1)\nok S(0,2)\nok S(P(0,2),1)\nno undo\nend\n|",
+        ),
+        (
+            "edit g6 g s",
+            b"Bg\n",
+            b"+e 0 2\nbegin\n-e 0 2\n-e 0 2\ncommit\nundo\nundo\n",
+            "0|mdt edit\nt S(P(0,2),1)\nok S(0,1,2)\nno edit 2 edge-absent\nok S(P(0,2),1)\nno undo\nend\n|",
+        ),
+        (
+            "edit g6 g s",
+            b"Cg\n",
+            b"begin\n+e 2 3\n+e 1 3\ncommit\nbegin\n-v 1\n+v 1 0\ncommit\nundo\n",
+            "0|mdt edit\nt P(S(P(0,2),1),3)\nok S(P(0,S(2,3)),1)\nok P(S(0,1),S(2,3))\nok S(P(0,S(2,3)),1)\nend\n|",
+        ),
+        (
+            "edit g6 g s",
+            b"@\n",
+            b"begin\n# x\n\n+v 1\r\ncommit\r\n",
+            "0|mdt edit\nt 0\nok P(0,1)\nend\n|",
+        ),
+        (
+            "edit g6 g s",
+            b"@\n",
+            b"begin\n+e 0 1\n",
+            "3||mdt: script OpenGroup line 3\n",
         ),
         (
             "edit g6 g s",

@@ -205,7 +205,7 @@ fn checks_of_orientations(rt: HostRuntime) -> Result<(), Fail> {
 #[test]
 fn checks_of_sessions(rt: HostRuntime) -> Result<(), Fail> {
     let alloc = rt.alloc();
-    let table: [(&str, &[u8], &[u8], &[u8], &str); 15] = [
+    let table: [(&str, &[u8], &[u8], &[u8], &str); 19] = [
         (
             "check edit dimacs g s r",
             b"p edge 3 2\ne 1 2\ne 2 3\n",
@@ -282,6 +282,34 @@ fn checks_of_sessions(rt: HostRuntime) -> Result<(), Fail> {
             b"-v 0\n",
             b"mdt cograph\nt R(0,1,2,3;0-1,1-2,2-3)\nend\n",
             "1|rejected line 2\n|",
+        ),
+        (
+            "check edit g6 g s r",
+            b"Bg\n",
+            b"begin\n+e 0 2\n-v 1\ncommit\nundo\nundo\n",
+            b"mdt edit\nt S(P(0,2),1)\nok S(0,2)\nok S(P(0,2),1)\nno undo\nend\n",
+            "0|accepted\n|",
+        ),
+        (
+            "check edit g6 g s r",
+            b"Bg\n",
+            b"begin\n+e 0 2\n-v 1\ncommit\nundo\nundo\n",
+            b"mdt edit\nt S(P(0,2),1)\nok S(0,2)\nok S(P(0,2),1)\nok S(P(0,2),1)\nend\n",
+            "1|rejected line 5\n|",
+        ),
+        (
+            "check cograph g6 g s r",
+            b"Cg\n",
+            b"begin\n+e 0 2\n-e 0 2\n+e 2 3\ncommit\nbegin\n+e 1 3\n+e 2 2\ncommit\nbegin\ncommit\n",
+            b"mdt cograph\nt P(S(P(0,2),1),3)\nno edit 3 p4 0 1 2 3\nno edit 2 same\nok P(S(P(0,2),1),3)\nend\n",
+            "0|accepted\n|",
+        ),
+        (
+            "check quiet g6 g s r",
+            b"Bg\n",
+            b"+e 0 2\nundo\nundo\n",
+            b"mdt quiet\nok\nok\nno undo\nt S(P(0,2),1)\nend\n",
+            "0|accepted\n|",
         ),
         (
             "check edit g6 g s r",

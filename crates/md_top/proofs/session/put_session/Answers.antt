@@ -28,5 +28,5 @@ returns-in-Quiet-clause-puts g c =
     puts_behind _ (at_state c.args.mode c.args.graph c.args.script.now) after_end _ _ _ _ _ _ _
     (c.in_ok-put_report_line.ensures.puts (before_session c.args.mode c.args.graph c.args.script.now) (ap head c.mode.ensures))
     c.put_report_line.ensures.faults_never_fall
-    (subst (λ (mode : SessionMode). PutsLines (at_state mode c.args.graph c.args.script.now) after_end c.put_quiet.result (sink_run g.O.Sink c.put_report_line.new.out c.put_quiet.new.out))
-    (sym c.in-Quiet.is) c.put_quiet.ensures.puts)
+    (subst (λ (mode : SessionMode). PutsLines (at_state mode c.args.graph c.args.script.now) after_end c.put_cographs-in-Quiet.result (sink_run g.O.Sink c.put_report_line.new.out c.put_cographs-in-Quiet.new.out))
+    (sym c.in-Quiet.is) c.put_cographs-in-Quiet.ensures.puts)

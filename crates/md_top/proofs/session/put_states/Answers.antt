@@ -1,23 +1,24 @@
--- The tree of the first state, and the lines of the edits, one behind the other.
+-- The tree of the first state, and the lines of the items, one behind the other.
 use Rattle.std.proofs.Common.{◌≤◌, refl, subst, arith}
 use Rattle.md_graph.specs.PlainGraph.{PlainGraph, adjacent}
 use Rattle.md_tree.specs.StrongTrees.{IsTree}
 use Rattle.md_tree.specs.Plain.{plain_option}
 use Rattle.md_report.specs.declared.line.SessionMode.TheVariants as modes
-use Rattle.md_report.specs.Places.{at_state, at_edits, after_end}
+use Rattle.md_report.specs.Places.{at_state, at_items, after_end}
+use Rattle.md_report.specs.Sessions.{first_state}
 use Rattle.md_top.specs.Sinks.{sink_run, PutsLines}
 use Rattle.md_top.proofs.Lines.{puts_behind, stopped_behind, no_lines}
 use Rattle.md_top.proofs.session.put_states.Goals as goal
 
 pub returns-clause-puts : goal.returns-clause-puts
 returns-clause-puts g c =
-    puts_behind _ (at_edits modes.Edit c.args.graph c.args.script.now) after_end _ _ _ _ _ _ _
+    puts_behind _ (at_items modes.Edit (first_state c.args.graph) c.args.script.now) after_end _ _ _ _ _ _ _
     (c.in_ok-put_report_line.ensures.puts (at_state modes.Edit c.args.graph c.args.script.now)
     (plain_option c.in_ok-tree.tree, subst (λ (s : PlainGraph). IsTree (adjacent s) s.vertices (plain_option c.in_ok-tree.tree)) c.new-session.ensures c.in_ok-tree.ensures, refl))
     c.put_report_line.ensures.faults_never_fall
-    (subst (λ (s : PlainGraph). PutsLines (at_edits modes.Edit s c.args.script.now) after_end c.put_edits.result
-    (sink_run g.O.Sink c.put_report_line.new.out c.put_edits.new.out))
-    c.new-session.ensures c.put_edits.ensures.puts)
+    (subst (λ (s : PlainGraph). PutsLines (at_items modes.Edit (first_state s) c.args.script.now) after_end c.put_items.result
+    (sink_run g.O.Sink c.put_report_line.new.out c.put_items.new.out))
+    c.new-session.ensures c.put_items.ensures.puts)
 
 pub returns-in_err-put_report_line-clause-puts : goal.returns-in_err-put_report_line-clause-puts
 returns-in_err-put_report_line-clause-puts g c =

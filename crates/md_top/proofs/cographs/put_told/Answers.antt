@@ -1,10 +1,11 @@
--- The tree of the first state, and the lines of the edits, one behind the other.
+-- The tree of the first state, and the lines of the items, one behind the other.
 use Rattle.std.proofs.Common.{◌≤◌, refl, inr, arith}
 use Rattle.md_tree.specs.Plain.{plain_option}
 use Rattle.md_report.specs.declared.line.SessionMode.TheVariants as modes
-use Rattle.md_report.specs.Places.{at_state, at_edits, after_end}
+use Rattle.md_report.specs.Places.{at_state, at_items, after_end}
+use Rattle.md_report.specs.Sessions.{first_state}
 use Rattle.md_top.proofs.Lines.{puts_behind, stopped_behind, stopped_before, no_lines}
-use Rattle.md_top.proofs.session.put_opened.Goals as goal
+use Rattle.md_top.proofs.cographs.put_told.Goals as goal
 
 pub returns-in_err-tree-clause-puts : goal.returns-in_err-tree-clause-puts
 returns-in_err-tree-clause-puts g c =
@@ -13,7 +14,7 @@ returns-in_err-tree-clause-puts g c =
 
 pub returns-clause-puts : goal.returns-clause-puts
 returns-clause-puts g c =
-    puts_behind _ (at_edits modes.Cograph c.args.session c.args.script.now) after_end _ _ _ _ _ _ _
+    puts_behind _ (at_items modes.Cograph (first_state c.args.session) c.args.script.now) after_end _ _ _ _ _ _ _
     (c.in_ok-put_report_line.ensures.puts (at_state modes.Cograph c.args.session c.args.script.now)
     (inr (c.requires.cograph, (plain_option c.in_ok-tree.tree, c.in_ok-tree.ensures.tree, refl))))
     c.put_report_line.ensures.faults_never_fall
