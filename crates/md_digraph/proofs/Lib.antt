@@ -2,4 +2,5 @@ pub mod DirectedLimits
 pub mod DigraphLemmas
 mod ArcRowLemmas
 pub mod ArcTurns
+pub mod BackTurns
 mod ArcLaws

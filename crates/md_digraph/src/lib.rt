@@ -2,6 +2,7 @@
 //! the components of both kinds.
 #![tactic(auto)]
 
+mod back_search;
 mod closure_search;
 mod components;
 mod digraph;
@@ -10,6 +11,7 @@ mod shared;
 #[cfg(test)]
 mod tests;
 
+pub use back_search::directed_back;
 pub use closure_search::{directed_closure, directed_closure_in, directed_grow};
 pub use components::{parallel_component, series_component};
 pub use digraph::{Digraph, DigraphOf};

@@ -5,14 +5,14 @@ use Rattle.md_tree.specs.Trees.{PlainTreeOf, leaf, node}
 use Rattle.md_tree.specs.NodeLists.{nodes_backward}
 
 -- the name of a leaf is below n; an inner node has no name of its own
-abbrev pub IsBelow : {K P : Type 0} → ℕ → PlainTreeOf K P → Type 0
-IsBelow n (leaf v) = v < n
-IsBelow n (node k cs ps) = ⊤
+abbrev pub IsLeafBelow : {K P : Type 0} → ℕ → PlainTreeOf K P → Type 0
+IsLeafBelow n (leaf v) = v < n
+IsLeafBelow n (node k cs ps) = ⊤
 
 -- that of each leaf of the list is
 abbrev pub AreBelow : {K P : Type 0} → ℕ → List (PlainTreeOf K P) → Type 0
 AreBelow n [] = ⊤
-AreBelow n (t ∷ ts) = IsBelow n t × AreBelow n ts
+AreBelow n (t ∷ ts) = IsLeafBelow n t × AreBelow n ts
 
 -- that of each leaf of the tree is, or there is no tree
 abbrev pub HasLeavesBelow : {K P : Type 0} → ℕ → Option (PlainTreeOf K P) → Type 0

@@ -3,7 +3,7 @@ ghost use Rattle.std.specs.Prelude.{◌≡◌, ◌↔◌, map, IsTrue, IfOk};
 ghost use Rattle.md_digraph.specs.declared.TheConstants.{DIRECTED_NAMES};
 ghost use Rattle.md_tree.specs.Plain.{plain, plain_option};
 ghost use Rattle.md_tree.specs.Parts.{plain_at};
-ghost use Rattle.md_dtree.specs.NamesBelow.{IsBelow, AreBelow, HasLeavesBelow};
+ghost use Rattle.md_dtree.specs.NamesBelow.{IsLeafBelow, AreBelow, HasLeavesBelow};
 ghost use Rattle.md_dtree.specs.DirectedTexts.{directed_text_of, IsDirectedReading};
 
 use crate::DTree;
@@ -66,7 +66,7 @@ fn are_within_limit(nodes: &[&DTree]) -> bool
 
 #[tactic(auto, using(md_tree::proofs::Plain::plain_is_leaf, md_tree::proofs::Plain::plain_is_node))]
 fn is_node_within_limit(node: &DTree) -> bool
-    ensures { IsTrue result ↔ IsBelow DIRECTED_NAMES (plain node.now) }
+    ensures { IsTrue result ↔ IsLeafBelow DIRECTED_NAMES (plain node.now) }
 {
     match node {
         DTree::Leaf(name) => *name < DIRECTED_NAMES,
