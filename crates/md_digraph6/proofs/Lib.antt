@@ -1,0 +1,5 @@
+mod ArcBits
+mod ArcFill
+mod ArcLines
+pub mod ArcFiles
+pub mod ArcReading

@@ -1,0 +1,162 @@
+//! Whole files: what is read from them, and the fault that is named.
+ghost use Rattle.std.specs.Prelude.{◌≡◌};
+ghost use Rattle.md_digraph.specs.PlainDigraph.{empty_digraph};
+
+use crate::{DirectedLines, scan_directed};
+use md_digraph::{Digraph, DigraphOf};
+use md_graph6::{G6Fault, G6Kind};
+use std::process::Abort;
+use std::test::Fail;
+
+// The number of vertices and the arcs of a directed graph.
+type Wanted = (u32, &'static [(u32, u32)]);
+
+// The number of arcs from u to numbers below n.
+fn arcs_from(graph: &Digraph, u: u32, n: u32) -> usize {
+    let mut count: usize = 0;
+    for v in 0..n {
+        count = count.wrapping_add(usize::from(graph.has_arc(u, v)));
+    }
+    count
+}
+
+// The number of arcs between numbers below n.
+fn arc_count(graph: &Digraph, n: u32) -> usize {
+    let mut count: usize = 0;
+    for u in 0..n {
+        count = count.wrapping_add(arcs_from(graph, u, n));
+    }
+    count
+}
+
+// The next directed graph of the file has these vertices and arcs.
+fn gives(
+    rt: &impl Abort,
+    lines: &mut DirectedLines,
+    graph: &mut Digraph,
+    n: u32,
+    arcs: &[(u32, u32)],
+)
+    requires { graph.old ≡ empty_digraph }
+    ensures { graph.new ≡ empty_digraph }
+{
+    assert_eq!(rt; lines.next_bound(), n);
+    assert!(rt; lines.next(graph));
+    assert_eq!(rt; graph.count(), n);
+    assert_eq!(rt; arc_count(graph, n), arcs.len());
+    for (u, v) in arcs {
+        assert!(rt; graph.has_arc(*u, *v));
+    }
+    graph.clear();
+}
+
+// The file spells these directed graphs.
+fn spells(rt: &impl Abort, graph: &mut Digraph, bytes: &[u8], digraphs: &[Wanted])
+    requires { graph.old ≡ empty_digraph }
+    ensures { graph.new ≡ empty_digraph }
+{
+    let Ok(count) = scan_directed(bytes) else {
+        panic!(rt; "a fault");
+    };
+    assert_eq!(rt; count as usize, digraphs.len());
+    let mut lines = DirectedLines::new(bytes);
+    for (n, arcs) in digraphs {
+        gives(rt, &mut lines, graph, *n, arcs);
+    }
+    assert!(rt; !lines.next(graph));
+}
+
+// The file has this first fault.
+fn refuses(rt: &impl Abort, bytes: &[u8], kind: G6Kind, line: u64) {
+    assert_eq!(rt; scan_directed(bytes), Err(G6Fault { kind, line }));
+}
+
+#[test]
+fn files_spell(rt: HostRuntime) -> Result<(), Fail> {
+    let mut graph = Digraph::new(rt.alloc())?;
+    let g = &mut graph;
+    spells(&rt, g, b"", &[]);
+    spells(&rt, g, b">>digraph6<<", &[]);
+    spells(&rt, g, b"&?\n&@?\n", &[(0, &[]), (1, &[])]);
+    spells(
+        &rt,
+        g,
+        b">>digraph6<<&DI?AO?\r\n",
+        &[(5, &[(0, 2), (0, 4), (3, 1), (3, 4)])],
+    );
+    spells(
+        &rt,
+        g,
+        b"&BP_\n&BCo\r\n\n&AG\n\r\n&AW",
+        &[
+            (3, &[(0, 1), (1, 2), (2, 0)]),
+            (3, &[(1, 0), (2, 0), (2, 1)]),
+            (2, &[(1, 0)]),
+            (2, &[(0, 1), (1, 0)]),
+        ],
+    );
+    Ok(())
+}
+
+#[test]
+fn empty_lines_are_passed_over(rt: HostRuntime) -> Result<(), Fail> {
+    let bytes = b"\r\n\n&AG\n\r";
+    let Ok(_) = scan_directed(bytes) else {
+        panic!(&rt; "a fault");
+    };
+    let mut graph: DigraphOf<1> = DigraphOf::new(rt.alloc())?;
+    let mut lines = DirectedLines::new(bytes);
+    assert_eq!(&rt; lines.next_bound(), 2);
+    assert!(&rt; lines.take_first(&mut graph));
+    assert!(&rt; graph.has_arc(1, 0));
+    assert_eq!(&rt; lines.next_bound(), 0);
+    Ok(())
+}
+
+#[test]
+fn long_sizes_are_read(rt: HostRuntime) -> Result<(), Fail> {
+    let mut graph = Digraph::new(rt.alloc())?;
+    let mut file = Vec::new(rt.alloc());
+    file.extend_from_slice(b"&~??~?_")?;
+    file.resize(667, b'?')?;
+    spells(&rt, &mut graph, &file, &[(63, &[(0, 6)])]);
+    file.clear();
+    file.extend_from_slice(b"&~@??")?;
+    file.resize(2_796_207, b'?')?;
+    file.push(b'C')?;
+    refuses(&rt, &file, G6Kind::Loop, 1);
+    file.clear();
+    file.extend_from_slice(b"&~@??")?;
+    file.resize(2_796_207, b'?')?;
+    file.push(b'B')?;
+    refuses(&rt, &file, G6Kind::BadPadding, 1);
+    file.clear();
+    file.extend_from_slice(b"&~@??")?;
+    file.resize(2_796_207, b'?')?;
+    file.push(b'G')?;
+    spells(&rt, &mut graph, &file, &[(4096, &[(4095, 4094)])]);
+    Ok(())
+}
+
+#[test]
+fn faults_are_named(rt: HostRuntime) {
+    refuses(&rt, b"DQc\n", G6Kind::OtherFormat, 1);
+    refuses(&rt, b"&?\n:A_\n", G6Kind::OtherFormat, 2);
+    refuses(&rt, b">>digraph6<<>>digraph6<<&?\n", G6Kind::OtherFormat, 1);
+    refuses(&rt, b"&\n", G6Kind::Truncated, 1);
+    refuses(&rt, b"&>\n", G6Kind::BadByte, 1);
+    refuses(&rt, b"&A!!\n", G6Kind::BadByte, 1);
+    refuses(&rt, b"&~?\n", G6Kind::Truncated, 1);
+    refuses(&rt, b"&~??}\n", G6Kind::BadSize, 1);
+    refuses(&rt, b"&~~??????\n", G6Kind::BadSize, 1);
+    refuses(&rt, b"&~@?@\n", G6Kind::TooManyVertices, 1);
+    refuses(&rt, b"&~~~~~~~~\n", G6Kind::TooManyVertices, 1);
+    refuses(&rt, b"&AG\n\n&B_\n", G6Kind::Truncated, 3);
+    refuses(&rt, b"&@__\n", G6Kind::TrailingBytes, 1);
+    refuses(&rt, b"&@_\n", G6Kind::Loop, 1);
+    refuses(&rt, b"&@~\n", G6Kind::Loop, 1);
+    refuses(&rt, b"&@^\n", G6Kind::BadPadding, 1);
+    refuses(&rt, b"&AD\n", G6Kind::Loop, 1);
+    refuses(&rt, b"&AC\n", G6Kind::Loop, 1);
+    refuses(&rt, b"&AA\n", G6Kind::BadPadding, 1);
+}
