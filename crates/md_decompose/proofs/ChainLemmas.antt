@@ -11,11 +11,12 @@ use Rattle.md_graph.specs.NameSet.{AllBelow, IsLeastFrom, NoneFrom, ascending, s
 use Rattle.md_graph.specs.Sets.{NameSet, Has, Lacks, Within}
 use Rattle.md_graph.proofs.NameLemmas.{from_list-ascending}
 use Rattle.md_graph.proofs.SetLemmas.{clash, empty_lacks, insert_new, insert_old, of_insert, of_minus, minus_has, same_members, same_name, Has-along, along_two, rest_told}
-use Rattle.md_graph.proofs.Search.{len_one_more, len_proper, larger_or_same}
+use Rattle.md_graph.proofs.Search.{decide_test, len_one_more, len_proper, larger_or_same}
 use Rattle.md_graph.specs.Adjacency.{IsAdjacency}
 use Rattle.md_modules.specs.Modules.{IsModule, IsLeastModule, IsLeastModuleOver, IsStrong}
 use Rattle.md_modules.specs.Kinds.{IsPrime}
-use Rattle.md_modules.proofs.Modules.{module_inside, module_of_module}
+use Rattle.md_modules.proofs.Modules.{undirected, module_inside, module_of_module}
+use Rattle.md_modules.proofs.Components.{prime_unsplit}
 use Rattle.md_modules.proofs.Strong.{nested_if_meet}
 use Rattle.md_text.proofs.Lists.{In, of_contains}
 use Rattle.md_decompose.specs.declared.nested_modules.Step.{Step}
@@ -311,7 +312,7 @@ module _ {e : ℕ → ℕ → Bool} where
     -- the last module, and the name that led to it
     pub steps_held : (taken : List ℕ) (steps : List Step) (last : ℕ) → AreSteps e s v taken steps → (length steps ≡ 0 → last ≡ v) →
         (0 < length steps → last ≡ (step_at steps (length steps - 1)).led) → IsHeld e s v last (with_names v taken)
-    steps_held [] [] last are none some = subst (λ j. IsHeld e s v j (insert empty v)) (sym (none refl)) (held_begins s (insert empty v) v prime hv refl)
+    steps_held [] [] last are none some = subst (λ j. IsHeld e s v j (insert empty v)) (sym (none refl)) (held_begins s (insert empty v) v (prime_unsplit s prime) hv refl)
     steps_held (x ∷ taken) [] last are none some = absurd (let b : suc (length taken) ≡ 0 = are.ends in omega arith)
     steps_held taken (t ∷ ts) last are none some =
         let k : ℕ = length ts in
@@ -322,7 +323,7 @@ module _ {e : ℕ → ℕ → Bool} where
         some (let b : 0 < suc k = omega arith in b) ∙ (let same : suc k - 1 ≡ k = omega arith in ap (λ i. (step_at (t ∷ ts) i).led) same) in
         subst (λ j. IsHeld e s v j (with_names v taken)) (sym led)
         (subst (λ xs. IsHeld e s v t_last.led (with_names v xs)) whole
-        (held_grown adj s (with_names v (take t_last.from taken)) (with_names v (take t_last.to taken)) v t_last.led prime is.grown.is_module is.grown.start
+        (held_grown (undirected adj) decide_test s (with_names v (take t_last.from taken)) (with_names v (take t_last.to taken)) v t_last.led (prime_unsplit s prime) is.grown.is_module is.grown.start
         (is.grown.least.is_module.inside t_last.led (is.grown.least.holds t_last.led (insert_new (with_names v (take t_last.from taken)) t_last.led)))
         is.grown.new is.grown.least))
 
@@ -343,7 +344,7 @@ module _ {e : ℕ → ℕ → Bool} where
       over_begun = subst (λ b. IsLeastModuleOver e s (insert b j) held) copied over
 
       pub turn_held : IsHeld e s v j held
-      turn_held = held_grown adj s begun held v j prime is.is_module is.start out.0 out.1 over_begun
+      turn_held = held_grown (undirected adj) decide_test s begun held v j (prime_unsplit s prime) is.is_module is.start out.0 out.1 over_begun
 
       pub turn_grown : IsGrown e s v begun held j
       turn_grown = record { is_module = is.is_module; start = is.start; new = out.1; least = over_begun }

@@ -1,16 +1,15 @@
--- The children of a prime set: the one that holds a name, and the maximal modules inside the rest.
+-- The children of a set that doesn't split: the one that holds a name, and the maximal modules inside the rest. For any colours.
 use Rattle.std.proofs.Common.{◌≡◌, ℕ, ◌<◌, ◌≢◌, ◌↔◌, Bool, List, length, Contains, sym, ◌∙◌, subst, inl, inr}
 use Rattle.std.specs.FinSet.{contains, empty, insert, union, difference, len}
 use Rattle.md_graph.specs.NameSet.{IsLeastFrom, NoneFrom}
 use Rattle.md_graph.specs.Sets.{NameSet, Has, Lacks, Within}
-use Rattle.md_graph.specs.Adjacency.{IsAdjacency}
+use Rattle.md_modules.specs.Colours.{IsColouring, AreTold}
 use Rattle.md_modules.specs.Modules.{IsModule, IsLeastModule, IsLeastModuleOver, IsMaximalModule, IsMaximalStrong}
-use Rattle.md_modules.specs.Kinds.{IsPrime}
+use Rattle.md_modules.specs.Kinds.{IsUnsplit}
 use Rattle.std.proofs.lemmas.Bool.{cases_Bool, true_from_ne_false, false_from_ne_true}
 use Rattle.md_graph.proofs.SetLemmas.{clash, only_has, of_only, insert_new, insert_old, of_insert, union_left, union_right, of_union, minus_has, of_minus, minus_lacks, Has-along, same_members, none_lacks}
-use Rattle.md_graph.proofs.Search.{decide_test, decide_same, len_proper}
-use Rattle.md_modules.proofs.Modules.{undirected, single_module, join_module}
-use Rattle.md_modules.proofs.Components.{prime_unsplit}
+use Rattle.md_graph.proofs.Search.{decide_same, len_proper}
+use Rattle.md_modules.proofs.Modules.{single_module, join_module, other_way}
 use Rattle.md_modules.proofs.Children.{in_maximal, maximal_leaves, maximal_meet, maximal_child, child_maximal}
 use Rattle.md_decompose.specs.Children.{set_at, AreChildren}
 use Rattle.md_modules.specs.Classes.{AreMaximalInside}
@@ -19,25 +18,25 @@ use Rattle.md_decompose.proofs.OrderLemmas.{contains_at, at_contained}
 use Rattle.md_modules.proofs.ClassLists.{at_known}
 
 -- held is a module that holds v; where it is all of s, no other module holds v and j
-pub record IsHeld (e : ℕ → ℕ → Bool) (s : NameSet) (v j : ℕ) (held : NameSet) : Type 0 where
+pub record IsHeld {C : Type 0} (e : ℕ → ℕ → C) (s : NameSet) (v j : ℕ) (held : NameSet) : Type 0 where
   pub is_module : IsModule e s held
   pub start : Has held v
   pub whole : Within s held → (v ≢ j) × IsLeastModule e s v j s
 
 -- the names that no module but s holds with v
-abbrev pub IsRest : (ℕ → ℕ → Bool) → NameSet → ℕ → NameSet → Type 0
+abbrev pub IsRest : {C : Type 0} → (ℕ → ℕ → C) → NameSet → ℕ → NameSet → Type 0
 IsRest e s v rest = (i : ℕ) → Has rest i ↔ (Has s i × (i ≢ v) × IsLeastModule e s v i s)
 
 pub hold_among : (held into todo : NameSet) (j : ℕ) → into ≡ insert held j → todo ≡ insert empty j → Within todo into
 hold_among held into todo j is_into is_todo x h =
     Has-along _ _ (sym is_into) x (subst (Has (insert held j)) (sym (of_only j x (Has-along _ _ is_todo x h))) (insert_new held j))
 
-module _ {e : ℕ → ℕ → Bool} where
-  pub held_begins : (s held : NameSet) (v : ℕ) → IsPrime e s → Has s v → held ≡ insert empty v → IsHeld e s v v held
-  held_begins s held v prime h is = subst (IsHeld e s v v) (sym is) (record {
+module _ {C : Type 0} {e : ℕ → ℕ → C} where
+  pub held_begins : (s held : NameSet) (v : ℕ) → IsUnsplit e s → Has s v → held ≡ insert empty v → IsHeld e s v v held
+  held_begins s held v unsplit h is = subst (IsHeld e s v v) (sym is) (record {
     is_module = single_module s v h;
     start = only_has v;
-    whole = λ w. absurd (prime.two.4 (of_only v prime.two.0 (w prime.two.0 prime.two.2) ∙ sym (of_only v prime.two.1 (w prime.two.1 prime.two.3))));
+    whole = λ w. absurd (unsplit.two.4 (of_only v unsplit.two.0 (w unsplit.two.0 unsplit.two.2) ∙ sym (of_only v unsplit.two.1 (w unsplit.two.1 unsplit.two.3))));
   })
 
   pub held_falls : (s held more left : NameSet) (j : ℕ) → left ≡ difference s held → IsLeastFrom left 0 j → IsLeastModuleOver e s (insert held j) more →
@@ -52,14 +51,12 @@ module _ {e : ℕ → ℕ → Bool} where
   held_ends s held left v j is none held_is =
       held_is.whole (λ x h. true_from_ne_false _ (λ l. clash (Has-along _ left (sym is) x (minus_has s held x h l)) (none_lacks left none x)))
 
-  pub grow_seen : IsAdjacency e → (s held into todo : NameSet) (v j : ℕ) → IsModule e s held → Has held v → into ≡ insert held j → todo ≡ insert empty j →
+  pub grow_seen : {reverse : C → C} → IsColouring reverse e → (s held into todo : NameSet) (v j : ℕ) → IsModule e s held → Has held v → into ≡ insert held j → todo ≡ insert empty j →
       (w : ℕ) → Has into w → Lacks todo w → (y : ℕ) → Has s y → Lacks into y → e v y ≡ e w y
-  grow_seen adj s held into todo v j is hv is_into is_todo w hw l y hy ly = elim (of_insert held j w (Has-along _ _ is_into w hw)) [
+  grow_seen col s held into todo v j is hv is_into is_todo w hw l y hy ly = elim (of_insert held j w (Has-along _ _ is_into w hw)) [
     | inl same ↦ clash (Has-along _ _ (sym is_todo) w (subst (Has (insert empty j)) (sym same) (only_has j))) l
     | inr old ↦
-        adj.symmetric v y
-        ∙ is.alike v w y hv old hy (false_from_ne_true _ (λ k. clash (Has-along _ _ (sym is_into) y (insert_old held j y k)) ly))
-        ∙ adj.symmetric y w
+        other_way col y v y w (is.alike v w y hv old hy (false_from_ne_true _ (λ k. clash (Has-along _ _ (sym is_into) y (insert_old held j y k)) ly)))
   ]
 
   -- the maximal module that holds v
@@ -73,10 +70,10 @@ module _ {e : ℕ → ℕ → Bool} where
         w;
   }
 
-  module _ (adj : IsAdjacency e) where
-    pub held_grown : (s held more : NameSet) (v j : ℕ) → IsPrime e s → IsModule e s held → Has held v → Has s j → Lacks held j →
+  module _ {reverse : C → C} (col : IsColouring reverse e) (told : AreTold C) where
+    pub held_grown : (s held more : NameSet) (v j : ℕ) → IsUnsplit e s → IsModule e s held → Has held v → Has s j → Lacks held j →
         IsLeastModuleOver e s (insert held j) more → IsHeld e s v j more
-    held_grown s held more v j prime is start inside out over = record {
+    held_grown s held more v j unsplit is start inside out over = record {
       is_module = over.is_module;
       start = over.holds v (insert_old held j v start);
       whole = λ all. (
@@ -93,9 +90,9 @@ module _ {e : ℕ → ℕ → Bool} where
       covered : Within s more → (m : NameSet) → IsModule e s m → Has m v → Has m j → m ≢ s → ⊥
       covered all m module_is hv hj differs =
           let held_differs : held ≢ s = λ q. clash (Has-along s held (sym q) j inside) out in
-          let x : (x : NameSet) × IsMaximalModule e s x × Within held x = in_maximal decide_test s held is held_differs in
-          let y : (y : NameSet) × IsMaximalModule e s y × Within m y = in_maximal decide_test s m module_is differs in
-          let one : x.0 ≡ y.0 = maximal_meet (undirected adj) s x.0 y.0 v (prime_unsplit s prime) x.1 y.1 (x.2 v start) (y.2 v hv) in
+          let x : (x : NameSet) × IsMaximalModule e s x × Within held x = in_maximal told s held is held_differs in
+          let y : (y : NameSet) × IsMaximalModule e s y × Within m y = in_maximal told s m module_is differs in
+          let one : x.0 ≡ y.0 = maximal_meet col s x.0 y.0 v unsplit x.1 y.1 (x.2 v start) (y.2 v hv) in
           let t : (t : ℕ) × Has s t × Lacks x.0 t = maximal_leaves s x.0 x.1 in
           let joined : IsModule e s (union held m) = join_module s held m v is module_is start hv in
           let in_join : Has (union held m) t.0 =
@@ -108,12 +105,12 @@ module _ {e : ℕ → ℕ → Bool} where
             | inr h ↦ clash (Has-along y.0 x.0 (sym one) t.0 (y.2 t.0 h)) t.2
           ]
 
-    module _ (s rest : NameSet) (v : ℕ) (cs done : List NameSet) (prime : IsPrime e s) (max : IsMaximalModule e s (difference s rest))
+    module _ (s rest : NameSet) (v : ℕ) (cs done : List NameSet) (unsplit : IsUnsplit e s) (max : IsMaximalModule e s (difference s rest))
         (hv : Has (difference s rest) v) (is : AreMaximalInside e s rest cs) where
       -- a maximal module other than that of v lies in the rest
       away : (m : NameSet) (x : ℕ) → IsMaximalModule e s m → Has m x → Has rest x → Within m rest
       away m x m_max h hr y hy = true_from_ne_false _ (λ out.
-          let one : m ≡ difference s rest = maximal_meet (undirected adj) s m (difference s rest) y (prime_unsplit s prime) m_max max hy (minus_has s rest y (m_max.is_module.inside y hy) out) in
+          let one : m ≡ difference s rest = maximal_meet col s m (difference s rest) y unsplit m_max max hy (minus_has s rest y (m_max.is_module.inside y hy) out) in
           clash hr (of_minus s rest x (Has-along _ _ one x h)).1)
 
       class_child : (k : ℕ) → k < length cs → IsMaximalStrong e s (set_at cs k)
@@ -123,10 +120,10 @@ module _ {e : ℕ → ℕ → Bool} where
           let hx : Has (set_at cs k) x = c_module.some.1 in
           let differs : set_at cs k ≢ s = λ same.
           clash (is.holds.partition.inside k v (Has-along s _ (sym same) v (of_minus s rest v hv).0)) (of_minus s rest v hv).1 in
-          let y : (y : NameSet) × IsMaximalModule e s y × Within (set_at cs k) y = in_maximal decide_test s (set_at cs k) c_module differs in
+          let y : (y : NameSet) × IsMaximalModule e s y × Within (set_at cs k) y = in_maximal told s (set_at cs k) c_module differs in
           let y_in : Within y.0 rest = away y.0 x y.1 (y.2 x hx) (is.holds.partition.inside k x hx) in
           let same : y.0 ≡ set_at cs k = same_members y.0 (set_at cs k) (is.holds.whole y.0 y.1.is_module y_in k x hx (y.2 x hx)) y.2 in
-          subst (IsMaximalStrong e s) same (maximal_child (undirected adj) s y.0 (prime_unsplit s prime) y.1)
+          subst (IsMaximalStrong e s) same (maximal_child col s y.0 unsplit y.1)
 
       child_class : (m : NameSet) (x : ℕ) → IsMaximalModule e s m → Has m x → Has rest x → Contains cs m
       child_class m x m_max h hr =
@@ -142,15 +139,15 @@ module _ {e : ℕ → ℕ → Bool} where
       children_are listed = record {
         exactly = λ m. (
           λ child.
-              let m_max : IsMaximalModule e s m = child_maximal (undirected adj) decide_test s m (prime_unsplit s prime) child in
+              let m_max : IsMaximalModule e s m = child_maximal col told s m unsplit child in
               let x : ℕ = m_max.is_module.some.0 in
               let h : Has m x = m_max.is_module.some.1 in
               (listed.exactly m).1 (elim (cases_Bool (contains rest x)) [
                 | inl hr ↦ inr (child_class m x m_max h hr)
-                | inr out ↦ inl (maximal_meet (undirected adj) s m (difference s rest) x (prime_unsplit s prime) m_max max h (minus_has s rest x (m_max.is_module.inside x h) out))
+                | inr out ↦ inl (maximal_meet col s m (difference s rest) x unsplit m_max max h (minus_has s rest x (m_max.is_module.inside x h) out))
               ]),
           λ has. elim ((listed.exactly m).0 has) [
-            | inl first ↦ subst (IsMaximalStrong e s) (sym first) (maximal_child (undirected adj) s (difference s rest) (prime_unsplit s prime) max)
+            | inl first ↦ subst (IsMaximalStrong e s) (sym first) (maximal_child col s (difference s rest) unsplit max)
             | inr class ↦ (let at : (k : ℕ) × (k < length cs) × (set_at cs k ≡ m) = at_contained cs m class in subst (IsMaximalStrong e s) at.2 (class_child at.0 at.1))
           ],
         );
@@ -158,9 +155,9 @@ module _ {e : ℕ → ℕ → Bool} where
       }
 
     -- what is found from the names that no proper module holds with v
-    pub children_found : (s rest first : NameSet) (v j : ℕ) (cs done : List NameSet) → IsPrime e s → v ≢ j → IsLeastModule e s v j s → IsRest e s v rest →
+    pub children_found : (s rest first : NameSet) (v j : ℕ) (cs done : List NameSet) → IsUnsplit e s → v ≢ j → IsLeastModule e s v j s → IsRest e s v rest →
         IsModule e s (difference s rest) → Has (difference s rest) v → AreMaximalInside e s rest cs → first ≡ difference s rest →
         ListsInOrder first cs done → AreChildren e s done
-    children_found s rest first v j cs done prime differ whole names is hv max is_first in_order =
-        children_are s rest v cs done prime (rest_maximal s rest v j differ whole names is hv) hv max
+    children_found s rest first v j cs done unsplit differ whole names is hv max is_first in_order =
+        children_are s rest v cs done unsplit (rest_maximal s rest v j differ whole names is hv) hv max
         (subst (λ t. ListsInOrder t cs done) is_first in_order)

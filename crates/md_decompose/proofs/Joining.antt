@@ -10,7 +10,7 @@ use Rattle.md_modules.proofs.Strong.{children_meet, child_of, child_leaves}
 use Rattle.md_tree.specs.declared.Kind.{Kind}
 use Rattle.md_tree.specs.declared.Kind.TheVariants.{Parallel, Series, Prime}
 use Rattle.md_tree.specs.declared.Pair.{Pair}
-use Rattle.md_tree.specs.Trees.{PlainTree, names, names_below, names_at, row}
+use Rattle.md_tree.specs.Trees.{PlainTreeOf, PlainTree, names, names_below, names_at, row}
 use Rattle.md_tree.specs.StrongTrees.{HasKind, IsBefore, IsInOrder, AreTreesJoined, HasPairs}
 use Rattle.md_text.proofs.Lists.{In, Later, of_contains, to_contains, of_pairs}
 use Rattle.md_tree.proofs.Nodes.{IsChild, child_inside, child_of_name}
@@ -19,22 +19,22 @@ use Rattle.md_decompose.specs.Children.{AreChildren, set_at, AreSetsJoined, List
 use Rattle.md_decompose.specs.Turns.{ListsForKind}
 
 -- the leaf sets of the trees
-child_in : (ts : List PlainTree) (m : NameSet) → In (map names ts) m → IsChildSet (row ts) m
+pub child_in : {K P : Type 0} (ts : List (PlainTreeOf K P)) (m : NameSet) → In (map names ts) m → IsChildSet (row ts) m
 child_in [] m i = absurd i
 child_in (t ∷ ts) m (inl e) = (t, inl refl, e)
 child_in (t ∷ ts) m (inr i) = let r : IsChildSet (row ts) m = child_in ts m i in (r.0, inr r.1, r.2)
 
-of_child : (ts : List PlainTree) (c : PlainTree) → IsChild (row ts) c → In (map names ts) (names c)
+pub of_child : {K P : Type 0} (ts : List (PlainTreeOf K P)) (c : PlainTreeOf K P) → IsChild (row ts) c → In (map names ts) (names c)
 of_child [] c i = absurd i
 of_child (t ∷ ts) c (inl e) = inl (ap names e)
 of_child (t ∷ ts) c (inr i) = inr (of_child ts c i)
 
-at_row : (ts : List PlainTree) (i : ℕ) → names_at (row ts) i ≡ set_at (map names ts) i
+pub at_row : {K P : Type 0} (ts : List (PlainTreeOf K P)) (i : ℕ) → names_at (row ts) i ≡ set_at (map names ts) i
 at_row [] i = refl
 at_row (t ∷ ts) zero = refl
 at_row (t ∷ ts) (suc i) = at_row ts i
 
-in_order : (ts : List PlainTree) → Later IsBefore (map names ts) → ((c : PlainTree) → IsChild (row ts) c → HasSome (names c)) → IsInOrder (row ts)
+pub in_order : {K P : Type 0} (ts : List (PlainTreeOf K P)) → Later IsBefore (map names ts) → ((c : PlainTreeOf K P) → IsChild (row ts) c → HasSome (names c)) → IsInOrder (row ts)
 in_order [] later some = tt
 in_order (t ∷ ts) later some = (before, in_order ts later.1 (λ c i. some c (inr i))) where
   z : (z : ℕ) × Has (names t) z × ((y : ℕ) → Has (names t) y → z ≤ y)
@@ -45,7 +45,7 @@ in_order (t ∷ ts) later some = (before, in_order ts later.1 (λ c i. some c (i
     z.0,
     z.1,
     λ y h.
-        let c : (c : PlainTree) × IsChild (row ts) c × Has (names c) y = child_of_name (row ts) y h in
+        let c : (c : PlainTreeOf _ _) × IsChild (row ts) c × Has (names c) y = child_of_name (row ts) y h in
         let b : IsBefore (names t) (names c.0) = later.0 (names c.0) (of_child ts c.0 c.1) in
         let p : z.0 ≤ b.0 = z.2 b.0 b.1 in
         let q : b.0 < y = b.2 y c.2 in
@@ -120,7 +120,7 @@ weights-append [] ds = omega arith
 weights-append (c ∷ cs) ds = let r : weights (cs ++ ds) ≡ weights cs + weights ds = weights-append cs ds in omega arith
 
 -- disjoint sets have no more members than a set that holds them
-spread : (cs : List NameSet) (s : NameSet) → ((c : NameSet) → In cs c → HasSome c × Within c s) → Later Disjoint cs → weights cs + length cs ≤ 2 * len s
+pub spread : (cs : List NameSet) (s : NameSet) → ((c : NameSet) → In cs c → HasSome c × Within c s) → Later Disjoint cs → weights cs + length cs ≤ 2 * len s
 spread [] s parts apart = omega arith
 spread (c ∷ cs) s parts apart =
     let r : weights cs + length cs ≤ 2 * len (difference s c) =
@@ -129,7 +129,7 @@ spread (c ∷ cs) s parts apart =
     let o : 1 ≤ len c = some_len c (parts c (inl refl)).0.0 (parts c (inl refl)).0.1 in
     omega arith
 
-two_parts : (s : NameSet) (cs : List NameSet) → HasSome s → ((x : ℕ) → Has s x → (c : NameSet) × In cs c × Has c x) →
+pub two_parts : (s : NameSet) (cs : List NameSet) → HasSome s → ((x : ℕ) → Has s x → (c : NameSet) × In cs c × Has c x) →
     ((c : NameSet) → In cs c → (x : ℕ) × Has s x × Lacks c x) → 2 ≤ length cs
 two_parts s [] some cover leaves = absurd (cover some.0 some.1).1
 two_parts s (c ∷ []) some cover leaves =

@@ -13,8 +13,6 @@ use Rattle.md_modules.proofs.Strong.{child_of}
 use Rattle.md_graph.proofs.Search.{decide_test, some_len, first_member}
 use Rattle.md_tree.specs.declared.Kind.{Kind}
 use Rattle.md_tree.specs.declared.Kind.TheVariants.{Parallel, Series, Prime}
-use Rattle.md_tree.proofs.Folding.{each_join, each_parts}
-use Rattle.md_tree.proofs.Listing.{backward-append}
 use Rattle.md_tree.specs.Trees.{PlainTree, leaf, node, names, row, count, EachNode, EachNodeBelow}
 use Rattle.md_tree.specs.StrongTrees.{HasKind, IsBefore, IsTreeOf}
 use Rattle.md_text.proofs.Lists.{In, of_append, in_left, in_right, of_contains, to_contains, of_pairs}
@@ -30,37 +28,13 @@ use Rattle.md_decompose.specs.declared.nested_modules.Nested.{Nested}
 use Rattle.md_decompose.specs.Chains.{step_at, AreSteps, IsChainOf, IsChainFront}
 use Rattle.md_decompose.specs.Turns.{open_names, IsOpenOf, IsNoVertexAlone, IsUnder, FitsOpen, HasChain, HasNoChain, HasFront, sets_of, AreBare, IsFirstOpen, AreOpen, IsPartOf, TakesApart}
 use Rattle.md_decompose.proofs.ChainLemmas.{steps_none, steps_inside}
+use Rattle.md_decompose.proofs.Waiting.{no_trees, count_trees, GoesOn, IsPartOver, goes_begin, goes_more, goes_end}
 use Rattle.md_decompose.proofs.Joining.{all_names, node_built, weights, weights-append, child_maximal, children_fall}
 
 in_sets : {w : ℕ} (os : List (Open w)) (o : Open w) → In os o → In (sets_of os) (open_names o)
 in_sets [] o i = absurd i
 in_sets (q ∷ os) o (inl same) = inl (ap open_names same)
 in_sets (q ∷ os) o (inr i) = inr (in_sets os o i)
-
-no_trees : (ts : List PlainTree) → map names ts ≡ [] → ts ≡ []
-no_trees [] e = refl
-no_trees (t ∷ ts) e = absurd (cc)
-
-one_tree : (ts : List PlainTree) (s : NameSet) → map names ts ≡ s ∷ [] → (t : PlainTree) × (ts ≡ t ∷ []) × (names t ≡ s)
-one_tree [] s e = absurd (cc)
-one_tree (t ∷ []) s e = (t, refl, (cc))
-one_tree (t ∷ u ∷ ts) s e = absurd (cc)
-
--- trees whose leaf sets are those of two lists in a row
-abbrev Parted : List PlainTree → List NameSet → List NameSet → Type 0
-Parted ts a b = (xs : List PlainTree) × (ys : List PlainTree) × (ts ≡ xs ++ ys) × (map names xs ≡ a) × (map names ys ≡ b)
-
-one_more_parted : (t : PlainTree) (ts : List PlainTree) (s : NameSet) (a b : List NameSet) → names t ≡ s → Parted ts a b → Parted (t ∷ ts) (s ∷ a) b
-one_more_parted t ts s a b e r = (t ∷ r.0, r.1, ap (λ us. t ∷ us) r.2, ap (λ m. m ∷ map names r.0) e ∙ ap (λ ss. s ∷ ss) r.3, r.4)
-
-parted : (ts : List PlainTree) (a b : List NameSet) → map names ts ≡ a ++ b → Parted ts a b
-parted ts [] b e = ([], ts, refl, refl, e)
-parted [] (s ∷ a) b e = absurd (cc)
-parted (t ∷ ts) (s ∷ a) b e = one_more_parted t ts s a b (cc) (parted ts a b (cc))
-
-count_trees : (ts : List PlainTree) → count (row ts) ≡ length (map names ts)
-count_trees [] = refl
-count_trees (t ∷ ts) = ap (λ n. suc n) (count_trees ts)
 
 -- ---- the sets of a node's children
 
@@ -185,13 +159,9 @@ no_vertex : {w : ℕ} (p : Option Kind) (o : Open w) → IsUnder p o → HasSome
 no_vertex p (One v) below some = tt
 no_vertex p (Several b) below some = below.1 some
 
--- the parts are the first ones of a tree of all the names
-abbrev pub IsBegun : (ℕ → ℕ → Bool) → NameSet → List PlainPart → Type 0
-IsBegun e all ps = (t : PlainTree) × (names t ≡ all) × EachNode (IsBuilt e) t × (ps ≡ parts_of t)
-
 pub record IsOpened {w : ℕ} (e : ℕ → ℕ → Bool) (all : NameSet) (parts : List PlainPart) (os : List (Open w)) : Type 0 where
   pub ready : (o : Open w) → In os o → IsReady e all o
-  pub goes_on : (ts : List PlainTree) → map names ts ≡ sets_of os → EachNodeBelow (IsBuilt e) (row ts) → IsBegun e all (parts ++ parts_backward (row ts))
+  pub goes_on : GoesOn (IsBuilt e) all parts (sets_of os)
 
 module _ {e : ℕ → ℕ → Bool} (adj : IsAdjacency e) where
   child_fits : (s c : NameSet) (k : Kind) → HasKind e s k → IsMaximalStrong e s c → FitsBelow e c (Some k)
@@ -204,9 +174,6 @@ module _ {e : ℕ → ℕ → Bool} (adj : IsAdjacency e) where
   fits_open (Several b) k below fits = subst (FitsBelow e b.names) (sym below.0) fits
 
   module _ (all : NameSet) where
-    begun_as : {ps qs : List PlainPart} → ps ≡ qs → IsBegun e all ps → IsBegun e all qs
-    begun_as same b = (b.0, b.1, b.2, sym same ∙ b.3)
-
     whole_fits : {w : ℕ} (o : Open w) → IsUnder None o → FitsOpen e o
     whole_fits (One v) top = tt
     whole_fits (Several b) top = subst (FitsBelow e b.names) (sym top.0) tt
@@ -223,13 +190,8 @@ module _ {e : ℕ → ℕ → Bool} (adj : IsAdjacency e) where
     pub opened_begin : {w : ℕ} (o : Open w) (os : List (Open w)) (parts : List PlainPart) → HasSome all → open_names o ≡ all → IsUnder None o → HasNoChain o → os ≡ o ∷ [] → parts ≡ [] → IsOpened e all parts os
     opened_begin o os parts some same top bare alone none = record {
       ready = λ q i. elim (subst (λ ws. In ws q) alone i) [ inl is ↦ subst (IsReady e all) (sym is) (whole_ready o some same top bare) | inr j ↦ absurd j ];
-      goes_on = λ ts sets each.
-          let r : (t : PlainTree) × (ts ≡ t ∷ []) × (names t ≡ (open_names o)) = one_tree ts (open_names o) (sets ∙ ap sets_of alone) in (
-            r.0,
-            r.2 ∙ same,
-            (subst (λ us. EachNodeBelow (IsBuilt e) (row us)) r.1 each).0,
-            ap (λ ps. ps ++ parts_backward (row ts)) none ∙ ap (λ us. parts_backward (row us)) r.1,
-          );
+      goes_on = subst (λ ps. GoesOn (IsBuilt e) all ps (sets_of os)) (sym none)
+          (subst (GoesOn (IsBuilt e) all []) (ap (λ m. m ∷ []) (sym same) ∙ sym (ap sets_of alone)) (goes_begin (IsBuilt e) all));
     }
 
     module _ {w : ℕ} (parts : List PlainPart) (os waiting : List (Open w)) (o : Open w) (is : IsOpened e all parts os) (popped : os ≡ waiting ++ o ∷ []) where
@@ -261,11 +223,7 @@ module _ {e : ℕ → ℕ → Bool} (adj : IsAdjacency e) where
           }
 
       -- the tree of o over those of its children
-      abbrev HasTreeOver : PlainPart → List PlainTree → Type 0
-      HasTreeOver p us = (t : PlainTree) × (names t ≡ (open_names o)) × EachNode (IsBuilt e) t × (parts_of t ≡ p ∷ parts_backward (row us))
-
-      tree_over : (p : PlainPart) (added : List (Open w)) → IsPartOf e (open_names o) p added → (us : List PlainTree) → map names us ≡ sets_of added →
-          EachNodeBelow (IsBuilt e) (row us) → HasTreeOver p us
+      tree_over : (p : PlainPart) (added : List (Open w)) → IsPartOf e (open_names o) p added → IsPartOver (IsBuilt e) (open_names o) p (sets_of added)
       tree_over (name v) added part us sets each =
           (leaf v, sym part.0, tt, ap (λ ts. name v ∷ parts_backward (row ts)) (sym (no_trees us (sets ∙ ap sets_of part.1))))
       tree_over (inner k n ps) added part us sets each =
@@ -288,38 +246,17 @@ module _ {e : ℕ → ℕ → Bool} (adj : IsAdjacency e) where
             omega arith
 
         module _ (p : PlainPart) (added : List (Open w)) (part : IsPartOf e (open_names o) p added) (later : parts' ≡ parts ++ p ∷ []) (left : os' ≡ waiting ++ added) where
-          moved : (ts xs ys : List PlainTree) (t : PlainTree) → ts ≡ xs ++ ys → parts_of t ≡ p ∷ parts_backward (row ys) →
-              parts ++ parts_backward (row (xs ++ t ∷ [])) ≡ parts' ++ parts_backward (row ts)
-          moved ts xs ys t cut own =
-              ap (λ ps. parts ++ ps) (backward-append xs (t ∷ [])) ∙ ap (λ ps. parts ++ (ps ++ parts_backward (row xs))) own
-              ∙ ap (λ ps. parts ++ p ∷ ps) (sym (backward-append xs ys)) ∙ sym (append_assoc parts (p ∷ []) (parts_backward (row (xs ++ ys))))
-              ∙ ap (λ ps. ps ++ parts_backward (row (xs ++ ys))) (sym later) ∙ ap (λ us. parts' ++ parts_backward (row us)) (sym cut)
-
-          with_tree : (ts : List PlainTree) (r : Parted ts (sets_of waiting) (sets_of added)) → EachNodeBelow (IsBuilt e) (row r.0) → HasTreeOver p r.1 →
-              IsBegun e all (parts' ++ parts_backward (row ts))
-          with_tree ts r each t =
-              begun_as (moved ts r.0 r.1 t.0 r.2 t.3)
-              (is.goes_on (r.0 ++ t.0 ∷ [])
-              (map-append names r.0 (t.0 ∷ []) ∙ ap (λ ss. ss ++ names t.0 ∷ []) r.3 ∙ ap (λ s. sets_of waiting ++ s ∷ []) t.1
-              ∙ sym (ap sets_of popped ∙ map-append open_names waiting (o ∷ [])))
-              (each_join (IsBuilt e) r.0 (t.0 ∷ []) each (t.2, tt)))
-
-          with_parts : (ts : List PlainTree) (r : Parted ts (sets_of waiting) (sets_of added)) →
-              EachNodeBelow (IsBuilt e) (row r.0) × EachNodeBelow (IsBuilt e) (row r.1) → IsBegun e all (parts' ++ parts_backward (row ts))
-          with_parts ts r two = with_tree ts r two.0 (tree_over p added part r.1 r.4 two.1)
-
-          with_sets : (ts : List PlainTree) → EachNodeBelow (IsBuilt e) (row ts) → Parted ts (sets_of waiting) (sets_of added) →
-              IsBegun e all (parts' ++ parts_backward (row ts))
-          with_sets ts each r = with_parts ts r (each_parts (IsBuilt e) r.0 r.1 (subst (λ us. EachNodeBelow (IsBuilt e) (row us)) r.2 each))
-
           opened_by : IsOpened e all parts' os'
           opened_by = record {
             ready = λ q i. elim (of_append waiting added q (subst (λ ws. In ws q) left i)) [
               | inl a ↦ is.ready q (subst (λ ws. In ws q) (sym popped) (in_left waiting (o ∷ []) q a))
               | inr b ↦ part_ready p added part q b
             ];
-            goes_on = λ ts sets each. with_sets ts each
-                (parted ts (sets_of waiting) (sets_of added) (sets ∙ ap sets_of left ∙ map-append open_names waiting added));
+            goes_on = subst (GoesOn (IsBuilt e) all parts') (sym (ap sets_of left ∙ map-append open_names waiting added))
+                (subst (λ ps. GoesOn (IsBuilt e) all ps (sets_of waiting ++ sets_of added)) (sym later)
+                (goes_more (IsBuilt e) all parts (sets_of waiting) (open_names o)
+                (subst (GoesOn (IsBuilt e) all parts) (ap sets_of popped ∙ map-append open_names waiting (o ∷ [])) is.goes_on)
+                p (sets_of added) (tree_over p added part)));
           }
 
         pub opened_more : TakesApart e (open_names o) parts waiting parts' os' → IsOpened e all parts' os'
@@ -327,5 +264,5 @@ module _ {e : ℕ → ℕ → Bool} (adj : IsAdjacency e) where
 
     pub opened_end : {w : ℕ} (parts : List PlainPart) (os : List (Open w)) → IsOpened e all parts os → os ≡ [] → (t : PlainTree) × IsTreeOf e all t × (parts ≡ parts_of t)
     opened_end parts os is none =
-        let b : IsBegun e all (parts ++ []) = is.goes_on [] (sym (ap sets_of none)) tt in
-        (b.0, built_tree (kinds_of_graphs (undirected adj)) decide_test all b.0 b.1 b.2, sym (append-nil parts) ∙ b.3)
+        let b = goes_end (IsBuilt e) all parts (subst (GoesOn (IsBuilt e) all parts) (ap sets_of none) is.goes_on) in
+        (b.0, built_tree (kinds_of_graphs (undirected adj)) decide_test all b.0 b.1 b.2, b.3)

@@ -12,7 +12,7 @@ use Rattle.md_tree.specs.StrongTrees.{IsBefore, IsPairBefore}
 
 -- The list has exactly the maximal proper strong modules of s, each once, in ascending order of their least names: each has
 -- a name below all names of each one behind it.
-pub record AreChildren (e : ℕ → ℕ → Bool) (s : NameSet) (cs : List NameSet) : Type 0 where
+pub record AreChildren {C : Type 0} (e : ℕ → ℕ → C) (s : NameSet) (cs : List NameSet) : Type 0 where
   pub exactly : (m : NameSet) → IsMaximalStrong e s m ↔ Contains cs m
   pub order : AllPairs IsBefore cs
 
@@ -37,6 +37,7 @@ FitsBelow e s (Some Series) = IsCoConnected e s
 FitsBelow e s (Some Prime) = ⊤
 FitsBelow e s None = ⊤
 
--- s has a split without an edge across (v is false), or one with every edge across (v is true)
-abbrev pub Splits : (ℕ → ℕ → Bool) → NameSet → Bool → Type 0
+-- s has a split without an edge across (v is false), or one with every edge across (v is true); of any colouring: one with this
+-- colour across
+abbrev pub Splits : {C : Type 0} → (ℕ → ℕ → C) → NameSet → C → Type 0
 Splits e s v = (part : NameSet) × IsSplit e s part v

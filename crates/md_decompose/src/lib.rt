@@ -14,6 +14,7 @@ mod quotient;
 mod refined;
 
 pub use decomposition::{decompose, decompose_within};
+pub use ordered::in_order;
 
 #[cfg(test)]
 mod tests;

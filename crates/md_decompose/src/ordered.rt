@@ -16,9 +16,9 @@ struct Mark<const W: usize> {
     class: CompactSet<W>,
 }
 
-// `first` and then the classes, in ascending order of their least names. Condition: no two classes
-// meet, none is empty, and `first` has a name below all of theirs.
-pub(crate) fn in_order<const W: usize>(
+/// `first` and then the classes, in ascending order of their least names. Conditions: no two classes
+/// meet, none is empty, and `first` has a name below all of theirs. Errors: want of memory.
+pub fn in_order<const W: usize>(
     alloc: Global,
     first: CompactSet<W>,
     classes: Vec<CompactSet<W>>,
@@ -26,7 +26,7 @@ pub(crate) fn in_order<const W: usize>(
     requires apart { AreApart classes.items }
     requires lowest { (k : ℕ) → k < length classes.items
         → IsBefore first (set_at classes.items k) }
-    ensures { IfOk result (λ sets. ListsInOrder first.entry classes.entry.items sets.items) }
+    ensures listed { IfOk result (λ sets. ListsInOrder first.entry classes.entry.items sets.items) }
 {
     let marks = marks(alloc, classes)?;
     let mut sets = Vec::with_capacity(alloc, marks.len() + 1)?;

@@ -1,10 +1,12 @@
 use Rattle.std.proofs.Common.{refl, sym, ◌∙◌, true≢false, rules}
+use Rattle.md_modules.proofs.Modules.{undirected}
+use Rattle.md_modules.proofs.PathSearch.{adjacency}
 use Rattle.md_decompose.proofs.Components.{rest_test, whole_unsplit, part_splits}
 use Rattle.md_decompose.proofs.children.components.Goals as goal
 
 pub returns-then-is_none : goal.returns-then-is_none
 returns-then-is_none g c =
-    whole_unsplit c.requires.graph c.args.set.now c.component_at-first.result _ c.args.value c.in-Some.v c.component_at-first.ensures refl
+    whole_unsplit (undirected (adjacency c.requires.graph)) c.args.set.now c.component_at-first.result _ c.args.value c.in-Some.v refl c.component_at-first.ensures refl
     ((rest_test c.args.set.now c.component_at-first.result c.first_in_symmetric_difference.result c.is_none.result c.first_in_symmetric_difference.ensures.found c.first_in_symmetric_difference.ensures.none c.is_none.ensures).0 c.if-is_none.true)
 
 pub component_list-requires : goal.component_list-requires

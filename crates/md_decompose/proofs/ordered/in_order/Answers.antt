@@ -11,5 +11,8 @@ returns g c =
     let all : yielded ≡ c.in_ok-marks.marks.items =
     sym (append-nil yielded) ∙ ap (λ ms. yielded ++ ms) (sym none) ∙ c.loop-mark.invariant.left ∙ c.into_iter-mark-iterator.ensures.into_iter_gives.0
     in
-    listed c.args.first c.args.classes.items c.in_ok-marks.marks.items c.in_ok-marks.ensures c.loop-mark.sets.items c.requires.lowest
-    (c.loop-mark.invariant.listed ∙ ap (λ ms. c.args.first ∷ map class_of ms) all)
+    record {
+      listed =
+          listed c.args.first c.args.classes.items c.in_ok-marks.marks.items c.in_ok-marks.ensures c.loop-mark.sets.items c.requires.lowest
+          (c.loop-mark.invariant.listed ∙ ap (λ ms. c.args.first ∷ map class_of ms) all);
+    }

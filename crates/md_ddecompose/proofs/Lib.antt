@@ -1,0 +1,7 @@
+mod RankLemmas
+mod CutLemmas
+mod OrderLemmas
+mod RowLemmas
+mod ArcPairs
+mod DirectedNodes
+mod OpenSets
