@@ -88,8 +88,8 @@ def run_verify(options: argparse.Namespace) -> int:
     if is_session and len(graphs) != 1:
         print("mdt verify: graph NotOneGraph count %d" % len(graphs), file=sys.stderr)
         return 3
-    edits = inputs.read_script(script[0]) if is_session else []
-    wrong = verify.first_wrong_line(options.mode, graphs, edits, report)
+    items = inputs.read_script(script[0]) if is_session else []
+    wrong = verify.first_wrong_line(options.mode, graphs, items, report)
     print("accepted" if wrong is None else "rejected line %d" % wrong)
     return 0 if wrong is None else 1
 

@@ -39,7 +39,7 @@ def add_draw(commands) -> None:
     which = parser.add_mutually_exclusive_group()
     which.add_argument("--line", type=int, metavar="N", help="the line of the report that is drawn, from 1")
     which.add_argument("--all", action="store_true", help="a page with all such pictures of the report")
-    parser.add_argument("--script", metavar="FILE", help="the session's script: its edits stand at the frames")
+    parser.add_argument("--script", metavar="FILE", help="the session's script: its items stand at the frames")
     parser.add_argument("--names", metavar="FILE", help="names of vertices, one a line: the number, a space, the name")
     parser.add_argument("--mark", type=numbers, default=set(), metavar="V,..", help="vertices to mark")
     parser.add_argument("--mark-line", type=place, metavar="REPORT:N",
@@ -145,39 +145,49 @@ def way_to_draw(options: argparse.Namespace, name: Name, marked: set[int]) \
 
 
 def write_session(options: argparse.Namespace, lines: Iterator[Line], name: Name, marked: set[int]) -> None:
-    """Writes the page of a session: the first tree, then one frame for each edit, of the tree as it stands then; the
+    """Writes the page of a session: the first tree, then one frame for each item, of the tree as it stands then; the
     P4 of a refused edit is marked in it."""
     head = next(lines)
     if head.mode not in ("edit", "cograph"):
         raise DrawError("a report of %s has no tree for each edit" % head.mode)
-    edits: list[inputs.Edit] = []
+    items: list[inputs.Item] = []
     if options.script:
         with open(options.script, "rb") as file:
-            edits = inputs.read_script(file.read())
+            items = inputs.read_script(file.read())
     frames = list(itertools.islice((line for line in lines if line.what != "end"), MOST_FRAMES + 1))
     if len(frames) > MOST_FRAMES:
-        raise DrawError("a session of more than %d edits isn't drawn: cut its script" % (MOST_FRAMES - 1))
-    for part in session_page(options.report, session_frames(frames, edits, name, marked, options.legend)):
+        raise DrawError("a session of more than %d items isn't drawn: cut its script" % (MOST_FRAMES - 1))
+    for part in session_page(options.report, session_frames(frames, items, name, marked, options.legend)):
         sys.stdout.write(part)
 
 
-def session_frames(frames: list[Line], edits: list[inputs.Edit], name: Name, marked: set[int], legend: bool) \
+def item_text(item: inputs.Item, name: Name) -> str:
+    """An item in the words of its script, a group in one line."""
+    words = ["begin"] if item.what == "group" else ["undo"] if item.what == "undo" else []
+    words += [" ".join([word, *map(name, of)]) for word, of in item.edits]
+    return "; ".join(words + ["commit"] if item.what == "group" else words)
+
+
+def session_frames(frames: list[Line], items: list[inputs.Item], name: Name, marked: set[int], legend: bool) \
         -> Iterator[tuple[str, str]]:
     """The frames of these lines: captions and pictures."""
     tree, svg = None, ""
     for count, line in enumerate(frames):
-        word, of = edits[count - 1] if 0 < count <= len(edits) else ("", [])
-        edit = " ".join([word, *map(name, of)]) + ": " if word else ""
+        item = item_text(items[count - 1], name) + ": " if 0 < count <= len(items) else ""
         tree = line.tree if line.has_tree else tree
         if line.what == "p4":
             svg = graph_svg(parse_tree("R(%d,%d,%d,%d;0-1,1-2,2-3)" % tuple(line.vertices)), name, marked)
         elif line.has_tree or line.vertices or not svg:
             svg = tree_svg(tree, name, marked | named_by(line), legend)
-        yield "line %d: %s%s" % (line.number, edit, answer(line, name)), svg
+        yield "line %d: %s%s" % (line.number, item, answer(line, name)), svg
 
 
 def answer(line: Line, name: Name) -> str:
     """What a line of a session tells, but for its tree."""
     if line.what in ("tree", "applied"):
         return "the first graph" if line.what == "tree" else "ok"
-    return " ".join((["no", line.reason] if line.what == "refused" else ["p4"]) + list(map(name, line.vertices)))
+    if line.what == "p4":
+        words = ["p4"]
+    else:
+        words = ["no", line.reason] if line.edit is None else ["no", "edit", str(line.edit), line.reason]
+    return " ".join(words + list(map(name, line.vertices)))

@@ -1,20 +1,34 @@
-"""Readers of graph files and scripts for the second opinion: graph6 and sparse6, DIMACS edge files, scripts of edits.
+"""Readers of graph files and scripts for the second opinion: graph6 and sparse6, DIMACS edge files, scripts.
 
 They stand apart from the program: each is written from the formats alone (`docs/FORMATS.md`), for reading and not for
 speed. A graph is a dict that gives each vertex the set of its neighbours.
 """
 from __future__ import annotations
 
-from typing import Union
+import sys
+from dataclasses import dataclass
+from typing import Optional, Union
 
 Graph = dict[int, set[int]]
 # An edit: its word (+e, -e, +v or -v) and its names.
 Edit = tuple[str, list[int]]
 
+
+@dataclass(frozen=True)
+class Item:
+    """An item of a script: `what` is one, undo or group; `edits` are the edit of one, or those of a group."""
+
+    what: str
+    edits: list[Edit]
+
+
 NAMES = 16_384
 # How many vertices a graph may have at most whose orientations or permutation models are told.
 ORIENTED = 4_096
 EDITS = 200_000
+# How many fields a line of a script has at least and at most, by its word.
+_FIELDS = {b"+e": (3, 3), b"-e": (3, 3), b"+v": (2, sys.maxsize), b"-v": (2, 2),
+           b"undo": (1, 1), b"begin": (1, 1), b"commit": (1, 1)}
 
 
 class InputFault(ValueError):
@@ -185,28 +199,51 @@ def _edge(fields: list[bytes], graph: Graph) -> None:
     graph[v].add(u)
 
 
-def read_script(content: bytes) -> list[Edit]:
-    """The edits of a script. InputFault for the first fault."""
-    edits: list[Edit] = []
-    for number, line in enumerate(_lines(content), 1):
+def read_script(content: bytes) -> list[Item]:
+    """The items of a script. InputFault for the first fault."""
+    items: list[Item] = []
+    group: Optional[list[Edit]] = None
+    counted = 0
+    lines = _lines(content)
+    for number, line in enumerate(lines, 1):
         fields = _fields(line)
         if not fields or fields[0][:1] == b"#":
             continue
         try:
-            edits.append(_edit(fields, len(edits)))
+            edit = _script_line(fields, counted, group is not None)
         except _Fault as fault:
             raise InputFault("script", str(fault), number) from None
-    return edits
+        counted += fields[0] != b"commit"
+        if fields[0] == b"undo":
+            items.append(Item("undo", []))
+        elif fields[0] == b"begin":
+            group = []
+        elif fields[0] == b"commit":
+            items.append(Item("group", group or []))
+            group = None
+        elif group is None:
+            items.append(Item("one", [edit]))
+        else:
+            group.append(edit)
+    if group is not None:
+        raise InputFault("script", "OpenGroup", len(lines) + 1)
+    return items
 
 
-def _edit(fields: list[bytes], before: int) -> Edit:
+def _script_line(fields: list[bytes], counted: int, in_group: bool) -> Edit:
+    """The word and the names of a line of a script, behind so many that count."""
     word = fields[0]
-    if before == EDITS:
+    if word != b"commit" and counted == EDITS:
         raise _Fault("TooManyEdits")
-    if word not in (b"+e", b"-e", b"+v", b"-v"):
+    least, most = _FIELDS.get(word, (0, 0))
+    if not most:
         raise _Fault("UnknownEdit")
-    if len(fields) < 2 or word in (b"+e", b"-e") and len(fields) != 3 or word == b"-v" and len(fields) != 2:
+    if not least <= len(fields) <= most:
         raise _Fault("FieldCount")
+    if in_group and word in (b"begin", b"undo"):
+        raise _Fault("Nested")
+    if not in_group and word == b"commit":
+        raise _Fault("NoGroup")
     names = []
     for field in fields[1:]:
         names.append(_number(field))

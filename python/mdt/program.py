@@ -10,8 +10,9 @@ import re
 import shutil
 import subprocess
 import tempfile
+from contextlib import contextmanager
 from dataclasses import dataclass
-from typing import Any, Hashable, Iterable, Optional, Union
+from typing import Any, Hashable, Iterable, Iterator, Optional, Union
 
 from .graphs import NumberedGraph, numbered
 from .reports import Line, read_report
@@ -160,6 +161,7 @@ class Session:
         self._names = list(self._graph.vertices)
         self._places = {name: place for place, name in enumerate(self._names)}
         self._script: list[str] = []
+        self._in_group = False
         self.lines: list[Line] = []
 
     def add_edge(self, u: Hashable, v: Hashable) -> None:
@@ -178,6 +180,30 @@ class Session:
         """Gathers the edit that leaves out a vertex and the edges at it."""
         self._gather("-v", [vertex])
 
+    def undo(self) -> None:
+        """Gathers that the last edit or group that was applied is taken back. ValueError inside a group."""
+        if self._in_group:
+            raise ValueError("a group has edits alone")
+        self._script.append("undo")
+
+    @contextmanager
+    def group(self) -> Iterator[None]:
+        """A context whose edits are one group: all of them are applied, or none, with one answer. An exception that
+        leaves it takes its edits off. ValueError inside a group."""
+        if self._in_group:
+            raise ValueError("a group has edits alone")
+        begin, self._in_group = len(self._script), True
+        self._script.append("begin")
+        try:
+            yield
+        except BaseException:
+            del self._script[begin:]
+            raise
+        else:
+            self._script.append("commit")
+        finally:
+            self._in_group = False
+
     def _gather(self, word: str, names: list) -> None:
         for name in names:
             if name not in self._places:
@@ -190,19 +216,19 @@ class Session:
 
     def __exit__(self, kind: Any, error: Any, trace: Any) -> None:
         if kind is None:
-            script = "".join(edit + "\n" for edit in self._script).encode()
+            script = "".join(line + "\n" for line in self._script).encode()
             self.lines = _report(self._mode, self._graph, script)
             for line in self.lines:
                 line.rename(self._names.__getitem__)
 
     @property
     def answers(self) -> list[Line]:
-        """The line of each edit, in order."""
+        """The line of each item, in order: of each edit outside groups, each group and each undo."""
         return [line for line in self.lines if line.what in ("applied", "refused")]
 
     @property
     def tree(self) -> Optional[Node]:
-        """The tree of the graph after the last edit; None for the graph without vertices, and where no tree is told."""
+        """The tree of the graph after the last item; None for the graph without vertices, and where no tree is told."""
         told = [line.tree for line in self.lines if line.has_tree]
         return told[-1] if told else None
 
@@ -212,11 +238,15 @@ def session(graph: Any, mode: str = "edit", vertices: Optional[Iterable[Hashable
 
         with mdt.session(graph, "cograph") as s:
             s.add_vertex("new", ["a", "b"])
-            s.remove_edge("a", "c")
+            with s.group():
+                s.remove_edge("a", "c")
+                s.add_edge("b", "c")
+            s.undo()
         print(s.answers, s.tree)
 
     The modes: `edit` applies each edit that fits the graph and tells the tree after it; `cograph` refuses those that
-    would leave the cographs, with a P4; `quiet` does so too, and tells the last tree alone. At most 200,000 edits;
-    names and numbers of vertices below 16,384 in all. ValueError for another mode and as in `tree`; MdtError at the end
+    would leave the cographs, with a P4; `quiet` does so too, and tells the last tree alone. A group is applied whole or
+    not at all; `undo` takes back the last edit or group that was applied. At most 200,000 edits, undos and groups in
+    all; names and numbers of vertices below 16,384. ValueError for another mode and as in `tree`; MdtError at the end
     of the context, where the program gives no answer."""
     return Session(graph, mode, vertices)

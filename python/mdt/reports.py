@@ -24,6 +24,10 @@ MODES = {
 OF_GRAPHS = ("tree", "compare", "permute")
 # How many vertices stand with each reason against an edit.
 REASONS = {"same": 0, "vertex": 1, "taken": 1, "edge-there": 0, "edge-absent": 0, "p4": 4}
+# The most edits that a group can have.
+_EDITS = 200_000
+# What a line may tell beside its tree.
+_TOLD = ("mode", "edit", "reason", "vertices", "arcs", "orders", "of")
 
 _NAME = re.compile(r"0|[1-9][0-9]{0,4}")
 _ARC = re.compile(r"(0|[1-9][0-9]{0,4})>(0|[1-9][0-9]{0,4})")
@@ -36,9 +40,11 @@ class Line:
 
     head         `mode` is the mode: tree, compare, permute, edit, cograph, quiet
     tree         `tree` is the tree of a graph, None for the graph without vertices
-    applied      an edit was applied; `tree` is the tree after it, where the mode tells one (`has_tree`)
+    applied      an edit or a group was applied, or the last of them taken back; `tree` is the tree after it, where the
+                 mode tells one (`has_tree`)
     refused      an edit was refused; `reason` is one of same, vertex, taken, edge-there, edge-absent, p4; with it
-                 `vertices`: the vertex, or the four of the P4 in the order of the path
+                 `vertices`: the vertex, or the four of the P4 in the order of the path; where it is an edit of a group,
+                 `edit` is its number in that, from 1. Or nothing was there to undo: the reason is undo
     p4           the first graph of a session on cographs has this P4, `vertices`
     orientation  the least-edge orientation, `arcs`: pairs (tail, head)
     orders       two orders that realise the graph, `orders`
@@ -46,13 +52,14 @@ class Line:
     end          the last line
     """
 
-    __slots__ = ("number", "what", "mode", "tree", "has_tree", "reason", "vertices", "arcs", "orders", "of")
+    __slots__ = ("number", "what", "mode", "tree", "has_tree", "edit", "reason", "vertices", "arcs", "orders", "of")
 
     def __init__(self, number: int, what: str):
         self.number, self.what = number, what
         self.mode: Optional[str] = None
         self.tree: Optional[Node] = None
         self.has_tree = False
+        self.edit: Optional[int] = None
         self.reason: Optional[str] = None
         self.vertices: Optional[list] = None
         self.arcs: Optional[list[tuple]] = None
@@ -60,8 +67,7 @@ class Line:
         self.of: Optional[str] = None
 
     def __repr__(self) -> str:
-        told = ["%s=%r" % (name, getattr(self, name)) for name in ("mode", "reason", "vertices", "arcs", "orders", "of")
-                if getattr(self, name) is not None]
+        told = ["%s=%r" % (name, getattr(self, name)) for name in _TOLD if getattr(self, name) is not None]
         if self.has_tree:
             told.append("tree=%s" % self.tree)
         return "<line %d: %s>" % (self.number, " ".join([self.what] + told))
@@ -81,7 +87,7 @@ class Line:
         """The line as a value for `json`. A tree is a list of nodes, the root first, whose children are places in that
         list, so that no value nests as deep as the tree."""
         value: dict[str, Any] = {"line": self.number, "what": self.what}
-        for name in ("mode", "reason", "vertices", "arcs", "orders", "of"):
+        for name in _TOLD:
             if getattr(self, name) is not None:
                 value[name] = getattr(self, name)
         if self.has_tree:
@@ -167,11 +173,26 @@ def _answer(first: str, rest: list[str], number: int, mode: str) -> Optional[Lin
     elif first == "no" and mode == "permute" and len(rest) > 1 and rest[0] in ("g", "c"):
         line = Line(number, "chain")
         line.of, line.arcs = "graph" if rest[0] == "g" else "complement", _arcs(rest[1:])
-    elif first == "no" and rest and REASONS.get(rest[0]) == len(rest) - 1:
-        line = Line(number, "refused")
-        line.reason, line.vertices = rest[0], _names(rest[1:])
+    elif first == "no" and rest:
+        line = _refused(rest, number)
     else:
         return None
+    return line
+
+
+def _refused(rest: list[str], number: int) -> Optional[Line]:
+    """The line of a refused item by the words behind `no`, or None where there is none."""
+    line = Line(number, "refused")
+    if rest == ["undo"]:
+        line.reason, line.vertices = "undo", []
+        return line
+    if rest[0] == "edit" and len(rest) > 2:
+        if not re.fullmatch("[1-9][0-9]{0,5}", rest[1]) or int(rest[1]) > _EDITS:
+            raise ReportError("%r is no number of an edit" % rest[1])
+        line.edit, rest = int(rest[1]), rest[2:]
+    if REASONS.get(rest[0]) != len(rest) - 1:
+        return None
+    line.reason, line.vertices = rest[0], _names(rest[1:])
     return line
 
 

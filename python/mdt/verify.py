@@ -13,7 +13,7 @@ import re
 from itertools import combinations
 from typing import Callable, Iterator, Optional
 
-from .inputs import NAMES, ORIENTED, Edit, Graph
+from .inputs import NAMES, ORIENTED, Edit, Graph, Item
 from .trees import Node, ReportError, parse_tree
 
 Arc = tuple[int, int]
@@ -282,23 +282,45 @@ def permute_line(graph: Graph) -> Judge:
     return orders_line(graph)
 
 
-def session_lines(mode: str, graph: Graph, script: list[Edit]) -> Iterator[Judge]:
-    """The lines of a session between head and end."""
+def done_line(mode: str, graph: Graph) -> Judge:
+    """Judges the line of an item that was applied and left this graph."""
+    return equals("ok") if mode == "quiet" else tree_line("ok", graph)
+
+
+def tried(mode: str, graph: Graph, edits: list[Edit], is_group: bool) -> tuple[Optional[Graph], Judge]:
+    """The graph after these edits, one after the other, None where one is refused; and the judge of their line, which
+    tells the number of the refused edit in a group."""
+    for number, edit in enumerate(edits, 1):
+        word = "no edit %d" % number if is_group else "no"
+        against = reason(graph, edit)
+        if against:
+            return None, equals(word + " " + against)
+        graph = after(graph, edit)
+        if mode != "edit" and has_p4(graph):
+            return None, p4_line(word + " p4", graph)
+    return graph, done_line(mode, graph)
+
+
+def session_lines(mode: str, graph: Graph, script: list[Item]) -> Iterator[Judge]:
+    """The lines of a session between head and end: one for each item, at the graph that those before it leave."""
     if mode != "edit" and has_p4(graph):
         yield p4_line("p4", graph)
         return
     if mode != "quiet":
         yield tree_line("t", graph)
-    for edit in script:
-        against = reason(graph, edit)
-        changed = graph if against else after(graph, edit)
-        if against:
-            yield equals("no " + against)
-        elif mode != "edit" and has_p4(changed):
-            yield p4_line("no p4", changed)
+    earlier: list[Graph] = []
+    for item in script:
+        if item.what == "undo" and not earlier:
+            yield equals("no undo")
+        elif item.what == "undo":
+            graph = earlier.pop()
+            yield done_line(mode, graph)
         else:
-            graph = changed
-            yield equals("ok") if mode == "quiet" else tree_line("ok", graph)
+            led, judge = tried(mode, graph, item.edits, item.what == "group")
+            if led is not None:
+                earlier.append(graph)
+                graph = led
+            yield judge
     if mode == "quiet":
         yield tree_line("t", graph)
 
@@ -316,7 +338,7 @@ def limit_of(mode: str) -> int:
     return ORIENTED if mode in ("compare", "permute") else NAMES
 
 
-def report_lines(mode: str, graphs: list[Graph], script: list[Edit]) -> Iterator[Judge]:
+def report_lines(mode: str, graphs: list[Graph], script: list[Item]) -> Iterator[Judge]:
     """A judge of each line of a report, in order."""
     yield equals("mdt " + mode)
     if mode in SESSIONS:
@@ -327,7 +349,7 @@ def report_lines(mode: str, graphs: list[Graph], script: list[Edit]) -> Iterator
     yield equals("end")
 
 
-def first_wrong_line(mode: str, graphs: list[Graph], script: list[Edit], report: bytes) -> Optional[int]:
+def first_wrong_line(mode: str, graphs: list[Graph], script: list[Item], report: bytes) -> Optional[int]:
     """None where the report is valid for these graphs and, in a session, this script; else the number, from 1, of the
     first line at which it is none. A session has one graph."""
     *texts, rest = report.decode("latin-1").split("\n")

@@ -188,11 +188,11 @@ class Command(unittest.TestCase):
             self.assertIn(told, err)
 
     def test_sessions(self):
-        script = self.file("script", "+v 2 0 1\n+v 3 2\n-v 1\n")
+        script = self.file("script", "+v 2 0 1\n+v 3 2\nbegin\n-v 1\ncommit\n")
         page = self.draw("--session", "--script", script, self.session())[1]
         captions = re.findall("<figcaption>(.*?)</figcaption>", page)
         self.assertEqual(captions, ["line 2: the first graph", "line 3: +v 2 0 1: ok", "line 4: +v 3 2: no p4 0 1 2 3",
-                                    "line 5: -v 1: ok"])
+                                    "line 5: begin; -v 1; commit: ok"])
         self.assertEqual(page.count(MARKED), 4)
         self.assertNotIn("http://", page.replace("http://www.w3.org/2000/svg", ""))
 

@@ -141,6 +141,23 @@ class Answers(unittest.TestCase):
                          [("refused", "p4"), ("applied", None), ("refused", "vertex"), ("refused", "same")])
         self.assertEqual(session.answers[2].vertices, ["nobody"])
         self.assertEqual(str(session.tree), "S(P(ann,cem),P(bob,dan))")
+        with mdt.session(NAMED[:1], "edit") as session:
+            session.undo()
+            with session.group():
+                session.add_vertex("dan", ["bob"])
+                session.add_edge("ann", "bob")
+            with session.group():
+                session.remove_edge("ann", "bob")
+                self.assertRaises(ValueError, session.undo)
+                self.assertRaises(ValueError, session.group().__enter__)
+            with self.assertRaises(KeyError):
+                with session.group():
+                    raise KeyError("x")
+            session.undo()
+        self.assertEqual([(line.what, line.edit, line.reason) for line in session.answers],
+                         [("refused", None, "undo"), ("refused", 2, "edge-there"), ("applied", None, None),
+                          ("applied", None, None)])
+        self.assertEqual(str(session.tree), "S(ann,bob)")
         with mdt.session([], "quiet") as session:
             session.add_vertex("x")
         self.assertEqual(str(session.tree), "x")
@@ -188,7 +205,8 @@ class Reports(unittest.TestCase):
         return str(path)
 
     def test_each_mode_is_read_and_checked(self):
-        script = self.file("script", b"+e 0 1\n-e 0 1\n+e 0 0\n+e 0 99\n+v 50 0 1\n-v 50\n+v 0\n")
+        script = self.file("script", b"+e 0 1\n-e 0 1\n+e 0 0\n+e 0 99\n+v 50 0 1\n-v 50\n+v 0\nundo\n"
+                           b"begin\n+v 50\n+v 51\ncommit\nundo\nbegin\n-v 0\n-v 0\ncommit\n")
         for path in sorted(EXAMPLES.iterdir()):
             if path.name in ("all.g6", "truncated.g6") or path.suffix not in (".g6", ".col"):
                 continue

@@ -19,6 +19,11 @@ class Lines(unittest.TestCase):
         self.assertEqual((lines[3].reason, lines[3].vertices), ("p4", [0, 1, 2, 3]))
         self.assertEqual((lines[5].reason, lines[5].vertices), ("vertex", [9]))
         self.assertEqual(repr(lines[5]), "<line 6: refused reason='vertex' vertices=[9]>")
+        group = lines_of("mdt cograph\nt 0\nno undo\nno edit 12 taken 3\nno edit 1 p4 0 1 2 3\nend\n")
+        self.assertEqual([(line.what, line.edit, line.reason, line.vertices) for line in group[2:5]],
+                         [("refused", None, "undo", []), ("refused", 12, "taken", [3]),
+                          ("refused", 1, "p4", [0, 1, 2, 3])])
+        self.assertEqual(group[4].as_json()["edit"], 1)
         quiet = lines_of("mdt quiet\nok\nt empty\nend\n")
         self.assertFalse(quiet[1].has_tree)
         self.assertTrue(quiet[2].has_tree and quiet[2].tree is None)
@@ -42,6 +47,9 @@ class Lines(unittest.TestCase):
             ("mdt compare\nno\nend\n", 2), ("mdt permute\nno\nend\n", 2), ("mdt permute\nno g\nend\n", 2),
             ("mdt permute\nyes 0 1\nend\n", 2), ("mdt compare\nyes \u00b2>1\nend\n", 2),
             ("mdt compare\nyes %s>1\nend\n" % ("9" * 5000), 2), ("mdt edit\nno vertex\nend\n", 2),
+            ("mdt edit\nno undo 1\nend\n", 2), ("mdt edit\nno edit 0 same\nend\n", 2),
+            ("mdt edit\nno edit 1\nend\n", 2), ("mdt edit\nno edit 200001 same\nend\n", 2),
+            ("mdt edit\nno edit 1 undo\nend\n", 2), ("mdt edit\nno edit 1 p4 0 1 2 3\nend\n", 2),
         ]:
             with self.assertRaises(ReportError, msg=text) as caught:
                 lines_of(text)

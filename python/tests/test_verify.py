@@ -55,13 +55,18 @@ def graph6(graph):
 
 
 def random_script(r, n):
-    lines = []
-    for _ in range(r.randrange(8)):
-        word = r.choice(["+e", "-e", "+v", "-v"])
+    lines, in_group = [], False
+    for _ in range(r.randrange(10)):
+        word = r.choice(["+e", "-e", "+v", "-v", "commit" if in_group else "begin", "undo"])
+        if word in ("begin", "commit", "undo"):
+            if word != "undo" or not in_group:
+                lines.append(word + "\n")
+                in_group = word == "begin"
+            continue
         count = 2 if word in ("+e", "-e") else 1
         names = [r.randrange(n + 2) for _ in range(count + (r.randrange(n + 1) if word == "+v" else 0))]
         lines.append("%s %s\n" % (word, " ".join(map(str, names))))
-    return "".join(lines).encode()
+    return "".join(lines + ["commit\n"] * in_group).encode()
 
 
 def altered(r, report):
@@ -153,6 +158,16 @@ class Definitions(unittest.TestCase):
              ["t P(S(P(0,2),1),3)", "no p4 3 2 1 0", "ok S(P(0,2,3),1)"], 3),
             ("cograph", b"Ch\n", b"-v 0\n", ["p4 0 1 2 3"], None),
             ("quiet", b"Cg\n", b"+e 2 3\n+e 1 3\n", ["no p4 0 1 2 3", "ok", "t S(P(0,2,3),1)"], None),
+            ("edit", b"Bg\n", b"undo\n+e 0 2\nundo\nundo\n",
+             ["t S(P(0,2),1)", "no undo", "ok S(0,1,2)", "ok S(P(0,2),1)", "no undo"], None),
+            ("edit", b"Bg\n", b"begin\n+e 0 2\n-v 1\n+e 0 2\ncommit\nbegin\ncommit\nundo\n",
+             ["t S(P(0,2),1)", "no edit 3 edge-there", "ok S(P(0,2),1)", "ok S(P(0,2),1)"], None),
+            ("edit", b"Bg\n", b"begin\n+e 0 2\n-v 1\ncommit\nundo\n",
+             ["t S(P(0,2),1)", "ok S(0,2)", "ok S(0,2,1)"], 4),
+            ("cograph", b"Cg\n", b"begin\n+e 1 3\n-e 0 1\n+e 2 3\n-e 1 3\n+e 0 1\ncommit\n",
+             ["t P(S(P(0,2),1),3)", "no edit 5 p4 0 1 2 3"], None),
+            ("cograph", b"Cg\n", b"begin\n+e 2 3\n-e 2 3\ncommit\n", ["t P(S(P(0,2),1),3)", "ok P(S(P(0,2),1),3)"], 3),
+            ("quiet", b"Cg\n", b"begin\n+e 1 3\n+e 2 3\ncommit\nundo\n", ["ok", "ok", "t P(S(P(0,2),1),3)"], None),
         ]:
             report = "".join(line + "\n" for line in ["mdt " + mode, *lines, "end"]).encode()
             self.assertEqual(first_wrong_line(mode, read_graphs(graph), read_script(script), report), wrong,
@@ -199,9 +214,12 @@ class Definitions(unittest.TestCase):
             self.assertEqual((caught.exception.kind, caught.exception.line), (kind, line), content)
         for content, kind, line in [
             (b"\n*e 0 1\n", "UnknownEdit", 2), (b"+e 0\n", "FieldCount", 1), (b"+v a\n", "BadNumber", 1),
-            (b"-v 16384\n", "NameTooLarge", 1),
+            (b"-v 16384\n", "NameTooLarge", 1), (b"begin\n\nundo\n", "Nested", 3),
+            (b"begin\nbegin x\n", "FieldCount", 2),
+            (b"undo\ncommit\n", "NoGroup", 2), (b"begin\n+e 0 1\n", "OpenGroup", 3), (b"undo 1\n", "FieldCount", 1),
+            (b"undo\n" * 200_000 + b"commit\n", "NoGroup", 200_001), (b"undo\n" * 200_001, "TooManyEdits", 200_001),
         ]:
-            with self.assertRaises(InputFault, msg=content) as caught:
+            with self.assertRaises(InputFault, msg=content[:40]) as caught:
                 read_script(content)
             self.assertEqual((caught.exception.kind, caught.exception.line), (kind, line), content)
 
