@@ -45,20 +45,24 @@ MEMORY = (6, b"mdt: memory\n")
 WRITE_FAULT = (5, b"mdt: write fault\n")
 
 # A path of four vertices with a twin of an end, a cycle of five, one of six, the graph without vertices, two vertices
-# without an edge, a triangle, a cograph, a permutation graph and a random graph.
-MANY = b"DhO\nDhc\nEhEG\n?\nA?\nBw\n" + g6(cograph(12, 1)) + g6(permutation_graph(10, 2)) + g6(dense(14, 3))
+# with an edge in sparse6, a triangle, a cograph, a permutation graph and a random graph.
+MANY = b"DhO\nDhc\nEhEG\n?\n:An\nBw\n" + g6(cograph(12, 1)) + g6(permutation_graph(10, 2)) + g6(dense(14, 3))
 
 FILES = {
     "many.g6": MANY,
     "one.col": dimacs(dense(12, 4)),
     "random.g6": g6(dense(10, 5)),
-    "random.txt": b"+e 0 1\n-e 0 1\n+v 12 0 3 7\n-v 4\n+e 4 5\n-v 11\n+e 2 2\n+v 12 1\n-e 12 3\n# a comment\n+v 4\n-v 0\n",
+    # Behind edits a group that is refused at its third edit, two undos and a group that is applied.
+    "random.txt": b"+e 0 1\n-e 0 1\n+v 12 0 3 7\n-v 4\n+e 4 5\n-v 11\n+e 2 2\n+v 12 1\n-e 12 3\n# a comment\n+v 4\n-v 0\n"
+                  b"begin\n+v 0 1 2\n-v 1\n-v 1\ncommit\nundo\nundo\nbegin\n+v 13 2\n-v 2\ncommit\n",
     "cograph.g6": g6(cograph(12, 6)),
     "cograph.txt": b"+v 12 0 1\n-e 0 1\n+e 0 1\n+v 13\n+e 13 0\n-v 3\n+v 3 13\n-v 99\n-v 12\n+e 5 5\n+v 14 0 1 2\n-v 0\n",
     # Three vertices that are a path, and one apart: the first edit would make an induced path of four vertices, and is
-    # refused, and the second is applied.
+    # refused, and the second is applied; so a group of five edits is refused at its fourth, one is applied and taken
+    # back, and more undos follow than there are items.
     "apart.g6": b"Cg\n",
-    "apart.txt": b"+e 2 3\n+e 1 3\n",
+    "apart.txt": b"+e 2 3\n+e 1 3\nbegin\n+e 0 2\n-e 0 2\n-e 1 3\n+e 2 3\n-v 0\ncommit\n"
+                 b"begin\n-v 1\n+v 1 0 2\ncommit\nundo\nundo\nundo\n",
     # A path of four vertices, a cycle of six, one of five, the graph without vertices, two vertices: orders, a chain of
     # the complement, a chain, and orders again.
     "models.g6": b"Ch\nEhEG\nDhc\n?\nA?\n",
@@ -68,6 +72,7 @@ FILES = {
     "two.g6": b"@\n@\n",
     "padding.g6": b"Bw\nA`\n",
     "wrong.txt": b"-v 0\n*e 0 1\n",
+    "open.txt": b"-v 0\nbegin\n",
     "rejected": b"mdt tree\nt S(0,1)\nend\n",
     "deep.g6": g6(threshold(1001)),
     "deep.txt": b"-v 1000\n-v 500\n",
@@ -85,6 +90,7 @@ REPORTS = {
     "quiet.txt": ["quiet", "g6", "cograph.g6", "cograph.txt"],
     "models_report.txt": ["permute", "g6", "models.g6"],
     "apart_report.txt": ["cograph", "g6", "apart.g6", "apart.txt"],
+    "apart_quiet.txt": ["quiet", "g6", "apart.g6", "apart.txt"],
     "prime_report.txt": ["edit", "g6", "prime.g6", "prime.txt"],
     "path.txt": ["cograph", "g6", "prime.g6", "prime.txt"],
     "tree_dimacs.txt": ["tree", "dimacs", "one.col"],
@@ -122,6 +128,7 @@ SMALL = [
     ["tree", "g6", "padding.g6"],
     ["edit", "g6", "two.g6", "random.txt"],
     ["quiet", "g6", "cograph.g6", "wrong.txt"],
+    ["cograph", "g6", "cograph.g6", "open.txt"],
     ["check", "edit", "g6", "random.g6", "wrong.txt", "edit.txt"],
     ["edges", "g6", "absent"],
 ]

@@ -8,6 +8,7 @@
     python3 bench/run.py --checks        measures `check` over the reports of the same cases, beside the reports
     python3 bench/run.py --sizes         seconds and peak memory by command at two sizes, sparse and dense, in one table
     python3 bench/run.py --largest       the same over the largest graphs, of 16,384 vertices
+    python3 bench/run.py --undo          sessions that are taken back, by edits and by undo, and one group of all edits
 
 Inputs are made with fixed seeds, in a temporary folder. Instructions are counted by valgrind's callgrind, peak
 memory is told by GNU time, each where it is there. Instructions hardly change from run to run, as times do.
@@ -371,6 +372,40 @@ def measure_largest(binary):
         print("| file |" + "".join(" %.0f MB |" % size for size in sizes))
 
 
+def complete_edges(n):
+    """The edges of the complete graph, vertex after vertex: each front of them is a threshold graph."""
+    return [(u, v) for v in range(n) for u in range(v)]
+
+
+def measure_undo(binary):
+    """Sessions from the graph without edges on 447 vertices to the complete graph: alone, taken back, as one group."""
+    edges = complete_edges(447)
+    there = ["+e %d %d" % edge for edge in edges]
+    scripts = {
+        "each edge": there,
+        "each edge, each taken back by an edit": there + ["-e %d %d" % edge for edge in reversed(edges)],
+        "each edge, as many undos": there + ["undo"] * len(edges),
+        "one group of all edges": ["begin", *there, "commit"],
+        "the group, and an undo": ["begin", *there, "commit", "undo"],
+    }
+    print("| script | command | seconds | million instructions | peak MB |\n|---|---|---|---|---|")
+    with tempfile.TemporaryDirectory() as where:
+        with open(os.path.join(where, "empty.g6"), "wb") as file:
+            file.write(g6([0] * 447))
+        for name, lines in scripts.items():
+            with open(os.path.join(where, "script"), "w") as file:
+                file.write("".join(line + "\n" for line in lines))
+            for is_check in (False, True):
+                words = ["quiet", "g6", "empty.g6", "script"]
+                if is_check:
+                    with open(os.path.join(where, "report"), "wb") as file:
+                        subprocess.run([binary, *words], cwd=where, stdout=file, check=True)
+                    words = ["check", *words, "report"]
+                seconds, count, peak = measure(binary, words, where)
+                command = "`check quiet`" if is_check else "`quiet`"
+                print("| %s | %s | %.3f | %s | %.1f |" % (name, command, seconds, millions(count), peak), flush=True)
+
+
 def timed(binary, words, where):
     """Seconds of processor time and peak megabytes of one run, as text; a report may be too long for a check."""
     with subprocess.Popen(["time", "-f", "%M", binary, *words], cwd=where, stdout=subprocess.DEVNULL,
@@ -399,6 +434,7 @@ def main():
     options.add_argument("--checks", action="store_true")
     options.add_argument("--sizes", action="store_true")
     options.add_argument("--largest", action="store_true")
+    options.add_argument("--undo", action="store_true")
     chosen = options.parse_args()
     binary = os.path.abspath(chosen.bin or build())
     peer = os.path.abspath(chosen.peer) if chosen.peer else None
@@ -408,6 +444,8 @@ def main():
         return measure_sizes(binary)
     if chosen.largest:
         return measure_largest(binary)
+    if chosen.undo:
+        return measure_undo(binary)
     print("| run | seconds | million instructions | peak MB |" + (" the other's | ratio | its peak MB |" if peer else ""))
     print("|---|---|---|---|" + ("---|---|---|" if peer else ""))
     with tempfile.TemporaryDirectory() as where:
