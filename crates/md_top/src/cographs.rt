@@ -7,7 +7,7 @@ ghost use Rattle.md_report.specs.Cographs.{IsCograph};
 ghost use Rattle.md_report.specs.ItemLines.{AnswersItem, IsDoneLine};
 ghost use Rattle.md_report.specs.Lines.{plain_line};
 ghost use Rattle.md_report.specs.Places.{at_state, at_items, after_end};
-ghost use Rattle.md_report.specs.Sessions.{first_state, state_behind, is_applied};
+ghost use Rattle.md_report.specs.Sessions.{State, first_state, state_behind, is_applied};
 ghost use Rattle.md_report.specs.Steps.{state_of};
 ghost use Rattle.md_script.specs.Histories.{HistoryFits};
 ghost use Rattle.md_script.specs.Items.{HasItemNamesBelow};
@@ -16,6 +16,7 @@ ghost use Rattle.md_top.specs.Sinks.{sink_run, PutsLines};
 
 use crate::put::put_report_line;
 use crate::stop::PutStop;
+use crate::undos::{forget_unreached, undos_behind};
 use md_graph::{GraphOf, Memory, Steps};
 use md_io::Sink;
 use md_report::Line;
@@ -108,12 +109,15 @@ fn put_answers<const W: usize, O: Sink, L: Ledger>(
     ensures faults_never_fall { O.faults out.old ≤ O.faults out.new }
 {
     let mut history = HistoryOf::new(alloc)?;
+    let mut undos = script.undos();
     for i in 0..script.len() {
         let item = script.get(i);
+        forget_unreached(&mut history, undos);
         let line = answer_line(alloc, told, &mut session, item, &mut history, steps)?;
         put_report_line(alloc, line, out)?;
+        undos = undos_behind(undos, item);
     }
-    put_last(alloc, told, &session, &history, out)
+    put_last(alloc, told, &session, out)
 }
 
 // Puts what comes behind the lines of all items: in mode quiet the tree of the graph, and the last
@@ -122,11 +126,10 @@ fn put_last<const W: usize, O: Sink>(
     alloc: Global,
     told: bool,
     session: &CographSessionOf<W>,
-    history: &HistoryOf<W>,
     out: &mut O,
 ) -> Result<(), PutStop>
-    ensures puts { PutsLines
-        (at_items (cograph_mode told) (state_of session.now history.now.items) []) after_end result
+    ensures puts { (s : State) → s.graph ≡ session.now
+        → PutsLines (at_items (cograph_mode told) s []) after_end result
         (sink_run O.Sink out.old out.new) }
     ensures faults_never_fall { O.faults out.old ≤ O.faults out.new }
 {

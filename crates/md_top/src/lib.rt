@@ -15,6 +15,7 @@ mod session;
 mod short;
 mod stop;
 mod top;
+mod undos;
 
 pub use stop::Status;
 pub use top::run;

@@ -18,6 +18,7 @@ ghost use Rattle.md_top.specs.Sinks.{sink_run, PutsLines};
 use crate::cographs::put_cographs;
 use crate::put::put_report_line;
 use crate::stop::{PutStop, Stop, Verdict};
+use crate::undos::{forget_unreached, undos_behind};
 use md_graph::{GraphOf, Memory, Steps};
 use md_input::{Format, SessionInputs, session_inputs};
 use md_io::Sink;
@@ -130,10 +131,13 @@ fn put_items<const W: usize, O: Sink>(
     ensures faults_never_fall { O.faults out.old ≤ O.faults out.new }
 {
     let mut history = HistoryOf::new(alloc)?;
+    let mut undos = script.undos();
     for i in 0..script.len() {
         let item = script.get(i);
+        forget_unreached(&mut history, undos);
         let line = item_line(alloc, &mut session, item, &mut history)?;
         put_report_line(alloc, line, out)?;
+        undos = undos_behind(undos, item);
     }
     put_report_line(alloc, Line::End, out)
 }

@@ -1,16 +1,19 @@
-use Rattle.std.proofs.Common.{◌≤◌, ◌*◌, drop}
+use Rattle.std.proofs.Common.{◌≡◌, ◌≤◌, ◌*◌, drop}
+use Rattle.std.specs.List.{count_by}
 use Rattle.md_script.specs.Histories.{HistoryFits}
+use Rattle.md_script.specs.Items.{is_undo}
 use Rattle.md_script.specs.Pasts.{AnyGraph}
 use Rattle.md_report.specs.declared.line.SessionMode.TheVariants as modes
 use Rattle.md_report.specs.Places.{at_items}
 use Rattle.md_report.specs.Sessions.{first_state}
 use Rattle.md_report.specs.Steps.{state_of}
-use Rattle.md_top.specs.Sinks.{AppendsLines}
+use Rattle.md_top.proofs.ItemLoops.{HaveLed}
 use Rattle.md_top.proofs.session.put_items.Given as goal
 
 abbrev pub invariant-loop-i : goal.invariant-loop-i
 invariant-loop-i g l = record {
-  progress : AppendsLines (at_items modes.Edit (first_state l.fn.session) l.script) (at_items modes.Edit (state_of l.session l.history.items) (drop l.i l.script)) (g.O.Sink.holds l.fn.out) (g.O.Sink.holds l.out);
+  led : HaveLed modes.Edit (at_items modes.Edit (first_state l.fn.session) l.script) (drop l.i l.script) l.undos (state_of l.session l.history.items) (g.O.Sink.holds l.fn.out) (g.O.Sink.holds l.out);
+  counted : l.undos ≡ count_by is_undo (drop l.i l.script);
   fits : HistoryFits (64 * g.row.W) AnyGraph l.session l.history.items;
   faults : g.O.Sink.faults l.fn.out ≤ g.O.Sink.faults l.out;
 }
