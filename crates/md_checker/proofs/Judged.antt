@@ -17,7 +17,7 @@ use Rattle.md_script.specs.Histories.{HistoryFits}
 use Rattle.md_script.proofs.GroupLemmas.{GoesBack, kept_goes_back, one_goes_back}
 use Rattle.md_report.specs.declared.line.SessionMode.{SessionMode}
 use Rattle.md_report.specs.Cographs.{IsCograph, IsP4Of}
-use Rattle.md_report.specs.Lines.{PlainLine, refused, refused_p4, group_refused, group_refused_p4, nothing_to_undo}
+use Rattle.md_report.specs.Lines.{PlainLine, refused, refused_p4, group_refused, group_refused_p4}
 use Rattle.md_report.specs.Sessions.{is_applied, led_to}
 use Rattle.md_report.specs.ItemLines.{IsAllowed, IsBarred, IsDoneLine, AnswersItem, IsGroupLine}
 use Rattle.md_report.specs.Steps.{state_of, ItemStep}
@@ -68,17 +68,7 @@ module _ (limit : ℕ) (mode : SessionMode) (g : PlainGraph) (items : List (List
           let law = edit_line mode g edit line in
           ((λ told. subst (λ o. IsEditLine o mode (after g edit) line) none (law.0 told)), (λ told. law.1 (subst (λ o. IsEditLine o mode (after g edit) line) (sym none) told)))
 
-      -- the line tells of an induced P4
-      pub path_answers : (p : P4) → line ≡ refused_p4 p → AnswersItem mode (state_of g items) (One edit) line ↔ IsBarred mode (after g edit) p
-      path_answers p is = (
-        (λ told. elim (free_answers.0 told) [
-          | inl path ↦ (let same : path.0 ≡ p = (let e = sym path.2 ∙ is in cc) in subst (IsBarred mode (after g edit)) same path.1)
-          | inr done ↦ absurd (clash (done_tells mode (after g edit) line done.1).0 (ap is_applied is))
-        ]),
-        (λ barred. free_answers.1 (inl (p, barred, is))),
-      )
-
-      -- or tells that the edit was applied
+      -- the line tells that the edit was applied
       pub judged_edit : (k : PlainGraph) (back : script.Edit) → k ≡ after g edit → TakesBack limit g edit back → IsAllowed mode k → IsDoneLine mode k line → h ≡ k → left ≡ (back ∷ []) ∷ items → IsJudged true limit mode g items (One edit) line h left
       judged_edit k back next takes kept done same is =
           let here : h ≡ after g edit = same ∙ next in
@@ -124,14 +114,6 @@ module _ (limit : ℕ) (mode : SessionMode) (g : PlainGraph) (items : List (List
         judged_refusal (Group edits) ((p : P4) × IsBarred mode (after k edit) p × (line ≡ group_refused_p4 (n + 1) p)) b told (barred_line mode g k edits back n line so edit at none barred) (λ e. ap is_applied e.2) same kept
 
   -- ---- undo
-
-  pub judged_nothing : (b : Bool) (n : ℕ) → n ≡ length items → n ≡ 0 → (IsTrue b ↔ line ≡ nothing_to_undo) → h ≡ g → left ≡ items → IsJudged b limit mode g items Undo line h left
-  judged_nothing b n count none told same kept =
-      judged_refusal Undo (line ≡ nothing_to_undo) b told (by items (sym count ∙ none)) (λ e. ap is_applied e) same kept
-    where
-      by : (l : List (List script.Edit)) → length l ≡ 0 → AnswersItem mode (state_of g l) Undo line ↔ (line ≡ nothing_to_undo)
-      by [] zero = ((λ t. t), (λ t. t))
-      by (x ∷ l) zero = absurd (omega arith)
 
   module _ (last : List script.Edit) (others : List (List script.Edit)) (is : items ≡ last ∷ others) where
     may_last : MayBack limit (IsAllowed mode) g last

@@ -21,6 +21,7 @@ use Rattle.md_dtree.specs.Balance.{arcs_from, arcs_to, ListsMembers}
 use Rattle.md_dtree.proofs.BalanceLaws.{splits_proof, balance_proof}
 use Rattle.md_ddecompose.specs.declared.order_parts.Ranked.{Ranked}
 use Rattle.md_ddecompose.specs.Ranks.{HasItsLag, name_of, AreRanked, IsUncutSegment, AreUncutSegments}
+use Rattle.md_ddecompose.proofs.RankLemmas.{few_lags}
 
 abbrev Differ : ℕ → ℕ → Type 0
 Differ x y = x ≢ y
@@ -506,6 +507,17 @@ turn_counts arc s rs done rest r are cut few =
     let c : length (map name_of rs) ≡ len s = length_listed (map name_of rs) s are.lists in
     let d : length (map name_of rs) ≡ length rs = length-map rs name_of in
     (omega arith, omega arith)
+
+-- how great the numbers of a turn are at most
+pub record TurnBounds (rs done : List Ranked) (r : Ranked) : Type 0 where
+  pub small : r.lag ≤ 2 * DIRECTED_NAMES
+  pub one : length done + 1 ≤ length rs
+  pub all : length rs ≤ DIRECTED_NAMES
+
+pub turn_bounds : (arc : ℕ → ℕ → Bool) (s : NameSet) (rs done rest : List Ranked) (r : Ranked) → AreRanked arc s rs → done ++ r ∷ rest ≡ rs → len s ≤ DIRECTED_NAMES → TurnBounds rs done r
+turn_bounds arc s rs done rest r are whole few =
+    let counts = turn_counts arc s rs done rest r are whole few in
+    record { small = few_lags arc s r few (has_lag arc s rs done rest r are whole r (r_in arc s rs done rest r are whole)); one = counts.0; all = counts.1 }
 
 -- the sums with one more name
 pub sums_more : (arc : ℕ → ℕ → Bool) (s : NameSet) (done : List ℕ) (r : Ranked) (lags first : ℕ) → HasItsLag arc s r →

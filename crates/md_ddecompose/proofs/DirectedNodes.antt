@@ -15,7 +15,7 @@ use Rattle.md_tree.specs.Trees.{names, names_below, names_at, row}
 use Rattle.md_tree.specs.StrongTrees.{IsBefore, StandBy, ListsExactly}
 use Rattle.md_tree.proofs.Nodes.{IsChild, child_inside, child_of_name}
 use Rattle.md_tree.proofs.Built.{IsChildSet, IsBuiltBy}
-use Rattle.md_decompose.specs.Children.{AreChildren, set_at}
+use Rattle.md_decompose.specs.Children.{set_at}
 use Rattle.md_decompose.proofs.Joining.{child_in, of_child, at_row, in_order, spread, two_parts, weights}
 use Rattle.md_dtree.specs.declared.DKind.{DKind}
 use Rattle.md_dtree.specs.declared.DKind.TheVariants.{Parallel, Series, Order, Prime}
@@ -34,15 +34,6 @@ module _ (arc : ℕ → ℕ → Bool) where
   IsDBuilt = IsBuiltBy (IsDirectedNode arc) e
 
   -- ---- kinds
-
-  pub parallel_children : (s : NameSet) (cs : List NameSet) → AreChildren e s cs → AreDirectedChildren arc s Parallel cs
-  parallel_children s cs are = record { exactly = are.exactly; order = are.order }
-
-  pub series_children : (s : NameSet) (cs : List NameSet) → AreChildren e s cs → AreDirectedChildren arc s Series cs
-  series_children s cs are = record { exactly = are.exactly; order = are.order }
-
-  pub prime_kind_children : (s : NameSet) (cs : List NameSet) → AreChildren e s cs → AreDirectedChildren arc s Prime cs
-  prime_kind_children s cs are = record { exactly = are.exactly; order = are.order }
 
   pub is_unsplit : (s : NameSet) → HasTwo s → (SplitsWith arc s no_arc → ⊥) → (SplitsWith arc s both_arcs → ⊥) → (SplitsWith arc s arc_forth → ⊥) → IsUnsplit e s
   is_unsplit s two a b c = record {

@@ -19,18 +19,15 @@ module _ (arc : ℕ → ℕ → Bool) (s : NameSet) where
   inside_of : (c : NameSet) → IsUncutSegment arc s c → Within c s
   inside_of c is = segment_inside s c arc_forth (swapped arc_forth) is.segment
 
-  one_whole : (cs : List NameSet) → AreUncutSegments arc s cs → HasSome s → length cs < 2 → SplitsWith arc s arc_forth → ⊥
-  one_whole [] are some few split = absurd (of_contains [] (are.cover some.0 some.1).0 (are.cover some.0 some.1).1)
-  one_whole (c ∷ []) are some few split =
+  pub no_order : (cs : List NameSet) → AreUncutSegments arc s cs → HasSome s → length cs < 2 → SplitsWith arc s arc_forth → ⊥
+  no_order [] are some few split = absurd (of_contains [] (are.cover some.0 some.1).0 (are.cover some.0 some.1).1)
+  no_order (c ∷ []) are some few split =
       let is : IsUncutSegment arc s c = are.each c (to_contains (c ∷ []) c (inl refl)) in
       let same : c ≡ s = same_members c s (inside_of c is) (λ x h.
       let d = are.cover x h in
       elim (of_contains (c ∷ []) d.0 d.1) [ inl e ↦ subst (λ t. Has t x) e d.2 | inr none ↦ absurd none ]) in
       is.uncut (subst (λ t. SplitsWith arc t arc_forth) (sym same) split)
-  one_whole (c ∷ d ∷ cs) are some few split = absurd (let b : suc (suc (length cs)) < 2 = few in omega arith)
-
-  pub no_order : (cs : List NameSet) → AreUncutSegments arc s cs → HasSome s → length cs < 2 → SplitsWith arc s arc_forth → ⊥
-  no_order = one_whole
+  no_order (c ∷ d ∷ cs) are some few split = absurd (let b : suc (suc (length cs)) < 2 = few in omega arith)
 
   first_splits : (cs : List NameSet) → AreUncutSegments arc s cs → 2 ≤ length cs → SplitsWith arc s arc_forth
   first_splits [] are many = absurd (let b : 2 ≤ 0 = many in omega arith)

@@ -8,7 +8,7 @@ use Rattle.md_digraph.specs.declared.TheConstants.{DIRECTED_NAMES}
 use Rattle.md_digraph.specs.PlainDigraph.{has_arc_to}
 use Rattle.md_dtree.specs.Balance.{arcs_from, arcs_to}
 use Rattle.md_ddecompose.specs.Ranks.{name_of, HasItsLag}
-use Rattle.md_ddecompose.proofs.CutLemmas.{IsCutUpTo, cut_begins, next_name, has_lag, r_in, turn_cuts, turn_goes_on, turn_counts, sums_more, cut_ends}
+use Rattle.md_ddecompose.proofs.CutLemmas.{IsCutUpTo, cut_begins, next_name, has_lag, r_in, turn_cuts, turn_goes_on, turn_bounds, sums_more, cut_ends}
 use Rattle.md_ddecompose.proofs.RankLemmas.{few_names, few_lags}
 use Rattle.md_ddecompose.proofs.order_parts.cut_ranks.Goals as goal
 
@@ -34,67 +34,30 @@ insert-requires g c =
 
 pub overflow_add-lags : goal.overflow_add-lags
 overflow_add-lags g c =
-    let arc = has_arc_to c.args.graph.now in
-    let s = c.args.set.now in
-    let rs = c.args.ranks.items in
-    let are = c.requires.ranked in
     let inv = c.loop-ranked.invariant in
-    let done = c.loop-ranked.yielded in
-    let rest = c.next.new.self.rest.items in
-    let r = c.in-Some.ranked in
-    let whole : done ++ r ∷ rest ≡ rs = ap (λ ns. done ++ ns) (sym c.in-Some.ensures.steps.0) ∙ inv.left ∙ c.into_iter-ranked-iterator.ensures.into_iter_gives.0 in
-    let few : len s ≤ DIRECTED_NAMES = few_names s DIRECTED_NAMES (λ x h. c.vertices-vertices.ensures.digraph.names x (c.requires.inside x h)) in
-    let lag : HasItsLag arc s r = has_lag arc s rs done rest r are whole r (r_in arc s rs done rest r are whole) in
-    let small : r.lag ≤ 2 * DIRECTED_NAMES = few_lags arc s r few lag in
-    let before : c.loop-ranked.lags ≤ c.loop-ranked.first * (2 * DIRECTED_NAMES) = inv.few in
-    let counts = turn_counts arc s rs done rest r are whole few in
-    let one : length done + 1 ≤ length rs = counts.0 in
-    let all : length rs ≤ DIRECTED_NAMES = counts.1 in
-    let so_far : c.loop-ranked.first ≡ length done = inv.counted in
-    omega arith
+    let is =
+    turn_bounds (has_arc_to c.args.graph.now) c.args.set.now c.args.ranks.items c.loop-ranked.yielded c.next.new.self.rest.items c.in-Some.ranked c.requires.ranked
+    (ap (λ ns. c.loop-ranked.yielded ++ ns) (sym c.in-Some.ensures.steps.0) ∙ inv.left ∙ c.into_iter-ranked-iterator.ensures.into_iter_gives.0)
+    (few_names c.args.set.now DIRECTED_NAMES (λ x h. c.vertices-vertices.ensures.digraph.names x (c.requires.inside x h))) in
+    omega (arith, is.small, is.one, is.all, inv.few, inv.counted)
 
 pub is_cut-cut-requires-clause-lags : goal.is_cut-cut-requires-clause-lags
 is_cut-cut-requires-clause-lags g c =
-    let arc = has_arc_to c.args.graph.now in
-    let s = c.args.set.now in
-    let rs = c.args.ranks.items in
-    let are = c.requires.ranked in
     let inv = c.loop-ranked.invariant in
-    let done = c.loop-ranked.yielded in
-    let rest = c.next.new.self.rest.items in
-    let r = c.in-Some.ranked in
-    let whole : done ++ r ∷ rest ≡ rs = ap (λ ns. done ++ ns) (sym c.in-Some.ensures.steps.0) ∙ inv.left ∙ c.into_iter-ranked-iterator.ensures.into_iter_gives.0 in
-    let few : len s ≤ DIRECTED_NAMES = few_names s DIRECTED_NAMES (λ x h. c.vertices-vertices.ensures.digraph.names x (c.requires.inside x h)) in
-    let lag : HasItsLag arc s r = has_lag arc s rs done rest r are whole r (r_in arc s rs done rest r are whole) in
-    let small : r.lag ≤ 2 * DIRECTED_NAMES = few_lags arc s r few lag in
-    let before : c.loop-ranked.lags ≤ c.loop-ranked.first * (2 * DIRECTED_NAMES) = inv.few in
-    let counts = turn_counts arc s rs done rest r are whole few in
-    let one : length done + 1 ≤ length rs = counts.0 in
-    let all : length rs ≤ DIRECTED_NAMES = counts.1 in
-    let so_far : c.loop-ranked.first ≡ length done = inv.counted in
-    omega arith
+    let is =
+    turn_bounds (has_arc_to c.args.graph.now) c.args.set.now c.args.ranks.items c.loop-ranked.yielded c.next.new.self.rest.items c.in-Some.ranked c.requires.ranked
+    (ap (λ ns. c.loop-ranked.yielded ++ ns) (sym c.in-Some.ensures.steps.0) ∙ inv.left ∙ c.into_iter-ranked-iterator.ensures.into_iter_gives.0)
+    (few_names c.args.set.now DIRECTED_NAMES (λ x h. c.vertices-vertices.ensures.digraph.names x (c.requires.inside x h))) in
+    omega (arith, is.small, is.one, is.all, inv.few, inv.counted)
 
 pub is_cut-cut-requires-clause-count : goal.is_cut-cut-requires-clause-count
 is_cut-cut-requires-clause-count g c =
-    let arc = has_arc_to c.args.graph.now in
-    let s = c.args.set.now in
-    let rs = c.args.ranks.items in
-    let are = c.requires.ranked in
     let inv = c.loop-ranked.invariant in
-    let done = c.loop-ranked.yielded in
-    let rest = c.next.new.self.rest.items in
-    let r = c.in-Some.ranked in
-    let whole : done ++ r ∷ rest ≡ rs = ap (λ ns. done ++ ns) (sym c.in-Some.ensures.steps.0) ∙ inv.left ∙ c.into_iter-ranked-iterator.ensures.into_iter_gives.0 in
-    let few : len s ≤ DIRECTED_NAMES = few_names s DIRECTED_NAMES (λ x h. c.vertices-vertices.ensures.digraph.names x (c.requires.inside x h)) in
-    let lag : HasItsLag arc s r = has_lag arc s rs done rest r are whole r (r_in arc s rs done rest r are whole) in
-    let small : r.lag ≤ 2 * DIRECTED_NAMES = few_lags arc s r few lag in
-    let before : c.loop-ranked.lags ≤ c.loop-ranked.first * (2 * DIRECTED_NAMES) = inv.few in
-    let counts = turn_counts arc s rs done rest r are whole few in
-    let one : length done + 1 ≤ length rs = counts.0 in
-    let all : length rs ≤ DIRECTED_NAMES = counts.1 in
-    let so_far : c.loop-ranked.first ≡ length done = inv.counted in
-    let count : c.len-count.result ≡ length rs = c.len-count.ensures ∙ c.args.ranks.ok.0 in
-    omega arith
+    let is =
+    turn_bounds (has_arc_to c.args.graph.now) c.args.set.now c.args.ranks.items c.loop-ranked.yielded c.next.new.self.rest.items c.in-Some.ranked c.requires.ranked
+    (ap (λ ns. c.loop-ranked.yielded ++ ns) (sym c.in-Some.ensures.steps.0) ∙ inv.left ∙ c.into_iter-ranked-iterator.ensures.into_iter_gives.0)
+    (few_names c.args.set.now DIRECTED_NAMES (λ x h. c.vertices-vertices.ensures.digraph.names x (c.requires.inside x h))) in
+    omega (arith, is.small, is.one, is.all, inv.few, inv.counted, c.len-count.ensures ∙ c.args.ranks.ok.0)
 
 pub loop-ranked-preserved : goal.loop-ranked-preserved
 loop-ranked-preserved g c =
