@@ -1,9 +1,7 @@
 -- What an ending says of a run, behind its loads.
-use Rattle.std.proofs.Common.{◌≡◌, ◌≢◌, ◌⊎◌, ℕ, ◌<◌, ◌≤◌, Bool, IsTrue, List, [], ◌∷◌, ◌++◌, Option, None, Some, Result, IsErrAnd, Ok, Err, refl, sym, ◌∙◌, ap, ap₂, subst, inl, inr, append-nil, append_assoc, arith}
+use Rattle.std.proofs.Common.{◌≡◌, ◌≢◌, ◌⊎◌, ℕ, ◌<◌, Bool, IsTrue, List, [], ◌∷◌, Option, None, Some, Result, IsErrAnd, Ok, Err, refl, sym, ◌∙◌, ap, ap₂, subst, inl, inr, arith}
 use Rattle.std.specs.Io.KnownBytes.{Keeps}
-use Rattle.md_io.specs.Count.{Rose}
-use Rattle.md_io.specs.Told.{Told, IsToldAs, IsToldFile, IsToldLonger}
-use Rattle.md_io.specs.declared.TheConstants.{LIMIT}
+use Rattle.md_io.specs.Told.{Told, IsToldAs}
 use Rattle.md_io.specs.declared.LoadFault.{LoadFault}
 use Rattle.md_io.specs.declared.LoadFault.TheVariants as loads
 use Rattle.md_input.specs.declared.fault.Fault.{Fault}
@@ -16,14 +14,15 @@ use Rattle.md_top.specs.declared.stop.Verdict.{Verdict}
 use Rattle.md_top.specs.declared.stop.Verdict.TheVariants.{Done, Rejected}
 use Rattle.md_checker.specs.declared.answer.CheckAnswer.TheVariants as answers
 use Rattle.md_top.specs.Request.{files_of, with_files}
-use Rattle.md_top.specs.Input.{FilesRun, AreToldAs, AreFiles, AllToldFiles, CanBeInput, IsInput, AsksInOrder, file_names, LoadEnds}
+use Rattle.md_top.specs.Input.{FilesRun, AreToldAs, AreFiles, AllToldFiles, CanBeInput, IsInput, AsksInOrder, file_names}
+use Rattle.md_top.specs.Loading.{Loads, StopsLoading}
 use Rattle.md_top.specs.Answer.{fault_of, HasAnswer}
 use Rattle.md_top.specs.Sinks.{SinkRun}
 use Rattle.md_top.specs.Command.{CommandEnds}
 use Rattle.md_top.specs.Status.{status_of, status_of_verdict, status_of_stop, line_of_stop, stop_of_load}
 use Rattle.md_top.specs.Promise.{CanBeBad, IsLine, Ends}
 use Rattle.md_top.proofs.OneOutput.{not_done, rejected_answer}
-use Rattle.md_top.proofs.Loads.{Loads, onwards, both, all_before, all_at, none_past, fronts_had, all_had}
+use Rattle.md_top.proofs.Loads.{none_asked, all_asked}
 
 -- a run that stops at bad input names a fault
 pub stops_at_fault : (stop : Stop) (request : Option (Request (List ℕ))) (f : FilesRun) (o : SinkRun) → Ends request (Err stop) f o → status_of_stop stop ≡ statuses.BadInput → (fault : Fault) × CanBeBad f.holds request fault
@@ -66,16 +65,6 @@ module _ (request : Option (Request (List ℕ))) (ending : Result Verdict Stop) 
   rejected_always input line is faultless has =
       subst (λ s. (s ≡ statuses.Rejected) ⊎ (s ≡ statuses.ReadFault) ⊎ (s ≡ statuses.WriteFault) ⊎ (s ≡ statuses.Memory)) (sym same)
       (ends.rejected_always input line is faultless has)
-
--- where nothing is loaded, nothing is asked for
-pub none_asked : (holds : List ℕ → Told) (asked : List (List ℕ)) → AsksInOrder holds asked asked []
-none_asked holds asked = record {
-  part = [];
-  rest = [];
-  whole = refl;
-  grown = sym (append-nil asked);
-  had = λ front last same. fronts_had holds [] [] front last [] (omega arith) tt same;
-}
 
 -- a run over words in no form
 module _ (request : Option (Request (List ℕ))) (none : request ≡ None) (holds : List ℕ → Told) (asked : List (List ℕ)) (faults overs : ℕ) (sure : Bool) (o : SinkRun) (keeps : Keeps o.old o.new) where
@@ -125,10 +114,6 @@ same_contents holds (name ∷ names) (bytes ∷ contents) (other ∷ others) tol
     (subst (λ t. IsToldAs t bytes) files.0 told.0)
     (same_contents holds names contents others told.2 files.2)
 
--- a count that rose behind another moment
-rose_behind : (old now new : ℕ) → old ≤ now → Rose now new → Rose old new
-rose_behind old now new below rose = omega (arith, rose)
-
 -- an ending behind the loads of all files of a request
 module _ (asked : Request (List ℕ)) (contents : List (List ℕ)) (input : Request (List ℕ)) (filled : with_files asked contents ≡ Some input)
     (f : FilesRun) (o : SinkRun) (loaded : Loads f (files_of asked) contents) where
@@ -148,7 +133,7 @@ module _ (asked : Request (List ℕ)) (contents : List (List ℕ)) (input : Requ
   can_be = record { asked = asked; contents = contents; is = refl; told = loaded.told; filled = filled }
 
   in_order : AsksInOrder f.holds f.asked_old f.asked_new (files_of asked)
-  in_order = record { part = files_of asked; rest = []; whole = sym (append-nil (files_of asked)); grown = loaded.asked; had = all_had f (files_of asked) contents loaded }
+  in_order = all_asked f (files_of asked) contents loaded
 
   not_none : {fault : Fault} → ◌≡◌ {A = Option Fault} None (Some fault) → ⊥
   not_none is = cc
@@ -242,96 +227,70 @@ module _ (asked : Request (List ℕ)) (contents : List (List ℕ)) (input : Requ
   }
   ends_of_command (Err TooLong) ends = absurd ends
 
--- an ending at a load, behind the loads of the files before
-module _ (asked : Request (List ℕ)) (f : FilesRun) (names contents : List (List ℕ)) (loaded : Loads f names contents) (name : List ℕ) (rest : List (List ℕ)) (files : files_of asked ≡ names ++ name ∷ rest)
-    (mid : List ℕ → Told) (same : mid ≡ f.holds) (notes : List (List ℕ)) (faults overs : ℕ) (sure : Bool) (o : SinkRun) (keeps : Keeps o.old o.new) where
-  noted : (fault : LoadFault) → LoadEnds name (Err fault) (onwards f mid notes faults overs sure) → AsksInOrder f.holds f.asked_old notes (files_of asked)
-  noted fault load = elim load.asked [
-    | inl new ↦ record {
-      part = names ++ name ∷ [];
-      rest = rest;
-      whole = files ∙ sym (append_assoc names (name ∷ []) rest);
-      grown = new ∙ ap (λ l. l ++ name ∷ []) loaded.asked ∙ append_assoc f.asked_old names (name ∷ []);
-      had = λ front last same. fronts_had f.holds names (name ∷ []) front last contents (omega arith) loaded.told same;
-    }
-    | inr kept ↦ record { part = names; rest = name ∷ rest; whole = files; grown = kept.1 ∙ loaded.asked; had = all_had f names contents loaded }
-  ]
-
-  all_of : AllToldFiles f.holds (files_of asked) → AllToldFiles f.holds (names ++ name ∷ rest)
-  all_of all = subst (AllToldFiles f.holds) files all
-
-  surely : (fault : LoadFault) → LoadEnds name (Err fault) (onwards f mid notes faults overs sure) → IsTrue f.sure_old → AllToldFiles f.holds (files_of asked) → (faults ≡ f.faults_old) × IsTrue sure × (fault ≢ loads.Failed)
-  surely fault load s all =
-      let so_far = loaded.sure s (all_before f.holds names name rest (all_of all)) in
-      let more = load.sure so_far.1 (subst (λ (h : List ℕ → Told). IsToldFile (h name)) (sym same) (all_at f.holds names name rest (all_of all))) in
-      (more.0 ∙ so_far.0, more.1, λ is. more.2 (cc))
-
-  no_input : IsToldLonger (mid name) LIMIT → (other : Request (List ℕ)) → IsInput f.holds (Some asked) other → ⊥
+-- an ending at a load of a file of a request
+module _ (asked : Request (List ℕ)) (f : FilesRun) (stop : Stop) (stops : StopsLoading f (files_of asked) stop) (o : SinkRun) (keeps : Keeps o.old o.new) where
+  no_input : stops.fault ≡ loads.TooLong → (other : Request (List ℕ)) → IsInput f.holds (Some asked) other → ⊥
   no_input longer other is =
       let one : asked ≡ is.asked = cc in
-      none_past f.holds names name rest is.contents (subst (λ (h : List ℕ → Told). IsToldLonger (h name) LIMIT) same longer)
-      (subst (AreFiles' is.contents) files (subst (λ (r : Request (List ℕ)). AreFiles f.holds (files_of r) is.contents) (sym one) is.files))
-    where
-      AreFiles' : List (List ℕ) → List (List ℕ) → Type 0
-      AreFiles' contents names = AreFiles f.holds names contents
+      (stops.too_long longer).1 is.contents (subst (λ (r : Request (List ℕ)). AreFiles f.holds (files_of r) is.contents) (sym one) is.files)
 
-  rose_there : LoadEnds name (Err loads.Failed) (onwards f mid notes faults overs sure) → Rose f.faults_old faults
-  rose_there load = rose_behind f.faults_old f.faults_new faults (omega (arith, loaded.faults)) (load.failed refl)
+  none_failed_there : stops.fault ≢ loads.Failed → f.faults_old < f.faults_new → ⊥
+  none_failed_there other rose = omega (arith, stops.faults_only other, rose)
 
-  stays_there : (fault : LoadFault) → fault ≢ loads.Failed → LoadEnds name (Err fault) (onwards f mid notes faults overs sure) → f.faults_old < faults → ⊥
-  stays_there fault other load rose = omega (arith, loaded.faults, load.faults_only (λ is. other (cc)), rose)
+  surely : {fault : LoadFault} → stops.fault ≡ fault → IsTrue f.sure_old → AllToldFiles f.holds (files_of asked) → (f.faults_new ≡ f.faults_old) × IsTrue f.sure_new × (fault ≢ loads.Failed)
+  surely at s all = let told = stops.sure s all in (told.0, told.1, λ is. told.2 (at ∙ is))
 
-  ends_at_load : (fault : LoadFault) → LoadEnds name (Err fault) (onwards f mid notes faults overs sure) → Ends (Some asked) (Err (stop_of_load fault)) (both f notes faults overs sure) o
-  ends_at_load loads.Failed load = record {
+  ends_by : (fault : LoadFault) → stops.fault ≡ fault → Ends (Some asked) (Err (stop_of_load fault)) f o
+  ends_by loads.Failed at = record {
     usage = ((λ u. cc), (λ n. cc));
-    asked = noted loads.Failed load;
+    asked = stops.asked;
     bad_input = λ fault is. cc;
     bad_input_always = λ other fault is faulty. inr (inl refl);
     good_input = λ s. elim s [ inl d ↦ cc | inr (inl r) ↦ cc | inr (inr w) ↦ cc ];
     rejected = λ s. cc;
     rejected_always = λ other line is faultless has. inr (inl refl);
-    read_fault = λ s. rose_there load;
+    read_fault = λ s. stops.failed at;
     failing_load = λ rose. refl;
     write_fault = λ s. cc;
     too_long = λ s. cc;
-    sure = λ s all. ((surely loads.Failed load s all).0, (surely loads.Failed load s all).1, λ r. (surely loads.Failed load s all).2 refl);
+    sure = λ s all. ((surely at s all).0, (surely at s all).1, λ r. (surely at s all).2 refl);
     out = keeps;
-    complete = λ other is faultless no_read no_write. absurd (no_read (rose_there load));
+    complete = λ other is faultless no_read no_write. absurd (no_read (stops.failed at));
   }
-  ends_at_load loads.Memory load = record {
+  ends_by loads.Memory at = record {
     usage = ((λ u. cc), (λ n. cc));
-    asked = noted loads.Memory load;
+    asked = stops.asked;
     bad_input = λ fault is. cc;
     bad_input_always = λ other fault is faulty. inr (inr refl);
     good_input = λ s. elim s [ inl d ↦ cc | inr (inl r) ↦ cc | inr (inr w) ↦ cc ];
     rejected = λ s. cc;
     rejected_always = λ other line is faultless has. inr (inr (inr refl));
     read_fault = λ s. cc;
-    failing_load = λ rose. absurd (stays_there loads.Memory (λ e. cc) load rose);
+    failing_load = λ rose. absurd (none_failed_there (λ e. cc) rose);
     write_fault = λ s. cc;
     too_long = λ s. cc;
-    sure = λ s all. ((surely loads.Memory load s all).0, (surely loads.Memory load s all).1, λ r. cc);
+    sure = λ s all. ((surely at s all).0, (surely at s all).1, λ r. cc);
     out = inl keeps;
     complete = λ other is faultless no_read no_write. inr (inr refl);
   }
-  ends_at_load loads.TooLong load = record {
+  ends_by loads.TooLong at = record {
     usage = ((λ u. cc), (λ n. cc));
-    asked = noted loads.TooLong load;
+    asked = stops.asked;
     bad_input = λ fault is. cc;
-    bad_input_always = λ other fault is faulty. absurd (no_input (load.too_long refl).1 other is);
+    bad_input_always = λ other fault is faulty. absurd (no_input at other is);
     good_input = λ s. elim s [ inl d ↦ cc | inr (inl r) ↦ cc | inr (inr w) ↦ cc ];
     rejected = λ s. cc;
-    rejected_always = λ other line is faultless has. absurd (no_input (load.too_long refl).1 other is);
+    rejected_always = λ other line is faultless has. absurd (no_input at other is);
     read_fault = λ s. cc;
-    failing_load = λ rose. absurd (stays_there loads.TooLong (λ e. cc) load rose);
+    failing_load = λ rose. absurd (none_failed_there (λ e. cc) rose);
     write_fault = λ s. cc;
-    too_long = λ s. rose_behind f.overs_old f.overs_new overs loaded.overs (load.too_long refl).0;
-    sure = λ s all. ((surely loads.TooLong load s all).0, (surely loads.TooLong load s all).1, λ r. cc);
+    too_long = λ s. (stops.too_long at).0;
+    sure = λ s all. ((surely at s all).0, (surely at s all).1, λ r. cc);
     out = keeps;
-    complete = λ other is faultless no_read no_write. absurd (no_input (load.too_long refl).1 other is);
+    complete = λ other is faultless no_read no_write. absurd (no_input at other is);
   }
 
-  -- the same, handed on
-  pub ends_at_next_load : (ending : Result Verdict Stop) (fault : LoadFault) → IsErrAnd ending (λ named. named ≡ stop_of_load fault) → LoadEnds name (Err fault) (onwards f mid notes faults overs sure) → Ends (Some asked) ending (both f notes faults overs sure) o
-  ends_at_next_load (Ok verdict) fault is load = absurd is
-  ends_at_next_load (Err named) fault is load = subst (λ (s : Stop). Ends (Some asked) (Err s) (both f notes faults overs sure) o) (sym is) (ends_at_load fault load)
+  -- the stop is handed on
+  pub ends_at_stop : (ending : Result Verdict Stop) → IsErrAnd ending (λ named. named ≡ stop) → Ends (Some asked) ending f o
+  ends_at_stop (Ok verdict) is = absurd is
+  ends_at_stop (Err named) is = subst (λ (s : Stop). Ends (Some asked) (Err s) f o) (sym (is ∙ stops.is)) (ends_by stops.fault refl)

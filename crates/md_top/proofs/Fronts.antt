@@ -1,16 +1,14 @@
 -- The fronts of each output are the beginnings of whole valid ones.
-use Rattle.std.proofs.Common.{ℕ, List, [], ◌∷◌, ◌++◌, refl, subst, sym}
+use Rattle.std.proofs.Common.{ℕ, List, ◌++◌, refl, subst, sym}
 use Rattle.md_report.specs.Laws.{IsSound}
 use Rattle.md_report.proofs.Fronts.{fronts_begin_proof}
-use Rattle.md_script.proofs.FileLemmas.{script_has_names}
-use Rattle.md_checker.proofs.Spelled.{are_graphs}
-use Rattle.md_top.specs.declared.request.GraphForm.TheVariants.{Convert, Report}
 use Rattle.md_top.specs.declared.request.Request.{Request}
-use Rattle.md_top.specs.declared.request.Request.TheVariants.{Graphs, Session, CheckGraphs, CheckSession, Big}
+use Rattle.md_top.specs.declared.request.Request.TheVariants.{Convert, Report, Check, Big}
 use Rattle.md_top.specs.declared.stop.Verdict.{Verdict}
 use Rattle.md_top.specs.declared.stop.Verdict.TheVariants.{Done, Rejected}
 use Rattle.md_top.specs.Answer.{Output, text, report, answer, verdict_of, Gives, IsWhole, IsBeginning, IsAnswer, IsAnswerFront}
 use Rattle.md_top.specs.Laws.{FrontsBeginAnswers}
+use Rattle.md_top.proofs.Beginnings.{begin_sound}
 
 -- a report is of graphs, and of items of scripts
 abbrev IsSoundOutput : Output → Type 0
@@ -19,12 +17,9 @@ IsSoundOutput (report p) = IsSound p
 IsSoundOutput (answer p bytes) = Unit {0}
 
 given_sound : (input : Request (List ℕ)) (output : Output) → Gives input output → IsSoundOutput output
-given_sound (Graphs (Convert to) from graph) output gives = subst IsSoundOutput (sym gives.2) tt
-given_sound (Graphs (Report mode) from graph) output gives = subst IsSoundOutput (sym gives.2) (are_graphs from graph gives.0 gives.1)
-given_sound (Session mode from graph script) output gives =
-    subst IsSoundOutput (sym gives.4) ((are_graphs from graph (gives.0 ∷ []) gives.2).0, script_has_names script gives.1 gives.3)
-given_sound (CheckGraphs mode from graph bytes) output gives = subst IsSoundOutput (sym gives.2) tt
-given_sound (CheckSession mode from graph script bytes) output gives = subst IsSoundOutput (sym gives.4) tt
+given_sound (Convert to from graph) output gives = subst IsSoundOutput (sym gives.2) tt
+given_sound (Report subject) output gives = subst IsSoundOutput (sym gives.2) (begin_sound subject gives.0 gives.1)
+given_sound (Check subject bytes) output gives = subst IsSoundOutput (sym gives.2) tt
 given_sound (Big size) output gives = subst IsSoundOutput (sym gives.2) tt
 
 whole_of : (output : Output) → IsSoundOutput output → (bytes : List ℕ) → IsBeginning output bytes → (verdict : Verdict) × (rest : List ℕ) × IsWhole output verdict (bytes ++ rest)

@@ -5,7 +5,9 @@ pub mod ItemLoops
 mod ToldLines
 pub mod Outputs
 mod Alike
+mod Beginnings
 mod OneOutput
+mod RequestLemmas
 pub mod Loads
 pub mod EndsLemmas
 pub mod Fronts

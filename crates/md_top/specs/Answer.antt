@@ -1,46 +1,35 @@
 -- The output of a request over given contents, whole or begun, and what is wrong with the contents.
 -- Here the contents stand in the request in place of the names. Source: the formats and reports of docs/FORMATS.md.
-use Rattle.std.specs.Prelude.{◌≡◌, ℕ, Option, None, List, [], ◌∷◌, ◌++◌, codes}
-use Rattle.std.specs.Option.{option_or}
+use Rattle.std.specs.Prelude.{◌≡◌, ℕ, Option, None, List, ◌++◌, codes}
 use Rattle.std.specs.List.{flat_map}
 use Rattle.md_text.specs.Numbers.{decimal}
 use Rattle.md_graph.specs.declared.TheConstants.{NAMES}
 use Rattle.md_graph.specs.PlainGraph.{PlainGraph}
 use Rattle.md_graph6.specs.Text.{graph6_text}
 use Rattle.md_dimacs.specs.Text.{dimacs_text}
-use Rattle.md_script.specs.declared.item.Item as script_items
-use Rattle.md_script.specs.File.{SpellsScript}
 use Rattle.md_input.specs.declared.format.Format.{Format}
 use Rattle.md_input.specs.declared.format.Format.TheVariants.{G6, Dimacs}
 use Rattle.md_input.specs.declared.fault.Fault.{Fault}
 use Rattle.md_input.specs.Spelling.{SpellsGraphs}
-use Rattle.md_input.specs.Faults.{graph_fault, one_graph_fault, script_fault}
-use Rattle.md_report.specs.Lines.{limit_of_mode}
-use Rattle.md_report.specs.Places.{Place, before_head, before_session}
+use Rattle.md_input.specs.Faults.{graph_fault}
+use Rattle.md_report.specs.Places.{Place}
 use Rattle.md_report.specs.Reports.{IsReport, IsFront}
 use Rattle.md_checker.specs.declared.answer.CheckAnswer.{CheckAnswer}
 use Rattle.md_checker.specs.declared.answer.CheckAnswer.TheVariants as answers
 use Rattle.md_checker.specs.Answers.{IsCheckAnswer}
 use Rattle.md_top.specs.declared.big.Numbers.{Numbers}
-use Rattle.md_top.specs.declared.request.GraphForm.{GraphForm}
-use Rattle.md_top.specs.declared.request.GraphForm.TheVariants.{Convert, Report}
 use Rattle.md_top.specs.declared.request.Request.{Request}
-use Rattle.md_top.specs.declared.request.Request.TheVariants.{Graphs, Session, CheckGraphs, CheckSession, Big}
+use Rattle.md_top.specs.declared.request.Request.TheVariants.{Convert, Report, Check, Big}
 use Rattle.md_top.specs.declared.stop.Verdict.{Verdict}
 use Rattle.md_top.specs.declared.stop.Verdict.TheVariants.{Done, Rejected}
+use Rattle.md_top.specs.Subject.{subject_fault, BeginsAt}
 use Rattle.md_top.specs.Big.{AreNumbersOf, numbers_line}
-
--- the limit of names of the graphs that are answered in a form
-abbrev pub limit_of_form : GraphForm → ℕ
-limit_of_form (Convert to) = NAMES
-limit_of_form (Report mode) = limit_of_mode mode
 
 -- the first cause of bad input, none where the input is well-formed
 abbrev pub fault_of : Request (List ℕ) → Option Fault
-fault_of (Graphs form from graph) = graph_fault (limit_of_form form) from graph
-fault_of (Session mode from graph script) = option_or (one_graph_fault from graph) (script_fault script)
-fault_of (CheckGraphs mode from graph report) = graph_fault (limit_of_mode mode) from graph
-fault_of (CheckSession mode from graph script report) = option_or (one_graph_fault from graph) (script_fault script)
+fault_of (Convert to from graph) = graph_fault NAMES from graph
+fault_of (Report subject) = subject_fault subject
+fault_of (Check subject report) = subject_fault subject
 fault_of (Big size) = None
 
 -- the text of a graph in a format
@@ -64,23 +53,13 @@ pub data Output : Type 0 where
   report : Place → Output
   answer : Place → List ℕ → Output
 
--- what a form puts over graphs: the texts of them, one after the other, or their report
-abbrev pub over_graphs : GraphForm → List PlainGraph → Output
-over_graphs (Convert to) graphs = text (flat_map (graph_text to) graphs)
-over_graphs (Report mode) graphs = report (before_head mode graphs)
-
--- the request over these contents gives the output
+-- the request over these contents gives the output: the texts of the graphs, one after the other; the report over a
+-- subject; the answer of checking it; the numbers of a session
 abbrev pub Gives : Request (List ℕ) → Output → Type 0
-Gives (Graphs form from graph) output =
-    (graphs : List PlainGraph) × SpellsGraphs from graph graphs × (output ≡ over_graphs form graphs)
-Gives (Session mode from graph script) output =
-    (g : PlainGraph) × (items : List script_items.Item) × SpellsGraphs from graph (g ∷ []) × SpellsScript script items
-    × (output ≡ report (before_session mode g items))
-Gives (CheckGraphs mode from graph bytes) output =
-    (graphs : List PlainGraph) × SpellsGraphs from graph graphs × (output ≡ answer (before_head mode graphs) bytes)
-Gives (CheckSession mode from graph script bytes) output =
-    (g : PlainGraph) × (items : List script_items.Item) × SpellsGraphs from graph (g ∷ []) × SpellsScript script items
-    × (output ≡ answer (before_session mode g items) bytes)
+Gives (Convert to from graph) output =
+    (graphs : List PlainGraph) × SpellsGraphs from graph graphs × (output ≡ text (flat_map (graph_text to) graphs))
+Gives (Report subject) output = (p : Place) × BeginsAt subject p × (output ≡ report p)
+Gives (Check subject bytes) output = (p : Place) × BeginsAt subject p × (output ≡ answer p bytes)
 Gives (Big size) output = (n : Numbers) × AreNumbersOf size n × (output ≡ text (numbers_line n))
 
 -- the request over these contents is a check with this answer

@@ -1,11 +1,7 @@
 -- What a run can read, by what the files tell.
-use Rattle.std.specs.Prelude.{◌≡◌, ◌⊎◌, ℕ, ◌≤◌, Bool, IsTrue, Option, Some, None, List, [], ◌∷◌, ◌++◌, length, Vec, Result, IfOk, IsErrOf}
-use Rattle.std.specs.Global.{Global}
+use Rattle.std.specs.Prelude.{◌≡◌, ℕ, ◌≤◌, Bool, Option, Some, None, List, [], ◌∷◌, ◌++◌, length}
 use Rattle.md_io.specs.declared.Files as files
-use Rattle.md_io.specs.declared.LoadFault.{LoadFault}
-use Rattle.md_io.specs.declared.LoadFault.TheVariants as loads
-use Rattle.md_io.specs.Count.{Rose}
-use Rattle.md_io.specs.Told.{Told, file, IsToldAs, IsToldFile, IsToldLonger}
+use Rattle.md_io.specs.Told.{Told, file, IsToldAs, IsToldFile}
 use Rattle.md_io.specs.declared.TheConstants.{LIMIT}
 use Rattle.md_top.specs.declared.request.Request.{Request}
 use Rattle.md_top.specs.Request.{files_of, with_files}
@@ -88,17 +84,3 @@ pub record AsksInOrder (holds : List ℕ → Told) (old new names : List (List �
   pub grown : new ≡ old ++ part
   pub had : (front : List (List ℕ)) (last : List ℕ) → part ≡ front ++ last ∷ []
       → (contents : List (List ℕ)) × AreToldAs holds front contents
-
--- A load of the file of a name: its bytes, within the limit; or a fault, each where its count rose; or want of memory.
--- The count of faults stays where the load didn't fail.
-pub record LoadEnds (name : List ℕ) (result : Result (Vec ℕ Global) LoadFault) (f : FilesRun) : Type 0 where
-  pub told : IfOk result (λ bytes. IsToldAs (f.holds name) bytes.items)
-  pub within : IfOk result (λ bytes. length bytes.items ≤ LIMIT)
-  pub failed : IsErrOf result loads.Failed → Rose f.faults_old f.faults_new
-  pub too_long : IsErrOf result loads.TooLong → Rose f.overs_old f.overs_new × IsToldLonger (f.holds name) LIMIT
-  pub asked : (f.asked_new ≡ f.asked_old ++ name ∷ [])
-      ⊎ (IsErrOf result loads.Memory × (f.asked_new ≡ f.asked_old))
-  pub sure : IsTrue f.sure_old → IsToldFile (f.holds name)
-      → (f.faults_new ≡ f.faults_old) × IsTrue f.sure_new × ¬ (IsErrOf result loads.Failed)
-  pub faults_only : ¬ (IsErrOf result loads.Failed) → f.faults_new ≡ f.faults_old
-  pub overs : f.overs_old ≤ f.overs_new

@@ -1,5 +1,7 @@
+pub mod Subject
 pub mod Request
 pub mod Input
+pub mod Loading
 pub mod Big
 pub mod Answer
 pub mod Sinks

@@ -1,6 +1,7 @@
 //! Checks of reports: all files are read whole, and the answer is one put.
 ghost use Rattle.std.specs.Prelude.{◌≡◌, ◌≤◌};
 ghost use Rattle.md_checker.specs.declared.answer.CheckAnswer.{CheckAnswer};
+ghost use Rattle.md_top.specs.declared.request.Subject.{Subject};
 ghost use Rattle.md_top.specs.declared.request.Request.{Request};
 ghost use Rattle.md_top.specs.Answer.{answer_text, verdict_of};
 ghost use Rattle.md_top.specs.Command.{CommandEnds};
@@ -25,7 +26,8 @@ pub fn graphs_check<O: Sink>(
     report: &[u8],
     out: &mut O,
 ) -> Result<Verdict, Stop>
-    ensures ends { CommandEnds (Request.CheckGraphs mode from file.now report.now) result
+    ensures ends { CommandEnds
+        (Request.Check (Subject.Graphs mode from file.now) report.now) result
         (sink_run O.Sink out.old out.new) }
     ensures faults_never_fall { O.faults out.old ≤ O.faults out.new }
 {
@@ -44,8 +46,9 @@ pub fn session_check<O: Sink>(
     report: &[u8],
     out: &mut O,
 ) -> Result<Verdict, Stop>
-    ensures ends { CommandEnds (Request.CheckSession mode from file.now script.now report.now)
-        result (sink_run O.Sink out.old out.new) }
+    ensures ends { CommandEnds
+        (Request.Check (Subject.Session mode from file.now script.now) report.now) result
+        (sink_run O.Sink out.old out.new) }
     ensures faults_never_fall { O.faults out.old ≤ O.faults out.new }
 {
     let answer = check_session(alloc, mode, from, file, script, report)?;

@@ -1,7 +1,6 @@
 //! The converters: the text of each graph of a file, one put a graph, as it is read.
 ghost use Rattle.std.specs.Prelude.{◌≡◌, ◌≤◌, IfOk};
 ghost use Rattle.std.specs.List.{flat_map};
-ghost use Rattle.md_top.specs.declared.request.GraphForm.{GraphForm};
 ghost use Rattle.md_top.specs.declared.request.Request.{Request};
 ghost use Rattle.md_top.specs.Answer.{graph_text};
 ghost use Rattle.md_top.specs.Sinks.{sink_run, PutsWhole};
@@ -23,7 +22,7 @@ pub fn convert<O: Sink>(
     file: &[u8],
     out: &mut O,
 ) -> Result<Verdict, Stop>
-    ensures ends { CommandEnds (Request.Graphs (GraphForm.Convert to) from file.now) result
+    ensures ends { CommandEnds (Request.Convert to from file.now) result
         (sink_run O.Sink out.old out.new) }
     ensures faults_never_fall { O.faults out.old ≤ O.faults out.new }
 {

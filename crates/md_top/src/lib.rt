@@ -14,6 +14,7 @@ mod request;
 mod session;
 mod short;
 mod stop;
+mod subject;
 mod top;
 mod undos;
 

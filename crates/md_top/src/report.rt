@@ -7,7 +7,7 @@ ghost use Rattle.md_report.specs.Lines.{plain_line};
 ghost use Rattle.md_report.specs.Orientations.{IsShortestLine};
 ghost use Rattle.md_report.specs.Models.{IsModelLine};
 ghost use Rattle.md_report.specs.Places.{before_head, at_graphs, after_end, Reports};
-ghost use Rattle.md_top.specs.declared.request.GraphForm.{GraphForm};
+ghost use Rattle.md_top.specs.declared.request.Subject.{Subject};
 ghost use Rattle.md_top.specs.declared.request.Request.{Request};
 ghost use Rattle.md_top.specs.Command.{CommandEnds};
 ghost use Rattle.md_top.specs.Sinks.{sink_run, PutsLines};
@@ -31,7 +31,7 @@ pub fn report<O: Sink>(
     file: &[u8],
     out: &mut O,
 ) -> Result<Verdict, Stop>
-    ensures ends { CommandEnds (Request.Graphs (GraphForm.Report mode) from file.now) result
+    ensures ends { CommandEnds (Request.Report (Subject.Graphs mode from file.now)) result
         (sink_run O.Sink out.old out.new) }
     ensures faults_never_fall { O.faults out.old ≤ O.faults out.new }
 {

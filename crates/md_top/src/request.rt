@@ -1,34 +1,33 @@
 //! What the program can be asked: the request that words make.
 ghost use Rattle.std.specs.Prelude.{◌≡◌, ◌≤◌, IfSome};
 ghost use Rattle.std.specs.Option.{option_map};
-ghost use Rattle.md_top.specs.Request.{texts, format_of, graph_form, graph_mode, session_mode, is_check, is_big, size_written, HasSize, request_of, seen};
+ghost use Rattle.md_top.specs.Subject.{subject_seen};
+ghost use Rattle.md_top.specs.Request.{texts, format_of, graph_mode, session_mode, subject_of, size_written, HasSize, convert_request, check_request, big_request, request_of, seen};
 
 use crate::big::BIGGEST;
 use md_input::Format;
 use md_report::{GraphMode, SessionMode, mode_of_word};
 use md_text::number;
 
-/// What is made of the graphs of a file.
-#[derive(Clone, Copy, Debug, PartialEq, Eq)]
-pub enum GraphForm {
-    /// The text of each graph, in the format that is written.
-    Convert(Format),
-    /// The report of a mode over the graphs.
-    Report(GraphMode),
+/// What a report is over, by what stands for each file: its name, or its bytes; and its mode. The
+/// format is that of the graph file.
+#[derive(Clone, Copy, Debug, Drop, PartialEq, Eq)]
+pub enum Subject<F> {
+    /// The graphs of a graph file.
+    Graphs(GraphMode, Format, F),
+    /// A session on the one graph of a graph file, over a script.
+    Session(SessionMode, Format, F, F),
 }
 
-/// What is asked for, by what stands for each file: its name, or its bytes. The format is that of
-/// the graph file.
-#[derive(Clone, Copy, Debug, PartialEq, Eq)]
+/// What is asked for, by what stands for each file: its name, or its bytes.
+#[derive(Clone, Copy, Debug, Drop, PartialEq, Eq)]
 pub enum Request<F> {
-    /// A form over the graphs of a graph file.
-    Graphs(GraphForm, Format, F),
-    /// The report of a session of a mode on the graph of a graph file, over a script.
-    Session(SessionMode, Format, F, F),
-    /// The check of a report of a mode over the graphs of a graph file.
-    CheckGraphs(GraphMode, Format, F, F),
-    /// The check of a report of a session of a mode on the graph of a graph file, over a script.
-    CheckSession(SessionMode, Format, F, F, F),
+    /// The text of each graph of a graph file: the format that is written, and that of the file.
+    Convert(Format, Format, F),
+    /// The report over a subject.
+    Report(Subject<F>),
+    /// The check of a report over a subject; the last file is the report.
+    Check(Subject<F>, F),
     /// The numbers of a session on cographs over the edits that a number of names gives.
     Big(u32),
 }
@@ -38,57 +37,67 @@ pub fn request_of(words: &[String]) -> Option<Request<&str>>
     ensures request { option_map seen result ≡ request_of (texts words.now) }
     ensures size { IfSome result (λ request. HasSize request) }
 {
-    match words {
-        [command, size] => {
-            if !is_big(command.as_str()) {
-                return None;
-            }
-            let size = size_of(size.as_str())?;
-            Some(Request::Big(size))
-        }
-        [command, format, graph] => {
-            let form = graph_form(command.as_str())?;
-            let from = format_of(format.as_str())?;
-            Some(Request::Graphs(form, from, graph.as_str()))
-        }
-        [command, format, graph, script] => {
-            let mode = session_mode(command.as_str())?;
-            let from = format_of(format.as_str())?;
-            Some(Request::Session(mode, from, graph.as_str(), script.as_str()))
-        }
-        [check, mode, format, graph, report] => {
-            if !is_check(check.as_str()) {
-                return None;
-            }
-            let mode = graph_mode(mode.as_str())?;
-            let from = format_of(format.as_str())?;
-            Some(Request::CheckGraphs(mode, from, graph.as_str(), report.as_str()))
-        }
-        [check, mode, format, graph, script, report] => {
-            if !is_check(check.as_str()) {
-                return None;
-            }
-            let mode = session_mode(mode.as_str())?;
-            let from = format_of(format.as_str())?;
-            let (graph, script, report) = (graph.as_str(), script.as_str(), report.as_str());
-            Some(Request::CheckSession(mode, from, graph, script, report))
-        }
-        _ => None,
+    let (command, behind) = words.split_first()?;
+    match command.as_str() {
+        "check" => check_request(behind),
+        "big" => big_request(behind),
+        "edges" => convert_request(Format::Dimacs, behind),
+        "graph6" => convert_request(Format::G6, behind),
+        _ => Some(Request::Report(subject_of(words)?)),
     }
 }
 
-// Whether a word asks for a check.
-fn is_check(word: &str) -> bool
-    ensures { result ≡ is_check word.now }
+// The check of a report that the words behind `check` ask for: those of a subject, and then the
+// report.
+fn check_request(words: &[String]) -> Option<Request<&str>>
+    ensures request { option_map seen result ≡ check_request (texts words.now) }
+    ensures size { IfSome result (λ request. HasSize request) }
 {
-    word == "check"
+    let (report, of_subject) = words.split_last()?;
+    let subject = subject_of(of_subject)?;
+    Some(Request::Check(subject, report.as_str()))
 }
 
-// Whether a word asks for the session over the edits that a number gives.
-fn is_big(word: &str) -> bool
-    ensures { result ≡ is_big word.now }
+// The session over the edits that a number gives, by the word behind `big`.
+fn big_request(words: &[String]) -> Option<Request<&str>>
+    ensures request { option_map seen result ≡ big_request (texts words.now) }
+    ensures size { IfSome result (λ request. HasSize request) }
 {
-    word == "big"
+    let [size] = words else {
+        return None;
+    };
+    Some(Request::Big(size_of(size.as_str())?))
+}
+
+// The text of each graph in a format, by the words behind that: the format of the file, and the
+// file.
+fn convert_request(to: Format, words: &[String]) -> Option<Request<&str>>
+    ensures request { option_map seen result ≡ convert_request to (texts words.now) }
+    ensures size { IfSome result (λ request. HasSize request) }
+{
+    let [from, graph] = words else {
+        return None;
+    };
+    Some(Request::Convert(to, format_of(from.as_str())?, graph.as_str()))
+}
+
+// The subject of a report that the words name: a mode, the format of the graph file, and the files.
+fn subject_of(words: &[String]) -> Option<Subject<&str>>
+    ensures { option_map subject_seen result ≡ subject_of (texts words.now) }
+{
+    match words {
+        [mode, format, graph] => {
+            let mode = graph_mode(mode.as_str())?;
+            let from = format_of(format.as_str())?;
+            Some(Subject::Graphs(mode, from, graph.as_str()))
+        }
+        [mode, format, graph, script] => {
+            let mode = session_mode(mode.as_str())?;
+            let from = format_of(format.as_str())?;
+            Some(Subject::Session(mode, from, graph.as_str(), script.as_str()))
+        }
+        _ => None,
+    }
 }
 
 // The number that a word writes, if it is one of 1 to `BIGGEST`; none for any other word.
@@ -111,17 +120,6 @@ fn format_of(word: &str) -> Option<Format>
         "g6" => Some(Format::G6),
         "dimacs" => Some(Format::Dimacs),
         _ => None,
-    }
-}
-
-// The form of a command over the graphs of a file; none for any other word.
-fn graph_form(command: &str) -> Option<GraphForm>
-    ensures { result ≡ graph_form command.now }
-{
-    match command {
-        "edges" => Some(GraphForm::Convert(Format::Dimacs)),
-        "graph6" => Some(GraphForm::Convert(Format::G6)),
-        mode => Some(GraphForm::Report(graph_mode(mode)?)),
     }
 }
 

@@ -11,6 +11,7 @@ ghost use Rattle.md_report.specs.Steps.{ItemStep};
 ghost use Rattle.md_script.specs.Histories.{HistoryFits};
 ghost use Rattle.md_script.specs.Pasts.{AnyGraph};
 ghost use Rattle.md_script.specs.Items.{HasItemNamesBelow};
+ghost use Rattle.md_top.specs.declared.request.Subject.{Subject};
 ghost use Rattle.md_top.specs.declared.request.Request.{Request};
 ghost use Rattle.md_top.specs.Command.{CommandEnds};
 ghost use Rattle.md_top.specs.Sinks.{sink_run, PutsLines};
@@ -38,7 +39,8 @@ pub fn session_report<O: Sink>(
     script: &[u8],
     out: &mut O,
 ) -> Result<Verdict, Stop>
-    ensures ends { CommandEnds (Request.Session mode from file.now script.now) result
+    ensures ends { CommandEnds
+        (Request.Report (Subject.Session mode from file.now script.now)) result
         (sink_run O.Sink out.old out.new) }
     ensures faults_never_fall { O.faults out.old ≤ O.faults out.new }
 {

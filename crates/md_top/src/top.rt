@@ -3,6 +3,7 @@ ghost use Rattle.std.specs.Prelude.{◌≡◌, ◌≢◌, ◌↔◌, ◌⊎◌, 
 ghost use Rattle.md_io.specs.Count.{Rose};
 ghost use Rattle.md_input.specs.declared.fault.Fault.{Fault};
 ghost use Rattle.md_top.specs.declared.request.Request.{Request};
+ghost use Rattle.md_top.specs.Subject.{subject_seen};
 ghost use Rattle.md_top.specs.Request.{texts, request_of};
 ghost use Rattle.md_top.specs.Input.{IsInput, AllToldFiles, AsksInOrder, file_names, files_run};
 ghost use Rattle.md_top.specs.Answer.{fault_of, HasAnswer};
@@ -11,17 +12,14 @@ ghost use Rattle.md_checker.specs.declared.answer.CheckAnswer.{CheckAnswer};
 ghost use Rattle.md_top.specs.Promise.{CanBeBad, CanBeGood, CanBeRejected, Puts, TakesLineOf, Ends};
 
 use crate::big::{BIGGEST, big};
-use crate::check::{graphs_check, session_check};
 use crate::convert::convert;
 use crate::err_line::put_line;
 use crate::load::load;
-use crate::report::report;
-use crate::request::{GraphForm, Request, request_of};
-use crate::session::session_report;
+use crate::request::{Request, Subject, request_of};
 use crate::stop::{Status, Stop, Verdict};
+use crate::subject::{check_of_subject, load_subject, report_of_subject};
 use md_input::Format;
 use md_io::{Files, Sink};
-use md_report::{GraphMode, SessionMode};
 use std::alloc::Global;
 
 /// Does what the words ask for: loads the files that they name, in their order, puts the whole
@@ -160,16 +158,9 @@ fn end<F: Files, O: Sink>(
         return Err(Stop::Usage);
     };
     match request {
-        Request::Graphs(form, from, graph) => end_graphs(alloc, form, from, graph, files, out),
-        Request::Session(mode, from, graph, script) => {
-            end_session(alloc, mode, from, graph, script, files, out)
-        }
-        Request::CheckGraphs(mode, from, graph, report) => {
-            end_graphs_check(alloc, mode, from, graph, report, files, out)
-        }
-        Request::CheckSession(mode, from, graph, script, report) => {
-            end_session_check(alloc, mode, from, graph, script, report, files, out)
-        }
+        Request::Convert(to, from, graph) => end_convert(alloc, to, from, graph, files, out),
+        Request::Report(subject) => end_report(alloc, subject, files, out),
+        Request::Check(subject, report) => end_check(alloc, subject, report, files, out),
         Request::Big(size) => end_big(alloc, size, files, out),
     }
 }
@@ -191,94 +182,54 @@ fn end_big<F: Files, O: Sink>(
     big(alloc, size, out)
 }
 
-// Loads the graph file, and does what the form asks for over its graphs.
-fn end_graphs<F: Files, O: Sink>(
+// Loads the graph file, and puts the text of each graph in a format.
+fn end_convert<F: Files, O: Sink>(
     alloc: Global,
-    form: GraphForm,
+    to: Format,
     from: Format,
     graph: &str,
     files: &mut F,
     out: &mut O,
 ) -> Result<Verdict, Stop>
-    ensures ends { Ends (Some (Request.Graphs form from graph.now)) result
+    ensures ends { Ends (Some (Request.Convert to from graph.now)) result
         (files_run F.Files files.old files.new) (sink_run O.Sink out.old out.new) }
     ensures told { F.holds files.new ≡ F.holds files.old }
     ensures faults_never_fall { O.faults out.old ≤ O.faults out.new }
 {
     let file = load(alloc, files, graph)?;
-    match form {
-        GraphForm::Convert(to) => convert(alloc, from, to, &file, out),
-        GraphForm::Report(mode) => report(alloc, mode, from, &file, out),
-    }
+    convert(alloc, from, to, &file, out)
 }
 
-// Loads the graph file and the script, and runs the session.
-fn end_session<F: Files, O: Sink>(
+// Loads the files of a subject, and puts the report over it.
+fn end_report<F: Files, O: Sink>(
     alloc: Global,
-    mode: SessionMode,
-    from: Format,
-    graph: &str,
-    script: &str,
+    subject: Subject<&str>,
     files: &mut F,
     out: &mut O,
 ) -> Result<Verdict, Stop>
-    ensures ends { Ends (Some (Request.Session mode from graph.now script.now)) result
+    ensures ends { Ends (Some (Request.Report (subject_seen subject.entry))) result
         (files_run F.Files files.old files.new) (sink_run O.Sink out.old out.new) }
     ensures told { F.holds files.new ≡ F.holds files.old }
     ensures faults_never_fall { O.faults out.old ≤ O.faults out.new }
 {
-    let graph_file = load(alloc, files, graph)?;
-    let script_file = load(alloc, files, script)?;
-    session_report(alloc, mode, from, &graph_file, &script_file, out)
+    let loaded = load_subject(alloc, files, subject)?;
+    report_of_subject(alloc, &loaded, out)
 }
 
-// Loads the graph file and the report, and checks the report.
-fn end_graphs_check<F: Files, O: Sink>(
+// Loads the files of a subject and the report, and checks the report.
+fn end_check<F: Files, O: Sink>(
     alloc: Global,
-    mode: GraphMode,
-    from: Format,
-    graph: &str,
+    subject: Subject<&str>,
     report: &str,
     files: &mut F,
     out: &mut O,
 ) -> Result<Verdict, Stop>
-    ensures ends { Ends (Some (Request.CheckGraphs mode from graph.now report.now)) result
+    ensures ends { Ends (Some (Request.Check (subject_seen subject.entry) report.now)) result
         (files_run F.Files files.old files.new) (sink_run O.Sink out.old out.new) }
     ensures told { F.holds files.new ≡ F.holds files.old }
     ensures faults_never_fall { O.faults out.old ≤ O.faults out.new }
 {
-    let graph_file = load(alloc, files, graph)?;
+    let loaded = load_subject(alloc, files, subject)?;
     let report_file = load(alloc, files, report)?;
-    graphs_check(alloc, mode, from, &graph_file, &report_file, out)
-}
-
-// Loads the graph file, the script and the report, and checks the report.
-fn end_session_check<F: Files, O: Sink>(
-    alloc: Global,
-    mode: SessionMode,
-    from: Format,
-    graph: &str,
-    script: &str,
-    report: &str,
-    files: &mut F,
-    out: &mut O,
-) -> Result<Verdict, Stop>
-    ensures ends { Ends
-        (Some (Request.CheckSession mode from graph.now script.now report.now)) result
-        (files_run F.Files files.old files.new) (sink_run O.Sink out.old out.new) }
-    ensures told { F.holds files.new ≡ F.holds files.old }
-    ensures faults_never_fall { O.faults out.old ≤ O.faults out.new }
-{
-    let graph_file = load(alloc, files, graph)?;
-    let script_file = load(alloc, files, script)?;
-    let report_file = load(alloc, files, report)?;
-    session_check(
-        alloc,
-        mode,
-        from,
-        &graph_file,
-        &script_file,
-        &report_file,
-        out,
-    )
+    check_of_subject(alloc, &loaded, &report_file, out)
 }

@@ -11,7 +11,7 @@ pub returns-in_err-put_counting-clause-ends : goal.returns-in_err-put_counting-c
 returns-in_err-put_counting-clause-ends g c =
     let over = c.in_ok-inputs.inputs in
     command_stopped _ (report (before_session c.args.mode (graph_of_inputs over) (script_of_inputs over)))
-    (graph_of_inputs over, script_of_inputs over, c.in_ok-inputs.ensures.graph, c.in_ok-inputs.ensures.script, refl)
+    (_, (graph_of_inputs over, script_of_inputs over, c.in_ok-inputs.ensures.graph, c.in_ok-inputs.ensures.script, refl), refl)
     c.in_ok-inputs.ensures.faultless _ Done _ _
     c.in_err-put_counting.ensures.puts c.from_residual-in_err-put_counting.ensures.1
 
@@ -19,6 +19,6 @@ pub returns-clause-ends : goal.returns-clause-ends
 returns-clause-ends g c =
     let over = c.in_ok-inputs.inputs in
     command_done _ (report (before_session c.args.mode (graph_of_inputs over) (script_of_inputs over)))
-    (graph_of_inputs over, script_of_inputs over, c.in_ok-inputs.ensures.graph, c.in_ok-inputs.ensures.script, refl)
+    (_, (graph_of_inputs over, script_of_inputs over, c.in_ok-inputs.ensures.graph, c.in_ok-inputs.ensures.script, refl), refl)
     c.in_ok-inputs.ensures.faultless _ Done
     c.in_ok-put_counting.ensures.puts

@@ -6,4 +6,4 @@ use Rattle.md_top.proofs.EndsLemmas.{ends_of_command}
 use Rattle.md_top.proofs.top.end_big.Goals as goal
 
 pub returns-clause-ends : goal.returns-clause-ends
-returns-clause-ends g c = ends_of_command (Big c.args.size) [] (Big c.args.size) refl _ _ (no_loads _ _ _ _ _) _ c.big.ensures.ends
+returns-clause-ends g c = ends_of_command (Big c.args.size) [] (Big c.args.size) refl _ _ (no_loads g.F.Files _) _ c.big.ensures.ends
