@@ -1,5 +1,6 @@
 pub mod ArcLine
 pub mod ArcFile
 pub mod FirstDigraph
+pub mod DigraphRooms
 pub mod ArcFilled
 pub mod Laws

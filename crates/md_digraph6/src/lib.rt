@@ -10,9 +10,11 @@ mod file;
 pub mod laws;
 mod line;
 mod reader;
+mod room;
 
 pub use file::scan_directed;
 pub use reader::DirectedLines;
+pub use room::{DigraphBySize, DirectedRoom};
 
 #[cfg(test)]
 mod tests;

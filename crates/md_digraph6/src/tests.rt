@@ -2,9 +2,11 @@
 ghost use Rattle.std.specs.Prelude.{◌≡◌};
 ghost use Rattle.md_digraph.specs.PlainDigraph.{empty_digraph};
 
-use crate::{DirectedLines, scan_directed};
+use crate::{DigraphBySize, DirectedLines, DirectedRoom, scan_directed};
 use md_digraph::{Digraph, DigraphOf};
+use md_graph::Memory;
 use md_graph6::{G6Fault, G6Kind};
+use std::alloc::Global;
 use std::process::Abort;
 use std::test::Fail;
 
@@ -95,6 +97,50 @@ fn files_spell(rt: HostRuntime) -> Result<(), Fail> {
             (2, &[(0, 1), (1, 0)]),
         ],
     );
+    Ok(())
+}
+
+// The number of vertices of the directed graph in a room, and of words in its rows.
+fn measures(room: &DirectedRoom) -> (u32, u32) {
+    match room.digraph() {
+        DigraphBySize::Small(graph) => (graph.count(), 1),
+        DigraphBySize::Medium(graph) => (graph.count(), 16),
+        DigraphBySize::Large(graph) => (graph.count(), 64),
+    }
+}
+
+// The next directed graph comes into the room, with these measures, and goes again.
+fn is_taken(
+    alloc: Global,
+    room: &mut DirectedRoom,
+    lines: &mut DirectedLines,
+    wanted: (u32, u32),
+) -> Result<bool, Memory>
+    requires { room.old ≡ empty_digraph }
+    ensures { room.new ≡ empty_digraph }
+{
+    let found = room.fill(alloc, lines)?;
+    let same = measures(room) == wanted;
+    room.clear();
+    Ok(found && same)
+}
+
+#[test]
+fn rooms_of_all_widths(rt: HostRuntime) -> Result<(), Fail> {
+    let mut file = Vec::new(rt.alloc());
+    file.extend_from_slice(b"&@?\n&~?@@")?;
+    file.resize(714, b'?')?;
+    file.extend_from_slice(b"\n&~?O@")?;
+    file.resize(175_825, b'?')?;
+    let Ok(_) = scan_directed(&file) else {
+        panic!(&rt; "a fault");
+    };
+    let mut lines = DirectedLines::new(&file);
+    let mut room = DirectedRoom::new(rt.alloc())?;
+    assert!(&rt; is_taken(rt.alloc(), &mut room, &mut lines, (1, 1))?);
+    assert!(&rt; is_taken(rt.alloc(), &mut room, &mut lines, (65, 16))?);
+    assert!(&rt; is_taken(rt.alloc(), &mut room, &mut lines, (1_025, 64))?);
+    assert!(&rt; !room.fill(rt.alloc(), &mut lines)?);
     Ok(())
 }
 
