@@ -5,9 +5,8 @@ mod InStep
 mod Heads
 mod Listed
 mod FitsTree
-mod OneAnswer
+pub mod OneAnswer
 mod Judged
-mod LineFeeds
 pub mod Spelled
 mod Judging
 mod Coming

@@ -14,6 +14,7 @@ ghost use Rattle.md_checker.specs.Checkers.{report_place};
 ghost use Rattle.md_checker.specs.Standing.{Takes};
 
 use crate::graph_checker::GraphChecker;
+use crate::line_judge::LineJudge;
 use crate::session_checker::SessionChecker;
 use md_graph::{Memory, WORDS};
 use md_input::{Format, Graphs, InputStop, SessionInputs, session_inputs};
@@ -135,24 +136,8 @@ impl<'a> Checker<'a> {
         self.inner.takes_text(alloc, text)
     }
 
-    // Whether a line with this text may come: it is then taken, and else nothing changes. Errors:
-    // want of memory; nothing changes then.
-    pub(crate) fn feed_text(&mut self, alloc: Global, text: &[u8]) -> Result<bool, Memory>
-        ensures may { IfOk result (λ taken. IsTrue taken
-            ↔ ((line : PlainLine) × MayCome self.old line × (text.now ≡ line_text line))) }
-        ensures next { IfOk result (λ taken. IsTrue taken
-            → (line : PlainLine) × MayCome self.old line × (text.now ≡ line_text line)
-            × (self.new ≡ next_place self.old line)) }
-        ensures refused { IfOk result (λ taken. ¬ IsTrue taken → self.new ≡ self.old) }
-        ensures stays { IsErr result → self.new ≡ self.old }
-    {
-        if self.takes_text(alloc, text)? {
-            return Ok(true);
-        }
-        self.feed_read(alloc, text)
-    }
-
-    // The same for a text that is read whole.
+    // Whether a line with this text may come, where the text is read whole: it is then taken, and
+    // else nothing changes. Errors: want of memory; nothing changes then.
     fn feed_read(&mut self, alloc: Global, text: &[u8]) -> Result<bool, Memory>
         ensures may { IfOk result (λ taken. IsTrue taken
             ↔ ((line : PlainLine) × MayCome self.old line × (text.now ≡ line_text line))) }
@@ -168,6 +153,42 @@ impl<'a> Checker<'a> {
             Err(LineFault::Syntax) => Ok(false),
             Err(LineFault::Memory) => Err(Memory),
         }
+    }
+}
+
+impl<'a> LineJudge for Checker<'a> {
+    ghost use Rattle.md_report.specs.Lines.{PlainLine, line_text};
+    ghost use Rattle.md_report.specs.Places.{Place, after_end, MayCome, next_place};
+
+    ghost Place = { Place };
+
+    ghost Line = { PlainLine };
+
+    ghost may_come = { MayCome };
+
+    ghost next = { next_place };
+
+    ghost last = { after_end };
+
+    ghost line_text = { line_text };
+
+    ghost place = { λ checker. checker };
+
+    ghost use Rattle.md_report.proofs.LineFeeds.{line_spelling};
+
+    ghost ends = { λ line may. may };
+
+    ghost spells = { line_spelling };
+
+    fn feed_text(&mut self, alloc: Global, text: &[u8]) -> Result<bool, Memory> {
+        if self.takes_text(alloc, text)? {
+            return Ok(true);
+        }
+        self.feed_read(alloc, text)
+    }
+
+    fn complete(&self) -> bool {
+        Checker::complete(self)
     }
 }
 

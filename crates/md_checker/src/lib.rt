@@ -14,6 +14,7 @@ mod head_pairs;
 mod item_answers;
 mod judgements;
 pub mod laws;
+mod line_judge;
 mod piece_compare;
 mod session_checker;
 mod text_fit;
@@ -23,6 +24,7 @@ pub use answer::CheckAnswer;
 pub use certificates::{is_forcing_chain, is_least_edge_orientation, realise};
 pub use check::{check_graphs, check_session};
 pub use checker::Checker;
+pub use line_judge::{LineJudge, judge};
 pub use tree_fit::fits;
 
 #[cfg(test)]

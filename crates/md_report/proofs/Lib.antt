@@ -1,3 +1,4 @@
+pub mod Protocols
 pub mod ItemLines
 pub mod Places
 pub mod Cutting
@@ -5,6 +6,8 @@ pub mod Named
 pub mod Behind
 pub mod Fronts
 pub mod OneLine
+pub mod LineFeeds
+pub mod FirstLines
 pub mod ByTrees
 pub mod MadePaths
 pub mod Alike

@@ -27,17 +27,9 @@ use Rattle.md_report.specs.Cographs.{IsCograph, HasP4Line, IsOpeningLine}
 use Rattle.md_report.specs.ItemLines.{AnswersItem, Run}
 use Rattle.md_report.specs.Places.{Place, before_head, at_graphs, before_session, at_state, at_items, at_end, after_end, Reports, ReportsState, ComesAtItems, place_behind, tells_path, items_behind, quiet_place, MayCome, next_place, Lead}
 use Rattle.md_report.specs.Laws.{AreGraphs, IsSound, LinesLeadIfFirst, ReportEach, IsGraphReport, GraphReportsHaveLines, ShortestReportsCompare, IsSessionReport, IsWholeSession, SessionReportsAreRuns}
+use Rattle.md_report.specs.Protocols.{CanEnd}
+use Rattle.md_report.proofs.Protocols.{lines_lead_by}
 use Rattle.md_report.proofs.ItemLines.{HasGraphs, item_tells, state_graphs, tree_line, some_p4, item_line}
-
-pub lead_append : (p q r : Place) (lines more : List PlainLine) → Lead p lines q → Lead q more r → Lead p (lines ++ more) r
-lead_append p q r [] more leads on = subst (λ z. Lead z more r) (sym leads) on
-lead_append p q r (line ∷ lines) more leads on = (leads.0, lead_append (next_place p line) q r lines more leads.1 on)
-
-pub lead_split : (p r : Place) (lines more : List PlainLine) → Lead p (lines ++ more) r → (q : Place) × Lead p lines q × Lead q more r
-lead_split p r [] more leads = (p, refl, leads)
-lead_split p r (line ∷ lines) more leads =
-    let s : (q : Place) × Lead (next_place p line) lines q × Lead q more r = lead_split (next_place p line) r lines more leads.1 in
-    (s.0, (leads.0, s.1), s.2)
 
 -- the place behind the first line in mode quiet, by that line
 pub stopped_place : (g : PlainGraph) (items : List Item) (line : PlainLine) → HasP4Line not_cograph g line → quiet_place g items line ≡ at_end
@@ -201,13 +193,12 @@ completion (at_items mode s items) sound = answered mode items s sound.0 sound.1
 completion at_end sound = (end ∷ [], (refl, refl))
 completion after_end sound = ([], refl)
 
+-- and so wherever lines lead from one
+pub can_end : (p : Place) → IsSound p → CanEnd MayCome next_place after_end p
+can_end p sound lines q leads = completion q (lead_sound p q lines sound leads)
+
 pub lines_lead_proof : LinesLeadIfFirst
-lines_lead_proof p sound lines = (
-  (λ leads.
-      let rest : (more : List PlainLine) × Lead leads.0 more after_end = completion leads.0 (lead_sound p leads.0 lines sound leads.1) in
-      (rest.0, lead_append p leads.0 after_end lines rest.0 leads.1 rest.1)),
-  λ whole. let s : (q : Place) × Lead p lines q × Lead q whole.0 after_end = lead_split p after_end lines whole.0 whole.1 in (s.0, s.1),
-)
+lines_lead_proof p sound lines = lines_lead_by MayCome next_place after_end p (can_end p sound) lines
 
 -- the lines of graphs are one for each, and the end
 graphs_each : (mode : GraphMode) (graphs : List PlainGraph) (lines : List PlainLine) → Lead (at_graphs mode graphs) lines after_end →

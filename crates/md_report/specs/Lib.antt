@@ -6,6 +6,7 @@ pub mod Orientations
 pub mod Models
 pub mod Places
 pub mod Steps
+pub mod Protocols
 pub mod Reports
 pub mod WellFormedLines
 pub mod Cuts

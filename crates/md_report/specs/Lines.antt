@@ -21,6 +21,7 @@ use Rattle.md_report.specs.declared.line.Mode.{Mode}
 use Rattle.md_report.specs.declared.line.Mode.TheVariants as modes
 use Rattle.md_report.specs.declared.line.Line.{Line}
 use Rattle.md_report.specs.declared.line.Line.TheVariants as lines
+use Rattle.md_report.specs.Protocols.{fed_by}
 
 -- a line, with plain trees
 pub data PlainLine : Type 0 where
@@ -156,7 +157,7 @@ line_text end = codes "end"
 
 -- a line with its line feed
 abbrev pub fed_line : PlainLine → List ℕ
-fed_line line = line_text line ++ 10 ∷ []
+fed_line line = fed_by line_text line
 
 -- the text of lines, each with its line feed
 abbrev pub lines_text : List PlainLine → List ℕ

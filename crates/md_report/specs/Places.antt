@@ -13,6 +13,7 @@ use Rattle.md_report.specs.Models.{IsModelLine}
 use Rattle.md_report.specs.Sessions.{State, first_state, HasTreeLine, state_behind}
 use Rattle.md_report.specs.Cographs.{IsCograph, HasP4Line, IsOpeningLine}
 use Rattle.md_report.specs.ItemLines.{AnswersItem}
+use Rattle.md_report.specs.Protocols.{LeadBy}
 
 -- Before the head of a report over graphs, and at the graphs that are still to be reported, one line each; before the head
 -- of a session, at its first state, and at a state with the items that are still to be answered, one line each; and before and after
@@ -114,5 +115,4 @@ next_place after_end line = after_end
 
 -- the lines lead from one place to another: each may come where those before it lead
 abbrev pub Lead : Place → List PlainLine → Place → Type 0
-Lead p [] q = p ≡ q
-Lead p (line ∷ lines) q = MayCome p line × Lead (next_place p line) lines q
+Lead p lines q = LeadBy MayCome next_place p lines q

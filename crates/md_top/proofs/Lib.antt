@@ -1,5 +1,6 @@
 pub mod Pieces
-pub mod Lines
+mod LinesBy
+mod Lines
 mod Keeping
 pub mod ItemLoops
 mod ToldLines

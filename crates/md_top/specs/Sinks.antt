@@ -1,12 +1,13 @@
 -- What a sink takes of a line, a piece or a report, by how the call ends.
 use Rattle.std.specs.Prelude.{◌⊎◌, ℕ, List, Option, Result, Ok, Err}
 use Rattle.std.specs.Io.KnownBytes.{Appends}
+use Rattle.std.specs.List.{flat_map}
 use Rattle.md_io.specs.declared.Sink as sinks
 use Rattle.md_io.specs.Front.{AppendsFront}
 use Rattle.md_io.specs.Count.{Rose}
-use Rattle.md_report.specs.Lines.{PlainLine, lines_text}
-use Rattle.md_report.specs.Places.{Place, Lead}
-use Rattle.md_report.specs.Reports.{IsFront}
+use Rattle.md_report.specs.Lines.{fed_line}
+use Rattle.md_report.specs.Places.{Place, MayCome, next_place}
+use Rattle.md_report.specs.Protocols.{LeadBy, IsFrontBy}
 use Rattle.md_top.specs.declared.stop.PutStop.{PutStop}
 use Rattle.md_top.specs.declared.stop.PutStop.TheVariants.{WriteFault, Memory}
 
@@ -41,19 +42,29 @@ abbrev pub PutsWhole : List ℕ → Result (Unit {0}) PutStop → SinkRun → Ty
 PutsWhole whole (Ok done) o = Appends o.old o.new whole
 PutsWhole whole (Err stop) o = Stops (AppendsFront o.old o.new whole) stop o.faults_old o.faults_new
 
--- A sink grew by lines that lead from p to q.
-pub record AppendsLines (p q : Place) (old new : Option (List ℕ)) : Type 0 where
-  pub lines : List PlainLine
-  pub leads : Lead p lines q
-  pub put : Appends old new (lines_text lines)
+-- A sink grew by lines that lead from p to q, whatever the places and the lines are.
+pub record AppendsLinesBy {P L : Type 0} (MayCome : P → L → Type 0) (next : P → L → P) (fed : L → List ℕ) (p q : P) (old new : Option (List ℕ)) : Type 0 where
+  pub lines : List L
+  pub leads : LeadBy MayCome next p lines q
+  pub put : Appends old new (flat_map fed lines)
 
 -- A sink grew by the front of a report from p on.
-pub record AppendsFrontFrom (p : Place) (old new : Option (List ℕ)) : Type 0 where
+pub record AppendsFrontFromBy {P L : Type 0} (MayCome : P → L → Type 0) (next : P → L → P) (fed : L → List ℕ) (p : P) (old new : Option (List ℕ)) : Type 0 where
   pub bytes : List ℕ
-  pub front : IsFront p bytes
+  pub front : IsFrontBy MayCome next fed p bytes
   pub put : Appends old new bytes
 
 -- A sink grew by lines that lead from p to q, or by the front of such a report where the call stopped.
+abbrev pub PutsLinesBy : {P L : Type 0} → (P → L → Type 0) → (P → L → P) → (L → List ℕ) → P → P → Result (Unit {0}) PutStop → SinkRun → Type 0
+PutsLinesBy MayCome next fed p q (Ok done) o = AppendsLinesBy MayCome next fed p q o.old o.new
+PutsLinesBy MayCome next fed p q (Err stop) o = Stops (AppendsFrontFromBy MayCome next fed p o.old o.new) stop o.faults_old o.faults_new
+
+-- The same of the reports over graphs and of sessions.
+abbrev pub AppendsLines : Place → Place → Option (List ℕ) → Option (List ℕ) → Type 0
+AppendsLines p q old new = AppendsLinesBy MayCome next_place fed_line p q old new
+
+abbrev pub AppendsFrontFrom : Place → Option (List ℕ) → Option (List ℕ) → Type 0
+AppendsFrontFrom p old new = AppendsFrontFromBy MayCome next_place fed_line p old new
+
 abbrev pub PutsLines : Place → Place → Result (Unit {0}) PutStop → SinkRun → Type 0
-PutsLines p q (Ok done) o = AppendsLines p q o.old o.new
-PutsLines p q (Err stop) o = Stops (AppendsFrontFrom p o.old o.new) stop o.faults_old o.faults_new
+PutsLines p q result o = PutsLinesBy MayCome next_place fed_line p q result o

@@ -1,56 +1,61 @@
--- No line's text has a line feed, so that lines are cut out of a text in one way.
-use Rattle.std.proofs.Common.{◌≡◌, ◌≢◌, ℕ, List, [], ◌∷◌, ◌++◌, Option, None, Some, codes, inl, sym, ◌∙◌, refl, arith, append_assoc}
+-- No line's text has a line feed.
+use Rattle.std.proofs.Common.{◌≡◌, ◌≢◌, ℕ, List, [], ◌∷◌, ◌++◌, Option, None, Some, codes, inl, refl, arith}
 use Rattle.md_text.specs.Numbers.{decimal}
 use Rattle.md_forcing.specs.declared.arc.Arc.{Arc}
 use Rattle.md_tree.specs.declared.Kind.{Kind}
 use Rattle.md_tree.specs.declared.Kind.TheVariants.{Parallel, Series, Prime}
-use Rattle.md_tree.specs.declared.Pair.{Pair}
-use Rattle.md_tree.specs.Trees.{PlainTree, leaf, node, PlainTrees, no_tree, one_more}
-use Rattle.md_tree.specs.Spellings.{letter}
-use Rattle.md_tree.specs.TreeTexts.{pairs_text, tree_text, row_text, text_of}
+use Rattle.md_tree.specs.Trees.{PlainTreeOf, PlainTreesOf, PlainTree, leaf, node, no_tree, one_more}
+use Rattle.md_tree.specs.Spellings.{Spelling, letter, graph_spelling}
+use Rattle.md_tree.specs.TreeTexts.{pairs_text_by, tree_text_by, row_text_by, text_of_by, text_of}
 use Rattle.md_script.specs.declared.edit.EditReason.{EditReason}
 use Rattle.md_script.specs.declared.edit.EditReason.TheVariants.{Same, NoVertex, NameTaken, EdgeThere, EdgeAbsent}
 use Rattle.md_report.specs.declared.line.Mode.{Mode}
 use Rattle.md_report.specs.declared.line.Mode.TheVariants as modes
 use Rattle.md_report.specs.Cuts.{LacksByte}
-use Rattle.md_report.specs.Lines.{PlainLine, mode_word, reason_words, names_text, arc_text, arcs_text, line_text, fed_line, head, tree, applied, applied_quiet, refused, refused_p4, group_refused, group_refused_p4, nothing_to_undo, not_cograph, oriented, forced, orders, forced_in, forced_in_complement, end}
-use Rattle.md_report.proofs.Cutting.{one_cut, lacks_when, lacks_append}
+use Rattle.md_report.specs.Lines.{PlainLine, mode_word, reason_words, names_text, arc_text, arcs_text, line_text, head, tree, applied, applied_quiet, refused, refused_p4, group_refused, group_refused_p4, nothing_to_undo, not_cograph, oriented, forced, orders, forced_in, forced_in_complement, end}
+use Rattle.md_report.specs.Protocols.{IsLineSpelling}
+use Rattle.md_report.proofs.Cutting.{lacks_when, lacks_append}
 use Rattle.md_report.proofs.Named.{lacks_number, lacks_arc}
 use Rattle.md_report.proofs.OneLine.{one_line_proof}
 
 no_feed : (v : ℕ) → LacksByte 10 (decimal v)
 no_feed v = lacks_number 10 v (inl (omega arith))
 
-lacks_pairs : (mark : ℕ) (ps : List Pair) → mark ≢ 10 → LacksByte 10 (pairs_text mark ps)
-lacks_pairs mark [] other = tt
-lacks_pairs mark (p ∷ ps) other =
-    let rest : LacksByte 10 (pairs_text 44 ps) = lacks_pairs 44 ps (λ e. omega arith) in (
-      other,
-      lacks_append 10 (decimal p.low) (45 ∷ (decimal p.high ++ pairs_text 44 ps)) (no_feed p.low)
-          ((λ e. omega arith), lacks_append 10 (decimal p.high) (pairs_text 44 ps) (no_feed p.high) rest),
+module _ {K P : Type 0} (sp : Spelling K P) (other_letter : (k : K) → sp.kinds.letter k ≢ 10) (other_mark : sp.pairs.between ≢ 10) where
+  lacks_pairs : (mark : ℕ) (ps : List P) → mark ≢ 10 → LacksByte 10 (pairs_text_by sp.pairs mark ps)
+  lacks_pairs mark [] other = tt
+  lacks_pairs mark (p ∷ ps) other =
+      let rest : LacksByte 10 (pairs_text_by sp.pairs 44 ps) = lacks_pairs 44 ps (λ e. omega arith) in (
+        other,
+        lacks_append 10 (decimal (sp.pairs.first p)) (sp.pairs.between ∷ (decimal (sp.pairs.second p) ++ pairs_text_by sp.pairs 44 ps)) (no_feed (sp.pairs.first p))
+            (other_mark, lacks_append 10 (decimal (sp.pairs.second p)) (pairs_text_by sp.pairs 44 ps) (no_feed (sp.pairs.second p)) rest),
+      )
+
+  mutual
+    lacks_tree : (t : PlainTreeOf K P) → LacksByte 10 (tree_text_by sp t)
+    lacks_tree (leaf v) = no_feed v
+    lacks_tree (node k cs ps) = (
+      other_letter k,
+      lacks_append 10 (row_text_by sp 40 cs) (pairs_text_by sp.pairs 59 ps ++ 41 ∷ []) (lacks_row 40 cs (λ e. omega arith))
+          (lacks_append 10 (pairs_text_by sp.pairs 59 ps) (41 ∷ []) (lacks_pairs 59 ps (λ e. omega arith)) ((λ e. omega arith), tt)),
     )
+
+    lacks_row : (mark : ℕ) (ts : PlainTreesOf K P) → mark ≢ 10 → LacksByte 10 (row_text_by sp mark ts)
+    lacks_row mark no_tree other = tt
+    lacks_row mark (one_more t ts) other = (other, lacks_append 10 (tree_text_by sp t) (row_text_by sp 44 ts) (lacks_tree t) (lacks_row 44 ts (λ e. omega arith)))
+
+  -- no text of a tree has a line feed, where no letter and no mark is one
+  pub lacks_option_by : (o : Option (PlainTreeOf K P)) → LacksByte 10 (text_of_by sp o)
+  lacks_option_by None = lacks_when 10 (codes "empty") refl
+  lacks_option_by (Some t) = lacks_tree t
 
 other_letter : (k : Kind) → letter k ≢ 10
 other_letter Parallel e = omega arith
 other_letter Series e = omega arith
 other_letter Prime e = omega arith
 
-mutual
-  lacks_tree : (t : PlainTree) → LacksByte 10 (tree_text t)
-  lacks_tree (leaf v) = no_feed v
-  lacks_tree (node k cs ps) = (
-    other_letter k,
-    lacks_append 10 (row_text 40 cs) (pairs_text 59 ps ++ 41 ∷ []) (lacks_row 40 cs (λ e. omega arith))
-        (lacks_append 10 (pairs_text 59 ps) (41 ∷ []) (lacks_pairs 59 ps (λ e. omega arith)) ((λ e. omega arith), tt)),
-  )
-
-  lacks_row : (mark : ℕ) (ts : PlainTrees) → mark ≢ 10 → LacksByte 10 (row_text mark ts)
-  lacks_row mark no_tree other = tt
-  lacks_row mark (one_more t ts) other = (other, lacks_append 10 (tree_text t) (row_text 44 ts) (lacks_tree t) (lacks_row 44 ts (λ e. omega arith)))
-
 lacks_option : (o : Option PlainTree) → LacksByte 10 (text_of o)
-lacks_option None = lacks_when 10 (codes "empty") refl
-lacks_option (Some t) = lacks_tree t
+lacks_option = lacks_option_by graph_spelling other_letter (λ e. omega arith)
 
 lacks_mode : (m : Mode) → LacksByte 10 (mode_word m)
 lacks_mode modes.Tree = lacks_when 10 (codes "tree") refl
@@ -103,28 +108,6 @@ lacks_line (forced_in chain) = lacks_append 10 (codes "no g") (arcs_text chain) 
 lacks_line (forced_in_complement chain) = lacks_append 10 (codes "no c") (arcs_text chain) (lacks_when 10 (codes "no c") refl) (lacks_arcs chain)
 lacks_line end = lacks_when 10 (codes "end") refl
 
-fed_front : (line : PlainLine) (r : List ℕ) → fed_line line ++ r ≡ line_text line ++ 10 ∷ r
-fed_front line r = append_assoc (line_text line) (10 ∷ []) r
-
--- of two texts that begin with a line and its line feed, the lines and what stands behind them are the same where the
--- texts are
-pub first_line : (k l : PlainLine) (r s : List ℕ) → fed_line k ++ r ≡ fed_line l ++ s → (k ≡ l) × (r ≡ s)
-first_line k l r s e =
-    let i : (line_text k ≡ line_text l) × (10 ∷ r ≡ 10 ∷ s) =
-    one_cut 10 (line_text k) (line_text l) (10 ∷ r) (10 ∷ s) (lacks_line k) (lacks_line l) refl refl (sym (fed_front k r) ∙ e ∙ fed_front l s) in
-    let f : 10 ∷ r ≡ 10 ∷ s = i.1 in
-    (one_line_proof k l i.0, cc)
-
--- what stands before the first line feed of a text that begins with a line is that line's text
-pub line_before : (line : PlainLine) (r text behind : List ℕ) → LacksByte 10 text → text ++ 10 ∷ behind ≡ fed_line line ++ r → text ≡ line_text line
-line_before line r text behind lacks e =
-    (one_cut 10 text (line_text line) (10 ∷ behind) (10 ∷ r) lacks (lacks_line line) refl refl (e ∙ fed_front line r)).0
-
--- a text without line feed begins with no line
-pub no_line : (line : PlainLine) (r text : List ℕ) → LacksByte 10 text → text ≢ fed_line line ++ r
-no_line line r text lacks e = has (line_text line) text lacks (e ∙ fed_front line r) where
-  has : (xs text : List ℕ) → LacksByte 10 text → text ≡ xs ++ 10 ∷ r → ⊥
-  has [] [] lacks e = let f : [] ≡ 10 ∷ r = e in cc
-  has [] (y ∷ text) lacks e = let f : y ∷ text ≡ 10 ∷ r = e in lacks.0 (cc)
-  has (x ∷ xs) [] lacks e = let f : [] ≡ x ∷ (xs ++ 10 ∷ r) = e in cc
-  has (x ∷ xs) (y ∷ text) lacks e = let f : y ∷ text ≡ x ∷ (xs ++ 10 ∷ r) = e in has xs text lacks.1 (cc)
+-- the texts of lines spell them
+pub line_spelling : IsLineSpelling line_text
+line_spelling = record { lacks = lacks_line; one = one_line_proof }

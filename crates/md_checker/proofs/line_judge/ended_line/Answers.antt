@@ -1,5 +1,5 @@
 use Rattle.md_checker.proofs.Cutting.{no_feed_in, whole_line, fed_line_first}
-use Rattle.md_checker.proofs.check.ended_line.Goals as goal
+use Rattle.md_checker.proofs.line_judge.ended_line.Goals as goal
 
 pub returns-then-line-text-clause-none : goal.returns-then-line-text-clause-none
 returns-then-line-text-clause-none c = whole_line _ _ c.split_line.ensures.before c.if-line-text.true c.split_line.ensures.no_feed
