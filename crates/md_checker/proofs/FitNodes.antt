@@ -5,35 +5,37 @@ use Rattle.std.proofs.lemmas.List.{length-map}
 use Rattle.std.proofs.lemmas.List.Elements.{Contains-get_or}
 use Rattle.std.specs.FinSet.{insert, union}
 use Rattle.md_graph.specs.Sets.{NameSet, Has, Lacks, Within}
-use Rattle.md_graph.proofs.SetLemmas.{clash, of_minus, minus_has}
+use Rattle.md_graph.proofs.SetLemmas.{clash, of_minus, minus_has, Has-along}
 use Rattle.md_graph.specs.Adjacency.{IsAdjacency}
+use Rattle.md_modules.specs.Colours.{IsColouring}
+use Rattle.md_modules.proofs.Modules.{undirected, other_way}
 use Rattle.md_modules.specs.Modules.{IsModule, HasTrivialModulesAlone}
 use Rattle.md_tree.specs.declared.Kind.{Kind}
 use Rattle.md_tree.specs.declared.Kind.TheVariants.{Parallel, Series, Prime}
 use Rattle.md_tree.specs.declared.Pair.{Pair}
-use Rattle.md_tree.specs.Trees.{PlainTree, PlainTrees, no_tree, one_more, names, names_below, names_at, count, row, EachNodeBelow}
+use Rattle.md_tree.specs.Trees.{PlainTreeOf, PlainTreesOf, PlainTree, PlainTrees, no_tree, one_more, names, names_below, names_at, count, row, EachNodeBelow}
 use Rattle.md_tree.specs.StrongTrees.{IsInOrder}
 use Rattle.md_tree.specs.WellFormed.{HasShape, IsCanonicalNode}
 use Rattle.md_tree.proofs.Folding.{count_row}
 use Rattle.md_tree.proofs.Nodes.{IsChild, child_inside, child_of_name}
-use Rattle.md_tree.specs.Heads.{head, head_at, heads}
-use Rattle.md_checker.specs.Fits.{IsFitNode}
-use Rattle.md_checker.specs.FitTests.{name_set, union_all, AreHeads, IsFit}
-use Rattle.md_tree.proofs.Heads.{child_here, place_of_child}
-use Rattle.md_checker.proofs.Heads.{two_of_shape, HaveHeads, have_heads, least_proof}
+use Rattle.md_tree.specs.Heads.{head, head_at, heads, IsFitNodeBy}
+use Rattle.md_tree.specs.TreeGraph.{joins}
+use Rattle.md_checker.specs.FitTests.{name_set, union_all, AreHeads, IsFitBy}
+use Rattle.md_tree.proofs.Heads.{child_here, place_of_child, heads_in}
+use Rattle.md_checker.proofs.Heads.{two_of_shape, some_child, have_heads, least_proof}
 
 -- ---- lists of heads and sets
 
-pub head_item : (ts : List PlainTree) (i : ℕ) → get_or (map head ts) i 0 ≡ head_at (row ts) i
+pub head_item : {K P : Type 0} (ts : List (PlainTreeOf K P)) (i : ℕ) → get_or (map head ts) i 0 ≡ head_at (row ts) i
 head_item [] i = refl
 head_item (t ∷ ts) zero = refl
 head_item (t ∷ ts) (suc i) = head_item ts i
 
-heads_set : (ts : List PlainTree) → heads (row ts) ≡ name_set (map head ts)
+heads_set : {K P : Type 0} (ts : List (PlainTreeOf K P)) → heads (row ts) ≡ name_set (map head ts)
 heads_set [] = refl
 heads_set (t ∷ ts) = ap (λ s. insert s (head t)) (heads_set ts)
 
-pub names_union : (ts : List PlainTree) → names_below (row ts) ≡ union_all (map names ts)
+pub names_union : {K P : Type 0} (ts : List (PlainTreeOf K P)) → names_below (row ts) ≡ union_all (map names ts)
 names_union [] = refl
 names_union (t ∷ ts) = ap (union (names t)) (names_union ts)
 
@@ -65,49 +67,38 @@ positions_of Prime cs ps shape i d below =
 
 -- ---- a node of modules
 
-module _ {e : ℕ → ℕ → Bool} (adj : IsAdjacency e) (s : NameSet) (k : Kind) (ts : List PlainTree) (ps : List Pair) (canon : IsCanonicalNode k (row ts) ps) (each : EachNodeBelow IsCanonicalNode (row ts))
-    (mods : (c : PlainTree) → IsChild (row ts) c → IsModule e s (names c)) where
-  abbrev cs : PlainTrees
+module _ {K P C : Type 0} {reverse : C → C} {e : ℕ → ℕ → C} (col : IsColouring reverse e) (puts : K → List P → ℕ → ℕ → C) (IsPrimeKind : K → Type 0) (s : NameSet) (k : K) (ts : List (PlainTreeOf K P)) (ps : List P)
+    (some : 1 ≤ count (row ts)) (own : (i : ℕ) → i < count (row ts) → Has (names_at (row ts) i) (head_at (row ts) i)) (mods : (c : PlainTreeOf K P) → IsChild (row ts) c → IsModule e s (names c)) where
+  abbrev cs : PlainTreesOf K P
   cs = row ts
 
   abbrev list : List ℕ
   list = map head ts
 
-  own : HaveHeads cs
-  own = have_heads cs each
-
-  size : length list ≡ count cs
+  pub size : length list ≡ count cs
   size = length-map ts head ∙ sym (count_row ts)
 
-  some : 0 < length list
-  some = let two = two_of_shape k cs ps canon.shape in let e = size in omega arith
-
-  child_at : (i : ℕ) → i < length list → (c : PlainTree) × IsChild cs c × (get_or list i 0 ≡ head c)
+  -- the child at a position, and its head
+  child_at : (i : ℕ) → i < length list → (c : PlainTreeOf K P) × IsChild cs c × (get_or list i 0 ≡ head c) × Has (names c) (head c)
   child_at i below =
       let e = size in
-      let c : (c : PlainTree) × IsChild cs c × (names_at cs i ≡ names c) × (head_at cs i ≡ head c) = child_here cs i (omega arith) in
-      (c.0, c.1, head_item ts i ∙ c.3)
+      let b : i < count cs = omega arith in
+      let c : (c : PlainTreeOf K P) × IsChild cs c × (names_at cs i ≡ names c) × (head_at cs i ≡ head c) = child_here cs i b in
+      (c.0, c.1, head_item ts i ∙ c.3, Has-along (names_at cs i) (names c.0) c.2 (head c.0) (subst (Has (names_at cs i)) c.3 (own i b)))
 
-  pub node_heads : AreHeads s ps list
-  node_heads = record {
-    some = some;
-    vertices = λ i below. let c = child_at i below in subst (Has s) (sym c.2) ((mods c.0 c.1).inside (head c.0) (own c.0 c.1));
-    ascending = λ i j less below.
-        let e = size in
-        let l = ascend cs canon.order each i j less (omega arith) in
-        let a = head_item ts i in
-        let b = head_item ts j in
-        omega arith;
-    positions = λ i d below. subst (λ n. ((get_or ps i d).low < n) × ((get_or ps i d).high < n)) (sym size) (positions_of k cs ps canon.shape i d below);
-  }
+  pub head_vertices : (i : ℕ) → i < length list → Has s (get_or list i 0)
+  head_vertices i below = let c = child_at i below in subst (Has s) (sym c.2) ((mods c.0 c.1).inside (head c.0) c.3)
 
   inside : Within (names_below cs) s
   inside x h = let c = child_of_name cs x h in (mods c.0 c.1).inside x c.2
 
-  pub fit_node : IsFit e s (names_below cs) k ps list → IsFitNode e s k cs ps
+  list_some : 0 < length list
+  list_some = let a = size in let b : 1 ≤ count cs = some in omega arith
+
+  pub fit_node : IsFitBy puts IsPrimeKind e s (names_below cs) k ps list → IsFitNodeBy puts IsPrimeKind e s k cs ps
   fit_node fit = record {
     is_module = record {
-      some = (let c = child_at 0 some in (head c.0, child_inside cs c.0 c.1 (head c.0) (own c.0 c.1)));
+      some = (let c = child_at 0 list_some in (head c.0, child_inside cs c.0 c.1 (head c.0) c.3));
       inside = inside;
       alike = λ a b x ha hb hx l. first_like a x ha hx l ∙ sym (first_like b x hb hx l);
     };
@@ -116,27 +107,50 @@ module _ {e : ℕ → ℕ → Bool} (adj : IsAdjacency e) (s : NameSet) (k : Kin
         sym (λ w. e (head_item ts i w) (head_item ts j w)) ∙ fit.joined i j less (omega arith);
     trivial = λ prime. subst (HasTrivialModulesAlone e) (sym (heads_set ts)) (fit.trivial prime);
   } where
-    first_like : (a x : ℕ) → Has (names_below cs) a → Has s x → Lacks (names_below cs) x → e x a ≡ e (get_or list 0 0) x
+    first_like : (a x : ℕ) → Has (names_below cs) a → Has s x → Lacks (names_below cs) x → e x a ≡ e x (get_or list 0 0)
     first_like a x ha hx l =
-        let c : (c : PlainTree) × IsChild cs c × Has (names c) a = child_of_name cs a ha in
+        let c : (c : PlainTreeOf K P) × IsChild cs c × Has (names c) a = child_of_name cs a ha in
         let i : (i : ℕ) × (i < count cs) × (names_at cs i ≡ names c.0) × (head_at cs i ≡ head c.0) = place_of_child cs c.0 c.1 in
         let out : Lacks (names c.0) x = false_from_ne_true _ (λ h. clash (child_inside cs c.0 c.1 x h) l) in
         let n = size in
         let b : i.0 < count cs = i.1 in
-        (mods c.0 c.1).alike a (head c.0) x c.2 (own c.0 c.1) hx out
-        ∙ adj.symmetric x (head c.0) ∙ ap (λ h. e h x) (sym (head_item ts i.0 ∙ i.3)) ∙ sym (fit.alike i.0 x (omega arith) (minus_has s (names_below cs) x hx l))
+        let h : Has (names c.0) (head c.0) = Has-along (names_at cs i.0) (names c.0) i.2 (head c.0) (subst (Has (names_at cs i.0)) i.3 (own i.0 b)) in
+        (mods c.0 c.1).alike a (head c.0) x c.2 h hx out
+        ∙ ap (e x) (sym (head_item ts i.0 ∙ i.3)) ∙ other_way col (get_or list i.0 0) x (get_or list 0 0) x (sym (fit.alike i.0 x (omega arith) (minus_has s (names_below cs) x hx l)))
 
-  pub node_fit : IsFitNode e s k cs ps → IsFit e s (names_below cs) k ps list
+  pub node_fit : IsFitNodeBy puts IsPrimeKind e s k cs ps → IsFitBy puts IsPrimeKind e s (names_below cs) k ps list
   node_fit fit = record {
     alike = λ i y below h.
-        let c = child_at 0 some in
+        let c = child_at 0 list_some in
         let d = child_at i below in
         let two = of_minus s (names_below cs) y h in
-        ap (λ w. e w y) c.2 ∙ adj.symmetric (head c.0) y
-        ∙ fit.is_module.alike (head c.0) (head d.0) y (child_inside cs c.0 c.1 (head c.0) (own c.0 c.1)) (child_inside cs d.0 d.1 (head d.0) (own d.0 d.1)) two.0 two.1
-        ∙ adj.symmetric y (head d.0) ∙ ap (λ w. e w y) (sym d.2);
+        ap (λ w. e w y) c.2
+        ∙ other_way col y (head c.0) y (head d.0) (fit.is_module.alike (head c.0) (head d.0) y (child_inside cs c.0 c.1 (head c.0) c.3) (child_inside cs d.0 d.1 (head d.0) d.3) two.0 two.1)
+        ∙ ap (λ w. e w y) (sym d.2);
     joined = λ i j less below.
         let n = size in
         (λ w. e (head_item ts i w) (head_item ts j w)) ∙ fit.joined i j less (omega arith);
     trivial = λ prime. subst (HasTrivialModulesAlone e) (heads_set ts) (fit.trivial prime);
+  }
+
+-- the heads of the children of a node of a graph
+module _ {e : ℕ → ℕ → Bool} (adj : IsAdjacency e) (s : NameSet) (k : Kind) (ts : List PlainTree) (ps : List Pair) (canon : IsCanonicalNode k (row ts) ps) (each : EachNodeBelow IsCanonicalNode (row ts))
+    (mods : (c : PlainTree) → IsChild (row ts) c → IsModule e s (names c)) where
+  own_heads : (i : ℕ) → i < count (row ts) → Has (names_at (row ts) i) (head_at (row ts) i)
+  own_heads = heads_in IsCanonicalNode some_child (row ts) each
+
+  same_size : length (map head ts) ≡ count (row ts)
+  same_size = size (undirected adj) joins (λ k. k ≡ Prime) s k ts ps (some_child k (row ts) ps canon) own_heads mods
+
+  pub node_heads : AreHeads s ps (map head ts)
+  node_heads = record {
+    some = let two = two_of_shape k (row ts) ps canon.shape in let e = same_size in omega arith;
+    vertices = head_vertices (undirected adj) joins (λ k. k ≡ Prime) s k ts ps (some_child k (row ts) ps canon) own_heads mods;
+    ascending = λ i j less below.
+        let e = same_size in
+        let l = ascend (row ts) canon.order each i j less (omega arith) in
+        let a = head_item ts i in
+        let b = head_item ts j in
+        omega arith;
+    positions = λ i d below. subst (λ n. ((get_or ps i d).low < n) × ((get_or ps i d).high < n)) (sym same_size) (positions_of k (row ts) ps canon.shape i d below);
   }

@@ -119,12 +119,11 @@ neighbours_agree graph v w others first second is_first is_second = (
   λ alike y h. ap (λ s. contains s y) is_first ∙ contains-neighbours graph v y ∙ alike y h ∙ sym (ap (λ s. contains s y) is_second ∙ contains-neighbours graph w y),
 )
 
-pub alike_more : (g : PlainGraph) (others : NameSet) (list : List ℕ) (n : ℕ) →
-    ((i y : ℕ) → i < n → Has others y → adjacent g (get_or list 0 0) y ≡ adjacent g (get_or list i 0) y) →
-    ((y : ℕ) → Has others y → adjacent g (get_or list 0 0) y ≡ adjacent g (get_or list n 0) y) →
-    (i y : ℕ) → i < n + 1 → Has others y → adjacent g (get_or list 0 0) y ≡ adjacent g (get_or list i 0) y
-alike_more g others list n so here i y below h = elim (cases_eq i n) [
-  | inl same ↦ subst (λ k. adjacent g (get_or list 0 0) y ≡ adjacent g (get_or list k 0) y) (sym same) (here y h)
+pub alike_on : {C : Type 0} (e : ℕ → ℕ → C) (others : NameSet) (list : List ℕ) (n : ℕ) →
+    ((i y : ℕ) → i < n → Has others y → e (get_or list 0 0) y ≡ e (get_or list i 0) y) → ((y : ℕ) → Has others y → e (get_or list 0 0) y ≡ e (get_or list n 0) y) →
+    (i y : ℕ) → i < n + 1 → Has others y → e (get_or list 0 0) y ≡ e (get_or list i 0) y
+alike_on e others list n so here i y below h = elim (cases_eq i n) [
+  | inl same ↦ subst (λ k. e (get_or list 0 0) y ≡ e (get_or list k 0) y) (sym same) (here y h)
   | inr differ ↦ (let less : i < n = omega arith in so i y less h)
 ]
 
@@ -134,11 +133,15 @@ lists-push : (ps : List Pair) (p : Pair) (i j : ℕ) → lists_pair (ps ++ p ∷
 lists-push [] p i j = or-false (eqb p.low i && eqb p.high j)
 lists-push (q ∷ ps) p i j = ap (λ b. (eqb q.low i && eqb q.high j) || b) (lists-push ps p i j) ∙ sym (or_assoc (eqb q.low i && eqb q.high j) (lists_pair ps i j) (eqb p.low i && eqb p.high j))
 
--- the rows have, of the names of the list, those that the pairs list
-abbrev pub HaveListed : List ℕ → List NameSet → List Pair → Type 0
-HaveListed list rows ps = (i j : ℕ) → i < length list → j < length list → contains (row_of rows i) (get_or list j 0) ≡ lists_pair ps i j
+-- the rows have, of the names of the list, those at the positions of which the test is true
+abbrev pub HaveRows : List ℕ → List NameSet → (ℕ → ℕ → Bool) → Type 0
+HaveRows list rows at = (i j : ℕ) → i < length list → j < length list → contains (row_of rows i) (get_or list j 0) ≡ at i j
 
-pub none_listed : (list : List ℕ) (rows : List NameSet) (n : ℕ) (none : NameSet) → none ≡ empty → rows ≡ replicate n none → n ≡ length list → HaveListed list rows []
+-- those that the pairs list
+abbrev pub HaveListed : List ℕ → List NameSet → List Pair → Type 0
+HaveListed list rows ps = HaveRows list rows (lists_pair ps)
+
+pub none_listed : (list : List ℕ) (rows : List NameSet) (n : ℕ) (none : NameSet) → none ≡ empty → rows ≡ replicate n none → n ≡ length list → HaveRows list rows (λ i j. false)
 none_listed list rows n none is made size i j bi bj =
     let below : i < n = omega arith in
     ap (λ r. contains (row_of r i) (get_or list j 0)) made ∙ ap (λ s. contains s (get_or list j 0)) (get_or-replicate n i none empty below ∙ is) ∙ empty_lacks (get_or list j 0)
@@ -147,92 +150,118 @@ pub none_joined : (list : List ℕ) (rows : List NameSet) (n : ℕ) (none : Name
     contains (row_of rows i) (get_or list j 0) ≡ false
 none_joined list rows n none is made size i j less below = none_listed list rows n none is made size i j (omega arith) below
 
+-- one more name in one row: that at b in the row at a
+pub more_row : (list : List ℕ) (rows : List NameSet) (at more : ℕ → ℕ → Bool) (a b : ℕ) (old new : NameSet) → ((i j : ℕ) → i < j → j < length list → get_or list i 0 ≢ get_or list j 0) → length rows ≡ length list →
+    a < length list → b < length list → ((i j : ℕ) → more i j ≡ (at i j || (eqb a i && eqb b j))) → old ≡ get_or rows a old → new ≡ insert old (get_or list b 0) → HaveRows list rows at → HaveRows list (set rows a new) more
+more_row list rows at more a b old new differ size in_a in_b grows is_old made so i j bi bj =
+    contains-set_row rows a new i (get_or list j 0) low ∙ elim (cases_eq i a) [
+      | inl same ↦ ap (λ b. cond b (contains new (get_or list j 0)) (contains (row_of rows i) (get_or list j 0))) (eq-eqb i a same) ∙ here same ∙ sym (grows i j)
+      | inr other ↦
+          ap (λ b. cond b (contains new (get_or list j 0)) (contains (row_of rows i) (get_or list j 0))) (false_from_ne_true (eqb i a) (λ h. other (eqb-true i a h)))
+          ∙ so i j bi bj ∙ sym (ap (λ b. at i j || b) (not_both other) ∙ or-false (at i j)) ∙ sym (grows i j)
+    ]
+  where
+    low : a < length rows
+    low = omega arith
+
+    not_both : i ≢ a → (eqb a i && eqb b j) ≡ false
+    not_both other = false_from_ne_true _ (λ h. other (sym (eqb-true a i (and_parts (eqb a i) (eqb b j) h).0)))
+
+    row_there : i ≡ a → row_of rows i ≡ old
+    row_there same = ap (row_of rows) same ∙ get_or_default rows a empty old low ∙ sym is_old
+
+    one_position : get_or list j 0 ≡ get_or list b 0 → j ≡ b
+    one_position same = elim (same_name j b) [
+      | inl is ↦ is
+      | inr other ↦ elim (ascending_or_not j b other) [
+        | inl less ↦ absurd (differ j b less in_b same)
+        | inr more ↦ absurd (differ b j more bj (sym same))
+      ]
+    ]
+
+    here : i ≡ a → contains new (get_or list j 0) ≡ (at i j || (eqb a i && eqb b j))
+    here same = both_ways (contains new (get_or list j 0)) (at i j || (eqb a i && eqb b j))
+        (λ h. elim (of_insert old (get_or list b 0) (get_or list j 0) (Has-along new _ made (get_or list j 0) h)) [
+          | inl e ↦ or_right _ _ (and_from _ _ (eq-eqb a i (sym same)) (eq-eqb b j (sym (one_position e))))
+          | inr o ↦ or_left _ _ (sym (so i j bi bj) ∙ Has-along old (row_of rows i) (sym (row_there same)) (get_or list j 0) o)
+        ])
+        (λ h. Has-along _ new (sym made) (get_or list j 0) (elim (or_cases (at i j) (eqb a i && eqb b j) h) [
+          | inl l ↦ insert_old old (get_or list b 0) (get_or list j 0) (Has-along (row_of rows i) old (row_there same) (get_or list j 0) (so i j bi bj ∙ l))
+          | inr r ↦ subst (Has (insert old (get_or list b 0))) (ap (λ k. get_or list k 0) (eqb-true b j (and_parts (eqb a i) (eqb b j) r).1)) (insert_new old (get_or list b 0))
+        ]))
+
 pub more_listed : (list : List ℕ) (rows : List NameSet) (ps : List Pair) (n : ℕ) (p d : Pair) (old new s : NameSet) → AreHeads s ps list → length rows ≡ length list → n < length ps →
     p ≡ get_or ps n d → old ≡ get_or rows p.low old → new ≡ insert old (get_or list p.high 0) → HaveListed list rows (take n ps) → HaveListed list (set rows p.low new) (take (n + 1) ps)
-more_listed list rows ps n p d old new s heads size below item is_old made so i j bi bj =
-    contains-set_row rows p.low new i (get_or list j 0) low ∙ elim (cases_eq i p.low) [
-      | inl same ↦ ap (λ b. cond b (contains new (get_or list j 0)) (contains (row_of rows i) (get_or list j 0))) (eq-eqb i p.low same) ∙ here same ∙ sym listed
-      | inr differ ↦
-          ap (λ b. cond b (contains new (get_or list j 0)) (contains (row_of rows i) (get_or list j 0))) (false_from_ne_true (eqb i p.low) (λ h. differ (eqb-true i p.low h)))
-          ∙ so i j bi bj ∙ sym (ap (λ b. lists_pair (take n ps) i j || b) (not_both differ) ∙ or-false (lists_pair (take n ps) i j)) ∙ sym listed
-    ]
+more_listed list rows ps n p d old new s heads size below item is_old made so =
+    more_row list rows (lists_pair (take n ps)) (lists_pair (take (n + 1) ps)) p.low p.high old new ascending_differ size bounds.0 bounds.1 listed is_old made so
   where
     bounds : (p.low < length list) × (p.high < length list)
     bounds = subst (λ q. (q.low < length list) × (q.high < length list)) (sym item) (heads.positions n d below)
 
-    low : p.low < length rows
-    low = let b : p.low < length list = bounds.0 in omega arith
+    ascending_differ : (i j : ℕ) → i < j → j < length list → get_or list i 0 ≢ get_or list j 0
+    ascending_differ i j less within same = let l = heads.ascending i j less within in omega arith
 
-    listed : lists_pair (take (n + 1) ps) i j ≡ (lists_pair (take n ps) i j || (eqb p.low i && eqb p.high j))
-    listed = ap (λ l. lists_pair l i j) (take_more ps n d below ∙ ap (λ q. take n ps ++ q ∷ []) (sym item)) ∙ lists-push (take n ps) p i j
-
-    not_both : i ≢ p.low → (eqb p.low i && eqb p.high j) ≡ false
-    not_both differ = false_from_ne_true _ (λ h. differ (sym (eqb-true p.low i (and_parts (eqb p.low i) (eqb p.high j) h).0)))
-
-    row_there : i ≡ p.low → row_of rows i ≡ old
-    row_there same = ap (row_of rows) same ∙ get_or_default rows p.low empty old low ∙ sym is_old
-
-    one_position : get_or list j 0 ≡ get_or list p.high 0 → j ≡ p.high
-    one_position same = elim (same_name j p.high) [
-      | inl is ↦ is
-      | inr differ ↦ elim (ascending_or_not j p.high differ) [
-        | inl less ↦ (let l = heads.ascending j p.high less bounds.1 in absurd (omega arith))
-        | inr more ↦ (let l = heads.ascending p.high j more bj in absurd (omega arith))
-      ]
-    ]
-
-    here : i ≡ p.low → contains new (get_or list j 0) ≡ (lists_pair (take n ps) i j || (eqb p.low i && eqb p.high j))
-    here same = both_ways (contains new (get_or list j 0)) (lists_pair (take n ps) i j || (eqb p.low i && eqb p.high j))
-        (λ h. elim (of_insert old (get_or list p.high 0) (get_or list j 0) (Has-along new _ made (get_or list j 0) h)) [
-          | inl e ↦ or_right _ _ (and_from _ _ (eq-eqb p.low i (sym same)) (eq-eqb p.high j (sym (one_position e))))
-          | inr o ↦ or_left _ _ (sym (so i j bi bj) ∙ Has-along old (row_of rows i) (sym (row_there same)) (get_or list j 0) o)
-        ])
-        (λ h. Has-along _ new (sym made) (get_or list j 0) (elim (or_cases (lists_pair (take n ps) i j) (eqb p.low i && eqb p.high j) h) [
-          | inl a ↦ insert_old old (get_or list p.high 0) (get_or list j 0) (Has-along (row_of rows i) old (row_there same) (get_or list j 0) (so i j bi bj ∙ a))
-          | inr b ↦ subst (Has (insert old (get_or list p.high 0))) (ap (λ k. get_or list k 0) (eqb-true p.high j (and_parts (eqb p.low i) (eqb p.high j) b).1)) (insert_new old (get_or list p.high 0))
-        ]))
+    listed : (i j : ℕ) → lists_pair (take (n + 1) ps) i j ≡ (lists_pair (take n ps) i j || (eqb p.low i && eqb p.high j))
+    listed i j = ap (λ l. lists_pair l i j) (take_more ps n d below ∙ ap (λ q. take n ps ++ q ∷ []) (sym item)) ∙ lists-push (take n ps) p i j
 
 -- ---- names that are joined as their rows say
 
--- the names from a position on are adjacent to those later ones that their rows have
-abbrev pub AreJoinedFrom : ℕ → PlainGraph → List ℕ → List NameSet → Type 0
-AreJoinedFrom at_least g list rows =
-    (i j : ℕ) → at_least ≤ i → i < j → j < length list → adjacent g (get_or list i 0) (get_or list j 0) ≡ contains (row_of rows i) (get_or list j 0)
+-- the names from a position on have the colours with later ones that are told by position and name
+abbrev pub AreJoinedOn : {C : Type 0} → ℕ → (ℕ → ℕ → C) → List ℕ → (ℕ → ℕ → C) → Type 0
+AreJoinedOn at_least e list told = (i j : ℕ) → at_least ≤ i → i < j → j < length list → e (get_or list i 0) (get_or list j 0) ≡ told i (get_or list j 0)
 
-abbrev pub AgreesAt : ℕ → PlainGraph → List ℕ → List NameSet → Type 0
-AgreesAt n g list rows =
-    (j : ℕ) → n < j → j < length list → adjacent g (get_or list n 0) (get_or list j 0) ≡ contains (row_of rows n) (get_or list j 0)
+abbrev pub AgreesOn : {C : Type 0} → ℕ → (ℕ → ℕ → C) → List ℕ → (ℕ → ℕ → C) → Type 0
+AgreesOn n e list told = (j : ℕ) → n < j → j < length list → e (get_or list n 0) (get_or list j 0) ≡ told n (get_or list j 0)
 
 pub later_more : (list : List ℕ) (n m : ℕ) (later new : NameSet) → n < length list → m ≡ n + 1 → later ≡ name_set (drop m list) → new ≡ insert later (get_or list n 0) → new ≡ name_set (drop n list)
 later_more list n m later new below next so made =
     made ∙ ap (λ s. insert s (get_or list n 0)) (so ∙ ap (λ k. name_set (drop k list)) next) ∙ ap name_set (sym (drop_more list n 0 below))
 
-module _ {g : PlainGraph} (graph : IsGraph g) (list : List ℕ) (rows : List NameSet) (n : ℕ) (below : n < length list) (later first row : NameSet) (so : later ≡ name_set (drop (n + 1) list))
-    (is_first : first ≡ neighbours g (get_or list n 0)) (is_row : row ≡ row_of rows n) where
-  pub agreed_at : ((y : ℕ) → Has later y → contains first y ≡ contains row y) → AgreesAt n g list rows
-  agreed_at agree j less bound =
+module _ {C : Type 0} (e : ℕ → ℕ → C) (list : List ℕ) (told : ℕ → ℕ → C) (n : ℕ) (below : n < length list) (later : NameSet) (so : later ≡ name_set (drop (n + 1) list)) where
+  pub agreed_on : ((y : ℕ) → Has later y → e (get_or list n 0) y ≡ told n y) → AgreesOn n e list told
+  agreed_on agree j less bound =
       let size : length (drop (n + 1) list) ≡ length list - (n + 1) = length-drop (n + 1) list in
       let sum : (n + 1) + (j - (n + 1)) ≡ j = omega arith in
-      let here : Has later (get_or list j 0) = Has-along (name_set (drop (n + 1) list)) later (sym so) (get_or list j 0)
-      (subst (Has (name_set (drop (n + 1) list))) (get_or-drop (n + 1) list (j - (n + 1)) 0 ∙ ap (λ i. get_or list i 0) sum) (in_name_set (drop (n + 1) list) (j - (n + 1)) (omega arith))) in
-      sym (contains-neighbours graph (get_or list n 0) (get_or list j 0)) ∙ ap (λ s. contains s (get_or list j 0)) (sym is_first) ∙ agree (get_or list j 0) here ∙ ap (λ s. contains s (get_or list j 0)) is_row
+      agree (get_or list j 0) (Has-along (name_set (drop (n + 1) list)) later (sym so) (get_or list j 0)
+      (subst (Has (name_set (drop (n + 1) list))) (get_or-drop (n + 1) list (j - (n + 1)) 0 ∙ ap (λ i. get_or list i 0) sum) (in_name_set (drop (n + 1) list) (j - (n + 1)) (omega arith))))
 
-  pub agree_if : AgreesAt n g list rows → (y : ℕ) → Has later y → contains first y ≡ contains row y
-  agree_if each y h =
+  pub agree_then : AgreesOn n e list told → (y : ℕ) → Has later y → e (get_or list n 0) y ≡ told n y
+  agree_then each y h =
       let size : length (drop (n + 1) list) ≡ length list - (n + 1) = length-drop (n + 1) list in
       let k : (i : ℕ) × (i < length (drop (n + 1) list)) × (y ≡ get_or (drop (n + 1) list) i 0) = of_name_set (drop (n + 1) list) y (Has-along later (name_set (drop (n + 1) list)) so y h) in
       let b : k.0 < length (drop (n + 1) list) = k.1 in
       let is : y ≡ get_or list ((n + 1) + k.0) 0 = k.2 ∙ get_or-drop (n + 1) list k.0 0 in
-      ap (λ s. contains s y) is_first ∙ contains-neighbours graph (get_or list n 0) y ∙ ap (adjacent g (get_or list n 0)) is
-      ∙ each ((n + 1) + k.0) (omega arith) (omega arith) ∙ ap (contains (row_of rows n)) (sym is) ∙ ap (λ s. contains s y) (sym is_row)
+      ap (e (get_or list n 0)) is ∙ each ((n + 1) + k.0) (omega arith) (omega arith) ∙ ap (told n) (sym is)
 
-pub joined_more : (n m : ℕ) (g : PlainGraph) (list : List ℕ) (rows : List NameSet) → m ≡ n + 1 → AreJoinedFrom m g list rows → AgreesAt n g list rows → AreJoinedFrom n g list rows
-joined_more n m g list rows next so here i j from less below = elim (cases_eq i n) [
+pub joined_on : {C : Type 0} (n m : ℕ) (e : ℕ → ℕ → C) (list : List ℕ) (told : ℕ → ℕ → C) → m ≡ n + 1 → AreJoinedOn m e list told → AgreesOn n e list told → AreJoinedOn n e list told
+joined_on n m e list told next so here i j from less below = elim (cases_eq i n) [
   | inl same ↦
       let l : n < j = omega arith in
-      subst (λ k. adjacent g (get_or list k 0) (get_or list j 0) ≡ contains (row_of rows k) (get_or list j 0)) (sym same) (here j l below)
+      subst (λ k. e (get_or list k 0) (get_or list j 0) ≡ told k (get_or list j 0)) (sym same) (here j l below)
   | inr differ ↦ (let more : m ≤ i = omega arith in so i j more less below)
 ]
+
+-- of a graph: the names from a position on are adjacent to those later ones that their rows have
+abbrev pub AreJoinedFrom : ℕ → PlainGraph → List ℕ → List NameSet → Type 0
+AreJoinedFrom at_least g list rows = AreJoinedOn at_least (adjacent g) list (λ i. contains (row_of rows i))
+
+abbrev pub AgreesAt : ℕ → PlainGraph → List ℕ → List NameSet → Type 0
+AgreesAt n g list rows = AgreesOn n (adjacent g) list (λ i. contains (row_of rows i))
+
+module _ {g : PlainGraph} (graph : IsGraph g) (list : List ℕ) (rows : List NameSet) (n : ℕ) (below : n < length list) (later first row : NameSet) (so : later ≡ name_set (drop (n + 1) list))
+    (is_first : first ≡ neighbours g (get_or list n 0)) (is_row : row ≡ row_of rows n) where
+  pub agreed_at : ((y : ℕ) → Has later y → contains first y ≡ contains row y) → AgreesAt n g list rows
+  agreed_at agree =
+      agreed_on (adjacent g) list (λ i. contains (row_of rows i)) n below later so
+      (λ y h. sym (contains-neighbours graph (get_or list n 0) y) ∙ ap (λ s. contains s y) (sym is_first) ∙ agree y h ∙ ap (λ s. contains s y) is_row)
+
+  pub agree_if : AgreesAt n g list rows → (y : ℕ) → Has later y → contains first y ≡ contains row y
+  agree_if each y h =
+      ap (λ s. contains s y) is_first ∙ contains-neighbours graph (get_or list n 0) y
+      ∙ agree_then (adjacent g) list (λ i. contains (row_of rows i)) n below later so each y h ∙ ap (λ s. contains s y) (sym is_row)
+
+pub joined_more : (n m : ℕ) (g : PlainGraph) (list : List ℕ) (rows : List NameSet) → m ≡ n + 1 → AreJoinedFrom m g list rows → AgreesAt n g list rows → AreJoinedFrom n g list rows
+joined_more n m g list rows = joined_on n m (adjacent g) list (λ i. contains (row_of rows i))
 
 -- one position back
 pub one_back : (m : ℕ) → 0 < m → m ≡ (m - 1) + 1

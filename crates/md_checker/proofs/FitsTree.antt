@@ -25,7 +25,7 @@ use Rattle.md_tree.proofs.Kinded.{built_tree}
 use Rattle.md_tree.proofs.GraphKinds.{two_of_kind, one_kind, kinds_of_graphs}
 use Rattle.md_tree.proofs.Graph.{adjacent_right}
 use Rattle.md_tree.proofs.Heads.{child_here, heads_in}
-use Rattle.md_tree.proofs.Fitted.{at_places, told_by_heads, by_positions, by_trees, modules_below, child_modules, to_fit, of_fit}
+use Rattle.md_tree.proofs.Fitted.{at_places, told_by_heads, by_positions, by_trees, modules_below, to_fit, of_fit}
 use Rattle.md_checker.specs.Fits.{IsFitNode, FitsIfTree}
 use Rattle.md_checker.proofs.Heads.{some_child, tree_head}
 use Rattle.md_checker.proofs.Listed.{to_listed, of_listed}
@@ -140,10 +140,6 @@ module _ {e : ℕ → ℕ → Bool} (adj : IsAdjacency e) (s : NameSet) where
         };
         children = by_trees cs r.1;
       }
-
--- the leaf sets of the children of a node that fits are modules
-pub fit_modules : (e : ℕ → ℕ → Bool) (s : NameSet) (cs : PlainTrees) → EachNodeBelow (IsFitNode e s) cs → Within (names_below cs) s → (c : PlainTree) → IsChild cs c → IsModule e s (names c)
-fit_modules e s = child_modules s (IsFitNode e s) (λ k cs ps fit. fit.is_module)
 
 pub fits_proof : FitsIfTree
 fits_proof e adj s t canon = (

@@ -12,10 +12,10 @@ mod Judging
 mod Coming
 mod Moves
 mod Cutting
-mod Trivial
-mod FitRows
-mod FitNodes
-mod FitStacks
+pub mod Trivial
+pub mod FitRows
+pub mod FitNodes
+pub mod FitStacks
 mod TextWalk
 mod Comparing
 mod ArcTexts

@@ -76,7 +76,7 @@ read_name g bytes text tail sets more list longer kinds kinds_more opens seen ne
       trees = ts ++ leaf v ∷ [];
       walked = record {
         kept = subst (λ l. AreKept graph_spelling (ts ++ leaf v ∷ []) l new) (sym put) (subst (AreKept graph_spelling (ts ++ leaf v ∷ []) (list ++ v ∷ [])) (sym made) (kept_name graph_law ts list seen v r.walked.kept below lacks));
-        finished = leaf_finished g sets more list longer ts v only r.walked.finished vertex is push put;
+        finished = leaf_finished g.vertices sets more list longer ts v only r.walked.finished vertex is push put;
         kinds_are = kind ∙ ap (λ l. l ++ None ∷ []) r.walked.kinds_are ∙ sym (map-append root_kind ts (leaf v ∷ []));
       };
       comes = due_name graph_law bytes text opens ts v tail r.comes split;

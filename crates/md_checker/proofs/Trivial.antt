@@ -1,5 +1,5 @@
 -- Three searches decide whether the graph on a set has trivial modules alone.
-use Rattle.std.proofs.Common.{◌≡◌, ◌≢◌, ◌↔◌, ℕ, zero, suc, ◌+◌, ◌<◌, ◌≤◌, Bool, List, [], ◌∷◌, length, refl, sym, ◌∙◌, subst, inl, inr, arith}
+use Rattle.std.proofs.Common.{◌≡◌, ◌≢◌, ◌↔◌, ℕ, zero, suc, ◌+◌, ◌<◌, ◌≤◌, List, [], ◌∷◌, length, refl, sym, ◌∙◌, subst, inl, inr, arith}
 use Rattle.std.proofs.lemmas.Bool.{cases_Bool}
 use Rattle.std.specs.FinSet.{contains, remove, difference}
 use Rattle.md_graph.specs.Sets.{NameSet, Has, Within, HasSome, HasTwo, only_name}
@@ -32,10 +32,10 @@ pub later_differs : (v j : ℕ) → v + 1 ≤ j → v ≢ j
 later_differs v j later same = omega arith
 
 -- b has the names that no module smaller than s holds with v
-abbrev pub AreWhole : (ℕ → ℕ → Bool) → NameSet → NameSet → ℕ → Type 0
+abbrev pub AreWhole : {C : Type 0} → (ℕ → ℕ → C) → NameSet → NameSet → ℕ → Type 0
 AreWhole e s b v = (i : ℕ) → Has b i ↔ (Has s i × (i ≢ v) × IsLeastModule e s v i s)
 
-module _ {e : ℕ → ℕ → Bool} (s : NameSet) where
+module _ {C : Type 0} {e : ℕ → ℕ → C} (s : NameSet) where
   -- ---- the least module with two names
 
   pub not_trivial : (k : NameSet) (v j : ℕ) → IsLeastModule e s v j k → v ≢ j → k ≢ s → HasTrivialModulesAlone e s → ⊥

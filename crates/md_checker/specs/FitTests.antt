@@ -8,10 +8,10 @@ use Rattle.md_modules.specs.Modules.{HasTrivialModulesAlone}
 use Rattle.md_tree.specs.declared.Kind.{Kind}
 use Rattle.md_tree.specs.declared.Kind.TheVariants.{Prime}
 use Rattle.md_tree.specs.declared.Pair.{Pair}
-use Rattle.md_tree.specs.Parts.{PlainPart}
+use Rattle.md_tree.specs.Parts.{PlainPartOf, PlainPart}
 use Rattle.md_tree.specs.Stacks.{with_part, HasChildrenOf}
 use Rattle.md_tree.specs.TreeGraph.{joins}
-use Rattle.md_tree.specs.Trees.{PlainTree, names, names_below, row, EachNodeBelow}
+use Rattle.md_tree.specs.Trees.{PlainTreeOf, PlainTreesOf, PlainTree, names, names_below, row, EachNodeBelow}
 use Rattle.md_tree.specs.WellFormed.{IsCanonicalNode}
 use Rattle.md_tree.specs.Heads.{head}
 use Rattle.md_checker.specs.Fits.{IsFitNode}
@@ -35,14 +35,17 @@ abbrev pub union_all : List NameSet → NameSet
 union_all [] = empty
 union_all (s ∷ rest) = union s (union_all rest)
 
--- each of the others is adjacent to all names of the list or to none
-abbrev pub AreAlike : (ℕ → ℕ → Bool) → NameSet → List ℕ → Type 0
+-- each of the others is adjacent to all names of the list or to none (of any colours: its pairs with them have one colour)
+abbrev pub AreAlike : {C : Type 0} → (ℕ → ℕ → C) → NameSet → List ℕ → Type 0
 AreAlike e others list = (i y : ℕ) → i < length list → Has others y → e (get_or list 0 0) y ≡ e (get_or list i 0) y
+
+-- two names of the list have the colour that `puts` says for their positions, the earlier one first
+abbrev pub AreJoinedBy : {C : Type 0} → (ℕ → ℕ → C) → (ℕ → ℕ → C) → List ℕ → Type 0
+AreJoinedBy puts e list = (i j : ℕ) → i < j → j < length list → e (get_or list i 0) (get_or list j 0) ≡ puts i j
 
 -- two names of the list are adjacent where a node of kind k that lists ps joins their positions
 abbrev pub AreJoined : (ℕ → ℕ → Bool) → Kind → List Pair → List ℕ → Type 0
-AreJoined e k ps list =
-    (i j : ℕ) → i < j → j < length list → e (get_or list i 0) (get_or list j 0) ≡ joins k ps i j
+AreJoined e k ps = AreJoinedBy (joins k ps) e
 
 -- what heads of the children of a node are: vertices in ascending order, and the node's pairs are positions of them
 pub record AreHeads (s : NameSet) (ps : List Pair) (list : List ℕ) : Type 0 where
@@ -52,31 +55,54 @@ pub record AreHeads (s : NameSet) (ps : List Pair) (list : List ℕ) : Type 0 wh
   pub positions : (i : ℕ) (d : Pair) → i < length ps →
       ((get_or ps i d).low < length list) × ((get_or ps i d).high < length list)
 
--- a node of kind k with the leaf set m, the pairs ps and these heads fits the graph on s, where its children do
-pub record IsFit (e : ℕ → ℕ → Bool) (s m : NameSet) (k : Kind) (ps : List Pair) (list : List ℕ) : Type 0 where
+-- a node of kind k with the leaf set m, the pairs ps and these heads fits the pairs of s with their colours e, where its children
+-- do; `puts` says which colour a node puts between two of its children, the earlier one first
+pub record IsFitBy {K P C : Type 0} (puts : K → List P → ℕ → ℕ → C) (IsPrimeKind : K → Type 0) (e : ℕ → ℕ → C) (s m : NameSet)
+    (k : K) (ps : List P) (list : List ℕ) : Type 0 where
   pub alike : AreAlike e (difference s m) list
-  pub joined : AreJoined e k ps list
-  pub trivial : k ≡ Prime → HasTrivialModulesAlone e (name_set list)
+  pub joined : AreJoinedBy (puts k ps) e list
+  pub trivial : IsPrimeKind k → HasTrivialModulesAlone e (name_set list)
 
--- each node of the trees fits the graph, and their names are its vertices
-pub record AreFit (g : PlainGraph) (ts : List PlainTree) : Type 0 where
-  pub fit : EachNodeBelow (IsFitNode (adjacent g) g.vertices) (row ts)
-  pub within : Within (names_below (row ts)) g.vertices
+-- the same of a graph on s
+abbrev pub IsFit : (ℕ → ℕ → Bool) → NameSet → NameSet → Kind → List Pair → List ℕ → Type 0
+IsFit = IsFitBy joins (λ k. k ≡ Prime)
 
--- the sets and the heads are those of the trees, which fit the graph
-pub record AreFinished (g : PlainGraph) (sets : List NameSet) (list : List ℕ) (ts : List PlainTree) : Type 0 where
+-- each node of the trees is one of those that fit, and their names are in s
+pub record AreFitBy {K P : Type 0} (IsFitting : K → PlainTreesOf K P → List P → Type 0) (s : NameSet) (ts : List (PlainTreeOf K P))
+    : Type 0 where
+  pub fit : EachNodeBelow IsFitting (row ts)
+  pub within : Within (names_below (row ts)) s
+
+-- the sets and the heads are those of the trees, which fit
+pub record AreFinishedBy {K P : Type 0} (IsFitting : K → PlainTreesOf K P → List P → Type 0) (s : NameSet) (sets : List NameSet)
+    (list : List ℕ) (ts : List (PlainTreeOf K P)) : Type 0 where
   pub sets_are : sets ≡ map names ts
   pub heads_are : list ≡ map head ts
-  pub are_fit : AreFit g ts
+  pub are_fit : AreFitBy IsFitting s ts
 
 -- the part may come next: its children are there, and it is as well-formed trees have it
-pub record MayPut (g : PlainGraph) (sets : List NameSet) (list : List ℕ) (p : PlainPart) (ts : List PlainTree)
-    : Type 0 where
-  pub finished : AreFinished g sets list ts
+pub record MayPutBy {K P : Type 0} (IsFitting : K → PlainTreesOf K P → List P → Type 0) (s : NameSet)
+    (IsGood : K → PlainTreesOf K P → List P → Type 0) (sets : List NameSet) (list : List ℕ) (p : PlainPartOf K P)
+    (ts : List (PlainTreeOf K P)) : Type 0 where
+  pub finished : AreFinishedBy IsFitting s sets list ts
   pub has : HasChildrenOf p ts
-  pub canonical : EachNodeBelow IsCanonicalNode (row (with_part p ts))
+  pub canonical : EachNodeBelow IsGood (row (with_part p ts))
 
 -- what the test of one more tree came to: it is finished, or doesn't fit
+abbrev pub IsTestedBy : {K P : Type 0} → (K → PlainTreesOf K P → List P → Type 0) → NameSet → Bool → List NameSet → List ℕ →
+    List (PlainTreeOf K P) → Type 0
+IsTestedBy IsFitting s true sets list ts = AreFinishedBy IsFitting s sets list ts
+IsTestedBy IsFitting s false sets list ts = AreFitBy IsFitting s ts → ⊥
+
+-- of a graph: each node of the trees fits it, and their names are its vertices; and so on
+abbrev pub AreFit : PlainGraph → List PlainTree → Type 0
+AreFit g = AreFitBy (IsFitNode (adjacent g) g.vertices) g.vertices
+
+abbrev pub AreFinished : PlainGraph → List NameSet → List ℕ → List PlainTree → Type 0
+AreFinished g = AreFinishedBy (IsFitNode (adjacent g) g.vertices) g.vertices
+
+abbrev pub MayPut : PlainGraph → List NameSet → List ℕ → PlainPart → List PlainTree → Type 0
+MayPut g = MayPutBy (IsFitNode (adjacent g) g.vertices) g.vertices IsCanonicalNode
+
 abbrev pub IsTested : PlainGraph → Bool → List NameSet → List ℕ → List PlainTree → Type 0
-IsTested g true sets list ts = AreFinished g sets list ts
-IsTested g false sets list ts = AreFit g ts → ⊥
+IsTested g = IsTestedBy (IsFitNode (adjacent g) g.vertices) g.vertices

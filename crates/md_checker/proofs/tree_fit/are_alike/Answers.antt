@@ -1,6 +1,7 @@
 use Rattle.std.proofs.Common.{get_or, refl}
 use Rattle.md_graph.proofs.SetLemmas.{clash}
-use Rattle.md_checker.proofs.FitRows.{neighbours_agree, alike_more}
+use Rattle.md_graph.specs.PlainGraph.{adjacent}
+use Rattle.md_checker.proofs.FitRows.{neighbours_agree, alike_on}
 use Rattle.md_checker.proofs.tree_fit.are_alike.Goals as goal
 
 pub returns-then-not-agree : goal.returns-then-not-agree
@@ -14,6 +15,6 @@ returns-then-not-agree g c = (
 
 pub loop-v-preserved : goal.loop-v-preserved
 loop-v-preserved g c =
-    alike_more c.args.graph.now c.args.others.now c.args.list.now c.loop-v.v-index c.loop-v.invariant
+    alike_on (adjacent c.args.graph.now) c.args.others.now c.args.list.now c.loop-v.v-index c.loop-v.invariant
     ((neighbours_agree c.row.ensures.graph (get_or c.args.list.now 0 0) (get_or c.args.list.now c.loop-v.v-index 0) c.args.others.now c.row-first.result.now c.row.result.now c.row-first.ensures.set c.row.ensures.set).0
     (c.agree.ensures.0 c.if-not-agree.false))

@@ -1,11 +1,13 @@
 use Rattle.std.proofs.Common.{map, vec_len}
 use Rattle.md_tree.specs.Parts.{part_of, plain_at}
 use Rattle.md_tree.specs.Plain.{plain}
-use Rattle.md_checker.proofs.FitStacks.{IsWalk}
+use Rattle.md_graph.specs.PlainGraph.{adjacent}
+use Rattle.md_checker.specs.Fits.{IsFitNode}
+use Rattle.md_checker.proofs.FitStacks.{IsWalkBy}
 use Rattle.md_checker.proofs.tree_fit.tree_fits.Given as goal
 
 abbrev pub invariant-loop-node : goal.invariant-loop-node
-invariant-loop-node g l = IsWalk l.graph (plain l.tree) (map (λ r. part_of (plain_at r)) l.nodes.items) l.sets.items l.heads.items
+invariant-loop-node g l = IsWalkBy (IsFitNode (adjacent l.graph) l.graph.vertices) l.graph.vertices (plain l.tree) (map (λ r. part_of (plain_at r)) l.nodes.items) l.sets.items l.heads.items
 
 abbrev pub decreases-loop-node : goal.decreases-loop-node
 decreases-loop-node g l = vec_len l.nodes
