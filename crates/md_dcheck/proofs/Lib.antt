@@ -1,0 +1,5 @@
+mod ArcTests
+mod LoneLemmas
+mod NodeHeads
+mod DirectedWalks
+mod Recognized

@@ -1,0 +1,2 @@
+pub mod DirectedFitTests
+pub mod LoneNames
