@@ -1,3 +1,12 @@
 pub mod Transfer
 pub mod Local
 pub mod Parts
+pub mod Staying
+pub mod Ordering
+pub mod Joining
+pub mod Nested
+pub mod Turns
+pub mod Between
+pub mod Leaves
+pub mod Placing
+pub mod Rebuilt

@@ -11,7 +11,7 @@ use Rattle.md_modules.specs.Kinds.{IsSplit, IsUnsplit}
 use Rattle.md_modules.specs.Segments.{IsLeastSegment}
 use Rattle.md_modules.proofs.Modules.{other_way, decide_overlap, module_inside, module_of_module, join_module, meet_module, minus_module}
 use Rattle.md_modules.proofs.Strong.{apart_or_nested, nested_if_meet, strong_inside, strong_of_strong, in_child, parent_of}
-use Rattle.md_modules.proofs.Splits.{decide_split, split_closed, split_rest, split_reverses, unsplit_within, child_segment, split_children}
+use Rattle.md_modules.proofs.Splits.{decide_split, split_closed, split_rest, split_reverses, unsplit_within, child_segment, child_unsplit, split_children}
 use Rattle.md_modules.proofs.Children.{child_maximal}
 use Rattle.md_local.specs.Changes.{AgreeOff, AgreeBut, IsLeastStrong, IsMerged, IsLocalChange, ChangesStayLocal, EdgeEditsStayLocal}
 use Rattle.md_local.proofs.Transfer.{agree_back, agree_within, agree_right, transfer, transfer_itself}
@@ -262,6 +262,21 @@ module _ {C : Type 0} {reverse : C → C} {e f : ℕ → ℕ → C} (ce : IsColo
           let p : (a : NameSet) × IsSplit e q a (e x z) = split_of_pair told ce q c r.1 r.0 x z r.2 child over.right.1 hq over.left.2 in
           (q, e x z, p.0, difference c k, parent, p.1, part_split z over.left.1 over.left.2)
 
+  -- a set that splits still does after a change inside a child
+  pub split_stays : (s c a : NameSet) (v : C) → AgreeOff e f s c → IsMaximalStrong e s c → IsSplit e s a v → IsSplit f s a v
+  split_stays s c a v agree child split =
+      record { some = split.some; inside = split.inside; rest = split.rest; across = λ p r hp hr l. across p r hp hr l apart }
+    where
+      apart : Disjoint c a ⊎ Within c a
+      apart = elim (meet_or_disjoint c a) [
+        | inr none ↦ inl none
+        | inl meet ↦ inr (unsplit_within s c a v meet.0 child.is_strong.is_module.inside (child_unsplit ce told s c a v split child) (split_closed s a v split) meet.1 meet.2)
+      ]
+
+      across : (p r : ℕ) → Has a p → Has s r → Lacks a r → Disjoint c a ⊎ Within c a → f p r ≡ v
+      across p r hp hr l (inl none) = sym (agree p r (split.inside p hp) hr (false_from_ne_true _ (λ h. clash hp (none p h)))) ∙ split.across p r hp hr l
+      across p r hp hr l (inr w) = sym (agree_right ce cf s c agree p r (split.inside p hp) hr (lacks_within c a w r l)) ∙ split.across p r hp hr l
+
   -- and where it is merged, it isn't strong
   merged_goes : (s c : NameSet) → AgreeOff e f s c → IsStrong e s c → IsMerged e f s c → IsStrong f s c → ⊥
   merged_goes s c agree is (q, v, a, b, parent, split, part) strong =
@@ -281,18 +296,8 @@ module _ {C : Type 0} {reverse : C → C} {e f : ℕ → ℕ → C} (ce : IsColo
       same : IsModule f q c
       same = transfer_itself ce cf q c inner child.is_strong.is_module
 
-      apart : Disjoint c a ⊎ Within c a
-      apart = elim (meet_or_disjoint c a) [
-        | inr none ↦ inl none
-        | inl meet ↦ inr (unsplit_within q c a v meet.0 parent.above.0 (λ t h. ((split_children ce told q a v split).unsplit c t child).0 h) (split_closed q a v split) meet.1 meet.2)
-      ]
-
-      across : (p r : ℕ) → Has a p → Has q r → Lacks a r → Disjoint c a ⊎ Within c a → f p r ≡ v
-      across p r hp hr l (inl none) = sym (inner p r (split.inside p hp) hr (false_from_ne_true _ (λ h. clash hp (none p h)))) ∙ split.across p r hp hr l
-      across p r hp hr l (inr w) = sym (agree_right ce cf q c inner p r (split.inside p hp) hr (lacks_within c a w r l)) ∙ split.across p r hp hr l
-
       split_after : IsSplit f q a v
-      split_after = record { some = split.some; inside = split.inside; rest = split.rest; across = λ p r hp hr l. across p r hp hr l apart }
+      split_after = split_stays q c a v inner child split
 
       outer : IsModule f s q
       outer = transfer ce cf s c q agree (inr parent.above.0) parent.is_strong.is_module
@@ -303,7 +308,7 @@ module _ {C : Type 0} {reverse : C → C} {e f : ℕ → ℕ → C} (ce : IsColo
 -- ---- the laws
 
 module _ {C : Type 0} {reverse : C → C} {e f : ℕ → ℕ → C} (ce : IsColouring reverse e) (cf : IsColouring reverse f) (told : AreTold C) where
-  local_change : (s c : NameSet) → IsStrong e s c → AgreeOff e f s c → IsLocalChange e f s c
+  pub local_change : (s c : NameSet) → IsStrong e s c → AgreeOff e f s c → IsLocalChange e f s c
   local_change s c is agree = record {
     outside = λ m x hx lx. (
       outside_stays cf ce s c m (agree_back s c agree) same x hx lx,

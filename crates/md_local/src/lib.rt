@@ -1,10 +1,13 @@
 //! Changes of a graph inside one strong module, and what they do to its tree.
 #![tactic(auto)]
 
+mod growing;
 pub mod laws;
 mod part;
+mod rebuilding;
 
 pub use part::{copy_tree, decompose_part};
+pub use rebuilding::rebuild;
 
 #[cfg(test)]
 mod tests;

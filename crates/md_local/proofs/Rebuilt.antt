@@ -1,0 +1,91 @@
+-- The turns of rebuilding: what is on the stack, the steps, and the tree at the end.
+use Rattle.std.proofs.Common.{◌≡◌, ℕ, ◌+◌, ◌≤◌, List, [], ◌∷◌, ◌++◌, length, map, refl, sym, ◌∙◌, ap, subst, append-nil, arith}
+use Rattle.std.proofs.lemmas.List.{map-append, length-append}
+use Rattle.std.proofs.lemmas.List.Sums.{sum_by-cons, sum_by-append}
+use Rattle.std.specs.Borrow.{Bor}
+use Rattle.std.specs.FinSet.{len}
+use Rattle.std.specs.List.{sum_by}
+use Rattle.md_graph.specs.PlainGraph.{PlainGraph, IsGraph, adjacent}
+use Rattle.md_graph.specs.Sets.{NameSet, Has}
+use Rattle.md_graph.proofs.SetLemmas.{Has-along}
+use Rattle.md_modules.proofs.Turns.{graph_adjacency}
+use Rattle.md_tree.specs.declared.Kind.{Kind}
+use Rattle.md_tree.specs.declared.Pair.{Pair}
+use Rattle.md_tree.specs.declared.TreeOf.{TreeOf}
+use Rattle.md_tree.specs.Trees.{PlainTree, names, row}
+use Rattle.md_tree.specs.NodeLists.{nodes_backward, row_nodes_backward}
+use Rattle.md_tree.specs.Parts.{plain_at, below_node}
+use Rattle.md_tree.specs.Plain.{plain}
+use Rattle.md_tree.specs.StrongTrees.{IsTreeOf}
+use Rattle.md_tree.proofs.Built.{tree_names}
+use Rattle.md_local.specs.declared.growing.Grown.{Grown}
+use Rattle.md_local.specs.Changes.{IsLeastStrong}
+use Rattle.md_local.specs.Edits.{IsEdited}
+use Rattle.md_local.specs.Growing.{own_steps, names_between, IsOld, IsGrown, AreGrown}
+use Rattle.md_local.proofs.Between.{between_least}
+use Rattle.md_local.proofs.Nested.{children_last, node_last, alone_last}
+
+-- ---- the stack
+
+pub plain_last : (nodes left : List (Bor (TreeOf Kind Pair))) (r : Bor (TreeOf Kind Pair)) → nodes ≡ left ++ r ∷ [] → map plain_at nodes ≡ map plain_at left ++ plain_at r ∷ []
+plain_last nodes left r pop = ap (map plain_at) pop ∙ map-append plain_at left (r ∷ [])
+
+module _ (g : PlainGraph) (u v : ℕ) (t : PlainTree) where
+  -- the trees of the nodes that have been looked at, and what grew of them
+  abbrev pub IsStack : List PlainTree → List Grown → Type 0
+  IsStack left xs = (ts : List PlainTree) × (left ++ row_nodes_backward (row ts) ≡ nodes_backward t) × AreGrown g u v ts xs
+
+  pub stack_begin : (left : List PlainTree) (xs : List Grown) → left ≡ nodes_backward t → xs ≡ [] → IsStack left xs
+  stack_begin left xs are none = ([], append-nil left ∙ are, subst (AreGrown g u v []) (sym none) tt)
+
+  pub stack_below : (left ps : List PlainTree) (p : PlainTree) (xs : List Grown) → IsStack left xs → left ≡ ps ++ p ∷ [] → (us : List PlainTree) × AreGrown g u v (us ++ below_node p) xs
+  stack_below left ps p xs is pop =
+      let us : (us : List PlainTree) × (is.0 ≡ us ++ below_node p) = children_last t left ps p is.0 is.1 pop in
+      (us.0, subst (λ ts. AreGrown g u v ts xs) us.1 is.2)
+
+  pub stack_more : (left ps : List PlainTree) (p : PlainTree) (xs ys : List Grown) → IsStack left xs → left ≡ ps ++ p ∷ [] →
+      ((us : List PlainTree) → AreGrown g u v (us ++ below_node p) xs → AreGrown g u v (us ++ p ∷ []) ys) → IsStack ps ys
+  stack_more left ps p xs ys is pop turned =
+      let us : (us : List PlainTree) × (is.0 ≡ us ++ below_node p) = children_last t left ps p is.0 is.1 pop in
+      (us.0 ++ p ∷ [], node_last t left ps p is.0 us.0 is.1 pop us.1, turned us.0 (subst (λ ts. AreGrown g u v ts xs) us.1 is.2))
+
+  stack_end : (left : List PlainTree) (xs : List Grown) → IsStack left xs → left ≡ [] → AreGrown g u v (t ∷ []) xs
+  stack_end left xs is none = subst (λ ts. AreGrown g u v ts xs) (alone_last t left is.0 is.1 none) is.2
+
+  pub stack_some : (left : List PlainTree) (xs : List Grown) → IsStack left xs → left ≡ [] → xs ≡ [] → ⊥
+  stack_some left xs is none empty = subst (AreGrown g u v (t ∷ [])) empty (stack_end left xs is none)
+
+  only_grown : (xs rest : List Grown) (x : Grown) → AreGrown g u v (t ∷ []) xs → xs ≡ rest ++ x ∷ [] → IsGrown g u v t x
+  only_grown [] rest x are top = absurd are
+  only_grown (y ∷ []) [] x are top = let h : y ∷ [] ≡ x ∷ [] = top in let same : y ≡ x = cc in subst (IsGrown g u v t) same are.0
+  only_grown (y ∷ []) (z ∷ rest) x are top = let long = ap length top in let both = length-append rest (x ∷ []) in absurd (omega arith)
+  only_grown (y ∷ z ∷ xs) rest x are top = absurd are.1
+
+  pub tree_grown : (before : PlainGraph) (left : List PlainTree) (xs rest : List Grown) (x : Grown) → IsGraph g → IsEdited before g u v → IsTreeOf (adjacent before) before.vertices t →
+      IsStack left xs → left ≡ [] → xs ≡ rest ++ x ∷ [] → IsTreeOf (adjacent g) g.vertices (plain x.tree)
+  tree_grown before left xs rest x graph edited is stack none top =
+      let same : names t ≡ g.vertices = tree_names before.vertices t is ∙ sym edited.vertices in
+      subst (λ s. IsTreeOf (adjacent g) s (plain x.tree)) same
+      ((only_grown xs rest x (stack_end left xs stack none) top).tree (adjacent before) (record {
+        adjacency = graph_adjacency edited.before;
+        after = graph_adjacency graph;
+        edited = edited.edges;
+        inside = Has-along (names t) g.vertices same;
+        tree = subst (λ s. IsTreeOf (adjacent before) s t) (sym (tree_names before.vertices t is)) is;
+      }))
+
+  -- ---- the steps
+
+  pub steps_begin : (left : List PlainTree) (work : ℕ) → left ≡ nodes_backward t → work + sum_by (own_steps u v) left ≤ work + names_between u v t
+  steps_begin left work are = let same = ap (sum_by (own_steps u v)) are in omega arith
+
+  steps_last : (ps : List PlainTree) (p : PlainTree) → sum_by (own_steps u v) (ps ++ p ∷ []) ≡ sum_by (own_steps u v) ps + own_steps u v p
+  steps_last ps p = let a = sum_by-append (own_steps u v) ps (p ∷ []) in let b = sum_by-cons (own_steps u v) p [] in omega arith
+
+  pub steps_more : (left ps : List PlainTree) (p : PlainTree) (begun work new : ℕ) → left ≡ ps ++ p ∷ [] → work + sum_by (own_steps u v) left ≤ begun + names_between u v t → new ≤ work + own_steps u v p →
+      new + sum_by (own_steps u v) ps ≤ begun + names_between u v t
+  steps_more left ps p begun work new pop so turned = let same = ap (sum_by (own_steps u v)) pop in let last = steps_last ps p in omega arith
+
+  pub steps_few : (before : PlainGraph) (w : NameSet) (rest begun work : ℕ) → work + rest ≤ begun + names_between u v t → IsGraph before → IsTreeOf (adjacent before) before.vertices t →
+      IsLeastStrong (adjacent before) before.vertices u v w → work ≤ begun + len w
+  steps_few before w rest begun work so graph is least = let low = between_least u v (adjacent before) before.vertices t (graph_adjacency graph) is w least in omega arith
