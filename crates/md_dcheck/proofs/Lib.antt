@@ -1,3 +1,5 @@
+pub mod DirectedPlaces
+mod DirectedJudged
 mod ArcTests
 mod LoneLemmas
 mod NodeHeads

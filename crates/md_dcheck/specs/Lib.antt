@@ -1,2 +1,7 @@
+pub mod DirectedReports
+pub mod DirectedLineTexts
+pub mod DueDigraphs
+pub mod DirectedLaws
+pub mod DirectedFaults
 pub mod DirectedFitTests
 pub mod LoneNames

@@ -1,11 +1,16 @@
-//! Whether a tree is the tree of strong modules of a directed graph. It stands on no crate that
-//! computes such a tree.
+//! Whether a tree is the tree of strong modules of a directed graph, and checks of reports of such
+//! trees. It stands on no crate that computes such a tree.
 #![tactic(auto)]
 
+mod directed_check;
+mod directed_checker;
 mod directed_fit;
+mod due_digraph;
 mod head_rows;
+pub mod laws;
 mod lone_modules;
 
+pub use directed_check::check_directed;
 pub use directed_fit::fits_directed;
 
 #[cfg(test)]

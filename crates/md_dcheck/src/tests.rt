@@ -1,4 +1,6 @@
 //! Trees of small directed graphs, right ones and altered ones.
+mod reports;
+
 use super::*;
 use md_digraph::{Digraph, DigraphOf};
 use md_digraph6::{DirectedLines, scan_directed};
