@@ -20,7 +20,9 @@ use Rattle.md_tree.proofs.Folding.{count_row}
 use Rattle.md_tree.proofs.Nodes.{IsChild, child_inside, child_of_name}
 use Rattle.md_tree.specs.Heads.{head, head_at, heads, IsFitNodeBy}
 use Rattle.md_tree.specs.TreeGraph.{joins}
-use Rattle.md_checker.specs.FitTests.{name_set, union_all, AreHeads, IsFitBy}
+use Rattle.md_checker.specs.FitTests.{AreHeads, IsFitBy}
+use Rattle.std.specs.FinSet.{from_list}
+use Rattle.md_graph.specs.Sets.{union_all}
 use Rattle.md_tree.proofs.Heads.{child_here, place_of_child, heads_in}
 use Rattle.md_checker.proofs.Heads.{two_of_shape, some_child, have_heads, least_proof}
 
@@ -31,7 +33,7 @@ head_item [] i = refl
 head_item (t ∷ ts) zero = refl
 head_item (t ∷ ts) (suc i) = head_item ts i
 
-heads_set : {K P : Type 0} (ts : List (PlainTreeOf K P)) → heads (row ts) ≡ name_set (map head ts)
+heads_set : {K P : Type 0} (ts : List (PlainTreeOf K P)) → heads (row ts) ≡ from_list (map head ts)
 heads_set [] = refl
 heads_set (t ∷ ts) = ap (λ s. insert s (head t)) (heads_set ts)
 

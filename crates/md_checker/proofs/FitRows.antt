@@ -1,115 +1,43 @@
 -- The rows that tell which heads a node joins, and the sets of lists.
-use Rattle.std.proofs.Common.{◌≡◌, ◌≢◌, ◌↔◌, ℕ, zero, suc, ◌+◌, ◌-◌, ◌<◌, ◌≤◌, Bool, true, false, cond, eqb, ◌&&◌, ◌||◌, not, List, [], ◌∷◌, ◌++◌, length, get_or, set, take, drop, replicate, Option, Some, None, is_some, IfSome, IfNone, refl, sym, ◌∙◌, ap, ap₂, subst, inl, inr, eqb-true, eq-eqb, length-drop, arith}
-use Rattle.std.proofs.lemmas.Bool.{cases_Bool, cases_eq, or_cases, or_left, or_right, and_parts, and_from, not-true, not-false, false_from_ne_true}
+use Rattle.std.proofs.Common.{◌≡◌, ◌≢◌, ◌↔◌, ℕ, zero, suc, ◌+◌, ◌-◌, ◌<◌, ◌≤◌, Bool, true, false, cond, eqb, ◌&&◌, ◌||◌, List, [], ◌∷◌, ◌++◌, length, get_or, set, take, drop, replicate, sym, ◌∙◌, ap, subst, inl, inr, eqb-true, eq-eqb, length-drop, arith}
+use Rattle.std.proofs.lemmas.Bool.{cases_eq, or_cases, or_left, or_right, and_parts, and_from, false_from_ne_true}
 use Rattle.std.proofs.lemmas.List.{take_more, drop_more, get_or-drop, get_or-replicate, get_or_default}
 use Rattle.std.proofs.Math.Bool.{or-false, or_assoc}
 use Rattle.std.specs.Cmp.{both_ways}
-use Rattle.std.specs.FinSet.{contains, empty, insert, union, intersection}
-use Rattle.md_graph.specs.NameSet.{IsLeastFrom, NoneFrom, symmetric_difference}
+use Rattle.std.specs.FinSet.{contains, empty, insert, from_list}
 use Rattle.md_graph.specs.PlainGraph.{PlainGraph, IsGraph, adjacent, neighbours}
 use Rattle.md_graph.specs.Rows.{row_of}
 use Rattle.md_graph.specs.Sets.{NameSet, Has, Within}
 use Rattle.md_graph.proofs.GraphLemmas.{contains-neighbours}
 use Rattle.md_graph.proofs.RowLemmas.{contains-set_row}
-use Rattle.md_graph.proofs.SetLemmas.{clash, same_name, empty_lacks, insert_new, insert_old, of_insert, union_left, union_right, of_union, of_meet, meet_has, minus_has, of_minus, same_members, Has-along, none_lacks, ascending_or_not}
+use Rattle.md_graph.proofs.SetLemmas.{clash, same_name, empty_lacks, insert_new, insert_old, of_insert, Has-along, ascending_or_not}
 use Rattle.md_tree.specs.declared.Pair.{Pair}
 use Rattle.md_tree.specs.TreeGraph.{lists_pair}
-use Rattle.md_checker.specs.FitTests.{name_set, union_all, AreHeads}
+use Rattle.md_checker.specs.FitTests.{AreHeads}
 
 -- ---- sets of lists
 
-pub union-push : (xs : List NameSet) (x : NameSet) → union_all (xs ++ x ∷ []) ≡ union (union_all xs) x
-union-push [] x = same_members (union x empty) (union empty x)
-    (λ y h. elim (of_union x empty y h) [ inl a ↦ union_right empty x y a | inr none ↦ clash none (empty_lacks y) ])
-    (λ y h. elim (of_union empty x y h) [ inl none ↦ clash none (empty_lacks y) | inr a ↦ union_left x empty y a ])
-union-push (s ∷ xs) x =
-    ap (union s) (union-push xs x)
-    ∙ same_members (union s (union (union_all xs) x)) (union (union s (union_all xs)) x)
-    (λ y h. elim (of_union s (union (union_all xs) x) y h) [
-      | inl a ↦ union_left (union s (union_all xs)) x y (union_left s (union_all xs) y a)
-      | inr b ↦ elim (of_union (union_all xs) x y b) [
-        | inl c ↦ union_left (union s (union_all xs)) x y (union_right s (union_all xs) y c)
-        | inr d ↦ union_right (union s (union_all xs)) x y d
-      ]
-    ])
-    (λ y h. elim (of_union (union s (union_all xs)) x y h) [
-      | inl a ↦ elim (of_union s (union_all xs) y a) [
-        | inl b ↦ union_left s (union (union_all xs) x) y b
-        | inr c ↦ union_right s (union (union_all xs) x) y (union_left (union_all xs) x y c)
-      ]
-      | inr d ↦ union_right s (union (union_all xs) x) y (union_right (union_all xs) x y d)
-    ])
-
-pub union_more : (xs : List NameSet) (i : ℕ) (d all new one : NameSet) → i < length xs → all ≡ union_all (take i xs) → one ≡ get_or xs i d → new ≡ union all one →
-    new ≡ union_all (take (i + 1) xs)
-union_more xs i d all new one below so is made =
-    made ∙ ap₂ union so is ∙ sym (union-push (take i xs) (get_or xs i d)) ∙ ap union_all (sym (take_more xs i d below))
-
-pub name_set-push : (xs : List ℕ) (x : ℕ) → name_set (xs ++ x ∷ []) ≡ insert (name_set xs) x
-name_set-push [] x = refl
-name_set-push (v ∷ xs) x =
-    ap (λ s. insert s v) (name_set-push xs x)
-    ∙ same_members (insert (insert (name_set xs) x) v) (insert (insert (name_set xs) v) x) (swapped (name_set xs) x v) (swapped (name_set xs) v x)
-  where
-    swapped : (s : NameSet) (a b : ℕ) → Within (insert (insert s a) b) (insert (insert s b) a)
-    swapped s a b y h = elim (of_insert (insert s a) b y h) [
-      | inl same ↦ insert_old (insert s b) a y (subst (Has (insert s b)) (sym same) (insert_new s b))
-      | inr r ↦ elim (of_insert s a y r) [
-        | inl same ↦ subst (Has (insert (insert s b) a)) (sym same) (insert_new (insert s b) a)
-        | inr old ↦ insert_old (insert s b) a y (insert_old s b y old)
-      ]
-    ]
-
-pub name_set_more : (xs : List ℕ) (i : ℕ) (all new : NameSet) → i < length xs → all ≡ name_set (take i xs) → new ≡ insert all (get_or xs i 0) → new ≡ name_set (take (i + 1) xs)
-name_set_more xs i all new below so made =
-    made ∙ ap (λ s. insert s (get_or xs i 0)) so ∙ sym (name_set-push (take i xs) (get_or xs i 0)) ∙ ap name_set (sym (take_more xs i 0 below))
-
-pub in_name_set : (xs : List ℕ) (i : ℕ) → i < length xs → Has (name_set xs) (get_or xs i 0)
-in_name_set [] i below = let b : i < 0 = below in absurd (omega arith)
-in_name_set (x ∷ xs) zero below = insert_new (name_set xs) x
-in_name_set (x ∷ xs) (suc i) below =
+pub in_listed_set : (xs : List ℕ) (i : ℕ) → i < length xs → Has (from_list xs) (get_or xs i 0)
+in_listed_set [] i below = let b : i < 0 = below in absurd (omega arith)
+in_listed_set (x ∷ xs) zero below = insert_new (from_list xs) x
+in_listed_set (x ∷ xs) (suc i) below =
     let b : suc i < suc (length xs) = below in
-    insert_old (name_set xs) x (get_or xs i 0) (in_name_set xs i (omega arith))
+    insert_old (from_list xs) x (get_or xs i 0) (in_listed_set xs i (omega arith))
 
-pub of_name_set : (xs : List ℕ) (y : ℕ) → Has (name_set xs) y → (i : ℕ) × (i < length xs) × (y ≡ get_or xs i 0)
-of_name_set [] y h = clash h (empty_lacks y)
-of_name_set (x ∷ xs) y h = elim (of_insert (name_set xs) x y h) [
+pub of_listed_set : (xs : List ℕ) (y : ℕ) → Has (from_list xs) y → (i : ℕ) × (i < length xs) × (y ≡ get_or xs i 0)
+of_listed_set [] y h = clash h (empty_lacks y)
+of_listed_set (x ∷ xs) y h = elim (of_insert (from_list xs) x y h) [
   | inl same ↦ (0, (let b : 0 < suc (length xs) = omega arith in b), same)
   | inr r ↦
-      let i : (i : ℕ) × (i < length xs) × (y ≡ get_or xs i 0) = of_name_set xs y r in
+      let i : (i : ℕ) × (i < length xs) × (y ≡ get_or xs i 0) = of_listed_set xs y r in
       (suc i.0, (let b : i.0 < length xs = i.1 in let c : suc i.0 < suc (length xs) = omega arith in c), i.2)
 ]
 
-pub name_set_within : (s : NameSet) (xs : List ℕ) → ((i : ℕ) → i < length xs → Has s (get_or xs i 0)) → Within (name_set xs) s
-name_set_within s xs each y h =
-    let i = of_name_set xs y h in subst (Has s) (sym i.2) (each i.0 i.1)
+pub listed_set_within : (s : NameSet) (xs : List ℕ) → ((i : ℕ) → i < length xs → Has s (get_or xs i 0)) → Within (from_list xs) s
+listed_set_within s xs each y h =
+    let i = of_listed_set xs y h in subst (Has s) (sym i.2) (each i.0 i.1)
 
 -- ---- rows that agree on a set
-
-pub agree_test : (s first second : NameSet) (found : Option ℕ) (r : Bool) →
-    IfSome found (IsLeastFrom (intersection s (symmetric_difference first second)) 0) → IfNone found (NoneFrom (intersection s (symmetric_difference first second)) 0) →
-    is_some found ≡ not r → (r ≡ true) ↔ ((y : ℕ) → Has s y → contains first y ≡ contains second y)
-agree_test s first second (Some least) r some none is = (
-  λ t. clash t (not-true r (sym is)),
-  λ agree.
-      let two = of_meet s (symmetric_difference first second) least some.member in
-      elim (of_union _ _ least two.1) [
-        | inl a ↦ (let l = of_minus first second least a in clash (sym (agree least two.0) ∙ l.0) l.1)
-        | inr b ↦ (let l = of_minus second first least b in clash (agree least two.0 ∙ l.0) l.1)
-      ],
-)
-agree_test s first second None r some none is = (
-  λ t y h. both_ways (contains first y) (contains second y)
-      (λ f. elim (cases_Bool (contains second y)) [
-        | inl g ↦ g
-        | inr l ↦ clash (meet_has s (symmetric_difference first second) y h (union_left _ _ y (minus_has first second y f l))) (none_lacks _ none y)
-      ])
-      (λ g. elim (cases_Bool (contains first y)) [
-        | inl f ↦ f
-        | inr l ↦ clash (meet_has s (symmetric_difference first second) y h (union_right _ _ y (minus_has second first y g l))) (none_lacks _ none y)
-      ]),
-  λ agree. not-false r (sym is),
-)
 
 -- the same of the rows of two vertices
 pub neighbours_agree : {g : PlainGraph} → IsGraph g → (v w : ℕ) (others first second : NameSet) → first ≡ neighbours g v → second ≡ neighbours g w →
@@ -213,22 +141,22 @@ AreJoinedOn at_least e list told = (i j : ℕ) → at_least ≤ i → i < j → 
 abbrev pub AgreesOn : {C : Type 0} → ℕ → (ℕ → ℕ → C) → List ℕ → (ℕ → ℕ → C) → Type 0
 AgreesOn n e list told = (j : ℕ) → n < j → j < length list → e (get_or list n 0) (get_or list j 0) ≡ told n (get_or list j 0)
 
-pub later_more : (list : List ℕ) (n m : ℕ) (later new : NameSet) → n < length list → m ≡ n + 1 → later ≡ name_set (drop m list) → new ≡ insert later (get_or list n 0) → new ≡ name_set (drop n list)
+pub later_more : (list : List ℕ) (n m : ℕ) (later new : NameSet) → n < length list → m ≡ n + 1 → later ≡ from_list (drop m list) → new ≡ insert later (get_or list n 0) → new ≡ from_list (drop n list)
 later_more list n m later new below next so made =
-    made ∙ ap (λ s. insert s (get_or list n 0)) (so ∙ ap (λ k. name_set (drop k list)) next) ∙ ap name_set (sym (drop_more list n 0 below))
+    made ∙ ap (λ s. insert s (get_or list n 0)) (so ∙ ap (λ k. from_list (drop k list)) next) ∙ ap from_list (sym (drop_more list n 0 below))
 
-module _ {C : Type 0} (e : ℕ → ℕ → C) (list : List ℕ) (told : ℕ → ℕ → C) (n : ℕ) (below : n < length list) (later : NameSet) (so : later ≡ name_set (drop (n + 1) list)) where
+module _ {C : Type 0} (e : ℕ → ℕ → C) (list : List ℕ) (told : ℕ → ℕ → C) (n : ℕ) (below : n < length list) (later : NameSet) (so : later ≡ from_list (drop (n + 1) list)) where
   pub agreed_on : ((y : ℕ) → Has later y → e (get_or list n 0) y ≡ told n y) → AgreesOn n e list told
   agreed_on agree j less bound =
       let size : length (drop (n + 1) list) ≡ length list - (n + 1) = length-drop (n + 1) list in
       let sum : (n + 1) + (j - (n + 1)) ≡ j = omega arith in
-      agree (get_or list j 0) (Has-along (name_set (drop (n + 1) list)) later (sym so) (get_or list j 0)
-      (subst (Has (name_set (drop (n + 1) list))) (get_or-drop (n + 1) list (j - (n + 1)) 0 ∙ ap (λ i. get_or list i 0) sum) (in_name_set (drop (n + 1) list) (j - (n + 1)) (omega arith))))
+      agree (get_or list j 0) (Has-along (from_list (drop (n + 1) list)) later (sym so) (get_or list j 0)
+      (subst (Has (from_list (drop (n + 1) list))) (get_or-drop (n + 1) list (j - (n + 1)) 0 ∙ ap (λ i. get_or list i 0) sum) (in_listed_set (drop (n + 1) list) (j - (n + 1)) (omega arith))))
 
   pub agree_then : AgreesOn n e list told → (y : ℕ) → Has later y → e (get_or list n 0) y ≡ told n y
   agree_then each y h =
       let size : length (drop (n + 1) list) ≡ length list - (n + 1) = length-drop (n + 1) list in
-      let k : (i : ℕ) × (i < length (drop (n + 1) list)) × (y ≡ get_or (drop (n + 1) list) i 0) = of_name_set (drop (n + 1) list) y (Has-along later (name_set (drop (n + 1) list)) so y h) in
+      let k : (i : ℕ) × (i < length (drop (n + 1) list)) × (y ≡ get_or (drop (n + 1) list) i 0) = of_listed_set (drop (n + 1) list) y (Has-along later (from_list (drop (n + 1) list)) so y h) in
       let b : k.0 < length (drop (n + 1) list) = k.1 in
       let is : y ≡ get_or list ((n + 1) + k.0) 0 = k.2 ∙ get_or-drop (n + 1) list k.0 0 in
       ap (e (get_or list n 0)) is ∙ each ((n + 1) + k.0) (omega arith) (omega arith) ∙ ap (told n) (sym is)
@@ -248,7 +176,7 @@ AreJoinedFrom at_least g list rows = AreJoinedOn at_least (adjacent g) list (λ 
 abbrev pub AgreesAt : ℕ → PlainGraph → List ℕ → List NameSet → Type 0
 AgreesAt n g list rows = AgreesOn n (adjacent g) list (λ i. contains (row_of rows i))
 
-module _ {g : PlainGraph} (graph : IsGraph g) (list : List ℕ) (rows : List NameSet) (n : ℕ) (below : n < length list) (later first row : NameSet) (so : later ≡ name_set (drop (n + 1) list))
+module _ {g : PlainGraph} (graph : IsGraph g) (list : List ℕ) (rows : List NameSet) (n : ℕ) (below : n < length list) (later first row : NameSet) (so : later ≡ from_list (drop (n + 1) list))
     (is_first : first ≡ neighbours g (get_or list n 0)) (is_row : row ≡ row_of rows n) where
   pub agreed_at : ((y : ℕ) → Has later y → contains first y ≡ contains row y) → AgreesAt n g list rows
   agreed_at agree =

@@ -28,7 +28,8 @@ use Rattle.md_tree.proofs.Folding.{count_row, each_join, each_parts, folded, fol
 use Rattle.md_tree.proofs.Heads.{heads_in}
 use Rattle.md_tree.proofs.Nodes.{IsChild}
 use Rattle.md_tree.specs.Heads.{head, head_at, IsFitNodeBy}
-use Rattle.md_checker.specs.FitTests.{union_all, AreHeads, IsFitBy, IsFit, AreFitBy, AreFit, AreFinishedBy, AreFinished, MayPutBy, MayPut, IsTestedBy}
+use Rattle.md_checker.specs.FitTests.{AreHeads, IsFitBy, IsFit, AreFitBy, AreFit, AreFinishedBy, AreFinished, MayPutBy, MayPut, IsTestedBy}
+use Rattle.md_graph.specs.Sets.{union_all}
 use Rattle.md_checker.proofs.FitNodes.{size, head_item, names_union, node_heads, fit_node, node_fit}
 use Rattle.md_checker.proofs.Heads.{some_child}
 

@@ -5,6 +5,7 @@ use Rattle.std.specs.List.{All}
 use Rattle.std.proofs.lemmas.Bool.{cases_Bool}
 use Rattle.std.proofs.lemmas.List.{drop_more}
 use Rattle.std.specs.Cmp.{both_ways}
+use Rattle.std.specs.Ordering.{nat_cmp}
 use Rattle.std.specs.FinSet.{contains, insert, remove, intersection}
 use Rattle.md_graph.specs.declared.TheConstants.{NAMES, WORDS}
 use Rattle.md_graph.specs.NameSet.{AllBelow, ascending, ascending_between}
@@ -28,7 +29,8 @@ use Rattle.md_tree.specs.TreeTexts.{pairs_text}
 use Rattle.md_tree.proofs.Graph.{of_lists, to_lists}
 use Rattle.md_tree.proofs.Spelled.{graph_pairs_law}
 use Rattle.md_tree.proofs.Texts.{pair_spelled}
-use Rattle.md_checker.specs.FitTests.{name_set, AreJoined}
+use Rattle.md_checker.specs.FitTests.{AreJoined}
+use Rattle.std.specs.FinSet.{from_list}
 use Rattle.md_checker.specs.Gathered.{Matches}
 use Rattle.md_checker.specs.HeadPairs.{near_pairs, head_pairs, near_heads, SpellPositions, mark_behind, MatchesPairs}
 
@@ -187,19 +189,19 @@ rises_rest low n (v ∷ vs) (suc i) r = rises_rest (v + 1) n vs i r.2
 rises_lacks : (v n : ℕ) (ws : List ℕ) → Rises (v + 1) n ws → In ws v → ⊥
 rises_lacks v n ws r i = let a : v + 1 ≤ v = (rises_from (v + 1) n ws r v i).0 in omega arith
 
-of_set : (xs : List ℕ) (y : ℕ) → Has (name_set xs) y → In xs y
+of_set : (xs : List ℕ) (y : ℕ) → Has (from_list xs) y → In xs y
 of_set [] y h = clash h (empty_lacks y)
-of_set (x ∷ xs) y h = elim (of_insert (name_set xs) x y h) [ inl e ↦ inl e | inr r ↦ inr (of_set xs y r) ]
+of_set (x ∷ xs) y h = elim (of_insert (from_list xs) x y h) [ inl e ↦ inl e | inr r ↦ inr (of_set xs y r) ]
 
-to_set : (xs : List ℕ) (y : ℕ) → In xs y → Has (name_set xs) y
+to_set : (xs : List ℕ) (y : ℕ) → In xs y → Has (from_list xs) y
 to_set [] y i = absurd i
-to_set (x ∷ xs) y (inl e) = subst (Has (insert (name_set xs) x)) (sym e) (insert_new (name_set xs) x)
-to_set (x ∷ xs) y (inr i) = insert_old (name_set xs) x y (to_set xs y i)
+to_set (x ∷ xs) y (inl e) = subst (Has (insert (from_list xs) x)) (sym e) (insert_new (from_list xs) x)
+to_set (x ∷ xs) y (inr i) = insert_old (from_list xs) x y (to_set xs y i)
 
-without_first : (v n : ℕ) (ws : List ℕ) → Rises (v + 1) n ws → remove (name_set (v ∷ ws)) v ≡ name_set ws
-without_first v n ws r = same_members (remove (name_set (v ∷ ws)) v) (name_set ws)
-    (λ y h. let t = of_remove (name_set (v ∷ ws)) v y h in elim (of_insert (name_set ws) v y t.1) [ inl e ↦ absurd (t.0 e) | inr i ↦ i ])
-    (λ y h. remove_left (name_set (v ∷ ws)) v y (λ e. rises_lacks v n ws r (subst (In ws) e (of_set ws y h))) (insert_old (name_set ws) v y h))
+without_first : (v n : ℕ) (ws : List ℕ) → Rises (v + 1) n ws → remove (from_list {R = nat_cmp} (v ∷ ws)) v ≡ from_list ws
+without_first v n ws r = same_members (remove (from_list (v ∷ ws)) v) (from_list ws)
+    (λ y h. let t = of_remove (from_list (v ∷ ws)) v y h in elim (of_insert (from_list ws) v y t.1) [ inl e ↦ absurd (t.0 e) | inr i ↦ i ])
+    (λ y h. remove_left (from_list (v ∷ ws)) v y (λ e. rises_lacks v n ws r (subst (In ws) e (of_set ws y h))) (insert_old (from_list ws) v y h))
 
 places_rest : (pieces : List Piece) (j : ℕ) (vs : List ℕ) (i : ℕ) → SpellPositions pieces j vs → SpellPositions pieces (j + i) (drop i vs)
 places_rest pieces j [] zero p = tt
@@ -221,10 +223,10 @@ pub record ArePassedHeads (g : PlainGraph) (list : List ℕ) (i : ℕ) (text res
   pub done : List Pair
   pub all : head_pairs (adjacent g) 0 list ≡ done ++ head_pairs (adjacent g) i (drop i list)
   pub matches : MatchesPairs text rest mark gathered done
-  pub later_is : later ≡ name_set (drop i list)
+  pub later_is : later ≡ from_list (drop i list)
   pub places : SpellPositions pieces 0 list
 
-pub heads_begin : (g : PlainGraph) (list text : List ℕ) (mark : ℕ) (gathered : List ℕ) (later : NameSet) (pieces : List Piece) → mark ≡ 59 → gathered ≡ [] → later ≡ name_set list → SpellPositions pieces 0 list →
+pub heads_begin : (g : PlainGraph) (list text : List ℕ) (mark : ℕ) (gathered : List ℕ) (later : NameSet) (pieces : List Piece) → mark ≡ 59 → gathered ≡ [] → later ≡ from_list list → SpellPositions pieces 0 list →
     ArePassedHeads g list 0 text text mark gathered later pieces
 heads_begin g list text mark gathered later pieces is none all places = record {
   done = [];
@@ -253,8 +255,8 @@ module _ {g : PlainGraph} (graph : IsGraph g) (list : List ℕ) (up : (i j : ℕ
   rises : Rises 0 NAMES (v ∷ ws)
   rises = subst (Rises 0 NAMES) cut (rises_rest 0 NAMES list i (rises_of list NAMES up names 0 (λ some. omega arith)))
 
-  left_is : left ≡ name_set ws
-  left_is = removed ∙ ap (λ s. remove s v) (p.later_is ∙ ap name_set cut) ∙ without_first v NAMES ws rises.2
+  left_is : left ≡ from_list ws
+  left_is = removed ∙ ap (λ s. remove s v) (p.later_is ∙ ap from_list cut) ∙ without_first v NAMES ws rises.2
 
   near_is : ascending near ≡ near_heads (adjacent g) v ws
   near_is = near_listed (adjacent g) v near 0 NAMES ws (omega arith) (lower ws rises.2)

@@ -28,7 +28,8 @@ use Rattle.md_tree.proofs.Holding.{first_least, kept_none, kept_name, kept_close
 use Rattle.md_tree.proofs.Coming.{due_start, due_name, due_node, behind_comma, behind_inside, behind_end, inside_end, inside_first, few_held}
 use Rattle.md_tree.specs.Heads.{head}
 use Rattle.md_checker.specs.Fits.{IsFitNode}
-use Rattle.md_checker.specs.FitTests.{union_all, AreHeads, IsFit, AreFinished, MayPut}
+use Rattle.md_checker.specs.FitTests.{AreHeads, IsFit, AreFinished, MayPut}
+use Rattle.md_graph.specs.Sets.{union_all}
 use Rattle.md_checker.specs.TextFits.{root_kind, MayHaveKinds, IsReadBy, IsReadInsideBy}
 use Rattle.md_checker.proofs.FitsTree.{fits_proof}
 use Rattle.md_checker.proofs.FitStacks.{leaf_finished, node_finished}

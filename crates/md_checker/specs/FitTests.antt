@@ -1,7 +1,7 @@
 -- What the test of a given tree looks at, node by node, and what it keeps of the trees that it has gone through.
 -- Source: our own; the parts of a tree are put on a stack, as prefix notation is read from right to left.
 use Rattle.std.specs.Prelude.{◌≡◌, ◌<◌, ℕ, Bool, true, false, List, [], ◌∷◌, length, get_or, map, ⊤}
-use Rattle.std.specs.FinSet.{empty, insert, union, difference}
+use Rattle.std.specs.FinSet.{from_list, difference}
 use Rattle.md_graph.specs.PlainGraph.{PlainGraph, adjacent}
 use Rattle.md_graph.specs.Sets.{NameSet, Has, Within, only_name}
 use Rattle.md_modules.specs.Modules.{HasTrivialModulesAlone}
@@ -24,16 +24,6 @@ IsSingle s = (v : ℕ) × (s ≡ only_name v)
 abbrev pub AreSingle : List NameSet → Type 0
 AreSingle [] = ⊤
 AreSingle (s ∷ rest) = IsSingle s × AreSingle rest
-
--- the set of the names of a list
-abbrev pub name_set : List ℕ → NameSet
-name_set [] = empty
-name_set (v ∷ rest) = insert (name_set rest) v
-
--- the union of sets
-abbrev pub union_all : List NameSet → NameSet
-union_all [] = empty
-union_all (s ∷ rest) = union s (union_all rest)
 
 -- each of the others is adjacent to all names of the list or to none (of any colours: its pairs with them have one colour)
 abbrev pub AreAlike : {C : Type 0} → (ℕ → ℕ → C) → NameSet → List ℕ → Type 0
@@ -61,7 +51,7 @@ pub record IsFitBy {K P C : Type 0} (puts : K → List P → ℕ → ℕ → C) 
     (k : K) (ps : List P) (list : List ℕ) : Type 0 where
   pub alike : AreAlike e (difference s m) list
   pub joined : AreJoinedBy (puts k ps) e list
-  pub trivial : IsPrimeKind k → HasTrivialModulesAlone e (name_set list)
+  pub trivial : IsPrimeKind k → HasTrivialModulesAlone e (from_list list)
 
 -- the same of a graph on s
 abbrev pub IsFit : (ℕ → ℕ → Bool) → NameSet → NameSet → Kind → List Pair → List ℕ → Type 0

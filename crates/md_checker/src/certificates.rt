@@ -74,7 +74,8 @@ fn leads_back<const W: usize>(
     Ok(leads_on(graph, side, first, rest, &mut rows))
 }
 
-// The same with rows in which the arcs are put down, by their tails. Condition: there is no arc yet.
+// The same with rows in which the arcs are put down, by their tails. Condition: there is no arc
+// yet.
 fn leads_on<const W: usize>(
     graph: &GraphOf<W>,
     side: Side,

@@ -10,7 +10,6 @@ ghost use Rattle.md_checker.specs.FitTests.{AreHeads};
 ghost use Rattle.md_checker.specs.HeadPairs.{near_heads, near_pairs, head_pairs, SpellPositions, MatchesPairs};
 
 use crate::piece_compare::{past_each, put_pair};
-use crate::tree_fit::set_of;
 use md_graph::{GraphOf, Memory, Set};
 use md_text::{Chunk, Piece, digits_piece, number_piece, piece_behind, skip_byte};
 use std::alloc::Global;
@@ -108,7 +107,7 @@ fn past_heads<'a, const W: usize>(
     let _vertices = graph.vertices();
     space.chunk.clear();
     space.mark = b';';
-    let mut later = set_of(heads);
+    let mut later = Set::from_list(heads);
     let mut rest = text;
     for (position, head) in heads.iter().enumerate() {
         later.remove(*head);

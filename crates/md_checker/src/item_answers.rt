@@ -354,8 +354,8 @@ fn is_group_refusal(line: &Line, number: u64, reason: EditReason) -> bool
 }
 
 // Whether the line refuses the edit of a group with this number with an induced P4 of the graph
-// after it, and no state of a session of the mode may have one. The graph stays. Condition: there is
-// no reason against the edit.
+// after it, and no state of a session of the mode may have one. The graph stays. Condition: there
+// is no reason against the edit.
 fn is_group_path<const W: usize>(
     mode: SessionMode,
     graph: &mut GraphOf<W>,

@@ -59,8 +59,8 @@ struct Step {
 }
 
 // What may still come of a report of a session: it is seen as a place of the report. It keeps the
-// state as the graph, on names below `64 * W`, and what leads back to the earlier ones, and how many
-// items of the script are answered or need no answer.
+// state as the graph, on names below `64 * W`, and what leads back to the earlier ones, and how
+// many items of the script are answered or need no answer.
 #[derive(Drop)]
 pub(crate) struct SessionChecker<const W: usize> {
     mode: SessionMode,

@@ -1,11 +1,9 @@
-//! Whether a text is that of the tree of strong modules of a graph. No tree is built: `fits` decides
-//! the same of a tree that is there. Two other machines go over the same texts: md_tree's `builder`
-//! makes the tree, and its `grammar` says where a text leaves their grammar.
-ghost use Rattle.std.specs.Prelude.{◌≡◌, ◌↔◌, ◌<◌, ◌≤◌, ◌+◌, ◌∷◌, ◌++◌, [], ℕ, List, true, false, length, take, vec_len, Some, IfOk, IfSome, IsTrue};
-ghost use Rattle.std.specs.FinSet.{union};
+//! Whether a text is that of the tree of strong modules of a graph. No tree is built: `fits`
+//! decides the same of a tree that is there. Two other machines go over the same texts: md_tree's
+//! `builder` makes the tree, and its `grammar` says where a text leaves their grammar.
+ghost use Rattle.std.specs.Prelude.{◌≡◌, ◌<◌, ◌≤◌, ◌+◌, ◌∷◌, ◌++◌, [], ℕ, List, true, false, length, take, vec_len, Some, IfOk, IfSome, IsTrue};
 ghost use Rattle.md_graph.specs.declared.TheConstants.{NAMES};
 ghost use Rattle.md_graph.specs.PlainGraph.{PlainGraph, adjacent};
-ghost use Rattle.md_graph.specs.Sets.{NameSet};
 ghost use Rattle.md_tree.specs.declared.Kind.TheVariants.{Prime};
 ghost use Rattle.md_tree.specs.declared.Pair.{Pair};
 ghost use Rattle.md_text.specs.Fronts.{IsNumberSplit};
@@ -20,9 +18,9 @@ ghost use Rattle.md_checker.specs.FitTests.{AreHeads, IsFit};
 ghost use Rattle.md_checker.specs.TextFits.{MayHaveKinds, IsRead, IsReadInside, IsReadOn};
 
 use crate::head_pairs::{PairSpace, past_pairs};
-use crate::tree_fit::{are_alike, has_trivial_modules_alone, is_fit, set_of, union_of};
+use crate::tree_fit::{are_alike, has_trivial_modules_alone, is_fit};
 use md_graph::{GraphOf, Memory, NAMES, Set, WORDS};
-use md_modules::CompactSet;
+use md_modules::{CompactSet, union_of};
 use md_text::{skip_byte, small_number};
 use md_tree::{Kind, Opened, ascends, split_letter};
 use std::alloc::Global;
@@ -368,7 +366,7 @@ fn past_prime_end<'a, const W: usize>(
     let Some(tail) = past_pairs(graph, heads, text, space)? else {
         return Ok(None);
     };
-    if !has_trivial_modules_alone(alloc, graph, &set_of(heads))? {
+    if !has_trivial_modules_alone(alloc, graph, &Set::from_list(heads))? {
         return Ok(None);
     }
     Ok(Some(tail))

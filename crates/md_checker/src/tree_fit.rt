@@ -1,9 +1,9 @@
 //! Whether a given tree is the tree of strong modules of a graph. No tree is computed.
-ghost use Rattle.std.specs.Prelude.{◌≡◌, ◌↔◌, ◌*◌, ◌<◌, ◌≤◌, ℕ, Bool, List, length, get_or, replicate, IfOk, IsTrue, Some};
+ghost use Rattle.std.specs.Prelude.{◌≡◌, ◌↔◌, ◌*◌, ◌<◌, ℕ, List, length, get_or, replicate, IfOk, IsTrue, Some};
 ghost use Rattle.std.specs.FinSet.{contains};
 ghost use Rattle.md_graph.specs.PlainGraph.{adjacent};
 ghost use Rattle.md_graph.specs.Rows.{row_of};
-ghost use Rattle.md_graph.specs.Sets.{Has, Within};
+ghost use Rattle.md_graph.specs.Sets.{Within};
 ghost use Rattle.md_modules.specs.Modules.{HasTrivialModulesAlone};
 ghost use Rattle.md_tree.specs.Parts.{name as leaf_part, inner, part_of};
 ghost use Rattle.md_tree.specs.Plain.{plain, plain_option};
@@ -12,10 +12,10 @@ ghost use Rattle.md_tree.specs.StrongTrees.{IsTree, IsTreeOf};
 ghost use Rattle.md_tree.specs.TreeGraph.{joins, lists_pair};
 ghost use Rattle.md_tree.specs.Trees.{PlainTree};
 ghost use Rattle.md_tree.specs.WellFormed.{IsWellFormed};
-ghost use Rattle.md_checker.specs.FitTests.{IsSingle, AreSingle, name_set, union_all, AreAlike, AreHeads, IsFit, AreFinished, MayPut, IsTested};
+ghost use Rattle.md_checker.specs.FitTests.{IsSingle, AreSingle, AreAlike, AreHeads, IsFit, MayPut, IsTested};
 
 use md_graph::{GraphOf, Memory, Set, WORDS};
-use md_modules::{CompactSet, back, closure_in, maximal_modules};
+use md_modules::{CompactSet, back, closure_in, maximal_modules, union_of};
 use md_tree::{Kind, Pair, Tree, nodes_of};
 use std::alloc::Global;
 
@@ -145,18 +145,6 @@ fn put_node<const W: usize>(
     Ok(true)
 }
 
-// The union of sets.
-pub(crate) fn union_of<const W: usize>(sets: &[CompactSet<W>]) -> Set<W>
-    requires { W ≤ WORDS }
-    ensures { result ≡ union_all sets.now }
-{
-    let mut all = Set::none();
-    for set in sets {
-        set.add_to(&mut all);
-    }
-    all
-}
-
 // Whether a node with these names, pairs and heads of its children fits, where the children do.
 pub(crate) fn is_fit<const W: usize>(
     alloc: Global,
@@ -181,7 +169,7 @@ pub(crate) fn is_fit<const W: usize>(
     match kind {
         Kind::Parallel => Ok(true),
         Kind::Series => Ok(true),
-        Kind::Prime => has_trivial_modules_alone(alloc, graph, &set_of(heads)),
+        Kind::Prime => has_trivial_modules_alone(alloc, graph, &Set::from_list(heads)),
     }
 }
 
@@ -193,19 +181,11 @@ pub(crate) fn are_alike<const W: usize>(graph: &GraphOf<W>, list: &[u32], others
 {
     let first = graph.row(list[0]);
     for v in list {
-        if !agree(others, first, graph.row(*v)) {
+        if !first.agrees_on(others, graph.row(*v)) {
             return false;
         }
     }
     true
-}
-
-// Whether two rows have the same members of a set.
-fn agree<const W: usize>(set: &Set<W>, first: &Set<W>, second: &Set<W>) -> bool
-    ensures { IsTrue result ↔ ((y : ℕ) → Has set.now y
-        → contains first.now y ≡ contains second.now y) }
-{
-    set.first_in_symmetric_difference(first, second).is_none()
 }
 
 // A row for each position: of the names at later positions it has those that the node joins to the
@@ -278,25 +258,12 @@ fn are_joined<const W: usize>(graph: &GraphOf<W>, list: &[u32], rows: &[Set<W>])
     let mut at = list.len();
     while at > 0 {
         at -= 1;
-        if !agree(&later, graph.row(list[at]), &rows[at]) {
+        if !graph.row(list[at]).agrees_on(&later, &rows[at]) {
             return false;
         }
         later.insert(list[at]);
     }
     true
-}
-
-// The set of the names of a list.
-pub(crate) fn set_of<const W: usize>(list: &[u32]) -> Set<W>
-    requires names { (i : ℕ) → i < length list.now → get_or list.now i 0 < 64 * W }
-    requires limit { W ≤ WORDS }
-    ensures { result ≡ name_set list.now }
-{
-    let mut set = Set::none();
-    for v in list {
-        set.insert(*v);
-    }
-    set
 }
 
 // Whether each module of the graph on `names` is a name alone, or all of them: all is the least

@@ -1,6 +1,6 @@
 -- A node whose children are put in order of their least names: the same names, adjacent as before.
 use Rattle.std.proofs.Common.{◌≡◌, ◌≢◌, ◌⊎◌, ℕ, zero, suc, ◌<◌, ◌≤◌, cond, List, [], ◌∷◌, length, get_or, map, Contains, refl, sym, ◌∙◌, ap, subst, inl, inr, arith}
-use Rattle.std.proofs.lemmas.Bool.{cases_Bool, eq-eqb, ne_eqb, false_from_ne_true}
+use Rattle.std.proofs.lemmas.Bool.{cases_Bool, eq-eqb, ne_eqb}
 use Rattle.std.proofs.lemmas.List.Sums.{sum_by-cons}
 use Rattle.std.proofs.lemmas.List.Sorted.{sum_by-IsPermutation, Contains-permutation, IsPermutation-sym, length_permutation, IsNonDecreasingBy-drop}
 use Rattle.std.specs.FinSet.{contains}
@@ -8,7 +8,7 @@ use Rattle.std.specs.List.{sum_by}
 use Rattle.std.specs.List.Sorted.{IsPermutation, IsNonDecreasingBy}
 use Rattle.std.specs.Prelude.{⊤}
 use Rattle.md_graph.specs.Sets.{Has, Lacks}
-use Rattle.md_graph.proofs.SetLemmas.{clash, same_members, of_only, only_has, of_union, union_left, union_right, empty_lacks, Has-along}
+use Rattle.md_graph.proofs.SetLemmas.{clash, same_members, of_only, only_has, union_left, Has-along}
 use Rattle.md_tree.specs.declared.Kind.{Kind}
 use Rattle.md_tree.specs.declared.Kind.TheVariants.{Parallel, Series, Prime}
 use Rattle.md_tree.specs.declared.Pair.{Pair}
@@ -17,6 +17,7 @@ use Rattle.md_tree.specs.StrongTrees.{IsInOrder}
 use Rattle.md_tree.specs.TreeGraph.{position_of, joins, adjacent_in, adjacent_below}
 use Rattle.md_tree.specs.WellFormed.{IsOfKind, NoneOfKind, AreDisjoint, IsPlainNode, HasShape, IsCanonicalNode, IsCanonicalTree, HasNoPrimeNode}
 use Rattle.md_tree.proofs.Spelled.{plain_two}
+use Rattle.md_tree.proofs.Apart.{one_if, apart_once, once_apart}
 use Rattle.md_tree.proofs.Folding.{count_row}
 use Rattle.md_tree.proofs.Nodes.{IsChild, child_inside, child_of_name}
 use Rattle.md_cotree.specs.Orders.{IsLooseNode, IsOrdered, PlainKeyed, tree_of, key_of, first_key}
@@ -66,51 +67,6 @@ in_child (x ∷ ys) y h = elim (contains_cases x ys y h) [ inl e ↦ inl (ap tre
 count_map : (ys : List PlainKeyed) → count (row (map tree_of ys)) ≡ length ys
 count_map [] = refl
 count_map (y ∷ ys) = let rest = count_map ys in omega arith
-
--- ---- names apart
-
--- 1 where the tree has the name, else 0
-abbrev one_if : ℕ → PlainTree → ℕ
-one_if v t = cond (contains (names t) v) 1 0
-
-one_has : (v : ℕ) (t : PlainTree) → Has (names t) v → one_if v t ≡ 1
-one_has v t h = ap (λ b. cond b 1 0) h
-
-one_lacks : (v : ℕ) (t : PlainTree) → Lacks (names t) v → one_if v t ≡ 0
-one_lacks v t h = ap (λ b. cond b 1 0) h
-
-row_lacks : (ts : List PlainTree) (v : ℕ) → (Has (names_below (row ts)) v → ⊥) → sum_by (one_if v) ts ≡ 0
-row_lacks [] v none = refl
-row_lacks (t ∷ ts) v none =
-    let all = sum_by-cons (one_if v) t ts in
-    let first = one_lacks v t (false_from_ne_true _ (λ h. none (union_left (names t) (names_below (row ts)) v h))) in
-    let rest = row_lacks ts v (λ h. none (union_right (names t) (names_below (row ts)) v h)) in
-    omega arith
-
-row_has : (ts : List PlainTree) (v : ℕ) → Has (names_below (row ts)) v → 0 < sum_by (one_if v) ts
-row_has [] v h = absurd (clash h (empty_lacks v))
-row_has (t ∷ ts) v h =
-    let all = sum_by-cons (one_if v) t ts in
-    elim (of_union (names t) (names_below (row ts)) v h) [
-      | inl here ↦ let one = one_has v t here in omega arith
-      | inr there ↦ let rest = row_has ts v there in omega arith
-    ]
-
-apart_once : (ts : List PlainTree) → AreDisjoint (row ts) → (v : ℕ) → sum_by (one_if v) ts ≤ 1
-apart_once [] apart v = omega arith
-apart_once (t ∷ ts) apart v =
-    let all = sum_by-cons (one_if v) t ts in
-    elim (cases_Bool (contains (names t) v)) [
-      | inl h ↦ let one = one_has v t h in let rest = row_lacks ts v (λ k. clash k (apart.0 v h)) in omega arith
-      | inr l ↦ let none = one_lacks v t l in let rest = apart_once ts apart.1 v in omega arith
-    ]
-
-once_apart : (ts : List PlainTree) → ((v : ℕ) → sum_by (one_if v) ts ≤ 1) → AreDisjoint (row ts)
-once_apart [] once = tt
-once_apart (t ∷ ts) once = (
-  λ v h. false_from_ne_true _ (λ k. let all = sum_by-cons (one_if v) t ts in let one = one_has v t h in let some = row_has ts v k in let low = once v in absurd (omega arith)),
-  once_apart ts (λ v. let all = sum_by-cons (one_if v) t ts in let low = once v in omega arith),
-)
 
 sum_map : (f : PlainTree → ℕ) (ys : List PlainKeyed) → sum_by f (map tree_of ys) ≡ sum_by (λ y. f y.tree) ys
 sum_map f [] = refl

@@ -23,7 +23,7 @@ use Rattle.md_tree.specs.StrongTrees.{HasKind, HasPairs, IsTreeOf, IsTree}
 use Rattle.md_tree.specs.WellFormed.{IsOfKind, NoneOfKind, AreDisjoint, IsPlainNode, HasShape, IsCanonicalNode, IsCanonicalTree, HasNoPrimeNode}
 use Rattle.md_tree.specs.TreeGraph.{position_of, joins, adjacent_in, adjacent_below, graph_of_tree}
 use Rattle.md_tree.proofs.Spelled.{plain_two}
-use Rattle.md_tree.proofs.Nodes.{IsChild, child_inside, child_of_name}
+use Rattle.md_tree.proofs.Nodes.{IsChild, child_inside, child_of_name, each_child}
 use Rattle.md_tree.proofs.Built.{IsBuilt}
 use Rattle.md_tree.proofs.Kinded.{built_tree}
 use Rattle.md_tree.proofs.GraphKinds.{one_kind, kinds_of_graphs}
@@ -43,11 +43,6 @@ value Series = true
 value Prime = true
 
 -- ---- children
-
-pub each_child : (P : Kind → PlainTrees → List Pair → Type 0) (cs : PlainTrees) (c : PlainTree) → EachNodeBelow P cs → IsChild cs c → EachNode P c
-each_child P no_tree c each i = absurd i
-each_child P (one_more t ts) c each (inl e) = subst (EachNode P) (sym e) each.0
-each_child P (one_more t ts) c each (inr i) = each_child P ts c each.1 i
 
 pub child_other_kind : (cs : PlainTrees) (k : Kind) (c : PlainTree) → NoneOfKind cs k → IsChild cs c → IsOfKind c k → ⊥
 child_other_kind no_tree k c none i = absurd i

@@ -139,12 +139,14 @@ fn place_kind(kind: Kind) -> PlaceKind
 // Places become the children of a place, in order. Condition: they are loose trees, and it is a
 // loose node without children.
 fn attach_all<L: Ledger>(lists: &mut Lists, place: u32, children: &[u32], steps: &mut Steps<L>)
-    requires forest { (k : Bool) × (ts us : PlaceTrees) ×
-        FillsLists lists.old (then (inner place k no_more) (row_append ts us)) × (roots us ≡ children.now) }
+    requires forest { (k : Bool) × (ts us : PlaceTrees)
+        × FillsLists lists.old (then (inner place k no_more) (row_append ts us))
+        × (roots us ≡ children.now) }
     requires links { AreLinks lists.old }
-    ensures forest { (k : Bool) (ts us : PlaceTrees) →
-        FillsLists lists.old (then (inner place k no_more) (row_append ts us)) → roots us ≡ children.now →
-        FillsLists lists.new (then (inner place k us) ts) }
+    ensures forest { (k : Bool) (ts us : PlaceTrees)
+        → FillsLists lists.old (then (inner place k no_more) (row_append ts us))
+        → roots us ≡ children.now
+        → FillsLists lists.new (then (inner place k us) ts) }
     ensures links { AreLinks lists.new }
     ensures marked { lists.new.marked ≡ lists.old.marked }
 {

@@ -1,11 +1,10 @@
 -- Rows of successors and predecessors, compared on a set.
-use Rattle.std.proofs.Common.{◌≡◌, ◌↔◌, ℕ, ◌+◌, ◌<◌, Bool, true, false, eqb, ◌&&◌, ◌||◌, List, [], ◌∷◌, ◌++◌, length, get_or, set, take, replicate, Result, Ok, Err, IfOk, refl, sym, ◌∙◌, ap, arith}
+use Rattle.std.proofs.Common.{◌≡◌, ◌↔◌, ℕ, ◌+◌, ◌<◌, Bool, true, false, eqb, ◌&&◌, ◌||◌, List, [], ◌∷◌, ◌++◌, length, get_or, set, take, replicate, Result, Ok, Err, IfOk, sym, ◌∙◌, ap, arith}
 use Rattle.std.proofs.lemmas.List.{take_more, get_or-replicate}
-use Rattle.std.proofs.Math.Bool.{or-false, or_assoc}
+use Rattle.std.proofs.Math.Bool.{and_comm, or-false, or_assoc}
 use Rattle.std.specs.FinSet.{contains, empty, insert}
 use Rattle.md_graph.specs.Rows.{row_of}
 use Rattle.md_graph.specs.Sets.{NameSet, Has}
-use Rattle.md_graph.proofs.SetLemmas.{empty_lacks}
 use Rattle.md_digraph.specs.PlainDigraph.{PlainDigraph, IsDigraph, has_arc_to, successors, predecessors}
 use Rattle.md_digraph.specs.ArcColours.{between}
 use Rattle.md_digraph.proofs.DigraphLemmas.{contains-successors, contains-predecessors}
@@ -56,14 +55,7 @@ both_ok (Err e) p q f = p
 copied : (rows : List NameSet) (n i : ℕ) (row : NameSet) → rows ≡ replicate n row → i < n → row_of rows i ≡ row
 copied rows n i row made below = ap (λ r. row_of r i) made ∙ get_or-replicate n i row empty below
 
--- none of the names is in any row
-pub none_told : (list : List ℕ) (rows : List NameSet) (n : ℕ) (row : NameSet) → row ≡ empty → rows ≡ replicate n row → n ≡ length list → (i j : ℕ) → i < j → j < length list →
-    contains (row_of rows i) (get_or list j 0) ≡ false
-none_told list rows n row is made size i j less below =
-    let b : i < n = omega arith in
-    ap (λ s. contains s (get_or list j 0)) (copied rows n i row made b ∙ is) ∙ empty_lacks (get_or list j 0)
-
--- each is
+-- each of the names is in each row
 pub all_told : (list : List ℕ) (rows : List NameSet) (n : ℕ) (row : NameSet) → ((k : ℕ) → k < length list → Has row (get_or list k 0)) → rows ≡ replicate n row → n ≡ length list → (i j : ℕ) → i < j → j < length list →
     contains (row_of rows i) (get_or list j 0) ≡ true
 all_told list rows n row each made size i j less below =
@@ -81,12 +73,6 @@ told_at out into n y row other is_row is_other = let there = ap (λ s. contains 
 lists-push : (ps : List DPair) (p : DPair) (i j : ℕ) → lists_arc (ps ++ p ∷ []) i j ≡ (lists_arc ps i j || (eqb p.from i && eqb p.to j))
 lists-push [] p i j = or-false (eqb p.from i && eqb p.to j)
 lists-push (q ∷ ps) p i j = ap (λ b. (eqb q.from i && eqb q.to j) || b) (lists-push ps p i j) ∙ sym (or_assoc (eqb q.from i && eqb q.to j) (lists_arc ps i j) (eqb p.from i && eqb p.to j))
-
-and_turned : (a b : Bool) → (a && b) ≡ (b && a)
-and_turned true true = refl
-and_turned true false = refl
-and_turned false true = refl
-and_turned false false = refl
 
 -- the rows tell of the names of the list the arcs that the pairs list
 pub record HaveArcs (list : List ℕ) (out into : List NameSet) (ps : List DPair) : Type 0 where
@@ -115,4 +101,4 @@ module _ (list : List ℕ) (out into : List NameSet) (ps : List DPair) (n : ℕ)
   pub more_back : (old new : NameSet) → old ≡ get_or into p.to old → new ≡ insert old (get_or list p.from 0) → HaveArcs list out into (take n ps) → HaveRows list (set into p.to new) (λ i j. lists_arc (take (n + 1) ps) j i)
   more_back old new is_old made so =
       more_row list into (λ i j. lists_arc (take n ps) j i) (λ i j. lists_arc (take (n + 1) ps) j i) p.to p.from old new heads.differ so.into_size bounds.1 bounds.0
-      (λ i j. listed j i ∙ ap (λ b. lists_arc (take n ps) j i || b) (and_turned (eqb p.from j) (eqb p.to i))) is_old made so.back
+      (λ i j. listed j i ∙ ap (λ b. lists_arc (take n ps) j i || b) (and_comm (eqb p.from j) (eqb p.to i))) is_old made so.back

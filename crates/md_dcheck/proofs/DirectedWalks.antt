@@ -5,7 +5,8 @@ use Rattle.md_digraph.specs.PlainDigraph.{PlainDigraph, has_arc_to}
 use Rattle.md_digraph.proofs.ArcTurns.{arcs_turn}
 use Rattle.md_tree.specs.Parts.{inner}
 use Rattle.md_tree.specs.Stacks.{with_part}
-use Rattle.md_checker.specs.FitTests.{union_all, AreFitBy, AreFinishedBy}
+use Rattle.md_checker.specs.FitTests.{AreFitBy, AreFinishedBy}
+use Rattle.md_graph.specs.Sets.{union_all}
 use Rattle.md_checker.proofs.FitStacks.{canon_parts, child_parts, heads_after, part_misfit, part_finished}
 use Rattle.md_dtree.specs.declared.DKind.{DKind}
 use Rattle.md_dtree.specs.declared.DKind.TheVariants.{Prime}
@@ -13,7 +14,8 @@ use Rattle.md_dtree.specs.declared.DPair.{DPair}
 use Rattle.md_dtree.specs.DirectedTrees.{PlainDTree, IsCanonicalDNode}
 use Rattle.md_dtree.specs.DirectedFits.{puts_arcs}
 use Rattle.md_dcheck.specs.DirectedFitTests.{AreDirectedHeads, IsDirectedFit, FitsDigraph, MayPutDirected}
-use Rattle.md_dcheck.proofs.NodeHeads.{some_child, directed_heads}
+use Rattle.md_dtree.proofs.FitsDirected.{some_child}
+use Rattle.md_dcheck.proofs.NodeHeads.{directed_heads}
 
 module _ (g : PlainDigraph) (sets : List NameSet) (list : List ℕ) (k : DKind) (n : ℕ) (ps : List DPair) (ts : List PlainDTree) (may : MayPutDirected g sets list (inner k n ps) ts) (below : ℕ)
     (at_place : below ≡ length sets - n) (sub : List ℕ) (is_sub : sub ≡ drop below list) where

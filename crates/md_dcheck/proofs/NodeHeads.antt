@@ -1,5 +1,5 @@
 -- The heads of the children of a well-formed node.
-use Rattle.std.proofs.Common.{◌≡◌, ◌≢◌, ℕ, ◌<◌, ◌≤◌, List, length, get_or, map, Bool, refl, sym, ◌∙◌, ap, subst, arith}
+use Rattle.std.proofs.Common.{◌≡◌, ◌≢◌, ℕ, ◌<◌, List, length, get_or, map, Bool, refl, sym, ◌∙◌, ap, subst, arith}
 use Rattle.std.proofs.lemmas.List.Elements.{Contains-get_or}
 use Rattle.md_graph.specs.Sets.{NameSet, Has}
 use Rattle.md_graph.proofs.SetLemmas.{clash}
@@ -18,16 +18,8 @@ use Rattle.md_dtree.specs.declared.DPair.{DPair}
 use Rattle.md_dtree.specs.DirectedSpelling.{directed_spelling, lists_arcs}
 use Rattle.md_dtree.specs.DirectedTrees.{PlainDTree, PlainDTrees, IsCanonicalDNode}
 use Rattle.md_dtree.specs.DirectedFits.{puts_arcs}
+use Rattle.md_dtree.proofs.FitsDirected.{some_child}
 use Rattle.md_dcheck.specs.DirectedFitTests.{AreDirectedHeads}
-
-some_of_shape : (k : DKind) (cs : PlainDTrees) (ps : List DPair) → HasShapeIf directed_spelling (lists_arcs k) k cs ps → 1 ≤ count cs
-some_of_shape Parallel cs ps shape = let b : 2 ≤ count cs = shape.enough in omega arith
-some_of_shape Series cs ps shape = let b : 2 ≤ count cs = shape.enough in omega arith
-some_of_shape Order cs ps shape = let b : 2 ≤ count cs = shape.enough in omega arith
-some_of_shape Prime cs ps shape = let b : 3 ≤ count cs = shape.enough in omega arith
-
-pub some_child : (k : DKind) (cs : PlainDTrees) (ps : List DPair) → IsCanonicalDNode k cs ps → 1 ≤ count cs
-some_child k cs ps canon = some_of_shape k cs ps canon.shape
 
 positions_of : (k : DKind) (cs : PlainDTrees) (ps : List DPair) → HasShapeIf directed_spelling (lists_arcs k) k cs ps → (i : ℕ) (d : DPair) → i < length ps →
     ((get_or ps i d).from < count cs) × ((get_or ps i d).to < count cs)

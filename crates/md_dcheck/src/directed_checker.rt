@@ -64,7 +64,8 @@ impl<'a> DirectedChecker<'a> {
     }
 
     // Whether a line with this text may come where the line of a directed graph is due, or the last
-    // one: it is then taken, and else nothing changes. Errors: want of memory; nothing changes then.
+    // one: it is then taken, and else nothing changes. Errors: want of memory; nothing changes
+    // then.
     fn feed_tree(&mut self, alloc: Global, text: &[u8]) -> Result<bool, Memory>
         requires { self.old.due ≡ DirectedDue.Digraphs }
         ensures takes { IfOk result (λ taken. IsTrue taken ↔ ((line : DirectedLine)

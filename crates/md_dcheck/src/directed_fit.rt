@@ -1,29 +1,26 @@
 //! Whether a given tree is the tree of strong modules of a directed graph. No tree is computed.
-ghost use Rattle.std.specs.Prelude.{◌≡◌, ◌≢◌, ◌↔◌, ◌*◌, ◌≤◌, List, IfOk, IsTrue, Some, false};
-ghost use Rattle.md_graph.specs.Sets.{Has};
+ghost use Rattle.std.specs.Prelude.{◌≡◌, ◌≢◌, ◌↔◌, ◌*◌, List, IfOk, IsTrue, Some, false};
 ghost use Rattle.md_digraph.specs.PlainDigraph.{has_arc_to};
-ghost use Rattle.md_digraph.specs.ArcColours.{between};
 ghost use Rattle.md_tree.specs.declared.reader.TreeFault.{TreeFault};
 ghost use Rattle.md_tree.specs.Parts.{name as leaf_part, inner, part_of};
 ghost use Rattle.md_tree.specs.Plain.{plain, plain_option};
 ghost use Rattle.md_tree.specs.Stacks.{with_part};
-ghost use Rattle.md_checker.specs.FitTests.{union_all};
 ghost use Rattle.md_dtree.specs.DirectedTrees.{PlainDTree, IsDirectedTree, IsDirectedTreeOf, IsWellFormedDirected};
 ghost use Rattle.md_dcheck.specs.DirectedFitTests.{AreDirectedHeads, IsDirectedFit, MayPutDirected, IsDirectedTested};
 
 use crate::head_rows::{are_alike, are_joined, rows_put};
-use crate::lone_modules::{has_trivial_modules_alone, set_of};
+use crate::lone_modules::has_trivial_modules_alone;
 use md_digraph::DigraphOf;
 use md_dtree::{DKind, DPair, DTree, read_directed, text_directed};
 use md_graph::{Memory, Set, WORDS};
-use md_modules::CompactSet;
+use md_modules::{CompactSet, union_of};
 use md_tree::{TreeFault, nodes_of};
 use std::alloc::Global;
 
 /// Whether the tree is the tree of strong modules of the directed graph, or there is none and the
-/// directed graph has no vertex. Nothing is decomposed: each node takes a few operations on rows for
-/// each child, and a prime node a search for each head of its children. No call nests as deep as the
-/// tree. Errors: want of memory.
+/// directed graph has no vertex. Nothing is decomposed: each node takes a few operations on rows
+/// for each child, and a prime node a search for each head of its children. No call nests as deep
+/// as the tree. Errors: want of memory.
 pub fn fits_directed<const W: usize>(
     alloc: Global,
     graph: &DigraphOf<W>,
@@ -183,18 +180,6 @@ fn put_node<const W: usize>(
     Ok(true)
 }
 
-// The union of sets.
-fn union_of<const W: usize>(sets: &[CompactSet<W>]) -> Set<W>
-    requires { W ≤ WORDS }
-    ensures { result ≡ union_all sets.now }
-{
-    let mut all = Set::none();
-    for set in sets {
-        set.add_to(&mut all);
-    }
-    all
-}
-
 // Whether a node with these names, pairs and heads of its children fits, where the children do.
 fn is_fit<const W: usize>(
     alloc: Global,
@@ -220,6 +205,6 @@ fn is_fit<const W: usize>(
         DKind::Parallel => Ok(true),
         DKind::Series => Ok(true),
         DKind::Order => Ok(true),
-        DKind::Prime => Ok(has_trivial_modules_alone(graph, &set_of(heads))),
+        DKind::Prime => Ok(has_trivial_modules_alone(graph, &Set::from_list(heads))),
     }
 }

@@ -11,8 +11,8 @@ use md_graph::Memory;
 use md_tree::TreeFault;
 use std::alloc::Global;
 
-// Whether the text is that of the line with the tree of the directed graph in the room. Errors: want
-// of memory.
+// Whether the text is that of the line with the tree of the directed graph in the room. Errors:
+// want of memory.
 pub(crate) fn is_reported(alloc: Global, room: &DirectedRoom, text: &[u8]) -> Result<bool, Memory>
     ensures { IfOk result (λ fit. IsTrue fit ↔ ((line : DirectedLine)
         × HasDirectedTree room.now line × (text.now ≡ directed_line_text line))) }

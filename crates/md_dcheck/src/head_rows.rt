@@ -3,7 +3,6 @@
 ghost use Rattle.std.specs.Prelude.{◌≡◌, ◌↔◌, ◌*◌, ◌<◌, ℕ, length, get_or, replicate, IfOk, IsTrue};
 ghost use Rattle.std.specs.FinSet.{contains};
 ghost use Rattle.md_graph.specs.Sets.{Has};
-ghost use Rattle.md_graph.specs.Rows.{row_of};
 ghost use Rattle.md_digraph.specs.PlainDigraph.{has_arc_to};
 ghost use Rattle.md_digraph.specs.ArcColours.{between};
 ghost use Rattle.md_checker.specs.FitTests.{AreAlike};
@@ -26,7 +25,8 @@ pub(crate) struct HeadRows<const W: usize> {
 // Whether each of the others has the same arcs, there and back, with all names of the list.
 pub(crate) fn are_alike<const W: usize>(graph: &DigraphOf<W>, list: &[u32], others: &Set<W>) -> bool
     requires some { 0 < length list.now }
-    requires vertices { (i : ℕ) → i < length list.now → Has graph.now.vertices (get_or list.now i 0) }
+    requires vertices { (i : ℕ) → i < length list.now
+        → Has graph.now.vertices (get_or list.now i 0) }
     ensures { IsTrue result ↔ AreAlike (between (has_arc_to graph.now)) others.now list.now }
 {
     let _vertices = graph.vertices();
@@ -53,18 +53,10 @@ fn has_arcs<const W: usize>(
     ensures { IsTrue result ↔ ((y : ℕ) → Has set.now y
         → between (has_arc_to graph.now) v y ≡ (contains out.now y, contains into.now y)) }
 {
-    if !agree(set, graph.successors(v), out) {
+    if !graph.successors(v).agrees_on(set, out) {
         return false;
     }
-    agree(set, graph.predecessors(v), into)
-}
-
-// Whether two rows have the same members of a set.
-fn agree<const W: usize>(set: &Set<W>, first: &Set<W>, second: &Set<W>) -> bool
-    ensures { IsTrue result ↔ ((y : ℕ) → Has set.now y
-        → contains first.now y ≡ contains second.now y) }
-{
-    set.first_in_symmetric_difference(first, second).is_none()
+    graph.predecessors(v).agrees_on(set, into)
 }
 
 // The rows for each position: of the names at later positions they have those to which, and those
@@ -152,7 +144,8 @@ pub(crate) fn are_joined<const W: usize>(
     out: &[Set<W>],
     into: &[Set<W>],
 ) -> bool
-    requires vertices { (i : ℕ) → i < length list.now → Has graph.now.vertices (get_or list.now i 0) }
+    requires vertices { (i : ℕ) → i < length list.now
+        → Has graph.now.vertices (get_or list.now i 0) }
     requires out { length out.now ≡ length list.now }
     requires into { length into.now ≡ length list.now }
     ensures { IsTrue result ↔ ((i j : ℕ) → i < j → j < length list.now

@@ -1,11 +1,10 @@
 //! Whether the heads of the children of a prime node have trivial modules alone.
-ghost use Rattle.std.specs.Prelude.{◌≡◌, ◌≢◌, ◌↔◌, ◌*◌, ◌<◌, ◌≤◌, ℕ, length, get_or, IsTrue};
+ghost use Rattle.std.specs.Prelude.{◌≡◌, ◌≢◌, ◌↔◌, ◌<◌, ℕ, IsTrue};
 ghost use Rattle.std.specs.FinSet.{remove};
 ghost use Rattle.md_graph.specs.Sets.{Has, Within};
 ghost use Rattle.md_modules.specs.Modules.{HasTrivialModulesAlone, IsLeastModule};
 ghost use Rattle.md_digraph.specs.PlainDigraph.{has_arc_to};
 ghost use Rattle.md_digraph.specs.ArcColours.{between};
-ghost use Rattle.md_checker.specs.FitTests.{name_set};
 ghost use Rattle.md_dcheck.specs.LoneNames.{IsLone};
 
 use md_digraph::{DigraphOf, directed_back, directed_closure_in};
@@ -73,17 +72,4 @@ fn is_lone<const W: usize>(graph: &DigraphOf<W>, names: &Set<W>, v: u32, j: u32)
     let mut others = names.copy();
     others.remove(v);
     held.is_same(&others)
-}
-
-// The set of the names of a list.
-pub(crate) fn set_of<const W: usize>(list: &[u32]) -> Set<W>
-    requires names { (i : ℕ) → i < length list.now → get_or list.now i 0 < 64 * W }
-    requires limit { W ≤ WORDS }
-    ensures { result ≡ name_set list.now }
-{
-    let mut set = Set::none();
-    for v in list {
-        set.insert(*v);
-    }
-    set
 }

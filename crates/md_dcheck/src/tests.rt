@@ -133,7 +133,8 @@ fn lead(rt: &impl Abort, graph: &mut DigraphOf<1>, u: u32, v: u32) {
     graph.add_arc(u, v);
 }
 
-// The number of the trees with these texts, each with a blank behind it, that the directed graph has.
+// The number of the trees with these texts, each with a blank behind it, that the directed graph
+// has.
 fn fits_among(
     rt: &impl Abort,
     alloc: Global,

@@ -15,8 +15,8 @@ use md_graph::Set;
 
 /// Puts into `into` the names of `within` other than `v` that no module of the directed graph on
 /// `within` holds with `v` but `within` itself; the rest of `within` is a module that holds `v`.
-/// Condition: `within` is a set of vertices, `v` and `j` are different members, and the least module
-/// that holds both is `within`.
+/// Condition: `within` is a set of vertices, `v` and `j` are different members, and the least
+/// module that holds both is `within`.
 pub fn directed_back<const W: usize>(
     graph: &DigraphOf<W>,
     within: &Set<W>,

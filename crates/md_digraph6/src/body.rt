@@ -92,8 +92,8 @@ fn add_numbers<const W: usize>(graph: &mut DigraphOf<W>, n: u32)
     }
 }
 
-// Takes in the arcs of a short line, row by row. Conditions: no arc is there, and no bit of a vertex
-// with itself is 1.
+// Takes in the arcs of a short line, row by row. Conditions: no arc is there, and no bit of a
+// vertex with itself is 1.
 fn fill_short<const W: usize>(graph: &mut DigraphOf<W>, n: u32, body: &[u8])
     requires short { n < 58 }
     requires room { n ≤ 64 * W }

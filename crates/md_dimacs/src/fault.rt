@@ -18,7 +18,8 @@ pub enum DimacsKind {
     Loop,
     /// The line is of no class, or a problem line names neither `edge` nor `col`.
     UnknownLine,
-    /// There are as many vertices as the limit that was handed in, or more; no vertex has the name 0.
+    /// There are as many vertices as the limit that was handed in, or more; no vertex has the name
+    /// 0.
     TooManyVertices,
     /// A problem line hasn't four fields, or an edge line hasn't three.
     FieldCount,

@@ -49,7 +49,8 @@ pub fn read<const W: usize>(
 // what stands behind them.
 fn find_problem(bytes: &[u8], limit: u32) -> Result<(u32, u64, &[u8]), DimacsFault>
     requires { limit ≤ NAMES }
-    ensures found { IfOk result (λ p. IsBehindProblem limit (lines bytes.now) p.0 p.1 (lines p.2.now)) }
+    ensures found { IfOk result (λ p.
+        IsBehindProblem limit (lines bytes.now) p.0 p.1 (lines p.2.now)) }
     ensures room { IfOk result (λ p. p.1 + length p.2.now ≤ length bytes.now) }
     ensures below { IfOk result (λ p. p.0 < limit) }
     ensures fault { IfErr result (λ fault. first_fault limit bytes.now ≡ Some fault) }

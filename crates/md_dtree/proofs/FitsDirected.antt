@@ -71,7 +71,7 @@ some_of_shape Series cs ps shape = let b : 2 ≤ count cs = shape.enough in omeg
 some_of_shape Order cs ps shape = let b : 2 ≤ count cs = shape.enough in omega arith
 some_of_shape Prime cs ps shape = let b : 3 ≤ count cs = shape.enough in omega arith
 
-some_child : (k : DKind) (cs : PlainDTrees) (ps : List DPair) → IsCanonicalDNode k cs ps → 1 ≤ count cs
+pub some_child : (k : DKind) (cs : PlainDTrees) (ps : List DPair) → IsCanonicalDNode k cs ps → 1 ≤ count cs
 some_child k cs ps canon = some_of_shape k cs ps canon.shape
 
 module _ (arc : ℕ → ℕ → Bool) where

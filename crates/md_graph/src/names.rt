@@ -174,9 +174,10 @@ impl<const W: usize> Set<W> {
     /// Moves the members that exactly one of `first` and `second` has to `to`. It passes over the
     /// words in use.
     pub fn move_symmetric_difference(&mut self, first: &Set<W>, second: &Set<W>, to: &mut Set<W>)
-        ensures rest { self.new ≡ set.difference self.old (symmetric_difference first.now second.now) }
-        ensures moved { to.new
-            ≡ set.union to.old (set.intersection self.old (symmetric_difference first.now second.now)) }
+        ensures rest { self.new
+            ≡ set.difference self.old (symmetric_difference first.now second.now) }
+        ensures moved { to.new ≡ set.union to.old
+            (set.intersection self.old (symmetric_difference first.now second.now)) }
     {
         let used = words_passed::<W>(self.used);
         move_apart(
@@ -324,6 +325,14 @@ impl<const W: usize> Set<W> {
         are_within(&self.words, &other.words, words_passed::<W>(self.used))
     }
 
+    /// Whether `other` has the same ones of these names.
+    pub fn agrees_on(&self, names: &Set<W>, other: &Set<W>) -> bool
+        ensures exactly { IsTrue result ↔ ((v : ℕ) → Has names.now v
+            → set.contains self.now v ≡ set.contains other.now v) }
+    {
+        names.first_in_symmetric_difference(self, other).is_none()
+    }
+
     /// The members, ascending.
     pub fn members(&self) -> Members<'_>
         ensures list { result ≡ ascending self.now }
@@ -376,7 +385,8 @@ impl<const W: usize> Set<W> {
     pub fn block(&self, first: u32) -> u64
         requires name { first < 64 * W }
         requires aligned { first % 64 ≡ 0 }
-        ensures bits { (k : ℕ) → k < 64 → set.contains self.now (first + k) ≡ (bit_at result k == 1) }
+        ensures bits { (k : ℕ) → k < 64
+            → set.contains self.now (first + k) ≡ (bit_at result k == 1) }
     {
         self.words[first as usize / 64]
     }

@@ -3,8 +3,8 @@
 /// What is wrong with a line. A line's first fault is named. In a graph6 line the order is: another
 /// format, a bad byte, a size that isn't all there, a size that is spelt too long, too many
 /// vertices, too few bytes, too many bytes, padding that isn't zero. In a sparse6 line it is: a bad
-/// byte, a size that isn't all there, a size that is spelt too long, too many vertices, a loop. In a
-/// digraph6 line it is that of a graph6 line, with a loop before the padding.
+/// byte, a size that isn't all there, a size that is spelt too long, too many vertices, a loop. In
+/// a digraph6 line it is that of a graph6 line, with a loop before the padding.
 #[derive(Clone, Copy, Debug, PartialEq, Eq)]
 pub enum G6Kind {
     /// A byte is below 63 or above 126.

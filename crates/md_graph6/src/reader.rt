@@ -89,9 +89,9 @@ impl<'a> Lines<'a> {
     }
 }
 
-// The number of vertices of the first line that isn't empty; 0 where there is none. The lines before
-// it have no bytes but those that end them. A size of one byte, which most lines have, is told from
-// all else in one test.
+// The number of vertices of the first line that isn't empty; 0 where there is none. The lines
+// before it have no bytes but those that end them. A size of one byte, which most lines have, is
+// told from all else in one test.
 fn first_bound(text: &[u8]) -> u32
     requires { HasNoFault (stripped_lines text.now) }
     ensures { IsFirstBound result (graphs_in text.now) }

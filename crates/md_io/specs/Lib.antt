@@ -1,6 +1,7 @@
 pub mod Told
 pub mod Count
 pub mod Front
+pub mod Gives
 pub mod Asked
 pub mod MemFiles
 pub mod MemSink

@@ -13,6 +13,7 @@ ghost use Rattle.md_io.specs.declared.PutFault.{PutFault};
 ghost use Rattle.md_io.specs.Told.{Told, IsToldAs, IsToldLonger, IsToldFile};
 ghost use Rattle.md_io.specs.Count.{count_up, Rose, RoseBy};
 ghost use Rattle.md_io.specs.Front.{AppendsFront, Begins};
+ghost use Rattle.md_io.specs.Gives.{LoadRelation, PutRelation, FlushRelation};
 
 use std::alloc::Global;
 use thiserror::Error;
@@ -86,7 +87,7 @@ pub trait Files {
     ghost sure: { Self → Bool };
 
     // What else is known of a load at this type: before, the name, the limit, the answer, after.
-    ghost load_gives: { Self → List ℕ → ℕ → Result (Vec ℕ Global) LoadFault → Self → Type 0 } = { λ _ _ _ _ _. Unit {0} };
+    ghost load_gives: { LoadRelation Self } = { λ _ _ _ _ _. Unit {0} };
 
     /// Reads the whole file of a name, or refuses it where it has more than `limit` bytes.
     ///
@@ -157,10 +158,10 @@ pub trait Sink {
     ghost broken: { Self → Bool };
 
     // What else is known of a put at this type: before, the piece, the answer, after.
-    ghost put_gives: { Self → List ℕ → Result (Unit {0}) PutFault → Self → Type 0 } = { λ _ _ _ _. Unit {0} };
+    ghost put_gives: { PutRelation Self } = { λ _ _ _ _. Unit {0} };
 
     // What else is known of a flush at this type: before, the answer, after.
-    ghost flush_gives: { Self → Result (Unit {0}) PutFault → Self → Type 0 } = { λ _ _ _. Unit {0} };
+    ghost flush_gives: { FlushRelation Self } = { λ _ _ _. Unit {0} };
 
     /// Takes a whole piece, or as much of it as goes before the device fails.
     ///

@@ -81,8 +81,8 @@ fn read_at<T: Read>(reader: &mut T, buffer: &mut [u8], at: usize) -> Option<usiz
     read_once(reader, &mut buffer[at..])
 }
 
-// Appends at most `most` bytes of one read, and at most one byte more than the limit in all. Room is
-// made first, so that want of memory loses no byte.
+// Appends at most `most` bytes of one read, and at most one byte more than the limit in all. Room
+// is made first, so that want of memory loses no byte.
 fn read_piece<T: Read>(
     reader: &mut T,
     bytes: &mut Vec<u8>,

@@ -1,5 +1,5 @@
 -- A node over the trees that its children have grown to is a tree of the graph afterwards.
-use Rattle.std.proofs.Common.{◌≡◌, ◌≢◌, ◌⊎◌, ◌↔◌, ℕ, zero, suc, ◌<◌, Bool, true, false, ◌||◌, List, [], ◌∷◌, ◌++◌, Contains, refl, sym, ◌∙◌, ap, subst, inl, inr}
+use Rattle.std.proofs.Common.{◌≡◌, ◌≢◌, ◌↔◌, ℕ, zero, suc, ◌<◌, Bool, true, false, ◌||◌, List, [], ◌∷◌, ◌++◌, refl, sym, ◌∙◌, ap, subst, inl, inr}
 use Rattle.std.specs.Prelude.{⊤}
 use Rattle.std.proofs.lemmas.Bool.{cases_Bool, false_from_ne_true, false≢true}
 use Rattle.std.proofs.lemmas.List.Sorted.{Contains-permutation, IsPermutation-sym}
@@ -22,13 +22,13 @@ use Rattle.md_tree.specs.Trees.{PlainTree, leaf, node, PlainTrees, no_tree, one_
 use Rattle.md_tree.specs.Parts.{listed, below_node}
 use Rattle.md_tree.specs.StrongTrees.{HasKind, IsInOrder, IsBefore, AreTreesJoined, ListsJoined, HasPairs, IsTreeOf}
 use Rattle.md_tree.specs.WellFormed.{AreDisjoint}
-use Rattle.md_tree.proofs.Nodes.{IsChild, child_inside, child_of_name, child_at, at_apart, at_inside}
+use Rattle.md_tree.proofs.Nodes.{IsChild, child_inside, child_of_name, child_at, at_apart, at_inside, each_child}
 use Rattle.md_tree.proofs.Built.{IsBuilt, IsChildSet, children_maximal}
 use Rattle.md_tree.proofs.Kinded.{apart_of, built_tree, same_tree}
 use Rattle.md_tree.proofs.GraphKinds.{two_of_kind, one_kind, kinds_of_graphs}
 use Rattle.md_tree.proofs.Folding.{row_listed}
-use Rattle.md_local.specs.Changes.{AgreeOff, IsMerged}
-use Rattle.md_local.specs.Growing.{is_merged, in_place_of, all_in_place, AreOrdered, IsJoined}
+use Rattle.md_local.specs.Changes.{AgreeOff, MergesIntoParent}
+use Rattle.md_local.specs.Growing.{is_merged, in_place_of, all_in_place, AreOrdered}
 use Rattle.md_local.proofs.Transfer.{agree_right}
 use Rattle.md_local.proofs.Staying.{parent_is, other_stays, child_stays, below_comes, of_children, children_stay, kind_stays}
 use Rattle.md_local.proofs.Ordering.{child_of_in, in_of_child, head_least, place_merged, place_kept, places_apart, in_order}
@@ -116,11 +116,6 @@ prime_keeps [] = refl
 prime_keeps (leaf v ∷ gs) = prime_keeps gs
 prime_keeps (node k cs ps ∷ gs) = prime_keeps gs
 
-each_in : (N : Kind → PlainTrees → List Pair → Type 0) (cs : PlainTrees) (c : PlainTree) → EachNodeBelow N cs → IsChild cs c → EachNode N c
-each_in N no_tree c each i = absurd i
-each_in N (one_more t cs) c each (inl e) = subst (EachNode N) (sym e) each.0
-each_in N (one_more t cs) c each (inr i) = each_in N cs c each.1 i
-
 each_row : (N : Kind → PlainTrees → List Pair → Type 0) (ts : List PlainTree) → ((t : PlainTree) → In ts t → EachNode N t) → EachNodeBelow N (row ts)
 each_row N [] all = tt
 each_row N (t ∷ ts) all = (all t (inl refl), each_row N ts (λ u i. all u (inr i)))
@@ -131,7 +126,7 @@ only_in g t (inr i) = absurd i
 
 each_below : (N : Kind → PlainTrees → List Pair → Type 0) (g t : PlainTree) → EachNode N g → In (below_node g) t → EachNode N t
 each_below N (leaf v) t each i = absurd i
-each_below N (node k cs ps) t each i = each_in N cs t each.1 (subst (λ ts. IsChild ts t) (row_listed cs) (child_of_in (listed cs) t i))
+each_below N (node k cs ps) t each i = each_child N cs t each.1 (subst (λ ts. IsChild ts t) (row_listed cs) (child_of_in (listed cs) t i))
 
 -- the children of a node that is built have no name in common
 apart_below : {f : ℕ → ℕ → Bool} → IsAdjacency f → (t : PlainTree) → EachNode (IsBuilt f) t → AreDisjoint (row (below_node t))
@@ -223,7 +218,7 @@ module _ {e f : ℕ → ℕ → Bool} (ae : IsAdjacency e) (af : IsAdjacency f) 
   ]
 
   -- and it is merged where the law of local changes says so
-  unmerged : is_merged k of_d.0 ≡ false → IsMerged e f (names_below cs) (names d) → ⊥
+  unmerged : is_merged k of_d.0 ≡ false → MergesIntoParent e f (names_below cs) (names d) → ⊥
   unmerged fails (q, v, a, b, parent, split, part) =
       let whole : IsSplit e (names_below cs) a v = subst (λ t. IsSplit e t a v) (parent_is (names_below cs) (names d) q (maximal d place) parent) split in
       let kind : k ≡ kind_of v = one_kind (undirected ae) (names_below cs) k (kind_of v) each.0.node_of.kind (split_kind e (names_below cs) a v whole) in

@@ -13,7 +13,7 @@ use Rattle.md_modules.proofs.Modules.{other_way, decide_overlap, module_inside, 
 use Rattle.md_modules.proofs.Strong.{apart_or_nested, nested_if_meet, strong_inside, strong_of_strong, in_child, parent_of}
 use Rattle.md_modules.proofs.Splits.{decide_split, split_closed, split_rest, split_reverses, unsplit_within, child_segment, child_unsplit, split_children}
 use Rattle.md_modules.proofs.Children.{child_maximal}
-use Rattle.md_local.specs.Changes.{AgreeOff, AgreeBut, IsLeastStrong, IsMerged, IsLocalChange, ChangesStayLocal, EdgeEditsStayLocal}
+use Rattle.md_local.specs.Changes.{AgreeOff, AgreeBut, IsLeastStrong, MergesIntoParent, IsLocalChange, ChangesStayLocal, EdgeEditsStayLocal}
 use Rattle.md_local.proofs.Transfer.{agree_back, agree_within, agree_right, transfer, transfer_itself}
 
 -- ---- one colouring
@@ -174,7 +174,7 @@ module _ {C : Type 0} {reverse : C → C} {f : ℕ → ℕ → C} (cf : IsColour
 
 module _ {C : Type 0} {reverse : C → C} {e f : ℕ → ℕ → C} (ce : IsColouring reverse e) (cf : IsColouring reverse f) (told : AreTold C) where
   -- where a module of f overlaps c, this is merged
-  merged_if_crossed : (s c k : NameSet) → AgreeOff e f s c → IsStrong e s c → IsModule f s k → Overlap k c → IsMerged e f s c
+  merged_if_crossed : (s c k : NameSet) → AgreeOff e f s c → IsStrong e s c → IsModule f s k → Overlap k c → MergesIntoParent e f s c
   merged_if_crossed s c k agree is module_is over =
       elim (outside_or_within q (union k c)) [
         | inr w ↦ (q, e x (y w), c, difference c k, parent, whole_split w, part_split (y w) (ky w) (ly w))
@@ -252,7 +252,7 @@ module _ {C : Type 0} {reverse : C → C} {e f : ℕ → ℕ → C} (ce : IsColo
       }
 
       -- else it has a larger module than c, and splits
-      merged_below : (z : ℕ) × Has q z × Lacks (union k c) z → Within (union k c) q → IsMerged e f s c
+      merged_below : (z : ℕ) × Has q z × Lacks (union k c) z → Within (union k c) q → MergesIntoParent e f s c
       merged_below rest w =
           let z : ℕ = over.left.0 in
           let hq : Has q z = w z (union_left k c z over.left.1) in
@@ -278,7 +278,7 @@ module _ {C : Type 0} {reverse : C → C} {e f : ℕ → ℕ → C} (ce : IsColo
       across p r hp hr l (inr w) = sym (agree_right ce cf s c agree p r (split.inside p hp) hr (lacks_within c a w r l)) ∙ split.across p r hp hr l
 
   -- and where it is merged, it isn't strong
-  merged_goes : (s c : NameSet) → AgreeOff e f s c → IsStrong e s c → IsMerged e f s c → IsStrong f s c → ⊥
+  merged_goes : (s c : NameSet) → AgreeOff e f s c → IsStrong e s c → MergesIntoParent e f s c → IsStrong f s c → ⊥
   merged_goes s c agree is (q, v, a, b, parent, split, part) strong =
       elim (larger_or_same c d.0 d.2) [
         | inr equal ↦ ((split_children cf told q a v split_after).unsplit d.0 b d.1).0 (subst (λ t. IsSplit f t b v) equal part)
@@ -327,7 +327,7 @@ module _ {C : Type 0} {reverse : C → C} {e f : ℕ → ℕ → C} (ce : IsColo
     turned k over = record { meet = (over.meet.0, over.meet.2, over.meet.1); left = over.right; right = over.left }
 
   edge_edit : (s : NameSet) (u v : ℕ) → AgreeBut e f u v → (w : NameSet) → IsLeastStrong e s u v w → (m : NameSet) →
-      IsStrong f s m ↔ (((IsStrong e s m × (Proper m w → ⊥)) ⊎ IsStrong f w m) × ((m ≡ w) × IsMerged e f s w → ⊥))
+      IsStrong f s m ↔ (((IsStrong e s m × (Proper m w → ⊥)) ⊎ IsStrong f w m) × ((m ≡ w) × MergesIntoParent e f s w → ⊥))
   edge_edit s u v but w least m = (
     λ strong. (there strong, λ merged. local.itself.0 (subst (IsStrong f s) merged.0 strong) merged.1),
     λ found. elim (decide_same m w) [

@@ -1,26 +1,25 @@
 -- Trees that have no name in common and stand in the order of their first leaves are in order.
-use Rattle.std.proofs.Common.{◌≡◌, ◌≢◌, ℕ, zero, suc, ◌+◌, ◌<◌, ◌≤◌, Bool, true, false, cond, List, [], ◌∷◌, ◌++◌, length, get_or, Contains, refl, sym, ◌∙◌, ap, subst, inl, inr, arith}
-use Rattle.std.specs.Prelude.{⊤}
-use Rattle.std.proofs.lemmas.Bool.{cases_Bool, false_from_ne_true, false≢true}
+use Rattle.std.proofs.Common.{◌≡◌, ◌≢◌, ℕ, suc, ◌≤◌, Bool, true, false, cond, List, [], ◌∷◌, Contains, refl, ap, subst, inl, inr, arith}
+use Rattle.std.proofs.lemmas.Bool.{cases_Bool, false≢true}
 use Rattle.std.proofs.lemmas.List.Sums.{sum_by-cons, sum_by-append}
 use Rattle.std.proofs.lemmas.List.Sorted.{sum_by-IsPermutation, IsNonDecreasingBy-drop}
 use Rattle.std.specs.FinSet.{contains, empty}
 use Rattle.std.specs.List.{sum_by}
 use Rattle.std.specs.List.Sorted.{IsPermutation, IsNonDecreasingBy}
-use Rattle.md_graph.specs.Sets.{NameSet, Has, Lacks}
-use Rattle.md_graph.proofs.SetLemmas.{clash, of_only, only_has, of_union, union_left, union_right, empty_lacks}
+use Rattle.md_graph.specs.Sets.{Has, Lacks}
+use Rattle.md_graph.proofs.SetLemmas.{clash, of_only, only_has, of_union, union_left, empty_lacks}
 use Rattle.md_text.proofs.Lists.{In, to_contains}
 use Rattle.md_tree.specs.declared.Kind.{Kind}
-use Rattle.md_tree.specs.declared.Pair.{Pair}
-use Rattle.md_tree.specs.Trees.{PlainTree, leaf, node, PlainTrees, no_tree, one_more, names, names_below, row, EachNode}
+use Rattle.md_tree.specs.Trees.{PlainTree, leaf, node, no_tree, one_more, names, names_below, row, EachNode}
 use Rattle.md_tree.specs.Heads.{head}
 use Rattle.md_tree.specs.Held.{IsLeast}
-use Rattle.md_tree.specs.Parts.{listed, below_node}
+use Rattle.md_tree.specs.Parts.{below_node}
 use Rattle.md_tree.specs.StrongTrees.{IsInOrder}
 use Rattle.md_tree.specs.WellFormed.{AreDisjoint}
 use Rattle.md_tree.proofs.Nodes.{IsChild, child_of_name}
 use Rattle.md_tree.proofs.Built.{IsBuilt}
 use Rattle.md_tree.proofs.GraphKinds.{two_of_kind}
+use Rattle.md_tree.proofs.Apart.{one_if, one_has, one_lacks, row_lacks, apart_once, once_apart}
 use Rattle.md_tree.proofs.Folding.{row_listed}
 use Rattle.md_local.specs.Growing.{is_merged, in_place_of, all_in_place}
 
@@ -52,51 +51,6 @@ head_least e (node k (one_more t ts) ps) each =
         | inr j ↦ let a = least.first before.0 before.1 in let b = before.2 x j in omega arith
       ];
     }
-
--- ---- names apart
-
--- 1 where the tree has the name, else 0
-abbrev one_if : ℕ → PlainTree → ℕ
-one_if v t = cond (contains (names t) v) 1 0
-
-one_has : (v : ℕ) (t : PlainTree) → Has (names t) v → one_if v t ≡ 1
-one_has v t h = ap (λ b. cond b 1 0) h
-
-one_lacks : (v : ℕ) (t : PlainTree) → Lacks (names t) v → one_if v t ≡ 0
-one_lacks v t h = ap (λ b. cond b 1 0) h
-
-row_lacks : (ts : List PlainTree) (v : ℕ) → (Has (names_below (row ts)) v → ⊥) → sum_by (one_if v) ts ≡ 0
-row_lacks [] v none = refl
-row_lacks (t ∷ ts) v none =
-    let all = sum_by-cons (one_if v) t ts in
-    let first = one_lacks v t (false_from_ne_true _ (λ h. none (union_left (names t) (names_below (row ts)) v h))) in
-    let rest = row_lacks ts v (λ h. none (union_right (names t) (names_below (row ts)) v h)) in
-    omega arith
-
-row_has : (ts : List PlainTree) (v : ℕ) → Has (names_below (row ts)) v → 0 < sum_by (one_if v) ts
-row_has [] v h = absurd (clash h (empty_lacks v))
-row_has (t ∷ ts) v h =
-    let all = sum_by-cons (one_if v) t ts in
-    elim (of_union (names t) (names_below (row ts)) v h) [
-      | inl here ↦ let one = one_has v t here in omega arith
-      | inr there ↦ let rest = row_has ts v there in omega arith
-    ]
-
-apart_once : (ts : List PlainTree) → AreDisjoint (row ts) → (v : ℕ) → sum_by (one_if v) ts ≤ 1
-apart_once [] apart v = omega arith
-apart_once (t ∷ ts) apart v =
-    let all = sum_by-cons (one_if v) t ts in
-    elim (cases_Bool (contains (names t) v)) [
-      | inl h ↦ let one = one_has v t h in let rest = row_lacks ts v (λ k. clash k (apart.0 v h)) in omega arith
-      | inr l ↦ let none = one_lacks v t l in let rest = apart_once ts apart.1 v in omega arith
-    ]
-
-once_apart : (ts : List PlainTree) → ((v : ℕ) → sum_by (one_if v) ts ≤ 1) → AreDisjoint (row ts)
-once_apart [] once = tt
-once_apart (t ∷ ts) once = (
-  λ v h. false_from_ne_true _ (λ k. let all = sum_by-cons (one_if v) t ts in let one = one_has v t h in let some = row_has ts v k in let low = once v in absurd (omega arith)),
-  once_apart ts (λ v. let all = sum_by-cons (one_if v) t ts in let low = once v in omega arith),
-)
 
 -- ---- what stands in place of trees
 

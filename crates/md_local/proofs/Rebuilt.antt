@@ -21,7 +21,7 @@ use Rattle.md_tree.proofs.Built.{tree_names}
 use Rattle.md_local.specs.declared.growing.Grown.{Grown}
 use Rattle.md_local.specs.Changes.{IsLeastStrong}
 use Rattle.md_local.specs.Edits.{IsEdited}
-use Rattle.md_local.specs.Growing.{own_steps, names_between, IsOld, IsGrown, AreGrown}
+use Rattle.md_local.specs.Growing.{own_steps, names_between, IsOld, IsGrownFrom, AreGrownFrom}
 use Rattle.md_local.proofs.Between.{between_least}
 use Rattle.md_local.proofs.Nested.{children_last, node_last, alone_last}
 
@@ -33,31 +33,31 @@ plain_last nodes left r pop = ap (map plain_at) pop ∙ map-append plain_at left
 module _ (g : PlainGraph) (u v : ℕ) (t : PlainTree) where
   -- the trees of the nodes that have been looked at, and what grew of them
   abbrev pub IsStack : List PlainTree → List Grown → Type 0
-  IsStack left xs = (ts : List PlainTree) × (left ++ row_nodes_backward (row ts) ≡ nodes_backward t) × AreGrown g u v ts xs
+  IsStack left xs = (ts : List PlainTree) × (left ++ row_nodes_backward (row ts) ≡ nodes_backward t) × AreGrownFrom g u v ts xs
 
   pub stack_begin : (left : List PlainTree) (xs : List Grown) → left ≡ nodes_backward t → xs ≡ [] → IsStack left xs
-  stack_begin left xs are none = ([], append-nil left ∙ are, subst (AreGrown g u v []) (sym none) tt)
+  stack_begin left xs are none = ([], append-nil left ∙ are, subst (AreGrownFrom g u v []) (sym none) tt)
 
-  pub stack_below : (left ps : List PlainTree) (p : PlainTree) (xs : List Grown) → IsStack left xs → left ≡ ps ++ p ∷ [] → (us : List PlainTree) × AreGrown g u v (us ++ below_node p) xs
+  pub stack_below : (left ps : List PlainTree) (p : PlainTree) (xs : List Grown) → IsStack left xs → left ≡ ps ++ p ∷ [] → (us : List PlainTree) × AreGrownFrom g u v (us ++ below_node p) xs
   stack_below left ps p xs is pop =
       let us : (us : List PlainTree) × (is.0 ≡ us ++ below_node p) = children_last t left ps p is.0 is.1 pop in
-      (us.0, subst (λ ts. AreGrown g u v ts xs) us.1 is.2)
+      (us.0, subst (λ ts. AreGrownFrom g u v ts xs) us.1 is.2)
 
   pub stack_more : (left ps : List PlainTree) (p : PlainTree) (xs ys : List Grown) → IsStack left xs → left ≡ ps ++ p ∷ [] →
-      ((us : List PlainTree) → AreGrown g u v (us ++ below_node p) xs → AreGrown g u v (us ++ p ∷ []) ys) → IsStack ps ys
+      ((us : List PlainTree) → AreGrownFrom g u v (us ++ below_node p) xs → AreGrownFrom g u v (us ++ p ∷ []) ys) → IsStack ps ys
   stack_more left ps p xs ys is pop turned =
       let us : (us : List PlainTree) × (is.0 ≡ us ++ below_node p) = children_last t left ps p is.0 is.1 pop in
-      (us.0 ++ p ∷ [], node_last t left ps p is.0 us.0 is.1 pop us.1, turned us.0 (subst (λ ts. AreGrown g u v ts xs) us.1 is.2))
+      (us.0 ++ p ∷ [], node_last t left ps p is.0 us.0 is.1 pop us.1, turned us.0 (subst (λ ts. AreGrownFrom g u v ts xs) us.1 is.2))
 
-  stack_end : (left : List PlainTree) (xs : List Grown) → IsStack left xs → left ≡ [] → AreGrown g u v (t ∷ []) xs
-  stack_end left xs is none = subst (λ ts. AreGrown g u v ts xs) (alone_last t left is.0 is.1 none) is.2
+  stack_end : (left : List PlainTree) (xs : List Grown) → IsStack left xs → left ≡ [] → AreGrownFrom g u v (t ∷ []) xs
+  stack_end left xs is none = subst (λ ts. AreGrownFrom g u v ts xs) (alone_last t left is.0 is.1 none) is.2
 
   pub stack_some : (left : List PlainTree) (xs : List Grown) → IsStack left xs → left ≡ [] → xs ≡ [] → ⊥
-  stack_some left xs is none empty = subst (AreGrown g u v (t ∷ [])) empty (stack_end left xs is none)
+  stack_some left xs is none empty = subst (AreGrownFrom g u v (t ∷ [])) empty (stack_end left xs is none)
 
-  only_grown : (xs rest : List Grown) (x : Grown) → AreGrown g u v (t ∷ []) xs → xs ≡ rest ++ x ∷ [] → IsGrown g u v t x
+  only_grown : (xs rest : List Grown) (x : Grown) → AreGrownFrom g u v (t ∷ []) xs → xs ≡ rest ++ x ∷ [] → IsGrownFrom g u v t x
   only_grown [] rest x are top = absurd are
-  only_grown (y ∷ []) [] x are top = let h : y ∷ [] ≡ x ∷ [] = top in let same : y ≡ x = cc in subst (IsGrown g u v t) same are.0
+  only_grown (y ∷ []) [] x are top = let h : y ∷ [] ≡ x ∷ [] = top in let same : y ≡ x = cc in subst (IsGrownFrom g u v t) same are.0
   only_grown (y ∷ []) (z ∷ rest) x are top = let long = ap length top in let both = length-append rest (x ∷ []) in absurd (omega arith)
   only_grown (y ∷ z ∷ xs) rest x are top = absurd are.1
 

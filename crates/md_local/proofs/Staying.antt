@@ -14,7 +14,7 @@ use Rattle.md_modules.proofs.Splits.{child_unsplit}
 use Rattle.md_tree.specs.declared.Kind.{Kind}
 use Rattle.md_tree.specs.declared.Kind.TheVariants.{Parallel, Series, Prime}
 use Rattle.md_tree.specs.StrongTrees.{HasKind}
-use Rattle.md_local.specs.Changes.{AgreeOff, IsMerged, IsLocalChange}
+use Rattle.md_local.specs.Changes.{AgreeOff, MergesIntoParent, IsLocalChange}
 use Rattle.md_local.proofs.Transfer.{agree_back}
 use Rattle.md_local.proofs.Local.{local_change, split_stays}
 
@@ -62,7 +62,7 @@ module _ {C : Type 0} {reverse : C → C} {e f : ℕ → ℕ → C} (ce : IsColo
     lx = false_from_ne_true _ (λ h. differs (children_meet s m d x is child hx h))
 
   -- the child itself, where it isn't merged
-  pub child_stays : (IsMerged e f s d → ⊥) → IsMaximalStrong f s d
+  pub child_stays : (MergesIntoParent e f s d → ⊥) → IsMaximalStrong f s d
   child_stays none = record {
     is_strong = changed.itself.1 none;
     proper = child.proper;
@@ -72,14 +72,14 @@ module _ {C : Type 0} {reverse : C → C} {e f : ℕ → ℕ → C} (ce : IsColo
     ];
   }
 
-  pub each_stays : (IsMerged e f s d → ⊥) → (m : NameSet) → IsMaximalStrong e s m → IsMaximalStrong f s m
+  pub each_stays : (MergesIntoParent e f s d → ⊥) → (m : NameSet) → IsMaximalStrong e s m → IsMaximalStrong f s m
   each_stays none m is = elim (decide_same m d) [
     | inl same ↦ subst (IsMaximalStrong f s) (sym same) (child_stays none)
     | inr differs ↦ other_stays m is differs
   ]
 
   -- a split before that isn't one of the child is one with its parent
-  not_merged_back : (IsMerged e f s d → ⊥) → IsMerged f e s d → ⊥
+  not_merged_back : (MergesIntoParent e f s d → ⊥) → MergesIntoParent f e s d → ⊥
   not_merged_back none (q, v, a, b, parent, split, part) =
       let same : q ≡ s = parent_is s d q (child_stays none) parent in
       child_unsplit ce told s d a v (split_stays cf ce told s d a v (agree_back s d agree) (child_stays none) (subst (λ t. IsSplit f t a v) same split)) child b part
@@ -136,14 +136,14 @@ module _ {C : Type 0} {reverse : C → C} {e f : ℕ → ℕ → C} (ce : IsColo
 
 -- the children are the same where none is merged
 pub children_stay : {C : Type 0} {reverse : C → C} {e f : ℕ → ℕ → C} → IsColouring reverse e → IsColouring reverse f → AreTold C → (s d : NameSet) → AgreeOff e f s d →
-    IsMaximalStrong e s d → (IsMerged e f s d → ⊥) → (m : NameSet) → IsMaximalStrong f s m → IsMaximalStrong e s m
+    IsMaximalStrong e s d → (MergesIntoParent e f s d → ⊥) → (m : NameSet) → IsMaximalStrong f s m → IsMaximalStrong e s m
 children_stay ce cf told s d agree child none m max =
     each_stays cf ce told s d (agree_back s d agree) (child_stays ce cf told s d agree child none) (not_merged_back ce cf told s d agree child none) m max
 
 -- ---- the kind
 
 module _ {e f : ℕ → ℕ → Bool} (ae : IsAdjacency e) (af : IsAdjacency f) (s d : NameSet) (agree : AgreeOff e f s d) (child : IsMaximalStrong e s d) where
-  pub prime_unmerged : HasKind e s Prime → IsMerged e f s d → ⊥
+  pub prime_unmerged : HasKind e s Prime → MergesIntoParent e f s d → ⊥
   prime_unmerged prime (q, v, a, b, parent, split, part) = elim (decide_test v true) [
     | inl same ↦ prime.co_connected (a, subst (IsSplit e s a) same here)
     | inr differs ↦ prime.connected (a, subst (IsSplit e s a) (false_from_ne_true v differs) here)

@@ -25,51 +25,51 @@ use Rattle.md_tree.proofs.GraphKinds.{two_of_kind, kinds_of_graphs}
 use Rattle.md_tree.proofs.Folding.{row_listed}
 use Rattle.md_local.specs.declared.growing.Grown.{Grown}
 use Rattle.md_local.specs.Changes.{AgreeOff}
-use Rattle.md_local.specs.Growing.{holds_both, some_holds_both, have_apart, own_steps, IsOld, IsGrown, AreGrown, are_apart, IsJoined}
+use Rattle.md_local.specs.Growing.{holds_both, some_holds_both, have_apart, own_steps, IsOld, IsGrownFrom, AreGrownFrom, are_apart, IsJoined}
 use Rattle.md_local.proofs.Joining.{AreTrees, joined_tree}
 use Rattle.md_local.proofs.Placing.{or_false}
 
 -- ---- what has grown, in two lists
 
 module _ (g : PlainGraph) (u v : ℕ) where
-  pub grown_length : (ts : List PlainTree) (xs : List Grown) → AreGrown g u v ts xs → length xs ≡ length ts
+  pub grown_length : (ts : List PlainTree) (xs : List Grown) → AreGrownFrom g u v ts xs → length xs ≡ length ts
   grown_length [] [] are = refl
   grown_length [] (x ∷ xs) are = absurd are
   grown_length (t ∷ ts) [] are = absurd are
   grown_length (t ∷ ts) (x ∷ xs) are = ap (λ n. suc n) (grown_length ts xs are.1)
 
-  pub grown_front : (us bs : List PlainTree) (xs : List Grown) → AreGrown g u v (us ++ bs) xs → AreGrown g u v us (take (length us) xs)
+  pub grown_front : (us bs : List PlainTree) (xs : List Grown) → AreGrownFrom g u v (us ++ bs) xs → AreGrownFrom g u v us (take (length us) xs)
   grown_front [] bs xs are = tt
   grown_front (t ∷ us) bs [] are = absurd are
   grown_front (t ∷ us) bs (x ∷ xs) are = (are.0, grown_front us bs xs are.1)
 
-  pub grown_back : (us bs : List PlainTree) (xs : List Grown) → AreGrown g u v (us ++ bs) xs → AreGrown g u v bs (drop (length us) xs)
+  pub grown_back : (us bs : List PlainTree) (xs : List Grown) → AreGrownFrom g u v (us ++ bs) xs → AreGrownFrom g u v bs (drop (length us) xs)
   grown_back [] bs xs are = are
   grown_back (t ∷ us) bs [] are = absurd are
   grown_back (t ∷ us) bs (x ∷ xs) are = grown_back us bs xs are.1
 
-  pub grown_more : (us : List PlainTree) (xs : List Grown) (t : PlainTree) (x : Grown) → AreGrown g u v us xs → IsGrown g u v t x → AreGrown g u v (us ++ t ∷ []) (xs ++ x ∷ [])
+  pub grown_more : (us : List PlainTree) (xs : List Grown) (t : PlainTree) (x : Grown) → AreGrownFrom g u v us xs → IsGrownFrom g u v t x → AreGrownFrom g u v (us ++ t ∷ []) (xs ++ x ∷ [])
   grown_more [] [] t x are is = (is, tt)
   grown_more [] (y ∷ xs) t x are is = absurd are
   grown_more (s ∷ us) [] t x are is = absurd are
   grown_more (s ∷ us) (y ∷ xs) t x are is = (are.0, grown_more us xs t x are.1 is)
 
   -- the flags of a node are those of its children
-  pub any_left : (ts : List PlainTree) (xs : List Grown) → AreGrown g u v ts xs → list_any (λ x. x.left) xs ≡ contains (names_below (row ts)) u
+  pub any_left : (ts : List PlainTree) (xs : List Grown) → AreGrownFrom g u v ts xs → list_any (λ x. x.left) xs ≡ contains (names_below (row ts)) u
   any_left [] [] are = sym (contains-empty u)
   any_left [] (x ∷ xs) are = absurd are
   any_left (t ∷ ts) [] are = absurd are
   any_left (t ∷ ts) (x ∷ xs) are =
       ap (λ b. b || list_any (λ x. x.left) xs) are.0.left ∙ ap (λ b. contains (names t) u || b) (any_left ts xs are.1) ∙ sym (contains-union (names t) (names_below (row ts)) u)
 
-  pub any_right : (ts : List PlainTree) (xs : List Grown) → AreGrown g u v ts xs → list_any (λ x. x.right) xs ≡ contains (names_below (row ts)) v
+  pub any_right : (ts : List PlainTree) (xs : List Grown) → AreGrownFrom g u v ts xs → list_any (λ x. x.right) xs ≡ contains (names_below (row ts)) v
   any_right [] [] are = sym (contains-empty v)
   any_right [] (x ∷ xs) are = absurd are
   any_right (t ∷ ts) [] are = absurd are
   any_right (t ∷ ts) (x ∷ xs) are =
       ap (λ b. b || list_any (λ x. x.right) xs) are.0.right ∙ ap (λ b. contains (names t) v || b) (any_right ts xs are.1) ∙ sym (contains-union (names t) (names_below (row ts)) v)
 
-  pub any_both : (ts : List PlainTree) (xs : List Grown) → AreGrown g u v ts xs → list_any (λ x. x.left && x.right) xs ≡ some_holds_both (row ts) u v
+  pub any_both : (ts : List PlainTree) (xs : List Grown) → AreGrownFrom g u v ts xs → list_any (λ x. x.left && x.right) xs ≡ some_holds_both (row ts) u v
   any_both [] [] are = refl
   any_both [] (x ∷ xs) are = absurd are
   any_both (t ∷ ts) [] are = absurd are
@@ -77,13 +77,13 @@ module _ (g : PlainGraph) (u v : ℕ) where
       ap (λ b. b || list_any (λ x. x.left && x.right) xs) (ap (λ b. b && x.right) are.0.left ∙ ap (λ b. contains (names t) u && b) are.0.right)
       ∙ ap (λ b. (contains (names t) u && contains (names t) v) || b) (any_both ts xs are.1)
 
-  pub apart_flags : (ts : List PlainTree) (xs : List Grown) → AreGrown g u v ts xs → are_apart xs ≡ have_apart (row ts) u v
+  pub apart_flags : (ts : List PlainTree) (xs : List Grown) → AreGrownFrom g u v ts xs → are_apart xs ≡ have_apart (row ts) u v
   apart_flags ts xs are = let a = any_left ts xs are in let b = any_right ts xs are in let c = any_both ts xs are in cc
 
   -- ---- a leaf
 
   pub leaf_grown : (x : ℕ) (grown : Grown) → plain grown.tree ≡ leaf x → grown.left ≡ contains (only_name x) u → grown.right ≡ contains (only_name x) v →
-      IsGrown g u v (leaf x) grown
+      IsGrownFrom g u v (leaf x) grown
   leaf_grown x grown is left right = record {
     left = left;
     right = right;
@@ -105,7 +105,7 @@ module _ (g : PlainGraph) (u v : ℕ) where
   }
 
   trees_grown : (e : ℕ → ℕ → Bool) (k : Kind) (cs : PlainTrees) (ps : List Pair) → IsOld g u v e (node k cs ps) → (ts : PlainTrees) (xs : List Grown) → ((c : PlainTree) → IsChild ts c → IsChild cs c) →
-      EachNodeBelow (IsBuilt e) ts → AreGrown g u v (listed ts) xs → AreTrees (adjacent g) ts (map (λ (x : Grown). plain x.tree) xs)
+      EachNodeBelow (IsBuilt e) ts → AreGrownFrom g u v (listed ts) xs → AreTrees (adjacent g) ts (map (λ (x : Grown). plain x.tree) xs)
   trees_grown e k cs ps old no_tree [] among each are = tt
   trees_grown e k cs ps old no_tree (x ∷ xs) among each are = absurd are
   trees_grown e k cs ps old (one_more t ts) [] among each are = absurd are
@@ -147,7 +147,7 @@ module _ (g : PlainGraph) (u v : ℕ) where
         )
   ]
 
-  pub joined_grown : (k : Kind) (cs : PlainTrees) (ps : List Pair) (xs : List Grown) (t : PlainTree) → AreGrown g u v (listed cs) xs → have_apart cs u v ≡ false →
+  pub joined_grown : (k : Kind) (cs : PlainTrees) (ps : List Pair) (xs : List Grown) (t : PlainTree) → AreGrownFrom g u v (listed cs) xs → have_apart cs u v ≡ false →
       IsJoined k ps (map (λ (x : Grown). plain x.tree) xs) t → (e : ℕ → ℕ → Bool) → IsOld g u v e (node k cs ps) → IsTreeOf (adjacent g) (names_below cs) t
   joined_grown k cs ps xs t are none joined e old =
       let each : EachNode (IsBuilt e) (node k cs ps) = tree_built (names_below cs) (node k cs ps) old.tree in
@@ -162,9 +162,9 @@ module _ (g : PlainGraph) (u v : ℕ) where
 
   -- ---- a node of the old tree
 
-  module _ (p : PlainTree) (k : Kind) (cs : PlainTrees) (ps : List Pair) (is : p ≡ node k cs ps) (xs : List Grown) (below : AreGrown g u v (below_node p) xs) where
-    children : AreGrown g u v (listed cs) xs
-    children = subst (λ q. AreGrown g u v (below_node q) xs) is below
+  module _ (p : PlainTree) (k : Kind) (cs : PlainTrees) (ps : List Pair) (is : p ≡ node k cs ps) (xs : List Grown) (below : AreGrownFrom g u v (below_node p) xs) where
+    children : AreGrownFrom g u v (listed cs) xs
+    children = subst (λ q. AreGrownFrom g u v (below_node q) xs) is below
 
     left_is : list_any (λ x. x.left) xs ≡ contains (names p) u
     left_is = any_left (listed cs) xs children ∙ ap (λ ts. contains (names_below ts) u) (row_listed cs) ∙ sym (ap (λ q. contains (names q) u) is)
@@ -185,7 +185,7 @@ module _ (g : PlainGraph) (u v : ℕ) where
     apart_steps apart = ap (own_steps u v) is ∙ ap (λ b. cond b (len (names_below cs)) 0) (sym apart_is ∙ apart) ∙ sym (ap (λ q. len (names q)) is)
 
     pub node_joined : (x : Grown) → x.left ≡ list_any (λ y. y.left) xs → x.right ≡ list_any (λ y. y.right) xs → are_apart xs ≡ false → IsJoined k ps (map (λ (y : Grown). plain y.tree) xs) (plain x.tree) →
-        IsGrown g u v p x
+        IsGrownFrom g u v p x
     node_joined x l r none joined = record {
       left = l ∙ left_is;
       right = r ∙ right_is;
@@ -194,24 +194,24 @@ module _ (g : PlainGraph) (u v : ℕ) where
           (joined_grown k cs ps xs (plain x.tree) children (sym apart_is ∙ none) joined e (subst (IsOld g u v e) is old));
     }
 
-    pub node_fresh : (x : Grown) → x.left ≡ list_any (λ y. y.left) xs → x.right ≡ list_any (λ y. y.right) xs → IsTreeOf (adjacent g) (intersection g.vertices (names p)) (plain x.tree) → IsGrown g u v p x
+    pub node_fresh : (x : Grown) → x.left ≡ list_any (λ y. y.left) xs → x.right ≡ list_any (λ y. y.right) xs → IsTreeOf (adjacent g) (intersection g.vertices (names p)) (plain x.tree) → IsGrownFrom g u v p x
     node_fresh x l r made = record { left = l ∙ left_is; right = r ∙ right_is; tree = fresh_grown p (plain x.tree) made }
 
   -- ---- the stack
 
-  pub enough : (us bs : List PlainTree) (xs : List Grown) → AreGrown g u v (us ++ bs) xs → (n m : ℕ) → n ≡ length bs → m ≡ length xs → n ≤ m
+  pub enough : (us bs : List PlainTree) (xs : List Grown) → AreGrownFrom g u v (us ++ bs) xs → (n m : ℕ) → n ≡ length bs → m ≡ length xs → n ≤ m
   enough us bs xs are n m number long = let all = grown_length (us ++ bs) xs are in let both = length-append us bs in omega arith
 
-  module _ (us bs : List PlainTree) (xs : List Grown) (are : AreGrown g u v (us ++ bs) xs) (n : ℕ) (below : ℕ) (number : n ≡ length bs) (at : below ≡ length xs - n) where
+  module _ (us bs : List PlainTree) (xs : List Grown) (are : AreGrownFrom g u v (us ++ bs) xs) (n : ℕ) (below : ℕ) (number : n ≡ length bs) (at : below ≡ length xs - n) where
     place_is : below ≡ length us
     place_is = let all = grown_length (us ++ bs) xs are in let long = length-append us bs in omega arith
 
-    pub children_grown : (ys : List Grown) → ys ≡ drop below xs → AreGrown g u v bs ys
-    children_grown ys cut = subst (AreGrown g u v bs) (sym (cut ∙ ap (λ i. drop i xs) place_is)) (grown_back us bs xs are)
+    pub children_grown : (ys : List Grown) → ys ≡ drop below xs → AreGrownFrom g u v bs ys
+    children_grown ys cut = subst (AreGrownFrom g u v bs) (sym (cut ∙ ap (λ i. drop i xs) place_is)) (grown_back us bs xs are)
 
-    pub stack_grown : (ws zs : List Grown) (t : PlainTree) (x : Grown) → ws ≡ take below xs → zs ≡ ws ++ x ∷ [] → IsGrown g u v t x → AreGrown g u v (us ++ t ∷ []) zs
+    pub stack_grown : (ws zs : List Grown) (t : PlainTree) (x : Grown) → ws ≡ take below xs → zs ≡ ws ++ x ∷ [] → IsGrownFrom g u v t x → AreGrownFrom g u v (us ++ t ∷ []) zs
     stack_grown ws zs t x kept push is =
-        subst (AreGrown g u v (us ++ t ∷ [])) (sym (push ∙ ap (λ l. l ++ x ∷ []) (kept ∙ ap (λ i. take i xs) place_is)))
+        subst (AreGrownFrom g u v (us ++ t ∷ [])) (sym (push ∙ ap (λ l. l ++ x ∷ []) (kept ∙ ap (λ i. take i xs) place_is)))
         (grown_more us (take (length us) xs) t x (grown_front us bs xs are) is)
 
   -- ---- a leaf of the old tree
@@ -219,7 +219,7 @@ module _ (g : PlainGraph) (u v : ℕ) where
   contains_only : (x w : ℕ) → eqb x w ≡ contains (only_name x) w
   contains_only x w = same_turned x w ∙ sym (contains-insert empty x w ∙ ap (λ b. (w == x) || b) (contains-empty w) ∙ or_false (w == x))
 
-  pub leaf_node : (t : TreeOf Kind Pair) (x : ℕ) → t ≡ Leaf x → IsGrown g u v (plain t) (record { tree = Leaf x; left = eqb x u; right = eqb x v })
+  pub leaf_node : (t : TreeOf Kind Pair) (x : ℕ) → t ≡ Leaf x → IsGrownFrom g u v (plain t) (record { tree = Leaf x; left = eqb x u; right = eqb x v })
   leaf_node t x is =
-      subst (λ p. IsGrown g u v p (record { tree = Leaf x; left = eqb x u; right = eqb x v })) (sym (plain_is_leaf t x is))
+      subst (λ p. IsGrownFrom g u v p (record { tree = Leaf x; left = eqb x u; right = eqb x v })) (sym (plain_is_leaf t x is))
       (leaf_grown x (record { tree = Leaf x; left = eqb x u; right = eqb x v }) (plain_is_leaf (Leaf x) x refl) (contains_only x u) (contains_only x v))

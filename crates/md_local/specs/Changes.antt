@@ -28,8 +28,8 @@ pub record IsLeastStrong {C : Type 0} (e : ℕ → ℕ → C) (s : NameSet) (u v
 
 -- the exception: c splits with f in the colour in which its parent splits with e, as where both are
 -- parallel, or both series; so c is merged into its parent
-abbrev pub IsMerged : {C : Type 0} → (ℕ → ℕ → C) → (ℕ → ℕ → C) → NameSet → NameSet → Type 0
-IsMerged {C} e f s c =
+abbrev pub MergesIntoParent : {C : Type 0} → (ℕ → ℕ → C) → (ℕ → ℕ → C) → NameSet → NameSet → Type 0
+MergesIntoParent {C} e f s c =
     (q : NameSet) × (v : C) × (a : NameSet) × (b : NameSet) × IsParent e s c q × IsSplit e q a v ×
     IsSplit f c b v
 
@@ -41,7 +41,7 @@ pub record IsLocalChange {C : Type 0} (e f : ℕ → ℕ → C) (s c : NameSet) 
   -- those properly inside c are those of c
   pub inside : (m : NameSet) → Proper m c → IsStrong f s m ↔ IsStrong f c m
   -- c itself is one, but for the exception
-  pub itself : IsStrong f s c ↔ (¬ (IsMerged e f s c))
+  pub itself : IsStrong f s c ↔ (¬ (MergesIntoParent e f s c))
 
 -- a change inside a strong module c leaves the strong modules with a name outside c as they were
 abbrev pub ChangesStayLocal : Type 0 → Type 0
@@ -57,4 +57,4 @@ EdgeEditsStayLocal C =
     (reverse : C → C) (e f : ℕ → ℕ → C) → IsColouring reverse e → IsColouring reverse f →
     AreTold C → (s : NameSet) (u v : ℕ) → AgreeBut e f u v → (w : NameSet) →
     IsLeastStrong e s u v w → (m : NameSet) → IsStrong f s m
-    ↔ (((IsStrong e s m × (¬ (Proper m w))) ⊎ IsStrong f w m) × (¬ ((m ≡ w) × IsMerged e f s w)))
+    ↔ (((IsStrong e s m × (¬ (Proper m w))) ⊎ IsStrong f w m) × (¬ ((m ≡ w) × MergesIntoParent e f s w)))

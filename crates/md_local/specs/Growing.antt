@@ -52,17 +52,17 @@ pub record IsOld (g : PlainGraph) (u v : ℕ) (e : ℕ → ℕ → Bool) (t : Pl
 
 -- what grows of t is told whether t holds u and v, and is the tree of g on the names of t where t
 -- was that of the graph before
-pub record IsGrown (g : PlainGraph) (u v : ℕ) (t : PlainTree) (grown : Grown) : Type 0 where
+pub record IsGrownFrom (g : PlainGraph) (u v : ℕ) (t : PlainTree) (grown : Grown) : Type 0 where
   pub left : grown.left ≡ contains (names t) u
   pub right : grown.right ≡ contains (names t) v
   pub tree : (e : ℕ → ℕ → Bool) → IsOld g u v e t → IsTreeOf (adjacent g) (names t) (plain grown.tree)
 
 -- of each tree the one at its place grows
-abbrev pub AreGrown : PlainGraph → ℕ → ℕ → List PlainTree → List Grown → Type 0
-AreGrown g u v [] [] = ⊤
-AreGrown g u v [] (x ∷ xs) = ⊥
-AreGrown g u v (t ∷ ts) [] = ⊥
-AreGrown g u v (t ∷ ts) (x ∷ xs) = IsGrown g u v t x × AreGrown g u v ts xs
+abbrev pub AreGrownFrom : PlainGraph → ℕ → ℕ → List PlainTree → List Grown → Type 0
+AreGrownFrom g u v [] [] = ⊤
+AreGrownFrom g u v [] (x ∷ xs) = ⊥
+AreGrownFrom g u v (t ∷ ts) [] = ⊥
+AreGrownFrom g u v (t ∷ ts) (x ∷ xs) = IsGrownFrom g u v t x × AreGrownFrom g u v ts xs
 
 -- some hold u, some hold v, and none holds both
 abbrev pub are_apart : List Grown → Bool

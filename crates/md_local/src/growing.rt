@@ -10,7 +10,7 @@ ghost use Rattle.md_tree.specs.Parts.{below_node};
 ghost use Rattle.md_tree.specs.Plain.{plain};
 ghost use Rattle.md_tree.specs.StrongTrees.{IsTreeOf};
 ghost use Rattle.md_tree.specs.Trees.{PlainTree, names};
-ghost use Rattle.md_local.specs.Growing.{own_steps, AreGrown, IsGrown, IsJoined, AreOrdered, IsLeafInserted, are_apart, are_one_split, is_merged, in_place_of};
+ghost use Rattle.md_local.specs.Growing.{own_steps, AreGrownFrom, IsGrownFrom, IsJoined, AreOrdered, IsLeafInserted, are_apart, are_one_split, is_merged, in_place_of};
 
 use crate::part::decompose_part;
 use md_graph::{GraphOf, Memory, Set, Steps};
@@ -38,10 +38,10 @@ pub(crate) fn take_turn<L: Ledger, const W: usize>(
 ) -> Result<(), Memory>
     requires left { Has graph.now.vertices u }
     requires below { (us : List PlainTree)
-        × AreGrown graph.now u v (us ++ below_node (plain node.now)) stack.old.items }
+        × AreGrownFrom graph.now u v (us ++ below_node (plain node.now)) stack.old.items }
     ensures grown { IfOk result (λ _. (us : List PlainTree)
-        → AreGrown graph.now u v (us ++ below_node (plain node.now)) stack.old.items
-        → AreGrown graph.now u v (us ++ plain node.now ∷ []) stack.new.items) }
+        → AreGrownFrom graph.now u v (us ++ below_node (plain node.now)) stack.old.items
+        → AreGrownFrom graph.now u v (us ++ plain node.now ∷ []) stack.new.items) }
     ensures work { work.new ≤ work.old + own_steps u v (plain node.now) }
 {
     let below = stack.len() - number_below(node);
@@ -72,8 +72,8 @@ fn grow<L: Ledger, const W: usize>(
     work: &mut Steps<L>,
 ) -> Result<Grown, Memory>
     requires left { Has graph.now.vertices u }
-    requires below { AreGrown graph.now u v (below_node (plain node.now)) children.items }
-    ensures grown { IfOk result (λ grown. IsGrown graph.now u v (plain node.now) grown) }
+    requires below { AreGrownFrom graph.now u v (below_node (plain node.now)) children.items }
+    ensures grown { IfOk result (λ grown. IsGrownFrom graph.now u v (plain node.now) grown) }
     ensures work { work.new ≤ work.old + own_steps u v (plain node.now) }
 {
     match node {

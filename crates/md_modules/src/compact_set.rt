@@ -2,7 +2,7 @@
 ghost use Rattle.std.specs.Prelude.{◌≡◌, ◌*◌, ℕ, ◌<◌, ◌≤◌, IfOk, OnOk, OnErr, IfSome, IfNone, IsTrue};
 ghost use Rattle.std.specs.FinSet.{len, empty, insert, union};
 ghost use Rattle.md_graph.specs.NameSet.{IsLeastFrom, NoneFrom, block};
-ghost use Rattle.md_graph.specs.Sets.{HasSome, HasTwo, only_name};
+ghost use Rattle.md_graph.specs.Sets.{HasSome, HasTwo, only_name, union_all};
 ghost use Rattle.md_modules.specs.Blocks.{held_names, IsName};
 ghost use Rattle.md_modules.specs.Classes.{IsDivided};
 
@@ -158,8 +158,8 @@ impl<const W: usize> CompactSet<W> {
         }
     }
 
-    /// Takes `name` in. Condition: it is below `64 * W`. Errors: want of memory; the set stays as it
-    /// was then.
+    /// Takes `name` in. Condition: it is below `64 * W`. Errors: want of memory; the set stays as
+    /// it was then.
     pub fn insert(&mut self, alloc: Global, name: u32) -> Result<(), Memory>
         requires { name < 64 * W }
         ensures taken { OnOk result (self.new ≡ insert self.old name) }
@@ -186,6 +186,18 @@ impl<const W: usize> CompactSet<W> {
             Held::Several(names) => all.union_with(names),
         }
     }
+}
+
+/// The union of sets. Condition: `W` is at most `WORDS`.
+pub fn union_of<const W: usize>(sets: &[CompactSet<W>]) -> Set<W>
+    requires limit { W ≤ WORDS }
+    ensures union { result ≡ union_all sets.now }
+{
+    let mut all = Set::none();
+    for set in sets {
+        set.add_to(&mut all);
+    }
+    all
 }
 
 // The names below 64 whose bits are 1.

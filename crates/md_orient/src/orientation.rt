@@ -38,7 +38,8 @@ pub fn orient<const W: usize>(alloc: Global, graph: &GraphOf<W>) -> Result<Verdi
     }
 }
 
-// The shortest forcing chain along a trail. Condition: a walk through some graph stopped with the trail.
+// The shortest forcing chain along a trail. Condition: a walk through some graph stopped with the
+// trail.
 pub(crate) fn chain_along(alloc: Global, trail: &ForcingTree) -> Result<Chain, Memory>
     requires { (e : ℕ → ℕ → Bool) × IsStopped e trail.now }
     ensures { IfOk result (λ chain. (e : ℕ → ℕ → Bool)

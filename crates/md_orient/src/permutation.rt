@@ -21,10 +21,11 @@ pub enum PermVerdict {
     ForcedInComplement(Chain),
 }
 
-/// A shortest forcing chain of the graph, if it has one; else one of its complement, if that has one; else
-/// two orders that realise the graph. The three exclude each other: a chain of the complement comes
-/// only where the graph has none, and two orders realise a graph exactly where neither it nor its
-/// complement has a chain (`md_comparability::laws::orders_if_no_chain`). Errors: want of memory.
+/// A shortest forcing chain of the graph, if it has one; else one of its complement, if that has
+/// one; else two orders that realise the graph. The three exclude each other: a chain of the
+/// complement comes only where the graph has none, and two orders realise a graph exactly where
+/// neither it nor its complement has a chain (`md_comparability::laws::orders_if_no_chain`).
+/// Errors: want of memory.
 pub fn model<const W: usize>(alloc: Global, graph: &GraphOf<W>) -> Result<PermVerdict, Memory>
     ensures { IfOk result (IsModel graph.now) }
 {

@@ -19,9 +19,9 @@ use std::sync::ledger::{Blank, Ledger};
 /// ascending order; a class with touched names is cut in two when it is settled.
 ///
 /// No change takes memory: all is taken when the partition is made, as much as the names of the set
-/// and the greatest of them ask for. `touch` and `settle` are one step each on the counter that they
-/// are lent: each reads or changes a bounded number of items of vectors, and `settle` finds the
-/// least touched name in a set, from the one before on.
+/// and the greatest of them ask for. `touch` and `settle` are one step each on the counter that
+/// they are lent: each reads or changes a bounded number of items of vectors, and `settle` finds
+/// the least touched name in a set, from the one before on.
 #[derive(Drop)]
 pub struct Partition {
     // The mark of each name up to the greatest one.
@@ -275,8 +275,9 @@ impl Partition {
         }
     }
 
-    /// The position of the class of each name up to the greatest of the set, None for those that are
-    /// in no class: it costs one look at each class and each of these names. Errors: want of memory.
+    /// The position of the class of each name up to the greatest of the set, None for those that
+    /// are in no class: it costs one look at each class and each of these names. Errors: want of
+    /// memory.
     pub fn class_positions(&self, alloc: Global) -> Result<Vec<Option<u32>>, Memory>
         ensures few { IfOk result (λ positions. length positions.items ≤ NAMES) }
         ensures positions { IfOk result (λ positions. (v : ℕ) →

@@ -13,24 +13,24 @@ use Rattle.md_script.specs.declared.past.PastOf.{PastOf}
 use Rattle.md_script.specs.declared.past.PastOf.TheVariants as past
 use Rattle.md_script.specs.declared.edit.Edit.{Edit}
 use Rattle.md_script.specs.Pasts.{as_edit}
-use Rattle.md_script.specs.Histories.{past_in, HasRow, AreRows, AreStarts, cut_items}
+use Rattle.md_script.specs.Histories.{past_in, HasRow, NameRowsInOrder, AreStarts, cut_items}
 
 -- the rows of edits behind others, and back
-pub rows_append : (n m k : ℕ) (edits more : List KeptEdit) → AreRows n edits m → AreRows m more k → AreRows n (edits ++ more) k
-rows_append n m k [] more is others = subst (λ x. AreRows x more k) (sym is) others
+pub rows_append : (n m k : ℕ) (edits more : List KeptEdit) → NameRowsInOrder n edits m → NameRowsInOrder m more k → NameRowsInOrder n (edits ++ more) k
+rows_append n m k [] more is others = subst (λ x. NameRowsInOrder x more k) (sym is) others
 rows_append n m k (AddEdge u v ∷ edits) more is others = rows_append n m k edits more is others
 rows_append n m k (DelEdge u v ∷ edits) more is others = rows_append n m k edits more is others
 rows_append n m k (AddVertex x row ∷ edits) more is others = (is.0, rows_append (n + 1) m k edits more is.1 others)
 rows_append n m k (DelVertex x ∷ edits) more is others = rows_append n m k edits more is others
 
-pub rows_split : (n k : ℕ) (edits more : List KeptEdit) → AreRows n (edits ++ more) k → (m : ℕ) × AreRows n edits m × AreRows m more k
+pub rows_split : (n k : ℕ) (edits more : List KeptEdit) → NameRowsInOrder n (edits ++ more) k → (m : ℕ) × NameRowsInOrder n edits m × NameRowsInOrder m more k
 rows_split n k [] more is = (n, refl, is)
 rows_split n k (AddEdge u v ∷ edits) more is = rows_split n k edits more is
 rows_split n k (DelEdge u v ∷ edits) more is = rows_split n k edits more is
 rows_split n k (AddVertex x row ∷ edits) more is = let rest = rows_split (n + 1) k edits more is.1 in (rest.0, (is.0, rest.1), rest.2)
 rows_split n k (DelVertex x ∷ edits) more is = rows_split n k edits more is
 
-rows_rise : (n m : ℕ) (edits : List KeptEdit) → AreRows n edits m → n ≤ m
+rows_rise : (n m : ℕ) (edits : List KeptEdit) → NameRowsInOrder n edits m → n ≤ m
 rows_rise n m [] is = omega (arith, is)
 rows_rise n m (AddEdge u v ∷ edits) is = rows_rise n m edits is
 rows_rise n m (DelEdge u v ∷ edits) is = rows_rise n m edits is
@@ -38,7 +38,7 @@ rows_rise n m (AddVertex x row ∷ edits) is = let rest = rows_rise (n + 1) m ed
 rows_rise n m (DelVertex x ∷ edits) is = rows_rise n m edits is
 
 -- each edit has its row
-pub row_there : (n m : ℕ) (edits : List KeptEdit) (i : ℕ) (e : KeptEdit) → AreRows n edits m → slice_get edits i ≡ Some e → HasRow m e
+pub row_there : (n m : ℕ) (edits : List KeptEdit) (i : ℕ) (e : KeptEdit) → NameRowsInOrder n edits m → slice_get edits i ≡ Some e → HasRow m e
 row_there n m [] i e is found = absurd (cc)
 row_there n m (AddEdge u v ∷ edits) zero e is found = let same : AddEdge u v ≡ e = cc in subst (HasRow m) same tt
 row_there n m (DelEdge u v ∷ edits) zero e is found = let same : DelEdge u v ≡ e = cc in subst (HasRow m) same tt
@@ -60,7 +60,7 @@ same_past rows more (DelEdge u v) has = refl
 same_past rows more (AddVertex x row) has = ap (past.AddVertex x) (get_or-append rows more set.empty row has)
 same_past rows more (DelVertex x) has = refl
 
-same_pasts : {w : ℕ} (rows more : List NameSet) (n m : ℕ) (edits : List KeptEdit) → AreRows n edits m → m ≤ length rows → map (past_in {w = w} (rows ++ more)) edits ≡ map (past_in {w = w} rows) edits
+same_pasts : {w : ℕ} (rows more : List NameSet) (n m : ℕ) (edits : List KeptEdit) → NameRowsInOrder n edits m → m ≤ length rows → map (past_in {w = w} (rows ++ more)) edits ≡ map (past_in {w = w} rows) edits
 same_pasts rows more n m [] is le = refl
 same_pasts {w} rows more n m (AddEdge u v ∷ edits) is le = ap (λ (l : List (PastOf w)). past.AddEdge u v ∷ l) (same_pasts rows more n m edits is le)
 same_pasts {w} rows more n m (DelEdge u v ∷ edits) is le = ap (λ (l : List (PastOf w)). past.DelEdge u v ∷ l) (same_pasts rows more n m edits is le)
@@ -71,7 +71,7 @@ same_pasts {w} rows more n m (AddVertex x row ∷ edits) is le =
 same_pasts {w} rows more n m (DelVertex x ∷ edits) is le = ap (λ (l : List (PastOf w)). past.DelVertex x ∷ l) (same_pasts rows more n m edits is le)
 
 -- the same along an equation
-pub same_behind : {w : ℕ} (rows new more : List NameSet) (edits : List KeptEdit) (n : ℕ) → new ≡ rows ++ more → AreRows 0 edits n → n ≡ length rows → map (past_in {w = w} new) edits ≡ map (past_in {w = w} rows) edits
+pub same_behind : {w : ℕ} (rows new more : List NameSet) (edits : List KeptEdit) (n : ℕ) → new ≡ rows ++ more → NameRowsInOrder 0 edits n → n ≡ length rows → map (past_in {w = w} new) edits ≡ map (past_in {w = w} rows) edits
 same_behind {w} rows new more edits n is at len =
     ap (λ r. map (past_in {w = w} r) edits) is ∙ same_pasts rows more 0 n edits at (omega (arith, len))
 
@@ -83,35 +83,35 @@ row_put rows new row x near is at =
 -- ---- the last edit is taken off
 
 -- it names no row
-pub last_without : (e : KeptEdit) → ((m k : ℕ) → AreRows m (e ∷ []) k → m ≡ k) → (edits : List KeptEdit) (n : ℕ) → AreRows 0 (edits ++ e ∷ []) n → AreRows 0 edits n
-last_without e none edits n are = let split = rows_split 0 n edits (e ∷ []) are in subst (AreRows 0 edits) (none split.0 n split.2) split.1
+pub last_without : (e : KeptEdit) → ((m k : ℕ) → NameRowsInOrder m (e ∷ []) k → m ≡ k) → (edits : List KeptEdit) (n : ℕ) → NameRowsInOrder 0 (edits ++ e ∷ []) n → NameRowsInOrder 0 edits n
+last_without e none edits n are = let split = rows_split 0 n edits (e ∷ []) are in subst (NameRowsInOrder 0 edits) (none split.0 n split.2) split.1
 
 module _ (x row : ℕ) (e : KeptEdit) (is : e ≡ AddVertex x row) where
   -- it names the last row
-  last_row : (edits : List KeptEdit) (n : ℕ) → AreRows 0 (edits ++ e ∷ []) n → AreRows 0 edits row × (n ≡ row + 1)
+  last_row : (edits : List KeptEdit) (n : ℕ) → NameRowsInOrder 0 (edits ++ e ∷ []) n → NameRowsInOrder 0 edits row × (n ≡ row + 1)
   last_row edits n are =
       let split = rows_split 0 n edits (e ∷ []) are in
-      let told : AreRows split.0 (AddVertex x row ∷ []) n = subst (λ k. AreRows split.0 (k ∷ []) n) is split.2 in
+      let told : NameRowsInOrder split.0 (AddVertex x row ∷ []) n = subst (λ k. NameRowsInOrder split.0 (k ∷ []) n) is split.2 in
       let first = told.0 in
       let last = told.1 in
-      (subst (AreRows 0 edits) (sym first) split.1, omega arith)
+      (subst (NameRowsInOrder 0 edits) (sym first) split.1, omega arith)
 
-  pub some_rows : (edits : List KeptEdit) (n : ℕ) → AreRows 0 (edits ++ e ∷ []) n → 0 < n
+  pub some_rows : (edits : List KeptEdit) (n : ℕ) → NameRowsInOrder 0 (edits ++ e ∷ []) n → 0 < n
   some_rows edits n are = let one = (last_row edits n are).1 in omega arith
 
   module _ (rows new : List NameSet) (near : NameSet) (split : rows ≡ new ++ near ∷ []) where
     rows_len : length rows ≡ length new + 1
     rows_len = ap length split ∙ length-append new (near ∷ [])
 
-    pub last_with : {w : ℕ} (edits : List KeptEdit) → AreRows 0 (edits ++ e ∷ []) (length rows) → AreRows 0 edits (length new) × (map (past_in {w = w} new) edits ≡ map (past_in {w = w} rows) edits)
+    pub last_with : {w : ℕ} (edits : List KeptEdit) → NameRowsInOrder 0 (edits ++ e ∷ []) (length rows) → NameRowsInOrder 0 edits (length new) × (map (past_in {w = w} new) edits ≡ map (past_in {w = w} rows) edits)
     last_with {w} edits are =
         let told = last_row edits (length rows) are in
         let one = told.1 in
         let two = rows_len in
-        let at : AreRows 0 edits (length new) = subst (AreRows 0 edits) (omega arith) told.0 in
+        let at : NameRowsInOrder 0 edits (length new) = subst (NameRowsInOrder 0 edits) (omega arith) told.0 in
         (at, sym (same_behind new rows (near ∷ []) edits (length new) split at refl))
 
-    pub last_given : {w : ℕ} (edits : List KeptEdit) → AreRows 0 (edits ++ e ∷ []) (length rows) → past_in {w = w} rows e ≡ past.AddVertex x near
+    pub last_given : {w : ℕ} (edits : List KeptEdit) → NameRowsInOrder 0 (edits ++ e ∷ []) (length rows) → past_in {w = w} rows e ≡ past.AddVertex x near
     last_given {w} edits are =
         let told = last_row edits (length rows) are in
         let one = told.1 in
@@ -170,7 +170,7 @@ module _ (w : ℕ) (rows : List NameSet) (edits : List KeptEdit) (starts before 
       let same = ap length last_is in
       omega arith
 
-  pub last_row_there : AreRows 0 edits (length rows) → HasRow (length rows) e
+  pub last_row_there : NameRowsInOrder 0 edits (length rows) → HasRow (length rows) e
   last_row_there are = row_there 0 (length rows) edits (start + i) e are (slice_get-get_or edits (start + i) e last_below ∙ ap Some (sym is))
 
   pub last_seen : slice_get last i ≡ Some (as_edit (past_in {w = w} rows e))

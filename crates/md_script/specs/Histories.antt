@@ -43,12 +43,12 @@ HasRow n (kept.AddVertex x row) = row < n
 HasRow n _ = ⊤
 
 -- the edits name the rows from the first number to the one before the second, in their order
-abbrev pub AreRows : ℕ → List KeptEdit → ℕ → Type 0
-AreRows n [] m = n ≡ m
-AreRows n (kept.AddVertex x row ∷ edits) m = (row ≡ n) × AreRows (n + 1) edits m
-AreRows n (kept.AddEdge u v ∷ edits) m = AreRows n edits m
-AreRows n (kept.DelEdge u v ∷ edits) m = AreRows n edits m
-AreRows n (kept.DelVertex x ∷ edits) m = AreRows n edits m
+abbrev pub NameRowsInOrder : ℕ → List KeptEdit → ℕ → Type 0
+NameRowsInOrder n [] m = n ≡ m
+NameRowsInOrder n (kept.AddVertex x row ∷ edits) m = (row ≡ n) × NameRowsInOrder (n + 1) edits m
+NameRowsInOrder n (kept.AddEdge u v ∷ edits) m = NameRowsInOrder n edits m
+NameRowsInOrder n (kept.DelEdge u v ∷ edits) m = NameRowsInOrder n edits m
+NameRowsInOrder n (kept.DelVertex x ∷ edits) m = NameRowsInOrder n edits m
 
 -- the history that is kept as the edits of all items, where each item begins, and the room
 abbrev pub history_kept : {w : ℕ} → List (PastOf w) → List ℕ → ℕ → PlainHistory

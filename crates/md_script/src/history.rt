@@ -3,7 +3,7 @@ ghost use Rattle.std.specs.Prelude.{◌≡◌, ℕ, ◌+◌, ◌<◌, ◌≤◌,
 ghost use Rattle.md_script.specs.declared.edit.Edit.{Edit};
 ghost use Rattle.md_script.specs.declared.history.KeptEdit.{KeptEdit};
 ghost use Rattle.md_script.specs.Pasts.{as_edit};
-ghost use Rattle.md_script.specs.Histories.{past_in, AreRows, HasRow};
+ghost use Rattle.md_script.specs.Histories.{past_in, NameRowsInOrder, HasRow};
 
 use crate::PastOf;
 use md_graph::{Memory, Set, WORDS};
@@ -44,19 +44,19 @@ pub type History = HistoryOf<WORDS>;
 
 impl<const W: usize> Model for HistoryOf<W> {
     ghost use Rattle.std.specs.Prelude.{◌+◌, ◌≤◌, length, reverse, map, vec_len, vec_capacity};
-    ghost use Rattle.md_script.specs.Histories.{PlainHistory, history_code, history_kept, past_in, AreStarts, AreRows};
+    ghost use Rattle.md_script.specs.Histories.{PlainHistory, history_code, history_kept, past_in, AreStarts, NameRowsInOrder};
 
     ghost Value = { PlainHistory };
 
     ghost coded = { history_code };
 
-    ghost view = { λ h. history_kept (map (past_in {w = W} h.rows.items) h.edits.items) h.starts.items
-        h.spare };
+    ghost view = { λ h. history_kept (map (past_in {w = W} h.rows.items) h.edits.items)
+        h.starts.items h.spare };
 
     ghost use Rattle.std.specs.Prelude.{◌*◌};
 
     ghost invariant = { λ h. AreStarts (length h.edits.items) (reverse h.starts.items)
-        × AreRows 0 h.edits.items (length h.rows.items)
+        × NameRowsInOrder 0 h.edits.items (length h.rows.items)
         × (vec_len h.edits + h.spare ≤ vec_capacity h.edits)
         × (vec_len h.rows + h.spare ≤ vec_capacity h.rows)
         × (vec_len h.starts + h.spare ≤ vec_capacity h.starts) };
@@ -196,9 +196,9 @@ impl<const W: usize> HistoryOf<W> {
 fn keep<const W: usize>(rows: &mut Vec<Set<W>>, past: PastOf<W>) -> KeptEdit
     requires { vec_len rows.old < vec_capacity rows.old }
     ensures past { past_in {w = W} rows.new.items result ≡ past.entry }
-    ensures rows { (edits : List KeptEdit) → AreRows 0 edits (length rows.old.items) →
-        AreRows 0 (edits ++ result ∷ []) (length rows.new.items) }
-    ensures others { (edits : List KeptEdit) → AreRows 0 edits (length rows.old.items) →
+    ensures rows { (edits : List KeptEdit) → NameRowsInOrder 0 edits (length rows.old.items) →
+        NameRowsInOrder 0 (edits ++ result ∷ []) (length rows.new.items) }
+    ensures others { (edits : List KeptEdit) → NameRowsInOrder 0 edits (length rows.old.items) →
         map (past_in {w = W} rows.new.items) edits ≡ map (past_in {w = W} rows.old.items) edits }
     ensures room { vec_len rows.new ≤ vec_len rows.old + 1 }
     ensures capacity { vec_capacity rows.new ≡ vec_capacity rows.old }
@@ -218,11 +218,14 @@ fn keep<const W: usize>(rows: &mut Vec<Set<W>>, past: PastOf<W>) -> KeptEdit
 // The edit that was kept last; its neighbours, if it has them, are taken off the rows. Condition:
 // the rows are those of edits of which it is the last.
 fn give<const W: usize>(rows: &mut Vec<Set<W>>, kept: KeptEdit) -> PastOf<W>
-    requires { (edits : List KeptEdit) × AreRows 0 (edits ++ kept ∷ []) (length rows.old.items) }
+    requires { (edits : List KeptEdit)
+        × NameRowsInOrder 0 (edits ++ kept ∷ []) (length rows.old.items) }
     ensures past { result ≡ past_in {w = W} rows.old.items kept }
-    ensures rows { (edits : List KeptEdit) → AreRows 0 (edits ++ kept ∷ []) (length rows.old.items)
-        → AreRows 0 edits (length rows.new.items)
-        × (map (past_in {w = W} rows.new.items) edits ≡ map (past_in {w = W} rows.old.items) edits) }
+    ensures rows { (edits : List KeptEdit)
+        → NameRowsInOrder 0 (edits ++ kept ∷ []) (length rows.old.items)
+        → NameRowsInOrder 0 edits (length rows.new.items)
+        × (map (past_in {w = W} rows.new.items) edits
+        ≡ map (past_in {w = W} rows.old.items) edits) }
     ensures room { vec_len rows.new ≤ vec_len rows.old }
     ensures capacity { vec_capacity rows.new ≡ vec_capacity rows.old }
 {

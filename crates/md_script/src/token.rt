@@ -40,8 +40,8 @@ pub(crate) fn read_token(
         ≡ Some token) }
     ensures faultless { OnOk result (word_fault (record { counted = counted; inside = inside })
         (word_of first.now) (fields rest.now) ≡ None) }
-    ensures fault { IfErr result (IsRefusal (word_fault (record { counted = counted; inside = inside })
-        (word_of first.now) (fields rest.now))) }
+    ensures fault { IfErr result (IsRefusal (word_fault
+        (record { counted = counted; inside = inside }) (word_of first.now) (fields rest.now))) }
 {
     let word = line_word(first);
     if counted >= EDITS && is_counted(word) {

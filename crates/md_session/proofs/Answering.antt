@@ -22,7 +22,7 @@ use Rattle.md_report.proofs.Groups.{stopped_line, barred_line}
 use Rattle.md_session.specs.declared.cograph.Answer.TheVariants.{Applied, Refused, RefusedP4}
 use Rattle.md_session.specs.declared.cograph_items.ItemAnswer.{ItemAnswer}
 use Rattle.md_session.specs.declared.cograph_items.ItemAnswer.TheVariants as items
-use Rattle.md_session.specs.Answers.{IsAnsweredBy, IsAnswered, answer_line, IsStopped}
+use Rattle.md_session.specs.Answers.{IsAnsweredBy, IsAnswered, answer_line, IsGroupRefusal}
 use Rattle.md_session.specs.Costs.{edit_cost, edits_cost, back_cost, tried_cost, group_cost}
 use Rattle.md_session.proofs.BackCosts.{edits_cost-push, back_few}
 
@@ -70,7 +70,7 @@ done_free (Err e) P Bad done refused free = absurd (free (refused.0 refl))
 -- ---- the answer to a group that is refused
 
 module _ (g h : PlainGraph) (edits back : List script.Edit) (n : ℕ) (so : HasApplied IsCograph g edits h back n) (edit : script.Edit) (is : slice_get edits n ≡ Some edit) where
-  pub stopped_answer : (answer : ItemAnswer) → IsStopped h n edit answer → IsGroupLine Quiet 0 g edits (answer_line answer)
+  pub stopped_answer : (answer : ItemAnswer) → IsGroupRefusal h n edit answer → IsGroupLine Quiet 0 g edits (answer_line answer)
   stopped_answer (items.GroupRefused number reason) told = (stopped_line Quiet g h edits back n (group_refused number reason) so edit is reason told.1).1 (ap (λ j. group_refused j reason) told.0)
   stopped_answer (items.GroupRefusedP4 number p) told =
       (barred_line Quiet g h edits back n (group_refused_p4 number p) so edit is told.1 (λ free. free (p.a, p.b, p.c, p.d, told.2))).1
@@ -80,7 +80,7 @@ module _ (g h : PlainGraph) (edits back : List script.Edit) (n : ℕ) (so : HasA
   stopped_answer (items.RefusedP4 p) told = absurd told
   stopped_answer items.NothingToUndo told = absurd told
 
-pub not_applied : (h : PlainGraph) (n : ℕ) (edit : script.Edit) (answer : ItemAnswer) → IsStopped h n edit answer → is_applied (answer_line answer) ≡ false
+pub not_applied : (h : PlainGraph) (n : ℕ) (edit : script.Edit) (answer : ItemAnswer) → IsGroupRefusal h n edit answer → is_applied (answer_line answer) ≡ false
 not_applied h n edit (items.GroupRefused number reason) told = refl
 not_applied h n edit (items.GroupRefusedP4 number p) told = refl
 not_applied h n edit items.Applied told = absurd told
@@ -101,7 +101,7 @@ module _ (limit : ℕ) (few : limit ≤ NAMES) (g h : PlainGraph) (edits back : 
       let small = back_within in
       omega arith
 
-  pub refused_bound : (answer : ItemAnswer) (first tried last : ℕ) → IsStopped h n edit answer → tried ≤ first + tried_cost g edits answer → last ≤ tried + back_cost h back → last ≤ first + group_cost g edits answer
+  pub refused_bound : (answer : ItemAnswer) (first tried last : ℕ) → IsGroupRefusal h n edit answer → tried ≤ first + tried_cost g edits answer → last ≤ tried + back_cost h back → last ≤ first + group_cost g edits answer
   refused_bound (items.GroupRefused number reason) first tried last told up down = twice first tried last number told.0 up down
   refused_bound (items.GroupRefusedP4 number p) first tried last told up down = twice first tried last number told.0 up down
   refused_bound items.Applied first tried last told up down = absurd told

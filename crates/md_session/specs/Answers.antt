@@ -51,7 +51,7 @@ IsPushed g edit (RefusedP4 p) items left = left ≡ items
 
 -- the answer is that the edit of a group behind n others is refused at the graph h: for a reason, or since the graph after it has an
 -- induced P4
-abbrev pub IsStopped : PlainGraph → ℕ → Edit → ItemAnswer → Type 0
-IsStopped h n edit (items.GroupRefused number reason) = (number ≡ n + 1) × (reason_of h edit ≡ Some reason)
-IsStopped h n edit (items.GroupRefusedP4 number p) = (number ≡ n + 1) × (reason_of h edit ≡ None) × IsP4Of (after h edit) p
-IsStopped h n edit _ = ⊥
+abbrev pub IsGroupRefusal : PlainGraph → ℕ → Edit → ItemAnswer → Type 0
+IsGroupRefusal h n edit (items.GroupRefused number reason) = (number ≡ n + 1) × (reason_of h edit ≡ Some reason)
+IsGroupRefusal h n edit (items.GroupRefusedP4 number p) = (number ≡ n + 1) × (reason_of h edit ≡ None) × IsP4Of (after h edit) p
+IsGroupRefusal h n edit _ = ⊥

@@ -11,7 +11,7 @@ ghost use Rattle.md_script.specs.Pasts.{as_edit, taken_back, MayBack, HasApplied
 ghost use Rattle.md_script.specs.Histories.{HistoryFits};
 ghost use Rattle.md_report.specs.declared.line.SessionMode.TheVariants as modes;
 ghost use Rattle.md_report.specs.Cographs.{IsCograph};
-ghost use Rattle.md_session.specs.Answers.{IsAnswered, answer_line, IsPushed, IsStopped};
+ghost use Rattle.md_session.specs.Answers.{IsAnswered, answer_line, IsPushed, IsGroupRefusal};
 ghost use Rattle.md_session.specs.Costs.{edit_cost, edits_cost, back_cost, tried_cost, group_cost, undo_cost};
 ghost use Rattle.md_report.specs.Steps.{ItemStep};
 
@@ -160,7 +160,7 @@ fn apply_edits<const W: usize, L: Ledger>(
         history.old.items ≡ [] ∷ others → (n : ℕ) × (edit : script.Edit) ×
         (back : List script.Edit) × (slice_get edits.now n ≡ Some edit) ×
         HasApplied IsCograph graph.old edits.now graph.new back n ×
-        (history.new.items ≡ back ∷ others) × IsStopped graph.new n edit answer) }
+        (history.new.items ≡ back ∷ others) × IsGroupRefusal graph.new n edit answer) }
     ensures denotes { Denotes tree.new graph.new }
     ensures whole_bound { IfNone result (steps.new ≤ steps.old + edits_cost graph.old edits.now) }
     ensures bound { IfSome result (λ answer.

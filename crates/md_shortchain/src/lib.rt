@@ -31,7 +31,8 @@ pub fn shortest_chain<const W: usize>(
     graph: &GraphOf<W>,
 ) -> Result<Option<Chain>, Memory>
     ensures found { IfOk result (λ answer. IfSome answer (IsShortestChain (adjacent graph.now))) }
-    ensures none { IfOk result (λ answer. IfNone answer (HasForcingChain (adjacent graph.now) → ⊥)) }
+    ensures none { IfOk result (λ answer.
+        IfNone answer (HasForcingChain (adjacent graph.now) → ⊥)) }
 {
     let _vertices = graph.vertices();
     match orient(alloc, graph)? {

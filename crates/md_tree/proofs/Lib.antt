@@ -4,6 +4,7 @@ pub mod Built
 pub mod Kinded
 pub mod Pairs
 pub mod GraphKinds
+pub mod Apart
 pub mod Canonical
 pub mod Graph
 pub mod OneTree

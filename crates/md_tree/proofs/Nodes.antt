@@ -1,12 +1,12 @@
 -- The nodes of a tree: their leaf sets, and the children of a node.
-use Rattle.std.proofs.Common.{◌≡◌, ◌≢◌, ℕ, zero, suc, cond, ◌<◌, ◌⊎◌, refl, sym, ◌∙◌, ap, subst, inl, inr, arith}
+use Rattle.std.proofs.Common.{◌≡◌, ◌≢◌, ℕ, List, zero, suc, cond, ◌<◌, ◌⊎◌, refl, sym, ◌∙◌, ap, subst, inl, inr, arith}
 use Rattle.md_graph.specs.Sets.{NameSet, Has, Lacks, Within, Disjoint, only_name}
 use Rattle.md_graph.proofs.SetLemmas.{clash, of_only, empty_lacks, Has-along, union_left, union_right, of_union}
 use Rattle.std.specs.FinSet.{contains}
 use Rattle.std.proofs.lemmas.Bool.{cases_Bool, false_from_ne_true}
 use Rattle.md_tree.specs.WellFormed.{AreDisjoint}
 use Rattle.md_tree.specs.TreeGraph.{position_of}
-use Rattle.md_tree.specs.Trees.{PlainTreeOf, leaf, node, PlainTreesOf, no_tree, one_more, names, names_below, names_at, node_sets, node_sets_below, count}
+use Rattle.md_tree.specs.Trees.{PlainTreeOf, leaf, node, PlainTreesOf, no_tree, one_more, names, names_below, names_at, node_sets, node_sets_below, count, EachNode, EachNodeBelow}
 use Rattle.md_text.proofs.Lists.{In, Later, in_left, in_right, of_append, later_left, later_right, later_across}
 
 -- c is one of the trees
@@ -46,6 +46,12 @@ mutual
     | inl l ↦ in_left (node_sets t) (node_sets_below ts) (only_name x) (single_in t x l)
     | inr r ↦ in_right (node_sets t) (node_sets_below ts) (only_name x) (single_in_below ts x r)
   ]
+
+-- what holds of each node of a row holds of those of each of its trees
+pub each_child : {K P : Type 0} (N : K → PlainTreesOf K P → List P → Type 0) (cs : PlainTreesOf K P) (c : PlainTreeOf K P) → EachNodeBelow N cs → IsChild cs c → EachNode N c
+each_child N no_tree c each i = absurd i
+each_child N (one_more t ts) c each (inl e) = subst (EachNode N) (sym e) each.0
+each_child N (one_more t ts) c each (inr i) = each_child N ts c each.1 i
 
 -- the names and the sets of a child
 pub child_inside : {K P : Type 0} (ts : PlainTreesOf K P) (c : PlainTreeOf K P) → IsChild ts c → Within (names c) (names_below ts)

@@ -141,7 +141,8 @@ fn join_listed(children: &Children, edges: &QuotientEdges, graph: &mut Graph)
         → (p.low < p.high) × (p.high < count (row_of_children children.now)) }
     ensures vertices { graph.new.vertices ≡ graph.old.vertices }
     ensures edges { (x y : ℕ) → adjacent graph.new x y
-        ≡ (adjacent graph.old x y || in_listed (row_of_children children.now) edges.now.list.items x y) }
+        ≡ (adjacent graph.old x y
+        || in_listed (row_of_children children.now) edges.now.list.items x y) }
 {
     for pair in &edges.list {
         join_trees(
@@ -173,7 +174,8 @@ fn join_trees(left: &Tree, right: &Tree, graph: &mut Graph)
 fn join_below(children: &Children, right: &Tree, graph: &mut Graph)
     requires inside_left { Within (names_below (row_of_children children.now)) graph.old.vertices }
     requires inside_right { Within (names (plain right.now)) graph.old.vertices }
-    requires apart { Disjoint (names_below (row_of_children children.now)) (names (plain right.now)) }
+    requires apart { Disjoint (names_below (row_of_children children.now))
+        (names (plain right.now)) }
     ensures vertices { graph.new.vertices ≡ graph.old.vertices }
     ensures edges { (x y : ℕ) → adjacent graph.new x y
         ≡ (adjacent graph.old x y

@@ -1,10 +1,15 @@
-use Rattle.std.proofs.Common.{refl, arith, rules}
+use Rattle.std.proofs.Common.{refl, arith, rules, get_or, ◌<◌, ◌*◌}
 use Rattle.std.proofs.lemmas.List.{drop_all}
+use Rattle.std.proofs.lemmas.List.Elements.{All-from_get_or}
 use Rattle.md_checker.proofs.HeadPairs.{heads_begin, names_few, near_there, heads_more, heads_end}
 use Rattle.md_checker.proofs.head_pairs.past_heads.Goals as goal
 
+pub from_list-later-requires : goal.from_list-later-requires
+from_list-later-requires g c =
+    (search rules, (All-from_get_or (λ v. v < 64 * g.row.W) c.args.heads.now 0 (λ i low. c.vertices-vertices.ensures.below (get_or c.args.heads.now i 0) (c.requires.heads.vertices i low)), search rules))
+
 pub loop-position-init : goal.loop-position-init
-loop-position-init g c = heads_begin c.args.graph.now c.args.heads.now c.args.text.now 59 _ c.set_of-later.result _ refl c.clear.ensures.changed c.set_of-later.ensures c.requires.places
+loop-position-init g c = heads_begin c.args.graph.now c.args.heads.now c.args.text.now 59 _ c.from_list-later.result _ refl c.clear.ensures.changed c.from_list-later.ensures.members c.requires.places
 
 pub past_row-requires : goal.past_row-requires
 past_row-requires g c =

@@ -35,7 +35,7 @@ returns g c bytes r =
       subst (λ o. IsReadBy c.args.graph.now bytes c.in-Some.tail.now true new.sets.items new.heads.items new.kinds.items o new.seen) (sym s.opens)
           (subst (λ n. IsReadBy c.args.graph.now bytes c.in-Some.tail.now true new.sets.items new.heads.items new.kinds.items c.args.walk.now.opens.items n) (sym s.seen)
           (read_end r c.vertices-vertices.ensures.graph q.0 _ sub (subst Ascends (other ∙ sym sub) (c.ascends.ensures.exactly.0 up)) _ (take_rest c.deref.result.now first ∙ ap (drop first) c.deref.ensures.value) (c.may_have.ensures may)
-          c.union_of-names.result _ c.union_of-names.ensures (take_rest c.deref-3.result.now first ∙ ap (drop first) c.deref-3.ensures.value) q.1 q.2
+          c.union_of-names.result _ c.union_of-names.ensures.union (take_rest c.deref-3.result.now first ∙ ap (drop first) c.deref-3.ensures.value) q.1 q.2
           c.in-Some.tail.now new.sets.items new.heads.items new.kinds.items q.3 s.sets s.heads s.kinds)),
       end_shorter graph_pairs_law _ _ q.0 q.3,
     )

@@ -1,5 +1,5 @@
 use Rattle.std.proofs.Common.{◌∷◌, [], subst, sym, refl, arith}
-use Rattle.md_script.specs.Histories.{AreRows}
+use Rattle.md_script.specs.Histories.{NameRowsInOrder}
 use Rattle.md_script.proofs.KeptRows.{last_without, some_rows, last_with, last_given}
 use Rattle.md_script.proofs.history.give.Goals as goal
 
@@ -12,15 +12,15 @@ unreachable-requires g c =
 
 pub returns-in-AddEdge-clause-rows : goal.returns-in-AddEdge-clause-rows
 returns-in-AddEdge-clause-rows g c = λ edits are.
-    (last_without c.args.kept (λ m k rows. subst (λ e. AreRows m (e ∷ []) k) c.in-AddEdge.is rows) edits _ are, refl)
+    (last_without c.args.kept (λ m k rows. subst (λ e. NameRowsInOrder m (e ∷ []) k) c.in-AddEdge.is rows) edits _ are, refl)
 
 pub returns-in-DelEdge-clause-rows : goal.returns-in-DelEdge-clause-rows
 returns-in-DelEdge-clause-rows g c = λ edits are.
-    (last_without c.args.kept (λ m k rows. subst (λ e. AreRows m (e ∷ []) k) c.in-DelEdge.is rows) edits _ are, refl)
+    (last_without c.args.kept (λ m k rows. subst (λ e. NameRowsInOrder m (e ∷ []) k) c.in-DelEdge.is rows) edits _ are, refl)
 
 pub returns-in-DelVertex-clause-rows : goal.returns-in-DelVertex-clause-rows
 returns-in-DelVertex-clause-rows g c = λ edits are.
-    (last_without c.args.kept (λ m k rows. subst (λ e. AreRows m (e ∷ []) k) c.in-DelVertex.is rows) edits _ are, refl)
+    (last_without c.args.kept (λ m k rows. subst (λ e. NameRowsInOrder m (e ∷ []) k) c.in-DelVertex.is rows) edits _ are, refl)
 
 pub returns-in-Some-clause-past : goal.returns-in-Some-clause-past
 returns-in-Some-clause-past g c =

@@ -1,6 +1,6 @@
 use Rattle.std.proofs.Common.{◌≡◌, ◌<◌, ◌+◌, ◌∷◌, ◌++◌, [], ◌∙◌, sym, subst, Some, None, ap, arith, refl, length, map, reverse}
 use Rattle.std.proofs.lemmas.List.{length-map, length-append}
-use Rattle.md_script.specs.Histories.{PlainHistory, past_in, AreRows}
+use Rattle.md_script.specs.Histories.{PlainHistory, past_in, NameRowsInOrder}
 use Rattle.md_script.proofs.HistoryLemmas.{empty_last, there_edits, popped_starts, popped}
 use Rattle.md_script.proofs.KeptRows.{starts_in, starts_out, seen_less}
 use Rattle.md_script.proofs.history.HistoryOf.pop.Goals as goal
@@ -31,7 +31,7 @@ invariant_of-self g c =
     let seen = map (past_in {w = g.row.W} rows) edits in
     let seen_new = map (past_in {w = g.row.W} new) less in
     let view = ap (λ (h : PlainHistory). h.items) c.self.view_is in
-    let told = c.give.ensures.rows less (subst (λ l. AreRows 0 l (length rows)) c.in-Some.ensures.items at.1) in
+    let told = c.give.ensures.rows less (subst (λ l. NameRowsInOrder 0 l (length rows)) c.in-Some.ensures.items at.1) in
     let fewer : seen ≡ seen_new ++ c.give.result ∷ [] = seen_less rows new edits less c.in-Some.kept c.give.result c.in-Some.ensures.items told.1 c.give.ensures.past in
     let one : length seen ≡ length seen_new + 1 = ap length fewer ∙ length-append seen_new (c.give.result ∷ []) in
     let starts =
@@ -54,6 +54,6 @@ returns-clause-some g c =
     let new = c.give.new.rows.items in
     let seen = map (past_in {w = g.row.W} rows) edits in
     let view = ap (λ (h : PlainHistory). h.items) c.self.view_is in
-    let told = c.give.ensures.rows less (subst (λ l. AreRows 0 l (length rows)) c.in-Some.ensures.items c.self.invariant.1) in
+    let told = c.give.ensures.rows less (subst (λ l. NameRowsInOrder 0 l (length rows)) c.in-Some.ensures.items c.self.invariant.1) in
     popped seen (map (past_in {w = g.row.W} new) less) c.self.inside.starts.items c.args.self.now.items c.last_len.result (Some c.give.result) view c.requires c.last_len.ensures c.if-last_len-eq0.false
     (seen_less rows new edits less c.in-Some.kept c.give.result c.in-Some.ensures.items told.1 c.give.ensures.past)

@@ -1,7 +1,7 @@
 use Rattle.std.proofs.Common.{◌∷◌, [], ◌∙◌, sym, ap, subst, arith, length, map, reverse}
 use Rattle.std.proofs.lemmas.List.{length-append}
 use Rattle.md_script.specs.Pasts.{as_edit}
-use Rattle.md_script.specs.Histories.{PlainHistory, past_in, AreRows}
+use Rattle.md_script.specs.Histories.{PlainHistory, past_in, NameRowsInOrder}
 use Rattle.md_script.proofs.HistoryLemmas.{pushed, pushed_starts, seen_push, seen_starts}
 use Rattle.md_script.proofs.KeptRows.{starts_in, seen_more}
 use Rattle.md_script.proofs.history.HistoryOf.push.Goals as goal
@@ -19,7 +19,7 @@ invariant_of-self g c =
     let row = c.keep-kept.ensures.room in
     let row_room = c.keep-kept.ensures.capacity in (
       pushed_starts _ _ c.self.inside.starts.items (omega arith) at.0,
-      subst (λ l. AreRows 0 l (length c.keep-kept.new.rows.items)) (sym c.push_reserved.ensures.items) (c.keep-kept.ensures.rows c.self.inside.edits.items at.1),
+      subst (λ l. NameRowsInOrder 0 l (length c.keep-kept.new.rows.items)) (sym c.push_reserved.ensures.items) (c.keep-kept.ensures.rows c.self.inside.edits.items at.1),
       omega arith,
       omega arith,
       omega arith,

@@ -1,5 +1,5 @@
-use Rattle.md_checker.proofs.FitRows.{union_more}
-use Rattle.md_checker.proofs.tree_fit.union_of.Goals as goal
+use Rattle.md_graph.proofs.SetLemmas.{union_more}
+use Rattle.md_modules.proofs.compact_set.union_of.Goals as goal
 
 pub loop-set-preserved : goal.loop-set-preserved
 loop-set-preserved g c =

@@ -1,6 +1,0 @@
-use Rattle.std.proofs.Common.{◌≡◌, take}
-use Rattle.md_checker.specs.FitTests.{union_all}
-use Rattle.md_checker.proofs.tree_fit.union_of.Given as goal
-
-abbrev pub invariant-loop-set : goal.invariant-loop-set
-invariant-loop-set g l = l.all ≡ union_all (take l.set-index l.sets)
