@@ -16,7 +16,7 @@ pub use made::made_p4;
 pub use md_comparability::Order;
 pub use mode_words::{mode_of_word, mode_word};
 pub use reader::{LineFault, read_line};
-pub use writer::write_line;
+pub use writer::{write_applied, write_line, write_tree};
 
 #[cfg(test)]
 mod tests;

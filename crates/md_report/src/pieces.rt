@@ -58,7 +58,8 @@ pub(crate) fn split_piece(text: &[u8]) -> Option<(&[u8], &[u8])>
     Some(split_before(behind, b' '))
 }
 
-// The number that a piece spells, if it spells one: its digits, not too many, without leading zeros.
+// The number that a piece spells, if it spells one: its digits, not too many, without leading
+// zeros.
 fn spelled(piece: &[u8]) -> Option<u64>
     ensures { MatchOption result ((n : ℕ) → n < 10 ^ DIGITS → piece.now ≢ decimal n)
         (λ n. piece.now ≡ decimal n) }

@@ -86,6 +86,17 @@ fn lines(rt: HostRuntime) -> Result<(), Fail> {
 }
 
 #[test]
+fn lines_of_trees(rt: HostRuntime) -> Result<(), Fail> {
+    let alloc = rt.alloc();
+    let tree = read_tree(alloc, b"S(P(0,1),2)")?;
+    let first = write_tree(alloc, &tree)?;
+    assert!(rt; first.as_slice() == "t S(P(0,1),2)".as_bytes());
+    let applied = write_applied(alloc, &tree)?;
+    assert!(rt; applied.as_slice() == "ok S(P(0,1),2)".as_bytes());
+    Ok(())
+}
+
+#[test]
 fn texts_of_no_line(rt: HostRuntime) -> Result<(), Fail> {
     let alloc = rt.alloc();
     let table = [

@@ -1,6 +1,8 @@
 //! The texts of lines.
 ghost use Rattle.std.specs.Prelude.{◌≡◌, ◌++◌, IfOk, OnOk, codes};
 ghost use Rattle.md_text.specs.Numbers.{decimal};
+ghost use Rattle.md_tree.specs.Plain.{plain_option};
+ghost use Rattle.md_report.specs.Lines as lines;
 ghost use Rattle.md_report.specs.Lines.{plain_line, reason_words, names_text, p4_text, arc_text, arcs_text, line_text};
 
 use crate::Line;
@@ -10,7 +12,7 @@ use md_graph::Memory;
 use md_modules::P4;
 use md_script::EditReason;
 use md_text::push_number;
-use md_tree::push_text;
+use md_tree::{Tree, push_text};
 use std::alloc::Global;
 
 // Room for so many bytes is taken at once: the line of the tree of a small graph fits, and its line
@@ -27,14 +29,8 @@ pub fn write_line(alloc: Global, line: &Line) -> Result<Vec<u8>, Memory>
             text.extend_from_slice(b"mdt ")?;
             text.extend_from_slice(mode_word(*mode).as_bytes())?;
         }
-        Line::Tree(tree) => {
-            text.extend_from_slice(b"t ")?;
-            push_text(alloc, &mut text, tree)?;
-        }
-        Line::Applied(tree) => {
-            text.extend_from_slice(b"ok ")?;
-            push_text(alloc, &mut text, tree)?;
-        }
+        Line::Tree(tree) => push_tree(alloc, &mut text, tree)?,
+        Line::Applied(tree) => push_applied(alloc, &mut text, tree)?,
         Line::AppliedQuiet => text.extend_from_slice(b"ok")?,
         Line::Refused(reason) => {
             text.extend_from_slice(b"no ")?;
@@ -86,9 +82,49 @@ pub fn write_line(alloc: Global, line: &Line) -> Result<Vec<u8>, Memory>
     Ok(text)
 }
 
+/// The text of the line of a tree, as of `Line::Tree`, without a line feed. Errors: want of memory.
+pub fn write_tree(alloc: Global, tree: &Option<Tree>) -> Result<Vec<u8>, Memory>
+    ensures { IfOk result (λ text. text.items ≡ line_text (lines.tree (plain_option tree.now))) }
+{
+    let mut text = Vec::with_capacity(alloc, SHORT)?;
+    push_tree(alloc, &mut text, tree)?;
+    Ok(text)
+}
+
+/// The text of the line that an edit was applied and left a graph with this tree, as of
+/// `Line::Applied`, without a line feed. Errors: want of memory.
+pub fn write_applied(alloc: Global, tree: &Option<Tree>) -> Result<Vec<u8>, Memory>
+    ensures { IfOk result (λ text. text.items ≡ line_text (lines.applied (plain_option tree.now))) }
+{
+    let mut text = Vec::with_capacity(alloc, SHORT)?;
+    push_applied(alloc, &mut text, tree)?;
+    Ok(text)
+}
+
+// Appends the line of a tree.
+fn push_tree(alloc: Global, text: &mut Vec<u8>, tree: &Option<Tree>) -> Result<(), Memory>
+    ensures { IfOk result (λ _. text.new.items
+        ≡ text.old.items ++ line_text (lines.tree (plain_option tree.now))) }
+{
+    text.extend_from_slice(b"t ")?;
+    push_text(alloc, text, tree)?;
+    Ok(())
+}
+
+// Appends the line that an edit was applied and left a graph with this tree.
+fn push_applied(alloc: Global, text: &mut Vec<u8>, tree: &Option<Tree>) -> Result<(), Memory>
+    ensures { IfOk result (λ _. text.new.items
+        ≡ text.old.items ++ line_text (lines.applied (plain_option tree.now))) }
+{
+    text.extend_from_slice(b"ok ")?;
+    push_text(alloc, text, tree)?;
+    Ok(())
+}
+
 // Appends that the edit of a group with this number was refused.
 fn push_edit(text: &mut Vec<u8>, number: u64) -> Result<(), Memory>
-    ensures { OnOk result (text.new.items ≡ text.old.items ++ (codes "no edit " ++ decimal number)) }
+    ensures { OnOk result (text.new.items
+        ≡ text.old.items ++ (codes "no edit " ++ decimal number)) }
 {
     text.extend_from_slice(b"no edit ")?;
     push_number(text, number)?;
