@@ -10,3 +10,4 @@ pub mod Between
 pub mod Leaves
 pub mod Placing
 pub mod Rebuilt
+pub mod Edited

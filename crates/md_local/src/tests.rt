@@ -1,7 +1,11 @@
-//! The trees of parts of small graphs, and copies of them and of a deep tree.
-ghost use Rattle.std.specs.Prelude.{◌≡◌, ◌<◌};
+//! The trees of parts of small graphs, copies of them and of a deep tree, and the trees of graphs
+//! after edits of edges.
+ghost use Rattle.std.specs.Prelude.{◌≡◌, ◌≢◌, ◌<◌};
+ghost use Rattle.md_graph.specs.Sets.{Has};
+ghost use Rattle.md_local.specs.Edits.{IsEdited};
 
 use super::*;
+use md_decompose::decompose_within;
 use md_graph::{GraphOf, Memory, Set, Steps};
 use md_tree::{Tree, read_tree, text};
 use std::alloc::{AllocError, Global};
@@ -95,5 +99,154 @@ fn copy_of_a_deep_tree(rt: HostRuntime) -> Result<(), Fail> {
     };
     let copy = copy_tree(a, &tree)?;
     text_is(&rt, a, &Some(copy), deep.as_bytes())?;
+    Ok(())
+}
+
+// The edge between two vertices goes where it is there, and else comes.
+fn toggle(graph: &mut GraphOf<1>, u: u32, v: u32)
+    requires differ { u ≢ v }
+    requires left { Has graph.old.vertices u }
+    requires right { Has graph.old.vertices v }
+    ensures { IsEdited graph.old graph.new u v }
+{
+    let _vertices = graph.vertices();
+    if graph.has_edge(u, v) {
+        graph.remove_edge(u, v);
+        return;
+    }
+    graph.add_edge(u, v);
+}
+
+// Sees that the tree is rebuilt to that of the graph where the edge between u and v comes or goes,
+// and gives its text.
+fn rebuilt<L: Ledger>(
+    rt: &impl Abort,
+    alloc: Global,
+    graph: &mut GraphOf<1>,
+    u: u32,
+    v: u32,
+    work: &mut Steps<L>,
+) -> Result<Vec<u8>, Memory>
+    requires differ { u ≢ v }
+    requires left { Has graph.old.vertices u }
+    requires right { Has graph.old.vertices v }
+{
+    let Some(old) = decompose_within(alloc, graph, graph.vertices())? else {
+        panic!(rt; "no tree");
+    };
+    toggle(graph, u, v);
+    let new = rebuild(alloc, graph, &old, u, v, work)?;
+    let anew = decompose_within(alloc, graph, graph.vertices())?;
+    let expected = text(alloc, &anew)?;
+    text_is(rt, alloc, &Some(new), &expected)?;
+    Ok(expected)
+}
+
+// The same of any two numbers, which are two vertices.
+fn edit<L: Ledger>(
+    rt: &impl Abort,
+    alloc: Global,
+    graph: &mut GraphOf<1>,
+    ends: (u32, u32),
+    work: &mut Steps<L>,
+) -> Result<Vec<u8>, Memory> {
+    let (u, v) = ends;
+    assert!(rt; u != v);
+    assert!(rt; graph.has_vertex(u));
+    assert!(rt; graph.has_vertex(v));
+    rebuilt(rt, alloc, graph, u, v, work)
+}
+
+fn edits_of_edges<L: Ledger>(rt: &impl Abort, alloc: Global, blank: Blank) -> Result<(), Memory>
+    requires name { blank.name ≡ L.name }
+    requires parts { blank.parts ≡ L.parts }
+    requires some { 0 < blank.parts }
+{
+    let mut work = Steps::<L>::new(blank);
+    let rows: [(u32, &[(u32, u32)], (u32, u32), &[u8]); 8] = [
+        (
+            5,
+            &[(0, 1), (2, 3), (2, 4), (3, 4)],
+            (0, 1),
+            b"P(0,1,S(2,3,4))",
+        ),
+        (
+            5,
+            &[(0, 1), (1, 2), (2, 3), (1, 4)],
+            (0, 4),
+            b"R(S(0,4),1,2,3;0-1,1-2,2-3)",
+        ),
+        (3, &[(0, 2), (1, 2)], (0, 1), b"S(0,1,2)"),
+        (
+            4,
+            &[(0, 1), (0, 2), (1, 2), (1, 3), (2, 3)],
+            (0, 3),
+            b"S(0,1,2,3)",
+        ),
+        (5, &[(0, 1), (1, 2), (2, 3)], (1, 2), b"P(S(0,1),S(2,3),4)"),
+        (4, &[(0, 1), (1, 2), (2, 3)], (0, 3), b"S(P(0,2),P(1,3))"),
+        (2, &[], (0, 1), b"S(0,1)"),
+        (2, &[(0, 1)], (0, 1), b"P(0,1)"),
+    ];
+    for (n, edges, ends, expected) in rows {
+        let mut graph = GraphOf::<1>::from_edges(alloc, n, edges)?.expect(rt, "edges");
+        let written = edit(rt, alloc, &mut graph, ends, &mut work)?;
+        assert_eq!(rt; written.as_slice(), expected);
+    }
+    Ok(())
+}
+
+#[test]
+fn trees_after_edits(rt: HostRuntime) -> Result<(), Fail> {
+    edits_of_edges::<Brand>(&rt, rt.alloc(), Blank::new(1))?;
+    Ok(())
+}
+
+// Each graph on the vertices whose edges are among the pairs, one pair after the other, and of each
+// graph each edit of one of them.
+fn all_edits<L: Ledger>(
+    rt: &impl Abort,
+    alloc: Global,
+    vertices: u32,
+    pairs: &[(u32, u32)],
+    blank: Blank,
+) -> Result<(), Memory>
+    requires name { blank.name ≡ L.name }
+    requires parts { blank.parts ≡ L.parts }
+    requires some { 0 < blank.parts }
+{
+    let mut work = Steps::<L>::new(blank);
+    assert!(rt; vertices <= 64);
+    let mut graph = GraphOf::<1>::from_edges(alloc, vertices, &[])?.expect(rt, "vertices");
+    for number in 1..1024_u32 {
+        let Some(pair) = pairs.get(number.trailing_zeros() as usize) else {
+            return Ok(());
+        };
+        for ends in pairs {
+            edit(rt, alloc, &mut graph, *ends, &mut work)?;
+            edit(rt, alloc, &mut graph, *ends, &mut work)?;
+        }
+        edit(rt, alloc, &mut graph, *pair, &mut work)?;
+    }
+    Ok(())
+}
+
+#[test]
+fn all_edits_of_small_graphs(rt: HostRuntime) -> Result<(), Fail> {
+    let pairs = [
+        (0, 1),
+        (0, 2),
+        (1, 2),
+        (0, 3),
+        (1, 3),
+        (2, 3),
+        (0, 4),
+        (1, 4),
+        (2, 4),
+        (3, 4),
+    ];
+    for (vertices, count) in [(2, 1), (3, 3), (4, 6), (5, 10)] {
+        all_edits::<Brand>(&rt, rt.alloc(), vertices, &pairs[..count], Blank::new(1))?;
+    }
     Ok(())
 }
