@@ -25,8 +25,8 @@ pub(crate) fn arc_pairs<const W: usize>(
 ) -> Result<DPairs, Memory>
     requires inside { Within set.now graph.now.vertices }
     requires children { AreChildren (between (has_arc_to graph.now)) set.now sets.now }
-    ensures { IfOk result (λ pairs.
-        ListsExactly directed_pairs (IsArcOfSets (has_arc_to graph.now) sets.now) pairs.list.items) }
+    ensures { IfOk result (λ pairs. ListsExactly directed_pairs
+        (IsArcOfSets (has_arc_to graph.now) sets.now) pairs.list.items) }
 {
     let _vertices = graph.vertices();
     let heads = heads_of(alloc, sets)?;

@@ -120,7 +120,8 @@ fn row_between<'a, const W: usize>(
     None
 }
 
-// The class at a place becomes its part in `row`, and its part outside is a new class, the last one.
+// The class at a place becomes its part in `row`, and its part outside is a new class, the last
+// one.
 fn cut<const W: usize>(
     alloc: Global,
     classes: &mut Vec<CompactSet<W>>,

@@ -350,7 +350,7 @@ module _ {e : ℕ → ℕ → Bool} where
       turn_grown = record { is_module = is.is_module; start = is.start; new = out.1; least = over_begun }
 
       pub turn_falls : len (difference s held) < len (difference s begun)
-      turn_falls = held_falls s begun held (intersection s (symmetric_difference begun s)) j (rest_told s begun) least over_begun
+      turn_falls = held_falls s begun held (intersection s (symmetric_difference begun s)) j (rest_told s begun) least.member over_begun
 
       pub turn_whole : held ≡ s → (v ≢ j) × IsLeastModule e s v j s
       turn_whole same = turn_held.whole (Has-along s held (sym same))

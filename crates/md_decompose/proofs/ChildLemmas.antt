@@ -39,10 +39,10 @@ module _ {C : Type 0} {e : ℕ → ℕ → C} where
     whole = λ w. absurd (unsplit.two.4 (of_only v unsplit.two.0 (w unsplit.two.0 unsplit.two.2) ∙ sym (of_only v unsplit.two.1 (w unsplit.two.1 unsplit.two.3))));
   })
 
-  pub held_falls : (s held more left : NameSet) (j : ℕ) → left ≡ difference s held → IsLeastFrom left 0 j → IsLeastModuleOver e s (insert held j) more →
+  pub held_falls : (s held more left : NameSet) (j : ℕ) → left ≡ difference s held → Has left j → IsLeastModuleOver e s (insert held j) more →
       len (difference s more) < len (difference s held)
-  held_falls s held more left j is least over =
-      let j_in : Has (difference s held) j = Has-along left _ is j least.member in
+  held_falls s held more left j is j_left over =
+      let j_in : Has (difference s held) j = Has-along left _ is j j_left in
       len_proper (difference s more) (difference s held) j
       (λ x h. minus_has s held x (of_minus s more x h).0 (false_from_ne_true _ (λ k. clash (over.holds x (insert_old held j x k)) (of_minus s more x h).1)))
       j_in (minus_lacks s more j (over.holds j (insert_new held j)))

@@ -1,14 +1,14 @@
--- The adjacent pairs of heads, put down one head after the other, and for each head one later head after the other.
+-- Pairs of heads, put down one head after the other, and for each head one other head after the other.
 use Rattle.std.proofs.Common.{◌≡◌, ◌≢◌, ℕ, ◌+◌, ◌<◌, ◌≤◌, Bool, true, List, [], ◌∷◌, ◌++◌, ◌↔◌, Contains, length, get_or, map, refl, sym, ◌∙◌, ap, subst, inl, inr, arith, append_assoc, append-nil}
 use Rattle.std.proofs.Math.ListN.{get_or-eq_default}
 use Rattle.std.proofs.lemmas.Bool.{cases_lt, cases_Bool, false_from_ne_true}
 use Rattle.std.specs.FinSet.{contains, empty, remove, intersection}
 use Rattle.md_graph.specs.declared.TheConstants.{NAMES}
-use Rattle.md_graph.specs.NameSet.{AllBelow, IsLeastFrom, ascending, ascending_between, ascending_from}
+use Rattle.md_graph.specs.NameSet.{AllBelow, IsLeastFrom, ascending, ascending_from}
 use Rattle.md_graph.specs.PlainGraph.{PlainGraph, IsGraph, adjacent, neighbours}
-use Rattle.md_graph.proofs.NameLemmas.{IsTurn, walk_turn, walk_end, ascending_split, ascending_none, ascending_same}
-use Rattle.md_graph.proofs.GraphLemmas.{adjacent_ends, contains-neighbours}
-use Rattle.md_graph.specs.Sets.{NameSet, Has, HasSome}
+use Rattle.md_graph.proofs.NameLemmas.{IsTurn, walk_turn, walk_end}
+use Rattle.md_graph.proofs.GraphLemmas.{contains-neighbours}
+use Rattle.md_graph.specs.Sets.{NameSet, Has, HasSome, Within}
 use Rattle.md_modules.specs.Modules.{IsMaximalModule}
 use Rattle.md_modules.specs.Kinds.{IsPrime}
 use Rattle.md_graph.proofs.SetLemmas.{of_meet, meet_has, of_remove, remove_left, clash, empty_lacks, Has-along}
@@ -18,85 +18,69 @@ use Rattle.md_modules.proofs.Components.{prime_unsplit}
 use Rattle.md_modules.proofs.Children.{child_maximal}
 use Rattle.md_modules.proofs.Quotients.{maximal_modules_proof}
 use Rattle.md_modules.proofs.PathSearch.{adjacency}
-use Rattle.md_tree.specs.StrongTrees.{IsBefore, IsPairBefore}
+use Rattle.md_tree.specs.StrongTrees.{IsBefore, ListsExactly}
+use Rattle.md_tree.specs.Spellings.{PairRules, ArePairRules, IsPairBeforeBy, graph_pairs}
+use Rattle.md_tree.proofs.Spelled.{graph_pairs_law}
 use Rattle.md_tree.specs.declared.Pair.{Pair}
 use Rattle.md_text.proofs.Lists.{In, of_contains, to_contains, in_get, in_left, in_right, of_append, of_pairs, to_pairs, later_append}
 use Rattle.md_decompose.specs.Children.{AreChildren, ListsPairs, AreSetsJoined, set_at}
 use Rattle.md_decompose.specs.Heads.{HoldsHeads, RisesOn, AreNear, ComesBefore, pair_at, ListsHeadPairs}
 use Rattle.md_decompose.proofs.Heads.{head_below, heads_rise}
 
--- the pairs with the head h and a later head below low are put down, and the other names of near are left
-pub record IsPushing (e : ℕ → ℕ → Bool) (heads : NameSet) (places : List ℕ) (h : ℕ) (near : NameSet) (left : List ℕ) (ps : List Pair) : Type 0 where
+-- the pairs with the head h and one of near below low are put down, and the other names of near are left
+pub record IsPushing {P : Type 0} (r : PairRules P) (Near : ℕ → ℕ → Type 0) (places : List ℕ) (h : ℕ) (near : NameSet) (left : List ℕ) (ps : List P) : Type 0 where
   pub low : ℕ
-  pub above : h < low
   pub is : left ≡ ascending_from near low
   pub names : AllBelow near NAMES
-  pub lists : ListsHeadPairs e heads places h low ps
+  pub lists : ListsHeadPairs r Near places h low ps
 
 -- the pairs of the heads below low are put down, and the other heads are left
-pub record IsListingPairs (e : ℕ → ℕ → Bool) (heads : NameSet) (places : List ℕ) (left : List ℕ) (ps : List Pair) : Type 0 where
+pub record IsListingPairs {P : Type 0} (r : PairRules P) (Near : ℕ → ℕ → Type 0) (heads : NameSet) (places : List ℕ) (left : List ℕ) (ps : List P) : Type 0 where
   pub low : ℕ
   pub is : left ≡ ascending_from heads low
   pub names : AllBelow heads NAMES
-  pub lists : ListsHeadPairs e heads places low 0 ps
+  pub lists : ListsHeadPairs r Near places low 0 ps
 
 no_pair : (a b x : ℕ) → (a ≡ x) × (b < 0) → ⊥
 no_pair a b x w = let l : b < 0 = w.1 in omega arith
 
-module _ {e : ℕ → ℕ → Bool} {heads : NameSet} {places : List ℕ} where
-  pub lists_none : ListsHeadPairs e heads places 0 0 []
+-- pairs of positions come before each other as the positions do
+pair_before : {P : Type 0} (r : PairRules P) → ArePairRules r → (i j k l : ℕ) → ComesBefore i j k l → IsPairBeforeBy r (r.pair i j) (r.pair k l)
+pair_before r laws i j k l before =
+    let a : r.first (r.pair i j) ≡ i = laws.first_of i j in
+    let b : r.second (r.pair i j) ≡ j = laws.second_of i j in
+    let c : r.first (r.pair k l) ≡ k = laws.first_of k l in
+    let d : r.second (r.pair k l) ≡ l = laws.second_of k l in
+    elim before [
+      | inl up ↦ inl (let u : i < k = up in omega arith)
+      | inr w ↦ inr (a ∙ w.0 ∙ sym c, (let u : j < l = w.1 in omega arith))
+    ]
+
+module _ {P : Type 0} {r : PairRules P} {Near : ℕ → ℕ → Type 0} {places : List ℕ} where
+  pub lists_none : ListsHeadPairs r Near places 0 0 []
   lists_none = record {
-    ascending = to_pairs IsPairBefore [] tt;
+    ascending = to_pairs (IsPairBeforeBy r) [] tt;
     each = λ p c. absurd (of_contains [] p c);
     all = λ a b near before. absurd (elim before [ inl l ↦ (let k : a < 0 = l in omega arith) | inr w ↦ no_pair a b 0 w ]);
   }
 
-  -- up to the next head
-  pub lists_skip : (x h : ℕ) (ps : List Pair) → x ≤ h → ((w : ℕ) → Has heads w → x ≤ w → h ≤ w) → ListsHeadPairs e heads places x 0 ps → ListsHeadPairs e heads places h 0 ps
-  lists_skip x h ps up first lists = record {
+  -- past the heads that stand in no pair
+  lists_on : (x h : ℕ) (ps : List P) → ((a b : ℕ) → Near a b → a < x → a < h) → ((a b : ℕ) → Near a b → a < h → a < x) → ListsHeadPairs r Near places x 0 ps → ListsHeadPairs r Near places h 0 ps
+  lists_on x h ps up down lists = record {
     ascending = lists.ascending;
     each = λ p c.
-        let r : (a : ℕ) × (b : ℕ) × AreNear e heads a b × ComesBefore a b x 0 × (p ≡ pair_at places a b) = lists.each p c in
-        (r.0, r.1, r.2, elim r.3 [ inl l ↦ inl (let k : r.0 < x = l in omega arith) | inr w ↦ absurd (no_pair r.0 r.1 x w) ], r.4);
-    all = λ a b near before. elim before [
-      | inr w ↦ absurd (no_pair a b h w)
-      | inl l ↦ elim (cases_lt a x) [
-        | inl k ↦ lists.all a b near (inl k)
-        | inr k ↦ (let f : h ≤ a = first a near.first k in let m : a < h = l in absurd (omega arith))
-      ]
-    ];
+        let q : (a : ℕ) × (b : ℕ) × Near a b × ComesBefore a b x 0 × (p ≡ pair_at r places a b) = lists.each p c in
+        (q.0, q.1, q.2, elim q.3 [ inl l ↦ inl (up q.0 q.1 q.2 l) | inr w ↦ absurd (no_pair q.0 q.1 x w) ], q.4);
+    all = λ a b near before. elim before [ inr w ↦ absurd (no_pair a b h w) | inl l ↦ lists.all a b near (inl (down a b near l)) ];
   }
 
-  -- past all heads
-  pub lists_whole : (x n : ℕ) (ps : List Pair) → ((w : ℕ) → Has heads w → w < x) → ((w : ℕ) → Has heads w → w < n) → ListsHeadPairs e heads places x 0 ps → ListsHeadPairs e heads places n 0 ps
-  lists_whole x n ps below names lists = record {
-    ascending = lists.ascending;
-    each = λ p c.
-        let r : (a : ℕ) × (b : ℕ) × AreNear e heads a b × ComesBefore a b x 0 × (p ≡ pair_at places a b) = lists.each p c in
-        (r.0, r.1, r.2, inl (names r.0 r.2.first), r.4);
-    all = λ a b near before. lists.all a b near (inl (below a near.first));
-  }
-
-  -- no head is nearer than the next number
-  pub lists_begin : (h : ℕ) (ps : List Pair) → ListsHeadPairs e heads places h 0 ps → ListsHeadPairs e heads places h (h + 1) ps
-  lists_begin h ps lists = record {
-    ascending = lists.ascending;
-    each = λ p c.
-        let r : (a : ℕ) × (b : ℕ) × AreNear e heads a b × ComesBefore a b h 0 × (p ≡ pair_at places a b) = lists.each p c in
-        (r.0, r.1, r.2, elim r.3 [ inl l ↦ inl l | inr w ↦ absurd (no_pair r.0 r.1 h w) ], r.4);
-    all = λ a b near before. elim before [
-      | inl l ↦ lists.all a b near (inl l)
-      | inr w ↦ (let p : a ≡ h = w.0 in let q : b < h + 1 = w.1 in let o : a < b = near.ordered in absurd (omega arith))
-    ];
-  }
-
-  -- where no adjacent head is left
-  pub lists_end : (h low : ℕ) (ps : List Pair) → ((b : ℕ) → AreNear e heads h b → b < low) → ListsHeadPairs e heads places h low ps → ListsHeadPairs e heads places (h + 1) 0 ps
+  -- where no pair of the head is left
+  pub lists_end : (h low : ℕ) (ps : List P) → ((b : ℕ) → Near h b → b < low) → ListsHeadPairs r Near places h low ps → ListsHeadPairs r Near places (h + 1) 0 ps
   lists_end h low ps none lists = record {
     ascending = lists.ascending;
     each = λ p c.
-        let r : (a : ℕ) × (b : ℕ) × AreNear e heads a b × ComesBefore a b h low × (p ≡ pair_at places a b) = lists.each p c in
-        (r.0, r.1, r.2, inl (elim r.3 [ inl l ↦ (let k : r.0 < h = l in omega arith) | inr w ↦ (let k : r.0 ≡ h = w.0 in omega arith) ]), r.4);
+        let q : (a : ℕ) × (b : ℕ) × Near a b × ComesBefore a b h low × (p ≡ pair_at r places a b) = lists.each p c in
+        (q.0, q.1, q.2, inl (elim q.3 [ inl l ↦ (let k : q.0 < h = l in omega arith) | inr w ↦ (let k : q.0 ≡ h = w.0 in omega arith) ]), q.4);
     all = λ a b near before. elim before [
       | inr w ↦ absurd (no_pair a b (h + 1) w)
       | inl l ↦ elim (cases_lt a h) [
@@ -104,177 +88,172 @@ module _ {e : ℕ → ℕ → Bool} {heads : NameSet} {places : List ℕ} where
         | inr k ↦ (
             let m : a < h + 1 = l in
             let same : a ≡ h = omega arith in
-            lists.all a b near (inr (same, none b (subst (λ z. AreNear e heads z b) same near))))
+            lists.all a b near (inr (same, none b (subst (λ z. Near z b) same near))))
       ]
     ];
   }
 
-  -- one more adjacent head
-  pub lists_more : (rising : RisesOn heads places) (h low x : ℕ) (ps : List Pair) → Has heads h → Has heads x → h < x → e h x ≡ true → low ≤ x →
-      ((b : ℕ) → AreNear e heads h b → low ≤ b → x ≤ b) → ListsHeadPairs e heads places h low ps → ListsHeadPairs e heads places h (x + 1) (ps ++ pair_at places h x ∷ [])
-  lists_more rising h low x ps head other up edge above first lists = record {
-    ascending = to_pairs IsPairBefore (ps ++ pair_at places h x ∷ []) (later_append IsPairBefore ps (pair_at places h x ∷ [])
-        (of_pairs IsPairBefore ps lists.ascending) ((λ y i. absurd i), tt)
-        (λ p q i j. elim j [ inl same ↦ subst (IsPairBefore p) (sym same) (before p i) | inr none ↦ absurd none ]));
-    each = λ p c. elim (of_append ps (pair_at places h x ∷ []) p (of_contains (ps ++ pair_at places h x ∷ []) p c)) [
-      | inl i ↦
-          let r : (a : ℕ) × (b : ℕ) × AreNear e heads a b × ComesBefore a b h low × (p ≡ pair_at places a b) = lists.each p (to_contains ps p i) in
-          (r.0, r.1, r.2, elim r.3 [ inl l ↦ inl l | inr w ↦ inr (w.0, (let k : r.1 < low = w.1 in omega arith)) ], r.4)
-      | inr i ↦ elim i [
-        | inl same ↦ (h, x, record { first = head; second = other; ordered = up; edge = edge }, inr (refl, (omega arith)), same)
-        | inr none ↦ absurd none
-      ]
-    ];
-    all = λ a b near come. to_contains (ps ++ pair_at places h x ∷ []) (pair_at places a b) (elim come [
-      | inl l ↦ in_left ps (pair_at places h x ∷ []) (pair_at places a b) (of_contains ps (pair_at places a b) (lists.all a b near (inl l)))
-      | inr w ↦ elim (cases_lt b low) [
-        | inl k ↦ in_left ps (pair_at places h x ∷ []) (pair_at places a b) (of_contains ps (pair_at places a b) (lists.all a b near (inr (w.0, k))))
-        | inr k ↦
-            let m : b < x + 1 = w.1 in
-            let n : x ≤ b = first b (subst (λ z. AreNear e heads z b) w.0 near) k in
-            let same : b ≡ x = omega arith in
-            in_right ps (pair_at places h x ∷ []) (pair_at places a b) (inl (ap (λ z. pair_at places z b) w.0 ∙ ap (pair_at places h) same))
-      ]
-    ]);
-  } where
-    before : (p : Pair) → In ps p → IsPairBefore p (pair_at places h x)
-    before p i =
-        let r : (a : ℕ) × (b : ℕ) × AreNear e heads a b × ComesBefore a b h low × (p ≡ pair_at places a b) = lists.each p (to_contains ps p i) in
-        subst (λ q. IsPairBefore q (pair_at places h x)) (sym r.4) (elim r.3 [
-          | inl l ↦ inl (rising r.0 h r.2.first head l)
-          | inr w ↦ inr (ap (λ z. get_or places z 0) w.0, rising r.1 x r.2.second other (let k : r.1 < low = w.1 in omega arith))
-        ])
+  module _ (laws : ArePairRules r) (heads : NameSet) (rising : RisesOn heads places) (among : (a b : ℕ) → Near a b → Has heads a × Has heads b) where
+    -- one more pair
+    lists_more : (h low x : ℕ) (ps : List P) → Near h x → low ≤ x → ((b : ℕ) → Near h b → low ≤ b → x ≤ b) → ListsHeadPairs r Near places h low ps → ListsHeadPairs r Near places h (x + 1) (ps ++ pair_at r places h x ∷ [])
+    lists_more h low x ps near above first lists = record {
+      ascending = to_pairs (IsPairBeforeBy r) (ps ++ pair_at r places h x ∷ []) (later_append (IsPairBeforeBy r) ps (pair_at r places h x ∷ [])
+          (of_pairs (IsPairBeforeBy r) ps lists.ascending) ((λ y i. absurd i), tt)
+          (λ p q i j. elim j [ inl same ↦ subst (IsPairBeforeBy r p) (sym same) (before p i) | inr none ↦ absurd none ]));
+      each = λ p c. elim (of_append ps (pair_at r places h x ∷ []) p (of_contains (ps ++ pair_at r places h x ∷ []) p c)) [
+        | inl i ↦
+            let q : (a : ℕ) × (b : ℕ) × Near a b × ComesBefore a b h low × (p ≡ pair_at r places a b) = lists.each p (to_contains ps p i) in
+            (q.0, q.1, q.2, elim q.3 [ inl l ↦ inl l | inr w ↦ inr (w.0, (let k : q.1 < low = w.1 in omega arith)) ], q.4)
+        | inr i ↦ elim i [
+          | inl same ↦ (h, x, near, inr (refl, (omega arith)), same)
+          | inr none ↦ absurd none
+        ]
+      ];
+      all = λ a b is come. to_contains (ps ++ pair_at r places h x ∷ []) (pair_at r places a b) (elim come [
+        | inl l ↦ in_left ps (pair_at r places h x ∷ []) (pair_at r places a b) (of_contains ps (pair_at r places a b) (lists.all a b is (inl l)))
+        | inr w ↦ elim (cases_lt b low) [
+          | inl k ↦ in_left ps (pair_at r places h x ∷ []) (pair_at r places a b) (of_contains ps (pair_at r places a b) (lists.all a b is (inr (w.0, k))))
+          | inr k ↦
+              let m : b < x + 1 = w.1 in
+              let n : x ≤ b = first b (subst (λ z. Near z b) w.0 is) k in
+              let same : b ≡ x = omega arith in
+              in_right ps (pair_at r places h x ∷ []) (pair_at r places a b) (inl (ap (λ z. pair_at r places z b) w.0 ∙ ap (pair_at r places h) same))
+        ]
+      ]);
+    } where
+      before : (p : P) → In ps p → IsPairBeforeBy r p (pair_at r places h x)
+      before p i =
+          let q : (a : ℕ) × (b : ℕ) × Near a b × ComesBefore a b h low × (p ≡ pair_at r places a b) = lists.each p (to_contains ps p i) in
+          subst (λ t. IsPairBeforeBy r t (pair_at r places h x)) (sym q.4) (pair_before r laws (get_or places q.0 0) (get_or places q.1 0) (get_or places h 0) (get_or places x 0) (elim q.3 [
+            | inl l ↦ inl (rising q.0 h (among q.0 q.1 q.2).0 (among h x near).0 l)
+            | inr w ↦ inr (ap (λ z. get_or places z 0) w.0, rising q.1 x (among q.0 q.1 q.2).1 (among h x near).1 (let k : q.1 < low = w.1 in omega arith))
+          ]))
 
--- the turns for one head
-module _ {g : PlainGraph} (is_graph : IsGraph g) (heads : NameSet) (places : List ℕ) (h : ℕ) where
-  abbrev near_heads : NameSet
-  near_heads = intersection (neighbours g h) heads
+    -- the turns for one head
+    module _ (h : ℕ) (near : NameSet) (is : (b : ℕ) → Has near b ↔ Near h b) where
+      pushing_more : (left : List ℕ) (ps : List P) (x : ℕ) (rest : List ℕ) → IsPushing r Near places h near left ps → left ≡ x ∷ rest → IsPushing r Near places h near rest (ps ++ pair_at r places h x ∷ [])
+      pushing_more left ps x rest pushing steps =
+          let turn : IsTurn near pushing.low NAMES x rest = walk_turn near pushing.low NAMES x left rest pushing.is steps in
+          let up : pushing.low ≤ x = turn.item.above in
+          record {
+            low = x + 1;
+            is = turn.left;
+            names = pushing.names;
+            lists = lists_more h pushing.low x ps ((is x).0 turn.item.member) up
+                (λ b k from. turn.item.first b ((is b).1 k) from (pushing.names b ((is b).1 k))) pushing.lists;
+          }
 
-  near_has : (b : ℕ) → AreNear (adjacent g) heads h b → Has near_heads b
-  near_has b near = meet_has (neighbours g h) heads b (contains-neighbours is_graph h b ∙ near.edge) near.second
+      pushing_end : (ps : List P) → IsPushing r Near places h near [] ps → ListsHeadPairs r Near places (h + 1) 0 ps
+      pushing_end ps pushing = lists_end h pushing.low ps (λ b k. walk_end near pushing.low NAMES [] [] pushing.names pushing.is (refl, refl) b ((is b).1 k)) pushing.lists
 
-  of_near : (b : ℕ) → Has near_heads b → Has heads b × (adjacent g h b ≡ true)
-  of_near b k =
-      let two : Has (neighbours g h) b × Has heads b = of_meet (neighbours g h) heads b k in
-      (two.1, sym (contains-neighbours is_graph h b) ∙ two.0)
+      pushing_all : (left : List ℕ) (ps : List P) → IsPushing r Near places h near left ps → ListsHeadPairs r Near places (h + 1) 0 (ps ++ map (pair_at r places h) left)
+      pushing_all [] ps pushing = subst (ListsHeadPairs r Near places (h + 1) 0) (sym (append-nil ps)) (pushing_end ps pushing)
+      pushing_all (x ∷ rest) ps pushing =
+          subst (ListsHeadPairs r Near places (h + 1) 0) (append_assoc ps (pair_at r places h x ∷ []) (map (pair_at r places h) rest))
+          (pushing_all rest (ps ++ pair_at r places h x ∷ []) (pushing_more (x ∷ rest) ps x rest pushing refl))
 
-  module _ (left : List ℕ) (ps : List Pair) (pushing : IsPushing (adjacent g) heads places h near_heads left ps) where
-    pushing_more : (x : ℕ) (rest : List ℕ) (qs : List Pair) → RisesOn heads places → Has heads h → left ≡ x ∷ rest → qs ≡ ps ++ pair_at places h x ∷ [] →
-        IsPushing (adjacent g) heads places h near_heads rest qs
-    pushing_more x rest qs rising head steps is_qs =
-        let turn : IsTurn near_heads pushing.low NAMES x rest = walk_turn near_heads pushing.low NAMES x left rest pushing.is steps in
-        let up : pushing.low ≤ x = turn.item.above in
-        let above : h < pushing.low = pushing.above in
-        let x_in : Has heads x × (adjacent g h x ≡ true) = of_near x turn.item.member in
-        record {
-          low = x + 1;
-          above = omega arith;
-          is = turn.left;
-          names = pushing.names;
-          lists = subst (ListsHeadPairs (adjacent g) heads places h (x + 1)) (sym is_qs)
-              (lists_more rising h pushing.low x ps head x_in.0 (omega arith) x_in.1 up
-              (λ b near from. turn.item.first b (near_has b near) from (pushing.names b (near_has b near))) pushing.lists);
-        }
+      -- the pairs of one head
+      pub pairs_pushed : (ps qs : List P) → AllBelow near NAMES → ListsHeadPairs r Near places h 0 ps → qs ≡ ps ++ map (pair_at r places h) (ascending near) → ListsHeadPairs r Near places (h + 1) 0 qs
+      pairs_pushed ps qs names lists is_qs =
+          subst (ListsHeadPairs r Near places (h + 1) 0) (sym is_qs) (pushing_all (ascending near) ps (record { low = 0; is = refl; names = names; lists = lists }))
 
-    pushing_end : (rest : List ℕ) → (left ≡ []) × (rest ≡ []) → ListsHeadPairs (adjacent g) heads places (h + 1) 0 ps
-    pushing_end rest steps =
-        lists_end h pushing.low ps (λ b near. walk_end near_heads pushing.low NAMES left rest pushing.names pushing.is steps b (near_has b near)) pushing.lists
+    pub pairs_begin : (left : List ℕ) (ps : List P) → left ≡ ascending heads → AllBelow heads NAMES → ps ≡ [] → IsListingPairs r Near heads places left ps
+    pairs_begin left ps is names none = record { low = 0; is = is; names = names; lists = subst (ListsHeadPairs r Near places 0 0) (sym none) lists_none }
 
-  pushing_all : (left : List ℕ) (ps : List Pair) → RisesOn heads places → Has heads h → IsPushing (adjacent g) heads places h near_heads left ps →
-      ListsHeadPairs (adjacent g) heads places (h + 1) 0 (ps ++ map (pair_at places h) left)
-  pushing_all [] ps rising head pushing = subst (ListsHeadPairs (adjacent g) heads places (h + 1) 0) (sym (append-nil ps)) (pushing_end [] ps pushing [] (refl, refl))
-  pushing_all (x ∷ rest) ps rising head pushing =
-      subst (ListsHeadPairs (adjacent g) heads places (h + 1) 0) (append_assoc ps (pair_at places h x ∷ []) (map (pair_at places h) rest))
-      (pushing_all rest (ps ++ pair_at places h x ∷ []) rising head (pushing_more (x ∷ rest) ps pushing x rest (ps ++ pair_at places h x ∷ []) rising head refl refl))
+    module _ (left : List ℕ) (ps : List P) (listing : IsListingPairs r Near heads places left ps) where
+      pub turn_of : (x : ℕ) (rest : List ℕ) → left ≡ x ∷ rest → IsTurn heads listing.low NAMES x rest
+      turn_of x rest steps = walk_turn heads listing.low NAMES x left rest listing.is steps
 
-  abbrev near_in : NameSet → NameSet
-  near_in later = intersection (neighbours g h) later
+      pub pairs_before : (x : ℕ) (rest : List ℕ) → left ≡ x ∷ rest → ListsHeadPairs r Near places x 0 ps
+      pairs_before x rest steps =
+          let turn : IsTurn heads listing.low NAMES x rest = turn_of x rest steps in
+          let up : listing.low ≤ x = turn.item.above in
+          lists_on listing.low x ps (λ a b near l. omega arith)
+          (λ a b near l. elim (cases_lt a listing.low) [
+            | inl k ↦ k
+            | inr k ↦ (let f : x ≤ a = turn.item.first a (among a b near).0 k (listing.names a (among a b near).0) in let m : a < x = l in absurd (omega arith))
+          ])
+          listing.lists
 
-  -- the later heads that are adjacent, where later has the heads behind h
-  near_later : (later : NameSet) → h < NAMES → ((b : ℕ) → Has later b ↔ (Has heads b × (h + 1 ≤ b))) →
-      ascending (intersection (neighbours g h) later) ≡ ascending_from near_heads (h + 1)
-  near_later later name is =
-      ascending_split (near_in later) 0 (h + 1) NAMES (omega arith) (omega arith)
-      ∙ ap (λ xs. xs ++ ascending_between (near_in later) (h + 1) NAMES) (ascending_none (near_in later) 0 (h + 1) (λ b low high. false_from_ne_true _ (λ k. behind b k high)))
-      ∙ ascending_same (near_in later) near_heads (h + 1) NAMES (λ b low high. alike b low)
-    where
-      later_only : (b : ℕ) → Has (near_in later) b → Has later b
-      later_only b k = (of_meet (neighbours g h) later b k).1
+      pub pairs_more : (x : ℕ) (rest : List ℕ) (qs : List P) → left ≡ x ∷ rest → ListsHeadPairs r Near places (x + 1) 0 qs → IsListingPairs r Near heads places rest qs
+      pairs_more x rest qs steps lists = record { low = x + 1; is = (turn_of x rest steps).left; names = listing.names; lists = lists }
 
-      behind : (b : ℕ) → Has (near_in later) b → b < h + 1 → ⊥
-      behind b k high = let l : h + 1 ≤ b = ((is b).0 (later_only b k)).1 in omega arith
+      pub pairs_whole : (rest : List ℕ) → (left ≡ []) × (rest ≡ []) → ListsHeadPairs r Near places NAMES 0 ps
+      pairs_whole rest steps =
+          lists_on listing.low NAMES ps (λ a b near l. listing.names a (among a b near).0)
+          (λ a b near l. walk_end heads listing.low NAMES left rest listing.names listing.is steps a (among a b near).0) listing.lists
 
-      alike : (b : ℕ) → h + 1 ≤ b → contains (near_in later) b ≡ contains near_heads b
-      alike b low = elim (cases_Bool (contains near_heads b)) [
-        | inl k ↦ (let two : Has (neighbours g h) b × Has heads b = of_meet (neighbours g h) heads b k in meet_has (neighbours g h) later b two.0 ((is b).1 (two.1, low)) ∙ sym k)
-        | inr l ↦ false_from_ne_true _ (λ k.
-            let two : Has (neighbours g h) b × Has later b = of_meet (neighbours g h) later b k in
-            clash (meet_has (neighbours g h) heads b two.0 ((is b).0 two.1).0) l) ∙ sym l
-      ]
-
-  -- the pairs of one head
-  pub pairs_pushed : (later : NameSet) (ps qs : List Pair) → RisesOn heads places → Has heads h → h < NAMES → AllBelow heads NAMES → ((b : ℕ) → Has later b ↔ (Has heads b × (h + 1 ≤ b))) →
-      ListsHeadPairs (adjacent g) heads places h 0 ps → qs ≡ ps ++ map (pair_at places h) (ascending (intersection (neighbours g h) later)) →
-      ListsHeadPairs (adjacent g) heads places (h + 1) 0 qs
-  pairs_pushed later ps qs rising head name names is lists is_qs =
-      subst (ListsHeadPairs (adjacent g) heads places (h + 1) 0) (sym (is_qs ∙ ap (λ xs. ps ++ map (pair_at places h) xs) (near_later later name is)))
-      (pushing_all (ascending_from near_heads (h + 1)) ps rising head (record {
-        low = h + 1;
-        above = omega arith;
-        is = refl;
-        names = λ b k. names b (of_near b k).0;
-        lists = lists_begin h ps lists;
-      }))
+    -- the pairs of all heads are those of joined positions
+    pub pairs_exactly : (Joined : ℕ → ℕ → Type 0) (ps : List P) → AllBelow heads NAMES → ((a b : ℕ) → Near a b → Joined (get_or places a 0) (get_or places b 0)) →
+        ((i j : ℕ) → Joined i j → (a : ℕ) × (b : ℕ) × Near a b × (get_or places a 0 ≡ i) × (get_or places b 0 ≡ j)) →
+        ListsHeadPairs r Near places NAMES 0 ps → ListsExactly r Joined ps
+    pairs_exactly Joined ps names to of lists = record {
+      ascending = lists.ascending;
+      exactly = λ p. (
+        λ c.
+            let q : (a : ℕ) × (b : ℕ) × Near a b × ComesBefore a b NAMES 0 × (p ≡ pair_at r places a b) = lists.each p c in
+            subst (λ t. Joined (r.first t) (r.second t)) (sym q.4)
+            (subst (Joined (r.first (pair_at r places q.0 q.1))) (sym (laws.second_of (get_or places q.0 0) (get_or places q.1 0)))
+            (subst (λ i. Joined i (get_or places q.1 0)) (sym (laws.first_of (get_or places q.0 0) (get_or places q.1 0))) (to q.0 q.1 q.2))),
+        λ joined.
+            let q : (a : ℕ) × (b : ℕ) × Near a b × (get_or places a 0 ≡ r.first p) × (get_or places b 0 ≡ r.second p) = of (r.first p) (r.second p) joined in
+            subst (Contains ps) (ap (λ i. r.pair i (get_or places q.1 0)) q.3 ∙ ap (r.pair (r.first p)) q.4 ∙ laws.pair_of p) (lists.all q.0 q.1 q.2 (inl (names q.0 (among q.0 q.1 q.2).0))),
+      );
+    }
 
 -- the pairs of the heads below a number are put down, the other heads are left, and later has those
 pub record IsListingLater (e : ℕ → ℕ → Bool) (heads : NameSet) (places : List ℕ) (later : NameSet) (left : List ℕ) (ps : List Pair) : Type 0 where
-  pub listing : IsListingPairs e heads places left ps
+  pub listing : IsListingPairs graph_pairs (AreNear e heads) heads places left ps
   pub is : (b : ℕ) → Has later b ↔ (Has heads b × (listing.low ≤ b))
 
-pub later_begin : {e : ℕ → ℕ → Bool} (heads : NameSet) (places : List ℕ) (later : NameSet) (left : List ℕ) (ps : List Pair) → later ≡ heads → left ≡ ascending heads → AllBelow heads NAMES → ps ≡ [] →
-    IsListingLater e heads places later left ps
-later_begin {e} heads places later left ps same is names none = record {
-  listing = record { low = 0; is = is; names = names; lists = subst (ListsHeadPairs e heads places 0 0) (sym none) lists_none };
-  is = λ b. (λ h. (Has-along _ _ same b h, (let own : b ≡ b = refl in omega arith)), λ w. Has-along _ _ (sym same) b w.0);
-}
+pub near_among : {e : ℕ → ℕ → Bool} {heads : NameSet} (a b : ℕ) → AreNear e heads a b → Has heads a × Has heads b
+near_among a b near = (near.first, near.second)
 
-module _ {e : ℕ → ℕ → Bool} (heads : NameSet) (places : List ℕ) (left : List ℕ) (ps : List Pair) (listing : IsListingPairs e heads places left ps) where
-  turn_of : (x : ℕ) (rest : List ℕ) → left ≡ x ∷ rest → IsTurn heads listing.low NAMES x rest
-  turn_of x rest steps = walk_turn heads listing.low NAMES x left rest listing.is steps
+-- the later heads that are adjacent to a head
+pub later_near : {g : PlainGraph} → IsGraph g → (heads later : NameSet) (h : ℕ) → Has heads h → ((b : ℕ) → Has later b ↔ (Has heads b × (h + 1 ≤ b))) →
+    (b : ℕ) → Has (intersection (neighbours g h) later) b ↔ AreNear (adjacent g) heads h b
+later_near {g} is_graph heads later h head is b = (
+  λ k.
+      let two : Has (neighbours g h) b × Has later b = of_meet (neighbours g h) later b k in
+      let behind : Has heads b × (h + 1 ≤ b) = (is b).0 two.1 in
+      record { first = head; second = behind.0; ordered = (let l : h + 1 ≤ b = behind.1 in omega arith); edge = sym (contains-neighbours is_graph h b) ∙ two.0 },
+  λ near.
+      let l : h < b = near.ordered in
+      meet_has (neighbours g h) later b (contains-neighbours is_graph h b ∙ near.edge) ((is b).1 (near.second, (omega arith))),
+)
 
-  pub pairs_head : (x : ℕ) (rest : List ℕ) → left ≡ x ∷ rest → Has heads x
-  pairs_head x rest steps = (turn_of x rest steps).item.member
+module _ {e : ℕ → ℕ → Bool} (heads : NameSet) (places : List ℕ) (rising : RisesOn heads places) where
+  pub later_begin : (later : NameSet) (left : List ℕ) (ps : List Pair) → later ≡ heads → left ≡ ascending heads → AllBelow heads NAMES → ps ≡ [] → IsListingLater e heads places later left ps
+  later_begin later left ps same is names none = record {
+    listing = record { low = 0; is = is; names = names; lists = subst (ListsHeadPairs graph_pairs (AreNear e heads) places 0 0) (sym none) lists_none };
+    is = λ b. (λ h. (Has-along _ _ same b h, (let own : b ≡ b = refl in omega arith)), λ w. Has-along _ _ (sym same) b w.0);
+  }
 
-  pub pairs_name : (x : ℕ) (rest : List ℕ) → left ≡ x ∷ rest → x < NAMES
-  pairs_name x rest steps = (turn_of x rest steps).item.below
+  module _ (later : NameSet) (left : List ℕ) (ps : List Pair) (so_far : IsListingLater e heads places later left ps) (x : ℕ) (rest : List ℕ) (steps : left ≡ x ∷ rest) where
+    turn : IsTurn heads so_far.listing.low NAMES x rest
+    turn = walk_turn heads so_far.listing.low NAMES x left rest so_far.listing.is steps
 
-  pub pairs_before : (x : ℕ) (rest : List ℕ) → left ≡ x ∷ rest → ListsHeadPairs e heads places x 0 ps
-  pairs_before x rest steps =
-      lists_skip listing.low x ps (turn_of x rest steps).item.above
-      (λ w h from. (turn_of x rest steps).item.first w h from (listing.names w h)) listing.lists
+    pub later_head : Has heads x
+    later_head = turn.item.member
 
-  pub pairs_whole : (rest : List ℕ) → (left ≡ []) × (rest ≡ []) → ListsHeadPairs e heads places NAMES 0 ps
-  pairs_whole rest steps = lists_whole listing.low NAMES ps (walk_end heads listing.low NAMES left rest listing.names listing.is steps) listing.names listing.lists
+    -- what is behind x
+    pub later_behind : (later' : NameSet) → later' ≡ remove later x → (b : ℕ) → Has later' b ↔ (Has heads b × (x + 1 ≤ b))
+    later_behind later' same b = (
+      λ h.
+          let two : (b ≢ x) × Has later b = of_remove later x b (Has-along _ _ same b h) in
+          let old : Has heads b × (so_far.listing.low ≤ b) = (so_far.is b).0 two.1 in
+          let from : x ≤ b = turn.item.first b old.0 old.1 (so_far.listing.names b old.0) in
+          let differs : b ≢ x = two.0 in
+          (old.0, (omega arith)),
+      λ w.
+          let low : so_far.listing.low ≤ x = turn.item.above in
+          let up : x + 1 ≤ b = w.1 in
+          Has-along _ _ (sym same) b (remove_left later x b (omega arith) ((so_far.is b).1 (w.0, (omega arith)))),
+    )
 
-  -- what is behind x, where later has what is left
-  pub later_behind : (later later' : NameSet) (x : ℕ) (rest : List ℕ) → left ≡ x ∷ rest → ((b : ℕ) → Has later b ↔ (Has heads b × (listing.low ≤ b))) → later' ≡ remove later x →
-      (b : ℕ) → Has later' b ↔ (Has heads b × (x + 1 ≤ b))
-  later_behind later later' x rest steps is same b = (
-    λ h.
-        let two : (b ≢ x) × Has later b = of_remove later x b (Has-along _ _ same b h) in
-        let old : Has heads b × (listing.low ≤ b) = (is b).0 two.1 in
-        let from : x ≤ b = (turn_of x rest steps).item.first b old.0 old.1 (listing.names b old.0) in
-        let differs : b ≢ x = two.0 in
-        (old.0, (omega arith)),
-    λ w.
-        let low : listing.low ≤ x = (turn_of x rest steps).item.above in
-        let up : x + 1 ≤ b = w.1 in
-        Has-along _ _ (sym same) b (remove_left later x b (omega arith) ((is b).1 (w.0, (omega arith)))),
-  )
-
-  pub pairs_more : (later' : NameSet) (x : ℕ) (rest : List ℕ) (qs : List Pair) → left ≡ x ∷ rest → ((b : ℕ) → Has later' b ↔ (Has heads b × (x + 1 ≤ b))) →
-      ListsHeadPairs e heads places (x + 1) 0 qs → IsListingLater e heads places later' rest qs
-  pairs_more later' x rest qs steps is lists = record { listing = record { low = x + 1; is = (turn_of x rest steps).left; names = listing.names; lists = lists }; is = is }
+    pub later_more : (later' : NameSet) (qs : List Pair) → ((b : ℕ) → Has later' b ↔ (Has heads b × (x + 1 ≤ b))) →
+        ListsHeadPairs graph_pairs (AreNear e heads) places (x + 1) 0 qs → IsListingLater e heads places later' rest qs
+    later_more later' qs is lists = record { listing = record { low = x + 1; is = turn.left; names = so_far.listing.names; lists = lists }; is = is }
 
 -- the pairs of all heads are those of the sets between which an edge runs
 module _ {g : PlainGraph} (is_graph : IsGraph g) (s : NameSet) (cs : List NameSet) (prime : IsPrime (adjacent g) s) (children : AreChildren (adjacent g) s cs) where
@@ -306,7 +285,7 @@ module _ {g : PlainGraph} (is_graph : IsGraph g) (s : NameSet) (cs : List NameSe
       edge = (a, b, (is.least a near.first).member, (is.least b near.second).member, near.edge);
     }
 
-    of_joined : (i j : ℕ) → AreSetsJoined (adjacent g) cs i j → (a : ℕ) × (b : ℕ) × AreNear (adjacent g) heads a b × (pair_at places a b ≡ record { low = i; high = j })
+    of_joined : (i j : ℕ) → AreSetsJoined (adjacent g) cs i j → (a : ℕ) × (b : ℕ) × AreNear (adjacent g) heads a b × (get_or places a 0 ≡ i) × (get_or places b 0 ≡ j)
     of_joined i j joined =
         let x : ℕ = joined.edge.0 in
         let y : ℕ = joined.edge.1 in
@@ -326,19 +305,11 @@ module _ {g : PlainGraph} (is_graph : IsGraph g) (s : NameSet) (cs : List NameSe
                 (child_at i (omega arith)) (child_at j room) (apart i j up room) a_least.member joined.edge.2 b_least.member joined.edge.3
                 ∙ joined.edge.4;
           },
-          ap (λ k. record { low = k; high = get_or places b.0 0 }) a.2 ∙ ap (λ k. record { low = i; high = k }) b.2,
+          a.2,
+          b.2,
         )
 
-    pub pairs_listed : (ps : List Pair) → ListsHeadPairs (adjacent g) heads places NAMES 0 ps → ListsPairs (adjacent g) cs ps
-    pairs_listed ps lists = record {
-      ascending = lists.ascending;
-      exactly = λ p. (
-        (λ c.
-            let r : (a : ℕ) × (b : ℕ) × AreNear (adjacent g) heads a b × ComesBefore a b NAMES 0 × (p ≡ pair_at places a b) = lists.each p c in
-            subst (λ q. AreSetsJoined (adjacent g) cs q.low q.high) (sym r.4) (to_joined r.0 r.1 r.2)),
-        λ joined.
-            let r : (a : ℕ) × (b : ℕ) × AreNear (adjacent g) heads a b × (pair_at places a b ≡ p) = of_joined p.low p.high joined in
-            let inside : Has g.vertices r.0 = (adjacent_ends is_graph r.0 r.1 r.2.edge).0 in
-            subst (Contains ps) r.3 (lists.all r.0 r.1 r.2 (inl (is_graph.names r.0 inside))),
-      );
-    }
+    pub pairs_listed : Within s g.vertices → (ps : List Pair) → ListsHeadPairs graph_pairs (AreNear (adjacent g) heads) places NAMES 0 ps → ListsPairs (adjacent g) cs ps
+    pairs_listed inside ps lists =
+        pairs_exactly graph_pairs_law heads (heads_rise cs children.order (length cs) heads places (omega arith) is) near_among (AreSetsJoined (adjacent g) cs) ps
+        (λ v h. is_graph.names v (inside v (child_within (get_or places v 0) v (is.below v h) (is.least v h).member))) to_joined of_joined lists

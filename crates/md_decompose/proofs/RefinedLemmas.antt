@@ -53,7 +53,7 @@ all_alone P (x ∷ xs) here = All-cons P (x ∷ xs) [] here (All-nil P)
 
 -- ---- the first class
 
-pub cut_none : (e : ℕ → ℕ → Bool) (s b : NameSet) → AllBelow b NAMES → CutNoModule e s b (one_class b).classes
+pub cut_none : {C : Type 0} (e : ℕ → ℕ → C) (s b : NameSet) → AllBelow b NAMES → CutNoModule e s b (one_class b).classes
 cut_none e s b below = record {
   names = λ v. named_alone (ascending b) v ∙ in_b v;
   whole = λ m is inside. all_alone (HasAllOrNone m) (ascending b) (λ x y hx hy. in_b x ∙ inside x hx ∙ sym (in_b y ∙ inside y hy));
@@ -77,7 +77,7 @@ part_whole m t c alike whole x y hx hy =
     go true h = rw (sym (whole x y hx hy) ∙ h) (ap (λ a. a && true) (alike x y hx hy h))
     go false h = rw (sym (whole x y hx hy) ∙ h) (and-false (t x) ∙ sym (and-false (t y)))
 
-module _ (e : ℕ → ℕ → Bool) (s b row : NameSet) (p : ℕ) (inside : Has s p) (sees : (x : ℕ) → contains row x ≡ e p x) where
+module _ {C : Type 0} (e : ℕ → ℕ → C) (s b row : NameSet) (p : ℕ) (inside : Has s p) (sees : (x y : ℕ) → e p x ≡ e p y → contains row x ≡ contains row y) where
   abbrev piece : List ℕ → List (List ℕ)
   piece c = if is_in c p then c ∷ [] else parts (contains row) c
 
@@ -101,7 +101,7 @@ module _ (e : ℕ → ℕ → Bool) (s b row : NameSet) (p : ℕ) (inside : Has 
       alike : is_in c p ≡ false → (x y : ℕ) → Has m x → Has m y → is_in c x ≡ true → contains row x ≡ contains row y
       alike out x y hx hy k =
           let lacks : Lacks m p = false_from_ne_true (contains m p) (λ hp. false≢true (sym out ∙ whole p x hp hx ∙ k)) in
-          sees x ∙ is.alike x y p hx hy inside lacks ∙ sym (sees y)
+          sees x y (is.alike x y p hx hy inside lacks)
 
   pub cut_more : (cs : List (List ℕ)) → CutNoModule e s b cs → CutNoModule e s b (cut_outside p row cs)
   cut_more cs before = record {
@@ -156,22 +156,35 @@ has_position cs v named = go (class_position cs v) refl (position_some (λ c. is
     go None is some = absurd (false≢true (sym (ap is_some is) ∙ some))
     go (Some k) is some = (k, is)
 
-module _ (e : ℕ → ℕ → Bool) (s b : NameSet) (q : Classes) (cut : CutNoModule e s b q.classes) (part : ArePartition q)
-    (numbers : List (Option ℕ)) (count : ℕ) (counted : count ≡ length q.classes)
-    (are : (v : ℕ) → number_at numbers v ≡ class_position q.classes v) where
-  pub is_numbering : IsNumbering b numbers count
+module _ (b : NameSet) (q : Classes) (names : (v : ℕ) → is_name q.classes v ≡ contains b v) (part : ArePartition q) where
+  pub is_numbering : IsNumbering b (class_position q.classes) (length q.classes)
   is_numbering = record {
     known = λ v h.
-        let at = has_position q.classes v (cut.names v ∙ h) in
-        (at.0, are v ∙ at.1, (let low = position_low (λ c. is_in c v) 0 at.0 q.classes at.1 in omega arith));
+        let at = has_position q.classes v (names v ∙ h) in
+        (at.0, at.1, (let low = position_low (λ c. is_in c v) 0 at.0 q.classes at.1 in omega arith));
     used = λ k low.
-        let at = position_each 0 q.classes part.filled part.apart k (omega arith) in
+        let at = position_each 0 q.classes part.filled part.apart k low in
         let found : class_position q.classes at.0 ≡ Some k = at.1 ∙ ap (λ n. Some n) (let same : 0 + k ≡ k = omega arith in same) in
-        (at.0, sym (cut.names at.0) ∙ sym (position_some (λ c. is_in c at.0) 0 q.classes) ∙ ap is_some found, are at.0 ∙ found);
+        (at.0, sym (names at.0) ∙ sym (position_some (λ c. is_in c at.0) 0 q.classes) ∙ ap is_some found, found);
   }
 
+  -- a list with the positions
+  module _ (numbers : List (Option ℕ)) (count : ℕ) (counted : count ≡ length q.classes) (are : (v : ℕ) → number_at numbers v ≡ class_position q.classes v) where
+    pub is_numbered_list : IsNumbering b (number_at numbers) count
+    is_numbered_list = record {
+      known = λ v h. let at = is_numbering.known v h in (at.0, are v ∙ at.1, (let low = at.2 in omega arith));
+      used = λ k low. let at = is_numbering.used k (omega arith) in (at.0, at.1, are at.0 ∙ at.2);
+    }
+
+    pub sets_at_positions : (cs : List NameSet) → AreNumbered b (number_at numbers) count cs → AreNumbered b (class_position q.classes) (length q.classes) cs
+    sets_at_positions cs sets = record {
+      long = sets.long ∙ counted;
+      members = λ k v h. let at = sets.members k v h in (at.0, sym (are v) ∙ at.1);
+      cover = λ k v low member is. sets.cover k v (omega arith) member (are v ∙ is);
+    }
+
   -- the sets by number partition b, and no module lies across two
-  module _ (cs : List NameSet) (sets : AreNumbered b numbers count cs) where
+  module _ {C : Type 0} (e : ℕ → ℕ → C) (s : NameSet) (cut : CutNoModule e s b q.classes) (cs : List NameSet) (sets : AreNumbered b (class_position q.classes) (length q.classes) cs) where
     pub holds_modules : HoldsModules e s b cs
     holds_modules = record {
       partition = record {
@@ -186,20 +199,20 @@ module _ (e : ℕ → ℕ → Bool) (s b : NameSet) (q : Classes) (cut : CutNoMo
       };
       whole = λ m is within k x h hm y hy.
           let same = position_same x y 0 q.classes (let all = cut.whole m is within in λ i d l. all i d l x y hm hy) in
-          sets.cover k y (let low = at_known cs k x h in let long = sets.long in omega arith) (within y hy) (are y ∙ sym same ∙ sym (are x) ∙ (sets.members k x h).1);
+          sets.cover k y (let low = at_known cs k x h in let long = sets.long in omega arith) (within y hy) (sym same ∙ (sets.members k x h).1);
     }
 
 -- ---- the sets by number
 
 -- a name that has a number is below the length of the list
-pub numbered_within : (b : NameSet) (numbers : List (Option ℕ)) (count : ℕ) → IsNumbering b numbers count → (v : ℕ) → Has b v → v < length numbers
+pub numbered_within : (b : NameSet) (numbers : List (Option ℕ)) (count : ℕ) → IsNumbering b (number_at numbers) count → (v : ℕ) → Has b v → v < length numbers
 numbered_within b numbers count is v member =
     elim (cases_lt v (length numbers)) [
       | inl within ↦ within
       | inr past ↦ let known = is.known v member in absurd (none-some known.0 (sym (get_or_past numbers v None past) ∙ known.1))
     ]
 
-pub number_low : (b : NameSet) (numbers : List (Option ℕ)) (count : ℕ) → IsNumbering b numbers count → (v n : ℕ) → Has b v → number_at numbers v ≡ Some n → n < count
+pub number_low : (b : NameSet) (numbers : List (Option ℕ)) (count : ℕ) → IsNumbering b (number_at numbers) count → (v n : ℕ) → Has b v → number_at numbers v ≡ Some n → n < count
 number_low b numbers count is v n member number =
     let known = is.known v member in
     let same = same_Some n known.0 (sym number ∙ known.1) in
@@ -267,7 +280,7 @@ all_there sets made is = (
     at k (inl low) = get_or-map set_or_empty sets k None empty low
     at k (inr past) = get_or_past (map set_or_empty sets) k empty (let long = length-map sets set_or_empty in omega arith) ∙ sym (ap set_or_empty (get_or_past sets k None past))
 
-pub sets_numbered : (b : NameSet) (numbers : List (Option ℕ)) (count : ℕ) (sets : List (Option NameSet)) (made : List NameSet) → length sets ≡ count → ((k v : ℕ) → Has (set_yet_at sets k) v → Has b v × (number_at numbers v ≡ Some k)) → ((k v : ℕ) → Has b v → number_at numbers v ≡ Some k → Has (set_yet_at sets k) v) → length made ≡ length sets → ((k : ℕ) → class_at made k ≡ set_yet_at sets k) → AreNumbered b numbers count made
+pub sets_numbered : (b : NameSet) (numbers : List (Option ℕ)) (count : ℕ) (sets : List (Option NameSet)) (made : List NameSet) → length sets ≡ count → ((k v : ℕ) → Has (set_yet_at sets k) v → Has b v × (number_at numbers v ≡ Some k)) → ((k v : ℕ) → Has b v → number_at numbers v ≡ Some k → Has (set_yet_at sets k) v) → length made ≡ length sets → ((k : ℕ) → class_at made k ≡ set_yet_at sets k) → AreNumbered b (number_at numbers) count made
 sets_numbered b numbers count sets made size members cover long same = record {
   long = long ∙ size;
   members = λ k v h. members k v (Has-along (class_at made k) (set_yet_at sets k) (same k) v h);

@@ -8,7 +8,8 @@ use Rattle.md_modules.specs.Kinds.{IsConnected, IsCoConnected, IsSplit}
 use Rattle.md_tree.specs.declared.Kind.{Kind}
 use Rattle.md_tree.specs.declared.Kind.TheVariants.{Parallel, Series, Prime}
 use Rattle.md_tree.specs.declared.Pair.{Pair}
-use Rattle.md_tree.specs.StrongTrees.{IsBefore, IsPairBefore}
+use Rattle.md_tree.specs.Spellings.{graph_pairs}
+use Rattle.md_tree.specs.StrongTrees.{IsBefore, ListsExactly}
 
 -- The list has exactly the maximal proper strong modules of s, each once, in ascending order of their least names: each has
 -- a name below all names of each one behind it.
@@ -26,9 +27,8 @@ pub record AreSetsJoined (e : ℕ → ℕ → Bool) (cs : List NameSet) (i j : �
   pub edge : (a : ℕ) × (b : ℕ) × Has (set_at cs i) a × Has (set_at cs j) b × (e a b ≡ true)
 
 -- the list has exactly the pairs of positions between whose sets an edge runs, each once, in ascending order
-pub record ListsPairs (e : ℕ → ℕ → Bool) (cs : List NameSet) (ps : List Pair) : Type 0 where
-  pub ascending : AllPairs IsPairBefore ps
-  pub exactly : (p : Pair) → Contains ps p ↔ AreSetsJoined e cs p.low p.high
+abbrev pub ListsPairs : (ℕ → ℕ → Bool) → List NameSet → List Pair → Type 0
+ListsPairs e cs ps = ListsExactly graph_pairs (AreSetsJoined e cs) ps
 
 -- a child of a parallel node is connected, and a child of a series node has a connected complement
 abbrev pub FitsBelow : (ℕ → ℕ → Bool) → NameSet → Option Kind → Type 0

@@ -1,10 +1,9 @@
--- The least names of sets that stand in order, the positions of their sets, and the pairs of them that are adjacent.
+-- The least names of sets that stand in order, the positions of their sets, and pairs of them.
 -- Source: a quotient with one name of each class.
 use Rattle.std.specs.Prelude.{◌≡◌, ◌<◌, ◌⊎◌, ℕ, Bool, true, List, Contains, AllPairs, slice_index}
 use Rattle.md_graph.specs.NameSet.{IsLeastFrom}
 use Rattle.md_graph.specs.Sets.{NameSet, Has}
-use Rattle.md_tree.specs.StrongTrees.{IsPairBefore}
-use Rattle.md_tree.specs.declared.Pair.{Pair}
+use Rattle.md_tree.specs.Spellings.{PairRules, IsPairBeforeBy}
 use Rattle.md_decompose.specs.Children.{set_at}
 
 -- heads has exactly the least names of the first n sets, and places has the position of its set at each
@@ -28,12 +27,12 @@ pub record AreNear (e : ℕ → ℕ → Bool) (heads : NameSet) (a b : ℕ) : Ty
 abbrev pub ComesBefore : ℕ → ℕ → ℕ → ℕ → Type 0
 ComesBefore a b x y = (a < x) ⊎ ((a ≡ x) × (b < y))
 
--- the places of a and b
-abbrev pub pair_at : List ℕ → ℕ → ℕ → Pair
-pair_at places a b = record { low = slice_index places a; high = slice_index places b }
+-- the pair of the places of a and b
+abbrev pub pair_at : {P : Type 0} → PairRules P → List ℕ → ℕ → ℕ → P
+pair_at r places a b = r.pair (slice_index places a) (slice_index places b)
 
--- the list has exactly the places of the adjacent heads a and b before (x, y), ascending
-pub record ListsHeadPairs (e : ℕ → ℕ → Bool) (heads : NameSet) (places : List ℕ) (x y : ℕ) (ps : List Pair) : Type 0 where
-  pub ascending : AllPairs IsPairBefore ps
-  pub each : (p : Pair) → Contains ps p → (a : ℕ) × (b : ℕ) × AreNear e heads a b × ComesBefore a b x y × (p ≡ pair_at places a b)
-  pub all : (a b : ℕ) → AreNear e heads a b → ComesBefore a b x y → Contains ps (pair_at places a b)
+-- the list has exactly the pairs of the places of a and b, of all a and b with Near a b before (x, y), ascending
+pub record ListsHeadPairs {P : Type 0} (r : PairRules P) (Near : ℕ → ℕ → Type 0) (places : List ℕ) (x y : ℕ) (ps : List P) : Type 0 where
+  pub ascending : AllPairs (IsPairBeforeBy r) ps
+  pub each : (p : P) → Contains ps p → (a : ℕ) × (b : ℕ) × Near a b × ComesBefore a b x y × (p ≡ pair_at r places a b)
+  pub all : (a b : ℕ) → Near a b → ComesBefore a b x y → Contains ps (pair_at r places a b)

@@ -16,8 +16,8 @@ struct Mark<const W: usize> {
     class: CompactSet<W>,
 }
 
-/// `first` and then the classes, in ascending order of their least names. Conditions: no two classes
-/// meet, none is empty, and `first` has a name below all of theirs. Errors: want of memory.
+/// `first` and then the classes, in ascending order of their least names. Conditions: no two
+/// classes meet, none is empty, and `first` has a name below all of theirs. Errors: want of memory.
 pub fn in_order<const W: usize>(
     alloc: Global,
     first: CompactSet<W>,

@@ -2,16 +2,17 @@
 ghost use Rattle.std.specs.Prelude.{◌*◌, ◌≡◌, ◌<◌, ◌≤◌, ◌++◌, ℕ, IfOk, AllPairs, length, map};
 ghost use Rattle.std.specs.FinSet.{intersection};
 ghost use Rattle.md_graph.specs.NameSet.{ascending};
-ghost use Rattle.md_graph.specs.PlainGraph.{adjacent, neighbours};
+ghost use Rattle.md_graph.specs.PlainGraph.{adjacent};
 ghost use Rattle.md_graph.specs.Sets.{Has, Within, HasSome};
 ghost use Rattle.md_modules.specs.Kinds.{IsPrime};
+ghost use Rattle.md_tree.specs.Spellings.{graph_pairs};
 ghost use Rattle.md_tree.specs.StrongTrees.{IsBefore};
 ghost use Rattle.md_decompose.specs.Children.{AreChildren, ListsPairs, set_at};
-ghost use Rattle.md_decompose.specs.Heads.{HoldsHeads, RisesOn, pair_at, ListsHeadPairs};
+ghost use Rattle.md_decompose.specs.Heads.{AreNear, HoldsHeads, RisesOn, pair_at, ListsHeadPairs};
 
 use md_graph::{GraphOf, Memory, NAMES, Set, WORDS};
 use md_modules::CompactSet;
-use md_tree::{Pair, QuotientEdges};
+use md_tree::{Pair, Paired, QuotientEdges};
 use std::alloc::Global;
 
 // So many heads are few.
@@ -32,15 +33,21 @@ pub(crate) fn quotient_edges<const W: usize>(
     requires children { AreChildren (adjacent graph.now) set.now sets.now }
     ensures { IfOk result (λ edges. ListsPairs (adjacent graph.now) sets.now edges.list.items) }
 {
-    let _vertices = graph.vertices();
-    let Some(last) = set.last() else {
-        unreachable!();
-    };
-    make_room(places, last as usize + 1)?;
+    make_room(places, set)?;
     pairs_by_places(alloc, graph, set, sets, places)
 }
 
-fn make_room(places: &mut Vec<u32>, size: usize) -> Result<(), Memory>
+/// Makes room in `places` for a place at each name of the set. Errors: want of memory.
+pub fn make_room<const W: usize>(places: &mut Vec<u32>, set: &Set<W>) -> Result<(), Memory>
+    ensures room { IfOk result (λ _. (v : ℕ) → Has set.now v → v < length places.new.items) }
+{
+    let Some(last) = set.last() else {
+        return Ok(());
+    };
+    lengthen(places, last as usize + 1)
+}
+
+fn lengthen(places: &mut Vec<u32>, size: usize) -> Result<(), Memory>
     ensures { IfOk result (λ _. size ≤ length places.new.items) }
 {
     if places.len() < size {
@@ -69,8 +76,10 @@ fn pairs_by_places<const W: usize>(
     Ok(QuotientEdges { list })
 }
 
-// The least name of each set, and at its place the position of the set.
-fn heads_of<const W: usize>(sets: &[CompactSet<W>], places: &mut [u32]) -> Set<W>
+/// The least name of each set, and in `places` at each of them the position of its set. Conditions:
+/// `W` is at most `WORDS`, no set is empty, each has a name below all of those behind it, and there
+/// is room for a place at each name.
+pub fn heads_of<const W: usize>(sets: &[CompactSet<W>], places: &mut [u32]) -> Set<W>
     requires limit { W ≤ WORDS }
     requires room { (k v : ℕ) → k < length sets.now → Has (set_at sets.now k) v
         → v < length places.old }
@@ -100,15 +109,15 @@ fn head_pairs<const W: usize>(
     requires inside { Within heads.now graph.now.vertices }
     requires room { (v : ℕ) → Has heads.now v → v < length places.now }
     requires rising { RisesOn heads.now places.now }
-    ensures { IfOk result (λ edges.
-        ListsHeadPairs (adjacent graph.now) heads.now places.now NAMES 0 edges.items) }
+    ensures { IfOk result (λ edges. ListsHeadPairs graph_pairs
+        (AreNear (adjacent graph.now) heads.now) places.now NAMES 0 edges.items) }
 {
     let _vertices = graph.vertices();
     let mut edges = Vec::with_capacity(alloc, pair_room(graph, heads))?;
     let mut later = heads.copy();
     for head in heads.members() {
         later.remove(head);
-        push_near(graph, &later, places, head, &mut edges)?;
+        push_near(graph.neighbours(head), &later, places, head, &mut edges)?;
     }
     Ok(edges)
 }
@@ -130,29 +139,26 @@ fn pair_room<const W: usize>(graph: &GraphOf<W>, heads: &Set<W>) -> usize {
     ends / 2
 }
 
-// The pairs of `head` and each one of `later` that is adjacent to it, by their places.
-fn push_near<const W: usize>(
-    graph: &GraphOf<W>,
-    later: &Set<W>,
+/// Puts behind `pairs` those of `head` and each one of `among` that `row` has, by their places, in
+/// ascending order of these names. Condition: there is a place at each of the names. Errors: want of
+/// memory.
+pub fn push_near<P: Paired, const W: usize>(
+    row: &Set<W>,
+    among: &Set<W>,
     places: &[u32],
     head: u32,
-    edges: &mut Vec<Pair>,
+    pairs: &mut Vec<P>,
 ) -> Result<(), Memory>
-    requires vertex { Has graph.now.vertices head }
     requires own { head < length places.now }
-    requires room { (v : ℕ) → Has later.now v → v < length places.now }
-    ensures { IfOk result (λ _. edges.new.items ≡ edges.old.items
-        ++ map (pair_at places.now head)
-        (ascending (intersection (neighbours graph.now head) later.now))) }
+    requires room { (v : ℕ) → Has among.now v → v < length places.now }
+    ensures pairs { IfOk result (λ _. pairs.new.items ≡ pairs.old.items
+        ++ map (pair_at P.rules places.now head) (ascending (intersection row.now among.now))) }
 {
-    let low = places[head as usize];
-    let near = graph.neighbours(head).and(later);
-    edges.reserve(near.count() as usize)?;
+    let first = places[head as usize];
+    let near = row.and(among);
+    pairs.reserve(near.count() as usize)?;
     for other in near.members() {
-        edges.push_reserved(Pair {
-            low,
-            high: places[other as usize],
-        });
+        pairs.push_reserved(P::pair(first, places[other as usize]));
     }
     Ok(())
 }

@@ -1,10 +1,10 @@
 //! Parts of a set that its modules lie in, by partition refinement.
 ghost use Rattle.std.specs.Prelude.{◌≡◌, ◌+◌, ◌*◌, ◌<◌, if◌then◌else◌, ◌≤◌, ℕ, IfOk, OnOk, OnErr, Some, None, length, replicate};
-ghost use Rattle.std.specs.FinSet.{insert};
+ghost use Rattle.std.specs.FinSet.{contains, insert};
 ghost use Rattle.md_graph.specs.PlainGraph.{adjacent};
 ghost use Rattle.md_graph.specs.Sets.{Has, HasSome, Within};
 ghost use Rattle.md_modules.specs.Classes.{class_at, HoldsModules};
-ghost use Rattle.md_refine.specs.Partitions.{ArePartition};
+ghost use Rattle.md_refine.specs.Partitions.{ArePartition, class_position, is_name};
 ghost use Rattle.md_decompose.specs.Refined.{CutNoModule, IsNumbering, AreNumbered, number_at, set_or_empty, set_yet_at};
 
 use md_graph::{GraphOf, Memory, Set, WORDS};
@@ -31,6 +31,21 @@ pub(crate) fn refined_classes<const W: usize>(
         HoldsModules (adjacent graph.now) set.now rest.now classes.items) }
 {
     let partition = cut_by_rows(alloc, graph, set, rest)?;
+    let _count = partition.class_count();
+    let sets = class_sets(alloc, rest, &partition)?;
+    Ok(sets)
+}
+
+/// The classes of a partition of `rest` as sets, in their order. Errors: want of memory.
+pub fn class_sets<const W: usize>(
+    alloc: Global,
+    rest: &Set<W>,
+    partition: &Partition,
+) -> Result<Vec<CompactSet<W>>, Memory>
+    requires { (v : ℕ) → is_name partition.now.classes v ≡ contains rest.now v }
+    ensures sets { IfOk result (λ sets. AreNumbered rest.now
+        (class_position partition.now.classes) (length partition.now.classes) sets.items) }
+{
     let count = partition.class_count();
     let numbers = partition.class_positions(alloc)?;
     let sets = sets_of_numbers(alloc, rest, count, &numbers)?;
@@ -89,7 +104,7 @@ fn sets_of_numbers<const W: usize>(
     count: u32,
     numbers: &Vec<Option<u32>>,
 ) -> Result<Vec<Option<CompactSet<W>>>, Memory>
-    requires { IsNumbering rest.now numbers.now.items count }
+    requires { IsNumbering rest.now (number_at numbers.now.items) count }
     ensures len { IfOk result (λ sets. length sets.items ≡ count) }
     ensures members { IfOk result (λ sets. (k v : ℕ) → Has (set_yet_at sets.items k) v →
         Has rest.now v × (number_at numbers.now.items v ≡ Some k)) }

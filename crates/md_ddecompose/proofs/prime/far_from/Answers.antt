@@ -18,7 +18,7 @@ hold-requires g c =
 
 pub loop-j-smaller : goal.loop-j-smaller
 loop-j-smaller g c =
-    held_falls c.args.set.now c.loop-j.held c.hold.new.held _ c.in-Some.j (rest_told c.args.set.now c.loop-j.held) c.in-Some.ensures.found c.hold.ensures
+    held_falls c.args.set.now c.loop-j.held c.hold.new.held _ c.in-Some.j (rest_told c.args.set.now c.loop-j.held) c.in-Some.ensures.found.member c.hold.ensures
 
 pub loop-j-preserved : goal.loop-j-preserved
 loop-j-preserved g c =

@@ -41,4 +41,4 @@ head_pairs-requires g c =
 pub returns : goal.returns
 returns g c =
     pairs_listed c.vertices-vertices.ensures.graph c.args.set.now c.args.sets.now c.requires.prime c.requires.children c.heads_of-heads.result c.heads_of-heads.new.places
-    c.heads_of-heads.ensures.heads c.in_ok-list.list.items c.in_ok-list.ensures
+    c.heads_of-heads.ensures.heads c.requires.inside c.in_ok-list.list.items c.in_ok-list.ensures

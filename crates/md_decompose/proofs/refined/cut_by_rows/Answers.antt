@@ -1,4 +1,4 @@
-use Rattle.std.proofs.Common.{◌∙◌, ap, subst, sym, inl, inr}
+use Rattle.std.proofs.Common.{◌≡◌, ℕ, ◌∙◌, ap, subst, sym, inl, inr}
 use Rattle.std.specs.FinSet.{contains, intersection}
 use Rattle.md_graph.specs.PlainGraph.{adjacent}
 use Rattle.md_graph.proofs.GraphLemmas.{contains-neighbours}
@@ -20,10 +20,12 @@ loop-init g c =
 pub loop-preserved : goal.loop-preserved
 loop-preserved g c =
     let member = c.loop.invariant.near c.in-Some.p c.in-Some.ensures.found.member in
+    let told : (x : ℕ) → contains c.row-in-loop.result.now x ≡ adjacent c.args.graph.now c.in-Some.p x = λ x.
+    ap (λ row. contains row x) c.row-in-loop.ensures.set ∙ contains-neighbours c.row-in-loop.ensures.graph c.in-Some.p x in
     record {
       cut = subst (CutNoModule (adjacent c.args.graph.now) c.args.set.now c.args.rest.now) (sym c.refine_outside.ensures.cut)
           (cut_more (adjacent c.args.graph.now) c.args.set.now c.args.rest.now c.row-in-loop.result.now c.in-Some.p member
-          (λ x. ap (λ row. contains row x) c.row-in-loop.ensures.set ∙ contains-neighbours c.row-in-loop.ensures.graph c.in-Some.p x) c.loop.partition.classes c.loop.invariant.cut);
+          (λ x y same. told x ∙ same ∙ sym (told y)) c.loop.partition.classes c.loop.invariant.cut);
       untouched = c.refine_outside.ensures.untouched;
       near = λ x h. elim (of_union c.remove.new.self (intersection c.loop.left c.row.result.now) x (Has-along _ _ c.move_shared.ensures.moved x h)) [
         | inl old ↦ c.loop.invariant.near x (of_remove c.loop.near c.in-Some.p x (Has-along _ _ c.remove.ensures.changed x old)).1
