@@ -2,14 +2,13 @@
 use Rattle.std.proofs.Common.{◌≡◌, ℕ, List, sym, ◌∙◌, ap, subst}
 use Rattle.std.specs.List.{flat_map}
 use Rattle.md_graph.specs.PlainGraph.{PlainGraph}
-use Rattle.md_report.specs.Places.{Place}
 use Rattle.md_checker.specs.declared.answer.CheckAnswer.{CheckAnswer}
 use Rattle.md_checker.specs.declared.answer.CheckAnswer.TheVariants as answers
-use Rattle.md_checker.specs.Answers.{IsCheckAnswer}
 use Rattle.md_top.specs.declared.big.Numbers.{Numbers}
 use Rattle.md_top.specs.declared.request.Request.{Request}
 use Rattle.md_top.specs.declared.request.Request.TheVariants.{Convert, Report, Check, Big}
 use Rattle.md_top.specs.declared.stop.Verdict.TheVariants.{Done, Rejected}
+use Rattle.md_top.specs.Starts.{Start, of_graphs, of_digraphs, IsAnswerFrom}
 use Rattle.md_top.specs.Answer.{Output, text, report, answer, graph_text, verdict_of, Gives, HasAnswer, IsWhole, IsAnswer}
 use Rattle.md_top.specs.Big.{numbers_line}
 use Rattle.md_top.specs.Laws.{OneOutput}
@@ -20,13 +19,14 @@ pub one_output : OneOutput
 one_output (Convert to from graph) a b ga gb =
     ga.2 ∙ ap (λ (graphs : List PlainGraph). text (flat_map (graph_text to) graphs)) (graphs_alike from graph ga.0 gb.0 ga.1 gb.1) ∙ sym gb.2
 one_output (Report subject) a b ga gb = ga.2 ∙ ap report (begin_alike subject ga.0 gb.0 ga.1 gb.1) ∙ sym gb.2
-one_output (Check subject bytes) a b ga gb = ga.2 ∙ ap (λ (p : Place). answer p bytes) (begin_alike subject ga.0 gb.0 ga.1 gb.1) ∙ sym gb.2
+one_output (Check subject bytes) a b ga gb = ga.2 ∙ ap (λ (p : Start). answer p bytes) (begin_alike subject ga.0 gb.0 ga.1 gb.1) ∙ sym gb.2
 one_output (Big size) a b ga gb =
     ga.2 ∙ ap (λ (n : Numbers). text (numbers_line n)) (numbers_alike size ga.0 gb.0 ga.1 gb.1) ∙ sym gb.2
 
 -- where a report is rejected, Done isn't what a whole output says
-accepted_not_rejected : (p : Place) (bytes : List ℕ) (line : ℕ) (told : CheckAnswer) → IsCheckAnswer p bytes (answers.Rejected line) → IsCheckAnswer p bytes told → Done ≡ verdict_of told → ⊥
-accepted_not_rejected p bytes line answers.Accepted rejected is said = rejected.0 is
+accepted_not_rejected : (p : Start) (bytes : List ℕ) (line : ℕ) (told : CheckAnswer) → IsAnswerFrom p bytes (answers.Rejected line) → IsAnswerFrom p bytes told → Done ≡ verdict_of told → ⊥
+accepted_not_rejected (of_graphs p) bytes line answers.Accepted rejected is said = rejected.0 is
+accepted_not_rejected (of_digraphs p) bytes line answers.Accepted rejected is said = rejected.0 is
 accepted_not_rejected p bytes line (answers.Rejected other) rejected is said = cc
 
 pub not_done : (input : Request (List ℕ)) (line : ℕ) (bytes : List ℕ) → HasAnswer input (answers.Rejected line) → IsAnswer input Done bytes → ⊥
@@ -36,7 +36,7 @@ not_done input line bytes has is =
     accepted_not_rejected has.0 has.1 line whole.0 has.3 whole.1 whole.2
 
 -- a whole output that says Rejected is the answer of a check
-rejected_told : (input : Request (List ℕ)) (p : Place) (bytes : List ℕ) → Gives input (answer p bytes) → (told : CheckAnswer) → IsCheckAnswer p bytes told → Rejected ≡ verdict_of told → (line : ℕ) × HasAnswer input (answers.Rejected line)
+rejected_told : (input : Request (List ℕ)) (p : Start) (bytes : List ℕ) → Gives input (answer p bytes) → (told : CheckAnswer) → IsAnswerFrom p bytes told → Rejected ≡ verdict_of told → (line : ℕ) × HasAnswer input (answers.Rejected line)
 rejected_told input p bytes gives answers.Accepted is said = cc
 rejected_told input p bytes gives (answers.Rejected line) is said = (line, (p, bytes, gives, is))
 

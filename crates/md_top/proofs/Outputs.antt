@@ -1,8 +1,12 @@
 -- From an output that is put, whole or in part, to the ending of a command.
 use Rattle.std.proofs.Common.{◌≡◌, ℕ, List, Option, None, Some, Result, Ok, Err, IsErrAnd, refl, sym, subst, inl, inr}
 use Rattle.std.proofs.KnownBytes.{Keeps-refl}
+use Rattle.std.specs.List.{flat_map}
+use Rattle.std.specs.Io.KnownBytes.{Appends}
+use Rattle.md_io.specs.Count.{Rose}
 use Rattle.md_report.specs.Lines.{lines_text}
 use Rattle.md_report.specs.Places.{after_end}
+use Rattle.md_dcheck.specs.DirectedReports.{after_directed, fed_directed_line}
 use Rattle.md_input.specs.declared.fault.Fault.{Fault}
 use Rattle.md_input.specs.declared.fault.InputStop.{InputStop}
 use Rattle.md_input.specs.declared.fault.InputStop.TheVariants as inputs
@@ -14,20 +18,40 @@ use Rattle.md_top.specs.declared.stop.Stop.{Stop}
 use Rattle.md_top.specs.declared.stop.Verdict.{Verdict}
 use Rattle.md_top.specs.declared.stop.Verdict.TheVariants.{Done, Rejected}
 use Rattle.md_checker.specs.declared.answer.CheckAnswer.{CheckAnswer}
-use Rattle.md_checker.specs.Answers.{IsCheckAnswer}
+use Rattle.md_top.specs.Starts.{Start, of_graphs, of_digraphs, IsReportFrom, IsFrontFrom, IsAnswerFrom}
 use Rattle.md_top.specs.Answer.{fault_of, Output, text, report, answer, answer_text, verdict_of, Gives}
-use Rattle.md_top.specs.Sinks.{SinkRun, sink, PutsWhole, PutsLines}
+use Rattle.md_top.specs.Sinks.{SinkRun, sink, PutsWhole, PutsLines, PutsDirected}
 use Rattle.md_top.specs.Status.{stop_of_put, stop_of_input}
 use Rattle.md_top.specs.Command.{CommandEnds, PutsFront}
+
+-- a report is put whole from there on, or the call stopped within it
+abbrev pub PutsReport : Start → Result (Unit {0}) PutStop → SinkRun → Type 0
+PutsReport (of_graphs p) result o = PutsLines p after_end result o
+PutsReport (of_digraphs p) result o = PutsDirected p after_directed result o
+
+-- what was put is then a whole report
+report_put : (p : Start) (o : SinkRun) → PutsReport p (Ok tt) o → (bytes : List ℕ) × IsReportFrom p bytes × Appends o.old o.new bytes
+report_put (of_graphs p) o put = (lines_text put.lines, record { lines = put.lines; leads = put.leads; text = refl }, put.put)
+report_put (of_digraphs p) o put = (flat_map fed_directed_line put.lines, record { lines = put.lines; leads = put.leads; text = refl }, put.put)
+
+-- or the front of one
+report_begun : (p : Start) (o : SinkRun) → PutsReport p (Err Memory) o → (bytes : List ℕ) × IsFrontFrom p bytes × Appends o.old o.new bytes
+report_begun (of_graphs p) o front = (front.bytes, front.front, front.put)
+report_begun (of_digraphs p) o front = (front.bytes, front.front, front.put)
+
+-- and the count of faults rose, where the output couldn't be written
+report_failed : (p : Start) (o : SinkRun) → PutsReport p (Err WriteFault) o → PutsReport p (Err Memory) o × Rose o.faults_old o.faults_new
+report_failed (of_graphs p) o put = (put.0, put.1)
+report_failed (of_digraphs p) o put = (put.0, put.1)
 
 -- an output with this verdict is put whole, or the call stopped within it
 abbrev pub PutsOutput : Output → Verdict → Result (Unit {0}) PutStop → SinkRun → Type 0
 PutsOutput (text whole) Done result o = PutsWhole whole result o
 PutsOutput (text whole) Rejected result o = ⊥
-PutsOutput (report p) Done result o = PutsLines p after_end result o
+PutsOutput (report p) Done result o = PutsReport p result o
 PutsOutput (report p) Rejected result o = ⊥
 PutsOutput (answer p bytes) verdict result o =
-    (told : CheckAnswer) × IsCheckAnswer p bytes told × (verdict ≡ verdict_of told) × PutsWhole (answer_text told) result o
+    (told : CheckAnswer) × IsAnswerFrom p bytes told × (verdict ≡ verdict_of told) × PutsWhole (answer_text told) result o
 
 module _ (input : Request (List ℕ)) (output : Output) (gives : Gives input output) (faultless : fault_of input ≡ None) (o : SinkRun) where
   -- the whole output is put
@@ -38,12 +62,9 @@ module _ (input : Request (List ℕ)) (output : Output) (gives : Gives input out
       done_by (text whole) gives Done put =
           record { faultless = faultless; bytes = whole; answer = record { output = text whole; gives = gives; whole = refl }; put = put }
       done_by (text whole) gives Rejected put = absurd put
-      done_by (report p) gives Done put = record {
-        faultless = faultless;
-        bytes = lines_text put.lines;
-        answer = record { output = report p; gives = gives; whole = record { lines = put.lines; leads = put.leads; text = refl } };
-        put = put.put;
-      }
+      done_by (report p) gives Done put =
+          let whole = report_put p o put in
+          record { faultless = faultless; bytes = whole.0; answer = record { output = report p; gives = gives; whole = whole.1 }; put = whole.2 }
       done_by (report p) gives Rejected put = absurd put
       done_by (answer p bytes) gives verdict put = record {
         faultless = faultless;
@@ -57,7 +78,8 @@ module _ (input : Request (List ℕ)) (output : Output) (gives : Gives input out
       record { faultless = faultless; bytes = front.part; front = record { output = text whole; gives = gives; begun = (front.rest, front.whole) }; put = front.appended }
   front_of (text whole) gives Rejected front = absurd front
   front_of (report p) gives Done front =
-      record { faultless = faultless; bytes = front.bytes; front = record { output = report p; gives = gives; begun = front.front }; put = front.put }
+      let begun = report_begun p o front in
+      record { faultless = faultless; bytes = begun.0; front = record { output = report p; gives = gives; begun = begun.1 }; put = begun.2 }
   front_of (report p) gives Rejected front = absurd front
   front_of (answer p bytes) gives verdict front = record {
     faultless = faultless;
@@ -70,7 +92,8 @@ module _ (input : Request (List ℕ)) (output : Output) (gives : Gives input out
   stops_by (text whole) gives Done WriteFault put = (front_of (text whole) gives Done put.0, put.1)
   stops_by (text whole) gives Done Memory put = inr (front_of (text whole) gives Done put)
   stops_by (text whole) gives Rejected stop put = absurd put
-  stops_by (report p) gives Done WriteFault put = (front_of (report p) gives Done put.0, put.1)
+  stops_by (report p) gives Done WriteFault put =
+      let failed = report_failed p o put in (front_of (report p) gives Done failed.0, failed.1)
   stops_by (report p) gives Done Memory put = inr (front_of (report p) gives Done put)
   stops_by (report p) gives Rejected stop put = absurd put
   stops_by (answer p bytes) gives verdict WriteFault put =

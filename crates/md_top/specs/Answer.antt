@@ -12,16 +12,14 @@ use Rattle.md_input.specs.declared.format.Format.TheVariants.{G6, Dimacs}
 use Rattle.md_input.specs.declared.fault.Fault.{Fault}
 use Rattle.md_input.specs.Spelling.{SpellsGraphs}
 use Rattle.md_input.specs.Faults.{graph_fault}
-use Rattle.md_report.specs.Places.{Place}
-use Rattle.md_report.specs.Reports.{IsReport, IsFront}
 use Rattle.md_checker.specs.declared.answer.CheckAnswer.{CheckAnswer}
 use Rattle.md_checker.specs.declared.answer.CheckAnswer.TheVariants as answers
-use Rattle.md_checker.specs.Answers.{IsCheckAnswer}
 use Rattle.md_top.specs.declared.big.Numbers.{Numbers}
 use Rattle.md_top.specs.declared.request.Request.{Request}
 use Rattle.md_top.specs.declared.request.Request.TheVariants.{Convert, Report, Check, Big}
 use Rattle.md_top.specs.declared.stop.Verdict.{Verdict}
 use Rattle.md_top.specs.declared.stop.Verdict.TheVariants.{Done, Rejected}
+use Rattle.md_top.specs.Starts.{Start, IsReportFrom, IsFrontFrom, IsAnswerFrom}
 use Rattle.md_top.specs.Subject.{subject_fault, BeginsAt}
 use Rattle.md_top.specs.Big.{AreNumbersOf, numbers_line}
 
@@ -47,40 +45,40 @@ abbrev pub verdict_of : CheckAnswer → Verdict
 verdict_of answers.Accepted = Done
 verdict_of (answers.Rejected line) = Rejected
 
--- What is put: a text; or a report from a place on to the end; or the answer of checking bytes as such a report.
+-- What is put: a text; or a report from where it begins to the end; or the answer of checking bytes as such a report.
 pub data Output : Type 0 where
   text : List ℕ → Output
-  report : Place → Output
-  answer : Place → List ℕ → Output
+  report : Start → Output
+  answer : Start → List ℕ → Output
 
 -- the request over these contents gives the output: the texts of the graphs, one after the other; the report over a
 -- subject; the answer of checking it; the numbers of a session
 abbrev pub Gives : Request (List ℕ) → Output → Type 0
 Gives (Convert to from graph) output =
     (graphs : List PlainGraph) × SpellsGraphs from graph graphs × (output ≡ text (flat_map (graph_text to) graphs))
-Gives (Report subject) output = (p : Place) × BeginsAt subject p × (output ≡ report p)
-Gives (Check subject bytes) output = (p : Place) × BeginsAt subject p × (output ≡ answer p bytes)
+Gives (Report subject) output = (p : Start) × BeginsAt subject p × (output ≡ report p)
+Gives (Check subject bytes) output = (p : Start) × BeginsAt subject p × (output ≡ answer p bytes)
 Gives (Big size) output = (n : Numbers) × AreNumbersOf size n × (output ≡ text (numbers_line n))
 
 -- the request over these contents is a check with this answer
 abbrev pub HasAnswer : Request (List ℕ) → CheckAnswer → Type 0
-HasAnswer input told = (p : Place) × (bytes : List ℕ) × Gives input (answer p bytes) × IsCheckAnswer p bytes told
+HasAnswer input told = (p : Start) × (bytes : List ℕ) × Gives input (answer p bytes) × IsAnswerFrom p bytes told
 
 -- the bytes are the whole output, with its verdict
 abbrev pub IsWhole : Output → Verdict → List ℕ → Type 0
 IsWhole (text whole) Done bytes = bytes ≡ whole
 IsWhole (text whole) Rejected bytes = ⊥
-IsWhole (report p) Done bytes = IsReport p bytes
+IsWhole (report p) Done bytes = IsReportFrom p bytes
 IsWhole (report p) Rejected bytes = ⊥
 IsWhole (answer p judged) verdict bytes =
-    (told : CheckAnswer) × IsCheckAnswer p judged told × (verdict ≡ verdict_of told) × (bytes ≡ answer_text told)
+    (told : CheckAnswer) × IsAnswerFrom p judged told × (verdict ≡ verdict_of told) × (bytes ≡ answer_text told)
 
 -- the bytes are a beginning of the output; of a report by its lines
 abbrev pub IsBeginning : Output → List ℕ → Type 0
 IsBeginning (text whole) bytes = (rest : List ℕ) × (whole ≡ bytes ++ rest)
-IsBeginning (report p) bytes = IsFront p bytes
+IsBeginning (report p) bytes = IsFrontFrom p bytes
 IsBeginning (answer p judged) bytes =
-    (told : CheckAnswer) × IsCheckAnswer p judged told × (rest : List ℕ) × (answer_text told ≡ bytes ++ rest)
+    (told : CheckAnswer) × IsAnswerFrom p judged told × (rest : List ℕ) × (answer_text told ≡ bytes ++ rest)
 
 -- a whole valid output with its verdict
 pub record IsAnswer (input : Request (List ℕ)) (verdict : Verdict) (bytes : List ℕ) : Type 0 where

@@ -1,3 +1,4 @@
+pub mod Starts
 pub mod Subject
 pub mod Request
 pub mod Input

@@ -14,7 +14,7 @@ use Rattle.md_report.specs.declared.line.SessionMode.{SessionMode}
 use Rattle.md_report.specs.Lines.{mode_of_word, as_graph_mode, as_session_mode}
 use Rattle.md_top.specs.declared.big.TheConstants.{BIGGEST}
 use Rattle.md_top.specs.declared.request.Subject.{Subject}
-use Rattle.md_top.specs.declared.request.Subject.TheVariants.{Graphs, Session}
+use Rattle.md_top.specs.declared.request.Subject.TheVariants.{Graphs, Session, Digraphs}
 use Rattle.md_top.specs.declared.request.Request.{Request}
 use Rattle.md_top.specs.declared.request.Request.TheVariants.{Convert, Report, Check, Big}
 use Rattle.md_top.specs.Subject.{subject_over, subject_files, with_subject_files}
@@ -90,8 +90,13 @@ abbrev pub session_subject : Option SessionMode → Option Format → List ℕ �
 session_subject (Some mode) (Some from) graph script = Some (Session mode from graph script)
 session_subject mode from graph script = None
 
+-- a report of the trees of the directed graphs of a file, if the word is theirs
+abbrev pub digraphs_subject : List ℕ → List ℕ → Option (Subject (List ℕ))
+digraphs_subject word graph = if bytes_eq word (codes "dtree") then Some (Digraphs graph) else None
+
 -- what the report is over that the words name
 abbrev pub subject_of : List (List ℕ) → Option (Subject (List ℕ))
+subject_of (word ∷ graph ∷ []) = digraphs_subject word graph
 subject_of (mode ∷ format ∷ graph ∷ []) = graphs_subject (graph_mode mode) (format_of format) graph
 subject_of (mode ∷ format ∷ graph ∷ script ∷ []) = session_subject (session_mode mode) (format_of format) graph script
 subject_of words = None

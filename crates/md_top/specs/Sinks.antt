@@ -8,6 +8,7 @@ use Rattle.md_io.specs.Count.{Rose}
 use Rattle.md_report.specs.Lines.{fed_line}
 use Rattle.md_report.specs.Places.{Place, MayCome, next_place}
 use Rattle.md_report.specs.Protocols.{LeadBy, IsFrontBy}
+use Rattle.md_dcheck.specs.DirectedReports.{DirectedPlace, MayComeDirected, next_directed, fed_directed_line}
 use Rattle.md_top.specs.declared.stop.PutStop.{PutStop}
 use Rattle.md_top.specs.declared.stop.PutStop.TheVariants.{WriteFault, Memory}
 
@@ -68,3 +69,10 @@ AppendsFrontFrom p old new = AppendsFrontFromBy MayCome next_place fed_line p ol
 
 abbrev pub PutsLines : Place → Place → Result (Unit {0}) PutStop → SinkRun → Type 0
 PutsLines p q result o = PutsLinesBy MayCome next_place fed_line p q result o
+
+-- The same of the reports of the trees of directed graphs.
+abbrev pub AppendsDirected : DirectedPlace → DirectedPlace → Option (List ℕ) → Option (List ℕ) → Type 0
+AppendsDirected p q old new = AppendsLinesBy MayComeDirected next_directed fed_directed_line p q old new
+
+abbrev pub PutsDirected : DirectedPlace → DirectedPlace → Result (Unit {0}) PutStop → SinkRun → Type 0
+PutsDirected p q result o = PutsLinesBy MayComeDirected next_directed fed_directed_line p q result o

@@ -12,6 +12,7 @@ use crate::put::put_piece;
 use crate::short::ShortText;
 use crate::stop::{PutStop, Stop, Verdict};
 use md_checker::{CheckAnswer, check_graphs, check_session};
+use md_dcheck::check_directed;
 use md_input::Format;
 use md_io::Sink;
 use md_report::{GraphMode, SessionMode};
@@ -52,6 +53,22 @@ pub fn session_check<O: Sink>(
     ensures faults_never_fall { O.faults out.old ≤ O.faults out.new }
 {
     let answer = check_session(alloc, mode, from, file, script, report)?;
+    put_answer(answer, out)?;
+    Ok(verdict_of(answer))
+}
+
+/// Puts the answer of checking a report of the trees of the directed graphs of a file.
+pub fn digraphs_check<O: Sink>(
+    alloc: Global,
+    file: &[u8],
+    report: &[u8],
+    out: &mut O,
+) -> Result<Verdict, Stop>
+    ensures ends { CommandEnds (Request.Check (Subject.Digraphs file.now) report.now) result
+        (sink_run O.Sink out.old out.new) }
+    ensures faults_never_fall { O.faults out.old ≤ O.faults out.new }
+{
+    let answer = check_directed(alloc, file, report)?;
     put_answer(answer, out)?;
     Ok(verdict_of(answer))
 }

@@ -5,6 +5,7 @@ mod big;
 mod check;
 mod cographs;
 mod convert;
+mod directed;
 mod err_line;
 pub mod laws;
 mod load;

@@ -2,21 +2,23 @@
 ghost use Rattle.std.specs.Prelude.{◌≡◌, ◌≤◌, IfSome};
 ghost use Rattle.std.specs.Option.{option_map};
 ghost use Rattle.md_top.specs.Subject.{subject_seen};
-ghost use Rattle.md_top.specs.Request.{texts, format_of, graph_mode, session_mode, subject_of, size_written, HasSize, convert_request, check_request, big_request, request_of, seen};
+ghost use Rattle.md_top.specs.Request.{texts, format_of, graph_mode, session_mode, digraphs_subject, subject_of, size_written, HasSize, convert_request, check_request, big_request, request_of, seen};
 
 use crate::big::BIGGEST;
 use md_input::Format;
 use md_report::{GraphMode, SessionMode, mode_of_word};
 use md_text::number;
 
-/// What a report is over, by what stands for each file: its name, or its bytes; and its mode. The
-/// format is that of the graph file.
+/// What a report is over, by what stands for each file: its name, or its bytes; and its mode, where
+/// there is more than one. The format is that of the graph file.
 #[derive(Clone, Copy, Debug, Drop, PartialEq, Eq)]
 pub enum Subject<F> {
     /// The graphs of a graph file.
     Graphs(GraphMode, Format, F),
     /// A session on the one graph of a graph file, over a script.
     Session(SessionMode, Format, F, F),
+    /// The directed graphs of a digraph6 file.
+    Digraphs(F),
 }
 
 /// What is asked for, by what stands for each file: its name, or its bytes.
@@ -81,11 +83,13 @@ fn convert_request(to: Format, words: &[String]) -> Option<Request<&str>>
     Some(Request::Convert(to, format_of(from.as_str())?, graph.as_str()))
 }
 
-// The subject of a report that the words name: a mode, the format of the graph file, and the files.
+// The subject of a report that the words name: a mode, the format of the graph file, if there is
+// more than one, and the files.
 fn subject_of(words: &[String]) -> Option<Subject<&str>>
     ensures { option_map subject_seen result ≡ subject_of (texts words.now) }
 {
     match words {
+        [word, graph] => digraphs_subject(word.as_str(), graph.as_str()),
         [mode, format, graph] => {
             let mode = graph_mode(mode.as_str())?;
             let from = format_of(format.as_str())?;
@@ -96,6 +100,17 @@ fn subject_of(words: &[String]) -> Option<Subject<&str>>
             let from = format_of(format.as_str())?;
             Some(Subject::Session(mode, from, graph.as_str(), script.as_str()))
         }
+        _ => None,
+    }
+}
+
+// The directed graphs of a file, if the word is that of the reports of their trees; none for any
+// other word.
+fn digraphs_subject<'a>(word: &str, graph: &'a str) -> Option<Subject<&'a str>>
+    ensures { option_map subject_seen result ≡ digraphs_subject word.now graph.now }
+{
+    match word {
+        "dtree" => Some(Subject::Digraphs(graph)),
         _ => None,
     }
 }

@@ -8,7 +8,8 @@ ghost use Rattle.md_top.specs.Loading.{Loads, StopsLoading, subject_read};
 ghost use Rattle.md_top.specs.Command.{CommandEnds};
 ghost use Rattle.md_top.specs.Sinks.{sink_run};
 
-use crate::check::{graphs_check, session_check};
+use crate::check::{digraphs_check, graphs_check, session_check};
+use crate::directed::directed_report;
 use crate::load::load;
 use crate::report::report;
 use crate::request::Subject;
@@ -42,6 +43,10 @@ pub fn load_subject<F: Files>(
             let script_file = load(alloc, files, script)?;
             Ok(Subject::Session(mode, from, graph_file, script_file))
         }
+        Subject::Digraphs(graph) => {
+            let file = load(alloc, files, graph)?;
+            Ok(Subject::Digraphs(file))
+        }
     }
 }
 
@@ -60,6 +65,7 @@ pub fn report_of_subject<O: Sink>(
         Subject::Session(mode, from, graph, script) => {
             session_report(alloc, *mode, *from, graph, script, out)
         }
+        Subject::Digraphs(graph) => directed_report(alloc, graph, out),
     }
 }
 
@@ -79,5 +85,6 @@ pub fn check_of_subject<O: Sink>(
         Subject::Session(mode, from, graph, script) => {
             session_check(alloc, *mode, *from, graph, script, bytes, out)
         }
+        Subject::Digraphs(graph) => digraphs_check(alloc, graph, bytes, out),
     }
 }

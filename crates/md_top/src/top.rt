@@ -54,7 +54,8 @@ pub fn run<F: Files, O: Sink, E: Sink>(
         → (result ≡ Status.BadInput) ⊎ (result ≡ Status.ReadFault) ⊎ (result ≡ Status.Memory) }
 
     // Done, Rejected and a writing fault come only over well-formed input.
-    ensures good_input { (result ≡ Status.Done) ⊎ (result ≡ Status.Rejected) ⊎ (result ≡ Status.WriteFault)
+    ensures good_input { (result ≡ Status.Done) ⊎ (result ≡ Status.Rejected)
+        ⊎ (result ≡ Status.WriteFault)
         → CanBeGood (F.holds files.old) (request_of (texts words.now)) }
 
     // Rejected comes exactly where a report is to be checked and isn't valid. A fault of the

@@ -25,7 +25,7 @@ fn check_over(
 }
 
 // Sees that each check of the report `r` over the file `g` ends as it is to be.
-fn expect_checks(
+pub(super) fn expect_checks(
     rt: &impl Abort,
     alloc: Global,
     table: &[(&str, &[u8], &[u8], &str)],

@@ -48,8 +48,21 @@ fn failed(alloc: Global, lines: &[&str], place: usize, part: usize) -> Result<St
 #[test]
 fn puts_that_fail(rt: HostRuntime) -> Result<(), Fail> {
     let alloc = rt.alloc();
-    let table: [(&str, &[u8], &[u8], &[&str]); 4] = [
+    let table: [(&str, &[u8], &[u8], &[&str]); 5] = [
         COGRAPH,
+        // A path, an order, no vertex.
+        (
+            "dtree g",
+            b"&BP?\n&BCo\n&?\n",
+            b"",
+            &[
+                "mdt dtree\n",
+                "t R(0,1,2;0>1,1>2)\n",
+                "t O(2,1,0)\n",
+                "t empty\n",
+                "end\n",
+            ],
+        ),
         // The same two edits, of which a quiet report tells one tree.
         (
             "quiet g6 g s",
@@ -190,7 +203,7 @@ fn puts_without_memory(rt: HostRuntime) -> Result<(), Fail> {
 fn first_causes(rt: HostRuntime) -> Result<(), Fail> {
     let alloc = rt.alloc();
     // The load and the put of these numbers fail, as far as the run comes to them.
-    let table: [(&str, &[u8], &[u8], u64, u64, &str); 13] = [
+    let table: [(&str, &[u8], &[u8], u64, u64, &str); 17] = [
         ("tree png g", b"A`\n", b"", 1, 1, "2||mdt: usage\n"),
         ("tree g6 g", b"A`\n", b"", 1, 1, "4||mdt: read fault\n"),
         ("tree g6 g", b"Bw\n", b"", 1, 1, "4||mdt: read fault\n"),
@@ -266,6 +279,31 @@ fn first_causes(rt: HostRuntime) -> Result<(), Fail> {
             0,
             1,
             "5||mdt: write fault\n",
+        ),
+        ("dtree g", b"&@_\n", b"", 1, 1, "4||mdt: read fault\n"),
+        (
+            "dtree g",
+            b"&AG\n&@_\n",
+            b"",
+            0,
+            1,
+            "3||mdt: graph Loop line 2\n",
+        ),
+        (
+            "check dtree g s",
+            b"&@_\n",
+            b"*",
+            2,
+            1,
+            "4||mdt: read fault\n",
+        ),
+        (
+            "check dtree g s",
+            b"&@_\n",
+            b"*",
+            0,
+            1,
+            "3||mdt: graph Loop line 1\n",
         ),
     ];
     for (line, file, script, load, put, want) in table {

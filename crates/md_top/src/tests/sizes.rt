@@ -2,7 +2,7 @@
 use super::*;
 
 // The text of a number of items, each behind a mark but the first.
-fn names(alloc: Global, from: u32, below: u32) -> Result<String, Fail> {
+pub(super) fn names(alloc: Global, from: u32, below: u32) -> Result<String, Fail> {
     let mut text = String::new(alloc);
     for v in from..below {
         let item = format!(in alloc; ",{v}")?;
@@ -71,7 +71,12 @@ fn whole_for(alloc: Global, command: &str, first: u32, sizes: &[u32]) -> Result<
 }
 
 // What a run over the files `g` and `s` puts; nothing where it isn't Done.
-fn output_of(alloc: Global, line: &str, file: &[u8], script: &[u8]) -> Result<Vec<u8>, Fail> {
+pub(super) fn output_of(
+    alloc: Global,
+    line: &str,
+    file: &[u8],
+    script: &[u8],
+) -> Result<Vec<u8>, Fail> {
     let words = words_of(alloc, line)?;
     let mut files = MemFiles::new(alloc, Vec::new(alloc));
     files.add("g", file)?;
