@@ -35,7 +35,7 @@ import sys
 import tempfile
 
 from refusing import Ended, Program, compile_counter
-from run import build, cograph, dense, dimacs, g6, permutation_graph, threshold
+from run import build, cograph, d6, dense, dimacs, g6, nested_orders, permutation_graph, threshold
 
 MOST_REQUESTS = 2000
 MEGABYTE = 1 << 20
@@ -69,14 +69,20 @@ FILES = {
     # A prime graph, in which one edit after the other leads to a cograph.
     "prime.g6": b"DhO\n",
     "prime.txt": b"+e 0 4\n-v 3\n+v 3 0 1 2 4\n",
+    # A prime directed graph, a cycle, an order, two vertices with both arcs, the one without vertices, a prime node
+    # inside a series node, and one of 70 vertices.
+    "many.d6": b"&DI?AO?\n&BP_\n&BCo\n&AW\n&?\n&DJS]^?\n" + d6(nested_orders(70)),
+    "loop.d6": b"&AG\n&@_\n",
     "two.g6": b"@\n@\n",
     "padding.g6": b"Bw\nA`\n",
     "wrong.txt": b"-v 0\n*e 0 1\n",
     "open.txt": b"-v 0\nbegin\n",
     "rejected": b"mdt tree\nt S(0,1)\nend\n",
+    "deep.d6": d6(nested_orders(1001)),
     "deep.g6": g6(threshold(1001)),
     "deep.txt": b"-v 1000\n-v 500\n",
     "deepest.g6": g6(threshold(4096)),
+    "deepest.d6": d6(nested_orders(4096)),
     "deepest.txt": b"-v 4095\n",
 }
 
@@ -94,8 +100,10 @@ REPORTS = {
     "prime_report.txt": ["edit", "g6", "prime.g6", "prime.txt"],
     "path.txt": ["cograph", "g6", "prime.g6", "prime.txt"],
     "tree_dimacs.txt": ["tree", "dimacs", "one.col"],
+    "dtree.txt": ["dtree", "many.d6"],
 }
 DEEP_REPORTS = {
+    "deep_dtree.txt": ["dtree", "deep.d6"],
     "deep_tree.txt": ["tree", "g6", "deep.g6"],
     "deep_edit.txt": ["edit", "g6", "deep.g6", "deep.txt"],
     "deep_cograph.txt": ["cograph", "g6", "deep.g6", "deep.txt"],
@@ -106,6 +114,7 @@ DEEPEST_REPORTS = {
     "deepest_edit.txt": ["edit", "g6", "deepest.g6", "deepest.txt"],
     "deepest_cograph.txt": ["cograph", "g6", "deepest.g6", "deepest.txt"],
     "deepest_quiet.txt": ["quiet", "g6", "deepest.g6", "deepest.txt"],
+    "deepest_dtree.txt": ["dtree", "deepest.d6"],
 }
 
 
@@ -121,11 +130,14 @@ SMALL = [
     *REPORTS.values(),
     *checks_of(REPORTS),
     ["check", "tree", "g6", "many.g6", "rejected"],
+    ["check", "dtree", "many.d6", "rejected"],
     ["big", "5"],
     ["big", "300"],
     [],
     ["tree", "png", "many.g6"],
     ["tree", "g6", "padding.g6"],
+    ["dtree", "loop.d6"],
+    ["dtree", "many.g6"],
     ["edit", "g6", "two.g6", "random.txt"],
     ["quiet", "g6", "cograph.g6", "wrong.txt"],
     ["cograph", "g6", "cograph.g6", "open.txt"],
@@ -284,7 +296,8 @@ def tell_stacks(program):
     """Tells the least stack at both depths, and what a level takes: of whole runs, and the most of 16 runs in each of
     which another request is refused."""
     write_inputs(program)
-    for form in ("tree g6 %s.g6", "check tree g6 %s.g6 %s_tree.txt"):
+    for form in ("tree g6 %s.g6", "check tree g6 %s.g6 %s_tree.txt",
+                 "dtree %s.d6", "check dtree %s.d6 %s_dtree.txt"):
         needs = []
         for name in ("deep", "deepest"):
             words = form.replace("%s", name).split()
@@ -293,7 +306,7 @@ def tell_stacks(program):
             needs.append((least_stack(program, words, None), max(refused)))
         for what, less, more in zip(("", ", a request refused"), *needs):
             print("%s%s: %d KB at depth 1,000, %d KB at 4,095: %d bytes a level"
-                  % (form.split(" g6")[0], what, less >> 10, more >> 10, (more - less) / 3095), flush=True)
+                  % (form.split(" %s")[0].replace(" g6", ""), what, less >> 10, more >> 10, (more - less) / 3095), flush=True)
 
 
 def try_all(program, chosen):

@@ -53,6 +53,15 @@ def g6(rows):
     return bytes(head + [63 + int(bits[k:k + 6], 2) for k in range(0, len(bits), 6)]) + b"\n"
 
 
+def d6(rows):
+    """The digraph6 line of a directed graph, by the vertices that the arcs from each vertex enter."""
+    n = len(rows)
+    head = [n + 63] if n <= 62 else [126, 63 + (n >> 12), 63 + (n >> 6 & 63), 63 + (n & 63)]
+    bits = "".join(format(row, "b").zfill(n)[::-1] for row in rows)
+    bits += "0" * (-len(bits) % 6)
+    return b"&" + bytes(head + [63 + int(bits[k:k + 6], 2) for k in range(0, len(bits), 6)]) + b"\n"
+
+
 def dimacs(rows):
     edges = sorted((u + 1, v + 1) for v in range(len(rows)) for u in range(v) if rows[v] >> u & 1)
     return ("p edge %d %d\n" % (len(rows), len(edges)) + "".join("e %d %d\n" % e for e in edges)).encode()
@@ -78,6 +87,12 @@ def shuffled_cycle(n, seed):
 def threshold(n):
     """Each odd vertex is adjacent to all before it: a tree as deep as it can be."""
     return [(1 << v) - 1 if v % 2 else 0 for v in range(n)]
+
+
+def nested_orders(n):
+    """A directed graph in which each odd vertex has arcs from all before it: a tree of order and parallel nodes in
+    turn, as deep as it can be."""
+    return [sum(1 << v for v in range(1, n, 2) if u < v) for u in range(n)]
 
 
 def half_graph(n):
@@ -150,6 +165,31 @@ def permutation_graph(n, seed):
     return rows_of(n, [(u, v) for v in range(n) for u in range(v) if place[u] > place[v]])
 
 
+def random_digraph(n, seed):
+    """By row the vertices that arcs enter, of half of all ordered pairs."""
+    r = random.Random(seed)
+    return [r.getrandbits(n) & ~(1 << v) for v in range(n)]
+
+
+def tournament(n, seed):
+    """One arc between any two vertices, either way."""
+    rows = dense(n, seed)
+    texts = [format(rows[v], "b").zfill(v)[::-1] for v in range(n)]
+    for u in range(n - 1):
+        later = "".join(texts[v][u] for v in range(n - 1, u, -1))
+        rows[u] |= (int(later, 2) ^ (1 << n - 1 - u) - 1) << u + 1
+    return rows
+
+
+def transitive(n, seed):
+    """The transitive tournament, whose vertices have names in any order."""
+    rows, left = [0] * n, (1 << n) - 1
+    for v in random.Random(seed).sample(range(n), n):
+        left ^= 1 << v
+        rows[v] = left
+    return rows
+
+
 def script(n, count, seed):
     r = random.Random(seed)
     lines = []
@@ -211,11 +251,16 @@ INPUTS = {
     "vertex.g6": lambda: g6(rows_of(1, [])),
     "none.txt": lambda: b"",
 }
+for n in (1024, 4096):
+    INPUTS["arcs%d.d6" % n] = lambda n=n: d6(random_digraph(n, 16))
+    INPUTS["tournament%d.d6" % n] = lambda n=n: d6(tournament(n, 17))
+    INPUTS["transitive%d.d6" % n] = lambda n=n: d6(transitive(n, 18))
+    INPUTS["orders%d.d6" % n] = lambda n=n: d6(nested_orders(n))
 for order in (oldest_lowest, oldest_highest, in_any_order):
     for n in (1024, 2047, 4096):
         INPUTS["p4_%s_%d.g6" % (order.__name__, n)] = lambda n=n, order=order: g6(nested_p4(n, order(n)))
 
-MODES = ("tree", "compare", "permute", "edit", "cograph", "quiet")
+MODES = ("tree", "dtree", "compare", "permute", "edit", "cograph", "quiet")
 
 CASES = [
     ("edges", "g6", "none.g6"),
@@ -257,7 +302,7 @@ CASES = [
     ("edit", "g6", "vertex.g6", "none.txt"),
     ("cograph", "g6", "vertex.g6", "none.txt"),
     ("quiet", "g6", "vertex.g6", "none.txt"),
-]
+] + [("dtree", name) for name in INPUTS if name.endswith(".d6")]
 
 
 def measure(binary, words, where):
@@ -286,15 +331,22 @@ def millions(count):
     return "%.2f" % (count / 1e6) if count < 10e6 else "%.1f" % (count / 1e6)
 
 
+def written_cases(where, only):
+    """The cases whose words hold a word, with their inputs written into a folder."""
+    cases = [words for words in CASES if only in " ".join(words)]
+    for name, make in INPUTS.items():
+        if any(name in words for words in cases):
+            with open(os.path.join(where, name), "wb") as file:
+                file.write(make())
+    return cases
+
+
 def measure_checks(binary, only):
     print("| run | seconds | million instructions | peak MB | the report's seconds | its million instructions | ratio |")
     print("|---|---|---|---|---|---|---|")
     with tempfile.TemporaryDirectory() as where:
-        for name, make in INPUTS.items():
-            with open(os.path.join(where, name), "wb") as file:
-                file.write(make())
-        for words in CASES:
-            if words[0] not in MODES or only not in " ".join(words):
+        for words in written_cases(where, only):
+            if words[0] not in MODES:
                 continue
             with open(os.path.join(where, "report"), "wb") as report:
                 subprocess.run([binary, *words], cwd=where, stdout=report, check=True)
@@ -449,13 +501,8 @@ def main():
     print("| run | seconds | million instructions | peak MB |" + (" the other's | ratio | its peak MB |" if peer else ""))
     print("|---|---|---|---|" + ("---|---|---|" if peer else ""))
     with tempfile.TemporaryDirectory() as where:
-        for name, make in INPUTS.items():
-            with open(os.path.join(where, name), "wb") as file:
-                file.write(make())
-        for words in CASES:
+        for words in written_cases(where, chosen.only):
             name = " ".join(words)
-            if chosen.only not in name:
-                continue
             seconds, count, peak = measure(binary, words, where)
             line = "| `%s` | %.3f | %s | %.1f |" % (name, seconds, millions(count), peak)
             if peer:

@@ -9,10 +9,11 @@
 Graphs are those of networkx or of Sage, or lists of edges; answers have their names. `python3 -m mdt` has the commands
 that draw, join, count and judge reports.
 """
-from .program import (ForcingChain, MdtError, Orientation, PermutationModel, Rejected, Session, check, orient,
-                      permutation_model, session, tree)
+from .program import (ForcingChain, MdtError, Orientation, PermutationModel, Rejected, Session, check, directed_tree,
+                      orient, permutation_model, session, tree)
 from .reports import Line, read_report
-from .trees import Node, ReportError, parse_tree
+from .trees import DirectedNode, Node, ReportError, parse_tree
 
-__all__ = ["ForcingChain", "Line", "MdtError", "Node", "Orientation", "PermutationModel", "Rejected", "ReportError",
-           "Session", "check", "orient", "parse_tree", "permutation_model", "read_report", "session", "tree"]
+__all__ = ["DirectedNode", "ForcingChain", "Line", "MdtError", "Node", "Orientation", "PermutationModel", "Rejected",
+           "ReportError", "Session", "check", "directed_tree", "orient", "parse_tree", "permutation_model",
+           "read_report", "session", "tree"]

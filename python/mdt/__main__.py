@@ -42,10 +42,10 @@ def run_report(options: argparse.Namespace) -> int:
 def add_join(commands) -> None:
     parser = commands.add_parser(
         "join", help="join the reports of pieces of a file of graphs",
-        description="Writes the report of all graphs of the pieces: whole reports of tree, compare or permute, in the "
-                    "order of the graphs. mdt check accepts it over the whole file if it accepts each piece over its "
-                    "own. Where a piece isn't whole, is empty, or the number of graphs isn't N, the status is 1, and "
-                    "what was written lacks its end. The outputs of edges and graph6 are joined by cat.")
+        description="Writes the report of all graphs of the pieces: whole reports of tree, dtree, compare or permute, "
+                    "in the order of the graphs. mdt check accepts it over the whole file if it accepts each piece "
+                    "over its own. Where a piece isn't whole, is empty, or the number of graphs isn't N, the status is "
+                    "1, and what was written lacks its end. The outputs of edges and graph6 are joined by cat.")
     parser.add_argument("pieces", nargs="*", metavar="PIECE",
                         help="a piece's file; without any, the pieces come from standard input, one after the other")
     parser.add_argument("--lines", type=int, metavar="N",
@@ -73,7 +73,8 @@ def add_verify(commands) -> None:
         description="Judges a report as mdt check does, by the definitions, in plain Python and slowly: accepted, or "
                     "rejected line N with status 1. A faulty graph file or script has status 3.")
     parser.add_argument("mode", choices=list(reports.MODES))
-    parser.add_argument("graph", help="the graph file: graph6, sparse6 or DIMACS, told apart by its content")
+    parser.add_argument("graph", help="the graph file: graph6, sparse6 or DIMACS, told apart by its content; digraph6 "
+                                      "in the mode dtree")
     parser.add_argument("files", nargs="+", metavar="[SCRIPT] REPORT",
                         help="the script, in the modes edit, cograph and quiet, and the report")
     parser.set_defaults(run=run_verify, parser=parser)
@@ -84,7 +85,10 @@ def run_verify(options: argparse.Namespace) -> int:
     if len(options.files) != 1 + is_session:
         options.parser.error("%s takes %s" % (options.mode, "a script and a report" if is_session else "one report"))
     graph, *script, report = [read_bytes(path) for path in (options.graph, *options.files)]
-    graphs = inputs.read_graphs(graph, limit=verify.limit_of(options.mode))
+    if options.mode == "dtree":
+        graphs = inputs.read_digraph6(graph)
+    else:
+        graphs = inputs.read_graphs(graph, limit=verify.limit_of(options.mode))
     if is_session and len(graphs) != 1:
         print("mdt verify: graph NotOneGraph count %d" % len(graphs), file=sys.stderr)
         return 3

@@ -1,19 +1,19 @@
 """Pictures of graphs with their modules, of orientations and forcing chains, and of permutation models, as SVG."""
 from __future__ import annotations
 
+import itertools
 import math
 from typing import Any, Collection, Optional
 
 from .pictures import EDGE, vertices_below
 from .rings import ring_order
-from .svg import FILL, MARKED, STROKE, Name, circle, picture, rounded, short, text_at, text_width, titled
+from .svg import (ARROW_HEAD, FILL, MARKED, STROKE, Name, Place, arrow, circle, picture, rounded, short, text_at,
+                  text_width, titled, ways)
 from .trees import Node
 
 GAP = 8
 # Above this number of edges a thick line stands for all edges between two modules.
 MOST_EDGES = 400
-
-Place = tuple[float, float]
 
 
 # A graph with its strong modules as hulls
@@ -122,7 +122,8 @@ def centred(places: list[Place], radii: list[float]) -> tuple[list[Place], float
 
 def graph_svg(tree: Optional[Node], name: Name = str, marked: Collection = ()) -> str:
     """The graph that a tree denotes, its strong modules as discs in one another; the vertices of `marked` are red.
-    In a graph of more than 400 edges a thick line from disc to disc stands for all edges between two modules."""
+    In a graph of more than 400 edges a thick line from disc to disc stands for all edges between two modules. In a
+    directed graph lines are arrows, with two heads where both arcs are there."""
     if tree is None:
         return picture(80, 40, [text_at(40, 20, "no vertex")])
     hulls, titles = _Hulls(tree, name), vertices_below(tree, name)
@@ -140,29 +141,50 @@ def graph_svg(tree: Optional[Node], name: Name = str, marked: Collection = ()) -
 
 
 def _edges(tree: Node, hulls: _Hulls) -> list[str]:
-    """The edges of a graph as one path; or, where there are too many, a line for each pair of joined modules."""
-    place = {node.vertex: hulls.at[id(node)] for node in tree if node.kind == "leaf"}
-    parts = []
-    for u, v in tree.edges():
-        parts.append("M%s %sL%s %s" % tuple(map(rounded, place[u] + place[v])))
-        if len(parts) > MOST_EDGES:
-            return _module_edges(tree, hulls)
-    thin = 1.2 if len(parts) < 300 else 0.5
+    """The edges of a graph as one path, the arcs of a directed graph as arrows; or, where there are too many, a line
+    for each pair of joined modules."""
+    leaves = [node for node in tree if node.kind == "leaf"]
+    number = {leaf.vertex: i for i, leaf in enumerate(leaves)}
+    pairs = [(number[u], number[v]) for u, v in itertools.islice(tree.edges(), MOST_EDGES + 1)]
+    if len(pairs) > MOST_EDGES:
+        return _module_edges(tree, hulls)
+    thin = 1.2 if len(pairs) < 300 else 0.5
+    if tree.is_directed:
+        return [ARROW_HEAD, *_arrows(leaves, hulls, pairs, thin)]
+    place = [hulls.at[id(leaf)] for leaf in leaves]
+    parts = ("M%s %sL%s %s" % tuple(map(rounded, place[i] + place[j])) for i, j in pairs)
     return ['<path d="%s" fill="none" stroke="#444444" stroke-width="%g"/>' % ("".join(parts), thin)]
+
+
+def _arrows(nodes: list[Node], hulls: _Hulls, pairs: list[tuple[int, int]], width: float) -> list[str]:
+    """An arrow from disc to disc for each of these pairs of nodes."""
+    shapes = []
+    for i, j, both in ways(pairs):
+        (a, b), (c, d) = (hulls.at[id(nodes[k])] for k in (i, j))
+        radii = (hulls.radius[id(nodes[i])], hulls.radius[id(nodes[j])])
+        shapes.append(arrow((a, b), (c, d), ((a + c) / 2, (b + d) / 2), radii, both,
+                            ' stroke="#444444" stroke-width="%g"' % width))
+    return shapes
 
 
 def _module_edges(tree: Node, hulls: _Hulls) -> list[str]:
     """A line for each pair of joined children, from disc to disc. A node with too many such pairs has none: where it is
-    series, its colour tells them."""
-    parts = []
+    series or order, its colour tells them."""
+    parts, arrows = [], []
     for node in tree:
-        many = len(node.children) ** 2 / 2 if node.kind == "series" else len(node.pairs)
-        for i, j in node.joined() if many <= 10 * MOST_EDGES else ():
+        many = len(node.children) ** 2 / 2 if node.kind in ("series", "order") else len(node.pairs)
+        pairs = node.joined() if many <= 10 * MOST_EDGES else []
+        if node.is_directed:
+            arrows += _arrows(node.children, hulls, pairs, 2)
+            continue
+        for i, j in pairs:
             (a, b), (c, d) = (hulls.at[id(node.children[k])] for k in (i, j))
             r, s = (hulls.radius[id(node.children[k])] for k in (i, j))
             length = math.hypot(c - a, d - b)
             dx, dy = (c - a) / length, (d - b) / length
             parts.append("M%s %sL%s %s" % tuple(map(rounded, (a + r * dx, b + r * dy, c - s * dx, d - s * dy))))
+    if tree.is_directed:
+        return [ARROW_HEAD, *arrows]
     return ['<path d="%s" fill="none" stroke="#444444" stroke-width="2"/>' % "".join(parts)]
 
 
@@ -183,8 +205,7 @@ def arcs_svg(arcs: list[tuple], name: Name = str, marked: Collection = (), numbe
     for turn, i in enumerate(ring_order(len(vertices), pairs)):
         angle = 2 * math.pi * turn / len(vertices)
         place[vertices[i]] = (middle + radius * math.sin(angle), middle - radius * math.cos(angle))
-    shapes = ['<defs><marker id="head" viewBox="0 0 8 8" refX="8" refY="4" markerWidth="8" markerHeight="8" '
-              'orient="auto"><path d="M0 0L8 4L0 8z" fill="#444444"/></marker></defs>']
+    shapes = [ARROW_HEAD]
     bend = 0.12 if numbered else 0.0
     for count, (u, v) in enumerate(arcs, 1):
         shapes.extend(_arrow(place[u], place[v], dot, bend, str(count) if numbered else ""))
@@ -200,14 +221,7 @@ def _arrow(tail: Place, head: Place, dot: float, bend: float, label: str) -> lis
     length = math.hypot(c - a, d - b)
     dx, dy = (c - a) / length, (d - b) / length
     x, y = (a + c) / 2 + bend * length * dy * 2, (b + d) / 2 - bend * length * dx * 2
-
-    def edge_of(u: float, v: float) -> Place:
-        far = math.hypot(x - u, y - v) or 1.0
-        return u + (x - u) / far * dot, v + (y - v) / far * dot
-
-    ends = (*edge_of(a, b), x, y, *edge_of(c, d))
-    shapes = ['<path d="M%s %sQ%s %s %s %s" fill="none" stroke="#444444" marker-end="url(#head)"/>' % tuple(
-        map(rounded, ends))]
+    shapes = [arrow(tail, head, (x, y), (dot, dot), False)]
     if label:
         u, v = (a + 2 * x + c) / 4, (b + 2 * y + d) / 4
         shapes.append(circle(u, v, 8, "#ffffff", "#bbbbbb"))

@@ -15,7 +15,8 @@ from .svg import Name
 from .trees import parse_tree
 
 HELP = """Draws the first tree of a report as SVG. A leaf stands by its vertex, in the card of its parallel (P) or
-series (S) parent, or in the quotient that is drawn in its prime (R) parent. --all and --session write pages of HTML."""
+series (S) parent, or in the quotient that is drawn in its prime (R) parent; an order node (O), in a report of dtree,
+shows its children in their order. --all and --session write pages of HTML."""
 
 # The most frames of a session: each is a whole picture.
 MOST_FRAMES = 2000

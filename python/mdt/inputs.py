@@ -1,13 +1,14 @@
-"""Readers of graph files and scripts for the second opinion: graph6 and sparse6, DIMACS edge files, scripts.
+"""Readers of graph files and scripts for the second opinion: graph6 and sparse6, DIMACS edge files, digraph6, scripts.
 
 They stand apart from the program: each is written from the formats alone (`docs/FORMATS.md`), for reading and not for
-speed. A graph is a dict that gives each vertex the set of its neighbours.
+speed. A graph is a dict that gives each vertex the set of its neighbours, a directed graph one that gives it the set of
+those that its arcs go to.
 """
 from __future__ import annotations
 
 import sys
 from dataclasses import dataclass
-from typing import Optional, Union
+from typing import Callable, Optional, Union
 
 Graph = dict[int, set[int]]
 # An edit: its word (+e, -e, +v or -v) and its names.
@@ -25,6 +26,8 @@ class Item:
 NAMES = 16_384
 # How many vertices a graph may have at most whose orientations or permutation models are told.
 ORIENTED = 4_096
+# How many vertices a directed graph may have.
+DIRECTED = 4_096
 EDITS = 200_000
 # How many fields a line of a script has at least and at most, by its word.
 _FIELDS = {b"+e": (3, 3), b"-e": (3, 3), b"+v": (2, sys.maxsize), b"-v": (2, 2),
@@ -72,7 +75,15 @@ def read_graphs(content: bytes, form: Union[str, None] = None, limit: int = NAME
 
 def read_graph6(content: bytes, limit: int = NAMES) -> list[Graph]:
     """The graphs of a file of graph6 and sparse6 lines, on the vertices from 0 on."""
-    for header in (b">>graph6<<", b">>sparse6<<"):
+    def graph_of(line: bytes) -> Graph:
+        return _sparse6_line(line[1:], limit) if line[:1] == b":" else _graph6_line(line, limit)
+
+    return _read_lines(content, (b">>graph6<<", b">>sparse6<<"), graph_of)
+
+
+def _read_lines(content: bytes, headers: tuple[bytes, ...], graph_of: Callable[[bytes], Graph]) -> list[Graph]:
+    """The graphs of the lines of a file that may begin with one of the headers."""
+    for header in headers:
         if content.startswith(header):
             content = content[len(header):]
             break
@@ -80,24 +91,37 @@ def read_graph6(content: bytes, limit: int = NAMES) -> list[Graph]:
     for number, line in enumerate(_lines(content), 1):
         if line:
             try:
-                graphs.append(_sparse6_line(line[1:], limit) if line[:1] == b":" else _graph6_line(line, limit))
+                graphs.append(graph_of(line))
             except _Fault as fault:
                 raise InputFault("graph", str(fault), number) from None
     return graphs
 
 
+def _groups(line: bytes) -> bytes:
+    """A line, or what follows its first byte, where its bytes each stand for six bits."""
+    if not line:
+        raise _Fault("Truncated")
+    if min(line) < 63 or max(line) > 126:
+        raise _Fault("BadByte")
+    return line
+
+
+def _bits(groups: bytes, count: int) -> str:
+    """The bits of groups that are as many as so many bits take, with those that fill up the last."""
+    needed = (count + 5) // 6
+    if len(groups) != needed:
+        raise _Fault("Truncated" if len(groups) < needed else "TrailingBytes")
+    return "".join(format(byte - 63, "06b") for byte in groups)
+
+
 def _graph6_line(line: bytes, limit: int) -> Graph:
     if line[:1] in (b";", b"&"):
         raise _Fault("OtherFormat")
-    if min(line) < 63 or max(line) > 126:
-        raise _Fault("BadByte")
-    count, groups = _graph6_size(line)
+    count, groups = _graph6_size(_groups(line))
     if count > limit:
         raise _Fault("TooManyVertices")
     pairs = count * (count - 1) // 2
-    if len(groups) != (pairs + 5) // 6:
-        raise _Fault("Truncated" if len(groups) < (pairs + 5) // 6 else "TrailingBytes")
-    bits = "".join(format(byte - 63, "06b") for byte in groups)
+    bits = _bits(groups, pairs)
     if "1" in bits[pairs:]:
         raise _Fault("BadPadding")
     graph: Graph = {v: set() for v in range(count)}
@@ -111,13 +135,28 @@ def _graph6_line(line: bytes, limit: int) -> Graph:
     return graph
 
 
+def read_digraph6(content: bytes) -> list[Graph]:
+    """The directed graphs of a file of digraph6 lines, on the vertices from 0 on. InputFault for the first fault."""
+    return _read_lines(content, (b">>digraph6<<",), _digraph6_line)
+
+
+def _digraph6_line(line: bytes) -> Graph:
+    if line[:1] != b"&":
+        raise _Fault("OtherFormat")
+    count, groups = _graph6_size(_groups(line[1:]))
+    if count > DIRECTED:
+        raise _Fault("TooManyVertices")
+    bits = _bits(groups, count * count)
+    if any(bits[v * count + v] == "1" for v in range(count)):
+        raise _Fault("Loop")
+    if "1" in bits[count * count:]:
+        raise _Fault("BadPadding")
+    return {u: {v for v in range(count) if bits[u * count + v] == "1"} for u in range(count)}
+
+
 def _sparse6_line(line: bytes, limit: int) -> Graph:
     """The graph of a sparse6 line behind its colon."""
-    if not line:
-        raise _Fault("Truncated")
-    if min(line) < 63 or max(line) > 126:
-        raise _Fault("BadByte")
-    count, groups = _graph6_size(line)
+    count, groups = _graph6_size(_groups(line))
     if count > limit:
         raise _Fault("TooManyVertices")
     graph: Graph = {v: set() for v in range(count)}

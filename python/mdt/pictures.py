@@ -1,16 +1,18 @@
 """Pictures of trees, as SVG and for Graphviz.
 
 A tree is drawn as cards. The card of a parallel or series node holds its leaves in a block; that of a prime node holds
-its quotient, a graph on its children, in which leaves stand by their names and other children by letters that stand
-again at their own cards. Lengths are in pixels of the picture at its own size.
+its quotient, a graph on its children, and that of an order node its children in their order. There leaves stand by
+their names and other children by letters that stand again at their own cards. Lengths are in pixels of the picture at
+its own size.
 """
 from __future__ import annotations
 
+import itertools
 import math
 from typing import Collection, Optional
 
 from .rings import Ring
-from .svg import FILL, MARKED, STROKE, Name, picture, rect, rounded, short, text_at, text_width, titled
+from .svg import ARROW_HEAD, FILL, MARKED, STROKE, Name, picture, rect, rounded, short, text_at, text_width, titled
 from .trees import LETTERS, Node
 
 MEANING = {
@@ -18,6 +20,14 @@ MEANING = {
     "series": "series: all edges between two children",
     "prime": "prime: a line joins two children with all edges between them",
 }
+DIRECTED_MEANING = {
+    "parallel": "parallel: no arc between two children",
+    "series": "series: all arcs between two children, in both directions",
+    "order": "order: all arcs from earlier children to later ones",
+    "prime": "prime: an arrow stands for all arcs from one child to another",
+}
+# The kinds whose cards show children that aren't leaves by letters.
+TAGGED = ("order", "prime")
 
 UNIT = 8  # cards are kept apart by rows of this height
 # Between cards side by side; below a card with one card below it, with several; at the right of a card, and between
@@ -49,7 +59,8 @@ class Card:
         self.inner: list[Card] = []
         self.tag = ""
         self.ring: Optional[Ring] = None
-        self.leaves: list[Node] = []
+        self.members: list[Node] = []
+        self.labels: list[str] = []
         self.columns, self.pill = 0, 0.0
         self.x, self.y = 0.0, 0.0
 
@@ -58,20 +69,23 @@ def _card(node: Node, name: Name) -> Card:
     """The card of a node by itself."""
     if node.kind == "leaf":
         return Card(node, max(26.0, text_width(short(name(node.vertex))) + 12), 26)
+    tags = (letters(i) for i in range(len(node.children)))
+    labels = [name(child.vertex) if child.kind == "leaf" else next(tags) for child in node.children]
     if node.kind == "prime":
-        tags = (letters(i) for i in range(len(node.children)))
-        ring = Ring([name(c.vertex) if c.kind == "leaf" else next(tags) for c in node.children], node.pairs)
+        ring = Ring(labels, node.pairs, node.is_directed)
         card = Card(node, ring.size + 14, ring.size + 14)
         card.ring = ring
         return card
-    leaves = [child for child in node.children if child.kind == "leaf"]
-    if not leaves:
+    members = [(child, label) for child, label in zip(node.children, labels)
+               if child.kind == "leaf" or node.kind == "order"]
+    if not members:
         return Card(node, 28, 28)
-    columns = min(len(leaves), max(4, math.ceil(math.sqrt(2 * len(leaves)))))
-    pill = max(22.0, max(text_width(short(name(leaf.vertex))) for leaf in leaves) + 10)
-    rows = math.ceil(len(leaves) / columns)
+    columns = min(len(members), max(4, math.ceil(math.sqrt(2 * len(members)))))
+    pill = max(22.0, max(text_width(short(label)) for _, label in members) + 10)
+    rows = math.ceil(len(members) / columns)
     card = Card(node, 26 + columns * (pill + 3) + 3, rows * 23 + 7)
-    card.leaves, card.columns, card.pill = leaves, columns, pill
+    card.members, card.labels = [child for child, _ in members], [label for _, label in members]
+    card.columns, card.pill = columns, pill
     return card
 
 
@@ -99,7 +113,7 @@ def _cards(tree: Node, name: Name) -> Card:
             continue
         card = made[id(node)] = _card(node, name)
         card.below = [made.pop(id(child)) for child in node.children if child.kind != "leaf"]
-        if node.kind == "prime":
+        if node.kind in TAGGED:
             for number, child in enumerate(card.below):
                 child.tag = letters(number)
         ends = [child for child in card.below if not child.below]
@@ -248,7 +262,7 @@ class _Drawer:
         if card.tag:
             self.tag(card, above or not self.sideways)
         if node.kind == "leaf":
-            self.pill(node, card.x, card.y + card.height / 2, card.width, card.height)
+            self.pill(node, self.name(node.vertex), card.x, card.y + card.height / 2, card.width, card.height)
         elif card.ring:
             self.quotient(card)
         else:
@@ -273,21 +287,23 @@ class _Drawer:
         self.lines.append('<path d="M%s %sC%s %s %s %s %s %s" fill="none" stroke="#888888"/>' % tuple(
             map(rounded, (x, y, *bends, u, v))))
 
-    def pill(self, leaf: Node, x: float, y: float, width: float, height: float) -> None:
-        self.shapes.append(titled(self.name(leaf.vertex), [
-            rect(x - width / 2, y - height / 2, width, height, height / 2, self.fill(leaf), "#555555"),
-            text_at(x, y, short(self.name(leaf.vertex)))]))
+    def pill(self, node: Node, label: str, x: float, y: float, width: float, height: float) -> None:
+        """A leaf by its name, or another child of an order node by its letter."""
+        title = self.name(node.vertex) if node.kind == "leaf" else self.titles[id(node)]
+        self.shapes.append(titled(title, [
+            rect(x - width / 2, y - height / 2, width, height, height / 2, self.fill(node), STROKE[node.kind]),
+            text_at(x, y, short(label))]))
 
     def block(self, card: Card) -> None:
-        """The card of a parallel or series node: its letter, and its leaves in rows."""
+        """The card of a parallel, series or order node: its letter, and its leaves, or children, in rows."""
         node, left = card.node, card.x - card.width / 2
-        letter = left + 14 if card.leaves else card.x
+        letter = left + 14 if card.members else card.x
         self.shapes.append(titled(self.titles[id(node)], [
             rect(left, card.y, card.width, card.height, 14, self.fill(node), STROKE[node.kind]),
             text_at(letter, card.y + card.height / 2, LETTERS[node.kind], ' font-weight="bold"')]))
-        for number, leaf in enumerate(card.leaves):
+        for number, (child, label) in enumerate(zip(card.members, card.labels)):
             row, column = divmod(number, card.columns)
-            self.pill(leaf, left + 26 + column * (card.pill + 3) + card.pill / 2, card.y + 4 + row * 23 + 11,
+            self.pill(child, label, left + 26 + column * (card.pill + 3) + card.pill / 2, card.y + 4 + row * 23 + 11,
                       card.pill, 21)
 
     def quotient(self, card: Card) -> None:
@@ -304,11 +320,14 @@ class _Drawer:
             self.shapes.append(ring.vertex(number, x, y, self.fill(child), STROKE[child.kind], title, tagged))
 
 
-def _legend(kinds: Collection[str], tagged: bool, marked: bool, y: float) -> tuple[list[str], float, float]:
+def _legend(tree: Node, tagged: bool, marked: bool, y: float) -> tuple[list[str], float, float]:
     """The shapes of a legend from y down, its width and its height."""
-    rows = [(FILL[kind], STROKE[kind], LETTERS[kind], MEANING[kind]) for kind in MEANING if kind in kinds]
+    kinds = {node.kind for node in tree}
+    meaning = DIRECTED_MEANING if tree.is_directed else MEANING
+    rows = [(FILL[kind], STROKE[kind], LETTERS[kind], meaning[kind]) for kind in meaning if kind in kinds]
     if tagged:
-        rows.append((FILL["leaf"], "none", "A", "a child of a prime node that stands again below"))
+        parent = "an order or prime node" if tree.is_directed else "a prime node"
+        rows.append((FILL["leaf"], "none", "A", "a child of %s that stands again below" % parent))
     if marked:
         rows.append((MARKED, STROKE["leaf"], "", "marked"))
     shapes = []
@@ -331,12 +350,12 @@ def tree_svg(tree: Optional[Node], name: Name = str, marked: Collection = (), le
     drawer = _Drawer(tree, name, marked, sideways)
     tagged = False
     for card in _walk(root):
-        tagged = tagged or bool(card.ring and card.below)
+        tagged = tagged or bool(card.below) and card.node.kind in TAGGED
         drawer.card(card)
-    shapes = drawer.lines + drawer.shapes
+    shapes = ([ARROW_HEAD] if tree.is_directed else []) + drawer.lines + drawer.shapes
     if legend:
         some_marked = any(v in marked for v in tree.leaves())
-        more, wide, high = _legend({node.kind for node in tree}, tagged, some_marked, height)
+        more, wide, high = _legend(tree, tagged, some_marked, height)
         if wide > width:
             shapes = ['<g transform="translate(%s 0)">' % rounded((wide - width) / 2), *shapes, "</g>"]
         shapes, width, height = shapes + more, max(width, wide), height + high
@@ -344,16 +363,19 @@ def tree_svg(tree: Optional[Node], name: Name = str, marked: Collection = (), le
 
 
 def tree_dot(tree: Optional[Node], marked: Collection = (), name: Name = str) -> str:
-    """A tree in the language of Graphviz. A prime node has its pairs of children in it, the first 12."""
+    """A tree in the language of Graphviz. A prime node has its pairs of children in it, the first 12; the children of
+    an order node stand in their order."""
     nodes = [] if tree is None else list(tree)
     place = {id(node): i for i, node in enumerate(nodes)}
     lines = ["graph tree {", "  node [style=filled];"]
     for node in nodes:
         label, shape = name(node.vertex) if node.kind == "leaf" else LETTERS[node.kind], ""
         if node.kind == "prime":
-            pairs = ["%d-%d" % pair for pair in node.pairs[:12]]
+            pairs = list(itertools.islice(node.pair_texts(), 12))
             more = ["(%d in all)" % len(node.pairs)] if len(node.pairs) > 12 else []
             label, shape = "R\\n" + " ".join(pairs + more), ", shape=box"
+        if node.kind == "order":
+            shape = ", ordering=out"
         fill = MARKED if node.kind == "leaf" and node.vertex in marked else FILL[node.kind]
         lines.append('  n%d [label="%s", fillcolor="%s"%s];' % (
             place[id(node)], label.replace('"', '\\"'), fill, shape))

@@ -1,7 +1,7 @@
 """Runs of the program over graphs of Python, with the graphs' own names in the answers.
 
 The program is the file that the variable MDT names, or else `mdt` on PATH. Each call here is one run of it, which
-takes some milliseconds and 4 MB at least; for many graphs write them to a file and read the report.
+takes some milliseconds and 2 MB at least; for many graphs write them to a file and read the report.
 """
 from __future__ import annotations
 
@@ -14,9 +14,9 @@ from contextlib import contextmanager
 from dataclasses import dataclass
 from typing import Any, Hashable, Iterable, Iterator, Optional, Union
 
-from .graphs import NumberedGraph, numbered
+from .graphs import NumberedGraph, numbered, numbered_digraph
 from .reports import Line, read_report
-from .trees import Node
+from .trees import DirectedNode, Node
 
 STATUSES = {2: "Usage", 4: "ReadFault", 5: "WriteFault", 6: "Memory", 7: "TooLong"}
 _FAULT = re.compile(r"mdt: (graph|script) (\w+) (line|count) ([0-9]+)")
@@ -95,11 +95,11 @@ def run(words: list[str]) -> bytes:
     raise MdtError(said or "mdt ended with status %d" % it.returncode, it.returncode, STATUSES.get(it.returncode))
 
 
-def _report(mode: str, graph: NumberedGraph, script: Optional[bytes] = None) -> list[Line]:
-    """The lines of the program's report of one graph, without head and end."""
+def _report(words: list[str], graph: bytes, script: Optional[bytes] = None) -> list[Line]:
+    """The lines of the program's report of one graph, without head and end; `words` stand before its file."""
     with tempfile.TemporaryDirectory(prefix="mdt") as folder:
-        words = [mode, "g6"]
-        for name, content in (("graph", graph.graph6()), ("script", script)):
+        words = list(words)
+        for name, content in (("graph", graph), ("script", script)):
             if content is not None:
                 words.append(os.path.join(folder, name))
                 with open(words[-1], "wb") as file:
@@ -110,7 +110,7 @@ def _report(mode: str, graph: NumberedGraph, script: Optional[bytes] = None) -> 
 def _answer(mode: str, graph: Any, vertices: Optional[Iterable[Hashable]]) -> Line:
     """The program's line of one graph, with the graph's names."""
     known = numbered(graph, vertices)
-    line, = _report(mode, known)
+    line, = _report([mode, "g6"], known.graph6())
     line.rename(known.vertices.__getitem__)
     return line
 
@@ -122,6 +122,17 @@ def tree(graph: Any, vertices: Optional[Iterable[Hashable]] = None) -> Optional[
     ValueError for a directed graph and a loop; MdtError where the program gives no answer, with the kind
     TooManyVertices above 16,384 vertices, in `orient` and `permutation_model` above 4,096."""
     return _answer("tree", graph, vertices).tree
+
+
+def directed_tree(graph: Any, vertices: Optional[Iterable[Hashable]] = None) -> Optional[DirectedNode]:
+    """The tree of strong modules of a directed graph, None for that without vertices. The directed graph is one of
+    networkx or of Sage, or a list of pairs (tail, head). Children of an order node stand in its order, all others by
+    their least vertex. ValueError for an undirected graph and a loop; MdtError as in `tree`, TooManyVertices above
+    4,096 vertices."""
+    known = numbered_digraph(graph, vertices)
+    line, = _report(["dtree"], known.digraph6())
+    line.rename(known.vertices.__getitem__)
+    return line.tree
 
 
 def orient(graph: Any, vertices: Optional[Iterable[Hashable]] = None) -> Union[Orientation, ForcingChain]:
@@ -139,11 +150,11 @@ def permutation_model(graph: Any, vertices: Optional[Iterable[Hashable]] = None)
     return PermutationModel(*line.orders) if line.what == "orders" else ForcingChain(line.of, line.arcs)
 
 
-def check(mode: str, form: str, graph: str, *files: str) -> None:
+def check(mode: str, form: Optional[str], graph: str, *files: str) -> None:
     """Lets the program judge a report, as `mdt check MODE FORM GRAPH [SCRIPT] REPORT` does: `form` is `g6` or `dimacs`,
-    the others are paths. Returns where the report is valid; Rejected, with the line, where it isn't; MdtError where
-    the program gives no answer."""
-    run(["check", mode, form, graph, *files])
+    None with `dtree`, whose files have one form; the others are paths. Returns where the report is valid; Rejected,
+    with the line, where it isn't; MdtError where the program gives no answer."""
+    run(["check", mode] + ([form] if form else []) + [graph, *files])
 
 
 class Session:
@@ -217,7 +228,7 @@ class Session:
     def __exit__(self, kind: Any, error: Any, trace: Any) -> None:
         if kind is None:
             script = "".join(line + "\n" for line in self._script).encode()
-            self.lines = _report(self._mode, self._graph, script)
+            self.lines = _report([self._mode, "g6"], self._graph.graph6(), script)
             for line in self.lines:
                 line.rename(self._names.__getitem__)
 

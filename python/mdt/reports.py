@@ -15,13 +15,14 @@ from .trees import Node, ReportError, parse_tree
 # What a line of each mode may be, beside the head and the end.
 MODES = {
     "tree": {"tree"},
+    "dtree": {"tree"},
     "compare": {"orientation", "chain"},
     "permute": {"orders", "chain"},
     "edit": {"tree", "applied", "refused"},
     "cograph": {"tree", "applied", "refused", "p4"},
     "quiet": {"tree", "applied", "refused", "p4"},
 }
-OF_GRAPHS = ("tree", "compare", "permute")
+OF_GRAPHS = ("tree", "dtree", "compare", "permute")
 # How many vertices stand with each reason against an edit.
 REASONS = {"same": 0, "vertex": 1, "taken": 1, "edge-there": 0, "edge-absent": 0, "p4": 4}
 # The most edits that a group can have.
@@ -38,8 +39,9 @@ Source = Union[str, os.PathLike, Iterable[Union[str, bytes]]]
 class Line:
     """A line of a report. `number` counts from 1; `what` is one of
 
-    head         `mode` is the mode: tree, compare, permute, edit, cograph, quiet
-    tree         `tree` is the tree of a graph, None for the graph without vertices
+    head         `mode` is the mode: tree, dtree, compare, permute, edit, cograph, quiet
+    tree         `tree` is the tree of a graph, or in a report of dtree of a directed graph; None for that without
+                 vertices
     applied      an edit or a group was applied, or the last of them taken back; `tree` is the tree after it, where the
                  mode tells one (`has_tree`)
     refused      an edit was refused; `reason` is one of same, vertex, taken, edge-there, edge-absent, p4; with it
@@ -156,7 +158,7 @@ def _answer(first: str, rest: list[str], number: int, mode: str) -> Optional[Lin
     if first in ("t", "ok") and len(rest) == (0 if first == "ok" and mode == "quiet" else 1):
         line = Line(number, "tree" if first == "t" else "applied")
         if rest:
-            line.tree, line.has_tree = parse_tree(rest[0]), True
+            line.tree, line.has_tree = parse_tree(rest[0], directed=mode == "dtree"), True
     elif first == "p4" and len(rest) == 4:
         line = Line(number, "p4")
         line.vertices = _names(rest)
@@ -234,7 +236,10 @@ def count(lines: Iterable[Line]) -> collections.Counter:
     """Counts over the lines of a report: lines by what they are, reasons, chains, trees and their nodes by kind.
     For the number of lines alone `grep -c` is many times as fast."""
     counts: collections.Counter = collections.Counter()
+    cographs = "trees of cographs"
     for line in lines:
+        if line.mode == "dtree":
+            cographs = "trees of directed cographs"
         counts["lines"] += 1
         counts["lines: " + line.what] += 1
         if line.what == "refused":
@@ -245,7 +250,7 @@ def count(lines: Iterable[Line]) -> collections.Counter:
             continue
         counts["trees"] += 1
         counts["trees of prime graphs"] += line.tree is not None and line.tree.is_prime()
-        counts["trees of cographs"] += line.tree is None or line.tree.is_cograph()
+        counts[cographs] += line.tree is None or line.tree.is_cograph()
         for node in line.tree or ():
             counts["nodes: " + node.kind] += 1
     return counts
@@ -258,9 +263,9 @@ class JoinError(ValueError):
 def join(pieces: Iterable[tuple[str, Iterable[bytes]]], write: Callable[[bytes], Any], lines: Optional[int] = None):
     """Writes the report of all graphs of the pieces: pairs of a name and the lines of its reports, each whole.
 
-    A piece holds one report of `tree`, `compare` or `permute`, or several one after the other; one that holds none is
-    refused, as is a number of graphs other than `lines`, where that is given. JoinError says what is wrong; what was
-    written then is the beginning of a report and lacks its `end`.
+    A piece holds one report of `tree`, `dtree`, `compare` or `permute`, or several one after the other; one that holds
+    none is refused, as is a number of graphs other than `lines`, where that is given. JoinError says what is wrong;
+    what was written then is the beginning of a report and lacks its `end`.
     """
     heads = {b"mdt %s\n" % mode.encode() for mode in OF_GRAPHS}
     head, found = None, 0

@@ -5,7 +5,7 @@ import math
 from typing import Collection, Optional
 from xml.sax.saxutils import escape
 
-from .svg import circle, rounded, short, text_at, text_width, titled
+from .svg import Place, arrow, circle, rounded, short, text_at, text_width, titled, ways
 
 # A ring shows names inside its circles up to the first number of vertices, beside its dots up to the second, and
 # its lines up to the third number of pairs. Up to the last number of vertices their order is bettered.
@@ -58,10 +58,10 @@ def _shorten(order: list[int], near: list[list[int]]) -> None:
 
 
 class Ring:
-    """A graph drawn on a circle: `size` is the side of the square that it fills."""
+    """A graph drawn on a circle, or a directed graph: `size` is the side of the square that it fills."""
 
-    def __init__(self, labels: list[str], pairs: Collection[tuple[int, int]]):
-        self.labels, self.pairs = [short(label) for label in labels], pairs
+    def __init__(self, labels: list[str], pairs: Collection[tuple[int, int]], is_directed: bool = False):
+        self.labels, self.pairs, self.is_directed = [short(label) for label in labels], pairs, is_directed
         count, longest = len(labels), max(map(len, self.labels))
         self.inside = count <= MOST_INSIDE and longest <= 3
         self.named = count <= MOST_NAMED
@@ -80,7 +80,7 @@ class Ring:
         steps = abs(self.turn[i] - self.turn[j])
         return min(steps, len(self.turn) - steps)
 
-    def place(self, v: int, x: float, y: float, radius: Optional[float] = None) -> tuple[float, float]:
+    def place(self, v: int, x: float, y: float, radius: Optional[float] = None) -> Place:
         """The place of a vertex where the middle is x, y."""
         r = self.radius if radius is None else radius
         return x + r * math.sin(self.angle[v]), y - r * math.cos(self.angle[v])
@@ -90,19 +90,35 @@ class Ring:
         none seems to go through others."""
         if len(self.pairs) > MOST_PAIRS:
             return [text_at(x, y, "%d children, %d pairs" % (len(self.labels), len(self.pairs)))]
+        thin = 1.2 if len(self.pairs) < 150 else 0.6
+        if self.is_directed:
+            more = ' stroke="%s" stroke-width="%g"' % (colour, thin)
+            return [arrow(self.place(i, x, y), self.place(j, x, y), self.control(i, j, x, y), (self.dot,) * 2, both,
+                          more) for i, j, both in ways(self.pairs)]
         parts = []
         for i, j in self.pairs:
-            (a, b), (c, d) = self.place(i, x, y), self.place(j, x, y)
-            u, v = (a + c) / 2 - x, (b + d) / 2 - y
-            far = math.hypot(u, v)
-            inside = self.radius - 3 * self.dot
-            if self.steps(i, j) == 1 or far <= inside or len(self.labels) < 7:
-                parts.append("M%s %sL%s %s" % tuple(map(rounded, (a, b, c, d))))
+            ends = self.place(i, x, y), self.place(j, x, y)
+            if self.is_bent(i, j):
+                parts.append("M%s %sQ%s %s %s %s" % tuple(
+                    map(rounded, (*ends[0], *self.control(i, j, x, y), *ends[1]))))
             else:
-                bend = (2 * inside - far) / far
-                parts.append("M%s %sQ%s %s %s %s" % tuple(map(rounded, (a, b, x + bend * u, y + bend * v, c, d))))
-        thin = 1.2 if len(self.pairs) < 150 else 0.6
+                parts.append("M%s %sL%s %s" % tuple(map(rounded, ends[0] + ends[1])))
         return ['<path d="%s" fill="none" stroke="%s" stroke-width="%g"/>' % ("".join(parts), colour, thin)]
+
+    def is_bent(self, i: int, j: int) -> bool:
+        """Whether the line of two vertices bends inward."""
+        far = self.radius * abs(math.cos((self.angle[i] - self.angle[j]) / 2))
+        return self.steps(i, j) > 1 and far > self.radius - 3 * self.dot and len(self.labels) >= 7
+
+    def control(self, i: int, j: int, x: float, y: float) -> Place:
+        """The point towards which the line of two vertices bends: its middle where it is straight."""
+        (a, b), (c, d) = self.place(i, x, y), self.place(j, x, y)
+        u, v = (a + c) / 2 - x, (b + d) / 2 - y
+        if not self.is_bent(i, j):
+            return x + u, y + v
+        far = math.hypot(u, v)
+        bend = (2 * (self.radius - 3 * self.dot) - far) / far
+        return x + bend * u, y + bend * v
 
     def vertex(self, v: int, x: float, y: float, fill: str, stroke: str, title: str, tagged: bool) -> str:
         """The circle or dot of a vertex, and its name; a tagged one has it also where there are too many for names."""

@@ -1,4 +1,4 @@
-"""Trees of strong modules: nodes, their text, and the graph that a tree denotes.
+"""Trees of strong modules: nodes, their text, and the graph or directed graph that a tree denotes.
 
 No function here calls itself, so a tree may be as deep as the program writes one: 16,383 levels.
 """
@@ -7,11 +7,16 @@ from __future__ import annotations
 import re
 from typing import Any, Callable, Hashable, Iterator, Optional
 
-KINDS = {"P": "parallel", "S": "series", "R": "prime"}
+# Order nodes stand in trees of directed graphs alone.
+KINDS = {"P": "parallel", "S": "series", "O": "order", "R": "prime"}
 LETTERS = {kind: letter for letter, kind in KINDS.items()}
 
-_NAME = r"(?:0|[1-9][0-9]{0,4})"
-_TOKEN = re.compile(r"([PSR])\(|(%s)|([,)])|;((?:%s-%s,)*%s-%s)(?=\))" % ((_NAME,) * 5))
+
+def _parts_of_text(letters: str, between: str) -> re.Pattern:
+    """What a text of trees consists of: these letters of nodes, and this byte inside a pair."""
+    name = "(?:0|[1-9][0-9]{0,4})"
+    pair = name + between + name
+    return re.compile(r"([%s])\(|(%s)|([,)])|;((?:%s,)*%s)(?=\))" % (letters, name, pair, pair))
 
 
 class ReportError(ValueError):
@@ -28,10 +33,13 @@ class Node:
 
     `kind` is `leaf`, `parallel`, `series` or `prime`. A leaf has its `vertex`, any other node its `children`, and a
     prime one its `pairs`: positions of children, from 0, whose vertices are adjacent. `iter(node)` gives all nodes of
-    the tree below it, each before its children; `str(node)` is the tree's text.
+    the tree below it, each before its children; `str(node)` is the tree's text. `is_directed` tells a `DirectedNode`.
     """
 
     __slots__ = ("kind", "vertex", "children", "pairs")
+    is_directed = False
+    between = "-"
+    _parts = _parts_of_text("PSR", "-")
 
     def __init__(self, kind: str, vertex: Optional[Hashable] = None):
         self.kind = kind
@@ -56,7 +64,7 @@ class Node:
             elif item.kind == "leaf":
                 parts.append(str(item.vertex))
             else:
-                pairs = ";" + ",".join("%d-%d" % pair for pair in item.pairs) if item.kind == "prime" else ""
+                pairs = ";" + ",".join(item.pair_texts()) if item.kind == "prime" else ""
                 waiting.append(pairs + ")")
                 for place in range(len(item.children) - 1, -1, -1):
                     waiting.append(item.children[place])
@@ -69,6 +77,10 @@ class Node:
         from . import pictures
 
         return pictures.tree_svg(self, legend=False)
+
+    def pair_texts(self) -> Iterator[str]:
+        """The texts of the pairs."""
+        return ("%d%s%d" % (i, self.between, j) for i, j in self.pairs)
 
     def leaves(self) -> list:
         """The vertices, in the order of the text."""
@@ -114,24 +126,25 @@ class Node:
         return self.kind == "prime" and all(child.kind == "leaf" for child in self.children)
 
     def is_cograph(self) -> bool:
-        """Whether the tree is that of a cograph: it has no prime node."""
+        """Whether the tree is that of a cograph, or of a directed cograph: it has no prime node."""
         return all(node.kind != "prime" for node in self)
 
     def renamed(self, name: Callable[[Any], Hashable]) -> Node:
         """The same tree over other vertices: `name(v)` in place of each vertex v."""
 
         def rebuilt(node: Node, children: list) -> Node:
-            copy = Node(node.kind, name(node.vertex) if node.kind == "leaf" else None)
+            copy = type(node)(node.kind, name(node.vertex) if node.kind == "leaf" else None)
             copy.children, copy.pairs = children, list(node.pairs)
             return copy
 
         return self._fold(rebuilt)
 
     def to_networkx(self):
-        """The graph that the tree denotes, as a `networkx.Graph`. ImportError where networkx isn't installed."""
+        """The graph that the tree denotes, as a `networkx.Graph`, or the directed graph, as a `networkx.DiGraph`.
+        ImportError where networkx isn't installed."""
         import networkx
 
-        graph = networkx.Graph()
+        graph = networkx.DiGraph() if self.is_directed else networkx.Graph()
         graph.add_nodes_from(self.leaves())
         graph.add_edges_from(self.edges())
         return graph
@@ -143,9 +156,9 @@ class Node:
         try:
             from sage.graphs.graph_decompositions.modular_decomposition import NodeType
 
-            kinds = {kind: getattr(NodeType, kind.upper()) for kind in LETTERS}
+            kinds = {kind: getattr(NodeType, kind.upper()) for kind in ("parallel", "series", "prime")}
         except ImportError:
-            kinds = {kind: kind.upper() for kind in LETTERS}
+            kinds = {kind: kind.upper() for kind in ("parallel", "series", "prime")}
         if self.kind == "leaf":
             return kinds["prime"], [self.vertex]
         return self._fold(lambda node, below: (kinds[node.kind], below) if below else node.vertex)
@@ -164,15 +177,43 @@ class Node:
         return values[id(self)]
 
 
-def parse_tree(text: str) -> Optional[Node]:
-    """The tree of a text, None for `empty`. ReportError where the text is in another form."""
+class DirectedNode(Node):
+    """A node of the tree of a directed graph.
+
+    There `kind` may be `order`, too: all arcs go from the vertices of earlier children to those of later ones. Between
+    children of a parallel node there is no arc, between those of a series node there are both. The `pairs` of a prime
+    node go from the first child to the second. `edges()` gives the arcs, as pairs (tail, head).
+    """
+
+    __slots__ = ()
+    is_directed = True
+    between = ">"
+    _parts = _parts_of_text("PSOR", ">")
+
+    def joined(self) -> list[tuple[int, int]]:
+        """The pairs of positions of children with all arcs from the first to the second, ascending."""
+        if self.kind == "prime":
+            return self.pairs
+        places = range(len(self.children))
+        return [(i, j) for i in places for j in places
+                if self.kind == "series" and i != j or self.kind == "order" and i < j]
+
+    def as_sage(self):
+        """TypeError: Sage takes no directed graph apart."""
+        raise TypeError("Sage takes no directed graph apart")
+
+
+def parse_tree(text: str, directed: bool = False) -> Optional[Node]:
+    """The tree of a text, None for `empty`; with `directed` that of a directed graph, of nodes `DirectedNode`.
+    ReportError where the text is in another form."""
     if text == "empty":
         return None
+    make = DirectedNode if directed else Node
     root: Optional[Node] = None
     open_nodes: list[Node] = []
     place, due = 0, True
     while place < len(text):
-        token = _TOKEN.match(text, place)
+        token = make._parts.match(text, place)
         if token is None:
             raise ReportError("no tree from byte %d of its text on" % place)
         letter, digits, mark, pairs = token.groups()
@@ -181,7 +222,7 @@ def parse_tree(text: str) -> Optional[Node]:
             raise ReportError("%r doesn't belong at byte %d of the tree" % (token.group(), place))
         place = token.end()
         if begins:
-            node = Node(KINDS[letter]) if letter else Node("leaf", int(digits))
+            node = make(KINDS[letter]) if letter else make("leaf", int(digits))
             if open_nodes:
                 open_nodes[-1].children.append(node)
             else:
@@ -193,7 +234,7 @@ def parse_tree(text: str) -> Optional[Node]:
             node = open_nodes[-1]
             if node.kind != "prime":
                 raise ReportError("pairs of a node that isn't prime at byte %d of the tree" % token.start())
-            node.pairs = [(int(i), int(j)) for i, _, j in (pair.partition("-") for pair in pairs.split(","))]
+            node.pairs = [(int(i), int(j)) for i, _, j in (pair.partition(make.between) for pair in pairs.split(","))]
             if max(map(max, node.pairs)) >= len(node.children):
                 raise ReportError("a pair of a child that isn't there at byte %d of the tree" % token.start())
         elif mark == ",":

@@ -3,14 +3,15 @@
 What is here is written for reading: each function says one definition, over sets, and takes the time that this costs.
 The judgement is that of `mdt check`: a report is valid, or N is the number of the first line at which it is none.
 
-A graph is a dict that gives each vertex the set of its neighbours. Two facts of the field are used and not proved here:
-a tree whose nodes are what `is_tree_of` asks for is the tree of strong modules (Gallai); and an edge has a forcing
+A graph is a dict that gives each vertex the set of its neighbours, a directed graph one that gives it the set of those
+that its arcs go to. Two facts of the field are used and not proved here: a tree whose nodes are what `is_tree_of` asks
+for is the tree of strong modules (Gallai; of directed graphs Ehrenfeucht and Rozenberg); and an edge has a forcing
 chain exactly if its two arcs reach each other by forcing (Golumbic).
 """
 from __future__ import annotations
 
 import re
-from itertools import combinations
+from itertools import combinations, permutations
 from typing import Callable, Iterator, Optional
 
 from .inputs import NAMES, ORIENTED, Edit, Graph, Item
@@ -54,15 +55,17 @@ def has_trivial_modules_alone(graph: Graph) -> bool:
 
 
 def is_tree_of(graph: Graph, tree: Optional[Node]) -> bool:
-    """Whether a tree is the tree of strong modules of a graph, with children in the order of their least vertices."""
+    """Whether a tree is the tree of strong modules of a graph, with children in the order of their least vertices; or a
+    tree of a directed graph is that of a directed graph."""
     if tree is None:
         return not graph
     if sorted(tree.leaves()) != sorted(graph):
         return False
+    is_node = is_directed_node_of if tree.is_directed else is_node_of
     below: dict[int, set[int]] = {}
     for node in tree.postorder():
         parts = [below.pop(id(child)) for child in node.children]
-        if node.kind != "leaf" and not is_node_of(graph, node, parts):
+        if node.kind != "leaf" and not is_node(graph, node, parts):
             return False
         below[id(node)] = set().union(*parts) if parts else {node.vertex}
     return True
@@ -79,6 +82,54 @@ def is_node_of(graph: Graph, node: Node, parts: list[set[int]]) -> bool:
         return node.pairs == sorted(pairs) and len(parts) >= 4 and has_trivial_modules_alone(small)
     every = len(parts) * (len(parts) - 1) // 2
     return len(pairs) == (every if node.kind == "series" else 0) and all(c.kind != node.kind for c in node.children)
+
+
+# Modules of directed graphs
+
+def directed_quotient(graph: Graph, parts: list[set[int]]) -> Optional[set[Arc]]:
+    """The pairs of different parts with all arcs from the first to the second, None where some are there and not
+    all."""
+    joined = set()
+    for (i, part), (j, other) in permutations(enumerate(parts), 2):
+        arcs = sum(len(graph[u] & other) for u in part)
+        if arcs == len(part) * len(other):
+            joined.add((i, j))
+        elif arcs:
+            return None
+    return joined
+
+
+def turned(graph: Graph) -> Graph:
+    """The directed graph with each arc the other way round."""
+    return {v: {u for u in graph if v in graph[u]} for v in graph}
+
+
+def has_trivial_directed_modules_alone(graph: Graph) -> bool:
+    """Whether the only modules are the single vertices and all of them. The least module that holds two vertices grows:
+    a vertex outside that has an arc to, or from, one member and not another has to come in."""
+    back = turned(graph)
+    for u, v in combinations(graph, 2):
+        module, waiting = {u, v}, [v]
+        while waiting and len(module) < len(graph):
+            member = waiting.pop()
+            telling = ((graph[u] ^ graph[member]) | (back[u] ^ back[member])) - module
+            module |= telling
+            waiting.extend(telling)
+        if len(module) < len(graph):
+            return False
+    return True
+
+
+def is_directed_node_of(graph: Graph, node: Node, parts: list[set[int]]) -> bool:
+    """Whether an inner node, whose children have these vertices, may stand in the tree of a directed graph."""
+    least = [min(part) for part in parts]
+    pairs = directed_quotient(graph, parts)
+    if len(parts) < 2 or pairs is None or (node.kind != "order" and least != sorted(least)):
+        return False
+    if node.kind == "prime":
+        small = {i: {j for j in range(len(parts)) if (i, j) in pairs} for i in range(len(parts))}
+        return node.pairs == sorted(pairs) and len(parts) >= 3 and has_trivial_directed_modules_alone(small)
+    return pairs == set(node.joined()) and all(child.kind != node.kind for child in node.children)
 
 
 # Induced paths on four vertices
@@ -212,15 +263,15 @@ def equals(right: str) -> Judge:
     return lambda text: text == right
 
 
-def tree_line(word: str, graph: Graph) -> Judge:
-    """Judges the line of a word and the tree of a graph."""
+def tree_line(word: str, graph: Graph, directed: bool = False) -> Judge:
+    """Judges the line of a word and the tree of a graph, or of a directed graph."""
 
     def judge(text: str) -> bool:
         if not text.startswith(word + " "):
             return False
         spelled = text[len(word) + 1:]
         try:
-            tree = parse_tree(spelled)
+            tree = parse_tree(spelled, directed)
         except ReportError:
             return False
         return (str(tree) if tree else "empty") == spelled and is_tree_of(graph, tree)
@@ -327,6 +378,7 @@ def session_lines(mode: str, graph: Graph, script: list[Item]) -> Iterator[Judge
 
 LINES: dict[str, Callable[[Graph], Judge]] = {
     "tree": lambda graph: tree_line("t", graph),
+    "dtree": lambda graph: tree_line("t", graph, directed=True),
     "compare": compare_line,
     "permute": permute_line,
 }

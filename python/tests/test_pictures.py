@@ -17,12 +17,13 @@ from unittest import mock
 from mdt import Node, parse_tree
 from mdt.__main__ import main
 from mdt.diagrams import arcs_svg, graph_svg, orders_svg
-from mdt.pictures import MEANING, letters, tree_dot, tree_svg
+from mdt.pictures import DIRECTED_MEANING, MEANING, letters, tree_dot, tree_svg
 from mdt.rings import ring_order
 from mdt.svg import MARKED
 
 SVG = "{http://www.w3.org/2000/svg}"
 NESTED = "S(R(0,P(1,4),2,3;0-1,1-2,2-3),5)"
+DIRECTED = "O(4,R(0,S(1,5),2;0>1,1>2,2>1,2>0),3)"
 BROWSER = shutil.which("chromium")
 
 
@@ -63,6 +64,18 @@ class Trees(unittest.TestCase):
         self.assertEqual(box(svg)[:2], [0, 0])
         self.assertIn(MEANING["prime"], texts(tree_svg(parse_tree(NESTED))))
         self.assertEqual(parse_tree(NESTED)._repr_svg_(), svg)
+
+    def test_directed_trees(self):
+        tree = parse_tree(DIRECTED, directed=True)
+        svg = tree_svg(tree, legend=False)
+        self.assertEqual(sorted(texts(svg)), sorted("O 4 A 3 A R 0 A 2 A S 1 5".split()))
+        self.assertIn("order, 6 vertices: 4 0 1 5 2 3", titles(svg))
+        self.assertEqual((svg.count("marker-end"), svg.count("marker-start")), (3, 1))
+        for kind in ("series", "order", "prime"):
+            self.assertIn(DIRECTED_MEANING[kind], texts(tree_svg(tree)))
+        dot = tree_dot(tree)
+        self.assertIn("0>1 1>2 2>1 2>0", dot)
+        self.assertEqual((dot.count("ordering=out"), dot.count(" -- ")), (1, 8))
 
     def test_names_and_marks(self):
         tree = parse_tree("R(0,1,2,3;0-1,1-2,2-3)")
@@ -110,6 +123,11 @@ class Diagrams(unittest.TestCase):
         edges = [path.get("d").count("M") for path in xml.fromstring(svg).iter(SVG + "path")]
         self.assertEqual(edges, [10])
         self.assertLess(box(graph_svg(chain(39)))[2], 2000)
+        svg = graph_svg(parse_tree(DIRECTED, directed=True))
+        self.assertEqual((svg.count("marker-end"), svg.count("marker-start")), (15, 3))
+        order = "O(%s)" % ",".join(map(str, range(40)))
+        svg = graph_svg(parse_tree("O(%s,P(40,41))" % order[2:-1], directed=True))
+        self.assertEqual(svg.count("marker-end"), 41 * 40 // 2)
 
     def test_arcs_and_orders(self):
         svg = arcs_svg([(0, 1), (2, 1), (2, 3)])
@@ -149,6 +167,9 @@ class Command(unittest.TestCase):
     def test_lines(self):
         report = self.file("report", "mdt tree\nt 7\nt S(0,1)\nend\n")
         self.assertEqual(texts(self.draw("--no-legend", report)[1]), ["7"])
+        directed = self.file("directed", "mdt dtree\nt O(1,0)\nend\n")
+        self.assertEqual(texts(self.draw("--no-legend", directed)[1]), ["O", "1", "0"])
+        self.assertEqual(self.draw("--graph", directed)[1].count("marker-end"), 1)
         self.assertEqual(texts(self.draw("--no-legend", "--line", "3", report)[1]), ["S", "0", "1"])
         self.assertIn(" -- ", self.draw("--dot", "--line", "3", report)[1])
         self.assertEqual(self.draw("--all", report)[1].count("<svg"), 2)

@@ -11,7 +11,7 @@ from unittest import mock
 
 import mdt
 from mdt import program
-from mdt.graphs import numbered
+from mdt.graphs import numbered, numbered_digraph
 from mdt.reports import MODES, OF_GRAPHS, join
 
 try:
@@ -75,12 +75,25 @@ class Numbered(unittest.TestCase):
         with self.assertRaises(TypeError):
             numbered(7)
 
+    def test_directed(self):
+        for n, arcs, line in [
+            (0, [], b"&?\n"), (1, [], b"&@?\n"), (2, [(1, 0)], b"&AG\n"), (2, [(1, 0), (0, 1), (1, 0)], b"&AW\n"),
+            (5, [(0, 2), (0, 4), (3, 1), (3, 4)], b"&DI?AO?\n"), (63, [], b"&~??~" + 662 * b"?" + b"\n"),
+        ]:
+            self.assertEqual(numbered_digraph(arcs, range(n)).digraph6(), line)
+        self.assertEqual(numbered_digraph(SageGraph([3, 1, 2], [(3, 1)], directed=True)), ([1, 2, 3], {(2, 0)}))
+        for graph in [[(1, 1)], [(1, 2, 3)], SageGraph([], [])]:
+            with self.assertRaises(ValueError):
+                numbered_digraph(graph)
+
     @unittest.skipIf(networkx is None, "networkx isn't installed")
     def test_networkx(self):
         graph = networkx.path_graph(3)
         graph.add_node(9)
         self.assertEqual(numbered(graph), ([0, 1, 2, 9], {(0, 1), (1, 2)}))
         self.assertRaises(ValueError, numbered, networkx.DiGraph())
+        self.assertEqual(numbered_digraph(networkx.DiGraph([(1, 0)])), ([0, 1], {(1, 0)}))
+        self.assertRaises(ValueError, numbered_digraph, networkx.Graph())
 
 
 class WithoutProgram(unittest.TestCase):
@@ -118,6 +131,10 @@ class Answers(unittest.TestCase):
             tree = mdt.tree(edges, range(n))
             self.assertEqual(sorted(tree.leaves()) if tree else [], list(range(n)))
             self.assertEqual(edges_of(tree), edges)
+            arcs = edges | {(v, u) for u, v in random_edges(r, n)}
+            tree = mdt.directed_tree(arcs, range(n))
+            self.assertEqual(sorted(tree.leaves()) if tree else [], list(range(n)))
+            self.assertEqual(set(tree.edges()) if tree else set(), arcs)
 
     @unittest.skipIf(networkx is None, "networkx isn't installed")
     def test_networkx(self):
@@ -171,9 +188,10 @@ class Answers(unittest.TestCase):
             mdt.tree([], range(16_385))
         error = caught.exception
         self.assertEqual((error.status, error.file, error.kind, error.line), (3, "graph", "TooManyVertices", 1))
-        with self.assertRaises(mdt.MdtError) as caught:
-            mdt.orient([], range(4097))
-        self.assertEqual(caught.exception.kind, "TooManyVertices")
+        for call in (mdt.orient, mdt.directed_tree):
+            with self.assertRaises(mdt.MdtError) as caught:
+                call([], range(4097))
+            self.assertEqual(caught.exception.kind, "TooManyVertices")
         with self.assertRaises(mdt.MdtError) as caught:
             with mdt.session([], "edit") as session:
                 session.add_vertex("last", range(16_384))
@@ -212,13 +230,17 @@ class Reports(unittest.TestCase):
                 continue
             form = "g6" if path.suffix == ".g6" else "dimacs"
             for mode in MODES:
-                inputs = [str(path)] + ([] if mode in OF_GRAPHS else [script])
-                report = self.file("report", program.run([mode, form, *inputs]))
-                self.assertEqual(list(mdt.read_report(report))[-1].what, "end")
-                self.assertIsNone(mdt.check(mode, form, *inputs, report))
-                with self.assertRaises(mdt.Rejected) as caught:
-                    mdt.check(mode, form, *inputs, self.file("short", Path(report).read_bytes()[:-1]))
-                self.assertEqual(caught.exception.line, Path(report).read_bytes().count(b"\n"))
+                if mode != "dtree":
+                    self.read_and_check(mode, form, [str(path)] + ([] if mode in OF_GRAPHS else [script]))
+        self.read_and_check("dtree", None, [self.file("digraphs", b">>digraph6<<&BP_\n&BCo\n\n&AW\n&?\n&@?\n")])
+
+    def read_and_check(self, mode, form, inputs):
+        report = self.file("report", program.run([mode] + ([form] if form else []) + inputs))
+        self.assertEqual(list(mdt.read_report(report))[-1].what, "end")
+        self.assertIsNone(mdt.check(mode, form, *inputs, report))
+        with self.assertRaises(mdt.Rejected) as caught:
+            mdt.check(mode, form, *inputs, self.file("short", Path(report).read_bytes()[:-1]))
+        self.assertEqual(caught.exception.line, Path(report).read_bytes().count(b"\n"))
 
     def test_pieces_are_joined_to_the_report_of_all(self):
         r = random.Random(11)

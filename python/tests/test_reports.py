@@ -36,6 +36,9 @@ class Lines(unittest.TestCase):
         self.assertEqual(permute[1].orders, [[0, 1], [1, 0]])
         self.assertEqual([permute[2].of, permute[3].of], ["complement", "graph"])
         self.assertEqual(permute[4].orders, [[], []])
+        directed = lines_of("mdt dtree\nt O(1,0)\nt S(0,1)\nt empty\nend\n")
+        self.assertEqual([str(line.tree) for line in directed[1:4]], ["O(1,0)", "S(0,1)", "None"])
+        self.assertEqual(list(directed[2].tree.edges()), [(0, 1), (1, 0)])
 
     def test_other_texts_are_refused_at_their_line(self):
         for text, line in [
@@ -49,6 +52,7 @@ class Lines(unittest.TestCase):
             ("mdt compare\nyes %s>1\nend\n" % ("9" * 5000), 2), ("mdt edit\nno vertex\nend\n", 2),
             ("mdt edit\nno undo 1\nend\n", 2), ("mdt edit\nno edit 0 same\nend\n", 2),
             ("mdt edit\nno edit 1\nend\n", 2), ("mdt edit\nno edit 200001 same\nend\n", 2),
+            ("mdt tree\nt O(0,1)\nend\n", 2), ("mdt dtree\nt R(0,1,2;0-1)\nend\n", 2), ("mdt dtree\nok 0\nend\n", 2),
             ("mdt edit\nno edit 1 undo\nend\n", 2), ("mdt edit\nno edit 1 p4 0 1 2 3\nend\n", 2),
         ]:
             with self.assertRaises(ReportError, msg=text) as caught:
@@ -69,6 +73,9 @@ class Lines(unittest.TestCase):
         self.assertEqual(counts["trees of prime graphs"], 1)
         self.assertEqual(counts["trees of cographs"], 2)
         self.assertEqual(counts["nodes: leaf"], 6)
+        counts = count(lines_of("mdt dtree\nt R(0,1,2;0>1,1>2,2>0)\nt O(1,0)\nend\n"))
+        self.assertEqual((counts["trees of prime graphs"], counts["trees of directed cographs"]), (1, 1))
+        self.assertEqual((counts["trees of cographs"], counts["nodes: order"]), (0, 1))
 
     def test_json(self):
         line = lines_of("mdt tree\nt R(0,P(1,4),2,3;0-1,1-2,2-3)\nend\n")[1]
@@ -76,6 +83,8 @@ class Lines(unittest.TestCase):
         self.assertEqual(value["nodes"][0], {"kind": "prime", "children": [1, 2, 5, 6],
                                              "pairs": [[0, 1], [1, 2], [2, 3]]})
         self.assertEqual(value["nodes"][2], {"kind": "parallel", "children": [3, 4]})
+        value = lines_of("mdt dtree\nt O(1,0)\nend\n")[1].as_json()
+        self.assertEqual(value["nodes"][0], {"kind": "order", "children": [1, 2]})
 
 
 class Joined(unittest.TestCase):
@@ -94,12 +103,14 @@ class Joined(unittest.TestCase):
         self.assertEqual(self.join(one + none + two), (None, whole))
         self.assertEqual(self.join(one, none, two), (None, whole))
         self.assertEqual(self.join(one + none, two, lines=2), (None, whole))
+        directed = b"mdt dtree\nt O(1,0)\nend\n"
+        self.assertEqual(self.join(directed, directed), (None, b"mdt dtree\nt O(1,0)\nt O(1,0)\nend\n"))
 
     def test_pieces_that_are_not_whole(self):
         one = b"mdt tree\nt 0\nend\n"
         for pieces in [(), (b"",), (one, b""), (b"", one), (b"mdt tree\nt 0\n",), (b"mdt tree\nt 0\n", one),
-                       (b"mdt tree\nt 0\n" + one,), (one, b"mdt compare\nend\n"), (b"t 0\nend\n",),
-                       (b"mdt edit\nend\n",), (b"mdt tree\nt 0\nend",)]:
+                       (b"mdt tree\nt 0\n" + one,), (one, b"mdt compare\nend\n"), (one, b"mdt dtree\nend\n"),
+                       (b"t 0\nend\n",), (b"mdt edit\nend\n",), (b"mdt tree\nt 0\nend",)]:
             wrong, written = self.join(*pieces)
             self.assertIsNotNone(wrong, pieces)
             self.assertFalse(written.endswith(b"end\n"))

@@ -2,7 +2,7 @@
 import json
 import unittest
 
-from mdt import Node, ReportError, parse_tree
+from mdt import DirectedNode, Node, ReportError, parse_tree
 from mdt.reports import nodes_as_json
 
 
@@ -39,6 +39,26 @@ class Trees(unittest.TestCase):
             with self.assertRaises(ReportError, msg=text):
                 parse_tree(text)
 
+    def test_directed(self):
+        for text, leaves, arcs in [
+            ("O(1,0)", [1, 0], [(1, 0)]), ("S(0,1)", [0, 1], [(0, 1), (1, 0)]), ("P(0,1)", [0, 1], []),
+            ("R(0,1,2;0>1,1>2,2>0)", [0, 1, 2], [(0, 1), (1, 2), (2, 0)]),
+            ("R(O(1,0),2,3;0>1,1>2)", [1, 0, 2, 3], [(0, 2), (1, 0), (1, 2), (2, 3)]),
+            ("O(P(2,3),S(0,1))", [2, 3, 0, 1],
+             [(0, 1), (1, 0), (2, 0), (2, 1), (3, 0), (3, 1)]),
+        ]:
+            tree = parse_tree(text, directed=True)
+            self.assertEqual((tree.leaves(), sorted(tree.edges()), repr(tree)), (leaves, arcs, text))
+            self.assertEqual(repr(tree.renamed(lambda v: v)), text)
+            self.assertTrue(all(isinstance(node, DirectedNode) for node in tree))
+        self.assertIsNone(parse_tree("empty", directed=True))
+        for text in ["O(0,1)", "R(0,1,2;0>1)"]:
+            self.assertRaises(ReportError, parse_tree, text)
+        for text in ["R(0,1,2;0-1)", "O(0,1;0>1)", "R(0,1,2;0>3)", "O(0,", "Q(0,1)", "R(0,1,2;0>1,)"]:
+            self.assertRaises(ReportError, parse_tree, text, directed=True)
+        self.assertTrue(parse_tree("O(P(2,3),S(0,1))", directed=True).is_cograph())
+        self.assertRaises(TypeError, parse_tree("O(1,0)", directed=True).as_sage)
+
     def test_deep(self):
         tree = parse_tree(deep_text(4095))
         self.assertEqual(tree.depth(), 4095)
@@ -68,6 +88,8 @@ class Trees(unittest.TestCase):
             self.skipTest("networkx isn't installed")
         graph = parse_tree("R(0,1,2,3;0-1,1-2,2-3)").to_networkx()
         self.assertTrue(networkx.is_isomorphic(graph, networkx.path_graph(4)))
+        order = parse_tree("O(2,0,1)", directed=True).to_networkx()
+        self.assertEqual((order.is_directed(), list(networkx.topological_sort(order))), (True, [2, 0, 1]))
 
 
 if __name__ == "__main__":

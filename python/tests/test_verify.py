@@ -4,12 +4,12 @@ import random
 import subprocess
 import tempfile
 import unittest
-from itertools import combinations
+from itertools import combinations, permutations
 from pathlib import Path
 
-from mdt import MdtError, Node, program
-from mdt.graphs import numbered
-from mdt.inputs import InputFault, read_graphs, read_script
+from mdt import DirectedNode, MdtError, Node, program
+from mdt.graphs import numbered, numbered_digraph
+from mdt.inputs import InputFault, read_digraph6, read_graphs, read_script
 from mdt.reports import MODES
 from mdt.verify import SESSIONS, first_wrong_line, is_tree_of, limit_of
 
@@ -50,8 +50,30 @@ def random_cograph(r, n):
     return graph
 
 
+def random_digraph(r, n):
+    """Directed graphs in the places of the vertices of one, with vertices numbered at random."""
+    def arcs(names):
+        if len(names) < 2:
+            return set()
+        cuts = sorted(r.sample(range(1, len(names)), r.randrange(1, min(4, len(names)))))
+        parts = [names[a:b] for a, b in zip([0] + cuts, cuts + [len(names)])]
+        kind = r.choice("psor")
+        across = {(u, v) for (i, one), (j, two) in permutations(enumerate(parts), 2)
+                  if kind == "s" or kind == "o" and i < j or kind == "r" and r.random() < 0.5 for u in one for v in two}
+        return across.union(*map(arcs, parts))
+
+    graph = {v: set() for v in range(n)}
+    for u, v in arcs(r.sample(range(n), n)):
+        graph[u].add(v)
+    return graph
+
+
 def graph6(graph):
     return numbered([(u, v) for u in graph for v in graph[u]], graph).graph6()
+
+
+def digraph6(graph):
+    return numbered_digraph([(u, v) for u in graph for v in graph[u]], graph).digraph6()
 
 
 def random_script(r, n):
@@ -93,13 +115,13 @@ def altered(r, report):
         lines[at] = b" ".join(words[:1] + words[:0:-1]) + b"\n"
     else:
         text = bytearray(lines[at])
-        text[r.randrange(len(text))] = r.choice(b"0123456789,();-> PSR\n")
+        text[r.randrange(len(text))] = r.choice(b"0123456789,();-> PSOR\n")
         lines[at] = bytes(text)
     return b"".join(lines)
 
 
 def is_module(graph, some):
-    return all(len({v in graph[u] for u in some}) == 1 for v in graph if v not in some)
+    return all(len({(v in graph[u], u in graph[v]) for u in some}) == 1 for v in graph if v not in some)
 
 
 def strong_modules(graph):
@@ -109,22 +131,50 @@ def strong_modules(graph):
     return [one for one in modules if not any(one & two and one - two and two - one for two in modules)]
 
 
-def tree_of(graph):
-    """The tree of a graph with vertices, from all its strong modules."""
+def tree_of(graph, node_of=None):
+    """The tree of a graph with vertices, or of a directed graph, from all its strong modules."""
+    node_of = node_of or graph_node
     nodes = {}
     for module in sorted(strong_modules(graph), key=len):
         inside = [one for one in nodes if one < module and not any(one < two < module for two in nodes)]
         inside.sort(key=min)
-        if not inside:
-            nodes[frozenset(module)] = Node("leaf", min(module))
-            continue
-        pairs = [(i, j) for (i, one), (j, two) in combinations(enumerate(inside), 2) if min(two) in graph[min(one)]]
-        whole = len(inside) * (len(inside) - 1) // 2
-        node = Node("parallel" if not pairs else "series" if len(pairs) == whole else "prime")
+        node, inside = node_of(graph, module, inside)
         node.children = [nodes[one] for one in inside]
-        node.pairs = pairs if node.kind == "prime" else []
         nodes[frozenset(module)] = node
     return nodes[frozenset(graph)]
+
+
+def graph_node(graph, module, inside):
+    """The node of a strong module of a graph, without children, and the strong modules that they have."""
+    if not inside:
+        return Node("leaf", min(module)), []
+    pairs = [(i, j) for (i, one), (j, two) in combinations(enumerate(inside), 2) if min(two) in graph[min(one)]]
+    whole = len(inside) * (len(inside) - 1) // 2
+    node = Node("parallel" if not pairs else "series" if len(pairs) == whole else "prime")
+    node.pairs = pairs if node.kind == "prime" else []
+    return node, inside
+
+
+def directed_node(graph, module, inside):
+    """The same of a directed graph. A node is of order where all pairs of children have one arc, and each child arcs to
+    another number of them."""
+    if not inside:
+        return DirectedNode("leaf", min(module)), []
+
+    def pairs_of(children):
+        return [(i, j) for (i, one), (j, two) in permutations(enumerate(children), 2) if min(two) in graph[min(one)]]
+
+    pairs, most = pairs_of(inside), len(inside) * (len(inside) - 1)
+    heads = [sum(i == tail for tail, _ in pairs) for i in range(len(inside))]
+    if not pairs:
+        return DirectedNode("parallel"), inside
+    if len(pairs) == most:
+        return DirectedNode("series"), inside
+    if all((j, i) not in pairs for i, j in pairs) and len(set(heads)) == len(heads) and 2 * len(pairs) == most:
+        return DirectedNode("order"), [inside[i] for i in sorted(range(len(inside)), key=lambda i: -heads[i])]
+    node = DirectedNode("prime")
+    node.pairs = pairs
+    return node, inside
 
 
 class Definitions(unittest.TestCase):
@@ -172,6 +222,20 @@ class Definitions(unittest.TestCase):
             report = "".join(line + "\n" for line in ["mdt " + mode, *lines, "end"]).encode()
             self.assertEqual(first_wrong_line(mode, read_graphs(graph), read_script(script), report), wrong,
                              (mode, graph, lines))
+        for graph, lines, wrong in [
+            (b"&DI?AO?\n", ["t R(0,1,2,3,4;0>2,0>4,3>1,3>4)"], None),
+            (b"&BP_\n&BCo\n&AG\n&AW\n&?\n&@?\n",
+             ["t R(0,1,2;0>1,1>2,2>0)", "t O(2,1,0)", "t O(1,0)", "t S(0,1)", "t empty", "t 0"], None),
+            (b"&BCo\n", ["t O(0,1,2)"], 2), (b"&BCo\n", ["t O(2,O(1,0))"], 2), (b"&BCo\n", ["t O(2,1,0)", "t 0"], 3),
+            (b"&A?\n&AO\n&BP?\n&BC?\n", ["t P(0,1)", "t O(0,1)", "t R(0,1,2;0>1,1>2)", "t P(O(1,0),2)"], None),
+            (b"&BC?\n", ["t P(2,O(1,0))"], 2), (b"&AW\n", ["t S(1,0)"], 2), (b"&AO\n", ["t R(0,1;0>1)"], 2),
+            (b">>digraph6<<&CI`?\n\n&DSYON?\r\n",
+             ["t R(O(1,0),2,3;0>1,1>2)", "t O(4,R(0,1,2;0>1,1>2,2>0),3)"], None),
+            (b"&CI`?\n", ["t R(1,0,2,3;1>0,0>2,1>2,2>3)"], 2),
+            (b"&CQdG\n", ["t R(0,1,2,3;0>1,1>2,2>3)"], 2), (b"&CQdG\n", ["t R(0,1,2,3;0>1,1>0,1>2,2>1,2>3,3>2)"], None),
+        ]:
+            report = "".join(line + "\n" for line in ["mdt dtree", *lines, "end"]).encode()
+            self.assertEqual(first_wrong_line("dtree", read_digraph6(graph), [], report), wrong, (graph, lines))
         self.assertEqual(first_wrong_line("tree", [], [], b""), 1)
         self.assertEqual(first_wrong_line("tree", [], [], b"mdt tree\nend"), 2)
 
@@ -183,6 +247,16 @@ class Definitions(unittest.TestCase):
             others = [random_graph(r, n) for _ in range(6)]
             right = str(tree_of(graph))
             for tree in map(tree_of, [graph, *others]):
+                self.assertEqual(is_tree_of(graph, tree), str(tree) == right)
+
+    def test_directed_trees_beside_all_modules(self):
+        r = random.Random(4)
+        for number in range(120):
+            n = 1 + number % 6
+            graph = random_digraph(r, n)
+            others = [random_digraph(r, n) for _ in range(6)]
+            right = str(tree_of(graph, directed_node))
+            for tree in [tree_of(one, directed_node) for one in [graph, *others]]:
                 self.assertEqual(is_tree_of(graph, tree), str(tree) == right)
 
     def test_sparse6(self):
@@ -213,6 +287,15 @@ class Definitions(unittest.TestCase):
                 read_graphs(content)
             self.assertEqual((caught.exception.kind, caught.exception.line), (kind, line), content)
         for content, kind, line in [
+            (b"&@_\n", "Loop", 1), (b"DQc\n", "OtherFormat", 1), (b"&?\n&\n", "Truncated", 2), (b"&>\n", "BadByte", 1),
+            (b"&~?\n", "Truncated", 1), (b"&~??}\n", "BadSize", 1), (b"&~@?@\n", "TooManyVertices", 1),
+            (b"&BC\n", "Truncated", 1), (b"&BCo?\n", "TrailingBytes", 1), (b"&A@\n", "BadPadding", 1),
+            (b"&A`\n", "Loop", 1), (b">>digraph6<<>>digraph6<<&?\n", "OtherFormat", 1),
+        ]:
+            with self.assertRaises(InputFault, msg=content) as caught:
+                read_digraph6(content)
+            self.assertEqual((caught.exception.kind, caught.exception.line), (kind, line), content)
+        for content, kind, line in [
             (b"\n*e 0 1\n", "UnknownEdit", 2), (b"+e 0\n", "FieldCount", 1), (b"+v a\n", "BadNumber", 1),
             (b"-v 16384\n", "NameTooLarge", 1), (b"begin\n\nundo\n", "Nested", 3),
             (b"begin\nbegin x\n", "FieldCount", 2),
@@ -231,22 +314,24 @@ class BesideTheProgram(unittest.TestCase):
         answers = {True: 0, False: 0}
         with tempfile.TemporaryDirectory() as folder:
             paths = [str(Path(folder) / name) for name in ("graph", "script", "report")]
-            for number in range(60):
+            for number in range(70):
                 mode = list(MODES)[number % len(MODES)]
-                is_session = mode in SESSIONS
+                is_session, is_directed = mode in SESSIONS, mode == "dtree"
                 make = random_cograph if mode in ("cograph", "quiet") and r.random() < 0.9 else random_graph
+                make, line_of, read = ((random_digraph, digraph6, read_digraph6) if is_directed else
+                                       (make, graph6, read_graphs))
+                words = [mode] if is_directed else [mode, "g6"]
                 graphs = [make(r, r.randrange(1, 9)) for _ in range(1 if is_session else 3)]
                 script = random_script(r, 8)
-                graph_file = b"".join(map(graph6, graphs))
+                graph_file = b"".join(map(line_of, graphs))
                 for path, content in zip(paths, (graph_file, script)):
                     Path(path).write_bytes(content)
                 files = paths[:2] if is_session else paths[:1]
-                report = program.run([mode, "g6", *files])
+                report = program.run([*words, *files])
                 for content in [report] + [altered(r, report) for _ in range(ALTERED)]:
                     Path(paths[2]).write_bytes(content)
-                    it = subprocess.run([program.program(), "check", mode, "g6", *files, paths[2]], capture_output=True)
-                    mine = first_wrong_line(mode, read_graphs(graph_file), read_script(script) if is_session else [],
-                                            content)
+                    it = subprocess.run([program.program(), "check", *words, *files, paths[2]], capture_output=True)
+                    mine = first_wrong_line(mode, read(graph_file), read_script(script) if is_session else [], content)
                     self.assertEqual(it.stdout.decode(), "accepted\n" if mine is None else "rejected line %d\n" % mine,
                                      (mode, graphs, script, content))
                     answers[mine is None] += 1
