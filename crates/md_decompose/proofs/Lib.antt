@@ -7,4 +7,4 @@ pub mod Opened
 pub mod Components
 pub mod Heads
 pub mod HeadPairs
-mod RefinedLemmas
+pub mod RefinedLemmas

@@ -38,6 +38,7 @@ pub(crate) fn quotient_edges<const W: usize>(
 }
 
 /// Makes room in `places` for a place at each name of the set. Errors: want of memory.
+#[inline]
 pub fn make_room<const W: usize>(places: &mut Vec<u32>, set: &Set<W>) -> Result<(), Memory>
     ensures room { IfOk result (λ _. (v : ℕ) → Has set.now v → v < length places.new.items) }
 {
@@ -79,6 +80,7 @@ fn pairs_by_places<const W: usize>(
 /// The least name of each set, and in `places` at each of them the position of its set. Conditions:
 /// `W` is at most `WORDS`, no set is empty, each has a name below all of those behind it, and there
 /// is room for a place at each name.
+#[inline]
 pub fn heads_of<const W: usize>(sets: &[CompactSet<W>], places: &mut [u32]) -> Set<W>
     requires limit { W ≤ WORDS }
     requires room { (k v : ℕ) → k < length sets.now → Has (set_at sets.now k) v
@@ -140,8 +142,9 @@ fn pair_room<const W: usize>(graph: &GraphOf<W>, heads: &Set<W>) -> usize {
 }
 
 /// Puts behind `pairs` those of `head` and each one of `among` that `row` has, by their places, in
-/// ascending order of these names. Condition: there is a place at each of the names. Errors: want of
-/// memory.
+/// ascending order of these names. Condition: there is a place at each of the names. Errors: want
+/// of memory.
+#[inline(always)]
 pub fn push_near<P: Paired, const W: usize>(
     row: &Set<W>,
     among: &Set<W>,

@@ -1,7 +1,8 @@
 -- The fault of a line by the fields behind its first.
 use Rattle.std.specs.Prelude.{◌≡◌, ◌≢◌, ℕ, true, false, List, [], ◌∷◌, length, Option, Some, None, Result, IfOk, IfErr, OnOk, refl}
 use Rattle.std.proofs.Common.{◌∙◌, subst, sym}
-use Rattle.md_text.specs.Numbers.{number_of}
+use Rattle.md_text.specs.Fields.{fields}
+use Rattle.md_text.specs.Numbers.{number_of, AreTwoNumbers}
 use Rattle.md_dimacs.specs.declared.fault.DimacsKind.{DimacsKind}
 use Rattle.md_dimacs.specs.declared.fault.DimacsKind.TheVariants.{UnknownLine, FieldCount}
 use Rattle.md_dimacs.specs.Line.{is_form, both, sizes_in, ends_in, sizes_fault, problem_fault, ends_fault, edge_fault}
@@ -39,28 +40,22 @@ unfolding sizes_in
 sizes_numbers rest form vertices edges cut t = rw (cut, t) refl
 
 -- at the two fields behind an `e`
-pub edge_numbers : (n : ℕ) (rest : List (List ℕ)) (first second : List ℕ) → rest ≡ first ∷ second ∷ []
-    → edge_fault (Some n) rest ≡ ends_fault n (number_of first) (number_of second)
+pub edge_numbers : (n : ℕ) (line : List ℕ) (u v : Option ℕ) → AreTwoNumbers line u v → ends_fault n u v ≡ edge_fault (Some n) (fields line)
 unfolding edge_fault
-edge_numbers n rest first second cut = rw cut refl
+edge_numbers n line u v t = rw (t.are_fields, t.is_first, t.is_second) refl
 
-pub ends_numbers : (rest : List (List ℕ)) (first second : List ℕ) → rest ≡ first ∷ second ∷ []
-    → ends_in rest ≡ both (number_of first) (number_of second)
+pub ends_numbers : (line : List ℕ) (u v : Option ℕ) → AreTwoNumbers line u v → both u v ≡ ends_in (fields line)
 unfolding ends_in
-ends_numbers rest first second cut = rw cut refl
+ends_numbers line u v t = rw (t.are_fields, t.is_first, t.is_second) refl
 
 -- the same, under what a result says
-pub ends_read : (r : Result (ℕ × ℕ) DimacsKind) (rest : List (List ℕ)) (first second : List ℕ) (u v : Option ℕ) → rest ≡ first ∷ second ∷ []
-    → u ≡ number_of first → v ≡ number_of second → IfOk r (λ p. both u v ≡ Some p) → IfOk r (λ p. ends_in rest ≡ Some p)
-ends_read r rest first second u v cut eu ev h =
-    let same : both u v ≡ ends_in rest = (λ i. both (eu i) (ev i)) ∙ sym (ends_numbers rest first second cut) in
-    subst (λ o. IfOk r (λ p. o ≡ Some p)) same h
+pub ends_read : (r : Result (ℕ × ℕ) DimacsKind) (line : List ℕ) (u v : Option ℕ) → AreTwoNumbers line u v
+    → IfOk r (λ p. both u v ≡ Some p) → IfOk r (λ p. ends_in (fields line) ≡ Some p)
+ends_read r line u v t h = subst (λ o. IfOk r (λ p. o ≡ Some p)) (ends_numbers line u v t) h
 
-pub ends_refused : (r : Result (ℕ × ℕ) DimacsKind) (n : ℕ) (rest : List (List ℕ)) (first second : List ℕ) (u v : Option ℕ) → rest ≡ first ∷ second ∷ []
-    → u ≡ number_of first → v ≡ number_of second → IfErr r (λ kind. ends_fault n u v ≡ Some kind) → IfErr r (λ kind. edge_fault (Some n) rest ≡ Some kind)
-ends_refused r n rest first second u v cut eu ev h =
-    let same : ends_fault n u v ≡ edge_fault (Some n) rest = (λ i. ends_fault n (eu i) (ev i)) ∙ sym (edge_numbers n rest first second cut) in
-    subst (λ o. IfErr r (λ kind. o ≡ Some kind)) same h
+pub ends_refused : (r : Result (ℕ × ℕ) DimacsKind) (n : ℕ) (line : List ℕ) (u v : Option ℕ) → AreTwoNumbers line u v
+    → IfErr r (λ kind. ends_fault n u v ≡ Some kind) → IfErr r (λ kind. edge_fault (Some n) (fields line) ≡ Some kind)
+ends_refused r n line u v t h = subst (λ o. IfErr r (λ kind. o ≡ Some kind)) (edge_numbers n line u v t) h
 
 pub sizes_read : (limit : ℕ) (r : Result ℕ DimacsKind) (rest : List (List ℕ)) (form vertices edges : List ℕ) (n m : Option ℕ) → rest ≡ form ∷ vertices ∷ edges ∷ []
     → is_form form ≡ true → n ≡ number_of vertices → m ≡ number_of edges → IfOk r (λ k. AreSizes limit k (both n m)) → IfOk r (λ k. AreSizes limit k (sizes_in rest))
@@ -74,8 +69,6 @@ sizes_refused limit r rest form vertices edges n m cut t en em h =
     let same : sizes_fault limit n m ≡ problem_fault limit None rest = (λ i. sizes_fault limit (en i) (em i)) ∙ sym (problem_numbers limit rest form vertices edges cut t) in
     subst (λ o. IfErr r (λ kind. o ≡ Some kind)) same h
 
-pub ends_passed : (r : Result (ℕ × ℕ) DimacsKind) (n : ℕ) (rest : List (List ℕ)) (first second : List ℕ) (u v : Option ℕ) → rest ≡ first ∷ second ∷ []
-    → u ≡ number_of first → v ≡ number_of second → OnOk r (ends_fault n u v ≡ None) → OnOk r (edge_fault (Some n) rest ≡ None)
-ends_passed r n rest first second u v cut eu ev h =
-    let same : ends_fault n u v ≡ edge_fault (Some n) rest = (λ i. ends_fault n (eu i) (ev i)) ∙ sym (edge_numbers n rest first second cut) in
-    subst (λ o. OnOk r (o ≡ None)) same h
+pub ends_passed : (r : Result (ℕ × ℕ) DimacsKind) (n : ℕ) (line : List ℕ) (u v : Option ℕ) → AreTwoNumbers line u v
+    → OnOk r (ends_fault n u v ≡ None) → OnOk r (edge_fault (Some n) (fields line) ≡ None)
+ends_passed r n line u v t h = subst (λ o. OnOk r (o ≡ None)) (edge_numbers n line u v t) h

@@ -6,7 +6,7 @@ ghost use Rattle.md_dimacs.specs.File.{AreSizes};
 
 use crate::DimacsKind;
 use md_graph::NAMES;
-use md_text::{number, three_fields, two_fields};
+use md_text::{number, three_fields, two_numbers};
 
 // The class of a line, by its first field.
 #[derive(Clone, Copy)]
@@ -98,8 +98,8 @@ pub(crate) fn read_ends(n: u32, rest: &[u8]) -> Result<(u32, u32), DimacsKind>
     ensures faultless { OnOk result (edge_fault (Some n) (fields rest.now) ≡ None) }
     ensures fault { IfErr result (λ kind. edge_fault (Some n) (fields rest.now) ≡ Some kind) }
 {
-    match two_fields(rest) {
-        Some((first, second)) => checked_ends(n, number(first), number(second)),
+    match two_numbers(rest) {
+        Some((first, second)) => checked_ends(n, first, second),
         None => Err(DimacsKind::FieldCount),
     }
 }

@@ -8,7 +8,7 @@ use Rattle.std.specs.FinSet.{nat_cmp-IsAntisymmetric}
 use Rattle.std.specs.Cmp.{nat_cmp_total}
 use Rattle.md_graph.specs.Sets.{NameSet}
 use Rattle.md_text.specs.Fields.{fields}
-use Rattle.md_text.specs.Numbers.{number_of, BeginsWithNumber}
+use Rattle.md_text.specs.Numbers.{number_of, BeginsWithNumber, AreTwoNumbers}
 use Rattle.md_script.specs.declared.fault.ScriptKind.{ScriptKind}
 use Rattle.md_script.specs.Line.{name_in, number_fault, before_names, names_written, names_fault, count_fault, vertex_fault}
 use Rattle.md_script.specs.Read.{NamesSet, NamesVertex}
@@ -117,23 +117,24 @@ fault_two : (rest : List (List ℕ)) (a b : List ℕ) → rest ≡ a ∷ b ∷ [
 unfolding names_fault
 fault_two rest a b cut = ap (count_fault 2) cut ∙ ap (option_or (number_fault (number_of a))) (option_or-none (number_fault (number_of b)))
 
--- what a result says of two numbers, it says of the fields that write them
-pub ends_named : (r : Result (ℕ × ℕ) ScriptKind) (rest : List (List ℕ)) (a b : List ℕ) (u v : Option ℕ) → rest ≡ a ∷ b ∷ [] → u ≡ number_of a → v ≡ number_of b
-    → IfOk r (λ p. name_in u ≡ Some p.0) → IfOk r (λ p. name_in v ≡ Some p.1) → IfOk r (λ p. names_written rest ≡ Some (p.0 ∷ p.1 ∷ []))
-ends_named (Ok p) rest a b u v cut eu ev first second = names_two rest a b p.0 p.1 cut (ap name_in (sym eu) ∙ first) (ap name_in (sym ev) ∙ second)
-ends_named (Err kind) rest a b u v cut eu ev first second = tt
+-- what a result says of two numbers, it says of the line whose fields write them
+pub ends_named : (r : Result (ℕ × ℕ) ScriptKind) (line : List ℕ) (u v : Option ℕ) → AreTwoNumbers line u v
+    → IfOk r (λ p. name_in u ≡ Some p.0) → IfOk r (λ p. name_in v ≡ Some p.1) → IfOk r (λ p. names_written (fields line) ≡ Some (p.0 ∷ p.1 ∷ []))
+ends_named (Ok p) line u v t first second =
+    names_two (fields line) t.first t.second p.0 p.1 t.are_fields (ap name_in (sym t.is_first) ∙ first) (ap name_in (sym t.is_second) ∙ second)
+ends_named (Err kind) line u v t first second = tt
 
-both_faults : (rest : List (List ℕ)) (a b : List ℕ) (u v : Option ℕ) → rest ≡ a ∷ b ∷ [] → u ≡ number_of a → v ≡ number_of b
-    → option_or (number_fault u) (number_fault v) ≡ count_fault 2 rest
-both_faults rest a b u v cut eu ev = (λ i. option_or (number_fault (eu i)) (number_fault (ev i))) ∙ sym (fault_two rest a b cut)
+both_faults : (line : List ℕ) (u v : Option ℕ) → AreTwoNumbers line u v → option_or (number_fault u) (number_fault v) ≡ count_fault 2 (fields line)
+both_faults line u v t =
+    (λ i. option_or (number_fault (t.is_first i)) (number_fault (t.is_second i))) ∙ sym (fault_two (fields line) t.first t.second t.are_fields)
 
-pub ends_passed : (r : Result (ℕ × ℕ) ScriptKind) (rest : List (List ℕ)) (a b : List ℕ) (u v : Option ℕ) → rest ≡ a ∷ b ∷ [] → u ≡ number_of a → v ≡ number_of b
-    → OnOk r (option_or (number_fault u) (number_fault v) ≡ None) → OnOk r (count_fault 2 rest ≡ None)
-ends_passed r rest a b u v cut eu ev h = subst (λ o. OnOk r (o ≡ None)) (both_faults rest a b u v cut eu ev) h
+pub ends_passed : (r : Result (ℕ × ℕ) ScriptKind) (line : List ℕ) (u v : Option ℕ) → AreTwoNumbers line u v
+    → OnOk r (option_or (number_fault u) (number_fault v) ≡ None) → OnOk r (count_fault 2 (fields line) ≡ None)
+ends_passed r line u v t h = subst (λ o. OnOk r (o ≡ None)) (both_faults line u v t) h
 
-pub ends_refused : (r : Result (ℕ × ℕ) ScriptKind) (rest : List (List ℕ)) (a b : List ℕ) (u v : Option ℕ) → rest ≡ a ∷ b ∷ [] → u ≡ number_of a → v ≡ number_of b
-    → IfErr r (λ kind. option_or (number_fault u) (number_fault v) ≡ Some kind) → IfErr r (λ kind. count_fault 2 rest ≡ Some kind)
-ends_refused r rest a b u v cut eu ev h = subst (λ o. IfErr r (λ kind. o ≡ Some kind)) (both_faults rest a b u v cut eu ev) h
+pub ends_refused : (r : Result (ℕ × ℕ) ScriptKind) (line : List ℕ) (u v : Option ℕ) → AreTwoNumbers line u v
+    → IfErr r (λ kind. option_or (number_fault u) (number_fault v) ≡ Some kind) → IfErr r (λ kind. count_fault 2 (fields line) ≡ Some kind)
+ends_refused r line u v t h = subst (λ o. IfErr r (λ kind. o ≡ Some kind)) (both_faults line u v t) h
 
 -- and of one
 pub vertex_named : (r : Result ℕ ScriptKind) (rest : List (List ℕ)) (a : List ℕ) (u : Option ℕ) → rest ≡ a ∷ [] → u ≡ number_of a

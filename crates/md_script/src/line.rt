@@ -9,7 +9,7 @@ ghost use Rattle.md_script.specs.Read.{NamesSet, NamesVertex, IsRefusal};
 use crate::word::EditWord;
 use crate::{Edit, Neighbours, ScriptKind};
 use md_graph::{Memory, NAMES, Names};
-use md_text::{number, one_field, split_number, two_fields};
+use md_text::{number, one_field, split_number, two_numbers};
 use std::alloc::{AllocFailed, Global};
 
 // Why a line isn't read. `?` makes it of a fault, and of want of memory.
@@ -84,8 +84,8 @@ fn read_ends(rest: &[u8]) -> Result<(u32, u32), ScriptKind>
     ensures faultless { OnOk result (count_fault 2 (fields rest.now) ≡ None) }
     ensures fault { IfErr result (λ kind. count_fault 2 (fields rest.now) ≡ Some kind) }
 {
-    match two_fields(rest) {
-        Some((first, second)) => checked_ends(number(first), number(second)),
+    match two_numbers(rest) {
+        Some((first, second)) => checked_ends(first, second),
         None => Err(ScriptKind::FieldCount),
     }
 }

@@ -33,26 +33,14 @@ pub(crate) enum EditWord {
 pub(crate) fn line_word(field: &[u8]) -> Option<LineWord>
     ensures { result ≡ word_of field.now }
 {
-    if field == b"+e".as_slice() {
-        return Some(LineWord::Edit(EditWord::PlusEdge));
+    match field {
+        [b'+', b'e'] => Some(LineWord::Edit(EditWord::PlusEdge)),
+        [b'-', b'e'] => Some(LineWord::Edit(EditWord::MinusEdge)),
+        [b'+', b'v'] => Some(LineWord::Edit(EditWord::PlusVertex)),
+        [b'-', b'v'] => Some(LineWord::Edit(EditWord::MinusVertex)),
+        _ if field == b"undo".as_slice() => Some(LineWord::Undo),
+        _ if field == b"begin".as_slice() => Some(LineWord::Begin),
+        _ if field == b"commit".as_slice() => Some(LineWord::Commit),
+        _ => None,
     }
-    if field == b"-e".as_slice() {
-        return Some(LineWord::Edit(EditWord::MinusEdge));
-    }
-    if field == b"+v".as_slice() {
-        return Some(LineWord::Edit(EditWord::PlusVertex));
-    }
-    if field == b"-v".as_slice() {
-        return Some(LineWord::Edit(EditWord::MinusVertex));
-    }
-    if field == b"undo".as_slice() {
-        return Some(LineWord::Undo);
-    }
-    if field == b"begin".as_slice() {
-        return Some(LineWord::Begin);
-    }
-    if field == b"commit".as_slice() {
-        return Some(LineWord::Commit);
-    }
-    None
 }

@@ -25,6 +25,14 @@ pub record BeginsWithNumber (line : List ℕ) (number : Option ℕ) (rest : List
   pub is_first : fields line ≡ field ∷ fields rest
   pub is_number : number ≡ number_of field
 
+-- the two fields of a line, and the numbers that they write
+pub record AreTwoNumbers (line : List ℕ) (a b : Option ℕ) : Type 0 where
+  pub first : List ℕ
+  pub second : List ℕ
+  pub are_fields : fields line ≡ first ∷ second ∷ []
+  pub is_first : a ≡ number_of first
+  pub is_second : b ≡ number_of second
+
 -- the shortest decimal digits that write n (positional notation)
 unfoldable pub decimal : ℕ → List ℕ
 decimal zero = 48 ∷ []

@@ -19,7 +19,7 @@ mod spelling;
 pub use chunk::{CHUNK_SIZE, Chunk};
 pub use cut::{split_field, split_line, split_number, without_return};
 pub use digits::{DIGITS, number, push_decimal, push_number};
-pub use fields::{one_field, three_fields, two_fields};
+pub use fields::{one_field, three_fields, two_numbers};
 pub use front::{skip_byte, small_number};
 pub use piece::Piece;
 pub use spelling::{digits_piece, number_piece, piece_behind};

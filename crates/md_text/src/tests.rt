@@ -76,8 +76,8 @@ fn check_counts(rt: &impl Abort) {
     let (one, two): (&[u8], &[u8]) = (b"1", b"2");
     assert_eq!(rt; one_field(b" 1 "), Some(one));
     assert_eq!(rt; one_field(b"1 2"), None);
-    assert_eq!(rt; two_fields(b"1 2"), Some((one, two)));
-    assert_eq!(rt; two_fields(b"1 2 1"), None);
+    assert_eq!(rt; two_numbers(b" 1 -2"), Some((Some(1), None)));
+    assert_eq!(rt; two_numbers(b"1 2 1"), None);
     assert_eq!(rt; three_fields(b"2 1 1"), Some((two, one, one)));
     assert_eq!(rt; three_fields(b"2 1"), None);
 }

@@ -4,15 +4,15 @@ use Rattle.md_dimacs.proofs.line.read_ends.Goals as goal
 
 pub returns-in-Some-clause-ends : goal.returns-in-Some-clause-ends
 returns-in-Some-clause-ends c =
-    ends_read c.checked_ends.result (fields c.args.rest.now) _ _ _ _ c.in-Some.ensures.fields c.number.ensures.value c.number-in-Some.ensures.value c.checked_ends.ensures.ends
+    ends_read c.checked_ends.result c.args.rest.now _ _ c.in-Some.ensures.numbers c.checked_ends.ensures.ends
 
 pub returns-in-Some-clause-faultless : goal.returns-in-Some-clause-faultless
 returns-in-Some-clause-faultless c =
-    ends_passed c.checked_ends.result c.args.n (fields c.args.rest.now) _ _ _ _ c.in-Some.ensures.fields c.number.ensures.value c.number-in-Some.ensures.value c.checked_ends.ensures.faultless
+    ends_passed c.checked_ends.result c.args.n c.args.rest.now _ _ c.in-Some.ensures.numbers c.checked_ends.ensures.faultless
 
 pub returns-in-Some-clause-fault : goal.returns-in-Some-clause-fault
 returns-in-Some-clause-fault c =
-    ends_refused c.checked_ends.result c.args.n (fields c.args.rest.now) _ _ _ _ c.in-Some.ensures.fields c.number.ensures.value c.number-in-Some.ensures.value c.checked_ends.ensures.fault
+    ends_refused c.checked_ends.result c.args.n c.args.rest.now _ _ c.in-Some.ensures.numbers c.checked_ends.ensures.fault
 
 pub returns-in-None-clause-fault : goal.returns-in-None-clause-fault
 returns-in-None-clause-fault c = edge_field_count c.args.n (fields c.args.rest.now) c.in-None.ensures.other_count
