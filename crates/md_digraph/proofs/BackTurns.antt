@@ -1,7 +1,6 @@
 -- The turns of the search for the names that no smaller module holds with one: the names with which a name taken has other arcs than with that one.
-use Rattle.std.proofs.Common.{◌≡◌, ℕ, Bool, true, false, not, ◌&&◌, ◌||◌, refl, sym, ◌∙◌, ap, ap₂, inl, inr, arith}
+use Rattle.std.proofs.Common.{◌≡◌, ℕ, Bool, true, false, not, sym, ◌∙◌, ap, ap₂, inl, inr, arith}
 use Rattle.std.specs.FinSet.{contains, union, intersection, difference}
-use Rattle.std.proofs.lemmas.Bool.{false_from_ne_true}
 use Rattle.md_graph.specs.Sets.{NameSet, Has, Lacks}
 use Rattle.md_graph.proofs.SetLaws.{contains-union, contains-intersection, contains-difference, same_set}
 use Rattle.md_graph.proofs.SetLemmas.{clash, of_meet, of_meet_lacks, of_minus, of_minus_lacks, of_union, of_union_lacks, minus_shared, meet_unshared}

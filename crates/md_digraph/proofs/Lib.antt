@@ -4,3 +4,4 @@ mod ArcRowLemmas
 pub mod ArcTurns
 pub mod BackTurns
 mod ArcLaws
+mod RowLemmas

@@ -3,3 +3,4 @@ pub mod ArcRows
 pub mod ArcColours
 pub mod ArcsSeen
 pub mod Laws
+pub mod Cuts
