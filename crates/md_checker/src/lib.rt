@@ -25,7 +25,7 @@ pub use certificates::{is_forcing_chain, is_least_edge_orientation, realise};
 pub use check::{check_graphs, check_session};
 pub use checker::Checker;
 pub use line_judge::{LineJudge, judge};
-pub use tree_fit::fits;
+pub use tree_fit::{are_alone, fits};
 
 #[cfg(test)]
 mod tests;

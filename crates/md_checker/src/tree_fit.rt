@@ -300,9 +300,9 @@ pub(crate) fn has_trivial_modules_alone<const W: usize>(
     Ok(are_alone(&classes))
 }
 
-// Whether each of the sets has one member.
-fn are_alone<const W: usize>(sets: &[CompactSet<W>]) -> bool
-    ensures { IsTrue result ↔ AreSingle sets.now }
+/// Whether each of the sets has one member.
+pub fn are_alone<const W: usize>(sets: &[CompactSet<W>]) -> bool
+    ensures single { IsTrue result ↔ AreSingle sets.now }
 {
     let mut rest = sets;
     while let Some((set, others)) = rest.split_first() {

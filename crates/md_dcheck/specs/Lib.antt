@@ -4,4 +4,3 @@ pub mod DueDigraphs
 pub mod DirectedLaws
 pub mod DirectedFaults
 pub mod DirectedFitTests
-pub mod LoneNames

@@ -205,6 +205,6 @@ fn is_fit<const W: usize>(
         DKind::Parallel => Ok(true),
         DKind::Series => Ok(true),
         DKind::Order => Ok(true),
-        DKind::Prime => Ok(has_trivial_modules_alone(graph, &Set::from_list(heads))),
+        DKind::Prime => has_trivial_modules_alone(alloc, graph, &Set::from_list(heads)),
     }
 }

@@ -3,7 +3,7 @@ ghost use Rattle.std.specs.Prelude.{◌≡◌, ◌↔◌, IfOk, IsTrue};
 ghost use Rattle.md_dcheck.specs.DirectedReports.{DirectedLine, HasDirectedTree, directed_line_text};
 ghost use Rattle.md_dcheck.specs.DueDigraphs.{HasTreeText};
 
-use crate::fits_directed;
+use crate::directed_fit::well_formed_fits;
 use md_digraph::DigraphOf;
 use md_digraph6::{DigraphBySize, DirectedRoom};
 use md_dtree::read_directed;
@@ -49,7 +49,7 @@ fn is_tree_text<const W: usize>(
 {
     let _vertices = graph.vertices();
     match read_directed(alloc, text) {
-        Ok(tree) => fits_directed(alloc, graph, &tree),
+        Ok(tree) => well_formed_fits(alloc, graph, &tree),
         Err(TreeFault::Syntax { place: _ }) => Ok(false),
         Err(TreeFault::NotCanonical) => Ok(false),
         Err(TreeFault::Memory) => Err(Memory),

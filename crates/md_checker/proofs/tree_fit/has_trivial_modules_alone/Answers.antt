@@ -27,6 +27,6 @@ pub returns : goal.returns
 returns g c =
     let others = c.remove.ensures.changed ∙ ap (λ s. remove s c.in-Some.v) c.copy-others.ensures.value in
     let names = subst (λ b. AreWhole (adjacent c.args.graph.now) c.args.names.now b c.in-Some.v) (c.is_same-2.ensures.exactly.0 c.if-not-is_same-2.false) c.back.ensures.names in (
-      λ t. trivial_if c.args.names.now c.remove.new.self c.in-Some.v others c.in_ok-classes.classes.items c.in_ok-classes.ensures.maximal names (subst AreSingle c.deref.ensures.value (c.are_alone.ensures.0 t)),
-      λ trivial. c.are_alone.ensures.1 (subst AreSingle (sym c.deref.ensures.value) (single_if c.args.names.now c.remove.new.self c.in-Some.v others c.in_ok-classes.classes.items c.in_ok-classes.ensures.maximal c.in-Some.ensures.found.member trivial)),
+      λ t. trivial_if c.args.names.now c.remove.new.self c.in-Some.v others c.in_ok-classes.classes.items c.in_ok-classes.ensures.maximal names (subst AreSingle c.deref.ensures.value (c.are_alone.ensures.single.0 t)),
+      λ trivial. c.are_alone.ensures.single.1 (subst AreSingle (sym c.deref.ensures.value) (single_if c.args.names.now c.remove.new.self c.in-Some.v others c.in_ok-classes.classes.items c.in_ok-classes.ensures.maximal c.in-Some.ensures.found.member trivial)),
     )

@@ -5,7 +5,7 @@ use Rattle.md_dcheck.proofs.due_digraph.is_tree_text.Goals as goal
 
 pub returns-in-Ok : goal.returns-in-Ok
 returns-in-Ok g c =
-    if_ok c.fits_directed.result (λ fit fits. fits_text c.args.graph.now c.args.text.now (plain_option c.in-Ok.tree) fit c.in-Ok.ensures.reading.1 fits) c.fits_directed.ensures.fit
+    if_ok c.well_formed_fits.result (λ fit fits. fits_text c.args.graph.now c.args.text.now (plain_option c.in-Ok.tree) fit c.in-Ok.ensures.reading.1 fits) c.well_formed_fits.ensures
 
 pub returns-in-Err-Syntax : goal.returns-in-Err-Syntax
 returns-in-Err-Syntax g c =

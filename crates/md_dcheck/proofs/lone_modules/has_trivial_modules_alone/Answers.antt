@@ -1,11 +1,11 @@
-use Rattle.std.proofs.Common.{◌∙◌, refl, rules, ap, subst}
+use Rattle.std.proofs.Common.{◌∙◌, sym, ap, subst, refl}
 use Rattle.std.specs.FinSet.{remove}
 use Rattle.md_graph.proofs.SetLemmas.{clash}
 use Rattle.md_modules.specs.Modules.{IsLeastModule}
 use Rattle.md_digraph.specs.PlainDigraph.{has_arc_to}
 use Rattle.md_digraph.specs.ArcColours.{between}
-use Rattle.md_checker.proofs.Trivial.{later_differs, not_trivial}
-use Rattle.md_dcheck.proofs.LoneLemmas.{lone_of_trivial, each_lone}
+use Rattle.md_checker.specs.FitTests.{AreSingle}
+use Rattle.md_checker.proofs.Trivial.{later_differs, not_trivial, AreWhole, back_alone, trivial_if, single_if}
 use Rattle.md_dcheck.proofs.lone_modules.has_trivial_modules_alone.Goals as goal
 
 pub returns-then-not-is_same : goal.returns-then-not-is_same
@@ -15,26 +15,19 @@ returns-then-not-is_same g c = (
       (later_differs c.in-Some.v c.in-Some-first_from.j c.in-Some-first_from.ensures.found.above) (λ same. clash (c.is_same.ensures.exactly.1 same) c.if-not-is_same.true) trivial),
 )
 
-pub is_lone-requires : goal.is_lone-requires
-is_lone-requires g c = (
-  search rules,
-  (
-    search rules,
-    (
-      c.requires,
-      (
-        later_differs c.in-Some.v c.in-Some-first_from.j c.in-Some-first_from.ensures.found.above,
-        subst (λ k. IsLeastModule (between (has_arc_to c.args.graph.now)) c.args.names.now c.in-Some.v c.in-Some-first_from.j k) (c.is_same.ensures.exactly.0 c.if-not-is_same.false) c.directed_closure_in.ensures.least,
-      ),
-    ),
-  ),
+pub returns-then-not-is_same-2 : goal.returns-then-not-is_same-2
+returns-then-not-is_same-2 g c = (
+  λ f. clash f refl,
+  λ trivial.
+      let whole = subst (λ k. IsLeastModule (between (has_arc_to c.args.graph.now)) c.args.names.now c.in-Some.v c.in-Some-first_from.j k) (c.is_same.ensures.exactly.0 c.if-not-is_same.false) c.directed_closure_in.ensures.least in
+      let alone = back_alone c.args.names.now c.directed_back.new.into c.in-Some.v c.in-Some-first_from.j whole (later_differs c.in-Some.v c.in-Some-first_from.j c.in-Some-first_from.ensures.found.above) c.directed_back.ensures.names c.directed_back.ensures.rest c.directed_back.ensures.fixed trivial in
+      clash (c.is_same-2.ensures.exactly.1 (alone ∙ sym (c.remove.ensures.changed ∙ ap (λ s. remove s c.in-Some.v) c.copy-others.ensures.value))) c.if-not-is_same-2.true,
 )
-
-pub returns-then-not-is_lone : goal.returns-then-not-is_lone
-returns-then-not-is_lone g c = (λ f. clash f refl, λ trivial. clash (c.is_lone.ensures.1 (lone_of_trivial c.args.names.now c.in-Some.v trivial)) c.if-not-is_lone.true)
 
 pub returns : goal.returns
 returns g c =
-    let each =
-    each_lone c.args.names.now c.in-Some.v c.remove.new.self (c.remove.ensures.changed ∙ ap (λ s. remove s c.in-Some.v) c.copy-others.ensures.value) (c.is_lone.ensures.0 c.if-not-is_lone.false) in
-    (λ t. each.0 (c.are_lone.ensures.0 t), λ trivial. c.are_lone.ensures.1 (each.1 trivial))
+    let others = c.remove.ensures.changed ∙ ap (λ s. remove s c.in-Some.v) c.copy-others.ensures.value in
+    let names = subst (λ b. AreWhole (between (has_arc_to c.args.graph.now)) c.args.names.now b c.in-Some.v) (c.is_same-2.ensures.exactly.0 c.if-not-is_same-2.false) c.directed_back.ensures.names in (
+      λ t. trivial_if c.args.names.now c.remove.new.self c.in-Some.v others c.in_ok-classes.classes.items c.in_ok-classes.ensures.maximal names (subst AreSingle c.deref.ensures.value (c.are_alone.ensures.single.0 t)),
+      λ trivial. c.are_alone.ensures.single.1 (subst AreSingle (sym c.deref.ensures.value) (single_if c.args.names.now c.remove.new.self c.in-Some.v others c.in_ok-classes.classes.items c.in_ok-classes.ensures.maximal c.in-Some.ensures.found.member trivial)),
+    )
