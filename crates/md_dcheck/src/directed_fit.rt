@@ -19,8 +19,8 @@ use std::alloc::Global;
 
 /// Whether the tree is the tree of strong modules of the directed graph, or there is none and the
 /// directed graph has no vertex. Nothing is decomposed: each node takes a few operations on rows
-/// for each child, and a prime node a search for each head of its children. No call nests as deep
-/// as the tree. Errors: want of memory.
+/// for each child, and a prime node three searches more. No call nests as deep as the tree. Errors:
+/// want of memory.
 pub fn fits_directed<const W: usize>(
     alloc: Global,
     graph: &DigraphOf<W>,
