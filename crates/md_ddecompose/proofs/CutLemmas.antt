@@ -1,5 +1,5 @@
 -- A set whose names are ranked by their balance, cut wherever the first names have balances that sum to the number of pairs across.
-use Rattle.std.proofs.Common.{◌≡◌, ◌≢◌, ℕ, suc, ◌+◌, ◌-◌, ◌*◌, ◌<◌, ◌≤◌, ◌⊎◌, Bool, List, [], ◌∷◌, ◌++◌, length, length-append, map, Contains, refl, sym, ◌∙◌, ap, subst, inl, inr, arith, append_assoc}
+use Rattle.std.proofs.Common.{◌≡◌, ◌≢◌, ℕ, ◌+◌, ◌-◌, ◌*◌, ◌<◌, ◌≤◌, ◌⊎◌, Bool, List, [], ◌∷◌, ◌++◌, length, length-append, map, Contains, refl, sym, ◌∙◌, ap, subst, inl, inr, arith}
 use Rattle.std.specs.FinSet.{contains, empty, insert, union, intersection, difference, len, len-empty, remove}
 use Rattle.std.specs.Ordering.{nat_cmp}
 use Rattle.std.specs.List.{sum_by}
@@ -7,16 +7,16 @@ use Rattle.std.proofs.lemmas.Bool.{cases_Bool, true_from_ne_false, false_from_ne
 use Rattle.std.proofs.lemmas.List.{map-append, length-map, length_push, nil_from_length}
 use Rattle.std.proofs.lemmas.List.Sums.{sum_by_push}
 use Rattle.md_graph.specs.Sets.{NameSet, Has, Lacks, Within, HasSome}
-use Rattle.md_graph.proofs.SetLemmas.{clash, same_name, empty_lacks, insert_new, insert_old, of_insert, insert_lacks, remove_left, of_remove, union_left, union_right, of_union, of_union_lacks, union_lacks, meet_has, of_meet, minus_has, of_minus, Has-along, same_members}
+use Rattle.md_graph.proofs.SetLemmas.{clash, same_name, empty_lacks, insert_new, insert_old, of_insert, remove_left, of_remove, union_left, union_right, of_union, of_union_lacks, union_lacks, meet_has, of_meet, minus_has, of_minus, Has-along, same_members}
 use Rattle.md_graph.proofs.Search.{decide_has_some, len_fewer, len_within}
 use Rattle.md_modules.specs.Kinds.{IsSplit}
 use Rattle.md_modules.specs.Components.{IsClosed}
 use Rattle.md_modules.proofs.Splits.{split_closed, closed_split, closed_whole, closed_rest}
 use Rattle.md_digraph.specs.declared.TheConstants.{DIRECTED_NAMES}
-use Rattle.md_digraph.specs.ArcColours.{ArcColour, between, swapped}
+use Rattle.md_digraph.specs.ArcColours.{ArcColour, between}
 use Rattle.md_digraph.proofs.ArcTurns.{arcs_turn}
-use Rattle.md_text.proofs.Lists.{In, Later, of_contains, to_contains, in_left, in_right, of_append, of_pairs, to_pairs, later_append, later_left, later_right, later_across}
-use Rattle.md_dtree.specs.DirectedTrees.{arc_forth, SplitsWith, AllArcsTo}
+use Rattle.md_text.proofs.Lists.{In, Later, of_contains, to_contains, in_left, in_right, of_append, of_pairs, to_pairs, later_append, later_right, later_across}
+use Rattle.md_dtree.specs.DirectedTrees.{arc_forth, AllArcsTo}
 use Rattle.md_dtree.specs.Balance.{arcs_from, arcs_to, ListsMembers}
 use Rattle.md_dtree.proofs.BalanceLaws.{splits_proof, balance_proof}
 use Rattle.md_ddecompose.specs.declared.order_parts.Ranked.{Ranked}

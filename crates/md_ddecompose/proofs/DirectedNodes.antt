@@ -1,8 +1,8 @@
 -- A node of a directed graph's tree over the trees of a set's children, and how much smaller the children are.
-use Rattle.std.proofs.Common.{◌≡◌, ◌≢◌, ℕ, ◌+◌, ◌-◌, ◌*◌, ◌<◌, ◌≤◌, Bool, List, [], ◌∷◌, length, map, Contains, Option, Some, None, MatchOption, refl, sym, ◌∙◌, ap, subst, inl, inr, arith}
+use Rattle.std.proofs.Common.{◌≡◌, ℕ, ◌+◌, ◌-◌, ◌*◌, ◌<◌, ◌≤◌, Bool, List, [], ◌∷◌, length, map, Option, Some, None, MatchOption, refl, sym, ◌∙◌, ap, subst, inl, inr, arith}
 use Rattle.std.specs.FinSet.{len}
 use Rattle.std.proofs.lemmas.Bool.{false_from_ne_true}
-use Rattle.md_graph.specs.Sets.{NameSet, Has, Lacks, Within, Disjoint, HasSome, HasTwo}
+use Rattle.md_graph.specs.Sets.{NameSet, Has, Disjoint, HasSome, HasTwo}
 use Rattle.md_graph.proofs.SetLemmas.{same_members}
 use Rattle.md_modules.specs.Modules.{IsMaximalStrong}
 use Rattle.md_modules.specs.Kinds.{IsUnsplit}
@@ -12,7 +12,7 @@ use Rattle.md_digraph.specs.ArcColours.{ArcColour, between, no_arc, both_arcs}
 use Rattle.md_digraph.proofs.ArcTurns.{arcs_turn, arcs_told}
 use Rattle.md_text.proofs.Lists.{In, Later, of_contains, to_contains, of_pairs}
 use Rattle.md_tree.specs.Trees.{names, names_below, names_at, row}
-use Rattle.md_tree.specs.StrongTrees.{IsBefore, StandBy, ListsExactly}
+use Rattle.md_tree.specs.StrongTrees.{StandBy, ListsExactly}
 use Rattle.md_tree.proofs.Nodes.{IsChild, child_inside, child_of_name}
 use Rattle.md_tree.proofs.Built.{IsChildSet, IsBuiltBy}
 use Rattle.md_decompose.specs.Children.{set_at}
@@ -21,7 +21,7 @@ use Rattle.md_dtree.specs.declared.DKind.{DKind}
 use Rattle.md_dtree.specs.declared.DKind.TheVariants.{Parallel, Series, Order, Prime}
 use Rattle.md_dtree.specs.declared.DPair.{DPair}
 use Rattle.md_dtree.specs.DirectedSpelling.{directed_pairs}
-use Rattle.md_dtree.specs.DirectedTrees.{PlainDTree, PlainDTrees, arc_forth, SplitsWith, HasDirectedKind, IsDirectedPrime, AllArcsTo, StandsBefore, IsArcPair, HasArcPairs, IsDirectedNode}
+use Rattle.md_dtree.specs.DirectedTrees.{PlainDTree, PlainDTrees, arc_forth, SplitsWith, HasDirectedKind, AllArcsTo, StandsBefore, IsArcPair, HasArcPairs, IsDirectedNode}
 use Rattle.md_dtree.proofs.ArcKinds.{directed_kinds_law}
 use Rattle.md_dtree.proofs.DirectedCanonical.{unsplit_prime}
 use Rattle.md_ddecompose.specs.Children.{AreDirectedChildren, DiffersFrom, IsArcOfSets, ListsArcsFor}

@@ -1,7 +1,7 @@
 mod RankLemmas
 mod CutLemmas
 mod OrderLemmas
-mod RowLemmas
+mod OrderSearch
 mod ArcPairs
 mod DirectedNodes
 mod OpenSets

@@ -1,26 +1,25 @@
 -- The sets of a directed graph that wait to be taken apart, and the parts of its tree so far.
-use Rattle.std.proofs.Common.{◌≡◌, ℕ, ◌+◌, ◌-◌, ◌*◌, ◌<◌, ◌≤◌, Bool, List, [], ◌∷◌, ◌++◌, length, map, Option, Some, None, refl, sym, ◌∙◌, ap, subst, inl, inr, arith}
+use Rattle.std.proofs.Common.{◌≡◌, ℕ, ◌+◌, ◌-◌, ◌*◌, ◌<◌, ◌≤◌, Bool, List, [], ◌∷◌, ◌++◌, length, map, None, refl, sym, ◌∙◌, ap, subst, inl, inr, arith}
 use Rattle.std.proofs.lemmas.List.{map-append}
 use Rattle.std.specs.FinSet.{len}
-use Rattle.md_graph.specs.Sets.{NameSet, Has, Within, HasSome, HasTwo, only_name}
-use Rattle.md_graph.proofs.SetLemmas.{Has-along}
+use Rattle.md_graph.specs.Sets.{NameSet, Within, HasSome, HasTwo}
 use Rattle.md_graph.proofs.Search.{some_len}
 use Rattle.md_modules.specs.Modules.{IsMaximalStrong}
 use Rattle.md_digraph.specs.ArcColours.{between}
 use Rattle.md_digraph.proofs.ArcTurns.{arcs_told}
 use Rattle.md_text.proofs.Lists.{In, of_append, in_left, in_right}
-use Rattle.md_tree.specs.Trees.{leaf, node, names, row, EachNodeBelow}
+use Rattle.md_tree.specs.Trees.{leaf, node, names, row}
 use Rattle.md_tree.specs.Parts.{PlainPartOf, name, inner, parts_of, parts_backward}
 use Rattle.md_tree.proofs.Kinded.{built_tree}
 use Rattle.md_decompose.proofs.Joining.{weights, weights-append}
 use Rattle.md_decompose.proofs.Waiting.{no_trees, count_trees, GoesOn, IsPartOver, goes_begin, goes_more, goes_end}
 use Rattle.md_dtree.specs.declared.DKind.{DKind}
 use Rattle.md_dtree.specs.declared.DPair.{DPair}
-use Rattle.md_dtree.specs.DirectedTrees.{PlainDTree, HasDirectedKind, IsDirectedTreeOf}
+use Rattle.md_dtree.specs.DirectedTrees.{PlainDTree, IsDirectedTreeOf}
 use Rattle.md_dtree.proofs.ArcKinds.{directed_kinds_law, two_of_kind}
 use Rattle.md_ddecompose.specs.declared.decomposition.Open.{Open}
 use Rattle.md_ddecompose.specs.Children.{DiffersFrom}
-use Rattle.md_ddecompose.specs.Turns.{IsDNode, open_below, IsDPartOf, IsTakenApart}
+use Rattle.md_ddecompose.specs.Turns.{open_below, IsDPartOf, IsTakenApart}
 use Rattle.md_ddecompose.proofs.DirectedNodes.{IsDBuilt, child_differs, all_names, node_built, child_maximal, children_fall}
 
 abbrev names_of : {w : ℕ} → Open w → NameSet

@@ -1,10 +1,9 @@
 -- The uncut segments of a set are its children in order, where they are two or more; a set with one of them doesn't split so.
 use Rattle.std.proofs.Common.{◌≡◌, ℕ, suc, ◌<◌, ◌≤◌, Bool, List, [], ◌∷◌, length, Contains, refl, sym, ◌∙◌, ap, subst, inl, inr, true≢false, arith}
-use Rattle.std.proofs.lemmas.Bool.{true_from_ne_false, false_from_ne_true}
-use Rattle.md_graph.specs.Sets.{NameSet, Has, Lacks, Within, HasSome}
+use Rattle.std.proofs.lemmas.Bool.{false_from_ne_true}
+use Rattle.md_graph.specs.Sets.{NameSet, Has, Within, HasSome}
 use Rattle.md_graph.proofs.SetLemmas.{clash, same_members}
 use Rattle.md_modules.specs.Modules.{IsMaximalStrong}
-use Rattle.md_modules.specs.Kinds.{IsSplit}
 use Rattle.md_modules.proofs.Strong.{children_meet}
 use Rattle.md_modules.proofs.Splits.{AreReverses, segment_inside, unsplit_segment, segment_child}
 use Rattle.md_digraph.specs.ArcColours.{between, swapped}

@@ -1,17 +1,16 @@
 -- The names of a set, with their lags, sorted by these.
-use Rattle.std.proofs.Common.{◌≡◌, ◌≢◌, ℕ, ◌+◌, ◌-◌, ◌*◌, ◌<◌, ◌≤◌, Bool, false, eqb, List, [], ◌∷◌, ◌++◌, length, get_or, map, All, Contains, AllPairs, refl, sym, ◌∙◌, ap, ap₂, subst, inl, arith, append_assoc, append-nil}
+use Rattle.std.proofs.Common.{◌≡◌, ℕ, ◌+◌, ◌*◌, ◌<◌, ◌≤◌, Bool, eqb, List, [], ◌∷◌, ◌++◌, get_or, map, All, Contains, refl, sym, ◌∙◌, ap, subst, inl, arith, append_assoc, append-nil}
 use Rattle.std.proofs.lemmas.Bool.{ne_eqb, eqb-false}
 use Rattle.std.proofs.lemmas.List.Elements.{All-push}
 use Rattle.std.proofs.lemmas.List.{map-append}
 use Rattle.std.proofs.lemmas.List.Sorted.{All-permutation, IsPermutation-map, IsPermutation-sym, Contains-permutation}
 use Rattle.std.proofs.lemmas.Map.Keys.{IsDistinct-from_apart, IsDistinct-IsPermutation, apart_from_distinct}
-use Rattle.std.specs.FinSet.{contains, intersection, retain, len}
+use Rattle.std.specs.FinSet.{intersection, retain, len}
 use Rattle.std.specs.List.{IsDistinct}
 use Rattle.std.specs.List.Sorted.{IsPermutation, IsNonDecreasingBy}
 use Rattle.md_graph.specs.declared.TheConstants.{NAMES}
 use Rattle.md_graph.specs.NameSet.{AllBelow, ascending}
-use Rattle.md_graph.specs.Sets.{NameSet, Has, Within}
-use Rattle.md_graph.proofs.SetLaws.{same_set, contains-intersection, contains-retain}
+use Rattle.md_graph.specs.Sets.{NameSet, Has}
 use Rattle.md_graph.proofs.SetLemmas.{same_turned, same_members, meet_has, of_meet, retain_has, of_retain}
 use Rattle.md_graph.proofs.Search.{len_within}
 use Rattle.md_graph.proofs.NameLemmas.{ascending_items, ascending_order, ascending_appears, length-ascending, few_below}
@@ -19,7 +18,7 @@ use Rattle.md_text.proofs.Lists.{to_contains, in_right}
 use Rattle.md_digraph.specs.declared.TheConstants.{DIRECTED_NAMES}
 use Rattle.md_digraph.specs.PlainDigraph.{PlainDigraph, IsDigraph, has_arc_to, successors, predecessors}
 use Rattle.md_digraph.proofs.DigraphLemmas.{contains-successors, contains-predecessors}
-use Rattle.md_dtree.specs.Balance.{arcs_from, arcs_to, ListsMembers}
+use Rattle.md_dtree.specs.Balance.{arcs_from, arcs_to}
 use Rattle.md_ddecompose.specs.declared.order_parts.Ranked.{Ranked}
 use Rattle.md_ddecompose.specs.Ranks.{HasItsLag, name_of, AreRanked}
 

@@ -17,12 +17,14 @@ use std::alloc::Global;
 
 // The kind of a set of two vertices or more, the leaf sets of its children, in their order, and the
 // pairs of them that it lists. `parent` is the kind of the node above, if there is one: below a
-// parallel, a series or an order node nothing is of that kind.
+// parallel, a series or an order node nothing is of that kind. `places` is where positions are kept
+// meanwhile, whatever it has.
 pub(crate) fn children<const W: usize>(
     alloc: Global,
     graph: &DigraphOf<W>,
     set: &Set<W>,
     parent: Option<DKind>,
+    places: &mut Vec<u32>,
 ) -> Result<(DKind, Vec<CompactSet<W>>, DPairs), Memory>
     requires inside { Within set.now graph.now.vertices }
     requires two { HasTwo set.now }
@@ -46,7 +48,7 @@ pub(crate) fn children<const W: usize>(
         return Ok((DKind::Order, sets, no_pairs(alloc)));
     }
     let sets = prime_children(alloc, graph, set)?;
-    let pairs = arc_pairs(alloc, graph, set, &sets)?;
+    let pairs = arc_pairs(alloc, graph, set, &sets, places)?;
     Ok((DKind::Prime, sets, pairs))
 }
 

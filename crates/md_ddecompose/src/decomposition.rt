@@ -62,8 +62,9 @@ fn parts<const W: usize>(
         names: CompactSet::of(alloc, names)?,
         parent: None,
     })?;
+    let mut places = Vec::new(alloc);
     while let Some(next) = waiting.pop() {
-        take_apart(alloc, graph, next, &mut parts, &mut waiting)?;
+        take_apart(alloc, graph, next, &mut parts, &mut waiting, &mut places)?;
     }
     Ok(parts)
 }
@@ -75,6 +76,7 @@ fn take_apart<const W: usize>(
     next: Open<W>,
     parts: &mut Vec<PartOf<DKind, DPair>>,
     waiting: &mut Vec<Open<W>>,
+    places: &mut Vec<u32>,
 ) -> Result<(), Memory>
     requires some { HasSome next.names }
     requires inside { Within next.names graph.now.vertices }
@@ -90,7 +92,7 @@ fn take_apart<const W: usize>(
     }
     let mut room = None;
     let set = names.set_in(&mut room);
-    let (kind, sets, pairs) = children(alloc, graph, set, parent)?;
+    let (kind, sets, pairs) = children(alloc, graph, set, parent, places)?;
     parts.push(PartOf::Node(kind, sets.len() as u64, pairs))?;
     push_open(waiting, kind, sets)
 }

@@ -6,10 +6,10 @@
 
 mod arc_pairs;
 mod children;
-mod classes;
 mod components;
 mod decomposition;
 mod order_parts;
+mod order_search;
 mod prime;
 
 pub use decomposition::decompose_directed;

@@ -3,7 +3,8 @@
 //! The balance of a name is the number of arcs from it to names of the set, less those to it. Each
 //! name of a first part has a greater balance than each name behind the part; and some names are a
 //! first part exactly where their balances sum to the number of pairs of one of them and one of the
-//! others. So the names are ranked by their balance, and the set is cut wherever the sums agree.
+//! others. So the names are ranked by their balance, and the set is cut wherever the sums agree. A
+//! few looks before that mostly see that a set which doesn't split so has no such part.
 ghost use Rattle.std.specs.Prelude.{◌≡◌, ◌≤◌, ◌+◌, ◌-◌, ◌*◌, ◌⊎◌, ◌↔◌, ◌++◌, ◌∷◌, [], false, IfOk, IsTrue, MatchOption};
 ghost use Rattle.std.specs.FinSet.{empty};
 ghost use Rattle.md_graph.specs.Sets.{Within, HasSome};
@@ -13,6 +14,7 @@ ghost use Rattle.md_dtree.specs.declared.DKind.TheVariants.{Order};
 ghost use Rattle.md_ddecompose.specs.Children.{AreDirectedChildren};
 ghost use Rattle.md_ddecompose.specs.Ranks.{AreRanked, AreUncutSegments};
 
+use crate::order_search::may_split;
 use md_digraph::{DIRECTED_NAMES, DigraphOf};
 use md_graph::{Memory, Set};
 use md_modules::CompactSet;
@@ -43,6 +45,9 @@ pub(crate) fn order_parts<const W: usize>(
         × AreDirectedChildren (has_arc_to graph.now) set.now Order sets.items)) }
 {
     if whole {
+        return Ok(None);
+    }
+    if !may_split(graph, set) {
         return Ok(None);
     }
     let ranks = ranks(alloc, graph, set)?;

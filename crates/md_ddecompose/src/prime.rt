@@ -1,6 +1,7 @@
 //! The children of a prime set of a directed graph.
-ghost use Rattle.std.specs.Prelude.{◌≡◌, ◌≢◌, IfOk};
-ghost use Rattle.std.specs.FinSet.{insert};
+ghost use Rattle.std.specs.Prelude.{◌≡◌, ◌≢◌, IfOk, IfSome, IfNone};
+ghost use Rattle.std.specs.FinSet.{insert, difference};
+ghost use Rattle.md_graph.specs.NameSet.{NoneFrom};
 ghost use Rattle.md_graph.specs.Sets.{Has, Lacks, Within};
 ghost use Rattle.md_modules.specs.Modules.{IsModule, IsLeastModule, IsLeastModuleOver};
 ghost use Rattle.md_modules.specs.Kinds.{IsUnsplit};
@@ -8,9 +9,9 @@ ghost use Rattle.md_digraph.specs.PlainDigraph.{has_arc_to};
 ghost use Rattle.md_digraph.specs.ArcColours.{between};
 ghost use Rattle.md_decompose.specs.Children.{AreChildren};
 
-use crate::classes::modules_inside;
+use crate::order_search::end_name;
 use md_decompose::in_order;
-use md_digraph::{DigraphOf, directed_back, directed_grow};
+use md_digraph::{DigraphOf, directed_back, directed_grow, directed_maximal_modules};
 use md_graph::{Memory, Set};
 use md_modules::CompactSet;
 use std::alloc::Global;
@@ -34,12 +35,14 @@ pub(crate) fn prime_children<const W: usize>(
     let j = far_from(graph, set, v);
     let mut rest = Set::none();
     directed_back(graph, set, v, j, &mut rest);
-    let classes = modules_inside(alloc, graph, set, &rest)?;
+    let classes = directed_maximal_modules(alloc, graph, set, &rest)?;
     let first = CompactSet::of(alloc, &set.minus(&rest))?;
     in_order(alloc, first, classes)
 }
 
-// A member of the set that no proper module holds with its member `v`.
+// A member of the set that no proper module holds with its member `v`. It is sought from both ends
+// in turn: of modules inside each other whose names grow outwards, or inwards, one end leaves most
+// behind.
 fn far_from<const W: usize>(graph: &DigraphOf<W>, set: &Set<W>, v: u32) -> u32
     requires inside { Within set.now graph.now.vertices }
     requires unsplit { IsUnsplit (between (has_arc_to graph.now)) set.now }
@@ -51,11 +54,23 @@ fn far_from<const W: usize>(graph: &DigraphOf<W>, set: &Set<W>, v: u32) -> u32
     let mut held = Set::none();
     held.insert(v);
     let mut last = v;
-    while let Some(j) = set.first_in_symmetric_difference(&held, set) {
+    let mut from_end = true;
+    while let Some(j) = name_left(set, &held, from_end) {
         hold(graph, set, v, j, &mut held);
         last = j;
+        from_end = !from_end;
     }
     last
+}
+
+// The greatest or the least member of the set (`from_end` or not) that isn't held; none exactly
+// where all are.
+fn name_left<const W: usize>(set: &Set<W>, held: &Set<W>, from_end: bool) -> Option<u32>
+    ensures found { IfSome result (Has (difference set.now held.now)) }
+    ensures none { IfNone result (NoneFrom (difference set.now held.now) 0) }
+{
+    let left = set.minus(held);
+    end_name(&left, from_end)
 }
 
 // Grows a module that holds `v` to the least one that has `j` too. Condition: `set` is a set of

@@ -5,7 +5,7 @@ use Rattle.std.specs.FinSet.{contains, union, intersection, difference}
 use Rattle.std.proofs.lemmas.Bool.{cases_Bool, true_from_ne_false, false_from_ne_true}
 use Rattle.md_graph.specs.NameSet.{IsLeastFrom, NoneFrom, symmetric_difference}
 use Rattle.md_graph.specs.Sets.{NameSet, Has, Lacks, Disjoint, only_name}
-use Rattle.md_graph.proofs.SetLemmas.{clash, meet_has, of_meet, minus_has, of_minus, of_union, none_lacks}
+use Rattle.md_graph.proofs.SetLemmas.{clash, meet_has, of_meet, minus_has, of_minus, of_union, union_left, none_lacks, rest_told, Has-along}
 use Rattle.md_modules.specs.Colours.{IsColouring}
 use Rattle.md_modules.specs.Classes.{IsSplitter}
 use Rattle.md_modules.proofs.ClassLemmas.{IsCutBy}
@@ -134,3 +134,72 @@ pub none_found_in : {C A : Type 0} (e : ℕ → ℕ → C) (s class names others
     IfNone found ((p : ℕ) → IsSplitter e others names p → ⊥) → IfNone found ((p : ℕ) → IsSplitter e s class p → ⊥)
 none_found_in e s class names others None same is none = none_in e s class others (is ∙ ap (difference s) same) (subst (λ t. (p : ℕ) → IsSplitter e others t p → ⊥) same none)
 none_found_in e s class names others (Some row) same is none = tt
+
+-- ---- a row that has some names of a class and lacks some
+
+module _ (class row : NameSet) where
+  pub row_sees : (apart : NameSet) (a : ℕ) → Disjoint class apart → IsLeastFrom (intersection class (symmetric_difference row apart)) 0 a → (x : ℕ) × Has class x × Has row x
+  row_sees apart a disjoint is =
+      let two : Has class a × Has (symmetric_difference row apart) a = of_meet class (symmetric_difference row apart) a is.member in (
+        a,
+        two.0,
+        elim (of_union (difference row apart) (difference apart row) a two.1) [
+          | inl i ↦ (of_minus row apart a i).0
+          | inr i ↦ clash (of_minus apart row a i).0 (disjoint a two.0)
+        ],
+      )
+
+  pub row_misses : (a : ℕ) → IsLeastFrom (intersection class (symmetric_difference row class)) 0 a → (x : ℕ) × Has class x × Lacks row x
+  row_misses a is = let two : Has class a × Lacks row a = of_minus class row a (Has-along _ _ (rest_told class row) a is.member) in (a, two.0, two.1)
+
+  -- no name of the class
+  pub row_has_none : (apart : NameSet) → Disjoint class apart → NoneFrom (intersection class (symmetric_difference row apart)) 0 → (x y : ℕ) → Has class x → Has class y → contains row x ≡ contains row y
+  row_has_none apart disjoint none x y hx hy = lacks x hx ∙ sym (lacks y hy)
+    where
+      lacks : (z : ℕ) → Has class z → Lacks row z
+      lacks z h = false_from_ne_true _ (λ k.
+          clash (meet_has class (symmetric_difference row apart) z h (union_left (difference row apart) (difference apart row) z (minus_has row apart z k (disjoint z h))))
+          (none_lacks (intersection class (symmetric_difference row apart)) none z))
+
+  -- all names of the class
+  pub row_has_all : NoneFrom (intersection class (symmetric_difference row class)) 0 → (x y : ℕ) → Has class x → Has class y → contains row x ≡ contains row y
+  row_has_all none x y hx hy = has x hx ∙ sym (has y hy)
+    where
+      has : (z : ℕ) → Has class z → Has row z
+      has z h = true_from_ne_false _ (λ k.
+          clash (Has-along _ _ (sym (rest_told class row)) z (minus_has class row z h k)) (none_lacks (intersection class (symmetric_difference row class)) none z))
+
+module _ {g : PlainDigraph} (digraph : IsDigraph g) (class others : NameSet) (p : ℕ) where
+  out_at : (row : NameSet) → row ≡ successors g p → (x : ℕ) → contains row x ≡ has_arc_to g p x
+  out_at row is x = ap (λ t. contains t x) is ∙ contains-successors digraph p x
+
+  in_at : (row : NameSet) → row ≡ predecessors g p → (x : ℕ) → contains row x ≡ has_arc_to g x p
+  in_at row is x = ap (λ t. contains t x) is ∙ contains-predecessors digraph p x
+
+  row_cuts_by : (row : NameSet) → Has others p → Disjoint class others → ((x y : ℕ) → between (has_arc_to g) p x ≡ between (has_arc_to g) p y → contains row x ≡ contains row y) →
+      ((a : ℕ) × Has class a × Has row a) → ((a : ℕ) × Has class a × Lacks row a) → IsCutByRow (between (has_arc_to g)) others class row
+  row_cuts_by row member apart alike sees misses = record {
+    by = p;
+    inside = member;
+    outside = false_from_ne_true _ (λ h. clash member (apart p h));
+    alike = alike;
+    sees = sees;
+    misses = misses;
+  }
+
+  pub out_cuts : (row : NameSet) → row ≡ successors g p → Has others p → Disjoint class others → ((a : ℕ) × Has class a × Has row a) → ((a : ℕ) × Has class a × Lacks row a) →
+      IsCutByRow (between (has_arc_to g)) others class row
+  out_cuts row is member apart sees misses = row_cuts_by row member apart (λ x y same. out_at row is x ∙ ap (λ c. c.0) same ∙ sym (out_at row is y)) sees misses
+
+  pub in_cuts : (row : NameSet) → row ≡ predecessors g p → Has others p → Disjoint class others → ((a : ℕ) × Has class a × Has row a) → ((a : ℕ) × Has class a × Lacks row a) →
+      IsCutByRow (between (has_arc_to g)) others class row
+  in_cuts row is member apart sees misses = row_cuts_by row member apart (λ x y same. in_at row is x ∙ ap (λ c. c.1) same ∙ sym (in_at row is y)) sees misses
+
+  pub no_row_cuts : (out into : NameSet) → out ≡ successors g p → into ≡ predecessors g p →
+      ((x y : ℕ) → Has class x → Has class y → contains out x ≡ contains out y) → ((x y : ℕ) → Has class x → Has class y → contains into x ≡ contains into y) →
+      IsSplitter (between (has_arc_to g)) others class p → ⊥
+  no_row_cuts out into is_out is_into same_out same_in is =
+      let (a, b, ha, hb, differ) = is.tells in
+      let forth : has_arc_to g p a ≡ has_arc_to g p b = sym (out_at out is_out a) ∙ same_out a b ha hb ∙ out_at out is_out b in
+      let back : has_arc_to g a p ≡ has_arc_to g b p = sym (in_at into is_into a) ∙ same_in a b ha hb ∙ in_at into is_into b in
+      differ (λ i. (forth i, back i))

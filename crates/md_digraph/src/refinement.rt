@@ -1,7 +1,7 @@
 //! The maximal ones among the modules inside a part of a set, by partition refinement.
-ghost use Rattle.std.specs.Prelude.{◌≡◌, ◌*◌, ◌<◌, ◌++◌, ◌∷◌, ℕ, IfOk, IfSome, IfNone, [], length, slice_set, vec_len};
-ghost use Rattle.std.specs.FinSet.{intersection, difference};
-ghost use Rattle.md_graph.specs.Sets.{Has, Within, HasSome, Disjoint};
+ghost use Rattle.std.specs.Prelude.{◌≡◌, ◌*◌, ◌<◌, ◌++◌, ◌∷◌, ℕ, false, IfOk, IfSome, IfNone, IsTrue, [], length, slice_set, vec_len};
+ghost use Rattle.std.specs.FinSet.{contains, intersection, difference};
+ghost use Rattle.md_graph.specs.Sets.{Has, Lacks, Within, HasSome, Disjoint};
 ghost use Rattle.md_modules.specs.Classes.{class_at, AreMaximalInside, HoldsModules, IsSplitter};
 ghost use Rattle.md_digraph.specs.PlainDigraph.{has_arc_to};
 ghost use Rattle.md_digraph.specs.ArcColours.{between};
@@ -11,6 +11,9 @@ use crate::DigraphOf;
 use md_graph::{Memory, Set};
 use md_modules::CompactSet;
 use std::alloc::Global;
+
+// So many names outside a class are few.
+const FEW: u32 = 64;
 
 /// The maximal ones among the modules of `set` that are parts of `rest`, in any order; they
 /// partition `rest`. Conditions: `set` is a set of vertices, and `rest` a nonempty part of it.
@@ -37,8 +40,9 @@ pub fn directed_maximal_modules<const W: usize>(
 /// memory.
 ///
 /// A class is seen to be final, or to be cut, at two passes over the names outside it for each of
-/// its members. Each look either ends with a class or makes one more, so k classes in a set of m
-/// names cost about 4km passes over rows at most.
+/// its members, or at four over the class for each name outside, where these are few. Each look
+/// either ends with a class or makes one more, so k classes in a set of m names cost about 4km
+/// passes over rows at most.
 pub fn directed_cut_classes<const W: usize>(
     alloc: Global,
     graph: &DigraphOf<W>,
@@ -88,8 +92,98 @@ fn cutting_row<'a, const W: usize>(
     row_for(graph, names, &set.minus(names))
 }
 
-// The same, where `others` are the names outside the class.
+// The same, where `others` are the names outside the class: by a look at each of them, where they
+// are few beside the class, and else at each of its members. Most of many others have cut already.
 fn row_for<'a, const W: usize>(
+    graph: &'a DigraphOf<W>,
+    class: &Set<W>,
+    others: &Set<W>,
+) -> Option<&'a Set<W>>
+    requires inside { Within class.now graph.now.vertices }
+    requires part { Within others.now graph.now.vertices }
+    requires apart { Disjoint class.now others.now }
+    requires some { HasSome class.now }
+    ensures found { IfSome result (λ row.
+        IsCutByRow (between (has_arc_to graph.now)) others.now class.now row.now) }
+    ensures none { IfNone result ((p : ℕ)
+        → IsSplitter (between (has_arc_to graph.now)) others.now class.now p → ⊥) }
+{
+    let count = others.count();
+    if count <= FEW && count < class.count() {
+        return row_by_others(graph, class, others);
+    }
+    row_by_members(graph, class, others)
+}
+
+// The same by a look at each of `others`.
+fn row_by_others<'a, const W: usize>(
+    graph: &'a DigraphOf<W>,
+    class: &Set<W>,
+    others: &Set<W>,
+) -> Option<&'a Set<W>>
+    requires part { Within others.now graph.now.vertices }
+    requires apart { Disjoint class.now others.now }
+    ensures found { IfSome result (λ row.
+        IsCutByRow (between (has_arc_to graph.now)) others.now class.now row.now) }
+    ensures none { IfNone result ((p : ℕ)
+        → IsSplitter (between (has_arc_to graph.now)) others.now class.now p → ⊥) }
+{
+    let _vertices = graph.vertices();
+    for p in others.members() {
+        if let Some(row) = row_of(graph, p, class, others) {
+            return Some(row);
+        }
+    }
+    None
+}
+
+// The row of `p`, one of `others`, that has some names of a class and lacks some. Condition: the
+// class and `others` don't meet.
+fn row_of<'a, const W: usize>(
+    graph: &'a DigraphOf<W>,
+    p: u32,
+    class: &Set<W>,
+    others: &Set<W>,
+) -> Option<&'a Set<W>>
+    requires vertex { Has graph.now.vertices p }
+    requires member { Has others.now p }
+    requires apart { Disjoint class.now others.now }
+    ensures found { IfSome result (λ row.
+        IsCutByRow (between (has_arc_to graph.now)) others.now class.now row.now) }
+    ensures none { IfNone result
+        (IsSplitter (between (has_arc_to graph.now)) others.now class.now p → ⊥) }
+{
+    let out = graph.successors(p);
+    if is_divided(class, out, others) {
+        return Some(out);
+    }
+    let into = graph.predecessors(p);
+    if is_divided(class, into, others) {
+        return Some(into);
+    }
+    None
+}
+
+// Whether a row has some names of a class and lacks some. Condition: `apart` is a set that doesn't
+// meet the class.
+fn is_divided<const W: usize>(class: &Set<W>, row: &Set<W>, apart: &Set<W>) -> bool
+    requires { Disjoint class.now apart.now }
+    ensures sees { IsTrue result → (a : ℕ) × Has class.now a × Has row.now a }
+    ensures misses { IsTrue result → (a : ℕ) × Has class.now a × Lacks row.now a }
+    ensures alike { result ≡ false → (x y : ℕ) → Has class.now x → Has class.now y
+        → contains row.now x ≡ contains row.now y }
+{
+    let Some(_) = class.first_in_symmetric_difference(row, apart) else {
+        return false;
+    };
+    let Some(_) = class.first_in_symmetric_difference(row, class) else {
+        return false;
+    };
+    true
+}
+
+// The same by a look at each member of the class.
+fn row_by_members<'a, const W: usize>(
     graph: &'a DigraphOf<W>,
     class: &Set<W>,
     others: &Set<W>,

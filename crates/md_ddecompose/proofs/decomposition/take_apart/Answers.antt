@@ -1,5 +1,5 @@
-use Rattle.std.proofs.Common.{◌≡◌, [], map, refl, sym, ◌∙◌, ap, subst, rules, append-nil}
-use Rattle.md_graph.specs.Sets.{NameSet, Within, HasTwo}
+use Rattle.std.proofs.Common.{◌≡◌, [], map, refl, sym, ◌∙◌, subst, rules, append-nil}
+use Rattle.md_graph.specs.Sets.{Within, HasTwo}
 use Rattle.md_digraph.specs.PlainDigraph.{has_arc_to}
 use Rattle.md_tree.specs.declared.parts.PartOf.TheVariants.{Leaf, Node}
 use Rattle.md_tree.specs.Parts.{plain_part, name, inner}

@@ -1,6 +1,6 @@
-use Rattle.std.proofs.Common.{◌≡◌, ◌<◌, ◌≤◌, ◌+◌, ◌*◌, ◌∷◌, ◌++◌, [], length, length-append, map, refl, inl, inr, sym, ◌∙◌, ap, subst, arith, rules, append_assoc, append-nil}
+use Rattle.std.proofs.Common.{◌≡◌, ◌≤◌, ◌+◌, ◌*◌, ◌∷◌, ◌++◌, [], length, map, refl, inl, inr, sym, ◌∙◌, ap, subst, arith, rules, append_assoc, append-nil}
 use Rattle.std.proofs.lemmas.Bool.{cases_Bool}
-use Rattle.std.proofs.lemmas.List.{nil_from_length, length-map, length_push, map-append}
+use Rattle.std.proofs.lemmas.List.{nil_from_length, length_push, map-append}
 use Rattle.std.specs.List.{sum_by}
 use Rattle.std.specs.FinSet.{len}
 use Rattle.md_graph.proofs.SetLemmas.{clash}

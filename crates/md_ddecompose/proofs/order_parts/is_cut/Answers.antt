@@ -1,4 +1,4 @@
-use Rattle.std.proofs.Common.{◌≡◌, ◌≤◌, ◌-◌, ◌*◌, inl, refl, arith}
+use Rattle.std.proofs.Common.{◌≤◌, ◌-◌, ◌*◌, inl, refl, arith}
 use Rattle.std.proofs.lemmas.Nat.{mul-le}
 use Rattle.md_digraph.specs.declared.TheConstants.{DIRECTED_NAMES}
 use Rattle.md_ddecompose.proofs.order_parts.is_cut.Goals as goal

@@ -8,7 +8,7 @@ use Rattle.md_ddecompose.proofs.prime.prime_children.Goals as goal
 
 pub in_order-requires : goal.in_order-requires
 in_order-requires g c =
-    let parts = c.in_ok-classes.ensures.holds.partition in (
+    let parts = c.in_ok-classes.ensures.maximal.holds.partition in (
       search rules,
       (
         parts.are_apart,
@@ -29,5 +29,5 @@ returns g c =
     IfOk-weaker c.in_order.result _ _
     (λ sets listed. children_found (arcs_turn (has_arc_to c.args.graph.now)) arcs_told c.args.set.now c.directed_back.new.into c.in_ok-first.first c.in-Some.v c.far_from-j.result
     c.in_ok-classes.classes.items sets.items c.requires.unsplit c.far_from-j.ensures.differ c.far_from-j.ensures.whole
-    c.directed_back.ensures.names c.directed_back.ensures.rest c.directed_back.ensures.fixed c.in_ok-classes.ensures (c.in_ok-first.ensures.made ∙ c.minus.ensures.value) listed)
+    c.directed_back.ensures.names c.directed_back.ensures.rest c.directed_back.ensures.fixed c.in_ok-classes.ensures.maximal (c.in_ok-first.ensures.made ∙ c.minus.ensures.value) listed)
     c.in_order.ensures.listed

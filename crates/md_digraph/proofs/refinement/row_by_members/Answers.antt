@@ -3,8 +3,8 @@ use Rattle.md_graph.proofs.Walks.{Walked-item, Walked-more, Walked-end, Walked-b
 use Rattle.md_digraph.specs.PlainDigraph.{has_arc_to}
 use Rattle.md_digraph.specs.ArcColours.{between}
 use Rattle.md_digraph.proofs.ArcTurns.{arcs_turn}
-use Rattle.md_ddecompose.proofs.RowLemmas.{row_cuts, none_cuts}
-use Rattle.md_ddecompose.proofs.classes.row_for.Goals as goal
+use Rattle.md_digraph.proofs.RowLemmas.{row_cuts, none_cuts}
+use Rattle.md_digraph.proofs.refinement.row_by_members.Goals as goal
 
 pub loop-x-init : goal.loop-x-init
 loop-x-init g c =
