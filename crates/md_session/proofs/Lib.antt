@@ -2,3 +2,4 @@ mod MadePaths
 mod Changed
 mod BackCosts
 mod Answering
+mod KeptTrees

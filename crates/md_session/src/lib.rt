@@ -6,10 +6,16 @@ mod cograph_items;
 mod first_path;
 mod general;
 mod general_items;
+mod local;
+mod local_items;
 
 pub use cograph::{Answer, CographSession, CographSessionOf, Opened, OpenedOf};
 pub use cograph_items::ItemAnswer;
 pub use general::{GeneralSession, GeneralSessionOf};
+pub use local::{LocalSession, LocalSessionOf};
+pub use local_items::LocalAnswer;
 
+#[cfg(test)]
+mod local_tests;
 #[cfg(test)]
 mod tests;
