@@ -14,8 +14,8 @@ use md_graph::Set;
 // So many names are looked at, and no more.
 const LOOKS: u32 = 16;
 
-// Whether the set may split with all arcs forth and none back: false only where a few looks see that
-// neither a first part nor a last part holds its least name.
+// Whether the set may split with all arcs forth and none back: false only where a few looks see
+// that neither a first part nor a last part holds its least name.
 pub(crate) fn may_split<const W: usize>(graph: &DigraphOf<W>, set: &Set<W>) -> bool
     requires inside { Within set.now graph.now.vertices }
     ensures { result ≡ false → SplitsWith (has_arc_to graph.now) set.now arc_forth → ⊥ }
