@@ -1,45 +1,18 @@
 //! Sessions that keep their tree, by the lines that they give, and by the trees of the graphs.
-ghost use Rattle.std.specs.Prelude.{◌≡◌, ◌<◌, ◌*◌, IfOk};
+ghost use Rattle.std.specs.Prelude.{◌≡◌, ◌<◌, ◌*◌};
 ghost use Rattle.md_script.specs.Items.{HasItemNamesBelow};
-ghost use Rattle.md_script.specs.Histories.{HistoryFits};
-ghost use Rattle.md_script.specs.Pasts.{AnyGraph};
-ghost use Rattle.md_report.specs.declared.line.SessionMode.TheVariants as modes;
-ghost use Rattle.md_report.specs.Lines.{plain_line};
-ghost use Rattle.md_report.specs.Steps.{ItemStep};
 
 use super::*;
 use md_decompose::decompose;
-use md_graph::{Graph, GraphOf, Memory, Steps};
+use md_graph::{GraphOf, Memory, Steps};
 use md_report::{Line, write_applied, write_line};
-use md_script::{Edit, HistoryOf, Item, Script, read_script};
+use md_script::{Edit, HistoryOf, Item};
 use md_tree::Tree;
 use std::alloc::Global;
 use std::marker::Brand;
 use std::process::Abort;
 use std::sync::ledger::{Blank, Ledger};
 use std::test::Fail;
-
-// The line of an item. Where memory is short the item is answered again, since session and history
-// are then as before.
-fn line_of_item<const W: usize, L: Ledger>(
-    alloc: Global,
-    session: &mut LocalSessionOf<W>,
-    item: &Item,
-    history: &mut HistoryOf<W>,
-    work: &mut Steps<L>,
-) -> Result<Line, Memory>
-    requires names { HasItemNamesBelow (64 * W) item.now }
-    requires fits { HistoryFits (64 * W) AnyGraph session.old history.old.items }
-    ensures step { IfOk result (λ line. ItemStep (64 * W) modes.Edit session.old history.old.items
-        item.now (plain_line line) session.new history.new.items) }
-{
-    history.reserve(alloc, item.room())?;
-    if let Ok(line) = session.apply_item(alloc, item, history, work) {
-        return Ok(line);
-    }
-    history.reserve(alloc, item.room())?;
-    session.apply_item(alloc, item, history, work)
-}
 
 // That the edge between u and v comes, or goes.
 fn edge_item(comes: bool, u: u32, v: u32) -> Item
@@ -60,7 +33,7 @@ fn answers_edge<L: Ledger>(
     alloc: Global,
     edges: (u32, &[(u32, u32)]),
     edit: (bool, u32, u32),
-    lines: (&str, &str),
+    lines: (&[u8], &[u8]),
     work: &mut Steps<L>,
 ) -> Result<(), Memory> {
     let graph = GraphOf::<1>::from_edges(alloc, edges.0, edges.1)?.expect(rt, "edges");
@@ -70,12 +43,13 @@ fn answers_edge<L: Ledger>(
     assert!(rt; u < 64);
     assert!(rt; v < 64);
     let item = edge_item(comes, u, v);
-    let line = line_of_item(alloc, &mut session, &item, &mut history, work)?;
-    let text = write_line(alloc, &line)?;
-    assert_eq!(rt; text.as_slice(), lines.0.as_bytes());
-    let line = line_of_item(alloc, &mut session, &Item::Undo, &mut history, work)?;
-    let text = write_line(alloc, &line)?;
-    assert_eq!(rt; text.as_slice(), lines.1.as_bytes());
+    history.reserve(alloc, 2)?;
+    let first = session.apply_item(alloc, &item, &mut history, work)?;
+    let second = session.apply_item(alloc, &Item::Undo, &mut history, work)?;
+    let text = write_line(alloc, &first)?;
+    assert_eq!(rt; text.as_slice(), lines.0);
+    let text = write_line(alloc, &second)?;
+    assert_eq!(rt; text.as_slice(), lines.1);
     Ok(())
 }
 
@@ -86,44 +60,44 @@ fn edits_of_edges<L: Ledger>(rt: &impl Abort, alloc: Global, blank: Blank) -> Re
 {
     let mut work = Steps::<L>::new(blank);
     let bull: &[(u32, u32)] = &[(0, 1), (1, 2), (2, 3), (1, 4)];
-    let rows: [((u32, &[(u32, u32)]), (bool, u32, u32), (&str, &str)); 10] = [
+    let rows: [((u32, &[(u32, u32)]), (bool, u32, u32), (&[u8], &[u8])); 10] = [
         (
             (5, &[(0, 1), (2, 3), (2, 4), (3, 4)]),
             (false, 0, 1),
-            ("ok P(0,1,S(2,3,4))", "ok P(S(0,1),S(2,3,4))"),
+            (b"ok P(0,1,S(2,3,4))", b"ok P(S(0,1),S(2,3,4))"),
         ),
         (
             (5, bull),
             (true, 0, 4),
             (
-                "ok R(S(0,4),1,2,3;0-1,1-2,2-3)",
-                "ok R(P(0,4),1,2,3;0-1,1-2,2-3)",
+                b"ok R(S(0,4),1,2,3;0-1,1-2,2-3)",
+                b"ok R(P(0,4),1,2,3;0-1,1-2,2-3)",
             ),
         ),
-        ((5, bull), (true, 0, 1), ("no edge-there", "no undo")),
+        ((5, bull), (true, 0, 1), (b"no edge-there", b"no undo")),
         (
             (3, &[(0, 2), (1, 2)]),
             (true, 0, 1),
-            ("ok S(0,1,2)", "ok S(P(0,1),2)"),
+            (b"ok S(0,1,2)", b"ok S(P(0,1),2)"),
         ),
         (
             (4, &[(0, 1), (0, 2), (1, 2), (1, 3), (2, 3)]),
             (true, 0, 3),
-            ("ok S(0,1,2,3)", "ok S(P(0,3),1,2)"),
+            (b"ok S(0,1,2,3)", b"ok S(P(0,3),1,2)"),
         ),
         (
             (5, &[(0, 1), (1, 2), (2, 3)]),
             (false, 1, 2),
-            ("ok P(S(0,1),S(2,3),4)", "ok P(R(0,1,2,3;0-1,1-2,2-3),4)"),
+            (b"ok P(S(0,1),S(2,3),4)", b"ok P(R(0,1,2,3;0-1,1-2,2-3),4)"),
         ),
         (
             (4, &[(0, 1), (1, 2), (2, 3)]),
             (true, 0, 3),
-            ("ok S(P(0,2),P(1,3))", "ok R(0,1,2,3;0-1,1-2,2-3)"),
+            (b"ok S(P(0,2),P(1,3))", b"ok R(0,1,2,3;0-1,1-2,2-3)"),
         ),
-        ((2, &[]), (true, 0, 1), ("ok S(0,1)", "ok P(0,1)")),
-        ((2, &[(0, 1)]), (false, 0, 1), ("ok P(0,1)", "ok S(0,1)")),
-        ((0, &[]), (false, 0, 1), ("no vertex 0", "no undo")),
+        ((2, &[]), (true, 0, 1), (b"ok S(0,1)", b"ok P(0,1)")),
+        ((2, &[(0, 1)]), (false, 0, 1), (b"ok P(0,1)", b"ok S(0,1)")),
+        ((0, &[]), (false, 0, 1), (b"no vertex 0", b"no undo")),
     ];
     for (edges, edit, lines) in rows {
         answers_edge(rt, alloc, edges, edit, lines, &mut work)?;
@@ -134,61 +108,6 @@ fn edits_of_edges<L: Ledger>(rt: &impl Abort, alloc: Global, blank: Blank) -> Re
 #[test]
 fn edges_of_local_sessions(rt: HostRuntime) -> Result<(), Fail> {
     edits_of_edges::<Brand>(&rt, rt.alloc(), Blank::new(1))?;
-    Ok(())
-}
-
-// Sees that a session answers the items of a script with these lines.
-fn answers_script<L: Ledger>(
-    rt: &impl Abort,
-    alloc: Global,
-    script: &Script,
-    lines: &[&str],
-    blank: Blank,
-) -> Result<(), Memory>
-    requires name { blank.name ≡ L.name }
-    requires parts { blank.parts ≡ L.parts }
-    requires some { 0 < blank.parts }
-{
-    let mut work = Steps::<L>::new(blank);
-    let mut session = LocalSession::new(alloc, Graph::new(alloc)?)?;
-    let mut history = HistoryOf::new(alloc)?;
-    assert_eq!(rt; script.len() as usize, lines.len());
-    for (i, expected) in lines.iter().enumerate() {
-        assert!(rt; (i as u64) < script.len());
-        let item = script.get(i as u64);
-        let line = line_of_item(alloc, &mut session, item, &mut history, &mut work)?;
-        let text = write_line(alloc, &line)?;
-        assert_eq!(rt; text.as_slice(), expected.as_bytes(), "item {i}");
-    }
-    let tree = session.tree(alloc)?;
-    let text = write_line(alloc, &Line::Tree(tree))?;
-    assert_eq!(rt; text.as_slice(), "t 0".as_bytes());
-    Ok(())
-}
-
-#[test]
-fn items_of_local_sessions(rt: HostRuntime) -> Result<(), Fail> {
-    let file = b"+v 0\nbegin\n+v 1 0\n+v 2 1\ncommit\n-v 1\nbegin\n+e 0 2\n+e 0 2\ncommit\nundo\n+e 0 2\nundo\nundo\nundo\nundo\n+v 0\n";
-    let script = read_script(rt.alloc(), file)?;
-    answers_script::<Brand>(
-        &rt,
-        rt.alloc(),
-        &script,
-        &[
-            "ok 0",
-            "ok S(P(0,2),1)",
-            "ok P(0,2)",
-            "no edit 2 edge-there",
-            "ok S(P(0,2),1)",
-            "ok S(0,1,2)",
-            "ok S(P(0,2),1)",
-            "ok 0",
-            "ok empty",
-            "no undo",
-            "ok 0",
-        ],
-        Blank::new(1),
-    )?;
     Ok(())
 }
 
@@ -228,12 +147,19 @@ fn keeps_trees<L: Ledger>(
     let first = decompose(alloc, &graph)?;
     let mut session = LocalSessionOf::new(alloc, graph)?;
     let mut history = HistoryOf::<1>::new(alloc)?;
-    let line = line_of_item(alloc, &mut session, &item, &mut history, work)?;
+    history.reserve(alloc, 2)?;
+    let line = session.apply_item(alloc, &item, &mut history, work)?;
     let second = decompose(alloc, other)?;
     same_lines(rt, alloc, &line, session.kept(), &second)?;
     let answer = session.answer_item(alloc, &Item::Undo, &mut history, work)?;
     assert!(rt; matches!(answer, LocalAnswer::Applied));
-    same_lines(rt, alloc, &Line::Applied(first), session.kept(), &session.tree(alloc)?)
+    same_lines(
+        rt,
+        alloc,
+        &Line::Applied(first),
+        session.kept(),
+        &session.tree(alloc)?,
+    )
 }
 
 // Sees that a line is that of an item that was applied, with the text of each of two trees.

@@ -1,6 +1,6 @@
 //! Puts a piece of the output.
 ghost use Rattle.std.specs.Prelude.{◌≡◌, ◌≤◌, IfOk};
-ghost use Rattle.md_report.specs.Lines.{plain_line, fed_line};
+ghost use Rattle.md_report.specs.Lines.{PlainLine, plain_line, fed_line};
 ghost use Rattle.md_report.specs.Places.{Place, MayCome, next_place};
 ghost use Rattle.md_top.specs.Sinks.{sink_run, PutsWhole, PutsLines};
 
@@ -31,6 +31,15 @@ pub fn put_report_line<O: Sink>(alloc: Global, line: Line, out: &mut O) -> Resul
     }
     let text = fed_text(alloc, &line)?;
     put_piece(out, &text)
+}
+
+/// Puts the text of a line of a report, with its line feed.
+pub fn put_text<O: Sink>(text: &[u8], out: &mut O) -> Result<(), PutStop>
+    ensures puts { (p : Place) (line : PlainLine) → text.now ≡ fed_line line → MayCome p line
+        → PutsLines p (next_place p line) result (sink_run O.Sink out.old out.new) }
+    ensures faults_never_fall { O.faults out.old ≤ O.faults out.new }
+{
+    put_piece(out, text)
 }
 
 // The text of a line of a report, with its line feed.

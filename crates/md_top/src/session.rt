@@ -1,10 +1,15 @@
 //! Sessions on the one graph of a file: both files are read whole before the first put.
-ghost use Rattle.std.specs.Prelude.{◌≡◌, ◌<◌, ◌≤◌, ◌*◌, IfOk};
+ghost use Rattle.std.specs.Prelude.{◌≡◌, ◌<◌, ◌≤◌, ◌*◌, Option, IfOk};
 ghost use Rattle.std.specs.List.{All};
+ghost use Rattle.md_graph.specs.PlainGraph.{adjacent};
+ghost use Rattle.md_tree.specs.StrongTrees.{IsTree};
+ghost use Rattle.md_tree.specs.Trees.{PlainTree};
+ghost use Rattle.md_session.specs.LocalSteps.{line_of};
 ghost use Rattle.md_input.specs.Inputs.{graph_of_inputs, script_of_inputs, HaveRoom};
 ghost use Rattle.md_report.specs.declared.line.SessionMode.{SessionMode};
 ghost use Rattle.md_report.specs.declared.line.SessionMode.TheVariants as modes;
-ghost use Rattle.md_report.specs.Lines.{plain_line};
+ghost use Rattle.md_report.specs.Lines as lines;
+ghost use Rattle.md_report.specs.Lines.{PlainLine, fed_line, line_text};
 ghost use Rattle.md_report.specs.Places.{before_session, at_state, at_items, after_end};
 ghost use Rattle.md_report.specs.Sessions.{first_state};
 ghost use Rattle.md_report.specs.Steps.{ItemStep};
@@ -17,15 +22,15 @@ ghost use Rattle.md_top.specs.Command.{CommandEnds};
 ghost use Rattle.md_top.specs.Sinks.{sink_run, PutsLines};
 
 use crate::cographs::put_cographs;
-use crate::put::put_report_line;
+use crate::put::{put_report_line, put_text};
 use crate::stop::{PutStop, Stop, Verdict};
 use crate::undos::{forget_unreached, undos_behind};
 use md_graph::{GraphOf, Memory, Steps};
 use md_input::{Format, SessionInputs, session_inputs};
 use md_io::Sink;
-use md_report::{Line, SessionMode};
+use md_report::{Line, SessionMode, write_applied, write_line, write_tree};
 use md_script::{HistoryOf, Item, Script};
-use md_session::GeneralSessionOf;
+use md_session::{LocalAnswer, LocalSessionOf};
 use std::alloc::Global;
 use std::marker::Brand;
 use std::sync::ledger::{Blank, Ledger};
@@ -94,7 +99,7 @@ fn put_session<const W: usize, O: Sink, L: Ledger>(
 {
     put_report_line(alloc, Line::Head(mode.mode()), out)?;
     match mode {
-        SessionMode::Edit => put_states(alloc, graph, script, out),
+        SessionMode::Edit => put_states(alloc, graph, script, steps, out),
         SessionMode::Cograph => put_cographs(alloc, true, graph, script, steps, out),
         SessionMode::Quiet => put_cographs(alloc, false, graph, script, steps, out),
     }
@@ -102,10 +107,11 @@ fn put_session<const W: usize, O: Sink, L: Ledger>(
 
 // Puts the tree of the first graph, the line of each item, and the last line. Condition: the names
 // in the script are below `64 * W`.
-fn put_states<const W: usize, O: Sink>(
+fn put_states<const W: usize, O: Sink, L: Ledger>(
     alloc: Global,
     graph: GraphOf<W>,
     script: &Script,
+    steps: &mut Steps<L>,
     out: &mut O,
 ) -> Result<(), PutStop>
     requires names { All (HasItemNamesBelow (64 * W)) script.now }
@@ -113,18 +119,19 @@ fn put_states<const W: usize, O: Sink>(
         (sink_run O.Sink out.old out.new) }
     ensures faults_never_fall { O.faults out.old ≤ O.faults out.new }
 {
-    let session = GeneralSessionOf::new(graph);
-    let tree = session.tree(alloc)?;
-    put_report_line(alloc, Line::Tree(tree), out)?;
-    put_items(alloc, session, script, out)
+    let session = LocalSessionOf::new(alloc, graph)?;
+    let text = first_text(alloc, &session)?;
+    put_text(&text, out)?;
+    put_items(alloc, session, script, steps, out)
 }
 
 // Puts the line of each item, and the last line. Condition: the names in the script are below
 // `64 * W`.
-fn put_items<const W: usize, O: Sink>(
+fn put_items<const W: usize, O: Sink, L: Ledger>(
     alloc: Global,
-    mut session: GeneralSessionOf<W>,
+    mut session: LocalSessionOf<W>,
     script: &Script,
+    steps: &mut Steps<L>,
     out: &mut O,
 ) -> Result<(), PutStop>
     requires names { All (HasItemNamesBelow (64 * W)) script.now }
@@ -137,26 +144,70 @@ fn put_items<const W: usize, O: Sink>(
     for i in 0..script.len() {
         let item = script.get(i);
         forget_unreached(&mut history, undos);
-        let line = item_line(alloc, &mut session, item, &mut history)?;
-        put_report_line(alloc, line, out)?;
+        let text = item_text(alloc, &mut session, item, &mut history, steps)?;
+        put_text(&text, out)?;
         undos = undos_behind(undos, item);
     }
     put_report_line(alloc, Line::End, out)
 }
 
-// The line of an item, which the session answers. Conditions: the names in the item are below
-// `64 * W`, and the history fits.
-fn item_line<const W: usize>(
+// The text of the line of the session's tree, with its line feed.
+fn first_text<const W: usize>(alloc: Global, session: &LocalSessionOf<W>) -> Result<Vec<u8>, Memory>
+    ensures { IfOk result (λ text. (t : Option PlainTree)
+        × IsTree (adjacent session.now) session.now.vertices t
+        × (text.items ≡ fed_line (lines.tree t))) }
+{
+    fed(write_tree(alloc, session.kept())?)
+}
+
+// The text of the line of an item, which the session answers, with its line feed. Conditions: the
+// names in the item are below `64 * W`, and the history fits.
+fn item_text<const W: usize, L: Ledger>(
     alloc: Global,
-    session: &mut GeneralSessionOf<W>,
+    session: &mut LocalSessionOf<W>,
     item: &Item,
     history: &mut HistoryOf<W>,
-) -> Result<Line, Memory>
+    steps: &mut Steps<L>,
+) -> Result<Vec<u8>, Memory>
     requires names { HasItemNamesBelow (64 * W) item.now }
     requires fits { HistoryFits (64 * W) AnyGraph session.old history.old.items }
-    ensures step { IfOk result (λ line. ItemStep (64 * W) modes.Edit session.old history.old.items
-        item.now (plain_line line) session.new history.new.items) }
+    ensures { IfOk result (λ text. (line : PlainLine) × (text.items ≡ fed_line line)
+        × ItemStep (64 * W) modes.Edit session.old history.old.items item.now line session.new
+        history.new.items) }
 {
     history.reserve(alloc, item.room())?;
-    session.apply_item(alloc, item, history)
+    let answer = session.answer_item(alloc, item, history, steps)?;
+    answer_text(alloc, session, answer)
+}
+
+// The text of the line of an answer, which has the session's tree where an item was applied, with
+// its line feed.
+fn answer_text<const W: usize>(
+    alloc: Global,
+    session: &LocalSessionOf<W>,
+    answer: LocalAnswer,
+) -> Result<Vec<u8>, Memory>
+    ensures { IfOk result (λ text. (t : Option PlainTree)
+        × IsTree (adjacent session.now) session.now.vertices t
+        × (text.items ≡ fed_line (line_of answer t))) }
+{
+    let kept = session.kept();
+    match answer {
+        LocalAnswer::Applied => fed(write_applied(alloc, kept)?),
+        LocalAnswer::Refused(reason) => fed(write_line(alloc, &Line::Refused(reason))?),
+        LocalAnswer::GroupRefused(number, reason) => {
+            fed(write_line(alloc, &Line::GroupRefused(number, reason))?)
+        }
+        LocalAnswer::NothingToUndo => fed(write_line(alloc, &Line::NothingToUndo)?),
+    }
+}
+
+// The text of a line with its line feed.
+fn fed(text: Vec<u8>) -> Result<Vec<u8>, Memory>
+    ensures { (line : PlainLine) → text.items ≡ line_text line →
+        IfOk result (λ whole. whole.items ≡ fed_line line) }
+{
+    let mut whole = text;
+    whole.push(b'\n')?;
+    Ok(whole)
 }

@@ -17,9 +17,11 @@ back_through-requires g c =
 
 pub new_tree-new-requires : goal.new_tree-new-requires
 new_tree-new-requires g c =
-    let given = c.requires.item in
-    (search rules, back_ends (64 * g.row.W) c.args.graph.now c.back_through.new.graph c.args.history.now.items given.0 given.1 (plain_option c.args.tree.now) c.last_edge.result c.vertices-vertices.ensures.graph given.2 given.3
-    (c.back_through.ensures.graph given.0 given.1 given.2) c.requires.tree c.last_edge.ensures)
+    let given = c.requires.item in (
+      search rules,
+      back_ends (64 * g.row.W) c.args.graph.now c.back_through.new.graph c.args.history.now.items given.0 given.1 (plain_option c.args.tree.now) c.last_edge.result c.vertices-vertices.ensures.graph given.2 given.3
+          (c.back_through.ensures.graph given.0 given.1 given.2) c.requires.tree c.last_edge.ensures,
+    )
 
 pub returns-clause-tree : goal.returns-clause-tree
 returns-clause-tree g c =

@@ -13,23 +13,23 @@ use Rattle.md_top.proofs.Lines.{stopped_behind, stopped_before, puts_behind}
 use Rattle.md_top.proofs.ItemLoops.{none_led, led_forgotten, fits_forgotten, undo_counted, undos_left, item_put, item_stopped, items_done}
 use Rattle.md_top.proofs.session.put_items.Goals as goal
 
-pub item_line-requires : goal.item_line-requires
-item_line-requires g c =
+pub item_text-requires : goal.item_text-requires
+item_text-requires g c =
     let fits = fits_forgotten (64 * g.row.W) AnyGraph c.loop-i.session c.loop-i.undos c.loop-i.history.items c.forget_unreached.new.history.items c.forget_unreached.ensures c.loop-i.invariant.fits in
     (search rules, (search rules, (holds_at (HasItemNamesBelow (64 * g.row.W)) c.args.script.now c.loop-i.i c.get-item.result.now c.get-item.ensures.item c.requires.names, fits)))
 
-pub returns-in_err-line-clause-puts : goal.returns-in_err-line-clause-puts
-returns-in_err-line-clause-puts g c =
+pub returns-in_err-text-clause-puts : goal.returns-in_err-text-clause-puts
+returns-in_err-text-clause-puts g c =
     let led = c.loop-i.invariant.led in
-    stopped_behind _ (at_items modes.Edit led.state (drop c.loop-i.i c.args.script.now)) _ _ _ _ _ _ _ _ _ c.from_residual-in_err-line.ensures.1
+    stopped_behind _ (at_items modes.Edit led.state (drop c.loop-i.i c.args.script.now)) _ _ _ _ _ _ _ _ _ c.from_residual-in_err-text.ensures.1
     led.progress c.loop-i.invariant.faults (stopped_before _ _)
 
-pub returns-in_err-put_report_line-clause-puts : goal.returns-in_err-put_report_line-clause-puts
-returns-in_err-put_report_line-clause-puts g c =
+pub returns-in_err-put_text-clause-puts : goal.returns-in_err-put_text-clause-puts
+returns-in_err-put_text-clause-puts g c =
     let kept = state_of c.loop-i.session c.forget_unreached.new.history.items in
     let led = led_forgotten modes.Edit (at_items modes.Edit (first_state c.args.session) c.args.script.now) (drop c.loop-i.i c.args.script.now) c.loop-i.undos c.loop-i.session c.loop-i.history.items c.forget_unreached.new.history.items _ _ c.forget_unreached.ensures c.loop-i.invariant.led in
-    item_stopped modes.Edit (at_items modes.Edit (first_state c.args.session) c.args.script.now) c.args.script.now c.loop-i.i c.loop-i.undos c.get-item.result.now (plain_line c.in_ok-line.line) kept _ _
-    c.get-item.ensures.item c.loop-i.invariant.counted led c.in_ok-line.ensures.step.line_is _ _ after_end _ _ _ _ c.from_residual-in_err-put_report_line.ensures.1 c.loop-i.invariant.faults c.in_err-put_report_line.ensures.puts
+    item_stopped modes.Edit (at_items modes.Edit (first_state c.args.session) c.args.script.now) c.args.script.now c.loop-i.i c.loop-i.undos c.get-item.result.now c.in_ok-text.ensures.0 kept _ _
+    c.get-item.ensures.item c.loop-i.invariant.counted led c.in_ok-text.ensures.2.line_is _ _ after_end _ _ _ _ c.from_residual-in_err-put_text.ensures.1 c.loop-i.invariant.faults (λ q may. c.in_err-put_text.ensures.puts q c.in_ok-text.ensures.0 (c.deref.ensures.value ∙ c.in_ok-text.ensures.1) may)
 
 pub undos_behind-undos-requires : goal.undos_behind-undos-requires
 undos_behind-undos-requires g c = undo_counted c.args.script.now c.loop-i.i c.get-item.result.now c.loop-i.undos c.get-item.ensures.item c.loop-i.invariant.counted
@@ -48,15 +48,15 @@ loop-i-preserved g c =
     let led = led_forgotten modes.Edit (at_items modes.Edit (first_state c.args.session) c.args.script.now) (drop c.loop-i.i c.args.script.now) c.loop-i.undos c.loop-i.session c.loop-i.history.items c.forget_unreached.new.history.items _ _ c.forget_unreached.ensures c.loop-i.invariant.led in
     record {
       led =
-          item_put modes.Edit (at_items modes.Edit (first_state c.args.session) c.args.script.now) c.args.script.now c.loop-i.i c.loop-i.undos c.get-item.result.now (plain_line c.in_ok-line.line) kept _ _
-          c.get-item.ensures.item c.loop-i.invariant.counted led c.in_ok-line.ensures.step.line_is (state_of c.item_line.new.session c.item_line.new.history.items) _ c.undos_behind-undos.result c.undos_behind-undos.ensures c.in_ok-line.ensures.step.state_is c.in_ok-put_report_line.ensures.puts;
+          item_put modes.Edit (at_items modes.Edit (first_state c.args.session) c.args.script.now) c.args.script.now c.loop-i.i c.loop-i.undos c.get-item.result.now c.in_ok-text.ensures.0 kept _ _
+          c.get-item.ensures.item c.loop-i.invariant.counted led c.in_ok-text.ensures.2.line_is (state_of c.item_text.new.session c.item_text.new.history.items) _ c.undos_behind-undos.result c.undos_behind-undos.ensures c.in_ok-text.ensures.2.state_is (λ q may. c.in_ok-put_text.ensures.puts q c.in_ok-text.ensures.0 (c.deref.ensures.value ∙ c.in_ok-text.ensures.1) may);
       counted = c.undos_behind-undos.ensures ∙ undos_left c.args.script.now c.loop-i.i c.get-item.result.now c.loop-i.undos c.get-item.ensures.item c.loop-i.invariant.counted;
-      fits = c.in_ok-line.ensures.step.fits;
-      faults = omega (arith, c.loop-i.invariant.faults, c.put_report_line.ensures.faults_never_fall);
+      fits = c.in_ok-text.ensures.2.fits;
+      faults = omega (arith, c.loop-i.invariant.faults, c.put_text.ensures.faults_never_fall);
     }
 
 pub returns-clause-puts : goal.returns-clause-puts
 returns-clause-puts g c =
     let done = items_done modes.Edit (at_items modes.Edit (first_state c.args.session) c.args.script.now) c.args.script.now c.loop-i.i c.loop-i.undos (state_of c.loop-i.session c.loop-i.history.items) _ _ (omega arith) c.loop-i.invariant.led in
     puts_behind _ (at_items modes.Edit done.state []) after_end _ _ _ _ _ _ _ done.progress c.loop-i.invariant.faults
-    (c.put_report_line-2.ensures.puts (at_items modes.Edit done.state []) refl)
+    (c.put_report_line.ensures.puts (at_items modes.Edit done.state []) refl)
