@@ -16,6 +16,4 @@ pub use local::{LocalSession, LocalSessionOf};
 pub use local_items::LocalAnswer;
 
 #[cfg(test)]
-mod local_tests;
-#[cfg(test)]
 mod tests;

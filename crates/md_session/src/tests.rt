@@ -204,3 +204,39 @@ fn items_on_cographs(rt: HostRuntime) -> Result<(), Fail> {
     undo_on_a_cograph::<Brand>(&rt, rt.alloc(), Blank::new(1))?;
     Ok(())
 }
+
+// An edit of an edge between twins of a session that keeps its tree, and two undos, of which the
+// second has nothing left.
+fn undo_of_an_edge<L: Ledger>(rt: &impl Abort, alloc: Global, blank: Blank) -> Result<(), Memory>
+    requires name { blank.name ≡ L.name }
+    requires parts { blank.parts ≡ L.parts }
+    requires some { 0 < blank.parts }
+{
+    let mut work = Steps::<L>::new(blank);
+    let edges = [(0, 1), (1, 2), (2, 3), (1, 4)];
+    let graph = GraphOf::<1>::from_edges(alloc, 5, &edges)?.expect(rt, "edges");
+    let mut session = LocalSessionOf::new(alloc, graph)?;
+    let mut history = HistoryOf::<1>::new(alloc)?;
+    history.reserve(alloc, 2)?;
+    let item = Item::One(Edit::AddEdge { u: 0, v: 4 });
+    let first = session.apply_item(alloc, &item, &mut history, &mut work)?;
+    let second = session.apply_item(alloc, &Item::Undo, &mut history, &mut work)?;
+    let third = session.answer_item(alloc, &Item::Undo, &mut history, &mut work)?;
+    check_line(rt, alloc, &first, "ok R(S(0,4),1,2,3;0-1,1-2,2-3)")?;
+    check_line(rt, alloc, &second, "ok R(P(0,4),1,2,3;0-1,1-2,2-3)")?;
+    assert!(rt; matches!(third, LocalAnswer::NothingToUndo));
+    let tree = session.tree(alloc)?;
+    check_line(
+        rt,
+        alloc,
+        &Line::Tree(tree),
+        "t R(P(0,4),1,2,3;0-1,1-2,2-3)",
+    )?;
+    Ok(())
+}
+
+#[test]
+fn items_of_kept_trees(rt: HostRuntime) -> Result<(), Fail> {
+    undo_of_an_edge::<Brand>(&rt, rt.alloc(), Blank::new(1))?;
+    Ok(())
+}
