@@ -16,7 +16,6 @@ mod refined;
 pub use decomposition::{decompose, decompose_within};
 pub use ordered::in_order;
 pub use quotient::{heads_of, make_room, push_near};
-pub use refined::class_sets;
 
 #[cfg(test)]
 mod tests;

@@ -36,8 +36,8 @@ pub(crate) fn refined_classes<const W: usize>(
     Ok(sets)
 }
 
-/// The classes of a partition of `rest` as sets, in their order. Errors: want of memory.
-pub fn class_sets<const W: usize>(
+// The classes of a partition of `rest` as sets, in their order. Errors: want of memory.
+fn class_sets<const W: usize>(
     alloc: Global,
     rest: &Set<W>,
     partition: &Partition,

@@ -16,7 +16,7 @@ pub use back_search::directed_back;
 pub use closure_search::{directed_closure, directed_closure_in, directed_grow};
 pub use components::{parallel_component, series_component};
 pub use digraph::{Digraph, DigraphOf};
-pub use refinement::{directed_cut_classes, directed_maximal_modules};
+pub use refinement::directed_maximal_modules;
 
 /// How many names directed graphs have: a vertex is a number below it.
 pub const DIRECTED_NAMES: u32 = 4096;

@@ -35,15 +35,15 @@ pub fn directed_maximal_modules<const W: usize>(
     directed_cut_classes(alloc, graph, set, rest, classes)
 }
 
-/// The same, from a partition of `rest` that cuts none of these modules. Conditions: `set` is a set
-/// of vertices, `rest` a part of it, and the given classes are such a partition. Errors: want of
-/// memory.
-///
-/// A class is seen to be final, or to be cut, at two passes over the names outside it for each of
-/// its members, or at four over the class for each name outside, where these are few. Each look
-/// either ends with a class or makes one more, so k classes in a set of m names cost about 4km
-/// passes over rows at most.
-pub fn directed_cut_classes<const W: usize>(
+// The same, from a partition of `rest` that cuts none of these modules. Conditions: `set` is a set
+// of vertices, `rest` a part of it, and the given classes are such a partition. Errors: want of
+// memory.
+//
+// A class is seen to be final, or to be cut, at two passes over the names outside it for each of
+// its members, or at four over the class for each name outside, where these are few. Each look
+// either ends with a class or makes one more, so k classes in a set of m names cost about 4km
+// passes over rows at most.
+fn directed_cut_classes<const W: usize>(
     alloc: Global,
     graph: &DigraphOf<W>,
     set: &Set<W>,

@@ -21,16 +21,16 @@ use Rattle.md_session.specs.declared.local_items.LocalAnswer.TheVariants as answ
 use Rattle.md_session.specs.declared.local_items.NewTree.{NewTree}
 
 -- the line that an answer and the tree of the graph behind it make
-abbrev pub line_of : LocalAnswer → Option PlainTree → PlainLine
-line_of answers.Applied t = applied t
-line_of (answers.Refused reason) t = refused reason
-line_of (answers.GroupRefused number reason) t = group_refused number reason
-line_of answers.NothingToUndo t = nothing_to_undo
+abbrev pub line_of_answer : LocalAnswer → Option PlainTree → PlainLine
+line_of_answer answers.Applied t = applied t
+line_of_answer (answers.Refused reason) t = refused reason
+line_of_answer (answers.GroupRefused number reason) t = group_refused number reason
+line_of_answer answers.NothingToUndo t = nothing_to_undo
 
 -- one step of a session over an item, whose line is that of the answer with the tree of the graph behind it
 abbrev pub IsLocalStep : ℕ → PlainGraph → List (List script.Edit) → Item → LocalAnswer → PlainGraph → List (List script.Edit) → Type 0
 IsLocalStep limit g items item answer h left =
-    (t : Option PlainTree) → IsTree (adjacent h) h.vertices t → ItemStep limit Edit g items item (line_of answer t) h left
+    (t : Option PlainTree) → IsTree (adjacent h) h.vertices t → ItemStep limit Edit g items item (line_of_answer answer t) h left
 
 -- the ends of the edge that an edit gives or takes, if it does
 abbrev pub edge_ends : script.Edit → Option (ℕ × ℕ)

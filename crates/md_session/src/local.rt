@@ -11,7 +11,7 @@ ghost use Rattle.md_report.specs.ItemLines.{IsAllowed};
 ghost use Rattle.md_report.specs.Lines.{plain_line};
 ghost use Rattle.md_report.specs.Sessions.{is_applied};
 ghost use Rattle.md_report.specs.Steps.{ItemStep};
-ghost use Rattle.md_session.specs.LocalSteps.{IsLocalStep, TakesFew, line_of};
+ghost use Rattle.md_session.specs.LocalSteps.{IsLocalStep, TakesFew, line_of_answer};
 
 use crate::local_items::{LocalAnswer, answer, copy_option, line};
 use md_decompose::decompose;
@@ -76,8 +76,8 @@ impl<const W: usize> LocalSessionOf<W> {
 
     /// Answers an item with its line, as `GeneralSessionOf::apply_item` does; the line of an item
     /// that was applied has a copy of the tree. An edit of an edge takes at most as many steps as
-    /// the least strong module that held both ends has names, and what is refused takes none; each
-    /// other item decomposes the whole graph once. The history is that of this session: it gains
+    /// the least strong module that held both ends has names, and what is refused takes none; of
+    /// the steps of other items nothing is claimed. The history is that of this session: it gains
     /// the item, or loses the last one, and stays where the item is refused. Conditions: the names
     /// in the item are below `64 * W`, the history has room for it, and fits. Errors: want of
     /// memory; session and history then stay.
@@ -123,7 +123,7 @@ impl<const W: usize> LocalSessionOf<W> {
         ensures kept { IsErr result → history.new.items ≡ history.old.items }
         ensures work { TakesFew self.old item.now work.old work.new }
         ensures refused { IfOk result (λ told.
-            is_applied (line_of told None) ≡ false → work.new ≡ work.old) }
+            is_applied (line_of_answer told None) ≡ false → work.new ≡ work.old) }
     {
         let (graph, tree) = (&mut self.graph, &mut self.tree);
         let told = answer(alloc, graph, tree, item, history, false, work)?;

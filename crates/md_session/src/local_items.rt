@@ -13,7 +13,7 @@ ghost use Rattle.md_script.specs.Pasts.{taken_back, MayBack, AnyGraph};
 ghost use Rattle.md_script.specs.Histories.{HistoryFits};
 ghost use Rattle.md_report.specs.Lines.{plain_line};
 ghost use Rattle.md_report.specs.Sessions.{is_applied};
-ghost use Rattle.md_session.specs.LocalSteps.{line_of, edge_ends, IsLocalStep, TakesFew, IsLastEdge, IsNewTree, MayRebuild, HasFewSteps};
+ghost use Rattle.md_session.specs.LocalSteps.{line_of_answer, edge_ends, IsLocalStep, TakesFew, IsLastEdge, IsNewTree, MayRebuild, HasFewSteps};
 
 use md_graph::{GraphOf, Memory, Steps};
 use md_local::{copy_tree, decompose_part, rebuild};
@@ -56,7 +56,7 @@ struct NewTree {
 
 // The line of an answer.
 pub(crate) fn line(told: Told) -> Line
-    ensures { plain_line result ≡ line_of told.answer (plain_option told.copy) }
+    ensures { plain_line result ≡ line_of_answer told.answer (plain_option told.copy) }
 {
     match told.answer {
         LocalAnswer::Applied => Line::Applied(told.copy),
@@ -96,13 +96,13 @@ pub(crate) fn answer<const W: usize, L: Ledger>(
         told.answer graph.new history.new.items) }
     ensures tree { IsTree (adjacent graph.new) graph.new.vertices (plain_option tree.new) }
     ensures copy { IfOk result (λ told. copies ≡ true →
-        line_of told.answer (plain_option told.copy)
-        ≡ line_of told.answer (plain_option tree.new)) }
+        line_of_answer told.answer (plain_option told.copy)
+        ≡ line_of_answer told.answer (plain_option tree.new)) }
     ensures stays { IsErr result → graph.new ≡ graph.old }
     ensures kept { IsErr result → history.new.items ≡ history.old.items }
     ensures work { TakesFew graph.old item.now work.old work.new }
     ensures refused { IfOk result (λ told.
-        is_applied (line_of told.answer None) ≡ false → work.new ≡ work.old) }
+        is_applied (line_of_answer told.answer None) ≡ false → work.new ≡ work.old) }
 {
     match item {
         Item::One(edit) => answer_one(alloc, graph, tree, edit, history, copies, work),
@@ -131,13 +131,13 @@ fn answer_one<const W: usize, L: Ledger>(
         (One edit.now) told.answer graph.new history.new.items) }
     ensures tree { IsTree (adjacent graph.new) graph.new.vertices (plain_option tree.new) }
     ensures copy { IfOk result (λ told. copies ≡ true →
-        line_of told.answer (plain_option told.copy)
-        ≡ line_of told.answer (plain_option tree.new)) }
+        line_of_answer told.answer (plain_option told.copy)
+        ≡ line_of_answer told.answer (plain_option tree.new)) }
     ensures stays { IsErr result → graph.new ≡ graph.old }
     ensures kept { IsErr result → history.new.items ≡ history.old.items }
     ensures work { TakesFew graph.old (One edit.now) work.old work.new }
     ensures refused { IfOk result (λ told.
-        is_applied (line_of told.answer None) ≡ false → work.new ≡ work.old) }
+        is_applied (line_of_answer told.answer None) ≡ false → work.new ≡ work.old) }
 {
     let _vertices = graph.vertices();
     if let Some(reason) = reason(graph, edit) {
@@ -181,12 +181,12 @@ fn answer_group<const W: usize, L: Ledger>(
         (Group edits.now) told.answer graph.new history.new.items) }
     ensures tree { IsTree (adjacent graph.new) graph.new.vertices (plain_option tree.new) }
     ensures copy { IfOk result (λ told. copies ≡ true →
-        line_of told.answer (plain_option told.copy)
-        ≡ line_of told.answer (plain_option tree.new)) }
+        line_of_answer told.answer (plain_option told.copy)
+        ≡ line_of_answer told.answer (plain_option tree.new)) }
     ensures stays { IsErr result → graph.new ≡ graph.old }
     ensures kept { IsErr result → history.new.items ≡ history.old.items }
     ensures refused { IfOk result (λ told.
-        is_applied (line_of told.answer None) ≡ false → work.new ≡ work.old) }
+        is_applied (line_of_answer told.answer None) ≡ false → work.new ≡ work.old) }
 {
     let _vertices = graph.vertices();
     history.open_item();
@@ -224,12 +224,12 @@ fn answer_undo<const W: usize, L: Ledger>(
         told.answer graph.new history.new.items) }
     ensures tree { IsTree (adjacent graph.new) graph.new.vertices (plain_option tree.new) }
     ensures copy { IfOk result (λ told. copies ≡ true →
-        line_of told.answer (plain_option told.copy)
-        ≡ line_of told.answer (plain_option tree.new)) }
+        line_of_answer told.answer (plain_option told.copy)
+        ≡ line_of_answer told.answer (plain_option tree.new)) }
     ensures stays { IsErr result → graph.new ≡ graph.old }
     ensures kept { IsErr result → history.new.items ≡ history.old.items }
     ensures refused { IfOk result (λ told.
-        is_applied (line_of told.answer None) ≡ false → work.new ≡ work.old) }
+        is_applied (line_of_answer told.answer None) ≡ false → work.new ≡ work.old) }
 {
     if history.items() == 0 {
         return Ok(Told {

@@ -1,6 +1,6 @@
 //! Puts a piece of the output.
 ghost use Rattle.std.specs.Prelude.{◌≡◌, ◌≤◌, IfOk};
-ghost use Rattle.md_report.specs.Lines.{PlainLine, plain_line, fed_line};
+ghost use Rattle.md_report.specs.Lines.{PlainLine, plain_line, fed_line, line_text};
 ghost use Rattle.md_report.specs.Places.{Place, MayCome, next_place};
 ghost use Rattle.md_top.specs.Sinks.{sink_run, PutsWhole, PutsLines};
 
@@ -42,11 +42,21 @@ pub fn put_text<O: Sink>(text: &[u8], out: &mut O) -> Result<(), PutStop>
     put_piece(out, text)
 }
 
-// The text of a line of a report, with its line feed.
-fn fed_text(alloc: Global, line: &Line) -> Result<Vec<u8>, Memory>
+/// The text of a line of a report, with its line feed.
+pub fn fed_text(alloc: Global, line: &Line) -> Result<Vec<u8>, Memory>
     ensures { IfOk result (λ text. text.items ≡ fed_line (plain_line line.now)) }
 {
     let mut text = write_line(alloc, line)?;
     text.push(b'\n')?;
     Ok(text)
+}
+
+/// The text of a line with its line feed.
+pub fn fed(text: Vec<u8>) -> Result<Vec<u8>, Memory>
+    ensures { (line : PlainLine) → text.items ≡ line_text line →
+        IfOk result (λ whole. whole.items ≡ fed_line line) }
+{
+    let mut whole = text;
+    whole.push(b'\n')?;
+    Ok(whole)
 }

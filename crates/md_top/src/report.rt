@@ -3,23 +3,25 @@
 ghost use Rattle.std.specs.Prelude.{◌≡◌, ◌≤◌, List, [], ◌∷◌, IfOk};
 ghost use Rattle.md_graph.specs.PlainGraph.{PlainGraph, adjacent};
 ghost use Rattle.md_report.specs.declared.line.GraphMode.{GraphMode};
-ghost use Rattle.md_report.specs.Lines.{plain_line};
+ghost use Rattle.md_report.specs.Lines as lines;
+ghost use Rattle.md_report.specs.Lines.{PlainLine, plain_line, fed_line};
 ghost use Rattle.md_report.specs.Orientations.{IsShortestLine};
 ghost use Rattle.md_report.specs.Models.{IsModelLine};
 ghost use Rattle.md_report.specs.Places.{before_head, at_graphs, after_end, Reports};
+ghost use Rattle.md_report.specs.Sessions.{HasTreeLine};
 ghost use Rattle.md_top.specs.declared.request.Subject.{Subject};
 ghost use Rattle.md_top.specs.declared.request.Request.{Request};
 ghost use Rattle.md_top.specs.Command.{CommandEnds};
 ghost use Rattle.md_top.specs.Sinks.{sink_run, PutsLines};
 
-use crate::put::put_report_line;
+use crate::put::{fed, fed_text, put_report_line, put_text};
 use crate::stop::{PutStop, Stop, Verdict};
 use md_decompose::decompose;
 use md_graph::{GraphOf, Memory};
 use md_input::{Format, GraphBySize, Graphs, Room};
 use md_io::Sink;
 use md_orient::{PermVerdict, Verdict as Orientation, model, orient};
-use md_report::{GraphMode, Line};
+use md_report::{GraphMode, Line, write_tree};
 use std::alloc::Global;
 
 /// Puts the report of a mode over the graphs of a file, which is read under the limit of names of
@@ -87,37 +89,57 @@ fn put_line<O: Sink>(
         (sink_run O.Sink out.old out.new) }
     ensures faults_never_fall { O.faults out.old ≤ O.faults out.new }
 {
-    let line = match room.graph() {
-        GraphBySize::Small(graph) => line_of(alloc, mode, graph)?,
-        GraphBySize::Medium(graph) => line_of(alloc, mode, graph)?,
-        GraphBySize::Broad(graph) => line_of(alloc, mode, graph)?,
-        GraphBySize::Large(graph) => line_of(alloc, mode, graph)?,
+    let text = match room.graph() {
+        GraphBySize::Small(graph) => text_of(alloc, mode, graph)?,
+        GraphBySize::Medium(graph) => text_of(alloc, mode, graph)?,
+        GraphBySize::Broad(graph) => text_of(alloc, mode, graph)?,
+        GraphBySize::Large(graph) => text_of(alloc, mode, graph)?,
     };
-    put_report_line(alloc, line, out)
+    put_text(&text, out)
 }
 
-// The line that reports a graph.
-fn line_of<const W: usize>(
+// The text of the line that reports a graph, with its line feed.
+fn text_of<const W: usize>(
     alloc: Global,
     mode: GraphMode,
     graph: &GraphOf<W>,
-) -> Result<Line, Memory>
-    ensures { IfOk result (λ line. Reports mode graph.now (plain_line line)) }
+) -> Result<Vec<u8>, Memory>
+    ensures { IfOk result (λ text. (line : PlainLine) × Reports mode graph.now line
+        × (text.items ≡ fed_line line)) }
 {
     match mode {
-        GraphMode::Tree => tree_line(alloc, graph),
-        GraphMode::Compare => orientation_line(alloc, graph),
-        GraphMode::Shortest => orientation_line(alloc, graph),
-        GraphMode::Permute => model_line(alloc, graph),
+        GraphMode::Tree => tree_text(alloc, graph),
+        GraphMode::Compare => orientation_text(alloc, graph),
+        GraphMode::Shortest => orientation_text(alloc, graph),
+        GraphMode::Permute => model_text(alloc, graph),
     }
 }
 
-// The line of the tree of a graph.
-fn tree_line<const W: usize>(alloc: Global, graph: &GraphOf<W>) -> Result<Line, Memory>
-    ensures { IfOk result (λ line. Reports GraphMode.Tree graph.now (plain_line line)) }
+// The text of the line of the tree of a graph, with its line feed.
+fn tree_text<const W: usize>(alloc: Global, graph: &GraphOf<W>) -> Result<Vec<u8>, Memory>
+    ensures { IfOk result (λ text. (line : PlainLine) × HasTreeLine lines.tree graph.now line
+        × (text.items ≡ fed_line line)) }
 {
     let tree = decompose(alloc, graph)?;
-    Ok(Line::Tree(tree))
+    fed(write_tree(alloc, &tree)?)
+}
+
+// The same of its least-edge orientation, or of a shortest forcing chain of it.
+fn orientation_text<const W: usize>(alloc: Global, graph: &GraphOf<W>) -> Result<Vec<u8>, Memory>
+    ensures { IfOk result (λ text. (line : PlainLine) × IsShortestLine (adjacent graph.now) line
+        × (text.items ≡ fed_line line)) }
+{
+    let line = orientation_line(alloc, graph)?;
+    fed_text(alloc, &line)
+}
+
+// The same of two orders that realise it, or of a forcing chain of it or of its complement.
+fn model_text<const W: usize>(alloc: Global, graph: &GraphOf<W>) -> Result<Vec<u8>, Memory>
+    ensures { IfOk result (λ text. (line : PlainLine) × IsModelLine graph.now line
+        × (text.items ≡ fed_line line)) }
+{
+    let line = model_line(alloc, graph)?;
+    fed_text(alloc, &line)
 }
 
 // The line of the least-edge orientation of a graph, or of a shortest forcing chain of it.

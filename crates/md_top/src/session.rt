@@ -4,12 +4,12 @@ ghost use Rattle.std.specs.List.{All};
 ghost use Rattle.md_graph.specs.PlainGraph.{adjacent};
 ghost use Rattle.md_tree.specs.StrongTrees.{IsTree};
 ghost use Rattle.md_tree.specs.Trees.{PlainTree};
-ghost use Rattle.md_session.specs.LocalSteps.{line_of};
+ghost use Rattle.md_session.specs.LocalSteps.{line_of_answer};
 ghost use Rattle.md_input.specs.Inputs.{graph_of_inputs, script_of_inputs, HaveRoom};
 ghost use Rattle.md_report.specs.declared.line.SessionMode.{SessionMode};
 ghost use Rattle.md_report.specs.declared.line.SessionMode.TheVariants as modes;
 ghost use Rattle.md_report.specs.Lines as lines;
-ghost use Rattle.md_report.specs.Lines.{PlainLine, fed_line, line_text};
+ghost use Rattle.md_report.specs.Lines.{PlainLine, fed_line};
 ghost use Rattle.md_report.specs.Places.{before_session, at_state, at_items, after_end};
 ghost use Rattle.md_report.specs.Sessions.{first_state};
 ghost use Rattle.md_report.specs.Steps.{ItemStep};
@@ -22,7 +22,7 @@ ghost use Rattle.md_top.specs.Command.{CommandEnds};
 ghost use Rattle.md_top.specs.Sinks.{sink_run, PutsLines};
 
 use crate::cographs::put_cographs;
-use crate::put::{put_report_line, put_text};
+use crate::put::{fed, put_report_line, put_text};
 use crate::stop::{PutStop, Stop, Verdict};
 use crate::undos::{forget_unreached, undos_behind};
 use md_graph::{GraphOf, Memory, Steps};
@@ -189,7 +189,7 @@ fn answer_text<const W: usize>(
 ) -> Result<Vec<u8>, Memory>
     ensures { IfOk result (λ text. (t : Option PlainTree)
         × IsTree (adjacent session.now) session.now.vertices t
-        × (text.items ≡ fed_line (line_of answer t))) }
+        × (text.items ≡ fed_line (line_of_answer answer t))) }
 {
     let kept = session.kept();
     match answer {
@@ -200,14 +200,4 @@ fn answer_text<const W: usize>(
         }
         LocalAnswer::NothingToUndo => fed(write_line(alloc, &Line::NothingToUndo)?),
     }
-}
-
-// The text of a line with its line feed.
-fn fed(text: Vec<u8>) -> Result<Vec<u8>, Memory>
-    ensures { (line : PlainLine) → text.items ≡ line_text line →
-        IfOk result (λ whole. whole.items ≡ fed_line line) }
-{
-    let mut whole = text;
-    whole.push(b'\n')?;
-    Ok(whole)
 }

@@ -5,7 +5,7 @@ use Rattle.md_script.specs.Histories.{HistoryFits}
 use Rattle.md_script.specs.Pasts.{AnyGraph}
 use Rattle.md_report.specs.declared.line.SessionMode.TheVariants as modes
 use Rattle.md_report.specs.Steps.{ItemStep}
-use Rattle.md_session.specs.LocalSteps.{line_of}
+use Rattle.md_session.specs.LocalSteps.{line_of_answer}
 use Rattle.md_tree.proofs.Stacking.{if_ok}
 use Rattle.md_top.proofs.session.item_text.Goals as goal
 
@@ -19,9 +19,9 @@ pub returns : goal.returns
 returns g c =
     if_ok c.answer_text.result
     (λ text told. (
-      line_of c.in_ok-answer.answer told.0,
+      line_of_answer c.in_ok-answer.answer told.0,
       told.2,
-      subst (λ (items : List (List Edit)). ItemStep (64 * g.row.W) modes.Edit c.args.session.now items c.args.item.now (line_of c.in_ok-answer.answer told.0) c.answer_item.new.self c.answer_item.new.history.items)
+      subst (λ (items : List (List Edit)). ItemStep (64 * g.row.W) modes.Edit c.args.session.now items c.args.item.now (line_of_answer c.in_ok-answer.answer told.0) c.answer_item.new.self c.answer_item.new.history.items)
           c.reserve.ensures.items (c.in_ok-answer.ensures.step told.0 told.1),
     ))
     c.answer_text.ensures
