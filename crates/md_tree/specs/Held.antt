@@ -1,6 +1,6 @@
 -- What is held while a tree is built from its text: the finished children of the nodes that are open.
 -- Source: bottom-up parsing on a stack, as in any textbook of compilers.
-use Rattle.std.specs.Prelude.{◌≡◌, ◌≢◌, ◌↔◌, ◌+◌, ◌*◌, ◌-◌, ◌<◌, ◌≤◌, ℕ, suc, Bool, true, false, List, [], ◌∷◌, ◌++◌, length, get_or, map, AllPairs, Contains, Some, ⊤, IsTrue, Option, MatchOption}
+use Rattle.std.specs.Prelude.{◌≡◌, ◌≢◌, ◌↔◌, ◌*◌, ◌<◌, ◌≤◌, ℕ, suc, Bool, true, false, List, [], ◌∷◌, ◌++◌, length, get_or, map, AllPairs, Contains, Some, ⊤, IsTrue, Option, MatchOption}
 use Rattle.std.specs.Borrow.{Bor}
 use Rattle.md_graph.specs.declared.TheConstants.{NAMES}
 use Rattle.md_graph.specs.NameSet.{AllBelow}
