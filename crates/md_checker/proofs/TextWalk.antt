@@ -59,7 +59,7 @@ pub read_start : (g : PlainGraph) (bytes : List ℕ) (sets : List NameSet) (list
 read_start g bytes sets list kinds opens seen no_sets no_list no_kinds no_opens no_names = record {
   trees = [];
   walked = record {
-    kept = subst (λ l. AreKept graph_spelling [] l seen) (sym no_list) (subst (AreKept graph_spelling [] []) (sym no_names) (kept_none graph_law));
+    kept = subst (λ l. AreKept graph_spelling NAMES [] l seen) (sym no_list) (subst (AreKept graph_spelling NAMES [] []) (sym no_names) (kept_none graph_law));
     finished = record { sets_are = no_sets; heads_are = no_list; are_fit = record { fit = tt; within = λ x h. clash h (empty_lacks x) } };
     kinds_are = no_kinds;
   };
@@ -76,7 +76,7 @@ read_name g bytes text tail sets more list longer kinds kinds_more opens seen ne
     record {
       trees = ts ++ leaf v ∷ [];
       walked = record {
-        kept = subst (λ l. AreKept graph_spelling (ts ++ leaf v ∷ []) l new) (sym put) (subst (AreKept graph_spelling (ts ++ leaf v ∷ []) (list ++ v ∷ [])) (sym made) (kept_name graph_law ts list seen v r.walked.kept below lacks));
+        kept = subst (λ l. AreKept graph_spelling NAMES (ts ++ leaf v ∷ []) l new) (sym put) (subst (AreKept graph_spelling NAMES (ts ++ leaf v ∷ []) (list ++ v ∷ [])) (sym made) (kept_name graph_law ts list seen v r.walked.kept below lacks));
         finished = leaf_finished g.vertices sets more list longer ts v only r.walked.finished vertex is push put;
         kinds_are = kind ∙ ap (λ l. l ++ None ∷ []) r.walked.kinds_are ∙ sym (map-append root_kind ts (leaf v ∷ []));
       };
@@ -193,10 +193,10 @@ module _ {g : PlainGraph} {bytes text : List ℕ} {node_open : Opened Kind} {set
     sub_size : length sub ≡ length ts - first
     sub_size = ap length is_sub ∙ length-drop first list ∙ ap (λ n. n - first) same_heads
 
-    kept : AreKept graph_spelling (take first ts ++ made ∷ []) (take (first + 1) list) seen
+    kept : AreKept graph_spelling NAMES (take first ts ++ made ∷ []) (take (first + 1) list) seen
     kept =
         let f = first_head in let last = length-drop first list in
-        subst (λ l. AreKept graph_spelling (take first ts ++ made ∷ []) l seen) (take_one_more first list first_head)
+        subst (λ l. AreKept graph_spelling NAMES (take first ts ++ made ∷ []) l seen) (take_one_more first list first_head)
         (kept_closed graph_law ts list seen first node_open.kind ps (get_or (drop first list) 0 0) inside r.walked.kept may_have (subst (λ n. MayList node_open.kind n ps) sub_size lists) (subst Ascends is_sub up)
         (first_least (drop first list) (omega arith) (subst Ascends is_sub up)))
 
@@ -221,7 +221,7 @@ module _ {g : PlainGraph} {bytes text : List ℕ} {node_open : Opened Kind} {set
     read_end tail more longer kinds_more is push cut kind = record {
       trees = take first ts ++ made ∷ [];
       walked = record {
-        kept = subst (λ l. AreKept graph_spelling (take first ts ++ made ∷ []) l seen) (sym cut) kept;
+        kept = subst (λ l. AreKept graph_spelling NAMES (take first ts ++ made ∷ []) l seen) (sym cut) kept;
         finished = subst (AreFinished g more longer) with_is
             (node_finished graph sets list node_open.kind (length ts - first) ps ts may first place sub is_sub m of is_union is_of more longer fit push cut);
         kinds_are = kind ∙ ap (λ l. l ++ Some node_open.kind ∷ []) (ap (take first) r.walked.kinds_are ∙ take-map root_kind first ts) ∙ sym (map-append root_kind (take first ts) (made ∷ []));

@@ -1,6 +1,7 @@
 -- What is kept while the text of a tree is compared with a graph.
 -- Source: our own; bottom-up parsing on a stack, as in any textbook of compilers.
 use Rattle.std.specs.Prelude.{◌≡◌, ◌<◌, ◌≤◌, ℕ, Bool, List, length, map, Contains, Option, Some, None}
+use Rattle.md_graph.specs.declared.TheConstants.{NAMES}
 use Rattle.md_graph.specs.PlainGraph.{PlainGraph}
 use Rattle.md_graph.specs.Sets.{NameSet}
 use Rattle.md_tree.specs.declared.Kind.{Kind}
@@ -26,7 +27,7 @@ MayHaveKinds Prime kinds = 4 ≤ length kinds
 -- the sets, the heads and the kinds are those of finished trees that fit the graph, and all names are `seen`
 pub record AreParsed (g : PlainGraph) (sets : List NameSet) (list : List ℕ) (kinds : List (Option Kind)) (seen : NameSet)
     (trees : List PlainTree) : Type 0 where
-  pub kept : AreKept graph_spelling trees list seen
+  pub kept : AreKept graph_spelling NAMES trees list seen
   pub finished : AreFinished g sets list trees
   pub kinds_are : kinds ≡ map root_kind trees
 

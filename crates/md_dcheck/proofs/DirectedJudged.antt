@@ -1,11 +1,13 @@
 -- Whether a text is that of the line with the tree of a directed graph.
 use Rattle.std.proofs.Common.{◌≡◌, ◌≢◌, ◌↔◌, ℕ, Bool, List, ◌∷◌, ◌++◌, codes, Option, Result, Err, refl, sym, ◌∙◌, ap, subst, inl, inr}
 use Rattle.std.specs.Prelude.{IsTrue}
+use Rattle.md_digraph.specs.declared.TheConstants.{DIRECTED_NAMES}
 use Rattle.md_digraph.specs.PlainDigraph.{PlainDigraph, has_arc_to, IsDigraph}
 use Rattle.md_tree.specs.declared.TreeOf.{TreeOf}
 use Rattle.md_tree.specs.declared.reader.TreeFault.{TreeFault}
 use Rattle.md_tree.specs.declared.reader.TreeFault.TheVariants.{Syntax, NotCanonical, Memory}
 use Rattle.md_tree.specs.Grammar.{LeavesAtBy}
+use Rattle.md_tree.proofs.ReadBack.{read_back_proof}
 use Rattle.md_tree.proofs.Texts.{one_text_proof}
 use Rattle.md_dtree.specs.declared.DKind.{DKind}
 use Rattle.md_dtree.specs.declared.DPair.{DPair}
@@ -14,7 +16,6 @@ use Rattle.md_dtree.specs.DirectedTexts.{directed_text_of, IsDirectedReading}
 use Rattle.md_dtree.specs.DirectedSpelling.{directed_spelling}
 use Rattle.md_dtree.proofs.ArcKinds.{directed_spelling_law}
 use Rattle.md_dtree.proofs.OneDirected.{well_formed_proof}
-use Rattle.md_dtree.proofs.DirectedReading.{written_proof}
 use Rattle.md_dcheck.specs.DirectedReports.{DirectedLine, directed_tree, directed_line_text, HasDirectedTree}
 use Rattle.md_dcheck.specs.DueDigraphs.{HasTreeText}
 
@@ -29,7 +30,7 @@ fits_text g text o fit is fits = (
 unread_text : (g : PlainDigraph) (text : List ℕ) (fault : TreeFault) → IsDigraph g → (fault ≡ Memory → ⊥) → IsDirectedReading text (Err fault) → HasTreeText g text → ⊥
 unread_text g text fault is other reading some =
     let answer : Result (Option (TreeOf DKind DPair)) TreeFault = Err fault in
-    elim (written_proof some.0 (well_formed_proof (has_arc_to g) g.vertices some.0 some.1 is.names) answer (subst (λ (x : List ℕ). IsDirectedReading x answer) some.2 reading)) [
+    elim (read_back_proof directed_spelling_law DIRECTED_NAMES some.0 (well_formed_proof (has_arc_to g) g.vertices some.0 some.1 is.names) answer (subst (λ (x : List ℕ). IsDirectedReading x answer) some.2 reading)) [
       | inl read ↦ (let e = read.1 in cc)
       | inr short ↦ other (let e = short in cc)
     ]

@@ -3,4 +3,3 @@ pub mod DirectedCanonical
 pub mod OneDirected
 pub mod BalanceLaws
 pub mod FitsDirected
-pub mod DirectedReading

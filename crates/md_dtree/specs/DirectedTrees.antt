@@ -2,15 +2,14 @@
 -- `arc` tells.
 -- Source: McConnell and de Montgolfier, Linear-time modular decomposition of directed graphs; the
 -- order of the children is our own.
-use Rattle.std.specs.Prelude.{◌≡◌, ◌≢◌, ℕ, Bool, true, false, List, [], Option, Some, None, ⊤}
+use Rattle.std.specs.Prelude.{◌≡◌, ◌≢◌, ℕ, Bool, true, false, List, [], Option}
 use Rattle.md_graph.specs.Sets.{NameSet, Has, HasTwo}
-use Rattle.md_graph.specs.NameSet.{AllBelow}
 use Rattle.md_modules.specs.Kinds.{IsSplit}
 use Rattle.md_digraph.specs.declared.TheConstants.{DIRECTED_NAMES}
 use Rattle.md_digraph.specs.ArcColours.{ArcColour, between, no_arc, both_arcs}
-use Rattle.md_tree.specs.Trees.{PlainTreeOf, PlainTreesOf, names, names_at}
+use Rattle.md_tree.specs.Trees.{PlainTreeOf, PlainTreesOf, names_at}
 use Rattle.md_tree.specs.StrongTrees.{IsBefore, IsNodeBy, IsTreeBy, IsTreeOrNone, ListsExactly}
-use Rattle.md_tree.specs.WellFormed.{IsCanonicalNodeBy, IsCanonicalTreeBy}
+use Rattle.md_tree.specs.WellFormed.{IsCanonicalNodeBy, IsCanonicalTreeBy, IsWellFormedBelow}
 use Rattle.md_dtree.specs.declared.DKind.{DKind}
 use Rattle.md_dtree.specs.declared.DKind.TheVariants.{Parallel, Series, Order, Prime}
 use Rattle.md_dtree.specs.declared.DPair.{DPair}
@@ -96,5 +95,4 @@ IsCanonicalDTree = IsCanonicalTreeBy directed_spelling
 -- a tree of a directed graph is well-formed: its names are below the limit of these, and each node
 -- is as well-formed trees have it; so is no tree
 abbrev pub IsWellFormedDirected : Option PlainDTree → Type 0
-IsWellFormedDirected None = ⊤
-IsWellFormedDirected (Some t) = AllBelow (names t) DIRECTED_NAMES × IsCanonicalDTree t
+IsWellFormedDirected = IsWellFormedBelow directed_spelling DIRECTED_NAMES

@@ -1,7 +1,6 @@
 pub mod DirectedSpelling
 pub mod DirectedTrees
 pub mod DirectedTexts
-pub mod NamesBelow
 pub mod DirectedFits
 pub mod Balance
 pub mod Laws

@@ -1,15 +1,12 @@
 //! Writes and reads the texts of trees of directed graphs.
-ghost use Rattle.std.specs.Prelude.{◌≡◌, ◌↔◌, map, IsTrue, IfOk};
-ghost use Rattle.md_digraph.specs.declared.TheConstants.{DIRECTED_NAMES};
-ghost use Rattle.md_tree.specs.Plain.{plain, plain_option};
-ghost use Rattle.md_tree.specs.Parts.{plain_at};
-ghost use Rattle.md_dtree.specs.NamesBelow.{IsLeafBelow, AreBelow, HasLeavesBelow};
+ghost use Rattle.std.specs.Prelude.{◌≡◌, IfOk};
+ghost use Rattle.md_tree.specs.Plain.{plain_option};
 ghost use Rattle.md_dtree.specs.DirectedTexts.{directed_text_of, IsDirectedReading};
 
-use crate::DTree;
-use md_digraph::DIRECTED_NAMES;
+use crate::{DKind, DPair, DTree};
+use md_digraph::DIRECTED_WORDS;
 use md_graph::Memory;
-use md_tree::{TreeFault, nodes_of, push_text_of, read_tree_of};
+use md_tree::{TreeFault, push_text_of, read_tree_of};
 use std::alloc::Global;
 
 /// The text of a tree: a name in digits, and a node as `P`, `S`, `O` or `R`, then in brackets its
@@ -30,46 +27,5 @@ pub fn text_directed(alloc: Global, tree: &Option<DTree>) -> Result<Vec<u8>, Mem
 pub fn read_directed(alloc: Global, bytes: &[u8]) -> Result<Option<DTree>, TreeFault>
     ensures reading { IsDirectedReading bytes.now result }
 {
-    let tree = read_tree_of(alloc, bytes)?;
-    let within = is_within_limit(alloc, &tree)?;
-    if within {
-        Ok(tree)
-    } else {
-        Err(TreeFault::NotCanonical)
-    }
-}
-
-// Whether the names of a tree are names of directed graphs. Errors: out of memory.
-fn is_within_limit(alloc: Global, tree: &Option<DTree>) -> Result<bool, Memory>
-    ensures { IfOk result (λ within. IsTrue within
-        ↔ HasLeavesBelow DIRECTED_NAMES (plain_option tree.now)) }
-{
-    match tree {
-        Some(tree) => {
-            let nodes = nodes_of(alloc, tree)?;
-            Ok(are_within_limit(&nodes))
-        }
-        None => Ok(true),
-    }
-}
-
-fn are_within_limit(nodes: &[&DTree]) -> bool
-    ensures { IsTrue result ↔ AreBelow DIRECTED_NAMES (map plain_at nodes.now) }
-{
-    for node in nodes {
-        if !is_node_within_limit(node) {
-            return false;
-        }
-    }
-    true
-}
-
-#[tactic(auto, using(md_tree::proofs::Plain::plain_is_leaf, md_tree::proofs::Plain::plain_is_node))]
-fn is_node_within_limit(node: &DTree) -> bool
-    ensures { IsTrue result ↔ IsLeafBelow DIRECTED_NAMES (plain node.now) }
-{
-    match node {
-        DTree::Leaf(name) => *name < DIRECTED_NAMES,
-        DTree::Node(_, _, _) => true,
-    }
+    read_tree_of::<DKind, DPair, DIRECTED_WORDS>(alloc, bytes)
 }

@@ -4,6 +4,7 @@ use Rattle.std.specs.Prelude.{◌==◌, MatchOption}
 use Rattle.std.specs.List.{All}
 use Rattle.std.proofs.lemmas.List.{get_or_append_left}
 use Rattle.std.proofs.lemmas.Bool.{eqb-true}
+use Rattle.md_graph.specs.declared.TheConstants.{NAMES}
 use Rattle.md_text.specs.Numbers.{decimal}
 use Rattle.md_text.proofs.NumberLemmas.{decimal_is_canonical, decimal_is_digits}
 use Rattle.md_forcing.specs.declared.arc.Arc.{Arc}
@@ -256,7 +257,7 @@ pub no_tree_text : (rest text : List ℕ) (place : ℕ) → rest ≡ 32 ∷ text
 no_tree_text rest text place at leaves o is e =
     let f : 32 ∷ text ≡ 32 ∷ text_of o = sym at ∙ e in
     let g : text_of o ≡ text = cc in
-    leaves.outside (subst InGrammar g (o, spelled_good graph_law o is, refl))
+    leaves.outside (subst InGrammar g (o, spelled_good graph_law NAMES o is, refl))
 
 -- what is read of one text is read of an equal one
 pub reads_on : (w v : List ℕ) (A B : Type 0) → w ≡ v → (A → B) → (r : Result Line LineFault) → Reads w A r → Reads v B r

@@ -1,5 +1,5 @@
 -- The steps of the builder: what each token makes of the open nodes, and where no well-formed tree has the text.
-use Rattle.std.proofs.Common.{◌≡◌, ◌≢◌, ℕ, suc, ◌+◌, ◌-◌, ◌<◌, ◌≤◌, ◌⊎◌, Bool, List, [], ◌∷◌, ◌++◌, length, take, drop, Some, append_assoc, append-nil, length-append, refl, sym, ◌∙◌, ap, subst, inl, inr, arith}
+use Rattle.std.proofs.Common.{◌≡◌, ℕ, suc, ◌+◌, ◌*◌, ◌-◌, ◌<◌, ◌≤◌, ◌⊎◌, Bool, List, [], ◌∷◌, ◌++◌, length, take, drop, Some, append_assoc, append-nil, length-append, refl, sym, ◌∙◌, ap, subst, inl, inr, arith}
 use Rattle.std.proofs.Math.Seq.{take-append_seam, drop-append_seam}
 use Rattle.std.specs.Prelude.{◌↔◌}
 use Rattle.std.specs.FinSet.{empty, len}
@@ -17,7 +17,7 @@ use Rattle.md_tree.specs.declared.builder.Step.TheVariants.{Onward, Useless, End
 use Rattle.md_tree.specs.Trees.{PlainTreeOf, PlainTreesOf, leaf, node, no_tree, one_more, names, names_below, count, row, EachNode, EachNodeBelow}
 use Rattle.md_tree.specs.Spellings.{Spelling, IsSpelling}
 use Rattle.md_tree.specs.TreeTexts.{pairs_text_by, tree_text_by, row_text_by}
-use Rattle.md_tree.specs.WellFormed.{AreDisjoint, IsCanonicalNodeBy, IsWellFormedBy, IsCanonicalTreeBy}
+use Rattle.md_tree.specs.WellFormed.{AreDisjoint, IsCanonicalNodeBy, IsWellFormedBelow, IsCanonicalTreeBy}
 use Rattle.md_tree.specs.Residual.{OpenNode, ahead, closed, with_child, Follows, Due}
 use Rattle.md_text.specs.Fronts.{LacksFirst, LacksNumber, IsNumberSplit}
 use Rattle.md_tree.specs.Held.{AreLeast, AscendsIf, IsMinimum, AreKept, MayHave, MayListIf, IsDue, IsBehind, IsInside, befores, opened, opened_node, AreUseless, IsBuilt, IsBuildStep, LacksEnd, IsEnd, HasBuiltInside, HasReadTree, trees_held}
@@ -113,7 +113,7 @@ module _ {K P : Type 0} {sp : Spelling K P} (law : IsSpelling sp) where
   behind_comma bytes rest opens ts tail b some e = comma_in bytes rest opens ts tail b.nodes b.tree b.open_is b.trees_are b.means some e
 
   -- a step from a later place is one from an earlier place
-  pub step_from : (bytes text tail : List ℕ) (step : Step) (held : Held K P) → length tail ≤ length text → IsBuildStep sp bytes tail step held → IsBuildStep sp bytes text step held
+  pub step_from : (bytes text tail : List ℕ) {w : ℕ} (step : Step) (held : Held K P w) → length tail ≤ length text → IsBuildStep sp bytes tail step held → IsBuildStep sp bytes text step held
   step_from bytes text tail (Onward rest) held l s = (s.0, (let m = s.1 in omega arith))
   step_from bytes text tail Useless held l s = s
   step_from bytes text tail End held l s = s
@@ -167,14 +167,14 @@ module _ {K P : Type 0} {sp : Spelling K P} (law : IsSpelling sp) where
     inside_part : (w : PlainTreeOf K P) → LacksFirst 44 rest → bytes ≡ tree_text w → IsCanonicalTreeBy sp w → (ps : List P) × (r : List ℕ) × (rest ≡ pairs_text 59 ps ++ 41 ∷ r) × IsCanonicalNodeBy sp inner.kind (row (drop inner.first ts)) ps
     inside_part w lacks e c = let f = (i.means w).0 e in last_of w f.others f.pairs f.behind lacks f.text f.whole c
 
-    pub useless_children : LacksFirst 44 rest → (ms : List ℕ) → AreLeast ts ms → (MayHave sp.kinds inner.kind (row (drop inner.first ts)) × AscendsIf (sp.kinds.sorts inner.kind) (drop inner.first ms) → ⊥) → AreUseless sp bytes
+    pub useless_children : {limit : ℕ} → LacksFirst 44 rest → (ms : List ℕ) → AreLeast ts ms → (MayHave sp.kinds inner.kind (row (drop inner.first ts)) × AscendsIf (sp.kinds.sorts inner.kind) (drop inner.first ms) → ⊥) → AreUseless sp limit bytes
     useless_children lacks ms l n w good e =
         let p = inside_part w lacks e good.1 in
         let l2 : AreLeast children (drop (length (befores i.nodes)) ms) = least_drop (befores i.nodes) children ms (subst (λ y. AreLeast y ms) inside_trees l) in
         let l3 : AreLeast (drop inner.first ts) (drop inner.first ms) = subst (λ n. AreLeast (drop inner.first ts) (drop n ms)) (sym first_is) (subst (λ y. AreLeast y (drop (length (befores i.nodes)) ms)) (sym inside_children) l2) in
         n (shape_has law inner.kind (row (drop inner.first ts)) p.0 p.3.shape, of_order_if (sp.kinds.sorts inner.kind) (drop inner.first ts) (drop inner.first ms) l3 p.3.order)
 
-    pub useless_end : LacksFirst 44 rest → LacksEnd sp.pairs (lists inner.kind) (length (drop inner.first ts)) rest → AreUseless sp bytes
+    pub useless_end : {limit : ℕ} → LacksFirst 44 rest → LacksEnd sp.pairs (lists inner.kind) (length (drop inner.first ts)) rest → AreUseless sp limit bytes
     useless_end lacks n w good e =
         let p = inside_part w lacks e good.1 in
         n p.0 p.1 (subst (λ m. MayListIf sp.pairs (lists inner.kind) m p.0) (count_row (drop inner.first ts)) (shape_lists law inner.kind (row (drop inner.first ts)) p.0 p.3.shape)) p.2
@@ -187,18 +187,18 @@ module _ {K P : Type 0} {sp : Spelling K P} (law : IsSpelling sp) where
         omega arith
 
   -- the trees of a node that ends are taken off, and the node takes their place
-  pub node_ended : (bytes text : List ℕ) (inner : Opened K) (held new : Held K P) (ps : List P) (m : ℕ) (tail : List ℕ) → HasBuiltInside sp bytes text inner held →
+  pub node_ended : {w : ℕ} (bytes text : List ℕ) (inner : Opened K) (held new : Held K P w) (ps : List P) (m : ℕ) (tail : List ℕ) → HasBuiltInside sp bytes text inner held →
       MayHave sp.kinds inner.kind (row (drop inner.first (trees_held held))) → AscendsIf (sp.kinds.sorts inner.kind) (drop inner.first held.least.items) →
       IsEnd sp.pairs (lists inner.kind) (length (trees_held held) - inner.first) text ps tail → IsMinimum (drop inner.first held.least.items) m →
       trees_held new ≡ take inner.first (trees_held held) ++ node inner.kind (row (drop inner.first (trees_held held))) ps ∷ [] → new.least.items ≡ take inner.first held.least.items ++ m ∷ [] →
       new.opens.items ≡ held.opens.items → new.seen ≡ held.seen → HasReadTree sp bytes text tail new
-  node_ended bytes text inner held new ps m tail h has ascend end is trees least opens seen =
+  node_ended {w} bytes text inner held new ps m tail h has ascend end is trees least opens seen =
       let ts = trees_held held in
       let us = take inner.first ts ++ node inner.kind (row (drop inner.first ts)) ps ∷ [] in (
         record {
-          kept = subst (λ vs. AreKept sp vs new.least.items new.seen) (sym trees)
-              (subst (λ ms. AreKept sp us ms new.seen) (sym least)
-              (subst (AreKept sp us (take inner.first held.least.items ++ m ∷ [])) (sym seen)
+          kept = subst (λ vs. AreKept sp (64 * w) vs new.least.items new.seen) (sym trees)
+              (subst (λ ms. AreKept sp (64 * w) us ms new.seen) (sym least)
+              (subst (AreKept sp (64 * w) us (take inner.first held.least.items ++ m ∷ [])) (sym seen)
               (kept_closed law ts held.least.items held.seen inner.first inner.kind ps m (inside_first _ _ inner _ _ h.comes) h.kept has end.0 ascend is)));
           comes = subst (IsBehind sp bytes tail new.opens.items) (sym trees) (subst (λ os. IsBehind sp bytes tail os us) (sym opens) (inside_end bytes text inner held.opens.items ts h.comes ps tail end.1));
         },
@@ -211,7 +211,7 @@ module _ {K P : Type 0} {sp : Spelling K P} (law : IsSpelling sp) where
   over_of bytes rest ts [] t a b m = (t, b, m)
   over_of bytes rest ts (o ∷ s) t a b m = absurd (no_snoc (opened s) (opened_node o s) a)
 
-  pub behind_end : (bytes rest : List ℕ) (opens : List (Opened K)) (ts : List (PlainTreeOf K P)) (ms : List ℕ) (seen : NameSet) → AreKept sp ts ms seen → IsBehind sp bytes rest opens ts → opens ≡ [] → rest ≡ [] → IsBuilt sp bytes ts
+  pub behind_end : {limit : ℕ} (bytes rest : List ℕ) (opens : List (Opened K)) (ts : List (PlainTreeOf K P)) (ms : List ℕ) (seen : NameSet) → AreKept sp limit ts ms seen → IsBehind sp bytes rest opens ts → opens ≡ [] → rest ≡ [] → IsBuilt sp limit bytes ts
   behind_end bytes rest opens ts ms seen k b none e =
       let o = over_of bytes rest ts b.nodes b.tree (sym none ∙ b.open_is) b.trees_are b.means in
       let same : row ts ≡ one_more o.0 no_tree = ap row o.1 in
@@ -225,7 +225,7 @@ module _ {K P : Type 0} {sp : Spelling K P} (law : IsSpelling sp) where
         text = (o.2 o.0).1 (e, refl);
       }
 
-  pub useless_over : (bytes rest : List ℕ) (opens : List (Opened K)) (ts : List (PlainTreeOf K P)) → IsBehind sp bytes rest opens ts → opens ≡ [] → 0 < length rest → AreUseless sp bytes
+  pub useless_over : {limit : ℕ} (bytes rest : List ℕ) (opens : List (Opened K)) (ts : List (PlainTreeOf K P)) → IsBehind sp bytes rest opens ts → opens ≡ [] → 0 < length rest → AreUseless sp limit bytes
   useless_over bytes rest opens ts b none some w good e =
       let o = over_of bytes rest ts b.nodes b.tree (sym none ∙ b.open_is) b.trees_are b.means in
       let l : length rest ≡ 0 = ap length ((o.2 w).0 e).0 in
@@ -240,7 +240,7 @@ module _ {K P : Type 0} {sp : Spelling K P} (law : IsSpelling sp) where
       let none : length r ≡ 0 = ap length e in
       absurd (omega arith)
 
-  pub useless_open : (bytes rest : List ℕ) (opens : List (Opened K)) (ts : List (PlainTreeOf K P)) → IsBehind sp bytes rest opens ts → 0 < length opens → rest ≡ [] → AreUseless sp bytes
+  pub useless_open : {limit : ℕ} (bytes rest : List ℕ) (opens : List (Opened K)) (ts : List (PlainTreeOf K P)) → IsBehind sp bytes rest opens ts → 0 < length opens → rest ≡ [] → AreUseless sp limit bytes
   useless_open bytes rest opens ts b some over w good e =
       let none : length (opened b.nodes) ≡ 0 = open_goes_on b.nodes b.tree rest w ((b.means w).0 e) over in
       let same : length opens ≡ length (opened b.nodes) = ap length b.open_is in
@@ -273,28 +273,28 @@ module _ {K P : Type 0} {sp : Spelling K P} (law : IsSpelling sp) where
         | inr i ↦ ahead_apart o.before t f.others n.0.apart x h i
       ]
 
-  pub useless_name : (bytes rest : List ℕ) (opens : List (Opened K)) (ts : List (PlainTreeOf K P)) (ms : List ℕ) (seen : NameSet) (v : ℕ) (tail : List ℕ) → AreKept sp ts ms seen → IsDue sp bytes rest opens ts →
-      IsNumberSplit rest v tail → (NAMES ≤ v) ⊎ Has seen v → AreUseless sp bytes
-  useless_name bytes rest opens ts ms seen v tail k d n bad w good e =
+  pub useless_name : {limit : ℕ} (bytes rest : List ℕ) (opens : List (Opened K)) (ts : List (PlainTreeOf K P)) (ms : List ℕ) (seen : NameSet) (v : ℕ) (tail : List ℕ) → AreKept sp limit ts ms seen → IsDue sp bytes rest opens ts →
+      IsNumberSplit rest v tail → (limit ≤ v) ⊎ Has seen v → AreUseless sp limit bytes
+  useless_name {limit} bytes rest opens ts ms seen v tail k d n bad w good e =
       let f : Follows sp d.nodes (leaf v) tail w = (tree_step law d.nodes (leaf v) tail w n.1).0 (subst (λ y. Due sp d.nodes y w) n.0 ((d.means w).0 e)) in
       elim bad [
-        | inl large ↦ (let b : v < NAMES = good.0 v (part_names d.nodes (leaf v) tail w f v (only_has v)) in omega arith)
+        | inl large ↦ (let b : v < limit = good.0 v (part_names d.nodes (leaf v) tail w f v (only_has v)) in omega arith)
         | inr known ↦ part_apart d.nodes (leaf v) tail w f good.1 v (only_has v) (subst (λ y. Has (names_below (row y)) v) d.trees_are ((k.same v).0 known))
       ]
 
   -- where a tree is due
-  leaf_due : (bytes rest : List ℕ) (s : List (OpenNode K P)) (w t : PlainTreeOf K P) (r : List ℕ) → ((k : K) → LacksFirst (letter k) rest) → LacksNumber rest → IsWellFormedBy sp (Some w) →
+  leaf_due : {limit : ℕ} → limit ≤ NAMES → (bytes rest : List ℕ) (s : List (OpenNode K P)) (w t : PlainTreeOf K P) (r : List ℕ) → ((k : K) → LacksFirst (letter k) rest) → LacksNumber rest → IsWellFormedBelow sp limit (Some w) →
       rest ≡ tree_text t ++ r → Follows sp s t r w → ⊥
-  leaf_due bytes rest s w (leaf v) r letters lacks good e f =
-      let below : v < NAMES = good.0 v (part_names s (leaf v) r w f v (only_has v)) in
-      let limit = NAMES-lt in
+  leaf_due {limit} few bytes rest s w (leaf v) r letters lacks good e f =
+      let below : v < limit = good.0 v (part_names s (leaf v) r w f v (only_has v)) in
+      let all = NAMES-lt in
       lacks v r (omega arith) (follows_stops law s (leaf v) r w f) e
-  leaf_due bytes rest s w (node k cs ps) r letters lacks good e f = letters k (row_text 40 cs ++ (pairs_text 59 ps ++ 41 ∷ r)) (e ∙ node_spelled law k cs ps r)
+  leaf_due few bytes rest s w (node k cs ps) r letters lacks good e f = letters k (row_text 40 cs ++ (pairs_text 59 ps ++ 41 ∷ r)) (e ∙ node_spelled law k cs ps r)
 
-  pub useless_number : (bytes rest : List ℕ) (opens : List (Opened K)) (ts : List (PlainTreeOf K P)) → IsDue sp bytes rest opens ts → ((k : K) → LacksFirst (letter k) rest) → LacksNumber rest → AreUseless sp bytes
-  useless_number bytes rest opens ts d letters lacks w good e =
+  pub useless_number : {limit : ℕ} → limit ≤ NAMES → (bytes rest : List ℕ) (opens : List (Opened K)) (ts : List (PlainTreeOf K P)) → IsDue sp bytes rest opens ts → ((k : K) → LacksFirst (letter k) rest) → LacksNumber rest → AreUseless sp limit bytes
+  useless_number few bytes rest opens ts d letters lacks w good e =
       let t = (d.means w).0 e in
-      leaf_due bytes rest d.nodes w t.tree t.behind letters lacks good t.text t.follows
+      leaf_due few bytes rest d.nodes w t.tree t.behind letters lacks good t.text t.follows
 
   two_children : (k : K) (cs : PlainTreesOf K P) → MayHave sp.kinds k cs → 2 ≤ count cs
   two_children k cs h = let two : 2 ≤ sp.kinds.least_count k = law.kinds.two k in let enough = h.0 in omega arith
@@ -311,7 +311,7 @@ module _ {K P : Type 0} {sp : Spelling K P} (law : IsSpelling sp) where
       let g : tail ≡ row_text 40 (one_more u us) ++ (pairs_text 59 ps ++ 41 ∷ r) = cc in
       lacks (tree_text u ++ (row_text 44 us ++ (pairs_text 59 ps ++ 41 ∷ r))) (g ∙ row_spelled law 40 u us (pairs_text 59 ps ++ 41 ∷ r))
 
-  pub useless_letter : (bytes rest : List ℕ) (opens : List (Opened K)) (ts : List (PlainTreeOf K P)) (k : K) (tail : List ℕ) → IsDue sp bytes rest opens ts → rest ≡ letter k ∷ tail → LacksFirst 40 tail → AreUseless sp bytes
+  pub useless_letter : {limit : ℕ} (bytes rest : List ℕ) (opens : List (Opened K)) (ts : List (PlainTreeOf K P)) (k : K) (tail : List ℕ) → IsDue sp bytes rest opens ts → rest ≡ letter k ∷ tail → LacksFirst 40 tail → AreUseless sp limit bytes
   useless_letter bytes rest opens ts k tail d is lacks w good e =
       let t = (d.means w).0 e in
       letter_due k tail t.tree t.behind lacks (each_follows law (IsCanonicalNodeBy sp) d.nodes t.tree t.behind w t.follows good.1) (sym is ∙ t.text)
@@ -345,8 +345,8 @@ module _ {K P : Type 0} {sp : Spelling K P} (law : IsSpelling sp) where
       let rest : length s + len (names (closed o t f.others f.pairs)) ≤ len (names w) = open_few s (closed o t f.others f.pairs) f.behind w f.whole c in
       omega arith
 
-  pub few_names : (s : NameSet) → AllBelow s NAMES → len s ≤ NAMES
-  few_names s below = subst (λ n. n ≤ NAMES) (length-ascending s NAMES below) (few_below s 0 NAMES)
+  few_names : (s : NameSet) (limit : ℕ) → AllBelow s limit → len s ≤ limit
+  few_names s limit below = subst (λ n. n ≤ limit) (length-ascending s limit below) (few_below s 0 limit)
 
   length_opened : (s : List (OpenNode K P)) → length (opened s) ≡ length s
   length_opened [] = refl
@@ -356,11 +356,11 @@ module _ {K P : Type 0} {sp : Spelling K P} (law : IsSpelling sp) where
       let c : length (opened s ++ opened_node o s ∷ []) ≡ suc (length s) = omega arith in
       c
 
-  pub useless_deep : (bytes rest : List ℕ) (opens : List (Opened K)) (ts : List (PlainTreeOf K P)) → IsDue sp bytes rest opens ts → NAMES ≤ length opens → AreUseless sp bytes
-  useless_deep bytes rest opens ts d deep w good e =
+  pub useless_deep : {limit : ℕ} (bytes rest : List ℕ) (opens : List (Opened K)) (ts : List (PlainTreeOf K P)) → IsDue sp bytes rest opens ts → limit ≤ length opens → AreUseless sp limit bytes
+  useless_deep {limit} bytes rest opens ts d deep w good e =
       let t = (d.means w).0 e in
       let few : length d.nodes + len (names t.tree) ≤ len (names w) = open_few d.nodes t.tree t.behind w t.follows good.1 in
-      let limit : len (names w) ≤ NAMES = few_names (names w) good.0 in
+      let all : len (names w) ≤ limit = few_names (names w) limit good.0 in
       let count : length opens ≡ length d.nodes = ap length d.open_is ∙ length_opened d.nodes in
       let x = some_name t.tree (each_follows law (IsCanonicalNodeBy sp) d.nodes t.tree t.behind w t.follows good.1) in
       let some : len (empty {R = nat_cmp}) < len (names t.tree) = len_proper empty (names t.tree) x.0 (λ y h. clash h (empty_lacks y)) x.1 (empty_lacks x.0) in
@@ -377,11 +377,11 @@ module _ {K P : Type 0} {sp : Spelling K P} (law : IsSpelling sp) where
       let h : suc (length ts) ≤ len (names_below (row (t ∷ ts))) = omega arith in
       h
 
-  pub few_held : (ts : List (PlainTreeOf K P)) (ms : List ℕ) (seen : NameSet) → AreKept sp ts ms seen → length ts ≤ NAMES
-  few_held ts ms seen k =
+  pub few_held : {limit : ℕ} (ts : List (PlainTreeOf K P)) (ms : List ℕ) (seen : NameSet) → AreKept sp limit ts ms seen → length ts ≤ limit
+  few_held {limit} ts ms seen k =
       let a : length ts ≤ len (names_below (row ts)) = few_trees ts ms k.least k.apart in
       let b : len (names_below (row ts)) ≤ len seen = len_within (names_below (row ts)) seen (λ x h. (k.same x).1 h) in
-      let c : len seen ≤ NAMES = few_names seen k.below in
+      let c : len seen ≤ limit = few_names seen limit k.below in
       omega arith
 
   -- nothing is read at the beginning

@@ -1,8 +1,7 @@
 -- What is held while a tree is built: kept well by each name and each node that is closed.
-use Rattle.std.proofs.Common.{◌≡◌, ℕ, zero, suc, ◌+◌, ◌-◌, ◌<◌, ◌≤◌, ◌⊎◌, Bool, true, false, List, [], ◌∷◌, ◌++◌, length, get_or, take, drop, refl, sym, ◌∙◌, ap, subst, inl, inr, arith}
+use Rattle.std.proofs.Common.{◌≡◌, ℕ, zero, suc, ◌-◌, ◌<◌, ◌≤◌, ◌⊎◌, Bool, true, false, List, [], ◌∷◌, ◌++◌, length, get_or, take, drop, refl, sym, ap, subst, inl, inr, arith}
 use Rattle.std.specs.Prelude.{◌↔◌}
 use Rattle.std.specs.FinSet.{empty, insert}
-use Rattle.md_graph.specs.declared.TheConstants.{NAMES}
 use Rattle.md_graph.specs.Sets.{NameSet, Has, Lacks, only_name}
 use Rattle.md_graph.proofs.SetLemmas.{clash, empty_lacks, of_insert, insert_old, insert_new, of_only, only_has, union_left, union_right, of_union}
 use Rattle.std.proofs.lemmas.Bool.{false_from_ne_true}
@@ -186,7 +185,7 @@ module _ {K P : Type 0} {sp : Spelling K P} (law : IsSpelling sp) where
   lists = sp.kinds.lists
 
   -- nothing is held at the beginning
-  pub kept_none : AreKept sp [] [] empty
+  pub kept_none : {limit : ℕ} → AreKept sp limit [] [] empty
   kept_none = record {
     canonical = tt;
     apart = tt;
@@ -199,8 +198,8 @@ module _ {K P : Type 0} {sp : Spelling K P} (law : IsSpelling sp) where
   name v = leaf v
 
   -- a new name
-  pub kept_name : (ts : List (PlainTreeOf K P)) (ms : List ℕ) (seen : NameSet) (v : ℕ) → AreKept sp ts ms seen → v < NAMES → Lacks seen v →
-      AreKept sp (ts ++ leaf v ∷ []) (ms ++ v ∷ []) (insert seen v)
+  pub kept_name : {limit : ℕ} (ts : List (PlainTreeOf K P)) (ms : List ℕ) (seen : NameSet) (v : ℕ) → AreKept sp limit ts ms seen → v < limit → Lacks seen v →
+      AreKept sp limit (ts ++ leaf v ∷ []) (ms ++ v ∷ []) (insert seen v)
   kept_name ts ms seen v k below lacks = record {
     canonical = each_join (IsCanonicalNodeBy sp) ts (name v ∷ []) k.canonical (tt, tt);
     apart = apart_both ts (name v ∷ []) k.apart (apart_one (name v)) (λ x h g.
@@ -236,7 +235,7 @@ module _ {K P : Type 0} {sp : Spelling K P} (law : IsSpelling sp) where
   shape_lists k cs ps s = (of_shape (lists k) k cs ps s).1
 
   -- a node over the last trees
-  module _ (xs ys : List (PlainTreeOf K P)) (ms : List ℕ) (seen : NameSet) (kept : AreKept sp (xs ++ ys) ms seen) (k : K) (ps : List P)
+  module _ {limit : ℕ} (xs ys : List (PlainTreeOf K P)) (ms : List ℕ) (seen : NameSet) (kept : AreKept sp limit (xs ++ ys) ms seen) (k : K) (ps : List P)
       (has : MayHave sp.kinds k (row ys)) (list : MayListIf sp.pairs (lists k) (length ys) ps) (up : AscendsIf (sp.kinds.sorts k) (drop (length xs) ms)) where
     node_canonical : IsCanonicalNodeBy sp k (row ys) ps
     node_canonical = record {
@@ -248,7 +247,7 @@ module _ {K P : Type 0} {sp : Spelling K P} (law : IsSpelling sp) where
     abbrev made : PlainTreeOf K P
     made = node k (row ys) ps
 
-    pub kept_node : (m : ℕ) → IsMinimum (drop (length xs) ms) m → AreKept sp (xs ++ made ∷ []) (take (length xs) ms ++ m ∷ []) seen
+    pub kept_node : (m : ℕ) → IsMinimum (drop (length xs) ms) m → AreKept sp limit (xs ++ made ∷ []) (take (length xs) ms ++ m ∷ []) seen
     kept_node m is =
         let l = least_drop xs ys ms kept.least in
         let all : (x : ℕ) → Has (all_names (xs ++ made ∷ [])) x ↔ Has (all_names (xs ++ ys)) x = λ x. (
@@ -264,13 +263,13 @@ module _ {K P : Type 0} {sp : Spelling K P} (law : IsSpelling sp) where
         }
 
   -- the trees from a place on become one node
-  pub kept_closed : (ts : List (PlainTreeOf K P)) (ms : List ℕ) (seen : NameSet) (first : ℕ) (k : K) (ps : List P) (m : ℕ) → first < length ts → AreKept sp ts ms seen →
+  pub kept_closed : {limit : ℕ} (ts : List (PlainTreeOf K P)) (ms : List ℕ) (seen : NameSet) (first : ℕ) (k : K) (ps : List P) (m : ℕ) → first < length ts → AreKept sp limit ts ms seen →
       MayHave sp.kinds k (row (drop first ts)) → MayListIf sp.pairs (lists k) (length ts - first) ps → AscendsIf (sp.kinds.sorts k) (drop first ms) → IsMinimum (drop first ms) m →
-      AreKept sp (take first ts ++ node k (row (drop first ts)) ps ∷ []) (take first ms ++ m ∷ []) seen
-  kept_closed ts ms seen first k ps m inside kept has list up is =
+      AreKept sp limit (take first ts ++ node k (row (drop first ts)) ps ∷ []) (take first ms ++ m ∷ []) seen
+  kept_closed {limit} ts ms seen first k ps m inside kept has list up is =
       let size : length (take first ts) ≡ first = length-take-le first ts (omega arith) in
       let rest : length (drop first ts) ≡ length ts - first = length-drop first ts in
-      let whole : AreKept sp (take first ts ++ drop first ts) ms seen = subst (λ us. AreKept sp us ms seen) (sym (take-append-drop first ts)) kept in
-      subst (λ n. AreKept sp (take first ts ++ node k (row (drop first ts)) ps ∷ []) (take n ms ++ m ∷ []) seen) size
+      let whole : AreKept sp limit (take first ts ++ drop first ts) ms seen = subst (λ us. AreKept sp limit us ms seen) (sym (take-append-drop first ts)) kept in
+      subst (λ n. AreKept sp limit (take first ts ++ node k (row (drop first ts)) ps ∷ []) (take n ms ++ m ∷ []) seen) size
       (kept_node (take first ts) (drop first ts) ms seen whole k ps has (subst (λ n. MayListIf sp.pairs (lists k) n ps) (sym rest) list)
       (subst (λ n. AscendsIf (sp.kinds.sorts k) (drop n ms)) (sym size) up) m (subst (λ n. IsMinimum (drop n ms) m) (sym size) is))

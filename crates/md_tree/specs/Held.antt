@@ -1,6 +1,6 @@
 -- What is held while a tree is built from its text: the finished children of the nodes that are open.
 -- Source: bottom-up parsing on a stack, as in any textbook of compilers.
-use Rattle.std.specs.Prelude.{◌≡◌, ◌≢◌, ◌↔◌, ◌+◌, ◌-◌, ◌<◌, ◌≤◌, ℕ, suc, Bool, true, false, List, [], ◌∷◌, ◌++◌, length, get_or, map, AllPairs, Contains, Some, ⊤, IsTrue, Option, MatchOption}
+use Rattle.std.specs.Prelude.{◌≡◌, ◌≢◌, ◌↔◌, ◌*◌, ◌<◌, ◌≤◌, ℕ, suc, Bool, true, false, List, [], ◌∷◌, ◌++◌, length, get_or, map, AllPairs, Contains, Some, ⊤, IsTrue, Option, MatchOption}
 use Rattle.std.specs.Borrow.{Bor}
 use Rattle.md_graph.specs.declared.TheConstants.{NAMES}
 use Rattle.md_graph.specs.NameSet.{AllBelow}
@@ -16,7 +16,7 @@ use Rattle.md_tree.specs.Trees.{PlainTreeOf, PlainTreesOf, count, names, names_b
 use Rattle.md_tree.specs.Plain.{plain}
 use Rattle.md_tree.specs.Spellings.{Spelling, KindRules, PairRules, IsPairBeforeBy, graph_pairs, is_prime}
 use Rattle.md_tree.specs.TreeTexts.{pairs_text_by, tree_text_by}
-use Rattle.md_tree.specs.WellFormed.{AreDisjoint, IsCanonicalNodeBy, IsWellFormedBy, NoneOfKind}
+use Rattle.md_tree.specs.WellFormed.{AreDisjoint, IsCanonicalNodeBy, IsWellFormedBelow, NoneOfKind}
 use Rattle.md_tree.specs.Residual.{OpenNode, Due, Follows}
 
 -- the least member of s
@@ -70,16 +70,16 @@ abbrev pub opened : {K P : Type 0} → List (OpenNode K P) → List (Opened K)
 opened [] = []
 opened (o ∷ s) = opened s ++ opened_node o s ∷ []
 
-abbrev pub trees_held : {K P : Type 0} → Held K P → List (PlainTreeOf K P)
+abbrev pub trees_held : {K P : Type 0} {w : ℕ} → Held K P w → List (PlainTreeOf K P)
 trees_held held = map plain held.trees.items
 
 module _ {K P : Type 0} (sp : Spelling K P) where
-  -- the trees are as well-formed trees have them, with their least names and all their names
-  pub record AreKept (ts : List (PlainTreeOf K P)) (ms : List ℕ) (seen : NameSet) : Type 0 where
+  -- the trees are as trees that are well-formed below a limit have them, with their least names and all their names
+  pub record AreKept (limit : ℕ) (ts : List (PlainTreeOf K P)) (ms : List ℕ) (seen : NameSet) : Type 0 where
     pub canonical : EachNodeBelow (IsCanonicalNodeBy sp) (row ts)
     pub apart : AreDisjoint (row ts)
     pub same : (x : ℕ) → Has seen x ↔ Has (names_below (row ts)) x
-    pub below : AllBelow seen NAMES
+    pub below : AllBelow seen limit
     pub least : AreLeast ts ms
 
   -- a tree is due in open nodes whose finished children are the trees
@@ -111,45 +111,45 @@ module _ {K P : Type 0} (sp : Spelling K P) where
   Comes true = IsBehind
   Comes false = IsDue
 
-  -- what is held is kept well
-  abbrev pub IsHeldWell : Held K P → Type 0
-  IsHeldWell held = AreKept (trees_held held) held.least.items held.seen
+  -- what is held is kept well, of names that have a bit in w words
+  abbrev pub IsHeldWell : {w : ℕ} → Held K P w → Type 0
+  IsHeldWell {w} held = AreKept (64 * w) (trees_held held) held.least.items held.seen
 
   -- the bytes before the rest are read, and held
-  pub record HasBuilt (bytes rest : List ℕ) (behind : Bool) (held : Held K P) : Type 0 where
+  pub record HasBuilt {w : ℕ} (bytes rest : List ℕ) (behind : Bool) (held : Held K P w) : Type 0 where
     pub kept : IsHeldWell held
     pub comes : Comes behind bytes rest held.opens.items (trees_held held)
 
   -- the same in a node that is taken off the open ones
-  pub record HasBuiltInside (bytes rest : List ℕ) (inner : Opened K) (held : Held K P) : Type 0 where
+  pub record HasBuiltInside {w : ℕ} (bytes rest : List ℕ) (inner : Opened K) (held : Held K P w) : Type 0 where
     pub kept : IsHeldWell held
     pub comes : IsInside bytes rest inner held.opens.items (trees_held held)
 
-  -- the bytes are no well-formed tree's text
-  abbrev pub AreUseless : List ℕ → Type 0
-  AreUseless bytes = (t : PlainTreeOf K P) → IsWellFormedBy sp (Some t) → bytes ≢ tree_text_by sp t
+  -- the bytes are no text of a tree that is well-formed below the limit
+  abbrev pub AreUseless : ℕ → List ℕ → Type 0
+  AreUseless limit bytes = (t : PlainTreeOf K P) → IsWellFormedBelow sp limit (Some t) → bytes ≢ tree_text_by sp t
 
-  -- the only tree that is held is well-formed, and the bytes are its text
-  pub record IsBuilt (bytes : List ℕ) (ts : List (PlainTreeOf K P)) : Type 0 where
+  -- the only tree that is held is well-formed below the limit, and the bytes are its text
+  pub record IsBuilt (limit : ℕ) (bytes : List ℕ) (ts : List (PlainTreeOf K P)) : Type 0 where
     pub tree : PlainTreeOf K P
     pub only : ts ≡ tree ∷ []
-    pub good : IsWellFormedBy sp (Some tree)
+    pub good : IsWellFormedBelow sp limit (Some tree)
     pub text : bytes ≡ tree_text_by sp tree
 
   -- a tree that ends the text before the rest is read, and held
-  abbrev pub HasReadTree : List ℕ → List ℕ → List ℕ → Held K P → Type 0
+  abbrev pub HasReadTree : {w : ℕ} → List ℕ → List ℕ → List ℕ → Held K P w → Type 0
   HasReadTree bytes text rest held = HasBuilt bytes rest true held × (length rest < length text)
 
   -- the node that is taken off the open ones ends before the rest, and is held; or the bytes are no well-formed tree's text
-  abbrev pub EndsNode : List ℕ → Opened K → Held K P → Option (Bor (List ℕ)) → Held K P → Type 0
-  EndsNode text inner before rest after =
-      (bytes : List ℕ) → HasBuiltInside bytes text inner before → MatchOption rest (AreUseless bytes) (λ tail. HasReadTree bytes text tail.now after)
+  abbrev pub EndsNode : {w : ℕ} → List ℕ → Opened K → Held K P w → Option (Bor (List ℕ)) → Held K P w → Type 0
+  EndsNode {w} text inner before rest after =
+      (bytes : List ℕ) → HasBuiltInside bytes text inner before → MatchOption rest (AreUseless (64 * w) bytes) (λ tail. HasReadTree bytes text tail.now after)
 
   -- what a step makes of what is held
-  abbrev pub IsBuildStep : List ℕ → List ℕ → Step → Held K P → Type 0
+  abbrev pub IsBuildStep : {w : ℕ} → List ℕ → List ℕ → Step → Held K P w → Type 0
   IsBuildStep bytes text (Onward tail) held = HasBuilt bytes tail.now false held × (length tail.now < length text)
-  IsBuildStep bytes text Useless held = AreUseless bytes
-  IsBuildStep bytes text End held = IsBuilt bytes (trees_held held)
+  IsBuildStep {w} bytes text Useless held = AreUseless (64 * w) bytes
+  IsBuildStep {w} bytes text End held = IsBuilt (64 * w) bytes (trees_held held)
 
 -- the byte behind a pair: a comma before another one, and the bracket at the end
 abbrev pub mark_of : Bool → ℕ

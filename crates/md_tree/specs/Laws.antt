@@ -12,7 +12,7 @@ use Rattle.md_modules.specs.InducedPaths.{HasInducedPath}
 use Rattle.md_tree.specs.Trees.{PlainTreeOf, PlainTreesOf, PlainTree, names, names_below, names_at, count}
 use Rattle.md_tree.specs.Heads.{heads, HeadsAlong, AreChildModules, AreStrongChildren}
 use Rattle.md_tree.specs.StrongTrees.{IsTreeOf, IsTree}
-use Rattle.md_tree.specs.WellFormed.{IsCanonicalTree, IsWellFormed, IsWellFormedBy, HasNoPrimeNode}
+use Rattle.md_tree.specs.WellFormed.{IsCanonicalTree, IsWellFormed, IsWellFormedBelow, HasNoPrimeNode}
 use Rattle.md_tree.specs.TreeGraph.{adjacent_in, graph_of_tree}
 use Rattle.md_tree.specs.Spellings.{Spelling, graph_spelling}
 use Rattle.md_tree.specs.TreeTexts.{text_of_by}
@@ -20,7 +20,7 @@ use Rattle.md_tree.specs.declared.TreeOf.{TreeOf}
 use Rattle.md_tree.specs.declared.reader.TreeFault.{TreeFault}
 use Rattle.md_tree.specs.declared.reader.TreeFault.TheVariants.{Memory}
 use Rattle.md_tree.specs.Plain.{plain_option}
-use Rattle.md_tree.specs.Reading.{IsTreeReadingBy}
+use Rattle.md_tree.specs.Reading.{IsTreeReadingBelow}
 
 -- each graph has exactly one tree, none where it has no vertex
 abbrev pub OneTree : Type 0
@@ -79,10 +79,11 @@ OneTreeOneText = OneTreeOneTextBy graph_spelling
 abbrev pub IsReadAs : {K P : Type 0} → Option (PlainTreeOf K P) → Result (Option (TreeOf K P)) TreeFault → Type 0
 IsReadAs {K} {P} o answer = ((r : Option (TreeOf K P)) × (answer ≡ Ok r) × (plain_option r ≡ o)) ⊎ (answer ≡ Err Memory)
 
--- the text of each well-formed tree is read as that tree
-abbrev pub WrittenTreesAreReadBy : {K P : Type 0} → Spelling K P → Type 0
-WrittenTreesAreReadBy {K} {P} sp =
-    (o : Option (PlainTreeOf K P)) → IsWellFormedBy sp o → (answer : Result (Option (TreeOf K P)) TreeFault) → IsTreeReadingBy sp (text_of_by sp o) answer → IsReadAs o answer
+-- the text of each tree that is well-formed below a limit is read as that tree
+abbrev pub WrittenTreesAreReadBelow : {K P : Type 0} → Spelling K P → ℕ → Type 0
+WrittenTreesAreReadBelow {K} {P} sp limit =
+    (o : Option (PlainTreeOf K P)) → IsWellFormedBelow sp limit o → (answer : Result (Option (TreeOf K P)) TreeFault) → IsTreeReadingBelow sp limit (text_of_by sp o) answer → IsReadAs o answer
 
+-- the text of each well-formed tree is read as that tree
 abbrev pub WrittenTreesAreRead : Type 0
-WrittenTreesAreRead = WrittenTreesAreReadBy graph_spelling
+WrittenTreesAreRead = WrittenTreesAreReadBelow graph_spelling NAMES

@@ -1,6 +1,6 @@
 -- Well-formed trees.
 -- Source: Habib and Paul, A survey of the algorithmic aspects of modular decomposition; the order of the children is our own.
-use Rattle.std.specs.Prelude.{◌≡◌, ◌≢◌, ◌≤◌, Bool, true, false, List, [], Contains, AllPairs, ⊤, Option, Some, None}
+use Rattle.std.specs.Prelude.{◌≡◌, ◌≢◌, ◌≤◌, ℕ, Bool, true, false, List, [], Contains, AllPairs, ⊤, Option, Some, None}
 use Rattle.md_graph.specs.Sets.{Disjoint}
 use Rattle.md_graph.specs.declared.TheConstants.{NAMES}
 use Rattle.md_graph.specs.NameSet.{AllBelow}
@@ -60,10 +60,10 @@ module _ {K P : Type 0} (sp : Spelling K P) where
   abbrev pub IsCanonicalTreeBy : PlainTreeOf K P → Type 0
   IsCanonicalTreeBy = EachNode IsCanonicalNodeBy
 
-  -- a tree is well-formed: its names are below the limit, and each node is as well-formed trees have it; so is no tree
-  abbrev pub IsWellFormedBy : Option (PlainTreeOf K P) → Type 0
-  IsWellFormedBy None = ⊤
-  IsWellFormedBy (Some t) = AllBelow (names t) NAMES × IsCanonicalTreeBy t
+  -- a tree is well-formed below a limit: its names are below it, and each node is as well-formed trees have it; so is no tree
+  abbrev pub IsWellFormedBelow : ℕ → Option (PlainTreeOf K P) → Type 0
+  IsWellFormedBelow limit None = ⊤
+  IsWellFormedBelow limit (Some t) = AllBelow (names t) limit × IsCanonicalTreeBy t
 
 -- a parallel or series node has two children or more, none of its own kind, and no pairs
 abbrev pub IsPlainNode : Kind → PlainTrees → List Pair → Type 0
@@ -93,4 +93,4 @@ HaveNoPrimeNode = EachNodeBelow (λ k cs ps. k ≢ Prime)
 
 -- a well-formed tree of a graph, or none
 abbrev pub IsWellFormed : Option PlainTree → Type 0
-IsWellFormed = IsWellFormedBy graph_spelling
+IsWellFormed = IsWellFormedBelow graph_spelling NAMES

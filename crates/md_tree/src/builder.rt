@@ -1,13 +1,14 @@
 //! Builds the tree whose text is read, and gives up where the text is no well-formed tree's. Two
 //! other machines go over the same texts: `grammar` says where a text leaves their grammar, and
 //! md_checker's `text_fit` compares a text with a graph; neither builds anything.
-ghost use Rattle.std.specs.Prelude.{◌≡◌, ◌≢◌, ◌<◌, ◌≤◌, ◌↔◌, ◌⊎◌, ◌+◌, ℕ, List, true, false, [], ◌∷◌, ◌++◌, length, take, drop, vec_len, vec_capacity, map, IfOk, OnOk, MatchOption, IsTrue, Some};
+ghost use Rattle.std.specs.Prelude.{◌≡◌, ◌≢◌, ◌<◌, ◌≤◌, ◌↔◌, ◌⊎◌, ◌+◌, ◌*◌, ℕ, List, true, false, [], ◌∷◌, ◌++◌, length, take, drop, vec_len, vec_capacity, map, IfOk, OnOk, MatchOption, IsTrue, Some};
+ghost use Rattle.md_graph.specs.declared.TheConstants.{WORDS};
 ghost use Rattle.md_tree.specs.declared.TreeOf.{TreeOf};
 ghost use Rattle.md_tree.specs.Plain.{plain};
 ghost use Rattle.md_tree.specs.Trees.{node, row};
 ghost use Rattle.md_tree.specs.Spellings.{spelling};
 ghost use Rattle.md_tree.specs.TreeTexts.{tree_text_by};
-ghost use Rattle.md_tree.specs.WellFormed.{IsWellFormedBy, IsOfKind};
+ghost use Rattle.md_tree.specs.WellFormed.{IsWellFormedBelow, IsOfKind};
 ghost use Rattle.md_text.specs.Fronts.{LacksFirst, IsNumberSplit};
 ghost use Rattle.md_tree.specs.Held.{HasBuilt, HasBuiltInside, HasReadTree, EndsNode, IsBuildStep, AreUseless, Ascends, AscendsIf, IsMinimum, MayHave, HasOthersIf, trees_held};
 
@@ -15,7 +16,7 @@ use crate::grammar::split_letter;
 use crate::growing::append;
 use crate::pair_reader::read_end;
 use crate::{ChildrenOf, Lettered, Paired, PairsOf, TreeOf};
-use md_graph::{Memory, NAMES, Names};
+use md_graph::{Memory, Set};
 use md_text::{skip_byte, small_number};
 use std::alloc::Global;
 use std::mem;
@@ -29,11 +30,11 @@ pub struct Opened<K> {
 
 // The trees that are read, with their least names, the nodes that are open, and all names.
 #[derive(Drop)]
-struct Held<K: Drop, P: Drop> {
+struct Held<K: Drop, P: Drop, const W: usize> {
     trees: Vec<TreeOf<K, P>>,
     least: Vec<u32>,
     opens: Vec<Opened<K>>,
-    seen: Names,
+    seen: Set<W>,
 }
 
 // What a step comes to: what is left, where a tree is due; or the end of the text; or that the text
@@ -45,22 +46,24 @@ enum Step<'a> {
     End,
 }
 
-// The well-formed tree with this text; none if there is no such tree. No call nests as deep as the
-// tree. Errors: out of memory.
-pub(crate) fn tree_of_text<K: Lettered, P: Paired>(
+// The tree with this text that is well-formed below `64 * W`; none if there is no such tree. No
+// call nests as deep as the tree. Condition: `W` is at most `WORDS`. Errors: out of memory.
+pub(crate) fn tree_of_text<K: Lettered, P: Paired, const W: usize>(
     alloc: Global,
     bytes: &[u8],
 ) -> Result<Option<TreeOf<K, P>>, Memory>
-    ensures { IfOk result (λ o. MatchOption o (AreUseless (spelling K.rules P.rules) bytes.now)
-        (λ t. IsWellFormedBy (spelling K.rules P.rules) (Some (plain t))
+    requires { W ≤ WORDS }
+    ensures { IfOk result (λ o.
+        MatchOption o (AreUseless (spelling K.rules P.rules) (64 * W) bytes.now)
+        (λ t. IsWellFormedBelow (spelling K.rules P.rules) (64 * W) (Some (plain t))
         × (bytes.now ≡ tree_text_by (spelling K.rules P.rules) (plain t)))) }
 {
-    let room = (bytes.len() / 4).min(NAMES as usize);
+    let room = (bytes.len() / 4).min(64 * W);
     let mut held = Held {
         trees: Vec::with_capacity(alloc, room)?,
         least: Vec::with_capacity(alloc, room)?,
         opens: Vec::with_capacity(alloc, room)?,
-        seen: Names::none(),
+        seen: Set::<W>::none(),
     };
     let mut rest = bytes;
     loop {
@@ -74,10 +77,10 @@ pub(crate) fn tree_of_text<K: Lettered, P: Paired>(
 
 // Where a tree is due: a name, and the ends of nodes behind it; or the beginning of a node.
 #[inline(always)]
-fn take_step<'a, K: Lettered, P: Paired>(
+fn take_step<'a, K: Lettered, P: Paired, const W: usize>(
     alloc: Global,
     text: &'a [u8],
-    held: &mut Held<K, P>,
+    held: &mut Held<K, P, W>,
 ) -> Result<Step<'a>, Memory>
     requires { (bytes : List ℕ)
         × HasBuilt (spelling K.rules P.rules) bytes text.now false held.old }
@@ -85,6 +88,7 @@ fn take_step<'a, K: Lettered, P: Paired>(
         → HasBuilt (spelling K.rules P.rules) bytes text.now false held.old
         → IsBuildStep (spelling K.rules P.rules) bytes text.now step held.new) }
 {
+    held.seen.within_limit();
     if let Some((name, tail)) = small_number(text) {
         return step_name(alloc, text, name, tail, held);
     }
@@ -96,12 +100,12 @@ fn take_step<'a, K: Lettered, P: Paired>(
 
 // A name, and the ends of nodes behind it.
 #[inline(always)]
-fn step_name<'a, K: Lettered, P: Paired>(
+fn step_name<'a, K: Lettered, P: Paired, const W: usize>(
     alloc: Global,
     text: &'a [u8],
     name: u32,
     tail: &'a [u8],
-    held: &mut Held<K, P>,
+    held: &mut Held<K, P, W>,
 ) -> Result<Step<'a>, Memory>
     requires built { (bytes : List ℕ)
         × HasBuilt (spelling K.rules P.rules) bytes text.now false held.old }
@@ -118,19 +122,20 @@ fn step_name<'a, K: Lettered, P: Paired>(
 
 // Past a name, if it is below the limit and new.
 #[inline(always)]
-fn take_name<'a, K: Lettered, P: Paired>(
+fn take_name<'a, K: Lettered, P: Paired, const W: usize>(
     text: &'a [u8],
     name: u32,
     tail: &'a [u8],
-    held: &mut Held<K, P>,
+    held: &mut Held<K, P, W>,
 ) -> Result<Option<&'a [u8]>, Memory>
     requires { IsNumberSplit text.now name tail.now }
     ensures { IfOk result (λ o. (bytes : List ℕ)
         → HasBuilt (spelling K.rules P.rules) bytes text.now false held.old
-        → MatchOption o (AreUseless (spelling K.rules P.rules) bytes)
+        → MatchOption o (AreUseless (spelling K.rules P.rules) (64 * W) bytes)
         (λ behind. HasReadTree (spelling K.rules P.rules) bytes text.now behind.now held.new)) }
 {
-    if name >= NAMES {
+    held.seen.within_limit();
+    if name as usize >= 64 * W {
         return Ok(None);
     }
     if held.seen.has(name) {
@@ -145,11 +150,11 @@ fn take_name<'a, K: Lettered, P: Paired>(
 // The letter of a node is read. In the text of a well-formed tree fewer nodes are open than there
 // are names.
 #[inline(always)]
-fn begin_node<'a, K: Lettered, P: Paired>(
+fn begin_node<'a, K: Lettered, P: Paired, const W: usize>(
     text: &'a [u8],
     kind: K,
     behind: &'a [u8],
-    held: &mut Held<K, P>,
+    held: &mut Held<K, P, W>,
 ) -> Result<Step<'a>, Memory>
     requires built { (bytes : List ℕ)
         × HasBuilt (spelling K.rules P.rules) bytes text.now false held.old }
@@ -158,7 +163,8 @@ fn begin_node<'a, K: Lettered, P: Paired>(
         → HasBuilt (spelling K.rules P.rules) bytes text.now false held.old
         → IsBuildStep (spelling K.rules P.rules) bytes text.now step held.new) }
 {
-    if held.opens.len() >= NAMES as usize {
+    held.seen.within_limit();
+    if held.opens.len() >= 64 * W {
         return Ok(Step::Useless);
     }
     match skip_byte(behind, b'(') {
@@ -173,10 +179,10 @@ fn begin_node<'a, K: Lettered, P: Paired>(
 
 // Behind a tree: the ends of nodes, as long as they follow; then a comma or the end of the text.
 #[inline(always)]
-fn end_nodes<'a, K: Lettered, P: Paired>(
+fn end_nodes<'a, K: Lettered, P: Paired, const W: usize>(
     alloc: Global,
     text: &'a [u8],
-    held: &mut Held<K, P>,
+    held: &mut Held<K, P, W>,
 ) -> Result<Step<'a>, Memory>
     requires { (bytes : List ℕ)
         × HasBuilt (spelling K.rules P.rules) bytes text.now true held.old }
@@ -204,10 +210,10 @@ fn end_nodes<'a, K: Lettered, P: Paired>(
 
 // A comma, behind which a tree is due.
 #[inline(always)]
-fn step_comma<'a, K: Lettered, P: Paired>(
+fn step_comma<'a, K: Lettered, P: Paired, const W: usize>(
     text: &'a [u8],
     tail: &'a [u8],
-    held: &Held<K, P>,
+    held: &Held<K, P, W>,
 ) -> Step<'a>
     requires { text.now ≡ 44 ∷ tail.now }
     ensures { (bytes : List ℕ)
@@ -222,7 +228,10 @@ fn step_comma<'a, K: Lettered, P: Paired>(
 
 // The end of the text, where no node may be open.
 #[inline(always)]
-fn step_at_end<'a, K: Lettered, P: Paired>(text: &'a [u8], held: &Held<K, P>) -> Step<'a>
+fn step_at_end<'a, K: Lettered, P: Paired, const W: usize>(
+    text: &'a [u8],
+    held: &Held<K, P, W>,
+) -> Step<'a>
     requires { text.now ≡ [] }
     ensures { (bytes : List ℕ)
         → HasBuilt (spelling K.rules P.rules) bytes text.now true held.now
@@ -236,11 +245,11 @@ fn step_at_end<'a, K: Lettered, P: Paired>(text: &'a [u8], held: &Held<K, P>) ->
 
 // The end of a node: its children have to be such as its kind asks, and in order.
 #[inline(always)]
-fn end_node<'a, K: Lettered, P: Paired>(
+fn end_node<'a, K: Lettered, P: Paired, const W: usize>(
     alloc: Global,
     text: &'a [u8],
     inner: Opened<K>,
-    held: &mut Held<K, P>,
+    held: &mut Held<K, P, W>,
 ) -> Result<Option<&'a [u8]>, Memory>
     requires inside { (bytes : List ℕ)
         × HasBuiltInside (spelling K.rules P.rules) bytes text.now inner held.old }
@@ -248,6 +257,7 @@ fn end_node<'a, K: Lettered, P: Paired>(
     ensures { IfOk result (λ o.
         EndsNode (spelling K.rules P.rules) text.now inner held.old o held.new) }
 {
+    held.seen.within_limit();
     let first = inner.first as usize;
     if !may_have(inner.kind, &held.trees[first..], &held.least[first..]) {
         return Ok(None);
@@ -263,11 +273,11 @@ fn end_node<'a, K: Lettered, P: Paired>(
 
 // A node of the trees that are taken off takes their place.
 #[inline(always)]
-fn close<K: Lettered, P: Paired>(
+fn close<K: Lettered, P: Paired, const W: usize>(
     inner: Opened<K>,
     list: Vec<TreeOf<K, P>>,
     pairs: Vec<P>,
-    held: &mut Held<K, P>,
+    held: &mut Held<K, P, W>,
 ) -> Result<(), Memory>
     requires first { inner.first ≤ vec_len held.old.trees }
     requires some { inner.first < length held.old.least.items }

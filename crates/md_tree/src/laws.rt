@@ -1,7 +1,8 @@
 //! The laws of trees, each the contract of a function that does nothing. They speak of any set of
 //! names with a test of adjacency, and stand on no call that computes a tree.
 
-ghost use Rattle.md_tree.specs.Laws.{OneTree, TreeIsCanonical, TreeIsWellFormed, TreeTellsGraph, GraphOfTheTree, NoInducedPathIfNoPrimeNode, HeadsTellNodes, OneTreeOneText, OneTreeOneTextBy, WrittenTreesAreRead, WrittenTreesAreReadBy};
+ghost use Rattle.std.specs.Prelude.{ℕ};
+ghost use Rattle.md_tree.specs.Laws.{OneTree, TreeIsCanonical, TreeIsWellFormed, TreeTellsGraph, GraphOfTheTree, NoInducedPathIfNoPrimeNode, HeadsTellNodes, OneTreeOneText, OneTreeOneTextBy, WrittenTreesAreRead, WrittenTreesAreReadBelow};
 ghost use Rattle.md_tree.specs.Spellings.{spelling};
 
 use crate::{Lettered, Paired};
@@ -60,7 +61,8 @@ pub fn one_spelled_tree_one_text<K: Lettered, P: Paired>()
     ensures law { OneTreeOneTextBy (spelling K.rules P.rules) }
 {}
 
-/// The text of such a tree, if it is well-formed, is read as that tree, if memory suffices.
+/// The text of such a tree, if it is well-formed below a limit, is read as that tree, if memory
+/// suffices.
 pub fn spelled_trees_are_read<K: Lettered, P: Paired>()
-    ensures law { WrittenTreesAreReadBy (spelling K.rules P.rules) }
+    ensures law { (limit : ℕ) → WrittenTreesAreReadBelow (spelling K.rules P.rules) limit }
 {}

@@ -3,10 +3,10 @@ ghost use Rattle.std.specs.Prelude.{◌≡◌, ◌+◌, ◌-◌, ◌*◌, ◌^�
 ghost use Rattle.md_text.specs.Numbers.{decimal};
 ghost use Rattle.md_text.specs.Pieces.{piece_text};
 ghost use Rattle.md_text.specs.Fronts.{BeginsWith};
-ghost use Rattle.md_tree.specs.Positions.{ArePositions, AreSeconds};
-ghost use Rattle.md_tree.specs.TreeTexts.{pairs_text};
+ghost use Rattle.md_tree.specs.Positions.{ArePositions, AreSeconds, IsStart};
+ghost use Rattle.md_tree.specs.TreeTexts.{pairs_text_by};
 
-use crate::{Pair, QuotientEdges};
+use crate::{Paired, PairsOf};
 use md_graph::Memory;
 use md_text::{CHUNK_SIZE, Chunk, Piece, digits_piece, number_piece, piece_behind, push_number};
 use std::alloc::Global;
@@ -38,34 +38,33 @@ impl Workspace {
     }
 }
 
-// What stands before the second position of a pair: a comma, the first position in digits, and a
-// hyphen.
+// What stands before the second position of a pair: a comma, the first position in digits, and the
+// mark of pairs.
 #[derive(Clone, Copy)]
-struct Start {
-    low: u32,
-    piece: Piece,
-    ghost spelled: { piece_text piece ≡ 44 ∷ (decimal low ++ 45 ∷ []) },
+pub(crate) struct Start {
+    pub(crate) first: u32,
+    pub(crate) piece: Piece,
 }
 
 // The semicolon and the pairs, where there are some, of a node with `count` children.
-pub(crate) fn push_edges(
+pub(crate) fn push_pairs<P: Paired>(
     text: &mut Vec<u8>,
-    edges: &QuotientEdges,
+    pairs: &PairsOf<P>,
     count: usize,
     space: &mut Workspace,
 ) -> Result<(), Memory>
     ensures written { OnOk result (text.new.items
-        ≡ text.old.items ++ pairs_text 59 edges.now.list.items) }
+        ≡ text.old.items ++ pairs_text_by P.rules 59 pairs.now.list.items) }
     ensures begun { OnErr result (BeginsWith text.new.items text.old.items) }
 {
-    if edges.list.is_empty() {
+    if pairs.list.is_empty() {
         return Ok(());
     }
     spell_positions(&mut space.positions, count)?;
     let room = pair_room(&space.positions, count);
-    text.reserve(edges.list.len().saturating_mul(room))?;
-    push_pair(text, b';', edges.list[0])?;
-    push_more(text, &edges.list[1..], &space.positions, &mut space.chunk)
+    text.reserve(pairs.list.len().saturating_mul(room))?;
+    push_pair(text, b';', pairs.list[0])?;
+    push_more(text, &pairs.list[1..], &space.positions, &mut space.chunk)
 }
 
 // How many bytes a pair of positions below `count` has at most, with the mark before it.
@@ -92,18 +91,19 @@ fn spell_positions(positions: &mut Vec<Piece>, count: usize) -> Result<(), Memor
 }
 
 // The pairs behind the first.
-fn push_more(
+fn push_more<P: Paired>(
     text: &mut Vec<u8>,
-    pairs: &[Pair],
+    pairs: &[P],
     positions: &[Piece],
     chunk: &mut Chunk,
 ) -> Result<(), Memory>
     requires { ArePositions positions.now }
-    ensures written { OnOk result (text.new.items ≡ text.old.items ++ pairs_text 44 pairs.now) }
+    ensures written { OnOk result (text.new.items
+        ≡ text.old.items ++ pairs_text_by P.rules 44 pairs.now) }
     ensures begun { OnErr result (BeginsWith text.new.items text.old.items) }
 {
     chunk.clear();
-    let mut start = start_at(0);
+    let mut start = start_at::<P>(0);
     let mut place = 0;
     while place < pairs.len() {
         put_pair(text, pairs[place], positions, &mut start, chunk)?;
@@ -116,19 +116,20 @@ fn push_more(
 // Gathers pairs, from the one at `from` on, as long as they have the position of the start and
 // there is room. Says where the others begin.
 #[inline(never)]
-fn put_run(
-    pairs: &[Pair],
+fn put_run<P: Paired>(
+    pairs: &[P],
     from: usize,
     positions: &[Piece],
     start: Start,
     chunk: &mut Chunk,
 ) -> usize
     requires positions { ArePositions positions.now }
+    requires start { IsStart P.rules start }
     requires from { from ≤ length pairs.now }
     ensures behind { from ≤ result }
     ensures place { result ≤ length pairs.now }
-    ensures written { chunk.new ++ pairs_text 44 (drop result pairs.now)
-        ≡ chunk.old ++ pairs_text 44 (drop from pairs.now) }
+    ensures written { chunk.new ++ pairs_text_by P.rules 44 (drop result pairs.now)
+        ≡ chunk.old ++ pairs_text_by P.rules 44 (drop from pairs.now) }
 {
     let end = from + (pairs.len() - from).min(chunk.room() / PAIR_ROOM);
     let place = put_fours(pairs, from, end, positions, start, chunk);
@@ -138,8 +139,8 @@ fn put_run(
 // Gathers four pairs at a time, as long as four of those before `end` have the position of the
 // start. Says where the others begin.
 #[inline(always)]
-fn put_fours(
-    pairs: &[Pair],
+fn put_fours<P: Paired>(
+    pairs: &[P],
     from: usize,
     end: usize,
     positions: &[Piece],
@@ -147,14 +148,15 @@ fn put_fours(
     chunk: &mut Chunk,
 ) -> usize
     requires positions { ArePositions positions.now }
+    requires start { IsStart P.rules start }
     requires from { from ≤ end }
     requires end { end ≤ length pairs.now }
     requires room { length chunk.old + PAIR_ROOM * (end - from) ≤ CHUNK_SIZE }
     ensures behind { from ≤ result }
     ensures place { result ≤ end }
     ensures room { length chunk.new + PAIR_ROOM * (end - result) ≤ CHUNK_SIZE }
-    ensures written { chunk.new ++ pairs_text 44 (drop result pairs.now)
-        ≡ chunk.old ++ pairs_text 44 (drop from pairs.now) }
+    ensures written { chunk.new ++ pairs_text_by P.rules 44 (drop result pairs.now)
+        ≡ chunk.old ++ pairs_text_by P.rules 44 (drop from pairs.now) }
 {
     let mut place = from;
     while end - place >= 4 {
@@ -170,10 +172,16 @@ fn put_fours(
 // The second positions of the four pairs from `place` on, if the first ones are that of the start
 // and there is a piece for each.
 #[inline(always)]
-fn four_seconds(pairs: &[Pair], place: usize, positions: &[Piece], start: Start) -> Option<[u32; 4]>
+fn four_seconds<P: Paired>(
+    pairs: &[P],
+    place: usize,
+    positions: &[Piece],
+    start: Start,
+) -> Option<[u32; 4]>
     requires positions { ArePositions positions.now }
+    requires start { IsStart P.rules start }
     requires place { place + 4 ≤ length pairs.now }
-    ensures { IfSome result (λ seconds. AreSeconds positions.now start.piece seconds
+    ensures { IfSome result (λ seconds. AreSeconds P.rules positions.now start.piece seconds
         (drop place pairs.now) (drop (place + 4) pairs.now)) }
 {
     let first = second_of(pairs[place], positions, start)?;
@@ -185,21 +193,21 @@ fn four_seconds(pairs: &[Pair], place: usize, positions: &[Piece], start: Start)
 
 // The second position of a pair, if the first one is that of the start and there is a piece for it.
 #[inline(always)]
-fn second_of(pair: Pair, positions: &[Piece], start: Start) -> Option<u32>
-    ensures { IfSome result (λ second. (pair.low ≡ start.low) × (second ≡ pair.high)
-        × (second < length positions.now)) }
+fn second_of<P: Paired>(pair: P, positions: &[Piece], start: Start) -> Option<u32>
+    ensures { IfSome result (λ second. (P.rules.first pair ≡ start.first)
+        × (second ≡ P.rules.second pair) × (second < length positions.now)) }
 {
-    if pair.low != start.low || pair.high as usize >= positions.len() {
+    if pair.first() != start.first || pair.second() as usize >= positions.len() {
         return None;
     }
-    Some(pair.high)
+    Some(pair.second())
 }
 
 // Gathers pairs before `end` one by one, as long as they have the position of the start. Says where
 // the others begin.
 #[inline(always)]
-fn put_others(
-    pairs: &[Pair],
+fn put_others<P: Paired>(
+    pairs: &[P],
     from: usize,
     end: usize,
     positions: &[Piece],
@@ -207,13 +215,14 @@ fn put_others(
     chunk: &mut Chunk,
 ) -> usize
     requires positions { ArePositions positions.now }
+    requires start { IsStart P.rules start }
     requires from { from ≤ end }
     requires end { end ≤ length pairs.now }
     requires room { length chunk.old + PAIR_ROOM * (end - from) ≤ CHUNK_SIZE }
     ensures behind { from ≤ result }
     ensures place { result ≤ length pairs.now }
-    ensures written { chunk.new ++ pairs_text 44 (drop result pairs.now)
-        ≡ chunk.old ++ pairs_text 44 (drop from pairs.now) }
+    ensures written { chunk.new ++ pairs_text_by P.rules 44 (drop result pairs.now)
+        ≡ chunk.old ++ pairs_text_by P.rules 44 (drop from pairs.now) }
 {
     for place in from..end {
         let Some(second) = second_of(pairs[place], positions, start) else {
@@ -225,78 +234,70 @@ fn put_others(
 }
 
 // Gathers a pair; a chunk that is more than half full goes to the text first. The text only grows.
-fn put_pair(
+fn put_pair<P: Paired>(
     text: &mut Vec<u8>,
-    pair: Pair,
+    pair: P,
     positions: &[Piece],
     start: &mut Start,
     chunk: &mut Chunk,
 ) -> Result<(), Memory>
-    requires { ArePositions positions.now }
+    requires positions { ArePositions positions.now }
+    requires start { IsStart P.rules start.old }
     ensures written { OnOk result (text.new.items ++ chunk.new
-        ≡ (text.old.items ++ chunk.old) ++ 44 ∷ (decimal pair.low ++ 45 ∷ decimal pair.high)) }
+        ≡ (text.old.items ++ chunk.old) ++ 44 ∷ (decimal (P.rules.first pair)
+        ++ P.rules.between ∷ decimal (P.rules.second pair))) }
     ensures begun { BeginsWith text.new.items text.old.items }
+    ensures start { IsStart P.rules start.new }
 {
-    if pair.high as usize >= positions.len() || !move_to(start, pair.low) {
+    let (first, second) = (pair.first(), pair.second());
+    if second as usize >= positions.len() || !move_to::<P>(start, first) {
         chunk.flush(text)?;
         return push_pair(text, b',', pair);
     }
     if chunk.room() < CHUNK_SIZE / 2 {
         chunk.flush(text)?;
     }
-    chunk.put_both(start.piece, positions[pair.high as usize]);
+    chunk.put_both(start.piece, positions[second as usize]);
     Ok(())
 }
 
 // Gives the start another position, if it has at most five digits; says whether the start then has
 // it.
-fn move_to(start: &mut Start, low: u32) -> bool
-    ensures { IsTrue result → start.new.low ≡ low }
+fn move_to<P: Paired>(start: &mut Start, first: u32) -> bool
+    requires { IsStart P.rules start.old }
+    ensures moved { IsTrue result → start.new.first ≡ first }
+    ensures start { IsStart P.rules start.new }
 {
-    if start.low == low {
+    if start.first == first {
         return true;
     }
-    if low as usize >= MOST_POSITIONS {
+    if first as usize >= MOST_POSITIONS {
         return false;
     }
-    *start = start_at(low);
+    *start = start_at::<P>(first);
     true
 }
 
-fn start_at(low: u32) -> Start
-    requires { low < 10 ^ 5 }
-    ensures { result.low ≡ low }
+fn start_at<P: Paired>(first: u32) -> Start
+    requires { first < 10 ^ 5 }
+    ensures first { result.first ≡ first }
+    ensures start { IsStart P.rules result }
 {
     Start {
-        low,
-        piece: piece_behind(b',', number_piece(low, b'-')),
+        first,
+        piece: piece_behind(b',', number_piece(first, P::between())),
     }
 }
 
-fn push_pair(text: &mut Vec<u8>, mark: u8, pair: Pair) -> Result<(), Memory>
-    ensures written { OnOk result (text.new.items
-        ≡ text.old.items ++ mark ∷ (decimal pair.low ++ 45 ∷ decimal pair.high)) }
-    ensures begun { OnErr result (BeginsWith text.new.items text.old.items) }
-{
-    push_positions(text, mark, pair.low, b'-', pair.high)
-}
-
-// Two positions with a mark between them, behind another mark.
-#[inline(always)]
-pub(crate) fn push_positions(
-    text: &mut Vec<u8>,
-    mark: u8,
-    first: u32,
-    between: u8,
-    second: u32,
-) -> Result<(), Memory>
-    ensures written { OnOk result (text.new.items
-        ≡ text.old.items ++ mark ∷ (decimal first ++ between ∷ decimal second)) }
+// A pair behind a mark.
+fn push_pair<P: Paired>(text: &mut Vec<u8>, mark: u8, pair: P) -> Result<(), Memory>
+    ensures written { OnOk result (text.new.items ≡ text.old.items ++ mark
+        ∷ (decimal (P.rules.first pair) ++ P.rules.between ∷ decimal (P.rules.second pair))) }
     ensures begun { OnErr result (BeginsWith text.new.items text.old.items) }
 {
     text.push(mark)?;
-    push_number(text, u64::from(first))?;
-    text.push(between)?;
-    push_number(text, u64::from(second))?;
+    push_number(text, u64::from(pair.first()))?;
+    text.push(P::between())?;
+    push_number(text, u64::from(pair.second()))?;
     Ok(())
 }

@@ -1,14 +1,15 @@
 //! Reads the text of a tree.
-ghost use Rattle.std.specs.Prelude.{◌≡◌, ◌≢◌, codes};
+ghost use Rattle.std.specs.Prelude.{◌≡◌, ◌≢◌, ◌≤◌, ◌*◌, codes};
+ghost use Rattle.md_graph.specs.declared.TheConstants.{WORDS};
 ghost use Rattle.md_tree.specs.declared.reader.TreeFault.TheVariants.{Memory as NoMemory};
 ghost use Rattle.md_tree.specs.Spellings.{spelling};
 ghost use Rattle.md_tree.specs.Held.{AreUseless};
-ghost use Rattle.md_tree.specs.Reading.{IsTreeReading, IsTreeReadingBy};
+ghost use Rattle.md_tree.specs.Reading.{IsTreeReading, IsTreeReadingBelow};
 
 use crate::builder::tree_of_text;
 use crate::grammar::leaves_grammar_at;
-use crate::{Lettered, Paired, Tree, TreeOf};
-use md_graph::Memory;
+use crate::{Kind, Lettered, Pair, Paired, Tree, TreeOf};
+use md_graph::{Memory, WORDS};
 use std::alloc::Global;
 use thiserror::Error;
 
@@ -44,35 +45,37 @@ impl From<Memory> for TreeFault {
 pub fn read_tree(alloc: Global, bytes: &[u8]) -> Result<Option<Tree>, TreeFault>
     ensures reading { IsTreeReading bytes.now result }
 {
-    read_tree_of(alloc, bytes)
+    read_tree_of::<Kind, Pair, WORDS>(alloc, bytes)
 }
 
-/// The same of trees over any kinds and pairs that are spelled.
-pub fn read_tree_of<K: Lettered, P: Paired>(
+/// The same of trees over any kinds and pairs that are spelled, and of names below `64 * W`.
+/// Condition: `W` is at most `WORDS`.
+pub fn read_tree_of<K: Lettered, P: Paired, const W: usize>(
     alloc: Global,
     bytes: &[u8],
 ) -> Result<Option<TreeOf<K, P>>, TreeFault>
-    ensures reading { IsTreeReadingBy (spelling K.rules P.rules) bytes.now result }
+    requires { W ≤ WORDS }
+    ensures reading { IsTreeReadingBelow (spelling K.rules P.rules) (64 * W) bytes.now result }
 {
     if bytes == b"empty".as_slice() {
         return Ok(None);
     }
-    if let Some(tree) = tree_of_text(alloc, bytes)? {
+    if let Some(tree) = tree_of_text::<K, P, W>(alloc, bytes)? {
         return Ok(Some(tree));
     }
-    refuse(alloc, bytes)
+    refuse::<K, P, W>(alloc, bytes)
 }
 
 // Why bytes are not read that are no well-formed tree's text. Not inlined, so that the loop over a
 // tree's text stays small.
 #[inline(never)]
-fn refuse<K: Lettered, P: Paired>(
+fn refuse<K: Lettered, P: Paired, const W: usize>(
     alloc: Global,
     bytes: &[u8],
 ) -> Result<Option<TreeOf<K, P>>, TreeFault>
-    requires tree { AreUseless (spelling K.rules P.rules) bytes.now }
+    requires tree { AreUseless (spelling K.rules P.rules) (64 * W) bytes.now }
     requires word { bytes.now ≢ codes "empty" }
-    ensures { IsTreeReadingBy (spelling K.rules P.rules) bytes.now result }
+    ensures { IsTreeReadingBelow (spelling K.rules P.rules) (64 * W) bytes.now result }
 {
     match leaves_grammar_at::<K, P>(alloc, bytes)? {
         Some(place) => Err(TreeFault::Syntax { place }),

@@ -1,14 +1,10 @@
 //! How trees are spelled, and what their nodes may be: the kinds and the pairs of trees.
-ghost use Rattle.std.specs.Prelude.{◌≡◌, ◌≢◌, ◌↔◌, ◌++◌, IsTrue, MatchOption, OnOk, OnErr};
-ghost use Rattle.md_text.specs.Fronts.{BeginsWith};
+ghost use Rattle.std.specs.Prelude.{◌≡◌, ◌≢◌, ◌↔◌, IsTrue, MatchOption};
 ghost use Rattle.md_tree.specs.Spellings.{KindRules, PairRules, AreKindRules, ArePairRules, graph_kinds, graph_pairs};
-ghost use Rattle.md_tree.specs.TreeTexts.{pairs_text_by};
 ghost use Rattle.md_tree.specs.Held.{MayFollow};
 
 use crate::pair_order::is_listed_behind;
-use crate::pair_writer::{Workspace, push_edges, push_positions};
-use crate::{Kind, Pair, PairsOf};
-use md_graph::Memory;
+use crate::{Kind, Pair};
 
 /// The kinds of the nodes of trees: their letters, and the rules of their nodes.
 pub trait Lettered: Copy + Drop {
@@ -122,26 +118,6 @@ pub trait Paired: Copy + Drop {
     fn may_follow(self, last: Self, count: usize) -> bool
         ensures { IsTrue result ↔ MayFollow rules count last self };
 
-    /// Appends the semicolon and the pairs, where there are some, of a node with so many children.
-    /// Errors: out of memory.
-    fn push_pairs(
-        text: &mut Vec<u8>,
-        pairs: &PairsOf<Self>,
-        _count: usize,
-        _space: &mut Workspace,
-    ) -> Result<(), Memory>
-        ensures written { OnOk result (text.new.items
-            ≡ text.old.items ++ pairs_text_by rules 59 pairs.now.list.items) }
-        ensures begun { OnErr result (BeginsWith text.new.items text.old.items) }
-    {
-        let mut mark = b';';
-        for pair in &pairs.list {
-            push_positions(text, mark, pair.first(), Self::between(), pair.second())?;
-            mark = b',';
-        }
-        Ok(())
-    }
-
     ghost laws: { ArePairRules rules };
 }
 
@@ -178,14 +154,5 @@ impl Paired for Pair {
     #[inline(always)]
     fn may_follow(self, last: Pair, count: usize) -> bool {
         is_listed_behind(last, self, count)
-    }
-
-    fn push_pairs(
-        text: &mut Vec<u8>,
-        pairs: &PairsOf<Pair>,
-        count: usize,
-        space: &mut Workspace,
-    ) -> Result<(), Memory> {
-        push_edges(text, pairs, count, space)
     }
 }

@@ -6,7 +6,7 @@ ghost use Rattle.md_tree.specs.OpenNodes.{open_text, rest_text};
 ghost use Rattle.md_tree.specs.Spellings.{spelling};
 ghost use Rattle.md_tree.specs.TreeTexts.{tree_text_by, text_of, text_of_by};
 
-use crate::pair_writer::Workspace;
+use crate::pair_writer::{Workspace, push_pairs};
 use crate::{Lettered, Paired, PairsOf, Tree, TreeOf};
 use md_graph::Memory;
 use md_text::push_number;
@@ -183,7 +183,7 @@ fn push_end<K: Lettered, P: Paired>(
     ensures begun { BeginsWith text.new.items text.old.items }
     ensures longer { OnOk result (length text.old.items < length text.new.items) }
 {
-    P::push_pairs(text, node.pairs, node.count, space)?;
+    push_pairs(text, node.pairs, node.count, space)?;
     text.push(b')')?;
     Ok(())
 }

@@ -1,13 +1,14 @@
-use Rattle.md_graph.proofs.SetLemmas.{clash}
-use Rattle.md_dtree.proofs.DirectedReading.{read_within, read_beyond}
+use Rattle.std.proofs.Common.{◌≡◌, ◌*◌, ℕ, refl, subst}
+use Rattle.md_digraph.specs.declared.TheConstants.{DIRECTED_NAMES, DIRECTED_WORDS}
+use Rattle.md_tree.specs.Reading.{IsTreeReadingBelow}
+use Rattle.md_dtree.specs.DirectedSpelling.{directed_spelling}
 use Rattle.md_dtree.proofs.texts.read_directed.Goals as goal
 
-pub returns-then-within : goal.returns-then-within
-returns-then-within c = record {
-  reading = read_within _ c.in_ok-tree.tree c.in_ok-tree.ensures.reading (c.in_ok-within.ensures.0 c.if-within.true);
-}
+-- the rows of the largest directed graphs have one bit a name
+bits : 64 * DIRECTED_WORDS ≡ DIRECTED_NAMES
+bits = refl
 
-pub returns-else-within : goal.returns-else-within
-returns-else-within c = record {
-  reading = read_beyond _ c.in_ok-tree.tree c.in_ok-tree.ensures.reading (λ below. clash (c.in_ok-within.ensures.1 below) c.if-within.false);
+pub returns : goal.returns
+returns c = record {
+  reading = subst (λ (limit : ℕ). IsTreeReadingBelow directed_spelling limit c.args.bytes.now c.read_tree_of.result) bits c.read_tree_of.ensures.reading;
 }

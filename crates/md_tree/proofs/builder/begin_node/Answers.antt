@@ -1,11 +1,10 @@
-use Rattle.std.proofs.Common.{◌≡◌, ◌<◌, ◌≤◌, ◌^◌, [], ◌∷◌, ◌++◌, length, map, sym, ◌∙◌, ap, subst, arith}
+use Rattle.std.proofs.Common.{◌≡◌, ◌<◌, ◌≤◌, ◌*◌, ◌^◌, [], ◌∷◌, ◌++◌, length, map, sym, ◌∙◌, ap, subst, arith}
 use Rattle.std.proofs.Math.Facts.{Fits-of_lt}
 use Rattle.std.proofs.lemmas.List.{length-map}
 use Rattle.std.specs.Int.{w32}
 use Rattle.md_tree.specs.Plain.{plain}
 use Rattle.md_tree.specs.Held.{IsDue}
-use Rattle.md_graph.specs.declared.TheConstants.{NAMES}
-use Rattle.md_graph.proofs.Limits.{NAMES-lt}
+use Rattle.md_graph.proofs.Limits.{NAMES-lt, words_few}
 use Rattle.md_tree.specs.Spellings.{spelling}
 use Rattle.md_tree.proofs.Spelled.{is_spelling}
 use Rattle.md_tree.proofs.Coming.{due_node, few_held, useless_deep, useless_letter}
@@ -22,10 +21,10 @@ pub overflow_cast-first : goal.overflow_cast-first
 overflow_cast-first g c =
     let law = is_spelling g.met.K.Lettered.laws g.met.P.Paired.laws in
     let held = c.args.held.now in
-    let few : length (map plain held.trees.items) ≤ NAMES = few_held law _ _ _ c.requires.built.1.kept in
+    let few : length (map plain held.trees.items) ≤ 64 * g.row.W = few_held law _ _ _ c.requires.built.1.kept in
     let all : length (map plain held.trees.items) ≡ length held.trees.items = length-map held.trees.items plain in
     let count : c.len-first.result ≡ length held.trees.items = c.len-first.ensures ∙ held.trees.ok.0 in
-    let limit = NAMES-lt in
+    let names = words_few g.row.W c.within_limit.ensures.limit in let all_names = NAMES-lt in
     let fits : c.len-first.result < 2 ^ 32 = omega arith in
     Fits-of_lt {w = w32} fits
 

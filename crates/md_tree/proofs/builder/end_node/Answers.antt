@@ -1,7 +1,7 @@
-use Rattle.std.proofs.Common.{◌≡◌, ◌≤◌, ◌<◌, ◌-◌, length, map, drop, sym, ◌∙◌, ap, subst, arith}
-use Rattle.std.proofs.lemmas.List.{length-map, length-drop, drop-map}
-use Rattle.std.specs.Prelude.{IsTrue}
-use Rattle.md_graph.specs.declared.TheConstants.{NAMES}
+use Rattle.std.proofs.Common.{◌≡◌, ◌≤◌, ◌<◌, ◌*◌, ◌-◌, length, map, drop, sym, ◌∙◌, ap, subst, rules, arith}
+use Rattle.std.proofs.lemmas.List.{length-map, length-drop, length-take-le, drop-map}
+use Rattle.std.specs.Prelude.{IsTrue, vec_len}
+use Rattle.md_graph.proofs.Limits.{words_few}
 use Rattle.md_tree.specs.Plain.{plain}
 use Rattle.md_tree.specs.Trees.{row}
 use Rattle.md_tree.specs.Held.{MayHave, AscendsIf, IsEnd, LacksEnd}
@@ -54,7 +54,8 @@ pub read_end-requires : goal.read_end-requires
 read_end-requires g c =
     let law = is_spelling g.met.K.Lettered.laws g.met.P.Paired.laws in
     let held = c.args.held.now in
-    let few : length (map plain held.trees.items) ≤ NAMES = few_held law _ _ _ c.requires.inside.1.kept in
+    let few : length (map plain held.trees.items) ≤ 64 * g.row.W = few_held law _ _ _ c.requires.inside.1.kept in
+    let names = words_few g.row.W c.within_limit.ensures.limit in
     let all : length (map plain held.trees.items) ≡ length held.trees.items = length-map held.trees.items plain in
     let count : c.len.result ≡ length held.trees.items - c.args.inner.first =
     c.len.ensures ∙ c.in_ok-list.list.ok.0 ∙ ap length c.in_ok-list.ensures.tail ∙ length-drop c.args.inner.first held.trees.items in
@@ -90,16 +91,18 @@ returns-in_default g c bytes h =
     useless_end law bytes c.args.text.now inner held.opens.items ts h.comes c.requires.no_comma (subst (λ b. LacksEnd g.P.Paired.rules b (length (drop inner.first ts)) c.args.text.now) c.lists.ensures
     (subst (λ n. LacksEnd g.P.Paired.rules c.lists.result n c.args.text.now) size q))
 
-pub close-requires-clause-some : goal.close-requires-clause-some
-close-requires-clause-some g c =
+pub close-requires : goal.close-requires
+close-requires g c =
+    let held = c.args.held.now in let inner = c.args.inner in
     let h = c.requires.inside.1 in
     let a = inside_first (is_spelling g.met.K.Lettered.laws g.met.P.Paired.laws) _ _ c.args.inner _ _ h.comes in
     let b = least_length _ _ h.kept.least in
-    omega arith
-
-pub close-requires-clause-ascends : goal.close-requires-clause-ascends
-close-requires-clause-ascends g c =
-    let held = c.args.held.now in let inner = c.args.inner in
+    let some : inner.first < length held.least.items = omega arith in
+    let all : length (map plain held.trees.items) ≡ length held.trees.items = length-map held.trees.items plain in
+    let left : length c.take_from.new.trees.items ≡ inner.first = ap length c.in_ok-list.ensures.items ∙ length-take-le inner.first held.trees.items (omega arith) in
+    let count = c.take_from.new.trees.ok.0 in
+    let first : inner.first ≤ vec_len c.take_from.new.trees = omega arith in
     let f = items_from c.deref-2.result.now held.least.items inner.first c.deref-2.ensures.value in
     let yes : IsTrue c.may_have.result = (let y = c.if-not-may_have.false in grind arith) in
-    subst (AscendsIf (g.K.Lettered.rules.sorts inner.kind)) f (c.may_have.ensures.0 yes).1
+    let up = subst (AscendsIf (g.K.Lettered.rules.sorts inner.kind)) f (c.may_have.ensures.0 yes).1 in
+    (search rules, (first, (some, up)))

@@ -1,4 +1,4 @@
-use Rattle.std.proofs.Common.{List, ℕ, true, refl, sym, ◌∙◌, arith}
+use Rattle.std.proofs.Common.{List, ℕ, true, refl, sym, ◌∙◌, rules, arith}
 use Rattle.std.proofs.lemmas.List.{nil_from_length}
 use Rattle.md_tree.specs.Held.{HasBuilt}
 use Rattle.md_tree.specs.Spellings.{spelling}
@@ -28,11 +28,11 @@ returns-in_default-pop g c bytes h =
     let held = c.loop-first.held in
     useless_over law bytes c.loop-first.rest.now held.opens.items _ (i.each bytes h).comes (nil_from_length _ (sym held.opens.ok.0 ∙ c.in_default-pop.ensures.cases.0)) (c.in-Some.ensures.variant.0 refl)
 
-pub end_node-requires-clause-inside : goal.end_node-requires-clause-inside
-end_node-requires-clause-inside g c =
+pub end_node-requires : goal.end_node-requires
+end_node-requires g c =
     let law = is_spelling g.met.K.Lettered.laws g.met.P.Paired.laws in
     let s = c.loop-first.invariant.some in
-    (s.0, record { kept = s.1.kept; comes = behind_inside law s.0 _ _ _ c.in-Some-pop.inner _ s.1.comes c.in-Some-pop.ensures.items })
+    (search rules, ((s.0, record { kept = s.1.kept; comes = behind_inside law s.0 _ _ _ c.in-Some-pop.inner _ s.1.comes c.in-Some-pop.ensures.items }), search rules))
 
 pub returns-in_default-2 : goal.returns-in_default-2
 returns-in_default-2 g c bytes h =

@@ -1,4 +1,4 @@
-use Rattle.std.proofs.Common.{arith}
+use Rattle.std.proofs.Common.{rules, arith}
 use Rattle.std.proofs.lemmas.Result.{IfOk-weaker}
 use Rattle.md_tree.proofs.Spelled.{is_spelling}
 use Rattle.md_tree.proofs.Coming.{step_from}
@@ -7,7 +7,7 @@ use Rattle.md_tree.proofs.builder.step_name.Goals as goal
 pub end_nodes-requires : goal.end_nodes-requires
 end_nodes-requires g c =
     let is = c.in-Some.is in let p = c.in_ok-behind.ensures c.requires.built.0 c.requires.built.1 in let q = rw is at p in
-    (c.requires.built.0, q.0)
+    (search rules, (c.requires.built.0, q.0))
 
 pub returns-in-Some : goal.returns-in-Some
 returns-in-Some g c =

@@ -1,7 +1,7 @@
-use Rattle.std.proofs.Common.{◌≡◌, [], Some, sym, ◌∙◌, ap, subst, map}
+use Rattle.std.proofs.Common.{◌≡◌, ◌*◌, [], Some, sym, ◌∙◌, ap, subst, map}
 use Rattle.md_tree.specs.Plain.{plain}
 use Rattle.md_tree.specs.TreeTexts.{tree_text_by}
-use Rattle.md_tree.specs.WellFormed.{IsWellFormedBy}
+use Rattle.md_tree.specs.WellFormed.{IsWellFormedBelow}
 use Rattle.md_tree.specs.Held.{AreKept, IsDue}
 use Rattle.md_tree.specs.Spellings.{spelling}
 use Rattle.md_tree.proofs.Spelled.{is_spelling}
@@ -16,8 +16,8 @@ loop-held-init g c =
     let trees = ap (map plain) c.in_ok-with_capacity.ensures.items in
     let bytes = c.args.bytes.now in
     record {
-      kept = subst (λ us. AreKept sp us c.in_ok-with_capacity-2.field-0.items c.none.result) (sym trees)
-          (subst (λ ms. AreKept sp [] ms c.none.result) (sym c.in_ok-with_capacity-2.ensures.items) (subst (AreKept sp [] []) (sym c.none.ensures.value) (kept_none law)));
+      kept = subst (λ us. AreKept sp (64 * g.row.W) us c.in_ok-with_capacity-2.field-0.items c.none.result) (sym trees)
+          (subst (λ ms. AreKept sp (64 * g.row.W) [] ms c.none.result) (sym c.in_ok-with_capacity-2.ensures.items) (subst (AreKept sp (64 * g.row.W) [] []) (sym c.none.ensures.value) (kept_none law)));
       comes = subst (λ us. IsDue sp bytes bytes c.in_ok-with_capacity-3.field-0.items us) (sym trees)
           (subst (λ os. IsDue sp bytes bytes os []) (sym c.in_ok-with_capacity-3.ensures.items) (due_start law bytes));
     }
@@ -42,5 +42,5 @@ returns-in-End g c =
     let sp = spelling g.K.Lettered.rules g.P.Paired.rules in
     let is = c.in-End.is in let p = c.in_ok-tail.ensures c.args.bytes.now c.loop-held.invariant in let q = rw is at p in
     let trees = c.take_step.new.held.trees in
-    popped_only trees.items c.pop.new.self.items c.pop.result q.tree (λ t. IsWellFormedBy sp (Some t) × (c.args.bytes.now ≡ tree_text_by sp t)) _ q.only c.pop.ensures.items
+    popped_only trees.items c.pop.new.self.items c.pop.result q.tree (λ t. IsWellFormedBelow sp (64 * g.row.W) (Some t) × (c.args.bytes.now ≡ tree_text_by sp t)) _ q.only c.pop.ensures.items
     (λ none. let e = c.pop.ensures.cases in let z = rw none at e in sym trees.ok.0 ∙ z.0) (q.good, q.text)
