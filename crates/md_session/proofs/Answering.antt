@@ -1,11 +1,9 @@
 -- Steps of a session on cographs over an item, by the answers to edits.
-use Rattle.std.proofs.Common.{◌≡◌, ℕ, ◌+◌, ◌*◌, ◌≤◌, false, List, [], ◌∷◌, length, take, slice_get, Option, Some, None, Result, OnOk, IsErr, ◌↔◌, Ok, Err, refl, sym, ◌∙◌, ap, subst, inl, inr, arith}
+use Rattle.std.proofs.Common.{◌≡◌, ℕ, ◌+◌, ◌*◌, ◌≤◌, false, List, [], ◌∷◌, length, take, slice_get, Option, Some, None, refl, sym, ◌∙◌, ap, subst, inl, inr, arith}
 use Rattle.std.specs.List.{All}
 use Rattle.std.proofs.lemmas.List.Elements.{All-take}
 use Rattle.md_graph.specs.declared.TheConstants.{NAMES}
-use Rattle.md_graph.specs.Sets.{NameSet}
-use Rattle.md_graph.specs.NameSet.{AllBelow, ascending}
-use Rattle.md_graph.proofs.NameLemmas.{length-ascending, few_below}
+use Rattle.md_graph.specs.NameSet.{AllBelow}
 use Rattle.md_graph.specs.PlainGraph.{PlainGraph, IsGraph}
 use Rattle.md_modules.specs.declared.induced_paths.P4.{P4}
 use Rattle.md_script.specs.declared.edit.Edit as script
@@ -23,7 +21,8 @@ use Rattle.md_session.specs.declared.cograph.Answer.TheVariants.{Applied, Refuse
 use Rattle.md_session.specs.declared.cograph_items.ItemAnswer.{ItemAnswer}
 use Rattle.md_session.specs.declared.cograph_items.ItemAnswer.TheVariants as items
 use Rattle.md_session.specs.Answers.{IsAnsweredBy, IsAnswered, answer_line, IsGroupRefusal}
-use Rattle.md_session.specs.Costs.{edit_cost, edits_cost, back_cost, tried_cost, group_cost}
+use Rattle.md_cograph.specs.EditCosts.{edit_cost, back_cost}
+use Rattle.md_session.specs.Costs.{edits_cost, tried_cost, group_cost}
 use Rattle.md_session.proofs.BackCosts.{edits_cost-push, back_few}
 
 -- ---- what the answer to an edit says
@@ -61,11 +60,6 @@ was_barred g edit p next told = by (reason_of g edit) refl told where
       let same : p ≡ path.0 = cc in
       record { no_reason = is; path = subst (λ (q : P4). IsP4Of (after g edit) q) (sym same) path.1; next_is = path.3 }
   by None is (inr done) = let e : RefusedP4 p ≡ Applied = done.1 in absurd (cc)
-
--- where a graph is a cograph, nothing refuses it
-pub done_free : {A B : Type 0} (r : Result A B) (P Bad : Type 0) → OnOk r P → (IsErr r ↔ Bad) → (Bad → ⊥) → P
-done_free (Ok x) P Bad done refused free = done
-done_free (Err e) P Bad done refused free = absurd (free (refused.0 refl))
 
 -- ---- the answer to a group that is refused
 
@@ -115,16 +109,4 @@ pub cost_more : (g h : PlainGraph) (edits back : List script.Edit) (n : ℕ) (ed
 cost_more g h edits back n edit first before now so at up here =
     let whole : edits_cost g (take (n + 1) edits) ≡ edits_cost g (take n edits) + edit_cost (all_after g (take n edits)) edit = ap (edits_cost g) (take_read edits n edit at) ∙ edits_cost-push g (take n edits) edit in
     let same = ap (λ (k : PlainGraph). edit_cost k edit) so.graph_is in
-    omega arith
-
--- ---- lists
-
-pub same_rest : (a b : List (List script.Edit)) → [] ∷ a ≡ [] ∷ b → a ≡ b
-same_rest a b is = cc
-
-pub few_names : (s : NameSet) (n : ℕ) → AllBelow s NAMES → AllBelow s n → length (ascending s) ≤ n
-few_names s n names below =
-    let all = length-ascending s NAMES names in
-    let some = length-ascending s n below in
-    let few = few_below s 0 n in
     omega arith

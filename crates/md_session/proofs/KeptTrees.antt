@@ -14,7 +14,7 @@ use Rattle.md_script.specs.Pasts.{taken_back, MayBack, AnyGraph}
 use Rattle.md_local.specs.Edits.{IsEdited}
 use Rattle.md_local.proofs.Edited.{edge_comes, edge_goes}
 use Rattle.md_session.specs.LocalSteps.{edge_ends, TakesFew, IsLastEdge, MayRebuild, HasFewSteps}
-use Rattle.md_session.proofs.Changed.{edge_may_come, edge_may_go}
+use Rattle.md_cograph.proofs.Changed.{edge_may_come, edge_may_go}
 
 -- the two ends that an edit of an edge tells, and the graph behind it
 record IsBetween (g h : PlainGraph) (u v : ℕ) : Type 0 where

@@ -1,5 +1,5 @@
 mod MadePaths
-mod Changed
+mod AppliedSteps
 mod BackCosts
 mod Answering
 mod KeptTrees

@@ -14,17 +14,16 @@ ghost use Rattle.md_script.specs.Items.{HasItemNamesBelow, room_for};
 ghost use Rattle.md_report.specs.declared.line.SessionMode.TheVariants as modes;
 ghost use Rattle.md_report.specs.ItemLines.{IsAllowed};
 ghost use Rattle.md_session.specs.Answers.{IsOpened, IsAnswered, answer_line};
-ghost use Rattle.md_session.specs.Costs.{edit_cost, item_cost};
+ghost use Rattle.md_cograph.specs.EditCosts.{edit_cost};
+ghost use Rattle.md_session.specs.Costs.{item_cost};
 ghost use Rattle.md_report.specs.Steps.{ItemStep};
 
 use crate::cograph_items::{ItemAnswer, answer_group, answer_one, answer_undo};
-use crate::first_path::any_p4;
+use md_cograph::{any_p4, change, p4_behind};
 use md_cotree::{Cotree, from_tree};
-use md_cotree_edit::{add_edge, add_vertex, del_edge, del_vertex};
 use md_decompose::decompose;
 use md_graph::{GraphOf, Memory, Steps, WORDS};
 use md_modules::P4;
-use md_report::made_p4;
 use md_script::{Edit, EditReason, HistoryOf, Item, inverse, reason, take_back};
 use md_tree::{Tree, has_no_prime};
 use std::alloc::Global;
@@ -182,54 +181,5 @@ impl<const W: usize> CographSessionOf<W> {
             }
             Item::Undo => answer_undo(graph, tree, &mut self.near, history, steps),
         }
-    }
-}
-
-/// Changes the cotree of a graph as an edit changes the graph; whether that was done. Where it
-/// wasn't, the graph after the edit has an induced P4, and the cotree stays. Condition: no reason
-/// speaks against the edit, and its names are names.
-pub(crate) fn change<L: Ledger>(tree: &mut Cotree, edit: &Edit, steps: &mut Steps<L>) -> bool
-    requires denotes { (g : PlainGraph) × Denotes tree.old g × (reason_of g edit.now ≡ None) }
-    requires names { HasNames edit.now }
-    ensures done { (g : PlainGraph) → Denotes tree.old g → reason_of g edit.now ≡ None →
-        result ≡ true → Denotes tree.new (after g edit.now) }
-    ensures refused { (g : PlainGraph) → Denotes tree.old g → reason_of g edit.now ≡ None →
-        result ≡ false → HasInducedPath (adjacent (after g edit.now)) (after g edit.now).vertices }
-    ensures same { result ≡ false → tree.new ≡ tree.old }
-    ensures bound { (g : PlainGraph) → Denotes tree.old g → reason_of g edit.now ≡ None →
-        steps.new ≤ steps.old + edit_cost g edit.now }
-{
-    match edit {
-        Edit::AddEdge { u, v } => add_edge(tree, *u, *v, steps).is_ok(),
-        Edit::DelEdge { u, v } => del_edge(tree, *u, *v, steps).is_ok(),
-        Edit::AddVertex { x, neighbours } => {
-            add_vertex(tree, *x, neighbours.as_slice(), steps).is_ok()
-        }
-        Edit::DelVertex { x } => {
-            del_vertex(tree, *x, steps);
-            true
-        }
-    }
-}
-
-/// An induced P4 of the graph after an edit; the graph stays. Conditions: the graph is a cograph,
-/// and the one after the edit isn't; no reason speaks against the edit, and its names are below
-/// `64 * W`.
-pub(crate) fn p4_behind<const W: usize>(graph: &mut GraphOf<W>, edit: &Edit) -> P4
-    requires cograph { IsCograph graph.old }
-    requires applies { reason_of graph.old edit.now ≡ None }
-    requires names { HasNamesBelow (64 * W) edit.now }
-    requires made { HasInducedPath (adjacent (after graph.old edit.now))
-        (after graph.old edit.now).vertices }
-    ensures path { IsP4Of (after graph.old edit.now) result }
-    ensures same { graph.new ≡ graph.old }
-{
-    let past = inverse(graph, edit);
-    md_script::apply(graph, edit);
-    let found = made_p4(graph, edit);
-    take_back(graph, &past);
-    match found {
-        Some(p) => p,
-        None => unreachable!(),
     }
 }

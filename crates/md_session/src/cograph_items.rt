@@ -12,15 +12,16 @@ ghost use Rattle.md_script.specs.Histories.{HistoryFits};
 ghost use Rattle.md_report.specs.declared.line.SessionMode.TheVariants as modes;
 ghost use Rattle.md_report.specs.Cographs.{IsCograph};
 ghost use Rattle.md_session.specs.Answers.{IsAnswered, answer_line, IsPushed, IsGroupRefusal};
-ghost use Rattle.md_session.specs.Costs.{edit_cost, edits_cost, back_cost, tried_cost, group_cost, undo_cost};
+ghost use Rattle.md_cograph.specs.EditCosts.{edit_cost};
+ghost use Rattle.md_session.specs.Costs.{edits_cost, tried_cost, group_cost, undo_cost};
 ghost use Rattle.md_report.specs.Steps.{ItemStep};
 
-use crate::cograph::{Answer, change, p4_behind};
+use crate::cograph::Answer;
+use md_cograph::{change, p4_behind, take_back_item};
 use md_cotree::Cotree;
-use md_cotree_edit::{add_edge, add_vertex, del_edge, del_vertex};
 use md_graph::{GraphOf, Set, Steps};
 use md_modules::P4;
-use md_script::{Edit, EditReason, Edits, HistoryOf, PastOf, apply, inverse, reason, take_back};
+use md_script::{Edit, EditReason, Edits, HistoryOf, apply, inverse, reason};
 use std::sync::ledger::Ledger;
 
 /// What comes of an item.
@@ -207,82 +208,4 @@ fn step<const W: usize, L: Ledger>(
     history.push(inverse(graph, edit));
     apply(graph, edit);
     Answer::Applied
-}
-
-// Takes the last item of a history back, and off it. Conditions: the cotree is that of the graph,
-// there is room for a list of neighbours, an item stands, and its edits can be taken back, the last
-// one first, over cographs.
-fn take_back_item<const W: usize, L: Ledger>(
-    graph: &mut GraphOf<W>,
-    tree: &mut Cotree,
-    near: &mut Vec<u32>,
-    history: &mut HistoryOf<W>,
-    steps: &mut Steps<L>,
-)
-    requires denotes { Denotes tree.old graph.old }
-    requires near { 64 * W ≤ vec_capacity near.old }
-    requires item { (last : List script.Edit) × (others : List (List script.Edit)) ×
-        (history.old.items ≡ last ∷ others) × MayBack (64 * W) IsCograph graph.old last }
-    ensures graph { (last : List script.Edit) (others : List (List script.Edit)) →
-        history.old.items ≡ last ∷ others → graph.new ≡ taken_back graph.old last }
-    ensures items { (last : List script.Edit) (others : List (List script.Edit)) →
-        history.old.items ≡ last ∷ others → history.new.items ≡ others }
-    ensures denotes { Denotes tree.new graph.new }
-    ensures near { vec_capacity near.new ≡ vec_capacity near.old }
-    ensures bound { (last : List script.Edit) (others : List (List script.Edit)) →
-        history.old.items ≡ last ∷ others → steps.new ≤ steps.old + back_cost graph.old last }
-{
-    let _vertices = graph.vertices();
-    while let Some(past) = history.pop() {
-        change_back(tree, &past, near, steps);
-        take_back(graph, &past);
-    }
-    history.drop_item();
-}
-
-// Changes the cotree of a graph as the edit changes it by which an earlier one is taken back.
-// Conditions: no reason speaks against that edit, its names are names, the graph after it is a
-// cograph, and there is room for a list of neighbours.
-fn change_back<const W: usize, L: Ledger>(
-    tree: &mut Cotree,
-    past: &PastOf<W>,
-    near: &mut Vec<u32>,
-    steps: &mut Steps<L>,
-)
-    requires denotes { (g : PlainGraph) × Denotes tree.old g
-        × (reason_of g (as_edit past.now) ≡ None) × IsCograph (after g (as_edit past.now)) }
-    requires names { HasNames (as_edit past.now) }
-    requires near { 64 * W ≤ vec_capacity near.old }
-    ensures done { (g : PlainGraph) → Denotes tree.old g → reason_of g (as_edit past.now) ≡ None →
-        IsCograph (after g (as_edit past.now)) → Denotes tree.new (after g (as_edit past.now)) }
-    ensures near { vec_capacity near.new ≡ vec_capacity near.old }
-    ensures bound { (g : PlainGraph) → Denotes tree.old g → reason_of g (as_edit past.now) ≡ None →
-        steps.new ≤ steps.old + edit_cost g (as_edit past.now) }
-{
-    match past {
-        PastOf::AddEdge { u, v } => {
-            let _done = add_edge(tree, *u, *v, steps);
-        }
-        PastOf::DelEdge { u, v } => {
-            let _done = del_edge(tree, *u, *v, steps);
-        }
-        PastOf::AddVertex { x, neighbours } => {
-            list_names(neighbours, near);
-            let _done = add_vertex(tree, *x, near, steps);
-        }
-        PastOf::DelVertex { x } => del_vertex(tree, *x, steps),
-    }
-}
-
-// The members of a set, ascending, in place of what a list held. Condition: there is room for all
-// names below `64 * W`.
-fn list_names<const W: usize>(names: &Set<W>, list: &mut Vec<u32>)
-    requires { 64 * W ≤ vec_capacity list.old }
-    ensures list { list.new.items ≡ ascending names.now }
-    ensures room { vec_capacity list.new ≡ vec_capacity list.old }
-{
-    list.clear();
-    for v in names.members() {
-        list.push_reserved(v);
-    }
 }

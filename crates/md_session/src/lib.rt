@@ -3,7 +3,6 @@
 
 mod cograph;
 mod cograph_items;
-mod first_path;
 mod general;
 mod general_items;
 mod local;

@@ -10,7 +10,8 @@ use Rattle.md_report.specs.Cographs.{IsCograph, IsQuietLineBy}
 use Rattle.md_report.specs.Sessions.{led_to}
 use Rattle.md_report.specs.Steps.{state_of}
 use Rattle.md_report.proofs.Stepping.{led_step, refused_step}
-use Rattle.md_session.proofs.Answering.{was_applied, was_refused, was_barred, same_rest}
+use Rattle.md_cograph.proofs.GoingBack.{same_rest}
+use Rattle.md_session.proofs.Answering.{was_applied, was_refused, was_barred}
 use Rattle.md_session.proofs.cograph_items.answer_one.Goals as goal
 
 pub returns-in-Applied-clause-step : goal.returns-in-Applied-clause-step

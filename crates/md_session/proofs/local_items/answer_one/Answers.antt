@@ -11,7 +11,7 @@ use Rattle.md_report.specs.declared.line.SessionMode.TheVariants.{Edit}
 use Rattle.md_report.specs.Sessions.{led_to}
 use Rattle.md_report.specs.Steps.{state_of}
 use Rattle.md_report.proofs.Stepping.{led_step}
-use Rattle.md_session.proofs.Changed.{applied_step}
+use Rattle.md_session.proofs.AppliedSteps.{applied_step}
 use Rattle.md_session.proofs.KeptTrees.{if_ends, few_steps}
 use Rattle.md_session.proofs.local_items.answer_one.Goals as goal
 

@@ -2,7 +2,7 @@ use Rattle.std.proofs.Common.{refl, subst}
 use Rattle.md_tree.specs.Plain.{plain_option}
 use Rattle.md_cotree.specs.Cotrees.{Denotes}
 use Rattle.md_cotree.proofs.NoPaths.{cotree_no_path}
-use Rattle.md_session.proofs.Changed.{no_prime_of}
+use Rattle.md_cograph.proofs.Changed.{no_prime_of}
 use Rattle.md_session.proofs.cograph.CographSessionOf.new.Goals as goal
 
 pub invariant_of-result : goal.invariant_of-result

@@ -1,4 +1,4 @@
-use Rattle.md_session.proofs.Changed.{told_of}
+use Rattle.md_cograph.proofs.Changed.{told_of}
 use Rattle.md_session.proofs.cograph.CographSessionOf.tree.Goals as goal
 
 pub returns : goal.returns

@@ -1,7 +1,7 @@
 use Rattle.std.proofs.Common.{sym, ◌∙◌, rules}
 use Rattle.md_tree.specs.Plain.{plain_option}
 use Rattle.md_script.proofs.BackLemmas.{back_applies, back_names}
-use Rattle.md_session.proofs.Changed.{applied_step}
+use Rattle.md_session.proofs.AppliedSteps.{applied_step}
 use Rattle.md_session.proofs.general.GeneralSessionOf.apply.Goals as goal
 
 pub take_back-requires : goal.take_back-requires

@@ -3,9 +3,9 @@ use Rattle.md_cotree.specs.Cotrees.{Denotes}
 use Rattle.md_script.specs.declared.edit.Edit.{Edit}
 use Rattle.md_script.specs.Pasts.{taken_back}
 use Rattle.md_script.proofs.GroupLemmas.{last_length}
-use Rattle.md_session.specs.Costs.{back_cost}
-use Rattle.md_session.proofs.BackCosts.{IsGoingBackWithin}
-use Rattle.md_session.proofs.cograph_items.take_back_item.Given as goal
+use Rattle.md_cograph.specs.EditCosts.{back_cost}
+use Rattle.md_cograph.proofs.GoingBack.{IsGoingBackWithin}
+use Rattle.md_cograph.proofs.last_item.take_back_item.Given as goal
 
 abbrev pub invariant-loop-past : goal.invariant-loop-past
 invariant-loop-past g l = record {

@@ -1,6 +1,6 @@
 use Rattle.std.proofs.Common.{◌≡◌, ◌+◌, ◌++◌, ◌≤◌, length, vec_len, vec_capacity}
 use Rattle.md_graph.specs.NameSet.{ascending}
-use Rattle.md_session.proofs.cograph_items.list_names.Given as goal
+use Rattle.md_cograph.proofs.changes.list_names.Given as goal
 
 abbrev pub invariant-loop-v : goal.invariant-loop-v
 invariant-loop-v g l = record {

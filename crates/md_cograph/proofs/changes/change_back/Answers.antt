@@ -10,9 +10,8 @@ use Rattle.md_script.specs.Edit.{HasNames, reason_of, after}
 use Rattle.md_script.specs.Pasts.{as_edit}
 use Rattle.md_script.proofs.NameListLemmas.{ascending_is_list}
 use Rattle.md_report.specs.Cographs.{IsCograph}
-use Rattle.md_session.proofs.Changed.{edge_may_come, edge_may_go, vertex_may_come, vertex_may_go}
-use Rattle.md_session.proofs.Answering.{done_free}
-use Rattle.md_session.proofs.cograph_items.change_back.Goals as goal
+use Rattle.md_cograph.proofs.Changed.{edge_may_come, edge_may_go, vertex_may_come, vertex_may_go, done_free}
+use Rattle.md_cograph.proofs.changes.change_back.Goals as goal
 
 pub add_edge-done-requires : goal.add_edge-done-requires
 add_edge-done-requires g c =

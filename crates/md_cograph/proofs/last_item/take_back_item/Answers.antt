@@ -5,9 +5,8 @@ use Rattle.md_script.specs.Pasts.{as_edit, taken_back, MayBack}
 use Rattle.md_script.proofs.ChangeLemmas.{names_within}
 use Rattle.md_script.proofs.GroupLemmas.{smaller_last, next_back, gone_back}
 use Rattle.md_report.specs.Cographs.{IsCograph}
-use Rattle.md_session.proofs.BackCosts.{go_within}
-use Rattle.md_session.proofs.Answering.{same_rest}
-use Rattle.md_session.proofs.cograph_items.take_back_item.Goals as goal
+use Rattle.md_cograph.proofs.GoingBack.{go_within, same_rest}
+use Rattle.md_cograph.proofs.last_item.take_back_item.Goals as goal
 
 pub loop-past-init : goal.loop-past-init
 loop-past-init g c =

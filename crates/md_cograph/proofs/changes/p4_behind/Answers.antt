@@ -3,7 +3,7 @@ use Rattle.md_report.specs.Made.{HasChange}
 use Rattle.md_report.specs.Cographs.{IsCograph}
 use Rattle.md_report.proofs.MadePaths.{shown}
 use Rattle.md_script.proofs.BackLemmas.{led, back_applies, back_gives, back_names}
-use Rattle.md_session.proofs.cograph.p4_behind.Goals as goal
+use Rattle.md_cograph.proofs.changes.p4_behind.Goals as goal
 
 pub made_p4-found-requires : goal.made_p4-found-requires
 made_p4-found-requires g c = (search rules, subst (λ h. HasChange h c.args.edit.now) (sym c.apply.ensures) (shown c.args.graph.now c.args.edit.now c.requires.applies))

@@ -6,8 +6,8 @@ use Rattle.md_modules.specs.InducedPaths.{HasInducedPath}
 use Rattle.md_cotree.specs.Cotrees.{Denotes}
 use Rattle.md_script.specs.declared.edit.Edit.TheVariants.{AddEdge, DelEdge, AddVertex}
 use Rattle.md_script.specs.Edit.{HasNames, reason_of, after}
-use Rattle.md_session.proofs.Changed.{edge_may_come, edge_may_go, vertex_may_come, vertex_may_go, done_by, refused_by}
-use Rattle.md_session.proofs.cograph.change.Goals as goal
+use Rattle.md_cograph.proofs.Changed.{edge_may_come, edge_may_go, vertex_may_come, vertex_may_go, done_by, refused_by}
+use Rattle.md_cograph.proofs.changes.change.Goals as goal
 
 pub add_edge-requires : goal.add_edge-requires
 add_edge-requires g c =

@@ -1,6 +1,6 @@
 use Rattle.std.proofs.Common.{◌*◌, ◌++◌, List, ℕ, length, ◌∙◌, ap, arith}
-use Rattle.md_session.proofs.Answering.{few_names}
-use Rattle.md_session.proofs.cograph_items.list_names.Goals as goal
+use Rattle.md_cograph.proofs.Changed.{few_names}
+use Rattle.md_cograph.proofs.changes.list_names.Goals as goal
 
 pub loop-v-init : goal.loop-v-init
 loop-v-init g c =

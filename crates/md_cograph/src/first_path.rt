@@ -11,7 +11,7 @@ use md_tree::{Children, Kind, Tree};
 /// An induced P4 of a graph; none exactly where it has none. The tree only says where to look: in a
 /// prime node at most one child has no name in a P4, so that two searches suffice where the tree is
 /// that of the graph and has such a node.
-pub(crate) fn any_p4<const W: usize>(graph: &GraphOf<W>, tree: &Option<Tree>) -> Option<P4>
+pub fn any_p4<const W: usize>(graph: &GraphOf<W>, tree: &Option<Tree>) -> Option<P4>
     ensures found { IfSome result (IsP4Of graph.now) }
     ensures none { IfNone result (HasInducedPath (adjacent graph.now) graph.now.vertices → ⊥) }
 {

@@ -1,9 +1,12 @@
 -- What an edit of a cotree needs to know of the graph, and what its answer says of the graph after the edit.
-use Rattle.std.proofs.Common.{◌≡◌, ◌≢◌, ℕ, Bool, true, false, not, cond, ◌==◌, find, is_ok, List, [], ◌∷◌, All, Option, Some, None, Result, Ok, Err, IfOk, IsErr, OnOk, ◌↔◌, refl, sym, ◌∙◌, ap, subst}
+use Rattle.std.proofs.Common.{◌≡◌, ◌≢◌, ℕ, ◌≤◌, length, arith, Bool, true, false, not, cond, ◌==◌, find, is_ok, List, [], ◌∷◌, All, Option, Some, None, Result, Ok, Err, IfOk, IsErr, OnOk, ◌↔◌, refl, sym, ◌∙◌, ap, subst}
 use Rattle.std.proofs.lemmas.Bool.{eqb-false}
 use Rattle.std.proofs.lemmas.List.Elements.{All-nil, All-cons}
 use Rattle.std.specs.FinSet as set
+use Rattle.md_graph.specs.declared.TheConstants.{NAMES}
 use Rattle.md_graph.specs.Sets.{NameSet, Has, Lacks}
+use Rattle.md_graph.specs.NameSet.{AllBelow, ascending}
+use Rattle.md_graph.proofs.NameLemmas.{length-ascending, few_below}
 use Rattle.md_graph.specs.PlainGraph.{PlainGraph, IsGraph, adjacent}
 use Rattle.md_modules.specs.InducedPaths.{HasInducedPath}
 use Rattle.md_modules.proofs.Turns.{graph_adjacency}
@@ -22,8 +25,6 @@ use Rattle.md_script.specs.declared.edit.Edit.TheVariants.{AddEdge, DelEdge, Add
 use Rattle.md_script.specs.Edit.{least_absent, reason_of, after}
 use Rattle.md_script.proofs.ChangeLemmas.{ends_by_tests, by_parts}
 use Rattle.md_report.specs.Cographs.{IsCograph}
-use Rattle.md_report.specs.Lines.{applied}
-use Rattle.md_report.specs.Sessions.{SessionStep, IsLineBy, state_by}
 use Rattle.md_script.proofs.BackLemmas.{only_passes, added_was_absent, deleted_was_there}
 
 -- ---- no reason speaks against the edit
@@ -72,12 +73,10 @@ module _ {A B : Type 0} (edit form : Edit) (is : edit ≡ form) (r : Result A B)
   pub refused_by : (IsErr r ↔ HasInducedPath (adjacent (after g form)) (after g form).vertices) → ok ≡ false → HasInducedPath (adjacent (after g edit)) (after g edit).vertices
   refused_by refused fails = subst (λ e. HasInducedPath (adjacent (after g e)) (after g e).vertices) (sym is) (refused.0 (is_error r (sym told ∙ fails)))
 
--- the line with the tree of the changed graph
-pub applied_step : (g h next : PlainGraph) (edit : Edit) (t : Option PlainTree) → g ≡ h → reason_of g edit ≡ None → next ≡ after g edit → IsTree (adjacent next) next.vertices t → SessionStep h edit (applied t) next
-applied_step g h next edit t same none is tree = subst (λ k. SessionStep k edit (applied t) next) same (record {
-  line_is = subst (λ r. IsLineBy r g edit (applied t)) (sym none) (t, subst (λ k. IsTree (adjacent k) k.vertices t) is tree, refl);
-  next_is = is ∙ sym (ap (λ r. state_by r g edit) none);
-})
+-- where a graph is a cograph, nothing refuses it
+pub done_free : {A B : Type 0} (r : Result A B) (P Bad : Type 0) → OnOk r P → (IsErr r ↔ Bad) → (Bad → ⊥) → P
+done_free (Ok x) P Bad done refused free = done
+done_free (Err e) P Bad done refused free = absurd (free (refused.0 refl))
 
 -- ---- a cograph's tree has no prime node
 
@@ -91,3 +90,12 @@ module _ {E : Type 0} (c : Cotree) (g h : PlainGraph) (den : Denotes c g) (same 
   pub told_of : (r : Result (Option (TreeOf Kind Pair)) E) → IfOk r (λ tree. (k : PlainGraph) → Denotes c k → IsTree (adjacent k) k.vertices (plain_option tree)) → IfOk r (λ tree. IsTree (adjacent h) h.vertices (plain_option tree))
   told_of (Ok tree) told = subst (λ k. IsTree (adjacent k) k.vertices (plain_option tree)) same (told g den)
   told_of (Err e) told = told
+
+-- ---- the neighbours in a list
+
+pub few_names : (s : NameSet) (n : ℕ) → AllBelow s NAMES → AllBelow s n → length (ascending s) ≤ n
+few_names s n names below =
+    let all = length-ascending s NAMES names in
+    let some = length-ascending s n below in
+    let few = few_below s 0 n in
+    omega arith
