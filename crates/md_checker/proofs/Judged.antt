@@ -90,6 +90,21 @@ module _ (limit : ℕ) (mode : SessionMode) (g : PlainGraph) (items : List (List
         (same, kept),
       )
 
+      -- the line refuses the edit with this bar
+      pub judged_barred : (b : Bool) (bar : Bar) → line ≡ refused_bar bar → (IsTrue b ↔ IsBarred mode (after g edit) bar) → h ≡ g → left ≡ items → IsJudged b limit mode g items (One edit) line h left
+      judged_barred b bar is told same kept =
+          judged_refusal (One edit) (IsBarred mode (after g edit) bar) b told (has_bar, λ has. free_answers.1 (inl (bar, has, is))) (λ has. ap is_applied is) same kept
+        where
+          has_bar : AnswersItem mode (state_of g items) (One edit) line → IsBarred mode (after g edit) bar
+          has_bar answers =
+              elim (free_answers.0 answers) [
+                | inl other ↦
+                    let e : refused_bar other.0 ≡ refused_bar bar = sym other.2 ∙ is in
+                    let found : other.0 ≡ bar = cc in
+                    subst (IsBarred mode (after g edit)) found other.1
+                | inr done ↦ absurd (clash (done_tells mode (after g edit) line done.1).0 (ap is_applied is))
+              ]
+
   -- ---- groups
 
   module _ (edits : List script.Edit) where

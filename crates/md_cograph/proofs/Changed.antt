@@ -1,5 +1,5 @@
 -- What an edit of a cotree needs to know of the graph, and what its answer says of the graph after the edit.
-use Rattle.std.proofs.Common.{◌≡◌, ◌≢◌, ℕ, ◌≤◌, length, arith, Bool, true, false, not, cond, ◌==◌, find, is_ok, List, [], ◌∷◌, All, Option, Some, None, Result, Ok, Err, IfOk, IsErr, OnOk, ◌↔◌, refl, sym, ◌∙◌, ap, subst}
+use Rattle.std.proofs.Common.{◌≡◌, ◌≢◌, ℕ, ◌≤◌, length, arith, Bool, true, false, not, cond, ◌==◌, find, is_ok, List, [], ◌∷◌, All, Option, Some, None, Result, Ok, Err, IfOk, IsErr, OnOk, ◌↔◌, refl, sym, ◌∙◌, subst}
 use Rattle.std.proofs.lemmas.Bool.{eqb-false}
 use Rattle.std.proofs.lemmas.List.Elements.{All-nil, All-cons}
 use Rattle.std.specs.FinSet as set

@@ -25,7 +25,7 @@ use Rattle.md_report.specs.declared.line.SessionMode.TheVariants.{Edit, Cograph,
 use Rattle.md_report.specs.Lines.{PlainLine, path_bar, path_of_bar, applied, applied_quiet, refused, refused_bar, group_refused, group_refused_bar, nothing_to_undo}
 use Rattle.md_report.specs.Sessions.{State, undone, applied_state, is_applied, state_behind, HasTreeLine, IsLineBy}
 use Rattle.md_report.specs.Cographs.{IsP4Of, IsPathOf, IsCograph, HasP4Line, IsCographLineBy, IsQuietLineBy}
-use Rattle.md_report.specs.ItemLines.{IsAllowed, IsBarred, IsDoneLine, AnswersEdit, IsLineAt, IsGroupLine, IsUndoLine, AnswersItem}
+use Rattle.md_report.specs.ItemLines.{IsAllowed, IsBarred, IsDoneLine, AnswersEdit, AnswersEditBy, IsLineAt, IsGroupLine, IsUndoLine, AnswersItem}
 use Rattle.md_report.specs.Places.{tells_bar}
 use Rattle.md_report.specs.Laws.{AreGraphs, KeepsCographs}
 
@@ -41,11 +41,9 @@ path_told made g line =
 
 -- ---- one form of the line of an edit for all modes
 
--- the line of an edit, by the reason against it: the reason; or a bar of the graph h after the edit; or that the edit was applied,
--- where h may be a state
+-- the line of an edit of a mode, by the reason against it and the graph h after it
 abbrev pub IsEditLine : Option EditReason → SessionMode → PlainGraph → PlainLine → Type 0
-IsEditLine (Some reason) mode h line = line ≡ refused reason
-IsEditLine None mode h line = ((bar : Bar) × IsBarred mode h bar × (line ≡ refused_bar bar)) ⊎ (IsAllowed mode h × IsDoneLine mode h line)
+IsEditLine o mode = AnswersEditBy (IsAllowed mode) (IsBarred mode) (IsDoneLine mode) o
 
 -- the same of an edit at a session on cographs that gives h
 path_or_done : (h : PlainGraph) (line : PlainLine) (Done : Type 0) → (HasP4Line (λ p. refused_bar (path_bar p)) h line ⊎ Done) ↔ (((bar : Bar) × IsPathOf h bar × (line ≡ refused_bar bar)) ⊎ Done)
