@@ -11,3 +11,5 @@ pub mod Leaves
 pub mod Placing
 pub mod Rebuilt
 pub mod Edited
+pub mod Lifted
+pub mod Substituted

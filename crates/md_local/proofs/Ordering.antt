@@ -64,7 +64,7 @@ place_kept k t e = ap (λ b. cond b (below_node t) (t ∷ [])) e
 abbrev pub HasApart : PlainTree → Type 0
 HasApart t = AreDisjoint (row (below_node t))
 
-names_below_node : (k : Kind) (t : PlainTree) → is_merged k t ≡ true → names_below (row (below_node t)) ≡ names t
+pub names_below_node : (k : Kind) (t : PlainTree) → is_merged k t ≡ true → names_below (row (below_node t)) ≡ names t
 names_below_node k (leaf v) e = absurd (false≢true e)
 names_below_node k (node l cs ps) e = ap names_below (row_listed cs)
 
