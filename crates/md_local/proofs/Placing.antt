@@ -15,7 +15,6 @@ use Rattle.md_tree.specs.Heads.{head}
 use Rattle.md_tree.specs.Parts.{listed, below_node}
 use Rattle.md_tree.specs.Plain.{plain, trees_of}
 use Rattle.md_tree.proofs.Plain.{plain_is_leaf, plain_is_node}
-use Rattle.md_local.specs.declared.growing.Grown.{Grown}
 use Rattle.md_local.specs.Growing.{are_one_split, is_merged, in_place_of, all_in_place, AreOrdered}
 use Rattle.md_local.proofs.Ordering.{place_merged, place_kept}
 
@@ -60,11 +59,11 @@ put_kept kind t b xs ys told fails added = ap (map plain) added ∙ map-append p
 
 -- ---- one after the other
 
-pub places_more : (kind : Kind) (xs : List Grown) (x : Grown) → all_in_place kind (map (λ (y : Grown). plain y.tree) (xs ++ x ∷ [])) ≡ all_in_place kind (map (λ (y : Grown). plain y.tree) xs) ++ in_place_of kind (plain x.tree)
-places_more kind [] x = append-nil (in_place_of kind (plain x.tree))
+pub places_more : (kind : Kind) (xs : List (TreeOf Kind Pair)) (x : TreeOf Kind Pair) → all_in_place kind (map plain (xs ++ x ∷ [])) ≡ all_in_place kind (map plain xs) ++ in_place_of kind (plain x)
+places_more kind [] x = append-nil (in_place_of kind (plain x))
 places_more kind (y ∷ xs) x =
-    ap (λ l. in_place_of kind (plain y.tree) ++ l) (places_more kind xs x)
-    ∙ sym (append_assoc (in_place_of kind (plain y.tree)) (all_in_place kind (map (λ (z : Grown). plain z.tree) xs)) (in_place_of kind (plain x.tree)))
+    ap (λ l. in_place_of kind (plain y) ++ l) (places_more kind xs x)
+    ∙ sym (append_assoc (in_place_of kind (plain y)) (all_in_place kind (map plain xs)) (in_place_of kind (plain x)))
 
 pub or_false : (b : Bool) → (b || false) ≡ b
 or_false true = refl
@@ -74,11 +73,11 @@ or_assoc : (a b c : Bool) → (a || (b || c)) ≡ ((a || b) || c)
 or_assoc true b c = refl
 or_assoc false b c = refl
 
-pub any_more : (kind : Kind) (xs : List Grown) (x : Grown) → list_any (is_merged kind) (map (λ (y : Grown). plain y.tree) (xs ++ x ∷ [])) ≡ (list_any (is_merged kind) (map (λ (y : Grown). plain y.tree) xs) || is_merged kind (plain x.tree))
-any_more kind [] x = or_false (is_merged kind (plain x.tree))
+pub any_more : (kind : Kind) (xs : List (TreeOf Kind Pair)) (x : TreeOf Kind Pair) → list_any (is_merged kind) (map plain (xs ++ x ∷ [])) ≡ (list_any (is_merged kind) (map plain xs) || is_merged kind (plain x))
+any_more kind [] x = or_false (is_merged kind (plain x))
 any_more kind (y ∷ xs) x =
-    ap (λ b. is_merged kind (plain y.tree) || b) (any_more kind xs x)
-    ∙ or_assoc (is_merged kind (plain y.tree)) (list_any (is_merged kind) (map (λ (z : Grown). plain z.tree) xs)) (is_merged kind (plain x.tree))
+    ap (λ b. is_merged kind (plain y) || b) (any_more kind xs x)
+    ∙ or_assoc (is_merged kind (plain y)) (list_any (is_merged kind) (map plain xs)) (is_merged kind (plain x))
 
 -- ---- in order
 

@@ -190,11 +190,11 @@ module _ {f : ℕ → ℕ → Bool} (af : IsAdjacency f) (s r : NameSet) (rep : 
 
     two_of : (ts : List PlainTree) → us ≡ ts → HasTwo n → 2 ≤ count (row ts)
     two_of [] same two =
-        clash (Has-along (lifted s rep n) (names_below (row [])) (sym names_us ∙ ap (λ l. names_below (row l)) same) two.0 (lift_own f s r rep part n here.inside two.0 two.2)) (empty_lacks two.0)
+        clash (Has-along (lifted s rep n) (names_below {K = Kind} {P = Pair} no_tree) (sym names_us ∙ ap (λ (l : List PlainTree). names_below (row l)) same) two.0 (lift_own f s r rep part n here.inside two.0 two.2)) (empty_lacks two.0)
     two_of (t ∷ []) same two =
         let x = outside t (subst (λ l. In l t) (sym same) (inl refl)) in
         let c : (c : PlainTree) × IsChild (row (t ∷ [])) c × Has (names c) x.0 =
-        child_of_name (row (t ∷ [])) x.0 (Has-along (lifted s rep n) (names_below (row (t ∷ []))) (sym names_us ∙ ap (λ l. names_below (row l)) same) x.0 x.1) in
+        child_of_name (row (t ∷ [])) x.0 (Has-along (lifted s rep n) (names_below (row (t ∷ []))) (sym names_us ∙ ap (λ (l : List PlainTree). names_below (row l)) same) x.0 x.1) in
         clash (subst (λ u. Has (names u) x.0) (only_in t c.0 (in_of_child (t ∷ []) c.0 c.1)) c.2) x.2
     two_of (t ∷ u ∷ ts) same two = let b : 2 ≤ count (row (t ∷ u ∷ ts)) = omega arith in b
 
@@ -329,7 +329,7 @@ module _ {f : ℕ → ℕ → Bool} (af : IsAdjacency f) (s r : NameSet) (rep : 
   mutual
     tree_built_over : (t u : PlainTree) → EachNode (IsBuilt f) t → IsModule f r (names t) → IsSubstituted Fits t u → (names u ≡ lifted s rep (names t)) × EachNode (IsBuilt f) u
     tree_built_over (leaf x) u each here is = (tree_names (class s rep x) u is ∙ sym (lift_only f s r rep part x), tree_built (class s rep x) u is)
-    tree_built_over (node k cs ps) u each here (gs, are, us, ordered, made) =
+    tree_built_over (node k cs ps) u each here (gs, are, (us, ordered, made)) =
         let trees : AreTreesOver f (lifted s rep) cs gs =
         trees_built_over cs gs each.1 (λ c i. module_of_module r (names_below cs) (names c) here (children_maximal k cs ps each.0 c i).is_strong.is_module) are in (
           ap names made ∙ names_us k cs ps each here gs trees us ordered,

@@ -1,11 +1,17 @@
 -- Trees in place of the leaves of a tree.
 -- Source: substitution, as in Habib and Paul, A survey of the algorithmic aspects of modular
 -- decomposition: a graph is put together from the quotient of a modular partition and its parts.
-use Rattle.std.specs.Prelude.{ℕ, Bool, List, [], ◌∷◌, ⊤}
+use Rattle.std.specs.Prelude.{◌≡◌, ◌-◌, ℕ, Bool, nat_eq, cond, List, [], ◌∷◌, ◌++◌, length, take, drop, get_or, Option, Some, None, ⊤}
 use Rattle.md_graph.specs.Sets.{NameSet, Has}
 use Rattle.md_graph.specs.Adjacency.{IsAdjacency}
 use Rattle.md_modules.specs.Quotients.{IsModularPartition, class}
 use Rattle.md_tree.specs.Held.{IsLeast}
+use Rattle.md_tree.specs.declared.Kind.{Kind}
+use Rattle.md_tree.specs.declared.Pair.{Pair}
+use Rattle.md_tree.specs.declared.TreeOf.{TreeOf}
+use Rattle.md_tree.specs.Heads.{head}
+use Rattle.md_tree.specs.Parts.{below_node}
+use Rattle.md_tree.specs.Plain.{plain}
 use Rattle.md_tree.specs.Trees.{PlainTree, leaf, node, PlainTrees, no_tree, one_more}
 use Rattle.md_tree.specs.StrongTrees.{IsTreeOf}
 use Rattle.md_local.specs.Growing.{IsJoined}
@@ -34,3 +40,35 @@ TreesAreSubstituted =
     IsModularPartition e s r rep → ((x : ℕ) → Has r x → IsLeast (class s rep x) x) →
     (t u : PlainTree) → IsTreeOf e r t →
     IsSubstituted (λ x part. IsTreeOf e (class s rep x) part) t u → IsTreeOf e s u
+
+-- the first of the trees that has the name as its head, and the name's leaf where none has
+abbrev pub tree_at : List PlainTree → ℕ → PlainTree
+tree_at [] x = leaf x
+tree_at (t ∷ ts) x = cond (nat_eq (head t) x) t (tree_at ts x)
+
+-- the tree of e on the names, with trees in place of the leaves that have their heads' names
+abbrev pub IsOverQuotient : (ℕ → ℕ → Bool) → NameSet → List PlainTree → PlainTree → Type 0
+IsOverQuotient e r ts u =
+    (t : PlainTree) × IsTreeOf e r t × IsSubstituted (λ x part. part ≡ tree_at ts x) t u
+
+-- ---- the steps in which trees are put in place of leaves
+
+-- the tree that stands at a name's place, and the name's leaf where none does
+abbrev pub tree_or_leaf : ℕ → Option (TreeOf Kind Pair) → PlainTree
+tree_or_leaf x None = leaf x
+tree_or_leaf x (Some t) = plain t
+
+abbrev pub place_at : List (Option (TreeOf Kind Pair)) → ℕ → PlainTree
+place_at places x = tree_or_leaf x (get_or places x None)
+
+-- u is the tree at the leaf's place, or joins the trees as the node does its children
+abbrev pub IsPutOver : (ℕ → PlainTree) → PlainTree → List PlainTree → PlainTree → Type 0
+IsPutOver place (leaf x) us u = u ≡ place x
+IsPutOver place (node k cs ps) us u = IsJoined k ps us u
+
+-- of a stack the last trees, as many as the node has children, give way to the one that is put
+-- for the node
+abbrev pub IsPut : (ℕ → PlainTree) → PlainTree → List PlainTree → List PlainTree → Type 0
+IsPut place t old new =
+    (u : PlainTree) × IsPutOver place t (drop (length old - length (below_node t)) old) u ×
+    (new ≡ take (length old - length (below_node t)) old ++ u ∷ [])

@@ -8,7 +8,7 @@ ghost use Rattle.md_tree.specs.StrongTrees.{IsTreeOf};
 ghost use Rattle.md_local.specs.Changes.{IsLeastStrong};
 ghost use Rattle.md_local.specs.Edits.{IsEdited};
 
-use crate::growing::take_turn;
+use crate::growing::{take_turn, whole_tree};
 use md_graph::{GraphOf, Memory, Steps};
 use md_tree::{Tree, nodes_of};
 use std::alloc::Global;
@@ -45,7 +45,7 @@ pub fn rebuild<L: Ledger, const W: usize>(
         take_turn(alloc, graph, node, u, v, &mut stack, work)?;
     }
     match stack.pop() {
-        Some(grown) => Ok(grown.tree),
+        Some(grown) => Ok(whole_tree(grown)),
         None => unreachable!(),
     }
 }

@@ -1,7 +1,7 @@
 use Rattle.md_tree.specs.Plain.{plain}
 use Rattle.std.proofs.Common.{sym, ◌∙◌, map}
 use Rattle.md_local.proofs.Placing.{put_merged, put_kept}
-use Rattle.md_local.proofs.growing.put.Goals as goal
+use Rattle.md_local.proofs.merging.put.Goals as goal
 
 pub returns-then-merges-clause-merged : goal.returns-then-merges-clause-merged
 returns-then-merges-clause-merged c = sym c.if-merges.true ∙ c.merges.ensures

@@ -1,13 +1,12 @@
 use Rattle.std.proofs.Common.{◌≡◌, ◌++◌, map}
 use Rattle.std.specs.List.{list_any}
 use Rattle.md_tree.specs.Plain.{plain}
-use Rattle.md_local.specs.declared.growing.Grown.{Grown}
 use Rattle.md_local.specs.Growing.{is_merged, all_in_place}
-use Rattle.md_local.proofs.growing.ordered.Given as goal
+use Rattle.md_local.proofs.merging.ordered.Given as goal
 
 abbrev pub invariant-loop-child : goal.invariant-loop-child
 invariant-loop-child l = record {
-  list : map plain l.list.items ≡ all_in_place l.kind (map (λ (x : Grown). plain x.tree) l.yielded);
-  merged : l.merged ≡ list_any (is_merged l.kind) (map (λ (x : Grown). plain x.tree) l.yielded);
+  list : map plain l.list.items ≡ all_in_place l.kind (map plain l.yielded);
+  merged : l.merged ≡ list_any (is_merged l.kind) (map plain l.yielded);
   left : l.yielded ++ l.child-iterator.rest.items ≡ l.initial.child-iterator.rest.items;
 }

@@ -7,22 +7,21 @@ use Rattle.md_tree.specs.Heads.{head}
 use Rattle.md_tree.specs.declared.TreeOf.{TreeOf}
 use Rattle.md_tree.specs.declared.Kind.{Kind}
 use Rattle.md_tree.specs.declared.Pair.{Pair}
-use Rattle.md_local.specs.declared.growing.Grown.{Grown}
 use Rattle.md_local.specs.Growing.{is_merged, in_place_of, all_in_place, AreOrdered}
 use Rattle.md_local.proofs.Placing.{places_more, any_more, sorted_ordered, kept_ordered}
-use Rattle.md_local.proofs.growing.ordered.Goals as goal
-use Rattle.md_local.proofs.growing.ordered.Goals.{then-merged+in_ok-sort_by_cached_key, else-merged}
+use Rattle.md_local.proofs.merging.ordered.Goals as goal
+use Rattle.md_local.proofs.merging.ordered.Goals.{then-merged+in_ok-sort_by_cached_key, else-merged}
 
 pub loop-child-preserved : goal.loop-child-preserved
 loop-child-preserved c =
     let yielded = c.loop-child.yielded in
     record {
       list =
-          c.in_ok-merged.ensures.list ∙ ap (λ l. l ++ in_place_of c.args.kind (plain c.in-Some.child.tree)) c.loop-child.invariant.list
+          c.in_ok-merged.ensures.list ∙ ap (λ l. l ++ in_place_of c.args.kind (plain c.in-Some.child)) c.loop-child.invariant.list
           ∙ sym (places_more c.args.kind yielded c.in-Some.child);
       merged =
           ap (λ b. b || c.in_ok-merged.field-0) c.loop-child.invariant.merged
-          ∙ ap (λ b. list_any (is_merged c.args.kind) (map (λ (x : Grown). plain x.tree) yielded) || b) c.in_ok-merged.ensures.merged ∙ sym (any_more c.args.kind yielded c.in-Some.child);
+          ∙ ap (λ b. list_any (is_merged c.args.kind) (map plain yielded) || b) c.in_ok-merged.ensures.merged ∙ sym (any_more c.args.kind yielded c.in-Some.child);
       left =
           append_assoc yielded (c.in-Some.child ∷ []) c.next.new.self.rest.items ∙ ap (λ xs. yielded ++ xs) (sym c.in-Some.ensures.steps.0)
           ∙ c.loop-child.invariant.left;
@@ -35,11 +34,11 @@ returns c =
     let none : rest.items ≡ [] = nil_from_length rest.items (sym rest.ok.0 ∙ c.in-None.ensures.steps.0) in
     let whole : yielded ≡ c.args.children.items =
     sym (append-nil yielded) ∙ ap (λ xs. yielded ++ xs) (sym none) ∙ c.loop-child.invariant.left ∙ c.into_iter-child-iterator.ensures.into_iter_gives.0 in
-    let ts = map (λ (x : Grown). plain x.tree) c.args.children.items in
+    let ts = map plain c.args.children.items in
     let same : map plain c.loop-child.list.items ≡ all_in_place c.args.kind ts =
-    c.loop-child.invariant.list ∙ ap (λ l. all_in_place c.args.kind (map (λ (x : Grown). plain x.tree) l)) whole in
+    c.loop-child.invariant.list ∙ ap (λ l. all_in_place c.args.kind (map plain l)) whole in
     let any : c.loop-child.merged ≡ list_any (is_merged c.args.kind) ts =
-    c.loop-child.invariant.merged ∙ ap (λ l. list_any (is_merged c.args.kind) (map (λ (x : Grown). plain x.tree) l)) whole in
+    c.loop-child.invariant.merged ∙ ap (λ l. list_any (is_merged c.args.kind) (map plain l)) whole in
     elim c.if-merged.branch [
       | then-merged+in_ok-sort_by_cached_key w ↦
           subst (λ v. AreOrdered c.args.kind ts (map plain v.items)) (sym w.list-is)
