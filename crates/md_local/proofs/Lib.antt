@@ -13,3 +13,4 @@ pub mod Rebuilt
 pub mod Edited
 pub mod Lifted
 pub mod Substituted
+pub mod EndsAndHeads
