@@ -14,3 +14,4 @@ pub mod Edited
 pub mod Lifted
 pub mod Substituted
 pub mod EndsAndHeads
+pub mod PutTrees
