@@ -65,7 +65,7 @@ tree_out (t ∷ ts) x none =
 
 module _ (P Q : ℕ → PlainTree → Type 0) where
   mutual
-    fits_more : (t u : PlainTree) → ((x : ℕ) (p : PlainTree) → Has (names t) x → P x p → Q x p) → IsSubstituted P t u → IsSubstituted Q t u
+    pub fits_more : (t u : PlainTree) → ((x : ℕ) (p : PlainTree) → Has (names t) x → P x p → Q x p) → IsSubstituted P t u → IsSubstituted Q t u
     fits_more (leaf x) u more is = more x u (only_has x) is
     fits_more (node k cs ps) u more (us, are, joined) = (us, fit_more cs us more are, joined)
 

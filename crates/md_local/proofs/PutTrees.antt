@@ -1,5 +1,6 @@
 -- Trees that are put in place of the leaves of a tree: their places, and the stack.
 use Rattle.std.proofs.Common.{◌≡◌, ◌≢◌, ℕ, zero, suc, ◌+◌, ◌-◌, ◌<◌, ◌≤◌, Bool, nat_eq, cond, List, [], ◌∷◌, ◌++◌, length, map, take, drop, get_or, length-append, append-nil, Option, Some, None, refl, sym, ◌∙◌, ap, subst, inl, inr, arith}
+use Rattle.std.proofs.lemmas.List.{length-map, map-append, take-map, drop-map}
 use Rattle.std.specs.Prelude.{⊤}
 use Rattle.std.specs.Borrow.{Bor}
 use Rattle.md_graph.specs.Sets.{Has, only_name}
@@ -19,16 +20,21 @@ use Rattle.md_tree.specs.WellFormed.{AreDisjoint, IsCanonicalNode, IsCanonicalTr
 use Rattle.md_tree.proofs.Plain.{plain_is_leaf, plain_is_node}
 use Rattle.md_tree.proofs.Folding.{row_listed}
 use Rattle.md_local.specs.Growing.{IsJoined}
-use Rattle.md_local.specs.Substitution.{IsSubstituted, AreSubstituted, IsPut, IsPutOver, place_at, tree_at}
+use Rattle.md_local.specs.Substitution.{IsSubstituted, AreSubstituted, IsPut, IsPutOver, tree_or_leaf, place_at}
 use Rattle.md_local.proofs.Nested.{children_last, node_last, alone_last}
 
 -- ---- places
 
-pub place_none : (xs : List (Option (TreeOf Kind Pair))) (x : ℕ) → place_at (xs ++ None ∷ []) x ≡ place_at xs x
-place_none [] zero = refl
-place_none [] (suc x) = refl
-place_none (o ∷ xs) zero = refl
-place_none (o ∷ xs) (suc x) = refl
+none_past : (xs : List (Option (TreeOf Kind Pair))) (x : ℕ) → length xs ≤ x → get_or xs x None ≡ None
+none_past [] x past = refl
+none_past (o ∷ xs) zero past = absurd (omega arith)
+none_past (o ∷ xs) (suc x) past = none_past xs x (omega arith)
+
+pub place_past : (xs : List (Option (TreeOf Kind Pair))) (x : ℕ) → length xs ≤ x → leaf x ≡ place_at xs x
+place_past xs x past = sym (ap (tree_or_leaf x) (none_past xs x past))
+
+pub place_empty : (xs : List (Option (TreeOf Kind Pair))) (x : ℕ) (o : Option (TreeOf Kind Pair)) → o ≡ get_or xs x o → o ≡ None → leaf x ≡ place_at xs x
+place_empty xs x o is none = sym (ap (tree_or_leaf x) (subst (λ d. get_or xs x d ≡ None) none (sym is ∙ none)))
 
 -- ---- the leaves of a tree
 
@@ -144,7 +150,28 @@ module _ (Fits : ℕ → PlainTree → Type 0) where
         let front : Later AreOtherLeaves (ps ++ leaf x ∷ []) = subst (Later AreOtherLeaves) pop (later_left AreOtherLeaves left (row_nodes_backward (row is.0)) all) in
         later_across AreOtherLeaves ps (leaf x ∷ []) front (leaf x) (leaf x) i (inl refl) x refl refl
 
+    -- a place that isn't the leaf's is kept
+    pub leaves_keep : (old new begun : ℕ → PlainTree) (left ps : List PlainTree) (p : PlainTree) (us : List PlainTree) → IsCanonicalTree t → IsPutStack left us → left ≡ ps ++ p ∷ [] →
+        ((x : ℕ) → p ≢ leaf x → new x ≡ old x) → ((x : ℕ) → In left (leaf x) → old x ≡ begun x) → (x : ℕ) → In ps (leaf x) → new x ≡ begun x
+    leaves_keep old new begun left ps p us each is pop kept before x i =
+        kept x (λ same. leaf_once left ps x us each is (pop ∙ ap (λ q. ps ++ q ∷ []) same) i)
+        ∙ before x (subst (λ l. In l (leaf x)) (sym pop) (in_left ps (p ∷ []) (leaf x) i))
+
+    pub leaf_fits : (old begun : ℕ → PlainTree) (left ps : List PlainTree) (p : PlainTree) → left ≡ ps ++ p ∷ [] → ((x : ℕ) → In left (leaf x) → old x ≡ begun x) → (x : ℕ) → p ≡ leaf x → old x ≡ begun x
+    leaf_fits old begun left ps p pop before x same =
+        before x (subst (λ l. In l (leaf x)) (sym (pop ∙ ap (λ q. ps ++ q ∷ []) same)) (in_right ps (leaf x ∷ []) (leaf x) (inl refl)))
+
 -- ---- what is put for a node
+
+pub put_turn : (place : ℕ → PlainTree) (p : PlainTree) (xs ys zs cs : List (TreeOf Kind Pair)) (u : TreeOf Kind Pair) (n m : ℕ) → n ≡ length (below_node p) → m ≡ length xs - n → cs ≡ drop m xs → ys ≡ take m xs →
+    zs ≡ ys ++ u ∷ [] → IsPutOver place p (map plain cs) (plain u) → IsPut place p (map plain xs) (map plain zs)
+put_turn place p xs ys zs cs u n m number below cut kept push over =
+    let at : m ≡ length (map plain xs) - length (below_node p) = (let long = length-map xs plain in omega arith) in (
+      plain u,
+      subst (λ l. IsPutOver place p l (plain u)) (ap (map plain) cut ∙ sym (drop-map plain m xs) ∙ ap (λ i. drop i (map plain xs)) at) over,
+      ap (map plain) push ∙ map-append plain ys (u ∷ [])
+          ∙ ap (λ l. l ++ plain u ∷ []) (ap (map plain) kept ∙ sym (take-map plain m xs) ∙ ap (λ i. take i (map plain xs)) at),
+    )
 
 pub put_leaf : (place : ℕ → PlainTree) (t : TreeOf Kind Pair) (x : ℕ) (us : List PlainTree) (u : PlainTree) → t ≡ Leaf x → u ≡ place x → IsPutOver place (plain t) us u
 put_leaf place t x us u is made = subst (λ p. IsPutOver place p us u) (sym (plain_is_leaf t x is)) made

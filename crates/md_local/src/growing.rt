@@ -221,6 +221,7 @@ fn fresh<L: Ledger, const W: usize>(
         (map plain hanging.items) (plain tree)) }
     ensures work { work.new ≤ work.old + len (quotient_names (map plain hanging.items) u v) }
 {
+    let _vertices = graph.vertices();
     let names = vertices_of(graph, &hanging, u, v);
     match decompose_part(alloc, graph, &names, work)? {
         Some(quotient) => substitute(alloc, &quotient, hanging),
