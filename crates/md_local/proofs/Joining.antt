@@ -31,7 +31,7 @@ use Rattle.md_local.specs.Changes.{AgreeOff, MergesIntoParent}
 use Rattle.md_local.specs.Growing.{is_merged, in_place_of, all_in_place, AreOrdered}
 use Rattle.md_local.proofs.Transfer.{agree_right}
 use Rattle.md_local.proofs.Staying.{parent_is, other_stays, child_stays, below_comes, of_children, children_stay, kind_stays}
-use Rattle.md_local.proofs.Ordering.{child_of_in, in_of_child, head_least, place_merged, place_kept, places_apart, in_order}
+use Rattle.md_local.proofs.Ordering.{child_of_in, in_of_child, head_least, place_merged, place_kept, none_merged, places_apart, in_order}
 
 -- ---- trees at the places of others
 
@@ -114,16 +114,6 @@ module _ (k : Kind) (gs us : List PlainTree) (ordered : AreOrdered k gs us) wher
   of_us t i =
       of_all k gs t
       (of_contains (all_in_place k gs) t (Contains-permutation us (all_in_place k gs) t (IsPermutation-sym (all_in_place k gs) us ordered.moved) (to_contains us t i)))
-
-pub none_merged : (k : Kind) (gs : List PlainTree) → list_any (is_merged k) gs ≡ false → all_in_place k gs ≡ gs
-none_merged k [] none = refl
-none_merged k (g ∷ gs) none = elim (cases_Bool (is_merged k g)) [
-  | inl holds ↦ clash (ap (λ b. b || list_any (is_merged k) gs) holds) none
-  | inr fails ↦
-      let first : in_place_of k g ≡ g ∷ [] = place_kept k g fails in
-      let rest : all_in_place k gs ≡ gs = none_merged k gs (ap (λ b. b || list_any (is_merged k) gs) (sym fails) ∙ none) in
-      ap (λ l. l ++ all_in_place k gs) first ∙ ap (λ l. g ∷ l) rest
-]
 
 pub prime_keeps : (gs : List PlainTree) → list_any (is_merged Prime) gs ≡ false
 prime_keeps [] = refl

@@ -16,7 +16,7 @@ use Rattle.md_tree.specs.Parts.{listed, below_node}
 use Rattle.md_tree.specs.Plain.{plain, trees_of}
 use Rattle.md_tree.proofs.Plain.{plain_is_leaf, plain_is_node}
 use Rattle.md_local.specs.Growing.{are_one_split, is_merged, in_place_of, all_in_place, AreOrdered}
-use Rattle.md_local.proofs.Ordering.{place_merged, place_kept}
+use Rattle.md_local.proofs.Ordering.{place_merged, place_kept, none_merged}
 
 -- ---- a node and its children
 
@@ -69,15 +69,9 @@ pub or_false : (b : Bool) → (b || false) ≡ b
 or_false true = refl
 or_false false = refl
 
-or_assoc : (a b c : Bool) → (a || (b || c)) ≡ ((a || b) || c)
-or_assoc true b c = refl
-or_assoc false b c = refl
-
-pub any_more : (kind : Kind) (xs : List (TreeOf Kind Pair)) (x : TreeOf Kind Pair) → list_any (is_merged kind) (map plain (xs ++ x ∷ [])) ≡ (list_any (is_merged kind) (map plain xs) || is_merged kind (plain x))
-any_more kind [] x = or_false (is_merged kind (plain x))
-any_more kind (y ∷ xs) x =
-    ap (λ b. is_merged kind (plain y) || b) (any_more kind xs x)
-    ∙ or_assoc (is_merged kind (plain y)) (list_any (is_merged kind) (map plain xs)) (is_merged kind (plain x))
+pub any_merged : (kind : Kind) (xs : List (TreeOf Kind Pair)) → list_any (λ (x : TreeOf Kind Pair). is_merged kind (plain x)) xs ≡ list_any (is_merged kind) (map plain xs)
+any_merged kind [] = refl
+any_merged kind (x ∷ xs) = ap (λ b. is_merged kind (plain x) || b) (any_merged kind xs)
 
 -- ---- in order
 
@@ -98,10 +92,10 @@ sorted_ordered kind ts xs ys same holds moved rising = record {
   rising = λ _. rising_plain ys rising;
 }
 
-pub kept_ordered : (kind : Kind) (ts : List PlainTree) (xs : List (TreeOf Kind Pair)) → map plain xs ≡ all_in_place kind ts → list_any (is_merged kind) ts ≡ false → AreOrdered kind ts (map plain xs)
-kept_ordered kind ts xs same fails = record {
-  moved = subst (IsPermutation (all_in_place kind ts)) (sym same) (IsPermutation-refl (all_in_place kind ts));
-  kept = λ _. same;
+pub kept_ordered : (kind : Kind) (ts : List PlainTree) → list_any (is_merged kind) ts ≡ false → AreOrdered kind ts ts
+kept_ordered kind ts fails = record {
+  moved = subst (λ l. IsPermutation l ts) (sym (none_merged kind ts fails)) (IsPermutation-refl ts);
+  kept = λ _. sym (none_merged kind ts fails);
   rising = λ holds. clash holds fails;
 }
 

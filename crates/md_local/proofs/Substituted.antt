@@ -34,8 +34,8 @@ use Rattle.md_tree.proofs.Heads.{child_here}
 use Rattle.md_tree.proofs.Fitted.{told_by_heads, by_positions, by_trees, modules_below}
 use Rattle.md_local.specs.Growing.{is_merged, in_place_of, AreOrdered}
 use Rattle.md_local.specs.Substitution.{IsSubstituted, AreSubstituted, TreesAreSubstituted}
-use Rattle.md_local.proofs.Ordering.{child_of_in, in_of_child, head_least, place_merged, place_kept, places_apart, in_order, names_below_node}
-use Rattle.md_local.proofs.Joining.{AreTreesOver, child_of_tree, in_us, of_us, none_merged, prime_keeps, each_row, only_in, each_below, apart_below, colour, kind_of, split_kind, split_below, merged_if, merged_children}
+use Rattle.md_local.proofs.Ordering.{child_of_in, in_of_child, head_least, place_merged, place_kept, none_merged, places_apart, in_order, names_below_node}
+use Rattle.md_local.proofs.Joining.{AreTreesOver, child_of_tree, in_us, of_us, prime_keeps, each_row, only_in, each_below, apart_below, colour, kind_of, split_kind, split_below, merged_if, merged_children}
 use Rattle.md_local.proofs.Lifted.{of_lift, lift_has, lift_own, lift_whole, lift_only, lifted_below, lifted_apart, lifted_count, lifted_at, own_at, lifted_order, lifted_heads}
 use Rattle.md_text.proofs.Lists.{In}
 

@@ -180,14 +180,15 @@ fn ends_apart(children: &[Grown]) -> bool
 fn gather(alloc: Global, children: Vec<Grown>) -> Result<Vec<Tree>, Memory>
     ensures { IfOk result (λ list. map plain list.items ≡ gathered [] children.items) }
 {
-    let mut list = Vec::new(alloc);
+    let mut list = Vec::with_capacity(alloc, children.len())?;
     for child in children {
         add(&mut list, child.growth)?;
     }
     Ok(list)
 }
 
-// Appends a tree; trees that hang come before those of the list, which are fewer on long paths.
+// Appends a tree; trees that hang stay where they are, and those of the list come behind them: on a
+// long path these are the fewer.
 fn add(list: &mut Vec<Tree>, growth: Growth) -> Result<(), Memory>
     ensures { IfOk result (λ _. map plain list.new.items
         ≡ added_to (map plain list.old.items) growth) }

@@ -1,5 +1,6 @@
 //! A node over trees, of which some are merged into it.
 ghost use Rattle.std.specs.Prelude.{◌≡◌, ◌++◌, map, IfOk, length};
+ghost use Rattle.std.specs.List.{list_any};
 ghost use Rattle.md_tree.specs.Heads.{head};
 ghost use Rattle.md_tree.specs.Parts.{below_node};
 ghost use Rattle.md_tree.specs.Plain.{plain};
@@ -35,35 +36,40 @@ pub(crate) fn join(
     Ok(Tree::Node(kind, Children { list }, QuotientEdges { list: edges }))
 }
 
-// The trees, each that can't be a child of a node of the kind with its own children in its place;
-// then they are put in order.
+// The trees, each that can't be a child of a node of the kind with its own children in its place,
+// and then in order; the trees as they are where each can be a child.
 fn ordered(alloc: Global, kind: Kind, children: Vec<Tree>) -> Result<Vec<Tree>, Memory>
     ensures { IfOk result (λ list. AreOrdered kind (map plain children.items)
         (map plain list.items)) }
 {
+    if !some_merges(kind, &children) {
+        return Ok(children);
+    }
     let mut list = Vec::with_capacity(alloc, children.len())?;
-    let mut merged = false;
     for child in children {
-        merged |= put(&mut list, kind, child)?;
+        put(&mut list, kind, child)?;
     }
-    if merged {
-        list.sort_by_cached_key(|tree| first_leaf(tree))?;
-    }
+    list.sort_by_cached_key(|tree| first_leaf(tree))?;
     Ok(list)
 }
 
-// Appends a tree, or its children where it can't be a child of a node of the kind; and says so.
-fn put(list: &mut Vec<Tree>, kind: Kind, tree: Tree) -> Result<bool, Memory>
-    ensures merged { IfOk result (λ merged. merged ≡ is_merged kind (plain tree)) }
-    ensures list { IfOk result (λ _. map plain list.new.items
+// Whether one of the trees can't be a child of a node of the kind.
+fn some_merges(kind: Kind, children: &[Tree]) -> bool
+    ensures { result ≡ list_any (λ child. is_merged kind (plain child)) children.now }
+{
+    children.iter().any(|child| merges(kind, child))
+}
+
+// Appends a tree, or its children where it can't be a child of a node of the kind.
+fn put(list: &mut Vec<Tree>, kind: Kind, tree: Tree) -> Result<(), Memory>
+    ensures { IfOk result (λ _. map plain list.new.items
         ≡ map plain list.old.items ++ in_place_of kind (plain tree)) }
 {
     if merges(kind, &tree) {
-        append_children(list, tree)?;
-        return Ok(true);
+        return append_children(list, tree);
     }
     list.push(tree)?;
-    Ok(false)
+    Ok(())
 }
 
 // Whether a tree can't be a child of a node of the kind.
