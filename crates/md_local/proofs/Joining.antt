@@ -31,31 +31,36 @@ use Rattle.md_local.specs.Changes.{AgreeOff, MergesIntoParent}
 use Rattle.md_local.specs.Growing.{is_merged, in_place_of, all_in_place, AreOrdered}
 use Rattle.md_local.proofs.Transfer.{agree_right}
 use Rattle.md_local.proofs.Staying.{parent_is, other_stays, child_stays, below_comes, of_children, children_stay, kind_stays}
-use Rattle.md_local.proofs.Ordering.{child_of_in, in_of_child, head_least, place_merged, place_kept, places_apart, in_order}
+use Rattle.md_local.proofs.Ordering.{child_of_in, in_of_child, head_least, place_merged, place_kept, none_merged, places_apart, in_order}
 
 -- ---- trees at the places of others
 
--- at the place of each tree is one with the same names, each node of which is built by f
-abbrev pub AreTrees : (ℕ → ℕ → Bool) → PlainTrees → List PlainTree → Type 0
-AreTrees f no_tree [] = ⊤
-AreTrees f no_tree (g ∷ gs) = ⊥
-AreTrees f (one_more c cs) [] = ⊥
-AreTrees f (one_more c cs) (g ∷ gs) = ((names g ≡ names c) × EachNode (IsBuilt f) g) × AreTrees f cs gs
+-- at the place of each tree is one whose names are those that `lift` leads to, and each node of which is built by f
+abbrev pub AreTreesOver : (ℕ → ℕ → Bool) → (NameSet → NameSet) → PlainTrees → List PlainTree → Type 0
+AreTreesOver f lift no_tree [] = ⊤
+AreTreesOver f lift no_tree (g ∷ gs) = ⊥
+AreTreesOver f lift (one_more c cs) [] = ⊥
+AreTreesOver f lift (one_more c cs) (g ∷ gs) = ((names g ≡ lift (names c)) × EachNode (IsBuilt f) g) × AreTreesOver f lift cs gs
 
-module _ (f : ℕ → ℕ → Bool) where
-  tree_of_child : (cs : PlainTrees) (gs : List PlainTree) → AreTrees f cs gs → (c : PlainTree) → IsChild cs c → (g : PlainTree) × In gs g × (names g ≡ names c) × EachNode (IsBuilt f) g
+-- the same with the names of the tree
+abbrev pub AreTrees : (ℕ → ℕ → Bool) → PlainTrees → List PlainTree → Type 0
+AreTrees f = AreTreesOver f (λ m. m)
+
+module _ (f : ℕ → ℕ → Bool) (lift : NameSet → NameSet) where
+  pub tree_of_child : (cs : PlainTrees) (gs : List PlainTree) → AreTreesOver f lift cs gs → (c : PlainTree) → IsChild cs c → (g : PlainTree) × In gs g × (names g ≡ lift (names c)) × EachNode (IsBuilt f) g
   tree_of_child no_tree gs are c i = absurd i
   tree_of_child (one_more t cs) [] are c i = absurd are
-  tree_of_child (one_more t cs) (g ∷ gs) are c (inl e) = (g, inl refl, are.0.0 ∙ ap names (sym e), are.0.1)
+  tree_of_child (one_more t cs) (g ∷ gs) are c (inl e) = (g, inl refl, are.0.0 ∙ ap (λ d. lift (names d)) (sym e), are.0.1)
   tree_of_child (one_more t cs) (g ∷ gs) are c (inr i) = let r = tree_of_child cs gs are.1 c i in (r.0, inr r.1, r.2, r.3)
 
-  child_of_tree : (cs : PlainTrees) (gs : List PlainTree) → AreTrees f cs gs → (g : PlainTree) → In gs g → (c : PlainTree) × IsChild cs c × (names g ≡ names c) × EachNode (IsBuilt f) g
+  pub child_of_tree : (cs : PlainTrees) (gs : List PlainTree) → AreTreesOver f lift cs gs → (g : PlainTree) → In gs g → (c : PlainTree) × IsChild cs c × (names g ≡ lift (names c)) × EachNode (IsBuilt f) g
   child_of_tree no_tree [] are g i = absurd i
   child_of_tree no_tree (x ∷ gs) are g i = absurd are
   child_of_tree (one_more t cs) [] are g i = absurd are
   child_of_tree (one_more t cs) (x ∷ gs) are g (inl e) = (t, inl refl, ap names e ∙ are.0.0, subst (EachNode (IsBuilt f)) (sym e) are.0.1)
   child_of_tree (one_more t cs) (x ∷ gs) are g (inr i) = let r = child_of_tree cs gs are.1 g i in (r.0, inr r.1, r.2, r.3)
 
+module _ (f : ℕ → ℕ → Bool) where
   same_below : (cs : PlainTrees) (gs : List PlainTree) → AreTrees f cs gs → names_below (row gs) ≡ names_below cs
   same_below no_tree [] are = refl
   same_below no_tree (g ∷ gs) are = absurd are
@@ -101,35 +106,34 @@ of_all k (x ∷ gs) t i = elim (of_append (in_place_of k x) (all_in_place k gs) 
   | inr j ↦ let r = of_all k gs t j in (r.0, inr r.1, r.2)
 ]
 
-none_merged : (k : Kind) (gs : List PlainTree) → list_any (is_merged k) gs ≡ false → all_in_place k gs ≡ gs
-none_merged k [] none = refl
-none_merged k (g ∷ gs) none = elim (cases_Bool (is_merged k g)) [
-  | inl holds ↦ clash (ap (λ b. b || list_any (is_merged k) gs) holds) none
-  | inr fails ↦
-      let first : in_place_of k g ≡ g ∷ [] = place_kept k g fails in
-      let rest : all_in_place k gs ≡ gs = none_merged k gs (ap (λ b. b || list_any (is_merged k) gs) (sym fails) ∙ none) in
-      ap (λ l. l ++ all_in_place k gs) first ∙ ap (λ l. g ∷ l) rest
-]
+module _ (k : Kind) (gs us : List PlainTree) (ordered : AreOrdered k gs us) where
+  pub in_us : (g t : PlainTree) → In gs g → In (in_place_of k g) t → In us t
+  in_us g t i j = of_contains us t (Contains-permutation (all_in_place k gs) us t ordered.moved (to_contains (all_in_place k gs) t (in_all k gs g t i j)))
 
-prime_keeps : (gs : List PlainTree) → list_any (is_merged Prime) gs ≡ false
+  pub of_us : (t : PlainTree) → In us t → (g : PlainTree) × In gs g × In (in_place_of k g) t
+  of_us t i =
+      of_all k gs t
+      (of_contains (all_in_place k gs) t (Contains-permutation us (all_in_place k gs) t (IsPermutation-sym (all_in_place k gs) us ordered.moved) (to_contains us t i)))
+
+pub prime_keeps : (gs : List PlainTree) → list_any (is_merged Prime) gs ≡ false
 prime_keeps [] = refl
 prime_keeps (leaf v ∷ gs) = prime_keeps gs
 prime_keeps (node k cs ps ∷ gs) = prime_keeps gs
 
-each_row : (N : Kind → PlainTrees → List Pair → Type 0) (ts : List PlainTree) → ((t : PlainTree) → In ts t → EachNode N t) → EachNodeBelow N (row ts)
+pub each_row : (N : Kind → PlainTrees → List Pair → Type 0) (ts : List PlainTree) → ((t : PlainTree) → In ts t → EachNode N t) → EachNodeBelow N (row ts)
 each_row N [] all = tt
 each_row N (t ∷ ts) all = (all t (inl refl), each_row N ts (λ u i. all u (inr i)))
 
-only_in : (g t : PlainTree) → In (g ∷ []) t → t ≡ g
+pub only_in : (g t : PlainTree) → In (g ∷ []) t → t ≡ g
 only_in g t (inl e) = e
 only_in g t (inr i) = absurd i
 
-each_below : (N : Kind → PlainTrees → List Pair → Type 0) (g t : PlainTree) → EachNode N g → In (below_node g) t → EachNode N t
+pub each_below : (N : Kind → PlainTrees → List Pair → Type 0) (g t : PlainTree) → EachNode N g → In (below_node g) t → EachNode N t
 each_below N (leaf v) t each i = absurd i
 each_below N (node k cs ps) t each i = each_child N cs t each.1 (subst (λ ts. IsChild ts t) (row_listed cs) (child_of_in (listed cs) t i))
 
 -- the children of a node that is built have no name in common
-apart_below : {f : ℕ → ℕ → Bool} → IsAdjacency f → (t : PlainTree) → EachNode (IsBuilt f) t → AreDisjoint (row (below_node t))
+pub apart_below : {f : ℕ → ℕ → Bool} → IsAdjacency f → (t : PlainTree) → EachNode (IsBuilt f) t → AreDisjoint (row (below_node t))
 apart_below af (leaf v) each = tt
 apart_below af (node k cs ps) each =
     subst AreDisjoint (sym (row_listed cs)) (apart_of (kinds_of_graphs (undirected af)) k (names_below cs) cs (children_maximal k cs ps each.0) each.0.node_of.order)
@@ -137,16 +141,16 @@ apart_below af (node k cs ps) each =
 -- ---- kinds and splits
 
 -- of the two kinds that split: whether every pair across is an edge
-abbrev colour : Kind → Bool
+abbrev pub colour : Kind → Bool
 colour Parallel = false
 colour Series = true
 colour Prime = false
 
-abbrev kind_of : Bool → Kind
+abbrev pub kind_of : Bool → Kind
 kind_of false = Parallel
 kind_of true = Series
 
-split_kind : (e : ℕ → ℕ → Bool) (s a : NameSet) (v : Bool) → IsSplit e s a v → HasKind e s (kind_of v)
+pub split_kind : (e : ℕ → ℕ → Bool) (s a : NameSet) (v : Bool) → IsSplit e s a v → HasKind e s (kind_of v)
 split_kind e s a false split = (a, split)
 split_kind e s a true split = (a, split)
 
@@ -156,7 +160,7 @@ split_over e s Series t m h = h
 split_over e s Prime (leaf v) m h = absurd (false≢true m)
 split_over e s Prime (node l cs ps) m h = absurd (false≢true m)
 
-split_below : (f : ℕ → ℕ → Bool) (k : Kind) (t : PlainTree) → EachNode (IsBuilt f) t → is_merged k t ≡ true → (b : NameSet) × IsSplit f (names t) b (colour k)
+pub split_below : (f : ℕ → ℕ → Bool) (k : Kind) (t : PlainTree) → EachNode (IsBuilt f) t → is_merged k t ≡ true → (b : NameSet) × IsSplit f (names t) b (colour k)
 split_below f k (leaf v) each m = absurd (false≢true m)
 split_below f Parallel (node Parallel cs ps) each m = each.0.node_of.kind
 split_below f Parallel (node Series cs ps) each m = absurd (false≢true m)
@@ -170,13 +174,13 @@ one_split : (k l : Kind) (v : Bool) (cs : PlainTrees) (ps : List Pair) → k ≡
 one_split k l false cs ps a b = ap (λ i. is_merged i (node l cs ps)) a ∙ ap (λ i. is_merged Parallel (node i cs ps)) b
 one_split k l true cs ps a b = ap (λ i. is_merged i (node l cs ps)) a ∙ ap (λ i. is_merged Series (node i cs ps)) b
 
-merged_if : {f : ℕ → ℕ → Bool} → IsAdjacency f → (k : Kind) (t : PlainTree) (v : Bool) → EachNode (IsBuilt f) t → k ≡ kind_of v → HasKind f (names t) (kind_of v) → is_merged k t ≡ true
+pub merged_if : {f : ℕ → ℕ → Bool} → IsAdjacency f → (k : Kind) (t : PlainTree) (v : Bool) → EachNode (IsBuilt f) t → k ≡ kind_of v → HasKind f (names t) (kind_of v) → is_merged k t ≡ true
 merged_if {f = f} af k (leaf x) v each same h =
     let two : HasTwo (only_name x) = two_of_kind f (only_name x) (kind_of v) h in
     absurd (two.4 (of_only x two.0 two.2 ∙ sym (of_only x two.1 two.3)))
 merged_if af k (node l cs ps) v each same h = one_split k l v cs ps same (one_kind (undirected af) (names_below cs) l (kind_of v) each.0.node_of.kind h)
 
-merged_children : (f : ℕ → ℕ → Bool) (k : Kind) (t : PlainTree) → EachNode (IsBuilt f) t → is_merged k t ≡ true → (m : NameSet) → IsMaximalStrong f (names t) m ↔ IsChildSet (row (below_node t)) m
+pub merged_children : (f : ℕ → ℕ → Bool) (k : Kind) (t : PlainTree) → EachNode (IsBuilt f) t → is_merged k t ≡ true → (m : NameSet) → IsMaximalStrong f (names t) m ↔ IsChildSet (row (below_node t)) m
 merged_children f k (leaf v) each m n = absurd (false≢true m)
 merged_children f k (node l cs ps) each m n = subst (λ ts. IsMaximalStrong f (names_below cs) n ↔ IsChildSet ts n) (sym (row_listed cs)) (each.0.children n)
 
@@ -191,7 +195,7 @@ module _ {e f : ℕ → ℕ → Bool} (ae : IsAdjacency e) (af : IsAdjacency f) 
   apart = apart_of (kinds_of_graphs (undirected ae)) k (names_below cs) cs maximal each.0.node_of.order
 
   of_d : (g : PlainTree) × In gs g × (names g ≡ names d) × EachNode (IsBuilt f) g
-  of_d = tree_of_child f cs gs trees d place
+  of_d = tree_of_child f (λ m. m) cs gs trees d place
 
   -- what grows where the names of d are is what d has grown to
   is_of_d : (g : PlainTree) → EachNode (IsBuilt f) g → names g ≡ names d → g ≡ of_d.0
@@ -236,20 +240,12 @@ module _ {e f : ℕ → ℕ → Bool} (ae : IsAdjacency e) (af : IsAdjacency f) 
   ]
 
   module _ (us : List PlainTree) (ordered : AreOrdered k gs us) where
-    in_us : (g t : PlainTree) → In gs g → In (in_place_of k g) t → In us t
-    in_us g t i j = of_contains us t (Contains-permutation (all_in_place k gs) us t ordered.moved (to_contains (all_in_place k gs) t (in_all k gs g t i j)))
-
-    of_us : (t : PlainTree) → In us t → (g : PlainTree) × In gs g × In (in_place_of k g) t
-    of_us t i =
-        of_all k gs t
-        (of_contains (all_in_place k gs) t (Contains-permutation us (all_in_place k gs) t (IsPermutation-sym (all_in_place k gs) us ordered.moved) (to_contains us t i)))
-
     -- the set of a child that is kept is that of one of the trees
     kept_set : (m : NameSet) (c : PlainTree) → IsChild cs c → m ≡ names c → ((g : PlainTree) → EachNode (IsBuilt f) g → names g ≡ names c → is_merged k g ≡ false) → IsChildSet (row us) m
     kept_set m c i is kept =
-        let g : (g : PlainTree) × In gs g × (names g ≡ names c) × EachNode (IsBuilt f) g = tree_of_child f cs gs trees c i in
+        let g : (g : PlainTree) × In gs g × (names g ≡ names c) × EachNode (IsBuilt f) g = tree_of_child f (λ m. m) cs gs trees c i in
         let own : In (in_place_of k g.0) g.0 = subst (λ l. In l g.0) (sym (place_kept k g.0 (kept g.0 g.3 g.2))) (inl refl) in
-        (g.0, child_of_in us g.0 (in_us g.0 g.0 g.1 own), is ∙ sym g.2)
+        (g.0, child_of_in us g.0 (in_us k gs us ordered g.0 g.0 g.1 own), is ∙ sym g.2)
 
     -- the children afterwards are the trees
     to_us : (m : NameSet) → IsMaximalStrong f (names_below cs) m → IsChildSet (row us) m
@@ -264,7 +260,7 @@ module _ {e f : ℕ → ℕ → Bool} (ae : IsAdjacency e) (af : IsAdjacency f) 
             | inr below ↦
                 let c : IsChildSet (row (below_node of_d.0)) m = (merged_children f k of_d.0 of_d.3 holds m).0 (subst (λ n. IsMaximalStrong f n m) (sym of_d.2) below) in
                 let i : In (in_place_of k of_d.0) c.0 = subst (λ l. In l c.0) (sym (place_merged k of_d.0 holds)) (in_of_child (below_node of_d.0) c.0 c.1) in
-                (c.0, child_of_in us c.0 (in_us of_d.0 c.0 of_d.1 i), c.2)
+                (c.0, child_of_in us c.0 (in_us k gs us ordered of_d.0 c.0 of_d.1 i), c.2)
           ]
       | inr fails ↦
           let before : IsMaximalStrong e (names_below cs) m =
@@ -277,8 +273,8 @@ module _ {e f : ℕ → ℕ → Bool} (ae : IsAdjacency e) (af : IsAdjacency f) 
 
     of_us_max : (t : PlainTree) → In us t → IsMaximalStrong f (names_below cs) (names t) × EachNode (IsBuilt f) t
     of_us_max t i =
-        let g : (g : PlainTree) × In gs g × In (in_place_of k g) t = of_us t i in
-        let c : (c : PlainTree) × IsChild cs c × (names g.0 ≡ names c) × EachNode (IsBuilt f) g.0 = child_of_tree f cs gs trees g.0 g.1 in
+        let g : (g : PlainTree) × In gs g × In (in_place_of k g) t = of_us k gs us ordered t i in
+        let c : (c : PlainTree) × IsChild cs c × (names g.0 ≡ names c) × EachNode (IsBuilt f) g.0 = child_of_tree f (λ m. m) cs gs trees g.0 g.1 in
         elim (cases_Bool (is_merged k g.0)) [
           | inl holds ↦
               let same : names g.0 ≡ names d = c.2 ∙ merged_is_d c.0 g.0 c.1 c.2 c.3 holds in
@@ -312,7 +308,7 @@ module _ {e f : ℕ → ℕ → Bool} (ae : IsAdjacency e) (af : IsAdjacency f) 
     apart_us : AreDisjoint (row us)
     apart_us =
         places_apart k gs us (same_apart f cs gs trees apart)
-        (λ g i. apart_below af g (child_of_tree f cs gs trees g i).3) ordered.moved
+        (λ g i. apart_below af g (child_of_tree f (λ m. m) cs gs trees g i).3) ordered.moved
 
     in_order_us : IsInOrder (row us)
     in_order_us = elim (cases_Bool (list_any (is_merged k) gs)) [

@@ -7,7 +7,11 @@ pub mod Joining
 pub mod Nested
 pub mod Turns
 pub mod Between
-pub mod Leaves
 pub mod Placing
 pub mod Rebuilt
 pub mod Edited
+pub mod Lifted
+pub mod Substituted
+pub mod EndsAndHeads
+pub mod PutTrees
+pub mod QuotientNames

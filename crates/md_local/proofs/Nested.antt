@@ -1,8 +1,10 @@
 -- The nodes of a tree, read from the last to the first: behind each come those below it.
-use Rattle.std.proofs.Common.{◌≡◌, ◌⊎◌, List, [], ◌∷◌, ◌++◌, refl, sym, ◌∙◌, ap, append_assoc, append-nil, inl, inr}
-use Rattle.std.proofs.lemmas.List.{append_cancel_left}
+use Rattle.std.proofs.Common.{◌≡◌, ◌⊎◌, List, [], ◌∷◌, ◌++◌, map, refl, sym, ◌∙◌, ap, append_assoc, append-nil, inl, inr}
+use Rattle.std.proofs.lemmas.List.{append_cancel_left, map-append}
+use Rattle.std.specs.Borrow.{Bor}
+use Rattle.md_tree.specs.declared.TreeOf.{TreeOf}
 use Rattle.md_tree.specs.Trees.{PlainTreeOf, leaf, node, PlainTreesOf, no_tree, one_more, row}
-use Rattle.md_tree.specs.Parts.{listed, below_node}
+use Rattle.md_tree.specs.Parts.{listed, below_node, plain_at}
 use Rattle.md_tree.specs.NodeLists.{nodes_backward, row_nodes_backward}
 use Rattle.md_tree.proofs.Folding.{row_listed}
 
@@ -133,3 +135,6 @@ module _ {K P : Type 0} where
         | inl empty ↦ us.1 ∙ ap (λ l. l ++ t ∷ []) empty
         | inr last ↦ no_nodes last.1 (row_nodes_backward (row last.0)) (sym (rows-append last.0 (last.1 ∷ [])) ∙ ap (λ l. row_nodes_backward (row l)) (sym last.2) ∙ rest)
       ]
+
+pub plain_last : {K P : Type 0} (nodes left : List (Bor (TreeOf K P))) (r : Bor (TreeOf K P)) → nodes ≡ left ++ r ∷ [] → map plain_at nodes ≡ map plain_at left ++ plain_at r ∷ []
+plain_last nodes left r pop = ap (map plain_at) pop ∙ map-append plain_at left (r ∷ [])

@@ -1,10 +1,10 @@
 -- Trees that have no name in common and stand in the order of their first leaves are in order.
-use Rattle.std.proofs.Common.{◌≡◌, ◌≢◌, ℕ, suc, ◌≤◌, Bool, true, false, cond, List, [], ◌∷◌, Contains, refl, ap, subst, inl, inr, arith}
+use Rattle.std.proofs.Common.{◌≡◌, ◌≢◌, ℕ, suc, ◌≤◌, Bool, true, false, ◌||◌, cond, List, [], ◌∷◌, ◌++◌, Contains, refl, sym, ◌∙◌, ap, subst, inl, inr, arith}
 use Rattle.std.proofs.lemmas.Bool.{cases_Bool, false≢true}
 use Rattle.std.proofs.lemmas.List.Sums.{sum_by-cons, sum_by-append}
 use Rattle.std.proofs.lemmas.List.Sorted.{sum_by-IsPermutation, IsNonDecreasingBy-drop}
 use Rattle.std.specs.FinSet.{contains, empty}
-use Rattle.std.specs.List.{sum_by}
+use Rattle.std.specs.List.{sum_by, list_any}
 use Rattle.std.specs.List.Sorted.{IsPermutation, IsNonDecreasingBy}
 use Rattle.md_graph.specs.Sets.{Has, Lacks}
 use Rattle.md_graph.proofs.SetLemmas.{clash, of_only, only_has, of_union, union_left, empty_lacks}
@@ -60,11 +60,21 @@ place_merged k t e = ap (λ b. cond b (below_node t) (t ∷ [])) e
 pub place_kept : (k : Kind) (t : PlainTree) → is_merged k t ≡ false → in_place_of k t ≡ t ∷ []
 place_kept k t e = ap (λ b. cond b (below_node t) (t ∷ [])) e
 
+pub none_merged : (k : Kind) (gs : List PlainTree) → list_any (is_merged k) gs ≡ false → all_in_place k gs ≡ gs
+none_merged k [] none = refl
+none_merged k (g ∷ gs) none = elim (cases_Bool (is_merged k g)) [
+  | inl holds ↦ clash (ap (λ b. b || list_any (is_merged k) gs) holds) none
+  | inr fails ↦
+      let first : in_place_of k g ≡ g ∷ [] = place_kept k g fails in
+      let rest : all_in_place k gs ≡ gs = none_merged k gs (ap (λ b. b || list_any (is_merged k) gs) (sym fails) ∙ none) in
+      ap (λ l. l ++ all_in_place k gs) first ∙ ap (λ l. g ∷ l) rest
+]
+
 -- a tree whose children have no name in common
 abbrev pub HasApart : PlainTree → Type 0
 HasApart t = AreDisjoint (row (below_node t))
 
-names_below_node : (k : Kind) (t : PlainTree) → is_merged k t ≡ true → names_below (row (below_node t)) ≡ names t
+pub names_below_node : (k : Kind) (t : PlainTree) → is_merged k t ≡ true → names_below (row (below_node t)) ≡ names t
 names_below_node k (leaf v) e = absurd (false≢true e)
 names_below_node k (node l cs ps) e = ap names_below (row_listed cs)
 

@@ -15,9 +15,8 @@ use Rattle.md_tree.specs.Heads.{head}
 use Rattle.md_tree.specs.Parts.{listed, below_node}
 use Rattle.md_tree.specs.Plain.{plain, trees_of}
 use Rattle.md_tree.proofs.Plain.{plain_is_leaf, plain_is_node}
-use Rattle.md_local.specs.declared.growing.Grown.{Grown}
 use Rattle.md_local.specs.Growing.{are_one_split, is_merged, in_place_of, all_in_place, AreOrdered}
-use Rattle.md_local.proofs.Ordering.{place_merged, place_kept}
+use Rattle.md_local.proofs.Ordering.{place_merged, place_kept, none_merged}
 
 -- ---- a node and its children
 
@@ -60,25 +59,19 @@ put_kept kind t b xs ys told fails added = ap (map plain) added ∙ map-append p
 
 -- ---- one after the other
 
-pub places_more : (kind : Kind) (xs : List Grown) (x : Grown) → all_in_place kind (map (λ (y : Grown). plain y.tree) (xs ++ x ∷ [])) ≡ all_in_place kind (map (λ (y : Grown). plain y.tree) xs) ++ in_place_of kind (plain x.tree)
-places_more kind [] x = append-nil (in_place_of kind (plain x.tree))
+pub places_more : (kind : Kind) (xs : List (TreeOf Kind Pair)) (x : TreeOf Kind Pair) → all_in_place kind (map plain (xs ++ x ∷ [])) ≡ all_in_place kind (map plain xs) ++ in_place_of kind (plain x)
+places_more kind [] x = append-nil (in_place_of kind (plain x))
 places_more kind (y ∷ xs) x =
-    ap (λ l. in_place_of kind (plain y.tree) ++ l) (places_more kind xs x)
-    ∙ sym (append_assoc (in_place_of kind (plain y.tree)) (all_in_place kind (map (λ (z : Grown). plain z.tree) xs)) (in_place_of kind (plain x.tree)))
+    ap (λ l. in_place_of kind (plain y) ++ l) (places_more kind xs x)
+    ∙ sym (append_assoc (in_place_of kind (plain y)) (all_in_place kind (map plain xs)) (in_place_of kind (plain x)))
 
 pub or_false : (b : Bool) → (b || false) ≡ b
 or_false true = refl
 or_false false = refl
 
-or_assoc : (a b c : Bool) → (a || (b || c)) ≡ ((a || b) || c)
-or_assoc true b c = refl
-or_assoc false b c = refl
-
-pub any_more : (kind : Kind) (xs : List Grown) (x : Grown) → list_any (is_merged kind) (map (λ (y : Grown). plain y.tree) (xs ++ x ∷ [])) ≡ (list_any (is_merged kind) (map (λ (y : Grown). plain y.tree) xs) || is_merged kind (plain x.tree))
-any_more kind [] x = or_false (is_merged kind (plain x.tree))
-any_more kind (y ∷ xs) x =
-    ap (λ b. is_merged kind (plain y.tree) || b) (any_more kind xs x)
-    ∙ or_assoc (is_merged kind (plain y.tree)) (list_any (is_merged kind) (map (λ (z : Grown). plain z.tree) xs)) (is_merged kind (plain x.tree))
+pub any_merged : (kind : Kind) (xs : List (TreeOf Kind Pair)) → list_any (λ (x : TreeOf Kind Pair). is_merged kind (plain x)) xs ≡ list_any (is_merged kind) (map plain xs)
+any_merged kind [] = refl
+any_merged kind (x ∷ xs) = ap (λ b. is_merged kind (plain x) || b) (any_merged kind xs)
 
 -- ---- in order
 
@@ -99,10 +92,10 @@ sorted_ordered kind ts xs ys same holds moved rising = record {
   rising = λ _. rising_plain ys rising;
 }
 
-pub kept_ordered : (kind : Kind) (ts : List PlainTree) (xs : List (TreeOf Kind Pair)) → map plain xs ≡ all_in_place kind ts → list_any (is_merged kind) ts ≡ false → AreOrdered kind ts (map plain xs)
-kept_ordered kind ts xs same fails = record {
-  moved = subst (IsPermutation (all_in_place kind ts)) (sym same) (IsPermutation-refl (all_in_place kind ts));
-  kept = λ _. same;
+pub kept_ordered : (kind : Kind) (ts : List PlainTree) → list_any (is_merged kind) ts ≡ false → AreOrdered kind ts ts
+kept_ordered kind ts fails = record {
+  moved = subst (λ l. IsPermutation l ts) (sym (none_merged kind ts fails)) (IsPermutation-refl ts);
+  kept = λ _. sym (none_merged kind ts fails);
   rising = λ holds. clash holds fails;
 }
 

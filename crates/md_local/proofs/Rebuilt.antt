@@ -1,5 +1,5 @@
 -- The turns of rebuilding: what is on the stack, the steps, and the tree at the end.
-use Rattle.std.proofs.Common.{◌≡◌, ℕ, ◌+◌, ◌≤◌, List, [], ◌∷◌, ◌++◌, length, map, refl, sym, ◌∙◌, ap, subst, append-nil, arith}
+use Rattle.std.proofs.Common.{◌≡◌, ℕ, ◌+◌, ◌≤◌, Bool, false, not, inl, inr, List, [], ◌∷◌, ◌++◌, length, map, refl, sym, ◌∙◌, ap, subst, append-nil, arith}
 use Rattle.std.proofs.lemmas.List.{map-append, length-append}
 use Rattle.std.proofs.lemmas.List.Sums.{sum_by-cons, sum_by-append}
 use Rattle.std.specs.Borrow.{Bor}
@@ -12,23 +12,24 @@ use Rattle.md_modules.proofs.Turns.{graph_adjacency}
 use Rattle.md_tree.specs.declared.Kind.{Kind}
 use Rattle.md_tree.specs.declared.Pair.{Pair}
 use Rattle.md_tree.specs.declared.TreeOf.{TreeOf}
-use Rattle.md_tree.specs.Trees.{PlainTree, names, row}
+use Rattle.md_text.proofs.Lists.{In, in_left, in_right, of_append}
+use Rattle.md_tree.specs.Trees.{PlainTree, leaf, node, PlainTrees, no_tree, one_more, names, row}
 use Rattle.md_tree.specs.NodeLists.{nodes_backward, row_nodes_backward}
 use Rattle.md_tree.specs.Parts.{plain_at, below_node}
 use Rattle.md_tree.specs.Plain.{plain}
 use Rattle.md_tree.specs.StrongTrees.{IsTreeOf}
+use Rattle.md_tree.proofs.Nodes.{IsChild}
 use Rattle.md_tree.proofs.Built.{tree_names}
 use Rattle.md_local.specs.declared.growing.Grown.{Grown}
+use Rattle.md_local.specs.declared.growing.Growth.TheVariants.{Whole}
 use Rattle.md_local.specs.Changes.{IsLeastStrong}
 use Rattle.md_local.specs.Edits.{IsEdited}
-use Rattle.md_local.specs.Growing.{own_steps, names_between, IsOld, IsGrownFrom, AreGrownFrom}
+use Rattle.md_local.specs.Growing.{own_steps, names_between, IsOld, HasGrown, is_hanging, one_alone, IsGrownFrom, AreGrownFrom}
 use Rattle.md_local.proofs.Between.{between_least}
 use Rattle.md_local.proofs.Nested.{children_last, node_last, alone_last}
+use Rattle.md_local.proofs.Turns.{old_child}
 
 -- ---- the stack
-
-pub plain_last : (nodes left : List (Bor (TreeOf Kind Pair))) (r : Bor (TreeOf Kind Pair)) → nodes ≡ left ++ r ∷ [] → map plain_at nodes ≡ map plain_at left ++ plain_at r ∷ []
-plain_last nodes left r pop = ap (map plain_at) pop ∙ map-append plain_at left (r ∷ [])
 
 module _ (g : PlainGraph) (u v : ℕ) (t : PlainTree) where
   -- the trees of the nodes that have been looked at, and what grew of them
@@ -61,18 +62,56 @@ module _ (g : PlainGraph) (u v : ℕ) (t : PlainTree) where
   only_grown (y ∷ []) (z ∷ rest) x are top = let long = ap length top in let both = length-append rest (x ∷ []) in absurd (omega arith)
   only_grown (y ∷ z ∷ xs) rest x are top = absurd are.1
 
-  pub tree_grown : (before : PlainGraph) (left : List PlainTree) (xs rest : List Grown) (x : Grown) → IsGraph g → IsEdited before g u v → IsTreeOf (adjacent before) before.vertices t →
-      IsStack left xs → left ≡ [] → xs ≡ rest ++ x ∷ [] → IsTreeOf (adjacent g) g.vertices (plain x.tree)
-  tree_grown before left xs rest x graph edited is stack none top =
+  top_grown : (left : List PlainTree) (xs rest : List Grown) (x : Grown) → IsStack left xs → left ≡ [] → xs ≡ rest ++ x ∷ [] → IsGrownFrom g u v t x
+  top_grown left xs rest x stack none top = only_grown xs rest x (stack_end left xs stack none) top
+
+  -- ---- the tree of the graph before, and its nodes
+
+  pub old_whole : (before : PlainGraph) → IsGraph g → IsEdited before g u v → IsTreeOf (adjacent before) before.vertices t → IsOld g u v (adjacent before) t
+  old_whole before graph edited is =
       let same : names t ≡ g.vertices = tree_names before.vertices t is ∙ sym edited.vertices in
-      subst (λ s. IsTreeOf (adjacent g) s (plain x.tree)) same
-      ((only_grown xs rest x (stack_end left xs stack none) top).tree (adjacent before) (record {
+      record {
         adjacency = graph_adjacency edited.before;
         after = graph_adjacency graph;
         edited = edited.edges;
         inside = Has-along (names t) g.vertices same;
         tree = subst (λ s. IsTreeOf (adjacent before) s t) (sym (tree_names before.vertices t is)) is;
-      }))
+      }
+
+  mutual
+    old_node : (e : ℕ → ℕ → Bool) (w p : PlainTree) → IsOld g u v e w → In (nodes_backward w) p → IsOld g u v e p
+    old_node e (leaf x) p old (inl same) = subst (IsOld g u v e) (sym same) old
+    old_node e (leaf x) p old (inr i) = absurd i
+    old_node e (node k cs ps) p old (inl same) = subst (IsOld g u v e) (sym same) old
+    old_node e (node k cs ps) p old (inr i) = old_below e cs p (old_child g u v e k cs ps old) i
+
+    old_below : (e : ℕ → ℕ → Bool) (ts : PlainTrees) (p : PlainTree) → ((c : PlainTree) → IsChild ts c → IsOld g u v e c) → In (row_nodes_backward ts) p → IsOld g u v e p
+    old_below e no_tree p old i = absurd i
+    old_below e (one_more w ts) p old i = elim (of_append (row_nodes_backward ts) (nodes_backward w) p i) [
+      | inl j ↦ old_below e ts p (λ c k. old c (inr k)) j
+      | inr j ↦ old_node e w p (old w (inl refl)) j
+    ]
+
+  pub old_last : (e : ℕ → ℕ → Bool) (left ps : List PlainTree) (p : PlainTree) (xs : List Grown) → IsOld g u v e t → IsStack left xs → left ≡ ps ++ p ∷ [] → IsOld g u v e p
+  old_last e left ps p xs old is pop =
+      old_node e t p old
+      (subst (λ l. In l p) is.1 (in_left left (row_nodes_backward (row is.0)) p (subst (λ l. In l p) (sym pop) (in_right ps (p ∷ []) p (inl refl)))))
+
+  -- ---- the end
+
+  pub whole_grown : (before : PlainGraph) (left : List PlainTree) (xs rest : List Grown) (x : Grown) → IsEdited before g u v → IsTreeOf (adjacent before) before.vertices t → Has g.vertices u → Has g.vertices v →
+      IsStack left xs → left ≡ [] → xs ≡ rest ++ x ∷ [] → is_hanging x.growth ≡ false
+  whole_grown before left xs rest x edited is hu hv stack none top =
+      let grown = top_grown left xs rest x stack none top in
+      let same : g.vertices ≡ names t = sym (tree_names before.vertices t is ∙ sym edited.vertices) in
+      grown.hanging ∙ ap (λ b. one_alone b x.right) (grown.left ∙ Has-along g.vertices (names t) same u hu) ∙ ap not (grown.right ∙ Has-along g.vertices (names t) same v hv)
+
+  pub tree_grown : (before : PlainGraph) (left : List PlainTree) (xs rest : List Grown) (x : Grown) (r : TreeOf Kind Pair) → IsGraph g → IsEdited before g u v → IsTreeOf (adjacent before) before.vertices t →
+      IsStack left xs → left ≡ [] → xs ≡ rest ++ x ∷ [] → x.growth ≡ Whole r → IsTreeOf (adjacent g) g.vertices (plain r)
+  tree_grown before left xs rest x r graph edited is stack none top made =
+      let same : names t ≡ g.vertices = tree_names before.vertices t is ∙ sym edited.vertices in
+      subst (λ s. IsTreeOf (adjacent g) s (plain r)) same
+      (subst (HasGrown (adjacent before) (adjacent g) (names t) u v) made ((top_grown left xs rest x stack none top).growth (adjacent before) (old_whole before graph edited is)))
 
   -- ---- the steps
 

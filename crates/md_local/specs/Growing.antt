@@ -1,23 +1,27 @@
 -- How the tree of a graph grows out of that before an edit of one edge, from the leaves up.
 -- Source: our own; the nodes are those of the tree of strong modules as in Habib and Paul, A survey
 -- of the algorithmic aspects of modular decomposition.
-use Rattle.std.specs.Prelude.{◌≡◌, ℕ, Bool, true, false, not, ◌&&◌, ◌||◌, cond, List, [], ◌∷◌, ◌++◌, ⊤}
+use Rattle.std.specs.Prelude.{◌≡◌, ◌≢◌, ◌↔◌, ℕ, Bool, true, false, not, ◌&&◌, ◌||◌, cond, List, [], ◌∷◌, ◌++◌, map, Contains, ⊤}
 use Rattle.std.specs.FinSet.{contains, insert, len}
 use Rattle.std.specs.List.{sum_by, list_any}
 use Rattle.std.specs.List.Sorted.{IsPermutation, IsNonDecreasingBy}
 use Rattle.md_graph.specs.PlainGraph.{PlainGraph, adjacent}
-use Rattle.md_graph.specs.Sets.{NameSet, Within}
+use Rattle.md_graph.specs.Sets.{NameSet, Has, Within}
 use Rattle.md_graph.specs.Adjacency.{IsAdjacency}
+use Rattle.md_modules.specs.Modules.{IsModule}
 use Rattle.md_tree.specs.declared.Kind.{Kind}
 use Rattle.md_tree.specs.declared.Kind.TheVariants.{Parallel, Series, Prime}
 use Rattle.md_tree.specs.declared.Pair.{Pair}
 use Rattle.md_tree.specs.Trees.{PlainTree, leaf, node, PlainTrees, no_tree, one_more, names, names_below, row}
-use Rattle.md_tree.specs.Heads.{head}
+use Rattle.md_tree.specs.Heads.{head, heads}
 use Rattle.md_tree.specs.NodeLists.{nodes_backward}
 use Rattle.md_tree.specs.Parts.{below_node}
 use Rattle.md_tree.specs.Plain.{plain}
 use Rattle.md_tree.specs.StrongTrees.{IsTreeOf}
+use Rattle.md_tree.specs.WellFormed.{AreDisjoint}
 use Rattle.md_local.specs.declared.growing.Grown.{Grown}
+use Rattle.md_local.specs.declared.growing.Growth.{Growth}
+use Rattle.md_local.specs.declared.growing.Growth.TheVariants.{Whole, Hanging}
 use Rattle.md_local.specs.Changes.{AgreeBut}
 
 -- s holds u and v
@@ -50,12 +54,35 @@ pub record IsOld (g : PlainGraph) (u v : ℕ) (e : ℕ → ℕ → Bool) (t : Pl
   pub inside : Within (names t) g.vertices
   pub tree : IsTreeOf e (names t) t
 
--- what grows of t is told whether t holds u and v, and is the tree of g on the names of t where t
--- was that of the graph before
+-- the trees hang off a path in a node with the names s to one of u and v: they have exactly the
+-- other names, each once, and each is the tree of f on its names, which are a module with e
+pub record AreHanging (e f : ℕ → ℕ → Bool) (s : NameSet) (u v : ℕ) (ts : List PlainTree)
+    : Type 0 where
+  pub apart : AreDisjoint (row ts)
+  pub others : (x : ℕ) → Has (names_below (row ts)) x ↔ (Has s x × (x ≢ u) × (x ≢ v))
+  pub trees : (t : PlainTree) → Contains ts t → IsModule e s (names t) × IsTreeOf f (names t) t
+
+abbrev pub HasGrown : (ℕ → ℕ → Bool) → (ℕ → ℕ → Bool) → NameSet → ℕ → ℕ → Growth → Type 0
+HasGrown e f s u v (Whole t) = IsTreeOf f s (plain t)
+HasGrown e f s u v (Hanging ts) = AreHanging e f s u v (map plain ts.items)
+
+abbrev pub is_hanging : Growth → Bool
+is_hanging (Whole t) = false
+is_hanging (Hanging ts) = true
+
+-- one of both
+abbrev pub one_alone : Bool → Bool → Bool
+one_alone true b = not b
+one_alone false b = b
+
+-- what grows of t is told whether t holds u and v, trees hang where it holds one of them, and where
+-- t was a tree of the graph before, it is that of g, or those that hang
 pub record IsGrownFrom (g : PlainGraph) (u v : ℕ) (t : PlainTree) (grown : Grown) : Type 0 where
   pub left : grown.left ≡ contains (names t) u
   pub right : grown.right ≡ contains (names t) v
-  pub tree : (e : ℕ → ℕ → Bool) → IsOld g u v e t → IsTreeOf (adjacent g) (names t) (plain grown.tree)
+  pub hanging : is_hanging grown.growth ≡ one_alone grown.left grown.right
+  pub growth : (e : ℕ → ℕ → Bool) → IsOld g u v e t →
+      HasGrown e (adjacent g) (names t) u v grown.growth
 
 -- of each tree the one at its place grows
 abbrev pub AreGrownFrom : PlainGraph → ℕ → ℕ → List PlainTree → List Grown → Type 0
@@ -99,7 +126,15 @@ pub record AreOrdered (k : Kind) (ts us : List PlainTree) : Type 0 where
 abbrev pub IsJoined : Kind → List Pair → List PlainTree → PlainTree → Type 0
 IsJoined k ps ts t = (us : List PlainTree) × AreOrdered k ts us × (t ≡ node k (row us) ps)
 
--- the name of a leaf, if it is one of the vertices, is inserted
-abbrev pub IsLeafInserted : NameSet → PlainTree → NameSet → NameSet → Type 0
-IsLeafInserted vertices (leaf x) old new = new ≡ cond (contains vertices x) (insert old x) old
-IsLeafInserted vertices (node k cs ps) old new = new ≡ old
+-- the trees with what has grown of one more node, or of more nodes
+abbrev pub added_to : List PlainTree → Growth → List PlainTree
+added_to us (Whole t) = us ++ plain t ∷ []
+added_to us (Hanging ts) = map plain ts.items ++ us
+
+abbrev pub gathered : List PlainTree → List Grown → List PlainTree
+gathered us [] = us
+gathered us (x ∷ xs) = gathered (added_to us x.growth) xs
+
+-- the heads of the trees, and u and v
+abbrev pub quotient_names : List PlainTree → ℕ → ℕ → NameSet
+quotient_names ts u v = insert (insert (heads (row ts)) u) v

@@ -1,27 +1,37 @@
 //! What grows of the nodes of a tree when an edge comes or goes, from the leaves up.
-ghost use Rattle.std.specs.Prelude.{◌≡◌, ◌≤◌, ◌+◌, ◌*◌, ◌∷◌, [], ◌++◌, ◌&&◌, map, IfOk, List, length};
-ghost use Rattle.std.specs.FinSet.{len, intersection};
+ghost use Rattle.std.specs.Prelude.{◌≡◌, ◌≤◌, ◌+◌, ◌*◌, ◌∷◌, [], ◌++◌, ◌&&◌, false, cond, ℕ, Bool, map, IfOk, List};
+ghost use Rattle.std.specs.FinSet.{contains, insert, len, intersection};
 ghost use Rattle.std.specs.List.{list_any};
 ghost use Rattle.md_graph.specs.NameSet.{AllBelow};
-ghost use Rattle.md_graph.specs.PlainGraph.{adjacent};
+ghost use Rattle.md_graph.specs.PlainGraph.{PlainGraph, adjacent};
 ghost use Rattle.md_graph.specs.Sets.{Has};
-ghost use Rattle.md_tree.specs.Heads.{head};
 ghost use Rattle.md_tree.specs.Parts.{below_node};
 ghost use Rattle.md_tree.specs.Plain.{plain};
-ghost use Rattle.md_tree.specs.StrongTrees.{IsTreeOf};
-ghost use Rattle.md_tree.specs.Trees.{PlainTree, names};
-ghost use Rattle.md_local.specs.Growing.{own_steps, AreGrownFrom, IsGrownFrom, IsJoined, AreOrdered, IsLeafInserted, are_apart, are_one_split, is_merged, in_place_of};
+ghost use Rattle.md_tree.specs.Trees.{PlainTree, leaf};
+ghost use Rattle.md_local.specs.declared.growing.Growth.TheVariants.{Whole};
+ghost use Rattle.md_local.specs.Growing.{own_steps, IsOld, AreGrownFrom, IsGrownFrom, is_hanging, one_alone, are_apart, added_to, gathered, quotient_names};
+ghost use Rattle.md_local.specs.Substitution.{IsOverQuotient};
 
+use crate::hanging::substitute;
+use crate::merging::{first_leaf, join, number_below};
 use crate::part::decompose_part;
 use md_graph::{GraphOf, Memory, Set, Steps};
-use md_tree::{Children, Kind, Pair, QuotientEdges, Tree, nodes_of};
+use md_tree::Tree;
 use std::alloc::Global;
 use std::sync::ledger::Ledger;
+
+// What has grown of a node: a tree, or where the node holds one end of the edge and not the other
+// the trees that hang off the path from the node to that end.
+#[derive(Drop)]
+pub(crate) enum Growth {
+    Whole(Tree),
+    Hanging(Vec<Tree>),
+}
 
 // What has grown of a node, and whether the node holds the ends of the edge.
 #[derive(Drop)]
 pub(crate) struct Grown {
-    pub tree: Tree,
+    pub growth: Growth,
     pub left: bool,
     pub right: bool,
 }
@@ -37,6 +47,7 @@ pub(crate) fn take_turn<L: Ledger, const W: usize>(
     work: &mut Steps<L>,
 ) -> Result<(), Memory>
     requires left { Has graph.now.vertices u }
+    requires old { (e : ℕ → ℕ → Bool) × IsOld graph.now u v e (plain node.now) }
     requires below { (us : List PlainTree)
         × AreGrownFrom graph.now u v (us ++ below_node (plain node.now)) stack.old.items }
     ensures grown { IfOk result (λ _. (us : List PlainTree)
@@ -51,16 +62,6 @@ pub(crate) fn take_turn<L: Ledger, const W: usize>(
     Ok(())
 }
 
-// How many children a node has.
-fn number_below(node: &Tree) -> usize
-    ensures { result ≡ length (below_node (plain node.now)) }
-{
-    match node {
-        Tree::Leaf(_) => 0,
-        Tree::Node(_, children, _) => children.len() as usize,
-    }
-}
-
 // What grows of a node whose children have grown.
 fn grow<L: Ledger, const W: usize>(
     alloc: Global,
@@ -72,27 +73,79 @@ fn grow<L: Ledger, const W: usize>(
     work: &mut Steps<L>,
 ) -> Result<Grown, Memory>
     requires left { Has graph.now.vertices u }
+    requires old { (e : ℕ → ℕ → Bool) × IsOld graph.now u v e (plain node.now) }
     requires below { AreGrownFrom graph.now u v (below_node (plain node.now)) children.items }
     ensures grown { IfOk result (λ grown. IsGrownFrom graph.now u v (plain node.now) grown) }
     ensures work { work.new ≤ work.old + own_steps u v (plain node.now) }
 {
     match node {
-        Tree::Leaf(name) => Ok(Grown {
-            tree: Tree::Leaf(*name),
-            left: *name == u,
-            right: *name == v,
-        }),
+        Tree::Leaf(name) => Ok(leaf_grown(alloc, *name, u, v)),
         Tree::Node(kind, _, edges) => {
             let left = some_left(&children);
             let right = some_right(&children);
-            if ends_apart(&children) {
-                let tree = fresh(alloc, graph, node, u, work)?;
-                return Ok(Grown { tree, left, right });
+            let apart = ends_apart(&children);
+            let below = gather(alloc, children)?;
+            if apart {
+                let tree = fresh(alloc, graph, below, u, v, work)?;
+                return Ok(Grown {
+                    growth: Growth::Whole(tree),
+                    left,
+                    right,
+                });
             }
-            let tree = join(alloc, *kind, edges, children)?;
-            Ok(Grown { tree, left, right })
+            if is_one_alone(left, right) {
+                return Ok(Grown {
+                    growth: Growth::Hanging(below),
+                    left,
+                    right,
+                });
+            }
+            let tree = join(alloc, *kind, edges, below)?;
+            Ok(Grown {
+                growth: Growth::Whole(tree),
+                left,
+                right,
+            })
         }
     }
+}
+
+// What grows of a leaf.
+fn leaf_grown(alloc: Global, name: u32, u: u32, v: u32) -> Grown
+    ensures { (g : PlainGraph) → IsGrownFrom g u v (leaf name) result }
+{
+    let left = name == u;
+    let right = name == v;
+    if is_one_alone(left, right) {
+        return Grown {
+            growth: Growth::Hanging(Vec::new(alloc)),
+            left,
+            right,
+        };
+    }
+    Grown {
+        growth: Growth::Whole(Tree::Leaf(name)),
+        left,
+        right,
+    }
+}
+
+// The tree that has grown of a node that holds both ends of the edge, or none.
+pub(crate) fn whole_tree(grown: Grown) -> Tree
+    requires { is_hanging grown.growth ≡ false }
+    ensures { grown.growth ≡ Whole result }
+{
+    match grown.growth {
+        Growth::Whole(tree) => tree,
+        Growth::Hanging(_) => unreachable!(),
+    }
+}
+
+// Whether one of both holds, and the other doesn't.
+fn is_one_alone(left: bool, right: bool) -> bool
+    ensures { result ≡ one_alone left right }
+{
+    if left { !right } else { right }
 }
 
 // Whether one of the nodes holds the left end.
@@ -123,150 +176,81 @@ fn ends_apart(children: &[Grown]) -> bool
     some_left(children) & some_right(children) & !some_both(children)
 }
 
-// The tree of the graph on the names of a node that are vertices.
-fn fresh<L: Ledger, const W: usize>(
-    alloc: Global,
-    graph: &GraphOf<W>,
-    node: &Tree,
-    u: u32,
-    work: &mut Steps<L>,
-) -> Result<Tree, Memory>
-    requires vertex { Has graph.now.vertices u }
-    requires name { Has (names (plain node.now)) u }
-    ensures tree { IfOk result (λ tree. IsTreeOf (adjacent graph.now)
-        (intersection graph.now.vertices (names (plain node.now))) (plain tree)) }
-    ensures work { work.new ≤ work.old + len (names (plain node.now)) }
-{
-    let names = vertices_of(alloc, graph, node)?;
-    match decompose_part(alloc, graph, &names, work)? {
-        Some(tree) => Ok(tree),
-        None => unreachable!(),
-    }
-}
-
-// The names of a tree that are vertices of the graph.
-fn vertices_of<const W: usize>(
-    alloc: Global,
-    graph: &GraphOf<W>,
-    tree: &Tree,
-) -> Result<Set<W>, Memory>
-    ensures { IfOk result (λ set. set
-        ≡ intersection graph.now.vertices (names (plain tree.now))) }
-{
-    let vertices = graph.vertices();
-    let mut names = Set::none();
-    for node in nodes_of(alloc, tree)? {
-        insert_leaf(vertices, node, &mut names);
-    }
-    Ok(names)
-}
-
-// Inserts the name of a leaf, where it is one of the vertices.
-fn insert_leaf<const W: usize>(vertices: &Set<W>, node: &Tree, names: &mut Set<W>)
-    requires below { AllBelow vertices.now (64 * W) }
-    ensures { IsLeafInserted vertices.now (plain node.now) names.old names.new }
-{
-    if let Tree::Leaf(name) = node {
-        if vertices.has(*name) {
-            names.insert(*name);
-        }
-    }
-}
-
-// A node over the trees, with the pairs given; a tree that can't be its child gives its own
-// children in its place.
-fn join(
-    alloc: Global,
-    kind: Kind,
-    edges: &QuotientEdges,
-    children: Vec<Grown>,
-) -> Result<Tree, Memory>
-    ensures { IfOk result (λ tree. IsJoined kind edges.now.list.items
-        (map (λ x. plain x.tree) children.items) (plain tree)) }
-{
-    let edges = Vec::from_slice(alloc, &edges.list)?;
-    let list = ordered(alloc, kind, children)?;
-    Ok(Tree::Node(kind, Children { list }, QuotientEdges { list: edges }))
-}
-
-// The trees, each that can't be a child of a node of the kind with its own children in its place;
-// then they are put in order.
-fn ordered(alloc: Global, kind: Kind, children: Vec<Grown>) -> Result<Vec<Tree>, Memory>
-    ensures { IfOk result (λ list. AreOrdered kind (map (λ x. plain x.tree) children.items)
-        (map plain list.items)) }
+// All that has grown of nodes, in one list.
+fn gather(alloc: Global, children: Vec<Grown>) -> Result<Vec<Tree>, Memory>
+    ensures { IfOk result (λ list. map plain list.items ≡ gathered [] children.items) }
 {
     let mut list = Vec::with_capacity(alloc, children.len())?;
-    let mut merged = false;
     for child in children {
-        merged |= put(&mut list, kind, child.tree)?;
-    }
-    if merged {
-        list.sort_by_cached_key(|tree| first_leaf(tree))?;
+        add(&mut list, child.growth)?;
     }
     Ok(list)
 }
 
-// Appends a tree, or its children where it can't be a child of a node of the kind; and says so.
-fn put(list: &mut Vec<Tree>, kind: Kind, tree: Tree) -> Result<bool, Memory>
-    ensures merged { IfOk result (λ merged. merged ≡ is_merged kind (plain tree)) }
-    ensures list { IfOk result (λ _. map plain list.new.items
-        ≡ map plain list.old.items ++ in_place_of kind (plain tree)) }
-{
-    if merges(kind, &tree) {
-        append_children(list, tree)?;
-        return Ok(true);
-    }
-    list.push(tree)?;
-    Ok(false)
-}
-
-// Whether a tree can't be a child of a node of the kind.
-fn merges(kind: Kind, tree: &Tree) -> bool
-    ensures { result ≡ is_merged kind (plain tree.now) }
-{
-    match tree {
-        Tree::Leaf(_) => false,
-        Tree::Node(own, _, _) => is_one_split(kind, *own),
-    }
-}
-
-// Appends the children of a tree.
-fn append_children(list: &mut Vec<Tree>, tree: Tree) -> Result<(), Memory>
+// Appends a tree; trees that hang stay where they are, and those of the list come behind them: on a
+// long path these are the fewer.
+fn add(list: &mut Vec<Tree>, growth: Growth) -> Result<(), Memory>
     ensures { IfOk result (λ _. map plain list.new.items
-        ≡ map plain list.old.items ++ below_node (plain tree)) }
+        ≡ added_to (map plain list.old.items) growth) }
 {
-    let mut tree = tree;
-    if let Tree::Node(_, children, _) = &mut tree {
-        list.append(&mut children.list)?;
-        return Ok(());
-    }
-    Ok(())
-}
-
-// Whether both are parallel, or both series.
-fn is_one_split(kind: Kind, own: Kind) -> bool
-    ensures { result ≡ are_one_split kind own }
-{
-    match (kind, own) {
-        (Kind::Parallel, Kind::Parallel) => true,
-        (Kind::Series, Kind::Series) => true,
-        _ => false,
-    }
-}
-
-// The name of the first leaf, and 0 where a node has no children.
-fn first_leaf(tree: &Tree) -> u32
-    ensures { result ≡ head (plain tree.now) }
-{
-    let mut first = tree;
-    while let Tree::Node(_, children, _) = first {
-        match children.list.first() {
-            Some(child) => first = child,
-            None => return 0,
+    match growth {
+        Growth::Whole(tree) => {
+            list.push(tree)?;
+            Ok(())
+        }
+        Growth::Hanging(mut trees) => {
+            trees.append(list)?;
+            *list = trees;
+            Ok(())
         }
     }
-    match first {
-        Tree::Leaf(name) => *name,
-        Tree::Node(_, _, _) => unreachable!(),
+}
+
+// The tree of the graph on the names of the trees and the two ends, where each of the trees is that
+// of a module: only their heads and the ends are decomposed.
+fn fresh<L: Ledger, const W: usize>(
+    alloc: Global,
+    graph: &GraphOf<W>,
+    hanging: Vec<Tree>,
+    u: u32,
+    v: u32,
+    work: &mut Steps<L>,
+) -> Result<Tree, Memory>
+    requires vertex { Has graph.now.vertices u }
+    ensures tree { IfOk result (λ tree. IsOverQuotient (adjacent graph.now)
+        (intersection graph.now.vertices (quotient_names (map plain hanging.items) u v))
+        (map plain hanging.items) (plain tree)) }
+    ensures work { work.new ≤ work.old + len (quotient_names (map plain hanging.items) u v) }
+{
+    let _vertices = graph.vertices();
+    let names = vertices_of(graph, &hanging, u, v);
+    match decompose_part(alloc, graph, &names, work)? {
+        Some(quotient) => substitute(alloc, &quotient, hanging),
+        None => unreachable!(),
+    }
+}
+
+// The heads of the trees and the two ends, as far as they are vertices.
+fn vertices_of<const W: usize>(graph: &GraphOf<W>, hanging: &[Tree], u: u32, v: u32) -> Set<W>
+    ensures { result ≡ intersection graph.now.vertices
+        (quotient_names (map plain hanging.now) u v) }
+{
+    let vertices = graph.vertices();
+    let mut names = Set::none();
+    insert_vertex(vertices, u, &mut names);
+    insert_vertex(vertices, v, &mut names);
+    for tree in hanging {
+        insert_vertex(vertices, first_leaf(tree), &mut names);
+    }
+    names
+}
+
+// Inserts a name, where it is one of the vertices.
+fn insert_vertex<const W: usize>(vertices: &Set<W>, name: u32, names: &mut Set<W>)
+    requires below { AllBelow vertices.now (64 * W) }
+    ensures { names.new ≡ cond (contains vertices.now name) (insert names.old name) names.old }
+{
+    if vertices.has(name) {
+        names.insert(name);
     }
 }

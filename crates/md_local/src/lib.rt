@@ -2,7 +2,9 @@
 #![tactic(auto)]
 
 mod growing;
+mod hanging;
 pub mod laws;
+mod merging;
 mod part;
 mod rebuilding;
 

@@ -8,17 +8,18 @@ ghost use Rattle.md_tree.specs.StrongTrees.{IsTreeOf};
 ghost use Rattle.md_local.specs.Changes.{IsLeastStrong};
 ghost use Rattle.md_local.specs.Edits.{IsEdited};
 
-use crate::growing::take_turn;
+use crate::growing::{take_turn, whole_tree};
 use md_graph::{GraphOf, Memory, Steps};
 use md_tree::{Tree, nodes_of};
 use std::alloc::Global;
 use std::sync::ledger::Ledger;
 
 /// The tree of a graph in which the edge between u and v has come or gone, from the tree of the
-/// graph before. Only the least strong module that held both is decomposed, and each of its names
-/// is one step; all else is copied as it comes by, or merged. No call nests as deep as the tree.
-/// Condition: u and v are two vertices, and the tree is that of the graph before. Errors: want of
-/// memory.
+/// graph before. Of the least strong module that held both only u and v are decomposed, and one name
+/// of each subtree that hangs off the paths to them: each of these names is one step. Those subtrees
+/// are moved to the leaves of their names, and all else is copied as it comes by; what can't stand
+/// below its node is merged into it. No call nests as deep as the tree. Condition: u and v are two
+/// vertices, and the tree is that of the graph before. Errors: want of memory.
 pub fn rebuild<L: Ledger, const W: usize>(
     alloc: Global,
     graph: &GraphOf<W>,
@@ -45,7 +46,7 @@ pub fn rebuild<L: Ledger, const W: usize>(
         take_turn(alloc, graph, node, u, v, &mut stack, work)?;
     }
     match stack.pop() {
-        Some(grown) => Ok(grown.tree),
+        Some(grown) => Ok(whole_tree(grown)),
         None => unreachable!(),
     }
 }

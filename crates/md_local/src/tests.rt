@@ -163,7 +163,7 @@ fn edits_of_edges<L: Ledger>(rt: &impl Abort, alloc: Global, blank: Blank) -> Re
     requires some { 0 < blank.parts }
 {
     let mut work = Steps::<L>::new(blank);
-    let rows: [(u32, &[(u32, u32)], (u32, u32), &[u8]); 8] = [
+    let rows: [(u32, &[(u32, u32)], (u32, u32), &[u8]); 10] = [
         (
             5,
             &[(0, 1), (2, 3), (2, 4), (3, 4)],
@@ -185,6 +185,13 @@ fn edits_of_edges<L: Ledger>(rt: &impl Abort, alloc: Global, blank: Blank) -> Re
         ),
         (5, &[(0, 1), (1, 2), (2, 3)], (1, 2), b"P(S(0,1),S(2,3),4)"),
         (4, &[(0, 1), (1, 2), (2, 3)], (0, 3), b"S(P(0,2),P(1,3))"),
+        (6, &[(0, 2), (0, 5)], (0, 4), b"P(S(0,P(2,4,5)),1,3)"),
+        (
+            8,
+            &[(0, 3), (0, 4), (0, 5), (1, 2), (1, 6), (4, 5)],
+            (0, 1),
+            b"P(R(0,1,P(2,6),P(3,S(4,5));0-1,0-3,1-2),7)",
+        ),
         (2, &[], (0, 1), b"S(0,1)"),
         (2, &[(0, 1)], (0, 1), b"P(0,1)"),
     ];

@@ -16,8 +16,11 @@ grow-requires g c =
       search rules,
       (
         c.requires.left,
-        children_grown _ _ _ is.0 (below_node (plain c.args.node.now)) c.args.stack.now.items is.1 c.number_below.result (c.len.result - c.number_below.result) c.number_below.ensures
-            (ap (λ n. n - c.number_below.result) (c.len.ensures ∙ c.args.stack.now.ok.0)) c.in_ok-children.children.items c.in_ok-children.ensures.tail,
+        (
+          c.requires.old,
+          children_grown _ _ _ is.0 (below_node (plain c.args.node.now)) c.args.stack.now.items is.1 c.number_below.result (c.len.result - c.number_below.result) c.number_below.ensures
+              (ap (λ n. n - c.number_below.result) (c.len.ensures ∙ c.args.stack.now.ok.0)) c.in_ok-children.children.items c.in_ok-children.ensures.tail,
+        ),
       ),
     )
 

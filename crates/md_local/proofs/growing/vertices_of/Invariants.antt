@@ -1,10 +1,10 @@
-use Rattle.std.proofs.Common.{◌≡◌, ◌++◌, map}
-use Rattle.md_tree.specs.Parts.{plain_at}
-use Rattle.md_local.proofs.Leaves.{HasLeaves}
+use Rattle.std.proofs.Common.{◌≡◌, map, take}
+use Rattle.std.specs.FinSet.{intersection}
+use Rattle.md_tree.specs.Plain.{plain}
+use Rattle.md_local.specs.Growing.{quotient_names}
 use Rattle.md_local.proofs.growing.vertices_of.Given as goal
 
-abbrev pub invariant-loop-node : goal.invariant-loop-node
-invariant-loop-node g l = record {
-  leaves : HasLeaves l.graph.vertices l.names (map plain_at l.yielded);
-  left : l.yielded ++ l.node-iterator.rest.items ≡ l.initial.node-iterator.rest.items;
+abbrev pub invariant-loop-tree : goal.invariant-loop-tree
+invariant-loop-tree g l = record {
+  names : l.names ≡ intersection l.vertices (quotient_names (map plain (take l.tree-index l.hanging)) l.u l.v);
 }

@@ -4,7 +4,9 @@ use Rattle.std.specs.List.{sum_by}
 use Rattle.md_tree.specs.Parts.{plain_at}
 use Rattle.md_tree.specs.Plain.{plain}
 use Rattle.md_local.specs.Growing.{own_steps}
-use Rattle.md_local.proofs.Rebuilt.{plain_last, stack_begin, stack_below, stack_more, stack_some, tree_grown, steps_begin, steps_more, steps_few}
+use Rattle.md_graph.specs.PlainGraph.{adjacent}
+use Rattle.md_local.proofs.Nested.{plain_last}
+use Rattle.md_local.proofs.Rebuilt.{old_whole, old_last, whole_grown, stack_begin, stack_below, stack_more, stack_some, tree_grown, steps_begin, steps_more, steps_few}
 use Rattle.md_local.proofs.rebuilding.rebuild.Goals as goal
 
 pub loop-node-init : goal.loop-node-init
@@ -14,14 +16,19 @@ loop-node-init g c = record {
 }
 
 pub take_turn-requires : goal.take_turn-requires
-take_turn-requires g c = (
-  search rules,
-  (
-    c.requires.left,
-    stack_below c.args.graph.now c.args.u c.args.v (plain c.args.tree.now) _ _ (plain_at c.in-Some.node) _ c.loop-node.invariant.stack
-        (plain_last c.loop-node.nodes.items c.pop.new.self.items c.in-Some.node c.in-Some.ensures.items),
-  ),
-)
+take_turn-requires g c =
+    let last = plain_last c.loop-node.nodes.items c.pop.new.self.items c.in-Some.node c.in-Some.ensures.items in
+    let before = c.requires.tree in
+    let old = old_whole c.args.graph.now c.args.u c.args.v (plain c.args.tree.now) before.0 c.vertices-vertices.ensures.graph before.1 before.2 in (
+      search rules,
+      (
+        c.requires.left,
+        (
+          (adjacent before.0, old_last c.args.graph.now c.args.u c.args.v (plain c.args.tree.now) (adjacent before.0) _ _ (plain_at c.in-Some.node) _ old c.loop-node.invariant.stack last),
+          stack_below c.args.graph.now c.args.u c.args.v (plain c.args.tree.now) _ _ (plain_at c.in-Some.node) _ c.loop-node.invariant.stack last,
+        ),
+      ),
+    )
 
 pub loop-node-preserved : goal.loop-node-preserved
 loop-node-preserved g c =
@@ -44,11 +51,17 @@ unreachable-requires g c =
     (ap (map plain_at) (nil_from_length c.loop-node.nodes.items (sym c.loop-node.nodes.ok.0 ∙ c.in_default.ensures.cases.0)))
     (nil_from_length c.loop-node.stack.items (sym c.loop-node.stack.ok.0 ∙ c.in-None.ensures.cases.0))
 
+pub whole_tree-requires : goal.whole_tree-requires
+whole_tree-requires g c =
+    let old = c.requires.tree in
+    whole_grown c.args.graph.now c.args.u c.args.v (plain c.args.tree.now) old.0 _ _ c.pop-2.new.self.items c.in-Some-pop.grown old.1 old.2 c.requires.left c.requires.right c.loop-node.invariant.stack
+    (ap (map plain_at) (nil_from_length c.loop-node.nodes.items (sym c.loop-node.nodes.ok.0 ∙ c.in_default.ensures.cases.0))) c.in-Some-pop.ensures.items
+
 pub returns-clause-tree : goal.returns-clause-tree
 returns-clause-tree g c =
     let old = c.requires.tree in
-    tree_grown c.args.graph.now c.args.u c.args.v (plain c.args.tree.now) old.0 _ _ c.pop-2.new.self.items c.in-Some-pop.grown c.vertices-vertices.ensures.graph old.1 old.2 c.loop-node.invariant.stack
-    (ap (map plain_at) (nil_from_length c.loop-node.nodes.items (sym c.loop-node.nodes.ok.0 ∙ c.in_default.ensures.cases.0))) c.in-Some-pop.ensures.items
+    tree_grown c.args.graph.now c.args.u c.args.v (plain c.args.tree.now) old.0 _ _ c.pop-2.new.self.items c.in-Some-pop.grown c.whole_tree.result c.vertices-vertices.ensures.graph old.1 old.2 c.loop-node.invariant.stack
+    (ap (map plain_at) (nil_from_length c.loop-node.nodes.items (sym c.loop-node.nodes.ok.0 ∙ c.in_default.ensures.cases.0))) c.in-Some-pop.ensures.items c.whole_tree.ensures
 
 pub returns-clause-work : goal.returns-clause-work
 returns-clause-work g c = λ before w edited is least.

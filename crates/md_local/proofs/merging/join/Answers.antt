@@ -2,7 +2,7 @@ use Rattle.std.proofs.Common.{map, ◌∙◌, ap}
 use Rattle.md_tree.specs.Trees.{node, row}
 use Rattle.md_tree.specs.Plain.{plain}
 use Rattle.md_tree.proofs.Plain.{plain-node}
-use Rattle.md_local.proofs.growing.join.Goals as goal
+use Rattle.md_local.proofs.merging.join.Goals as goal
 
 pub returns : goal.returns
 returns c = (

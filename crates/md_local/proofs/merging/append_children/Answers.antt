@@ -1,7 +1,7 @@
 use Rattle.std.proofs.Common.{◌++◌, ◌∙◌, ap, sym}
 use Rattle.md_tree.specs.Plain.{trees_of}
 use Rattle.md_local.proofs.Placing.{leaf_appended, node_appended}
-use Rattle.md_local.proofs.growing.append_children.Goals as goal
+use Rattle.md_local.proofs.merging.append_children.Goals as goal
 
 pub returns-in-Node : goal.returns-in-Node
 returns-in-Node c =

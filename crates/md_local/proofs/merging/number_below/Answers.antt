@@ -1,5 +1,5 @@
 use Rattle.md_local.proofs.Placing.{leaf_number, node_number}
-use Rattle.md_local.proofs.growing.number_below.Goals as goal
+use Rattle.md_local.proofs.merging.number_below.Goals as goal
 
 pub returns-in-Leaf : goal.returns-in-Leaf
 returns-in-Leaf c = leaf_number c.args.node.now c.in-Leaf.field-0 c.in-Leaf.is

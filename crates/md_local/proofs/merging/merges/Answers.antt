@@ -1,5 +1,5 @@
 use Rattle.md_local.proofs.Placing.{leaf_unmerged, node_merged}
-use Rattle.md_local.proofs.growing.merges.Goals as goal
+use Rattle.md_local.proofs.merging.merges.Goals as goal
 
 pub returns-in-Leaf : goal.returns-in-Leaf
 returns-in-Leaf c = leaf_unmerged c.args.kind c.args.tree.now c.in-Leaf.field-0 c.in-Leaf.is
