@@ -35,7 +35,7 @@ path_is : (bar : Bar) → bar.kind ≡ kinds.P4 → bar ≡ path_bar (path_of_ba
 path_is bar is = λ i. record { kind = is i; a = bar.a; b = bar.b; c = bar.c; d = bar.d }
 
 -- a line with an induced P4 is one with such a bar
-pub path_told : (made : Bar → PlainLine) (g : PlainGraph) (line : PlainLine) → HasP4Line (λ p. made (path_bar p)) g line ↔ ((bar : Bar) × IsPathOf g bar × (line ≡ made bar))
+path_told : (made : Bar → PlainLine) (g : PlainGraph) (line : PlainLine) → HasP4Line (λ p. made (path_bar p)) g line ↔ ((bar : Bar) × IsPathOf g bar × (line ≡ made bar))
 path_told made g line =
     (λ path. (path_bar path.0, (refl, path.1), path.2), λ told. (path_of_bar told.0, told.1.1, told.2 ∙ ap made (path_is told.0 told.1.0)))
 

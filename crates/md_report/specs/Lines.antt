@@ -36,7 +36,7 @@ path_bar p = record { kind = kinds.P4; a = p.a; b = p.b; c = p.c; d = p.d }
 abbrev pub path_of_bar : Bar → P4
 path_of_bar bar = record { a = bar.a; b = bar.b; c = bar.c; d = bar.d }
 
--- a line, with plain trees; a bar is of a class, or an induced P4
+-- a line, with plain trees; its bar is an induced P4, or a bar of a class
 pub data PlainLine : Type 0 where
   head : Mode → PlainLine
   head_class : Class → PlainLine
@@ -56,13 +56,15 @@ pub data PlainLine : Type 0 where
   forced_in_complement : List Arc → PlainLine
   end : PlainLine
 
--- the lines with an induced P4
+-- the line that refuses an edit with an induced P4
 abbrev pub refused_p4 : P4 → PlainLine
 refused_p4 p = refused_bar (path_bar p)
 
+-- the line that refuses the edit of a group with this number with an induced P4
 abbrev pub group_refused_p4 : ℕ → P4 → PlainLine
 group_refused_p4 number p = group_refused_bar number (path_bar p)
 
+-- the line that tells of an induced P4 of the first graph
 abbrev pub not_cograph : P4 → PlainLine
 not_cograph p = barred (path_bar p)
 
