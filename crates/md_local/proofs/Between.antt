@@ -1,12 +1,12 @@
 -- The names of the least node that holds two names.
-use Rattle.std.proofs.Common.{◌≡◌, ℕ, ◌+◌, ◌≤◌, Bool, true, false, not, ◌&&◌, ◌||◌, cond, List, [], ◌∷◌, ◌++◌, refl, sym, ◌∙◌, ap, subst, inl, inr, arith}
+use Rattle.std.proofs.Common.{◌≡◌, ℕ, ◌+◌, ◌≤◌, Bool, true, false, not, ◌&&◌, ◌||◌, cond, List, refl, sym, ◌∙◌, ap, subst, inl, inr, arith}
 use Rattle.std.proofs.lemmas.Bool.{cases_Bool, false_from_ne_true, and_parts, and_from}
 use Rattle.std.proofs.lemmas.List.Sums.{sum_by-cons, sum_by-append}
 use Rattle.std.specs.FinSet.{contains, len, union}
 use Rattle.std.specs.List.{sum_by}
 use Rattle.md_graph.specs.Sets.{NameSet, Has, Lacks}
 use Rattle.md_graph.specs.Adjacency.{IsAdjacency}
-use Rattle.md_graph.proofs.SetLemmas.{clash, union_left, union_right, of_union}
+use Rattle.md_graph.proofs.SetLemmas.{clash, union_left, union_right}
 use Rattle.md_graph.proofs.Search.{len_within}
 use Rattle.md_text.proofs.Lists.{In, of_append, of_contains}
 use Rattle.md_tree.specs.declared.Kind.{Kind}

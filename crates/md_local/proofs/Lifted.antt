@@ -1,9 +1,8 @@
 -- The sets of names that the names of a quotient stand for, and trees on them.
-use Rattle.std.proofs.Common.{◌≡◌, ℕ, zero, suc, ◌≤◌, Bool, List, [], ◌∷◌, refl, sym, ◌∙◌, ap, subst, arith}
+use Rattle.std.proofs.Common.{◌≡◌, ℕ, zero, suc, ◌≤◌, Bool, List, [], ◌∷◌, refl, sym, ap, subst, arith}
 use Rattle.std.proofs.lemmas.Bool.{false_from_ne_true}
 use Rattle.std.specs.FinSet.{contains}
 use Rattle.md_graph.specs.Sets.{NameSet, Has, Within, only_name}
-use Rattle.md_graph.specs.Adjacency.{IsAdjacency}
 use Rattle.md_graph.proofs.SetLemmas.{clash, of_only, only_has, empty_lacks, Has-along, same_members, retain_has, of_retain, union_left, union_right}
 use Rattle.md_modules.specs.Quotients.{IsModularPartition, class}
 use Rattle.md_modules.proofs.Quotients.{class_has, of_class, lifted}

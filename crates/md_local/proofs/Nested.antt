@@ -4,7 +4,7 @@ use Rattle.std.proofs.lemmas.List.{append_cancel_left, map-append}
 use Rattle.std.specs.Borrow.{Bor}
 use Rattle.md_tree.specs.declared.TreeOf.{TreeOf}
 use Rattle.md_tree.specs.Trees.{PlainTreeOf, leaf, node, PlainTreesOf, no_tree, one_more, row}
-use Rattle.md_tree.specs.Parts.{listed, below_node, plain_at}
+use Rattle.md_tree.specs.Parts.{below_node, plain_at}
 use Rattle.md_tree.specs.NodeLists.{nodes_backward, row_nodes_backward}
 use Rattle.md_tree.proofs.Folding.{row_listed}
 

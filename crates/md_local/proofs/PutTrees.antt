@@ -1,10 +1,8 @@
 -- Trees that are put in place of the leaves of a tree: their places, and the stack.
-use Rattle.std.proofs.Common.{◌≡◌, ◌≢◌, ℕ, zero, suc, ◌+◌, ◌-◌, ◌<◌, ◌≤◌, Bool, nat_eq, cond, List, [], ◌∷◌, ◌++◌, length, map, take, drop, get_or, length-append, append-nil, Option, Some, None, refl, sym, ◌∙◌, ap, subst, inl, inr, arith}
+use Rattle.std.proofs.Common.{◌≡◌, ◌≢◌, ℕ, zero, suc, ◌-◌, ◌≤◌, List, [], ◌∷◌, ◌++◌, length, map, take, drop, get_or, length-append, append-nil, Option, None, refl, sym, ◌∙◌, ap, subst, inl, inr, arith}
 use Rattle.std.proofs.lemmas.List.{length-map, map-append, take-map, drop-map}
-use Rattle.std.specs.Prelude.{⊤}
-use Rattle.std.specs.Borrow.{Bor}
 use Rattle.md_graph.specs.Sets.{Has, only_name}
-use Rattle.md_graph.proofs.SetLemmas.{clash, only_has, of_union, union_left, union_right}
+use Rattle.md_graph.proofs.SetLemmas.{clash, only_has, union_left, union_right}
 use Rattle.md_text.proofs.Lists.{In, Later, in_left, in_right, of_append, later_left, later_across, later_append}
 use Rattle.md_tree.specs.declared.Kind.{Kind}
 use Rattle.md_tree.specs.declared.Pair.{Pair}
@@ -12,9 +10,8 @@ use Rattle.md_tree.specs.declared.PairsOf.{PairsOf}
 use Rattle.md_tree.specs.declared.ChildrenOf.{ChildrenOf}
 use Rattle.md_tree.specs.declared.TreeOf.{TreeOf, Leaf, Node}
 use Rattle.md_tree.specs.Trees.{PlainTree, leaf, node, PlainTrees, no_tree, one_more, names, names_below, row, EachNode, EachNodeBelow}
-use Rattle.md_tree.specs.Heads.{head}
 use Rattle.md_tree.specs.NodeLists.{nodes_backward, row_nodes_backward}
-use Rattle.md_tree.specs.Parts.{below_node, listed}
+use Rattle.md_tree.specs.Parts.{below_node}
 use Rattle.md_tree.specs.Plain.{plain}
 use Rattle.md_tree.specs.WellFormed.{AreDisjoint, IsCanonicalNode, IsCanonicalTree}
 use Rattle.md_tree.proofs.Plain.{plain_is_leaf, plain_is_node}

@@ -1,9 +1,9 @@
 -- The names of a quotient: the heads of trees and the two ends, as far as they are vertices.
-use Rattle.std.proofs.Common.{◌≡◌, ℕ, ◌+◌, ◌<◌, ◌≤◌, Bool, cond, List, [], ◌∷◌, ◌++◌, map, take, get_or, length, refl, sym, ◌∙◌, ap, subst, inl, inr, arith}
+use Rattle.std.proofs.Common.{◌≡◌, ℕ, ◌+◌, ◌<◌, ◌≤◌, cond, List, [], ◌∷◌, ◌++◌, map, take, get_or, length, refl, sym, ◌∙◌, ap, subst, inl, inr, arith}
 use Rattle.std.proofs.lemmas.Bool.{cases_Bool}
 use Rattle.std.proofs.lemmas.List.{map_more}
 use Rattle.std.specs.FinSet.{contains, empty, insert, intersection, len}
-use Rattle.md_graph.specs.Sets.{NameSet, Has, Lacks}
+use Rattle.md_graph.specs.Sets.{NameSet, Has}
 use Rattle.md_graph.proofs.SetLemmas.{clash, Has-along, same_members, empty_lacks, insert_new, insert_old, of_insert, meet_has, of_meet}
 use Rattle.md_graph.proofs.Search.{len_within}
 use Rattle.md_tree.specs.declared.Kind.{Kind}

@@ -1,8 +1,7 @@
 -- The turns of rebuilding: what is on the stack, the steps, and the tree at the end.
-use Rattle.std.proofs.Common.{◌≡◌, ℕ, ◌+◌, ◌≤◌, Bool, false, not, inl, inr, List, [], ◌∷◌, ◌++◌, length, map, refl, sym, ◌∙◌, ap, subst, append-nil, arith}
-use Rattle.std.proofs.lemmas.List.{map-append, length-append}
+use Rattle.std.proofs.Common.{◌≡◌, ℕ, ◌+◌, ◌≤◌, Bool, false, not, inl, inr, List, [], ◌∷◌, ◌++◌, length, refl, sym, ◌∙◌, ap, subst, append-nil, arith}
+use Rattle.std.proofs.lemmas.List.{length-append}
 use Rattle.std.proofs.lemmas.List.Sums.{sum_by-cons, sum_by-append}
-use Rattle.std.specs.Borrow.{Bor}
 use Rattle.std.specs.FinSet.{len}
 use Rattle.std.specs.List.{sum_by}
 use Rattle.md_graph.specs.PlainGraph.{PlainGraph, IsGraph, adjacent}
@@ -15,7 +14,7 @@ use Rattle.md_tree.specs.declared.TreeOf.{TreeOf}
 use Rattle.md_text.proofs.Lists.{In, in_left, in_right, of_append}
 use Rattle.md_tree.specs.Trees.{PlainTree, leaf, node, PlainTrees, no_tree, one_more, names, row}
 use Rattle.md_tree.specs.NodeLists.{nodes_backward, row_nodes_backward}
-use Rattle.md_tree.specs.Parts.{plain_at, below_node}
+use Rattle.md_tree.specs.Parts.{below_node}
 use Rattle.md_tree.specs.Plain.{plain}
 use Rattle.md_tree.specs.StrongTrees.{IsTreeOf}
 use Rattle.md_tree.proofs.Nodes.{IsChild}

@@ -1,7 +1,7 @@
 -- The kind and the children of a set after a change inside one of its children.
 use Rattle.std.proofs.Common.{◌≡◌, ◌≢◌, ◌⊎◌, ℕ, Bool, true, false, sym, subst, inl, inr}
 use Rattle.std.proofs.lemmas.Bool.{false_from_ne_true}
-use Rattle.md_graph.specs.Sets.{NameSet, Has, Lacks, Within, HasSome, Proper}
+use Rattle.md_graph.specs.Sets.{NameSet, Has, Lacks, Within, HasSome}
 use Rattle.md_graph.specs.Adjacency.{IsAdjacency}
 use Rattle.md_graph.proofs.SetLemmas.{clash, Has-along, same_members}
 use Rattle.md_graph.proofs.Search.{outside_or_within, larger_or_same, decide_same, decide_test}

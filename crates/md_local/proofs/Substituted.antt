@@ -1,9 +1,9 @@
 -- The law of substitution: trees in place of the leaves of the tree of a quotient.
 use Rattle.std.proofs.Common.{◌≡◌, ◌≢◌, ℕ, ◌<◌, ◌≤◌, Bool, true, false, List, [], ◌∷◌, refl, sym, ◌∙◌, ap, subst, inl, inr, arith}
-use Rattle.std.proofs.lemmas.Bool.{cases_Bool, false_from_ne_true, false≢true}
+use Rattle.std.proofs.lemmas.Bool.{cases_Bool, false_from_ne_true}
 use Rattle.std.specs.FinSet.{contains}
 use Rattle.std.specs.List.{list_any}
-use Rattle.md_graph.specs.Sets.{NameSet, Has, Lacks, Within, HasTwo}
+use Rattle.md_graph.specs.Sets.{NameSet, Has, Lacks, HasTwo}
 use Rattle.md_graph.specs.Adjacency.{IsAdjacency}
 use Rattle.md_graph.proofs.SetLemmas.{clash, empty_lacks, Has-along, same_members}
 use Rattle.md_graph.proofs.Search.{decide_test}
@@ -26,7 +26,7 @@ use Rattle.md_tree.specs.Parts.{below_node}
 use Rattle.md_tree.specs.StrongTrees.{HasKind, IsInOrder, AreTreesJoined, ListsJoined, HasPairs, IsTreeOf}
 use Rattle.md_tree.specs.WellFormed.{AreDisjoint, HasShape}
 use Rattle.md_tree.proofs.Nodes.{IsChild, child_inside, child_of_name, each_child, at_apart}
-use Rattle.md_tree.proofs.Built.{IsBuilt, HasChildren, children_maximal, tree_names, tree_built}
+use Rattle.md_tree.proofs.Built.{IsBuilt, children_maximal, tree_names, tree_built}
 use Rattle.md_tree.proofs.Kinded.{apart_of, built_tree}
 use Rattle.md_tree.proofs.GraphKinds.{two_of_kind, kinds_of_graphs}
 use Rattle.md_tree.proofs.Canonical.{canonical_of}

@@ -1,12 +1,12 @@
 -- What grows of a node, and the stack of what has grown.
-use Rattle.std.proofs.Common.{◌≡◌, ◌≢◌, ◌⊎◌, ℕ, zero, suc, ◌+◌, ◌-◌, ◌<◌, ◌≤◌, Bool, true, false, not, ◌&&◌, ◌||◌, ◌==◌, eqb, eqb-true, cond, List, [], ◌∷◌, ◌++◌, length, map, take, drop, length-append, append_assoc, append-nil, refl, sym, ◌∙◌, ap, subst, inl, inr, arith}
+use Rattle.std.proofs.Common.{◌≡◌, ◌≢◌, ◌⊎◌, ℕ, suc, ◌+◌, ◌-◌, ◌≤◌, Bool, true, false, not, ◌&&◌, ◌||◌, ◌==◌, eqb, eqb-true, cond, List, [], ◌∷◌, ◌++◌, length, map, take, drop, length-append, append_assoc, append-nil, refl, sym, ◌∙◌, ap, subst, inl, inr, arith}
 use Rattle.std.specs.Prelude.{⊤}
 use Rattle.std.proofs.lemmas.Bool.{cases_Bool, false_from_ne_true, and_parts, and_from, false≢true}
 use Rattle.std.proofs.lemmas.List.Sums.{sum_by-cons, sum_by-append}
 use Rattle.std.specs.FinSet.{contains, empty, intersection, len}
 use Rattle.std.specs.List.{list_any, sum_by}
 use Rattle.md_graph.specs.PlainGraph.{PlainGraph, adjacent}
-use Rattle.md_graph.specs.Sets.{NameSet, Has, Lacks, Within, HasSome, HasTwo, only_name}
+use Rattle.md_graph.specs.Sets.{NameSet, Has, Lacks, HasSome, HasTwo, only_name}
 use Rattle.md_graph.proofs.SetLemmas.{clash, Has-along, of_only, of_union, union_left, empty_lacks, same_turned}
 use Rattle.md_graph.proofs.SetLaws.{contains-union, contains-empty, contains-insert}
 use Rattle.md_graph.proofs.Search.{decide_test}

@@ -10,7 +10,7 @@ use Rattle.md_graph.specs.Sets.{NameSet, Has, Within}
 use Rattle.md_graph.specs.Adjacency.{IsAdjacency}
 use Rattle.md_modules.specs.Modules.{IsModule}
 use Rattle.md_tree.specs.declared.Kind.{Kind}
-use Rattle.md_tree.specs.declared.Kind.TheVariants.{Parallel, Series, Prime}
+use Rattle.md_tree.specs.declared.Kind.TheVariants.{Parallel, Series}
 use Rattle.md_tree.specs.declared.Pair.{Pair}
 use Rattle.md_tree.specs.Trees.{PlainTree, leaf, node, PlainTrees, no_tree, one_more, names, names_below, row}
 use Rattle.md_tree.specs.Heads.{head, heads}

@@ -14,15 +14,11 @@ use std::alloc::Global;
 
 // The tree with the trees in place of its leaves: in place of each leaf the tree whose head has the
 // leaf's name, if there is one.
-pub(crate) fn substitute(
-    alloc: Global,
-    quotient: &Tree,
-    hanging: Vec<Tree>,
-) -> Result<Tree, Memory>
+pub(crate) fn substitute(alloc: Global, quotient: &Tree, hanging: Vec<Tree>) -> Result<Tree, Memory>
     requires { IsCanonicalTree (plain quotient.now) }
     ensures { IfOk result (λ tree.
         IsSubstituted (λ x part. part ≡ tree_at (map plain hanging.items) x)
-            (plain quotient.now) (plain tree)) }
+        (plain quotient.now) (plain tree)) }
 {
     let mut places = places_of(alloc, hanging)?;
     let mut nodes = nodes_of(alloc, quotient)?;

@@ -1,4 +1,4 @@
-use Rattle.std.proofs.Common.{rules, ◌≡◌, ◌≤◌, ◌+◌, map, sym, ap, subst, ◌∙◌}
+use Rattle.std.proofs.Common.{rules, map, ap, subst, ◌∙◌}
 use Rattle.std.specs.FinSet.{intersection}
 use Rattle.md_graph.specs.PlainGraph.{adjacent}
 use Rattle.md_graph.proofs.SetLemmas.{Has-along, of_meet}

@@ -1,4 +1,4 @@
-use Rattle.std.proofs.Common.{◌≡◌, ◌+◌, ◌≤◌, true, false, map, refl, sym, ◌∙◌, ap, subst}
+use Rattle.std.proofs.Common.{map, refl, sym, ◌∙◌, ap, subst}
 use Rattle.std.specs.List.{list_any}
 use Rattle.md_tree.specs.Plain.{plain, row_of_children}
 use Rattle.md_tree.proofs.Plain.{plain_is_leaf, plain_is_node}

@@ -1,4 +1,4 @@
-use Rattle.std.proofs.Common.{◌≡◌, nat_eq, refl, sym, ◌∙◌}
+use Rattle.std.proofs.Common.{refl, sym, ◌∙◌}
 use Rattle.md_local.proofs.Turns.{end_grown, other_grown}
 use Rattle.md_local.proofs.growing.leaf_grown.Goals as goal
 

@@ -1,4 +1,4 @@
-use Rattle.std.proofs.Common.{rules, ◌≡◌, ◌-◌, ◌∙◌, ap, sym}
+use Rattle.std.proofs.Common.{rules, ◌-◌, ◌∙◌, ap}
 use Rattle.md_tree.specs.Parts.{below_node}
 use Rattle.md_tree.specs.Plain.{plain}
 use Rattle.md_local.proofs.Turns.{enough, children_grown, stack_grown}

@@ -1,4 +1,4 @@
-use Rattle.std.proofs.Common.{◌≡◌, sym, ◌∙◌, ap}
+use Rattle.std.proofs.Common.{◌∙◌, ap}
 use Rattle.md_tree.specs.Heads.{head}
 use Rattle.md_tree.specs.Plain.{plain}
 use Rattle.md_local.proofs.QuotientNames.{names_begin, names_step}

@@ -1,4 +1,4 @@
-use Rattle.std.proofs.Common.{◌≡◌, ◌-◌, ap, ◌∙◌}
+use Rattle.std.proofs.Common.{◌-◌, ap, ◌∙◌}
 use Rattle.md_tree.specs.Plain.{plain}
 use Rattle.md_local.specs.Substitution.{place_at}
 use Rattle.md_local.proofs.PutTrees.{put_turn}

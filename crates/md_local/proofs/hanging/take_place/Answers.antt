@@ -1,4 +1,4 @@
-use Rattle.std.proofs.Common.{◌≡◌, ◌≤◌, refl, sym, ◌∙◌, subst}
+use Rattle.std.proofs.Common.{◌≤◌, refl, sym, ◌∙◌, subst}
 use Rattle.md_tree.specs.declared.TreeOf.{Leaf}
 use Rattle.md_tree.proofs.Plain.{plain_is_leaf}
 use Rattle.md_local.proofs.PutTrees.{place_past, place_empty}

@@ -1,4 +1,4 @@
-use Rattle.std.proofs.Common.{◌≡◌, ◌≢◌, map}
+use Rattle.std.proofs.Common.{map}
 use Rattle.md_tree.specs.Plain.{plain}
 use Rattle.md_tree.proofs.Stacking.{if_ok}
 use Rattle.md_local.proofs.PutTrees.{put_leaf, put_node_over, other_leaf}

@@ -1,4 +1,4 @@
-use Rattle.std.proofs.Common.{◌++◌, ◌∙◌, ap, sym}
+use Rattle.std.proofs.Common.{◌++◌, ◌∙◌, ap}
 use Rattle.md_tree.specs.Plain.{trees_of}
 use Rattle.md_local.proofs.Placing.{leaf_appended, node_appended}
 use Rattle.md_local.proofs.merging.append_children.Goals as goal

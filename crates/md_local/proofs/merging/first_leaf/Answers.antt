@@ -1,6 +1,5 @@
 use Rattle.std.proofs.Common.{◌≡◌, [], ◌∙◌, sym, arith}
 use Rattle.std.proofs.lemmas.List.{nil_from_length}
-use Rattle.md_tree.specs.Plain.{trees_of}
 use Rattle.md_local.proofs.Placing.{leaf_head, no_head, child_head, child_smaller}
 use Rattle.md_local.proofs.merging.first_leaf.Goals as goal
 

@@ -1,4 +1,4 @@
-use Rattle.std.proofs.Common.{◌≡◌, ◌+◌, ◌≤◌, map, vec_len}
+use Rattle.std.proofs.Common.{◌+◌, ◌≤◌, map, vec_len}
 use Rattle.std.specs.List.{sum_by}
 use Rattle.md_tree.specs.Plain.{plain}
 use Rattle.md_tree.specs.Parts.{plain_at}
