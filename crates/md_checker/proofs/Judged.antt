@@ -1,6 +1,6 @@
 -- Lines that are judged for items: each builder makes of what a test told what comes of the line.
 use Rattle.std.proofs.Common.{◌≡◌, ◌↔◌, ◌≤◌, ℕ, ◌+◌, Bool, true, false, IsTrue, List, [], ◌∷◌, length, slice_get, Option, None, Some, Result, Ok, Err, IfOk, refl, sym, ◌∙◌, ap, subst, inl, inr, arith}
-use Rattle.std.specs.Prelude.{IfSome, IfNone, is_some, ⊤}
+use Rattle.std.specs.Prelude.{IfSome, is_some, ⊤}
 use Rattle.std.specs.List.{All}
 use Rattle.md_graph.specs.declared.TheConstants.{NAMES}
 use Rattle.md_graph.specs.NameSet.{AllBelow}
@@ -166,7 +166,3 @@ told_no r Told told so = subst (λ x. IfOk x (λ fit. IsTrue fit ↔ Told)) so t
 pub told_and_any : {X : Type 0} (r : Result Bool X) (Told : Type 0) → IfOk r (λ fit. IsTrue fit ↔ Told) → IfOk r (λ fit. IsTrue fit ↔ (⊤ × Told))
 told_and_any (Ok fit) Told told = ((λ so. (tt, told.0 so)), (λ both. told.1 both.1))
 told_and_any (Err e) Told told = tt
-
-pub free_if_none : {X : Type 0} (o : Option X) (P : Type 0) → IfNone o P → is_some o ≡ false → P
-free_if_none None P told lacks = told
-free_if_none (Some x) P told lacks = absurd (cc)

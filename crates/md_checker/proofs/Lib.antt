@@ -22,3 +22,4 @@ mod ArcTexts
 mod HeadPairs
 mod Taking
 mod Cotrees
+mod Splitting

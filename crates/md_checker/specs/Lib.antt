@@ -11,3 +11,4 @@ pub mod HeadPairs
 pub mod TextFits
 pub mod Hands
 pub mod Judged
+pub mod Splitting

@@ -14,11 +14,11 @@ ghost use Rattle.md_report.specs.Steps.{state_of};
 ghost use Rattle.md_checker.specs.declared.session_checker.SessionDue.TheVariants.{Head, State as StateDue, Items};
 ghost use Rattle.md_checker.specs.Standing.{session_place, IsStep, MayTell, Takes};
 
+use crate::cograph_test::is_cograph;
 use crate::fixed_lines::{is_end, is_head};
 use crate::item_answers::{answers_item, applies_by_text};
 use crate::judgements::{closes_items, is_word_and_state, reports_state};
 use md_graph::{GraphOf, Memory};
-use md_modules::find_p4;
 use md_report::{Line, SessionMode};
 use md_script::{HistoryOf, Item, Script};
 use std::alloc::Global;
@@ -322,7 +322,7 @@ fn opens_quiet<const W: usize>(
             answered,
         }));
     }
-    if find_p4(graph).is_some() {
+    if !is_cograph(alloc, graph)? {
         return Ok(None);
     }
     comes(alloc, mode, graph, history, script, answered, line)
