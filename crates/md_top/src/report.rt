@@ -89,13 +89,21 @@ fn put_line<O: Sink>(
         (sink_run O.Sink out.old out.new) }
     ensures faults_never_fall { O.faults out.old ≤ O.faults out.new }
 {
-    let text = match room.graph() {
-        GraphBySize::Small(graph) => text_of(alloc, mode, graph)?,
-        GraphBySize::Medium(graph) => text_of(alloc, mode, graph)?,
-        GraphBySize::Broad(graph) => text_of(alloc, mode, graph)?,
-        GraphBySize::Large(graph) => text_of(alloc, mode, graph)?,
-    };
+    let text = text_of_room(alloc, mode, room)?;
     put_text(&text, out)
+}
+
+// The text of the line that reports the graph in the room, with its line feed.
+fn text_of_room(alloc: Global, mode: GraphMode, room: &Room) -> Result<Vec<u8>, Memory>
+    ensures { IfOk result (λ text. (line : PlainLine) × Reports mode room.now line
+        × (text.items ≡ fed_line line)) }
+{
+    match room.graph() {
+        GraphBySize::Small(graph) => text_of(alloc, mode, graph),
+        GraphBySize::Medium(graph) => text_of(alloc, mode, graph),
+        GraphBySize::Broad(graph) => text_of(alloc, mode, graph),
+        GraphBySize::Large(graph) => text_of(alloc, mode, graph),
+    }
 }
 
 // The text of the line that reports a graph, with its line feed.
