@@ -17,7 +17,7 @@ use Rattle.md_tree.specs.WellFormed.{AreDisjoint, IsCanonicalNode, IsCanonicalTr
 use Rattle.md_tree.proofs.Plain.{plain_is_leaf, plain_is_node}
 use Rattle.md_tree.proofs.Folding.{row_listed}
 use Rattle.md_local.specs.Growing.{IsJoined}
-use Rattle.md_local.specs.Substitution.{IsSubstituted, AreSubstituted, IsPut, IsPutOver, tree_or_leaf, place_at}
+use Rattle.md_local.specs.Substitution.{IsSubstituted, AreSubstituted, IsStackTurn, StandsFor, tree_or_leaf, standing_at}
 use Rattle.md_local.proofs.Nested.{children_last, node_last, alone_last}
 
 -- ---- places
@@ -27,10 +27,10 @@ none_past [] x past = refl
 none_past (o ∷ xs) zero past = absurd (omega arith)
 none_past (o ∷ xs) (suc x) past = none_past xs x (omega arith)
 
-pub place_past : (xs : List (Option (TreeOf Kind Pair))) (x : ℕ) → length xs ≤ x → leaf x ≡ place_at xs x
+pub place_past : (xs : List (Option (TreeOf Kind Pair))) (x : ℕ) → length xs ≤ x → leaf x ≡ standing_at xs x
 place_past xs x past = sym (ap (tree_or_leaf x) (none_past xs x past))
 
-pub place_empty : (xs : List (Option (TreeOf Kind Pair))) (x : ℕ) (o : Option (TreeOf Kind Pair)) → o ≡ get_or xs x o → o ≡ None → leaf x ≡ place_at xs x
+pub place_empty : (xs : List (Option (TreeOf Kind Pair))) (x : ℕ) (o : Option (TreeOf Kind Pair)) → o ≡ get_or xs x o → o ≡ None → leaf x ≡ standing_at xs x
 place_empty xs x o is none = sym (ap (tree_or_leaf x) (subst (λ d. get_or xs x d ≡ None) none (sym is ∙ none)))
 
 -- ---- the leaves of a tree
@@ -92,7 +92,7 @@ module _ (Fits : ℕ → PlainTree → Type 0) where
   put_more (s ∷ ts) [] t u are is = absurd are
   put_more (s ∷ ts) (w ∷ us) t u are is = (are.0, put_more ts us t u are.1 is)
 
-  put_over : (place : ℕ → PlainTree) (p u : PlainTree) (bs : List PlainTree) → AreSubstituted Fits (row (below_node p)) bs → ((x : ℕ) → p ≡ leaf x → Fits x (place x)) → IsPutOver place p bs u → IsSubstituted Fits p u
+  put_over : (place : ℕ → PlainTree) (p u : PlainTree) (bs : List PlainTree) → AreSubstituted Fits (row (below_node p)) bs → ((x : ℕ) → p ≡ leaf x → Fits x (place x)) → StandsFor place p bs u → IsSubstituted Fits p u
   put_over place (leaf x) u bs are fits is = subst (Fits x) (sym is) (fits x refl)
   put_over place (node k cs ps) u bs are fits is = (bs, subst (λ l. AreSubstituted Fits l bs) (row_listed cs) are, is)
 
@@ -113,13 +113,13 @@ module _ (Fits : ℕ → PlainTree → Type 0) where
         omega arith
 
     pub put_step : (place : ℕ → PlainTree) (left ps : List PlainTree) (p : PlainTree) (us vs : List PlainTree) → IsPutStack left us → left ≡ ps ++ p ∷ [] →
-        ((x : ℕ) → p ≡ leaf x → Fits x (place x)) → IsPut place p us vs → IsPutStack ps vs
+        ((x : ℕ) → p ≡ leaf x → Fits x (place x)) → IsStackTurn place p us vs → IsPutStack ps vs
     put_step place left ps p us vs is pop fits put =
         let ws : (ws : List PlainTree) × (is.0 ≡ ws ++ below_node p) = children_last t left ps p is.0 is.1 pop in
         let are : AreSubstituted Fits (row (ws.0 ++ below_node p)) us = subst (λ l. AreSubstituted Fits (row l) us) ws.1 is.2 in
         let at : length us - length (below_node p) ≡ length ws.0 =
         (let all = put_length (ws.0 ++ below_node p) us are in let both = length-append ws.0 (below_node p) in omega arith) in
-        let below : IsPutOver place p (drop (length ws.0) us) put.0 = subst (λ n. IsPutOver place p (drop n us) put.0) at put.1 in
+        let below : StandsFor place p (drop (length ws.0) us) put.0 = subst (λ n. StandsFor place p (drop n us) put.0) at put.1 in
         let made : IsSubstituted Fits p put.0 = put_over place p put.0 (drop (length ws.0) us) (put_back ws.0 (below_node p) us are) fits below in (
           ws.0 ++ p ∷ [],
           node_last t left ps p is.0 ws.0 is.1 pop ws.1,
@@ -161,21 +161,21 @@ module _ (Fits : ℕ → PlainTree → Type 0) where
 -- ---- what is put for a node
 
 pub put_turn : (place : ℕ → PlainTree) (p : PlainTree) (xs ys zs cs : List (TreeOf Kind Pair)) (u : TreeOf Kind Pair) (n m : ℕ) → n ≡ length (below_node p) → m ≡ length xs - n → cs ≡ drop m xs → ys ≡ take m xs →
-    zs ≡ ys ++ u ∷ [] → IsPutOver place p (map plain cs) (plain u) → IsPut place p (map plain xs) (map plain zs)
+    zs ≡ ys ++ u ∷ [] → StandsFor place p (map plain cs) (plain u) → IsStackTurn place p (map plain xs) (map plain zs)
 put_turn place p xs ys zs cs u n m number below cut kept push over =
     let at : m ≡ length (map plain xs) - length (below_node p) = (let long = length-map xs plain in omega arith) in (
       plain u,
-      subst (λ l. IsPutOver place p l (plain u)) (ap (map plain) cut ∙ sym (drop-map plain m xs) ∙ ap (λ i. drop i (map plain xs)) at) over,
+      subst (λ l. StandsFor place p l (plain u)) (ap (map plain) cut ∙ sym (drop-map plain m xs) ∙ ap (λ i. drop i (map plain xs)) at) over,
       ap (map plain) push ∙ map-append plain ys (u ∷ [])
           ∙ ap (λ l. l ++ plain u ∷ []) (ap (map plain) kept ∙ sym (take-map plain m xs) ∙ ap (λ i. take i (map plain xs)) at),
     )
 
-pub put_leaf : (place : ℕ → PlainTree) (t : TreeOf Kind Pair) (x : ℕ) (us : List PlainTree) (u : PlainTree) → t ≡ Leaf x → u ≡ place x → IsPutOver place (plain t) us u
-put_leaf place t x us u is made = subst (λ p. IsPutOver place p us u) (sym (plain_is_leaf t x is)) made
+pub put_leaf : (place : ℕ → PlainTree) (t : TreeOf Kind Pair) (x : ℕ) (us : List PlainTree) (u : PlainTree) → t ≡ Leaf x → u ≡ place x → StandsFor place (plain t) us u
+put_leaf place t x us u is made = subst (λ p. StandsFor place p us u) (sym (plain_is_leaf t x is)) made
 
 pub other_leaf : (t : TreeOf Kind Pair) (x y : ℕ) → t ≡ Leaf x → plain t ≢ leaf y → y ≢ x
 other_leaf t x y is differs same = differs (plain_is_leaf t x is ∙ ap leaf (sym same))
 
 pub put_node_over : (place : ℕ → PlainTree) (t : TreeOf Kind Pair) (k : Kind) (cs : ChildrenOf Kind Pair) (ps : PairsOf Pair) (us : List PlainTree) (u : PlainTree) → t ≡ Node k cs ps →
-    IsJoined k ps.list.items us u → IsPutOver place (plain t) us u
-put_node_over place t k cs ps us u is made = subst (λ p. IsPutOver place p us u) (sym (plain_is_node t k cs ps is)) made
+    IsJoined k ps.list.items us u → StandsFor place (plain t) us u
+put_node_over place t k cs ps us u is made = subst (λ p. StandsFor place p us u) (sym (plain_is_node t k cs ps is)) made

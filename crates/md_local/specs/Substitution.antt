@@ -17,8 +17,8 @@ use Rattle.md_tree.specs.StrongTrees.{IsTreeOf}
 use Rattle.md_local.specs.Growing.{IsJoined}
 
 abbrev mutual
-  -- u is t with a tree in place of each leaf, one that `Fits` its name; a tree that can't be a child
-  -- of its node's kind gives its own children in its place
+  -- u is t with a tree in place of each leaf, one that `Fits` its name; a tree that can't be a
+  -- child of its node gives its own children in its place
   pub IsSubstituted : (ℕ → PlainTree → Type 0) → PlainTree → PlainTree → Type 0
   IsSubstituted Fits (leaf x) u = Fits x u
   IsSubstituted Fits (node k cs ps) u =
@@ -58,17 +58,17 @@ abbrev pub tree_or_leaf : ℕ → Option (TreeOf Kind Pair) → PlainTree
 tree_or_leaf x None = leaf x
 tree_or_leaf x (Some t) = plain t
 
-abbrev pub place_at : List (Option (TreeOf Kind Pair)) → ℕ → PlainTree
-place_at places x = tree_or_leaf x (get_or places x None)
+abbrev pub standing_at : List (Option (TreeOf Kind Pair)) → ℕ → PlainTree
+standing_at places x = tree_or_leaf x (get_or places x None)
 
 -- u is the tree at the leaf's place, or joins the trees as the node does its children
-abbrev pub IsPutOver : (ℕ → PlainTree) → PlainTree → List PlainTree → PlainTree → Type 0
-IsPutOver place (leaf x) us u = u ≡ place x
-IsPutOver place (node k cs ps) us u = IsJoined k ps us u
+abbrev pub StandsFor : (ℕ → PlainTree) → PlainTree → List PlainTree → PlainTree → Type 0
+StandsFor place (leaf x) us u = u ≡ place x
+StandsFor place (node k cs ps) us u = IsJoined k ps us u
 
 -- of a stack the last trees, as many as the node has children, give way to the one that is put
 -- for the node
-abbrev pub IsPut : (ℕ → PlainTree) → PlainTree → List PlainTree → List PlainTree → Type 0
-IsPut place t old new =
-    (u : PlainTree) × IsPutOver place t (drop (length old - length (below_node t)) old) u ×
+abbrev pub IsStackTurn : (ℕ → PlainTree) → PlainTree → List PlainTree → List PlainTree → Type 0
+IsStackTurn place t old new =
+    (u : PlainTree) × StandsFor place t (drop (length old - length (below_node t)) old) u ×
     (new ≡ take (length old - length (below_node t)) old ++ u ∷ [])

@@ -5,7 +5,7 @@ ghost use Rattle.md_tree.specs.Parts.{below_node};
 ghost use Rattle.md_tree.specs.Plain.{plain};
 ghost use Rattle.md_tree.specs.Trees.{leaf};
 ghost use Rattle.md_tree.specs.WellFormed.{IsCanonicalTree};
-ghost use Rattle.md_local.specs.Substitution.{IsSubstituted, IsPut, IsPutOver, tree_at, place_at};
+ghost use Rattle.md_local.specs.Substitution.{IsSubstituted, IsStackTurn, StandsFor, tree_at, standing_at};
 
 use crate::merging::{first_leaf, join, number_below};
 use md_graph::Memory;
@@ -40,10 +40,10 @@ fn put_node(
     stack: &mut Vec<Tree>,
 ) -> Result<(), Memory>
     requires { length (below_node (plain node.now)) ≤ length stack.old.items }
-    ensures put { IfOk result (λ _. IsPut (place_at places.old.items) (plain node.now)
+    ensures put { IfOk result (λ _. IsStackTurn (standing_at places.old.items) (plain node.now)
         (map plain stack.old.items) (map plain stack.new.items)) }
     ensures places { (x : ℕ) → plain node.now ≢ leaf x
-        → place_at places.new.items x ≡ place_at places.old.items x }
+        → standing_at places.new.items x ≡ standing_at places.old.items x }
 {
     let below = stack.len() - number_below(node);
     let children = stack.split_off(below)?;
@@ -59,10 +59,10 @@ fn tree_over(
     places: &mut Vec<Option<Tree>>,
     children: Vec<Tree>,
 ) -> Result<Tree, Memory>
-    ensures put { IfOk result (λ tree. IsPutOver (place_at places.old.items) (plain node.now)
+    ensures put { IfOk result (λ tree. StandsFor (standing_at places.old.items) (plain node.now)
         (map plain children.items) (plain tree)) }
     ensures places { (x : ℕ) → plain node.now ≢ leaf x
-        → place_at places.new.items x ≡ place_at places.old.items x }
+        → standing_at places.new.items x ≡ standing_at places.old.items x }
 {
     match node {
         Tree::Leaf(name) => Ok(take_place(places, *name)),
@@ -72,9 +72,9 @@ fn tree_over(
 
 // The tree at the place of a name, which goes; the name's leaf where there is none.
 fn take_place(places: &mut Vec<Option<Tree>>, name: u32) -> Tree
-    ensures tree { plain result ≡ place_at places.old.items name }
+    ensures tree { plain result ≡ standing_at places.old.items name }
     ensures places { (x : ℕ) → x ≢ name
-        → place_at places.new.items x ≡ place_at places.old.items x }
+        → standing_at places.new.items x ≡ standing_at places.old.items x }
 {
     let at = name as usize;
     if at < places.len() {
@@ -88,7 +88,7 @@ fn take_place(places: &mut Vec<Option<Tree>>, name: u32) -> Tree
 // Each tree at the place of its head; of those with one head the first.
 fn places_of(alloc: Global, hanging: Vec<Tree>) -> Result<Vec<Option<Tree>>, Memory>
     ensures { IfOk result (λ places. (x : ℕ)
-        → place_at places.items x ≡ tree_at (map plain hanging.items) x) }
+        → standing_at places.items x ≡ tree_at (map plain hanging.items) x) }
 {
     let mut hanging = hanging;
     let mut places = Vec::new(alloc);
@@ -100,8 +100,8 @@ fn places_of(alloc: Global, hanging: Vec<Tree>) -> Result<Vec<Option<Tree>>, Mem
 
 // Sets the tree at the place of its head.
 fn set_place(places: &mut Vec<Option<Tree>>, tree: Tree) -> Result<(), Memory>
-    ensures { IfOk result (λ _. (x : ℕ) → place_at places.new.items x
-        ≡ cond (nat_eq (head (plain tree)) x) (plain tree) (place_at places.old.items x)) }
+    ensures { IfOk result (λ _. (x : ℕ) → standing_at places.new.items x
+        ≡ cond (nat_eq (head (plain tree)) x) (plain tree) (standing_at places.old.items x)) }
 {
     let at = first_leaf(&tree) as usize;
     extend(places, at)?;
@@ -113,7 +113,7 @@ fn set_place(places: &mut Vec<Option<Tree>>, tree: Tree) -> Result<(), Memory>
 fn extend(places: &mut Vec<Option<Tree>>, at: usize) -> Result<(), Memory>
     ensures there { IfOk result (λ _. at < length places.new.items) }
     ensures same { IfOk result (λ _. (x : ℕ)
-        → place_at places.new.items x ≡ place_at places.old.items x) }
+        → standing_at places.new.items x ≡ standing_at places.old.items x) }
 {
     while places.len() <= at {
         places.push(None)?;

@@ -21,9 +21,9 @@ pub fn edge_edits_stay_local<C>()
 {}
 
 /// A set of vertices is partitioned into modules, and the least name of each is taken: the tree of
-/// the graph on these names, with the tree of each module in place of its least name, is the tree of
-/// the graph on the set. A tree of the kind of the node that it comes below, parallel or series, is
-/// merged into that node, and the children are put in order.
+/// the graph on these names, with the tree of each module in place of its least name, is the tree
+/// of the graph on the set. A tree of the kind of the node that it comes below, parallel or series,
+/// is merged into that node, and the children are put in order.
 pub fn substitution()
     ensures law { TreesAreSubstituted }
 {}

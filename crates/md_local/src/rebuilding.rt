@@ -15,11 +15,11 @@ use std::alloc::Global;
 use std::sync::ledger::Ledger;
 
 /// The tree of a graph in which the edge between u and v has come or gone, from the tree of the
-/// graph before. Of the least strong module that held both only u and v are decomposed, and one name
-/// of each subtree that hangs off the paths to them: each of these names is one step. Those subtrees
-/// are moved to the leaves of their names, and all else is copied as it comes by; what can't stand
-/// below its node is merged into it. No call nests as deep as the tree. Condition: u and v are two
-/// vertices, and the tree is that of the graph before. Errors: want of memory.
+/// graph before. Of the least strong module that held both only u and v are decomposed, and one
+/// name of each subtree that hangs off the paths to them: each of these names is one step. Those
+/// subtrees are moved to the leaves of their names, and all else is copied as it comes by; what
+/// can't stand below its node is merged into it. No call nests as deep as the tree. Condition: u
+/// and v are two vertices, and the tree is that of the graph before. Errors: want of memory.
 pub fn rebuild<L: Ledger, const W: usize>(
     alloc: Global,
     graph: &GraphOf<W>,
