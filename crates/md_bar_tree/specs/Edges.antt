@@ -1,4 +1,4 @@
--- What private contracts say of the edges and the order of four names.
+-- The edges and the order of four names.
 -- Source: any textbook of graph theory.
 use Rattle.std.specs.Prelude.{◌≡◌, ◌<◌, ℕ, Bool, true, false}
 

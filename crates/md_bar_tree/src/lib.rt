@@ -7,7 +7,7 @@ mod bar_test;
 pub mod laws;
 
 pub use bar_search::bar_of;
-pub use bar_test::is_bar;
+pub use bar_test::{in_cycle_order, in_pair_order, is_bar};
 
 /// A class of graphs: trivially perfect graphs, which have no induced path or cycle on four
 /// vertices, or threshold graphs, which have besides no two edges without an edge between them.

@@ -20,6 +20,7 @@ use Rattle.md_comparability.specs.Chains.{IsForcingChain}
 use Rattle.md_comparability.specs.Orders.{IsOrder}
 use Rattle.md_comparability.specs.Laws.{MeetsPremises}
 use Rattle.md_comparability.proofs.Reached.{side_premises}
+use Rattle.md_bar_tree.specs.declared.Bar.{Bar}
 use Rattle.md_tree.specs.Trees.{PlainTree}
 use Rattle.md_tree.specs.WellFormed.{IsWellFormed}
 use Rattle.md_tree.proofs.OneTree.{well_formed_proof}
@@ -37,8 +38,8 @@ use Rattle.md_report.specs.declared.line.GraphMode.{GraphMode}
 use Rattle.md_report.specs.declared.line.GraphMode.TheVariants.{Tree, Compare, Shortest, Permute}
 use Rattle.md_report.specs.declared.line.SessionMode.{SessionMode}
 use Rattle.md_report.specs.declared.line.SessionMode.TheVariants.{Edit, Cograph, Quiet}
-use Rattle.md_report.specs.Lines.{PlainLine, head, tree, applied, applied_quiet, refused, refused_p4, group_refused, group_refused_p4, nothing_to_undo, not_cograph, oriented, forced, orders, forced_in, forced_in_complement, end}
-use Rattle.md_report.specs.WellFormedLines.{IsVertexName, IsNamedArc, IsNamedChain, IsNamedP4, IsNamedReason, IsEditNumber, IsWellFormedLine}
+use Rattle.md_report.specs.Lines.{PlainLine, path_of_bar, head, head_class, tree, applied, applied_quiet, refused, refused_bar, group_refused, group_refused_bar, nothing_to_undo, barred, not_cograph, oriented, forced, orders, forced_in, forced_in_complement, end}
+use Rattle.md_report.specs.WellFormedLines.{IsVertexName, IsNamedArc, IsNamedChain, IsNamedP4, IsNamedPath, IsNamedReason, IsEditNumber, IsWellFormedLine}
 use Rattle.md_report.specs.Orientations.{IsOrientationLine}
 use Rattle.md_report.specs.Models.{IsModelLine}
 use Rattle.md_report.specs.Sessions.{State, first_state, HasTreeLine}
@@ -144,15 +145,16 @@ module _ (g : PlainGraph) (is : IsGraph g) where
   orientation_good (oriented arcs) may = held IsNamedArc arcs (λ a has. arc_good (adjacent g) near a ((may.1.arcs a).0 has).3.0)
   orientation_good (forced chain) may = chain_good (adjacent g) near chain may
   orientation_good (head mode) may = absurd may
+  orientation_good (head_class class) may = absurd may
   orientation_good (tree t) may = absurd may
   orientation_good (applied t) may = absurd may
   orientation_good applied_quiet may = absurd may
   orientation_good (refused reason) may = absurd may
-  orientation_good (refused_p4 p) may = absurd may
+  orientation_good (refused_bar bar) may = absurd may
   orientation_good (group_refused number reason) may = absurd may
-  orientation_good (group_refused_p4 number p) may = absurd may
+  orientation_good (group_refused_bar number bar) may = absurd may
   orientation_good nothing_to_undo may = absurd may
-  orientation_good (not_cograph p) may = absurd may
+  orientation_good (barred bar) may = absurd may
   orientation_good (orders first second) may = absurd may
   orientation_good (forced_in chain) may = absurd may
   orientation_good (forced_in_complement chain) may = absurd may
@@ -163,15 +165,16 @@ module _ (g : PlainGraph) (is : IsGraph g) where
   model_good (forced_in chain) may = chain_good (adjacent g) near chain may
   model_good (forced_in_complement chain) may = chain_good (adjacent_on NonEdges g) apart chain may.1
   model_good (head mode) may = absurd may
+  model_good (head_class class) may = absurd may
   model_good (tree t) may = absurd may
   model_good (applied t) may = absurd may
   model_good applied_quiet may = absurd may
   model_good (refused reason) may = absurd may
-  model_good (refused_p4 p) may = absurd may
+  model_good (refused_bar bar) may = absurd may
   model_good (group_refused number reason) may = absurd may
-  model_good (group_refused_p4 number p) may = absurd may
+  model_good (group_refused_bar number bar) may = absurd may
   model_good nothing_to_undo may = absurd may
-  model_good (not_cograph p) may = absurd may
+  model_good (barred bar) may = absurd may
   model_good (oriented arcs) may = absurd may
   model_good (forced chain) may = absurd may
   model_good end may = absurd may
@@ -184,9 +187,9 @@ module _ (g : PlainGraph) (is : IsGraph g) where
 
   state_good : (mode : SessionMode) (line : PlainLine) → ReportsState mode g line → IsWellFormedLine line
   state_good Edit line may = tree_good tree (λ o w. w) g is line may
-  state_good Cograph line (inl path) = p4_good not_cograph (λ p w. w) g is line path
+  state_good Cograph line (inl path) = p4_good not_cograph (λ p w. (refl, w)) g is line path
   state_good Cograph line (inr whole) = tree_good tree (λ o w. w) g is line whole.1
-  state_good Quiet line path = p4_good not_cograph (λ p w. w) g is line path
+  state_good Quiet line path = p4_good not_cograph (λ p w. (refl, w)) g is line path
 
   last_good : (mode : SessionMode) (line : PlainLine) → ClosesItems mode g line → IsWellFormedLine line
   last_good Edit line may = subst IsWellFormedLine (sym may) tt
@@ -199,11 +202,11 @@ module _ (g : PlainGraph) (is : IsGraph g) where
   done_good Cograph line done = tree_good applied (λ o w. w) g is line done
   done_good Quiet line done = subst IsWellFormedLine (sym done) tt
 
-  -- an induced P4 that no state may have
-  barred_good : (mode : SessionMode) (p : P4) → IsBarred mode g p → IsNamedP4 p
-  barred_good Edit p barred = absurd barred
-  barred_good Cograph p barred = path_good g is p barred
-  barred_good Quiet p barred = path_good g is p barred
+  -- a bar that no state may have
+  barred_good : (mode : SessionMode) (bar : Bar) → IsBarred mode g bar → IsNamedPath bar
+  barred_good Edit bar has = absurd has
+  barred_good Cograph bar has = (has.0, path_good g is (path_of_bar bar) has.1)
+  barred_good Quiet bar has = (has.0, path_good g is (path_of_bar bar) has.1)
 
 -- the line of an edit alone
 edit_good : (mode : SessionMode) (g : PlainGraph) (edit : script.Edit) (line : PlainLine) → IsGraph g → HasNames edit → AnswersEdit mode g edit line → IsWellFormedLine line

@@ -7,6 +7,7 @@ use Rattle.md_graph.specs.NameSet.{AllBelow}
 use Rattle.md_graph.specs.PlainGraph.{PlainGraph, IsGraph}
 use Rattle.md_graph.proofs.SetLemmas.{clash}
 use Rattle.md_modules.specs.declared.induced_paths.P4.{P4}
+use Rattle.md_bar_tree.specs.declared.Bar.{Bar}
 use Rattle.md_script.specs.declared.edit.Edit as script
 use Rattle.md_script.specs.declared.edit.EditReason.{EditReason}
 use Rattle.md_script.specs.declared.item.Item.{Item}
@@ -17,7 +18,7 @@ use Rattle.md_script.specs.Histories.{HistoryFits}
 use Rattle.md_script.proofs.GroupLemmas.{GoesBack, kept_goes_back, one_goes_back}
 use Rattle.md_report.specs.declared.line.SessionMode.{SessionMode}
 use Rattle.md_report.specs.Cographs.{IsCograph, IsP4Of}
-use Rattle.md_report.specs.Lines.{PlainLine, refused, refused_p4, group_refused, group_refused_p4}
+use Rattle.md_report.specs.Lines.{PlainLine, refused, refused_bar, group_refused, group_refused_bar}
 use Rattle.md_report.specs.Sessions.{is_applied, led_to}
 use Rattle.md_report.specs.ItemLines.{IsAllowed, IsBarred, IsDoneLine, AnswersItem, IsGroupLine}
 use Rattle.md_report.specs.Steps.{state_of, ItemStep}
@@ -80,7 +81,7 @@ module _ (limit : ℕ) (mode : SessionMode) (g : PlainGraph) (items : List (List
             there,
           )
 
-      pub unjudged_edit : (k : PlainGraph) → k ≡ after g edit → ((p : P4) → line ≡ refused_p4 p → ⊥) → (IsTrue false ↔ (IsAllowed mode k × IsDoneLine mode k line)) → h ≡ g → left ≡ items → IsJudged false limit mode g items (One edit) line h left
+      pub unjudged_edit : (k : PlainGraph) → k ≡ after g edit → ((bar : Bar) → line ≡ refused_bar bar → ⊥) → (IsTrue false ↔ (IsAllowed mode k × IsDoneLine mode k line)) → h ≡ g → left ≡ items → IsJudged false limit mode g items (One edit) line h left
       unjudged_edit k next other is same kept = (
         (λ told. elim (free_answers.0 told) [
           | inl path ↦ other path.0 path.2
@@ -88,6 +89,21 @@ module _ (limit : ℕ) (mode : SessionMode) (g : PlainGraph) (items : List (List
         ]),
         (same, kept),
       )
+
+      -- the line refuses the edit with this bar
+      pub judged_barred : (b : Bool) (bar : Bar) → line ≡ refused_bar bar → (IsTrue b ↔ IsBarred mode (after g edit) bar) → h ≡ g → left ≡ items → IsJudged b limit mode g items (One edit) line h left
+      judged_barred b bar is told same kept =
+          judged_refusal (One edit) (IsBarred mode (after g edit) bar) b told (has_bar, λ has. free_answers.1 (inl (bar, has, is))) (λ has. ap is_applied is) same kept
+        where
+          has_bar : AnswersItem mode (state_of g items) (One edit) line → IsBarred mode (after g edit) bar
+          has_bar answers =
+              elim (free_answers.0 answers) [
+                | inl other ↦
+                    let e : refused_bar other.0 ≡ refused_bar bar = sym other.2 ∙ is in
+                    let found : other.0 ≡ bar = cc in
+                    subst (IsBarred mode (after g edit)) found other.1
+                | inr done ↦ absurd (clash (done_tells mode (after g edit) line done.1).0 (ap is_applied is))
+              ]
 
   -- ---- groups
 
@@ -109,9 +125,9 @@ module _ (limit : ℕ) (mode : SessionMode) (g : PlainGraph) (items : List (List
         judged_refusal (Group edits) (line ≡ group_refused (n + 1) reason) b told (stopped_line mode g k edits back n line so edit at reason is) (λ e. ap is_applied e) same kept
 
     pub judged_bar : (b : Bool) (k : PlainGraph) (back : List script.Edit) (n : ℕ) (edit : script.Edit) → HasApplied (IsAllowed mode) g edits k back n → slice_get edits n ≡ Some edit → reason_of k edit ≡ None → (IsAllowed mode (after k edit) → ⊥)
-        → (IsTrue b ↔ ((p : P4) × IsBarred mode (after k edit) p × (line ≡ group_refused_p4 (n + 1) p))) → h ≡ g → left ≡ items → IsJudged b limit mode g items (Group edits) line h left
+        → (IsTrue b ↔ ((bar : Bar) × IsBarred mode (after k edit) bar × (line ≡ group_refused_bar (n + 1) bar))) → h ≡ g → left ≡ items → IsJudged b limit mode g items (Group edits) line h left
     judged_bar b k back n edit so at none barred told same kept =
-        judged_refusal (Group edits) ((p : P4) × IsBarred mode (after k edit) p × (line ≡ group_refused_p4 (n + 1) p)) b told (barred_line mode g k edits back n line so edit at none barred) (λ e. ap is_applied e.2) same kept
+        judged_refusal (Group edits) ((bar : Bar) × IsBarred mode (after k edit) bar × (line ≡ group_refused_bar (n + 1) bar)) b told (barred_line mode g k edits back n line so edit at none barred) (λ e. ap is_applied e.2) same kept
 
   -- ---- undo
 

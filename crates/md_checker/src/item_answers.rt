@@ -3,7 +3,7 @@
 ghost use Rattle.std.specs.Prelude.{◌≡◌, ◌*◌, ◌+◌, ◌≤◌, ◌↔◌, List, [], ◌∷◌, length, None, Some, Ok, true, if◌then◌else◌, slice_get, IfOk, IsErr, IsTrue};
 ghost use Rattle.std.specs.List.{All};
 ghost use Rattle.md_graph.specs.PlainGraph.{PlainGraph};
-ghost use Rattle.md_modules.specs.declared.induced_paths.P4.{P4};
+ghost use Rattle.md_bar_tree.specs.declared.Bar.{Bar};
 ghost use Rattle.md_script.specs.declared.edit.Edit as script;
 ghost use Rattle.md_script.specs.declared.item.Item.{Item};
 ghost use Rattle.md_script.specs.declared.item.Item.TheVariants.{One, Undo, Group};
@@ -12,7 +12,7 @@ ghost use Rattle.md_script.specs.Items.{HasItemNamesBelow};
 ghost use Rattle.md_script.specs.Pasts.{Led};
 ghost use Rattle.md_script.specs.Histories.{HistoryFits};
 ghost use Rattle.md_report.specs.declared.line.SessionMode.TheVariants.{Quiet};
-ghost use Rattle.md_report.specs.Lines.{plain_line, applied, applied_quiet, refused, refused_p4, group_refused, group_refused_p4, nothing_to_undo};
+ghost use Rattle.md_report.specs.Lines.{plain_line, path_bar, applied, applied_quiet, refused, refused_bar, group_refused, group_refused_bar, nothing_to_undo};
 ghost use Rattle.md_report.specs.WellFormedLines.{IsWellFormedLine};
 ghost use Rattle.md_report.specs.Cographs.{IsCograph};
 ghost use Rattle.md_report.specs.Sessions.{HasTreeLine};
@@ -98,7 +98,7 @@ fn answers_edit<const W: usize>(
     }
 }
 
-// The same of an edit against which no reason speaks, and a line that tells of no induced P4.
+// The same of an edit against which no reason speaks, and a line that refuses it with no bar.
 fn tells_applied<const W: usize>(
     alloc: Global,
     mode: SessionMode,
@@ -108,7 +108,7 @@ fn tells_applied<const W: usize>(
     line: &Line,
 ) -> Result<bool, Memory>
     requires line { IsWellFormedLine (plain_line line.now) }
-    requires other { (p : P4) → plain_line line.now ≡ refused_p4 p → ⊥ }
+    requires other { (bar : Bar) → plain_line line.now ≡ refused_bar bar → ⊥ }
     requires applies { reason_of graph.old edit.now ≡ None }
     requires names { HasNamesBelow (64 * W) edit.now }
     requires fits { HistoryFits (64 * W) (IsAllowed mode) graph.old history.old.items }
@@ -247,7 +247,7 @@ fn is_refused_p4<const W: usize>(
 ) -> bool
     requires applies { reason_of graph.old edit.now ≡ None }
     requires names { HasNamesBelow (64 * W) edit.now }
-    ensures is { IsTrue result ↔ IsBarred mode (after graph.old edit.now) p.now }
+    ensures is { IsTrue result ↔ IsBarred mode (after graph.old edit.now) (path_bar p.now) }
     ensures stays { graph.new ≡ graph.old }
 {
     let past = inverse(graph, edit);
@@ -259,7 +259,7 @@ fn is_refused_p4<const W: usize>(
 
 // Whether no state of a session of the mode may have an induced P4, and the graph has this one.
 fn is_path_of_state<const W: usize>(mode: SessionMode, graph: &GraphOf<W>, p: &P4) -> bool
-    ensures { IsTrue result ↔ IsBarred mode graph.now p.now }
+    ensures { IsTrue result ↔ IsBarred mode graph.now (path_bar p.now) }
 {
     match mode {
         SessionMode::Edit => false,
@@ -365,8 +365,8 @@ fn is_group_path<const W: usize>(
 ) -> bool
     requires applies { reason_of graph.old edit.now ≡ None }
     requires names { HasNamesBelow (64 * W) edit.now }
-    ensures is { IsTrue result ↔ ((p : P4) × IsBarred mode (after graph.old edit.now) p
-        × (plain_line line.now ≡ group_refused_p4 number p)) }
+    ensures is { IsTrue result ↔ ((bar : Bar) × IsBarred mode (after graph.old edit.now) bar
+        × (plain_line line.now ≡ group_refused_bar number bar)) }
     ensures stays { graph.new ≡ graph.old }
 {
     match line {

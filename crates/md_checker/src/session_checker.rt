@@ -9,7 +9,7 @@ ghost use Rattle.md_report.specs.Lines.{plain_line};
 ghost use Rattle.md_report.specs.WellFormedLines.{IsWellFormedLine};
 ghost use Rattle.md_report.specs.Sessions.{State, first_state};
 ghost use Rattle.md_report.specs.ItemLines.{IsAllowed};
-ghost use Rattle.md_report.specs.Places.{before_session, at_state, at_items, after_end, closed_place, items_behind, tells_path, MayCome, next_place};
+ghost use Rattle.md_report.specs.Places.{before_session, at_state, at_items, after_end, closed_place, items_behind, tells_bar, MayCome, next_place};
 ghost use Rattle.md_report.specs.Steps.{state_of};
 ghost use Rattle.md_checker.specs.declared.session_checker.SessionDue.TheVariants.{Head, State as StateDue, Items};
 ghost use Rattle.md_checker.specs.Standing.{session_place, IsStep, MayTell, Takes};
@@ -408,7 +408,7 @@ fn due_behind_items(mode: SessionMode) -> SessionDue
 
 // Whether no item is answered behind the line of the first state.
 fn ends_session(line: &Line) -> bool
-    ensures { result ≡ tells_path (plain_line line.now) }
+    ensures { result ≡ tells_bar (plain_line line.now) }
 {
     match line {
         Line::NotCograph(_) => true,

@@ -8,6 +8,9 @@ use Rattle.md_text.specs.Numbers.{decimal}
 use Rattle.md_text.proofs.NumberLemmas.{decimal_is_canonical, decimal_is_digits}
 use Rattle.md_forcing.specs.declared.arc.Arc.{Arc}
 use Rattle.md_modules.specs.declared.induced_paths.P4.{P4}
+use Rattle.md_bar_tree.specs.declared.BarKind.{BarKind}
+use Rattle.md_bar_tree.specs.declared.BarKind.TheVariants as kinds
+use Rattle.md_bar_tree.specs.declared.Bar.{Bar}
 use Rattle.md_tree.specs.Trees.{PlainTree}
 use Rattle.md_tree.specs.TreeTexts.{text_of}
 use Rattle.md_tree.specs.WellFormed.{IsWellFormed}
@@ -24,7 +27,7 @@ use Rattle.md_report.specs.declared.words.Word.TheVariants.{Head, Tree as TreeWo
 use Rattle.md_report.specs.declared.words.Refusal.{Refusal}
 use Rattle.md_report.specs.declared.words.Refusal.TheVariants as refusals
 use Rattle.md_report.specs.Cuts.{LacksByte, Opens, IsCutAt, IsPiece, IsItem}
-use Rattle.md_report.specs.Lines.{PlainLine, mode_word, reason_words, names_text, p4_text, arc_text, arcs_text, line_text, head, tree, applied, applied_quiet, refused, refused_p4, group_refused, group_refused_p4, nothing_to_undo, not_cograph, oriented, forced, orders, forced_in, forced_in_complement, end}
+use Rattle.md_report.specs.Lines.{PlainLine, path_of_bar, mode_word, class_word, reason_words, names_text, p4_text, bar_word, bar_text, arc_text, arcs_text, line_text, head, head_class, tree, applied, applied_quiet, refused, refused_bar, group_refused, group_refused_bar, nothing_to_undo, barred, oriented, forced, orders, forced_in, forced_in_complement, end}
 use Rattle.md_report.specs.WellFormedLines.{IsVertexName, IsEditNumber, IsNamedArc, IsNamedChain, IsNamedP4, AreFour, IsNamedReason, IsWellFormedLine, IsLineReading}
 use Rattle.md_report.specs.Words.{word_text, refusal_text, NoReason, NoGroup, NoRefusal, NoNo, NoYes, NoLine, Reads}
 use Rattle.md_report.proofs.Cutting.{one_cut, one_row, lacks_when, lacks_append}
@@ -51,18 +54,19 @@ path_spelled text items names None at all e none = λ p is same.
 path_spelled text items names (Some p) at all e found =
     (record { names = subst (All IsVertexName) (sym at ∙ found.1) all; four = found.0 }, e ∙ ap names_text (sym at ∙ found.1))
 
--- each line is its first word, and what stands behind it
+-- each line of the program is its first word, and what stands behind it
 abbrev word_of : PlainLine → Word
 word_of (head mode) = Head
+word_of (head_class class) = Head
 word_of (tree t) = TreeWord
 word_of (applied t) = Applied
 word_of applied_quiet = Applied
 word_of (refused reason) = No
-word_of (refused_p4 p) = No
+word_of (refused_bar bar) = No
 word_of (group_refused number reason) = No
-word_of (group_refused_p4 number p) = No
+word_of (group_refused_bar number bar) = No
 word_of nothing_to_undo = No
-word_of (not_cograph p) = Path
+word_of (barred bar) = Path
 word_of (oriented arcs) = Yes
 word_of (forced chain) = No
 word_of (orders first second) = Yes
@@ -72,15 +76,16 @@ word_of end = End
 
 abbrev tail_of : PlainLine → List ℕ
 tail_of (head mode) = 32 ∷ mode_word mode
+tail_of (head_class class) = 32 ∷ class_word class
 tail_of (tree t) = 32 ∷ text_of t
 tail_of (applied t) = 32 ∷ text_of t
 tail_of applied_quiet = []
 tail_of (refused reason) = 32 ∷ reason_words reason
-tail_of (refused_p4 p) = codes " p4" ++ p4_text p
+tail_of (refused_bar bar) = codes " p4" ++ p4_text (path_of_bar bar)
 tail_of (group_refused number reason) = codes " edit " ++ (decimal number ++ (codes " " ++ reason_words reason))
-tail_of (group_refused_p4 number p) = codes " edit " ++ (decimal number ++ (codes " p4" ++ p4_text p))
+tail_of (group_refused_bar number bar) = codes " edit " ++ (decimal number ++ (codes " p4" ++ p4_text (path_of_bar bar)))
 tail_of nothing_to_undo = codes " undo"
-tail_of (not_cograph p) = p4_text p
+tail_of (barred bar) = p4_text (path_of_bar bar)
 tail_of (oriented arcs) = arcs_text arcs
 tail_of (forced chain) = arcs_text chain
 tail_of (orders first second) = names_text first ++ (codes " /" ++ names_text second)
@@ -88,23 +93,28 @@ tail_of (forced_in chain) = codes " g" ++ arcs_text chain
 tail_of (forced_in_complement chain) = codes " c" ++ arcs_text chain
 tail_of end = []
 
-by_word : (l : PlainLine) → line_text l ≡ word_text (word_of l) ++ tail_of l
-by_word (head mode) = refl
-by_word (tree t) = refl
-by_word (applied t) = refl
-by_word applied_quiet = refl
-by_word (refused reason) = refl
-by_word (refused_p4 p) = refl
-by_word (group_refused number reason) = refl
-by_word (group_refused_p4 number p) = refl
-by_word nothing_to_undo = refl
-by_word (not_cograph p) = refl
-by_word (oriented arcs) = refl
-by_word (forced chain) = refl
-by_word (orders first second) = refl
-by_word (forced_in chain) = refl
-by_word (forced_in_complement chain) = refl
-by_word end = refl
+-- the text of a bar that is an induced P4
+path_text : (bar : Bar) → bar.kind ≡ kinds.P4 → bar_text bar ≡ codes "p4" ++ p4_text (path_of_bar bar)
+path_text bar is = ap (λ (k : BarKind). bar_word k ++ names_text (bar.a ∷ bar.b ∷ bar.c ∷ bar.d ∷ [])) is
+
+by_word : (l : PlainLine) → IsWellFormedLine l → line_text l ≡ word_text (word_of l) ++ tail_of l
+by_word (head mode) is = refl
+by_word (head_class class) is = refl
+by_word (tree t) is = refl
+by_word (applied t) is = refl
+by_word applied_quiet is = refl
+by_word (refused reason) is = refl
+by_word (refused_bar bar) is = ap (λ (t : List ℕ). codes "no " ++ t) (path_text bar is.0)
+by_word (group_refused number reason) is = refl
+by_word (group_refused_bar number bar) is = ap (λ (t : List ℕ). codes "no edit " ++ (decimal number ++ (codes " " ++ t))) (path_text bar is.1.0)
+by_word nothing_to_undo is = refl
+by_word (barred bar) is = path_text bar is.0
+by_word (oriented arcs) is = refl
+by_word (forced chain) is = refl
+by_word (orders first second) is = refl
+by_word (forced_in chain) is = refl
+by_word (forced_in_complement chain) is = refl
+by_word end is = refl
 
 arcs_open : (arcs : List Arc) → Opens 32 (arcs_text arcs)
 arcs_open [] = tt
@@ -112,15 +122,16 @@ arcs_open (a ∷ arcs) = refl
 
 tail_opens : (l : PlainLine) → Opens 32 (tail_of l)
 tail_opens (head mode) = refl
+tail_opens (head_class class) = refl
 tail_opens (tree t) = refl
 tail_opens (applied t) = refl
 tail_opens applied_quiet = tt
 tail_opens (refused reason) = refl
-tail_opens (refused_p4 p) = refl
+tail_opens (refused_bar bar) = refl
 tail_opens (group_refused number reason) = refl
-tail_opens (group_refused_p4 number p) = refl
+tail_opens (group_refused_bar number bar) = refl
 tail_opens nothing_to_undo = refl
-tail_opens (not_cograph p) = refl
+tail_opens (barred bar) = refl
 tail_opens (oriented arcs) = arcs_open arcs
 tail_opens (forced chain) = arcs_open chain
 tail_opens (orders [] second) = refl
@@ -216,6 +227,7 @@ no_arc w a e =
 -- nothing that may stand behind a line's word is this text
 no_tail : (text : List ℕ) (l : PlainLine) → NoLine (word_of l) text → IsWellFormedLine l → text ≢ tail_of l
 no_tail text (head mode) none is e = none mode e
+no_tail text (head_class class) none is e = absurd is
 no_tail text (tree t) none is e = none t is e
 no_tail text (applied t) none is e = none.trees t is e
 no_tail text applied_quiet none is e = none.some e
@@ -224,13 +236,13 @@ no_tail text (refused (NoVertex v)) none is e = none.words refusals.Vertex (32 �
 no_tail text (refused (NameTaken v)) none is e = none.words refusals.Taken (32 ∷ decimal v) refl e v is refl
 no_tail text (refused EdgeThere) none is e = none.words refusals.There [] tt e refl
 no_tail text (refused EdgeAbsent) none is e = none.words refusals.Absent [] tt e refl
-no_tail text (refused_p4 p) none is e = none.words refusals.Path (p4_text p) refl e p is refl
+no_tail text (refused_bar bar) none is e = none.words refusals.Path (p4_text (path_of_bar bar)) refl e (path_of_bar bar) is.1 refl
 no_tail text (group_refused number reason) none is e =
     (none.words refusals.Edit (32 ∷ (decimal number ++ (codes " " ++ reason_words reason))) refl e).reasons number reason is.0 is.1 refl
-no_tail text (group_refused_p4 number p) none is e =
-    (none.words refusals.Edit (32 ∷ (decimal number ++ (codes " p4" ++ p4_text p))) refl e).paths number p is.0 is.1 refl
+no_tail text (group_refused_bar number bar) none is e =
+    (none.words refusals.Edit (32 ∷ (decimal number ++ (codes " p4" ++ p4_text (path_of_bar bar)))) refl e).paths number (path_of_bar bar) is.0 is.1.1 refl
 no_tail text nothing_to_undo none is e = none.words refusals.Undo [] tt e refl
-no_tail text (not_cograph p) none is e = none p is e
+no_tail text (barred bar) none is e = none (path_of_bar bar) is.1 e
 no_tail text (oriented arcs) none is e = none.arcs arcs is e
 no_tail text (forced chain) none is e = none.chains chain is e
 no_tail text (orders first second) none is e = none.orders first second is.0 is.1 e
@@ -239,16 +251,16 @@ no_tail text (forced_in_complement chain) none is e = none.words refusals.Comple
 no_tail text end none is e = none e
 
 -- the first word of a text is that of its line
-line_word : (bytes first rest : List ℕ) → IsCutAt 32 bytes first rest → (l : PlainLine) → bytes ≡ line_text l → (first ≡ word_text (word_of l)) × (rest ≡ tail_of l)
-line_word bytes first rest cut l e =
-    one_cut 32 first (word_text (word_of l)) rest (tail_of l) cut.lacks (word_lacks (word_of l)) cut.opens (tail_opens l) (sym cut.whole ∙ e ∙ by_word l)
+line_word : (bytes first rest : List ℕ) → IsCutAt 32 bytes first rest → (l : PlainLine) → IsWellFormedLine l → bytes ≡ line_text l → (first ≡ word_text (word_of l)) × (rest ≡ tail_of l)
+line_word bytes first rest cut l is e =
+    one_cut 32 first (word_text (word_of l)) rest (tail_of l) cut.lacks (word_lacks (word_of l)) cut.opens (tail_opens l) (sym cut.whole ∙ e ∙ by_word l is)
 
 pub no_word : (bytes first rest : List ℕ) → IsCutAt 32 bytes first rest → ((w : Word) → first ≢ word_text w) → (l : PlainLine) → IsWellFormedLine l → bytes ≢ line_text l
-no_word bytes first rest cut none l is e = none (word_of l) (line_word bytes first rest cut l e).0
+no_word bytes first rest cut none l is e = none (word_of l) (line_word bytes first rest cut l is e).0
 
 pub no_line : (bytes first rest : List ℕ) (w : Word) → IsCutAt 32 bytes first rest → first ≡ word_text w → NoLine w rest → (l : PlainLine) → IsWellFormedLine l → bytes ≢ line_text l
 no_line bytes first rest w cut at none l is e =
-    let i = line_word bytes first rest cut l e in
+    let i = line_word bytes first rest cut l is e in
     no_tail rest l (subst (λ v. NoLine v rest) (same_word w (word_of l) (sym at ∙ i.0)) none) is i.1
 
 -- bytes outside of the grammar of trees are no tree's text

@@ -3,21 +3,21 @@ use Rattle.std.proofs.Common.{◌≡◌, ℕ, ◌+◌, List, [], ◌∷◌, ◌+
 use Rattle.std.proofs.lemmas.List.{take-append-drop, length-take-le, drop_all, drop_more}
 use Rattle.std.proofs.lemmas.Option.{slice_get_within, get_or_from_slice_get}
 use Rattle.md_graph.specs.PlainGraph.{PlainGraph}
-use Rattle.md_modules.specs.declared.induced_paths.P4.{P4}
+use Rattle.md_bar_tree.specs.declared.Bar.{Bar}
 use Rattle.md_script.specs.declared.edit.Edit as script
 use Rattle.md_script.specs.declared.edit.EditReason.{EditReason}
 use Rattle.md_script.specs.Edit.{reason_of, after}
 use Rattle.md_script.specs.Pasts.{all_after, Applies, HasApplied}
 use Rattle.md_report.specs.declared.line.SessionMode.{SessionMode}
 use Rattle.md_report.specs.declared.line.SessionMode.TheVariants.{Edit, Cograph, Quiet}
-use Rattle.md_report.specs.Lines.{PlainLine, group_refused, group_refused_p4}
+use Rattle.md_report.specs.Lines.{PlainLine, group_refused, group_refused_bar}
 use Rattle.md_report.specs.ItemLines.{IsAllowed, IsBarred, IsDoneLine, IsLineAt, IsGroupLine}
 
 -- no graph is both
-not_both : (mode : SessionMode) (g : PlainGraph) (p : P4) → IsBarred mode g p → IsAllowed mode g → ⊥
-not_both Edit g p barred allowed = barred
-not_both Cograph g p barred allowed = allowed (p.a, p.b, p.c, p.d, barred)
-not_both Quiet g p barred allowed = allowed (p.a, p.b, p.c, p.d, barred)
+not_both : (mode : SessionMode) (g : PlainGraph) (bar : Bar) → IsBarred mode g bar → IsAllowed mode g → ⊥
+not_both Edit g bar barred allowed = barred
+not_both Cograph g bar barred allowed = allowed (bar.a, bar.b, bar.c, bar.d, barred.1)
+not_both Quiet g bar barred allowed = allowed (bar.a, bar.b, bar.c, bar.d, barred.1)
 
 -- an edit that is applied says nothing
 at_applied : (o : Option EditReason) (mode : SessionMode) (n : ℕ) (h : PlainGraph) (Behind : Type 0) (line : PlainLine) → o ≡ None → IsAllowed mode h → IsLineAt o mode n h Behind line ↔ Behind
@@ -64,9 +64,9 @@ reason_line None mode n h Behind line reason is = absurd (cc)
 reason_line (Some other) mode n h Behind line reason is =
     let same : other ≡ reason = cc in (λ told. told ∙ ap (group_refused n) same, λ told. told ∙ ap (group_refused n) (sym same))
 
-path_line : (o : Option EditReason) (mode : SessionMode) (n : ℕ) (h : PlainGraph) (Behind : Type 0) (line : PlainLine) → o ≡ None → (IsAllowed mode h → ⊥) → IsLineAt o mode n h Behind line ↔ ((p : P4) × IsBarred mode h p × (line ≡ group_refused_p4 n p))
-path_line (Some reason) mode n h Behind line none barred = absurd (cc)
-path_line None mode n h Behind line none barred = (λ told. elim told [ inl path ↦ path | inr rest ↦ absurd (barred rest.0) ], λ path. inl path)
+bar_line : (o : Option EditReason) (mode : SessionMode) (n : ℕ) (h : PlainGraph) (Behind : Type 0) (line : PlainLine) → o ≡ None → (IsAllowed mode h → ⊥) → IsLineAt o mode n h Behind line ↔ ((bar : Bar) × IsBarred mode h bar × (line ≡ group_refused_bar n bar))
+bar_line (Some reason) mode n h Behind line none barred = absurd (cc)
+bar_line None mode n h Behind line none barred = (λ told. elim told [ inl path ↦ path | inr rest ↦ absurd (barred rest.0) ], λ path. inl path)
 
 module _ (mode : SessionMode) (g h : PlainGraph) (edits back : List script.Edit) (n : ℕ) (line : PlainLine) (so : HasApplied (IsAllowed mode) g edits h back n) (edit : script.Edit) (is : slice_get edits n ≡ Some edit) where
   pub stopped_line : (reason : EditReason) → reason_of h edit ≡ Some reason → IsGroupLine mode 0 g edits line ↔ (line ≡ group_refused (n + 1) reason)
@@ -76,9 +76,9 @@ module _ (mode : SessionMode) (g h : PlainGraph) (edits back : List script.Edit)
       let told = reason_line (reason_of h edit) mode (n + 1) (after h edit) (IsGroupLine mode (n + 1) (after h edit) (drop (n + 1) edits) line) line reason against in
       (λ w. told.0 (subst (λ l. IsGroupLine mode n h l line) at (past.0 w)), λ w. past.1 (subst (λ l. IsGroupLine mode n h l line) (sym at) (told.1 w)))
 
-  pub barred_line : reason_of h edit ≡ None → (IsAllowed mode (after h edit) → ⊥) → IsGroupLine mode 0 g edits line ↔ ((p : P4) × IsBarred mode (after h edit) p × (line ≡ group_refused_p4 (n + 1) p))
+  pub barred_line : reason_of h edit ≡ None → (IsAllowed mode (after h edit) → ⊥) → IsGroupLine mode 0 g edits line ↔ ((bar : Bar) × IsBarred mode (after h edit) bar × (line ≡ group_refused_bar (n + 1) bar))
   barred_line none barred =
       let past = past_applied mode g h edits back n line so in
       let at = drop_read edits n edit is in
-      let told = path_line (reason_of h edit) mode (n + 1) (after h edit) (IsGroupLine mode (n + 1) (after h edit) (drop (n + 1) edits) line) line none barred in
+      let told = bar_line (reason_of h edit) mode (n + 1) (after h edit) (IsGroupLine mode (n + 1) (after h edit) (drop (n + 1) edits) line) line none barred in
       (λ w. told.0 (subst (λ l. IsGroupLine mode n h l line) at (past.0 w)), λ w. past.1 (subst (λ l. IsGroupLine mode n h l line) (sym at) (told.1 w)))

@@ -7,6 +7,8 @@ use Rattle.md_graph.specs.PlainGraph.{PlainGraph, IsGraph, adjacent}
 use Rattle.md_graph.proofs.GraphLemmas.{adjacent_sym, adjacent_self}
 use Rattle.md_modules.proofs.DecidedPaths.{decide_path}
 use Rattle.md_modules.specs.declared.induced_paths.P4.{P4}
+use Rattle.md_bar_tree.specs.declared.BarKind.TheVariants as kinds
+use Rattle.md_bar_tree.specs.declared.Bar.{Bar}
 use Rattle.md_tree.specs.Trees.{PlainTree}
 use Rattle.md_tree.specs.StrongTrees.{IsTree}
 use Rattle.md_tree.proofs.OneTree.{one_tree_proof}
@@ -20,20 +22,36 @@ use Rattle.md_script.specs.Pasts.{all_after, Applies}
 use Rattle.md_script.proofs.ChangeLemmas.{after_is_graph}
 use Rattle.md_report.specs.declared.line.SessionMode.{SessionMode}
 use Rattle.md_report.specs.declared.line.SessionMode.TheVariants.{Edit, Cograph, Quiet}
-use Rattle.md_report.specs.Lines.{PlainLine, applied, applied_quiet, refused, refused_p4, group_refused, group_refused_p4, nothing_to_undo}
+use Rattle.md_report.specs.Lines.{PlainLine, path_bar, path_of_bar, applied, applied_quiet, refused, refused_bar, group_refused, group_refused_bar, nothing_to_undo}
 use Rattle.md_report.specs.Sessions.{State, undone, applied_state, is_applied, state_behind, HasTreeLine, IsLineBy}
-use Rattle.md_report.specs.Cographs.{IsP4Of, IsCograph, IsCographLineBy, IsQuietLineBy}
+use Rattle.md_report.specs.Cographs.{IsP4Of, IsPathOf, IsCograph, HasP4Line, IsCographLineBy, IsQuietLineBy}
 use Rattle.md_report.specs.ItemLines.{IsAllowed, IsBarred, IsDoneLine, AnswersEdit, IsLineAt, IsGroupLine, IsUndoLine, AnswersItem}
-use Rattle.md_report.specs.Places.{tells_path}
+use Rattle.md_report.specs.Places.{tells_bar}
 use Rattle.md_report.specs.Laws.{AreGraphs, KeepsCographs}
+
+-- ---- bars that are induced P4s
+
+path_is : (bar : Bar) → bar.kind ≡ kinds.P4 → bar ≡ path_bar (path_of_bar bar)
+path_is bar is = λ i. record { kind = is i; a = bar.a; b = bar.b; c = bar.c; d = bar.d }
+
+-- a line with an induced P4 is one with such a bar
+path_told : (made : Bar → PlainLine) (g : PlainGraph) (line : PlainLine) → HasP4Line (λ p. made (path_bar p)) g line ↔ ((bar : Bar) × IsPathOf g bar × (line ≡ made bar))
+path_told made g line =
+    (λ path. (path_bar path.0, (refl, path.1), path.2), λ told. (path_of_bar told.0, told.1.1, told.2 ∙ ap made (path_is told.0 told.1.0)))
 
 -- ---- one form of the line of an edit for all modes
 
--- the line of an edit, by the reason against it: the reason; or an induced P4 of the graph h after the edit; or that the edit was
--- applied, where h may be a state
+-- the line of an edit, by the reason against it: the reason; or a bar of the graph h after the edit; or that the edit was applied,
+-- where h may be a state
 abbrev pub IsEditLine : Option EditReason → SessionMode → PlainGraph → PlainLine → Type 0
 IsEditLine (Some reason) mode h line = line ≡ refused reason
-IsEditLine None mode h line = ((p : P4) × IsBarred mode h p × (line ≡ refused_p4 p)) ⊎ (IsAllowed mode h × IsDoneLine mode h line)
+IsEditLine None mode h line = ((bar : Bar) × IsBarred mode h bar × (line ≡ refused_bar bar)) ⊎ (IsAllowed mode h × IsDoneLine mode h line)
+
+-- the same of an edit at a session on cographs that gives h
+path_or_done : (h : PlainGraph) (line : PlainLine) (Done : Type 0) → (HasP4Line (λ p. refused_bar (path_bar p)) h line ⊎ Done) ↔ (((bar : Bar) × IsPathOf h bar × (line ≡ refused_bar bar)) ⊎ Done)
+path_or_done h line Done =
+    let told = path_told refused_bar h line in
+    (λ is. elim is [ inl path ↦ inl (told.0 path) | inr done ↦ inr done ], λ is. elim is [ inl path ↦ inl (told.1 path) | inr done ↦ inr done ])
 
 pub edit_line : (mode : SessionMode) (g : PlainGraph) (edit : script.Edit) (line : PlainLine) → AnswersEdit mode g edit line ↔ IsEditLine (reason_of g edit) mode (after g edit) line
 edit_line Edit g edit line = by_reason (reason_of g edit) where
@@ -43,11 +61,11 @@ edit_line Edit g edit line = by_reason (reason_of g edit) where
 edit_line Cograph g edit line = by_reason (reason_of g edit) where
   by_reason : (o : Option EditReason) → IsCographLineBy o g edit line ↔ IsEditLine o Cograph (after g edit) line
   by_reason (Some reason) = (λ is. is, λ is. is)
-  by_reason None = (λ is. is, λ is. is)
+  by_reason None = path_or_done (after g edit) line (IsCograph (after g edit) × IsDoneLine Cograph (after g edit) line)
 edit_line Quiet g edit line = by_reason (reason_of g edit) where
   by_reason : (o : Option EditReason) → IsQuietLineBy o g edit line ↔ IsEditLine o Quiet (after g edit) line
   by_reason (Some reason) = (λ is. is, λ is. is)
-  by_reason None = (λ is. is, λ is. is)
+  by_reason None = path_or_done (after g edit) line (IsCograph (after g edit) × IsDoneLine Quiet (after g edit) line)
 
 -- ---- what a line tells
 
@@ -59,16 +77,16 @@ edits_of Undo = []
 
 -- the line is that of an item, and tells that it wasn't applied, or that these edits were, and gave h
 pub record Tells (mode : SessionMode) (g : PlainGraph) (edits : List script.Edit) (h : PlainGraph) (line : PlainLine) : Type 0 where
-  pub plain : tells_path line ≡ false
+  pub plain : tells_bar line ≡ false
   pub outcome : (is_applied line ≡ false) ⊎ ((is_applied line ≡ true) × Applies (IsAllowed mode) g edits × IsDoneLine mode h line)
 
-pub done_tells : (mode : SessionMode) (g : PlainGraph) (line : PlainLine) → IsDoneLine mode g line → (is_applied line ≡ true) × (tells_path line ≡ false)
-done_tells Edit g line done = (ap is_applied done.2, ap tells_path done.2)
-done_tells Cograph g line done = (ap is_applied done.2, ap tells_path done.2)
-done_tells Quiet g line done = (ap is_applied done, ap tells_path done)
+pub done_tells : (mode : SessionMode) (g : PlainGraph) (line : PlainLine) → IsDoneLine mode g line → (is_applied line ≡ true) × (tells_bar line ≡ false)
+done_tells Edit g line done = (ap is_applied done.2, ap tells_bar done.2)
+done_tells Cograph g line done = (ap is_applied done.2, ap tells_bar done.2)
+done_tells Quiet g line done = (ap is_applied done, ap tells_bar done)
 
-refused_tells : (mode : SessionMode) (g : PlainGraph) (edits : List script.Edit) (h : PlainGraph) (line known : PlainLine) → line ≡ known → tells_path known ≡ false → is_applied known ≡ false → Tells mode g edits h line
-refused_tells mode g edits h line known is plain none = record { plain = ap tells_path is ∙ plain; outcome = inl (ap is_applied is ∙ none) }
+refused_tells : (mode : SessionMode) (g : PlainGraph) (edits : List script.Edit) (h : PlainGraph) (line known : PlainLine) → line ≡ known → tells_bar known ≡ false → is_applied known ≡ false → Tells mode g edits h line
+refused_tells mode g edits h line known is plain none = record { plain = ap tells_bar is ∙ plain; outcome = inl (ap is_applied is ∙ none) }
 
 applied_tells : (mode : SessionMode) (g : PlainGraph) (edits : List script.Edit) (h : PlainGraph) (line : PlainLine) → Applies (IsAllowed mode) g edits → IsDoneLine mode h line → Tells mode g edits h line
 applied_tells mode g edits h line applies done =
@@ -79,14 +97,14 @@ edit_tells : (mode : SessionMode) (g : PlainGraph) (edit : script.Edit) (line : 
 edit_tells mode g edit line is = by_reason (reason_of g edit) refl ((edit_line mode g edit line).0 is) where
   by_reason : (o : Option EditReason) → reason_of g edit ≡ o → IsEditLine o mode (after g edit) line → Tells mode g (edit ∷ []) (after g edit) line
   by_reason (Some reason) same told = refused_tells mode g (edit ∷ []) (after g edit) line (refused reason) told refl refl
-  by_reason None same (inl path) = refused_tells mode g (edit ∷ []) (after g edit) line (refused_p4 path.0) path.2 refl refl
+  by_reason None same (inl path) = refused_tells mode g (edit ∷ []) (after g edit) line (refused_bar path.0) path.2 refl refl
   by_reason None same (inr done) = applied_tells mode g (edit ∷ []) (after g edit) line (same, (done.0, tt)) done.1
 
 -- an edit of a group, and those behind it
 at_tells : (o : Option EditReason) (mode : SessionMode) (n : ℕ) (g : PlainGraph) (edit : script.Edit) (edits : List script.Edit) (h : PlainGraph) (Behind : Type 0) (line : PlainLine) → reason_of g edit ≡ o
     → IsLineAt o mode n (after g edit) Behind line → (Behind → Tells mode (after g edit) edits h line) → Tells mode g (edit ∷ edits) h line
 at_tells (Some reason) mode n g edit edits h Behind line same is rest = refused_tells mode g (edit ∷ edits) h line (group_refused n reason) is refl refl
-at_tells None mode n g edit edits h Behind line same (inl path) rest = refused_tells mode g (edit ∷ edits) h line (group_refused_p4 n path.0) path.2 refl refl
+at_tells None mode n g edit edits h Behind line same (inl path) rest = refused_tells mode g (edit ∷ edits) h line (group_refused_bar n path.0) path.2 refl refl
 at_tells None mode n g edit edits h Behind line same (inr on) rest =
     let told : Tells mode (after g edit) edits h line = rest on.1 in
     record {
@@ -168,10 +186,13 @@ some_p4 g is =
       | inr none ↦ inr none
     ]
 
-barred_or_allowed : (mode : SessionMode) (g : PlainGraph) → IsGraph g → ((p : P4) × IsBarred mode g p) ⊎ IsAllowed mode g
+path_or_cograph : (g : PlainGraph) → IsGraph g → ((bar : Bar) × IsPathOf g bar) ⊎ IsCograph g
+path_or_cograph g is = elim (some_p4 g is) [ inl path ↦ inl (path_bar path.0, (refl, path.1)) | inr none ↦ inr none ]
+
+barred_or_allowed : (mode : SessionMode) (g : PlainGraph) → IsGraph g → ((bar : Bar) × IsBarred mode g bar) ⊎ IsAllowed mode g
 barred_or_allowed Edit g is = inr tt
-barred_or_allowed Cograph g is = some_p4 g is
-barred_or_allowed Quiet g is = some_p4 g is
+barred_or_allowed Cograph g is = path_or_cograph g is
+barred_or_allowed Quiet g is = path_or_cograph g is
 
 done_line : (mode : SessionMode) (g : PlainGraph) → IsGraph g → (line : PlainLine) × IsDoneLine mode g line
 done_line Edit g is = tree_line applied g is
@@ -188,7 +209,7 @@ some_edit_line mode g edit is names =
     by_reason None same =
         let next : IsGraph (after g edit) = after_is_graph g edit is names same in
         elim (barred_or_allowed mode (after g edit) next) [
-          | inl path ↦ (refused_p4 path.0, inl (path.0, path.1, refl))
+          | inl path ↦ (refused_bar path.0, inl (path.0, path.1, refl))
           | inr free ↦ let line = done_line mode (after g edit) next in (line.0, inr (free, line.1))
         ]
 
@@ -197,7 +218,7 @@ some_line_at : (o : Option EditReason) (mode : SessionMode) (n : ℕ) (h : Plain
 some_line_at (Some reason) mode n h Behind next rest = (group_refused n reason, refl)
 some_line_at None mode n h Behind next rest =
     elim (barred_or_allowed mode h (next refl)) [
-      | inl path ↦ (group_refused_p4 n path.0, inl (path.0, path.1, refl))
+      | inl path ↦ (group_refused_bar n path.0, inl (path.0, path.1, refl))
       | inr free ↦ let line = rest (next refl) in (line.0, inr (free, line.1))
     ]
 
@@ -218,10 +239,10 @@ item_line mode s Undo has names = some_undo_line mode s.earlier has.1
 
 -- ---- the lines of one item in two modes on cographs
 
-path_in : (mode : SessionMode) → KeepsCographs mode → (g : PlainGraph) (p : P4) → IsBarred mode g p → IsP4Of g p
-path_in Edit kept g p path = absurd kept
-path_in Cograph kept g p path = path
-path_in Quiet kept g p path = path
+path_in : (mode : SessionMode) → KeepsCographs mode → (g : PlainGraph) (bar : Bar) → IsBarred mode g bar → IsPathOf g bar
+path_in Edit kept g bar path = absurd kept
+path_in Cograph kept g bar path = path
+path_in Quiet kept g bar path = path
 
 none_in : (mode : SessionMode) → KeepsCographs mode → (g : PlainGraph) → IsAllowed mode g → IsCograph g
 none_in Edit kept g none = absurd kept
@@ -239,22 +260,22 @@ module _ (mode other : SessionMode) (kept : KeepsCographs mode) (also : KeepsCog
   both_done : (h : PlainGraph) → IsDoneLine mode h line → IsDoneLine other h second → AreAlike
   both_done h one two = (done_tells mode h line one).0 ∙ sym (done_tells other h second two).0
 
-  apart : (h : PlainGraph) (p : P4) → IsBarred mode h p → IsAllowed other h → ⊥
-  apart h p path none = let is = path_in mode kept h p path in none_in other also h none (p.a, p.b, p.c, p.d, is)
+  apart : (h : PlainGraph) (bar : Bar) → IsBarred mode h bar → IsAllowed other h → ⊥
+  apart h bar path none = let is = path_in mode kept h bar path in none_in other also h none (bar.a, bar.b, bar.c, bar.d, is.1)
 
-  other_apart : (h : PlainGraph) (p : P4) → IsBarred other h p → IsAllowed mode h → ⊥
-  other_apart h p path none = let is = path_in other also h p path in none_in mode kept h none (p.a, p.b, p.c, p.d, is)
+  other_apart : (h : PlainGraph) (bar : Bar) → IsBarred other h bar → IsAllowed mode h → ⊥
+  other_apart h bar path none = let is = path_in other also h bar path in none_in mode kept h none (bar.a, bar.b, bar.c, bar.d, is.1)
 
   edit_alike : (o : Option EditReason) (h : PlainGraph) → IsEditLine o mode h line → IsEditLine o other h second → AreAlike
   edit_alike (Some reason) h one two = both_refused (refused reason) (refused reason) one two refl
-  edit_alike None h (inl one) (inl two) = both_refused (refused_p4 one.0) (refused_p4 two.0) one.2 two.2 refl
+  edit_alike None h (inl one) (inl two) = both_refused (refused_bar one.0) (refused_bar two.0) one.2 two.2 refl
   edit_alike None h (inl one) (inr two) = absurd (apart h one.0 one.1 two.0)
   edit_alike None h (inr one) (inl two) = absurd (other_apart h two.0 two.1 one.0)
   edit_alike None h (inr one) (inr two) = both_done h one.1 two.1
 
   at_alike : (o : Option EditReason) (n : ℕ) (h : PlainGraph) (A B : Type 0) → IsLineAt o mode n h A line → IsLineAt o other n h B second → (A → B → AreAlike) → AreAlike
   at_alike (Some reason) n h A B one two rest = both_refused (group_refused n reason) (group_refused n reason) one two refl
-  at_alike None n h A B (inl one) (inl two) rest = both_refused (group_refused_p4 n one.0) (group_refused_p4 n two.0) one.2 two.2 refl
+  at_alike None n h A B (inl one) (inl two) rest = both_refused (group_refused_bar n one.0) (group_refused_bar n two.0) one.2 two.2 refl
   at_alike None n h A B (inl one) (inr two) rest = absurd (apart h one.0 one.1 two.0)
   at_alike None n h A B (inr one) (inl two) rest = absurd (other_apart h two.0 two.1 one.0)
   at_alike None n h A B (inr one) (inr two) rest = rest one.1 two.1

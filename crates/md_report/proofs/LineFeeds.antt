@@ -1,5 +1,5 @@
 -- No line's text has a line feed.
-use Rattle.std.proofs.Common.{◌≡◌, ◌≢◌, ℕ, List, [], ◌∷◌, ◌++◌, Option, None, Some, codes, inl, refl, arith}
+use Rattle.std.proofs.Common.{◌≢◌, ℕ, List, [], ◌∷◌, ◌++◌, Option, None, Some, codes, inl, refl, arith}
 use Rattle.md_text.specs.Numbers.{decimal}
 use Rattle.md_forcing.specs.declared.arc.Arc.{Arc}
 use Rattle.md_tree.specs.declared.Kind.{Kind}
@@ -9,10 +9,15 @@ use Rattle.md_tree.specs.Spellings.{Spelling, letter, graph_spelling}
 use Rattle.md_tree.specs.TreeTexts.{pairs_text_by, tree_text_by, row_text_by, text_of_by, text_of}
 use Rattle.md_script.specs.declared.edit.EditReason.{EditReason}
 use Rattle.md_script.specs.declared.edit.EditReason.TheVariants.{Same, NoVertex, NameTaken, EdgeThere, EdgeAbsent}
+use Rattle.md_bar_tree.specs.declared.Class.{Class}
+use Rattle.md_bar_tree.specs.declared.Class.TheVariants.{Trivial, Threshold}
+use Rattle.md_bar_tree.specs.declared.BarKind.{BarKind}
+use Rattle.md_bar_tree.specs.declared.BarKind.TheVariants as kinds
+use Rattle.md_bar_tree.specs.declared.Bar.{Bar}
 use Rattle.md_report.specs.declared.line.Mode.{Mode}
 use Rattle.md_report.specs.declared.line.Mode.TheVariants as modes
 use Rattle.md_report.specs.Cuts.{LacksByte}
-use Rattle.md_report.specs.Lines.{PlainLine, mode_word, reason_words, names_text, arc_text, arcs_text, line_text, head, tree, applied, applied_quiet, refused, refused_p4, group_refused, group_refused_p4, nothing_to_undo, not_cograph, oriented, forced, orders, forced_in, forced_in_complement, end}
+use Rattle.md_report.specs.Lines.{PlainLine, mode_word, reason_words, names_text, class_word, bar_word, bar_text, arc_text, arcs_text, line_text, head, head_class, tree, applied, applied_quiet, refused, refused_bar, group_refused, group_refused_bar, nothing_to_undo, barred, oriented, forced, orders, forced_in, forced_in_complement, end}
 use Rattle.md_report.specs.Protocols.{IsLineSpelling}
 use Rattle.md_report.proofs.Cutting.{lacks_when, lacks_append}
 use Rattle.md_report.proofs.Named.{lacks_number, lacks_arc}
@@ -80,24 +85,35 @@ lacks_names : (names : List ℕ) → LacksByte 10 (names_text names)
 lacks_names [] = tt
 lacks_names (v ∷ names) = ((λ e. omega arith), lacks_append 10 (decimal v) (names_text names) (no_feed v) (lacks_names names))
 
+lacks_class : (c : Class) → LacksByte 10 (class_word c)
+lacks_class Trivial = lacks_when 10 (codes "trivial") refl
+lacks_class Threshold = lacks_when 10 (codes "threshold") refl
+
+lacks_kind : (k : BarKind) → LacksByte 10 (bar_word k)
+lacks_kind kinds.P4 = lacks_when 10 (codes "p4") refl
+lacks_kind kinds.C4 = lacks_when 10 (codes "c4") refl
+lacks_kind kinds.TwoK2 = lacks_when 10 (codes "2k2") refl
+
+lacks_bar : (bar : Bar) → LacksByte 10 (bar_text bar)
+lacks_bar bar =
+    lacks_append 10 (bar_word bar.kind) (names_text (bar.a ∷ bar.b ∷ bar.c ∷ bar.d ∷ [])) (lacks_kind bar.kind) (lacks_names (bar.a ∷ bar.b ∷ bar.c ∷ bar.d ∷ []))
+
 lacks_line : (line : PlainLine) → LacksByte 10 (line_text line)
 lacks_line (head m) = lacks_append 10 (codes "mdt ") (mode_word m) (lacks_when 10 (codes "mdt ") refl) (lacks_mode m)
+lacks_line (head_class c) = lacks_append 10 (codes "mdt ") (class_word c) (lacks_when 10 (codes "mdt ") refl) (lacks_class c)
 lacks_line (tree t) = lacks_append 10 (codes "t ") (text_of t) (lacks_when 10 (codes "t ") refl) (lacks_option t)
 lacks_line applied_quiet = lacks_when 10 (codes "ok") refl
 lacks_line (applied t) = lacks_append 10 (codes "ok ") (text_of t) (lacks_when 10 (codes "ok ") refl) (lacks_option t)
 lacks_line (refused r) = lacks_append 10 (codes "no ") (reason_words r) (lacks_when 10 (codes "no ") refl) (lacks_reason r)
-lacks_line (refused_p4 p) =
-    lacks_append 10 (codes "no p4") (names_text (p.a ∷ p.b ∷ p.c ∷ p.d ∷ [])) (lacks_when 10 (codes "no p4") refl) (lacks_names (p.a ∷ p.b ∷ p.c ∷ p.d ∷ []))
+lacks_line (refused_bar bar) = lacks_append 10 (codes "no ") (bar_text bar) (lacks_when 10 (codes "no ") refl) (lacks_bar bar)
 lacks_line (group_refused number r) =
     lacks_append 10 (codes "no edit ") (decimal number ++ (codes " " ++ reason_words r)) (lacks_when 10 (codes "no edit ") refl)
     (lacks_append 10 (decimal number) (codes " " ++ reason_words r) (no_feed number) ((λ same. omega arith), lacks_reason r))
-lacks_line (group_refused_p4 number p) =
-    lacks_append 10 (codes "no edit ") (decimal number ++ (codes " p4" ++ names_text (p.a ∷ p.b ∷ p.c ∷ p.d ∷ []))) (lacks_when 10 (codes "no edit ") refl)
-    (lacks_append 10 (decimal number) (codes " p4" ++ names_text (p.a ∷ p.b ∷ p.c ∷ p.d ∷ [])) (no_feed number)
-    (lacks_append 10 (codes " p4") (names_text (p.a ∷ p.b ∷ p.c ∷ p.d ∷ [])) (lacks_when 10 (codes " p4") refl) (lacks_names (p.a ∷ p.b ∷ p.c ∷ p.d ∷ []))))
+lacks_line (group_refused_bar number bar) =
+    lacks_append 10 (codes "no edit ") (decimal number ++ (codes " " ++ bar_text bar)) (lacks_when 10 (codes "no edit ") refl)
+    (lacks_append 10 (decimal number) (codes " " ++ bar_text bar) (no_feed number) ((λ same. omega arith), lacks_bar bar))
 lacks_line nothing_to_undo = lacks_when 10 (codes "no undo") refl
-lacks_line (not_cograph p) =
-    lacks_append 10 (codes "p4") (names_text (p.a ∷ p.b ∷ p.c ∷ p.d ∷ [])) (lacks_when 10 (codes "p4") refl) (lacks_names (p.a ∷ p.b ∷ p.c ∷ p.d ∷ []))
+lacks_line (barred bar) = lacks_bar bar
 lacks_line (oriented arcs) = lacks_append 10 (codes "yes") (arcs_text arcs) (lacks_when 10 (codes "yes") refl) (lacks_arcs arcs)
 lacks_line (forced chain) = lacks_append 10 (codes "no") (arcs_text chain) (lacks_when 10 (codes "no") refl) (lacks_arcs chain)
 lacks_line (orders first second) =

@@ -25,7 +25,7 @@ use Rattle.md_report.specs.Models.{IsModelLine}
 use Rattle.md_report.specs.Sessions.{State, first_state, HasTreeLine, state_behind, last_state}
 use Rattle.md_report.specs.Cographs.{IsCograph, HasP4Line, IsOpeningLine}
 use Rattle.md_report.specs.ItemLines.{AnswersItem, Run}
-use Rattle.md_report.specs.Places.{Place, before_head, at_graphs, before_session, at_state, at_items, at_end, after_end, Reports, ReportsState, ComesAtItems, place_behind, tells_path, items_behind, quiet_place, MayCome, next_place, Lead}
+use Rattle.md_report.specs.Places.{Place, before_head, at_graphs, before_session, at_state, at_items, at_end, after_end, Reports, ReportsState, ComesAtItems, place_behind, tells_bar, items_behind, quiet_place, MayCome, next_place, Lead}
 use Rattle.md_report.specs.Laws.{AreGraphs, IsSound, LinesLeadIfFirst, ReportEach, IsGraphReport, GraphReportsHaveLines, ShortestReportsCompare, IsSessionReport, IsWholeSession, SessionReportsAreRuns}
 use Rattle.md_report.specs.Protocols.{CanEnd}
 use Rattle.md_report.proofs.Protocols.{lines_lead_by}
@@ -35,8 +35,8 @@ use Rattle.md_report.proofs.ItemLines.{HasGraphs, item_tells, state_graphs, tree
 pub stopped_place : (g : PlainGraph) (items : List Item) (line : PlainLine) → HasP4Line not_cograph g line → quiet_place g items line ≡ at_end
 stopped_place g items line path = ap (quiet_place g items) path.2
 
-untold : (s : State) (items : List Item) (line : PlainLine) → ComesAtItems Quiet s items line → tells_path line ≡ false
-untold s [] line last = ap tells_path last.2
+untold : (s : State) (items : List Item) (line : PlainLine) → ComesAtItems Quiet s items line → tells_bar line ≡ false
+untold s [] line last = ap tells_bar last.2
 untold s (item ∷ items) line is = (item_tells Quiet s item line is).plain
 
 pub first_place : (g : PlainGraph) (items : List Item) (line : PlainLine) → ComesAtItems Quiet (first_state g) items line → quiet_place g items line ≡ place_behind Quiet (first_state g) items line
@@ -60,8 +60,8 @@ next_sound (before_head mode graphs) line sound may = sound
 next_sound (at_graphs mode []) line sound may = tt
 next_sound (at_graphs mode (g ∷ graphs)) line sound may = sound.1
 next_sound (before_session mode g items) line sound may = sound
-next_sound (at_state Edit g items) line sound may = ((sound.0, tt), items_sound (tells_path line) items sound.1)
-next_sound (at_state Cograph g items) line sound may = ((sound.0, tt), items_sound (tells_path line) items sound.1)
+next_sound (at_state Edit g items) line sound may = ((sound.0, tt), items_sound (tells_bar line) items sound.1)
+next_sound (at_state Cograph g items) line sound may = ((sound.0, tt), items_sound (tells_bar line) items sound.1)
 next_sound (at_state Quiet g items) line sound (inl path) = subst IsSound (sym (stopped_place g items line path)) tt
 next_sound (at_state Quiet g items) line sound (inr first) = subst IsSound (sym (first_place g items line first.1)) (behind_sound Quiet (first_state g) items line ((sound.0, tt), sound.1) first.1)
 next_sound (at_items mode s items) line sound may = behind_sound mode s items line sound may
@@ -164,12 +164,12 @@ from_state : (mode : SessionMode) (g : PlainGraph) (items : List Item) → IsGra
 from_state Edit g items is are =
     let line : (line : PlainLine) × HasTreeLine tree g line = tree_line tree g is in
     let rest : (lines : List PlainLine) × Lead (at_items Edit (first_state g) (items_behind line.0 items)) lines after_end =
-    answered Edit (items_behind line.0 items) (first_state g) (is, tt) (items_sound (tells_path line.0) items are) in
+    answered Edit (items_behind line.0 items) (first_state g) (is, tt) (items_sound (tells_bar line.0) items are) in
     (line.0 ∷ rest.0, (line.1, rest.1))
 from_state Cograph g items is are =
     let line : (line : PlainLine) × IsOpeningLine g line = opening_line g is in
     let rest : (lines : List PlainLine) × Lead (at_items Cograph (first_state g) (items_behind line.0 items)) lines after_end =
-    answered Cograph (items_behind line.0 items) (first_state g) (is, tt) (items_sound (tells_path line.0) items are) in
+    answered Cograph (items_behind line.0 items) (first_state g) (is, tt) (items_sound (tells_bar line.0) items are) in
     (line.0 ∷ rest.0, (line.1, rest.1))
 from_state Quiet g items is are =
     elim (some_p4 g is) [

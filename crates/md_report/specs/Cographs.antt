@@ -5,15 +5,21 @@ use Rattle.std.specs.Prelude.{◌≡◌, ◌⊎◌, Option, Some, None}
 use Rattle.md_graph.specs.PlainGraph.{PlainGraph, adjacent}
 use Rattle.md_modules.specs.declared.induced_paths.P4.{P4}
 use Rattle.md_modules.specs.InducedPaths.{IsInducedPath, HasInducedPath}
+use Rattle.md_bar_tree.specs.declared.BarKind.TheVariants as kinds
+use Rattle.md_bar_tree.specs.declared.Bar.{Bar}
 use Rattle.md_script.specs.declared.edit.Edit.{Edit}
 use Rattle.md_script.specs.declared.edit.EditReason.{EditReason}
 use Rattle.md_script.specs.Edit.{reason_of, after}
-use Rattle.md_report.specs.Lines.{PlainLine, tree, applied, applied_quiet, refused, refused_p4, not_cograph}
+use Rattle.md_report.specs.Lines.{PlainLine, path_of_bar, tree, applied, applied_quiet, refused, refused_p4, not_cograph}
 use Rattle.md_report.specs.Sessions.{HasTreeLine}
 
 -- the four names are an induced P4 of g
 abbrev pub IsP4Of : PlainGraph → P4 → Type 0
 IsP4Of g p = IsInducedPath (adjacent g) g.vertices p.a p.b p.c p.d
+
+-- the bar is an induced P4 of g
+abbrev pub IsPathOf : PlainGraph → Bar → Type 0
+IsPathOf g bar = (bar.kind ≡ kinds.P4) × IsP4Of g (path_of_bar bar)
 
 -- g is a cograph: it has no induced P4
 abbrev pub IsCograph : PlainGraph → Type 0

@@ -2,7 +2,7 @@
 -- Source: this project's own format of reports.
 use Rattle.std.specs.Prelude.{◌≡◌, ℕ, ◌+◌, ◌⊎◌, List, [], ◌∷◌, Option, Some, None, ⊤}
 use Rattle.md_graph.specs.PlainGraph.{PlainGraph}
-use Rattle.md_modules.specs.declared.induced_paths.P4.{P4}
+use Rattle.md_bar_tree.specs.declared.Bar.{Bar}
 use Rattle.md_script.specs.declared.edit.Edit as script
 use Rattle.md_script.specs.declared.edit.EditReason.{EditReason}
 use Rattle.md_script.specs.declared.item.Item.{Item}
@@ -10,9 +10,9 @@ use Rattle.md_script.specs.declared.item.Item.TheVariants.{One, Undo, Group}
 use Rattle.md_script.specs.Edit.{reason_of, after}
 use Rattle.md_report.specs.declared.line.SessionMode.{SessionMode}
 use Rattle.md_report.specs.declared.line.SessionMode.TheVariants.{Edit, Cograph, Quiet}
-use Rattle.md_report.specs.Lines.{PlainLine, applied, applied_quiet, group_refused, group_refused_p4, nothing_to_undo}
+use Rattle.md_report.specs.Lines.{PlainLine, applied, applied_quiet, group_refused, group_refused_bar, nothing_to_undo}
 use Rattle.md_report.specs.Sessions.{State, HasTreeLine, IsStepLine, state_behind}
-use Rattle.md_report.specs.Cographs.{IsP4Of, IsCograph, IsCographLine, IsQuietLine}
+use Rattle.md_report.specs.Cographs.{IsPathOf, IsCograph, IsCographLine, IsQuietLine}
 
 -- g may be a state of a session of the mode
 abbrev pub IsAllowed : SessionMode → PlainGraph → Type 0
@@ -20,11 +20,11 @@ IsAllowed Edit g = ⊤
 IsAllowed Cograph g = IsCograph g
 IsAllowed Quiet g = IsCograph g
 
--- g may not, since it has this induced P4
-abbrev pub IsBarred : SessionMode → PlainGraph → P4 → Type 0
-IsBarred Edit g p = ⊥
-IsBarred Cograph g p = IsP4Of g p
-IsBarred Quiet g p = IsP4Of g p
+-- g may not, since it has this bar
+abbrev pub IsBarred : SessionMode → PlainGraph → Bar → Type 0
+IsBarred Edit g bar = ⊥
+IsBarred Cograph g bar = IsPathOf g bar
+IsBarred Quiet g bar = IsPathOf g bar
 
 -- the line of an item that was applied and left the graph g: that alone in mode quiet, in the others with the tree of g
 abbrev pub IsDoneLine : SessionMode → PlainGraph → PlainLine → Type 0
@@ -38,12 +38,12 @@ AnswersEdit Edit g edit line = IsStepLine g edit line
 AnswersEdit Cograph g edit line = IsCographLine g edit line
 AnswersEdit Quiet g edit line = IsQuietLine g edit line
 
--- the line of a group at its edit with this number, by the reason against it: the reason; or an induced P4 of the graph h after the
--- edit; or what the edits behind it make, where h may be a state
+-- the line of a group at its edit with this number, by the reason against it: the reason; or a bar of the graph h after the edit;
+-- or what the edits behind it make, where h may be a state
 abbrev pub IsLineAt : Option EditReason → SessionMode → ℕ → PlainGraph → Type 0 → PlainLine → Type 0
 IsLineAt (Some reason) mode number h Behind line = line ≡ group_refused number reason
 IsLineAt None mode number h Behind line =
-    ((p : P4) × IsBarred mode h p × (line ≡ group_refused_p4 number p)) ⊎ (IsAllowed mode h × Behind)
+    ((bar : Bar) × IsBarred mode h bar × (line ≡ group_refused_bar number bar)) ⊎ (IsAllowed mode h × Behind)
 
 -- the line of a group of which n edits were applied, and gave g, and these are left
 abbrev pub IsGroupLine : SessionMode → ℕ → PlainGraph → List script.Edit → PlainLine → Type 0

@@ -7,6 +7,11 @@ use Rattle.md_graph.specs.declared.TheConstants.{NAMES}
 use Rattle.md_text.specs.Numbers.{decimal}
 use Rattle.md_forcing.specs.declared.arc.Arc.{Arc}
 use Rattle.md_modules.specs.declared.induced_paths.P4.{P4}
+use Rattle.md_bar_tree.specs.declared.Class.{Class}
+use Rattle.md_bar_tree.specs.declared.Class.TheVariants.{Trivial, Threshold}
+use Rattle.md_bar_tree.specs.declared.BarKind.{BarKind}
+use Rattle.md_bar_tree.specs.declared.BarKind.TheVariants as kinds
+use Rattle.md_bar_tree.specs.declared.Bar.{Bar}
 use Rattle.md_tree.specs.Trees.{PlainTree}
 use Rattle.md_tree.specs.Plain.{plain_option}
 use Rattle.md_tree.specs.TreeTexts.{text_of}
@@ -23,24 +28,45 @@ use Rattle.md_report.specs.declared.line.Line.{Line}
 use Rattle.md_report.specs.declared.line.Line.TheVariants as lines
 use Rattle.md_report.specs.Protocols.{fed_by}
 
--- a line, with plain trees
+-- the bar that an induced P4 is
+abbrev pub path_bar : P4 → Bar
+path_bar p = record { kind = kinds.P4; a = p.a; b = p.b; c = p.c; d = p.d }
+
+-- the four names of a bar, as those of an induced P4
+abbrev pub path_of_bar : Bar → P4
+path_of_bar bar = record { a = bar.a; b = bar.b; c = bar.c; d = bar.d }
+
+-- a line, with plain trees; its bar is an induced P4, or a bar of a class
 pub data PlainLine : Type 0 where
   head : Mode → PlainLine
+  head_class : Class → PlainLine
   tree : Option PlainTree → PlainLine
   applied : Option PlainTree → PlainLine
   applied_quiet : PlainLine
   refused : EditReason → PlainLine
-  refused_p4 : P4 → PlainLine
+  refused_bar : Bar → PlainLine
   group_refused : ℕ → EditReason → PlainLine
-  group_refused_p4 : ℕ → P4 → PlainLine
+  group_refused_bar : ℕ → Bar → PlainLine
   nothing_to_undo : PlainLine
-  not_cograph : P4 → PlainLine
+  barred : Bar → PlainLine
   oriented : List Arc → PlainLine
   forced : List Arc → PlainLine
   orders : List ℕ → List ℕ → PlainLine
   forced_in : List Arc → PlainLine
   forced_in_complement : List Arc → PlainLine
   end : PlainLine
+
+-- the line that refuses an edit with an induced P4
+abbrev pub refused_p4 : P4 → PlainLine
+refused_p4 p = refused_bar (path_bar p)
+
+-- the line that refuses the edit of a group with this number with an induced P4
+abbrev pub group_refused_p4 : ℕ → P4 → PlainLine
+group_refused_p4 number p = group_refused_bar number (path_bar p)
+
+-- the line that tells of an induced P4 of the first graph
+abbrev pub not_cograph : P4 → PlainLine
+not_cograph p = barred (path_bar p)
 
 -- the plain line that a line of the program is
 abbrev pub plain_line : Line → PlainLine
@@ -90,6 +116,11 @@ mode_word modes.Compare = codes "compare"
 mode_word modes.Permute = codes "permute"
 mode_word modes.Quiet = codes "quiet"
 
+-- the word of a class
+abbrev pub class_word : Class → List ℕ
+class_word Trivial = codes "trivial"
+class_word Threshold = codes "threshold"
+
 -- all modes
 abbrev pub all_modes : List Mode
 all_modes = modes.Tree ∷ modes.Edit ∷ modes.Cograph ∷ modes.Compare ∷ modes.Permute ∷ modes.Quiet ∷ []
@@ -128,6 +159,16 @@ names_text = flat_map (λ v. codes " " ++ decimal v)
 abbrev pub p4_text : P4 → List ℕ
 p4_text p = names_text (p.a ∷ p.b ∷ p.c ∷ p.d ∷ [])
 
+-- the word of a kind of bars
+abbrev pub bar_word : BarKind → List ℕ
+bar_word kinds.P4 = codes "p4"
+bar_word kinds.C4 = codes "c4"
+bar_word kinds.TwoK2 = codes "2k2"
+
+-- the text of a bar: the word of its kind, and its four names in their order
+abbrev pub bar_text : Bar → List ℕ
+bar_text bar = bar_word bar.kind ++ names_text (bar.a ∷ bar.b ∷ bar.c ∷ bar.d ∷ [])
+
 -- the text of an arc: its tail, its mark and its head
 abbrev pub arc_text : Arc → List ℕ
 arc_text a = decimal a.tail ++ (codes ">" ++ decimal a.head)
@@ -139,15 +180,16 @@ arcs_text = flat_map (λ a. codes " " ++ arc_text a)
 -- the text of a line, without a line feed
 abbrev pub line_text : PlainLine → List ℕ
 line_text (head mode) = codes "mdt " ++ mode_word mode
+line_text (head_class class) = codes "mdt " ++ class_word class
 line_text (tree t) = codes "t " ++ text_of t
 line_text (applied t) = codes "ok " ++ text_of t
 line_text applied_quiet = codes "ok"
 line_text (refused reason) = codes "no " ++ reason_words reason
-line_text (refused_p4 p) = codes "no p4" ++ p4_text p
+line_text (refused_bar bar) = codes "no " ++ bar_text bar
 line_text (group_refused number reason) = codes "no edit " ++ (decimal number ++ (codes " " ++ reason_words reason))
-line_text (group_refused_p4 number p) = codes "no edit " ++ (decimal number ++ (codes " p4" ++ p4_text p))
+line_text (group_refused_bar number bar) = codes "no edit " ++ (decimal number ++ (codes " " ++ bar_text bar))
 line_text nothing_to_undo = codes "no undo"
-line_text (not_cograph p) = codes "p4" ++ p4_text p
+line_text (barred bar) = bar_text bar
 line_text (oriented arcs) = codes "yes" ++ arcs_text arcs
 line_text (forced chain) = codes "no" ++ arcs_text chain
 line_text (orders first second) = codes "yes" ++ (names_text first ++ (codes " /" ++ names_text second))

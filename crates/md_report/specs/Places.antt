@@ -7,7 +7,7 @@ use Rattle.md_report.specs.declared.line.GraphMode.{GraphMode}
 use Rattle.md_report.specs.declared.line.GraphMode.TheVariants.{Tree, Compare, Shortest, Permute}
 use Rattle.md_report.specs.declared.line.SessionMode.{SessionMode}
 use Rattle.md_report.specs.declared.line.SessionMode.TheVariants.{Edit, Cograph, Quiet}
-use Rattle.md_report.specs.Lines.{PlainLine, mode_of, session_mode_of, head, tree, not_cograph, end}
+use Rattle.md_report.specs.Lines.{PlainLine, mode_of, session_mode_of, head, tree, barred, not_cograph, end}
 use Rattle.md_report.specs.Orientations.{IsOrientationLine, IsShortestLine}
 use Rattle.md_report.specs.Models.{IsModelLine}
 use Rattle.md_report.specs.Sessions.{State, first_state, HasTreeLine, state_behind}
@@ -65,14 +65,14 @@ abbrev pub place_behind : SessionMode → State → List Item → PlainLine → 
 place_behind mode s (item ∷ items) line = at_items mode (state_behind s item line) items
 place_behind mode s [] line = closed_place mode
 
--- whether the line tells of an induced P4 of the first state
-abbrev pub tells_path : PlainLine → Bool
-tells_path (not_cograph p) = true
-tells_path _ = false
+-- whether the line tells of a bar of the first state
+abbrev pub tells_bar : PlainLine → Bool
+tells_bar (barred bar) = true
+tells_bar _ = false
 
--- what is still to be answered behind the line of the first state: nothing where that has an induced P4
+-- what is still to be answered behind the line of the first state: nothing where that has a bar
 abbrev pub items_behind : PlainLine → List Item → List Item
-items_behind line items = if tells_path line then [] else items
+items_behind line items = if tells_bar line then [] else items
 
 -- the line may come behind the head of a session: it reports the first state; in mode quiet a cograph has no such line, and the
 -- line is the first one that may come at the items
@@ -81,9 +81,9 @@ OpensSession Edit g items line = ReportsState Edit g line
 OpensSession Cograph g items line = ReportsState Cograph g line
 OpensSession Quiet g items line = ReportsState Quiet g line ⊎ (IsCograph g × ComesAtItems Quiet (first_state g) items line)
 
--- the place behind the first line of a session in mode quiet: before the end where the line tells of an induced P4
+-- the place behind the first line of a session in mode quiet: before the end where the line tells of a bar
 abbrev pub quiet_place : PlainGraph → List Item → PlainLine → Place
-quiet_place g items line = if tells_path line then at_end else place_behind Quiet (first_state g) items line
+quiet_place g items line = if tells_bar line then at_end else place_behind Quiet (first_state g) items line
 
 -- the place behind the line that came behind the head of a session
 abbrev pub opened_place : SessionMode → PlainGraph → List Item → PlainLine → Place

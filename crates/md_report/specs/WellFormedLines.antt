@@ -5,6 +5,11 @@ use Rattle.std.specs.List.{All}
 use Rattle.md_graph.specs.declared.TheConstants.{NAMES}
 use Rattle.md_forcing.specs.declared.arc.Arc.{Arc}
 use Rattle.md_modules.specs.declared.induced_paths.P4.{P4}
+use Rattle.md_bar_tree.specs.declared.BarKind.{BarKind}
+use Rattle.md_bar_tree.specs.declared.BarKind.TheVariants as kinds
+use Rattle.md_bar_tree.specs.declared.Bar.{Bar}
+use Rattle.md_bar_tree.specs.Bars.{AreDifferent}
+use Rattle.md_bar_tree.specs.Edges.{IsCycleOrder, IsPairOrder}
 use Rattle.md_tree.specs.WellFormed.{IsWellFormed}
 use Rattle.md_script.specs.declared.TheConstants.{EDITS}
 use Rattle.md_script.specs.declared.edit.EditReason.{EditReason}
@@ -12,7 +17,7 @@ use Rattle.md_script.specs.declared.edit.EditReason.TheVariants.{Same, NoVertex,
 use Rattle.md_report.specs.declared.line.Line.{Line}
 use Rattle.md_report.specs.declared.reader.LineFault.{LineFault}
 use Rattle.md_report.specs.declared.reader.LineFault.TheVariants.{Syntax, Memory}
-use Rattle.md_report.specs.Lines.{PlainLine, plain_line, line_text, head, tree, applied, applied_quiet, refused, refused_p4, group_refused, group_refused_p4, nothing_to_undo, not_cograph, oriented, forced, orders, forced_in, forced_in_complement, end}
+use Rattle.md_report.specs.Lines.{PlainLine, plain_line, line_text, path_of_bar, head, head_class, tree, applied, applied_quiet, refused, refused_bar, group_refused, group_refused_bar, nothing_to_undo, barred, oriented, forced, orders, forced_in, forced_in_complement, end}
 
 -- the number is a name
 abbrev pub IsVertexName : ℕ → Type 0
@@ -38,6 +43,22 @@ pub record IsNamedP4 (p : P4) : Type 0 where
   pub names : All IsVertexName (p.a ∷ p.b ∷ p.c ∷ p.d ∷ [])
   pub four : AreFour p
 
+-- the names stand in the order of their kind: the ends of a path, a cycle from its least one, the smaller end of each edge first
+abbrev pub IsBarOrder : BarKind → ℕ → ℕ → ℕ → ℕ → Type 0
+IsBarOrder kinds.P4 a b c d = a < d
+IsBarOrder kinds.C4 a b c d = IsCycleOrder a b c d
+IsBarOrder kinds.TwoK2 a b c d = IsPairOrder a b c d
+
+-- four different names, in the order of their kind
+pub record IsNamedBar (bar : Bar) : Type 0 where
+  pub names : All IsVertexName (bar.a ∷ bar.b ∷ bar.c ∷ bar.d ∷ [])
+  pub different : AreDifferent bar.a bar.b bar.c bar.d
+  pub order : IsBarOrder bar.kind bar.a bar.b bar.c bar.d
+
+-- a bar of which the program's lines tell: four different names of an induced P4, the first below the last
+abbrev pub IsNamedPath : Bar → Type 0
+IsNamedPath bar = (bar.kind ≡ kinds.P4) × IsNamedP4 (path_of_bar bar)
+
 -- the number that a reason names is a name
 abbrev pub IsNamedReason : EditReason → Type 0
 IsNamedReason Same = ⊤
@@ -50,19 +71,20 @@ IsNamedReason EdgeAbsent = ⊤
 abbrev pub IsEditNumber : ℕ → Type 0
 IsEditNumber n = (0 < n) × (n ≤ EDITS)
 
--- the trees of the line are well-formed, what it names are names, the ends of each arc differ, a chain has an arc, an induced P4 has
--- four different names, the first below the last, and the number of an edit of a group is one
+-- the line is one of the program's: its trees are well-formed, what it names are names, the ends of each arc differ, a chain has an
+-- arc, a bar is an induced P4 of four different names, the first below the last, and the number of an edit of a group is one
 abbrev pub IsWellFormedLine : PlainLine → Type 0
 IsWellFormedLine (head mode) = ⊤
+IsWellFormedLine (head_class class) = ⊥
 IsWellFormedLine (tree t) = IsWellFormed t
 IsWellFormedLine (applied t) = IsWellFormed t
 IsWellFormedLine applied_quiet = ⊤
 IsWellFormedLine (refused reason) = IsNamedReason reason
-IsWellFormedLine (refused_p4 p) = IsNamedP4 p
+IsWellFormedLine (refused_bar bar) = IsNamedPath bar
 IsWellFormedLine (group_refused number reason) = IsEditNumber number × IsNamedReason reason
-IsWellFormedLine (group_refused_p4 number p) = IsEditNumber number × IsNamedP4 p
+IsWellFormedLine (group_refused_bar number bar) = IsEditNumber number × IsNamedPath bar
 IsWellFormedLine nothing_to_undo = ⊤
-IsWellFormedLine (not_cograph p) = IsNamedP4 p
+IsWellFormedLine (barred bar) = IsNamedPath bar
 IsWellFormedLine (oriented arcs) = All IsNamedArc arcs
 IsWellFormedLine (forced chain) = IsNamedChain chain
 IsWellFormedLine (orders first second) = All IsVertexName first × All IsVertexName second

@@ -37,9 +37,9 @@ fn first_of(text: &[u8], byte: u8) -> usize
     text.len()
 }
 
-// What stands behind the space with which the text begins; none where it begins with no space.
-pub(crate) fn behind_space(text: &[u8]) -> Option<&[u8]>
-    ensures { MatchOption result ((rest : List ℕ) → text.now ≢ 32 ∷ rest)
+/// What stands behind the space with which the text begins; none where it begins with no space.
+pub fn behind_space(text: &[u8]) -> Option<&[u8]>
+    ensures behind { MatchOption result ((rest : List ℕ) → text.now ≢ 32 ∷ rest)
         (λ rest. text.now ≡ 32 ∷ rest.now) }
 {
     match text {
@@ -101,9 +101,10 @@ pub(crate) fn split_name(text: &[u8]) -> Option<(u32, &[u8])>
     Some((name(piece)?, rest))
 }
 
-// The number of an edit of a group in the first piece, and the rest behind it.
-pub(crate) fn split_number(text: &[u8]) -> Option<(u64, &[u8])>
-    ensures { MatchOption result (NoItem decimal IsEditNumber text.now)
+/// The number of an edit of a group in the first piece, and the rest behind it; none where the text
+/// begins with no such piece.
+pub fn split_number(text: &[u8]) -> Option<(u64, &[u8])>
+    ensures cut { MatchOption result (NoItem decimal IsEditNumber text.now)
         (λ p. IsItem decimal IsEditNumber text.now p.0 p.1.now) }
 {
     let (piece, rest) = split_piece(text)?;
@@ -145,9 +146,10 @@ fn is_piece_end(rest: &[u8]) -> bool
     }
 }
 
-// The names that a text spells, a space before each; none where it is no such text.
-pub(crate) fn names(alloc: Global, text: &[u8]) -> Result<Option<Vec<u32>>, Memory>
-    ensures { IfOk result (λ found.
+/// The names that a text spells, a space before each; none where it is no such text. Errors: want of
+/// memory.
+pub fn names(alloc: Global, text: &[u8]) -> Result<Option<Vec<u32>>, Memory>
+    ensures read { IfOk result (λ found.
         MatchOption found ((list : List ℕ) → All IsVertexName list → text.now ≢ names_text list)
         (λ list. All IsVertexName list.items × (text.now ≡ names_text list.items))) }
 {

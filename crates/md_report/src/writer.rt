@@ -121,9 +121,10 @@ fn push_applied(alloc: Global, text: &mut Vec<u8>, tree: &Option<Tree>) -> Resul
     Ok(())
 }
 
-// Appends that the edit of a group with this number was refused.
-fn push_edit(text: &mut Vec<u8>, number: u64) -> Result<(), Memory>
-    ensures { OnOk result (text.new.items
+/// Appends the first words of the line that the edit of a group with this number was refused.
+/// Errors: want of memory.
+pub fn push_edit(text: &mut Vec<u8>, number: u64) -> Result<(), Memory>
+    ensures appended { OnOk result (text.new.items
         ≡ text.old.items ++ (codes "no edit " ++ decimal number)) }
 {
     text.extend_from_slice(b"no edit ")?;
@@ -159,9 +160,9 @@ fn push_p4(text: &mut Vec<u8>, p: &P4) -> Result<(), Memory>
     push_names(text, &[p.a, p.b, p.c, p.d])
 }
 
-// Appends a space and a name for each name.
-fn push_names(text: &mut Vec<u8>, names: &[u32]) -> Result<(), Memory>
-    ensures { OnOk result (text.new.items ≡ text.old.items ++ names_text names.now) }
+/// Appends a space and a name for each name. Errors: want of memory.
+pub fn push_names(text: &mut Vec<u8>, names: &[u32]) -> Result<(), Memory>
+    ensures appended { OnOk result (text.new.items ≡ text.old.items ++ names_text names.now) }
 {
     for v in names {
         push_named(text, b" ", *v)?;

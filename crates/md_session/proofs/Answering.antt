@@ -15,7 +15,7 @@ use Rattle.md_script.specs.Pasts.{all_after, HasApplied}
 use Rattle.md_script.proofs.GroupLemmas.{take_read}
 use Rattle.md_report.specs.declared.line.SessionMode.TheVariants.{Quiet}
 use Rattle.md_report.specs.Cographs.{IsP4Of, IsCograph}
-use Rattle.md_report.specs.Lines.{group_refused, group_refused_p4}
+use Rattle.md_report.specs.Lines.{path_bar, group_refused, group_refused_p4}
 use Rattle.md_report.specs.Sessions.{is_applied}
 use Rattle.md_report.specs.ItemLines.{IsGroupLine}
 use Rattle.md_report.proofs.Groups.{stopped_line, barred_line}
@@ -74,7 +74,7 @@ module _ (g h : PlainGraph) (edits back : List script.Edit) (n : ℕ) (so : HasA
   stopped_answer (items.GroupRefused number reason) told = (stopped_line Quiet g h edits back n (group_refused number reason) so edit is reason told.1).1 (ap (λ j. group_refused j reason) told.0)
   stopped_answer (items.GroupRefusedP4 number p) told =
       (barred_line Quiet g h edits back n (group_refused_p4 number p) so edit is told.1 (λ free. free (p.a, p.b, p.c, p.d, told.2))).1
-      (p, told.2, ap (λ j. group_refused_p4 j p) told.0)
+      (path_bar p, (refl, told.2), ap (λ j. group_refused_p4 j p) told.0)
   stopped_answer items.Applied told = absurd told
   stopped_answer (items.Refused reason) told = absurd told
   stopped_answer (items.RefusedP4 p) told = absurd told

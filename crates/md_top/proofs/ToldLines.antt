@@ -3,7 +3,7 @@ use Rattle.std.proofs.Common.{◌≡◌, ◌⊎◌, ℕ, ◌+◌, true, false, L
 use Rattle.std.specs.Prelude.{IfOk}
 use Rattle.md_graph.specs.PlainGraph.{PlainGraph}
 use Rattle.md_graph.proofs.SetLemmas.{clash}
-use Rattle.md_modules.specs.declared.induced_paths.P4.{P4}
+use Rattle.md_bar_tree.specs.declared.Bar.{Bar}
 use Rattle.md_script.specs.declared.edit.Edit as script
 use Rattle.md_script.specs.declared.edit.EditReason.{EditReason}
 use Rattle.md_script.specs.declared.item.Item.{Item}
@@ -14,7 +14,7 @@ use Rattle.md_report.specs.declared.line.SessionMode.{SessionMode}
 use Rattle.md_report.specs.declared.line.SessionMode.TheVariants.{Edit, Cograph, Quiet}
 use Rattle.md_report.specs.declared.line.Line.{Line}
 use Rattle.md_report.specs.Lines.{PlainLine, plain_line}
-use Rattle.md_report.specs.Cographs.{IsCograph, IsP4Of}
+use Rattle.md_report.specs.Cographs.{IsCograph, IsPathOf}
 use Rattle.md_report.specs.ItemLines.{IsAllowed, IsBarred, IsDoneLine, IsLineAt, IsGroupLine, IsUndoLine, AnswersItem}
 use Rattle.md_report.specs.Laws.{KeepsCographs}
 use Rattle.md_report.specs.Sessions.{State, undone, applied_state, is_applied}
@@ -25,10 +25,10 @@ use Rattle.md_report.proofs.ItemLines.{IsEditLine, edit_line, state_applied}
 abbrev pub IsToldLine : SessionMode → PlainGraph → PlainLine → PlainLine → Type 0
 IsToldLine mode h line second = ((is_applied line ≡ false) × (second ≡ line)) ⊎ ((is_applied line ≡ true) × (is_applied second ≡ true) × IsDoneLine mode h second)
 
-barred_in : (mode : SessionMode) → KeepsCographs mode → (g : PlainGraph) (p : P4) → IsP4Of g p → IsBarred mode g p
-barred_in Edit kept g p path = absurd kept
-barred_in Cograph kept g p path = path
-barred_in Quiet kept g p path = path
+barred_in : (mode : SessionMode) → KeepsCographs mode → (g : PlainGraph) (bar : Bar) → IsPathOf g bar → IsBarred mode g bar
+barred_in Edit kept g bar path = absurd kept
+barred_in Cograph kept g bar path = path
+barred_in Quiet kept g bar path = path
 
 allowed_in : (mode : SessionMode) → KeepsCographs mode → (g : PlainGraph) → IsCograph g → IsAllowed mode g
 allowed_in Edit kept g none = absurd kept

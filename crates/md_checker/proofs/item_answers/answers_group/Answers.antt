@@ -1,14 +1,14 @@
 use Rattle.std.proofs.Common.{◌≡◌, ◌*◌, ◌+◌, ◌↔◌, Some, IsTrue, List, ◌∷◌, length, refl, sym, ◌∙◌, ap, subst, rules}
 use Rattle.md_graph.specs.PlainGraph.{PlainGraph}
 use Rattle.md_graph.proofs.Limits.{words_few}
-use Rattle.md_modules.specs.declared.induced_paths.P4.{P4}
+use Rattle.md_bar_tree.specs.declared.Bar.{Bar}
 use Rattle.md_script.specs.declared.edit.Edit.{Edit}
 use Rattle.md_script.specs.Edit.{HasNamesBelow, reason_of, after}
 use Rattle.md_script.specs.Pasts.{taken_back, MayBack, AnyGraph}
 use Rattle.md_script.proofs.ChangeLemmas.{holds_at}
 use Rattle.md_script.proofs.GroupLemmas.{kept_goes_back, read_within}
 use Rattle.md_report.specs.ItemLines.{IsAllowed, IsBarred}
-use Rattle.md_report.specs.Lines.{plain_line, group_refused_p4}
+use Rattle.md_report.specs.Lines.{plain_line, group_refused_bar}
 use Rattle.md_checker.proofs.Judged.{any_back, if_true, if_false, told_yes, told_no, judged_group, unjudged_group, judged_stop, judged_bar}
 use Rattle.md_checker.proofs.item_answers.answers_group.Goals as goal
 
@@ -131,7 +131,7 @@ returns-in-Barred-clause-judged g c =
     kept_goes_back limit (IsAllowed c.args.mode) before c.try_edits.new.graph c.args.edits.now so.0 c.in-Barred.i (words_few g.row.W c.vertices-vertices.ensures.limit) c.vertices-vertices.ensures.graph c.vertices-vertices.ensures.below
     c.requires.allowed c.requires.names so.2 in
     let told =
-    subst (λ (e : Edit). IsTrue c.is_group_path-fit.result ↔ ((p : P4) × IsBarred c.args.mode (after c.try_edits.new.graph e) p × (line ≡ group_refused_p4 (c.in-Barred.i + 1) p))) (sym same) c.is_group_path-fit.ensures.is in
+    subst (λ (e : Edit). IsTrue c.is_group_path-fit.result ↔ ((bar : Bar) × IsBarred c.args.mode (after c.try_edits.new.graph e) bar × (line ≡ group_refused_bar (c.in-Barred.i + 1) bar))) (sym same) c.is_group_path-fit.ensures.is in
     judged_bar limit c.args.mode before c.args.history.now.items line c.take_item_back-in-Barred.new.graph _ c.requires.fits c.requires.allowed c.args.edits.now c.is_group_path-fit.result c.try_edits.new.graph so.0 c.in-Barred.i so.1 so.2 so.4
     so.5 so.6 told
     (c.take_item_back-in-Barred.ensures.graph so.0 others so.3 ∙ ap (λ (k : PlainGraph). taken_back k so.0) c.is_group_path-fit.ensures.stays ∙ goes.leads)
