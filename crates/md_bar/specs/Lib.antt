@@ -1,0 +1,2 @@
+pub mod ClassLines
+pub mod Reading
