@@ -103,14 +103,16 @@ module _ {e : ℕ → ℕ → Bool} where
   -- ---- the sets that are left
 
   module _ {w : ℕ} where
-    pub down_begin : (s : NameSet) (u : Unsplit w) (left : List (Unsplit w)) → u.names ≡ s → left ≡ u ∷ [] → IsSplitDown e s left
-    down_begin s u left same is = record {
+    pub down_begin : (s : NameSet) (u : Unsplit w) (none left : List (Unsplit w)) → u.names ≡ s → none ≡ [] → left ≡ none ++ u ∷ [] → IsSplitDown e s left
+    down_begin s u none left same begun now = record {
       inside = λ q h. elim (Contains-push_cases [] u q (among is h)) [
         | inl i ↦ absurd (omega (arith, i.1))
         | inr one ↦ subst (λ (t : Unsplit w). Within t.names s) one (subst (λ t. Within t s) (sym same) (Within-refl s))
       ];
       path = λ path. (u, among (sym is) (Contains-push [] u), subst (HasInducedPath e) (sym same) path);
-    }
+    } where
+      is : left ≡ u ∷ []
+      is = now ∙ ap (λ (us : List (Unsplit w)). us ++ u ∷ []) begun
 
     -- the sets that come of one set lie in it
     parts_inside : (s : NameSet) (sets : List (Unsplit w)) → IsTakenApart e s sets → (q : Unsplit w) → Contains sets q → Within q.names s

@@ -1,15 +1,13 @@
-use Rattle.std.proofs.Common.{List, [], ◌∷◌, ◌++◌, ◌∙◌, ap, refl, false}
+use Rattle.std.proofs.Common.{◌∙◌, refl, false}
 use Rattle.md_graph.proofs.SetLemmas.{clash}
 use Rattle.md_modules.proofs.Turns.{graph_adjacency}
-use Rattle.md_checker.specs.declared.cograph_test.Unsplit.{Unsplit}
 use Rattle.md_checker.proofs.Splitting.{down_begin, down_more, down_falls, down_found}
 use Rattle.md_checker.proofs.cograph_test.is_cograph.Goals as goal
 
 pub loop-set-init : goal.loop-set-init
 loop-set-init g c =
-    let set : Unsplit g.row.W = record { names = c.in_ok-names.names; joined = false } in
-    down_begin c.args.graph.now.vertices set c.push.new.self.items
-    (c.in_ok-names.ensures.made ∙ c.vertices.ensures.set) (c.in_ok-push.ensures.items ∙ ap (λ (us : List (Unsplit g.row.W)). us ++ set ∷ []) c.new-left.ensures.items)
+    down_begin c.args.graph.now.vertices (record { names = c.in_ok-names.names; joined = false }) c.new-left.result.items c.push.new.self.items
+    (c.in_ok-names.ensures.made ∙ c.vertices.ensures.set) c.new-left.ensures.items c.in_ok-push.ensures.items
 
 pub returns-then-not-branch : goal.returns-then-not-branch
 returns-then-not-branch g c = (
