@@ -1,2 +1,3 @@
 pub mod ClassLines
+pub mod ClassSteps
 pub mod Reading

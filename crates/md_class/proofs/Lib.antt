@@ -1,0 +1,2 @@
+mod ClassGraphs
+mod ClassItems

@@ -1,0 +1,3 @@
+pub mod ClassAnswers
+pub mod ClassOpenings
+pub mod ClassSessions

@@ -1,0 +1,12 @@
+//! Sessions on trivially perfect graphs and on threshold graphs: a graph that is kept in its class
+//! under edits.
+#![tactic(auto)]
+
+mod items;
+mod session;
+mod undoing;
+
+pub use session::{ClassOpened, ClassOpenedOf, ClassSession, ClassSessionOf};
+
+#[cfg(test)]
+mod tests;

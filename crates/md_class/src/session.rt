@@ -1,0 +1,166 @@
+//! The sessions: opened on a graph of the class, and asked for a tree or to answer an item.
+ghost use Rattle.std.specs.Prelude.{◌≡◌, ◌*◌, ◌<◌, ◌≤◌, IfOk, IsErr};
+ghost use Rattle.md_graph.specs.PlainGraph.{adjacent};
+ghost use Rattle.md_tree.specs.Plain.{plain_option};
+ghost use Rattle.md_tree.specs.StrongTrees.{IsTree};
+ghost use Rattle.md_script.specs.Histories.{HistoryFits};
+ghost use Rattle.md_script.specs.Items.{HasItemNamesBelow, room_for};
+ghost use Rattle.md_bar.specs.ClassLines.{plain_class_line};
+ghost use Rattle.md_bar.specs.ClassSteps.{IsAllowedIn, ClassStep};
+ghost use Rattle.md_class.specs.ClassOpenings.{IsClassOpened};
+
+use crate::items::{answer_group, answer_one, path_bar};
+use crate::undoing::answer_undo;
+use md_bar::{Bar, Class, ClassLine, bar_of};
+use md_cograph::any_p4;
+use md_cotree::{Cotree, from_tree};
+use md_decompose::decompose;
+use md_graph::{GraphOf, Memory, Steps, WORDS};
+use md_script::{HistoryOf, Item};
+use md_tree::{Tree, has_no_prime};
+use std::alloc::Global;
+use std::marker::{Brand, Model};
+use std::sync::ledger::{Blank, Ledger};
+
+/// A session on a graph of a class, on names below `64 * W`. It keeps the graph and its cotree,
+/// which an edit changes in place.
+#[derive(Drop)]
+pub struct ClassSessionOf<const W: usize> {
+    graph: GraphOf<W>,
+    tree: Cotree,
+    class: Class,
+    // Room for a list of neighbours.
+    near: Vec<u32>,
+}
+
+/// A session on a graph of a class.
+pub type ClassSession = ClassSessionOf<WORDS>;
+
+impl<const W: usize> Model for ClassSessionOf<W> {
+    ghost use Rattle.md_class.specs.ClassSessions.{PlainClassSession, session_code};
+
+    ghost Value = { PlainClassSession };
+
+    ghost coded = { session_code };
+
+    ghost view = { λ s. record { graph = s.graph; class = s.class } };
+
+    ghost use Rattle.md_bar.specs.ClassSteps.{IsAllowedIn};
+    ghost use Rattle.md_cotree.specs.Cotrees.{Denotes};
+    ghost use Rattle.std.specs.Prelude.{◌*◌, ◌≤◌, vec_capacity};
+
+    ghost invariant = { λ s. IsAllowedIn s.class s.graph × Denotes s.tree s.graph
+        × (64 * W ≤ vec_capacity s.near) };
+}
+
+/// What comes of a graph that a session on a class is to begin with.
+#[derive(Drop)]
+pub enum ClassOpenedOf<const W: usize> {
+    /// The session.
+    Session(ClassSessionOf<W>),
+    /// The graph has this bar of the class.
+    Barred(Bar),
+}
+
+/// What comes of a graph that a session on a class is to begin with, at the widest rows.
+pub type ClassOpened = ClassOpenedOf<WORDS>;
+
+impl<const W: usize> ClassSessionOf<W> {
+    /// The session whose graph and class are those handed in; `Barred` exactly where the graph has
+    /// a bar of the class, with one. It decomposes the graph. Errors: want of memory.
+    pub fn new(alloc: Global, graph: GraphOf<W>, class: Class) -> Result<ClassOpenedOf<W>, Memory>
+        ensures opened { IfOk result (λ opened. IsClassOpened graph.entry class opened) }
+    {
+        let _vertices = graph.vertices();
+        let tree = decompose(alloc, &graph)?;
+        if !has_no_prime(&tree) {
+            return match any_p4(&graph, &tree) {
+                Some(p) => Ok(ClassOpenedOf::Barred(path_bar(p))),
+                None => unreachable!(),
+            };
+        }
+        if let Some(bar) = bar_of(&tree, class) {
+            return Ok(ClassOpenedOf::Barred(bar));
+        }
+        let tree = from_tree(alloc, &tree)?;
+        let near = Vec::with_capacity(alloc, 64 * W)?;
+        Ok(ClassOpenedOf::Session(ClassSessionOf {
+            graph,
+            tree,
+            class,
+            near,
+        }))
+    }
+
+    /// The tree of strong modules of the graph, none where it has no vertices. Errors: want of
+    /// memory.
+    pub fn tree(&self, alloc: Global) -> Result<Option<Tree>, Memory>
+        ensures tree { IfOk result (λ tree.
+            IsTree (adjacent self.now.graph) self.now.graph.vertices (plain_option tree)) }
+    {
+        self.tree.to_tree(alloc)
+    }
+
+    /// Answers an item: an edit, which is refused where there is a reason against it, or where the
+    /// graph after it would have a bar of the class; the edits of a group one after the other, or
+    /// none where one is refused; an undo by taking the last item of the history back. The history
+    /// is that of this session: it gains the item, or loses the last one, and stays where the item
+    /// is refused. Conditions: the names in the item are below `64 * W`, the history has room for
+    /// it, and fits. Errors: want of memory; session and history then stay.
+    pub fn apply_item(
+        &mut self,
+        alloc: Global,
+        item: &Item,
+        history: &mut HistoryOf<W>,
+    ) -> Result<ClassLine, Memory>
+        requires names { HasItemNamesBelow (64 * W) item.now }
+        requires room { room_for item.now ≤ history.old.spare }
+        requires fits { HistoryFits (64 * W) (IsAllowedIn self.old.class) self.old.graph
+            history.old.items }
+        ensures step { IfOk result (λ line. ClassStep (64 * W) self.old.class self.old.graph
+            history.old.items item.now (plain_class_line line) self.new.graph history.new.items) }
+        ensures class { self.new.class ≡ self.old.class }
+        ensures stays { IsErr result → self.new ≡ self.old }
+        ensures kept { IsErr result → history.new.items ≡ history.old.items }
+    {
+        self.answer::<Brand>(alloc, item, history, Blank::new(1))
+    }
+
+    // The same, with the counter of steps that is to begin.
+    fn answer<L: Ledger>(
+        &mut self,
+        alloc: Global,
+        item: &Item,
+        history: &mut HistoryOf<W>,
+        blank: Blank,
+    ) -> Result<ClassLine, Memory>
+        requires name { blank.name ≡ L.name }
+        requires parts { blank.parts ≡ L.parts }
+        requires some { 0 < blank.parts }
+        requires names { HasItemNamesBelow (64 * W) item.now }
+        requires room { room_for item.now ≤ history.old.spare }
+        requires fits { HistoryFits (64 * W) (IsAllowedIn self.old.class) self.old.graph
+            history.old.items }
+        ensures step { IfOk result (λ line. ClassStep (64 * W) self.old.class self.old.graph
+            history.old.items item.now (plain_class_line line) self.new.graph history.new.items) }
+        ensures class { self.new.class ≡ self.old.class }
+        ensures stays { IsErr result → self.new ≡ self.old }
+        ensures kept { IsErr result → history.new.items ≡ history.old.items }
+    {
+        let mut steps = Steps::<L>::new(blank);
+        let (graph, tree, near) = (&mut self.graph, &mut self.tree, &mut self.near);
+        match item {
+            Item::One(edit) => {
+                answer_one(
+                    alloc, graph, tree, self.class, near, edit, history, &mut steps,
+                )
+            }
+            Item::Group(edits) => {
+                answer_group(
+                    alloc, graph, tree, self.class, near, edits, history, &mut steps,
+                )
+            }
+            Item::Undo => answer_undo(alloc, graph, tree, near, history, &mut steps),
+        }
+    }
+}
