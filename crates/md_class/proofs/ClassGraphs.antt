@@ -1,8 +1,7 @@
 -- Graphs of a class, and histories over them.
-use Rattle.std.proofs.Common.{◌≡◌, ℕ, List, [], ◌∷◌}
-use Rattle.md_graph.specs.PlainGraph.{PlainGraph, adjacent}
+use Rattle.std.proofs.Common.{ℕ, List, [], ◌∷◌}
+use Rattle.md_graph.specs.PlainGraph.{PlainGraph}
 use Rattle.md_modules.specs.declared.induced_paths.P4.{P4}
-use Rattle.md_bar_tree.specs.declared.Bar.{Bar}
 use Rattle.md_bar_tree.specs.declared.Class.{Class}
 use Rattle.md_script.specs.declared.edit.Edit.{Edit}
 use Rattle.md_script.specs.Pasts.{taken_back, MayBack}

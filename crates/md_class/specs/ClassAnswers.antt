@@ -9,7 +9,6 @@ use Rattle.md_tree.specs.StrongTrees.{IsTree}
 use Rattle.md_bar_tree.specs.declared.Bar.{Bar}
 use Rattle.md_bar_tree.specs.declared.Class.{Class}
 use Rattle.md_script.specs.declared.edit.Edit.{Edit}
-use Rattle.md_script.specs.declared.edit.EditReason.{EditReason}
 use Rattle.md_script.specs.Edit.{reason_of, after}
 use Rattle.md_script.specs.Pasts.{inverse_of}
 use Rattle.md_bar.specs.declared.ClassLine.{ClassLine}

@@ -1,5 +1,6 @@
 //! The sessions: opened on a graph of the class, and asked for a tree or to answer an item.
 ghost use Rattle.std.specs.Prelude.{◌≡◌, ◌*◌, ◌<◌, ◌≤◌, IfOk, IsErr};
+ghost use Rattle.md_graph.specs.declared.TheConstants.{WORDS};
 ghost use Rattle.md_graph.specs.PlainGraph.{adjacent};
 ghost use Rattle.md_tree.specs.Plain.{plain_option};
 ghost use Rattle.md_tree.specs.StrongTrees.{IsTree};
@@ -16,7 +17,7 @@ use md_cograph::any_p4;
 use md_cotree::{Cotree, from_tree};
 use md_decompose::decompose;
 use md_graph::{GraphOf, Memory, Steps, WORDS};
-use md_script::{HistoryOf, Item};
+use md_script::{History, HistoryOf, Item};
 use md_tree::{Tree, has_no_prime};
 use std::alloc::Global;
 use std::marker::{Brand, Model};
@@ -101,66 +102,88 @@ impl<const W: usize> ClassSessionOf<W> {
         self.tree.to_tree(alloc)
     }
 
+    /// Answers an item as `apply_item` does, on rows of any width, with a counter of steps, of which
+    /// no bound is claimed. Conditions: the names in the item are below `64 * W`, the history has
+    /// room for it, and fits. Errors: want of memory; session and history then stay.
+    pub fn apply_counting<L: Ledger>(
+        &mut self,
+        alloc: Global,
+        item: &Item,
+        history: &mut HistoryOf<W>,
+        steps: &mut Steps<L>,
+    ) -> Result<ClassLine, Memory>
+        requires names { HasItemNamesBelow (64 * W) item.now }
+        requires room { room_for item.now ≤ history.old.spare }
+        requires fits { HistoryFits (64 * W) (IsAllowedIn self.old.class) self.old.graph
+            history.old.items }
+        ensures step { IfOk result (λ line. ClassStep (64 * W) self.old.class self.old.graph
+            history.old.items item.now (plain_class_line line) self.new.graph history.new.items) }
+        ensures class { self.new.class ≡ self.old.class }
+        ensures stays { IsErr result → self.new ≡ self.old }
+        ensures kept { IsErr result → history.new.items ≡ history.old.items }
+    {
+        let (graph, tree, near) = (&mut self.graph, &mut self.tree, &mut self.near);
+        match item {
+            Item::One(edit) => {
+                answer_one(alloc, graph, tree, self.class, near, edit, history, steps)
+            }
+            Item::Group(edits) => {
+                answer_group(alloc, graph, tree, self.class, near, edits, history, steps)
+            }
+            Item::Undo => answer_undo(alloc, graph, tree, near, history, steps),
+        }
+    }
+}
+
+impl ClassSession {
     /// Answers an item: an edit, which is refused where there is a reason against it, or where the
     /// graph after it would have a bar of the class; the edits of a group one after the other, or
     /// none where one is refused; an undo by taking the last item of the history back. The history
     /// is that of this session: it gains the item, or loses the last one, and stays where the item
-    /// is refused. Conditions: the names in the item are below `64 * W`, the history has room for
-    /// it, and fits. Errors: want of memory; session and history then stay.
+    /// is refused. Conditions: the names in the item are names, the history has room for it, and
+    /// fits. Errors: want of memory; session and history then stay.
     pub fn apply_item(
         &mut self,
         alloc: Global,
         item: &Item,
-        history: &mut HistoryOf<W>,
+        history: &mut History,
     ) -> Result<ClassLine, Memory>
-        requires names { HasItemNamesBelow (64 * W) item.now }
+        requires names { HasItemNamesBelow (64 * WORDS) item.now }
         requires room { room_for item.now ≤ history.old.spare }
-        requires fits { HistoryFits (64 * W) (IsAllowedIn self.old.class) self.old.graph
+        requires fits { HistoryFits (64 * WORDS) (IsAllowedIn self.old.class) self.old.graph
             history.old.items }
-        ensures step { IfOk result (λ line. ClassStep (64 * W) self.old.class self.old.graph
+        ensures step { IfOk result (λ line. ClassStep (64 * WORDS) self.old.class self.old.graph
             history.old.items item.now (plain_class_line line) self.new.graph history.new.items) }
         ensures class { self.new.class ≡ self.old.class }
         ensures stays { IsErr result → self.new ≡ self.old }
         ensures kept { IsErr result → history.new.items ≡ history.old.items }
     {
-        self.answer::<Brand>(alloc, item, history, Blank::new(1))
+        answer_item::<Brand>(self, alloc, item, history, Blank::new(1))
     }
+}
 
-    // The same, with the counter of steps that is to begin.
-    fn answer<L: Ledger>(
-        &mut self,
-        alloc: Global,
-        item: &Item,
-        history: &mut HistoryOf<W>,
-        blank: Blank,
-    ) -> Result<ClassLine, Memory>
-        requires name { blank.name ≡ L.name }
-        requires parts { blank.parts ≡ L.parts }
-        requires some { 0 < blank.parts }
-        requires names { HasItemNamesBelow (64 * W) item.now }
-        requires room { room_for item.now ≤ history.old.spare }
-        requires fits { HistoryFits (64 * W) (IsAllowedIn self.old.class) self.old.graph
-            history.old.items }
-        ensures step { IfOk result (λ line. ClassStep (64 * W) self.old.class self.old.graph
-            history.old.items item.now (plain_class_line line) self.new.graph history.new.items) }
-        ensures class { self.new.class ≡ self.old.class }
-        ensures stays { IsErr result → self.new ≡ self.old }
-        ensures kept { IsErr result → history.new.items ≡ history.old.items }
-    {
-        let mut steps = Steps::<L>::new(blank);
-        let (graph, tree, near) = (&mut self.graph, &mut self.tree, &mut self.near);
-        match item {
-            Item::One(edit) => {
-                answer_one(
-                    alloc, graph, tree, self.class, near, edit, history, &mut steps,
-                )
-            }
-            Item::Group(edits) => {
-                answer_group(
-                    alloc, graph, tree, self.class, near, edits, history, &mut steps,
-                )
-            }
-            Item::Undo => answer_undo(alloc, graph, tree, near, history, &mut steps),
-        }
-    }
+// The answer to an item; nobody reads the steps. Conditions: the names in the item are names, the
+// history has room for it, and fits. Errors: want of memory; session and history then stay.
+fn answer_item<L: Ledger>(
+    session: &mut ClassSession,
+    alloc: Global,
+    item: &Item,
+    history: &mut History,
+    blank: Blank,
+) -> Result<ClassLine, Memory>
+    requires name { blank.name ≡ L.name }
+    requires parts { blank.parts ≡ L.parts }
+    requires some { 0 < blank.parts }
+    requires names { HasItemNamesBelow (64 * WORDS) item.now }
+    requires room { room_for item.now ≤ history.old.spare }
+    requires fits { HistoryFits (64 * WORDS) (IsAllowedIn session.old.class) session.old.graph
+        history.old.items }
+    ensures step { IfOk result (λ line. ClassStep (64 * WORDS) session.old.class session.old.graph
+        history.old.items item.now (plain_class_line line) session.new.graph history.new.items) }
+    ensures class { session.new.class ≡ session.old.class }
+    ensures stays { IsErr result → session.new ≡ session.old }
+    ensures kept { IsErr result → history.new.items ≡ history.old.items }
+{
+    let mut steps = Steps::<L>::new(blank);
+    session.apply_counting(alloc, item, history, &mut steps)
 }

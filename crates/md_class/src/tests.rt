@@ -3,11 +3,13 @@ ghost use Rattle.std.specs.Prelude.{◌≡◌, ◌<◌};
 
 use super::*;
 use md_bar::{Bar, BarKind, Class, ClassLine};
-use md_graph::{Graph, GraphOf, Memory};
+use md_graph::{Graph, GraphOf, Memory, Steps};
 use md_report::{Line, write_line};
 use md_script::{Edit, History, HistoryOf, Item, Script, read_script};
 use std::alloc::Global;
+use std::marker::Brand;
 use std::process::Abort;
+use std::sync::ledger::{Blank, Ledger};
 use std::test::Fail;
 
 // The word of a kind of bars.
@@ -125,6 +127,25 @@ fn groups_and_undos(rt: HostRuntime) -> Result<(), Fail> {
     Ok(())
 }
 
+// A session with rows of one word, and an edit that would make a path of two edges.
+fn narrow_session<L: Ledger>(rt: &impl Abort, alloc: Global, blank: Blank) -> Result<(), Memory>
+    requires name { blank.name ≡ L.name }
+    requires parts { blank.parts ≡ L.parts }
+    requires some { 0 < blank.parts }
+{
+    let mut steps = Steps::<L>::new(blank);
+    let pair = GraphOf::<1>::from_edges(alloc, 4, &[(0, 1), (2, 3)])?.expect(rt, "edges");
+    let ClassOpenedOf::Session(mut session) = ClassSessionOf::new(alloc, pair, Class::Trivial)?
+    else {
+        panic!(rt; "no session");
+    };
+    let mut history = HistoryOf::<1>::new(alloc)?;
+    history.reserve(alloc, 2)?;
+    let item = Item::One(Edit::AddEdge { u: 1, v: 2 });
+    let line = session.apply_counting(alloc, &item, &mut history, &mut steps)?;
+    check_line(rt, alloc, &line, "no p4 0 1 2 3")
+}
+
 // Graphs with a bar of each kind, and a session with rows of one word.
 #[test]
 fn first_graphs(rt: HostRuntime) -> Result<(), Fail> {
@@ -152,22 +173,6 @@ fn first_graphs(rt: HostRuntime) -> Result<(), Fail> {
         };
         assert_eq!(&rt; bar.kind, kind);
     }
-    let pair = GraphOf::<1>::from_edges(alloc, 4, &[(0, 1), (2, 3)])?.expect(&rt, "edges");
-    let ClassOpenedOf::Session(mut session) = ClassSessionOf::new(alloc, pair, Class::Trivial)?
-    else {
-        panic!(&rt; "no session");
-    };
-    let mut history = HistoryOf::<1>::new(alloc)?;
-    history.reserve(alloc, 2)?;
-    let item = Item::One(Edit::AddEdge { u: 1, v: 2 });
-    let line = session.apply_item(alloc, &item, &mut history)?;
-    let path = Bar {
-        kind: BarKind::P4,
-        a: 0,
-        b: 1,
-        c: 2,
-        d: 3,
-    };
-    assert!(&rt; matches!(line, ClassLine::Refused(bar) if bar == path));
+    narrow_session::<Brand>(&rt, alloc, Blank::new(1))?;
     Ok(())
 }

@@ -1,4 +1,4 @@
-use Rattle.std.proofs.Common.{◌≡◌, ◌*◌, Ok, sym, ◌∙◌, subst}
+use Rattle.std.proofs.Common.{◌*◌, Ok, sym, ◌∙◌, subst}
 use Rattle.md_graph.proofs.Limits.{words_few}
 use Rattle.md_cograph.proofs.GoingBack.{same_rest}
 use Rattle.md_bar.specs.ClassSteps.{IsAllowedIn}

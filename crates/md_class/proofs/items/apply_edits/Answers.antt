@@ -1,6 +1,5 @@
-use Rattle.std.proofs.Common.{◌≡◌, ◌+◌, ◌++◌, List, [], ◌∷◌, length, Some, None, Ok, refl, sym, ◌∙◌, ap, subst, arith}
+use Rattle.std.proofs.Common.{Ok, refl, sym, ◌∙◌, subst, arith}
 use Rattle.md_graph.specs.PlainGraph.{PlainGraph}
-use Rattle.md_script.specs.declared.edit.Edit.{Edit}
 use Rattle.md_script.specs.Pasts.{inverse_of, HasApplied}
 use Rattle.md_script.proofs.GroupLemmas.{applied_more}
 use Rattle.md_bar.specs.ClassSteps.{IsAllowedIn}

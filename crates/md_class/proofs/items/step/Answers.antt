@@ -1,4 +1,4 @@
-use Rattle.std.proofs.Common.{◌≡◌, ◌*◌, ◌++◌, ◌∷◌, [], None, List, refl, sym, ◌∙◌, ap, subst, rules}
+use Rattle.std.proofs.Common.{◌≡◌, ◌++◌, ◌∷◌, [], None, refl, sym, ◌∙◌, ap, subst, rules}
 use Rattle.md_graph.proofs.Limits.{words_few}
 use Rattle.md_graph.specs.PlainGraph.{PlainGraph}
 use Rattle.md_bar_tree.specs.declared.Bar.{Bar}
@@ -8,10 +8,9 @@ use Rattle.md_script.specs.Edit.{reason_of, after}
 use Rattle.md_script.specs.Pasts.{as_edit}
 use Rattle.md_script.proofs.ChangeLemmas.{names_within}
 use Rattle.md_report.specs.Cographs.{IsCograph}
-use Rattle.md_bar.specs.ClassSteps.{IsBarOf}
 use Rattle.md_class.specs.declared.items.Fit.TheVariants as fits
 use Rattle.md_class.specs.ClassAnswers.{IsFitOf}
-use Rattle.md_class.proofs.ClassGraphs.{path_bars, allowed_cograph}
+use Rattle.md_class.proofs.ClassGraphs.{allowed_cograph}
 use Rattle.md_class.proofs.items.step.Goals as goal
 
 pub change-requires-clause-denotes : goal.change-requires-clause-denotes

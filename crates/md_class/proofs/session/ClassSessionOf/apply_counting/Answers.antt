@@ -5,7 +5,8 @@ use Rattle.md_script.specs.Histories.{HistoryFits}
 use Rattle.md_bar.specs.ClassSteps.{IsAllowedIn}
 use Rattle.md_class.specs.ClassSessions.{PlainClassSession}
 use Rattle.md_class.proofs.ClassGraphs.{fits_cographs}
-use Rattle.md_class.proofs.session.ClassSessionOf.answer.Goals as goal
+use Rattle.md_class.proofs.session.ClassSessionOf.apply_counting.Goals as goal
+use Rattle.md_class.proofs.session.ClassSessionOf.apply_counting.Goals.{in-One, in-Group, in-Undo}
 
 pub answer_one-requires : goal.answer_one-requires
 answer_one-requires g c = (
@@ -67,3 +68,24 @@ answer_undo-requires g c =
         ),
       ),
     )
+
+pub invariant_of-self : goal.invariant_of-self
+invariant_of-self g c =
+    let fits = subst (λ (s : PlainClassSession). HistoryFits (64 * g.row.W) (IsAllowedIn s.class) s.graph c.args.history.now.items) (sym c.self.view_is) c.requires.fits in
+    elim c.match-item.branch [
+      | in-One w ↦ rw w.self-inside-is (
+        w.answer_one.ensures.allowed,
+        w.answer_one.ensures.denotes,
+        subst (λ n. 64 * g.row.W ≤ n) (sym w.answer_one.ensures.near) c.self.invariant.2,
+      )
+      | in-Group w ↦ rw w.self-inside-is (
+        w.answer_group.ensures.allowed,
+        w.answer_group.ensures.denotes,
+        subst (λ n. 64 * g.row.W ≤ n) (sym w.answer_group.ensures.near) c.self.invariant.2,
+      )
+      | in-Undo w ↦ rw w.self-inside-is (
+        w.answer_undo.ensures.allowed c.self.inside.class c.self.invariant.0 fits,
+        w.answer_undo.ensures.denotes,
+        subst (λ n. 64 * g.row.W ≤ n) (sym w.answer_undo.ensures.near) c.self.invariant.2,
+      )
+    ]
