@@ -8,7 +8,7 @@ use Rattle.md_script.specs.Pasts.{taken_back, MayBack}
 use Rattle.md_script.specs.Histories.{HistoryFits}
 use Rattle.md_report.specs.Lines.{path_bar}
 use Rattle.md_report.specs.Cographs.{IsP4Of, IsCograph}
-use Rattle.md_bar.specs.ClassSteps.{IsAllowedIn, IsBarOf}
+use Rattle.md_report.specs.Classes.{IsAllowedIn, IsBarOf}
 
 -- ---- induced P4s
 
