@@ -19,7 +19,7 @@ use Rattle.md_script.specs.Edit.{HasNamesBelow, reason_of, after}
 use Rattle.md_script.specs.Pasts.{inverse_of, MayBack, HasApplied}
 use Rattle.md_script.specs.Histories.{HistoryFits}
 use Rattle.md_script.proofs.BackLemmas.{inverse_back}
-use Rattle.md_script.proofs.GroupLemmas.{GoesBack, kept_goes_back, one_goes_back}
+use Rattle.md_script.proofs.GroupLemmas.{GoesBack, back_weaker, kept_goes_back, one_goes_back}
 use Rattle.md_report.specs.Cographs.{IsCograph}
 use Rattle.md_report.specs.Lines.{PlainLine, applied, refused, refused_bar, group_refused, group_refused_bar}
 use Rattle.md_report.specs.Sessions.{HasTreeLine, led_to, is_applied}
@@ -33,7 +33,7 @@ use Rattle.md_report.specs.declared.line.SessionMode.TheVariants.{Of}
 use Rattle.md_class.specs.declared.items.Answer.TheVariants.{Applied, Refused, Barred}
 use Rattle.md_class.specs.ClassAnswers.{AreKept, IsAnswered}
 use Rattle.md_cograph.proofs.GoingBack.{same_rest}
-use Rattle.md_class.proofs.ClassGraphs.{allowed_cograph, back_weaker}
+use Rattle.md_class.proofs.ClassGraphs.{allowed_cograph}
 
 -- a line at which a group ends is its line, whatever stands behind, and refuses it
 end_line : (class : Class) (o : Option EditReason) (n : ℕ) (h : PlainGraph) (Behind : Type 0) (line : PlainLine) → IsLineAt o (Of class) n h ⊥ line → IsLineAt o (Of class) n h Behind line × (is_applied line ≡ false)

@@ -69,7 +69,6 @@ edit_line Quiet g edit line = by_reason (reason_of g edit) where
   by_reason : (o : Option EditReason) → IsQuietLineBy o g edit line ↔ IsEditLine o Quiet (after g edit) line
   by_reason (Some reason) = (λ is. is, λ is. is)
   by_reason None = path_or_done (after g edit) line (IsCograph (after g edit) × IsDoneLine Quiet (after g edit) line)
-
 edit_line (Of class) g edit line = by_reason (reason_of g edit) where
   by_reason : (o : Option EditReason) → IsClassLineBy o class (after g edit) line ↔ IsEditLine o (Of class) (after g edit) line
   by_reason (Some reason) = (λ is. is, λ is. is)

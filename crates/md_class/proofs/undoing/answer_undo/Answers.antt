@@ -2,12 +2,12 @@ use Rattle.std.proofs.Common.{◌*◌, ◌≤◌, refl, sym, ◌∙◌, ap, subs
 use Rattle.md_tree.specs.Plain.{plain_option}
 use Rattle.md_graph.specs.PlainGraph.{PlainGraph}
 use Rattle.md_script.specs.Pasts.{taken_back, MayBack}
+use Rattle.md_script.proofs.GroupLemmas.{back_kept}
 use Rattle.md_report.specs.Cographs.{IsCograph}
 use Rattle.md_report.specs.Lines.{applied}
 use Rattle.md_report.proofs.Stepping.{undone_step, last_item}
 use Rattle.md_report.specs.Classes.{IsAllowedIn}
 use Rattle.md_report.specs.declared.line.SessionMode.TheVariants.{Of}
-use Rattle.md_class.proofs.ClassGraphs.{back_kept}
 use Rattle.md_class.proofs.undoing.answer_undo.Goals as goal
 
 pub tree_before-requires : goal.tree_before-requires
