@@ -19,6 +19,8 @@ mod line_judge;
 mod piece_compare;
 mod session_checker;
 mod text_fit;
+mod text_graph;
+mod text_walk;
 mod tree_fit;
 
 pub use answer::CheckAnswer;
@@ -26,6 +28,8 @@ pub use certificates::{is_forcing_chain, is_least_edge_orientation, realise};
 pub use check::{check_graphs, check_session};
 pub use checker::Checker;
 pub use line_judge::{LineJudge, judge};
+pub use text_graph::TextGraph;
+pub use text_walk::is_text_by_rows;
 pub use tree_fit::{are_alone, fits};
 
 #[cfg(test)]
