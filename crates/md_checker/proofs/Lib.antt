@@ -23,3 +23,4 @@ mod HeadPairs
 mod Taking
 mod Cotrees
 mod Splitting
+mod PathLines

@@ -12,3 +12,4 @@ pub mod TextFits
 pub mod Hands
 pub mod Judged
 pub mod Splitting
+pub mod ReportLines
