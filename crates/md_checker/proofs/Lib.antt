@@ -25,3 +25,4 @@ mod GraphTexts
 mod Taking
 mod Cotrees
 mod Splitting
+mod PathLines

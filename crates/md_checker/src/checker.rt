@@ -11,10 +11,12 @@ ghost use Rattle.md_report.specs.Lines.{PlainLine, plain_line, line_text, limit_
 ghost use Rattle.md_report.specs.WellFormedLines.{IsWellFormedLine};
 ghost use Rattle.md_report.specs.Places.{before_head, before_session, after_end, MayCome, next_place};
 ghost use Rattle.md_checker.specs.Checkers.{report_place};
+ghost use Rattle.md_checker.specs.ReportLines.{plain_report_line, HasWellFormedTree};
 ghost use Rattle.md_checker.specs.Standing.{Takes};
 
 use crate::graph_checker::GraphChecker;
 use crate::line_judge::LineJudge;
+use crate::report_line::ReportLine;
 use crate::session_checker::SessionChecker;
 use md_graph::{Memory, WORDS};
 use md_input::{Format, Graphs, InputStop, SessionInputs, session_inputs};
@@ -123,7 +125,7 @@ impl<'a> Checker<'a> {
             ≡ (if taken then next_place self.old (plain_line line.now) else self.old)) }
         ensures stays { IsErr result → self.new ≡ self.old }
     {
-        self.inner.feed(alloc, line)
+        self.inner.feed(alloc, &ReportLine::Plain(line))
     }
 
     // Whether the text is that of the tree or the orientation that is due: the line is then taken,
@@ -232,13 +234,14 @@ impl<'a> Inner<'a> {
         }
     }
 
-    // Whether the line may come; it is then taken, and else nothing changes.
-    fn feed(&mut self, alloc: Global, line: &Line) -> Result<bool, Memory>
-        requires { IsWellFormedLine (plain_line line.now) }
+    // Whether the line may come; it is then taken, and else nothing changes. Condition: the line's
+    // tree is well-formed.
+    fn feed(&mut self, alloc: Global, line: &ReportLine<'_>) -> Result<bool, Memory>
+        requires { HasWellFormedTree (plain_report_line line.now) }
         ensures may { IfOk result (λ taken.
-            IsTrue taken ↔ MayCome (report_place self.old) (plain_line line.now)) }
+            IsTrue taken ↔ MayCome (report_place self.old) (plain_report_line line.now)) }
         ensures next { IfOk result (λ taken. report_place self.new
-            ≡ (if taken then next_place (report_place self.old) (plain_line line.now)
+            ≡ (if taken then next_place (report_place self.old) (plain_report_line line.now)
             else report_place self.old)) }
         ensures stays { IsErr result → report_place self.new ≡ report_place self.old }
     {

@@ -1,16 +1,17 @@
 //! The graph at hand: the first of those that are left to be reported.
 ghost use Rattle.std.specs.Prelude.{◌≡◌, ◌↔◌, [], false, IfOk, IsTrue};
-ghost use Rattle.md_report.specs.Lines.{PlainLine, line_text, plain_line};
-ghost use Rattle.md_report.specs.WellFormedLines.{IsWellFormedLine};
+ghost use Rattle.md_report.specs.Lines.{PlainLine, line_text};
 ghost use Rattle.md_report.specs.Places.{Reports};
 ghost use Rattle.md_checker.specs.Hands.{graphs_left, IsHand};
+ghost use Rattle.md_checker.specs.ReportLines.{plain_report_line, HasWellFormedTree};
 
 use crate::certificates::is_word_and_orientation;
 use crate::judgements::reports;
+use crate::report_line::ReportLine;
 use crate::text_fit::is_word_and_tree;
 use md_graph::{GraphOf, Memory};
 use md_input::{GraphBySize, Graphs, Room};
-use md_report::{GraphMode, Line};
+use md_report::GraphMode;
 use std::alloc::Global;
 
 // The graph at hand in a report of the mode, if it is there; else the room has no vertices.
@@ -62,11 +63,11 @@ impl DueGraph {
         self.is_there = false;
     }
 
-    // Whether the line reports the graph. Condition: the line is well-formed.
-    pub(crate) fn is_reported(&self, alloc: Global, line: &Line) -> Result<bool, Memory>
-        requires line { IsWellFormedLine (plain_line line.now) }
+    // Whether the line reports the graph. Condition: the line's tree is well-formed.
+    pub(crate) fn is_reported(&self, alloc: Global, line: &ReportLine<'_>) -> Result<bool, Memory>
+        requires line { HasWellFormedTree (plain_report_line line.now) }
         ensures { IfOk result (λ fit. IsTrue fit
-            ↔ Reports self.now.mode self.now.room (plain_line line.now)) }
+            ↔ Reports self.now.mode self.now.room (plain_report_line line.now)) }
     {
         match self.room.graph() {
             GraphBySize::Small(graph) => reports(alloc, self.mode, graph, line),

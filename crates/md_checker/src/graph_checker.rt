@@ -1,15 +1,15 @@
 //! Checks the lines of a report over graphs, one after the other.
 ghost use Rattle.std.specs.Prelude.{◌≡◌, ◌↔◌, if◌then◌else◌, IfOk, IsErr, IsTrue};
-ghost use Rattle.md_report.specs.Lines.{plain_line};
-ghost use Rattle.md_report.specs.WellFormedLines.{IsWellFormedLine};
 ghost use Rattle.md_report.specs.Places.{before_head, after_end, MayCome, next_place};
+ghost use Rattle.md_checker.specs.ReportLines.{plain_report_line, HasWellFormedTree};
 ghost use Rattle.md_checker.specs.Standing.{Takes};
 
 use crate::due_graph::DueGraph;
 use crate::fixed_lines::{is_end, is_head};
+use crate::report_line::ReportLine;
 use md_graph::Memory;
 use md_input::Graphs;
-use md_report::{GraphMode, Line};
+use md_report::GraphMode;
 use std::alloc::Global;
 use std::marker::Model;
 
@@ -92,13 +92,14 @@ impl<'a> GraphChecker<'a> {
         Ok(true)
     }
 
-    // Whether the line may come; it is then taken, and else nothing changes.
-    pub(crate) fn feed(&mut self, alloc: Global, line: &Line) -> Result<bool, Memory>
-        requires { IsWellFormedLine (plain_line line.now) }
+    // Whether the line may come; it is then taken, and else nothing changes. Condition: the
+    // line's tree is well-formed.
+    pub(crate) fn feed(&mut self, alloc: Global, line: &ReportLine<'_>) -> Result<bool, Memory>
+        requires { HasWellFormedTree (plain_report_line line.now) }
         ensures may { IfOk result (λ taken.
-            IsTrue taken ↔ MayCome self.old (plain_line line.now)) }
+            IsTrue taken ↔ MayCome self.old (plain_report_line line.now)) }
         ensures next { IfOk result (λ taken. self.new
-            ≡ (if taken then next_place self.old (plain_line line.now) else self.old)) }
+            ≡ (if taken then next_place self.old (plain_report_line line.now) else self.old)) }
         ensures stays { IsErr result → self.new ≡ self.old }
     {
         match self.due {

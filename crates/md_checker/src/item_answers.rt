@@ -12,20 +12,21 @@ ghost use Rattle.md_script.specs.Items.{HasItemNamesBelow};
 ghost use Rattle.md_script.specs.Pasts.{Led};
 ghost use Rattle.md_script.specs.Histories.{HistoryFits};
 ghost use Rattle.md_report.specs.declared.line.SessionMode.TheVariants.{Quiet};
-ghost use Rattle.md_report.specs.Lines.{plain_line, path_bar, applied, applied_quiet, refused, refused_bar, group_refused, group_refused_bar, nothing_to_undo};
-ghost use Rattle.md_report.specs.WellFormedLines.{IsWellFormedLine};
+ghost use Rattle.md_report.specs.Lines.{applied, applied_quiet, refused, refused_bar, group_refused, group_refused_bar, nothing_to_undo};
 ghost use Rattle.md_report.specs.Cographs.{IsCograph};
 ghost use Rattle.md_report.specs.Sessions.{HasTreeLine};
 ghost use Rattle.md_report.specs.ItemLines.{IsAllowed, IsBarred, IsDoneLine};
 ghost use Rattle.md_report.specs.Places.{at_items};
 ghost use Rattle.md_report.specs.Steps.{state_of};
 ghost use Rattle.md_checker.specs.Judged.{IsJudged, IsTried};
+ghost use Rattle.md_checker.specs.ReportLines.{plain_report_line, HasWellFormedTree};
 ghost use Rattle.md_checker.specs.Standing.{Takes};
 
-use crate::judgements::{is_tree_of_cograph, is_true, is_word_and_state};
+use crate::judgements::{bars_state, is_tree_of_cograph, is_true, is_word_and_state};
+use crate::report_line::ReportLine;
 use crate::tree_fit::fits;
+use md_bar::Bar;
 use md_graph::{GraphOf, Memory};
-use md_modules::{P4, is_p4};
 use md_report::{Line, SessionMode, made_p4};
 use md_script::{
     Edit, EditReason, Edits, HistoryOf, Item, apply, back_through, inverse, reason, take_back,
@@ -45,22 +46,22 @@ enum Tried {
 }
 
 // Whether the line answers the item: graph and history are then those behind it; else, and for want
-// of memory, they stay. Conditions: the line is well-formed, the names in the item are below
-// `64 * W`, the history fits, and the graph may be a state of a session of the mode.
+// of memory, they stay. Conditions: the line's tree is well-formed, the names in the item are
+// below `64 * W`, the history fits, and the graph may be a state of a session of the mode.
 pub(crate) fn answers_item<const W: usize>(
     alloc: Global,
     mode: SessionMode,
     graph: &mut GraphOf<W>,
     history: &mut HistoryOf<W>,
     item: &Item,
-    line: &Line,
+    line: &ReportLine<'_>,
 ) -> Result<bool, Memory>
-    requires line { IsWellFormedLine (plain_line line.now) }
+    requires line { HasWellFormedTree (plain_report_line line.now) }
     requires names { HasItemNamesBelow (64 * W) item.now }
     requires fits { HistoryFits (64 * W) (IsAllowed mode) graph.old history.old.items }
     requires allowed { IsAllowed mode graph.old }
     ensures judged { IfOk result (λ taken. IsJudged taken (64 * W) mode graph.old
-        history.old.items item.now (plain_line line.now) graph.new history.new.items) }
+        history.old.items item.now (plain_report_line line.now) graph.new history.new.items) }
     ensures stays { IsErr result → graph.new ≡ graph.old }
     ensures kept { IsErr result → history.new.items ≡ history.old.items }
 {
@@ -78,23 +79,23 @@ fn answers_edit<const W: usize>(
     graph: &mut GraphOf<W>,
     history: &mut HistoryOf<W>,
     edit: &Edit,
-    line: &Line,
+    line: &ReportLine<'_>,
 ) -> Result<bool, Memory>
-    requires line { IsWellFormedLine (plain_line line.now) }
+    requires line { HasWellFormedTree (plain_report_line line.now) }
     requires names { HasNamesBelow (64 * W) edit.now }
     requires fits { HistoryFits (64 * W) (IsAllowed mode) graph.old history.old.items }
     requires allowed { IsAllowed mode graph.old }
     ensures judged { IfOk result (λ taken. IsJudged taken (64 * W) mode graph.old
-        history.old.items (One edit.now) (plain_line line.now) graph.new history.new.items) }
+        history.old.items (One edit.now) (plain_report_line line.now) graph.new history.new.items) }
     ensures stays { IsErr result → graph.new ≡ graph.old }
     ensures kept { IsErr result → history.new.items ≡ history.old.items }
 {
     if let Some(reason) = reason(graph, edit) {
         return Ok(is_refusal(line, reason));
     }
-    match line {
-        Line::RefusedP4(p) => Ok(is_refused_p4(mode, graph, edit, p)),
-        _ => tells_applied(alloc, mode, graph, history, edit, line),
+    match line.refused_bar() {
+        Some(bar) => Ok(bars_edit(mode, graph, edit, &bar)),
+        None => tells_applied(alloc, mode, graph, history, edit, line),
     }
 }
 
@@ -105,16 +106,16 @@ fn tells_applied<const W: usize>(
     graph: &mut GraphOf<W>,
     history: &mut HistoryOf<W>,
     edit: &Edit,
-    line: &Line,
+    line: &ReportLine<'_>,
 ) -> Result<bool, Memory>
-    requires line { IsWellFormedLine (plain_line line.now) }
-    requires other { (bar : Bar) → plain_line line.now ≡ refused_bar bar → ⊥ }
+    requires line { HasWellFormedTree (plain_report_line line.now) }
+    requires other { (bar : Bar) → plain_report_line line.now ≡ refused_bar bar → ⊥ }
     requires applies { reason_of graph.old edit.now ≡ None }
     requires names { HasNamesBelow (64 * W) edit.now }
     requires fits { HistoryFits (64 * W) (IsAllowed mode) graph.old history.old.items }
     requires allowed { IsAllowed mode graph.old }
     ensures judged { IfOk result (λ taken. IsJudged taken (64 * W) mode graph.old
-        history.old.items (One edit.now) (plain_line line.now) graph.new history.new.items) }
+        history.old.items (One edit.now) (plain_report_line line.now) graph.new history.new.items) }
     ensures stays { IsErr result → graph.new ≡ graph.old }
     ensures kept { IsErr result → history.new.items ≡ history.old.items }
 {
@@ -132,18 +133,19 @@ fn tells_applied<const W: usize>(
 }
 
 // Whether the graph, to which the edit led, may be a state of a session of the mode, and the line
-// tells that it is. Conditions: the line is well-formed, and the graph before was such a state.
+// tells that it is. Conditions: the line's tree is well-formed, and the graph before was such a
+// state.
 fn is_led_line<const W: usize>(
     alloc: Global,
     mode: SessionMode,
     graph: &GraphOf<W>,
     edit: &Edit,
-    line: &Line,
+    line: &ReportLine<'_>,
 ) -> Result<bool, Memory>
-    requires line { IsWellFormedLine (plain_line line.now) }
+    requires line { HasWellFormedTree (plain_report_line line.now) }
     requires led { (g : PlainGraph) × Led (64 * W) g edit.now graph.now × IsAllowed mode g }
     ensures { IfOk result (λ fit. IsTrue fit ↔ (IsAllowed mode graph.now
-        × IsDoneLine mode graph.now (plain_line line.now))) }
+        × IsDoneLine mode graph.now (plain_report_line line.now))) }
 {
     match mode {
         SessionMode::Edit => is_applied_tree(alloc, graph, line),
@@ -152,16 +154,17 @@ fn is_led_line<const W: usize>(
     }
 }
 
-// Whether the line tells that an item was applied, which left the graph. Condition: the line is
-// well-formed.
+// Whether the line tells that an item was applied, which left the graph. Condition: the line's
+// tree is well-formed.
 fn is_done_line<const W: usize>(
     alloc: Global,
     mode: SessionMode,
     graph: &GraphOf<W>,
-    line: &Line,
+    line: &ReportLine<'_>,
 ) -> Result<bool, Memory>
-    requires { IsWellFormedLine (plain_line line.now) }
-    ensures { IfOk result (λ fit. IsTrue fit ↔ IsDoneLine mode graph.now (plain_line line.now)) }
+    requires { HasWellFormedTree (plain_report_line line.now) }
+    ensures { IfOk result (λ fit. IsTrue fit
+        ↔ IsDoneLine mode graph.now (plain_report_line line.now)) }
 {
     match mode {
         SessionMode::Edit => is_applied_tree(alloc, graph, line),
@@ -170,19 +173,19 @@ fn is_done_line<const W: usize>(
     }
 }
 
-// Whether the line tells that an item was applied, with the tree of the graph. Condition: the line
-// is well-formed.
+// Whether the line tells that an item was applied, with the tree of the graph. Condition: the
+// line's tree is well-formed.
 fn is_applied_tree<const W: usize>(
     alloc: Global,
     graph: &GraphOf<W>,
-    line: &Line,
+    line: &ReportLine<'_>,
 ) -> Result<bool, Memory>
-    requires { IsWellFormedLine (plain_line line.now) }
+    requires { HasWellFormedTree (plain_report_line line.now) }
     ensures { IfOk result (λ fit. IsTrue fit
-        ↔ HasTreeLine applied graph.now (plain_line line.now)) }
+        ↔ HasTreeLine applied graph.now (plain_report_line line.now)) }
 {
     match line {
-        Line::Applied(tree) => fits(alloc, graph, tree),
+        ReportLine::Plain(Line::Applied(tree)) => fits(alloc, graph, tree),
         _ => Ok(false),
     }
 }
@@ -191,24 +194,24 @@ fn is_applied_tree<const W: usize>(
 fn is_applied_cotree<const W: usize>(
     alloc: Global,
     graph: &GraphOf<W>,
-    line: &Line,
+    line: &ReportLine<'_>,
 ) -> Result<bool, Memory>
-    requires { IsWellFormedLine (plain_line line.now) }
+    requires { HasWellFormedTree (plain_report_line line.now) }
     ensures { IfOk result (λ fit. IsTrue fit ↔ (IsCograph graph.now
-        × HasTreeLine applied graph.now (plain_line line.now))) }
+        × HasTreeLine applied graph.now (plain_report_line line.now))) }
 {
     match line {
-        Line::Applied(tree) => is_tree_of_cograph(alloc, graph, tree),
+        ReportLine::Plain(Line::Applied(tree)) => is_tree_of_cograph(alloc, graph, tree),
         _ => Ok(false),
     }
 }
 
 // Whether the line tells that an item was applied, without a tree.
-fn is_applied_quiet(line: &Line) -> bool
-    ensures { IsTrue result ↔ plain_line line.now ≡ applied_quiet }
+fn is_applied_quiet(line: &ReportLine<'_>) -> bool
+    ensures { IsTrue result ↔ plain_report_line line.now ≡ applied_quiet }
 {
     match line {
-        Line::AppliedQuiet => true,
+        ReportLine::Plain(Line::AppliedQuiet) => true,
         _ => false,
     }
 }
@@ -228,44 +231,33 @@ fn is_barred<const W: usize>(mode: SessionMode, graph: &GraphOf<W>, edit: &Edit)
 }
 
 // Whether the line refuses an edit for the reason.
-fn is_refusal(line: &Line, reason: EditReason) -> bool
-    ensures { IsTrue result ↔ (plain_line line.now ≡ refused reason) }
+fn is_refusal(line: &ReportLine<'_>, reason: EditReason) -> bool
+    ensures { IsTrue result ↔ (plain_report_line line.now ≡ refused reason) }
 {
     match line {
-        Line::Refused(named) => *named == reason,
+        ReportLine::Plain(Line::Refused(named)) => *named == reason,
         _ => false,
     }
 }
 
-// Whether the mode refuses the edit since the graph after it has the induced P4. The graph stays.
-// Condition: there is no reason against the edit.
-fn is_refused_p4<const W: usize>(
+// Whether the bar bars the graph after the edit from being a state of a session of the mode. The
+// graph stays. Condition: there is no reason against the edit.
+fn bars_edit<const W: usize>(
     mode: SessionMode,
     graph: &mut GraphOf<W>,
     edit: &Edit,
-    p: &P4,
+    bar: &Bar,
 ) -> bool
     requires applies { reason_of graph.old edit.now ≡ None }
     requires names { HasNamesBelow (64 * W) edit.now }
-    ensures is { IsTrue result ↔ IsBarred mode (after graph.old edit.now) (path_bar p.now) }
+    ensures is { IsTrue result ↔ IsBarred mode (after graph.old edit.now) bar.now }
     ensures stays { graph.new ≡ graph.old }
 {
     let past = inverse(graph, edit);
     apply(graph, edit);
-    let is = is_path_of_state(mode, graph, p);
+    let is = bars_state(mode, graph, bar);
     take_back(graph, &past);
     is
-}
-
-// Whether no state of a session of the mode may have an induced P4, and the graph has this one.
-fn is_path_of_state<const W: usize>(mode: SessionMode, graph: &GraphOf<W>, p: &P4) -> bool
-    ensures { IsTrue result ↔ IsBarred mode graph.now (path_bar p.now) }
-{
-    match mode {
-        SessionMode::Edit => false,
-        SessionMode::Cograph => is_p4(graph, p),
-        SessionMode::Quiet => is_p4(graph, p),
-    }
 }
 
 // The same as `answers_item`, of a group.
@@ -275,14 +267,15 @@ fn answers_group<const W: usize>(
     graph: &mut GraphOf<W>,
     history: &mut HistoryOf<W>,
     edits: &Edits,
-    line: &Line,
+    line: &ReportLine<'_>,
 ) -> Result<bool, Memory>
-    requires line { IsWellFormedLine (plain_line line.now) }
+    requires line { HasWellFormedTree (plain_report_line line.now) }
     requires names { All (HasNamesBelow (64 * W)) edits.now }
     requires fits { HistoryFits (64 * W) (IsAllowed mode) graph.old history.old.items }
     requires allowed { IsAllowed mode graph.old }
     ensures judged { IfOk result (λ taken. IsJudged taken (64 * W) mode graph.old
-        history.old.items (Group edits.now) (plain_line line.now) graph.new history.new.items) }
+        history.old.items (Group edits.now) (plain_report_line line.now) graph.new
+        history.new.items) }
     ensures stays { IsErr result → graph.new ≡ graph.old }
     ensures kept { IsErr result → history.new.items ≡ history.old.items }
 {
@@ -303,7 +296,7 @@ fn answers_group<const W: usize>(
             Ok(is_group_refusal(line, i + 1, reason))
         }
         Tried::Barred(i) => {
-            let fit = is_group_path(mode, graph, edits.get(i), line, i + 1);
+            let fit = is_group_barred(mode, graph, edits.get(i), line, i + 1);
             take_item_back(graph, history);
             Ok(fit)
         }
@@ -344,34 +337,36 @@ fn try_edits<const W: usize>(
 }
 
 // Whether the line refuses the edit of a group with this number, for the reason.
-fn is_group_refusal(line: &Line, number: u64, reason: EditReason) -> bool
-    ensures { IsTrue result ↔ (plain_line line.now ≡ group_refused number reason) }
+fn is_group_refusal(line: &ReportLine<'_>, number: u64, reason: EditReason) -> bool
+    ensures { IsTrue result ↔ (plain_report_line line.now ≡ group_refused number reason) }
 {
     match line {
-        Line::GroupRefused(told, named) => *told == number && *named == reason,
+        ReportLine::Plain(Line::GroupRefused(told, named)) => {
+            *told == number && *named == reason
+        }
         _ => false,
     }
 }
 
-// Whether the line refuses the edit of a group with this number with an induced P4 of the graph
-// after it, and no state of a session of the mode may have one. The graph stays. Condition: there
-// is no reason against the edit.
-fn is_group_path<const W: usize>(
+// Whether the line refuses the edit of a group with this number with a bar by which the graph after
+// it is no state of a session of the mode. The graph stays. Condition: there is no reason against
+// the edit.
+fn is_group_barred<const W: usize>(
     mode: SessionMode,
     graph: &mut GraphOf<W>,
     edit: &Edit,
-    line: &Line,
+    line: &ReportLine<'_>,
     number: u64,
 ) -> bool
     requires applies { reason_of graph.old edit.now ≡ None }
     requires names { HasNamesBelow (64 * W) edit.now }
     ensures is { IsTrue result ↔ ((bar : Bar) × IsBarred mode (after graph.old edit.now) bar
-        × (plain_line line.now ≡ group_refused_bar number bar)) }
+        × (plain_report_line line.now ≡ group_refused_bar number bar)) }
     ensures stays { graph.new ≡ graph.old }
 {
-    match line {
-        Line::GroupRefusedP4(told, p) => { *told == number && is_refused_p4(mode, graph, edit, p) }
-        _ => false,
+    match line.group_refused_bar() {
+        Some((told, bar)) => told == number && bars_edit(mode, graph, edit, &bar),
+        None => false,
     }
 }
 
@@ -381,13 +376,13 @@ fn answers_undo<const W: usize>(
     mode: SessionMode,
     graph: &mut GraphOf<W>,
     history: &mut HistoryOf<W>,
-    line: &Line,
+    line: &ReportLine<'_>,
 ) -> Result<bool, Memory>
-    requires line { IsWellFormedLine (plain_line line.now) }
+    requires line { HasWellFormedTree (plain_report_line line.now) }
     requires fits { HistoryFits (64 * W) (IsAllowed mode) graph.old history.old.items }
     requires allowed { IsAllowed mode graph.old }
     ensures judged { IfOk result (λ taken. IsJudged taken (64 * W) mode graph.old
-        history.old.items Undo (plain_line line.now) graph.new history.new.items) }
+        history.old.items Undo (plain_report_line line.now) graph.new history.new.items) }
     ensures stays { IsErr result → graph.new ≡ graph.old }
     ensures kept { IsErr result → history.new.items ≡ history.old.items }
 {
@@ -409,11 +404,11 @@ fn answers_undo<const W: usize>(
 }
 
 // Whether the line tells that there is no item to undo.
-fn is_nothing_to_undo(line: &Line) -> bool
-    ensures { IsTrue result ↔ plain_line line.now ≡ nothing_to_undo }
+fn is_nothing_to_undo(line: &ReportLine<'_>) -> bool
+    ensures { IsTrue result ↔ plain_report_line line.now ≡ nothing_to_undo }
 {
     match line {
-        Line::NothingToUndo => true,
+        ReportLine::Plain(Line::NothingToUndo) => true,
         _ => false,
     }
 }

@@ -7,37 +7,41 @@ ghost use Rattle.md_forcing.specs.Sides.{adjacent_on};
 ghost use Rattle.md_tree.specs.Plain.{plain_option};
 ghost use Rattle.md_tree.specs.StrongTrees.{IsTree};
 ghost use Rattle.md_tree.specs.WellFormed.{IsWellFormed};
-ghost use Rattle.md_report.specs.Lines.{plain_line, tree, not_cograph};
-ghost use Rattle.md_report.specs.WellFormedLines.{IsWellFormedLine};
+ghost use Rattle.md_report.specs.Lines.{tree, not_cograph};
 ghost use Rattle.md_report.specs.Places.{Reports, ReportsState, ClosesItems};
 ghost use Rattle.md_report.specs.Sessions.{HasTreeLine};
 ghost use Rattle.md_report.specs.Orientations.{IsOrientationLine, IsShortestLine};
 ghost use Rattle.md_report.specs.Models.{IsModelLine};
-ghost use Rattle.md_report.specs.Cographs.{IsCograph, HasP4Line, IsOpeningLine};
+ghost use Rattle.md_report.specs.Cographs.{IsPathOf, IsCograph, HasP4Line, IsOpeningLine};
+ghost use Rattle.md_report.specs.ItemLines.{IsBarred};
+ghost use Rattle.md_checker.specs.ReportLines.{plain_report_line, HasWellFormedTree};
 ghost use Rattle.md_checker.specs.States.{IsStateText};
 
 use crate::certificates::{is_forcing_chain, is_least_edge_orientation, realise};
 use crate::fixed_lines::is_end;
+use crate::report_line::ReportLine;
 use crate::text_fit::{is_word_and_cotree, is_word_and_tree};
 use crate::tree_fit::fits;
+use md_bar::{Bar, BarKind};
 use md_comparability::{ClassOrChosen, orient_classes};
 use md_forcing::{Chain, Side};
 use md_graph::{Graph, GraphOf, Memory};
 use md_levels::is_shortest;
-use md_modules::is_p4;
+use md_modules::{P4, is_p4};
 use md_report::{GraphMode, Line, SessionMode};
 use md_tree::{Tree, has_no_prime};
 use std::alloc::Global;
 
-// Whether the line reports the graph. Condition: the line is well-formed.
+// Whether the line reports the graph. Condition: the line's tree is well-formed.
 pub(crate) fn reports<const W: usize>(
     alloc: Global,
     mode: GraphMode,
     graph: &GraphOf<W>,
-    line: &Line,
+    line: &ReportLine<'_>,
 ) -> Result<bool, Memory>
-    requires { IsWellFormedLine (plain_line line.now) }
-    ensures { IfOk result (λ fit. IsTrue fit ↔ Reports mode graph.now (plain_line line.now)) }
+    requires { HasWellFormedTree (plain_report_line line.now) }
+    ensures { IfOk result (λ fit. IsTrue fit
+        ↔ Reports mode graph.now (plain_report_line line.now)) }
 {
     match mode {
         GraphMode::Tree => is_tree_line(alloc, graph, line),
@@ -47,17 +51,18 @@ pub(crate) fn reports<const W: usize>(
     }
 }
 
-// Whether the line is that of the tree of the graph. Condition: the line is well-formed.
+// Whether the line is that of the tree of the graph. Condition: the line's tree is well-formed.
 fn is_tree_line<const W: usize>(
     alloc: Global,
     graph: &GraphOf<W>,
-    line: &Line,
+    line: &ReportLine<'_>,
 ) -> Result<bool, Memory>
-    requires { IsWellFormedLine (plain_line line.now) }
-    ensures { IfOk result (λ fit. IsTrue fit ↔ HasTreeLine tree graph.now (plain_line line.now)) }
+    requires { HasWellFormedTree (plain_report_line line.now) }
+    ensures { IfOk result (λ fit. IsTrue fit
+        ↔ HasTreeLine tree graph.now (plain_report_line line.now)) }
 {
     match line {
-        Line::Tree(tree) => fits(alloc, graph, tree),
+        ReportLine::Plain(Line::Tree(tree)) => fits(alloc, graph, tree),
         _ => Ok(false),
     }
 }
@@ -66,12 +71,15 @@ fn is_tree_line<const W: usize>(
 fn is_orientation_line<const W: usize>(
     alloc: Global,
     graph: &GraphOf<W>,
-    line: &Line,
+    line: &ReportLine<'_>,
 ) -> Result<bool, Memory>
     ensures { IfOk result (λ fit. IsTrue fit
-        ↔ IsOrientationLine (adjacent graph.now) (plain_line line.now)) }
+        ↔ IsOrientationLine (adjacent graph.now) (plain_report_line line.now)) }
 {
-    match line {
+    let ReportLine::Plain(plain) = line else {
+        return Ok(false);
+    };
+    match plain {
         Line::Oriented(arcs) => is_least_edge_orientation(alloc, graph, arcs),
         Line::Forced(chain) => is_forcing_chain(alloc, graph, Side::Edges, chain),
         _ => Ok(false),
@@ -83,12 +91,15 @@ fn is_orientation_line<const W: usize>(
 fn is_shortest_line<const W: usize>(
     alloc: Global,
     graph: &GraphOf<W>,
-    line: &Line,
+    line: &ReportLine<'_>,
 ) -> Result<bool, Memory>
     ensures { IfOk result (λ fit. IsTrue fit
-        ↔ IsShortestLine (adjacent graph.now) (plain_line line.now)) }
+        ↔ IsShortestLine (adjacent graph.now) (plain_report_line line.now)) }
 {
-    match line {
+    let ReportLine::Plain(plain) = line else {
+        return Ok(false);
+    };
+    match plain {
         Line::Oriented(arcs) => is_least_edge_orientation(alloc, graph, arcs),
         Line::Forced(chain) => is_shortest_chain(alloc, graph, chain),
         _ => Ok(false),
@@ -114,11 +125,15 @@ fn is_shortest_chain<const W: usize>(
 fn is_model_line<const W: usize>(
     alloc: Global,
     graph: &GraphOf<W>,
-    line: &Line,
+    line: &ReportLine<'_>,
 ) -> Result<bool, Memory>
-    ensures { IfOk result (λ fit. IsTrue fit ↔ IsModelLine graph.now (plain_line line.now)) }
+    ensures { IfOk result (λ fit. IsTrue fit
+        ↔ IsModelLine graph.now (plain_report_line line.now)) }
 {
-    match line {
+    let ReportLine::Plain(plain) = line else {
+        return Ok(false);
+    };
+    match plain {
         Line::Orders(first, second) => realise(alloc, graph, first, second),
         Line::ForcedIn(chain) => is_forcing_chain(alloc, graph, Side::Edges, chain),
         Line::ForcedInComplement(chain) => is_forced_in_complement(alloc, graph, chain),
@@ -152,15 +167,16 @@ fn has_forcing_chain<const W: usize>(alloc: Global, graph: &GraphOf<W>) -> Resul
     }
 }
 
-// Whether the line reports the first state of a session. Condition: the line is well-formed.
+// Whether the line reports the first state of a session. Condition: the line's tree is well-formed.
 pub(crate) fn reports_state<const W: usize>(
     alloc: Global,
     mode: SessionMode,
     graph: &GraphOf<W>,
-    line: &Line,
+    line: &ReportLine<'_>,
 ) -> Result<bool, Memory>
-    requires { IsWellFormedLine (plain_line line.now) }
-    ensures { IfOk result (λ fit. IsTrue fit ↔ ReportsState mode graph.now (plain_line line.now)) }
+    requires { HasWellFormedTree (plain_report_line line.now) }
+    ensures { IfOk result (λ fit. IsTrue fit
+        ↔ ReportsState mode graph.now (plain_report_line line.now)) }
 {
     match mode {
         SessionMode::Edit => is_tree_line(alloc, graph, line),
@@ -188,25 +204,45 @@ pub(crate) fn is_word_and_state<const W: usize>(
 }
 
 // Whether the line tells of an induced P4 of the graph.
-fn is_path_line<const W: usize>(graph: &GraphOf<W>, line: &Line) -> bool
-    ensures { IsTrue result ↔ HasP4Line not_cograph graph.now (plain_line line.now) }
+fn is_path_line<const W: usize>(graph: &GraphOf<W>, line: &ReportLine<'_>) -> bool
+    ensures { IsTrue result ↔ HasP4Line not_cograph graph.now (plain_report_line line.now) }
 {
-    match line {
-        Line::NotCograph(p) => is_p4(graph, p),
-        _ => false,
+    match line.first_bar() {
+        Some(bar) => is_path(graph, &bar),
+        None => false,
     }
 }
 
+// Whether the bar bars the graph from being a state of a session of the mode.
+pub(crate) fn bars_state<const W: usize>(mode: SessionMode, graph: &GraphOf<W>, bar: &Bar) -> bool
+    ensures { IsTrue result ↔ IsBarred mode graph.now bar.now }
+{
+    match mode {
+        SessionMode::Edit => false,
+        SessionMode::Cograph => is_path(graph, bar),
+        SessionMode::Quiet => is_path(graph, bar),
+    }
+}
+
+// Whether the bar is an induced P4 of the graph.
+fn is_path<const W: usize>(graph: &GraphOf<W>, bar: &Bar) -> bool
+    ensures { IsTrue result ↔ IsPathOf graph.now bar.now }
+{
+    let Bar { kind, a, b, c, d } = *bar;
+    kind == BarKind::P4 && is_p4(graph, &P4 { a, b, c, d })
+}
+
 // Whether the line is the one behind all answers, where the graph is the last one. Condition: the
-// line is well-formed.
+// line's tree is well-formed.
 pub(crate) fn closes_items<const W: usize>(
     alloc: Global,
     mode: SessionMode,
     graph: &GraphOf<W>,
-    line: &Line,
+    line: &ReportLine<'_>,
 ) -> Result<bool, Memory>
-    requires { IsWellFormedLine (plain_line line.now) }
-    ensures { IfOk result (λ fit. IsTrue fit ↔ ClosesItems mode graph.now (plain_line line.now)) }
+    requires { HasWellFormedTree (plain_report_line line.now) }
+    ensures { IfOk result (λ fit. IsTrue fit
+        ↔ ClosesItems mode graph.now (plain_report_line line.now)) }
 {
     match mode {
         SessionMode::Edit => Ok(is_end(line)),
@@ -219,15 +255,15 @@ pub(crate) fn closes_items<const W: usize>(
 fn is_opening_line<const W: usize>(
     alloc: Global,
     graph: &GraphOf<W>,
-    line: &Line,
+    line: &ReportLine<'_>,
 ) -> Result<bool, Memory>
-    requires { IsWellFormedLine (plain_line line.now) }
-    ensures { IfOk result (λ fit. IsTrue fit ↔ IsOpeningLine graph.now (plain_line line.now)) }
+    requires { HasWellFormedTree (plain_report_line line.now) }
+    ensures { IfOk result (λ fit. IsTrue fit
+        ↔ IsOpeningLine graph.now (plain_report_line line.now)) }
 {
     match line {
-        Line::Tree(tree) => is_tree_of_cograph(alloc, graph, tree),
-        Line::NotCograph(p) => Ok(is_p4(graph, p)),
-        _ => Ok(false),
+        ReportLine::Plain(Line::Tree(tree)) => is_tree_of_cograph(alloc, graph, tree),
+        _ => Ok(is_path_line(graph, line)),
     }
 }
 

@@ -17,6 +17,7 @@ mod judgements;
 pub mod laws;
 mod line_judge;
 mod piece_compare;
+mod report_line;
 mod session_checker;
 mod text_fit;
 mod text_graph;

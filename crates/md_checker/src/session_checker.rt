@@ -5,19 +5,19 @@ ghost use Rattle.md_script.specs.declared.item.Item.{Item};
 ghost use Rattle.md_script.specs.Items.{HasItemNamesBelow};
 ghost use Rattle.md_script.specs.Histories.{HistoryFits};
 ghost use Rattle.md_report.specs.declared.line.SessionMode.TheVariants.{Quiet};
-ghost use Rattle.md_report.specs.Lines.{plain_line};
-ghost use Rattle.md_report.specs.WellFormedLines.{IsWellFormedLine};
 ghost use Rattle.md_report.specs.Sessions.{State, first_state};
 ghost use Rattle.md_report.specs.ItemLines.{IsAllowed};
 ghost use Rattle.md_report.specs.Places.{before_session, at_state, at_items, after_end, closed_place, items_behind, tells_bar, MayCome, next_place};
 ghost use Rattle.md_report.specs.Steps.{state_of};
 ghost use Rattle.md_checker.specs.declared.session_checker.SessionDue.TheVariants.{Head, State as StateDue, Items};
+ghost use Rattle.md_checker.specs.ReportLines.{plain_report_line, HasWellFormedTree};
 ghost use Rattle.md_checker.specs.Standing.{session_place, IsStep, MayTell, Takes};
 
 use crate::cograph_test::is_cograph;
 use crate::fixed_lines::{is_end, is_head};
 use crate::item_answers::{answers_item, applies_by_text};
 use crate::judgements::{closes_items, is_word_and_state, reports_state};
+use crate::report_line::ReportLine;
 use md_graph::{GraphOf, Memory};
 use md_report::{Line, SessionMode};
 use md_script::{HistoryOf, Item, Script};
@@ -165,13 +165,14 @@ impl<const W: usize> SessionChecker<W> {
         }
     }
 
-    // Whether the line may come; it is then taken, and else nothing changes.
-    pub(crate) fn feed(&mut self, alloc: Global, line: &Line) -> Result<bool, Memory>
-        requires { IsWellFormedLine (plain_line line.now) }
+    // Whether the line may come; it is then taken, and else nothing changes. Condition: the line's
+    // tree is well-formed.
+    pub(crate) fn feed(&mut self, alloc: Global, line: &ReportLine<'_>) -> Result<bool, Memory>
+        requires { HasWellFormedTree (plain_report_line line.now) }
         ensures may { IfOk result (λ taken.
-            IsTrue taken ↔ MayCome self.old (plain_line line.now)) }
+            IsTrue taken ↔ MayCome self.old (plain_report_line line.now)) }
         ensures next { IfOk result (λ taken. self.new
-            ≡ (if taken then next_place self.old (plain_line line.now) else self.old)) }
+            ≡ (if taken then next_place self.old (plain_report_line line.now) else self.old)) }
         ensures stays { IsErr result → self.new ≡ self.old }
     {
         match self.due {
@@ -218,8 +219,8 @@ impl<const W: usize> SessionChecker<W> {
 
 // Where the line leads behind the head of a session, the graph being the first state; graph and
 // history are then those behind the line. None where the line may not come; both stay then, and for
-// want of memory. Conditions: the line is well-formed, the names in the script are below `64 * W`,
-// and the history has no item.
+// want of memory. Conditions: the line's tree is well-formed, the names in the script are below
+// `64 * W`, and the history has no item.
 fn opens<const W: usize>(
     alloc: Global,
     mode: SessionMode,
@@ -227,17 +228,17 @@ fn opens<const W: usize>(
     history: &mut HistoryOf<W>,
     script: &Script,
     answered: u64,
-    line: &Line,
+    line: &ReportLine<'_>,
 ) -> Result<Option<Step>, Memory>
-    requires line { IsWellFormedLine (plain_line line.now) }
+    requires line { HasWellFormedTree (plain_report_line line.now) }
     requires names { All (HasItemNamesBelow (64 * W)) script.now }
     requires room { answered ≤ length script.now }
     requires first { history.old.items ≡ [] }
     ensures leads { IfOk result (λ next. IfSome next (λ step. IsStep (64 * W)
-        (at_state mode graph.old (drop answered script.now)) (plain_line line.now) step mode
+        (at_state mode graph.old (drop answered script.now)) (plain_report_line line.now) step mode
         graph.new history.new.items script.now)) }
     ensures none { IfOk result (λ next. IfNone next ((MayCome
-        (at_state mode graph.old (drop answered script.now)) (plain_line line.now) → ⊥)
+        (at_state mode graph.old (drop answered script.now)) (plain_report_line line.now) → ⊥)
         × (graph.new ≡ graph.old) × (history.new.items ≡ history.old.items))) }
     ensures stays { IsErr result → graph.new ≡ graph.old }
     ensures kept { IsErr result → history.new.items ≡ history.old.items }
@@ -249,8 +250,8 @@ fn opens<const W: usize>(
     }
 }
 
-// The same in a mode whose reports tell of the first state. Conditions: the line is well-formed,
-// the history has no item, and the mode is not quiet.
+// The same in a mode whose reports tell of the first state. Conditions: the line's tree is
+// well-formed, the history has no item, and the mode is not quiet.
 fn opens_told<const W: usize>(
     alloc: Global,
     mode: SessionMode,
@@ -258,17 +259,17 @@ fn opens_told<const W: usize>(
     history: &HistoryOf<W>,
     script: &Script,
     answered: u64,
-    line: &Line,
+    line: &ReportLine<'_>,
 ) -> Result<Option<Step>, Memory>
-    requires line { IsWellFormedLine (plain_line line.now) }
+    requires line { HasWellFormedTree (plain_report_line line.now) }
     requires room { answered ≤ length script.now }
     requires first { history.now.items ≡ [] }
     requires told { mode ≡ Quiet → ⊥ }
     ensures leads { IfOk result (λ next. IfSome next (λ step. IsStep (64 * W)
-        (at_state mode graph.now (drop answered script.now)) (plain_line line.now) step mode
+        (at_state mode graph.now (drop answered script.now)) (plain_report_line line.now) step mode
         graph.now history.now.items script.now)) }
     ensures none { IfOk result (λ next. IfNone next (MayCome
-        (at_state mode graph.now (drop answered script.now)) (plain_line line.now) → ⊥)) }
+        (at_state mode graph.now (drop answered script.now)) (plain_report_line line.now) → ⊥)) }
 {
     if !reports_state(alloc, mode, graph, line)? {
         return Ok(None);
@@ -280,11 +281,11 @@ fn opens_told<const W: usize>(
 }
 
 // How many items are answered or need no answer behind the line of the first state.
-fn answered_behind(script: &Script, answered: u64, line: &Line) -> u64
+fn answered_behind(script: &Script, answered: u64, line: &ReportLine<'_>) -> u64
     requires { answered ≤ length script.now }
     ensures room { result ≤ length script.now }
     ensures left { drop result script.now
-        ≡ items_behind (plain_line line.now) (drop answered script.now) }
+        ≡ items_behind (plain_report_line line.now) (drop answered script.now) }
 {
     if ends_session(line) {
         return script.len();
@@ -292,7 +293,7 @@ fn answered_behind(script: &Script, answered: u64, line: &Line) -> u64
     answered
 }
 
-// The same in mode quiet, where a cograph has no line of its own. Conditions: the line is
+// The same in mode quiet, where a cograph has no line of its own. Conditions: the line's tree is
 // well-formed, the names in the script are below `64 * W`, and the history has no item.
 fn opens_quiet<const W: usize>(
     alloc: Global,
@@ -300,17 +301,17 @@ fn opens_quiet<const W: usize>(
     history: &mut HistoryOf<W>,
     script: &Script,
     answered: u64,
-    line: &Line,
+    line: &ReportLine<'_>,
 ) -> Result<Option<Step>, Memory>
-    requires line { IsWellFormedLine (plain_line line.now) }
+    requires line { HasWellFormedTree (plain_report_line line.now) }
     requires names { All (HasItemNamesBelow (64 * W)) script.now }
     requires room { answered ≤ length script.now }
     requires first { history.old.items ≡ [] }
     ensures leads { IfOk result (λ next. IfSome next (λ step. IsStep (64 * W)
-        (at_state Quiet graph.old (drop answered script.now)) (plain_line line.now) step Quiet
-        graph.new history.new.items script.now)) }
+        (at_state Quiet graph.old (drop answered script.now)) (plain_report_line line.now) step
+        Quiet graph.new history.new.items script.now)) }
     ensures none { IfOk result (λ next. IfNone next ((MayCome
-        (at_state Quiet graph.old (drop answered script.now)) (plain_line line.now) → ⊥)
+        (at_state Quiet graph.old (drop answered script.now)) (plain_report_line line.now) → ⊥)
         × (graph.new ≡ graph.old) × (history.new.items ≡ history.old.items))) }
     ensures stays { IsErr result → graph.new ≡ graph.old }
     ensures kept { IsErr result → history.new.items ≡ history.old.items }
@@ -330,8 +331,8 @@ fn opens_quiet<const W: usize>(
 
 // Where the line leads at the items, the graph being the one that stands; graph and history are
 // then those behind the line. None where the line may not come; both stay then, and for want of
-// memory. Conditions: the line is well-formed, the names in the script are below `64 * W`, the
-// history fits, and where an item is left the graph may be a state of a session of the mode.
+// memory. Conditions: the line's tree is well-formed, the names in the script are below `64 * W`,
+// the history fits, and where an item is left the graph may be a state of a session of the mode.
 fn comes<const W: usize>(
     alloc: Global,
     mode: SessionMode,
@@ -339,19 +340,19 @@ fn comes<const W: usize>(
     history: &mut HistoryOf<W>,
     script: &Script,
     answered: u64,
-    line: &Line,
+    line: &ReportLine<'_>,
 ) -> Result<Option<Step>, Memory>
-    requires line { IsWellFormedLine (plain_line line.now) }
+    requires line { HasWellFormedTree (plain_report_line line.now) }
     requires names { All (HasItemNamesBelow (64 * W)) script.now }
     requires room { answered ≤ length script.now }
     requires fits { HistoryFits (64 * W) (IsAllowed mode) graph.old history.old.items }
     requires allowed { (drop answered script.now ≡ [] → ⊥) → IsAllowed mode graph.old }
     ensures leads { IfOk result (λ next. IfSome next (λ step. IsStep (64 * W)
         (at_items mode (state_of graph.old history.old.items) (drop answered script.now))
-        (plain_line line.now) step mode graph.new history.new.items script.now)) }
+        (plain_report_line line.now) step mode graph.new history.new.items script.now)) }
     ensures none { IfOk result (λ next. IfNone next ((MayCome
         (at_items mode (state_of graph.old history.old.items) (drop answered script.now))
-        (plain_line line.now) → ⊥)
+        (plain_report_line line.now) → ⊥)
         × (graph.new ≡ graph.old) × (history.new.items ≡ history.old.items))) }
     ensures stays { IsErr result → graph.new ≡ graph.old }
     ensures kept { IsErr result → history.new.items ≡ history.old.items }
@@ -407,11 +408,12 @@ fn due_behind_items(mode: SessionMode) -> SessionDue
 }
 
 // Whether no item is answered behind the line of the first state.
-fn ends_session(line: &Line) -> bool
-    ensures { result ≡ tells_bar (plain_line line.now) }
+fn ends_session(line: &ReportLine<'_>) -> bool
+    ensures { result ≡ tells_bar (plain_report_line line.now) }
 {
     match line {
-        Line::NotCograph(_) => true,
+        ReportLine::First(_) => true,
+        ReportLine::Plain(Line::NotCograph(_)) => true,
         _ => false,
     }
 }

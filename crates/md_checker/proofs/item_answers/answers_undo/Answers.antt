@@ -3,8 +3,8 @@ use Rattle.md_graph.specs.PlainGraph.{PlainGraph}
 use Rattle.md_script.specs.declared.edit.Edit.{Edit}
 use Rattle.md_script.specs.Pasts.{taken_back, MayBack, AnyGraph}
 use Rattle.md_report.specs.ItemLines.{IsAllowed}
-use Rattle.md_report.specs.Lines.{plain_line}
 use Rattle.md_report.proofs.Stepping.{last_item}
+use Rattle.md_checker.specs.ReportLines.{plain_report_line}
 use Rattle.md_checker.proofs.Judged.{any_back, if_true, if_false, told_yes, told_no, judged_undo, unjudged_undo}
 use Rattle.md_checker.proofs.item_answers.answers_undo.Goals as goal
 
@@ -32,7 +32,7 @@ returns-then-is_true-clause-judged g c =
     let back = c.back_through.ensures.graph last.0 last.1 last.2 in
     let done = told_yes c.is_done_line-fit.result _ c.is_done_line-fit.ensures (c.is_true.ensures.0 c.if-is_true.true) in
     if_true c.is_done_line-fit.result c.is_true.result _ c.is_true.ensures c.if-is_true.true
-    (judged_undo (64 * g.row.W) c.args.mode c.args.graph.now c.args.history.now.items (plain_line c.args.line.now) c.take_item_back-then-is_true.new.graph _ c.requires.fits c.requires.allowed last.0 last.1 last.2 c.back_through.new.graph back done
+    (judged_undo (64 * g.row.W) c.args.mode c.args.graph.now c.args.history.now.items (plain_report_line c.args.line.now) c.take_item_back-then-is_true.new.graph _ c.requires.fits c.requires.allowed last.0 last.1 last.2 c.back_through.new.graph back done
     (c.take_item_back-then-is_true.ensures.graph last.0 last.1 last.2 ∙ ap (λ (k : PlainGraph). taken_back k last.0) same ∙ sym back) (c.take_item_back-then-is_true.ensures.items last.0 last.1 last.2))
 
 pub returns-clause-judged : goal.returns-clause-judged
@@ -41,7 +41,7 @@ returns-clause-judged g c =
     let again = c.back_through.ensures.again in
     let same : c.take_item_back.new.graph ≡ c.args.graph.now = c.take_item_back.ensures.graph again.0 [] again.1 ∙ again.3 in
     if_false c.is_done_line-fit.result c.is_true.result _ c.is_true.ensures c.if-is_true.false
-    (λ lacks. unjudged_undo (64 * g.row.W) c.args.mode c.args.graph.now c.args.history.now.items (plain_line c.args.line.now) c.take_item_back.new.graph c.args.history.now.items c.requires.fits c.requires.allowed last.0 last.1 last.2
+    (λ lacks. unjudged_undo (64 * g.row.W) c.args.mode c.args.graph.now c.args.history.now.items (plain_report_line c.args.line.now) c.take_item_back.new.graph c.args.history.now.items c.requires.fits c.requires.allowed last.0 last.1 last.2
     c.back_through.new.graph (c.back_through.ensures.graph last.0 last.1 last.2) (told_no c.is_done_line-fit.result _ c.is_done_line-fit.ensures lacks) same refl)
 
 pub returns-clause-stays : goal.returns-clause-stays
