@@ -284,6 +284,11 @@ class Definitions(unittest.TestCase):
             ("threshold", b"C`\n", b"", ["2k2 0 1 2 3"], None), ("threshold", b"C`\n", b"", ["2k2 1 0 2 3"], 2),
             ("threshold", b"C`\n", b"", ["2k2 0 1 3 2"], 2), ("threshold", b"C`\n", b"", ["2k2 2 3 0 1"], 2),
             ("threshold", b"Cl\n", b"", ["c4 0 1 2 3"], None), ("threshold", b"?\n", b"", ["t empty"], None),
+            ("threshold", b"?\n", b"+v 0\n", ["t empty", "ok 0"], None),
+            ("trivial", b"Bg\n", b"begin\n+v 3\n+v 4 0 2\n+e 0 2\ncommit\n",
+             ["t S(P(0,2),1)", "no edit 2 c4 0 1 2 4"], None),
+            ("threshold", b"Bg\n", b"begin\ncommit\nundo\nundo\n",
+             ["t S(P(0,2),1)", "ok S(P(0,2),1)", "ok S(P(0,2),1)", "no undo"], None),
         ]:
             report = "".join(line + "\n" for line in ["mdt " + mode, *lines, "end"]).encode()
             self.assertEqual(first_wrong_line(mode, read_graphs(graph), read_script(script), report), wrong,
