@@ -222,8 +222,7 @@ fn end_node<'a, K: Lettered, P: Paired, G: TextGraph<K, P, W>, const W: usize>(
         return Ok(None);
     };
     let space = &mut walk.space;
-    let Some(tail) =
-        past_end::<K, P, G, W>(alloc, graph, text, inner.kind, &names, heads, space)?
+    let Some(tail) = past_end::<K, P, G, W>(alloc, graph, text, inner.kind, &names, heads, space)?
     else {
         return Ok(None);
     };
@@ -350,11 +349,7 @@ fn may_stand<K: Lettered>(kind: K, least: &[u32]) -> bool
 }
 
 // The least name of a node, which is that of its first child where the children ascend.
-fn least_name<K: Lettered, const W: usize>(
-    kind: K,
-    least: &[u32],
-    names: &Set<W>,
-) -> Option<u32>
+fn least_name<K: Lettered, const W: usize>(kind: K, least: &[u32], names: &Set<W>) -> Option<u32>
     requires { 0 < length least.now }
     ensures { IfSome result (IsLeastNameIf (K.rules.sorts kind) least.now names.now) }
 {

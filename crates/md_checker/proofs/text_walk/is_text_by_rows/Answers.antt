@@ -19,7 +19,9 @@ loop-behind-smaller g c =
 pub returns : goal.returns
 returns g c =
     let w = c.loop-behind.walk in
-    record { text = λ t.
-    read_whole (is_spelling g.met.K.Lettered.laws g.met.P.Paired.laws) (g.G.TextGraph.view c.args.graph.now) c.args.text.now c.loop-behind.rest.now w.sets.items w.least.items w.roots.items w.opens.items w.seen
-    (subst (λ b. IsRead g.K.Lettered.rules g.P.Paired.rules (g.G.TextGraph.view c.args.graph.now) c.args.text.now c.loop-behind.rest.now b w) c.if-not-behind.false c.loop-behind.invariant)
-    (nil_from_length c.loop-behind.rest.now (grind (arith, c.is_empty.ensures, c.if-not-is_empty.false))) (c.is_whole.ensures.closed t) (c.is_whole.ensures.all t) }
+    record {
+      text = λ t.
+          read_whole (is_spelling g.met.K.Lettered.laws g.met.P.Paired.laws) (g.G.TextGraph.view c.args.graph.now) c.args.text.now c.loop-behind.rest.now w.sets.items w.least.items w.roots.items w.opens.items w.seen
+          (subst (λ b. IsRead g.K.Lettered.rules g.P.Paired.rules (g.G.TextGraph.view c.args.graph.now) c.args.text.now c.loop-behind.rest.now b w) c.if-not-behind.false c.loop-behind.invariant)
+          (nil_from_length c.loop-behind.rest.now (grind (arith, c.is_empty.ensures, c.if-not-is_empty.false))) (c.is_whole.ensures.closed t) (c.is_whole.ensures.all t);
+    }
