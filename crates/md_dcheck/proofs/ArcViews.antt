@@ -69,5 +69,5 @@ arcs_joined arc list i j less below =
         (λ t. in_listed directed_spelling_law.pairs arc list i j (of_listed (head_pairs directed_pairs arc list) i j t))
 
 -- a text that the comparison takes is that of the tree of strong modules
-pub text_told : {g : PlainDigraph} (text : List ℕ) (t : PlainDTree) → IsTextOf directed_kinds directed_pairs (digraph_view g) text t → HasTreeText g text
-text_told {g} text t is = (Some t, (fits_proof (has_arc_to g) g.vertices t is.canonical).0 (is.names_are, is.fits), is.spelled)
+pub text_told : (g : PlainDigraph) (text : List ℕ) (t : PlainDTree) → IsTextOf directed_kinds directed_pairs (digraph_view g) text t → HasTreeText g text
+text_told g text t is = (Some t, (fits_proof (has_arc_to g) g.vertices t is.canonical).0 (is.names_are, is.fits), is.spelled)

@@ -1,5 +1,6 @@
 //! Whether a text is that of the tree of strong modules of a directed graph. No tree is built.
-ghost use Rattle.std.specs.Prelude.{◌≡◌, true, IfOk, IsTrue};
+ghost use Rattle.std.specs.Prelude.{◌≡◌, ◌≤◌, true, IfOk, IsTrue};
+ghost use Rattle.md_graph.specs.declared.TheConstants.{WORDS};
 ghost use Rattle.md_digraph.specs.PlainDigraph.{has_arc_to};
 ghost use Rattle.md_checker.specs.HeadPairs.{head_pairs};
 ghost use Rattle.md_checker.specs.TextViews.{StandForChildren};
@@ -18,8 +19,10 @@ use md_graph::{Memory, Set};
 use std::alloc::Global;
 
 // A directed graph that a text is compared with.
+#[derive(Drop)]
 struct DigraphText<'a, const W: usize> {
     graph: &'a DigraphOf<W>,
+    ghost limit: { W ≤ WORDS },
 }
 
 impl<'a, const W: usize> TextGraph<DKind, DPair, W> for DigraphText<'a, W> {
@@ -28,14 +31,14 @@ impl<'a, const W: usize> TextGraph<DKind, DPair, W> for DigraphText<'a, W> {
     ghost view = { λ text. digraph_view text.graph.now };
 
     fn vertices(&self) -> &Set<W> {
-        let vertices = self.graph.vertices();
-        vertices.within_limit();
-        vertices
+        let graph = self.graph;
+        graph.vertices()
     }
 
     fn ahead(&self, v: u32) -> (&Set<W>, u32) {
-        let _vertices = self.graph.vertices();
-        (self.graph.successors(v), 0)
+        let graph = self.graph;
+        let _vertices = graph.vertices();
+        (graph.successors(v), 0)
     }
 
     fn is_fit_node(
@@ -45,12 +48,12 @@ impl<'a, const W: usize> TextGraph<DKind, DPair, W> for DigraphText<'a, W> {
         kind: DKind,
         heads: &[u32],
     ) -> Result<bool, Memory> {
-        let _vertices = self.graph.vertices();
+        let graph = self.graph;
         match kind {
-            DKind::Parallel => is_fit(alloc, self.graph, names, kind, &[], heads),
-            DKind::Series => is_fit(alloc, self.graph, names, kind, &[], heads),
-            DKind::Order => is_fit(alloc, self.graph, names, kind, &[], heads),
-            DKind::Prime => is_prime_fit(alloc, self.graph, names, heads),
+            DKind::Parallel => is_fit(alloc, graph, names, kind, &[], heads),
+            DKind::Series => is_fit(alloc, graph, names, kind, &[], heads),
+            DKind::Order => is_fit(alloc, graph, names, kind, &[], heads),
+            DKind::Prime => is_prime_fit(alloc, graph, names, heads),
         }
     }
 }

@@ -1,4 +1,4 @@
-use Rattle.std.proofs.Common.{rules, false, true, sym, subst}
+use Rattle.std.proofs.Common.{rules, sym, subst}
 use Rattle.md_tree.proofs.Stacking.{if_ok}
 use Rattle.md_checker.specs.TextViews.{IsFitView, listed_pairs}
 use Rattle.md_dtree.specs.DirectedSpelling.{directed_kinds, directed_pairs}
@@ -7,13 +7,13 @@ use Rattle.md_dcheck.proofs.ArcViews.{of_stand}
 use Rattle.md_dcheck.proofs.digraph_text.DigraphTextTextGraphDKindDPair.is_fit_node.Goals as goal
 
 pub is_fit-requires : goal.is_fit-requires
-is_fit-requires g c = (search rules, (search rules, of_stand c.args.self.now.graph.now.vertices true c.args.heads.now c.requires.heads))
+is_fit-requires g c = (search rules, (search rules, of_stand c.args.self.now.graph.now.vertices _ c.args.heads.now c.requires.heads))
 
 pub is_fit-requires-in-Series : goal.is_fit-requires-in-Series
-is_fit-requires-in-Series g c = (search rules, (search rules, of_stand c.args.self.now.graph.now.vertices true c.args.heads.now c.requires.heads))
+is_fit-requires-in-Series g c = (search rules, (search rules, of_stand c.args.self.now.graph.now.vertices _ c.args.heads.now c.requires.heads))
 
 pub is_fit-requires-in-Order : goal.is_fit-requires-in-Order
-is_fit-requires-in-Order g c = (search rules, (search rules, of_stand c.args.self.now.graph.now.vertices false c.args.heads.now c.requires.heads))
+is_fit-requires-in-Order g c = (search rules, (search rules, of_stand c.args.self.now.graph.now.vertices _ c.args.heads.now c.requires.heads))
 
 pub returns-in-Prime : goal.returns-in-Prime
 returns-in-Prime g c =
