@@ -23,12 +23,12 @@ split_at (q ∷ ps) p xs (a ∷ ls) bs e =
     ]
 
 -- there is no element in no list
-none_there : {X : Type 0} {A : Type 0} (ps : List X) (p : X) (xs : List X) → ps ++ p ∷ xs ≡ [] → A
+pub none_there : {X : Type 0} {A : Type 0} (ps : List X) (p : X) (xs : List X) → ps ++ p ∷ xs ≡ [] → A
 none_there [] p xs e = let h : p ∷ xs ≡ [] = e in absurd (cc)
 none_there (q ∷ ps) p xs e = let h : q ∷ (ps ++ p ∷ xs) ≡ [] = e in absurd (cc)
 
 -- a list is empty or has a last element
-last_of : {X : Type 0} (xs : List X) → (xs ≡ []) ⊎ ((ys : List X) × (y : X) × (xs ≡ ys ++ y ∷ []))
+pub last_of : {X : Type 0} (xs : List X) → (xs ≡ []) ⊎ ((ys : List X) × (y : X) × (xs ≡ ys ++ y ∷ []))
 last_of [] = inl refl
 last_of (x ∷ xs) = elim (last_of xs) [
   | inl none ↦ inr ([], x, ap (λ l. x ∷ l) none)

@@ -14,7 +14,7 @@ ghost use Rattle.md_local.specs.Substitution.{IsOverQuotient};
 
 use crate::hanging::substitute;
 use crate::merging::{first_leaf, join, number_below};
-use crate::part::decompose_part;
+use crate::part::{copied_pairs, decompose_part};
 use md_graph::{GraphOf, Memory, Set, Steps};
 use md_tree::Tree;
 use std::alloc::Global;
@@ -100,6 +100,7 @@ fn grow<L: Ledger, const W: usize>(
                     right,
                 });
             }
+            let edges = copied_pairs(alloc, edges)?;
             let tree = join(alloc, *kind, edges, below)?;
             Ok(Grown {
                 growth: Growth::Whole(tree),
@@ -225,7 +226,7 @@ fn fresh<L: Ledger, const W: usize>(
     let _vertices = graph.vertices();
     let names = vertices_of(graph, &hanging, u, v);
     match decompose_part(alloc, graph, &names, work)? {
-        Some(quotient) => substitute(alloc, &quotient, hanging),
+        Some(quotient) => substitute(alloc, quotient, hanging),
         None => unreachable!(),
     }
 }

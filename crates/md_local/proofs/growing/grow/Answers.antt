@@ -4,7 +4,7 @@ use Rattle.md_tree.specs.Plain.{plain, row_of_children}
 use Rattle.md_tree.proofs.Plain.{plain_is_leaf, plain_is_node}
 use Rattle.md_local.specs.declared.growing.Grown.{Grown}
 use Rattle.md_local.specs.declared.growing.Growth.TheVariants.{Whole, Hanging}
-use Rattle.md_local.specs.Growing.{IsGrownFrom, are_apart}
+use Rattle.md_local.specs.Growing.{IsGrownFrom, are_apart, IsJoined}
 use Rattle.md_local.proofs.Turns.{node_joined, node_fresh, node_alone, apart_steps}
 use Rattle.md_local.proofs.QuotientNames.{more_steps}
 use Rattle.md_local.proofs.growing.grow.Goals as goal
@@ -54,4 +54,5 @@ returns-in_ok-tree-in-Node-2-clause-grown g c =
     c.in_ok-tree-in-Node-2.tree refl (c.some_left-left.ensures ∙ ap (list_any (λ (x : Grown). x.left)) c.deref.ensures.value) (c.some_right-right.ensures ∙ ap (list_any (λ (x : Grown). x.right)) c.deref-in-Node.ensures.value)
     (sym (ap are_apart c.deref-in-Node-2.ensures.value) ∙ sym c.ends_apart-apart.ensures ∙ c.if-apart.false)
     (sym c.is_one_alone.ensures ∙ c.if-is_one_alone.false)
-    (map plain c.in_ok-below-in-Node.below.items) c.in_ok-below-in-Node.ensures c.in_ok-tree-in-Node-2.ensures
+    (map plain c.in_ok-below-in-Node.below.items) c.in_ok-below-in-Node.ensures
+    (subst (λ l. IsJoined c.in-Node.kind l (map plain c.in_ok-below-in-Node.below.items) (plain c.in_ok-tree-in-Node-2.tree)) c.in_ok-edges-in-Node.ensures c.in_ok-tree-in-Node-2.ensures)
