@@ -67,7 +67,7 @@ module _ {K P : Type 0} where
       | inr found ↦ behind t found.0 p xs found.1
     ]
 
-  rows-append : (xs ys : List (PlainTreeOf K P)) → row_nodes_backward (row (xs ++ ys)) ≡ row_nodes_backward (row ys) ++ row_nodes_backward (row xs)
+  pub rows-append : (xs ys : List (PlainTreeOf K P)) → row_nodes_backward (row (xs ++ ys)) ≡ row_nodes_backward (row ys) ++ row_nodes_backward (row xs)
   rows-append [] ys = sym (append-nil (row_nodes_backward (row ys)))
   rows-append (x ∷ xs) ys = ap (λ l. l ++ nodes_backward x) (rows-append xs ys) ∙ append_assoc (row_nodes_backward (row ys)) (row_nodes_backward (row xs)) (nodes_backward x)
 
@@ -111,7 +111,7 @@ module _ {K P : Type 0} where
       behind t ps p (row_nodes_backward (row ts)) (sym (append_assoc ps (p ∷ []) (row_nodes_backward (row ts))) ∙ ap (λ l. l ++ row_nodes_backward (row ts)) (sym pop) ∙ so) in
       ends_with (below_node p) ts more.0 more.1
 
-  own_nodes : (p : PlainTreeOf K P) → nodes_backward p ≡ p ∷ row_nodes_backward (row (below_node p))
+  pub own_nodes : (p : PlainTreeOf K P) → nodes_backward p ≡ p ∷ row_nodes_backward (row (below_node p))
   own_nodes (leaf v) = refl
   own_nodes (node k cs es) = ap (λ ts. node k cs es ∷ row_nodes_backward ts) (sym (row_listed cs))
 
@@ -135,6 +135,3 @@ module _ {K P : Type 0} where
         | inl empty ↦ us.1 ∙ ap (λ l. l ++ t ∷ []) empty
         | inr last ↦ no_nodes last.1 (row_nodes_backward (row last.0)) (sym (rows-append last.0 (last.1 ∷ [])) ∙ ap (λ l. row_nodes_backward (row l)) (sym last.2) ∙ rest)
       ]
-
-pub plain_last : {K P : Type 0} (nodes left : List (Bor (TreeOf K P))) (r : Bor (TreeOf K P)) → nodes ≡ left ++ r ∷ [] → map plain_at nodes ≡ map plain_at left ++ plain_at r ∷ []
-plain_last nodes left r pop = ap (map plain_at) pop ∙ map-append plain_at left (r ∷ [])

@@ -7,6 +7,7 @@ pub mod laws;
 mod merging;
 mod part;
 mod rebuilding;
+mod walking;
 
 pub use part::{copy_tree, decompose_part};
 pub use rebuilding::rebuild;

@@ -1,5 +1,5 @@
 //! A node over trees, of which some are merged into it.
-ghost use Rattle.std.specs.Prelude.{◌≡◌, ◌++◌, map, IfOk, length};
+ghost use Rattle.std.specs.Prelude.{◌≡◌, ◌++◌, map, IfOk};
 ghost use Rattle.std.specs.List.{list_any};
 ghost use Rattle.md_tree.specs.Heads.{head};
 ghost use Rattle.md_tree.specs.Parts.{below_node};
@@ -18,16 +18,6 @@ pub(crate) fn is_node(tree: &Tree) -> bool
     match tree {
         Tree::Leaf(_) => false,
         Tree::Node(_, _, _) => true,
-    }
-}
-
-// How many children a node has.
-pub(crate) fn number_below(node: &Tree) -> usize
-    ensures { result ≡ length (below_node (plain node.now)) }
-{
-    match node {
-        Tree::Leaf(_) => 0,
-        Tree::Node(_, children, _) => children.len() as usize,
     }
 }
 
