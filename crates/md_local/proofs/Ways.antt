@@ -1,17 +1,20 @@
 -- Walks over a tree: the way to the node that a walk is in, and what is still ahead.
-use Rattle.std.proofs.Common.{◌≡◌, ℕ, ◌+◌, ◌<◌, ◌≤◌, Bool, List, [], ◌∷◌, ◌++◌, length, map, append_assoc, append-nil, refl, sym, ◌∙◌, ap, subst, inl, arith}
+use Rattle.std.proofs.Common.{◌≡◌, ℕ, ◌+◌, ◌<◌, ◌≤◌, Bool, List, [], ◌∷◌, ◌++◌, length, map, append_assoc, append-nil, refl, sym, ◌∙◌, ap, subst, inl, arith, Vec, Global}
 use Rattle.std.proofs.lemmas.List.Sums.{sum_by-cons, sum_by-append}
 use Rattle.std.specs.List.{sum_by}
 use Rattle.md_graph.specs.PlainGraph.{PlainGraph}
 use Rattle.md_text.proofs.Lists.{In, in_right}
 use Rattle.md_tree.specs.declared.Kind.{Kind}
 use Rattle.md_tree.specs.declared.Pair.{Pair}
-use Rattle.md_tree.specs.declared.TreeOf.{TreeOf, Leaf}
+use Rattle.md_tree.specs.declared.ChildrenOf.{ChildrenOf, roll-ChildrenOf}
+use Rattle.md_tree.specs.declared.PairsOf.{PairsOf}
+use Rattle.md_tree.specs.declared.TreeOf.{TreeOf, Leaf, Node}
 use Rattle.md_tree.specs.Trees.{PlainTree, leaf, node, row}
 use Rattle.md_tree.specs.NodeLists.{nodes_backward, row_nodes_backward}
 use Rattle.md_tree.specs.Parts.{listed, below_node}
-use Rattle.md_tree.specs.Plain.{plain}
-use Rattle.md_tree.proofs.Plain.{plain_is_leaf}
+use Rattle.md_tree.specs.Plain.{plain, trees_of}
+use Rattle.md_tree.proofs.Plain.{plain_is_leaf, plain_is_node, plain-node}
+use Rattle.md_tree.proofs.Stacking.{map_one_more}
 use Rattle.md_tree.proofs.Nodes.{IsChild}
 use Rattle.md_tree.proofs.Folding.{row_listed}
 use Rattle.md_local.specs.declared.walking.Open.{Open}
@@ -19,6 +22,7 @@ use Rattle.md_local.specs.Growing.{IsOld}
 use Rattle.md_local.specs.Walks.{IsIn, IsAbove, Leads, IsWay, HasPassed, HasMore, ahead_in, ahead}
 use Rattle.md_local.proofs.Nested.{none_there, rows-append, own_nodes}
 use Rattle.md_local.proofs.Ordering.{child_of_in}
+use Rattle.md_local.proofs.Placing.{node_below}
 use Rattle.md_local.proofs.Turns.{old_child}
 
 -- ---- the way
@@ -103,6 +107,22 @@ pub pass_more : (all ts : List PlainTree) (xs others : List (TreeOf Kind Pair)) 
     all ≡ (ts ++ leaf x ∷ []) ++ map plain others
 pass_more all ts xs others first x so split is =
     so ∙ ap (λ l. ts ++ map plain l) split ∙ ap (λ p. ts ++ p ∷ map plain others) (plain_is_leaf first x is) ∙ sym (append_assoc ts (leaf x ∷ []) (map plain others))
+
+-- ---- copies
+
+pub leaf_copied : (x y : ℕ) (us ts : List PlainTree) (xs ys : List (TreeOf Kind Pair)) → map plain xs ≡ us ++ ts → x ≡ y → ys ≡ xs ++ Leaf x ∷ [] → map plain ys ≡ us ++ (ts ++ leaf y ∷ [])
+leaf_copied x y us ts xs ys so same push =
+    map_one_more plain ys xs (Leaf x) push ∙ ap (λ p. map plain xs ++ p ∷ []) (plain_is_leaf (Leaf x) x refl ∙ ap leaf same) ∙ ap (λ l. l ++ leaf y ∷ []) so
+    ∙ append_assoc us ts (leaf y ∷ [])
+
+pub leaf_copy : (t : TreeOf Kind Pair) (x : ℕ) → t ≡ Leaf x → (copy : TreeOf Kind Pair) → copy ≡ Leaf x → plain copy ≡ plain t
+leaf_copy t x is copy same = ap plain (same ∙ sym is)
+
+pub node_copy : (t : TreeOf Kind Pair) (k : Kind) (cs : ChildrenOf Kind Pair) (ps qs : PairsOf Pair) (list : Vec (TreeOf Kind Pair) Global) → t ≡ Node k cs ps → map plain list.items ≡ below_node (plain t) →
+    qs.list.items ≡ ps.list.items → plain (Node k (roll-ChildrenOf _ _ (record { list = list })) qs) ≡ plain t
+node_copy t k cs ps qs list is all same =
+    plain-node k (roll-ChildrenOf _ _ (record { list = list })) qs
+    ∙ ap (λ l. node k (row l) qs.list.items) (all ∙ node_below t k cs ps is) ∙ ap (node k (row (map plain (trees_of cs)))) same ∙ sym (plain_is_node t k cs ps is)
 
 -- ---- what is ahead
 

@@ -1,7 +1,11 @@
 -- Walks over a tree: the nodes that a walk is in, and what is known of their children that were looked at.
 -- Source: depth-first search, as in any textbook of algorithms.
-use Rattle.std.specs.Prelude.{◌≡◌, ◌+◌, ℕ, List, [], ◌∷◌, ◌++◌, map}
+use Rattle.std.specs.Prelude.{◌≡◌, ◌+◌, ℕ, List, [], ◌∷◌, ◌++◌, map, Vec}
+use Rattle.std.specs.Global.{Global}
 use Rattle.std.specs.List.{sum_by}
+use Rattle.md_tree.specs.declared.Kind.{Kind}
+use Rattle.md_tree.specs.declared.Pair.{Pair}
+use Rattle.md_tree.specs.declared.TreeOf.{TreeOf}
 use Rattle.md_tree.specs.Trees.{PlainTree, row}
 use Rattle.md_tree.specs.NodeLists.{row_nodes_backward}
 use Rattle.md_tree.specs.Parts.{below_node}
@@ -64,3 +68,12 @@ turns_ahead fs f = ahead (λ t. 1) (λ t. 2) fs f
 
 abbrev pub turns_still_ahead : {B R : Type 0} → List (Open B) → Turn B R → ℕ
 turns_still_ahead fs turn = still_ahead (λ t. 1) (λ t. 2) fs turn
+
+-- ---- the walk that copies
+
+-- the trees that were copied so far
+abbrev pub AreCopies : List PlainTree → Vec (TreeOf Kind Pair) Global → Type 0
+AreCopies ts copies = map plain copies.items ≡ ts
+
+abbrev pub IsCopy : PlainTree → TreeOf Kind Pair → Type 0
+IsCopy t copy = plain copy ≡ t

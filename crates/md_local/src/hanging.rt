@@ -15,6 +15,9 @@ use md_graph::Memory;
 use md_tree::{Part, Tree};
 use std::alloc::Global;
 
+// A prime quotient has a part for each tree, for each of the two ends, and for its root.
+const PARTS_BESIDE: usize = 3;
+
 // The tree with the trees in place of its leaves: in place of each leaf the tree whose head has the
 // leaf's name, if there is one. Where each of the trees is a leaf, the tree is that already.
 pub(crate) fn substitute(alloc: Global, quotient: Tree, hanging: Vec<Tree>) -> Result<Tree, Memory>
@@ -26,8 +29,9 @@ pub(crate) fn substitute(alloc: Global, quotient: Tree, hanging: Vec<Tree>) -> R
     if !some_node(&hanging) {
         return Ok(quotient);
     }
+    let room = hanging.len().saturating_add(PARTS_BESIDE);
     let places = places_of(alloc, hanging)?;
-    let parts = parts_of_tree(alloc, quotient)?;
+    let parts = parts_of_tree(alloc, quotient, room)?;
     put_together(alloc, parts, places)
 }
 

@@ -1,4 +1,4 @@
-//! The tree of a part of a graph, and an equal tree.
+//! The tree of a part of a graph, and the parts of a tree.
 ghost use Rattle.std.specs.Prelude.{◌≡◌, ◌+◌, ◌++◌, ◌∷◌, [], map, IfOk};
 ghost use Rattle.std.specs.FinSet.{len};
 ghost use Rattle.md_graph.specs.PlainGraph.{adjacent};
@@ -9,7 +9,7 @@ ghost use Rattle.md_tree.specs.StrongTrees.{IsTree};
 
 use md_decompose::decompose_within;
 use md_graph::{GraphOf, Memory, Set, Steps};
-use md_tree::{Part, QuotientEdges, Tree, build, nodes_of};
+use md_tree::{Part, QuotientEdges, Tree};
 use std::alloc::Global;
 use std::mem;
 use std::sync::ledger::Ledger;
@@ -34,32 +34,6 @@ pub fn decompose_part<L: Ledger, const W: usize>(
     decompose_within(alloc, graph, names)
 }
 
-/// A tree that equals another one. No call nests as deep as the tree. Errors: want of memory.
-pub fn copy_tree(alloc: Global, tree: &Tree) -> Result<Tree, Memory>
-    ensures copy { IfOk result (λ copy. plain copy ≡ plain tree.now) }
-{
-    let nodes = nodes_of(alloc, tree)?;
-    let mut parts = Vec::with_capacity(alloc, nodes.len())?;
-    for node in nodes {
-        let part = part_of_node(alloc, node)?;
-        parts.push_reserved(part);
-    }
-    build(alloc, parts)
-}
-
-// A node of a tree without those below it.
-fn part_of_node(alloc: Global, node: &Tree) -> Result<Part, Memory>
-    ensures { IfOk result (λ part. plain_part part ≡ part_of (plain node.now)) }
-{
-    match node {
-        Tree::Leaf(name) => Ok(Part::Leaf(*name)),
-        Tree::Node(kind, children, edges) => {
-            let edges = copied_pairs(alloc, edges)?;
-            Ok(Part::Node(*kind, children.len(), edges))
-        }
-    }
-}
-
 // Equal pairs. `from_clones` goes over them with several in each turn, `from_slice` one by one.
 pub(crate) fn copied_pairs(alloc: Global, edges: &QuotientEdges) -> Result<QuotientEdges, Memory>
     ensures { IfOk result (λ copy. copy.list.items ≡ edges.now.list.items) }
@@ -69,12 +43,12 @@ pub(crate) fn copied_pairs(alloc: Global, edges: &QuotientEdges) -> Result<Quoti
 }
 
 // The parts of a tree, which is taken apart: each node before its children, and these from the last
-// to the first.
-pub(crate) fn parts_of_tree(alloc: Global, tree: Tree) -> Result<Vec<Part>, Memory>
+// to the first. Room for `room` of them is taken at once.
+pub(crate) fn parts_of_tree(alloc: Global, tree: Tree, room: usize) -> Result<Vec<Part>, Memory>
     ensures { IfOk result (λ parts. map plain_part parts.items ≡ parts_of (plain tree)) }
 {
-    let mut parts = Vec::new(alloc);
-    let mut waiting = Vec::new(alloc);
+    let mut parts = Vec::with_capacity(alloc, room)?;
+    let mut waiting = Vec::with_capacity(alloc, room)?;
     waiting.push(tree)?;
     while let Some(next) = waiting.pop() {
         take_apart(alloc, next, &mut parts, &mut waiting)?;

@@ -8,8 +8,8 @@ use Rattle.md_local.proofs.part.parts_of_tree.Goals as goal
 
 pub loop-next-init : goal.loop-next-init
 loop-next-init c =
-    apart_begin _ _ (plain c.args.tree) (ap (map plain_part) c.new-parts.ensures.items)
-    (ap (map plain) (c.in_ok-push.ensures.items ∙ ap (λ xs. xs ++ c.args.tree ∷ []) c.new-waiting.ensures.items))
+    apart_begin _ _ (plain c.args.tree) (ap (map plain_part) c.in_ok-parts.ensures.items)
+    (ap (map plain) (c.in_ok-push.ensures.items ∙ ap (λ xs. xs ++ c.args.tree ∷ []) c.in_ok-waiting.ensures.items))
 
 pub loop-next-preserved : goal.loop-next-preserved
 loop-next-preserved c =
