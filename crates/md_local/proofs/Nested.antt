@@ -1,10 +1,8 @@
 -- The nodes of a tree, read from the last to the first: behind each come those below it.
-use Rattle.std.proofs.Common.{◌≡◌, ◌⊎◌, List, [], ◌∷◌, ◌++◌, map, refl, sym, ◌∙◌, ap, append_assoc, append-nil, inl, inr}
-use Rattle.std.proofs.lemmas.List.{append_cancel_left, map-append}
-use Rattle.std.specs.Borrow.{Bor}
-use Rattle.md_tree.specs.declared.TreeOf.{TreeOf}
+use Rattle.std.proofs.Common.{◌≡◌, ◌⊎◌, List, [], ◌∷◌, ◌++◌, refl, sym, ◌∙◌, ap, append_assoc, append-nil, inl, inr}
+use Rattle.std.proofs.lemmas.List.{append_cancel_left}
 use Rattle.md_tree.specs.Trees.{PlainTreeOf, leaf, node, PlainTreesOf, no_tree, one_more, row}
-use Rattle.md_tree.specs.Parts.{below_node, plain_at}
+use Rattle.md_tree.specs.Parts.{below_node}
 use Rattle.md_tree.specs.NodeLists.{nodes_backward, row_nodes_backward}
 use Rattle.md_tree.proofs.Folding.{row_listed}
 

@@ -1,8 +1,5 @@
-use Rattle.std.proofs.Common.{[], ◌∷◌, ◌++◌, map, append_assoc, ◌∙◌, ap}
-use Rattle.md_tree.specs.Plain.{plain}
+use Rattle.std.proofs.Common.{[], ◌∷◌, ◌++◌}
 use Rattle.md_tree.specs.Trees.{leaf}
-use Rattle.md_tree.specs.declared.TreeOf.{Leaf}
-use Rattle.md_tree.proofs.Stacking.{map_one_more}
 use Rattle.md_local.proofs.Ways.{pass_more, leaf_copied}
 use Rattle.md_local.proofs.copying.copy_leaves.Goals as goal
 

@@ -1,5 +1,4 @@
-use Rattle.std.proofs.Common.{refl, ap}
-use Rattle.md_tree.specs.declared.TreeOf.{Leaf}
+use Rattle.std.proofs.Common.{refl}
 use Rattle.md_local.proofs.Ways.{leaf_copy, node_copy}
 use Rattle.md_local.proofs.copying.copy_over.Goals as goal
 

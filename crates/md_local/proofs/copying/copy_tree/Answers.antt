@@ -1,4 +1,4 @@
-use Rattle.std.proofs.Common.{rules, subst}
+use Rattle.std.proofs.Common.{subst}
 use Rattle.md_tree.specs.Plain.{plain}
 use Rattle.md_local.specs.Walks.{HasTurned, AreCopies, IsCopy}
 use Rattle.md_local.proofs.Ways.{way_begin}

@@ -1,4 +1,4 @@
-use Rattle.std.proofs.Common.{[], ◌∷◌, ◌++◌, map, refl, ◌∙◌, ap}
+use Rattle.std.proofs.Common.{[], ◌∷◌, ◌++◌, refl, ◌∙◌, ap}
 use Rattle.md_tree.specs.Plain.{plain}
 use Rattle.md_tree.proofs.Stacking.{map_one_more}
 use Rattle.md_local.proofs.copying.with_copy.Goals as goal

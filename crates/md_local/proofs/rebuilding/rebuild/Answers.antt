@@ -1,4 +1,4 @@
-use Rattle.std.proofs.Common.{◌≡◌, ◌+◌, ◌≤◌, rules, refl, sym, ◌∙◌, ap, subst, arith}
+use Rattle.std.proofs.Common.{◌+◌, ◌≤◌, rules, subst, arith}
 use Rattle.md_graph.specs.PlainGraph.{adjacent}
 use Rattle.md_tree.specs.Plain.{plain}
 use Rattle.md_local.specs.Growing.{own_steps, names_between, IsGrownFrom, IsBelow}
