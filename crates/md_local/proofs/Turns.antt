@@ -516,9 +516,6 @@ module _ (g : PlainGraph) (u v : ℕ) where
   any_more : (f : Grown → Bool) (xs : List Grown) (x : Grown) → list_any f (xs ++ x ∷ []) ≡ (list_any f xs || f x)
   any_more f xs x = list_any-append f xs (x ∷ []) ∙ ap (λ b. list_any f xs || b) (or_false (f x))
 
-  pub below_none : (below : Below) → below.list.items ≡ [] → below.left ≡ false → below.right ≡ false → below.both ≡ false → IsBelow g u v [] below
-  below_none below none l r b = record { grown = []; each = tt; list = ap (map plain) none; left = l; right = r; both = b }
-
   pub below_more : (ts : List PlainTree) (t : PlainTree) (old new : Below) (x : Grown) → IsBelow g u v ts old → IsGrownFrom g u v t x → map plain new.list.items ≡ added_to (map plain old.list.items) x.growth →
       new.left ≡ (old.left || x.left) → new.right ≡ (old.right || x.right) → new.both ≡ (old.both || (x.left && x.right)) → IsBelow g u v (ts ++ t ∷ []) new
   below_more ts t old new x is grown more l r b = record {
